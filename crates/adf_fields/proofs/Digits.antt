@@ -1,0 +1,45 @@
+-- Numbers below 100 in two digits.
+use Rattle.std.proofs.Common.{◌≡◌, ℕ, ◌+◌, ◌-◌, ◌*◌, ◌/◌, ◌%◌, ◌^◌, ◌<◌, ◌≤◌, List, [], ◌∷◌, ◌++◌, arith, refl, ap, ◌∙◌, inl, inr, false, decimal}
+use Rattle.std.specs.Fmt.{padded_integral, char_count, format_spec}
+use Rattle.std.proofs.lemmas.Bool.{cases_lt}
+use Rattle.std.proofs.lemmas.Fmt.{decimal_digit, decimal_step}
+use Rattle.std.specs.Prelude.{pos}
+use Rattle.jiff.specs.Types.{Date}
+use Rattle.jiff.specs.Words.{epoch_day, IsYmd}
+use Rattle.jiff.proofs.SpanFacts.{signed_arith}
+use Rattle.jiff.proofs.OnLiterals.{jiff_on_literals}
+use Rattle.std.proofs.Common.{codes}
+use Rattle.std.proofs.lemmas.Bool.{lt-ltb}
+use Rattle.jiff.specs.Words.{date_text}
+use Rattle.adf_fields.specs.declared.dates.Stamp.{Stamp}
+use Rattle.adf_fields.specs.Dates.{two_digits, IsCivilDay, IsStampText, clock_text}
+
+-- what `{:02}` writes of a number below 100
+pub two_places : (n : ℕ) → n < 100 → padded_integral (format_spec 32 0 4 2 (2 ^ 64 - 1)) false [] (decimal n) ≡ two_digits n
+unfolding padded_integral char_count
+two_places n small = elim (cases_lt n 10) [
+  | inl one ↦
+      let high : n / 10 ≡ 0 = omega arith in
+      let low : n % 10 ≡ n = omega arith in
+      rw (decimal_digit n one, high, low) refl
+  | inr two ↦
+      let below : n / 10 < 10 = omega arith in
+      rw (decimal_step n two (omega arith), decimal_digit (n / 10) below) refl
+]
+
+-- 1970-01-01 is day 0
+pub epoch_day_1970 : (d : Date) → IsYmd (pos 1970) (pos 1) (pos 1) d → epoch_day d ≡ pos 0
+unfolding jiff_on_literals
+epoch_day_1970 d h =
+    let month : d.month ≡ 1 = omega (arith, signed_arith, h.1) in
+    let day : d.day ≡ 1 = omega (arith, signed_arith, h.2) in
+    rw (h.0, month, day) refl
+
+-- the text of a date that has a civil one
+pub civil_case : (s : Stamp) (d : Date) (t : List ℕ) → s.days < 2929975 → s.mins < 1440 → s.ticks < 3000
+    → IsCivilDay (s.days + 2922) d → t ≡ date_text d ++ (codes " " ++ clock_text s) → IsStampText s t
+civil_case s d t days mins ticks day e =
+    let a = lt-ltb s.days 2929975 days in
+    let b = lt-ltb s.mins 1440 mins in
+    let c = lt-ltb s.ticks 3000 ticks in
+    rw (a, b, c) (d, day, e)

@@ -1,0 +1,35 @@
+-- Dates as texts: the civil date and time where there is one, else the three numbers.
+use Rattle.std.specs.Prelude.{◌≡◌, ℕ, ℤ, pos, ◌+◌, ◌/◌, ◌%◌, ◌&&◌, Bool, nat_lt, List, [], ◌∷◌, ◌++◌, decimal, codes, IsTrue, MatchBool}
+use Rattle.jiff.specs.Words.{epoch_day, date_text}
+use Rattle.jiff.specs.Types.{Date}
+use Rattle.adf_fields.specs.declared.dates.Stamp.{Stamp}
+
+-- two digits of a number below 100
+abbrev pub two_digits : ℕ → List ℕ
+two_digits n = (48 + n / 10) ∷ (48 + n % 10) ∷ []
+
+-- the civil date of day n from 1970-01-01 is d
+abbrev pub IsCivilDay : ℕ → Date → Type 0
+IsCivilDay n d = epoch_day d ≡ pos n
+
+-- a date that has a civil text: at most 9999-12-31, a minute of the day and a tick of the minute
+abbrev pub is_civil : Stamp → Bool
+is_civil s = nat_lt s.days 2929975 && nat_lt s.mins 1440 && nat_lt s.ticks 3000
+
+-- hours, minutes, seconds and fiftieths of a second
+abbrev pub clock_text : Stamp → List ℕ
+clock_text s = two_digits (s.mins / 60) ++ (codes ":" ++ (two_digits (s.mins % 60) ++ (codes ":" ++ (two_digits (s.ticks / 50) ++ (codes "." ++ two_digits (s.ticks % 50))))))
+
+-- the three numbers
+abbrev pub plain_text : Stamp → List ℕ
+plain_text s = decimal s.days ++ (codes ":" ++ (decimal s.mins ++ (codes ":" ++ decimal s.ticks)))
+
+-- t is the text of the date: of day days + 2922 from 1970-01-01, or the three numbers
+abbrev pub IsStampText : Stamp → List ℕ → Type 0
+IsStampText s t = MatchBool (is_civil s)
+    ((d : Date) × IsCivilDay (s.days + 2922) d × (t ≡ date_text d ++ (codes " " ++ clock_text s)))
+    (t ≡ plain_text s)
+
+-- new is old with the text of the date at its end
+abbrev pub AppendsStampText : Stamp → List ℕ → List ℕ → Type 0
+AppendsStampText s old new = (t : List ℕ) × IsStampText s t × (new ≡ old ++ t)

@@ -1,0 +1,74 @@
+// Dates: days since 1978-01-01, minutes of the day, ticks of the minute.
+
+ghost use Rattle.std.specs.Prelude.{◌≡◌, ◌<◌, ◌+◌, ◌++◌, codes, OnOk, OnErr, IfOk, string_bytes};
+ghost use Rattle.jiff.specs.Words.{date_text};
+ghost use Rattle.adf_fields.specs.Dates.{IsCivilDay, IsStampText, AppendsStampText, clock_text, plain_text};
+
+use crate::NoMemory;
+use jiff::ToSpan;
+use jiff::civil::{Date, date};
+use std::alloc::{AllocError, Global};
+
+/// A date of the file system.
+#[derive(Clone, Copy, Debug, PartialEq, Eq)]
+pub struct Stamp {
+    /// Days since 1978-01-01.
+    pub days: u32,
+    /// Minutes of the day, 0 to 1439 where the date is a civil one.
+    pub mins: u32,
+    /// Fiftieths of a second in the minute, 0 to 2999 where the date is a civil one.
+    pub ticks: u32,
+}
+
+// The civil date of a day since 1978-01-01, up to 9999-12-31.
+fn civil_day(days: u32) -> Date
+    requires { days < 2929975 }
+    ensures { IsCivilDay (days + 2922) result }
+{
+    date(1970, 1, 1)
+        .checked_add((i64::from(days) + 2922).days())
+        .unwrap()
+}
+
+fn civil_text(alloc: Global, s: Stamp, day: Date) -> Result<String, AllocError>
+    requires mins { s.mins < 1440 }
+    requires ticks { s.ticks < 3000 }
+    ensures { IfOk result (λ t. string_bytes t ≡ date_text day ++ (codes " " ++ clock_text s)) }
+{
+    let (hours, mins) = (s.mins / 60, s.mins % 60);
+    let (seconds, ticks) = (s.ticks / 50, s.ticks % 50);
+    format!(in alloc; "{day} {hours:02}:{mins:02}:{seconds:02}.{ticks:02}")
+}
+
+fn plain(alloc: Global, s: Stamp) -> Result<String, AllocError>
+    ensures { IfOk result (λ t. string_bytes t ≡ plain_text s) }
+{
+    let (days, mins, ticks) = (s.days, s.mins, s.ticks);
+    format!(in alloc; "{days}:{mins}:{ticks}")
+}
+
+// The text of a date.
+fn text_of(alloc: Global, s: Stamp) -> Result<String, AllocError>
+    ensures { IfOk result (λ t. IsStampText s (string_bytes t)) }
+{
+    if s.days < 2_929_975 && s.mins < 1440 && s.ticks < 3000 {
+        civil_text(alloc, s, civil_day(s.days))
+    } else {
+        plain(alloc, s)
+    }
+}
+
+/// Appends the text of a date.
+pub fn stamp_text(s: Stamp, out: &mut String) -> Result<(), NoMemory>
+    ensures ok { OnOk result (AppendsStampText s (string_bytes out.old) (string_bytes out.new)) }
+    ensures err { OnErr result (string_bytes out.new ≡ string_bytes out.old) }
+{
+    let alloc = *out.allocator();
+    let Ok(text) = text_of(alloc, s) else {
+        return Err(NoMemory);
+    };
+    match out.push_str(text.as_str()) {
+        Ok(()) => Ok(()),
+        Err(_) => Err(NoMemory),
+    }
+}

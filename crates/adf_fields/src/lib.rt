@@ -1,0 +1,21 @@
+//! The fields of an Amiga volume's blocks: words, long sums, name hashes and dates.
+#![tactic(auto)]
+
+mod blocks;
+mod dates;
+mod hash;
+mod images;
+mod puts;
+
+pub use crate::blocks::{BLOCK_LEN, BLOCK_WORDS, Block};
+pub use crate::dates::{Stamp, stamp_text};
+pub use crate::hash::{slot, upper};
+pub use crate::images::{put_block, seal, set_bytes, set_word};
+pub use crate::puts::{put_bytes, put_word, put_words, put_words_down, seal_block};
+
+/// No memory was to be had.
+#[derive(Clone, Copy, Debug, PartialEq, Eq)]
+pub struct NoMemory;
+
+#[cfg(test)]
+mod tests;

@@ -1,0 +1,68 @@
+-- A text is the escape form of one list of bytes at most.
+use Rattle.std.proofs.Common.{◌≡◌, ◌≢◌, ℕ, ◌/◌, ◌%◌, ◌<◌, inl, inr, List, [], ◌∷◌, ◌++◌, true, false, arith, sym, refl, ◌∙◌, ap, if◌then◌else◌}
+use Rattle.std.proofs.lemmas.Bool.{cases_Bool}
+use Rattle.std.proofs.lemmas.Bool.Decides.{nat_tests}
+use Rattle.std.proofs.lemmas.List.{append_assoc}
+use Rattle.std.specs.List.{All}
+use Rattle.std.proofs.lemmas.List.Elements.{All-head, All-tail}
+use Rattle.adf_tree.specs.Escapes.{is_plain, hex_digit, escape_of, escaped}
+
+hex_apart : (a b : ℕ) → hex_digit a ≡ hex_digit b → a < 16 → b < 16 → a ≡ b
+hex_apart a b h x y = grind (arith, nat_tests)
+
+plain_not_escape : (c : ℕ) → is_plain c ≡ true → c ≢ 92
+plain_not_escape c h e = grind (arith, nat_tests)
+
+spelled_plain : (c : ℕ) → is_plain c ≡ true → escape_of c ≡ c ∷ []
+spelled_plain c h = ap (λ b. if b then c ∷ [] else 92 ∷ 120 ∷ hex_digit (c / 16) ∷ hex_digit (c % 16) ∷ []) h
+
+spelled_escape : (c : ℕ) → is_plain c ≡ false → escape_of c ≡ 92 ∷ 120 ∷ hex_digit (c / 16) ∷ hex_digit (c % 16) ∷ []
+spelled_escape c h = ap (λ b. if b then c ∷ [] else 92 ∷ 120 ∷ hex_digit (c / 16) ∷ hex_digit (c % 16) ∷ []) h
+
+same_parts : (c d : ℕ) → c / 16 ≡ d / 16 → c % 16 ≡ d % 16 → c ≡ d
+same_parts c d a b = omega arith
+
+-- two spellings at the head of one text are of one byte
+pub one_spelling : (c d : ℕ) (u v : List ℕ) → c < 256 → d < 256 → escape_of c ++ u ≡ escape_of d ++ v → (c ≡ d) × (u ≡ v)
+one_spelling c d u v cs ds h =
+    elim (cases_Bool (is_plain c)) [
+      | inl p ↦
+          elim (cases_Bool (is_plain d)) [
+            | inl q ↦
+                let g : c ∷ u ≡ d ∷ v = sym (ap (λ s. s ++ u) (spelled_plain c p)) ∙ (h ∙ ap (λ s. s ++ v) (spelled_plain d q)) in
+                (cc, cc)
+            | inr q ↦
+                let g : c ∷ u ≡ 92 ∷ (120 ∷ hex_digit (d / 16) ∷ hex_digit (d % 16) ∷ v) = sym (ap (λ s. s ++ u) (spelled_plain c p)) ∙ (h ∙ ap (λ s. s ++ v) (spelled_escape d q)) in
+                let e : c ≡ 92 = cc in
+                absurd (plain_not_escape c p e)
+          ]
+      | inr p ↦
+          elim (cases_Bool (is_plain d)) [
+            | inl q ↦
+                let g : 92 ∷ (120 ∷ hex_digit (c / 16) ∷ hex_digit (c % 16) ∷ u) ≡ d ∷ v = sym (ap (λ s. s ++ u) (spelled_escape c p)) ∙ (h ∙ ap (λ s. s ++ v) (spelled_plain d q)) in
+                let e : d ≡ 92 = cc in
+                absurd (plain_not_escape d q e)
+            | inr q ↦
+                let g : 92 ∷ (120 ∷ hex_digit (c / 16) ∷ hex_digit (c % 16) ∷ u) ≡ 92 ∷ (120 ∷ hex_digit (d / 16) ∷ hex_digit (d % 16) ∷ v) = sym (ap (λ s. s ++ u) (spelled_escape c p)) ∙ (h ∙ ap (λ s. s ++ v) (spelled_escape d q)) in
+                let a : hex_digit (c / 16) ≡ hex_digit (d / 16) = cc in
+                let b : hex_digit (c % 16) ≡ hex_digit (d % 16) = cc in
+                let t : u ≡ v = cc in
+                (same_parts c d (hex_apart (c / 16) (d / 16) a (omega arith) (omega arith)) (hex_apart (c % 16) (d % 16) b (omega arith) (omega arith)), t)
+          ]
+    ]
+
+spelling_some : (c : ℕ) (u : List ℕ) → escape_of c ++ u ≢ []
+spelling_some c u h =
+    elim (cases_Bool (is_plain c)) [
+      | inl p ↦ let g : c ∷ u ≡ [] = sym (ap (λ s. s ++ u) (spelled_plain c p)) ∙ h in cc
+      | inr p ↦ let g : 92 ∷ (120 ∷ hex_digit (c / 16) ∷ hex_digit (c % 16) ∷ u) ≡ [] = sym (ap (λ s. s ++ u) (spelled_escape c p)) ∙ h in cc
+    ]
+
+-- what was read of a text is the head of what it spells
+pub rest_spelled : (done bytes rest : List ℕ) → All (λ c. c < 256) done → All (λ c. c < 256) bytes → escaped bytes ≡ escaped done ++ rest → (more : List ℕ) × (bytes ≡ done ++ more) × (escaped more ≡ rest)
+rest_spelled [] bytes rest x y h = (bytes, refl, h)
+rest_spelled (c ∷ cs) [] rest x y h = absurd (spelling_some c (escaped cs ++ rest) (sym (append_assoc (escape_of c) (escaped cs) rest) ∙ sym h))
+rest_spelled (c ∷ cs) (d ∷ ds) rest x y h =
+    let both = one_spelling d c (escaped ds) (escaped cs ++ rest) (All-head (λ k. k < 256) d ds y) (All-head (λ k. k < 256) c cs x) (h ∙ append_assoc (escape_of c) (escaped cs) rest) in
+    let more = rest_spelled cs ds rest (All-tail (λ k. k < 256) c cs x) (All-tail (λ k. k < 256) d ds y) both.1 in
+    (more.0, ap (λ k. k ∷ ds) both.0 ∙ ap (λ zs. c ∷ zs) more.1, more.2)

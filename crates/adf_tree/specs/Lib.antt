@@ -1,0 +1,5 @@
+pub mod Texts
+pub mod Tree
+pub mod Chain
+pub mod Paths
+pub mod Escapes

@@ -1,0 +1,139 @@
+-- Trees and their chains.
+use Rattle.std.specs.Prelude.{◌≡◌, ℕ, ◌+◌, ◌-◌, ◌*◌, ◌<◌, ◌≤◌, ◌≢◌, ◌==◌, ◌&&◌, nat_lt, nat_le, Bool, List, [], ◌∷◌, ◌++◌, if◌then◌else◌, length, map, take, drop, Option, Some, None, slice_index_or, position, option_map, ◌||◌, true, false, Result, Ok, Err, IsOk, MatchResult, ◌⊎◌}
+use Rattle.std.specs.List.{position_or_len, AllPairs, slice_get}
+use Rattle.std.specs.List.Sorted.{IsNonDecreasingBy}
+use Rattle.std.specs.Str.{bytes_eq}
+use Rattle.adf_fields.specs.Hash.{slot_of}
+use Rattle.adf_tree.specs.Texts.{uppers}
+use Rattle.adf_tree.specs.declared.entry.Entry.{Entry}
+use Rattle.std.specs.Option.{unwrap_or}
+use Rattle.adf_tree.specs.declared.tree.AddFault.{AddFault}
+use Rattle.adf_tree.specs.declared.tree.AddFault.TheVariants.{NoParent, ParentIsFile, Exists, NoMemory, EmptyPath}
+use Rattle.adf_tree.specs.declared.entry.Kind.{Kind}
+use Rattle.adf_tree.specs.declared.entry.Stamps.{Stamps}
+use Rattle.adf_tree.specs.declared.entry.Meta.{Meta}
+use Rattle.adf_tree.specs.declared.entry.Body.{Body}
+use Rattle.adf_tree.specs.declared.entry.Body.TheVariants.{Dir, File}
+
+-- a tree: its kind, label and dates, and its entries, numbered from 1
+pub record Tree : Type 0 where
+  pub kind : Kind
+  pub label : List ℕ
+  pub stamps : Stamps
+  pub entries : List Entry
+
+-- the pair of a parent and a slot as one number
+abbrev pub rank_of : ℕ → ℕ → ℕ
+rank_of parent slot = 72 * parent + slot
+
+-- the pair that an entry stands at
+abbrev pub rank : Entry → ℕ
+rank e = rank_of e.parent (slot_of e.name)
+
+-- node p is a directory: the root, or an entry that is one
+abbrev pub IsDir : List Entry → ℕ → Type 0
+IsDir es p = 0 < p → (p ≤ length es) × ((d : Entry) → (slice_index_or es (p - 1) d).body ≡ Dir)
+
+-- two entries do not have one name in one directory, whatever the case
+abbrev pub AreApart : Entry → Entry → Type 0
+AreApart e f = e.parent ≡ f.parent → uppers e.name ≢ uppers f.name
+
+-- what holds of the entries of every tree; the entry at place i has the number i + 1
+pub record IsTree (es : List Entry) : Type 0 where
+  pub parents : (i : ℕ) (d : Entry) → i < length es → (slice_index_or es i d).parent ≤ i
+  pub dirs : (i : ℕ) (d : Entry) → i < length es → IsDir es (slice_index_or es i d).parent
+  pub order : IsNonDecreasingBy rank es
+  pub names : AllPairs AreApart es
+
+-- whether an entry has this parent and this name, whatever the case
+abbrev pub is_child : ℕ → List ℕ → Entry → Bool
+is_child parent name e = (e.parent == parent) && bytes_eq (uppers e.name) (uppers name)
+
+-- the number of the entry with this parent and name
+abbrev pub child : List Entry → ℕ → List ℕ → Option ℕ
+child es parent name = option_map (λ i. i + 1) (position (is_child parent name) es)
+
+-- the entries before the first one of a greater pair
+abbrev pub place : List Entry → ℕ → ℕ
+place es r = position_or_len (λ e. nat_lt r (rank e)) es
+
+-- the number of the entry p when a new entry takes the number n
+abbrev pub moved : ℕ → ℕ → ℕ
+moved n p = if nat_le n p then p + 1 else p
+
+-- an entry when a new one takes the number n
+abbrev pub renumbered : ℕ → Entry → Entry
+renumbered n e = record e { parent = moved n e.parent }
+
+-- the entries with e after all of the same or a lesser pair
+abbrev pub added : List Entry → Entry → List Entry
+added es e = let i = place es (rank e) in take i es ++ e ∷ map (renumbered (i + 1)) (drop i es)
+
+-- an entry may be added: its parent is a directory in which nothing has its name
+pub record MayAdd (es : List Entry) (e : Entry) : Type 0 where
+  pub parent : IsDir es e.parent
+  pub fresh : (i : ℕ) (d : Entry) → i < length es → AreApart (slice_index_or es i d) e
+
+-- whether an entry is a directory
+abbrev pub is_dir_body : Body → Bool
+is_dir_body Dir = true
+is_dir_body (File _) = false
+
+-- the entry with this number
+abbrev pub entry : List Entry → ℕ → Option Entry
+entry es n = if n == 0 then None else slice_get es (n - 1)
+
+-- whether a node is a directory
+abbrev pub is_dir : List Entry → ℕ → Bool
+is_dir es n = (n == 0) || unwrap_or (option_map (λ e. is_dir_body e.body) (entry es n)) false
+
+-- the node that a path leads to from the node p
+abbrev pub find_from : List Entry → ℕ → List (List ℕ) → Option ℕ
+find_from es p [] = Some p
+find_from es p (name ∷ names) = elim (child es p name) [ None ↦ None | Some n ↦ find_from es n names ]
+
+-- the node that a path leads to
+abbrev pub find : List Entry → List (List ℕ) → Option ℕ
+find es path = find_from es 0 path
+
+-- the directory that a path leads to from the directory p, or why there is none
+abbrev pub directory_from : List Entry → ℕ → List (List ℕ) → Result ℕ AddFault
+directory_from es p [] = Ok p
+directory_from es p (name ∷ names) = elim (child es p name) [ None ↦ Err NoParent | Some n ↦ if is_dir es n then directory_from es n names else Err ParentIsFile ]
+
+-- a path without its last name, and that name
+abbrev pub parents_of : List (List ℕ) → List (List ℕ)
+parents_of path = take (length path - 1) path
+
+abbrev pub last_of : List (List ℕ) → List ℕ
+last_of path = slice_index_or path (length path - 1) []
+
+-- the directory p, where nothing is found in it
+abbrev pub free_in : ℕ → Option ℕ → Result ℕ AddFault
+free_in p None = Ok p
+free_in p (Some n) = Err Exists
+
+-- the directory, where nothing in it has this name
+abbrev pub room_at : List Entry → List ℕ → Result ℕ AddFault → Result ℕ AddFault
+room_at es name (Ok p) = free_in p (child es p name)
+room_at es name (Err f) = Err f
+
+-- the directory that a path is added to, or why it is not added
+abbrev pub room_for : List Entry → List (List ℕ) → Result ℕ AddFault
+room_for es path = if length path == 0 then Err EmptyPath else room_at es (last_of path) (directory_from es 0 (parents_of path))
+
+-- the entry that is added under a path
+abbrev pub in_directory : Result ℕ AddFault → ℕ
+in_directory (Ok p) = p
+in_directory (Err _) = 0
+
+abbrev pub new_entry : List Entry → List (List ℕ) → Meta → Body → Entry
+new_entry es path meta body = record { parent = in_directory (room_for es path); name = last_of path; meta = meta; body = body }
+
+-- a tree with an entry more
+abbrev pub with_entry : Tree → List (List ℕ) → Meta → Body → Tree
+with_entry t path meta body = record t { entries = added t.entries (new_entry t.entries path meta body) }
+
+-- what `add` may answer: a fault that is there, or NoMemory where there is none
+abbrev pub IsAnswer : Result ℕ AddFault → Result (Unit {0}) AddFault → Type 0
+IsAnswer room r = MatchResult r (λ _. IsOk room) (λ f. (room ≡ Err f) ⊎ ((f ≡ NoMemory) × IsOk room))

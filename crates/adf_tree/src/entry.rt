@@ -1,0 +1,90 @@
+// Entries of a tree.
+
+ghost use Rattle.std.specs.Prelude.{◌≡◌};
+
+use crate::texts::{Comment, Name};
+use adf_fields::Stamp;
+use std::marker::Model;
+
+/// The kind of a volume.
+#[derive(Clone, Copy, Drop)]
+pub enum Kind {
+    Ofs,
+    Ffs,
+}
+
+/// The number of an entry, from 1 on, or 0 for the root.
+#[derive(Clone, Copy, Drop)]
+pub struct Node(pub usize);
+
+impl Model for Node {
+    ghost use Rattle.std.specs.Prelude.{ℕ};
+
+    ghost Value = { ℕ };
+
+    ghost view = { λ n. n.0 };
+
+    ghost inverse = { λ n. record { 0 = n } };
+}
+
+/// The dates of a volume.
+#[derive(Clone, Copy, Drop)]
+pub struct Stamps {
+    pub root: Stamp,
+    pub altered: Stamp,
+    pub created: Stamp,
+}
+
+/// What an entry has beside its name and its body.
+#[derive(Drop)]
+pub struct Meta {
+    pub comment: Comment,
+    pub protect: u32,
+    pub stamp: Stamp,
+}
+
+/// The bytes of a file.
+#[derive(Drop)]
+pub struct Bytes {
+    bytes: Vec<u8>,
+}
+
+impl Model for Bytes {
+    ghost use Rattle.std.specs.Prelude.{List, ℕ};
+
+    ghost Value = { List ℕ };
+
+    ghost view = { λ b. b.bytes.items };
+}
+
+/// What an entry is: a directory, or a file with its bytes.
+#[derive(Drop)]
+pub enum Body {
+    Dir,
+    File(Bytes),
+}
+
+/// An entry of a tree.
+#[derive(Drop)]
+pub struct Entry {
+    pub parent: Node,
+    pub name: Name,
+    pub meta: Meta,
+    pub body: Body,
+}
+
+impl Bytes {
+    /// The bytes given.
+    pub fn new(bytes: Vec<u8>) -> Bytes
+        ensures { result ≡ bytes.items }
+    {
+        Bytes { bytes }
+    }
+
+    /// The bytes.
+    pub fn bytes(&self) -> &[u8]
+        ensures { result.now ≡ self.now }
+    {
+        self.bytes.as_slice()
+    }
+}
