@@ -1,0 +1,36 @@
+-- The bytes of fields, and blocks that are laid out of fields.
+use Rattle.std.specs.Prelude.{◌≤◌, ◌+◌, ℕ, List, [], ◌∷◌, length, replicate}
+use Rattle.std.specs.List.{flat_map}
+use Rattle.byteorder.specs.Endian.{big_bytes}
+use Rattle.adf_fields.specs.Words.{with_bytes}
+use Rattle.adf_fields.specs.declared.dates.Stamp.{Stamp}
+
+-- the bytes of a word
+abbrev pub long : ℕ → List ℕ
+long w = big_bytes 4 w
+
+-- the bytes of words, one after the other
+abbrev pub longs : List ℕ → List ℕ
+longs ws = flat_map (big_bytes 4) ws
+
+-- a length and a text
+abbrev pub text : List ℕ → List ℕ
+text bs = length bs ∷ bs
+
+-- the three words of a date
+abbrev pub stamp : Stamp → List ℕ
+stamp s = longs (s.days ∷ s.mins ∷ s.ticks ∷ [])
+
+-- a field: the byte it begins at, and its bytes
+abbrev pub Field : Type 0
+Field = ℕ × List ℕ
+
+-- a block that holds these fields, and 0 elsewhere
+abbrev pub laid : List Field → List ℕ
+laid [] = replicate 512 0
+laid (f ∷ fs) = with_bytes (laid fs) f.0 f.1
+
+-- the fields lie below `top`, and each below the one before it
+abbrev pub Descends : ℕ → List Field → Type 0
+Descends top [] = Unit {0}
+Descends top (f ∷ fs) = (f.0 + length f.1 ≤ top) × Descends f.0 fs

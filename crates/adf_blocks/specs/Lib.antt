@@ -1,0 +1,9 @@
+pub mod Causes
+pub mod Forms
+pub mod Fields
+pub mod Sizes
+pub mod RootBlock
+pub mod PageBlock
+pub mod HeadBlock
+pub mod ExtBlock
+pub mod DataBlock

@@ -1,0 +1,22 @@
+-- The size of a volume, and what follows from it.
+use Rattle.std.specs.Prelude.{ℕ, ◌+◌, ◌-◌, ◌/◌, ◌%◌, ◌==◌, ◌&&◌, nat_le, Bool, List, length}
+
+-- the most blocks that a volume has: the root names 25 bitmap pages
+abbrev pub MOST_BLOCKS : ℕ
+MOST_BLOCKS = 101602
+
+-- an allowed size, in blocks: even, 4 to MOST_BLOCKS
+abbrev pub is_allowed : ℕ → Bool
+is_allowed n = nat_le 4 n && nat_le n MOST_BLOCKS && (n % 2 == 0)
+
+-- the blocks of an image
+abbrev pub blocks : List ℕ → ℕ
+blocks image = length image / 512
+
+-- the block of the root of a volume of n blocks
+abbrev pub middle : ℕ → ℕ
+middle n = n / 2
+
+-- the bitmap pages that n blocks need: a page has the bits of 4,064 blocks, and blocks 0 and 1 have none
+abbrev pub pages_needed : ℕ → ℕ
+pages_needed n = (n - 2 + 4063) / 4064

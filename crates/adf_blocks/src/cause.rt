@@ -1,0 +1,97 @@
+// Why an image is refused.
+
+ghost use Rattle.std.specs.Prelude.{◌≡◌};
+ghost use Rattle.adf_blocks.specs.Causes.{cause_number, cause_text};
+
+/// What is wrong with an image, or that memory was refused.
+///
+/// Within one block causes are tried in ascending number.
+#[derive(Clone, Copy, Debug, PartialEq, Eq)]
+pub enum Cause {
+    /// The length is no multiple of 512, or no allowed number of blocks.
+    BadSize = 1,
+    /// The first three bytes are not `DOS`, or the type byte is above 5.
+    NotDos = 2,
+    /// Type 2 or 3: names are compared in another way.
+    International = 3,
+    /// Type 4 or 5: directories have caches.
+    DirCache = 4,
+    /// A pointer is below 2 or not below the number of blocks; named at the block that holds it.
+    OutOfRange = 5,
+    /// A block is claimed a second time.
+    Taken = 6,
+    /// The 128 words do not add up to 0.
+    BadSum = 7,
+    /// The primary or secondary type is none that may stand here.
+    BadType = 8,
+    /// The secondary type is that of a soft or hard link.
+    Link = 9,
+    /// Word 1 is not the block's own number.
+    BadOwnKey = 10,
+    /// The word that names the parent, or of an extension block the header, names another block.
+    BadParent = 11,
+    /// The name or label is too long, or is none.
+    BadName = 12,
+    /// The comment is above 79 bytes.
+    BadComment = 13,
+    /// The name's hash is not the slot whose chain the header stands in.
+    WrongSlot = 14,
+    /// Word 4 of an OFS file header is not its first data block.
+    BadFirst = 15,
+    /// An earlier header of the chain has the same name without case.
+    SameName = 16,
+    /// The root's hash table has not 72 slots.
+    BadHashSize = 17,
+    /// The root's bitmap flag is not 0xFFFFFFFF.
+    NotValidated = 18,
+    /// A file has too few extension blocks for its size.
+    ShortFile = 19,
+    /// An OFS data block has another header, number, length or successor.
+    BadData = 20,
+    /// A block is in use and no part of the volume owns it.
+    LostBlock = 21,
+    /// A block is owned and marked free.
+    OwnedFree = 22,
+    /// A growth was refused; nothing is said of the image.
+    NoMemory = 23,
+}
+
+impl Cause {
+    /// The number of the cause, 1 to 23.
+    pub fn number(self) -> u8
+        ensures { result ≡ cause_number self }
+    {
+        self as u8
+    }
+
+    /// What is printed of the cause, in lower case.
+    pub fn text(self) -> &'static str
+        ensures { result.now ≡ cause_text self }
+    {
+        match self {
+            Cause::BadSize => "bad size",
+            Cause::NotDos => "not dos",
+            Cause::International => "international",
+            Cause::DirCache => "directory cache",
+            Cause::OutOfRange => "out of range",
+            Cause::Taken => "taken",
+            Cause::BadSum => "bad sum",
+            Cause::BadType => "bad type",
+            Cause::Link => "link",
+            Cause::BadOwnKey => "bad own key",
+            Cause::BadParent => "bad parent",
+            Cause::BadName => "bad name",
+            Cause::BadComment => "bad comment",
+            Cause::WrongSlot => "wrong slot",
+            Cause::BadFirst => "bad first",
+            Cause::SameName => "same name",
+            Cause::BadHashSize => "bad hash size",
+            Cause::NotValidated => "not validated",
+            Cause::ShortFile => "short file",
+            Cause::BadData => "bad data",
+            Cause::LostBlock => "lost block",
+            Cause::OwnedFree => "owned free",
+            Cause::NoMemory => "no memory",
+        }
+    }
+}

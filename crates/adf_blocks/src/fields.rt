@@ -1,0 +1,26 @@
+// Dates and texts put into the bytes of a block.
+
+ghost use Rattle.std.specs.Prelude.{◌≡◌, ◌≤◌, ◌+◌, ◌*◌, length};
+ghost use Rattle.adf_fields.specs.Words.{with_bytes};
+ghost use Rattle.adf_blocks.specs.Fields.{stamp, text};
+
+use adf_fields::{Stamp, put_bytes, put_words};
+
+// Puts a date into three words of a block, from word `i` on.
+pub fn put_stamp(block: &mut [u8], i: usize, s: Stamp)
+    requires { 4 * i + 12 ≤ length block.old }
+    ensures { block.new ≡ with_bytes block.old (4 * i) (stamp s) }
+{
+    put_words(block, i, &[s.days, s.mins, s.ticks]);
+}
+
+// Puts a length and a text into a block, from byte `from` on.
+#[tactic(auto, using(adf_fields::proofs::WordLaws::side_by_side))]
+pub fn put_text(block: &mut [u8], from: usize, bytes: &[u8])
+    requires room { from + 1 + length bytes.now ≤ length block.old }
+    requires short { length bytes.now ≤ 255 }
+    ensures { block.new ≡ with_bytes block.old from (text bytes.now) }
+{
+    put_bytes(block, from, &[bytes.len() as u8]);
+    put_bytes(block, from + 1, bytes);
+}

@@ -1,0 +1,15 @@
+//! The forms of an Amiga volume's blocks, read and written.
+#![tactic(auto)]
+
+mod cause;
+mod fields;
+mod layout;
+mod page;
+mod root;
+mod root_out;
+
+pub use crate::cause::Cause;
+pub use crate::layout::{MOST_BLOCKS, PAGE_BITS, ROOT_PAGES};
+pub use crate::page::{Page, place_of, read_page, write_page};
+pub use crate::root::{Root, read_root};
+pub use crate::root_out::{RootOut, write_root};

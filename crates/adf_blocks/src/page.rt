@@ -1,0 +1,76 @@
+// Pages of the bitmap, read and written.
+
+ghost use Rattle.std.specs.Prelude.{◌≡◌, ◌≤◌, ◌<◌, ◌+◌, ◌*◌, ◌-◌, ◌/◌, ◌%◌, ◌↔◌, length, IsTrue, None};
+ghost use Rattle.adf_fields.specs.Words.{block, with_block};
+ghost use Rattle.adf_blocks.specs.Forms.{ReadsForm, first_cause};
+ghost use Rattle.adf_blocks.specs.PageBlock.{IsFreeBit, page_block, page_form};
+
+use crate::cause::Cause;
+use crate::layout::{PAGE_BITS, PAGE_CHECKSUM, PAGE_FIRST};
+use adf_fields::{Block, put_block, put_words, seal_block};
+use std::marker::Model;
+
+/// A page of the bitmap.
+#[derive(Drop)]
+pub struct Page<'a> {
+    block: Block<'a>,
+}
+
+impl<'a> Model for Page<'a> {
+    ghost use Rattle.std.specs.Prelude.{List, ℕ};
+
+    ghost Value = { List ℕ };
+
+    ghost view = { λ p. p.block };
+}
+
+/// The bitmap page that a block holds; refused as `BadSum` where its words do not add up to 0.
+pub fn read_page<'a>(b: Block<'a>) -> Result<Page<'a>, Cause>
+    ensures { ReadsForm (page_form b.entry) (λ p. p ≡ b.entry) result }
+{
+    if b.long_sum() != 0 {
+        return Err(Cause::BadSum);
+    }
+    Ok(Page { block: b })
+}
+
+impl Page<'_> {
+    /// Whether the block of a bit is free: bit `bit % 32`, the lowest first, of word `1 + bit / 32`.
+    pub fn is_free(&self, bit: u32) -> bool
+        requires { bit < 4064 }
+        ensures { IsTrue result ↔ IsFreeBit self.now bit }
+    {
+        let word = self.block.word(PAGE_FIRST + bit as usize / 32);
+        word & (1 << (bit % 32)) != 0
+    }
+}
+
+/// The page and the bit of a block, both from 0 on.
+pub fn place_of(b: u32) -> (u32, u32)
+    requires { 2 ≤ b }
+    ensures page { result.0 ≡ (b - 2) / 4064 }
+    ensures bit { result.1 ≡ (b - 2) % 4064 }
+{
+    ((b - 2) / PAGE_BITS, (b - 2) % PAGE_BITS)
+}
+
+// The 512 bytes of a page.
+#[tactic(auto, unfolding(crate::specs::PageBlock::page_block))]
+fn page_bytes(bits: &[u32; 127]) -> [u8; 512]
+    ensures { result ≡ page_block bits.now }
+{
+    let mut block = [0u8; 512];
+    put_words(&mut block, PAGE_FIRST, bits);
+    seal_block(&mut block, PAGE_CHECKSUM);
+    block
+}
+
+/// Writes a bitmap page with these words of bits over all of block `b` of an image.
+#[tactic(auto, using(crate::proofs::LaidLaws::written_page_form))]
+pub fn write_page(image: &mut [u8], b: u32, bits: &[u32; 127])
+    requires { b * 512 + 512 ≤ length image.old }
+    ensures exact { image.new ≡ with_block image.old b (page_block bits.now) }
+    ensures form { first_cause (page_form (block image.new b)) ≡ None }
+{
+    put_block(image, b, &page_bytes(bits));
+}

@@ -1,0 +1,107 @@
+// The root of a volume, as it is read.
+
+ghost use Rattle.std.specs.Prelude.{◌≡◌, ◌<◌, ◌+◌};
+ghost use Rattle.adf_fields.specs.Words.{word};
+ghost use Rattle.adf_blocks.specs.Forms.{ReadsForm, stamp_at, text_at};
+ghost use Rattle.adf_blocks.specs.RootBlock.{root_form, stamps_at};
+
+use crate::cause::Cause;
+use crate::layout::{
+    ALTERED, BITMAP_FLAG, CREATED, DATE, FIRST_PAGE, FIRST_SLOT, HASH_SIZE, NAME, SECONDARY_TYPE,
+    SLOTS, ST_ROOT, T_SHORT, TYPE, VALID,
+};
+use adf_fields::{Block, Stamp};
+use adf_tree::{Label, Stamps};
+use std::marker::Model;
+
+/// The root of a volume.
+#[derive(Drop)]
+pub struct Root<'a> {
+    block: Block<'a>,
+}
+
+impl<'a> Model for Root<'a> {
+    ghost use Rattle.std.specs.Prelude.{List, ℕ, None, ◌≡◌};
+    ghost use Rattle.adf_blocks.specs.Forms.{first_cause};
+    ghost use Rattle.adf_blocks.specs.RootBlock.{root_form};
+
+    ghost Value = { List ℕ };
+
+    ghost view = { λ r. r.block };
+
+    ghost invariant = { λ r. first_cause (root_form r.block) ≡ None };
+}
+
+/// The root that a block holds.
+///
+/// Refused, the first that applies: `BadSum`; `BadType` where word 0 is not 2 or word 127 not 1; `BadName` where byte
+/// 432 is above 30; `BadHashSize` where word 3 is not 72; `NotValidated` where word 78 is not 0xFFFFFFFF.
+pub fn read_root<'a>(b: Block<'a>) -> Result<Root<'a>, Cause>
+    ensures { ReadsForm (root_form b.entry) (λ r. r ≡ b.entry) result }
+{
+    if b.long_sum() != 0 {
+        return Err(Cause::BadSum);
+    }
+    if b.word(TYPE) != T_SHORT || b.word(SECONDARY_TYPE) != ST_ROOT {
+        return Err(Cause::BadType);
+    }
+    if b.byte(NAME) > 30 {
+        return Err(Cause::BadName);
+    }
+    if b.word(HASH_SIZE) != SLOTS {
+        return Err(Cause::BadHashSize);
+    }
+    if b.word(BITMAP_FLAG) != VALID {
+        return Err(Cause::NotValidated);
+    }
+    Ok(Root { block: b })
+}
+
+// The date in words `i` to `i + 2`.
+fn stamp_in(b: &Block<'_>, i: usize) -> Stamp
+    requires { i < 126 }
+    ensures { result ≡ stamp_at b.now i }
+{
+    Stamp {
+        days: b.word(i),
+        mins: b.word(i + 1),
+        ticks: b.word(i + 2),
+    }
+}
+
+impl Root<'_> {
+    /// The first header of a slot's chain, or 0: words 6 to 77.
+    pub fn slot(&self, s: usize) -> u32
+        requires { s < 72 }
+        ensures { result ≡ word self.now (6 + s) }
+    {
+        self.block.word(FIRST_SLOT + s)
+    }
+
+    /// The number of bitmap page `i`: words 79 to 103.
+    pub fn page(&self, i: usize) -> u32
+        requires { i < 25 }
+        ensures { result ≡ word self.now (79 + i) }
+    {
+        self.block.word(FIRST_PAGE + i)
+    }
+
+    /// The label: its length in byte 432, its bytes from byte 433 on.
+    pub fn label(&self) -> Label
+        ensures { result ≡ text_at self.now 432 }
+    {
+        let len = self.block.byte(NAME) as usize;
+        Label::new(self.block.bytes(NAME + 1, len)).unwrap()
+    }
+
+    /// The dates: the root's in words 105 to 107, the last change's in 118 to 120, the creation's in 121 to 123.
+    pub fn stamps(&self) -> Stamps
+        ensures { result ≡ stamps_at self.now }
+    {
+        Stamps {
+            root: stamp_in(&self.block, DATE),
+            altered: stamp_in(&self.block, ALTERED),
+            created: stamp_in(&self.block, CREATED),
+        }
+    }
+}

@@ -1,0 +1,57 @@
+// The root of a volume, as it is written.
+
+ghost use Rattle.std.specs.Prelude.{◌≡◌, ◌≤◌, ◌+◌, ◌*◌, length, None};
+ghost use Rattle.adf_fields.specs.Words.{block, with_block};
+ghost use Rattle.adf_blocks.specs.Forms.{first_cause};
+ghost use Rattle.adf_blocks.specs.RootBlock.{FitsRoot, root_block, root_fields, root_form};
+
+use crate::fields::{put_stamp, put_text};
+use crate::layout::{
+    ALTERED, BITMAP_FLAG, CHECKSUM, CREATED, DATE, FIRST_PAGE, FIRST_SLOT, HASH_SIZE, NAME,
+    SECONDARY_TYPE, SLOTS, ST_ROOT, T_SHORT, TYPE, VALID,
+};
+use adf_fields::{put_block, put_word, put_words, seal_block};
+use adf_tree::{Label, Stamps};
+
+/// What a root is to hold.
+pub struct RootOut<'a> {
+    /// The first header of each slot's chain, or 0.
+    pub slots: [u32; 72],
+    /// The bitmap pages, at most 25.
+    pub pages: &'a [u32],
+    pub label: &'a Label,
+    pub stamps: Stamps,
+}
+
+// The 512 bytes of a root.
+#[tactic(auto, unfolding(crate::specs::RootBlock::root_block))]
+fn root_bytes(r: &RootOut<'_>) -> [u8; 512]
+    requires { length r.now.pages.now ≤ 25 }
+    ensures exact { result ≡ root_block (root_fields r.now) }
+    ensures fits { FitsRoot (root_fields r.now) }
+{
+    let mut block = [0u8; 512];
+    put_word(&mut block, TYPE, T_SHORT);
+    put_word(&mut block, HASH_SIZE, SLOTS);
+    put_words(&mut block, FIRST_SLOT, &r.slots);
+    put_word(&mut block, BITMAP_FLAG, VALID);
+    put_words(&mut block, FIRST_PAGE, r.pages);
+    put_stamp(&mut block, DATE, r.stamps.root);
+    put_text(&mut block, NAME, r.label.bytes());
+    put_stamp(&mut block, ALTERED, r.stamps.altered);
+    put_stamp(&mut block, CREATED, r.stamps.created);
+    put_word(&mut block, SECONDARY_TYPE, ST_ROOT);
+    seal_block(&mut block, CHECKSUM);
+    block
+}
+
+/// Writes the root of a volume over all of block `b` of an image.
+#[tactic(auto, using(crate::proofs::LaidLaws::written_root_form))]
+pub fn write_root(image: &mut [u8], b: u32, r: &RootOut<'_>)
+    requires whole { b * 512 + 512 ≤ length image.old }
+    requires pages { length r.now.pages.now ≤ 25 }
+    ensures exact { image.new ≡ with_block image.old b (root_block (root_fields r.now)) }
+    ensures form { first_cause (root_form (block image.new b)) ≡ None }
+{
+    put_block(image, b, &root_bytes(r));
+}
