@@ -7,3 +7,4 @@ pub mod PageBlock
 pub mod HeadBlock
 pub mod ExtBlock
 pub mod DataBlock
+pub mod EmptyVolume

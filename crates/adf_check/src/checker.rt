@@ -1,0 +1,53 @@
+// The whole check.
+
+ghost use Rattle.std.specs.Prelude.{◌≡◌, ◌≤◌, ◌<◌, ◌+◌, ℕ, None, Some, IfOk, OnOk, Err};
+ghost use Rattle.adf_fields.specs.Words.{block, word};
+ghost use Rattle.adf_blocks.specs.EmptyVolume.{FitsEmpty, root_of, start_form};
+ghost use Rattle.adf_blocks.specs.Forms.{ReadsForm, first_cause};
+ghost use Rattle.adf_blocks.specs.RootBlock.{root_form};
+ghost use Rattle.adf_check.specs.Checks.{fault};
+
+use crate::bitmap::check_bitmap;
+use crate::checked::Checked;
+use crate::claims::new_table;
+use crate::fault::{Fault, fault_at};
+use crate::pages::{block_in, page_count, read_pages};
+use crate::slots::check_slots;
+use crate::start::read_start;
+use adf_blocks::read_root;
+use std::alloc::Global;
+
+/// Checks an image.
+pub fn check<'a>(alloc: Global, image: &'a [u8]) -> Result<Checked<'a>, Fault>
+    ensures image { IfOk result (λ v. v.image ≡ image.now) }
+    ensures fits { IfOk result (λ v. FitsEmpty image.now v.volume) }
+{
+    let start = match read_start(image) {
+        Ok(start) => start,
+        Err(cause) => return Err(fault_at(0, cause)),
+    };
+    let middle = start.blocks / 2;
+    let root = match read_root(block_in(image, middle)) {
+        Ok(root) => root,
+        Err(cause) => return Err(fault_at(middle, cause)),
+    };
+    let mut owners = new_table(alloc, start.blocks)?;
+    let pages = read_pages(
+        alloc,
+        image,
+        &root,
+        middle,
+        &mut owners,
+        page_count(start.blocks),
+    )?;
+    check_slots(&root, middle, &pages.pages, &owners)?;
+    check_bitmap(&pages.pages, &owners)?;
+    Ok(Checked::new(
+        image,
+        start.kind,
+        root.label(),
+        root.stamps(),
+        pages.numbers,
+        owners,
+    ))
+}

@@ -1,0 +1,20 @@
+// Faults.
+
+ghost use Rattle.std.specs.Prelude.{◌≡◌};
+ghost use Rattle.adf_check.specs.Checks.{fault};
+
+use adf_blocks::Cause;
+
+/// Why an image is refused, and the block where it stands.
+#[derive(Clone, Copy, Debug, PartialEq, Eq)]
+pub struct Fault {
+    pub block: u32,
+    pub cause: Cause,
+}
+
+// A fault at a block.
+pub fn fault_at(block: u32, cause: Cause) -> Fault
+    ensures { result ≡ fault block cause }
+{
+    Fault { block, cause }
+}

@@ -1,0 +1,17 @@
+//! Checks an image of an Amiga volume: what it holds, or the first fault and the block where it stands.
+#![tactic(auto)]
+
+mod bitmap;
+mod checked;
+mod checker;
+mod claims;
+mod fault;
+mod owners;
+mod pages;
+mod slots;
+mod start;
+
+pub use crate::checked::{Checked, Counts};
+pub use crate::checker::check;
+pub use crate::fault::Fault;
+pub use crate::owners::{Owner, Owners};

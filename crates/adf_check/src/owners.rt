@@ -1,0 +1,100 @@
+// Who owns each block of a volume.
+
+ghost use Rattle.std.specs.Prelude.{◌≡◌, ◌≢◌, ◌≤◌, ◌<◌, ◌+◌, ◌-◌, ◌∷◌, ◌++◌, ◌↔◌, [], length, replicate, true, false, IsOk, IfOk, IfErr, OnOk, OnErr, slice_set};
+ghost use Rattle.adf_check.specs.Owners.{is_part, owned_count, owner_of};
+
+use adf_blocks::Cause;
+use adf_fields::NoMemory;
+use adf_tree::Node;
+use std::alloc::Global;
+use std::marker::Model;
+
+/// What a block is for.
+#[derive(Clone, Copy, Drop)]
+pub enum Owner {
+    /// No part of the volume owns the block.
+    Free,
+    /// Block 0 or 1.
+    Boot,
+    Root,
+    /// A bitmap page, numbered from 0.
+    Page(u32),
+    /// The header of an entry.
+    Head(Node),
+    /// An extension block of a file, numbered from 1.
+    Ext(Node, u32),
+    /// A data block of a file, numbered from 1.
+    Data(Node, u32),
+}
+
+/// A table of the owner of each block.
+#[derive(Drop)]
+pub struct Owners {
+    blocks: u32,
+    owners: Vec<Owner>,
+}
+
+impl Model for Owners {
+    ghost use Rattle.std.specs.Prelude.{◌≡◌, List, take, length, [], ◌∷◌};
+    ghost use Rattle.adf_check.specs.declared.owners.Owner.{Owner};
+    ghost use Rattle.adf_check.specs.declared.owners.Owner.TheVariants.{Boot};
+
+    ghost Value = { List Owner };
+
+    ghost view = { λ t. t.owners.items };
+
+    ghost invariant = { λ t. (take 2 t.owners.items ≡ Boot ∷ Boot ∷ []) × (t.blocks ≡ length t.owners.items) };
+}
+
+impl Owners {
+    /// The table of so many blocks: `Boot` for blocks 0 and 1, `Free` for all others.
+    pub fn new(alloc: Global, blocks: u32) -> Result<Owners, NoMemory>
+        requires { 2 ≤ blocks }
+        ensures { IfOk result (λ t. t ≡ Owner.Boot ∷ Owner.Boot ∷ replicate (blocks - 2) Owner.Free) }
+    {
+        let Ok(mut owners) = vec![in alloc; Owner::Free; blocks as usize] else {
+            return Err(NoMemory);
+        };
+        owners[0] = Owner::Boot;
+        owners[1] = Owner::Boot;
+        Ok(Owners { blocks, owners })
+    }
+
+    /// Makes `o` the owner of a free block; `Taken` where the block has an owner, and then nothing is changed.
+    pub fn claim(&mut self, b: u32, o: Owner) -> Result<(), Cause>
+        requires from { 2 ≤ b }
+        requires below { b < length self.old }
+        requires part { is_part o ≡ true }
+        ensures free { IsOk result ↔ (owner_of self.old b ≡ Owner.Free) }
+        ensures ok { OnOk result (self.new ≡ slice_set self.old b o) }
+        ensures taken { IfErr result (λ c. c ≡ Cause.Taken) }
+        ensures unchanged { OnErr result (self.new ≡ self.old) }
+
+        // Each successful claim is of another block, and there are two blocks that are never claimed.
+        ensures count { OnOk result (owned_count self.new ≡ owned_count self.old + 1) }
+        ensures bound { owned_count self.new + 2 ≤ length self.new }
+    {
+        match self.owners[b as usize] {
+            Owner::Free => {
+                self.owners[b as usize] = o;
+                Ok(())
+            }
+            _ => Err(Cause::Taken),
+        }
+    }
+
+    /// The number of blocks.
+    pub fn len(&self) -> u32
+        ensures { result ≡ length self.now }
+    {
+        self.blocks
+    }
+
+    /// The owner of a block.
+    pub fn get(&self, b: u32) -> Owner
+        requires { b < length self.now }
+        ensures { result ≡ owner_of self.now b }
+    {
+        self.owners[b as usize]
+    }
+}
