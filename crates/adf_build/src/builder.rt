@@ -1,0 +1,44 @@
+// Building.
+
+ghost use Rattle.std.specs.Prelude.{◌≡◌, [], IfOk, IfErr, OnOk};
+ghost use Rattle.adf_blocks.specs.EmptyImage.{empty_image};
+ghost use Rattle.adf_build.specs.Building.{HasRoom, IsBuildFault};
+
+use crate::counting::need;
+use crate::empty::write_empty;
+use adf_fields::BLOCK_LEN;
+use adf_tree::Tree;
+use std::alloc::Global;
+
+/// Why no image is built.
+#[derive(Clone, Copy, Debug, PartialEq, Eq)]
+pub enum BuildFault {
+    /// No volume has so many blocks.
+    BadSize = 1,
+    /// The tree needs more blocks than there are beside the two boot blocks.
+    Full { need: u64, have: u64 } = 2,
+    /// A growth was refused.
+    NoMemory = 3,
+}
+
+/// The image of a tree without entries in a volume of so many blocks.
+#[tactic(auto, unfolding(adf_blocks::specs::EmptyImage::empty_image))]
+pub fn build(alloc: Global, tree: &Tree, blocks: u32) -> Result<Vec<u8>, BuildFault>
+    requires { tree.now.entries ≡ [] }
+    ensures image { IfOk result (λ image. image.items ≡ empty_image blocks tree.now.kind tree.now.label tree.now.stamps) }
+    ensures room { OnOk result (HasRoom tree.now blocks) }
+    ensures fault { IfErr result (IsBuildFault tree.now blocks) }
+{
+    let Some(need) = need(tree, blocks) else {
+        return Err(BuildFault::BadSize);
+    };
+    let have = u64::from(blocks - 2);
+    if need > have {
+        return Err(BuildFault::Full { need, have });
+    }
+    let Ok(mut image) = vec![in alloc; 0u8; blocks as usize * BLOCK_LEN] else {
+        return Err(BuildFault::NoMemory);
+    };
+    write_empty(&mut image, blocks, tree.kind(), tree.label(), tree.stamps());
+    Ok(image)
+}

@@ -1,0 +1,92 @@
+// The blocks that a tree needs.
+
+ghost use Rattle.std.specs.Prelude.{◌≡◌, ◌≤◌, ◌+◌, ◌-◌, ◌^◌, true, length, min};
+ghost use Rattle.std.specs.Option.{SomeIff};
+ghost use Rattle.adf_blocks.specs.Need.{body_datas, data_len, datas_needed, entry_blocks, exts_needed, need_of};
+ghost use Rattle.adf_blocks.specs.Sizes.{is_allowed, pages_needed};
+
+use adf_blocks::{MOST_BLOCKS, PAGE_BITS};
+use adf_tree::{Body, Entry, Kind, Node, Tree};
+
+/// Whether a volume may have so many blocks.
+pub fn is_allowed_size(blocks: u32) -> bool
+    ensures { result ≡ is_allowed blocks }
+{
+    4 <= blocks && blocks <= MOST_BLOCKS && blocks % 2 == 0
+}
+
+/// The bitmap pages that so many blocks need.
+pub fn page_count(blocks: u32) -> u32
+    requires { is_allowed blocks ≡ true }
+    ensures exact { result ≡ pages_needed blocks }
+    ensures few { result ≤ 25 }
+{
+    (blocks - 2).div_ceil(PAGE_BITS)
+}
+
+// The data bytes of a block.
+fn bytes_of_block(kind: Kind) -> usize
+    ensures exact { result ≡ data_len kind }
+    ensures low { 488 ≤ result }
+    ensures high { result ≤ 512 }
+{
+    match kind {
+        Kind::Ofs => 488,
+        Kind::Ffs => 512,
+    }
+}
+
+// The data blocks of a body.
+#[tactic(auto, unfolding(adf_blocks::specs::Need::datas_needed))]
+fn data_count(kind: Kind, body: &Body) -> usize
+    ensures { result ≡ body_datas kind body.now }
+{
+    match body {
+        Body::Dir => 0,
+        Body::File(file) => file.bytes().len().div_ceil(bytes_of_block(kind)),
+    }
+}
+
+// The extension blocks of so many data blocks.
+#[tactic(auto, unfolding(adf_blocks::specs::Need::exts_needed))]
+fn ext_count(datas: usize) -> usize
+    ensures { result ≡ exts_needed datas }
+{
+    datas.saturating_sub(72).div_ceil(72)
+}
+
+// A number of blocks and those of an entry, or the greatest number.
+fn add_entry(sum: u64, kind: Kind, entry: &Entry) -> u64
+    ensures { result ≡ min (sum + entry_blocks kind entry.now) (2 ^ 64 - 1) }
+{
+    let datas = data_count(kind, &entry.body);
+    sum.saturating_add(1)
+        .saturating_add(ext_count(datas) as u64)
+        .saturating_add(datas as u64)
+}
+
+// The blocks that the tree needs in a volume of so many blocks, or the greatest number.
+fn count_blocks(tree: &Tree, blocks: u32) -> u64
+    requires { is_allowed blocks ≡ true }
+    ensures { result ≡ need_of tree.now blocks }
+{
+    let mut sum = 1 + u64::from(page_count(blocks));
+    for i in 0..tree.len() {
+        if let Some(entry) = tree.entry(Node(i + 1)) {
+            sum = add_entry(sum, tree.kind(), entry);
+        }
+    }
+    sum
+}
+
+/// The blocks that a tree needs in a volume of so many blocks: the root, the bitmap pages, and for each entry its header,
+/// extension blocks and data blocks; `u64::MAX` where there are more. None where no volume has so many blocks.
+pub fn need(tree: &Tree, blocks: u32) -> Option<u64>
+    ensures { SomeIff result (is_allowed blocks ≡ true) (need_of tree.now blocks) }
+{
+    if is_allowed_size(blocks) {
+        Some(count_blocks(tree, blocks))
+    } else {
+        None
+    }
+}

@@ -1,0 +1,57 @@
+// Volumes without entries.
+
+ghost use Rattle.std.specs.Prelude.{◌≡◌, ◌≤◌, ◌<◌, ◌+◌, ◌*◌, [], ◌∷◌, true, length, take};
+ghost use Rattle.adf_blocks.specs.EmptyImage.{empty_parts, lay, page_row, row};
+ghost use Rattle.adf_blocks.specs.EmptyVolume.{boot_bytes};
+ghost use Rattle.adf_blocks.specs.Fields.{laid};
+ghost use Rattle.adf_blocks.specs.Sizes.{is_allowed, pages_needed};
+
+use crate::counting::page_count;
+use crate::pages::write_pages;
+use adf_blocks::{RootOut, write_root};
+use adf_fields::{put_block, put_bytes};
+use adf_tree::{Kind, Label, Stamps};
+
+// The blocks of the bitmap pages, behind the root.
+#[tactic(auto, using(crate::proofs::Rows::row_step))]
+fn page_numbers(blocks: u32) -> [u32; 25]
+    requires { is_allowed blocks ≡ true }
+    ensures { take (pages_needed blocks) result ≡ page_row blocks }
+{
+    let mut numbers = [0u32; 25];
+    for j in 0..page_count(blocks) as usize {
+        numbers[j] = blocks / 2 + 1 + j as u32;
+    }
+    numbers
+}
+
+// The 512 bytes of block 0.
+fn boot_block(kind: Kind) -> [u8; 512]
+    ensures { result ≡ laid ((0, boot_bytes kind) ∷ []) }
+{
+    let mut block = [0u8; 512];
+    match kind {
+        Kind::Ofs => put_bytes(&mut block, 0, b"DOS\0"),
+        Kind::Ffs => put_bytes(&mut block, 0, b"DOS\x01"),
+    }
+    block
+}
+
+/// Writes the parts of a volume without entries.
+pub fn write_empty(image: &mut [u8], blocks: u32, kind: Kind, label: &Label, stamps: Stamps)
+    requires size { is_allowed blocks ≡ true }
+    requires whole { length image.old ≡ blocks * 512 }
+    ensures { image.new ≡ lay image.old (empty_parts blocks kind label.now stamps) }
+{
+    write_pages(image, blocks);
+    let numbers = page_numbers(blocks);
+    let count = page_count(blocks) as usize;
+    let root = RootOut {
+        slots: [0; 72],
+        pages: &numbers[..count],
+        label,
+        stamps,
+    };
+    write_root(image, blocks / 2, &root);
+    put_block(image, 0, &boot_block(kind));
+}

@@ -1,0 +1,62 @@
+// The bitmap pages of a volume without entries.
+
+ghost use Rattle.std.specs.Prelude.{◌≡◌, ◌≤◌, ◌<◌, ◌+◌, ◌*◌, ◌^◌, true, length};
+ghost use Rattle.adf_blocks.specs.EmptyImage.{bits_from, is_free_bit, is_used, lay, page_parts, page_words};
+ghost use Rattle.adf_blocks.specs.Sizes.{is_allowed, pages_needed};
+
+use crate::counting::page_count;
+use adf_blocks::write_page;
+
+// Whether block `b` is the root or a bitmap page.
+#[tactic(auto, unfolding(adf_blocks::specs::EmptyImage::is_used))]
+fn is_used_block(blocks: u32, b: u32) -> bool
+    requires { is_allowed blocks ≡ true }
+    ensures { result ≡ is_used blocks b }
+{
+    let middle = blocks / 2;
+    middle <= b && b <= middle + page_count(blocks)
+}
+
+// The word of the bits of 32 blocks, of which the first is `2 + q`.
+#[tactic(auto, using(crate::proofs::Bits::bits_step, crate::proofs::Bits::bits_fit, crate::proofs::Bits::bits_start))]
+fn page_word(blocks: u32, q: u32) -> u32
+    requires size { is_allowed blocks ≡ true }
+    requires far { q < 2 ^ 30 }
+    ensures { result ≡ bits_from (is_free_bit blocks) q 32 }
+{
+    let mut word = 0u32;
+    let mut i = 32;
+    while i > 0 {
+        i -= 1;
+        let b = 2 + q + i;
+        let is_free = b < blocks && !is_used_block(blocks, b);
+        word = 2 * word + u32::from(is_free);
+    }
+    word
+}
+
+// Words 1 to 127 of page `j`.
+#[tactic(auto, using(crate::proofs::Bits::words_step))]
+fn words_of_page(blocks: u32, j: u32) -> [u32; 127]
+    requires size { is_allowed blocks ≡ true }
+    requires page { j < 25 }
+    ensures { result ≡ page_words blocks j }
+{
+    let mut words = [0u32; 127];
+    for w in 0..127usize {
+        words[w] = page_word(blocks, 4064 * j + 32 * w as u32);
+    }
+    words
+}
+
+/// Writes the bitmap pages behind the root.
+#[tactic(auto, using(crate::proofs::Bits::pages_step))]
+pub fn write_pages(image: &mut [u8], blocks: u32)
+    requires size { is_allowed blocks ≡ true }
+    requires whole { length image.old ≡ blocks * 512 }
+    ensures { image.new ≡ lay image.old (page_parts blocks 0 (pages_needed blocks)) }
+{
+    for j in 0..page_count(blocks) {
+        write_page(image, blocks / 2 + 1 + j, &words_of_page(blocks, j));
+    }
+}
