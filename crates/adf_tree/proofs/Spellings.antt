@@ -1,11 +1,13 @@
 -- A text is the escape form of one list of bytes at most.
-use Rattle.std.proofs.Common.{◌≡◌, ◌≢◌, ℕ, ◌/◌, ◌%◌, ◌<◌, inl, inr, List, [], ◌∷◌, ◌++◌, true, false, arith, sym, refl, ◌∙◌, ap, if◌then◌else◌}
+use Rattle.std.proofs.Common.{◌≡◌, ◌≢◌, ℕ, ◌/◌, ◌%◌, ◌<◌, ◌≤◌, inl, inr, List, [], ◌∷◌, ◌++◌, length, get_or, true, false, arith, sym, refl, ◌∙◌, ap, if◌then◌else◌}
 use Rattle.std.proofs.lemmas.Bool.{cases_Bool}
 use Rattle.std.proofs.lemmas.Bool.Decides.{nat_tests}
-use Rattle.std.proofs.lemmas.List.{append_assoc}
+use Rattle.std.proofs.lemmas.List.{append_assoc, append-nil, length-append}
+use Rattle.std.proofs.lemmas.Grind.{flat_map-append}
+use Rattle.std.proofs.Math.Seq.{get_or-append_seam}
 use Rattle.std.specs.List.{All}
 use Rattle.std.proofs.lemmas.List.Elements.{All-head, All-tail}
-use Rattle.adf_tree.specs.Escapes.{is_plain, hex_digit, escape_of, escaped}
+use Rattle.adf_tree.specs.Escapes.{is_plain, hex_digit, escape_of, escaped, IsSpelling}
 
 hex_apart : (a b : ℕ) → hex_digit a ≡ hex_digit b → a < 16 → b < 16 → a ≡ b
 hex_apart a b h x y = grind (arith, nat_tests)
@@ -66,3 +68,40 @@ rest_spelled (c ∷ cs) (d ∷ ds) rest x y h =
     let both = one_spelling d c (escaped ds) (escaped cs ++ rest) (All-head (λ k. k < 256) d ds y) (All-head (λ k. k < 256) c cs x) (h ∙ append_assoc (escape_of c) (escaped cs) rest) in
     let more = rest_spelled cs ds rest (All-tail (λ k. k < 256) c cs x) (All-tail (λ k. k < 256) d ds y) both.1 in
     (more.0, ap (λ k. k ∷ ds) both.0 ∙ ap (λ zs. c ∷ zs) more.1, more.2)
+
+-- one byte more is read
+pub read_more : (text done rest after : List ℕ) (c : ℕ) → text ≡ escaped done ++ rest → rest ≡ escape_of c ++ after → text ≡ escaped (done ++ c ∷ []) ++ after
+read_more text done rest after c h g =
+    h
+    ∙ (ap (λ r. escaped done ++ r) g
+    ∙ (sym (append_assoc (escaped done) (escape_of c) after)
+    ∙ ap (λ s. s ++ after) (ap (λ s. escaped done ++ s) (sym (append-nil (escape_of c))) ∙ sym (flat_map-append escape_of done (c ∷ [])))))
+
+some_more : (done rest bytes more : List ℕ) → 0 < length rest → bytes ≡ done ++ more → escaped more ≡ rest → (c : ℕ) × (after : List ℕ) × (bytes ≡ done ++ c ∷ after) × (rest ≡ escape_of c ++ escaped after)
+some_more done rest bytes [] some is spells = absurd (omega (arith, some, ap length spells))
+some_more done rest bytes (c ∷ after) some is spells = (c, after, is, sym spells)
+
+-- a text spells more than was read of it
+more_spelled : (most : ℕ) (text done rest bytes : List ℕ) → text ≡ escaped done ++ rest → All (λ c. c < 256) done → 0 < length rest → IsSpelling most text bytes → (c : ℕ) × (more : List ℕ) × (bytes ≡ done ++ c ∷ more) × (rest ≡ escape_of c ++ escaped more)
+more_spelled most text done rest bytes h x some spelling =
+    let tail = rest_spelled done bytes rest x spelling.are_bytes (sym spelling.spells ∙ h) in
+    some_more done rest bytes tail.0 some tail.1 tail.2
+
+-- no bytes are spelled where no byte's spelling comes next
+pub no_spelling : (most : ℕ) (text done rest : List ℕ) → text ≡ escaped done ++ rest → All (λ c. c < 256) done → 0 < length rest → ((c : ℕ) (after : List ℕ) → c < 256 → rest ≢ escape_of c ++ after) → (bytes : List ℕ) → ¬ IsSpelling most text bytes
+no_spelling most text done rest h x some none bytes spelling =
+    let next = more_spelled most text done rest bytes h x some spelling in
+    let in_bytes : length done < length bytes = omega (arith, ap length next.2, length-append done (next.0 ∷ next.1)) in
+    let here : get_or bytes (length done) 0 ≡ next.0 = ap (λ bs. get_or bs (length done) 0) next.2 ∙ get_or-append_seam done next.0 next.1 0 in
+    none next.0 (escaped next.1) (omega (arith, spelling.are_bytes (length done) 0 in_bytes, here)) next.3
+
+-- nor where there are too many
+pub too_many : (most : ℕ) (text done rest : List ℕ) → text ≡ escaped done ++ rest → All (λ c. c < 256) done → 0 < length rest → length done ≡ most → (bytes : List ℕ) → ¬ IsSpelling most text bytes
+too_many most text done rest h x some full bytes spelling =
+    let next = more_spelled most text done rest bytes h x some spelling in
+    omega (arith, spelling.short, full, ap length next.2, length-append done (next.0 ∷ next.1))
+
+-- all was read
+pub whole_spelling : (most : ℕ) (text done rest : List ℕ) → text ≡ escaped done ++ rest → All (λ c. c < 256) done → length done ≤ most → length rest ≡ 0 → IsSpelling most text done
+whole_spelling most text done [] h x short end = record { spells = h ∙ append-nil (escaped done); are_bytes = x; short = short }
+whole_spelling most text done (c ∷ cs) h x short end = absurd (omega arith)

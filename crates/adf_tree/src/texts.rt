@@ -1,11 +1,14 @@
 // Names and labels.
 
-ghost use Rattle.std.specs.Prelude.{◌≡◌, ◌≤◌, ◌↔◌, length, IsSome, IfSome, true};
+ghost use Rattle.std.specs.Prelude.{◌≡◌, ◌≤◌, ◌↔◌, ◌++◌, length, IsSome, IfSome, IfNone, OnOk, OnErr, true, List, ℕ};
+ghost use Rattle.std.specs.String.{string_bytes};
+ghost use Rattle.adf_tree.specs.Escapes.{escaped, IsSpelling};
 ghost use Rattle.adf_tree.specs.Texts.{is_name, is_name_byte, uppers};
 ghost use Rattle.std.specs.Str.{bytes_eq};
 ghost use Rattle.std.specs.List.{list_all};
 
-use adf_fields::upper;
+use crate::escapes::{append_escaped, read_escaped};
+use adf_fields::{NoMemory, upper};
 use arrayvec::ArrayVec;
 use std::marker::Model;
 
@@ -35,12 +38,29 @@ impl Label {
         Some(Label { text })
     }
 
+    /// The label whose escape form the text is.
+    pub fn read(text: &[u8]) -> Option<Label>
+        ensures some { IfSome result (λ l. IsSpelling 30 text.now l) }
+        ensures none { IfNone result ((bytes : List ℕ) → ¬ IsSpelling 30 text.now bytes) }
+    {
+        let text = read_escaped(text)?;
+        Some(Label { text })
+    }
+
     /// The bytes of the label.
     pub fn bytes(&self) -> &[u8]
         ensures bytes { result.now ≡ self.now }
         ensures short { length result.now ≤ 30 }
     {
         self.text.as_slice()
+    }
+
+    /// Appends the escape form of the label; where memory is refused, `out` stays as it was.
+    pub fn write(&self, out: &mut String) -> Result<(), NoMemory>
+        ensures ok { OnOk result (string_bytes out.new ≡ string_bytes out.old ++ escaped self.now) }
+        ensures err { OnErr result (string_bytes out.new ≡ string_bytes out.old) }
+    {
+        append_escaped(out, self.bytes())
     }
 }
 
@@ -153,11 +173,28 @@ impl Comment {
         Some(Comment { text })
     }
 
+    /// The comment whose escape form the text is.
+    pub fn read(text: &[u8]) -> Option<Comment>
+        ensures some { IfSome result (λ l. IsSpelling 79 text.now l) }
+        ensures none { IfNone result ((bytes : List ℕ) → ¬ IsSpelling 79 text.now bytes) }
+    {
+        let text = read_escaped(text)?;
+        Some(Comment { text })
+    }
+
     /// The bytes of the comment.
     pub fn bytes(&self) -> &[u8]
         ensures bytes { result.now ≡ self.now }
         ensures short { length result.now ≤ 79 }
     {
         self.text.as_slice()
+    }
+
+    /// Appends the escape form of the comment; where memory is refused, `out` stays as it was.
+    pub fn write(&self, out: &mut String) -> Result<(), NoMemory>
+        ensures ok { OnOk result (string_bytes out.new ≡ string_bytes out.old ++ escaped self.now) }
+        ensures err { OnErr result (string_bytes out.new ≡ string_bytes out.old) }
+    {
+        append_escaped(out, self.bytes())
     }
 }
