@@ -15,10 +15,10 @@ hex_apart a b h x y = grind (arith, nat_tests)
 plain_not_escape : (c : ℕ) → is_plain c ≡ true → c ≢ 92
 plain_not_escape c h e = grind (arith, nat_tests)
 
-spelled_plain : (c : ℕ) → is_plain c ≡ true → escape_of c ≡ c ∷ []
+pub spelled_plain : (c : ℕ) → is_plain c ≡ true → escape_of c ≡ c ∷ []
 spelled_plain c h = ap (λ b. if b then c ∷ [] else 92 ∷ 120 ∷ hex_digit (c / 16) ∷ hex_digit (c % 16) ∷ []) h
 
-spelled_escape : (c : ℕ) → is_plain c ≡ false → escape_of c ≡ 92 ∷ 120 ∷ hex_digit (c / 16) ∷ hex_digit (c % 16) ∷ []
+pub spelled_escape : (c : ℕ) → is_plain c ≡ false → escape_of c ≡ 92 ∷ 120 ∷ hex_digit (c / 16) ∷ hex_digit (c % 16) ∷ []
 spelled_escape c h = ap (λ b. if b then c ∷ [] else 92 ∷ 120 ∷ hex_digit (c / 16) ∷ hex_digit (c % 16) ∷ []) h
 
 same_parts : (c d : ℕ) → c / 16 ≡ d / 16 → c % 16 ≡ d % 16 → c ≡ d
@@ -53,7 +53,7 @@ one_spelling c d u v cs ds h =
           ]
     ]
 
-spelling_some : (c : ℕ) (u : List ℕ) → escape_of c ++ u ≢ []
+pub spelling_some : (c : ℕ) (u : List ℕ) → escape_of c ++ u ≢ []
 spelling_some c u h =
     elim (cases_Bool (is_plain c)) [
       | inl p ↦ let g : c ∷ u ≡ [] = sym (ap (λ s. s ++ u) (spelled_plain c p)) ∙ h in cc

@@ -3,3 +3,4 @@ pub mod Tree
 pub mod Chain
 pub mod Paths
 pub mod Escapes
+pub mod PathTexts

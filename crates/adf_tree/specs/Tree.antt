@@ -134,6 +134,10 @@ new_entry es path meta body = record { parent = in_directory (room_for es path);
 abbrev pub with_entry : Tree → List (List ℕ) → Meta → Body → Tree
 with_entry t path meta body = record t { entries = added t.entries (new_entry t.entries path meta body) }
 
+-- a tree of another kind
+abbrev pub with_kind : Tree → Kind → Tree
+with_kind t kind = record t { kind = kind }
+
 -- what `add` may answer: a fault that is there, or NoMemory where there is none
 abbrev pub IsAnswer : Result ℕ AddFault → Result (Unit {0}) AddFault → Type 0
 IsAnswer room r = MatchResult r (λ _. IsOk room) (λ f. (room ≡ Err f) ⊎ ((f ≡ NoMemory) × IsOk room))

@@ -7,14 +7,16 @@ use adf_fields::Stamp;
 use std::marker::Model;
 
 /// The kind of a volume.
-#[derive(Clone, Copy, Drop)]
+#[derive(Clone, Copy, Debug, PartialEq, Eq)]
 pub enum Kind {
+    /// The old file system, with 488 bytes of a file in each data block.
     Ofs,
+    /// The fast file system, with 512.
     Ffs,
 }
 
 /// The number of an entry, from 1 on, or 0 for the root.
-#[derive(Clone, Copy, Drop)]
+#[derive(Clone, Copy, Debug, PartialEq, Eq, PartialOrd, Ord)]
 pub struct Node(pub usize);
 
 impl Model for Node {
@@ -28,7 +30,7 @@ impl Model for Node {
 }
 
 /// The dates of a volume.
-#[derive(Clone, Copy, Drop)]
+#[derive(Clone, Copy, Debug, PartialEq, Eq)]
 pub struct Stamps {
     pub root: Stamp,
     pub altered: Stamp,

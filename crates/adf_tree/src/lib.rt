@@ -3,12 +3,14 @@
 
 mod entry;
 mod escapes;
+mod path_texts;
 #[cfg(test)]
 mod tests;
 mod texts;
 mod tree;
 
 pub use crate::entry::{Body, Bytes, Entry, Kind, Meta, Node, Stamps};
+pub use crate::path_texts::{PathFault, path_texts_decide, read_path, write_path};
 pub use crate::texts::{Comment, Label, Name};
 pub use crate::tree::{AddFault, Tree};
 pub use adf_fields::{slot, upper};

@@ -116,7 +116,7 @@ impl Name {
     }
 
     /// Whether the names are equal without the case of `a` to `z`.
-    pub fn is_same(&self, other: &Name) -> bool
+    pub fn same(&self, other: &Name) -> bool
         ensures { result ≡ bytes_eq (uppers self.now) (uppers other.now) }
     {
         are_same(self.bytes(), other.bytes())

@@ -2,7 +2,7 @@
 
 ghost use Rattle.std.specs.Prelude.{◌≡◌, ◌≤◌, ◌<◌, [], length, map, take, drop, nat_lt, nat_le, ℕ, ◌+◌, ◌^◌, slice_index_or};
 ghost use Rattle.std.specs.Prelude.{if◌then◌else◌, is_ok, IfErr, OnOk, ◌++◌, true, false};
-ghost use Rattle.adf_tree.specs.Tree.{added, child, directory_from, entry, find, is_child, is_dir, is_dir_body, new_entry, room_at, room_for, with_entry, IsAnswer, place, rank, rank_of, renumbered, IsTree};
+ghost use Rattle.adf_tree.specs.Tree.{added, child, directory_from, entry, find, is_child, is_dir, is_dir_body, new_entry, room_at, room_for, with_entry, with_kind, IsAnswer, place, rank, rank_of, renumbered, IsTree};
 ghost use Rattle.adf_tree.specs.Paths.{AddsOne};
 ghost use Rattle.std.specs.Option.{option_copied};
 ghost use Rattle.std.specs.List.Sorted.{IsNonDecreasingBy, IsPartitionPoint};
@@ -36,11 +36,16 @@ impl Model for Tree {
 /// Why an entry is not added.
 #[derive(Debug, PartialEq, Eq, Drop)]
 pub enum AddFault {
-    NoParent,
-    ParentIsFile,
-    Exists,
-    NoMemory,
-    EmptyPath,
+    /// Of the shortest proper prefix of the path that is no directory, nothing is there.
+    NoParent = 1,
+    /// Of the shortest proper prefix of the path that is no directory, a file is there.
+    ParentIsFile = 2,
+    /// The path leads to an entry already.
+    Exists = 3,
+    /// A growth was refused.
+    NoMemory = 4,
+    /// The path has no name.
+    EmptyPath = 5,
 }
 
 // Whether the entry's pair is at most that of this parent and slot.
@@ -129,7 +134,7 @@ fn insert_entry(entries: &mut Vec<Entry>, entry: Entry) -> Result<(), AddFault>
 fn is_child(e: &Entry, parent: Node, name: &Name) -> bool
     ensures { result ≡ is_child parent name.now e.now }
 {
-    e.parent.0 == parent.0 && e.name.is_same(name)
+    e.parent.0 == parent.0 && e.name.same(name)
 }
 
 // The number of the entry with this parent and this name.
@@ -243,7 +248,35 @@ impl Tree {
         }
     }
 
-    /// The number of entries.
+    /// The kind of the volume.
+    pub fn kind(&self) -> Kind
+        ensures { result ≡ self.now.kind }
+    {
+        self.kind
+    }
+
+    /// The label of the volume.
+    pub fn label(&self) -> &Label
+        ensures { result.now ≡ self.now.label }
+    {
+        &self.label
+    }
+
+    /// The dates of the volume.
+    pub fn stamps(&self) -> Stamps
+        ensures { result ≡ self.now.stamps }
+    {
+        self.stamps
+    }
+
+    /// Gives the volume another kind.
+    pub fn set_kind(&mut self, kind: Kind)
+        ensures { self.new ≡ with_kind self.old kind }
+    {
+        self.kind = kind;
+    }
+
+    /// The number of entries, the root not among them.
     pub fn len(&self) -> usize
         ensures count { result ≡ length self.now.entries }
         ensures tree { IsTree self.now.entries }
@@ -276,14 +309,16 @@ impl Tree {
 
     /// The node that the path leads to.
     pub fn find(&self, path: &[Name]) -> Option<Node>
-        ensures { result ≡ find self.now.entries path.now }
+        ensures found { result ≡ find self.now.entries path.now }
+        ensures tree { IsTree self.now.entries }
     {
         find(&self.entries, path)
     }
 
     /// The entry with this number.
     pub fn entry(&self, n: Node) -> Option<&Entry>
-        ensures { option_copied result ≡ entry self.now.entries n }
+        ensures found { option_copied result ≡ entry self.now.entries n }
+        ensures tree { IsTree self.now.entries }
     {
         entry(&self.entries, n)
     }

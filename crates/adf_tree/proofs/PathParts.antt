@@ -1,0 +1,204 @@
+-- The parts between `/` of the text of a path.
+use Rattle.std.proofs.Common.{◌≡◌, ◌≢◌, ◌↔◌, Bor, Option, Some, None, nat_lt, ℕ, ◌+◌, ◌<◌, ◌/◌, ◌%◌, inl, inr, List, [], ◌∷◌, ◌++◌, length, get_or, take, drop, cond, ◌-◌, map, Bool, true, false, arith, sym, refl, ◌∙◌, ap, ◌==◌, ◌&&◌, nat_le, subst}
+use Rattle.std.specs.Prelude.{IsSome, IfNone, IfSome, is_some, position}
+use Rattle.std.proofs.Math.Seq.{get_or-append_seam}
+use Rattle.std.specs.List.{All, join_with_byte, list_all, position_or_len}
+use Rattle.std.proofs.lemmas.Bool.{cases_Bool, and_parts, ltb-true, ltb-false, eqb-true, ne_eqb}
+use Rattle.std.proofs.lemmas.List.Sums.{fails_before_first}
+use Rattle.std.proofs.lemmas.Bool.Decides.{nat_tests}
+use Rattle.std.proofs.lemmas.List.{append_assoc, append-nil, length-append, length-map, get_or-map, map-append, take_all, take_more, length-drop, length-take-le}
+use Rattle.std.proofs.lemmas.List.Elements.{All-head, All-tail, All-append, All-cons, All-nil}
+use Rattle.std.proofs.lemmas.List.Splits.{slice_split_none, slice_split_at, slice_split_first, join_with_byte-slice_split}
+use Rattle.adf_tree.specs.Texts.{is_name, is_name_byte}
+use Rattle.adf_tree.specs.Escapes.{escape_of, escaped, hex_digit, is_plain, IsSpelling}
+use Rattle.adf_tree.specs.PathTexts.{path_text, with_name, parts, IsName, IsPathText}
+use Rattle.adf_tree.proofs.Spellings.{rest_spelled, spelling_some, spelled_plain, spelled_escape}
+
+-- whether a byte is `/`
+abbrev pub is_slash : ℕ → Bool
+is_slash c = c == 47
+
+-- a text is cut at its first `/`
+
+pub cut_at : (text : List ℕ) (i : ℕ) → Some i ≡ position is_slash text → parts text ≡ take i text ∷ parts (take (length text - (i + 1)) (drop (i + 1) text))
+cut_at text i h =
+    elim (cases_Bool (nat_lt (position_or_len is_slash text) (length text))) [
+      | inl t ↦
+          let g : Some i ≡ Some (position_or_len is_slash text) = h ∙ ap (λ b. cond b (Some (position_or_len is_slash text)) None) t in
+          let same : position_or_len is_slash text ≡ i = cc in
+          let lt : position_or_len is_slash text < length text = ltb-true (position_or_len is_slash text) (length text) t in
+          slice_split_first is_slash text 0 lt
+          ∙ (ap (λ k. take k text ∷ parts (drop (k + 1) text)) same
+          ∙ ap (λ ys. take i text ∷ parts ys) (sym (take_all (length text - (i + 1)) (drop (i + 1) text) (omega (arith, length-drop (i + 1) text)))))
+      | inr f ↦ let g : Some i ≡ None = h ∙ ap (λ b. cond b (Some (position_or_len is_slash text)) None) f in cc
+    ]
+
+pub uncut : (text : List ℕ) → None ≡ position is_slash text → parts text ≡ text ∷ []
+uncut text h =
+    elim (cases_Bool (nat_lt (position_or_len is_slash text) (length text))) [
+      | inl t ↦ let g : None ≡ Some (position_or_len is_slash text) = h ∙ ap (λ b. cond b (Some (position_or_len is_slash text)) None) t in cc
+      | inr f ↦ slice_split_none is_slash text (λ k d lt. fails_before_first is_slash text k d (omega (arith, ltb-false (position_or_len is_slash text) (length text) f)))
+    ]
+
+-- names have no `/`, escaped or not
+
+hex_no_slash : (d : ℕ) → is_slash (hex_digit d) ≡ false
+hex_no_slash d = grind (arith, nat_tests)
+
+name_no_slash : (c : ℕ) → is_name_byte c ≡ true → is_slash c ≡ false
+name_no_slash c h = grind (arith, nat_tests)
+
+no_slash_byte : (c : ℕ) → is_name_byte c ≡ true → All (λ x. is_slash x ≡ false) (escape_of c)
+no_slash_byte c h =
+    let P : ℕ → Type 0 = λ x. is_slash x ≡ false in
+    elim (cases_Bool (is_plain c)) [
+      | inl p ↦ subst (λ s. All P s) (sym (spelled_plain c p)) (All-cons P c [] (name_no_slash c h) (All-nil P))
+      | inr p ↦
+          subst (λ s. All P s) (sym (spelled_escape c p))
+          (All-cons P 92 (120 ∷ hex_digit (c / 16) ∷ hex_digit (c % 16) ∷ []) refl
+          (All-cons P 120 (hex_digit (c / 16) ∷ hex_digit (c % 16) ∷ []) refl
+          (All-cons P (hex_digit (c / 16)) (hex_digit (c % 16) ∷ []) (hex_no_slash (c / 16))
+          (All-cons P (hex_digit (c % 16)) [] (hex_no_slash (c % 16)) (All-nil P)))))
+    ]
+
+no_slash_bytes : (bytes : List ℕ) → list_all is_name_byte bytes ≡ true → All (λ x. is_slash x ≡ false) (escaped bytes)
+no_slash_bytes [] h = λ k d lt. absurd (omega arith)
+no_slash_bytes (c ∷ cs) h =
+    let both = and_parts (is_name_byte c) (list_all is_name_byte cs) h in
+    All-append (λ x. is_slash x ≡ false) (escape_of c) (escaped cs) (no_slash_byte c both.0) (no_slash_bytes cs both.1)
+
+pub no_slash : (name : List ℕ) → IsName name → All (λ x. is_slash x ≡ false) (escaped name)
+no_slash name h = no_slash_bytes name (and_parts (nat_le 1 (length name) && nat_le (length name) 30) (list_all is_name_byte name) h.allowed).1
+
+nothing_more : (more : List ℕ) → escaped more ≡ [] → more ≡ []
+nothing_more [] h = refl
+nothing_more (c ∷ cs) h = absurd (spelling_some c (escaped cs) h)
+
+-- a name is spelled by one text, and a text that spells one spells no other
+pub only_spelled : (a b : List ℕ) → All (λ c. c < 256) a → All (λ c. c < 256) b → escaped a ≡ escaped b → a ≡ b
+only_spelled a b x y h =
+    let tail = rest_spelled b a [] y x (h ∙ sym (append-nil (escaped b))) in
+    tail.1 ∙ (ap (λ more. b ++ more) (nothing_more tail.0 tail.2) ∙ append-nil b)
+
+-- the parts of the text of a path are its escaped names
+pub parts_of_path : (name : List ℕ) (names : List (List ℕ)) → All IsName (name ∷ names) → parts (path_text (name ∷ names)) ≡ map escaped (name ∷ names)
+parts_of_path name [] h = slice_split_none is_slash (escaped name) (no_slash name (All-head IsName name [] h))
+parts_of_path name (next ∷ names) h =
+    slice_split_at is_slash (escaped name) 47 (path_text (next ∷ names)) (no_slash name (All-head IsName name (next ∷ names) h)) refl
+    ∙ ap (λ ps. escaped name ∷ ps) (parts_of_path next names (All-tail IsName name (next ∷ names) h))
+
+parts_of_some : (path : List (List ℕ)) → 0 < length (path_text path) → All IsName path → parts (path_text path) ≡ map escaped path
+parts_of_some [] some h = absurd (omega arith)
+parts_of_some (name ∷ names) some h = parts_of_path name names h
+
+pub parts_of_text : (text : List ℕ) (path : List (List ℕ)) → 0 < length text → IsPathText text path → parts text ≡ map escaped path
+parts_of_text text path some h =
+    ap parts h.spells ∙ parts_of_some path (omega (arith, some, ap length h.spells)) h.names
+
+-- a part that spells no name
+pub bad_part : (text part : List ℕ) (names more : List (List ℕ)) → 0 < length text → parts text ≡ map escaped names ++ part ∷ more → ((name : List ℕ) → IsName name → part ≢ escaped name) → (path : List (List ℕ)) → ¬ IsPathText text path
+bad_part text part names more some split none path h =
+    let front : List (List ℕ) = map escaped names in
+    let k : ℕ = length front in
+    let whole : parts text ≡ map escaped path = parts_of_text text path some h in
+    let within : length (map escaped names) < length path = omega (arith, ap length whole, length-map path escaped, ap length split, length-append front (part ∷ more)) in
+    none (get_or path k []) (h.names k [] within)
+    (sym (get_or-append_seam front part more part)
+    ∙ (ap (λ ps. get_or ps k part) (sym split ∙ whole) ∙ get_or-map escaped path k [] part within))
+
+-- one part more spells a name
+pub one_part : (text part name : List ℕ) (names more : List (List ℕ)) → parts text ≡ map escaped names ++ part ∷ more → part ≡ escaped name → parts text ≡ map escaped (names ++ name ∷ []) ++ more
+one_part text part name names more split is =
+    split
+    ∙ (ap (λ p. map escaped names ++ p ∷ more) is
+    ∙ (sym (append_assoc (map escaped names) (escaped name ∷ []) more)
+    ∙ ap (λ ps. ps ++ more) (sym (map-append escaped names (name ∷ [])))))
+
+-- all parts spell names
+pub all_parts : (text : List ℕ) (path : List (List ℕ)) → parts text ≡ map escaped path → All IsName path → IsPathText text path
+all_parts text path h names = record { spells = sym (join_with_byte-slice_split 47 text) ∙ ap (join_with_byte 47) h; names = names }
+
+-- the part before the next `/`
+pub next_part : (text part rest : List ℕ) (names more : List (List ℕ)) → parts text ≡ map escaped names ++ parts rest → parts rest ≡ part ∷ more → parts text ≡ map escaped names ++ part ∷ more
+next_part text part rest names more split cut = split ∙ ap (λ ps. map escaped names ++ ps) cut
+
+-- the first part is there whatever follows
+pub part_first : (o : Option (Bor (List ℕ))) (part : List ℕ) (ps : List (List ℕ)) → IfNone o (ps ≡ part ∷ []) → IfSome o (λ after. ps ≡ part ∷ parts after.now) → (more : List (List ℕ)) × (ps ≡ part ∷ more)
+part_first (Some after) part ps none some = (parts after.now, some)
+part_first None part ps none some = ([], none)
+
+pub at_none : {X P : Type 0} (o : Option X) → is_some o ≡ false → IfNone o P → P
+at_none None h p = p
+at_none (Some x) h p = cc
+
+pub last_part : (o : Option (Bor (List ℕ))) (part : List ℕ) (ps : List (List ℕ)) → o ≡ None → IfNone o (ps ≡ part ∷ []) → ps ≡ part ∷ []
+last_part None part ps h is = is
+last_part (Some after) part ps h is = cc
+
+pub part_before : (o : Option (Bor (List ℕ))) (part : List ℕ) (ps : List (List ℕ)) (after : Bor (List ℕ)) → o ≡ Some after → IfSome o (λ after. ps ≡ part ∷ parts after.now) → ps ≡ part ∷ parts after.now
+part_before None part ps after h is = cc
+part_before (Some x) part ps after h is = let same : x ≡ after = cc in is ∙ ap (λ y. part ∷ parts y.now) same
+
+pub some_name : (r : Option (List ℕ)) (part : List ℕ) → is_some r ≡ true → IfSome r (λ n. part ≡ escaped n) → IfSome r IsName → (name : List ℕ) × (part ≡ escaped name) × IsName name
+some_name (Some name) part h is ok = (name, is, ok)
+some_name None part h is ok = cc
+
+-- so a text is that of one path at most
+
+nothing_spelled : (name : List ℕ) → is_name name ≡ true → escaped name ≢ []
+nothing_spelled [] h e = cc
+nothing_spelled (c ∷ cs) h e = spelling_some c (escaped cs) e
+
+pub empty_path : (path : List (List ℕ)) → All IsName path → path_text path ≡ [] → path ≡ []
+empty_path [] h e = refl
+empty_path (name ∷ []) h e = absurd (nothing_spelled name (All-head IsName name [] h).allowed e)
+empty_path (name ∷ next ∷ names) h e = absurd (omega (arith, ap length e, length-append (escaped name) (47 ∷ path_text (next ∷ names))))
+
+same_names : (a b : List (List ℕ)) → All IsName a → All IsName b → map escaped a ≡ map escaped b → a ≡ b
+same_names [] [] x y h = refl
+same_names [] (n ∷ ns) x y h = cc
+same_names (m ∷ ms) [] x y h = cc
+same_names (m ∷ ms) (n ∷ ns) x y h =
+    let here : escaped m ≡ escaped n = cc in
+    let rest : map escaped ms ≡ map escaped ns = cc in
+    ap (λ z. z ∷ ms) (only_spelled m n (All-head IsName m ms x).are_bytes (All-head IsName n ns y).are_bytes here)
+    ∙ ap (λ zs. n ∷ zs) (same_names ms ns (All-tail IsName m ms x) (All-tail IsName n ns y) rest)
+
+pub one_path : (text : List ℕ) (path other : List (List ℕ)) → IsPathText text path → IsPathText text other → path ≡ other
+one_path [] path other h g = empty_path path h.names (sym h.spells) ∙ sym (empty_path other g.names (sym g.spells))
+one_path (c ∷ cs) path other h g =
+    same_names path other h.names g.names
+    (sym (parts_of_text (c ∷ cs) path (omega arith) h) ∙ parts_of_text (c ∷ cs) other (omega arith) g)
+
+-- where the only bytes that a text spells are no name
+pub no_name : (r : Option (List ℕ)) (text bytes : List ℕ) → IsSpelling 30 text bytes → (IsSome r ↔ (is_name bytes ≡ true)) → IfNone r ((name : List ℕ) → IsName name → text ≢ escaped name)
+no_name (Some n) text bytes h allowed = tt
+no_name None text bytes h allowed = λ name is e.
+    let same : bytes ≡ name = only_spelled bytes name h.are_bytes is.are_bytes (sym h.spells ∙ e) in
+    let some : IsSome {T = List ℕ} None = allowed.1 (ap is_name same ∙ is.allowed) in
+    cc
+
+-- the text of a path with one name more
+pub path_text_more : (path : List (List ℕ)) (name : List ℕ) → path_text (path ++ name ∷ []) ≡ with_name (path_text path) name (length path == 0)
+path_text_more [] name = refl
+path_text_more (first ∷ []) name = sym (append_assoc (escaped first) (47 ∷ []) (escaped name))
+path_text_more (first ∷ next ∷ names) name =
+    let some : (length (next ∷ names) == 0) ≡ false = ne_eqb (length (next ∷ names)) 0 (λ z. absurd (omega arith)) in
+    let more : (length (first ∷ next ∷ names) == 0) ≡ false = ne_eqb (length (first ∷ next ∷ names)) 0 (λ z. absurd (omega arith)) in
+    let rest : List ℕ = path_text (next ∷ names) in
+    ap (λ t. escaped first ++ 47 ∷ t) (path_text_more (next ∷ names) name ∙ ap (with_name rest name) some)
+    ∙ (sym (append_assoc (escaped first) (47 ∷ (rest ++ 47 ∷ [])) (escaped name))
+    ∙ (ap (λ t. t ++ escaped name) (sym (append_assoc (escaped first) (47 ∷ rest) (47 ∷ [])))
+    ∙ ap (with_name (path_text (first ∷ next ∷ names)) name) (sym more)))
+
+pub path_text_step : (path : List (List ℕ)) (i : ℕ) (name text : List ℕ) → i < length path → name ≡ get_or path i name → text ≡ with_name (path_text (take i path)) name (i == 0) → text ≡ path_text (take (i + 1) path)
+path_text_step path i name text lt at is =
+    is
+    ∙ (ap (λ n. with_name (path_text (take i path)) name (n == 0)) (sym (length-take-le i path (omega arith)))
+    ∙ (sym (path_text_more (take i path) name)
+    ∙ ap path_text (ap (λ n. take i path ++ n ∷ []) at ∙ sym (take_more path i name lt))))
+
+-- the empty text is that of the empty path
+pub empty_is_path : (text : List ℕ) → (length text == 0) ≡ true → IsPathText text []
+empty_is_path [] h = record { spells = refl; names = All-nil IsName }
+empty_is_path (c ∷ cs) h = absurd (omega (arith, eqb-true (length (c ∷ cs)) 0 h))

@@ -1,0 +1,140 @@
+// The texts of paths.
+
+ghost use Rattle.std.specs.Prelude.{◌≡◌, ◌==◌, position, ◌≢◌, ◌↔◌, ◌<◌, ◌∷◌, [], ℕ, List, Err, IfOk, IfErr, IfSome, IfNone, length};
+ghost use Rattle.std.specs.Bool.{OnTrue, OnFalse};
+ghost use Rattle.std.specs.String.{string_bytes};
+ghost use Rattle.adf_tree.specs.Escapes.{escaped};
+ghost use Rattle.adf_tree.specs.PathTexts.{parts, path_text, with_name, IsName, IsPathText, PathTextsDecide};
+
+use crate::escapes::{push_escaped, read_escaped};
+use crate::texts::Name;
+use adf_fields::NoMemory;
+use std::alloc::{AllocError, Global};
+
+/// Why a text is not read as a path.
+#[derive(Debug, PartialEq, Eq, Drop)]
+pub enum PathFault {
+    /// The text is that of no list of names.
+    BadText = 1,
+    /// A growth was refused.
+    NoMemory = 2,
+}
+
+// The name whose escape form the text is.
+fn read_name(text: &[u8]) -> Option<Name>
+    ensures some { IfSome result (λ n. text.now ≡ escaped n) }
+    ensures name { IfSome result IsName }
+    ensures none { IfNone result ((name : List ℕ) → IsName name → text.now ≢ escaped name) }
+{
+    let bytes = read_escaped::<30>(text)?;
+    Name::new(bytes.as_slice())
+}
+
+// The place of the first `/`.
+fn slash(text: &[u8]) -> Option<usize>
+    ensures { result ≡ position (λ c. c == 47) text.now }
+{
+    text.iter().position(|c| *c == b'/')
+}
+
+// The part of a text before the first `/`, and what is after that.
+fn cut(text: &[u8]) -> (&[u8], Option<&[u8]>)
+    ensures last { IfNone result.1 (parts text.now ≡ result.0.now ∷ []) }
+    ensures more { IfSome result.1 (λ after. parts text.now ≡ result.0.now ∷ parts after.now) }
+    ensures shorter { IfSome result.1 (λ after. length after.now < length text.now) }
+{
+    match slash(text) {
+        Some(i) => (&text[..i], Some(&text[i + 1..])),
+        None => (text, None),
+    }
+}
+
+// Whether the text is that of a path.
+fn has_names(text: &[u8]) -> bool
+    requires { 0 < length text.now }
+    ensures yes { OnTrue result ((path : List (List ℕ)) × IsPathText text.now path) }
+    ensures no { OnFalse result ((path : List (List ℕ)) → ¬ IsPathText text.now path) }
+{
+    let mut rest = text;
+    loop {
+        let (part, after) = cut(rest);
+        if read_name(part).is_none() {
+            return false;
+        }
+        match after {
+            Some(text) => rest = text,
+            None => return true,
+        }
+    }
+}
+
+// The names of the text of a path.
+fn names_of(alloc: Global, text: &[u8]) -> Result<Vec<Name>, PathFault>
+    requires { 0 < length text.now }
+    ensures ok { IfOk result (λ path. IsPathText text.now path.items) }
+    ensures err { IfErr result (λ f. f ≡ PathFault.BadText → (path : List (List ℕ)) → ¬ IsPathText text.now path) }
+{
+    let mut path = Vec::new(alloc);
+    let mut rest = text;
+    loop {
+        let (part, after) = cut(rest);
+        let Some(name) = read_name(part) else {
+            return Err(PathFault::BadText);
+        };
+        if path.push(name).is_err() {
+            return Err(PathFault::NoMemory);
+        }
+        match after {
+            Some(text) => rest = text,
+            None => return Ok(path),
+        }
+    }
+}
+
+/// The names of a path, of which this is the text. `BadText` where it is the text of no list of
+/// names, whether there is memory or not; `NoMemory` where a growth was refused.
+pub fn read_path(alloc: Global, text: &[u8]) -> Result<Vec<Name>, PathFault>
+    ensures ok { IfOk result (λ path. IsPathText text.now path.items) }
+    ensures bad_text { (result ≡ Err PathFault.BadText) ↔ ((path : List (List ℕ)) → ¬ IsPathText text.now path) }
+{
+    if text.is_empty() {
+        return Ok(Vec::new(alloc));
+    }
+    if !has_names(text) {
+        return Err(PathFault::BadText);
+    }
+    names_of(alloc, text)
+}
+
+// Appends a name to the text of a path, after a `/` where it is not the first.
+fn push_name(text: &mut String, name: &Name, is_first: bool) -> Result<(), AllocError>
+    ensures { IfOk result (λ _. string_bytes text.new ≡ with_name (string_bytes text.old) name.now is_first) }
+{
+    if !is_first {
+        text.push('/')?;
+    }
+    push_escaped(text, name.bytes())
+}
+
+// The text of a path.
+fn joined(alloc: Global, path: &[Name]) -> Result<String, AllocError>
+    ensures { IfOk result (λ text. string_bytes text ≡ path_text path.now) }
+{
+    let mut text = String::new(alloc);
+    for (i, name) in path.iter().enumerate() {
+        push_name(&mut text, name, i == 0)?;
+    }
+    Ok(text)
+}
+
+/// The text of a path: its escaped names, joined by `/`.
+pub fn write_path(alloc: Global, path: &[Name]) -> Result<String, NoMemory>
+    ensures ok { IfOk result (λ text. string_bytes text ≡ path_text path.now) }
+{
+    joined(alloc, path).map_err(|_| NoMemory)
+}
+
+/// A text is that of one path at most, so `read_path` gives back what `write_path` was given.
+pub fn path_texts_decide()
+    ensures { PathTextsDecide }
+{}
