@@ -9,7 +9,7 @@ use Rattle.adf_tree.specs.declared.entry.Stamps.{Stamps}
 use Rattle.adf_blocks.specs.EmptyVolume.{boot_bytes}
 use Rattle.adf_blocks.specs.Fields.{laid}
 use Rattle.adf_blocks.specs.PageBlock.{page_block}
-use Rattle.adf_blocks.specs.RootBlock.{root_block}
+use Rattle.adf_blocks.specs.RootBlock.{RootFields, root_block}
 use Rattle.adf_blocks.specs.Sizes.{middle, pages_needed}
 
 -- an image after these blocks were written, the first of the list first
@@ -48,11 +48,15 @@ page_parts n j (suc m) = (middle n + 1 + j, page_block (page_words n j)) ∷ pag
 abbrev pub page_row : ℕ → List ℕ
 page_row n = row (middle n + 1) (pages_needed n)
 
+-- the fields of a root that names no header
+abbrev pub empty_root : List ℕ → List ℕ → Stamps → RootFields
+empty_root pages label stamps = record { slots = replicate 72 0; pages = pages; label = label; stamps = stamps }
+
 -- every block that is written, with its bytes
 abbrev pub empty_parts : ℕ → Kind → List ℕ → Stamps → List (ℕ × List ℕ)
 empty_parts n kind label stamps =
     page_parts n 0 (pages_needed n)
-    ++ ((middle n, root_block (record { slots = replicate 72 0; pages = page_row n; label = label; stamps = stamps }))
+    ++ ((middle n, root_block (empty_root (page_row n) label stamps))
     ∷ (0, laid ((0, boot_bytes kind) ∷ [])) ∷ [])
 
 -- the image of n blocks

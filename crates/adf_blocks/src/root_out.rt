@@ -14,6 +14,7 @@ use adf_fields::{put_block, put_word, put_words, seal_block};
 use adf_tree::{Label, Stamps};
 
 /// What a root is to hold.
+#[derive(Drop)]
 pub struct RootOut<'a> {
     /// The first header of each slot's chain, or 0.
     pub slots: [u32; 72],

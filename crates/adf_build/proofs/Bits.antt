@@ -65,16 +65,21 @@ pub words_step : (words : List ℕ) (n j w v : ℕ) → w < length words
     → take w words ≡ map (λ w. bits_from (is_free_bit n) (4064 * j + 32 * w) 32) (range_with_len 0 w)
     → v ≡ bits_from (is_free_bit n) (4064 * j + 32 * w) 32
     → take (w + 1) (set words w v) ≡ map (λ w. bits_from (is_free_bit n) (4064 * j + 32 * w) 32) (range_with_len 0 (w + 1))
-words_step words n total j w v h e g =
+words_step words n j w v h e g =
     let f : ℕ → ℕ = λ w. bits_from (is_free_bit n) (4064 * j + 32 * w) 32 in
     take_more_set words w v h ∙ ap (λ l. l ++ v ∷ []) e ∙ ap (λ v. map f (range_with_len 0 w) ++ v ∷ []) g ∙ sym (map-range_with_len_more f 0 w w (omega arith))
 
 -- one page more
-pub pages_step : (image old all bytes : List ℕ) (n j b m : ℕ) → b ≡ middle n + 1 + j → j < m → bytes ≡ page_block (page_words n j)
-    → lay old (page_parts n j (m - j)) ≡ all → image ≡ with_block old b bytes
+pub pages_step : (image old all bits : List ℕ) (n j m : ℕ) → j < m → bits ≡ page_words n j
+    → lay old (page_parts n j (m - j)) ≡ all → image ≡ with_block old (middle n + 1 + j) (page_block bits)
     → lay image (page_parts n (j + 1) (m - (j + 1))) ≡ all
-pages_step image old all bytes n total j b m at lt e inv w =
+pages_step image old all bits n j m lt e inv w =
     let split : m - j ≡ suc (m - (j + 1)) = omega arith in
     ap (λ i. lay image (page_parts n i (m - (j + 1)))) (add-one j)
-    ∙ ap (λ im. lay im (page_parts n (suc j) (m - (j + 1)))) (w ∙ ap (λ b. with_block old b bytes) at ∙ ap (with_block old (middle n + 1 + j)) e)
+    ∙ ap (λ im. lay im (page_parts n (suc j) (m - (j + 1)))) (w ∙ ap (λ b. with_block old (middle n + 1 + j) (page_block b)) e)
     ∙ sym (ap (λ k. lay old (page_parts n j k)) split) ∙ inv
+
+-- parts that are written one list after the other
+pub lay-append : (image : List ℕ) (ps qs : List (ℕ × List ℕ)) → lay image (ps ++ qs) ≡ lay (lay image ps) qs
+lay-append image [] qs = refl
+lay-append image (p ∷ ps) qs = lay-append (with_block image p.0 p.1) ps qs

@@ -14,11 +14,11 @@ use std::alloc::Global;
 #[derive(Clone, Copy, Debug, PartialEq, Eq)]
 pub enum BuildFault {
     /// No volume has so many blocks.
-    BadSize = 1,
+    BadSize,
     /// The tree needs more blocks than there are beside the two boot blocks.
-    Full { need: u64, have: u64 } = 2,
+    Full { need: u64, have: u64 },
     /// A growth was refused.
-    NoMemory = 3,
+    NoMemory,
 }
 
 /// The image of a tree without entries in a volume of so many blocks.

@@ -1,9 +1,11 @@
 // Volumes without entries.
 
-ghost use Rattle.std.specs.Prelude.{◌≡◌, ◌≤◌, ◌<◌, ◌+◌, ◌*◌, [], ◌∷◌, true, length, take};
-ghost use Rattle.adf_blocks.specs.EmptyImage.{empty_parts, lay, page_row, row};
+ghost use Rattle.std.specs.Prelude.{◌≡◌, ◌≤◌, ◌<◌, ◌+◌, ◌*◌, ◌/◌, [], ◌∷◌, true, length, take};
+ghost use Rattle.adf_fields.specs.Words.{with_block};
+ghost use Rattle.adf_blocks.specs.EmptyImage.{empty_parts, empty_root, lay, page_row};
 ghost use Rattle.adf_blocks.specs.EmptyVolume.{boot_bytes};
 ghost use Rattle.adf_blocks.specs.Fields.{laid};
+ghost use Rattle.adf_blocks.specs.RootBlock.{root_block};
 ghost use Rattle.adf_blocks.specs.Sizes.{is_allowed, pages_needed};
 
 use crate::counting::page_count;
@@ -37,6 +39,22 @@ fn boot_block(kind: Kind) -> [u8; 512]
     block
 }
 
+// Writes a root that names no header.
+fn write_empty_root(image: &mut [u8], blocks: u32, pages: &[u32], label: &Label, stamps: Stamps)
+    requires whole { length image.old ≡ blocks * 512 }
+    requires big { 4 ≤ blocks }
+    requires few { length pages.now ≤ 25 }
+    ensures { image.new ≡ with_block image.old (blocks / 2) (root_block (empty_root pages.now label.now stamps)) }
+{
+    let root = RootOut {
+        slots: [0; 72],
+        pages,
+        label,
+        stamps,
+    };
+    write_root(image, blocks / 2, &root);
+}
+
 /// Writes the parts of a volume without entries.
 pub fn write_empty(image: &mut [u8], blocks: u32, kind: Kind, label: &Label, stamps: Stamps)
     requires size { is_allowed blocks ≡ true }
@@ -46,12 +64,6 @@ pub fn write_empty(image: &mut [u8], blocks: u32, kind: Kind, label: &Label, sta
     write_pages(image, blocks);
     let numbers = page_numbers(blocks);
     let count = page_count(blocks) as usize;
-    let root = RootOut {
-        slots: [0; 72],
-        pages: &numbers[..count],
-        label,
-        stamps,
-    };
-    write_root(image, blocks / 2, &root);
+    write_empty_root(image, blocks, &numbers[..count], label, stamps);
     put_block(image, 0, &boot_block(kind));
 }

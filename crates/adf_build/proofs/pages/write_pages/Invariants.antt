@@ -1,4 +1,4 @@
-use Rattle.std.proofs.Common.{◌≡◌, ◌-◌, ◌*◌, length}
+use Rattle.std.proofs.Common.{◌≡◌, ◌-◌}
 use Rattle.adf_blocks.specs.EmptyImage.{lay, page_parts}
 use Rattle.adf_blocks.specs.Sizes.{pages_needed}
 use Rattle.adf_build.proofs.pages.write_pages.Given as goal

@@ -1,0 +1,44 @@
+-- Steps of a count of blocks over the entries of a tree.
+use Rattle.std.proofs.Common.{◌≡◌, ◌≤◌, ◌<◌, ℕ, zero, suc, ◌+◌, ◌-◌, ◌^◌, List, [], ◌∷◌, length, drop, min, refl, sym, ap, ◌∙◌, arith, Some, None, add-one, false}
+use Rattle.std.specs.Prelude.{if◌then◌else◌, ◌==◌}
+use Rattle.std.specs.List.{slice_get}
+use Rattle.std.proofs.lemmas.Bool.Decides.{nat_tests}
+use Rattle.adf_tree.specs.declared.entry.Kind.{Kind}
+use Rattle.adf_tree.specs.declared.entry.Entry.{Entry}
+use Rattle.adf_tree.specs.Tree.{entry}
+use Rattle.adf_blocks.specs.Need.{entries_blocks, entry_blocks}
+
+-- node i + 1 is the entry at place i
+not_zero : (i : ℕ) → ((i + 1) == 0) ≡ false
+not_zero i = grind (arith, nat_tests)
+
+entry-next : (es : List Entry) (i : ℕ) → entry es (i + 1) ≡ slice_get es i
+entry-next es i = ap (λ t. if t then None else slice_get es (i + 1 - 1)) (not_zero i) ∙ ap (slice_get es) (omega arith)
+
+left_is : (es : List Entry) (i : ℕ) (e : Entry) → slice_get es i ≡ Some e → drop i es ≡ e ∷ drop (suc i) es
+left_is [] i e h = cc
+left_is (x ∷ xs) zero e h = let same : x ≡ e = cc in ap (λ y. y ∷ xs) same
+left_is (x ∷ xs) (suc i) e h = left_is xs i e h
+
+none_past : (es : List Entry) (i : ℕ) → slice_get es i ≡ None → i < length es → ⊥
+none_past [] i h lt = omega arith
+none_past (x ∷ xs) zero h lt = cc
+none_past (x ∷ xs) (suc i) h lt = none_past xs i h (omega arith)
+
+pub none_left : (kind : Kind) (es : List Entry) (i : ℕ) → length es ≤ i → entries_blocks kind (drop i es) ≡ 0
+none_left kind [] zero h = refl
+none_left kind [] (suc i) h = refl
+none_left kind (e ∷ es) zero h = absurd (omega arith)
+none_left kind (e ∷ es) (suc i) h = none_left kind es i (omega arith)
+
+-- one entry more is counted
+pub count_step : (kind : Kind) (es : List Entry) (i sum new need : ℕ) (e : Entry) → Some e ≡ entry es (i + 1) → new ≡ min (sum + entry_blocks kind e) (2 ^ 64 - 1)
+    → min (sum + entries_blocks kind (drop i es)) (2 ^ 64 - 1) ≡ need → min (new + entries_blocks kind (drop (i + 1) es)) (2 ^ 64 - 1) ≡ need
+count_step kind es i sum new need e h f inv =
+    let split = left_is es i e (sym (h ∙ entry-next es i)) in
+    let more : entries_blocks kind (drop i es) ≡ entry_blocks kind e + entries_blocks kind (drop (i + 1) es) = ap (entries_blocks kind) split ∙ ap (λ k. entry_blocks kind e + entries_blocks kind (drop k es)) (sym (add-one i)) in
+    omega arith
+
+-- there is an entry to count
+pub count_goes_on : (es : List Entry) (i : ℕ) → None ≡ entry es (i + 1) → i < length es → ⊥
+count_goes_on es i h lt = none_past es i (sym (h ∙ entry-next es i)) lt
