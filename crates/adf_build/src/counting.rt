@@ -3,26 +3,10 @@
 ghost use Rattle.std.specs.Prelude.{◌≡◌, ◌≤◌, ◌+◌, ◌-◌, ◌^◌, true, length, min};
 ghost use Rattle.std.specs.Option.{SomeIff};
 ghost use Rattle.adf_blocks.specs.Need.{body_datas, data_len, datas_needed, entry_blocks, exts_needed, need_of};
-ghost use Rattle.adf_blocks.specs.Sizes.{is_allowed, pages_needed};
+ghost use Rattle.adf_blocks.specs.Sizes.{is_allowed};
 
-use adf_blocks::{MOST_BLOCKS, PAGE_BITS};
+use adf_blocks::{is_allowed_size, page_count};
 use adf_tree::{Body, Entry, Kind, Node, Tree};
-
-/// Whether a volume may have so many blocks.
-pub fn is_allowed_size(blocks: u32) -> bool
-    ensures { result ≡ is_allowed blocks }
-{
-    4 <= blocks && blocks <= MOST_BLOCKS && blocks % 2 == 0
-}
-
-/// The bitmap pages that so many blocks need.
-pub fn page_count(blocks: u32) -> u32
-    requires { is_allowed blocks ≡ true }
-    ensures exact { result ≡ pages_needed blocks }
-    ensures few { result ≤ 25 }
-{
-    (blocks - 2).div_ceil(PAGE_BITS)
-}
 
 // The data bytes of a block.
 fn bytes_of_block(kind: Kind) -> usize

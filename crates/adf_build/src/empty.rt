@@ -8,9 +8,8 @@ ghost use Rattle.adf_blocks.specs.Fields.{laid};
 ghost use Rattle.adf_blocks.specs.RootBlock.{root_block};
 ghost use Rattle.adf_blocks.specs.Sizes.{is_allowed, pages_needed};
 
-use crate::counting::page_count;
 use crate::pages::write_pages;
-use adf_blocks::{RootOut, write_root};
+use adf_blocks::{RootOut, page_count, write_root};
 use adf_fields::{put_block, put_bytes};
 use adf_tree::{Kind, Label, Stamps};
 

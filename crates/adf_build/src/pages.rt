@@ -4,8 +4,7 @@ ghost use Rattle.std.specs.Prelude.{◌≡◌, ◌≤◌, ◌<◌, ◌+◌, ◌*
 ghost use Rattle.adf_blocks.specs.EmptyImage.{bits_from, is_free_bit, is_used, lay, page_parts, page_words};
 ghost use Rattle.adf_blocks.specs.Sizes.{is_allowed, pages_needed};
 
-use crate::counting::page_count;
-use adf_blocks::write_page;
+use adf_blocks::{page_count, write_page};
 
 // Whether block `b` is the root or a bitmap page.
 #[tactic(auto, unfolding(adf_blocks::specs::EmptyImage::is_used))]

@@ -1,17 +1,16 @@
 // The bitmap's pages, as the root names them.
 
-ghost use Rattle.std.specs.Prelude.{◌≡◌, ◌≤◌, ◌<◌, ◌+◌, ◌*◌, [], length, vec_len, None, true, IfOk, slice_set};
+ghost use Rattle.std.specs.Prelude.{◌≡◌, ◌≤◌, ◌<◌, ◌+◌, ◌*◌, [], length, vec_len, None, IfOk, slice_set};
 ghost use Rattle.adf_fields.specs.Words.{block, word};
 ghost use Rattle.adf_blocks.specs.Forms.{first_cause};
 ghost use Rattle.adf_blocks.specs.PageBlock.{page_form};
-ghost use Rattle.adf_blocks.specs.Sizes.{is_allowed, pages_needed};
 ghost use Rattle.adf_check.specs.Checks.{HasPages, InRange};
 ghost use Rattle.adf_check.specs.Owners.{IsTable, owner_of};
 
 use crate::claims::claim_named;
 use crate::fault::{Fault, fault_at};
 use crate::owners::{Owner, Owners};
-use adf_blocks::{Cause, PAGE_BITS, Page, Root, read_page};
+use adf_blocks::{Cause, Page, Root, read_page};
 use adf_fields::Block;
 use std::alloc::Global;
 
@@ -35,15 +34,6 @@ pub fn block_in<'a>(image: &'a [u8], b: u32) -> Block<'a>
     ensures { result ≡ block image.now b }
 {
     Block::at(image, b).unwrap()
-}
-
-/// The bitmap pages that so many blocks need.
-pub fn page_count(blocks: u32) -> u32
-    requires { is_allowed blocks ≡ true }
-    ensures exact { result ≡ pages_needed blocks }
-    ensures few { result ≤ 25 }
-{
-    (blocks - 2).div_ceil(PAGE_BITS)
 }
 
 /// Claims and reads bitmap page `i`, which the root at block `middle` names.
