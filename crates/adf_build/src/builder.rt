@@ -1,6 +1,6 @@
 // Building.
 
-ghost use Rattle.std.specs.Prelude.{◌≡◌, [], IfOk, IfErr, OnOk};
+ghost use Rattle.std.specs.Prelude.{◌≡◌, ◌*◌, [], IfOk, IfErr, OnOk, vec_len};
 ghost use Rattle.adf_blocks.specs.EmptyImage.{empty_image};
 ghost use Rattle.adf_build.specs.Building.{HasRoom, IsBuildFault};
 
@@ -26,6 +26,7 @@ pub enum BuildFault {
 pub fn build(alloc: Global, tree: &Tree, blocks: u32) -> Result<Vec<u8>, BuildFault>
     requires { tree.now.entries ≡ [] }
     ensures image { IfOk result (λ image. image.items ≡ empty_image blocks tree.now.kind tree.now.label tree.now.stamps) }
+    ensures len { IfOk result (λ image. vec_len image ≡ blocks * 512) }
     ensures room { OnOk result (HasRoom tree.now blocks) }
     ensures fault { IfErr result (IsBuildFault tree.now blocks) }
 {

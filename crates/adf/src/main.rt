@@ -1,0 +1,32 @@
+//! Checks and builds volumes of Amiga floppies and hard disks.
+#![tactic(auto)]
+
+use adf_cmd::{Device, run};
+use std::alloc::Global;
+use std::io;
+use std::process::ExitCode;
+use std::rt::Env;
+
+// The words of the command line.
+fn command_words(rt: &(impl Env + Alloc<A = Global>)) -> io::Result<Vec<String>> {
+    Ok(std::env::args(rt)?.collect(rt.alloc())?)
+}
+
+fn status(rt: &HostRuntime) -> io::Result<u8> {
+    let words = command_words(rt)?;
+    let mut texts = Vec::with_capacity(rt.alloc(), words.len())?;
+    for word in &words {
+        texts.push(word.as_str())?;
+    }
+    let mut input = Device::new(rt.stdin());
+    let mut output = Device::new(rt.stdout());
+    let mut errors = Device::new(rt.stderr());
+    Ok(run(rt.alloc(), &texts, &mut input, &mut output, &mut errors))
+}
+
+fn main(rt: HostRuntime) -> ExitCode {
+    match status(&rt) {
+        Ok(status) => ExitCode::from(status),
+        Err(_) => ExitCode::from(3),
+    }
+}

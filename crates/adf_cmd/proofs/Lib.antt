@@ -1,0 +1,10 @@
+pub mod KnownBytes
+pub mod Lines
+pub mod Literals
+pub mod ManifestLaws
+pub mod OneTree
+pub mod PartLaws
+pub mod PendingText
+pub mod Refused
+pub mod Verdicts
+pub mod AnswerLaws

@@ -1,0 +1,44 @@
+-- Laws of what is pending.
+use Rattle.std.proofs.Common.{◌≡◌, ◌++◌, ◌∙◌, ℕ, List, Option, Some, None, [], refl, sym, ap, append_assoc, append-nil}
+use Rattle.std.specs.Io.KnownBytes.{Appends}
+use Rattle.adf_cmd.specs.Streams.{AppendsPart, KeepsPending, Pending}
+
+appends_nil : (a : Option (List ℕ)) → Appends a a []
+appends_nil None = tt
+appends_nil (Some x) = sym (append-nil x)
+
+appends_two : (a b c : Option (List ℕ)) (bs cs all : List ℕ) → all ≡ bs ++ cs → Appends a b bs → Appends b c cs → Appends a c all
+appends_two None b c bs cs all e p q = tt
+appends_two (Some x) None c bs cs all e p q = absurd p
+appends_two (Some x) (Some y) None bs cs all e p q = absurd q
+appends_two (Some x) (Some y) (Some z) bs cs all e p q = q ∙ ap (λ l. l ++ cs) p ∙ append_assoc x bs cs ∙ ap (λ l. x ++ l) (sym e)
+
+pub pending_none : (a : Option (List ℕ)) (text done : List ℕ) → text ≡ [] → done ≡ [] → Pending a a text done
+pending_none a text done e f = ([], appends_nil a, f ∙ sym e)
+
+pub pending_more : (a b : Option (List ℕ)) (text done more text' done' : List ℕ) → text' ≡ text ++ more → done' ≡ done ++ more → Pending a b text done → Pending a b text' done'
+pending_more a b text done more text' done' e f p =
+    (p.0, p.1, f ∙ ap (λ l. l ++ more) p.2 ∙ append_assoc p.0 text more ∙ ap (λ l. p.0 ++ l) (sym e))
+
+pub pending_end : (a b c : Option (List ℕ)) (text done : List ℕ) → Pending a b text done → Appends b c text → Appends a c done
+pending_end a b c text done p q = appends_two a b c p.0 text done p.2 p.1 q
+
+pub pending_flushed : (a b c : Option (List ℕ)) (text done : List ℕ) → Pending a b text done → Appends b c text → Pending a c [] done
+pending_flushed a b c text done p q = (done, pending_end a b c text done p q, sym (append-nil done))
+
+pub pending_stops : (a b : Option (List ℕ)) (text done rest whole : List ℕ) → whole ≡ done ++ rest → Pending a b text done → AppendsPart a b whole
+pending_stops a b text done rest whole e p = (p.0, text ++ rest, e ∙ ap (λ l. l ++ rest) p.2 ∙ append_assoc p.0 text rest, p.1)
+
+pub pending_fails : (a b c : Option (List ℕ)) (text done rest whole : List ℕ) → whole ≡ done ++ rest → Pending a b text done → AppendsPart b c text → AppendsPart a c whole
+pending_fails a b c text done rest whole e p q = (
+  p.0 ++ q.0,
+  q.1 ++ rest,
+  e ∙ ap (λ l. l ++ rest) (p.2 ∙ ap (λ l. p.0 ++ l) q.2 ∙ sym (append_assoc p.0 q.0 q.1)) ∙ append_assoc (p.0 ++ q.0) q.1 rest,
+  appends_two a b c p.0 q.0 (p.0 ++ q.0) refl p.1 q.3,
+)
+
+pub pending_cleared : (b c : Option (List ℕ)) (text text' : List ℕ) → text' ≡ [] → Appends b c text → KeepsPending b text c text'
+pending_cleared b c text text' e q = λ a done p. (done, pending_end a b c text done p q, sym (ap (λ l. done ++ l) e ∙ append-nil done))
+
+pub part_none : (a : Option (List ℕ)) (whole : List ℕ) → AppendsPart a a whole
+part_none a whole = ([], whole, refl, appends_nil a)

@@ -1,0 +1,14 @@
+use Rattle.std.proofs.Common.{◌∙◌, List, ℕ, ap, refl, subst}
+use Rattle.std.specs.Prelude.{string_bytes}
+use Rattle.adf_cmd.specs.Streams.{AppendsPart}
+use Rattle.adf_cmd.specs.Texts.{ok_line}
+use Rattle.adf_cmd.proofs.AnswerLaws.{accepted_part}
+use Rattle.adf_cmd.proofs.checking.tell_accepted.Goals as goal
+
+pub returns-clause-works : goal.returns-clause-works
+returns-clause-works g c =
+    let o = g.W.Sink.held c.args.output.now in
+    let o' = g.W.Sink.held c.write_all.new.output in
+    let line : List ℕ = string_bytes c.in-Ok.line in
+    let by_line : List ℕ → Type 0 = λ l. AppendsPart o o' l in
+    accepted_part c.args.volume.now.image line c.args.volume.now o o' refl c.requires.fits (c.in-Ok.ensures ∙ ap ok_line c.counts.ensures) (subst by_line c.as_bytes.ensures.value c.in-Err.ensures.err)

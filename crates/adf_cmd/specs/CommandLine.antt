@@ -1,0 +1,92 @@
+-- The command line of `adf`, as clap reads it, and the request that its matches name.
+use Rattle.std.specs.Prelude.{◌≡◌, ◌⊎◌, List, [], Bool, true, false, Option, Some, None, codes, option_map, option_and_then, if◌then◌else◌}
+use Rattle.std.specs.Str.{bytes_eq}
+use Rattle.clap.specs.Words.{App, Row, Rule, Text, fault_of, first_of, new_app, new_rule, subcommand_of, with_rule, with_subcommand}
+use Rattle.clap.specs.declared.builder.action.ArgAction.TheVariants.{SetTrue}
+use Rattle.adf_tree.specs.declared.entry.Kind.{Kind}
+use Rattle.adf_tree.specs.declared.entry.Kind.TheVariants.{Ofs, Ffs}
+use Rattle.adf_cmd.specs.declared.command_line.Order.{Order}
+use Rattle.adf_cmd.specs.declared.command_line.Order.TheVariants.{Check, List as ListAll, Cat, Build, Convert}
+use Rattle.adf_cmd.specs.declared.command_line.WordsFault.{WordsFault}
+use Rattle.adf_cmd.specs.declared.command_line.WordsFault.TheVariants.{NoMemory, Usage}
+
+abbrev pub path_rule : Rule
+path_rule = record (new_rule (codes "path")) { required = true }
+
+abbrev pub list_rule : Rule
+list_rule = record (new_rule (codes "list")) { long = Some (codes "list"); action = Some SetTrue }
+
+abbrev pub kind_rule : Rule
+kind_rule = record (new_rule (codes "kind")) { required = true }
+
+abbrev pub cat_app : App
+cat_app = with_rule (new_app (codes "cat")) path_rule
+
+abbrev pub build_app : App
+build_app = with_rule (new_app (codes "build")) list_rule
+
+abbrev pub convert_app : App
+convert_app = with_rule (new_app (codes "convert")) kind_rule
+
+abbrev pub plain_app : App
+plain_app = with_subcommand (with_subcommand (new_app (codes "adf")) (new_app (codes "check")).top) (new_app (codes "list")).top
+
+-- the command line: check, list, cat PATH, build [--list], convert KIND
+abbrev pub adf_app : App
+adf_app = with_subcommand (with_subcommand (with_subcommand plain_app cat_app.top) build_app.top) convert_app.top
+
+-- what a command line asks for
+pub data Request : Type 0 where
+  check : Request
+  list : Request
+  cat : Text → Request
+  build : Bool → Request
+  convert : Kind → Request
+
+-- the argument has this value
+abbrev pub is_text : Text → Option Text → Bool
+is_text t None = false
+is_text t (Some s) = bytes_eq s t
+
+-- the kind that a text names
+abbrev pub kind_of : Text → Option Kind
+kind_of t = if bytes_eq t (codes "ofs") then Some Ofs else (if bytes_eq t (codes "ffs") then Some Ffs else None)
+
+-- the request that a subcommand's name and matches are
+abbrev pub named : Text → List Row → Option Request
+named name rows =
+    if bytes_eq name (codes "check") then Some check
+    else (if bytes_eq name (codes "list") then Some list
+    else (if bytes_eq name (codes "cat") then option_map cat (first_of (codes "path") rows)
+    else (if bytes_eq name (codes "build") then Some (build (is_text (codes "true") (first_of (codes "list") rows)))
+    else (if bytes_eq name (codes "convert") then option_map convert (option_and_then kind_of (first_of (codes "kind") rows))
+    else None))))
+
+-- what the matches ask for
+abbrev pub met : Option (Text × List Row) → Option Request
+met = option_and_then (λ p. named p.0 p.1)
+
+-- the request of the words, where clap takes them
+abbrev pub request_of : List Text → Option Request
+request_of words = met (subcommand_of adf_app words)
+
+-- clap takes the words, and its matches name the request
+abbrev pub Asks : List Text → Request → Type 0
+Asks words r = (fault_of adf_app words ≡ []) × (request_of words ≡ Some r)
+
+-- clap refuses the words, or its matches lack the command or its value
+abbrev pub IsRefused : List Text → Type 0
+IsRefused words = (¬ (fault_of adf_app words ≡ [])) ⊎ (request_of words ≡ None)
+
+-- what an order asks for
+abbrev pub asked : Order → Request
+asked Check = check
+asked ListAll = list
+asked (Cat p) = cat p.now
+asked (Build b) = build b
+asked (Convert k) = convert k
+
+-- what a fault of the words says of them
+abbrev pub Explains : WordsFault → List Text → Type 0
+Explains Usage words = IsRefused words
+Explains NoMemory words = Unit {0}

@@ -1,0 +1,9 @@
+pub mod CommandLine
+pub mod Devices
+pub mod Listing
+pub mod Manifest
+pub mod Parts
+pub mod Streams
+pub mod Texts
+pub mod Answers
+pub mod Outcomes

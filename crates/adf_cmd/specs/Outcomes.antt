@@ -1,0 +1,80 @@
+-- How the work of a command went.
+use Rattle.std.specs.Prelude.{◌≡◌, ◌≢◌, ◌<◌, ◌-◌, ◌⊎◌, ℕ, Bool, true, false, List, [], codes, Option, string_bytes}
+use Rattle.std.specs.Io.KnownBytes.{Appends}
+use Rattle.adf_tree.specs.Tree.{Tree}
+use Rattle.adf_blocks.specs.Need.{blocks_needed, need_of}
+use Rattle.adf_check.specs.declared.fault.Fault.{Fault}
+use Rattle.adf_cmd.specs.Answers.{Answer, IsPart, built, fault_line}
+use Rattle.adf_cmd.specs.CommandLine.{Request}
+use Rattle.adf_cmd.specs.Streams.{AppendsPart}
+use Rattle.adf_cmd.specs.Texts.{full_line, manifest_fault_line}
+use Rattle.adf_cmd.specs.declared.manifest.ManifestFault.{ManifestFault}
+use Rattle.adf_cmd.specs.declared.manifest.ManifestKind.TheVariants.{NoMemory as ManifestNoMemory}
+use Rattle.adf_cmd.specs.declared.outcome.Outcome.{Outcome}
+use Rattle.adf_cmd.specs.declared.outcome.Outcome.TheVariants.{Done, Told, Refused, ReadFault, WriteFault, NoMemory}
+
+abbrev pub status_of : Outcome → ℕ
+status_of Done = 0
+status_of Told = 1
+status_of (Refused line) = 1
+status_of ReadFault = 3
+status_of WriteFault = 3
+status_of NoMemory = 3
+
+-- what is said on errors
+abbrev pub line_of : Outcome → List ℕ
+line_of Done = []
+line_of Told = []
+line_of (Refused line) = string_bytes line
+line_of ReadFault = codes "read fault\n"
+line_of WriteFault = codes "write fault\n"
+line_of NoMemory = codes "no memory\n"
+
+abbrev pub is_read_fault : Outcome → Bool
+is_read_fault ReadFault = true
+is_read_fault _ = false
+
+abbrev pub is_write_fault : Outcome → Bool
+is_write_fault WriteFault = true
+is_write_fault _ = false
+
+-- output got an answer at this status that says this on errors
+abbrev pub Writes : Request → List ℕ → ℕ → List ℕ → Option (List ℕ) → Option (List ℕ) → Type 0
+Writes r input status errors o o' = (output : List ℕ) × Answer r input status output errors × Appends o o' output
+
+-- what an outcome says of the input and of what was added to output
+abbrev pub Works : Outcome → Request → List ℕ → Option (List ℕ) → Option (List ℕ) → Type 0
+Works Done r input o o' = Writes r input 0 [] o o'
+Works Told r input o o' = Writes r input 1 [] o o'
+Works (Refused line) r input o o' = Writes r input 1 (string_bytes line) o o'
+Works ReadFault r input o o' = Appends o o' []
+Works WriteFault r input o o' = IsPart r input o o'
+Works NoMemory r input o o' = Appends o o' [] ⊎ IsPart r input o o'
+
+-- building a tree: its image is written, or it needs more blocks than there are, or a front part is written
+abbrev pub TreeWorks : Outcome → Bool → Tree → ℕ → Option (List ℕ) → Option (List ℕ) → Type 0
+TreeWorks Done lines tree n o o' = Appends o o' (built lines tree n)
+TreeWorks Told lines tree n o o' = ⊥
+TreeWorks (Refused line) lines tree n o o' = Appends o o' [] × (n - 2 < blocks_needed tree n) × (string_bytes line ≡ full_line (need_of tree n) (n - 2))
+TreeWorks ReadFault lines tree n o o' = ⊥
+TreeWorks WriteFault lines tree n o o' = AppendsPart o o' (built lines tree n)
+TreeWorks NoMemory lines tree n o o' = Appends o o' [] ⊎ AppendsPart o o' (built lines tree n)
+
+-- saying that a tree needs more blocks than there are
+abbrev pub IsFullOutcome : ℕ → ℕ → Outcome → Type 0
+IsFullOutcome need have (Refused line) = string_bytes line ≡ full_line need have
+IsFullOutcome need have NoMemory = Unit {0}
+IsFullOutcome need have _ = ⊥
+
+-- saying why a manifest is refused
+abbrev pub IsFaultOutcome : ManifestFault → Outcome → Type 0
+IsFaultOutcome f (Refused line) = (f.kind ≢ ManifestNoMemory) × (string_bytes line ≡ manifest_fault_line f)
+IsFaultOutcome f NoMemory = Unit {0}
+IsFaultOutcome f _ = ⊥
+
+-- telling a fault: its line is written, or a front part of it, or nothing for want of memory
+abbrev pub TellsFault : Outcome → Fault → Option (List ℕ) → Option (List ℕ) → Type 0
+TellsFault Told f o o' = Appends o o' (fault_line f)
+TellsFault WriteFault f o o' = AppendsPart o o' (fault_line f)
+TellsFault NoMemory f o o' = Appends o o' []
+TellsFault _ f o o' = ⊥

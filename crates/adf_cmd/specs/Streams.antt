@@ -1,0 +1,31 @@
+-- What whole reads and writes take and add.
+use Rattle.std.specs.Prelude.{◌≡◌, ℕ, ◌≤◌, Bool, true, false, List, ◌++◌, length, Option, Result, Err}
+use Rattle.std.specs.Io.KnownBytes.{Appends, Consumes}
+use Rattle.adf_cmd.specs.declared.streams.StreamFault.{StreamFault}
+use Rattle.adf_cmd.specs.declared.streams.StreamFault.TheVariants.{Device}
+
+-- at most n of the known bytes were taken
+abbrev pub TakesAtMost : ℕ → Option (List ℕ) → Option (List ℕ) → Type 0
+TakesAtMost n old new = (bs : List ℕ) × (length bs ≤ n) × Consumes old new bs
+
+-- a front part of `whole` was added to the known bytes
+abbrev pub AppendsPart : Option (List ℕ) → Option (List ℕ) → List ℕ → Type 0
+AppendsPart old new whole = (part rest : List ℕ) × (whole ≡ part ++ rest) × Appends old new part
+
+-- the text was added, or where the device has failed a front part of it
+abbrev pub Says : Bool → Option (List ℕ) → Option (List ℕ) → List ℕ → Type 0
+Says false old new text = Appends old new text
+Says true old new text = AppendsPart old new text
+
+-- the fault is that of the device
+abbrev pub is_device : {T : Type 0} → Result T StreamFault → Bool
+is_device (Err Device) = true
+is_device _ = false
+
+-- of `done`, all but the text that waits is written
+abbrev pub Pending : Option (List ℕ) → Option (List ℕ) → List ℕ → List ℕ → Type 0
+Pending old new text done = (written : List ℕ) × Appends old new written × (done ≡ written ++ text)
+
+-- what was pending still is
+abbrev pub KeepsPending : Option (List ℕ) → List ℕ → Option (List ℕ) → List ℕ → Type 0
+KeepsPending old text new text' = (a : Option (List ℕ)) (done : List ℕ) → Pending a old text done → Pending a new text' done

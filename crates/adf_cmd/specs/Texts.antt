@@ -1,0 +1,46 @@
+-- The texts of numbers, kinds and lines.
+use Rattle.std.specs.Prelude.{◌/◌, ◌%◌, ◌^◌, ℕ, List, [], ◌∷◌, ◌++◌, codes}
+use Rattle.std.specs.Fmt.{decimal}
+use Rattle.adf_tree.specs.Escapes.{hex_digit}
+use Rattle.adf_tree.specs.declared.entry.Kind.{Kind}
+use Rattle.adf_tree.specs.declared.entry.Kind.TheVariants.{Ofs, Ffs}
+use Rattle.adf_cmd.specs.declared.manifest.ManifestFault.{ManifestFault}
+use Rattle.adf_cmd.specs.declared.manifest.ManifestKind.{ManifestKind}
+use Rattle.adf_cmd.specs.declared.manifest.ManifestKind.TheVariants.{BadLine, BadSize, BadText, NoParent, ParentIsFile, Exists, NoMemory, TooLong}
+use Rattle.adf_check.specs.declared.checked.Counts.{Counts}
+
+abbrev pub kind_text : Kind → List ℕ
+kind_text Ofs = codes "ofs"
+kind_text Ffs = codes "ffs"
+
+-- the line of `check`
+abbrev pub ok_line : Counts → List ℕ
+ok_line c = codes "ok " ++ (kind_text c.kind ++ (codes " blocks " ++ (decimal c.blocks ++ (codes " used " ++ (decimal c.used ++ (codes " free " ++ (decimal c.free
+    ++ (codes " dirs " ++ (decimal c.dirs ++ (codes " files " ++ (decimal c.files ++ codes "\n")))))))))))
+
+-- the line of a tree that needs more blocks than there are
+abbrev pub full_line : ℕ → ℕ → List ℕ
+full_line need have = codes "full: need " ++ (decimal need ++ (codes ", have " ++ (decimal have ++ codes "\n")))
+
+abbrev pub manifest_kind_text : ManifestKind → List ℕ
+manifest_kind_text BadLine = codes "bad line"
+manifest_kind_text BadSize = codes "bad size"
+manifest_kind_text BadText = codes "bad text"
+manifest_kind_text NoParent = codes "no parent"
+manifest_kind_text ParentIsFile = codes "parent is file"
+manifest_kind_text Exists = codes "exists"
+manifest_kind_text NoMemory = codes "no memory"
+manifest_kind_text TooLong = codes "too long"
+
+-- the line of a manifest's fault
+abbrev pub manifest_fault_line : ManifestFault → List ℕ
+manifest_fault_line f = codes "line " ++ (decimal f.line ++ (codes ": " ++ (manifest_kind_text f.kind ++ codes "\n")))
+
+-- a word in eight hexadecimal digits, the highest first
+abbrev pub hex_word : ℕ → List ℕ
+hex_word w = hex_digit (w / 2 ^ 28 % 16) ∷ hex_digit (w / 2 ^ 24 % 16) ∷ hex_digit (w / 2 ^ 20 % 16) ∷ hex_digit (w / 2 ^ 16 % 16)
+    ∷ hex_digit (w / 2 ^ 12 % 16) ∷ hex_digit (w / 2 ^ 8 % 16) ∷ hex_digit (w / 2 ^ 4 % 16) ∷ hex_digit (w % 16) ∷ []
+
+-- the line of word i of block b: the block, the word's number, the word
+abbrev pub word_line : ℕ → ℕ → ℕ → List ℕ
+word_line b i w = (decimal b ++ 32 ∷ []) ++ (decimal i ++ 32 ∷ []) ++ (hex_word w ++ 10 ∷ [])

@@ -1,0 +1,127 @@
+// The command `build`.
+
+ghost use Rattle.std.specs.Prelude.{◌≡◌, ◌<◌, ◌^◌, ◌++◌, ◌+◌, [], true, false, length, OnOk, OnErr, IfOk, IfSome, Some, if◌then◌else◌};
+ghost use Rattle.std.specs.Io.KnownBytes.{Appends};
+ghost use Rattle.adf_blocks.specs.Sizes.{is_allowed};
+ghost use Rattle.adf_cmd.specs.Answers.{limit_of};
+ghost use Rattle.adf_cmd.specs.CommandLine.{build};
+ghost use Rattle.adf_cmd.specs.Listing.{listing};
+ghost use Rattle.adf_cmd.specs.Outcomes.{IsFaultOutcome, IsFullOutcome, TreeWorks, Works, is_read_fault, is_write_fault};
+ghost use Rattle.adf_cmd.specs.Streams.{AppendsPart, TakesAtMost, is_device};
+
+use crate::devices::{Sink, Source};
+use crate::listing::write_listing;
+use crate::manifest::{MOST_BYTES, ManifestFault, ManifestKind, read_manifest};
+use crate::outcome::Outcome;
+use crate::streams::{StreamFault, read_all, write_all};
+use crate::texts::{push_full, push_manifest_fault};
+use adf_build::{BuildFault, build};
+use adf_tree::Tree;
+use std::alloc::Global;
+
+// Writes an image, or the lines of its words.
+fn write_image<W: Sink>(
+    alloc: Global,
+    image: &[u8],
+    lines: bool,
+    output: &mut W,
+) -> Result<(), StreamFault>
+    requires works { W.has_failed output.old ≡ false }
+    requires small { length image.now < 2 ^ 41 }
+    ensures ok { OnOk result (Appends (W.held output.old) (W.held output.new) (if lines then listing image.now else image.now)) }
+    ensures err { OnErr result (AppendsPart (W.held output.old) (W.held output.new) (if lines then listing image.now else image.now)) }
+    ensures failed { W.has_failed output.new ≡ is_device result }
+{
+    if lines {
+        return write_listing(alloc, image, output);
+    }
+    match write_all(output, image) {
+        Ok(()) => Ok(()),
+        Err(_) => Err(StreamFault::Device),
+    }
+}
+
+// Says that a tree does not fit in.
+fn refuse_full(alloc: Global, need: u64, have: u64) -> Outcome
+    ensures { IsFullOutcome need have result }
+{
+    let mut line = String::new(alloc);
+    match push_full(&mut line, need, have) {
+        Ok(()) => Outcome::Refused(line),
+        Err(_) => Outcome::NoMemory,
+    }
+}
+
+// Builds a tree without entries, and writes its image or the lines of the image's words.
+fn build_tree<W: Sink>(
+    alloc: Global,
+    tree: &Tree,
+    blocks: u32,
+    lines: bool,
+    output: &mut W,
+) -> Outcome
+    requires works { W.has_failed output.old ≡ false }
+    requires empty { tree.now.entries ≡ [] }
+    requires size { is_allowed blocks ≡ true }
+    ensures works { TreeWorks result lines tree.now blocks (W.held output.old) (W.held output.new) }
+    ensures written { W.has_failed output.new ≡ is_write_fault result }
+{
+    match build(alloc, tree, blocks) {
+        Ok(image) => match write_image(alloc, &image, lines, output) {
+            Ok(()) => Outcome::Done,
+            Err(StreamFault::Device) => Outcome::WriteFault,
+            Err(StreamFault::NoMemory) => Outcome::NoMemory,
+        },
+        Err(BuildFault::BadSize) => unreachable!(),
+        Err(BuildFault::Full { need, have }) => refuse_full(alloc, need, have),
+        Err(BuildFault::NoMemory) => Outcome::NoMemory,
+    }
+}
+
+// Says why a manifest is refused.
+fn refuse_manifest(alloc: Global, fault: ManifestFault) -> Outcome
+    ensures { IsFaultOutcome fault result }
+{
+    if let ManifestKind::NoMemory = fault.kind {
+        return Outcome::NoMemory;
+    }
+    let mut line = String::new(alloc);
+    match push_manifest_fault(&mut line, fault) {
+        Ok(()) => Outcome::Refused(line),
+        Err(_) => Outcome::NoMemory,
+    }
+}
+
+// Reads a manifest, builds its tree and writes the image or its words.
+fn build_manifest<W: Sink>(alloc: Global, bytes: &[u8], lines: bool, output: &mut W) -> Outcome
+    requires { W.has_failed output.old ≡ false }
+    ensures works { Works result (build lines) bytes.now (W.held output.old) (W.held output.new) }
+    ensures written { W.has_failed output.new ≡ is_write_fault result }
+    ensures read { is_read_fault result ≡ false }
+{
+    match read_manifest(alloc, bytes) {
+        Ok((tree, blocks)) => build_tree(alloc, &tree, blocks, lines, output),
+        Err(fault) => refuse_manifest(alloc, fault),
+    }
+}
+
+/// Reads a manifest, builds its tree and writes the image, or the lines of the image's words.
+pub fn build_input<R: Source, W: Sink>(
+    alloc: Global,
+    lines: bool,
+    input: &mut R,
+    output: &mut W,
+) -> Outcome
+    requires reads { R.has_failed input.old ≡ false }
+    requires writes { W.has_failed output.old ≡ false }
+    ensures works { IfSome (R.left input.old) (λ bytes. Works result (build lines) bytes (W.held output.old) (W.held output.new)) }
+    ensures read { R.has_failed input.new ≡ is_read_fault result }
+    ensures written { W.has_failed output.new ≡ is_write_fault result }
+    ensures at_most { TakesAtMost (limit_of (Some (build lines)) + 1) (R.left input.old) (R.left input.new) }
+{
+    match read_all(alloc, input, MOST_BYTES) {
+        Ok(bytes) => build_manifest(alloc, &bytes, lines, output),
+        Err(StreamFault::Device) => Outcome::ReadFault,
+        Err(StreamFault::NoMemory) => Outcome::NoMemory,
+    }
+}

@@ -1,0 +1,178 @@
+// The words of the command line, by clap.
+
+ghost use Rattle.std.specs.Prelude.{◌≡◌, IfOk, IfErr, false, true, ℕ, ◌==◌, List, [], ◌∷◌, codes, map, option_map};
+ghost use Rattle.clap.specs.Words.{app_of, first_of, found_of, rows_of, subcommand_rows_of};
+ghost use Rattle.clap.specs.declared.builder.command.Command.TheViews.{out-Command};
+ghost use Rattle.adf_cmd.specs.CommandLine.{Asks, Explains, IsRefused, adf_app, asked, build, build_app, cat, cat_app, check, convert, convert_app, kind_of, list, met, named};
+
+use adf_tree::Kind;
+use clap::error::ErrorKind;
+use clap::{Arg, ArgAction, ArgMatches, Command};
+use std::alloc::{AllocError, Global};
+
+/// What a command line asks for.
+#[derive(Clone, Copy, Debug)]
+pub enum Order<'a> {
+    Check,
+    List,
+    /// The text of the path.
+    Cat(&'a str),
+    Build { list: bool },
+    Convert(Kind),
+}
+
+/// Why the words give no order.
+#[derive(Clone, Copy, Debug, PartialEq, Eq)]
+pub enum WordsFault {
+    /// The words are refused, or the command or its value is missing.
+    Usage,
+    /// Memory was refused.
+    NoMemory,
+}
+
+fn cat_command<'a>(alloc: Global) -> Result<Command<'a>, AllocError>
+    ensures app { IfOk result (λ c. app_of c ≡ cat_app) }
+    ensures local { IfOk result (λ c. (out-Command c).has_globals ≡ false) }
+{
+    let path = Arg::new(alloc, "path").required(true);
+    Command::new(alloc, "cat").arg(path)
+}
+
+fn build_command<'a>(alloc: Global) -> Result<Command<'a>, AllocError>
+    ensures app { IfOk result (λ c. app_of c ≡ build_app) }
+    ensures local { IfOk result (λ c. (out-Command c).has_globals ≡ false) }
+{
+    let list = Arg::new(alloc, "list")
+        .long("list")
+        .action(ArgAction::SetTrue);
+    Command::new(alloc, "build").arg(list)
+}
+
+fn convert_command<'a>(alloc: Global) -> Result<Command<'a>, AllocError>
+    ensures app { IfOk result (λ c. app_of c ≡ convert_app) }
+    ensures local { IfOk result (λ c. (out-Command c).has_globals ≡ false) }
+{
+    let kind = Arg::new(alloc, "kind").required(true);
+    Command::new(alloc, "convert").arg(kind)
+}
+
+// The command line, with its subcommands.
+fn command<'a>(alloc: Global) -> Result<Command<'a>, AllocError>
+    ensures { IfOk result (λ c. app_of c ≡ adf_app) }
+{
+    let plain = Command::new(alloc, "adf")
+        .subcommand(Command::new(alloc, "check"))?
+        .subcommand(Command::new(alloc, "list"))?;
+    plain
+        .subcommand(cat_command(alloc)?)?
+        .subcommand(build_command(alloc)?)?
+        .subcommand(convert_command(alloc)?)
+}
+
+// The first value of an argument.
+fn first_text<'a>(found: &ArgMatches<'a>, id: &str) -> Option<&'a str>
+    ensures { option_map (λ s. s.now) result ≡ first_of id.now (rows_of (found_of found.now)) }
+{
+    found.get_str(id)
+}
+
+// The kind that a text names.
+fn kind_of(text: &str) -> Option<Kind>
+    ensures { result ≡ kind_of text.now }
+{
+    if text == "ofs" {
+        Some(Kind::Ofs)
+    } else if text == "ffs" {
+        Some(Kind::Ffs)
+    } else {
+        None
+    }
+}
+
+// The order that a subcommand's name and matches are.
+fn order_named<'a>(name: &str, found: &ArgMatches<'a>) -> Option<Order<'a>>
+    ensures { option_map asked result ≡ named name.now (rows_of (found_of found.now)) }
+{
+    if name == "check" {
+        Some(Order::Check)
+    } else if name == "list" {
+        Some(Order::List)
+    } else if name == "cat" {
+        match first_text(found, "path") {
+            Some(path) => Some(Order::Cat(path)),
+            None => None,
+        }
+    } else if name == "build" {
+        let list = match first_text(found, "list") {
+            Some(text) => text == "true",
+            None => false,
+        };
+        Some(Order::Build { list })
+    } else if name == "convert" {
+        match first_text(found, "kind") {
+            Some(text) => match kind_of(text) {
+                Some(kind) => Some(Order::Convert(kind)),
+                None => None,
+            },
+            None => None,
+        }
+    } else {
+        None
+    }
+}
+
+// The order that the matches are.
+fn order_of<'a>(matches: &ArgMatches<'a>) -> Option<Order<'a>>
+    ensures { option_map asked result ≡ met (subcommand_rows_of matches.now) }
+{
+    match matches.subcommand() {
+        Some((name, found)) => order_named(name, found),
+        None => None,
+    }
+}
+
+/// Reads the words, of which the first is the program's name. `Usage` exactly where clap refuses them
+/// or its matches lack the command or its value, `NoMemory` where memory was refused.
+pub fn parse<'a>(alloc: Global, words: &'a [&str]) -> Result<Order<'a>, WordsFault>
+    ensures ok { IfOk result (λ order. Asks (map (λ w. w.now) words.entry.now) (asked order)) }
+    ensures refused { IfErr result (λ fault. Explains fault (map (λ w. w.now) words.entry.now)) }
+{
+    let adf = match command(alloc) {
+        Ok(adf) => adf,
+        Err(_) => return Err(WordsFault::NoMemory),
+    };
+    match adf.try_get_matches_from(words) {
+        Ok(matches) => match order_of(&matches) {
+            Some(order) => Ok(order),
+            None => Err(WordsFault::Usage),
+        },
+        Err(error) => match error.kind() {
+            ErrorKind::OutOfMemory => Err(WordsFault::NoMemory),
+            _ => Err(WordsFault::Usage),
+        },
+    }
+}
+
+/// The commands of the documentation are taken with the request that they name, and other words are
+/// refused, calls for help among them.
+pub fn words_as_documented()
+    ensures check { Asks (codes "adf" ∷ codes "check" ∷ []) check }
+    ensures list { Asks (codes "adf" ∷ codes "list" ∷ []) list }
+    ensures build { Asks (codes "adf" ∷ codes "build" ∷ []) (build false) }
+    ensures build_list { Asks (codes "adf" ∷ codes "build" ∷ codes "--list" ∷ []) (build true) }
+    ensures convert_ofs { Asks (codes "adf" ∷ codes "convert" ∷ codes "ofs" ∷ []) (convert Kind.Ofs) }
+    ensures convert_ffs { Asks (codes "adf" ∷ codes "convert" ∷ codes "ffs" ∷ []) (convert Kind.Ffs) }
+    ensures cat { (first : ℕ) (rest : List ℕ) → (first == 45) ≡ false → Asks (codes "adf" ∷ codes "cat" ∷ (first ∷ rest) ∷ []) (cat (first ∷ rest)) }
+    ensures cat_any { (path : List ℕ) → Asks (codes "adf" ∷ codes "cat" ∷ codes "--" ∷ path ∷ []) (cat path) }
+    ensures no_words { IsRefused [] }
+    ensures no_command { IsRefused (codes "adf" ∷ []) }
+    ensures unknown { IsRefused (codes "adf" ∷ codes "frob" ∷ []) }
+    ensures no_path { IsRefused (codes "adf" ∷ codes "cat" ∷ []) }
+    ensures dash { IsRefused (codes "adf" ∷ codes "cat" ∷ codes "-x" ∷ []) }
+    ensures two_paths { IsRefused (codes "adf" ∷ codes "cat" ∷ codes "a" ∷ codes "b" ∷ []) }
+    ensures no_kind { IsRefused (codes "adf" ∷ codes "convert" ∷ []) }
+    ensures unknown_kind { IsRefused (codes "adf" ∷ codes "convert" ∷ codes "pfs" ∷ []) }
+    ensures help { IsRefused (codes "adf" ∷ codes "--help" ∷ []) }
+    ensures help_word { IsRefused (codes "adf" ∷ codes "help" ∷ []) }
+    ensures check_help { IsRefused (codes "adf" ∷ codes "check" ∷ codes "--help" ∷ []) }
+{}
