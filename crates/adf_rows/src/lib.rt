@@ -1,0 +1,9 @@
+//! Tests that cross the crates: worked examples of the format and of the command.
+#![tactic(auto)]
+
+#[cfg(test)]
+mod commands;
+#[cfg(test)]
+mod devices;
+#[cfg(test)]
+mod volumes;
