@@ -1,20 +1,21 @@
 -- The entry with a parent and a name.
-use Rattle.std.proofs.Common.{◌≡◌, ◌≢◌, ℕ, ◌+◌, ◌*◌, ◌%◌, ◌<◌, ◌≤◌, inl, inr, List, [], ◌∷◌, length, get_or, true, false, Bool, Some, None, cond, arith, nat_lt, nat_le, ◌==◌, sym, refl, ◌∙◌, ap}
+use Rattle.std.proofs.Common.{◌≡◌, ◌≢◌, ℕ, ◌+◌, ◌*◌, ◌%◌, ◌<◌, ◌≤◌, inl, inr, List, [], ◌∷◌, length, get_or, true, false, Bool, Some, None, cond, arith, nat_lt, ◌==◌, sym, refl, ◌∙◌, ap}
 use Rattle.std.specs.Prelude.{fold, option_map, position}
 use Rattle.std.specs.List.{position_or_len}
 use Rattle.std.specs.List.Sorted.{IsNonDecreasingBy, IsPartitionPoint}
 use Rattle.std.specs.Str.{bytes_eq}
-use Rattle.std.proofs.lemmas.Bool.{cases_lt, cases_Bool, and_parts, eqb-true, ltb-true, leb-false}
-use Rattle.std.proofs.lemmas.List.{length-map, get_or_default}
+use Rattle.std.proofs.lemmas.Bool.{cases_lt, cases_Bool, and_parts, eqb-true, ltb-true}
+use Rattle.std.proofs.lemmas.List.{length-map}
 use Rattle.std.proofs.lemmas.List.Sums.{position_or_len_is}
 use Rattle.std.proofs.lemmas.Slice.Eq.{bytes_eq-Decides}
 use Rattle.std.proofs.lemmas.Bool.Decides.{nat_tests}
 use Rattle.adf_tree.specs.declared.entry.Entry.{Entry}
 use Rattle.adf_fields.specs.Hash.{slot_of, hash_more, upper_of}
 use Rattle.adf_tree.specs.Texts.{uppers}
-use Rattle.adf_tree.specs.Tree.{rank, rank_of, is_child, child}
+use Rattle.adf_tree.specs.Tree.{rank, rank_of, is_child, child, place}
+use Rattle.adf_tree.proofs.Kept.{after}
 
-upper_twice : (c : ℕ) → upper_of (upper_of c) ≡ upper_of c
+pub upper_twice : (c : ℕ) → upper_of (upper_of c) ≡ upper_of c
 upper_twice c = grind (arith, nat_tests)
 
 hash_uppers : (h : ℕ) (name : List ℕ) → fold hash_more h (uppers name) ≡ fold hash_more h name
@@ -66,15 +67,11 @@ child_not_before es parent name s from same point k d lt =
     let less : rank (get_or es k d) < rank_of parent s = ltb-true (rank (get_or es k d)) (rank_of parent s) (point.0 k d (omega arith) lt) in
     no_child (get_or es k d) parent name (omega (arith, less, same))
 
-pub child_not_past : (es : List Entry) (parent : ℕ) (name : List ℕ) (s i : ℕ) (e : Entry) → s ≡ slot_of name → IsNonDecreasingBy rank es → i < length es → e ≡ get_or es i e → nat_le (rank e) (rank_of parent s) ≡ false → ((k : ℕ) (d : Entry) → k < i → is_child parent name (get_or es k d) ≡ false) → None ≡ child es parent name
-child_not_past es parent name s i e same up short at past others =
-    let more : rank_of parent s < rank e = leb-false (rank e) (rank_of parent s) past in
-    child_none es parent name
-    (λ k d lt.
+pub child_not_past : (es : List Entry) (parent : ℕ) (name : List ℕ) (s to i : ℕ) → s ≡ slot_of name → IsNonDecreasingBy rank es → to ≡ place es (rank_of parent s) → to ≤ i → ((k : ℕ) (d : Entry) → k < i → is_child parent name (get_or es k d) ≡ false) → (k : ℕ) (d : Entry) → k < length es → is_child parent name (get_or es k d) ≡ false
+child_not_past es parent name s to i same up at past others k d lt =
     elim (cases_lt k i) [
       | inl h ↦ others k d h
       | inr h ↦
-          let here : rank (get_or es i d) ≡ rank e = ap rank (get_or_default es i d e short ∙ sym at) in
-          let rises : rank (get_or es i d) ≤ rank (get_or es k d) = up i k d h lt in
-          no_child (get_or es k d) parent name (omega (arith, more, here, rises, same))
-    ])
+          let more : rank_of parent s < rank (get_or es k d) = after es (rank_of parent s) k d up (omega (arith, at, past, h)) lt in
+          no_child (get_or es k d) parent name (omega (arith, more, same))
+    ]

@@ -26,7 +26,7 @@ slice_at [] i d h = absurd (omega arith)
 slice_at (e ∷ es) zero d h = refl
 slice_at (e ∷ es) (suc i) d h = slice_at es i d (omega arith)
 
-entry_says : (es : List Entry) (n : ℕ) (x : Entry) → entry es n ≡ Some x → (0 < n) × (n ≤ length es) × ((d : Entry) → get_or es (n - 1) d ≡ x)
+pub entry_says : (es : List Entry) (n : ℕ) (x : Entry) → entry es n ≡ Some x → (0 < n) × (n ≤ length es) × ((d : Entry) → get_or es (n - 1) d ≡ x)
 entry_says es n x h =
     elim (cases_eq n 0) [
       | inl z ↦ let g : None ≡ Some x = sym (ap (entry es) z) ∙ h in cc
@@ -36,14 +36,14 @@ entry_says es n x h =
           (omega arith, omega (arith, says.0), says.1)
     ]
 
-entry_at : (es : List Entry) (n : ℕ) (d : Entry) → 0 < n → n ≤ length es → entry es n ≡ Some (get_or es (n - 1) d)
+pub entry_at : (es : List Entry) (n : ℕ) (d : Entry) → 0 < n → n ≤ length es → entry es n ≡ Some (get_or es (n - 1) d)
 entry_at es n d some most =
     ap (λ b. let o : Option Entry = if b then None else slice_get es (n - 1) in o) (ne_eqb n 0 (λ z. absurd (omega arith)))
     ∙ slice_at es (n - 1) d (omega arith)
 
 -- paths of nodes
 
-abbrev path_past : List Entry → ℕ → Option Entry → List (List ℕ)
+abbrev pub path_past : List Entry → ℕ → Option Entry → List (List ℕ)
 path_past es f o = elim o [ None ↦ [] | Some e ↦ path_in es f e.parent ++ uppers e.name ∷ [] ]
 
 fuel_past : (es : List Entry) (f g : ℕ) (o : Option Entry) → ((x : Entry) → o ≡ Some x → path_in es f x.parent ≡ path_in es g x.parent) → path_past es f o ≡ path_past es g o
@@ -107,7 +107,7 @@ snoc_past : (es : List Entry) (m : ℕ) (ys : List (List ℕ)) (x : List ℕ) (o
 snoc_past es m ys x None h ih = cc
 snoc_past es m ys x (Some k) h ih = ih k h
 
-find_snoc : (es : List Entry) (p m : ℕ) (a : List (List ℕ)) (x : List ℕ) → find_from es p a ≡ Some m → find_from es p (a ++ x ∷ []) ≡ then_find es [] (child es m x)
+pub find_snoc : (es : List Entry) (p m : ℕ) (a : List (List ℕ)) (x : List ℕ) → find_from es p a ≡ Some m → find_from es p (a ++ x ∷ []) ≡ then_find es [] (child es m x)
 find_snoc es p m [] x h = let same : p ≡ m = cc in ap (λ v. then_find es [] (child es v x)) same
 find_snoc es p m (y ∷ ys) x h = snoc_past es m ys x (child es p y) h (λ k g. find_snoc es k m ys x g)
 

@@ -4,3 +4,4 @@ pub mod Chain
 pub mod Paths
 pub mod Escapes
 pub mod PathTexts
+pub mod Laws

@@ -1,6 +1,6 @@
 -- Trees and their chains.
 use Rattle.std.specs.Prelude.{◌≡◌, ℕ, ◌+◌, ◌-◌, ◌*◌, ◌<◌, ◌≤◌, ◌≢◌, ◌==◌, ◌&&◌, nat_lt, nat_le, Bool, List, [], ◌∷◌, ◌++◌, if◌then◌else◌, length, map, take, drop, Option, Some, None, slice_index_or, position, option_map, ◌||◌, true, false, Result, Ok, Err, IsOk, MatchResult, ◌⊎◌}
-use Rattle.std.specs.List.{position_or_len, AllPairs, slice_get}
+use Rattle.std.specs.List.{position_or_len, All, AllPairs, slice_get}
 use Rattle.std.specs.List.Sorted.{IsNonDecreasingBy}
 use Rattle.std.specs.Str.{bytes_eq}
 use Rattle.adf_fields.specs.Hash.{slot_of}
@@ -133,6 +133,14 @@ new_entry es path meta body = record { parent = in_directory (room_for es path);
 -- a tree with an entry more
 abbrev pub with_entry : Tree → List (List ℕ) → Meta → Body → Tree
 with_entry t path meta body = record t { entries = added t.entries (new_entry t.entries path meta body) }
+
+-- an entry comes last in walk order
+abbrev pub IsLast : List Entry → Entry → Type 0
+IsLast es e = All (λ x. rank x ≤ rank e) es
+
+-- a tree with an entry more, at the end
+abbrev pub with_last : Tree → Entry → Tree
+with_last t e = record t { entries = t.entries ++ e ∷ [] }
 
 -- a tree of another kind
 abbrev pub with_kind : Tree → Kind → Tree

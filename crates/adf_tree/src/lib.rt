@@ -3,6 +3,7 @@
 
 mod entry;
 mod escapes;
+mod laws;
 mod path_texts;
 #[cfg(test)]
 mod tests;
@@ -10,6 +11,10 @@ mod texts;
 mod tree;
 
 pub use crate::entry::{Body, Bytes, Entry, Kind, Meta, Node, Stamps};
+pub use crate::laws::{
+    case_keeps_slots, children_are_found, entries_stand_in_one_chain, paths_are_found,
+    trees_grow_in_order,
+};
 pub use crate::path_texts::{PathFault, path_texts_decide, read_path, write_path};
 pub use crate::texts::{Comment, Label, Name};
 pub use crate::tree::{AddFault, Tree};

@@ -1,61 +1,185 @@
-// Trees, on examples.
+// Names, paths and trees, on examples.
 
-use crate::{AddFault, Body, Bytes, Comment, Kind, Label, Meta, Name, Stamps, Tree};
+use crate::{
+    AddFault, Body, Bytes, Comment, Entry, Kind, Label, Meta, Name, Node, PathFault, Stamps, Tree,
+    read_path, write_path,
+};
 use adf_fields::Stamp;
-use std::alloc::{AllocFailed, Global};
-
-fn path(alloc: Global, names: &[&[u8]]) -> Result<Vec<Name>, AllocFailed<Name>> {
-    let mut path = Vec::new(alloc);
-    for bytes in names {
-        if let Some(name) = Name::new(bytes) {
-            path.push(name)?;
-        }
-    }
-    Ok(path)
-}
+use std::alloc::Global;
 
 fn meta() -> Meta {
-    let stamp = Stamp {
-        days: 0,
-        mins: 0,
-        ticks: 0,
-    };
     Meta {
         comment: Comment::new(&[]).unwrap(),
         protect: 0,
-        stamp,
+        stamp: stamp(0),
+    }
+}
+
+fn stamp(days: u32) -> Stamp {
+    Stamp {
+        days,
+        mins: 0,
+        ticks: 0,
+    }
+}
+
+fn stamps() -> Stamps {
+    Stamps {
+        root: stamp(1),
+        altered: stamp(2),
+        created: stamp(3),
+    }
+}
+
+fn is(bytes: &[u8], text: &[u8]) -> bool {
+    bytes == text
+}
+
+// Adds a directory, or an empty file.
+fn add(alloc: Global, tree: &mut Tree, text: &[u8], is_dir: bool) -> Result<(), AddFault> {
+    let path = read_path(alloc, text).map_err(|_| AddFault::NoMemory)?;
+    let body = if is_dir {
+        Body::Dir
+    } else {
+        Body::File(Bytes::new(Vec::new(alloc)))
+    };
+    tree.add(&path, meta(), body)
+}
+
+fn name_of(tree: &Tree, n: usize) -> &[u8] {
+    match tree.entry(Node(n)) {
+        Some(e) => e.name.bytes(),
+        None => b"none",
     }
 }
 
 #[test]
-fn adds(rt: HostRuntime) {
-    let stamp = Stamp {
-        days: 0,
-        mins: 0,
-        ticks: 0,
+fn names_labels_and_comments(rt: HostRuntime) {
+    let long = [b'x'; 80];
+    for (text, is_name) in [
+        (&long[..30], true),
+        (&long[..31], false),
+        (b"".as_slice(), false),
+        (b"a/b".as_slice(), false),
+        (b"a:b".as_slice(), false),
+    ] {
+        assert_eq!(rt; Name::new(text).is_some(), is_name, "{}", text.len());
+    }
+    assert!(rt; Label::new(b"").is_some());
+    assert!(rt; Label::new(&long[..31]).is_none());
+    assert!(rt; Comment::new(&long[..79]).is_some());
+    assert!(rt; Comment::new(&long).is_none());
+    for (a, b, same) in [
+        (b"Readme".as_slice(), b"README".as_slice(), true),
+        (&[0xe9], &[0xc9], false),
+    ] {
+        let a = Name::new(a).expect(&rt, "a name");
+        let b = Name::new(b).expect(&rt, "a name");
+        assert_eq!(rt; a.same(&b), same);
+    }
+}
+
+#[test]
+fn escape_forms(rt: HostRuntime) {
+    let label = Label::read(b"a\\x5c").expect(&rt, "a label");
+    assert!(rt; is(label.bytes(), b"a\\"));
+    let comment = Comment::read(b"a\\x5c").expect(&rt, "a comment");
+    assert!(rt; is(comment.bytes(), b"a\\"));
+    let mut out = String::from_str(rt.alloc(), "as ").expect(&rt, "memory");
+    assert!(rt; label.write(&mut out).is_ok());
+    assert!(rt; comment.write(&mut out).is_ok());
+    assert_eq!(rt; out.as_str(), "as a\\x5ca\\x5c");
+    for text in [
+        b"a\\".as_slice(),
+        b"\\x5C".as_slice(),
+        b"\\x61".as_slice(),
+        &[0xe9],
+    ] {
+        assert!(rt; Label::read(text).is_none());
+        assert!(rt; Comment::read(text).is_none());
+    }
+}
+
+#[test]
+fn paths(rt: HostRuntime) {
+    let text = b"c/a b\\x5c";
+    let path = read_path(rt.alloc(), text).expect(&rt, "a path");
+    assert_eq!(rt; path.len(), 2);
+    assert!(rt; is(path[0].bytes(), b"c"));
+    assert!(rt; is(path[1].bytes(), b"a b\\"));
+    let written = write_path(rt.alloc(), &path).expect(&rt, "memory");
+    assert!(rt; is(written.as_bytes(), text));
+    assert!(rt; read_path(rt.alloc(), b"").expect(&rt, "a path").is_empty());
+    for text in [
+        b"a//b".as_slice(),
+        b"/a".as_slice(),
+        b"a/".as_slice(),
+        b"a:b".as_slice(),
+        b"\\xE9".as_slice(),
+        b"\\x61".as_slice(),
+        b"\\x".as_slice(),
+        b"a/xxxxxxxxxxxxxxxxxxxxxxxxxxxxxxx".as_slice(),
+    ] {
+        match read_path(rt.alloc(), text) {
+            Ok(_) => assert!(rt; false, "read"),
+            Err(fault) => assert!(rt; fault == PathFault::BadText),
+        }
+    }
+}
+
+#[test]
+fn adds_in_walk_order(rt: HostRuntime) {
+    let label = Label::new(b"Work").expect(&rt, "a label");
+    let mut tree = Tree::new(rt.alloc(), Kind::Ofs, label, stamps());
+    assert!(rt; add(rt.alloc(), &mut tree, b"a", true).is_ok());
+    assert!(rt; add(rt.alloc(), &mut tree, b"a/b", false).is_ok());
+    assert!(rt; add(rt.alloc(), &mut tree, b"3", true).is_ok());
+    for (text, fault) in [
+        (b"x/y".as_slice(), AddFault::NoParent),
+        (b"a/b/z".as_slice(), AddFault::ParentIsFile),
+        (b"A".as_slice(), AddFault::Exists),
+        (b"".as_slice(), AddFault::EmptyPath),
+    ] {
+        assert!(rt; add(rt.alloc(), &mut tree, text, true) == Err(fault));
+        assert_eq!(rt; tree.len(), 3);
+        assert!(rt; is(name_of(&tree, 1), b"a"));
+        assert!(rt; is(name_of(&tree, 2), b"3"));
+        assert!(rt; is(name_of(&tree, 3), b"b"));
+        assert!(rt; tree.entry(Node(3)).expect(&rt, "an entry").parent == Node(1));
+    }
+    assert!(rt; tree.entry(Node(0)).is_none());
+    assert!(rt; tree.entry(Node(4)).is_none());
+    let found = read_path(rt.alloc(), b"A/B").expect(&rt, "a path");
+    assert!(rt; tree.find(&found) == Some(Node(3)));
+    assert!(rt; tree.find(&[]) == Some(Node(0)));
+    assert!(rt; tree.kind() == Kind::Ofs);
+    assert!(rt; is(tree.label().bytes(), b"Work"));
+    assert_eq!(rt; tree.stamps().created.days, 3);
+    tree.set_kind(Kind::Ffs);
+    assert!(rt; tree.kind() == Kind::Ffs);
+}
+
+#[test]
+fn a_chain_keeps_its_order(rt: HostRuntime) {
+    let label = Label::new(b"Work").expect(&rt, "a label");
+    let mut tree = Tree::new(rt.alloc(), Kind::Ofs, label, stamps());
+    assert!(rt; add(rt.alloc(), &mut tree, b"BA", false).is_ok());
+    assert!(rt; add(rt.alloc(), &mut tree, b"AN", false).is_ok());
+    assert!(rt; is(name_of(&tree, 1), b"BA"));
+    assert!(rt; is(name_of(&tree, 2), b"AN"));
+}
+
+#[test]
+fn adds_last(rt: HostRuntime) {
+    let name = Name::new(b"a").expect(&rt, "a name");
+    let label = Label::new(b"").expect(&rt, "a label");
+    let mut tree = Tree::new(rt.alloc(), Kind::Ffs, label, stamps());
+    let entry = Entry {
+        parent: Node(0),
+        name,
+        meta: meta(),
+        body: Body::Dir,
     };
-    let stamps = Stamps {
-        root: stamp,
-        altered: stamp,
-        created: stamp,
-    };
-    let mut tree = Tree::new(rt.alloc(), Kind::Ofs, Label::new(&[]).unwrap(), stamps);
-    let a = path(rt.alloc(), &[b"a"]).expect(&rt, "memory");
-    let ab = path(rt.alloc(), &[b"a", b"b"]).expect(&rt, "memory");
-    let three = path(rt.alloc(), &[b"3"]).expect(&rt, "memory");
-    let xy = path(rt.alloc(), &[b"x", b"y"]).expect(&rt, "memory");
-    let abz = path(rt.alloc(), &[b"a", b"b", b"z"]).expect(&rt, "memory");
-    let upper_a = path(rt.alloc(), &[b"A"]).expect(&rt, "memory");
-    assert!(rt; tree.add(&a, meta(), Body::Dir).is_ok());
-    let empty = Bytes::new(Vec::new(rt.alloc()));
-    assert!(rt; tree.add(&ab, meta(), Body::File(empty)).is_ok());
-    assert!(rt; tree.add(&three, meta(), Body::Dir).is_ok());
-    assert_eq!(rt; tree.find(&a).map(|n| n.0), Some(1));
-    assert_eq!(rt; tree.find(&three).map(|n| n.0), Some(2));
-    assert_eq!(rt; tree.find(&ab).map(|n| n.0), Some(3));
-    assert!(rt; tree.add(&xy, meta(), Body::Dir) == Err(AddFault::NoParent));
-    assert!(rt; tree.add(&abz, meta(), Body::Dir) == Err(AddFault::ParentIsFile));
-    assert!(rt; tree.add(&upper_a, meta(), Body::Dir) == Err(AddFault::Exists));
-    assert!(rt; tree.add(&[], meta(), Body::Dir) == Err(AddFault::EmptyPath));
-    assert_eq!(rt; tree.len(), 3);
+    assert!(rt; tree.add_last(entry).is_ok());
+    assert!(rt; is(name_of(&tree, 1), b"a"));
 }

@@ -2,14 +2,14 @@
 
 ghost use Rattle.std.specs.Prelude.{◌≡◌, ◌≤◌, ◌<◌, [], length, map, take, drop, nat_lt, nat_le, ℕ, ◌+◌, ◌^◌, slice_index_or};
 ghost use Rattle.std.specs.Prelude.{if◌then◌else◌, is_ok, IfErr, OnOk, ◌++◌, true, false};
-ghost use Rattle.adf_tree.specs.Tree.{added, child, directory_from, entry, find, is_child, is_dir, is_dir_body, new_entry, room_at, room_for, with_entry, with_kind, IsAnswer, place, rank, rank_of, renumbered, IsTree};
+ghost use Rattle.adf_tree.specs.Tree.{added, child, directory_from, entry, find, is_child, is_dir, is_dir_body, new_entry, room_at, room_for, with_entry, with_kind, with_last, IsAnswer, IsLast, MayAdd, place, rank, rank_of, renumbered, IsTree};
 ghost use Rattle.adf_tree.specs.Paths.{AddsOne};
 ghost use Rattle.std.specs.Option.{option_copied};
 ghost use Rattle.std.specs.List.Sorted.{IsNonDecreasingBy, IsPartitionPoint};
 
 use crate::entry::{Body, Entry, Kind, Meta, Node, Stamps};
 use crate::texts::{Label, Name};
-use adf_fields::slot;
+use adf_fields::{NoMemory, slot};
 use std::alloc::{AllocError, Global};
 use std::marker::Model;
 
@@ -143,11 +143,9 @@ fn child(entries: &[Entry], parent: Node, name: &Name) -> Option<Node>
     ensures { result ≡ child entries.now parent name.now }
 {
     let slot = slot(name.bytes());
-    let from = start_of(entries, parent, slot);
-    for i in from..entries.len() {
-        if !is_at_most(&entries[i], parent, slot) {
-            return None;
-        }
+    let start = start_of(entries, parent, slot);
+    let end = place_of(entries, parent, slot);
+    for i in start..end {
         if is_child(&entries[i], parent, name) {
             return Some(Node(i + 1));
         }
@@ -284,7 +282,8 @@ impl Tree {
         self.entries.len()
     }
 
-    /// Adds an entry after all of its parent and slot.
+    /// Adds an entry after all of its parent and slot. After a fault the tree is unchanged; of the
+    /// faults that apply, `EmptyPath` comes first, then `NoParent` or `ParentIsFile`, then `Exists`.
     pub fn add(&mut self, path: &[Name], meta: Meta, body: Body) -> Result<(), AddFault>
         ensures answer { IsAnswer (room_for self.old.entries path.now) result }
         ensures paths { OnOk result (AddsOne self.old.entries self.new.entries (new_entry self.old.entries path.now meta body) path.now) }
@@ -307,7 +306,20 @@ impl Tree {
         )
     }
 
-    /// The node that the path leads to.
+    /// Adds an entry that comes last in walk order, with no look-up: its parent is a directory in
+    /// which nothing has its name. After `NoMemory` the tree is unchanged.
+    pub fn add_last(&mut self, entry: Entry) -> Result<(), NoMemory>
+        requires may { MayAdd self.old.entries entry }
+        requires last { IsLast self.old.entries entry }
+        ensures { self.new ≡ if is_ok result then with_last self.old entry else self.old }
+    {
+        match self.entries.push(entry) {
+            Ok(()) => Ok(()),
+            Err(_) => Err(NoMemory),
+        }
+    }
+
+    /// The node that the path leads to, 0 for the empty path.
     pub fn find(&self, path: &[Name]) -> Option<Node>
         ensures found { result ≡ find self.now.entries path.now }
         ensures tree { IsTree self.now.entries }
@@ -315,7 +327,7 @@ impl Tree {
         find(&self.entries, path)
     }
 
-    /// The entry with this number.
+    /// The entry with this number; none for the root.
     pub fn entry(&self, n: Node) -> Option<&Entry>
         ensures found { option_copied result ≡ entry self.now.entries n }
         ensures tree { IsTree self.now.entries }

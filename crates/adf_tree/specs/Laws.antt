@@ -1,0 +1,44 @@
+-- Laws of trees, each the contract of a function of `laws.rt`.
+use Rattle.std.specs.Prelude.{◌≡◌, ℕ, ◌+◌, ◌-◌, ◌<◌, ◌≤◌, ◌↔◌, List, length, take, Some, slice_index_or, Contains}
+use Rattle.adf_fields.specs.Hash.{slot_of}
+use Rattle.adf_tree.specs.Texts.{uppers}
+use Rattle.adf_tree.specs.declared.entry.Entry.{Entry}
+use Rattle.adf_tree.specs.Tree.{added, child, entry, find, IsLast, IsTree, MayAdd}
+use Rattle.adf_tree.specs.Chain.{chain}
+use Rattle.adf_tree.specs.Paths.{path_of}
+
+-- an entry is in the chain of its parent and its name's slot, and in no other
+abbrev pub IsIn : List Entry → ℕ → ℕ → Entry → Type 0
+IsIn es p s e = Contains (chain es p s) e ↔ ((p ≡ e.parent) × (s ≡ slot_of e.name))
+
+abbrev pub EntriesStandInOneChain : Type 0
+EntriesStandInOneChain = (es : List Entry) (e : Entry) → Contains es e → (p s : ℕ) → IsIn es p s e
+
+-- names that are equal without case have one slot
+abbrev pub CaseKeepsSlots : Type 0
+CaseKeepsSlots = (a b : List ℕ) → uppers a ≡ uppers b → slot_of a ≡ slot_of b
+
+-- the entry n is that of this parent and name, and in the chain of the name's slot
+pub record IsChild (es : List Entry) (p : ℕ) (x : List ℕ) (n : ℕ) (e : Entry) : Type 0 where
+  pub entry : entry es n ≡ Some e
+  pub parent : e.parent ≡ p
+  pub name : uppers e.name ≡ uppers x
+  pub chain : Contains (chain es p (slot_of x)) e
+
+-- what is found for a name is its entry, and each entry is found
+abbrev pub ChildrenAreFound : Type 0
+ChildrenAreFound = (es : List Entry) (p : ℕ) (name : List ℕ) (n : ℕ) (d : Entry) → IsTree es → (child es p name ≡ Some n) ↔ ((0 < n) × (n ≤ length es) × IsChild es p name n (slice_index_or es (n - 1) d))
+
+-- each entry is found under its path
+abbrev pub PathsAreFound : Type 0
+PathsAreFound = (es : List Entry) (n : ℕ) → IsTree es → n ≤ length es → find es (path_of es n) ≡ Some n
+
+-- the first entries of a tree are a tree, and the next one may be added to it, last, which gives the first entries and that one
+pub record IsNext (es : List Entry) (n : ℕ) (e : Entry) : Type 0 where
+  pub tree : IsTree (take n es)
+  pub may : MayAdd (take n es) e
+  pub last : IsLast (take n es) e
+  pub added : added (take n es) e ≡ take (n + 1) es
+
+abbrev pub TreesGrowInOrder : Type 0
+TreesGrowInOrder = (es : List Entry) (n : ℕ) (d : Entry) → IsTree es → n < length es → IsNext es n (slice_index_or es n d)

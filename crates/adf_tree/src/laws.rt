@@ -1,0 +1,28 @@
+// Laws of trees, for the proofs of those who build on them. None of these functions does anything.
+
+ghost use Rattle.adf_tree.specs.Laws.{CaseKeepsSlots, ChildrenAreFound, EntriesStandInOneChain, PathsAreFound, TreesGrowInOrder};
+
+/// Every entry is a member of the chain of exactly one parent and slot.
+pub fn entries_stand_in_one_chain()
+    ensures { EntriesStandInOneChain }
+{}
+
+/// Names that are equal without their case have one slot.
+pub fn case_keeps_slots()
+    ensures { CaseKeepsSlots }
+{}
+
+/// What is found for a name is the entry of that name, in the chain of its slot, and each entry is found.
+pub fn children_are_found()
+    ensures { ChildrenAreFound }
+{}
+
+/// Each entry is found under its path.
+pub fn paths_are_found()
+    ensures { PathsAreFound }
+{}
+
+/// The entries of a tree, added in their order, give that tree.
+pub fn trees_grow_in_order()
+    ensures { TreesGrowInOrder }
+{}
