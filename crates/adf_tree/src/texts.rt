@@ -34,7 +34,7 @@ impl Label {
         ensures short { IsSome result ↔ (length bytes.now ≤ 30) }
         ensures bytes { IfSome result (λ l. l ≡ bytes.now) }
     {
-        let text = ArrayVec::try_from(bytes).ok()?;
+        let text = ArrayVec::<u8, 30>::try_from(bytes).ok()?;
         Some(Label { text })
     }
 
@@ -43,7 +43,7 @@ impl Label {
         ensures some { IfSome result (λ l. IsSpelling 30 text.now l) }
         ensures none { IfNone result ((bytes : List ℕ) → ¬ IsSpelling 30 text.now bytes) }
     {
-        let text = read_escaped(text)?;
+        let text = read_escaped::<30>(text)?;
         Some(Label { text })
     }
 
@@ -169,7 +169,7 @@ impl Comment {
         ensures short { IsSome result ↔ (length bytes.now ≤ 79) }
         ensures bytes { IfSome result (λ l. l ≡ bytes.now) }
     {
-        let text = ArrayVec::try_from(bytes).ok()?;
+        let text = ArrayVec::<u8, 79>::try_from(bytes).ok()?;
         Some(Comment { text })
     }
 
@@ -178,7 +178,7 @@ impl Comment {
         ensures some { IfSome result (λ l. IsSpelling 79 text.now l) }
         ensures none { IfNone result ((bytes : List ℕ) → ¬ IsSpelling 79 text.now bytes) }
     {
-        let text = read_escaped(text)?;
+        let text = read_escaped::<79>(text)?;
         Some(Comment { text })
     }
 

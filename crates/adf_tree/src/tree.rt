@@ -53,8 +53,7 @@ fn is_at_most(e: &Entry, parent: Node, slot_wanted: u8) -> bool
     requires { slot_wanted < 72 }
     ensures { result ≡ nat_le (rank e.now) (rank_of parent slot_wanted) }
 {
-    let s = slot(e.name.bytes());
-    e.parent.0 < parent.0 || e.parent.0 == parent.0 && s <= slot_wanted
+    e.parent.0 < parent.0 || e.parent.0 == parent.0 && slot(e.name.bytes()) <= slot_wanted
 }
 
 // Whether the entry's pair is less than that of this parent and slot.
@@ -62,8 +61,7 @@ fn is_less(e: &Entry, parent: Node, slot_wanted: u8) -> bool
     requires { slot_wanted < 72 }
     ensures { result ≡ nat_lt (rank e.now) (rank_of parent slot_wanted) }
 {
-    let s = slot(e.name.bytes());
-    e.parent.0 < parent.0 || e.parent.0 == parent.0 && s < slot_wanted
+    e.parent.0 < parent.0 || e.parent.0 == parent.0 && slot(e.name.bytes()) < slot_wanted
 }
 
 // The entries before the first one of this pair or a greater one.
