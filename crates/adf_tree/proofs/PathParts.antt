@@ -6,13 +6,13 @@ use Rattle.std.specs.List.{All, join_with_byte, list_all, position_or_len}
 use Rattle.std.proofs.lemmas.Bool.{cases_Bool, and_parts, ltb-true, ltb-false, eqb-true, ne_eqb}
 use Rattle.std.proofs.lemmas.List.Sums.{fails_before_first}
 use Rattle.std.proofs.lemmas.Bool.Decides.{nat_tests}
-use Rattle.std.proofs.lemmas.List.{append_assoc, append-nil, length-append, length-map, get_or-map, map-append, take_all, take_more, length-drop, length-take-le}
+use Rattle.std.proofs.lemmas.List.{append_assoc, length-append, length-map, get_or-map, map-append, take_all, take_more, length-drop, length-take-le}
 use Rattle.std.proofs.lemmas.List.Elements.{All-head, All-tail, All-append, All-cons, All-nil}
 use Rattle.std.proofs.lemmas.List.Splits.{slice_split_none, slice_split_at, slice_split_first, join_with_byte-slice_split}
 use Rattle.adf_tree.specs.Texts.{is_name, is_name_byte}
 use Rattle.adf_tree.specs.Escapes.{escape_of, escaped, hex_digit, is_plain, IsSpelling}
 use Rattle.adf_tree.specs.PathTexts.{path_text, with_name, parts, IsName, IsPathText}
-use Rattle.adf_tree.proofs.Spellings.{rest_spelled, spelling_some, spelled_plain, spelled_escape}
+use Rattle.adf_tree.proofs.Spellings.{spelling_some, spelled_plain, spelled_escape, only_spelled}
 
 -- whether a byte is `/`
 abbrev pub is_slash : ℕ → Bool
@@ -69,16 +69,6 @@ no_slash_bytes (c ∷ cs) h =
 
 pub no_slash : (name : List ℕ) → IsName name → All (λ x. is_slash x ≡ false) (escaped name)
 no_slash name h = no_slash_bytes name (and_parts (nat_le 1 (length name) && nat_le (length name) 30) (list_all is_name_byte name) h.allowed).1
-
-nothing_more : (more : List ℕ) → escaped more ≡ [] → more ≡ []
-nothing_more [] h = refl
-nothing_more (c ∷ cs) h = absurd (spelling_some c (escaped cs) h)
-
--- a name is spelled by one text, and a text that spells one spells no other
-pub only_spelled : (a b : List ℕ) → All (λ c. c < 256) a → All (λ c. c < 256) b → escaped a ≡ escaped b → a ≡ b
-only_spelled a b x y h =
-    let tail = rest_spelled b a [] y x (h ∙ sym (append-nil (escaped b))) in
-    tail.1 ∙ (ap (λ more. b ++ more) (nothing_more tail.0 tail.2) ∙ append-nil b)
 
 -- the parts of the text of a path are its escaped names
 pub parts_of_path : (name : List ℕ) (names : List (List ℕ)) → All IsName (name ∷ names) → parts (path_text (name ∷ names)) ≡ map escaped (name ∷ names)

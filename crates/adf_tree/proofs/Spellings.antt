@@ -105,3 +105,13 @@ too_many most text done rest h x some full bytes spelling =
 pub whole_spelling : (most : ℕ) (text done rest : List ℕ) → text ≡ escaped done ++ rest → All (λ c. c < 256) done → length done ≤ most → length rest ≡ 0 → IsSpelling most text done
 whole_spelling most text done [] h x short end = record { spells = h ∙ append-nil (escaped done); are_bytes = x; short = short }
 whole_spelling most text done (c ∷ cs) h x short end = absurd (omega arith)
+
+nothing_more : (more : List ℕ) → escaped more ≡ [] → more ≡ []
+nothing_more [] h = refl
+nothing_more (c ∷ cs) h = absurd (spelling_some c (escaped cs) h)
+
+-- a text is the escape form of one list of bytes at most
+pub only_spelled : (a b : List ℕ) → All (λ c. c < 256) a → All (λ c. c < 256) b → escaped a ≡ escaped b → a ≡ b
+only_spelled a b x y h =
+    let tail = rest_spelled b a [] y x (h ∙ sym (append-nil (escaped b))) in
+    tail.1 ∙ (ap (λ more. b ++ more) (nothing_more tail.0 tail.2) ∙ append-nil b)

@@ -4,13 +4,16 @@
 mod entry;
 mod escapes;
 mod laws;
+mod lookup;
 mod path_texts;
 #[cfg(test)]
 mod tests;
 mod texts;
 mod tree;
+mod walk_order;
 
 pub use crate::entry::{Body, Bytes, Entry, Kind, Meta, Node, Stamps};
+pub use crate::escapes::spellings_decide;
 pub use crate::laws::{
     case_keeps_slots, children_are_found, entries_stand_in_one_chain, paths_are_found,
     trees_grow_in_order,

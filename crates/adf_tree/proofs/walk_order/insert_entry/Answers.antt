@@ -6,7 +6,7 @@ use Rattle.adf_tree.specs.Tree.{renumbered, place, rank, rank_of}
 use Rattle.adf_fields.specs.Hash.{slot_of}
 use Rattle.adf_tree.proofs.Inserted.{inserted_mapped, written_whole}
 use Rattle.adf_tree.proofs.Kept.{place_le}
-use Rattle.adf_tree.proofs.tree.insert_entry.Goals as goal
+use Rattle.adf_tree.proofs.walk_order.insert_entry.Goals as goal
 
 pub place_of-at-requires-clause-order : goal.place_of-at-requires-clause-order
 place_of-at-requires-clause-order c = rw c.deref.ensures.value c.requires.tree.order

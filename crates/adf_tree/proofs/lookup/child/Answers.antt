@@ -1,7 +1,7 @@
 use Rattle.std.proofs.Common.{arith, sym, ◌∙◌, ap}
 use Rattle.adf_fields.specs.Hash.{slot_of}
 use Rattle.adf_tree.proofs.Children.{child_found, child_none, child_not_before, child_not_past}
-use Rattle.adf_tree.proofs.tree.child.Goals as goal
+use Rattle.adf_tree.proofs.lookup.child.Goals as goal
 
 pub loop-i-init : goal.loop-i-init
 loop-i-init c =

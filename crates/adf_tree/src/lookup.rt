@@ -1,0 +1,115 @@
+// Look-up: the entry of a name, and where paths lead.
+
+ghost use Rattle.std.specs.Prelude.{◌≡◌};
+ghost use Rattle.std.specs.Option.{option_copied};
+ghost use Rattle.std.specs.List.Sorted.{IsNonDecreasingBy};
+ghost use Rattle.adf_tree.specs.Tree.{child, directory_from, entry, find, is_child, is_dir, is_dir_body, rank, room_at};
+
+use crate::entry::{Body, Entry, Node};
+use crate::texts::Name;
+use crate::tree::AddFault;
+use crate::walk_order::{place_of, start_of};
+use adf_fields::slot;
+
+// Whether the entry has this parent and this name, whatever the case.
+fn is_child(e: &Entry, parent: Node, name: &Name) -> bool
+    ensures { result ≡ is_child parent name.now e.now }
+{
+    e.parent.0 == parent.0 && e.name.same(name)
+}
+
+// The number of the entry with this parent and this name.
+fn child(entries: &[Entry], parent: Node, name: &Name) -> Option<Node>
+    requires { IsNonDecreasingBy rank entries.now }
+    ensures { result ≡ child entries.now parent name.now }
+{
+    let slot = slot(name.bytes());
+    let start = start_of(entries, parent, slot);
+    let end = place_of(entries, parent, slot);
+    for i in start..end {
+        if is_child(&entries[i], parent, name) {
+            return Some(Node(i + 1));
+        }
+    }
+    None
+}
+
+// Whether this is a directory.
+fn is_dir_body(body: &Body) -> bool
+    ensures { result ≡ is_dir_body body.now }
+{
+    match body {
+        Body::Dir => true,
+        Body::File(_) => false,
+    }
+}
+
+/// The entry with this number.
+pub fn entry(entries: &[Entry], n: Node) -> Option<&Entry>
+    ensures { option_copied result ≡ entry entries.now n }
+{
+    if n.0 == 0 {
+        return None;
+    }
+    entries.get(n.0 - 1)
+}
+
+// Whether the node is a directory.
+fn is_dir(entries: &[Entry], n: Node) -> bool
+    ensures { result ≡ is_dir entries.now n }
+{
+    if n.0 == 0 {
+        return true;
+    }
+    match entries.get(n.0 - 1) {
+        Some(e) => is_dir_body(&e.body),
+        None => false,
+    }
+}
+
+/// The node that the path leads to.
+pub fn find(entries: &[Entry], path: &[Name]) -> Option<Node>
+    requires { IsNonDecreasingBy rank entries.now }
+    ensures { result ≡ find entries.now path.now }
+{
+    let mut node = Node(0);
+    for name in path {
+        match child(entries, node, name) {
+            None => return None,
+            Some(n) => node = n,
+        }
+    }
+    Some(node)
+}
+
+// The directory that the path leads to.
+fn directory(entries: &[Entry], path: &[Name]) -> Result<Node, AddFault>
+    requires { IsNonDecreasingBy rank entries.now }
+    ensures { result ≡ directory_from entries.now 0 path.now }
+{
+    let mut node = Node(0);
+    for name in path {
+        match child(entries, node, name) {
+            None => return Err(AddFault::NoParent),
+            Some(n) => {
+                if !is_dir(entries, n) {
+                    return Err(AddFault::ParentIsFile);
+                }
+                node = n;
+            }
+        }
+    }
+    Ok(node)
+}
+
+/// The directory that the path leads to, where nothing in it has this name.
+pub fn room_for(entries: &[Entry], path: &[Name], name: &Name) -> Result<Node, AddFault>
+    requires { IsNonDecreasingBy rank entries.now }
+    ensures { result ≡ room_at entries.now name.now (directory_from entries.now 0 path.now) }
+{
+    let parent = directory(entries, path)?;
+    match child(entries, parent, name) {
+        None => Ok(parent),
+        Some(_) => Err(AddFault::Exists),
+    }
+}

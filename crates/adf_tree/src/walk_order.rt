@@ -1,0 +1,89 @@
+// Walk order: where an entry stands, and how one is put in.
+
+ghost use Rattle.std.specs.Prelude.{◌≡◌, ◌≤◌, ◌<◌, length, map, take, drop, nat_lt, nat_le, ℕ, ◌+◌, ◌^◌, slice_index_or, if◌then◌else◌, is_ok, IfErr, ◌++◌, true, false};
+ghost use Rattle.std.specs.List.Sorted.{IsNonDecreasingBy, IsPartitionPoint};
+ghost use Rattle.adf_tree.specs.Tree.{added, place, rank, rank_of, renumbered, IsTree};
+
+use crate::entry::{Entry, Node};
+use crate::tree::AddFault;
+use adf_fields::slot;
+
+// Whether the entry's pair is at most that of this parent and slot.
+fn is_at_most(e: &Entry, parent: Node, slot_wanted: u8) -> bool
+    requires { slot_wanted < 72 }
+    ensures { result ≡ nat_le (rank e.now) (rank_of parent slot_wanted) }
+{
+    e.parent.0 < parent.0 || e.parent.0 == parent.0 && slot(e.name.bytes()) <= slot_wanted
+}
+
+// Whether the entry's pair is less than that of this parent and slot.
+fn is_less(e: &Entry, parent: Node, slot_wanted: u8) -> bool
+    requires { slot_wanted < 72 }
+    ensures { result ≡ nat_lt (rank e.now) (rank_of parent slot_wanted) }
+{
+    e.parent.0 < parent.0 || e.parent.0 == parent.0 && slot(e.name.bytes()) < slot_wanted
+}
+
+/// The entries before the first one of this pair or a greater one.
+pub fn start_of(entries: &[Entry], parent: Node, slot: u8) -> usize
+    requires slot { slot < 72 }
+    requires order { IsNonDecreasingBy rank entries.now }
+    ensures within { result ≤ length entries.now }
+    ensures parted { IsPartitionPoint (λ e. nat_lt (rank e) (rank_of parent slot) ≡ true) (λ e. nat_lt (rank e) (rank_of parent slot) ≡ false) entries.now result }
+{
+    entries.partition_point(|e| is_less(e, parent, slot))
+}
+
+/// The entries before the first one of a greater pair.
+pub fn place_of(entries: &[Entry], parent: Node, slot: u8) -> usize
+    requires slot { slot < 72 }
+    requires order { IsNonDecreasingBy rank entries.now }
+    ensures exact { result ≡ place entries.now (rank_of parent slot) }
+    ensures within { result ≤ length entries.now }
+{
+    entries.partition_point(|e| is_at_most(e, parent, slot))
+}
+
+// Moves the parent up where it has the number `from` or a greater one.
+fn renumber_entry(e: &mut Entry, from: Node)
+    requires { e.old.parent + 1 < 2 ^ 64 }
+    ensures { e.new ≡ renumbered from e.old }
+{
+    if from.0 <= e.parent.0 {
+        e.parent = Node(e.parent.0 + 1);
+    }
+}
+
+// Moves the parents up that have the number `from` or a greater one.
+fn renumber_all(entries: &mut [Entry], from: Node)
+    requires { (i : ℕ) (d : Entry) → i < length entries.old → (slice_index_or entries.old i d).parent + 1 < 2 ^ 64 }
+    ensures { entries.new ≡ map (renumbered from) entries.old }
+{
+    for e in entries.iter_mut() {
+        renumber_entry(e, from);
+    }
+}
+
+// Moves the parents up of the entries past the new one at `at`.
+fn renumber(entries: &mut [Entry], at: usize)
+    requires within { at < length entries.old }
+    requires parents { (i : ℕ) (d : Entry) → at < i → i < length entries.old → (slice_index_or entries.old i d).parent < i }
+    ensures { entries.new ≡ take (at + 1) entries.old ++ map (renumbered (at + 1)) (drop (at + 1) entries.old) }
+{
+    let count = entries.len();
+    renumber_all(&mut entries[at + 1..count], Node(at + 1));
+}
+
+/// Adds an entry after all of the same or a lesser pair.
+pub fn insert_entry(entries: &mut Vec<Entry>, entry: Entry) -> Result<(), AddFault>
+    requires tree { IsTree entries.old.items }
+    ensures entries { entries.new.items ≡ if is_ok result then added entries.old.items entry else entries.old.items }
+    ensures refused { IfErr result (λ f. f ≡ AddFault.NoMemory) }
+{
+    let at = place_of(entries, entry.parent, slot(entry.name.bytes()));
+    if entries.insert(at, entry).is_err() {
+        return Err(AddFault::NoMemory);
+    }
+    renumber(entries, at);
+    Ok(())
+}
