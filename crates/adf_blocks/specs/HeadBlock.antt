@@ -1,12 +1,15 @@
 -- The headers of directories and files.
-use Rattle.std.specs.Prelude.{ℕ, ◌==◌, ◌&&◌, ◌||◌, not, nat_le, Bool, true, false, List, [], ◌∷◌, slice_index}
+use Rattle.std.specs.Prelude.{◌≡◌, ◌≤◌, ℕ, ◌==◌, if◌then◌else◌, ◌&&◌, ◌||◌, not, nat_le, Bool, true, false, List, [], ◌∷◌, slice_index}
 use Rattle.adf_fields.specs.Words.{word, long_sum}
 use Rattle.adf_fields.specs.Hash.{slot_of}
 use Rattle.adf_tree.specs.Texts.{is_name}
 use Rattle.adf_tree.specs.declared.entry.Kind.{Kind}
 use Rattle.adf_tree.specs.declared.entry.Kind.TheVariants.{Ofs, Ffs}
 use Rattle.adf_blocks.specs.declared.cause.Cause.TheVariants.{BadSum, BadType, Link, BadOwnKey, BadParent, BadName, BadComment, WrongSlot, BadFirst}
-use Rattle.adf_blocks.specs.Forms.{Clause, text_at}
+use Rattle.adf_tree.specs.declared.entry.Meta.{Meta}
+use Rattle.adf_blocks.specs.declared.head.HeadBody.{HeadBody}
+use Rattle.adf_blocks.specs.declared.head.HeadBody.TheVariants.{Dir, File}
+use Rattle.adf_blocks.specs.Forms.{Clause, stamp_at, text_at}
 
 -- the secondary types of the three links: soft, hard to a directory, hard to a file
 abbrev pub is_link : ℕ → Bool
@@ -45,3 +48,17 @@ head_form kind own parent slot b =
     ∷ (slot_of (text_at b 432) == slot, WrongSlot)
     ∷ (has_first kind b, BadFirst)
     ∷ []
+
+-- what holds of every header that was read
+pub record IsHead (b : List ℕ) : Type 0 where
+  pub name_len : slice_index b 432 ≤ 30
+  pub name : is_name (text_at b 432) ≡ true
+  pub comment_len : slice_index b 328 ≤ 79
+
+-- what a header has beside its name and its body
+abbrev pub meta_at : List ℕ → Meta
+meta_at b = record { comment = text_at b 328; protect = word b 80; stamp = stamp_at b 105 }
+
+-- what a header has by its secondary type
+abbrev pub body_at : List ℕ → HeadBody
+body_at b = if word b 127 == 2 then Dir else File (word b 81) (word b 126)

@@ -1,10 +1,23 @@
-// Dates and texts put into the bytes of a block.
+// Dates and texts, read from a block and put into its bytes.
 
-ghost use Rattle.std.specs.Prelude.{◌≡◌, ◌≤◌, ◌+◌, ◌*◌, length};
+ghost use Rattle.std.specs.Prelude.{◌≡◌, ◌≤◌, ◌<◌, ◌+◌, ◌*◌, length};
 ghost use Rattle.adf_fields.specs.Words.{with_bytes};
 ghost use Rattle.adf_blocks.specs.Fields.{stamp, text};
+ghost use Rattle.adf_blocks.specs.Forms.{stamp_at};
 
-use adf_fields::{Stamp, put_bytes, put_words};
+use adf_fields::{Block, Stamp, put_bytes, put_words};
+
+// The date in words `i` to `i + 2`.
+pub fn stamp_in(b: &Block<'_>, i: usize) -> Stamp
+    requires { i < 126 }
+    ensures { result ≡ stamp_at b.now i }
+{
+    Stamp {
+        days: b.word(i),
+        mins: b.word(i + 1),
+        ticks: b.word(i + 2),
+    }
+}
 
 // Puts a date into three words of a block, from word `i` on.
 pub fn put_stamp(block: &mut [u8], i: usize, s: Stamp)

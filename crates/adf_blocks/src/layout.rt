@@ -15,6 +15,36 @@ pub const TYPE: usize = 0;
 /// The primary type of a root and a header.
 pub const T_SHORT: u32 = 2;
 
+/// The primary type of an OFS data block.
+pub const T_DATA: u32 = 8;
+
+/// The primary type of an extension block.
+pub const T_LIST: u32 = 16;
+
+/// The word of a header or an extension block that has the block's own number.
+pub const OWN_KEY: usize = 1;
+
+/// The word of a file header or an extension block that counts its pointers to data blocks.
+pub const POINTER_COUNT: usize = 2;
+
+/// The word of a file header that names its first data block once more.
+pub const FIRST_DATA: usize = 4;
+
+/// The word of an OFS data block that names the file's header.
+pub const DATA_HEAD: usize = 1;
+
+/// The word of an OFS data block that has its number in the file, from 1 on.
+pub const DATA_NUMBER: usize = 2;
+
+/// The word of an OFS data block that counts the bytes held.
+pub const DATA_HELD: usize = 3;
+
+/// The word of an OFS data block that names the next one, or is 0.
+pub const DATA_NEXT: usize = 4;
+
+/// The first byte that an OFS data block holds for its file.
+pub const DATA_BYTES: usize = 24;
+
 /// The word of the checksum, but in a bitmap page.
 pub const CHECKSUM: usize = 5;
 
@@ -32,6 +62,18 @@ pub const SLOTS: u32 = 72;
 
 /// The word of slot 0 of the root or a directory.
 pub const FIRST_SLOT: usize = 6;
+
+/// The word of a file's first pointer to a data block in a header or an extension block; the others go down from here.
+pub const FIRST_POINTER: usize = 77;
+
+/// The word of an entry's protection.
+pub const PROTECTION: usize = 80;
+
+/// The word of a file's size in bytes.
+pub const SIZE: usize = 81;
+
+/// The byte of the length of a comment.
+pub const COMMENT: usize = 328;
 
 /// The word of the root that says whether its bitmap is valid.
 pub const BITMAP_FLAG: usize = 78;
@@ -54,8 +96,32 @@ pub const ALTERED: usize = 118;
 /// The first word of the date of the volume's creation.
 pub const CREATED: usize = 121;
 
+/// The word of a header that names the next one of its chain, or is 0.
+pub const NEXT_IN_CHAIN: usize = 124;
+
+/// The word of a header that names its directory, and of an extension block that names its file's header.
+pub const PARENT: usize = 125;
+
+/// The word of a file header or an extension block that names the next extension block, or is 0.
+pub const EXTENSION: usize = 126;
+
 /// The word of the secondary type.
 pub const SECONDARY_TYPE: usize = 127;
 
 /// The secondary type of a root.
 pub const ST_ROOT: u32 = 1;
+
+/// The secondary type of a directory.
+pub const ST_DIR: u32 = 2;
+
+/// The secondary type of a soft link.
+pub const ST_SOFT_LINK: u32 = 3;
+
+/// The secondary type of a hard link to a directory.
+pub const ST_LINK_DIR: u32 = 4;
+
+/// The secondary type of a file, -3.
+pub const ST_FILE: u32 = 0xFFFF_FFFD;
+
+/// The secondary type of a hard link to a file, -4.
+pub const ST_LINK_FILE: u32 = 0xFFFF_FFFC;

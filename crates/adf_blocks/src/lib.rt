@@ -2,7 +2,10 @@
 #![tactic(auto)]
 
 mod cause;
+mod data;
+mod ext;
 mod fields;
+mod head;
 mod layout;
 mod page;
 mod root;
@@ -10,6 +13,9 @@ mod root_out;
 mod sizes;
 
 pub use crate::cause::Cause;
+pub use crate::data::read_data;
+pub use crate::ext::{Ext, read_ext};
+pub use crate::head::{Head, HeadBody, read_head};
 pub use crate::layout::{MOST_BLOCKS, PAGE_BITS, ROOT_PAGES};
 pub use crate::page::{Page, place_of, read_page, write_page};
 pub use crate::root::{Root, read_root};

@@ -2,15 +2,16 @@
 
 ghost use Rattle.std.specs.Prelude.{◌≡◌, ◌<◌, ◌+◌};
 ghost use Rattle.adf_fields.specs.Words.{word};
-ghost use Rattle.adf_blocks.specs.Forms.{ReadsForm, stamp_at, text_at};
+ghost use Rattle.adf_blocks.specs.Forms.{ReadsForm, text_at};
 ghost use Rattle.adf_blocks.specs.RootBlock.{root_form, stamps_at};
 
 use crate::cause::Cause;
+use crate::fields::stamp_in;
 use crate::layout::{
     ALTERED, BITMAP_FLAG, CREATED, DATE, FIRST_PAGE, FIRST_SLOT, HASH_SIZE, NAME, SECONDARY_TYPE,
     SLOTS, ST_ROOT, T_SHORT, TYPE, VALID,
 };
-use adf_fields::{Block, Stamp};
+use adf_fields::Block;
 use adf_tree::{Label, Stamps};
 use std::marker::Model;
 
@@ -55,18 +56,6 @@ pub fn read_root<'a>(b: Block<'a>) -> Result<Root<'a>, Cause>
         return Err(Cause::NotValidated);
     }
     Ok(Root { block: b })
-}
-
-// The date in words `i` to `i + 2`.
-fn stamp_in(b: &Block<'_>, i: usize) -> Stamp
-    requires { i < 126 }
-    ensures { result ≡ stamp_at b.now i }
-{
-    Stamp {
-        days: b.word(i),
-        mins: b.word(i + 1),
-        ticks: b.word(i + 2),
-    }
 }
 
 impl Root<'_> {

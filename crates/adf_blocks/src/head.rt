@@ -1,0 +1,208 @@
+// The headers of directories and files, as they are read.
+
+ghost use Rattle.std.specs.Prelude.{◌≡◌, ◌<◌, ◌+◌, ◌-◌, ◌==◌, true};
+ghost use Rattle.adf_fields.specs.Hash.{slot_of};
+ghost use Rattle.adf_fields.specs.Words.{word};
+ghost use Rattle.adf_blocks.specs.Forms.{ReadsForm, stamp_at, text_at};
+ghost use Rattle.adf_blocks.specs.HeadBlock.{body_at, has_first, has_type, head_form, is_entry, is_link, is_name_at, meta_at};
+
+use crate::cause::Cause;
+use crate::fields::stamp_in;
+use crate::layout::{
+    COMMENT, DATE, EXTENSION, FIRST_DATA, FIRST_POINTER, FIRST_SLOT, NAME, NEXT_IN_CHAIN, OWN_KEY,
+    PARENT, PROTECTION, SECONDARY_TYPE, SIZE, ST_DIR, ST_FILE, ST_LINK_DIR, ST_LINK_FILE,
+    ST_SOFT_LINK, T_SHORT, TYPE,
+};
+use adf_fields::{Block, slot as slot_of_name};
+use adf_tree::{Comment, Kind, Meta, Name};
+use std::marker::Model;
+
+/// The header of a directory or a file.
+#[derive(Drop)]
+pub struct Head<'a> {
+    block: Block<'a>,
+}
+
+impl<'a> Model for Head<'a> {
+    ghost use Rattle.std.specs.Prelude.{List, ℕ};
+    ghost use Rattle.adf_blocks.specs.HeadBlock.{IsHead};
+
+    ghost Value = { List ℕ };
+
+    ghost view = { λ h. h.block };
+
+    ghost invariant = { λ h. IsHead h.block };
+}
+
+/// What a header has by its secondary type.
+#[derive(Clone, Copy, Debug, PartialEq, Eq)]
+pub enum HeadBody {
+    Dir,
+    /// A file: its size in bytes, and its first extension block or 0.
+    File { size: u32, ext: u32 },
+}
+
+// Whether a secondary type is that of a link.
+fn tells_link(t: u32) -> bool
+    ensures { result ≡ is_link t }
+{
+    t == ST_SOFT_LINK || t == ST_LINK_DIR || t == ST_LINK_FILE
+}
+
+// Whether a secondary type is that of a directory or a file.
+fn tells_entry(t: u32) -> bool
+    ensures { result ≡ is_entry t }
+{
+    t == ST_DIR || t == ST_FILE
+}
+
+// Whether the two types are those of an entry or a link.
+fn type_holds(b: &Block<'_>) -> bool
+    ensures { result ≡ has_type b.now }
+{
+    let secondary = b.word(SECONDARY_TYPE);
+    b.word(TYPE) == T_SHORT && (tells_entry(secondary) || tells_link(secondary))
+}
+
+// Whether the name is one.
+fn name_holds(b: &Block<'_>) -> bool
+    ensures { result ≡ is_name_at b.now 432 }
+{
+    let len = b.byte(NAME) as usize;
+    len <= 30 && Name::is_name(b.bytes(NAME + 1, len))
+}
+
+// Whether the name's hash is this slot.
+fn slot_holds(b: &Block<'_>, slot: u8) -> bool
+    requires { is_name_at b.now 432 ≡ true }
+    ensures { result ≡ (slot_of (text_at b.now 432) == slot) }
+{
+    let len = b.byte(NAME) as usize;
+    slot_of_name(b.bytes(NAME + 1, len)) == slot
+}
+
+// Whether word 4 is the first data block, where it has to be.
+fn first_holds(b: &Block<'_>, kind: Kind) -> bool
+    ensures { result ≡ has_first kind b.now }
+{
+    match kind {
+        Kind::Ofs => {
+            b.word(SECONDARY_TYPE) != ST_FILE
+                || b.word(SIZE) == 0
+                || b.word(FIRST_DATA) == b.word(FIRST_POINTER)
+        }
+        Kind::Ffs => true,
+    }
+}
+
+/// The header that a block holds: at block `own`, in the chain of slot `slot` of the directory whose block is `parent`.
+///
+/// Refused, the first that applies: `BadSum`; `BadType` where word 0 is not 2, or word 127 is none of 2, -3, 3, 4, -4;
+/// `Link` where word 127 is 3, 4 or -4; `BadOwnKey` where word 1 is not `own`; `BadParent` where word 125 is not
+/// `parent`; `BadName` where the length in byte 432 or the bytes from 433 on are those of no name; `BadComment` where
+/// byte 328 is above 79; `WrongSlot` where the name's hash is not `slot`; `BadFirst` where word 4 of an OFS file of a
+/// size above 0 is not word 77.
+pub fn read_head<'a>(
+    b: Block<'a>,
+    kind: Kind,
+    own: u32,
+    parent: u32,
+    slot: u8,
+) -> Result<Head<'a>, Cause>
+    ensures { ReadsForm (head_form kind own parent slot b.entry) (λ h. h ≡ b.entry) result }
+{
+    if b.long_sum() != 0 {
+        return Err(Cause::BadSum);
+    }
+    if !type_holds(&b) {
+        return Err(Cause::BadType);
+    }
+    if tells_link(b.word(SECONDARY_TYPE)) {
+        return Err(Cause::Link);
+    }
+    if b.word(OWN_KEY) != own {
+        return Err(Cause::BadOwnKey);
+    }
+    if b.word(PARENT) != parent {
+        return Err(Cause::BadParent);
+    }
+    if !name_holds(&b) {
+        return Err(Cause::BadName);
+    }
+    if b.byte(COMMENT) > 79 {
+        return Err(Cause::BadComment);
+    }
+    if !slot_holds(&b, slot) {
+        return Err(Cause::WrongSlot);
+    }
+    if !first_holds(&b, kind) {
+        return Err(Cause::BadFirst);
+    }
+    Ok(Head { block: b })
+}
+
+impl Head<'_> {
+    /// The name: its length in byte 432, its bytes from byte 433 on.
+    pub fn name(&self) -> Name
+        ensures { result ≡ text_at self.now 432 }
+    {
+        let len = self.block.byte(NAME) as usize;
+        Name::new(self.block.bytes(NAME + 1, len)).unwrap()
+    }
+
+    // The comment: its length in byte 328, its bytes from byte 329 on.
+    fn comment(&self) -> Comment
+        ensures { result ≡ text_at self.now 328 }
+    {
+        let len = self.block.byte(COMMENT) as usize;
+        Comment::new(self.block.bytes(COMMENT + 1, len)).unwrap()
+    }
+
+    /// The comment of byte 328, the protection of word 80 and the date of words 105 to 107.
+    pub fn meta(&self) -> Meta
+        ensures { result ≡ meta_at self.now }
+    {
+        Meta {
+            comment: self.comment(),
+            protect: self.block.word(PROTECTION),
+            stamp: stamp_in(&self.block, DATE),
+        }
+    }
+
+    /// The next header of the chain, or 0: word 124.
+    pub fn next(&self) -> u32
+        ensures { result ≡ word self.now 124 }
+    {
+        self.block.word(NEXT_IN_CHAIN)
+    }
+
+    /// A directory where word 127 is 2; else a file, with its size in word 81 and its first extension block in word 126.
+    pub fn body(&self) -> HeadBody
+        ensures { result ≡ body_at self.now }
+    {
+        if self.block.word(SECONDARY_TYPE) == ST_DIR {
+            HeadBody::Dir
+        } else {
+            HeadBody::File {
+                size: self.block.word(SIZE),
+                ext: self.block.word(EXTENSION),
+            }
+        }
+    }
+
+    /// Of a directory, the first header of a slot's chain, or 0: words 6 to 77.
+    pub fn slot(&self, s: usize) -> u32
+        requires { s < 72 }
+        ensures { result ≡ word self.now (6 + s) }
+    {
+        self.block.word(FIRST_SLOT + s)
+    }
+
+    /// Of a file, the data block that pointer `j` names: words 77 down to 6.
+    pub fn pointer(&self, j: usize) -> u32
+        requires { j < 72 }
+        ensures { result ≡ word self.now (77 - j) }
+    {
+        self.block.word(FIRST_POINTER - j)
+    }
+}
