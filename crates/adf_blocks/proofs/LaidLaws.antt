@@ -1,20 +1,19 @@
 -- What a block that was laid out of fields holds.
-use Rattle.std.proofs.Common.{◌≡◌, ◌≢◌, ◌≤◌, ◌<◌, ℕ, zero, suc, ◌+◌, ◌-◌, ◌*◌, ◌^◌, List, ◌++◌, [], ◌∷◌, length, get_or, refl, sym, ap, ◌∙◌, arith, append-nil}
+use Rattle.std.proofs.Common.{◌≡◌, ◌≢◌, ◌≤◌, ◌<◌, ℕ, zero, suc, ◌+◌, ◌-◌, ◌*◌, ◌^◌, ◌⊎◌, List, ◌++◌, [], ◌∷◌, length, get_or, refl, sym, ap, ◌∙◌, arith, append-nil, inl, inr}
 use Rattle.std.proofs.Common.{take, drop, add-zero}
-use Rattle.std.specs.Prelude.{None, true, nat_le}
-use Rattle.std.proofs.lemmas.Bool.{le-leb}
-use Rattle.std.proofs.lemmas.List.{length-replicate, drop-take, drop-drop, take-take, take_at, take_all, get_or-drop, get_or-take}
+use Rattle.std.proofs.lemmas.Bool.{cases_lt}
+use Rattle.std.proofs.lemmas.List.{length-replicate, length-reverse, drop-take, drop-drop, take-take, take_at, take_all, get_or-drop, get_or-take, get_or-reverse, get_or_past, drop-replicate, take-replicate}
 use Rattle.std.proofs.Math.Seq.{drop-append-add}
-use Rattle.adf_blocks.specs.PageBlock.{page_block, page_form}
-use Rattle.adf_blocks.specs.Forms.{first_cause, text_at}
-use Rattle.std.specs.Prelude.{slice_range, slice_index}
+use Rattle.std.specs.Prelude.{slice_range, slice_index, replicate, reverse}
 use Rattle.byteorder.specs.Endian.{big_number}
 use Rattle.byteorder.specs.Numbers.{big_number-reads_back}
-use Rattle.adf_fields.specs.Words.{block, word, with_block, long_sum, sealed, checksum}
-use Rattle.adf_fields.proofs.WordLaws.{length-with_bytes, range-with_bytes_same, range-with_bytes_below, word-with_word_other, range-with_bytes_above, length_longs, length_big_bytes, long_sum-sealed, block_written}
-use Rattle.adf_blocks.specs.Fields.{Field, laid, Descends, long, longs, text}
-use Rattle.adf_blocks.specs.RootBlock.{RootFields, FitsRoot, root_table, root_block, root_form}
+use Rattle.adf_fields.specs.Words.{word, long_sum, sealed, checksum}
+use Rattle.adf_fields.specs.declared.dates.Stamp.{Stamp}
+use Rattle.adf_fields.proofs.WordLaws.{length-with_bytes, range-with_bytes_same, range-with_bytes_below, word-with_word_other, range-with_bytes_above, length_longs, length_big_bytes, long_sum-sealed}
+use Rattle.adf_blocks.specs.Forms.{stamp_at, text_at}
+use Rattle.adf_blocks.specs.Fields.{Field, FitsStamp, laid, Descends, downwards, long, longs, stamp, text}
 
+-- a block that is laid is whole
 pub length-laid : (top : ℕ) (fs : List Field) → top ≤ 512 → Descends top fs → length (laid fs) ≡ 512
 length-laid top [] le d = length-replicate {A = ℕ} 512 0
 length-laid top (f ∷ fs) le d =
@@ -42,47 +41,32 @@ nth_field top (f ∷ fs) (suc k) e le d lt =
     range-with_bytes_below (laid fs) f.0 f.1 (get_or fs k e).0 ((get_or fs k e).0 + length (get_or fs k e).1) (omega (arith, d.0)) below
     ∙ nth_field f.0 fs k e (omega (arith, d.0)) d.1 (omega arith)
 
+-- the number of a word's bytes
+pub long_number : (w : ℕ) → w < 2 ^ 32 → big_number 4 (long w) ≡ w
+long_number w small = ap (big_number 4) (sym (append-nil (long w))) ∙ big_number-reads_back 4 w [] small
+
 -- a word by its bytes
-word_there : (bs : List ℕ) (i w : ℕ) → slice_range bs (4 * i) (4 * i + 4) ≡ long w → w < 2 ^ 32 → word bs i ≡ w
+number_there : (bs : List ℕ) (i w : ℕ) → slice_range bs (4 * i) (4 * i + 4) ≡ long w → word bs i ≡ big_number 4 (long w)
 unfolding word
-word_there bs i w h small = ap (big_number 4) (h ∙ sym (append-nil (long w))) ∙ big_number-reads_back 4 w [] small
+number_there bs i w h = ap (big_number 4) h
+
+-- the number in a word that was put down
+pub number_of_field : (fs : List Field) (k i w : ℕ) → Descends 512 fs → k < length fs → get_or fs k (0, []) ≡ (4 * i, long w) → i ≢ 5
+    → word (sealed 5 (laid fs)) i ≡ big_number 4 (long w)
+number_of_field fs k i w d lt e other =
+    let n = length-laid 512 fs (omega arith) d in
+    let there = nth_field 512 fs k (0, []) (omega arith) d lt in
+    word-with_word_other (laid fs) 5 (checksum 5 (laid fs)) i (omega arith) other
+    ∙ number_there (laid fs) i w (rw e at there)
 
 -- a word that was put down
 pub word_of_field : (fs : List Field) (k i w : ℕ) → Descends 512 fs → k < length fs → get_or fs k (0, []) ≡ (4 * i, long w) → i ≢ 5 → w < 2 ^ 32
     → word (sealed 5 (laid fs)) i ≡ w
-word_of_field fs k i w d lt e other small =
-    let n = length-laid 512 fs (omega arith) d in
-    let there = nth_field 512 fs k (0, []) (omega arith) d lt in
-    word-with_word_other (laid fs) 5 (checksum 5 (laid fs)) i (omega arith) other
-    ∙ word_there (laid fs) i w (rw e at there) small
+word_of_field fs k i w d lt e other small = number_of_field fs k i w d lt e other ∙ long_number w small
 
 -- the sum of what was sealed
 pub sum_of_laid : (fs : List Field) → Descends 512 fs → long_sum (sealed 5 (laid fs)) ≡ 0
 sum_of_laid fs d = long_sum-sealed 5 (laid fs) (omega arith) (length-laid 512 fs (omega arith) d)
-
--- the fields of a root fit side by side
-pub root_descends : (r : RootFields) → FitsRoot r → Descends 512 (root_table r)
-root_descends r h =
-    let slots = length_longs r.slots in
-    let pages = length_longs r.pages in
-    (omega arith, (omega arith, (omega arith, (omega (arith, h.label), (omega arith, (omega (arith, h.pages), (omega arith, (omega (arith, h.slots), (omega arith, (omega arith, tt))))))))))
-
--- the words of a root
-pub root_block-sum : (r : RootFields) → FitsRoot r → long_sum (root_block r) ≡ 0
-unfolding root_block
-root_block-sum r h = sum_of_laid (root_table r) (root_descends r h)
-
-pub root_block-type : (r : RootFields) → FitsRoot r → word (root_block r) 0 ≡ 2
-unfolding root_block
-root_block-type r h = word_of_field (root_table r) 9 0 2 (root_descends r h) (omega arith) refl (omega arith) (omega arith)
-
-pub root_block-secondary : (r : RootFields) → FitsRoot r → word (root_block r) 127 ≡ 1
-unfolding root_block
-root_block-secondary r h = word_of_field (root_table r) 0 127 1 (root_descends r h) (omega arith) refl (omega arith) (omega arith)
-
-pub root_block-valid : (r : RootFields) → FitsRoot r → word (root_block r) 78 ≡ 0xFFFFFFFF
-unfolding root_block
-root_block-valid r h = word_of_field (root_table r) 6 78 0xFFFFFFFF (root_descends r h) (omega arith) refl (omega arith) (omega arith)
 
 -- a part of a part
 pub sub_range : (xs : List ℕ) (a b i j : ℕ) → i ≤ j → a + j ≤ b → slice_range (slice_range xs a b) i j ≡ slice_range xs (a + i) (a + j)
@@ -104,10 +88,10 @@ longs_at (w ∷ ws) (suc s) lt =
     let n : 4 * suc s + 4 - 4 * suc s ≡ 4 * s + 4 - 4 * s = omega arith in
     ap (take (4 * suc s + 4 - 4 * suc s)) skip ∙ ap (λ k. take k (drop (4 * s) (longs ws))) n ∙ longs_at ws s (omega arith)
 
--- a word of words that were put down
-pub words_of_field : (fs : List Field) (k i s : ℕ) (ws : List ℕ) → Descends 512 fs → k < length fs → get_or fs k (0, []) ≡ (4 * i, longs ws) → s < length ws → i + s ≢ 5 → slice_index ws s < 2 ^ 32
-    → word (sealed 5 (laid fs)) (i + s) ≡ slice_index ws s
-words_of_field fs k i s ws d lt e in_words other small =
+-- the number in a word of words that were put down
+pub numbers_of_field : (c : ℕ) (fs : List Field) (k i s : ℕ) (ws : List ℕ) → c < 128 → Descends 512 fs → k < length fs → get_or fs k (0, []) ≡ (4 * i, longs ws) → s < length ws → i + s ≢ c
+    → word (sealed c (laid fs)) (i + s) ≡ big_number 4 (long (slice_index ws s))
+numbers_of_field c fs k i s ws in_block d lt e in_words other =
     let n = length-laid 512 fs (omega arith) d in
     let there : slice_range (laid fs) (4 * i) (4 * i + length (longs ws)) ≡ longs ws = rw e at (nth_field 512 fs k (0, []) (omega arith) d lt) in
     let m = length_longs ws in
@@ -119,25 +103,90 @@ words_of_field fs k i s ws d lt e in_words other small =
     ∙ sym (sub_range (laid fs) (4 * i) (4 * i + length (longs ws)) (4 * s) (4 * s + 4) (omega arith) (omega arith))
     ∙ ap (λ xs. slice_range xs (4 * s) (4 * s + 4)) there
     ∙ longs_at ws s in_words in
-    word-with_word_other (laid fs) 5 (checksum 5 (laid fs)) (i + s) (omega arith) other
-    ∙ word_there (laid fs) (i + s) (slice_index ws s) part small
+    word-with_word_other (laid fs) c (checksum c (laid fs)) (i + s) (omega arith) other
+    ∙ number_there (laid fs) (i + s) (slice_index ws s) part
 
--- a slot of a root
-pub root_block-slot : (r : RootFields) (s : ℕ) → FitsRoot r → s < 72 → slice_index r.slots s < 2 ^ 32 → word (root_block r) (6 + s) ≡ slice_index r.slots s
-unfolding root_block
-root_block-slot r s h lt small = words_of_field (root_table r) 7 6 s r.slots (root_descends r h) (omega arith) refl (omega (arith, h.slots)) (omega arith) small
+-- a word of words that were put down
+pub words_of_field : (c : ℕ) (fs : List Field) (k i s : ℕ) (ws : List ℕ) → c < 128 → Descends 512 fs → k < length fs → get_or fs k (0, []) ≡ (4 * i, longs ws) → s < length ws → i + s ≢ c → slice_index ws s < 2 ^ 32
+    → word (sealed c (laid fs)) (i + s) ≡ slice_index ws s
+words_of_field c fs k i s ws in_block d lt e in_words other small = numbers_of_field c fs k i s ws in_block d lt e in_words other ∙ long_number (slice_index ws s) small
 
-pub root_block-hash_size : (r : RootFields) → FitsRoot r → word (root_block r) 3 ≡ 72
-unfolding root_block
-root_block-hash_size r h = word_of_field (root_table r) 8 3 72 (root_descends r h) (omega arith) refl (omega arith) (omega arith)
+-- a date that was put down
+pub stamp_of_field : (fs : List Field) (k i : ℕ) (s : Stamp) → Descends 512 fs → k < length fs → get_or fs k (0, []) ≡ (4 * i, stamp s) → 5 < i → FitsStamp s
+    → stamp_at (sealed 5 (laid fs)) i ≡ s
+stamp_of_field fs k i s d lt e above fits =
+    let ws : List ℕ = s.days ∷ s.mins ∷ s.ticks ∷ [] in
+    let days : word (sealed 5 (laid fs)) i ≡ s.days = ap (word (sealed 5 (laid fs))) (sym (add-zero i)) ∙ words_of_field 5 fs k i 0 ws (omega arith) d lt e (omega arith) (omega arith) fits.days in
+    let mins : word (sealed 5 (laid fs)) (i + 1) ≡ s.mins = words_of_field 5 fs k i 1 ws (omega arith) d lt e (omega arith) (omega arith) fits.mins in
+    let ticks : word (sealed 5 (laid fs)) (i + 2) ≡ s.ticks = words_of_field 5 fs k i 2 ws (omega arith) d lt e (omega arith) (omega arith) fits.ticks in
+    rw (days, mins, ticks) refl
 
--- a length and a text that were put down, above word 5
-pub text_of_field : (fs : List Field) (k at : ℕ) (bs : List ℕ) → Descends 512 fs → k < length fs → get_or fs k (0, []) ≡ (at, text bs) → 24 ≤ at
-    → slice_range (sealed 5 (laid fs)) at (at + length (text bs)) ≡ text bs
-text_of_field fs k at bs d lt e above =
+-- the number in a word of words that were put down from word i on, downwards
+pub numbers_downwards : (fs : List Field) (k i j : ℕ) (ws : List ℕ) → Descends 512 fs → k < length fs → get_or fs k (0, []) ≡ downwards i ws → length ws + 5 ≤ i → j < length ws
+    → word (sealed 5 (laid fs)) (i - j) ≡ big_number 4 (long (slice_index ws j))
+numbers_downwards fs k i j ws d lt e room in_words =
+    let n : length (reverse ws) ≡ length ws = length-reverse ws in
+    let at : i - j ≡ (i + 1 - length ws) + (length ws - 1 - j) = omega arith in
+    let back : length ws - 1 - (length ws - 1 - j) ≡ j = omega arith in
+    ap (word (sealed 5 (laid fs))) at
+    ∙ numbers_of_field 5 fs k (i + 1 - length ws) (length ws - 1 - j) (reverse ws) (omega arith) d lt e (omega arith) (omega arith)
+    ∙ ap (λ w. big_number 4 (long w)) (get_or-reverse ws (length ws - 1 - j) 0 (omega arith) ∙ ap (slice_index ws) back)
+
+-- each field ends at byte a or before, or begins at byte b or after
+abbrev pub Apart : ℕ → ℕ → List Field → Type 0
+Apart a b [] = Unit {0}
+Apart a b (f ∷ fs) = ((b ≤ f.0) ⊎ (f.0 + length f.1 ≤ a)) × Apart a b fs
+
+-- bytes that no field is put over
+range_between : (top a b : ℕ) (fs : List Field) → top ≤ 512 → Descends top fs → Apart a b fs → slice_range (laid fs) a b ≡ slice_range (replicate 512 0) a b
+range_between top a b [] le d apart = refl
+range_between top a b (f ∷ fs) le d apart =
+    let n = length-laid f.0 fs (omega (arith, d.0)) d.1 in
+    let ih = range_between f.0 a b fs (omega (arith, d.0)) d.1 apart.1 in
+    elim apart.0 [
+      | inl below ↦ range-with_bytes_below (laid fs) f.0 f.1 a b (omega (arith, d.0)) below ∙ ih
+      | inr above ↦ range-with_bytes_above (laid fs) f.0 f.1 a b (omega (arith, d.0)) above ∙ ih
+    ]
+
+-- a word of zeros
+zero_word : (i : ℕ) → i < 128 → slice_range (replicate 512 0) (4 * i) (4 * i + 4) ≡ long 0
+zero_word i lt =
+    let n : 4 * i + 4 - 4 * i ≡ 4 = omega arith in
+    ap (take (4 * i + 4 - 4 * i)) (drop-replicate (4 * i) 512 0)
+    ∙ ap (λ k. take k (replicate (512 - 4 * i) 0)) n
+    ∙ take-replicate 4 (512 - 4 * i) 0 (omega arith)
+
+-- a word that no field is put over
+pub word_between : (fs : List Field) (i : ℕ) → Descends 512 fs → i < 128 → Apart (4 * i) (4 * i + 4) fs → i ≢ 5 → word (sealed 5 (laid fs)) i ≡ 0
+word_between fs i d lt apart other =
     let n = length-laid 512 fs (omega arith) d in
-    let there : slice_range (laid fs) at (at + length (text bs)) ≡ text bs = rw e at (nth_field 512 fs k (0, []) (omega arith) d lt) in
-    range-with_bytes_above (laid fs) (4 * 5) (long (checksum 5 (laid fs))) at (at + length (text bs)) (omega arith) (omega (arith, length_big_bytes 4 (checksum 5 (laid fs)))) ∙ there
+    word-with_word_other (laid fs) 5 (checksum 5 (laid fs)) i (omega arith) other
+    ∙ number_there (laid fs) i 0 (range_between 512 (4 * i) (4 * i + 4) fs (omega arith) d apart ∙ zero_word i lt)
+
+-- the number in word i - j where words were put down from word i on, downwards: word j of these, or 0 past the last
+pub pointer_number : (fs : List Field) (k i j : ℕ) (ws : List ℕ) → Descends 512 fs → k < length fs → get_or fs k (0, []) ≡ downwards i ws → length ws + 5 ≤ i → j + 5 < i → i < 128
+    → (length ws ≤ j → Apart (4 * (i - j)) (4 * (i - j) + 4) fs)
+    → word (sealed 5 (laid fs)) (i - j) ≡ big_number 4 (long (slice_index ws j))
+pointer_number fs k i j ws d lt e room above in_block past = elim (cases_lt j (length ws)) [
+  | inl in_words ↦ numbers_downwards fs k i j ws d lt e room in_words
+  | inr beyond ↦
+      let zero_there : slice_index ws j ≡ 0 = get_or_past ws j 0 beyond in
+      word_between fs (i - j) d (omega arith) (past beyond) (omega arith) ∙ ap (λ w. big_number 4 (long w)) (sym zero_there)
+]
+
+-- a block that was laid and sealed is whole
+pub length_sealed_laid : (fs : List Field) → Descends 512 fs → length (sealed 5 (laid fs)) ≡ 512
+length_sealed_laid fs d =
+    let len = length-laid 512 fs (omega arith) d in
+    length-with_bytes (laid fs) (4 * 5) (long (checksum 5 (laid fs))) (omega (arith, length_big_bytes 4 (checksum 5 (laid fs)))) ∙ len
+
+-- bytes that were put down above word 5
+pub bytes_of_field : (fs : List Field) (k from : ℕ) (xs : List ℕ) → Descends 512 fs → k < length fs → get_or fs k (0, []) ≡ (from, xs) → 24 ≤ from
+    → slice_range (sealed 5 (laid fs)) from (from + length xs) ≡ xs
+bytes_of_field fs k from xs d lt e above =
+    let n = length-laid 512 fs (omega arith) d in
+    let there : slice_range (laid fs) from (from + length xs) ≡ xs = rw e at (nth_field 512 fs k (0, []) (omega arith) d lt) in
+    range-with_bytes_above (laid fs) (4 * 5) (long (checksum 5 (laid fs))) from (from + length xs) (omega arith) (omega (arith, length_big_bytes 4 (checksum 5 (laid fs)))) ∙ there
 
 -- how a length and a text read
 pub text_reads : (bs xs : List ℕ) (at : ℕ) → slice_range xs at (at + length (text bs)) ≡ text bs → (slice_index xs at ≡ length bs) × (text_at xs at ≡ bs)
@@ -152,42 +201,7 @@ text_reads bs xs at h =
     ∙ ap (λ k. take k bs) (omega arith) ∙ take_all (length bs) bs (omega arith) in
     (first, ap (λ k. slice_range xs (at + 1) (at + 1 + k)) first ∙ rest)
 
-pub root_block-label : (r : RootFields) → FitsRoot r → (slice_index (root_block r) 432 ≡ length r.label) × (text_at (root_block r) 432 ≡ r.label)
-unfolding root_block
-root_block-label r h = text_reads r.label (sealed 5 (laid (root_table r))) 432 (text_of_field (root_table r) 3 432 r.label (root_descends r h) (omega arith) refl (omega arith))
-
--- a root that was written is read
-pub root_block-form : (r : RootFields) → FitsRoot r → first_cause (root_form (root_block r)) ≡ None
-root_block-form r h =
-    let len : nat_le (slice_index (root_block r) 432) 30 ≡ true = le-leb (slice_index (root_block r) 432) 30 (omega (arith, (root_block-label r h).0, h.label)) in
-    rw (root_block-sum r h, root_block-type r h, root_block-secondary r h, len, root_block-hash_size r h, root_block-valid r h) refl
-
-pub length_page_block : (bits : List ℕ) → length bits ≡ 127 → length (page_block bits) ≡ 512
-unfolding page_block
-length_page_block bits n =
-    let m = length_longs bits in
-    let len = length-laid 512 ((4 * 1, longs bits) ∷ []) (omega arith) (omega arith, tt) in
-    length-with_bytes (laid ((4 * 1, longs bits) ∷ [])) (4 * 0) (long (checksum 0 (laid ((4 * 1, longs bits) ∷ [])))) (omega (arith, length_big_bytes 4 (checksum 0 (laid ((4 * 1, longs bits) ∷ []))))) ∙ len
-
-pub length_root_block : (r : RootFields) → FitsRoot r → length (root_block r) ≡ 512
-unfolding root_block
-length_root_block r h =
-    let len = length-laid 512 (root_table r) (omega arith) (root_descends r h) in
-    length-with_bytes (laid (root_table r)) (4 * 5) (long (checksum 5 (laid (root_table r)))) (omega (arith, length_big_bytes 4 (checksum 5 (laid (root_table r))))) ∙ len
-
--- a root that was written into an image is read there
-pub written_root_form : (image : List ℕ) (b : ℕ) (r : RootFields) → FitsRoot r → b * 512 + 512 ≤ length image
-    → first_cause (root_form (block (with_block image b (root_block r)) b)) ≡ None
-written_root_form image b r h room = rw (block_written image b (root_block r) room (length_root_block r h)) (root_block-form r h)
-
--- the sum of a page
-pub page_block-sum : (bits : List ℕ) → length bits ≡ 127 → long_sum (page_block bits) ≡ 0
-unfolding page_block
-page_block-sum bits n =
-    let m = length_longs bits in
-    long_sum-sealed 0 (laid ((4 * 1, longs bits) ∷ [])) (omega arith) (length-laid 512 ((4 * 1, longs bits) ∷ []) (omega arith) (omega arith, tt))
-
--- a page that was written into an image is read there
-pub written_page_form : (image : List ℕ) (b : ℕ) (bits : List ℕ) → length bits ≡ 127 → b * 512 + 512 ≤ length image
-    → first_cause (page_form (block (with_block image b (page_block bits)) b)) ≡ None
-written_page_form image b bits n room = rw (block_written image b (page_block bits) room (length_page_block bits n), page_block-sum bits n) refl
+-- a length and a text that were put down above word 5
+pub text_of_field : (fs : List Field) (k at : ℕ) (bs : List ℕ) → Descends 512 fs → k < length fs → get_or fs k (0, []) ≡ (at, text bs) → 24 ≤ at
+    → (slice_index (sealed 5 (laid fs)) at ≡ length bs) × (text_at (sealed 5 (laid fs)) at ≡ bs)
+text_of_field fs k at bs d lt e above = text_reads bs (sealed 5 (laid fs)) at (bytes_of_field fs k at (text bs) d lt e above)

@@ -1,7 +1,9 @@
 -- Data blocks of OFS files.
-use Rattle.std.specs.Prelude.{ℕ, ◌==◌, ◌&&◌, List, [], ◌∷◌}
-use Rattle.adf_fields.specs.Words.{word, long_sum}
+use Rattle.std.specs.Prelude.{◌≤◌, ◌<◌, ◌*◌, ◌^◌, ℕ, ◌==◌, ◌&&◌, List, [], ◌∷◌, length}
+use Rattle.adf_fields.specs.Words.{word, long_sum, sealed}
 use Rattle.adf_blocks.specs.declared.cause.Cause.TheVariants.{BadSum, BadType, BadData}
+use Rattle.adf_blocks.specs.declared.«data».DataOut.{DataOut}
+use Rattle.adf_blocks.specs.Fields.{Field, laid, long}
 use Rattle.adf_blocks.specs.Forms.{Clause}
 
 -- what data block `number` holds, counted from 1, of the file whose header is block `head`: the bytes held and the next data block, or 0
@@ -11,3 +13,36 @@ data_form head number held next b =
     ∷ (word b 0 == 8, BadType)
     ∷ ((word b 1 == head) && (word b 2 == number) && (word b 3 == held) && (word b 4 == next), BadData)
     ∷ []
+
+-- the fields of a data block
+pub record DataFields : Type 0 where
+  pub head : ℕ
+  pub number : ℕ
+  pub next : ℕ
+  pub bytes : List ℕ
+
+-- the fields that are given, without where they lie in memory
+abbrev pub data_fields : DataOut → DataFields
+data_fields d = record { head = d.head; number = d.number; next = d.next; bytes = d.bytes.now }
+
+-- the fields of a data block, the last first
+abbrev pub data_table : DataFields → List Field
+data_table d =
+    (24, d.bytes)
+    ∷ (4 * 4, long d.next)
+    ∷ (4 * 3, long (length d.bytes))
+    ∷ (4 * 2, long d.number)
+    ∷ (4 * 1, long d.head)
+    ∷ (4 * 0, long 8)
+    ∷ []
+
+-- the block of a data block with these fields
+unfoldable pub data_block : DataFields → List ℕ
+data_block d = sealed 5 (laid (data_table d))
+
+-- fields that a data block has room for
+pub record FitsData (d : DataFields) : Type 0 where
+  pub head : d.head < 2 ^ 32
+  pub number : d.number < 2 ^ 32
+  pub next : d.next < 2 ^ 32
+  pub bytes : length d.bytes ≤ 488

@@ -5,7 +5,7 @@ use Rattle.adf_tree.specs.declared.entry.Stamps.{Stamps}
 use Rattle.adf_blocks.specs.declared.cause.Cause.TheVariants.{BadSum, BadType, BadName, BadHashSize, NotValidated}
 use Rattle.adf_blocks.specs.declared.root_out.RootOut.{RootOut}
 use Rattle.adf_blocks.specs.Forms.{Clause, stamp_at}
-use Rattle.adf_blocks.specs.Fields.{Field, laid, long, longs, stamp, text}
+use Rattle.adf_blocks.specs.Fields.{Field, FitsStamp, laid, long, longs, stamp, text}
 
 -- what a root holds
 abbrev pub root_form : List ℕ → List Clause
@@ -56,3 +56,9 @@ pub record FitsRoot (r : RootFields) : Type 0 where
   pub slots : length r.slots ≡ 72
   pub pages : length r.pages ≤ 25
   pub label : length r.label ≤ 30
+
+-- the numbers of the three dates are words
+pub record FitsStamps (s : Stamps) : Type 0 where
+  pub root : FitsStamp s.root
+  pub altered : FitsStamp s.altered
+  pub created : FitsStamp s.created

@@ -1,12 +1,15 @@
 // Data blocks of OFS files, read and written.
 
-ghost use Rattle.std.specs.Prelude.{◌≡◌, ◌≤◌, ◌+◌, slice_range};
-ghost use Rattle.adf_blocks.specs.Forms.{ReadsForm};
-ghost use Rattle.adf_blocks.specs.DataBlock.{data_form};
+ghost use Rattle.std.specs.Prelude.{◌≡◌, ◌≤◌, ◌+◌, ◌*◌, length, slice_range, None};
+ghost use Rattle.adf_fields.specs.Words.{block, with_block};
+ghost use Rattle.adf_blocks.specs.Forms.{ReadsForm, first_cause};
+ghost use Rattle.adf_blocks.specs.DataBlock.{DataFields, FitsData, data_block, data_fields, data_form};
 
 use crate::cause::Cause;
-use crate::layout::{DATA_BYTES, DATA_HEAD, DATA_HELD, DATA_NEXT, DATA_NUMBER, T_DATA, TYPE};
-use adf_fields::Block;
+use crate::layout::{
+    CHECKSUM, DATA_BYTES, DATA_HEAD, DATA_HELD, DATA_NEXT, DATA_NUMBER, T_DATA, TYPE,
+};
+use adf_fields::{Block, put_block, put_bytes, put_word, seal_block};
 
 /// The bytes that a block holds as data block `number`, from 1 on, of the OFS file whose header is block `head`: the
 /// `held` bytes from byte 24 on, where `next` is the next data block of the file, or 0.
@@ -21,7 +24,8 @@ pub fn read_data<'a>(
     next: u32,
 ) -> Result<&'a [u8], Cause>
     requires { held ≤ 488 }
-    ensures { ReadsForm (data_form head number held next b.entry) (λ s. s.now ≡ slice_range b.entry 24 (24 + held)) result }
+    ensures { ReadsForm (data_form head number held next b.entry)
+        (λ bytes. bytes.now ≡ slice_range b.entry 24 (24 + held)) result }
 {
     if b.long_sum() != 0 {
         return Err(Cause::BadSum);
@@ -38,3 +42,53 @@ pub fn read_data<'a>(
     }
     Ok(b.bytes(DATA_BYTES, held as usize))
 }
+
+/// What an OFS data block is to hold.
+pub struct DataOut<'a> {
+    /// The block of its file's header.
+    pub head: u32,
+    /// Its number in the file, from 1 on.
+    pub number: u32,
+    /// The next data block of the file, or 0.
+    pub next: u32,
+    /// The bytes held, at most 488.
+    pub bytes: &'a [u8],
+}
+
+// The 512 bytes of a data block.
+#[tactic(auto, unfolding(crate::specs::DataBlock::data_block))]
+fn data_bytes(d: &DataOut<'_>) -> [u8; 512]
+    requires { length d.now.bytes.now ≤ 488 }
+    ensures exact { result ≡ data_block (data_fields d.now) }
+    ensures fits { FitsData (data_fields d.now) }
+{
+    let mut block = [0u8; 512];
+    put_word(&mut block, TYPE, T_DATA);
+    put_word(&mut block, DATA_HEAD, d.head);
+    put_word(&mut block, DATA_NUMBER, d.number);
+    put_word(&mut block, DATA_HELD, d.bytes.len() as u32);
+    put_word(&mut block, DATA_NEXT, d.next);
+    put_bytes(&mut block, DATA_BYTES, d.bytes);
+    seal_block(&mut block, CHECKSUM);
+    block
+}
+
+/// Writes an OFS data block over all of block `b` of an image.
+#[tactic(auto, using(crate::proofs::DataLaws::written_data_form))]
+pub fn write_data(image: &mut [u8], b: u32, d: &DataOut<'_>)
+    requires whole { b * 512 + 512 ≤ length image.old }
+    requires bytes { length d.now.bytes.now ≤ 488 }
+    ensures exact { image.new ≡ with_block image.old b (data_block (data_fields d.now)) }
+    ensures form { let held = length d.now.bytes.now in
+        first_cause (data_form d.now.head d.now.number held d.now.next (block image.new b)) ≡ None }
+{
+    put_block(image, b, &data_bytes(d));
+}
+
+/// A data block tells the fields and the bytes that it was written with: the law of its reader and its writer.
+pub fn written_data_are_read()
+    ensures whole { (d : DataFields) → FitsData d → length (data_block d) ≡ 512 }
+    ensures form { (d : DataFields) → FitsData d
+        → first_cause (data_form d.head d.number (length d.bytes) d.next (data_block d)) ≡ None }
+    ensures bytes { (d : DataFields) → FitsData d → slice_range (data_block d) 24 (24 + length d.bytes) ≡ d.bytes }
+{}

@@ -1,15 +1,16 @@
 // Extension blocks of files, read and written.
 
-ghost use Rattle.std.specs.Prelude.{◌≡◌, ◌<◌, ◌-◌};
-ghost use Rattle.adf_fields.specs.Words.{word};
-ghost use Rattle.adf_blocks.specs.Forms.{ReadsForm};
-ghost use Rattle.adf_blocks.specs.ExtBlock.{ext_form};
+ghost use Rattle.std.specs.Prelude.{◌≡◌, ◌≤◌, ◌<◌, ◌+◌, ◌*◌, ◌-◌, ◌^◌, ℕ, length, slice_index, None};
+ghost use Rattle.adf_fields.specs.Words.{block, with_block, word};
+ghost use Rattle.adf_blocks.specs.Forms.{ReadsForm, first_cause};
+ghost use Rattle.adf_blocks.specs.ExtBlock.{ExtFields, FitsExt, ext_block, ext_fields, ext_form};
 
 use crate::cause::Cause;
 use crate::layout::{
-    EXTENSION, FIRST_POINTER, OWN_KEY, PARENT, SECONDARY_TYPE, ST_FILE, T_LIST, TYPE,
+    CHECKSUM, EXTENSION, FIRST_POINTER, OWN_KEY, PARENT, POINTER_COUNT, SECONDARY_TYPE, ST_FILE,
+    T_LIST, TYPE,
 };
-use adf_fields::Block;
+use adf_fields::{Block, put_block, put_word, put_words_down, seal_block};
 use std::marker::Model;
 
 /// An extension block of a file.
@@ -64,3 +65,55 @@ impl Ext<'_> {
         self.block.word(EXTENSION)
     }
 }
+
+/// What an extension block is to hold.
+pub struct ExtOut<'a> {
+    /// The block that it is written to.
+    pub own: u32,
+    /// The block of its file's header.
+    pub head: u32,
+    /// The next data blocks of the file, at most 72.
+    pub table: &'a [u32],
+    /// The next extension block of the file, or 0.
+    pub next: u32,
+}
+
+// The 512 bytes of an extension block.
+#[tactic(auto, unfolding(crate::specs::ExtBlock::ext_block))]
+fn ext_bytes(e: &ExtOut<'_>) -> [u8; 512]
+    requires { length e.now.table.now ≤ 72 }
+    ensures exact { result ≡ ext_block (ext_fields e.now) }
+    ensures fits { FitsExt (ext_fields e.now) }
+{
+    let mut block = [0u8; 512];
+    put_word(&mut block, TYPE, T_LIST);
+    put_word(&mut block, OWN_KEY, e.own);
+    put_word(&mut block, POINTER_COUNT, e.table.len() as u32);
+    put_words_down(&mut block, FIRST_POINTER, e.table);
+    put_word(&mut block, PARENT, e.head);
+    put_word(&mut block, EXTENSION, e.next);
+    put_word(&mut block, SECONDARY_TYPE, ST_FILE);
+    seal_block(&mut block, CHECKSUM);
+    block
+}
+
+/// Writes an extension block over all of block `b` of an image.
+#[tactic(auto, using(crate::proofs::ExtLaws::written_ext_form))]
+pub fn write_ext(image: &mut [u8], b: u32, e: &ExtOut<'_>)
+    requires whole { b * 512 + 512 ≤ length image.old }
+    requires table { length e.now.table.now ≤ 72 }
+    ensures exact { image.new ≡ with_block image.old b (ext_block (ext_fields e.now)) }
+    ensures form { first_cause (ext_form e.now.own e.now.head (block image.new b)) ≡ None }
+{
+    put_block(image, b, &ext_bytes(e));
+}
+
+/// An extension block tells the fields that it was written with: the law of its reader and its writer.
+pub fn written_exts_are_read()
+    ensures whole { (e : ExtFields) → FitsExt e → length (ext_block e) ≡ 512 }
+    ensures form { (e : ExtFields) → FitsExt e → first_cause (ext_form e.own e.head (ext_block e)) ≡ None }
+    // past the last pointer `slice_index` is 0
+    ensures pointers { (e : ExtFields) (j : ℕ) → FitsExt e → j < 72 → slice_index e.table j < 2 ^ 32
+        → word (ext_block e) (77 - j) ≡ slice_index e.table j }
+    ensures next { (e : ExtFields) → FitsExt e → e.next < 2 ^ 32 → word (ext_block e) 126 ≡ e.next }
+{}

@@ -1,6 +1,6 @@
 // Pages of the bitmap, read and written.
 
-ghost use Rattle.std.specs.Prelude.{◌≡◌, ◌≤◌, ◌<◌, ◌+◌, ◌*◌, ◌-◌, ◌/◌, ◌%◌, ◌↔◌, length, IsTrue, None};
+ghost use Rattle.std.specs.Prelude.{◌≡◌, ◌≤◌, ◌<◌, ◌+◌, ◌*◌, ◌-◌, ◌/◌, ◌%◌, ◌^◌, ◌↔◌, ℕ, List, length, slice_index, IsBitSet, IsTrue, None};
 ghost use Rattle.adf_fields.specs.Words.{block, with_block};
 ghost use Rattle.adf_blocks.specs.Forms.{ReadsForm, first_cause};
 ghost use Rattle.adf_blocks.specs.PageBlock.{IsFreeBit, page_block, page_form};
@@ -66,7 +66,7 @@ fn page_bytes(bits: &[u32; 127]) -> [u8; 512]
 }
 
 /// Writes a bitmap page with these words of bits over all of block `b` of an image.
-#[tactic(auto, using(crate::proofs::LaidLaws::written_page_form))]
+#[tactic(auto, using(crate::proofs::PageLaws::written_page_form))]
 pub fn write_page(image: &mut [u8], b: u32, bits: &[u32; 127])
     requires { b * 512 + 512 ≤ length image.old }
     ensures exact { image.new ≡ with_block image.old b (page_block bits.now) }
@@ -74,3 +74,12 @@ pub fn write_page(image: &mut [u8], b: u32, bits: &[u32; 127])
 {
     put_block(image, b, &page_bytes(bits));
 }
+
+/// A page tells the bits that it was written with: the law of its reader and its writer.
+pub fn written_pages_are_read()
+    ensures whole { (bits : List ℕ) → length bits ≡ 127 → length (page_block bits) ≡ 512 }
+    ensures form { (bits : List ℕ) → length bits ≡ 127 → first_cause (page_form (page_block bits)) ≡ None }
+    ensures bits { (bits : List ℕ) (bit : ℕ) → length bits ≡ 127 → bit < 4064
+        → slice_index bits (bit / 32) < 2 ^ 32
+        → IsFreeBit (page_block bits) bit ↔ IsBitSet (slice_index bits (bit / 32)) (bit % 32) }
+{}

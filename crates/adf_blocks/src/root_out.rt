@@ -1,9 +1,9 @@
 // The root of a volume, as it is written.
 
-ghost use Rattle.std.specs.Prelude.{◌≡◌, ◌≤◌, ◌+◌, ◌*◌, length, None};
-ghost use Rattle.adf_fields.specs.Words.{block, with_block};
-ghost use Rattle.adf_blocks.specs.Forms.{first_cause};
-ghost use Rattle.adf_blocks.specs.RootBlock.{FitsRoot, root_block, root_fields, root_form};
+ghost use Rattle.std.specs.Prelude.{◌≡◌, ◌≤◌, ◌<◌, ◌+◌, ◌*◌, ◌^◌, ℕ, length, slice_index, None};
+ghost use Rattle.adf_fields.specs.Words.{block, with_block, word};
+ghost use Rattle.adf_blocks.specs.Forms.{first_cause, text_at};
+ghost use Rattle.adf_blocks.specs.RootBlock.{FitsRoot, FitsStamps, RootFields, root_block, root_fields, root_form, stamps_at};
 
 use crate::fields::{put_stamp, put_text};
 use crate::layout::{
@@ -47,7 +47,7 @@ fn root_bytes(r: &RootOut<'_>) -> [u8; 512]
 }
 
 /// Writes the root of a volume over all of block `b` of an image.
-#[tactic(auto, using(crate::proofs::LaidLaws::written_root_form))]
+#[tactic(auto, using(crate::proofs::RootLaws::written_root_form))]
 pub fn write_root(image: &mut [u8], b: u32, r: &RootOut<'_>)
     requires whole { b * 512 + 512 ≤ length image.old }
     requires pages { length r.now.pages.now ≤ 25 }
@@ -56,3 +56,16 @@ pub fn write_root(image: &mut [u8], b: u32, r: &RootOut<'_>)
 {
     put_block(image, b, &root_bytes(r));
 }
+
+/// A root tells the fields that it was written with: the law of its reader and its writer.
+pub fn written_roots_are_read()
+    ensures whole { (r : RootFields) → FitsRoot r → length (root_block r) ≡ 512 }
+    ensures form { (r : RootFields) → FitsRoot r → first_cause (root_form (root_block r)) ≡ None }
+    ensures slots { (r : RootFields) (s : ℕ) → FitsRoot r → s < 72 → slice_index r.slots s < 2 ^ 32
+        → word (root_block r) (6 + s) ≡ slice_index r.slots s }
+    // past the last page `slice_index` is 0
+    ensures pages { (r : RootFields) (i : ℕ) → FitsRoot r → i < 25 → slice_index r.pages i < 2 ^ 32
+        → word (root_block r) (79 + i) ≡ slice_index r.pages i }
+    ensures label { (r : RootFields) → FitsRoot r → text_at (root_block r) 432 ≡ r.label }
+    ensures stamps { (r : RootFields) → FitsRoot r → FitsStamps r.stamps → stamps_at (root_block r) ≡ r.stamps }
+{}

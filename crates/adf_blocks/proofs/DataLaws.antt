@@ -1,0 +1,76 @@
+-- What the block of an OFS data block holds.
+use Rattle.std.proofs.Common.{◌≡◌, ◌≤◌, ℕ, ◌+◌, ◌*◌, List, length, refl, arith, true}
+use Rattle.std.specs.Prelude.{None, Bool, ◌&&◌, ◌==◌, slice_range}
+use Rattle.std.proofs.lemmas.Bool.{eq-eqb}
+use Rattle.adf_fields.specs.Words.{block, word, with_block, long_sum}
+use Rattle.adf_fields.proofs.WordLaws.{block_written}
+use Rattle.adf_blocks.specs.Forms.{first_cause}
+use Rattle.adf_blocks.specs.Fields.{Descends}
+use Rattle.adf_blocks.specs.DataBlock.{DataFields, FitsData, data_block, data_form, data_table}
+use Rattle.adf_blocks.proofs.ClauseLaws.{no_cause}
+use Rattle.adf_blocks.proofs.LaidLaws.{bytes_of_field, length_sealed_laid, sum_of_laid, word_of_field}
+
+-- the fields of a data block fit side by side
+pub data_descends : (d : DataFields) → FitsData d → Descends 512 (data_table d)
+data_descends d fits = (omega (arith, fits.bytes), (omega arith, (omega arith, (omega arith, (omega arith, (omega arith, tt))))))
+
+-- a data block is a whole block
+pub length_data_block : (d : DataFields) → FitsData d → length (data_block d) ≡ 512
+unfolding data_block
+length_data_block d fits = length_sealed_laid (data_table d) (data_descends d fits)
+
+-- the fields of a data block
+pub data_block-sum : (d : DataFields) → FitsData d → long_sum (data_block d) ≡ 0
+unfolding data_block
+data_block-sum d fits = sum_of_laid (data_table d) (data_descends d fits)
+
+pub data_block-type : (d : DataFields) → FitsData d → word (data_block d) 0 ≡ 8
+unfolding data_block
+data_block-type d fits = word_of_field (data_table d) 5 0 8 (data_descends d fits) (omega arith) refl (omega arith) (omega arith)
+
+pub data_block-head : (d : DataFields) → FitsData d → word (data_block d) 1 ≡ d.head
+unfolding data_block
+data_block-head d fits = word_of_field (data_table d) 4 1 d.head (data_descends d fits) (omega arith) refl (omega arith) fits.head
+
+pub data_block-number : (d : DataFields) → FitsData d → word (data_block d) 2 ≡ d.number
+unfolding data_block
+data_block-number d fits = word_of_field (data_table d) 3 2 d.number (data_descends d fits) (omega arith) refl (omega arith) fits.number
+
+pub data_block-held : (d : DataFields) → FitsData d → word (data_block d) 3 ≡ length d.bytes
+unfolding data_block
+data_block-held d fits = word_of_field (data_table d) 2 3 (length d.bytes) (data_descends d fits) (omega arith) refl (omega arith) (omega (arith, fits.bytes))
+
+pub data_block-next : (d : DataFields) → FitsData d → word (data_block d) 4 ≡ d.next
+unfolding data_block
+data_block-next d fits = word_of_field (data_table d) 1 4 d.next (data_descends d fits) (omega arith) refl (omega arith) fits.next
+
+pub data_block-bytes : (d : DataFields) → FitsData d → slice_range (data_block d) 24 (24 + length d.bytes) ≡ d.bytes
+unfolding data_block
+data_block-bytes d fits = bytes_of_field (data_table d) 0 24 d.bytes (data_descends d fits) (omega arith) refl (omega arith)
+
+four_true : (w x y z : Bool) → w ≡ true → x ≡ true → y ≡ true → z ≡ true → (w && x && y && z) ≡ true
+four_true w x y z o p q r = rw (o, p, q, r) refl
+
+-- a data block that was written is read
+pub data_block-form : (d : DataFields) → FitsData d → first_cause (data_form d.head d.number (length d.bytes) d.next (data_block d)) ≡ None
+data_block-form d fits =
+    let b : List ℕ = data_block d in
+    no_cause (data_form d.head d.number (length d.bytes) d.next b) (
+      eq-eqb (long_sum b) 0 (data_block-sum d fits),
+      (
+        eq-eqb (word b 0) 8 (data_block-type d fits),
+        (
+          four_true (word b 1 == d.head) (word b 2 == d.number) (word b 3 == length d.bytes) (word b 4 == d.next)
+              (eq-eqb (word b 1) d.head (data_block-head d fits))
+              (eq-eqb (word b 2) d.number (data_block-number d fits))
+              (eq-eqb (word b 3) (length d.bytes) (data_block-held d fits))
+              (eq-eqb (word b 4) d.next (data_block-next d fits)),
+          tt,
+        ),
+      ),
+    )
+
+-- a data block that was written into an image is read there
+pub written_data_form : (image : List ℕ) (b : ℕ) (d : DataFields) → FitsData d → b * 512 + 512 ≤ length image
+    → first_cause (data_form d.head d.number (length d.bytes) d.next (block (with_block image b (data_block d)) b)) ≡ None
+written_data_form image b d fits room = rw (block_written image b (data_block d) room (length_data_block d fits)) (data_block-form d fits)

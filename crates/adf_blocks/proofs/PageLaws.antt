@@ -1,0 +1,47 @@
+-- What the block of a bitmap page holds.
+use Rattle.std.proofs.Common.{◌≡◌, ◌≤◌, ◌<◌, ℕ, ◌+◌, ◌*◌, ◌^◌, List, [], ◌∷◌, length, refl, arith, ◌∙◌}
+use Rattle.std.specs.Prelude.{None, slice_index, IsBitSet, ◌/◌, ◌%◌, ◌↔◌}
+use Rattle.adf_fields.specs.Words.{block, word, with_block, long_sum, checksum}
+use Rattle.adf_fields.proofs.WordLaws.{block_written, length-with_bytes, length_big_bytes, length_longs, long_sum-sealed}
+use Rattle.adf_blocks.specs.Forms.{first_cause}
+use Rattle.adf_blocks.specs.Fields.{laid, long, longs}
+use Rattle.adf_blocks.specs.PageBlock.{IsFreeBit, page_block, page_form}
+use Rattle.adf_blocks.proofs.LaidLaws.{length-laid, words_of_field}
+
+-- a page is a whole block
+pub length_page_block : (bits : List ℕ) → length bits ≡ 127 → length (page_block bits) ≡ 512
+unfolding page_block
+length_page_block bits n =
+    let m = length_longs bits in
+    let len = length-laid 512 ((4 * 1, longs bits) ∷ []) (omega arith) (omega arith, tt) in
+    length-with_bytes (laid ((4 * 1, longs bits) ∷ [])) (4 * 0) (long (checksum 0 (laid ((4 * 1, longs bits) ∷ [])))) (omega (arith, length_big_bytes 4 (checksum 0 (laid ((4 * 1, longs bits) ∷ []))))) ∙ len
+
+-- the sum of a page
+pub page_block-sum : (bits : List ℕ) → length bits ≡ 127 → long_sum (page_block bits) ≡ 0
+unfolding page_block
+page_block-sum bits n =
+    let m = length_longs bits in
+    long_sum-sealed 0 (laid ((4 * 1, longs bits) ∷ [])) (omega arith) (length-laid 512 ((4 * 1, longs bits) ∷ []) (omega arith) (omega arith, tt))
+
+-- a word of a page's bits
+pub page_block-word : (bits : List ℕ) (i : ℕ) → length bits ≡ 127 → i < 127 → slice_index bits i < 2 ^ 32 → word (page_block bits) (1 + i) ≡ slice_index bits i
+unfolding page_block
+page_block-word bits i n lt small =
+    let m = length_longs bits in
+    words_of_field 0 ((4 * 1, longs bits) ∷ []) 0 1 i bits (omega arith) (omega arith, tt) (omega arith) refl (omega arith) (omega arith) small
+
+-- a bit of a page
+pub page_block-bit : (bits : List ℕ) (bit : ℕ) → length bits ≡ 127 → bit < 4064 → slice_index bits (bit / 32) < 2 ^ 32
+    → IsFreeBit (page_block bits) bit ↔ IsBitSet (slice_index bits (bit / 32)) (bit % 32)
+page_block-bit bits bit n lt small =
+    let there = page_block-word bits (bit / 32) n (omega arith) small in
+    rw there (λ set. set, λ set. set)
+
+-- a page that was written is read
+pub page_block-form : (bits : List ℕ) → length bits ≡ 127 → first_cause (page_form (page_block bits)) ≡ None
+page_block-form bits n = rw (page_block-sum bits n) refl
+
+-- a page that was written into an image is read there
+pub written_page_form : (image : List ℕ) (b : ℕ) (bits : List ℕ) → length bits ≡ 127 → b * 512 + 512 ≤ length image
+    → first_cause (page_form (block (with_block image b (page_block bits)) b)) ≡ None
+written_page_form image b bits n room = rw (block_written image b (page_block bits) room (length_page_block bits n), page_block-sum bits n) refl

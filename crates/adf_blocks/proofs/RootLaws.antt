@@ -1,0 +1,91 @@
+-- What the block of a root holds.
+use Rattle.std.proofs.Common.{◌≡◌, ◌≤◌, ◌<◌, ℕ, ◌+◌, ◌*◌, ◌^◌, List, length, refl, sym, ◌∙◌, arith, inl, inr}
+use Rattle.std.specs.Prelude.{None, true, nat_le, slice_index}
+use Rattle.std.proofs.lemmas.Bool.{le-leb, cases_lt}
+use Rattle.std.proofs.lemmas.List.{get_or_past}
+use Rattle.adf_fields.specs.Words.{block, word, with_block, long_sum}
+use Rattle.adf_fields.proofs.WordLaws.{length_longs, block_written}
+use Rattle.adf_blocks.specs.Forms.{first_cause, text_at}
+use Rattle.adf_blocks.specs.Fields.{Descends}
+use Rattle.adf_blocks.specs.RootBlock.{FitsRoot, FitsStamps, RootFields, root_block, root_form, root_table, stamps_at}
+use Rattle.adf_blocks.proofs.LaidLaws.{length_sealed_laid, stamp_of_field, sum_of_laid, text_of_field, word_between, word_of_field, words_of_field}
+
+-- the fields of a root fit side by side
+pub root_descends : (r : RootFields) → FitsRoot r → Descends 512 (root_table r)
+root_descends r h =
+    let slots = length_longs r.slots in
+    let pages = length_longs r.pages in
+    (omega arith, (omega arith, (omega arith, (omega (arith, h.label), (omega arith, (omega (arith, h.pages), (omega arith, (omega (arith, h.slots), (omega arith, (omega arith, tt))))))))))
+
+-- the words of a root
+pub root_block-sum : (r : RootFields) → FitsRoot r → long_sum (root_block r) ≡ 0
+unfolding root_block
+root_block-sum r h = sum_of_laid (root_table r) (root_descends r h)
+
+pub root_block-type : (r : RootFields) → FitsRoot r → word (root_block r) 0 ≡ 2
+unfolding root_block
+root_block-type r h = word_of_field (root_table r) 9 0 2 (root_descends r h) (omega arith) refl (omega arith) (omega arith)
+
+pub root_block-secondary : (r : RootFields) → FitsRoot r → word (root_block r) 127 ≡ 1
+unfolding root_block
+root_block-secondary r h = word_of_field (root_table r) 0 127 1 (root_descends r h) (omega arith) refl (omega arith) (omega arith)
+
+pub root_block-valid : (r : RootFields) → FitsRoot r → word (root_block r) 78 ≡ 0xFFFFFFFF
+unfolding root_block
+root_block-valid r h = word_of_field (root_table r) 6 78 0xFFFFFFFF (root_descends r h) (omega arith) refl (omega arith) (omega arith)
+
+-- a slot of a root
+pub root_block-slot : (r : RootFields) (s : ℕ) → FitsRoot r → s < 72 → slice_index r.slots s < 2 ^ 32 → word (root_block r) (6 + s) ≡ slice_index r.slots s
+unfolding root_block
+root_block-slot r s h lt small = words_of_field 5 (root_table r) 7 6 s r.slots (omega arith) (root_descends r h) (omega arith) refl (omega (arith, h.slots)) (omega arith) small
+
+pub root_block-hash_size : (r : RootFields) → FitsRoot r → word (root_block r) 3 ≡ 72
+unfolding root_block
+root_block-hash_size r h = word_of_field (root_table r) 8 3 72 (root_descends r h) (omega arith) refl (omega arith) (omega arith)
+
+pub root_block-label : (r : RootFields) → FitsRoot r → (slice_index (root_block r) 432 ≡ length r.label) × (text_at (root_block r) 432 ≡ r.label)
+unfolding root_block
+root_block-label r h = text_of_field (root_table r) 3 432 r.label (root_descends r h) (omega arith) refl (omega arith)
+
+-- the text of a root's label
+pub root_block-text : (r : RootFields) → FitsRoot r → text_at (root_block r) 432 ≡ r.label
+root_block-text r h = (root_block-label r h).1
+
+-- the bitmap pages of a root, or 0 past the last
+pub root_block-page : (r : RootFields) (i : ℕ) → FitsRoot r → i < 25 → slice_index r.pages i < 2 ^ 32 → word (root_block r) (79 + i) ≡ slice_index r.pages i
+unfolding root_block
+root_block-page r i h lt small = elim (cases_lt i (length r.pages)) [
+  | inl in_pages ↦ words_of_field 5 (root_table r) 5 79 i r.pages (omega arith) (root_descends r h) (omega arith) refl in_pages (omega arith) small
+  | inr past ↦
+      let pages = length_longs r.pages in
+      let slots = length_longs r.slots in
+      word_between (root_table r) (79 + i) (root_descends r h) (omega arith)
+      (inl (omega arith), (inl (omega arith), (inl (omega arith), (inl (omega arith), (inl (omega arith), (inr (omega arith), (inr (omega arith), (inr (omega (arith, h.slots)), (inr (omega arith), (inr (omega arith), tt))))))))))
+      (omega arith)
+      ∙ sym (get_or_past r.pages i 0 past)
+]
+
+-- the dates of a root
+pub root_block-stamps : (r : RootFields) → FitsRoot r → FitsStamps r.stamps → stamps_at (root_block r) ≡ r.stamps
+unfolding root_block
+root_block-stamps r h fits =
+    let root = stamp_of_field (root_table r) 4 105 r.stamps.root (root_descends r h) (omega arith) refl (omega arith) fits.root in
+    let altered = stamp_of_field (root_table r) 2 118 r.stamps.altered (root_descends r h) (omega arith) refl (omega arith) fits.altered in
+    let created = stamp_of_field (root_table r) 1 121 r.stamps.created (root_descends r h) (omega arith) refl (omega arith) fits.created in
+    rw (root, altered, created) refl
+
+-- a root that was written is read
+pub root_block-form : (r : RootFields) → FitsRoot r → first_cause (root_form (root_block r)) ≡ None
+root_block-form r h =
+    let len : nat_le (slice_index (root_block r) 432) 30 ≡ true = le-leb (slice_index (root_block r) 432) 30 (omega (arith, (root_block-label r h).0, h.label)) in
+    rw (root_block-sum r h, root_block-type r h, root_block-secondary r h, len, root_block-hash_size r h, root_block-valid r h) refl
+
+-- a root is a whole block
+pub length_root_block : (r : RootFields) → FitsRoot r → length (root_block r) ≡ 512
+unfolding root_block
+length_root_block r h = length_sealed_laid (root_table r) (root_descends r h)
+
+-- a root that was written into an image is read there
+pub written_root_form : (image : List ℕ) (b : ℕ) (r : RootFields) → FitsRoot r → b * 512 + 512 ≤ length image
+    → first_cause (root_form (block (with_block image b (root_block r)) b)) ≡ None
+written_root_form image b r h room = rw (block_written image b (root_block r) room (length_root_block r h)) (root_block-form r h)
