@@ -44,6 +44,7 @@ pub fn read_data<'a>(
 }
 
 /// What an OFS data block is to hold.
+#[derive(Drop)]
 pub struct DataOut<'a> {
     /// The block of its file's header.
     pub head: u32,

@@ -67,6 +67,7 @@ impl Ext<'_> {
 }
 
 /// What an extension block is to hold.
+#[derive(Drop)]
 pub struct ExtOut<'a> {
     /// The block that it is written to.
     pub own: u32,

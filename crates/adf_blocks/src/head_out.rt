@@ -19,20 +19,22 @@ use adf_fields::{put_block, put_word, put_words, put_words_down, seal_block};
 use adf_tree::{Meta, Name};
 
 /// What a header is to hold.
-pub struct HeadOut<'a> {
+#[derive(Drop)]
+pub struct HeadOut<'n, 'm, 't> {
     /// The block that it is written to.
     pub own: u32,
     /// The block of its directory.
     pub parent: u32,
     /// The next header of its chain, or 0.
     pub next: u32,
-    pub name: &'a Name,
-    pub meta: &'a Meta,
-    pub body: HeadOutBody<'a>,
+    pub name: &'n Name,
+    pub meta: &'m Meta,
+    pub body: HeadOutBody<'t>,
 }
 
 /// What a header is to hold by its type.
-pub enum HeadOutBody<'a> {
+#[derive(Drop)]
+pub enum HeadOutBody<'t> {
     /// A directory: the first header of each slot's chain, or 0.
     Dir {
         slots: [u32; 72],
@@ -40,7 +42,7 @@ pub enum HeadOutBody<'a> {
     /// A file: its size in bytes, its first data blocks, at most 72, and its first extension block or 0.
     File {
         size: u32,
-        table: &'a [u32],
+        table: &'t [u32],
         ext: u32,
     },
 }
@@ -111,7 +113,7 @@ fn secondary(body: &HeadOutBody<'_>) -> u32
 
 // The 512 bytes of a header.
 #[tactic(auto, unfolding(crate::specs::HeadBlock::head_block))]
-fn head_bytes(h: &HeadOut<'_>) -> [u8; 512]
+fn head_bytes(h: &HeadOut<'_, '_, '_>) -> [u8; 512]
     requires { FitsTable (body_fields h.now.body) }
     ensures exact { result ≡ head_block (head_fields h.now) }
     ensures fits { FitsHead (head_fields h.now) }
@@ -138,7 +140,7 @@ fn head_bytes(h: &HeadOut<'_>) -> [u8; 512]
 
 /// Writes the header of a directory or a file over all of block `b` of an image.
 #[tactic(auto, using(crate::proofs::HeadLaws::written_head_form))]
-pub fn write_head(image: &mut [u8], b: u32, h: &HeadOut<'_>)
+pub fn write_head(image: &mut [u8], b: u32, h: &HeadOut<'_, '_, '_>)
     requires whole { b * 512 + 512 ≤ length image.old }
     requires table { FitsTable (body_fields h.now.body) }
     ensures exact { image.new ≡ with_block image.old b (head_block (head_fields h.now)) }

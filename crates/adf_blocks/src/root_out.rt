@@ -15,18 +15,18 @@ use adf_tree::{Label, Stamps};
 
 /// What a root is to hold.
 #[derive(Drop)]
-pub struct RootOut<'a> {
+pub struct RootOut<'p, 'l> {
     /// The first header of each slot's chain, or 0.
     pub slots: [u32; 72],
     /// The bitmap pages, at most 25.
-    pub pages: &'a [u32],
-    pub label: &'a Label,
+    pub pages: &'p [u32],
+    pub label: &'l Label,
     pub stamps: Stamps,
 }
 
 // The 512 bytes of a root.
 #[tactic(auto, unfolding(crate::specs::RootBlock::root_block))]
-fn root_bytes(r: &RootOut<'_>) -> [u8; 512]
+fn root_bytes(r: &RootOut<'_, '_>) -> [u8; 512]
     requires { length r.now.pages.now ≤ 25 }
     ensures exact { result ≡ root_block (root_fields r.now) }
     ensures fits { FitsRoot (root_fields r.now) }
@@ -48,7 +48,7 @@ fn root_bytes(r: &RootOut<'_>) -> [u8; 512]
 
 /// Writes the root of a volume over all of block `b` of an image.
 #[tactic(auto, using(crate::proofs::RootLaws::written_root_form))]
-pub fn write_root(image: &mut [u8], b: u32, r: &RootOut<'_>)
+pub fn write_root(image: &mut [u8], b: u32, r: &RootOut<'_, '_>)
     requires whole { b * 512 + 512 ≤ length image.old }
     requires pages { length r.now.pages.now ≤ 25 }
     ensures exact { image.new ≡ with_block image.old b (root_block (root_fields r.now)) }
