@@ -1,0 +1,205 @@
+-- There is one first fault.
+use Rattle.std.proofs.Common.{◌≡◌, ℕ, zero, suc, List, [], ◌∷◌, ◌++◌, ◌⊎◌, inl, inr, ◌+◌, ◌-◌, ◌*◌, ◌/◌, ◌<◌, length, refl, sym, ap, subst, ◌∙◌, arith}
+use native.Mathlib.Decide.{dec_lt, ℕ_discrete}
+use Rattle.adf_blocks.specs.declared.cause.Cause.{Cause}
+use Rattle.adf_volume.specs.Image.{word_in, root_of}
+use Rattle.adf_blocks.specs.Sizes.{blocks}
+use Rattle.adf_volume.specs.Demands.{Demand, FirstFails, boot_demands, root_demands}
+use Rattle.adf_volume.specs.Walk.{Role, first, second, third, Before, Same, Has, heads, DirAt, FileAt, MemberAt, NamesPage, Asks, IsDue, NoCause, demands, bitmap_demands, IsWalk, IsWhole, FirstFault}
+use Rattle.adf_volume.specs.Walk.Role.{Root, Page, MapExt, Head, Ext, Data}
+use Rattle.adf_volume.specs.Walk.IsWalk.{start, step}
+use Rattle.adf_volume.specs.Walk.FirstFault.{at_boot, at_due, at_bitmap}
+use Rattle.adf_volume.proofs.Lists.{fails_not_all}
+use Rattle.adf_volume.proofs.Walks.{same_role, asks_number, one_block, one_node, one_head}
+use Rattle.adf_volume.proofs.Rising.{before_total}
+
+fails_one : (xs : List Demand) (b : ℕ) (c : Cause) (b' : ℕ) (c' : Cause) → FirstFails xs b c → FirstFails xs b' c' → (b ≡ b') × (c ≡ c')
+fails_one [] b c b' c' h k = absurd h
+fails_one (x ∷ xs) b c b' c' (inl h) (inl k) = (sym h.1 ∙ k.1, sym h.2 ∙ k.2)
+fails_one (x ∷ xs) b c b' c' (inl h) (inr k) = absurd (h.0 k.0)
+fails_one (x ∷ xs) b c b' c' (inr h) (inl k) = absurd (k.0 h.0)
+fails_one (x ∷ xs) b c b' c' (inr h) (inr k) = fails_one xs b c b' c' h.1 k.1
+
+module _ (image : List ℕ) where
+  file_one : (w : List (Role × ℕ)) → IsWalk image w → (n a b : ℕ) → FileAt image w n a → FileAt image w n b → a ≡ b
+  file_one w v n a b f g = (one_head image v n f.0.0 f.0.1 f.0.2 a g.0.0 g.0.1 g.0.2 b f.0.3 g.0.3).1
+
+  dir_one : (w : List (Role × ℕ)) → IsWalk image w → (p a b : ℕ) → DirAt image w p a → DirAt image w p b → a ≡ b
+  dir_one w v zero a b h k = one_node image v 0 a b h k
+  dir_one w v (suc i) a b h k = one_node image v (suc i) a b h.0 k.0
+
+  member_one : (w : List (Role × ℕ)) → IsWalk image w → (n m a b : ℕ) → MemberAt image w n m a → MemberAt image w n m b → a ≡ b
+  member_one w v n zero a b h k = file_one w v n a b h k
+  member_one w v n (suc m) a b h k = (one_block image v (Ext n (suc m)) (Ext n (suc m)) a b h k (refl, refl, refl)).1
+
+  names_one : (w : List (Role × ℕ)) → IsWalk image w → (n a i b j : ℕ) → NamesPage image w n a i → NamesPage image w n b j → (a ≡ b) × (i ≡ j)
+  names_one w v n a i b j (inl h) (inl k) = (h.1 ∙ sym k.1, h.2 ∙ sym k.2)
+  names_one w v n a i b j (inl h) (inr k) = let x : n < 25 = h.0 in let y : n ≡ 25 + 127 * k.0 + j = k.3 in absurd (omega arith)
+  names_one w v n a i b j (inr h) (inl k) = let x : n < 25 = k.0 in let y : n ≡ 25 + 127 * h.0 + i = h.3 in absurd (omega arith)
+  names_one w v n a i b j (inr h) (inr k) =
+      let x : n ≡ 25 + 127 * h.0 + i = h.3 in
+      let y : n ≡ 25 + 127 * k.0 + j = k.3 in
+      let li : i < 127 = h.2 in
+      let lj : j < 127 = k.2 in
+      let e : h.0 ≡ k.0 = omega arith in
+      let f : i ≡ j = omega arith in
+      let k1 : Has w (MapExt h.0) b = subst (λ x. Has w (MapExt x) b) (sym e) k.1 in
+      ((one_block image v (MapExt h.0) (MapExt h.0) a b h.1 k1 (refl, refl, refl)).1, f)
+
+  asks_one : (w : List (Role × ℕ)) → IsWalk image w → (r : Role) (a i b j : ℕ) → Asks image w r a i → Asks image w r b j → (a ≡ b) × (i ≡ j)
+  asks_one w v Root a i b j h k = absurd h
+  asks_one w v (Page n) a i b j h k = names_one w v n a i b j h.1 k.1
+  asks_one w v (MapExt zero) a i b j h k = (h.1 ∙ sym k.1, h.2 ∙ sym k.2)
+  asks_one w v (MapExt (suc x)) a i b j h k = ((one_block image v (MapExt x) (MapExt x) a b h.1 k.1 (refl, refl, refl)).1, h.2 ∙ sym k.2)
+  asks_one w v (Head n p s zero) a i b j h k = (dir_one w v p a b h.2 k.2, h.3 ∙ sym k.3)
+  asks_one w v (Head n p s (suc x)) a i b j h k = ((one_block image v (Head h.1.0 p s x) (Head k.1.0 p s x) a b h.1.1 k.1.1 (refl, refl, refl)).1, h.2 ∙ sym k.2)
+  asks_one w v (Ext n zero) a i b j h k = absurd h
+  asks_one w v (Ext n (suc zero)) a i b j h k = (file_one w v n a b h.0 k.0, h.1 ∙ sym k.1)
+  asks_one w v (Ext n (suc (suc x))) a i b j h k = ((one_block image v (Ext n (suc x)) (Ext n (suc x)) a b h.0 k.0 (refl, refl, refl)).1, h.1 ∙ sym k.1)
+  asks_one w v (Data n zero) a i b j h k = absurd h
+  asks_one w v (Data n (suc x)) a i b j h k = (member_one w v n (x / 72) a b h.1 k.1, h.2 ∙ sym k.2)
+
+  number_is : (w : List (Role × ℕ)) (r : Role) (a i n p s j : ℕ) → Asks image w r a i → r ≡ Head n p s j → n ≡ suc (heads w)
+  number_is w r a i n p s j h e = asks_number image w n p s j a i (subst (λ r. Asks image w r a i) e h)
+
+  -- one role is due, by one word
+  due_one : (w : List (Role × ℕ)) → IsWalk image w → (r q : Role) (a i b j : ℕ) → IsDue image w r a i → IsDue image w q b j → (r ≡ q) × (a ≡ b) × (i ≡ j)
+  due_one w v r q a i b j d e =
+      let same : Same r q = total r q (e.least r a i d.asked d.lacks) (d.least q b j e.asked e.lacks) in
+      let z : r ≡ q = same_role r q same (λ n m p s k f g. number_is w r a i n p s k d.asked f ∙ sym (number_is w q b j m p s k e.asked g)) in
+      let x = asks_one w v q a i b j (subst (λ r. Asks image w r a i) z d.asked) e.asked in
+      (z, x.0, x.1)
+    where
+      dec_same : (r q : Role) → Dec (Same r q)
+      dec_same r q = elim (ℕ_discrete (first r) (first q)) [
+        | no n ↦ no (λ s. n s.0)
+        | yes e ↦ elim (ℕ_discrete (second r) (second q)) [
+          | no n ↦ no (λ s. n s.1)
+          | yes f ↦ elim (ℕ_discrete (third r) (third q)) [ no n ↦ no (λ s. n s.2) | yes g ↦ yes (e, f, g) ]
+        ]
+      ]
+
+      total : (r q : Role) → (Before r q → ⊥) → (Before q r → ⊥) → Same r q
+      total r q x y = elim (dec_same r q) [ yes s ↦ s | no s ↦ absurd (x (before_total r q y s)) ]
+
+  -- the last step of a walk
+  record Step (w w' : List (Role × ℕ)) : Type 0 where
+    role : Role
+    at : ℕ
+    index : ℕ
+    due : IsDue image w role at index
+    fine : NoCause image w role at (word_in image at index)
+    same : w' ≡ (role, word_in image at index) ∷ w
+
+  -- of two walks, one goes on from the other: they are the same, or a step leads on from the shorter one
+  Comparable : List (Role × ℕ) → List (Role × ℕ) → Type 0
+  Comparable w u = (w ≡ u) ⊎ (((x : List (Role × ℕ)) × Step w x × IsWalk image x) ⊎ ((x : List (Role × ℕ)) × Step u x × IsWalk image x))
+
+  same_walks : {w u : List (Role × ℕ)} → IsWalk image w → IsWalk image u → length w ≡ length u → w ≡ u
+  same_walks start start e = refl
+  same_walks start (step v d f n) e = absurd (not_empty v (omega arith))
+    where
+      not_empty : {w : List (Role × ℕ)} → IsWalk image w → length w ≡ 0 → ⊥
+      not_empty start e = omega arith
+      not_empty (step v d f n) e = omega arith
+  same_walks (step v d f n) start e = absurd (not_empty v (omega arith))
+    where
+      not_empty : {w : List (Role × ℕ)} → IsWalk image w → length w ≡ 0 → ⊥
+      not_empty start e = omega arith
+      not_empty (step v d f n) e = omega arith
+  same_walks (step {w = w} {r = r} {b = b} {a = a} {i = i} v d f n) (step {w = u} {r = q} {b = c} {a = a'} {i = i'} v' d' f' n') e =
+      let z : w ≡ u = same_walks v v' (omega arith) in
+      let d2 : IsDue image u r a i = subst (λ w. IsDue image w r a i) z d in
+      let x = due_one u v' r q a i a' i' d2 d' in
+      let y : b ≡ c = sym f ∙ ap (λ a. word_in image a i) x.1 ∙ ap (word_in image a') x.2 ∙ f' in
+      λ t. (x.0 t, y t) ∷ z t
+
+  -- from the shorter of two walks a step leads on
+  goes_on : {u : List (Role × ℕ)} → IsWalk image u → (w : List (Role × ℕ)) → IsWalk image w → length w < length u → (x : List (Role × ℕ)) × Step w x
+  goes_on start w v l = absurd (not_empty v (omega arith))
+    where
+      not_empty : {w : List (Role × ℕ)} → IsWalk image w → length w ≡ 0 → ⊥
+      not_empty start e = omega arith
+      not_empty (step v d f n) e = omega arith
+  goes_on (step {w = u} {r = r} {b = b} {a = a} {i = i} v d f n) w vw l =
+      elim (dec_lt (length w) (length u)) [
+        | yes k ↦ goes_on v w vw k
+        | no k ↦
+            let z : u ≡ w = same_walks v vw (omega arith) in (
+              (r, word_in image a i) ∷ w,
+              record {
+                role = r;
+                at = a;
+                index = i;
+                due = subst (λ w. IsDue image w r a i) z d;
+                fine = subst (λ w. NoCause image w r a (word_in image a i)) z (subst (NoCause image u r a) (sym f) n);
+                same = refl;
+              },
+            )
+      ]
+
+  -- what is due after a walk has a cause, or a step leads on, and not both
+  no_step : (w x : List (Role × ℕ)) (r : Role) (a i b : ℕ) (c : Cause) → IsWalk image w → IsDue image w r a i → FirstFails (demands image w r a (word_in image a i)) b c → Step w x → ⊥
+  no_step w x r a i b c v d f s =
+      let z = due_one w v r s.role a i s.at s.index d s.due in
+      fails_not_all (demands image w s.role s.at (word_in image s.at s.index)) b c
+      (subst (λ r. FirstFails (demands image w r s.at (word_in image s.at s.index)) b c) z.0
+      (subst (λ i. FirstFails (demands image w r s.at (word_in image s.at i)) b c) z.2
+      (subst (λ a. FirstFails (demands image w r a (word_in image a i)) b c) z.1 f))) s.fine
+
+  whole_step : (w x : List (Role × ℕ)) → IsWhole image w → Step w x → ⊥
+  whole_step w x h s = h s.role s.at s.index s.due.asked s.due.lacks
+
+  two_due : (w u : List (Role × ℕ)) (r q : Role) (a i a' i' b : ℕ) (c : Cause) (b' : ℕ) (c' : Cause) → IsWalk image w → IsWalk image u → IsDue image w r a i → IsDue image u q a' i' →
+      FirstFails (demands image w r a (word_in image a i)) b c → FirstFails (demands image u q a' (word_in image a' i')) b' c' → (b ≡ b') × (c ≡ c')
+  two_due w u r q a i a' i' b c b' c' v v' d d' f f' =
+      elim (dec_lt (length w) (length u)) [
+        | yes l ↦ let s = goes_on v' w v l in absurd (no_step w s.0 r a i b c v d f s.1)
+        | no l ↦ elim (dec_lt (length u) (length w)) [
+          | yes k ↦ let s = goes_on v u v' k in absurd (no_step u s.0 q a' i' b' c' v' d' f' s.1)
+          | no k ↦
+              let z : w ≡ u = same_walks v v' (omega arith) in
+              let d2 : IsDue image u r a i = subst (λ w. IsDue image w r a i) z d in
+              let x = due_one u v' r q a i a' i' d2 d' in
+              fails_one (demands image u q a' (word_in image a' i')) b c b' c'
+              (subst (λ r. FirstFails (demands image u r a' (word_in image a' i')) b c) x.0
+              (subst (λ i. FirstFails (demands image u r a' (word_in image a' i)) b c) x.2
+              (subst (λ a. FirstFails (demands image u r a (word_in image a i)) b c) x.1
+              (subst (λ w. FirstFails (demands image w r a (word_in image a i)) b c) z f)))) f'
+        ]
+      ]
+
+  due_and_whole : (w u : List (Role × ℕ)) (r : Role) (a i b : ℕ) (c : Cause) → IsWalk image w → IsWalk image u → IsDue image w r a i → FirstFails (demands image w r a (word_in image a i)) b c → IsWhole image u → ⊥
+  due_and_whole w u r a i b c v v' d f h =
+      elim (dec_lt (length w) (length u)) [
+        | yes l ↦ let s = goes_on v' w v l in no_step w s.0 r a i b c v d f s.1
+        | no l ↦ elim (dec_lt (length u) (length w)) [
+          | yes k ↦ let s = goes_on v u v' k in whole_step u s.0 h s.1
+          | no k ↦
+              let z : w ≡ u = same_walks v v' (omega arith) in
+              let d2 : IsDue image u r a i = subst (λ w. IsDue image w r a i) z d in
+              h r a i d2.asked d2.lacks
+        ]
+      ]
+
+  two_whole : (w u : List (Role × ℕ)) → IsWalk image w → IsWalk image u → IsWhole image w → IsWhole image u → w ≡ u
+  two_whole w u v v' h k =
+      elim (dec_lt (length w) (length u)) [
+        | yes l ↦ let s = goes_on v' w v l in absurd (whole_step w s.0 h s.1)
+        | no l ↦ elim (dec_lt (length u) (length w)) [
+          | yes m ↦ let s = goes_on v u v' m in absurd (whole_step u s.0 k s.1)
+          | no m ↦ same_walks v v' (omega arith)
+        ]
+      ]
+
+  pub one_fault : (b : ℕ) (c : Cause) (b' : ℕ) (c' : Cause) → FirstFault image b c → FirstFault image b' c' → (b ≡ b') × (c ≡ c')
+  one_fault b c b' c' (at_boot f) (at_boot g) = fails_one (boot_demands image ++ root_demands image (root_of image)) b c b' c' f g
+  one_fault b c b' c' (at_boot f) (at_due h w r a i v d g) = absurd (fails_not_all (boot_demands image ++ root_demands image (root_of image)) b c f h)
+  one_fault b c b' c' (at_boot f) (at_bitmap h w v k g) = absurd (fails_not_all (boot_demands image ++ root_demands image (root_of image)) b c f h)
+  one_fault b c b' c' (at_due h w r a i v d g) (at_boot f) = absurd (fails_not_all (boot_demands image ++ root_demands image (root_of image)) b' c' f h)
+  one_fault b c b' c' (at_due h w r a i v d g) (at_due h' w' r' a' i' v' d' g') = two_due w w' r r' a i a' i' b c b' c' v v' d d' g g'
+  one_fault b c b' c' (at_due h w r a i v d g) (at_bitmap h' w' v' k' g') = absurd (due_and_whole w w' r a i b c v v' d g k')
+  one_fault b c b' c' (at_bitmap h w v k g) (at_boot f) = absurd (fails_not_all (boot_demands image ++ root_demands image (root_of image)) b' c' f h)
+  one_fault b c b' c' (at_bitmap h w v k g) (at_due h' w' r' a' i' v' d' g') = absurd (due_and_whole w' w r' a' i' b' c' v' v d' g' k)
+  one_fault b c b' c' (at_bitmap h w v k g) (at_bitmap h' w' v' k' g') =
+      fails_one (bitmap_demands image w' 2 (blocks image - 2)) b c b' c' (subst (λ w. FirstFails (bitmap_demands image w 2 (blocks image - 2)) b c) (two_whole w w' v v' k k') g) g'

@@ -1,0 +1,64 @@
+-- Facts on words and slots.
+use Rattle.std.proofs.Common.{◌≡◌, ℕ, suc, List, [], ◌∷◌, ◌+◌, ◌-◌, ◌/◌, ◌*◌, ◌<◌, ◌≤◌, arith, refl, sym, ◌∙◌, length, length-append, length-drop, length-take}
+use Rattle.std.proofs.lemmas.Bool.Decides.{nat_tests}
+use Rattle.std.specs.Prelude.{true}
+use Rattle.adf_fields.specs.Words.{block}
+use Rattle.adf_tree.proofs.Children.{same_slot}
+use Rattle.adf_tree.proofs.Kept.{slot_small}
+use Rattle.adf_volume.specs.Lists.{At}
+use Rattle.adf_fields.specs.Hash.{slot_of}
+use Rattle.adf_tree.specs.Texts.{uppers}
+use Rattle.adf_tree.specs.declared.entry.Kind.{Kind}
+use Rattle.adf_blocks.specs.Sizes.{blocks, is_allowed, pages_needed}
+use Rattle.adf_volume.specs.Image.{area, chunk, joined, count, content, word_in, map_exts_needed}
+use Rattle.adf_tree.specs.declared.entry.Kind.TheVariants.{Ofs, Ffs}
+
+pub slot_below : (name : List ℕ) → slot_of name < 72
+slot_below name = slot_small name
+
+-- equal names have equal slots
+pub slot_upper : (a b : List ℕ) → uppers a ≡ uppers b → slot_of a ≡ slot_of b
+slot_upper a b h = same_slot a b h
+
+-- an allowed size is at least 4
+pub four_blocks : (n : ℕ) → is_allowed n ≡ true → 4 ≤ n
+four_blocks n h = grind (arith, nat_tests)
+
+block_length : (image : List ℕ) (b : ℕ) → length image ≡ 512 * blocks image → b < blocks image → length (block image b) ≡ 512
+unfolding block
+block_length image b h l = simp (length-take, length-drop) (omega arith)
+
+area_length : (image : List ℕ) (k : Kind) (b : ℕ) → length image ≡ 512 * blocks image → b < blocks image → length (area k (block image b)) ≡ chunk k
+unfolding area chunk
+area_length image Ofs b h l = let z = block_length image b h l in simp (length-take, length-drop) (omega arith)
+area_length image Ffs b h l = let z = block_length image b h l in simp (length-take, length-drop) (omega arith)
+
+joined_length : (image : List ℕ) (k : Kind) (bs : List ℕ) → length image ≡ 512 * blocks image → ((i b : ℕ) → At bs i b → b < blocks image) → length (joined image k bs) ≡ chunk k * length bs
+joined_length image k [] h l = omega arith
+joined_length image k (b ∷ bs) h l =
+    let ih : length (joined image k bs) ≡ chunk k * length bs = joined_length image k bs h (λ i b z. l (suc i) b z) in
+    let a : length (area k (block image b)) ≡ chunk k = area_length image k b h (l 0 b refl) in
+    length-append (area k (block image b)) (joined image k bs) ∙ (omega arith)
+
+enough_bytes : (k : Kind) (size n : ℕ) → count k size ≡ n → size ≤ chunk k * n
+unfolding count chunk
+enough_bytes Ofs size n h = omega arith
+enough_bytes Ffs size n h = omega arith
+
+pub content_length : (image : List ℕ) (k : Kind) (h : ℕ) (bs : List ℕ) → length image ≡ 512 * blocks image → ((i b : ℕ) → At bs i b → b < blocks image) → length bs ≡ count k (word_in image h 81) → length (content image k h bs) ≡ word_in image h 81
+unfolding content
+content_length image k h bs z l c =
+    let j : length (joined image k bs) ≡ chunk k * length bs = joined_length image k bs z l in
+    let e : word_in image h 81 ≤ chunk k * length bs = enough_bytes k (word_in image h 81) (length bs) (sym c) in
+    simp length-take (omega arith)
+
+pub page_in : (n b : ℕ) → 2 ≤ b → b < n → (b - 2) / 4064 < pages_needed n
+page_in n b lo hi = omega arith
+
+pub map_exts_high : (p j : ℕ) → 25 + 127 * j < p → j < map_exts_needed p
+unfolding map_exts_needed
+map_exts_high p j h = omega arith
+
+pub map_exts_low : (p j : ℕ) → j < map_exts_needed p → 25 + 127 * j < p
+unfolding map_exts_needed
+map_exts_low p j h = omega arith

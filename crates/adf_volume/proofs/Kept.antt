@@ -1,0 +1,233 @@
+-- What each member of a walk was when it came, told of the walk as it is now.
+use Rattle.std.proofs.Common.{◌≡◌, ℕ, zero, suc, List, [], ◌∷◌, inl, inr, ◌+◌, ◌*◌, ◌/◌, ◌<◌, ◌≤◌, ◌≢◌, refl, sym, ap, subst, ◌∙◌, arith, Bool, true, false, cond}
+use Rattle.std.specs.Prelude.{nat_lt}
+use Rattle.std.proofs.lemmas.Bool.Decides.{nat_tests}
+use native.Mathlib.Decide.{dec_le}
+use Rattle.adf_blocks.specs.declared.cause.Cause.TheVariants.{SameName}
+use Rattle.adf_volume.specs.Image.{word_in, root_of, kind_of, held, table_word, name_of}
+use Rattle.adf_blocks.specs.Sizes.{blocks, pages_needed}
+use Rattle.adf_tree.specs.Texts.{uppers}
+use Rattle.adf_volume.specs.Demands.{demand, AllHold, page_demands, head_demands, ext_demands, data_demands}
+use Rattle.adf_volume.specs.Walk.{Role, second, Has, NodeAt, DirAt, FileAt, MemberAt, NamesPage, data_count, Asks, IsDue, ext_count_of, ext_count, node_block, member_block, next_data, form_demands, NewName, NoCause, IsWalk}
+use Rattle.adf_volume.specs.Walk.Role.{Root, Page, MapExt, Head, Ext, Data}
+use Rattle.adf_volume.specs.Walk.IsWalk.{start, step}
+use Rattle.adf_volume.proofs.Lists.{all_split}
+use Rattle.adf_volume.proofs.Walks.{node_is, member_is, file_is, due_file, ext_counted, count_up, dec_has, has_role}
+
+-- the word that names a header
+abbrev pub HeadNamed : List ℕ → List (Role × ℕ) → ℕ → ℕ → ℕ → ℕ → Type 0
+HeadNamed image w p s zero b = (a : ℕ) × DirAt image w p a × (word_in image a (6 + s) ≡ b)
+HeadNamed image w p s (suc j) b = (m a : ℕ) × Has w (Head m p s j) a × (word_in image a 124 ≡ b)
+
+abbrev pub ExtNamed : List ℕ → List (Role × ℕ) → ℕ → ℕ → ℕ → Type 0
+ExtNamed image w n zero b = (a : ℕ) × FileAt image w n a × (word_in image a 126 ≡ b)
+ExtNamed image w n (suc k) b = (a : ℕ) × Has w (Ext n (suc k)) a × (word_in image a 126 ≡ b)
+
+-- x is the word that names data block k + 1 of the file with header h, or 0 where it has no such block
+pub record IsNext (image : List ℕ) (w : List (Role × ℕ)) (n k h x : ℕ) : Type 0 where
+  pub inner : k < data_count image h → (c : ℕ) × MemberAt image w n (k / 72) c × (x ≡ word_in image c (table_word k))
+  pub last : data_count image h ≤ k → x ≡ 0
+
+abbrev pub Kept : List ℕ → List (Role × ℕ) → Role → ℕ → Type 0
+Kept image w Root b = Unit {0}
+Kept image w (Page k) b = (k < pages_needed (blocks image)) × ((a i : ℕ) × NamesPage image w k a i × (word_in image a i ≡ b)) × AllHold (page_demands image b)
+Kept image w (MapExt zero) b = (25 < pages_needed (blocks image)) × (word_in image (root_of image) 104 ≡ b)
+Kept image w (MapExt (suc j)) b = (25 + 127 * suc j < pages_needed (blocks image)) × ((a : ℕ) × Has w (MapExt j) a × (word_in image a 127 ≡ b))
+Kept image w (Head n p s j) b = (s < 72) × HeadNamed image w p s j b × ((c : ℕ) × DirAt image w p c × AllHold (head_demands image (kind_of image) b c s))
+Kept image w (Ext n zero) b = ⊥
+Kept image w (Ext n (suc k)) b = ExtNamed image w n k b × ((h : ℕ) × FileAt image w n h × AllHold (ext_demands image b h))
+Kept image w (Data n zero) b = ⊥
+Kept image w (Data n (suc k)) b = (h : ℕ) × FileAt image w n h × (k < data_count image h) × (data_count image h ≤ 72 * suc (ext_count w n))
+    × ((c : ℕ) × MemberAt image w n (k / 72) c × (word_in image c (table_word k) ≡ b))
+    × ((x : ℕ) × IsNext image w n (suc k) h x × AllHold (data_demands image (kind_of image) b h (suc k) (held (kind_of image) (word_in image h 81) (suc k)) x))
+
+less : (a b : ℕ) → nat_lt a b ≡ true → a < b
+less a b h = grind (arith, nat_tests)
+
+not_less : (a b : ℕ) → nat_lt a b ≡ false → b ≤ a
+not_less a b h = grind (arith, nat_tests)
+
+cond_true : (t : Bool) (a b : ℕ) → t ≡ true → cond t a b ≡ a
+cond_true true a b h = refl
+cond_true false a b h = cc
+
+cond_false : (t : Bool) (a b : ℕ) → t ≡ false → cond t a b ≡ b
+cond_false true a b h = cc
+cond_false false a b h = refl
+
+lt_test : (a b : ℕ) → a < b → nat_lt a b ≡ true
+lt_test a b h = grind (arith, nat_tests)
+
+ge_test : (a b : ℕ) → b ≤ a → nat_lt a b ≡ false
+ge_test a b h = grind (arith, nat_tests)
+
+same_number : (n m p s i j : ℕ) → Head n p s i ≡ Head m p s j → n ≡ m
+same_number n m p s i j h = cc
+
+module _ (image : List ℕ) where
+  pub dir_up : (w : List (Role × ℕ)) (x : Role × ℕ) (p a : ℕ) → DirAt image w p a → DirAt image (x ∷ w) p a
+  dir_up w x zero a h = inr h
+  dir_up w x (suc i) a h = ((h.0.0, h.0.1, h.0.2, inr h.0.3), h.1)
+
+  pub file_up : (w : List (Role × ℕ)) (x : Role × ℕ) (p a : ℕ) → FileAt image w p a → FileAt image (x ∷ w) p a
+  file_up w x p a h = ((h.0.0, h.0.1, h.0.2, inr h.0.3), h.1)
+
+  pub member_up : (w : List (Role × ℕ)) (x : Role × ℕ) (n m a : ℕ) → MemberAt image w n m a → MemberAt image (x ∷ w) n m a
+  member_up w x n zero a h = file_up w x n a h
+  member_up w x n (suc m) a h = inr h
+
+  pub names_up : (w : List (Role × ℕ)) (x : Role × ℕ) (k a i : ℕ) → NamesPage image w k a i → NamesPage image (x ∷ w) k a i
+  names_up w x k a i (inl h) = inl h
+  names_up w x k a i (inr h) = inr (h.0, inr h.1, h.2, h.3)
+
+  next_up : (w : List (Role × ℕ)) (x : Role × ℕ) (n k h y : ℕ) → IsNext image w n k h y → IsNext image (x ∷ w) n k h y
+  next_up w x n k h y z = record { inner = (λ u. let r = z.inner u in (r.0, member_up w x n (k / 72) r.0 r.1, r.2)); last = z.last }
+
+  kept_up : (w : List (Role × ℕ)) (x : Role × ℕ) (r : Role) (b : ℕ) → Kept image w r b → Kept image (x ∷ w) r b
+  kept_up w x Root b h = tt
+  kept_up w x (Page k) b h = (h.0, (h.1.0, h.1.1, names_up w x k h.1.0 h.1.1 h.1.2, h.1.3), h.2)
+  kept_up w x (MapExt zero) b h = h
+  kept_up w x (MapExt (suc j)) b h = (h.0, (h.1.0, inr h.1.1, h.1.2))
+  kept_up w x (Head n p s zero) b h = (h.0, (h.1.0, dir_up w x p h.1.0 h.1.1, h.1.2), (h.2.0, dir_up w x p h.2.0 h.2.1, h.2.2))
+  kept_up w x (Head n p s (suc j)) b h = (h.0, (h.1.0, h.1.1, inr h.1.2, h.1.3), (h.2.0, dir_up w x p h.2.0 h.2.1, h.2.2))
+  kept_up w x (Ext n zero) b h = absurd h
+  kept_up w x (Ext n (suc zero)) b h = ((h.0.0, file_up w x n h.0.0 h.0.1, h.0.2), (h.1.0, file_up w x n h.1.0 h.1.1, h.1.2))
+  kept_up w x (Ext n (suc (suc k))) b h = ((h.0.0, inr h.0.1, h.0.2), (h.1.0, file_up w x n h.1.0 h.1.1, h.1.2))
+  kept_up w x (Data n zero) b h = absurd h
+  kept_up w x (Data n (suc k)) b h =
+      let u : ext_count w n ≤ ext_count_of n x.0 (ext_count w n) = count_up n x.0 (ext_count w n) in
+      let y : data_count image h.0 ≤ 72 * suc (ext_count w n) = h.3 in
+      (h.0, file_up w x n h.0 h.1, h.2, omega arith, (h.4.0, member_up w x n (k / 72) h.4.0 h.4.1, h.4.2), (h.5.0, next_up w x n (suc k) h.0 h.5.0 h.5.1, h.5.2))
+
+  -- a header that is asked for has its directory
+  asks_dir : {w : List (Role × ℕ)} → ((r : Role) (b : ℕ) → Has w r b → Kept image w r b) → (n p s j a i : ℕ) → Asks image w (Head n p s j) a i → (s < 72) × ((c : ℕ) × DirAt image w p c)
+  asks_dir old n p s zero a i h = (h.1, (a, h.2))
+  asks_dir old n p s (suc j) a i h = let k = old (Head h.1.0 p s j) a h.1.1 in (k.0, (k.2.0, k.2.1))
+
+  pub dir_is_node : (w : List (Role × ℕ)) (p a : ℕ) → DirAt image w p a → NodeAt w p a
+  dir_is_node w zero a h = h
+  dir_is_node w (suc i) a h = h.0
+
+  module _ (w : List (Role × ℕ)) (v : IsWalk image w) (old : (r : Role) (b : ℕ) → Has w r b → Kept image w r b) where
+    pub there : (n m a : ℕ) → FileAt image w n a → m ≤ ext_count w n → (c : ℕ) × MemberAt image w n m c
+    there n zero a f u = (a, f)
+    there n (suc m) a f u = ext_counted image v n m (omega arith)
+
+    data_no_head : (n k : ℕ) → (x m p s j : ℕ) → Data n k ≡ Head x p s j → ⊥
+    data_no_head n k x m p s j z = let y : second (Data n k) ≡ second (Head x p s j) = ap second z in omega arith
+
+    -- a file whose data block is due has enough extension blocks
+    pub enough : (n k a i b h : ℕ) → IsDue image w (Data n (suc k)) a i → NoCause image w (Data n (suc k)) a b → FileAt image w n h → k < data_count image h → data_count image h ≤ 72 * suc (ext_count w n)
+    enough n zero a i b h d g f u = g.0 refl h f
+    enough n (suc k) a i b h d g f u =
+        elim (dec_has w (Data n 1)) [
+          | inr y ↦
+              let x : Has w (Data n 1) y.1 = has_role image w (Data n 1) (λ m p s j z. data_no_head n 1 m m p s j z) y.0 y.1 y.2 y.3 in
+              let kp = old (Data n 1) y.1 x in
+              let e : node_block w n ≡ h = file_is image w n h v f in
+              let e' : node_block w n ≡ kp.0 = file_is image w n kp.0 v kp.1 in
+              subst (λ h. data_count image h ≤ 72 * suc (ext_count w n)) (sym e' ∙ e) kp.3
+          | inl y ↦
+              absurd (d.least (Data n 1) h 77 ((h, f, omega arith), f, refl) y (omega arith, (λ z. omega arith), (λ z z'. omega arith)))
+        ]
+
+    form_of : (r : Role) (a b : ℕ) → NoCause image w r a b → AllHold (form_demands image w r b)
+    form_of r a b g = (all_split (form_demands image w r b) (demand SameName b (NewName image w r b) ∷ []) g.1.1.1).0
+
+    head_named : (n p s j a i b : ℕ) → Asks image w (Head n p s j) a i → word_in image a i ≡ b → HeadNamed image w p s j b
+    head_named n p s zero a i b h e = (a, h.2, ap (word_in image a) (sym h.3) ∙ e)
+    head_named n p s (suc j) a i b h e = (h.1.0, a, h.1.1, ap (word_in image a) (sym h.2) ∙ e)
+
+    ext_named : (n k a i b : ℕ) → Asks image w (Ext n (suc k)) a i → word_in image a i ≡ b → ExtNamed image w n k b
+    ext_named n zero a i b h e = (a, h.0, ap (word_in image a) (sym h.1) ∙ e)
+    ext_named n (suc k) a i b h e = (a, h.0, ap (word_in image a) (sym h.1) ∙ e)
+
+    next_is : (n k h : ℕ) → FileAt image w n h → node_block w n ≡ h → data_count image h ≤ 72 * suc (ext_count w n) → IsNext image w n k h (next_data image w n k)
+    next_is n k h f z en =
+        record {
+          inner = (λ u.
+              let m = there n (k / 72) h f (omega arith) in
+              let u' : nat_lt k (data_count image (node_block w n)) ≡ true = lt_test k (data_count image (node_block w n)) (subst (λ h. k < data_count image h) (sym z) u) in (
+                m.0,
+                m.1,
+                cond_true (nat_lt k (data_count image (node_block w n))) (word_in image (member_block w n (k / 72)) (table_word k)) 0 u'
+                    ∙ ap (λ b. word_in image b (table_word k)) (member_is image w n (k / 72) m.0 v m.1),
+              ));
+          last = (λ u.
+              cond_false (nat_lt k (data_count image (node_block w n))) (word_in image (member_block w n (k / 72)) (table_word k)) 0
+              (ge_test k (data_count image (node_block w n)) (subst (λ h. data_count image h ≤ k) (sym z) u)));
+        }
+
+    kept_new : (r : Role) (a i b : ℕ) → IsDue image w r a i → word_in image a i ≡ b → NoCause image w r a b → Kept image w r b
+    kept_new Root a i b d e g = tt
+    kept_new (Page k) a i b d e g =
+        (d.asked.0, (a, i, d.asked.1, e), form_of (Page k) a b g)
+    kept_new (MapExt zero) a i b d e g = (d.asked.0, ap (λ a. word_in image a 104) (sym d.asked.1) ∙ ap (word_in image a) (sym d.asked.2) ∙ e)
+    kept_new (MapExt (suc j)) a i b d e g = (d.asked.0, (a, d.asked.1, ap (word_in image a) (sym d.asked.2) ∙ e))
+    kept_new (Head n p s j) a i b d e g =
+        let ad = asks_dir old n p s j a i d.asked in
+        let c = ad.1 in
+        let z : node_block w p ≡ c.0 = node_is image w p c.0 v (dir_is_node w p c.0 c.1) in
+        (ad.0, head_named n p s j a i b d.asked e, (c.0, c.1, subst (λ c. AllHold (head_demands image (kind_of image) b c s)) z (form_of (Head n p s j) a b g)))
+    kept_new (Ext n zero) a i b d e g = absurd d.asked
+    kept_new (Ext n (suc k)) a i b d e g =
+        let f = due_file image w n (suc k) a i v d.asked in
+        let z : node_block w n ≡ f.0 = file_is image w n f.0 v f.1 in
+        (ext_named n k a i b d.asked e, (f.0, f.1, subst (λ h. AllHold (ext_demands image b h)) z (form_of (Ext n (suc k)) a b g)))
+    kept_new (Data n zero) a i b d e g = absurd d.asked
+    kept_new (Data n (suc k)) a i b d e g =
+        let f = d.asked.0 in
+        let z : node_block w n ≡ f.0 = file_is image w n f.0 v f.1 in
+        let en = enough n k a i b f.0 d g f.1 f.2 in (
+          f.0,
+          f.1,
+          f.2,
+          en,
+          (a, d.asked.1, ap (word_in image a) (sym d.asked.2) ∙ e),
+          (
+            next_data image w n (suc k),
+            next_is n (suc k) f.0 f.1 z en,
+            subst (λ h. AllHold (data_demands image (kind_of image) b h (suc k) (held (kind_of image) (word_in image h 81) (suc k)) (next_data image w n (suc k)))) z (form_of (Data n (suc k)) a b g),
+          ),
+        )
+
+  pub kept : {w : List (Role × ℕ)} → IsWalk image w → (r : Role) (b : ℕ) → Has w r b → Kept image w r b
+  kept start r b (inl e) = subst (λ r. Kept image ((Root, root_of image) ∷ []) r b) e.0 tt
+  kept start r b (inr h) = absurd h
+  kept (step {w = w} {r = q} {b = c} {a = a} {i = i} v d e g) r b (inl h) =
+      subst (λ r. Kept image ((q, c) ∷ w) r b) h.0 (subst (Kept image ((q, c) ∷ w) q) h.1 (kept_up w (q, c) q c (kept_new w v (kept v) q a i c d e g)))
+  kept (step {w = w} {r = q} {b = c} v d e g) r b (inr h) = kept_up w (q, c) r b (kept v r b h)
+
+  -- a bitmap extension block has all before it
+  pub map_ext_down : (w : List (Role × ℕ)) → IsWalk image w → (j i b : ℕ) → Has w (MapExt j) b → i ≤ j → (c : ℕ) × Has w (MapExt i) c
+  map_ext_down w v zero i b h l = let e : 0 ≡ i = omega arith in (b, subst (λ i. Has w (MapExt i) b) e h)
+  map_ext_down w v (suc j) i b h l =
+      elim (dec_le i j) [
+        | yes u ↦ let k = (kept v (MapExt (suc j)) b h).1 in map_ext_down w v j i k.0 k.1 u
+        | no u ↦ let e : suc j ≡ i = omega arith in (b, subst (λ i. Has w (MapExt i) b) e h)
+      ]
+
+  pub map_ext_low : (w : List (Role × ℕ)) (j b : ℕ) → IsWalk image w → Has w (MapExt j) b → 25 + 127 * j < pages_needed (blocks image)
+  map_ext_low w zero b v h = (kept v (MapExt 0) b h).0
+  map_ext_low w (suc j) b v h = (kept v (MapExt (suc j)) b h).0
+
+  -- equal names do not stand in one chain
+  pub new_names : {w : List (Role × ℕ)} → IsWalk image w → (n m p s i j b c : ℕ) → Has w (Head n p s i) b → Has w (Head m p s j) c → n ≢ m → uppers (name_of image b) ≢ uppers (name_of image c)
+  new_names start n m p s i j b c (inl e) h ne z = let x : second Root ≡ second (Head n p s i) = ap second e.0 in absurd (omega arith)
+  new_names start n m p s i j b c (inr e) h ne z = e
+  new_names (step {w = w} {r = q} {b = b'} {a = a} v d e g) n m p s i j b c (inl h) (inl k) ne z = absurd (let x : Head n p s i ≡ Head m p s j = sym h.0 ∙ k.0 in ne (same_number n m p s i j x))
+  new_names (step {w = w} {r = q} {b = b'} {a = a} v d e g) n m p s i j b c (inl h) (inr k) ne z =
+      let nn = (all_split (form_demands image w q b') (demand SameName b' (NewName image w q b') ∷ []) g.1.1.1).1.0 in
+      let nn' : NewName image w (Head n p s i) b = subst (λ r. NewName image w r b) h.0 (subst (NewName image w q) h.1 nn) in
+      nn' m j c k (sym z)
+  new_names (step {w = w} {r = q} {b = b'} {a = a} v d e g) n m p s i j b c (inr h) (inl k) ne z =
+      let nn = (all_split (form_demands image w q b') (demand SameName b' (NewName image w q b') ∷ []) g.1.1.1).1.0 in
+      let nn' : NewName image w (Head m p s j) c = subst (λ r. NewName image w r c) k.0 (subst (NewName image w q) k.1 nn) in
+      nn' n i b h z
+  new_names (step v d e g) n m p s i j b c (inr h) (inr k) ne z = new_names v n m p s i j b c h k ne z
+
+  pub in_range : {w : List (Role × ℕ)} → IsWalk image w → 4 ≤ blocks image → (r : Role) (b : ℕ) → Has w r b → (2 ≤ b) × (b < blocks image)
+  in_range start four r b (inl e) = let z : root_of image ≡ b = e.1 in omega arith
+  in_range start four r b (inr h) = absurd h
+  in_range (step v d e g) four r b (inl h) = subst (λ b. (2 ≤ b) × (b < blocks image)) h.1 g.1.0
+  in_range (step v d e g) four r b (inr h) = in_range v four r b h

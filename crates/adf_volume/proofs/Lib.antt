@@ -1,0 +1,17 @@
+pub mod Lists
+pub mod Told
+pub mod Images
+pub mod Ordered
+pub mod Trees
+pub mod Walks
+pub mod Parts
+pub mod Agree
+pub mod Whole
+pub mod Unique
+pub mod Refuse
+pub mod Rising
+pub mod Kept
+pub mod Made
+pub mod Owners
+pub mod Sound
+pub mod Alone

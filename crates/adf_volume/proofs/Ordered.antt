@@ -1,0 +1,110 @@
+-- The laws of a tree, entry by entry.
+use Rattle.std.proofs.Common.{◌≡◌, ℕ, zero, suc, ◌+◌, ◌-◌, ◌*◌, ◌<◌, ◌≤◌, ◌≢◌, length, sym, ap, subst, ◌∙◌, arith}
+use Rattle.std.specs.Prelude.{slice_index_or}
+use native.Mathlib.Decide.{dec_lt, ℕ_discrete}
+use Rattle.adf_fields.specs.Hash.{slot_of}
+use Rattle.adf_tree.specs.Texts.{uppers}
+use Rattle.adf_tree.specs.declared.entry.Entry.{Entry}
+use Rattle.adf_tree.specs.declared.entry.Body.TheVariants.{Dir}
+use Rattle.adf_tree.specs.Tree.{Tree, IsDir, IsTree, AreApart, rank}
+use Rattle.adf_volume.specs.Lists.{At}
+use Rattle.adf_volume.specs.Layout.{EntryAt}
+use Rattle.adf_volume.proofs.Images.{slot_below}
+use Rattle.adf_volume.proofs.Lists.{at_fun, at_below, at_some, at_index_or}
+
+-- node n is the root, or an entry that is a directory
+abbrev pub DirNode : Tree → ℕ → Type 0
+DirNode t zero = Unit {0}
+DirNode t (suc i) = (e : Entry) × At t.entries i e × (e.body ≡ Dir)
+
+-- what holds of the entries of a tree, by their numbers
+pub record Ordered (t : Tree) : Type 0 where
+  pub parents : (n : ℕ) (e : Entry) → EntryAt t n e → (e.parent < n) × DirNode t e.parent
+  pub order : (n m : ℕ) (e f : Entry) → EntryAt t n e → EntryAt t m f → n < m → (e.parent ≤ f.parent) × (e.parent ≡ f.parent → slot_of e.name ≤ slot_of f.name)
+  pub names : (n m : ℕ) (e f : Entry) → EntryAt t n e → EntryAt t m f → n ≢ m → e.parent ≡ f.parent → uppers e.name ≢ uppers f.name
+
+pub dir_node : (t : Tree) (p : ℕ) → IsDir t.entries p → DirNode t p
+dir_node t zero h = tt
+dir_node t (suc i) h =
+    let x = h (omega arith) in
+    let l : suc i ≤ length t.entries = x.0 in
+    let e = at_some t.entries i (omega arith) in
+    let z : suc i - 1 ≡ i = omega arith in
+    (e.0, e.1, ap (λ (y : Entry). y.body) (sym (at_index_or t.entries i e.0 e.0 e.1)) ∙ subst (λ k. (slice_index_or t.entries k e.0).body ≡ Dir) z (x.1 e.0))
+
+pub is_dir : (t : Tree) (p : ℕ) → DirNode t p → IsDir t.entries p
+is_dir t zero d = λ h. absurd (omega arith)
+is_dir t (suc i) d = λ h.
+    let l : i < length t.entries = at_below t.entries i d.0 d.1 in
+    let z : i ≡ suc i - 1 = omega arith in
+    (omega arith, λ x. subst (λ k. (slice_index_or t.entries k x).body ≡ Dir) z (ap (λ (y : Entry). y.body) (at_index_or t.entries i d.0 x d.1) ∙ d.2))
+
+rank_below : (p q s u : ℕ) → 72 * p + s ≤ 72 * q + u → s < 72 → u < 72 → (p ≤ q) × (p ≡ q → s ≤ u)
+rank_below p q s u h a b = (omega arith, λ e. omega arith)
+
+rank_up : (p q s u : ℕ) → p ≤ q → (p ≡ q → s ≤ u) → s < 72 → 72 * p + s ≤ 72 * q + u
+rank_up p q s u h f a = elim (ℕ_discrete p q) [ yes e ↦ let k : s ≤ u = f e in omega arith | no n ↦ omega arith ]
+
+module _ (t : Tree) (v : IsTree t.entries) where
+  parents_of : (n : ℕ) (e : Entry) → EntryAt t n e → (e.parent < n) × DirNode t e.parent
+  parents_of zero e h = absurd h
+  parents_of (suc i) e h =
+      let l : i < length t.entries = at_below t.entries i e h in
+      let z : slice_index_or t.entries i e ≡ e = at_index_or t.entries i e e h in
+      let x : (slice_index_or t.entries i e).parent ≤ i = v.parents i e l in
+      let y : e.parent ≤ i = subst (λ (f : Entry). f.parent ≤ i) z x in
+      (omega arith, dir_node t e.parent (subst (λ (f : Entry). IsDir t.entries f.parent) z (v.dirs i e l)))
+
+  order_of : (n m : ℕ) (e f : Entry) → EntryAt t n e → EntryAt t m f → n < m → (e.parent ≤ f.parent) × (e.parent ≡ f.parent → slot_of e.name ≤ slot_of f.name)
+  order_of zero m e f h k lt = absurd h
+  order_of (suc i) zero e f h k lt = absurd k
+  order_of (suc i) (suc j) e f h k lt =
+      let l : j < length t.entries = at_below t.entries j f k in
+      let x : rank (slice_index_or t.entries i e) ≤ rank (slice_index_or t.entries j e) = v.order i j e (omega arith) l in
+      let y : rank e ≤ rank f = subst (λ (g : Entry). rank e ≤ rank g) (at_index_or t.entries j f e k) (subst (λ (g : Entry). rank g ≤ rank (slice_index_or t.entries j e)) (at_index_or t.entries i e e h) x) in
+      rank_below e.parent f.parent (slot_of e.name) (slot_of f.name) y (slot_below e.name) (slot_below f.name)
+
+  apart : (i j : ℕ) (e f : Entry) → At t.entries i e → At t.entries j f → i < j → AreApart e f
+  apart i j e f h k lt =
+      let l : j < length t.entries = at_below t.entries j f k in
+      subst (λ (g : Entry). AreApart e g) (at_index_or t.entries j f e k) (subst (λ (g : Entry). AreApart g (slice_index_or t.entries j e)) (at_index_or t.entries i e e h) (v.names i j e lt l))
+
+  names_of : (n m : ℕ) (e f : Entry) → EntryAt t n e → EntryAt t m f → n ≢ m → e.parent ≡ f.parent → uppers e.name ≢ uppers f.name
+  names_of zero m e f h k ne p = absurd h
+  names_of (suc i) zero e f h k ne p = absurd k
+  names_of (suc i) (suc j) e f h k ne p =
+      elim (dec_lt i j) [
+        | yes l ↦ apart i j e f h k l p
+        | no l ↦ λ u. apart j i f e k h (omega arith) (sym p) (sym u)
+      ]
+
+  pub ordered : Ordered t
+  ordered = record { parents = parents_of; order = order_of; names = names_of }
+
+pub is_tree_from : (t : Tree) → Ordered t → IsTree t.entries
+is_tree_from t o = record {
+  parents = (λ i d l.
+      let e = at_some t.entries i l in
+      let x : e.0.parent < suc i = (o.parents (suc i) e.0 e.1).0 in
+      subst (λ (f : Entry). f.parent ≤ i) (sym (at_index_or t.entries i e.0 d e.1)) (omega arith));
+  dirs = (λ i d l.
+      let e = at_some t.entries i l in
+      subst (λ (f : Entry). IsDir t.entries f.parent) (sym (at_index_or t.entries i e.0 d e.1)) (is_dir t e.0.parent (o.parents (suc i) e.0 e.1).1));
+  order = (λ i j d le l.
+      let e = at_some t.entries i (omega arith) in
+      let f = at_some t.entries j l in
+      subst (λ (g : Entry). rank g ≤ rank (slice_index_or t.entries j d)) (sym (at_index_or t.entries i e.0 d e.1))
+      (subst (λ (g : Entry). rank e.0 ≤ rank g) (sym (at_index_or t.entries j f.0 d f.1)) (rises i j e.0 f.0 e.1 f.1 le)));
+  names = (λ i j d lt l.
+      let e = at_some t.entries i (omega arith) in
+      let f = at_some t.entries j l in
+      subst (λ (g : Entry). AreApart g (slice_index_or t.entries j d)) (sym (at_index_or t.entries i e.0 d e.1))
+      (subst (λ (g : Entry). AreApart e.0 g) (sym (at_index_or t.entries j f.0 d f.1)) (o.names (suc i) (suc j) e.0 f.0 e.1 f.1 (omega arith))));
+}
+  where
+    rises : (i j : ℕ) (e f : Entry) → At t.entries i e → At t.entries j f → i ≤ j → rank e ≤ rank f
+    rises i j e f h k le =
+        elim (dec_lt i j) [
+          | yes lt ↦ let x = o.order (suc i) (suc j) e f h k (omega arith) in rank_up e.parent f.parent (slot_of e.name) (slot_of f.name) x.0 x.1 (slot_below e.name)
+          | no lt ↦ let z : e ≡ f = at_fun t.entries i e f h (subst (λ m. At t.entries m f) (omega arith) k) in subst (λ (g : Entry). rank e ≤ rank g) z (omega arith)
+        ]

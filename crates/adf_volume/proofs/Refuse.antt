@@ -1,0 +1,47 @@
+-- Where there is a first fault, nothing fits.
+use Rattle.std.proofs.Common.{ℕ, zero, suc, List, ◌++◌, ◌+◌, ◌-◌, ◌/◌, ◌≤◌, arith}
+use Rattle.adf_blocks.specs.declared.cause.Cause.{Cause}
+use Rattle.adf_volume.specs.Lists.{In}
+use Rattle.adf_volume.specs.Image.{root_of, word_in}
+use Rattle.adf_blocks.specs.Sizes.{blocks}
+use Rattle.adf_volume.specs.Demands.{AllHold, boot_demands, root_demands}
+use Rattle.adf_tree.specs.Tree.{Tree}
+use Rattle.adf_volume.specs.Layout.{Layout, owned}
+use Rattle.adf_volume.specs.declared.owner.Owner.{Owner}
+use Rattle.adf_volume.specs.Fits.{Fits, IsFree}
+use Rattle.adf_volume.specs.Walk.{Role, IsAbsent, IsFreeIn, demands, bitmap_demands, IsWalk, IsWhole, FirstFault}
+use Rattle.adf_volume.specs.Walk.Role.{Page}
+use Rattle.adf_volume.specs.Walk.FirstFault.{at_boot, at_due, at_bitmap}
+use Rattle.adf_volume.specs.Parts.{owner_of}
+use Rattle.adf_volume.proofs.Images.{four_blocks}
+use Rattle.adf_volume.proofs.Lists.{all_append, fails_not_all}
+use Rattle.adf_volume.proofs.Parts.{part_owned, owned_part}
+use Rattle.adf_volume.proofs.Agree.{agreement, due_is_part}
+use Rattle.adf_volume.proofs.Whole.{part_walked}
+
+module _ (image : List ℕ) (t : Tree) (l : Layout) (fit : Fits image t l) (w : List (Role × ℕ)) (v : IsWalk image w) (whole : IsWhole image w) where
+  absent_of : (b : ℕ) → ((o : Owner) → In (owned image l) (o, b) → ⊥) → IsAbsent w b
+  absent_of b h q k = h (owner_of q) (part_owned image t l fit q b (agreement image t l fit w q b v k))
+
+  unowned_of : (b : ℕ) → IsAbsent w b → (o : Owner) → In (owned image l) (o, b) → ⊥
+  unowned_of b h o k = let r = owned_part image t l fit o b k in h r.0 (part_walked image t l fit w v whole r.0 b r.1)
+
+  free_of : (b : ℕ) → IsFree image l.pages b → IsFreeIn image w b
+  free_of b h = (h.0, part_walked image t l fit w v whole (Page ((b - 2) / 4064)) h.0 h.1, h.2)
+
+  free_in_of : (b : ℕ) → IsFreeIn image w b → IsFree image l.pages b
+  free_in_of b h = (h.0, agreement image t l fit w (Page ((b - 2) / 4064)) h.0 v h.1, h.2)
+
+  bitmap_holds : (b n : ℕ) → 2 ≤ b → b + n ≤ blocks image → AllHold (bitmap_demands image w b n)
+  bitmap_holds b zero lo hi = tt
+  bitmap_holds b (suc n) lo hi =
+      let f = fit.bitmap b lo (omega arith) in
+      ((λ a. free_of b (f.1 (unowned_of b a))), ((λ a. absent_of b (f.0 (free_in_of b a))), bitmap_holds (suc b) n (omega arith) (omega arith)))
+
+pub none_fits : (image : List ℕ) (b : ℕ) (c : Cause) (t : Tree) (l : Layout) → FirstFault image b c → Fits image t l → ⊥
+none_fits image b c t l (at_boot h) fit = fails_not_all (boot_demands image ++ root_demands image (root_of image)) b c h (all_append (boot_demands image) (root_demands image (root_of image)) fit.boots fit.root)
+none_fits image b c t l (at_due _ w r a i v d h) fit = fails_not_all (demands image w r a (word_in image a i)) b c h (due_is_part image t l fit w r a i v d).1
+none_fits image b c t l (at_bitmap _ w v whole h) fit =
+    let size = fit.boots.0 in
+    let s2 : 4 ≤ blocks image = four_blocks (blocks image) size.1 in
+    fails_not_all (bitmap_demands image w 2 (blocks image - 2)) b c h (bitmap_holds image t l fit w v whole 2 (blocks image - 2) (omega arith) (omega arith))

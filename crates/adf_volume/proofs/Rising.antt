@@ -1,0 +1,192 @@
+-- A walk rises: what is due comes after all that is there.
+use Rattle.std.proofs.Common.{◌≡◌, ℕ, zero, suc, List, [], ◌∷◌, ◌⊎◌, inl, inr, ◌+◌, ◌*◌, ◌/◌, ◌<◌, ◌≤◌, refl, sym, ap, subst, ◌∙◌, arith}
+use native.Mathlib.Decide.{dec_lt}
+use Rattle.adf_volume.specs.Image.{root_of}
+use Rattle.adf_volume.specs.Walk.{Role, first, second, third, Before, Same, Has, heads, DirAt, FileAt, MemberAt, NamesPage, Asks, Lacks, IsDue, IsWalk}
+use Rattle.adf_volume.specs.Walk.Role.{Root, Page, MapExt, Head, Ext, Data}
+use Rattle.adf_volume.specs.Walk.IsWalk.{start, step}
+use Rattle.adf_volume.proofs.Walks.{number_of, asks_number, same_refl}
+
+pub before_trans : (x y z : Role) → Before x y → Before y z → Before x z
+before_trans x y z h k =
+    let a1 : first x ≤ first y = h.0 in
+    let a2 : first y ≤ first z = k.0 in (
+      omega arith,
+      (λ e. let e1 : first x ≡ first y = omega arith in let e2 : first y ≡ first z = omega arith in
+          let b1 : second x ≤ second y = h.1 e1 in let b2 : second y ≤ second z = k.1 e2 in omega arith),
+      (λ e f. let e1 : first x ≡ first y = omega arith in let e2 : first y ≡ first z = omega arith in
+          let b1 : second x ≤ second y = h.1 e1 in let b2 : second y ≤ second z = k.1 e2 in
+          let f1 : second x ≡ second y = omega arith in let f2 : second y ≡ second z = omega arith in
+          let c1 : third x < third y = h.2 e1 f1 in let c2 : third y < third z = k.2 e2 f2 in omega arith),
+    )
+
+pub before_same : (x y z : Role) → Before x y → Same y z → Before x z
+before_same x y z h s = (
+  subst (λ n. first x ≤ n) s.0 h.0,
+  (λ e. subst (λ n. second x ≤ n) s.1 (h.1 (e ∙ sym s.0))),
+  (λ e f. subst (λ n. third x < n) s.2 (h.2 (e ∙ sym s.0) (f ∙ sym s.1))),
+)
+
+pub before_total : (x y : Role) → (Before y x → ⊥) → (Same x y → ⊥) → Before x y
+before_total x y nb ns =
+    elim (dec_lt (first x) (first y)) [
+      | yes l ↦ (omega arith, (λ e. absurd (omega arith)), (λ e f. absurd (omega arith)))
+      | no l ↦ elim (dec_lt (first y) (first x)) [
+        | yes g ↦ absurd (nb (omega arith, (λ e. absurd (omega arith)), (λ e f. absurd (omega arith))))
+        | no g ↦ elim (dec_lt (second x) (second y)) [
+          | yes l2 ↦ (omega arith, (λ e. omega arith), (λ e f. absurd (omega arith)))
+          | no l2 ↦ elim (dec_lt (second y) (second x)) [
+            | yes g2 ↦ absurd (nb (omega arith, (λ e. omega arith), (λ e f. absurd (omega arith))))
+            | no g2 ↦ elim (dec_lt (third x) (third y)) [
+              | yes l3 ↦ (omega arith, (λ e. omega arith), (λ e f. l3))
+              | no l3 ↦ elim (dec_lt (third y) (third x)) [
+                | yes g3 ↦ absurd (nb (omega arith, (λ e. omega arith), (λ e f. g3)))
+                | no g3 ↦ absurd (ns (omega arith))
+              ]
+            ]
+          ]
+        ]
+      ]
+    ]
+
+last : (w : List (Role × ℕ)) (z : Role) (c : ℕ) (q : Role) (b : ℕ) (r : Role) → Has ((z, c) ∷ w) q b → Before z r → (Has w q b → Before q r) → Before q r
+last w z c q b r (inl y) n o = subst (λ q. Before q r) y.0 n
+last w z c q b r (inr y) n o = o y
+
+module _ (image : List ℕ) where
+  pub dir_number : (w : List (Role × ℕ)) (p a : ℕ) → IsWalk image w → DirAt image w p a → p ≤ heads w
+  dir_number w zero a v h = omega arith
+  dir_number w (suc i) a v h = let k = h.0 in (number_of image v (suc i) k.0 k.1 k.2 a k.3).1
+
+  asks_parent : {w : List (Role × ℕ)} → IsWalk image w → (n p s j a i : ℕ) → ((m q u k b : ℕ) → Has w (Head m q u k) b → q < m) → Asks image w (Head n p s j) a i → p < n
+  asks_parent {w = w} v n p s zero a i ih h = let x : p ≤ heads w = dir_number w p a v h.2 in let y : n ≡ suc (heads w) = h.0 in omega arith
+  asks_parent {w = w} v n p s (suc j) a i ih h =
+      let m = h.1 in
+      let x : p < m.0 = ih m.0 p s j a m.1 in
+      let z : (1 ≤ m.0) × (m.0 ≤ heads w) = number_of image v m.0 p s j a m.1 in
+      let y : n ≡ suc (heads w) = h.0 in
+      omega arith
+
+  -- a parent has a smaller number
+  pub parent_below : {w : List (Role × ℕ)} → IsWalk image w → (n p s j b : ℕ) → Has w (Head n p s j) b → p < n
+  parent_below start n p s j b (inl e) = let h : second Root ≡ second (Head n p s j) = ap second e.0 in absurd (omega arith)
+  parent_below start n p s j b (inr f) = absurd f
+  parent_below (step {w = w} {r = r} {a = a} {i = i} v d g c) n p s j b (inl e) = asks_parent v n p s j a i (parent_below v) (subst (λ r. Asks image w r a i) e.0 d.asked)
+  parent_below (step v d g c) n p s j b (inr h) = parent_below v n p s j b h
+
+  module _ (w : List (Role × ℕ)) (v : IsWalk image w) (q : Role) (c a0 i0 : ℕ) (d : IsDue image w q a0 i0) where
+    head_before : (n p s j : ℕ) (r : Role) → q ≡ Head n p s j → n < first r → Before q r
+    head_before n p s j r e u =
+        let x : p < n = asks_parent v n p s j a0 i0 (parent_below v) (subst (λ q. Asks image w q a0 i0) e d.asked) in
+        let y : first q ≡ suc p = ap first e in
+        (omega arith, (λ z. absurd (omega arith)), (λ z z'. absurd (omega arith)))
+
+    not_root : q ≡ Root → ⊥
+    not_root e = subst (λ q. Asks image w q a0 i0) e d.asked
+
+    file_back : (n a : ℕ) (r : Role) → n < first r → FileAt image ((q, c) ∷ w) n a → FileAt image w n a ⊎ Before q r
+    file_back n a r u h = go h.0.0 h.0.1 h.0.2 h.0.3
+      where
+        go : (p s j : ℕ) → Has ((q, c) ∷ w) (Head n p s j) a → FileAt image w n a ⊎ Before q r
+        go p s j (inl e) = inr (head_before n p s j r e.0 u)
+        go p s j (inr k) = inl ((p, s, j, k), h.1)
+
+    -- what the longer walk asks for was asked for before, or comes after the new member
+    pub asks_back : (r : Role) (a i : ℕ) → Asks image ((q, c) ∷ w) r a i → ((r' : Role) × Asks image w r' a i × Same r' r) ⊎ Before q r
+    asks_back Root a i h = absurd h
+    asks_back (Page k) a i h = go h.1
+      where
+        past : (j : ℕ) → Has ((q, c) ∷ w) (MapExt j) a → i < 127 → k ≡ 25 + 127 * j + i → ((r' : Role) × Asks image w r' a i × Same r' (Page k)) ⊎ Before q (Page k)
+        past j (inl e) l z = inr (subst (λ q. Before q (Page k)) (sym e.0) (omega arith))
+        past j (inr y) l z = inl (Page k, (h.0, inr (j, y, l, z)), (refl, refl, refl))
+
+        go : NamesPage image ((q, c) ∷ w) k a i → ((r' : Role) × Asks image w r' a i × Same r' (Page k)) ⊎ Before q (Page k)
+        go (inl e) = inl (Page k, (h.0, inl e), (refl, refl, refl))
+        go (inr x) = past x.0 x.1 x.2 x.3
+    asks_back (MapExt zero) a i h = inl (MapExt zero, h, same_refl (MapExt zero))
+    asks_back (MapExt (suc j)) a i h = go h.1
+      where
+        go : Has ((q, c) ∷ w) (MapExt j) a → ((r' : Role) × Asks image w r' a i × Same r' (MapExt (suc j))) ⊎ Before q (MapExt (suc j))
+        go (inl e) = inr (subst (λ q. Before q (MapExt (suc j))) (sym e.0) (omega arith))
+        go (inr x) = inl (MapExt (suc j), (h.0, x, h.2), (refl, refl, refl))
+    asks_back (Head n zero s zero) a i h = go h.2
+      where
+        go : DirAt image ((q, c) ∷ w) zero a → ((r' : Role) × Asks image w r' a i × Same r' (Head n zero s zero)) ⊎ Before q (Head n zero s zero)
+        go (inl e) = absurd (not_root e.0)
+        go (inr k) = inl (Head (suc (heads w)) zero s zero, (refl, h.1, k, h.3, h.4), (refl, refl, refl))
+    asks_back (Head n (suc p) s zero) a i h = go h.2.0.0 h.2.0.1 h.2.0.2 h.2.0.3
+      where
+        go : (p' s' j' : ℕ) → Has ((q, c) ∷ w) (Head (suc p) p' s' j') a → ((r' : Role) × Asks image w r' a i × Same r' (Head n (suc p) s zero)) ⊎ Before q (Head n (suc p) s zero)
+        go p' s' j' (inl e) = inr (head_before (suc p) p' s' j' (Head n (suc p) s zero) e.0 (omega arith))
+        go p' s' j' (inr k) = inl (Head (suc (heads w)) (suc p) s zero, (refl, h.1, ((p', s', j', k), h.2.1), h.3, h.4), (refl, refl, refl))
+    asks_back (Head n p s (suc j)) a i h = go h.1.0 h.1.1
+      where
+        go : (m : ℕ) → Has ((q, c) ∷ w) (Head m p s j) a → ((r' : Role) × Asks image w r' a i × Same r' (Head n p s (suc j))) ⊎ Before q (Head n p s (suc j))
+        go m (inl e) = inr (subst (λ q. Before q (Head n p s (suc j))) (sym e.0) (omega arith))
+        go m (inr k) = inl (Head (suc (heads w)) p s (suc j), (refl, (m, k), h.2, h.3), (refl, refl, refl))
+    asks_back (Ext n zero) a i h = absurd h
+    asks_back (Ext n (suc zero)) a i h =
+        elim (file_back n a (Ext n 1) (omega arith) h.0) [
+          | inl f ↦ inl (Ext n 1, (f, h.1, h.2), (refl, refl, refl))
+          | inr b ↦ inr b
+        ]
+    asks_back (Ext n (suc (suc k))) a i h = go h.0
+      where
+        go : Has ((q, c) ∷ w) (Ext n (suc k)) a → ((r' : Role) × Asks image w r' a i × Same r' (Ext n (suc (suc k)))) ⊎ Before q (Ext n (suc (suc k)))
+        go (inl e) = inr (subst (λ q. Before q (Ext n (suc (suc k)))) (sym e.0) (omega arith))
+        go (inr x) = inl (Ext n (suc (suc k)), (x, h.1, h.2), (refl, refl, refl))
+    asks_back (Data n zero) a i h = absurd h
+    asks_back (Data n (suc k)) a i h =
+        elim (file_back n h.0.0 (Data n (suc k)) (omega arith) h.0.1) [
+          | inl f ↦ elim (member (k / 72) h.1) [
+            | inl m ↦ inl (Data n (suc k), ((h.0.0, f, h.0.2), m, h.2), (refl, refl, refl))
+            | inr b ↦ inr b
+          ]
+          | inr b ↦ inr b
+        ]
+      where
+        member : (m : ℕ) → MemberAt image ((q, c) ∷ w) n m a → MemberAt image w n m a ⊎ Before q (Data n (suc k))
+        member zero x = file_back n a (Data n (suc k)) (omega arith) x
+        member (suc m) (inl e) = inr (subst (λ q. Before q (Data n (suc k))) (sym e.0) (omega arith))
+        member (suc m) (inr x) = inl x
+
+  root_before : (w : List (Role × ℕ)) (r : Role) (a i : ℕ) → Asks image w r a i → Before Root r
+  root_before w Root a i h = absurd h
+  root_before w (Page k) a i h = (omega arith, (λ z. omega arith), (λ z y. absurd (omega arith)))
+  root_before w (MapExt k) a i h = (omega arith, (λ z. omega arith), (λ z y. absurd (omega arith)))
+  root_before w (Head n p s j) a i h = (omega arith, (λ z. absurd (omega arith)), (λ z y. absurd (omega arith)))
+  root_before w (Ext n k) a i h = (omega arith, (λ z. absurd (omega arith)), (λ z y. absurd (omega arith)))
+  root_before w (Data n k) a i h = (omega arith, (λ z. absurd (omega arith)), (λ z y. absurd (omega arith)))
+
+  pub rises : {w : List (Role × ℕ)} → IsWalk image w → (r : Role) (a i : ℕ) → IsDue image w r a i → (q : Role) (b : ℕ) → Has w q b → Before q r
+  rises start r a i d q b (inl e) = subst (λ q. Before q r) e.0 (root_before ((Root, root_of image) ∷ []) r a i d.asked)
+  rises start r a i d q b (inr f) = absurd f
+  rises (step {w = w} {r = z} {b = c} {a = a0} {i = i0} v e g n) r a i d q b h =
+      last w z c q b r h newest (λ y. before_trans q z r (rises v z a0 i0 e q b y) newest)
+    where
+      newest : Before z r
+      newest =
+          elim (asks_back w v z c a0 i0 e r a i d.asked) [
+            | inr bef ↦ bef
+            | inl x ↦
+                let lack : Lacks w x.0 = (λ y k has s. let s' : Same x.0 r = x.2 in d.lacks y k (inr has) (omega arith)) in
+                let nb : Before x.0 z → ⊥ = e.least x.0 a i x.1 lack in
+                let ns : Same z x.0 → ⊥ = (λ s. let s' : Same x.0 r = x.2 in d.lacks z c (inl (refl, refl)) (omega arith)) in
+                before_same z x.0 r (before_total z x.0 nb ns) x.2
+          ]
+
+  -- headers stand in the order of their numbers
+  pub in_order : {w : List (Role × ℕ)} → IsWalk image w → (n p s i m q u j b c : ℕ) → Has w (Head n p s i) b → Has w (Head m q u j) c → n < m → Before (Head n p s i) (Head m q u j)
+  in_order start n p s i m q u j b c (inl e) k l = let x : second Root ≡ second (Head n p s i) = ap second e.0 in absurd (omega arith)
+  in_order start n p s i m q u j b c (inr e) k l = absurd e
+  in_order (step {w = w} {r = r} {a = a} {i = i0} v d e g) n p s i m q u j b c (inl h) (inl k) l =
+      let x : n ≡ suc (heads w) = asks_number image w n p s i a i0 (subst (λ r. Asks image w r a i0) h.0 d.asked) in
+      let y : m ≡ suc (heads w) = asks_number image w m q u j a i0 (subst (λ r. Asks image w r a i0) k.0 d.asked) in
+      absurd (omega arith)
+  in_order (step {w = w} {r = r} {a = a} {i = i0} v d e g) n p s i m q u j b c (inl h) (inr k) l =
+      let x : n ≡ suc (heads w) = asks_number image w n p s i a i0 (subst (λ r. Asks image w r a i0) h.0 d.asked) in
+      let y : (1 ≤ m) × (m ≤ heads w) = number_of image v m q u j c k in
+      absurd (omega arith)
+  in_order (step {w = w} {r = r} {a = a} {i = i0} v d e g) n p s i m q u j b c (inr h) (inl k) l =
+      subst (λ r. Before (Head n p s i) r) k.0 (rises v r a i0 d (Head n p s i) b h)
+  in_order (step v d e g) n p s i m q u j b c (inr h) (inr k) l = in_order v n p s i m q u j b c h k l

@@ -1,0 +1,526 @@
+-- What a whole walk tells, fits.
+use Rattle.std.proofs.Common.{◌≡◌, ℕ, zero, suc, List, [], ◌∷◌, ◌++◌, inl, inr, ◌+◌, ◌-◌, ◌*◌, ◌/◌, ◌<◌, ◌≤◌, length, refl, sym, ap, subst, ◌∙◌, arith, Bool, true, false, cond, map, eq-eqb}
+use Rattle.std.specs.Prelude.{◌==◌, slice_index}
+use Rattle.std.proofs.lemmas.Bool.{eqb-true}
+use native.Mathlib.Decide.{dec_lt, ℕ_discrete}
+use Rattle.adf_volume.specs.Lists.{At, In, Spelled, numbered, NoBlockTwice}
+use Rattle.adf_volume.specs.Image.{word_in, root_of, map_exts_needed, kind_of, count, held, table_word, DIR, FILE, name_of, content}
+use Rattle.adf_blocks.specs.Sizes.{blocks, pages_needed}
+use Rattle.adf_fields.specs.Hash.{slot_of}
+use Rattle.adf_tree.specs.Texts.{uppers}
+use Rattle.adf_volume.specs.Demands.{AllHold, boot_demands, root_demands, head_demands, ext_demands, data_demands}
+use Rattle.adf_tree.specs.declared.entry.Entry.{Entry}
+use Rattle.adf_volume.specs.Layout.{Place, EntryAt, nodes_from, chain_nodes, at_node, head_at, exts_at, datas_at, exts_of, datas_of, owned_from, owned}
+use Rattle.adf_volume.proofs.Ordered.{Ordered, DirNode, dir_node, is_tree_from}
+use Rattle.adf_volume.specs.declared.owner.Owner.{Owner}
+use Rattle.adf_tree.specs.declared.entry.Body.TheVariants.{Dir, File}
+use Rattle.adf_volume.specs.declared.owner.Owner.TheVariants.{Root as TheRoot, Page as APage, MapExt as AMapExt, Head as AHead, Ext as AnExt, Data as AData}
+use Rattle.adf_volume.specs.Fits.{Fits, EntryFits, FileFits, BodyFits, TableAt}
+use Rattle.adf_volume.specs.Walk.{Role, Before, Has, heads, NodeAt, DirAt, FileAt, MemberAt, NamesPage, data_count, ext_count, IsAbsent, IsFreeIn, bitmap_demands, IsWalk, IsWhole}
+use Rattle.adf_volume.specs.Walk.Role.{Root, Page, MapExt, Head, Ext, Data}
+use Rattle.adf_volume.specs.Made.{pages_in, map_exts_in, exts_in, datas_in, body_in, entry_in, place_in, entries_in, places_in, tree_in, layout_in}
+use Rattle.adf_volume.specs.Parts.{owner_of}
+use Rattle.adf_volume.proofs.Told.{head_type}
+use Rattle.adf_volume.proofs.Images.{slot_upper, four_blocks, content_length, map_exts_high, map_exts_low}
+use Rattle.adf_volume.proofs.Lists.{at_fun, at_below, at_some, at_unmap, spelled_from, no_length, at_index, index_past, in_left, in_right, in_cases, in_numbered, numbered_at}
+use Rattle.adf_volume.proofs.Walks.{root_is, root_in, number_of, numbered as numbers, one_head, one_block, one_role, ext_file, asked_block, asked_header, page_word}
+use Rattle.adf_volume.proofs.Parts.{Stands, owned_stands, owned_head, owned_ext, owned_data}
+use Rattle.adf_volume.proofs.Parts.Stands.{in_head, in_ext, in_data}
+use Rattle.adf_volume.proofs.Owners.{once_owned, blocks_once}
+use Rattle.adf_volume.proofs.Rising.{parent_below, in_order}
+use Rattle.adf_volume.proofs.Kept.{kept, there, IsNext, new_names, in_range, map_ext_low}
+use Rattle.adf_volume.proofs.Made.{entries_length, places_length, entry_has, place_has, has_entry, exts_length, ext_has, has_ext, data_has, has_data, page_has, has_page, map_ext_has, has_map_ext, slot_is, chain_has, has_chain}
+
+place_parts : (qs : List Place) (i : ℕ) (q : Place) → At qs i q → (head_at qs i ≡ q.head) × (exts_at qs i ≡ q.exts) × (datas_at qs i ≡ q.datas)
+place_parts [] i q h = absurd h
+place_parts (r ∷ qs) zero q h = (ap (λ (x : Place). x.head) h, ap (λ (x : Place). x.exts) h, ap (λ (x : Place). x.datas) h)
+place_parts (r ∷ qs) (suc i) q h = place_parts qs i q h
+
+exts_below : (qs : List Place) (i k b : ℕ) → At (exts_at qs i) k b → i < length qs
+exts_below [] i k b h = absurd h
+exts_below (q ∷ qs) zero k b h = omega arith
+exts_below (q ∷ qs) (suc i) k b h = let ih : i < length qs = exts_below qs i k b h in omega arith
+
+datas_below : (qs : List Place) (i k b : ℕ) → At (datas_at qs i) k b → i < length qs
+datas_below [] i k b h = absurd h
+datas_below (q ∷ qs) zero k b h = omega arith
+datas_below (q ∷ qs) (suc i) k b h = let ih : i < length qs = datas_below qs i k b h in omega arith
+
+dir_not_file : (image : List ℕ) (h : ℕ) → word_in image h 127 ≡ DIR → word_in image h 127 ≡ FILE → ⊥
+dir_not_file image h d f = let e : DIR ≡ FILE = sym d ∙ f in omega arith
+
+map_length : {X Y : Type 0} (f : X → Y) (xs : List X) → length (map f xs) ≡ length xs
+map_length f [] = refl
+map_length f (x ∷ xs) = ap suc (map_length f xs)
+
+body_dir : (image : List ℕ) (w : List (Role × ℕ)) (n b : ℕ) (x : Bool) → cond x Dir (File (content image (kind_of image) b (datas_in w n))) ≡ Dir → x ≡ true
+body_dir image w n b true h = refl
+body_dir image w n b false h = cc
+
+body_file : (image : List ℕ) (w : List (Role × ℕ)) (n b : ℕ) (bytes : List ℕ) (x : Bool) → cond x Dir (File (content image (kind_of image) b (datas_in w n))) ≡ File bytes → (x ≡ false) × (bytes ≡ content image (kind_of image) b (datas_in w n))
+body_file image w n b bytes true h = cc
+body_file image w n b bytes false h = let e : bytes ≡ content image (kind_of image) b (datas_in w n) = cc in (refl, e)
+
+-- a header that is no directory is a file
+head_kind : (image : List ℕ) (b c s : ℕ) → AllHold (head_demands image (kind_of image) b c s) → (word_in image b 127 == DIR) ≡ false → word_in image b 127 ≡ FILE
+head_kind image b c s h z =
+    elim (head_type image (kind_of image) b c s h) [
+      | inl d ↦ let e : (word_in image b 127 == DIR) ≡ true = eq-eqb (word_in image b 127) DIR d in absurd (let x : true ≡ false = sym e ∙ z in cc)
+      | inr f ↦ f
+    ]
+
+-- a whole walk has all bitmap extension blocks
+pub all_map_exts : (image : List ℕ) (w : List (Role × ℕ)) → IsWhole image w → (j : ℕ) → 25 + 127 * j < pages_needed (blocks image) → (a : ℕ) × Has w (MapExt j) a
+all_map_exts image w whole zero lt = asked_block image w whole (MapExt 0) (root_of image) 104 (lt, refl, refl) (omega arith)
+all_map_exts image w whole (suc j) lt =
+    let x = all_map_exts image w whole j (omega arith) in
+    asked_block image w whole (MapExt (suc j)) x.0 127 (lt, x.1, refl) (omega arith)
+
+module _ (image : List ℕ) (w : List (Role × ℕ)) (v : IsWalk image w) (whole : IsWhole image w) where
+  head_is : (n p s j b : ℕ) → Has w (Head n p s j) b → (at_node image (layout_in w) n ≡ b) × (exts_of (layout_in w) n ≡ exts_in w n) × (datas_of (layout_in w) n ≡ datas_in w n)
+  head_is zero p s j b h = let u : (1 ≤ 0) × (0 ≤ heads w) = number_of image v 0 p s j b h in absurd (omega arith)
+  head_is (suc i) p s j b h = place_parts (places_in w w) i (place_in w (suc i) b) (place_has image w v i p s j b h)
+
+  node_at : (p a : ℕ) → NodeAt w p a → at_node image (layout_in w) p ≡ a
+  node_at zero a h = root_is image w a v h
+  node_at (suc i) a h = (head_is (suc i) h.0 h.1 h.2 a h.3).0
+
+  dir_at : (p a : ℕ) → DirAt image w p a → at_node image (layout_in w) p ≡ a
+  dir_at zero a h = root_is image w a v h
+  dir_at (suc i) a h = node_at (suc i) a h.0
+
+  entry_is : (n : ℕ) (e : Entry) → EntryAt (tree_in image w) n e → (p s j b : ℕ) × Has w (Head n p s j) b × (e ≡ entry_in image w n p b)
+  entry_is zero e h = absurd h
+  entry_is (suc i) e h = has_entry image w w v i e h
+
+  -- a directory of the walk is one of the tree
+  dir_is : (p c : ℕ) → DirAt image w p c → DirNode (tree_in image w) p
+  dir_is zero c h = tt
+  dir_is (suc i) c h =
+      let k = h.0 in (
+        entry_in image w (suc i) k.0 c,
+        entry_has image w v i k.0 k.1 k.2 c k.3,
+        ap (λ x. cond x Dir (File (content image (kind_of image) c (datas_in w (suc i))))) (eq-eqb (word_in image c 127) DIR h.1),
+      )
+
+  is_tree : Ordered (tree_in image w)
+  is_tree = record {
+    parents = (λ n e h.
+        let x = entry_is n e h in
+        let k = kept image v (Head n x.0 x.1 x.2) x.3 x.4 in
+        let z : x.0 ≡ e.parent = ap (λ (y : Entry). y.parent) (sym x.5) in
+        subst (λ p. (p < n) × DirNode (tree_in image w) p) z (parent_below image v n x.0 x.1 x.2 x.3 x.4, dir_is x.0 k.2.0 k.2.1));
+    order = (λ n m e f h k l.
+        let x = entry_is n e h in
+        let y = entry_is m f k in
+        let o : Before (Head n x.0 x.1 x.2) (Head m y.0 y.1 y.2) = in_order image v n x.0 x.1 x.2 m y.0 y.1 y.2 x.3 y.3 x.4 y.4 l in
+        let p1 : e.parent ≡ x.0 = ap (λ (z : Entry). z.parent) x.5 in
+        let p2 : f.parent ≡ y.0 = ap (λ (z : Entry). z.parent) y.5 in
+        let s1 : slot_of e.name ≡ x.1 = ap (λ (z : Entry). slot_of z.name) x.5 ∙ slot_is image w v n x.0 x.1 x.2 x.3 x.4 in
+        let s2 : slot_of f.name ≡ y.1 = ap (λ (z : Entry). slot_of z.name) y.5 ∙ slot_is image w v m y.0 y.1 y.2 y.3 y.4 in
+        let o0 : suc x.0 ≤ suc y.0 = o.0 in
+        (omega arith, (λ z. let o1 : suc (suc x.1) ≤ suc (suc y.1) = o.1 (omega arith) in omega arith)));
+    names = (λ n m e f h k ne z u.
+        let x = entry_is n e h in
+        let y = entry_is m f k in
+        let p1 : x.0 ≡ y.0 = sym (ap (λ (z : Entry). z.parent) x.5) ∙ z ∙ ap (λ (z : Entry). z.parent) y.5 in
+        let nm : uppers (name_of image x.3) ≡ uppers (name_of image y.3) = sym (ap (λ (z : Entry). uppers z.name) x.5) ∙ u ∙ ap (λ (z : Entry). uppers z.name) y.5 in
+        let s1 : x.1 ≡ y.1 = sym (slot_is image w v n x.0 x.1 x.2 x.3 x.4) ∙ slot_upper (name_of image x.3) (name_of image y.3) nm ∙ slot_is image w v m y.0 y.1 y.2 y.3 y.4 in
+        let y4 : Has w (Head m x.0 x.1 y.2) y.3 = subst (λ p. Has w (Head m p x.1 y.2) y.3) (sym p1) (subst (λ s. Has w (Head m y.0 s y.2) y.3) (sym s1) y.4) in
+        new_names image v n m x.0 x.1 x.2 y.2 x.3 y.3 x.4 y4 ne nm);
+  }
+
+  pages_length : length (pages_in w) ≡ pages_needed (blocks image)
+  pages_length =
+      elim (dec_lt (length (pages_in w)) (pages_needed (blocks image))) [
+        | yes u ↦
+            let m = page_word image w (length (pages_in w)) u (λ j y. all_map_exts image w whole j (omega arith)) in
+            let x = asked_block image w whole (Page (length (pages_in w))) m.0 m.1 m.2 (omega arith) in
+            let y : length (pages_in w) < length (pages_in w) = at_below (pages_in w) (length (pages_in w)) x.0 (page_has image w v (length (pages_in w)) x.0 x.1) in
+            omega arith
+        | no u ↦ elim (dec_lt (pages_needed (blocks image)) (length (pages_in w))) [
+          | no l ↦ omega arith
+          | yes l ↦
+              let x = at_some (pages_in w) (pages_needed (blocks image)) l in
+              let y : pages_needed (blocks image) < pages_needed (blocks image) = (kept image v (Page (pages_needed (blocks image))) x.0 (has_page image w v (pages_needed (blocks image)) x.0 x.1)).0 in
+              omega arith
+        ]
+      ]
+
+  map_exts_length : length (map_exts_in w) ≡ map_exts_needed (pages_needed (blocks image))
+  map_exts_length =
+      elim (dec_lt (length (map_exts_in w)) (map_exts_needed (pages_needed (blocks image)))) [
+        | yes u ↦
+            let x = all_map_exts image w whole (length (map_exts_in w)) (map_exts_low (pages_needed (blocks image)) (length (map_exts_in w)) u) in
+            let y : length (map_exts_in w) < length (map_exts_in w) = at_below (map_exts_in w) (length (map_exts_in w)) x.0 (map_ext_has image w v (length (map_exts_in w)) x.0 x.1) in
+            omega arith
+        | no u ↦ elim (dec_lt (map_exts_needed (pages_needed (blocks image))) (length (map_exts_in w))) [
+          | no l ↦ omega arith
+          | yes l ↦
+              let m : ℕ = map_exts_needed (pages_needed (blocks image)) in
+              let x = at_some (map_exts_in w) m l in
+              let y : m < map_exts_needed (pages_needed (blocks image)) = map_exts_high (pages_needed (blocks image)) m (map_ext_low image w m x.0 v (has_map_ext image w v m x.0 x.1)) in
+              absurd (omega arith)
+        ]
+      ]
+
+  map_ext_next : (j a b : ℕ) → At (map_exts_in w) j a → At (map_exts_in w) (suc j) b → word_in image a 127 ≡ b
+  map_ext_next j a b h k =
+      let y = (kept image v (MapExt (suc j)) b (has_map_ext image w v (suc j) b k)).1 in
+      let e : a ≡ y.0 = at_fun (map_exts_in w) j a y.0 h (map_ext_has image w v j y.0 y.1) in
+      ap (λ a. word_in image a 127) e ∙ y.2
+
+  root_names : (k b a i : ℕ) → k < 25 → NamesPage image w k a i → word_in image a i ≡ b → word_in image (root_of image) (79 + k) ≡ b
+  root_names k b a i lt (inl x) e = ap (λ a. word_in image a (79 + k)) (sym x.1) ∙ ap (word_in image a) (sym x.2) ∙ e
+  root_names k b a i lt (inr x) e = let z : k ≡ 25 + 127 * x.0 + i = x.3 in absurd (omega arith)
+
+  ext_names : (j i c b a m : ℕ) → i < 127 → At (map_exts_in w) j c → NamesPage image w (25 + 127 * j + i) a m → word_in image a m ≡ b → word_in image c i ≡ b
+  ext_names j i c b a m lt h (inl x) e = let y : 25 + 127 * j + i < 25 = x.0 in absurd (omega arith)
+  ext_names j i c b a m lt h (inr x) e =
+      let l : m < 127 = x.2 in
+      let z : 25 + 127 * j + i ≡ 25 + 127 * x.0 + m = x.3 in
+      let ej : x.0 ≡ j = omega arith in
+      let ei : i ≡ m = omega arith in
+      let ea : c ≡ a = at_fun (map_exts_in w) j c a h (subst (λ j. At (map_exts_in w) j a) ej (map_ext_has image w v x.0 a x.1)) in
+      ap (word_in image c) ei ∙ ap (λ c. word_in image c m) ea ∙ e
+
+  is_dir_at : (p : ℕ) → DirNode (tree_in image w) p → DirAt image w p (at_node image (layout_in w) p)
+  is_dir_at zero d = root_in image v
+  is_dir_at (suc i) d =
+      let x = has_entry image w w v i d.0 d.1 in
+      let b : ℕ = x.3 in
+      let z : body_in image w (suc i) b ≡ Dir = ap (λ (y : Entry). y.body) (sym x.5) ∙ d.2 in
+      let y : word_in image b 127 ≡ DIR = eqb-true (word_in image b 127) DIR (body_dir image w (suc i) b (word_in image b 127 == DIR) z) in
+      let e : b ≡ at_node image (layout_in w) (suc i) = sym (head_is (suc i) x.0 x.1 x.2 b x.4).0 in
+      subst (DirAt image w (suc i)) e ((x.0, x.1, x.2, x.4), y)
+
+  -- the chains are spelled
+  chains_spelled : (p s : ℕ) → DirNode (tree_in image w) p → s < 72 →
+      Spelled (λ b. word_in image b 124) (word_in image (at_node image (layout_in w) p) (6 + s)) (map (at_node image (layout_in w)) (chain_nodes (tree_in image w) p s))
+  chains_spelled p s d lt =
+      let da = is_dir_at p d in
+      let a : ℕ = at_node image (layout_in w) p in
+      let c : List ℕ = nodes_from 1 (entries_in image w w) p s in
+      spelled_from (λ b. word_in image b 124) (word_in image a (6 + s)) (map (at_node image (layout_in w)) c)
+      (λ b h.
+      let u = at_unmap (at_node image (layout_in w)) c 0 b h in
+      let x = has_chain image w w v u.0 p s 0 u.1 in
+      let k = (kept image v (Head u.0 p s 0) x.0 x.1).1 in
+      ap (λ a. word_in image a (6 + s)) (dir_at p k.0 k.1) ∙ k.2 ∙ sym (head_is u.0 p s 0 x.0 x.1).0 ∙ u.2)
+      (λ h. elim (ℕ_discrete (word_in image a (6 + s)) 0) [
+        | yes z ↦ z
+        | no ne ↦
+            let x = asked_header image w whole (suc (heads w)) p s 0 a (6 + s) (refl, lt, da, refl, ne) in
+            let y : 0 < length c = at_below c 0 x.0 (chain_has image w w v x.0 p s 0 x.1 x.2) in
+            let l : length (map (at_node image (layout_in w)) c) ≡ length c = map_length (at_node image (layout_in w)) c in
+            absurd (omega arith)
+      ])
+      (λ j b b2 h h2.
+      let u = at_unmap (at_node image (layout_in w)) c j b h in
+      let u2 = at_unmap (at_node image (layout_in w)) c (suc j) b2 h2 in
+      let x = has_chain image w w v u.0 p s j u.1 in
+      let x2 = has_chain image w w v u2.0 p s (suc j) u2.1 in
+      let k = (kept image v (Head u2.0 p s (suc j)) x2.0 x2.1).1 in
+      let z : k.1 ≡ x.0 = (one_block image v (Head k.0 p s j) (Head u.0 p s j) k.1 x.0 k.2 x.1 (refl, refl, refl)).1 in
+      let y : b ≡ k.1 = sym u.2 ∙ (head_is u.0 p s j x.0 x.1).0 ∙ sym z in
+      ap (λ b. word_in image b 124) y ∙ k.3 ∙ sym (head_is u2.0 p s (suc j) x2.0 x2.1).0 ∙ u2.2)
+      (λ j b h e.
+      let u = at_unmap (at_node image (layout_in w)) c j b h in
+      let x = has_chain image w w v u.0 p s j u.1 in
+      let y : x.0 ≡ b = sym (head_is u.0 p s j x.0 x.1).0 ∙ u.2 in
+      elim (ℕ_discrete (word_in image b 124) 0) [
+        | yes z ↦ z
+        | no ne ↦
+            let x' : Has w (Head u.0 p s j) b = subst (Has w (Head u.0 p s j)) y x.1 in
+            let q = asked_header image w whole (suc (heads w)) p s (suc j) b 124 (refl, (u.0, x'), refl, ne) in
+            let r : suc j < length c = at_below c (suc j) q.0 (chain_has image w w v q.0 p s (suc j) q.1 q.2) in
+            let l : length (map (at_node image (layout_in w)) c) ≡ length c = map_length (at_node image (layout_in w)) c in
+            absurd (omega arith)
+      ])
+
+  -- a file of the tree is one of the walk
+  file_at : (n : ℕ) (e : Entry) (bytes : List ℕ) → EntryAt (tree_in image w) n e → e.body ≡ File bytes → (h : ℕ) × FileAt image w n h × (bytes ≡ content image (kind_of image) h (datas_in w n)) × (at_node image (layout_in w) n ≡ h)
+  file_at n e bytes h f =
+      let x = entry_is n e h in
+      let z : body_in image w n x.3 ≡ File bytes = ap (λ (y : Entry). y.body) (sym x.5) ∙ f in
+      let y = body_file image w n x.3 bytes (word_in image x.3 127 == DIR) z in
+      let k = kept image v (Head n x.0 x.1 x.2) x.3 x.4 in
+      (x.3, ((x.0, x.1, x.2, x.4), head_kind image x.3 k.2.0 x.1 k.2.2 y.0), y.1, (head_is n x.0 x.1 x.2 x.3 x.4).0)
+
+  file_parts : (n h : ℕ) → FileAt image w n h → (at_node image (layout_in w) n ≡ h) × (exts_of (layout_in w) n ≡ exts_in w n) × (datas_of (layout_in w) n ≡ datas_in w n)
+  file_parts n h f = head_is n f.0.0 f.0.1 f.0.2 h f.0.3
+
+  one_file : (n h k : ℕ) → FileAt image w n h → FileAt image w n k → h ≡ k
+  one_file n h k f g = (one_head image v n f.0.0 f.0.1 f.0.2 h g.0.0 g.0.1 g.0.2 k f.0.3 g.0.3).1
+
+  enough_now : (n h : ℕ) → FileAt image w n h → data_count image h ≤ 72 * suc (ext_count w n)
+  enough_now n h f =
+      elim (dec_lt 0 (data_count image h)) [
+        | yes u ↦
+            let x = asked_block image w whole (Data n 1) h (table_word 0) ((h, f, u), f, refl) (omega arith) in
+            let k = kept image v (Data n 1) x.0 x.1 in
+            let z : k.0 ≡ h = one_file n k.0 h k.1 f in
+            subst (λ h. data_count image h ≤ 72 * suc (ext_count w n)) z k.3
+        | no u ↦ omega arith
+      ]
+
+  datas_length : (n h : ℕ) → FileAt image w n h → length (datas_in w n) ≡ data_count image h
+  datas_length n h f =
+      elim (dec_lt (length (datas_in w n)) (data_count image h)) [
+        | yes u ↦
+            let m : ℕ = length (datas_in w n) in
+            let en = enough_now n h f in
+            let t = there image w v (λ r b h. kept image v r b h) n (m / 72) h f (omega arith) in
+            let x = asked_block image w whole (Data n (suc m)) t.0 (table_word m) ((h, f, u), t.1, refl) (omega arith) in
+            let y : m < length (datas_in w n) = at_below (datas_in w n) m x.0 (data_has image w v n m x.0 x.1) in
+            absurd (omega arith)
+        | no u ↦ elim (dec_lt (data_count image h) (length (datas_in w n))) [
+          | no l ↦ omega arith
+          | yes l ↦
+              let x = at_some (datas_in w n) (data_count image h) l in
+              let k = kept image v (Data n (suc (data_count image h))) x.0 (has_data image w v n (data_count image h) x.0 x.1) in
+              let z : k.0 ≡ h = one_file n k.0 h k.1 f in
+              let y : data_count image h < data_count image h = subst (λ g. data_count image h < data_count image g) z k.2 in
+              absurd (omega arith)
+        ]
+      ]
+
+  exts_spelled : (n h : ℕ) → FileAt image w n h → Spelled (λ b. word_in image b 126) (word_in image h 126) (exts_in w n)
+  exts_spelled n h f =
+      spelled_from (λ b. word_in image b 126) (word_in image h 126) (exts_in w n)
+      (λ b x.
+      let k = (kept image v (Ext n 1) b (has_ext image w v n 0 b x)).0 in
+      ap (λ h. word_in image h 126) (one_file n h k.0 f k.1) ∙ k.2)
+      (λ z. elim (ℕ_discrete (word_in image h 126) 0) [
+        | yes y ↦ y
+        | no ne ↦
+            let x = asked_block image w whole (Ext n 1) h 126 (f, refl, ne) (omega arith) in
+            let y : 0 < length (exts_in w n) = at_below (exts_in w n) 0 x.0 (ext_has image v n 0 x.0 x.1) in
+            absurd (omega arith)
+      ])
+      (λ j b c x y.
+      let k = (kept image v (Ext n (suc (suc j))) c (has_ext image w v n (suc j) c y)).0 in
+      let e : b ≡ k.0 = at_fun (exts_in w n) j b k.0 x (ext_has image v n j k.0 k.1) in
+      ap (λ b. word_in image b 126) e ∙ k.2)
+      (λ j b x e. elim (ℕ_discrete (word_in image b 126) 0) [
+        | yes y ↦ y
+        | no ne ↦
+            let q = asked_block image w whole (Ext n (suc (suc j))) b 126 (has_ext image w v n j b x, refl, ne) (omega arith) in
+            let y : suc j < length (exts_in w n) = at_below (exts_in w n) (suc j) q.0 (ext_has image v n (suc j) q.0 q.1) in
+            absurd (omega arith)
+      ])
+
+  -- a member of the table is one member
+  table_is : (n h m a c : ℕ) → FileAt image w n h → TableAt image (layout_in w) n m a → MemberAt image w n m c → a ≡ c
+  table_is n h zero a c f x y = sym x ∙ (file_parts n c y).0
+  table_is n h (suc m) a c f x y = at_fun (exts_in w n) m a c (subst (λ xs. At xs m a) (file_parts n h f).1 x) (ext_has image v n m c y)
+
+  data_named : (n h k b a : ℕ) → FileAt image w n h → At (datas_in w n) k b → TableAt image (layout_in w) n (k / 72) a → word_in image a (table_word k) ≡ b
+  data_named n h k b a f x y =
+      let z = (kept image v (Data n (suc k)) b (has_data image w v n k b x)).4 in
+      ap (λ a. word_in image a (table_word k)) (table_is n h (k / 72) a z.0 f y z.1) ∙ z.2
+
+  table_of : (n h m c : ℕ) → FileAt image w n h → MemberAt image w n m c → TableAt image (layout_in w) n m c
+  table_of n h zero c f y = (file_parts n c y).0
+  table_of n h (suc m) c f y = subst (λ xs. At xs m c) (sym (file_parts n h f).1) (ext_has image v n m c y)
+
+  data_next : (n h k x : ℕ) → FileAt image w n h → IsNext image w n k h x → x ≡ slice_index (datas_in w n) k
+  data_next n h k x f y =
+      let l : length (datas_in w n) ≡ data_count image h = datas_length n h f in
+      elim (dec_lt k (data_count image h)) [
+        | yes u ↦
+            let c = y.inner u in
+            let e = at_some (datas_in w n) k (omega arith) in
+            c.2 ∙ data_named n h k e.0 c.0 f e.1 (table_of n h (k / 72) c.0 f c.1) ∙ sym (at_index (datas_in w n) k e.0 e.1)
+        | no u ↦ y.last (omega arith) ∙ sym (index_past (datas_in w n) k (omega arith))
+      ]
+
+  data_formed : (n h k b : ℕ) → FileAt image w n h → At (datas_in w n) k b → AllHold (data_demands image (kind_of image) b h (suc k) (held (kind_of image) (word_in image h 81) (suc k)) (slice_index (datas_in w n) (suc k)))
+  data_formed n h k b f x =
+      let y = kept image v (Data n (suc k)) b (has_data image w v n k b x) in
+      let z : y.0 ≡ h = one_file n y.0 h y.1 f in
+      let e : y.5.0 ≡ slice_index (datas_in w n) (suc k) = data_next n h (suc k) y.5.0 f (subst (λ h. IsNext image w n (suc k) h y.5.0) z y.5.1) in
+      subst (λ x. AllHold (data_demands image (kind_of image) b h (suc k) (held (kind_of image) (word_in image h 81) (suc k)) x)) e
+      (subst (λ h. AllHold (data_demands image (kind_of image) b h (suc k) (held (kind_of image) (word_in image h 81) (suc k)) y.5.0)) z y.5.2)
+
+  file_fits : (n h : ℕ) (bytes : List ℕ) → FileAt image w n h → length bytes ≡ word_in image h 81 → FileFits image (tree_in image w) (layout_in w) n h bytes
+  file_fits n h bytes f z =
+      let fp = file_parts n h f in
+      let ex : exts_of (layout_in w) n ≡ exts_in w n = fp.1 in
+      let da : datas_of (layout_in w) n ≡ datas_in w n = fp.2 in
+      let ct : count (kind_of image) (length bytes) ≡ data_count image h = ap (count (kind_of image)) z in
+      record {
+        exts = subst (Spelled (λ b. word_in image b 126) (word_in image h 126)) (sym ex) (exts_spelled n h f);
+        ext_form = (λ k b x.
+            let y = (kept image v (Ext n (suc k)) b (has_ext image w v n k b (subst (λ xs. At xs k b) ex x))).1 in
+            subst (λ h. AllHold (ext_demands image b h)) (one_file n y.0 h y.1 f) y.2);
+        enough =
+            (let en : data_count image h ≤ 72 * suc (ext_count w n) = enough_now n h f in
+            let l : length (exts_of (layout_in w) n) ≡ ext_count w n = ap length ex ∙ exts_length image w n in
+            omega arith);
+        datas = ap length da ∙ datas_length n h f ∙ sym ct;
+        named = (λ k b a x y. data_named n h k b a f (subst (λ xs. At xs k b) da x) y);
+        data_form = (λ k b x.
+            subst (λ xs. AllHold (data_demands image (kind_of image) b h (suc k) (held (kind_of image) (length bytes) (suc k)) (slice_index xs (suc k)))) (sym da)
+            (subst (λ z. AllHold (data_demands image (kind_of image) b h (suc k) (held (kind_of image) z (suc k)) (slice_index (datas_in w n) (suc k)))) (sym z)
+            (data_formed n h k b f (subst (λ xs. At xs k b) da x))));
+      }
+
+  module _ (boots : AllHold (boot_demands image)) where
+    -- what a file holds is as long as its header says
+    content_long : (n h : ℕ) → FileAt image w n h → length (content image (kind_of image) h (datas_in w n)) ≡ word_in image h 81
+    content_long n h f =
+        content_length image (kind_of image) h (datas_in w n) boots.0.0
+        (λ k b x. (in_range image v (four_blocks (blocks image) boots.0.1) (Data n (suc k)) b (has_data image w v n k b x)).1)
+        (datas_length n h f)
+
+    body_fits : (n p s j b c : ℕ) → Has w (Head n p s j) b → AllHold (head_demands image (kind_of image) b c s) → (x : Bool) → (word_in image b 127 == DIR) ≡ x → BodyFits image (kind_of image) (layout_in w) n b (cond x Dir (File (content image (kind_of image) b (datas_in w n))))
+    body_fits n p s j b c h k true z =
+        let d : word_in image b 127 ≡ DIR = eqb-true (word_in image b 127) DIR z in
+        let hp = head_is n p s j b h in
+        let no_file : (a : ℕ) → FileAt image w n a → ⊥ =
+        (λ a f. let e : a ≡ b = (one_head image v n f.0.0 f.0.1 f.0.2 a p s j b f.0.3 h).1 in dir_not_file image b d (subst (λ a. word_in image a 127 ≡ FILE) e f.1)) in (
+          d,
+          hp.1 ∙ no_length (exts_in w n) (elim (dec_lt 0 (length (exts_in w n))) [
+            | yes u ↦ let x = at_some (exts_in w n) 0 u in let f = ext_file image v n 1 x.0 (has_ext image w v n 0 x.0 x.1) in absurd (no_file f.0 f.1)
+            | no u ↦ omega arith
+          ]),
+          hp.2 ∙ no_length (datas_in w n) (elim (dec_lt 0 (length (datas_in w n))) [
+            | yes u ↦ let x = at_some (datas_in w n) 0 u in let f = kept image v (Data n 1) x.0 (has_data image w v n 0 x.0 x.1) in absurd (no_file f.0 f.1)
+            | no u ↦ omega arith
+          ]),
+        )
+    body_fits n p s j b c h k false z =
+        let f : FileAt image w n b = ((p, s, j, h), head_kind image b c s k z) in
+        let hp = head_is n p s j b h in
+        (f.1, ap (content image (kind_of image) b) (sym hp.2), content_long n b f)
+
+    entry_fits : (n : ℕ) (e : Entry) → EntryAt (tree_in image w) n e → EntryFits image (tree_in image w) (layout_in w) n (at_node image (layout_in w) n) e
+    entry_fits n e h =
+        let x = entry_is n e h in
+        let b : ℕ = x.3 in
+        let k = kept image v (Head n x.0 x.1 x.2) b x.4 in
+        let hb : at_node image (layout_in w) n ≡ b = (head_is n x.0 x.1 x.2 b x.4).0 in
+        let pb : at_node image (layout_in w) x.0 ≡ k.2.0 = dir_at x.0 k.2.0 k.2.1 in
+        let sl : slot_of (name_of image b) ≡ x.1 = slot_is image w v n x.0 x.1 x.2 b x.4 in
+        subst (λ e. EntryFits image (tree_in image w) (layout_in w) n (at_node image (layout_in w) n) e) (sym x.5)
+        (subst (λ h. EntryFits image (tree_in image w) (layout_in w) n h (entry_in image w n x.0 b)) (sym hb)
+        (record {
+          form = subst (λ c. AllHold (head_demands image (kind_of image) b c (slot_of (name_of image b)))) (sym pb) (subst (λ s. AllHold (head_demands image (kind_of image) b k.2.0 s)) (sym sl) k.2.2);
+          name = refl;
+          meta = refl;
+          body = body_fits n x.0 x.1 x.2 b k.2.0 x.4 k.2.2 (word_in image b 127 == DIR) refl;
+        }))
+
+    -- each member of the walk is owned, and each owned block is a member
+    in_places : (o : Owner) (b : ℕ) → In (owned_from 1 (places_in w w)) (o, b) → In (owned image (layout_in w)) (o, b)
+    in_places o b h = inr (in_right (numbered APage 0 (pages_in w)) (numbered AMapExt 0 (map_exts_in w) ++ owned_from 1 (places_in w w)) (o, b) (in_right (numbered AMapExt 0 (map_exts_in w)) (owned_from 1 (places_in w w)) (o, b) h))
+
+    is_owned : (r : Role) (b : ℕ) → Has w r b → In (owned image (layout_in w)) (owner_of r, b)
+    is_owned Root b h = let e : root_of image ≡ b = root_is image w b v h in inl (λ i. (TheRoot, e i))
+    is_owned (Page k) b h =
+        let z : 0 + k ≡ k = omega arith in
+        inr (in_left (numbered APage 0 (pages_in w)) (numbered AMapExt 0 (map_exts_in w) ++ owned_from 1 (places_in w w)) (APage k, b) (subst (λ k. In (numbered APage 0 (pages_in w)) (APage k, b)) z (in_numbered APage 0 (pages_in w) k b (page_has image w v k b h))))
+    is_owned (MapExt k) b h =
+        let z : 0 + k ≡ k = omega arith in
+        inr (in_right (numbered APage 0 (pages_in w)) (numbered AMapExt 0 (map_exts_in w) ++ owned_from 1 (places_in w w)) (AMapExt k, b)
+        (in_left (numbered AMapExt 0 (map_exts_in w)) (owned_from 1 (places_in w w)) (AMapExt k, b)
+        (subst (λ k. In (numbered AMapExt 0 (map_exts_in w)) (AMapExt k, b)) z (in_numbered AMapExt 0 (map_exts_in w) k b (map_ext_has image w v k b h)))))
+    is_owned (Head zero p s j) b h = let u : (1 ≤ 0) × (0 ≤ heads w) = number_of image v 0 p s j b h in absurd (omega arith)
+    is_owned (Head (suc i) p s j) b h =
+        let l : length (places_in w w) ≡ heads w = places_length image w w in
+        let u : (1 ≤ suc i) × (suc i ≤ heads w) = number_of image v (suc i) p s j b h in
+        let z : 1 + i ≡ suc i = omega arith in
+        in_places (AHead (suc i)) b (subst (λ b. In (owned_from 1 (places_in w w)) (AHead (suc i), b)) (head_is (suc i) p s j b h).0
+        (subst (λ m. In (owned_from 1 (places_in w w)) (AHead m, head_at (places_in w w) i)) z (owned_head 1 (places_in w w) i (omega arith))))
+    is_owned (Ext n zero) b h = absurd (kept image v (Ext n zero) b h)
+    is_owned (Ext zero (suc k)) b h = let f = (ext_file image v 0 (suc k) b h).1 in let u : (1 ≤ 0) × (0 ≤ heads w) = number_of image v 0 f.0.0 f.0.1 f.0.2 _ f.0.3 in absurd (omega arith)
+    is_owned (Ext (suc i) (suc k)) b h =
+        let f = ext_file image v (suc i) (suc k) b h in
+        let z : 1 + i ≡ suc i = omega arith in
+        in_places (AnExt (suc i) (suc k)) b (subst (λ m. In (owned_from 1 (places_in w w)) (AnExt m (suc k), b)) z
+        (owned_ext 1 (places_in w w) i k b (subst (λ xs. At xs k b) (sym (file_parts (suc i) f.0 f.1).1) (ext_has image v (suc i) k b h))))
+    is_owned (Data n zero) b h = absurd (kept image v (Data n zero) b h)
+    is_owned (Data zero (suc k)) b h = let f = kept image v (Data 0 (suc k)) b h in let u : (1 ≤ 0) × (0 ≤ heads w) = number_of image v 0 f.1.0.0 f.1.0.1 f.1.0.2 f.0 f.1.0.3 in absurd (omega arith)
+    is_owned (Data (suc i) (suc k)) b h =
+        let f = kept image v (Data (suc i) (suc k)) b h in
+        let z : 1 + i ≡ suc i = omega arith in
+        in_places (AData (suc i) (suc k)) b (subst (λ m. In (owned_from 1 (places_in w w)) (AData m (suc k), b)) z
+        (owned_data 1 (places_in w w) i k b (subst (λ xs. At xs k b) (sym (file_parts (suc i) f.0 f.1).2) (data_has image w v (suc i) k b h))))
+
+    -- the places of numbers that the walk has
+    place_is : (i : ℕ) → i < length (places_in w w) → (p s j b : ℕ) × Has w (Head (suc i) p s j) b
+    place_is i u = let l : length (places_in w w) ≡ heads w = places_length image w w in numbers image v (suc i) (omega arith) (omega arith)
+
+    stands_has : (o : Owner) (b : ℕ) → Stands 1 (places_in w w) o b → (r : Role) × Has w r b × (o ≡ owner_of r)
+    stands_has o b (in_head i u e z) =
+        let x = place_is i u in
+        let y : 1 + i ≡ suc i = omega arith in
+        (Head (suc i) x.0 x.1 x.2, subst (Has w (Head (suc i) x.0 x.1 x.2)) (sym (head_is (suc i) x.0 x.1 x.2 x.3 x.4).0 ∙ e) x.4, z ∙ ap AHead y)
+    stands_has o b (in_ext i k h z) =
+        let x = place_is i (exts_below (places_in w w) i k b h) in
+        let y : 1 + i ≡ suc i = omega arith in
+        (Ext (suc i) (suc k), has_ext image w v (suc i) k b (subst (λ xs. At xs k b) (head_is (suc i) x.0 x.1 x.2 x.3 x.4).1 h), z ∙ ap (λ m. AnExt m (suc k)) y)
+    stands_has o b (in_data i k h z) =
+        let x = place_is i (datas_below (places_in w w) i k b h) in
+        let y : 1 + i ≡ suc i = omega arith in
+        (Data (suc i) (suc k), has_data image w v (suc i) k b (subst (λ xs. At xs k b) (head_is (suc i) x.0 x.1 x.2 x.3 x.4).2 h), z ∙ ap (λ m. AData m (suc k)) y)
+
+    owned_has : (o : Owner) (b : ℕ) → In (owned image (layout_in w)) (o, b) → (r : Role) × Has w r b × (o ≡ owner_of r)
+    owned_has o b (inl e) = (Root, subst (Has w Root) (ap (λ (p : Owner × ℕ). p.1) e) (root_in image v), sym (ap (λ (p : Owner × ℕ). p.0) e))
+    owned_has o b (inr h) =
+        elim (in_cases (numbered APage 0 (pages_in w)) (numbered AMapExt 0 (map_exts_in w) ++ owned_from 1 (places_in w w)) (o, b) h) [
+          | inl g ↦ let r = numbered_at APage 0 (pages_in w) o b g in let y : 0 + r.0 ≡ r.0 = omega arith in (Page r.0, has_page image w v r.0 b r.1, r.2 ∙ ap APage y)
+          | inr g ↦ elim (in_cases (numbered AMapExt 0 (map_exts_in w)) (owned_from 1 (places_in w w)) (o, b) g) [
+            | inl f ↦ let r = numbered_at AMapExt 0 (map_exts_in w) o b f in let y : 0 + r.0 ≡ r.0 = omega arith in (MapExt r.0, has_map_ext image w v r.0 b r.1, r.2 ∙ ap AMapExt y)
+            | inr f ↦ stands_has o b (owned_stands 1 (places_in w w) o b f)
+          ]
+        ]
+
+    once : NoBlockTwice (owned image (layout_in w))
+    once = blocks_once (owned image (layout_in w)) (once_owned image (layout_in w))
+        (λ x y b i j.
+        let r = owned_has x b i in
+        let s = owned_has y b j in
+        r.2 ∙ ap owner_of (one_role image v r.0 s.0 b r.1 s.1) ∙ sym s.2)
+
+    bitmap_at : (b0 n b : ℕ) → AllHold (bitmap_demands image w b0 n) → b0 ≤ b → b < b0 + n → (IsAbsent w b → IsFreeIn image w b) × (IsFreeIn image w b → IsAbsent w b)
+    bitmap_at b0 zero b h lo hi = absurd (omega arith)
+    bitmap_at b0 (suc n) b h lo hi =
+        elim (ℕ_discrete b0 b) [
+          | yes e ↦ subst (λ b. (IsAbsent w b → IsFreeIn image w b) × (IsFreeIn image w b → IsAbsent w b)) e (h.0, h.1.0)
+          | no ne ↦ bitmap_at (suc b0) n b h.1.1 (omega arith) (omega arith)
+        ]
+
+    pub fits : AllHold (root_demands image (root_of image)) → AllHold (bitmap_demands image w 2 (blocks image - 2)) → Fits image (tree_in image w) (layout_in w)
+    fits root bits = record {
+      boots = boots;
+      kind = refl;
+      root = root;
+      label = refl;
+      stamps = refl;
+      tree = is_tree_from (tree_in image w) is_tree;
+      places = places_length image w w ∙ sym (entries_length image w w);
+      pages = pages_length;
+      map_exts = map_exts_length;
+      map_first = (λ b h. (kept image v (MapExt 0) b (has_map_ext image w v 0 b h)).1);
+      map_next = map_ext_next;
+      page_named = (λ k b lt h. let x = (kept image v (Page k) b (has_page image w v k b h)).1 in root_names k b x.0 x.1 lt x.2 x.3);
+      page_listed = (λ j i a b lt h k.
+          let x = (kept image v (Page (25 + 127 * j + i)) b (has_page image w v (25 + 127 * j + i) b k)).1 in
+          ext_names j i a b x.0 x.1 lt h x.2 x.3);
+      page_form = (λ k b h. (kept image v (Page k) b (has_page image w v k b h)).2);
+      entries = entry_fits;
+      chains = (λ p s d lt. chains_spelled p s (dir_node (tree_in image w) p d) lt);
+      files = (λ n e bytes h f.
+          let x = file_at n e bytes h f in
+          subst (λ h. FileFits image (tree_in image w) (layout_in w) n h bytes) (sym x.3) (file_fits n x.0 bytes x.1 (ap length x.2 ∙ content_long n x.0 x.1)));
+      once = once;
+      range = (λ o b h. let r = owned_has o b h in in_range image v (four_blocks (blocks image) boots.0.1) r.0 b r.1);
+      bitmap = (λ b lo hi.
+          let s2 : 4 ≤ blocks image = (four_blocks (blocks image) boots.0.1) in
+          let x = bitmap_at 2 (blocks image - 2) b bits lo (omega arith) in (
+            (λ f o i. let r = owned_has o b i in x.1 (f.0, has_page image w v ((b - 2) / 4064) f.0 f.1, f.2) r.0 r.1),
+            (λ f. let y = x.0 (λ q h. f (owner_of q) (is_owned q b h)) in (y.0, page_has image w v ((b - 2) / 4064) y.0 y.1, y.2)),
+          ));
+    }

@@ -1,0 +1,144 @@
+-- Chains of a tree.
+use Rattle.std.proofs.Common.{◌≡◌, ℕ, zero, suc, List, [], ◌∷◌, ◌++◌, ◌⊎◌, inl, inr, ◌+◌, ◌<◌, ◌≤◌, length, refl, sym, ap, subst, ◌∙◌, arith, Bool, true, false, cond}
+use Rattle.std.specs.Prelude.{◌==◌, ◌&&◌}
+use Rattle.std.proofs.lemmas.Bool.Decides.{nat_tests}
+use Rattle.adf_volume.specs.Lists.{At}
+use Rattle.adf_fields.specs.Hash.{slot_of}
+use Rattle.adf_tree.specs.declared.entry.Entry.{Entry}
+use Rattle.adf_tree.specs.Tree.{Tree}
+use Rattle.adf_volume.specs.Layout.{EntryAt, nodes_from, chain_nodes}
+use Rattle.adf_volume.proofs.Ordered.{Ordered}
+use Rattle.adf_volume.specs.Walk.{Before}
+use Rattle.adf_volume.specs.Walk.Role.{Head}
+use Rattle.adf_volume.proofs.Lists.{at_fun, at_below, at_some}
+
+test_true : (a b c d : ℕ) → ((a == b) && (c == d)) ≡ true → (a ≡ b) × (c ≡ d)
+test_true a b c d h = grind (arith, nat_tests)
+
+test_of : (a b c d : ℕ) → a ≡ b → c ≡ d → ((a == b) && (c == d)) ≡ true
+test_of a b c d h k = grind (arith, nat_tests)
+
+-- a place in a list that begins with k where t holds
+at_kept : (t : Bool) (k : ℕ) (rest : List ℕ) (j n : ℕ) → At (cond t (k ∷ rest) rest) j n → ((t ≡ true) × (k ≡ n)) ⊎ ((i : ℕ) × At rest i n)
+at_kept true k rest zero n h = inl (refl, h)
+at_kept true k rest (suc j) n h = inr (j, h)
+at_kept false k rest j n h = inr (j, h)
+
+pub at_chain : (k : ℕ) (es : List Entry) (p s j n : ℕ) → At (nodes_from k es p s) j n → (i : ℕ) × (e : Entry) × At es i e × (n ≡ k + i) × (e.parent ≡ p) × (slot_of e.name ≡ s)
+at_chain k [] p s j n h = absurd h
+at_chain k (e ∷ es) p s j n h =
+    elim (at_kept ((e.parent == p) && (slot_of e.name == s)) k (nodes_from (suc k) es p s) j n h) [
+      | inl z ↦ let q = test_true e.parent p (slot_of e.name) s z.0 in let y : n ≡ k + 0 = sym z.1 ∙ omega arith in (0, e, refl, y, q.0, q.1)
+      | inr g ↦ let r = at_chain (suc k) es p s g.0 n g.1 in let z : n ≡ k + suc r.0 = r.3 ∙ omega arith in (suc r.0, r.1, r.2, z, r.4, r.5)
+    ]
+
+-- each entry is in the chain of its parent and slot
+pub chain_at : (k : ℕ) (es : List Entry) (i : ℕ) (e : Entry) → At es i e → (j : ℕ) × At (nodes_from k es e.parent (slot_of e.name)) j (k + i)
+chain_at k [] i e h = absurd h
+chain_at k (f ∷ es) zero e h =
+    let t : ((f.parent == e.parent) && (slot_of f.name == slot_of e.name)) ≡ true = test_of f.parent e.parent (slot_of f.name) (slot_of e.name) (ap (λ (x : Entry). x.parent) h) (ap (λ (x : Entry). slot_of x.name) h) in
+    (0, rw t (omega arith))
+chain_at k (f ∷ es) (suc i) e h =
+    let r = chain_at (suc k) es i e h in
+    let z : suc k + i ≡ k + suc i = omega arith in
+    let rest : List ℕ = nodes_from (suc k) es e.parent (slot_of e.name) in
+    put ((f.parent == e.parent) && (slot_of f.name == slot_of e.name)) k rest r.0 (k + suc i) (subst (λ m. At rest r.0 m) z r.1)
+  where
+    put : (t : Bool) (k : ℕ) (rest : List ℕ) (j n : ℕ) → At rest j n → (i : ℕ) × At (cond t (k ∷ rest) rest) i n
+    put true k rest j n h = (suc j, h)
+    put false k rest j n h = (j, h)
+
+-- a chain rises
+rises_kept : (t : Bool) (k : ℕ) (rest : List ℕ) (i j n m : ℕ) → ((l x : ℕ) → At rest l x → k < x) → ((i j n m : ℕ) → At rest i n → At rest j m → i < j → n < m) → At (cond t (k ∷ rest) rest) i n → At (cond t (k ∷ rest) rest) j m → i < j → n < m
+rises_kept true k rest zero zero n m low ih a b l = absurd (omega arith)
+rises_kept true k rest zero (suc j) n m low ih a b l = let x : k < m = low j m b in let y : k ≡ n = a in omega arith
+rises_kept true k rest (suc i) zero n m low ih a b l = absurd (omega arith)
+rises_kept true k rest (suc i) (suc j) n m low ih a b l = ih i j n m a b (omega arith)
+rises_kept false k rest i j n m low ih a b l = ih i j n m a b l
+
+pub chain_rises : (k : ℕ) (es : List Entry) (p s i j n m : ℕ) → At (nodes_from k es p s) i n → At (nodes_from k es p s) j m → i < j → n < m
+chain_rises k [] p s i j n m a b l = absurd a
+chain_rises k (e ∷ es) p s i j n m a b l =
+    rises_kept ((e.parent == p) && (slot_of e.name == s)) k (nodes_from (suc k) es p s) i j n m
+    (λ q x h. let r = at_chain (suc k) es p s q x h in let z : x ≡ suc k + r.0 = r.3 in omega arith)
+    (chain_rises (suc k) es p s) a b l
+
+-- the entry of a place in a chain
+pub entry_at : (t : Tree) (p s j n : ℕ) → At (chain_nodes t p s) j n → (e : Entry) × EntryAt t n e × (e.parent ≡ p) × (slot_of e.name ≡ s) × (1 ≤ n)
+entry_at t p s j n h =
+    let r = at_chain 1 t.entries p s j n h in
+    let y : n ≡ 1 + r.0 = r.3 in
+    let z : suc r.0 ≡ n = omega arith in
+    let l : 1 ≤ n = omega arith in
+    (r.1, subst (λ n. EntryAt t n r.1) z r.2, r.4, r.5, l)
+
+pub place_at : (t : Tree) (n : ℕ) (e : Entry) → EntryAt t n e → (j : ℕ) × At (chain_nodes t e.parent (slot_of e.name)) j n
+place_at t zero e h = absurd h
+place_at t (suc i) e h =
+    let r = chain_at 1 t.entries i e h in
+    let z : 1 + i ≡ suc i = omega arith in
+    (r.0, subst (λ n. At (chain_nodes t e.parent (slot_of e.name)) r.0 n) z r.1)
+
+pub entry_fun : (t : Tree) (n : ℕ) (e f : Entry) → EntryAt t n e → EntryAt t n f → e ≡ f
+entry_fun t zero e f h k = absurd h
+entry_fun t (suc i) e f h k = at_fun t.entries i e f h k
+
+pub entry_below : (t : Tree) (n : ℕ) (e : Entry) → EntryAt t n e → n ≤ length t.entries
+entry_below t zero e h = absurd h
+entry_below t (suc i) e h = let k : i < length t.entries = at_below t.entries i e h in omega arith
+
+pub entry_some : (t : Tree) (n : ℕ) → 1 ≤ n → n ≤ length t.entries → (e : Entry) × EntryAt t n e
+entry_some t zero l u = absurd (omega arith)
+entry_some t (suc i) l u = at_some t.entries i (omega arith)
+
+-- a node has one place in its chain
+pub place_fun : (t : Tree) (p s i j n : ℕ) → At (chain_nodes t p s) i n → At (chain_nodes t p s) j n → i ≡ j
+place_fun t p s i j n a b =
+    let x : i < j → ⊥ = (λ l. let k : n < n = chain_rises 1 t.entries p s i j n n a b l in omega arith) in
+    let y : j < i → ⊥ = (λ l. let k : n < n = chain_rises 1 t.entries p s j i n n b a l in omega arith) in
+    omega arith
+
+-- a node is in one chain, at one place
+pub one_place : (t : Tree) (p s i q u j n : ℕ) → At (chain_nodes t p s) i n → At (chain_nodes t q u) j n → (p ≡ q) × (s ≡ u) × (i ≡ j)
+one_place t p s i q u j n a b =
+    let e = entry_at t p s i n a in
+    let f = entry_at t q u j n b in
+    let z : e.0 ≡ f.0 = entry_fun t n e.0 f.0 e.1 f.1 in
+    let x : p ≡ q = sym e.2 ∙ ap (λ (x : Entry). x.parent) z ∙ f.2 in
+    let y : s ≡ u = sym e.3 ∙ ap (λ (x : Entry). slot_of x.name) z ∙ f.3 in
+    (x, y, place_fun t p s i j n a (subst (λ q. At (chain_nodes t q s) j n) (sym x) (subst (λ u. At (chain_nodes t q u) j n) (sym y) b)))
+
+-- a node that comes later stands later
+pub sorted_places : (t : Tree) → Ordered t → (p s i q u j n m a b : ℕ) → At (chain_nodes t p s) i n → At (chain_nodes t q u) j m → n < m → Before (Head a p s i) (Head b q u j)
+sorted_places t v p s i q u j n m a' b' a b l =
+    let e = entry_at t p s i n a in
+    let f = entry_at t q u j m b in
+    let o = v.order n m e.0 f.0 e.1 f.1 l in
+    let h1 : p ≤ q = let k : e.0.parent ≤ f.0.parent = o.0 in let x : e.0.parent ≡ p = e.2 in let y : f.0.parent ≡ q = f.2 in omega arith in
+    let h2 : p ≡ q → s ≤ u =
+    (λ z. let k : slot_of e.0.name ≤ slot_of f.0.name = o.1 (e.2 ∙ z ∙ sym f.2) in let x : slot_of e.0.name ≡ s = e.3 in let y : slot_of f.0.name ≡ u = f.3 in omega arith) in
+    let h3 : p ≡ q → s ≡ u → i < j =
+    (λ z y. let b'' : At (chain_nodes t p s) j m = subst (λ q. At (chain_nodes t q s) j m) (sym z) (subst (λ u. At (chain_nodes t q u) j m) (sym y) b) in
+    let r : j < i → ⊥ = (λ l2. let k : m < n = chain_rises 1 t.entries p s j i m n b'' a l2 in omega arith) in
+    let w : i ≡ j → ⊥ = (λ x. let k : n ≡ m = at_fun (chain_nodes t p s) i n m a (subst (λ j. At (chain_nodes t p s) j m) (sym x) b'') in omega arith) in
+    omega arith) in
+    ((omega arith), (λ z. let k : s ≤ u = h2 (omega arith) in omega arith), (λ z y. h3 (omega arith) (omega arith)))
+
+-- one more entry
+pub chain_snoc : (k : ℕ) (es : List Entry) (e : Entry) (p s : ℕ) → nodes_from k (es ++ e ∷ []) p s ≡ nodes_from k es p s ++ cond ((e.parent == p) && (slot_of e.name == s)) ((k + length es) ∷ []) []
+chain_snoc k [] e p s = let z : k ≡ k + 0 = omega arith in ap (λ m. cond ((e.parent == p) && (slot_of e.name == s)) (m ∷ []) []) z
+chain_snoc k (f ∷ es) e p s =
+    let z : suc k + length es ≡ k + suc (length es) = omega arith in
+    let ih : nodes_from (suc k) (es ++ e ∷ []) p s ≡ nodes_from (suc k) es p s ++ cond ((e.parent == p) && (slot_of e.name == s)) ((k + suc (length es)) ∷ []) [] =
+    chain_snoc (suc k) es e p s ∙ ap (λ m. nodes_from (suc k) es p s ++ cond ((e.parent == p) && (slot_of e.name == s)) (m ∷ []) []) z in
+    put ((f.parent == p) && (slot_of f.name == s)) k (nodes_from (suc k) (es ++ e ∷ []) p s) (nodes_from (suc k) es p s) (cond ((e.parent == p) && (slot_of e.name == s)) ((k + suc (length es)) ∷ []) []) ih
+  where
+    put : (t : Bool) (k : ℕ) (xs ys zs : List ℕ) → xs ≡ ys ++ zs → cond t (k ∷ xs) xs ≡ cond t (k ∷ ys) ys ++ zs
+    put true k xs ys zs h = ap (λ l. k ∷ l) h
+    put false k xs ys zs h = h
+
+pub test_yes : (a b c d : ℕ) → a ≡ b → c ≡ d → ((a == b) && (c == d)) ≡ true
+test_yes a b c d h k = test_of a b c d h k
+
+pub test_tells : (a b c d : ℕ) → ((a == b) && (c == d)) ≡ true → (a ≡ b) × (c ≡ d)
+test_tells a b c d h = test_true a b c d h

@@ -1,0 +1,106 @@
+-- Two trees with layouts that fit one image are one.
+use Rattle.std.proofs.Common.{◌≡◌, ℕ, zero, suc, List, [], ◌∷◌, ◌<◌, length, refl, sym, ap, subst, ◌∙◌, arith}
+use Rattle.adf_volume.specs.Lists.{At}
+use Rattle.adf_fields.specs.Hash.{slot_of}
+use Rattle.adf_volume.specs.Image.{name_of, DIR, FILE, word_in, meta_of, content}
+use Rattle.adf_tree.specs.declared.entry.Body.{Body}
+use Rattle.adf_tree.specs.declared.entry.Entry.{Entry}
+use Rattle.adf_tree.specs.Tree.{Tree}
+use Rattle.adf_volume.specs.Layout.{EntryAt, Place, Layout, at_node, head_at, exts_at, datas_at, exts_of, datas_of}
+use Rattle.adf_tree.specs.declared.entry.Body.TheVariants.{Dir, File}
+use Rattle.adf_volume.specs.Fits.{Fits, BodyFits}
+use Rattle.adf_volume.specs.Walk.{Role, heads, IsWalk, IsWhole}
+use Rattle.adf_volume.specs.Walk.Role.{Page, MapExt, Head, Ext, Data}
+use Rattle.adf_volume.specs.Parts.{Part}
+use Rattle.adf_volume.proofs.Lists.{at_below, at_some, same_list}
+use Rattle.adf_volume.proofs.Trees.{entry_at, entry_some, place_at}
+use Rattle.adf_volume.proofs.Agree.{agreement}
+use Rattle.adf_volume.proofs.Whole.{part_walked, heads_walked}
+
+same_entry : (e f : Entry) → e.parent ≡ f.parent → e.name ≡ f.name → e.meta ≡ f.meta → e.body ≡ f.body → e ≡ f
+same_entry e f a b c d = λ i. record { parent = a i; name = b i; meta = c i; body = d i }
+
+same_place : (q r : Place) → q.head ≡ r.head → q.exts ≡ r.exts → q.datas ≡ r.datas → q ≡ r
+same_place q r a b c = λ i. record { head = a i; exts = b i; datas = c i }
+
+head_of_at : (qs : List Place) (i : ℕ) (q : Place) → At qs i q → (head_at qs i ≡ q.head) × (exts_at qs i ≡ q.exts) × (datas_at qs i ≡ q.datas)
+head_of_at [] i q h = absurd h
+head_of_at (r ∷ qs) zero q h = (ap (λ (x : Place). x.head) h, ap (λ (x : Place). x.exts) h, ap (λ (x : Place). x.datas) h)
+head_of_at (r ∷ qs) (suc i) q h = head_of_at qs i q h
+
+module _ (image : List ℕ) (w : List (Role × ℕ)) (v : IsWalk image w) (whole : IsWhole image w) (t : Tree) (l : Layout) (fit : Fits image t l) (u : Tree) (m : Layout) (fit' : Fits image u m) where
+  carry : (r : Role) (b : ℕ) → Part image t l r b → Part image u m r b
+  carry r b h = agreement image u m fit' w r b v (part_walked image t l fit w v whole r b h)
+
+  back : (r : Role) (b : ℕ) → Part image u m r b → Part image t l r b
+  back r b h = agreement image t l fit w r b v (part_walked image u m fit' w v whole r b h)
+
+  same_kind : t.kind ≡ u.kind
+  same_kind = fit.kind ∙ sym fit'.kind
+
+  same_exts : (n : ℕ) → exts_of l n ≡ exts_of m n
+  same_exts n = same_list (exts_of l n) (exts_of m n) (λ k b h. carry (Ext n (suc k)) b h) (λ k b h. back (Ext n (suc k)) b h)
+
+  same_datas : (n : ℕ) → datas_of l n ≡ datas_of m n
+  same_datas n = same_list (datas_of l n) (datas_of m n) (λ k b h. carry (Data n (suc k)) b h) (λ k b h. back (Data n (suc k)) b h)
+
+  pub same_pages : l.pages ≡ m.pages
+  same_pages = same_list l.pages m.pages (λ k b h. carry (Page k) b h) (λ k b h. back (Page k) b h)
+
+  pub same_map_exts : l.map_exts ≡ m.map_exts
+  same_map_exts = same_list l.map_exts m.map_exts (λ j b h. carry (MapExt j) b h) (λ j b h. back (MapExt j) b h)
+
+  same_body : (n h h' : ℕ) (a b : Body) → h ≡ h' → BodyFits image t.kind l n h a → BodyFits image u.kind m n h' b → a ≡ b
+  same_body n h h' Dir Dir z f g = refl
+  same_body n h h' Dir (File ys) z f g = absurd (let e : DIR ≡ FILE = sym f.0 ∙ ap (λ h. word_in image h 127) z ∙ g.0 in omega arith)
+  same_body n h h' (File xs) Dir z f g = absurd (let e : DIR ≡ FILE = sym g.0 ∙ ap (λ h. word_in image h 127) (sym z) ∙ f.0 in omega arith)
+  same_body n h h' (File xs) (File ys) z f g =
+      let c : content image t.kind h (datas_of l n) ≡ content image u.kind h' (datas_of m n) =
+      ap (λ k. content image k h (datas_of l n)) same_kind ∙ ap (λ h. content image u.kind h (datas_of l n)) z ∙ ap (content image u.kind h') (same_datas n) in
+      ap File (f.1 ∙ c ∙ sym g.1)
+
+  pub same_head_block : (n : ℕ) (e : Entry) → EntryAt t n e → at_node image l n ≡ at_node image m n
+  same_head_block n e h =
+      let q = place_at t n e h in
+      sym (carry (Head n e.parent (slot_of e.name) q.0) (at_node image l n) (q.1, refl)).1
+
+  pub entry_carried : (n : ℕ) (e : Entry) → EntryAt t n e → EntryAt u n e
+  entry_carried n e h =
+      let q = place_at t n e h in
+      let pt = carry (Head n e.parent (slot_of e.name) q.0) (at_node image l n) (q.1, refl) in
+      let f = entry_at u e.parent (slot_of e.name) q.0 n pt.0 in
+      let ef = fit.entries n e h in
+      let ff = fit'.entries n f.0 f.1 in
+      let z : at_node image l n ≡ at_node image m n = sym pt.1 in
+      let same : e ≡ f.0 = same_entry e f.0 (sym f.2) (ef.name ∙ ap (name_of image) z ∙ sym ff.name) (ef.meta ∙ ap (meta_of image) z ∙ sym ff.meta)
+      (same_body n (at_node image l n) (at_node image m n) e.body f.0.body z ef.body ff.body) in
+      subst (EntryAt u n) (sym same) f.1
+
+  pub place_carried : (i : ℕ) (q : Place) → At l.places i q → At m.places i q
+  place_carried i q h =
+      let lt : i < length l.places = at_below l.places i q h in
+      let p1 : length l.places ≡ length t.entries = fit.places in
+      let p2 : length m.places ≡ length u.entries = fit'.places in
+      let h1 : length t.entries ≡ heads w = heads_walked image t l fit w v whole in
+      let h2 : length u.entries ≡ heads w = heads_walked image u m fit' w v whole in
+      let r = at_some m.places i (omega arith) in
+      let e = entry_some t (suc i) (omega arith) (omega arith) in
+      let a = head_of_at l.places i q h in
+      let b = head_of_at m.places i r.0 r.1 in
+      let same : q ≡ r.0 = same_place q r.0 (sym a.0 ∙ same_head_block (suc i) e.0 e.1 ∙ b.0) (sym a.1 ∙ same_exts (suc i) ∙ b.1) (sym a.2 ∙ same_datas (suc i) ∙ b.2) in
+      subst (At m.places i) (sym same) r.1
+
+same_tree : (t u : Tree) → t.kind ≡ u.kind → t.label ≡ u.label → t.stamps ≡ u.stamps → t.entries ≡ u.entries → t ≡ u
+same_tree t u a b c d = λ i. record { kind = a i; label = b i; stamps = c i; entries = d i }
+
+same_layout : (l m : Layout) → l.pages ≡ m.pages → l.map_exts ≡ m.map_exts → l.places ≡ m.places → l ≡ m
+same_layout l m a b c = λ i. record { pages = a i; map_exts = b i; places = c i }
+
+-- one image, one tree
+pub one_tree : (image : List ℕ) (w : List (Role × ℕ)) (t u : Tree) (l m : Layout) → IsWalk image w → IsWhole image w → Fits image t l → Fits image u m → (t ≡ u) × (l ≡ m)
+one_tree image w t u l m v whole f g = (
+  same_tree t u (f.kind ∙ sym g.kind) (f.label ∙ sym g.label) (f.stamps ∙ sym g.stamps)
+      (same_list t.entries u.entries (λ i e h. entry_carried image w v whole t l f u m g (suc i) e h) (λ i e h. entry_carried image w v whole u m g t l f (suc i) e h)),
+  same_layout l m (same_pages image w v whole t l f u m g) (same_map_exts image w v whole t l f u m g)
+      (same_list l.places m.places (λ i q h. place_carried image w v whole t l f u m g i q h) (λ i q h. place_carried image w v whole u m g t l f i q h)),
+)

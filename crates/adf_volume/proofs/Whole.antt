@@ -1,0 +1,184 @@
+-- Completeness: where a tree and a layout fit, a walk that asks for nothing more has all their parts.
+use Rattle.std.proofs.Common.{◌≡◌, ℕ, zero, suc, List, [], ◌∷◌, inl, inr, ◌+◌, ◌*◌, ◌/◌, ◌<◌, ◌≤◌, length, refl, sym, ap, subst, ◌∙◌, arith}
+use native.Mathlib.Decide.{dec_le}
+use Rattle.adf_volume.specs.Lists.{At}
+use Rattle.adf_volume.specs.Image.{root_of, FILE, word_in, map_exts_needed, count, table_word}
+use Rattle.adf_blocks.specs.Sizes.{blocks, pages_needed}
+use Rattle.adf_fields.specs.Hash.{slot_of}
+use Rattle.adf_tree.specs.declared.entry.Body.{Body}
+use Rattle.adf_tree.specs.declared.entry.Entry.{Entry}
+use Rattle.adf_tree.specs.Tree.{Tree}
+use Rattle.adf_volume.specs.Layout.{EntryAt, chain_nodes, Place, Layout, at_node, datas_at, exts_of, datas_of}
+use Rattle.adf_tree.specs.declared.entry.Body.TheVariants.{Dir, File}
+use Rattle.adf_volume.specs.Fits.{Fits, BodyFits}
+use Rattle.adf_volume.specs.Walk.{Role, second, Has, heads, FileAt, MemberAt, data_count, Asks, Lacks, IsWalk, IsWhole}
+use Rattle.adf_volume.specs.Walk.Role.{Root, Page, MapExt, Head, Ext, Data}
+use Rattle.adf_volume.specs.Parts.{Part}
+use Rattle.adf_volume.proofs.Lists.{at_fun, at_below, at_some, at_before, spelled_word, spelled_link}
+use Rattle.adf_volume.proofs.Trees.{entry_at, entry_fun, entry_below, entry_some, place_at}
+use Rattle.adf_volume.proofs.Walks.{root_in, number_of, numbered, dec_has, has_role, page_word}
+use Rattle.adf_volume.proofs.Images.{map_exts_high, map_exts_low}
+use Rattle.adf_volume.proofs.Parts.{part_range}
+use Rattle.adf_volume.proofs.Agree.{agreement, file_agrees, count_agrees, has_node, asks_next, same_head, is_file}
+
+file_word : (image : List ℕ) (t : Tree) (l : Layout) (n : ℕ) (e : Entry) (b : Body) (bytes : List ℕ) → b ≡ e.body → BodyFits image t.kind l n (at_node image l n) b → e.body ≡ File bytes → word_in image (at_node image l n) 127 ≡ FILE
+file_word image t l n e Dir bytes z f d = let k : Dir ≡ File bytes = z ∙ d in cc
+file_word image t l n e (File x) bytes z f d = f.0
+
+no_datas : (image : List ℕ) (t : Tree) (l : Layout) (n : ℕ) (e : Entry) (b : Body) (k x : ℕ) → b ≡ e.body → BodyFits image t.kind l n (at_node image l n) b → At (datas_of l n) k x → (bytes : List ℕ) × (e.body ≡ File bytes)
+no_datas image t l n e Dir k x z f a = absurd (subst (λ xs. At xs k x) f.2 a)
+no_datas image t l n e (File bytes) k x z f a = (bytes, sym z)
+
+datas_below : (qs : List Place) (i k b : ℕ) → At (datas_at qs i) k b → i < length qs
+datas_below [] i k b h = absurd h
+datas_below (q ∷ qs) zero k b h = omega arith
+datas_below (q ∷ qs) (suc i) k b h = let ih : i < length qs = datas_below qs i k b h in omega arith
+
+no_head_second : (r : Role) → second r < 2 → (n m p s j : ℕ) → r ≡ Head n p s j → ⊥
+no_head_second r h n m p s j z = let y : second r ≡ second (Head n p s j) = ap second z in omega arith
+
+module _ (image : List ℕ) (t : Tree) (l : Layout) (fit : Fits image t l) (w : List (Role × ℕ)) (v : IsWalk image w) (whole : IsWhole image w) where
+  ag : (r : Role) (b : ℕ) → Has w r b → Part image t l r b
+  ag r b h = agreement image t l fit w r b v h
+
+  -- what is asked for is there
+  asked_has : (r : Role) (a i : ℕ) → Asks image w r a i → second r < 2 → (b : ℕ) × Has w r b
+  asked_has r a i ask h =
+      elim (dec_has w r) [
+        | inr y ↦ (y.1, has_role image w r (λ n p s j z. no_head_second r h n n p s j z) y.0 y.1 y.2 y.3)
+        | inl y ↦ absurd (whole r a i ask y)
+      ]
+
+  -- the walk has as many headers as the tree has entries
+  all_heads : length t.entries ≤ heads w
+  all_heads =
+      elim (dec_le (length t.entries) (heads w)) [
+        | yes y ↦ y
+        | no y ↦
+            let n : ℕ = suc (heads w) in
+            let e = entry_some t n (omega arith) (omega arith) in
+            let q = place_at t n e.0 e.1 in
+            let ask = asks_next image t l fit w v ag e.0.parent (slot_of e.0.name) q.0 n q.1 refl in
+            let lack : Lacks w (Head n e.0.parent (slot_of e.0.name) q.0) =
+            (λ r b has same.
+            let z = same_head image t l fit w v ag n e.0.parent (slot_of e.0.name) q.0 n r same in
+            let has' : Has w (Head z.0 e.0.parent (slot_of e.0.name) q.0) b = subst (λ r. Has w r b) z.1 has in
+            let pt = ag (Head z.0 e.0.parent (slot_of e.0.name) q.0) b has' in
+            let f : z.0 ≡ n = at_fun (chain_nodes t e.0.parent (slot_of e.0.name)) q.0 z.0 n pt.0 q.1 in
+            let g : (1 ≤ z.0) × (z.0 ≤ heads w) = number_of image v z.0 e.0.parent (slot_of e.0.name) q.0 b has' in
+            omega arith) in
+            absurd (whole (Head n e.0.parent (slot_of e.0.name) q.0) ask.0 ask.1 ask.2 lack)
+      ]
+
+  has_file : (n : ℕ) (e : Entry) (bytes : List ℕ) → EntryAt t n e → e.body ≡ File bytes → FileAt image w n (at_node image l n)
+  has_file n e bytes h f =
+      let q = place_at t n e h in
+      let u : n ≤ length t.entries = entry_below t n e h in
+      let a = all_heads in
+      let k = has_node image t l fit w v ag e.parent (slot_of e.name) q.0 n q.1 (omega arith) in
+      let z = (ag (Head n e.parent (slot_of e.name) q.0) k.0 k.1).1 in (
+        (e.parent, slot_of e.name, q.0, subst (λ b. Has w (Head n e.parent (slot_of e.name) q.0) b) (sym z) k.1),
+        file_word image t l n e e.body bytes refl (fit.entries n e h).body f,
+      )
+
+  all_exts : (n k b : ℕ) → At (exts_of l n) k b → Has w (Ext n (suc k)) b
+  all_exts n zero b h =
+      let g = is_file image t l fit w v ag n 0 b h in
+      let ff = fit.files n g.0 g.1 g.2 g.3 in
+      let rg : 2 ≤ b = (part_range image t l fit (Ext n 1) b h).0 in
+      let y : word_in image (at_node image l n) 126 ≡ b = spelled_word (λ b. word_in image b 126) (word_in image (at_node image l n) 126) (exts_of l n) b ff.exts h in
+      let x = asked_has (Ext n 1) (at_node image l n) 126 (has_file n g.0 g.1 g.2 g.3, refl, (λ z. let o : b ≡ 0 = sym y ∙ z in omega arith)) (omega arith) in
+      subst (Has w (Ext n 1)) (at_fun (exts_of l n) 0 x.0 b (ag (Ext n 1) x.0 x.1) h) x.1
+  all_exts n (suc k) b h =
+      let c = at_before (exts_of l n) k b h in
+      let hc : Has w (Ext n (suc k)) c.0 = all_exts n k c.0 c.1 in
+      let g = is_file image t l fit w v ag n (suc k) b h in
+      let ff = fit.files n g.0 g.1 g.2 g.3 in
+      let rg : 2 ≤ b = (part_range image t l fit (Ext n (suc (suc k))) b h).0 in
+      let y : word_in image c.0 126 ≡ b = spelled_link (λ b. word_in image b 126) (word_in image (at_node image l n) 126) (exts_of l n) k c.0 b ff.exts c.1 h in
+      let x = asked_has (Ext n (suc (suc k))) c.0 126 (hc, refl, (λ z. let o : b ≡ 0 = sym y ∙ z in omega arith)) (omega arith) in
+      subst (Has w (Ext n (suc (suc k)))) (at_fun (exts_of l n) (suc k) x.0 b (ag (Ext n (suc (suc k))) x.0 x.1) h) x.1
+
+  all_datas : (n k b : ℕ) → At (datas_of l n) k b → Has w (Data n (suc k)) b
+  all_datas zero k b h = absurd h
+  all_datas (suc i) k b h =
+      let n : ℕ = suc i in
+      let pl : length l.places ≡ length t.entries = fit.places in
+      let lt : i < length l.places = datas_below l.places i k b h in
+      let e = entry_some t n (omega arith) (omega arith) in
+      let g = no_datas image t l n e.0 e.0.body k b refl (fit.entries n e.0 e.1).body h in
+      let ff = fit.files n e.0 g.0 e.1 g.1 in
+      let fl = has_file n e.0 g.0 e.1 g.1 in
+      let fa = file_agrees image t l fit w v ag n (at_node image l n) fl in
+      let same : e.0 ≡ fa.0 = entry_fun t n e.0 fa.0 e.1 fa.2 in
+      let bz : File g.0 ≡ File fa.1 = sym g.1 ∙ ap (λ (x : Entry). x.body) same ∙ fa.3 in
+      let bb : g.0 ≡ fa.1 = cc in
+      let c : count t.kind (length g.0) ≡ data_count image (at_node image l n) =
+      count_agrees image t l fit w v ag n (at_node image l n) g.0 (ap length bb ∙ fa.4) in
+      let len : length (datas_of l n) ≡ count t.kind (length g.0) = ff.datas in
+      let at : k < length (datas_of l n) = at_below (datas_of l n) k b h in
+      let en : count t.kind (length g.0) ≤ 72 * suc (length (exts_of l n)) = ff.enough in
+      let m = table (k / 72) (omega arith) fl in
+      let x = asked_has (Data n (suc k)) m.0 (table_word k) ((at_node image l n, fl, (omega arith)), m.1, refl) (omega arith) in
+      subst (Has w (Data n (suc k))) (at_fun (datas_of l n) k x.0 b (ag (Data n (suc k)) x.0 x.1) h) x.1
+    where
+      table : (m : ℕ) → m ≤ length (exts_of l (suc i)) → FileAt image w (suc i) (at_node image l (suc i)) → (a : ℕ) × MemberAt image w (suc i) m a
+      table zero u f = (at_node image l (suc i), f)
+      table (suc m) u f = let e = at_some (exts_of l (suc i)) m (omega arith) in (e.0, all_exts (suc i) m e.0 e.1)
+
+  all_map_exts : (j b : ℕ) → At l.map_exts j b → Has w (MapExt j) b
+  all_map_exts zero b h =
+      let u : 0 < length l.map_exts = at_below l.map_exts 0 b h in
+      let p : length l.map_exts ≡ map_exts_needed (pages_needed (blocks image)) = fit.map_exts in
+      let x = asked_has (MapExt 0) (root_of image) 104 (map_exts_low (pages_needed (blocks image)) 0 (omega arith), refl, refl) (omega arith) in
+      subst (Has w (MapExt 0)) (at_fun l.map_exts 0 x.0 b (ag (MapExt 0) x.0 x.1) h) x.1
+  all_map_exts (suc j) b h =
+      let u : suc j < length l.map_exts = at_below l.map_exts (suc j) b h in
+      let p : length l.map_exts ≡ map_exts_needed (pages_needed (blocks image)) = fit.map_exts in
+      let c = at_before l.map_exts j b h in
+      let x = asked_has (MapExt (suc j)) c.0 127 (map_exts_low (pages_needed (blocks image)) (suc j) (omega arith), all_map_exts j c.0 c.1, refl) (omega arith) in
+      subst (Has w (MapExt (suc j))) (at_fun l.map_exts (suc j) x.0 b (ag (MapExt (suc j)) x.0 x.1) h) x.1
+
+  some_map_ext : (j : ℕ) → 25 + 127 * j < pages_needed (blocks image) → (a : ℕ) × Has w (MapExt j) a
+  some_map_ext j lt =
+      let p : length l.map_exts ≡ map_exts_needed (pages_needed (blocks image)) = fit.map_exts in
+      let u : j < map_exts_needed (pages_needed (blocks image)) = map_exts_high (pages_needed (blocks image)) j lt in
+      let b = at_some l.map_exts j (omega arith) in
+      (b.0, all_map_exts j b.0 b.1)
+
+  -- completeness: each part is in the walk
+  parts_walked : (r : Role) (b : ℕ) → Part image t l r b → Has w r b
+  parts_walked Root b h = subst (Has w Root) h (root_in image v)
+  parts_walked (Page k) b h =
+      let u : k < length l.pages = at_below l.pages k b h in
+      let p : length l.pages ≡ pages_needed (blocks image) = fit.pages in
+      let m = page_word image w k (omega arith) (λ j y. some_map_ext j (omega arith)) in
+      let x = asked_has (Page k) m.0 m.1 m.2 (omega arith) in
+      subst (Has w (Page k)) (at_fun l.pages k x.0 b (ag (Page k) x.0 x.1) h) x.1
+  parts_walked (MapExt j) b h = all_map_exts j b h
+  parts_walked (Head n p s j) b h =
+      let e = entry_at t p s j n h.0 in
+      let u : n ≤ length t.entries = entry_below t n e.0 e.1 in
+      let a = all_heads in
+      let k = has_node image t l fit w v ag p s j n h.0 (omega arith) in
+      subst (Has w (Head n p s j)) (sym (ag (Head n p s j) k.0 k.1).1 ∙ h.1) k.1
+  parts_walked (Ext n zero) b h = absurd h
+  parts_walked (Ext n (suc k)) b h = all_exts n k b h
+  parts_walked (Data n zero) b h = absurd h
+  parts_walked (Data n (suc k)) b h = all_datas n k b h
+
+  pub part_walked : (r : Role) (b : ℕ) → Part image t l r b → Has w r b
+  part_walked r b h = parts_walked r b h
+
+  pub heads_walked : length t.entries ≡ heads w
+  heads_walked = at_least (heads w) refl
+    where
+      at_least : (n : ℕ) → heads w ≡ n → length t.entries ≡ heads w
+      at_least zero z = let a = all_heads in omega arith
+      at_least (suc m) z =
+          let a = all_heads in
+          let k = numbered image v (suc m) (omega arith) (omega arith) in
+          let pt = ag (Head (suc m) k.0 k.1 k.2) k.3 k.4 in
+          let e = entry_at t k.0 k.1 k.2 (suc m) pt.0 in
+          let u : suc m ≤ length t.entries = entry_below t (suc m) e.0 e.1 in
+          omega arith

@@ -1,0 +1,75 @@
+-- What must hold of one block, as a list of demands with their causes.
+use Rattle.std.specs.Prelude.{◌≡◌, ℕ, List, [], ◌∷◌, ◌⊎◌, ◌*◌, length, slice_index, true, not, ◌==◌, ◌&&◌, nat_le}
+use Rattle.adf_fields.specs.Words.{block}
+use Rattle.adf_tree.specs.declared.entry.Kind.{Kind}
+use Rattle.adf_tree.specs.declared.entry.Kind.TheVariants.{Ofs, Ffs}
+use Rattle.adf_blocks.specs.declared.cause.Cause.{Cause}
+use Rattle.adf_blocks.specs.declared.cause.Cause.TheVariants.{BadSize, NotDos, International, DirCache}
+use Rattle.adf_blocks.specs.Forms.{Clause}
+use Rattle.adf_blocks.specs.Sizes.{blocks, is_allowed}
+use Rattle.adf_blocks.specs.RootBlock.{root_form}
+use Rattle.adf_blocks.specs.PageBlock.{page_form}
+use Rattle.adf_blocks.specs.HeadBlock.{head_form}
+use Rattle.adf_blocks.specs.ExtBlock.{ext_form}
+use Rattle.adf_blocks.specs.DataBlock.{data_form}
+
+-- what must hold, the cause where it does not, and the block that is named then
+pub record Demand : Type 1 where
+  pub cause : Cause
+  pub at : ℕ
+  pub holds : Type 0
+
+abbrev pub demand : Cause → ℕ → Type 0 → Demand
+demand c b p = record { cause = c; at = b; holds = p }
+
+-- each demand holds
+abbrev pub AllHold : List Demand → Type 0
+AllHold [] = Unit {0}
+AllHold (x ∷ xs) = x.holds × AllHold xs
+
+-- the first demand that fails has this block and cause
+abbrev pub FirstFails : List Demand → ℕ → Cause → Type 0
+FirstFails [] b c = ⊥
+FirstFails (x ∷ xs) b c = ((x.holds → ⊥) × (x.at ≡ b) × (x.cause ≡ c)) ⊎ (x.holds × FirstFails xs b c)
+
+-- the clauses of a form, demanded of block b
+abbrev pub told : ℕ → List Clause → List Demand
+told b [] = []
+told b (x ∷ xs) = demand x.1 b (x.0 ≡ true) ∷ told b xs
+
+-- the image is whole blocks, of an allowed number
+abbrev pub IsSize : List ℕ → Type 0
+IsSize image = (length image ≡ 512 * blocks image) × (is_allowed (blocks image) ≡ true)
+
+-- what the first boot block holds: `DOS` and a type, of which 0 and 1 are read
+abbrev pub boot_form : List ℕ → List Clause
+boot_form b =
+    ((slice_index b 0 == 0x44) && (slice_index b 1 == 0x4F) && (slice_index b 2 == 0x53) && nat_le (slice_index b 3) 5, NotDos)
+    ∷ (not (slice_index b 3 == 2) && not (slice_index b 3 == 3), International)
+    ∷ (not (slice_index b 3 == 4) && not (slice_index b 3 == 5), DirCache)
+    ∷ []
+
+-- size and boot bytes
+abbrev pub boot_demands : List ℕ → List Demand
+boot_demands image = demand BadSize 0 (IsSize image) ∷ told 0 (boot_form (block image 0))
+
+-- the root at block b
+abbrev pub root_demands : List ℕ → ℕ → List Demand
+root_demands image b = told b (root_form (block image b))
+
+-- a page of the bitmap at block b
+abbrev pub page_demands : List ℕ → ℕ → List Demand
+page_demands image b = told b (page_form (block image b))
+
+-- a header at block b, in the chain of slot s of the directory at block up
+abbrev pub head_demands : List ℕ → Kind → ℕ → ℕ → ℕ → List Demand
+head_demands image kind b up s = told b (head_form kind b up s (block image b))
+
+-- an extension block at block b, of the file at block h
+abbrev pub ext_demands : List ℕ → ℕ → ℕ → List Demand
+ext_demands image b h = told b (ext_form b h (block image b))
+
+-- data block k, at block b, of the file at block h: n bytes held, and the next data block; nothing is demanded of an FFS one
+abbrev pub data_demands : List ℕ → Kind → ℕ → ℕ → ℕ → ℕ → ℕ → List Demand
+data_demands image Ofs b h k n next = told b (data_form h k n next (block image b))
+data_demands image Ffs b h k n next = []

@@ -1,0 +1,68 @@
+-- When a tree and a layout fit an image.
+use Rattle.std.specs.Prelude.{◌≡◌, ℕ, List, [], ◌+◌, ◌-◌, ◌*◌, ◌/◌, ◌%◌, ◌<◌, ◌≤◌, ◌↔◌, map, length, slice_index}
+use Rattle.std.proofs.Common.{zero, suc}
+use Rattle.adf_volume.specs.Lists.{At, In, Spelled, NoBlockTwice}
+use Rattle.adf_tree.specs.declared.entry.Kind.{Kind}
+use Rattle.adf_volume.specs.Image.{word_in, root_of, map_exts_needed, kind_of, DIR, FILE, count, held, table_word, name_of, label_of, meta_of, stamps_of, content, IsFreeAt}
+use Rattle.adf_fields.specs.Hash.{slot_of}
+use Rattle.adf_blocks.specs.Sizes.{blocks, pages_needed}
+use Rattle.adf_volume.specs.Demands.{AllHold, boot_demands, root_demands, page_demands, head_demands, ext_demands, data_demands}
+use Rattle.adf_tree.specs.declared.entry.Body.{Body}
+use Rattle.adf_tree.specs.declared.entry.Entry.{Entry}
+use Rattle.adf_tree.specs.Tree.{Tree, IsDir, IsTree}
+use Rattle.adf_volume.specs.Layout.{EntryAt, chain_nodes, Layout, at_node, exts_of, datas_of, owned}
+use Rattle.adf_volume.specs.declared.owner.Owner.{Owner}
+use Rattle.adf_tree.specs.declared.entry.Body.TheVariants.{Dir, File}
+
+-- member m of the header followed by the extension blocks
+abbrev pub TableAt : List ℕ → Layout → ℕ → ℕ → ℕ → Type 0
+TableAt image l n zero a = at_node image l n ≡ a
+TableAt image l n (suc m) a = At (exts_of l n) m a
+
+-- the bit of block b is set
+abbrev pub IsFree : List ℕ → List ℕ → ℕ → Type 0
+IsFree image pages b = (page : ℕ) × At pages ((b - 2) / 4064) page × IsFreeAt image page ((b - 2) % 4064)
+
+-- the body of entry n, whose header is h
+abbrev pub BodyFits : List ℕ → Kind → Layout → ℕ → ℕ → Body → Type 0
+BodyFits image kind l n h Dir = (word_in image h 127 ≡ DIR) × (exts_of l n ≡ []) × (datas_of l n ≡ [])
+BodyFits image kind l n h (File bytes) = (word_in image h 127 ≡ FILE) × (bytes ≡ content image kind h (datas_of l n)) × (length bytes ≡ word_in image h 81)
+
+-- what is asked of entry n, whose header is h
+pub record EntryFits (image : List ℕ) (t : Tree) (l : Layout) (n h : ℕ) (e : Entry) : Type 0 where
+  pub form : AllHold (head_demands image t.kind h (at_node image l e.parent) (slot_of e.name))
+  pub name : e.name ≡ name_of image h
+  pub meta : e.meta ≡ meta_of image h
+  pub body : BodyFits image t.kind l n h e.body
+
+-- what is asked of the blocks of file n, whose header is h
+pub record FileFits (image : List ℕ) (t : Tree) (l : Layout) (n h : ℕ) (bytes : List ℕ) : Type 0 where
+  pub exts : Spelled (λ b. word_in image b 126) (word_in image h 126) (exts_of l n)
+  pub ext_form : (k b : ℕ) → At (exts_of l n) k b → AllHold (ext_demands image b h)
+  pub enough : count t.kind (length bytes) ≤ 72 * suc (length (exts_of l n))
+  pub datas : length (datas_of l n) ≡ count t.kind (length bytes)
+  pub named : (k b a : ℕ) → At (datas_of l n) k b → TableAt image l n (k / 72) a → word_in image a (table_word k) ≡ b
+  pub data_form : (k b : ℕ) → At (datas_of l n) k b → AllHold (data_demands image t.kind b h (suc k) (held t.kind (length bytes) (suc k)) (slice_index (datas_of l n) (suc k)))
+
+-- the image is a volume of this tree, which lies as the layout says
+pub record Fits (image : List ℕ) (t : Tree) (l : Layout) : Type 0 where
+  pub boots : AllHold (boot_demands image)
+  pub kind : t.kind ≡ kind_of image
+  pub root : AllHold (root_demands image (root_of image))
+  pub label : t.label ≡ label_of image (root_of image)
+  pub stamps : t.stamps ≡ stamps_of image (root_of image)
+  pub tree : IsTree t.entries
+  pub places : length l.places ≡ length t.entries
+  pub pages : length l.pages ≡ pages_needed (blocks image)
+  pub map_exts : length l.map_exts ≡ map_exts_needed (pages_needed (blocks image))
+  pub map_first : (b : ℕ) → At l.map_exts 0 b → word_in image (root_of image) 104 ≡ b
+  pub map_next : (j a b : ℕ) → At l.map_exts j a → At l.map_exts (suc j) b → word_in image a 127 ≡ b
+  pub page_named : (k b : ℕ) → k < 25 → At l.pages k b → word_in image (root_of image) (79 + k) ≡ b
+  pub page_listed : (j i a b : ℕ) → i < 127 → At l.map_exts j a → At l.pages (25 + 127 * j + i) b → word_in image a i ≡ b
+  pub page_form : (k b : ℕ) → At l.pages k b → AllHold (page_demands image b)
+  pub entries : (n : ℕ) (e : Entry) → EntryAt t n e → EntryFits image t l n (at_node image l n) e
+  pub chains : (p s : ℕ) → IsDir t.entries p → s < 72 → Spelled (λ b. word_in image b 124) (word_in image (at_node image l p) (6 + s)) (map (at_node image l) (chain_nodes t p s))
+  pub files : (n : ℕ) (e : Entry) (bytes : List ℕ) → EntryAt t n e → e.body ≡ File bytes → FileFits image t l n (at_node image l n) bytes
+  pub once : NoBlockTwice (owned image l)
+  pub range : (o : Owner) (b : ℕ) → In (owned image l) (o, b) → (2 ≤ b) × (b < blocks image)
+  pub bitmap : (b : ℕ) → 2 ≤ b → b < blocks image → IsFree image l.pages b ↔ ((o : Owner) → In (owned image l) (o, b) → ⊥)

@@ -1,0 +1,85 @@
+-- What an image holds, by the numbers of its blocks.
+use Rattle.std.specs.Prelude.{ℕ, List, [], ◌∷◌, ◌++◌, ◌+◌, ◌-◌, ◌*◌, ◌/◌, ◌%◌, ◌==◌, cond, nat_lt, slice_index, slice_range, take}
+use Rattle.adf_fields.specs.Words.{block, word}
+use Rattle.adf_tree.specs.declared.entry.Kind.{Kind}
+use Rattle.adf_tree.specs.declared.entry.Kind.TheVariants.{Ofs, Ffs}
+use Rattle.adf_tree.specs.declared.entry.Meta.{Meta}
+use Rattle.adf_tree.specs.declared.entry.Stamps.{Stamps}
+use Rattle.adf_blocks.specs.Forms.{text_at, stamp_at}
+use Rattle.adf_blocks.specs.PageBlock.{IsFreeBit}
+use Rattle.adf_blocks.specs.RootBlock.{stamps_at}
+use Rattle.adf_blocks.specs.Sizes.{blocks, middle}
+
+-- word i of block b
+abbrev pub word_in : List ℕ → ℕ → ℕ → ℕ
+word_in image b i = word (block image b) i
+
+-- the block of the root
+abbrev pub root_of : List ℕ → ℕ
+root_of image = middle (blocks image)
+
+-- the kind that the boot bytes tell
+unfoldable pub kind_of : List ℕ → Kind
+kind_of image = cond (slice_index (block image 0) 3 == 0) Ofs Ffs
+
+-- the secondary types of a directory and of a file
+abbrev pub DIR : ℕ
+DIR = 2
+
+abbrev pub FILE : ℕ
+FILE = 0xFFFFFFFD
+
+-- the name in a header
+unfoldable pub name_of : List ℕ → ℕ → List ℕ
+name_of image b = text_at (block image b) 432
+
+-- the label in a root
+unfoldable pub label_of : List ℕ → ℕ → List ℕ
+label_of image b = text_at (block image b) 432
+
+-- comment, protection and date in a header
+unfoldable pub meta_of : List ℕ → ℕ → Meta
+meta_of image b = record { comment = text_at (block image b) 328; protect = word_in image b 80; stamp = stamp_at (block image b) 105 }
+
+-- the three dates in a root
+unfoldable pub stamps_of : List ℕ → ℕ → Stamps
+stamps_of image b = stamps_at (block image b)
+
+-- the bytes of content that a full data block holds
+unfoldable pub chunk : Kind → ℕ
+chunk Ofs = 488
+chunk Ffs = 512
+
+-- the data blocks that so many bytes need
+unfoldable pub count : Kind → ℕ → ℕ
+count kind size = (size + (chunk kind - 1)) / chunk kind
+
+-- the bytes that data block k, counted from 1, of a file of this size holds
+unfoldable pub held : Kind → ℕ → ℕ → ℕ
+held kind size k = cond (nat_lt (chunk kind * k) size) (chunk kind) (size - chunk kind * (k - 1))
+
+-- data block k + 1 of a file is named by this word of its header or of an extension block
+abbrev pub table_word : ℕ → ℕ
+table_word k = 77 - k % 72
+
+-- the data area of a block
+unfoldable pub area : Kind → List ℕ → List ℕ
+area Ofs b = slice_range b 24 512
+area Ffs b = slice_range b 0 512
+
+-- the data areas of blocks, one after the other
+abbrev pub joined : List ℕ → Kind → List ℕ → List ℕ
+joined image kind [] = []
+joined image kind (b ∷ bs) = area kind (block image b) ++ joined image kind bs
+
+-- the content of the file whose header is block h: its data areas joined, cut at the size in the header
+unfoldable pub content : List ℕ → Kind → ℕ → List ℕ → List ℕ
+content image kind h datas = take (word_in image h 81) (joined image kind datas)
+
+-- the bitmap extension blocks that so many pages need: the root names 25 pages, each extension block 127
+unfoldable pub map_exts_needed : ℕ → ℕ
+map_exts_needed pages = (pages - 25 + 126) / 127
+
+-- the bit is set in the page at this block
+abbrev pub IsFreeAt : List ℕ → ℕ → ℕ → Type 0
+IsFreeAt image page bit = IsFreeBit (block image page) bit

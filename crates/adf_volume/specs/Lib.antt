@@ -1,0 +1,8 @@
+pub mod Lists
+pub mod Image
+pub mod Demands
+pub mod Layout
+pub mod Fits
+pub mod Walk
+pub mod Parts
+pub mod Made

@@ -1,0 +1,232 @@
+-- Walks of an image: what the checker reads, in its order, told by relations over the whole list.
+use Rattle.std.specs.Prelude.{◌≡◌, ℕ, List, [], ◌∷◌, ◌⊎◌, ◌+◌, ◌-◌, ◌*◌, ◌/◌, ◌%◌, ◌<◌, ◌≤◌, ◌≢◌, cond, ◌==◌, ◌++◌, nat_lt}
+use Rattle.std.proofs.Common.{zero, suc}
+use Rattle.adf_blocks.specs.declared.cause.Cause.{Cause}
+use Rattle.adf_blocks.specs.declared.cause.Cause.TheVariants.{OutOfRange, Taken, SameName, ShortFile, LostBlock, OwnedFree}
+use Rattle.adf_volume.specs.Image.{word_in, root_of, kind_of, DIR, FILE, count, held, table_word, name_of, IsFreeAt}
+use Rattle.adf_tree.specs.Texts.{uppers}
+use Rattle.adf_blocks.specs.Sizes.{blocks, pages_needed}
+use Rattle.adf_volume.specs.Demands.{Demand, demand, AllHold, FirstFails, boot_demands, root_demands, page_demands, head_demands, ext_demands, data_demands}
+
+-- A header is that of node n, at place j of the chain of slot s of directory p.
+pub data Role : Type 0 where
+  Root : Role
+  Page : (i : ℕ) → Role
+  MapExt : (j : ℕ) → Role
+  Head : (n p s j : ℕ) → Role
+  Ext : (n k : ℕ) → Role
+  Data : (n k : ℕ) → Role
+
+-- Roles are ordered by three numbers: pages by number, each bitmap extension block before the 127 pages that it names
+-- (page 25 + 127 * j + i is behind extension block j, at 26 + 128 * j + i); then by node; in a directory by slot and place; in a file
+-- extensions, then data.
+abbrev pub first : Role → ℕ
+first Root = 0
+first (Page i) = 0
+first (MapExt i) = 0
+first (Head n p s j) = suc p
+first (Ext n k) = suc n
+first (Data n k) = suc n
+
+abbrev pub second : Role → ℕ
+second Root = 0
+second (Page i) = 1
+second (MapExt i) = 1
+second (Head n p s j) = suc (suc s)
+second (Ext n k) = 0
+second (Data n k) = 1
+
+abbrev pub third : Role → ℕ
+third Root = 0
+third (Page i) = i + (i + 102) / 127
+third (MapExt j) = 25 + 128 * j
+third (Head n p s j) = j
+third (Ext n k) = k
+third (Data n k) = k
+
+abbrev pub Before : Role → Role → Type 0
+Before r q = (first r ≤ first q) × (first r ≡ first q → second r ≤ second q) × (first r ≡ first q → second r ≡ second q → third r < third q)
+
+abbrev pub Same : Role → Role → Type 0
+Same r q = (first r ≡ first q) × (second r ≡ second q) × (third r ≡ third q)
+
+-- A walk is a list of roles with blocks, the newest first. It has this role at this block.
+abbrev pub Has : List (Role × ℕ) → Role → ℕ → Type 0
+Has [] r b = ⊥
+Has (x ∷ w) r b = ((x.0 ≡ r) × (x.1 ≡ b)) ⊎ Has w r b
+
+abbrev pub head_count : Role → ℕ → ℕ
+head_count (Head n p s j) m = suc m
+head_count Root m = m
+head_count (Page i) m = m
+head_count (MapExt i) m = m
+head_count (Ext n k) m = m
+head_count (Data n k) m = m
+
+-- how many headers a walk has
+abbrev pub heads : List (Role × ℕ) → ℕ
+heads [] = 0
+heads (x ∷ w) = head_count x.0 (heads w)
+
+-- node n has its block at a
+abbrev pub NodeAt : List (Role × ℕ) → ℕ → ℕ → Type 0
+NodeAt w zero a = Has w Root a
+NodeAt w (suc i) a = (p s j : ℕ) × Has w (Head (suc i) p s j) a
+
+abbrev pub DirAt : List ℕ → List (Role × ℕ) → ℕ → ℕ → Type 0
+DirAt image w zero a = Has w Root a
+DirAt image w (suc i) a = NodeAt w (suc i) a × (word_in image a 127 ≡ DIR)
+
+abbrev pub FileAt : List ℕ → List (Role × ℕ) → ℕ → ℕ → Type 0
+FileAt image w n a = ((p s j : ℕ) × Has w (Head n p s j) a) × (word_in image a 127 ≡ FILE)
+
+-- member m of the header of n followed by its extension blocks
+abbrev pub MemberAt : List ℕ → List (Role × ℕ) → ℕ → ℕ → ℕ → Type 0
+MemberAt image w n zero a = FileAt image w n a
+MemberAt image w n (suc m) a = Has w (Ext n (suc m)) a
+
+abbrev pub data_count : List ℕ → ℕ → ℕ
+data_count image h = count (kind_of image) (word_in image h 81)
+
+-- word i of block a is the one for page k: of the root, or of a bitmap extension block that the walk has
+abbrev pub NamesPage : List ℕ → List (Role × ℕ) → ℕ → ℕ → ℕ → Type 0
+NamesPage image w k a i = ((k < 25) × (a ≡ root_of image) × (i ≡ 79 + k)) ⊎ ((j : ℕ) × Has w (MapExt j) a × (i < 127) × (k ≡ 25 + 127 * j + i))
+
+-- the walk asks for the role by word i of block a
+abbrev pub Asks : List ℕ → List (Role × ℕ) → Role → ℕ → ℕ → Type 0
+Asks image w Root a i = ⊥
+Asks image w (Page k) a i = (k < pages_needed (blocks image)) × NamesPage image w k a i
+Asks image w (MapExt zero) a i = (25 < pages_needed (blocks image)) × (a ≡ root_of image) × (i ≡ 104)
+Asks image w (MapExt (suc j)) a i = (25 + 127 * suc j < pages_needed (blocks image)) × Has w (MapExt j) a × (i ≡ 127)
+Asks image w (Head n p s zero) a i = (n ≡ suc (heads w)) × (s < 72) × DirAt image w p a × (i ≡ 6 + s) × (word_in image a i ≢ 0)
+Asks image w (Head n p s (suc j)) a i = (n ≡ suc (heads w)) × ((m : ℕ) × Has w (Head m p s j) a) × (i ≡ 124) × (word_in image a i ≢ 0)
+Asks image w (Ext n zero) a i = ⊥
+Asks image w (Ext n (suc zero)) a i = FileAt image w n a × (i ≡ 126) × (word_in image a i ≢ 0)
+Asks image w (Ext n (suc (suc k))) a i = Has w (Ext n (suc k)) a × (i ≡ 126) × (word_in image a i ≢ 0)
+Asks image w (Data n zero) a i = ⊥
+Asks image w (Data n (suc k)) a i = ((h : ℕ) × FileAt image w n h × (k < data_count image h)) × MemberAt image w n (k / 72) a × (i ≡ table_word k)
+
+abbrev pub Lacks : List (Role × ℕ) → Role → Type 0
+Lacks w r = (q : Role) (b : ℕ) → Has w q b → Same q r → ⊥
+
+-- the least role asked for that the walk lacks
+pub record IsDue (image : List ℕ) (w : List (Role × ℕ)) (r : Role) (a i : ℕ) : Type 0 where
+  pub asked : Asks image w r a i
+  pub lacks : Lacks w r
+  pub least : (q : Role) (c k : ℕ) → Asks image w q c k → Lacks w q → Before q r → ⊥
+
+abbrev pub ext_count_of : ℕ → Role → ℕ → ℕ
+ext_count_of n (Ext m k) c = cond (n == m) (suc c) c
+ext_count_of n Root c = c
+ext_count_of n (Page i) c = c
+ext_count_of n (MapExt i) c = c
+ext_count_of n (Head m p s j) c = c
+ext_count_of n (Data m k) c = c
+
+-- how many extension blocks of file n the walk has
+abbrev pub ext_count : List (Role × ℕ) → ℕ → ℕ
+ext_count [] n = 0
+ext_count (x ∷ w) n = ext_count_of n x.0 (ext_count w n)
+
+-- the first data block of a file that has too few extension blocks: ShortFile
+abbrev pub Enough : List ℕ → List (Role × ℕ) → Role → Type 0
+Enough image w Root = Unit {0}
+Enough image w (Page i) = Unit {0}
+Enough image w (MapExt i) = Unit {0}
+Enough image w (Head n p s j) = Unit {0}
+Enough image w (Ext n k) = Unit {0}
+Enough image w (Data n k) = k ≡ 1 → (h : ℕ) → FileAt image w n h → data_count image h ≤ 72 * suc (ext_count w n)
+
+abbrev pub node_block_of : ℕ → Role → ℕ → ℕ → ℕ
+node_block_of n Root b c = cond (n == 0) b c
+node_block_of n (Page i) b c = c
+node_block_of n (MapExt i) b c = c
+node_block_of n (Head m p s j) b c = cond (n == m) b c
+node_block_of n (Ext m k) b c = c
+node_block_of n (Data m k) b c = c
+
+-- the block of node n, as a function
+abbrev pub node_block : List (Role × ℕ) → ℕ → ℕ
+node_block [] n = 0
+node_block (x ∷ w) n = node_block_of n x.0 x.1 (node_block w n)
+
+abbrev pub ext_block_of : ℕ → ℕ → Role → ℕ → ℕ → ℕ
+ext_block_of n k Root b c = c
+ext_block_of n k (Page i) b c = c
+ext_block_of n k (MapExt i) b c = c
+ext_block_of n k (Head m p s j) b c = c
+ext_block_of n k (Ext m i) b c = cond (n == m) (cond (k == i) b c) c
+ext_block_of n k (Data m i) b c = c
+
+-- extension block k of file n
+abbrev pub ext_block : List (Role × ℕ) → ℕ → ℕ → ℕ
+ext_block [] n k = 0
+ext_block (x ∷ w) n k = ext_block_of n k x.0 x.1 (ext_block w n k)
+
+-- member m of the header of n followed by its extension blocks
+abbrev pub member_block : List (Role × ℕ) → ℕ → ℕ → ℕ
+member_block w n zero = node_block w n
+member_block w n (suc m) = ext_block w n (suc m)
+
+-- what the table of file n has for data block k + 1, or 0 where that is past the last
+abbrev pub next_data : List ℕ → List (Role × ℕ) → ℕ → ℕ → ℕ
+next_data image w n k = cond (nat_lt k (data_count image (node_block w n))) (word_in image (member_block w n (k / 72)) (table_word k)) 0
+
+-- the form of block b in the role
+abbrev pub form_demands : List ℕ → List (Role × ℕ) → Role → ℕ → List Demand
+form_demands image w Root b = []
+form_demands image w (Page i) b = page_demands image b
+form_demands image w (MapExt j) b = []
+form_demands image w (Head n p s j) b = head_demands image (kind_of image) b (node_block w p) s
+form_demands image w (Ext n k) b = ext_demands image b (node_block w n)
+form_demands image w (Data n k) b = data_demands image (kind_of image) b (node_block w n) k (held (kind_of image) (word_in image (node_block w n) 81) k) (next_data image w n k)
+
+-- no earlier header of the chain has an equal name: SameName
+abbrev pub NewName : List ℕ → List (Role × ℕ) → Role → ℕ → Type 0
+NewName image w Root b = Unit {0}
+NewName image w (Page i) b = Unit {0}
+NewName image w (MapExt i) b = Unit {0}
+NewName image w (Head n p s j) b = (m k c : ℕ) → Has w (Head m p s k) c → uppers (name_of image c) ≢ uppers (name_of image b)
+NewName image w (Ext n k) b = Unit {0}
+NewName image w (Data n k) b = Unit {0}
+
+-- no member of the walk has this block
+abbrev pub IsAbsent : List (Role × ℕ) → ℕ → Type 0
+IsAbsent w b = (q : Role) → Has w q b → ⊥
+
+-- what must hold of a role, named by a word of block a as block b
+abbrev pub demands : List ℕ → List (Role × ℕ) → Role → ℕ → ℕ → List Demand
+demands image w r a b =
+    demand ShortFile a (Enough image w r)
+    ∷ demand OutOfRange a ((2 ≤ b) × (b < blocks image))
+    ∷ demand Taken b (IsAbsent w b)
+    ∷ form_demands image w r b ++ demand SameName b (NewName image w r b) ∷ []
+
+abbrev pub NoCause : List ℕ → List (Role × ℕ) → Role → ℕ → ℕ → Type 0
+NoCause image w r a b = AllHold (demands image w r a b)
+
+pub data IsWalk (image : List ℕ) : List (Role × ℕ) → Type 0 where
+  start : IsWalk image ((Root, root_of image) ∷ [])
+  step : {w : List (Role × ℕ)} {r : Role} {b a i : ℕ} → IsWalk image w → IsDue image w r a i → word_in image a i ≡ b → NoCause image w r a b → IsWalk image ((r, b) ∷ w)
+
+-- the walk asks for nothing that it lacks
+abbrev pub IsWhole : List ℕ → List (Role × ℕ) → Type 0
+IsWhole image w = (r : Role) (a i : ℕ) → Asks image w r a i → Lacks w r → ⊥
+
+-- the walk has the page of block b, and its bit is set
+abbrev pub IsFreeIn : List ℕ → List (Role × ℕ) → ℕ → Type 0
+IsFreeIn image w b = (page : ℕ) × Has w (Page ((b - 2) / 4064)) page × IsFreeAt image page ((b - 2) % 4064)
+
+-- n blocks of the bitmap, from b on: in use without an owner, or owned and free
+abbrev pub bitmap_demands : List ℕ → List (Role × ℕ) → ℕ → ℕ → List Demand
+bitmap_demands image w b zero = []
+bitmap_demands image w b (suc n) =
+    demand LostBlock b (IsAbsent w b → IsFreeIn image w b)
+    ∷ demand OwnedFree b (IsFreeIn image w b → IsAbsent w b)
+    ∷ bitmap_demands image w (suc b) n
+
+-- The first fault: of size, boot bytes and root; else of what is due after some walk; else of the bitmap after a whole walk.
+pub data FirstFault (image : List ℕ) (b : ℕ) (c : Cause) : Type 0 where
+  at_boot : FirstFails (boot_demands image ++ root_demands image (root_of image)) b c → FirstFault image b c
+  at_due : AllHold (boot_demands image ++ root_demands image (root_of image)) → (w : List (Role × ℕ)) (r : Role) (a i : ℕ) → IsWalk image w → IsDue image w r a i → FirstFails (demands image w r a (word_in image a i)) b c → FirstFault image b c
+  at_bitmap : AllHold (boot_demands image ++ root_demands image (root_of image)) → (w : List (Role × ℕ)) → IsWalk image w → IsWhole image w → FirstFails (bitmap_demands image w 2 (blocks image - 2)) b c → FirstFault image b c

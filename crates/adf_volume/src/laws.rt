@@ -1,0 +1,57 @@
+// The laws of walks. Each is the contract of a function that does nothing.
+
+ghost use Rattle.std.specs.Prelude.{◌≡◌, ℕ, List, ◌-◌, ◌↔◌, Some, None};
+ghost use Rattle.adf_tree.specs.Tree.{Tree};
+ghost use Rattle.adf_blocks.specs.declared.cause.Cause.{Cause};
+ghost use Rattle.adf_blocks.specs.Forms.{Clause, first_cause};
+ghost use Rattle.adf_blocks.specs.Sizes.{blocks};
+ghost use Rattle.adf_volume.specs.Image.{root_of, word_in};
+ghost use Rattle.adf_volume.specs.Demands.{AllHold, FirstFails, boot_demands, root_demands, told};
+ghost use Rattle.adf_volume.specs.Layout.{Layout};
+ghost use Rattle.adf_volume.specs.Fits.{Fits};
+ghost use Rattle.adf_volume.specs.Walk.{FirstFault, Has, IsDue, IsWalk, IsWhole, NoCause, Role, bitmap_demands};
+ghost use Rattle.adf_volume.specs.Parts.{Part};
+ghost use Rattle.adf_volume.specs.Made.{layout_in, tree_in};
+
+/// The demands of a form all hold exactly where it has no first cause; the first that fails is its first cause.
+pub fn told_form()
+    ensures all { (b : ℕ) (form : List Clause) → AllHold (told b form) ↔ (first_cause form ≡ None) }
+    ensures first { (b a : ℕ) (c : Cause) (form : List Clause) → FirstFails (told b form) a c ↔ ((first_cause form ≡ Some c) × (b ≡ a)) }
+{}
+
+/// Where a tree and a layout fit, what a walk has is a part of them, and what is due next is one and has no cause.
+pub fn agreement()
+    ensures part { (image : List ℕ) (t : Tree) (l : Layout) (w : List (Role × ℕ)) → Fits image t l → IsWalk image w
+        → (r : Role) (b : ℕ) → Has w r b → Part image t l r b }
+    ensures due { (image : List ℕ) (t : Tree) (l : Layout) (w : List (Role × ℕ)) → Fits image t l → IsWalk image w
+        → (r : Role) (a i : ℕ) → IsDue image w r a i → Part image t l r (word_in image a i) × NoCause image w r a (word_in image a i) }
+{}
+
+/// Where besides nothing is due, each part is in the walk.
+pub fn completeness()
+    ensures { (image : List ℕ) (t : Tree) (l : Layout) (w : List (Role × ℕ)) → Fits image t l → IsWalk image w → IsWhole image w
+        → (r : Role) (b : ℕ) → Part image t l r b → Has w r b }
+{}
+
+/// An image with a first fault has no tree.
+pub fn none_fits()
+    ensures { (image : List ℕ) (b : ℕ) (c : Cause) → FirstFault image b c → (t : Tree) (l : Layout) → Fits image t l → ⊥ }
+{}
+
+/// Two trees that fit an image with a whole walk are one, and so are their layouts.
+pub fn one_tree()
+    ensures { (image : List ℕ) (w : List (Role × ℕ)) → IsWalk image w → IsWhole image w
+        → (t u : Tree) (l m : Layout) → Fits image t l → Fits image u m → (t ≡ u) × (l ≡ m) }
+{}
+
+/// What a whole walk tells of an image whose boot bytes, root and bitmap are sound, fits it.
+pub fn what_is_told_fits()
+    ensures { (image : List ℕ) (w : List (Role × ℕ)) → AllHold (boot_demands image) → AllHold (root_demands image (root_of image))
+        → IsWalk image w → IsWhole image w → AllHold (bitmap_demands image w 2 (blocks image - 2))
+        → Fits image (tree_in image w) (layout_in w) }
+{}
+
+/// An image has one first fault at most.
+pub fn one_fault()
+    ensures { (image : List ℕ) (b d : ℕ) (c e : Cause) → FirstFault image b c → FirstFault image d e → (b ≡ d) × (c ≡ e) }
+{}
