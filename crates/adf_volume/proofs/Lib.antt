@@ -15,3 +15,11 @@ pub mod Made
 pub mod Owners
 pub mod Sound
 pub mod Alone
+pub mod Cursors
+pub mod Claims
+pub mod Steps
+pub mod InChains
+pub mod InPages
+pub mod InFiles
+pub mod InRows
+pub mod InBitmap

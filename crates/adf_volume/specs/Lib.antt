@@ -6,3 +6,5 @@ pub mod Fits
 pub mod Walk
 pub mod Parts
 pub mod Made
+pub mod Cursor
+pub mod Reading

@@ -1,0 +1,167 @@
+-- The steps of a reader along the bitmap, and what it tells at the end.
+use Rattle.std.proofs.Common.{◌≡◌, ℕ, zero, suc, List, [], ◌∷◌, ◌++◌, ◌⊎◌, inl, inr, ◌+◌, ◌-◌, ◌*◌, ◌/◌, ◌%◌, ◌<◌, ◌≤◌, ◌≢◌, length, refl, sym, ap, subst, ◌∙◌, arith, Bool, true, false, cond, set, get_or, length-set, get_or-set_same, get_or-set_other}
+use Rattle.std.specs.Prelude.{nat_lt, slice_index, IsTrue, ◌↔◌}
+use Rattle.std.proofs.lemmas.Bool.Decides.{nat_tests}
+use native.Mathlib.Decide.{dec_lt, ℕ_discrete}
+use Rattle.adf_blocks.specs.declared.cause.Cause.{Cause}
+use Rattle.adf_blocks.specs.declared.cause.Cause.TheVariants.{OutOfRange, Taken, SameName, ShortFile, LostBlock, OwnedFree, NoMemory}
+use Rattle.adf_volume.specs.Lists.{At}
+use Rattle.adf_volume.specs.Image.{word_in, root_of, kind_of, held, table_word, IsFreeAt, DIR}
+use Rattle.adf_blocks.specs.Sizes.{blocks, pages_needed}
+use Rattle.adf_volume.specs.Demands.{Demand, demand, AllHold, FirstFails, boot_demands, root_demands, page_demands, ext_demands, data_demands}
+use Rattle.adf_volume.specs.Walk.{Role, first, second, third, Has, head_count, heads, DirAt, FileAt, MemberAt, data_count, NamesPage, Asks, ext_count, Enough, IsAbsent, NewName, form_demands, demands, node_block, member_block, next_data, IsWalk, IsWhole, IsFreeIn, bitmap_demands, FirstFault}
+use Rattle.adf_volume.specs.Walk.Role.{Root, Page, MapExt, Head, Ext, Data}
+use Rattle.adf_volume.specs.Walk.FirstFault.{at_due, at_bitmap}
+use Rattle.adf_volume.specs.Cursor.{IsUpTo}
+use Rattle.adf_volume.specs.Reading.{Tells, IsNamed, IsBeforePage, IsAtPage, map_ext_block, block_of_page, IsListed, IsAtNode, IsAtSlot, NextExt, IsInExts, IsInDatas, IsRead, IsMapped, TellsFit, Row, owner_at, Owns, Rows}
+use Rattle.adf_tree.specs.Tree.{Tree}
+use Rattle.adf_volume.specs.Layout.{Layout}
+use Rattle.adf_volume.specs.Fits.{Fits}
+use Rattle.adf_volume.proofs.Told.{head_type}
+use Rattle.adf_volume.proofs.Images.{page_in}
+use Rattle.adf_volume.proofs.Lists.{fails_left, all_append, all_split, at_below, at_some, at_snoc, snoc_length, at_fun, at_index}
+use Rattle.adf_volume.proofs.Walks.{file_is, member_is, numbered, one_block, one_head, count_own, ext_counted, asked_block, root_in, page_word}
+use Rattle.adf_volume.proofs.Kept.{kept, file_up, member_up}
+use Rattle.adf_volume.specs.Made.{tree_in, layout_in}
+use Rattle.adf_volume.proofs.Sound.{fits, all_map_exts}
+use Rattle.adf_volume.proofs.Unique.{one_tree}
+use Rattle.adf_volume.proofs.Cursors.{begin, is_due, take_it, end_all_pages, enter_dir, end_dir, enter_file, end_exts, end_datas, end_all}
+use Rattle.adf_volume.specs.declared.owner.Owner.{Owner}
+use Rattle.adf_volume.specs.declared.owner.Owner.TheVariants.{Free, Boot, Root as TheRoot}
+use Rattle.adf_volume.specs.Parts.{owner_of}
+use Rattle.adf_volume.proofs.Claims.{IsPlain, free_absent, taken_present, tells_plain}
+use Rattle.adf_volume.proofs.Steps.{less, plain_enough, plain_range, plain_taken, plain_form, plain_upto, plain_tells, cond_yes, cond_no, lt_test, ge_test, at_get}
+use Rattle.adf_volume.proofs.InPages.{page_is}
+
+-- the bitmap, one block more
+bitmap_more : (image : List ℕ) (w : List (Role × ℕ)) (b n : ℕ) → AllHold (bitmap_demands image w b n) → (IsAbsent w (b + n) → IsFreeIn image w (b + n)) → (IsFreeIn image w (b + n) → IsAbsent w (b + n)) → AllHold (bitmap_demands image w b (suc n))
+bitmap_more image w b zero h f g =
+    let e : b + 0 ≡ b = omega arith in
+    (subst (λ b. IsAbsent w b → IsFreeIn image w b) e f, (subst (λ b. IsFreeIn image w b → IsAbsent w b) e g, tt))
+bitmap_more image w b (suc n) h f g =
+    let e : b + suc n ≡ suc b + n = omega arith in
+    (h.0, (h.1.0, bitmap_more image w (suc b) n h.1.1 (subst (λ b. IsAbsent w b → IsFreeIn image w b) e f) (subst (λ b. IsFreeIn image w b → IsAbsent w b) e g)))
+
+bitmap_fails : (image : List ℕ) (w : List (Role × ℕ)) (b n m x : ℕ) (c : Cause) → AllHold (bitmap_demands image w b n) → x ≡ b + n → n < m →
+    (((IsAbsent w x → IsFreeIn image w x) → ⊥) × (c ≡ LostBlock)) ⊎ ((IsAbsent w x → IsFreeIn image w x) × (((IsFreeIn image w x → IsAbsent w x) → ⊥) × (c ≡ OwnedFree))) → FirstFails (bitmap_demands image w b m) x c
+bitmap_fails image w b n zero x c h e lt f = absurd (omega arith)
+bitmap_fails image w b zero (suc m) x c h e lt f =
+    let z : x ≡ b = omega arith in
+    elim f [
+      | inl y ↦ inl (subst (λ x. (IsAbsent w x → IsFreeIn image w x) → ⊥) z y.0, sym z, sym y.1)
+      | inr y ↦ inr (subst (λ x. IsAbsent w x → IsFreeIn image w x) z y.0, inl (subst (λ x. (IsFreeIn image w x → IsAbsent w x) → ⊥) z y.1.0, sym z, sym y.1.1))
+    ]
+bitmap_fails image w b (suc n) (suc m) x c h e lt f = inr (h.0, inr (h.1.0, bitmap_fails image w (suc b) n m x c h.1.1 (omega arith) (omega arith) f))
+
+-- what the reader sees of block b: its page, the bit there and the table
+module _ (image : List ℕ) (owners : List Owner) (rows : List Row) (b page : ℕ) (free : Bool) (list : List ℕ) (hi : b < blocks image) (listed : IsListed image list (pages_needed (blocks image))) (page_is_at : page ≡ slice_index list ((b - 2) / 4064)) (free_is : IsTrue free ↔ IsFreeAt image page ((b - 2) % 4064)) (st : IsMapped image owners rows b) where
+  has_page : Has st.walk (Page ((b - 2) / 4064)) page
+  has_page =
+      let lo : 2 ≤ b = st.low in
+      let q : ℕ = (b - 2) / 4064 in
+      let lt : q < pages_needed (blocks image) = page_in (blocks image) b lo hi in
+      let n : length list ≡ pages_needed (blocks image) = listed.size in
+      let m = page_word image st.walk q lt (λ j y. all_map_exts image st.walk st.whole j (omega arith)) in
+      let x = asked_block image st.walk st.whole (Page q) m.0 m.1 m.2 (omega arith) in
+      let k : block_of_page image q ≡ x.0 = page_is image st.walk q x.0 st.is_walk x.1 in
+      let l : block_of_page image q ≡ slice_index list q = listed.pages q (slice_index list q) (at_get list q (omega arith)) in
+      subst (Has st.walk (Page q)) (sym k ∙ l ∙ sym page_is_at) x.1
+
+  only_page : (c : ℕ) → Has st.walk (Page ((b - 2) / 4064)) c → c ≡ page
+  only_page c h = (one_block image st.is_walk (Page ((b - 2) / 4064)) (Page ((b - 2) / 4064)) c page h has_page (refl, refl, refl)).1
+
+  free_then : free ≡ true → IsFreeIn image st.walk b
+  free_then e = (page, has_page, free_is.0 e)
+
+  then_free : IsFreeIn image st.walk b → free ≡ true
+  then_free f = free_is.1 (subst (λ p. IsFreeAt image p ((b - 2) % 4064)) (only_page f.0 f.1) f.2)
+
+  absent_then : owner_at owners b ≡ Free → IsAbsent st.walk b
+  absent_then h = free_absent image owners st.walk st.tells.owns b h
+
+  then_absent : IsAbsent st.walk b → owner_at owners b ≢ Free → ⊥
+  then_absent a h = taken_present image owners st.walk st.tells.owns b st.low hi h a
+
+  length_of : 2 + (b - 2) ≡ b
+  length_of = let lo : 2 ≤ b = st.low in omega arith
+
+  pub lost : AllHold (boot_demands image ++ root_demands image (root_of image)) → free ≡ false → owner_at owners b ≡ Free → FirstFault image b LostBlock
+  lost sound f h =
+      let lo : 2 ≤ b = st.low in
+      at_bitmap sound st.walk st.is_walk st.whole
+      (bitmap_fails image st.walk 2 (b - 2) (blocks image - 2) b LostBlock st.agrees (sym length_of) (omega arith)
+      (inl ((λ k. let x : free ≡ true = then_free (k (absent_then h)) in let y : true ≡ false = sym x ∙ f in cc), refl)))
+
+  pub owned_free : AllHold (boot_demands image ++ root_demands image (root_of image)) → free ≡ true → owner_at owners b ≢ Free → FirstFault image b OwnedFree
+  owned_free sound f h =
+      let lo : 2 ≤ b = st.low in
+      at_bitmap sound st.walk st.is_walk st.whole
+      (bitmap_fails image st.walk 2 (b - 2) (blocks image - 2) b OwnedFree st.agrees (sym length_of) (omega arith)
+      (inr ((λ a. absurd (then_absent a h)), ((λ k. then_absent (k (free_then f)) h), refl))))
+
+  mapped : (IsAbsent st.walk b → IsFreeIn image st.walk b) → (IsFreeIn image st.walk b → IsAbsent st.walk b) → IsMapped image owners rows (suc b)
+  mapped f g =
+      let lo : 2 ≤ b = st.low in
+      let e : suc (b - 2) ≡ suc b - 2 = omega arith in
+      record {
+        walk = st.walk;
+        tells = st.tells;
+        is_walk = st.is_walk;
+        whole = st.whole;
+        low = omega arith;
+        agrees = subst (λ n. AllHold (bitmap_demands image st.walk 2 n)) e
+            (bitmap_more image st.walk 2 (b - 2) st.agrees (subst (λ b. IsAbsent st.walk b → IsFreeIn image st.walk b) (sym length_of) f) (subst (λ b. IsFreeIn image st.walk b → IsAbsent st.walk b) (sym length_of) g));
+      }
+
+  pub mapped_free : free ≡ true → owner_at owners b ≡ Free → IsMapped image owners rows (suc b)
+  mapped_free f h = mapped (λ _. free_then f) (λ _. absent_then h)
+
+  pub mapped_used : free ≡ false → owner_at owners b ≢ Free → IsMapped image owners rows (suc b)
+  mapped_used f h = mapped (λ a. absurd (then_absent a h)) (λ k. absurd (let x : free ≡ true = then_free k in let y : true ≡ false = sym x ∙ f in cc))
+
+pub map_begins : (image : List ℕ) (owners : List Owner) (rows : List Row) → IsRead image owners rows → IsMapped image owners rows 2
+map_begins image owners rows st = record { walk = st.walk; tells = st.tells; is_walk = st.is_walk; whole = st.whole; low = omega arith; agrees = tt }
+
+pub fits_alone : (image : List ℕ) (owners : List Owner) (rows : List Row) (b : ℕ) → AllHold (boot_demands image ++ root_demands image (root_of image)) → b ≡ blocks image → IsMapped image owners rows b → TellsFit image owners rows
+fits_alone image owners rows b sound e st =
+    let s = all_split (boot_demands image) (root_demands image (root_of image)) sound in
+    let f = fits image st.walk st.is_walk st.whole s.0 s.1 (subst (λ n. AllHold (bitmap_demands image st.walk 2 (n - 2))) e st.agrees) in
+    record {
+      walk = st.walk;
+      tells = st.tells;
+      is_walk = st.is_walk;
+      whole = st.whole;
+      fits = f;
+      only = (λ t l g. one_tree image st.walk t (tree_in image st.walk) l (layout_in st.walk) st.is_walk st.whole g f);
+    }
+
+-- the table of the root alone
+pub beginning : (image : List ℕ) (owners : List Owner) → 4 ≤ blocks image → length owners ≡ blocks image → ((b : ℕ) → b < 2 → owner_at owners b ≡ Boot) → owner_at owners (root_of image) ≡ TheRoot →
+    ((b : ℕ) → 2 ≤ b → b < blocks image → b ≢ root_of image → owner_at owners b ≡ Free) → IsBeforePage image owners [] 0 (root_of image)
+beginning image owners four size boot root rest = record {
+  walk = (Root, root_of image) ∷ [];
+  tells = record {
+    owns = record {
+      size = size;
+      boot = (λ b l m. boot b l);
+      told = (λ q b k. elim k [
+        | inl e ↦ ap (owner_at owners) (sym e.1) ∙ (root ∙ ap owner_of e.0)
+        | inr f ↦ absurd f
+      ]);
+      owned = (λ b lo hi h. elim (ℕ_discrete b (root_of image)) [
+        | yes e ↦ (Root, inl (refl, sym e), ap (owner_at owners) e ∙ root)
+        | no n ↦ absurd (h (rest b lo hi (λ e. n e)))
+      ]);
+    };
+    lists = record {
+      count = refl;
+      row = (λ i p s j b h. elim h [
+        | inl e ↦ let x : second Root ≡ second (Head (suc i) p s j) = ap second e.0 in absurd (omega arith)
+        | inr f ↦ absurd f
+      ]);
+    };
+  };
+  upto = begin image;
+  at_root = (λ _. refl);
+  at_ext = (λ j l h. absurd (omega arith));
+}

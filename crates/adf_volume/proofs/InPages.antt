@@ -1,0 +1,147 @@
+-- The steps of a reader at pages and bitmap extension blocks.
+use Rattle.std.proofs.Common.{◌≡◌, ℕ, zero, suc, List, [], ◌∷◌, ◌++◌, ◌⊎◌, inl, inr, ◌+◌, ◌-◌, ◌*◌, ◌/◌, ◌%◌, ◌<◌, ◌≤◌, ◌≢◌, length, refl, sym, ap, subst, ◌∙◌, arith, Bool, true, false, cond, set, get_or, length-set, get_or-set_same, get_or-set_other}
+use Rattle.std.specs.Prelude.{nat_lt, slice_index, IsTrue, ◌↔◌}
+use Rattle.std.proofs.lemmas.Bool.Decides.{nat_tests}
+use native.Mathlib.Decide.{dec_lt, ℕ_discrete}
+use Rattle.adf_blocks.specs.declared.cause.Cause.{Cause}
+use Rattle.adf_blocks.specs.declared.cause.Cause.TheVariants.{OutOfRange, Taken, SameName, ShortFile, LostBlock, OwnedFree, NoMemory}
+use Rattle.adf_volume.specs.Lists.{At}
+use Rattle.adf_volume.specs.Image.{word_in, root_of, kind_of, held, table_word, IsFreeAt, DIR}
+use Rattle.adf_blocks.specs.Sizes.{blocks, pages_needed}
+use Rattle.adf_volume.specs.Demands.{Demand, demand, AllHold, FirstFails, boot_demands, root_demands, page_demands, ext_demands, data_demands}
+use Rattle.adf_volume.specs.Walk.{Role, first, second, third, Has, head_count, heads, DirAt, FileAt, MemberAt, data_count, NamesPage, Asks, ext_count, Enough, IsAbsent, NewName, form_demands, demands, node_block, member_block, next_data, IsWalk, IsWhole, IsFreeIn, bitmap_demands, FirstFault}
+use Rattle.adf_volume.specs.Walk.Role.{Root, Page, MapExt, Head, Ext, Data}
+use Rattle.adf_volume.specs.Walk.FirstFault.{at_due, at_bitmap}
+use Rattle.adf_volume.specs.Cursor.{IsUpTo}
+use Rattle.adf_volume.specs.Reading.{Tells, IsNamed, IsBeforePage, IsAtPage, map_ext_block, block_of_page, IsListed, IsAtNode, IsAtSlot, NextExt, IsInExts, IsInDatas, IsRead, IsMapped, TellsFit, Row, owner_at, Owns, Rows}
+use Rattle.adf_tree.specs.Tree.{Tree}
+use Rattle.adf_volume.specs.Layout.{Layout}
+use Rattle.adf_volume.specs.Fits.{Fits}
+use Rattle.adf_volume.proofs.Told.{head_type}
+use Rattle.adf_volume.proofs.Images.{page_in}
+use Rattle.adf_volume.proofs.Lists.{fails_left, all_append, all_split, at_below, at_some, at_snoc, snoc_length, at_fun, at_index}
+use Rattle.adf_volume.proofs.Walks.{file_is, member_is, numbered, one_block, one_head, count_own, ext_counted, asked_block, root_in, page_word}
+use Rattle.adf_volume.proofs.Kept.{kept, file_up, member_up}
+use Rattle.adf_volume.specs.Made.{tree_in, layout_in}
+use Rattle.adf_volume.proofs.Sound.{fits, all_map_exts}
+use Rattle.adf_volume.proofs.Unique.{one_tree}
+use Rattle.adf_volume.proofs.Cursors.{begin, is_due, take_it, end_all_pages, enter_dir, end_dir, enter_file, end_exts, end_datas, end_all}
+use Rattle.adf_volume.specs.declared.owner.Owner.{Owner}
+use Rattle.adf_volume.specs.declared.owner.Owner.TheVariants.{Free, Boot, Root as TheRoot}
+use Rattle.adf_volume.specs.Parts.{owner_of}
+use Rattle.adf_volume.proofs.Claims.{IsPlain, free_absent, taken_present, tells_plain}
+use Rattle.adf_volume.proofs.Steps.{less, plain_enough, plain_range, plain_taken, plain_form, plain_upto, plain_tells, cond_yes, cond_no, lt_test, ge_test, at_get}
+
+-- pages and bitmap extension blocks
+module _ (image : List ℕ) (w : List (Role × ℕ)) (k a i : ℕ) where
+  pub index_is : (n : ℕ) → NamesPage image w k a n → (k < 25 → i ≡ 79 + k) → (25 ≤ k → i ≡ (k - 25) % 127) → i ≡ n
+  index_is n (inl x) f g = let y : k < 25 = x.0 in let z : n ≡ 79 + k = x.2 in let e : i ≡ 79 + k = f y in omega arith
+  index_is n (inr x) f g = let y : k ≡ 25 + 127 * x.0 + n = x.3 in let l : n < 127 = x.2 in let e : i ≡ (k - 25) % 127 = g (omega arith) in omega arith
+
+  pub at_root_next : (n : ℕ) → NamesPage image w k a n → suc k ≤ 25 → a ≡ root_of image
+  at_root_next n (inl x) l = x.1
+  at_root_next n (inr x) l = let y : k ≡ 25 + 127 * x.0 + n = x.3 in absurd (omega arith)
+
+  pub at_ext_next : (n : ℕ) → NamesPage image w k a n → (j : ℕ) → 25 + 127 * j < suc k → suc k ≤ 25 + 127 * suc j → Has w (MapExt j) a
+  at_ext_next n (inl x) j l h = let y : k < 25 = x.0 in absurd (omega arith)
+  at_ext_next n (inr x) j l h =
+      let y : k ≡ 25 + 127 * x.0 + n = x.3 in
+      let u : n < 127 = x.2 in
+      let e : x.0 ≡ j = omega arith in
+      subst (λ j. Has w (MapExt j) a) e x.1
+
+abbrev pub page_state : (image : List ℕ) (owners : List Owner) (rows : List Row) (k a i b : ℕ) → k < pages_needed (blocks image) → (st : IsAtPage image owners rows k a) → (k < 25 → i ≡ 79 + k) → (25 ≤ k → i ≡ (k - 25) % 127) → b ≡ word_in image a i → IsNamed image owners rows (Page k) a b
+page_state image owners rows k a i b lt st f g e = record { walk = st.walk; tells = st.tells; upto = st.upto; index = st.index; asked = (lt, st.named); names = ap (word_in image a) (sym (index_is image st.walk k a i st.index st.named f g)) ∙ sym e }
+
+pub page_read : (image : List ℕ) (owners : List Owner) (rows : List Row) (k a i b : ℕ) → AllHold (boot_demands image ++ root_demands image (root_of image)) → k < pages_needed (blocks image) → IsAtPage image owners rows k a →
+    (k < 25 → i ≡ 79 + k) → (25 ≤ k → i ≡ (k - 25) % 127) → b ≡ word_in image a i → 2 ≤ b → b < blocks image → owner_at owners b ≡ Free → AllHold (page_demands image b) → IsBeforePage image (set owners b (owner_of (Page k))) rows (suc k) a
+page_read image owners rows k a i b sound lt st p q e lo hi h f =
+    let nm = page_state image owners rows k a i b lt st p q e in
+    let z : suc (k + (k + 102) / 127) ≡ suc k + (suc k + 101) / 127 = omega arith in
+    record {
+      walk = (Page k, b) ∷ st.walk;
+      tells = plain_tells image owners rows (Page k) a b sound tt nm lo hi h;
+      upto = subst (IsUpTo image ((Page k, b) ∷ st.walk) 0 1) z (plain_upto image owners rows (Page k) a b sound tt nm tt lo hi h f);
+      at_root = (λ l. at_root_next image st.walk k a st.index st.index st.named l);
+      at_ext = (λ j l u. inr (at_ext_next image st.walk k a st.index st.index st.named j l u));
+    }
+
+-- where no bitmap extension block comes before page k
+no_ext_names : (image : List ℕ) (w : List (Role × ℕ)) (k a : ℕ) → (k ≤ 25 → a ≡ root_of image) → ((j : ℕ) → 25 + 127 * j < k → k ≤ 25 + 127 * suc j → Has w (MapExt j) a) → (25 ≤ k → 0 < (k - 25) % 127) → (i : ℕ) × NamesPage image w k a i
+no_ext_names image w k a f g h =
+    elim (dec_lt k 25) [
+      | yes l ↦ (79 + k, inl (l, f (omega arith), refl))
+      | no l ↦
+          let x : 0 < (k - 25) % 127 = h (omega arith) in
+          ((k - 25) % 127, inr ((k - 25) / 127, g ((k - 25) / 127) (omega arith) (omega arith), omega arith, omega arith))
+    ]
+
+pub same_holder : (image : List ℕ) (owners : List Owner) (rows : List Row) (k a : ℕ) → IsBeforePage image owners rows k a → (25 ≤ k → 0 < (k - 25) % 127) → IsAtPage image owners rows k a
+same_holder image owners rows k a st h =
+    let x = no_ext_names image st.walk k a st.at_root st.at_ext h in
+    let z : k + (k + 101) / 127 ≡ k + (k + 102) / 127 = elim (dec_lt k 25) [ yes l ↦ omega arith | no l ↦ let y : 0 < (k - 25) % 127 = h (omega arith) in omega arith ] in
+    record { walk = st.walk; tells = st.tells; upto = subst (IsUpTo image st.walk 0 1) z st.upto; index = x.0; named = x.1 }
+
+pub map_ext_asks : (image : List ℕ) (owners : List Owner) (rows : List Row) (k j a i b : ℕ) → k < pages_needed (blocks image) → k ≡ 25 + 127 * j → (st : IsBeforePage image owners rows k a) → (k ≡ 25 → i ≡ 104) → (25 < k → i ≡ 127) → b ≡ word_in image a i →
+    (n : ℕ) × Asks image st.walk (MapExt j) a n × (word_in image a n ≡ b)
+map_ext_asks image owners rows k zero a i b lt z st f g e = (104, (omega arith, st.at_root (omega arith), refl), ap (word_in image a) (sym (f (omega arith))) ∙ sym e)
+map_ext_asks image owners rows k (suc j) a i b lt z st f g e = (127, (omega arith, st.at_ext j (omega arith) (omega arith), refl), ap (word_in image a) (sym (g (omega arith))) ∙ sym e)
+
+abbrev pub map_ext_state : (image : List ℕ) (owners : List Owner) (rows : List Row) (k j a i b : ℕ) → k < pages_needed (blocks image) → k ≡ 25 + 127 * j → (st : IsBeforePage image owners rows k a) → (k ≡ 25 → i ≡ 104) → (25 < k → i ≡ 127) → b ≡ word_in image a i → IsNamed image owners rows (MapExt j) a b
+map_ext_state image owners rows k j a i b lt z st f g e =
+    let q = map_ext_asks image owners rows k j a i b lt z st f g e in
+    let y : k + (k + 101) / 127 ≡ 25 + 128 * j = omega arith in
+    record { walk = st.walk; tells = st.tells; upto = subst (IsUpTo image st.walk 0 1) y st.upto; index = q.0; asked = q.1; names = q.2 }
+
+pub map_ext_read : (image : List ℕ) (owners : List Owner) (rows : List Row) (k j a i b : ℕ) → AllHold (boot_demands image ++ root_demands image (root_of image)) → k < pages_needed (blocks image) → k ≡ 25 + 127 * j → IsBeforePage image owners rows k a →
+    (k ≡ 25 → i ≡ 104) → (25 < k → i ≡ 127) → b ≡ word_in image a i → 2 ≤ b → b < blocks image → owner_at owners b ≡ Free → IsAtPage image (set owners b (owner_of (MapExt j))) rows k b
+map_ext_read image owners rows k j a i b sound lt z st p q e lo hi h =
+    let nm = map_ext_state image owners rows k j a i b lt z st p q e in
+    let y : suc (25 + 128 * j) ≡ k + (k + 102) / 127 = omega arith in
+    let x : k ≡ 25 + 127 * j + 0 = omega arith in
+    record {
+      walk = (MapExt j, b) ∷ st.walk;
+      tells = plain_tells image owners rows (MapExt j) a b sound tt nm lo hi h;
+      upto = subst (IsUpTo image ((MapExt j, b) ∷ st.walk) 0 1) y (plain_upto image owners rows (MapExt j) a b sound tt nm tt lo hi h tt);
+      index = 0;
+      named = inr (j, inl (refl, refl), omega arith, x);
+    }
+
+pub pages_end : (image : List ℕ) (owners : List Owner) (rows : List Row) (a : ℕ) → IsBeforePage image owners rows (pages_needed (blocks image)) a → IsAtNode image owners rows 0
+pages_end image owners rows a st = record { walk = st.walk; tells = st.tells; upto = end_all_pages image st.walk st.upto }
+
+-- pages by the words alone
+map_ext_is : (image : List ℕ) (w : List (Role × ℕ)) (j a : ℕ) → IsWalk image w → Has w (MapExt j) a → map_ext_block image j ≡ a
+map_ext_is image w zero a v h = (kept image v (MapExt 0) a h).1
+map_ext_is image w (suc j) a v h = let k = (kept image v (MapExt (suc j)) a h).1 in ap (λ a. word_in image a 127) (map_ext_is image w j k.0 v k.1) ∙ k.2
+
+names_is : (image : List ℕ) (w : List (Role × ℕ)) (k b a i : ℕ) → IsWalk image w → NamesPage image w k a i → word_in image a i ≡ b → block_of_page image k ≡ b
+names_is image w k b a i v (inl x) e =
+    let t : nat_lt k 25 ≡ true = lt_test k 25 x.0 in
+    cond_yes (nat_lt k 25) (word_in image (root_of image) (79 + k)) (word_in image (map_ext_block image ((k - 25) / 127)) ((k - 25) % 127)) t
+    ∙ ap (word_in image (root_of image)) (sym x.2) ∙ ap (λ a. word_in image a i) (sym x.1) ∙ e
+names_is image w k b a i v (inr x) e =
+    let y : k ≡ 25 + 127 * x.0 + i = x.3 in
+    let l : i < 127 = x.2 in
+    let t : nat_lt k 25 ≡ false = ge_test k 25 (omega arith) in
+    let ej : (k - 25) / 127 ≡ x.0 = omega arith in
+    let ei : (k - 25) % 127 ≡ i = omega arith in
+    cond_no (nat_lt k 25) (word_in image (root_of image) (79 + k)) (word_in image (map_ext_block image ((k - 25) / 127)) ((k - 25) % 127)) t
+    ∙ ap (word_in image (map_ext_block image ((k - 25) / 127))) ei ∙ ap (λ j. word_in image (map_ext_block image j) i) ej ∙ ap (λ a. word_in image a i) (map_ext_is image w x.0 a v x.1) ∙ e
+
+pub page_is : (image : List ℕ) (w : List (Role × ℕ)) (k b : ℕ) → IsWalk image w → Has w (Page k) b → block_of_page image k ≡ b
+page_is image w k b v h = let x = (kept image v (Page k) b h).1 in names_is image w k b x.0 x.1 v x.2 x.3
+
+pub listed_more : (image : List ℕ) (owners : List Owner) (rows : List Row) (k a i b : ℕ) (list : List ℕ) → IsListed image list k → (st : IsAtPage image owners rows k a) → (k < 25 → i ≡ 79 + k) → (25 ≤ k → i ≡ (k - 25) % 127) → b ≡ word_in image a i → IsListed image (list ++ b ∷ []) (suc k)
+listed_more image owners rows k a i b list h st f g e = record {
+  size = snoc_length list b ∙ ap suc h.size;
+  pages = (λ n c x. elim (at_snoc list b n c x) [
+    | inl y ↦ h.pages n c y
+    | inr y ↦
+        let ek : k ≡ n = sym h.size ∙ sym y.0 in
+        ap (block_of_page image) (sym ek) ∙ names_is image st.walk k b a st.index st.upto.walk st.named (ap (word_in image a) (sym (index_is image st.walk k a i st.index st.named f g)) ∙ sym e) ∙ y.1
+  ]);
+}
+
+pub none_listed : (image : List ℕ) → IsListed image [] 0
+none_listed image = record { size = refl; pages = (λ i b h. absurd h) }
