@@ -13,7 +13,8 @@ use Rattle.adf_volume.specs.Walk.{Role, first, second, third, Has, head_count, h
 use Rattle.adf_volume.specs.Walk.Role.{Root, Page, MapExt, Head, Ext, Data}
 use Rattle.adf_volume.specs.Walk.FirstFault.{at_due, at_bitmap}
 use Rattle.adf_volume.specs.Cursor.{IsUpTo}
-use Rattle.adf_volume.specs.Reading.{Tells, IsNamed, IsBeforePage, IsAtPage, map_ext_block, block_of_page, IsListed, IsAtNode, IsAtSlot, NextExt, IsInExts, IsInDatas, IsRead, IsMapped, TellsFit, Row, owner_at, Owns, Rows}
+use Rattle.adf_volume.specs.Reading.{IsNamed, IsBeforePage, IsAtPage, map_ext_block, block_of_page, IsListed, IsAtNode, IsAtSlot, NextExt, IsInExts, IsInDatas, IsRead, IsMapped, TellsFit, IsInNode}
+use Rattle.adf_volume.specs.Store.{Row, Store, owner_at, Owns, Rows, Tells, stored, entered, push_row}
 use Rattle.adf_tree.specs.Tree.{Tree}
 use Rattle.adf_volume.specs.Layout.{Layout}
 use Rattle.adf_volume.specs.Fits.{Fits}
@@ -29,7 +30,7 @@ use Rattle.adf_volume.proofs.Cursors.{begin, is_due, take_it, end_all_pages, ent
 use Rattle.adf_volume.specs.declared.owner.Owner.{Owner}
 use Rattle.adf_volume.specs.declared.owner.Owner.TheVariants.{Free, Boot, Root as TheRoot}
 use Rattle.adf_volume.specs.Parts.{owner_of}
-use Rattle.adf_volume.proofs.Claims.{IsPlain, free_absent, taken_present, tells_plain}
+use Rattle.adf_volume.proofs.Claims.{free_absent, taken_present, tells_more}
 use Rattle.adf_volume.proofs.Steps.{less, plain_enough, plain_range, plain_taken, plain_form, plain_upto, plain_tells, cond_yes, cond_no, lt_test, ge_test, at_get}
 use Rattle.adf_volume.proofs.InPages.{page_is}
 
@@ -54,7 +55,7 @@ bitmap_fails image w b zero (suc m) x c h e lt f =
 bitmap_fails image w b (suc n) (suc m) x c h e lt f = inr (h.0, inr (h.1.0, bitmap_fails image w (suc b) n m x c h.1.1 (omega arith) (omega arith) f))
 
 -- what the reader sees of block b: its page, the bit there and the table
-module _ (image : List ℕ) (owners : List Owner) (rows : List Row) (b page : ℕ) (free : Bool) (list : List ℕ) (hi : b < blocks image) (listed : IsListed image list (pages_needed (blocks image))) (page_is_at : page ≡ slice_index list ((b - 2) / 4064)) (free_is : IsTrue free ↔ IsFreeAt image page ((b - 2) % 4064)) (st : IsMapped image owners rows b) where
+module _ (image : List ℕ) (store : Store) (b page : ℕ) (free : Bool) (list : List ℕ) (hi : b < blocks image) (listed : IsListed image list (pages_needed (blocks image))) (page_is_at : page ≡ slice_index list ((b - 2) / 4064)) (free_is : IsTrue free ↔ IsFreeAt image page ((b - 2) % 4064)) (st : IsMapped image store b) where
   has_page : Has st.walk (Page ((b - 2) / 4064)) page
   has_page =
       let lo : 2 ≤ b = st.low in
@@ -76,36 +77,36 @@ module _ (image : List ℕ) (owners : List Owner) (rows : List Row) (b page : �
   then_free : IsFreeIn image st.walk b → free ≡ true
   then_free f = free_is.1 (subst (λ p. IsFreeAt image p ((b - 2) % 4064)) (only_page f.0 f.1) f.2)
 
-  absent_then : owner_at owners b ≡ Free → IsAbsent st.walk b
-  absent_then h = free_absent image owners st.walk st.tells.owns b h
+  absent_then : owner_at store.owners b ≡ Free → IsAbsent st.walk b
+  absent_then h = free_absent image store.owners st.walk st.tells.owns b h
 
-  then_absent : IsAbsent st.walk b → owner_at owners b ≢ Free → ⊥
-  then_absent a h = taken_present image owners st.walk st.tells.owns b st.low hi h a
+  then_absent : IsAbsent st.walk b → owner_at store.owners b ≢ Free → ⊥
+  then_absent a h = taken_present image store.owners st.walk st.tells.owns b st.low hi h a
 
   length_of : 2 + (b - 2) ≡ b
   length_of = let lo : 2 ≤ b = st.low in omega arith
 
-  pub lost : AllHold (boot_demands image ++ root_demands image (root_of image)) → free ≡ false → owner_at owners b ≡ Free → FirstFault image b LostBlock
+  pub lost : AllHold (boot_demands image ++ root_demands image (root_of image)) → free ≡ false → owner_at store.owners b ≡ Free → FirstFault image b LostBlock
   lost sound f h =
       let lo : 2 ≤ b = st.low in
       at_bitmap sound st.walk st.is_walk st.whole
       (bitmap_fails image st.walk 2 (b - 2) (blocks image - 2) b LostBlock st.agrees (sym length_of) (omega arith)
       (inl ((λ k. let x : free ≡ true = then_free (k (absent_then h)) in let y : true ≡ false = sym x ∙ f in cc), refl)))
 
-  pub owned_free : AllHold (boot_demands image ++ root_demands image (root_of image)) → free ≡ true → owner_at owners b ≢ Free → FirstFault image b OwnedFree
+  pub owned_free : AllHold (boot_demands image ++ root_demands image (root_of image)) → free ≡ true → owner_at store.owners b ≢ Free → FirstFault image b OwnedFree
   owned_free sound f h =
       let lo : 2 ≤ b = st.low in
       at_bitmap sound st.walk st.is_walk st.whole
       (bitmap_fails image st.walk 2 (b - 2) (blocks image - 2) b OwnedFree st.agrees (sym length_of) (omega arith)
       (inr ((λ a. absurd (then_absent a h)), ((λ k. then_absent (k (free_then f)) h), refl))))
 
-  mapped : (IsAbsent st.walk b → IsFreeIn image st.walk b) → (IsFreeIn image st.walk b → IsAbsent st.walk b) → IsMapped image owners rows (suc b)
+  mapped : (IsAbsent st.walk b → IsFreeIn image st.walk b) → (IsFreeIn image st.walk b → IsAbsent st.walk b) → IsMapped image store (suc b)
   mapped f g =
       let lo : 2 ≤ b = st.low in
       let e : suc (b - 2) ≡ suc b - 2 = omega arith in
       record {
         walk = st.walk;
-        tells = st.tells;
+        tells = st.tells; started = st.started;
         is_walk = st.is_walk;
         whole = st.whole;
         low = omega arith;
@@ -113,32 +114,35 @@ module _ (image : List ℕ) (owners : List Owner) (rows : List Row) (b page : �
             (bitmap_more image st.walk 2 (b - 2) st.agrees (subst (λ b. IsAbsent st.walk b → IsFreeIn image st.walk b) (sym length_of) f) (subst (λ b. IsFreeIn image st.walk b → IsAbsent st.walk b) (sym length_of) g));
       }
 
-  pub mapped_free : free ≡ true → owner_at owners b ≡ Free → IsMapped image owners rows (suc b)
+  pub mapped_free : free ≡ true → owner_at store.owners b ≡ Free → IsMapped image store (suc b)
   mapped_free f h = mapped (λ _. free_then f) (λ _. absent_then h)
 
-  pub mapped_used : free ≡ false → owner_at owners b ≢ Free → IsMapped image owners rows (suc b)
+  pub mapped_used : free ≡ false → owner_at store.owners b ≢ Free → IsMapped image store (suc b)
   mapped_used f h = mapped (λ a. absurd (then_absent a h)) (λ k. absurd (let x : free ≡ true = then_free k in let y : true ≡ false = sym x ∙ f in cc))
 
-pub map_begins : (image : List ℕ) (owners : List Owner) (rows : List Row) → IsRead image owners rows → IsMapped image owners rows 2
-map_begins image owners rows st = record { walk = st.walk; tells = st.tells; is_walk = st.is_walk; whole = st.whole; low = omega arith; agrees = tt }
+pub map_begins : (image : List ℕ) (store : Store) → IsRead image store → IsMapped image store 2
+map_begins image store st = record { walk = st.walk; tells = st.tells; started = st.started; is_walk = st.is_walk; whole = st.whole; low = omega arith; agrees = tt }
 
-pub fits_alone : (image : List ℕ) (owners : List Owner) (rows : List Row) (b : ℕ) → AllHold (boot_demands image ++ root_demands image (root_of image)) → b ≡ blocks image → IsMapped image owners rows b → TellsFit image owners rows
-fits_alone image owners rows b sound e st =
+pub fits_alone : (image : List ℕ) (store : Store) (b : ℕ) → AllHold (boot_demands image ++ root_demands image (root_of image)) → b ≡ blocks image → IsMapped image store b → TellsFit image store
+fits_alone image store b sound e st =
     let s = all_split (boot_demands image) (root_demands image (root_of image)) sound in
     let f = fits image st.walk st.is_walk st.whole s.0 s.1 (subst (λ n. AllHold (bitmap_demands image st.walk 2 (n - 2))) e st.agrees) in
     record {
       walk = st.walk;
-      tells = st.tells;
+      tells = st.tells; started = st.started;
       is_walk = st.is_walk;
       whole = st.whole;
       fits = f;
       only = (λ t l g. one_tree image st.walk t (tree_in image st.walk) l (layout_in st.walk) st.is_walk st.whole g f);
     }
 
--- the table of the root alone
-pub beginning : (image : List ℕ) (owners : List Owner) → 4 ≤ blocks image → length owners ≡ blocks image → ((b : ℕ) → b < 2 → owner_at owners b ≡ Boot) → owner_at owners (root_of image) ≡ TheRoot →
-    ((b : ℕ) → 2 ≤ b → b < blocks image → b ≢ root_of image → owner_at owners b ≡ Free) → IsBeforePage image owners [] 0 (root_of image)
-beginning image owners four size boot root rest = record {
+-- what is kept when the root alone was read
+abbrev pub first_store : List Owner → Store
+first_store owners = record { owners = owners; rows = []; starts = []; exts = []; datas = [] }
+
+pub beginning : (image : List ℕ) (owners : List Owner) → length owners ≡ blocks image → ((b : ℕ) → b < 2 → owner_at owners b ≡ Boot) → owner_at owners (root_of image) ≡ TheRoot →
+    ((b : ℕ) → 2 ≤ b → b < blocks image → b ≢ root_of image → owner_at owners b ≡ Free) → IsBeforePage image (first_store owners) 0 (root_of image)
+beginning image owners size boot root rest = record {
   walk = (Root, root_of image) ∷ [];
   tells = record {
     owns = record {
@@ -160,7 +164,11 @@ beginning image owners four size boot root rest = record {
         | inr f ↦ absurd f
       ]);
     };
+    exts = refl;
+    datas = refl;
+    starts = (λ m x a. absurd a);
   };
+  started = refl;
   upto = begin image;
   at_root = (λ _. refl);
   at_ext = (λ j l h. absurd (omega arith));

@@ -11,14 +11,15 @@ use Rattle.adf_volume.specs.Demands.{demand, AllHold, FirstFails, boot_demands, 
 use Rattle.adf_volume.specs.Walk.{Role, Has, heads, NodeAt, DirAt, Asks, NewName, NoCause, demands, node_block, IsWalk, FirstFault}
 use Rattle.adf_volume.specs.Walk.Role.{Head}
 use Rattle.adf_volume.specs.Walk.FirstFault.{at_due}
-use Rattle.adf_volume.specs.Reading.{Tells, Next, IsAtSlot, IsInChain, Row, Sees, owner_at}
+use Rattle.adf_volume.specs.Reading.{Next, IsAtSlot, IsInChain, Sees, IsInNode}
+use Rattle.adf_volume.specs.Store.{Row, Store, owner_at, Owns, Rows, Tells, stored, entered, push_row}
 use Rattle.adf_volume.proofs.Lists.{fails_left, fails_right, all_append, at_below, at_new, at_old, snoc_length, at_fun}
 use Rattle.adf_volume.proofs.Walks.{node_is, number_of, numbered, one_block, one_node}
 use Rattle.adf_volume.proofs.Kept.{dir_up}
 use Rattle.adf_volume.proofs.Cursors.{is_due, take_it, end_chain}
 use Rattle.adf_volume.specs.declared.owner.Owner.{Owner}
 use Rattle.adf_volume.specs.declared.owner.Owner.TheVariants.{Free, Head as AHead}
-use Rattle.adf_volume.proofs.Claims.{free_absent, taken_present, tells_head}
+use Rattle.adf_volume.proofs.Claims.{free_absent, taken_present, tells_more}
 use Rattle.std.specs.Prelude.{◌↔◌}
 use Rattle.std.proofs.Common.{◌⊎◌}
 
@@ -40,14 +41,14 @@ next_ends image w v p s (suc j) a h n c i k =
     let e : c ≡ a = (one_block image v (Head m.0 p s j) (Head h.0.0 p s j) c a m.1 h.0.1 (refl, refl, refl)).1 in
     k.3 (ap (word_in image c) k.2 ∙ ap (λ a. word_in image a 124) e ∙ h.1)
 
-pub role_place : (n p s j m q u k : ℕ) → Head n p s j ≡ Head m q u k → (p ≡ q) × (s ≡ u)
-role_place n p s j m q u k h = let a : p ≡ q = cc in let b : s ≡ u = cc in (a, b)
+role_number : (n p s j m q u k : ℕ) → Head n p s j ≡ Head m q u k → n ≡ m
+role_number n p s j m q u k h = cc
 
-module _ (image : List ℕ) (owners : List Owner) (rows : List Row) (p up s a b : ℕ) (seen : List ℕ → Type 0) (lt : s < 72) where
-  role : IsInChain image owners rows p up s a b seen → Role
+module _ (image : List ℕ) (store : Store) (p up s a b : ℕ) (seen : List ℕ → Type 0) (lt : s < 72) where
+  role : IsInChain image store p up s a b seen → Role
   role st = Head (suc (heads st.walk)) p s st.place
 
-  module _ (sound : AllHold (boot_demands image ++ root_demands image (root_of image))) (st : IsInChain image owners rows p up s a b seen) (ne : b ≢ 0) where
+  module _ (sound : AllHold (boot_demands image ++ root_demands image (root_of image))) (st : IsInChain image store p up s a b seen) (ne : b ≢ 0) where
     fault_at : (x : ℕ) (c : Cause) → FirstFails (demands image st.walk (Head (suc (heads st.walk)) p s st.place) a b) x c → FirstFault image x c
     fault_at x c h =
         let q = next_asks image st.walk p s st.place a b lt ne st.named in
@@ -61,18 +62,18 @@ module _ (image : List ℕ) (owners : List Owner) (rows : List Row) (p up s a b 
     pub fault_range : ((2 ≤ b) × (b < blocks image) → ⊥) → FirstFault image a OutOfRange
     fault_range h = fault_at a OutOfRange (inr (tt, inl (h, refl, refl)))
 
-    pub fault_taken : 2 ≤ b → b < blocks image → owner_at owners b ≢ Free → FirstFault image b Taken
+    pub fault_taken : 2 ≤ b → b < blocks image → owner_at store.owners b ≢ Free → FirstFault image b Taken
     fault_taken lo hi h =
-        fault_at b Taken (inr (tt, inr ((lo, hi), inl (taken_present image owners st.walk st.tells.owns b lo hi h, refl, refl))))
+        fault_at b Taken (inr (tt, inr ((lo, hi), inl (taken_present image store.owners st.walk st.tells.owns b lo hi h, refl, refl))))
 
-    pub fault_form : (c : Cause) → 2 ≤ b → b < blocks image → owner_at owners b ≡ Free → FirstFails (head_demands image (kind_of image) b up s) b c → FirstFault image b c
+    pub fault_form : (c : Cause) → 2 ≤ b → b < blocks image → owner_at store.owners b ≡ Free → FirstFails (head_demands image (kind_of image) b up s) b c → FirstFault image b c
     fault_form c lo hi h f =
         fault_at b c (inr (
           tt,
           inr (
             (lo, hi),
             inr (
-              free_absent image owners st.walk st.tells.owns b h,
+              free_absent image store.owners st.walk st.tells.owns b h,
               fails_left (head_demands image (kind_of image) b (node_block st.walk p) s) (demand SameName b (NewName image st.walk (Head (suc (heads st.walk)) p s st.place) b) ∷ []) b c
                   (subst (λ u. FirstFails (head_demands image (kind_of image) b u s) b c) (sym up_is) f),
             ),
@@ -86,14 +87,14 @@ module _ (image : List ℕ) (owners : List Owner) (rows : List Row) (p up s a b 
     forms : AllHold (head_demands image (kind_of image) b up s) → AllHold (head_demands image (kind_of image) b (node_block st.walk p) s)
     forms f = subst (λ u. AllHold (head_demands image (kind_of image) b u s)) (sym up_is) f
 
-    pub fault_name : 2 ≤ b → b < blocks image → owner_at owners b ≡ Free → AllHold (head_demands image (kind_of image) b up s) → seen (uppers (name_of image b)) → FirstFault image b SameName
+    pub fault_name : 2 ≤ b → b < blocks image → owner_at store.owners b ≡ Free → AllHold (head_demands image (kind_of image) b up s) → seen (uppers (name_of image b)) → FirstFault image b SameName
     fault_name lo hi h f n =
         fault_at b SameName (inr (
           tt,
           inr (
             (lo, hi),
             inr (
-              free_absent image owners st.walk st.tells.owns b h,
+              free_absent image store.owners st.walk st.tells.owns b h,
               fails_right (head_demands image (kind_of image) b (node_block st.walk p) s) (demand SameName b (NewName image st.walk (Head (suc (heads st.walk)) p s st.place) b) ∷ []) b SameName (forms f)
                   (inl ((λ k. let x = st.sees.only (uppers (name_of image b)) n in k x.0 x.1 x.2 x.3 x.4), refl, refl)),
             ),
@@ -112,24 +113,28 @@ module _ (image : List ℕ) (owners : List Owner) (rows : List Row) (p up s a b 
       ]);
     }
 
-    pub next_chain : 2 ≤ b → b < blocks image → owner_at owners b ≡ Free → AllHold (head_demands image (kind_of image) b up s) → (seen (uppers (name_of image b)) → ⊥) → (seen' : List ℕ → Type 0) → ((x : List ℕ) → seen' x ↔ (seen x ⊎ (uppers (name_of image b) ≡ x))) →
-        IsInChain image (set owners b (AHead (suc (length rows)))) (rows ++ record { parent = p; head = b } ∷ []) p up s b (word_in image b 124) seen'
+    pub next_chain : 2 ≤ b → b < blocks image → owner_at store.owners b ≡ Free → AllHold (head_demands image (kind_of image) b up s) → (seen (uppers (name_of image b)) → ⊥) → (seen' : List ℕ → Type 0) → ((x : List ℕ) → seen' x ↔ (seen x ⊎ (uppers (name_of image b) ≡ x))) →
+        IsInChain image (stored store (Head (suc (length store.rows)) p s 0) b) p up s b (word_in image b 124) seen'
     next_chain lo hi h f n seen' g =
         let q = next_asks image st.walk p s st.place a b lt ne st.named in
         let r : Role = Head (suc (heads st.walk)) p s st.place in
+        let e : length store.starts ≡ suc p = st.started in
+        let started : length store.starts ≤ suc p = omega arith in
         let fine : NoCause image st.walk r a b = (
           tt,
           (
             (lo, hi),
             (
-              free_absent image owners st.walk st.tells.owns b h,
+              free_absent image store.owners st.walk st.tells.owns b h,
               all_append (head_demands image (kind_of image) b (node_block st.walk p) s) (demand SameName b (NewName image st.walk r b) ∷ []) (forms f) (new_name n, tt),
             ),
           ),
         ) in
         record {
           walk = (r, b) ∷ st.walk;
-          tells = subst (λ k. Tells image (set owners b (AHead (suc k))) (rows ++ record { parent = p; head = b } ∷ []) ((r, b) ∷ st.walk)) (sym st.tells.lists.count) (tells_head image owners rows st.walk p s st.place b st.tells lo hi h);
+          tells = subst (λ k. Tells image (stored store (Head (suc k) p s 0) b) ((r, b) ∷ st.walk)) (sym st.tells.lists.count)
+              (tells_more image store st.walk r b (λ n q u k z. sym (role_number (suc (heads st.walk)) p s st.place n q u k z)) started st.tells lo hi h);
+          started = st.started;
           place = suc st.place;
           upto = take_it image st.walk r a q.0 b st.upto q.1 q.2 fine;
           dir = dir_up image st.walk (r, b) p up st.dir;
@@ -138,19 +143,19 @@ module _ (image : List ℕ) (owners : List Owner) (rows : List Row) (p up s a b 
         }
 
 -- a chain that ends leaves its slot
-pub chain_ends : (image : List ℕ) (owners : List Owner) (rows : List Row) (p up s a : ℕ) (seen : List ℕ → Type 0) → IsInChain image owners rows p up s a 0 seen → IsAtSlot image owners rows p up (suc s)
-chain_ends image owners rows p up s a seen st = record {
+pub chain_ends : (image : List ℕ) (store : Store) (p up s a : ℕ) (seen : List ℕ → Type 0) → IsInChain image store p up s a 0 seen → IsAtSlot image store p up (suc s)
+chain_ends image store p up s a seen st = record {
   walk = st.walk;
-  tells = st.tells;
+  tells = st.tells; started = st.started;
   upto = end_chain image st.walk p s st.place st.upto (next_ends image st.walk st.upto.walk p s st.place a st.named);
   dir = st.dir;
 }
 
 -- a slot's chain begins at the directory, and nothing of it was seen
-pub chain_begins : (image : List ℕ) (owners : List Owner) (rows : List Row) (p up s : ℕ) (seen : List ℕ → Type 0) → ((x : List ℕ) → seen x → ⊥) → IsAtSlot image owners rows p up s → IsInChain image owners rows p up s up (word_in image up (6 + s)) seen
-chain_begins image owners rows p up s seen none st = record {
+pub chain_begins : (image : List ℕ) (store : Store) (p up s : ℕ) (seen : List ℕ → Type 0) → ((x : List ℕ) → seen x → ⊥) → IsAtSlot image store p up s → IsInChain image store p up s up (word_in image up (6 + s)) seen
+chain_begins image store p up s seen none st = record {
   walk = st.walk;
-  tells = st.tells;
+  tells = st.tells; started = st.started;
   place = 0;
   upto = st.upto;
   dir = st.dir;

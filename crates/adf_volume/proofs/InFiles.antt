@@ -13,7 +13,8 @@ use Rattle.adf_volume.specs.Walk.{Role, first, second, third, Has, head_count, h
 use Rattle.adf_volume.specs.Walk.Role.{Root, Page, MapExt, Head, Ext, Data}
 use Rattle.adf_volume.specs.Walk.FirstFault.{at_due, at_bitmap}
 use Rattle.adf_volume.specs.Cursor.{IsUpTo}
-use Rattle.adf_volume.specs.Reading.{Tells, IsNamed, IsBeforePage, IsAtPage, map_ext_block, block_of_page, IsListed, IsAtNode, IsAtSlot, NextExt, IsInExts, IsInDatas, IsRead, IsMapped, TellsFit, Row, owner_at, Owns, Rows}
+use Rattle.adf_volume.specs.Reading.{IsNamed, IsBeforePage, IsAtPage, map_ext_block, block_of_page, IsListed, IsAtNode, IsAtSlot, NextExt, IsInExts, IsInDatas, IsRead, IsMapped, TellsFit, IsInNode}
+use Rattle.adf_volume.specs.Store.{Row, Store, owner_at, Owns, Rows, Tells, stored, entered, push_row}
 use Rattle.adf_tree.specs.Tree.{Tree}
 use Rattle.adf_volume.specs.Layout.{Layout}
 use Rattle.adf_volume.specs.Fits.{Fits}
@@ -29,25 +30,26 @@ use Rattle.adf_volume.proofs.Cursors.{begin, is_due, take_it, end_all_pages, ent
 use Rattle.adf_volume.specs.declared.owner.Owner.{Owner}
 use Rattle.adf_volume.specs.declared.owner.Owner.TheVariants.{Free, Boot, Root as TheRoot}
 use Rattle.adf_volume.specs.Parts.{owner_of}
-use Rattle.adf_volume.proofs.Claims.{IsPlain, free_absent, taken_present, tells_plain}
+use Rattle.adf_volume.proofs.Claims.{free_absent, taken_present, tells_more}
 use Rattle.adf_volume.proofs.Steps.{less, plain_enough, plain_range, plain_taken, plain_form, plain_upto, plain_tells, cond_yes, cond_no, lt_test, ge_test, at_get}
 
 -- nodes
-pub enter_directory : (image : List ℕ) (owners : List Owner) (rows : List Row) (n a : ℕ) → IsAtNode image owners rows n → ((w : List (Role × ℕ)) → Tells image owners rows w → IsWalk image w → DirAt image w n a) → IsAtSlot image owners rows n a 0
-enter_directory image owners rows n a st d =
+pub enter_directory : (image : List ℕ) (store : Store) (n a : ℕ) → IsInNode image store n → ((w : List (Role × ℕ)) → Tells image store w → IsWalk image w → DirAt image w n a) → IsAtSlot image store n a 0
+enter_directory image store n a st d =
     let dir = d st.walk st.tells st.upto.walk in
-    record { walk = st.walk; tells = st.tells; upto = enter_dir image st.walk n a dir st.upto; dir = dir }
+    record { walk = st.walk; tells = st.tells; started = st.started; upto = enter_dir image st.walk n a dir st.upto; dir = dir }
 
-pub leave_directory : (image : List ℕ) (owners : List Owner) (rows : List Row) (n a : ℕ) → IsAtSlot image owners rows n a 72 → IsAtNode image owners rows (suc n)
-leave_directory image owners rows n a st = record { walk = st.walk; tells = st.tells; upto = end_dir image st.walk n st.upto }
+pub leave_directory : (image : List ℕ) (store : Store) (n a : ℕ) → IsAtSlot image store n a 72 → IsAtNode image store (suc n)
+leave_directory image store n a st = record { walk = st.walk; tells = st.tells; started = st.started; upto = end_dir image st.walk n st.upto }
 
 -- extension blocks
-pub enter_exts : (image : List ℕ) (owners : List Owner) (rows : List Row) (n h : ℕ) → IsAtNode image owners rows n → ((w : List (Role × ℕ)) → Tells image owners rows w → IsWalk image w → FileAt image w n h) → IsInExts image owners rows n h (h ∷ []) h (word_in image h 126)
-enter_exts image owners rows n h st f =
+pub enter_exts : (image : List ℕ) (store : Store) (n h : ℕ) → IsInNode image store n → ((w : List (Role × ℕ)) → Tells image store w → IsWalk image w → FileAt image w n h) → IsInExts image store n h (h ∷ []) h (word_in image h 126)
+enter_exts image store n h st f =
     let file = f st.walk st.tells st.upto.walk in
     record {
       walk = st.walk;
       tells = st.tells;
+      started = st.started;
       extra = 0;
       size = refl;
       upto = enter_file image st.walk n st.upto;
@@ -76,25 +78,26 @@ pub exts_asks : (image : List ℕ) (w : List (Role × ℕ)) (n h j a b : ℕ) �
 exts_asks image w n h zero a b f ne x = (126, (subst (FileAt image w n) (sym x.0) f, refl, (λ z. ne (sym x.1 ∙ z))), x.1)
 exts_asks image w n h (suc j) a b f ne x = (126, (x.0, refl, (λ z. ne (sym x.1 ∙ z))), x.1)
 
-abbrev pub ext_named : (image : List ℕ) (owners : List Owner) (rows : List Row) (n h : ℕ) (table : List ℕ) (a b : ℕ) → b ≢ 0 → (st : IsInExts image owners rows n h table a b) → IsNamed image owners rows (Ext n (suc st.extra)) a b
-ext_named image owners rows n h table a b ne st =
+abbrev pub ext_named : (image : List ℕ) (store : Store) (n h : ℕ) (table : List ℕ) (a b : ℕ) → b ≢ 0 → (st : IsInExts image store n h table a b) → IsNamed image store (Ext n (suc st.extra)) a b
+ext_named image store n h table a b ne st =
     let q = exts_asks image st.walk n h st.extra a b st.file ne st.named in
-    record { walk = st.walk; tells = st.tells; upto = st.upto; index = q.0; asked = q.1; names = q.2 }
+    record { walk = st.walk; tells = st.tells; started = st.started; upto = st.upto; index = q.0; asked = q.1; names = q.2 }
 
-pub ext_form_at : (image : List ℕ) (owners : List Owner) (rows : List Row) (n h : ℕ) (table : List ℕ) (a b x : ℕ) (st : IsInExts image owners rows n h table a b) (P : List Demand → Type 0) → P (ext_demands image x h) → P (form_demands image st.walk (Ext n (suc st.extra)) x)
-ext_form_at image owners rows n h table a b x st P p = subst (λ h. P (ext_demands image x h)) (sym (file_is image st.walk n h st.upto.walk st.file)) p
+pub ext_form_at : (image : List ℕ) (store : Store) (n h : ℕ) (table : List ℕ) (a b x : ℕ) (st : IsInExts image store n h table a b) (P : List Demand → Type 0) → P (ext_demands image x h) → P (form_demands image st.walk (Ext n (suc st.extra)) x)
+ext_form_at image store n h table a b x st P p = subst (λ h. P (ext_demands image x h)) (sym (file_is image st.walk n h st.upto.walk st.file)) p
 
-pub ext_read : (image : List ℕ) (owners : List Owner) (rows : List Row) (n h : ℕ) (table : List ℕ) (a b : ℕ) → AllHold (boot_demands image ++ root_demands image (root_of image)) → b ≢ 0 → IsInExts image owners rows n h table a b →
-    2 ≤ b → b < blocks image → owner_at owners b ≡ Free → AllHold (ext_demands image b h) → IsInExts image (set owners b (owner_of (Ext n (length table)))) rows n h (table ++ b ∷ []) b (word_in image b 126)
-ext_read image owners rows n h table a b sound ne st lo hi free f =
-    let nm = ext_named image owners rows n h table a b ne st in
+pub ext_read : (image : List ℕ) (store : Store) (n h : ℕ) (table : List ℕ) (a b : ℕ) → AllHold (boot_demands image ++ root_demands image (root_of image)) → b ≢ 0 → IsInExts image store n h table a b →
+    2 ≤ b → b < blocks image → owner_at store.owners b ≡ Free → AllHold (ext_demands image b h) → IsInExts image (stored store (Ext n (length table)) b) n h (table ++ b ∷ []) b (word_in image b 126)
+ext_read image store n h table a b sound ne st lo hi free f =
+    let nm = ext_named image store n h table a b ne st in
     let r : Role = Ext n (suc st.extra) in
     record {
       walk = (r, b) ∷ st.walk;
-      tells = subst (λ k. Tells image (set owners b (owner_of (Ext n k))) rows ((r, b) ∷ st.walk)) (sym st.size) (plain_tells image owners rows r a b sound tt nm lo hi free);
+      tells = subst (λ k. Tells image (stored store (Ext n k) b) ((r, b) ∷ st.walk)) (sym st.size) (plain_tells image store r a b sound tt nm lo hi free);
+      started = st.started;
       extra = suc st.extra;
       size = snoc_length table b ∙ ap suc st.size;
-      upto = plain_upto image owners rows r a b sound tt nm tt lo hi free (ext_form_at image owners rows n h table a b b st AllHold f);
+      upto = plain_upto image store r a b sound tt nm tt lo hi free (ext_form_at image store n h table a b b st AllHold f);
       file = file_up image st.walk (r, b) n h st.file;
       members = (λ m c x. elim (at_snoc table b m c x) [
         | inl y ↦ member_up image st.walk (r, b) n m c (st.members m c y)
@@ -112,10 +115,10 @@ exts_no image w v n h (suc j) a f x c i k =
     let e : c ≡ a = (one_block image v (Ext n (suc j)) (Ext n (suc j)) c a k.0 x.0 (refl, refl, refl)).1 in
     k.2 (ap (word_in image c) k.1 ∙ ap (λ a. word_in image a 126) e ∙ x.1)
 
-pub exts_end : (image : List ℕ) (owners : List Owner) (rows : List Row) (n h : ℕ) (table : List ℕ) (a : ℕ) → IsInExts image owners rows n h table a 0 → IsInDatas image owners rows n h table 0
-exts_end image owners rows n h table a st = record {
+pub exts_end : (image : List ℕ) (store : Store) (n h : ℕ) (table : List ℕ) (a : ℕ) → IsInExts image store n h table a 0 → IsInDatas image store n h table 0
+exts_end image store n h table a st = record {
   walk = st.walk;
-  tells = st.tells;
+  tells = st.tells; started = st.started;
   upto = end_exts image st.walk n (suc st.extra) (omega arith) st.upto (exts_no image st.walk st.upto.walk n h st.extra a st.file st.named);
   file = st.file;
   members = st.members;
@@ -123,9 +126,9 @@ exts_end image owners rows n h table a st = record {
 }
 
 -- data blocks
-module _ (image : List ℕ) (owners : List Owner) (rows : List Row) (n h : ℕ) (table : List ℕ) (k : ℕ) (st : IsInDatas image owners rows n h table k) where
-  abbrev pub data_named : k < data_count image h → (c b : ℕ) → At table (k / 72) c → word_in image c (table_word k) ≡ b → IsNamed image owners rows (Data n (suc k)) c b
-  data_named lt c b x e = record { walk = st.walk; tells = st.tells; upto = st.upto; index = table_word k; asked = ((h, st.file, lt), st.members (k / 72) c x, refl); names = e }
+module _ (image : List ℕ) (store : Store) (n h : ℕ) (table : List ℕ) (k : ℕ) (st : IsInDatas image store n h table k) where
+  abbrev pub data_named : k < data_count image h → (c b : ℕ) → At table (k / 72) c → word_in image c (table_word k) ≡ b → IsNamed image store (Data n (suc k)) c b
+  data_named lt c b x e = record { walk = st.walk; tells = st.tells; started = st.started; upto = st.upto; index = table_word k; asked = ((h, st.file, lt), st.members (k / 72) c x, refl); names = e }
 
   pub one_file : (a : ℕ) → FileAt image st.walk n a → h ≡ a
   one_file a f = (one_head image st.upto.walk n st.file.0.0 st.file.0.1 st.file.0.2 h f.0.0 f.0.1 f.0.2 a st.file.0.3 f.0.3).1
@@ -166,26 +169,27 @@ module _ (image : List ℕ) (owners : List Owner) (rows : List Row) (n h : ℕ) 
       (subst (λ y. P (data_demands image (kind_of image) x h (suc k) (held (kind_of image) (word_in image h 81) (suc k)) y)) (e ∙ sym (next_word le)) p)
 
   pub data_read : AllHold (boot_demands image ++ root_demands image (root_of image)) → k < data_count image h → data_count image h ≤ 72 * length table → (c b y : ℕ) → At table (k / 72) c → word_in image c (table_word k) ≡ b →
-      2 ≤ b → b < blocks image → owner_at owners b ≡ Free → y ≡ cond (nat_lt (suc k) (data_count image h)) (word_in image (slice_index table (suc k / 72)) (table_word (suc k))) 0 →
-      AllHold (data_demands image (kind_of image) b h (suc k) (held (kind_of image) (word_in image h 81) (suc k)) y) → IsInDatas image (set owners b (owner_of (Data n (suc k)))) rows n h table (suc k)
+      2 ≤ b → b < blocks image → owner_at store.owners b ≡ Free → y ≡ cond (nat_lt (suc k) (data_count image h)) (word_in image (slice_index table (suc k / 72)) (table_word (suc k))) 0 →
+      AllHold (data_demands image (kind_of image) b h (suc k) (held (kind_of image) (word_in image h 81) (suc k)) y) → IsInDatas image (stored store (Data n (suc k)) b) n h table (suc k)
   data_read sound lt le c b y x e lo hi free ye f =
       let nm = data_named lt c b x e in
       let r : Role = Data n (suc k) in
       record {
         walk = (r, b) ∷ st.walk;
-        tells = plain_tells image owners rows r c b sound tt nm lo hi free;
-        upto = plain_upto image owners rows r c b sound tt nm (data_enough le) lo hi free (data_form_at b y le ye AllHold f);
+        tells = plain_tells image store r c b sound tt nm lo hi free;
+        started = st.started;
+        upto = plain_upto image store r c b sound tt nm (data_enough le) lo hi free (data_form_at b y le ye AllHold f);
         file = file_up image st.walk (r, b) n h st.file;
         members = (λ m c x. member_up image st.walk (r, b) n m c (st.members m c x));
         counted = st.counted;
       }
 
-  pub datas_end : data_count image h ≤ k → IsAtNode image owners rows (suc n)
-  datas_end le = record { walk = st.walk; tells = st.tells; upto = end_datas image st.walk n (suc k) h st.file (omega arith) st.upto }
+  pub datas_end : data_count image h ≤ k → IsAtNode image store (suc n)
+  datas_end le = record { walk = st.walk; tells = st.tells; started = st.started; upto = end_datas image st.walk n (suc k) h st.file (omega arith) st.upto }
 
 -- behind the last node
-pub whole_end : (image : List ℕ) (owners : List Owner) (rows : List Row) (n : ℕ) → length rows < n → (st : IsAtNode image owners rows n) → IsWhole image st.walk
-whole_end image owners rows n lt st = let c : length rows ≡ heads st.walk = st.tells.lists.count in end_all image st.walk n (omega arith) st.upto
+pub whole_end : (image : List ℕ) (store : Store) (n : ℕ) → length store.rows < n → (st : IsAtNode image store n) → IsWhole image st.walk
+whole_end image store n lt st = let c : length store.rows ≡ heads st.walk = st.tells.lists.count in end_all image st.walk n (omega arith) st.upto
 
 -- the next word as the reader has it, for data block number m
 pub next_yes : (image : List ℕ) (table : List ℕ) (h k m y c : ℕ) → m ≡ suc k → c ≡ data_count image h → m < c → y ≡ word_in image (slice_index table (m / 72)) (77 - m % 72) →

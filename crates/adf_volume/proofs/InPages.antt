@@ -13,7 +13,8 @@ use Rattle.adf_volume.specs.Walk.{Role, first, second, third, Has, head_count, h
 use Rattle.adf_volume.specs.Walk.Role.{Root, Page, MapExt, Head, Ext, Data}
 use Rattle.adf_volume.specs.Walk.FirstFault.{at_due, at_bitmap}
 use Rattle.adf_volume.specs.Cursor.{IsUpTo}
-use Rattle.adf_volume.specs.Reading.{Tells, IsNamed, IsBeforePage, IsAtPage, map_ext_block, block_of_page, IsListed, IsAtNode, IsAtSlot, NextExt, IsInExts, IsInDatas, IsRead, IsMapped, TellsFit, Row, owner_at, Owns, Rows}
+use Rattle.adf_volume.specs.Reading.{IsNamed, IsBeforePage, IsAtPage, map_ext_block, block_of_page, IsListed, IsAtNode, IsAtSlot, NextExt, IsInExts, IsInDatas, IsRead, IsMapped, TellsFit, IsInNode}
+use Rattle.adf_volume.specs.Store.{Row, Store, owner_at, Owns, Rows, Tells, stored, entered, push_row}
 use Rattle.adf_tree.specs.Tree.{Tree}
 use Rattle.adf_volume.specs.Layout.{Layout}
 use Rattle.adf_volume.specs.Fits.{Fits}
@@ -29,7 +30,7 @@ use Rattle.adf_volume.proofs.Cursors.{begin, is_due, take_it, end_all_pages, ent
 use Rattle.adf_volume.specs.declared.owner.Owner.{Owner}
 use Rattle.adf_volume.specs.declared.owner.Owner.TheVariants.{Free, Boot, Root as TheRoot}
 use Rattle.adf_volume.specs.Parts.{owner_of}
-use Rattle.adf_volume.proofs.Claims.{IsPlain, free_absent, taken_present, tells_plain}
+use Rattle.adf_volume.proofs.Claims.{free_absent, taken_present, tells_more}
 use Rattle.adf_volume.proofs.Steps.{less, plain_enough, plain_range, plain_taken, plain_form, plain_upto, plain_tells, cond_yes, cond_no, lt_test, ge_test, at_get}
 
 -- pages and bitmap extension blocks
@@ -50,18 +51,19 @@ module _ (image : List ℕ) (w : List (Role × ℕ)) (k a i : ℕ) where
       let e : x.0 ≡ j = omega arith in
       subst (λ j. Has w (MapExt j) a) e x.1
 
-abbrev pub page_state : (image : List ℕ) (owners : List Owner) (rows : List Row) (k a i b : ℕ) → k < pages_needed (blocks image) → (st : IsAtPage image owners rows k a) → (k < 25 → i ≡ 79 + k) → (25 ≤ k → i ≡ (k - 25) % 127) → b ≡ word_in image a i → IsNamed image owners rows (Page k) a b
-page_state image owners rows k a i b lt st f g e = record { walk = st.walk; tells = st.tells; upto = st.upto; index = st.index; asked = (lt, st.named); names = ap (word_in image a) (sym (index_is image st.walk k a i st.index st.named f g)) ∙ sym e }
+abbrev pub page_state : (image : List ℕ) (store : Store) (k a i b : ℕ) → k < pages_needed (blocks image) → (st : IsAtPage image store k a) → (k < 25 → i ≡ 79 + k) → (25 ≤ k → i ≡ (k - 25) % 127) → b ≡ word_in image a i → IsNamed image store (Page k) a b
+page_state image store k a i b lt st f g e = record { walk = st.walk; tells = st.tells; started = st.started; upto = st.upto; index = st.index; asked = (lt, st.named); names = ap (word_in image a) (sym (index_is image st.walk k a i st.index st.named f g)) ∙ sym e }
 
-pub page_read : (image : List ℕ) (owners : List Owner) (rows : List Row) (k a i b : ℕ) → AllHold (boot_demands image ++ root_demands image (root_of image)) → k < pages_needed (blocks image) → IsAtPage image owners rows k a →
-    (k < 25 → i ≡ 79 + k) → (25 ≤ k → i ≡ (k - 25) % 127) → b ≡ word_in image a i → 2 ≤ b → b < blocks image → owner_at owners b ≡ Free → AllHold (page_demands image b) → IsBeforePage image (set owners b (owner_of (Page k))) rows (suc k) a
-page_read image owners rows k a i b sound lt st p q e lo hi h f =
-    let nm = page_state image owners rows k a i b lt st p q e in
+pub page_read : (image : List ℕ) (store : Store) (k a i b : ℕ) → AllHold (boot_demands image ++ root_demands image (root_of image)) → k < pages_needed (blocks image) → IsAtPage image store k a →
+    (k < 25 → i ≡ 79 + k) → (25 ≤ k → i ≡ (k - 25) % 127) → b ≡ word_in image a i → 2 ≤ b → b < blocks image → owner_at store.owners b ≡ Free → AllHold (page_demands image b) → IsBeforePage image (stored store (Page k) b) (suc k) a
+page_read image store k a i b sound lt st p q e lo hi h f =
+    let nm = page_state image store k a i b lt st p q e in
     let z : suc (k + (k + 102) / 127) ≡ suc k + (suc k + 101) / 127 = omega arith in
     record {
       walk = (Page k, b) ∷ st.walk;
-      tells = plain_tells image owners rows (Page k) a b sound tt nm lo hi h;
-      upto = subst (IsUpTo image ((Page k, b) ∷ st.walk) 0 1) z (plain_upto image owners rows (Page k) a b sound tt nm tt lo hi h f);
+      tells = plain_tells image store (Page k) a b sound tt nm lo hi h;
+      started = st.started;
+      upto = subst (IsUpTo image ((Page k, b) ∷ st.walk) 0 1) z (plain_upto image store (Page k) a b sound tt nm tt lo hi h f);
       at_root = (λ l. at_root_next image st.walk k a st.index st.index st.named l);
       at_ext = (λ j l u. inr (at_ext_next image st.walk k a st.index st.index st.named j l u));
     }
@@ -76,39 +78,40 @@ no_ext_names image w k a f g h =
           ((k - 25) % 127, inr ((k - 25) / 127, g ((k - 25) / 127) (omega arith) (omega arith), omega arith, omega arith))
     ]
 
-pub same_holder : (image : List ℕ) (owners : List Owner) (rows : List Row) (k a : ℕ) → IsBeforePage image owners rows k a → (25 ≤ k → 0 < (k - 25) % 127) → IsAtPage image owners rows k a
-same_holder image owners rows k a st h =
+pub same_holder : (image : List ℕ) (store : Store) (k a : ℕ) → IsBeforePage image store k a → (25 ≤ k → 0 < (k - 25) % 127) → IsAtPage image store k a
+same_holder image store k a st h =
     let x = no_ext_names image st.walk k a st.at_root st.at_ext h in
     let z : k + (k + 101) / 127 ≡ k + (k + 102) / 127 = elim (dec_lt k 25) [ yes l ↦ omega arith | no l ↦ let y : 0 < (k - 25) % 127 = h (omega arith) in omega arith ] in
-    record { walk = st.walk; tells = st.tells; upto = subst (IsUpTo image st.walk 0 1) z st.upto; index = x.0; named = x.1 }
+    record { walk = st.walk; tells = st.tells; started = st.started; upto = subst (IsUpTo image st.walk 0 1) z st.upto; index = x.0; named = x.1 }
 
-pub map_ext_asks : (image : List ℕ) (owners : List Owner) (rows : List Row) (k j a i b : ℕ) → k < pages_needed (blocks image) → k ≡ 25 + 127 * j → (st : IsBeforePage image owners rows k a) → (k ≡ 25 → i ≡ 104) → (25 < k → i ≡ 127) → b ≡ word_in image a i →
+pub map_ext_asks : (image : List ℕ) (store : Store) (k j a i b : ℕ) → k < pages_needed (blocks image) → k ≡ 25 + 127 * j → (st : IsBeforePage image store k a) → (k ≡ 25 → i ≡ 104) → (25 < k → i ≡ 127) → b ≡ word_in image a i →
     (n : ℕ) × Asks image st.walk (MapExt j) a n × (word_in image a n ≡ b)
-map_ext_asks image owners rows k zero a i b lt z st f g e = (104, (omega arith, st.at_root (omega arith), refl), ap (word_in image a) (sym (f (omega arith))) ∙ sym e)
-map_ext_asks image owners rows k (suc j) a i b lt z st f g e = (127, (omega arith, st.at_ext j (omega arith) (omega arith), refl), ap (word_in image a) (sym (g (omega arith))) ∙ sym e)
+map_ext_asks image store k zero a i b lt z st f g e = (104, (omega arith, st.at_root (omega arith), refl), ap (word_in image a) (sym (f (omega arith))) ∙ sym e)
+map_ext_asks image store k (suc j) a i b lt z st f g e = (127, (omega arith, st.at_ext j (omega arith) (omega arith), refl), ap (word_in image a) (sym (g (omega arith))) ∙ sym e)
 
-abbrev pub map_ext_state : (image : List ℕ) (owners : List Owner) (rows : List Row) (k j a i b : ℕ) → k < pages_needed (blocks image) → k ≡ 25 + 127 * j → (st : IsBeforePage image owners rows k a) → (k ≡ 25 → i ≡ 104) → (25 < k → i ≡ 127) → b ≡ word_in image a i → IsNamed image owners rows (MapExt j) a b
-map_ext_state image owners rows k j a i b lt z st f g e =
-    let q = map_ext_asks image owners rows k j a i b lt z st f g e in
+abbrev pub map_ext_state : (image : List ℕ) (store : Store) (k j a i b : ℕ) → k < pages_needed (blocks image) → k ≡ 25 + 127 * j → (st : IsBeforePage image store k a) → (k ≡ 25 → i ≡ 104) → (25 < k → i ≡ 127) → b ≡ word_in image a i → IsNamed image store (MapExt j) a b
+map_ext_state image store k j a i b lt z st f g e =
+    let q = map_ext_asks image store k j a i b lt z st f g e in
     let y : k + (k + 101) / 127 ≡ 25 + 128 * j = omega arith in
-    record { walk = st.walk; tells = st.tells; upto = subst (IsUpTo image st.walk 0 1) y st.upto; index = q.0; asked = q.1; names = q.2 }
+    record { walk = st.walk; tells = st.tells; started = st.started; upto = subst (IsUpTo image st.walk 0 1) y st.upto; index = q.0; asked = q.1; names = q.2 }
 
-pub map_ext_read : (image : List ℕ) (owners : List Owner) (rows : List Row) (k j a i b : ℕ) → AllHold (boot_demands image ++ root_demands image (root_of image)) → k < pages_needed (blocks image) → k ≡ 25 + 127 * j → IsBeforePage image owners rows k a →
-    (k ≡ 25 → i ≡ 104) → (25 < k → i ≡ 127) → b ≡ word_in image a i → 2 ≤ b → b < blocks image → owner_at owners b ≡ Free → IsAtPage image (set owners b (owner_of (MapExt j))) rows k b
-map_ext_read image owners rows k j a i b sound lt z st p q e lo hi h =
-    let nm = map_ext_state image owners rows k j a i b lt z st p q e in
+pub map_ext_read : (image : List ℕ) (store : Store) (k j a i b : ℕ) → AllHold (boot_demands image ++ root_demands image (root_of image)) → k < pages_needed (blocks image) → k ≡ 25 + 127 * j → IsBeforePage image store k a →
+    (k ≡ 25 → i ≡ 104) → (25 < k → i ≡ 127) → b ≡ word_in image a i → 2 ≤ b → b < blocks image → owner_at store.owners b ≡ Free → IsAtPage image (stored store (MapExt j) b) k b
+map_ext_read image store k j a i b sound lt z st p q e lo hi h =
+    let nm = map_ext_state image store k j a i b lt z st p q e in
     let y : suc (25 + 128 * j) ≡ k + (k + 102) / 127 = omega arith in
     let x : k ≡ 25 + 127 * j + 0 = omega arith in
     record {
       walk = (MapExt j, b) ∷ st.walk;
-      tells = plain_tells image owners rows (MapExt j) a b sound tt nm lo hi h;
-      upto = subst (IsUpTo image ((MapExt j, b) ∷ st.walk) 0 1) y (plain_upto image owners rows (MapExt j) a b sound tt nm tt lo hi h tt);
+      tells = plain_tells image store (MapExt j) a b sound tt nm lo hi h;
+      started = st.started;
+      upto = subst (IsUpTo image ((MapExt j, b) ∷ st.walk) 0 1) y (plain_upto image store (MapExt j) a b sound tt nm tt lo hi h tt);
       index = 0;
       named = inr (j, inl (refl, refl), omega arith, x);
     }
 
-pub pages_end : (image : List ℕ) (owners : List Owner) (rows : List Row) (a : ℕ) → IsBeforePage image owners rows (pages_needed (blocks image)) a → IsAtNode image owners rows 0
-pages_end image owners rows a st = record { walk = st.walk; tells = st.tells; upto = end_all_pages image st.walk st.upto }
+pub pages_end : (image : List ℕ) (store : Store) (a : ℕ) → IsBeforePage image store (pages_needed (blocks image)) a → IsAtNode image store 0
+pages_end image store a st = record { walk = st.walk; tells = st.tells; started = st.started; upto = end_all_pages image st.walk st.upto }
 
 -- pages by the words alone
 map_ext_is : (image : List ℕ) (w : List (Role × ℕ)) (j a : ℕ) → IsWalk image w → Has w (MapExt j) a → map_ext_block image j ≡ a
@@ -132,8 +135,8 @@ names_is image w k b a i v (inr x) e =
 pub page_is : (image : List ℕ) (w : List (Role × ℕ)) (k b : ℕ) → IsWalk image w → Has w (Page k) b → block_of_page image k ≡ b
 page_is image w k b v h = let x = (kept image v (Page k) b h).1 in names_is image w k b x.0 x.1 v x.2 x.3
 
-pub listed_more : (image : List ℕ) (owners : List Owner) (rows : List Row) (k a i b : ℕ) (list : List ℕ) → IsListed image list k → (st : IsAtPage image owners rows k a) → (k < 25 → i ≡ 79 + k) → (25 ≤ k → i ≡ (k - 25) % 127) → b ≡ word_in image a i → IsListed image (list ++ b ∷ []) (suc k)
-listed_more image owners rows k a i b list h st f g e = record {
+pub listed_more : (image : List ℕ) (store : Store) (k a i b : ℕ) (list : List ℕ) → IsListed image list k → (st : IsAtPage image store k a) → (k < 25 → i ≡ 79 + k) → (25 ≤ k → i ≡ (k - 25) % 127) → b ≡ word_in image a i → IsListed image (list ++ b ∷ []) (suc k)
+listed_more image store k a i b list h st f g e = record {
   size = snoc_length list b ∙ ap suc h.size;
   pages = (λ n c x. elim (at_snoc list b n c x) [
     | inl y ↦ h.pages n c y

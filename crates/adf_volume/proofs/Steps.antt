@@ -13,7 +13,8 @@ use Rattle.adf_volume.specs.Walk.{Role, first, second, third, Has, head_count, h
 use Rattle.adf_volume.specs.Walk.Role.{Root, Page, MapExt, Head, Ext, Data}
 use Rattle.adf_volume.specs.Walk.FirstFault.{at_due, at_bitmap}
 use Rattle.adf_volume.specs.Cursor.{IsUpTo}
-use Rattle.adf_volume.specs.Reading.{Tells, IsNamed, IsBeforePage, IsAtPage, map_ext_block, block_of_page, IsListed, IsAtNode, IsAtSlot, NextExt, IsInExts, IsInDatas, IsRead, IsMapped, TellsFit, Row, owner_at, Owns, Rows}
+use Rattle.adf_volume.specs.Reading.{IsNamed, IsBeforePage, IsAtPage, map_ext_block, block_of_page, IsListed, IsAtNode, IsAtSlot, NextExt, IsInExts, IsInDatas, IsRead, IsMapped, TellsFit, IsInNode}
+use Rattle.adf_volume.specs.Store.{Row, Store, owner_at, Owns, Rows, Tells, stored, entered, push_row}
 use Rattle.adf_tree.specs.Tree.{Tree}
 use Rattle.adf_volume.specs.Layout.{Layout}
 use Rattle.adf_volume.specs.Fits.{Fits}
@@ -29,10 +30,19 @@ use Rattle.adf_volume.proofs.Cursors.{begin, is_due, take_it, end_all_pages, ent
 use Rattle.adf_volume.specs.declared.owner.Owner.{Owner}
 use Rattle.adf_volume.specs.declared.owner.Owner.TheVariants.{Free, Boot, Root as TheRoot}
 use Rattle.adf_volume.specs.Parts.{owner_of}
-use Rattle.adf_volume.proofs.Claims.{IsPlain, free_absent, taken_present, tells_plain}
+use Rattle.adf_volume.proofs.Claims.{free_absent, taken_present, tells_more}
 
 pub less : (a b : ℕ) → nat_lt a b ≡ true → a < b
 less a b h = grind (arith, nat_tests)
+
+-- a role that is no header
+abbrev pub IsPlain : Role → Type 0
+IsPlain Root = ⊥
+IsPlain (Page k) = Unit {0}
+IsPlain (MapExt k) = Unit {0}
+IsPlain (Head n p s j) = ⊥
+IsPlain (Ext n k) = Unit {0}
+IsPlain (Data n k) = Unit {0}
 
 plain_name : (image : List ℕ) (w : List (Role × ℕ)) (r : Role) (b : ℕ) → IsPlain r → NewName image w r b
 plain_name image w Root b h = absurd h
@@ -42,7 +52,7 @@ plain_name image w (Head n p s j) b h = absurd h
 plain_name image w (Ext n k) b h = tt
 plain_name image w (Data n k) b h = tt
 
-module _ (image : List ℕ) (owners : List Owner) (rows : List Row) (r : Role) (a b : ℕ) (sound : AllHold (boot_demands image ++ root_demands image (root_of image))) (plain : IsPlain r) (st : IsNamed image owners rows r a b) where
+module _ (image : List ℕ) (store : Store) (r : Role) (a b : ℕ) (sound : AllHold (boot_demands image ++ root_demands image (root_of image))) (plain : IsPlain r) (st : IsNamed image store r a b) where
   fault_at : (x : ℕ) (c : Cause) → FirstFails (demands image st.walk r a b) x c → FirstFault image x c
   fault_at x c h = at_due sound st.walk r a st.index st.upto.walk (is_due image st.walk r a st.index st.upto st.asked)
       (subst (λ b. FirstFails (demands image st.walk r a b) x c) (sym st.names) h)
@@ -53,21 +63,23 @@ module _ (image : List ℕ) (owners : List Owner) (rows : List Row) (r : Role) (
   pub plain_range : Enough image st.walk r → ((2 ≤ b) × (b < blocks image) → ⊥) → FirstFault image a OutOfRange
   plain_range en h = fault_at a OutOfRange (inr (en, inl (h, refl, refl)))
 
-  pub plain_taken : Enough image st.walk r → 2 ≤ b → b < blocks image → owner_at owners b ≢ Free → FirstFault image b Taken
+  pub plain_taken : Enough image st.walk r → 2 ≤ b → b < blocks image → owner_at store.owners b ≢ Free → FirstFault image b Taken
   plain_taken en lo hi h =
-      fault_at b Taken (inr (en, inr ((lo, hi), inl (taken_present image owners st.walk st.tells.owns b lo hi h, refl, refl))))
+      fault_at b Taken (inr (en, inr ((lo, hi), inl (taken_present image store.owners st.walk st.tells.owns b lo hi h, refl, refl))))
 
-  pub plain_form : (c : Cause) → Enough image st.walk r → 2 ≤ b → b < blocks image → owner_at owners b ≡ Free → FirstFails (form_demands image st.walk r b) b c → FirstFault image b c
+  pub plain_form : (c : Cause) → Enough image st.walk r → 2 ≤ b → b < blocks image → owner_at store.owners b ≡ Free → FirstFails (form_demands image st.walk r b) b c → FirstFault image b c
   plain_form c en lo hi h f =
-      fault_at b c (inr (en, inr ((lo, hi), inr (free_absent image owners st.walk st.tells.owns b h, fails_left (form_demands image st.walk r b) (demand SameName b (NewName image st.walk r b) ∷ []) b c f))))
+      fault_at b c (inr (en, inr ((lo, hi), inr (free_absent image store.owners st.walk st.tells.owns b h, fails_left (form_demands image st.walk r b) (demand SameName b (NewName image st.walk r b) ∷ []) b c f))))
 
-  pub plain_upto : Enough image st.walk r → 2 ≤ b → b < blocks image → owner_at owners b ≡ Free → AllHold (form_demands image st.walk r b) → IsUpTo image ((r, b) ∷ st.walk) (first r) (second r) (suc (third r))
+  pub plain_upto : Enough image st.walk r → 2 ≤ b → b < blocks image → owner_at store.owners b ≡ Free → AllHold (form_demands image st.walk r b) → IsUpTo image ((r, b) ∷ st.walk) (first r) (second r) (suc (third r))
   plain_upto en lo hi h f =
       take_it image st.walk r a st.index b st.upto st.asked st.names
-      (en, ((lo, hi), (free_absent image owners st.walk st.tells.owns b h, all_append (form_demands image st.walk r b) (demand SameName b (NewName image st.walk r b) ∷ []) f (plain_name image st.walk r b plain, tt))))
+      (en, ((lo, hi), (free_absent image store.owners st.walk st.tells.owns b h, all_append (form_demands image st.walk r b) (demand SameName b (NewName image st.walk r b) ∷ []) f (plain_name image st.walk r b plain, tt))))
 
-  pub plain_tells : 2 ≤ b → b < blocks image → owner_at owners b ≡ Free → Tells image (set owners b (owner_of r)) rows ((r, b) ∷ st.walk)
-  plain_tells lo hi h = tells_plain image owners rows st.walk r b plain st.tells lo hi h
+  pub plain_tells : 2 ≤ b → b < blocks image → owner_at store.owners b ≡ Free → Tells image (stored store r b) ((r, b) ∷ st.walk)
+  plain_tells lo hi h =
+      let e : length store.starts ≡ first r = st.started in
+      tells_more image store st.walk r b (λ n p s j z. absurd (subst IsPlain z plain)) (omega arith) st.tells lo hi h
 
 pub cond_yes : (t : Bool) (a b : ℕ) → t ≡ true → cond t a b ≡ a
 cond_yes true a b h = refl

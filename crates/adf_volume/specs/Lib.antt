@@ -7,4 +7,5 @@ pub mod Walk
 pub mod Parts
 pub mod Made
 pub mod Cursor
+pub mod Store
 pub mod Reading
