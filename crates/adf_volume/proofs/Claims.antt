@@ -142,7 +142,7 @@ cond_yes m n c h = go (nat_lt m n) refl
     go false z = let l : n ≤ m = grind (arith, nat_tests) in absurd (omega arith)
 
 -- where all parts of files are of nodes below n
-all_exts_before : (w : List (Role × ℕ)) (n : ℕ) → ((m k b : ℕ) → Has w (Ext m k) b → m < n) → length (all_exts w) ≡ exts_before w n
+pub all_exts_before : (w : List (Role × ℕ)) (n : ℕ) → ((m k b : ℕ) → Has w (Ext m k) b → m < n) → length (all_exts w) ≡ exts_before w n
 all_exts_before [] n h = refl
 all_exts_before (x ∷ w) n h = more x.0 refl (all_exts_before w n (λ m k b y. h m k b (inr y)))
   where
@@ -154,7 +154,7 @@ all_exts_before (x ∷ w) n h = more x.0 refl (all_exts_before w n (λ m k b y. 
     more (Ext m k) e ih = snoc_length (all_exts w) x.1 ∙ (ap suc ih ∙ sym (cond_yes m n (exts_before w n) (h m k x.1 (inl (e, refl)))))
     more (Data m k) e ih = ih
 
-all_datas_before : (w : List (Role × ℕ)) (n : ℕ) → ((m k b : ℕ) → Has w (Data m k) b → m < n) → length (all_datas w) ≡ datas_before w n
+pub all_datas_before : (w : List (Role × ℕ)) (n : ℕ) → ((m k b : ℕ) → Has w (Data m k) b → m < n) → length (all_datas w) ≡ datas_before w n
 all_datas_before [] n h = refl
 all_datas_before (x ∷ w) n h = more x.0 refl (all_datas_before w n (λ m k b y. h m k b (inr y)))
   where

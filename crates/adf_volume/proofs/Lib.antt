@@ -23,3 +23,4 @@ pub mod InPages
 pub mod InFiles
 pub mod InRows
 pub mod InBitmap
+pub mod Flat
