@@ -24,11 +24,11 @@ slot_upper a b h = same_slot a b h
 pub four_blocks : (n : ℕ) → is_allowed n ≡ true → 4 ≤ n
 four_blocks n h = grind (arith, nat_tests)
 
-block_length : (image : List ℕ) (b : ℕ) → length image ≡ 512 * blocks image → b < blocks image → length (block image b) ≡ 512
+pub block_length : (image : List ℕ) (b : ℕ) → length image ≡ 512 * blocks image → b < blocks image → length (block image b) ≡ 512
 unfolding block
 block_length image b h l = simp (length-take, length-drop) (omega arith)
 
-area_length : (image : List ℕ) (k : Kind) (b : ℕ) → length image ≡ 512 * blocks image → b < blocks image → length (area k (block image b)) ≡ chunk k
+pub area_length : (image : List ℕ) (k : Kind) (b : ℕ) → length image ≡ 512 * blocks image → b < blocks image → length (area k (block image b)) ≡ chunk k
 unfolding area chunk
 area_length image Ofs b h l = let z = block_length image b h l in simp (length-take, length-drop) (omega arith)
 area_length image Ffs b h l = let z = block_length image b h l in simp (length-take, length-drop) (omega arith)

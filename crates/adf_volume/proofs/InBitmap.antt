@@ -24,7 +24,8 @@ use Rattle.adf_volume.proofs.Lists.{fails_left, all_append, all_split, at_below,
 use Rattle.adf_volume.proofs.Walks.{file_is, member_is, numbered, one_block, one_head, count_own, ext_counted, asked_block, root_in, page_word}
 use Rattle.adf_volume.proofs.Kept.{kept, file_up, member_up}
 use Rattle.adf_volume.specs.Made.{tree_in, layout_in}
-use Rattle.adf_volume.proofs.Sound.{fits, all_map_exts}
+use Rattle.adf_volume.proofs.Sound.{all_map_exts}
+use Rattle.adf_volume.proofs.Fitting.{fits}
 use Rattle.adf_volume.proofs.Unique.{one_tree}
 use Rattle.adf_volume.proofs.Cursors.{begin, is_due, take_it, end_all_pages, enter_dir, end_dir, enter_file, end_exts, end_datas, end_all}
 use Rattle.adf_volume.specs.declared.owner.Owner.{Owner}

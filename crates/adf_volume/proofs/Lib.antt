@@ -14,6 +14,8 @@ pub mod Kept
 pub mod Made
 pub mod Owners
 pub mod Sound
+pub mod OwnedIn
+pub mod Fitting
 pub mod Alone
 pub mod Cursors
 pub mod Claims
@@ -24,3 +26,6 @@ pub mod InFiles
 pub mod InRows
 pub mod InBitmap
 pub mod Flat
+pub mod Pieces
+pub mod Finds
+pub mod Keeps

@@ -1,4 +1,4 @@
--- What a whole walk tells, fits.
+-- What a whole walk tells: its tree, its pages, its chains and its files.
 use Rattle.std.proofs.Common.{◌≡◌, ℕ, zero, suc, List, [], ◌∷◌, ◌++◌, inl, inr, ◌+◌, ◌-◌, ◌*◌, ◌/◌, ◌<◌, ◌≤◌, length, refl, sym, ap, subst, ◌∙◌, arith, Bool, true, false, cond, map, eq-eqb}
 use Rattle.std.specs.Prelude.{◌==◌, slice_index}
 use Rattle.std.proofs.lemmas.Bool.{eqb-true}
@@ -36,12 +36,12 @@ place_parts [] i q h = absurd h
 place_parts (r ∷ qs) zero q h = (ap (λ (x : Place). x.head) h, ap (λ (x : Place). x.exts) h, ap (λ (x : Place). x.datas) h)
 place_parts (r ∷ qs) (suc i) q h = place_parts qs i q h
 
-exts_below : (qs : List Place) (i k b : ℕ) → At (exts_at qs i) k b → i < length qs
+pub exts_below : (qs : List Place) (i k b : ℕ) → At (exts_at qs i) k b → i < length qs
 exts_below [] i k b h = absurd h
 exts_below (q ∷ qs) zero k b h = omega arith
 exts_below (q ∷ qs) (suc i) k b h = let ih : i < length qs = exts_below qs i k b h in omega arith
 
-datas_below : (qs : List Place) (i k b : ℕ) → At (datas_at qs i) k b → i < length qs
+pub datas_below : (qs : List Place) (i k b : ℕ) → At (datas_at qs i) k b → i < length qs
 datas_below [] i k b h = absurd h
 datas_below (q ∷ qs) zero k b h = omega arith
 datas_below (q ∷ qs) (suc i) k b h = let ih : i < length qs = datas_below qs i k b h in omega arith
@@ -77,7 +77,7 @@ all_map_exts image w whole (suc j) lt =
     asked_block image w whole (MapExt (suc j)) x.0 127 (lt, x.1, refl) (omega arith)
 
 module _ (image : List ℕ) (w : List (Role × ℕ)) (v : IsWalk image w) (whole : IsWhole image w) where
-  head_is : (n p s j b : ℕ) → Has w (Head n p s j) b → (at_node image (layout_in w) n ≡ b) × (exts_of (layout_in w) n ≡ exts_in w n) × (datas_of (layout_in w) n ≡ datas_in w n)
+  pub head_is : (n p s j b : ℕ) → Has w (Head n p s j) b → (at_node image (layout_in w) n ≡ b) × (exts_of (layout_in w) n ≡ exts_in w n) × (datas_of (layout_in w) n ≡ datas_in w n)
   head_is zero p s j b h = let u : (1 ≤ 0) × (0 ≤ heads w) = number_of image v 0 p s j b h in absurd (omega arith)
   head_is (suc i) p s j b h = place_parts (places_in w w) i (place_in w (suc i) b) (place_has image w v i p s j b h)
 
@@ -89,7 +89,7 @@ module _ (image : List ℕ) (w : List (Role × ℕ)) (v : IsWalk image w) (whole
   dir_at zero a h = root_is image w a v h
   dir_at (suc i) a h = node_at (suc i) a h.0
 
-  entry_is : (n : ℕ) (e : Entry) → EntryAt (tree_in image w) n e → (p s j b : ℕ) × Has w (Head n p s j) b × (e ≡ entry_in image w n p b)
+  pub entry_is : (n : ℕ) (e : Entry) → EntryAt (tree_in image w) n e → (p s j b : ℕ) × Has w (Head n p s j) b × (e ≡ entry_in image w n p b)
   entry_is zero e h = absurd h
   entry_is (suc i) e h = has_entry image w w v i e h
 
@@ -103,7 +103,7 @@ module _ (image : List ℕ) (w : List (Role × ℕ)) (v : IsWalk image w) (whole
         ap (λ x. cond x Dir (File (content image (kind_of image) c (datas_in w (suc i))))) (eq-eqb (word_in image c 127) DIR h.1),
       )
 
-  is_tree : Ordered (tree_in image w)
+  pub is_tree : Ordered (tree_in image w)
   is_tree = record {
     parents = (λ n e h.
         let x = entry_is n e h in
@@ -130,7 +130,7 @@ module _ (image : List ℕ) (w : List (Role × ℕ)) (v : IsWalk image w) (whole
         new_names image v n m x.0 x.1 x.2 y.2 x.3 y.3 x.4 y4 ne nm);
   }
 
-  pages_length : length (pages_in w) ≡ pages_needed (blocks image)
+  pub pages_length : length (pages_in w) ≡ pages_needed (blocks image)
   pages_length =
       elim (dec_lt (length (pages_in w)) (pages_needed (blocks image))) [
         | yes u ↦
@@ -147,7 +147,7 @@ module _ (image : List ℕ) (w : List (Role × ℕ)) (v : IsWalk image w) (whole
         ]
       ]
 
-  map_exts_length : length (map_exts_in w) ≡ map_exts_needed (pages_needed (blocks image))
+  pub map_exts_length : length (map_exts_in w) ≡ map_exts_needed (pages_needed (blocks image))
   map_exts_length =
       elim (dec_lt (length (map_exts_in w)) (map_exts_needed (pages_needed (blocks image)))) [
         | yes u ↦
@@ -164,17 +164,17 @@ module _ (image : List ℕ) (w : List (Role × ℕ)) (v : IsWalk image w) (whole
         ]
       ]
 
-  map_ext_next : (j a b : ℕ) → At (map_exts_in w) j a → At (map_exts_in w) (suc j) b → word_in image a 127 ≡ b
+  pub map_ext_next : (j a b : ℕ) → At (map_exts_in w) j a → At (map_exts_in w) (suc j) b → word_in image a 127 ≡ b
   map_ext_next j a b h k =
       let y = (kept image v (MapExt (suc j)) b (has_map_ext image w v (suc j) b k)).1 in
       let e : a ≡ y.0 = at_fun (map_exts_in w) j a y.0 h (map_ext_has image w v j y.0 y.1) in
       ap (λ a. word_in image a 127) e ∙ y.2
 
-  root_names : (k b a i : ℕ) → k < 25 → NamesPage image w k a i → word_in image a i ≡ b → word_in image (root_of image) (79 + k) ≡ b
+  pub root_names : (k b a i : ℕ) → k < 25 → NamesPage image w k a i → word_in image a i ≡ b → word_in image (root_of image) (79 + k) ≡ b
   root_names k b a i lt (inl x) e = ap (λ a. word_in image a (79 + k)) (sym x.1) ∙ ap (word_in image a) (sym x.2) ∙ e
   root_names k b a i lt (inr x) e = let z : k ≡ 25 + 127 * x.0 + i = x.3 in absurd (omega arith)
 
-  ext_names : (j i c b a m : ℕ) → i < 127 → At (map_exts_in w) j c → NamesPage image w (25 + 127 * j + i) a m → word_in image a m ≡ b → word_in image c i ≡ b
+  pub ext_names : (j i c b a m : ℕ) → i < 127 → At (map_exts_in w) j c → NamesPage image w (25 + 127 * j + i) a m → word_in image a m ≡ b → word_in image c i ≡ b
   ext_names j i c b a m lt h (inl x) e = let y : 25 + 127 * j + i < 25 = x.0 in absurd (omega arith)
   ext_names j i c b a m lt h (inr x) e =
       let l : m < 127 = x.2 in
@@ -195,7 +195,7 @@ module _ (image : List ℕ) (w : List (Role × ℕ)) (v : IsWalk image w) (whole
       subst (DirAt image w (suc i)) e ((x.0, x.1, x.2, x.4), y)
 
   -- the chains are spelled
-  chains_spelled : (p s : ℕ) → DirNode (tree_in image w) p → s < 72 →
+  pub chains_spelled : (p s : ℕ) → DirNode (tree_in image w) p → s < 72 →
       Spelled (λ b. word_in image b 124) (word_in image (at_node image (layout_in w) p) (6 + s)) (map (at_node image (layout_in w)) (chain_nodes (tree_in image w) p s))
   chains_spelled p s d lt =
       let da = is_dir_at p d in
@@ -239,7 +239,7 @@ module _ (image : List ℕ) (w : List (Role × ℕ)) (v : IsWalk image w) (whole
       ])
 
   -- a file of the tree is one of the walk
-  file_at : (n : ℕ) (e : Entry) (bytes : List ℕ) → EntryAt (tree_in image w) n e → e.body ≡ File bytes → (h : ℕ) × FileAt image w n h × (bytes ≡ content image (kind_of image) h (datas_in w n)) × (at_node image (layout_in w) n ≡ h)
+  pub file_at : (n : ℕ) (e : Entry) (bytes : List ℕ) → EntryAt (tree_in image w) n e → e.body ≡ File bytes → (h : ℕ) × FileAt image w n h × (bytes ≡ content image (kind_of image) h (datas_in w n)) × (at_node image (layout_in w) n ≡ h)
   file_at n e bytes h f =
       let x = entry_is n e h in
       let z : body_in image w n x.3 ≡ File bytes = ap (λ (y : Entry). y.body) (sym x.5) ∙ f in
@@ -247,7 +247,7 @@ module _ (image : List ℕ) (w : List (Role × ℕ)) (v : IsWalk image w) (whole
       let k = kept image v (Head n x.0 x.1 x.2) x.3 x.4 in
       (x.3, ((x.0, x.1, x.2, x.4), head_kind image x.3 k.2.0 x.1 k.2.2 y.0), y.1, (head_is n x.0 x.1 x.2 x.3 x.4).0)
 
-  file_parts : (n h : ℕ) → FileAt image w n h → (at_node image (layout_in w) n ≡ h) × (exts_of (layout_in w) n ≡ exts_in w n) × (datas_of (layout_in w) n ≡ datas_in w n)
+  pub file_parts : (n h : ℕ) → FileAt image w n h → (at_node image (layout_in w) n ≡ h) × (exts_of (layout_in w) n ≡ exts_in w n) × (datas_of (layout_in w) n ≡ datas_in w n)
   file_parts n h f = head_is n f.0.0 f.0.1 f.0.2 h f.0.3
 
   one_file : (n h k : ℕ) → FileAt image w n h → FileAt image w n k → h ≡ k
@@ -343,7 +343,7 @@ module _ (image : List ℕ) (w : List (Role × ℕ)) (v : IsWalk image w) (whole
       subst (λ x. AllHold (data_demands image (kind_of image) b h (suc k) (held (kind_of image) (word_in image h 81) (suc k)) x)) e
       (subst (λ h. AllHold (data_demands image (kind_of image) b h (suc k) (held (kind_of image) (word_in image h 81) (suc k)) y.5.0)) z y.5.2)
 
-  file_fits : (n h : ℕ) (bytes : List ℕ) → FileAt image w n h → length bytes ≡ word_in image h 81 → FileFits image (tree_in image w) (layout_in w) n h bytes
+  pub file_fits : (n h : ℕ) (bytes : List ℕ) → FileAt image w n h → length bytes ≡ word_in image h 81 → FileFits image (tree_in image w) (layout_in w) n h bytes
   file_fits n h bytes f z =
       let fp = file_parts n h f in
       let ex : exts_of (layout_in w) n ≡ exts_in w n = fp.1 in
@@ -368,7 +368,7 @@ module _ (image : List ℕ) (w : List (Role × ℕ)) (v : IsWalk image w) (whole
 
   module _ (boots : AllHold (boot_demands image)) where
     -- what a file holds is as long as its header says
-    content_long : (n h : ℕ) → FileAt image w n h → length (content image (kind_of image) h (datas_in w n)) ≡ word_in image h 81
+    pub content_long : (n h : ℕ) → FileAt image w n h → length (content image (kind_of image) h (datas_in w n)) ≡ word_in image h 81
     content_long n h f =
         content_length image (kind_of image) h (datas_in w n) boots.0.0
         (λ k b x. (in_range image v (four_blocks (blocks image) boots.0.1) (Data n (suc k)) b (has_data image w v n k b x)).1)
@@ -395,7 +395,7 @@ module _ (image : List ℕ) (w : List (Role × ℕ)) (v : IsWalk image w) (whole
         let hp = head_is n p s j b h in
         (f.1, ap (content image (kind_of image) b) (sym hp.2), content_long n b f)
 
-    entry_fits : (n : ℕ) (e : Entry) → EntryAt (tree_in image w) n e → EntryFits image (tree_in image w) (layout_in w) n (at_node image (layout_in w) n) e
+    pub entry_fits : (n : ℕ) (e : Entry) → EntryAt (tree_in image w) n e → EntryFits image (tree_in image w) (layout_in w) n (at_node image (layout_in w) n) e
     entry_fits n e h =
         let x = entry_is n e h in
         let b : ℕ = x.3 in
@@ -411,116 +411,3 @@ module _ (image : List ℕ) (w : List (Role × ℕ)) (v : IsWalk image w) (whole
           meta = refl;
           body = body_fits n x.0 x.1 x.2 b k.2.0 x.4 k.2.2 (word_in image b 127 == DIR) refl;
         }))
-
-    -- each member of the walk is owned, and each owned block is a member
-    in_places : (o : Owner) (b : ℕ) → In (owned_from 1 (places_in w w)) (o, b) → In (owned image (layout_in w)) (o, b)
-    in_places o b h = inr (in_right (numbered APage 0 (pages_in w)) (numbered AMapExt 0 (map_exts_in w) ++ owned_from 1 (places_in w w)) (o, b) (in_right (numbered AMapExt 0 (map_exts_in w)) (owned_from 1 (places_in w w)) (o, b) h))
-
-    is_owned : (r : Role) (b : ℕ) → Has w r b → In (owned image (layout_in w)) (owner_of r, b)
-    is_owned Root b h = let e : root_of image ≡ b = root_is image w b v h in inl (λ i. (TheRoot, e i))
-    is_owned (Page k) b h =
-        let z : 0 + k ≡ k = omega arith in
-        inr (in_left (numbered APage 0 (pages_in w)) (numbered AMapExt 0 (map_exts_in w) ++ owned_from 1 (places_in w w)) (APage k, b) (subst (λ k. In (numbered APage 0 (pages_in w)) (APage k, b)) z (in_numbered APage 0 (pages_in w) k b (page_has image w v k b h))))
-    is_owned (MapExt k) b h =
-        let z : 0 + k ≡ k = omega arith in
-        inr (in_right (numbered APage 0 (pages_in w)) (numbered AMapExt 0 (map_exts_in w) ++ owned_from 1 (places_in w w)) (AMapExt k, b)
-        (in_left (numbered AMapExt 0 (map_exts_in w)) (owned_from 1 (places_in w w)) (AMapExt k, b)
-        (subst (λ k. In (numbered AMapExt 0 (map_exts_in w)) (AMapExt k, b)) z (in_numbered AMapExt 0 (map_exts_in w) k b (map_ext_has image w v k b h)))))
-    is_owned (Head zero p s j) b h = let u : (1 ≤ 0) × (0 ≤ heads w) = number_of image v 0 p s j b h in absurd (omega arith)
-    is_owned (Head (suc i) p s j) b h =
-        let l : length (places_in w w) ≡ heads w = places_length image w w in
-        let u : (1 ≤ suc i) × (suc i ≤ heads w) = number_of image v (suc i) p s j b h in
-        let z : 1 + i ≡ suc i = omega arith in
-        in_places (AHead (suc i)) b (subst (λ b. In (owned_from 1 (places_in w w)) (AHead (suc i), b)) (head_is (suc i) p s j b h).0
-        (subst (λ m. In (owned_from 1 (places_in w w)) (AHead m, head_at (places_in w w) i)) z (owned_head 1 (places_in w w) i (omega arith))))
-    is_owned (Ext n zero) b h = absurd (kept image v (Ext n zero) b h)
-    is_owned (Ext zero (suc k)) b h = let f = (ext_file image v 0 (suc k) b h).1 in let u : (1 ≤ 0) × (0 ≤ heads w) = number_of image v 0 f.0.0 f.0.1 f.0.2 _ f.0.3 in absurd (omega arith)
-    is_owned (Ext (suc i) (suc k)) b h =
-        let f = ext_file image v (suc i) (suc k) b h in
-        let z : 1 + i ≡ suc i = omega arith in
-        in_places (AnExt (suc i) (suc k)) b (subst (λ m. In (owned_from 1 (places_in w w)) (AnExt m (suc k), b)) z
-        (owned_ext 1 (places_in w w) i k b (subst (λ xs. At xs k b) (sym (file_parts (suc i) f.0 f.1).1) (ext_has image v (suc i) k b h))))
-    is_owned (Data n zero) b h = absurd (kept image v (Data n zero) b h)
-    is_owned (Data zero (suc k)) b h = let f = kept image v (Data 0 (suc k)) b h in let u : (1 ≤ 0) × (0 ≤ heads w) = number_of image v 0 f.1.0.0 f.1.0.1 f.1.0.2 f.0 f.1.0.3 in absurd (omega arith)
-    is_owned (Data (suc i) (suc k)) b h =
-        let f = kept image v (Data (suc i) (suc k)) b h in
-        let z : 1 + i ≡ suc i = omega arith in
-        in_places (AData (suc i) (suc k)) b (subst (λ m. In (owned_from 1 (places_in w w)) (AData m (suc k), b)) z
-        (owned_data 1 (places_in w w) i k b (subst (λ xs. At xs k b) (sym (file_parts (suc i) f.0 f.1).2) (data_has image w v (suc i) k b h))))
-
-    -- the places of numbers that the walk has
-    place_is : (i : ℕ) → i < length (places_in w w) → (p s j b : ℕ) × Has w (Head (suc i) p s j) b
-    place_is i u = let l : length (places_in w w) ≡ heads w = places_length image w w in numbers image v (suc i) (omega arith) (omega arith)
-
-    stands_has : (o : Owner) (b : ℕ) → Stands 1 (places_in w w) o b → (r : Role) × Has w r b × (o ≡ owner_of r)
-    stands_has o b (in_head i u e z) =
-        let x = place_is i u in
-        let y : 1 + i ≡ suc i = omega arith in
-        (Head (suc i) x.0 x.1 x.2, subst (Has w (Head (suc i) x.0 x.1 x.2)) (sym (head_is (suc i) x.0 x.1 x.2 x.3 x.4).0 ∙ e) x.4, z ∙ ap AHead y)
-    stands_has o b (in_ext i k h z) =
-        let x = place_is i (exts_below (places_in w w) i k b h) in
-        let y : 1 + i ≡ suc i = omega arith in
-        (Ext (suc i) (suc k), has_ext image w v (suc i) k b (subst (λ xs. At xs k b) (head_is (suc i) x.0 x.1 x.2 x.3 x.4).1 h), z ∙ ap (λ m. AnExt m (suc k)) y)
-    stands_has o b (in_data i k h z) =
-        let x = place_is i (datas_below (places_in w w) i k b h) in
-        let y : 1 + i ≡ suc i = omega arith in
-        (Data (suc i) (suc k), has_data image w v (suc i) k b (subst (λ xs. At xs k b) (head_is (suc i) x.0 x.1 x.2 x.3 x.4).2 h), z ∙ ap (λ m. AData m (suc k)) y)
-
-    owned_has : (o : Owner) (b : ℕ) → In (owned image (layout_in w)) (o, b) → (r : Role) × Has w r b × (o ≡ owner_of r)
-    owned_has o b (inl e) = (Root, subst (Has w Root) (ap (λ (p : Owner × ℕ). p.1) e) (root_in image v), sym (ap (λ (p : Owner × ℕ). p.0) e))
-    owned_has o b (inr h) =
-        elim (in_cases (numbered APage 0 (pages_in w)) (numbered AMapExt 0 (map_exts_in w) ++ owned_from 1 (places_in w w)) (o, b) h) [
-          | inl g ↦ let r = numbered_at APage 0 (pages_in w) o b g in let y : 0 + r.0 ≡ r.0 = omega arith in (Page r.0, has_page image w v r.0 b r.1, r.2 ∙ ap APage y)
-          | inr g ↦ elim (in_cases (numbered AMapExt 0 (map_exts_in w)) (owned_from 1 (places_in w w)) (o, b) g) [
-            | inl f ↦ let r = numbered_at AMapExt 0 (map_exts_in w) o b f in let y : 0 + r.0 ≡ r.0 = omega arith in (MapExt r.0, has_map_ext image w v r.0 b r.1, r.2 ∙ ap AMapExt y)
-            | inr f ↦ stands_has o b (owned_stands 1 (places_in w w) o b f)
-          ]
-        ]
-
-    once : NoBlockTwice (owned image (layout_in w))
-    once = blocks_once (owned image (layout_in w)) (once_owned image (layout_in w))
-        (λ x y b i j.
-        let r = owned_has x b i in
-        let s = owned_has y b j in
-        r.2 ∙ ap owner_of (one_role image v r.0 s.0 b r.1 s.1) ∙ sym s.2)
-
-    bitmap_at : (b0 n b : ℕ) → AllHold (bitmap_demands image w b0 n) → b0 ≤ b → b < b0 + n → (IsAbsent w b → IsFreeIn image w b) × (IsFreeIn image w b → IsAbsent w b)
-    bitmap_at b0 zero b h lo hi = absurd (omega arith)
-    bitmap_at b0 (suc n) b h lo hi =
-        elim (ℕ_discrete b0 b) [
-          | yes e ↦ subst (λ b. (IsAbsent w b → IsFreeIn image w b) × (IsFreeIn image w b → IsAbsent w b)) e (h.0, h.1.0)
-          | no ne ↦ bitmap_at (suc b0) n b h.1.1 (omega arith) (omega arith)
-        ]
-
-    pub fits : AllHold (root_demands image (root_of image)) → AllHold (bitmap_demands image w 2 (blocks image - 2)) → Fits image (tree_in image w) (layout_in w)
-    fits root bits = record {
-      boots = boots;
-      kind = refl;
-      root = root;
-      label = refl;
-      stamps = refl;
-      tree = is_tree_from (tree_in image w) is_tree;
-      places = places_length image w w ∙ sym (entries_length image w w);
-      pages = pages_length;
-      map_exts = map_exts_length;
-      map_first = (λ b h. (kept image v (MapExt 0) b (has_map_ext image w v 0 b h)).1);
-      map_next = map_ext_next;
-      page_named = (λ k b lt h. let x = (kept image v (Page k) b (has_page image w v k b h)).1 in root_names k b x.0 x.1 lt x.2 x.3);
-      page_listed = (λ j i a b lt h k.
-          let x = (kept image v (Page (25 + 127 * j + i)) b (has_page image w v (25 + 127 * j + i) b k)).1 in
-          ext_names j i a b x.0 x.1 lt h x.2 x.3);
-      page_form = (λ k b h. (kept image v (Page k) b (has_page image w v k b h)).2);
-      entries = entry_fits;
-      chains = (λ p s d lt. chains_spelled p s (dir_node (tree_in image w) p d) lt);
-      files = (λ n e bytes h f.
-          let x = file_at n e bytes h f in
-          subst (λ h. FileFits image (tree_in image w) (layout_in w) n h bytes) (sym x.3) (file_fits n x.0 bytes x.1 (ap length x.2 ∙ content_long n x.0 x.1)));
-      once = once;
-      range = (λ o b h. let r = owned_has o b h in in_range image v (four_blocks (blocks image) boots.0.1) r.0 b r.1);
-      bitmap = (λ b lo hi.
-          let s2 : 4 ≤ blocks image = (four_blocks (blocks image) boots.0.1) in
-          let x = bitmap_at 2 (blocks image - 2) b bits lo (omega arith) in (
-            (λ f o i. let r = owned_has o b i in x.1 (f.0, has_page image w v ((b - 2) / 4064) f.0 f.1, f.2) r.0 r.1),
-            (λ f. let y = x.0 (λ q h. f (owner_of q) (is_owned q b h)) in (y.0, page_has image w v ((b - 2) / 4064) y.0 y.1, y.2)),
-          ));
-    }

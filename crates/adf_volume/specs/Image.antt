@@ -1,5 +1,6 @@
 -- What an image holds, by the numbers of its blocks.
 use Rattle.std.specs.Prelude.{ℕ, List, [], ◌∷◌, ◌++◌, ◌+◌, ◌-◌, ◌*◌, ◌/◌, ◌%◌, ◌==◌, cond, nat_lt, slice_index, slice_range, take}
+use Rattle.std.proofs.Common.{suc}
 use Rattle.adf_fields.specs.Words.{block, word}
 use Rattle.adf_tree.specs.declared.entry.Kind.{Kind}
 use Rattle.adf_tree.specs.declared.entry.Kind.TheVariants.{Ofs, Ffs}
@@ -75,6 +76,15 @@ joined image kind (b ∷ bs) = area kind (block image b) ++ joined image kind bs
 -- the content of the file whose header is block h: its data areas joined, cut at the size in the header
 unfoldable pub content : List ℕ → Kind → ℕ → List ℕ → List ℕ
 content image kind h datas = take (word_in image h 81) (joined image kind datas)
+
+-- the content that data block k, counted from 1, of a file of this size holds
+abbrev pub piece : Kind → ℕ → ℕ → List ℕ → List ℕ
+piece kind size k b = take (held kind size k) (area kind b)
+
+-- the pieces of a file of this size, from data block k on
+abbrev pub pieces : List ℕ → Kind → ℕ → ℕ → List ℕ → List (List ℕ)
+pieces image kind size k [] = []
+pieces image kind size k (b ∷ bs) = piece kind size k (block image b) ∷ pieces image kind size (suc k) bs
 
 -- the bitmap extension blocks that so many pages need: the root names 25 pages, each extension block 127
 unfoldable pub map_exts_needed : ℕ → ℕ

@@ -9,3 +9,4 @@ pub mod Made
 pub mod Cursor
 pub mod Store
 pub mod Reading
+pub mod Keeps

@@ -1,0 +1,94 @@
+-- The pieces of a file joined are its content.
+use Rattle.std.proofs.Common.{◌≡◌, ℕ, zero, suc, List, [], ◌∷◌, ◌++◌, ◌+◌, ◌-◌, ◌*◌, ◌/◌, ◌<◌, ◌≤◌, length, refl, sym, ap, subst, ◌∙◌, arith, Bool, true, false, cond, take, take_all}
+use Rattle.std.specs.Prelude.{nat_lt}
+use Rattle.std.specs.List.{concat}
+use Rattle.std.proofs.lemmas.Bool.Decides.{nat_tests}
+use Rattle.adf_fields.specs.Words.{block}
+use Rattle.adf_tree.specs.declared.entry.Kind.{Kind}
+use Rattle.adf_tree.specs.declared.entry.Kind.TheVariants.{Ofs, Ffs}
+use Rattle.adf_blocks.specs.Sizes.{blocks}
+use Rattle.adf_volume.specs.Lists.{At}
+use Rattle.adf_volume.specs.Image.{word_in, chunk, count, held, area, joined, content, piece, pieces}
+use Rattle.adf_volume.proofs.Images.{area_length}
+
+take_zero : (xs : List ℕ) → take 0 xs ≡ []
+take_zero [] = refl
+take_zero (x ∷ xs) = refl
+
+-- the first bytes of two lists, one after the other
+take_append : (s : ℕ) (xs ys : List ℕ) → take s (xs ++ ys) ≡ take s xs ++ take (s - length xs) ys
+take_append zero [] ys = let z : 0 - length {A = ℕ} [] ≡ 0 = omega arith in ap (λ k. take k ys) (sym z)
+take_append (suc s) [] ys = let z : suc s - length {A = ℕ} [] ≡ suc s = omega arith in ap (λ k. take k ys) (sym z)
+take_append zero (x ∷ xs) ys = let z : 0 - length (x ∷ xs) ≡ 0 = omega arith in sym (take_zero ys) ∙ ap (λ k. take k ys) (sym z)
+take_append (suc s) (x ∷ xs) ys = let z : s - length xs ≡ suc s - length (x ∷ xs) = omega arith in ap (λ zs. x ∷ zs) (take_append s xs ys) ∙ ap (λ k. x ∷ (take s xs ++ take k ys)) z
+
+-- what is left of a size from data block k + 1 on
+left : Kind → ℕ → ℕ → ℕ
+left kind size k = size - chunk kind * k
+
+-- a data block that is followed holds all that it can, the last one what is left
+held_is : (kind : Kind) (size k : ℕ) (xs : List ℕ) → length xs ≡ chunk kind → take (held kind size (suc k)) xs ≡ take (left kind size k) xs
+unfolding held chunk left
+held_is Ofs size k xs h = go (nat_lt (488 * suc k) size) refl
+  where
+    go : (t : Bool) → nat_lt (488 * suc k) size ≡ t → take (cond t 488 (size - 488 * (suc k - 1))) xs ≡ take (size - 488 * k) xs
+    go true z = let l : 488 * suc k < size = grind (arith, nat_tests) in take_all 488 xs (omega arith) ∙ sym (take_all (size - 488 * k) xs (omega arith))
+    go false z = let e : size - 488 * (suc k - 1) ≡ size - 488 * k = omega arith in ap (λ n. take n xs) e
+held_is Ffs size k xs h = go (nat_lt (512 * suc k) size) refl
+  where
+    go : (t : Bool) → nat_lt (512 * suc k) size ≡ t → take (cond t 512 (size - 512 * (suc k - 1))) xs ≡ take (size - 512 * k) xs
+    go true z = let l : 512 * suc k < size = grind (arith, nat_tests) in take_all 512 xs (omega arith) ∙ sym (take_all (size - 512 * k) xs (omega arith))
+    go false z = let e : size - 512 * (suc k - 1) ≡ size - 512 * k = omega arith in ap (λ n. take n xs) e
+
+left_more : (kind : Kind) (size k n : ℕ) → n ≡ chunk kind → left kind size k - n ≡ left kind size (suc k)
+unfolding left chunk
+left_more Ofs size k n h = omega arith
+left_more Ffs size k n h = omega arith
+
+pieces_from : (image : List ℕ) (kind : Kind) (size k : ℕ) (bs : List ℕ) → length image ≡ 512 * blocks image → ((i b : ℕ) → At bs i b → b < blocks image) → concat (pieces image kind size (suc k) bs) ≡ take (left kind size k) (joined image kind bs)
+pieces_from image kind size k [] z l = none (left kind size k)
+  where
+    none : (n : ℕ) → ◌≡◌ {A = List ℕ} [] (take n [])
+    none zero = refl
+    none (suc n) = refl
+pieces_from image kind size k (b ∷ bs) z l =
+    let n : length (area kind (block image b)) ≡ chunk kind = area_length image kind b z (l 0 b refl) in
+    let ih = pieces_from image kind size (suc k) bs z (λ i c h. l (suc i) c h) in
+    ap (λ xs. xs ++ concat (pieces image kind size (suc (suc k)) bs)) (held_is kind size k (area kind (block image b)) n)
+    ∙ (ap (λ ys. take (left kind size k) (area kind (block image b)) ++ ys) (ih ∙ ap (λ m. take m (joined image kind bs)) (sym (left_more kind size k (length (area kind (block image b))) n)))
+    ∙ sym (take_append (left kind size k) (area kind (block image b)) (joined image kind bs)))
+
+left_all : (kind : Kind) (size : ℕ) → left kind size 0 ≡ size
+unfolding left
+left_all kind size = let z : chunk kind * 0 ≡ 0 = omega arith in omega arith
+
+-- the pieces of a file, one after the other, are its content
+pub pieces_joined : (image : List ℕ) (kind : Kind) (h : ℕ) (bs : List ℕ) → length image ≡ 512 * blocks image → ((i b : ℕ) → At bs i b → b < blocks image) → concat (pieces image kind (word_in image h 81) 1 bs) ≡ content image kind h bs
+unfolding content
+pieces_joined image kind h bs z l = pieces_from image kind (word_in image h 81) 0 bs z l ∙ ap (λ n. take n (joined image kind bs)) (left_all kind (word_in image h 81))
+
+-- there is a piece for each data block
+pub pieces_length : (image : List ℕ) (kind : Kind) (size k : ℕ) (bs : List ℕ) → length (pieces image kind size k bs) ≡ length bs
+pieces_length image kind size k [] = refl
+pieces_length image kind size k (b ∷ bs) = ap suc (pieces_length image kind size (suc k) bs)
+
+pub piece_at : (image : List ℕ) (kind : Kind) (size k : ℕ) (bs : List ℕ) (i b : ℕ) → At bs i b → At (pieces image kind size k bs) i (piece kind size (k + i) (block image b))
+piece_at image kind size k [] i b h = absurd h
+piece_at image kind size k (c ∷ bs) zero b h = let z : k ≡ k + 0 = omega arith in λ t. piece kind size (z t) (block image (h t))
+piece_at image kind size k (c ∷ bs) (suc i) b h =
+    let z : suc k + i ≡ k + suc i = omega arith in
+    subst (λ m. At (pieces image kind size (suc k) bs) i (piece kind size m (block image b))) z (piece_at image kind size (suc k) bs i b h)
+
+-- no data block that a size needs is empty, and none holds more than it can
+pub held_some : (kind : Kind) (size k : ℕ) → k < count kind size → (0 < held kind size (suc k)) × (held kind size (suc k) ≤ chunk kind)
+unfolding held count chunk
+held_some Ofs size k h = go (nat_lt (488 * suc k) size) refl
+  where
+    go : (t : Bool) → nat_lt (488 * suc k) size ≡ t → (0 < cond t 488 (size - 488 * (suc k - 1))) × (cond t 488 (size - 488 * (suc k - 1)) ≤ 488)
+    go true z = (omega arith, omega arith)
+    go false z = let l : size ≤ 488 * suc k = grind (arith, nat_tests) in (omega arith, omega arith)
+held_some Ffs size k h = go (nat_lt (512 * suc k) size) refl
+  where
+    go : (t : Bool) → nat_lt (512 * suc k) size ≡ t → (0 < cond t 512 (size - 512 * (suc k - 1))) × (cond t 512 (size - 512 * (suc k - 1)) ≤ 512)
+    go true z = (omega arith, omega arith)
+    go false z = let l : size ≤ 512 * suc k = grind (arith, nat_tests) in (omega arith, omega arith)
