@@ -29,3 +29,6 @@ pub mod Flat
 pub mod Pieces
 pub mod Finds
 pub mod Keeps
+pub mod Blocks
+pub mod Given
+pub mod Planned

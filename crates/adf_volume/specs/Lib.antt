@@ -10,3 +10,4 @@ pub mod Cursor
 pub mod Store
 pub mod Reading
 pub mod Keeps
+pub mod Plan

@@ -1,0 +1,73 @@
+-- Where the builder lays the parts of a tree, in a volume of n blocks: the root in the middle, behind it the pages and the bitmap
+-- extension blocks. The other blocks from 2 on are given ascending to the entries in order: the k-th of them is `given n k`.
+use Rattle.std.specs.Prelude.{ℕ, List, [], ◌∷◌, ◌+◌, ◌-◌, ◌/◌, nat_lt, cond, length}
+use Rattle.std.proofs.Common.{zero, suc}
+use Rattle.adf_tree.specs.declared.entry.Kind.{Kind}
+use Rattle.adf_tree.specs.declared.entry.Body.{Body}
+use Rattle.adf_tree.specs.declared.entry.Body.TheVariants.{Dir, File}
+use Rattle.adf_tree.specs.declared.entry.Entry.{Entry}
+use Rattle.adf_tree.specs.Tree.{Tree}
+use Rattle.adf_blocks.specs.Sizes.{middle, pages_needed}
+use Rattle.adf_volume.specs.Image.{count, map_exts_needed}
+use Rattle.adf_volume.specs.Layout.{Place, Layout}
+
+-- the extension blocks that so many data blocks need: the header names 72, each extension block 72 more
+unfoldable pub exts_needed : ℕ → ℕ
+exts_needed c = (c - 72 + 71) / 72
+
+-- the data blocks of a body
+abbrev pub data_blocks : Kind → Body → ℕ
+data_blocks kind Dir = 0
+data_blocks kind (File bytes) = count kind (length bytes)
+
+-- the blocks of an entry: its header, its extension blocks and its data blocks
+abbrev pub entry_blocks : Kind → Entry → ℕ
+entry_blocks kind e = 1 + exts_needed (data_blocks kind e.body) + data_blocks kind e.body
+
+-- the blocks of entries
+abbrev pub entries_blocks : Kind → List Entry → ℕ
+entries_blocks kind [] = 0
+entries_blocks kind (e ∷ es) = entry_blocks kind e + entries_blocks kind es
+
+-- the blocks behind the root of a volume of n blocks: the pages and the bitmap extension blocks
+unfoldable pub reserved : ℕ → ℕ
+reserved n = pages_needed n + map_exts_needed (pages_needed n)
+
+-- the blocks that a tree needs in a volume of n blocks: the root, the reserved ones, and those of its entries
+abbrev pub blocks_needed : Tree → ℕ → ℕ
+blocks_needed t n = 1 + reserved n + entries_blocks t.kind t.entries
+
+-- the k-th block that is given to entries
+unfoldable pub given : ℕ → ℕ → ℕ
+given n k = cond (nat_lt (2 + k) (middle n)) (2 + k) (3 + k + reserved n)
+
+-- m given blocks, from the k-th on
+abbrev pub run : ℕ → ℕ → ℕ → List ℕ
+run n k zero = []
+run n k (suc m) = given n k ∷ run n (suc k) m
+
+-- m blocks, from b on
+abbrev pub row : ℕ → ℕ → List ℕ
+row b zero = []
+row b (suc m) = b ∷ row (suc b) m
+
+-- where an entry with this body lies, whose header is the k-th given block
+abbrev pub place_of : ℕ → Kind → ℕ → Body → Place
+place_of n kind k body = record {
+  head = given n k;
+  exts = run n (suc k) (exts_needed (data_blocks kind body));
+  datas = run n (suc k + exts_needed (data_blocks kind body)) (data_blocks kind body);
+}
+
+-- where entries lie, the first from the k-th given block on
+abbrev pub places_from : ℕ → Kind → ℕ → List Entry → List Place
+places_from n kind k [] = []
+places_from n kind k (e ∷ es) = place_of n kind k e.body ∷ places_from n kind (k + entry_blocks kind e) es
+
+-- where the builder lays a tree
+abbrev pub planned : Tree → ℕ → Layout
+planned t n = record {
+  pages = row (middle n + 1) (pages_needed n);
+  map_exts = row (middle n + 1 + pages_needed n) (map_exts_needed (pages_needed n));
+  places = places_from n t.kind 0 t.entries;
+}
