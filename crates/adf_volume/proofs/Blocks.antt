@@ -1,5 +1,5 @@
 -- The numbers of blocks of a list, and lists in which no number stands twice.
-use Rattle.std.proofs.Common.{◌≡◌, ℕ, zero, suc, List, [], ◌∷◌, ◌++◌, ◌⊎◌, inl, inr, refl, sym, ap, subst}
+use Rattle.std.proofs.Common.{◌≡◌, ℕ, suc, List, [], ◌∷◌, ◌++◌, inl, inr, refl, sym, ap, subst}
 use Rattle.adf_volume.specs.Lists.{In, numbered, NoBlockTwice}
 use Rattle.adf_volume.proofs.Lists.{in_cases}
 

@@ -1,5 +1,5 @@
 -- What a look-up in a chain finds in the tree.
-use Rattle.std.proofs.Common.{◌≡◌, ◌≢◌, true, false, ℕ, zero, suc, List, ◌+◌, ◌-◌, ◌<◌, ◌≤◌, length, refl, sym, ap, subst, ◌∙◌, arith, get_or}
+use Rattle.std.proofs.Common.{◌≡◌, ◌≢◌, true, false, ℕ, zero, suc, List, ◌+◌, ◌<◌, length, sym, ap, subst, ◌∙◌, arith, get_or}
 use Rattle.std.specs.Prelude.{Some, None}
 use Rattle.adf_fields.specs.Hash.{slot_of}
 use Rattle.adf_tree.specs.Texts.{uppers}

@@ -1,35 +1,18 @@
 -- What a whole walk tells, fits.
-use Rattle.std.proofs.Common.{◌≡◌, ℕ, zero, suc, List, [], ◌∷◌, ◌++◌, inl, inr, ◌+◌, ◌-◌, ◌*◌, ◌/◌, ◌<◌, ◌≤◌, length, refl, sym, ap, subst, ◌∙◌, arith, Bool, true, false, cond, map, eq-eqb}
-use Rattle.std.specs.Prelude.{◌==◌, slice_index}
-use Rattle.std.proofs.lemmas.Bool.{eqb-true}
-use native.Mathlib.Decide.{dec_lt, ℕ_discrete}
-use Rattle.adf_volume.specs.Lists.{At, In, Spelled, numbered, NoBlockTwice}
-use Rattle.adf_volume.specs.Image.{word_in, root_of, map_exts_needed, kind_of, count, held, table_word, DIR, FILE, name_of, content}
-use Rattle.adf_blocks.specs.Sizes.{blocks, pages_needed}
-use Rattle.adf_fields.specs.Hash.{slot_of}
-use Rattle.adf_tree.specs.Texts.{uppers}
-use Rattle.adf_volume.specs.Demands.{AllHold, boot_demands, root_demands, head_demands, ext_demands, data_demands}
-use Rattle.adf_tree.specs.declared.entry.Entry.{Entry}
-use Rattle.adf_volume.specs.Layout.{Place, EntryAt, nodes_from, chain_nodes, at_node, head_at, exts_at, datas_at, exts_of, datas_of, owned_from, owned}
-use Rattle.adf_volume.proofs.Ordered.{Ordered, DirNode, dir_node, is_tree_from}
-use Rattle.adf_volume.specs.declared.owner.Owner.{Owner}
-use Rattle.adf_tree.specs.declared.entry.Body.TheVariants.{Dir, File}
-use Rattle.adf_volume.specs.declared.owner.Owner.TheVariants.{Root as TheRoot, Page as APage, MapExt as AMapExt, Head as AHead, Ext as AnExt, Data as AData}
-use Rattle.adf_volume.specs.Fits.{Fits, EntryFits, FileFits, BodyFits, TableAt}
-use Rattle.adf_volume.specs.Walk.{Role, Before, Has, heads, NodeAt, DirAt, FileAt, MemberAt, NamesPage, data_count, ext_count, IsAbsent, IsFreeIn, bitmap_demands, IsWalk, IsWhole}
-use Rattle.adf_volume.specs.Walk.Role.{Root, Page, MapExt, Head, Ext, Data}
-use Rattle.adf_volume.specs.Made.{pages_in, map_exts_in, exts_in, datas_in, body_in, entry_in, place_in, entries_in, places_in, tree_in, layout_in}
+use Rattle.std.proofs.Common.{ℕ, zero, suc, List, ◌+◌, ◌-◌, ◌*◌, ◌/◌, ◌<◌, ◌≤◌, length, refl, sym, ap, subst, ◌∙◌, arith}
+use native.Mathlib.Decide.{ℕ_discrete}
+use Rattle.adf_volume.specs.Image.{root_of}
+use Rattle.adf_blocks.specs.Sizes.{blocks}
+use Rattle.adf_volume.specs.Demands.{AllHold, boot_demands, root_demands}
+use Rattle.adf_volume.proofs.Ordered.{dir_node, is_tree_from}
+use Rattle.adf_volume.specs.Fits.{Fits, FileFits}
+use Rattle.adf_volume.specs.Walk.{Role, IsAbsent, IsFreeIn, bitmap_demands, IsWalk, IsWhole}
+use Rattle.adf_volume.specs.Walk.Role.{Page, MapExt}
+use Rattle.adf_volume.specs.Made.{tree_in, layout_in}
 use Rattle.adf_volume.specs.Parts.{owner_of}
-use Rattle.adf_volume.proofs.Told.{head_type}
-use Rattle.adf_volume.proofs.Images.{slot_upper, four_blocks, content_length, map_exts_high, map_exts_low}
-use Rattle.adf_volume.proofs.Lists.{at_fun, at_below, at_some, at_unmap, spelled_from, no_length, at_index, index_past, in_left, in_right, in_cases, in_numbered, numbered_at}
-use Rattle.adf_volume.proofs.Walks.{root_is, root_in, number_of, numbered as numbers, one_head, one_block, one_role, ext_file, asked_block, asked_header, page_word}
-use Rattle.adf_volume.proofs.Parts.{Stands, owned_stands, owned_head, owned_ext, owned_data}
-use Rattle.adf_volume.proofs.Parts.Stands.{in_head, in_ext, in_data}
-use Rattle.adf_volume.proofs.Owners.{once_owned, blocks_once}
-use Rattle.adf_volume.proofs.Rising.{parent_below, in_order}
-use Rattle.adf_volume.proofs.Kept.{kept, there, IsNext, new_names, in_range, map_ext_low}
-use Rattle.adf_volume.proofs.Made.{entries_length, places_length, entry_has, place_has, has_entry, exts_length, ext_has, has_ext, data_has, has_data, page_has, has_page, map_ext_has, has_map_ext, slot_is, chain_has, has_chain}
+use Rattle.adf_volume.proofs.Images.{four_blocks}
+use Rattle.adf_volume.proofs.Kept.{kept, in_range}
+use Rattle.adf_volume.proofs.Made.{entries_length, places_length, page_has, has_page, has_map_ext}
 use Rattle.adf_volume.proofs.Sound.{chains_spelled, content_long, entry_fits, ext_names, file_at, file_fits, is_tree, map_ext_next, map_exts_length, pages_length, root_names}
 use Rattle.adf_volume.proofs.OwnedIn.{is_owned, owned_has, once}
 

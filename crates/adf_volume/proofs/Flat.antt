@@ -1,5 +1,5 @@
 -- The blocks of each file in the flat lists of a walk.
-use Rattle.std.proofs.Common.{◌≡◌, ℕ, zero, suc, List, [], ◌∷◌, ◌++◌, inl, inr, ◌+◌, ◌-◌, ◌<◌, ◌≤◌, length, refl, sym, ap, subst, ◌∙◌, arith, Bool, true, false, cond, take, drop, eq-eqb}
+use Rattle.std.proofs.Common.{◌≡◌, ℕ, zero, suc, List, [], ◌∷◌, ◌++◌, inl, inr, ◌+◌, ◌<◌, ◌≤◌, length, refl, sym, ap, subst, ◌∙◌, arith, Bool, true, false, cond, take, drop, eq-eqb}
 use Rattle.std.specs.Prelude.{◌==◌, nat_lt}
 use Rattle.std.proofs.lemmas.Bool.{eqb-true}
 use Rattle.std.proofs.lemmas.Bool.Decides.{nat_tests}
@@ -7,7 +7,7 @@ use Rattle.adf_volume.specs.Walk.{Role, Has, IsDue, IsWalk}
 use Rattle.adf_volume.specs.Walk.Role.{Root, Page, MapExt, Head, Ext, Data}
 use Rattle.adf_volume.specs.Walk.IsWalk.{start, step}
 use Rattle.adf_volume.specs.Made.{push_ext, push_data, exts_in, datas_in}
-use Rattle.adf_volume.specs.Store.{push_any_ext, push_any_data, all_exts, all_datas, ext_before_of, data_before_of, exts_before, datas_before}
+use Rattle.adf_volume.specs.Store.{all_exts, all_datas, ext_before_of, data_before_of, exts_before, datas_before}
 use Rattle.adf_volume.proofs.Lists.{snoc_length}
 use Rattle.adf_volume.proofs.Rising.{rises}
 use Rattle.adf_volume.proofs.Claims.{all_exts_before, all_datas_before}

@@ -1,24 +1,21 @@
 -- The steps of a reader at the headers of a chain.
-use Rattle.std.proofs.Common.{◌≡◌, ℕ, zero, suc, List, [], ◌∷◌, ◌++◌, inl, inr, ◌+◌, ◌<◌, ◌≤◌, ◌≢◌, length, refl, sym, ap, subst, ◌∙◌, arith, Bool, true, false, set, get_or, length-set, get_or-set_same, get_or-set_other}
-use native.Mathlib.Decide.{ℕ_discrete}
+use Rattle.std.proofs.Common.{◌≡◌, ℕ, zero, suc, List, [], ◌∷◌, ◌++◌, inl, inr, ◌+◌, ◌<◌, ◌≤◌, ◌≢◌, length, refl, sym, ap, subst, ◌∙◌, arith}
 use Rattle.adf_blocks.specs.declared.cause.Cause.{Cause}
 use Rattle.adf_blocks.specs.declared.cause.Cause.TheVariants.{OutOfRange, Taken, SameName}
-use Rattle.adf_volume.specs.Lists.{At}
 use Rattle.adf_volume.specs.Image.{word_in, root_of, kind_of, name_of}
 use Rattle.adf_blocks.specs.Sizes.{blocks}
 use Rattle.adf_tree.specs.Texts.{uppers}
 use Rattle.adf_volume.specs.Demands.{demand, AllHold, FirstFails, boot_demands, root_demands, head_demands}
-use Rattle.adf_volume.specs.Walk.{Role, Has, heads, NodeAt, DirAt, Asks, NewName, NoCause, demands, node_block, IsWalk, FirstFault}
+use Rattle.adf_volume.specs.Walk.{Role, heads, NodeAt, DirAt, Asks, NewName, NoCause, demands, node_block, IsWalk, FirstFault}
 use Rattle.adf_volume.specs.Walk.Role.{Head}
 use Rattle.adf_volume.specs.Walk.FirstFault.{at_due}
-use Rattle.adf_volume.specs.Reading.{Next, IsAtSlot, IsInChain, Sees, IsInNode}
-use Rattle.adf_volume.specs.Store.{Row, Store, owner_at, Owns, Rows, Tells, stored, entered, push_row}
-use Rattle.adf_volume.proofs.Lists.{fails_left, fails_right, all_append, at_below, at_new, at_old, snoc_length, at_fun}
-use Rattle.adf_volume.proofs.Walks.{node_is, number_of, numbered, one_block, one_node}
+use Rattle.adf_volume.specs.Reading.{Next, IsAtSlot, IsInChain, Sees}
+use Rattle.adf_volume.specs.Store.{Store, owner_at, Tells, stored}
+use Rattle.adf_volume.proofs.Lists.{fails_left, fails_right, all_append}
+use Rattle.adf_volume.proofs.Walks.{node_is, one_block, one_node}
 use Rattle.adf_volume.proofs.Kept.{dir_up}
 use Rattle.adf_volume.proofs.Cursors.{is_due, take_it, end_chain}
-use Rattle.adf_volume.specs.declared.owner.Owner.{Owner}
-use Rattle.adf_volume.specs.declared.owner.Owner.TheVariants.{Free, Head as AHead}
+use Rattle.adf_volume.specs.declared.owner.Owner.TheVariants.{Free}
 use Rattle.adf_volume.proofs.Claims.{free_absent, taken_present, tells_more}
 use Rattle.std.specs.Prelude.{◌↔◌}
 use Rattle.std.proofs.Common.{◌⊎◌}
@@ -146,7 +143,8 @@ module _ (image : List ℕ) (store : Store) (p up s a b : ℕ) (seen : List ℕ 
 pub chain_ends : (image : List ℕ) (store : Store) (p up s a : ℕ) (seen : List ℕ → Type 0) → IsInChain image store p up s a 0 seen → IsAtSlot image store p up (suc s)
 chain_ends image store p up s a seen st = record {
   walk = st.walk;
-  tells = st.tells; started = st.started;
+  tells = st.tells;
+  started = st.started;
   upto = end_chain image st.walk p s st.place st.upto (next_ends image st.walk st.upto.walk p s st.place a st.named);
   dir = st.dir;
 }
@@ -155,7 +153,8 @@ chain_ends image store p up s a seen st = record {
 pub chain_begins : (image : List ℕ) (store : Store) (p up s : ℕ) (seen : List ℕ → Type 0) → ((x : List ℕ) → seen x → ⊥) → IsAtSlot image store p up s → IsInChain image store p up s up (word_in image up (6 + s)) seen
 chain_begins image store p up s seen none st = record {
   walk = st.walk;
-  tells = st.tells; started = st.started;
+  tells = st.tells;
+  started = st.started;
   place = 0;
   upto = st.upto;
   dir = st.dir;

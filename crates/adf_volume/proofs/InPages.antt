@@ -1,38 +1,20 @@
 -- The steps of a reader at pages and bitmap extension blocks.
-use Rattle.std.proofs.Common.{◌≡◌, ℕ, zero, suc, List, [], ◌∷◌, ◌++◌, ◌⊎◌, inl, inr, ◌+◌, ◌-◌, ◌*◌, ◌/◌, ◌%◌, ◌<◌, ◌≤◌, ◌≢◌, length, refl, sym, ap, subst, ◌∙◌, arith, Bool, true, false, cond, set, get_or, length-set, get_or-set_same, get_or-set_other}
-use Rattle.std.specs.Prelude.{nat_lt, slice_index, IsTrue, ◌↔◌}
-use Rattle.std.proofs.lemmas.Bool.Decides.{nat_tests}
-use native.Mathlib.Decide.{dec_lt, ℕ_discrete}
-use Rattle.adf_blocks.specs.declared.cause.Cause.{Cause}
-use Rattle.adf_blocks.specs.declared.cause.Cause.TheVariants.{OutOfRange, Taken, SameName, ShortFile, LostBlock, OwnedFree, NoMemory}
-use Rattle.adf_volume.specs.Lists.{At}
-use Rattle.adf_volume.specs.Image.{word_in, root_of, kind_of, held, table_word, IsFreeAt, DIR}
+use Rattle.std.proofs.Common.{◌≡◌, ℕ, zero, suc, List, [], ◌∷◌, ◌++◌, inl, inr, ◌+◌, ◌-◌, ◌*◌, ◌/◌, ◌%◌, ◌<◌, ◌≤◌, refl, sym, ap, subst, ◌∙◌, arith, true, false}
+use Rattle.std.specs.Prelude.{nat_lt}
+use native.Mathlib.Decide.{dec_lt}
+use Rattle.adf_volume.specs.Image.{word_in, root_of}
 use Rattle.adf_blocks.specs.Sizes.{blocks, pages_needed}
-use Rattle.adf_volume.specs.Demands.{Demand, demand, AllHold, FirstFails, boot_demands, root_demands, page_demands, ext_demands, data_demands}
-use Rattle.adf_volume.specs.Walk.{Role, first, second, third, Has, head_count, heads, DirAt, FileAt, MemberAt, data_count, NamesPage, Asks, ext_count, Enough, IsAbsent, NewName, form_demands, demands, node_block, member_block, next_data, IsWalk, IsWhole, IsFreeIn, bitmap_demands, FirstFault}
-use Rattle.adf_volume.specs.Walk.Role.{Root, Page, MapExt, Head, Ext, Data}
-use Rattle.adf_volume.specs.Walk.FirstFault.{at_due, at_bitmap}
+use Rattle.adf_volume.specs.Demands.{AllHold, boot_demands, root_demands, page_demands}
+use Rattle.adf_volume.specs.Walk.{Role, Has, NamesPage, Asks, IsWalk}
+use Rattle.adf_volume.specs.Walk.Role.{Page, MapExt}
 use Rattle.adf_volume.specs.Cursor.{IsUpTo}
-use Rattle.adf_volume.specs.Reading.{IsNamed, IsBeforePage, IsAtPage, map_ext_block, block_of_page, IsListed, IsAtNode, IsAtSlot, NextExt, IsInExts, IsInDatas, IsRead, IsMapped, TellsFit, IsInNode}
-use Rattle.adf_volume.specs.Store.{Row, Store, owner_at, Owns, Rows, Tells, stored, entered, push_row}
-use Rattle.adf_tree.specs.Tree.{Tree}
-use Rattle.adf_volume.specs.Layout.{Layout}
-use Rattle.adf_volume.specs.Fits.{Fits}
-use Rattle.adf_volume.proofs.Told.{head_type}
-use Rattle.adf_volume.proofs.Images.{page_in}
-use Rattle.adf_volume.proofs.Lists.{fails_left, all_append, all_split, at_below, at_some, at_snoc, snoc_length, at_fun, at_index}
-use Rattle.adf_volume.proofs.Walks.{file_is, member_is, numbered, one_block, one_head, count_own, ext_counted, asked_block, root_in, page_word}
-use Rattle.adf_volume.proofs.Kept.{kept, file_up, member_up}
-use Rattle.adf_volume.specs.Made.{tree_in, layout_in}
-use Rattle.adf_volume.proofs.Sound.{all_map_exts}
-use Rattle.adf_volume.proofs.Fitting.{fits}
-use Rattle.adf_volume.proofs.Unique.{one_tree}
-use Rattle.adf_volume.proofs.Cursors.{begin, is_due, take_it, end_all_pages, enter_dir, end_dir, enter_file, end_exts, end_datas, end_all}
-use Rattle.adf_volume.specs.declared.owner.Owner.{Owner}
-use Rattle.adf_volume.specs.declared.owner.Owner.TheVariants.{Free, Boot, Root as TheRoot}
-use Rattle.adf_volume.specs.Parts.{owner_of}
-use Rattle.adf_volume.proofs.Claims.{free_absent, taken_present, tells_more}
-use Rattle.adf_volume.proofs.Steps.{less, plain_enough, plain_range, plain_taken, plain_form, plain_upto, plain_tells, cond_yes, cond_no, lt_test, ge_test, at_get}
+use Rattle.adf_volume.specs.Reading.{IsNamed, IsBeforePage, IsAtPage, map_ext_block, block_of_page, IsListed, IsAtNode}
+use Rattle.adf_volume.specs.Store.{Store, owner_at, stored}
+use Rattle.adf_volume.proofs.Lists.{at_snoc, snoc_length}
+use Rattle.adf_volume.proofs.Kept.{kept}
+use Rattle.adf_volume.proofs.Cursors.{end_all_pages}
+use Rattle.adf_volume.specs.declared.owner.Owner.TheVariants.{Free}
+use Rattle.adf_volume.proofs.Steps.{plain_upto, plain_tells, cond_yes, cond_no, lt_test, ge_test}
 
 -- pages and bitmap extension blocks
 module _ (image : List ℕ) (w : List (Role × ℕ)) (k a i : ℕ) where

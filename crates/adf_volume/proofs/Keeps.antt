@@ -1,28 +1,22 @@
 -- What is kept of a whole walk tells of the tree and the layout that fit.
-use Rattle.std.proofs.Common.{◌≡◌, ◌≢◌, ◌⊎◌, ℕ, zero, suc, List, inl, inr, ◌+◌, ◌<◌, ◌≤◌, length, refl, sym, ap, subst, ◌∙◌, arith, take, drop}
+use Rattle.std.proofs.Common.{◌≡◌, ◌≢◌, ◌⊎◌, ℕ, suc, List, inl, inr, length, refl, sym, ap, subst, ◌∙◌, take, drop}
 use Rattle.adf_tree.specs.declared.entry.Entry.{Entry}
-use Rattle.adf_tree.specs.Tree.{Tree}
-use Rattle.adf_blocks.specs.Sizes.{blocks}
 use Rattle.adf_volume.specs.declared.owner.Owner.{Owner}
 use Rattle.adf_volume.specs.declared.owner.Owner.TheVariants.{Free, Boot, Root as TheRoot, Page as APage, MapExt as AMapExt, Head as AHead, Ext as AnExt, Data as AData}
-use Rattle.adf_volume.specs.Lists.{At, In}
-use Rattle.adf_volume.specs.Layout.{Layout, EntryAt, at_node, exts_of, datas_of, owned}
-use Rattle.adf_volume.specs.Walk.{Role, Has, heads, IsWalk, IsWhole}
-use Rattle.adf_volume.specs.Walk.Role.{Head, Ext, Data}
-use Rattle.adf_volume.specs.Parts.{owner_of, Part}
-use Rattle.adf_volume.specs.Made.{tree_in, layout_in, exts_in, datas_in, entries_in, places_in}
-use Rattle.adf_volume.specs.Store.{Row, Start, Store, owner_at, all_exts, all_datas, exts_before, datas_before}
+use Rattle.adf_volume.specs.Layout.{exts_of, datas_of}
+use Rattle.adf_volume.specs.Walk.Role.{Ext, Data}
+use Rattle.adf_volume.specs.Parts.{owner_of}
+use Rattle.adf_volume.specs.Made.{tree_in, layout_in, exts_in, datas_in}
+use Rattle.adf_volume.specs.Store.{Row, Store, owner_at, all_exts, all_datas, exts_before, datas_before}
 use Rattle.adf_volume.specs.Reading.{TellsFit}
 use Rattle.adf_volume.specs.Keeps.{OwnersFit, RowsFit, StartsFit, Keeps}
-use Rattle.adf_volume.proofs.Lists.{at_fun, at_below, same_list}
-use Rattle.adf_volume.proofs.Walks.{number_of, numbered}
+use Rattle.adf_volume.proofs.Lists.{at_fun, same_list}
 use Rattle.adf_volume.proofs.Agree.{agreement}
 use Rattle.adf_volume.proofs.Whole.{part_walked}
 use Rattle.adf_volume.proofs.Made.{entries_length, has_ext, ext_has, has_data, data_has}
 use Rattle.adf_volume.proofs.Sound.{head_is, entry_is}
 use Rattle.adf_volume.proofs.OwnedIn.{owned_has, is_owned}
 use Rattle.adf_volume.proofs.InRows.{node_here}
-use Rattle.adf_volume.proofs.Claims.{owner_not_free}
 use Rattle.adf_volume.proofs.Flat.{exts_stored, datas_stored}
 
 is_free : (o : Owner) → (o ≡ Free) ⊎ (o ≢ Free)

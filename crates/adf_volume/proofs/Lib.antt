@@ -32,3 +32,4 @@ pub mod Keeps
 pub mod Blocks
 pub mod Given
 pub mod Planned
+pub mod Tiny

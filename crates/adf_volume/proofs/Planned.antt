@@ -1,20 +1,19 @@
 -- What a planned layout owns: the root, the reserved blocks and a run of given blocks.
-use Rattle.std.proofs.Common.{◌≡◌, ℕ, zero, suc, List, [], ◌∷◌, ◌++◌, ◌⊎◌, inl, inr, ◌+◌, ◌-◌, ◌*◌, ◌/◌, ◌<◌, ◌≤◌, ◌≢◌, length, refl, sym, ap, subst, ◌∙◌, arith, append_assoc}
-use Rattle.std.specs.Prelude.{◌↔◌}
-use Rattle.std.proofs.lemmas.Bool.{cases_lt}
+use Rattle.std.proofs.Common.{◌≡◌, ℕ, suc, List, [], ◌∷◌, ◌++◌, inl, inr, ◌+◌, ◌-◌, ◌<◌, ◌≤◌, length, refl, sym, ap, subst, ◌∙◌, arith, append_assoc}
 use Rattle.adf_volume.specs.Lists.{In, numbered, NoBlockTwice}
 use Rattle.adf_tree.specs.declared.entry.Kind.{Kind}
 use Rattle.adf_tree.specs.declared.entry.Entry.{Entry}
 use Rattle.adf_tree.specs.Tree.{Tree}
 use Rattle.adf_blocks.specs.Sizes.{blocks, middle, pages_needed}
 use Rattle.adf_volume.specs.Image.{map_exts_needed}
-use Rattle.adf_volume.specs.Layout.{Place, Layout, owned_from, owned}
+use Rattle.adf_volume.specs.Layout.{owned_from, owned}
 use Rattle.adf_volume.specs.declared.owner.Owner.{Owner}
-use Rattle.adf_volume.specs.declared.owner.Owner.TheVariants.{Root as TheRoot, Page as APage, MapExt as AMapExt, Head as AHead, Ext as AnExt, Data as AData}
-use Rattle.adf_volume.specs.Plan.{reserved, given, run, row, exts_needed, data_blocks, entry_blocks, entries_blocks, blocks_needed, places_from, planned}
-use Rattle.adf_volume.proofs.Blocks.{blocks_of, blocks_of-append, blocks_of-numbered, block_in, in_block, Distinct, distinct_blocks, distinct-append}
-use Rattle.adf_volume.proofs.Lists.{in_left, in_right, in_cases}
-use Rattle.adf_volume.proofs.Given.{stretch, Stretch, given_from, given_below, given_apart, reserved_below, in_run, run_in, run-append, distinct_run, in_row, row_in, distinct_row, row-append}
+use Rattle.adf_volume.specs.declared.owner.Owner.TheVariants.{Page as APage, MapExt as AMapExt, Ext as AnExt, Data as AData}
+use Rattle.adf_volume.specs.Plan.{reserved, given, run, row, exts_needed, data_blocks, entries_blocks, blocks_needed, places_from, planned}
+use Rattle.adf_volume.proofs.Blocks.{blocks_of, blocks_of-append, blocks_of-numbered, block_in, Distinct, distinct_blocks, distinct-append}
+use Rattle.adf_volume.proofs.Lists.{in_cases}
+use Rattle.std.proofs.Common.{length-append}
+use Rattle.adf_volume.proofs.Given.{length_row, length_run, given_from, given_below, given_apart, reserved_below, in_run, run-append, distinct_run, in_row, distinct_row, row-append}
 
 -- the blocks of entries are a run of given blocks
 blocks_of_places : (n : ℕ) (kind : Kind) (i k : ℕ) (es : List Entry) → blocks_of (owned_from i (places_from n kind k es)) ≡ run n k (entries_blocks kind es)
@@ -29,13 +28,13 @@ blocks_of_places n kind i k (e ∷ es) =
     let at : k + (1 + x + c) ≡ suc k + (x + c) = omega arith in
     let all : (1 + x + c) + r ≡ suc ((x + c) + r) = omega arith in
     let parts : blocks_of ((exts ++ datas) ++ rest) ≡ run n (suc k) ((x + c) + r) =
-        blocks_of-append (exts ++ datas) rest
-        ∙ ap (λ l. l ++ blocks_of rest) (blocks_of-append exts datas
-          ∙ ap (λ l. l ++ blocks_of datas) (blocks_of-numbered (AnExt i) 1 (run n (suc k) x))
-          ∙ ap (λ l. run n (suc k) x ++ l) (blocks_of-numbered (AData i) 1 (run n (suc k + x) c))
-          ∙ sym (run-append n (suc k) x c))
-        ∙ ap (λ l. run n (suc k) (x + c) ++ l) (blocks_of_places n kind (suc i) (k + (1 + x + c)) es ∙ ap (λ j. run n j r) at)
-        ∙ sym (run-append n (suc k) (x + c) r) in
+    blocks_of-append (exts ++ datas) rest
+    ∙ ap (λ l. l ++ blocks_of rest) (blocks_of-append exts datas
+    ∙ ap (λ l. l ++ blocks_of datas) (blocks_of-numbered (AnExt i) 1 (run n (suc k) x))
+    ∙ ap (λ l. run n (suc k) x ++ l) (blocks_of-numbered (AData i) 1 (run n (suc k + x) c))
+    ∙ sym (run-append n (suc k) x c))
+    ∙ ap (λ l. run n (suc k) (x + c) ++ l) (blocks_of_places n kind (suc i) (k + (1 + x + c)) es ∙ ap (λ j. run n j r) at)
+    ∙ sym (run-append n (suc k) (x + c) r) in
     ap (λ l. given n k ∷ l) parts ∙ ap (run n k) (sym all)
 
 pub owned_blocks : (image : List ℕ) (t : Tree) (n : ℕ) → blocks image ≡ n → blocks_of (owned image (planned t n)) ≡ middle n ∷ (row (middle n + 1) (reserved n) ++ run n 0 (entries_blocks t.kind t.entries))
@@ -49,12 +48,12 @@ owned_blocks image t n e =
     let total : ℕ = entries_blocks t.kind t.entries in
     ap (λ b. b ∷ blocks_of (pages ++ (map_exts ++ rest))) (ap middle e)
     ∙ ap (λ l. middle n ∷ l) (blocks_of-append pages (map_exts ++ rest)
-      ∙ ap (λ l. l ++ blocks_of (map_exts ++ rest)) (blocks_of-numbered APage 0 (row (middle n + 1) p))
-      ∙ ap (λ l. row (middle n + 1) p ++ l) (blocks_of-append map_exts rest
-        ∙ ap (λ l. l ++ blocks_of rest) (blocks_of-numbered AMapExt 0 (row (middle n + 1 + p) x))
-        ∙ ap (λ l. row (middle n + 1 + p) x ++ l) (blocks_of_places n t.kind 1 0 t.entries))
-      ∙ sym (append_assoc (row (middle n + 1) p) (row (middle n + 1 + p) x) (run n 0 total))
-      ∙ ap (λ l. l ++ run n 0 total) (row-append (middle n + 1) p x))
+    ∙ ap (λ l. l ++ blocks_of (map_exts ++ rest)) (blocks_of-numbered APage 0 (row (middle n + 1) p))
+    ∙ ap (λ l. row (middle n + 1) p ++ l) (blocks_of-append map_exts rest
+    ∙ ap (λ l. l ++ blocks_of rest) (blocks_of-numbered AMapExt 0 (row (middle n + 1 + p) x))
+    ∙ ap (λ l. row (middle n + 1 + p) x ++ l) (blocks_of_places n t.kind 1 0 t.entries))
+    ∙ sym (append_assoc (row (middle n + 1) p) (row (middle n + 1 + p) x) (run n 0 total))
+    ∙ ap (λ l. l ++ run n 0 total) (row-append (middle n + 1) p x))
 
 -- no block twice
 pub planned_once : (image : List ℕ) (t : Tree) (n : ℕ) → blocks image ≡ n → NoBlockTwice (owned image (planned t n))
@@ -67,7 +66,7 @@ planned_once image t n size =
         | inr i ↦ let r = in_run n 0 total (middle n) i in let e : given n r.0 ≡ middle n = r.3 in given_apart n r.0 (omega arith) (omega arith)
       ]),
       distinct-append (row (middle n + 1) (reserved n)) (run n 0 total) (distinct_row (middle n + 1) (reserved n)) (distinct_run n 0 total)
-        (λ b i j. let r = in_row (middle n + 1) (reserved n) b i in let s = in_run n 0 total b j in let e : given n s.0 ≡ b = s.3 in given_apart n s.0 (omega arith) (omega arith)),
+          (λ b i j. let r = in_row (middle n + 1) (reserved n) b i in let s = in_run n 0 total b j in let e : given n s.0 ≡ b = s.3 in given_apart n s.0 (omega arith) (omega arith)),
     ))
 
 -- each block lies in the volume
@@ -81,11 +80,25 @@ planned_range image t n o b size h fits i =
       | inr k ↦ elim (in_cases (row (middle n + 1) (reserved n)) (run n 0 total) b k) [
         | inl r ↦ let s = in_row (middle n + 1) (reserved n) b r in (omega arith, omega arith)
         | inr r ↦
-          let s = in_run n 0 total b r in
-          let e : given n s.0 ≡ b = s.3 in
-          let u : s.0 < 0 + total = s.2 in
-          let f = given_from n s.0 in
-          let g = given_below n s.0 h (omega arith) in
-          (omega arith, omega arith)
+            let s = in_run n 0 total b r in
+            let e : given n s.0 ≡ b = s.3 in
+            let u : s.0 < 0 + total = s.2 in
+            let f = given_from n s.0 in
+            let g = given_below n s.0 h (omega arith) in
+            (omega arith, omega arith)
       ]
     ]
+
+-- as many blocks as are needed
+pub planned_count : (image : List ℕ) (t : Tree) (n : ℕ) → blocks image ≡ n → length (owned image (planned t n)) ≡ blocks_needed t n
+planned_count image t n size =
+    length_blocks (owned image (planned t n))
+    ∙ (ap length (owned_blocks image t n size)
+    ∙ (let a : length (row (middle n + 1) (reserved n)) ≡ reserved n = length_row (middle n + 1) (reserved n) in
+    let b : length (run n 0 (entries_blocks t.kind t.entries)) ≡ entries_blocks t.kind t.entries = length_run n 0 (entries_blocks t.kind t.entries) in
+    let c : length (row (middle n + 1) (reserved n) ++ run n 0 (entries_blocks t.kind t.entries)) ≡ length (row (middle n + 1) (reserved n)) + length (run n 0 (entries_blocks t.kind t.entries)) = length-append (row (middle n + 1) (reserved n)) (run n 0 (entries_blocks t.kind t.entries)) in
+    omega arith))
+  where
+    length_blocks : (xs : List (Owner × ℕ)) → length xs ≡ length (blocks_of xs)
+    length_blocks [] = refl
+    length_blocks (x ∷ xs) = ap suc (length_blocks xs)

@@ -1,5 +1,11 @@
 -- Chains of a tree.
 use Rattle.std.proofs.Common.{◌≡◌, ℕ, zero, suc, List, [], ◌∷◌, ◌++◌, ◌⊎◌, inl, inr, ◌+◌, ◌<◌, ◌≤◌, length, refl, sym, ap, subst, ◌∙◌, arith, Bool, true, false, cond}
+use Rattle.std.specs.Prelude.{if◌then◌else◌, Some, None, ◌↔◌, ◌-◌}
+use Rattle.std.specs.List.{slice_get}
+use Rattle.std.proofs.Common.{map, append_assoc}
+use Rattle.adf_tree.specs.Tree.{entry}
+use Rattle.adf_tree.specs.Chain.{chain, in_chain}
+use Rattle.adf_volume.proofs.Lists.{snoc_length}
 use Rattle.std.specs.Prelude.{◌==◌, ◌&&◌}
 use Rattle.std.proofs.lemmas.Bool.Decides.{nat_tests}
 use Rattle.adf_volume.specs.Lists.{At}
@@ -142,3 +148,57 @@ test_yes a b c d h k = test_of a b c d h k
 
 pub test_tells : (a b c d : ℕ) → ((a == b) && (c == d)) ≡ true → (a ≡ b) × (c ≡ d)
 test_tells a b c d h = test_true a b c d h
+
+entry_suc : (es : List Entry) (i : ℕ) → entry es (suc i) ≡ slice_get es i
+entry_suc es i =
+    let t : (suc i == 0) ≡ false = grind (arith, nat_tests) in
+    let z : suc i - 1 ≡ i = omega arith in
+    ap (λ b. if b then None else slice_get es (suc i - 1)) t ∙ ap (slice_get es) z
+
+-- the nodes of a chain are the entries of the chain
+nodes_chain : (pre es : List Entry) (p s : ℕ) → map (λ n. entry (pre ++ es) n) (nodes_from (suc (length pre)) es p s) ≡ map Some (chain es p s)
+nodes_chain pre [] p s = refl
+nodes_chain pre (e ∷ es) p s =
+    let here : entry (pre ++ e ∷ es) (suc (length pre)) ≡ Some e = get_here pre in
+    let ih : map (λ n. entry ((pre ++ e ∷ []) ++ es) n) (nodes_from (suc (length (pre ++ e ∷ []))) es p s) ≡ map Some (chain es p s) = nodes_chain (pre ++ e ∷ []) es p s in
+    let rest : map (λ n. entry (pre ++ e ∷ es) n) (nodes_from (suc (suc (length pre))) es p s) ≡ map Some (chain es p s) =
+    ap (λ k. map (λ n. entry (pre ++ e ∷ es) n) (nodes_from (suc k) es p s)) (sym (snoc_length pre e))
+    ∙ ap (λ xs. map (λ n. entry xs n) (nodes_from (suc (length (pre ++ e ∷ []))) es p s)) (sym (append_assoc pre (e ∷ []) es))
+    ∙ ih in
+    put (in_chain p s e) here rest
+  where
+    get_here : (pre : List Entry) → entry (pre ++ e ∷ es) (suc (length pre)) ≡ Some e
+    get_here pre = entry_suc (pre ++ e ∷ es) (length pre) ∙ at pre
+      where
+        at : (pre : List Entry) → slice_get (pre ++ e ∷ es) (length pre) ≡ Some e
+        at [] = refl
+        at (x ∷ pre) = at pre
+
+    put : (t : Bool) → entry (pre ++ e ∷ es) (suc (length pre)) ≡ Some e → map (λ n. entry (pre ++ e ∷ es) n) (nodes_from (suc (suc (length pre))) es p s) ≡ map Some (chain es p s) →
+        map (λ n. entry (pre ++ e ∷ es) n) (cond t (suc (length pre) ∷ nodes_from (suc (suc (length pre))) es p s) (nodes_from (suc (suc (length pre))) es p s)) ≡ map Some (cond t (e ∷ chain es p s) (chain es p s))
+    put true h r = λ i. h i ∷ r i
+    put false h r = r
+
+pub chain_entries : (t : Tree) (p s : ℕ) → map (λ n. entry t.entries n) (chain_nodes t p s) ≡ map Some (chain t.entries p s)
+chain_entries t p s = nodes_chain [] t.entries p s
+
+pub entry_is_at : (t : Tree) (n : ℕ) (e : Entry) → EntryAt t n e ↔ (entry t.entries n ≡ Some e)
+entry_is_at t n e = (to n, from n)
+  where
+    get : (es : List Entry) (i : ℕ) → At es i e → slice_get es i ≡ Some e
+    get [] i h = absurd h
+    get (x ∷ es) zero h = ap Some h
+    get (x ∷ es) (suc i) h = get es i h
+
+    got : (es : List Entry) (i : ℕ) → slice_get es i ≡ Some e → At es i e
+    got [] i h = cc
+    got (x ∷ es) zero h = cc
+    got (x ∷ es) (suc i) h = got es i h
+
+    to : (n : ℕ) → EntryAt t n e → entry t.entries n ≡ Some e
+    to zero h = absurd h
+    to (suc i) h = entry_suc t.entries i ∙ get t.entries i h
+
+    from : (n : ℕ) → entry t.entries n ≡ Some e → EntryAt t n e
+    from zero h = cc
+    from (suc i) h = got t.entries i (sym (entry_suc t.entries i) ∙ h)

@@ -11,3 +11,4 @@ pub mod Store
 pub mod Reading
 pub mod Keeps
 pub mod Plan
+pub mod Samples

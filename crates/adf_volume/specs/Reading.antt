@@ -1,16 +1,15 @@
 -- The states of a reader that goes along the order of roles. Each says which walk the reader has done, and where in the order it is.
-use Rattle.std.specs.Prelude.{◌≡◌, ◌≢◌, ℕ, List, ◌+◌, ◌-◌, ◌*◌, ◌/◌, ◌%◌, ◌<◌, ◌≤◌, cond, nat_lt, length, slice_index_or}
+use Rattle.std.specs.Prelude.{◌≡◌, ◌≢◌, ℕ, List, ◌+◌, ◌-◌, ◌*◌, ◌/◌, ◌%◌, ◌<◌, ◌≤◌, cond, nat_lt, length}
 use Rattle.std.proofs.Common.{zero, suc}
 use Rattle.adf_tree.specs.Texts.{uppers}
 use Rattle.adf_tree.specs.Tree.{Tree}
 use Rattle.adf_blocks.specs.declared.cause.Cause.{Cause}
 use Rattle.adf_blocks.specs.declared.cause.Cause.TheVariants.{NoMemory}
-use Rattle.adf_blocks.specs.Sizes.{blocks}
 use Rattle.adf_volume.specs.Store.{Store, Tells}
 use Rattle.adf_volume.specs.Lists.{At}
 use Rattle.adf_volume.specs.Image.{word_in, root_of, name_of}
 use Rattle.adf_volume.specs.Demands.{AllHold}
-use Rattle.adf_volume.specs.Walk.{Role, first, second, third, Has, heads, DirAt, FileAt, MemberAt, NamesPage, Asks, ext_count, IsWalk, IsWhole, bitmap_demands, FirstFault}
+use Rattle.adf_volume.specs.Walk.{Role, first, second, third, Has, DirAt, FileAt, MemberAt, NamesPage, Asks, ext_count, IsWalk, IsWhole, bitmap_demands, FirstFault}
 use Rattle.adf_volume.specs.Walk.Role.{MapExt, Head, Ext}
 use Rattle.adf_volume.specs.Cursor.{IsUpTo}
 use Rattle.adf_volume.specs.Layout.{Layout}

@@ -3,8 +3,11 @@
 
 mod laws;
 mod owner;
+mod samples;
 
 pub use crate::laws::{
-    agreement, completeness, none_fits, one_fault, one_tree, told_form, what_is_told_fits,
+    agreement, chains_of_numbers, completeness, none_fits, one_fault, one_tree, pieces_are_content,
+    planned_blocks, told_form, what_is_kept_tells, what_is_told_fits,
 };
 pub use crate::owner::Owner;
+pub use crate::samples::{freed_page_fits_nothing, tiny_volume_fits};

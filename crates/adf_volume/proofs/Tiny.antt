@@ -1,0 +1,153 @@
+-- Fits holds of a small image, and is refuted of another.
+use Rattle.std.proofs.Common.{◌≡◌, ℕ, zero, suc, inl, inr, ◌+◌, ◌-◌, ◌/◌, ◌%◌, ◌<◌, ◌≤◌, length, refl, sym, ap, subst, ◌∙◌, arith, Bool, true, false}
+use Rattle.std.specs.Prelude.{◌==◌, ◌&&◌}
+use Rattle.std.proofs.lemmas.Bool.{eqb-true}
+use native.Mathlib.Decide.{ℕ_discrete}
+use Rattle.adf_fields.specs.Words.{block, word, words}
+use Rattle.adf_tree.specs.declared.entry.Entry.{Entry}
+use Rattle.adf_tree.specs.Tree.{Tree, IsDir}
+use Rattle.adf_blocks.specs.Sizes.{blocks}
+use Rattle.adf_volume.specs.declared.owner.Owner.{Owner}
+use Rattle.adf_volume.specs.Lists.{At, In, NoBlockTwice}
+use Rattle.adf_volume.specs.Image.{word_in, root_of, kind_of, label_of, stamps_of, map_exts_needed, IsFreeAt}
+use Rattle.adf_volume.specs.Demands.{AllHold, boot_demands, root_demands, page_demands}
+use Rattle.adf_volume.specs.Layout.{Layout, EntryAt, at_node, owned}
+use Rattle.adf_volume.specs.Fits.{Fits, IsFree}
+use Rattle.adf_volume.specs.Samples.{tiny, tiny_root, tiny_tree, tiny_layout, tiny_freed}
+use Rattle.adf_volume.proofs.Lists.{at_some, in_left, in_numbered}
+use Rattle.adf_volume.specs.declared.owner.Owner.TheVariants.{Page}
+
+all_zero : (ℕ → ℕ) → ℕ → Bool
+all_zero f zero = true
+all_zero f (suc n) = (f n == 0) && all_zero f n
+
+both : (a b : Bool) → (a && b) ≡ true → (a ≡ true) × (b ≡ true)
+both true b h = (refl, h)
+both false b h = absurd (let z : false ≡ true = h in cc)
+
+zero_at : (f : ℕ → ℕ) (n k : ℕ) → all_zero f n ≡ true → k < n → f k ≡ 0
+unfolding all_zero
+zero_at f zero k h l = absurd (omega arith)
+zero_at f (suc n) k h l =
+    let x = both (f n == 0) (all_zero f n) h in
+    elim (ℕ_discrete k n) [ yes e ↦ ap f e ∙ eqb-true (f n) 0 x.0 | no e ↦ zero_at f n k x.1 (omega arith) ]
+
+slots_zero : (s : ℕ) → s < 72 → word_in tiny 2 (6 + s) ≡ 0
+unfolding tiny tiny_root block word all_zero
+slots_zero s l = zero_at (λ s. word_in tiny 2 (6 + s)) 72 s refl l
+
+page_at : (k b : ℕ) → At tiny_layout.pages k b → (k ≡ 0) × (3 ≡ b)
+page_at zero b h = (refl, h)
+page_at (suc k) b h = absurd h
+
+tiny_boots : AllHold (boot_demands tiny)
+unfolding tiny tiny_root block
+tiny_boots = ((refl, refl), (refl, (refl, (refl, tt))))
+
+tiny_is_root : AllHold (root_demands tiny 2)
+unfolding tiny tiny_root block word words
+tiny_is_root = (refl, (refl, (refl, (refl, (refl, tt)))))
+
+tiny_is_page : AllHold (page_demands tiny 3)
+unfolding tiny tiny_root block word words
+tiny_is_page = (refl, tt)
+
+tiny_size : blocks tiny ≡ 4
+unfolding tiny tiny_root
+tiny_size = refl
+
+no_dir : (p : ℕ) → IsDir tiny_tree.entries p → p ≡ 0
+no_dir zero h = refl
+no_dir (suc p) h = let x = h (omega arith) in let y : suc p ≤ 0 = x.0 in absurd (omega arith)
+
+no_entry : (n : ℕ) (e : Entry) → EntryAt tiny_tree n e → ⊥
+no_entry zero e h = h
+no_entry (suc n) e h = h
+
+tiny_chains : (p s : ℕ) → p ≡ 0 → s < 72 → word_in tiny (at_node tiny tiny_layout p) (6 + s) ≡ 0
+unfolding tiny tiny_root
+tiny_chains zero s e l = slots_zero s l
+tiny_chains (suc p) s e l = absurd (omega arith)
+
+tiny_range : (o : Owner) (b : ℕ) → In (owned tiny tiny_layout) (o, b) → (2 ≤ b) × (b < 4)
+unfolding tiny tiny_root
+tiny_range o b (inl e) = let z : 2 ≡ b = ap (λ (p : Owner × ℕ). p.1) e in (omega arith, omega arith)
+tiny_range o b (inr (inl e)) = let z : 3 ≡ b = ap (λ (p : Owner × ℕ). p.1) e in (omega arith, omega arith)
+tiny_range o b (inr (inr h)) = absurd h
+
+-- each bit of the page is clear
+tiny_bits : (b : ℕ) → IsFreeAt tiny 3 ((b - 2) % 4064) → 2 ≤ b → b < 4 → ⊥
+unfolding tiny tiny_root block word
+tiny_bits zero h l u = omega arith
+tiny_bits (suc zero) h l u = omega arith
+tiny_bits (suc (suc zero)) h l u = h refl
+tiny_bits (suc (suc (suc zero))) h l u = h refl
+tiny_bits (suc (suc (suc (suc b)))) h l u = omega arith
+
+tiny_bitmap : (b : ℕ) → 2 ≤ b → b < 4 → IsFree tiny tiny_layout.pages b → ⊥
+tiny_bitmap b l u f = let x = page_at ((b - 2) / 4064) f.0 f.1 in tiny_bits b (subst (λ p. IsFreeAt tiny p ((b - 2) % 4064)) (sym x.1) f.2) l u
+
+tiny_owned : (b : ℕ) → 2 ≤ b → b < 4 → ((o : Owner) → In (owned tiny tiny_layout) (o, b) → ⊥) → ⊥
+unfolding tiny tiny_root
+tiny_owned zero l u f = omega arith
+tiny_owned (suc zero) l u f = omega arith
+tiny_owned (suc (suc zero)) l u f = f _ (inl refl)
+tiny_owned (suc (suc (suc zero))) l u f = f _ (inr (inl refl))
+tiny_owned (suc (suc (suc (suc b)))) l u f = omega arith
+
+tiny_once : NoBlockTwice (owned tiny tiny_layout)
+unfolding tiny tiny_root
+tiny_once = (
+  (λ y h e. elim h [
+    | inl g ↦ let z : 3 ≡ y.1 = ap (λ (p : Owner × ℕ). p.1) g in let x : 2 ≡ y.1 = e in omega arith
+    | inr g ↦ g
+  ]),
+  ((λ y h e. h), tt),
+)
+
+pub tiny_fits : Fits tiny tiny_tree tiny_layout
+unfolding tiny tiny_root block word kind_of label_of stamps_of map_exts_needed
+tiny_fits = record {
+  boots = tiny_boots;
+  kind = refl;
+  root = tiny_is_root;
+  label = refl;
+  stamps = refl;
+  tree = record {
+    parents = (λ i d h. absurd (omega arith));
+    dirs = (λ i d h. absurd (omega arith));
+    order = (λ i j d l h. absurd (omega arith));
+    names = (λ i j d l h. absurd (omega arith));
+  };
+  places = refl;
+  pages = refl;
+  map_exts = refl;
+  map_first = (λ b h. absurd h);
+  map_next = (λ j a b h. absurd h);
+  page_named = (λ k b l h. let x = page_at k b h in ap (λ k. word_in tiny (root_of tiny) (79 + k)) x.0 ∙ x.1);
+  page_listed = (λ j i a b l h. absurd h);
+  page_form = (λ k b h. let x = page_at k b h in subst (λ b. AllHold (page_demands tiny b)) x.1 tiny_is_page);
+  entries = (λ n e h. absurd (no_entry n e h));
+  chains = (λ p s d l. tiny_chains p s (no_dir p d) l);
+  files = (λ n e bytes h. absurd (no_entry n e h));
+  once = tiny_once;
+  range = tiny_range;
+  bitmap = (λ b l u. ((λ f. absurd (tiny_bitmap b l u f)), (λ f. absurd (tiny_owned b l u f))));
+}
+
+freed_bit : IsFreeAt tiny_freed 3 1
+unfolding tiny_freed tiny_root block word
+freed_bit = λ (e : 2 ≡ 0). omega arith
+
+freed_page : word_in tiny_freed 2 79 ≡ 3
+unfolding tiny_freed tiny_root block word
+freed_page = refl
+
+pub freed_fits_none : (t : Tree) (l : Layout) → Fits tiny_freed t l → ⊥
+unfolding tiny_freed tiny_root
+freed_fits_none t l fit =
+    let n : length l.pages ≡ 1 = fit.pages in
+    let p = at_some l.pages 0 (omega arith) in
+    let e : 3 ≡ p.0 = sym freed_page ∙ fit.page_named 0 p.0 (omega arith) p.1 in
+    let at : At l.pages 0 3 = subst (At l.pages 0) (sym e) p.1 in
+    (fit.bitmap 3 (omega arith) (omega arith)).0 (3, at, freed_bit) (Page 0) (inr (in_left _ _ (Page 0, 3) (in_numbered Page 0 l.pages 0 3 at)))

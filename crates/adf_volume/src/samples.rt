@@ -1,0 +1,16 @@
+// The definitions tried on small images. Each function does nothing; its contract is the test.
+
+ghost use Rattle.adf_tree.specs.Tree.{Tree};
+ghost use Rattle.adf_volume.specs.Layout.{Layout};
+ghost use Rattle.adf_volume.specs.Fits.{Fits};
+ghost use Rattle.adf_volume.specs.Samples.{tiny, tiny_freed, tiny_layout, tiny_tree};
+
+/// The empty tree fits an empty volume of 4 blocks.
+pub fn tiny_volume_fits()
+    ensures { Fits tiny tiny_tree tiny_layout }
+{}
+
+/// Nothing fits it where its page tells its own block as free.
+pub fn freed_page_fits_nothing()
+    ensures { (t : Tree) (l : Layout) → Fits tiny_freed t l → ⊥ }
+{}
