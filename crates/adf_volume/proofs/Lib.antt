@@ -33,3 +33,7 @@ pub mod Blocks
 pub mod Given
 pub mod Planned
 pub mod Tiny
+pub mod Lays
+pub mod Bits
+pub mod Links
+pub mod Written

@@ -12,3 +12,6 @@ pub mod Reading
 pub mod Keeps
 pub mod Plan
 pub mod Samples
+pub mod Lay
+pub mod Bits
+pub mod Laid
