@@ -37,3 +37,4 @@ pub mod Lays
 pub mod Bits
 pub mod Links
 pub mod Written
+pub mod Shapes

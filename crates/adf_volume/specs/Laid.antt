@@ -13,11 +13,11 @@ use Rattle.adf_tree.specs.declared.entry.Entry.{Entry}
 use Rattle.adf_tree.specs.Tree.{Tree, IsTree}
 use Rattle.adf_blocks.specs.Sizes.{blocks, middle, is_allowed, pages_needed}
 use Rattle.adf_blocks.specs.Fields.{laid}
-use Rattle.adf_blocks.specs.RootBlock.{root_block, FitsStamps}
+use Rattle.adf_blocks.specs.RootBlock.{RootFields, root_block, FitsStamps}
 use Rattle.adf_blocks.specs.PageBlock.{page_block}
-use Rattle.adf_blocks.specs.HeadBlock.{BodyFields, FitsMeta, head_block}
+use Rattle.adf_blocks.specs.HeadBlock.{BodyFields, FitsMeta, HeadFields, head_block}
 use Rattle.adf_blocks.specs.HeadBlock.BodyFields.{DirFields, FileFields}
-use Rattle.adf_blocks.specs.ExtBlock.{ext_block}
+use Rattle.adf_blocks.specs.ExtBlock.{ExtFields, ext_block}
 use Rattle.adf_blocks.specs.DataBlock.{data_block}
 use Rattle.adf_volume.specs.Image.{chunk, count}
 use Rattle.adf_volume.specs.Layout.{nodes_from}
@@ -46,11 +46,15 @@ data_parts n kind head k number bytes (suc m) =
     (given n k, data_bytes kind head number (given_or_none n (suc k) m) (take (chunk kind) bytes))
     ∷ data_parts n kind head (suc k) (suc number) (drop (chunk kind) bytes) m
 
+-- the fields of an extension block at the k-th given block, followed by m others, that names up to 72 of c data blocks from the d-th given one on
+abbrev pub ext_laid : ℕ → ℕ → ℕ → ℕ → ℕ → ℕ → ExtFields
+ext_laid n head k d c m = record { own = given n k; head = head; table = run n d (min 72 c); next = given_or_none n (suc k) m }
+
 -- m extension blocks, the first at the k-th given block, that name c data blocks from the d-th given one on
 abbrev pub ext_parts : ℕ → ℕ → ℕ → ℕ → ℕ → ℕ → List (ℕ × List ℕ)
 ext_parts n head k d c zero = []
 ext_parts n head k d c (suc m) =
-    (given n k, ext_block (record { own = given n k; head = head; table = run n d (min 72 c); next = given_or_none n (suc k) m }))
+    (given n k, ext_block (ext_laid n head k d c m))
     ∷ ext_parts n head (suc k) (d + 72) (c - 72) m
 
 -- the slots of node p: the block of the first member of each chain, or 0
@@ -72,22 +76,22 @@ body_parts n kind k (File bytes) =
     ext_parts n (given n k) (suc k) (suc k + exts_needed c + 72) (c - 72) (exts_needed c)
     ++ data_parts n kind (given n k) (suc k + exts_needed c) 1 bytes c
 
--- the header of entry i at the k-th given block; es are the entries after it, `all` are all entries
-abbrev pub head_bytes : ℕ → Kind → List ℕ → List Entry → ℕ → ℕ → Entry → List Entry → List ℕ
-head_bytes n kind nodes all i k e es = head_block (record {
+-- the fields of the header of entry i at the k-th given block; es are the entries after it, `all` are all entries
+abbrev pub head_of : ℕ → Kind → List ℕ → List Entry → ℕ → ℕ → Entry → List Entry → HeadFields
+head_of n kind nodes all i k e es = record {
   own = given n k;
   parent = slice_index nodes e.parent;
   next = first_block (slice_index nodes) (nodes_from (suc i) es e.parent (slot_of e.name));
   name = e.name;
   meta = e.meta;
   body = body_of n k kind (slots_of nodes all i) e.body;
-})
+}
 
 -- the blocks of entries, from entry i on
 abbrev pub entries_parts : ℕ → Kind → List ℕ → List Entry → ℕ → ℕ → List Entry → List (ℕ × List ℕ)
 entries_parts n kind nodes all i k [] = []
 entries_parts n kind nodes all i k (e ∷ es) =
-    (given n k, head_bytes n kind nodes all i k e es)
+    (given n k, head_block (head_of n kind nodes all i k e es))
     ∷ (body_parts n kind k e.body ++ entries_parts n kind nodes all (suc i) (k + entry_blocks kind e) es)
 
 -- the blocks of the headers of entries, the first at the k-th given block
@@ -109,21 +113,21 @@ abbrev pub boot_bytes : Kind → List ℕ
 boot_bytes Ofs = 0x44 ∷ 0x4F ∷ 0x53 ∷ 0 ∷ []
 boot_bytes Ffs = 0x44 ∷ 0x4F ∷ 0x53 ∷ 1 ∷ []
 
--- the root names its first headers and its pages
-abbrev pub root_bytes : Tree → ℕ → List ℕ
-root_bytes t n = root_block (record {
+-- the fields of the root: it names its first headers and its pages
+abbrev pub root_laid : Tree → ℕ → RootFields
+root_laid t n = record {
   slots = slots_of (node_blocks t n) t.entries 0;
   pages = row (middle n + 1) (pages_needed n);
   label = t.label;
   stamps = t.stamps;
-})
+}
 
 -- every block that is written, with its bytes
 abbrev pub parts : Tree → ℕ → List (ℕ × List ℕ)
 parts t n =
     entries_parts n t.kind (node_blocks t n) t.entries 1 0 t.entries
     ++ (page_parts n (entries_blocks t.kind t.entries) 0 (pages_needed n)
-    ++ (middle n, root_bytes t n) ∷ (0, laid ((0, boot_bytes t.kind) ∷ [])) ∷ [])
+    ++ (middle n, root_block (root_laid t n)) ∷ (0, laid ((0, boot_bytes t.kind) ∷ [])) ∷ [])
 
 -- the volume of n blocks that the builder lays for a tree
 unfoldable pub volume : Tree → ℕ → List ℕ
