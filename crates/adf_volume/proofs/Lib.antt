@@ -38,3 +38,4 @@ pub mod Bits
 pub mod Links
 pub mod Written
 pub mod Shapes
+pub mod Holding

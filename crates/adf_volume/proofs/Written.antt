@@ -36,7 +36,7 @@ holds_right image [] qs h = h
 holds_right image (p ∷ ps) qs h = holds_right image ps qs h.1
 
 -- which blocks are written
-numbers_of-append : (ps qs : List (ℕ × List ℕ)) → numbers_of (ps ++ qs) ≡ numbers_of ps ++ numbers_of qs
+pub numbers_of-append : (ps qs : List (ℕ × List ℕ)) → numbers_of (ps ++ qs) ≡ numbers_of ps ++ numbers_of qs
 numbers_of-append [] qs = refl
 numbers_of-append (p ∷ ps) qs = ap (λ l. p.0 ∷ l) (numbers_of-append ps qs)
 
