@@ -39,3 +39,5 @@ pub mod Links
 pub mod Written
 pub mod Shapes
 pub mod Holding
+pub mod Spots
+pub mod LaidFiles

@@ -27,12 +27,12 @@ use Rattle.adf_volume.specs.Layout.{nodes_from}
 use Rattle.adf_volume.specs.Laid.{first_block}
 use Rattle.adf_volume.proofs.Given.{length_run}
 
-chunk_small : (kind : Kind) → chunk kind ≤ 512
+pub chunk_small : (kind : Kind) → chunk kind ≤ 512
 unfolding chunk
 chunk_small Ofs = omega arith
 chunk_small Ffs = omega arith
 
-chunk_ofs : chunk Ofs ≡ 488
+pub chunk_ofs : chunk Ofs ≡ 488
 unfolding chunk
 chunk_ofs = refl
 
@@ -61,7 +61,7 @@ module _ (n total : ℕ) (small : n < 2 ^ 32) (few : total < 2 ^ 32) (below : (k
       let c = chunk_ofs in
       record { head = omega arith; number = s; next = next_small (suc k) m (omega arith); bytes = omega arith }
 
-  data_long : (kind : Kind) (head k number m : ℕ) (bytes : List ℕ) → head < n → k + suc m ≤ total → number < 2 ^ 32 → length (data_bytes kind head number (given_or_none n (suc k) m) (take (chunk kind) bytes)) ≡ 512
+  pub data_long : (kind : Kind) (head k number m : ℕ) (bytes : List ℕ) → head < n → k + suc m ≤ total → number < 2 ^ 32 → length (data_bytes kind head number (given_or_none n (suc k) m) (take (chunk kind) bytes)) ≡ 512
   data_long Ofs head k number m bytes h l s = length_data_block (record { head = head; number = number; next = given_or_none n (suc k) m; bytes = take (chunk Ofs) bytes }) (fits_data head k number m bytes h l s)
   data_long Ffs head k number m bytes h l s =
       let t : length (take (chunk Ffs) bytes) ≡ min (chunk Ffs) (length bytes) = length-take (chunk Ffs) bytes in
