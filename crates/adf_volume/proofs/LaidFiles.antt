@@ -140,3 +140,56 @@ module _ (v : List ℕ) (n total : ℕ) (small : n < 2 ^ 32) (few : total < 2 ^ 
             take-append-le (length bytes) first rest (omega arith)
             ∙ (ap (λ l. take l first) (sym n-held) ∙ (part ∙ all))
       ]
+
+  drop_drop : (a b : ℕ) (xs : List ℕ) → drop a (drop b xs) ≡ drop (b + a) xs
+  drop_drop a zero xs = let z : a ≡ 0 + a = omega arith in ap (λ m. drop m xs) z
+  drop_drop a (suc b) [] = empty a (suc b + a)
+    where
+      empty : (a b : ℕ) → drop a [] ≡ drop {A = ℕ} b []
+      empty zero zero = refl
+      empty zero (suc b) = refl
+      empty (suc a) zero = refl
+      empty (suc a) (suc b) = refl
+
+  drop_drop a (suc b) (x ∷ xs) = let z : suc (b + a) ≡ suc b + a = omega arith in drop_drop a b xs ∙ ap (λ m. drop m (x ∷ xs)) z
+
+  next_is : (k m : ℕ) → given_or_none n k m ≡ slice_index (run n k m) 0
+  next_is k zero = refl
+  next_is k (suc m) = some_given n k m
+
+  -- the data blocks of an OFS file have their form
+  pub datas_formed : (k number : ℕ) (bytes : List ℕ) (m : ℕ) → k + m ≤ total → number + m ≤ 2 ^ 32 → Holds v (data_parts n Ofs head k number bytes m) → (j b : ℕ) → At (run n k m) j b
+      → AllHold (data_demands v Ofs b head (number + j) (length (take (chunk Ofs) (drop (chunk Ofs * j) bytes))) (slice_index (run n k m) (suc j)))
+  datas_formed k number bytes zero l s h j b a = absurd a
+  datas_formed k number bytes (suc m) l s h zero b a =
+      let f = fits_data n total small few below head k number m bytes lies l (omega arith) in
+      let z : number ≡ number + 0 = omega arith in
+      let y : chunk Ofs * 0 ≡ 0 = omega arith in
+      let d : bytes ≡ drop (chunk Ofs * 0) bytes = ap (λ q. drop q bytes) (sym y) in
+      let w : first_cause (data_form head number (length (take (chunk Ofs) bytes)) (given_or_none n (suc k) m) (block v (given n k))) ≡ None =
+          subst (λ bs. first_cause (data_form head number (length (take (chunk Ofs) bytes)) (given_or_none n (suc k) m) bs) ≡ None) (sym h.0)
+          (data_block-form (record { head = head; number = number; next = given_or_none n (suc k) m; bytes = take (chunk Ofs) bytes }) f) in
+      subst (λ b. AllHold (data_demands v Ofs b head (number + 0) (length (take (chunk Ofs) (drop (chunk Ofs * 0) bytes))) (slice_index (run n (suc k) m) 0))) a
+      (subst (λ u. AllHold (data_demands v Ofs (given n k) head (number + 0) (length (take (chunk Ofs) (drop (chunk Ofs * 0) bytes))) u)) (next_is (suc k) m)
+      (subst (λ u. AllHold (data_demands v Ofs (given n k) head (number + 0) (length (take (chunk Ofs) u)) (given_or_none n (suc k) m))) d
+      (subst (λ u. AllHold (data_demands v Ofs (given n k) head u (length (take (chunk Ofs) bytes)) (given_or_none n (suc k) m))) z
+      (all_told (given n k) (data_form head number (length (take (chunk Ofs) bytes)) (given_or_none n (suc k) m) (block v (given n k))) w))))
+  datas_formed k number bytes (suc m) l s h (suc j) b a =
+      let z : suc number + j ≡ number + suc j = omega arith in
+      let y : chunk Ofs + chunk Ofs * j ≡ chunk Ofs * suc j = omega arith in
+      let d : drop (chunk Ofs * j) (drop (chunk Ofs) bytes) ≡ drop (chunk Ofs * suc j) bytes = drop_drop (chunk Ofs * j) (chunk Ofs) bytes ∙ ap (λ q. drop q bytes) y in
+      subst (λ u. AllHold (data_demands v Ofs b head (number + suc j) (length (take (chunk Ofs) u)) (slice_index (run n (suc k) m) (suc j)))) d
+      (subst (λ u. AllHold (data_demands v Ofs b head u (length (take (chunk Ofs) (drop (chunk Ofs * j) (drop (chunk Ofs) bytes)))) (slice_index (run n (suc k) m) (suc j)))) z
+      (datas_formed (suc k) (suc number) (drop (chunk Ofs) bytes) m (omega arith) (omega arith) h.1 j b a))
+
+-- what data block j holds of the bytes
+pub held_long : (bytes : List ℕ) (j : ℕ) → j < count Ofs (length bytes) → length (take (chunk Ofs) (drop (chunk Ofs * j) bytes)) ≡ held Ofs (length bytes) (suc j)
+unfolding chunk count held
+held_long bytes j h =
+    let a : length (take 488 (drop (488 * j) bytes)) ≡ min 488 (length (drop (488 * j) bytes)) = length-take 488 (drop (488 * j) bytes) in
+    let b : length (drop (488 * j) bytes) ≡ length bytes - 488 * j = length-drop (488 * j) bytes in
+    a ∙ go (nat_lt (488 * suc j) (length bytes)) refl
+  where
+    go : (t : Bool) → nat_lt (488 * suc j) (length bytes) ≡ t → min 488 (length (drop (488 * j) bytes)) ≡ cond t 488 (length bytes - 488 * (suc j - 1))
+    go true z = let b : length (drop (488 * j) bytes) ≡ length bytes - 488 * j = length-drop (488 * j) bytes in let l : 488 * suc j < length bytes = grind (arith, nat_tests) in omega arith
+    go false z = let b : length (drop (488 * j) bytes) ≡ length bytes - 488 * j = length-drop (488 * j) bytes in let l : length bytes ≤ 488 * suc j = grind (arith, nat_tests) in omega arith

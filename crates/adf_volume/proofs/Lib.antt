@@ -41,3 +41,4 @@ pub mod Shapes
 pub mod Holding
 pub mod Spots
 pub mod LaidFiles
+pub mod LaidEntries
