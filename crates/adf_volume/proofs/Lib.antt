@@ -42,3 +42,4 @@ pub mod Holding
 pub mod Spots
 pub mod LaidFiles
 pub mod LaidEntries
+pub mod LaidFits
