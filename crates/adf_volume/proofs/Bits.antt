@@ -1,6 +1,5 @@
 -- The bits of the pages tell which blocks are free.
-use Rattle.std.proofs.Common.{◌≡◌, ◌≢◌, ℕ, zero, suc, List, [], ◌∷◌, ◌++◌, ◌⊎◌, inl, inr, ◌+◌, ◌-◌, ◌*◌, ◌/◌, ◌%◌, ◌^◌, ◌<◌, ◌≤◌, length, refl, sym, ap, subst, ◌∙◌, arith, Bool, true, false, cond}
-use Rattle.std.specs.Prelude.{nat_lt, nat_le, ◌&&◌, ◌||◌, not}
+use Rattle.std.proofs.Common.{◌≡◌, ℕ, zero, suc, List, [], ◌∷◌, ◌++◌, inl, inr, ◌+◌, ◌-◌, ◌*◌, ◌/◌, ◌%◌, ◌^◌, ◌<◌, ◌≤◌, length, refl, sym, ap, subst, ◌∙◌, arith, Bool, true, false, cond}
 use Rattle.std.proofs.lemmas.Bool.{cases_lt}
 use Rattle.std.proofs.lemmas.Bool.Decides.{nat_tests}
 use Rattle.std.proofs.Math.Nat.{pow-succ', div-div-eq-div-mul}
@@ -18,7 +17,7 @@ use Rattle.adf_volume.specs.Lay.{lay}
 use Rattle.adf_volume.specs.Laid.{page_parts}
 use Rattle.adf_volume.specs.Bits.{is_used, bits_from, is_free_bit, page_words}
 use Rattle.adf_volume.proofs.Lists.{in_left, in_right, in_cases}
-use Rattle.adf_volume.proofs.Given.{stretch, Stretch, given_from, given_apart, in_run, run_in, in_row, row_in}
+use Rattle.adf_volume.proofs.Given.{stretch, in_run, run_in, in_row, row_in}
 use Rattle.adf_volume.proofs.Given.Stretch.{low, high}
 
 used_middle : (n total b : ℕ) → middle n ≤ b → b ≤ middle n + reserved n → is_used n total b ≡ true

@@ -1,5 +1,5 @@
 -- A laid volume holds each of its parts.
-use Rattle.std.proofs.Common.{◌≡◌, ◌≢◌, ℕ, zero, suc, List, [], ◌∷◌, ◌++◌, ◌⊎◌, inl, inr, ◌+◌, ◌-◌, ◌*◌, ◌/◌, ◌^◌, ◌<◌, ◌≤◌, length, refl, sym, ap, subst, ◌∙◌, arith, true}
+use Rattle.std.proofs.Common.{◌≡◌, ℕ, zero, suc, List, [], ◌∷◌, ◌++◌, inl, inr, ◌+◌, ◌-◌, ◌*◌, ◌^◌, ◌<◌, ◌≤◌, length, refl, sym, ap, subst, ◌∙◌, arith, true}
 use Rattle.std.specs.Prelude.{slice_index, replicate}
 use Rattle.std.proofs.lemmas.List.{length-replicate}
 use Rattle.std.proofs.lemmas.Bool.Decides.{nat_tests}
@@ -13,17 +13,15 @@ use Rattle.adf_tree.specs.Tree.{Tree}
 use Rattle.adf_blocks.specs.Sizes.{blocks, middle, pages_needed, is_allowed}
 use Rattle.adf_blocks.specs.Fields.{laid}
 use Rattle.adf_blocks.specs.RootBlock.{FitsRoot, root_block}
-use Rattle.adf_blocks.specs.PageBlock.{page_block}
 use Rattle.adf_blocks.proofs.LaidLaws.{length-laid}
 use Rattle.adf_blocks.proofs.RootLaws.{length_root_block}
 use Rattle.adf_blocks.proofs.PageLaws.{length_page_block}
-use Rattle.adf_volume.specs.Lists.{At, In}
-use Rattle.adf_volume.specs.Image.{map_exts_needed}
+use Rattle.adf_volume.specs.Lists.{At}
 use Rattle.adf_volume.specs.Layout.{nodes_from}
 use Rattle.adf_volume.specs.Plan.{reserved, entry_blocks, entries_blocks, blocks_needed, given, run, row}
 use Rattle.adf_volume.specs.Bits.{bits_from, is_free_bit, page_words}
-use Rattle.adf_volume.specs.Lay.{lay, AreBlocks, NoneTwice, Holds, numbers_of}
-use Rattle.adf_volume.specs.Laid.{first_block, entries_parts, heads_from, node_blocks, page_parts, boot_bytes, root_laid, parts, volume, slots_of, IsSound}
+use Rattle.adf_volume.specs.Lay.{AreBlocks, NoneTwice, Holds, numbers_of}
+use Rattle.adf_volume.specs.Laid.{first_block, entries_parts, heads_from, node_blocks, page_parts, boot_bytes, root_laid, parts, volume, IsSound}
 use Rattle.adf_volume.proofs.Lists.{in_cases, at_below, at_index_or}
 use Rattle.adf_volume.proofs.Blocks.{Distinct, distinct-append}
 use Rattle.adf_volume.proofs.Given.{given_from, given_below, given_apart, reserved_below, in_run, in_row, distinct_run, distinct_row, length_row}
@@ -95,7 +93,7 @@ module _ (t : Tree) (n : ℕ) (sound : IsSound t) (allowed : is_allowed n ≡ tr
         label = sound.label;
       }
 
-  parts_are : AreBlocks n (parts t n)
+  pub parts_are : AreBlocks n (parts t n)
   parts_are =
       let four = size_low n allowed in
       let high = size_high n allowed in
@@ -103,11 +101,11 @@ module _ (t : Tree) (n : ℕ) (sound : IsSound t) (allowed : is_allowed n ≡ tr
       let r = reserved_below n four in
       let b = boot_short t.kind in
       are-append n (entries_parts n t.kind (node_blocks t n) t.entries 1 0 t.entries)
-          (page_parts n (entries_blocks t.kind t.entries) 0 (pages_needed n) ++ (middle n, root_block (root_laid t n)) ∷ (0, laid ((0, boot_bytes t.kind) ∷ [])) ∷ [])
-          (are_entries n (entries_blocks t.kind t.entries) (omega arith) (omega arith) below t.kind (node_blocks t n) t.entries 1 0 t.entries near (omega arith) entry_sound)
-          (are-append n (page_parts n (entries_blocks t.kind t.entries) 0 (pages_needed n)) ((middle n, root_block (root_laid t n)) ∷ (0, laid ((0, boot_bytes t.kind) ∷ [])) ∷ [])
-          (are_pages n (entries_blocks t.kind t.entries) 0 (pages_needed n) (omega arith))
-          (omega arith, length_root_block (root_laid t n) fits_root, (omega arith, length-laid 512 ((0, boot_bytes t.kind) ∷ []) (omega arith) (omega arith, tt), tt)))
+      (page_parts n (entries_blocks t.kind t.entries) 0 (pages_needed n) ++ (middle n, root_block (root_laid t n)) ∷ (0, laid ((0, boot_bytes t.kind) ∷ [])) ∷ [])
+      (are_entries n (entries_blocks t.kind t.entries) (omega arith) (omega arith) below t.kind (node_blocks t n) t.entries 1 0 t.entries near (omega arith) entry_sound)
+      (are-append n (page_parts n (entries_blocks t.kind t.entries) 0 (pages_needed n)) ((middle n, root_block (root_laid t n)) ∷ (0, laid ((0, boot_bytes t.kind) ∷ [])) ∷ [])
+      (are_pages n (entries_blocks t.kind t.entries) 0 (pages_needed n) (omega arith))
+      (omega arith, length_root_block (root_laid t n) fits_root, (omega arith, length-laid 512 ((0, boot_bytes t.kind) ∷ []) (omega arith) (omega arith, tt), tt)))
 
   parts_numbers : numbers_of (parts t n) ≡ run n 0 (entries_blocks t.kind t.entries) ++ (row (middle n + 1) (pages_needed n) ++ middle n ∷ 0 ∷ [])
   parts_numbers =
@@ -118,7 +116,7 @@ module _ (t : Tree) (n : ℕ) (sound : IsSound t) (allowed : is_allowed n ≡ tr
       ∙ ap (λ l. l ++ numbers_of (pages ++ rest)) (entries_numbers n t.kind (node_blocks t n) t.entries 1 0 t.entries)
       ∙ ap (λ l. run n 0 (entries_blocks t.kind t.entries) ++ l) (numbers_of-append pages rest ∙ ap (λ l. l ++ middle n ∷ 0 ∷ []) (page_numbers n (entries_blocks t.kind t.entries) 0 (pages_needed n) ∙ ap (λ b. row b (pages_needed n)) z))
 
-  parts_once : NoneTwice (parts t n)
+  pub parts_once : NoneTwice (parts t n)
   parts_once =
       let four = size_low n allowed in
       let p = pages_reserved n in
@@ -137,7 +135,7 @@ module _ (t : Tree) (n : ℕ) (sound : IsSound t) (allowed : is_allowed n ≡ tr
         | inr k ↦ elim k [ inl g ↦ given_apart n s.0 (omega arith) (omega arith) | inr g ↦ elim g [ inl h ↦ omega arith | inr h ↦ h ] ]
       ])))
 
-  zeros_long : length {A = ℕ} (replicate (n * 512) 0) ≡ n * 512
+  pub zeros_long : length {A = ℕ} (replicate (n * 512) 0) ≡ n * 512
   zeros_long = length-replicate (n * 512) 0
 
   pub volume_long : length (volume t n) ≡ n * 512

@@ -1,5 +1,5 @@
 -- The entries of a tree fit the volume that was laid.
-use Rattle.std.proofs.Common.{◌≡◌, ◌≢◌, ℕ, zero, suc, List, [], ◌∷◌, ◌++◌, inl, inr, ◌+◌, ◌-◌, ◌*◌, ◌/◌, ◌%◌, ◌^◌, ◌<◌, ◌≤◌, length, take, drop, min, refl, sym, ap, subst, ◌∙◌, arith, true}
+use Rattle.std.proofs.Common.{◌≡◌, ℕ, zero, suc, List, ◌+◌, ◌-◌, ◌*◌, ◌/◌, ◌%◌, ◌^◌, ◌<◌, ◌≤◌, length, take, drop, min, refl, sym, ap, subst, ◌∙◌, arith, true}
 use Rattle.std.specs.Prelude.{slice_index, None}
 use Rattle.adf_fields.specs.Hash.{slot_of}
 use Rattle.adf_fields.specs.Words.{block, word}
@@ -9,24 +9,24 @@ use Rattle.adf_tree.specs.declared.entry.Body.{Body}
 use Rattle.adf_tree.specs.declared.entry.Body.TheVariants.{Dir, File}
 use Rattle.adf_tree.specs.declared.entry.Entry.{Entry}
 use Rattle.adf_tree.specs.Tree.{Tree}
-use Rattle.adf_blocks.specs.Sizes.{blocks, middle, is_allowed}
+use Rattle.adf_blocks.specs.Sizes.{is_allowed}
 use Rattle.adf_blocks.specs.Forms.{first_cause, text_at}
-use Rattle.adf_blocks.specs.HeadBlock.{HeadFields, FitsMeta, meta_at, secondary_of, size_of, ext_of, BodyFields, FitsHead, head_block, head_form}
-use Rattle.adf_blocks.specs.HeadBlock.BodyFields.{DirFields, FileFields}
+use Rattle.adf_blocks.specs.HeadBlock.{HeadFields, FitsMeta, meta_at, secondary_of, size_of, ext_of, head_form}
+use Rattle.adf_blocks.specs.HeadBlock.BodyFields.{FileFields}
 use Rattle.adf_blocks.proofs.HeadLaws.{head_block-form, head_block-name, head_block-meta, head_block-secondary, head_block-size, head_block-ext, head_block-pointer}
 use Rattle.adf_volume.specs.Lists.{At, Spelled}
-use Rattle.adf_volume.specs.Image.{word_in, chunk, count, held, content, joined, table_word, name_of, meta_of, DIR, FILE}
-use Rattle.adf_volume.specs.Demands.{AllHold, head_demands, ext_demands, data_demands}
-use Rattle.adf_volume.specs.Layout.{Place, EntryAt, at_node, exts_of, datas_of}
+use Rattle.adf_volume.specs.Image.{word_in, chunk, count, held, content, joined, table_word, name_of, meta_of}
+use Rattle.adf_volume.specs.Demands.{AllHold, head_demands, data_demands}
+use Rattle.adf_volume.specs.Layout.{at_node, exts_of, datas_of}
 use Rattle.adf_volume.specs.Fits.{EntryFits, FileFits, BodyFits, TableAt}
-use Rattle.adf_volume.specs.Plan.{exts_needed, data_blocks, entry_blocks, entries_blocks, blocks_needed, given, run, places_from, planned}
+use Rattle.adf_volume.specs.Plan.{exts_needed, data_blocks, entries_blocks, blocks_needed, given, run, places_from, planned}
 use Rattle.adf_volume.specs.Lay.{Holds}
 use Rattle.adf_volume.specs.Laid.{given_or_none, slots_of, body_of, body_parts, data_parts, ext_parts, head_of, node_blocks, volume, IsSound}
 use Rattle.adf_volume.proofs.Told.{all_told}
 use Rattle.adf_volume.proofs.Lists.{at_below, at_index_or}
 use Rattle.adf_volume.proofs.Given.{length_run}
 use Rattle.adf_volume.proofs.Shapes.{next_small}
-use Rattle.adf_volume.proofs.Holding.{size_low, size_high, below, near}
+use Rattle.adf_volume.proofs.Holding.{size_low, size_high, below}
 use Rattle.adf_volume.proofs.Written.{holds_left, holds_right}
 use Rattle.adf_volume.proofs.Spots.{Spot, spot, nodes_at, head_fits}
 use Rattle.adf_volume.proofs.LaidFiles.{run_at, run_index, exts_linked, exts_formed, exts_point, bytes_held, datas_formed, held_long}
@@ -195,7 +195,7 @@ module _ (t : Tree) (n : ℕ) (sound : IsSound t) (allowed : is_allowed n ≡ tr
         let c : ℕ = count t.kind (length bytes) in
         let fb = file_blocks in
         let first : word_in (volume t n) (given n here.k) 126 ≡ given_or_none n (suc here.k) x =
-            ap (λ bs. word bs 126) here.head ∙ (head_block-ext fields (head_fits t n sound allowed room i e h) (subst (λ b. ext_of b < 2 ^ 32) (sym body_is) (next_small n (entries_blocks t.kind t.entries) small few (below t n sound allowed room) (suc here.k) x (omega arith))) ∙ ap ext_of body_is) in
+        ap (λ bs. word bs 126) here.head ∙ (head_block-ext fields (head_fits t n sound allowed room i e h) (subst (λ b. ext_of b < 2 ^ 32) (sym body_is) (next_small n (entries_blocks t.kind t.entries) small few (below t n sound allowed room) (suc here.k) x (omega arith))) ∙ ap ext_of body_is) in
         record {
           exts = subst (λ xs. Spelled (λ b. word_in (volume t n) b 126) (word_in (volume t n) (given n here.k) 126) xs) (sym exts_are)
               (subst (λ w. Spelled (λ b. word_in (volume t n) b 126) w (run n (suc here.k) x)) (sym first)

@@ -1,28 +1,26 @@
 -- The extension blocks, the data blocks and the content of a file that was laid.
-use Rattle.std.proofs.Common.{◌≡◌, ◌≢◌, ℕ, zero, suc, List, [], ◌∷◌, ◌++◌, ◌⊎◌, inl, inr, ◌+◌, ◌-◌, ◌*◌, ◌/◌, ◌%◌, ◌^◌, ◌<◌, ◌≤◌, length, take, drop, min, refl, sym, ap, subst, ◌∙◌, arith, Bool, true, false, cond, take_all, length-take, length-drop, length-take-le}
-use Rattle.std.specs.Prelude.{nat_lt, slice_index, slice_range, None, replicate}
+use Rattle.std.proofs.Common.{◌≡◌, ℕ, zero, suc, List, [], ◌∷◌, ◌++◌, inl, inr, ◌+◌, ◌-◌, ◌*◌, ◌^◌, ◌<◌, ◌≤◌, length, take, drop, min, refl, sym, ap, subst, ◌∙◌, arith, Bool, true, false, cond, take_all, length-take, length-drop, length-take-le}
+use Rattle.std.specs.Prelude.{nat_lt, slice_index, None, replicate}
 use Rattle.std.proofs.lemmas.Bool.{cases_lt}
 use Rattle.std.proofs.lemmas.Bool.Decides.{nat_tests}
-use Rattle.std.proofs.lemmas.List.{take-append-le, take-append-drop, length-replicate}
+use Rattle.std.proofs.lemmas.List.{take-append-le, take-append-drop}
 use Rattle.std.proofs.Math.Seq.{take-append-add}
 use Rattle.adf_fields.specs.Words.{block, word}
 use Rattle.adf_fields.proofs.WordLaws.{range-with_bytes_same}
 use Rattle.adf_tree.specs.declared.entry.Kind.{Kind}
 use Rattle.adf_tree.specs.declared.entry.Kind.TheVariants.{Ofs, Ffs}
 use Rattle.adf_blocks.specs.Forms.{first_cause}
-use Rattle.adf_blocks.specs.ExtBlock.{ext_form, ext_block}
-use Rattle.adf_blocks.specs.DataBlock.{data_form, data_block}
+use Rattle.adf_blocks.specs.ExtBlock.{ext_form}
+use Rattle.adf_blocks.specs.DataBlock.{data_form}
 use Rattle.adf_blocks.proofs.ExtLaws.{ext_block-form, ext_block-next, ext_block-pointer}
 use Rattle.adf_blocks.proofs.DataLaws.{data_block-form, data_block-bytes}
 use Rattle.adf_volume.specs.Lists.{At, Spelled}
-use Rattle.adf_volume.specs.Image.{word_in, chunk, count, held, area, joined, table_word}
-use Rattle.adf_volume.specs.Demands.{AllHold, ext_demands, data_demands, told}
-use Rattle.adf_volume.specs.Plan.{exts_needed, given, run}
+use Rattle.adf_volume.specs.Image.{word_in, chunk, count, held, area, joined}
+use Rattle.adf_volume.specs.Demands.{AllHold, ext_demands, data_demands}
+use Rattle.adf_volume.specs.Plan.{given, run}
 use Rattle.adf_volume.specs.Lay.{Holds}
 use Rattle.adf_volume.specs.Laid.{given_or_none, data_bytes, data_parts, ext_laid, ext_parts}
 use Rattle.adf_volume.proofs.Told.{all_told}
-use Rattle.adf_volume.proofs.Lists.{at_below}
-use Rattle.adf_volume.proofs.Given.{length_run}
 use Rattle.adf_volume.proofs.Shapes.{next_small, fits_ext, fits_data, data_long, chunk_small, chunk_ofs}
 
 some_given : (n k m : ℕ) → given_or_none n k (suc m) ≡ given n k
@@ -150,7 +148,6 @@ module _ (v : List ℕ) (n total : ℕ) (small : n < 2 ^ 32) (few : total < 2 ^ 
       empty zero (suc b) = refl
       empty (suc a) zero = refl
       empty (suc a) (suc b) = refl
-
   drop_drop a (suc b) (x ∷ xs) = let z : suc (b + a) ≡ suc b + a = omega arith in drop_drop a b xs ∙ ap (λ m. drop m (x ∷ xs)) z
 
   next_is : (k m : ℕ) → given_or_none n k m ≡ slice_index (run n k m) 0
@@ -167,8 +164,8 @@ module _ (v : List ℕ) (n total : ℕ) (small : n < 2 ^ 32) (few : total < 2 ^ 
       let y : chunk Ofs * 0 ≡ 0 = omega arith in
       let d : bytes ≡ drop (chunk Ofs * 0) bytes = ap (λ q. drop q bytes) (sym y) in
       let w : first_cause (data_form head number (length (take (chunk Ofs) bytes)) (given_or_none n (suc k) m) (block v (given n k))) ≡ None =
-          subst (λ bs. first_cause (data_form head number (length (take (chunk Ofs) bytes)) (given_or_none n (suc k) m) bs) ≡ None) (sym h.0)
-          (data_block-form (record { head = head; number = number; next = given_or_none n (suc k) m; bytes = take (chunk Ofs) bytes }) f) in
+      subst (λ bs. first_cause (data_form head number (length (take (chunk Ofs) bytes)) (given_or_none n (suc k) m) bs) ≡ None) (sym h.0)
+      (data_block-form (record { head = head; number = number; next = given_or_none n (suc k) m; bytes = take (chunk Ofs) bytes }) f) in
       subst (λ b. AllHold (data_demands v Ofs b head (number + 0) (length (take (chunk Ofs) (drop (chunk Ofs * 0) bytes))) (slice_index (run n (suc k) m) 0))) a
       (subst (λ u. AllHold (data_demands v Ofs (given n k) head (number + 0) (length (take (chunk Ofs) (drop (chunk Ofs * 0) bytes))) u)) (next_is (suc k) m)
       (subst (λ u. AllHold (data_demands v Ofs (given n k) head (number + 0) (length (take (chunk Ofs) u)) (given_or_none n (suc k) m))) d

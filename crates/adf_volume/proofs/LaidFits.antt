@@ -1,7 +1,6 @@
 -- What is laid fits.
-use Rattle.std.proofs.Common.{◌≡◌, ◌≢◌, ℕ, zero, suc, List, [], ◌∷◌, ◌++◌, ◌⊎◌, inl, inr, ◌+◌, ◌-◌, ◌*◌, ◌/◌, ◌%◌, ◌^◌, ◌<◌, ◌≤◌, length, map, refl, sym, ap, subst, ◌∙◌, arith, Bool, true, false, cond}
+use Rattle.std.proofs.Common.{◌≡◌, ℕ, zero, suc, List, [], ◌∷◌, ◌++◌, ◌+◌, ◌-◌, ◌*◌, ◌/◌, ◌%◌, ◌^◌, ◌<◌, ◌≤◌, length, map, refl, sym, ap, subst, ◌∙◌, arith, Bool, true, false, cond}
 use Rattle.std.specs.Prelude.{slice_index, None, ◌↔◌, ◌==◌, ◌&&◌, not, nat_lt, IsBitSet}
-use Rattle.std.specs.List.{range_with_len}
 use Rattle.std.proofs.lemmas.Bool.Decides.{nat_tests}
 use lib.Bits.{bit_and}
 use Rattle.std.proofs.lemmas.Nat.{bit_set_by_shift, and_mask}
@@ -15,17 +14,17 @@ use Rattle.adf_tree.specs.Tree.{Tree, IsDir}
 use Rattle.adf_blocks.specs.Sizes.{blocks, middle, pages_needed, is_allowed}
 use Rattle.adf_blocks.specs.Forms.{first_cause, text_at}
 use Rattle.adf_blocks.specs.Fields.{laid}
-use Rattle.adf_blocks.specs.RootBlock.{root_form, root_block, stamps_at}
+use Rattle.adf_blocks.specs.RootBlock.{root_form, stamps_at}
 use Rattle.adf_blocks.specs.PageBlock.{page_form, page_block, IsFreeBit}
 use Rattle.adf_blocks.proofs.RootLaws.{root_block-form, root_block-text, root_block-stamps, root_block-page}
 use Rattle.adf_blocks.proofs.PageLaws.{page_block-form, page_block-bit}
 use Rattle.adf_volume.specs.declared.owner.Owner.{Owner}
 use Rattle.adf_volume.specs.Lists.{At, In, Spelled}
-use Rattle.adf_volume.specs.Image.{word_in, root_of, kind_of, label_of, stamps_of, map_exts_needed, IsFreeAt}
-use Rattle.adf_volume.specs.Demands.{AllHold, boot_form, boot_demands, root_demands, page_demands, told}
-use Rattle.adf_volume.specs.Layout.{Place, EntryAt, at_node, chain_nodes, owned}
+use Rattle.adf_volume.specs.Image.{word_in, root_of, kind_of, label_of, stamps_of, map_exts_needed}
+use Rattle.adf_volume.specs.Demands.{AllHold, boot_form, boot_demands, root_demands, page_demands}
+use Rattle.adf_volume.specs.Layout.{EntryAt, at_node, chain_nodes, owned}
 use Rattle.adf_volume.specs.Fits.{Fits, EntryFits, FileFits, IsFree}
-use Rattle.adf_volume.specs.Plan.{reserved, entry_blocks, entries_blocks, blocks_needed, given, run, row, places_from, planned}
+use Rattle.adf_volume.specs.Plan.{reserved, entry_blocks, entries_blocks, blocks_needed, run, row, places_from, planned}
 use Rattle.adf_volume.specs.Bits.{is_used, is_free_bit, bits_from, page_words}
 use Rattle.adf_volume.specs.Lay.{Holds}
 use Rattle.adf_volume.specs.Laid.{boot_bytes, page_parts, root_laid, volume, IsLaid, IsSound}
@@ -37,7 +36,7 @@ use Rattle.adf_volume.proofs.Blocks.{block_in, in_block, blocks_of}
 use Rattle.adf_volume.proofs.Given.{length_row}
 use Rattle.adf_volume.proofs.Planned.{owned_blocks, planned_once, planned_range}
 use Rattle.adf_volume.proofs.Bits.{bit_of, bits_small, owned_used, used_owned}
-use Rattle.adf_volume.proofs.Holding.{size_low, size_high, pages_few, fits_root, volume_long, volume_blocks, holds_pages, holds_root, holds_boot}
+use Rattle.adf_volume.proofs.Holding.{size_low, size_high, fits_root, volume_long, volume_blocks, holds_pages, holds_root, holds_boot}
 use Rattle.adf_volume.proofs.Spots.{spot, chain_laid, root_slot, dir_slot}
 use Rattle.adf_volume.proofs.LaidEntries.{entry_laid, file_laid}
 
@@ -202,7 +201,7 @@ module _ (t : Tree) (n : ℕ) (sound : IsSound t) (allowed : is_allowed n ≡ tr
       let four = size_low n allowed in
       let lt : q < pages_needed n = page_in n b lo hi in
       let y : is_used n (entries_blocks t.kind t.entries) b ≡ false = not_true (is_used n (entries_blocks t.kind t.entries) b)
-          (λ u. let x = in_block (owned (volume t n) (planned t n)) b ((owned_is b).1 (used_owned n (entries_blocks t.kind t.entries) b four lo u)) in f x.0 x.1) in
+      (λ u. let x = in_block (owned (volume t n) (planned t n)) b ((owned_is b).1 (used_owned n (entries_blocks t.kind t.entries) b four lo u)) in f x.0 x.1) in
       let x = unused_free n (entries_blocks t.kind t.entries) (4064 * q + r) b (omega arith) hi y in
       let g : IsFreeBit (page_block (page_words n (entries_blocks t.kind t.entries) q)) r = (bit_tells n (entries_blocks t.kind t.entries) q r (omega arith)).1 x in
       (middle n + 1 + q, at_row (middle n + 1) (pages_needed n) q lt, subst (λ bs. IsFreeBit bs r) (sym (page_at q lt)) g)

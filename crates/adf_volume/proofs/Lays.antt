@@ -1,5 +1,5 @@
 -- What an image holds after blocks were written.
-use Rattle.std.proofs.Common.{◌≡◌, ℕ, zero, suc, List, [], ◌∷◌, ◌++◌, ◌⊎◌, inl, inr, ◌+◌, ◌-◌, ◌*◌, ◌/◌, ◌<◌, ◌≤◌, ◌≢◌, length, refl, sym, ap, subst, ◌∙◌, arith}
+use Rattle.std.proofs.Common.{◌≡◌, ℕ, List, [], ◌∷◌, ◌++◌, inl, inr, ◌+◌, ◌*◌, ◌<◌, ◌≤◌, ◌≢◌, length, refl, sym, ap, ◌∙◌, arith}
 use Rattle.adf_fields.specs.Words.{block, with_block}
 use Rattle.adf_fields.proofs.WordLaws.{block_written, block_other, length-with_bytes}
 use Rattle.adf_volume.specs.Lists.{In}

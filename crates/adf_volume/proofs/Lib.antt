@@ -43,3 +43,4 @@ pub mod Spots
 pub mod LaidFiles
 pub mod LaidEntries
 pub mod LaidFits
+pub mod LaidOrder

@@ -1,7 +1,6 @@
 -- Each part that is laid is a whole block in the volume.
-use Rattle.std.proofs.Common.{◌≡◌, ◌≢◌, ℕ, zero, suc, List, [], ◌∷◌, ◌++◌, ◌⊎◌, inl, inr, ◌+◌, ◌-◌, ◌*◌, ◌/◌, ◌^◌, ◌<◌, ◌≤◌, length, take, drop, min, map, refl, sym, ap, subst, ◌∙◌, arith, Bool, true, false, cond, length-take, length-drop}
+use Rattle.std.proofs.Common.{◌≡◌, ℕ, zero, suc, List, [], ◌∷◌, ◌++◌, ◌+◌, ◌-◌, ◌^◌, ◌<◌, ◌≤◌, length, take, drop, min, refl, arith, Bool, true, false, cond, length-take}
 use Rattle.std.specs.Prelude.{nat_lt, slice_index}
-use Rattle.std.specs.List.{All, range_with_len}
 use Rattle.std.proofs.lemmas.Bool.Decides.{nat_tests}
 use Rattle.std.proofs.lemmas.List.FromFn.{length-map-range_with_len}
 use Rattle.adf_tree.specs.Texts.{is_name}
@@ -10,10 +9,9 @@ use Rattle.adf_tree.specs.declared.entry.Kind.TheVariants.{Ofs, Ffs}
 use Rattle.adf_tree.specs.declared.entry.Body.{Body}
 use Rattle.adf_tree.specs.declared.entry.Body.TheVariants.{Dir, File}
 use Rattle.adf_tree.specs.declared.entry.Entry.{Entry}
-use Rattle.adf_blocks.specs.HeadBlock.{FitsHead, FitsBody, head_block}
-use Rattle.adf_blocks.specs.ExtBlock.{FitsExt, ext_block}
+use Rattle.adf_blocks.specs.HeadBlock.{FitsHead, FitsBody}
+use Rattle.adf_blocks.specs.ExtBlock.{FitsExt}
 use Rattle.adf_blocks.specs.DataBlock.{FitsData}
-use Rattle.adf_blocks.specs.Fields.{laid}
 use Rattle.adf_blocks.proofs.LaidLaws.{length-laid}
 use Rattle.adf_blocks.proofs.HeadLaws.{length_head_block}
 use Rattle.adf_blocks.proofs.ExtLaws.{length_ext_block}

@@ -1,7 +1,6 @@
 -- Where each entry was laid, and that its header names the next one of its chain.
-use Rattle.std.proofs.Common.{◌≡◌, ◌≢◌, ℕ, zero, suc, List, [], ◌∷◌, ◌++◌, inl, inr, ◌+◌, ◌-◌, ◌*◌, ◌^◌, ◌<◌, ◌≤◌, length, map, refl, sym, ap, subst, ◌∙◌, arith, true}
+use Rattle.std.proofs.Common.{◌≡◌, ℕ, zero, suc, List, [], ◌∷◌, ◌+◌, ◌-◌, ◌^◌, ◌<◌, ◌≤◌, length, map, refl, sym, ap, subst, ◌∙◌, arith, true}
 use Rattle.std.specs.Prelude.{slice_index}
-use Rattle.std.specs.List.{range_with_len}
 use Rattle.std.proofs.lemmas.List.FromFn.{get_or-map-range_with_len}
 use Rattle.adf_fields.specs.Hash.{slot_of}
 use Rattle.adf_fields.specs.Words.{block, word}
@@ -10,15 +9,14 @@ use Rattle.adf_tree.specs.declared.entry.Kind.{Kind}
 use Rattle.adf_tree.specs.declared.entry.Entry.{Entry}
 use Rattle.adf_tree.specs.declared.entry.Body.TheVariants.{Dir}
 use Rattle.adf_tree.specs.Tree.{Tree}
-use Rattle.adf_blocks.specs.Sizes.{blocks, middle, is_allowed}
-use Rattle.adf_blocks.specs.HeadBlock.{FitsHead, HeadFields, BodyFields, head_block}
+use Rattle.adf_blocks.specs.Sizes.{middle, is_allowed}
+use Rattle.adf_blocks.specs.HeadBlock.{FitsHead, head_block}
 use Rattle.adf_blocks.specs.HeadBlock.BodyFields.{DirFields}
-use Rattle.adf_blocks.specs.RootBlock.{root_block}
 use Rattle.adf_blocks.proofs.HeadLaws.{head_block-next, head_block-slot}
 use Rattle.adf_blocks.proofs.RootLaws.{root_block-slot}
 use Rattle.adf_volume.specs.Lists.{At, Spelled}
 use Rattle.adf_volume.specs.Image.{word_in}
-use Rattle.adf_volume.specs.Layout.{Place, EntryAt, nodes_from, chain_nodes, head_at, exts_at, datas_at, at_node}
+use Rattle.adf_volume.specs.Layout.{Place, nodes_from, chain_nodes, head_at, exts_at, datas_at, at_node}
 use Rattle.adf_volume.specs.Plan.{exts_needed, data_blocks, entry_blocks, entries_blocks, blocks_needed, given, run, places_from, planned}
 use Rattle.adf_volume.specs.Lay.{Holds}
 use Rattle.adf_volume.specs.Laid.{first_block, slots_of, body_of, body_parts, head_of, entries_parts, heads_from, node_blocks, root_laid, volume, IsSound}

@@ -1,5 +1,5 @@
 -- What a laid image holds: each part that was written.
-use Rattle.std.proofs.Common.{◌≡◌, ◌≢◌, ℕ, zero, suc, List, [], ◌∷◌, ◌++◌, ◌⊎◌, inl, inr, ◌+◌, ◌-◌, ◌*◌, ◌<◌, ◌≤◌, length, refl, sym, ap, subst, ◌∙◌, arith}
+use Rattle.std.proofs.Common.{◌≡◌, ℕ, zero, suc, List, [], ◌∷◌, ◌++◌, inl, inr, ◌+◌, ◌-◌, ◌*◌, length, refl, sym, ap, subst, ◌∙◌, arith}
 use Rattle.adf_tree.specs.declared.entry.Kind.{Kind}
 use Rattle.adf_tree.specs.declared.entry.Body.{Body}
 use Rattle.adf_tree.specs.declared.entry.Body.TheVariants.{Dir, File}
@@ -13,7 +13,7 @@ use Rattle.adf_volume.proofs.Blocks.{Distinct}
 use Rattle.adf_volume.proofs.Given.{run-append}
 use Rattle.adf_volume.proofs.Lays.{lay_same}
 
-number_in : (ps : List (ℕ × List ℕ)) (q : ℕ × List ℕ) → In ps q → In (numbers_of ps) q.0
+pub number_in : (ps : List (ℕ × List ℕ)) (q : ℕ × List ℕ) → In ps q → In (numbers_of ps) q.0
 number_in [] q h = absurd h
 number_in (p ∷ ps) q (inl e) = inl (ap (λ p. p.0) e)
 number_in (p ∷ ps) q (inr h) = inr (number_in ps q h)
