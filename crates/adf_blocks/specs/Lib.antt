@@ -8,5 +8,3 @@ pub mod HeadBlock
 pub mod ExtBlock
 pub mod DataBlock
 pub mod EmptyVolume
-pub mod Need
-pub mod EmptyImage

@@ -2,7 +2,7 @@
 use Rattle.std.proofs.Common.{◌≡◌, ℕ, zero, suc, List, [], ◌∷◌, ◌++◌, ◌+◌, ◌<◌, length, ap, sym, ◌∙◌, arith, take, add-one}
 use Rattle.std.proofs.Math.ListN.{set}
 use Rattle.std.proofs.lemmas.List.{take_more_set}
-use Rattle.adf_blocks.specs.EmptyImage.{row}
+use Rattle.adf_volume.specs.Plan.{row}
 
 more : (b m : ℕ) → row b (suc m) ≡ row b m ++ (b + m) ∷ []
 more b zero = let e : b ≡ b + 0 = omega arith in ap (λ c. c ∷ []) e

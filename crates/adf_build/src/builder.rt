@@ -1,7 +1,7 @@
 // Building.
 
 ghost use Rattle.std.specs.Prelude.{◌≡◌, ◌*◌, [], IfOk, IfErr, OnOk, vec_len};
-ghost use Rattle.adf_blocks.specs.EmptyImage.{empty_image};
+ghost use Rattle.adf_volume.specs.Laid.{IsLaid, volume};
 ghost use Rattle.adf_build.specs.Building.{HasRoom, IsBuildFault};
 
 use crate::counting::need;
@@ -21,11 +21,12 @@ pub enum BuildFault {
     NoMemory,
 }
 
-/// The image of a tree without entries in a volume of so many blocks.
-#[tactic(auto, unfolding(adf_blocks::specs::EmptyImage::empty_image))]
+/// The image of a tree without entries in a volume of so many blocks: the root in the middle, the bitmap pages behind it, the
+/// bits of the volume's own blocks, and 0 in every byte that is not asked for.
 pub fn build(alloc: Global, tree: &Tree, blocks: u32) -> Result<Vec<u8>, BuildFault>
     requires { tree.now.entries ≡ [] }
-    ensures image { IfOk result (λ image. image.items ≡ empty_image blocks tree.now.kind tree.now.label tree.now.stamps) }
+    ensures laid { IfOk result (λ image. IsLaid image.items tree.now) }
+    ensures bytes { IfOk result (λ image. image.items ≡ volume tree.now blocks) }
     ensures len { IfOk result (λ image. vec_len image ≡ blocks * 512) }
     ensures room { OnOk result (HasRoom tree.now blocks) }
     ensures fault { IfErr result (IsBuildFault tree.now blocks) }

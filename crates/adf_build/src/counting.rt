@@ -2,15 +2,18 @@
 
 ghost use Rattle.std.specs.Prelude.{◌≡◌, ◌≤◌, ◌+◌, ◌-◌, ◌^◌, true, length, min};
 ghost use Rattle.std.specs.Option.{SomeIff};
-ghost use Rattle.adf_blocks.specs.Need.{body_datas, data_len, datas_needed, entry_blocks, exts_needed, need_of};
 ghost use Rattle.adf_blocks.specs.Sizes.{is_allowed};
+ghost use Rattle.adf_build.specs.Building.{need_of};
+ghost use Rattle.adf_volume.specs.Image.{chunk, count};
+ghost use Rattle.adf_volume.specs.Plan.{data_blocks, entry_blocks, exts_needed};
 
 use adf_blocks::{is_allowed_size, page_count};
 use adf_tree::{Body, Entry, Kind, Node, Tree};
 
 // The data bytes of a block.
+#[tactic(auto, unfolding(adf_volume::specs::Image::chunk))]
 fn bytes_of_block(kind: Kind) -> usize
-    ensures exact { result ≡ data_len kind }
+    ensures exact { result ≡ chunk kind }
     ensures low { 488 ≤ result }
     ensures high { result ≤ 512 }
 {
@@ -21,9 +24,9 @@ fn bytes_of_block(kind: Kind) -> usize
 }
 
 // The data blocks of a body.
-#[tactic(auto, unfolding(adf_blocks::specs::Need::datas_needed))]
+#[tactic(auto, unfolding(adf_volume::specs::Image::count))]
 fn data_count(kind: Kind, body: &Body) -> usize
-    ensures { result ≡ body_datas kind body.now }
+    ensures { result ≡ data_blocks kind body.now }
 {
     match body {
         Body::Dir => 0,
@@ -32,7 +35,7 @@ fn data_count(kind: Kind, body: &Body) -> usize
 }
 
 // The extension blocks of so many data blocks.
-#[tactic(auto, unfolding(adf_blocks::specs::Need::exts_needed))]
+#[tactic(auto, unfolding(adf_volume::specs::Plan::exts_needed))]
 fn ext_count(datas: usize) -> usize
     ensures { result ≡ exts_needed datas }
 {
@@ -50,6 +53,7 @@ fn add_entry(sum: u64, kind: Kind, entry: &Entry) -> u64
 }
 
 // The blocks that the tree needs in a volume of so many blocks, or the greatest number.
+#[tactic(auto, using(crate::proofs::EmptyLaws::reserved_is))]
 fn count_blocks(tree: &Tree, blocks: u32) -> u64
     requires { is_allowed blocks ≡ true }
     ensures { result ≡ need_of tree.now blocks }

@@ -2,11 +2,13 @@
 
 ghost use Rattle.std.specs.Prelude.{◌≡◌, ◌≤◌, ◌<◌, ◌+◌, ◌*◌, ◌/◌, [], ◌∷◌, true, length, take};
 ghost use Rattle.adf_fields.specs.Words.{with_block};
-ghost use Rattle.adf_blocks.specs.EmptyImage.{empty_parts, empty_root, lay, page_row};
-ghost use Rattle.adf_blocks.specs.EmptyVolume.{boot_bytes};
 ghost use Rattle.adf_blocks.specs.Fields.{laid};
 ghost use Rattle.adf_blocks.specs.RootBlock.{root_block};
 ghost use Rattle.adf_blocks.specs.Sizes.{is_allowed, pages_needed};
+ghost use Rattle.adf_build.specs.Building.{empty_parts, empty_root};
+ghost use Rattle.adf_volume.specs.Laid.{boot_bytes};
+ghost use Rattle.adf_volume.specs.Lay.{lay};
+ghost use Rattle.adf_volume.specs.Plan.{row};
 
 use crate::pages::write_pages;
 use adf_blocks::{RootOut, page_count, write_root};
@@ -17,7 +19,7 @@ use adf_tree::{Kind, Label, Stamps};
 #[tactic(auto, using(crate::proofs::Rows::row_step))]
 fn page_numbers(blocks: u32) -> [u32; 25]
     requires { is_allowed blocks ≡ true }
-    ensures { take (pages_needed blocks) result ≡ page_row blocks }
+    ensures { take (pages_needed blocks) result ≡ row (blocks / 2 + 1) (pages_needed blocks) }
 {
     let mut numbers = [0u32; 25];
     for j in 0..page_count(blocks) as usize {

@@ -1,16 +1,18 @@
 // The bitmap pages of a volume without entries.
 
 ghost use Rattle.std.specs.Prelude.{◌≡◌, ◌≤◌, ◌<◌, ◌+◌, ◌*◌, ◌^◌, true, length};
-ghost use Rattle.adf_blocks.specs.EmptyImage.{bits_from, is_free_bit, is_used, lay, page_parts, page_words};
 ghost use Rattle.adf_blocks.specs.Sizes.{is_allowed, pages_needed};
+ghost use Rattle.adf_volume.specs.Bits.{bits_from, is_free_bit, is_used, page_words};
+ghost use Rattle.adf_volume.specs.Laid.{page_parts};
+ghost use Rattle.adf_volume.specs.Lay.{lay};
 
 use adf_blocks::{page_count, write_page};
 
 // Whether block `b` is the root or a bitmap page.
-#[tactic(auto, unfolding(adf_blocks::specs::EmptyImage::is_used))]
+#[tactic(auto, using(crate::proofs::EmptyLaws::used_without_entries))]
 fn is_used_block(blocks: u32, b: u32) -> bool
     requires { is_allowed blocks ≡ true }
-    ensures { result ≡ is_used blocks b }
+    ensures { result ≡ is_used blocks 0 b }
 {
     let middle = blocks / 2;
     middle <= b && b <= middle + page_count(blocks)
@@ -21,7 +23,7 @@ fn is_used_block(blocks: u32, b: u32) -> bool
 fn page_word(blocks: u32, q: u32) -> u32
     requires size { is_allowed blocks ≡ true }
     requires far { q < 2 ^ 30 }
-    ensures { result ≡ bits_from (is_free_bit blocks) q 32 }
+    ensures { result ≡ bits_from (is_free_bit blocks 0) q 32 }
 {
     let mut word = 0u32;
     let mut i = 32;
@@ -39,7 +41,7 @@ fn page_word(blocks: u32, q: u32) -> u32
 fn words_of_page(blocks: u32, j: u32) -> [u32; 127]
     requires size { is_allowed blocks ≡ true }
     requires page { j < 25 }
-    ensures { result ≡ page_words blocks j }
+    ensures { result ≡ page_words blocks 0 j }
 {
     let mut words = [0u32; 127];
     for w in 0..127usize {
@@ -53,7 +55,7 @@ fn words_of_page(blocks: u32, j: u32) -> [u32; 127]
 pub fn write_pages(image: &mut [u8], blocks: u32)
     requires size { is_allowed blocks ≡ true }
     requires whole { length image.old ≡ blocks * 512 }
-    ensures { image.new ≡ lay image.old (page_parts blocks 0 (pages_needed blocks)) }
+    ensures { image.new ≡ lay image.old (page_parts blocks 0 0 (pages_needed blocks)) }
 {
     for j in 0..page_count(blocks) {
         write_page(image, blocks / 2 + 1 + j, &words_of_page(blocks, j));

@@ -6,10 +6,11 @@ use Rattle.adf_tree.specs.Tree.{Tree}
 use Rattle.adf_blocks.specs.Causes.{cause_text}
 use Rattle.adf_blocks.specs.declared.cause.Cause.{Cause}
 use Rattle.adf_blocks.specs.declared.cause.Cause.TheVariants.{NoMemory}
-use Rattle.adf_blocks.specs.EmptyImage.{empty_image}
 use Rattle.adf_blocks.specs.EmptyVolume.{FitsEmpty, start_form}
 use Rattle.adf_blocks.specs.Forms.{first_cause}
-use Rattle.adf_blocks.specs.Need.{blocks_needed, need_of}
+use Rattle.adf_volume.specs.Laid.{volume}
+use Rattle.adf_volume.specs.Plan.{blocks_needed}
+use Rattle.adf_build.specs.Building.{need_of}
 use Rattle.adf_check.specs.Checks.{fault}
 use Rattle.adf_check.specs.Volumes.{Volume, counts_of}
 use Rattle.adf_check.specs.declared.fault.Fault.{Fault}
@@ -37,9 +38,9 @@ Accepts input status output errors = (v : Volume) × (v.image ≡ input) × Fits
 abbrev pub Refuses : List ℕ → ℕ → List ℕ → List ℕ → Type 0
 Refuses input status output errors = (f : Fault) × IsRefusal input f × (status ≡ 1) × (output ≡ fault_line f) × (errors ≡ [])
 
--- the image of a tree without entries, or the lines of its words
+-- the image that is laid of a tree in n blocks, or the lines of its words
 abbrev pub built : Bool → Tree → ℕ → List ℕ
-built lines tree n = if lines then listing (empty_image n tree.kind tree.label tree.stamps) else empty_image n tree.kind tree.label tree.stamps
+built lines tree n = if lines then listing (volume tree n) else volume tree n
 
 -- `build` at status 0 writes the image of the tree that the manifest tells, at status 1 it says why there is none
 abbrev pub Builds : Bool → List ℕ → ℕ → List ℕ → List ℕ → Type 0

@@ -2,7 +2,8 @@
 use Rattle.std.specs.Prelude.{◌≡◌, ◌≢◌, ◌<◌, ◌-◌, ◌⊎◌, ℕ, Bool, true, false, List, [], codes, Option, string_bytes}
 use Rattle.std.specs.Io.KnownBytes.{Appends}
 use Rattle.adf_tree.specs.Tree.{Tree}
-use Rattle.adf_blocks.specs.Need.{blocks_needed, need_of}
+use Rattle.adf_volume.specs.Plan.{blocks_needed}
+use Rattle.adf_build.specs.Building.{need_of}
 use Rattle.adf_check.specs.declared.fault.Fault.{Fault}
 use Rattle.adf_cmd.specs.Answers.{Answer, IsPart, built, fault_line}
 use Rattle.adf_cmd.specs.CommandLine.{Request}

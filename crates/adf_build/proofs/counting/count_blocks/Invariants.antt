@@ -1,5 +1,6 @@
 use Rattle.std.proofs.Common.{◌≡◌, ◌≤◌, ◌+◌, ◌-◌, ◌^◌, drop, min}
-use Rattle.adf_blocks.specs.Need.{entries_blocks, need_of}
+use Rattle.adf_volume.specs.Plan.{entries_blocks}
+use Rattle.adf_build.specs.Building.{need_of}
 use Rattle.adf_build.proofs.counting.count_blocks.Given as goal
 
 abbrev pub invariant-loop-i : goal.invariant-loop-i

@@ -1,10 +1,10 @@
 use Rattle.std.proofs.Common.{◌≡◌, ◌+◌, ◌-◌, ℕ, ap, ◌∙◌, arith, Bool}
-use Rattle.adf_blocks.specs.EmptyImage.{bits_from, is_free_bit}
+use Rattle.adf_volume.specs.Bits.{bits_from, is_free_bit}
 use Rattle.adf_build.proofs.pages.page_word.Goals as goal
 
 pub returns : goal.returns
 returns c =
-    let f : ℕ → Bool = is_free_bit c.args.blocks in
+    let f : ℕ → Bool = is_free_bit c.args.blocks 0 in
     let e : c.loop-i.i ≡ 0 = omega arith in
     let z : c.args.q + 0 ≡ c.args.q = omega arith in
     c.loop-i.invariant.work ∙ ap (λ i. bits_from f (c.args.q + i) (32 - i)) e ∙ ap (λ p. bits_from f p 32) z
