@@ -1,5 +1,5 @@
 -- Laws of trees, each the contract of a function of `laws.rt`.
-use Rattle.std.specs.Prelude.{◌≡◌, ℕ, ◌+◌, ◌-◌, ◌<◌, ◌≤◌, ◌↔◌, List, length, take, Some, slice_index_or, Contains}
+use Rattle.std.specs.Prelude.{◌≡◌, ℕ, ◌+◌, ◌-◌, ◌<◌, ◌≤◌, ◌↔◌, List, length, map, take, Some, slice_index_or, Contains}
 use Rattle.adf_fields.specs.Hash.{slot_of}
 use Rattle.adf_tree.specs.Texts.{uppers}
 use Rattle.adf_tree.specs.declared.entry.Entry.{Entry}
@@ -17,6 +17,10 @@ EntriesStandInOneChain = (es : List Entry) (e : Entry) → Contains es e → (p 
 -- names that are equal without case have one slot
 abbrev pub CaseKeepsSlots : Type 0
 CaseKeepsSlots = (a b : List ℕ) → uppers a ≡ uppers b → slot_of a ≡ slot_of b
+
+-- paths that are equal without case lead to one node
+abbrev pub CaseKeepsPaths : Type 0
+CaseKeepsPaths = (es : List Entry) (path other : List (List ℕ)) → map uppers path ≡ map uppers other → find es path ≡ find es other
 
 -- the entry n is that of this parent and name, and in the chain of the name's slot
 pub record IsChild (es : List Entry) (p : ℕ) (x : List ℕ) (n : ℕ) (e : Entry) : Type 0 where

@@ -1,6 +1,6 @@
 // Laws of trees, for the proofs of those who build on them. None of these functions does anything.
 
-ghost use Rattle.adf_tree.specs.Laws.{CaseKeepsSlots, ChildrenAreFound, EntriesStandInOneChain, PathsAreFound, TreesGrowInOrder};
+ghost use Rattle.adf_tree.specs.Laws.{CaseKeepsPaths, CaseKeepsSlots, ChildrenAreFound, EntriesStandInOneChain, PathsAreFound, TreesGrowInOrder};
 
 /// Every entry is a member of the chain of exactly one parent and slot.
 pub fn entries_stand_in_one_chain()
@@ -10,6 +10,11 @@ pub fn entries_stand_in_one_chain()
 /// Names that are equal without their case have one slot.
 pub fn case_keeps_slots()
     ensures { CaseKeepsSlots }
+{}
+
+/// Paths that are equal without their case lead to one node.
+pub fn case_keeps_paths()
+    ensures { CaseKeepsPaths }
 {}
 
 /// What is found for a name is the entry of that name, in the chain of its slot, and each entry is found.
