@@ -15,8 +15,8 @@ mod walk_order;
 pub use crate::entry::{Body, Bytes, Entry, Kind, Meta, Node, Stamps};
 pub use crate::escapes::spellings_decide;
 pub use crate::laws::{
-    case_keeps_paths, case_keeps_slots, children_are_found, entries_stand_in_one_chain, paths_are_found,
-    trees_grow_in_order,
+    case_keeps_paths, case_keeps_slots, children_are_found, entries_stand_in_one_chain,
+    paths_are_found, trees_grow_in_order,
 };
 pub use crate::path_texts::{PathFault, path_texts_decide, read_path, write_path};
 pub use crate::texts::{Comment, Label, Name};
