@@ -7,4 +7,3 @@ pub mod PageBlock
 pub mod HeadBlock
 pub mod ExtBlock
 pub mod DataBlock
-pub mod EmptyVolume

@@ -8,11 +8,11 @@ use Rattle.std.proofs.lemmas.List.{get_or-set_other, get_or-set_same, get_or_app
 use Rattle.std.proofs.lemmas.List.Elements.{All-push, Contains-push_cases}
 use Rattle.std.proofs.lemmas.List.Quantifiers.{all_pairs_push}
 use Rattle.adf_fields.specs.Words.{block, word}
-use Rattle.adf_blocks.specs.EmptyVolume.{owned}
+use Rattle.adf_check.specs.EmptyVolume.{part_blocks}
 use Rattle.adf_blocks.specs.Forms.{first_cause}
 use Rattle.adf_blocks.specs.PageBlock.{page_form}
-use Rattle.adf_check.specs.declared.owners.Owner.{Owner}
-use Rattle.adf_check.specs.declared.owners.Owner.TheVariants.{Free, Boot, Root, Page, Head, Ext, Data}
+use Rattle.adf_volume.specs.declared.owner.Owner.{Owner}
+use Rattle.adf_volume.specs.declared.owner.Owner.TheVariants.{Free, Boot, Root, Page, MapExt, Head, Ext, Data}
 use Rattle.adf_check.specs.Checks.{HasPages, InRange}
 use Rattle.adf_check.specs.Owners.{IsOwner, IsTable, owner_of}
 
@@ -60,10 +60,11 @@ first_table n owners new big e f = subst (IsTable n []) (sym (f ∙ ap (λ l. se
 
 -- no other block has another owner for one page more
 grown : (n : ℕ) (pages : List ℕ) (x b : ℕ) (o : Owner) → b ≢ x → IsOwner n pages b o → IsOwner n (pages ++ x ∷ []) b o
-grown n pages x b Free ne h = (h.0, λ has. elim (Contains-push_cases (owned n pages) x b has) [ inl there ↦ h.1 there | inr here ↦ ne (sym here) ])
+grown n pages x b Free ne h = (h.0, λ has. elim (Contains-push_cases (part_blocks n pages) x b has) [ inl there ↦ h.1 there | inr here ↦ ne (sym here) ])
 grown n pages x b Boot ne h = h
 grown n pages x b Root ne h = h
 grown n pages x b (Page i) ne h = (omega (arith, h.0, length-append pages (x ∷ [])), get_or_append_left pages (x ∷ []) 0 i h.0 ∙ h.1)
+grown n pages x b (MapExt j) ne h = absurd h
 grown n pages x b (Head m) ne h = absurd h
 grown n pages x b (Ext m k) ne h = absurd h
 grown n pages x b (Data m k) ne h = absurd h
@@ -81,7 +82,7 @@ table_more n owners pages x t r free = record { blocks = length-set owners x (Pa
     ]
 
 -- a free block is no part
-free_is_new : (n : ℕ) (owners : List Owner) (pages : List ℕ) (x : ℕ) → IsTable n pages owners → InRange n x → owner_of owners x ≡ Free → ¬ Contains (owned n pages) x
+free_is_new : (n : ℕ) (owners : List Owner) (pages : List ℕ) (x : ℕ) → IsTable n pages owners → InRange n x → owner_of owners x ≡ Free → ¬ Contains (part_blocks n pages) x
 free_is_new n owners pages x t r free = (subst (IsOwner n pages x) free (t.owner x r.1)).1
 
 -- what holds of each index holds of one more
@@ -113,9 +114,9 @@ more_pages image root n owners new numbers pages x i page h len named range free
   named = more_named root numbers x h.named (named ∙ ap (λ k. word root (79 + k)) (sym len));
   forms = more_forms image numbers x h.forms form;
   views = ap (λ v. v ++ page ∷ []) h.views ∙ ap (λ p. map (block image) numbers ++ p ∷ []) view ∙ sym (map-append (block image) numbers (x ∷ []));
-  once = all_pairs_push (λ a b. a ≢ b) (owned n numbers) x h.once (λ k d lt e. fresh (k, lt, get_or_default (owned n numbers) k x d lt ∙ e));
-  range = All-push (InRange n) (owned n numbers) x h.range range;
+  once = all_pairs_push (λ a b. a ≢ b) (part_blocks n numbers) x h.once (λ k d lt e. fresh (k, lt, get_or_default (part_blocks n numbers) k x d lt ∙ e));
+  range = All-push (InRange n) (part_blocks n numbers) x h.range range;
 }
   where
-    fresh : ¬ Contains (owned n numbers) x
+    fresh : ¬ Contains (part_blocks n numbers) x
     fresh = free_is_new n owners numbers x h.table range free

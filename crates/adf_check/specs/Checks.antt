@@ -4,9 +4,9 @@ use Rattle.adf_fields.specs.Words.{block, word}
 use Rattle.adf_blocks.specs.declared.cause.Cause.{Cause}
 use Rattle.adf_blocks.specs.Forms.{first_cause}
 use Rattle.adf_blocks.specs.PageBlock.{page_form}
-use Rattle.adf_blocks.specs.EmptyVolume.{owned}
+use Rattle.adf_check.specs.EmptyVolume.{part_blocks}
 use Rattle.adf_check.specs.declared.fault.Fault.{Fault}
-use Rattle.adf_check.specs.declared.owners.Owner.{Owner}
+use Rattle.adf_volume.specs.declared.owner.Owner.{Owner}
 use Rattle.adf_check.specs.Owners.{IsTable}
 
 abbrev pub fault : ℕ → Cause → Fault
@@ -22,5 +22,5 @@ pub record HasPages (image root : List ℕ) (n : ℕ) (owners : List Owner) (num
   pub named : (i : ℕ) → i < length numbers → word root (79 + i) ≡ slice_index numbers i
   pub forms : (i : ℕ) → i < length numbers → first_cause (page_form (block image (slice_index numbers i))) ≡ None
   pub views : pages ≡ map (block image) numbers
-  pub once : AllPairs (λ a b. a ≢ b) (owned n numbers)
-  pub range : All (InRange n) (owned n numbers)
+  pub once : AllPairs (λ a b. a ≢ b) (part_blocks n numbers)
+  pub range : All (InRange n) (part_blocks n numbers)

@@ -1,3 +1,4 @@
+pub mod EmptyVolume
 pub mod Owners
 pub mod Checks
 pub mod Volumes

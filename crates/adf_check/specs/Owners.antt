@@ -1,8 +1,8 @@
 -- Who owns each block.
 use Rattle.std.specs.Prelude.{◌≡◌, ◌≤◌, ◌<◌, ℕ, Bool, true, false, List, length, count_by, slice_index, slice_index_or, Contains}
-use Rattle.adf_check.specs.declared.owners.Owner.{Owner}
-use Rattle.adf_check.specs.declared.owners.Owner.TheVariants.{Free, Boot, Root, Page, Head, Ext, Data}
-use Rattle.adf_blocks.specs.EmptyVolume.{owned}
+use Rattle.adf_volume.specs.declared.owner.Owner.{Owner}
+use Rattle.adf_volume.specs.declared.owner.Owner.TheVariants.{Free, Boot, Root, Page, MapExt, Head, Ext, Data}
+use Rattle.adf_check.specs.EmptyVolume.{part_blocks}
 use Rattle.adf_blocks.specs.Sizes.{middle}
 
 -- a part of the volume owns the block
@@ -21,10 +21,11 @@ owner_of owners b = slice_index_or owners b Free
 
 -- in a volume of n blocks with these bitmap pages and no entries, o is the owner of block b
 abbrev pub IsOwner : ℕ → List ℕ → ℕ → Owner → Type 0
-IsOwner n pages b Free = (2 ≤ b) × (¬ Contains (owned n pages) b)
+IsOwner n pages b Free = (2 ≤ b) × (¬ Contains (part_blocks n pages) b)
 IsOwner n pages b Boot = b < 2
 IsOwner n pages b Root = b ≡ middle n
 IsOwner n pages b (Page i) = (i < length pages) × (slice_index pages i ≡ b)
+IsOwner n pages b (MapExt j) = ⊥
 IsOwner n pages b (Head n') = ⊥
 IsOwner n pages b (Ext n' k) = ⊥
 IsOwner n pages b (Data n' k) = ⊥

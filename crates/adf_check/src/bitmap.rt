@@ -6,8 +6,9 @@ ghost use Rattle.adf_blocks.specs.Sizes.{pages_needed};
 ghost use Rattle.adf_check.specs.Owners.{owner_of};
 
 use crate::fault::{Fault, fault_at};
-use crate::owners::{Owner, Owners};
+use crate::owners::Owners;
 use adf_blocks::{Cause, Page, place_of};
+use adf_volume::Owner;
 
 // Whether no part of the volume owns a block.
 fn is_unowned(owners: &Owners, b: u32) -> bool

@@ -1,13 +1,15 @@
 // Volumes that were checked.
 
 ghost use Rattle.std.specs.Prelude.{◌≡◌, ◌<◌, ◌↔◌, length, IsSome, IfSome};
-ghost use Rattle.adf_blocks.specs.EmptyVolume.{FitsEmpty};
+ghost use Rattle.adf_volume.specs.Fits.{Fits};
+ghost use Rattle.adf_check.specs.EmptyVolume.{layout_of, tree_of};
 ghost use Rattle.adf_blocks.specs.Sizes.{blocks};
 ghost use Rattle.adf_check.specs.Owners.{IsOwner};
 ghost use Rattle.adf_check.specs.Volumes.{IsChecked, counts_of};
 
-use crate::owners::{Owner, Owners};
+use crate::owners::Owners;
 use adf_tree::{Kind, Label, Stamps};
+use adf_volume::Owner;
 use std::marker::Model;
 
 /// The numbers of a volume.
@@ -58,7 +60,7 @@ impl<'a> Checked<'a> {
     ) -> Checked<'a>
         requires { IsChecked (record { image = image.now; volume = record { kind = kind; label = label; stamps = stamps; pages = pages.items } }) (length owners) owners }
         ensures volume { result ≡ record { image = image.now; volume = record { kind = kind; label = label; stamps = stamps; pages = pages.items } } }
-        ensures fits { FitsEmpty image.now result.volume }
+        ensures fits { Fits image.now (tree_of result.volume) (layout_of result.volume) }
     {
         Checked {
             image,

@@ -1,10 +1,13 @@
 // The whole check.
 
 ghost use Rattle.std.specs.Prelude.{◌≡◌, None, Some, IfOk, Err};
-ghost use Rattle.adf_blocks.specs.EmptyVolume.{FitsEmpty, root_of, start_form};
+ghost use Rattle.adf_volume.specs.Fits.{Fits};
+ghost use Rattle.adf_volume.specs.Image.{root_of};
+ghost use Rattle.adf_check.specs.EmptyVolume.{layout_of, start_form, tree_of};
+ghost use Rattle.adf_fields.specs.Words.{block};
 ghost use Rattle.adf_blocks.specs.Forms.{first_cause};
 ghost use Rattle.adf_blocks.specs.RootBlock.{root_form};
-ghost use Rattle.adf_blocks.specs.Sizes.{blocks, middle};
+ghost use Rattle.adf_blocks.specs.Sizes.{blocks};
 ghost use Rattle.adf_blocks.specs.declared.cause.Cause.{Cause};
 ghost use Rattle.adf_check.specs.Checks.{fault};
 
@@ -25,11 +28,11 @@ use std::alloc::Global;
 /// image.
 pub fn check<'a>(alloc: Global, image: &'a [u8]) -> Result<Checked<'a>, Fault>
     ensures image { IfOk result (λ v. v.image ≡ image.now) }
-    ensures fits { IfOk result (λ v. FitsEmpty image.now v.volume) }
+    ensures fits { IfOk result (λ v. Fits image.now (tree_of v.volume) (layout_of v.volume)) }
 
     // A size, boot bytes or a root that are none of a volume are what is told, whatever else is wrong.
     ensures start { (c : Cause) → first_cause (start_form image.now) ≡ Some c → result ≡ Err (fault 0 c) }
-    ensures root { first_cause (start_form image.now) ≡ None → (c : Cause) → first_cause (root_form (root_of image.now)) ≡ Some c → result ≡ Err (fault (middle (blocks image.now)) c) }
+    ensures root { first_cause (start_form image.now) ≡ None → (c : Cause) → first_cause (root_form (block image.now (root_of image.now))) ≡ Some c → result ≡ Err (fault (root_of image.now) c) }
 {
     let start = match read_start(image) {
         Ok(start) => start,

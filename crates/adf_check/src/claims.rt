@@ -5,8 +5,9 @@ ghost use Rattle.adf_check.specs.Checks.{InRange, fault};
 ghost use Rattle.adf_check.specs.Owners.{IsTable, is_part, owner_of};
 
 use crate::fault::{Fault, fault_at};
-use crate::owners::{Owner, Owners};
+use crate::owners::Owners;
 use adf_blocks::Cause;
+use adf_volume::Owner;
 use std::alloc::Global;
 
 /// Makes `o` the owner of block `b`, which a word of block `holder` names.

@@ -14,4 +14,5 @@ mod start;
 pub use crate::checked::{Checked, Counts};
 pub use crate::checker::check;
 pub use crate::fault::Fault;
-pub use crate::owners::{Owner, Owners};
+pub use crate::owners::Owners;
+pub use adf_volume::Owner;

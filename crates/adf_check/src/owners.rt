@@ -5,27 +5,9 @@ ghost use Rattle.adf_check.specs.Owners.{is_part, owned_count, owner_of};
 
 use adf_blocks::Cause;
 use adf_fields::NoMemory;
-use adf_tree::Node;
+use adf_volume::Owner;
 use std::alloc::Global;
 use std::marker::Model;
-
-/// What a block is for.
-#[derive(Clone, Copy, Drop)]
-pub enum Owner {
-    /// No part of the volume owns the block.
-    Free,
-    /// Block 0 or 1.
-    Boot,
-    Root,
-    /// A bitmap page, numbered from 0.
-    Page(u32),
-    /// The header of an entry.
-    Head(Node),
-    /// An extension block of a file, numbered from 1.
-    Ext(Node, u32),
-    /// A data block of a file, numbered from 1.
-    Data(Node, u32),
-}
 
 /// A table of the owner of each block.
 #[derive(Drop)]
@@ -36,8 +18,8 @@ pub struct Owners {
 
 impl Model for Owners {
     ghost use Rattle.std.specs.Prelude.{◌≡◌, List, take, length, [], ◌∷◌};
-    ghost use Rattle.adf_check.specs.declared.owners.Owner.{Owner};
-    ghost use Rattle.adf_check.specs.declared.owners.Owner.TheVariants.{Boot};
+    ghost use Rattle.adf_volume.specs.declared.owner.Owner.{Owner};
+    ghost use Rattle.adf_volume.specs.declared.owner.Owner.TheVariants.{Boot};
 
     ghost Value = { List Owner };
 

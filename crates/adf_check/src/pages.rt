@@ -9,9 +9,10 @@ ghost use Rattle.adf_check.specs.Owners.{IsTable, owner_of};
 
 use crate::claims::claim_named;
 use crate::fault::{Fault, fault_at};
-use crate::owners::{Owner, Owners};
+use crate::owners::Owners;
 use adf_blocks::{Cause, Page, Root, read_page};
 use adf_fields::Block;
+use adf_volume::Owner;
 use std::alloc::Global;
 
 /// A bitmap page and the block that holds it.

@@ -5,8 +5,9 @@ ghost use Rattle.adf_fields.specs.Words.{word};
 ghost use Rattle.adf_blocks.specs.Sizes.{pages_needed};
 
 use crate::fault::{Fault, fault_at};
-use crate::owners::{Owner, Owners};
+use crate::owners::Owners;
 use adf_blocks::{Cause, Page, Root, place_of};
+use adf_volume::Owner;
 
 // Why block `b`, which a slot of the root names as a header, is refused: as long as headers are not read, no part of
 // the volume may own it.

@@ -1,7 +1,7 @@
 use Rattle.std.proofs.Common.{◌≡◌, ◌≤◌, ◌<◌, ◌-◌, ◌/◌, ◌%◌, ◌↔◌, [], ℕ}
 use Rattle.std.specs.Prelude.{slice_index_or}
 use Rattle.adf_blocks.specs.PageBlock.{IsFreeBit}
-use Rattle.adf_check.specs.declared.owners.Owner.TheVariants.{Free}
+use Rattle.adf_volume.specs.declared.owner.Owner.TheVariants.{Free}
 use Rattle.adf_check.specs.Owners.{owner_of}
 use Rattle.adf_check.proofs.bitmap.check_bitmap.Given as goal
 

@@ -4,7 +4,7 @@ use Rattle.adf_fields.specs.Words.{block, word}
 use Rattle.adf_blocks.specs.Forms.{first_cause, text_at}
 use Rattle.adf_blocks.specs.PageBlock.{IsFreeBit}
 use Rattle.adf_blocks.specs.RootBlock.{root_form, stamps_at}
-use Rattle.adf_check.specs.declared.owners.Owner.TheVariants.{Free}
+use Rattle.adf_volume.specs.declared.owner.Owner.TheVariants.{Free}
 use Rattle.adf_check.specs.Checks.{HasPages}
 use Rattle.adf_check.specs.Owners.{owner_of}
 use Rattle.adf_check.proofs.Whole.{found_is_checked}
@@ -25,7 +25,7 @@ new-requires c =
     let agrees : List (List ℕ) → Type 0 = λ ps. (b : ℕ) → 2 ≤ b → b < length owners → IsFreeBit (slice_index_or ps ((b - 2) / 4064) []) ((b - 2) % 4064) ↔ (owner_of owners b ≡ Free) in
     found_is_checked image n c.in-Ok.start.kind c.label.result c.stamps.result numbers pages owners c.in-Ok.ensures.1.0 (record {
       start = c.in-Ok.ensures.0;
-      boot = c.in-Ok.ensures.1.1;
+      kind_is = c.in-Ok.ensures.1.1;
       root = subst formed c.block_in.ensures c.in-Ok-read_root.ensures.0;
       label_is = c.label.ensures ∙ ap (λ b. text_at b 432) root_is;
       stamps_are = c.stamps.ensures ∙ ap stamps_at root_is;
