@@ -8,7 +8,10 @@ use Rattle.std.proofs.lemmas.List.{take_all}
 use Rattle.adf_tree.specs.Tree.{Tree}
 use Rattle.adf_blocks.specs.declared.cause.Cause.{Cause}
 use Rattle.adf_blocks.specs.declared.cause.Cause.TheVariants.{BadSize, NoMemory as CauseNoMemory}
-use Rattle.adf_blocks.specs.EmptyVolume.{FitsEmpty, is_whole, start_form}
+use Rattle.adf_blocks.specs.Sizes.{blocks, is_allowed}
+use Rattle.adf_volume.specs.Demands.{IsSize}
+use Rattle.adf_volume.specs.Fits.{Fits}
+use Rattle.adf_check.specs.EmptyVolume.{is_whole, layout_of, start_form, tree_of}
 use Rattle.adf_blocks.specs.Forms.{Clause, first_cause}
 use Rattle.adf_check.specs.Checks.{fault}
 use Rattle.adf_check.specs.Volumes.{Volume, counts_of}
@@ -34,7 +37,7 @@ if_some_weaker None f p = tt
 if_some_weaker (Some x) f p = f x p
 
 -- a front part of the line of an accepted image
-pub accepted_part : (image line : List ℕ) (v : Volume) (o o' : Option (List ℕ)) → v.image ≡ image → FitsEmpty image v.volume → line ≡ ok_line (counts_of v) → AppendsPart o o' line → IsPart check image o o'
+pub accepted_part : (image line : List ℕ) (v : Volume) (o o' : Option (List ℕ)) → v.image ≡ image → Fits image (tree_of v.volume) (layout_of v.volume) → line ≡ ok_line (counts_of v) → AppendsPart o o' line → IsPart check image o o'
 accepted_part image line v o o' same fits e part = (0, line, [], inl (v, same, fits, refl, e, refl), part)
 
 -- what is told of a fault answers the refused image
@@ -61,6 +64,10 @@ answers_other r image bytes o o' f NoMemory (inr h) = inr (h.0, h.1, h.2, f h.0 
 too_large : (size : ℕ) → 52020224 < size → is_whole size ≡ false
 too_large size h = grind (arith, nat_tests)
 
+-- a size that is not whole is none
+not_size : (image : List ℕ) → is_whole (length image) ≡ false → IsSize image → ⊥
+not_size image h size = grind (arith, nat_tests, size.0, size.1)
+
 first_fails : (test : Bool) (c : Cause) (cs : List Clause) → test ≡ false → first_cause ((test, c) ∷ cs) ≡ Some c
 first_fails true c cs h = let bad : true ≡ false = h in absurd cc
 first_fails false c cs h = refl
@@ -70,7 +77,7 @@ bad_size image h = first_fails (is_whole (length image)) BadSize (drop 1 (start_
 
 -- a refusal of the front of a long image is one of the whole
 long_check : (image bytes : List ℕ) → is_whole (length image) ≡ false → is_whole (length bytes) ≡ false → (s : ℕ) (out err : List ℕ) → Answer check image s out err → Answer check bytes s out err
-long_check image bytes small large s out err (inl (v, same, fits, status, output, errors)) = let bad : false ≡ true = sym small ∙ fits.size in absurd cc
+long_check image bytes small large s out err (inl (v, same, fits, status, output, errors)) = absurd (not_size image small fits.boots.0)
 long_check image bytes small large s out err (inr (f, refusal, status, output, errors)) =
     let is_size : f ≡ fault 0 BadSize = refusal.start BadSize (bad_size image small) in
     inr (

@@ -6,7 +6,8 @@ use Rattle.adf_tree.specs.Tree.{Tree}
 use Rattle.adf_blocks.specs.Causes.{cause_text}
 use Rattle.adf_blocks.specs.declared.cause.Cause.{Cause}
 use Rattle.adf_blocks.specs.declared.cause.Cause.TheVariants.{NoMemory}
-use Rattle.adf_blocks.specs.EmptyVolume.{FitsEmpty, start_form}
+use Rattle.adf_volume.specs.Fits.{Fits}
+use Rattle.adf_check.specs.EmptyVolume.{layout_of, start_form, tree_of}
 use Rattle.adf_blocks.specs.Forms.{first_cause}
 use Rattle.adf_volume.specs.Laid.{volume}
 use Rattle.adf_volume.specs.Plan.{blocks_needed}
@@ -33,7 +34,7 @@ pub record IsRefusal (image : List ℕ) (f : Fault) : Type 0 where
 
 -- `check` at status 0 tells the numbers of a volume that the image is the image of, at status 1 a fault
 abbrev pub Accepts : List ℕ → ℕ → List ℕ → List ℕ → Type 0
-Accepts input status output errors = (v : Volume) × (v.image ≡ input) × FitsEmpty input v.volume × (status ≡ 0) × (output ≡ ok_line (counts_of v)) × (errors ≡ [])
+Accepts input status output errors = (v : Volume) × (v.image ≡ input) × Fits input (tree_of v.volume) (layout_of v.volume) × (status ≡ 0) × (output ≡ ok_line (counts_of v)) × (errors ≡ [])
 
 abbrev pub Refuses : List ℕ → ℕ → List ℕ → List ℕ → Type 0
 Refuses input status output errors = (f : Fault) × IsRefusal input f × (status ≡ 1) × (output ≡ fault_line f) × (errors ≡ [])
