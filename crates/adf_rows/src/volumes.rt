@@ -145,9 +145,7 @@ fn unread_bytes(rt: HostRuntime) -> Result<(), Fail> {
     set_bytes(&mut image, 880, 432, b"\x04Work");
     set_word(&mut image, 880, 105, 8035);
     seal(&mut image, 880, 5);
-    for i in 56..128usize {
-        set_word(&mut image, 881, i, 0xFFFF_FFFF);
-    }
+    set_bytes(&mut image, 881, 224, &[0xFF; 288]);
     seal(&mut image, 881, 0);
     let volume = check(alloc, &image)?;
     assert_eq!(rt; volume.label().bytes(), b"Work".as_slice());
