@@ -13,7 +13,7 @@ use adf_volume::Owner;
 use std::marker::Model;
 
 /// The numbers of a volume.
-#[derive(Clone, Copy, Drop)]
+#[derive(Clone, Copy, Debug, PartialEq, Eq)]
 pub struct Counts {
     pub kind: Kind,
     /// All blocks, the two boot blocks among them.

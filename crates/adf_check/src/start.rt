@@ -12,7 +12,7 @@ use adf_fields::{BLOCK_LEN, Block};
 use adf_tree::Kind;
 
 /// What the size and the first four bytes of an image tell.
-#[derive(Clone, Copy, Drop)]
+#[derive(Clone, Copy, Debug, PartialEq, Eq)]
 pub struct Start {
     pub blocks: u32,
     pub kind: Kind,

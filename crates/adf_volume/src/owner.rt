@@ -5,7 +5,7 @@ use adf_tree::Node;
 /// The part of a volume that a block belongs to.
 ///
 /// Pages and bitmap extension blocks are numbered from 0, a file's extension blocks and data blocks from 1.
-#[derive(Clone, Copy, Drop)]
+#[derive(Clone, Copy, Debug, PartialEq, Eq)]
 pub enum Owner {
     /// A block from 2 on that no part has.
     Free,
