@@ -49,7 +49,7 @@ last_slice (x ∷ xs) ys c (suc a) u e = last_slice xs ys c a (omega arith) e
 
 -- extension blocks
 module _ (image : List ℕ) where
-  exts_split : (w : List (Role × ℕ)) (m : ℕ) → exts_before w (suc m) ≡ exts_before w m + length (exts_in w m)
+  pub exts_split : (w : List (Role × ℕ)) (m : ℕ) → exts_before w (suc m) ≡ exts_before w m + length (exts_in w m)
   exts_split [] m = refl
   exts_split (x ∷ w) m = more x.0 (exts_split w m)
     where
@@ -74,7 +74,7 @@ module _ (image : List ℕ) where
       more (Data n k) ih = ih
 
   -- no part of a file, no block in its list
-  no_exts : (w : List (Role × ℕ)) (n : ℕ) → ((k b : ℕ) → Has w (Ext n k) b → ⊥) → exts_in w n ≡ []
+  pub no_exts : (w : List (Role × ℕ)) (n : ℕ) → ((k b : ℕ) → Has w (Ext n k) b → ⊥) → exts_in w n ≡ []
   no_exts [] n h = refl
   no_exts (x ∷ w) n h = more x.0 refl (no_exts w n (λ k b y. h k b (inr y)))
     where
@@ -134,7 +134,7 @@ module _ (image : List ℕ) where
 
 -- data blocks
 module _ (image : List ℕ) where
-  datas_split : (w : List (Role × ℕ)) (m : ℕ) → datas_before w (suc m) ≡ datas_before w m + length (datas_in w m)
+  pub datas_split : (w : List (Role × ℕ)) (m : ℕ) → datas_before w (suc m) ≡ datas_before w m + length (datas_in w m)
   datas_split [] m = refl
   datas_split (x ∷ w) m = more x.0 (datas_split w m)
     where
@@ -159,7 +159,7 @@ module _ (image : List ℕ) where
       more (Data n k) ih = here n ih
 
   -- no part of a file, no block in its list
-  no_datas : (w : List (Role × ℕ)) (n : ℕ) → ((k b : ℕ) → Has w (Data n k) b → ⊥) → datas_in w n ≡ []
+  pub no_datas : (w : List (Role × ℕ)) (n : ℕ) → ((k b : ℕ) → Has w (Data n k) b → ⊥) → datas_in w n ≡ []
   no_datas [] n h = refl
   no_datas (x ∷ w) n h = more x.0 refl (no_datas w n (λ k b y. h k b (inr y)))
     where

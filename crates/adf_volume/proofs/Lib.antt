@@ -44,3 +44,4 @@ pub mod LaidFiles
 pub mod LaidEntries
 pub mod LaidFits
 pub mod LaidOrder
+pub mod Counts
