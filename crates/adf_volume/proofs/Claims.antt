@@ -128,6 +128,7 @@ tells_more image store w r b f l t lo hi h = record {
   lists = rows_more store.rows w t.lists r b f;
   exts = ap (push_any_ext r b) t.exts;
   datas = ap (push_any_data r b) t.datas;
+  used = ap suc t.used;
   starts = (λ m x a.
       let u : m < length store.starts = at_below store.starts m x a in
       let y = t.starts m x a in
@@ -175,6 +176,7 @@ enter_node image store n st = record {
     lists = st.tells.lists;
     exts = st.tells.exts;
     datas = st.tells.datas;
+    used = st.tells.used;
     starts = (λ m x a. elim (at_snoc store.starts (record { exts = length store.exts; datas = length store.datas }) m x a) [
       | inl y ↦ st.tells.starts m x y
       | inr y ↦

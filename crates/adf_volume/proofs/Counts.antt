@@ -1,12 +1,12 @@
 -- A walk is as long as the list of what its layout owns.
-use Rattle.std.proofs.Common.{◌≡◌, ℕ, zero, suc, List, [], ◌∷◌, ◌++◌, ◌+◌, ◌<◌, ◌≤◌, length, refl, sym, ap, subst, ◌∙◌, arith, Bool, true, false, cond, length-append}
+use Rattle.std.proofs.Common.{◌≡◌, ℕ, zero, suc, List, [], ◌∷◌, ◌++◌, ◌+◌, ◌<◌, ◌≤◌, length, refl, ap, ◌∙◌, arith, false, cond, length-append}
 use Rattle.std.specs.Prelude.{nat_lt}
 use Rattle.std.proofs.lemmas.Bool.Decides.{nat_tests}
 use Rattle.adf_volume.specs.declared.owner.Owner.{Owner}
 use Rattle.adf_volume.specs.declared.owner.Owner.TheVariants.{Page as APage, MapExt as AMapExt, Ext as AnExt, Data as AData}
 use Rattle.adf_volume.specs.Lists.{numbered}
 use Rattle.adf_volume.specs.Layout.{Place, owned_from, owned}
-use Rattle.adf_volume.specs.Walk.{Role, Has, heads, Asks, IsWalk}
+use Rattle.adf_volume.specs.Walk.{Role, Has, heads, IsWalk}
 use Rattle.adf_volume.specs.Walk.Role.{Root, Page, MapExt, Head, Ext, Data}
 use Rattle.adf_volume.specs.Walk.IsWalk.{start, step}
 use Rattle.adf_volume.specs.Made.{pages_in, map_exts_in, exts_in, datas_in, places_in, place_in, layout_in}

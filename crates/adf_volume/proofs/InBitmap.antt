@@ -133,7 +133,7 @@ fits_alone image store b sound e st =
 
 -- what is kept when the root alone was read
 abbrev pub first_store : List Owner → Store
-first_store owners = record { owners = owners; rows = []; starts = []; exts = []; datas = [] }
+first_store owners = record { owners = owners; rows = []; starts = []; exts = []; datas = []; used = 1 }
 
 pub beginning : (image : List ℕ) (owners : List Owner) → length owners ≡ blocks image → ((b : ℕ) → b < 2 → owner_at owners b ≡ Boot) → owner_at owners (root_of image) ≡ TheRoot →
     ((b : ℕ) → 2 ≤ b → b < blocks image → b ≢ root_of image → owner_at owners b ≡ Free) → IsBeforePage image (first_store owners) 0 (root_of image)
@@ -161,6 +161,7 @@ beginning image owners size boot root rest = record {
     };
     exts = refl;
     datas = refl;
+    used = refl;
     starts = (λ m x a. absurd a);
   };
   started = refl;

@@ -17,6 +17,7 @@ use Rattle.adf_volume.proofs.Made.{entries_length, has_ext, ext_has, has_data, d
 use Rattle.adf_volume.proofs.Sound.{head_is, entry_is}
 use Rattle.adf_volume.proofs.OwnedIn.{owned_has, is_owned}
 use Rattle.adf_volume.proofs.InRows.{node_here}
+use Rattle.adf_volume.proofs.Counts.{walk_length}
 use Rattle.adf_volume.proofs.Flat.{exts_stored, datas_stored}
 
 is_free : (o : Owner) → (o ≡ Free) ⊎ (o ≢ Free)
@@ -79,4 +80,4 @@ module _ (image : List ℕ) (store : Store) (st : TellsFit image store) where
   }
 
   pub keeps : Keeps image store (tree_in image st.walk) (layout_in st.walk)
-  keeps = record { fits = st.fits; only = st.only; owners = owners_fit; rows = rows_fit; starts = starts_fit }
+  keeps = record { fits = st.fits; only = st.only; owners = owners_fit; rows = rows_fit; starts = starts_fit; used = st.tells.used ∙ sym (walk_length image st.walk st.is_walk) }

@@ -37,3 +37,4 @@ pub record Keeps (image : List ℕ) (store : Store) (t : Tree) (l : Layout) : Ty
   pub owners : OwnersFit image l store.owners
   pub rows : RowsFit image t l store.rows
   pub starts : StartsFit l store
+  pub used : store.used ≡ length (owned image l)

@@ -19,13 +19,14 @@ pub record Start : Type 0 where
   pub exts : ℕ
   pub datas : ℕ
 
--- the rows are of nodes 1, 2, .., the starts of nodes 0, 1, ..
+-- the rows are of nodes 1, 2, .., the starts of nodes 0, 1, ..; so many blocks have an owner
 pub record Store : Type 0 where
   pub owners : List Owner
   pub rows : List Row
   pub starts : List Start
   pub exts : List ℕ
   pub datas : List ℕ
+  pub used : ℕ
 
 -- the owner of block b
 abbrev pub owner_at : List Owner → ℕ → Owner
@@ -63,6 +64,7 @@ stored store r b = record {
   starts = store.starts;
   exts = push_any_ext r b store.exts;
   datas = push_any_data r b store.datas;
+  used = suc store.used;
 }
 
 -- what is kept when the next node is begun
@@ -123,4 +125,5 @@ pub record Tells (image : List ℕ) (store : Store) (w : List (Role × ℕ)) : T
   pub lists : Rows store.rows w
   pub exts : store.exts ≡ all_exts w
   pub datas : store.datas ≡ all_datas w
+  pub used : store.used ≡ length w
   pub starts : (m : ℕ) (x : Start) → At store.starts m x → (x.exts ≡ exts_before w m) × (x.datas ≡ datas_before w m)
