@@ -45,3 +45,4 @@ pub mod LaidEntries
 pub mod LaidFits
 pub mod LaidOrder
 pub mod Counts
+pub mod Looks
