@@ -33,6 +33,8 @@ pub mod Blocks
 pub mod Given
 pub mod Planned
 pub mod Tiny
+pub mod Strolls
+pub mod Lost
 pub mod Lays
 pub mod Bits
 pub mod Links

@@ -1,8 +1,5 @@
 -- Fits holds of a small image, and is refuted of another.
-use Rattle.std.proofs.Common.{◌≡◌, ℕ, zero, suc, inl, inr, ◌+◌, ◌-◌, ◌/◌, ◌%◌, ◌<◌, ◌≤◌, length, refl, sym, ap, subst, ◌∙◌, arith, Bool, true, false}
-use Rattle.std.specs.Prelude.{◌==◌, ◌&&◌}
-use Rattle.std.proofs.lemmas.Bool.{eqb-true}
-use native.Mathlib.Decide.{ℕ_discrete}
+use Rattle.std.proofs.Common.{◌≡◌, ℕ, zero, suc, inl, inr, ◌+◌, ◌-◌, ◌/◌, ◌%◌, ◌<◌, ◌≤◌, length, refl, sym, ap, subst, ◌∙◌, arith}
 use Rattle.adf_fields.specs.Words.{block, word, words}
 use Rattle.adf_tree.specs.declared.entry.Entry.{Entry}
 use Rattle.adf_tree.specs.Tree.{Tree, IsDir}
@@ -14,26 +11,12 @@ use Rattle.adf_volume.specs.Demands.{AllHold, boot_demands, root_demands, page_d
 use Rattle.adf_volume.specs.Layout.{Layout, EntryAt, at_node, owned}
 use Rattle.adf_volume.specs.Fits.{Fits, IsFree}
 use Rattle.adf_volume.specs.Samples.{tiny, tiny_root, tiny_tree, tiny_layout, tiny_freed}
+use Rattle.adf_volume.proofs.Strolls.{zero_at}
 use Rattle.adf_volume.proofs.Lists.{at_some, in_left, in_numbered}
 use Rattle.adf_volume.specs.declared.owner.Owner.TheVariants.{Page}
 
-all_zero : (ℕ → ℕ) → ℕ → Bool
-all_zero f zero = true
-all_zero f (suc n) = (f n == 0) && all_zero f n
-
-both : (a b : Bool) → (a && b) ≡ true → (a ≡ true) × (b ≡ true)
-both true b h = (refl, h)
-both false b h = absurd (let z : false ≡ true = h in cc)
-
-zero_at : (f : ℕ → ℕ) (n k : ℕ) → all_zero f n ≡ true → k < n → f k ≡ 0
-unfolding all_zero
-zero_at f zero k h l = absurd (omega arith)
-zero_at f (suc n) k h l =
-    let x = both (f n == 0) (all_zero f n) h in
-    elim (ℕ_discrete k n) [ yes e ↦ ap f e ∙ eqb-true (f n) 0 x.0 | no e ↦ zero_at f n k x.1 (omega arith) ]
-
 slots_zero : (s : ℕ) → s < 72 → word_in tiny 2 (6 + s) ≡ 0
-unfolding tiny tiny_root block word all_zero
+unfolding tiny tiny_root block word
 slots_zero s l = zero_at (λ s. word_in tiny 2 (6 + s)) 72 s refl l
 
 page_at : (k b : ℕ) → At tiny_layout.pages k b → (k ≡ 0) × (3 ≡ b)

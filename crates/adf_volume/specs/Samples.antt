@@ -1,5 +1,7 @@
 -- Small images, to try the definitions on.
 use Rattle.std.specs.Prelude.{ℕ, List, [], ◌∷◌, ◌++◌, replicate}
+use Rattle.std.specs.List.{flat_map}
+use Rattle.adf_fields.specs.Words.{with_word}
 use Rattle.adf_fields.specs.declared.dates.Stamp.{Stamp}
 use Rattle.adf_tree.specs.declared.entry.Kind.TheVariants.{Ffs}
 use Rattle.adf_tree.specs.Tree.{Tree}
@@ -30,3 +32,17 @@ tiny_layout = record { pages = 3 ∷ []; map_exts = []; places = [] }
 -- the same with a page that tells block 3, which is the page's own, as free
 unfoldable pub tiny_freed : List ℕ
 tiny_freed = (0x44 ∷ 0x4F ∷ 0x53 ∷ 1 ∷ []) ++ (replicate 1020 0 ++ (tiny_root ++ ((0xFF ∷ 0xFF ∷ 0xFF ∷ 0xFE ∷ []) ++ ((0 ∷ 0 ∷ 0 ∷ 2 ∷ []) ++ replicate 504 0))))
+
+-- a block of zeros but for these words, each behind its number
+abbrev pub block_with : List (ℕ × ℕ) → List ℕ
+block_with [] = replicate 512 0
+block_with (x ∷ xs) = with_word (block_with xs) x.0 x.1
+
+-- an empty FFS volume of 6 blocks: the root is block 3, and its page, block 4, tells block 2 as free and block 5 as in use
+unfoldable pub lost : List ℕ
+lost = flat_map block_with (
+    ((0, 0x444F5301) ∷ []) ∷ [] ∷ []
+    ∷ ((0, 2) ∷ (3, 0x48) ∷ (5, 0xFFFFFFB2) ∷ (78, 0xFFFFFFFF) ∷ (79, 4) ∷ (127, 1) ∷ [])
+    ∷ ((0, 0xFFFFFFFF) ∷ (1, 1) ∷ [])
+    ∷ [] ∷ []
+    )

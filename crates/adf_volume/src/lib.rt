@@ -12,4 +12,4 @@ pub use crate::laws::{
     planned_blocks, told_form, what_is_kept_tells, what_is_told_fits,
 };
 pub use crate::owner::Owner;
-pub use crate::samples::{freed_page_fits_nothing, tiny_volume_fits};
+pub use crate::samples::{freed_page_fits_nothing, lost_block_is_first_fault, tiny_volume_fits};

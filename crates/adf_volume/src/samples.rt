@@ -3,7 +3,9 @@
 ghost use Rattle.adf_tree.specs.Tree.{Tree};
 ghost use Rattle.adf_volume.specs.Layout.{Layout};
 ghost use Rattle.adf_volume.specs.Fits.{Fits};
-ghost use Rattle.adf_volume.specs.Samples.{tiny, tiny_freed, tiny_layout, tiny_tree};
+ghost use Rattle.adf_blocks.specs.declared.cause.Cause.TheVariants.{LostBlock};
+ghost use Rattle.adf_volume.specs.Walk.{FirstFault};
+ghost use Rattle.adf_volume.specs.Samples.{lost, tiny, tiny_freed, tiny_layout, tiny_tree};
 
 /// The empty tree fits an empty volume of 4 blocks.
 pub fn tiny_volume_fits()
@@ -13,4 +15,9 @@ pub fn tiny_volume_fits()
 /// Nothing fits it where its page tells its own block as free.
 pub fn freed_page_fits_nothing()
     ensures { (t : Tree) (l : Layout) → Fits tiny_freed t l → ⊥ }
+{}
+
+/// The first fault of an empty volume whose page tells a free block as in use is that block.
+pub fn lost_block_is_first_fault()
+    ensures { FirstFault lost 5 LostBlock }
 {}
