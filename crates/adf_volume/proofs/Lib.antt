@@ -34,7 +34,8 @@ pub mod Given
 pub mod Planned
 pub mod Tiny
 pub mod Strolls
-pub mod Lost
+pub mod EmptyLost
+pub mod FileLost
 pub mod Lays
 pub mod Bits
 pub mod Links

@@ -5,7 +5,7 @@ ghost use Rattle.adf_volume.specs.Layout.{Layout};
 ghost use Rattle.adf_volume.specs.Fits.{Fits};
 ghost use Rattle.adf_blocks.specs.declared.cause.Cause.TheVariants.{LostBlock};
 ghost use Rattle.adf_volume.specs.Walk.{FirstFault};
-ghost use Rattle.adf_volume.specs.Samples.{lost, tiny, tiny_freed, tiny_layout, tiny_tree};
+ghost use Rattle.adf_volume.specs.Samples.{empty_lost, file_lost, tiny, tiny_freed, tiny_layout, tiny_tree};
 
 /// The empty tree fits an empty volume of 4 blocks.
 pub fn tiny_volume_fits()
@@ -17,7 +17,8 @@ pub fn freed_page_fits_nothing()
     ensures { (t : Tree) (l : Layout) → Fits tiny_freed t l → ⊥ }
 {}
 
-/// The first fault of an empty volume whose page tells a free block as in use is that block.
+/// The first fault of a volume whose page tells a block without an owner as in use is that block: of an empty one, and of one with a file.
 pub fn lost_block_is_first_fault()
-    ensures { FirstFault lost 5 LostBlock }
+    ensures empty { FirstFault empty_lost 5 LostBlock }
+    ensures file { FirstFault file_lost 12 LostBlock }
 {}

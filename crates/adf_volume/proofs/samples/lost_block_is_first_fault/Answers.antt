@@ -1,5 +1,6 @@
-use Rattle.adf_volume.proofs.Lost.{lost_first}
+use Rattle.adf_volume.proofs.EmptyLost.{empty_first}
+use Rattle.adf_volume.proofs.FileLost.{file_first}
 use Rattle.adf_volume.proofs.samples.lost_block_is_first_fault.Goals as goal
 
 pub returns : goal.returns
-returns c = lost_first
+returns c = record { empty = empty_first; file = file_first }
