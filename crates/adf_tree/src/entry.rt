@@ -2,7 +2,8 @@
 
 ghost use Rattle.std.specs.Prelude.{◌≡◌};
 
-use crate::texts::{Comment, Name};
+use crate::comment::Comment;
+use crate::name::Name;
 use adf_fields::Stamp;
 use std::marker::Model;
 

@@ -1,24 +1,28 @@
 //! Names, paths and trees of Amiga volumes.
 #![tactic(auto)]
 
+mod comment;
 mod entry;
 mod escapes;
+mod label;
 mod laws;
 mod lookup;
+mod name;
 mod path_texts;
 #[cfg(test)]
 mod tests;
-mod texts;
 mod tree;
 mod walk_order;
 
+pub use crate::comment::Comment;
 pub use crate::entry::{Body, Bytes, Entry, Kind, Meta, Node, Stamps};
 pub use crate::escapes::spellings_decide;
+pub use crate::label::Label;
 pub use crate::laws::{
     case_keeps_paths, case_keeps_slots, children_are_found, entries_stand_in_one_chain,
     paths_are_found, trees_grow_in_order,
 };
+pub use crate::name::Name;
 pub use crate::path_texts::{PathFault, path_texts_decide, read_path, write_path};
-pub use crate::texts::{Comment, Label, Name};
 pub use crate::tree::{AddFault, Tree};
 pub use adf_fields::{slot, upper};

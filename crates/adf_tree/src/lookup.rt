@@ -6,7 +6,7 @@ ghost use Rattle.std.specs.List.Sorted.{IsNonDecreasingBy};
 ghost use Rattle.adf_tree.specs.Tree.{child, directory_from, entry, find, is_child, is_dir, is_dir_body, rank, room_at};
 
 use crate::entry::{Body, Entry, Node};
-use crate::texts::Name;
+use crate::name::Name;
 use crate::tree::AddFault;
 use crate::walk_order::{place_of, start_of};
 use adf_fields::slot;

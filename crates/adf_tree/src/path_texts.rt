@@ -7,7 +7,7 @@ ghost use Rattle.adf_tree.specs.Escapes.{escaped};
 ghost use Rattle.adf_tree.specs.PathTexts.{parts, path_text, with_name, IsName, IsPathText, PathTextsDecide};
 
 use crate::escapes::{push_escaped, read_escaped};
-use crate::texts::Name;
+use crate::name::Name;
 use adf_fields::NoMemory;
 use std::alloc::{AllocError, Global};
 

@@ -6,8 +6,9 @@ ghost use Rattle.adf_tree.specs.Tree.{entry, find, new_entry, room_for, with_ent
 ghost use Rattle.adf_tree.specs.Paths.{AddsOne};
 
 use crate::entry::{Body, Entry, Kind, Meta, Node, Stamps};
+use crate::label::Label;
 use crate::lookup::{entry, find, room_for};
-use crate::texts::{Label, Name};
+use crate::name::Name;
 use crate::walk_order::insert_entry;
 use adf_fields::NoMemory;
 use std::alloc::Global;

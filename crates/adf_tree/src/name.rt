@@ -1,0 +1,93 @@
+// The name of an entry.
+
+ghost use Rattle.std.specs.Prelude.{◌≡◌, ◌↔◌, IsSome, IfSome, true};
+ghost use Rattle.std.specs.List.{list_all};
+ghost use Rattle.std.specs.Str.{bytes_eq};
+ghost use Rattle.adf_tree.specs.Texts.{is_name, is_name_byte, uppers};
+
+use adf_fields::upper;
+use arrayvec::ArrayVec;
+use std::marker::Model;
+
+/// The name of an entry: 1 to 30 bytes, with no `/` and no `:`.
+#[derive(Drop)]
+pub struct Name {
+    text: ArrayVec<u8, 30>,
+}
+
+impl Model for Name {
+    ghost use Rattle.std.specs.Prelude.{List, ℕ, true, ◌≡◌};
+    ghost use Rattle.adf_tree.specs.Texts.{is_name};
+
+    ghost Value = { List ℕ };
+
+    ghost view = { λ n. n.text.items };
+
+    ghost invariant = { λ n. is_name n.text.items ≡ true };
+}
+
+// Whether no byte is `:` or `/`.
+fn are_name_bytes(bytes: &[u8]) -> bool
+    ensures { result ≡ list_all is_name_byte bytes.now }
+{
+    bytes.iter().all(|c| *c != b':' && *c != b'/')
+}
+
+impl Name {
+    /// Whether these bytes are a name.
+    pub fn is_name(bytes: &[u8]) -> bool
+        ensures { result ≡ is_name bytes.now }
+    {
+        1 <= bytes.len() && bytes.len() <= 30 && are_name_bytes(bytes)
+    }
+
+    /// The name with these bytes, where they are a name.
+    pub fn new(bytes: &[u8]) -> Option<Name>
+        ensures allowed { IsSome result ↔ (is_name bytes.now ≡ true) }
+        ensures bytes { IfSome result (λ n. n ≡ bytes.now) }
+    {
+        if !Name::is_name(bytes) {
+            return None;
+        }
+        let text = ArrayVec::try_from(bytes).ok()?;
+        Some(Name { text })
+    }
+
+    /// The same name once more.
+    pub fn copy(&self) -> Name
+        ensures { result ≡ self.now }
+    {
+        Name::new(self.bytes()).unwrap()
+    }
+
+    /// Whether the names are equal without the case of `a` to `z`.
+    pub fn same(&self, other: &Name) -> bool
+        ensures { result ≡ bytes_eq (uppers self.now) (uppers other.now) }
+    {
+        are_same(self.bytes(), other.bytes())
+    }
+
+    /// The bytes of the name.
+    pub fn bytes(&self) -> &[u8]
+        ensures bytes { result.now ≡ self.now }
+        ensures allowed { is_name result.now ≡ true }
+    {
+        self.text.as_slice()
+    }
+}
+
+#[tactic(auto, using(crate::proofs::Same::same_yes, crate::proofs::Same::same_no, crate::proofs::Same::same_short))]
+// Whether two texts are equal without the case of `a` to `z`.
+fn are_same(a: &[u8], b: &[u8]) -> bool
+    ensures { result ≡ bytes_eq (uppers a.now) (uppers b.now) }
+{
+    if a.len() != b.len() {
+        return false;
+    }
+    for i in 0..a.len() {
+        if upper(a[i]) != upper(b[i]) {
+            return false;
+        }
+    }
+    true
+}
