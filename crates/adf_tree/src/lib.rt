@@ -5,6 +5,7 @@ mod comment;
 mod entry;
 mod escapes;
 mod label;
+mod last_chain;
 mod laws;
 mod lookup;
 mod name;

@@ -1,11 +1,13 @@
 // Look-up: the entry of a name, and where paths lead.
 
 ghost use Rattle.std.specs.Prelude.{◌≡◌};
-ghost use Rattle.std.specs.Option.{option_copied};
+ghost use Rattle.std.specs.Option.{is_some, option_copied};
 ghost use Rattle.std.specs.List.Sorted.{IsNonDecreasingBy};
+ghost use Rattle.adf_tree.specs.LastChain.{IsOf};
 ghost use Rattle.adf_tree.specs.Tree.{child, directory_from, entry, find, is_child, is_dir, is_dir_body, rank, room_at};
 
 use crate::entry::{Body, Entry, Node};
+use crate::last_chain::LastChain;
 use crate::name::Name;
 use crate::tree::AddFault;
 use crate::walk_order::{place_of, start_of};
@@ -102,14 +104,32 @@ fn directory(entries: &[Entry], path: &[Name]) -> Result<Node, AddFault>
     Ok(node)
 }
 
+// Whether an entry has this parent and this name: known with no scan in the last chain.
+fn is_taken(entries: &[Entry], chain: &LastChain, parent: Node, name: &Name) -> bool
+    requires order { IsNonDecreasingBy rank entries.now }
+    requires names { IsOf chain.now entries.now }
+    ensures { result ≡ is_some (child entries.now parent name.now) }
+{
+    if chain.knows(parent, slot(name.bytes())) {
+        return chain.has(name);
+    }
+    child(entries, parent, name).is_some()
+}
+
 /// The directory that the path leads to, where nothing in it has this name.
-pub fn room_for(entries: &[Entry], path: &[Name], name: &Name) -> Result<Node, AddFault>
-    requires { IsNonDecreasingBy rank entries.now }
+pub fn room_for(
+    entries: &[Entry],
+    chain: &LastChain,
+    path: &[Name],
+    name: &Name,
+) -> Result<Node, AddFault>
+    requires order { IsNonDecreasingBy rank entries.now }
+    requires names { IsOf chain.now entries.now }
     ensures { result ≡ room_at entries.now name.now (directory_from entries.now 0 path.now) }
 {
     let parent = directory(entries, path)?;
-    match child(entries, parent, name) {
-        None => Ok(parent),
-        Some(_) => Err(AddFault::Exists),
+    if is_taken(entries, chain, parent, name) {
+        return Err(AddFault::Exists);
     }
+    Ok(parent)
 }

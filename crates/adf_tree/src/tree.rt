@@ -7,9 +7,9 @@ ghost use Rattle.adf_tree.specs.Paths.{AddsOne};
 
 use crate::entry::{Body, Entry, Kind, Meta, Node, Stamps};
 use crate::label::Label;
+use crate::last_chain::{LastChain, add_entry};
 use crate::lookup::{entry, find, room_for};
 use crate::name::Name;
-use crate::walk_order::insert_entry;
 use adf_fields::NoMemory;
 use std::alloc::Global;
 use std::marker::Model;
@@ -21,17 +21,19 @@ pub struct Tree {
     label: Label,
     stamps: Stamps,
     entries: Vec<Entry>,
+    last_chain: LastChain,
 }
 
 impl Model for Tree {
     ghost use Rattle.adf_tree.specs.Tree as specs;
     ghost use Rattle.adf_tree.specs.Tree.{IsTree};
+    ghost use Rattle.adf_tree.specs.LastChain.{IsOf};
 
     ghost Value = { specs.Tree };
 
     ghost view = { λ t. record { kind = t.kind; label = t.label; stamps = t.stamps; entries = t.entries.items } };
 
-    ghost invariant = { λ t. IsTree t.entries.items };
+    ghost invariant = { λ t. IsTree t.entries.items × IsOf t.last_chain t.entries.items };
 }
 
 /// Why an entry is not added.
@@ -59,6 +61,7 @@ impl Tree {
             label,
             stamps,
             entries: Vec::new(alloc),
+            last_chain: LastChain::new(alloc),
         }
     }
 
@@ -110,9 +113,10 @@ impl Tree {
         }
         let last = path.len() - 1;
         let name = path[last].copy();
-        let parent = room_for(&self.entries, &path[..last], &name)?;
-        insert_entry(
+        let parent = room_for(&self.entries, &self.last_chain, &path[..last], &name)?;
+        add_entry(
             &mut self.entries,
+            &mut self.last_chain,
             Entry {
                 parent,
                 name,
@@ -129,6 +133,7 @@ impl Tree {
         requires last { IsLast self.old.entries entry }
         ensures { self.new ≡ if is_ok result then with_last self.old entry else self.old }
     {
+        self.last_chain.forget();
         match self.entries.push(entry) {
             Ok(()) => Ok(()),
             Err(_) => Err(NoMemory),

@@ -1,0 +1,144 @@
+-- The set of the names of a tree's last chain.
+use Rattle.std.proofs.Common.{◌≡◌, ℕ, ◌+◌, ◌-◌, List, [], ◌∷◌, ◌++◌, length, take, drop, map, get_or, Bool, true, false, cond, Option, Some, None, Result, Ok, Err, inl, inr, arith, nat_lt, ◌==◌, ◌&&◌, ◌||◌, sym, refl, ◌∙◌, ap}
+use Rattle.std.specs.List.{list_any}
+use Rattle.std.specs.List.Sorted.{IsPartitionPoint}
+use Rattle.std.specs.Option.{is_some}
+use Rattle.std.specs.Result.{is_err, OnOk}
+use Rattle.std.specs.Ordering.{nat_cmp, is_eq}
+use Rattle.std.specs.declared.cmp.Ordering.{Ordering}
+use Rattle.std.specs.declared.cmp.Ordering.TheVariants.{Less, Equal, Greater}
+use Rattle.std.specs.Cmp.Lexicographic.{slice_cmp}
+use Rattle.std.specs.Str.{bytes_eq}
+use Rattle.std.specs.BTreeSet.{BTreeSet, Updates}
+use Rattle.std.proofs.lemmas.Bool.{cases_Bool, both_ways, and_parts, eq-eqb, eqb-true}
+use Rattle.std.proofs.lemmas.Cmp.{tied_itself, nat_list_cmp_total}
+use Rattle.std.proofs.lemmas.List.{take_all, drop_all}
+use Rattle.std.proofs.lemmas.Bool.Decides.{nat_tests}
+use Rattle.std.proofs.lemmas.List.Sums.{position_or_len_is}
+use Rattle.std.proofs.lemmas.List.Folds.{list_any-append, list_any_at, list_any_none}
+use Rattle.std.proofs.lemmas.Map.Lookups.{exact_bytes}
+use Rattle.std.proofs.lemmas.Slice.Eq.{bytes_eq-Decides}
+use Rattle.arrayvec.specs.ArrayVec.{ArrayVec}
+use Rattle.adf_fields.specs.Hash.{slot_of}
+use Rattle.adf_tree.specs.declared.entry.Entry.{Entry}
+use Rattle.adf_tree.specs.declared.last_chain.LastChain.{LastChain}
+use Rattle.adf_tree.specs.Texts.{uppers}
+use Rattle.adf_tree.specs.Tree.{place, rank, rank_of, renumbered, added, is_child, child}
+use Rattle.adf_tree.specs.LastChain.{by_bytes, has, knows, IsOf, Puts}
+use Rattle.adf_tree.proofs.Children.{child_not_before}
+use Rattle.adf_tree.proofs.Found.{found_is}
+use Rattle.adf_tree.proofs.Rooms.{none_is}
+
+-- bytes are equal where they compare so
+equal_is : (o : Ordering) → is_eq o ≡ true → o ≡ Equal
+equal_is Less h = cc
+equal_is Equal h = refl
+equal_is Greater h = cc
+
+compared : (x y : List ℕ) → is_eq (slice_cmp nat_cmp x y) ≡ bytes_eq x y
+compared x y =
+    elim (cases_Bool (bytes_eq x y)) [
+      | inl t ↦
+          let same : x ≡ y = (bytes_eq-Decides x y).0 t in
+          ap is_eq (ap (slice_cmp nat_cmp x) (sym same) ∙ tied_itself nat_list_cmp_total x) ∙ sym t
+      | inr f ↦
+          elim (cases_Bool (is_eq (slice_cmp nat_cmp x y))) [
+            | inl t ↦ absurd (both_ways (bytes_eq x y) f ((bytes_eq-Decides x y).1 (exact_bytes x y (equal_is (slice_cmp nat_cmp x y) t))))
+            | inr g ↦ g ∙ sym f
+          ]
+    ]
+
+cond_or : (a b : Bool) → cond a true b ≡ (a || b)
+cond_or true b = refl
+cond_or false b = refl
+
+-- what is said of an Ok
+pub at_ok : {X Y P : Type 0} (r : Result X Y) → is_err r ≡ false → OnOk r P → P
+at_ok (Ok x) h p = p
+at_ok (Err y) h p = cc
+
+-- a set with one name more
+pub has_more : (old new : BTreeSet (ArrayVec ℕ)) (k : ArrayVec ℕ) (x : List ℕ) → Updates by_bytes old new k true → has new x ≡ (bytes_eq k.items x || has old x)
+has_more old new k x up =
+    up.0 (record { items = x }) ∙ (cond_or (is_eq (slice_cmp nat_cmp k.items x)) (has old x) ∙ ap (λ b. b || has old x) (compared k.items x))
+
+-- a child is found where some entry is one
+any_of : (es : List Entry) (p : ℕ) (name : List ℕ) (m : ℕ) → child es p name ≡ Some m → list_any (is_child p name) es ≡ true
+any_of [] p name m h = cc
+any_of (e ∷ es) p name m h =
+    let found = found_is (e ∷ es) p name m e h in
+    list_any_at (is_child p name) (e ∷ es) (m - 1) e (omega (arith, found.0, found.1)) found.2
+
+any_is : (es : List Entry) (p : ℕ) (name : List ℕ) (o : Option ℕ) → child es p name ≡ o → list_any (is_child p name) es ≡ is_some o
+any_is es p name None h = list_any_none (is_child p name) es (λ k d lt. none_is es p name k d h lt)
+any_is es p name (Some m) h = any_of es p name m h
+
+pub any_child : (es : List Entry) (p : ℕ) (name : List ℕ) → list_any (is_child p name) es ≡ is_some (child es p name)
+any_child es p name = any_is es p name (child es p name) refl
+
+-- nothing is known
+pub forgotten : (c : LastChain) (es : List Entry) → c.is_known ≡ false → IsOf c es
+forgotten c es h = record { names = λ name t s. cc }
+
+less_not : (a b : ℕ) → nat_lt a b ≡ true → nat_lt b a ≡ false
+less_not a b h = grind (arith, nat_tests)
+
+-- past all of lesser pairs
+pub place_past : (es : List Entry) (r from : ℕ) → IsPartitionPoint (λ e. nat_lt (rank e) r ≡ true) (λ e. nat_lt (rank e) r ≡ false) es from → from ≡ length es → place es r ≡ length es
+place_past [] r from parted all = refl
+place_past (e ∷ es) r from parted all =
+    position_or_len_is (λ x. nat_lt r (rank x)) (e ∷ es) (length (e ∷ es)) e (omega arith)
+    (λ k lt. less_not (rank (get_or (e ∷ es) k e)) r (parted.0 k e (omega arith) (omega arith)))
+    (λ lt. absurd (omega arith))
+
+-- a chain that begins
+pub begun : (c : LastChain) (es : List Entry) (parent s from : ℕ) → c.parent ≡ parent → c.slot ≡ s → ((x : List ℕ) → has c.names x ≡ false) → IsPartitionPoint (λ e. nat_lt (rank e) (rank_of parent s) ≡ true) (λ e. nat_lt (rank e) (rank_of parent s) ≡ false) es from → from ≡ length es → IsOf c es
+begun c es parent s from p q none parted all = record {
+  names = λ name t h.
+      none (uppers name)
+      ∙ sym
+      (ap (λ v. list_any (is_child v name) es) p
+      ∙ list_any_none (is_child parent name) es (λ k d lt. child_not_before es parent name s from (sym q ∙ sym h) parted k d (omega arith)));
+}
+
+or_swap : (a b : Bool) → (a || b) ≡ (b || (a || false))
+or_swap true true = refl
+or_swap true false = refl
+or_swap false true = refl
+or_swap false false = refl
+
+added_end : (es : List Entry) (e : Entry) → place es (rank e) ≡ length es → added es e ≡ es ++ e ∷ []
+added_end es e at =
+    ap (λ i. take i es ++ e ∷ map (renumbered (i + 1)) (drop i es)) at
+    ∙ (ap (λ xs. xs ++ e ∷ map (renumbered (length es + 1)) (drop (length es) es)) (take_all (length es) es (omega arith))
+    ∙ ap (λ xs. es ++ e ∷ map (renumbered (length es + 1)) xs) (drop_all (length es) es (omega arith)))
+
+child_by_name : (e : Entry) (p : ℕ) (name : List ℕ) → e.parent ≡ p → is_child p name e ≡ bytes_eq (uppers e.name) (uppers name)
+child_by_name e p name h = ap (λ b. b && bytes_eq (uppers e.name) (uppers name)) (eq-eqb e.parent p h)
+
+-- one entry more at the end of the chain
+pub one_more : (old new : LastChain) (es : List Entry) (e : Entry) (bytes : List ℕ) → IsOf old es → Puts old new bytes → bytes ≡ uppers e.name → (old.is_known ≡ true → old.parent ≡ e.parent) → (old.is_known ≡ true → place es (rank e) ≡ length es) → IsOf new (added es e)
+one_more old new es e bytes of puts is parent at = record {
+  names = λ name t h.
+      let known : old.is_known ≡ true = puts.was_known t in
+      let b : Bool = bytes_eq (uppers e.name) (uppers name) in
+      let l : Bool = list_any (is_child old.parent name) es in
+      let left : has new.names (uppers name) ≡ (b || l) =
+      puts.names (uppers name) t
+      ∙ (ap (λ x. bytes_eq x (uppers name) || has old.names (uppers name)) is
+      ∙ ap (λ x. b || x) (of.names name known (h ∙ puts.slot))) in
+      let right : list_any (is_child new.parent name) (added es e) ≡ (l || (b || false)) =
+      ap (λ p. list_any (is_child p name) (added es e)) puts.parent
+      ∙ (ap (list_any (is_child old.parent name)) (added_end es e (at known))
+      ∙ (list_any-append (is_child old.parent name) es (e ∷ [])
+      ∙ ap (λ x. l || (x || false)) (child_by_name e old.parent name (sym (parent known))))) in
+      left ∙ (or_swap b l ∙ sym right);
+}
+
+-- what is known tells whether there is a child
+pub known_child : (c : LastChain) (es : List Entry) (p s : ℕ) (name : List ℕ) → IsOf c es → s ≡ slot_of name → knows c p s ≡ true → has c.names (uppers name) ≡ is_some (child es p name)
+known_child c es p s name of same h =
+    let both = and_parts (c.is_known && (c.parent == p)) (c.slot == s) h in
+    let two = and_parts c.is_known (c.parent == p) both.0 in
+    of.names name two.0 (sym same ∙ sym (eqb-true c.slot s both.1))
+    ∙ (any_child es c.parent name ∙ ap (λ q. is_some (child es q name)) (eqb-true c.parent p two.1))

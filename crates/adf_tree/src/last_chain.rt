@@ -1,0 +1,130 @@
+// The names of the last chain of a tree, as a set: so an entry at its end is added with no scan.
+
+ghost use Rattle.std.specs.Prelude.{◌≡◌, ◌<◌, ◌≤◌, ℕ, List, length, true, false, is_ok, if◌then◌else◌, IfErr};
+ghost use Rattle.std.specs.List.Sorted.{IsNonDecreasingBy};
+ghost use Rattle.adf_tree.specs.Texts.{uppers};
+ghost use Rattle.adf_tree.specs.Tree.{added, place, rank, rank_of, IsTree};
+ghost use Rattle.adf_tree.specs.LastChain.{has, knows, IsOf, Puts};
+
+use crate::entry::{Entry, Node};
+use crate::name::Name;
+use crate::tree::AddFault;
+use crate::walk_order::{insert_entry, place_of, start_of};
+use adf_fields::{slot, upper};
+use arrayvec::ArrayVec;
+use std::alloc::Global;
+use std::collections::BTreeSet;
+
+/// The names, in upper case, of the entries of one parent and slot, where they are known.
+#[derive(Drop)]
+pub struct LastChain {
+    is_known: bool,
+    parent: Node,
+    slot: u8,
+    names: BTreeSet<ArrayVec<u8, 30>>,
+}
+
+// The name without the case of `a` to `z`.
+fn raised(name: &Name) -> ArrayVec<u8, 30>
+    ensures { result.items ≡ uppers name.now }
+{
+    let bytes = name.bytes();
+    let mut text = ArrayVec::new();
+    for c in bytes {
+        text.push(upper(*c));
+    }
+    text
+}
+
+impl LastChain {
+    /// No chain is known.
+    pub fn new(alloc: Global) -> LastChain
+        ensures { result.is_known ≡ false }
+    {
+        LastChain {
+            is_known: false,
+            parent: Node(0),
+            slot: 0,
+            names: BTreeSet::new(alloc),
+        }
+    }
+
+    /// Whether the names of this parent and slot are known.
+    pub fn knows(&self, parent: Node, slot: u8) -> bool
+        ensures { result ≡ knows self.now parent slot }
+    {
+        self.is_known && self.parent.0 == parent.0 && self.slot == slot
+    }
+
+    /// Whether the name is among those that are known, whatever the case.
+    pub fn has(&self, name: &Name) -> bool
+        ensures { result ≡ has self.now.names (uppers name.now) }
+    {
+        self.names.contains(&raised(name))
+    }
+
+    /// Forgets the names.
+    pub fn forget(&mut self)
+        ensures { self.new.is_known ≡ false }
+    {
+        self.is_known = false;
+        self.names.clear();
+    }
+
+    // Begins a chain with no name.
+    fn start(&mut self, parent: Node, slot: u8)
+        ensures parent { self.new.parent ≡ parent }
+        ensures slot { self.new.slot ≡ slot }
+        ensures none { (x : List ℕ) → has self.new.names x ≡ false }
+    {
+        self.names.clear();
+        self.is_known = true;
+        self.parent = parent;
+        self.slot = slot;
+    }
+
+    // Takes one name more; forgets them all where memory is refused.
+    fn put(&mut self, name: ArrayVec<u8, 30>)
+        ensures { Puts self.old self.new name.items }
+    {
+        if self.names.insert(name).is_err() {
+            self.is_known = false;
+        }
+    }
+
+    // Makes ready for an entry of this parent and slot: what is known then are the names of the last chain.
+    fn prepare(&mut self, entries: &[Entry], parent: Node, slot: u8)
+        requires slot { slot < 72 }
+        requires order { IsNonDecreasingBy rank entries.now }
+        requires names { IsOf self.old entries.now }
+        ensures names { IsOf self.new entries.now }
+        ensures parent { self.new.is_known ≡ true → self.new.parent ≡ parent }
+        ensures slot { self.new.is_known ≡ true → self.new.slot ≡ slot }
+        ensures last { self.new.is_known ≡ true → place entries.now (rank_of parent slot) ≡ length entries.now }
+    {
+        if start_of(entries, parent, slot) == entries.len() {
+            self.start(parent, slot);
+        } else if place_of(entries, parent, slot) < entries.len() || !self.knows(parent, slot) {
+            self.forget();
+        }
+    }
+}
+
+/// Adds an entry after all of the same or a lesser pair.
+pub fn add_entry(
+    entries: &mut Vec<Entry>,
+    chain: &mut LastChain,
+    entry: Entry,
+) -> Result<(), AddFault>
+    requires tree { IsTree entries.old.items }
+    requires names { IsOf chain.old entries.old.items }
+    ensures entries { entries.new.items ≡ if is_ok result then added entries.old.items entry else entries.old.items }
+    ensures refused { IfErr result (λ f. f ≡ AddFault.NoMemory) }
+    ensures names { IsOf chain.new entries.new.items }
+{
+    let name = raised(&entry.name);
+    chain.prepare(entries, entry.parent, slot(entry.name.bytes()));
+    insert_entry(entries, entry)?;
+    chain.put(name);
+    Ok(())
+}
