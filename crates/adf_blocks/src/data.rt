@@ -74,7 +74,7 @@ fn data_bytes(d: &DataOut<'_>) -> [u8; 512]
     block
 }
 
-/// Writes an OFS data block over all of block `b` of an image.
+/// Writes an OFS data block over all of block `b` of an image. Its fields are such as a data block is read back with.
 #[tactic(auto, using(crate::proofs::DataLaws::written_data_form))]
 pub fn write_data(image: &mut [u8], b: u32, d: &DataOut<'_>)
     requires whole { b * 512 + 512 ≤ length image.old }
@@ -82,6 +82,7 @@ pub fn write_data(image: &mut [u8], b: u32, d: &DataOut<'_>)
     ensures exact { image.new ≡ with_block image.old b (data_block (data_fields d.now)) }
     ensures form { let held = length d.now.bytes.now in
         first_cause (data_form d.now.head d.now.number held d.now.next (block image.new b)) ≡ None }
+    ensures fits { FitsData (data_fields d.now) }
 {
     put_block(image, b, &data_bytes(d));
 }

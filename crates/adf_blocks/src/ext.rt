@@ -98,13 +98,15 @@ fn ext_bytes(e: &ExtOut<'_>) -> [u8; 512]
     block
 }
 
-/// Writes an extension block over all of block `b` of an image.
+/// Writes an extension block over all of block `b` of an image. Its fields are such as an extension block is read back
+/// with.
 #[tactic(auto, using(crate::proofs::ExtLaws::written_ext_form))]
 pub fn write_ext(image: &mut [u8], b: u32, e: &ExtOut<'_>)
     requires whole { b * 512 + 512 ≤ length image.old }
     requires table { length e.now.table.now ≤ 72 }
     ensures exact { image.new ≡ with_block image.old b (ext_block (ext_fields e.now)) }
     ensures form { first_cause (ext_form e.now.own e.now.head (block image.new b)) ≡ None }
+    ensures fits { FitsExt (ext_fields e.now) }
 {
     put_block(image, b, &ext_bytes(e));
 }

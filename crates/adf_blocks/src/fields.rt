@@ -2,7 +2,7 @@
 
 ghost use Rattle.std.specs.Prelude.{◌≡◌, ◌≤◌, ◌<◌, ◌+◌, ◌*◌, length};
 ghost use Rattle.adf_fields.specs.Words.{with_bytes};
-ghost use Rattle.adf_blocks.specs.Fields.{stamp, text};
+ghost use Rattle.adf_blocks.specs.Fields.{FitsStamp, stamp, text};
 ghost use Rattle.adf_blocks.specs.Forms.{stamp_at};
 
 use adf_fields::{Block, Stamp, put_bytes, put_words};
@@ -22,7 +22,8 @@ pub fn stamp_in(b: &Block<'_>, i: usize) -> Stamp
 // Puts a date into three words of a block, from word `i` on.
 pub fn put_stamp(block: &mut [u8], i: usize, s: Stamp)
     requires { 4 * i + 12 ≤ length block.old }
-    ensures { block.new ≡ with_bytes block.old (4 * i) (stamp s) }
+    ensures exact { block.new ≡ with_bytes block.old (4 * i) (stamp s) }
+    ensures fits { FitsStamp s }
 {
     put_words(block, i, &[s.days, s.mins, s.ticks]);
 }

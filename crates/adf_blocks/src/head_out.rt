@@ -117,15 +117,17 @@ fn head_bytes(h: &HeadOut<'_, '_, '_>) -> [u8; 512]
     requires { FitsTable (body_fields h.now.body) }
     ensures exact { result ≡ head_block (head_fields h.now) }
     ensures fits { FitsHead (head_fields h.now) }
+    ensures meta { FitsMeta h.now.meta.now }
+    ensures words { FitsBodyWords (body_fields h.now.body) }
 {
-    let (own, parent) = (h.own, h.parent);
+    let (own, parent, protection) = (h.own, h.parent, h.meta.protect);
     let mut block = [0u8; 512];
     put_word(&mut block, TYPE, T_SHORT);
     put_word(&mut block, OWN_KEY, own);
     put_word(&mut block, POINTER_COUNT, count(&h.body));
     put_word(&mut block, FIRST_DATA, first(&h.body));
     put_table(&mut block, &h.body);
-    put_word(&mut block, PROTECTION, h.meta.protect);
+    put_word(&mut block, PROTECTION, protection);
     put_word(&mut block, SIZE, size(&h.body));
     put_text(&mut block, COMMENT, h.meta.comment.bytes());
     put_stamp(&mut block, DATE, h.meta.stamp);
@@ -138,7 +140,8 @@ fn head_bytes(h: &HeadOut<'_, '_, '_>) -> [u8; 512]
     block
 }
 
-/// Writes the header of a directory or a file over all of block `b` of an image.
+/// Writes the header of a directory or a file over all of block `b` of an image. Its fields are such as a header is
+/// read back with.
 #[tactic(auto, using(crate::proofs::HeadLaws::written_head_form))]
 pub fn write_head(image: &mut [u8], b: u32, h: &HeadOut<'_, '_, '_>)
     requires whole { b * 512 + 512 ≤ length image.old }
@@ -146,6 +149,9 @@ pub fn write_head(image: &mut [u8], b: u32, h: &HeadOut<'_, '_, '_>)
     ensures exact { image.new ≡ with_block image.old b (head_block (head_fields h.now)) }
     ensures form { (kind : Kind) → let slot = slot_of h.now.name.now in
         first_cause (head_form kind h.now.own h.now.parent slot (block image.new b)) ≡ None }
+    ensures fits { FitsHead (head_fields h.now) }
+    ensures meta { FitsMeta h.now.meta.now }
+    ensures words { FitsBodyWords (body_fields h.now.body) }
 {
     put_block(image, b, &head_bytes(h));
 }

@@ -30,6 +30,7 @@ fn root_bytes(r: &RootOut<'_, '_>) -> [u8; 512]
     requires { length r.now.pages.now ≤ 25 }
     ensures exact { result ≡ root_block (root_fields r.now) }
     ensures fits { FitsRoot (root_fields r.now) }
+    ensures stamps { FitsStamps r.now.stamps }
 {
     let mut block = [0u8; 512];
     put_word(&mut block, TYPE, T_SHORT);
@@ -46,13 +47,15 @@ fn root_bytes(r: &RootOut<'_, '_>) -> [u8; 512]
     block
 }
 
-/// Writes the root of a volume over all of block `b` of an image.
+/// Writes the root of a volume over all of block `b` of an image. Its fields are such as a root is read back with.
 #[tactic(auto, using(crate::proofs::RootLaws::written_root_form))]
 pub fn write_root(image: &mut [u8], b: u32, r: &RootOut<'_, '_>)
     requires whole { b * 512 + 512 ≤ length image.old }
     requires pages { length r.now.pages.now ≤ 25 }
     ensures exact { image.new ≡ with_block image.old b (root_block (root_fields r.now)) }
     ensures form { first_cause (root_form (block image.new b)) ≡ None }
+    ensures fits { FitsRoot (root_fields r.now) }
+    ensures stamps { FitsStamps r.now.stamps }
 {
     put_block(image, b, &root_bytes(r));
 }

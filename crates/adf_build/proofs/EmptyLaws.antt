@@ -1,14 +1,17 @@
 -- A volume without entries: what is reserved, used and laid.
-use Rattle.std.proofs.Common.{◌≡◌, ◌≤◌, ◌+◌, ◌-◌, ◌*◌, ◌/◌, ◌%◌, ◌++◌, ℕ, List, [], ◌∷◌, refl, sym, ap, subst, ◌∙◌, arith, true, false, length, cond}
-use Rattle.std.specs.Prelude.{nat_le, nat_lt, ◌&&◌, ◌||◌, replicate}
+use Rattle.std.proofs.Common.{◌≡◌, ◌≤◌, ◌+◌, ◌-◌, ◌*◌, ◌/◌, ℕ, List, [], refl, sym, ap, subst, ◌∙◌, arith, rules, true, length}
+use Rattle.std.specs.Prelude.{nat_le, ◌&&◌, replicate}
 use Rattle.std.proofs.lemmas.Bool.Decides.{nat_tests}
-use Rattle.adf_tree.specs.Tree.{Tree}
+use Rattle.adf_tree.specs.Tree.{Tree, IsTree}
+use Rattle.adf_blocks.specs.RootBlock.{FitsStamps}
 use Rattle.adf_blocks.specs.Sizes.{blocks, is_allowed, middle, pages_needed}
 use Rattle.adf_volume.specs.Bits.{is_used}
 use Rattle.adf_volume.specs.Image.{map_exts_needed}
-use Rattle.adf_volume.specs.Laid.{IsLaid, parts, volume}
+use Rattle.adf_volume.specs.Fits.{Fits}
+use Rattle.adf_volume.specs.Laid.{IsLaid, IsSound, parts, volume}
 use Rattle.adf_volume.specs.Lay.{lay}
-use Rattle.adf_volume.specs.Plan.{blocks_needed, reserved}
+use Rattle.adf_volume.specs.Plan.{blocks_needed, planned, reserved}
+use Rattle.adf_volume.proofs.LaidFits.{laid_fits}
 use Rattle.adf_build.specs.Building.{HasRoom, empty_parts}
 
 few_pages : (n : ℕ) → is_allowed n ≡ true → pages_needed n ≤ 25
@@ -44,3 +47,22 @@ empty_is_laid image t n none room len e =
 pub volume_without_entries : (t : Tree) (n : ℕ) → t.entries ≡ [] → lay (replicate (n * 512) 0) (empty_parts n t.kind t.label t.stamps) ≡ volume t n
 unfolding volume
 volume_without_entries t n none = ap (lay (replicate (n * 512) 0)) (sym (parts_without_entries t n none))
+
+no_entries : IsTree []
+no_entries = record { parents = λ i d h. absurd (omega arith); dirs = λ i d h. absurd (omega arith); order = search rules; names = search rules }
+
+sound_without_entries : (t : Tree) → t.entries ≡ [] → length t.label ≤ 30 → FitsStamps t.stamps → IsSound t
+sound_without_entries t none label stamps = record {
+  tree = subst IsTree (sym none) no_entries;
+  label = label;
+  stamps = stamps;
+  names = rw none (search rules);
+  comments = rw none (search rules);
+  metas = rw none (search rules);
+}
+
+-- what is laid without entries fits the tree
+pub empty_fits : (image : List ℕ) (t : Tree) (n : ℕ) → t.entries ≡ [] → length t.label ≤ 30 → FitsStamps t.stamps → length image ≡ n * 512 → IsLaid image t → Fits image t (planned t n)
+empty_fits image t n none label stamps len laid =
+    let size : blocks image ≡ n = ap (λ l. l / 512) len ∙ omega arith in
+    subst (λ m. Fits image t (planned t m)) size (laid_fits image t (sound_without_entries t none label stamps) laid)

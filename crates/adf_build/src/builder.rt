@@ -1,7 +1,9 @@
 // Building.
 
 ghost use Rattle.std.specs.Prelude.{◌≡◌, ◌*◌, [], IfOk, IfErr, OnOk, vec_len};
+ghost use Rattle.adf_volume.specs.Fits.{Fits};
 ghost use Rattle.adf_volume.specs.Laid.{IsLaid, volume};
+ghost use Rattle.adf_volume.specs.Plan.{planned};
 ghost use Rattle.adf_build.specs.Building.{HasRoom, IsBuildFault};
 
 use crate::counting::need;
@@ -26,6 +28,7 @@ pub enum BuildFault {
 pub fn build(alloc: Global, tree: &Tree, blocks: u32) -> Result<Vec<u8>, BuildFault>
     requires { tree.now.entries ≡ [] }
     ensures laid { IfOk result (λ image. IsLaid image.items tree.now) }
+    ensures fits { IfOk result (λ image. Fits image.items tree.now (planned tree.now blocks)) }
     ensures bytes { IfOk result (λ image. image.items ≡ volume tree.now blocks) }
     ensures len { IfOk result (λ image. vec_len image ≡ blocks * 512) }
     ensures room { OnOk result (HasRoom tree.now blocks) }

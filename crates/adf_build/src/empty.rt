@@ -3,7 +3,7 @@
 ghost use Rattle.std.specs.Prelude.{◌≡◌, ◌≤◌, ◌<◌, ◌+◌, ◌*◌, ◌/◌, [], ◌∷◌, true, length, take};
 ghost use Rattle.adf_fields.specs.Words.{with_block};
 ghost use Rattle.adf_blocks.specs.Fields.{laid};
-ghost use Rattle.adf_blocks.specs.RootBlock.{root_block};
+ghost use Rattle.adf_blocks.specs.RootBlock.{FitsStamps, root_block};
 ghost use Rattle.adf_blocks.specs.Sizes.{is_allowed, pages_needed};
 ghost use Rattle.adf_build.specs.Building.{empty_parts, empty_root};
 ghost use Rattle.adf_volume.specs.Laid.{boot_bytes};
@@ -45,7 +45,9 @@ fn write_empty_root(image: &mut [u8], blocks: u32, pages: &[u32], label: &Label,
     requires whole { length image.old ≡ blocks * 512 }
     requires big { 4 ≤ blocks }
     requires few { length pages.now ≤ 25 }
-    ensures { image.new ≡ with_block image.old (blocks / 2) (root_block (empty_root pages.now label.now stamps)) }
+    ensures exact { image.new ≡ with_block image.old (blocks / 2) (root_block (empty_root pages.now label.now stamps)) }
+    ensures label { length label.now ≤ 30 }
+    ensures stamps { FitsStamps stamps }
 {
     let root = RootOut {
         slots: [0; 72],
@@ -56,11 +58,13 @@ fn write_empty_root(image: &mut [u8], blocks: u32, pages: &[u32], label: &Label,
     write_root(image, blocks / 2, &root);
 }
 
-/// Writes the parts of a volume without entries.
+/// Writes the parts of a volume without entries. Its label and dates are such as a root has room for.
 pub fn write_empty(image: &mut [u8], blocks: u32, kind: Kind, label: &Label, stamps: Stamps)
     requires size { is_allowed blocks ≡ true }
     requires whole { length image.old ≡ blocks * 512 }
-    ensures { image.new ≡ lay image.old (empty_parts blocks kind label.now stamps) }
+    ensures exact { image.new ≡ lay image.old (empty_parts blocks kind label.now stamps) }
+    ensures label { length label.now ≤ 30 }
+    ensures stamps { FitsStamps stamps }
 {
     write_pages(image, blocks);
     let numbers = page_numbers(blocks);
