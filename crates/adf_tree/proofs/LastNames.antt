@@ -24,7 +24,8 @@ use Rattle.adf_tree.specs.declared.entry.Entry.{Entry}
 use Rattle.adf_tree.specs.declared.last_chain.LastChain.{LastChain}
 use Rattle.adf_tree.specs.Texts.{uppers}
 use Rattle.adf_tree.specs.Tree.{place, rank, rank_of, renumbered, added, is_child, child}
-use Rattle.adf_tree.specs.LastChain.{by_bytes, has, knows, IsOf, Puts}
+use Rattle.adf_tree.specs.NameSet.{by_bytes, has}
+use Rattle.adf_tree.specs.LastChain.{knows, IsOf, Puts}
 use Rattle.adf_tree.proofs.Children.{child_not_before}
 use Rattle.adf_tree.proofs.Found.{found_is}
 use Rattle.adf_tree.proofs.Rooms.{none_is}
@@ -124,7 +125,7 @@ one_more old new es e bytes of puts is parent at = record {
       let b : Bool = bytes_eq (uppers e.name) (uppers name) in
       let l : Bool = list_any (is_child old.parent name) es in
       let left : has new.names (uppers name) ≡ (b || l) =
-      puts.names (uppers name) t
+      puts.names t (uppers name)
       ∙ (ap (λ x. bytes_eq x (uppers name) || has old.names (uppers name)) is
       ∙ ap (λ x. b || x) (of.names name known (h ∙ puts.slot))) in
       let right : list_any (is_child new.parent name) (added es e) ≡ (l || (b || false)) =

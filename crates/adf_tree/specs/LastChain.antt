@@ -1,25 +1,12 @@
 -- The names of the last chain of a tree, as a set.
-use Rattle.std.specs.Prelude.{◌≡◌, ℕ, ◌==◌, ◌&&◌, ◌||◌, Bool, List, true}
+use Rattle.std.specs.Prelude.{◌≡◌, ℕ, ◌==◌, ◌&&◌, Bool, List, true}
 use Rattle.std.specs.List.{list_any}
-use Rattle.std.specs.Ordering.{nat_cmp}
-use Rattle.std.specs.declared.cmp.Ordering.{Ordering}
-use Rattle.std.specs.Cmp.Lexicographic.{slice_cmp}
-use Rattle.std.specs.Str.{bytes_eq}
-use Rattle.std.specs.BTreeSet.{BTreeSet, contains}
-use Rattle.arrayvec.specs.ArrayVec.{ArrayVec}
 use Rattle.adf_fields.specs.Hash.{slot_of}
 use Rattle.adf_tree.specs.Texts.{uppers}
+use Rattle.adf_tree.specs.NameSet.{has, HasMore}
 use Rattle.adf_tree.specs.Tree.{is_child}
 use Rattle.adf_tree.specs.declared.entry.Entry.{Entry}
 use Rattle.adf_tree.specs.declared.last_chain.LastChain.{LastChain}
-
--- names in the order of their bytes
-abbrev pub by_bytes : ArrayVec ℕ → ArrayVec ℕ → Ordering
-by_bytes v w = slice_cmp nat_cmp v.items w.items
-
--- whether the set has these bytes
-abbrev pub has : BTreeSet (ArrayVec ℕ) → List ℕ → Bool
-has names bytes = contains by_bytes names (record { items = bytes })
 
 -- whether the names of this pair are known
 abbrev pub knows : LastChain → ℕ → ℕ → Bool
@@ -34,4 +21,4 @@ pub record Puts (old new : LastChain) (bytes : List ℕ) : Type 0 where
   pub was_known : new.is_known ≡ true → old.is_known ≡ true
   pub parent : new.parent ≡ old.parent
   pub slot : new.slot ≡ old.slot
-  pub names : (x : List ℕ) → new.is_known ≡ true → has new.names x ≡ (bytes_eq bytes x || has old.names x)
+  pub names : new.is_known ≡ true → HasMore old.names new.names bytes

@@ -4,16 +4,16 @@ ghost use Rattle.std.specs.Prelude.{◌≡◌, ◌<◌, ◌≤◌, ℕ, List, le
 ghost use Rattle.std.specs.List.Sorted.{IsNonDecreasingBy};
 ghost use Rattle.adf_tree.specs.Texts.{uppers};
 ghost use Rattle.adf_tree.specs.Tree.{added, place, rank, rank_of, IsTree};
-ghost use Rattle.adf_tree.specs.LastChain.{has, knows, IsOf, Puts};
+ghost use Rattle.adf_tree.specs.NameSet.{has};
+ghost use Rattle.adf_tree.specs.LastChain.{knows, IsOf, Puts};
 
 use crate::entry::{Entry, Node};
 use crate::name::Name;
+use crate::name_set::NameSet;
 use crate::tree::AddFault;
 use crate::walk_order::{insert_entry, place_of, start_of};
-use adf_fields::{slot, upper};
-use arrayvec::ArrayVec;
+use adf_fields::slot;
 use std::alloc::Global;
-use std::collections::BTreeSet;
 
 /// The names, in upper case, of the entries of one parent and slot, where they are known.
 #[derive(Drop)]
@@ -21,19 +21,7 @@ pub struct LastChain {
     is_known: bool,
     parent: Node,
     slot: u8,
-    names: BTreeSet<ArrayVec<u8, 30>>,
-}
-
-// The name without the case of `a` to `z`.
-fn raised(name: &Name) -> ArrayVec<u8, 30>
-    ensures { result.items ≡ uppers name.now }
-{
-    let bytes = name.bytes();
-    let mut text = ArrayVec::new();
-    for c in bytes {
-        text.push(upper(*c));
-    }
-    text
+    names: NameSet,
 }
 
 impl LastChain {
@@ -45,7 +33,7 @@ impl LastChain {
             is_known: false,
             parent: Node(0),
             slot: 0,
-            names: BTreeSet::new(alloc),
+            names: NameSet::new(alloc),
         }
     }
 
@@ -60,7 +48,7 @@ impl LastChain {
     pub fn has(&self, name: &Name) -> bool
         ensures { result ≡ has self.now.names (uppers name.now) }
     {
-        self.names.contains(&raised(name))
+        self.names.has(name)
     }
 
     /// Forgets the names.
@@ -84,10 +72,10 @@ impl LastChain {
     }
 
     // Takes one name more; forgets them all where memory is refused.
-    fn put(&mut self, name: ArrayVec<u8, 30>)
-        ensures { Puts self.old self.new name.items }
+    fn put(&mut self, name: &Name)
+        ensures { Puts self.old self.new (uppers name.now) }
     {
-        if self.names.insert(name).is_err() {
+        if self.names.put(name).is_err() {
             self.is_known = false;
         }
     }
@@ -122,9 +110,9 @@ pub fn add_entry(
     ensures refused { IfErr result (λ f. f ≡ AddFault.NoMemory) }
     ensures names { IsOf chain.new entries.new.items }
 {
-    let name = raised(&entry.name);
+    let name = entry.name.copy();
     chain.prepare(entries, entry.parent, slot(entry.name.bytes()));
     insert_entry(entries, entry)?;
-    chain.put(name);
+    chain.put(&name);
     Ok(())
 }

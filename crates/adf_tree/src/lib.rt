@@ -9,6 +9,7 @@ mod last_chain;
 mod laws;
 mod lookup;
 mod name;
+mod name_set;
 mod path_texts;
 #[cfg(test)]
 mod tests;
@@ -24,6 +25,7 @@ pub use crate::laws::{
     paths_are_found, trees_grow_in_order,
 };
 pub use crate::name::Name;
+pub use crate::name_set::NameSet;
 pub use crate::path_texts::{PathFault, path_texts_decide, read_path, write_path};
 pub use crate::tree::{AddFault, Tree};
 pub use adf_fields::{slot, upper};
