@@ -18,7 +18,10 @@ pub use crate::data::{DataOut, read_data, write_data, written_data_are_read};
 pub use crate::ext::{Ext, ExtOut, read_ext, write_ext, written_exts_are_read};
 pub use crate::head::{Head, HeadBody, read_head};
 pub use crate::head_out::{HeadOut, HeadOutBody, write_head, written_heads_are_read};
-pub use crate::layout::{MOST_BLOCKS, PAGE_BITS, ROOT_PAGES};
+pub use crate::layout::{
+    EXTENSION, FIRST_POINTER, FIRST_SLOT, MOST_BLOCKS, PAGE_BITS, ROOT_PAGES, SECONDARY_TYPE, SIZE,
+    ST_DIR,
+};
 pub use crate::page::{Page, place_of, read_page, write_page, written_pages_are_read};
 pub use crate::root::{Root, read_root};
 pub use crate::root_out::{RootOut, write_root, written_roots_are_read};

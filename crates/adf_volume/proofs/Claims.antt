@@ -11,7 +11,9 @@ use Rattle.adf_volume.specs.Parts.{owner_of}
 use Rattle.std.specs.Prelude.{nat_lt}
 use Rattle.std.proofs.Common.{Bool, true, false, cond}
 use Rattle.std.proofs.lemmas.Bool.Decides.{nat_tests}
-use Rattle.adf_volume.specs.Store.{Row, Start, Store, owner_at, push_row, push_any_ext, push_any_data, stored, entered, all_exts, all_datas, ext_before_of, data_before_of, exts_before, datas_before, Owns, Rows, Tells}
+use Rattle.adf_volume.specs.declared.row.Row.{Row}
+use Rattle.adf_volume.specs.declared.row.Start.{Start}
+use Rattle.adf_volume.specs.Store.{Store, owner_at, push_row, push_any_ext, push_any_data, stored, entered, all_exts, all_datas, ext_before_of, data_before_of, exts_before, datas_before, Owns, Rows, Tells}
 use Rattle.adf_volume.specs.Reading.{IsAtNode, IsInNode}
 use Rattle.adf_volume.proofs.Lists.{at_new, at_old, at_below, at_snoc, snoc_length}
 

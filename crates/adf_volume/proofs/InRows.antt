@@ -7,7 +7,8 @@ use Rattle.adf_volume.specs.Demands.{AllHold, boot_demands, root_demands}
 use Rattle.adf_volume.specs.Walk.{Role, Has, heads, DirAt, FileAt, data_count, ext_count, IsWalk, FirstFault}
 use Rattle.adf_volume.specs.Walk.Role.{Root, Head, Data}
 use Rattle.adf_volume.specs.Reading.{IsAtNode, IsInDatas, IsRead}
-use Rattle.adf_volume.specs.Store.{Row, Store, Tells}
+use Rattle.adf_volume.specs.declared.row.Row.{Row}
+use Rattle.adf_volume.specs.Store.{Store, Tells}
 use Rattle.adf_volume.proofs.Told.{head_type}
 use Rattle.adf_volume.proofs.Lists.{at_below, at_some, at_fun}
 use Rattle.adf_volume.proofs.Walks.{numbered, root_in}

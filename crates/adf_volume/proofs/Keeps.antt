@@ -7,7 +7,8 @@ use Rattle.adf_volume.specs.Layout.{exts_of, datas_of}
 use Rattle.adf_volume.specs.Walk.Role.{Ext, Data}
 use Rattle.adf_volume.specs.Parts.{owner_of}
 use Rattle.adf_volume.specs.Made.{tree_in, layout_in, exts_in, datas_in}
-use Rattle.adf_volume.specs.Store.{Row, Store, owner_at, all_exts, all_datas, exts_before, datas_before}
+use Rattle.adf_volume.specs.declared.row.Row.{Row}
+use Rattle.adf_volume.specs.Store.{Store, owner_at, all_exts, all_datas, exts_before, datas_before}
 use Rattle.adf_volume.specs.Reading.{TellsFit}
 use Rattle.adf_volume.specs.Keeps.{OwnersFit, RowsFit, StartsFit, Keeps}
 use Rattle.adf_volume.proofs.Lists.{at_fun, same_list}

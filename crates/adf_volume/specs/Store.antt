@@ -3,21 +3,13 @@ use Rattle.std.specs.Prelude.{◌≡◌, ◌≢◌, ℕ, List, [], ◌∷◌, �
 use Rattle.std.proofs.Common.{suc}
 use Rattle.adf_blocks.specs.Sizes.{blocks}
 use Rattle.adf_volume.specs.declared.owner.Owner.{Owner}
+use Rattle.adf_volume.specs.declared.row.Row.{Row}
+use Rattle.adf_volume.specs.declared.row.Start.{Start}
 use Rattle.adf_volume.specs.declared.owner.Owner.TheVariants.{Free, Boot}
 use Rattle.adf_volume.specs.Lists.{At}
 use Rattle.adf_volume.specs.Walk.{Role, Has, heads}
 use Rattle.adf_volume.specs.Walk.Role.{Root, Page, MapExt, Head, Ext, Data}
 use Rattle.adf_volume.specs.Parts.{owner_of}
-
--- what is kept of a header: its node's parent, and its block
-pub record Row : Type 0 where
-  pub parent : ℕ
-  pub head : ℕ
-
--- where the blocks of a node begin in the lists of extension blocks and of data blocks
-pub record Start : Type 0 where
-  pub exts : ℕ
-  pub datas : ℕ
 
 -- the rows are of nodes 1, 2, .., the starts of nodes 0, 1, ..; so many blocks have an owner
 pub record Store : Type 0 where

@@ -4,6 +4,7 @@
 mod laid;
 mod laws;
 mod owner;
+mod row;
 mod samples;
 
 pub use crate::laid::{laid_bytes, laid_fits, laid_in_order, laid_room, one_laid};
@@ -12,4 +13,5 @@ pub use crate::laws::{
     planned_blocks, told_form, what_is_kept_tells, what_is_told_fits,
 };
 pub use crate::owner::Owner;
+pub use crate::row::{Row, Start};
 pub use crate::samples::{freed_page_fits_nothing, lost_block_is_first_fault, tiny_volume_fits};
