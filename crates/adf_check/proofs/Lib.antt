@@ -1,2 +1,11 @@
-pub mod Tables
-pub mod Whole
+pub mod Faults
+pub mod Steps
+pub mod PageSteps
+pub mod ChainSteps
+pub mod ExtSteps
+pub mod DataSteps
+pub mod NodeSteps
+pub mod BitmapSteps
+pub mod StartSteps
+pub mod Beginning
+pub mod Counting

@@ -1,30 +1,47 @@
 -- What a checked volume stands for.
-use Rattle.std.specs.Prelude.{◌≡◌, ◌-◌, ℕ, List, length}
-use Rattle.adf_check.specs.EmptyVolume.{EmptyVolume, layout_of, part_blocks, tree_of}
-use Rattle.adf_volume.specs.Fits.{Fits}
+use Rattle.std.specs.Prelude.{◌≡◌, ◌-◌, ◌==◌, ℕ, Bool, not, List, length, count_by}
+use Rattle.adf_tree.specs.declared.entry.Entry.{Entry}
+use Rattle.adf_tree.specs.declared.entry.Stamps.{Stamps}
+use Rattle.adf_tree.specs.Tree.{Tree, is_dir_body}
 use Rattle.adf_blocks.specs.Sizes.{blocks}
+use Rattle.adf_volume.specs.declared.row.Row.{Row}
+use Rattle.adf_volume.specs.Image.{DIR, label_of, root_of, stamps_of, word_in}
+use Rattle.adf_volume.specs.Keeps.{Keeps}
+use Rattle.adf_volume.specs.Layout.{Layout, owned}
+use Rattle.adf_volume.specs.Reading.{TellsFit}
+use Rattle.adf_volume.specs.Store.{Store}
 use Rattle.adf_check.specs.declared.checked.Counts.{Counts}
-use Rattle.adf_volume.specs.declared.owner.Owner.{Owner}
-use Rattle.adf_check.specs.Owners.{IsTable}
 
--- an image with what it is the image of
+-- an image with what was read of it
 pub record Volume : Type 0 where
   pub image : List ℕ
-  pub volume : EmptyVolume
+  pub store : Store
+
+-- the volume stands for this tree and layout: they fit its image and no others do, and what was read tells of them
+abbrev pub StandsFor : Volume → Tree → Layout → Type 0
+StandsFor v t l = Keeps v.image v.store t l
+
+-- what holds of every checked volume
+pub record IsChecked (v : Volume) (name : List ℕ) (dates : Stamps) : Type 0 where
+  pub tells : TellsFit v.image v.store
+  pub label : name ≡ label_of v.image (root_of v.image)
+  pub stamps : dates ≡ stamps_of v.image (root_of v.image)
+
+-- whether an entry is a directory
+abbrev pub is_directory : Entry → Bool
+is_directory e = is_dir_body e.body
 
 -- the numbers that are told of a volume: all owned blocks are used, the others but the two boot blocks are free
-abbrev pub counts_of : Volume → Counts
-counts_of v = record {
-  kind = v.volume.kind;
-  blocks = blocks v.image;
-  used = length (part_blocks (blocks v.image) v.volume.pages);
-  free = blocks v.image - 2 - length (part_blocks (blocks v.image) v.volume.pages);
-  dirs = 0;
-  files = 0;
+abbrev pub counts_of : List ℕ → Tree → Layout → Counts
+counts_of image t l = record {
+  kind = t.kind;
+  blocks = blocks image;
+  used = length (owned image l);
+  free = blocks image - 2 - length (owned image l);
+  dirs = count_by is_directory t.entries;
+  files = count_by (λ e. not (is_directory e)) t.entries;
 }
 
--- what holds of every checked volume: the image is its image, and the table tells its owners
-pub record IsChecked (v : Volume) (n : ℕ) (owners : List Owner) : Type 0 where
-  pub fits : Fits v.image (tree_of v.volume) (layout_of v.volume)
-  pub blocks : n ≡ blocks v.image
-  pub table : IsTable n v.volume.pages owners
+-- whether the header at a row's block is that of a directory
+abbrev pub is_dir_at : List ℕ → Row → Bool
+is_dir_at image r = word_in image r.head 127 == DIR

@@ -1,19 +1,25 @@
 // The bitmap against the owners.
 
-ghost use Rattle.std.specs.Prelude.{◌≡◌, ◌≤◌, ◌<◌, ◌-◌, ◌/◌, ◌%◌, ◌↔◌, [], IsTrue, length, ℕ, OnOk, slice_index_or};
-ghost use Rattle.adf_blocks.specs.PageBlock.{IsFreeBit};
-ghost use Rattle.adf_blocks.specs.Sizes.{pages_needed};
-ghost use Rattle.adf_check.specs.Owners.{owner_of};
+ghost use Rattle.std.specs.Prelude.{◌≡◌, ◌≤◌, ◌<◌, ◌+◌, ◌↔◌, IsTrue, length, OnOk, IfErr};
+ghost use Rattle.adf_blocks.specs.Sizes.{blocks, pages_needed};
+ghost use Rattle.adf_volume.specs.Reading.{IsMapped, IsRead, TellsFit};
+ghost use Rattle.adf_volume.specs.Store.{owner_at};
+ghost use Rattle.adf_check.specs.Found.{IsTrueFault, store_of};
+ghost use Rattle.adf_check.specs.Image.{IsBegun};
+ghost use Rattle.adf_check.specs.Pages.{AreListed};
 
 use crate::fault::{Fault, fault_at};
+use crate::found::Found;
+use crate::image::Image;
 use crate::owners::Owners;
-use adf_blocks::{Cause, Page, place_of};
+use crate::pages::Pages;
+use adf_blocks::{Cause, place_of};
 use adf_volume::Owner;
 
 // Whether no part of the volume owns a block.
 fn is_unowned(owners: &Owners, b: u32) -> bool
     requires { b < length owners.now }
-    ensures { IsTrue result ↔ (owner_of owners.now b ≡ Owner.Free) }
+    ensures { IsTrue result ↔ (owner_at owners.now b ≡ Owner.Free) }
 {
     match owners.get(b) {
         Owner::Free => true,
@@ -21,22 +27,39 @@ fn is_unowned(owners: &Owners, b: u32) -> bool
     }
 }
 
-/// Compares the bitmap with the owners by ascending block: `LostBlock` at a block that is in use and has no owner,
-/// `OwnedFree` at one that is owned and marked free.
-pub fn check_bitmap(pages: &[Page<'_>], owners: &Owners) -> Result<(), Fault>
-    requires { length pages.now ≡ pages_needed (length owners.now) }
-    ensures { OnOk result ((b : ℕ) → 2 ≤ b → b < length owners.now → IsFreeBit (slice_index_or pages.now ((b - 2) / 4064) []) ((b - 2) % 4064) ↔ (owner_of owners.now b ≡ Owner.Free)) }
+// Compares the bit of block `b` with its owner.
+fn check_block(image: &Image<'_>, found: &Found, pages: &Pages<'_>, b: u32) -> Result<(), Fault>
+    requires begun { IsBegun image.now }
+    requires inside { b < blocks image.now }
+    requires pages { AreListed image.now pages.now.numbers.items pages.now.pages.items (pages_needed (blocks image.now)) }
+    requires state { IsMapped image.now (store_of found.now) b }
+    ensures state { OnOk result (IsMapped image.now (store_of found.now) (b + 1)) }
+    ensures fault { IfErr result (λ f. IsTrueFault image.now f) }
 {
-    for b in 2..owners.len() {
-        let (page, bit) = place_of(b);
-        let is_free = pages[page as usize].is_free(bit);
-        let is_unowned = is_unowned(owners, b);
-        if is_unowned && !is_free {
-            return Err(fault_at(b, Cause::LostBlock));
+    let (page, bit) = place_of(b);
+    let is_free = pages.pages[page as usize].is_free(bit);
+    if is_unowned(&found.owners, b) {
+        if is_free {
+            Ok(())
+        } else {
+            Err(fault_at(b, Cause::LostBlock))
         }
-        if is_free && !is_unowned {
-            return Err(fault_at(b, Cause::OwnedFree));
-        }
+    } else if is_free {
+        Err(fault_at(b, Cause::OwnedFree))
+    } else {
+        Ok(())
+    }
+}
+
+/// Compares the bitmap with the owners by ascending block.
+pub fn check_bitmap(image: &Image<'_>, found: &Found, pages: &Pages<'_>) -> Result<(), Fault>
+    requires pages { AreListed image.now pages.now.numbers.items pages.now.pages.items (pages_needed (blocks image.now)) }
+    requires state { IsRead image.now (store_of found.now) }
+    ensures fits { OnOk result (TellsFit image.now (store_of found.now)) }
+    ensures fault { IfErr result (λ f. IsTrueFault image.now f) }
+{
+    for b in 2..image.blocks() {
+        check_block(image, found, pages, b)?;
     }
     Ok(())
 }

@@ -1,15 +1,19 @@
 // Volumes that were checked.
 
-ghost use Rattle.std.specs.Prelude.{◌≡◌, ◌<◌, ◌↔◌, length, IsSome, IfSome};
-ghost use Rattle.adf_volume.specs.Fits.{Fits};
-ghost use Rattle.adf_check.specs.EmptyVolume.{layout_of, tree_of};
+ghost use Rattle.std.specs.Prelude.{◌≡◌, ◌≤◌, ◌<◌, ◌↔◌, ℕ, count_by, get_or, length, IsSome, Some};
+ghost use Rattle.adf_tree.specs.Tree.{Tree};
 ghost use Rattle.adf_blocks.specs.Sizes.{blocks};
-ghost use Rattle.adf_check.specs.Owners.{IsOwner};
-ghost use Rattle.adf_check.specs.Volumes.{IsChecked, counts_of};
+ghost use Rattle.adf_volume.specs.declared.owner.Owner.{Owner};
+ghost use Rattle.adf_volume.specs.Layout.{Layout, owned};
+ghost use Rattle.adf_volume.specs.Lists.{In};
+ghost use Rattle.adf_check.specs.Found.{store_of};
+ghost use Rattle.adf_check.specs.Volumes.{IsChecked, StandsFor, counts_of, is_dir_at};
 
-use crate::owners::Owners;
+use crate::found::Found;
+use crate::image::Image;
+use adf_blocks::{SECONDARY_TYPE, ST_DIR};
 use adf_tree::{Kind, Label, Stamps};
-use adf_volume::Owner;
+use adf_volume::{Owner, Row};
 use std::marker::Model;
 
 /// The numbers of a volume.
@@ -29,58 +33,50 @@ pub struct Counts {
 /// A volume that was checked, over its image.
 #[derive(Drop)]
 pub struct Checked<'a> {
-    image: &'a [u8],
-    kind: Kind,
+    image: Image<'a>,
+    found: Found,
     label: Label,
     stamps: Stamps,
-    pages: Vec<u32>,
-    owners: Owners,
 }
 
 impl<'a> Model for Checked<'a> {
-    ghost use Rattle.std.specs.Prelude.{length};
+    ghost use Rattle.adf_check.specs.Found.{store_of};
     ghost use Rattle.adf_check.specs.Volumes.{IsChecked, Volume};
 
     ghost Value = { Volume };
 
-    ghost view = { λ c. record { image = c.image.now; volume = record { kind = c.kind; label = c.label; stamps = c.stamps; pages = c.pages.items } } };
+    ghost view = { λ c. record { image = c.image; store = store_of c.found } };
 
-    ghost invariant = { λ c. IsChecked (record { image = c.image.now; volume = record { kind = c.kind; label = c.label; stamps = c.stamps; pages = c.pages.items } }) (length c.owners) c.owners };
+    ghost invariant = { λ c. IsChecked (record { image = c.image; store = store_of c.found }) c.label c.stamps };
 }
 
 impl<'a> Checked<'a> {
     // What was found of an image.
-    pub(crate) fn new(
-        image: &'a [u8],
-        kind: Kind,
-        label: Label,
-        stamps: Stamps,
-        pages: Vec<u32>,
-        owners: Owners,
-    ) -> Checked<'a>
-        requires { IsChecked (record { image = image.now; volume = record { kind = kind; label = label; stamps = stamps; pages = pages.items } }) (length owners) owners }
-        ensures volume { result ≡ record { image = image.now; volume = record { kind = kind; label = label; stamps = stamps; pages = pages.items } } }
-        ensures fits { Fits image.now (tree_of result.volume) (layout_of result.volume) }
+    pub(crate) fn new(image: Image<'a>, found: Found, label: Label, stamps: Stamps) -> Checked<'a>
+        requires { IsChecked (record { image = image; store = store_of found }) label stamps }
+        ensures { result ≡ record { image = image.entry; store = store_of found } }
     {
         Checked {
             image,
-            kind,
+            found,
             label,
             stamps,
-            pages,
-            owners,
         }
     }
 }
 
 impl Checked<'_> {
-    /// The owner of a block, where there is such a block.
+    /// The owner of a block, where there is such a block: the part that has it, `Boot` for blocks 0 and 1, `Free` where no part
+    /// has it.
     pub fn owner(&self, b: u32) -> Option<Owner>
         ensures some { IsSome result ↔ (b < blocks self.now.image) }
-        ensures owner { IfSome result (λ o. IsOwner (blocks self.now.image) self.now.volume.pages b o) }
+        ensures part { (t : Tree) (l : Layout) (o : Owner) → StandsFor self.now t l → In (owned self.now.image l) (o, b) → result ≡ Some o }
+        ensures boot { b < 2 → result ≡ Some Owner.Boot }
+        ensures free { (t : Tree) (l : Layout) → StandsFor self.now t l → 2 ≤ b → b < blocks self.now.image
+            → ((o : Owner) → In (owned self.now.image l) (o, b) → ⊥) → result ≡ Some Owner.Free }
     {
-        if b < self.owners.len() {
-            Some(self.owners.get(b))
+        if b < self.image.blocks() {
+            Some(self.found.owners.get(b))
         } else {
             None
         }
@@ -88,31 +84,48 @@ impl Checked<'_> {
 
     /// The label.
     pub fn label(&self) -> &Label
-        ensures { result.now ≡ self.now.volume.label }
+        ensures { (t : Tree) (l : Layout) → StandsFor self.now t l → result.now ≡ t.label }
     {
         &self.label
     }
 
     /// The dates of the root, the last change and the creation.
     pub fn stamps(&self) -> Stamps
-        ensures { result ≡ self.now.volume.stamps }
+        ensures { (t : Tree) (l : Layout) → StandsFor self.now t l → result ≡ t.stamps }
     {
         self.stamps
     }
 
     /// The numbers of the volume.
     pub fn counts(&self) -> Counts
-        ensures { result ≡ counts_of self.now }
+        ensures { (t : Tree) (l : Layout) → StandsFor self.now t l → result ≡ counts_of self.now.image t l }
     {
-        let blocks = self.owners.len();
-        let used = 1 + self.pages.len() as u32;
+        let blocks = self.image.blocks();
+        let used = self.found.owners.used();
+        let dirs = count_dirs(&self.image, &self.found.rows);
         Counts {
-            kind: self.kind,
+            kind: self.image.kind(),
             blocks,
             used,
             free: blocks - 2 - used,
-            dirs: 0,
-            files: 0,
+            dirs,
+            files: self.found.rows.len() - dirs,
         }
     }
+}
+
+// The directories among the entries of these rows.
+#[tactic(auto, using(std::proofs::lemmas::List::Sums::count_by_more_yes, std::proofs::lemmas::List::Sums::count_by_more_no))]
+fn count_dirs(image: &Image<'_>, rows: &[Row]) -> usize
+    requires { (i : ℕ) (d : Row) → i < length rows.now → (get_or rows.now i d).head < blocks image.now }
+    ensures exact { result ≡ count_by (is_dir_at image.now) rows.now }
+    ensures within { result ≤ length rows.now }
+{
+    let mut dirs = 0;
+    for row in rows {
+        if image.word(row.head, SECONDARY_TYPE) == ST_DIR {
+            dirs += 1;
+        }
+    }
+    dirs
 }

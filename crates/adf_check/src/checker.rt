@@ -1,65 +1,58 @@
 // The whole check.
 
-ghost use Rattle.std.specs.Prelude.{◌≡◌, None, Some, IfOk, Err};
+ghost use Rattle.std.specs.Prelude.{◌≡◌, ◌≢◌, IfOk, IfErr};
+ghost use Rattle.adf_tree.specs.Tree.{Tree};
 ghost use Rattle.adf_volume.specs.Fits.{Fits};
-ghost use Rattle.adf_volume.specs.Image.{root_of};
-ghost use Rattle.adf_check.specs.EmptyVolume.{layout_of, start_form, tree_of};
-ghost use Rattle.adf_fields.specs.Words.{block};
-ghost use Rattle.adf_blocks.specs.Forms.{first_cause};
-ghost use Rattle.adf_blocks.specs.RootBlock.{root_form};
-ghost use Rattle.adf_blocks.specs.Sizes.{blocks};
-ghost use Rattle.adf_blocks.specs.declared.cause.Cause.{Cause};
-ghost use Rattle.adf_check.specs.Checks.{fault};
+ghost use Rattle.adf_volume.specs.Layout.{Layout};
+ghost use Rattle.adf_volume.specs.Walk.{FirstFault};
+ghost use Rattle.adf_check.specs.Found.{IsTrueFault};
+ghost use Rattle.adf_check.specs.Volumes.{StandsFor};
 
 use crate::bitmap::check_bitmap;
 use crate::checked::Checked;
-use crate::claims::new_table;
 use crate::fault::{Fault, fault_at};
-use crate::pages::{block_in, read_pages};
-use crate::slots::check_slots;
-use crate::start::read_start;
-use adf_blocks::{page_count, read_root};
+use crate::found::Found;
+use crate::nodes::read_nodes;
+use crate::pages::read_pages;
+use crate::start::open;
+use adf_blocks::Cause;
 use std::alloc::Global;
 
-/// Checks an image: the volume that it is the image of, or a fault and the block where it stands.
+/// Checks an image: the volume that it is the image of, or the first fault and the block where it stands.
 ///
 /// The parts are tried in this order: the size and the first four bytes, the root, the bitmap pages by number, the
-/// slots of the root, the bitmap by ascending block. `NoMemory` where a growth was refused; then nothing is said of the
-/// image.
+/// nodes by number (of a directory each slot's chain of headers, of a file its extension blocks, their number and its
+/// data blocks), the bitmap by ascending block. `NoMemory` where a growth was refused; then nothing is said of the image.
 pub fn check<'a>(alloc: Global, image: &'a [u8]) -> Result<Checked<'a>, Fault>
     ensures image { IfOk result (λ v. v.image ≡ image.now) }
-    ensures fits { IfOk result (λ v. Fits image.now (tree_of v.volume) (layout_of v.volume)) }
 
-    // A size, boot bytes or a root that are none of a volume are what is told, whatever else is wrong.
-    ensures start { (c : Cause) → first_cause (start_form image.now) ≡ Some c → result ≡ Err (fault 0 c) }
-    ensures root { first_cause (start_form image.now) ≡ None → (c : Cause) → first_cause (root_form (block image.now (root_of image.now))) ≡ Some c → result ≡ Err (fault (root_of image.now) c) }
+    // One tree and one layout fit the image, and the answer stands for them.
+    ensures fits { IfOk result (λ v. (t : Tree) × (l : Layout) × StandsFor v t l) }
+
+    // A fault is the first one, and nothing fits the image.
+    ensures first { IfErr result (λ f. f.cause ≢ Cause.NoMemory → FirstFault image.now f.block f.cause) }
+    ensures none { IfErr result (λ f. f.cause ≢ Cause.NoMemory → (t : Tree) (l : Layout) → Fits image.now t l → ⊥) }
 {
-    let start = match read_start(image) {
-        Ok(start) => start,
-        Err(cause) => return Err(fault_at(0, cause)),
+    check_all(alloc, image)
+}
+
+// Checks an image part by part.
+fn check_all<'a>(alloc: Global, image: &'a [u8]) -> Result<Checked<'a>, Fault>
+    ensures image { IfOk result (λ v. v.image ≡ image.now) }
+    ensures fits { IfOk result (λ v. (t : Tree) × (l : Layout) × StandsFor v t l) }
+    ensures fault { IfErr result (λ f. IsTrueFault image.now f) }
+{
+    let opened = open(image)?;
+    let Ok(mut found) = Found::begin(alloc, &opened.image) else {
+        return Err(fault_at(0, Cause::NoMemory));
     };
-    let middle = start.blocks / 2;
-    let root = match read_root(block_in(image, middle)) {
-        Ok(root) => root,
-        Err(cause) => return Err(fault_at(middle, cause)),
-    };
-    let mut owners = new_table(alloc, start.blocks)?;
-    let pages = read_pages(
-        alloc,
-        image,
-        &root,
-        middle,
-        &mut owners,
-        page_count(start.blocks),
-    )?;
-    check_slots(&root, middle, &pages.pages, &owners)?;
-    check_bitmap(&pages.pages, &owners)?;
+    let pages = read_pages(alloc, &opened.image, &opened.root, &mut found)?;
+    read_nodes(alloc, &opened.image, &mut found)?;
+    check_bitmap(&opened.image, &found, &pages)?;
     Ok(Checked::new(
-        image,
-        start.kind,
-        root.label(),
-        root.stamps(),
-        pages.numbers,
-        owners,
+        opened.image,
+        found,
+        opened.root.label(),
+        opened.root.stamps(),
     ))
 }

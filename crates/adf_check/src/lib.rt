@@ -2,13 +2,18 @@
 #![tactic(auto)]
 
 mod bitmap;
+mod chains;
 mod checked;
 mod checker;
 mod claims;
+mod datas;
+mod exts;
 mod fault;
+mod found;
+mod image;
+mod nodes;
 mod owners;
 mod pages;
-mod slots;
 mod start;
 
 pub use crate::checked::{Checked, Counts};

@@ -1,7 +1,8 @@
 // Who owns each block of a volume.
 
 ghost use Rattle.std.specs.Prelude.{◌≡◌, ◌≢◌, ◌≤◌, ◌<◌, ◌+◌, ◌-◌, ◌∷◌, ◌++◌, ◌↔◌, [], length, replicate, true, false, IsOk, IfOk, IfErr, OnOk, OnErr, slice_set};
-ghost use Rattle.adf_check.specs.Owners.{is_part, owned_count, owner_of};
+ghost use Rattle.adf_volume.specs.Store.{owner_at};
+ghost use Rattle.adf_check.specs.Owners.{is_part, owned_count};
 
 use adf_blocks::Cause;
 use adf_fields::NoMemory;
@@ -13,19 +14,20 @@ use std::marker::Model;
 #[derive(Drop)]
 pub struct Owners {
     blocks: u32,
+    used: u32,
     owners: Vec<Owner>,
 }
 
 impl Model for Owners {
-    ghost use Rattle.std.specs.Prelude.{◌≡◌, List, take, length, [], ◌∷◌};
+    ghost use Rattle.std.specs.Prelude.{List};
+    ghost use Rattle.adf_check.specs.Owners.{IsTable};
     ghost use Rattle.adf_volume.specs.declared.owner.Owner.{Owner};
-    ghost use Rattle.adf_volume.specs.declared.owner.Owner.TheVariants.{Boot};
 
     ghost Value = { List Owner };
 
     ghost view = { λ t. t.owners.items };
 
-    ghost invariant = { λ t. (take 2 t.owners.items ≡ Boot ∷ Boot ∷ []) × (t.blocks ≡ length t.owners.items) };
+    ghost invariant = { λ t. IsTable t.owners.items t.blocks t.used };
 }
 
 impl Owners {
@@ -39,7 +41,11 @@ impl Owners {
         };
         owners[0] = Owner::Boot;
         owners[1] = Owner::Boot;
-        Ok(Owners { blocks, owners })
+        Ok(Owners {
+            blocks,
+            used: 0,
+            owners,
+        })
     }
 
     /// Makes `o` the owner of a free block; `Taken` where the block has an owner, and then nothing is changed.
@@ -47,7 +53,7 @@ impl Owners {
         requires from { 2 ≤ b }
         requires below { b < length self.old }
         requires part { is_part o ≡ true }
-        ensures free { IsOk result ↔ (owner_of self.old b ≡ Owner.Free) }
+        ensures free { IsOk result ↔ (owner_at self.old b ≡ Owner.Free) }
         ensures ok { OnOk result (self.new ≡ slice_set self.old b o) }
         ensures taken { IfErr result (λ c. c ≡ Cause.Taken) }
         ensures unchanged { OnErr result (self.new ≡ self.old) }
@@ -59,6 +65,7 @@ impl Owners {
         match self.owners[b as usize] {
             Owner::Free => {
                 self.owners[b as usize] = o;
+                self.used += 1;
                 Ok(())
             }
             _ => Err(Cause::Taken),
@@ -72,10 +79,18 @@ impl Owners {
         self.blocks
     }
 
+    /// The number of blocks that parts of the volume own.
+    pub fn used(&self) -> u32
+        ensures used { result ≡ owned_count self.now }
+        ensures bound { result + 2 ≤ length self.now }
+    {
+        self.used
+    }
+
     /// The owner of a block.
     pub fn get(&self, b: u32) -> Owner
         requires { b < length self.now }
-        ensures { result ≡ owner_of self.now b }
+        ensures { result ≡ owner_at self.now b }
     {
         self.owners[b as usize]
     }

@@ -1,21 +1,31 @@
 // The size of an image and its first four bytes.
 
-ghost use Rattle.std.specs.Prelude.{◌≡◌, ◌<◌, ◌≤◌, take, length, slice_index, ◌==◌, ◌&&◌, nat_le};
-ghost use Rattle.adf_volume.specs.Image.{kind_of};
-ghost use Rattle.adf_check.specs.EmptyVolume.{is_whole, start_form};
+ghost use Rattle.std.specs.Prelude.{◌≡◌, ◌≤◌, length, slice_index, ◌==◌, ◌&&◌, nat_le, IfOk, IfErr};
+ghost use Rattle.adf_fields.specs.Words.{block};
+ghost use Rattle.adf_volume.specs.Image.{kind_of, root_of};
+ghost use Rattle.adf_check.specs.Found.{IsTrueFault};
+ghost use Rattle.adf_check.specs.Start.{is_whole, start_form};
 ghost use Rattle.adf_blocks.specs.Forms.{ReadsForm};
 ghost use Rattle.adf_blocks.specs.Sizes.{blocks, is_allowed};
 
-use crate::pages::block_in;
-use adf_blocks::{Cause, MOST_BLOCKS};
+use crate::fault::{Fault, fault_at};
+use crate::image::Image;
+use adf_blocks::{Cause, MOST_BLOCKS, Root, read_root};
 use adf_fields::{BLOCK_LEN, Block};
 use adf_tree::Kind;
 
-/// What the size and the first four bytes of an image tell.
-#[derive(Clone, Copy, Debug, PartialEq, Eq)]
-pub struct Start {
-    pub blocks: u32,
-    pub kind: Kind,
+// What the size and the first four bytes of an image tell.
+#[derive(Drop)]
+struct Start {
+    blocks: u32,
+    kind: Kind,
+}
+
+/// An image that begins as a volume, and its root.
+#[derive(Drop)]
+pub struct Opened<'a> {
+    pub image: Image<'a>,
+    pub root: Root<'a>,
 }
 
 // Whether a volume may have so many bytes.
@@ -24,6 +34,14 @@ fn is_whole_size(size: usize) -> bool
 {
     let blocks = size / BLOCK_LEN;
     size % BLOCK_LEN == 0 && (4 <= blocks && blocks <= MOST_BLOCKS as usize && blocks % 2 == 0)
+}
+
+// Block 0.
+fn boot_block<'a>(image: &'a [u8]) -> Block<'a>
+    requires { 512 ≤ length image.now }
+    ensures { result ≡ block image.now 0 }
+{
+    Block::at(image, 0).unwrap()
 }
 
 // Whether the boot block begins with `DOS` and a type up to 5.
@@ -39,22 +57,22 @@ fn kind_in(image: &[u8]) -> Kind
     requires { 512 ≤ length image.now }
     ensures { result ≡ kind_of image.now }
 {
-    if block_in(image, 0).byte(3) == 0 {
+    if boot_block(image).byte(3) == 0 {
         Kind::Ofs
     } else {
         Kind::Ffs
     }
 }
 
-/// The number of blocks and the kind of a volume; `BadSize`, `NotDos`, `International` or `DirCache` where the size or the first
-/// four bytes are none of such a volume.
-pub fn read_start(image: &[u8]) -> Result<Start, Cause>
+// The number of blocks and the kind of a volume; `BadSize`, `NotDos`, `International` or `DirCache` where the size or the first
+// four bytes are none of such a volume.
+fn read_start(image: &[u8]) -> Result<Start, Cause>
     ensures { ReadsForm (start_form image.now) (λ s. (s.blocks ≡ blocks image.now) × (s.kind ≡ kind_of image.now)) result }
 {
     if !is_whole_size(image.len()) {
         return Err(Cause::BadSize);
     }
-    let boot = block_in(image, 0);
+    let boot = boot_block(image);
     if !is_dos(&boot) {
         return Err(Cause::NotDos);
     }
@@ -68,4 +86,24 @@ pub fn read_start(image: &[u8]) -> Result<Start, Cause>
         blocks: (image.len() / BLOCK_LEN) as u32,
         kind: kind_in(image),
     })
+}
+
+/// Reads the size, the first four bytes and the root of an image.
+pub fn open<'a>(bytes: &'a [u8]) -> Result<Opened<'a>, Fault>
+    ensures image { IfOk result (λ o. o.image ≡ bytes.now) }
+    ensures root { IfOk result (λ o. o.root ≡ block bytes.now (root_of bytes.now)) }
+    ensures fault { IfErr result (λ f. IsTrueFault bytes.now f) }
+{
+    let start = match read_start(bytes) {
+        Ok(start) => start,
+        Err(cause) => return Err(fault_at(0, cause)),
+    };
+    let middle = start.blocks / 2;
+    match read_root(Block::at(bytes, middle).unwrap()) {
+        Ok(root) => Ok(Opened {
+            image: Image::new(bytes, start.kind, start.blocks),
+            root,
+        }),
+        Err(cause) => Err(fault_at(middle, cause)),
+    }
 }

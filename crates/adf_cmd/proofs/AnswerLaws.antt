@@ -1,20 +1,21 @@
 -- From outcomes to answers.
-use Rattle.std.proofs.Common.{◌≡◌, ◌≢◌, ◌<◌, ◌+◌, ◌∙◌, inl, inr, ℕ, Bool, true, false, List, [], ◌∷◌, Option, Some, None, IfSome, Result, Ok, IfOk, refl, sym, ap, subst, arith, length, take, drop, length-take, append-nil}
+use Rattle.std.proofs.Common.{◌≡◌, ◌≢◌, ◌<◌, ◌≤◌, ◌+◌, ◌*◌, ◌∙◌, inl, inr, ℕ, Bool, List, [], Option, Some, None, IfSome, Result, Ok, IfOk, refl, sym, ap, subst, arith, length, take, length-take, append-nil}
 use Rattle.std.specs.Prelude.{string_bytes}
 use Rattle.std.specs.Io.KnownBytes.{Appends}
 use Rattle.std.proofs.lemmas.Bool.{cases_lt}
-use Rattle.std.proofs.lemmas.Bool.Decides.{nat_tests}
 use Rattle.std.proofs.lemmas.List.{take_all}
 use Rattle.adf_tree.specs.Tree.{Tree}
-use Rattle.adf_blocks.specs.declared.cause.Cause.{Cause}
 use Rattle.adf_blocks.specs.declared.cause.Cause.TheVariants.{BadSize, NoMemory as CauseNoMemory}
-use Rattle.adf_blocks.specs.Sizes.{blocks, is_allowed}
+use Rattle.adf_blocks.specs.Sizes.{blocks}
 use Rattle.adf_volume.specs.Demands.{IsSize}
 use Rattle.adf_volume.specs.Fits.{Fits}
-use Rattle.adf_check.specs.EmptyVolume.{is_whole, layout_of, start_form, tree_of}
-use Rattle.adf_blocks.specs.Forms.{Clause, first_cause}
-use Rattle.adf_check.specs.Checks.{fault}
-use Rattle.adf_check.specs.Volumes.{Volume, counts_of}
+use Rattle.adf_volume.specs.Layout.{Layout}
+use Rattle.adf_volume.specs.Walk.{FirstFault}
+use Rattle.adf_volume.specs.Walk.FirstFault.{at_boot}
+use Rattle.adf_volume.proofs.Alone.{one_fault}
+use Rattle.adf_check.specs.Volumes.{counts_of}
+use Rattle.adf_check.specs.declared.checked.Counts.{Counts}
+use Rattle.adf_check.proofs.ExtSteps.{few_blocks}
 use Rattle.adf_check.specs.declared.fault.Fault.{Fault}
 use Rattle.adf_cmd.specs.Answers.{Answer, Answers, IsPart, fault_line}
 use Rattle.adf_cmd.specs.CommandLine.{Asks, Request, build, check}
@@ -37,17 +38,21 @@ if_some_weaker None f p = tt
 if_some_weaker (Some x) f p = f x p
 
 -- a front part of the line of an accepted image
-pub accepted_part : (image line : List ℕ) (v : Volume) (o o' : Option (List ℕ)) → v.image ≡ image → Fits image (tree_of v.volume) (layout_of v.volume) → line ≡ ok_line (counts_of v) → AppendsPart o o' line → IsPart check image o o'
-accepted_part image line v o o' same fits e part = (0, line, [], inl (v, same, fits, refl, e, refl), part)
+pub accepted_part : (image line : List ℕ) (counts : Counts) (o o' : Option (List ℕ)) → ((t : Tree) × (l : Layout) × Fits image t l × (counts ≡ counts_of image t l)) → line ≡ ok_line counts → AppendsPart o o' line → IsPart check image o o'
+accepted_part image line counts o o' (t, l, fits, numbers) e part = (0, line, [], inl (t, l, fits, refl, e ∙ ap ok_line numbers, refl), part)
+
+-- and the whole line
+pub accepted_works : (image line : List ℕ) (counts : Counts) (o o' : Option (List ℕ)) → ((t : Tree) × (l : Layout) × Fits image t l × (counts ≡ counts_of image t l)) → line ≡ ok_line counts → Appends o o' line → Works Done check image o o'
+accepted_works image line counts o o' (t, l, fits, numbers) e whole = (line, inl (t, l, fits, refl, e ∙ ap ok_line numbers, refl), whole)
 
 -- what is told of a fault answers the refused image
-pub refused_works : (w : Outcome) (image : List ℕ) (f : Fault) (o o' : Option (List ℕ)) → f.cause ≢ CauseNoMemory → ((c : Cause) → first_cause (start_form image) ≡ Some c → f ≡ fault 0 c) → TellsFault w f o o' → Works w check image o o'
-refused_works Done image f o o' cause start h = absurd h
-refused_works Told image f o o' cause start h = (fault_line f, inr (f, record { cause = cause; start = start }, refl, refl, refl), h)
-refused_works (Refused line) image f o o' cause start h = absurd h
-refused_works ReadFault image f o o' cause start h = absurd h
-refused_works WriteFault image f o o' cause start h = (1, fault_line f, [], inr (f, record { cause = cause; start = start }, refl, refl, refl), h)
-refused_works NoMemory image f o o' cause start h = inl h
+pub refused_works : (w : Outcome) (image : List ℕ) (f : Fault) (o o' : Option (List ℕ)) → f.cause ≢ CauseNoMemory → (f.cause ≢ CauseNoMemory → FirstFault image f.block f.cause) → TellsFault w f o o' → Works w check image o o'
+refused_works Done image f o o' cause first h = absurd h
+refused_works Told image f o o' cause first h = (fault_line f, inr (f, first cause, refl, refl, refl), h)
+refused_works (Refused line) image f o o' cause first h = absurd h
+refused_works ReadFault image f o o' cause first h = absurd h
+refused_works WriteFault image f o o' cause first h = (1, fault_line f, [], inr (f, first cause, refl, refl, refl), h)
+refused_works NoMemory image f o o' cause first h = inl h
 
 -- the same answers stand for another input
 answers_other : (r : Request) (image bytes : List ℕ) (o o' : Option (List ℕ)) → ((s : ℕ) (out err : List ℕ) → Answer r image s out err → Answer r bytes s out err)
@@ -60,43 +65,27 @@ answers_other r image bytes o o' f WriteFault h = (h.0, h.1, h.2, f h.0 h.1 h.2 
 answers_other r image bytes o o' f NoMemory (inl h) = inl h
 answers_other r image bytes o o' f NoMemory (inr h) = inr (h.0, h.1, h.2, f h.0 h.1 h.2 h.3, h.4)
 
--- a size above that of the largest volume is not allowed
-too_large : (size : ℕ) → 52020224 < size → is_whole size ≡ false
-too_large size h = grind (arith, nat_tests)
+-- a size above that of the largest volume is none
+too_large : (image : List ℕ) → 52020224 < length image → IsSize image → ⊥
+too_large image h size = let few : blocks image ≤ 101602 = few_blocks (blocks image) size.1 in let e : length image ≡ 512 * blocks image = size.0 in omega arith
 
--- a size that is not whole is none
-not_size : (image : List ℕ) → is_whole (length image) ≡ false → IsSize image → ⊥
-not_size image h size = grind (arith, nat_tests, size.0, size.1)
-
-first_fails : (test : Bool) (c : Cause) (cs : List Clause) → test ≡ false → first_cause ((test, c) ∷ cs) ≡ Some c
-first_fails true c cs h = let bad : true ≡ false = h in absurd cc
-first_fails false c cs h = refl
-
-bad_size : (image : List ℕ) → is_whole (length image) ≡ false → first_cause (start_form image) ≡ Some BadSize
-bad_size image h = first_fails (is_whole (length image)) BadSize (drop 1 (start_form image)) h
+bad_size : (image : List ℕ) → 52020224 < length image → FirstFault image 0 BadSize
+bad_size image h = at_boot (inl (too_large image h, refl, refl))
 
 -- a refusal of the front of a long image is one of the whole
-long_check : (image bytes : List ℕ) → is_whole (length image) ≡ false → is_whole (length bytes) ≡ false → (s : ℕ) (out err : List ℕ) → Answer check image s out err → Answer check bytes s out err
-long_check image bytes small large s out err (inl (v, same, fits, status, output, errors)) = absurd (not_size image small fits.boots.0)
-long_check image bytes small large s out err (inr (f, refusal, status, output, errors)) =
-    let is_size : f ≡ fault 0 BadSize = refusal.start BadSize (bad_size image small) in
-    inr (
-      f,
-      record {
-        cause = refusal.cause;
-        start = λ c h. let same : Some BadSize ≡ Some c = sym (bad_size bytes large) ∙ h in let cause : BadSize ≡ c = cc in is_size ∙ ap (fault 0) cause;
-      },
-      status,
-      output,
-      errors,
-    )
+long_check : (image bytes : List ℕ) → 52020224 < length image → 52020224 < length bytes → (s : ℕ) (out err : List ℕ) → Answer check image s out err → Answer check bytes s out err
+long_check image bytes small large s out err (inl (t, l, fits, status, output, errors)) = absurd (too_large image small fits.boots.0)
+long_check image bytes small large s out err (inr (f, first, status, output, errors)) =
+    let same = one_fault image f.block f.cause 0 BadSize first (bad_size image small) in
+    let at_zero : FirstFault bytes f.block BadSize = subst (λ b. FirstFault bytes b BadSize) (sym same.0) (bad_size bytes large) in
+    inr (f, subst (λ c. FirstFault bytes f.block c) (sym same.1) at_zero, status, output, errors)
 
 pub check_read : (w : Outcome) (image bytes : List ℕ) (o o' : Option (List ℕ)) → image ≡ take (52020224 + 1) bytes → Works w check image o o' → Works w check bytes o o'
 check_read w image bytes o o' e h = elim (cases_lt 52020224 (length bytes)) [
   | inr short ↦ subst (λ l. Works w check l o o') (e ∙ take_all (52020224 + 1) bytes (omega arith)) h
   | inl long ↦
       let cut : 52020224 < length image = rw e (omega (arith, length-take {A = ℕ})) in
-      answers_other check image bytes o o' (long_check image bytes (too_large (length image) cut) (too_large (length bytes) long)) w h
+      answers_other check image bytes o o' (long_check image bytes cut long) w h
 ]
 
 -- a refusal of the front of a long manifest is one of the whole

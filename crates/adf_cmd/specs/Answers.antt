@@ -4,16 +4,13 @@ use Rattle.std.specs.Fmt.{decimal}
 use Rattle.std.specs.Io.KnownBytes.{Appends}
 use Rattle.adf_tree.specs.Tree.{Tree}
 use Rattle.adf_blocks.specs.Causes.{cause_text}
-use Rattle.adf_blocks.specs.declared.cause.Cause.{Cause}
-use Rattle.adf_blocks.specs.declared.cause.Cause.TheVariants.{NoMemory}
 use Rattle.adf_volume.specs.Fits.{Fits}
-use Rattle.adf_check.specs.EmptyVolume.{layout_of, start_form, tree_of}
-use Rattle.adf_blocks.specs.Forms.{first_cause}
 use Rattle.adf_volume.specs.Laid.{volume}
+use Rattle.adf_volume.specs.Layout.{Layout}
 use Rattle.adf_volume.specs.Plan.{blocks_needed}
+use Rattle.adf_volume.specs.Walk.{FirstFault}
 use Rattle.adf_build.specs.Building.{need_of}
-use Rattle.adf_check.specs.Checks.{fault}
-use Rattle.adf_check.specs.Volumes.{Volume, counts_of}
+use Rattle.adf_check.specs.Volumes.{counts_of}
 use Rattle.adf_check.specs.declared.fault.Fault.{Fault}
 use Rattle.adf_cmd.specs.CommandLine.{Asks, IsRefused, Request, build, cat, check, convert, list}
 use Rattle.adf_cmd.specs.Listing.{listing}
@@ -27,17 +24,12 @@ use Rattle.adf_cmd.specs.declared.manifest.ManifestKind.TheVariants.{NoMemory as
 abbrev pub fault_line : Fault → List ℕ
 fault_line f = codes "block " ++ (decimal f.block ++ (codes ": " ++ (cause_text f.cause ++ codes "\n")))
 
--- what is known of the fault of a refused image: want of memory is none, and a fault of the size or the first four bytes is that very one
-pub record IsRefusal (image : List ℕ) (f : Fault) : Type 0 where
-  pub cause : f.cause ≢ NoMemory
-  pub start : (c : Cause) → first_cause (start_form image) ≡ Some c → f ≡ fault 0 c
-
--- `check` at status 0 tells the numbers of a volume that the image is the image of, at status 1 a fault
+-- `check` at status 0 tells the numbers of a tree and a layout that fit the image, at status 1 its first fault
 abbrev pub Accepts : List ℕ → ℕ → List ℕ → List ℕ → Type 0
-Accepts input status output errors = (v : Volume) × (v.image ≡ input) × Fits input (tree_of v.volume) (layout_of v.volume) × (status ≡ 0) × (output ≡ ok_line (counts_of v)) × (errors ≡ [])
+Accepts input status output errors = (t : Tree) × (l : Layout) × Fits input t l × (status ≡ 0) × (output ≡ ok_line (counts_of input t l)) × (errors ≡ [])
 
 abbrev pub Refuses : List ℕ → ℕ → List ℕ → List ℕ → Type 0
-Refuses input status output errors = (f : Fault) × IsRefusal input f × (status ≡ 1) × (output ≡ fault_line f) × (errors ≡ [])
+Refuses input status output errors = (f : Fault) × FirstFault input f.block f.cause × (status ≡ 1) × (output ≡ fault_line f) × (errors ≡ [])
 
 -- the image that is laid of a tree in n blocks, or the lines of its words
 abbrev pub built : Bool → Tree → ℕ → List ℕ

@@ -1,8 +1,9 @@
 // The command `check`.
 
 ghost use Rattle.std.specs.Prelude.{◌≡◌, ◌++◌, ◌+◌, false, OnOk, IfOk, IfSome, Some, string_bytes};
-ghost use Rattle.adf_volume.specs.Fits.{Fits};
-ghost use Rattle.adf_check.specs.EmptyVolume.{layout_of, tree_of};
+ghost use Rattle.adf_tree.specs.Tree.{Tree};
+ghost use Rattle.adf_volume.specs.Layout.{Layout};
+ghost use Rattle.adf_check.specs.Volumes.{StandsFor};
 ghost use Rattle.adf_cmd.specs.Answers.{fault_line, limit_of};
 ghost use Rattle.adf_cmd.specs.CommandLine.{check};
 ghost use Rattle.adf_cmd.specs.Outcomes.{TellsFault, Works, is_read_fault, is_write_fault};
@@ -44,7 +45,7 @@ fn refused_line(alloc: Global, fault: Fault) -> Result<String, AllocError>
 #[tactic(auto, using(crate::proofs::AnswerLaws::accepted_part))]
 fn tell_accepted<W: Sink>(alloc: Global, volume: &Checked<'_>, output: &mut W) -> Outcome
     requires works { W.has_failed output.old ≡ false }
-    requires fits { Fits volume.now.image (tree_of volume.now.volume) (layout_of volume.now.volume) }
+    requires stands { (t : Tree) × (l : Layout) × StandsFor volume.now t l }
     ensures works { Works result check volume.now.image (W.held output.old) (W.held output.new) }
     ensures written { W.has_failed output.new ≡ is_write_fault result }
     ensures read { is_read_fault result ≡ false }

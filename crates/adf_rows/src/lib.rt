@@ -6,4 +6,6 @@ mod commands;
 #[cfg(test)]
 mod devices;
 #[cfg(test)]
+mod entries;
+#[cfg(test)]
 mod volumes;

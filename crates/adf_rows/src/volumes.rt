@@ -86,7 +86,7 @@ fn patches(rt: HostRuntime) -> Result<(), Fail> {
         (880, 12, 1760, Some(5), (880, Cause::OutOfRange)),
         (880, 12, 1, Some(5), (880, Cause::OutOfRange)),
         (880, 12, 881, Some(5), (881, Cause::Taken)),
-        (880, 12, 2, Some(5), (2, Cause::OwnedFree)),
+        (880, 12, 2, Some(5), (2, Cause::BadType)),
     ];
     for patch in rows {
         let mut image = image_of(alloc, Kind::Ofs, 1760)?;

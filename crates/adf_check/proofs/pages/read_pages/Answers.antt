@@ -1,30 +1,45 @@
-use Rattle.std.proofs.Common.{◌≡◌, ◌++◌, ◌∷◌, [], ℕ, List, length, rules, arith, subst, ap, ◌∙◌, sym}
-use Rattle.std.proofs.Math.ListN.{length-set}
-use Rattle.adf_check.specs.Checks.{HasPages}
-use Rattle.adf_check.proofs.Tables.{more_pages}
+use Rattle.std.proofs.Common.{◌≡◌, ◌∷◌, ◌++◌, [], ◌+◌, ◌<◌, ℕ, List, ap, subst, sym, ◌∙◌, arith, rules}
+use Rattle.adf_fields.specs.Words.{word}
+use Rattle.adf_blocks.specs.Sizes.{blocks, pages_needed}
+use Rattle.adf_volume.specs.Image.{root_of, word_in}
+use Rattle.adf_volume.specs.Reading.{IsBeforePage}
+use Rattle.adf_volume.proofs.InPages.{pages_end}
+use Rattle.adf_check.specs.Found.{store_of}
+use Rattle.adf_check.specs.Pages.{AreListed}
+use Rattle.adf_check.proofs.PageSteps.{list_done}
 use Rattle.adf_check.proofs.pages.read_pages.Goals as goal
 
 pub loop-i-preserved : goal.loop-i-preserved
 loop-i-preserved c =
-    let read = c.in_ok-read.ensures in
-    let number = c.in_ok-read.read.number in
+    let image = c.args.image.now in
+    let number : ℕ = c.in_ok-read.read.number in
+    let page = c.in_ok-read.read.page in
     let numbers = c.loop-i.numbers.items in
     let pages = c.loop-i.pages.items in
     let pushed : c.push.new.self.items ≡ numbers ++ number ∷ [] = search rules in
-    let viewed : c.push-else-is_err.new.self.items ≡ pages ++ c.in_ok-read.read.page ∷ [] = search rules in
-    let len : length numbers ≡ c.loop-i.i = search rules in
-    let blocks : length c.loop-i.owners ≡ length c.args.owners.now = c.loop-i.invariant.blocks in
-    let few : length c.read_page_at.new.owners ≡ length c.args.owners.now = ap length read.claimed ∙ length-set c.loop-i.owners number _ ∙ blocks in
-    let image = c.args.image.now in
-    let root = c.args.root.now in
-    let owners = c.read_page_at.new.owners in
-    let n : ℕ = length c.args.owners.now in
-    let more = more_pages image root n c.loop-i.owners owners numbers pages number c.loop-i.i c.in_ok-read.read.page
-    c.loop-i.invariant.pages len read.named (read.range.0, omega (arith, read.range.1)) read.free read.claimed read.page read.form in
-    let by_numbers : List ℕ → Type 0 = λ ns. HasPages image root n owners ns (pages ++ c.in_ok-read.read.page ∷ []) in
-    let by_pages : List (List ℕ) → Type 0 = λ ps. HasPages image root n owners c.push.new.self.items ps in
+    let viewed : c.push-else-is_err.new.self.items ≡ pages ++ page ∷ [] = search rules in
+    let count : c.page_count-i-end.result ≡ pages_needed (blocks image) = c.page_count-i-end.ensures.exact ∙ ap pages_needed c.blocks-2.ensures.blocks in
+    let needed : c.loop-i.i < pages_needed (blocks image) = omega arith in
+    let few : c.loop-i.i < 25 = omega (arith, c.page_count-i-end.ensures.few) in
+    let e : number ≡ word_in image (root_of image) (79 + c.loop-i.i) = c.in_ok-read.ensures.number ∙ ap (λ b. word b (79 + c.loop-i.i)) c.requires.root in
+    let more = list_done image (store_of c.loop-i.found) c.loop-i.i number c.blocks-2.ensures.begun needed few c.loop-i.invariant.state e numbers pages page c.loop-i.invariant.pages c.in_ok-read.ensures.page in
+    let by_numbers : List ℕ → Type 0 = λ ns. AreListed image ns (pages ++ page ∷ []) (c.loop-i.i + 1) in
+    let by_pages : List (List ℕ) → Type 0 = λ ps. AreListed image c.push.new.self.items ps (c.loop-i.i + 1) in
     record {
+      state = c.in_ok-read.ensures.state;
       pages = subst by_pages (sym viewed) (subst by_numbers (sym pushed) more);
-      count = search rules;
-      blocks = few;
     }
+
+pub returns-clause-state : goal.returns-clause-state
+returns-clause-state c =
+    let image = c.args.image.now in
+    let count : c.page_count-i-end.result ≡ pages_needed (blocks image) = c.page_count-i-end.ensures.exact ∙ ap pages_needed c.blocks-2.ensures.blocks in
+    let end : c.loop-i.i ≡ pages_needed (blocks image) = omega arith in
+    pages_end image (store_of c.loop-i.found) (root_of image) (subst (λ k. IsBeforePage image (store_of c.loop-i.found) k (root_of image)) end c.loop-i.invariant.state)
+
+pub returns-clause-pages : goal.returns-clause-pages
+returns-clause-pages c =
+    let image = c.args.image.now in
+    let count : c.page_count-i-end.result ≡ pages_needed (blocks image) = c.page_count-i-end.ensures.exact ∙ ap pages_needed c.blocks-2.ensures.blocks in
+    let end : c.loop-i.i ≡ pages_needed (blocks image) = omega arith in
+    subst (AreListed image c.loop-i.numbers.items c.loop-i.pages.items) end c.loop-i.invariant.pages

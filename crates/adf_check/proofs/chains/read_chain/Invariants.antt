@@ -1,0 +1,12 @@
+use Rattle.adf_volume.specs.Reading.{IsInChain}
+use Rattle.adf_check.specs.Found.{IsFurther, left, sees_of, store_of}
+use Rattle.adf_check.proofs.chains.read_chain.Given as goal
+
+abbrev pub invariant-loop-b : goal.invariant-loop-b
+invariant-loop-b l = record {
+  state : IsInChain l.image (store_of l.found) l.chain.parent l.chain.up l.chain.slot l.at l.b (sees_of l.seen);
+  fewer : IsFurther l.fn.found l.found;
+}
+
+abbrev pub decreases-loop-b : goal.decreases-loop-b
+decreases-loop-b l = left l.found

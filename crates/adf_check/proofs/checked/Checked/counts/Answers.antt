@@ -1,0 +1,20 @@
+use Rattle.std.proofs.Common.{◌≡◌, ◌∙◌, length, count_by, ap, subst, sym, rules}
+use Rattle.adf_check.specs.Found.{store_of}
+use Rattle.adf_check.specs.Volumes.{StandsFor, Volume, counts_of, is_dir_at}
+use Rattle.adf_check.proofs.Counting.{counts_are, rows_inside}
+use Rattle.adf_check.proofs.checked.Checked.counts.Goals as goal
+
+pub count_dirs-dirs-requires : goal.count_dirs-dirs-requires
+count_dirs-dirs-requires c =
+    let image = c.self.inside.image in
+    rw c.deref.ensures.value (rows_inside image (store_of c.self.inside.found) c.blocks-blocks.ensures.begun c.self.invariant.tells)
+
+pub returns : goal.returns
+returns c = λ t l st.
+    let image = c.self.inside.image in
+    let store = store_of c.self.inside.found in
+    let dirs : c.count_dirs-dirs.result ≡ count_by (is_dir_at image) store.rows = c.count_dirs-dirs.ensures.exact ∙ ap (count_by (is_dir_at image)) c.deref.ensures.value in
+    let all : c.len.result ≡ length store.rows = search rules in
+    counts_are image store t l c.kind.result c.blocks-blocks.result c.used-used.result c.count_dirs-dirs.result c.len.result (subst (λ (v : Volume). StandsFor v t l) (sym c.self.view_is) st)
+    c.kind.ensures.kind c.blocks-blocks.ensures.blocks c.used-used.ensures.used dirs all
+    ∙ ap (λ (v : Volume). counts_of v.image t l) c.self.view_is

@@ -1,0 +1,13 @@
+use Rattle.std.proofs.Common.{subst}
+use Rattle.adf_volume.specs.Reading.{IsInExts}
+use Rattle.adf_volume.proofs.InFiles.{exts_end}
+use Rattle.adf_check.specs.Found.{store_of}
+use Rattle.adf_check.proofs.exts.read_exts.Goals as goal
+
+pub returns-clause-state : goal.returns-clause-state
+returns-clause-state c =
+    let image = c.args.image.now in
+    let store = store_of c.loop-b.found in
+    let table = c.loop-b.table.items in
+    exts_end image store c.args.node c.args.head table c.loop-b.at
+    (subst (IsInExts image store c.args.node c.args.head table c.loop-b.at) c.loop-b-test.false c.loop-b.invariant.state)

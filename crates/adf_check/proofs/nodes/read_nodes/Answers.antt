@@ -1,0 +1,19 @@
+use Rattle.std.proofs.Common.{◌≡◌, ◌<◌, suc, length, subst, sym, arith, rules}
+use Rattle.adf_volume.specs.Reading.{IsInNode}
+use Rattle.adf_volume.proofs.Claims.{enter_node}
+use Rattle.adf_volume.proofs.InRows.{all_read}
+use Rattle.adf_check.specs.Found.{store_of}
+use Rattle.adf_check.proofs.nodes.read_nodes.Goals as goal
+
+pub read_node-requires-clause-state : goal.read_node-requires-clause-state
+read_node-requires-clause-state c =
+    subst (λ s. IsInNode c.args.image.now s c.loop-node.node) (sym c.in_ok-enter.ensures.entered)
+    (enter_node c.args.image.now (store_of c.loop-node.found) c.loop-node.node c.loop-node.invariant.state)
+
+pub returns-clause-state : goal.returns-clause-state
+returns-clause-state c =
+    let rows = c.loop-node.found.rows.items in
+    let count : c.len.result ≡ length rows = search rules in
+    let past : length rows < c.loop-node.node = omega (arith, c.loop-node-test.false) in
+    let end : c.loop-node.node ≡ suc (length rows) = omega (arith, c.loop-node.invariant.within) in
+    all_read c.args.image.now (store_of c.loop-node.found) c.loop-node.node end c.loop-node.invariant.state

@@ -1,0 +1,108 @@
+// Directories: the headers of each slot's chain.
+
+ghost use Rattle.std.specs.Prelude.{◌≡◌, ◌≢◌, ◌≤◌, ◌<◌, ◌+◌, OnOk, IfOk, IfErr};
+ghost use Rattle.adf_blocks.specs.Sizes.{blocks};
+ghost use Rattle.adf_volume.specs.Image.{word_in};
+ghost use Rattle.adf_volume.specs.Reading.{IsAtNode, IsAtSlot, IsInChain};
+ghost use Rattle.adf_check.specs.Found.{IsFurther, IsTrueFault, left, sees_of, store_of};
+
+use crate::claims::claim_named;
+use crate::fault::{Fault, fault_at};
+use crate::found::Found;
+use crate::image::Image;
+use adf_blocks::{Cause, FIRST_SLOT, read_head};
+use adf_tree::{NameSet, Node};
+use adf_volume::{Owner, Row};
+
+/// The chain of a slot of a directory, whose block is `up`.
+#[derive(Drop)]
+struct Chain {
+    parent: Node,
+    up: u32,
+    slot: u8,
+}
+
+// Claims and reads the header at block `b`, which a word of block `at` names: the next one of its chain, or 0.
+fn read_member(
+    image: &Image<'_>,
+    found: &mut Found,
+    seen: &mut NameSet,
+    chain: &Chain,
+    at: u32,
+    b: u32,
+) -> Result<u32, Fault>
+    requires slot { chain.now.slot < 72 }
+    requires some { b ≢ 0 }
+    requires state { IsInChain image.now (store_of found.old) chain.now.parent chain.now.up chain.now.slot at b (sees_of seen.old) }
+    ensures state { IfOk result (λ next. IsInChain image.now (store_of found.new) chain.now.parent chain.now.up chain.now.slot b next (sees_of seen.new)) }
+    ensures fewer { OnOk result (IsFurther found.old found.new) }
+    ensures less { OnOk result (left found.new < left found.old) }
+    ensures inside { OnOk result (b < blocks image.now) }
+    ensures fault { IfErr result (λ f. IsTrueFault image.now f) }
+{
+    let kind = image.kind();
+    let node = Node(found.rows.len() + 1);
+    claim_named(&mut found.owners, at, b, Owner::Head(node))?;
+    let head = match read_head(image.block(b), kind, b, chain.up, chain.slot) {
+        Ok(head) => head,
+        Err(cause) => return Err(fault_at(b, cause)),
+    };
+    match seen.put(&head.name()) {
+        Ok(true) => (),
+        Ok(false) => return Err(fault_at(b, Cause::SameName)),
+        Err(_) => return Err(fault_at(0, Cause::NoMemory)),
+    }
+    let row = Row {
+        parent: chain.parent,
+        head: b,
+    };
+    match found.rows.push(row) {
+        Ok(()) => Ok(head.next()),
+        Err(_) => Err(fault_at(0, Cause::NoMemory)),
+    }
+}
+
+// Reads a chain to its end.
+fn read_chain(
+    image: &Image<'_>,
+    found: &mut Found,
+    seen: &mut NameSet,
+    chain: &Chain,
+) -> Result<(), Fault>
+    requires slot { chain.now.slot < 72 }
+    requires inside { chain.now.up < blocks image.now }
+    requires state { IsAtSlot image.now (store_of found.old) chain.now.parent chain.now.up chain.now.slot }
+    ensures state { OnOk result (IsAtSlot image.now (store_of found.new) chain.now.parent chain.now.up (chain.now.slot + 1)) }
+    ensures fewer { OnOk result (IsFurther found.old found.new) }
+    ensures fault { IfErr result (λ f. IsTrueFault image.now f) }
+{
+    seen.clear();
+    let mut at = chain.up;
+    let mut b = image.word(at, FIRST_SLOT + chain.slot as usize);
+    while b != 0 {
+        let next = read_member(image, found, seen, chain, at, b)?;
+        at = b;
+        b = next;
+    }
+    Ok(())
+}
+
+/// Reads the slots of a directory, whose block is `up`.
+pub fn read_directory(
+    image: &Image<'_>,
+    found: &mut Found,
+    seen: &mut NameSet,
+    parent: Node,
+    up: u32,
+) -> Result<(), Fault>
+    requires inside { up < blocks image.now }
+    requires state { IsAtSlot image.now (store_of found.old) parent up 0 }
+    ensures state { OnOk result (IsAtNode image.now (store_of found.new) (parent + 1)) }
+    ensures fewer { OnOk result (IsFurther found.old found.new) }
+    ensures fault { IfErr result (λ f. IsTrueFault image.now f) }
+{
+    for slot in 0..72u8 {
+        read_chain(image, found, seen, &Chain { parent, up, slot })?;
+    }
+    Ok(())
+}

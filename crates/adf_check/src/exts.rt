@@ -1,0 +1,71 @@
+// The extension blocks of files.
+
+ghost use Rattle.std.specs.Prelude.{◌≡◌, ◌≢◌, ◌≤◌, ◌<◌, OnOk, IfOk, IfErr};
+ghost use Rattle.adf_blocks.specs.Sizes.{blocks};
+ghost use Rattle.adf_volume.specs.Image.{word_in};
+ghost use Rattle.adf_volume.specs.Reading.{IsInDatas, IsInExts};
+ghost use Rattle.adf_check.specs.Found.{IsFurther, IsTrueFault, left, store_of};
+ghost use Rattle.adf_check.specs.Image.{IsBegun};
+
+use crate::claims::claim_named;
+use crate::fault::{Fault, fault_at};
+use crate::found::Found;
+use crate::image::Image;
+use adf_blocks::{Cause, EXTENSION, read_ext};
+use adf_tree::Node;
+use adf_volume::Owner;
+
+// Claims and reads the extension block at block `b`, which a word of block `at` names, of the file `node` with its header at block
+// `head`: the next one, or 0. The table has the header and the extension blocks before.
+fn read_member(
+    image: &Image<'_>,
+    found: &mut Found,
+    table: &mut Vec<u32>,
+    node: Node,
+    head: u32,
+    at: u32,
+    b: u32,
+) -> Result<u32, Fault>
+    requires begun { IsBegun image.now }
+    requires some { b ≢ 0 }
+    requires state { IsInExts image.now (store_of found.old) node head table.old.items at b }
+    ensures state { IfOk result (λ next. IsInExts image.now (store_of found.new) node head table.new.items b next) }
+    ensures fewer { OnOk result (IsFurther found.old found.new) }
+    ensures less { OnOk result (left found.new < left found.old) }
+    ensures fault { IfErr result (λ f. IsTrueFault image.now f) }
+{
+    let owner = Owner::Ext(node, table.len() as u32);
+    claim_named(&mut found.owners, at, b, owner)?;
+    let ext = match read_ext(image.block(b), b, head) {
+        Ok(ext) => ext,
+        Err(cause) => return Err(fault_at(b, cause)),
+    };
+    if table.push(b).is_err() || found.exts.push(b).is_err() {
+        return Err(fault_at(0, Cause::NoMemory));
+    }
+    Ok(ext.next())
+}
+
+/// Reads the extension blocks of the file `node` with its header at block `head`. The table, which has the header, gets them.
+pub fn read_exts(
+    image: &Image<'_>,
+    found: &mut Found,
+    table: &mut Vec<u32>,
+    node: Node,
+    head: u32,
+) -> Result<(), Fault>
+    requires inside { head < blocks image.now }
+    requires state { IsInExts image.now (store_of found.old) node head table.old.items head (word_in image.now head 126) }
+    ensures state { OnOk result (IsInDatas image.now (store_of found.new) node head table.new.items 0) }
+    ensures fewer { OnOk result (IsFurther found.old found.new) }
+    ensures fault { IfErr result (λ f. IsTrueFault image.now f) }
+{
+    let mut at = head;
+    let mut b = image.word(at, EXTENSION);
+    while b != 0 {
+        let next = read_member(image, found, table, node, head, at, b)?;
+        at = b;
+        b = next;
+    }
+    Ok(())
+}

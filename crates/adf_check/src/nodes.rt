@@ -1,0 +1,99 @@
+// The nodes of a volume, one after the other: the root, and each entry as its header was found.
+
+ghost use Rattle.std.specs.Prelude.{◌≡◌, ◌≤◌, ◌<◌, ◌+◌, [], ◌∷◌, OnOk, IfErr, length};
+ghost use Rattle.adf_blocks.specs.Sizes.{blocks};
+ghost use Rattle.adf_volume.specs.Image.{word_in};
+ghost use Rattle.adf_volume.specs.Reading.{IsAtNode, IsInExts, IsInNode, IsRead};
+ghost use Rattle.adf_check.specs.Found.{IsFurther, IsTrueFault, store_of};
+ghost use Rattle.adf_volume.specs.Store.{entered};
+
+use crate::chains::read_directory;
+use crate::datas::read_datas;
+use crate::exts::read_exts;
+use crate::fault::{Fault, fault_at};
+use crate::found::Found;
+use crate::image::Image;
+use adf_blocks::{Cause, SECONDARY_TYPE, ST_DIR};
+use adf_tree::{NameSet, Node};
+use adf_volume::Start;
+use std::alloc::Global;
+
+// Begins the next node: its blocks stand behind those that were found.
+fn enter(found: &mut Found) -> Result<(), Fault>
+    ensures entered { OnOk result (store_of found.new ≡ entered (store_of found.old)) }
+    ensures fewer { OnOk result (IsFurther found.old found.new) }
+    ensures fault { IfErr result (λ f. f.cause ≡ Cause.NoMemory) }
+{
+    let start = Start {
+        exts: found.exts.len(),
+        datas: found.datas.len(),
+    };
+    match found.starts.push(start) {
+        Ok(()) => Ok(()),
+        Err(_) => Err(fault_at(0, Cause::NoMemory)),
+    }
+}
+
+// Reads the blocks of the file `node` with its header at block `head`.
+fn read_file(
+    image: &Image<'_>,
+    found: &mut Found,
+    table: &mut Vec<u32>,
+    node: Node,
+    head: u32,
+) -> Result<(), Fault>
+    requires inside { head < blocks image.now }
+    requires state { IsInExts image.now (store_of found.old) node head (head ∷ []) head (word_in image.now head 126) }
+    ensures state { OnOk result (IsAtNode image.now (store_of found.new) (node + 1)) }
+    ensures fewer { OnOk result (IsFurther found.old found.new) }
+    ensures fault { IfErr result (λ f. IsTrueFault image.now f) }
+{
+    table.clear();
+    if table.push(head).is_err() {
+        return Err(fault_at(0, Cause::NoMemory));
+    }
+    read_exts(image, found, table, node, head)?;
+    read_datas(image, found, table, node, head)
+}
+
+// Reads what the node asks for: the chains of a directory, or the blocks of a file.
+fn read_node(
+    image: &Image<'_>,
+    found: &mut Found,
+    seen: &mut NameSet,
+    table: &mut Vec<u32>,
+    node: Node,
+) -> Result<(), Fault>
+    requires inside { node ≤ length found.old.rows.items }
+    requires state { IsInNode image.now (store_of found.old) node }
+    ensures state { OnOk result (IsAtNode image.now (store_of found.new) (node + 1)) }
+    ensures fewer { OnOk result (IsFurther found.old found.new) }
+    ensures fault { IfErr result (λ f. IsTrueFault image.now f) }
+{
+    let root = image.root();
+    if node.0 == 0 {
+        return read_directory(image, found, seen, node, root);
+    }
+    let head = found.rows[node.0 - 1].head;
+    if image.word(head, SECONDARY_TYPE) == ST_DIR {
+        return read_directory(image, found, seen, node, head);
+    }
+    read_file(image, found, table, node, head)
+}
+
+/// Reads all nodes. Those that a directory names come behind those that were found.
+pub fn read_nodes(alloc: Global, image: &Image<'_>, found: &mut Found) -> Result<(), Fault>
+    requires state { IsAtNode image.now (store_of found.old) 0 }
+    ensures state { OnOk result (IsRead image.now (store_of found.new)) }
+    ensures fault { IfErr result (λ f. IsTrueFault image.now f) }
+{
+    let mut seen = NameSet::new(alloc);
+    let mut table = Vec::new(alloc);
+    let mut node = 0usize;
+    while node <= found.rows.len() {
+        enter(found)?;
+        read_node(image, found, &mut seen, &mut table, Node(node))?;
+        node += 1;
+    }
+    Ok(())
+}
