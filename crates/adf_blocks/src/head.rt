@@ -4,7 +4,7 @@ ghost use Rattle.std.specs.Prelude.{◌≡◌, ◌<◌, ◌+◌, ◌-◌, ◌==�
 ghost use Rattle.adf_fields.specs.Hash.{slot_of};
 ghost use Rattle.adf_fields.specs.Words.{word};
 ghost use Rattle.adf_blocks.specs.Forms.{ReadsForm, stamp_at, text_at};
-ghost use Rattle.adf_blocks.specs.HeadBlock.{body_at, has_first, has_type, head_form, is_entry, is_link, is_name_at, meta_at};
+ghost use Rattle.adf_blocks.specs.HeadBlock.{body_at, IsHead, has_first, has_type, head_form, is_entry, is_link, is_name_at, meta_at};
 
 use crate::cause::Cause;
 use crate::fields::stamp_in;
@@ -139,6 +139,16 @@ pub fn read_head<'a>(
         return Err(Cause::BadFirst);
     }
     Ok(Head { block: b })
+}
+
+impl<'a> Head<'a> {
+    /// The header that a block holds, where that is known.
+    pub fn over(b: Block<'a>) -> Head<'a>
+        requires { IsHead b }
+        ensures { result ≡ b.entry }
+    {
+        Head { block: b }
+    }
 }
 
 impl Head<'_> {

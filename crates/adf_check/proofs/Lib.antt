@@ -9,3 +9,4 @@ pub mod BitmapSteps
 pub mod StartSteps
 pub mod Beginning
 pub mod Counting
+pub mod Telling

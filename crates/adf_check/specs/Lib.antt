@@ -6,3 +6,4 @@ pub mod Pages
 pub mod Files
 pub mod Start
 pub mod Volumes
+pub mod Rows

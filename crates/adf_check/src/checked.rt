@@ -1,19 +1,21 @@
 // Volumes that were checked.
 
 ghost use Rattle.std.specs.Prelude.{◌≡◌, ◌≤◌, ◌<◌, ◌↔◌, ℕ, count_by, get_or, length, IsSome, Some};
-ghost use Rattle.adf_tree.specs.Tree.{Tree};
+ghost use Rattle.adf_tree.specs.Tree.{Tree, entry};
 ghost use Rattle.adf_blocks.specs.Sizes.{blocks};
 ghost use Rattle.adf_volume.specs.declared.owner.Owner.{Owner};
 ghost use Rattle.adf_volume.specs.Layout.{Layout, owned};
 ghost use Rattle.adf_volume.specs.Lists.{In};
 ghost use Rattle.adf_check.specs.Found.{store_of};
+ghost use Rattle.adf_check.specs.Rows.{IsTold};
 ghost use Rattle.adf_check.specs.Volumes.{IsChecked, StandsFor, counts_of, is_dir_at};
 
 use crate::found::Found;
 use crate::image::Image;
-use adf_blocks::{SECONDARY_TYPE, ST_DIR};
-use adf_tree::{Kind, Label, Stamps};
-use adf_volume::{Owner, Row};
+use crate::row::{Row, row_of};
+use adf_blocks::{Head, SECONDARY_TYPE, ST_DIR};
+use adf_tree::{Kind, Label, Node, Stamps};
+use adf_volume::{Owner, Row as Kept};
 use std::marker::Model;
 
 /// The numbers of a volume.
@@ -96,6 +98,18 @@ impl Checked<'_> {
         self.stamps
     }
 
+    /// What is told of an entry; None for the root and past the last entry.
+    pub fn row(&self, n: Node) -> Option<Row>
+        ensures { (t : Tree) (l : Layout) → StandsFor self.now t l → IsTold result (entry t.entries n) }
+    {
+        if n.0 == 0 {
+            return None;
+        }
+        let kept = self.found.rows.get(n.0 - 1)?;
+        let head = Head::over(self.image.block(kept.head));
+        Some(row_of(kept.parent, &head))
+    }
+
     /// The numbers of the volume.
     pub fn counts(&self) -> Counts
         ensures { (t : Tree) (l : Layout) → StandsFor self.now t l → result ≡ counts_of self.now.image t l }
@@ -116,8 +130,8 @@ impl Checked<'_> {
 
 // The directories among the entries of these rows.
 #[tactic(auto, using(std::proofs::lemmas::List::Sums::count_by_more_yes, std::proofs::lemmas::List::Sums::count_by_more_no))]
-fn count_dirs(image: &Image<'_>, rows: &[Row]) -> usize
-    requires { (i : ℕ) (d : Row) → i < length rows.now → (get_or rows.now i d).head < blocks image.now }
+fn count_dirs(image: &Image<'_>, rows: &[Kept]) -> usize
+    requires { (i : ℕ) (d : Kept) → i < length rows.now → (get_or rows.now i d).head < blocks image.now }
     ensures exact { result ≡ count_by (is_dir_at image.now) rows.now }
     ensures within { result ≤ length rows.now }
 {

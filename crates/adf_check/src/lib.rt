@@ -14,10 +14,12 @@ mod image;
 mod nodes;
 mod owners;
 mod pages;
+mod row;
 mod start;
 
 pub use crate::checked::{Checked, Counts};
 pub use crate::checker::check;
 pub use crate::fault::Fault;
 pub use crate::owners::Owners;
+pub use crate::row::{Row, RowBody};
 pub use adf_volume::Owner;

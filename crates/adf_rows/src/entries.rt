@@ -1,7 +1,7 @@
 // Volumes with directories and files, laid word by word, patched and checked.
 
 use adf_blocks::Cause;
-use adf_check::{Counts, Fault, Owner, check};
+use adf_check::{Counts, Fault, Owner, RowBody, check};
 use adf_fields::{seal, set_word};
 use adf_tree::{Kind, Node};
 use std::alloc::{AllocError, Global};
@@ -226,6 +226,12 @@ fn file_of_ofs(rt: HostRuntime) -> Result<(), Fail> {
     let volume = check(alloc, &image)?;
     assert_eq!(rt; volume.counts(), numbers);
     assert!(rt; matches!(volume.owner(2), Some(Owner::Head(Node(1)))));
+    let row = volume.row(Node(1)).ok_or("no row")?;
+    assert_eq!(rt; row.name.bytes(), b"a".as_slice());
+    assert!(rt; matches!(row.body, RowBody::File { size: 489 }));
+    assert_eq!(rt; (row.parent.0, row.meta.protect), (0, 0));
+    assert!(rt; volume.row(Node(0)).is_none());
+    assert!(rt; volume.row(Node(2)).is_none());
     assert!(rt; matches!(volume.owner(4), Some(Owner::Data(Node(1), 2))));
     assert!(rt; matches!(volume.owner(5), Some(Owner::Free)));
     let image = ofs_file(alloc, &[(2, 2, 7), (2, 3, 1)], &[(2, 5)])?;
