@@ -54,7 +54,7 @@ is_child_moved : (n p : ℕ) (name : List ℕ) (x : Entry) → is_child (moved n
 is_child_moved n p name x = ap (λ b. b && bytes_eq (uppers x.name) (uppers name)) (moved_test n x.parent p)
 
 -- nothing is a child of the new entry
-moved_past : (n p : ℕ) → moved n p ≢ n
+pub moved_past : (n p : ℕ) → moved n p ≢ n
 moved_past n p h = elim (cases_lt p n) [ inl lt ↦ absurd (omega (arith, moved_below n p lt, h)) | inr le ↦ absurd (omega (arith, moved_above n p le, h)) ]
 
 pub not_true : (b : Bool) → (b ≡ true → ⊥) → b ≡ false
@@ -75,7 +75,7 @@ new_get es e k d t lt =
     ]
 
 -- what an entry of the new list is
-by_case : (es : List Entry) (e : Entry) (d : Entry) (P : Entry → Type 0) → IsTree es → P e → ((k : ℕ) → k < length es → P (renumbered (place es (rank e) + 1) (get_or es k d))) → (k : ℕ) → k < length (added es e) → P (get_or (added es e) k d)
+pub by_case : (es : List Entry) (e : Entry) (d : Entry) (P : Entry → Type 0) → IsTree es → P e → ((k : ℕ) → k < length es → P (renumbered (place es (rank e) + 1) (get_or es k d))) → (k : ℕ) → k < length (added es e) → P (get_or (added es e) k d)
 by_case es e d P t new old k lt =
     let i : ℕ = place es (rank e) in
     let le : i ≤ length es = place_le es (rank e) in

@@ -36,7 +36,7 @@ equal_is Less h = cc
 equal_is Equal h = refl
 equal_is Greater h = cc
 
-compared : (x y : List ℕ) → is_eq (slice_cmp nat_cmp x y) ≡ bytes_eq x y
+pub compared : (x y : List ℕ) → is_eq (slice_cmp nat_cmp x y) ≡ bytes_eq x y
 compared x y =
     elim (cases_Bool (bytes_eq x y)) [
       | inl t ↦

@@ -47,7 +47,7 @@ passes_filter {X} q (y ∷ ys) x h =
           ]
     ]
 
-in_chain_from : (p s : ℕ) (e : Entry) → e.parent ≡ p → slot_of e.name ≡ s → in_chain p s e ≡ true
+pub in_chain_from : (p s : ℕ) (e : Entry) → e.parent ≡ p → slot_of e.name ≡ s → in_chain p s e ≡ true
 in_chain_from p s e a b = and_from (e.parent == p) (slot_of e.name == s) (eq-eqb e.parent p a) (eq-eqb (slot_of e.name) s b)
 
 -- an entry is a member of the chain of its parent and slot

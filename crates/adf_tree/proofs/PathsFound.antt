@@ -10,11 +10,11 @@ use Rattle.adf_tree.proofs.Found.{child_is, is_child_from}
 use Rattle.adf_tree.proofs.Walked.{then_find}
 use Rattle.adf_tree.proofs.Told.{entry_at, find_snoc, path_past}
 
-uppers_twice : (name : List ℕ) → uppers (uppers name) ≡ uppers name
+pub uppers_twice : (name : List ℕ) → uppers (uppers name) ≡ uppers name
 uppers_twice [] = refl
 uppers_twice (c ∷ cs) = ap (λ u. u ∷ uppers (uppers cs)) (upper_twice c) ∙ ap (λ us. upper_of c ∷ us) (uppers_twice cs)
 
-some_entry : (es : List Entry) → 0 < length es → Entry
+pub some_entry : (es : List Entry) → 0 < length es → Entry
 some_entry [] h = absurd (omega arith)
 some_entry (e ∷ es) h = e
 

@@ -1,11 +1,12 @@
 -- Laws of trees, each the contract of a function of `laws.rt`.
-use Rattle.std.specs.Prelude.{◌≡◌, ℕ, ◌+◌, ◌-◌, ◌<◌, ◌≤◌, ◌↔◌, List, length, map, take, Some, slice_index_or, Contains}
+use Rattle.std.specs.Prelude.{◌≡◌, ℕ, ◌+◌, ◌-◌, ◌<◌, ◌≤◌, ◌↔◌, List, length, map, take, Some, slice_index_or, Contains, [], ◌∷◌, ◌++◌, IsOk}
 use Rattle.adf_fields.specs.Hash.{slot_of}
 use Rattle.adf_tree.specs.Texts.{uppers}
 use Rattle.adf_tree.specs.declared.entry.Entry.{Entry}
-use Rattle.adf_tree.specs.Tree.{added, child, entry, find, IsLast, IsTree, MayAdd}
+use Rattle.adf_tree.specs.Tree.{added, child, entry, find, room_for, IsLast, IsTree, MayAdd}
 use Rattle.adf_tree.specs.Chain.{chain}
 use Rattle.adf_tree.specs.Paths.{path_of}
+use Rattle.adf_tree.specs.Additions.{built, with_addition, Addition, AllHaveRoom, IsTreeOf}
 
 -- an entry is in the chain of its parent and its name's slot, and in no other
 abbrev pub IsIn : List Entry → ℕ → ℕ → Entry → Type 0
@@ -46,3 +47,15 @@ pub record IsNext (es : List Entry) (n : ℕ) (e : Entry) : Type 0 where
 
 abbrev pub TreesGrowInOrder : Type 0
 TreesGrowInOrder = (es : List Entry) (n : ℕ) (d : Entry) → IsTree es → n < length es → IsNext es n (slice_index_or es n d)
+
+-- additions have at most one tree
+abbrev pub AdditionsHaveOneTree : Type 0
+AdditionsHaveOneTree = (es others : List Entry) (additions : List Addition) → IsTreeOf es additions → IsTreeOf others additions → es ≡ others
+
+-- `add` makes the tree of one addition more
+abbrev pub AddingGrowsTheTree : Type 0
+AddingGrowsTheTree = (es : List Entry) (additions : List Addition) (x : Addition) → IsTreeOf es additions → IsOk (room_for es x.path) → IsTreeOf (with_addition es x) (additions ++ x ∷ [])
+
+-- so additions that all have room have the tree that `add` makes of them
+abbrev pub AdditionsAreBuilt : Type 0
+AdditionsAreBuilt = (additions : List Addition) → AllHaveRoom additions → IsTreeOf (built additions) additions

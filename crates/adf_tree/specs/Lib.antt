@@ -6,4 +6,8 @@ pub mod LastChain
 pub mod Paths
 pub mod Escapes
 pub mod PathTexts
+pub mod Additions
+pub mod ChildMap
+pub mod Draft
+pub mod Groups
 pub mod Laws

@@ -1,6 +1,6 @@
 // Laws of trees, for the proofs of those who build on them. None of these functions does anything.
 
-ghost use Rattle.adf_tree.specs.Laws.{CaseKeepsPaths, CaseKeepsSlots, ChildrenAreFound, EntriesStandInOneChain, PathsAreFound, TreesGrowInOrder};
+ghost use Rattle.adf_tree.specs.Laws.{AddingGrowsTheTree, AdditionsAreBuilt, AdditionsHaveOneTree, CaseKeepsPaths, CaseKeepsSlots, ChildrenAreFound, EntriesStandInOneChain, PathsAreFound, TreesGrowInOrder};
 
 /// Every entry is a member of the chain of exactly one parent and slot.
 pub fn entries_stand_in_one_chain()
@@ -30,4 +30,19 @@ pub fn paths_are_found()
 /// The entries of a tree, added in their order, give that tree.
 pub fn trees_grow_in_order()
     ensures { TreesGrowInOrder }
+{}
+
+/// Two trees of the same additions are one.
+pub fn additions_have_one_tree()
+    ensures { AdditionsHaveOneTree }
+{}
+
+/// What `add` makes of the tree of some additions is the tree of one addition more.
+pub fn adding_grows_the_tree()
+    ensures { AddingGrowsTheTree }
+{}
+
+/// Additions that all have room have the tree that `add` makes of them.
+pub fn additions_are_built()
+    ensures { AdditionsAreBuilt }
 {}

@@ -1,9 +1,12 @@
 //! Names, paths and trees of Amiga volumes.
 #![tactic(auto)]
 
+mod child_map;
 mod comment;
+mod draft;
 mod entry;
 mod escapes;
+mod groups;
 mod label;
 mod last_chain;
 mod laws;
@@ -17,12 +20,14 @@ mod tree;
 mod walk_order;
 
 pub use crate::comment::Comment;
+pub use crate::draft::Draft;
 pub use crate::entry::{Body, Bytes, Entry, Kind, Meta, Node, Stamps};
 pub use crate::escapes::spellings_decide;
 pub use crate::label::Label;
 pub use crate::laws::{
-    case_keeps_paths, case_keeps_slots, children_are_found, entries_stand_in_one_chain,
-    paths_are_found, trees_grow_in_order,
+    adding_grows_the_tree, additions_are_built, additions_have_one_tree, case_keeps_paths,
+    case_keeps_slots, children_are_found, entries_stand_in_one_chain, paths_are_found,
+    trees_grow_in_order,
 };
 pub use crate::name::Name;
 pub use crate::name_set::NameSet;

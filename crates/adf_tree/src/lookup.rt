@@ -56,8 +56,8 @@ pub fn entry(entries: &[Entry], n: Node) -> Option<&Entry>
     entries.get(n.0 - 1)
 }
 
-// Whether the node is a directory.
-fn is_dir(entries: &[Entry], n: Node) -> bool
+/// Whether the node is a directory.
+pub fn is_dir(entries: &[Entry], n: Node) -> bool
     ensures { result ≡ is_dir entries.now n }
 {
     if n.0 == 0 {

@@ -27,8 +27,8 @@ impl Model for NameSet {
     ghost view = { λ s. s.names };
 }
 
-// The name without the case of `a` to `z`.
-fn raised(name: &Name) -> ArrayVec<u8, 30>
+/// The name without the case of `a` to `z`.
+pub fn raised(name: &Name) -> ArrayVec<u8, 30>
     ensures { result.items ≡ uppers name.now }
 {
     let bytes = name.bytes();

@@ -1,8 +1,8 @@
 // Names, paths and trees, on examples.
 
 use crate::{
-    AddFault, Body, Bytes, Comment, Entry, Kind, Label, Meta, Name, Node, PathFault, Stamps, Tree,
-    read_path, write_path,
+    AddFault, Body, Bytes, Comment, Draft, Entry, Kind, Label, Meta, Name, Node, PathFault, Stamps,
+    Tree, read_path, write_path,
 };
 use adf_fields::Stamp;
 use std::alloc::Global;
@@ -35,15 +35,19 @@ fn is(bytes: &[u8], text: &[u8]) -> bool {
     bytes == text
 }
 
-// Adds a directory, or an empty file.
-fn add(alloc: Global, tree: &mut Tree, text: &[u8], is_dir: bool) -> Result<(), AddFault> {
-    let path = read_path(alloc, text).map_err(|_| AddFault::NoMemory)?;
-    let body = if is_dir {
+// A directory, or an empty file.
+fn body(alloc: Global, is_dir: bool) -> Body {
+    if is_dir {
         Body::Dir
     } else {
         Body::File(Bytes::new(Vec::new(alloc)))
-    };
-    tree.add(&path, meta(), body)
+    }
+}
+
+// Adds a directory, or an empty file.
+fn add(alloc: Global, tree: &mut Tree, text: &[u8], is_dir: bool) -> Result<(), AddFault> {
+    let path = read_path(alloc, text).map_err(|_| AddFault::NoMemory)?;
+    tree.add(&path, meta(), body(alloc, is_dir))
 }
 
 fn name_of(tree: &Tree, n: usize) -> &[u8] {
@@ -182,4 +186,64 @@ fn adds_last(rt: HostRuntime) {
     };
     assert!(rt; tree.add_last(entry).is_ok());
     assert!(rt; is(name_of(&tree, 1), b"a"));
+}
+
+// Adds a directory where the text ends in `/`, or else an empty file; tells whether both answer alike.
+fn add_to_both(alloc: Global, tree: &mut Tree, draft: &mut Draft, text: &[u8]) -> bool {
+    let (names, is_dir) = match text.strip_suffix(b"/".as_slice()) {
+        Some(names) => (names, true),
+        None => (text, false),
+    };
+    let Ok(path) = read_path(alloc, names) else {
+        return false;
+    };
+    tree.add(&path, meta(), body(alloc, is_dir)) == draft.add(&path, meta(), body(alloc, is_dir))
+}
+
+fn is_entry(tree: &Tree, other: &Tree, n: Node) -> bool {
+    match (tree.entry(n), other.entry(n)) {
+        (Some(a), Some(b)) => a.parent == b.parent && is(a.name.bytes(), b.name.bytes()),
+        _ => false,
+    }
+}
+
+#[test]
+fn drafts_are_trees(rt: HostRuntime) {
+    let orders: [&[&[u8]]; 3] = [
+        &[
+            b"a/", b"a/b/", b"a/b/c", b"3/", b"3/x", b"A/y", b"a/B/d/", b"z/q", b"a/b/c/e", b"3",
+            b"AN", b"BA",
+        ],
+        &[
+            b"BA", b"AN", b"3/", b"3/AN/", b"3/BA", b"3/an/f", b"x/", b"a/", b"x/k/", b"a/k/",
+            b"a/k/m", b"x/k/n",
+        ],
+        &[
+            b"x/",
+            b"x/y/",
+            b"x/y/z/",
+            b"x/y/z/w/",
+            b"a/",
+            b"a/b",
+            b"x/y/z/v",
+            b"x/y/BA",
+            b"x/y/AN",
+            b"c/",
+            b"c/d",
+        ],
+    ];
+    for order in orders.iter() {
+        let label = Label::new(b"Work").expect(&rt, "a label");
+        let mut tree = Tree::new(rt.alloc(), Kind::Ofs, label, stamps());
+        let label = Label::new(b"Work").expect(&rt, "a label");
+        let mut draft = Draft::new(rt.alloc(), Kind::Ofs, label, stamps());
+        for text in order.iter() {
+            assert!(rt; add_to_both(rt.alloc(), &mut tree, &mut draft, text));
+        }
+        let made = draft.finish(rt.alloc()).expect(&rt, "memory");
+        assert_eq!(rt; made.len(), tree.len());
+        for i in 0..tree.len() {
+            assert!(rt; is_entry(&made, &tree, Node(i + 1)));
+        }
+    }
 }

@@ -1,0 +1,5 @@
+use Rattle.adf_tree.proofs.Grown.{grown}
+use Rattle.adf_tree.proofs.laws.adding_grows_the_tree.Goals as goal
+
+pub returns : goal.returns
+returns c = λ es a x t ok. grown es a x t ok

@@ -1,0 +1,5 @@
+use Rattle.adf_tree.proofs.OneTree.{one_tree}
+use Rattle.adf_tree.proofs.laws.additions_have_one_tree.Goals as goal
+
+pub returns : goal.returns
+returns c = λ es others a t u. one_tree es others a t u

@@ -1,0 +1,50 @@
+-- The tree of a list of additions.
+use Rattle.std.specs.Prelude.{◌≡◌, ◌≢◌, ℕ, ◌==◌, ◌&&◌, ◌<◌, Bool, List, [], Some, None, length, map, take, fold, slice_index_or, IsOk}
+use Rattle.std.specs.List.{All, filter}
+use Rattle.std.specs.Cmp.Lexicographic.{pointwise}
+use Rattle.std.specs.Str.{bytes_eq}
+use Rattle.adf_fields.specs.Hash.{slot_of}
+use Rattle.adf_tree.specs.Texts.{uppers}
+use Rattle.adf_tree.specs.declared.entry.Entry.{Entry}
+use Rattle.adf_tree.specs.declared.entry.Meta.{Meta}
+use Rattle.adf_tree.specs.declared.entry.Body.{Body}
+use Rattle.adf_tree.specs.Tree.{added, find, last_of, new_entry, parents_of, room_for, IsTree}
+use Rattle.adf_tree.specs.Chain.{chain}
+use Rattle.adf_tree.specs.Paths.{content, told, Content}
+
+-- a new path, and what it gets
+pub record Addition : Type 0 where
+  pub path : List (List ℕ)
+  pub meta : Meta
+  pub body : Body
+
+-- what the entry of an addition has beside its place in the tree
+abbrev pub content_of : Addition → Content
+content_of x = record { name = last_of x.path; meta = x.meta; body = x.body }
+
+-- whether two paths are one, whatever the case
+abbrev pub same_path : List (List ℕ) → List (List ℕ) → Bool
+same_path a b = pointwise bytes_eq (map uppers a) (map uppers b)
+
+-- whether an addition comes into this directory and slot
+abbrev pub comes_into : List (List ℕ) → ℕ → Addition → Bool
+comes_into dir s x = same_path (parents_of x.path) dir && (slot_of (last_of x.path) == s)
+
+-- es is the tree of these additions: it tells each of them, and nothing else, and the chains have them in their order
+pub record IsTreeOf (es : List Entry) (additions : List Addition) : Type 0 where
+  pub tree : IsTree es
+  pub there : All (λ x. told es x.path ≡ Some (content_of x)) additions
+  pub others : (q : List (List ℕ)) → All (λ x. map uppers q ≢ map uppers x.path) additions → told es q ≡ None
+  pub chains : (dir : List (List ℕ)) (p s : ℕ) → find es dir ≡ Some p → map content (chain es p s) ≡ map content_of (filter (comes_into dir s) additions)
+
+-- the entries with an addition more, as `add` leaves them
+abbrev pub with_addition : List Entry → Addition → List Entry
+with_addition es x = added es (new_entry es x.path x.meta x.body)
+
+-- the entries that `add` leaves, one addition after another
+abbrev pub built : List Addition → List Entry
+built additions = fold with_addition [] additions
+
+-- each addition has room in the tree of those before it
+abbrev pub AllHaveRoom : List Addition → Type 0
+AllHaveRoom additions = (i : ℕ) (d : Addition) → i < length additions → IsOk (room_for (built (take i additions)) (slice_index_or additions i d).path)

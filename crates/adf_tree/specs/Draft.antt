@@ -1,0 +1,62 @@
+-- Trees in the making: the entries in the order of their additions, numbered from 1 in this order, and with parents by these numbers.
+use Rattle.std.specs.Prelude.{◌≡◌, ℕ, ◌+◌, ◌-◌, ◌<◌, ◌≤◌, List, [], ◌∷◌, ◌++◌, Some, Result, Ok, Err, option_map, length, map, fold, slice_index_or}
+use Rattle.adf_tree.specs.Texts.{uppers}
+use Rattle.adf_tree.specs.declared.entry.Entry.{Entry}
+use Rattle.adf_tree.specs.declared.tree.AddFault.{AddFault}
+use Rattle.adf_tree.specs.Tree.{added, child, moved, place, rank, IsTree}
+use Rattle.adf_tree.specs.Chain.{chain}
+use Rattle.adf_tree.specs.ChildMap.{number_in, Numbers}
+
+-- the tree that additions give, and the number that each of them has in it
+pub record Walk : Type 0 where
+  pub entries : List Entry
+  pub nodes : List ℕ
+
+-- the number in the tree of the addition of this number, and 0 for the root
+abbrev pub node_of : List ℕ → ℕ → ℕ
+node_of nodes m = slice_index_or (0 ∷ nodes) m 0
+
+-- the entry in the tree
+abbrev pub in_tree : List ℕ → Entry → Entry
+in_tree nodes d = record d { parent = node_of nodes d.parent }
+
+-- where the entry of one addition more is put
+abbrev pub place_in : Walk → Entry → ℕ
+place_in w d = place w.entries (rank (in_tree w.nodes d)) + 1
+
+-- one addition more
+abbrev pub walk_more : Walk → Entry → Walk
+walk_more w d = record { entries = added w.entries (in_tree w.nodes d); nodes = map (moved (place_in w d)) w.nodes ++ place_in w d ∷ [] }
+
+abbrev pub walk : List Entry → Walk
+walk drafts = fold walk_more (record { entries = []; nodes = [] }) drafts
+
+-- the parent of each addition is the root or an earlier one
+abbrev pub HasEarlyParents : List Entry → Type 0
+HasEarlyParents drafts = (i : ℕ) (d : Entry) → i < length drafts → (slice_index_or drafts i d).parent ≤ i
+
+-- what holds of additions and the tree that they give
+pub record IsWalk (drafts : List Entry) (w : Walk) : Type 0 where
+  pub tree : IsTree w.entries
+  pub count : length w.entries ≡ length drafts
+  pub nodes : length w.nodes ≡ length drafts
+  pub within : (m : ℕ) → m ≤ length drafts → node_of w.nodes m ≤ length drafts
+  pub apart : (m k : ℕ) → m ≤ length drafts → k ≤ length drafts → node_of w.nodes m ≡ node_of w.nodes k → m ≡ k
+  pub parents : HasEarlyParents drafts
+  pub entries : (m : ℕ) (d : Entry) → 0 < m → m ≤ length drafts → slice_index_or w.entries (node_of w.nodes m - 1) d ≡ in_tree w.nodes (slice_index_or drafts (m - 1) d)
+  pub chains : (m s : ℕ) → m ≤ length drafts → chain w.entries (node_of w.nodes m) s ≡ map (in_tree w.nodes) (chain drafts m s)
+
+-- the numbers of the additions are found by their parents and names
+pub record AreNumbered (drafts : List Entry) (w : Walk) (numbers : Numbers) : Type 0 where
+  pub within : (m k : ℕ) (name : List ℕ) → number_in numbers m name ≡ Some k → (m ≤ length drafts) × (k ≤ length drafts)
+  pub found : (m : ℕ) (name : List ℕ) → m ≤ length drafts → child w.entries (node_of w.nodes m) name ≡ option_map (node_of w.nodes) (number_in numbers m (uppers name))
+
+-- what holds of every tree in the making
+pub record IsDraft (drafts : List Entry) (numbers : Numbers) : Type 0 where
+  pub gives : IsWalk drafts (walk drafts)
+  pub found : AreNumbered drafts (walk drafts) numbers
+
+-- a directory among the additions, as the tree numbers it
+abbrev pub room_in_tree : List ℕ → Result ℕ AddFault → Result ℕ AddFault
+room_in_tree nodes (Ok m) = Ok (node_of nodes m)
+room_in_tree nodes (Err f) = Err f
