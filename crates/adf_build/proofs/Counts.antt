@@ -1,5 +1,5 @@
 -- Steps of a count of blocks over the entries of a tree.
-use Rattle.std.proofs.Common.{◌≡◌, ◌≤◌, ◌<◌, ℕ, zero, suc, ◌+◌, ◌-◌, ◌^◌, List, [], ◌∷◌, length, drop, min, refl, sym, ap, ◌∙◌, arith, Some, None, add-one, false}
+use Rattle.std.proofs.Common.{◌≡◌, ◌≤◌, ◌<◌, ℕ, zero, suc, ◌+◌, ◌-◌, ◌^◌, List, [], ◌∷◌, length, drop, min, refl, sym, ap, ◌∙◌, arith, Option, Bor, IsSome, option_copied, Some, None, add-one, false}
 use Rattle.std.specs.Prelude.{if◌then◌else◌, ◌==◌}
 use Rattle.std.specs.List.{slice_get}
 use Rattle.std.proofs.lemmas.Bool.Decides.{nat_tests}
@@ -31,6 +31,19 @@ none_left kind [] (suc i) h = refl
 none_left kind (e ∷ es) zero h = absurd (omega arith)
 none_left kind (e ∷ es) (suc i) h = none_left kind es i (omega arith)
 
+-- there is an entry to count
+pub count_goes_on : (es : List Entry) (i : ℕ) → None ≡ entry es (i + 1) → i < length es → ⊥
+count_goes_on es i h lt = none_past es i (sym (h ∙ entry-next es i)) lt
+
+-- an entry is there
+pub some_entry : (es : List Entry) (i : ℕ) (r : Option (Bor Entry)) → option_copied r ≡ entry es (i + 1) → i < length es → IsSome r
+some_entry es i None h lt = absurd (count_goes_on es i h lt)
+some_entry es i (Some e) h lt = refl
+
+-- what is left from an entry on
+pub entry_left : (es : List Entry) (i : ℕ) (e : Entry) → Some e ≡ entry es (i + 1) → drop i es ≡ e ∷ drop (i + 1) es
+entry_left es i e h = left_is es i e (sym (h ∙ entry-next es i)) ∙ ap (λ k. e ∷ drop k es) (sym (add-one i))
+
 -- one entry more is counted
 pub count_step : (kind : Kind) (es : List Entry) (i sum new need : ℕ) (e : Entry) → Some e ≡ entry es (i + 1) → new ≡ min (sum + entry_blocks kind e) (2 ^ 64 - 1)
     → min (sum + entries_blocks kind (drop i es)) (2 ^ 64 - 1) ≡ need → min (new + entries_blocks kind (drop (i + 1) es)) (2 ^ 64 - 1) ≡ need
@@ -38,7 +51,3 @@ count_step kind es i sum new need e h f inv =
     let split = left_is es i e (sym (h ∙ entry-next es i)) in
     let more : entries_blocks kind (drop i es) ≡ entry_blocks kind e + entries_blocks kind (drop (i + 1) es) = ap (entries_blocks kind) split ∙ ap (λ k. entry_blocks kind e + entries_blocks kind (drop k es)) (sym (add-one i)) in
     omega arith
-
--- there is an entry to count
-pub count_goes_on : (es : List Entry) (i : ℕ) → None ≡ entry es (i + 1) → i < length es → ⊥
-count_goes_on es i h lt = none_past es i (sym (h ∙ entry-next es i)) lt

@@ -1,4 +1,6 @@
-pub mod Bits
+pub mod GivenBlocks
 pub mod Rows
 pub mod Counts
-pub mod EmptyLaws
+pub mod Order
+pub mod Steps
+pub mod WholeVolume

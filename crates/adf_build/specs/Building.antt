@@ -1,13 +1,16 @@
 -- What building answers.
-use Rattle.std.specs.Prelude.{◌≡◌, ◌≤◌, ◌<◌, ◌-◌, ◌^◌, ◌+◌, ◌++◌, ℕ, List, [], ◌∷◌, true, false, min, replicate}
+use Rattle.std.specs.Prelude.{◌≡◌, ◌≤◌, ◌<◌, ◌+◌, ◌-◌, ◌^◌, ℕ, List, ◌∷◌, length, true, false, min}
+use Rattle.std.proofs.Common.{suc}
+use Rattle.adf_tree.specs.Texts.{is_name}
 use Rattle.adf_tree.specs.Tree.{Tree}
+use Rattle.adf_tree.specs.declared.entry.Entry.{Entry}
 use Rattle.adf_tree.specs.declared.entry.Kind.{Kind}
-use Rattle.adf_tree.specs.declared.entry.Stamps.{Stamps}
-use Rattle.adf_blocks.specs.Fields.{laid}
-use Rattle.adf_blocks.specs.RootBlock.{RootFields, root_block}
-use Rattle.adf_blocks.specs.Sizes.{is_allowed, middle, pages_needed}
-use Rattle.adf_volume.specs.Plan.{blocks_needed, row}
-use Rattle.adf_volume.specs.Laid.{boot_bytes, page_parts}
+use Rattle.adf_blocks.specs.HeadBlock.{FitsMeta, HeadFields, head_block}
+use Rattle.adf_blocks.specs.HeadBlock.BodyFields.{FileFields}
+use Rattle.adf_blocks.specs.Sizes.{is_allowed}
+use Rattle.adf_volume.specs.Plan.{blocks_needed, exts_needed, given, run}
+use Rattle.adf_volume.specs.Laid.{body_of, body_parts, given_or_none}
+use Rattle.adf_build.specs.declared.heads.Spot.{Spot}
 use Rattle.adf_build.specs.declared.builder.BuildFault.{BuildFault}
 use Rattle.adf_build.specs.declared.builder.BuildFault.TheVariants.{BadSize, Full, NoMemory}
 
@@ -26,12 +29,34 @@ IsBuildFault tree n BadSize = is_allowed n ≡ false
 IsBuildFault tree n (Full need have) = (is_allowed n ≡ true) × (need ≡ need_of tree n) × (have ≡ n - 2) × (have < need)
 IsBuildFault tree n NoMemory = HasRoom tree n
 
--- the fields of a root that names no header
-abbrev pub empty_root : List ℕ → List ℕ → Stamps → RootFields
-empty_root pages label stamps = record { slots = replicate 72 0; pages = pages; label = label; stamps = stamps }
+-- what a block has room for: the name, the comment and the numbers of an entry
+pub record IsSoundEntry (e : Entry) : Type 0 where
+  pub name : is_name e.name ≡ true
+  pub comment : length e.meta.comment ≤ 79
+  pub meta : FitsMeta e.meta
 
--- every block of a volume without entries that is written, with its bytes
-abbrev pub empty_parts : ℕ → Kind → List ℕ → Stamps → List (ℕ × List ℕ)
-empty_parts n kind label stamps =
-    page_parts n 0 0 (pages_needed n)
-    ++ (middle n, root_block (empty_root (row (middle n + 1) (pages_needed n)) label stamps)) ∷ (0, laid ((0, boot_bytes kind) ∷ [])) ∷ []
+-- the fields of the header of an entry with these slots, in a volume of n blocks
+abbrev pub header : ℕ → Kind → Spot → List ℕ → Entry → HeadFields
+header n kind spot slots e = record {
+  own = given n spot.k;
+  parent = spot.parent;
+  next = spot.next;
+  name = e.name;
+  meta = e.meta;
+  body = body_of n spot.k kind slots e.body;
+}
+
+-- the fields of the header of a file of so many bytes in so many data blocks
+abbrev pub file_header : ℕ → Spot → ℕ → ℕ → Entry → HeadFields
+file_header n spot size datas e = record {
+  own = given n spot.k;
+  parent = spot.parent;
+  next = spot.next;
+  name = e.name;
+  meta = e.meta;
+  body = FileFields size (run n (suc spot.k + exts_needed datas) (min 72 datas)) (given_or_none n (suc spot.k) (exts_needed datas));
+}
+
+-- the blocks of an entry with these slots, in a volume of n blocks
+abbrev pub entry_parts : ℕ → Kind → Spot → List ℕ → Entry → List (ℕ × List ℕ)
+entry_parts n kind spot slots e = (given n spot.k, head_block (header n kind spot slots e)) ∷ body_parts n kind spot.k e.body

@@ -1,13 +1,15 @@
 // Building.
 
-ghost use Rattle.std.specs.Prelude.{◌≡◌, ◌*◌, [], IfOk, IfErr, OnOk, vec_len};
+ghost use Rattle.std.specs.Prelude.{◌≡◌, ◌*◌, IfOk, IfErr, OnOk, vec_len};
 ghost use Rattle.adf_volume.specs.Fits.{Fits};
 ghost use Rattle.adf_volume.specs.Laid.{IsLaid, volume};
 ghost use Rattle.adf_volume.specs.Plan.{planned};
 ghost use Rattle.adf_build.specs.Building.{HasRoom, IsBuildFault};
 
 use crate::counting::need;
-use crate::empty::write_empty;
+use crate::nodes::nodes_of;
+use crate::volume::write_volume;
+use adf_blocks::page_count;
 use adf_fields::BLOCK_LEN;
 use adf_tree::Tree;
 use std::alloc::Global;
@@ -23,10 +25,9 @@ pub enum BuildFault {
     NoMemory,
 }
 
-/// The image of a tree without entries in a volume of so many blocks: the root in the middle, the bitmap pages behind it, the
-/// bits of the volume's own blocks, and 0 in every byte that is not asked for.
+/// The image of a tree in a volume of so many blocks: the root in the middle, the bitmap pages behind it, the entries in
+/// order in the blocks that are left, and 0 in every byte that is not asked for.
 pub fn build(alloc: Global, tree: &Tree, blocks: u32) -> Result<Vec<u8>, BuildFault>
-    requires { tree.now.entries ≡ [] }
     ensures laid { IfOk result (λ image. IsLaid image.items tree.now) }
     ensures fits { IfOk result (λ image. Fits image.items tree.now (planned tree.now blocks)) }
     ensures bytes { IfOk result (λ image. image.items ≡ volume tree.now blocks) }
@@ -41,9 +42,13 @@ pub fn build(alloc: Global, tree: &Tree, blocks: u32) -> Result<Vec<u8>, BuildFa
     if need > have {
         return Err(BuildFault::Full { need, have });
     }
+    let Ok(nodes) = nodes_of(alloc, tree, blocks) else {
+        return Err(BuildFault::NoMemory);
+    };
     let Ok(mut image) = vec![in alloc; 0u8; blocks as usize * BLOCK_LEN] else {
         return Err(BuildFault::NoMemory);
     };
-    write_empty(&mut image, blocks, tree.kind(), tree.label(), tree.stamps());
+    let total = (need - 1) as u32 - page_count(blocks);
+    write_volume(&mut image, blocks, tree, &nodes, total);
     Ok(image)
 }

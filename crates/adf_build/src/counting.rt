@@ -10,9 +10,9 @@ ghost use Rattle.adf_volume.specs.Plan.{data_blocks, entry_blocks, exts_needed};
 use adf_blocks::{is_allowed_size, page_count};
 use adf_tree::{Body, Entry, Kind, Node, Tree};
 
-// The data bytes of a block.
+/// The data bytes of a block.
 #[tactic(auto, unfolding(adf_volume::specs::Image::chunk))]
-fn bytes_of_block(kind: Kind) -> usize
+pub fn bytes_of_block(kind: Kind) -> usize
     ensures exact { result ≡ chunk kind }
     ensures low { 488 ≤ result }
     ensures high { result ≤ 512 }
@@ -23,9 +23,9 @@ fn bytes_of_block(kind: Kind) -> usize
     }
 }
 
-// The data blocks of a body.
+/// The data blocks of a body.
 #[tactic(auto, unfolding(adf_volume::specs::Image::count))]
-fn data_count(kind: Kind, body: &Body) -> usize
+pub fn data_count(kind: Kind, body: &Body) -> usize
     ensures { result ≡ data_blocks kind body.now }
 {
     match body {
@@ -34,9 +34,9 @@ fn data_count(kind: Kind, body: &Body) -> usize
     }
 }
 
-// The extension blocks of so many data blocks.
+/// The extension blocks of so many data blocks.
 #[tactic(auto, unfolding(adf_volume::specs::Plan::exts_needed))]
-fn ext_count(datas: usize) -> usize
+pub fn ext_count(datas: usize) -> usize
     ensures { result ≡ exts_needed datas }
 {
     datas.saturating_sub(72).div_ceil(72)
@@ -53,7 +53,7 @@ fn add_entry(sum: u64, kind: Kind, entry: &Entry) -> u64
 }
 
 // The blocks that the tree needs in a volume of so many blocks, or the greatest number.
-#[tactic(auto, using(crate::proofs::EmptyLaws::reserved_is))]
+#[tactic(auto, using(crate::proofs::GivenBlocks::reserved_is))]
 fn count_blocks(tree: &Tree, blocks: u32) -> u64
     requires { is_allowed blocks ≡ true }
     ensures { result ≡ need_of tree.now blocks }

@@ -2,9 +2,16 @@
 #![tactic(auto)]
 
 mod builder;
+mod chains;
 mod counting;
-mod empty;
+mod datas;
+mod entries;
+mod exts;
+mod given;
+mod heads;
+mod nodes;
 mod pages;
+mod volume;
 
 pub use crate::builder::{BuildFault, build};
 pub use crate::counting::need;

@@ -1,4 +1,4 @@
-// The bitmap pages of a volume without entries.
+// The bitmap pages of a volume.
 
 ghost use Rattle.std.specs.Prelude.{◌≡◌, ◌≤◌, ◌<◌, ◌+◌, ◌*◌, ◌^◌, true, length};
 ghost use Rattle.adf_blocks.specs.Sizes.{is_allowed, pages_needed};
@@ -8,56 +8,58 @@ ghost use Rattle.adf_volume.specs.Lay.{lay};
 
 use adf_blocks::{page_count, write_page};
 
-// Whether block `b` is the root or a bitmap page.
-#[tactic(auto, using(crate::proofs::EmptyLaws::used_without_entries))]
-fn is_used_block(blocks: u32, b: u32) -> bool
+// Whether block `b` is the root, a bitmap page or one of the first `total` given blocks.
+#[tactic(auto, using(crate::proofs::GivenBlocks::used_low, crate::proofs::GivenBlocks::used_high))]
+fn is_used_block(blocks: u32, total: u32, b: u32) -> bool
     requires { is_allowed blocks ≡ true }
-    ensures { result ≡ is_used blocks 0 b }
+    ensures { result ≡ is_used blocks total b }
 {
-    let middle = blocks / 2;
-    middle <= b && b <= middle + page_count(blocks)
+    if b < blocks / 2 {
+        return b.saturating_sub(2) < total;
+    }
+    let pages = page_count(blocks);
+    b <= blocks / 2 + pages || b.saturating_sub(3 + pages) < total
 }
 
 // The word of the bits of 32 blocks, of which the first is `2 + q`.
-#[tactic(auto, using(crate::proofs::Bits::bits_step, crate::proofs::Bits::bits_fit, crate::proofs::Bits::bits_start))]
-fn page_word(blocks: u32, q: u32) -> u32
+#[tactic(auto, using(adf_volume::proofs::Bits::bits_step, adf_volume::proofs::Bits::bits_fit, adf_volume::proofs::Bits::bits_start))]
+fn page_word(blocks: u32, total: u32, q: u32) -> u32
     requires size { is_allowed blocks ≡ true }
     requires far { q < 2 ^ 30 }
-    ensures { result ≡ bits_from (is_free_bit blocks 0) q 32 }
+    ensures { result ≡ bits_from (is_free_bit blocks total) q 32 }
 {
     let mut word = 0u32;
     let mut i = 32;
     while i > 0 {
         i -= 1;
         let b = 2 + q + i;
-        let is_free = b < blocks && !is_used_block(blocks, b);
+        let is_free = b < blocks && !is_used_block(blocks, total, b);
         word = 2 * word + u32::from(is_free);
     }
     word
 }
 
 // Words 1 to 127 of page `j`.
-#[tactic(auto, using(crate::proofs::Bits::words_step))]
-fn words_of_page(blocks: u32, j: u32) -> [u32; 127]
+#[tactic(auto, using(adf_volume::proofs::Bits::words_step))]
+fn words_of_page(blocks: u32, total: u32, j: u32) -> [u32; 127]
     requires size { is_allowed blocks ≡ true }
     requires page { j < 25 }
-    ensures { result ≡ page_words blocks 0 j }
+    ensures { result ≡ page_words blocks total j }
 {
     let mut words = [0u32; 127];
     for w in 0..127usize {
-        words[w] = page_word(blocks, 4064 * j + 32 * w as u32);
+        words[w] = page_word(blocks, total, 4064 * j + 32 * w as u32);
     }
     words
 }
 
-/// Writes the bitmap pages behind the root.
-#[tactic(auto, using(crate::proofs::Bits::pages_step))]
-pub fn write_pages(image: &mut [u8], blocks: u32)
+/// Writes the bitmap pages behind the root of a volume that gives its first `total` blocks to entries.
+pub fn write_pages(image: &mut [u8], blocks: u32, total: u32)
     requires size { is_allowed blocks ≡ true }
     requires whole { length image.old ≡ blocks * 512 }
-    ensures { image.new ≡ lay image.old (page_parts blocks 0 0 (pages_needed blocks)) }
+    ensures { image.new ≡ lay image.old (page_parts blocks total 0 (pages_needed blocks)) }
 {
     for j in 0..page_count(blocks) {
-        write_page(image, blocks / 2 + 1 + j, &words_of_page(blocks, j));
+        write_page(image, blocks / 2 + 1 + j, &words_of_page(blocks, total, j));
     }
 }

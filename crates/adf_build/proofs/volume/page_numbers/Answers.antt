@@ -1,6 +1,6 @@
 use Rattle.std.proofs.Common.{◌+◌, ◌/◌, refl, arith, rules}
 use Rattle.adf_build.proofs.Rows.{row_step}
-use Rattle.adf_build.proofs.empty.page_numbers.Goals as goal
+use Rattle.adf_build.proofs.volume.page_numbers.Goals as goal
 
 pub loop-j-preserved : goal.loop-j-preserved
 loop-j-preserved c = record {

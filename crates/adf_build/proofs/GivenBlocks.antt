@@ -1,0 +1,65 @@
+-- The blocks that are given to entries, and the tables that name them.
+use Rattle.std.proofs.Common.{◌≡◌, ◌≤◌, ◌<◌, ◌+◌, ◌-◌, ◌*◌, ◌/◌, ℕ, zero, suc, List, [], ◌∷◌, ◌++◌, sym, ap, ◌∙◌, arith, true, length, take, add-one}
+use Rattle.std.specs.Prelude.{nat_le, nat_lt, ◌||◌}
+use Rattle.std.proofs.Math.ListN.{set}
+use Rattle.std.proofs.lemmas.Bool.Decides.{nat_tests}
+use Rattle.std.proofs.lemmas.List.{take_more_set}
+use Rattle.adf_tree.specs.declared.entry.Kind.{Kind}
+use Rattle.adf_tree.specs.declared.entry.Kind.TheVariants.{Ofs, Ffs}
+use Rattle.adf_blocks.specs.Sizes.{is_allowed, pages_needed}
+use Rattle.adf_volume.specs.Bits.{is_used}
+use Rattle.adf_volume.specs.Image.{chunk, count, map_exts_needed}
+use Rattle.adf_volume.specs.Plan.{given, reserved, run}
+use Rattle.adf_volume.proofs.Given.{given_below}
+use Rattle.adf_volume.proofs.Holding.{size_low, size_high, pages_few}
+
+-- only the pages stand behind the root
+pub reserved_is : (n : ℕ) → is_allowed n ≡ true → reserved n ≡ pages_needed n
+unfolding reserved map_exts_needed
+reserved_is n h = let few = pages_few n (size_high n h) in omega arith
+
+pub given_low : (n k : ℕ) → 2 + k < n / 2 → given n k ≡ 2 + k
+unfolding given
+given_low n k h = grind (arith, nat_tests)
+
+high_by : (n k r : ℕ) → reserved n ≡ r → n / 2 ≤ 2 + k → given n k ≡ 3 + k + r
+unfolding given
+high_by n k r e h = grind (arith, nat_tests)
+
+pub given_high : (n k : ℕ) → is_allowed n ≡ true → n / 2 ≤ 2 + k → given n k ≡ 3 + k + pages_needed n
+given_high n k a h = high_by n k (pages_needed n) (reserved_is n a) h
+
+-- a block that is used, below the root
+pub used_low : (n total b : ℕ) → b < n / 2 → is_used n total b ≡ nat_lt (b - 2) total
+unfolding is_used
+used_low n total b h = grind (arith, nat_tests)
+
+used_by : (n total r b : ℕ) → reserved n ≡ r → n / 2 ≤ b → is_used n total b ≡ (nat_le b (n / 2 + r) || nat_lt (b - (3 + r)) total)
+unfolding is_used
+used_by n total r b e h = grind (arith, nat_tests)
+
+-- a block that is used, from the root on
+pub used_high : (n total b : ℕ) → is_allowed n ≡ true → n / 2 ≤ b → is_used n total b ≡ (nat_le b (n / 2 + pages_needed n) || nat_lt (b - (3 + pages_needed n)) total)
+used_high n total b a h = used_by n total (pages_needed n) b (reserved_is n a) h
+
+-- a given block lies whole in the image
+pub given_fits : (n k l : ℕ) → is_allowed n ≡ true → 1 + reserved n + (k + 1) ≤ n - 2 → l ≡ n * 512 → given n k * 512 + 512 ≤ l
+given_fits n k l h r e =
+    let four = size_low n h in
+    let b = given_below n k four (omega arith) in
+    omega arith
+
+run_more : (n k m : ℕ) → run n k (suc m) ≡ run n k m ++ given n (k + m) ∷ []
+run_more n k zero = let e : k ≡ k + 0 = omega arith in ap (λ j. given n j ∷ []) e
+run_more n k (suc m) = let e : suc k + m ≡ k + suc m = omega arith in ap (λ l. given n k ∷ l) (run_more n (suc k) m ∙ ap (λ j. run n (suc k) m ++ given n j ∷ []) e)
+
+-- one block more in a table
+pub run_step : (table : List ℕ) (n k j v : ℕ) → j < length table → take j table ≡ run n k j → v ≡ given n (k + j) → take (j + 1) (set table j v) ≡ run n k (j + 1)
+run_step table n k j v h e f =
+    take_more_set table j v h ∙ ap (λ l. l ++ v ∷ []) e ∙ ap (λ v. run n k j ++ v ∷ []) f ∙ sym (run_more n k j) ∙ ap (run n k) (sym (add-one j))
+
+-- a file in so many data blocks is not longer than they are
+pub size_small : (kind : Kind) (size : ℕ) → size ≤ 512 * count kind size
+unfolding count chunk
+size_small Ofs size = omega arith
+size_small Ffs size = omega arith

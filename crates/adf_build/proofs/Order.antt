@@ -1,0 +1,162 @@
+-- The order of entries, and the chains that it makes.
+use Rattle.std.proofs.Common.{◌≡◌, ◌≤◌, ◌<◌, ◌≢◌, ◌+◌, ◌*◌, ℕ, zero, suc, List, [], ◌∷◌, refl, sym, ap, subst, ◌∙◌, arith, true, false, cond, length, drop, map, ◌⊎◌, inl, inr, get_or-set_other, get_or-set_same}
+use Rattle.std.specs.Prelude.{◌==◌, ◌&&◌, slice_index, slice_index_or, replicate}
+use Rattle.std.specs.List.{AllWithin, range_with_len}
+use Rattle.std.specs.List.Sorted.{IsNonDecreasingBy}
+use Rattle.std.proofs.Math.ListN.{set}
+use Rattle.std.proofs.lemmas.Bool.{cases_lt}
+use Rattle.std.proofs.lemmas.Bool.Decides.{nat_tests}
+use Rattle.std.proofs.lemmas.List.{get_or-replicate}
+use Rattle.std.proofs.lemmas.List.FromFn.{get_or-map-range_with_len, length-map-range_with_len}
+use Rattle.adf_fields.specs.Hash.{slot_of}
+use Rattle.adf_tree.specs.declared.entry.Entry.{Entry}
+use Rattle.adf_tree.specs.Chain.{in_chain}
+use Rattle.adf_tree.specs.Tree.{IsTree, rank}
+use Rattle.adf_tree.proofs.Kept.{slot_small}
+use Rattle.adf_volume.specs.Layout.{nodes_from}
+use Rattle.adf_volume.specs.Laid.{first_block, slots_of}
+use Rattle.adf_build.specs.Order.{RisesFrom}
+
+-- a lower bound
+pub rises_low : (q r : ℕ) (es : List Entry) → q ≤ r → RisesFrom r es → RisesFrom q es
+rises_low q r [] h o = tt
+rises_low q r (e ∷ es) h o = let l : r ≤ rank e = o.0 in (omega arith, o.1)
+
+rises : (r : ℕ) (es : List Entry) → ((j : ℕ) (d : Entry) → j < length es → r ≤ rank (slice_index_or es j d)) → IsNonDecreasingBy rank es → RisesFrom r es
+rises r [] f o = tt
+rises r (e ∷ es) f o = (
+  f 0 e (omega arith),
+  rises (rank e) es (λ j d l. o 0 (suc j) d (omega arith) (omega arith)) (λ i j d h l. o (suc i) (suc j) d (omega arith) (omega arith)),
+)
+
+-- the entries of a tree rise
+pub tree_rises : (es : List Entry) → IsTree es → RisesFrom 0 es
+tree_rises es t = rises 0 es (λ j d l. omega arith) t.order
+
+pub rises_drop : (r i : ℕ) (es : List Entry) → RisesFrom r es → RisesFrom r (drop i es)
+rises_drop r zero es o = o
+rises_drop r (suc i) [] o = tt
+rises_drop r (suc i) (e ∷ es) o = rises_drop r i es (rises_low r (rank e) es o.0 o.1)
+
+apart : (a b c d : ℕ) → (a ≡ b → c ≡ d → ⊥) → ((a == b) && (c == d)) ≡ false
+apart a b c d h = grind (arith, nat_tests)
+
+at_one : (a b c d : ℕ) → a ≡ b → c ≡ d → ((a == b) && (c == d)) ≡ true
+at_one a b c d e f = grind (arith, nat_tests)
+
+-- an entry that does not stand in a chain
+passed : (n : ℕ) (e : Entry) (es : List Entry) (p s : ℕ) → (e.parent ≡ p → slot_of e.name ≡ s → ⊥) → nodes_from n (e ∷ es) p s ≡ nodes_from (suc n) es p s
+passed n e es p s h = ap (λ t. cond t (n ∷ nodes_from (suc n) es p s) (nodes_from (suc n) es p s)) (apart e.parent p (slot_of e.name) s h)
+
+-- an entry that stands in a chain
+taken : (n : ℕ) (e : Entry) (es : List Entry) (p s : ℕ) → e.parent ≡ p → slot_of e.name ≡ s → nodes_from n (e ∷ es) p s ≡ n ∷ nodes_from (suc n) es p s
+taken n e es p s h k = ap (λ t. cond t (n ∷ nodes_from (suc n) es p s) (nodes_from (suc n) es p s)) (at_one e.parent p (slot_of e.name) s h k)
+
+-- where all entries stand behind a chain, it is empty
+pub none_below : (n r : ℕ) (es : List Entry) (p s : ℕ) → RisesFrom r es → 72 * p + s < r → nodes_from n es p s ≡ []
+none_below n r [] p s o h = refl
+none_below n r (e ∷ es) p s o h =
+    let l : r ≤ 72 * e.parent + slot_of e.name = o.0 in
+    passed n e es p s (λ a b. omega arith) ∙ none_below (suc n) (rank e) es p s o.1 (omega arith)
+
+not_both : (a b c d : ℕ) → ((a == b) && (c == d)) ≡ false → a ≡ b → c ≡ d → ⊥
+not_both a b c d t e f = grind (arith, nat_tests)
+
+-- the next of a chain is none, where the next entry stands elsewhere or there is none
+pub next_none : (at : ℕ → ℕ) (n : ℕ) (e f : Entry) (left rest : List Entry) → left ≡ f ∷ rest → RisesFrom (rank e) left → in_chain e.parent (slot_of e.name) f ≡ false
+    → first_block at (nodes_from n left e.parent (slot_of e.name)) ≡ 0
+next_none at n e f left rest split o t =
+    let h : f.parent ≡ e.parent → slot_of f.name ≡ slot_of e.name → ⊥ = not_both f.parent e.parent (slot_of f.name) (slot_of e.name) t in
+    let p : RisesFrom (rank e) (f ∷ rest) = subst (RisesFrom (rank e)) split o in
+    let l : 72 * e.parent + slot_of e.name ≤ 72 * f.parent + slot_of f.name = p.0 in
+    let s = slot_small e.name in
+    let u = slot_small f.name in
+    let up : 72 * e.parent + slot_of e.name < rank f = further e.parent f.parent (slot_of e.name) (slot_of f.name) l s u h in
+    ap (λ l. first_block at (nodes_from n l e.parent (slot_of e.name))) split
+    ∙ ap (first_block at) (passed n f rest e.parent (slot_of e.name) h ∙ none_below (suc n) (rank f) rest e.parent (slot_of e.name) p.1 up)
+  where
+    further : (p q s u : ℕ) → 72 * p + s ≤ 72 * q + u → s < 72 → u < 72 → (q ≡ p → u ≡ s → ⊥) → 72 * p + s < 72 * q + u
+    further p q s u l a b h = elim (cases_lt p q) [
+      | inl k ↦ omega arith
+      | inr k ↦ let e : q ≡ p = omega arith in let ne : u ≡ s → ⊥ = h e in omega arith
+    ]
+
+pub next_end : (at : ℕ → ℕ) (n p s : ℕ) (left : List Entry) → length left ≡ 0 → first_block at (nodes_from n left p s) ≡ 0
+next_end at n p s [] h = refl
+next_end at n p s (e ∷ es) h = absurd (omega arith)
+
+-- the entry at a place, by what is left from there on
+pub place_is : (es rest : List Entry) (i : ℕ) (e d : Entry) → drop i es ≡ e ∷ rest → slice_index_or es i d ≡ e
+place_is [] rest zero e d h = cc
+place_is [] rest (suc i) e d h = cc
+place_is (x ∷ es) rest zero e d h = cc
+place_is (x ∷ es) rest (suc i) e d h = place_is es rest i e d h
+
+-- the entries behind one of a tree rise from it
+pub rises_behind : (es rest : List Entry) (i : ℕ) (e : Entry) → IsTree es → drop i es ≡ e ∷ rest → RisesFrom (rank e) rest
+rises_behind es rest i e t split = let p : RisesFrom 0 (e ∷ rest) = subst (RisesFrom 0) split (rises_drop 0 i es (tree_rises es t)) in p.1
+
+-- the parent of an entry stands before it
+pub parent_below : (es rest : List Entry) (i : ℕ) (e : Entry) → IsTree es → drop i es ≡ e ∷ rest → i < length es → e.parent ≤ i
+parent_below es rest i e t split l = subst (λ (x : Entry). x.parent ≤ i) (place_is es rest i e e split) (t.parents i e l)
+
+-- one child more
+pub mine_step : (es rest : List Entry) (p from end : ℕ) (e : Entry) → drop end es ≡ e ∷ rest → e.parent ≡ p
+    → AllWithin (λ (e : Entry). e.parent ≡ p) es from end → AllWithin (λ (e : Entry). e.parent ≡ p) es from (end + 1)
+mine_step es rest p from end e split h w = λ k d lo hi. elim (cases_lt k end) [
+  | inl l ↦ w k d lo l
+  | inr l ↦ let z : k ≡ end = omega arith in ap (λ k. (slice_index_or es k d).parent) z ∙ ap (λ (x : Entry). x.parent) (place_is es rest end e d split) ∙ h
+]
+
+pub low_step : (left rest : List Entry) (r : ℕ) (e : Entry) → left ≡ e ∷ rest → RisesFrom r left → RisesFrom r rest
+low_step left rest r e split o = let p : RisesFrom r (e ∷ rest) = subst (RisesFrom r) split o in rises_low r (rank e) rest p.0 p.1
+
+-- the chains of other nodes begin behind a child
+pub others_step : (left rest : List Entry) (n m p : ℕ) (e : Entry) (q s : ℕ) → left ≡ e ∷ rest → m ≡ suc n → e.parent ≡ p → q ≢ p → nodes_from n left q s ≡ nodes_from m rest q s
+others_step left rest n m p e q s split up h ne =
+    ap (λ l. nodes_from n l q s) split ∙ passed n e rest q s (λ a b. ne (sym a ∙ h)) ∙ ap (λ m. nodes_from m rest q s) (sym up)
+
+-- no slot is filled behind the children
+pub slots_start : (at : ℕ → ℕ) (n p s : ℕ) (left : List Entry) → RisesFrom (72 * (p + 1)) left → s < 72 → slice_index (replicate 72 0) s ≡ first_block at (nodes_from n left p s)
+slots_start at n p s left o h = get_or-replicate 72 s 0 0 h ∙ sym (ap (first_block at) (none_below n (72 * (p + 1)) left p s o (omega arith)))
+
+-- one child more, before the others
+pub slots_step : (slots : List ℕ) (at : ℕ → ℕ) (n m p t v : ℕ) (e : Entry) (left rest : List Entry) → left ≡ e ∷ rest → m ≡ suc n → e.parent ≡ p → slot_of e.name ≡ t → v ≡ at n → length slots ≡ 72
+    → ((s : ℕ) → s < 72 → slice_index slots s ≡ first_block at (nodes_from m rest p s))
+    → (s : ℕ) → s < 72 → slice_index (set slots t v) s ≡ first_block at (nodes_from n left p s)
+slots_step slots at n m p t v e left rest split up h slot here long f s lt =
+    put (cases_lt s t) (cases_lt t s)
+  where
+    open_left : first_block at (nodes_from n left p s) ≡ first_block at (nodes_from n (e ∷ rest) p s)
+    open_left = ap (λ l. first_block at (nodes_from n l p s)) split
+
+    other : s ≢ t → slice_index (set slots t v) s ≡ first_block at (nodes_from n left p s)
+    other ne =
+        get_or-set_other slots t s v 0 ne
+        ∙ f s lt ∙ ap (λ m. first_block at (nodes_from m rest p s)) up
+        ∙ sym (ap (first_block at) (passed n e rest p s (λ a b. ne (sym b ∙ slot)))) ∙ sym open_left
+
+    put : (s < t) ⊎ (t ≤ s) → (t < s) ⊎ (s ≤ t) → slice_index (set slots t v) s ≡ first_block at (nodes_from n left p s)
+    put (inl l) c = other (λ z. omega arith)
+    put (inr l) (inl k) = other (λ z. omega arith)
+    put (inr l) (inr k) =
+        let z : s ≡ t = omega arith in
+        let w : t < length slots = omega arith in
+        ap (slice_index (set slots t v)) z ∙ get_or-set_same slots t v 0 w ∙ here
+        ∙ sym (ap (first_block at) (taken n e rest p s h (slot ∙ sym z))) ∙ sym open_left
+
+same_members : (xs ys : List ℕ) → length xs ≡ length ys → ((s : ℕ) → s < length xs → slice_index xs s ≡ slice_index ys s) → xs ≡ ys
+same_members [] [] e h = refl
+same_members [] (y ∷ ys) e h = absurd (omega arith)
+same_members (x ∷ xs) [] e h = absurd (omega arith)
+same_members (x ∷ xs) (y ∷ ys) e h =
+    let a : x ≡ y = h 0 (omega arith) in
+    let b : xs ≡ ys = same_members xs ys (omega arith) (λ s l. h (suc s) (omega arith)) in
+    λ i. a i ∷ b i
+
+-- the slots of a node, each of which is known
+pub slots_are : (slots nodes : List ℕ) (es : List Entry) (p : ℕ) → length slots ≡ 72 → ((s : ℕ) → s < 72 → slice_index slots s ≡ first_block (slice_index nodes) (nodes_from 1 es p s)) → slots ≡ slots_of nodes es p
+slots_are slots nodes es p len h =
+    let f : ℕ → ℕ = λ s. first_block (slice_index nodes) (nodes_from 1 es p s) in
+    same_members slots (map f (range_with_len 0 72)) (len ∙ sym (length-map-range_with_len f 0 72))
+    (λ s lt. h s (omega arith) ∙ sym (get_or-map-range_with_len f 0 72 s s 0 (omega arith) (omega arith)))

@@ -1,0 +1,67 @@
+use Rattle.std.proofs.Common.{◌≡◌, ◌+◌, ◌-◌, ◌∷◌, ◌∙◌, ℕ, List, length, suc, ap, sym, arith}
+use Rattle.adf_tree.specs.declared.entry.Body.{Body}
+use Rattle.adf_fields.specs.Words.{with_block}
+use Rattle.adf_blocks.specs.HeadBlock.{head_block}
+use Rattle.adf_volume.specs.Image.{count}
+use Rattle.adf_volume.specs.Lay.{lay}
+use Rattle.adf_volume.specs.Laid.{body_of, body_parts, data_parts, ext_parts}
+use Rattle.adf_volume.specs.Plan.{data_blocks, exts_needed, given}
+use Rattle.adf_volume.proofs.Holding.{size_high}
+use Rattle.adf_volume.proofs.Lays.{lay-append}
+use Rattle.adf_build.specs.Building.{file_header}
+use Rattle.adf_build.proofs.GivenBlocks.{size_small}
+use Rattle.adf_build.proofs.heads.write_file.Goals as goal
+
+pub overflow_cast-bytes : goal.overflow_cast-bytes
+overflow_cast-bytes c =
+    let size = size_small c.args.kind (length c.args.bytes.now) in
+    let blocks : data_blocks c.args.kind c.args.entry.now.body ≡ count c.args.kind (length c.args.bytes.now) = ap (data_blocks c.args.kind) c.requires.body in
+    let high = size_high c.args.blocks c.requires.size in
+    omega arith
+
+pub returns-clause-exact : goal.returns-clause-exact
+returns-clause-exact c slots =
+    let n : ℕ = c.args.blocks in
+    let k : ℕ = c.args.spot.k in
+    let kind = c.args.kind in
+    let e = c.args.entry.now in
+    let bytes : List ℕ = c.args.bytes.now in
+    let old : List ℕ = c.args.image.now in
+    let m : ℕ = count kind (length bytes) in
+    let x : ℕ = exts_needed m in
+    let datas : c.data_count-datas.result ≡ m = c.data_count-datas.ensures ∙ ap (data_blocks kind) c.requires.body in
+    let exts : c.ext_count-exts.result ≡ x = c.ext_count-exts.ensures ∙ ap exts_needed datas in
+    let own : c.given_block-own.result ≡ given n k = c.given_block-own.ensures in
+    let next : k + 1 ≡ suc k = omega arith in
+    let first : k + 1 + c.ext_count-exts.result ≡ suc k + x = omega arith in
+    let behind : k + 1 + c.ext_count-exts.result + 72 ≡ suc k + x + 72 = omega arith in
+    let left : c.saturating_sub.result ≡ m - 72 = omega arith in
+    let head : List ℕ = with_block old (given n k) (head_block (file_header n c.args.spot (length bytes) m e)) in
+    let es : List (ℕ × List ℕ) = ext_parts n (given n k) (suc k) (suc k + x + 72) (m - 72) x in
+    let ds : List (ℕ × List ℕ) = data_parts n kind (given n k) (suc k + x) 1 bytes m in
+    let one : c.write_file_head.new.image ≡ head =
+    c.write_file_head.ensures.exact ∙ ap (λ d. with_block old (given n k) (head_block (file_header n c.args.spot (length bytes) d e))) datas in
+    let two : c.write_exts.new.image ≡ lay c.write_file_head.new.image es =
+    c.write_exts.ensures
+    ∙ ap (λ h. lay c.write_file_head.new.image (ext_parts n h (k + 1) (k + 1 + c.ext_count-exts.result + 72) c.saturating_sub.result c.ext_count-exts.result)) own
+    ∙ ap (λ i. lay c.write_file_head.new.image (ext_parts n (given n k) i (k + 1 + c.ext_count-exts.result + 72) c.saturating_sub.result c.ext_count-exts.result)) next
+    ∙ ap (λ d. lay c.write_file_head.new.image (ext_parts n (given n k) (suc k) d c.saturating_sub.result c.ext_count-exts.result)) behind
+    ∙ ap (λ d. lay c.write_file_head.new.image (ext_parts n (given n k) (suc k) (suc k + x + 72) d c.ext_count-exts.result)) left
+    ∙ ap (λ x'. lay c.write_file_head.new.image (ext_parts n (given n k) (suc k) (suc k + x + 72) (m - 72) x')) exts in
+    let three : c.write_datas.new.image ≡ lay c.write_exts.new.image ds =
+    c.write_datas.ensures
+    ∙ ap (λ h. lay c.write_exts.new.image (data_parts n kind h (k + 1 + c.ext_count-exts.result) 1 bytes c.data_count-datas.result)) own
+    ∙ ap (λ i. lay c.write_exts.new.image (data_parts n kind (given n k) i 1 bytes c.data_count-datas.result)) first
+    ∙ ap (λ d. lay c.write_exts.new.image (data_parts n kind (given n k) (suc k + x) 1 bytes d)) datas in
+    let all : Body → List ℕ = λ b. lay old ((
+      given n k,
+      head_block (record {
+        own = given n k;
+        parent = c.args.spot.parent;
+        next = c.args.spot.next;
+        name = e.name;
+        meta = e.meta;
+        body = body_of n k kind slots b;
+      }),
+    ) ∷ body_parts n kind k b) in
+    three ∙ ap (λ im. lay im ds) (two ∙ ap (λ im. lay im es) one) ∙ sym (lay-append head es ds) ∙ ap all (sym c.requires.body)

@@ -1,0 +1,85 @@
+// The chains of a tree: the entries stand in the order of their parents, and those of one parent in that of their slots.
+
+ghost use Rattle.std.specs.Prelude.{◌≡◌, ◌≤◌, ◌<◌, ◌+◌, ◌*◌, ◌∷◌, ◌≢◌, ℕ, length, drop, slice_index};
+ghost use Rattle.std.specs.List.{AllWithin};
+ghost use Rattle.adf_fields.specs.Hash.{slot_of};
+ghost use Rattle.adf_tree.specs.declared.entry.Entry.{Entry};
+ghost use Rattle.adf_tree.specs.Chain.{in_chain};
+ghost use Rattle.adf_build.specs.Order.{RisesFrom};
+ghost use Rattle.adf_volume.specs.Layout.{nodes_from};
+ghost use Rattle.adf_volume.specs.Laid.{first_block};
+
+use crate::nodes::{entry_at, parent_of};
+use adf_fields::slot;
+use adf_tree::{Entry, Tree};
+
+// Whether an entry stands in the chain of another one.
+fn are_together(entry: &Entry, after: &Entry) -> bool
+    ensures { result ≡ in_chain entry.now.parent (slot_of entry.now.name) after.now }
+{
+    parent_of(after) == parent_of(entry) && slot(after.name.bytes()) == slot(entry.name.bytes())
+}
+
+/// The block of the directory of the entry at place `i`.
+pub fn parent_block(tree: &Tree, nodes: &[u32], i: usize, entry: &Entry) -> u32
+    requires here { drop i tree.now.entries ≡ entry.now ∷ drop (i + 1) tree.now.entries }
+    requires place { i < length tree.now.entries }
+    requires nodes { length nodes.now ≡ 1 + length tree.now.entries }
+    ensures { result ≡ slice_index nodes.now entry.now.parent }
+{
+    let parent = parent_of(entry);
+    let count = tree.len();
+    prove!(parent < count);
+    nodes[parent]
+}
+
+/// The block of the next header in the chain of the entry at place `i`, or 0: that of the next entry or none.
+pub fn next_of(tree: &Tree, nodes: &[u32], i: usize, entry: &Entry) -> u32
+    requires here { drop i tree.now.entries ≡ entry.now ∷ drop (i + 1) tree.now.entries }
+    requires place { i < length tree.now.entries }
+    requires nodes { length nodes.now ≡ 1 + length tree.now.entries }
+    ensures { result ≡ first_block (slice_index nodes.now) (nodes_from (i + 2) (drop (i + 1) tree.now.entries) entry.now.parent (slot_of entry.now.name)) }
+{
+    if i + 1 < tree.len() && are_together(entry, entry_at(tree, i + 1)) {
+        nodes[i + 2]
+    } else {
+        0
+    }
+}
+
+/// The place behind the children of node `p`, which begin at place `from`.
+pub fn children_end(tree: &Tree, p: usize, from: usize) -> usize
+    requires within { from ≤ length tree.now.entries }
+    requires low { RisesFrom (72 * p) (drop from tree.now.entries) }
+    ensures start { from ≤ result }
+    ensures within { result ≤ length tree.now.entries }
+    ensures mine { AllWithin (λ (e : Entry). e.parent ≡ p) tree.now.entries from result }
+    ensures past { RisesFrom (72 * (p + 1)) (drop result tree.now.entries) }
+    ensures others { (q s : ℕ) → q ≢ p → nodes_from (from + 1) (drop from tree.now.entries) q s ≡ nodes_from (result + 1) (drop result tree.now.entries) q s }
+{
+    let mut end = from;
+    while end < tree.len() && parent_of(entry_at(tree, end)) == p {
+        end += 1;
+    }
+    end
+}
+
+/// The slots of node `p`, whose children stand at the places `from` to `end`: the block of the first header of each
+/// chain, or 0. The first of a chain is written last.
+pub fn slots_between(tree: &Tree, nodes: &[u32], p: usize, from: usize, end: usize) -> [u32; 72]
+    requires start { from ≤ end }
+    requires within { end ≤ length tree.now.entries }
+    requires nodes { length nodes.now ≡ 1 + length tree.now.entries }
+    requires mine { AllWithin (λ (e : Entry). e.parent ≡ p) tree.now.entries from end }
+    requires past { RisesFrom (72 * (p + 1)) (drop end tree.now.entries) }
+    ensures { (s : ℕ) → s < 72 → slice_index result s ≡ first_block (slice_index nodes.now) (nodes_from (from + 1) (drop from tree.now.entries) p s) }
+{
+    let mut slots = [0u32; 72];
+    let mut at = end;
+    while at > from {
+        at -= 1;
+        let entry = entry_at(tree, at);
+        slots[slot(entry.name.bytes()) as usize] = nodes[at + 1];
+    }
+    slots
+}

@@ -1,0 +1,69 @@
+// The data blocks of a file.
+
+ghost use Rattle.std.specs.Prelude.{◌≡◌, ◌≤◌, ◌<◌, ◌+◌, ◌-◌, ◌*◌, [], ◌∷◌, true, length};
+ghost use Rattle.adf_fields.specs.Words.{with_block};
+ghost use Rattle.adf_blocks.specs.Fields.{laid};
+ghost use Rattle.adf_blocks.specs.Sizes.{is_allowed};
+ghost use Rattle.adf_volume.specs.Image.{chunk};
+ghost use Rattle.adf_volume.specs.Laid.{data_bytes, data_parts};
+ghost use Rattle.adf_volume.specs.Lay.{lay};
+ghost use Rattle.adf_volume.specs.Plan.{given, reserved};
+
+use crate::counting::bytes_of_block;
+use crate::given::{given_block, given_or_none};
+use adf_blocks::{DataOut, write_data};
+use adf_fields::{put_block, put_bytes};
+use adf_tree::Kind;
+
+// The 512 bytes of an FFS data block: the bytes held, and 0 behind them.
+fn bare_block(held: &[u8]) -> [u8; 512]
+    requires { length held.now ≤ 512 }
+    ensures { result ≡ laid ((0, held.now) ∷ []) }
+{
+    let mut block = [0u8; 512];
+    put_bytes(&mut block, 0, held);
+    block
+}
+
+// Writes a data block of a kind.
+#[tactic(auto, unfolding(adf_volume::specs::Image::chunk))]
+fn write_one(image: &mut [u8], b: u32, kind: Kind, data: &DataOut<'_>)
+    requires whole { b * 512 + 512 ≤ length image.old }
+    requires held { length data.now.bytes.now ≤ chunk kind }
+    ensures { image.new ≡ with_block image.old b (data_bytes kind data.now.head data.now.number data.now.next data.now.bytes.now) }
+{
+    match kind {
+        Kind::Ofs => write_data(image, b, data),
+        Kind::Ffs => put_block(image, b, &bare_block(data.bytes)),
+    }
+}
+
+/// Writes bytes into `count` data blocks, from the `k`-th given block on, of the file whose header is block `head`.
+#[tactic(auto, using(crate::proofs::GivenBlocks::given_fits))]
+pub fn write_datas(
+    image: &mut [u8],
+    blocks: u32,
+    kind: Kind,
+    head: u32,
+    k: u32,
+    bytes: &[u8],
+    count: u32,
+)
+    requires size { is_allowed blocks ≡ true }
+    requires whole { length image.old ≡ blocks * 512 }
+    requires room { 1 + reserved blocks + (k + count) ≤ blocks - 2 }
+    ensures { image.new ≡ lay image.old (data_parts blocks kind head k 1 bytes.now count) }
+{
+    let mut left = bytes;
+    for j in 0..count {
+        let (held, rest) = left.split_at(left.len().min(bytes_of_block(kind)));
+        let data = DataOut {
+            head,
+            number: 1 + j,
+            next: given_or_none(blocks, k + j + 1, count - (j + 1)),
+            bytes: held,
+        };
+        write_one(image, given_block(blocks, k + j), kind, &data);
+        left = rest;
+    }
+}

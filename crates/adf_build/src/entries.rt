@@ -1,0 +1,45 @@
+// The blocks of all entries.
+
+ghost use Rattle.std.specs.Prelude.{◌≡◌, ◌≤◌, ◌+◌, ◌*◌, ℕ, length, drop};
+ghost use Rattle.std.specs.List.{All};
+ghost use Rattle.adf_tree.specs.declared.entry.Entry.{Entry};
+ghost use Rattle.adf_tree.specs.Tree.{IsTree};
+ghost use Rattle.adf_build.specs.Building.{HasRoom, IsSoundEntry};
+ghost use Rattle.adf_build.specs.Order.{RisesFrom};
+ghost use Rattle.adf_volume.specs.Laid.{entries_parts};
+ghost use Rattle.adf_volume.specs.Layout.{nodes_from};
+ghost use Rattle.adf_volume.specs.Lay.{lay};
+
+use crate::chains::{children_end, next_of, parent_block, slots_between};
+use crate::heads::{Spot, write_entry};
+use crate::nodes::{entry_at, next_given};
+use adf_tree::Tree;
+
+/// Writes the blocks of all entries; the children of the root stand before place `first`.
+pub fn write_entries(image: &mut [u8], tree: &Tree, blocks: u32, nodes: &[u32], first: usize)
+    requires room { HasRoom tree.now blocks }
+    requires whole { length image.old ≡ blocks * 512 }
+    requires nodes { length nodes.now ≡ 1 + length tree.now.entries }
+    requires within { first ≤ length tree.now.entries }
+    requires low { RisesFrom 72 (drop first tree.now.entries) }
+    requires chains { (q s : ℕ) → 1 ≤ q → nodes_from 1 tree.now.entries q s ≡ nodes_from (first + 1) (drop first tree.now.entries) q s }
+    ensures exact { image.new ≡ lay image.old (entries_parts blocks tree.now.kind nodes.now tree.now.entries 1 0 tree.now.entries) }
+    ensures sound { All (λ (e : Entry). IsSoundEntry e) tree.now.entries }
+    ensures tree { IsTree tree.now.entries }
+{
+    let mut k = 0;
+    let mut child = first;
+    for i in 0..tree.len() {
+        let entry = entry_at(tree, i);
+        let end = children_end(tree, i + 1, child);
+        let slots = slots_between(tree, nodes, i + 1, child, end);
+        let spot = Spot {
+            k,
+            parent: parent_block(tree, nodes, i, entry),
+            next: next_of(tree, nodes, i, entry),
+        };
+        write_entry(image, blocks, tree.kind(), spot, slots, entry);
+        k = next_given(k, tree.kind(), &entry.body);
+        child = end;
+    }
+}

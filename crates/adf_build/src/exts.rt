@@ -1,0 +1,45 @@
+// The extension blocks of a file.
+
+ghost use Rattle.std.specs.Prelude.{◌≡◌, ◌≤◌, ◌<◌, ◌+◌, ◌-◌, ◌*◌, ◌^◌, true, length};
+ghost use Rattle.adf_blocks.specs.Sizes.{is_allowed};
+ghost use Rattle.adf_volume.specs.Laid.{ext_parts};
+ghost use Rattle.adf_volume.specs.Lay.{lay};
+ghost use Rattle.adf_volume.specs.Plan.{given, reserved};
+
+use crate::given::{given_block, given_or_none, table_of};
+use adf_blocks::{ExtOut, write_ext};
+
+/// Writes `count` extension blocks, from the `k`-th given block on, of the file whose header is block `head`: they name
+/// `datas` data blocks, from the `d`-th given block on.
+#[tactic(auto, using(crate::proofs::GivenBlocks::given_fits))]
+pub fn write_exts(
+    image: &mut [u8],
+    blocks: u32,
+    head: u32,
+    k: u32,
+    d: u32,
+    datas: usize,
+    count: u32,
+)
+    requires size { is_allowed blocks ≡ true }
+    requires whole { length image.old ≡ blocks * 512 }
+    requires room { 1 + reserved blocks + (k + count) ≤ blocks - 2 }
+    requires near { d + 72 * count < 2 ^ 29 }
+    ensures { image.new ≡ lay image.old (ext_parts blocks head k d datas count) }
+{
+    let mut left = datas;
+    let mut next = d;
+    for j in 0..count {
+        let short = left.min(72);
+        let own = given_block(blocks, k + j);
+        let ext = ExtOut {
+            own,
+            head,
+            table: &table_of(blocks, next, short)[..short],
+            next: given_or_none(blocks, k + j + 1, count - (j + 1)),
+        };
+        write_ext(image, own, &ext);
+        left = left.saturating_sub(72);
+        next += 72;
+    }
+}

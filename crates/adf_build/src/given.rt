@@ -1,0 +1,46 @@
+// The blocks that are given to entries.
+
+ghost use Rattle.std.specs.Prelude.{◌≡◌, ◌≤◌, ◌<◌, ◌+◌, ◌^◌, true, length, take};
+ghost use Rattle.adf_blocks.specs.Sizes.{is_allowed};
+ghost use Rattle.adf_volume.specs.Laid.{given_or_none};
+ghost use Rattle.adf_volume.specs.Plan.{given, run};
+
+use adf_blocks::page_count;
+
+/// The `k`-th block that is given to entries.
+#[tactic(auto, using(crate::proofs::GivenBlocks::given_low, crate::proofs::GivenBlocks::given_high))]
+pub fn given_block(blocks: u32, k: u32) -> u32
+    requires size { is_allowed blocks ≡ true }
+    requires room { k < 2 ^ 30 }
+    ensures { result ≡ given blocks k }
+{
+    if 2 + k < blocks / 2 {
+        2 + k
+    } else {
+        3 + k + page_count(blocks)
+    }
+}
+
+/// The `k`-th given block where blocks are left, 0 where none is.
+pub fn given_or_none(blocks: u32, k: u32, left: u32) -> u32
+    requires size { is_allowed blocks ≡ true }
+    requires room { k < 2 ^ 30 }
+    ensures { result ≡ given_or_none blocks k left }
+{
+    if left > 0 { given_block(blocks, k) } else { 0 }
+}
+
+/// A table that begins with `m` given blocks, from the `k`-th on.
+#[tactic(auto, using(crate::proofs::GivenBlocks::run_step))]
+pub fn table_of(blocks: u32, k: u32, m: usize) -> [u32; 72]
+    requires size { is_allowed blocks ≡ true }
+    requires room { k < 2 ^ 29 }
+    requires short { m ≤ 72 }
+    ensures { take m result ≡ run blocks k m }
+{
+    let mut table = [0u32; 72];
+    for j in 0..m {
+        table[j] = given_block(blocks, k + j as u32);
+    }
+    table
+}

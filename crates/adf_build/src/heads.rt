@@ -1,0 +1,130 @@
+// The blocks of an entry.
+
+ghost use Rattle.std.specs.Prelude.{◌≡◌, ◌≤◌, ◌+◌, ◌-◌, ◌*◌, ℕ, List, true, length};
+ghost use Rattle.adf_tree.specs.declared.entry.Body.TheVariants.{Dir as TheDir, File as TheFile};
+ghost use Rattle.adf_fields.specs.Words.{with_block};
+ghost use Rattle.adf_blocks.specs.HeadBlock.{head_block};
+ghost use Rattle.adf_blocks.specs.Sizes.{is_allowed};
+ghost use Rattle.adf_build.specs.Building.{IsSoundEntry, entry_parts, file_header};
+ghost use Rattle.adf_volume.specs.Lay.{lay};
+ghost use Rattle.adf_volume.specs.Plan.{entry_blocks, exts_needed, given, reserved};
+ghost use Rattle.adf_tree.specs.declared.entry.Kind.{Kind};
+
+use crate::counting::{data_count, ext_count};
+use crate::datas::write_datas;
+use crate::exts::write_exts;
+use crate::given::{given_block, given_or_none, table_of};
+use adf_blocks::{HeadOut, HeadOutBody, write_head};
+use adf_tree::{Body, Entry, Kind};
+
+/// Where the header of an entry is written and what it names: its place among the given blocks, the block of its
+/// directory, and the next header of its chain or 0.
+#[derive(Clone, Copy)]
+pub struct Spot {
+    pub k: u32,
+    pub parent: u32,
+    pub next: u32,
+}
+
+// Writes the header of a directory.
+#[tactic(auto, using(crate::proofs::GivenBlocks::given_fits))]
+fn write_dir(image: &mut [u8], blocks: u32, spot: Spot, slots: [u32; 72], entry: &Entry)
+    requires body { entry.now.body ≡ TheDir }
+    requires size { is_allowed blocks ≡ true }
+    requires whole { length image.old ≡ blocks * 512 }
+    requires room { 1 + reserved blocks + (spot.k + 1) ≤ blocks - 2 }
+    ensures exact { (kind : Kind) → image.new ≡ lay image.old (entry_parts blocks kind spot slots entry.now) }
+    ensures sound { IsSoundEntry entry.now }
+{
+    let own = given_block(blocks, spot.k);
+    let head = HeadOut {
+        own,
+        parent: spot.parent,
+        next: spot.next,
+        name: &entry.name,
+        meta: &entry.meta,
+        body: HeadOutBody::Dir { slots },
+    };
+    write_head(image, own, &head);
+}
+
+// Writes the header of a file of so many bytes in so many data blocks.
+fn write_file_head(
+    image: &mut [u8],
+    blocks: u32,
+    spot: Spot,
+    size: u32,
+    datas: usize,
+    entry: &Entry,
+)
+    requires size { is_allowed blocks ≡ true }
+    requires whole { length image.old ≡ blocks * 512 }
+    requires room { 1 + reserved blocks + (spot.k + (1 + exts_needed datas + datas)) ≤ blocks - 2 }
+    ensures exact { image.new ≡ with_block image.old (given blocks spot.k) (head_block (file_header blocks spot size datas entry.now)) }
+    ensures sound { IsSoundEntry entry.now }
+{
+    let own = given_block(blocks, spot.k);
+    let exts = ext_count(datas) as u32;
+    let short = datas.min(72);
+    let table = table_of(blocks, spot.k + 1 + exts, short);
+    let head = HeadOut {
+        own,
+        parent: spot.parent,
+        next: spot.next,
+        name: &entry.name,
+        meta: &entry.meta,
+        body: HeadOutBody::File {
+            size,
+            table: &table[..short],
+            ext: given_or_none(blocks, spot.k + 1, exts),
+        },
+    };
+    write_head(image, own, &head);
+}
+
+// Writes the blocks of a file.
+fn write_file(image: &mut [u8], blocks: u32, kind: Kind, spot: Spot, entry: &Entry, bytes: &[u8])
+    requires body { entry.now.body ≡ TheFile bytes.now }
+    requires size { is_allowed blocks ≡ true }
+    requires whole { length image.old ≡ blocks * 512 }
+    requires room { 1 + reserved blocks + (spot.k + entry_blocks kind entry.now) ≤ blocks - 2 }
+    ensures exact { (slots : List ℕ) → image.new ≡ lay image.old (entry_parts blocks kind spot slots entry.now) }
+    ensures sound { IsSoundEntry entry.now }
+{
+    let datas = data_count(kind, &entry.body);
+    let exts = ext_count(datas) as u32;
+    let own = given_block(blocks, spot.k);
+    let first = spot.k + 1 + exts;
+    write_file_head(image, blocks, spot, bytes.len() as u32, datas, entry);
+    write_exts(
+        image,
+        blocks,
+        own,
+        spot.k + 1,
+        first + 72,
+        datas.saturating_sub(72),
+        exts,
+    );
+    write_datas(image, blocks, kind, own, first, bytes, datas as u32);
+}
+
+/// Writes the blocks of an entry.
+pub fn write_entry(
+    image: &mut [u8],
+    blocks: u32,
+    kind: Kind,
+    spot: Spot,
+    slots: [u32; 72],
+    entry: &Entry,
+)
+    requires size { is_allowed blocks ≡ true }
+    requires whole { length image.old ≡ blocks * 512 }
+    requires room { 1 + reserved blocks + (spot.k + entry_blocks kind entry.now) ≤ blocks - 2 }
+    ensures exact { image.new ≡ lay image.old (entry_parts blocks kind spot slots entry.now) }
+    ensures sound { IsSoundEntry entry.now }
+{
+    match &entry.body {
+        Body::Dir => write_dir(image, blocks, spot, slots, entry),
+        Body::File(file) => write_file(image, blocks, kind, spot, entry, file.bytes()),
+    }
+}

@@ -1,0 +1,53 @@
+// The nodes of a tree and the blocks of their headers.
+
+ghost use Rattle.std.specs.Prelude.{◌≡◌, ◌≤◌, ◌<◌, ◌+◌, ◌^◌, ◌∷◌, length, drop, IfOk};
+ghost use Rattle.adf_build.specs.Building.{HasRoom};
+ghost use Rattle.adf_volume.specs.Laid.{node_blocks};
+ghost use Rattle.adf_volume.specs.Plan.{data_blocks, exts_needed};
+
+use crate::counting::{data_count, ext_count};
+use crate::given::given_block;
+use adf_tree::{Body, Entry, Kind, Node, Tree};
+use std::alloc::{AllocError, Global};
+
+/// The entry at place `i`, which is node `i + 1`.
+#[tactic(auto, using(crate::proofs::Counts::entry_left))]
+pub fn entry_at(tree: &Tree, i: usize) -> &Entry
+    requires { i < length tree.now.entries }
+    ensures { drop i tree.now.entries ≡ result.now ∷ drop (i + 1) tree.now.entries }
+{
+    let count = tree.len();
+    prove!(i < count);
+    tree.entry(Node(i + 1)).unwrap()
+}
+
+/// The number of the directory of an entry.
+pub fn parent_of(entry: &Entry) -> usize
+    ensures { result ≡ entry.now.parent }
+{
+    entry.parent.0
+}
+
+/// The number of the given block behind those of an entry whose header is the `k`-th one.
+pub fn next_given(k: u32, kind: Kind, body: &Body) -> u32
+    requires { k + (1 + exts_needed (data_blocks kind body.now) + data_blocks kind body.now) < 2 ^ 30 }
+    ensures { result ≡ k + (1 + exts_needed (data_blocks kind body.now) + data_blocks kind body.now) }
+{
+    let datas = data_count(kind, body);
+    k + (1 + ext_count(datas) + datas) as u32
+}
+
+/// The blocks of the root and of all headers.
+pub fn nodes_of(alloc: Global, tree: &Tree, blocks: u32) -> Result<Vec<u32>, AllocError>
+    requires { HasRoom tree.now blocks }
+    ensures { IfOk result (λ nodes. nodes.items ≡ node_blocks tree.now blocks) }
+{
+    let mut nodes = Vec::new(alloc);
+    nodes.push(blocks / 2)?;
+    let mut k = 0;
+    for i in 0..tree.len() {
+        nodes.push(given_block(blocks, k))?;
+        k = next_given(k, tree.kind(), &entry_at(tree, i).body);
+    }
+    Ok(nodes)
+}

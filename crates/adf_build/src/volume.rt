@@ -1,0 +1,82 @@
+// The parts of a volume.
+
+ghost use Rattle.std.specs.Prelude.{◌≡◌, ◌≤◌, ◌<◌, ◌+◌, ◌*◌, ◌/◌, [], ◌∷◌, true, length, take};
+ghost use Rattle.adf_fields.specs.Words.{with_block};
+ghost use Rattle.adf_blocks.specs.Fields.{laid};
+ghost use Rattle.adf_blocks.specs.RootBlock.{FitsStamps, root_block};
+ghost use Rattle.adf_blocks.specs.Sizes.{is_allowed, middle, pages_needed};
+ghost use Rattle.adf_build.specs.Building.{HasRoom};
+ghost use Rattle.adf_volume.specs.Laid.{IsSound, boot_bytes, node_blocks, parts, root_laid, slots_of};
+ghost use Rattle.adf_volume.specs.Lay.{lay};
+ghost use Rattle.adf_volume.specs.Plan.{entries_blocks, row};
+
+use crate::chains::{children_end, slots_between};
+use crate::entries::write_entries;
+use crate::pages::write_pages;
+use adf_blocks::{RootOut, page_count, write_root};
+use adf_fields::{put_block, put_bytes};
+use adf_tree::{Kind, Tree};
+
+// The blocks of the bitmap pages, behind the root.
+#[tactic(auto, using(crate::proofs::Rows::row_step))]
+fn page_numbers(blocks: u32) -> [u32; 25]
+    requires { is_allowed blocks ≡ true }
+    ensures { take (pages_needed blocks) result ≡ row (blocks / 2 + 1) (pages_needed blocks) }
+{
+    let mut numbers = [0u32; 25];
+    for j in 0..page_count(blocks) as usize {
+        numbers[j] = blocks / 2 + 1 + j as u32;
+    }
+    numbers
+}
+
+// The 512 bytes of block 0.
+fn boot_block(kind: Kind) -> [u8; 512]
+    ensures { result ≡ laid ((0, boot_bytes kind) ∷ []) }
+{
+    let mut block = [0u8; 512];
+    match kind {
+        Kind::Ofs => put_bytes(&mut block, 0, b"DOS\0"),
+        Kind::Ffs => put_bytes(&mut block, 0, b"DOS\x01"),
+    }
+    block
+}
+
+// Writes the root.
+fn write_the_root(image: &mut [u8], blocks: u32, tree: &Tree, slots: [u32; 72])
+    requires size { is_allowed blocks ≡ true }
+    requires whole { length image.old ≡ blocks * 512 }
+    requires slots { slots ≡ slots_of (node_blocks tree.now blocks) tree.now.entries 0 }
+    ensures exact { image.new ≡ with_block image.old (middle blocks) (root_block (root_laid tree.now blocks)) }
+    ensures label { length tree.now.label ≤ 30 }
+    ensures stamps { FitsStamps tree.now.stamps }
+{
+    let numbers = page_numbers(blocks);
+    let root = RootOut {
+        slots,
+        pages: &numbers[..page_count(blocks) as usize],
+        label: tree.label(),
+        stamps: tree.stamps(),
+    };
+    write_root(image, blocks / 2, &root);
+}
+
+/// Writes every part of a volume whose nodes lie at these blocks and whose entries take `total` blocks. The fields of
+/// the tree are such as blocks have room for.
+pub fn write_volume(image: &mut [u8], blocks: u32, tree: &Tree, nodes: &[u32], total: u32)
+    requires room { HasRoom tree.now blocks }
+    requires whole { length image.old ≡ blocks * 512 }
+    requires nodes { nodes.now ≡ node_blocks tree.now blocks }
+    requires total { total ≡ entries_blocks tree.now.kind tree.now.entries }
+    ensures exact { image.new ≡ lay image.old (parts tree.now blocks) }
+    ensures sound { IsSound tree.now }
+{
+    let count = tree.len();
+    prove!(count < nodes.len());
+    let first = children_end(tree, 0, 0);
+    let slots = slots_between(tree, nodes, 0, 0, first);
+    write_entries(image, tree, blocks, nodes, first);
+    write_pages(image, blocks, total);
+    write_the_root(image, blocks, tree, slots);
+    put_block(image, 0, &boot_block(tree.kind()));
+}
