@@ -1,6 +1,6 @@
 // Trees.
 
-ghost use Rattle.std.specs.Prelude.{◌≡◌, [], length, is_ok, if◌then◌else◌, OnOk};
+ghost use Rattle.std.specs.Prelude.{◌≡◌, ◌<◌, [], length, is_ok, if◌then◌else◌, OnOk};
 ghost use Rattle.std.specs.Option.{option_copied};
 ghost use Rattle.adf_tree.specs.Tree.{entry, find, new_entry, room_for, with_entry, with_kind, with_last, IsAnswer, IsLast, IsTree, MayAdd};
 ghost use Rattle.adf_tree.specs.Paths.{AddsOne};
@@ -99,6 +99,15 @@ impl Tree {
         ensures tree { IsTree self.now.entries }
     {
         self.entries.len()
+    }
+
+    /// The directory that an entry under this path is added to, or why it is not added.
+    pub fn room(&self, path: &[Name]) -> Result<Node, AddFault>
+        requires { 0 < length path.now }
+        ensures { result ≡ room_for self.now.entries path.now }
+    {
+        let end = path.len() - 1;
+        room_for(&self.entries, &self.last_chain, &path[..end], &path[end])
     }
 
     /// Adds an entry after all of its parent and slot. After a fault the tree is unchanged; of the

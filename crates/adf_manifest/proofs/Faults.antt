@@ -1,0 +1,262 @@
+-- A manifest has no fault, and lines have one first fault at most.
+use Rattle.std.proofs.Common.{◌≡◌, ◌<◌, ◌≤◌, ◌+◌, ◌++◌, ◌∙◌, ◌⊎◌, inl, inr, ℕ, zero, suc, true, false, List, [], ◌∷◌, Result, Ok, Err, refl, sym, ap, subst, arith, length, length-append}
+use Rattle.std.specs.Prelude.{IsOk}
+use Rattle.std.proofs.lemmas.Bool.{cases_order}
+use Rattle.std.proofs.lemmas.List.{append_assoc}
+use Rattle.adf_tree.specs.Tree.{Tree, room_for}
+use Rattle.adf_tree.specs.declared.entry.Kind.{Kind}
+use Rattle.adf_tree.specs.declared.tree.AddFault.{AddFault}
+use Rattle.adf_tree.specs.declared.tree.AddFault.TheVariants as add
+use Rattle.adf_tree.proofs.PathParts.{one_path}
+use Rattle.adf_blocks.specs.Sizes.{is_allowed}
+use Rattle.adf_manifest.specs.Lines.{IsLine, IsVolumeLine, LineValue, LabelLine, StampsLine, EntryLine, NoteLine, RunLine, line_text, volume_line}
+use Rattle.adf_manifest.specs.Items.{item_lines}
+use Rattle.std.specs.List.{flat_map}
+use Rattle.adf_manifest.specs.Manifest.{EndsInFile, HasBadText, HasFault, HasFaultOf, HasNoRoom, IsBare, IsFaultOf, IsFirstFault, IsLaterFault, IsWell, Manifest, MayFollow, MayStand, items_of, label_lines, manifest_lines, manifest_tree, stamps_lines}
+use Rattle.adf_manifest.specs.declared.manifest.ManifestKind.{ManifestKind}
+use Rattle.adf_manifest.specs.declared.manifest.ManifestKind.TheVariants.{BadLine, BadSize, BadText, NoParent, ParentIsFile, Exists, NoMemory, TooLong}
+use Rattle.adf_manifest.proofs.Forms.{line_same}
+use Rattle.adf_manifest.proofs.LastLines.{Adds, IsFirst, ends, last_line}
+use Rattle.adf_manifest.proofs.Verdicts.{first_lines, heads, one_last, one_number, one_told, rests, small, some_lines}
+
+-- a line that adds may stand at its place, and has no fault
+may_stand : (m n : Manifest) (line : LineValue) → Adds m line n → MayStand m line
+may_stand m n (LabelLine text) g = (g.0, g.1, g.2)
+may_stand m n (StampsLine stamps) g = (g.0, g.1)
+may_stand m n (EntryLine sort stamp protect text) g = tt
+may_stand m n (NoteLine text) g = subst IsBare (sym g.1) (g.2, g.3)
+may_stand m n (RunLine run) g = subst EndsInFile (sym g.1) g.2
+
+text_good : (m n : Manifest) (line : LineValue) → Adds m line n → HasBadText line → ⊥
+text_good m n (LabelLine text) g f = f g.3.0 g.3.1
+text_good m n (StampsLine stamps) g f = f
+text_good m n (EntryLine sort stamp protect text) g f = f g.0 g.1
+text_good m n (NoteLine text) g f = f g.4.0 g.4.1
+text_good m n (RunLine run) g f = f
+
+ok_err : (r : Result ℕ AddFault) (f : AddFault) → IsOk r → r ≡ Err f → ⊥
+ok_err (Ok x) f h e = cc
+ok_err (Err x) f h e = cc
+
+room_good : (m n : Manifest) (line : LineValue) (a : AddFault) → Adds m line n → HasNoRoom (manifest_tree m) line a → ⊥
+room_good m n (LabelLine text) a g f = f
+room_good m n (StampsLine stamps) a g f = f
+room_good m n (EntryLine sort stamp protect text) a g f =
+    let same = one_path text g.0 f.0 g.1 f.1 in
+    ok_err (room_for (manifest_tree m).entries f.0) a (subst (λ p. IsOk (room_for (manifest_tree m).entries p)) same g.2) f.2
+room_good m n (NoteLine text) a g f = f
+room_good m n (RunLine run) a g f = f
+
+fault_good : (m n : Manifest) (line : LineValue) (kind : ManifestKind) → Adds m line n → IsFaultOf (manifest_tree m) line kind → ⊥
+fault_good m n line BadLine g f = f
+fault_good m n line BadSize g f = f
+fault_good m n line BadText g f = text_good m n line g f
+fault_good m n line NoParent g f = room_good m n line add.NoParent g f
+fault_good m n line ParentIsFile g f = room_good m n line add.ParentIsFile g f
+fault_good m n line Exists g f = room_good m n line add.Exists g f
+fault_good m n line NoMemory g f = f
+fault_good m n line TooLong g f = f
+
+of_good : (m n : Manifest) (line : LineValue) (text : List ℕ) (kind : ManifestKind) → Adds m line n → IsLine line → text ≡ line_text line → HasFaultOf m text kind → ⊥
+of_good m n line text kind g is e f =
+    let same = line_same f.0 line f.1 is (sym f.3 ∙ e) in
+    fault_good m n line kind g (subst (λ l. IsFaultOf (manifest_tree m) l kind) same f.4)
+
+line_good : (m n : Manifest) (line : LineValue) (text : List ℕ) (kind : ManifestKind) → Adds m line n → IsLine line → text ≡ line_text line → IsLaterFault m text kind → ⊥
+line_good m n line text BadLine g is e f = f (line, is, may_stand m n line g, e)
+line_good m n line text BadSize g is e f = f
+line_good m n line text BadText g is e f = of_good m n line text BadText g is e f
+line_good m n line text NoParent g is e f = of_good m n line text NoParent g is e f
+line_good m n line text ParentIsFile g is e f = of_good m n line text ParentIsFile g is e f
+line_good m n line text Exists g is e f = of_good m n line text Exists g is e f
+line_good m n line text NoMemory g is e f = f
+line_good m n line text TooLong g is e f = f
+
+-- behind lines of a manifest, a line that adds
+abbrev IsInner : List (List ℕ) → List ℕ → Type 0
+IsInner front text = (m : Manifest) × (n : Manifest) × (line : LineValue) × IsWell m × Adds m line n × IsLine line × (manifest_lines m ≡ front) × (text ≡ line_text line)
+
+inner_first : (n : Manifest) (front rest : List (List ℕ)) (text : List ℕ) → IsFirst n → manifest_lines n ≡ front ++ text ∷ rest → 0 < length front → ⊥
+inner_first n front rest text p e h = omega (arith, h, ap length (sym (first_lines n p) ∙ e), length-append front (text ∷ rest))
+
+-- each line of a manifest after the first is one
+inner : (k : ℕ) (n : Manifest) (front rest : List (List ℕ)) (text : List ℕ) → length (manifest_lines n) ≤ k → IsWell n → manifest_lines n ≡ front ++ text ∷ rest → 0 < length front → IsInner front text
+inner zero n front rest text s w e h = absurd (omega (arith, some_lines n, s))
+inner (suc k) n front rest text s w e h =
+    elim (last_line n w) [
+      | inl p ↦ absurd (inner_first n front rest text p e h)
+      | inr p ↦
+          elim (ends rest) [
+            | inl r ↦
+                let both = one_last front (manifest_lines p.0) text (line_text p.1) (ap (λ x. front ++ text ∷ x) (sym r) ∙ sym e ∙ p.5) in
+                (p.0, n, p.1, p.2, p.4, p.3, sym both.0, both.1)
+            | inr q ↦
+                let split = append_assoc front (text ∷ q.0) (q.1 ∷ []) ∙ ap (λ x. front ++ text ∷ x) (sym q.2) ∙ sym e ∙ p.5 in
+                let both = one_last (front ++ text ∷ q.0) (manifest_lines p.0) q.1 (line_text p.1) split in
+                inner k p.0 front q.0 text (omega (arith, s, ap length p.5, length-append (manifest_lines p.0) (line_text p.1 ∷ []))) p.2 (sym both.0) h
+          ]
+    ]
+
+pub later_good : (m n : Manifest) (text : List ℕ) (rest : List (List ℕ)) (kind : ManifestKind) → IsWell m → IsWell n → manifest_lines n ≡ manifest_lines m ++ text ∷ rest → IsLaterFault m text kind → ⊥
+later_good m n text rest kind w v e f =
+    let i = inner (length (manifest_lines n)) n (manifest_lines m) rest text (omega arith) v e (some_lines m) in
+    let same = one_told i.0 m i.3 w i.6 in
+    line_good i.0 i.1 i.2 text kind i.4 i.5 i.7 (subst (λ (x : Manifest). IsLaterFault x text kind) (sym same) f)
+
+-- a first line of an allowed size has no fault
+first_good : (kind' : Kind) (n' : ℕ) (line : List ℕ) (kind : ManifestKind) → is_allowed n' ≡ true → line ≡ volume_line kind' n' → IsFirstFault line kind → ⊥
+first_good kind' n' line BadLine h e f = f (kind', n', small n' h, e)
+first_good kind' n' line BadSize h e f =
+    let same = one_number f.0 kind' f.1 n' f.2 (small n' h) (sym f.3 ∙ e) in
+    let bad : true ≡ false = sym h ∙ ap is_allowed (sym same) ∙ f.4 in
+    absurd cc
+first_good kind' n' line BadText h e f = f
+first_good kind' n' line NoParent h e f = f
+first_good kind' n' line ParentIsFile h e f = f
+first_good kind' n' line Exists h e f = f
+first_good kind' n' line NoMemory h e f = f
+first_good kind' n' line TooLong h e f = f
+
+-- the lines of a manifest begin with its volume line
+volume_first : (m : Manifest) → (rest : List (List ℕ)) × (manifest_lines m ≡ volume_line m.head.kind m.head.blocks ∷ rest)
+volume_first m = ((label_lines m.head.label ++ stamps_lines m.head.stamps) ++ flat_map item_lines (items_of m.entries), refl)
+
+mixed : (all : List (List ℕ)) (text : List ℕ) (rest : List (List ℕ)) (kind : ManifestKind) (m : Manifest) (more : List (List ℕ)) → all ≡ text ∷ rest → IsFirstFault text kind → IsWell m → all ≡ manifest_lines m ++ more → ⊥
+unfolding volume_first
+mixed all text rest kind m more e f w g =
+    let first = volume_first m in
+    first_good m.head.kind m.head.blocks text kind w.head.size (heads text (volume_line m.head.kind m.head.blocks) rest (first.0 ++ more) (sym e ∙ g)) f
+
+-- a manifest has no fault
+pub faultless : (m : Manifest) (all : List (List ℕ)) (number : ℕ) (kind : ManifestKind) → IsWell m → all ≡ manifest_lines m → HasFault all number kind → ⊥
+unfolding volume_first
+faultless m all number kind w e (inl f) =
+    let first = volume_first m in
+    first_good m.head.kind m.head.blocks f.0 kind w.head.size (heads f.0 (volume_line m.head.kind m.head.blocks) f.1 first.0 (sym f.2 ∙ e)) f.4
+faultless m all number kind w e (inr f) = later_good f.0 m f.1 f.2 kind f.3 w (sym e ∙ f.4) f.6
+
+-- the kinds of a later fault
+kind_of : AddFault → ManifestKind
+kind_of add.NoParent = NoParent
+kind_of add.ParentIsFile = ParentIsFile
+kind_of add.Exists = Exists
+kind_of add.NoMemory = NoMemory
+kind_of add.EmptyPath = NoMemory
+
+abbrev NoRoomAt : Manifest → List ℕ → AddFault → Type 0
+NoRoomAt m text a = (line : LineValue) × IsLine line × MayStand m line × (text ≡ line_text line) × HasNoRoom (manifest_tree m) line a
+
+abbrev Later : Manifest → List ℕ → ManifestKind → Type 0
+Later m text kind = ((kind ≡ BadLine) × (¬ MayFollow m text)) ⊎ (((kind ≡ BadText) × HasFaultOf m text BadText) ⊎ ((a : AddFault) × (kind ≡ kind_of a) × NoRoomAt m text a))
+
+later_kind : (m : Manifest) (text : List ℕ) (kind : ManifestKind) → IsLaterFault m text kind → Later m text kind
+unfolding kind_of
+later_kind m text BadLine f = inl (refl, f)
+later_kind m text BadSize f = absurd f
+later_kind m text BadText f = inr (inl (refl, f))
+later_kind m text NoParent f = inr (inr (add.NoParent, refl, f))
+later_kind m text ParentIsFile f = inr (inr (add.ParentIsFile, refl, f))
+later_kind m text Exists f = inr (inr (add.Exists, refl, f))
+later_kind m text NoMemory f = absurd f
+later_kind m text TooLong f = absurd f
+
+text_or_room : (tree : Tree) (line : LineValue) (a : AddFault) → HasBadText line → HasNoRoom tree line a → ⊥
+text_or_room tree (LabelLine text) a f g = g
+text_or_room tree (StampsLine stamps) a f g = g
+text_or_room tree (EntryLine sort stamp protect text) a f g = f g.0 g.1
+text_or_room tree (NoteLine text) a f g = g
+text_or_room tree (RunLine run) a f g = g
+
+one_err : (r : Result ℕ AddFault) (a b : AddFault) → r ≡ Err a → r ≡ Err b → a ≡ b
+one_err r a b e g = cc
+
+one_room : (tree : Tree) (line : LineValue) (a b : AddFault) → HasNoRoom tree line a → HasNoRoom tree line b → a ≡ b
+one_room tree (LabelLine text) a b f g = absurd f
+one_room tree (StampsLine stamps) a b f g = absurd f
+one_room tree (EntryLine sort stamp protect text) a b f g =
+    one_err (room_for tree.entries g.0) a b (ap (λ p. room_for tree.entries p) (sym (one_path text f.0 g.0 f.1 g.1)) ∙ f.2) g.2
+one_room tree (NoteLine text) a b f g = absurd f
+one_room tree (RunLine run) a b f g = absurd f
+
+-- a text has not both a bad part and no room
+text_not_room : (m : Manifest) (text : List ℕ) (a : AddFault) → HasFaultOf m text BadText → NoRoomAt m text a → ⊥
+text_not_room m text a f g =
+    let same = line_same f.0 g.0 f.1 g.1 (sym f.3 ∙ g.3) in
+    text_or_room (manifest_tree m) g.0 a (subst HasBadText same f.4) g.4
+
+rooms : (m : Manifest) (text : List ℕ) (a b : AddFault) → NoRoomAt m text a → NoRoomAt m text b → a ≡ b
+rooms m text a b f g =
+    let same = line_same f.0 g.0 f.1 g.1 (sym f.3 ∙ g.3) in
+    one_room (manifest_tree m) g.0 a b (subst (λ l. HasNoRoom (manifest_tree m) l a) same f.4) g.4
+
+one_later_kind : (m : Manifest) (text : List ℕ) (k k' : ManifestKind) → Later m text k → Later m text k' → k ≡ k'
+one_later_kind m text k k' (inl p) (inl q) = p.0 ∙ sym q.0
+one_later_kind m text k k' (inl p) (inr (inl q)) = absurd (p.1 (q.1.0, q.1.1, q.1.2, q.1.3))
+one_later_kind m text k k' (inl p) (inr (inr q)) = absurd (p.1 (q.2.0, q.2.1, q.2.2, q.2.3))
+one_later_kind m text k k' (inr (inl p)) (inl q) = absurd (q.1 (p.1.0, p.1.1, p.1.2, p.1.3))
+one_later_kind m text k k' (inr (inl p)) (inr (inl q)) = p.0 ∙ sym q.0
+one_later_kind m text k k' (inr (inl p)) (inr (inr q)) = absurd (text_not_room m text q.0 p.1 q.2)
+one_later_kind m text k k' (inr (inr p)) (inl q) = absurd (q.1 (p.2.0, p.2.1, p.2.2, p.2.3))
+one_later_kind m text k k' (inr (inr p)) (inr (inl q)) = absurd (text_not_room m text p.0 q.1 p.2)
+one_later_kind m text k k' (inr (inr p)) (inr (inr q)) = p.1 ∙ ap kind_of (rooms m text p.0 q.0 p.2 q.2) ∙ sym q.1
+
+-- the kinds of a first fault
+abbrev First : List ℕ → ManifestKind → Type 0
+First text kind = ((kind ≡ BadLine) × (¬ IsVolumeLine text)) ⊎ ((kind ≡ BadSize) × IsVolumeLine text)
+
+first_kind : (text : List ℕ) (kind : ManifestKind) → IsFirstFault text kind → First text kind
+first_kind text BadLine f = inl (refl, f)
+first_kind text BadSize f = inr (refl, (f.0, f.1, f.2, f.3))
+first_kind text BadText f = absurd f
+first_kind text NoParent f = absurd f
+first_kind text ParentIsFile f = absurd f
+first_kind text Exists f = absurd f
+first_kind text NoMemory f = absurd f
+first_kind text TooLong f = absurd f
+
+one_first_kind : (text : List ℕ) (k k' : ManifestKind) → First text k → First text k' → k ≡ k'
+one_first_kind text k k' (inl p) (inl q) = p.0 ∙ sym q.0
+one_first_kind text k k' (inl p) (inr q) = absurd (p.1 q.1)
+one_first_kind text k k' (inr p) (inl q) = absurd (q.1 p.1)
+one_first_kind text k k' (inr p) (inr q) = p.0 ∙ sym q.0
+
+-- one of two fronts of a list goes on with what follows the other
+inside : (xs ys r r' : List (List ℕ)) (a : List ℕ) → xs ++ a ∷ r ≡ ys ++ r' → length xs < length ys → (s : List (List ℕ)) × (ys ≡ xs ++ a ∷ s)
+inside [] [] r r' a e h = absurd (omega arith)
+inside [] (y ∷ ys) r r' a e h = (ys, ap (λ z. z ∷ ys) (sym (heads a y r (ys ++ r') e)))
+inside (x ∷ xs) [] r r' a e h = absurd (omega arith)
+inside (x ∷ xs) (y ∷ ys) r r' a e h =
+    let more = inside xs ys r r' a (rests x y (xs ++ a ∷ r) (ys ++ r') e) (omega arith) in
+    (more.0, ap (λ z. z ∷ ys) (sym (heads x y (xs ++ a ∷ r) (ys ++ r') e)) ∙ ap (λ l. x ∷ l) more.1)
+
+-- two fronts of one length are the same, and so is what follows
+fronts : (xs ys r r' : List (List ℕ)) → xs ++ r ≡ ys ++ r' → length xs ≡ length ys → (xs ≡ ys) × (r ≡ r')
+fronts [] [] r r' e h = (refl, e)
+fronts [] (y ∷ ys) r r' e h = absurd (omega arith)
+fronts (x ∷ xs) [] r r' e h = absurd (omega arith)
+fronts (x ∷ xs) (y ∷ ys) r r' e h =
+    let more = fronts xs ys r r' (rests x y (xs ++ r) (ys ++ r') e) (omega arith) in
+    (ap (λ z. z ∷ xs) (heads x y (xs ++ r) (ys ++ r') e) ∙ ap (λ l. y ∷ l) more.0, more.1)
+
+-- lines have one first fault at most
+pub one_fault : (all : List (List ℕ)) (n n' : ℕ) (k k' : ManifestKind) → HasFault all n k → HasFault all n' k' → (n ≡ n') × (k ≡ k')
+one_fault all n n' k k' (inl f) (inl g) =
+    let same = heads f.0 g.0 f.1 g.1 (sym f.2 ∙ g.2) in
+    (f.3 ∙ sym g.3, one_first_kind g.0 k k' (first_kind g.0 k (subst (λ l. IsFirstFault l k) same f.4)) (first_kind g.0 k' g.4))
+one_fault all n n' k k' (inl f) (inr g) = absurd (mixed all f.0 f.1 k g.0 (g.1 ∷ g.2) f.2 f.4 g.3 g.4)
+one_fault all n n' k k' (inr f) (inl g) = absurd (mixed all g.0 g.1 k' f.0 (f.1 ∷ f.2) g.2 g.4 f.3 f.4)
+one_fault all n n' k k' (inr f) (inr g) =
+    elim (cases_order (length (manifest_lines f.0)) (length (manifest_lines g.0))) [
+      | inl e ↦
+          let both = fronts (manifest_lines f.0) (manifest_lines g.0) (f.1 ∷ f.2) (g.1 ∷ g.2) (sym f.4 ∙ g.4) e in
+          let told = one_told f.0 g.0 f.3 g.3 both.0 in
+          let text = heads f.1 g.1 f.2 g.2 both.1 in
+          let moved = subst (λ (m : Manifest). IsLaterFault m g.1 k) told (subst (λ t. IsLaterFault f.0 t k) text f.6) in
+          (f.5 ∙ ap (λ m. m + 1) e ∙ sym g.5, one_later_kind g.0 g.1 k k' (later_kind g.0 g.1 k moved) (later_kind g.0 g.1 k' g.6))
+      | inr (inl lt) ↦
+          let more = inside (manifest_lines f.0) (manifest_lines g.0) f.2 (g.1 ∷ g.2) f.1 (sym f.4 ∙ g.4) lt in
+          absurd (later_good f.0 g.0 f.1 more.0 k f.3 g.3 more.1 f.6)
+      | inr (inr gt) ↦
+          let more = inside (manifest_lines g.0) (manifest_lines f.0) g.2 (f.1 ∷ f.2) g.1 (sym g.4 ∙ f.4) gt in
+          absurd (later_good g.0 f.0 g.1 more.0 k' g.3 f.3 more.1 g.6)
+    ]

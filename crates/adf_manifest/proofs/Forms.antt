@@ -1,0 +1,125 @@
+-- A text has one form at most, and what it tells is one.
+use Rattle.std.proofs.Common.{◌≡◌, ◌<◌, ◌^◌, ◌+◌, ◌*◌, ◌==◌, ◌++◌, ◌∙◌, ℕ, false, List, [], ◌∷◌, refl, sym, ap, arith, codes, slice_index}
+use Rattle.std.specs.Fmt.{decimal}
+use Rattle.std.proofs.lemmas.Fmt.{decimal_injective}
+use Rattle.std.proofs.lemmas.Bool.Decides.{nat_tests}
+use Rattle.std.proofs.lemmas.List.{append_cancel_left}
+use Rattle.adf_fields.specs.Dates.{plain_text}
+use Rattle.adf_fields.specs.declared.dates.Stamp.{Stamp}
+use Rattle.adf_tree.specs.declared.entry.Stamps.{Stamps}
+use Rattle.adf_manifest.specs.Parts.{AreStamps, IsStamp, stamps_text}
+use Rattle.adf_manifest.specs.Texts.{hex_word, pair, pairs, unpaired}
+use Rattle.adf_manifest.specs.Lines.{IsLine, IsRun, LineValue, LabelLine, StampsLine, EntryLine, NoteLine, RunLine, DataRun, FillRun, fields_text, fill_line, line_text, stamps_line}
+use Rattle.adf_manifest.specs.declared.lines.Sort.{Sort}
+use Rattle.adf_manifest.specs.declared.lines.Sort.TheVariants.{Dir, File}
+use Rattle.adf_manifest.proofs.DigitLaws.{one_pair, one_word, unpaired_pairs, word_lacks}
+use Rattle.adf_manifest.proofs.LineLaws.{fields_parts, fill_parts}
+use Rattle.adf_manifest.proofs.PartLaws.{colon_lacks, space_lacks, stamp_lacks, stamp_parts, stamps_parts}
+
+stamp_same : (s t : Stamp) → s.days ≡ t.days → s.mins ≡ t.mins → s.ticks ≡ t.ticks → s ≡ t
+stamp_same s t d m k =
+    let by_days : ℕ → Stamp = λ x. record { days = x; mins = s.mins; ticks = s.ticks } in
+    let by_mins : ℕ → Stamp = λ x. record { days = t.days; mins = x; ticks = s.ticks } in
+    let by_ticks : ℕ → Stamp = λ x. record { days = t.days; mins = t.mins; ticks = x } in
+    ap by_days d ∙ ap by_mins m ∙ ap by_ticks k
+
+pub one_stamp : (s t : Stamp) → IsStamp s → IsStamp t → plain_text s ≡ plain_text t → s ≡ t
+one_stamp s t g h e =
+    let parts = stamp_parts (plain_text s) (decimal s.days) (decimal s.mins) (decimal s.ticks) t (colon_lacks s.days g.0) (colon_lacks s.mins g.1) refl h e in
+    let same : (a b : ℕ) → a < 2 ^ 32 → b < 2 ^ 32 → decimal a ≡ decimal b → a ≡ b = λ a b x y q. decimal_injective a b (omega arith) (omega arith) q in
+    stamp_same s t (same s.days t.days g.0 h.0 parts.0) (same s.mins t.mins g.1 h.1 parts.1) (same s.ticks t.ticks g.2 h.2 parts.2)
+
+stamps_same : (s t : Stamps) → s.root ≡ t.root → s.altered ≡ t.altered → s.created ≡ t.created → s ≡ t
+stamps_same s t r a k =
+    let by_root : Stamp → Stamps = λ x. record { root = x; altered = s.altered; created = s.created } in
+    let by_altered : Stamp → Stamps = λ x. record { root = t.root; altered = x; created = s.created } in
+    let by_created : Stamp → Stamps = λ x. record { root = t.root; altered = t.altered; created = x } in
+    ap by_root r ∙ ap by_altered a ∙ ap by_created k
+
+pub one_stamps : (s t : Stamps) → AreStamps s → AreStamps t → stamps_line s ≡ stamps_line t → s ≡ t
+one_stamps s t g h e =
+    let texts = append_cancel_left (codes "stamps ") (stamps_text s) (stamps_text t) e in
+    let parts = stamps_parts (stamps_text s) (plain_text s.root) (plain_text s.altered) (plain_text s.created) t (stamp_lacks s.root g.0) (stamp_lacks s.altered g.1) refl h texts in
+    stamps_same s t (one_stamp s.root t.root g.0 h.0 parts.0) (one_stamp s.altered t.altered g.1 h.1 parts.1) (one_stamp s.created t.created g.2 h.2 parts.2)
+
+same_fields : (sort : Sort) (s t : Stamp) (p q : ℕ) (x y : List ℕ) → s ≡ t → p ≡ q → x ≡ y → EntryLine sort s p x ≡ EntryLine sort t q y
+same_fields sort s t p q x y e f g = ap (λ a. EntryLine sort a p x) e ∙ ap (λ a. EntryLine sort t a x) f ∙ ap (λ a. EntryLine sort t q a) g
+
+one_entry : (sort : Sort) (s t : Stamp) (p q : ℕ) (x y : List ℕ) → IsStamp s → IsStamp t → p < 2 ^ 32 → q < 2 ^ 32 → fields_text s p x ≡ fields_text t q y → EntryLine sort s p x ≡ EntryLine sort t q y
+one_entry sort s t p q x y hs ht hp hq e =
+    let parts = fields_parts (fields_text s p x) (plain_text s) (hex_word p) x t q y (stamp_lacks s hs) (word_lacks p) refl ht e in
+    same_fields sort s t p q x y (one_stamp s t hs ht parts.0) (one_word p q hp hq parts.1) parts.2
+
+one_run : (a b : List ℕ) → IsRun (DataRun a) → IsRun (DataRun b) → pairs a ≡ pairs b → a ≡ b
+one_run a b g h e = sym (unpaired_pairs a g.1) ∙ ap unpaired e ∙ unpaired_pairs b h.1
+
+one_fill : (n m a b : ℕ) → IsRun (FillRun n a) → IsRun (FillRun m b) → fill_line n a ≡ fill_line m b → FillRun n a ≡ FillRun m b
+one_fill n m a b g h e =
+    let parts = fill_parts (fill_line n a) (decimal n ++ 32 ∷ pair a) (decimal n) (pair a) m b refl refl (space_lacks n (let small = g.1 in omega arith)) h.1 e in
+    let count : n ≡ m = decimal_injective n m (let small = g.1 in omega arith) (let small = h.1 in omega arith) parts.0 in
+    let byte = (one_pair a b [] [] g.2 h.2 parts.1).0 in
+    ap (λ x. FillRun x a) count ∙ ap (λ x. FillRun m x) byte
+
+-- by its first and fourth bytes a text has one form at most
+abbrev key : List ℕ → ℕ
+key text = slice_index text 0 + 256 * slice_index text 3
+
+apart : (x y : ℕ) → (x == y) ≡ false → x ≡ y → ⊥
+apart x y h e = grind (arith, nat_tests)
+
+differ : {P : Type 0} (x y : ℕ) → (x == y) ≡ false → x ≡ y → P
+differ x y h e = absurd (apart x y h e)
+
+-- lines of one text are the same
+pub line_same : (a b : LineValue) → IsLine a → IsLine b → line_text a ≡ line_text b → a ≡ b
+line_same (LabelLine a) (LabelLine b) g h e = ap LabelLine (append_cancel_left (codes "label ") a b e)
+line_same (StampsLine s) (StampsLine t) g h e = ap StampsLine (one_stamps s t g h e)
+line_same (EntryLine Dir s p x) (EntryLine Dir t q y) g h e =
+    one_entry Dir s t p q x y g.0 h.0 g.1 h.1 (append_cancel_left (codes "dir ") (fields_text s p x) (fields_text t q y) e)
+line_same (EntryLine File s p x) (EntryLine File t q y) g h e =
+    one_entry File s t p q x y g.0 h.0 g.1 h.1 (append_cancel_left (codes "file ") (fields_text s p x) (fields_text t q y) e)
+line_same (NoteLine a) (NoteLine b) g h e = ap NoteLine (append_cancel_left (codes "note ") a b e)
+line_same (RunLine (DataRun a)) (RunLine (DataRun b)) g h e = ap (λ x. RunLine (DataRun x)) (one_run a b g h (append_cancel_left (codes "data ") (pairs a) (pairs b) e))
+line_same (RunLine (FillRun n a)) (RunLine (FillRun m b)) g h e = ap RunLine (one_fill n m a b g h e)
+line_same (LabelLine a) (StampsLine t) g h e = differ (key (line_text (LabelLine a))) (key (line_text (StampsLine t))) refl (ap key e)
+line_same (LabelLine a) (EntryLine Dir t q y) g h e = differ (key (line_text (LabelLine a))) (key (line_text (EntryLine Dir t q y))) refl (ap key e)
+line_same (LabelLine a) (EntryLine File t q y) g h e = differ (key (line_text (LabelLine a))) (key (line_text (EntryLine File t q y))) refl (ap key e)
+line_same (LabelLine a) (NoteLine b) g h e = differ (key (line_text (LabelLine a))) (key (line_text (NoteLine b))) refl (ap key e)
+line_same (LabelLine a) (RunLine (DataRun b)) g h e = differ (key (line_text (LabelLine a))) (key (line_text (RunLine (DataRun b)))) refl (ap key e)
+line_same (LabelLine a) (RunLine (FillRun m b)) g h e = differ (key (line_text (LabelLine a))) (key (line_text (RunLine (FillRun m b)))) refl (ap key e)
+line_same (StampsLine s) (LabelLine b) g h e = differ (key (line_text (StampsLine s))) (key (line_text (LabelLine b))) refl (ap key e)
+line_same (StampsLine s) (EntryLine Dir t q y) g h e = differ (key (line_text (StampsLine s))) (key (line_text (EntryLine Dir t q y))) refl (ap key e)
+line_same (StampsLine s) (EntryLine File t q y) g h e = differ (key (line_text (StampsLine s))) (key (line_text (EntryLine File t q y))) refl (ap key e)
+line_same (StampsLine s) (NoteLine b) g h e = differ (key (line_text (StampsLine s))) (key (line_text (NoteLine b))) refl (ap key e)
+line_same (StampsLine s) (RunLine (DataRun b)) g h e = differ (key (line_text (StampsLine s))) (key (line_text (RunLine (DataRun b)))) refl (ap key e)
+line_same (StampsLine s) (RunLine (FillRun m b)) g h e = differ (key (line_text (StampsLine s))) (key (line_text (RunLine (FillRun m b)))) refl (ap key e)
+line_same (EntryLine Dir s p x) (LabelLine b) g h e = differ (key (line_text (EntryLine Dir s p x))) (key (line_text (LabelLine b))) refl (ap key e)
+line_same (EntryLine Dir s p x) (StampsLine t) g h e = differ (key (line_text (EntryLine Dir s p x))) (key (line_text (StampsLine t))) refl (ap key e)
+line_same (EntryLine Dir s p x) (EntryLine File t q y) g h e = differ (key (line_text (EntryLine Dir s p x))) (key (line_text (EntryLine File t q y))) refl (ap key e)
+line_same (EntryLine Dir s p x) (NoteLine b) g h e = differ (key (line_text (EntryLine Dir s p x))) (key (line_text (NoteLine b))) refl (ap key e)
+line_same (EntryLine Dir s p x) (RunLine (DataRun b)) g h e = differ (key (line_text (EntryLine Dir s p x))) (key (line_text (RunLine (DataRun b)))) refl (ap key e)
+line_same (EntryLine Dir s p x) (RunLine (FillRun m b)) g h e = differ (key (line_text (EntryLine Dir s p x))) (key (line_text (RunLine (FillRun m b)))) refl (ap key e)
+line_same (EntryLine File s p x) (LabelLine b) g h e = differ (key (line_text (EntryLine File s p x))) (key (line_text (LabelLine b))) refl (ap key e)
+line_same (EntryLine File s p x) (StampsLine t) g h e = differ (key (line_text (EntryLine File s p x))) (key (line_text (StampsLine t))) refl (ap key e)
+line_same (EntryLine File s p x) (EntryLine Dir t q y) g h e = differ (key (line_text (EntryLine File s p x))) (key (line_text (EntryLine Dir t q y))) refl (ap key e)
+line_same (EntryLine File s p x) (NoteLine b) g h e = differ (key (line_text (EntryLine File s p x))) (key (line_text (NoteLine b))) refl (ap key e)
+line_same (EntryLine File s p x) (RunLine (DataRun b)) g h e = differ (key (line_text (EntryLine File s p x))) (key (line_text (RunLine (DataRun b)))) refl (ap key e)
+line_same (EntryLine File s p x) (RunLine (FillRun m b)) g h e = differ (key (line_text (EntryLine File s p x))) (key (line_text (RunLine (FillRun m b)))) refl (ap key e)
+line_same (NoteLine a) (LabelLine b) g h e = differ (key (line_text (NoteLine a))) (key (line_text (LabelLine b))) refl (ap key e)
+line_same (NoteLine a) (StampsLine t) g h e = differ (key (line_text (NoteLine a))) (key (line_text (StampsLine t))) refl (ap key e)
+line_same (NoteLine a) (EntryLine Dir t q y) g h e = differ (key (line_text (NoteLine a))) (key (line_text (EntryLine Dir t q y))) refl (ap key e)
+line_same (NoteLine a) (EntryLine File t q y) g h e = differ (key (line_text (NoteLine a))) (key (line_text (EntryLine File t q y))) refl (ap key e)
+line_same (NoteLine a) (RunLine (DataRun b)) g h e = differ (key (line_text (NoteLine a))) (key (line_text (RunLine (DataRun b)))) refl (ap key e)
+line_same (NoteLine a) (RunLine (FillRun m b)) g h e = differ (key (line_text (NoteLine a))) (key (line_text (RunLine (FillRun m b)))) refl (ap key e)
+line_same (RunLine (DataRun a)) (LabelLine b) g h e = differ (key (line_text (RunLine (DataRun a)))) (key (line_text (LabelLine b))) refl (ap key e)
+line_same (RunLine (DataRun a)) (StampsLine t) g h e = differ (key (line_text (RunLine (DataRun a)))) (key (line_text (StampsLine t))) refl (ap key e)
+line_same (RunLine (DataRun a)) (EntryLine Dir t q y) g h e = differ (key (line_text (RunLine (DataRun a)))) (key (line_text (EntryLine Dir t q y))) refl (ap key e)
+line_same (RunLine (DataRun a)) (EntryLine File t q y) g h e = differ (key (line_text (RunLine (DataRun a)))) (key (line_text (EntryLine File t q y))) refl (ap key e)
+line_same (RunLine (DataRun a)) (NoteLine b) g h e = differ (key (line_text (RunLine (DataRun a)))) (key (line_text (NoteLine b))) refl (ap key e)
+line_same (RunLine (DataRun a)) (RunLine (FillRun m b)) g h e = differ (key (line_text (RunLine (DataRun a)))) (key (line_text (RunLine (FillRun m b)))) refl (ap key e)
+line_same (RunLine (FillRun n a)) (LabelLine b) g h e = differ (key (line_text (RunLine (FillRun n a)))) (key (line_text (LabelLine b))) refl (ap key e)
+line_same (RunLine (FillRun n a)) (StampsLine t) g h e = differ (key (line_text (RunLine (FillRun n a)))) (key (line_text (StampsLine t))) refl (ap key e)
+line_same (RunLine (FillRun n a)) (EntryLine Dir t q y) g h e = differ (key (line_text (RunLine (FillRun n a)))) (key (line_text (EntryLine Dir t q y))) refl (ap key e)
+line_same (RunLine (FillRun n a)) (EntryLine File t q y) g h e = differ (key (line_text (RunLine (FillRun n a)))) (key (line_text (EntryLine File t q y))) refl (ap key e)
+line_same (RunLine (FillRun n a)) (NoteLine b) g h e = differ (key (line_text (RunLine (FillRun n a)))) (key (line_text (NoteLine b))) refl (ap key e)
+line_same (RunLine (FillRun n a)) (RunLine (DataRun b)) g h e = differ (key (line_text (RunLine (FillRun n a)))) (key (line_text (RunLine (DataRun b)))) refl (ap key e)

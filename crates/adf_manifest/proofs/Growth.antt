@@ -1,0 +1,148 @@
+-- How a manifest grows by a line.
+use Rattle.std.proofs.Common.{◌≡◌, ◌++◌, ◌∙◌, ℕ, List, [], ◌∷◌, Option, Some, None, refl, sym, ap, subst, map}
+use Rattle.std.specs.Prelude.{IsOk}
+use Rattle.std.specs.List.{All, flat_map}
+use Rattle.std.proofs.lemmas.List.{append_assoc, append-nil, map-append}
+use Rattle.std.proofs.lemmas.List.Elements.{All-cons, All-head, All-nil, All-push, All-tail}
+use Rattle.std.proofs.lemmas.Grind.{flat_map-append}
+use Rattle.adf_tree.specs.Escapes.{escaped}
+use Rattle.adf_tree.specs.PathTexts.{path_text}
+use Rattle.adf_tree.specs.Tree.{Tree, room_for}
+use Rattle.adf_fields.specs.declared.dates.Stamp.{Stamp}
+use Rattle.adf_manifest.specs.Lines.{IsRun, RunValue, entry_line, note_line, run_line}
+use Rattle.adf_manifest.specs.Items.{HaveRoom, IsGivenNote, IsItem, Item, file_bytes, item_lines, items_tree, note_lines, run_bytes, with_item}
+use Rattle.adf_manifest.specs.Manifest.{Entries, IsWell, Manifest, head_lines, head_tree, items_of, manifest_lines, manifest_tree}
+use Rattle.adf_manifest.specs.declared.lines.Sort.{Sort}
+use Rattle.adf_manifest.specs.declared.lines.Sort.TheVariants.{Dir, File}
+
+-- the tree with one entry more, the last
+pub tree_more : (t : Tree) (items : List Item) (i : Item) → items_tree t (items ++ i ∷ []) ≡ with_item (items_tree t items) i
+unfolding items_tree
+tree_more t [] i = refl
+tree_more t (x ∷ xs) i = tree_more (with_item t x) xs i
+
+pub tree_none : (t : Tree) → items_tree t [] ≡ t
+unfolding items_tree
+tree_none t = refl
+
+pub room_none : (t : Tree) → HaveRoom t []
+unfolding HaveRoom
+room_none t = tt
+
+-- entries have room where those before the last and the last have
+pub room_more : (t : Tree) (items : List Item) (i : Item) → HaveRoom t items → IsOk (room_for (items_tree t items).entries i.path) → HaveRoom t (items ++ i ∷ [])
+unfolding items_tree HaveRoom
+room_more t [] i h g = (g, tt)
+room_more t (x ∷ xs) i h g = (h.0, room_more (with_item t x) xs i h.1 g)
+
+pub room_less : (t : Tree) (items : List Item) (i : Item) → HaveRoom t (items ++ i ∷ []) → HaveRoom t items × IsOk (room_for (items_tree t items).entries i.path)
+unfolding items_tree HaveRoom
+room_less t [] i h = (tt, h.0)
+room_less t (x ∷ xs) i h = let less = room_less (with_item t x) xs i h.1 in ((h.0, less.0), less.1)
+
+-- an entry of a line alone, one with a note, one with a line of bytes more
+abbrev pub new_item : Sort → Stamp → ℕ → List (List ℕ) → Item
+new_item sort stamp protect path = record { sort = sort; stamp = stamp; protect = protect; path = path; note = None; runs = [] }
+
+abbrev pub noted : Item → List ℕ → Item
+noted i note = record i { note = Some note }
+
+abbrev pub given : Item → RunValue → Item
+given i run = record i { runs = i.runs ++ run ∷ [] }
+
+-- a manifest with an entry more, and one with another last entry
+abbrev pub with_new : Manifest → Item → Manifest
+with_new m i = record { head = m.head; entries = Some (record { before = items_of m.entries; last = i }) }
+
+abbrev pub with_last : Manifest → Entries → Item → Manifest
+with_last m e i = record { head = m.head; entries = Some (record { before = e.before; last = i }) }
+
+lines_push : (items : List Item) (i : Item) → flat_map item_lines (items ++ i ∷ []) ≡ flat_map item_lines items ++ item_lines i
+lines_push items i = flat_map-append item_lines items (i ∷ []) ∙ ap (λ l. flat_map item_lines items ++ l) (append-nil (item_lines i))
+
+pub new_lines : (m : Manifest) (i : Item) → manifest_lines (with_new m i) ≡ manifest_lines m ++ item_lines i
+new_lines m i =
+    ap (λ l. head_lines m.head ++ l) (lines_push (items_of m.entries) i)
+    ∙ sym (append_assoc (head_lines m.head) (flat_map item_lines (items_of m.entries)) (item_lines i))
+
+pub new_well : (m : Manifest) (i : Item) → IsWell m → IsItem i → IsOk (room_for (manifest_tree m).entries i.path) → IsWell (with_new m i)
+new_well m i w g room = record {
+  head = w.head;
+  items = All-push IsItem (items_of m.entries) i w.items g;
+  room = room_more (head_tree m.head) (items_of m.entries) i w.room room;
+}
+
+last_split : (h l : List (List ℕ)) (before : List Item) (last last' : Item) (text : List ℕ) → item_lines last' ≡ item_lines last ++ text ∷ []
+    → h ++ flat_map item_lines (before ++ last' ∷ []) ≡ (h ++ flat_map item_lines (before ++ last ∷ [])) ++ text ∷ []
+last_split h l before last last' text e =
+    let front = flat_map item_lines before in
+    ap (λ x. h ++ x) (lines_push before last' ∙ ap (λ x. front ++ x) e ∙ sym (append_assoc front (item_lines last) (text ∷ [])) ∙ ap (λ x. x ++ text ∷ []) (sym (lines_push before last)))
+    ∙ sym (append_assoc h (flat_map item_lines (before ++ last ∷ [])) (text ∷ []))
+
+pub last_lines : (m : Manifest) (e : Entries) (i : Item) (text : List ℕ) → m.entries ≡ Some e → item_lines i ≡ item_lines e.last ++ text ∷ [] → manifest_lines (with_last m e i) ≡ manifest_lines m ++ text ∷ []
+last_lines m e i text is g =
+    last_split (head_lines m.head) [] e.before e.last i text g
+    ∙ ap (λ x. (head_lines m.head ++ flat_map item_lines (items_of x)) ++ text ∷ []) (sym is)
+
+-- the entries before the last, and the last
+pub well_before : (m : Manifest) (e : Entries) → IsWell m → m.entries ≡ Some e → All IsItem (e.before ++ e.last ∷ []) × HaveRoom (head_tree m.head) (e.before ++ e.last ∷ [])
+well_before m e w is = (subst (λ x. All IsItem (items_of x)) is w.items, subst (λ x. HaveRoom (head_tree m.head) (items_of x)) is w.room)
+
+bare_lines : (text : Option (List ℕ)) (runs : List RunValue) → text ≡ None → runs ≡ [] → note_lines text ++ map run_line runs ≡ []
+bare_lines text runs e g = ap (λ n. note_lines n ++ map run_line runs) e ∙ ap (map run_line) g
+
+pub All-front : (items : List Item) (i : Item) → All IsItem (items ++ i ∷ []) → All IsItem items
+All-front [] i h = All-nil IsItem
+All-front (x ∷ xs) i h = All-cons IsItem x xs (All-head IsItem x (xs ++ i ∷ []) h) (All-front xs i (All-tail IsItem x (xs ++ i ∷ []) h))
+
+pub All-last : (items : List Item) (i : Item) → All IsItem (items ++ i ∷ []) → IsItem i
+All-last [] i h = All-head IsItem i [] h
+All-last (x ∷ xs) i h = All-last xs i (All-tail IsItem x (xs ++ i ∷ []) h)
+
+-- an entry with a note: its lines, and its limits
+pub noted_lines : (i : Item) (note : List ℕ) → i.note ≡ None → i.runs ≡ [] → item_lines (noted i note) ≡ item_lines i ++ note_line (escaped note) ∷ []
+noted_lines i note e g =
+    let top = entry_line i.sort i.stamp i.protect (path_text i.path) in
+    let mine : List (List ℕ) = note_line (escaped note) ∷ [] in
+    ap (λ r. top ∷ (mine ++ map run_line r)) g ∙ ap (λ l. top ∷ (l ++ mine)) (sym (bare_lines i.note i.runs e g))
+
+pub noted_is : (i : Item) (note : List ℕ) → IsItem i → IsGivenNote note → IsItem (noted i note)
+noted_is i note g h = record { stamp = g.stamp; protect = g.protect; filled = g.filled; names = g.names; note = h; runs = g.runs; plain = g.plain }
+
+-- an entry with a line of bytes more
+pub given_lines : (i : Item) (run : RunValue) → item_lines (given i run) ≡ item_lines i ++ run_line run ∷ []
+given_lines i run =
+    let top = entry_line i.sort i.stamp i.protect (path_text i.path) in
+    ap (λ l. top ∷ (note_lines i.note ++ l)) (map-append run_line i.runs (run ∷ []))
+    ∙ ap (λ l. top ∷ l) (sym (append_assoc (note_lines i.note) (map run_line i.runs) (run_line run ∷ [])))
+
+file_not_dir : (s : Sort) → s ≡ File → s ≡ Dir → ⊥
+file_not_dir s e g = cc
+
+pub given_is : (i : Item) (run : RunValue) → IsItem i → i.sort ≡ File → IsRun run → IsItem (given i run)
+given_is i run g e h = record {
+  stamp = g.stamp;
+  protect = g.protect;
+  filled = g.filled;
+  names = g.names;
+  note = g.note;
+  runs = All-push IsRun i.runs run g.runs h;
+  plain = λ d. absurd (file_not_dir i.sort e d);
+}
+
+pub given_bytes : (i : Item) (run : RunValue) → file_bytes (given i run).runs ≡ file_bytes i.runs ++ run_bytes run
+given_bytes i run = flat_map-append run_bytes i.runs (run ∷ []) ∙ ap (λ l. file_bytes i.runs ++ l) (append-nil (run_bytes run))
+
+-- a manifest with another last entry of the same path
+pub last_well : (m : Manifest) (e : Entries) (i : Item) → IsWell m → m.entries ≡ Some e → IsItem i → i.path ≡ e.last.path → IsWell (with_last m e i)
+last_well m e i w is g same =
+    let both = well_before m e w is in
+    let less = room_less (head_tree m.head) e.before e.last both.1 in
+    record {
+      head = w.head;
+      items = All-push IsItem e.before i (All-front e.before e.last both.0) g;
+      room = room_more (head_tree m.head) e.before i less.0 (subst (λ p. IsOk (room_for (items_tree (head_tree m.head) e.before).entries p)) (sym same) less.1);
+    }
+
+pub last_is : (m : Manifest) (e : Entries) → IsWell m → m.entries ≡ Some e → IsItem e.last
+last_is m e w is = All-last e.before e.last (well_before m e w is).0

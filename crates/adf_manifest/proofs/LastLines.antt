@@ -1,0 +1,202 @@
+-- The last line of a manifest, and the manifest of the lines before it.
+use Rattle.std.proofs.Common.{◌≡◌, ◌≢◌, ◌<◌, ◌++◌, ◌∙◌, ◌⊎◌, inl, inr, ℕ, List, [], ◌∷◌, Option, Some, None, IfSome, refl, sym, ap, subst, arith, length}
+use Rattle.std.specs.Prelude.{IsOk}
+use Rattle.std.specs.List.{All}
+use Rattle.std.proofs.lemmas.List.{append-nil}
+use Rattle.std.proofs.lemmas.List.Elements.{All-cons, All-head, All-nil, All-push, All-tail}
+use Rattle.adf_tree.specs.Escapes.{IsSpelling, escaped}
+use Rattle.adf_tree.specs.PathTexts.{IsName, IsPathText, path_text}
+use Rattle.adf_tree.specs.Tree.{room_for}
+use Rattle.adf_tree.specs.declared.entry.Kind.{Kind}
+use Rattle.adf_tree.specs.declared.entry.Stamps.{Stamps}
+use Rattle.adf_tree.proofs.Spellings.{spelling_some}
+use Rattle.adf_tree.proofs.PathParts.{empty_path}
+use Rattle.adf_manifest.specs.Lines.{IsLine, IsRun, LineValue, LabelLine, StampsLine, EntryLine, NoteLine, RunLine, RunValue, line_text, run_line, volume_line, stamps_line, note_line}
+use Rattle.adf_manifest.specs.Items.{HaveRoom, IsGivenNote, IsItem, Item, items_tree}
+use Rattle.adf_manifest.specs.Manifest.{Entries, IsHead, IsWell, Manifest, head_lines, head_tree, label_lines, stamps_lines, items_of, manifest_lines, manifest_tree}
+use Rattle.adf_manifest.specs.Reader.{bare}
+use Rattle.adf_manifest.specs.declared.lines.Sort.{Sort}
+use Rattle.adf_manifest.specs.declared.lines.Sort.TheVariants.{Dir, File}
+use Rattle.adf_manifest.specs.declared.reader.Head.{Head}
+use Rattle.adf_manifest.proofs.Growth.{All-front, All-last, given, given_lines, last_lines, new_item, new_lines, noted, noted_lines, room_less, room_more, well_before, with_last, with_new}
+use Rattle.adf_manifest.proofs.StateLaws.{bare_lines, bare_well}
+
+abbrev pub with_label : Head → List ℕ → Head
+with_label h label = record h { label = Some label }
+
+abbrev pub with_stamps : Head → Stamps → Head
+with_stamps h stamps = record h { stamps = Some stamps }
+
+-- a line stands behind those of a manifest without a fault, and this is told with it
+abbrev pub Adds : Manifest → LineValue → Manifest → Type 0
+Adds m (LabelLine text) n = (m.entries ≡ None) × (m.head.label ≡ None) × (m.head.stamps ≡ None) × ((label : List ℕ) × IsSpelling 30 text label × (n ≡ bare (with_label m.head label)))
+Adds m (StampsLine stamps) n = (m.entries ≡ None) × (m.head.stamps ≡ None) × (n ≡ bare (with_stamps m.head stamps))
+Adds m (EntryLine sort stamp protect text) n = (path : List (List ℕ)) × IsPathText text path × IsOk (room_for (manifest_tree m).entries path) × (n ≡ with_new m (new_item sort stamp protect path))
+Adds m (NoteLine text) n = (e : Entries) × (m.entries ≡ Some e) × (e.last.note ≡ None) × (e.last.runs ≡ []) × ((note : List ℕ) × IsSpelling 79 text note × (n ≡ with_last m e (noted e.last note)))
+Adds m (RunLine run) n = (e : Entries) × (m.entries ≡ Some e) × (e.last.sort ≡ File) × (n ≡ with_last m e (given e.last run))
+
+-- a manifest of one line, or of a manifest's lines and one more
+abbrev pub IsFirst : Manifest → Type 0
+IsFirst n = (n.entries ≡ None) × (n.head.label ≡ None) × (n.head.stamps ≡ None)
+
+abbrev pub IsNext : Manifest → Type 0
+IsNext n = (m : Manifest) × (line : LineValue) × IsWell m × IsLine line × Adds m line n × (manifest_lines n ≡ manifest_lines m ++ line_text line ∷ [])
+
+-- a list is empty or has a last element
+pub ends : {X : Type 0} (xs : List X) → (xs ≡ []) ⊎ ((front : List X) × (x : X) × (xs ≡ front ++ x ∷ []))
+ends [] = inl refl
+ends (x ∷ xs) =
+    elim (ends xs) [
+      | inl e ↦ inr ([], x, ap (λ l. x ∷ l) e)
+      | inr p ↦ inr (x ∷ p.0, p.1, ap (λ l. x ∷ l) p.2)
+    ]
+
+filled_list : (xs : List ℕ) → xs ≢ [] → 0 < length xs
+filled_list [] h = absurd (h refl)
+filled_list (x ∷ xs) h = omega arith
+
+filled : (l : List ℕ) → 0 < length l → 0 < length (escaped l)
+filled [] h = absurd (omega arith)
+filled (c ∷ cs) h = filled_list (escaped (c ∷ cs)) (spelling_some c (escaped cs))
+
+stamps_behind : (h : Head) (stamps : Stamps) → h.stamps ≡ None → head_lines (with_stamps h stamps) ≡ head_lines h ++ stamps_line stamps ∷ []
+stamps_behind h stamps e =
+    let top = volume_line h.kind h.blocks in
+    let mine : List (List ℕ) = stamps_line stamps ∷ [] in
+    ap (λ l. top ∷ (l ++ mine)) (sym (append-nil (label_lines h.label)))
+    ∙ ap (λ x. (top ∷ (label_lines h.label ++ stamps_lines x)) ++ mine) (sym e)
+
+pub last_of_head : (kind : Kind) (blocks : ℕ) (label : Option (List ℕ)) (stamps : Option Stamps) → let h : Head = record { kind = kind; blocks = blocks; label = label; stamps = stamps } in IsHead h → IsFirst (bare h) ⊎ IsNext (bare h)
+last_of_head kind blocks None None g = inl (refl, refl, refl)
+last_of_head kind blocks (Some label) None g =
+    let before : Head = record { kind = kind; blocks = blocks; label = None; stamps = None } in
+    let well : IsHead before = record { size = g.size; label = tt; stamps = tt } in
+    inr (bare before, LabelLine (escaped label), bare_well before well, filled label g.label.0, (refl, refl, refl, (label, g.label.1, refl)), refl)
+last_of_head kind blocks label (Some stamps) g =
+    let before : Head = record { kind = kind; blocks = blocks; label = label; stamps = None } in
+    let now : Head = record { kind = kind; blocks = blocks; label = label; stamps = Some stamps } in
+    let well : IsHead before = record { size = g.size; label = g.label; stamps = tt } in
+    inr (bare before, StampsLine stamps, bare_well before well, g.stamps, (refl, refl, refl), bare_lines now ∙ stamps_behind before stamps refl ∙ ap (λ l. l ++ stamps_line stamps ∷ []) (sym (bare_lines before)))
+
+sorts : (s : Sort) → (s ≡ File) ⊎ (s ≡ Dir)
+sorts File = inl refl
+sorts Dir = inr refl
+
+file_dir : (s : Sort) → s ≡ File → s ≡ Dir → ⊥
+file_dir s e g = cc
+
+no_end : (runs : List RunValue) (run : RunValue) → runs ++ run ∷ [] ≡ [] → ⊥
+no_end [] run e = cc
+no_end (x ∷ xs) run e = cc
+
+Runs-front : (runs : List RunValue) (run : RunValue) → All IsRun (runs ++ run ∷ []) → All IsRun runs
+Runs-front [] run h = All-nil IsRun
+Runs-front (x ∷ xs) run h = All-cons IsRun x xs (All-head IsRun x (xs ++ run ∷ []) h) (Runs-front xs run (All-tail IsRun x (xs ++ run ∷ []) h))
+
+Runs-last : (runs : List RunValue) (run : RunValue) → All IsRun (runs ++ run ∷ []) → IsRun run
+Runs-last [] run h = All-head IsRun run [] h
+Runs-last (x ∷ xs) run h = Runs-last xs run (All-tail IsRun x (xs ++ run ∷ []) h)
+
+entries_same : (m : Manifest) (e : Entries) → m.entries ≡ Some e → let n : Manifest = record { head = m.head; entries = Some e } in m ≡ n
+entries_same m e is = let by : Option Entries → Manifest = λ x. record { head = m.head; entries = x } in ap by is
+
+not_dir : (i : Item) (run : RunValue) (runs : List RunValue) → IsItem i → i.runs ≡ runs ++ run ∷ [] → i.sort ≡ File
+not_dir i run runs g e =
+    elim (sorts i.sort) [
+      | inl f ↦ f
+      | inr d ↦ absurd (no_end runs run (sym e ∙ g.plain d))
+    ]
+
+-- the same entry with the lines of its bytes but the last
+less_is : (i : Item) (run : RunValue) (runs : List RunValue) → IsItem i → i.runs ≡ runs ++ run ∷ [] → i.sort ≡ File → let j : Item = record i { runs = runs } in IsItem j × IsRun run
+less_is i run runs g e f =
+    let all : All IsRun (runs ++ run ∷ []) = subst (All IsRun) e g.runs in
+    (record { stamp = g.stamp; protect = g.protect; filled = g.filled; names = g.names; note = g.note; runs = Runs-front runs run all; plain = λ d. absurd (file_dir i.sort f d) }, Runs-last runs run all)
+
+-- the last line of a manifest with entries
+last_run : (m : Manifest) (e : Entries) (runs : List RunValue) (run : RunValue) → IsWell m → m.entries ≡ Some e → e.last.runs ≡ runs ++ run ∷ [] → IsNext m
+last_run m e runs run w is r =
+    let both = well_before m e w is in
+    let item : IsItem e.last = All-last e.before e.last both.0 in
+    let file = not_dir e.last run runs item r in
+    let less = less_is e.last run runs item r file in
+    let i : Item = record e.last { runs = runs } in
+    let before : Entries = record { before = e.before; last = i } in
+    let k : Manifest = record { head = m.head; entries = Some before } in
+    let room = room_less (head_tree m.head) e.before e.last both.1 in
+    let well : IsWell k = record {
+      head = w.head;
+      items = All-push IsItem e.before i (All-front e.before e.last both.0) less.0;
+      room = room_more (head_tree m.head) e.before i room.0 room.1;
+    } in
+    let same : m ≡ with_last k before (given i run) = let by : List RunValue → Manifest = λ rs. with_last m e (record e.last { runs = rs }) in entries_same m e is ∙ ap by r in
+    (k, RunLine run, well, less.1, (before, refl, file, same), ap manifest_lines same ∙ last_lines k before (given i run) (run_line run) refl (given_lines i run))
+
+given_note : (o : Option (List ℕ)) (note : List ℕ) → o ≡ Some note → IfSome o IsGivenNote → IsGivenNote note
+given_note None note e g = absurd cc
+given_note (Some x) note e g = let same : x ≡ note = cc in subst IsGivenNote same g
+
+last_note : (m : Manifest) (e : Entries) (note : List ℕ) → IsWell m → m.entries ≡ Some e → e.last.runs ≡ [] → e.last.note ≡ Some note → IsNext m
+last_note m e note w is r n =
+    let both = well_before m e w is in
+    let item : IsItem e.last = All-last e.before e.last both.0 in
+    let mine : IsGivenNote note = given_note e.last.note note n item.note in
+    let i : Item = record e.last { note = None } in
+    let good : IsItem i = record { stamp = item.stamp; protect = item.protect; filled = item.filled; names = item.names; note = tt; runs = item.runs; plain = item.plain } in
+    let before : Entries = record { before = e.before; last = i } in
+    let k : Manifest = record { head = m.head; entries = Some before } in
+    let room = room_less (head_tree m.head) e.before e.last both.1 in
+    let well : IsWell k = record {
+      head = w.head;
+      items = All-push IsItem e.before i (All-front e.before e.last both.0) good;
+      room = room_more (head_tree m.head) e.before i room.0 room.1;
+    } in
+    let same : m ≡ with_last k before (noted i note) = let by : Option (List ℕ) → Manifest = λ o. with_last m e (record e.last { note = o }) in entries_same m e is ∙ ap by n in
+    (k, NoteLine (escaped note), well, filled note mine.0, (before, refl, refl, r, (note, mine.1, same)), ap manifest_lines same ∙ last_lines k before (noted i note) (note_line (escaped note)) refl (noted_lines i note refl r))
+
+path_some : (path : List (List ℕ)) → 0 < length path → All IsName path → 0 < length (path_text path)
+path_some path h g = filled_list (path_text path) (λ e. omega (arith, h, ap length (empty_path path g e)))
+
+last_entry : (m : Manifest) (e : Entries) (es : Option Entries) → e.before ≡ items_of es → IsWell m → m.entries ≡ Some e → e.last.runs ≡ [] → e.last.note ≡ None → IsNext m
+last_entry m e es b w is r n =
+    let both = well_before m e w is in
+    let item : IsItem e.last = All-last e.before e.last both.0 in
+    let k : Manifest = record { head = m.head; entries = es } in
+    let t = head_tree m.head in
+    let room = room_less t e.before e.last both.1 in
+    let well : IsWell k = record {
+      head = w.head;
+      items = subst (All IsItem) b (All-front e.before e.last both.0);
+      room = subst (HaveRoom t) b room.0;
+    } in
+    let path : List (List ℕ) = e.last.path in
+    let i : Item = new_item e.last.sort e.last.stamp e.last.protect path in
+    let by_before : List Item → Manifest = λ xs. record { head = m.head; entries = Some (record { before = xs; last = e.last }) } in
+    let by_note : Option (List ℕ) → Manifest = λ o. record { head = m.head; entries = Some (record { before = items_of es; last = record e.last { note = o } }) } in
+    let by_runs : List RunValue → Manifest = λ rs. record { head = m.head; entries = Some (record { before = items_of es; last = record e.last { note = None; runs = rs } }) } in
+    let same : m ≡ with_new k i = entries_same m e is ∙ ap by_before b ∙ ap by_note n ∙ ap by_runs r in
+    let place : IsOk (room_for (manifest_tree k).entries path) = subst (λ xs. IsOk (room_for (items_tree t xs).entries path)) b room.1 in
+    let text : IsPathText (path_text path) path = record { spells = refl; names = item.names } in
+    (k, EntryLine e.last.sort e.last.stamp e.last.protect (path_text path), well, (item.stamp, item.protect, path_some path item.filled item.names), (path, text, place, same), ap manifest_lines same ∙ new_lines k i)
+
+bare_entry : (m : Manifest) (e : Entries) (note : Option (List ℕ)) → IsWell m → m.entries ≡ Some e → e.last.runs ≡ [] → e.last.note ≡ note → IsNext m
+bare_entry m e (Some note) w is r n = last_note m e note w is r n
+bare_entry m e None w is r n =
+    elim (ends e.before) [
+      | inl b ↦ last_entry m e None b w is r n
+      | inr p ↦ last_entry m e (Some (record { before = p.0; last = p.1 })) p.2 w is r n
+    ]
+
+by_entries : (n : Manifest) (o : Option Entries) → IsWell n → n.entries ≡ o → IsFirst n ⊎ IsNext n
+by_entries n None w is =
+    let by : Option Entries → Manifest = λ x. record { head = n.head; entries = x } in
+    subst (λ (x : Manifest). IsFirst x ⊎ IsNext x) (sym (ap by is)) (last_of_head n.head.kind n.head.blocks n.head.label n.head.stamps w.head)
+by_entries n (Some e) w is =
+    elim (ends e.last.runs) [
+      | inl r ↦ inr (bare_entry n e e.last.note w is r refl)
+      | inr p ↦ inr (last_run n e p.0 p.1 w is p.2)
+    ]
+
+-- a manifest has one line, or is told by a manifest's lines and one more
+pub last_line : (n : Manifest) → IsWell n → IsFirst n ⊎ IsNext n
+last_line n w = by_entries n n.entries w refl

@@ -1,0 +1,10 @@
+pub mod DigitLaws
+pub mod Faults
+pub mod Forms
+pub mod Growth
+pub mod LastLines
+pub mod LineLaws
+pub mod ManifestLaws
+pub mod PartLaws
+pub mod StateLaws
+pub mod Verdicts

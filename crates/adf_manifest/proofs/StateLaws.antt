@@ -1,0 +1,194 @@
+-- What the state of the reader tells with one line more.
+use Rattle.std.proofs.Common.{◌≡◌, ◌≤◌, inl, inr, ◌<◌, ◌++◌, ◌∙◌, ℕ, List, [], ◌∷◌, Option, Some, None, refl, sym, ap, subst, arith, length, length-append}
+use Rattle.std.specs.Prelude.{IsOk, IfErr, IfOk, Result, Ok, Err, is_some, false}
+use Rattle.std.specs.List.{All}
+use Rattle.std.proofs.lemmas.List.{append-nil, length-replicate}
+use Rattle.std.proofs.lemmas.List.Elements.{All-head, All-nil}
+use Rattle.adf_fields.specs.declared.dates.Stamp.{Stamp}
+use Rattle.adf_tree.specs.Escapes.{IsSpelling, escaped}
+use Rattle.adf_tree.specs.PathTexts.{IsPathText, path_text}
+use Rattle.std.specs.Option.{unwrap_or}
+use Rattle.adf_tree.specs.Tree.{Tree, room_for, with_entry}
+use Rattle.adf_tree.specs.declared.entry.Body.{Body}
+use Rattle.adf_tree.specs.declared.entry.Meta.{Meta}
+use Rattle.adf_manifest.specs.Lines.{EntryLine, IsLine, IsRun, RunValue, DataRun, FillRun, entry_line, line_text, line_value, note_line, run_line, LineValue}
+use Rattle.adf_manifest.specs.Items.{IsItem, Item, body_of, file_bytes, items_tree, run_bytes, with_item}
+use Rattle.adf_manifest.specs.Manifest.{Entries, IsHead, IsWell, Manifest, MayFollow, MayStand, head_lines, head_tree, items_of, manifest_lines, manifest_tree, ExplainsKind, lines, most_bytes}
+use Rattle.adf_manifest.specs.Reader.{GoesOn, IsOpen, IsReading, Stops, StopsIn, StopsAt, bare, ExplainsLines}
+use Rattle.adf_manifest.specs.declared.lines.Sort.{Sort}
+use Rattle.adf_manifest.specs.declared.lines.Sort.TheVariants.{File}
+use Rattle.adf_manifest.specs.declared.reader.Head.{Head}
+use Rattle.adf_manifest.specs.declared.reader.Open.{Open}
+use Rattle.adf_manifest.specs.declared.reader.Reading.{Reading}
+use Rattle.adf_manifest.specs.declared.lines.Line.{Line}
+use Rattle.adf_manifest.specs.declared.reader.State.{State}
+use Rattle.adf_manifest.specs.declared.reader.State.TheVariants as state
+use Rattle.adf_manifest.specs.declared.manifest.ManifestKind.{ManifestKind}
+use Rattle.adf_manifest.specs.declared.manifest.ManifestKind.TheVariants.{BadLine, BadSize, BadText, NoParent, ParentIsFile, Exists, NoMemory, TooLong}
+use Rattle.adf_manifest.proofs.Forms.{line_same}
+use Rattle.adf_manifest.proofs.Growth.{given, given_is, given_lines, last_is, last_lines, last_well, new_item, new_lines, new_well, noted, noted_is, noted_lines, room_none, tree_more, tree_none, with_last, with_new}
+
+pub bare_well : (h : Head) → IsHead h → IsWell (bare h)
+bare_well h g = record { head = g; items = All-nil IsItem; room = room_none (head_tree h) }
+
+pub bare_lines : (h : Head) → manifest_lines (bare h) ≡ head_lines h
+bare_lines h = append-nil (head_lines h)
+
+-- a head goes on with a line of its own
+pub head_step : (h h' : Head) (text : List ℕ) → IsHead h' → head_lines h' ≡ head_lines h ++ text ∷ [] → GoesOn (state.Head h') (bare h) text
+head_step h h' text g e = (bare h', bare_well h' g, refl, bare_lines h' ∙ e ∙ ap (λ l. l ++ text ∷ []) (sym (bare_lines h)))
+
+filled_list : (xs : List ℕ) → 0 < length (escaped xs) → 0 < length xs
+filled_list [] h = absurd (omega arith)
+filled_list (x ∷ xs) h = omega arith
+
+filled_path : (path : List (List ℕ)) → 0 < length (path_text path) → 0 < length path
+filled_path [] h = absurd (omega arith)
+filled_path (x ∷ xs) h = omega arith
+
+-- a text that is not empty is not that of the empty path
+pub path_filled : (text : List ℕ) (path : List (List ℕ)) → 0 < length text → IsPathText text path → 0 < length path
+path_filled text path h p = filled_path path (omega (arith, ap length p.spells))
+
+-- a line of bytes gives some
+run_some : (run : RunValue) → IsRun run → 0 < length (run_bytes run)
+run_some (DataRun bytes) h = h.0
+run_some (FillRun count byte) h = omega (arith, h.0, length-replicate count byte)
+
+pub no_runs : (runs : List RunValue) → All IsRun runs → length (file_bytes runs) ≡ 0 → runs ≡ []
+no_runs [] h e = refl
+no_runs (r ∷ rs) h e = absurd (omega (arith, run_some r (All-head IsRun r rs h), length-append (run_bytes r) (file_bytes rs), e))
+
+-- behind an entry line
+pub entry_step : (m : Manifest) (blocks : ℕ) (tree : Tree) (last : Open) (sort : Sort) (stamp : Stamp) (protect : ℕ) (text : List ℕ)
+    → IsWell m → blocks ≡ m.head.blocks → tree ≡ manifest_tree m → IsLine (EntryLine sort stamp protect text)
+    → IsPathText text last.path.items → IsOk (room_for tree.entries last.path.items) → last.sort ≡ sort → last.stamp ≡ stamp → last.protect ≡ protect → last.note ≡ None → last.bytes.items ≡ []
+    → GoesOn (state.Entries (record { blocks = blocks; tree = tree; last = last })) m (entry_line sort stamp protect text)
+entry_step m blocks tree last sort stamp protect text w b t l p room e1 e2 e3 e4 e5 =
+    let path : List (List ℕ) = last.path.items in
+    let item = new_item sort stamp protect path in
+    let is : IsItem item = record { stamp = l.0; protect = l.1; filled = path_filled text path l.2 p; names = p.names; note = tt; runs = All-nil IsRun; plain = λ d. refl } in
+    let same : IsOpen last item = record { sort = e1; stamp = e2; protect = e3; path = refl; note = e4; bytes = e5 } in
+    let entries : Entries = record { before = items_of m.entries; last = item } in (
+      with_new m item,
+      new_well m item w is (subst (λ (x : Tree). IsOk (room_for x.entries path)) t room),
+      (entries, record { entries = refl; blocks = b; tree = t; last = same }),
+      new_lines m item ∙ ap (λ x. manifest_lines m ++ entry_line sort stamp protect x ∷ []) (sym p.spells),
+    )
+
+reading_with : (r : Reading) (last : Open) (m : Manifest) (e : Entries) (i : Item) → IsReading r m e → IsOpen last i
+    → let n : Manifest = with_last m e i in let s : Entries = record { before = e.before; last = i } in let q : Reading = record { blocks = r.blocks; tree = r.tree; last = last } in IsReading q n s
+reading_with r last m e i g o = record { entries = refl; blocks = g.blocks; tree = g.tree; last = o }
+
+-- behind a note line
+pub note_step : (r : Reading) (last : Open) (m : Manifest) (e : Entries) (text note : List ℕ) → IsWell m → IsReading r m e → r.last.note ≡ None → length r.last.bytes.items ≡ 0
+    → 0 < length text → IsSpelling 79 text note → IsOpen last (noted e.last note) → GoesOn (state.Entries (record { blocks = r.blocks; tree = r.tree; last = last })) m (note_line text)
+note_step r last m e text note w g n b filled spelling o =
+    let is = last_is m e w g.entries in
+    let runs = no_runs e.last.runs is.runs (ap length (sym g.last.bytes) ∙ b) in
+    let mine = subst (λ t. IsSpelling 79 t note) spelling.spells spelling in
+    let some : 0 < length (escaped note) = omega (arith, filled, ap length spelling.spells) in
+    let item = noted e.last note in (
+      with_last m e item,
+      last_well m e item w g.entries (noted_is e.last note is (filled_list note some, mine)) refl,
+      (record { before = e.before; last = item }, reading_with r last m e item g o),
+      last_lines m e item (note_line (escaped note)) g.entries (noted_lines e.last note (sym g.last.note ∙ n) runs) ∙ ap (λ t. manifest_lines m ++ note_line t ∷ []) (sym spelling.spells),
+    )
+
+-- behind a line of bytes
+pub run_step : (r : Reading) (last : Open) (m : Manifest) (e : Entries) (run : RunValue) → IsWell m → IsReading r m e → r.last.sort ≡ File → IsRun run → IsOpen last (given e.last run)
+    → GoesOn (state.Entries (record { blocks = r.blocks; tree = r.tree; last = last })) m (run_line run)
+run_step r last m e run w g f h o =
+    let item = given e.last run in (
+      with_last m e item,
+      last_well m e item w g.entries (given_is e.last run (last_is m e w g.entries) (sym g.last.sort ∙ f) h) refl,
+      (record { before = e.before; last = item }, reading_with r last m e item g o),
+      last_lines m e item (run_line run) g.entries (given_lines e.last run),
+    )
+
+-- the tree with the last entry
+pub closed_tree : (r : Reading) (m : Manifest) (e : Entries) (tree : Tree) → IsReading r m e → tree ≡ with_item r.tree e.last → tree ≡ manifest_tree m
+closed_tree r m e tree g h =
+    h ∙ ap (λ t. with_item t e.last) g.tree ∙ sym (tree_more (head_tree m.head) e.before e.last) ∙ ap (λ x. items_tree (head_tree m.head) (items_of x)) (sym g.entries)
+
+pub bare_tree : (h : Head) (tree : Tree) → tree ≡ head_tree h → tree ≡ manifest_tree (bare h)
+bare_tree h tree e = e ∙ sym (tree_none (head_tree h))
+
+-- a line that may stand stops the reader by its fault
+pub stops : (m : Manifest) (line : LineValue) (kind : ManifestKind) → MayStand m line → StopsIn (manifest_tree m) line kind → Stops m line kind
+stops m line BadLine h f = absurd f
+stops m line BadSize h f = (h, f)
+stops m line BadText h f = (h, f)
+stops m line NoParent h f = (h, f)
+stops m line ParentIsFile h f = (h, f)
+stops m line Exists h f = (h, f)
+stops m line NoMemory h f = (h, f)
+stops m line TooLong h f = (h, f)
+
+pub is_none : {X : Type 0} (o : Option X) → is_some o ≡ false → o ≡ None
+is_none None h = refl
+is_none (Some x) h = absurd cc
+
+-- an entry whose lines are all read is added as its item
+pub closed_is : (t : Tree) (o : Open) (i : Item) (path : List (List ℕ)) (comment : List ℕ) (body : Body) → IsOpen o i → path ≡ o.path.items → comment ≡ unwrap_or o.note [] → body ≡ body_of o.sort o.bytes.items
+    → let meta : Meta = record { comment = comment; protect = o.protect; stamp = o.stamp } in with_entry t path meta body ≡ with_item t i
+closed_is t o i path comment body g e1 e2 e3 =
+    let added : List (List ℕ) → List ℕ → ℕ → Stamp → Body → Tree = λ p c k s b. with_entry t p (record { comment = c; protect = k; stamp = s }) b in
+    let is_path : path ≡ i.path = e1 ∙ g.path in
+    let is_comment : comment ≡ unwrap_or i.note [] = e2 ∙ ap (λ n. unwrap_or n []) g.note in
+    let is_body : body ≡ body_of i.sort (file_bytes i.runs) = e3 ∙ ap (λ s. body_of s o.bytes.items) g.sort ∙ ap (body_of i.sort) g.bytes in
+    ap (λ p. added p comment o.protect o.stamp body) is_path
+    ∙ ap (λ c. added i.path c o.protect o.stamp body) is_comment
+    ∙ ap (λ k. added i.path (unwrap_or i.note []) k o.stamp body) g.protect
+    ∙ ap (λ s. added i.path (unwrap_or i.note []) i.protect s body) g.stamp
+    ∙ ap (λ b. added i.path (unwrap_or i.note []) i.protect i.stamp b) is_body
+
+pub stopped : {T : Type 0} (r : Result T ManifestKind) (m : Manifest) (line : LineValue) (tree : Tree) → tree ≡ manifest_tree m → MayStand m line → IfErr r (λ k. StopsIn tree line k) → IfErr r (λ k. Stops m line k)
+stopped (Ok x) m line tree e may f = tt
+stopped (Err k) m line tree e may f = stops m line k may (subst (λ t. StopsIn t line k) e f)
+
+-- what a line of a form does behind a head, and behind entries
+abbrev pub HeadLines : Head → Result State ManifestKind → Line → Type 0
+HeadLines h r l = IsWell (bare h) → IfOk r (λ s. GoesOn s (bare h) (line_text (line_value l)))
+
+abbrev pub HeadFault : Head → Result State ManifestKind → Line → Type 0
+HeadFault h r l = IfErr r (λ k. Stops (bare h) (line_value l) k)
+
+abbrev pub EntriesLines : Reading → Result State ManifestKind → Line → Type 0
+EntriesLines q r l = (m : Manifest) (e : Entries) → IsWell m → IsReading q m e → IfOk r (λ s. GoesOn s m (line_text (line_value l)))
+
+abbrev pub EntriesFault : Reading → Result State ManifestKind → Line → Type 0
+EntriesFault q r l = (m : Manifest) (e : Entries) → IsWell m → IsReading q m e → IfErr r (λ k. Stops m (line_value l) k)
+
+-- the same of the text of the line
+pub goes_at : (r : Result State ManifestKind) (m : Manifest) (text : List ℕ) (line : LineValue) → text ≡ line_text line → IfOk r (λ s. GoesOn s m (line_text line)) → IfOk r (λ s. GoesOn s m text)
+goes_at r m text line e h = subst (λ t. IfOk r (λ s. GoesOn s m t)) (sym e) h
+
+one_form : (m : Manifest) (text : List ℕ) (line : LineValue) → IsLine line → text ≡ line_text line → (¬ MayStand m line) → ¬ MayFollow m text
+one_form m text line is e not h = not (subst (MayStand m) (line_same h.0 line h.1 is (sym h.3 ∙ e)) h.2)
+
+stops_text : (m : Manifest) (text : List ℕ) (line : LineValue) (kind : ManifestKind) → IsLine line → text ≡ line_text line → Stops m line kind → StopsAt m text kind
+stops_text m text line BadLine is e h = one_form m text line is e h
+stops_text m text line BadSize is e h = h.1
+stops_text m text line BadText is e h = (line, is, h.0, e, h.1)
+stops_text m text line NoParent is e h = (line, is, h.0, e, h.1)
+stops_text m text line ParentIsFile is e h = (line, is, h.0, e, h.1)
+stops_text m text line Exists is e h = (line, is, h.0, e, h.1)
+stops_text m text line NoMemory is e h = tt
+stops_text m text line TooLong is e h = h.1
+
+pub stops_at : (r : Result State ManifestKind) (m : Manifest) (text : List ℕ) (line : LineValue) → IsLine line → text ≡ line_text line → IfErr r (λ k. Stops m line k) → IfErr r (λ k. StopsAt m text k)
+stops_at (Ok x) m text line is e h = tt
+stops_at (Err k) m text line is e h = stops_text m text line k is e h
+
+-- a fault is told in the manifest's words
+pub told : (kind : ManifestKind) (number : ℕ) (bytes : List ℕ) → length bytes ≤ most_bytes → ExplainsLines kind number (lines bytes) → ExplainsKind kind number bytes
+told BadLine number bytes h f = (h, f)
+told BadSize number bytes h f = (h, f)
+told BadText number bytes h f = (h, f)
+told NoParent number bytes h f = (h, f)
+told ParentIsFile number bytes h f = (h, f)
+told Exists number bytes h f = (h, f)
+told NoMemory number bytes h f = f
+told TooLong number bytes h (inl f) = absurd f.4
+told TooLong number bytes h (inr f) = absurd f.6

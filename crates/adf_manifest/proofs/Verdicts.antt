@@ -1,0 +1,132 @@
+-- A manifest has one verdict: one tree and number of blocks, or one first fault.
+use Rattle.std.proofs.Common.{◌≡◌, ◌<◌, ◌≤◌, ◌^◌, ◌++◌, ◌∙◌, inl, inr, ℕ, zero, suc, true, List, [], ◌∷◌, Option, Some, None, refl, sym, ap, subst, arith, length, length-append, codes, slice_index}
+use Rattle.std.specs.Fmt.{decimal}
+use Rattle.std.proofs.lemmas.Bool.Decides.{nat_tests}
+use Rattle.std.proofs.lemmas.Fmt.{decimal_injective}
+use Rattle.std.proofs.lemmas.List.{append_cancel_left}
+use Rattle.adf_tree.specs.Escapes.{IsSpelling}
+use Rattle.adf_tree.specs.declared.entry.Kind.{Kind}
+use Rattle.adf_tree.specs.declared.entry.Kind.TheVariants.{Ofs, Ffs}
+use Rattle.adf_tree.specs.declared.entry.Stamps.{Stamps}
+use Rattle.adf_tree.proofs.Spellings.{only_spelled}
+use Rattle.adf_tree.proofs.PathParts.{one_path}
+use Rattle.adf_blocks.specs.Sizes.{is_allowed}
+use Rattle.adf_manifest.specs.Lines.{LineValue, LabelLine, StampsLine, EntryLine, NoteLine, RunLine, line_text, volume_line}
+use Rattle.adf_manifest.specs.Manifest.{Entries, IsWell, Manifest, items_of, manifest_lines, label_lines, stamps_lines}
+use Rattle.adf_manifest.specs.Items.{item_lines}
+use Rattle.std.specs.List.{flat_map}
+use Rattle.adf_manifest.specs.Reader.{bare}
+use Rattle.adf_manifest.specs.declared.reader.Head.{Head}
+use Rattle.adf_manifest.proofs.Forms.{line_same}
+use Rattle.adf_manifest.proofs.Growth.{given, new_item, noted, with_last, with_new}
+use Rattle.adf_manifest.proofs.LastLines.{Adds, IsFirst, IsNext, last_line, with_label}
+
+pub heads : (a b : List ℕ) (x y : List (List ℕ)) → a ∷ x ≡ b ∷ y → a ≡ b
+heads a b x y e = cc
+
+pub rests : (a b : List ℕ) (x y : List (List ℕ)) → a ∷ x ≡ b ∷ y → x ≡ y
+rests a b x y e = cc
+
+pub small : (n : ℕ) → is_allowed n ≡ true → n < 2 ^ 32
+small n h = grind (arith, nat_tests)
+
+-- a volume line has one kind and one number
+pub one_number : (kind kind' : Kind) (n n' : ℕ) → n < 2 ^ 32 → n' < 2 ^ 32 → volume_line kind n ≡ volume_line kind' n' → n ≡ n'
+one_number Ofs Ofs n n' h h' e = decimal_injective n n' (omega arith) (omega arith) (append_cancel_left (codes "volume ofs ") (decimal n) (decimal n') e)
+one_number Ffs Ffs n n' h h' e = decimal_injective n n' (omega arith) (omega arith) (append_cancel_left (codes "volume ffs ") (decimal n) (decimal n') e)
+one_number Ofs Ffs n n' h h' e = let bad : 111 ≡ 102 = ap (λ t. slice_index t 7) e in absurd (omega (arith, bad))
+one_number Ffs Ofs n n' h h' e = let bad : 102 ≡ 111 = ap (λ t. slice_index t 7) e in absurd (omega (arith, bad))
+
+one_kind : (k k' : Kind) (n n' : ℕ) → volume_line k n ≡ volume_line k' n' → k ≡ k'
+one_kind Ofs Ofs n n' e = refl
+one_kind Ffs Ffs n n' e = refl
+one_kind Ofs Ffs n n' e = let bad : 111 ≡ 102 = ap (λ t. slice_index t 7) e in absurd (omega (arith, bad))
+one_kind Ffs Ofs n n' e = let bad : 102 ≡ 111 = ap (λ t. slice_index t 7) e in absurd (omega (arith, bad))
+
+-- lists that end in one element
+no_last : (xs : List (List ℕ)) (a : List ℕ) → [] ≡ xs ++ a ∷ [] → ⊥
+no_last [] a e = cc
+no_last (x ∷ xs) a e = cc
+
+some_last : (x b : List ℕ) (xs ys : List (List ℕ)) → length ys ≡ 0 → (x ∷ xs) ++ b ∷ [] ≡ ys ++ b ∷ [] → ⊥
+some_last x b xs ys h e = omega (arith, ap length e, length-append xs (b ∷ []), length-append ys (b ∷ []))
+
+pub one_last : (xs ys : List (List ℕ)) (a b : List ℕ) → xs ++ a ∷ [] ≡ ys ++ b ∷ [] → (xs ≡ ys) × (a ≡ b)
+one_last [] [] a b e = (refl, heads a b [] [] e)
+one_last [] (y ∷ ys) a b e = absurd (no_last ys b (rests a y [] (ys ++ b ∷ []) e))
+one_last (x ∷ xs) [] a b e = absurd (no_last xs a (sym (rests x b (xs ++ a ∷ []) [] e)))
+one_last (x ∷ xs) (y ∷ ys) a b e =
+    let more = one_last xs ys a b (rests x y (xs ++ a ∷ []) (ys ++ b ∷ []) e) in
+    (ap (λ z. z ∷ xs) (heads x y (xs ++ a ∷ []) (ys ++ b ∷ []) e) ∙ ap (λ l. y ∷ l) more.0, more.1)
+
+one_entries : (o : Option Entries) (e f : Entries) → o ≡ Some e → o ≡ Some f → e ≡ f
+one_entries o e f p q = cc
+
+spelled_once : (most : ℕ) (text a b : List ℕ) → IsSpelling most text a → IsSpelling most text b → a ≡ b
+spelled_once most text a b g h = only_spelled a b g.are_bytes h.are_bytes (sym g.spells ∙ h.spells)
+
+-- a line tells one thing with what stands before it
+one_adds : (m n n' : Manifest) (line : LineValue) → Adds m line n → Adds m line n' → n ≡ n'
+one_adds m n n' (LabelLine text) g h =
+    let same = spelled_once 30 text g.3.0 h.3.0 g.3.1 h.3.1 in
+    g.3.2 ∙ ap (λ l. bare (with_label m.head l)) same ∙ sym h.3.2
+one_adds m n n' (StampsLine stamps) g h = g.2 ∙ sym h.2
+one_adds m n n' (EntryLine sort stamp protect text) g h =
+    let same = one_path text g.0 h.0 g.1 h.1 in
+    g.3 ∙ ap (λ p. with_new m (new_item sort stamp protect p)) same ∙ sym h.3
+one_adds m n n' (NoteLine text) g h =
+    let same = spelled_once 79 text g.4.0 h.4.0 g.4.1 h.4.1 in
+    let entries = one_entries m.entries g.0 h.0 g.1 h.1 in
+    g.4.2 ∙ ap (λ e. with_last m e (noted e.last g.4.0)) entries ∙ ap (λ t. with_last m h.0 (noted h.0.last t)) same ∙ sym h.4.2
+one_adds m n n' (RunLine run) g h = g.3 ∙ ap (λ e. with_last m e (given e.last run)) (one_entries m.entries g.0 h.0 g.1 h.1) ∙ sym h.3
+
+-- a manifest of one line
+pub first_lines : (n : Manifest) → IsFirst n → manifest_lines n ≡ volume_line n.head.kind n.head.blocks ∷ []
+first_lines n f =
+    let top = volume_line n.head.kind n.head.blocks in
+    ap (λ o. top ∷ ((label_lines n.head.label ++ stamps_lines n.head.stamps) ++ flat_map item_lines (items_of o))) f.0
+    ∙ ap (λ o. top ∷ ((label_lines o ++ stamps_lines n.head.stamps) ++ [])) f.1 ∙ ap (λ o. top ∷ (stamps_lines o ++ [])) f.2
+
+first_is : (n : Manifest) → IsFirst n → let h : Head = record { kind = n.head.kind; blocks = n.head.blocks; label = None; stamps = None } in n ≡ bare h
+first_is n f =
+    let by : Option (List ℕ) → Option Stamps → Option Entries → Manifest = λ l s e. record { head = record { kind = n.head.kind; blocks = n.head.blocks; label = l; stamps = s }; entries = e } in
+    ap (λ e. by n.head.label n.head.stamps e) f.0 ∙ ap (λ l. by l n.head.stamps None) f.1 ∙ ap (λ s. by None s None) f.2
+
+same_first : (m n : Manifest) → IsWell m → IsWell n → IsFirst m → IsFirst n → manifest_lines m ≡ manifest_lines n → m ≡ n
+same_first m n w v f g e =
+    let line = heads _ _ _ _ (sym (first_lines m f) ∙ e ∙ first_lines n g) in
+    let by : Kind → ℕ → Manifest = λ k b. bare (record { kind = k; blocks = b; label = None; stamps = None }) in
+    first_is m f ∙ ap (λ k. by k m.head.blocks) (one_kind m.head.kind n.head.kind m.head.blocks n.head.blocks line)
+    ∙ ap (λ b. by n.head.kind b) (one_number m.head.kind n.head.kind m.head.blocks n.head.blocks (small m.head.blocks w.head.size) (small n.head.blocks v.head.size) line) ∙ sym (first_is n g)
+
+pub some_lines : (m : Manifest) → 0 < length (manifest_lines m)
+some_lines m = omega arith
+
+longer : (m n : Manifest) → IsFirst m → IsNext n → manifest_lines m ≡ manifest_lines n → ⊥
+longer m n f g e =
+    omega (arith, ap length (sym (first_lines m f) ∙ e ∙ g.5), length-append (manifest_lines g.0) (line_text g.1 ∷ []), some_lines g.0)
+
+-- manifests of the same lines tell the same
+same_told : (f : ℕ) (m n : Manifest) → length (manifest_lines m) ≤ f → IsWell m → IsWell n → manifest_lines m ≡ manifest_lines n → m ≡ n
+same_told zero m n small_f w v e = absurd (omega (arith, some_lines m, small_f))
+same_told (suc f) m n small_f w v e =
+    elim (last_line m w) [
+      | inl p ↦
+          elim (last_line n v) [
+            | inl q ↦ same_first m n w v p q e
+            | inr q ↦ absurd (longer m n p q e)
+          ]
+      | inr p ↦
+          elim (last_line n v) [
+            | inl q ↦ absurd (longer n m q p (sym e))
+            | inr q ↦
+                let both = one_last (manifest_lines p.0) (manifest_lines q.0) (line_text p.1) (line_text q.1) (sym p.5 ∙ e ∙ q.5) in
+                let before = same_told f p.0 q.0 (omega (arith, small_f, ap length p.5, length-append (manifest_lines p.0) (line_text p.1 ∷ []))) p.2 q.2 both.0 in
+                let line = line_same p.1 q.1 p.3 q.3 both.1 in
+                let moved : Adds q.0 q.1 m = subst (λ (k : Manifest). Adds k q.1 m) before (subst (λ (l : LineValue). Adds p.0 l m) line p.4) in
+                one_adds q.0 m n q.1 moved q.4
+          ]
+    ]
+
+pub one_told : (m n : Manifest) → IsWell m → IsWell n → manifest_lines m ≡ manifest_lines n → m ≡ n
+one_told m n w v e = same_told (length (manifest_lines m)) m n (omega arith) w v e

@@ -1,0 +1,43 @@
+use Rattle.std.proofs.Common.{◌≡◌, ◌==◌, true, false, ◌<◌, ◌++◌, ◌∷◌, [], ◌∙◌, ℕ, List, refl, sym, ap, arith, length}
+use Rattle.std.proofs.lemmas.Bool.Decides.{nat_tests}
+use Rattle.std.proofs.lemmas.List.{append-nil}
+use Rattle.std.proofs.lemmas.List.Elements.{All-push}
+use Rattle.adf_manifest.specs.Texts.{pairs}
+use Rattle.adf_manifest.proofs.DigitLaws.{all_pairs, none_left, pairs_left, pairs_more}
+use Rattle.adf_manifest.proofs.digits.are_pairs.Goals as goal
+
+nothing : (xs : List ℕ) → length xs ≡ 0 → xs ≡ []
+nothing [] h = refl
+nothing (x ∷ xs) h = absurd (omega arith)
+
+pub loop-rest-preserved : goal.loop-rest-preserved
+loop-rest-preserved c =
+    let inv = c.loop-rest.invariant in
+    let b = c.in-Some.field-0-0 in
+    record {
+      read = (inv.read.0 ++ b ∷ [], All-push (λ k. k < 256) inv.read.0 b inv.read.1 c.in-Some.ensures.byte, pairs_more inv.read.0 b c.args.text.now c.loop-rest.rest.now c.in-Some.more.now inv.read.2 c.in-Some.ensures.some);
+      left = λ bytes a e.
+          let so_far = inv.left bytes a e in
+          let one = pairs_left b c.loop-rest.rest.now c.in-Some.more.now so_far.0 c.in-Some.ensures.some c.in-Some.ensures.byte so_far.1 so_far.2 in
+          (one.0, one.1, one.3);
+    }
+
+pub returns-in-None-clause-no : goal.returns-in-None-clause-no
+returns-in-None-clause-no c = λ bytes a e.
+    let left = c.loop-rest.invariant.left bytes a e in
+    let none = none_left c.loop-rest.rest.now left.0 c.in-None.ensures.none left.1 left.2 in
+    let empty : length c.loop-rest.rest.now ≡ 0 = ap length (left.2 ∙ ap pairs none) in
+    let bad : true ≡ false = ap (λ n. n == 0) (sym empty) ∙ sym c.is_empty.ensures ∙ c.loop-rest-test.true in
+    absurd cc
+
+pub returns-clause-yes : goal.returns-clause-yes
+returns-clause-yes c =
+    let inv = c.loop-rest.invariant.read in
+    let empty : length c.loop-rest.rest.now ≡ 0 = grind (arith, nat_tests) in
+    (all_pairs c.args.text.now inv.0 inv.1 (inv.2 ∙ ap (λ r. pairs inv.0 ++ r) (nothing c.loop-rest.rest.now empty) ∙ append-nil (pairs inv.0))).0
+
+pub returns-clause-bytes : goal.returns-clause-bytes
+returns-clause-bytes c =
+    let inv = c.loop-rest.invariant.read in
+    let empty : length c.loop-rest.rest.now ≡ 0 = grind (arith, nat_tests) in
+    (all_pairs c.args.text.now inv.0 inv.1 (inv.2 ∙ ap (λ r. pairs inv.0 ++ r) (nothing c.loop-rest.rest.now empty) ∙ append-nil (pairs inv.0))).1

@@ -1,0 +1,32 @@
+use Rattle.std.proofs.Common.{◌≡◌, ap, arith, length}
+use Rattle.std.proofs.lemmas.Bool.Decides.{nat_tests}
+use Rattle.adf_fields.specs.Dates.{plain_text}
+use Rattle.adf_manifest.specs.Texts.{hex_word}
+use Rattle.adf_manifest.proofs.PartLaws.{if_none, stamp_lacks}
+use Rattle.adf_manifest.proofs.DigitLaws.{word_lacks}
+use Rattle.adf_manifest.proofs.LineLaws.{fields_parts}
+use Rattle.adf_manifest.proofs.lines.fields_of.Goals as goal
+
+pub returns-in_err-stamp-clause-none : goal.returns-in_err-stamp-clause-none
+returns-in_err-stamp-clause-none c = if_none c.from_residual.result (λ s p path hs hp hf e.
+    c.in_err-stamp.ensures.none (plain_text s) (hex_word p) path (stamp_lacks s hs) (word_lacks p) e)
+
+pub returns-in_err-stamp-2-clause-none : goal.returns-in_err-stamp-2-clause-none
+returns-in_err-stamp-2-clause-none c =
+    let cut = c.in_ok-stamp.ensures.some in
+    if_none c.from_residual-in_err-stamp-2.result (λ s p path hs hp hf e.
+    c.in_err-stamp-2.ensures.none s hs (fields_parts c.args.text.now c.in_ok-stamp.stamp.now c.in_ok-stamp.protect.now c.in_ok-stamp.path.now s p path cut.1 cut.2 cut.0 hs e).0)
+
+pub returns-in_err-protect-clause-none : goal.returns-in_err-protect-clause-none
+returns-in_err-protect-clause-none c =
+    let cut = c.in_ok-stamp.ensures.some in
+    if_none c.from_residual-in_err-protect.result (λ s p path hs hp hf e.
+    c.in_err-protect.ensures.none p hp (fields_parts c.args.text.now c.in_ok-stamp.stamp.now c.in_ok-stamp.protect.now c.in_ok-stamp.path.now s p path cut.1 cut.2 cut.0 hs e).1)
+
+pub returns-then-is_empty-clause-none : goal.returns-then-is_empty-clause-none
+returns-then-is_empty-clause-none c =
+    let cut = c.in_ok-stamp.ensures.some in
+    let empty : length c.in_ok-stamp.path.now ≡ 0 = grind (arith, nat_tests) in
+    λ s p path hs hp hf e.
+    let same = (fields_parts c.args.text.now c.in_ok-stamp.stamp.now c.in_ok-stamp.protect.now c.in_ok-stamp.path.now s p path cut.1 cut.2 cut.0 hs e).2 in
+    omega (arith, ap length same, hf, empty)

@@ -1,0 +1,76 @@
+-- The entries of a manifest, and the tree of a list of them.
+use Rattle.std.specs.Prelude.{◌≡◌, ◌<◌, ◌^◌, ℕ, List, [], ◌∷◌, ◌++◌, length, map, All, Option, Some, None, IfSome, IsOk, replicate}
+use Rattle.std.specs.List.{flat_map}
+use Rattle.std.specs.Option.{unwrap_or}
+use Rattle.adf_fields.specs.declared.dates.Stamp.{Stamp}
+use Rattle.adf_tree.specs.Escapes.{IsSpelling, escaped}
+use Rattle.adf_tree.specs.PathTexts.{IsName, path_text}
+use Rattle.adf_tree.specs.Tree.{Tree, room_for, with_entry}
+use Rattle.adf_tree.specs.declared.entry.Body.{Body}
+use Rattle.adf_tree.specs.declared.entry.Body.TheVariants as body
+use Rattle.adf_tree.specs.declared.entry.Meta.{Meta}
+use Rattle.adf_manifest.specs.Parts.{IsStamp}
+use Rattle.adf_manifest.specs.Lines.{IsRun, RunValue, DataRun, FillRun, entry_line, note_line, run_line}
+use Rattle.adf_manifest.specs.declared.lines.Sort.{Sort}
+use Rattle.adf_manifest.specs.declared.lines.Sort.TheVariants.{Dir, File}
+
+-- an entry of a manifest: what its line tells, its note, and what the lines of a file give to it
+pub record Item : Type 0 where
+  pub sort : Sort
+  pub stamp : Stamp
+  pub protect : ℕ
+  pub path : List (List ℕ)
+  pub note : Option (List ℕ)
+  pub runs : List RunValue
+
+-- the line of a note, where the entry has one
+abbrev pub note_lines : Option (List ℕ) → List (List ℕ)
+note_lines None = []
+note_lines (Some note) = note_line (escaped note) ∷ []
+
+-- the lines of an entry: its own, its note's, and those of its bytes
+abbrev pub item_lines : Item → List (List ℕ)
+item_lines i = entry_line i.sort i.stamp i.protect (path_text i.path) ∷ (note_lines i.note ++ map run_line i.runs)
+
+-- a note that a line gives: 1 to 79 bytes
+abbrev pub IsGivenNote : List ℕ → Type 0
+IsGivenNote note = (0 < length note) × IsSpelling 79 (escaped note) note
+
+-- what an entry tells is within its limits, and a directory has no bytes
+pub record IsItem (i : Item) : Type 0 where
+  pub stamp : IsStamp i.stamp
+  pub protect : i.protect < 2 ^ 32
+  pub filled : 0 < length i.path
+  pub names : All IsName i.path
+  pub note : IfSome i.note IsGivenNote
+  pub runs : All IsRun i.runs
+  pub plain : i.sort ≡ Dir → i.runs ≡ []
+
+-- the bytes that a line gives, and that lines give, joined in order
+abbrev pub run_bytes : RunValue → List ℕ
+run_bytes (DataRun bytes) = bytes
+run_bytes (FillRun count byte) = replicate count byte
+
+abbrev pub file_bytes : List RunValue → List ℕ
+file_bytes runs = flat_map run_bytes runs
+
+-- the entry that an item is
+abbrev pub body_of : Sort → List ℕ → Body
+body_of Dir bytes = body.Dir
+body_of File bytes = body.File bytes
+
+abbrev pub item_meta : Item → Meta
+item_meta i = record { comment = unwrap_or i.note []; protect = i.protect; stamp = i.stamp }
+
+abbrev pub with_item : Tree → Item → Tree
+with_item t i = with_entry t i.path (item_meta i) (body_of i.sort (file_bytes i.runs))
+
+-- the tree that a list of entries gives, added one after the other
+unfoldable pub items_tree : Tree → List Item → Tree
+items_tree t [] = t
+items_tree t (i ∷ items) = items_tree (with_item t i) items
+
+-- each of the entries has room in the tree before it
+unfoldable pub HaveRoom : Tree → List Item → Type 0
+HaveRoom t [] = Unit {0}
+HaveRoom t (i ∷ items) = IsOk (room_for t.entries i.path) × HaveRoom (with_item t i) items

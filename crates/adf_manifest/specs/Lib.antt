@@ -1,0 +1,6 @@
+pub mod Texts
+pub mod Parts
+pub mod Lines
+pub mod Items
+pub mod Manifest
+pub mod Reader

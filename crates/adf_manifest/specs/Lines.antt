@@ -1,0 +1,121 @@
+-- The lines of a manifest and what they tell, each alone.
+use Rattle.std.specs.Prelude.{◌≡◌, ◌<◌, ◌≤◌, ◌^◌, ℕ, List, ◌++◌, codes, length, All}
+use Rattle.std.specs.Fmt.{decimal}
+use Rattle.adf_fields.specs.Dates.{plain_text}
+use Rattle.adf_fields.specs.declared.dates.Stamp.{Stamp}
+use Rattle.adf_tree.specs.declared.entry.Kind.{Kind}
+use Rattle.adf_tree.specs.declared.entry.Stamps.{Stamps}
+use Rattle.adf_manifest.specs.Parts.{AreStamps, IsStamp, stamps_text}
+use Rattle.adf_manifest.specs.Texts.{hex_word, kind_text, pair, pairs, unpaired}
+use Rattle.adf_manifest.specs.declared.lines.Sort.{Sort}
+use Rattle.adf_manifest.specs.declared.lines.Sort.TheVariants.{Dir, File}
+use Rattle.adf_manifest.specs.declared.lines.EntryText.{EntryText}
+use Rattle.adf_manifest.specs.declared.lines.Run.{Run}
+use Rattle.adf_manifest.specs.declared.lines.Run.TheVariants as run
+use Rattle.adf_manifest.specs.declared.lines.Line.{Line}
+use Rattle.adf_manifest.specs.declared.lines.Line.TheVariants as line
+
+-- what a line gives to a file: bytes, or one byte so many times
+pub data RunValue : Type 0 where
+  DataRun : (bytes : List ℕ) → RunValue
+  FillRun : (count byte : ℕ) → RunValue
+
+-- what a line after the first tells, with its TEXT or PATH as it stands
+pub data LineValue : Type 0 where
+  LabelLine : (text : List ℕ) → LineValue
+  StampsLine : (stamps : Stamps) → LineValue
+  EntryLine : (sort : Sort) (stamp : Stamp) (protect : ℕ) (path : List ℕ) → LineValue
+  NoteLine : (text : List ℕ) → LineValue
+  RunLine : (run : RunValue) → LineValue
+
+abbrev pub volume_line : Kind → ℕ → List ℕ
+volume_line kind n = codes "volume " ++ (kind_text kind ++ (codes " " ++ decimal n))
+
+abbrev pub label_line : List ℕ → List ℕ
+label_line text = codes "label " ++ text
+
+abbrev pub stamps_line : Stamps → List ℕ
+stamps_line s = codes "stamps " ++ stamps_text s
+
+abbrev pub sort_text : Sort → List ℕ
+sort_text Dir = codes "dir "
+sort_text File = codes "file "
+
+-- what stands behind the word of an entry line
+abbrev pub fields_text : Stamp → ℕ → List ℕ → List ℕ
+fields_text stamp protect path = plain_text stamp ++ (codes " " ++ (hex_word protect ++ (codes " " ++ path)))
+
+abbrev pub entry_line : Sort → Stamp → ℕ → List ℕ → List ℕ
+entry_line sort stamp protect path = sort_text sort ++ fields_text stamp protect path
+
+abbrev pub note_line : List ℕ → List ℕ
+note_line text = codes "note " ++ text
+
+abbrev pub data_line : List ℕ → List ℕ
+data_line bytes = codes "data " ++ pairs bytes
+
+abbrev pub fill_line : ℕ → ℕ → List ℕ
+fill_line count byte = codes "fill " ++ (decimal count ++ (codes " " ++ pair byte))
+
+abbrev pub run_line : RunValue → List ℕ
+run_line (DataRun bytes) = data_line bytes
+run_line (FillRun count byte) = fill_line count byte
+
+-- the text of a line
+abbrev pub line_text : LineValue → List ℕ
+line_text (LabelLine text) = label_line text
+line_text (StampsLine stamps) = stamps_line stamps
+line_text (EntryLine sort stamp protect path) = entry_line sort stamp protect path
+line_text (NoteLine text) = note_line text
+line_text (RunLine run) = run_line run
+
+-- the most bytes of a `fill` line
+abbrev pub most_fill : ℕ
+most_fill = 536870912
+
+abbrev pub IsRun : RunValue → Type 0
+IsRun (DataRun bytes) = (0 < length bytes) × All (λ b. b < 256) bytes
+IsRun (FillRun count byte) = (0 < count) × (count ≤ most_fill) × (byte < 256)
+
+-- what a line tells is within the limits of its form; TEXT and PATH are any bytes, at least one
+abbrev pub IsLine : LineValue → Type 0
+IsLine (LabelLine text) = 0 < length text
+IsLine (StampsLine stamps) = AreStamps stamps
+IsLine (EntryLine sort stamp protect path) = IsStamp stamp × (protect < 2 ^ 32) × (0 < length path)
+IsLine (NoteLine text) = 0 < length text
+IsLine (RunLine run) = IsRun run
+
+-- a text has the form of a line after the first
+abbrev pub HasForm : List ℕ → Type 0
+HasForm text = (line : LineValue) × IsLine line × (text ≡ line_text line)
+
+-- a line has the form of a volume line
+abbrev pub IsVolumeLine : List ℕ → Type 0
+IsVolumeLine line = (kind : Kind) × (n : ℕ) × (n < 2 ^ 32) × (line ≡ volume_line kind n)
+
+-- what was read of a line
+abbrev pub run_value : Run → RunValue
+run_value (run.Data digits) = DataRun (unpaired digits.now)
+run_value (run.Fill count byte) = FillRun count byte
+
+abbrev pub entry_value : EntryText → LineValue
+entry_value e = EntryLine e.sort e.stamp e.protect e.path.now
+
+abbrev pub line_value : Line → LineValue
+line_value (line.Label text) = LabelLine text.now
+line_value (line.Stamps stamps) = StampsLine stamps
+line_value (line.Entry entry) = entry_value entry
+line_value (line.Note text) = NoteLine text.now
+line_value (line.Run run) = RunLine (run_value run)
+
+-- what was read as digits of bytes is digits of bytes
+abbrev pub IsRunOfDigits : Run → Type 0
+IsRunOfDigits (run.Data digits) = digits.now ≡ pairs (unpaired digits.now)
+IsRunOfDigits (run.Fill count byte) = Unit {0}
+
+abbrev pub HasDigits : Line → Type 0
+HasDigits (line.Run run) = IsRunOfDigits run
+HasDigits (line.Label text) = Unit {0}
+HasDigits (line.Stamps stamps) = Unit {0}
+HasDigits (line.Entry entry) = Unit {0}
+HasDigits (line.Note text) = Unit {0}

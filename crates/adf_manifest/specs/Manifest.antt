@@ -1,0 +1,201 @@
+-- Manifests: the lines of their heads and entries, what they tell, and the first line with a fault.
+use Rattle.std.specs.Prelude.{◌≡◌, ◌+◌, ◌-◌, ◌<◌, ◌≤◌, ◌^◌, ◌==◌, ◌&&◌, ◌⊎◌, nat_lt, ℕ, true, false, List, [], ◌∷◌, ◌++◌, length, take, slice_index, if◌then◌else◌, Option, Some, None, IfSome, All, Err}
+use Rattle.std.specs.List.{slice_split, flat_map}
+use Rattle.std.specs.Option.{unwrap_or}
+use Rattle.adf_tree.specs.Escapes.{IsSpelling, escaped}
+use Rattle.adf_tree.specs.PathTexts.{IsPathText}
+use Rattle.adf_tree.specs.Tree.{Tree, room_for}
+use Rattle.adf_tree.specs.declared.entry.Kind.{Kind}
+use Rattle.adf_tree.specs.declared.entry.Stamps.{Stamps}
+use Rattle.adf_tree.specs.declared.tree.AddFault.{AddFault}
+use Rattle.adf_tree.specs.declared.tree.AddFault.TheVariants as add
+use Rattle.adf_blocks.specs.Sizes.{is_allowed}
+use Rattle.adf_manifest.specs.Parts.{AreStamps}
+use Rattle.adf_manifest.specs.Lines.{IsLine, IsVolumeLine, LineValue, LabelLine, StampsLine, EntryLine, NoteLine, RunLine, label_line, line_text, stamps_line, volume_line}
+use Rattle.adf_manifest.specs.Items.{HaveRoom, IsItem, Item, item_lines, items_tree}
+use Rattle.adf_manifest.specs.declared.lines.Sort.TheVariants.{File}
+use Rattle.adf_manifest.specs.declared.reader.Head.{Head}
+use Rattle.adf_manifest.specs.declared.manifest.ManifestFault.{ManifestFault}
+use Rattle.adf_manifest.specs.declared.manifest.ManifestKind.{ManifestKind}
+use Rattle.adf_manifest.specs.declared.manifest.ManifestKind.TheVariants.{BadLine, BadSize, BadText, NoParent, ParentIsFile, Exists, NoMemory, TooLong}
+
+-- the most bytes of a manifest
+abbrev pub most_bytes : ℕ
+most_bytes = 16777216
+
+-- the bytes without a line feed at their end
+abbrev pub without_last_feed : List ℕ → List ℕ
+without_last_feed bytes = if nat_lt 0 (length bytes) && (slice_index bytes (length bytes - 1) == 10) then take (length bytes - 1) bytes else bytes
+
+-- the parts between line feeds
+abbrev pub parts : List ℕ → List (List ℕ)
+parts bytes = slice_split (λ c. c == 10) bytes
+
+-- the parts of what stands behind a line feed, where one was there
+abbrev pub parts_behind : Option (List ℕ) → List (List ℕ)
+parts_behind None = []
+parts_behind (Some rest) = parts rest
+
+-- the lines: each ended by a line feed, which the last may lack; no bytes are one empty line
+abbrev pub lines : List ℕ → List (List ℕ)
+lines bytes = parts (without_last_feed bytes)
+
+-- the line of a label, and of stamps, where the manifest has them
+abbrev pub label_lines : Option (List ℕ) → List (List ℕ)
+label_lines None = []
+label_lines (Some label) = label_line (escaped label) ∷ []
+
+abbrev pub stamps_lines : Option Stamps → List (List ℕ)
+stamps_lines None = []
+stamps_lines (Some stamps) = stamps_line stamps ∷ []
+
+-- the lines of a head: the volume, then the label, then the stamps
+abbrev pub head_lines : Head → List (List ℕ)
+head_lines h = volume_line h.kind h.blocks ∷ (label_lines h.label ++ stamps_lines h.stamps)
+
+-- a label that a line gives: 1 to 30 bytes
+abbrev pub IsGivenLabel : List ℕ → Type 0
+IsGivenLabel label = (0 < length label) × IsSpelling 30 (escaped label) label
+
+-- what a head tells is within its limits
+pub record IsHead (h : Head) : Type 0 where
+  pub size : is_allowed h.blocks ≡ true
+  pub label : IfSome h.label IsGivenLabel
+  pub stamps : IfSome h.stamps AreStamps
+
+-- a stamp and stamps that no line gives
+abbrev pub no_stamps : Stamps
+no_stamps = record {
+  root = record { days = 0; mins = 0; ticks = 0 };
+  altered = record { days = 0; mins = 0; ticks = 0 };
+  created = record { days = 0; mins = 0; ticks = 0 };
+}
+
+-- the tree that a head tells: without a label line the label is empty, without a stamps line all are 0
+abbrev pub head_tree : Head → Tree
+head_tree h = record { kind = h.kind; label = unwrap_or h.label []; stamps = unwrap_or h.stamps no_stamps; entries = [] }
+
+-- the entries of a manifest that has some: those before the last, and the last
+pub record Entries : Type 0 where
+  pub before : List Item
+  pub last : Item
+
+-- what the lines of a manifest tell
+pub record Manifest : Type 0 where
+  pub head : Head
+  pub entries : Option Entries
+
+abbrev pub items_of : Option Entries → List Item
+items_of None = []
+items_of (Some e) = e.before ++ e.last ∷ []
+
+-- the lines of a manifest: its head's, and those of its entries
+abbrev pub manifest_lines : Manifest → List (List ℕ)
+manifest_lines m = head_lines m.head ++ flat_map item_lines (items_of m.entries)
+
+-- the tree of a manifest: its entries, added one after the other
+abbrev pub manifest_tree : Manifest → Tree
+manifest_tree m = items_tree (head_tree m.head) (items_of m.entries)
+
+-- what is told is within its limits, and each entry has room in the tree of those before it
+pub record IsWell (m : Manifest) : Type 0 where
+  pub head : IsHead m.head
+  pub items : All IsItem (items_of m.entries)
+  pub room : HaveRoom (head_tree m.head) (items_of m.entries)
+
+-- the bytes are a manifest of this tree and this number of blocks
+abbrev pub IsManifest : List ℕ → Tree → ℕ → Type 0
+IsManifest bytes tree n = (length bytes ≤ most_bytes) × ((m : Manifest) × IsWell m × (lines bytes ≡ manifest_lines m) × (tree ≡ manifest_tree m) × (n ≡ m.head.blocks))
+
+-- the last entry has neither a note nor bytes; it is a file
+abbrev pub IsBare : Option Entries → Type 0
+IsBare None = ⊥
+IsBare (Some e) = (e.last.note ≡ None) × (e.last.runs ≡ [])
+
+abbrev pub EndsInFile : Option Entries → Type 0
+EndsInFile None = ⊥
+EndsInFile (Some e) = e.last.sort ≡ File
+
+-- a line may stand behind the lines of a manifest: a label line where neither label nor stamps nor
+-- entries are, a stamps line where neither stamps nor entries are, an entry line everywhere, a note
+-- line directly behind an entry line, and a line of bytes in a file
+abbrev pub MayStand : Manifest → LineValue → Type 0
+MayStand m (LabelLine text) = (m.entries ≡ None) × (m.head.label ≡ None) × (m.head.stamps ≡ None)
+MayStand m (StampsLine stamps) = (m.entries ≡ None) × (m.head.stamps ≡ None)
+MayStand m (EntryLine sort stamp protect path) = Unit {0}
+MayStand m (NoteLine text) = IsBare m.entries
+MayStand m (RunLine run) = EndsInFile m.entries
+
+-- the TEXT or PATH of a line is not in the escape form, too long, or has a part that is no name
+abbrev pub HasBadText : LineValue → Type 0
+HasBadText (LabelLine text) = (label : List ℕ) → ¬ IsSpelling 30 text label
+HasBadText (StampsLine stamps) = ⊥
+HasBadText (EntryLine sort stamp protect text) = (path : List (List ℕ)) → ¬ IsPathText text path
+HasBadText (NoteLine text) = (note : List ℕ) → ¬ IsSpelling 79 text note
+HasBadText (RunLine run) = ⊥
+
+-- the path of an entry line has no room in the tree of the lines before
+abbrev pub HasNoRoom : Tree → LineValue → AddFault → Type 0
+HasNoRoom tree (EntryLine sort stamp protect text) f = (path : List (List ℕ)) × IsPathText text path × (room_for tree.entries path ≡ Err f)
+HasNoRoom tree (LabelLine text) f = ⊥
+HasNoRoom tree (StampsLine stamps) f = ⊥
+HasNoRoom tree (NoteLine text) f = ⊥
+HasNoRoom tree (RunLine run) f = ⊥
+
+-- the fault of a line that may stand at its place, behind lines that tell a tree
+abbrev pub IsFaultOf : Tree → LineValue → ManifestKind → Type 0
+IsFaultOf tree line BadText = HasBadText line
+IsFaultOf tree line NoParent = HasNoRoom tree line add.NoParent
+IsFaultOf tree line ParentIsFile = HasNoRoom tree line add.ParentIsFile
+IsFaultOf tree line Exists = HasNoRoom tree line add.Exists
+IsFaultOf tree line _ = ⊥
+
+-- the fault of a first line
+abbrev pub IsFirstFault : List ℕ → ManifestKind → Type 0
+IsFirstFault text BadLine = ¬ IsVolumeLine text
+IsFirstFault text BadSize = (kind : Kind) × (n : ℕ) × (n < 2 ^ 32) × (text ≡ volume_line kind n) × (is_allowed n ≡ false)
+IsFirstFault text _ = ⊥
+
+-- a text is that of a line that may stand behind the lines of a manifest
+abbrev pub MayFollow : Manifest → List ℕ → Type 0
+MayFollow m text = (line : LineValue) × IsLine line × MayStand m line × (text ≡ line_text line)
+
+-- a text is that of a line that may stand there, and has this fault
+abbrev pub HasFaultOf : Manifest → List ℕ → ManifestKind → Type 0
+HasFaultOf m text kind = (line : LineValue) × IsLine line × MayStand m line × (text ≡ line_text line) × IsFaultOf (manifest_tree m) line kind
+
+-- the fault of a line behind those of a manifest
+abbrev pub IsLaterFault : Manifest → List ℕ → ManifestKind → Type 0
+IsLaterFault m text BadLine = ¬ MayFollow m text
+IsLaterFault m text BadText = HasFaultOf m text BadText
+IsLaterFault m text NoParent = HasFaultOf m text NoParent
+IsLaterFault m text ParentIsFile = HasFaultOf m text ParentIsFile
+IsLaterFault m text Exists = HasFaultOf m text Exists
+IsLaterFault m text _ = ⊥
+
+-- the first line with a fault, counted from 1, and the first kind there: the lines before are those of a manifest
+abbrev pub HasFault : List (List ℕ) → ℕ → ManifestKind → Type 0
+HasFault all number kind =
+    ((text : List ℕ) × (rest : List (List ℕ)) × (all ≡ text ∷ rest) × (number ≡ 1) × IsFirstFault text kind)
+    ⊎ ((m : Manifest) × (text : List ℕ) × (rest : List (List ℕ)) × IsWell m × (all ≡ manifest_lines m ++ text ∷ rest) × (number ≡ length (manifest_lines m) + 1) × IsLaterFault m text kind)
+
+-- what a fault says of the bytes
+abbrev pub ExplainsKind : ManifestKind → ℕ → List ℕ → Type 0
+ExplainsKind TooLong number bytes = (number ≡ 0) × (most_bytes < length bytes)
+ExplainsKind NoMemory number bytes = number ≡ 0
+ExplainsKind kind number bytes = (length bytes ≤ most_bytes) × HasFault (lines bytes) number kind
+
+abbrev pub ExplainsFault : ManifestFault → List ℕ → Type 0
+ExplainsFault f bytes = ExplainsKind f.kind f.line bytes
+
+-- a manifest is of one tree and one number of blocks
+abbrev pub ManifestsAreOfOneTree : Type 0
+ManifestsAreOfOneTree = (bytes : List ℕ) (tree tree' : Tree) (n n' : ℕ) → IsManifest bytes tree n → IsManifest bytes tree' n' → (tree ≡ tree') × (n ≡ n')
+
+-- a manifest has no fault
+abbrev pub ManifestsAreFaultless : Type 0
+ManifestsAreFaultless = (bytes : List ℕ) (tree : Tree) (n number : ℕ) (kind : ManifestKind) → IsManifest bytes tree n → ¬ HasFault (lines bytes) number kind
+
+-- lines have one first fault at most
+abbrev pub LinesHaveOneFault : Type 0
+LinesHaveOneFault = (all : List (List ℕ)) (number number' : ℕ) (kind kind' : ManifestKind) → HasFault all number kind → HasFault all number' kind' → (number ≡ number') × (kind ≡ kind')

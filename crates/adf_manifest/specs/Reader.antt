@@ -1,0 +1,67 @@
+-- What the reader of a manifest knows of the lines so far.
+use Rattle.std.specs.Prelude.{◌≡◌, ◌++◌, ◌∷◌, ℕ, List, [], Some, None}
+use Rattle.adf_tree.specs.Tree.{Tree}
+use Rattle.adf_manifest.specs.Lines.{LineValue}
+use Rattle.adf_manifest.specs.Items.{Item, file_bytes, items_tree}
+use Rattle.adf_manifest.specs.Manifest.{Entries, HasFault, IsFaultOf, IsLaterFault, IsWell, Manifest, MayStand, head_tree, manifest_lines, manifest_tree}
+use Rattle.adf_manifest.specs.declared.manifest.ManifestKind.{ManifestKind}
+use Rattle.adf_manifest.specs.declared.manifest.ManifestKind.TheVariants.{BadLine, NoMemory}
+use Rattle.adf_manifest.specs.declared.reader.Head.{Head}
+use Rattle.adf_manifest.specs.declared.reader.Open.{Open}
+use Rattle.adf_manifest.specs.declared.reader.Reading.{Reading}
+use Rattle.adf_manifest.specs.declared.reader.State.{State}
+use Rattle.adf_manifest.specs.declared.reader.State.TheVariants as state
+
+-- an entry whose lines are read tells this item so far
+pub record IsOpen (o : Open) (i : Item) : Type 0 where
+  pub sort : o.sort ≡ i.sort
+  pub stamp : o.stamp ≡ i.stamp
+  pub protect : o.protect ≡ i.protect
+  pub path : o.path.items ≡ i.path
+  pub note : o.note ≡ i.note
+  pub bytes : o.bytes.items ≡ file_bytes i.runs
+
+-- behind an entry line: the tree of the entries before the last, and the last
+pub record IsReading (r : Reading) (m : Manifest) (e : Entries) : Type 0 where
+  pub entries : m.entries ≡ Some e
+  pub blocks : r.blocks ≡ m.head.blocks
+  pub tree : r.tree ≡ items_tree (head_tree m.head) e.before
+  pub last : IsOpen r.last e.last
+
+-- the manifest of a head alone
+abbrev pub bare : Head → Manifest
+bare h = record { head = h; entries = None }
+
+-- the lines so far tell this
+abbrev pub Tells : State → Manifest → Type 0
+Tells (state.Head h) m = m ≡ bare h
+Tells (state.Entries r) m = (e : Entries) × IsReading r m e
+
+-- with one line more
+abbrev pub GoesOn : State → Manifest → List ℕ → Type 0
+GoesOn s m text = (n : Manifest) × IsWell n × Tells s n × (manifest_lines n ≡ manifest_lines m ++ text ∷ [])
+
+-- why a line of a form is not taken where it may stand: its fault, or memory
+abbrev pub StopsIn : Tree → LineValue → ManifestKind → Type 0
+StopsIn tree line NoMemory = Unit {0}
+StopsIn tree line kind = IsFaultOf tree line kind
+
+-- why a line of a form is not taken
+abbrev pub Stops : Manifest → LineValue → ManifestKind → Type 0
+Stops m line BadLine = ¬ MayStand m line
+Stops m line kind = MayStand m line × StopsIn (manifest_tree m) line kind
+
+-- why a line is not taken
+abbrev pub StopsAt : Manifest → List ℕ → ManifestKind → Type 0
+StopsAt m text NoMemory = Unit {0}
+StopsAt m text kind = IsLaterFault m text kind
+
+-- the line that a fault names: none where memory was refused
+abbrev pub line_of_fault : ManifestKind → ℕ → ℕ
+line_of_fault NoMemory number = 0
+line_of_fault kind number = number
+
+-- what a fault says of lines
+abbrev pub ExplainsLines : ManifestKind → ℕ → List (List ℕ) → Type 0
+ExplainsLines NoMemory number all = number ≡ 0
+ExplainsLines kind number all = HasFault all number kind

@@ -1,0 +1,32 @@
+-- The texts of kinds, bytes and words.
+use Rattle.std.specs.Prelude.{◌/◌, ◌%◌, ◌^◌, ◌+◌, ◌-◌, ◌*◌, nat_lt, ℕ, List, [], ◌∷◌, ◌++◌, codes, if◌then◌else◌}
+use Rattle.std.specs.List.{flat_map}
+use Rattle.adf_tree.specs.Escapes.{hex_digit}
+use Rattle.adf_tree.specs.declared.entry.Kind.{Kind}
+use Rattle.adf_tree.specs.declared.entry.Kind.TheVariants.{Ofs, Ffs}
+
+abbrev pub kind_text : Kind → List ℕ
+kind_text Ofs = codes "ofs"
+kind_text Ffs = codes "ffs"
+
+-- the two hexadecimal digits of a byte
+abbrev pub pair : ℕ → List ℕ
+pair b = hex_digit (b / 16) ∷ hex_digit (b % 16) ∷ []
+
+-- the digits of bytes, with nothing between
+abbrev pub pairs : List ℕ → List ℕ
+pairs bytes = flat_map pair bytes
+
+-- the eight hexadecimal digits of a word: those of its four bytes, the highest first
+abbrev pub hex_word : ℕ → List ℕ
+hex_word w = pair (w / 2 ^ 24 % 256) ++ (pair (w / 2 ^ 16 % 256) ++ (pair (w / 2 ^ 8 % 256) ++ pair (w % 256)))
+
+-- the value of a hexadecimal digit
+abbrev pub digit : ℕ → ℕ
+digit d = if nat_lt d 58 then d - 48 else d - 87
+
+-- the bytes of which these are the digits
+abbrev pub unpaired : List ℕ → List ℕ
+unpaired [] = []
+unpaired (high ∷ []) = []
+unpaired (high ∷ low ∷ rest) = (16 * digit high + digit low) ∷ unpaired rest

@@ -1,0 +1,12 @@
+//! Manifests: texts of which volumes are built.
+#![tactic(auto)]
+
+mod digits;
+mod lines;
+mod manifest;
+mod parts;
+mod reader;
+#[cfg(test)]
+mod tests;
+
+pub use crate::manifest::{MOST_BYTES, ManifestFault, ManifestKind, one_verdict, read_manifest};

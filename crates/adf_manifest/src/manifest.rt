@@ -1,0 +1,131 @@
+// Manifests.
+
+ghost use Rattle.std.specs.Prelude.{◌≡◌, ◌≤◌, ◌++◌, ◌∷◌, IfOk, IfErr, length, option_map};
+ghost use Rattle.adf_manifest.specs.Manifest.{ExplainsFault, IsManifest, IsWell, LinesHaveOneFault, Manifest, ManifestsAreFaultless, ManifestsAreOfOneTree, manifest_lines, manifest_tree, most_bytes, parts, parts_behind, without_last_feed};
+ghost use Rattle.adf_manifest.specs.Reader.{ExplainsLines, Tells, line_of_fault};
+
+use crate::parts::cut_at;
+use crate::reader::{State, finish, first_state, next_state};
+use adf_tree::Tree;
+use std::alloc::Global;
+
+/// The most bytes of a manifest.
+pub const MOST_BYTES: usize = 16_777_216;
+
+/// Why a manifest is refused.
+#[derive(Clone, Copy, Debug, PartialEq, Eq)]
+pub enum ManifestKind {
+    /// The line has no form that may stand at its place.
+    BadLine = 1,
+    /// The number of blocks is not allowed.
+    BadSize = 2,
+    /// A text is not in the escape form, or too long.
+    BadText = 3,
+    /// The directory that holds the entry is not there.
+    NoParent = 4,
+    /// A file stands where a directory is wanted.
+    ParentIsFile = 5,
+    /// An entry has this path.
+    Exists = 6,
+    /// Memory was refused.
+    NoMemory = 7,
+    /// The manifest has more than `MOST_BYTES` bytes.
+    TooLong = 8,
+}
+
+/// The first line with a fault, and the first kind there.
+#[derive(Clone, Copy, Debug, PartialEq, Eq)]
+pub struct ManifestFault {
+    /// The line, from 1; 0 where the kind is `NoMemory` or `TooLong`.
+    pub line: usize,
+    pub kind: ManifestKind,
+}
+
+// The first line of a text, and what stands behind its line feed.
+fn next_line(text: &[u8]) -> (&[u8], Option<&[u8]>)
+    ensures { parts text.now ≡ result.0.now ∷ parts_behind (option_map (λ rest. rest.now) result.1) }
+{
+    match cut_at(text, b'\n') {
+        Some((line, rest)) => (line, Some(rest)),
+        None => (text, None),
+    }
+}
+
+// The fault of a line; memory is refused at no line.
+fn fault_at(number: usize, kind: ManifestKind) -> ManifestFault
+    ensures kind { result.kind ≡ kind }
+    ensures line { result.line ≡ line_of_fault kind number }
+{
+    let line = match kind {
+        ManifestKind::NoMemory => 0,
+        _ => number,
+    };
+    ManifestFault { line, kind }
+}
+
+// Reads the lines of a text, whose last line has no line feed.
+fn read_lines(alloc: Global, text: &[u8]) -> Result<State, ManifestFault>
+    requires { length text.now ≤ most_bytes }
+    ensures lines { IfOk result (λ s. (m : Manifest) × IsWell m × Tells s m × (parts text.now ≡ manifest_lines m)) }
+    ensures fault { IfErr result (λ f. ExplainsLines f.kind f.line (parts text.now)) }
+{
+    let (line, mut left) = next_line(text);
+    let mut state = match first_state(line) {
+        Ok(state) => state,
+        Err(kind) => return Err(fault_at(1, kind)),
+    };
+    let mut number = 1usize;
+    while let Some(rest) = left {
+        let (line, behind) = next_line(rest);
+        number += 1;
+        state = match next_state(alloc, state, line) {
+            Ok(more) => more,
+            Err(kind) => return Err(fault_at(number, kind)),
+        };
+        left = behind;
+    }
+    Ok(state)
+}
+
+// The bytes without a line feed at their end.
+fn without_last_feed(bytes: &[u8]) -> &[u8]
+    ensures { result.now ≡ without_last_feed bytes.now }
+{
+    let count = bytes.len();
+    if count > 0 && bytes[count - 1] == b'\n' {
+        &bytes[..count - 1]
+    } else {
+        bytes
+    }
+}
+
+/// Reads a manifest: the tree and the number of blocks that it tells. `TooLong` where it has more than
+/// `MOST_BYTES` bytes, `NoMemory` where memory was refused, else the first line with a fault and the
+/// first kind there.
+pub fn read_manifest(alloc: Global, bytes: &[u8]) -> Result<(Tree, u32), ManifestFault>
+    ensures manifest { IfOk result (λ r. IsManifest bytes.now r.0 r.1) }
+    ensures fault { IfErr result (λ f. ExplainsFault f bytes.now) }
+{
+    if bytes.len() > MOST_BYTES {
+        return Err(ManifestFault {
+            line: 0,
+            kind: ManifestKind::TooLong,
+        });
+    }
+    let state = match read_lines(alloc, without_last_feed(bytes)) {
+        Ok(state) => state,
+        Err(fault) => return Err(fault),
+    };
+    match finish(alloc, state) {
+        Ok(told) => Ok(told),
+        Err(kind) => Err(fault_at(0, kind)),
+    }
+}
+
+/// Bytes have one verdict: a manifest is of one tree and one number of blocks, no line of it has a
+/// fault, and lines have one first fault at most.
+pub fn one_verdict()
+    ensures one_tree { ManifestsAreOfOneTree }
+    ensures faultless { ManifestsAreFaultless }
+    ensures one_fault { LinesHaveOneFault }
+{}

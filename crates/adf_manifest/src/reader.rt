@@ -1,0 +1,397 @@
+// The state of the reader between two lines.
+
+ghost use Rattle.std.specs.Prelude.{◌≡◌, ◌<◌, ◌++◌, ◌∷◌, [], ℕ, List, IfSome, IfNone, IfOk, IfErr, IsOk, None, length, replicate};
+ghost use Rattle.std.specs.Option.{unwrap_or};
+ghost use Rattle.adf_tree.specs.PathTexts.{IsPathText};
+ghost use Rattle.adf_tree.specs.Tree.{room_for};
+ghost use Rattle.adf_manifest.specs.Parts.{AreStamps};
+ghost use Rattle.adf_manifest.specs.Lines.{IsLine, IsRun, IsVolumeLine, LabelLine, NoteLine, RunLine, StampsLine, entry_value, label_line, line_text, line_value, run_value, IsRunOfDigits, HasDigits, stamps_line, volume_line};
+ghost use Rattle.adf_manifest.specs.Items.{Item, body_of, run_bytes, with_item};
+ghost use Rattle.adf_manifest.specs.Manifest.{Entries, HasBadText, IsFirstFault, IsHead, IsLaterFault, IsWell, Manifest, head_lines, head_tree, manifest_lines, manifest_tree};
+ghost use Rattle.adf_manifest.specs.Reader.{GoesOn, IsOpen, IsReading, StopsIn, Stops, StopsAt, Tells, bare};
+
+use crate::digits::push_pairs;
+use crate::lines::{EntryText, Line, Run, Sort, line_of};
+use crate::manifest::ManifestKind;
+use crate::parts::{after, read_number};
+use adf_blocks::is_allowed_size;
+use adf_fields::Stamp;
+use adf_tree::{
+    AddFault, Body, Bytes, Comment, Kind, Label, Meta, Name, PathFault, Stamps, Tree, read_path,
+};
+use std::alloc::Global;
+
+const NO_STAMP: Stamp = Stamp {
+    days: 0,
+    mins: 0,
+    ticks: 0,
+};
+
+/// What the lines before the entries tell.
+#[derive(Drop)]
+pub struct Head {
+    pub kind: Kind,
+    pub blocks: u32,
+    pub label: Option<Label>,
+    pub stamps: Option<Stamps>,
+}
+
+/// What the lines of an entry tell so far.
+#[derive(Drop)]
+pub struct Open {
+    pub sort: Sort,
+    pub stamp: Stamp,
+    pub protect: u32,
+    pub path: Vec<Name>,
+    pub note: Option<Comment>,
+    pub bytes: Vec<u8>,
+}
+
+/// What the lines tell behind the first entry line: the tree of the entries before the last, and the last.
+#[derive(Drop)]
+pub struct Reading {
+    pub blocks: u32,
+    pub tree: Tree,
+    pub last: Open,
+}
+
+/// What the lines so far tell.
+#[derive(Drop)]
+pub enum State {
+    Head(Head),
+    Entries(Reading),
+}
+
+// The kind and the number of a volume line.
+fn volume_of(line: &[u8]) -> Option<(Kind, u32)>
+    ensures some { IfSome result (λ v. line.now ≡ volume_line v.0 v.1) }
+    ensures none { IfNone result (¬ IsVolumeLine line.now) }
+{
+    match after(line, b"volume ofs ") {
+        Some(number) => Some((Kind::Ofs, read_number(number)?)),
+        None => {
+            let number = after(line, b"volume ffs ")?;
+            Some((Kind::Ffs, read_number(number)?))
+        }
+    }
+}
+
+// Reads the first line.
+fn read_volume(line: &[u8]) -> Result<Head, ManifestKind>
+    ensures head { IfOk result IsHead }
+    ensures lines { IfOk result (λ h. head_lines h ≡ line.now ∷ []) }
+    ensures fault { IfErr result (λ kind. IsFirstFault line.now kind) }
+{
+    let Some((kind, blocks)) = volume_of(line) else {
+        return Err(ManifestKind::BadLine);
+    };
+    if !is_allowed_size(blocks) {
+        return Err(ManifestKind::BadSize);
+    }
+    Ok(Head {
+        kind,
+        blocks,
+        label: None,
+        stamps: None,
+    })
+}
+
+// The head with a label, from the text of its line.
+fn with_label(head: Head, text: &[u8]) -> Result<Head, ManifestKind>
+    requires filled { 0 < length text.now }
+    requires place { (head.label ≡ None) × (head.stamps ≡ None) }
+    ensures head { IsHead head → IfOk result IsHead }
+    ensures lines { IfOk result (λ h. head_lines h ≡ head_lines head ++ label_line text.now ∷ []) }
+    ensures fault { IfErr result (λ kind. (kind ≡ ManifestKind.BadText) × HasBadText (LabelLine text.now)) }
+{
+    match Label::read(text) {
+        Some(label) => Ok(Head {
+            kind: head.kind,
+            blocks: head.blocks,
+            label: Some(label),
+            stamps: None,
+        }),
+        None => Err(ManifestKind::BadText),
+    }
+}
+
+// The head with stamps.
+fn with_stamps(head: Head, stamps: Stamps) -> Head
+    requires numbers { AreStamps stamps }
+    requires place { head.stamps ≡ None }
+    ensures head { IsHead head → IsHead result }
+    ensures lines { head_lines result ≡ head_lines head ++ stamps_line stamps ∷ [] }
+{
+    Head {
+        kind: head.kind,
+        blocks: head.blocks,
+        label: head.label,
+        stamps: Some(stamps),
+    }
+}
+
+// The tree that a head tells.
+fn tree_of(alloc: Global, head: Head) -> Tree
+    ensures { result ≡ head_tree head }
+{
+    let Head {
+        kind,
+        label,
+        stamps,
+        ..
+    } = head;
+    let no_label = Label::new(b"").unwrap();
+    let no_stamps = Stamps {
+        root: NO_STAMP,
+        altered: NO_STAMP,
+        created: NO_STAMP,
+    };
+    Tree::new(
+        alloc,
+        kind,
+        label.unwrap_or(no_label),
+        stamps.unwrap_or(no_stamps),
+    )
+}
+
+// What is told of an entry by its own line alone, where the tree has room for it.
+fn opened(alloc: Global, tree: &Tree, line: EntryText) -> Result<Open, ManifestKind>
+    requires form { IsLine (entry_value line) }
+    ensures fields { IfOk result (λ o. (o.sort ≡ line.entry.sort) × (o.stamp ≡ line.entry.stamp) × (o.protect ≡ line.entry.protect) × (o.note ≡ None) × (o.bytes.items ≡ [])) }
+    ensures path { IfOk result (λ o. IsPathText line.entry.path.now o.path.items) }
+    ensures room { IfOk result (λ o. IsOk (room_for tree.now.entries o.path.items)) }
+    ensures fault { IfErr result (λ kind. StopsIn tree.now (entry_value line.entry) kind) }
+{
+    let path = match read_path(alloc, line.path) {
+        Ok(path) => path,
+        Err(PathFault::BadText) => return Err(ManifestKind::BadText),
+        Err(PathFault::NoMemory) => return Err(ManifestKind::NoMemory),
+    };
+    match tree.room(path.as_slice()) {
+        Ok(_) => Ok(Open {
+            sort: line.sort,
+            stamp: line.stamp,
+            protect: line.protect,
+            path,
+            note: None,
+            bytes: Vec::new(alloc),
+        }),
+        Err(AddFault::NoParent) => Err(ManifestKind::NoParent),
+        Err(AddFault::ParentIsFile) => Err(ManifestKind::ParentIsFile),
+        Err(AddFault::Exists) => Err(ManifestKind::Exists),
+        Err(AddFault::NoMemory | AddFault::EmptyPath) => Err(ManifestKind::NoMemory),
+    }
+}
+
+// The body of an entry with these bytes.
+fn body_of(sort: Sort, bytes: Vec<u8>) -> Body
+    ensures { result ≡ body_of sort bytes.items }
+{
+    match sort {
+        Sort::Dir => Body::Dir,
+        Sort::File => Body::File(Bytes::new(bytes)),
+    }
+}
+
+// The note of an entry, empty where it has none.
+fn note_or_none(note: Option<Comment>) -> Comment
+    ensures { result ≡ unwrap_or note [] }
+{
+    match note {
+        Some(note) => note,
+        None => Comment::new(b"").unwrap(),
+    }
+}
+
+// The tree with an entry whose lines are all read.
+fn closed(mut tree: Tree, last: Open) -> Result<Tree, ManifestKind>
+    ensures tree { IfOk result (λ t. (i : Item) → IsOpen last i → t ≡ with_item tree i) }
+    ensures err { IfErr result (λ kind. kind ≡ ManifestKind.NoMemory) }
+{
+    let Open {
+        sort,
+        stamp,
+        protect,
+        path,
+        note,
+        bytes,
+    } = last;
+    let meta = Meta {
+        comment: note_or_none(note),
+        protect,
+        stamp,
+    };
+    let body = body_of(sort, bytes);
+    match tree.add(path.as_slice(), meta, body) {
+        Ok(()) => Ok(tree),
+        Err(_) => Err(ManifestKind::NoMemory),
+    }
+}
+
+// The state behind the first entry line.
+fn first_entry(alloc: Global, head: Head, line: EntryText) -> Result<State, ManifestKind>
+    requires form { IsLine (entry_value line) }
+    ensures lines { IsWell (bare head) → IfOk result (λ s. GoesOn s (bare head) (line_text (entry_value line.entry))) }
+    ensures fault { IfErr result (λ kind. StopsIn (head_tree head) (entry_value line.entry) kind) }
+{
+    let blocks = head.blocks;
+    let tree = tree_of(alloc, head);
+    let last = opened(alloc, &tree, line)?;
+    Ok(State::Entries(Reading { blocks, tree, last }))
+}
+
+// The state behind a further entry line.
+fn next_entry(alloc: Global, reading: Reading, line: EntryText) -> Result<State, ManifestKind>
+    requires form { IsLine (entry_value line) }
+    ensures lines { (m : Manifest) (e : Entries) → IsWell m → IsReading reading m e → IfOk result (λ s. GoesOn s m (line_text (entry_value line.entry))) }
+    ensures fault { (m : Manifest) (e : Entries) → IsReading reading m e → IfErr result (λ kind. StopsIn (manifest_tree m) (entry_value line.entry) kind) }
+{
+    let blocks = reading.blocks;
+    let tree = closed(reading.tree, reading.last)?;
+    let last = match opened(alloc, &tree, line) {
+        Ok(last) => last,
+        Err(kind) => return Err(kind),
+    };
+    Ok(State::Entries(Reading { blocks, tree, last }))
+}
+
+// The state behind a note line.
+fn with_note(reading: Reading, text: &[u8]) -> Result<State, ManifestKind>
+    requires form { 0 < length text.now }
+    ensures lines { (m : Manifest) (e : Entries) → IsWell m → IsReading reading m e → IfOk result (λ s. GoesOn s m (line_text (NoteLine text.now))) }
+    ensures fault { (m : Manifest) (e : Entries) → IsWell m → IsReading reading m e → IfErr result (λ kind. Stops m (NoteLine text.now) kind) }
+{
+    let mut reading = reading;
+    if reading.last.note.is_some() || !reading.last.bytes.is_empty() {
+        return Err(ManifestKind::BadLine);
+    }
+    match Comment::read(text) {
+        Some(note) => {
+            reading.last.note = Some(note);
+            Ok(State::Entries(reading))
+        }
+        None => Err(ManifestKind::BadText),
+    }
+}
+
+// Appends one byte so many times; where memory is refused, the bytes stay.
+fn push_copies(bytes: &mut Vec<u8>, count: u32, byte: u8) -> Result<(), ManifestKind>
+    ensures bytes { IfOk result (λ _. bytes.new.items ≡ bytes.old.items ++ replicate count byte) }
+    ensures err { IfErr result (λ kind. kind ≡ ManifestKind.NoMemory) }
+{
+    let Some(total) = bytes.len().checked_add(count as usize) else {
+        return Err(ManifestKind::NoMemory);
+    };
+    match bytes.resize(total, byte) {
+        Ok(()) => Ok(()),
+        Err(_) => Err(ManifestKind::NoMemory),
+    }
+}
+
+// Appends what a line gives; where memory is refused, a part of it may stand.
+fn push_run(bytes: &mut Vec<u8>, run: Run) -> Result<(), ManifestKind>
+    requires form { IsRun (run_value run) }
+    requires digits { IsRunOfDigits run }
+    ensures bytes { IfOk result (λ _. bytes.new.items ≡ bytes.old.items ++ run_bytes (run_value run.entry)) }
+    ensures err { IfErr result (λ kind. kind ≡ ManifestKind.NoMemory) }
+{
+    match run {
+        Run::Data(digits) => push_pairs(bytes, digits).map_err(|_| ManifestKind::NoMemory),
+        Run::Fill(count, byte) => push_copies(bytes, count, byte),
+    }
+}
+
+// The state behind a line of bytes.
+fn with_run(reading: Reading, run: Run) -> Result<State, ManifestKind>
+    requires form { IsRun (run_value run) }
+    requires digits { IsRunOfDigits run }
+    ensures lines { (m : Manifest) (e : Entries) → IsWell m → IsReading reading m e → IfOk result (λ s. GoesOn s m (line_text (RunLine (run_value run.entry)))) }
+    ensures fault { (m : Manifest) (e : Entries) → IsReading reading m e → IfErr result (λ kind. Stops m (RunLine (run_value run.entry)) kind) }
+{
+    let mut reading = reading;
+    match reading.last.sort {
+        Sort::Dir => Err(ManifestKind::BadLine),
+        Sort::File => {
+            push_run(&mut reading.last.bytes, run)?;
+            Ok(State::Entries(reading))
+        }
+    }
+}
+
+// The state behind a line of this form, where no entry line was.
+fn line_in_head(alloc: Global, head: Head, line: Line) -> Result<State, ManifestKind>
+    requires form { IsLine (line_value line) }
+    ensures lines { IsWell (bare head) → IfOk result (λ s. GoesOn s (bare head) (line_text (line_value line.entry))) }
+    ensures fault { IfErr result (λ kind. Stops (bare head) (line_value line.entry) kind) }
+{
+    match line {
+        Line::Label(text) => {
+            if head.label.is_some() || head.stamps.is_some() {
+                return Err(ManifestKind::BadLine);
+            }
+            Ok(State::Head(with_label(head, text)?))
+        }
+        Line::Stamps(stamps) => {
+            if head.stamps.is_some() {
+                return Err(ManifestKind::BadLine);
+            }
+            Ok(State::Head(with_stamps(head, stamps)))
+        }
+        Line::Entry(entry) => first_entry(alloc, head, entry),
+        Line::Note(_) | Line::Run(_) => Err(ManifestKind::BadLine),
+    }
+}
+
+// The state behind a line of this form, where an entry line was.
+fn line_in_entries(alloc: Global, reading: Reading, line: Line) -> Result<State, ManifestKind>
+    requires form { IsLine (line_value line) }
+    requires digits { HasDigits line }
+    ensures lines { (m : Manifest) (e : Entries) → IsWell m → IsReading reading m e → IfOk result (λ s. GoesOn s m (line_text (line_value line.entry))) }
+    ensures fault { (m : Manifest) (e : Entries) → IsWell m → IsReading reading m e → IfErr result (λ kind. Stops m (line_value line.entry) kind) }
+{
+    match line {
+        Line::Entry(entry) => next_entry(alloc, reading, entry),
+        Line::Note(text) => with_note(reading, text),
+        Line::Run(run) => with_run(reading, run),
+        Line::Label(_) | Line::Stamps(_) => Err(ManifestKind::BadLine),
+    }
+}
+
+/// The state behind the first line.
+pub fn first_state(line: &[u8]) -> Result<State, ManifestKind>
+    ensures lines { IfOk result (λ s. (m : Manifest) × IsWell m × Tells s m × (manifest_lines m ≡ line.now ∷ [])) }
+    ensures fault { IfErr result (λ kind. IsFirstFault line.now kind) }
+{
+    Ok(State::Head(read_volume(line)?))
+}
+
+/// The state behind a further line.
+pub fn next_state(alloc: Global, state: State, line: &[u8]) -> Result<State, ManifestKind>
+    ensures lines { (m : Manifest) → IsWell m → Tells state m → IfOk result (λ s. GoesOn s m line.now) }
+    ensures fault { (m : Manifest) → IsWell m → Tells state m → IfErr result (λ kind. StopsAt m line.now kind) }
+{
+    let Some(line) = line_of(line) else {
+        return Err(ManifestKind::BadLine);
+    };
+    match state {
+        State::Head(head) => line_in_head(alloc, head, line),
+        State::Entries(reading) => line_in_entries(alloc, reading, line),
+    }
+}
+
+/// The tree and the number of blocks that the lines tell.
+pub fn finish(alloc: Global, state: State) -> Result<(Tree, u32), ManifestKind>
+    ensures told { (m : Manifest) → IsWell m → Tells state m → IfOk result (λ r. (r.0 ≡ manifest_tree m) × (r.1 ≡ m.head.blocks)) }
+    ensures err { IfErr result (λ kind. kind ≡ ManifestKind.NoMemory) }
+{
+    match state {
+        State::Head(head) => {
+            let blocks = head.blocks;
+            Ok((tree_of(alloc, head), blocks))
+        }
+        State::Entries(reading) => {
+            let blocks = reading.blocks;
+            Ok((closed(reading.tree, reading.last)?, blocks))
+        }
+    }
+}
