@@ -19,13 +19,13 @@ use Rattle.adf_check.proofs.ExtSteps.{few_blocks}
 use Rattle.adf_check.specs.declared.fault.Fault.{Fault}
 use Rattle.adf_cmd.specs.Answers.{Answer, Answers, IsPart, fault_line}
 use Rattle.adf_cmd.specs.CommandLine.{Asks, Request, build, check}
-use Rattle.adf_cmd.specs.Manifest.{ExplainsFault, ExplainsKind, IsManifest}
+use Rattle.adf_manifest.specs.Manifest.{ExplainsFault, ExplainsKind, IsManifest}
 use Rattle.adf_cmd.specs.Outcomes.{IsFaultOutcome, TellsFault, TreeWorks, Works, line_of, status_of}
 use Rattle.adf_cmd.specs.Streams.{AppendsPart, Says}
 use Rattle.adf_cmd.specs.Texts.{ok_line}
-use Rattle.adf_cmd.specs.declared.manifest.ManifestFault.{ManifestFault}
-use Rattle.adf_cmd.specs.declared.manifest.ManifestKind.{ManifestKind}
-use Rattle.adf_cmd.specs.declared.manifest.ManifestKind.TheVariants.{BadLine, BadSize as BadNumber, BadText, NoParent, ParentIsFile, Exists, NoMemory as ManifestNoMemory, TooLong}
+use Rattle.adf_manifest.specs.declared.manifest.ManifestFault.{ManifestFault}
+use Rattle.adf_manifest.specs.declared.manifest.ManifestKind.{ManifestKind}
+use Rattle.adf_manifest.specs.declared.manifest.ManifestKind.TheVariants.{BadLine, BadSize as BadNumber, BadText, NoParent, ParentIsFile, Exists, NoMemory as ManifestNoMemory, TooLong}
 use Rattle.adf_cmd.specs.declared.outcome.Outcome.{Outcome}
 use Rattle.adf_cmd.specs.declared.outcome.Outcome.TheVariants.{Done, Told, Refused, ReadFault, WriteFault, NoMemory}
 
@@ -100,7 +100,7 @@ long_kind ManifestNoMemory line image bytes a b ne h = absurd (ne refl)
 long_kind TooLong line image bytes a b ne h = (h.0, b)
 
 long_build : (lines : Bool) (image bytes : List ℕ) → 16777216 < length image → 16777216 < length bytes → (s : ℕ) (out err : List ℕ) → Answer (build lines) image s out err → Answer (build lines) bytes s out err
-long_build lines image bytes a b s out err (inl (tree, n, manifest, status, output, errors)) = absurd (omega (arith, manifest.0))
+long_build lines image bytes a b s out err (inl (tree, n, manifest, built, status, output, errors)) = absurd (omega (arith, manifest.0))
 long_build lines image bytes a b s out err (inr (inl (f, why, ne, status, output, errors))) = inr (inl (f, long_kind f.kind f.line image bytes a b ne why, ne, status, output, errors))
 long_build lines image bytes a b s out err (inr (inr (tree, n, manifest, full, status, output, errors))) = absurd (omega (arith, manifest.0))
 
@@ -114,13 +114,13 @@ build_read w lines image bytes o o' e h = elim (cases_lt 16777216 (length bytes)
 
 -- what was built of the tree of a manifest answers it
 pub tree_works : (w : Outcome) (lines : Bool) (input : List ℕ) (tree : Tree) (n : ℕ) (o o' : Option (List ℕ)) → IsManifest input tree n → TreeWorks w lines tree n o o' → Works w (build lines) input o o'
-tree_works Done lines input tree n o o' m h = (_, inl (tree, n, m, refl, refl, refl), h)
+tree_works Done lines input tree n o o' m h = (_, inl (tree, n, m, h.0, refl, refl, refl), h.1)
 tree_works Told lines input tree n o o' m h = absurd h
 tree_works (Refused line) lines input tree n o o' m h = ([], inr (inr (tree, n, m, h.1, refl, refl, h.2)), h.0)
 tree_works ReadFault lines input tree n o o' m h = absurd h
-tree_works WriteFault lines input tree n o o' m h = (0, _, [], inl (tree, n, m, refl, refl, refl), h)
+tree_works WriteFault lines input tree n o o' m h = (0, _, [], inl (tree, n, m, h.0, refl, refl, refl), h.1)
 tree_works NoMemory lines input tree n o o' m (inl h) = inl h
-tree_works NoMemory lines input tree n o o' m (inr h) = inr (0, _, [], inl (tree, n, m, refl, refl, refl), h)
+tree_works NoMemory lines input tree n o o' m (inr h) = inr (0, _, [], inl (tree, n, m, h.0, refl, refl, refl), h.1)
 
 appends_nil : (o : Option (List ℕ)) → Appends o o []
 appends_nil None = tt

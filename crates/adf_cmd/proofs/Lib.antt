@@ -1,10 +1,6 @@
 pub mod KnownBytes
 pub mod Lines
 pub mod Literals
-pub mod ManifestLaws
-pub mod OneTree
-pub mod PartLaws
 pub mod PendingText
 pub mod Refused
-pub mod Verdicts
 pub mod AnswerLaws

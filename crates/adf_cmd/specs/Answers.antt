@@ -5,20 +5,20 @@ use Rattle.std.specs.Io.KnownBytes.{Appends}
 use Rattle.adf_tree.specs.Tree.{Tree}
 use Rattle.adf_blocks.specs.Causes.{cause_text}
 use Rattle.adf_volume.specs.Fits.{Fits}
-use Rattle.adf_volume.specs.Laid.{volume}
+use Rattle.adf_volume.specs.Laid.{IsLaid, volume}
 use Rattle.adf_volume.specs.Layout.{Layout}
-use Rattle.adf_volume.specs.Plan.{blocks_needed}
+use Rattle.adf_volume.specs.Plan.{blocks_needed, planned}
 use Rattle.adf_volume.specs.Walk.{FirstFault}
-use Rattle.adf_build.specs.Building.{need_of}
+use Rattle.adf_build.specs.Building.{HasRoom, need_of}
 use Rattle.adf_check.specs.Volumes.{counts_of}
 use Rattle.adf_check.specs.declared.fault.Fault.{Fault}
 use Rattle.adf_cmd.specs.CommandLine.{Asks, IsRefused, Request, build, cat, check, convert, list}
 use Rattle.adf_cmd.specs.Listing.{listing}
-use Rattle.adf_cmd.specs.Manifest.{ExplainsFault, IsManifest}
+use Rattle.adf_manifest.specs.Manifest.{ExplainsFault, IsManifest}
 use Rattle.adf_cmd.specs.Streams.{AppendsPart, Says}
 use Rattle.adf_cmd.specs.Texts.{full_line, manifest_fault_line, ok_line}
-use Rattle.adf_cmd.specs.declared.manifest.ManifestFault.{ManifestFault}
-use Rattle.adf_cmd.specs.declared.manifest.ManifestKind.TheVariants.{NoMemory as ManifestNoMemory}
+use Rattle.adf_manifest.specs.declared.manifest.ManifestFault.{ManifestFault}
+use Rattle.adf_manifest.specs.declared.manifest.ManifestKind.TheVariants.{NoMemory as ManifestNoMemory}
 
 -- the line of a refused image
 abbrev pub fault_line : Fault → List ℕ
@@ -35,9 +35,15 @@ Refuses input status output errors = (f : Fault) × FirstFault input f.block f.c
 abbrev pub built : Bool → Tree → ℕ → List ℕ
 built lines tree n = if lines then listing (volume tree n) else volume tree n
 
--- `build` at status 0 writes the image of the tree that the manifest tells, at status 1 it says why there is none
+-- the tree has room in n blocks, and the image that is laid of it there is that of a sound volume of the tree
+pub record IsBuilt (tree : Tree) (n : ℕ) : Type 0 where
+  pub room : HasRoom tree n
+  pub laid : IsLaid (volume tree n) tree
+  pub fits : Fits (volume tree n) tree (planned tree n)
+
+-- `build` at status 0 writes the image of the tree that the manifest tells, for which there is room, at status 1 it says why there is none
 abbrev pub Builds : Bool → List ℕ → ℕ → List ℕ → List ℕ → Type 0
-Builds lines input status output errors = (tree : Tree) × (n : ℕ) × IsManifest input tree n × (status ≡ 0) × (output ≡ built lines tree n) × (errors ≡ [])
+Builds lines input status output errors = (tree : Tree) × (n : ℕ) × IsManifest input tree n × IsBuilt tree n × (status ≡ 0) × (output ≡ built lines tree n) × (errors ≡ [])
 
 abbrev pub RefusesManifest : List ℕ → ℕ → List ℕ → List ℕ → Type 0
 RefusesManifest input status output errors = (f : ManifestFault) × ExplainsFault f input × (f.kind ≢ ManifestNoMemory) × (status ≡ 1) × (output ≡ []) × (errors ≡ manifest_fault_line f)

@@ -1,8 +1,6 @@
 pub mod CommandLine
 pub mod Devices
 pub mod Listing
-pub mod Manifest
-pub mod Parts
 pub mod Streams
 pub mod Texts
 pub mod Answers

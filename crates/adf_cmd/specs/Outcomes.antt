@@ -5,12 +5,12 @@ use Rattle.adf_tree.specs.Tree.{Tree}
 use Rattle.adf_volume.specs.Plan.{blocks_needed}
 use Rattle.adf_build.specs.Building.{need_of}
 use Rattle.adf_check.specs.declared.fault.Fault.{Fault}
-use Rattle.adf_cmd.specs.Answers.{Answer, IsPart, built, fault_line}
+use Rattle.adf_cmd.specs.Answers.{Answer, IsBuilt, IsPart, built, fault_line}
 use Rattle.adf_cmd.specs.CommandLine.{Request}
 use Rattle.adf_cmd.specs.Streams.{AppendsPart}
 use Rattle.adf_cmd.specs.Texts.{full_line, manifest_fault_line}
-use Rattle.adf_cmd.specs.declared.manifest.ManifestFault.{ManifestFault}
-use Rattle.adf_cmd.specs.declared.manifest.ManifestKind.TheVariants.{NoMemory as ManifestNoMemory}
+use Rattle.adf_manifest.specs.declared.manifest.ManifestFault.{ManifestFault}
+use Rattle.adf_manifest.specs.declared.manifest.ManifestKind.TheVariants.{NoMemory as ManifestNoMemory}
 use Rattle.adf_cmd.specs.declared.outcome.Outcome.{Outcome}
 use Rattle.adf_cmd.specs.declared.outcome.Outcome.TheVariants.{Done, Told, Refused, ReadFault, WriteFault, NoMemory}
 
@@ -54,12 +54,12 @@ Works NoMemory r input o o' = Appends o o' [] ⊎ IsPart r input o o'
 
 -- building a tree: its image is written, or it needs more blocks than there are, or a front part is written
 abbrev pub TreeWorks : Outcome → Bool → Tree → ℕ → Option (List ℕ) → Option (List ℕ) → Type 0
-TreeWorks Done lines tree n o o' = Appends o o' (built lines tree n)
+TreeWorks Done lines tree n o o' = IsBuilt tree n × Appends o o' (built lines tree n)
 TreeWorks Told lines tree n o o' = ⊥
 TreeWorks (Refused line) lines tree n o o' = Appends o o' [] × (n - 2 < blocks_needed tree n) × (string_bytes line ≡ full_line (need_of tree n) (n - 2))
 TreeWorks ReadFault lines tree n o o' = ⊥
-TreeWorks WriteFault lines tree n o o' = AppendsPart o o' (built lines tree n)
-TreeWorks NoMemory lines tree n o o' = Appends o o' [] ⊎ AppendsPart o o' (built lines tree n)
+TreeWorks WriteFault lines tree n o o' = IsBuilt tree n × AppendsPart o o' (built lines tree n)
+TreeWorks NoMemory lines tree n o o' = Appends o o' [] ⊎ (IsBuilt tree n × AppendsPart o o' (built lines tree n))
 
 -- saying that a tree needs more blocks than there are
 abbrev pub IsFullOutcome : ℕ → ℕ → Outcome → Type 0

@@ -1,17 +1,11 @@
 -- The texts of numbers, kinds and lines.
-use Rattle.std.specs.Prelude.{◌/◌, ◌%◌, ◌^◌, ℕ, List, [], ◌∷◌, ◌++◌, codes}
+use Rattle.std.specs.Prelude.{ℕ, List, [], ◌∷◌, ◌++◌, codes}
 use Rattle.std.specs.Fmt.{decimal}
-use Rattle.adf_tree.specs.Escapes.{hex_digit}
-use Rattle.adf_tree.specs.declared.entry.Kind.{Kind}
-use Rattle.adf_tree.specs.declared.entry.Kind.TheVariants.{Ofs, Ffs}
-use Rattle.adf_cmd.specs.declared.manifest.ManifestFault.{ManifestFault}
-use Rattle.adf_cmd.specs.declared.manifest.ManifestKind.{ManifestKind}
-use Rattle.adf_cmd.specs.declared.manifest.ManifestKind.TheVariants.{BadLine, BadSize, BadText, NoParent, ParentIsFile, Exists, NoMemory, TooLong}
+use Rattle.adf_manifest.specs.Texts.{hex_word, kind_text}
+use Rattle.adf_manifest.specs.declared.manifest.ManifestFault.{ManifestFault}
+use Rattle.adf_manifest.specs.declared.manifest.ManifestKind.{ManifestKind}
+use Rattle.adf_manifest.specs.declared.manifest.ManifestKind.TheVariants.{BadLine, BadSize, BadText, NoParent, ParentIsFile, Exists, NoMemory, TooLong}
 use Rattle.adf_check.specs.declared.checked.Counts.{Counts}
-
-abbrev pub kind_text : Kind → List ℕ
-kind_text Ofs = codes "ofs"
-kind_text Ffs = codes "ffs"
 
 -- the line of `check`
 abbrev pub ok_line : Counts → List ℕ
@@ -35,11 +29,6 @@ manifest_kind_text TooLong = codes "too long"
 -- the line of a manifest's fault
 abbrev pub manifest_fault_line : ManifestFault → List ℕ
 manifest_fault_line f = codes "line " ++ (decimal f.line ++ (codes ": " ++ (manifest_kind_text f.kind ++ codes "\n")))
-
--- a word in eight hexadecimal digits, the highest first
-abbrev pub hex_word : ℕ → List ℕ
-hex_word w = hex_digit (w / 2 ^ 28 % 16) ∷ hex_digit (w / 2 ^ 24 % 16) ∷ hex_digit (w / 2 ^ 20 % 16) ∷ hex_digit (w / 2 ^ 16 % 16)
-    ∷ hex_digit (w / 2 ^ 12 % 16) ∷ hex_digit (w / 2 ^ 8 % 16) ∷ hex_digit (w / 2 ^ 4 % 16) ∷ hex_digit (w % 16) ∷ []
 
 -- the line of word i of block b: the block, the word's number, the word
 abbrev pub word_line : ℕ → ℕ → ℕ → List ℕ

@@ -1,6 +1,6 @@
 // The command `build`.
 
-ghost use Rattle.std.specs.Prelude.{◌≡◌, ◌<◌, ◌^◌, ◌++◌, ◌+◌, [], true, false, length, OnOk, OnErr, IfOk, IfSome, Some, if◌then◌else◌};
+ghost use Rattle.std.specs.Prelude.{◌≡◌, ◌<◌, ◌^◌, ◌++◌, ◌+◌, true, false, length, OnOk, OnErr, IfOk, IfSome, Some, if◌then◌else◌};
 ghost use Rattle.std.specs.Io.KnownBytes.{Appends};
 ghost use Rattle.adf_blocks.specs.Sizes.{is_allowed};
 ghost use Rattle.adf_cmd.specs.Answers.{limit_of};
@@ -11,11 +11,11 @@ ghost use Rattle.adf_cmd.specs.Streams.{AppendsPart, TakesAtMost, is_device};
 
 use crate::devices::{Sink, Source};
 use crate::listing::write_listing;
-use crate::manifest::{MOST_BYTES, ManifestFault, ManifestKind, read_manifest};
 use crate::outcome::Outcome;
 use crate::streams::{StreamFault, read_all, write_all};
 use crate::texts::{push_full, push_manifest_fault};
 use adf_build::{BuildFault, build};
+use adf_manifest::{MOST_BYTES, ManifestFault, ManifestKind, read_manifest};
 use adf_tree::Tree;
 use std::alloc::Global;
 
@@ -52,7 +52,7 @@ fn refuse_full(alloc: Global, need: u64, have: u64) -> Outcome
     }
 }
 
-// Builds a tree without entries, and writes its image or the lines of the image's words.
+// Builds a tree, and writes its image or the lines of the image's words.
 fn build_tree<W: Sink>(
     alloc: Global,
     tree: &Tree,
@@ -61,7 +61,6 @@ fn build_tree<W: Sink>(
     output: &mut W,
 ) -> Outcome
     requires works { W.has_failed output.old ≡ false }
-    requires empty { tree.now.entries ≡ [] }
     requires size { is_allowed blocks ≡ true }
     ensures works { TreeWorks result lines tree.now blocks (W.held output.old) (W.held output.new) }
     ensures written { W.has_failed output.new ≡ is_write_fault result }

@@ -1,4 +1,4 @@
-//! The command `adf`: its words, its devices, its texts and its manifests.
+//! The command `adf`: its words, its devices and its texts.
 #![tactic(auto)]
 
 mod building;
@@ -6,9 +6,7 @@ mod checking;
 mod command_line;
 mod devices;
 mod listing;
-mod manifest;
 mod outcome;
-mod parts;
 mod runner;
 mod streams;
 mod texts;
@@ -17,7 +15,6 @@ pub use crate::checking::MOST_IMAGE_BYTES;
 pub use crate::command_line::{Order, WordsFault, parse, words_as_documented};
 pub use crate::devices::{Device, Failed, Sink, Source};
 pub use crate::listing::write_listing;
-pub use crate::manifest::{MOST_BYTES, ManifestFault, ManifestKind, one_verdict, read_manifest};
 pub use crate::runner::run;
 pub use crate::streams::{StreamFault, read_all, say, write_all};
 pub use crate::texts::{

@@ -1,12 +1,13 @@
 // The texts of numbers, kinds and lines.
 
-ghost use Rattle.std.specs.Prelude.{◌≡◌, ◌%◌, ◌++◌, [], ◌∷◌, OnOk, is_ok, if◌then◌else◌, string_bytes};
+ghost use Rattle.std.specs.Prelude.{◌≡◌, ◌<◌, ◌++◌, [], ◌∷◌, OnOk, is_ok, if◌then◌else◌, string_bytes};
 ghost use Rattle.std.specs.Fmt.{decimal};
 ghost use Rattle.adf_tree.specs.Escapes.{hex_digit};
-ghost use Rattle.adf_cmd.specs.Texts.{full_line, hex_word, kind_text, manifest_fault_line, manifest_kind_text, ok_line, word_line};
+ghost use Rattle.adf_manifest.specs.Texts.{hex_word, kind_text};
+ghost use Rattle.adf_cmd.specs.Texts.{full_line, manifest_fault_line, manifest_kind_text, ok_line, word_line};
 
-use crate::manifest::{ManifestFault, ManifestKind};
 use adf_check::Counts;
+use adf_manifest::{ManifestFault, ManifestKind};
 use adf_tree::Kind;
 use std::alloc::AllocError;
 use std::fmt;
@@ -69,15 +70,15 @@ pub fn push_manifest_fault(text: &mut String, fault: ManifestFault) -> Result<()
     write!(text, "line {number}: {kind}\n")
 }
 
-// The lowest hexadecimal digit.
-fn low_digit(value: u32) -> u8
-    ensures { result ≡ hex_digit (value % 16) }
+// A hexadecimal digit.
+fn digit(value: u32) -> u8
+    requires { value < 16 }
+    ensures { result ≡ hex_digit value }
 {
-    let digit = (value % 16) as u8;
-    if digit < 10 {
-        b'0' + digit
+    if value < 10 {
+        b'0' + value as u8
     } else {
-        b'a' + (digit - 10)
+        b'a' + (value - 10) as u8
     }
 }
 
@@ -85,15 +86,19 @@ fn low_digit(value: u32) -> u8
 fn push_hex_line(text: &mut Vec<u8>, word: u32) -> Result<(), AllocError>
     ensures { text.new.items ≡ (if is_ok result then text.old.items ++ (hex_word word ++ 10 ∷ []) else text.old.items) }
 {
+    let first = (word >> 24) % 256;
+    let second = (word >> 16) % 256;
+    let third = (word >> 8) % 256;
+    let fourth = word % 256;
     let digits = [
-        low_digit(word >> 28),
-        low_digit(word >> 24),
-        low_digit(word >> 20),
-        low_digit(word >> 16),
-        low_digit(word >> 12),
-        low_digit(word >> 8),
-        low_digit(word >> 4),
-        low_digit(word),
+        digit(first / 16),
+        digit(first % 16),
+        digit(second / 16),
+        digit(second % 16),
+        digit(third / 16),
+        digit(third % 16),
+        digit(fourth / 16),
+        digit(fourth % 16),
         b'\n',
     ];
     text.extend_from_slice(&digits)

@@ -28,6 +28,11 @@ use Rattle.adf_manifest.specs.declared.manifest.ManifestKind.TheVariants.{BadLin
 use Rattle.adf_manifest.proofs.Forms.{line_same}
 use Rattle.adf_manifest.proofs.Growth.{given, given_is, given_lines, last_is, last_lines, last_well, new_item, new_lines, new_well, noted, noted_is, noted_lines, room_none, tree_more, tree_none, with_last, with_new}
 
+-- what holds of the value of an Ok, weaker
+pub if_ok_weaker : {T E : Type 0} {P Q : T → Type 0} (r : Result T E) → ((x : T) → P x → Q x) → IfOk r P → IfOk r Q
+if_ok_weaker (Ok x) f p = f x p
+if_ok_weaker (Err e) f p = tt
+
 pub bare_well : (h : Head) → IsHead h → IsWell (bare h)
 bare_well h g = record { head = g; items = All-nil IsItem; room = room_none (head_tree h) }
 

@@ -17,7 +17,8 @@ use crate::parts::{after, read_number};
 use adf_blocks::is_allowed_size;
 use adf_fields::Stamp;
 use adf_tree::{
-    AddFault, Body, Bytes, Comment, Kind, Label, Meta, Name, PathFault, Stamps, Tree, read_path,
+    AddFault, Body, Bytes, Comment, Draft, Kind, Label, Meta, Name, PathFault, Stamps, Tree,
+    read_path,
 };
 use std::alloc::Global;
 
@@ -51,7 +52,7 @@ pub struct Open {
 #[derive(Drop)]
 pub struct Reading {
     pub blocks: u32,
-    pub tree: Tree,
+    pub tree: Draft,
     pub last: Open,
 }
 
@@ -131,7 +132,7 @@ fn with_stamps(head: Head, stamps: Stamps) -> Head
 }
 
 // The tree that a head tells.
-fn tree_of(alloc: Global, head: Head) -> Tree
+fn tree_of(alloc: Global, head: Head) -> Draft
     ensures { result ≡ head_tree head }
 {
     let Head {
@@ -146,7 +147,7 @@ fn tree_of(alloc: Global, head: Head) -> Tree
         altered: NO_STAMP,
         created: NO_STAMP,
     };
-    Tree::new(
+    Draft::new(
         alloc,
         kind,
         label.unwrap_or(no_label),
@@ -155,7 +156,7 @@ fn tree_of(alloc: Global, head: Head) -> Tree
 }
 
 // What is told of an entry by its own line alone, where the tree has room for it.
-fn opened(alloc: Global, tree: &Tree, line: EntryText) -> Result<Open, ManifestKind>
+fn opened(alloc: Global, tree: &Draft, line: EntryText) -> Result<Open, ManifestKind>
     requires form { IsLine (entry_value line) }
     ensures fields { IfOk result (λ o. (o.sort ≡ line.entry.sort) × (o.stamp ≡ line.entry.stamp) × (o.protect ≡ line.entry.protect) × (o.note ≡ None) × (o.bytes.items ≡ [])) }
     ensures path { IfOk result (λ o. IsPathText line.entry.path.now o.path.items) }
@@ -204,7 +205,7 @@ fn note_or_none(note: Option<Comment>) -> Comment
 }
 
 // The tree with an entry whose lines are all read.
-fn closed(mut tree: Tree, last: Open) -> Result<Tree, ManifestKind>
+fn closed(mut tree: Draft, last: Open) -> Result<Draft, ManifestKind>
     ensures tree { IfOk result (λ t. (i : Item) → IsOpen last i → t ≡ with_item tree i) }
     ensures err { IfErr result (λ kind. kind ≡ ManifestKind.NoMemory) }
 {
@@ -379,6 +380,17 @@ pub fn next_state(alloc: Global, state: State, line: &[u8]) -> Result<State, Man
     }
 }
 
+// The tree of a draft, beside a number of blocks.
+fn finished(alloc: Global, draft: Draft, blocks: u32) -> Result<(Tree, u32), ManifestKind>
+    ensures told { IfOk result (λ r. (r.0 ≡ draft) × (r.1 ≡ blocks)) }
+    ensures err { IfErr result (λ kind. kind ≡ ManifestKind.NoMemory) }
+{
+    match draft.finish(alloc) {
+        Ok(tree) => Ok((tree, blocks)),
+        Err(_) => Err(ManifestKind::NoMemory),
+    }
+}
+
 /// The tree and the number of blocks that the lines tell.
 pub fn finish(alloc: Global, state: State) -> Result<(Tree, u32), ManifestKind>
     ensures told { (m : Manifest) → IsWell m → Tells state m → IfOk result (λ r. (r.0 ≡ manifest_tree m) × (r.1 ≡ m.head.blocks)) }
@@ -387,11 +399,11 @@ pub fn finish(alloc: Global, state: State) -> Result<(Tree, u32), ManifestKind>
     match state {
         State::Head(head) => {
             let blocks = head.blocks;
-            Ok((tree_of(alloc, head), blocks))
+            finished(alloc, tree_of(alloc, head), blocks)
         }
         State::Entries(reading) => {
             let blocks = reading.blocks;
-            Ok((closed(reading.tree, reading.last)?, blocks))
+            finished(alloc, closed(reading.tree, reading.last)?, blocks)
         }
     }
 }

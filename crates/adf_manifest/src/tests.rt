@@ -183,3 +183,55 @@ fn gathered(rt: HostRuntime) {
     };
     assert_eq!(rt; tree.len(), 2);
 }
+
+#[test]
+fn heads_refused(rt: HostRuntime) {
+    let rows: [(&[u8], usize, ManifestKind); 12] = [
+        (b"", 1, ManifestKind::BadLine),
+        (b"\n", 1, ManifestKind::BadLine),
+        (b"volume ofs 016\n", 1, ManifestKind::BadLine),
+        (b"volume ofs 4294967296\n", 1, ManifestKind::BadLine),
+        (b"volume ofs 5\n", 1, ManifestKind::BadSize),
+        (b"volume ofs 2\n", 1, ManifestKind::BadSize),
+        (b"volume ofs 101604\n", 1, ManifestKind::BadSize),
+        (b"volume ofs 16\nlabel a\\b\n", 2, ManifestKind::BadText),
+        (b"volume ofs 16\nlabel \n", 2, ManifestKind::BadLine),
+        (b"volume ofs 16\n\n", 2, ManifestKind::BadLine),
+        (
+            b"volume ofs 16\nstamps 0:0:0 0:0:0 0:0:0\nlabel W\n",
+            3,
+            ManifestKind::BadLine,
+        ),
+        (
+            b"volume ofs 16\nlabel 0123456789012345678901234567890",
+            2,
+            ManifestKind::BadText,
+        ),
+    ];
+    for (bytes, line, kind) in rows {
+        assert_eq!(rt; fault_of(rt.alloc(), bytes), Some((line, kind)));
+    }
+}
+
+#[test]
+fn heads_told(rt: HostRuntime) {
+    let Ok((tree, blocks)) = read_manifest(rt.alloc(), b"volume ffs 101602") else {
+        assert!(rt; false);
+        return;
+    };
+    assert_eq!(rt; blocks, 101_602);
+    assert!(rt; tree.kind() == Kind::Ffs);
+    assert!(rt; tree.label().bytes().is_empty());
+    assert_eq!(rt; tree.stamps().created.ticks, 0);
+    let all = b"volume ofs 4\nlabel a\\x5c b\nstamps 1:2:3 4:5:6 7:8:4294967295\n";
+    let Ok((tree, blocks)) = read_manifest(rt.alloc(), all) else {
+        assert!(rt; false);
+        return;
+    };
+    assert_eq!(rt; blocks, 4);
+    assert!(rt; tree.kind() == Kind::Ofs);
+    assert_eq!(rt; tree.label().bytes(), b"a\\ b".as_slice());
+    assert_eq!(rt; tree.stamps().root.days, 1);
+    assert_eq!(rt; tree.stamps().altered.mins, 5);
+    assert_eq!(rt; tree.stamps().created.ticks, 4_294_967_295);
+}

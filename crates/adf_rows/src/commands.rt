@@ -62,11 +62,15 @@ fn smallest_volume(rt: HostRuntime) -> Result<(), Fail> {
     Ok(())
 }
 
-// Volumes of a floppy, of two pages and of the most blocks are accepted as they are built.
+// Volumes with a file, of a floppy, of two pages and of the most blocks are accepted as they are built.
 #[test]
 fn sizes_accepted(rt: HostRuntime) {
     let alloc = rt.alloc();
-    let rows: [(&[u8], &[u8]); 3] = [
+    let rows: [(&[u8], &[u8]); 4] = [
+        (
+            b"volume ofs 16\nfile 0:0:0 00000000 a\nfill 489 41\n",
+            b"ok ofs blocks 16 used 5 free 9 dirs 0 files 1\n",
+        ),
         (
             b"volume ofs 1760\n",
             b"ok ofs blocks 1760 used 2 free 1756 dirs 0 files 0\n",

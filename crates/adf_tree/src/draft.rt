@@ -1,6 +1,6 @@
 // Trees in the making.
 
-ghost use Rattle.std.specs.Prelude.{◌≡◌, ◌≤◌, ◌+◌, ◌++◌, ◌∷◌, ℕ, List, [], length, is_ok, if◌then◌else◌, IfOk, IfErr, OnOk, OnErr};
+ghost use Rattle.std.specs.Prelude.{◌≡◌, ◌≤◌, ◌+◌, ◌++◌, ◌∷◌, ℕ, List, [], length, is_ok, if◌then◌else◌, Err, IfOk, IfErr, IsOk, OnOk, OnErr};
 ghost use Rattle.adf_tree.specs.Tree.{directory_from, new_entry, room_at, room_for, with_entry, IsAnswer};
 ghost use Rattle.adf_tree.specs.Paths.{AddsOne};
 ghost use Rattle.adf_tree.specs.Texts.{uppers};
@@ -112,6 +112,22 @@ impl Draft {
             stamps,
             entries: Vec::new(alloc),
             children: ChildMap::new(alloc),
+        }
+    }
+
+    /// Whether an entry under this path has room, or why it is not added.
+    pub fn room(&self, path: &[Name]) -> Result<(), AddFault>
+        ensures some { IfOk result (λ _. IsOk (room_for self.now.entries path.now)) }
+        ensures fault { IfErr result (λ f. room_for self.now.entries path.now ≡ Err f) }
+    {
+        if path.is_empty() {
+            Err(AddFault::EmptyPath)
+        } else {
+            let last = path.len() - 1;
+            match room(&self.entries, &self.children, &path[..last], &path[last]) {
+                Ok(_) => Ok(()),
+                Err(fault) => Err(fault),
+            }
         }
     }
 
