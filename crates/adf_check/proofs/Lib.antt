@@ -10,3 +10,6 @@ pub mod StartSteps
 pub mod Beginning
 pub mod Counting
 pub mod Telling
+pub mod Following
+pub mod Bytes
+pub mod Rebuilding

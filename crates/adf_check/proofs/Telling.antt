@@ -31,7 +31,7 @@ use Rattle.adf_check.specs.Rows.{BodyTold, EntryTold, IsTold, row_body, row_in}
 use Rattle.adf_check.specs.declared.row.Row.{Row}
 
 -- a block with the form of a header is one
-head_facts : (kind : Kind) (b own parent slot : ℕ) (bytes : List ℕ) → AllHold (told b (head_form kind own parent slot bytes)) → IsHead bytes
+pub head_facts : (kind : Kind) (b own parent slot : ℕ) (bytes : List ℕ) → AllHold (told b (head_form kind own parent slot bytes)) → IsHead bytes
 head_facts kind b own parent slot bytes h =
     let named = and_parts (nat_le _ 30) (is_name (text_at bytes 432)) h.1.1.1.1.1.0 in
     record {
@@ -50,7 +50,7 @@ row_is_head image store st i d lt =
 pub tells_begun : (image : List ℕ) (store : Store) → TellsFit image store → IsBegun image
 tells_begun image store st = all_append (boot_demands image) (root_demands image (root_of image)) st.fits.boots st.fits.root
 
-name_here : (image : List ℕ) (b : ℕ) → text_at (block image b) 432 ≡ name_of image b
+pub name_here : (image : List ℕ) (b : ℕ) → text_at (block image b) 432 ≡ name_of image b
 unfolding name_of
 name_here image b = refl
 

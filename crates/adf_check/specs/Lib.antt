@@ -7,3 +7,6 @@ pub mod Files
 pub mod Start
 pub mod Volumes
 pub mod Rows
+pub mod Lookup
+pub mod Pieces
+pub mod Rebuild

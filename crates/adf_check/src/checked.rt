@@ -1,21 +1,28 @@
 // Volumes that were checked.
 
-ghost use Rattle.std.specs.Prelude.{◌≡◌, ◌≤◌, ◌<◌, ◌↔◌, ℕ, count_by, get_or, length, IsSome, Some};
-ghost use Rattle.adf_tree.specs.Tree.{Tree, entry};
+ghost use Rattle.std.specs.Prelude.{◌≡◌, ◌≤◌, ◌<◌, ◌↔◌, ℕ, count_by, get_or, length, IsSome, Some, IfOk, IfSome, option_map};
+ghost use Rattle.std.specs.List.{All, concat};
+ghost use Rattle.adf_tree.specs.Tree.{Tree, entry, find};
 ghost use Rattle.adf_blocks.specs.Sizes.{blocks};
 ghost use Rattle.adf_volume.specs.declared.owner.Owner.{Owner};
-ghost use Rattle.adf_volume.specs.Layout.{Layout, owned};
+ghost use Rattle.adf_volume.specs.Layout.{Layout, datas_of, owned};
 ghost use Rattle.adf_volume.specs.Lists.{In};
 ghost use Rattle.adf_check.specs.Found.{store_of};
+ghost use Rattle.adf_check.specs.Pieces.{bytes_of};
 ghost use Rattle.adf_check.specs.Rows.{IsTold};
 ghost use Rattle.adf_check.specs.Volumes.{IsChecked, StandsFor, counts_of, is_dir_at};
 
 use crate::found::Found;
 use crate::image::Image;
+use crate::lookup::find;
+use crate::pieces::{Pieces, joined, pieces_of};
+use crate::rebuild::tree_of;
 use crate::row::{Row, row_of};
 use adf_blocks::{Head, SECONDARY_TYPE, ST_DIR};
-use adf_tree::{Kind, Label, Node, Stamps};
+use adf_fields::NoMemory;
+use adf_tree::{Kind, Label, Name, Node, Stamps};
 use adf_volume::{Owner, Row as Kept};
+use std::alloc::Global;
 use std::marker::Model;
 
 /// The numbers of a volume.
@@ -98,6 +105,15 @@ impl Checked<'_> {
         self.stamps
     }
 
+    /// The number of entries, the root not among them.
+    pub fn len(&self) -> usize
+        ensures count { (t : Tree) (l : Layout) → StandsFor self.now t l → result ≡ length t.entries }
+        // There is a tree and a layout that the volume stands for.
+        ensures stands { (t : Tree) × (l : Layout) × StandsFor self.now t l }
+    {
+        self.found.rows.len()
+    }
+
     /// What is told of an entry; None for the root and past the last entry.
     pub fn row(&self, n: Node) -> Option<Row>
         ensures { (t : Tree) (l : Layout) → StandsFor self.now t l → IsTold result (entry t.entries n) }
@@ -108,6 +124,40 @@ impl Checked<'_> {
         let kept = self.found.rows.get(n.0 - 1)?;
         let head = Head::over(self.image.block(kept.head));
         Some(row_of(kept.parent, &head))
+    }
+
+    /// The node that the path leads to, whatever the case of its names; 0 for the empty path.
+    pub fn find(&self, path: &[Name]) -> Option<Node>
+        ensures { (t : Tree) (l : Layout) → StandsFor self.now t l → result ≡ find t.entries path.now }
+    {
+        find(&self.image, &self.found, path)
+    }
+
+    /// The bytes of a file as slices of the image, one for each data block; none of the root, a directory and what is past the
+    /// last entry.
+    pub fn pieces(&self, n: Node) -> Option<Pieces<'_>>
+        ensures joined { (t : Tree) (l : Layout) → StandsFor self.now t l → option_map concat result ≡ bytes_of (entry t.entries n) }
+        ensures one_each { (t : Tree) (l : Layout) → StandsFor self.now t l → IfSome result (λ ps. length ps ≡ length (datas_of l n)) }
+        ensures some { IfSome result (λ ps. All (λ p. 0 < length p) ps) }
+    {
+        pieces_of(&self.image, &self.found, n)
+    }
+
+    /// The bytes of a file; none of the root, a directory and what is past the last entry.
+    pub fn read(&self, alloc: Global, n: Node) -> Result<Option<Vec<u8>>, NoMemory>
+        ensures { (t : Tree) (l : Layout) → StandsFor self.now t l → IfOk result (λ r. option_map (λ v. v.items) r ≡ bytes_of (entry t.entries n)) }
+    {
+        match self.pieces(n) {
+            None => Ok(None),
+            Some(pieces) => Ok(Some(joined(alloc, pieces)?)),
+        }
+    }
+
+    /// The tree of the volume.
+    pub fn to_tree(&self, alloc: Global) -> Result<adf_tree::Tree, NoMemory>
+        ensures { (t : Tree) (l : Layout) → StandsFor self.now t l → IfOk result (λ u. u ≡ t) }
+    {
+        tree_of(self, alloc)
     }
 
     /// The numbers of the volume.

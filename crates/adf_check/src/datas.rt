@@ -43,7 +43,7 @@ fn chunk(kind: Kind) -> u64
 
 // The data blocks of a file of so many bytes.
 #[tactic(auto, unfolding(adf_volume::specs::Image::count))]
-fn count_of(kind: Kind, size: u32) -> u32
+pub(crate) fn count_of(kind: Kind, size: u32) -> u32
     ensures { result ≡ count kind size }
 {
     let chunk = chunk(kind);
@@ -52,7 +52,7 @@ fn count_of(kind: Kind, size: u32) -> u32
 
 // The bytes that data block `number`, from 1 on, of an OFS file of so many bytes holds.
 #[tactic(auto, unfolding(adf_volume::specs::Image::held, adf_volume::specs::Image::chunk))]
-fn held_in(size: u32, number: u32) -> u32
+pub(crate) fn held_in(size: u32, number: u32) -> u32
     requires { 1 ≤ number }
     ensures exact { result ≡ held Ofs size number }
     ensures small { result ≤ 488 }

@@ -44,6 +44,14 @@ impl<'a> Image<'a> {
         }
     }
 
+    // The bytes of the image.
+    pub fn bytes(&self) -> &'a [u8]
+        ensures bytes { result.now ≡ self.now }
+        ensures begun { IsBegun self.now }
+    {
+        self.bytes
+    }
+
     // The kind of the volume.
     pub fn kind(&self) -> Kind
         ensures kind { result ≡ kind_of self.now }

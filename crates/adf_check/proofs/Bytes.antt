@@ -1,0 +1,149 @@
+-- The bytes of files, piece by piece.
+use Rattle.std.proofs.Common.{◌≡◌, ◌≢◌, inr, ℕ, zero, suc, List, [], ◌∷◌, ◌+◌, ◌-◌, ◌*◌, ◌^◌, ◌<◌, ◌≤◌, length, take, drop, get_or, refl, sym, ap, subst, ◌∙◌, arith, Option, Some, None, length-take, length-drop}
+use Rattle.std.specs.Prelude.{slice_range}
+use Rattle.std.specs.List.{All, concat}
+use Rattle.std.proofs.lemmas.List.{take-take}
+use Rattle.adf_fields.specs.Words.{block}
+use Rattle.adf_tree.specs.declared.entry.Body.{Body}
+use Rattle.adf_tree.specs.declared.entry.Body.TheVariants.{Dir, File}
+use Rattle.adf_tree.specs.declared.entry.Entry.{Entry}
+use Rattle.adf_tree.specs.declared.entry.Kind.{Kind}
+use Rattle.adf_tree.specs.declared.entry.Kind.TheVariants.{Ofs, Ffs}
+use Rattle.adf_tree.specs.Tree.{Tree, entry}
+use Rattle.adf_blocks.specs.Sizes.{blocks}
+use Rattle.adf_volume.specs.declared.owner.Owner.{Owner}
+use Rattle.adf_volume.specs.declared.owner.Owner.TheVariants.{Data, Page, MapExt}
+use Rattle.adf_volume.specs.declared.row.Start.{Start}
+use Rattle.adf_volume.specs.Fits.{BodyFits}
+use Rattle.adf_volume.specs.Image.{DIR, area, chunk, content, count, held, kind_of, piece, pieces, word_in}
+use Rattle.adf_volume.specs.Keeps.{Keeps}
+use Rattle.adf_volume.specs.Layout.{EntryAt, Layout, at_node, datas_of, owned_from}
+use Rattle.adf_volume.specs.Lists.{At, In, numbered}
+use Rattle.adf_volume.specs.Store.{Store}
+use Rattle.adf_volume.proofs.Images.{area_length}
+use Rattle.adf_volume.proofs.Lists.{at_index_or, at_some, in_right}
+use Rattle.adf_volume.proofs.Parts.{owned_data}
+use Rattle.adf_volume.proofs.Pieces.{held_some, pieces_joined}
+use Rattle.adf_volume.proofs.Trees.{entry_is_at, entry_some}
+use Rattle.adf_check.proofs.Following.{body_dir}
+use Rattle.adf_check.specs.Pieces.{AreInside, bytes_in, bytes_of}
+
+-- one data block less
+pub inside_next : (image ds others : List ℕ) (x k : ℕ) → ds ≡ x ∷ others → AreInside image ds k → AreInside image others (k + 1)
+inside_next image ds others x k e h =
+    let n : length ds ≡ suc (length others) = ap length e in
+    record {
+      inside = (λ i d lt. subst (λ xs. get_or xs (suc i) d * 512 + 512 ≤ length image) e (h.inside (suc i) d (omega arith)));
+      from = omega arith;
+      few = omega (arith, h.few);
+    }
+
+-- what a data block holds is the first part of its data area
+pub piece_ofs : (size k n : ℕ) (b : List ℕ) → n ≡ held Ofs size k → n ≤ 488 → slice_range b 24 (24 + n) ≡ piece Ofs size k b
+unfolding area
+piece_ofs size k n b e le =
+    let z : 24 + n - 24 ≡ n = omega arith in
+    ap (λ m. take m (drop 24 b)) z ∙ sym (take-take n 488 (drop 24 b) le) ∙ ap (λ m. take m (take 488 (drop 24 b))) e
+
+pub piece_ffs : (size k n : ℕ) (b : List ℕ) → n ≡ held Ffs size k → n ≤ 512 → slice_range b 0 (0 + n) ≡ piece Ffs size k b
+unfolding area
+piece_ffs size k n b e le =
+    let z : 0 + n - 0 ≡ n = omega arith in
+    ap (λ m. take m (drop 0 b)) z ∙ sym (take-take n 512 (drop 0 b) le) ∙ ap (λ m. take m (take 512 (drop 0 b))) e
+
+-- a part of a list with so many members lies in it
+pub part_inside : (ds ys : List ℕ) (x c : ℕ) → take (length ys) (drop x ds) ≡ ys → length ys ≡ c → c ≢ 0 → x + c ≤ length ds
+part_inside ds ys x c e n ne =
+    let a = sym (length-take (length ys) (drop x ds)) ∙ ap length e in
+    let b = length-drop x ds in
+    omega arith
+
+at_or : {X : Type 0} (xs : List X) (i : ℕ) (d : X) → i < length xs → At xs i (get_or xs i d)
+at_or xs i d lt = let x = at_some xs i lt in subst (At xs i) (sym (at_index_or xs i x.0 d x.1)) x.1
+
+count_small : (kind : Kind) (size : ℕ) → size < 2 ^ 32 → 1 + count kind size < 2 ^ 32
+unfolding count chunk
+count_small Ofs size h = omega arith
+count_small Ffs size h = omega arith
+
+-- no piece is empty
+some_from : (image : List ℕ) (kind : Kind) (size j : ℕ) (bs : List ℕ) → length image ≡ 512 * blocks image → ((i b : ℕ) → At bs i b → b < blocks image) → j + length bs ≤ count kind size → All (λ p. 0 < length p) (pieces image kind size (suc j) bs)
+some_from image kind size j [] z w le = λ i d lt. absurd (omega arith)
+some_from image kind size j (b ∷ bs) z w le = go (some_from image kind size (suc j) bs z (λ i c h. w (suc i) c h) (omega arith))
+  where
+    go : All (λ p. 0 < length p) (pieces image kind size (suc (suc j)) bs) → (i : ℕ) (d : List ℕ) → i < length (pieces image kind size (suc j) (b ∷ bs)) → 0 < length (get_or (pieces image kind size (suc j) (b ∷ bs)) i d)
+    go rest zero d lt =
+        let a : length (area kind (block image b)) ≡ chunk kind = area_length image kind b z (w 0 b refl) in
+        let h = held_some kind size j (omega arith) in
+        let x = length-take (held kind size (suc j)) (area kind (block image b)) in
+        omega (arith, h.0, h.1)
+    go rest (suc i) d lt = rest i d (omega arith)
+
+body_other : (image : List ℕ) (kind : Kind) (l : Layout) (n h : ℕ) (body : Body) → BodyFits image kind l n h body → word_in image h 127 ≢ DIR → (bytes : List ℕ) × (body ≡ File bytes)
+body_other image kind l n h Dir f w = absurd (w f.0)
+body_other image kind l n h (File bytes) f w = (bytes, refl)
+
+module _ (image : List ℕ) (store : Store) (t : Tree) (l : Layout) (k : Keeps image store t l) where
+  data_range : (n i b : ℕ) → At (datas_of l n) i b → b < blocks image
+  data_range zero i b h = absurd h
+  data_range (suc n) i b h =
+      let one : 1 + n ≡ suc n = omega arith in
+      let here : Owner × ℕ = (Data (suc n) (suc i), b) in
+      let x : In (owned_from 1 l.places) (Data (suc n) (suc i), b) = subst (λ m. In (owned_from 1 l.places) (Data m (suc i), b)) one (owned_data 1 l.places n i b h) in
+      (k.fits.range (Data (suc n) (suc i)) b (inr (in_right (numbered Page 0 l.pages) _ here (in_right (numbered MapExt 0 l.map_exts) (owned_from 1 l.places) here x)))).1
+
+  whole : length image ≡ 512 * blocks image
+  whole = k.fits.boots.0.0
+
+  -- the data blocks of a node stand in the list of all, from its start on
+  pub datas_here : (n : ℕ) (x : Start) → n ≤ length store.rows → x ≡ get_or store.starts n x → take (length (datas_of l n)) (drop x.datas store.datas) ≡ datas_of l n
+  datas_here n x le e =
+      let c : length store.starts ≡ suc (length store.rows) = k.starts.count in
+      k.starts.datas n x (subst (At store.starts n) (sym e) (at_or store.starts n x (omega arith)))
+
+  -- entry n, whose header is h
+  module _ (n h : ℕ) (ne : n ≢ 0) (le : n ≤ length store.rows) (e : h ≡ at_node image l n) where
+    here : (x : Entry) × EntryAt t n x
+    here =
+        let c : length store.rows ≡ length t.entries = k.rows.count in
+        entry_some t n (omega arith) (omega arith)
+
+    body_fits : BodyFits image t.kind l n h here.0.body
+    body_fits = subst (λ b. BodyFits image t.kind l n b here.0.body) (sym e) (k.fits.entries n here.0 here.1).body
+
+    told : bytes_of (entry t.entries n) ≡ bytes_in here.0.body
+    told = ap bytes_of ((entry_is_at t n here.0).0 here.1)
+
+    pub dir_bytes : word_in image h 127 ≡ DIR → ◌≡◌ {A = Option (List ℕ)} None (bytes_of (entry t.entries n))
+    dir_bytes w = sym (told ∙ ap bytes_in (body_dir image store t l k n h here.0.body body_fits w))
+
+    module _ (w : word_in image h 127 ≢ DIR) where
+      file : (bytes : List ℕ) × (here.0.body ≡ File bytes)
+      file = body_other image t.kind l n h here.0.body body_fits w
+
+      file_fits : BodyFits image t.kind l n h (File file.0)
+      file_fits = subst (BodyFits image t.kind l n h) file.1 body_fits
+
+      pub data_count_is : length (datas_of l n) ≡ count (kind_of image) (word_in image h 81)
+      data_count_is = (k.fits.files n here.0 file.0 here.1 file.1).datas ∙ ap (count t.kind) file_fits.2 ∙ ap (λ kind. count kind (word_in image h 81)) k.fits.kind
+
+      pub file_bytes : Some (concat (pieces image (kind_of image) (word_in image h 81) 1 (datas_of l n))) ≡ bytes_of (entry t.entries n)
+      file_bytes =
+          ap Some (pieces_joined image (kind_of image) h (datas_of l n) whole (data_range n) ∙ ap (λ kind. content image kind h (datas_of l n)) (sym k.fits.kind) ∙ sym file_fits.1)
+          ∙ sym (told ∙ ap bytes_in file.1)
+
+      pub file_inside : word_in image h 81 < 2 ^ 32 → AreInside image (datas_of l n) 1
+      file_inside small =
+          let c = data_count_is in
+          let s = count_small (kind_of image) (word_in image h 81) small in
+          let size : length image ≡ 512 * blocks image = whole in
+          record {
+            inside = (λ i d lt. let b : get_or (datas_of l n) i d < blocks image = data_range n i (get_or (datas_of l n) i d) (at_or (datas_of l n) i d lt) in omega arith);
+            from = omega arith;
+            few = omega arith;
+          }
+
+      pub file_some : All (λ p. 0 < length p) (pieces image (kind_of image) (word_in image h 81) 1 (datas_of l n))
+      file_some =
+          let c = data_count_is in
+          some_from image (kind_of image) (word_in image h 81) 0 (datas_of l n) whole (data_range n) (omega arith)

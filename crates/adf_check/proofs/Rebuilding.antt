@@ -1,0 +1,56 @@
+-- The entries of a tree, built again one after the other.
+use Rattle.std.proofs.Common.{◌≡◌, ℕ, suc, [], ◌∷◌, ◌++◌, ◌+◌, ◌<◌, ◌≤◌, length, take, take_all, get_or, refl, sym, ap, subst, ◌∙◌, arith, Option, Some, None}
+use Rattle.std.specs.Prelude.{IsSome}
+use Rattle.std.proofs.lemmas.List.{take_more}
+use Rattle.adf_tree.specs.declared.entry.Body.{Body}
+use Rattle.adf_tree.specs.declared.entry.Body.TheVariants.{Dir, File}
+use Rattle.adf_tree.specs.declared.entry.Entry.{Entry}
+use Rattle.adf_tree.specs.Laws.{IsNext}
+use Rattle.adf_tree.specs.Tree.{IsTree, Tree, entry, with_last}
+use Rattle.adf_tree.proofs.Prefixes.{is_next}
+use Rattle.adf_volume.proofs.Lists.{at_index_or, at_some}
+use Rattle.adf_volume.proofs.Trees.{entry_is_at}
+use Rattle.adf_check.specs.Pieces.{bytes_in, bytes_of}
+use Rattle.adf_check.specs.Rebuild.{body_of}
+use Rattle.adf_check.specs.Rows.{IsTold}
+use Rattle.adf_check.specs.declared.row.Row.{Row}
+
+body_back : (body : Body) → body_of (bytes_in body) ≡ body
+body_back Dir = refl
+body_back (File bytes) = refl
+
+-- what is told of an entry, with its bytes, is the entry
+pub entry_back : (r : Row) (body : Body) (x : Option Entry) → IsTold (Some r) x → body ≡ body_of (bytes_of x) → ◌≡◌ {A = Option Entry} (Some (record { parent = r.parent; name = r.name; meta = r.meta; body = body })) x
+entry_back r body None h b = absurd h
+entry_back r body (Some e) h b =
+    let same : body ≡ e.body = b ∙ body_back e.body in
+    λ i. Some (record { parent = h.parent i; name = h.name i; meta = h.meta i; body = same i })
+
+-- there is an entry with each number up to the last
+pub some_entry : (t : Tree) (n i : ℕ) (x : Option Entry) → n ≡ i + 1 → i < length t.entries → x ≡ entry t.entries n → IsSome x
+some_entry t n i x z lt e =
+    let k : i + 1 ≡ suc i = omega arith in
+    let v = at_some t.entries i lt in
+    subst IsSome (sym (e ∙ ap (entry t.entries) (z ∙ k) ∙ (entry_is_at t (suc i) v.0).0 v.1)) refl
+
+entry_here : (t : Tree) (i : ℕ) (x : Entry) → Some x ≡ entry t.entries (i + 1) → get_or t.entries i x ≡ x
+entry_here t i x e =
+    let k : i + 1 ≡ suc i = omega arith in
+    at_index_or t.entries i x x ((entry_is_at t (suc i) x).1 (sym (e ∙ ap (entry t.entries) k)))
+
+-- each entry may be added behind those before it
+pub next_entry : (t : Tree) (i : ℕ) (x : Entry) → IsTree t.entries → i < length t.entries → Some x ≡ entry t.entries (i + 1) → IsNext t.entries i x
+next_entry t i x tree lt e = subst (IsNext t.entries i) (entry_here t i x e) (is_next t.entries i x tree lt)
+
+-- the first entries and the next one
+pub tree_more : (t : Tree) (i : ℕ) (x : Entry) → i < length t.entries → Some x ≡ entry t.entries (i + 1)
+    → with_last (record { kind = t.kind; label = t.label; stamps = t.stamps; entries = take i t.entries }) x ≡ record { kind = t.kind; label = t.label; stamps = t.stamps; entries = take (i + 1) t.entries }
+tree_more t i x lt e =
+    let z : take i t.entries ++ x ∷ [] ≡ take (i + 1) t.entries = ap (λ y. take i t.entries ++ y ∷ []) (sym (entry_here t i x e)) ∙ sym (take_more t.entries i x lt) in
+    λ j. record { kind = t.kind; label = t.label; stamps = t.stamps; entries = z j }
+
+-- all entries
+pub tree_whole : (t : Tree) (i : ℕ) → length t.entries ≤ i → ◌≡◌ {A = Tree} (record { kind = t.kind; label = t.label; stamps = t.stamps; entries = take i t.entries }) t
+tree_whole t i h =
+    let z : take i t.entries ≡ t.entries = take_all i t.entries h in
+    λ j. record { kind = t.kind; label = t.label; stamps = t.stamps; entries = z j }

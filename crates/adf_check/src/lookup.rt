@@ -1,0 +1,93 @@
+// Look-up along the chains of an image.
+
+ghost use Rattle.std.specs.Prelude.{◌≡◌, ◌≢◌, ◌≤◌, ◌<◌, ◌+◌, length, map, IfSome};
+ghost use Rattle.adf_tree.specs.Tree.{Tree, child, find_from};
+ghost use Rattle.adf_blocks.specs.Sizes.{blocks};
+ghost use Rattle.adf_volume.specs.Image.{word_in};
+ghost use Rattle.adf_volume.specs.Keeps.{Keeps};
+ghost use Rattle.adf_volume.specs.Layout.{Layout, at_node, chain_nodes};
+ghost use Rattle.adf_volume.specs.Lists.{Spelled};
+ghost use Rattle.adf_volume.specs.Reading.{TellsFit};
+ghost use Rattle.adf_volume.specs.Store.{owner_at};
+ghost use Rattle.adf_check.specs.Found.{store_of};
+ghost use Rattle.adf_check.specs.Lookup.{headed};
+
+use crate::found::Found;
+use crate::image::Image;
+use crate::owners::Owners;
+use adf_blocks::{FIRST_SLOT, Head, SECONDARY_TYPE, ST_DIR};
+use adf_fields::slot;
+use adf_tree::{Name, Node};
+use adf_volume::Owner;
+
+/// The block of a node.
+pub fn block_of(image: &Image<'_>, found: &Found, node: Node) -> u32
+    requires tells { TellsFit image.now (store_of found.now) }
+    requires node { node ≤ length found.now.rows.items }
+    ensures block { (t : Tree) (l : Layout) → Keeps image.now (store_of found.now) t l → result ≡ at_node image.now l node }
+    ensures inside { result < blocks image.now }
+{
+    if node.0 == 0 {
+        return image.root();
+    }
+    found.rows[node.0 - 1].head
+}
+
+// The node whose header is at a block.
+fn node_at(owners: &Owners, b: u32) -> Option<Node>
+    requires { b < length owners.now }
+    ensures { result ≡ headed (owner_at owners.now b) }
+{
+    match owners.get(b) {
+        Owner::Head(node) => Some(node),
+        _ => None,
+    }
+}
+
+// The first header in the chain of a slot of a node, or 0: a file has no chain.
+fn first_of(image: &Image<'_>, found: &Found, parent: Node, slot: u8) -> u32
+    requires tells { TellsFit image.now (store_of found.now) }
+    requires node { parent ≤ length found.now.rows.items }
+    requires slot { slot < 72 }
+    ensures { (t : Tree) (l : Layout) → Keeps image.now (store_of found.now) t l
+        → Spelled (λ b. word_in image.now b 124) result (map (at_node image.now l) (chain_nodes t parent slot)) }
+{
+    let up = block_of(image, found, parent);
+    if parent.0 != 0 && image.word(up, SECONDARY_TYPE) != ST_DIR {
+        return 0;
+    }
+    image.word(up, FIRST_SLOT + slot as usize)
+}
+
+/// The entry with this parent and this name, whatever the case.
+pub fn child(image: &Image<'_>, found: &Found, parent: Node, name: &Name) -> Option<Node>
+    requires tells { TellsFit image.now (store_of found.now) }
+    requires node { parent ≤ length found.now.rows.items }
+    ensures found { (t : Tree) (l : Layout) → Keeps image.now (store_of found.now) t l → result ≡ child t.entries parent name.now }
+    ensures node { IfSome result (λ n. n ≤ length found.now.rows.items) }
+{
+    let mut b = first_of(image, found, parent, slot(name.bytes()));
+    while b != 0 {
+        let head = Head::over(image.block(b));
+        if head.name().same(name) {
+            return node_at(&found.owners, b);
+        }
+        b = head.next();
+    }
+    None
+}
+
+/// The node that the path leads to.
+pub fn find(image: &Image<'_>, found: &Found, path: &[Name]) -> Option<Node>
+    requires { TellsFit image.now (store_of found.now) }
+    ensures { (t : Tree) (l : Layout) → Keeps image.now (store_of found.now) t l → result ≡ find_from t.entries 0 path.now }
+{
+    let mut node = Node(0);
+    for name in path {
+        match child(image, found, node, name) {
+            None => return None,
+            Some(n) => node = n,
+        }
+    }
+    Some(node)
+}

@@ -1,0 +1,160 @@
+// The bytes of files, piece by piece.
+
+ghost use Rattle.std.specs.Prelude.{List, ◌≡◌, ◌≢◌, ◌≤◌, ◌<◌, ◌+◌, ◌++◌, ℕ, length, option_map, take, drop, IfOk, IfSome};
+ghost use Rattle.std.specs.Iterator.{YieldsFirstRef, item_count};
+ghost use Rattle.std.specs.List.{All, concat};
+ghost use Rattle.adf_tree.specs.Tree.{Tree, entry};
+ghost use Rattle.adf_tree.specs.declared.entry.Kind.TheVariants.{Ffs};
+ghost use Rattle.adf_blocks.specs.Sizes.{blocks};
+ghost use Rattle.adf_volume.specs.Image.{DIR, count, held, kind_of, piece, pieces, word_in};
+ghost use Rattle.adf_volume.specs.Keeps.{Keeps};
+ghost use Rattle.adf_volume.specs.Layout.{Layout, at_node, datas_of};
+ghost use Rattle.adf_volume.specs.Reading.{TellsFit};
+ghost use Rattle.adf_check.specs.Found.{store_of};
+ghost use Rattle.adf_check.specs.Pieces.{AreInside, bytes_of};
+
+use crate::datas::{count_of, held_in};
+use crate::found::Found;
+use crate::image::Image;
+use crate::lookup::block_of;
+use adf_blocks::{SECONDARY_TYPE, SIZE, ST_DIR};
+use adf_fields::{Block, NoMemory};
+use adf_tree::{Kind, Node};
+use std::alloc::Global;
+use std::marker::Model;
+
+/// The pieces of a file, one for each data block, that are left: slices of the image.
+#[derive(Drop)]
+pub struct Pieces<'a> {
+    bytes: &'a [u8],
+    kind: Kind,
+    size: u32,
+    number: u32,
+    datas: &'a [u32],
+}
+
+impl<'a> Model for Pieces<'a> {
+    ghost use Rattle.std.specs.Prelude.{List, ℕ};
+    ghost use Rattle.adf_volume.specs.Image.{pieces};
+    ghost use Rattle.adf_check.specs.Pieces.{AreInside};
+
+    ghost Value = { List (List ℕ) };
+
+    ghost view = { λ p. pieces p.bytes.now p.kind p.size p.number p.datas.now };
+
+    ghost invariant = { λ p. AreInside p.bytes.now p.datas.now p.number };
+}
+
+// The bytes that data block `number`, from 1 on, of an FFS file of so many bytes holds.
+#[tactic(auto, unfolding(adf_volume::specs::Image::held, adf_volume::specs::Image::chunk))]
+fn held_in_ffs(size: u32, number: u32) -> u32
+    requires { 1 ≤ number }
+    ensures exact { result ≡ held Ffs size number }
+    ensures small { result ≤ 512 }
+{
+    let end = 512 * u64::from(number);
+    let size = u64::from(size);
+    if end < size {
+        512
+    } else {
+        size.saturating_sub(end - 512) as u32
+    }
+}
+
+// What data block `number`, from 1 on, of a file of so many bytes holds of it.
+fn piece_of<'a>(b: Block<'a>, kind: Kind, size: u32, number: u32) -> &'a [u8]
+    requires { 1 ≤ number }
+    ensures { result.now ≡ piece kind size number b.entry }
+{
+    match kind {
+        Kind::Ofs => b.bytes(24, held_in(size, number) as usize),
+        Kind::Ffs => b.bytes(0, held_in_ffs(size, number) as usize),
+    }
+}
+
+impl<'a> Iterator for Pieces<'a> {
+    type Item = &'a [u8];
+
+    ghost next_gives = { YieldsFirstRef (λ s. s) };
+
+    ghost remaining = { item_count (λ s. s) };
+
+    fn next(&mut self) -> Option<&'a [u8]> {
+        let (b, others) = self.datas.split_first()?;
+        let block = Block::at(self.bytes, *b).unwrap();
+        let piece = piece_of(block, self.kind, self.size, self.number);
+        self.datas = others;
+        self.number += 1;
+        Some(piece)
+    }
+}
+
+impl<'a> Pieces<'a> {
+    // The pieces of a file of so many bytes with these data blocks.
+    fn new(bytes: &'a [u8], kind: Kind, size: u32, datas: &'a [u32]) -> Pieces<'a>
+        requires { AreInside bytes.now datas.now 1 }
+        ensures { result ≡ pieces bytes.now kind size 1 datas.now }
+    {
+        Pieces {
+            bytes,
+            kind,
+            size,
+            number: 1,
+            datas,
+        }
+    }
+}
+
+// So many members of a list, from a place on.
+fn part(xs: &[u32], from: usize, len: usize) -> &[u32]
+    requires { from + len ≤ length xs.now }
+    ensures { result.now ≡ take len (drop from xs.now) }
+{
+    &xs[from..from + len]
+}
+
+// The data blocks of file `n` of so many bytes.
+fn datas_of<'a>(image: &Image<'_>, found: &'a Found, n: Node, size: u32) -> &'a [u32]
+    requires tells { TellsFit image.now (store_of found.now) }
+    requires node { n ≤ length found.now.rows.items }
+    requires size { (t : Tree) (l : Layout) → Keeps image.now (store_of found.now) t l → length (datas_of l n) ≡ count (kind_of image.now) size }
+    ensures { (t : Tree) (l : Layout) → Keeps image.now (store_of found.now) t l → result.now ≡ datas_of l n }
+{
+    let count = count_of(image.kind(), size) as usize;
+    if count == 0 {
+        return &[];
+    }
+    part(&found.datas, found.starts[n.0].datas, count)
+}
+
+/// The pieces of a file; none of the root, a directory and what is past the last entry.
+pub fn pieces_of<'a>(image: &Image<'a>, found: &'a Found, n: Node) -> Option<Pieces<'a>>
+    requires { TellsFit image.now (store_of found.now) }
+    ensures joined { (t : Tree) (l : Layout) → Keeps image.now (store_of found.now) t l → option_map concat result ≡ bytes_of (entry t.entries n) }
+    ensures one_each { (t : Tree) (l : Layout) → Keeps image.now (store_of found.now) t l → IfSome result (λ ps. length ps ≡ length (datas_of l n)) }
+    ensures some { IfSome result (λ ps. All (λ p. 0 < length p) ps) }
+{
+    if n.0 == 0 || found.rows.len() < n.0 {
+        return None;
+    }
+    let head = block_of(image, found, n);
+    if image.word(head, SECONDARY_TYPE) == ST_DIR {
+        return None;
+    }
+    let size = image.word(head, SIZE);
+    let datas = datas_of(image, found, n, size);
+    Some(Pieces::new(image.bytes(), image.kind(), size, datas))
+}
+
+/// The pieces, one after the other.
+pub fn joined(alloc: Global, pieces: Pieces<'_>) -> Result<Vec<u8>, NoMemory>
+    ensures { IfOk result (λ v. v.items ≡ concat pieces.entry) }
+{
+    let mut bytes = Vec::new(alloc);
+    for piece in pieces {
+        if bytes.extend_from_slice(piece).is_err() {
+            return Err(NoMemory);
+        }
+    }
+    Ok(bytes)
+}
