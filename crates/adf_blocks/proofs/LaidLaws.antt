@@ -50,6 +50,15 @@ number_there : (bs : List ℕ) (i w : ℕ) → slice_range bs (4 * i) (4 * i + 4
 unfolding word
 number_there bs i w h = ap (big_number 4) h
 
+-- the number in a word that was put down, where nothing is sealed
+pub laid_long : (fs : List Field) (k i w : ℕ) → Descends 512 fs → k < length fs → get_or fs k (0, []) ≡ (4 * i, long w)
+    → word (laid fs) i ≡ big_number 4 (long w)
+laid_long fs k i w d lt e =
+    let n = length_big_bytes 4 w in
+    let z : 4 * i + length (long w) ≡ 4 * i + 4 = omega arith in
+    let there : slice_range (laid fs) (4 * i) (4 * i + length (long w)) ≡ long w = rw e at (nth_field 512 fs k (0, []) (omega arith) d lt) in
+    number_there (laid fs) i w (ap (slice_range (laid fs) (4 * i)) (sym z) ∙ there)
+
 -- the number in a word that was put down
 pub number_of_field : (fs : List Field) (k i w : ℕ) → Descends 512 fs → k < length fs → get_or fs k (0, []) ≡ (4 * i, long w) → i ≢ 5
     → word (sealed 5 (laid fs)) i ≡ big_number 4 (long w)
@@ -88,10 +97,10 @@ longs_at (w ∷ ws) (suc s) lt =
     let n : 4 * suc s + 4 - 4 * suc s ≡ 4 * s + 4 - 4 * s = omega arith in
     ap (take (4 * suc s + 4 - 4 * suc s)) skip ∙ ap (λ k. take k (drop (4 * s) (longs ws))) n ∙ longs_at ws s (omega arith)
 
--- the number in a word of words that were put down
-pub numbers_of_field : (c : ℕ) (fs : List Field) (k i s : ℕ) (ws : List ℕ) → c < 128 → Descends 512 fs → k < length fs → get_or fs k (0, []) ≡ (4 * i, longs ws) → s < length ws → i + s ≢ c
-    → word (sealed c (laid fs)) (i + s) ≡ big_number 4 (long (slice_index ws s))
-numbers_of_field c fs k i s ws in_block d lt e in_words other =
+-- the number in a word of words that were put down, where nothing is sealed
+pub laid_longs : (fs : List Field) (k i s : ℕ) (ws : List ℕ) → Descends 512 fs → k < length fs → get_or fs k (0, []) ≡ (4 * i, longs ws) → s < length ws
+    → word (laid fs) (i + s) ≡ big_number 4 (long (slice_index ws s))
+laid_longs fs k i s ws d lt e in_words =
     let n = length-laid 512 fs (omega arith) d in
     let there : slice_range (laid fs) (4 * i) (4 * i + length (longs ws)) ≡ longs ws = rw e at (nth_field 512 fs k (0, []) (omega arith) d lt) in
     let m = length_longs ws in
@@ -103,8 +112,14 @@ numbers_of_field c fs k i s ws in_block d lt e in_words other =
     ∙ sym (sub_range (laid fs) (4 * i) (4 * i + length (longs ws)) (4 * s) (4 * s + 4) (omega arith) (omega arith))
     ∙ ap (λ xs. slice_range xs (4 * s) (4 * s + 4)) there
     ∙ longs_at ws s in_words in
-    word-with_word_other (laid fs) c (checksum c (laid fs)) (i + s) (omega arith) other
-    ∙ number_there (laid fs) (i + s) (slice_index ws s) part
+    number_there (laid fs) (i + s) (slice_index ws s) part
+
+-- the number in a word of words that were put down
+pub numbers_of_field : (c : ℕ) (fs : List Field) (k i s : ℕ) (ws : List ℕ) → c < 128 → Descends 512 fs → k < length fs → get_or fs k (0, []) ≡ (4 * i, longs ws) → s < length ws → i + s ≢ c
+    → word (sealed c (laid fs)) (i + s) ≡ big_number 4 (long (slice_index ws s))
+numbers_of_field c fs k i s ws in_block d lt e in_words other =
+    let n = length-laid 512 fs (omega arith) d in
+    word-with_word_other (laid fs) c (checksum c (laid fs)) (i + s) (omega arith) other ∙ laid_longs fs k i s ws d lt e in_words
 
 -- a word of words that were put down
 pub words_of_field : (c : ℕ) (fs : List Field) (k i s : ℕ) (ws : List ℕ) → c < 128 → Descends 512 fs → k < length fs → get_or fs k (0, []) ≡ (4 * i, longs ws) → s < length ws → i + s ≢ c → slice_index ws s < 2 ^ 32
@@ -156,12 +171,15 @@ zero_word i lt =
     ∙ ap (λ k. take k (replicate (512 - 4 * i) 0)) n
     ∙ take-replicate 4 (512 - 4 * i) 0 (omega arith)
 
+-- a word that no field is put over, where nothing is sealed
+pub laid_between : (fs : List Field) (i : ℕ) → Descends 512 fs → i < 128 → Apart (4 * i) (4 * i + 4) fs → word (laid fs) i ≡ 0
+laid_between fs i d lt apart = number_there (laid fs) i 0 (range_between 512 (4 * i) (4 * i + 4) fs (omega arith) d apart ∙ zero_word i lt)
+
 -- a word that no field is put over
 pub word_between : (fs : List Field) (i : ℕ) → Descends 512 fs → i < 128 → Apart (4 * i) (4 * i + 4) fs → i ≢ 5 → word (sealed 5 (laid fs)) i ≡ 0
 word_between fs i d lt apart other =
     let n = length-laid 512 fs (omega arith) d in
-    word-with_word_other (laid fs) 5 (checksum 5 (laid fs)) i (omega arith) other
-    ∙ number_there (laid fs) i 0 (range_between 512 (4 * i) (4 * i + 4) fs (omega arith) d apart ∙ zero_word i lt)
+    word-with_word_other (laid fs) 5 (checksum 5 (laid fs)) i (omega arith) other ∙ laid_between fs i d lt apart
 
 -- the number in word i - j where words were put down from word i on, downwards: word j of these, or 0 past the last
 pub pointer_number : (fs : List Field) (k i j : ℕ) (ws : List ℕ) → Descends 512 fs → k < length fs → get_or fs k (0, []) ≡ downwards i ws → length ws + 5 ≤ i → j + 5 < i → i < 128

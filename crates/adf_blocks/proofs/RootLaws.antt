@@ -15,7 +15,7 @@ pub root_descends : (r : RootFields) → FitsRoot r → Descends 512 (root_table
 root_descends r h =
     let slots = length_longs r.slots in
     let pages = length_longs r.pages in
-    (omega arith, (omega arith, (omega arith, (omega (arith, h.label), (omega arith, (omega (arith, h.pages), (omega arith, (omega (arith, h.slots), (omega arith, (omega arith, tt))))))))))
+    (omega arith, (omega arith, (omega arith, (omega (arith, h.label), (omega arith, (omega arith, (omega (arith, h.pages), (omega arith, (omega (arith, h.slots), (omega arith, (omega arith, tt)))))))))))
 
 -- the words of a root
 pub root_block-sum : (r : RootFields) → FitsRoot r → long_sum (root_block r) ≡ 0
@@ -24,7 +24,7 @@ root_block-sum r h = sum_of_laid (root_table r) (root_descends r h)
 
 pub root_block-type : (r : RootFields) → FitsRoot r → word (root_block r) 0 ≡ 2
 unfolding root_block
-root_block-type r h = word_of_field (root_table r) 9 0 2 (root_descends r h) (omega arith) refl (omega arith) (omega arith)
+root_block-type r h = word_of_field (root_table r) 10 0 2 (root_descends r h) (omega arith) refl (omega arith) (omega arith)
 
 pub root_block-secondary : (r : RootFields) → FitsRoot r → word (root_block r) 127 ≡ 1
 unfolding root_block
@@ -32,16 +32,16 @@ root_block-secondary r h = word_of_field (root_table r) 0 127 1 (root_descends r
 
 pub root_block-valid : (r : RootFields) → FitsRoot r → word (root_block r) 78 ≡ 0xFFFFFFFF
 unfolding root_block
-root_block-valid r h = word_of_field (root_table r) 6 78 0xFFFFFFFF (root_descends r h) (omega arith) refl (omega arith) (omega arith)
+root_block-valid r h = word_of_field (root_table r) 7 78 0xFFFFFFFF (root_descends r h) (omega arith) refl (omega arith) (omega arith)
 
 -- a slot of a root
 pub root_block-slot : (r : RootFields) (s : ℕ) → FitsRoot r → s < 72 → slice_index r.slots s < 2 ^ 32 → word (root_block r) (6 + s) ≡ slice_index r.slots s
 unfolding root_block
-root_block-slot r s h lt small = words_of_field 5 (root_table r) 7 6 s r.slots (omega arith) (root_descends r h) (omega arith) refl (omega (arith, h.slots)) (omega arith) small
+root_block-slot r s h lt small = words_of_field 5 (root_table r) 8 6 s r.slots (omega arith) (root_descends r h) (omega arith) refl (omega (arith, h.slots)) (omega arith) small
 
 pub root_block-hash_size : (r : RootFields) → FitsRoot r → word (root_block r) 3 ≡ 72
 unfolding root_block
-root_block-hash_size r h = word_of_field (root_table r) 8 3 72 (root_descends r h) (omega arith) refl (omega arith) (omega arith)
+root_block-hash_size r h = word_of_field (root_table r) 9 3 72 (root_descends r h) (omega arith) refl (omega arith) (omega arith)
 
 pub root_block-label : (r : RootFields) → FitsRoot r → (slice_index (root_block r) 432 ≡ length r.label) × (text_at (root_block r) 432 ≡ r.label)
 unfolding root_block
@@ -55,15 +55,20 @@ root_block-text r h = (root_block-label r h).1
 pub root_block-page : (r : RootFields) (i : ℕ) → FitsRoot r → i < 25 → slice_index r.pages i < 2 ^ 32 → word (root_block r) (79 + i) ≡ slice_index r.pages i
 unfolding root_block
 root_block-page r i h lt small = elim (cases_lt i (length r.pages)) [
-  | inl in_pages ↦ words_of_field 5 (root_table r) 5 79 i r.pages (omega arith) (root_descends r h) (omega arith) refl in_pages (omega arith) small
+  | inl in_pages ↦ words_of_field 5 (root_table r) 6 79 i r.pages (omega arith) (root_descends r h) (omega arith) refl in_pages (omega arith) small
   | inr past ↦
       let pages = length_longs r.pages in
       let slots = length_longs r.slots in
       word_between (root_table r) (79 + i) (root_descends r h) (omega arith)
-      (inl (omega arith), (inl (omega arith), (inl (omega arith), (inl (omega arith), (inl (omega arith), (inr (omega arith), (inr (omega arith), (inr (omega (arith, h.slots)), (inr (omega arith), (inr (omega arith), tt))))))))))
+      (inl (omega arith), (inl (omega arith), (inl (omega arith), (inl (omega arith), (inl (omega arith), (inl (omega arith), (inr (omega arith), (inr (omega arith), (inr (omega (arith, h.slots)), (inr (omega arith), (inr (omega arith), tt)))))))))))
       (omega arith)
       ∙ sym (get_or_past r.pages i 0 past)
 ]
+
+-- the first bitmap extension block of a root
+pub root_block-map_ext : (r : RootFields) → FitsRoot r → r.map_ext < 2 ^ 32 → word (root_block r) 104 ≡ r.map_ext
+unfolding root_block
+root_block-map_ext r h small = word_of_field (root_table r) 5 104 r.map_ext (root_descends r h) (omega arith) refl (omega arith) small
 
 -- the dates of a root
 pub root_block-stamps : (r : RootFields) → FitsRoot r → FitsStamps r.stamps → stamps_at (root_block r) ≡ r.stamps

@@ -4,6 +4,7 @@ pub mod Fields
 pub mod Sizes
 pub mod RootBlock
 pub mod PageBlock
+pub mod MapExtBlock
 pub mod HeadBlock
 pub mod ExtBlock
 pub mod DataBlock

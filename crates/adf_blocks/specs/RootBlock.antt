@@ -25,12 +25,13 @@ stamps_at b = record { root = stamp_at b 105; altered = stamp_at b 118; created 
 pub record RootFields : Type 0 where
   pub slots : List ℕ
   pub pages : List ℕ
+  pub map_ext : ℕ
   pub label : List ℕ
   pub stamps : Stamps
 
 -- the fields that are given, without where they lie in memory
 abbrev pub root_fields : RootOut → RootFields
-root_fields r = record { slots = r.slots; pages = r.pages.now; label = r.label.now; stamps = r.stamps }
+root_fields r = record { slots = r.slots; pages = r.pages.now; map_ext = r.map_ext; label = r.label.now; stamps = r.stamps }
 
 -- the fields of a root, the last first
 abbrev pub root_table : RootFields → List Field
@@ -40,6 +41,7 @@ root_table r =
     ∷ (4 * 118, stamp r.stamps.altered)
     ∷ (432, text r.label)
     ∷ (4 * 105, stamp r.stamps.root)
+    ∷ (4 * 104, long r.map_ext)
     ∷ (4 * 79, longs r.pages)
     ∷ (4 * 78, long 0xFFFFFFFF)
     ∷ (4 * 6, longs r.slots)

@@ -84,6 +84,15 @@ pub const VALID: u32 = 0xFFFF_FFFF;
 /// The word of the root that names bitmap page 0.
 pub const FIRST_PAGE: usize = 79;
 
+/// The word of the root that names the first bitmap extension block.
+pub const FIRST_MAP_EXT: usize = 104;
+
+/// The word of a bitmap extension block that names its first page.
+pub const MAP_EXT_FIRST: usize = 0;
+
+/// The word of a bitmap extension block that names the next one.
+pub const MAP_EXT_NEXT: usize = 127;
+
 /// The first word of the date of the root or an entry.
 pub const DATE: usize = 105;
 

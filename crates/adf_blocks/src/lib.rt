@@ -8,6 +8,7 @@ mod fields;
 mod head;
 mod head_out;
 mod layout;
+mod map_ext;
 mod page;
 mod root;
 mod root_out;
@@ -22,6 +23,7 @@ pub use crate::layout::{
     EXTENSION, FIRST_POINTER, FIRST_SLOT, MOST_BLOCKS, PAGE_BITS, ROOT_PAGES, SECONDARY_TYPE, SIZE,
     ST_DIR,
 };
+pub use crate::map_ext::{MapExt, read_map_ext, write_map_ext, written_map_exts_are_read};
 pub use crate::page::{Page, place_of, read_page, write_page, written_pages_are_read};
 pub use crate::root::{Root, read_root};
 pub use crate::root_out::{RootOut, write_root, written_roots_are_read};

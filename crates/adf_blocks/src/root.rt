@@ -8,8 +8,8 @@ ghost use Rattle.adf_blocks.specs.RootBlock.{root_form, stamps_at};
 use crate::cause::Cause;
 use crate::fields::stamp_in;
 use crate::layout::{
-    ALTERED, BITMAP_FLAG, CREATED, DATE, FIRST_PAGE, FIRST_SLOT, HASH_SIZE, NAME, SECONDARY_TYPE,
-    SLOTS, ST_ROOT, T_SHORT, TYPE, VALID,
+    ALTERED, BITMAP_FLAG, CREATED, DATE, FIRST_MAP_EXT, FIRST_PAGE, FIRST_SLOT, HASH_SIZE, NAME,
+    SECONDARY_TYPE, SLOTS, ST_ROOT, T_SHORT, TYPE, VALID,
 };
 use adf_fields::Block;
 use adf_tree::{Label, Stamps};
@@ -73,6 +73,13 @@ impl Root<'_> {
         ensures { result ≡ word self.now (79 + i) }
     {
         self.block.word(FIRST_PAGE + i)
+    }
+
+    /// The first bitmap extension block: word 104.
+    pub fn map_ext(&self) -> u32
+        ensures { result ≡ word self.now 104 }
+    {
+        self.block.word(FIRST_MAP_EXT)
     }
 
     /// The label: its length in byte 432, its bytes from byte 433 on.

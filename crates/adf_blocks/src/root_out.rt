@@ -7,8 +7,8 @@ ghost use Rattle.adf_blocks.specs.RootBlock.{FitsRoot, FitsStamps, RootFields, r
 
 use crate::fields::{put_stamp, put_text};
 use crate::layout::{
-    ALTERED, BITMAP_FLAG, CHECKSUM, CREATED, DATE, FIRST_PAGE, FIRST_SLOT, HASH_SIZE, NAME,
-    SECONDARY_TYPE, SLOTS, ST_ROOT, T_SHORT, TYPE, VALID,
+    ALTERED, BITMAP_FLAG, CHECKSUM, CREATED, DATE, FIRST_MAP_EXT, FIRST_PAGE, FIRST_SLOT,
+    HASH_SIZE, NAME, SECONDARY_TYPE, SLOTS, ST_ROOT, T_SHORT, TYPE, VALID,
 };
 use adf_fields::{put_block, put_word, put_words, seal_block};
 use adf_tree::{Label, Stamps};
@@ -20,6 +20,8 @@ pub struct RootOut<'p, 'l> {
     pub slots: [u32; 72],
     /// The bitmap pages, at most 25.
     pub pages: &'p [u32],
+    /// The first bitmap extension block, or 0.
+    pub map_ext: u32,
     pub label: &'l Label,
     pub stamps: Stamps,
 }
@@ -38,6 +40,7 @@ fn root_bytes(r: &RootOut<'_, '_>) -> [u8; 512]
     put_words(&mut block, FIRST_SLOT, &r.slots);
     put_word(&mut block, BITMAP_FLAG, VALID);
     put_words(&mut block, FIRST_PAGE, r.pages);
+    put_word(&mut block, FIRST_MAP_EXT, r.map_ext);
     put_stamp(&mut block, DATE, r.stamps.root);
     put_text(&mut block, NAME, r.label.bytes());
     put_stamp(&mut block, ALTERED, r.stamps.altered);
@@ -69,6 +72,7 @@ pub fn written_roots_are_read()
     // past the last page `slice_index` is 0
     ensures pages { (r : RootFields) (i : ℕ) → FitsRoot r → i < 25 → slice_index r.pages i < 2 ^ 32
         → word (root_block r) (79 + i) ≡ slice_index r.pages i }
+    ensures map_ext { (r : RootFields) → FitsRoot r → r.map_ext < 2 ^ 32 → word (root_block r) 104 ≡ r.map_ext }
     ensures label { (r : RootFields) → FitsRoot r → text_at (root_block r) 432 ≡ r.label }
     ensures stamps { (r : RootFields) → FitsRoot r → FitsStamps r.stamps → stamps_at (root_block r) ≡ r.stamps }
 {}

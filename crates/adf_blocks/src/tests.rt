@@ -33,6 +33,7 @@ fn put_root(image: &mut [u8; 8192]) {
     let root = RootOut {
         slots,
         pages: &[9],
+        map_ext: 0,
         label: &label,
         stamps,
     };
@@ -283,6 +284,22 @@ fn reads_pages(rt: HostRuntime) -> Result<(), Fail> {
     set_word(&mut image, 9, 1, 0x0000_3F39);
     let found = read_page(Block::at(&image, 9).ok_or("no block")?).err();
     assert_eq!(rt; found, Some(Cause::BadSum));
+    Ok(())
+}
+
+#[test]
+fn map_exts_are_read_and_written(rt: HostRuntime) -> Result<(), Fail> {
+    let mut image = [0xFF; 8192];
+    write_map_ext(&mut image, 3, &[11, 0x0102_0304], 7);
+    let map_ext = read_map_ext(Block::at(&image, 3).ok_or("no block")?);
+    for (j, page) in [(0, 11), (1, 0x0102_0304), (2, 0), (126, 0)] {
+        assert_eq!(rt; map_ext.page(j), page, "page {j}");
+    }
+    assert_eq!(rt; map_ext.next(), 7);
+    let before = [0xFF, 0, 0, 0, 11, 1, 2, 3, 4];
+    assert_eq!(rt; &image[1535..1544], before.as_slice());
+    let after = [0, 0, 0, 7, 0xFF];
+    assert_eq!(rt; &image[2044..2049], after.as_slice());
     Ok(())
 }
 

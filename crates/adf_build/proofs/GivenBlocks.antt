@@ -1,5 +1,5 @@
 -- The blocks that are given to entries, and the tables that name them.
-use Rattle.std.proofs.Common.{◌≡◌, ◌≤◌, ◌<◌, ◌+◌, ◌-◌, ◌*◌, ◌/◌, ℕ, zero, suc, List, [], ◌∷◌, ◌++◌, sym, ap, ◌∙◌, arith, true, length, take, add-one}
+use Rattle.std.proofs.Common.{◌≡◌, ◌≤◌, ◌<◌, ◌+◌, ◌-◌, ◌*◌, ◌/◌, ◌^◌, ℕ, zero, suc, List, [], ◌∷◌, ◌++◌, sym, ap, ◌∙◌, arith, true, length, take, add-one}
 use Rattle.std.specs.Prelude.{nat_le, nat_lt, ◌||◌}
 use Rattle.std.proofs.Math.ListN.{set}
 use Rattle.std.proofs.lemmas.Bool.Decides.{nat_tests}
@@ -11,36 +11,33 @@ use Rattle.adf_volume.specs.Bits.{is_used}
 use Rattle.adf_volume.specs.Image.{chunk, count, map_exts_needed}
 use Rattle.adf_volume.specs.Plan.{given, reserved, run}
 use Rattle.adf_volume.proofs.Given.{given_below}
-use Rattle.adf_volume.proofs.Holding.{size_low, size_high, pages_few}
+use Rattle.adf_volume.proofs.Holding.{reserved_parts, size_high, size_low}
 
--- only the pages stand behind the root
-pub reserved_is : (n : ℕ) → is_allowed n ≡ true → reserved n ≡ pages_needed n
+-- the pages and the bitmap extension blocks stand behind the root
+pub reserved_is : (n : ℕ) → reserved n ≡ pages_needed n + map_exts_needed (pages_needed n)
+reserved_is n = sym (reserved_parts n)
+
+pub reserved_few : (n : ℕ) → is_allowed n ≡ true → reserved n < 2 ^ 16
 unfolding reserved map_exts_needed
-reserved_is n h = let few = pages_few n (size_high n h) in omega arith
+reserved_few n a = let high = size_high n a in omega arith
 
 pub given_low : (n k : ℕ) → 2 + k < n / 2 → given n k ≡ 2 + k
 unfolding given
 given_low n k h = grind (arith, nat_tests)
 
-high_by : (n k r : ℕ) → reserved n ≡ r → n / 2 ≤ 2 + k → given n k ≡ 3 + k + r
+pub given_high : (n k : ℕ) → n / 2 ≤ 2 + k → given n k ≡ 3 + k + reserved n
 unfolding given
-high_by n k r e h = grind (arith, nat_tests)
-
-pub given_high : (n k : ℕ) → is_allowed n ≡ true → n / 2 ≤ 2 + k → given n k ≡ 3 + k + pages_needed n
-given_high n k a h = high_by n k (pages_needed n) (reserved_is n a) h
+given_high n k h = grind (arith, nat_tests)
 
 -- a block that is used, below the root
 pub used_low : (n total b : ℕ) → b < n / 2 → is_used n total b ≡ nat_lt (b - 2) total
 unfolding is_used
 used_low n total b h = grind (arith, nat_tests)
 
-used_by : (n total r b : ℕ) → reserved n ≡ r → n / 2 ≤ b → is_used n total b ≡ (nat_le b (n / 2 + r) || nat_lt (b - (3 + r)) total)
-unfolding is_used
-used_by n total r b e h = grind (arith, nat_tests)
-
 -- a block that is used, from the root on
-pub used_high : (n total b : ℕ) → is_allowed n ≡ true → n / 2 ≤ b → is_used n total b ≡ (nat_le b (n / 2 + pages_needed n) || nat_lt (b - (3 + pages_needed n)) total)
-used_high n total b a h = used_by n total (pages_needed n) b (reserved_is n a) h
+pub used_high : (n total b : ℕ) → n / 2 ≤ b → is_used n total b ≡ (nat_le b (n / 2 + reserved n) || nat_lt (b - (3 + reserved n)) total)
+unfolding is_used
+used_high n total b h = grind (arith, nat_tests)
 
 -- a given block lies whole in the image
 pub given_fits : (n k l : ℕ) → is_allowed n ≡ true → 1 + reserved n + (k + 1) ≤ n - 2 → l ≡ n * 512 → given n k * 512 + 512 ≤ l

@@ -1,5 +1,6 @@
 pub mod GivenBlocks
 pub mod Rows
+pub mod MapExts
 pub mod Counts
 pub mod Order
 pub mod Steps

@@ -7,9 +7,9 @@ ghost use Rattle.adf_volume.specs.Plan.{planned};
 ghost use Rattle.adf_build.specs.Building.{HasRoom, IsBuildFault};
 
 use crate::counting::need;
+use crate::given::reserved_count;
 use crate::nodes::nodes_of;
 use crate::volume::write_volume;
-use adf_blocks::page_count;
 use adf_fields::BLOCK_LEN;
 use adf_tree::Tree;
 use std::alloc::Global;
@@ -25,8 +25,8 @@ pub enum BuildFault {
     NoMemory,
 }
 
-/// The image of a tree in a volume of so many blocks: the root in the middle, the bitmap pages behind it, the entries in
-/// order in the blocks that are left, and 0 in every byte that is not asked for.
+/// The image of a tree in a volume of so many blocks: the root in the middle, the bitmap pages and bitmap extension blocks behind it,
+/// the entries in order in the blocks that are left, and 0 in every byte that is not asked for.
 pub fn build(alloc: Global, tree: &Tree, blocks: u32) -> Result<Vec<u8>, BuildFault>
     ensures laid { IfOk result (λ image. IsLaid image.items tree.now) }
     ensures fits { IfOk result (λ image. Fits image.items tree.now (planned tree.now blocks)) }
@@ -48,7 +48,7 @@ pub fn build(alloc: Global, tree: &Tree, blocks: u32) -> Result<Vec<u8>, BuildFa
     let Ok(mut image) = vec![in alloc; 0u8; blocks as usize * BLOCK_LEN] else {
         return Err(BuildFault::NoMemory);
     };
-    let total = (need - 1) as u32 - page_count(blocks);
+    let total = (need - 1) as u32 - reserved_count(blocks);
     write_volume(&mut image, blocks, tree, &nodes, total);
     Ok(image)
 }

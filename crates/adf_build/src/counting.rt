@@ -7,7 +7,8 @@ ghost use Rattle.adf_build.specs.Building.{need_of};
 ghost use Rattle.adf_volume.specs.Image.{chunk, count};
 ghost use Rattle.adf_volume.specs.Plan.{data_blocks, entry_blocks, exts_needed};
 
-use adf_blocks::{is_allowed_size, page_count};
+use crate::given::reserved_count;
+use adf_blocks::is_allowed_size;
 use adf_tree::{Body, Entry, Kind, Node, Tree};
 
 /// The data bytes of a block.
@@ -53,12 +54,11 @@ fn add_entry(sum: u64, kind: Kind, entry: &Entry) -> u64
 }
 
 // The blocks that the tree needs in a volume of so many blocks, or the greatest number.
-#[tactic(auto, using(crate::proofs::GivenBlocks::reserved_is))]
 fn count_blocks(tree: &Tree, blocks: u32) -> u64
     requires { is_allowed blocks ≡ true }
     ensures { result ≡ need_of tree.now blocks }
 {
-    let mut sum = 1 + u64::from(page_count(blocks));
+    let mut sum = 1 + u64::from(reserved_count(blocks));
     for i in 0..tree.len() {
         if let Some(entry) = tree.entry(Node(i + 1)) {
             sum = add_entry(sum, tree.kind(), entry);
@@ -67,8 +67,8 @@ fn count_blocks(tree: &Tree, blocks: u32) -> u64
     sum
 }
 
-/// The blocks that a tree needs in a volume of so many blocks: the root, the bitmap pages, and for each entry its header,
-/// extension blocks and data blocks; `u64::MAX` where there are more. None where no volume has so many blocks.
+/// The blocks that a tree needs in a volume of so many blocks: the root, the bitmap pages and the bitmap extension blocks, and
+/// for each entry its header, extension blocks and data blocks; `u64::MAX` where there are more. None where no volume has so many blocks.
 pub fn need(tree: &Tree, blocks: u32) -> Option<u64>
     ensures { SomeIff result (is_allowed blocks ≡ true) (need_of tree.now blocks) }
 {

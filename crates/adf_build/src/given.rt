@@ -1,11 +1,31 @@
 // The blocks that are given to entries.
 
 ghost use Rattle.std.specs.Prelude.{◌≡◌, ◌≤◌, ◌<◌, ◌+◌, ◌^◌, true, length, take};
-ghost use Rattle.adf_blocks.specs.Sizes.{is_allowed};
+ghost use Rattle.adf_blocks.specs.Sizes.{is_allowed, pages_needed};
+ghost use Rattle.adf_volume.specs.Image.{map_exts_needed};
 ghost use Rattle.adf_volume.specs.Laid.{given_or_none};
-ghost use Rattle.adf_volume.specs.Plan.{given, run};
+ghost use Rattle.adf_volume.specs.Plan.{given, reserved, run};
 
 use adf_blocks::page_count;
+
+/// The bitmap extension blocks of a volume: the root names 25 pages, each of these 127 more.
+#[tactic(auto, unfolding(adf_volume::specs::Image::map_exts_needed))]
+pub fn map_ext_count(blocks: u32) -> u32
+    requires { is_allowed blocks ≡ true }
+    ensures { result ≡ map_exts_needed (pages_needed blocks) }
+{
+    page_count(blocks).saturating_sub(25).div_ceil(127)
+}
+
+/// The blocks behind the root: the bitmap pages and the bitmap extension blocks.
+#[tactic(auto, using(crate::proofs::GivenBlocks::reserved_is, crate::proofs::GivenBlocks::reserved_few))]
+pub fn reserved_count(blocks: u32) -> u32
+    requires { is_allowed blocks ≡ true }
+    ensures exact { result ≡ reserved blocks }
+    ensures few { result < 2 ^ 16 }
+{
+    page_count(blocks) + map_ext_count(blocks)
+}
 
 /// The `k`-th block that is given to entries.
 #[tactic(auto, using(crate::proofs::GivenBlocks::given_low, crate::proofs::GivenBlocks::given_high))]
@@ -17,7 +37,7 @@ pub fn given_block(blocks: u32, k: u32) -> u32
     if 2 + k < blocks / 2 {
         2 + k
     } else {
-        3 + k + page_count(blocks)
+        3 + k + reserved_count(blocks)
     }
 }
 

@@ -9,6 +9,7 @@ mod entries;
 mod exts;
 mod given;
 mod heads;
+mod map_exts;
 mod nodes;
 mod pages;
 mod volume;

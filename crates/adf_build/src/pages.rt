@@ -6,9 +6,10 @@ ghost use Rattle.adf_volume.specs.Bits.{bits_from, is_free_bit, is_used, page_wo
 ghost use Rattle.adf_volume.specs.Laid.{page_parts};
 ghost use Rattle.adf_volume.specs.Lay.{lay};
 
+use crate::given::reserved_count;
 use adf_blocks::{page_count, write_page};
 
-// Whether block `b` is the root, a bitmap page or one of the first `total` given blocks.
+// Whether block `b` is the root, a reserved block behind it or one of the first `total` given blocks.
 #[tactic(auto, using(crate::proofs::GivenBlocks::used_low, crate::proofs::GivenBlocks::used_high))]
 fn is_used_block(blocks: u32, total: u32, b: u32) -> bool
     requires { is_allowed blocks ≡ true }
@@ -17,8 +18,8 @@ fn is_used_block(blocks: u32, total: u32, b: u32) -> bool
     if b < blocks / 2 {
         return b.saturating_sub(2) < total;
     }
-    let pages = page_count(blocks);
-    b <= blocks / 2 + pages || b.saturating_sub(3 + pages) < total
+    let reserved = reserved_count(blocks);
+    b <= blocks / 2 + reserved || b.saturating_sub(3 + reserved) < total
 }
 
 // The word of the bits of 32 blocks, of which the first is `2 + q`.
@@ -43,7 +44,7 @@ fn page_word(blocks: u32, total: u32, q: u32) -> u32
 #[tactic(auto, using(adf_volume::proofs::Bits::words_step))]
 fn words_of_page(blocks: u32, total: u32, j: u32) -> [u32; 127]
     requires size { is_allowed blocks ≡ true }
-    requires page { j < 25 }
+    requires page { j < 2 ^ 16 }
     ensures { result ≡ page_words blocks total j }
 {
     let mut words = [0u32; 127];

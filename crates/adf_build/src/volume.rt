@@ -1,6 +1,6 @@
 // The parts of a volume.
 
-ghost use Rattle.std.specs.Prelude.{◌≡◌, ◌≤◌, ◌<◌, ◌+◌, ◌*◌, ◌/◌, [], ◌∷◌, true, length, take};
+ghost use Rattle.std.specs.Prelude.{◌≡◌, ◌≤◌, ◌<◌, ◌+◌, ◌*◌, ◌/◌, [], ◌∷◌, true, length, min, take};
 ghost use Rattle.adf_fields.specs.Words.{with_block};
 ghost use Rattle.adf_blocks.specs.Fields.{laid};
 ghost use Rattle.adf_blocks.specs.RootBlock.{FitsStamps, root_block};
@@ -12,19 +12,21 @@ ghost use Rattle.adf_volume.specs.Plan.{entries_blocks, row};
 
 use crate::chains::{children_end, slots_between};
 use crate::entries::write_entries;
+use crate::given::map_ext_count;
+use crate::map_exts::{map_ext_or_none, write_map_exts};
 use crate::pages::write_pages;
 use adf_blocks::{RootOut, page_count, write_root};
 use adf_fields::{put_block, put_bytes};
 use adf_tree::{Kind, Tree};
 
-// The blocks of the bitmap pages, behind the root.
+// The blocks of the bitmap pages that the root names, behind it.
 #[tactic(auto, using(crate::proofs::Rows::row_step))]
 fn page_numbers(blocks: u32) -> [u32; 25]
     requires { is_allowed blocks ≡ true }
-    ensures { take (pages_needed blocks) result ≡ row (blocks / 2 + 1) (pages_needed blocks) }
+    ensures { take (min 25 (pages_needed blocks)) result ≡ row (blocks / 2 + 1) (min 25 (pages_needed blocks)) }
 {
     let mut numbers = [0u32; 25];
-    for j in 0..page_count(blocks) as usize {
+    for j in 0..page_count(blocks).min(25) as usize {
         numbers[j] = blocks / 2 + 1 + j as u32;
     }
     numbers
@@ -54,7 +56,8 @@ fn write_the_root(image: &mut [u8], blocks: u32, tree: &Tree, slots: [u32; 72])
     let numbers = page_numbers(blocks);
     let root = RootOut {
         slots,
-        pages: &numbers[..page_count(blocks) as usize],
+        pages: &numbers[..page_count(blocks).min(25) as usize],
+        map_ext: map_ext_or_none(blocks, 0, map_ext_count(blocks)),
         label: tree.label(),
         stamps: tree.stamps(),
     };
@@ -77,6 +80,7 @@ pub fn write_volume(image: &mut [u8], blocks: u32, tree: &Tree, nodes: &[u32], t
     let slots = slots_between(tree, nodes, 0, 0, first);
     write_entries(image, tree, blocks, nodes, first);
     write_pages(image, blocks, total);
+    write_map_exts(image, blocks);
     write_the_root(image, blocks, tree, slots);
     put_block(image, 0, &boot_block(tree.kind()));
 }

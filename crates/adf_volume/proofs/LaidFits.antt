@@ -1,6 +1,6 @@
 -- What is laid fits.
 use Rattle.std.proofs.Common.{◌≡◌, ℕ, zero, suc, List, [], ◌∷◌, ◌++◌, ◌+◌, ◌-◌, ◌*◌, ◌/◌, ◌%◌, ◌^◌, ◌<◌, ◌≤◌, length, map, refl, sym, ap, subst, ◌∙◌, arith, Bool, true, false, cond}
-use Rattle.std.specs.Prelude.{slice_index, None, ◌↔◌, ◌==◌, ◌&&◌, not, nat_lt, IsBitSet}
+use Rattle.std.specs.Prelude.{min, slice_index, None, ◌↔◌, ◌==◌, ◌&&◌, not, nat_lt, IsBitSet}
 use Rattle.std.proofs.lemmas.Bool.Decides.{nat_tests}
 use lib.Bits.{bit_and}
 use Rattle.std.proofs.lemmas.Nat.{bit_set_by_shift, and_mask}
@@ -15,8 +15,10 @@ use Rattle.adf_blocks.specs.Sizes.{blocks, middle, pages_needed, is_allowed}
 use Rattle.adf_blocks.specs.Forms.{first_cause, text_at}
 use Rattle.adf_blocks.specs.Fields.{laid}
 use Rattle.adf_blocks.specs.RootBlock.{root_form, stamps_at}
+use Rattle.adf_blocks.specs.MapExtBlock.{map_ext_block}
 use Rattle.adf_blocks.specs.PageBlock.{page_form, page_block, IsFreeBit}
-use Rattle.adf_blocks.proofs.RootLaws.{root_block-form, root_block-text, root_block-stamps, root_block-page}
+use Rattle.adf_blocks.proofs.RootLaws.{root_block-form, root_block-text, root_block-stamps, root_block-page, root_block-map_ext}
+use Rattle.adf_blocks.proofs.MapExtLaws.{map_ext_block-next, map_ext_block-page}
 use Rattle.adf_blocks.proofs.PageLaws.{page_block-form, page_block-bit}
 use Rattle.adf_volume.specs.declared.owner.Owner.{Owner}
 use Rattle.adf_volume.specs.Lists.{At, In, Spelled}
@@ -27,16 +29,16 @@ use Rattle.adf_volume.specs.Fits.{Fits, EntryFits, FileFits, IsFree}
 use Rattle.adf_volume.specs.Plan.{reserved, entry_blocks, entries_blocks, blocks_needed, run, row, places_from, planned}
 use Rattle.adf_volume.specs.Bits.{is_used, is_free_bit, bits_from, page_words}
 use Rattle.adf_volume.specs.Lay.{Holds}
-use Rattle.adf_volume.specs.Laid.{boot_bytes, page_parts, root_laid, volume, IsLaid, IsSound}
+use Rattle.adf_volume.specs.Laid.{boot_bytes, page_parts, listed_pages, map_ext_or_none, map_ext_parts, root_laid, volume, IsLaid, IsSound}
 use Rattle.adf_volume.proofs.Told.{all_told}
 use Rattle.adf_volume.proofs.Lists.{at_below, at_index}
 use Rattle.adf_volume.proofs.Images.{page_in}
 use Rattle.adf_volume.proofs.Ordered.{dir_node}
 use Rattle.adf_volume.proofs.Blocks.{block_in, in_block, blocks_of}
-use Rattle.adf_volume.proofs.Given.{length_row}
+use Rattle.adf_volume.proofs.Given.{length_row, reserved_below}
 use Rattle.adf_volume.proofs.Planned.{owned_blocks, planned_once, planned_range}
 use Rattle.adf_volume.proofs.Bits.{bit_of, bits_small, owned_used, used_owned}
-use Rattle.adf_volume.proofs.Holding.{size_low, size_high, fits_root, volume_long, volume_blocks, holds_pages, holds_root, holds_boot}
+use Rattle.adf_volume.proofs.Holding.{size_low, size_high, fits_root, volume_long, volume_blocks, holds_map_exts, holds_pages, holds_root, holds_boot, listed_few, reserved_parts}
 use Rattle.adf_volume.proofs.Spots.{spot, chain_laid, root_slot, dir_slot}
 use Rattle.adf_volume.proofs.LaidEntries.{entry_laid, file_laid}
 
@@ -49,10 +51,6 @@ boot_kind : (kind : Kind) → cond (slice_index (laid ((0, boot_bytes kind) ∷ 
 unfolding with_bytes
 boot_kind Ofs = refl
 boot_kind Ffs = refl
-
-no_map_exts : (n : ℕ) → n ≤ 101602 → map_exts_needed (pages_needed n) ≡ 0
-unfolding map_exts_needed
-no_map_exts n h = omega arith
 
 row_at : (b m j c : ℕ) → At (row b m) j c → c ≡ b + j
 row_at b zero j c h = absurd h
@@ -72,6 +70,37 @@ page_holds : (v : List ℕ) (n total j m q : ℕ) → Holds v (page_parts n tota
 page_holds v n total j zero q h l = absurd (omega arith)
 page_holds v n total j (suc m) zero h l = let z : j ≡ j + 0 = omega arith in subst (λ j. block v (middle n + 1 + j) ≡ page_block (page_words n total j)) z h.0
 page_holds v n total j (suc m) (suc q) h l = let z : suc j + q ≡ j + suc q = omega arith in subst (λ j. block v (middle n + 1 + j) ≡ page_block (page_words n total j)) z (page_holds v n total (suc j) m q h.1 (omega arith))
+
+-- what stands in bitmap extension block j + q of m from number j on
+map_ext_holds : (v : List ℕ) (n j m q : ℕ) → Holds v (map_ext_parts n j m) → q < m
+    → block v (middle n + 1 + pages_needed n + (j + q)) ≡ map_ext_block (listed_pages n (j + q)) (map_ext_or_none n (suc (j + q)) (m - suc q))
+map_ext_holds v n j zero q h l = absurd (omega arith)
+map_ext_holds v n j (suc m) zero h l =
+    let z : j ≡ j + 0 = omega arith in
+    let y : m ≡ suc m - 1 = omega arith in
+    subst (λ k. block v (middle n + 1 + pages_needed n + (j + 0)) ≡ map_ext_block (listed_pages n (j + 0)) (map_ext_or_none n (suc (j + 0)) k)) y
+    (subst (λ j. block v (middle n + 1 + pages_needed n + j) ≡ map_ext_block (listed_pages n j) (map_ext_or_none n (suc j) m)) z h.0)
+map_ext_holds v n j (suc m) (suc q) h l =
+    let z : suc j + q ≡ j + suc q = omega arith in
+    let y : m - suc q ≡ suc m - suc (suc q) = omega arith in
+    subst (λ k. block v (middle n + 1 + pages_needed n + (j + suc q)) ≡ map_ext_block (listed_pages n (j + suc q)) (map_ext_or_none n (suc (j + suc q)) k)) y
+    (subst (λ j. block v (middle n + 1 + pages_needed n + j) ≡ map_ext_block (listed_pages n j) (map_ext_or_none n (suc j) (m - suc q))) z
+    (map_ext_holds v n (suc j) m q h.1 (omega arith)))
+
+-- what names a bitmap extension block that is there
+map_ext_some : (n j m : ℕ) → 0 < m → map_ext_or_none n j m ≡ middle n + 1 + pages_needed n + j
+map_ext_some n j m h = let s : nat_lt 0 m ≡ true = grind (arith, nat_tests) in ap (λ s. cond s (middle n + 1 + pages_needed n + j) 0) s
+
+-- and it is a word, as the block lies in the volume
+map_ext_small : (n j m : ℕ) → middle n + 1 + pages_needed n + j < 2 ^ 32 → map_ext_or_none n j m < 2 ^ 32
+map_ext_small n j m h = go (nat_lt 0 m)
+  where
+    go : (s : Bool) → cond s (middle n + 1 + pages_needed n + j) 0 < 2 ^ 32
+    go true = h
+    go false = omega arith
+
+row_index : (b m j : ℕ) → j < m → slice_index (row b m) j ≡ b + j
+row_index b m j h = at_index (row b m) j (b + j) (at_row b m j h)
 
 set_bit : (x k : ℕ) → IsBitSet x k ↔ (x / 2 ^ k % 2 ≡ 1)
 set_bit x k = let m : bit_and (x / 2 ^ k) 1 ≡ x / 2 ^ k % 2 = and_mask (x / 2 ^ k) 1 in ((λ h. sym m ∙ (bit_set_by_shift x k).1 h), (λ h. (bit_set_by_shift x k).0 (m ∙ h)))
@@ -151,8 +180,10 @@ module _ (t : Tree) (n : ℕ) (sound : IsSound t) (allowed : is_allowed n ≡ tr
 
   page_word : (k b : ℕ) → k < 25 → At (row (middle n + 1) (pages_needed n)) k b → word_in (volume t n) (middle n) (79 + k) ≡ b
   page_word k b l h =
-      let e : slice_index (row (middle n + 1) (pages_needed n)) k ≡ b = at_index (row (middle n + 1) (pages_needed n)) k b h in
-      let a = row_at (middle n + 1) (pages_needed n) k b h in
+      let a : b ≡ middle n + 1 + k = row_at (middle n + 1) (pages_needed n) k b h in
+      let l0 : k < length (row (middle n + 1) (pages_needed n)) = at_below (row (middle n + 1) (pages_needed n)) k b h in
+      let l1 = length_row (middle n + 1) (pages_needed n) in
+      let e : slice_index (row (middle n + 1) (min 25 (pages_needed n))) k ≡ b = row_index (middle n + 1) (min 25 (pages_needed n)) k (omega arith) ∙ sym a in
       let high = size_high n allowed in
       ap (λ bs. word bs (79 + k)) (holds_root t n sound allowed room) ∙ (root_block-page (root_laid t n) k (fits_root t n sound allowed room) l (omega arith) ∙ e)
 
@@ -206,12 +237,63 @@ module _ (t : Tree) (n : ℕ) (sound : IsSound t) (allowed : is_allowed n ≡ tr
       let g : IsFreeBit (page_block (page_words n (entries_blocks t.kind t.entries) q)) r = (bit_tells n (entries_blocks t.kind t.entries) q r (omega arith)).1 x in
       (middle n + 1 + q, at_row (middle n + 1) (pages_needed n) q lt, subst (λ bs. IsFreeBit bs r) (sym (page_at q lt)) g)
 
-  few_exts : (j b : ℕ) → At (row (middle n + 1 + pages_needed n) (map_exts_needed (pages_needed n))) j b → ⊥
-  few_exts j b h =
+  -- a bitmap extension block of the plan: its place, and what it holds
+  map_ext_at : (j b : ℕ) → At (row (middle n + 1 + pages_needed n) (map_exts_needed (pages_needed n))) j b
+      → (j < map_exts_needed (pages_needed n)) × (b ≡ middle n + 1 + pages_needed n + j)
+  map_ext_at j b h =
       let l0 : j < length (row (middle n + 1 + pages_needed n) (map_exts_needed (pages_needed n))) = at_below (row (middle n + 1 + pages_needed n) (map_exts_needed (pages_needed n))) j b h in
       let l1 = length_row (middle n + 1 + pages_needed n) (map_exts_needed (pages_needed n)) in
-      let z = no_map_exts n (size_high n allowed) in
+      (omega arith, row_at (middle n + 1 + pages_needed n) (map_exts_needed (pages_needed n)) j b h)
+
+  map_ext_is : (j : ℕ) → j < map_exts_needed (pages_needed n)
+      → block (volume t n) (middle n + 1 + pages_needed n + j) ≡ map_ext_block (listed_pages n j) (map_ext_or_none n (suc j) (map_exts_needed (pages_needed n) - suc j))
+  map_ext_is j l =
+      let z : 0 + j ≡ j = omega arith in
+      subst (λ k. block (volume t n) (middle n + 1 + pages_needed n + k) ≡ map_ext_block (listed_pages n k) (map_ext_or_none n (suc k) (map_exts_needed (pages_needed n) - suc j))) z
+      (map_ext_holds (volume t n) n 0 (map_exts_needed (pages_needed n)) j (holds_map_exts t n sound allowed room) l)
+
+  -- a bitmap extension block lies in the volume
+  map_ext_near : (j : ℕ) → j ≤ map_exts_needed (pages_needed n) → middle n + 1 + pages_needed n + j < 2 ^ 32
+  map_ext_near j l =
+      let four = size_low n allowed in
+      let high = size_high n allowed in
+      let p = reserved_parts n in
+      let r = reserved_below n four in
       omega arith
+
+  map_first_laid : (b : ℕ) → At (row (middle n + 1 + pages_needed n) (map_exts_needed (pages_needed n))) 0 b → word_in (volume t n) (middle n) 104 ≡ b
+  map_first_laid b h =
+      let x = map_ext_at 0 b h in
+      let e : b ≡ middle n + 1 + pages_needed n + 0 = x.1 in
+      let small : map_ext_or_none n 0 (map_exts_needed (pages_needed n)) < 2 ^ 32 = map_ext_small n 0 (map_exts_needed (pages_needed n)) (map_ext_near 0 (omega arith)) in
+      ap (λ bs. word bs 104) (holds_root t n sound allowed room)
+      ∙ (root_block-map_ext (root_laid t n) (fits_root t n sound allowed room) small ∙ (map_ext_some n 0 (map_exts_needed (pages_needed n)) x.0 ∙ sym e))
+
+  map_next_laid : (j a b : ℕ) → At (row (middle n + 1 + pages_needed n) (map_exts_needed (pages_needed n))) j a → At (row (middle n + 1 + pages_needed n) (map_exts_needed (pages_needed n))) (suc j) b
+      → word_in (volume t n) a 127 ≡ b
+  map_next_laid j a b g h =
+      let x = map_ext_at j a g in
+      let y = map_ext_at (suc j) b h in
+      let u : suc j < map_exts_needed (pages_needed n) = y.0 in
+      let e : b ≡ middle n + 1 + pages_needed n + suc j = y.1 in
+      let m : ℕ = map_exts_needed (pages_needed n) - suc j in
+      let small : map_ext_or_none n (suc j) m < 2 ^ 32 = map_ext_small n (suc j) m (map_ext_near (suc j) (omega arith)) in
+      ap (λ a. word_in (volume t n) a 127) x.1
+      ∙ (ap (λ bs. word bs 127) (map_ext_is j x.0) ∙ (map_ext_block-next (listed_pages n j) (map_ext_or_none n (suc j) m) (listed_few n j) small ∙ (map_ext_some n (suc j) m (omega arith) ∙ sym e)))
+
+  page_listed_laid : (j i a b : ℕ) → i < 127 → At (row (middle n + 1 + pages_needed n) (map_exts_needed (pages_needed n))) j a → At (row (middle n + 1) (pages_needed n)) (25 + 127 * j + i) b
+      → word_in (volume t n) a i ≡ b
+  page_listed_laid j i a b l g h =
+      let x = map_ext_at j a g in
+      let u : j < map_exts_needed (pages_needed n) = x.0 in
+      let m : ℕ = map_exts_needed (pages_needed n) - suc j in
+      let e : b ≡ middle n + 1 + (25 + 127 * j + i) = row_at (middle n + 1) (pages_needed n) (25 + 127 * j + i) b h in
+      let l0 : 25 + 127 * j + i < length (row (middle n + 1) (pages_needed n)) = at_below (row (middle n + 1) (pages_needed n)) (25 + 127 * j + i) b h in
+      let l1 = length_row (middle n + 1) (pages_needed n) in
+      let near = map_ext_near 0 (omega arith) in
+      let s : slice_index (listed_pages n j) i ≡ b = row_index (middle n + 1 + (25 + 127 * j)) (min 127 (pages_needed n - (25 + 127 * j))) i (omega arith) ∙ omega arith in
+      ap (λ a. word_in (volume t n) a i) x.1
+      ∙ (ap (λ bs. word bs i) (map_ext_is j u) ∙ (map_ext_block-page (listed_pages n j) (map_ext_or_none n (suc j) m) i (listed_few n j) l (omega arith) ∙ s))
 
   entries_fit : (m : ℕ) (e : Entry) → EntryAt t m e → EntryFits (volume t n) t (planned t n) m (at_node (volume t n) (planned t n) m) e
   entries_fit zero e h = absurd h
@@ -235,10 +317,10 @@ module _ (t : Tree) (n : ℕ) (sound : IsSound t) (allowed : is_allowed n ≡ tr
         places = places_long n t.kind 0 t.entries;
         pages = length_row (middle n + 1) (pages_needed n) ∙ ap pages_needed (sym size);
         map_exts = length_row (middle n + 1 + pages_needed n) (map_exts_needed (pages_needed n)) ∙ ap (λ n. map_exts_needed (pages_needed n)) (sym size);
-        map_first = (λ b h. absurd (few_exts 0 b h));
-        map_next = (λ j a b h. absurd (few_exts j a h));
+        map_first = (λ b h. ap (λ r. word_in (volume t n) r 104) (sym s) ∙ map_first_laid b h);
+        map_next = map_next_laid;
         page_named = (λ k b l h. ap (λ r. word_in (volume t n) r (79 + k)) (sym s) ∙ page_word k b l h);
-        page_listed = (λ j i a b l h. absurd (few_exts j a h));
+        page_listed = page_listed_laid;
         page_form = page_formed;
         entries = entries_fit;
         chains = chains_laid;

@@ -15,11 +15,12 @@ use Rattle.adf_blocks.specs.Sizes.{blocks, middle, is_allowed, pages_needed}
 use Rattle.adf_blocks.specs.Fields.{laid}
 use Rattle.adf_blocks.specs.RootBlock.{RootFields, root_block, FitsStamps}
 use Rattle.adf_blocks.specs.PageBlock.{page_block}
+use Rattle.adf_blocks.specs.MapExtBlock.{map_ext_block}
 use Rattle.adf_blocks.specs.HeadBlock.{BodyFields, FitsMeta, HeadFields, head_block}
 use Rattle.adf_blocks.specs.HeadBlock.BodyFields.{DirFields, FileFields}
 use Rattle.adf_blocks.specs.ExtBlock.{ExtFields, ext_block}
 use Rattle.adf_blocks.specs.DataBlock.{data_block}
-use Rattle.adf_volume.specs.Image.{chunk, count}
+use Rattle.adf_volume.specs.Image.{chunk, count, map_exts_needed}
 use Rattle.adf_volume.specs.Layout.{nodes_from}
 use Rattle.adf_volume.specs.Plan.{exts_needed, entry_blocks, entries_blocks, blocks_needed, given, run, row}
 use Rattle.adf_volume.specs.Lay.{lay}
@@ -108,16 +109,32 @@ abbrev pub page_parts : ℕ → ℕ → ℕ → ℕ → List (ℕ × List ℕ)
 page_parts n total j zero = []
 page_parts n total j (suc m) = (middle n + 1 + j, page_block (page_words n total j)) ∷ page_parts n total (suc j) m
 
+-- what names the first of m bitmap extension blocks, the one with number j: its block, or 0 where m is 0
+abbrev pub map_ext_or_none : ℕ → ℕ → ℕ → ℕ
+map_ext_or_none n j m = cond (nat_lt 0 m) (middle n + 1 + pages_needed n + j) 0
+
+-- the pages that bitmap extension block j names: up to 127, from page 25 + 127 * j on
+abbrev pub listed_pages : ℕ → ℕ → List ℕ
+listed_pages n j = row (middle n + 1 + (25 + 127 * j)) (min 127 (pages_needed n - (25 + 127 * j)))
+
+-- m bitmap extension blocks, from number j on
+abbrev pub map_ext_parts : ℕ → ℕ → ℕ → List (ℕ × List ℕ)
+map_ext_parts n j zero = []
+map_ext_parts n j (suc m) =
+    (middle n + 1 + pages_needed n + j, map_ext_block (listed_pages n j) (map_ext_or_none n (suc j) m))
+    ∷ map_ext_parts n (suc j) m
+
 -- the boot block begins with `DOS` and the type
 abbrev pub boot_bytes : Kind → List ℕ
 boot_bytes Ofs = 0x44 ∷ 0x4F ∷ 0x53 ∷ 0 ∷ []
 boot_bytes Ffs = 0x44 ∷ 0x4F ∷ 0x53 ∷ 1 ∷ []
 
--- the fields of the root: it names its first headers and its pages
+-- the fields of the root: it names its first headers, the first 25 pages and the first bitmap extension block
 abbrev pub root_laid : Tree → ℕ → RootFields
 root_laid t n = record {
   slots = slots_of (node_blocks t n) t.entries 0;
-  pages = row (middle n + 1) (pages_needed n);
+  pages = row (middle n + 1) (min 25 (pages_needed n));
+  map_ext = map_ext_or_none n 0 (map_exts_needed (pages_needed n));
   label = t.label;
   stamps = t.stamps;
 }
@@ -127,7 +144,8 @@ abbrev pub parts : Tree → ℕ → List (ℕ × List ℕ)
 parts t n =
     entries_parts n t.kind (node_blocks t n) t.entries 1 0 t.entries
     ++ (page_parts n (entries_blocks t.kind t.entries) 0 (pages_needed n)
-    ++ (middle n, root_block (root_laid t n)) ∷ (0, laid ((0, boot_bytes t.kind) ∷ [])) ∷ [])
+    ++ (map_ext_parts n 0 (map_exts_needed (pages_needed n))
+    ++ (middle n, root_block (root_laid t n)) ∷ (0, laid ((0, boot_bytes t.kind) ∷ [])) ∷ []))
 
 -- the volume of n blocks that the builder lays for a tree
 unfoldable pub volume : Tree → ℕ → List ℕ

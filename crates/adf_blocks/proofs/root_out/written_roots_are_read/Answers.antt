@@ -1,4 +1,4 @@
-use Rattle.adf_blocks.proofs.RootLaws.{length_root_block, root_block-form, root_block-page, root_block-slot, root_block-stamps, root_block-text}
+use Rattle.adf_blocks.proofs.RootLaws.{length_root_block, root_block-form, root_block-map_ext, root_block-page, root_block-slot, root_block-stamps, root_block-text}
 use Rattle.adf_blocks.proofs.root_out.written_roots_are_read.Goals as goal
 
 pub returns-clause-whole : goal.returns-clause-whole
@@ -12,6 +12,9 @@ returns-clause-slots c = root_block-slot
 
 pub returns-clause-pages : goal.returns-clause-pages
 returns-clause-pages c = root_block-page
+
+pub returns-clause-map_ext : goal.returns-clause-map_ext
+returns-clause-map_ext c = root_block-map_ext
 
 pub returns-clause-label : goal.returns-clause-label
 returns-clause-label c = root_block-text

@@ -1,26 +1,25 @@
 use Rattle.std.proofs.Common.{◌≡◌, ◌+◌, ◌*◌, ◌∙◌, ℕ, List, drop, length, arith, rules, subst, sym}
 use Rattle.std.proofs.lemmas.List.{take_at}
 use Rattle.std.specs.Prelude.{replicate}
-use Rattle.adf_blocks.specs.Sizes.{pages_needed}
 use Rattle.adf_volume.specs.Fits.{Fits}
 use Rattle.adf_volume.specs.Laid.{IsLaid, parts}
 use Rattle.adf_volume.specs.Lay.{lay}
-use Rattle.adf_volume.specs.Plan.{entries_blocks, planned}
+use Rattle.adf_volume.specs.Plan.{entries_blocks, planned, reserved}
 use Rattle.adf_build.specs.Building.{HasRoom}
 use Rattle.adf_build.proofs.WholeVolume.{is_laid, laid_as_planned, laid_bytes, total_is}
 use Rattle.adf_build.proofs.builder.build.Goals as goal
 
 pub overflow_sub-total-2 : goal.overflow_sub-total-2
 overflow_sub-total-2 c =
-    let total : c.in-Some.need ≡ 1 + pages_needed c.args.blocks + entries_blocks c.args.tree.now.kind c.args.tree.now.entries =
+    let total : c.in-Some.need ≡ 1 + reserved c.args.blocks + entries_blocks c.args.tree.now.kind c.args.tree.now.entries =
     total_is c.args.tree.now c.args.blocks c.in-Some.need c.in-Some.ensures.0 c.in-Some.ensures.1 (omega arith) in
-    omega (arith, c.page_count.ensures.exact)
+    omega (arith, c.reserved_count.ensures.exact)
 
 pub write_volume-requires-clause-total : goal.write_volume-requires-clause-total
 write_volume-requires-clause-total c =
-    let total : c.in-Some.need ≡ 1 + pages_needed c.args.blocks + entries_blocks c.args.tree.now.kind c.args.tree.now.entries =
+    let total : c.in-Some.need ≡ 1 + reserved c.args.blocks + entries_blocks c.args.tree.now.kind c.args.tree.now.entries =
     total_is c.args.tree.now c.args.blocks c.in-Some.need c.in-Some.ensures.0 c.in-Some.ensures.1 (omega arith) in
-    omega (arith, c.page_count.ensures.exact)
+    omega (arith, c.reserved_count.ensures.exact)
 
 pub returns-clause-laid : goal.returns-clause-laid
 returns-clause-laid c =
