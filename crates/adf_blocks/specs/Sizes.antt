@@ -1,9 +1,9 @@
 -- The size of a volume, and what follows from it.
 use Rattle.std.specs.Prelude.{ℕ, ◌+◌, ◌-◌, ◌/◌, ◌%◌, ◌==◌, ◌&&◌, nat_le, Bool, List, length}
 
--- the most blocks that a volume has: the root names 25 bitmap pages
+-- the most blocks that a volume has: 259 bitmap pages, the first 25 named by the root, the others by two bitmap extension blocks
 abbrev pub MOST_BLOCKS : ℕ
-MOST_BLOCKS = 101602
+MOST_BLOCKS = 1048576
 
 -- an allowed size, in blocks: even, 4 to MOST_BLOCKS
 abbrev pub is_allowed : ℕ → Bool

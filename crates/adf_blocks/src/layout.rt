@@ -1,10 +1,13 @@
 // Where the fields of blocks stand, and the numbers that the format fixes. Words are numbered from 0.
 
-/// The most blocks of a volume.
-pub const MOST_BLOCKS: u32 = 101_602;
+/// The most blocks of a volume. Their bits stand in 259 bitmap pages: the root names 25, two bitmap extension blocks the others.
+pub const MOST_BLOCKS: u32 = 1_048_576;
 
 /// The bitmap pages that the root names.
 pub const ROOT_PAGES: usize = 25;
+
+/// The bitmap pages that a bitmap extension block names.
+pub const MAP_EXT_PAGES: usize = 127;
 
 /// The blocks that a bitmap page has bits of.
 pub const PAGE_BITS: u32 = 4064;

@@ -12,11 +12,11 @@ pub fn is_allowed_size(blocks: u32) -> bool
     4 <= blocks && blocks <= MOST_BLOCKS && blocks % 2 == 0
 }
 
-/// The bitmap pages that so many blocks need, 1 to 25.
+/// The bitmap pages that so many blocks need, 1 to 259.
 pub fn page_count(blocks: u32) -> u32
     requires { is_allowed blocks ≡ true }
     ensures exact { result ≡ pages_needed blocks }
-    ensures few { result ≤ 25 }
+    ensures few { result ≤ 259 }
 {
     (blocks - 2).div_ceil(PAGE_BITS)
 }

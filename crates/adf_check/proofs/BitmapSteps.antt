@@ -21,13 +21,13 @@ mapped image (x ∷ xs) zero d h = refl
 mapped image (x ∷ xs) (suc k) d h = mapped image xs k d (omega arith)
 
 -- block b of a volume whose bitmap agrees below it
-module _ (image : List ℕ) (store : Store) (numbers : List ℕ) (pages : List (List ℕ)) (b : ℕ) (begun : IsBegun image) (hi : b < blocks image) (listed : AreListed image numbers pages (pages_needed (blocks image))) (st : IsMapped image store b) where
+module _ (image : List ℕ) (store : Store) (pages : List (List ℕ)) (b : ℕ) (begun : IsBegun image) (hi : b < blocks image) (listed : AreListed image pages (pages_needed (blocks image))) (st : IsMapped image store b) where
   -- its page is there
   pub page_there : (b - 2) / 4064 < length pages
   page_there =
       let lo : 2 ≤ b = st.low in
-      let n : length numbers ≡ pages_needed (blocks image) = listed.listed.size in
-      let v : length pages ≡ length numbers = ap length listed.views ∙ length_map numbers in
+      let n : length listed.numbers ≡ pages_needed (blocks image) = listed.listed.size in
+      let v : length pages ≡ length listed.numbers = ap length listed.views ∙ length_map listed.numbers in
       let h : (b - 2) / 4064 < pages_needed (blocks image) = page_in (blocks image) b lo hi in
       omega arith
     where
@@ -38,13 +38,13 @@ module _ (image : List ℕ) (store : Store) (numbers : List ℕ) (pages : List (
   -- its bit is told by its page
   module _ (page : List ℕ) (free : Bool) (here : page ≡ get_or pages ((b - 2) / 4064) page) (told : IsTrue free ↔ IsFreeBit page ((b - 2) % 4064)) where
     abbrev pub number : ℕ
-    number = slice_index numbers ((b - 2) / 4064)
+    number = slice_index listed.numbers ((b - 2) / 4064)
 
     view : page ≡ block image number
     view =
-        let n : length numbers ≡ pages_needed (blocks image) = listed.listed.size in
+        let n : length listed.numbers ≡ pages_needed (blocks image) = listed.listed.size in
         let h : (b - 2) / 4064 < pages_needed (blocks image) = page_in (blocks image) b st.low hi in
-        here ∙ ap (λ ps. get_or ps ((b - 2) / 4064) page) listed.views ∙ mapped image numbers ((b - 2) / 4064) page (omega arith)
+        here ∙ ap (λ ps. get_or ps ((b - 2) / 4064) page) listed.views ∙ mapped image listed.numbers ((b - 2) / 4064) page (omega arith)
 
     bit : IsTrue free ↔ IsFreeAt image number ((b - 2) % 4064)
     bit = subst (λ p. IsTrue free ↔ IsFreeBit p ((b - 2) % 4064)) view told
@@ -53,13 +53,13 @@ module _ (image : List ℕ) (store : Store) (numbers : List ℕ) (pages : List (
     one = omega arith
 
     pub block_lost : free ≡ false → owner_at store.owners b ≡ Free → FirstFault image b LostBlock
-    block_lost f h = lost image store b number free numbers hi listed.listed refl bit st begun f h
+    block_lost f h = lost image store b number free listed.numbers hi listed.listed refl bit st begun f h
 
     pub block_owned_free : free ≡ true → owner_at store.owners b ≢ Free → FirstFault image b OwnedFree
-    block_owned_free f h = owned_free image store b number free numbers hi listed.listed refl bit st begun f h
+    block_owned_free f h = owned_free image store b number free listed.numbers hi listed.listed refl bit st begun f h
 
     pub block_free : free ≡ true → owner_at store.owners b ≡ Free → IsMapped image store (b + 1)
-    block_free f h = subst (IsMapped image store) one (mapped_free image store b number free numbers hi listed.listed refl bit st f h)
+    block_free f h = subst (IsMapped image store) one (mapped_free image store b number free listed.numbers hi listed.listed refl bit st f h)
 
     pub block_used : free ≡ false → owner_at store.owners b ≢ Free → IsMapped image store (b + 1)
-    block_used f h = subst (IsMapped image store) one (mapped_used image store b number free numbers hi listed.listed refl bit st f h)
+    block_used f h = subst (IsMapped image store) one (mapped_used image store b number free listed.numbers hi listed.listed refl bit st f h)

@@ -3,7 +3,7 @@ use Rattle.std.specs.Prelude.{◌≡◌, ◌≢◌, ◌⊎◌, ◌≤◌, ◌<�
 use Rattle.std.specs.BTreeSet.{BTreeSet}
 use Rattle.arrayvec.specs.ArrayVec.{ArrayVec}
 use Rattle.adf_tree.specs.NameSet.{has}
-use Rattle.adf_blocks.specs.declared.cause.Cause.TheVariants.{OutOfRange, Taken}
+use Rattle.adf_blocks.specs.declared.cause.Cause.TheVariants.{NoMemory, OutOfRange, Taken}
 use Rattle.adf_volume.specs.declared.owner.Owner.{Owner}
 use Rattle.adf_volume.specs.declared.owner.Owner.TheVariants.{Free}
 use Rattle.adf_volume.specs.Reading.{IsRight}
@@ -41,6 +41,7 @@ InRange n b = (2 ≤ b) × (b < n)
 abbrev pub IsClaimFault : List Owner → ℕ → ℕ → Fault → Type 0
 IsClaimFault owners holder b f = ((InRange (length owners) b → ⊥) × (f ≡ fault holder OutOfRange)) ⊎ (InRange (length owners) b × (owner_at owners b ≢ Free) × (f ≡ fault b Taken))
 
--- the fault is the first one of the image, or memory was refused
-abbrev pub IsTrueFault : List ℕ → Fault → Type 0
-IsTrueFault image f = IsRight image f.block f.cause
+-- the fault is the first one of the image, or memory was refused, and then it names block 0
+pub record IsTrueFault (image : List ℕ) (f : Fault) : Type 0 where
+  pub first : IsRight image f.block f.cause
+  pub memory : f.cause ≡ NoMemory → f.block ≡ 0

@@ -12,8 +12,7 @@ use crate::fault::{Fault, fault_at};
 use crate::found::Found;
 use crate::image::Image;
 use crate::owners::Owners;
-use crate::pages::Pages;
-use adf_blocks::{Cause, place_of};
+use adf_blocks::{Cause, Page, place_of};
 use adf_volume::Owner;
 
 // Whether no part of the volume owns a block.
@@ -28,16 +27,16 @@ fn is_unowned(owners: &Owners, b: u32) -> bool
 }
 
 // Compares the bit of block `b` with its owner.
-fn check_block(image: &Image<'_>, found: &Found, pages: &Pages<'_>, b: u32) -> Result<(), Fault>
+fn check_block(image: &Image<'_>, found: &Found, pages: &[Page<'_>], b: u32) -> Result<(), Fault>
     requires begun { IsBegun image.now }
     requires inside { b < blocks image.now }
-    requires pages { AreListed image.now pages.now.numbers.items pages.now.pages.items (pages_needed (blocks image.now)) }
+    requires pages { AreListed image.now pages.now (pages_needed (blocks image.now)) }
     requires state { IsMapped image.now (store_of found.now) b }
     ensures state { OnOk result (IsMapped image.now (store_of found.now) (b + 1)) }
     ensures fault { IfErr result (λ f. IsTrueFault image.now f) }
 {
     let (page, bit) = place_of(b);
-    let is_free = pages.pages[page as usize].is_free(bit);
+    let is_free = pages[page as usize].is_free(bit);
     if is_unowned(&found.owners, b) {
         if is_free {
             Ok(())
@@ -52,8 +51,8 @@ fn check_block(image: &Image<'_>, found: &Found, pages: &Pages<'_>, b: u32) -> R
 }
 
 /// Compares the bitmap with the owners by ascending block.
-pub fn check_bitmap(image: &Image<'_>, found: &Found, pages: &Pages<'_>) -> Result<(), Fault>
-    requires pages { AreListed image.now pages.now.numbers.items pages.now.pages.items (pages_needed (blocks image.now)) }
+pub fn check_bitmap(image: &Image<'_>, found: &Found, pages: &[Page<'_>]) -> Result<(), Fault>
+    requires pages { AreListed image.now pages.now (pages_needed (blocks image.now)) }
     requires state { IsRead image.now (store_of found.now) }
     ensures fits { OnOk result (TellsFit image.now (store_of found.now)) }
     ensures fault { IfErr result (λ f. IsTrueFault image.now f) }

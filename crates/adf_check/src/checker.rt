@@ -20,9 +20,10 @@ use std::alloc::Global;
 
 /// Checks an image: the volume that it is the image of, or the first fault and the block where it stands.
 ///
-/// The parts are tried in this order: the size and the first four bytes, the root, the bitmap pages by number, the
-/// nodes by number (of a directory each slot's chain of headers, of a file its extension blocks, their number and its
-/// data blocks), the bitmap by ascending block. `NoMemory` where a growth was refused; then nothing is said of the image.
+/// The parts are tried in this order: the size and the first four bytes, the root, the bitmap pages by number, with each
+/// bitmap extension block before the pages that it names, the nodes by number (of a directory each slot's chain of headers,
+/// of a file its extension blocks, their number and its data blocks), the bitmap by ascending block. `NoMemory` at block 0
+/// where a growth was refused; then nothing is said of the image.
 pub fn check<'a>(alloc: Global, image: &'a [u8]) -> Result<Checked<'a>, Fault>
     ensures image { IfOk result (λ v. v.image ≡ image.now) }
 
@@ -32,6 +33,9 @@ pub fn check<'a>(alloc: Global, image: &'a [u8]) -> Result<Checked<'a>, Fault>
     // A fault is the first one, and nothing fits the image.
     ensures first { IfErr result (λ f. f.cause ≢ Cause.NoMemory → FirstFault image.now f.block f.cause) }
     ensures none { IfErr result (λ f. f.cause ≢ Cause.NoMemory → (t : Tree) (l : Layout) → Fits image.now t l → ⊥) }
+
+    // Want of memory names block 0.
+    ensures memory { IfErr result (λ f. f.cause ≡ Cause.NoMemory → f.block ≡ 0) }
 {
     check_all(alloc, image)
 }

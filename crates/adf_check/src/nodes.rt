@@ -4,6 +4,7 @@ ghost use Rattle.std.specs.Prelude.{◌≡◌, ◌≤◌, ◌<◌, ◌+◌, [], 
 ghost use Rattle.adf_blocks.specs.Sizes.{blocks};
 ghost use Rattle.adf_volume.specs.Image.{word_in};
 ghost use Rattle.adf_volume.specs.Reading.{IsAtNode, IsInExts, IsInNode, IsRead};
+ghost use Rattle.adf_check.specs.Checks.{fault};
 ghost use Rattle.adf_check.specs.Found.{IsFurther, IsTrueFault, store_of};
 ghost use Rattle.adf_volume.specs.Store.{entered};
 
@@ -22,7 +23,7 @@ use std::alloc::Global;
 fn enter(found: &mut Found) -> Result<(), Fault>
     ensures entered { OnOk result (store_of found.new ≡ entered (store_of found.old)) }
     ensures fewer { OnOk result (IsFurther found.old found.new) }
-    ensures fault { IfErr result (λ f. f.cause ≡ Cause.NoMemory) }
+    ensures fault { IfErr result (λ f. f ≡ fault 0 Cause.NoMemory) }
 {
     let start = Start {
         exts: found.exts.len(),

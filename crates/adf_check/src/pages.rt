@@ -1,79 +1,156 @@
-// The bitmap's pages, as the root names them.
+// The bitmap's pages: those that the root names, then each bitmap extension block with those that it names.
 
-ghost use Rattle.std.specs.Prelude.{◌≡◌, ◌≤◌, ◌<◌, ◌+◌, map, OnOk, IfOk, IfErr};
-ghost use Rattle.adf_fields.specs.Words.{block, word};
+ghost use Rattle.std.specs.Prelude.{◌≡◌, ◌≤◌, ◌<◌, ◌+◌, ◌-◌, ◌%◌, ◌↔◌, IsTrue, OnOk, IfOk, IfErr};
+ghost use Rattle.adf_fields.specs.Words.{block};
 ghost use Rattle.adf_blocks.specs.Sizes.{blocks, pages_needed};
-ghost use Rattle.adf_volume.specs.Image.{root_of};
-ghost use Rattle.adf_volume.specs.Reading.{IsAtNode, IsBeforePage, IsListed};
+ghost use Rattle.adf_volume.specs.Image.{root_of, word_in};
+ghost use Rattle.adf_volume.specs.Reading.{IsAtNode, IsAtPage, IsBeforePage, block_of_page};
 ghost use Rattle.adf_check.specs.Found.{IsTrueFault, store_of};
-ghost use Rattle.adf_check.specs.Pages.{AreListed};
+ghost use Rattle.adf_check.specs.Image.{IsBegun};
+ghost use Rattle.adf_check.specs.Pages.{AreListed, index_of_map_ext, index_of_page};
 
 use crate::claims::claim_named;
 use crate::fault::{Fault, fault_at};
 use crate::found::Found;
 use crate::image::Image;
-use adf_blocks::{Cause, Page, Root, page_count, read_page};
+use adf_blocks::{
+    Cause, MAP_EXT_PAGES, Page, ROOT_PAGES, Root, page_count, read_map_ext, read_page,
+};
 use adf_volume::Owner;
 use std::alloc::Global;
 
-/// A bitmap page and the block that holds it.
-#[derive(Drop)]
-struct PageAt<'a> {
-    number: u32,
-    page: Page<'a>,
+// Whether page `i` is the first one of a bitmap extension block.
+fn is_first_of_map_ext(i: u32) -> bool
+    ensures { IsTrue result ↔ ((25 ≤ i) × ((i - 25) % 127 ≡ 0)) }
+{
+    let i = i as usize;
+    i >= ROOT_PAGES && (i - ROOT_PAGES) % MAP_EXT_PAGES == 0
 }
 
-/// The bitmap pages, by number.
-#[derive(Drop)]
-pub struct Pages<'a> {
-    pub numbers: Vec<u32>,
-    pub pages: Vec<Page<'a>>,
+// The bitmap extension block that `holder` names, whose first page is page `i`.
+fn map_ext_named(image: &Image<'_>, root: &Root<'_>, holder: u32, i: u32) -> u32
+    requires root { root.now ≡ block image.now (root_of image.now) }
+    requires inside { holder < blocks image.now }
+    requires at_root { i ≡ 25 → holder ≡ root_of image.now }
+    ensures { result ≡ word_in image.now holder (index_of_map_ext i) }
+{
+    if i as usize == ROOT_PAGES {
+        root.map_ext()
+    } else {
+        read_map_ext(image.block(holder)).next()
+    }
 }
 
-// Claims and reads bitmap page `i`, which the root names.
+// Page `i`, as `holder` names it.
+fn page_named(image: &Image<'_>, root: &Root<'_>, holder: u32, i: u32) -> u32
+    requires root { root.now ≡ block image.now (root_of image.now) }
+    requires inside { holder < blocks image.now }
+    requires at_root { i < 25 → holder ≡ root_of image.now }
+    ensures { result ≡ word_in image.now holder (index_of_page i) }
+{
+    let i = i as usize;
+    if i < ROOT_PAGES {
+        root.page(i)
+    } else {
+        read_map_ext(image.block(holder)).page((i - ROOT_PAGES) % MAP_EXT_PAGES)
+    }
+}
+
+// Claims the bitmap extension block that `holder` names, whose first page is page `i`.
+fn claim_map_ext(
+    image: &Image<'_>,
+    root: &Root<'_>,
+    found: &mut Found,
+    holder: u32,
+    i: u32,
+) -> Result<u32, Fault>
+    requires begun { IsBegun image.now }
+    requires root { root.now ≡ block image.now (root_of image.now) }
+    requires needed { i < pages_needed (blocks image.now) }
+    requires past { 25 ≤ i }
+    requires first { (i - 25) % 127 ≡ 0 }
+    requires inside { holder < blocks image.now }
+    requires state { IsBeforePage image.now (store_of found.old) i holder }
+    ensures state { IfOk result (λ b. IsAtPage image.now (store_of found.new) i b) }
+    ensures inside { IfOk result (λ b. b < blocks image.now) }
+    ensures fault { IfErr result (λ f. IsTrueFault image.now f) }
+{
+    let b = map_ext_named(image, root, holder, i);
+    let j = (i - ROOT_PAGES as u32) / MAP_EXT_PAGES as u32;
+    claim_named(&mut found.owners, holder, b, Owner::MapExt(j))?;
+    Ok(b)
+}
+
+// The block that names page `i`, where `holder` named the page before or is the root: a bitmap extension block is claimed.
+fn holder_of_page(
+    image: &Image<'_>,
+    root: &Root<'_>,
+    found: &mut Found,
+    holder: u32,
+    i: u32,
+) -> Result<u32, Fault>
+    requires begun { IsBegun image.now }
+    requires root { root.now ≡ block image.now (root_of image.now) }
+    requires needed { i < pages_needed (blocks image.now) }
+    requires inside { holder < blocks image.now }
+    requires state { IsBeforePage image.now (store_of found.old) i holder }
+    ensures state { IfOk result (λ b. IsAtPage image.now (store_of found.new) i b) }
+    ensures inside { IfOk result (λ b. b < blocks image.now) }
+    ensures fault { IfErr result (λ f. IsTrueFault image.now f) }
+{
+    if is_first_of_map_ext(i) {
+        claim_map_ext(image, root, found, holder, i)
+    } else {
+        Ok(holder)
+    }
+}
+
+// Claims and reads page `i`, which `holder` names.
 fn read_page_at<'a>(
     image: &Image<'a>,
     root: &Root<'_>,
     found: &mut Found,
+    holder: u32,
     i: u32,
-) -> Result<PageAt<'a>, Fault>
+) -> Result<Page<'a>, Fault>
+    requires begun { IsBegun image.now }
     requires root { root.now ≡ block image.now (root_of image.now) }
-    requires page { i < pages_needed (blocks image.now) }
-    requires few { i < 25 }
-    requires state { IsBeforePage image.now (store_of found.old) i (root_of image.now) }
-    ensures state { OnOk result (IsBeforePage image.now (store_of found.new) (i + 1) (root_of image.now)) }
-    ensures number { IfOk result (λ p. p.number ≡ word root.now (79 + i)) }
-    ensures page { IfOk result (λ p. p.page ≡ block image.now p.number) }
+    requires needed { i < pages_needed (blocks image.now) }
+    requires inside { holder < blocks image.now }
+    requires state { IsAtPage image.now (store_of found.old) i holder }
+    ensures state { OnOk result (IsBeforePage image.now (store_of found.new) (i + 1) holder) }
+    ensures page { IfOk result (λ p. p ≡ block image.now (block_of_page image.now i)) }
     ensures fault { IfErr result (λ f. IsTrueFault image.now f) }
 {
-    let number = root.page(i as usize);
-    claim_named(&mut found.owners, image.root(), number, Owner::Page(i))?;
-    match read_page(image.block(number)) {
-        Ok(page) => Ok(PageAt { number, page }),
-        Err(cause) => Err(fault_at(number, cause)),
+    let b = page_named(image, root, holder, i);
+    claim_named(&mut found.owners, holder, b, Owner::Page(i))?;
+    match read_page(image.block(b)) {
+        Ok(page) => Ok(page),
+        Err(cause) => Err(fault_at(b, cause)),
     }
 }
 
-/// Claims and reads the bitmap pages.
+/// Claims and reads the bitmap pages, each bitmap extension block before its own: the pages by number.
 pub fn read_pages<'a>(
     alloc: Global,
     image: &Image<'a>,
     root: &Root<'_>,
     found: &mut Found,
-) -> Result<Pages<'a>, Fault>
+) -> Result<Vec<Page<'a>>, Fault>
     requires root { root.now ≡ block image.now (root_of image.now) }
     requires state { IsBeforePage image.now (store_of found.old) 0 (root_of image.now) }
     ensures state { OnOk result (IsAtNode image.now (store_of found.new) 0) }
-    ensures pages { IfOk result (λ p. AreListed image.now p.numbers.items p.pages.items (pages_needed (blocks image.now))) }
+    ensures pages { IfOk result (λ p. AreListed image.now p.items (pages_needed (blocks image.now))) }
     ensures fault { IfErr result (λ f. IsTrueFault image.now f) }
 {
-    let mut numbers = Vec::new(alloc);
     let mut pages = Vec::new(alloc);
+    let mut holder = image.root();
     for i in 0..page_count(image.blocks()) {
-        let read = read_page_at(image, root, found, i)?;
-        if numbers.push(read.number).is_err() || pages.push(read.page).is_err() {
+        holder = holder_of_page(image, root, found, holder, i)?;
+        let page = read_page_at(image, root, found, holder, i)?;
+        if pages.push(page).is_err() {
             return Err(fault_at(0, Cause::NoMemory));
         }
     }
-    Ok(Pages { numbers, pages })
+    Ok(pages)
 }

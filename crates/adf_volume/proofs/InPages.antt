@@ -118,14 +118,19 @@ names_is image w k b a i v (inr x) e =
 pub page_is : (image : List ℕ) (w : List (Role × ℕ)) (k b : ℕ) → IsWalk image w → Has w (Page k) b → block_of_page image k ≡ b
 page_is image w k b v h = let x = (kept image v (Page k) b h).1 in names_is image w k b x.0 x.1 v x.2 x.3
 
-pub listed_more : (image : List ℕ) (store : Store) (k a i b : ℕ) (list : List ℕ) → IsListed image list k → (st : IsAtPage image store k a) → (k < 25 → i ≡ 79 + k) → (25 ≤ k → i ≡ (k - 25) % 127) → b ≡ word_in image a i → IsListed image (list ++ b ∷ []) (suc k)
-listed_more image store k a i b list h st f g e = record {
-  size = snoc_length list b ∙ ap suc h.size;
-  pages = (λ n c x. elim (at_snoc list b n c x) [
+-- page k is named by this word
+pub page_by_words : (image : List ℕ) (store : Store) (k a i b : ℕ) → (st : IsAtPage image store k a) → (k < 25 → i ≡ 79 + k) → (25 ≤ k → i ≡ (k - 25) % 127)
+    → b ≡ word_in image a i → block_of_page image k ≡ b
+page_by_words image store k a i b st f g e =
+    let same : i ≡ st.index = index_is image st.walk k a i st.index st.named f g in
+    names_is image st.walk k b a st.index st.upto.walk st.named (ap (word_in image a) (sym same) ∙ sym e)
+
+pub listed_more : (image list : List ℕ) (k : ℕ) → IsListed image list k → IsListed image (list ++ block_of_page image k ∷ []) (suc k)
+listed_more image list k h = record {
+  size = snoc_length list (block_of_page image k) ∙ ap suc h.size;
+  pages = (λ n c x. elim (at_snoc list (block_of_page image k) n c x) [
     | inl y ↦ h.pages n c y
-    | inr y ↦
-        let ek : k ≡ n = sym h.size ∙ sym y.0 in
-        ap (block_of_page image) (sym ek) ∙ names_is image st.walk k b a st.index st.upto.walk st.named (ap (word_in image a) (sym (index_is image st.walk k a i st.index st.named f g)) ∙ sym e) ∙ y.1
+    | inr y ↦ ap (block_of_page image) (y.0 ∙ h.size) ∙ y.1
   ]);
 }
 

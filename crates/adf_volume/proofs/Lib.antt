@@ -9,6 +9,7 @@ pub mod Agree
 pub mod Whole
 pub mod Unique
 pub mod Refuse
+pub mod Memory
 pub mod Rising
 pub mod Kept
 pub mod Made

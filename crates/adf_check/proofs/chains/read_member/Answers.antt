@@ -12,6 +12,8 @@ use Rattle.adf_volume.specs.Image.{name_of, word_in}
 use Rattle.adf_volume.specs.Reading.{IsInChain}
 use Rattle.adf_check.specs.Found.{IsClaimFault, IsTrueFault, sees_of, store_of}
 use Rattle.adf_check.specs.Owners.{owned_count}
+use Rattle.adf_blocks.specs.declared.cause.Cause.TheVariants.{SameName}
+use Rattle.adf_check.proofs.Faults.{first_fault}
 use Rattle.adf_check.proofs.ChainSteps.{member_claim, member_fault, member_twice, member_done, name_in, was_new, was_seen}
 use Rattle.adf_check.proofs.Steps.{if_err}
 use Rattle.adf_check.proofs.chains.read_member.Goals as goal
@@ -30,8 +32,8 @@ returns-in-Err-clause-fault c =
     let store = store_of c.args.found.now in
     let of_block : List ℕ → Type 0 = λ x. first_cause (head_form c.kind-kind.result c.args.b c.args.chain.now.up c.args.chain.now.slot x) ≡ Some c.in-Err.cause in
     let of_kind : Kind → Type 0 = λ k. first_cause (head_form k c.args.b c.args.chain.now.up c.args.chain.now.slot (block image c.args.b)) ≡ Some c.in-Err.cause in
-    rw c.fault_at.ensures (λ _. member_fault image store c.args.chain.now.parent c.args.chain.now.up c.args.chain.now.slot c.args.at c.args.b c.args.seen.now c.requires.slot c.kind-kind.ensures.begun c.requires.state c.requires.some
-    c.in_ok-claim_named.ensures.range c.in_ok-claim_named.ensures.free c.in-Err.cause (subst of_kind c.kind-kind.ensures.kind (subst of_block c.block.ensures.block c.in-Err.ensures)))
+    rw c.fault_at.ensures (first_fault image c.args.b c.in-Err.cause (member_fault image store c.args.chain.now.parent c.args.chain.now.up c.args.chain.now.slot c.args.at c.args.b c.args.seen.now c.requires.slot c.kind-kind.ensures.begun c.requires.state c.requires.some
+    c.in_ok-claim_named.ensures.range c.in_ok-claim_named.ensures.free c.in-Err.cause (subst of_kind c.kind-kind.ensures.kind (subst of_block c.block.ensures.block c.in-Err.ensures))))
 
 pub returns-in-Ok-false-clause-fault : goal.returns-in-Ok-false-clause-fault
 returns-in-Ok-false-clause-fault c =
@@ -41,8 +43,8 @@ returns-in-Ok-false-clause-fault c =
     let of_kind : Kind → Type 0 = λ k. first_cause (head_form k c.args.b c.args.chain.now.up c.args.chain.now.slot (block image c.args.b)) ≡ None in
     let named : c.name.result ≡ name_of image c.args.b = name_in image c.args.b c.name.result (c.name.ensures ∙ ap (λ x. text_at x 432) (c.in-Ok.ensures.1 ∙ c.block.ensures.block)) in
     let twice : has c.args.seen.now (uppers c.name.result) ≡ true = was_seen (has c.args.seen.now (uppers c.name.result)) c.in-Ok-false.field-0 c.in-Ok-false.ensures.new c.in-Ok-false.field-0-test in
-    rw c.fault_at-in-Ok-false.ensures (λ _. member_twice image store c.args.chain.now.parent c.args.chain.now.up c.args.chain.now.slot c.args.at c.args.b c.args.seen.now c.requires.slot c.kind-kind.ensures.begun c.requires.state c.requires.some
-    c.in_ok-claim_named.ensures.range c.in_ok-claim_named.ensures.free (subst of_kind c.kind-kind.ensures.kind (subst of_block c.block.ensures.block c.in-Ok.ensures.0)) (ap (λ n. has c.args.seen.now (uppers n)) (sym named) ∙ twice))
+    rw c.fault_at-in-Ok-false.ensures (first_fault image c.args.b SameName (member_twice image store c.args.chain.now.parent c.args.chain.now.up c.args.chain.now.slot c.args.at c.args.b c.args.seen.now c.requires.slot c.kind-kind.ensures.begun c.requires.state c.requires.some
+    c.in_ok-claim_named.ensures.range c.in_ok-claim_named.ensures.free (subst of_kind c.kind-kind.ensures.kind (subst of_block c.block.ensures.block c.in-Ok.ensures.0)) (ap (λ n. has c.args.seen.now (uppers n)) (sym named) ∙ twice)))
 
 pub returns-in-Ok-push-clause-state : goal.returns-in-Ok-push-clause-state
 returns-in-Ok-push-clause-state c =

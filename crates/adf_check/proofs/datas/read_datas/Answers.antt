@@ -5,6 +5,8 @@ use Rattle.adf_volume.specs.Walk.{data_count}
 use Rattle.adf_volume.proofs.InFiles.{datas_end}
 use Rattle.adf_volume.proofs.InRows.{data_too_short}
 use Rattle.adf_check.specs.Found.{store_of}
+use Rattle.adf_blocks.specs.declared.cause.Cause.TheVariants.{ShortFile}
+use Rattle.adf_check.proofs.Faults.{first_fault}
 use Rattle.adf_check.proofs.datas.read_datas.Goals as goal
 
 pub returns-then-div_ceil-table-clause-fault : goal.returns-then-div_ceil-table-clause-fault
@@ -13,7 +15,7 @@ returns-then-div_ceil-table-clause-fault c =
     let e : c.count_of-count.result ≡ data_count image c.args.head = c.count_of-count.ensures ∙ ap (λ k. count k c.word-size.result) c.kind.ensures.kind ∙ ap (count (kind_of image)) c.word-size.ensures.word in
     let more = c.if-div_ceil-table.true in
     let short : 72 * length c.args.table.now < data_count image c.args.head = omega arith in
-    rw c.fault_at.ensures (λ _. data_too_short image (store_of c.args.found.now) c.args.node c.args.head c.args.table.now c.word-size.ensures.begun c.requires.state short)
+    rw c.fault_at.ensures (first_fault image c.args.head ShortFile (data_too_short image (store_of c.args.found.now) c.args.node c.args.head c.args.table.now c.word-size.ensures.begun c.requires.state short))
 
 pub returns-clause-state : goal.returns-clause-state
 returns-clause-state c =

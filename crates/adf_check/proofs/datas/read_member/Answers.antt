@@ -7,6 +7,7 @@ use Rattle.adf_volume.specs.Walk.{data_count}
 use Rattle.adf_check.specs.Files.{next_of}
 use Rattle.adf_check.specs.Found.{IsClaimFault, IsTrueFault, store_of}
 use Rattle.adf_check.specs.Owners.{owned_count}
+use Rattle.adf_check.proofs.Faults.{first_fault}
 use Rattle.adf_check.proofs.DataSteps.{data_claim, data_fault, data_done, table_inside}
 use Rattle.adf_check.proofs.Steps.{if_err}
 use Rattle.adf_check.proofs.datas.read_member.Goals as goal
@@ -44,8 +45,8 @@ returns-in-Err-clause-fault c =
     let next : c.next_pointer-next.result ≡ next_of image table (data_count image h) (k + 1) = c.next_pointer-next.ensures ∙ ap (λ n. next_of image table n (k + 1)) c.requires.count in
     let of_next : ℕ → Type 0 = λ x. FirstFails (data_demands image (kind_of image) b h (k + 1) (held (kind_of image) (word_in image h 81) (k + 1)) x) b c.in-Err.cause in
     let of_size : ℕ → Type 0 = λ s. FirstFails (data_demands image (kind_of image) b h (k + 1) (held (kind_of image) s (k + 1)) c.next_pointer-next.result) b c.in-Err.cause in
-    rw c.fault_at.ensures (λ _. data_fault image store c.args.file.now.node h table k b c.requires.begun enough lt c.requires.state c.pointer-b.ensures c.in-Err.cause
-    c.in_ok-claim_named.ensures.range c.in_ok-claim_named.ensures.free (subst of_next next (subst of_size c.requires.size c.in-Err.ensures.fault)))
+    rw c.fault_at.ensures (first_fault image b c.in-Err.cause (data_fault image store c.args.file.now.node h table k b c.requires.begun enough lt c.requires.state c.pointer-b.ensures c.in-Err.cause
+    c.in_ok-claim_named.ensures.range c.in_ok-claim_named.ensures.free (subst of_next next (subst of_size c.requires.size c.in-Err.ensures.fault))))
 
 pub returns-in-Ok-clause-state : goal.returns-in-Ok-clause-state
 returns-in-Ok-clause-state c =

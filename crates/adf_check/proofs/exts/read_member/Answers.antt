@@ -8,6 +8,7 @@ use Rattle.adf_volume.specs.Image.{word_in}
 use Rattle.adf_volume.specs.Reading.{IsInExts}
 use Rattle.adf_check.specs.Found.{IsClaimFault, IsTrueFault, store_of}
 use Rattle.adf_check.specs.Owners.{owned_count}
+use Rattle.adf_check.proofs.Faults.{first_fault}
 use Rattle.adf_check.proofs.ExtSteps.{ext_claim, ext_fault, ext_done, table_short}
 use Rattle.adf_check.proofs.Steps.{if_err}
 use Rattle.adf_check.proofs.exts.read_member.Goals as goal
@@ -25,8 +26,8 @@ returns-in-Err-clause-fault c =
     let image = c.args.image.now in
     let store = store_of c.args.found.now in
     let of_block : List ℕ → Type 0 = λ x. first_cause (ext_form c.args.b c.args.head x) ≡ Some c.in-Err.cause in
-    rw c.fault_at.ensures (λ _. ext_fault image store c.args.node c.args.head c.args.table.now.items c.args.at c.args.b c.requires.begun c.requires.state c.requires.some c.in-Err.cause
-    c.in_ok-claim_named.ensures.range c.in_ok-claim_named.ensures.free (subst of_block c.block.ensures.block c.in-Err.ensures))
+    rw c.fault_at.ensures (first_fault image c.args.b c.in-Err.cause (ext_fault image store c.args.node c.args.head c.args.table.now.items c.args.at c.args.b c.requires.begun c.requires.state c.requires.some c.in-Err.cause
+    c.in_ok-claim_named.ensures.range c.in_ok-claim_named.ensures.free (subst of_block c.block.ensures.block c.in-Err.ensures)))
 
 pub returns-clause-state : goal.returns-clause-state
 returns-clause-state c =

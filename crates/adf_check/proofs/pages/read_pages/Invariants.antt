@@ -1,4 +1,5 @@
-use Rattle.adf_volume.specs.Image.{root_of}
+use Rattle.std.proofs.Common.{◌<◌}
+use Rattle.adf_blocks.specs.Sizes.{blocks}
 use Rattle.adf_volume.specs.Reading.{IsBeforePage}
 use Rattle.adf_check.specs.Found.{store_of}
 use Rattle.adf_check.specs.Pages.{AreListed}
@@ -6,6 +7,7 @@ use Rattle.adf_check.proofs.pages.read_pages.Given as goal
 
 abbrev pub invariant-loop-i : goal.invariant-loop-i
 invariant-loop-i l = record {
-  state : IsBeforePage l.image (store_of l.found) l.i (root_of l.image);
-  pages : AreListed l.image l.numbers.items l.pages.items l.i;
+  inside : l.holder < blocks l.image;
+  state : IsBeforePage l.image (store_of l.found) l.i l.holder;
+  pages : AreListed l.image l.pages.items l.i;
 }

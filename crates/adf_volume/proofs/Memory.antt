@@ -1,0 +1,61 @@
+-- No first fault is want of memory.
+use Rattle.std.proofs.Common.{◌≡◌, ◌≢◌, ℕ, zero, suc, List, [], ◌∷◌, ◌++◌, inl, inr, subst}
+use Rattle.adf_tree.specs.declared.entry.Kind.{Kind}
+use Rattle.adf_tree.specs.declared.entry.Kind.TheVariants.{Ofs, Ffs}
+use Rattle.adf_blocks.specs.declared.cause.Cause.{Cause}
+use Rattle.adf_blocks.specs.declared.cause.Cause.TheVariants.{NoMemory, SameName}
+use Rattle.adf_volume.specs.Demands.{Demand, FirstFails, boot_demands, data_demands, demand, root_demands}
+use Rattle.adf_volume.specs.Image.{root_of, word_in}
+use Rattle.adf_volume.specs.Walk.{FirstFault, NewName, Role, bitmap_demands, demands, form_demands}
+use Rattle.adf_volume.specs.Walk.Role.{Root, Page, MapExt, Head, Ext, Data}
+use Rattle.adf_volume.specs.Walk.FirstFault.{at_boot, at_due, at_bitmap}
+
+-- no demand has the cause
+abbrev pub NoneHas : Cause → List Demand → Type 0
+NoneHas c [] = Unit {0}
+NoneHas c (x ∷ xs) = (x.cause ≢ c) × NoneHas c xs
+
+none_fails : (xs : List Demand) (b : ℕ) (c : Cause) → NoneHas c xs → FirstFails xs b c → ⊥
+none_fails [] b c n h = absurd h
+none_fails (x ∷ xs) b c n (inl h) = n.0 h.2
+none_fails (x ∷ xs) b c n (inr h) = none_fails xs b c n.1 h.1
+
+none_append : (c : Cause) (xs ys : List Demand) → NoneHas c xs → NoneHas c ys → NoneHas c (xs ++ ys)
+none_append c [] ys h k = k
+none_append c (x ∷ xs) ys h k = (h.0, none_append c xs ys h.1 k)
+
+of_data : (image : List ℕ) (kind : Kind) (b h k n next : ℕ) → NoneHas NoMemory (data_demands image kind b h k n next)
+of_data image Ofs b h k n next = ((λ e. cc), ((λ e. cc), ((λ e. cc), tt)))
+of_data image Ffs b h k n next = tt
+
+of_form : (image : List ℕ) (w : List (Role × ℕ)) (r : Role) (b : ℕ) → NoneHas NoMemory (form_demands image w r b)
+of_form image w Root b = tt
+of_form image w (Page i) b = ((λ e. cc), tt)
+of_form image w (MapExt j) b = tt
+of_form image w (Head n p s j) b =
+    ((λ e. cc), ((λ e. cc), ((λ e. cc), ((λ e. cc), ((λ e. cc), ((λ e. cc), ((λ e. cc), ((λ e. cc), ((λ e. cc), tt)))))))))
+of_form image w (Ext n k) b = ((λ e. cc), ((λ e. cc), ((λ e. cc), ((λ e. cc), tt))))
+of_form image w (Data n k) b = of_data image _ b _ k _ _
+
+of_role : (image : List ℕ) (w : List (Role × ℕ)) (r : Role) (a b : ℕ) → NoneHas NoMemory (demands image w r a b)
+of_role image w r a b =
+    let last : List Demand = demand SameName b (NewName image w r b) ∷ [] in
+    ((λ e. cc), ((λ e. cc), ((λ e. cc), none_append NoMemory (form_demands image w r b) last (of_form image w r b) ((λ e. cc), tt))))
+
+of_bitmap : (image : List ℕ) (w : List (Role × ℕ)) (b n : ℕ) → NoneHas NoMemory (bitmap_demands image w b n)
+of_bitmap image w b zero = tt
+of_bitmap image w b (suc n) = ((λ e. cc), ((λ e. cc), of_bitmap image w (suc b) n))
+
+of_start : (image : List ℕ) → NoneHas NoMemory (boot_demands image ++ root_demands image (root_of image))
+of_start image =
+    none_append NoMemory (boot_demands image) (root_demands image (root_of image))
+    ((λ e. cc), ((λ e. cc), ((λ e. cc), ((λ e. cc), tt))))
+    ((λ e. cc), ((λ e. cc), ((λ e. cc), ((λ e. cc), ((λ e. cc), tt)))))
+
+no_memory : (image : List ℕ) (b : ℕ) → FirstFault image b NoMemory → ⊥
+no_memory image b (at_boot h) = none_fails (boot_demands image ++ root_demands image (root_of image)) b NoMemory (of_start image) h
+no_memory image b (at_due _ w r a i v d h) = none_fails (demands image w r a (word_in image a i)) b NoMemory (of_role image w r a (word_in image a i)) h
+no_memory image b (at_bitmap _ w v whole h) = none_fails (bitmap_demands image w 2 _) b NoMemory (of_bitmap image w 2 _) h
+
+pub fault_of_image : (image : List ℕ) (b : ℕ) (c : Cause) → FirstFault image b c → c ≢ NoMemory
+fault_of_image image b c h e = no_memory image b (subst (FirstFault image b) e h)
