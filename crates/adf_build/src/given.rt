@@ -6,7 +6,7 @@ ghost use Rattle.adf_volume.specs.Image.{map_exts_needed};
 ghost use Rattle.adf_volume.specs.Laid.{given_or_none};
 ghost use Rattle.adf_volume.specs.Plan.{given, reserved, run};
 
-use adf_blocks::page_count;
+use adf_blocks::{MAP_EXT_PAGES, ROOT_PAGES, page_count};
 
 /// The bitmap extension blocks of a volume: the root names 25 pages, each of these 127 more.
 #[tactic(auto, unfolding(adf_volume::specs::Image::map_exts_needed))]
@@ -14,7 +14,9 @@ pub fn map_ext_count(blocks: u32) -> u32
     requires { is_allowed blocks ≡ true }
     ensures { result ≡ map_exts_needed (pages_needed blocks) }
 {
-    page_count(blocks).saturating_sub(25).div_ceil(127)
+    page_count(blocks)
+        .saturating_sub(ROOT_PAGES as u32)
+        .div_ceil(MAP_EXT_PAGES as u32)
 }
 
 /// The blocks behind the root: the bitmap pages and the bitmap extension blocks.

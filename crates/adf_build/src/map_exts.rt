@@ -8,7 +8,7 @@ ghost use Rattle.adf_volume.specs.Lay.{lay};
 ghost use Rattle.adf_volume.specs.Plan.{row};
 
 use crate::given::map_ext_count;
-use adf_blocks::{page_count, write_map_ext};
+use adf_blocks::{MAP_EXT_PAGES, ROOT_PAGES, page_count, write_map_ext};
 
 /// The block of bitmap extension block `j` where blocks are left, 0 where none is.
 pub fn map_ext_or_none(blocks: u32, j: u32, left: u32) -> u32
@@ -25,12 +25,12 @@ pub fn map_ext_or_none(blocks: u32, j: u32, left: u32) -> u32
 
 // A table that begins with `m` blocks, from `first` on.
 #[tactic(auto, using(crate::proofs::Rows::row_step))]
-fn row_of(first: u32, m: usize) -> [u32; 127]
+fn row_of(first: u32, m: usize) -> [u32; MAP_EXT_PAGES]
     requires short { m ≤ 127 }
     requires near { first < 2 ^ 31 }
     ensures { take m result ≡ row first m }
 {
-    let mut table = [0u32; 127];
+    let mut table = [0u32; MAP_EXT_PAGES];
     for i in 0..m {
         table[i] = first + i as u32;
     }
@@ -47,8 +47,8 @@ pub fn write_map_exts(image: &mut [u8], blocks: u32)
     let pages = page_count(blocks);
     let count = map_ext_count(blocks);
     for j in 0..count {
-        let first = 25 + 127 * j;
-        let len = pages.saturating_sub(first).min(127) as usize;
+        let first = ROOT_PAGES as u32 + MAP_EXT_PAGES as u32 * j;
+        let len = pages.saturating_sub(first).min(MAP_EXT_PAGES as u32) as usize;
         let table = row_of(blocks / 2 + 1 + first, len);
         let next = map_ext_or_none(blocks, j + 1, count - (j + 1));
         write_map_ext(image, blocks / 2 + 1 + pages + j, &table[..len], next);

@@ -15,18 +15,18 @@ use crate::entries::write_entries;
 use crate::given::map_ext_count;
 use crate::map_exts::{map_ext_or_none, write_map_exts};
 use crate::pages::write_pages;
-use adf_blocks::{RootOut, page_count, write_root};
+use adf_blocks::{ROOT_PAGES, RootOut, page_count, write_root};
 use adf_fields::{put_block, put_bytes};
 use adf_tree::{Kind, Tree};
 
 // The blocks of the bitmap pages that the root names, behind it.
 #[tactic(auto, using(crate::proofs::Rows::row_step))]
-fn page_numbers(blocks: u32) -> [u32; 25]
+fn page_numbers(blocks: u32) -> [u32; ROOT_PAGES]
     requires { is_allowed blocks ≡ true }
     ensures { take (min 25 (pages_needed blocks)) result ≡ row (blocks / 2 + 1) (min 25 (pages_needed blocks)) }
 {
-    let mut numbers = [0u32; 25];
-    for j in 0..page_count(blocks).min(25) as usize {
+    let mut numbers = [0u32; ROOT_PAGES];
+    for j in 0..ROOT_PAGES.min(page_count(blocks) as usize) {
         numbers[j] = blocks / 2 + 1 + j as u32;
     }
     numbers
@@ -56,7 +56,7 @@ fn write_the_root(image: &mut [u8], blocks: u32, tree: &Tree, slots: [u32; 72])
     let numbers = page_numbers(blocks);
     let root = RootOut {
         slots,
-        pages: &numbers[..page_count(blocks).min(25) as usize],
+        pages: &numbers[..ROOT_PAGES.min(page_count(blocks) as usize)],
         map_ext: map_ext_or_none(blocks, 0, map_ext_count(blocks)),
         label: tree.label(),
         stamps: tree.stamps(),
