@@ -5,3 +5,4 @@ pub mod Counts
 pub mod Order
 pub mod Steps
 pub mod WholeVolume
+pub mod WholeWords

@@ -1,6 +1,6 @@
 // The bitmap pages of a volume.
 
-ghost use Rattle.std.specs.Prelude.{◌≡◌, ◌≤◌, ◌<◌, ◌+◌, ◌*◌, ◌^◌, true, length};
+ghost use Rattle.std.specs.Prelude.{◌≡◌, ◌≤◌, ◌<◌, ◌+◌, ◌*◌, ◌^◌, true, length, IfSome};
 ghost use Rattle.adf_blocks.specs.Sizes.{is_allowed, pages_needed};
 ghost use Rattle.adf_volume.specs.Bits.{bits_from, is_free_bit, is_used, page_words};
 ghost use Rattle.adf_volume.specs.Laid.{page_parts};
@@ -22,9 +22,34 @@ fn is_used_block(blocks: u32, total: u32, b: u32) -> bool
     b <= blocks / 2 + reserved || b.saturating_sub(3 + reserved) < total
 }
 
-// The word of the bits of 32 blocks, of which the first is `2 + q`.
+// The word of the bits of 32 blocks, of which the first is `2 + q`, where all of them are in use or all are free: on each
+// side of the root the blocks in use come first.
+
+fn whole_word(blocks: u32, total: u32, q: u32) -> Option<u32>
+    requires size { is_allowed blocks ≡ true }
+    requires far { q < 2 ^ 30 }
+    ensures { IfSome result (λ w. w ≡ bits_from (is_free_bit blocks total) q 32) }
+{
+    let first = 2 + q;
+    let last = first + 31;
+    if blocks <= first {
+        return Some(0);
+    }
+    if first < blocks / 2 && blocks / 2 <= last {
+        return None;
+    }
+    if is_used_block(blocks, total, last) {
+        return Some(0);
+    }
+    if last < blocks && !is_used_block(blocks, total, first) {
+        return Some(u32::MAX);
+    }
+    None
+}
+
+// The word of the bits of 32 blocks, of which the first is `2 + q`, bit by bit.
 #[tactic(auto, using(adf_volume::proofs::Bits::bits_step, adf_volume::proofs::Bits::bits_fit, adf_volume::proofs::Bits::bits_start))]
-fn page_word(blocks: u32, total: u32, q: u32) -> u32
+fn mixed_word(blocks: u32, total: u32, q: u32) -> u32
     requires size { is_allowed blocks ≡ true }
     requires far { q < 2 ^ 30 }
     ensures { result ≡ bits_from (is_free_bit blocks total) q 32 }
@@ -38,6 +63,18 @@ fn page_word(blocks: u32, total: u32, q: u32) -> u32
         word = 2 * word + u32::from(is_free);
     }
     word
+}
+
+// The word of the bits of 32 blocks, of which the first is `2 + q`.
+fn page_word(blocks: u32, total: u32, q: u32) -> u32
+    requires size { is_allowed blocks ≡ true }
+    requires far { q < 2 ^ 30 }
+    ensures { result ≡ bits_from (is_free_bit blocks total) q 32 }
+{
+    match whole_word(blocks, total, q) {
+        Some(word) => word,
+        None => mixed_word(blocks, total, q),
+    }
 }
 
 // Words 1 to 127 of page `j`.

@@ -2,6 +2,7 @@ pub mod DigitLaws
 pub mod Faults
 pub mod Forms
 pub mod Growth
+pub mod TreesOfLines
 pub mod LastLines
 pub mod LineLaws
 pub mod ManifestLaws

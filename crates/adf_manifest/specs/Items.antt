@@ -5,6 +5,7 @@ use Rattle.std.specs.Option.{unwrap_or}
 use Rattle.adf_fields.specs.declared.dates.Stamp.{Stamp}
 use Rattle.adf_tree.specs.Escapes.{IsSpelling, escaped}
 use Rattle.adf_tree.specs.PathTexts.{IsName, path_text}
+use Rattle.adf_tree.specs.Additions.{Addition}
 use Rattle.adf_tree.specs.Tree.{Tree, room_for, with_entry}
 use Rattle.adf_tree.specs.declared.entry.Body.{Body}
 use Rattle.adf_tree.specs.declared.entry.Body.TheVariants as body
@@ -62,8 +63,16 @@ body_of File bytes = body.File bytes
 abbrev pub item_meta : Item → Meta
 item_meta i = record { comment = unwrap_or i.note []; protect = i.protect; stamp = i.stamp }
 
+abbrev pub item_body : Item → Body
+item_body i = body_of i.sort (file_bytes i.runs)
+
+-- the path of an item, and what it gets
+abbrev pub addition_of : Item → Addition
+addition_of i = record { path = i.path; meta = item_meta i; body = item_body i }
+
+-- a tree with the entry of an item, as `add` leaves it
 abbrev pub with_item : Tree → Item → Tree
-with_item t i = with_entry t i.path (item_meta i) (body_of i.sort (file_bytes i.runs))
+with_item t i = with_entry t i.path (item_meta i) (item_body i)
 
 -- the tree that a list of entries gives, added one after the other
 unfoldable pub items_tree : Tree → List Item → Tree

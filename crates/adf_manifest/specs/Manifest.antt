@@ -1,9 +1,10 @@
 -- Manifests: the lines of their heads and entries, what they tell, and the first line with a fault.
-use Rattle.std.specs.Prelude.{◌≡◌, ◌+◌, ◌-◌, ◌<◌, ◌≤◌, ◌^◌, ◌==◌, ◌&&◌, ◌⊎◌, nat_lt, ℕ, true, false, List, [], ◌∷◌, ◌++◌, length, take, slice_index, if◌then◌else◌, Option, Some, None, IfSome, All, Err}
+use Rattle.std.specs.Prelude.{◌≡◌, ◌+◌, ◌-◌, ◌<◌, ◌≤◌, ◌^◌, ◌==◌, ◌&&◌, ◌⊎◌, nat_lt, ℕ, true, false, List, [], ◌∷◌, ◌++◌, length, take, slice_index, if◌then◌else◌, map, Option, Some, None, IfSome, All, Err}
 use Rattle.std.specs.List.{slice_split, flat_map}
 use Rattle.std.specs.Option.{unwrap_or}
 use Rattle.adf_tree.specs.Escapes.{IsSpelling, escaped}
 use Rattle.adf_tree.specs.PathTexts.{IsPathText}
+use Rattle.adf_tree.specs.Additions.{IsTreeOf}
 use Rattle.adf_tree.specs.Tree.{Tree, room_for}
 use Rattle.adf_tree.specs.declared.entry.Kind.{Kind}
 use Rattle.adf_tree.specs.declared.entry.Stamps.{Stamps}
@@ -12,7 +13,7 @@ use Rattle.adf_tree.specs.declared.tree.AddFault.TheVariants as add
 use Rattle.adf_blocks.specs.Sizes.{is_allowed}
 use Rattle.adf_manifest.specs.Parts.{AreStamps}
 use Rattle.adf_manifest.specs.Lines.{IsLine, IsVolumeLine, LineValue, LabelLine, StampsLine, EntryLine, NoteLine, RunLine, label_line, line_text, stamps_line, volume_line}
-use Rattle.adf_manifest.specs.Items.{HaveRoom, IsItem, Item, item_lines, items_tree}
+use Rattle.adf_manifest.specs.Items.{HaveRoom, IsItem, Item, addition_of, item_lines, items_tree}
 use Rattle.adf_manifest.specs.declared.lines.Sort.TheVariants.{File}
 use Rattle.adf_manifest.specs.declared.reader.Head.{Head}
 use Rattle.adf_manifest.specs.declared.manifest.ManifestFault.{ManifestFault}
@@ -93,7 +94,7 @@ items_of (Some e) = e.before ++ e.last ∷ []
 abbrev pub manifest_lines : Manifest → List (List ℕ)
 manifest_lines m = head_lines m.head ++ flat_map item_lines (items_of m.entries)
 
--- the tree of a manifest: its entries, added one after the other
+-- the tree that adding entry line after entry line gives
 abbrev pub manifest_tree : Manifest → Tree
 manifest_tree m = items_tree (head_tree m.head) (items_of m.entries)
 
@@ -103,9 +104,15 @@ pub record IsWell (m : Manifest) : Type 0 where
   pub items : All IsItem (items_of m.entries)
   pub room : HaveRoom (head_tree m.head) (items_of m.entries)
 
+-- the tree of a manifest: with the kind, the label and the dates of its head; its entries have the paths of the entry lines and no
+-- others, and each chain has its entries in the order of the lines
+pub record IsTreeOfManifest (tree : Tree) (m : Manifest) : Type 0 where
+  pub head : record tree { entries = [] } ≡ head_tree m.head
+  pub entries : IsTreeOf tree.entries (map addition_of (items_of m.entries))
+
 -- the bytes are a manifest of this tree and this number of blocks
 abbrev pub IsManifest : List ℕ → Tree → ℕ → Type 0
-IsManifest bytes tree n = (length bytes ≤ most_bytes) × ((m : Manifest) × IsWell m × (lines bytes ≡ manifest_lines m) × (tree ≡ manifest_tree m) × (n ≡ m.head.blocks))
+IsManifest bytes tree n = (length bytes ≤ most_bytes) × ((m : Manifest) × IsWell m × (lines bytes ≡ manifest_lines m) × IsTreeOfManifest tree m × (n ≡ m.head.blocks))
 
 -- the last entry has neither a note nor bytes; it is a file
 abbrev pub IsBare : Option Entries → Type 0
@@ -191,6 +198,10 @@ ExplainsFault f bytes = ExplainsKind f.kind f.line bytes
 -- a manifest is of one tree and one number of blocks
 abbrev pub ManifestsAreOfOneTree : Type 0
 ManifestsAreOfOneTree = (bytes : List ℕ) (tree tree' : Tree) (n n' : ℕ) → IsManifest bytes tree n → IsManifest bytes tree' n' → (tree ≡ tree') × (n ≡ n')
+
+-- adding the entry lines of a manifest one after the other gives its tree
+abbrev pub AddingLinesGivesTheTree : Type 0
+AddingLinesGivesTheTree = (m : Manifest) → IsWell m → IsTreeOfManifest (manifest_tree m) m
 
 -- a manifest has no fault
 abbrev pub ManifestsAreFaultless : Type 0

@@ -1,7 +1,7 @@
 // Manifests.
 
 ghost use Rattle.std.specs.Prelude.{◌≡◌, ◌≤◌, ◌++◌, ◌∷◌, IfOk, IfErr, length, option_map};
-ghost use Rattle.adf_manifest.specs.Manifest.{ExplainsFault, IsManifest, IsWell, LinesHaveOneFault, Manifest, ManifestsAreFaultless, ManifestsAreOfOneTree, manifest_lines, manifest_tree, most_bytes, parts, parts_behind, without_last_feed};
+ghost use Rattle.adf_manifest.specs.Manifest.{AddingLinesGivesTheTree, ExplainsFault, IsManifest, IsWell, LinesHaveOneFault, Manifest, ManifestsAreFaultless, ManifestsAreOfOneTree, manifest_lines, manifest_tree, most_bytes, parts, parts_behind, without_last_feed};
 ghost use Rattle.adf_manifest.specs.Reader.{ExplainsLines, Tells, line_of_fault};
 
 use crate::parts::cut_at;
@@ -123,9 +123,10 @@ pub fn read_manifest(alloc: Global, bytes: &[u8]) -> Result<(Tree, u32), Manifes
 }
 
 /// Bytes have one verdict: a manifest is of one tree and one number of blocks, no line of it has a
-/// fault, and lines have one first fault at most.
+/// fault, and lines have one first fault at most. Adding its entry lines one after the other gives the tree.
 pub fn one_verdict()
     ensures one_tree { ManifestsAreOfOneTree }
+    ensures adding { AddingLinesGivesTheTree }
     ensures faultless { ManifestsAreFaultless }
     ensures one_fault { LinesHaveOneFault }
 {}
