@@ -11,17 +11,22 @@ use Rattle.adf_volume.specs.Plan.{reserved}
 bits_clear : (f : ℕ → Bool) (q m : ℕ) → ((k : ℕ) → q ≤ k → k < q + m → f k ≡ false) → bits_from f q m ≡ 0
 bits_clear f q zero h = refl
 bits_clear f q (suc m) h =
-    let low : cond (f q) 1 0 ≡ 0 = ap (λ b. cond b 1 0) (h q (omega arith) (omega arith)) in
+    let bit : Bool → ℕ = λ b. cond b 1 0 in
+    let low : bit (f q) ≡ 0 = ap bit (h q (omega arith) (omega arith)) in
     let high : bits_from f (suc q) m ≡ 0 = bits_clear f (suc q) m (λ k l u. h k (omega arith) (omega arith)) in
     omega arith
 
 bits_set : (f : ℕ → Bool) (q m : ℕ) → ((k : ℕ) → q ≤ k → k < q + m → f k ≡ true) → bits_from f q m + 1 ≡ 2 ^ m
 bits_set f q zero h = refl
 bits_set f q (suc m) h =
-    let low : cond (f q) 1 0 ≡ 1 = ap (λ b. cond b 1 0) (h q (omega arith) (omega arith)) in
+    let bit : Bool → ℕ = λ b. cond b 1 0 in
+    let low : bit (f q) ≡ 1 = ap bit (h q (omega arith) (omega arith)) in
     let high : bits_from f (suc q) m + 1 ≡ 2 ^ m = bits_set f (suc q) m (λ k l u. h k (omega arith) (omega arith)) in
     let double : 2 ^ suc m ≡ 2 * 2 ^ m = pow-succ' 2 m in
     omega arith
+
+set_word : (w : ℕ) → w + 1 ≡ 2 ^ 32 → 4294967295 ≡ w
+set_word w h = omega arith
 
 -- two blocks lie on the same side of the root
 abbrev pub IsOneSide : ℕ → ℕ → ℕ → Type 0
@@ -62,16 +67,20 @@ absent_bit : (n total r : ℕ) → n ≤ 2 + r → is_free_bit n total r ≡ fal
 absent_bit n total r h = grind (arith, nat_tests)
 
 -- a word past the last block
-pub past_the_end : (n total q : ℕ) → n ≤ 2 + q → bits_from (is_free_bit n total) q 32 ≡ 0
-past_the_end n total q h = bits_clear (is_free_bit n total) q 32 (λ k l u. absent_bit n total k (omega arith))
+pub past_the_end : (n total q : ℕ) → n ≤ 2 + q → 0 ≡ bits_from (is_free_bit n total) q 32
+past_the_end n total q h = sym (bits_clear (is_free_bit n total) q 32 (λ k l u. absent_bit n total k (omega arith)))
 
 one_side : (n a b : ℕ) → (a < n / 2 → b < n / 2) → IsOneSide n a b
 one_side n a b h = elim (cases_lt a (n / 2)) [ inl k ↦ inl (h k) | inr k ↦ inr k ]
 
--- a word of one side whose last block is in use
-pub none_free : (n total q : ℕ) → (2 + q < n / 2 → 33 + q < n / 2) → is_used n total (33 + q) ≡ true → bits_from (is_free_bit n total) q 32 ≡ 0
-none_free n total q h u = word_clear n total q (one_side n (2 + q) (33 + q) h) u
+-- a word of one side, from block a to block b, whose last block is in use
+pub none_free : (n total q a b : ℕ) → a ≡ 2 + q → b ≡ 33 + q → (a < n / 2 → b < n / 2) → is_used n total b ≡ true → 0 ≡ bits_from (is_free_bit n total) q 32
+none_free n total q a b e g h u =
+    let side = one_side n (2 + q) (33 + q) (λ l. omega (arith, h (omega arith))) in
+    sym (word_clear n total q side (ap (is_used n total) (sym g) ∙ u))
 
--- a word of one side whose first block is free and whose last one is there
-pub all_free : (n total q : ℕ) → (2 + q < n / 2 → 33 + q < n / 2) → 33 + q < n → is_used n total (2 + q) ≡ false → bits_from (is_free_bit n total) q 32 + 1 ≡ 2 ^ 32
-all_free n total q h l u = word_set n total q (one_side n (2 + q) (33 + q) h) l u
+-- a word of one side, from block a to block b, whose first block is free and whose last one is there
+pub all_free : (n total q a b : ℕ) → a ≡ 2 + q → b ≡ 33 + q → (a < n / 2 → b < n / 2) → b < n → is_used n total a ≡ false → 4294967295 ≡ bits_from (is_free_bit n total) q 32
+all_free n total q a b e g h l u =
+    let side = one_side n (2 + q) (33 + q) (λ l. omega (arith, h (omega arith))) in
+    set_word (bits_from (is_free_bit n total) q 32) (word_set n total q side (omega arith) (ap (is_used n total) (sym e) ∙ u))
