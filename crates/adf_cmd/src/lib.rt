@@ -7,6 +7,7 @@ mod command_line;
 mod devices;
 mod listing;
 mod outcome;
+mod round_trip;
 mod runner;
 mod streams;
 mod texts;
@@ -15,6 +16,7 @@ pub use crate::checking::MOST_IMAGE_BYTES;
 pub use crate::command_line::{Order, WordsFault, parse, words_as_documented};
 pub use crate::devices::{Device, Failed, Sink, Source};
 pub use crate::listing::write_listing;
+pub use crate::round_trip::build_and_read;
 pub use crate::runner::run;
 pub use crate::streams::{StreamFault, read_all, say, write_all};
 pub use crate::texts::{

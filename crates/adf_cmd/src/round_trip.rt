@@ -1,0 +1,30 @@
+// Building a tree and reading it back.
+
+ghost use Rattle.std.specs.Prelude.{◌≡◌, IfOk, IfErr};
+ghost use Rattle.adf_build.specs.Building.{IsBuildFault};
+
+use adf_blocks::Cause;
+use adf_build::{BuildFault, build};
+use adf_check::check;
+use adf_tree::Tree;
+use std::alloc::Global;
+
+/// Builds a tree in a volume of so many blocks, checks the image, and answers the tree of the checked volume: it is the tree given.
+/// The image that was built is never refused but for want of memory.
+pub fn build_and_read(alloc: Global, tree: &Tree, blocks: u32) -> Result<Tree, BuildFault>
+    ensures same { IfOk result (λ t. t ≡ tree.now) }
+    ensures fault { IfErr result (IsBuildFault tree.now blocks) }
+{
+    let image = build(alloc, tree, blocks)?;
+    let volume = match check(alloc, &image) {
+        Ok(volume) => volume,
+        Err(fault) => match fault.cause {
+            Cause::NoMemory => return Err(BuildFault::NoMemory),
+            _ => unreachable!(),
+        },
+    };
+    match volume.to_tree(alloc) {
+        Ok(tree) => Ok(tree),
+        Err(_) => Err(BuildFault::NoMemory),
+    }
+}
