@@ -146,11 +146,13 @@ pub fn pieces_of<'a>(image: &Image<'a>, found: &'a Found, n: Node) -> Option<Pie
     Some(Pieces::new(image.bytes(), image.kind(), size, datas))
 }
 
-/// The pieces, one after the other.
+/// The pieces of a file, one after the other, in room made once.
 pub fn joined(alloc: Global, pieces: Pieces<'_>) -> Result<Vec<u8>, NoMemory>
     ensures { IfOk result (λ v. v.items ≡ concat pieces.entry) }
 {
-    let mut bytes = Vec::new(alloc);
+    let Ok(mut bytes) = Vec::with_capacity(alloc, pieces.size as usize) else {
+        return Err(NoMemory);
+    };
     for piece in pieces {
         if bytes.extend_from_slice(piece).is_err() {
             return Err(NoMemory);
