@@ -1,20 +1,31 @@
 // The laws of what the builder lays. Each is the contract of a function that does nothing.
 
-ghost use Rattle.std.specs.Prelude.{◌≡◌, ◌≤◌, ◌<◌, ℕ, List, ◌-◌, length, replicate};
+ghost use Rattle.std.specs.Prelude.{◌≡◌, ◌≤◌, ◌<◌, ◌↔◌, ℕ, List, ◌+◌, ◌-◌, ◌*◌, length, replicate, true};
 ghost use Rattle.adf_fields.specs.Words.{block};
 ghost use Rattle.adf_tree.specs.Tree.{Tree};
-ghost use Rattle.adf_blocks.specs.Sizes.{blocks};
+ghost use Rattle.adf_blocks.specs.Sizes.{blocks, is_allowed};
 ghost use Rattle.adf_volume.specs.declared.owner.Owner.{Owner};
 ghost use Rattle.adf_volume.specs.Lists.{In};
 ghost use Rattle.adf_volume.specs.Layout.{owned};
 ghost use Rattle.adf_volume.specs.Fits.{Fits};
-ghost use Rattle.adf_volume.specs.Plan.{blocks_needed, entries_blocks, given, planned};
+ghost use Rattle.adf_volume.specs.Plan.{blocks_needed, entries_blocks, exts_needed, given, planned};
 ghost use Rattle.adf_volume.specs.Lay.{numbers_of};
-ghost use Rattle.adf_volume.specs.Laid.{IsLaid, IsSound, parts};
+ghost use Rattle.adf_volume.specs.Laid.{IsLaid, IsSound, parts, volume};
 
 /// What is laid for a tree fits it, as it was planned.
 pub fn laid_fits()
     ensures { (image : List ℕ) (t : Tree) → IsSound t → IsLaid image t → Fits image t (planned t (blocks image)) }
+{}
+
+/// A tree whose fields are within their limits is laid in every allowed size that has room for it.
+pub fn volumes_are_laid()
+    ensures laid { (t : Tree) (n : ℕ) → IsSound t → is_allowed n ≡ true → blocks_needed t n ≤ n - 2 → IsLaid (volume t n) t }
+    ensures size { (t : Tree) (n : ℕ) → IsSound t → is_allowed n ≡ true → blocks_needed t n ≤ n - 2 → blocks (volume t n) ≡ n }
+{}
+
+/// A file has as few extension blocks as name its data blocks, of which its header names 72.
+pub fn extensions_are_few()
+    ensures { (count exts : ℕ) → (count ≤ 72 * (1 + exts)) ↔ (exts_needed count ≤ exts) }
 {}
 
 /// For a tree and a size at most one image is laid.
