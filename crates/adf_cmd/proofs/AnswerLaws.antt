@@ -17,12 +17,12 @@ use Rattle.adf_check.specs.Volumes.{counts_of}
 use Rattle.adf_check.specs.declared.checked.Counts.{Counts}
 use Rattle.adf_check.proofs.ExtSteps.{few_blocks}
 use Rattle.adf_check.specs.declared.fault.Fault.{Fault}
-use Rattle.adf_cmd.specs.Answers.{Answer, Answers, IsPart, fault_line}
+use Rattle.adf_cmd.specs.Answers.{Answer, Answers, IsPart}
 use Rattle.adf_cmd.specs.CommandLine.{Asks, Request, build, check}
 use Rattle.adf_manifest.specs.Manifest.{ExplainsFault, ExplainsKind, IsManifest}
 use Rattle.adf_cmd.specs.Outcomes.{IsFaultOutcome, TellsFault, TreeWorks, Works, line_of, status_of}
 use Rattle.adf_cmd.specs.Streams.{AppendsPart, Says}
-use Rattle.adf_cmd.specs.Texts.{ok_line}
+use Rattle.adf_texts.specs.Lines.{fault_line, ok_line}
 use Rattle.adf_manifest.specs.declared.manifest.ManifestFault.{ManifestFault}
 use Rattle.adf_manifest.specs.declared.manifest.ManifestKind.{ManifestKind}
 use Rattle.adf_manifest.specs.declared.manifest.ManifestKind.TheVariants.{BadLine, BadSize as BadNumber, BadText, NoParent, ParentIsFile, Exists, NoMemory as ManifestNoMemory, TooLong}

@@ -1,9 +1,7 @@
 -- What the command answers to its words and its input.
-use Rattle.std.specs.Prelude.{◌≡◌, ◌≢◌, ◌<◌, ◌-◌, ◌⊎◌, ℕ, Bool, true, false, List, [], ◌++◌, codes, Option, Some, if◌then◌else◌}
-use Rattle.std.specs.Fmt.{decimal}
+use Rattle.std.specs.Prelude.{◌≡◌, ◌≢◌, ◌<◌, ◌-◌, ◌⊎◌, ℕ, Bool, true, false, List, [], codes, Option, Some, if◌then◌else◌}
 use Rattle.std.specs.Io.KnownBytes.{Appends}
 use Rattle.adf_tree.specs.Tree.{Tree}
-use Rattle.adf_blocks.specs.Causes.{cause_text}
 use Rattle.adf_volume.specs.Fits.{Fits}
 use Rattle.adf_volume.specs.Laid.{IsLaid, volume}
 use Rattle.adf_volume.specs.Layout.{Layout}
@@ -16,13 +14,9 @@ use Rattle.adf_cmd.specs.CommandLine.{Asks, IsRefused, Request, build, cat, chec
 use Rattle.adf_cmd.specs.Listing.{listing}
 use Rattle.adf_manifest.specs.Manifest.{ExplainsFault, IsManifest}
 use Rattle.adf_cmd.specs.Streams.{AppendsPart, Says}
-use Rattle.adf_cmd.specs.Texts.{full_line, manifest_fault_line, ok_line}
+use Rattle.adf_texts.specs.Lines.{fault_line, full_line, manifest_fault_line, ok_line}
 use Rattle.adf_manifest.specs.declared.manifest.ManifestFault.{ManifestFault}
 use Rattle.adf_manifest.specs.declared.manifest.ManifestKind.TheVariants.{NoMemory as ManifestNoMemory}
-
--- the line of a refused image
-abbrev pub fault_line : Fault → List ℕ
-fault_line f = codes "block " ++ (decimal f.block ++ (codes ": " ++ (cause_text f.cause ++ codes "\n")))
 
 -- `check` at status 0 tells the numbers of a tree and a layout that fit the image, at status 1 its first fault
 abbrev pub Accepts : List ℕ → ℕ → List ℕ → List ℕ → Type 0

@@ -2,6 +2,5 @@ pub mod CommandLine
 pub mod Devices
 pub mod Listing
 pub mod Streams
-pub mod Texts
 pub mod Answers
 pub mod Outcomes

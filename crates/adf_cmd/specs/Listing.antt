@@ -2,7 +2,7 @@
 use Rattle.std.specs.Prelude.{ℕ, ◌/◌, ◌==◌, List, [], if◌then◌else◌, length}
 use Rattle.std.specs.List.{flat_map, range_with_len}
 use Rattle.adf_fields.specs.Words.{block, word}
-use Rattle.adf_cmd.specs.Texts.{word_line}
+use Rattle.adf_texts.specs.Lines.{word_line}
 
 -- the line of word i of a block with the number b, where the word is not 0
 abbrev pub line_of : ℕ → List ℕ → ℕ → List ℕ

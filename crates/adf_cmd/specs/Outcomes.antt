@@ -5,10 +5,10 @@ use Rattle.adf_tree.specs.Tree.{Tree}
 use Rattle.adf_volume.specs.Plan.{blocks_needed}
 use Rattle.adf_build.specs.Building.{need_of}
 use Rattle.adf_check.specs.declared.fault.Fault.{Fault}
-use Rattle.adf_cmd.specs.Answers.{Answer, IsBuilt, IsPart, built, fault_line}
+use Rattle.adf_cmd.specs.Answers.{Answer, IsBuilt, IsPart, built}
 use Rattle.adf_cmd.specs.CommandLine.{Request}
 use Rattle.adf_cmd.specs.Streams.{AppendsPart}
-use Rattle.adf_cmd.specs.Texts.{full_line, manifest_fault_line}
+use Rattle.adf_texts.specs.Lines.{fault_line, full_line, manifest_fault_line}
 use Rattle.adf_manifest.specs.declared.manifest.ManifestFault.{ManifestFault}
 use Rattle.adf_manifest.specs.declared.manifest.ManifestKind.TheVariants.{NoMemory as ManifestNoMemory}
 use Rattle.adf_cmd.specs.declared.outcome.Outcome.{Outcome}

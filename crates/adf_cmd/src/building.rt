@@ -13,9 +13,9 @@ use crate::devices::{Sink, Source};
 use crate::listing::write_listing;
 use crate::outcome::Outcome;
 use crate::streams::{StreamFault, read_all, write_all};
-use crate::texts::{push_full, push_manifest_fault};
 use adf_build::{BuildFault, build};
 use adf_manifest::{MOST_BYTES, ManifestFault, ManifestKind, read_manifest};
+use adf_texts::{push_full, push_manifest_fault};
 use adf_tree::Tree;
 use std::alloc::Global;
 

@@ -4,21 +4,20 @@ ghost use Rattle.std.specs.Prelude.{◌≡◌, ◌++◌, ◌+◌, false, OnOk, I
 ghost use Rattle.adf_tree.specs.Tree.{Tree};
 ghost use Rattle.adf_volume.specs.Layout.{Layout};
 ghost use Rattle.adf_check.specs.Volumes.{StandsFor};
-ghost use Rattle.adf_cmd.specs.Answers.{fault_line, limit_of};
+ghost use Rattle.adf_cmd.specs.Answers.{limit_of};
 ghost use Rattle.adf_cmd.specs.CommandLine.{check};
 ghost use Rattle.adf_cmd.specs.Outcomes.{TellsFault, Works, is_read_fault, is_write_fault};
 ghost use Rattle.adf_cmd.specs.Streams.{TakesAtMost};
-ghost use Rattle.adf_cmd.specs.Texts.{ok_line};
+ghost use Rattle.adf_texts.specs.Lines.{fault_line, ok_line};
 
 use crate::devices::{Sink, Source};
 use crate::outcome::Outcome;
 use crate::streams::{StreamFault, read_all, write_all};
-use crate::texts::push_counts;
 use adf_blocks::{Cause, MOST_BLOCKS};
 use adf_check::{Checked, Counts, Fault, check};
 use adf_fields::BLOCK_LEN;
+use adf_texts::{push_counts, push_fault};
 use std::alloc::{AllocError, Global};
-use std::fmt;
 
 /// The most bytes of an image.
 pub const MOST_IMAGE_BYTES: usize = MOST_BLOCKS as usize * BLOCK_LEN;
@@ -36,9 +35,9 @@ fn accepted_line(alloc: Global, counts: &Counts) -> Result<String, AllocError>
 fn refused_line(alloc: Global, fault: Fault) -> Result<String, AllocError>
     ensures { IfOk result (λ line. string_bytes line ≡ fault_line fault) }
 {
-    let block = fault.block;
-    let cause = fault.cause.text();
-    format!(in alloc; "block {block}: {cause}\n")
+    let mut line = String::new(alloc);
+    push_fault(&mut line, fault)?;
+    Ok(line)
 }
 
 // Writes the line of an accepted image.

@@ -8,8 +8,8 @@ ghost use Rattle.adf_cmd.specs.Streams.{AppendsPart, KeepsPending, is_device};
 
 use crate::devices::Sink;
 use crate::streams::{StreamFault, flush_long, write_all};
-use crate::texts::push_word_line;
 use adf_fields::{BLOCK_LEN, BLOCK_WORDS, Block};
+use adf_texts::push_word_line;
 use std::alloc::{AllocError, Global};
 
 // Appends the line of a word, if that is not 0.

@@ -3,7 +3,7 @@ use Rattle.std.proofs.lemmas.List.{drop-set, take_all}
 use Rattle.std.proofs.Math.ListN.{length-set, set}
 use Rattle.std.proofs.lemmas.Fmt.{decimal_digit, decimal_step, length-decimal-le}
 use Rattle.std.specs.Fmt.{decimal}
-use Rattle.adf_cmd.proofs.texts.push_number.Goals as goal
+use Rattle.adf_texts.proofs.digits.push_number.Goals as goal
 
 -- the digits of a number of more than one digit
 long : (n : ℕ) → 10 ≤ n → n < 2 ^ 64 → length (decimal n) ≡ length (decimal (n / 10)) + 1

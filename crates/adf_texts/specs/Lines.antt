@@ -1,16 +1,22 @@
--- The texts of numbers, kinds and lines.
+-- The lines that commands answer with.
 use Rattle.std.specs.Prelude.{ℕ, List, [], ◌∷◌, ◌++◌, codes}
 use Rattle.std.specs.Fmt.{decimal}
 use Rattle.adf_manifest.specs.Texts.{hex_word, kind_text}
 use Rattle.adf_manifest.specs.declared.manifest.ManifestFault.{ManifestFault}
 use Rattle.adf_manifest.specs.declared.manifest.ManifestKind.{ManifestKind}
 use Rattle.adf_manifest.specs.declared.manifest.ManifestKind.TheVariants.{BadLine, BadSize, BadText, NoParent, ParentIsFile, Exists, NoMemory, TooLong}
+use Rattle.adf_blocks.specs.Causes.{cause_text}
 use Rattle.adf_check.specs.declared.checked.Counts.{Counts}
+use Rattle.adf_check.specs.declared.fault.Fault.{Fault}
 
 -- the line of `check`
 abbrev pub ok_line : Counts → List ℕ
 ok_line c = codes "ok " ++ (kind_text c.kind ++ (codes " blocks " ++ (decimal c.blocks ++ (codes " used " ++ (decimal c.used ++ (codes " free " ++ (decimal c.free
     ++ (codes " dirs " ++ (decimal c.dirs ++ (codes " files " ++ (decimal c.files ++ codes "\n")))))))))))
+
+-- the line of a refused image
+abbrev pub fault_line : Fault → List ℕ
+fault_line f = codes "block " ++ (decimal f.block ++ (codes ": " ++ (cause_text f.cause ++ codes "\n")))
 
 -- the line of a tree that needs more blocks than there are
 abbrev pub full_line : ℕ → ℕ → List ℕ

@@ -1,6 +1,6 @@
 use Rattle.std.proofs.Common.{◌≡◌, ◌≤◌, ◌++◌, [], ◌∷◌, drop, length}
 use Rattle.std.specs.Fmt.{decimal}
-use Rattle.adf_cmd.proofs.texts.push_number.Given as goal
+use Rattle.adf_texts.proofs.digits.push_number.Given as goal
 
 abbrev pub invariant-loop-rest : goal.invariant-loop-rest
 invariant-loop-rest l = record {

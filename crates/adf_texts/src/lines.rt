@@ -1,12 +1,11 @@
-// The texts of numbers, kinds and lines.
+// The lines that commands answer with.
 
-ghost use Rattle.std.specs.Prelude.{◌≡◌, ◌<◌, ◌++◌, [], ◌∷◌, OnOk, is_ok, if◌then◌else◌, string_bytes};
-ghost use Rattle.std.specs.Fmt.{decimal};
-ghost use Rattle.adf_tree.specs.Escapes.{hex_digit};
-ghost use Rattle.adf_manifest.specs.Texts.{hex_word, kind_text};
-ghost use Rattle.adf_cmd.specs.Texts.{full_line, manifest_fault_line, manifest_kind_text, ok_line, word_line};
+ghost use Rattle.std.specs.Prelude.{◌≡◌, ◌++◌, OnOk, string_bytes};
+ghost use Rattle.adf_manifest.specs.Texts.{kind_text};
+ghost use Rattle.adf_texts.specs.Lines.{fault_line, full_line, manifest_fault_line, manifest_kind_text, ok_line, word_line};
 
-use adf_check::Counts;
+use crate::digits::{push_hex_line, push_number};
+use adf_check::{Counts, Fault};
 use adf_manifest::{ManifestFault, ManifestKind};
 use adf_tree::Kind;
 use std::alloc::AllocError;
@@ -36,6 +35,15 @@ pub fn push_counts(text: &mut String, counts: &Counts) -> Result<(), AllocError>
         text,
         "ok {kind} blocks {blocks} used {used} free {free} dirs {dirs} files {files}\n"
     )
+}
+
+/// Appends the line of an image's fault.
+pub fn push_fault(text: &mut String, fault: Fault) -> Result<(), AllocError>
+    ensures { OnOk result (string_bytes text.new ≡ string_bytes text.old ++ fault_line fault) }
+{
+    let block = fault.block;
+    let cause = fault.cause.text();
+    write!(text, "block {block}: {cause}\n")
 }
 
 /// Appends the line of a tree that needs more blocks than there are.
@@ -68,57 +76,6 @@ pub fn push_manifest_fault(text: &mut String, fault: ManifestFault) -> Result<()
     let number = fault.line;
     let kind = manifest_kind_text(fault.kind);
     write!(text, "line {number}: {kind}\n")
-}
-
-// A hexadecimal digit.
-fn digit(value: u32) -> u8
-    requires { value < 16 }
-    ensures { result ≡ hex_digit value }
-{
-    if value < 10 {
-        b'0' + value as u8
-    } else {
-        b'a' + (value - 10) as u8
-    }
-}
-
-// Appends eight hexadecimal digits and a line feed.
-fn push_hex_line(text: &mut Vec<u8>, word: u32) -> Result<(), AllocError>
-    ensures { text.new.items ≡ (if is_ok result then text.old.items ++ (hex_word word ++ 10 ∷ []) else text.old.items) }
-{
-    let first = (word >> 24) % 256;
-    let second = (word >> 16) % 256;
-    let third = (word >> 8) % 256;
-    let fourth = word % 256;
-    let digits = [
-        digit(first / 16),
-        digit(first % 16),
-        digit(second / 16),
-        digit(second % 16),
-        digit(third / 16),
-        digit(third % 16),
-        digit(fourth / 16),
-        digit(fourth % 16),
-        b'\n',
-    ];
-    text.extend_from_slice(&digits)
-}
-
-// Appends a number in decimal and a space.
-fn push_number(text: &mut Vec<u8>, value: u32) -> Result<(), AllocError>
-    ensures { text.new.items ≡ (if is_ok result then text.old.items ++ (decimal value ++ 32 ∷ []) else text.old.items) }
-{
-    let mut digits = [b' '; 11];
-    let mut rest = value;
-    let mut at = 10usize;
-    while rest >= 10 {
-        at -= 1;
-        digits[at] = b'0' + (rest % 10) as u8;
-        rest /= 10;
-    }
-    at -= 1;
-    digits[at] = b'0' + rest as u8;
-    text.extend_from_slice(&digits[at..])
 }
 
 /// Appends the line of a word: the block, the word's number and the word.

@@ -1,0 +1,12 @@
+//! The texts that the command writes: kinds, numbers and lines.
+#![tactic(auto)]
+
+mod digits;
+mod lines;
+#[cfg(test)]
+mod tests;
+
+pub use crate::lines::{
+    kind_text, manifest_kind_text, push_counts, push_fault, push_full, push_manifest_fault,
+    push_word_line,
+};
