@@ -1,2 +1,4 @@
 pub mod WordLaws
 pub mod Digits
+pub mod CivilDates
+pub mod DateTexts

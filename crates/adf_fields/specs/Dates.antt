@@ -1,5 +1,5 @@
 -- Dates as texts: the civil date and time where there is one, else the three numbers.
-use Rattle.std.specs.Prelude.{◌≡◌, ℕ, ℤ, pos, ◌+◌, ◌/◌, ◌%◌, ◌&&◌, Bool, nat_lt, List, [], ◌∷◌, ◌++◌, decimal, codes, IsTrue, MatchBool}
+use Rattle.std.specs.Prelude.{◌≡◌, ℕ, pos, ◌+◌, ◌/◌, ◌%◌, ◌&&◌, Bool, nat_lt, List, [], ◌∷◌, ◌++◌, decimal, codes, MatchBool}
 use Rattle.jiff.specs.Words.{epoch_day, date_text}
 use Rattle.jiff.specs.Types.{Date}
 use Rattle.adf_fields.specs.declared.dates.Stamp.{Stamp}
@@ -33,3 +33,7 @@ IsStampText s t = MatchBool (is_civil s)
 -- new is old with the text of the date at its end
 abbrev pub AppendsStampText : Stamp → List ℕ → List ℕ → Type 0
 AppendsStampText s old new = (t : List ℕ) × IsStampText s t × (new ≡ old ++ t)
+
+-- every date has a text, and no other
+abbrev pub DatesHaveOneText : Type 0
+DatesHaveOneText = (s : Stamp) → ((t : List ℕ) × IsStampText s t) × ((t other : List ℕ) → IsStampText s t → IsStampText s other → t ≡ other)

@@ -2,7 +2,7 @@
 
 ghost use Rattle.std.specs.Prelude.{◌≡◌, ◌<◌, ◌+◌, ◌++◌, codes, OnOk, OnErr, IfOk, string_bytes};
 ghost use Rattle.jiff.specs.Words.{date_text};
-ghost use Rattle.adf_fields.specs.Dates.{IsCivilDay, IsStampText, AppendsStampText, clock_text, plain_text};
+ghost use Rattle.adf_fields.specs.Dates.{IsCivilDay, IsStampText, AppendsStampText, DatesHaveOneText, clock_text, plain_text};
 
 use crate::NoMemory;
 use jiff::ToSpan;
@@ -72,3 +72,8 @@ pub fn stamp_text(s: Stamp, out: &mut String) -> Result<(), NoMemory>
         Err(_) => Err(NoMemory),
     }
 }
+
+/// Every date has a text, and no other.
+pub fn dates_have_one_text()
+    ensures { DatesHaveOneText }
+{}
