@@ -1,10 +1,10 @@
 -- The civil date of each day up to 9999-12-31.
-use Rattle.std.proofs.Common.{◌≡◌, ℕ, zero, suc, ◌+◌, ◌<◌, ◌≤◌, inl, inr, arith, refl, rules, pos, ◌+ℤ◌, ◌<ℤ◌}
+use Rattle.std.proofs.Common.{◌≡◌, ℕ, zero, suc, ◌+◌, ◌<◌, ◌≤◌, inl, inr, arith, refl, rules, pos, ◌+ℤ◌, ◌<ℤ◌, ◌≤ℤ◌}
 use Rattle.std.proofs.lemmas.Bool.{cases_lt}
 use Rattle.std.proofs.lemmas.Int.{by_lt_z}
 use Rattle.jiff.specs.Types.{Date}
 use Rattle.jiff.specs.Words.{days_in_month}
-use Rattle.jiff.proofs.Family.{days_from_civil-day, days_from_civil-next_month, days_from_civil-next_year, days_from_civil-max}
+use Rattle.jiff.proofs.Family.{epoch_day-lt, days_from_civil-day, days_from_civil-next_month, days_from_civil-next_year, days_from_civil-max}
 use Rattle.jiff.proofs.SpanFacts.{signed_arith}
 use Rattle.adf_fields.specs.Dates.{IsCivilDay}
 use Rattle.adf_fields.proofs.Digits.{epoch_day_1970}
@@ -53,3 +53,10 @@ next_date n short (d, is) = elim (cases_lt d.day (days_in_month d.year d.month))
 pub civil_date : (n : ℕ) → n ≤ 2932896 → HasDate n
 civil_date zero h = first_date
 civil_date (suc n) h = next_date n (omega arith) (civil_date n (omega arith))
+
+-- its year is that of 1970-01-01 or a later one
+pub civil_year : (n : ℕ) (d : Date) → IsCivilDay n d → pos 0 ≤ℤ d.year
+unfolding first_date
+civil_year n d is = by_lt_z d.year (pos 1970)
+    (λ before. let early = epoch_day-lt d first_date.0 (inl before) in absurd (omega (arith, signed_arith, is, first_date.1, early)))
+    (λ from. omega (arith, signed_arith))

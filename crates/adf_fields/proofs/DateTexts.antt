@@ -1,12 +1,12 @@
 -- Every date has one text.
-use Rattle.std.proofs.Common.{◌≡◌, ◌∙◌, ℕ, ◌+◌, ◌<◌, Bool, true, false, List, ◌++◌, arith, refl, sym, ap, codes}
+use Rattle.std.proofs.Common.{◌≡◌, ◌∙◌, ℕ, ◌+◌, ◌<◌, Bool, true, false, List, ◌++◌, Result, Ok, Err, OnOk, is_ok, if◌then◌else◌, arith, refl, sym, ap, codes}
 use Rattle.std.specs.Bool.{MatchBool}
 use Rattle.std.proofs.lemmas.Bool.{and_parts, ltb-true}
 use Rattle.jiff.specs.Types.{Date}
 use Rattle.jiff.specs.Words.{date_text}
 use Rattle.jiff.proofs.Family.{epoch_day_injective}
 use Rattle.adf_fields.specs.declared.dates.Stamp.{Stamp}
-use Rattle.adf_fields.specs.Dates.{IsCivilDay, IsStampText, clock_text, is_civil, plain_text}
+use Rattle.adf_fields.specs.Dates.{AppendsStampText, IsCivilDay, IsStampText, clock_text, is_civil, plain_text}
 use Rattle.adf_fields.proofs.CivilDates.{civil_date}
 
 -- t is the civil text of the date
@@ -44,3 +44,8 @@ date_of s = (some_text s).0
 pub date_of_is : (s : Stamp) → IsStampText s (date_of s)
 unfolding date_of
 date_of_is s = (some_text s).1
+
+-- a call that appends the text where it succeeds
+pub appends_where : {T E : Type 0} (r : Result T E) (s : Stamp) (old new t : List ℕ) → IsStampText s t → new ≡ (if is_ok r then old ++ t else old) → OnOk r (AppendsStampText s old new)
+appends_where (Ok x) s old new t is e = (t, is, e)
+appends_where (Err x) s old new t is e = tt

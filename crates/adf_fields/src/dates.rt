@@ -1,6 +1,6 @@
 // Dates: days since 1978-01-01, minutes of the day, ticks of the minute.
 
-ghost use Rattle.std.specs.Prelude.{◌≡◌, ◌<◌, ◌+◌, ◌++◌, codes, OnOk, OnErr, IfOk, string_bytes};
+ghost use Rattle.std.specs.Prelude.{◌≡◌, ◌<◌, ◌+◌, ◌/◌, ◌%◌, ◌++◌, ◌≤ℤ◌, pos, codes, OnOk, OnErr, IfOk, string_bytes};
 ghost use Rattle.jiff.specs.Words.{date_text};
 ghost use Rattle.adf_fields.specs.Dates.{IsCivilDay, IsStampText, AppendsStampText, DatesHaveOneText, clock_text, plain_text};
 
@@ -70,6 +70,80 @@ pub fn stamp_text(s: Stamp, out: &mut String) -> Result<(), NoMemory>
     match out.push_str(text.as_str()) {
         Ok(()) => Ok(()),
         Err(_) => Err(NoMemory),
+    }
+}
+
+// The first digit of a number below 100.
+fn tens(n: u32) -> u8
+    requires { n < 100 }
+    ensures { result ≡ 48 + n / 10 }
+{
+    b'0' + (n / 10) as u8
+}
+
+// The last digit of a number.
+fn ones(n: u32) -> u8
+    ensures { result ≡ 48 + n % 10 }
+{
+    b'0' + (n % 10) as u8
+}
+
+// The year, the month and the day of the month.
+fn numbers_of(day: Date) -> (u32, u32, u32)
+    requires { pos 0 ≤ℤ day.year }
+    ensures year { day.year ≡ pos result.0 }
+    ensures month { result.1 ≡ day.month }
+    ensures day { result.2 ≡ day.day }
+{
+    (day.year() as u32, day.month() as u32, day.day() as u32)
+}
+
+// The text of a civil date.
+fn civil_digits(s: Stamp, day: Date) -> [u8; 22]
+    requires year { pos 0 ≤ℤ day.year }
+    requires mins { s.mins < 1440 }
+    requires ticks { s.ticks < 3000 }
+    ensures { result ≡ date_text day ++ (codes " " ++ clock_text s) }
+{
+    let (year, month, date) = numbers_of(day);
+    let (century, year) = (year / 100, year % 100);
+    let (hours, mins) = (s.mins / 60, s.mins % 60);
+    let (seconds, ticks) = (s.ticks / 50, s.ticks % 50);
+    [
+        tens(century),
+        ones(century),
+        tens(year),
+        ones(year),
+        b'-',
+        tens(month),
+        ones(month),
+        b'-',
+        tens(date),
+        ones(date),
+        b' ',
+        tens(hours),
+        ones(hours),
+        b':',
+        tens(mins),
+        ones(mins),
+        b':',
+        tens(seconds),
+        ones(seconds),
+        b'.',
+        tens(ticks),
+        ones(ticks),
+    ]
+}
+
+/// Appends the text of a date; where memory is refused, a part of it may stand.
+pub fn push_stamp(text: &mut Vec<u8>, s: Stamp) -> Result<(), AllocError>
+    ensures { OnOk result (AppendsStampText s text.old.items text.new.items) }
+{
+    if s.days < 2_929_975 && s.mins < 1440 && s.ticks < 3000 {
+        text.extend_from_slice(&civil_digits(s, civil_day(s.days)))
+    } else {
+        let plain = plain(*text.allocator(), s)?;
+        text.extend_from_slice(plain.as_bytes())
     }
 }
 

@@ -56,5 +56,8 @@ fn texts(rt: HostRuntime) {
         let mut out = String::new(rt.alloc());
         assert!(rt; stamp_text(Stamp { days, mins, ticks }, &mut out).is_ok());
         assert_eq!(rt; out.as_str(), wanted);
+        let mut text = Vec::new(rt.alloc());
+        assert!(rt; push_stamp(&mut text, Stamp { days, mins, ticks }).is_ok());
+        assert_eq!(rt; text.as_slice(), wanted.as_bytes());
     }
 }
