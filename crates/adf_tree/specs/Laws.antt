@@ -5,7 +5,7 @@ use Rattle.adf_tree.specs.Texts.{uppers}
 use Rattle.adf_tree.specs.declared.entry.Entry.{Entry}
 use Rattle.adf_tree.specs.Tree.{added, child, entry, find, room_for, IsLast, IsTree, MayAdd}
 use Rattle.adf_tree.specs.Chain.{chain}
-use Rattle.adf_tree.specs.Paths.{path_of}
+use Rattle.adf_tree.specs.Paths.{names_of, path_of}
 use Rattle.adf_tree.specs.Additions.{built, with_addition, Addition, AllHaveRoom, IsTreeOf}
 
 -- an entry is in the chain of its parent and its name's slot, and in no other
@@ -37,6 +37,10 @@ ChildrenAreFound = (es : List Entry) (p : ℕ) (name : List ℕ) (n : ℕ) (d : 
 -- each entry is found under its path
 abbrev pub PathsAreFound : Type 0
 PathsAreFound = (es : List Entry) (n : ℕ) → IsTree es → n ≤ length es → find es (path_of es n) ≡ Some n
+
+-- each entry is found under its names as written
+abbrev pub NamesAreFound : Type 0
+NamesAreFound = (es : List Entry) (n : ℕ) → IsTree es → n ≤ length es → find es (names_of es n) ≡ Some n
 
 -- the first entries of a tree are a tree, and the next one may be added to it, last, which gives the first entries and that one
 pub record IsNext (es : List Entry) (n : ℕ) (e : Entry) : Type 0 where

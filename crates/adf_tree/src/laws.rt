@@ -1,6 +1,6 @@
 // Laws of trees, for the proofs of those who build on them. None of these functions does anything.
 
-ghost use Rattle.adf_tree.specs.Laws.{AddingGrowsTheTree, AdditionsAreBuilt, AdditionsHaveOneTree, CaseKeepsPaths, CaseKeepsSlots, ChildrenAreFound, EntriesStandInOneChain, PathsAreFound, TreesGrowInOrder};
+ghost use Rattle.adf_tree.specs.Laws.{AddingGrowsTheTree, AdditionsAreBuilt, AdditionsHaveOneTree, CaseKeepsPaths, CaseKeepsSlots, ChildrenAreFound, EntriesStandInOneChain, NamesAreFound, PathsAreFound, TreesGrowInOrder};
 
 /// Every entry is a member of the chain of exactly one parent and slot.
 pub fn entries_stand_in_one_chain()
@@ -25,6 +25,11 @@ pub fn children_are_found()
 /// Each entry is found under its path.
 pub fn paths_are_found()
     ensures { PathsAreFound }
+{}
+
+/// Each entry is found under its names from the root on, as they are written.
+pub fn names_are_found()
+    ensures { NamesAreFound }
 {}
 
 /// The entries of a tree, added in their order, give that tree.

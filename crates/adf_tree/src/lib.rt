@@ -26,8 +26,8 @@ pub use crate::escapes::spellings_decide;
 pub use crate::label::Label;
 pub use crate::laws::{
     adding_grows_the_tree, additions_are_built, additions_have_one_tree, case_keeps_paths,
-    case_keeps_slots, children_are_found, entries_stand_in_one_chain, paths_are_found,
-    trees_grow_in_order,
+    case_keeps_slots, children_are_found, entries_stand_in_one_chain, names_are_found,
+    paths_are_found, trees_grow_in_order,
 };
 pub use crate::name::Name;
 pub use crate::name_set::NameSet;
