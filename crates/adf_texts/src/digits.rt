@@ -1,14 +1,15 @@
 // The digits of numbers.
 
-ghost use Rattle.std.specs.Prelude.{◌≡◌, ◌<◌, ◌++◌, [], ◌∷◌, is_ok, if◌then◌else◌};
+ghost use Rattle.std.specs.Prelude.{◌≡◌, ◌<◌, ◌≤◌, ◌++◌, [], ◌∷◌, drop, take, is_ok, if◌then◌else◌, replicate};
 ghost use Rattle.std.specs.Fmt.{decimal};
 ghost use Rattle.adf_tree.specs.Escapes.{hex_digit};
 ghost use Rattle.adf_manifest.specs.Texts.{hex_word};
+ghost use Rattle.adf_texts.specs.VolumeLines.{right_in_ten};
 
 use std::alloc::AllocError;
 
-// A hexadecimal digit.
-fn digit(value: u32) -> u8
+/// A hexadecimal digit.
+pub fn digit(value: u32) -> u8
     requires { value < 16 }
     ensures { result ≡ hex_digit value }
 {
@@ -19,9 +20,9 @@ fn digit(value: u32) -> u8
     }
 }
 
-/// Appends eight hexadecimal digits and a line feed.
-pub fn push_hex_line(text: &mut Vec<u8>, word: u32) -> Result<(), AllocError>
-    ensures { text.new.items ≡ (if is_ok result then text.old.items ++ (hex_word word ++ 10 ∷ []) else text.old.items) }
+/// Appends eight hexadecimal digits and the byte behind them.
+pub fn push_hex(text: &mut Vec<u8>, word: u32, end: u8) -> Result<(), AllocError>
+    ensures { text.new.items ≡ (if is_ok result then text.old.items ++ (hex_word word ++ end ∷ []) else text.old.items) }
 {
     let first = (word >> 24) % 256;
     let second = (word >> 16) % 256;
@@ -36,16 +37,19 @@ pub fn push_hex_line(text: &mut Vec<u8>, word: u32) -> Result<(), AllocError>
         digit(third % 16),
         digit(fourth / 16),
         digit(fourth % 16),
-        b'\n',
+        end,
     ];
     text.extend_from_slice(&digits)
 }
 
-/// Appends a number in decimal and a space.
-pub fn push_number(text: &mut Vec<u8>, value: u32) -> Result<(), AllocError>
-    ensures { text.new.items ≡ (if is_ok result then text.old.items ++ (decimal value ++ 32 ∷ []) else text.old.items) }
+// The digits of a number with a byte behind them, at the end of eleven places, and where they begin.
+fn decimal_digits(value: u32, end: u8) -> ([u8; 11], usize)
+    ensures text { drop result.1 result.0 ≡ decimal value ++ end ∷ [] }
+    ensures spaces { take result.1 result.0 ≡ replicate result.1 32 }
+    ensures within { result.1 ≤ 10 }
 {
     let mut digits = [b' '; 11];
+    digits[10] = end;
     let mut rest = value;
     let mut at = 10usize;
     while rest >= 10 {
@@ -55,5 +59,21 @@ pub fn push_number(text: &mut Vec<u8>, value: u32) -> Result<(), AllocError>
     }
     at -= 1;
     digits[at] = b'0' + rest as u8;
+    (digits, at)
+}
+
+/// Appends a number in decimal and the byte behind it.
+pub fn push_number(text: &mut Vec<u8>, value: u32, end: u8) -> Result<(), AllocError>
+    ensures { text.new.items ≡ (if is_ok result then text.old.items ++ (decimal value ++ end ∷ []) else text.old.items) }
+{
+    let (digits, at) = decimal_digits(value, end);
     text.extend_from_slice(&digits[at..])
+}
+
+/// Appends a number in decimal on the right of ten places, and a space.
+pub fn push_right(text: &mut Vec<u8>, value: u32) -> Result<(), AllocError>
+    ensures { text.new.items ≡ (if is_ok result then text.old.items ++ (right_in_ten (decimal value) ++ 32 ∷ []) else text.old.items) }
+{
+    let (digits, _) = decimal_digits(value, b' ');
+    text.extend_from_slice(&digits)
 }

@@ -4,7 +4,7 @@ ghost use Rattle.std.specs.Prelude.{◌≡◌, ◌++◌, OnOk, string_bytes};
 ghost use Rattle.adf_manifest.specs.Texts.{kind_text};
 ghost use Rattle.adf_texts.specs.Lines.{fault_line, full_line, manifest_fault_line, manifest_kind_text, ok_line, word_line};
 
-use crate::digits::{push_hex_line, push_number};
+use crate::digits::{push_hex, push_number};
 use adf_check::{Counts, Fault};
 use adf_manifest::{ManifestFault, ManifestKind};
 use adf_tree::Kind;
@@ -87,7 +87,7 @@ pub fn push_word_line(
 ) -> Result<(), AllocError>
     ensures { OnOk result (text.new.items ≡ text.old.items ++ word_line block index word) }
 {
-    push_number(text, block)?;
-    push_number(text, index)?;
-    push_hex_line(text, word)
+    push_number(text, block, b' ')?;
+    push_number(text, index, b' ')?;
+    push_hex(text, word, b'\n')
 }

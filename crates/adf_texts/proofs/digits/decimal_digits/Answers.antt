@@ -1,9 +1,9 @@
-use Rattle.std.proofs.Common.{arith, refl, ◌≡◌, ◌∙◌, ◌≤◌, ◌+◌, ◌-◌, ◌/◌, ◌%◌, ◌++◌, ℕ, List, [], ◌∷◌, sym, ap, append_assoc, length, length-append, length-drop, is_ok, if◌then◌else◌, drop, lit≤, lit<, ◌<◌, ◌^◌}
-use Rattle.std.proofs.lemmas.List.{drop-set, take_all}
+use Rattle.std.proofs.Common.{arith, take-take, refl, ◌≡◌, ◌∙◌, ◌≤◌, ◌+◌, ◌-◌, ◌/◌, ◌%◌, ◌++◌, ℕ, List, [], ◌∷◌, sym, ap, append_assoc, length, length-append, drop, take, replicate, lit≤, lit<, ◌<◌, ◌^◌}
+use Rattle.std.proofs.lemmas.List.{drop-set, take-replicate, take-set}
 use Rattle.std.proofs.Math.ListN.{length-set, set}
 use Rattle.std.proofs.lemmas.Fmt.{decimal_digit, decimal_step, length-decimal-le}
 use Rattle.std.specs.Fmt.{decimal}
-use Rattle.adf_texts.proofs.digits.push_number.Goals as goal
+use Rattle.adf_texts.proofs.digits.decimal_digits.Goals as goal
 
 -- the digits of a number of more than one digit
 long : (n : ℕ) → 10 ≤ n → n < 2 ^ 64 → length (decimal n) ≡ length (decimal (n / 10)) + 1
@@ -19,8 +19,13 @@ digit_put front digits at d low high =
     let put = drop-set digits (at - 1) d (omega arith) in
     append_assoc front (d ∷ []) (drop at digits) ∙ ap (λ l. front ++ l) (sym (put ∙ ap (λ n. d ∷ drop n digits) back))
 
+-- and the spaces before it stay
+spaces_kept : (digits : List ℕ) (at d : ℕ) → 1 ≤ at → at ≤ length digits → take at digits ≡ replicate at 32 → take (at - 1) (set digits (at - 1) d) ≡ replicate (at - 1) 32
+spaces_kept digits at d low high spaces =
+    take-set digits (at - 1) d ∙ sym (take-take (at - 1) at digits (omega arith)) ∙ ap (take (at - 1)) spaces ∙ take-replicate (at - 1) at 32 (omega arith)
+
 pub loop-rest-init : goal.loop-rest-init
-loop-rest-init c = record { wide = refl; within = lit≤ tt; room = length-decimal-le 10 c.args.value (lit< tt) (omega arith) (omega arith); text = refl }
+loop-rest-init c = record { wide = refl; within = lit≤ tt; room = length-decimal-le 10 c.args.value (lit< tt) (omega arith) (omega arith); text = refl; spaces = refl }
 
 pub overflow_sub-at : goal.overflow_sub-at
 overflow_sub-at c = let l = long c.loop-rest.rest (omega arith) (omega arith) in omega arith
@@ -35,15 +40,13 @@ loop-rest-preserved c = let l = long c.loop-rest.rest (omega arith) (omega arith
   room = omega arith;
   text = c.loop-rest.invariant.text ∙ ap (λ t. t ++ drop c.loop-rest.at c.loop-rest.digits) (decimal_step c.loop-rest.rest (omega arith) (omega arith))
       ∙ digit_put (decimal (c.loop-rest.rest / 10)) c.loop-rest.digits c.loop-rest.at (48 + c.loop-rest.rest % 10) (omega arith) (omega arith);
+  spaces = spaces_kept c.loop-rest.digits c.loop-rest.at (48 + c.loop-rest.rest % 10) (omega arith) (omega arith) c.loop-rest.invariant.spaces;
 }
 
-pub returns : goal.returns
-returns c =
+pub returns-clause-text : goal.returns-clause-text
+returns-clause-text c =
     let at = c.loop-rest.at in
     let digits = c.loop-rest.digits in
     let one = short c.loop-rest.rest (omega arith) in
-    let put = digit_put [] digits at (48 + c.loop-rest.rest) (omega arith) (omega arith) in
-    let text : decimal c.args.value ++ 32 ∷ [] ≡ drop (at - 1) (set digits (at - 1) (48 + c.loop-rest.rest))
-    = c.loop-rest.invariant.text ∙ ap (λ t. t ++ drop at digits) (decimal_digit c.loop-rest.rest (omega arith)) ∙ put in
-    c.extend_from_slice.ensures.items ∙ ap (λ t. if is_ok c.extend_from_slice.result then c.args.text.now.items ++ t else c.args.text.now.items)
-    (take_all _ _ (omega (arith, length-drop {A = ℕ}, length-set {A = ℕ})) ∙ sym text)
+    sym (c.loop-rest.invariant.text ∙ ap (λ t. t ++ drop at digits) (decimal_digit c.loop-rest.rest (omega arith))
+    ∙ digit_put [] digits at (48 + c.loop-rest.rest) (omega arith) (omega arith))

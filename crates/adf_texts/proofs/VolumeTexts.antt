@@ -1,0 +1,87 @@
+-- The lines of `list`: of a row, and of the first entries.
+use Rattle.std.proofs.Common.{◌≡◌, ◌≤◌, ◌∙◌, ◌+◌, ◌-◌, ℕ, zero, suc, List, [], ◌∷◌, ◌++◌, Some, refl, sym, ap, arith, append_assoc, append-nil, add-suc, add-zero, add-one, length}
+use Rattle.std.specs.List.{flat_map, range_with_len}
+use Rattle.std.specs.Fmt.{decimal}
+use Rattle.std.proofs.lemmas.Grind.{flat_map-append}
+use Rattle.std.proofs.lemmas.List.Folds.{flat_map-map}
+use Rattle.std.proofs.lemmas.List.FromFn.{map-range_with_len_more}
+use Rattle.adf_fields.specs.declared.dates.Stamp.{Stamp}
+use Rattle.adf_tree.specs.Paths.{names_of}
+use Rattle.adf_tree.specs.Tree.{Tree, entry}
+use Rattle.adf_tree.specs.declared.entry.Body.{Body}
+use Rattle.adf_tree.specs.declared.entry.Body.TheVariants.{Dir as ADir, File as AFile}
+use Rattle.adf_tree.specs.declared.entry.Entry.{Entry}
+use Rattle.adf_tree.specs.declared.entry.Meta.{Meta}
+use Rattle.adf_check.specs.Rows.{BodyTold, EntryTold}
+use Rattle.adf_check.specs.declared.row.Row.{Row}
+use Rattle.adf_check.specs.declared.row.RowBody.{RowBody}
+use Rattle.adf_check.specs.declared.row.RowBody.TheVariants.{Dir, File}
+use Rattle.adf_texts.specs.RowTexts.{row_size, row_word}
+use Rattle.adf_texts.specs.VolumeLines.{body_word, entry_lines, lines_of_entries, lines_of_entry, lines_with, opening_lines, size_text, volume_lines}
+
+word_told : (told : RowBody) (body : Body) → BodyTold told body → row_word told ≡ body_word body
+word_told Dir ADir h = refl
+word_told Dir (AFile bytes) h = absurd h
+word_told (File size) ADir h = absurd h
+word_told (File size) (AFile bytes) h = refl
+
+size_told : (told : RowBody) (body : Body) → BodyTold told body → row_size told ≡ size_text body
+size_told Dir ADir h = refl
+size_told Dir (AFile bytes) h = absurd h
+size_told (File size) ADir h = absurd h
+size_told (File size) (AFile bytes) h = ap decimal h
+
+-- the lines of a row are those of the entry of which it tells
+pub row_lines_told : (date : Stamp → List ℕ) (names : List (List ℕ)) (r : Row) (e : Entry) → EntryTold r e → lines_with date names (row_word r.body) (row_size r.body) r.meta ≡ entry_lines date names e
+row_lines_told date names r e told =
+    let meta : Meta → List ℕ = lines_with date names (row_word r.body) (row_size r.body) in
+    ap meta told.meta
+    ∙ ap (λ word. lines_with date names word (row_size r.body) e.meta) (word_told r.body e.body told.body)
+    ∙ ap (λ size. lines_with date names (body_word e.body) size e.meta) (size_told r.body e.body told.body)
+
+-- a line's parts, each with the space behind it
+pub spaced : (word protect size rest : List ℕ) → (word ++ 32 ∷ []) ++ ((protect ++ 32 ∷ []) ++ ((size ++ 32 ∷ []) ++ rest)) ≡ word ++ (32 ∷ (protect ++ (32 ∷ (size ++ (32 ∷ rest)))))
+spaced word protect size rest = simp append_assoc
+
+-- one number more
+flat_map_next : (f : ℕ → List ℕ) (n : ℕ) → flat_map f (range_with_len 1 (n + 1)) ≡ flat_map f (range_with_len 1 n) ++ f (n + 1)
+flat_map_next f n =
+    let same : ℕ → ℕ = λ x. x in
+    let more = map-range_with_len_more same 1 n (n + 1) (omega arith) in
+    sym (flat_map-map f same (range_with_len 1 (n + 1))) ∙ ap (flat_map f) more ∙ flat_map-append f _ ((n + 1) ∷ [])
+    ∙ ap (λ l. l ++ flat_map f ((n + 1) ∷ [])) (flat_map-map f same (range_with_len 1 n)) ∙ ap (λ l. flat_map f (range_with_len 1 n) ++ l) (append-nil (f (n + 1)))
+
+pub lines_of_none : (date : Stamp → List ℕ) (es : List Entry) → lines_of_entries date es 0 ≡ []
+unfolding lines_of_entries
+lines_of_none date es = refl
+
+pub lines_of_more : (date : Stamp → List ℕ) (es : List Entry) (k : ℕ) → lines_of_entries date es (k + 1) ≡ lines_of_entries date es k ++ lines_of_entry date es (k + 1)
+unfolding lines_of_entries
+lines_of_more date es k = flat_map_next (lines_of_entry date es) k
+
+-- the lines of entry n, where it is known
+pub lines_of_known : (date : Stamp → List ℕ) (es : List Entry) (n : ℕ) (e : Entry) → entry es n ≡ Some e → lines_of_entry date es n ≡ entry_lines date (names_of es n) e
+lines_of_known date es n e h = rw (h, lines_of_entry) refl
+
+-- the lines of fewer entries stand in front
+lines_front : (date : Stamp → List ℕ) (es : List Entry) (k d : ℕ) → (rest : List ℕ) × (lines_of_entries date es (k + d) ≡ lines_of_entries date es k ++ rest)
+lines_front date es k zero = ([], ap (lines_of_entries date es) (add-zero k) ∙ sym (append-nil (lines_of_entries date es k)))
+lines_front date es k (suc d) =
+    let before = lines_front date es k d in
+    let last = lines_of_entry date es (k + d + 1) in (
+      before.0 ++ last,
+      ap (lines_of_entries date es) (add-suc k d ∙ sym (add-one (k + d))) ∙ lines_of_more date es (k + d) ∙ ap (λ l. l ++ last) before.1
+          ∙ append_assoc (lines_of_entries date es k) before.0 last,
+    )
+
+-- the first lines of a volume are those before its entries and those of its first entries
+pub volume_front : (date : Stamp → List ℕ) (t : Tree) (n k : ℕ) → k ≤ length t.entries
+    → (rest : List ℕ) × (volume_lines date t n ≡ (opening_lines date t.kind t.label t.stamps n ++ lines_of_entries date t.entries k) ++ rest)
+volume_front date t n k h =
+    let opening = opening_lines date t.kind t.label t.stamps n in
+    let whole : k + (length t.entries - k) ≡ length t.entries = omega arith in
+    let front = lines_front date t.entries k (length t.entries - k) in (
+      front.0,
+      ap (λ l. opening ++ lines_of_entries date t.entries l) (sym whole) ∙ ap (λ l. opening ++ l) front.1
+          ∙ sym (append_assoc opening (lines_of_entries date t.entries k) front.0),
+    )

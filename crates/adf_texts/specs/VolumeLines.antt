@@ -1,0 +1,76 @@
+-- The lines of `list`. In each definition `date` gives the text of a date.
+use Rattle.std.specs.Prelude.{ℕ, ◌-◌, ◌==◌, List, [], ◌∷◌, ◌++◌, codes, if◌then◌else◌, length, replicate, Some, None}
+use Rattle.std.specs.Fmt.{decimal}
+use Rattle.std.specs.List.{flat_map, range_with_len}
+use Rattle.adf_fields.specs.Dates.{IsStampText}
+use Rattle.adf_fields.specs.declared.dates.Stamp.{Stamp}
+use Rattle.adf_tree.specs.Escapes.{escaped}
+use Rattle.adf_tree.specs.PathTexts.{path_text}
+use Rattle.adf_tree.specs.Paths.{names_of}
+use Rattle.adf_tree.specs.Tree.{Tree, entry}
+use Rattle.adf_tree.specs.declared.entry.Body.{Body}
+use Rattle.adf_tree.specs.declared.entry.Body.TheVariants.{Dir, File}
+use Rattle.adf_tree.specs.declared.entry.Entry.{Entry}
+use Rattle.adf_tree.specs.declared.entry.Kind.{Kind}
+use Rattle.adf_tree.specs.declared.entry.Meta.{Meta}
+use Rattle.adf_tree.specs.declared.entry.Stamps.{Stamps}
+use Rattle.adf_manifest.specs.Texts.{hex_word, kind_text}
+
+-- each date has its text
+abbrev pub AreDates : (Stamp → List ℕ) → Type 0
+AreDates date = (s : Stamp) → IsStampText s (date s)
+
+-- a word and a text
+abbrev pub text_line : List ℕ → List ℕ → List ℕ
+text_line word text = word ++ (text ++ codes "\n")
+
+-- a word and the escape form of a text, where there is one
+abbrev pub escaped_line : List ℕ → List ℕ → List ℕ
+escaped_line word text = if length text == 0 then [] else text_line word (escaped text)
+
+-- the kind of the volume and the number of its blocks
+abbrev pub blocks_line : Kind → ℕ → List ℕ
+blocks_line kind n = codes "volume " ++ (kind_text kind ++ (codes " blocks " ++ (decimal n ++ codes "\n")))
+
+-- the dates of the volume
+abbrev pub dates_lines : (Stamp → List ℕ) → Stamps → List ℕ
+dates_lines date s = text_line (codes "root ") (date s.root) ++ (text_line (codes "altered ") (date s.altered) ++ text_line (codes "created ") (date s.created))
+
+-- the lines before those of the entries
+abbrev pub opening_lines : (Stamp → List ℕ) → Kind → List ℕ → Stamps → ℕ → List ℕ
+opening_lines date kind label stamps n = blocks_line kind n ++ (escaped_line (codes "label ") label ++ dates_lines date stamps)
+
+-- a text on the right of ten places
+abbrev pub right_in_ten : List ℕ → List ℕ
+right_in_ten text = replicate (10 - length text) 32 ++ text
+
+-- an entry's word, on the left of four places
+abbrev pub body_word : Body → List ℕ
+body_word Dir = codes "dir "
+body_word (File bytes) = codes "file"
+
+-- the number of a file's bytes
+abbrev pub size_text : Body → List ℕ
+size_text Dir = codes "-"
+size_text (File bytes) = decimal (length bytes)
+
+-- the line of these names, with the word and the size, and the line of the note
+abbrev pub lines_with : (Stamp → List ℕ) → List (List ℕ) → List ℕ → List ℕ → Meta → List ℕ
+lines_with date names word size meta = word ++ (codes " " ++ (hex_word meta.protect ++ (codes " " ++ (right_in_ten size ++ (codes " "
+    ++ (date meta.stamp ++ (codes " " ++ (path_text names ++ (codes "\n" ++ escaped_line (codes "note ") meta.comment)))))))))
+
+-- the line of an entry of these names, and that of its note
+abbrev pub entry_lines : (Stamp → List ℕ) → List (List ℕ) → Entry → List ℕ
+entry_lines date names e = lines_with date names (body_word e.body) (size_text e.body) e.meta
+
+-- the lines of entry n
+abbrev pub lines_of_entry : (Stamp → List ℕ) → List Entry → ℕ → List ℕ
+lines_of_entry date es n = elim (entry es n) [ None ↦ [] | Some e ↦ entry_lines date (names_of es n) e ]
+
+-- the lines of the first k entries
+unfoldable pub lines_of_entries : (Stamp → List ℕ) → List Entry → ℕ → List ℕ
+lines_of_entries date es k = flat_map (lines_of_entry date es) (range_with_len 1 k)
+
+-- the lines of a tree in n blocks
+abbrev pub volume_lines : (Stamp → List ℕ) → Tree → ℕ → List ℕ
+volume_lines date t n = opening_lines date t.kind t.label t.stamps n ++ lines_of_entries date t.entries (length t.entries)

@@ -1,0 +1,58 @@
+// The escape forms of bytes and paths.
+
+ghost use Rattle.std.specs.Prelude.{◌≡◌, ◌++◌, [], ◌∷◌, OnOk, if◌then◌else◌};
+ghost use Rattle.adf_tree.specs.Escapes.{escape_of, escaped, is_plain};
+ghost use Rattle.adf_tree.specs.PathTexts.{path_text};
+
+use crate::digits::digit;
+use adf_tree::Name;
+use std::alloc::AllocError;
+
+// Whether the byte stands for itself.
+fn is_plain(c: u8) -> bool
+    ensures { result ≡ is_plain c }
+{
+    32 <= c && c <= 126 && c != b'\\'
+}
+
+// Appends the spelling of a byte.
+fn push_escape(text: &mut Vec<u8>, c: u8) -> Result<(), AllocError>
+    ensures { OnOk result (text.new.items ≡ text.old.items ++ escape_of c) }
+{
+    if is_plain(c) {
+        text.extend_from_slice(&[c])
+    } else {
+        let value = u32::from(c);
+        text.extend_from_slice(&[b'\\', b'x', digit(value / 16), digit(value % 16)])
+    }
+}
+
+/// Appends the escape form of bytes.
+pub fn push_escaped(text: &mut Vec<u8>, bytes: &[u8]) -> Result<(), AllocError>
+    ensures { OnOk result (text.new.items ≡ text.old.items ++ escaped bytes.now) }
+{
+    for c in bytes {
+        push_escape(text, *c)?;
+    }
+    Ok(())
+}
+
+// Appends a name of a path, behind a `/` where it is not the first.
+fn push_name(text: &mut Vec<u8>, name: &Name, is_first: bool) -> Result<(), AllocError>
+    ensures { OnOk result (text.new.items ≡ text.old.items ++ ((if is_first then [] else 47 ∷ []) ++ escaped name.now)) }
+{
+    if !is_first {
+        text.push(b'/')?;
+    }
+    push_escaped(text, name.bytes())
+}
+
+/// Appends the text of a path.
+pub fn push_path(text: &mut Vec<u8>, path: &[Name]) -> Result<(), AllocError>
+    ensures { OnOk result (text.new.items ≡ text.old.items ++ path_text path.now) }
+{
+    for (i, name) in path.iter().enumerate() {
+        push_name(text, name, i == 0)?;
+    }
+    Ok(())
+}

@@ -1,0 +1,112 @@
+// The lines of `list`.
+
+ghost use Rattle.std.specs.Prelude.{◌≡◌, ◌++◌, codes, ℕ, List, OnOk};
+ghost use Rattle.adf_tree.specs.declared.entry.Entry.{Entry};
+ghost use Rattle.adf_check.specs.Rows.{EntryTold};
+ghost use Rattle.adf_texts.specs.RowTexts.{row_size, row_word};
+ghost use Rattle.adf_texts.specs.VolumeLines.{AreDates, blocks_line, entry_lines, escaped_line, lines_with, opening_lines, right_in_ten, text_line};
+
+use crate::digits::{push_hex, push_number, push_right};
+use crate::escapes::{push_escaped, push_path};
+use crate::lines::kind_text;
+use adf_check::{Row, RowBody};
+use adf_fields::{Stamp, push_stamp};
+use adf_tree::{Kind, Label, Name, Stamps};
+use std::alloc::AllocError;
+
+/// Appends the lines before those of the entries: the kind and the number of blocks, the label where there is one, and the dates.
+pub fn push_opening_lines(
+    text: &mut Vec<u8>,
+    kind: Kind,
+    label: &Label,
+    stamps: Stamps,
+    blocks: u32,
+) -> Result<(), AllocError>
+    ensures { (date : Stamp → List ℕ) → AreDates date → OnOk result (text.new.items ≡ text.old.items ++ opening_lines date kind label.now stamps blocks) }
+{
+    push_blocks_line(text, kind, blocks)?;
+    push_escaped_line(text, b"label ", label.bytes())?;
+    push_date_line(text, b"root ", stamps.root)?;
+    push_date_line(text, b"altered ", stamps.altered)?;
+    push_date_line(text, b"created ", stamps.created)
+}
+
+/// Appends the line of an entry of which the row tells, and that of its note where it has one.
+pub fn push_entry_lines(text: &mut Vec<u8>, row: &Row, path: &[Name]) -> Result<(), AllocError>
+    ensures { (date : Stamp → List ℕ) (e : Entry) → AreDates date → EntryTold row.now e → OnOk result (text.new.items ≡ text.old.items ++ entry_lines date path.now e) }
+{
+    push_row_lines(text, row, path)
+}
+
+// Appends the line of a row, and that of its note where it has one.
+fn push_row_lines(text: &mut Vec<u8>, row: &Row, path: &[Name]) -> Result<(), AllocError>
+    ensures { (date : Stamp → List ℕ) → AreDates date
+        → OnOk result (text.new.items ≡ text.old.items ++ lines_with date path.now (row_word row.now.body) (row_size row.now.body) row.now.meta) }
+{
+    push_word(text, row.body)?;
+    push_hex(text, row.meta.protect, b' ')?;
+    push_size(text, row.body)?;
+    push_date(text, row.meta.stamp)?;
+    text.extend_from_slice(b" ")?;
+    push_path(text, path)?;
+    text.extend_from_slice(b"\n")?;
+    push_escaped_line(text, b"note ", row.meta.comment.bytes())
+}
+
+// Appends the word of a row and a space.
+fn push_word(text: &mut Vec<u8>, body: RowBody) -> Result<(), AllocError>
+    ensures { OnOk result (text.new.items ≡ text.old.items ++ (row_word body ++ codes " ")) }
+{
+    match body {
+        RowBody::Dir => text.extend_from_slice(b"dir  "),
+        RowBody::File { .. } => text.extend_from_slice(b"file "),
+    }
+}
+
+// Appends the size of a row, on the right of ten places, and a space.
+fn push_size(text: &mut Vec<u8>, body: RowBody) -> Result<(), AllocError>
+    ensures { OnOk result (text.new.items ≡ text.old.items ++ (right_in_ten (row_size body) ++ codes " ")) }
+{
+    match body {
+        RowBody::Dir => text.extend_from_slice(b"         - "),
+        RowBody::File { size } => push_right(text, size),
+    }
+}
+
+// Appends the line of the kind and the number of blocks.
+fn push_blocks_line(text: &mut Vec<u8>, kind: Kind, blocks: u32) -> Result<(), AllocError>
+    ensures { OnOk result (text.new.items ≡ text.old.items ++ blocks_line kind blocks) }
+{
+    text.extend_from_slice(b"volume ")?;
+    text.extend_from_slice(kind_text(kind).as_bytes())?;
+    text.extend_from_slice(b" blocks ")?;
+    push_number(text, blocks, b'\n')
+}
+
+// Appends a word and the escape form of bytes, where there are some.
+fn push_escaped_line(text: &mut Vec<u8>, word: &[u8], bytes: &[u8]) -> Result<(), AllocError>
+    ensures { OnOk result (text.new.items ≡ text.old.items ++ escaped_line word.now bytes.now) }
+{
+    if bytes.is_empty() {
+        return Ok(());
+    }
+    text.extend_from_slice(word)?;
+    push_escaped(text, bytes)?;
+    text.extend_from_slice(b"\n")
+}
+
+// Appends a word and a date.
+fn push_date_line(text: &mut Vec<u8>, word: &[u8], s: Stamp) -> Result<(), AllocError>
+    ensures { (date : Stamp → List ℕ) → AreDates date → OnOk result (text.new.items ≡ text.old.items ++ text_line word.now (date s)) }
+{
+    text.extend_from_slice(word)?;
+    push_date(text, s)?;
+    text.extend_from_slice(b"\n")
+}
+
+// Appends a date.
+fn push_date(text: &mut Vec<u8>, s: Stamp) -> Result<(), AllocError>
+    ensures { (date : Stamp → List ℕ) → AreDates date → OnOk result (text.new.items ≡ text.old.items ++ date s) }
+{
+    push_stamp(text, s)
+}
