@@ -1,5 +1,5 @@
 -- Laws of what is pending.
-use Rattle.std.proofs.Common.{◌≡◌, ◌++◌, ◌∙◌, ℕ, List, Option, Some, None, [], refl, sym, ap, append_assoc, append-nil}
+use Rattle.std.proofs.Common.{◌≡◌, ◌++◌, ◌∙◌, ℕ, List, Option, Some, None, Result, Ok, Err, OnErr, [], refl, sym, ap, append_assoc, append-nil}
 use Rattle.std.specs.Io.KnownBytes.{Appends}
 use Rattle.adf_cmd.specs.Streams.{AppendsPart, KeepsPending, Pending}
 
@@ -42,3 +42,8 @@ pending_cleared b c text text' e q = λ a done p. (done, pending_end a b c text 
 
 pub part_none : (a : Option (List ℕ)) (whole : List ℕ) → AppendsPart a a whole
 part_none a whole = ([], whole, refl, appends_nil a)
+
+-- what holds whatever a result is holds where it is an error
+pub on_err : {T E P : Type 0} (r : Result T E) → P → OnErr r P
+on_err (Ok x) p = tt
+on_err (Err e) p = p

@@ -1,13 +1,17 @@
 -- What the command answers to its words and its input.
-use Rattle.std.specs.Prelude.{◌≡◌, ◌≢◌, ◌<◌, ◌-◌, ◌⊎◌, ℕ, Bool, true, false, List, [], codes, Option, Some, if◌then◌else◌}
+use Rattle.std.specs.Prelude.{◌≡◌, ◌≢◌, ◌<◌, ◌-◌, ◌*◌, ◌⊎◌, ℕ, Bool, true, false, List, [], codes, Option, None, Some, option_map, if◌then◌else◌}
 use Rattle.std.specs.Io.KnownBytes.{Appends}
-use Rattle.adf_tree.specs.Tree.{Tree}
+use Rattle.adf_tree.specs.PathTexts.{IsPathText}
+use Rattle.adf_tree.specs.Tree.{Tree, entry, find, with_kind}
+use Rattle.adf_tree.specs.declared.entry.Kind.{Kind}
+use Rattle.adf_blocks.specs.Sizes.{MOST_BLOCKS, blocks}
 use Rattle.adf_volume.specs.Fits.{Fits}
 use Rattle.adf_volume.specs.Laid.{IsLaid, volume}
 use Rattle.adf_volume.specs.Layout.{Layout}
 use Rattle.adf_volume.specs.Plan.{blocks_needed, planned}
 use Rattle.adf_volume.specs.Walk.{FirstFault}
 use Rattle.adf_build.specs.Building.{HasRoom, need_of}
+use Rattle.adf_check.specs.Pieces.{bytes_of}
 use Rattle.adf_check.specs.Volumes.{counts_of}
 use Rattle.adf_check.specs.declared.fault.Fault.{Fault}
 use Rattle.adf_cmd.specs.CommandLine.{Asks, IsRefused, Request, build, cat, check, convert, list}
@@ -35,39 +39,75 @@ pub record IsBuilt (tree : Tree) (n : ℕ) : Type 0 where
   pub laid : IsLaid (volume tree n) tree
   pub fits : Fits (volume tree n) tree (planned tree n)
 
--- `build` at status 0 writes the image of the tree that the manifest tells, for which there is room, at status 1 it says why there is none
-abbrev pub Builds : Bool → List ℕ → ℕ → List ℕ → List ℕ → Type 0
-Builds lines input status output errors = (tree : Tree) × (n : ℕ) × IsManifest input tree n × IsBuilt tree n × (status ≡ 0) × (output ≡ built lines tree n) × (errors ≡ [])
+-- a tree is built in n blocks: at status 0 its image is written, or the lines of the image's words
+abbrev pub Builds : Bool → Tree → ℕ → ℕ → List ℕ → List ℕ → Type 0
+Builds lines tree n status output errors = IsBuilt tree n × (status ≡ 0) × (output ≡ built lines tree n) × (errors ≡ [])
+
+-- at status 1 it needs more blocks than there are
+abbrev pub IsFull : Tree → ℕ → ℕ → List ℕ → List ℕ → Type 0
+IsFull tree n status output errors = (n - 2 < blocks_needed tree n) × (status ≡ 1) × (output ≡ []) × (errors ≡ full_line (need_of tree n) (n - 2))
+
+abbrev pub BuildsOrIsFull : Bool → Tree → ℕ → ℕ → List ℕ → List ℕ → Type 0
+BuildsOrIsFull lines tree n status output errors = Builds lines tree n status output errors ⊎ IsFull tree n status output errors
+
+-- `build` builds the tree that the manifest tells, or says at status 1 why the manifest is none
+abbrev pub BuildsManifest : Bool → List ℕ → ℕ → List ℕ → List ℕ → Type 0
+BuildsManifest lines input status output errors = (tree : Tree) × (n : ℕ) × IsManifest input tree n × BuildsOrIsFull lines tree n status output errors
 
 abbrev pub RefusesManifest : List ℕ → ℕ → List ℕ → List ℕ → Type 0
 RefusesManifest input status output errors = (f : ManifestFault) × ExplainsFault f input × (f.kind ≢ ManifestNoMemory) × (status ≡ 1) × (output ≡ []) × (errors ≡ manifest_fault_line f)
 
-abbrev pub IsFull : List ℕ → ℕ → List ℕ → List ℕ → Type 0
-IsFull input status output errors = (tree : Tree) × (n : ℕ) × IsManifest input tree n × (n - 2 < blocks_needed tree n) × (status ≡ 1) × (output ≡ []) × (errors ≡ full_line (need_of tree n) (n - 2))
+-- the commands other than `check` say at status 1 on errors that the image is refused
+abbrev pub RefusesImage : List ℕ → ℕ → List ℕ → List ℕ → Type 0
+RefusesImage input status output errors = (f : Fault) × FirstFault input f.block f.cause × (status ≡ 1) × (output ≡ []) × (errors ≡ fault_line f)
 
--- the answer to a request: its status, and what is written to output and errors; list, cat and convert are not built yet and have none
+-- the text is that of no list of names
+abbrev pub IsBadPath : List ℕ → Type 0
+IsBadPath path = (names : List (List ℕ)) → ¬ IsPathText path names
+
+-- `cat` at status 2: its path is not read
+abbrev pub RefusesPath : List ℕ → ℕ → List ℕ → List ℕ → Type 0
+RefusesPath path status output errors = IsBadPath path × (status ≡ 2) × (output ≡ []) × (errors ≡ codes "bad path\n")
+
+-- what a path leads to in a tree: nothing, or a node, of which a file has bytes
+abbrev pub contents_at : Tree → List (List ℕ) → Option (Option (List ℕ))
+contents_at t names = option_map (λ n. bytes_of (entry t.entries n)) (find t.entries names)
+
+-- `cat` of what its path leads to: of a file it writes the bytes, else it says at status 1 that nothing is there or that it is no file
+abbrev pub Copies : Option (Option (List ℕ)) → ℕ → List ℕ → List ℕ → Type 0
+Copies None status output errors = (status ≡ 1) × (output ≡ []) × (errors ≡ codes "no such path\n")
+Copies (Some None) status output errors = (status ≡ 1) × (output ≡ []) × (errors ≡ codes "not a file\n")
+Copies (Some (Some bytes)) status output errors = (status ≡ 0) × (output ≡ bytes) × (errors ≡ [])
+
+-- `cat` of a path in a tree and a layout that fit the image
+abbrev pub CopiesFrom : List ℕ → List ℕ → ℕ → List ℕ → List ℕ → Type 0
+CopiesFrom path input status output errors =
+    (names : List (List ℕ)) × IsPathText path names × (t : Tree) × (l : Layout) × Fits input t l × Copies (contents_at t names) status output errors
+
+-- `convert` builds a tree that fits the image again, as one of this kind and in as many blocks
+abbrev pub Converts : Kind → List ℕ → ℕ → List ℕ → List ℕ → Type 0
+Converts kind input status output errors =
+    (t : Tree) × (l : Layout) × Fits input t l × BuildsOrIsFull false (with_kind t kind) (blocks input) status output errors
+
+-- the answer to a request: its status, and what is written to output and errors; `list` is not built yet and has none
 abbrev pub Answer : Request → List ℕ → ℕ → List ℕ → List ℕ → Type 0
 Answer check input status output errors = Accepts input status output errors ⊎ Refuses input status output errors
-Answer (build lines) input status output errors = Builds lines input status output errors ⊎ (RefusesManifest input status output errors ⊎ IsFull input status output errors)
+Answer (build lines) input status output errors = BuildsManifest lines input status output errors ⊎ RefusesManifest input status output errors
 Answer list input status output errors = ⊥
-Answer (cat path) input status output errors = ⊥
-Answer (convert kind) input status output errors = ⊥
-
--- the request has an answer
-abbrev pub is_built : Request → Bool
-is_built check = true
-is_built (build lines) = true
-is_built list = false
-is_built (cat path) = false
-is_built (convert kind) = false
+Answer (cat path) input status output errors =
+    RefusesPath path status output errors ⊎ (CopiesFrom path input status output errors ⊎ RefusesImage input status output errors)
+Answer (convert kind) input status output errors = Converts kind input status output errors ⊎ RefusesImage input status output errors
 
 -- the most bytes of the input that belong to an answer: those of the largest image or manifest
 abbrev pub limit_of : Option Request → ℕ
-limit_of (Some check) = 52020224
+limit_of (Some check) = 512 * MOST_BLOCKS
+limit_of (Some list) = 512 * MOST_BLOCKS
+limit_of (Some (cat path)) = 512 * MOST_BLOCKS
 limit_of (Some (build lines)) = 16777216
-limit_of _ = 0
+limit_of (Some (convert kind)) = 512 * MOST_BLOCKS
+limit_of None = 0
 
--- at a status other than 2 and 3: the words ask for a request, output and errors got an answer to it, or where errors failed a front part of it
+-- at a status other than 3: the words ask for a request, output and errors got an answer to it, or where errors failed a front part of it
 abbrev pub Answers : List (List ℕ) → List ℕ → ℕ → Option (List ℕ) → Option (List ℕ) → Bool → Option (List ℕ) → Option (List ℕ) → Type 0
 Answers words input status o o' failed e e' =
     (r : Request) × Asks words r × (output errors : List ℕ) × Answer r input status output errors × Appends o o' output × Says failed e e' errors
@@ -86,6 +126,14 @@ failure_line true _ = codes "read fault\n"
 failure_line false true = codes "write fault\n"
 failure_line false false = codes "no memory\n"
 
--- the words are refused, or ask for what is not built
+-- the words are refused, or ask for `list`, which is not built yet
+abbrev pub IsUntaken : List (List ℕ) → Type 0
+IsUntaken words = IsRefused words ⊎ Asks words list
+
+-- the words ask for the bytes under a path that is not read
+abbrev pub AsksBadPath : List (List ℕ) → Type 0
+AsksBadPath words = (path : List ℕ) × Asks words (cat path) × IsBadPath path
+
+-- the words are untaken, or their path is not read
 abbrev pub IsUnanswered : List (List ℕ) → Type 0
-IsUnanswered words = IsRefused words ⊎ ((r : Request) × Asks words r × (is_built r ≡ false))
+IsUnanswered words = IsUntaken words ⊎ AsksBadPath words

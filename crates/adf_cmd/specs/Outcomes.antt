@@ -1,8 +1,10 @@
 -- How the work of a command went.
-use Rattle.std.specs.Prelude.{◌≡◌, ◌≢◌, ◌<◌, ◌-◌, ◌⊎◌, ℕ, Bool, true, false, List, [], codes, Option, string_bytes}
+use Rattle.std.specs.Prelude.{◌≡◌, ◌≢◌, ◌<◌, ◌-◌, ◌⊎◌, ℕ, Bool, true, false, List, [], codes, Option, None, Some, string_bytes}
 use Rattle.std.specs.Io.KnownBytes.{Appends}
 use Rattle.adf_tree.specs.Tree.{Tree}
+use Rattle.adf_blocks.specs.declared.cause.Cause.TheVariants.{NoMemory as CauseNoMemory}
 use Rattle.adf_volume.specs.Plan.{blocks_needed}
+use Rattle.adf_volume.specs.Walk.{FirstFault}
 use Rattle.adf_build.specs.Building.{need_of}
 use Rattle.adf_check.specs.declared.fault.Fault.{Fault}
 use Rattle.adf_cmd.specs.Answers.{Answer, IsBuilt, IsPart, built}
@@ -12,12 +14,14 @@ use Rattle.adf_texts.specs.Lines.{fault_line, full_line, manifest_fault_line}
 use Rattle.adf_manifest.specs.declared.manifest.ManifestFault.{ManifestFault}
 use Rattle.adf_manifest.specs.declared.manifest.ManifestKind.TheVariants.{NoMemory as ManifestNoMemory}
 use Rattle.adf_cmd.specs.declared.outcome.Outcome.{Outcome}
-use Rattle.adf_cmd.specs.declared.outcome.Outcome.TheVariants.{Done, Told, Refused, ReadFault, WriteFault, NoMemory}
+use Rattle.adf_cmd.specs.declared.outcome.Outcome.TheVariants.{Done, Told, Refused, NoSuchPath, NotAFile, ReadFault, WriteFault, NoMemory}
 
 abbrev pub status_of : Outcome → ℕ
 status_of Done = 0
 status_of Told = 1
 status_of (Refused line) = 1
+status_of NoSuchPath = 1
+status_of NotAFile = 1
 status_of ReadFault = 3
 status_of WriteFault = 3
 status_of NoMemory = 3
@@ -27,6 +31,8 @@ abbrev pub line_of : Outcome → List ℕ
 line_of Done = []
 line_of Told = []
 line_of (Refused line) = string_bytes line
+line_of NoSuchPath = codes "no such path\n"
+line_of NotAFile = codes "not a file\n"
 line_of ReadFault = codes "read fault\n"
 line_of WriteFault = codes "write fault\n"
 line_of NoMemory = codes "no memory\n"
@@ -45,21 +51,18 @@ Writes r input status errors o o' = (output : List ℕ) × Answer r input status
 
 -- what an outcome says of the input and of what was added to output
 abbrev pub Works : Outcome → Request → List ℕ → Option (List ℕ) → Option (List ℕ) → Type 0
-Works Done r input o o' = Writes r input 0 [] o o'
-Works Told r input o o' = Writes r input 1 [] o o'
-Works (Refused line) r input o o' = Writes r input 1 (string_bytes line) o o'
 Works ReadFault r input o o' = Appends o o' []
 Works WriteFault r input o o' = IsPart r input o o'
 Works NoMemory r input o o' = Appends o o' [] ⊎ IsPart r input o o'
+Works w r input o o' = Writes r input (status_of w) (line_of w) o o'
 
 -- building a tree: its image is written, or it needs more blocks than there are, or a front part is written
 abbrev pub TreeWorks : Outcome → Bool → Tree → ℕ → Option (List ℕ) → Option (List ℕ) → Type 0
 TreeWorks Done lines tree n o o' = IsBuilt tree n × Appends o o' (built lines tree n)
-TreeWorks Told lines tree n o o' = ⊥
 TreeWorks (Refused line) lines tree n o o' = Appends o o' [] × (n - 2 < blocks_needed tree n) × (string_bytes line ≡ full_line (need_of tree n) (n - 2))
-TreeWorks ReadFault lines tree n o o' = ⊥
 TreeWorks WriteFault lines tree n o o' = IsBuilt tree n × AppendsPart o o' (built lines tree n)
 TreeWorks NoMemory lines tree n o o' = Appends o o' [] ⊎ (IsBuilt tree n × AppendsPart o o' (built lines tree n))
+TreeWorks _ lines tree n o o' = ⊥
 
 -- saying that a tree needs more blocks than there are
 abbrev pub IsFullOutcome : ℕ → ℕ → Outcome → Type 0
@@ -79,3 +82,24 @@ TellsFault Told f o o' = Appends o o' (fault_line f)
 TellsFault WriteFault f o o' = AppendsPart o o' (fault_line f)
 TellsFault NoMemory f o o' = Appends o o' []
 TellsFault _ f o o' = ⊥
+
+-- saying on errors why an image is refused
+abbrev pub IsRefusal : Fault → Outcome → Type 0
+IsRefusal f (Refused line) = (f.cause ≢ CauseNoMemory) × (string_bytes line ≡ fault_line f)
+IsRefusal f NoMemory = Unit {0}
+IsRefusal f _ = ⊥
+
+-- saying on errors that an image is refused: the line of its first fault
+abbrev pub IsRefusedImage : List ℕ → Outcome → Type 0
+IsRefusedImage image (Refused line) = (f : Fault) × FirstFault image f.block f.cause × (string_bytes line ≡ fault_line f)
+IsRefusedImage image NoMemory = Unit {0}
+IsRefusedImage image _ = ⊥
+
+-- copying what a path leads to: the bytes of a file are written, or it is none, or a front part is written
+abbrev pub CopyWorks : Outcome → Option (Option (List ℕ)) → Option (List ℕ) → Option (List ℕ) → Type 0
+CopyWorks Done found o o' = (bytes : List ℕ) × (found ≡ Some (Some bytes)) × Appends o o' bytes
+CopyWorks NoSuchPath found o o' = (found ≡ None) × Appends o o' []
+CopyWorks NotAFile found o o' = (found ≡ Some None) × Appends o o' []
+CopyWorks WriteFault found o o' = (bytes : List ℕ) × (found ≡ Some (Some bytes)) × AppendsPart o o' bytes
+CopyWorks NoMemory found o o' = (bytes : List ℕ) × (found ≡ Some (Some bytes)) × AppendsPart o o' bytes
+CopyWorks _ found o o' = ⊥

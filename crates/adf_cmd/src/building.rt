@@ -52,8 +52,8 @@ fn refuse_full(alloc: Global, need: u64, have: u64) -> Outcome
     }
 }
 
-// Builds a tree, and writes its image or the lines of the image's words.
-fn build_tree<W: Sink>(
+/// Builds a tree, and writes its image or the lines of the image's words.
+pub fn build_tree<W: Sink>(
     alloc: Global,
     tree: &Tree,
     blocks: u32,

@@ -11,16 +11,13 @@ ghost use Rattle.adf_cmd.specs.Streams.{TakesAtMost};
 ghost use Rattle.adf_texts.specs.Lines.{fault_line, ok_line};
 
 use crate::devices::{Sink, Source};
+use crate::images::{MOST_IMAGE_BYTES, refused_line};
 use crate::outcome::Outcome;
 use crate::streams::{StreamFault, read_all, write_all};
-use adf_blocks::{Cause, MOST_BLOCKS};
+use adf_blocks::Cause;
 use adf_check::{Checked, Counts, Fault, check};
-use adf_fields::BLOCK_LEN;
-use adf_texts::{push_counts, push_fault};
+use adf_texts::push_counts;
 use std::alloc::{AllocError, Global};
-
-/// The most bytes of an image.
-pub const MOST_IMAGE_BYTES: usize = MOST_BLOCKS as usize * BLOCK_LEN;
 
 // The line of an accepted image.
 fn accepted_line(alloc: Global, counts: &Counts) -> Result<String, AllocError>
@@ -28,15 +25,6 @@ fn accepted_line(alloc: Global, counts: &Counts) -> Result<String, AllocError>
 {
     let mut line = String::new(alloc);
     push_counts(&mut line, counts)?;
-    Ok(line)
-}
-
-// The line of a refused image.
-fn refused_line(alloc: Global, fault: Fault) -> Result<String, AllocError>
-    ensures { IfOk result (λ line. string_bytes line ≡ fault_line fault) }
-{
-    let mut line = String::new(alloc);
-    push_fault(&mut line, fault)?;
     Ok(line)
 }
 

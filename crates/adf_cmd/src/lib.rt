@@ -4,16 +4,19 @@
 mod building;
 mod checking;
 mod command_line;
+mod converting;
+mod copying;
 mod devices;
+mod images;
 mod listing;
 mod outcome;
 mod round_trip;
 mod runner;
 mod streams;
 
-pub use crate::checking::MOST_IMAGE_BYTES;
 pub use crate::command_line::{Order, WordsFault, parse, words_as_documented};
 pub use crate::devices::{Device, Failed, Sink, Source};
+pub use crate::images::MOST_IMAGE_BYTES;
 pub use crate::listing::write_listing;
 pub use crate::round_trip::build_and_read;
 pub use crate::runner::run;

@@ -12,6 +12,10 @@ pub enum Outcome {
     Told,
     /// The input is refused, and errors are to get this line.
     Refused(String),
+    /// Nothing is there under the path.
+    NoSuchPath,
+    /// The path leads to the root or a directory.
+    NotAFile,
     ReadFault,
     WriteFault,
     NoMemory,
@@ -26,6 +30,8 @@ impl Outcome {
             Outcome::Done => 0,
             Outcome::Told => 1,
             Outcome::Refused(_) => 1,
+            Outcome::NoSuchPath => 1,
+            Outcome::NotAFile => 1,
             Outcome::ReadFault => 3,
             Outcome::WriteFault => 3,
             Outcome::NoMemory => 3,
@@ -40,6 +46,8 @@ impl Outcome {
             Outcome::Done => "",
             Outcome::Told => "",
             Outcome::Refused(line) => line.as_str(),
+            Outcome::NoSuchPath => "no such path\n",
+            Outcome::NotAFile => "not a file\n",
             Outcome::ReadFault => "read fault\n",
             Outcome::WriteFault => "write fault\n",
             Outcome::NoMemory => "no memory\n",

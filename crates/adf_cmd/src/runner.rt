@@ -1,7 +1,7 @@
 // The whole command.
 
-ghost use Rattle.std.specs.Prelude.{◌≡◌, ◌≤◌, ◌+◌, true, false, map, Some, IfSome};
-ghost use Rattle.adf_cmd.specs.Answers.{Answers, AnswersPart, IsUnanswered, failure_line, is_built, limit_of};
+ghost use Rattle.std.specs.Prelude.{◌≡◌, ◌≤◌, ◌+◌, true, false, codes, map, Some, IfSome};
+ghost use Rattle.adf_cmd.specs.Answers.{Answers, AnswersPart, AsksBadPath, IsUnanswered, IsUntaken, failure_line, limit_of};
 ghost use Rattle.adf_cmd.specs.CommandLine.{Asks, IsRefused, asked, request_of};
 ghost use Rattle.adf_cmd.specs.Outcomes.{line_of, status_of};
 ghost use Rattle.adf_cmd.specs.Streams.{Says, TakesAtMost};
@@ -9,12 +9,17 @@ ghost use Rattle.adf_cmd.specs.Streams.{Says, TakesAtMost};
 use crate::building::build_input;
 use crate::checking::check_input;
 use crate::command_line::{Order, WordsFault, parse};
+use crate::converting::convert_input;
+use crate::copying::cat_input;
 use crate::devices::{Sink, Source};
 use crate::outcome::Outcome;
 use crate::streams::say;
+use adf_tree::{PathFault, read_path};
 use std::alloc::Global;
 
-const USAGE: &str = "usage: adf check | build [--list]\n";
+const USAGE: &str = "usage: adf check | list | cat PATH | build [--list] | convert ofs|ffs\n";
+
+const BAD_PATH: &str = "bad path\n";
 
 // Says on errors how the work went, and answers the status.
 fn finish<E: Sink>(outcome: &Outcome, errors: &mut E) -> u8
@@ -26,11 +31,21 @@ fn finish<E: Sink>(outcome: &Outcome, errors: &mut E) -> u8
     outcome.status()
 }
 
+// Says on errors why nothing is read, and answers the status.
+fn refuse<E: Sink>(errors: &mut E, text: &str) -> u8
+    requires { E.has_failed errors.old ≡ false }
+    ensures status { result ≡ 2 }
+    ensures said { Says (E.has_failed errors.new) (E.held errors.old) (E.held errors.new) text.now }
+{
+    say(errors, text);
+    2
+}
+
 /// Runs the command that the words name, of which the first is the program's name, and answers its status:
 ///
 /// - 0 where the answer is written to output;
 /// - 1 where the input is refused: `check` says so on output, the others on errors;
-/// - 2 where the words are not accepted, or name a command that is not built; nothing is read, and output is empty;
+/// - 2 where the words are not accepted, or the path is not read; nothing is read, and output is empty;
 /// - 3 where a device failed or memory was refused, which errors tell.
 pub fn run<R: Source, W: Sink, E: Sink>(
     alloc: Global,
@@ -44,13 +59,15 @@ pub fn run<R: Source, W: Sink, E: Sink>(
     requires tells { E.has_failed errors.old ≡ false }
     ensures status { result ≤ 3 }
 
-    // At status 0 and 1 the answer is the defined one.
-    ensures answer { ¬ (result ≡ 2) → ¬ (result ≡ 3) → IfSome (R.left input.old) (λ bytes. Answers (map (λ w. w.now) words.now) bytes result (W.held output.old) (W.held output.new)
-        (E.has_failed errors.new) (E.held errors.old) (E.held errors.new)) }
+    // Where the words are taken, at a status other than 3 the answer is the defined one.
+    ensures answer { ¬ IsUntaken (map (λ w. w.now) words.now) → ¬ (result ≡ 3) → IfSome (R.left input.old) (λ bytes.
+        Answers (map (λ w. w.now) words.now) bytes result (W.held output.old) (W.held output.new) (E.has_failed errors.new) (E.held errors.old) (E.held errors.new)) }
     ensures words { ¬ (result ≡ 2) → ¬ (result ≡ 3) → ¬ IsUnanswered (map (λ w. w.now) words.now) }
 
-    // At status 2 the words are refused or have no answer, and nothing was read or written.
+    // At status 2 the words are refused or their path is not read, and nothing was read or written.
     ensures usage { result ≡ 2 → IsUnanswered (map (λ w. w.now) words.now) }
+    ensures bad_path { result ≡ 2 → AsksBadPath (map (λ w. w.now) words.now)
+        → Says (E.has_failed errors.new) (E.held errors.old) (E.held errors.new) (codes "bad path\n") }
     ensures untouched { result ≡ 2 → (input.new ≡ input.old) × (output.new ≡ output.old) }
 
     // At status 3 errors tell what failed, and output has a front part of an answer.
@@ -63,11 +80,14 @@ pub fn run<R: Source, W: Sink, E: Sink>(
 {
     match parse(alloc, words) {
         Ok(Order::Check) => finish(&check_input(alloc, input, output), errors),
+        Ok(Order::Cat(path)) => match read_path(alloc, path.as_bytes()) {
+            Ok(names) => finish(&cat_input(alloc, &names, input, output), errors),
+            Err(PathFault::BadText) => refuse(errors, BAD_PATH),
+            Err(PathFault::NoMemory) => finish(&Outcome::NoMemory, errors),
+        },
         Ok(Order::Build { list }) => finish(&build_input(alloc, list, input, output), errors),
-        Ok(_) | Err(WordsFault::Usage) => {
-            say(errors, USAGE);
-            2
-        }
+        Ok(Order::Convert(kind)) => finish(&convert_input(alloc, kind, input, output), errors),
+        Ok(Order::List) | Err(WordsFault::Usage) => refuse(errors, USAGE),
         Err(WordsFault::NoMemory) => finish(&Outcome::NoMemory, errors),
     }
 }

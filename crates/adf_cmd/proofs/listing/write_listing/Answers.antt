@@ -1,15 +1,11 @@
-use Rattle.std.proofs.Common.{List, ℕ, ◌+◌, ◌++◌, ◌∙◌, [], subst, sym, refl, rules, arith, append-nil, Result, Ok, Err, OnErr}
+use Rattle.std.proofs.Common.{List, ℕ, ◌+◌, ◌++◌, ◌∙◌, [], subst, sym, refl, rules, arith, append-nil}
 use Rattle.std.specs.Io.KnownBytes.{Appends}
 use Rattle.adf_fields.specs.Words.{block}
 use Rattle.adf_cmd.specs.Listing.{lines_of, lines_of_blocks}
 use Rattle.adf_cmd.specs.Streams.{AppendsPart}
 use Rattle.adf_cmd.proofs.Lines.{blocks_more, blocks_none, listing_front, listing_whole}
-use Rattle.adf_cmd.proofs.PendingText.{pending_end, pending_fails, pending_more, pending_none}
+use Rattle.adf_cmd.proofs.PendingText.{on_err, pending_end, pending_fails, pending_more, pending_none}
 use Rattle.adf_cmd.proofs.listing.write_listing.Goals as goal
-
-on_err : {T E P : Type 0} (r : Result T E) → P → OnErr r P
-on_err (Ok x) p = tt
-on_err (Err e) p = p
 
 pub loop-b-init : goal.loop-b-init
 loop-b-init g c = record {

@@ -1,0 +1,79 @@
+-- What is answered to the front of an input that is longer than the limit is answered to the whole of it.
+use Rattle.std.proofs.Common.{◌≡◌, ◌≢◌, ◌<◌, ◌≤◌, ◌+◌, ◌*◌, ◌∙◌, inl, inr, ℕ, List, Option, Some, refl, sym, subst, arith, length, take, length-take}
+use Rattle.std.proofs.lemmas.Bool.{cases_lt}
+use Rattle.std.proofs.lemmas.List.{take_all}
+use Rattle.adf_blocks.specs.declared.cause.Cause.TheVariants.{BadSize}
+use Rattle.adf_blocks.specs.Sizes.{MOST_BLOCKS, blocks}
+use Rattle.adf_volume.specs.Demands.{IsSize}
+use Rattle.adf_volume.specs.Walk.{FirstFault}
+use Rattle.adf_volume.specs.Walk.FirstFault.{at_boot}
+use Rattle.adf_volume.proofs.Alone.{one_fault}
+use Rattle.adf_volume.proofs.Holding.{size_high}
+use Rattle.adf_check.specs.declared.fault.Fault.{Fault}
+use Rattle.adf_manifest.specs.Manifest.{ExplainsKind}
+use Rattle.adf_manifest.specs.declared.manifest.ManifestKind.{ManifestKind}
+use Rattle.adf_manifest.specs.declared.manifest.ManifestKind.TheVariants.{NoMemory as ManifestNoMemory, TooLong}
+use Rattle.adf_cmd.specs.Answers.{Answer, limit_of}
+use Rattle.adf_cmd.specs.CommandLine.{Request, build, cat, check, convert, list}
+use Rattle.adf_cmd.specs.Outcomes.{Works, line_of, status_of}
+use Rattle.adf_cmd.specs.declared.outcome.Outcome.{Outcome}
+use Rattle.adf_cmd.specs.declared.outcome.Outcome.TheVariants.{ReadFault, WriteFault, NoMemory}
+
+-- each answer to one input is one to another
+abbrev AnswersBoth : Request → List ℕ → List ℕ → Type 0
+AnswersBoth r image bytes = (s : ℕ) (out err : List ℕ) → Answer r image s out err → Answer r bytes s out err
+
+works_both : (r : Request) (image bytes : List ℕ) (o o' : Option (List ℕ)) → AnswersBoth r image bytes → (w : Outcome) → Works w r image o o'
+    → Works w r bytes o o'
+works_both r image bytes o o' f ReadFault h = h
+works_both r image bytes o o' f WriteFault h = (h.0, h.1, h.2, f h.0 h.1 h.2 h.3, h.4)
+works_both r image bytes o o' f NoMemory (inl h) = inl h
+works_both r image bytes o o' f NoMemory (inr h) = inr (h.0, h.1, h.2, f h.0 h.1 h.2 h.3, h.4)
+works_both r image bytes o o' f w h = (h.0, f (status_of w) h.0 (line_of w) h.1, h.2)
+
+-- a size above that of the largest volume is none
+too_large : (image : List ℕ) → 512 * MOST_BLOCKS < length image → IsSize image → ⊥
+too_large image h size =
+    let few : blocks image ≤ MOST_BLOCKS = size_high (blocks image) size.1 in
+    let whole : length image ≡ 512 * blocks image = size.0 in
+    omega arith
+
+bad_size : (image : List ℕ) → 512 * MOST_BLOCKS < length image → FirstFault image 0 BadSize
+bad_size image h = at_boot (inl (too_large image h, refl, refl))
+
+-- the first fault of the front of a long image is that of the whole
+long_fault : (image bytes : List ℕ) (f : Fault) → 512 * MOST_BLOCKS < length image → 512 * MOST_BLOCKS < length bytes
+    → FirstFault image f.block f.cause → FirstFault bytes f.block f.cause
+long_fault image bytes f front long first =
+    let same = one_fault image f.block f.cause 0 BadSize first (bad_size image front) in
+    let at_zero : FirstFault bytes f.block BadSize = subst (λ b. FirstFault bytes b BadSize) (sym same.0) (bad_size bytes long) in
+    subst (λ c. FirstFault bytes f.block c) (sym same.1) at_zero
+
+-- a fault of the front of a long manifest is one of the whole
+long_kind : (kind : ManifestKind) (line : ℕ) (image bytes : List ℕ) → 16777216 < length image → 16777216 < length bytes
+    → kind ≢ ManifestNoMemory → ExplainsKind kind line image → ExplainsKind kind line bytes
+long_kind ManifestNoMemory line image bytes a b ne h = absurd (ne refl)
+long_kind TooLong line image bytes a b ne h = (h.0, b)
+long_kind _ line image bytes a b ne h = absurd (omega (arith, h.0))
+
+long_answers : (r : Request) (image bytes : List ℕ) → limit_of (Some r) < length image → limit_of (Some r) < length bytes → AnswersBoth r image bytes
+long_answers check image bytes a b s out err (inl (t, l, fits, status, output, errors)) = absurd (too_large image a fits.boots.0)
+long_answers check image bytes a b s out err (inr h) = inr (h.0, long_fault image bytes h.0 a b h.1, h.2, h.3, h.4)
+long_answers list image bytes a b s out err h = absurd h
+long_answers (cat path) image bytes a b s out err (inl bad) = inl bad
+long_answers (cat path) image bytes a b s out err (inr (inl (names, text, t, l, fits, copies))) = absurd (too_large image a fits.boots.0)
+long_answers (cat path) image bytes a b s out err (inr (inr h)) = inr (inr (h.0, long_fault image bytes h.0 a b h.1, h.2, h.3, h.4))
+long_answers (build lines) image bytes a b s out err (inl (tree, n, manifest, builds)) = absurd (omega (arith, manifest.0))
+long_answers (build lines) image bytes a b s out err (inr h) = inr (h.0, long_kind h.0.kind h.0.line image bytes a b h.2 h.1, h.2, h.3, h.4, h.5)
+long_answers (convert kind) image bytes a b s out err (inl (t, l, fits, builds)) = absurd (too_large image a fits.boots.0)
+long_answers (convert kind) image bytes a b s out err (inr h) = inr (h.0, long_fault image bytes h.0 a b h.1, h.2, h.3, h.4)
+
+-- what is done with the bytes that are read is done with the whole input
+pub read_works : (w : Outcome) (r : Request) (image bytes : List ℕ) (o o' : Option (List ℕ)) → image ≡ take (limit_of (Some r) + 1) bytes
+    → Works w r image o o' → Works w r bytes o o'
+read_works w r image bytes o o' e h = elim (cases_lt (limit_of (Some r)) (length bytes)) [
+  | inr short ↦ subst (λ l. Works w r l o o') (e ∙ take_all (limit_of (Some r) + 1) bytes (omega arith)) h
+  | inl long ↦
+      let cut : limit_of (Some r) < length image = rw e (omega (arith, length-take {A = ℕ})) in
+      works_both r image bytes o o' (long_answers r image bytes cut long) w h
+]

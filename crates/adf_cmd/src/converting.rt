@@ -1,0 +1,86 @@
+// The command `convert`.
+
+ghost use Rattle.std.specs.Prelude.{◌≡◌, ◌+◌, true, false, IfErr, IfOk, IfSome};
+ghost use Rattle.adf_tree.specs.Tree.{with_kind};
+ghost use Rattle.adf_blocks.specs.Sizes.{blocks, is_allowed};
+ghost use Rattle.adf_volume.specs.Fits.{Fits};
+ghost use Rattle.adf_volume.specs.Layout.{Layout};
+ghost use Rattle.adf_cmd.specs.CommandLine.{convert};
+ghost use Rattle.adf_cmd.specs.Outcomes.{IsRefusedImage, TreeWorks, Works, is_read_fault, is_write_fault};
+ghost use Rattle.adf_cmd.specs.Streams.{TakesAtMost};
+
+use crate::building::build_tree;
+use crate::devices::{Sink, Source};
+use crate::images::{MOST_IMAGE_BYTES, volume_of};
+use crate::outcome::Outcome;
+use crate::streams::{StreamFault, read_all};
+use adf_tree::{Kind, Tree};
+use std::alloc::Global;
+
+// The tree of an image and the number of its blocks; of a refused image, how the work ends. The image is dropped.
+fn tree_of(alloc: Global, image: Vec<u8>) -> Result<(Tree, u32), Outcome>
+    ensures tree { IfOk result (λ r. (l : Layout) × Fits image.items r.0 l) }
+    ensures size { IfOk result (λ r. r.1 ≡ blocks image.items) }
+    ensures refused { IfErr result (IsRefusedImage image.items) }
+    ensures read { IfErr result (λ w. is_read_fault w ≡ false) }
+    ensures written { IfErr result (λ w. is_write_fault w ≡ false) }
+{
+    let volume = volume_of(alloc, &image)?;
+    let count = volume.counts().blocks;
+    match volume.to_tree(alloc) {
+        Ok(tree) => Ok((tree, count)),
+        Err(_) => Err(Outcome::NoMemory),
+    }
+}
+
+// Builds a tree again, as one of another kind.
+fn convert_tree<W: Sink>(
+    alloc: Global,
+    mut tree: Tree,
+    blocks: u32,
+    kind: Kind,
+    output: &mut W,
+) -> Outcome
+    requires works { W.has_failed output.old ≡ false }
+    requires size { is_allowed blocks ≡ true }
+    ensures works { TreeWorks result false (with_kind tree kind) blocks (W.held output.old) (W.held output.new) }
+    ensures read { is_read_fault result ≡ false }
+    ensures written { W.has_failed output.new ≡ is_write_fault result }
+{
+    tree.set_kind(kind);
+    build_tree(alloc, &tree, blocks, false, output)
+}
+
+// Checks an image, and builds its tree again, as one of another kind.
+fn convert_image<W: Sink>(alloc: Global, image: Vec<u8>, kind: Kind, output: &mut W) -> Outcome
+    requires { W.has_failed output.old ≡ false }
+    ensures works { Works result (convert kind) image.items (W.held output.old) (W.held output.new) }
+    ensures read { is_read_fault result ≡ false }
+    ensures written { W.has_failed output.new ≡ is_write_fault result }
+{
+    match tree_of(alloc, image) {
+        Ok((tree, blocks)) => convert_tree(alloc, tree, blocks, kind, output),
+        Err(outcome) => outcome,
+    }
+}
+
+/// Reads an image, checks it and writes the image of its tree as one of another kind, in as many blocks.
+pub fn convert_input<R: Source, W: Sink>(
+    alloc: Global,
+    kind: Kind,
+    input: &mut R,
+    output: &mut W,
+) -> Outcome
+    requires reads { R.has_failed input.old ≡ false }
+    requires writes { W.has_failed output.old ≡ false }
+    ensures works { IfSome (R.left input.old) (λ bytes. Works result (convert kind) bytes (W.held output.old) (W.held output.new)) }
+    ensures read { R.has_failed input.new ≡ is_read_fault result }
+    ensures written { W.has_failed output.new ≡ is_write_fault result }
+    ensures at_most { TakesAtMost (MOST_IMAGE_BYTES + 1) (R.left input.old) (R.left input.new) }
+{
+    match read_all(alloc, input, MOST_IMAGE_BYTES) {
+        Ok(image) => convert_image(alloc, image, kind, output),
+        Err(StreamFault::Device) => Outcome::ReadFault,
+        Err(StreamFault::NoMemory) => Outcome::NoMemory,
+    }
+}
