@@ -9,7 +9,7 @@ use Rattle.adf_volume.specs.Image.{root_of}
 use Rattle.adf_volume.specs.Reading.{IsBeforePage}
 use Rattle.adf_volume.specs.Store.{owner_at}
 use Rattle.adf_volume.proofs.InBitmap.{beginning}
-use Rattle.adf_check.proofs.ExtSteps.{many_blocks}
+use Rattle.adf_check.proofs.Bounds.{many_blocks}
 use Rattle.adf_check.specs.Image.{IsBegun}
 use Rattle.adf_check.specs.Owners.{owned_count}
 

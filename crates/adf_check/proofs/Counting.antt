@@ -20,7 +20,7 @@ use Rattle.adf_volume.specs.Store.{Store}
 use Rattle.adf_volume.specs.Walk.Role.{Head}
 use Rattle.adf_volume.proofs.InRows.{node_here}
 use Rattle.adf_volume.proofs.Kept.{in_range}
-use Rattle.adf_check.proofs.ExtSteps.{many_blocks}
+use Rattle.adf_check.proofs.Bounds.{many_blocks}
 use Rattle.adf_check.proofs.NodeSteps.{row_at}
 use Rattle.adf_check.specs.Image.{IsBegun}
 use Rattle.adf_check.specs.Volumes.{counts_of, is_dir_at, is_directory}

@@ -15,7 +15,7 @@ use Rattle.adf_volume.specs.Walk.Role.{Data, Ext, Head}
 use Rattle.adf_volume.proofs.InFiles.{data_named, data_enough, data_form_at, data_read}
 use Rattle.adf_volume.proofs.Kept.{in_range}
 use Rattle.adf_volume.proofs.Steps.{at_get, plain_form}
-use Rattle.adf_check.proofs.ExtSteps.{many_blocks}
+use Rattle.adf_check.proofs.Bounds.{many_blocks}
 use Rattle.adf_check.proofs.Faults.{plain_claim}
 use Rattle.adf_check.proofs.Steps.{stored_is}
 use Rattle.adf_check.specs.Files.{next_of}

@@ -1,12 +1,10 @@
 -- The steps along the extension blocks of a file.
 use Rattle.std.proofs.Common.{◌≡◌, ◌≢◌, ℕ, suc, List, [], ◌∷◌, ◌++◌, ◌+◌, ◌^◌, ◌<◌, ◌≤◌, length, set, Bool, true, false, cond, refl, sym, subst, arith, Some, None}
 use Rattle.std.specs.Prelude.{◌==◌}
-use Rattle.std.proofs.lemmas.List.Sums.{count_by-le-length}
 use Rattle.adf_fields.specs.Words.{block}
 use Rattle.adf_blocks.specs.declared.cause.Cause.{Cause}
 use Rattle.adf_blocks.specs.Forms.{first_cause}
 use Rattle.adf_blocks.specs.ExtBlock.{ext_form}
-use Rattle.adf_blocks.specs.Sizes.{blocks}
 use Rattle.adf_volume.specs.declared.owner.Owner.{Owner}
 use Rattle.adf_volume.specs.declared.owner.Owner.TheVariants.{Free, Ext as AnExt}
 use Rattle.adf_volume.specs.Demands.{Demand, FirstFails}
@@ -15,20 +13,16 @@ use Rattle.adf_volume.specs.Reading.{IsInExts}
 use Rattle.adf_volume.specs.Store.{Store, owner_at}
 use Rattle.adf_volume.specs.Walk.{FirstFault, Role, ext_count}
 use Rattle.adf_volume.specs.Walk.Role.{Root, Page, MapExt, Head, Ext, Data}
-use Rattle.adf_volume.proofs.Holding.{size_high, size_low}
 use Rattle.adf_volume.proofs.InFiles.{ext_named, ext_form_at, ext_read}
 use Rattle.adf_volume.proofs.Steps.{plain_form}
 use Rattle.adf_volume.proofs.Told.{all_told, first_told}
+use Rattle.adf_check.proofs.Bounds.{walk_short}
 use Rattle.adf_check.proofs.Faults.{plain_claim}
 use Rattle.adf_check.proofs.Steps.{stored_is}
 use Rattle.adf_check.specs.Found.{InRange, IsClaimFault, IsTrueFault}
 use Rattle.adf_check.specs.Image.{IsBegun}
-use Rattle.adf_check.specs.Owners.{is_part, owned_count}
+use Rattle.adf_check.specs.Owners.{owned_count}
 use Rattle.adf_check.specs.declared.fault.Fault.{Fault}
-
--- an image that begins as a volume has at least 4 blocks
-pub many_blocks : (image : List ℕ) → IsBegun image → 4 ≤ blocks image
-many_blocks image begun = size_low (blocks image) begun.0.1
 
 at_most_one : (t : Bool) (m : ℕ) → cond t (suc m) m ≤ suc m
 at_most_one true m = omega arith
@@ -53,10 +47,7 @@ table_short image store n h table a b begun used st =
     let e : length table ≡ suc st.extra = st.size in
     let c : ext_count st.walk n ≡ st.extra = st.counted in
     let within : ext_count st.walk n ≤ length st.walk = exts_within st.walk n in
-    let walked : store.used ≡ length st.walk = st.tells.used in
-    let owned : owned_count store.owners ≤ length store.owners = count_by-le-length is_part store.owners in
-    let size : length store.owners ≡ blocks image = st.tells.owns.size in
-    let high = size_high (blocks image) begun.0.1 in
+    let short = walk_short image store st.walk begun used st.tells in
     omega arith
 
 -- a word of block a names block b next

@@ -1,5 +1,6 @@
 pub mod Faults
 pub mod Steps
+pub mod Bounds
 pub mod PageSteps
 pub mod ChainSteps
 pub mod ExtSteps

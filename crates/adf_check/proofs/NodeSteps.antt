@@ -10,7 +10,7 @@ use Rattle.adf_volume.specs.Walk.Role.{Head}
 use Rattle.adf_volume.proofs.InFiles.{enter_directory, enter_exts}
 use Rattle.adf_volume.proofs.InRows.{node_here, dir_here, file_here, root_here}
 use Rattle.adf_volume.proofs.Kept.{in_range}
-use Rattle.adf_check.proofs.ExtSteps.{many_blocks}
+use Rattle.adf_check.proofs.Bounds.{many_blocks}
 use Rattle.adf_check.specs.Image.{IsBegun}
 
 -- the row at a place

@@ -10,7 +10,7 @@ use Rattle.adf_blocks.specs.PageBlock.{page_form}
 use Rattle.adf_blocks.specs.Sizes.{blocks, pages_needed}
 use Rattle.adf_volume.specs.declared.owner.Owner.{Owner}
 use Rattle.adf_volume.specs.declared.owner.Owner.TheVariants.{Free, Page as APage, MapExt as AMapExt}
-use Rattle.adf_volume.specs.Image.{root_of, word_in}
+use Rattle.adf_volume.specs.Image.{word_in}
 use Rattle.adf_volume.specs.Reading.{IsAtPage, IsBeforePage, IsListed, IsNamed, block_of_page}
 use Rattle.adf_volume.specs.Store.{Store, owner_at, stored}
 use Rattle.adf_volume.specs.Walk.{FirstFault}

@@ -1,6 +1,6 @@
 // Directories: the headers of each slot's chain.
 
-ghost use Rattle.std.specs.Prelude.{◌≡◌, ◌≢◌, ◌≤◌, ◌<◌, ◌+◌, OnOk, IfOk, IfErr};
+ghost use Rattle.std.specs.Prelude.{◌≡◌, ◌≢◌, ◌≤◌, ◌<◌, ◌+◌, ◌^◌, OnOk, IfOk, IfErr};
 ghost use Rattle.adf_blocks.specs.Sizes.{blocks};
 ghost use Rattle.adf_volume.specs.Image.{word_in};
 ghost use Rattle.adf_volume.specs.Reading.{IsAtNode, IsAtSlot, IsInChain};
@@ -20,6 +20,17 @@ struct Chain {
     parent: Node,
     up: u32,
     slot: u8,
+}
+
+// What is kept of the header at block `head`, of an entry with this parent.
+fn kept_row(parent: Node, head: u32) -> Row
+    requires { parent < 2 ^ 32 }
+    ensures { result ≡ record { parent = parent; head = head } }
+{
+    Row {
+        parent: parent.0 as u32,
+        head,
+    }
 }
 
 // Claims and reads the header at block `b`, which a word of block `at` names: the next one of its chain, or 0.
@@ -52,11 +63,7 @@ fn read_member(
         Ok(false) => return Err(fault_at(b, Cause::SameName)),
         Err(_) => return Err(fault_at(0, Cause::NoMemory)),
     }
-    let row = Row {
-        parent: chain.parent,
-        head: b,
-    };
-    match found.rows.push(row) {
+    match found.rows.push(kept_row(chain.parent, b)) {
         Ok(()) => Ok(head.next()),
         Err(_) => Err(fault_at(0, Cause::NoMemory)),
     }

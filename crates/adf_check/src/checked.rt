@@ -123,7 +123,7 @@ impl Checked<'_> {
         }
         let kept = self.found.rows.get(n.0 - 1)?;
         let head = Head::over(self.image.block(kept.head));
-        Some(row_of(kept.parent, &head))
+        Some(row_of(Node(kept.parent as usize), &head))
     }
 
     /// The node that the path leads to, whatever the case of its names; 0 for the empty path.

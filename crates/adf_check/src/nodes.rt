@@ -1,11 +1,12 @@
 // The nodes of a volume, one after the other: the root, and each entry as its header was found.
 
-ghost use Rattle.std.specs.Prelude.{◌≡◌, ◌≤◌, ◌<◌, ◌+◌, [], ◌∷◌, OnOk, IfErr, length};
+ghost use Rattle.std.specs.Prelude.{◌≡◌, ◌≤◌, ◌<◌, ◌+◌, ◌^◌, [], ◌∷◌, OnOk, IfErr, length};
 ghost use Rattle.adf_blocks.specs.Sizes.{blocks};
 ghost use Rattle.adf_volume.specs.Image.{word_in};
 ghost use Rattle.adf_volume.specs.Reading.{IsAtNode, IsInExts, IsInNode, IsRead};
 ghost use Rattle.adf_check.specs.Checks.{fault};
 ghost use Rattle.adf_check.specs.Found.{IsFurther, IsTrueFault, store_of};
+ghost use Rattle.adf_check.specs.Image.{IsBegun};
 ghost use Rattle.adf_volume.specs.Store.{entered};
 
 use crate::chains::read_directory;
@@ -21,13 +22,15 @@ use std::alloc::Global;
 
 // Begins the next node: its blocks stand behind those that were found.
 fn enter(found: &mut Found) -> Result<(), Fault>
+    requires exts { length found.old.exts.items < 2 ^ 32 }
+    requires datas { length found.old.datas.items < 2 ^ 32 }
     ensures entered { OnOk result (store_of found.new ≡ entered (store_of found.old)) }
     ensures fewer { OnOk result (IsFurther found.old found.new) }
     ensures fault { IfErr result (λ f. f ≡ fault 0 Cause.NoMemory) }
 {
     let start = Start {
-        exts: found.exts.len(),
-        datas: found.datas.len(),
+        exts: found.exts.len() as u32,
+        datas: found.datas.len() as u32,
     };
     match found.starts.push(start) {
         Ok(()) => Ok(()),
@@ -84,6 +87,7 @@ fn read_node(
 
 /// Reads all nodes. Those that a directory names come behind those that were found.
 pub fn read_nodes(alloc: Global, image: &Image<'_>, found: &mut Found) -> Result<(), Fault>
+    requires begun { IsBegun image.now }
     requires state { IsAtNode image.now (store_of found.old) 0 }
     ensures state { OnOk result (IsRead image.now (store_of found.new)) }
     ensures fault { IfErr result (λ f. IsTrueFault image.now f) }

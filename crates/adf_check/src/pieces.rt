@@ -124,7 +124,7 @@ fn datas_of<'a>(image: &Image<'_>, found: &'a Found, n: Node, size: u32) -> &'a 
     if count == 0 {
         return &[];
     }
-    part(&found.datas, found.starts[n.0].datas, count)
+    part(&found.datas, found.starts[n.0].datas as usize, count)
 }
 
 /// The pieces of a file; none of the root, a directory and what is past the last entry.

@@ -4,6 +4,7 @@ ghost use Rattle.std.specs.Prelude.{◌≡◌, ◌≤◌, length, slice_index, �
 ghost use Rattle.adf_fields.specs.Words.{block};
 ghost use Rattle.adf_volume.specs.Image.{kind_of, root_of};
 ghost use Rattle.adf_check.specs.Found.{IsTrueFault};
+ghost use Rattle.adf_check.specs.Image.{IsBegun};
 ghost use Rattle.adf_check.specs.Start.{is_whole, start_form};
 ghost use Rattle.adf_blocks.specs.Forms.{ReadsForm};
 ghost use Rattle.adf_blocks.specs.Sizes.{blocks, is_allowed};
@@ -91,6 +92,7 @@ fn read_start(image: &[u8]) -> Result<Start, Cause>
 /// Reads the size, the first four bytes and the root of an image.
 pub fn open<'a>(bytes: &'a [u8]) -> Result<Opened<'a>, Fault>
     ensures image { IfOk result (λ o. o.image ≡ bytes.now) }
+    ensures begun { IfOk result (λ o. IsBegun o.image) }
     ensures root { IfOk result (λ o. o.root ≡ block bytes.now (root_of bytes.now)) }
     ensures fault { IfErr result (λ f. IsTrueFault bytes.now f) }
 {

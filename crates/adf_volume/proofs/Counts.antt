@@ -88,7 +88,7 @@ module _ (image : List ℕ) where
       let dx : length (datas_in full n) ≡ length (datas_in full (suc (heads w))) = ap (λ n. length (datas_in full n)) z in
       omega arith
 
-  parts_sum : {w : List (Role × ℕ)} → IsWalk image w → length w ≡ 1 + (length (pages_in w) + (length (map_exts_in w) + (heads w + (length (all_exts w) + length (all_datas w)))))
+  pub parts_sum : {w : List (Role × ℕ)} → IsWalk image w → length w ≡ 1 + (length (pages_in w) + (length (map_exts_in w) + (heads w + (length (all_exts w) + length (all_datas w)))))
   parts_sum start = omega arith
   parts_sum (step {r = Root} {b = c} v d e g) = absurd d.asked
   parts_sum (step {w = w} {r = Page k} {b = c} v d e g) = let ih = parts_sum v in let s = snoc_length (pages_in w) c in omega arith

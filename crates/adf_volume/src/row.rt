@@ -1,17 +1,15 @@
 // What is kept of a volume's entries.
 
-use adf_tree::Node;
-
-/// What is kept of a header: the parent of its entry, and its block.
+/// What is kept of a header: the number of its entry's parent, and its block.
 #[derive(Clone, Copy, Debug, PartialEq, Eq)]
 pub struct Row {
-    pub parent: Node,
+    pub parent: u32,
     pub head: u32,
 }
 
 /// Where the blocks of a node begin in the lists of all extension blocks and of all data blocks.
 #[derive(Clone, Copy, Debug, PartialEq, Eq)]
 pub struct Start {
-    pub exts: usize,
-    pub datas: usize,
+    pub exts: u32,
+    pub datas: u32,
 }

@@ -1,4 +1,4 @@
-use Rattle.std.proofs.Common.{◌≡◌, ◌+◌, ◌++◌, ◌∷◌, [], ℕ, List, length, set, ap, subst, sym, ◌∙◌, rules, true, false, Some, None}
+use Rattle.std.proofs.Common.{◌≡◌, ◌+◌, ◌++◌, ◌∷◌, [], ℕ, List, length, set, ap, subst, sym, refl, ◌∙◌, rules, true, false, Some, None}
 use Rattle.std.specs.Prelude.{IfErr}
 use Rattle.adf_fields.specs.Words.{block, word}
 use Rattle.adf_tree.specs.NameSet.{has, HasMore}
@@ -14,6 +14,7 @@ use Rattle.adf_check.specs.Found.{IsClaimFault, IsTrueFault, sees_of, store_of}
 use Rattle.adf_check.specs.Owners.{owned_count}
 use Rattle.adf_blocks.specs.declared.cause.Cause.TheVariants.{SameName}
 use Rattle.adf_check.proofs.Faults.{first_fault}
+use Rattle.adf_check.proofs.Bounds.{parent_short}
 use Rattle.adf_check.proofs.ChainSteps.{member_claim, member_fault, member_twice, member_done, name_in, was_new, was_seen}
 use Rattle.adf_check.proofs.Steps.{if_err}
 use Rattle.adf_check.proofs.chains.read_member.Goals as goal
@@ -45,6 +46,12 @@ returns-in-Ok-false-clause-fault c =
     let twice : has c.args.seen.now (uppers c.name.result) ≡ true = was_seen (has c.args.seen.now (uppers c.name.result)) c.in-Ok-false.field-0 c.in-Ok-false.ensures.new c.in-Ok-false.field-0-test in
     rw c.fault_at-in-Ok-false.ensures (first_fault image c.args.b SameName (member_twice image store c.args.chain.now.parent c.args.chain.now.up c.args.chain.now.slot c.args.at c.args.b c.args.seen.now c.requires.slot c.kind-kind.ensures.begun c.requires.state c.requires.some
     c.in_ok-claim_named.ensures.range c.in_ok-claim_named.ensures.free (subst of_kind c.kind-kind.ensures.kind (subst of_block c.block.ensures.block c.in-Ok.ensures.0)) (ap (λ n. has c.args.seen.now (uppers n)) (sym named) ∙ twice)))
+
+pub kept_row-requires : goal.kept_row-requires
+kept_row-requires c =
+    let chain = c.args.chain.now in
+    parent_short c.args.image.now (store_of c.args.found.now) c.kind-kind.ensures.begun refl chain.parent chain.up chain.slot c.args.at c.args.b
+    (sees_of c.args.seen.now) c.requires.state
 
 pub returns-in-Ok-push-clause-state : goal.returns-in-Ok-push-clause-state
 returns-in-Ok-push-clause-state c =

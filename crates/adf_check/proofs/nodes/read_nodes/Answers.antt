@@ -1,9 +1,16 @@
-use Rattle.std.proofs.Common.{◌≡◌, ◌<◌, suc, length, subst, sym, arith, rules}
+use Rattle.std.proofs.Common.{◌≡◌, ◌<◌, suc, length, subst, sym, refl, arith, rules}
 use Rattle.adf_volume.specs.Reading.{IsInNode}
 use Rattle.adf_volume.proofs.Claims.{enter_node}
 use Rattle.adf_volume.proofs.InRows.{all_read}
 use Rattle.adf_check.specs.Found.{store_of}
+use Rattle.adf_check.proofs.Bounds.{lists_short}
 use Rattle.adf_check.proofs.nodes.read_nodes.Goals as goal
+
+pub enter-requires-clause-exts : goal.enter-requires-clause-exts
+enter-requires-clause-exts c = (lists_short c.args.image.now (store_of c.loop-node.found) c.requires.begun refl c.loop-node.node c.loop-node.invariant.state).0
+
+pub enter-requires-clause-datas : goal.enter-requires-clause-datas
+enter-requires-clause-datas c = (lists_short c.args.image.now (store_of c.loop-node.found) c.requires.begun refl c.loop-node.node c.loop-node.invariant.state).1
 
 pub read_node-requires-clause-state : goal.read_node-requires-clause-state
 read_node-requires-clause-state c =

@@ -1,0 +1,53 @@
+-- How many blocks and parts there are in an image that begins as a volume.
+use Rattle.std.proofs.Common.{◌≡◌, ℕ, zero, suc, List, ◌^◌, ◌<◌, ◌≤◌, length, ap, arith}
+use Rattle.std.proofs.lemmas.List.Sums.{count_by-le-length}
+use Rattle.adf_blocks.specs.Sizes.{MOST_BLOCKS, blocks}
+use Rattle.adf_volume.specs.Reading.{IsAtNode, IsInChain}
+use Rattle.adf_volume.specs.Store.{Store, Tells, all_datas, all_exts}
+use Rattle.adf_volume.specs.Walk.{DirAt, Role, heads}
+use Rattle.adf_volume.proofs.Counts.{parts_sum}
+use Rattle.adf_volume.proofs.Holding.{size_high, size_low}
+use Rattle.adf_volume.proofs.Lists.{at_below}
+use Rattle.adf_check.specs.Image.{IsBegun}
+use Rattle.adf_check.specs.Owners.{is_part, owned_count}
+
+-- there are at least 4 blocks
+pub many_blocks : (image : List ℕ) → IsBegun image → 4 ≤ blocks image
+many_blocks image begun = size_low (blocks image) begun.0.1
+
+-- a walk has no more members than there are blocks
+pub walk_short : (image : List ℕ) (store : Store) (w : List (Role × ℕ)) → IsBegun image → store.used ≡ owned_count store.owners → Tells image store w
+    → length w ≤ MOST_BLOCKS
+walk_short image store w begun used tells =
+    let walked : store.used ≡ length w = tells.used in
+    let owned : owned_count store.owners ≤ length store.owners = count_by-le-length is_part store.owners in
+    let size : length store.owners ≡ blocks image = tells.owns.size in
+    let high = size_high (blocks image) begun.0.1 in
+    omega arith
+
+module _ (image : List ℕ) (store : Store) (begun : IsBegun image) (used : store.used ≡ owned_count store.owners) where
+  -- the lists of all extension blocks and of all data blocks are short
+  pub lists_short : (n : ℕ) → IsAtNode image store n → (length store.exts < 2 ^ 32) × (length store.datas < 2 ^ 32)
+  lists_short n st =
+      let short = walk_short image store st.walk begun used st.tells in
+      let sum = parts_sum image st.upto.walk in
+      let exts : length store.exts ≡ length (all_exts st.walk) = ap length st.tells.exts in
+      let datas : length store.datas ≡ length (all_datas st.walk) = ap length st.tells.datas in
+      (omega arith, omega arith)
+
+  -- a directory is no further than the rows
+  dir_within : (w : List (Role × ℕ)) (p up : ℕ) → Tells image store w → DirAt image w p up → p ≤ heads w
+  dir_within w zero up tells dir = omega arith
+  dir_within w (suc i) up tells dir =
+      let h = dir.0 in
+      let below = at_below store.rows i _ (tells.lists.row i h.0 h.1 h.2 up h.3) in
+      let count : length store.rows ≡ heads w = tells.lists.count in
+      omega arith
+
+  -- the number of a directory is short
+  pub parent_short : (p up s a b : ℕ) (seen : List ℕ → Type 0) → IsInChain image store p up s a b seen → p < 2 ^ 32
+  parent_short p up s a b seen st =
+      let short = walk_short image store st.walk begun used st.tells in
+      let sum = parts_sum image st.upto.walk in
+      let within = dir_within st.walk p up st.tells st.dir in
+      omega arith
