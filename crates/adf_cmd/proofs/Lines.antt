@@ -1,19 +1,8 @@
 -- Laws of the lines of words and blocks.
-use Rattle.std.proofs.Common.{◌≡◌, ◌≤◌, ◌+◌, ◌-◌, ◌/◌, ◌++◌, ◌∙◌, ℕ, zero, suc, List, [], ◌∷◌, refl, sym, ap, arith, append_assoc, append-nil, add-suc, add-zero, add-one, length}
-use Rattle.std.specs.List.{flat_map, range_with_len}
-use Rattle.std.proofs.lemmas.Grind.{flat_map-append}
-use Rattle.std.proofs.lemmas.List.Folds.{flat_map-map}
-use Rattle.std.proofs.lemmas.List.FromFn.{map-range_with_len_more}
+use Rattle.std.proofs.Common.{◌≡◌, ◌≤◌, ◌+◌, ◌-◌, ◌/◌, ◌++◌, ◌∙◌, ℕ, zero, suc, List, [], refl, sym, ap, arith, append_assoc, append-nil, add-suc, add-zero, add-one, length}
 use Rattle.adf_fields.specs.Words.{block}
+use Rattle.adf_texts.proofs.Ranges.{flat_map_next}
 use Rattle.adf_cmd.specs.Listing.{line_of, lines_of, lines_of_blocks, listing}
-
--- one number more
-flat_map_next : (f : ℕ → List ℕ) (n : ℕ) → flat_map f (range_with_len 0 (n + 1)) ≡ flat_map f (range_with_len 0 n) ++ f n
-flat_map_next f n =
-    let same : ℕ → ℕ = λ x. x in
-    let more = map-range_with_len_more same 0 n n (omega arith) in
-    sym (flat_map-map f same (range_with_len 0 (n + 1))) ∙ ap (flat_map f) more ∙ flat_map-append f _ (n ∷ [])
-    ∙ ap (λ l. l ++ flat_map f (n ∷ [])) (flat_map-map f same (range_with_len 0 n)) ∙ ap (λ l. flat_map f (range_with_len 0 n) ++ l) (append-nil (f n))
 
 pub lines_of_none : (b : ℕ) (bytes : List ℕ) → lines_of b bytes 0 ≡ []
 unfolding lines_of
@@ -21,7 +10,7 @@ lines_of_none b bytes = refl
 
 pub lines_of_more : (b : ℕ) (bytes : List ℕ) (n : ℕ) → lines_of b bytes (n + 1) ≡ lines_of b bytes n ++ line_of b bytes n
 unfolding lines_of
-lines_of_more b bytes n = flat_map_next (line_of b bytes) n
+lines_of_more b bytes n = flat_map_next (line_of b bytes) 0 n n (omega arith)
 
 pub blocks_none : (image : List ℕ) → lines_of_blocks image 0 ≡ []
 unfolding lines_of_blocks
@@ -29,7 +18,7 @@ blocks_none image = refl
 
 pub blocks_more : (image : List ℕ) (n : ℕ) → lines_of_blocks image (n + 1) ≡ lines_of_blocks image n ++ lines_of n (block image n) 128
 unfolding lines_of_blocks
-blocks_more image n = flat_map_next (λ b. lines_of b (block image b) 128) n
+blocks_more image n = flat_map_next (λ b. lines_of b (block image b) 128) 0 n n (omega arith)
 
 -- the lines of fewer blocks stand in front
 blocks_front : (image : List ℕ) (n d : ℕ) → (rest : List ℕ) × (lines_of_blocks image (n + d) ≡ lines_of_blocks image n ++ rest)

@@ -1,10 +1,6 @@
 -- The lines of `list`: of a row, and of the first entries.
 use Rattle.std.proofs.Common.{◌≡◌, ◌≤◌, ◌∙◌, ◌+◌, ◌-◌, ℕ, zero, suc, List, [], ◌∷◌, ◌++◌, Some, refl, sym, ap, arith, append_assoc, append-nil, add-suc, add-zero, add-one, length}
-use Rattle.std.specs.List.{flat_map, range_with_len}
 use Rattle.std.specs.Fmt.{decimal}
-use Rattle.std.proofs.lemmas.Grind.{flat_map-append}
-use Rattle.std.proofs.lemmas.List.Folds.{flat_map-map}
-use Rattle.std.proofs.lemmas.List.FromFn.{map-range_with_len_more}
 use Rattle.adf_fields.specs.declared.dates.Stamp.{Stamp}
 use Rattle.adf_tree.specs.Paths.{names_of}
 use Rattle.adf_tree.specs.Tree.{Tree, entry}
@@ -16,6 +12,7 @@ use Rattle.adf_check.specs.Rows.{BodyTold, EntryTold}
 use Rattle.adf_check.specs.declared.row.Row.{Row}
 use Rattle.adf_check.specs.declared.row.RowBody.{RowBody}
 use Rattle.adf_check.specs.declared.row.RowBody.TheVariants.{Dir, File}
+use Rattle.adf_texts.proofs.Ranges.{flat_map_next}
 use Rattle.adf_texts.specs.RowTexts.{row_size, row_word}
 use Rattle.adf_texts.specs.VolumeLines.{body_word, entry_lines, lines_of_entries, lines_of_entry, lines_with, opening_lines, size_text, volume_lines}
 
@@ -43,21 +40,13 @@ row_lines_told date names r e told =
 pub spaced : (word protect size rest : List ℕ) → (word ++ 32 ∷ []) ++ ((protect ++ 32 ∷ []) ++ ((size ++ 32 ∷ []) ++ rest)) ≡ word ++ (32 ∷ (protect ++ (32 ∷ (size ++ (32 ∷ rest)))))
 spaced word protect size rest = simp append_assoc
 
--- one number more
-flat_map_next : (f : ℕ → List ℕ) (n : ℕ) → flat_map f (range_with_len 1 (n + 1)) ≡ flat_map f (range_with_len 1 n) ++ f (n + 1)
-flat_map_next f n =
-    let same : ℕ → ℕ = λ x. x in
-    let more = map-range_with_len_more same 1 n (n + 1) (omega arith) in
-    sym (flat_map-map f same (range_with_len 1 (n + 1))) ∙ ap (flat_map f) more ∙ flat_map-append f _ ((n + 1) ∷ [])
-    ∙ ap (λ l. l ++ flat_map f ((n + 1) ∷ [])) (flat_map-map f same (range_with_len 1 n)) ∙ ap (λ l. flat_map f (range_with_len 1 n) ++ l) (append-nil (f (n + 1)))
-
 pub lines_of_none : (date : Stamp → List ℕ) (es : List Entry) → lines_of_entries date es 0 ≡ []
 unfolding lines_of_entries
 lines_of_none date es = refl
 
 pub lines_of_more : (date : Stamp → List ℕ) (es : List Entry) (k : ℕ) → lines_of_entries date es (k + 1) ≡ lines_of_entries date es k ++ lines_of_entry date es (k + 1)
 unfolding lines_of_entries
-lines_of_more date es k = flat_map_next (lines_of_entry date es) k
+lines_of_more date es k = flat_map_next (lines_of_entry date es) 1 k (k + 1) (omega arith)
 
 -- the lines of entry n, where it is known
 pub lines_of_known : (date : Stamp → List ℕ) (es : List Entry) (n : ℕ) (e : Entry) → entry es n ≡ Some e → lines_of_entry date es n ≡ entry_lines date (names_of es n) e

@@ -1,5 +1,5 @@
 -- The lines of `list`. In each definition `date` gives the text of a date.
-use Rattle.std.specs.Prelude.{ℕ, ◌-◌, ◌==◌, List, [], ◌∷◌, ◌++◌, codes, if◌then◌else◌, length, replicate, Some, None}
+use Rattle.std.specs.Prelude.{ℕ, ◌-◌, ◌==◌, List, [], ◌++◌, codes, if◌then◌else◌, length, replicate, Some, None}
 use Rattle.std.specs.Fmt.{decimal}
 use Rattle.std.specs.List.{flat_map, range_with_len}
 use Rattle.adf_fields.specs.Dates.{IsStampText}

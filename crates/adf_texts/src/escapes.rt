@@ -20,11 +20,11 @@ fn push_escape(text: &mut Vec<u8>, c: u8) -> Result<(), AllocError>
     ensures { OnOk result (text.new.items ≡ text.old.items ++ escape_of c) }
 {
     if is_plain(c) {
-        text.extend_from_slice(&[c])
-    } else {
-        let value = u32::from(c);
-        text.extend_from_slice(&[b'\\', b'x', digit(value / 16), digit(value % 16)])
+        text.push(c)?;
+        return Ok(());
     }
+    let value = u32::from(c);
+    text.extend_from_slice(&[b'\\', b'x', digit(value / 16), digit(value % 16)])
 }
 
 /// Appends the escape form of bytes.
