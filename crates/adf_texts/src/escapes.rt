@@ -1,6 +1,7 @@
 // The escape forms of bytes and paths.
 
 ghost use Rattle.std.specs.Prelude.{◌≡◌, ◌++◌, [], ◌∷◌, OnOk, if◌then◌else◌};
+ghost use Rattle.std.specs.List.{list_all};
 ghost use Rattle.adf_tree.specs.Escapes.{escape_of, escaped, is_plain};
 ghost use Rattle.adf_tree.specs.PathTexts.{path_text};
 
@@ -27,10 +28,20 @@ fn push_escape(text: &mut Vec<u8>, c: u8) -> Result<(), AllocError>
     text.extend_from_slice(&[b'\\', b'x', digit(value / 16), digit(value % 16)])
 }
 
+// Whether all bytes stand for themselves.
+fn are_plain(bytes: &[u8]) -> bool
+    ensures { result ≡ list_all is_plain bytes.now }
+{
+    bytes.iter().all(|c| is_plain(*c))
+}
+
 /// Appends the escape form of bytes.
 pub fn push_escaped(text: &mut Vec<u8>, bytes: &[u8]) -> Result<(), AllocError>
     ensures { OnOk result (text.new.items ≡ text.old.items ++ escaped bytes.now) }
 {
+    if are_plain(bytes) {
+        return text.extend_from_slice(bytes);
+    }
     for c in bytes {
         push_escape(text, *c)?;
     }
