@@ -35,7 +35,14 @@ in_next_year n d is december last short =
     let day = rw (december, last) at is in
     let early : d.year <ℤ pos 9999 = by_lt_z d.year (pos 9999) (λ lt. lt)
     (λ ge. let year : d.year ≡ pos 9999 = omega (arith, signed_arith) in absurd (omega (arith, signed_arith, days_from_civil-max, rw year at day))) in (
-      record { year = d.year +ℤ pos 1; month = 1; day = 1; year_in = (omega (arith, signed_arith), omega (arith, signed_arith)); month_in = search rules; day_in = search rules },
+      record {
+        year = d.year +ℤ pos 1;
+        month = 1;
+        day = 1;
+        year_in = (omega (arith, signed_arith), omega (arith, signed_arith));
+        month_in = search rules;
+        day_in = search rules;
+      },
       omega (arith, signed_arith, day, days_from_civil-next_year d.year (d.year +ℤ pos 1) (omega (arith, signed_arith)) refl),
     )
 

@@ -29,7 +29,8 @@ some_text s = text_where s (is_civil s) refl
 same_date_text : (a b : Date) (n : ℕ) → IsCivilDay n a → IsCivilDay n b → date_text a ≡ date_text b
 same_date_text a b n p q = let same = epoch_day_injective a b (p ∙ sym q) in rw (same.0, same.1, same.2) refl
 
-one_text_where : (s : Stamp) (b : Bool) (t u : List ℕ) → MatchBool b (IsCivilText s t) (t ≡ plain_text s) → MatchBool b (IsCivilText s u) (u ≡ plain_text s) → t ≡ u
+one_text_where : (s : Stamp) (b : Bool) (t u : List ℕ) → MatchBool b (IsCivilText s t) (t ≡ plain_text s)
+    → MatchBool b (IsCivilText s u) (u ≡ plain_text s) → t ≡ u
 one_text_where s true t u (d, day, p) (e, other, q) =
     p ∙ ap (λ date. date ++ (codes " " ++ clock_text s)) (same_date_text d e (s.days + 2922) day other) ∙ sym q
 one_text_where s false t u p q = p ∙ sym q
@@ -45,7 +46,11 @@ pub date_of_is : (s : Stamp) → IsStampText s (date_of s)
 unfolding date_of
 date_of_is s = (some_text s).1
 
+pub only_date_of : (s : Stamp) (t : List ℕ) → IsStampText s t → t ≡ date_of s
+only_date_of s t h = one_text s t (date_of s) h (date_of_is s)
+
 -- a call that appends the text where it succeeds
-pub appends_where : {T E : Type 0} (r : Result T E) (s : Stamp) (old new t : List ℕ) → IsStampText s t → new ≡ (if is_ok r then old ++ t else old) → OnOk r (AppendsStampText s old new)
+pub appends_where : {T E : Type 0} (r : Result T E) (s : Stamp) (old new t : List ℕ) → IsStampText s t → new ≡ (if is_ok r then old ++ t else old)
+    → OnOk r (AppendsStampText s old new)
 appends_where (Ok x) s old new t is e = (t, is, e)
 appends_where (Err x) s old new t is e = tt

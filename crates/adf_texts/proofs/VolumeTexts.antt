@@ -1,5 +1,6 @@
 -- The lines of `list`: of a row, and of the first entries.
-use Rattle.std.proofs.Common.{◌≡◌, ◌≤◌, ◌∙◌, ◌+◌, ◌-◌, ℕ, zero, suc, List, [], ◌∷◌, ◌++◌, Some, refl, sym, ap, arith, append_assoc, append-nil, add-suc, add-zero, add-one, length}
+use Rattle.std.proofs.Common.{◌≡◌, ◌≤◌, ◌∙◌, ◌+◌, ◌-◌, ℕ, zero, suc, List, [], ◌∷◌, ◌++◌, Some, refl, sym, ap, arith, length}
+use Rattle.std.proofs.Common.{append_assoc, append-nil, add-suc, add-zero, add-one}
 use Rattle.std.specs.Fmt.{decimal}
 use Rattle.adf_fields.specs.declared.dates.Stamp.{Stamp}
 use Rattle.adf_tree.specs.Paths.{names_of}
@@ -29,7 +30,8 @@ size_told (File size) ADir h = absurd h
 size_told (File size) (AFile bytes) h = ap decimal h
 
 -- the lines of a row are those of the entry of which it tells
-pub row_lines_told : (date : Stamp → List ℕ) (names : List (List ℕ)) (r : Row) (e : Entry) → EntryTold r e → lines_with date names (row_word r.body) (row_size r.body) r.meta ≡ entry_lines date names e
+pub row_lines_told : (date : Stamp → List ℕ) (names : List (List ℕ)) (r : Row) (e : Entry) → EntryTold r e
+    → lines_with date names (row_word r.body) (row_size r.body) r.meta ≡ entry_lines date names e
 row_lines_told date names r e told =
     let meta : Meta → List ℕ = lines_with date names (row_word r.body) (row_size r.body) in
     ap meta told.meta
@@ -37,19 +39,22 @@ row_lines_told date names r e told =
     ∙ ap (λ size. lines_with date names (body_word e.body) size e.meta) (size_told r.body e.body told.body)
 
 -- a line's parts, each with the space behind it
-pub spaced : (word protect size rest : List ℕ) → (word ++ 32 ∷ []) ++ ((protect ++ 32 ∷ []) ++ ((size ++ 32 ∷ []) ++ rest)) ≡ word ++ (32 ∷ (protect ++ (32 ∷ (size ++ (32 ∷ rest)))))
+pub spaced : (word protect size rest : List ℕ) → (word ++ 32 ∷ []) ++ ((protect ++ 32 ∷ []) ++ ((size ++ 32 ∷ []) ++ rest))
+    ≡ word ++ (32 ∷ (protect ++ (32 ∷ (size ++ (32 ∷ rest)))))
 spaced word protect size rest = simp append_assoc
 
 pub lines_of_none : (date : Stamp → List ℕ) (es : List Entry) → lines_of_entries date es 0 ≡ []
 unfolding lines_of_entries
 lines_of_none date es = refl
 
-pub lines_of_more : (date : Stamp → List ℕ) (es : List Entry) (k : ℕ) → lines_of_entries date es (k + 1) ≡ lines_of_entries date es k ++ lines_of_entry date es (k + 1)
+pub lines_of_more : (date : Stamp → List ℕ) (es : List Entry) (k : ℕ)
+    → lines_of_entries date es (k + 1) ≡ lines_of_entries date es k ++ lines_of_entry date es (k + 1)
 unfolding lines_of_entries
 lines_of_more date es k = flat_map_next (lines_of_entry date es) 1 k (k + 1) (omega arith)
 
 -- the lines of entry n, where it is known
-pub lines_of_known : (date : Stamp → List ℕ) (es : List Entry) (n : ℕ) (e : Entry) → entry es n ≡ Some e → lines_of_entry date es n ≡ entry_lines date (names_of es n) e
+pub lines_of_known : (date : Stamp → List ℕ) (es : List Entry) (n : ℕ) (e : Entry) → entry es n ≡ Some e
+    → lines_of_entry date es n ≡ entry_lines date (names_of es n) e
 lines_of_known date es n e h = rw (h, lines_of_entry) refl
 
 -- the lines of fewer entries stand in front

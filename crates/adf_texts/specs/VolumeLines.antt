@@ -34,7 +34,8 @@ blocks_line kind n = codes "volume " ++ (kind_text kind ++ (codes " blocks " ++ 
 
 -- the dates of the volume
 abbrev pub dates_lines : (Stamp → List ℕ) → Stamps → List ℕ
-dates_lines date s = text_line (codes "root ") (date s.root) ++ (text_line (codes "altered ") (date s.altered) ++ text_line (codes "created ") (date s.created))
+dates_lines date s = text_line (codes "root ") (date s.root)
+    ++ (text_line (codes "altered ") (date s.altered) ++ text_line (codes "created ") (date s.created))
 
 -- the lines before those of the entries
 abbrev pub opening_lines : (Stamp → List ℕ) → Kind → List ℕ → Stamps → ℕ → List ℕ

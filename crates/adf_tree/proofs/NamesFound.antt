@@ -13,7 +13,8 @@ abbrev pub names_past : List Entry → ℕ → Option Entry → List (List ℕ)
 names_past es f o = elim o [ None ↦ [] | Some e ↦ names_in es f e.parent ++ e.name ∷ [] ]
 
 -- without case the names are the path
-raised_past : (es : List Entry) (f : ℕ) (o : Option Entry) → ((n : ℕ) → map uppers (names_in es f n) ≡ path_in es f n) → map uppers (names_past es f o) ≡ path_past es f o
+raised_past : (es : List Entry) (f : ℕ) (o : Option Entry) → ((n : ℕ) → map uppers (names_in es f n) ≡ path_in es f n)
+    → map uppers (names_past es f o) ≡ path_past es f o
 raised_past es f None h = refl
 raised_past es f (Some e) h = map-append uppers (names_in es f e.parent) (e.name ∷ []) ∙ ap (λ path. path ++ uppers e.name ∷ []) (h e.parent)
 
@@ -32,7 +33,8 @@ names_found es n t le =
     find_uppers es 0 names (path_of es n) (sym (ap (map uppers) (sym raised) ∙ map_twice names)) ∙ path_found es n t le
 
 -- the names do not hang on how many are asked for, where those are enough
-fuel_past : (es : List Entry) (f g : ℕ) (o : Option Entry) → ((e : Entry) → o ≡ Some e → names_in es f e.parent ≡ names_in es g e.parent) → names_past es f o ≡ names_past es g o
+fuel_past : (es : List Entry) (f g : ℕ) (o : Option Entry)
+    → ((e : Entry) → o ≡ Some e → names_in es f e.parent ≡ names_in es g e.parent) → names_past es f o ≡ names_past es g o
 fuel_past es f g None h = refl
 fuel_past es f g (Some e) h = ap (λ names. names ++ e.name ∷ []) (h e refl)
 

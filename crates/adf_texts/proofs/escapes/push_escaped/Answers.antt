@@ -1,9 +1,8 @@
 use Rattle.std.proofs.Common.{◌≡◌, ◌∙◌, ◌++◌, ℕ, List, [], ◌∷◌, true, refl, sym, ap}
 use Rattle.std.specs.List.{list_all}
 use Rattle.std.proofs.lemmas.Bool.{and_parts}
-use Rattle.std.proofs.lemmas.Result.{on_ok_weaker}
 use Rattle.adf_tree.specs.Escapes.{escape_of, escaped, is_plain}
-use Rattle.adf_texts.proofs.Appends.{appends_if}
+use Rattle.adf_texts.proofs.Appends.{appended_as, appends_if}
 use Rattle.adf_texts.proofs.escapes.push_escaped.Goals as goal
 
 plain_byte : (c : ℕ) → is_plain c ≡ true → escape_of c ≡ c ∷ []
@@ -21,5 +20,6 @@ returns-then-are_plain c =
     let old = c.args.text.now.items in
     let bytes = c.args.bytes.now in
     let new = c.extend_from_slice.new.self.items in
-    on_ok_weaker c.extend_from_slice.result (λ (h : new ≡ old ++ bytes). h ∙ ap (λ t. old ++ t) (sym (plain_escaped bytes (sym c.are_plain.ensures ∙ c.if-are_plain.true))))
+    let plain : escaped bytes ≡ bytes = plain_escaped bytes (sym c.are_plain.ensures ∙ c.if-are_plain.true) in
+    appended_as c.extend_from_slice.result old new bytes (escaped bytes) (sym plain)
     (appends_if c.extend_from_slice.result old new bytes c.extend_from_slice.ensures.items)

@@ -21,4 +21,5 @@ loop-i-preserved c =
     let part = name_part name (i == 0) in
     let whole : front ++ part ≡ path_text (take (i + 1) path) =
     sym (name_put front name (i == 0)) ∙ path_text_step path i name (with_name front name (i == 0)) (omega arith) c.index-path-i.is refl in
-    c.in_ok-push_name.ensures ∙ ap (λ text. text ++ part) c.loop-i.invariant ∙ append_assoc c.args.text.now.items front part ∙ ap (λ text. c.args.text.now.items ++ text) whole
+    c.in_ok-push_name.ensures ∙ ap (λ text. text ++ part) c.loop-i.invariant
+    ∙ append_assoc c.args.text.now.items front part ∙ ap (λ text. c.args.text.now.items ++ text) whole

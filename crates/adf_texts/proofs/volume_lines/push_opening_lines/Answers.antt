@@ -15,7 +15,8 @@ returns c = λ date dates.
     let root = text_line (codes "root ") (date c.args.stamps.root) in
     let altered = text_line (codes "altered ") (date c.args.stamps.altered) in
     let created = text_line (codes "created ") (date c.args.stamps.created) in
-    behind r c.args.text.now.items first text (blocks_line c.args.kind c.args.blocks) (label ++ (root ++ (altered ++ created))) c.in_ok-push_blocks_line.ensures
+    behind r c.args.text.now.items first text (blocks_line c.args.kind c.args.blocks) (label ++ (root ++ (altered ++ created)))
+    c.in_ok-push_blocks_line.ensures
     (behind r first second text label (root ++ (altered ++ created))
     (c.in_ok-push_escaped_line.ensures ∙ ap (λ l. first ++ escaped_line (codes "label ") l) c.bytes.ensures.bytes)
     (behind r second third text root (altered ++ created) (c.in_ok-push_date_line.ensures date dates)

@@ -1,10 +1,9 @@
-use Rattle.std.proofs.Common.{◌≡◌, ◌++◌, ◌∙◌, [], ◌∷◌, ap, codes}
-use Rattle.std.proofs.lemmas.Result.{on_ok_weaker}
+use Rattle.std.proofs.Common.{◌++◌, [], ◌∷◌, ap, codes}
 use Rattle.adf_tree.specs.PathTexts.{path_text}
 use Rattle.adf_manifest.specs.Texts.{hex_word}
 use Rattle.adf_texts.specs.RowTexts.{row_size, row_word}
 use Rattle.adf_texts.specs.VolumeLines.{escaped_line, right_in_ten}
-use Rattle.adf_texts.proofs.Appends.{behind}
+use Rattle.adf_texts.proofs.Appends.{appended_as, behind}
 use Rattle.adf_texts.proofs.VolumeTexts.{spaced}
 use Rattle.adf_texts.proofs.volume_lines.push_row_lines.Goals as goal
 
@@ -39,6 +38,7 @@ returns c = λ date dates.
     (behind r fourth fifth text (32 ∷ []) named c.in_ok-extend_from_slice.ensures.items
     (behind r fifth sixth text path ended c.in_ok-push_path.ensures
     (behind r sixth seventh text (10 ∷ []) note c.in_ok-extend_from_slice-2.ensures.items
-    (on_ok_weaker r (λ (h : text ≡ seventh ++ escaped_line (codes "note ") c.bytes.result.now). h ∙ ap (λ l. seventh ++ escaped_line (codes "note ") l) c.bytes.ensures.bytes)
+    (appended_as r seventh text (escaped_line (codes "note ") c.bytes.result.now) note (ap (escaped_line (codes "note ")) c.bytes.ensures.bytes)
     c.push_escaped_line.ensures))))))) in
-    on_ok_weaker r (λ (h : text ≡ old ++ ((word ++ 32 ∷ []) ++ ((protect ++ 32 ∷ []) ++ sized))). h ∙ ap (λ l. old ++ l) (spaced word protect size dated)) whole
+    appended_as r old text ((word ++ 32 ∷ []) ++ ((protect ++ 32 ∷ []) ++ sized)) (word ++ (32 ∷ (protect ++ (32 ∷ (size ++ (32 ∷ dated))))))
+    (spaced word protect size dated) whole
