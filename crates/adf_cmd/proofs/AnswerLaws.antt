@@ -2,6 +2,7 @@
 use Rattle.std.proofs.Common.{◌≡◌, ◌≢◌, ◌∙◌, inl, inr, ℕ, Bool, false, List, [], Option, Some, None, IfSome, refl, sym, ap, subst, arith, append-nil}
 use Rattle.std.specs.Prelude.{codes, option_map, string_bytes}
 use Rattle.std.specs.Io.KnownBytes.{Appends}
+use Rattle.adf_fields.specs.declared.dates.Stamp.{Stamp}
 use Rattle.adf_tree.specs.PathTexts.{IsPathText}
 use Rattle.adf_tree.specs.Tree.{Tree, entry, find, with_kind}
 use Rattle.adf_tree.specs.declared.entry.Kind.{Kind}
@@ -15,11 +16,12 @@ use Rattle.adf_check.specs.Volumes.{counts_of}
 use Rattle.adf_check.specs.declared.checked.Counts.{Counts}
 use Rattle.adf_check.specs.declared.fault.Fault.{Fault}
 use Rattle.adf_cmd.specs.Answers.{Answer, Answers, AnswersPart, BuildsOrIsFull, Copies, IsBadPath, IsPart, RefusesImage, contents_at}
-use Rattle.adf_cmd.specs.CommandLine.{Asks, Request, build, cat, check, convert}
+use Rattle.adf_cmd.specs.CommandLine.{Asks, Request, build, cat, check, convert, list}
 use Rattle.adf_manifest.specs.Manifest.{ExplainsFault, IsManifest}
 use Rattle.adf_cmd.specs.Outcomes.{CopyWorks, IsFaultOutcome, IsRefusal, IsRefusedImage, TellsFault, TreeWorks, Works, is_read_fault, line_of, status_of}
 use Rattle.adf_cmd.specs.Streams.{AppendsPart, Says}
 use Rattle.adf_texts.specs.Lines.{fault_line, ok_line}
+use Rattle.adf_texts.specs.VolumeLines.{AreDates, volume_lines}
 use Rattle.adf_manifest.specs.declared.manifest.ManifestFault.{ManifestFault}
 use Rattle.adf_cmd.specs.declared.outcome.Outcome.{Outcome}
 use Rattle.adf_cmd.specs.declared.outcome.Outcome.TheVariants.{Done, Told, Refused, NoSuchPath, NotAFile, ReadFault, WriteFault, NoMemory}
@@ -68,11 +70,23 @@ refused_image_works (Refused line) r image o f h = ([], f (string_bytes line) (h
 refused_image_works NoMemory r image o f h = inl (appends_nil o)
 refused_image_works _ r image o f h = absurd h
 
+pub list_refused : (w : Outcome) (image : List ℕ) (o : Option (List ℕ)) → IsRefusedImage image w → Works w list image o o
+list_refused w image o h = refused_image_works w list image o (λ err refuses. inr refuses) h
+
 pub cat_refused : (w : Outcome) (path image : List ℕ) (o : Option (List ℕ)) → IsRefusedImage image w → Works w (cat path) image o o
 cat_refused w path image o h = refused_image_works w (cat path) image o (λ err refuses. inr (inr refuses)) h
 
 pub convert_refused : (w : Outcome) (kind : Kind) (image : List ℕ) (o : Option (List ℕ)) → IsRefusedImage image w → Works w (convert kind) image o o
 convert_refused w kind image o h = refused_image_works w (convert kind) image o (λ err refuses. inr refuses) h
+
+-- the lines of a volume answer `list`, and so does a front part of them
+pub list_works : (image : List ℕ) (t : Tree) (l : Layout) (date : Stamp → List ℕ) (o o' : Option (List ℕ)) → Fits image t l → AreDates date
+    → Appends o o' (volume_lines date t (blocks image)) → Works Done list image o o'
+list_works image t l date o o' fits dates whole = (_, inl (t, l, fits, date, dates, refl, refl, refl), whole)
+
+pub list_part : (image : List ℕ) (t : Tree) (l : Layout) (date : Stamp → List ℕ) (o o' : Option (List ℕ)) → Fits image t l → AreDates date
+    → AppendsPart o o' (volume_lines date t (blocks image)) → IsPart list image o o'
+list_part image t l date o o' fits dates part = (0, _, [], inl (t, l, fits, date, dates, refl, refl, refl), part)
 
 -- what is said of a refused manifest answers it
 pub fault_works : (w : Outcome) (lines : Bool) (input : List ℕ) (f : ManifestFault) (o : Option (List ℕ)) → ExplainsFault f input → IsFaultOutcome f w

@@ -3,5 +3,7 @@ pub mod Lines
 pub mod Literals
 pub mod PendingText
 pub mod Refused
+pub mod EntryNames
+pub mod EntryLines
 pub mod LongInputs
 pub mod AnswerLaws

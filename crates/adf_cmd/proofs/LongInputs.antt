@@ -59,7 +59,8 @@ long_kind _ line image bytes a b ne h = absurd (omega (arith, h.0))
 long_answers : (r : Request) (image bytes : List ℕ) → limit_of (Some r) < length image → limit_of (Some r) < length bytes → AnswersBoth r image bytes
 long_answers check image bytes a b s out err (inl (t, l, fits, status, output, errors)) = absurd (too_large image a fits.boots.0)
 long_answers check image bytes a b s out err (inr h) = inr (h.0, long_fault image bytes h.0 a b h.1, h.2, h.3, h.4)
-long_answers list image bytes a b s out err h = absurd h
+long_answers list image bytes a b s out err (inl (t, l, fits, date, dates, status, output, errors)) = absurd (too_large image a fits.boots.0)
+long_answers list image bytes a b s out err (inr h) = inr (h.0, long_fault image bytes h.0 a b h.1, h.2, h.3, h.4)
 long_answers (cat path) image bytes a b s out err (inl bad) = inl bad
 long_answers (cat path) image bytes a b s out err (inr (inl (names, text, t, l, fits, copies))) = absurd (too_large image a fits.boots.0)
 long_answers (cat path) image bytes a b s out err (inr (inr h)) = inr (inr (h.0, long_fault image bytes h.0 a b h.1, h.2, h.3, h.4))

@@ -16,6 +16,10 @@ appends_two (Some x) (Some y) (Some z) bs cs all e p q = q ∙ ap (λ l. l ++ cs
 pub pending_none : (a : Option (List ℕ)) (text done : List ℕ) → text ≡ [] → done ≡ [] → Pending a a text done
 pending_none a text done e f = ([], appends_nil a, f ∙ sym e)
 
+-- what waits before anything is written
+pub pending_begun : (a : Option (List ℕ)) (text done : List ℕ) → done ≡ text → Pending a a text done
+pending_begun a text done e = ([], appends_nil a, e)
+
 pub pending_more : (a b : Option (List ℕ)) (text done more text' done' : List ℕ) → text' ≡ text ++ more → done' ≡ done ++ more → Pending a b text done → Pending a b text' done'
 pending_more a b text done more text' done' e f p =
     (p.0, p.1, f ∙ ap (λ l. l ++ more) p.2 ∙ append_assoc p.0 text more ∙ ap (λ l. p.0 ++ l) (sym e))

@@ -1,6 +1,7 @@
 -- What the command answers to its words and its input.
 use Rattle.std.specs.Prelude.{◌≡◌, ◌≢◌, ◌<◌, ◌-◌, ◌*◌, ◌⊎◌, ℕ, Bool, true, false, List, [], codes, Option, None, Some, option_map, if◌then◌else◌}
 use Rattle.std.specs.Io.KnownBytes.{Appends}
+use Rattle.adf_fields.specs.declared.dates.Stamp.{Stamp}
 use Rattle.adf_tree.specs.PathTexts.{IsPathText}
 use Rattle.adf_tree.specs.Tree.{Tree, entry, find, with_kind}
 use Rattle.adf_tree.specs.declared.entry.Kind.{Kind}
@@ -19,6 +20,7 @@ use Rattle.adf_cmd.specs.Listing.{listing}
 use Rattle.adf_manifest.specs.Manifest.{ExplainsFault, IsManifest}
 use Rattle.adf_cmd.specs.Streams.{AppendsPart, Says}
 use Rattle.adf_texts.specs.Lines.{fault_line, full_line, manifest_fault_line, ok_line}
+use Rattle.adf_texts.specs.VolumeLines.{AreDates, volume_lines}
 use Rattle.adf_manifest.specs.declared.manifest.ManifestFault.{ManifestFault}
 use Rattle.adf_manifest.specs.declared.manifest.ManifestKind.TheVariants.{NoMemory as ManifestNoMemory}
 
@@ -61,6 +63,11 @@ RefusesManifest input status output errors = (f : ManifestFault) × ExplainsFaul
 abbrev pub RefusesImage : List ℕ → ℕ → List ℕ → List ℕ → Type 0
 RefusesImage input status output errors = (f : Fault) × FirstFault input f.block f.cause × (status ≡ 1) × (output ≡ []) × (errors ≡ fault_line f)
 
+-- `list` writes the lines of a tree and a layout that fit the image, in which each date has its text
+abbrev pub Lists : List ℕ → ℕ → List ℕ → List ℕ → Type 0
+Lists input status output errors = (t : Tree) × (l : Layout) × Fits input t l × (date : Stamp → List ℕ) × AreDates date × (status ≡ 0)
+    × (output ≡ volume_lines date t (blocks input)) × (errors ≡ [])
+
 -- the text is that of no list of names
 abbrev pub IsBadPath : List ℕ → Type 0
 IsBadPath path = (names : List (List ℕ)) → ¬ IsPathText path names
@@ -89,11 +96,11 @@ abbrev pub Converts : Kind → List ℕ → ℕ → List ℕ → List ℕ → Ty
 Converts kind input status output errors =
     (t : Tree) × (l : Layout) × Fits input t l × BuildsOrIsFull false (with_kind t kind) (blocks input) status output errors
 
--- the answer to a request: its status, and what is written to output and errors; `list` is not built yet and has none
+-- the answer to a request: its status, and what is written to output and errors
 abbrev pub Answer : Request → List ℕ → ℕ → List ℕ → List ℕ → Type 0
 Answer check input status output errors = Accepts input status output errors ⊎ Refuses input status output errors
 Answer (build lines) input status output errors = BuildsManifest lines input status output errors ⊎ RefusesManifest input status output errors
-Answer list input status output errors = ⊥
+Answer list input status output errors = Lists input status output errors ⊎ RefusesImage input status output errors
 Answer (cat path) input status output errors =
     RefusesPath path status output errors ⊎ (CopiesFrom path input status output errors ⊎ RefusesImage input status output errors)
 Answer (convert kind) input status output errors = Converts kind input status output errors ⊎ RefusesImage input status output errors
@@ -126,14 +133,10 @@ failure_line true _ = codes "read fault\n"
 failure_line false true = codes "write fault\n"
 failure_line false false = codes "no memory\n"
 
--- the words are refused, or ask for `list`, which is not built yet
-abbrev pub IsUntaken : List (List ℕ) → Type 0
-IsUntaken words = IsRefused words ⊎ Asks words list
-
 -- the words ask for the bytes under a path that is not read
 abbrev pub AsksBadPath : List (List ℕ) → Type 0
 AsksBadPath words = (path : List ℕ) × Asks words (cat path) × IsBadPath path
 
--- the words are untaken, or their path is not read
+-- the words are refused, or their path is not read
 abbrev pub IsUnanswered : List (List ℕ) → Type 0
-IsUnanswered words = IsUntaken words ⊎ AsksBadPath words
+IsUnanswered words = IsRefused words ⊎ AsksBadPath words

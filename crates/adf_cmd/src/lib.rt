@@ -13,6 +13,7 @@ mod outcome;
 mod round_trip;
 mod runner;
 mod streams;
+mod volume_listing;
 
 pub use crate::command_line::{Order, WordsFault, parse, words_as_documented};
 pub use crate::devices::{Device, Failed, Sink, Source};

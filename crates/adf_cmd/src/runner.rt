@@ -1,7 +1,7 @@
 // The whole command.
 
 ghost use Rattle.std.specs.Prelude.{◌≡◌, ◌≤◌, ◌+◌, true, false, codes, map, Some, IfSome};
-ghost use Rattle.adf_cmd.specs.Answers.{Answers, AnswersPart, AsksBadPath, IsUnanswered, IsUntaken, failure_line, limit_of};
+ghost use Rattle.adf_cmd.specs.Answers.{Answers, AnswersPart, AsksBadPath, IsUnanswered, failure_line, limit_of};
 ghost use Rattle.adf_cmd.specs.CommandLine.{Asks, IsRefused, asked, request_of};
 ghost use Rattle.adf_cmd.specs.Outcomes.{line_of, status_of};
 ghost use Rattle.adf_cmd.specs.Streams.{Says, TakesAtMost};
@@ -14,6 +14,7 @@ use crate::copying::cat_input;
 use crate::devices::{Sink, Source};
 use crate::outcome::Outcome;
 use crate::streams::say;
+use crate::volume_listing::list_input;
 use adf_tree::{PathFault, read_path};
 use std::alloc::Global;
 
@@ -60,7 +61,7 @@ pub fn run<R: Source, W: Sink, E: Sink>(
     ensures status { result ≤ 3 }
 
     // Where the words are taken, at a status other than 3 the answer is the defined one.
-    ensures answer { ¬ IsUntaken (map (λ w. w.now) words.now) → ¬ (result ≡ 3) → IfSome (R.left input.old) (λ bytes.
+    ensures answer { ¬ IsRefused (map (λ w. w.now) words.now) → ¬ (result ≡ 3) → IfSome (R.left input.old) (λ bytes.
         Answers (map (λ w. w.now) words.now) bytes result (W.held output.old) (W.held output.new) (E.has_failed errors.new) (E.held errors.old) (E.held errors.new)) }
     ensures words { ¬ (result ≡ 2) → ¬ (result ≡ 3) → ¬ IsUnanswered (map (λ w. w.now) words.now) }
 
@@ -80,6 +81,7 @@ pub fn run<R: Source, W: Sink, E: Sink>(
 {
     match parse(alloc, words) {
         Ok(Order::Check) => finish(&check_input(alloc, input, output), errors),
+        Ok(Order::List) => finish(&list_input(alloc, input, output), errors),
         Ok(Order::Cat(path)) => match read_path(alloc, path.as_bytes()) {
             Ok(names) => finish(&cat_input(alloc, &names, input, output), errors),
             Err(PathFault::BadText) => refuse(errors, BAD_PATH),
@@ -87,7 +89,7 @@ pub fn run<R: Source, W: Sink, E: Sink>(
         },
         Ok(Order::Build { list }) => finish(&build_input(alloc, list, input, output), errors),
         Ok(Order::Convert(kind)) => finish(&convert_input(alloc, kind, input, output), errors),
-        Ok(Order::List) | Err(WordsFault::Usage) => refuse(errors, USAGE),
+        Err(WordsFault::Usage) => refuse(errors, USAGE),
         Err(WordsFault::NoMemory) => finish(&Outcome::NoMemory, errors),
     }
 }

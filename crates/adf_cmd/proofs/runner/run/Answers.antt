@@ -1,7 +1,7 @@
 use Rattle.std.proofs.Common.{Bor, List, map, rules, subst, sym, ℕ}
 use Rattle.adf_tree.specs.PathTexts.{IsPathText}
 use Rattle.adf_cmd.specs.Answers.{IsBadPath}
-use Rattle.adf_cmd.specs.CommandLine.{Asks, build, cat, check, convert}
+use Rattle.adf_cmd.specs.CommandLine.{Asks, build, cat, check, convert, list}
 use Rattle.adf_cmd.proofs.AnswerLaws.{bad_path_answers, left_answers, left_part}
 use Rattle.adf_cmd.proofs.runner.run.Goals as goal
 
@@ -17,6 +17,19 @@ returns-in-Ok-Check-clause-answer g c = λ taken not_three.
     let failed = g.E.Sink.has_failed c.finish.new.errors in
     let told = c.finish.ensures in
     left_answers c.check_input.result words check left o o' e e' failed c.finish.result asks told.status not_three c.check_input.ensures.works told.said
+
+pub returns-in-Ok-List-clause-answer : goal.returns-in-Ok-List-clause-answer
+returns-in-Ok-List-clause-answer g c = λ taken not_three.
+    let words : List (List ℕ) = map (λ (w : Bor (List ℕ)). w.now) c.args.words.now in
+    let asks : Asks words list = search rules in
+    let left = g.R.Source.left c.args.input.now in
+    let o = g.W.Sink.held c.args.output.now in
+    let o' = g.W.Sink.held c.list_input.new.output in
+    let e = g.E.Sink.held c.args.errors.now in
+    let e' = g.E.Sink.held c.finish-in-Ok-List.new.errors in
+    let failed = g.E.Sink.has_failed c.finish-in-Ok-List.new.errors in
+    let told = c.finish-in-Ok-List.ensures in
+    left_answers c.list_input.result words list left o o' e e' failed c.finish-in-Ok-List.result asks told.status not_three c.list_input.ensures.works told.said
 
 pub returns-in-Ok-clause-answer : goal.returns-in-Ok-clause-answer
 returns-in-Ok-clause-answer g c = λ taken not_three.

@@ -1,0 +1,49 @@
+-- The names of an entry from the root on, gathered from the rows of the entry and its parents.
+use Rattle.std.proofs.Common.{◌≡◌, ◌-◌, ◌<◌, ◌≤◌, ◌++◌, ◌∙◌, ℕ, zero, suc, List, [], ◌∷◌, Option, Some, None, refl, sym, ap, arith, append_assoc, get_or}
+use Rattle.std.specs.Prelude.{reverse}
+use Rattle.std.proofs.lemmas.List.{reverse-append}
+use Rattle.adf_tree.specs.declared.entry.Entry.{Entry}
+use Rattle.adf_tree.specs.Paths.{names_of}
+use Rattle.adf_tree.specs.Tree.{IsTree, entry}
+use Rattle.adf_tree.proofs.NamesFound.{names_next, names_past}
+use Rattle.adf_tree.proofs.Told.{entry_says}
+use Rattle.adf_check.specs.Rows.{EntryTold, IsTold}
+use Rattle.adf_check.specs.declared.row.Row.{Row}
+
+-- the entry of which a row tells
+pub told_entry : (r : Row) (o : Option Entry) → IsTold (Some r) o → (e : Entry) × (o ≡ Some e) × EntryTold r e
+told_entry r None h = absurd h
+told_entry r (Some e) h = (e, refl, h)
+
+told_none : (o : Option Entry) → IsTold None o → o ≡ None
+told_none None h = refl
+told_none (Some e) h = absurd h
+
+-- the parent of an entry has a smaller number
+pub parent_smaller : (es : List Entry) (n : ℕ) (r : Row) → IsTree es → IsTold (Some r) (entry es n) → r.parent < n
+parent_smaller es n r t h =
+    let told = told_entry r (entry es n) h in
+    let e = told.0 in
+    let says = entry_says es n e told.1 in
+    let small : (get_or es (n - 1) e).parent ≤ n - 1 = t.parents (n - 1) e (omega (arith, says.0, says.1)) in
+    let same : (get_or es (n - 1) e).parent ≡ r.parent = ap (λ x. x.parent) (says.2 e) ∙ sym told.2.parent in
+    omega (arith, small, same, says.0)
+
+-- the names of the parent, behind which the name of the entry is gathered
+pub gathered_more : (es : List Entry) (names path : List (List ℕ)) (n : ℕ) (r : Row) → IsTree es → IsTold (Some r) (entry es n)
+    → names ≡ names_of es n ++ reverse path → names ≡ names_of es r.parent ++ reverse (path ++ r.name ∷ [])
+gathered_more es names path n r t h e =
+    let told = told_entry r (entry es n) h in
+    let x = told.0 in
+    let parents = names_of es r.parent in
+    let own : names_of es n ≡ parents ++ r.name ∷ [] =
+    names_next es n x t told.1 ∙ ap (λ p. names_of es p ++ x.name ∷ []) (sym told.2.parent) ∙ ap (λ name. parents ++ name ∷ []) (sym told.2.name) in
+    e ∙ ap (λ l. l ++ reverse path) own ∙ append_assoc parents (r.name ∷ []) (reverse path) ∙ ap (λ l. parents ++ l) (sym (reverse-append path (r.name ∷ [])))
+
+-- what is no entry has no names
+names_none : (es : List Entry) (n : ℕ) → entry es n ≡ None → names_of es n ≡ []
+names_none es zero h = refl
+names_none es (suc m) h = ap (names_past es m) h
+
+pub gathered_all : (es : List Entry) (names path : List (List ℕ)) (n : ℕ) → IsTold None (entry es n) → names ≡ names_of es n ++ reverse path → reverse path ≡ names
+gathered_all es names path n h e = sym (e ∙ ap (λ l. l ++ reverse path) (names_none es n (told_none (entry es n) h)))

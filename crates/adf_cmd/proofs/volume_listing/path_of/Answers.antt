@@ -1,0 +1,24 @@
+use Rattle.std.proofs.Common.{◌++◌, ◌∙◌, ap, sym}
+use Rattle.std.specs.Prelude.{reverse}
+use Rattle.adf_tree.specs.Paths.{names_of}
+use Rattle.adf_cmd.proofs.EntryNames.{gathered_all, gathered_more, parent_smaller}
+use Rattle.adf_cmd.proofs.volume_listing.path_of.Goals as goal
+
+pub loop-row-smaller : goal.loop-row-smaller
+loop-row-smaller c =
+    let t = c.requires.0 in
+    let stands = c.requires.2 in
+    parent_smaller t.entries c.loop-row.node c.in-Some.row stands.fits.tree (c.in-Some.ensures t c.requires.1 stands)
+
+pub loop-row-preserved : goal.loop-row-preserved
+loop-row-preserved c = λ t l stands.
+    let row = c.in-Some.row in
+    let es = t.entries in
+    let path = c.loop-row.path.items in
+    gathered_more es (names_of es c.args.n) path c.loop-row.node row stands.fits.tree (c.in-Some.ensures t l stands) (c.loop-row.invariant t l stands)
+    ∙ ap (λ p. names_of es row.parent ++ reverse p) (sym c.in_ok-push.ensures.items)
+
+pub returns : goal.returns
+returns c = λ t l stands.
+    let es = t.entries in
+    c.reverse.ensures.items ∙ gathered_all es (names_of es c.args.n) c.loop-row.path.items c.loop-row.node (c.in_default.ensures t l stands) (c.loop-row.invariant t l stands)

@@ -1,0 +1,73 @@
+use Rattle.std.proofs.Common.{◌≡◌, ◌++◌, ◌+◌, ◌≤◌, ◌<◌, ◌∙◌, ℕ, List, [], ap, arith, append-nil, length, refl, rules, subst, sym}
+use Rattle.std.specs.Io.KnownBytes.{Appends}
+use Rattle.adf_texts.specs.VolumeLines.{lines_of_entries, lines_of_entry}
+use Rattle.adf_cmd.specs.Streams.{AppendsPart}
+use Rattle.adf_cmd.proofs.EntryLines.{entries_front, entries_more, entries_none}
+use Rattle.adf_cmd.proofs.PendingText.{on_err, pending_begun, pending_end, pending_fails, pending_more}
+use Rattle.adf_cmd.proofs.volume_listing.write_entries.Goals as goal
+
+pub loop-i-init : goal.loop-i-init
+loop-i-init g c = record {
+  works = c.requires.works;
+  so_far = λ date t l dates stands.
+      let text = c.args.text.items in
+      pending_begun (g.W.Sink.held c.args.output.now) text (text ++ lines_of_entries date t.entries 0) (entries_none date t.entries text);
+}
+
+pub loop-i-preserved : goal.loop-i-preserved
+loop-i-preserved g c = record {
+  works = search rules;
+  so_far = λ date t l dates stands.
+      let o = g.W.Sink.held c.args.output.now in
+      let es = t.entries in
+      let i = c.loop-i.i in
+      let first = c.args.text.items in
+      let text = c.loop-i.text.items in
+      let lines = lines_of_entry date es (i + 1) in
+      let done = first ++ lines_of_entries date es (i + 1) in
+      let so_far = c.loop-i.invariant.so_far date t l dates stands in
+      let more = pending_more o (g.W.Sink.held c.loop-i.output) text (first ++ lines_of_entries date es i) lines (text ++ lines) done refl (entries_more date es first i) so_far in
+      c.in_ok-list_entry.ensures.ok date t l dates stands o done more;
+}
+
+pub returns-in_err-list_entry-clause-err : goal.returns-in_err-list_entry-clause-err
+returns-in_err-list_entry-clause-err g c = λ date t l dates stands.
+    let o = g.W.Sink.held c.args.output.now in
+    let o' = g.W.Sink.held c.list_entry.new.output in
+    let es = t.entries in
+    let i = c.loop-i.i in
+    let first = c.args.text.items in
+    let text = c.loop-i.text.items in
+    let lines = lines_of_entry date es (i + 1) in
+    let done = first ++ lines_of_entries date es (i + 1) in
+    let so_far = c.loop-i.invariant.so_far date t l dates stands in
+    let more = pending_more o (g.W.Sink.held c.loop-i.output) text (first ++ lines_of_entries date es i) lines (text ++ lines) done refl (entries_more date es first i) so_far in
+    let count = c.len-i-end.ensures.count t l stands in
+    let front = entries_front date t first (i + 1) (omega (arith, count)) in
+    on_err c.from_residual.result
+    (pending_fails o (g.W.Sink.held c.loop-i.output) o' (text ++ lines) done front.0 _ front.1 more (c.in_err-list_entry.ensures.err date t l dates stands))
+
+pub returns-in-Ok-clause-ok : goal.returns-in-Ok-clause-ok
+returns-in-Ok-clause-ok g c = λ date t l dates stands.
+    let o = g.W.Sink.held c.args.output.now in
+    let b = g.W.Sink.held c.loop-i.output in
+    let o' = g.W.Sink.held c.write_all.new.output in
+    let first = c.args.text.items in
+    let count = c.len-i-end.ensures.count t l stands in
+    let last : c.loop-i.i ≡ length t.entries = omega (arith, count) in
+    let wrote : List ℕ → Type 0 = λ text. Appends b o' text in
+    let all : ℕ → Type 0 = λ k. Appends o o' (first ++ lines_of_entries date t.entries k) in
+    let so_far = c.loop-i.invariant.so_far date t l dates stands in
+    subst all last (pending_end o b o' c.loop-i.text.items (first ++ lines_of_entries date t.entries c.loop-i.i) so_far (subst wrote c.deref.ensures.value c.in-Ok.ensures.ok))
+
+pub returns-clause-err : goal.returns-clause-err
+returns-clause-err g c = λ date t l dates stands.
+    let o = g.W.Sink.held c.args.output.now in
+    let b = g.W.Sink.held c.loop-i.output in
+    let o' = g.W.Sink.held c.write_all.new.output in
+    let first = c.args.text.items in
+    let count = c.len-i-end.ensures.count t l stands in
+    let front = entries_front date t first c.loop-i.i (omega (arith, count)) in
+    let wrote : List ℕ → Type 0 = λ text. AppendsPart b o' text in
+    let so_far = c.loop-i.invariant.so_far date t l dates stands in
+    pending_fails o b o' c.loop-i.text.items (first ++ lines_of_entries date t.entries c.loop-i.i) front.0 _ front.1 so_far (subst wrote c.deref.ensures.value c.in-Err.ensures.err)

@@ -1,0 +1,185 @@
+// The command `list`.
+
+ghost use Rattle.std.specs.Prelude.{◌≡◌, ◌++◌, ◌+◌, ℕ, List, false, IfOk, IfSome, OnOk, OnErr, length};
+ghost use Rattle.std.specs.Io.KnownBytes.{Appends};
+ghost use Rattle.adf_fields.specs.declared.dates.Stamp.{Stamp};
+ghost use Rattle.adf_tree.specs.Paths.{names_of};
+ghost use Rattle.adf_tree.specs.Tree.{Tree};
+ghost use Rattle.adf_blocks.specs.Sizes.{blocks};
+ghost use Rattle.adf_volume.specs.Layout.{Layout};
+ghost use Rattle.adf_check.specs.Volumes.{StandsFor};
+ghost use Rattle.adf_texts.specs.VolumeLines.{AreDates, lines_of_entries, lines_of_entry, opening_lines, volume_lines};
+ghost use Rattle.adf_cmd.specs.CommandLine.{list};
+ghost use Rattle.adf_cmd.specs.Outcomes.{Works, is_read_fault, is_write_fault};
+ghost use Rattle.adf_cmd.specs.Streams.{AppendsPart, KeepsPending, TakesAtMost, is_device};
+
+use crate::devices::{Sink, Source};
+use crate::images::{MOST_IMAGE_BYTES, volume_of};
+use crate::outcome::Outcome;
+use crate::streams::{StreamFault, flush_long, read_all, write_all};
+use adf_check::Checked;
+use adf_texts::{push_entry_lines, push_opening_lines};
+use adf_tree::{Name, Node};
+use std::alloc::{AllocError, Global};
+
+// The names of a node from the root on.
+fn path_of(alloc: Global, volume: &Checked<'_>, n: Node) -> Result<Vec<Name>, AllocError>
+    requires { (t : Tree) × (l : Layout) × StandsFor volume.now t l }
+    ensures { (t : Tree) (l : Layout) → StandsFor volume.now t l → IfOk result (λ path. path.items ≡ names_of t.entries n) }
+{
+    let mut path = Vec::new(alloc);
+    let mut node = n;
+    while let Some(row) = volume.row(node) {
+        path.push(row.name)?;
+        node = row.parent;
+    }
+    path.reverse();
+    Ok(path)
+}
+
+// Appends the lines before those of the entries.
+fn push_opening(volume: &Checked<'_>, text: &mut Vec<u8>) -> Result<(), AllocError>
+    ensures { (date : Stamp → List ℕ) (t : Tree) (l : Layout) → AreDates date → StandsFor volume.now t l
+        → OnOk result (text.new.items ≡ text.old.items ++ opening_lines date t.kind t.label t.stamps (blocks volume.now.image)) }
+{
+    let counts = volume.counts();
+    push_opening_lines(
+        text,
+        counts.kind,
+        volume.label(),
+        volume.stamps(),
+        counts.blocks,
+    )
+}
+
+// Appends the lines of an entry.
+fn push_entry(
+    alloc: Global,
+    volume: &Checked<'_>,
+    n: Node,
+    text: &mut Vec<u8>,
+) -> Result<(), AllocError>
+    requires { (t : Tree) × (l : Layout) × StandsFor volume.now t l }
+    ensures { (date : Stamp → List ℕ) (t : Tree) (l : Layout) → AreDates date → StandsFor volume.now t l
+        → OnOk result (text.new.items ≡ text.old.items ++ lines_of_entry date t.entries n) }
+{
+    let Some(row) = volume.row(n) else {
+        return Ok(());
+    };
+    let path = path_of(alloc, volume, n)?;
+    push_entry_lines(text, &row, &path)
+}
+
+// Appends the lines of an entry, and writes what is long.
+fn list_entry<W: Sink>(
+    alloc: Global,
+    volume: &Checked<'_>,
+    n: Node,
+    text: &mut Vec<u8>,
+    output: &mut W,
+) -> Result<(), StreamFault>
+    requires works { W.has_failed output.old ≡ false }
+    requires stands { (t : Tree) × (l : Layout) × StandsFor volume.now t l }
+    ensures ok { (date : Stamp → List ℕ) (t : Tree) (l : Layout) → AreDates date → StandsFor volume.now t l
+        → OnOk result (KeepsPending (W.held output.old) (text.old.items ++ lines_of_entry date t.entries n) (W.held output.new) text.new.items) }
+    ensures err { (date : Stamp → List ℕ) (t : Tree) (l : Layout) → AreDates date → StandsFor volume.now t l
+        → OnErr result (AppendsPart (W.held output.old) (W.held output.new) (text.old.items ++ lines_of_entry date t.entries n)) }
+    ensures failed { W.has_failed output.new ≡ is_device result }
+{
+    match push_entry(alloc, volume, n, text) {
+        Ok(()) => match flush_long(output, text) {
+            Ok(()) => Ok(()),
+            Err(_) => Err(StreamFault::Device),
+        },
+        Err(_) => Err(StreamFault::NoMemory),
+    }
+}
+
+// Writes the text that waits, and the lines of the entries behind it.
+fn write_entries<W: Sink>(
+    alloc: Global,
+    volume: &Checked<'_>,
+    mut text: Vec<u8>,
+    output: &mut W,
+) -> Result<(), StreamFault>
+    requires works { W.has_failed output.old ≡ false }
+    requires stands { (t : Tree) × (l : Layout) × StandsFor volume.now t l }
+    ensures ok { (date : Stamp → List ℕ) (t : Tree) (l : Layout) → AreDates date → StandsFor volume.now t l
+        → OnOk result (Appends (W.held output.old) (W.held output.new) (text.items ++ lines_of_entries date t.entries (length t.entries))) }
+    ensures err { (date : Stamp → List ℕ) (t : Tree) (l : Layout) → AreDates date → StandsFor volume.now t l
+        → OnErr result (AppendsPart (W.held output.old) (W.held output.new) (text.items ++ lines_of_entries date t.entries (length t.entries))) }
+    ensures failed { W.has_failed output.new ≡ is_device result }
+{
+    for i in 0..volume.len() {
+        list_entry(alloc, volume, Node(i + 1), &mut text, output)?;
+    }
+    match write_all(output, &text) {
+        Ok(()) => Ok(()),
+        Err(_) => Err(StreamFault::Device),
+    }
+}
+
+// Writes the lines of a volume.
+fn write_volume<W: Sink>(
+    alloc: Global,
+    volume: &Checked<'_>,
+    output: &mut W,
+) -> Result<(), StreamFault>
+    requires works { W.has_failed output.old ≡ false }
+    requires stands { (t : Tree) × (l : Layout) × StandsFor volume.now t l }
+    ensures ok { (date : Stamp → List ℕ) (t : Tree) (l : Layout) → AreDates date → StandsFor volume.now t l
+        → OnOk result (Appends (W.held output.old) (W.held output.new) (volume_lines date t (blocks volume.now.image))) }
+    ensures err { (date : Stamp → List ℕ) (t : Tree) (l : Layout) → AreDates date → StandsFor volume.now t l
+        → OnErr result (AppendsPart (W.held output.old) (W.held output.new) (volume_lines date t (blocks volume.now.image))) }
+    ensures failed { W.has_failed output.new ≡ is_device result }
+{
+    let mut text = Vec::new(alloc);
+    match push_opening(volume, &mut text) {
+        Ok(()) => write_entries(alloc, volume, text, output),
+        Err(_) => Err(StreamFault::NoMemory),
+    }
+}
+
+// Writes the lines of a volume, and tells how that went.
+fn list_volume<W: Sink>(alloc: Global, volume: &Checked<'_>, output: &mut W) -> Outcome
+    requires works { W.has_failed output.old ≡ false }
+    requires stands { (t : Tree) × (l : Layout) × StandsFor volume.now t l }
+    ensures works { Works result list volume.now.image (W.held output.old) (W.held output.new) }
+    ensures read { is_read_fault result ≡ false }
+    ensures written { W.has_failed output.new ≡ is_write_fault result }
+{
+    match write_volume(alloc, volume, output) {
+        Ok(()) => Outcome::Done,
+        Err(StreamFault::Device) => Outcome::WriteFault,
+        Err(StreamFault::NoMemory) => Outcome::NoMemory,
+    }
+}
+
+// Checks an image, and writes the lines of its volume.
+fn list_image<W: Sink>(alloc: Global, image: &[u8], output: &mut W) -> Outcome
+    requires { W.has_failed output.old ≡ false }
+    ensures works { Works result list image.now (W.held output.old) (W.held output.new) }
+    ensures read { is_read_fault result ≡ false }
+    ensures written { W.has_failed output.new ≡ is_write_fault result }
+{
+    match volume_of(alloc, image) {
+        Ok(volume) => list_volume(alloc, &volume, output),
+        Err(outcome) => outcome,
+    }
+}
+
+/// Reads an image, checks it and writes the lines of its volume.
+pub fn list_input<R: Source, W: Sink>(alloc: Global, input: &mut R, output: &mut W) -> Outcome
+    requires reads { R.has_failed input.old ≡ false }
+    requires writes { W.has_failed output.old ≡ false }
+    ensures works { IfSome (R.left input.old) (λ bytes. Works result list bytes (W.held output.old) (W.held output.new)) }
+    ensures read { R.has_failed input.new ≡ is_read_fault result }
+    ensures written { W.has_failed output.new ≡ is_write_fault result }
+    ensures at_most { TakesAtMost (MOST_IMAGE_BYTES + 1) (R.left input.old) (R.left input.new) }
+{
+    match read_all(alloc, input, MOST_IMAGE_BYTES) {
+        Ok(image) => list_image(alloc, &image, output),
+        Err(StreamFault::Device) => Outcome::ReadFault,
+        Err(StreamFault::NoMemory) => Outcome::NoMemory,
+    }
+}
