@@ -6,7 +6,5 @@ mod lines;
 mod manifest;
 mod parts;
 mod reader;
-#[cfg(test)]
-mod tests;
 
 pub use crate::manifest::{MOST_BYTES, ManifestFault, ManifestKind, one_verdict, read_manifest};

@@ -1,28 +1,22 @@
 // Devices in memory.
 
-ghost use Rattle.std.specs.Prelude.{None};
+ghost use Rattle.std.specs.Prelude.{◌≡◌, None, false};
 
 use adf_cmd::{Failed, Sink, Source};
+use std::alloc::Global;
 
-/// Gives bytes, as many at each call as there is room for, and fails once so many calls were made.
+/// Gives bytes, as many at each call as there is room for.
 #[derive(Drop)]
 pub struct Given<'a> {
     pub bytes: &'a [u8],
-    pub calls_left: u32,
-    pub failed: bool,
 }
 
 impl Source for Given<'_> {
     ghost left = { λ _. None };
 
-    ghost has_failed = { λ s. s.failed };
+    ghost has_failed = { λ _. false };
 
     fn read(&mut self, buf: &mut [u8]) -> Result<usize, Failed> {
-        if self.calls_left == 0 {
-            self.failed = true;
-            return Err(Failed);
-        }
-        self.calls_left -= 1;
         let count = buf.len().min(self.bytes.len());
         buf[..count].copy_from_slice(&self.bytes[..count]);
         self.bytes = &self.bytes[count..];
@@ -30,15 +24,26 @@ impl Source for Given<'_> {
     }
 
     fn failed(&self) -> bool {
-        self.failed
+        false
     }
 }
 
-/// Keeps all bytes.
+/// Keeps all bytes; it fails where memory is refused.
 #[derive(Drop)]
 pub struct Kept {
     pub bytes: Vec<u8>,
-    pub failed: bool,
+    failed: bool,
+}
+
+impl Kept {
+    pub fn new(alloc: Global) -> Kept
+        ensures { result.failed ≡ false }
+    {
+        Kept {
+            bytes: Vec::new(alloc),
+            failed: false,
+        }
+    }
 }
 
 impl Sink for Kept {
