@@ -12,7 +12,8 @@ entries_none date es text = ap (λ l. text ++ l) (lines_of_none date es) ∙ app
 
 pub entries_more : (date : Stamp → List ℕ) (es : List Entry) (text : List ℕ) (i : ℕ)
     → text ++ lines_of_entries date es (i + 1) ≡ (text ++ lines_of_entries date es i) ++ lines_of_entry date es (i + 1)
-entries_more date es text i = ap (λ l. text ++ l) (lines_of_more date es i) ∙ sym (append_assoc text (lines_of_entries date es i) (lines_of_entry date es (i + 1)))
+entries_more date es text i =
+    ap (λ l. text ++ l) (lines_of_more date es i) ∙ sym (append_assoc text (lines_of_entries date es i) (lines_of_entry date es (i + 1)))
 
 -- the lines of fewer entries stand in front
 pub entries_front : (date : Stamp → List ℕ) (t : Tree) (text : List ℕ) (k : ℕ) → k ≤ length t.entries

@@ -38,12 +38,14 @@ gathered_more es names path n r t h e =
     let parents = names_of es r.parent in
     let own : names_of es n ≡ parents ++ r.name ∷ [] =
     names_next es n x t told.1 ∙ ap (λ p. names_of es p ++ x.name ∷ []) (sym told.2.parent) ∙ ap (λ name. parents ++ name ∷ []) (sym told.2.name) in
-    e ∙ ap (λ l. l ++ reverse path) own ∙ append_assoc parents (r.name ∷ []) (reverse path) ∙ ap (λ l. parents ++ l) (sym (reverse-append path (r.name ∷ [])))
+    e ∙ ap (λ l. l ++ reverse path) own ∙ append_assoc parents (r.name ∷ []) (reverse path)
+    ∙ ap (λ l. parents ++ l) (sym (reverse-append path (r.name ∷ [])))
 
 -- what is no entry has no names
 names_none : (es : List Entry) (n : ℕ) → entry es n ≡ None → names_of es n ≡ []
 names_none es zero h = refl
 names_none es (suc m) h = ap (names_past es m) h
 
-pub gathered_all : (es : List Entry) (names path : List (List ℕ)) (n : ℕ) → IsTold None (entry es n) → names ≡ names_of es n ++ reverse path → reverse path ≡ names
+pub gathered_all : (es : List Entry) (names path : List (List ℕ)) (n : ℕ) → IsTold None (entry es n) → names ≡ names_of es n ++ reverse path
+    → reverse path ≡ names
 gathered_all es names path n h e = sym (e ∙ ap (λ l. l ++ reverse path) (names_none es n (told_none (entry es n) h)))

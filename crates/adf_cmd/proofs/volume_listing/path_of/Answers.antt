@@ -21,4 +21,6 @@ loop-row-preserved c = λ t l stands.
 pub returns : goal.returns
 returns c = λ t l stands.
     let es = t.entries in
-    c.reverse.ensures.items ∙ gathered_all es (names_of es c.args.n) c.loop-row.path.items c.loop-row.node (c.in_default.ensures t l stands) (c.loop-row.invariant t l stands)
+    let gathered = c.loop-row.path.items in
+    let names = c.loop-row.invariant t l stands in
+    c.reverse.ensures.items ∙ gathered_all es (names_of es c.args.n) gathered c.loop-row.node (c.in_default.ensures t l stands) names

@@ -26,7 +26,8 @@ loop-i-preserved g c = record {
       let lines = lines_of_entry date es (i + 1) in
       let done = first ++ lines_of_entries date es (i + 1) in
       let so_far = c.loop-i.invariant.so_far date t l dates stands in
-      let more = pending_more o (g.W.Sink.held c.loop-i.output) text (first ++ lines_of_entries date es i) lines (text ++ lines) done refl (entries_more date es first i) so_far in
+      let before = first ++ lines_of_entries date es i in
+      let more = pending_more o (g.W.Sink.held c.loop-i.output) text before lines (text ++ lines) done refl (entries_more date es first i) so_far in
       c.in_ok-list_entry.ensures.ok date t l dates stands o done more;
 }
 
@@ -41,7 +42,8 @@ returns-in_err-list_entry-clause-err g c = λ date t l dates stands.
     let lines = lines_of_entry date es (i + 1) in
     let done = first ++ lines_of_entries date es (i + 1) in
     let so_far = c.loop-i.invariant.so_far date t l dates stands in
-    let more = pending_more o (g.W.Sink.held c.loop-i.output) text (first ++ lines_of_entries date es i) lines (text ++ lines) done refl (entries_more date es first i) so_far in
+    let before = first ++ lines_of_entries date es i in
+    let more = pending_more o (g.W.Sink.held c.loop-i.output) text before lines (text ++ lines) done refl (entries_more date es first i) so_far in
     let count = c.len-i-end.ensures.count t l stands in
     let front = entries_front date t first (i + 1) (omega (arith, count)) in
     on_err c.from_residual.result
@@ -58,7 +60,8 @@ returns-in-Ok-clause-ok g c = λ date t l dates stands.
     let wrote : List ℕ → Type 0 = λ text. Appends b o' text in
     let all : ℕ → Type 0 = λ k. Appends o o' (first ++ lines_of_entries date t.entries k) in
     let so_far = c.loop-i.invariant.so_far date t l dates stands in
-    subst all last (pending_end o b o' c.loop-i.text.items (first ++ lines_of_entries date t.entries c.loop-i.i) so_far (subst wrote c.deref.ensures.value c.in-Ok.ensures.ok))
+    let done = first ++ lines_of_entries date t.entries c.loop-i.i in
+    subst all last (pending_end o b o' c.loop-i.text.items done so_far (subst wrote c.deref.ensures.value c.in-Ok.ensures.ok))
 
 pub returns-clause-err : goal.returns-clause-err
 returns-clause-err g c = λ date t l dates stands.
@@ -70,4 +73,5 @@ returns-clause-err g c = λ date t l dates stands.
     let front = entries_front date t first c.loop-i.i (omega (arith, count)) in
     let wrote : List ℕ → Type 0 = λ text. AppendsPart b o' text in
     let so_far = c.loop-i.invariant.so_far date t l dates stands in
-    pending_fails o b o' c.loop-i.text.items (first ++ lines_of_entries date t.entries c.loop-i.i) front.0 _ front.1 so_far (subst wrote c.deref.ensures.value c.in-Err.ensures.err)
+    let done = first ++ lines_of_entries date t.entries c.loop-i.i in
+    pending_fails o b o' c.loop-i.text.items done front.0 _ front.1 so_far (subst wrote c.deref.ensures.value c.in-Err.ensures.err)
