@@ -1,11 +1,13 @@
-// Trees for the tests.
+// Trees and volumes for the tests. These calls promise nothing, so that tests are proved in short.
 
+use adf_build::build;
+use adf_check::{Checked, check};
 use adf_fields::Stamp;
 use adf_tree::{Body, Bytes, Comment, Kind, Label, Meta, Name, Stamps, Tree};
 use std::alloc::Global;
 use std::test::Fail;
 
-const fn day(days: u32) -> Stamp {
+fn day(days: u32) -> Stamp {
     Stamp {
         days,
         mins: 0,
@@ -45,4 +47,14 @@ pub fn tree_of_file(alloc: Global, kind: Kind, len: usize) -> Result<Tree, Fail>
     let mut tree = empty_tree(alloc, kind)?;
     add(&mut tree, b"a", file(alloc, len)?)?;
     Ok(tree)
+}
+
+/// The image of a tree.
+pub fn image_of(alloc: Global, tree: &Tree, blocks: u32) -> Result<Vec<u8>, Fail> {
+    Ok(build(alloc, tree, blocks)?)
+}
+
+/// The volume of an image.
+pub fn volume_of<'a>(alloc: Global, image: &'a [u8]) -> Result<Checked<'a>, Fail> {
+    Ok(check(alloc, image)?)
 }
