@@ -28,6 +28,3 @@ pub use crate::page::{Page, place_of, read_page, write_page, written_pages_are_r
 pub use crate::root::{Root, read_root};
 pub use crate::root_out::{RootOut, write_root, written_roots_are_read};
 pub use crate::sizes::{is_allowed_size, page_count};
-
-#[cfg(test)]
-mod tests;

@@ -22,6 +22,3 @@ pub use crate::listing::write_listing;
 pub use crate::round_trip::build_and_read;
 pub use crate::runner::run;
 pub use crate::streams::{StreamFault, read_all, say, write_all};
-
-#[cfg(test)]
-mod tests;

@@ -16,6 +16,3 @@ pub use crate::puts::{put_bytes, put_word, put_words, put_words_down, seal_block
 /// No memory was to be had.
 #[derive(Clone, Copy, Debug, PartialEq, Eq)]
 pub struct NoMemory;
-
-#[cfg(test)]
-mod tests;

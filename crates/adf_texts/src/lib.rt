@@ -4,8 +4,6 @@
 mod digits;
 mod escapes;
 mod lines;
-#[cfg(test)]
-mod tests;
 mod volume_lines;
 
 pub use crate::lines::{

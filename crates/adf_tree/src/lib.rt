@@ -14,8 +14,6 @@ mod lookup;
 mod name;
 mod name_set;
 mod path_texts;
-#[cfg(test)]
-mod tests;
 mod tree;
 mod walk_order;
 

@@ -1,10 +1,10 @@
-//! Printed lines.
+// Printed lines.
 
-use crate::*;
 use adf_blocks::Cause;
 use adf_check::{Counts, Fault, Row, RowBody};
 use adf_fields::Stamp;
 use adf_manifest::{ManifestFault, ManifestKind};
+use adf_texts::*;
 use adf_tree::{Comment, Kind, Label, Meta, Name, Node, Stamps};
 use std::alloc::Global;
 use std::test::Fail;

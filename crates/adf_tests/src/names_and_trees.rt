@@ -1,10 +1,10 @@
 // Names, paths and trees, on examples.
 
-use crate::{
+use adf_fields::Stamp;
+use adf_tree::{
     AddFault, Body, Bytes, Comment, Draft, Entry, Kind, Label, Meta, Name, Node, PathFault, Stamps,
     Tree, read_path, write_path,
 };
-use adf_fields::Stamp;
 use std::alloc::Global;
 
 fn meta() -> Meta {

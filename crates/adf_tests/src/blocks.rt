@@ -2,7 +2,7 @@
 
 ghost use Rattle.std.specs.Prelude.{◌<◌, ◌≤◌};
 
-use super::*;
+use adf_blocks::*;
 use adf_fields::{Block, Stamp, seal, set_bytes, set_word};
 use adf_tree::{Comment, Kind, Label, Meta, Name, Stamps};
 use std::test::Fail;

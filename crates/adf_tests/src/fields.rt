@@ -1,4 +1,6 @@
-use super::*;
+// Words, hashes and dates, on examples of the format.
+
+use adf_fields::*;
 use std::test::Fail;
 
 // The slots of names, from the format's own examples.
