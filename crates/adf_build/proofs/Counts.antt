@@ -6,7 +6,7 @@ use Rattle.std.proofs.lemmas.Bool.Decides.{nat_tests}
 use Rattle.adf_tree.specs.declared.entry.Kind.{Kind}
 use Rattle.adf_tree.specs.declared.entry.Entry.{Entry}
 use Rattle.adf_tree.specs.Tree.{entry}
-use Rattle.adf_volume.specs.Plan.{entries_blocks, entry_blocks}
+use Rattle.adf_build.specs.Plan.{entries_blocks, entry_blocks}
 
 -- node i + 1 is the entry at place i
 not_zero : (i : ℕ) → ((i + 1) == 0) ≡ false

@@ -1,5 +1,5 @@
 -- The blocks that are given to entries, and the tables that name them.
-use Rattle.std.proofs.Common.{◌≡◌, ◌≤◌, ◌<◌, ◌+◌, ◌-◌, ◌*◌, ◌/◌, ◌^◌, ℕ, zero, suc, List, [], ◌∷◌, ◌++◌, sym, ap, ◌∙◌, arith, true, length, take, add-one}
+use Rattle.std.proofs.Common.{◌≡◌, ◌≤◌, ◌<◌, ◌+◌, ◌-◌, ◌*◌, ◌/◌, ◌^◌, ℕ, List, [], ◌∷◌, ◌++◌, sym, ap, ◌∙◌, arith, true, length, take}
 use Rattle.std.specs.Prelude.{nat_le, nat_lt, ◌||◌}
 use Rattle.std.proofs.Math.ListN.{set}
 use Rattle.std.proofs.lemmas.Bool.Decides.{nat_tests}
@@ -7,11 +7,12 @@ use Rattle.std.proofs.lemmas.List.{take_more_set}
 use Rattle.adf_tree.specs.declared.entry.Kind.{Kind}
 use Rattle.adf_tree.specs.declared.entry.Kind.TheVariants.{Ofs, Ffs}
 use Rattle.adf_blocks.specs.Sizes.{is_allowed, pages_needed}
-use Rattle.adf_volume.specs.Bits.{is_used}
 use Rattle.adf_volume.specs.Image.{chunk, count, map_exts_needed}
-use Rattle.adf_volume.specs.Plan.{given, reserved, run}
-use Rattle.adf_volume.proofs.Given.{given_below}
-use Rattle.adf_volume.proofs.Holding.{reserved_parts, size_high, size_low}
+use Rattle.adf_volume.proofs.Sizes.{size_high, size_low}
+use Rattle.adf_build.specs.Bits.{is_used}
+use Rattle.adf_build.specs.Plan.{given, reserved, run}
+use Rattle.adf_build.proofs.GivenRuns.{given_below, run-append}
+use Rattle.adf_build.proofs.Holding.{reserved_parts}
 
 -- the pages and the bitmap extension blocks stand behind the root
 pub reserved_is : (n : ℕ) → reserved n ≡ pages_needed n + map_exts_needed (pages_needed n)
@@ -20,14 +21,6 @@ reserved_is n = sym (reserved_parts n)
 pub reserved_few : (n : ℕ) → is_allowed n ≡ true → reserved n < 2 ^ 16
 unfolding reserved map_exts_needed
 reserved_few n a = let high = size_high n a in omega arith
-
-pub given_low : (n k : ℕ) → 2 + k < n / 2 → given n k ≡ 2 + k
-unfolding given
-given_low n k h = grind (arith, nat_tests)
-
-pub given_high : (n k : ℕ) → n / 2 ≤ 2 + k → given n k ≡ 3 + k + reserved n
-unfolding given
-given_high n k h = grind (arith, nat_tests)
 
 -- a block that is used, below the root
 pub used_low : (n total b : ℕ) → b < n / 2 → is_used n total b ≡ nat_lt (b - 2) total
@@ -46,14 +39,10 @@ given_fits n k l h r e =
     let b = given_below n k four (omega arith) in
     omega arith
 
-run_more : (n k m : ℕ) → run n k (suc m) ≡ run n k m ++ given n (k + m) ∷ []
-run_more n k zero = let e : k ≡ k + 0 = omega arith in ap (λ j. given n j ∷ []) e
-run_more n k (suc m) = let e : suc k + m ≡ k + suc m = omega arith in ap (λ l. given n k ∷ l) (run_more n (suc k) m ∙ ap (λ j. run n (suc k) m ++ given n j ∷ []) e)
-
 -- one block more in a table
 pub run_step : (table : List ℕ) (n k j v : ℕ) → j < length table → take j table ≡ run n k j → v ≡ given n (k + j) → take (j + 1) (set table j v) ≡ run n k (j + 1)
 run_step table n k j v h e f =
-    take_more_set table j v h ∙ ap (λ l. l ++ v ∷ []) e ∙ ap (λ v. run n k j ++ v ∷ []) f ∙ sym (run_more n k j) ∙ ap (run n k) (sym (add-one j))
+    take_more_set table j v h ∙ ap (λ l. l ++ v ∷ []) e ∙ ap (λ v. run n k j ++ v ∷ []) f ∙ sym (run-append n k j 1)
 
 -- a file in so many data blocks is not longer than they are
 pub size_small : (kind : Kind) (size : ℕ) → size ≤ 512 * count kind size

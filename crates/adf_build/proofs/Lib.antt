@@ -1,3 +1,16 @@
+pub mod GivenRuns
+pub mod Planned
+pub mod Lays
+pub mod Bits
+pub mod Links
+pub mod Written
+pub mod Shapes
+pub mod Holding
+pub mod Spots
+pub mod LaidFiles
+pub mod LaidEntries
+pub mod LaidFits
+pub mod LaidOrder
 pub mod GivenBlocks
 pub mod Rows
 pub mod MapExts

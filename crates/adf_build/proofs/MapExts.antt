@@ -4,10 +4,11 @@ use Rattle.adf_fields.specs.Words.{with_block}
 use Rattle.adf_blocks.specs.MapExtBlock.{map_ext_block}
 use Rattle.adf_blocks.specs.Sizes.{is_allowed, middle, pages_needed}
 use Rattle.adf_volume.specs.Image.{map_exts_needed}
-use Rattle.adf_volume.specs.Laid.{listed_pages, map_ext_or_none, map_ext_parts}
-use Rattle.adf_volume.specs.Lay.{lay}
-use Rattle.adf_volume.proofs.Given.{reserved_below}
-use Rattle.adf_volume.proofs.Holding.{reserved_parts, size_high, size_low}
+use Rattle.adf_volume.proofs.Sizes.{size_high, size_low}
+use Rattle.adf_build.specs.Laid.{listed_pages, map_ext_or_none, map_ext_parts}
+use Rattle.adf_build.specs.Lay.{lay}
+use Rattle.adf_build.proofs.GivenRuns.{reserved_below}
+use Rattle.adf_build.proofs.Holding.{reserved_parts}
 
 -- a bitmap extension block lies whole in the image
 pub map_ext_fits : (n j l : ℕ) → is_allowed n ≡ true → j < map_exts_needed (pages_needed n) → l ≡ n * 512 → (n / 2 + 1 + pages_needed n + j) * 512 + 512 ≤ l

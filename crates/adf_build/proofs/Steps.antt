@@ -10,12 +10,12 @@ use Rattle.adf_tree.specs.declared.entry.Entry.{Entry}
 use Rattle.adf_tree.specs.Tree.{Tree}
 use Rattle.adf_volume.specs.Image.{chunk}
 use Rattle.adf_volume.specs.Layout.{nodes_from}
-use Rattle.adf_volume.specs.Lay.{lay}
-use Rattle.adf_volume.specs.Laid.{data_bytes, data_parts, entries_parts, first_block, given_or_none, heads_from, node_blocks, slots_of}
-use Rattle.adf_volume.specs.Plan.{entries_blocks, entry_blocks, given}
-use Rattle.adf_volume.proofs.Lays.{lay-append}
+use Rattle.adf_build.specs.Lay.{lay}
+use Rattle.adf_build.specs.Laid.{data_bytes, data_parts, entries_parts, first_block, given_or_none, heads_from, node_blocks, slots_of}
+use Rattle.adf_build.specs.Plan.{entries_blocks, entry_blocks, given}
 use Rattle.adf_build.specs.Building.{IsSoundEntry, entry_parts}
 use Rattle.adf_build.specs.declared.heads.Spot.{Spot}
+use Rattle.adf_build.proofs.Lays.{lay-append}
 use Rattle.adf_build.proofs.Order.{place_is}
 
 -- the bytes past a block, or past all

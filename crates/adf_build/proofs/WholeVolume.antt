@@ -4,12 +4,12 @@ use Rattle.std.specs.Prelude.{replicate}
 use Rattle.adf_tree.specs.Tree.{Tree}
 use Rattle.adf_blocks.specs.Sizes.{blocks, is_allowed}
 use Rattle.adf_volume.specs.Fits.{Fits}
-use Rattle.adf_volume.specs.Laid.{IsLaid, IsSound, parts, volume}
-use Rattle.adf_volume.specs.Lay.{lay}
-use Rattle.adf_volume.specs.Plan.{blocks_needed, entries_blocks, planned, reserved}
-use Rattle.adf_volume.proofs.Holding.{size_high}
-use Rattle.adf_volume.proofs.LaidFits.{laid_fits}
+use Rattle.adf_volume.proofs.Sizes.{size_high}
+use Rattle.adf_build.specs.Laid.{IsLaid, IsSound, parts, volume}
+use Rattle.adf_build.specs.Lay.{lay}
+use Rattle.adf_build.specs.Plan.{blocks_needed, entries_blocks, planned, reserved}
 use Rattle.adf_build.specs.Building.{HasRoom, need_of}
+use Rattle.adf_build.proofs.LaidFits.{laid_fits}
 
 -- the blocks that are left for entries, where there is room
 pub total_is : (t : Tree) (n need : ℕ) → is_allowed n ≡ true → need ≡ need_of t n → need ≤ n - 2 → need ≡ 1 + reserved n + entries_blocks t.kind t.entries

@@ -1,11 +1,9 @@
 -- Words of a page whose 32 blocks are all free, or none of them.
-use Rattle.std.proofs.Common.{◌≡◌, ◌≤◌, ◌<◌, ◌+◌, ◌-◌, ◌*◌, ◌/◌, ◌^◌, ℕ, zero, suc, refl, sym, ap, ◌∙◌, arith, Bool, true, false, cond, inl, inr, ◌⊎◌}
+use Rattle.std.proofs.Common.{◌≡◌, ◌≤◌, ◌<◌, ◌+◌, ◌*◌, ◌/◌, ◌^◌, ℕ, zero, suc, refl, sym, ap, ◌∙◌, arith, Bool, true, false, cond, inl, inr, ◌⊎◌}
 use Rattle.std.proofs.lemmas.Bool.{cases_Bool, cases_lt, true≢false}
 use Rattle.std.proofs.lemmas.Bool.Decides.{nat_tests}
 use Rattle.std.proofs.Math.Nat.{pow-succ'}
-use Rattle.adf_blocks.specs.Sizes.{is_allowed}
-use Rattle.adf_volume.specs.Bits.{bits_from, is_free_bit, is_used}
-use Rattle.adf_volume.specs.Plan.{reserved}
+use Rattle.adf_build.specs.Bits.{bits_from, is_free_bit, is_used}
 
 -- bits that are all clear, and bits that are all set
 bits_clear : (f : ℕ → Bool) (q m : ℕ) → ((k : ℕ) → q ≤ k → k < q + m → f k ≡ false) → bits_from f q m ≡ 0

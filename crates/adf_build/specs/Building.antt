@@ -8,8 +8,8 @@ use Rattle.adf_tree.specs.declared.entry.Kind.{Kind}
 use Rattle.adf_blocks.specs.HeadBlock.{FitsMeta, HeadFields, head_block}
 use Rattle.adf_blocks.specs.HeadBlock.BodyFields.{FileFields}
 use Rattle.adf_blocks.specs.Sizes.{is_allowed}
-use Rattle.adf_volume.specs.Plan.{blocks_needed, exts_needed, given, run}
-use Rattle.adf_volume.specs.Laid.{body_of, body_parts, given_or_none}
+use Rattle.adf_build.specs.Plan.{blocks_needed, exts_needed, given, run}
+use Rattle.adf_build.specs.Laid.{body_of, body_parts, given_or_none}
 use Rattle.adf_build.specs.declared.heads.Spot.{Spot}
 use Rattle.adf_build.specs.declared.builder.BuildFault.{BuildFault}
 use Rattle.adf_build.specs.declared.builder.BuildFault.TheVariants.{BadSize, Full, NoMemory}

@@ -2,8 +2,8 @@
 
 ghost use Rattle.std.specs.Prelude.{◌≡◌, ◌*◌, IfOk, IfErr, OnOk, vec_len};
 ghost use Rattle.adf_volume.specs.Fits.{Fits};
-ghost use Rattle.adf_volume.specs.Laid.{IsLaid, volume};
-ghost use Rattle.adf_volume.specs.Plan.{planned};
+ghost use Rattle.adf_build.specs.Laid.{IsLaid, volume};
+ghost use Rattle.adf_build.specs.Plan.{planned};
 ghost use Rattle.adf_build.specs.Building.{HasRoom, IsBuildFault};
 
 use crate::counting::need;

@@ -5,9 +5,9 @@ ghost use Rattle.std.specs.List.{AllWithin};
 ghost use Rattle.adf_fields.specs.Hash.{slot_of};
 ghost use Rattle.adf_tree.specs.declared.entry.Entry.{Entry};
 ghost use Rattle.adf_tree.specs.Chain.{in_chain};
+ghost use Rattle.adf_build.specs.Laid.{first_block};
 ghost use Rattle.adf_build.specs.Order.{RisesFrom};
 ghost use Rattle.adf_volume.specs.Layout.{nodes_from};
-ghost use Rattle.adf_volume.specs.Laid.{first_block};
 
 use crate::nodes::{entry_at, parent_of};
 use adf_fields::slot;

@@ -3,9 +3,9 @@
 ghost use Rattle.std.specs.Prelude.{◌≡◌, ◌≤◌, ◌+◌, ◌-◌, ◌^◌, true, length, min};
 ghost use Rattle.std.specs.Option.{SomeIff};
 ghost use Rattle.adf_blocks.specs.Sizes.{is_allowed};
+ghost use Rattle.adf_build.specs.Plan.{data_blocks, entry_blocks, exts_needed};
 ghost use Rattle.adf_build.specs.Building.{need_of};
 ghost use Rattle.adf_volume.specs.Image.{chunk, count};
-ghost use Rattle.adf_volume.specs.Plan.{data_blocks, entry_blocks, exts_needed};
 
 use crate::given::reserved_count;
 use adf_blocks::is_allowed_size;
@@ -36,7 +36,7 @@ pub fn data_count(kind: Kind, body: &Body) -> usize
 }
 
 /// The extension blocks of so many data blocks.
-#[tactic(auto, unfolding(adf_volume::specs::Plan::exts_needed))]
+#[tactic(auto, unfolding(crate::specs::Plan::exts_needed))]
 pub fn ext_count(datas: usize) -> usize
     ensures { result ≡ exts_needed datas }
 {

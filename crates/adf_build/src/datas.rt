@@ -5,9 +5,9 @@ ghost use Rattle.adf_fields.specs.Words.{with_block};
 ghost use Rattle.adf_blocks.specs.Fields.{laid};
 ghost use Rattle.adf_blocks.specs.Sizes.{is_allowed};
 ghost use Rattle.adf_volume.specs.Image.{chunk};
-ghost use Rattle.adf_volume.specs.Laid.{data_bytes, data_parts};
-ghost use Rattle.adf_volume.specs.Lay.{lay};
-ghost use Rattle.adf_volume.specs.Plan.{given, reserved};
+ghost use Rattle.adf_build.specs.Laid.{data_bytes, data_parts};
+ghost use Rattle.adf_build.specs.Lay.{lay};
+ghost use Rattle.adf_build.specs.Plan.{given, reserved};
 
 use crate::counting::bytes_of_block;
 use crate::given::{given_block, given_or_none};

@@ -4,11 +4,11 @@ ghost use Rattle.std.specs.Prelude.{◌≡◌, ◌≤◌, ◌+◌, ◌*◌, ℕ,
 ghost use Rattle.std.specs.List.{All};
 ghost use Rattle.adf_tree.specs.declared.entry.Entry.{Entry};
 ghost use Rattle.adf_tree.specs.Tree.{IsTree};
+ghost use Rattle.adf_build.specs.Laid.{entries_parts};
+ghost use Rattle.adf_build.specs.Lay.{lay};
 ghost use Rattle.adf_build.specs.Building.{HasRoom, IsSoundEntry};
 ghost use Rattle.adf_build.specs.Order.{RisesFrom};
-ghost use Rattle.adf_volume.specs.Laid.{entries_parts};
 ghost use Rattle.adf_volume.specs.Layout.{nodes_from};
-ghost use Rattle.adf_volume.specs.Lay.{lay};
 
 use crate::chains::{children_end, next_of, parent_block, slots_between};
 use crate::heads::{Spot, write_entry};

@@ -2,9 +2,9 @@
 
 ghost use Rattle.std.specs.Prelude.{◌≡◌, ◌≤◌, ◌<◌, ◌+◌, ◌-◌, ◌*◌, ◌^◌, true, length};
 ghost use Rattle.adf_blocks.specs.Sizes.{is_allowed};
-ghost use Rattle.adf_volume.specs.Laid.{ext_parts};
-ghost use Rattle.adf_volume.specs.Lay.{lay};
-ghost use Rattle.adf_volume.specs.Plan.{given, reserved};
+ghost use Rattle.adf_build.specs.Laid.{ext_parts};
+ghost use Rattle.adf_build.specs.Lay.{lay};
+ghost use Rattle.adf_build.specs.Plan.{given, reserved};
 
 use crate::given::{given_block, given_or_none, table_of};
 use adf_blocks::{ExtOut, write_ext};

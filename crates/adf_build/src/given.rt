@@ -3,8 +3,8 @@
 ghost use Rattle.std.specs.Prelude.{◌≡◌, ◌≤◌, ◌<◌, ◌+◌, ◌^◌, true, length, take};
 ghost use Rattle.adf_blocks.specs.Sizes.{is_allowed, pages_needed};
 ghost use Rattle.adf_volume.specs.Image.{map_exts_needed};
-ghost use Rattle.adf_volume.specs.Laid.{given_or_none};
-ghost use Rattle.adf_volume.specs.Plan.{given, reserved, run};
+ghost use Rattle.adf_build.specs.Laid.{given_or_none};
+ghost use Rattle.adf_build.specs.Plan.{given, reserved, run};
 
 use adf_blocks::{MAP_EXT_PAGES, ROOT_PAGES, page_count};
 
@@ -30,7 +30,7 @@ pub fn reserved_count(blocks: u32) -> u32
 }
 
 /// The `k`-th block that is given to entries.
-#[tactic(auto, using(crate::proofs::GivenBlocks::given_low, crate::proofs::GivenBlocks::given_high))]
+#[tactic(auto, using(crate::proofs::GivenRuns::given_low, crate::proofs::GivenRuns::given_high))]
 pub fn given_block(blocks: u32, k: u32) -> u32
     requires size { is_allowed blocks ≡ true }
     requires room { k < 2 ^ 30 }

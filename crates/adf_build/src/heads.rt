@@ -5,9 +5,9 @@ ghost use Rattle.adf_tree.specs.declared.entry.Body.TheVariants.{Dir as TheDir, 
 ghost use Rattle.adf_fields.specs.Words.{with_block};
 ghost use Rattle.adf_blocks.specs.HeadBlock.{head_block};
 ghost use Rattle.adf_blocks.specs.Sizes.{is_allowed};
+ghost use Rattle.adf_build.specs.Lay.{lay};
+ghost use Rattle.adf_build.specs.Plan.{entry_blocks, exts_needed, given, reserved};
 ghost use Rattle.adf_build.specs.Building.{IsSoundEntry, entry_parts, file_header};
-ghost use Rattle.adf_volume.specs.Lay.{lay};
-ghost use Rattle.adf_volume.specs.Plan.{entry_blocks, exts_needed, given, reserved};
 ghost use Rattle.adf_tree.specs.declared.entry.Kind.{Kind};
 
 use crate::counting::{data_count, ext_count};

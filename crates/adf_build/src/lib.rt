@@ -1,4 +1,4 @@
-//! Builds the image of an Amiga volume from a tree.
+//! Builds the image of an Amiga volume from a tree; the laws of what is laid.
 #![tactic(auto)]
 
 mod builder;
@@ -9,6 +9,7 @@ mod entries;
 mod exts;
 mod given;
 mod heads;
+mod laid;
 mod map_exts;
 mod nodes;
 mod pages;
@@ -16,3 +17,7 @@ mod volume;
 
 pub use crate::builder::{BuildFault, build};
 pub use crate::counting::need;
+pub use crate::laid::{
+    extensions_are_few, laid_bytes, laid_fits, laid_in_order, laid_room, one_laid, planned_blocks,
+    volumes_are_laid,
+};

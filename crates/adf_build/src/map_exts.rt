@@ -3,9 +3,9 @@
 ghost use Rattle.std.specs.Prelude.{◌≡◌, ◌≤◌, ◌<◌, ◌+◌, ◌*◌, ◌/◌, ◌^◌, true, length, take};
 ghost use Rattle.adf_blocks.specs.Sizes.{is_allowed, pages_needed};
 ghost use Rattle.adf_volume.specs.Image.{map_exts_needed};
-ghost use Rattle.adf_volume.specs.Laid.{map_ext_or_none, map_ext_parts};
-ghost use Rattle.adf_volume.specs.Lay.{lay};
-ghost use Rattle.adf_volume.specs.Plan.{row};
+ghost use Rattle.adf_build.specs.Laid.{map_ext_or_none, map_ext_parts};
+ghost use Rattle.adf_build.specs.Lay.{lay};
+ghost use Rattle.adf_build.specs.Plan.{row};
 
 use crate::given::map_ext_count;
 use adf_blocks::{MAP_EXT_PAGES, ROOT_PAGES, page_count, write_map_ext};

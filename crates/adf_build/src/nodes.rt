@@ -1,9 +1,9 @@
 // The nodes of a tree and the blocks of their headers.
 
 ghost use Rattle.std.specs.Prelude.{◌≡◌, ◌≤◌, ◌<◌, ◌+◌, ◌^◌, ◌∷◌, length, drop, IfOk};
+ghost use Rattle.adf_build.specs.Laid.{node_blocks};
+ghost use Rattle.adf_build.specs.Plan.{data_blocks, exts_needed};
 ghost use Rattle.adf_build.specs.Building.{HasRoom};
-ghost use Rattle.adf_volume.specs.Laid.{node_blocks};
-ghost use Rattle.adf_volume.specs.Plan.{data_blocks, exts_needed};
 
 use crate::counting::{data_count, ext_count};
 use crate::given::given_block;

@@ -2,9 +2,9 @@
 
 ghost use Rattle.std.specs.Prelude.{◌≡◌, ◌≤◌, ◌<◌, ◌+◌, ◌*◌, ◌^◌, true, length, IfSome};
 ghost use Rattle.adf_blocks.specs.Sizes.{is_allowed, pages_needed};
-ghost use Rattle.adf_volume.specs.Bits.{bits_from, is_free_bit, is_used, page_words};
-ghost use Rattle.adf_volume.specs.Laid.{page_parts};
-ghost use Rattle.adf_volume.specs.Lay.{lay};
+ghost use Rattle.adf_build.specs.Bits.{bits_from, is_free_bit, is_used, page_words};
+ghost use Rattle.adf_build.specs.Laid.{page_parts};
+ghost use Rattle.adf_build.specs.Lay.{lay};
 
 use crate::given::reserved_count;
 use adf_blocks::{page_count, write_page};
@@ -48,7 +48,7 @@ fn whole_word(blocks: u32, total: u32, q: u32) -> Option<u32>
 }
 
 // The word of the bits of 32 blocks, of which the first is `2 + q`, bit by bit.
-#[tactic(auto, using(adf_volume::proofs::Bits::bits_step, adf_volume::proofs::Bits::bits_fit, adf_volume::proofs::Bits::bits_start))]
+#[tactic(auto, using(crate::proofs::Bits::bits_step, crate::proofs::Bits::bits_fit, crate::proofs::Bits::bits_start))]
 fn mixed_word(blocks: u32, total: u32, q: u32) -> u32
     requires size { is_allowed blocks ≡ true }
     requires far { q < 2 ^ 30 }
@@ -78,7 +78,7 @@ fn page_word(blocks: u32, total: u32, q: u32) -> u32
 }
 
 // Words 1 to 127 of page `j`.
-#[tactic(auto, using(adf_volume::proofs::Bits::words_step))]
+#[tactic(auto, using(crate::proofs::Bits::words_step))]
 fn words_of_page(blocks: u32, total: u32, j: u32) -> [u32; 127]
     requires size { is_allowed blocks ≡ true }
     requires page { j < 2 ^ 16 }

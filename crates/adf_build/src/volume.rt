@@ -5,10 +5,10 @@ ghost use Rattle.adf_fields.specs.Words.{with_block};
 ghost use Rattle.adf_blocks.specs.Fields.{laid};
 ghost use Rattle.adf_blocks.specs.RootBlock.{FitsStamps, root_block};
 ghost use Rattle.adf_blocks.specs.Sizes.{is_allowed, middle, pages_needed};
+ghost use Rattle.adf_build.specs.Laid.{IsSound, boot_bytes, node_blocks, parts, root_laid, slots_of};
+ghost use Rattle.adf_build.specs.Lay.{lay};
+ghost use Rattle.adf_build.specs.Plan.{entries_blocks, row};
 ghost use Rattle.adf_build.specs.Building.{HasRoom};
-ghost use Rattle.adf_volume.specs.Laid.{IsSound, boot_bytes, node_blocks, parts, root_laid, slots_of};
-ghost use Rattle.adf_volume.specs.Lay.{lay};
-ghost use Rattle.adf_volume.specs.Plan.{entries_blocks, row};
 
 use crate::chains::{children_end, slots_between};
 use crate::entries::write_entries;

@@ -6,7 +6,7 @@ use Rattle.adf_volume.specs.Reading.{IsAtNode, IsInChain}
 use Rattle.adf_volume.specs.Store.{Store, Tells, all_datas, all_exts}
 use Rattle.adf_volume.specs.Walk.{DirAt, Role, heads}
 use Rattle.adf_volume.proofs.Counts.{parts_sum}
-use Rattle.adf_volume.proofs.Holding.{size_high, size_low}
+use Rattle.adf_volume.proofs.Sizes.{size_high, size_low}
 use Rattle.adf_volume.proofs.Lists.{at_below}
 use Rattle.adf_check.specs.Image.{IsBegun}
 use Rattle.adf_check.specs.Owners.{is_part, owned_count}

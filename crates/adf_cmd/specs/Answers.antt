@@ -7,10 +7,10 @@ use Rattle.adf_tree.specs.Tree.{Tree, entry, find, with_kind}
 use Rattle.adf_tree.specs.declared.entry.Kind.{Kind}
 use Rattle.adf_blocks.specs.Sizes.{MOST_BLOCKS, blocks}
 use Rattle.adf_volume.specs.Fits.{Fits}
-use Rattle.adf_volume.specs.Laid.{IsLaid, volume}
 use Rattle.adf_volume.specs.Layout.{Layout}
-use Rattle.adf_volume.specs.Plan.{blocks_needed, planned}
 use Rattle.adf_volume.specs.Walk.{FirstFault}
+use Rattle.adf_build.specs.Laid.{IsLaid, volume}
+use Rattle.adf_build.specs.Plan.{blocks_needed, planned}
 use Rattle.adf_build.specs.Building.{HasRoom, need_of}
 use Rattle.adf_check.specs.Pieces.{bytes_of}
 use Rattle.adf_check.specs.Volumes.{counts_of}

@@ -10,8 +10,4 @@ pub mod Cursor
 pub mod Store
 pub mod Reading
 pub mod Keeps
-pub mod Plan
 pub mod Samples
-pub mod Lay
-pub mod Bits
-pub mod Laid

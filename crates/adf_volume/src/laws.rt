@@ -1,6 +1,6 @@
 // The laws of walks. Each is the contract of a function that does nothing.
 
-ghost use Rattle.std.specs.Prelude.{◌≡◌, ◌≤◌, ◌<◌, ℕ, List, ◌*◌, ◌-◌, ◌↔◌, length, map, Some, None};
+ghost use Rattle.std.specs.Prelude.{◌≡◌, ◌<◌, ℕ, List, ◌*◌, ◌-◌, ◌↔◌, length, map, Some, None};
 ghost use Rattle.std.specs.List.{concat};
 ghost use Rattle.adf_tree.specs.declared.entry.Entry.{Entry};
 ghost use Rattle.adf_tree.specs.declared.entry.Kind.{Kind};
@@ -9,11 +9,10 @@ ghost use Rattle.adf_tree.specs.Tree.{Tree, entry};
 ghost use Rattle.adf_blocks.specs.declared.cause.Cause.{Cause};
 ghost use Rattle.adf_blocks.specs.Forms.{Clause, first_cause};
 ghost use Rattle.adf_blocks.specs.Sizes.{blocks};
-ghost use Rattle.adf_volume.specs.declared.owner.Owner.{Owner};
-ghost use Rattle.adf_volume.specs.Lists.{At, In, NoBlockTwice};
+ghost use Rattle.adf_volume.specs.Lists.{At};
 ghost use Rattle.adf_volume.specs.Image.{content, pieces, root_of, word_in};
 ghost use Rattle.adf_volume.specs.Demands.{AllHold, FirstFails, boot_demands, root_demands, told};
-ghost use Rattle.adf_volume.specs.Layout.{EntryAt, Layout, chain_nodes, owned};
+ghost use Rattle.adf_volume.specs.Layout.{EntryAt, Layout, chain_nodes};
 ghost use Rattle.adf_volume.specs.Fits.{Fits};
 ghost use Rattle.adf_volume.specs.Walk.{FirstFault, Has, IsDue, IsWalk, IsWhole, NoCause, Role, bitmap_demands};
 ghost use Rattle.adf_volume.specs.Parts.{Part};
@@ -21,7 +20,6 @@ ghost use Rattle.adf_volume.specs.Made.{layout_in, tree_in};
 ghost use Rattle.adf_volume.specs.Store.{Store};
 ghost use Rattle.adf_volume.specs.Reading.{TellsFit};
 ghost use Rattle.adf_volume.specs.Keeps.{Keeps};
-ghost use Rattle.adf_volume.specs.Plan.{blocks_needed, planned};
 
 /// The demands of a form all hold exactly where it has no first cause; the first that fails is its first cause.
 pub fn told_form()
@@ -82,12 +80,4 @@ pub fn pieces_are_content()
     ensures joined { (image : List ℕ) (kind : Kind) (h : ℕ) (datas : List ℕ) → length image ≡ 512 * blocks image → ((i b : ℕ) → At datas i b → b < blocks image)
         → concat (pieces image kind (word_in image h 81) 1 datas) ≡ content image kind h datas }
     ensures one_each { (image : List ℕ) (kind : Kind) (size k : ℕ) (datas : List ℕ) → length (pieces image kind size k datas) ≡ length datas }
-{}
-
-/// The planned layout owns as many blocks as the tree needs, none twice, and all in range where there is room.
-pub fn planned_blocks()
-    ensures count { (image : List ℕ) (t : Tree) → length (owned image (planned t (blocks image))) ≡ blocks_needed t (blocks image) }
-    ensures once { (image : List ℕ) (t : Tree) → NoBlockTwice (owned image (planned t (blocks image))) }
-    ensures range { (image : List ℕ) (t : Tree) (o : Owner) (b : ℕ) → 4 ≤ blocks image → blocks_needed t (blocks image) ≤ blocks image - 2
-        → In (owned image (planned t (blocks image))) (o, b) → (2 ≤ b) × (b < blocks image) }
 {}

@@ -1,18 +1,14 @@
 //! The model of a volume, and the laws of walks over it.
 #![tactic(auto)]
 
-mod laid;
 mod laws;
 mod owner;
 mod row;
 mod samples;
 
-pub use crate::laid::{
-    extensions_are_few, laid_bytes, laid_fits, laid_in_order, laid_room, one_laid, volumes_are_laid,
-};
 pub use crate::laws::{
     agreement, chains_of_numbers, completeness, none_fits, one_fault, one_tree, pieces_are_content,
-    planned_blocks, told_form, what_is_kept_tells, what_is_told_fits,
+    told_form, what_is_kept_tells, what_is_told_fits,
 };
 pub use crate::owner::Owner;
 pub use crate::row::{Row, Start};

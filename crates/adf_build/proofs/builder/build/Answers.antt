@@ -2,9 +2,9 @@ use Rattle.std.proofs.Common.{◌≡◌, ◌+◌, ◌*◌, ◌∙◌, ℕ, List,
 use Rattle.std.proofs.lemmas.List.{take_at}
 use Rattle.std.specs.Prelude.{replicate}
 use Rattle.adf_volume.specs.Fits.{Fits}
-use Rattle.adf_volume.specs.Laid.{IsLaid, parts}
-use Rattle.adf_volume.specs.Lay.{lay}
-use Rattle.adf_volume.specs.Plan.{entries_blocks, planned, reserved}
+use Rattle.adf_build.specs.Laid.{IsLaid, parts}
+use Rattle.adf_build.specs.Lay.{lay}
+use Rattle.adf_build.specs.Plan.{entries_blocks, planned, reserved}
 use Rattle.adf_build.specs.Building.{HasRoom}
 use Rattle.adf_build.proofs.WholeVolume.{is_laid, laid_as_planned, laid_bytes, total_is}
 use Rattle.adf_build.proofs.builder.build.Goals as goal

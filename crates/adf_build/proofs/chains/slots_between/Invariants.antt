@@ -1,7 +1,7 @@
 use Rattle.std.proofs.Common.{◌≡◌, ◌≤◌, ◌<◌, ◌+◌, ℕ, length, drop}
 use Rattle.std.specs.Prelude.{slice_index}
 use Rattle.adf_volume.specs.Layout.{nodes_from}
-use Rattle.adf_volume.specs.Laid.{first_block}
+use Rattle.adf_build.specs.Laid.{first_block}
 use Rattle.adf_build.proofs.chains.slots_between.Given as goal
 
 abbrev pub invariant-loop-at : goal.invariant-loop-at

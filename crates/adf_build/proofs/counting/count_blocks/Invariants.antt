@@ -1,5 +1,5 @@
 use Rattle.std.proofs.Common.{◌≡◌, ◌≤◌, ◌+◌, ◌-◌, ◌^◌, drop, min}
-use Rattle.adf_volume.specs.Plan.{entries_blocks}
+use Rattle.adf_build.specs.Plan.{entries_blocks}
 use Rattle.adf_build.specs.Building.{need_of}
 use Rattle.adf_build.proofs.counting.count_blocks.Given as goal
 

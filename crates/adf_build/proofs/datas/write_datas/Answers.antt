@@ -2,8 +2,8 @@ use Rattle.std.proofs.Common.{◌≡◌, ◌+◌, ◌-◌, ◌∙◌, ℕ, List,
 use Rattle.std.proofs.lemmas.List.{take_min}
 use Rattle.adf_fields.specs.Words.{with_block}
 use Rattle.adf_volume.specs.Image.{chunk}
-use Rattle.adf_volume.specs.Laid.{data_bytes, given_or_none}
-use Rattle.adf_volume.specs.Plan.{given}
+use Rattle.adf_build.specs.Laid.{data_bytes, given_or_none}
+use Rattle.adf_build.specs.Plan.{given}
 use Rattle.adf_build.proofs.Steps.{datas_step, drop_min}
 use Rattle.adf_build.proofs.datas.write_datas.Goals as goal
 

@@ -3,9 +3,9 @@ use Rattle.std.specs.Prelude.{slice_index}
 use Rattle.adf_fields.specs.Hash.{slot_of}
 use Rattle.adf_tree.specs.declared.entry.Entry.{Entry}
 use Rattle.adf_volume.specs.Layout.{nodes_from}
-use Rattle.adf_volume.specs.Lay.{lay}
-use Rattle.adf_volume.specs.Laid.{first_block, slots_of}
-use Rattle.adf_volume.specs.Plan.{entry_blocks}
+use Rattle.adf_build.specs.Lay.{lay}
+use Rattle.adf_build.specs.Laid.{first_block, slots_of}
+use Rattle.adf_build.specs.Plan.{entry_blocks}
 use Rattle.adf_build.specs.Building.{entry_parts}
 use Rattle.adf_build.specs.declared.heads.Spot.{Spot}
 use Rattle.adf_build.proofs.Order.{slots_are}

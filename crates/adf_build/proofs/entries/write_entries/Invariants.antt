@@ -2,9 +2,9 @@ use Rattle.std.proofs.Common.{◌≡◌, ◌≤◌, ◌<◌, ◌+◌, ◌*◌, �
 use Rattle.std.specs.Prelude.{slice_index_or}
 use Rattle.adf_tree.specs.declared.entry.Entry.{Entry}
 use Rattle.adf_volume.specs.Layout.{nodes_from}
-use Rattle.adf_volume.specs.Laid.{entries_parts}
-use Rattle.adf_volume.specs.Lay.{lay}
-use Rattle.adf_volume.specs.Plan.{entries_blocks}
+use Rattle.adf_build.specs.Laid.{entries_parts}
+use Rattle.adf_build.specs.Lay.{lay}
+use Rattle.adf_build.specs.Plan.{entries_blocks}
 use Rattle.adf_build.specs.Building.{IsSoundEntry}
 use Rattle.adf_build.specs.Order.{RisesFrom}
 use Rattle.adf_build.proofs.entries.write_entries.Given as goal

@@ -1,5 +1,5 @@
 use Rattle.std.proofs.Common.{◌≡◌, take, length}
-use Rattle.adf_volume.specs.Plan.{run}
+use Rattle.adf_build.specs.Plan.{run}
 use Rattle.adf_build.proofs.given.table_of.Given as goal
 
 abbrev pub invariant-loop-j : goal.invariant-loop-j

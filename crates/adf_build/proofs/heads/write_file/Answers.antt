@@ -3,12 +3,12 @@ use Rattle.adf_tree.specs.declared.entry.Body.{Body}
 use Rattle.adf_fields.specs.Words.{with_block}
 use Rattle.adf_blocks.specs.HeadBlock.{head_block}
 use Rattle.adf_volume.specs.Image.{count}
-use Rattle.adf_volume.specs.Lay.{lay}
-use Rattle.adf_volume.specs.Laid.{body_of, body_parts, data_parts, ext_parts}
-use Rattle.adf_volume.specs.Plan.{data_blocks, exts_needed, given}
-use Rattle.adf_volume.proofs.Holding.{size_high}
-use Rattle.adf_volume.proofs.Lays.{lay-append}
+use Rattle.adf_volume.proofs.Sizes.{size_high}
+use Rattle.adf_build.specs.Lay.{lay}
+use Rattle.adf_build.specs.Laid.{body_of, body_parts, data_parts, ext_parts}
+use Rattle.adf_build.specs.Plan.{data_blocks, exts_needed, given}
 use Rattle.adf_build.specs.Building.{file_header}
+use Rattle.adf_build.proofs.Lays.{lay-append}
 use Rattle.adf_build.proofs.GivenBlocks.{size_small}
 use Rattle.adf_build.proofs.heads.write_file.Goals as goal
 

@@ -2,8 +2,8 @@ use Rattle.std.proofs.Common.{◌≡◌, ◌+◌, ◌∙◌, ℕ, List, length, 
 use Rattle.adf_fields.specs.Words.{with_block}
 use Rattle.adf_blocks.specs.HeadBlock.{head_block}
 use Rattle.adf_blocks.specs.HeadBlock.BodyFields.{FileFields}
-use Rattle.adf_volume.specs.Laid.{given_or_none}
-use Rattle.adf_volume.specs.Plan.{exts_needed, given, run}
+use Rattle.adf_build.specs.Laid.{given_or_none}
+use Rattle.adf_build.specs.Plan.{exts_needed, given, run}
 use Rattle.adf_build.proofs.GivenBlocks.{given_fits}
 use Rattle.adf_build.proofs.heads.write_file_head.Goals as goal
 

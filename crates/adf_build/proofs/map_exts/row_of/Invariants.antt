@@ -1,5 +1,5 @@
 use Rattle.std.proofs.Common.{◌≡◌, take, length}
-use Rattle.adf_volume.specs.Plan.{row}
+use Rattle.adf_build.specs.Plan.{row}
 use Rattle.adf_build.proofs.map_exts.row_of.Given as goal
 
 abbrev pub invariant-loop-i : goal.invariant-loop-i

@@ -1,8 +1,8 @@
 use Rattle.std.proofs.Common.{rules, ◌≡◌, ◌<◌, ◌+◌, ◌*◌, ◌/◌, ◌-◌, ◌∙◌, ℕ, suc, length, take, min, ap, arith, add-one}
 use Rattle.adf_blocks.specs.MapExtBlock.{map_ext_block}
 use Rattle.adf_blocks.specs.Sizes.{middle, pages_needed}
-use Rattle.adf_volume.specs.Laid.{listed_pages, map_ext_or_none}
-use Rattle.adf_volume.specs.Plan.{row}
+use Rattle.adf_build.specs.Laid.{listed_pages, map_ext_or_none}
+use Rattle.adf_build.specs.Plan.{row}
 use Rattle.adf_build.proofs.MapExts.{map_ext_fits, map_exts_step}
 use Rattle.adf_build.proofs.map_exts.write_map_exts.Goals as goal
 

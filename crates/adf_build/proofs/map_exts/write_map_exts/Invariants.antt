@@ -1,6 +1,6 @@
 use Rattle.std.proofs.Common.{◌≡◌, ◌-◌}
-use Rattle.adf_volume.specs.Laid.{map_ext_parts}
-use Rattle.adf_volume.specs.Lay.{lay}
+use Rattle.adf_build.specs.Laid.{map_ext_parts}
+use Rattle.adf_build.specs.Lay.{lay}
 use Rattle.adf_build.proofs.map_exts.write_map_exts.Given as goal
 
 abbrev pub invariant-loop-j : goal.invariant-loop-j

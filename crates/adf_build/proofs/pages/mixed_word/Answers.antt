@@ -1,5 +1,5 @@
 use Rattle.std.proofs.Common.{◌≡◌, ◌+◌, ◌-◌, ℕ, ap, ◌∙◌, arith, Bool}
-use Rattle.adf_volume.specs.Bits.{bits_from, is_free_bit}
+use Rattle.adf_build.specs.Bits.{bits_from, is_free_bit}
 use Rattle.adf_build.proofs.pages.mixed_word.Goals as goal
 
 pub returns : goal.returns

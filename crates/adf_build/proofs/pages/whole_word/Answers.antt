@@ -1,4 +1,4 @@
-use Rattle.std.proofs.Common.{◌≡◌, ◌<◌, ◌+◌, ◌/◌, refl, sym, ◌∙◌, arith}
+use Rattle.std.proofs.Common.{◌<◌, ◌+◌, ◌/◌, refl, sym, ◌∙◌, arith}
 use Rattle.adf_build.proofs.WholeWords.{all_free, none_free, past_the_end}
 use Rattle.adf_build.proofs.pages.whole_word.Goals as goal
 use Rattle.adf_build.proofs.pages.whole_word.Goals.{else-first-blocks-via-then-first-blocks+else-blocks-last, else-first-blocks-via-else-first-blocks}

@@ -1,6 +1,6 @@
 use Rattle.std.proofs.Common.{◌≡◌, sym, ◌∙◌, arith, rules}
 use Rattle.std.proofs.lemmas.List.{take_all}
-use Rattle.adf_volume.proofs.Bits.{words_step}
+use Rattle.adf_build.proofs.Bits.{words_step}
 use Rattle.adf_build.proofs.pages.words_of_page.Goals as goal
 
 pub loop-w-preserved : goal.loop-w-preserved

@@ -1,6 +1,6 @@
 use Rattle.std.proofs.Common.{◌≡◌, ◌+◌, ◌*◌, take, length, map}
 use Rattle.std.specs.List.{range_with_len}
-use Rattle.adf_volume.specs.Bits.{bits_from, is_free_bit}
+use Rattle.adf_build.specs.Bits.{bits_from, is_free_bit}
 use Rattle.adf_build.proofs.pages.words_of_page.Given as goal
 
 abbrev pub invariant-loop-w : goal.invariant-loop-w

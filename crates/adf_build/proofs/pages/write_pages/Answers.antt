@@ -1,7 +1,7 @@
 use Rattle.std.proofs.Common.{◌≡◌, ◌+◌, ◌/◌, ap, refl, arith}
 use Rattle.adf_blocks.specs.PageBlock.{page_block}
 use Rattle.adf_blocks.specs.Sizes.{pages_needed}
-use Rattle.adf_volume.proofs.Bits.{pages_step}
+use Rattle.adf_build.proofs.Bits.{pages_step}
 use Rattle.adf_build.proofs.pages.write_pages.Goals as goal
 
 pub loop-j-preserved : goal.loop-j-preserved

@@ -1,7 +1,7 @@
 use Rattle.std.proofs.Common.{◌≡◌, ◌-◌}
-use Rattle.adf_volume.specs.Laid.{page_parts}
-use Rattle.adf_volume.specs.Lay.{lay}
 use Rattle.adf_blocks.specs.Sizes.{pages_needed}
+use Rattle.adf_build.specs.Laid.{page_parts}
+use Rattle.adf_build.specs.Lay.{lay}
 use Rattle.adf_build.proofs.pages.write_pages.Given as goal
 
 abbrev pub invariant-loop-j : goal.invariant-loop-j

@@ -1,5 +1,5 @@
 use Rattle.std.proofs.Common.{◌≡◌, ◌+◌, ◌/◌, take, length}
-use Rattle.adf_volume.specs.Plan.{row}
+use Rattle.adf_build.specs.Plan.{row}
 use Rattle.adf_build.proofs.volume.page_numbers.Given as goal
 
 abbrev pub invariant-loop-j : goal.invariant-loop-j

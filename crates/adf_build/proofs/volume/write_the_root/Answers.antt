@@ -4,8 +4,8 @@ use Rattle.adf_tree.specs.declared.entry.Stamps.{Stamps}
 use Rattle.adf_blocks.specs.RootBlock.{root_block}
 use Rattle.adf_blocks.specs.Sizes.{pages_needed}
 use Rattle.adf_volume.specs.Image.{map_exts_needed}
-use Rattle.adf_volume.specs.Laid.{map_ext_or_none, node_blocks, slots_of}
-use Rattle.adf_volume.specs.Plan.{row}
+use Rattle.adf_build.specs.Laid.{map_ext_or_none, node_blocks, slots_of}
+use Rattle.adf_build.specs.Plan.{row}
 use Rattle.adf_build.proofs.volume.write_the_root.Goals as goal
 
 pub returns-clause-exact : goal.returns-clause-exact

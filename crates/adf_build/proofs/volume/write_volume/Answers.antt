@@ -5,10 +5,10 @@ use Rattle.adf_blocks.specs.Fields.{laid}
 use Rattle.adf_blocks.specs.RootBlock.{root_block}
 use Rattle.adf_blocks.specs.Sizes.{middle, pages_needed}
 use Rattle.adf_volume.specs.Image.{map_exts_needed}
-use Rattle.adf_volume.specs.Lay.{lay}
-use Rattle.adf_volume.specs.Laid.{boot_bytes, entries_parts, node_blocks, map_ext_parts, page_parts, root_laid, slots_of}
-use Rattle.adf_volume.specs.Plan.{entries_blocks}
-use Rattle.adf_volume.proofs.Lays.{lay-append}
+use Rattle.adf_build.specs.Lay.{lay}
+use Rattle.adf_build.specs.Laid.{boot_bytes, entries_parts, node_blocks, map_ext_parts, page_parts, root_laid, slots_of}
+use Rattle.adf_build.specs.Plan.{entries_blocks}
+use Rattle.adf_build.proofs.Lays.{lay-append}
 use Rattle.adf_build.proofs.Order.{slots_are, tree_rises}
 use Rattle.adf_build.proofs.Steps.{nodes_length}
 use Rattle.adf_build.proofs.volume.write_volume.Goals as goal

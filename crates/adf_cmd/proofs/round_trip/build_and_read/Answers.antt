@@ -1,6 +1,6 @@
 use Rattle.std.proofs.Common.{◌≡◌, ◌∙◌, List, ℕ, sym, subst}
 use Rattle.adf_volume.specs.Fits.{Fits}
-use Rattle.adf_volume.specs.Plan.{planned}
+use Rattle.adf_build.specs.Plan.{planned}
 use Rattle.adf_cmd.proofs.round_trip.build_and_read.Goals as goal
 
 pub unreachable-requires : goal.unreachable-requires

@@ -1,0 +1,10 @@
+-- An allowed size.
+use Rattle.std.proofs.Common.{◌≡◌, ℕ, ◌≤◌, arith, true}
+use Rattle.std.proofs.lemmas.Bool.Decides.{nat_tests}
+use Rattle.adf_blocks.specs.Sizes.{MOST_BLOCKS, is_allowed}
+
+pub size_low : (n : ℕ) → is_allowed n ≡ true → 4 ≤ n
+size_low n h = grind (arith, nat_tests)
+
+pub size_high : (n : ℕ) → is_allowed n ≡ true → n ≤ MOST_BLOCKS
+size_high n h = grind (arith, nat_tests)

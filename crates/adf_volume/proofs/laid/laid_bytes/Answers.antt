@@ -1,8 +1,0 @@
-use Rattle.adf_volume.proofs.LaidOrder.{part_held, rest_zero}
-use Rattle.adf_volume.proofs.laid.laid_bytes.Goals as goal
-
-pub returns-clause-part : goal.returns-clause-part
-returns-clause-part c = part_held
-
-pub returns-clause-rest : goal.returns-clause-rest
-returns-clause-rest c = rest_zero

@@ -1,9 +1,0 @@
-use Rattle.adf_volume.proofs.Given.{given_rises}
-use Rattle.adf_volume.proofs.LaidOrder as order
-use Rattle.adf_volume.proofs.laid.laid_in_order.Goals as goal
-
-pub returns-clause-rise : goal.returns-clause-rise
-returns-clause-rise c = given_rises
-
-pub returns-clause-no_gap : goal.returns-clause-no_gap
-returns-clause-no_gap c = order.no_gap
