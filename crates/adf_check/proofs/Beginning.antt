@@ -6,9 +6,9 @@ use Rattle.adf_blocks.specs.Sizes.{blocks}
 use Rattle.adf_volume.specs.declared.owner.Owner.{Owner}
 use Rattle.adf_volume.specs.declared.owner.Owner.TheVariants.{Free, Boot, Root}
 use Rattle.adf_volume.specs.Image.{root_of}
-use Rattle.adf_volume.specs.Reading.{IsBeforePage}
-use Rattle.adf_volume.specs.Store.{owner_at}
-use Rattle.adf_volume.proofs.InBitmap.{beginning}
+use Rattle.adf_check.specs.Reading.{IsBeforePage}
+use Rattle.adf_check.specs.Store.{owner_at}
+use Rattle.adf_check.proofs.InBitmap.{beginning}
 use Rattle.adf_check.proofs.Bounds.{many_blocks}
 use Rattle.adf_check.specs.Image.{IsBegun}
 use Rattle.adf_check.specs.Owners.{owned_count}

@@ -7,13 +7,13 @@ use Rattle.adf_blocks.specs.declared.cause.Cause.TheVariants.{LostBlock, OwnedFr
 use Rattle.adf_blocks.specs.Sizes.{blocks, pages_needed}
 use Rattle.adf_volume.specs.declared.owner.Owner.TheVariants.{Free}
 use Rattle.adf_volume.specs.Image.{IsFreeAt}
-use Rattle.adf_volume.specs.Reading.{IsMapped}
-use Rattle.adf_volume.specs.Store.{Store, owner_at}
 use Rattle.adf_volume.specs.Walk.{FirstFault}
 use Rattle.adf_volume.proofs.Images.{page_in}
-use Rattle.adf_volume.proofs.InBitmap.{lost, owned_free, mapped_free, mapped_used}
+use Rattle.adf_check.specs.Reading.{IsMapped}
+use Rattle.adf_check.specs.Store.{Store, owner_at}
 use Rattle.adf_check.specs.Image.{IsBegun}
 use Rattle.adf_check.specs.Pages.{AreListed}
+use Rattle.adf_check.proofs.InBitmap.{lost, owned_free, mapped_free, mapped_used}
 
 mapped : (image numbers : List ℕ) (k : ℕ) (d : List ℕ) → k < length numbers → get_or (map (block image) numbers) k d ≡ block image (get_or numbers k 0)
 mapped image [] k d h = absurd (omega arith)

@@ -2,14 +2,14 @@
 use Rattle.std.proofs.Common.{◌≡◌, ℕ, zero, suc, List, ◌^◌, ◌<◌, ◌≤◌, length, ap, arith}
 use Rattle.std.proofs.lemmas.List.Sums.{count_by-le-length}
 use Rattle.adf_blocks.specs.Sizes.{MOST_BLOCKS, blocks}
-use Rattle.adf_volume.specs.Reading.{IsAtNode, IsInChain}
-use Rattle.adf_volume.specs.Store.{Store, Tells, all_datas, all_exts}
 use Rattle.adf_volume.specs.Walk.{DirAt, Role, heads}
-use Rattle.adf_volume.proofs.Counts.{parts_sum}
 use Rattle.adf_volume.proofs.Sizes.{size_high, size_low}
 use Rattle.adf_volume.proofs.Lists.{at_below}
+use Rattle.adf_check.specs.Reading.{IsAtNode, IsInChain}
+use Rattle.adf_check.specs.Store.{Store, Tells, all_datas, all_exts}
 use Rattle.adf_check.specs.Image.{IsBegun}
 use Rattle.adf_check.specs.Owners.{is_part, owned_count}
+use Rattle.adf_check.proofs.Lengths.{parts_sum}
 
 -- there are at least 4 blocks
 pub many_blocks : (image : List ℕ) → IsBegun image → 4 ≤ blocks image

@@ -13,18 +13,18 @@ use Rattle.adf_tree.specs.Tree.{Tree, entry}
 use Rattle.adf_blocks.specs.Sizes.{blocks}
 use Rattle.adf_volume.specs.declared.owner.Owner.{Owner}
 use Rattle.adf_volume.specs.declared.owner.Owner.TheVariants.{Data, Page, MapExt}
-use Rattle.adf_volume.specs.declared.row.Start.{Start}
 use Rattle.adf_volume.specs.Fits.{BodyFits}
 use Rattle.adf_volume.specs.Image.{DIR, area, chunk, content, count, held, kind_of, piece, pieces, word_in}
-use Rattle.adf_volume.specs.Keeps.{Keeps}
 use Rattle.adf_volume.specs.Layout.{EntryAt, Layout, at_node, datas_of, owned_from}
 use Rattle.adf_volume.specs.Lists.{At, In, numbered}
-use Rattle.adf_volume.specs.Store.{Store}
 use Rattle.adf_volume.proofs.Images.{area_length}
 use Rattle.adf_volume.proofs.Lists.{at_index_or, at_some, in_right}
 use Rattle.adf_volume.proofs.Parts.{owned_data}
 use Rattle.adf_volume.proofs.Pieces.{held_some, pieces_joined}
 use Rattle.adf_volume.proofs.Trees.{entry_is_at, entry_some}
+use Rattle.adf_check.specs.declared.kept.Start.{Start}
+use Rattle.adf_check.specs.Keeps.{Keeps}
+use Rattle.adf_check.specs.Store.{Store}
 use Rattle.adf_check.proofs.Following.{body_dir}
 use Rattle.adf_check.specs.Pieces.{AreInside, bytes_in, bytes_of}
 

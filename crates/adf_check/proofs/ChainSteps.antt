@@ -16,12 +16,12 @@ use Rattle.adf_blocks.specs.Sizes.{blocks}
 use Rattle.adf_volume.specs.declared.owner.Owner.{Owner}
 use Rattle.adf_volume.specs.declared.owner.Owner.TheVariants.{Free, Head as AHead}
 use Rattle.adf_volume.specs.Image.{kind_of, name_of, word_in}
-use Rattle.adf_volume.specs.Reading.{IsInChain}
-use Rattle.adf_volume.specs.Store.{Store, owner_at}
 use Rattle.adf_volume.specs.Walk.{FirstFault}
 use Rattle.adf_volume.specs.Walk.Role.{Head}
-use Rattle.adf_volume.proofs.InChains.{fault_form, fault_name, next_chain}
 use Rattle.adf_volume.proofs.Told.{all_told, first_told}
+use Rattle.adf_check.specs.Reading.{IsInChain}
+use Rattle.adf_check.specs.Store.{Store, owner_at}
+use Rattle.adf_check.proofs.InChains.{fault_form, fault_name, next_chain}
 use Rattle.adf_check.proofs.Faults.{head_claim}
 use Rattle.adf_check.proofs.Steps.{stored_is}
 use Rattle.adf_check.specs.Found.{InRange, IsClaimFault, IsTrueFault, sees_of}

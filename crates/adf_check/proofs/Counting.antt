@@ -9,17 +9,17 @@ use Rattle.adf_tree.specs.declared.entry.Entry.{Entry}
 use Rattle.adf_tree.specs.declared.entry.Kind.{Kind}
 use Rattle.adf_tree.specs.Tree.{Tree, is_dir_body}
 use Rattle.adf_blocks.specs.Sizes.{blocks}
-use Rattle.adf_volume.specs.declared.row.Row.{Row}
 use Rattle.adf_volume.specs.Fits.{BodyFits}
 use Rattle.adf_volume.specs.Image.{DIR, FILE, kind_of, word_in}
-use Rattle.adf_volume.specs.Keeps.{Keeps}
 use Rattle.adf_volume.specs.Layout.{Layout, at_node, owned}
 use Rattle.adf_volume.specs.Lists.{At}
-use Rattle.adf_volume.specs.Reading.{TellsFit}
-use Rattle.adf_volume.specs.Store.{Store}
 use Rattle.adf_volume.specs.Walk.Role.{Head}
-use Rattle.adf_volume.proofs.InRows.{node_here}
 use Rattle.adf_volume.proofs.Kept.{in_range}
+use Rattle.adf_check.specs.declared.kept.Row.{Row}
+use Rattle.adf_check.specs.Keeps.{Keeps}
+use Rattle.adf_check.specs.Reading.{TellsFit}
+use Rattle.adf_check.specs.Store.{Store}
+use Rattle.adf_check.proofs.InRows.{node_here}
 use Rattle.adf_check.proofs.Bounds.{many_blocks}
 use Rattle.adf_check.proofs.NodeSteps.{row_at}
 use Rattle.adf_check.specs.Image.{IsBegun}

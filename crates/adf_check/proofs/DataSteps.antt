@@ -8,13 +8,13 @@ use Rattle.adf_volume.specs.declared.owner.Owner.TheVariants.{Free, Data as ADat
 use Rattle.adf_volume.specs.Demands.{Demand, AllHold, FirstFails, data_demands}
 use Rattle.adf_volume.specs.Image.{held, kind_of, word_in}
 use Rattle.adf_volume.specs.Lists.{At}
-use Rattle.adf_volume.specs.Reading.{IsInDatas, IsNamed}
-use Rattle.adf_volume.specs.Store.{Store, owner_at, stored}
 use Rattle.adf_volume.specs.Walk.{FirstFault, IsWalk, MemberAt, Role, data_count}
 use Rattle.adf_volume.specs.Walk.Role.{Data, Ext, Head}
-use Rattle.adf_volume.proofs.InFiles.{data_named, data_enough, data_form_at, data_read}
 use Rattle.adf_volume.proofs.Kept.{in_range}
-use Rattle.adf_volume.proofs.Steps.{at_get, plain_form}
+use Rattle.adf_check.specs.Reading.{IsInDatas, IsNamed}
+use Rattle.adf_check.specs.Store.{Store, owner_at, stored}
+use Rattle.adf_check.proofs.InFiles.{data_named, data_enough, data_form_at, data_read}
+use Rattle.adf_check.proofs.PlainSteps.{at_get, plain_form}
 use Rattle.adf_check.proofs.Bounds.{many_blocks}
 use Rattle.adf_check.proofs.Faults.{plain_claim}
 use Rattle.adf_check.proofs.Steps.{stored_is}

@@ -9,13 +9,13 @@ use Rattle.adf_volume.specs.declared.owner.Owner.{Owner}
 use Rattle.adf_volume.specs.declared.owner.Owner.TheVariants.{Free, Ext as AnExt}
 use Rattle.adf_volume.specs.Demands.{Demand, FirstFails}
 use Rattle.adf_volume.specs.Image.{word_in}
-use Rattle.adf_volume.specs.Reading.{IsInExts}
-use Rattle.adf_volume.specs.Store.{Store, owner_at}
 use Rattle.adf_volume.specs.Walk.{FirstFault, Role, ext_count}
 use Rattle.adf_volume.specs.Walk.Role.{Root, Page, MapExt, Head, Ext, Data}
-use Rattle.adf_volume.proofs.InFiles.{ext_named, ext_form_at, ext_read}
-use Rattle.adf_volume.proofs.Steps.{plain_form}
 use Rattle.adf_volume.proofs.Told.{all_told, first_told}
+use Rattle.adf_check.specs.Reading.{IsInExts}
+use Rattle.adf_check.specs.Store.{Store, owner_at}
+use Rattle.adf_check.proofs.InFiles.{ext_named, ext_form_at, ext_read}
+use Rattle.adf_check.proofs.PlainSteps.{plain_form}
 use Rattle.adf_check.proofs.Bounds.{walk_short}
 use Rattle.adf_check.proofs.Faults.{plain_claim}
 use Rattle.adf_check.proofs.Steps.{stored_is}

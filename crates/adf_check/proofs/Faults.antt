@@ -3,16 +3,16 @@ use Rattle.std.proofs.Common.{◌≡◌, ◌≢◌, ℕ, List, ◌<◌, length, 
 use Rattle.adf_blocks.specs.declared.cause.Cause.{Cause}
 use Rattle.adf_blocks.specs.declared.cause.Cause.TheVariants.{OutOfRange, Taken}
 use Rattle.adf_blocks.specs.Sizes.{blocks}
-use Rattle.adf_volume.specs.Reading.{IsNamed, IsInChain}
-use Rattle.adf_volume.specs.Store.{Store}
 use Rattle.adf_volume.specs.Walk.{Role, Enough, FirstFault}
 use Rattle.adf_volume.proofs.Memory.{fault_of_image}
-use Rattle.adf_volume.proofs.Steps.{IsPlain, plain_range, plain_taken}
-use Rattle.adf_volume.proofs.InChains as chains
+use Rattle.adf_check.specs.Reading.{IsNamed, IsInChain}
+use Rattle.adf_check.specs.Store.{Store}
 use Rattle.adf_check.specs.Checks.{fault}
 use Rattle.adf_check.specs.Found.{InRange, IsClaimFault, IsTrueFault}
 use Rattle.adf_check.specs.Image.{IsBegun}
 use Rattle.adf_check.specs.declared.fault.Fault.{Fault}
+use Rattle.adf_check.proofs.PlainSteps.{IsPlain, plain_range, plain_taken}
+use Rattle.adf_check.proofs.InChains as chains
 
 -- the first fault of the image is a true one: it is not want of memory
 pub first_fault : (image : List ℕ) (b : ℕ) (c : Cause) → FirstFault image b c → IsTrueFault image (fault b c)

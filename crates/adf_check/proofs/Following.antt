@@ -12,24 +12,24 @@ use Rattle.adf_blocks.specs.HeadBlock.{IsHead}
 use Rattle.adf_blocks.specs.Sizes.{blocks}
 use Rattle.adf_volume.specs.declared.owner.Owner.{Owner}
 use Rattle.adf_volume.specs.declared.owner.Owner.TheVariants.{Head, Boot, Page, MapExt}
-use Rattle.adf_volume.specs.declared.row.Row.{Row}
 use Rattle.adf_volume.specs.Fits.{BodyFits, EntryFits}
 use Rattle.adf_volume.specs.Image.{DIR, FILE, name_of, word_in}
-use Rattle.adf_volume.specs.Keeps.{Keeps}
 use Rattle.adf_volume.specs.Layout.{EntryAt, Layout, at_node, chain_nodes, head_at, owned, owned_from}
 use Rattle.adf_volume.specs.Lists.{At, In, Spelled, numbered}
-use Rattle.adf_volume.specs.Store.{Store, owner_at}
 use Rattle.adf_volume.proofs.Finds.{chain_no, chain_yes}
 use Rattle.adf_volume.proofs.Lists.{at_below, at_some, in_right}
-use Rattle.adf_volume.proofs.Looks.{head_owner}
 use Rattle.adf_volume.proofs.Ordered.{DirNode, is_dir, ordered}
 use Rattle.adf_volume.proofs.Parts.{owned_head}
 use Rattle.adf_volume.proofs.Trees.{chain_rises, entry_at, entry_below}
+use Rattle.adf_check.specs.declared.kept.Row.{Row}
+use Rattle.adf_check.specs.Keeps.{Keeps}
+use Rattle.adf_check.specs.Store.{Store, owner_at}
+use Rattle.adf_check.specs.Reading.{TellsFit}
+use Rattle.adf_check.proofs.Looks.{head_owner}
+use Rattle.adf_check.proofs.Keeps.{keeps}
 use Rattle.adf_check.proofs.NodeSteps.{row_at}
 use Rattle.adf_check.proofs.Telling.{head_facts}
 use Rattle.adf_volume.specs.Made.{layout_in, tree_in}
-use Rattle.adf_volume.specs.Reading.{TellsFit}
-use Rattle.adf_volume.proofs.Keeps.{keeps}
 use Rattle.adf_tree.proofs.Found.{found_is}
 use Rattle.adf_check.specs.Lookup.{headed}
 

@@ -1,15 +1,15 @@
 -- The steps along the nodes.
 use Rattle.std.proofs.Common.{◌≡◌, ◌≢◌, ℕ, zero, suc, List, [], ◌∷◌, ◌<◌, length, get_or, refl, arith}
 use Rattle.adf_blocks.specs.Sizes.{blocks}
-use Rattle.adf_volume.specs.declared.row.Row.{Row}
 use Rattle.adf_volume.specs.Image.{DIR, root_of, word_in}
 use Rattle.adf_volume.specs.Lists.{At}
-use Rattle.adf_volume.specs.Reading.{IsAtSlot, IsInExts, IsInNode}
-use Rattle.adf_volume.specs.Store.{Store}
 use Rattle.adf_volume.specs.Walk.Role.{Head}
-use Rattle.adf_volume.proofs.InFiles.{enter_directory, enter_exts}
-use Rattle.adf_volume.proofs.InRows.{node_here, dir_here, file_here, root_here}
 use Rattle.adf_volume.proofs.Kept.{in_range}
+use Rattle.adf_check.specs.declared.kept.Row.{Row}
+use Rattle.adf_check.specs.Reading.{IsAtSlot, IsInExts, IsInNode}
+use Rattle.adf_check.specs.Store.{Store}
+use Rattle.adf_check.proofs.InFiles.{enter_directory, enter_exts}
+use Rattle.adf_check.proofs.InRows.{node_here, dir_here, file_here, root_here}
 use Rattle.adf_check.proofs.Bounds.{many_blocks}
 use Rattle.adf_check.specs.Image.{IsBegun}
 

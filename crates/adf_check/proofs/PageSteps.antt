@@ -1,6 +1,5 @@
 -- The steps along the bitmap pages and the bitmap extension blocks.
-use Rattle.std.proofs.Common.{◌≡◌, ℕ, suc, List, [], ◌∷◌, ◌++◌, ◌+◌, ◌-◌, ◌*◌, ◌/◌, ◌%◌, ◌<◌, ◌≤◌}
-use Rattle.std.proofs.Common.{length, set, map, sym, ap, subst, ◌∙◌, arith, Some, None}
+use Rattle.std.proofs.Common.{◌≡◌, ℕ, suc, List, [], ◌∷◌, ◌++◌, ◌+◌, ◌-◌, ◌*◌, ◌/◌, ◌%◌, ◌<◌, ◌≤◌, length, set, map, sym, ap, subst, ◌∙◌, arith, Some, None}
 use Rattle.std.proofs.lemmas.Bool.Decides.{nat_tests}
 use Rattle.std.proofs.lemmas.List.{map-append}
 use Rattle.adf_fields.specs.Words.{block}
@@ -11,13 +10,13 @@ use Rattle.adf_blocks.specs.Sizes.{blocks, pages_needed}
 use Rattle.adf_volume.specs.declared.owner.Owner.{Owner}
 use Rattle.adf_volume.specs.declared.owner.Owner.TheVariants.{Free, Page as APage, MapExt as AMapExt}
 use Rattle.adf_volume.specs.Image.{word_in}
-use Rattle.adf_volume.specs.Reading.{IsAtPage, IsBeforePage, IsListed, IsNamed, block_of_page}
-use Rattle.adf_volume.specs.Store.{Store, owner_at, stored}
 use Rattle.adf_volume.specs.Walk.{FirstFault}
 use Rattle.adf_volume.specs.Walk.Role.{MapExt, Page}
-use Rattle.adf_volume.proofs.InPages.{listed_more, map_ext_read, map_ext_state, page_by_words, page_read, page_state}
-use Rattle.adf_volume.proofs.Steps.{plain_form}
 use Rattle.adf_volume.proofs.Told.{all_told, first_told}
+use Rattle.adf_check.specs.Reading.{IsAtPage, IsBeforePage, IsListed, IsNamed, block_of_page}
+use Rattle.adf_check.specs.Store.{Store, owner_at, stored}
+use Rattle.adf_check.proofs.InPages.{listed_more, map_ext_read, map_ext_state, page_by_words, page_read, page_state}
+use Rattle.adf_check.proofs.PlainSteps.{plain_form}
 use Rattle.adf_check.proofs.Faults.{plain_claim}
 use Rattle.adf_check.proofs.Steps.{stored_is}
 use Rattle.adf_check.specs.Found.{InRange, IsClaimFault, IsTrueFault}

@@ -11,20 +11,20 @@ use Rattle.adf_tree.specs.declared.entry.Kind.{Kind}
 use Rattle.adf_tree.specs.Tree.{Tree, entry}
 use Rattle.adf_blocks.specs.Forms.{text_at}
 use Rattle.adf_blocks.specs.HeadBlock.{IsHead, body_at, head_form, meta_at}
-use Rattle.adf_volume.specs.declared.row.Row.{Row as Kept}
 use Rattle.adf_volume.specs.Demands.{AllHold, boot_demands, root_demands, told}
 use Rattle.adf_volume.specs.Fits.{BodyFits, EntryFits}
 use Rattle.adf_volume.specs.Image.{DIR, FILE, kind_of, meta_of, name_of, root_of}
-use Rattle.adf_volume.specs.Keeps.{Keeps}
 use Rattle.adf_volume.specs.Layout.{Layout, at_node}
 use Rattle.adf_volume.specs.Lists.{At}
-use Rattle.adf_volume.specs.Reading.{TellsFit}
-use Rattle.adf_volume.specs.Store.{Store}
 use Rattle.adf_volume.specs.Walk.Role.{Head}
-use Rattle.adf_volume.proofs.InRows.{node_here}
 use Rattle.adf_volume.proofs.Kept.{kept}
 use Rattle.adf_volume.proofs.Lists.{all_append, at_some}
 use Rattle.adf_volume.proofs.Trees.{entry_is_at}
+use Rattle.adf_check.specs.declared.kept.Row.{Row as Kept}
+use Rattle.adf_check.specs.Keeps.{Keeps}
+use Rattle.adf_check.specs.Reading.{TellsFit}
+use Rattle.adf_check.specs.Store.{Store}
+use Rattle.adf_check.proofs.InRows.{node_here}
 use Rattle.adf_check.proofs.NodeSteps.{row_at}
 use Rattle.adf_check.specs.Image.{IsBegun}
 use Rattle.adf_check.specs.Rows.{BodyTold, EntryTold, IsTold, row_body, row_in}

@@ -6,8 +6,8 @@ use Rattle.adf_tree.specs.NameSet.{has}
 use Rattle.adf_blocks.specs.declared.cause.Cause.TheVariants.{NoMemory, OutOfRange, Taken}
 use Rattle.adf_volume.specs.declared.owner.Owner.{Owner}
 use Rattle.adf_volume.specs.declared.owner.Owner.TheVariants.{Free}
-use Rattle.adf_volume.specs.Reading.{IsRight}
-use Rattle.adf_volume.specs.Store.{Store, owner_at}
+use Rattle.adf_check.specs.Reading.{IsRight}
+use Rattle.adf_check.specs.Store.{Store, owner_at}
 use Rattle.adf_check.specs.Checks.{fault}
 use Rattle.adf_check.specs.Owners.{owned_count}
 use Rattle.adf_check.specs.declared.fault.Fault.{Fault}

@@ -1,3 +1,7 @@
+pub mod Cursor
+pub mod Store
+pub mod Reading
+pub mod Keeps
 pub mod Owners
 pub mod Checks
 pub mod Image
@@ -10,3 +14,4 @@ pub mod Rows
 pub mod Lookup
 pub mod Pieces
 pub mod Rebuild
+pub mod Samples

@@ -1,7 +1,7 @@
 -- The bitmap pages that were read.
 use Rattle.std.specs.Prelude.{◌≡◌, ℕ, List, ◌+◌, ◌-◌, ◌%◌, ◌==◌, cond, nat_lt, map}
 use Rattle.adf_fields.specs.Words.{block}
-use Rattle.adf_volume.specs.Reading.{IsListed}
+use Rattle.adf_check.specs.Reading.{IsListed}
 
 -- the word that names page i, in the root or in a bitmap extension block
 abbrev pub index_of_page : ℕ → ℕ

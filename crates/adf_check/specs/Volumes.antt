@@ -4,12 +4,12 @@ use Rattle.adf_tree.specs.declared.entry.Entry.{Entry}
 use Rattle.adf_tree.specs.declared.entry.Stamps.{Stamps}
 use Rattle.adf_tree.specs.Tree.{Tree, is_dir_body}
 use Rattle.adf_blocks.specs.Sizes.{blocks}
-use Rattle.adf_volume.specs.declared.row.Row.{Row}
 use Rattle.adf_volume.specs.Image.{DIR, label_of, root_of, stamps_of, word_in}
-use Rattle.adf_volume.specs.Keeps.{Keeps}
 use Rattle.adf_volume.specs.Layout.{Layout, owned}
-use Rattle.adf_volume.specs.Reading.{TellsFit}
-use Rattle.adf_volume.specs.Store.{Store}
+use Rattle.adf_check.specs.declared.kept.Row.{Row}
+use Rattle.adf_check.specs.Keeps.{Keeps}
+use Rattle.adf_check.specs.Reading.{TellsFit}
+use Rattle.adf_check.specs.Store.{Store}
 use Rattle.adf_check.specs.declared.checked.Counts.{Counts}
 
 -- an image with what was read of it

@@ -2,8 +2,8 @@
 
 ghost use Rattle.std.specs.Prelude.{◌≡◌, ◌≤◌, ◌<◌, ◌+◌, ◌↔◌, IsTrue, length, OnOk, IfErr};
 ghost use Rattle.adf_blocks.specs.Sizes.{blocks, pages_needed};
-ghost use Rattle.adf_volume.specs.Reading.{IsMapped, IsRead, TellsFit};
-ghost use Rattle.adf_volume.specs.Store.{owner_at};
+ghost use Rattle.adf_check.specs.Reading.{IsMapped, IsRead, TellsFit};
+ghost use Rattle.adf_check.specs.Store.{owner_at};
 ghost use Rattle.adf_check.specs.Found.{IsTrueFault, store_of};
 ghost use Rattle.adf_check.specs.Image.{IsBegun};
 ghost use Rattle.adf_check.specs.Pages.{AreListed};

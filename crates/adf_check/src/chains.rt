@@ -3,16 +3,17 @@
 ghost use Rattle.std.specs.Prelude.{◌≡◌, ◌≢◌, ◌≤◌, ◌<◌, ◌+◌, ◌^◌, OnOk, IfOk, IfErr};
 ghost use Rattle.adf_blocks.specs.Sizes.{blocks};
 ghost use Rattle.adf_volume.specs.Image.{word_in};
-ghost use Rattle.adf_volume.specs.Reading.{IsAtNode, IsAtSlot, IsInChain};
+ghost use Rattle.adf_check.specs.Reading.{IsAtNode, IsAtSlot, IsInChain};
 ghost use Rattle.adf_check.specs.Found.{IsFurther, IsTrueFault, left, sees_of, store_of};
 
 use crate::claims::claim_named;
 use crate::fault::{Fault, fault_at};
 use crate::found::Found;
 use crate::image::Image;
+use crate::kept::Row;
 use adf_blocks::{Cause, FIRST_SLOT, read_head};
 use adf_tree::{NameSet, Node};
-use adf_volume::{Owner, Row};
+use adf_volume::Owner;
 
 /// The chain of a slot of a directory, whose block is `up`.
 #[derive(Drop)]

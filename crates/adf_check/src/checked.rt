@@ -14,6 +14,7 @@ ghost use Rattle.adf_check.specs.Volumes.{IsChecked, StandsFor, counts_of, is_di
 
 use crate::found::Found;
 use crate::image::Image;
+use crate::kept::Row as Kept;
 use crate::lookup::find;
 use crate::pieces::{Pieces, joined, pieces_of};
 use crate::rebuild::tree_of;
@@ -21,7 +22,7 @@ use crate::row::{Row, row_of};
 use adf_blocks::{Head, SECONDARY_TYPE, ST_DIR};
 use adf_fields::NoMemory;
 use adf_tree::{Kind, Label, Name, Node, Stamps};
-use adf_volume::{Owner, Row as Kept};
+use adf_volume::Owner;
 use std::alloc::Global;
 use std::marker::Model;
 

@@ -1,7 +1,7 @@
 // Claims of blocks that are named by words.
 
 ghost use Rattle.std.specs.Prelude.{◌≡◌, ◌+◌, ◌≤◌, OnOk, IfErr, length, set, true};
-ghost use Rattle.adf_volume.specs.Store.{owner_at};
+ghost use Rattle.adf_check.specs.Store.{owner_at};
 ghost use Rattle.adf_check.specs.Found.{InRange, IsClaimFault};
 ghost use Rattle.adf_check.specs.Owners.{is_part, owned_count};
 

@@ -3,7 +3,7 @@
 ghost use Rattle.std.specs.Prelude.{◌≡◌, ◌≢◌, ◌≤◌, ◌<◌, OnOk, IfOk, IfErr};
 ghost use Rattle.adf_blocks.specs.Sizes.{blocks};
 ghost use Rattle.adf_volume.specs.Image.{word_in};
-ghost use Rattle.adf_volume.specs.Reading.{IsInDatas, IsInExts};
+ghost use Rattle.adf_check.specs.Reading.{IsInDatas, IsInExts};
 ghost use Rattle.adf_check.specs.Found.{IsFurther, IsTrueFault, left, store_of};
 ghost use Rattle.adf_check.specs.Image.{IsBegun};
 

@@ -2,13 +2,14 @@
 
 ghost use Rattle.std.specs.Prelude.{IfOk};
 ghost use Rattle.adf_volume.specs.Image.{root_of};
-ghost use Rattle.adf_volume.specs.Reading.{IsBeforePage};
+ghost use Rattle.adf_check.specs.Reading.{IsBeforePage};
 ghost use Rattle.adf_check.specs.Found.{store_of};
 
 use crate::image::Image;
+use crate::kept::{Row, Start};
 use crate::owners::Owners;
 use adf_fields::NoMemory;
-use adf_volume::{Owner, Row, Start};
+use adf_volume::Owner;
 use std::alloc::Global;
 
 /// What the checker has read so far: the owner of each block, a row for each entry, and for each node, the root among

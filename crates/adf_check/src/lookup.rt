@@ -4,11 +4,11 @@ ghost use Rattle.std.specs.Prelude.{◌≡◌, ◌≢◌, ◌≤◌, ◌<◌, �
 ghost use Rattle.adf_tree.specs.Tree.{Tree, child, find_from};
 ghost use Rattle.adf_blocks.specs.Sizes.{blocks};
 ghost use Rattle.adf_volume.specs.Image.{word_in};
-ghost use Rattle.adf_volume.specs.Keeps.{Keeps};
 ghost use Rattle.adf_volume.specs.Layout.{Layout, at_node, chain_nodes};
 ghost use Rattle.adf_volume.specs.Lists.{Spelled};
-ghost use Rattle.adf_volume.specs.Reading.{TellsFit};
-ghost use Rattle.adf_volume.specs.Store.{owner_at};
+ghost use Rattle.adf_check.specs.Keeps.{Keeps};
+ghost use Rattle.adf_check.specs.Reading.{TellsFit};
+ghost use Rattle.adf_check.specs.Store.{owner_at};
 ghost use Rattle.adf_check.specs.Found.{store_of};
 ghost use Rattle.adf_check.specs.Lookup.{headed};
 

@@ -3,11 +3,11 @@
 ghost use Rattle.std.specs.Prelude.{◌≡◌, ◌≤◌, ◌<◌, ◌+◌, ◌^◌, [], ◌∷◌, OnOk, IfErr, length};
 ghost use Rattle.adf_blocks.specs.Sizes.{blocks};
 ghost use Rattle.adf_volume.specs.Image.{word_in};
-ghost use Rattle.adf_volume.specs.Reading.{IsAtNode, IsInExts, IsInNode, IsRead};
+ghost use Rattle.adf_check.specs.Reading.{IsAtNode, IsInExts, IsInNode, IsRead};
+ghost use Rattle.adf_check.specs.Store.{entered};
 ghost use Rattle.adf_check.specs.Checks.{fault};
 ghost use Rattle.adf_check.specs.Found.{IsFurther, IsTrueFault, store_of};
 ghost use Rattle.adf_check.specs.Image.{IsBegun};
-ghost use Rattle.adf_volume.specs.Store.{entered};
 
 use crate::chains::read_directory;
 use crate::datas::read_datas;
@@ -15,9 +15,9 @@ use crate::exts::read_exts;
 use crate::fault::{Fault, fault_at};
 use crate::found::Found;
 use crate::image::Image;
+use crate::kept::Start;
 use adf_blocks::{Cause, SECONDARY_TYPE, ST_DIR};
 use adf_tree::{NameSet, Node};
-use adf_volume::Start;
 use std::alloc::Global;
 
 // Begins the next node: its blocks stand behind those that were found.

@@ -1,7 +1,7 @@
 // Who owns each block of a volume.
 
 ghost use Rattle.std.specs.Prelude.{◌≡◌, ◌≢◌, ◌≤◌, ◌<◌, ◌+◌, ◌-◌, ◌∷◌, ◌++◌, ◌↔◌, [], length, replicate, true, false, IsOk, IfOk, IfErr, OnOk, OnErr, slice_set};
-ghost use Rattle.adf_volume.specs.Store.{owner_at};
+ghost use Rattle.adf_check.specs.Store.{owner_at};
 ghost use Rattle.adf_check.specs.Owners.{is_part, owned_count};
 
 use adf_blocks::Cause;

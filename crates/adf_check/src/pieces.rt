@@ -7,9 +7,9 @@ ghost use Rattle.adf_tree.specs.Tree.{Tree, entry};
 ghost use Rattle.adf_tree.specs.declared.entry.Kind.TheVariants.{Ffs};
 ghost use Rattle.adf_blocks.specs.Sizes.{blocks};
 ghost use Rattle.adf_volume.specs.Image.{DIR, count, held, kind_of, piece, pieces, word_in};
-ghost use Rattle.adf_volume.specs.Keeps.{Keeps};
 ghost use Rattle.adf_volume.specs.Layout.{Layout, at_node, datas_of};
-ghost use Rattle.adf_volume.specs.Reading.{TellsFit};
+ghost use Rattle.adf_check.specs.Keeps.{Keeps};
+ghost use Rattle.adf_check.specs.Reading.{TellsFit};
 ghost use Rattle.adf_check.specs.Found.{store_of};
 ghost use Rattle.adf_check.specs.Pieces.{AreInside, bytes_of};
 

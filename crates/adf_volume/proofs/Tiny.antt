@@ -11,7 +11,7 @@ use Rattle.adf_volume.specs.Demands.{AllHold, boot_demands, root_demands, page_d
 use Rattle.adf_volume.specs.Layout.{Layout, EntryAt, at_node, owned}
 use Rattle.adf_volume.specs.Fits.{Fits, IsFree}
 use Rattle.adf_volume.specs.Samples.{tiny, tiny_root, tiny_tree, tiny_layout, tiny_freed}
-use Rattle.adf_volume.proofs.Strolls.{zero_at}
+use Rattle.adf_volume.proofs.Zeros.{zero_at}
 use Rattle.adf_volume.proofs.Lists.{at_some, in_left, in_numbered}
 use Rattle.adf_volume.specs.declared.owner.Owner.TheVariants.{Page}
 

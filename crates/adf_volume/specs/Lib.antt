@@ -6,8 +6,4 @@ pub mod Fits
 pub mod Walk
 pub mod Parts
 pub mod Made
-pub mod Cursor
-pub mod Store
-pub mod Reading
-pub mod Keeps
 pub mod Samples

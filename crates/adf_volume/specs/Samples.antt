@@ -1,6 +1,5 @@
 -- Small images, to try the definitions on.
 use Rattle.std.specs.Prelude.{ℕ, List, [], ◌∷◌, ◌++◌, replicate}
-use Rattle.std.specs.List.{concat, flat_map}
 use Rattle.adf_fields.specs.Words.{with_bytes, with_word}
 use Rattle.adf_fields.specs.declared.dates.Stamp.{Stamp}
 use Rattle.adf_tree.specs.declared.entry.Kind.TheVariants.{Ffs}
@@ -38,32 +37,14 @@ abbrev pub block_with : List (ℕ × ℕ) → List ℕ
 block_with [] = replicate 512 0
 block_with (x ∷ xs) = with_word (block_with xs) x.0 x.1
 
--- an empty FFS volume of 6 blocks: the root is block 3, and its page, block 4, tells block 2 as free and block 5 as in use
-unfoldable pub empty_lost : List ℕ
-empty_lost = flat_map block_with (
-    ((0, 0x444F5301) ∷ []) ∷ [] ∷ []
-    ∷ ((0, 2) ∷ (3, 0x48) ∷ (5, 0xFFFFFFB2) ∷ (78, 0xFFFFFFFF) ∷ (79, 4) ∷ (127, 1) ∷ [])
-    ∷ ((0, 0xFFFFFFFF) ∷ (1, 1) ∷ [])
-    ∷ [] ∷ []
-    )
-
 -- the header of a file `a` of 489 bytes at block 2, in slot 6 of the root at block 8
-abbrev head_of_a : List ℕ
+abbrev pub head_of_a : List ℕ
 head_of_a = block_with ((0, 2) ∷ (1, 2) ∷ (2, 2) ∷ (4, 3) ∷ (5, 0xFE9EFE02) ∷ (76, 4) ∷ (77, 3) ∷ (81, 489) ∷ (108, 0x01610000) ∷ (125, 8) ∷ (127, 0xFFFFFFFD) ∷ [])
 
 -- its first data block, block 3, with 488 bytes 0x41
-abbrev first_of_a : List ℕ
+abbrev pub first_of_a : List ℕ
 first_of_a = with_bytes (block_with ((0, 8) ∷ (1, 2) ∷ (2, 1) ∷ (3, 488) ∷ (4, 4) ∷ (5, 0xE6E6E50F) ∷ [])) 24 (replicate 488 0x41)
 
 -- its second one, block 4, with one more
-abbrev second_of_a : List ℕ
+abbrev pub second_of_a : List ℕ
 second_of_a = block_with ((0, 8) ∷ (1, 2) ∷ (2, 2) ∷ (3, 1) ∷ (5, 0xBEFFFFF3) ∷ (6, 0x41000000) ∷ [])
-
--- an OFS volume of 16 blocks with this file: the root is block 8, and its page, block 9, tells blocks 2 to 4, 8, 9 and 12 as in use
-unfoldable pub file_lost : List ℕ
-file_lost = concat (
-    block_with ((0, 0x444F5300) ∷ []) ∷ block_with [] ∷ head_of_a ∷ first_of_a ∷ second_of_a ∷ block_with [] ∷ block_with [] ∷ block_with []
-    ∷ block_with ((0, 2) ∷ (3, 0x48) ∷ (5, 0xFFFFFFAB) ∷ (12, 2) ∷ (78, 0xFFFFFFFF) ∷ (79, 9) ∷ (127, 1) ∷ [])
-    ∷ block_with ((0, 0xFFFFC4C8) ∷ (1, 0x3B38) ∷ [])
-    ∷ block_with [] ∷ block_with [] ∷ block_with [] ∷ block_with [] ∷ block_with [] ∷ block_with [] ∷ []
-    )

@@ -1,4 +1,4 @@
--- Walks of an image: what the checker reads, in its order, told by relations over the whole list.
+-- Walks of an image: its blocks with their roles, as they come to light one after the other, told by relations over the whole list.
 use Rattle.std.specs.Prelude.{◌≡◌, ℕ, List, [], ◌∷◌, ◌⊎◌, ◌+◌, ◌-◌, ◌*◌, ◌/◌, ◌%◌, ◌<◌, ◌≤◌, ◌≢◌, cond, ◌==◌, ◌++◌, nat_lt}
 use Rattle.std.proofs.Common.{zero, suc}
 use Rattle.adf_blocks.specs.declared.cause.Cause.{Cause}

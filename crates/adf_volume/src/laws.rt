@@ -17,9 +17,6 @@ ghost use Rattle.adf_volume.specs.Fits.{Fits};
 ghost use Rattle.adf_volume.specs.Walk.{FirstFault, Has, IsDue, IsWalk, IsWhole, NoCause, Role, bitmap_demands};
 ghost use Rattle.adf_volume.specs.Parts.{Part};
 ghost use Rattle.adf_volume.specs.Made.{layout_in, tree_in};
-ghost use Rattle.adf_volume.specs.Store.{Store};
-ghost use Rattle.adf_volume.specs.Reading.{TellsFit};
-ghost use Rattle.adf_volume.specs.Keeps.{Keeps};
 
 /// The demands of a form all hold exactly where it has no first cause; the first that fails is its first cause.
 pub fn told_form()
@@ -68,11 +65,6 @@ pub fn one_fault()
 pub fn chains_of_numbers()
     ensures entries { (t : Tree) (p s : ℕ) → map (λ n. entry t.entries n) (chain_nodes t p s) ≡ map Some (chain t.entries p s) }
     ensures numbers { (t : Tree) (n : ℕ) (e : Entry) → EntryAt t n e ↔ (entry t.entries n ≡ Some e) }
-{}
-
-/// What a reader keeps of a whole walk tells of the one tree and layout that fit.
-pub fn what_is_kept_tells()
-    ensures { (image : List ℕ) (store : Store) → TellsFit image store → (t : Tree) × (l : Layout) × Keeps image store t l }
 {}
 
 /// The pieces of a file, one after the other, are its content.

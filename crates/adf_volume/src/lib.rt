@@ -3,13 +3,11 @@
 
 mod laws;
 mod owner;
-mod row;
 mod samples;
 
 pub use crate::laws::{
     agreement, chains_of_numbers, completeness, none_fits, one_fault, one_tree, pieces_are_content,
-    told_form, what_is_kept_tells, what_is_told_fits,
+    told_form, what_is_told_fits,
 };
 pub use crate::owner::Owner;
-pub use crate::row::{Row, Start};
-pub use crate::samples::{freed_page_fits_nothing, lost_block_is_first_fault, tiny_volume_fits};
+pub use crate::samples::{freed_page_fits_nothing, tiny_volume_fits};

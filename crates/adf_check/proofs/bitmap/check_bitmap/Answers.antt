@@ -1,6 +1,6 @@
 use Rattle.std.proofs.Common.{◌≡◌, ◌≤◌, ◌∙◌, arith}
-use Rattle.adf_volume.proofs.InBitmap.{fits_alone}
 use Rattle.adf_check.specs.Found.{store_of}
+use Rattle.adf_check.proofs.InBitmap.{fits_alone}
 use Rattle.adf_check.proofs.bitmap.check_bitmap.Goals as goal
 
 pub returns-clause-fits : goal.returns-clause-fits

@@ -1,4 +1,4 @@
-use Rattle.adf_volume.specs.Reading.{IsMapped}
+use Rattle.adf_check.specs.Reading.{IsMapped}
 use Rattle.adf_check.specs.Found.{store_of}
 use Rattle.adf_check.proofs.bitmap.check_bitmap.Given as goal
 

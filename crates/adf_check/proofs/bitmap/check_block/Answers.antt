@@ -2,8 +2,8 @@ use Rattle.std.proofs.Common.{◌≡◌, ◌≢◌, ◌-◌, ◌/◌, ◌%◌, g
 use Rattle.std.specs.Prelude.{◌↔◌}
 use Rattle.adf_blocks.specs.PageBlock.{IsFreeBit}
 use Rattle.adf_volume.specs.declared.owner.Owner.TheVariants.{Free}
-use Rattle.adf_volume.specs.Store.{owner_at}
 use Rattle.adf_blocks.specs.declared.cause.Cause.TheVariants.{LostBlock, OwnedFree}
+use Rattle.adf_check.specs.Store.{owner_at}
 use Rattle.adf_check.specs.Found.{store_of}
 use Rattle.adf_check.proofs.Faults.{first_fault}
 use Rattle.adf_check.proofs.BitmapSteps.{block_free, block_lost, block_owned_free, block_used}

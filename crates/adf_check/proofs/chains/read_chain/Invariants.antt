@@ -1,4 +1,4 @@
-use Rattle.adf_volume.specs.Reading.{IsInChain}
+use Rattle.adf_check.specs.Reading.{IsInChain}
 use Rattle.adf_check.specs.Found.{IsFurther, left, sees_of, store_of}
 use Rattle.adf_check.proofs.chains.read_chain.Given as goal
 

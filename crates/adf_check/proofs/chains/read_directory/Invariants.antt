@@ -1,4 +1,4 @@
-use Rattle.adf_volume.specs.Reading.{IsAtSlot}
+use Rattle.adf_check.specs.Reading.{IsAtSlot}
 use Rattle.adf_check.specs.Found.{IsFurther, store_of}
 use Rattle.adf_check.proofs.chains.read_directory.Given as goal
 

@@ -7,9 +7,9 @@ use Rattle.adf_tree.specs.declared.entry.Kind.{Kind}
 use Rattle.adf_blocks.specs.Forms.{first_cause, text_at}
 use Rattle.adf_blocks.specs.HeadBlock.{head_form}
 use Rattle.adf_volume.specs.declared.owner.Owner.TheVariants.{Head as AHead}
-use Rattle.adf_volume.specs.declared.row.Row.{Row}
 use Rattle.adf_volume.specs.Image.{name_of, word_in}
-use Rattle.adf_volume.specs.Reading.{IsInChain}
+use Rattle.adf_check.specs.declared.kept.Row.{Row}
+use Rattle.adf_check.specs.Reading.{IsInChain}
 use Rattle.adf_check.specs.Found.{IsClaimFault, IsTrueFault, sees_of, store_of}
 use Rattle.adf_check.specs.Owners.{owned_count}
 use Rattle.adf_blocks.specs.declared.cause.Cause.TheVariants.{SameName}

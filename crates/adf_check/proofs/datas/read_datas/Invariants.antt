@@ -1,4 +1,4 @@
-use Rattle.adf_volume.specs.Reading.{IsInDatas}
+use Rattle.adf_check.specs.Reading.{IsInDatas}
 use Rattle.adf_check.specs.Found.{IsFurther, store_of}
 use Rattle.adf_check.proofs.datas.read_datas.Given as goal
 

@@ -2,8 +2,8 @@ use Rattle.std.proofs.Common.{◌≡◌, ◌+◌, ◌*◌, ◌/◌, ◌++◌, �
 use Rattle.std.specs.Prelude.{IfErr, slice_index}
 use Rattle.adf_volume.specs.Demands.{AllHold, FirstFails, data_demands}
 use Rattle.adf_volume.specs.Image.{held, kind_of, word_in}
-use Rattle.adf_volume.specs.Reading.{IsInDatas}
 use Rattle.adf_volume.specs.Walk.{data_count}
+use Rattle.adf_check.specs.Reading.{IsInDatas}
 use Rattle.adf_check.specs.Files.{next_of}
 use Rattle.adf_check.specs.Found.{IsClaimFault, IsTrueFault, store_of}
 use Rattle.adf_check.specs.Owners.{owned_count}

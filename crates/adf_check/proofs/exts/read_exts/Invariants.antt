@@ -1,4 +1,4 @@
-use Rattle.adf_volume.specs.Reading.{IsInExts}
+use Rattle.adf_check.specs.Reading.{IsInExts}
 use Rattle.adf_check.specs.Found.{IsFurther, left, store_of}
 use Rattle.adf_check.proofs.exts.read_exts.Given as goal
 

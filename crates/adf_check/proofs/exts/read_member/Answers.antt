@@ -5,7 +5,7 @@ use Rattle.adf_blocks.specs.Forms.{first_cause}
 use Rattle.adf_blocks.specs.ExtBlock.{ext_form}
 use Rattle.adf_volume.specs.declared.owner.Owner.TheVariants.{Ext as AnExt}
 use Rattle.adf_volume.specs.Image.{word_in}
-use Rattle.adf_volume.specs.Reading.{IsInExts}
+use Rattle.adf_check.specs.Reading.{IsInExts}
 use Rattle.adf_check.specs.Found.{IsClaimFault, IsTrueFault, store_of}
 use Rattle.adf_check.specs.Owners.{owned_count}
 use Rattle.adf_check.proofs.Faults.{first_fault}

@@ -1,7 +1,7 @@
 use Rattle.std.proofs.Common.{◌≡◌, ◌≤◌, ◌<◌, ◌-◌, ℕ, suc, length, ap, subst, sym, ◌∙◌, arith}
 use Rattle.adf_blocks.specs.Sizes.{blocks}
-use Rattle.adf_volume.specs.declared.row.Row.{Row}
 use Rattle.adf_volume.specs.Layout.{at_node}
+use Rattle.adf_check.specs.declared.kept.Row.{Row}
 use Rattle.adf_check.specs.Found.{store_of}
 use Rattle.adf_check.proofs.Counting.{rows_inside}
 use Rattle.adf_check.proofs.Following.{node_of_row}

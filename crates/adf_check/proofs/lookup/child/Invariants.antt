@@ -1,6 +1,6 @@
 use Rattle.adf_tree.specs.Tree.{Tree}
-use Rattle.adf_volume.specs.Keeps.{Keeps}
 use Rattle.adf_volume.specs.Layout.{Layout}
+use Rattle.adf_check.specs.Keeps.{Keeps}
 use Rattle.adf_check.specs.Found.{store_of}
 use Rattle.adf_check.proofs.Following.{OnChain, chain_left}
 use Rattle.adf_check.proofs.lookup.child.Given as goal

@@ -1,7 +1,7 @@
 use Rattle.std.proofs.Common.{◌≡◌, ◌≤◌, drop, length}
 use Rattle.adf_tree.specs.Tree.{Tree, find_from}
-use Rattle.adf_volume.specs.Keeps.{Keeps}
 use Rattle.adf_volume.specs.Layout.{Layout}
+use Rattle.adf_check.specs.Keeps.{Keeps}
 use Rattle.adf_check.specs.Found.{store_of}
 use Rattle.adf_check.proofs.lookup.find.Given as goal
 

@@ -1,8 +1,8 @@
 use Rattle.std.proofs.Common.{◌≡◌, ◌≢◌, ◌-◌, ◌<◌, ◌∷◌, [], ℕ, suc, length, get_or, ap, subst, sym, ◌∙◌, arith}
 use Rattle.adf_blocks.specs.Sizes.{blocks}
-use Rattle.adf_volume.specs.declared.row.Row.{Row}
 use Rattle.adf_volume.specs.Image.{DIR, word_in}
-use Rattle.adf_volume.specs.Reading.{IsAtSlot, IsInExts, IsInNode}
+use Rattle.adf_check.specs.declared.kept.Row.{Row}
+use Rattle.adf_check.specs.Reading.{IsAtSlot, IsInExts, IsInNode}
 use Rattle.adf_check.specs.Found.{store_of}
 use Rattle.adf_check.proofs.NodeSteps.{directory_begins, file_begins, head_inside, root_begins}
 use Rattle.adf_check.proofs.nodes.read_node.Goals as goal

@@ -1,5 +1,5 @@
 use Rattle.std.proofs.Common.{suc, ◌-◌, ◌≤◌, length}
-use Rattle.adf_volume.specs.Reading.{IsAtNode}
+use Rattle.adf_check.specs.Reading.{IsAtNode}
 use Rattle.adf_check.specs.Found.{left_with_rows, store_of}
 use Rattle.adf_check.proofs.nodes.read_nodes.Given as goal
 

@@ -1,6 +1,6 @@
 use Rattle.std.proofs.Common.{◌<◌}
 use Rattle.adf_blocks.specs.Sizes.{blocks}
-use Rattle.adf_volume.specs.Reading.{IsBeforePage}
+use Rattle.adf_check.specs.Reading.{IsBeforePage}
 use Rattle.adf_check.specs.Found.{store_of}
 use Rattle.adf_check.specs.Pages.{AreListed}
 use Rattle.adf_check.proofs.pages.read_pages.Given as goal

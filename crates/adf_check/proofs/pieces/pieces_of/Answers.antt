@@ -3,10 +3,10 @@ use Rattle.std.specs.List.{All, concat}
 use Rattle.adf_volume.specs.Image.{DIR, count, kind_of, pieces, word_in}
 use Rattle.adf_volume.specs.Layout.{datas_of}
 use Rattle.adf_volume.specs.Made.{layout_in, tree_in}
-use Rattle.adf_volume.proofs.Keeps.{keeps}
 use Rattle.adf_volume.proofs.Pieces.{pieces_length}
 use Rattle.adf_check.specs.Found.{store_of}
 use Rattle.adf_check.specs.Pieces.{AreInside}
+use Rattle.adf_check.proofs.Keeps.{keeps}
 use Rattle.adf_check.proofs.Bytes.{data_count_is, dir_bytes, file_bytes, file_inside, file_some}
 use Rattle.adf_check.proofs.pieces.pieces_of.Goals as goal
 

@@ -1,5 +1,5 @@
 use Rattle.std.proofs.Common.{ap, ◌∙◌, Some}
-use Rattle.adf_volume.specs.Store.{owner_at}
+use Rattle.adf_check.specs.Store.{owner_at}
 use Rattle.adf_check.specs.Volumes.{Volume}
 use Rattle.adf_check.proofs.checked.Checked.owner.Goals as goal
 

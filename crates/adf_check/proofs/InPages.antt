@@ -7,14 +7,14 @@ use Rattle.adf_blocks.specs.Sizes.{blocks, pages_needed}
 use Rattle.adf_volume.specs.Demands.{AllHold, boot_demands, root_demands, page_demands}
 use Rattle.adf_volume.specs.Walk.{Role, Has, NamesPage, Asks, IsWalk}
 use Rattle.adf_volume.specs.Walk.Role.{Page, MapExt}
-use Rattle.adf_volume.specs.Cursor.{IsUpTo}
-use Rattle.adf_volume.specs.Reading.{IsNamed, IsBeforePage, IsAtPage, map_ext_block, block_of_page, IsListed, IsAtNode}
-use Rattle.adf_volume.specs.Store.{Store, owner_at, stored}
 use Rattle.adf_volume.proofs.Lists.{at_snoc, snoc_length}
 use Rattle.adf_volume.proofs.Kept.{kept}
-use Rattle.adf_volume.proofs.Cursors.{end_all_pages}
 use Rattle.adf_volume.specs.declared.owner.Owner.TheVariants.{Free}
-use Rattle.adf_volume.proofs.Steps.{plain_upto, plain_tells, cond_yes, cond_no, lt_test, ge_test}
+use Rattle.adf_check.specs.Cursor.{IsUpTo}
+use Rattle.adf_check.specs.Reading.{IsNamed, IsBeforePage, IsAtPage, map_ext_block, block_of_page, IsListed, IsAtNode}
+use Rattle.adf_check.specs.Store.{Store, owner_at, stored}
+use Rattle.adf_check.proofs.Cursors.{end_all_pages}
+use Rattle.adf_check.proofs.PlainSteps.{plain_upto, plain_tells, cond_yes, cond_no, lt_test, ge_test}
 
 -- pages and bitmap extension blocks
 module _ (image : List ℕ) (w : List (Role × ℕ)) (k a i : ℕ) where

@@ -8,14 +8,14 @@ use Rattle.adf_blocks.specs.Sizes.{blocks}
 use Rattle.adf_volume.specs.Demands.{Demand, AllHold, boot_demands, root_demands, ext_demands, data_demands}
 use Rattle.adf_volume.specs.Walk.{Role, heads, DirAt, FileAt, MemberAt, data_count, Asks, ext_count, Enough, form_demands, node_block, member_block, next_data, IsWalk, IsWhole}
 use Rattle.adf_volume.specs.Walk.Role.{Ext, Data}
-use Rattle.adf_volume.specs.Reading.{IsNamed, IsAtNode, IsAtSlot, NextExt, IsInExts, IsInDatas, IsInNode}
-use Rattle.adf_volume.specs.Store.{Store, owner_at, Tells, stored}
 use Rattle.adf_volume.proofs.Lists.{at_some, at_snoc, snoc_length, at_index}
 use Rattle.adf_volume.proofs.Walks.{file_is, member_is, one_block, one_head, count_own, ext_counted}
 use Rattle.adf_volume.proofs.Kept.{file_up, member_up}
-use Rattle.adf_volume.proofs.Cursors.{enter_dir, end_dir, enter_file, end_exts, end_datas, end_all}
 use Rattle.adf_volume.specs.declared.owner.Owner.TheVariants.{Free}
-use Rattle.adf_volume.proofs.Steps.{less, plain_upto, plain_tells, cond_yes, cond_no, lt_test, ge_test}
+use Rattle.adf_check.specs.Reading.{IsNamed, IsAtNode, IsAtSlot, NextExt, IsInExts, IsInDatas, IsInNode}
+use Rattle.adf_check.specs.Store.{Store, owner_at, Tells, stored}
+use Rattle.adf_check.proofs.Cursors.{enter_dir, end_dir, enter_file, end_exts, end_datas, end_all}
+use Rattle.adf_check.proofs.PlainSteps.{less, plain_upto, plain_tells, cond_yes, cond_no, lt_test, ge_test}
 
 -- nodes
 pub enter_directory : (image : List ℕ) (store : Store) (n a : ℕ) → IsInNode image store n → ((w : List (Role × ℕ)) → Tells image store w → IsWalk image w → DirAt image w n a) → IsAtSlot image store n a 0

@@ -6,10 +6,10 @@ use Rattle.adf_volume.specs.declared.owner.Owner.{Owner}
 use Rattle.adf_volume.specs.declared.owner.Owner.TheVariants.{Page, MapExt, Head, Ext, Data}
 use Rattle.adf_volume.specs.Lists.{At, In, numbered}
 use Rattle.adf_volume.specs.Layout.{Layout, EntryAt, at_node, head_at, exts_of, datas_of, owned_from}
-use Rattle.adf_volume.specs.Store.{Store, owner_at}
-use Rattle.adf_volume.specs.Keeps.{Keeps}
 use Rattle.adf_volume.proofs.Lists.{at_below, in_right}
 use Rattle.adf_volume.proofs.Parts.{owned_head, owned_ext, owned_data}
+use Rattle.adf_check.specs.Store.{Store, owner_at}
+use Rattle.adf_check.specs.Keeps.{Keeps}
 
 module _ (image : List ℕ) (store : Store) (t : Tree) (l : Layout) (keeps : Keeps image store t l) where
   in_places : (o : Owner) (b : ℕ) → In (owned_from 1 l.places) (o, b) → owner_at store.owners b ≡ o

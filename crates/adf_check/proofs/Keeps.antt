@@ -7,19 +7,19 @@ use Rattle.adf_volume.specs.Layout.{exts_of, datas_of}
 use Rattle.adf_volume.specs.Walk.Role.{Ext, Data}
 use Rattle.adf_volume.specs.Parts.{owner_of}
 use Rattle.adf_volume.specs.Made.{tree_in, layout_in, exts_in, datas_in}
-use Rattle.adf_volume.specs.declared.row.Row.{Row}
-use Rattle.adf_volume.specs.Store.{Store, owner_at, all_exts, all_datas, exts_before, datas_before}
-use Rattle.adf_volume.specs.Reading.{TellsFit}
-use Rattle.adf_volume.specs.Keeps.{OwnersFit, RowsFit, StartsFit, Keeps}
 use Rattle.adf_volume.proofs.Lists.{at_fun, same_list}
 use Rattle.adf_volume.proofs.Agree.{agreement}
 use Rattle.adf_volume.proofs.Whole.{part_walked}
 use Rattle.adf_volume.proofs.Made.{entries_length, has_ext, ext_has, has_data, data_has}
 use Rattle.adf_volume.proofs.Sound.{head_is, entry_is}
 use Rattle.adf_volume.proofs.OwnedIn.{owned_has, is_owned}
-use Rattle.adf_volume.proofs.InRows.{node_here}
-use Rattle.adf_volume.proofs.Counts.{walk_length}
-use Rattle.adf_volume.proofs.Flat.{exts_stored, datas_stored}
+use Rattle.adf_check.specs.declared.kept.Row.{Row}
+use Rattle.adf_check.specs.Store.{Store, owner_at, all_exts, all_datas, exts_before, datas_before}
+use Rattle.adf_check.specs.Reading.{TellsFit}
+use Rattle.adf_check.specs.Keeps.{OwnersFit, RowsFit, StartsFit, Keeps}
+use Rattle.adf_check.proofs.InRows.{node_here}
+use Rattle.adf_check.proofs.Lengths.{walk_length}
+use Rattle.adf_check.proofs.Flat.{exts_stored, datas_stored}
 
 is_free : (o : Owner) → (o ≡ Free) ⊎ (o ≢ Free)
 is_free Free = inl refl

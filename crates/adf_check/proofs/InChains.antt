@@ -1,5 +1,5 @@
 -- The steps of a reader at the headers of a chain.
-use Rattle.std.proofs.Common.{◌≡◌, ℕ, zero, suc, List, [], ◌∷◌, ◌++◌, inl, inr, ◌+◌, ◌<◌, ◌≤◌, ◌≢◌, length, refl, sym, ap, subst, ◌∙◌, arith}
+use Rattle.std.proofs.Common.{◌≡◌, ℕ, zero, suc, List, [], ◌∷◌, ◌++◌, inl, inr, ◌+◌, ◌<◌, ◌≤◌, ◌≢◌, length, refl, sym, ap, subst, ◌∙◌, arith, ◌⊎◌}
 use Rattle.adf_blocks.specs.declared.cause.Cause.{Cause}
 use Rattle.adf_blocks.specs.declared.cause.Cause.TheVariants.{OutOfRange, Taken, SameName}
 use Rattle.adf_volume.specs.Image.{word_in, root_of, kind_of, name_of}
@@ -9,16 +9,15 @@ use Rattle.adf_volume.specs.Demands.{demand, AllHold, FirstFails, boot_demands, 
 use Rattle.adf_volume.specs.Walk.{Role, heads, NodeAt, DirAt, Asks, NewName, NoCause, demands, node_block, IsWalk, FirstFault}
 use Rattle.adf_volume.specs.Walk.Role.{Head}
 use Rattle.adf_volume.specs.Walk.FirstFault.{at_due}
-use Rattle.adf_volume.specs.Reading.{Next, IsAtSlot, IsInChain, Sees}
-use Rattle.adf_volume.specs.Store.{Store, owner_at, Tells, stored}
 use Rattle.adf_volume.proofs.Lists.{fails_left, fails_right, all_append}
 use Rattle.adf_volume.proofs.Walks.{node_is, one_block, one_node}
 use Rattle.adf_volume.proofs.Kept.{dir_up}
-use Rattle.adf_volume.proofs.Cursors.{is_due, take_it, end_chain}
 use Rattle.adf_volume.specs.declared.owner.Owner.TheVariants.{Free}
-use Rattle.adf_volume.proofs.Claims.{free_absent, taken_present, tells_more}
 use Rattle.std.specs.Prelude.{◌↔◌}
-use Rattle.std.proofs.Common.{◌⊎◌}
+use Rattle.adf_check.specs.Reading.{Next, IsAtSlot, IsInChain, Sees}
+use Rattle.adf_check.specs.Store.{Store, owner_at, Tells, stored}
+use Rattle.adf_check.proofs.Cursors.{is_due, take_it, end_chain}
+use Rattle.adf_check.proofs.Stores.{free_absent, taken_present, tells_more}
 
 dir_node : (image : List ℕ) (w : List (Role × ℕ)) (p a : ℕ) → DirAt image w p a → NodeAt w p a
 dir_node image w zero a h = h

@@ -1,9 +1,8 @@
 -- The steps of a reader that goes through a small image: one page, the root first.
 use Rattle.std.proofs.Common.{◌≡◌, ℕ, zero, suc, List, [], ◌∷◌, ◌++◌, ◌+◌, ◌-◌, ◌/◌, ◌%◌, ◌<◌, ◌≤◌, ◌≢◌, length, refl, sym, ap, subst, ◌∙◌, arith, Bool, true, false, set, length-set, get_or-set_same, get_or-set_other, eq-eqb}
 use Rattle.std.specs.Prelude.{◌==◌, ◌&&◌, not, bit_and, ◌^◌, replicate, IsTrue, ◌↔◌, slice_index}
-use Rattle.std.proofs.lemmas.Bool.{eqb-true}
+use Rattle.std.proofs.lemmas.Bool.{and_parts, eqb-true}
 use Rattle.std.proofs.lemmas.List.{length-replicate, get_or-replicate}
-use native.Mathlib.Decide.{ℕ_discrete}
 use Rattle.adf_blocks.specs.Sizes.{blocks, pages_needed}
 use Rattle.adf_blocks.specs.declared.cause.Cause.TheVariants.{LostBlock}
 use Rattle.adf_volume.specs.declared.owner.Owner.{Owner}
@@ -12,29 +11,14 @@ use Rattle.adf_volume.specs.Image.{word_in, root_of}
 use Rattle.adf_volume.specs.Demands.{AllHold, boot_demands, root_demands, page_demands}
 use Rattle.adf_volume.specs.Walk.{FirstFault}
 use Rattle.adf_volume.specs.Walk.Role.{Page as APage}
-use Rattle.adf_volume.specs.Store.{Store, owner_at, stored, entered}
-use Rattle.adf_volume.specs.Reading.{IsBeforePage, IsAtNode, IsAtSlot, IsInChain, IsListed, IsMapped}
-use Rattle.adf_volume.proofs.Claims.{enter_node}
-use Rattle.adf_volume.proofs.InBitmap.{first_store, beginning, mapped_free, mapped_used, lost}
-use Rattle.adf_volume.proofs.InChains.{chain_begins, chain_ends}
-use Rattle.adf_volume.proofs.InFiles.{enter_directory}
-use Rattle.adf_volume.proofs.InPages.{same_holder, page_read, pages_end}
-use Rattle.adf_volume.proofs.InRows.{root_here}
-
-both : (a b : Bool) → (a && b) ≡ true → (a ≡ true) × (b ≡ true)
-both true b h = (refl, h)
-both false b h = absurd (let z : false ≡ true = h in cc)
-
--- the first n values are 0
-abbrev pub all_zero : (ℕ → ℕ) → ℕ → Bool
-all_zero f zero = true
-all_zero f (suc n) = (f n == 0) && all_zero f n
-
-pub zero_at : (f : ℕ → ℕ) (n k : ℕ) → all_zero f n ≡ true → k < n → f k ≡ 0
-zero_at f zero k h l = absurd (omega arith)
-zero_at f (suc n) k h l =
-    let x = both (f n == 0) (all_zero f n) h in
-    elim (ℕ_discrete k n) [ yes e ↦ ap f e ∙ eqb-true (f n) 0 x.0 | no e ↦ zero_at f n k x.1 (omega arith) ]
+use Rattle.adf_check.specs.Store.{Store, owner_at, stored, entered}
+use Rattle.adf_check.specs.Reading.{IsBeforePage, IsAtNode, IsAtSlot, IsInChain, IsListed, IsMapped}
+use Rattle.adf_check.proofs.Stores.{enter_node}
+use Rattle.adf_check.proofs.InBitmap.{first_store, beginning, mapped_free, mapped_used, lost}
+use Rattle.adf_check.proofs.InChains.{chain_begins, chain_ends}
+use Rattle.adf_check.proofs.InFiles.{enter_directory}
+use Rattle.adf_check.proofs.InPages.{same_holder, page_read, pages_end}
+use Rattle.adf_check.proofs.InRows.{root_here}
 
 -- the owners of 2 + m blocks of which the root alone was read
 abbrev pub owners_of : ℕ → ℕ → List Owner
@@ -131,7 +115,7 @@ module _ (image : List ℕ) (store : Store) (page : ℕ) (one : pages_needed (bl
   listed : IsListed image (page ∷ []) (pages_needed (blocks image))
   listed = record { size = sym one; pages = at }
     where
-      at : (i b : ℕ) → Rattle.adf_volume.specs.Lists.At (page ∷ []) i b → Rattle.adf_volume.specs.Reading.block_of_page image i ≡ b
+      at : (i b : ℕ) → Rattle.adf_volume.specs.Lists.At (page ∷ []) i b → Rattle.adf_check.specs.Reading.block_of_page image i ≡ b
       at zero b h = named ∙ h
       at (suc i) b h = absurd h
 
@@ -148,7 +132,7 @@ module _ (image : List ℕ) (store : Store) (page : ℕ) (one : pages_needed (bl
   agreeing b zero hi h st = let z : b ≡ b + 0 = omega arith in subst (IsMapped image store) z st
   agreeing b (suc n) hi h st =
       let z : suc b + n ≡ b + suc n = omega arith in
-      let x = both (same (bit_is image page b) (is_free (owner_at store.owners b))) (agree image store.owners page (suc b) n) h in
+      let x = and_parts (same (bit_is image page b) (is_free (owner_at store.owners b))) (agree image store.owners page (suc b) n) h in
       subst (IsMapped image store) z (agreeing (suc b) n (omega arith) x.1 (agree_one b (omega arith) (bit_is image page b) (is_free (owner_at store.owners b)) refl refl x.0 st))
 
   pub lost_at : (b : ℕ) → AllHold (boot_demands image ++ root_demands image (root_of image)) → b < blocks image → bit_is image page b ≡ false → is_free (owner_at store.owners b) ≡ true → IsMapped image store b → FirstFault image b LostBlock

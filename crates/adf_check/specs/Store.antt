@@ -3,13 +3,13 @@ use Rattle.std.specs.Prelude.{◌≡◌, ◌≢◌, ℕ, List, [], ◌∷◌, �
 use Rattle.std.proofs.Common.{suc}
 use Rattle.adf_blocks.specs.Sizes.{blocks}
 use Rattle.adf_volume.specs.declared.owner.Owner.{Owner}
-use Rattle.adf_volume.specs.declared.row.Row.{Row}
-use Rattle.adf_volume.specs.declared.row.Start.{Start}
 use Rattle.adf_volume.specs.declared.owner.Owner.TheVariants.{Free, Boot}
 use Rattle.adf_volume.specs.Lists.{At}
 use Rattle.adf_volume.specs.Walk.{Role, Has, heads}
 use Rattle.adf_volume.specs.Walk.Role.{Root, Page, MapExt, Head, Ext, Data}
 use Rattle.adf_volume.specs.Parts.{owner_of}
+use Rattle.adf_check.specs.declared.kept.Row.{Row}
+use Rattle.adf_check.specs.declared.kept.Start.{Start}
 
 -- the rows are of nodes 1, 2, .., the starts of nodes 0, 1, ..; so many blocks have an owner
 pub record Store : Type 0 where

@@ -5,16 +5,16 @@ use Rattle.adf_tree.specs.Texts.{uppers}
 use Rattle.adf_tree.specs.Tree.{Tree}
 use Rattle.adf_blocks.specs.declared.cause.Cause.{Cause}
 use Rattle.adf_blocks.specs.declared.cause.Cause.TheVariants.{NoMemory}
-use Rattle.adf_volume.specs.Store.{Store, Tells}
 use Rattle.adf_volume.specs.Lists.{At}
 use Rattle.adf_volume.specs.Image.{word_in, root_of, name_of}
 use Rattle.adf_volume.specs.Demands.{AllHold}
 use Rattle.adf_volume.specs.Walk.{Role, first, second, third, Has, DirAt, FileAt, MemberAt, NamesPage, Asks, ext_count, IsWalk, IsWhole, bitmap_demands, FirstFault}
 use Rattle.adf_volume.specs.Walk.Role.{MapExt, Head, Ext}
-use Rattle.adf_volume.specs.Cursor.{IsUpTo}
 use Rattle.adf_volume.specs.Layout.{Layout}
 use Rattle.adf_volume.specs.Fits.{Fits}
 use Rattle.adf_volume.specs.Made.{tree_in, layout_in}
+use Rattle.adf_check.specs.Store.{Store, Tells}
+use Rattle.adf_check.specs.Cursor.{IsUpTo}
 
 -- the word of block a that names place j of slot s of directory p has the number b
 abbrev pub Next : List ℕ → List (Role × ℕ) → ℕ → ℕ → ℕ → ℕ → ℕ → Type 0

@@ -5,15 +5,16 @@ use Rattle.adf_blocks.specs.Sizes.{blocks, pages_needed}
 use Rattle.adf_blocks.specs.declared.cause.Cause.TheVariants.{LostBlock}
 use Rattle.adf_volume.specs.Image.{word_in, root_of}
 use Rattle.adf_volume.specs.Demands.{AllHold, boot_demands, root_demands, page_demands}
-use Rattle.adf_volume.specs.Samples.{empty_lost}
 use Rattle.adf_volume.specs.Walk.{FirstFault}
 use Rattle.adf_volume.specs.Walk.Role.{Page}
-use Rattle.adf_volume.specs.Store.{Store, stored, entered}
-use Rattle.adf_volume.specs.Reading.{IsRead}
-use Rattle.adf_volume.proofs.InBitmap.{first_store, map_begins}
-use Rattle.adf_volume.proofs.InFiles.{leave_directory}
-use Rattle.adf_volume.proofs.InRows.{all_read}
-use Rattle.adf_volume.proofs.Strolls.{zero_at, owners_of, page_then, enter_root, empty_slots, agree, agreeing, bit_is, lost_at}
+use Rattle.adf_volume.proofs.Zeros.{zero_at}
+use Rattle.adf_check.specs.Samples.{empty_lost}
+use Rattle.adf_check.specs.Store.{Store, stored, entered}
+use Rattle.adf_check.specs.Reading.{IsRead}
+use Rattle.adf_check.proofs.InBitmap.{first_store, map_begins}
+use Rattle.adf_check.proofs.InFiles.{leave_directory}
+use Rattle.adf_check.proofs.InRows.{all_read}
+use Rattle.adf_check.proofs.Strolls.{owners_of, page_then, enter_root, empty_slots, agree, agreeing, bit_is, lost_at}
 
 size : blocks empty_lost ≡ 6
 unfolding empty_lost with_bytes

@@ -10,8 +10,6 @@ use Rattle.adf_volume.specs.Demands.{AllHold, FirstFails, boot_demands, root_dem
 use Rattle.adf_volume.specs.Walk.{Role, second, Has, IsAbsent, IsFreeIn, bitmap_demands, FirstFault}
 use Rattle.adf_volume.specs.Walk.Role.{Root, Page, Head}
 use Rattle.adf_volume.specs.Walk.FirstFault.{at_bitmap}
-use Rattle.adf_volume.specs.Reading.{IsBeforePage, block_of_page, IsListed, IsRead, IsMapped, TellsFit}
-use Rattle.adf_volume.specs.Store.{Store, owner_at}
 use Rattle.adf_volume.proofs.Images.{page_in}
 use Rattle.adf_volume.proofs.Lists.{all_split}
 use Rattle.adf_volume.proofs.Walks.{one_block, asked_block, page_word}
@@ -19,13 +17,15 @@ use Rattle.adf_volume.specs.Made.{tree_in, layout_in}
 use Rattle.adf_volume.proofs.Sound.{all_map_exts}
 use Rattle.adf_volume.proofs.Fitting.{fits}
 use Rattle.adf_volume.proofs.Unique.{one_tree}
-use Rattle.adf_volume.proofs.Cursors.{begin}
 use Rattle.adf_volume.specs.declared.owner.Owner.{Owner}
 use Rattle.adf_volume.specs.declared.owner.Owner.TheVariants.{Free, Boot, Root as TheRoot}
 use Rattle.adf_volume.specs.Parts.{owner_of}
-use Rattle.adf_volume.proofs.Claims.{free_absent, taken_present}
-use Rattle.adf_volume.proofs.Steps.{at_get}
-use Rattle.adf_volume.proofs.InPages.{page_is}
+use Rattle.adf_check.specs.Reading.{IsBeforePage, block_of_page, IsListed, IsRead, IsMapped, TellsFit}
+use Rattle.adf_check.specs.Store.{Store, owner_at}
+use Rattle.adf_check.proofs.Cursors.{begin}
+use Rattle.adf_check.proofs.Stores.{free_absent, taken_present}
+use Rattle.adf_check.proofs.PlainSteps.{at_get}
+use Rattle.adf_check.proofs.InPages.{page_is}
 
 -- the bitmap, one block more
 bitmap_more : (image : List ℕ) (w : List (Role × ℕ)) (b n : ℕ) → AllHold (bitmap_demands image w b n) → (IsAbsent w (b + n) → IsFreeIn image w (b + n)) → (IsFreeIn image w (b + n) → IsAbsent w (b + n)) → AllHold (bitmap_demands image w b (suc n))

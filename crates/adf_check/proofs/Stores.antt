@@ -1,5 +1,5 @@
 -- What a reader keeps, one member of a walk more.
-use Rattle.std.proofs.Common.{◌≡◌, ℕ, suc, List, [], ◌∷◌, ◌++◌, inl, inr, ◌<◌, ◌≤◌, ◌≢◌, length, refl, sym, ap, subst, ◌∙◌, arith, set, length-set, get_or-set_same, get_or-set_other}
+use Rattle.std.proofs.Common.{◌≡◌, ℕ, suc, List, [], ◌∷◌, ◌++◌, inl, inr, ◌<◌, ◌≤◌, ◌≢◌, length, refl, sym, ap, subst, ◌∙◌, arith, set, length-set, get_or-set_same, get_or-set_other, Bool, true, false, cond}
 use native.Mathlib.Decide.{ℕ_discrete}
 use Rattle.adf_blocks.specs.Sizes.{blocks}
 use Rattle.adf_volume.specs.declared.owner.Owner.{Owner}
@@ -9,13 +9,12 @@ use Rattle.adf_volume.specs.Walk.{Role, first, second, Has, head_count, heads, I
 use Rattle.adf_volume.specs.Walk.Role.{Root, Page, MapExt, Head, Ext, Data}
 use Rattle.adf_volume.specs.Parts.{owner_of}
 use Rattle.std.specs.Prelude.{nat_lt}
-use Rattle.std.proofs.Common.{Bool, true, false, cond}
 use Rattle.std.proofs.lemmas.Bool.Decides.{nat_tests}
-use Rattle.adf_volume.specs.declared.row.Row.{Row}
-use Rattle.adf_volume.specs.declared.row.Start.{Start}
-use Rattle.adf_volume.specs.Store.{Store, owner_at, push_row, push_any_ext, push_any_data, stored, entered, all_exts, all_datas, ext_before_of, data_before_of, exts_before, datas_before, Owns, Rows, Tells}
-use Rattle.adf_volume.specs.Reading.{IsAtNode, IsInNode}
 use Rattle.adf_volume.proofs.Lists.{at_new, at_old, at_below, at_snoc, snoc_length}
+use Rattle.adf_check.specs.declared.kept.Row.{Row}
+use Rattle.adf_check.specs.declared.kept.Start.{Start}
+use Rattle.adf_check.specs.Store.{Store, owner_at, push_row, push_any_ext, push_any_data, stored, entered, all_exts, all_datas, ext_before_of, data_before_of, exts_before, datas_before, Owns, Rows, Tells}
+use Rattle.adf_check.specs.Reading.{IsAtNode, IsInNode}
 
 -- no role owns a free block
 pub owner_not_free : (r : Role) → owner_of r ≢ Free

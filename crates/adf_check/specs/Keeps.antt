@@ -9,9 +9,9 @@ use Rattle.adf_volume.specs.declared.owner.Owner.TheVariants.{Free, Boot}
 use Rattle.adf_volume.specs.Lists.{At, In}
 use Rattle.adf_volume.specs.Layout.{Layout, EntryAt, at_node, exts_of, datas_of, owned}
 use Rattle.adf_volume.specs.Fits.{Fits}
-use Rattle.adf_volume.specs.declared.row.Row.{Row}
-use Rattle.adf_volume.specs.declared.row.Start.{Start}
-use Rattle.adf_volume.specs.Store.{Store, owner_at}
+use Rattle.adf_check.specs.declared.kept.Row.{Row}
+use Rattle.adf_check.specs.declared.kept.Start.{Start}
+use Rattle.adf_check.specs.Store.{Store, owner_at}
 
 -- the table has each block's one owner
 pub record OwnersFit (image : List ℕ) (l : Layout) (owners : List Owner) : Type 0 where

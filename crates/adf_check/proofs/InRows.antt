@@ -6,15 +6,15 @@ use Rattle.adf_volume.specs.Image.{word_in, root_of, kind_of, table_word, DIR}
 use Rattle.adf_volume.specs.Demands.{AllHold, boot_demands, root_demands}
 use Rattle.adf_volume.specs.Walk.{Role, Has, heads, DirAt, FileAt, data_count, ext_count, IsWalk, FirstFault}
 use Rattle.adf_volume.specs.Walk.Role.{Root, Head, Data}
-use Rattle.adf_volume.specs.Reading.{IsAtNode, IsInDatas, IsRead}
-use Rattle.adf_volume.specs.declared.row.Row.{Row}
-use Rattle.adf_volume.specs.Store.{Store, Tells}
 use Rattle.adf_volume.proofs.Told.{head_type}
 use Rattle.adf_volume.proofs.Lists.{at_below, at_some, at_fun}
 use Rattle.adf_volume.proofs.Walks.{numbered, root_in}
 use Rattle.adf_volume.proofs.Kept.{kept}
-use Rattle.adf_volume.proofs.Steps.{plain_enough}
-use Rattle.adf_volume.proofs.InFiles.{one_file, data_named, data_short, whole_end}
+use Rattle.adf_check.specs.Reading.{IsAtNode, IsInDatas, IsRead}
+use Rattle.adf_check.specs.declared.kept.Row.{Row}
+use Rattle.adf_check.specs.Store.{Store, Tells}
+use Rattle.adf_check.proofs.PlainSteps.{plain_enough}
+use Rattle.adf_check.proofs.InFiles.{one_file, data_named, data_short, whole_end}
 
 -- the node of a row
 module _ (image : List ℕ) (store : Store) (w : List (Role × ℕ)) (t : Tells image store w) (v : IsWalk image w) where

@@ -7,17 +7,18 @@ use Rattle.adf_blocks.specs.Sizes.{blocks, pages_needed}
 use Rattle.adf_blocks.specs.declared.cause.Cause.TheVariants.{LostBlock}
 use Rattle.adf_volume.specs.Image.{word_in, root_of, kind_of, name_of, count, chunk, held, table_word}
 use Rattle.adf_volume.specs.Demands.{AllHold, boot_demands, root_demands, page_demands, head_demands, data_demands}
-use Rattle.adf_volume.specs.Samples.{file_lost}
 use Rattle.adf_volume.specs.Walk.{FirstFault, data_count}
 use Rattle.adf_volume.specs.Walk.Role.{Page, Head, Data}
-use Rattle.adf_volume.specs.Store.{Store, stored, entered}
-use Rattle.adf_volume.specs.Reading.{IsRead, IsAtSlot, IsInChain, IsAtNode, IsInExts, IsInDatas}
-use Rattle.adf_volume.proofs.Claims.{enter_node}
-use Rattle.adf_volume.proofs.InBitmap.{first_store, map_begins}
-use Rattle.adf_volume.proofs.InChains.{chain_begins, chain_ends, next_chain}
-use Rattle.adf_volume.proofs.InFiles.{leave_directory, enter_exts, exts_end, data_read, datas_end}
-use Rattle.adf_volume.proofs.InRows.{all_read, file_here}
-use Rattle.adf_volume.proofs.Strolls.{zero_at, owners_of, page_then, enter_root, empty_slots, no_name, agree, agreeing, bit_is, lost_at}
+use Rattle.adf_volume.proofs.Zeros.{zero_at}
+use Rattle.adf_check.specs.Samples.{file_lost}
+use Rattle.adf_check.specs.Store.{Store, stored, entered}
+use Rattle.adf_check.specs.Reading.{IsRead, IsAtSlot, IsInChain, IsAtNode, IsInExts, IsInDatas}
+use Rattle.adf_check.proofs.Stores.{enter_node}
+use Rattle.adf_check.proofs.InBitmap.{first_store, map_begins}
+use Rattle.adf_check.proofs.InChains.{chain_begins, chain_ends, next_chain}
+use Rattle.adf_check.proofs.InFiles.{leave_directory, enter_exts, exts_end, data_read, datas_end}
+use Rattle.adf_check.proofs.InRows.{all_read, file_here}
+use Rattle.adf_check.proofs.Strolls.{owners_of, page_then, enter_root, empty_slots, no_name, agree, agreeing, bit_is, lost_at}
 
 -- the image
 size : blocks file_lost ≡ 16

@@ -11,13 +11,13 @@ use Rattle.adf_volume.specs.Demands.{demand, AllHold, FirstFails, boot_demands, 
 use Rattle.adf_volume.specs.Walk.{Role, first, second, third, Enough, NewName, form_demands, demands, FirstFault}
 use Rattle.adf_volume.specs.Walk.Role.{Root, Page, MapExt, Head, Ext, Data}
 use Rattle.adf_volume.specs.Walk.FirstFault.{at_due}
-use Rattle.adf_volume.specs.Cursor.{IsUpTo}
-use Rattle.adf_volume.specs.Reading.{IsNamed}
-use Rattle.adf_volume.specs.Store.{Store, owner_at, Tells, stored}
 use Rattle.adf_volume.proofs.Lists.{fails_left, all_append, at_some, at_index}
-use Rattle.adf_volume.proofs.Cursors.{is_due, take_it}
 use Rattle.adf_volume.specs.declared.owner.Owner.TheVariants.{Free}
-use Rattle.adf_volume.proofs.Claims.{free_absent, taken_present, tells_more}
+use Rattle.adf_check.specs.Cursor.{IsUpTo}
+use Rattle.adf_check.specs.Reading.{IsNamed}
+use Rattle.adf_check.specs.Store.{Store, owner_at, Tells, stored}
+use Rattle.adf_check.proofs.Cursors.{is_due, take_it}
+use Rattle.adf_check.proofs.Stores.{free_absent, taken_present, tells_more}
 
 pub less : (a b : ℕ) → nat_lt a b ≡ true → a < b
 less a b h = grind (arith, nat_tests)
