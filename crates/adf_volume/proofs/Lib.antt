@@ -24,3 +24,4 @@ pub mod Blocks
 pub mod Tiny
 pub mod Sizes
 pub mod Zeros
+pub mod OneFile

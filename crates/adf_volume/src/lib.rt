@@ -10,4 +10,4 @@ pub use crate::laws::{
     told_form, what_is_told_fits,
 };
 pub use crate::owner::Owner;
-pub use crate::samples::{freed_page_fits_nothing, tiny_volume_fits};
+pub use crate::samples::{file_volume_fits, freed_page_fits_nothing, tiny_volume_fits};

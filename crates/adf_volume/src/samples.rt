@@ -3,7 +3,7 @@
 ghost use Rattle.adf_tree.specs.Tree.{Tree};
 ghost use Rattle.adf_volume.specs.Layout.{Layout};
 ghost use Rattle.adf_volume.specs.Fits.{Fits};
-ghost use Rattle.adf_volume.specs.Samples.{tiny, tiny_freed, tiny_layout, tiny_tree};
+ghost use Rattle.adf_volume.specs.Samples.{one_file, one_file_layout, one_file_tree, tiny, tiny_freed, tiny_layout, tiny_tree};
 
 /// The empty tree fits an empty volume of 4 blocks.
 pub fn tiny_volume_fits()
@@ -13,4 +13,9 @@ pub fn tiny_volume_fits()
 /// Nothing fits it where its page tells its own block as free.
 pub fn freed_page_fits_nothing()
     ensures { (t : Tree) (l : Layout) → Fits tiny_freed t l → ⊥ }
+{}
+
+/// The tree of a file of two data blocks fits an OFS volume of 16 blocks with that file.
+pub fn file_volume_fits()
+    ensures { Fits one_file one_file_tree one_file_layout }
 {}

@@ -1,0 +1,307 @@
+-- Fits holds of a small image with a file.
+use Rattle.std.proofs.Common.{◌≡◌, ◌≢◌, ℕ, zero, suc, List, [], ◌∷◌, inl, inr, ◌+◌, ◌-◌, ◌/◌, ◌%◌, ◌^◌, ◌<◌, ◌≤◌, refl, sym, ap, subst, ◌∙◌, arith, Bool, true, false, cond, map, eq-eqb}
+use Rattle.std.specs.Prelude.{◌==◌, ◌||◌, ◌↔◌, bit_and, replicate, slice_index, slice_index_or}
+use Rattle.std.proofs.lemmas.Bool.{cases_lt, true≢false}
+use Rattle.std.proofs.lemmas.Bool.Decides.{eqb_tells, nat_tests}
+use Rattle.std.proofs.lemmas.List.Sorted.{IsNonDecreasingBy-short}
+use Rattle.adf_fields.specs.Hash.{slot_of}
+use Rattle.adf_fields.specs.Words.{block, word, words, with_bytes}
+use Rattle.adf_tree.specs.declared.entry.Body.{Body}
+use Rattle.adf_tree.specs.declared.entry.Body.TheVariants.{Dir, File}
+use Rattle.adf_tree.specs.declared.entry.Entry.{Entry}
+use Rattle.adf_tree.specs.Tree.{IsDir, IsTree, rank}
+use Rattle.adf_volume.specs.declared.owner.Owner.{Owner}
+use Rattle.adf_volume.specs.Lists.{At, In, Spelled, NoBlockTwice}
+use Rattle.adf_volume.specs.Image.{word_in, root_of, kind_of, name_of, label_of, meta_of, stamps_of, content, area, chunk, count, held, table_word, map_exts_needed, IsFreeAt}
+use Rattle.adf_volume.specs.Demands.{AllHold, boot_demands, root_demands, page_demands, head_demands, data_demands}
+use Rattle.adf_volume.specs.Layout.{EntryAt, at_node, chain_nodes, owned}
+use Rattle.adf_volume.specs.Fits.{Fits, EntryFits, FileFits, IsFree, TableAt}
+use Rattle.adf_volume.specs.Samples.{one_file, one_file_tree, one_file_layout, file_a}
+use Rattle.adf_volume.proofs.Blocks.{Distinct, blocks_of, block_in, in_block, distinct_blocks}
+use Rattle.adf_volume.proofs.Zeros.{zero_at}
+
+-- the block of a node
+abbrev node_at : ℕ → ℕ
+node_at n = at_node one_file one_file_layout n
+
+boots : AllHold (boot_demands one_file)
+unfolding one_file block with_bytes
+boots = ((refl, refl), (refl, (refl, (refl, tt))))
+
+root_form : AllHold (root_demands one_file (root_of one_file))
+unfolding one_file block word words with_bytes
+root_form = (refl, (refl, (refl, (refl, (refl, tt)))))
+
+page_form : AllHold (page_demands one_file 9)
+unfolding one_file block word words with_bytes
+page_form = (refl, tt)
+
+page_named : word_in one_file (root_of one_file) 79 ≡ 9
+unfolding one_file block word with_bytes
+page_named = refl
+
+head_form : AllHold (head_demands one_file one_file_tree.kind 2 (root_of one_file) (slot_of file_a.name))
+unfolding one_file block word words with_bytes
+head_form = (refl, (refl, (refl, (refl, (refl, (refl, (refl, (refl, (refl, tt)))))))))
+
+-- the bytes of the file
+bytes_held : replicate 489 0x41 ≡ content one_file one_file_tree.kind 2 (3 ∷ 4 ∷ [])
+unfolding one_file block word with_bytes content area
+bytes_held = refl
+
+first_form : AllHold (data_demands one_file one_file_tree.kind 3 2 1 (held one_file_tree.kind 489 1) 4)
+unfolding one_file block word words with_bytes held chunk
+first_form = (refl, (refl, (refl, tt)))
+
+second_form : AllHold (data_demands one_file one_file_tree.kind 4 2 2 (held one_file_tree.kind 489 2) 0)
+unfolding one_file block word words with_bytes held chunk
+second_form = (refl, (refl, (refl, tt)))
+
+page_at : (k b : ℕ) → At one_file_layout.pages k b → (k ≡ 0) × (9 ≡ b)
+page_at zero b h = (refl, h)
+page_at (suc k) b h = absurd h
+
+-- the root alone is a directory
+no_dir : (p : ℕ) → IsDir one_file_tree.entries p → p ≡ 0
+no_dir zero h = refl
+no_dir (suc zero) h = let x = h (omega arith) in let z : file_a.body ≡ Dir = x.1 file_a in cc
+no_dir (suc (suc p)) h = let x = h (omega arith) in let y : suc (suc p) ≤ 1 = x.0 in absurd (omega arith)
+
+-- each entry is the file
+entry_is : (n : ℕ) (e : Entry) → EntryAt one_file_tree n e → (1 ≡ n) × (file_a ≡ e)
+entry_is zero e h = absurd h
+entry_is (suc zero) e h = (refl, h)
+entry_is (suc (suc n)) e h = absurd h
+
+entry_fits : EntryFits one_file one_file_tree one_file_layout 1 2 file_a
+unfolding one_file block word with_bytes name_of meta_of
+entry_fits = record { form = head_form; name = refl; meta = refl; body = (refl, bytes_held, refl) }
+
+entries_fit : (n : ℕ) (e : Entry) → EntryAt one_file_tree n e → EntryFits one_file one_file_tree one_file_layout n (node_at n) e
+entries_fit n e h =
+    let x = entry_is n e h in
+    subst (λ n. EntryFits one_file one_file_tree one_file_layout n (node_at n) e) x.0
+    (subst (λ (e : Entry). EntryFits one_file one_file_tree one_file_layout 1 2 e) x.1 entry_fits)
+
+-- it is a tree
+only : (i : ℕ) (d : Entry) → i < 1 → file_a ≡ slice_index_or one_file_tree.entries i d
+only zero d h = refl
+only (suc i) d h = absurd (omega arith)
+
+parents : (i : ℕ) (d : Entry) → i < 1 → 0 ≡ (slice_index_or one_file_tree.entries i d).parent
+parents i d h = ap (λ (e : Entry). e.parent) (only i d h)
+
+is_tree : IsTree one_file_tree.entries
+is_tree = record {
+  parents = (λ i d h. let z : 0 ≡ (slice_index_or one_file_tree.entries i d).parent = parents i d h in omega arith);
+  dirs = (λ i d h k. absurd (let z : 0 ≡ (slice_index_or one_file_tree.entries i d).parent = parents i d h in omega arith));
+  order = IsNonDecreasingBy-short rank one_file_tree.entries (omega arith);
+  names = (λ i j d l h. absurd (omega arith));
+}
+
+-- the chain of each slot
+low_slots : (i : ℕ) → i < 6 → word_in one_file (root_of one_file) (6 + i) ≡ 0
+unfolding one_file block word with_bytes
+low_slots i l = zero_at (λ s. word_in one_file (root_of one_file) (6 + s)) 6 i refl l
+
+high_slots : (i : ℕ) → i < 65 → word_in one_file (root_of one_file) (13 + i) ≡ 0
+unfolding one_file block word with_bytes
+high_slots i l = zero_at (λ s. word_in one_file (root_of one_file) (13 + s)) 65 i refl l
+
+slot : word_in one_file (root_of one_file) 12 ≡ 2
+unfolding one_file block word with_bytes
+slot = refl
+
+no_next : word_in one_file 2 124 ≡ 0
+unfolding one_file block word with_bytes
+no_next = refl
+
+is_spelled : ℕ → Type 0
+is_spelled s = Spelled (λ b. word_in one_file b 124) (word_in one_file (root_of one_file) (6 + s)) (map node_at (chain_nodes one_file_tree 0 s))
+
+empty_slot : (s : ℕ) → (6 == s) ≡ false → word_in one_file (root_of one_file) (6 + s) ≡ 0 → is_spelled s
+unfolding is_spelled
+empty_slot s n w = put (6 == s) n
+  where
+    put : (t : Bool) → t ≡ false → Spelled (λ b. word_in one_file b 124) (word_in one_file (root_of one_file) (6 + s)) (map node_at (cond t (1 ∷ []) []))
+    put true h = cc
+    put false h = w
+
+named_slot : is_spelled 6
+unfolding is_spelled
+named_slot = (slot, no_next)
+
+spelled : (s : ℕ) → s < 72 → is_spelled s
+spelled s l = elim (eqb_tells 6 s) [
+  | inl h ↦ subst is_spelled h.1 named_slot
+  | inr h ↦ elim (cases_lt s 6) [
+    | inl k ↦ empty_slot s h.0 (low_slots s k)
+    | inr k ↦
+        let n : 6 ≢ s = h.1 in
+        let z : 13 + (s - 7) ≡ 6 + s = omega arith in
+        empty_slot s h.0 (ap (word_in one_file (root_of one_file)) (sym z) ∙ high_slots (s - 7) (omega arith))
+  ]
+]
+
+chains : (p s : ℕ) → p ≡ 0 → s < 72
+    → Spelled (λ b. word_in one_file b 124) (word_in one_file (node_at p) (6 + s)) (map node_at (chain_nodes one_file_tree p s))
+unfolding is_spelled
+chains zero s e l = spelled s l
+chains (suc p) s e l = absurd (omega arith)
+
+-- the blocks of the file
+datas_named : (k b a : ℕ) → At (3 ∷ 4 ∷ []) k b → TableAt one_file one_file_layout 1 (k / 72) a → word_in one_file a (table_word k) ≡ b
+unfolding one_file block word with_bytes
+datas_named zero b a h g = ap (λ a. word_in one_file a 77) (sym g) ∙ h
+datas_named (suc zero) b a h g = ap (λ a. word_in one_file a 76) (sym g) ∙ h
+datas_named (suc (suc k)) b a h g = absurd h
+
+datas_formed : (k b : ℕ) → At (3 ∷ 4 ∷ []) k b
+    → AllHold (data_demands one_file one_file_tree.kind b 2 (suc k) (held one_file_tree.kind 489 (suc k)) (slice_index (3 ∷ 4 ∷ []) (suc k)))
+datas_formed zero b h = subst (λ b. AllHold (data_demands one_file one_file_tree.kind b 2 1 (held one_file_tree.kind 489 1) 4)) h first_form
+datas_formed (suc zero) b h = subst (λ b. AllHold (data_demands one_file one_file_tree.kind b 2 2 (held one_file_tree.kind 489 2) 0)) h second_form
+datas_formed (suc (suc k)) b h = absurd h
+
+two_datas : 2 ≡ count one_file_tree.kind 489
+unfolding count chunk
+two_datas = refl
+
+no_ext : word_in one_file 2 126 ≡ 0
+unfolding one_file block word with_bytes
+no_ext = refl
+
+file_fits : FileFits one_file one_file_tree one_file_layout 1 2 (replicate 489 0x41)
+file_fits = record {
+  exts = no_ext;
+  ext_form = (λ k b h. absurd h);
+  enough = subst (λ n. n ≤ 72) two_datas (omega arith);
+  datas = two_datas;
+  named = datas_named;
+  data_form = datas_formed;
+}
+
+-- the bytes of a body
+bytes_of : Body → List ℕ
+bytes_of Dir = []
+bytes_of (File bytes) = bytes
+
+files_fit : (n : ℕ) (e : Entry) (bytes : List ℕ) → EntryAt one_file_tree n e → e.body ≡ File bytes
+    → FileFits one_file one_file_tree one_file_layout n (node_at n) bytes
+unfolding bytes_of
+files_fit n e bytes h f =
+    let x = entry_is n e h in
+    let z : replicate 489 0x41 ≡ bytes = ap bytes_of (ap (λ (e : Entry). e.body) x.1 ∙ f) in
+    subst (λ n. FileFits one_file one_file_tree one_file_layout n (node_at n) bytes) x.0
+    (subst (λ l. FileFits one_file one_file_tree one_file_layout 1 2 l) z file_fits)
+
+-- the blocks of its parts
+abbrev parts : List ℕ
+parts = 8 ∷ 9 ∷ 2 ∷ 3 ∷ 4 ∷ []
+
+parts_are : blocks_of (owned one_file one_file_layout) ≡ parts
+unfolding one_file with_bytes
+parts_are = refl
+
+-- whether a number is a member
+abbrev has : List ℕ → ℕ → Bool
+has [] b = false
+has (x ∷ xs) b = (x == b) || has xs b
+
+has_in : (xs : List ℕ) (b : ℕ) → In xs b → has xs b ≡ true
+has_in (x ∷ xs) b (inl e) = let s = eq-eqb x b e in grind (arith, nat_tests)
+has_in (x ∷ xs) b (inr h) = let ih = has_in xs b h in grind (arith, nat_tests)
+has_in [] b h = absurd h
+
+in_has : (xs : List ℕ) (b : ℕ) → has xs b ≡ true → In xs b
+in_has [] b h = absurd (let z : false ≡ true = h in cc)
+in_has (x ∷ xs) b h = elim (eqb_tells x b) [ inl e ↦ inl e.1 | inr n ↦ inr (in_has xs b (ap (λ t. t || has xs b) (sym n.0) ∙ h)) ]
+
+part_in : (o : Owner) (b : ℕ) → In (owned one_file one_file_layout) (o, b) → In parts b
+part_in o b h = subst (λ l. In l b) parts_are (block_in (owned one_file one_file_layout) o b h)
+
+in_part : (b : ℕ) → In parts b → (o : Owner) × In (owned one_file one_file_layout) (o, b)
+in_part b h = in_block (owned one_file one_file_layout) b (subst (λ l. In l b) (sym parts_are) h)
+
+apart : (xs : List ℕ) (b : ℕ) → has xs b ≡ false → In xs b → ⊥
+apart xs b f h = let t = has_in xs b h in true≢false (sym t ∙ f)
+
+once : NoBlockTwice (owned one_file one_file_layout)
+once = distinct_blocks (owned one_file one_file_layout) (subst Distinct (sym parts_are) (
+  apart (9 ∷ 2 ∷ 3 ∷ 4 ∷ []) 8 refl,
+  (apart (2 ∷ 3 ∷ 4 ∷ []) 9 refl, (apart (3 ∷ 4 ∷ []) 2 refl, (apart (4 ∷ []) 3 refl, (apart [] 4 refl, tt)))),
+))
+
+range : (o : Owner) (b : ℕ) → In (owned one_file one_file_layout) (o, b) → (2 ≤ b) × (b < 16)
+range o b h = put (part_in o b h)
+  where
+    put : In parts b → (2 ≤ b) × (b < 16)
+    put (inl e) = (omega arith, omega arith)
+    put (inr (inl e)) = (omega arith, omega arith)
+    put (inr (inr (inl e))) = (omega arith, omega arith)
+    put (inr (inr (inr (inl e)))) = (omega arith, omega arith)
+    put (inr (inr (inr (inr (inl e))))) = (omega arith, omega arith)
+    put (inr (inr (inr (inr (inr h))))) = absurd h
+
+-- the bit of block b in the page
+abbrev bit_at : ℕ → ℕ
+bit_at b = bit_and (word_in one_file 9 (1 + ((b - 2) % 4064) / 32)) (2 ^ (((b - 2) % 4064) % 32))
+
+-- 1 where a bit is clear
+abbrev clear : ℕ → ℕ
+clear n = cond (n == 0) 1 0
+
+set_bit : (n : ℕ) → clear n ≡ 0 → n ≢ 0
+set_bit n w e = grind (arith, nat_tests)
+
+-- 0 where block b is a part and its bit is clear, or is none and its bit is set
+abbrev wrong : ℕ → ℕ
+wrong b = cond (has parts b) (bit_at b) (clear (bit_at b))
+
+none_wrong : (r : ℕ) → r < 14 → wrong (2 + r) ≡ 0
+unfolding one_file block word with_bytes
+none_wrong r l = zero_at (λ r. wrong (2 + r)) 14 r refl l
+
+not_wrong : (b : ℕ) → 2 ≤ b → b < 16 → wrong b ≡ 0
+not_wrong b l u = let z : 2 + (b - 2) ≡ b = omega arith in subst (λ b. wrong b ≡ 0) z (none_wrong (b - 2) (omega arith))
+
+bitmap : (b : ℕ) → 2 ≤ b → b < 16 → IsFree one_file one_file_layout.pages b ↔ ((o : Owner) → In (owned one_file one_file_layout) (o, b) → ⊥)
+bitmap b l u = put (has parts b) refl (not_wrong b l u)
+  where
+    first : (b - 2) / 4064 ≡ 0
+    first = omega arith
+
+    put : (t : Bool) → has parts b ≡ t → cond t (bit_at b) (clear (bit_at b)) ≡ 0
+        → IsFree one_file one_file_layout.pages b ↔ ((o : Owner) → In (owned one_file one_file_layout) (o, b) → ⊥)
+    put true h w = (
+      (λ f. absurd (let x = page_at ((b - 2) / 4064) f.0 f.1 in subst (λ p. IsFreeAt one_file p ((b - 2) % 4064)) (sym x.1) f.2 w)),
+      (λ n. absurd (let o = in_part b (in_has parts b h) in n o.0 o.1)),
+    )
+    put false h w = (
+      (λ f o i. apart parts b h (part_in o b i)),
+      (λ n. (9, subst (λ k. At one_file_layout.pages k 9) (sym first) refl, set_bit (bit_at b) w)),
+    )
+
+pub one_file_fits : Fits one_file one_file_tree one_file_layout
+unfolding one_file block word with_bytes kind_of label_of stamps_of map_exts_needed
+one_file_fits = record {
+  boots = boots;
+  kind = refl;
+  root = root_form;
+  label = refl;
+  stamps = refl;
+  tree = is_tree;
+  places = refl;
+  pages = refl;
+  map_exts = refl;
+  map_first = (λ b h. absurd h);
+  map_next = (λ j a b h. absurd h);
+  page_named = (λ k b l h. let x = page_at k b h in ap (λ k. word_in one_file (root_of one_file) (79 + k)) x.0 ∙ page_named ∙ x.1);
+  page_listed = (λ j i a b l h. absurd h);
+  page_form = (λ k b h. let x = page_at k b h in subst (λ b. AllHold (page_demands one_file b)) x.1 page_form);
+  entries = entries_fit;
+  chains = (λ p s d l. chains p s (no_dir p d) l);
+  files = files_fit;
+  once = once;
+  range = range;
+  bitmap = bitmap;
+}
