@@ -56,16 +56,18 @@ pub fn write_path_went(alloc: Global) -> Option<Went> {
     })
 }
 
-/// A second entry in a tree.
+/// One entry more in a tree whose entries fill the room that was made for them.
 pub fn tree_add_went(alloc: Global) -> Option<Went> {
     let mut tree = Tree::new(alloc, Kind::Ofs, Label::new(b"Work")?, stamps());
-    tree.add(&[Name::new(b"a")?], meta()?, Body::Dir).ok()?;
-    let res = tree.add(&[Name::new(b"b")?], meta()?, Body::Dir);
-    let keeps_first = has_name(&tree, 1, b"a");
+    for name in [b"a", b"b", b"c", b"d"] {
+        tree.add(&[Name::new(name)?], meta()?, Body::Dir).ok()?;
+    }
+    let res = tree.add(&[Name::new(b"e")?], meta()?, Body::Dir);
+    let keeps_last = has_name(&tree, 4, b"d");
     Some(match res {
-        Ok(()) => Went::done_if(keeps_first && tree.len() == 2 && has_name(&tree, 2, b"b")),
+        Ok(()) => Went::done_if(keeps_last && tree.len() == 5 && has_name(&tree, 5, b"e")),
         Err(fault) => {
-            Went::refused_if(keeps_first && tree.len() == 1 && fault == AddFault::NoMemory)
+            Went::refused_if(keeps_last && tree.len() == 4 && fault == AddFault::NoMemory)
         }
     })
 }
