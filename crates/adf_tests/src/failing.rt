@@ -1,7 +1,7 @@
-// Devices that fail, and words that are refused before anything is read.
+// Devices that fail at each call in turn, and words that are refused before anything is read.
 
-use crate::devices::{Given, Kept};
-use adf_cmd::run;
+use crate::devices::{Counted, Endless, Failure, Given, Kept};
+use adf_cmd::{Device, Sink, Source, run};
 use std::alloc::Global;
 use std::test::Fail;
 
@@ -13,22 +13,37 @@ struct Run {
     errors: Vec<u8>,
 }
 
-// Runs a command over bytes of which so many reads succeed.
-fn run_over(alloc: Global, words: &[&str], bytes: &[u8], reads: u32) -> Run {
-    let mut input = Given {
+const MANIFEST: &[u8] = b"volume ofs 16\nfile 0:0:0 00000000 a\nfill 489 41\n";
+
+// Gives bytes, at most so many at each call, and fails once so many calls were made.
+fn given(bytes: &[u8], at_most: usize, calls: u32) -> Given<'_> {
+    Given {
         bytes,
-        calls_left: reads,
+        at_most,
+        calls_left: calls,
         failed: false,
-    };
-    let mut output = Kept {
+    }
+}
+
+// Takes bytes one by one, and fails so once so many are taken.
+fn kept(alloc: Global, calls: u32, failure: Failure) -> Kept {
+    Kept {
         bytes: Vec::new(alloc),
+        at_most: 1,
+        calls_left: calls,
+        failure,
         failed: false,
-    };
-    let mut errors = Kept {
-        bytes: Vec::new(alloc),
-        failed: false,
-    };
-    let status = run(alloc, words, &mut input, &mut output, &mut errors);
+    }
+}
+
+// Runs a command from a source to a sink, with errors that never fail.
+fn run_between<S: Source>(alloc: Global, words: &[&str], input: &mut S, output: Kept) -> Run
+    requires reads { S.has_failed input.old ≡ false }
+    requires writes { output.failed ≡ false }
+{
+    let mut output = output;
+    let mut errors = kept(alloc, u32::MAX, Failure::Error);
+    let status = run(alloc, words, input, &mut output, &mut errors);
     Run {
         status,
         output: output.bytes,
@@ -36,13 +51,86 @@ fn run_over(alloc: Global, words: &[&str], bytes: &[u8], reads: u32) -> Run {
     }
 }
 
-// A reader that gives some bytes and then fails.
+// Runs a command over bytes.
+fn run_over(alloc: Global, words: &[&str], bytes: &[u8]) -> Run {
+    let output = kept(alloc, u32::MAX, Failure::Error);
+    run_between(alloc, words, &mut given(bytes, 512, u32::MAX), output)
+}
+
+fn image(alloc: Global) -> Vec<u8> {
+    run_over(alloc, &["adf", "build"], MANIFEST).output
+}
+
+// A reader that gives one byte at each call and then fails.
 #[test]
 fn failing_reader(rt: HostRuntime) {
-    let checked = run_over(rt.alloc(), &["adf", "check"], &[0u8; 100], 1);
-    assert_eq!(rt; checked.errors.as_slice(), b"read fault\n".as_slice());
-    assert_eq!(rt; checked.status, 3);
-    assert!(rt; checked.output.is_empty());
+    let image = image(rt.alloc());
+    for calls in [0, 1, 2, 511, 512, 8191, 8192] {
+        let output = kept(rt.alloc(), u32::MAX, Failure::Error);
+        let words = ["adf", "check"];
+        let failed = run_between(rt.alloc(), &words, &mut given(&image, 1, calls), output);
+        assert_eq!(rt; failed.status, 3, "after {calls} bytes");
+        assert_eq!(rt; failed.errors.as_slice(), b"read fault\n".as_slice());
+        assert!(rt; failed.output.is_empty());
+    }
+}
+
+// Whether a writer that fails so at each call in turn gets the front of the answer, and errors tell of it.
+fn fails_at_each_call(alloc: Global, words: &[&str], bytes: &[u8], failure: Failure) -> bool {
+    let whole = run_over(alloc, words, bytes).output;
+    let mut all = !whole.is_empty();
+    for calls in 0..whole.len() {
+        let output = kept(alloc, calls as u32, failure);
+        let failed = run_between(alloc, words, &mut given(bytes, 512, u32::MAX), output);
+        all = all
+            && failed.status == 3
+            && failed.errors.as_slice() == b"write fault\n".as_slice()
+            && failed.output.as_slice() == &whole.as_slice()[..calls];
+    }
+    all
+}
+
+#[test]
+fn failing_writer(rt: HostRuntime) {
+    let image = image(rt.alloc());
+    for failure in [Failure::Error, Failure::TakesNone] {
+        for words in [
+            ["adf", "check"].as_slice(),
+            &["adf", "list"],
+            &["adf", "cat", "a"],
+        ] {
+            assert!(rt;
+                fails_at_each_call(rt.alloc(), words, &image, failure),
+                "{}",
+                words[1]
+            );
+        }
+        let words = ["adf", "build", "--list"];
+        assert!(rt; fails_at_each_call(rt.alloc(), &words, b"volume ffs 4\n", failure));
+    }
+}
+
+// Errors that always fail change no status.
+#[test]
+fn failing_errors(rt: HostRuntime) {
+    let image = image(rt.alloc());
+    let mut input = given(&image, 512, u32::MAX);
+    let mut output = kept(rt.alloc(), u32::MAX, Failure::Error);
+    let mut errors = kept(rt.alloc(), 0, Failure::Error);
+    let words = ["adf", "cat", "b"];
+    assert_eq!(rt;
+        run(rt.alloc(), &words, &mut input, &mut output, &mut errors),
+        1
+    );
+}
+
+// A manifest that never ends is too long.
+#[test]
+fn endless_reader(rt: HostRuntime) {
+    let output = kept(rt.alloc(), u32::MAX, Failure::Error);
+    let built = run_between(rt.alloc(), &["adf", "build"], &mut Endless, output);
+    assert_eq!(rt; built.errors.as_slice(), b"line 0: too long\n".as_slice());
+    assert_eq!(rt; built.status, 1);
 }
 
 // Words that are refused: the reader, which would fail, is not asked.
@@ -55,8 +143,30 @@ fn words_refused(rt: HostRuntime) {
         &["adf", "convert", "abc"],
     ];
     for words in rows {
-        let refused = run_over(rt.alloc(), words, b"volume ofs 16\n", 0);
+        let output = kept(rt.alloc(), u32::MAX, Failure::Error);
+        let refused = run_between(rt.alloc(), words, &mut given(MANIFEST, 1, 0), output);
         assert_eq!(rt; refused.status, 2);
         assert!(rt; refused.output.is_empty());
     }
+}
+
+// A device passes each call on once, failing ones too, and knows that one has failed.
+#[test]
+fn devices_pass_calls_on_once(rt: HostRuntime) {
+    let mut calls = 0;
+    let mut reader = Device::new(Counted { calls: &mut calls });
+    let mut room = [0u8; 4];
+    if reader.read(&mut room).is_ok() {
+        assert!(rt; !Source::failed(&reader));
+        assert!(rt; reader.read(&mut room).is_err());
+        assert!(rt; Source::failed(&reader));
+    }
+    assert_eq!(rt; calls, 2);
+    let mut calls = 0;
+    let mut writer = Device::new(Counted { calls: &mut calls });
+    if writer.write(b"").is_ok() {
+        assert!(rt; writer.write(b"a").is_err());
+        assert!(rt; Sink::failed(&writer));
+    }
+    assert_eq!(rt; calls, 2);
 }
