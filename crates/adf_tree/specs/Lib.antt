@@ -1,6 +1,7 @@
 pub mod Texts
 pub mod Tree
 pub mod Chain
+pub mod NameKeys
 pub mod NameSet
 pub mod LastChain
 pub mod Paths

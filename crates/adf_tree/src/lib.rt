@@ -12,6 +12,7 @@ mod last_chain;
 mod laws;
 mod lookup;
 mod name;
+mod name_key;
 mod name_set;
 mod path_texts;
 mod tree;
