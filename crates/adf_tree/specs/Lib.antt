@@ -1,5 +1,7 @@
 pub mod Texts
 pub mod Tree
+pub mod Bounds
+pub mod Faults
 pub mod Chain
 pub mod NameKeys
 pub mod NameSet

@@ -90,11 +90,12 @@ fn add_child(
     ensures refused { IfErr result (λ f. f ≡ AddFault.NoMemory) }
 {
     let parent = entry.parent;
-    let name = entry.name.copy();
     if entries.push(entry).is_err() {
         return Err(AddFault::NoMemory);
     }
-    if children.put(parent, &name, Node(entries.len())).is_err() {
+    let number = entries.len();
+    let name = &entries[number - 1].name;
+    if children.put(parent, name, Node(number)).is_err() {
         entries.pop();
         return Err(AddFault::NoMemory);
     }

@@ -1,6 +1,7 @@
 //! Names, paths and trees of Amiga volumes.
 #![tactic(auto)]
 
+mod bounds;
 mod child_map;
 mod comment;
 mod draft;
