@@ -2,12 +2,10 @@
 use Rattle.std.proofs.Common.{◌≡◌, ◌≢◌, ◌⊎◌, inl, inr, ℕ, suc, List, [], ◌∷◌, ◌++◌, ◌+◌, ◌<◌, length, set, Bool, true, false, refl, sym, ap, subst, ◌∙◌, arith, Some, None}
 use Rattle.std.specs.Prelude.{◌↔◌, ◌||◌, not}
 use Rattle.std.specs.Str.{bytes_eq}
-use Rattle.std.specs.BTreeSet.{BTreeSet}
 use Rattle.std.proofs.lemmas.Slice.Eq.{bytes_eq-Decides}
-use Rattle.arrayvec.specs.ArrayVec.{ArrayVec}
 use Rattle.adf_fields.specs.Words.{block}
 use Rattle.adf_tree.specs.Texts.{uppers}
-use Rattle.adf_tree.specs.NameSet.{has, HasMore}
+use Rattle.adf_tree.specs.NameSet.{has, HasMore, Names}
 use Rattle.adf_blocks.specs.declared.cause.Cause.{Cause}
 use Rattle.adf_blocks.specs.declared.cause.Cause.TheVariants.{SameName}
 use Rattle.adf_blocks.specs.Forms.{first_cause, text_at}
@@ -29,7 +27,7 @@ use Rattle.adf_check.specs.Image.{IsBegun}
 use Rattle.adf_check.specs.declared.fault.Fault.{Fault}
 
 -- one name more is seen
-seen_more : (old new : BTreeSet (ArrayVec ℕ)) (name : List ℕ) → HasMore old new name → (x : List ℕ) → sees_of new x ↔ (sees_of old x ⊎ (name ≡ x))
+seen_more : (old new : Names) (name : List ℕ) → HasMore old new name → (x : List ℕ) → sees_of new x ↔ (sees_of old x ⊎ (name ≡ x))
 seen_more old new name h x = (to, from)
   where
     either : (a b : Bool) → (a || b) ≡ true → (b ≡ true) ⊎ (a ≡ true)
@@ -49,7 +47,7 @@ seen_more old new name h x = (to, from)
     from (inr y) = h x ∙ joined (bytes_eq name x) (has old x) (inr ((bytes_eq-Decides name x).1 y))
 
 -- a word of block a names block b next in the chain of slot s of directory p
-module _ (image : List ℕ) (store : Store) (p up s a b : ℕ) (names : BTreeSet (ArrayVec ℕ)) (lt : s < 72) (begun : IsBegun image) (st : IsInChain image store p up s a b (sees_of names)) (ne : b ≢ 0) where
+module _ (image : List ℕ) (store : Store) (p up s a b : ℕ) (names : Names) (lt : s < 72) (begun : IsBegun image) (st : IsInChain image store p up s a b (sees_of names)) (ne : b ≢ 0) where
   pub member_claim : (f : Fault) → IsClaimFault store.owners a b f → IsTrueFault image f
   member_claim f h = head_claim image store p up s a b (sees_of names) f lt begun st ne h
 
@@ -69,7 +67,7 @@ module _ (image : List ℕ) (store : Store) (p up s a b : ℕ) (names : BTreeSet
       pub member_twice : has names (uppers (name_of image b)) ≡ true → FirstFault image b SameName
       member_twice h = fault_name image store p up s a b (sees_of names) lt begun st ne r.0 below free (all_told b (head_form (kind_of image) b up s (block image b)) form) h
 
-      pub member_done : (owners : List Owner) (used : ℕ) (new : BTreeSet (ArrayVec ℕ)) → owners ≡ set store.owners b (AHead (length store.rows + 1)) → used ≡ store.used + 1
+      pub member_done : (owners : List Owner) (used : ℕ) (new : Names) → owners ≡ set store.owners b (AHead (length store.rows + 1)) → used ≡ store.used + 1
           → has names (uppers (name_of image b)) ≡ false → HasMore names new (uppers (name_of image b))
           → IsInChain image (record { owners = owners; rows = store.rows ++ record { parent = p; head = b } ∷ []; starts = store.starts; exts = store.exts; datas = store.datas; used = used }) p up s b (word_in image b 124) (sees_of new)
       member_done owners used new o u fresh more =

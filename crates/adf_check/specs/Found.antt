@@ -1,8 +1,6 @@
 -- What the checker has read so far.
 use Rattle.std.specs.Prelude.{◌≡◌, ◌≢◌, ◌⊎◌, ◌≤◌, ◌<◌, ◌-◌, ◌+◌, ℕ, List, length, true}
-use Rattle.std.specs.BTreeSet.{BTreeSet}
-use Rattle.arrayvec.specs.ArrayVec.{ArrayVec}
-use Rattle.adf_tree.specs.NameSet.{has}
+use Rattle.adf_tree.specs.NameSet.{has, Names}
 use Rattle.adf_blocks.specs.declared.cause.Cause.TheVariants.{NoMemory, OutOfRange, Taken}
 use Rattle.adf_volume.specs.declared.owner.Owner.{Owner}
 use Rattle.adf_volume.specs.declared.owner.Owner.TheVariants.{Free}
@@ -30,7 +28,7 @@ abbrev pub IsFurther : Found → Found → Type 0
 IsFurther f g = (left_with_rows g ≤ left_with_rows f) × (length f.rows.items ≤ length g.rows.items)
 
 -- the names in the set
-abbrev pub sees_of : BTreeSet (ArrayVec ℕ) → List ℕ → Type 0
+abbrev pub sees_of : Names → List ℕ → Type 0
 sees_of names x = has names x ≡ true
 
 -- block b is one that a part of a volume of n blocks may have

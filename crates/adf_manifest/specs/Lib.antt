@@ -4,3 +4,4 @@ pub mod Lines
 pub mod Items
 pub mod Manifest
 pub mod Reader
+pub mod Kinds

@@ -1,6 +1,7 @@
 // Manifests.
 
 ghost use Rattle.std.specs.Prelude.{◌≡◌, ◌≤◌, ◌++◌, ◌∷◌, IfOk, IfErr, length, option_map};
+ghost use Rattle.adf_manifest.specs.Kinds.{kind_number};
 ghost use Rattle.adf_manifest.specs.Manifest.{AddingLinesGivesTheTree, ExplainsFault, IsManifest, IsWell, LinesHaveOneFault, Manifest, ManifestsAreFaultless, ManifestsAreOfOneTree, manifest_lines, manifest_tree, most_bytes, parts, parts_behind, without_last_feed};
 ghost use Rattle.adf_manifest.specs.Reader.{ExplainsLines, Tells, line_of_fault};
 
@@ -31,6 +32,15 @@ pub enum ManifestKind {
     NoMemory = 7,
     /// The manifest has more than `MOST_BYTES` bytes.
     TooLong = 8,
+}
+
+impl ManifestKind {
+    /// The number of the kind, 1 to 8.
+    pub fn number(self) -> u8
+        ensures { result ≡ kind_number self }
+    {
+        self as u8
+    }
 }
 
 /// The first line with a fault, and the first kind there.

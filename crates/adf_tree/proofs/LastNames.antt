@@ -4,64 +4,27 @@ use Rattle.std.specs.List.{list_any}
 use Rattle.std.specs.List.Sorted.{IsPartitionPoint}
 use Rattle.std.specs.Option.{is_some}
 use Rattle.std.specs.Result.{is_err, OnOk}
-use Rattle.std.specs.Ordering.{nat_cmp, is_eq}
-use Rattle.std.specs.declared.cmp.Ordering.{Ordering}
-use Rattle.std.specs.declared.cmp.Ordering.TheVariants.{Less, Equal, Greater}
-use Rattle.std.specs.Cmp.Lexicographic.{slice_cmp}
 use Rattle.std.specs.Str.{bytes_eq}
-use Rattle.std.specs.BTreeSet.{BTreeSet, Updates}
-use Rattle.std.proofs.lemmas.Bool.{cases_Bool, both_ways, and_parts, eq-eqb, eqb-true}
-use Rattle.std.proofs.lemmas.Cmp.{tied_itself, nat_list_cmp_total}
+use Rattle.std.proofs.lemmas.Bool.{and_parts, eq-eqb, eqb-true}
 use Rattle.std.proofs.lemmas.List.{take_all, drop_all}
 use Rattle.std.proofs.lemmas.Bool.Decides.{nat_tests}
 use Rattle.std.proofs.lemmas.List.Sums.{position_or_len_is}
 use Rattle.std.proofs.lemmas.List.Folds.{list_any-append, list_any_at, list_any_none}
-use Rattle.std.proofs.lemmas.Map.Lookups.{exact_bytes}
-use Rattle.std.proofs.lemmas.Slice.Eq.{bytes_eq-Decides}
-use Rattle.arrayvec.specs.ArrayVec.{ArrayVec}
 use Rattle.adf_fields.specs.Hash.{slot_of}
 use Rattle.adf_tree.specs.declared.entry.Entry.{Entry}
 use Rattle.adf_tree.specs.declared.last_chain.LastChain.{LastChain}
 use Rattle.adf_tree.specs.Texts.{uppers}
 use Rattle.adf_tree.specs.Tree.{place, rank, rank_of, renumbered, added, is_child, child}
-use Rattle.adf_tree.specs.NameSet.{by_bytes, has}
+use Rattle.adf_tree.specs.NameSet.{has}
 use Rattle.adf_tree.specs.LastChain.{knows, IsOf, Puts}
 use Rattle.adf_tree.proofs.Children.{child_not_before}
 use Rattle.adf_tree.proofs.Found.{found_is}
 use Rattle.adf_tree.proofs.Rooms.{none_is}
 
--- bytes are equal where they compare so
-equal_is : (o : Ordering) → is_eq o ≡ true → o ≡ Equal
-equal_is Less h = cc
-equal_is Equal h = refl
-equal_is Greater h = cc
-
-pub compared : (x y : List ℕ) → is_eq (slice_cmp nat_cmp x y) ≡ bytes_eq x y
-compared x y =
-    elim (cases_Bool (bytes_eq x y)) [
-      | inl t ↦
-          let same : x ≡ y = (bytes_eq-Decides x y).0 t in
-          ap is_eq (ap (slice_cmp nat_cmp x) (sym same) ∙ tied_itself nat_list_cmp_total x) ∙ sym t
-      | inr f ↦
-          elim (cases_Bool (is_eq (slice_cmp nat_cmp x y))) [
-            | inl t ↦ absurd (both_ways (bytes_eq x y) f ((bytes_eq-Decides x y).1 (exact_bytes x y (equal_is (slice_cmp nat_cmp x y) t))))
-            | inr g ↦ g ∙ sym f
-          ]
-    ]
-
-cond_or : (a b : Bool) → cond a true b ≡ (a || b)
-cond_or true b = refl
-cond_or false b = refl
-
 -- what is said of an Ok
 pub at_ok : {X Y P : Type 0} (r : Result X Y) → is_err r ≡ false → OnOk r P → P
 at_ok (Ok x) h p = p
 at_ok (Err y) h p = cc
-
--- a set with one name more
-pub has_more : (old new : BTreeSet (ArrayVec ℕ)) (k : ArrayVec ℕ) (x : List ℕ) → Updates by_bytes old new k true → has new x ≡ (bytes_eq k.items x || has old x)
-has_more old new k x up =
-    up.0 (record { items = x }) ∙ (cond_or (is_eq (slice_cmp nat_cmp k.items x)) (has old x) ∙ ap (λ b. b || has old x) (compared k.items x))
 
 -- a child is found where some entry is one
 any_of : (es : List Entry) (p : ℕ) (name : List ℕ) (m : ℕ) → child es p name ≡ Some m → list_any (is_child p name) es ≡ true

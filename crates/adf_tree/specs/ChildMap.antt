@@ -1,23 +1,37 @@
 -- Entries by their parents and names.
-use Rattle.std.specs.Prelude.{◌≡◌, ℕ, ◌==◌, ◌&&◌, List, Option, Some, if◌then◌else◌}
+use Rattle.std.specs.Prelude.{◌≡◌, ℕ, ◌+◌, ◌%◌, ◌^◌, ◌==◌, ◌&&◌, List, Option, Some, None, if◌then◌else◌}
+use Rattle.std.specs.List.{slice_get}
 use Rattle.std.specs.Ordering.{nat_cmp, ordering_then}
 use Rattle.std.specs.declared.cmp.Ordering.{Ordering}
-use Rattle.std.specs.Cmp.Lexicographic.{slice_cmp}
 use Rattle.std.specs.Str.{bytes_eq}
 use Rattle.std.specs.BTreeMap.{BTreeMap, get}
-use Rattle.arrayvec.specs.ArrayVec.{ArrayVec}
+use Rattle.adf_tree.specs.declared.child_map.ChildKey.{ChildKey}
+use Rattle.adf_tree.specs.NameKeys.{by_words, is_short, key_of}
 
--- numbers by parents and names in upper case
+-- numbers by parents and names in upper case, in buckets
 abbrev pub Numbers : Type 0
-Numbers = BTreeMap (ℕ × ArrayVec ℕ) ℕ
+Numbers = List (BTreeMap ChildKey ℕ)
 
--- the order of parents, and under one parent of the names' bytes
-abbrev pub by_parent : ℕ × ArrayVec ℕ → ℕ × ArrayVec ℕ → Ordering
-by_parent a b = ordering_then (nat_cmp a.0 b.0) (slice_cmp nat_cmp a.1.items b.1.items)
+-- the key of a parent and a name
+abbrev pub child_key : ℕ → List ℕ → ChildKey
+child_key parent name = record { name = key_of name; parent = parent }
+
+-- the order of names, and of one name of the parents
+abbrev pub by_child : ChildKey → ChildKey → Ordering
+by_child a b = ordering_then (by_words a.name b.name) (nat_cmp a.parent b.parent)
+
+-- the bucket of a key
+abbrev pub bucket_of : ChildKey → ℕ
+bucket_of k = ((((k.name.first + k.name.second) % 2 ^ 64 + k.name.third) % 2 ^ 64 + k.name.fourth) % 2 ^ 64 + k.parent) % 2 ^ 64 % 1021
+
+-- the number of a key in its bucket
+abbrev pub number_at : Option (BTreeMap ChildKey ℕ) → ChildKey → Option ℕ
+number_at None k = None
+number_at (Some bucket) k = get by_child bucket k
 
 -- the number of this parent and name
-abbrev pub number_in : Numbers → ℕ → List ℕ → Option ℕ
-number_in numbers parent name = get by_parent numbers (parent, record { items = name })
+unfoldable pub number_in : Numbers → ℕ → List ℕ → Option ℕ
+number_in numbers parent name = if is_short name then number_at (slice_get numbers (bucket_of (child_key parent name))) (child_key parent name) else None
 
 -- the new numbers are the old ones, and one of this parent and name
 abbrev pub HasNumber : Numbers → Numbers → ℕ → List ℕ → ℕ → Type 0

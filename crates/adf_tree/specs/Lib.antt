@@ -1,6 +1,9 @@
 pub mod Texts
 pub mod Tree
+pub mod Bounds
+pub mod Faults
 pub mod Chain
+pub mod NameKeys
 pub mod NameSet
 pub mod LastChain
 pub mod Paths

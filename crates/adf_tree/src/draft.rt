@@ -36,12 +36,12 @@ impl Model for Draft {
 
     ghost view = { λ d. record { kind = d.kind; label = d.label; stamps = d.stamps; entries = (walk d.entries.items).entries } };
 
-    ghost invariant = { λ d. IsDraft d.entries.items d.children.numbers };
+    ghost invariant = { λ d. IsDraft d.entries.items d.children.buckets.items };
 }
 
 // The directory that the path leads to, by its number among the additions.
 fn directory(entries: &[Entry], children: &ChildMap, path: &[Name]) -> Result<Node, AddFault>
-    requires { IsDraft entries.now children.now.numbers }
+    requires { IsDraft entries.now children.now.buckets.items }
     ensures room { directory_from (walk entries.now).entries 0 path.now ≡ room_in_tree (walk entries.now).nodes result }
     ensures within { IfOk result (λ m. m ≤ length entries.now) }
 {
@@ -67,7 +67,7 @@ fn room(
     path: &[Name],
     name: &Name,
 ) -> Result<Node, AddFault>
-    requires { IsDraft entries.now children.now.numbers }
+    requires { IsDraft entries.now children.now.buckets.items }
     ensures room { room_at (walk entries.now).entries name.now (directory_from (walk entries.now).entries 0 path.now) ≡ room_in_tree (walk entries.now).nodes result }
     ensures within { IfOk result (λ m. m ≤ length entries.now) }
 {
@@ -85,16 +85,17 @@ fn add_child(
     entry: Entry,
 ) -> Result<(), AddFault>
     ensures entries { entries.new.items ≡ if is_ok result then entries.old.items ++ entry ∷ [] else entries.old.items }
-    ensures more { OnOk result (HasNumber children.old.numbers children.new.numbers entry.parent (uppers entry.name) (length entries.old.items + 1)) }
-    ensures same { OnErr result ((p : ℕ) (x : List ℕ) → number_in children.new.numbers p x ≡ number_in children.old.numbers p x) }
+    ensures more { OnOk result (HasNumber children.old.buckets.items children.new.buckets.items entry.parent (uppers entry.name) (length entries.old.items + 1)) }
+    ensures same { OnErr result ((p : ℕ) (x : List ℕ) → number_in children.new.buckets.items p x ≡ number_in children.old.buckets.items p x) }
     ensures refused { IfErr result (λ f. f ≡ AddFault.NoMemory) }
 {
     let parent = entry.parent;
-    let name = entry.name.copy();
     if entries.push(entry).is_err() {
         return Err(AddFault::NoMemory);
     }
-    if children.put(parent, &name, Node(entries.len())).is_err() {
+    let number = entries.len();
+    let name = &entries[number - 1].name;
+    if children.put(parent, name, Node(number)).is_err() {
         entries.pop();
         return Err(AddFault::NoMemory);
     }

@@ -1,6 +1,7 @@
 //! Names, paths and trees of Amiga volumes.
 #![tactic(auto)]
 
+mod bounds;
 mod child_map;
 mod comment;
 mod draft;
@@ -12,6 +13,7 @@ mod last_chain;
 mod laws;
 mod lookup;
 mod name;
+mod name_key;
 mod name_set;
 mod path_texts;
 mod tree;

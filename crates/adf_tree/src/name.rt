@@ -57,7 +57,9 @@ impl Name {
     pub fn copy(&self) -> Name
         ensures { result ≡ self.now }
     {
-        Name::new(self.bytes()).unwrap()
+        Name {
+            text: ArrayVec::try_from(self.bytes()).unwrap(),
+        }
     }
 
     /// Whether the names are equal without the case of `a` to `z`.

@@ -4,6 +4,7 @@ ghost use Rattle.std.specs.Prelude.{◌≡◌, ◌==◌, position, ◌≢◌, �
 ghost use Rattle.std.specs.Bool.{OnTrue, OnFalse};
 ghost use Rattle.std.specs.String.{string_bytes};
 ghost use Rattle.adf_tree.specs.Escapes.{escaped};
+ghost use Rattle.adf_tree.specs.Faults.{path_fault_number};
 ghost use Rattle.adf_tree.specs.PathTexts.{parts, path_text, with_name, IsName, IsPathText, PathTextsDecide};
 
 use crate::escapes::{push_escaped, read_escaped};
@@ -12,12 +13,21 @@ use adf_fields::NoMemory;
 use std::alloc::{AllocError, Global};
 
 /// Why a text is not read as a path.
-#[derive(Debug, PartialEq, Eq, Drop)]
+#[derive(Clone, Copy, Debug, PartialEq, Eq)]
 pub enum PathFault {
     /// The text is that of no list of names.
     BadText = 1,
     /// A growth was refused.
     NoMemory = 2,
+}
+
+impl PathFault {
+    /// The number of the fault, 1 or 2.
+    pub fn number(self) -> u8
+        ensures { result ≡ path_fault_number self }
+    {
+        self as u8
+    }
 }
 
 // The name whose escape form the text is.
@@ -100,10 +110,10 @@ pub fn read_path(alloc: Global, text: &[u8]) -> Result<Vec<Name>, PathFault>
     if text.is_empty() {
         return Ok(Vec::new(alloc));
     }
-    if !has_names(text) {
-        return Err(PathFault::BadText);
+    match names_of(alloc, text) {
+        Err(PathFault::NoMemory) if !has_names(text) => Err(PathFault::BadText),
+        answer => answer,
     }
-    names_of(alloc, text)
 }
 
 // Appends a name to the text of a path, after a `/` where it is not the first.

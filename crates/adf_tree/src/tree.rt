@@ -3,8 +3,11 @@
 ghost use Rattle.std.specs.Prelude.{◌≡◌, ◌<◌, [], length, is_ok, if◌then◌else◌, OnOk};
 ghost use Rattle.std.specs.Option.{option_copied};
 ghost use Rattle.adf_tree.specs.Tree.{entry, find, new_entry, room_for, with_entry, with_kind, with_last, IsAnswer, IsLast, IsTree, MayAdd};
+ghost use Rattle.adf_tree.specs.Faults.{add_fault_number};
+ghost use Rattle.adf_tree.specs.Bounds.{IsBounded};
 ghost use Rattle.adf_tree.specs.Paths.{AddsOne};
 
+use crate::bounds::{date_bounds, entry_bounds};
 use crate::entry::{Body, Entry, Kind, Meta, Node, Stamps};
 use crate::label::Label;
 use crate::last_chain::{LastChain, add_entry};
@@ -37,7 +40,7 @@ impl Model for Tree {
 }
 
 /// Why an entry is not added.
-#[derive(Debug, PartialEq, Eq, Drop)]
+#[derive(Clone, Copy, Debug, PartialEq, Eq)]
 pub enum AddFault {
     /// Of the shortest proper prefix of the path that is no directory, nothing is there.
     NoParent = 1,
@@ -49,6 +52,15 @@ pub enum AddFault {
     NoMemory = 4,
     /// The path has no name.
     EmptyPath = 5,
+}
+
+impl AddFault {
+    /// The number of the fault, 1 to 5.
+    pub fn number(self) -> u8
+        ensures { result ≡ add_fault_number self }
+    {
+        self as u8
+    }
 }
 
 impl Tree {
@@ -99,6 +111,19 @@ impl Tree {
         ensures tree { IsTree self.now.entries }
     {
         self.entries.len()
+    }
+
+    /// Tells that the fields of the tree are within the bounds of their types, and does nothing.
+    pub fn bounds(&self)
+        ensures { IsBounded self.now }
+    {
+        let _label = self.label.bytes();
+        date_bounds(&self.stamps.root);
+        date_bounds(&self.stamps.altered);
+        date_bounds(&self.stamps.created);
+        for entry in &self.entries {
+            entry_bounds(entry);
+        }
     }
 
     /// The directory that an entry under this path is added to, or why it is not added.

@@ -18,7 +18,7 @@ invariant_of-self c =
     let d : Entry = record { parent = m; name = c.copy-name.result; meta = c.args.meta; body = c.args.body } in
     let room = subst (λ (xs : List Entry). room_at (walk xs).entries c.copy-name.result (directory_from (walk xs).entries 0 parents) ≡ Ok (node_of (walk xs).nodes m)) c.deref.ensures.value c.in_ok-parent.ensures.room in
     let small : m ≤ length drafts = subst (λ (xs : List Entry). m ≤ length xs) c.deref.ensures.value c.in_ok-parent.ensures.within in
-    kept_draft drafts c.add_child.new.entries.items c.self.inside.children.numbers c.add_child.new.children.numbers c.add_child.result d c.self.invariant small
+    kept_draft drafts c.add_child.new.entries.items c.self.inside.children.buckets.items c.add_child.new.children.buckets.items c.add_child.result d c.self.invariant small
     (room_may_add (walk drafts).entries (in_tree (walk drafts).nodes d) parents room) c.add_child.ensures.entries c.add_child.ensures.more c.add_child.ensures.same
 
 pub returns-clause-tree : goal.returns-clause-tree

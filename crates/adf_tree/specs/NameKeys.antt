@@ -1,0 +1,31 @@
+-- Names as numbers.
+use Rattle.std.specs.Prelude.{ℕ, ◌+◌, ◌-◌, ◌&&◌, nat_lt, nat_le, Bool, List, ◌∷◌, ◌++◌, length, take, drop, replicate}
+use Rattle.std.specs.List.{list_all}
+use Rattle.std.specs.Int.{from_be_bytes, w64}
+use Rattle.std.specs.Ordering.{nat_cmp, ordering_then}
+use Rattle.std.specs.declared.cmp.Ordering.{Ordering}
+use Rattle.adf_tree.specs.declared.name_key.NameKey.{NameKey}
+
+-- whether these are bytes, and no more than a name has
+abbrev pub is_short : List ℕ → Bool
+is_short bytes = nat_le (length bytes) 30 && list_all (λ c. nat_lt c 256) bytes
+
+-- the length of a name, its bytes, and zeros
+abbrev pub padded : List ℕ → List ℕ
+padded bytes = length bytes ∷ (bytes ++ replicate (31 - length bytes) 0)
+
+-- the number that the 8 bytes from a place on are
+abbrev pub word_in : List ℕ → ℕ → ℕ
+word_in text from = from_be_bytes w64 (take 8 (drop from text))
+
+-- the key of a text
+abbrev pub key_in : List ℕ → NameKey
+key_in text = record { first = word_in text 0; second = word_in text 8; third = word_in text 16; fourth = word_in text 24 }
+
+-- the key of a name
+abbrev pub key_of : List ℕ → NameKey
+key_of bytes = key_in (padded bytes)
+
+-- keys in the order of their numbers
+abbrev pub by_words : NameKey → NameKey → Ordering
+by_words a b = ordering_then (nat_cmp a.first b.first) (ordering_then (nat_cmp a.second b.second) (ordering_then (nat_cmp a.third b.third) (nat_cmp a.fourth b.fourth)))

@@ -1,0 +1,35 @@
+// The bounds of the fields of a tree.
+
+ghost use Rattle.adf_tree.specs.Bounds.{IsBoundedEntry, IsData, IsDate};
+
+use crate::entry::{Body, Entry};
+use adf_fields::Stamp;
+
+/// A date's numbers have 32 bits.
+pub fn date_bounds(stamp: &Stamp)
+    ensures { IsDate stamp.now }
+{
+    let _days = stamp.days;
+    let _mins = stamp.mins;
+    let _ticks = stamp.ticks;
+}
+
+// The bytes of a file are no more than memory can have.
+fn body_bounds(body: &Body)
+    ensures { IsData body.now }
+{
+    if let Body::File(bytes) = body {
+        let _count = bytes.bytes().len();
+    }
+}
+
+/// The fields of an entry are within their bounds.
+pub fn entry_bounds(entry: &Entry)
+    ensures { IsBoundedEntry entry.now }
+{
+    let _name = entry.name.bytes();
+    let _comment = entry.meta.comment.bytes();
+    let _protect = entry.meta.protect;
+    date_bounds(&entry.meta.stamp);
+    body_bounds(&entry.body);
+}

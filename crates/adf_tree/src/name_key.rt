@@ -1,0 +1,57 @@
+// Names as numbers, so that two names are compared by a few words.
+
+ghost use Rattle.std.specs.Prelude.{◌≡◌, ◌≤◌, ◌+◌, length, true};
+ghost use Rattle.adf_tree.specs.Texts.{uppers};
+ghost use Rattle.adf_tree.specs.NameKeys.{is_short, key_of, padded, word_in};
+
+use crate::name::Name;
+use adf_fields::upper;
+
+/// A name without the case of `a` to `z`, its length before its bytes, as four numbers.
+#[derive(Clone, Copy, PartialEq, Eq, PartialOrd, Ord, Drop)]
+pub struct NameKey {
+    pub first: u64,
+    pub second: u64,
+    pub third: u64,
+    pub fourth: u64,
+}
+
+// The length of a name, its bytes without case, and zeros.
+fn padded(name: &[u8]) -> [u8; 32]
+    requires { length name.now ≤ 30 }
+    ensures bytes { result ≡ padded (uppers name.now) }
+    ensures short { is_short (uppers name.now) ≡ true }
+{
+    let count = name.len();
+    let mut text = [0u8; 32];
+    for i in 0..count {
+        text[i + 1] = upper(name[i]);
+    }
+    text[0] = count as u8;
+    text
+}
+
+// The number that the 8 bytes from a place on are.
+fn word_in(text: &[u8; 32], from: usize) -> u64
+    requires { from + 8 ≤ 32 }
+    ensures { result ≡ word_in text.now from }
+{
+    let bytes: [u8; 8] = text[from..from + 8].try_into().unwrap();
+    u64::from_be_bytes(bytes)
+}
+
+impl NameKey {
+    /// The key of a name.
+    pub fn of(name: &Name) -> NameKey
+        ensures key { result ≡ key_of (uppers name.now) }
+        ensures short { is_short (uppers name.now) ≡ true }
+    {
+        let text = padded(name.bytes());
+        NameKey {
+            first: word_in(&text, 0),
+            second: word_in(&text, 8),
+            third: word_in(&text, 16),
+            fourth: word_in(&text, 24),
+        }
+    }
+}
