@@ -1,3 +1,4 @@
+pub mod Claiming
 pub mod Faults
 pub mod Steps
 pub mod Bounds

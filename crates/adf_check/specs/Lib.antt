@@ -1,4 +1,5 @@
 pub mod Owners
+pub mod Narrow
 pub mod Checks
 pub mod Image
 pub mod Found

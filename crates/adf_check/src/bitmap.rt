@@ -3,6 +3,7 @@
 ghost use Rattle.std.specs.Prelude.{◌≡◌, ◌≤◌, ◌<◌, ◌+◌, ◌↔◌, IsTrue, length, OnOk, IfErr};
 ghost use Rattle.adf_blocks.specs.Sizes.{blocks, pages_needed};
 ghost use Rattle.adf_volume.specs.Reading.{IsMapped, IsRead, TellsFit};
+ghost use Rattle.adf_volume.specs.declared.owner.Owner.TheVariants.{Free};
 ghost use Rattle.adf_volume.specs.Store.{owner_at};
 ghost use Rattle.adf_check.specs.Found.{IsTrueFault, store_of};
 ghost use Rattle.adf_check.specs.Image.{IsBegun};
@@ -11,19 +12,15 @@ ghost use Rattle.adf_check.specs.Pages.{AreListed};
 use crate::fault::{Fault, fault_at};
 use crate::found::Found;
 use crate::image::Image;
-use crate::owners::Owners;
+use crate::owner_table::OwnerTable;
 use adf_blocks::{Cause, Page, place_of};
-use adf_volume::Owner;
 
 // Whether no part of the volume owns a block.
-fn is_unowned(owners: &Owners, b: u32) -> bool
+fn is_unowned(owners: &OwnerTable, b: u32) -> bool
     requires { b < length owners.now }
-    ensures { IsTrue result ↔ (owner_at owners.now b ≡ Owner.Free) }
+    ensures { IsTrue result ↔ (owner_at owners.now b ≡ Free) }
 {
-    match owners.get(b) {
-        Owner::Free => true,
-        _ => false,
-    }
+    owners.is_free(b)
 }
 
 // Compares the bit of block `b` with its owner.

@@ -10,9 +10,10 @@ use crate::claims::claim_named;
 use crate::fault::{Fault, fault_at};
 use crate::found::Found;
 use crate::image::Image;
+use crate::narrow_owner::NarrowOwner;
 use adf_blocks::{Cause, FIRST_SLOT, read_head};
 use adf_tree::{NameSet, Node};
-use adf_volume::{Owner, Row};
+use adf_volume::Row;
 
 /// The chain of a slot of a directory, whose block is `up`.
 #[derive(Drop)]
@@ -52,8 +53,8 @@ fn read_member(
     ensures fault { IfErr result (λ f. IsTrueFault image.now f) }
 {
     let kind = image.kind();
-    let node = Node(found.rows.len() + 1);
-    claim_named(&mut found.owners, at, b, Owner::Head(node))?;
+    let owner = NarrowOwner::Head((found.rows.len() + 1) as u32);
+    claim_named(&mut found.owners, at, b, owner)?;
     let head = match read_head(image.block(b), kind, b, chain.up, chain.slot) {
         Ok(head) => head,
         Err(cause) => return Err(fault_at(b, cause)),
