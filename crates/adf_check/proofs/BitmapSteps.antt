@@ -1,6 +1,6 @@
 -- The steps along the bitmap.
-use Rattle.std.proofs.Common.{◌≡◌, ◌≢◌, ℕ, suc, List, ◌+◌, ◌-◌, ◌*◌, ◌/◌, ◌%◌, ◌<◌, length, Bool, true, false, IsTrue, refl, sym, inl, inr, ap, subst, ◌∙◌, arith}
-use Rattle.std.specs.Prelude.{◌↔◌, IsBitSet, slice_index}
+use Rattle.std.proofs.Common.{◌≡◌, ◌≢◌, ℕ, zero, suc, List, ◌^◌, ◌+◌, ◌-◌, ◌*◌, ◌/◌, ◌%◌, ◌<◌, ◌≤◌, length, Bool, true, false, IsTrue, refl, sym, inl, inr, ap, subst, ◌∙◌, arith}
+use Rattle.std.specs.Prelude.{◌↔◌, IsBitSet, bit_and, slice_index}
 use Rattle.adf_blocks.specs.declared.cause.Cause.TheVariants.{LostBlock, OwnedFree}
 use Rattle.adf_blocks.specs.Sizes.{blocks, pages_needed}
 use Rattle.adf_volume.specs.declared.owner.Owner.TheVariants.{Free}
@@ -74,3 +74,21 @@ module _ (image : List ℕ) (store : Store) (pages : List ℕ) (i bit b : ℕ) (
 
   pub bit_agrees : IsTrue free ↔ (owner_at store.owners b ≡ Free) → IsMapped image store (b + 1)
   bit_agrees h = agrees_by free refl h
+
+-- no bit of 0 is set
+no_bit : (word bit : ℕ) → word ≡ 0 → IsTrue false ↔ IsBitSet word bit
+no_bit word bit e = ((λ h. absurd (let x : false ≡ true = h in cc)), (λ h. absurd (h (ap (λ w. bit_and w (2 ^ bit)) e))))
+
+-- where a word is 0 and its first blocks are owned, the bitmap agrees on them
+pub owned_run : (image : List ℕ) (store : Store) (pages : List ℕ) (i n : ℕ) → n ≤ 32 → 2 + 32 * i + n ≤ blocks image → IsBegun image → AreListed image pages (pages_needed (blocks image))
+    → word_in image (slice_index pages (i / 127)) (1 + i % 127) ≡ 0 → ((b : ℕ) → 2 + 32 * i ≤ b → b < 2 + 32 * i + n → owner_at store.owners b ≢ Free) → IsMapped image store (2 + 32 * i)
+    → IsMapped image store (2 + 32 * i + n)
+owned_run image store pages i zero few hi begun listed none owned st = let e : 2 + 32 * i ≡ 2 + 32 * i + 0 = omega arith in subst (IsMapped image store) e st
+owned_run image store pages i (suc n) few hi begun listed none owned st =
+    let b : ℕ = 2 + 32 * i + n in
+    let before = owned_run image store pages i n (omega arith) (omega arith) begun listed none (λ c lo lt. owned c lo (omega arith)) st in
+    let here : owner_at store.owners b ≢ Free = owned b (omega arith) (omega arith) in
+    let e : b + 1 ≡ 2 + 32 * i + suc n = omega arith in
+    subst (IsMapped image store) e
+    (bit_agrees image store pages i n b refl (omega arith) begun (omega arith) listed before false (no_bit _ n none)
+    ((λ h. absurd (let x : false ≡ true = h in cc)), (λ h. absurd (here h))))

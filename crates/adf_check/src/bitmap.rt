@@ -59,6 +59,9 @@ fn check_word(image: &Image<'_>, found: &Found, pages: &[u32], i: u32) -> Result
     let word = image.word(page, 1 + (i % PAGE_WORDS) as usize);
     let first = 2 + 32 * i;
     let len = (blocks - first).min(32);
+    if word == 0 && !found.owners.has_free(first, first + len) {
+        return Ok(());
+    }
     for bit in 0..len {
         check_block(&found.owners, first + bit, is_set(word, bit))?;
     }

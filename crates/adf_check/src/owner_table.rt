@@ -1,6 +1,6 @@
 // Who owns each block of the image that is checked.
 
-ghost use Rattle.std.specs.Prelude.{◌≡◌, ◌≢◌, ◌≤◌, ◌<◌, ◌+◌, ◌-◌, ◌∷◌, ◌++◌, ◌↔◌, [], length, replicate, true, false, IsTrue, IsOk, IfOk, IfErr, OnOk, OnErr, slice_set};
+ghost use Rattle.std.specs.Prelude.{◌≡◌, ◌≢◌, ◌≤◌, ◌<◌, ◌+◌, ◌-◌, ◌∷◌, ◌++◌, ◌↔◌, [], length, replicate, ℕ, true, false, IsTrue, IsOk, IfOk, IfErr, OnOk, OnErr, slice_set};
 ghost use Rattle.adf_volume.specs.Store.{owner_at};
 ghost use Rattle.adf_check.specs.Narrow.{wide};
 ghost use Rattle.adf_check.specs.Owners.{is_part, owned_count};
@@ -97,6 +97,19 @@ impl OwnerTable {
             NarrowOwner::Free => true,
             _ => false,
         }
+    }
+
+    // Whether no part of the volume owns one of the blocks from `first` up to `end`.
+    pub fn has_free(&self, first: u32, end: u32) -> bool
+        requires { end ≤ length self.now }
+        ensures { result ≡ false → (b : ℕ) → first ≤ b → b < end → owner_at self.now b ≢ Owner.Free }
+    {
+        for b in first..end {
+            if self.is_free(b) {
+                return true;
+            }
+        }
+        false
     }
 
     // The owner of a block.
