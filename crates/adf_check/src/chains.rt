@@ -109,7 +109,11 @@ pub fn read_directory(
     ensures fewer { OnOk result (IsFurther found.old found.new) }
     ensures fault { IfErr result (λ f. IsTrueFault image.now f) }
 {
+    let directory = image.block(up);
     for slot in 0..72u8 {
+        if directory.word(FIRST_SLOT + slot as usize) == 0 {
+            continue;
+        }
         read_chain(image, found, seen, &Chain { parent, up, slot })?;
     }
     Ok(())
