@@ -8,7 +8,6 @@ use Rattle.adf_volume.specs.Image.{word_in}
 use Rattle.adf_volume.specs.Reading.{IsMapped}
 use Rattle.adf_volume.specs.Store.{Store, owner_at}
 use Rattle.adf_volume.specs.Walk.{FirstFault}
-use Rattle.adf_volume.proofs.Images.{page_in}
 use Rattle.adf_volume.proofs.InBitmap.{lost, owned_free, mapped_free, mapped_used}
 use Rattle.adf_check.proofs.Faults.{first_fault}
 use Rattle.adf_check.specs.Found.{IsTrueFault}
@@ -25,13 +24,6 @@ word_at i bit h = omega arith
 
 bit_at : (i bit : ℕ) → bit < 32 → (2 + 32 * i + bit - 2) % 4064 % 32 ≡ bit
 bit_at i bit h = omega arith
-
--- the page of a word is there
-pub page_there : (image pages : List ℕ) (i : ℕ) → 2 + 32 * i < blocks image → AreListed image pages (pages_needed (blocks image)) → i / 127 < length pages
-page_there image pages i hi listed =
-    let n : length pages ≡ pages_needed (blocks image) = listed.listed.size in
-    let h : (2 + 32 * i - 2) / 4064 < pages_needed (blocks image) = page_in (blocks image) (2 + 32 * i) (omega arith) hi in
-    omega arith
 
 -- block b, of bit `bit` of word i, in a volume whose bitmap agrees below it: what the bit tells
 module _ (image : List ℕ) (store : Store) (pages : List ℕ) (i bit b : ℕ) (e : b ≡ 2 + 32 * i + bit) (within : bit < 32) (begun : IsBegun image) (hi : b < blocks image) (listed : AreListed image pages (pages_needed (blocks image))) (st : IsMapped image store b) (free : Bool) (told : IsTrue free ↔ IsBitSet (word_in image (slice_index pages (i / 127)) (1 + i % 127)) bit) where
