@@ -1,11 +1,12 @@
 -- How many blocks and parts there are in an image that begins as a volume.
-use Rattle.std.proofs.Common.{◌≡◌, ℕ, zero, suc, List, ◌^◌, ◌<◌, ◌≤◌, length, ap, arith}
+use Rattle.std.proofs.Common.{◌≡◌, ℕ, zero, suc, List, ◌+◌, ◌^◌, ◌<◌, ◌≤◌, length, ap, arith}
 use Rattle.std.proofs.lemmas.List.Sums.{count_by-le-length}
 use Rattle.adf_blocks.specs.Sizes.{MOST_BLOCKS, blocks}
-use Rattle.adf_volume.specs.Walk.{DirAt, Role, heads}
+use Rattle.adf_volume.specs.Walk.{DirAt, FileAt, IsWalk, Role, heads}
 use Rattle.adf_volume.proofs.Sizes.{size_high, size_low}
 use Rattle.adf_volume.proofs.Lists.{at_below}
-use Rattle.adf_check.specs.Reading.{IsAtNode, IsInChain}
+use Rattle.adf_volume.proofs.Walks.{number_of}
+use Rattle.adf_check.specs.Reading.{IsAtNode, IsInChain, IsInDatas, IsInExts}
 use Rattle.adf_check.specs.Store.{Store, Tells, all_datas, all_exts}
 use Rattle.adf_check.specs.Image.{IsBegun}
 use Rattle.adf_check.specs.Owners.{is_part, owned_count}
@@ -51,3 +52,25 @@ module _ (image : List ℕ) (store : Store) (begun : IsBegun image) (used : stor
       let sum = parts_sum image st.upto.walk in
       let within = dir_within st.walk p up st.tells st.dir in
       omega arith
+
+  -- the number of a header that is due is short
+  pub entry_short : (p up s a b : ℕ) (seen : List ℕ → Type 0) → IsInChain image store p up s a b seen → length store.rows + 1 < 2 ^ 32
+  entry_short p up s a b seen st =
+      let short = walk_short image store st.walk begun used st.tells in
+      let sum = parts_sum image st.upto.walk in
+      let count : length store.rows ≡ heads st.walk = st.tells.lists.count in
+      omega arith
+
+  file_short : (w : List (Role × ℕ)) (n h : ℕ) → IsWalk image w → Tells image store w → FileAt image w n h → n < 2 ^ 32
+  file_short w n h walk tells file =
+      let short = walk_short image store w begun used tells in
+      let sum = parts_sum image walk in
+      let within = number_of image walk n file.0.0 file.0.1 file.0.2 h file.0.3 in
+      omega arith
+
+  -- the number of a file is short
+  pub file_in_exts : (n h : ℕ) (table : List ℕ) (a b : ℕ) → IsInExts image store n h table a b → n < 2 ^ 32
+  file_in_exts n h table a b st = file_short st.walk n h st.upto.walk st.tells st.file
+
+  pub file_in_datas : (n h : ℕ) (table : List ℕ) (k : ℕ) → IsInDatas image store n h table k → n < 2 ^ 32
+  file_in_datas n h table k st = file_short st.walk n h st.upto.walk st.tells st.file

@@ -17,9 +17,9 @@ use Rattle.adf_volume.specs.Image.{kind_of, name_of, word_in}
 use Rattle.adf_volume.specs.Walk.{FirstFault}
 use Rattle.adf_volume.specs.Walk.Role.{Head}
 use Rattle.adf_volume.proofs.Told.{all_told, first_told}
-use Rattle.adf_check.specs.Reading.{IsInChain}
+use Rattle.adf_check.specs.Reading.{IsInChain, IsAtSlot}
 use Rattle.adf_check.specs.Store.{Store, owner_at}
-use Rattle.adf_check.proofs.InChains.{fault_form, fault_name, next_chain}
+use Rattle.adf_check.proofs.InChains.{fault_form, fault_name, next_chain, chain_begins, chain_ends}
 use Rattle.adf_check.proofs.Faults.{head_claim}
 use Rattle.adf_check.proofs.Steps.{stored_is}
 use Rattle.adf_check.specs.Found.{InRange, IsClaimFault, IsTrueFault, sees_of}
@@ -45,6 +45,14 @@ seen_more old new name h x = (to, from)
     from : sees_of old x ⊎ (name ≡ x) → sees_of new x
     from (inl y) = h x ∙ joined (bytes_eq name x) (has old x) (inl y)
     from (inr y) = h x ∙ joined (bytes_eq name x) (has old x) (inr ((bytes_eq-Decides name x).1 y))
+
+-- a slot whose word is 0 has no chain
+pub empty_chain : (image : List ℕ) (store : Store) (p up s : ℕ) → IsAtSlot image store p up s → word_in image up (6 + s) ≡ 0 → IsAtSlot image store p up (s + 1)
+empty_chain image store p up s st none =
+    let seen : List ℕ → Type 0 = λ x. ⊥ in
+    let next : suc s ≡ s + 1 = omega arith in
+    let begins : IsInChain image store p up s up (word_in image up (6 + s)) seen = chain_begins image store p up s seen (λ x h. h) st in
+    subst (IsAtSlot image store p up) next (chain_ends image store p up s up seen (subst (λ b. IsInChain image store p up s up b seen) none begins))
 
 -- a word of block a names block b next in the chain of slot s of directory p
 module _ (image : List ℕ) (store : Store) (p up s a b : ℕ) (names : Names) (lt : s < 72) (begun : IsBegun image) (st : IsInChain image store p up s a b (sees_of names)) (ne : b ≢ 0) where

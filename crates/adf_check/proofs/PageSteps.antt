@@ -1,7 +1,8 @@
 -- The steps along the bitmap pages and the bitmap extension blocks.
-use Rattle.std.proofs.Common.{◌≡◌, ℕ, suc, List, [], ◌∷◌, ◌++◌, ◌+◌, ◌-◌, ◌*◌, ◌/◌, ◌%◌, ◌<◌, ◌≤◌, length, set, map, sym, ap, subst, ◌∙◌, arith, Some, None}
+use Rattle.std.proofs.Common.{◌≡◌, ℕ, zero, suc, List, [], ◌∷◌, ◌++◌, ◌+◌, ◌-◌, ◌*◌, ◌/◌, ◌%◌, ◌<◌, ◌≤◌}
+use Rattle.std.proofs.Common.{length, set, sym, subst, arith, Some, None}
+use Rattle.std.specs.Prelude.{slice_index}
 use Rattle.std.proofs.lemmas.Bool.Decides.{nat_tests}
-use Rattle.std.proofs.lemmas.List.{map-append}
 use Rattle.adf_fields.specs.Words.{block}
 use Rattle.adf_blocks.specs.declared.cause.Cause.{Cause}
 use Rattle.adf_blocks.specs.Forms.{first_cause}
@@ -106,17 +107,17 @@ module _ (image : List ℕ) (store : Store) (i a b : ℕ) (h : IsMapExtNext imag
       subst (λ s. IsAtPage image s i b) (stored_is store owners used (MapExt number) b o u)
       (map_ext_read image store i number a (index_of_map_ext i) b h.begun h.needed place h.state (of_root i) (of_map_ext i) h.named r.0 below free)
 
+all_below : (xs : List ℕ) (b n j : ℕ) → ((i : ℕ) → i < length xs → slice_index xs i < n) → b < n → j < length (xs ++ b ∷ []) → slice_index (xs ++ b ∷ []) j < n
+all_below [] b n zero h lt below = lt
+all_below [] b n (suc j) h lt below = absurd (omega arith)
+all_below (x ∷ xs) b n zero h lt below = h 0 (omega arith)
+all_below (x ∷ xs) b n (suc j) h lt below = all_below xs b n j (λ i inside. h (suc i) (omega arith)) lt (omega arith)
+
 -- one page more is listed
-pub list_done : (image : List ℕ) (pages : List (List ℕ)) (page : List ℕ) (i : ℕ) → AreListed image pages i → page ≡ block image (block_of_page image i)
-    → AreListed image (pages ++ page ∷ []) (i + 1)
-list_done image pages page i h p =
-    let k : suc i ≡ i + 1 = omega arith in
-    let b : ℕ = block_of_page image i in
-    record {
-      numbers = h.numbers ++ b ∷ [];
-      listed = subst (IsListed image (h.numbers ++ b ∷ [])) k (listed_more image h.numbers i h.listed);
-      views =
-          ap (λ v. v ++ page ∷ []) h.views
-          ∙ ap (λ p. map (block image) h.numbers ++ p ∷ []) p
-          ∙ sym (map-append (block image) h.numbers (b ∷ []));
-    }
+pub list_done : (image pages : List ℕ) (b i : ℕ) → AreListed image pages i → b ≡ block_of_page image i → b < blocks image → AreListed image (pages ++ b ∷ []) (i + 1)
+list_done image pages b i h e lt = record {
+  listed =
+      let k : suc i ≡ i + 1 = omega arith in
+      subst (λ x. IsListed image (pages ++ x ∷ []) (i + 1)) (sym e) (subst (IsListed image (pages ++ block_of_page image i ∷ [])) k (listed_more image pages i h.listed));
+  inside = (λ j below. all_below pages b (blocks image) j h.inside lt below);
+}

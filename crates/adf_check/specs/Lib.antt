@@ -3,6 +3,7 @@ pub mod Store
 pub mod Reading
 pub mod Keeps
 pub mod Owners
+pub mod Narrow
 pub mod Checks
 pub mod Image
 pub mod Found

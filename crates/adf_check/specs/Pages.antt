@@ -1,7 +1,13 @@
 -- The bitmap pages that were read.
-use Rattle.std.specs.Prelude.{◌≡◌, ℕ, List, ◌+◌, ◌-◌, ◌%◌, ◌==◌, cond, nat_lt, map}
-use Rattle.adf_fields.specs.Words.{block}
+use Rattle.std.specs.Prelude.{◌≡◌, ◌≢◌, ◌⊎◌, Bool, true, false, ℕ, List, ◌+◌, ◌-◌, ◌%◌, ◌<◌, ◌==◌, cond, nat_lt, length, slice_index}
+use Rattle.adf_blocks.specs.Sizes.{blocks}
+use Rattle.adf_blocks.specs.declared.cause.Cause.TheVariants.{LostBlock, OwnedFree}
+use Rattle.adf_volume.specs.declared.owner.Owner.{Owner}
+use Rattle.adf_volume.specs.declared.owner.Owner.TheVariants.{Free}
 use Rattle.adf_check.specs.Reading.{IsListed}
+use Rattle.adf_check.specs.Store.{owner_at}
+use Rattle.adf_check.specs.Checks.{fault}
+use Rattle.adf_check.specs.declared.fault.Fault.{Fault}
 
 -- the word that names page i, in the root or in a bitmap extension block
 abbrev pub index_of_page : ℕ → ℕ
@@ -11,8 +17,12 @@ index_of_page i = cond (nat_lt i 25) (79 + i) ((i - 25) % 127)
 abbrev pub index_of_map_ext : ℕ → ℕ
 index_of_map_ext i = cond (i == 25) 104 127
 
--- these are the bytes of the first k pages
-pub record AreListed (image : List ℕ) (pages : List (List ℕ)) (k : ℕ) : Type 0 where
-  pub numbers : List ℕ
-  pub listed : IsListed image numbers k
-  pub views : pages ≡ map (block image) numbers
+-- these are the blocks of the first k pages, and the image has them
+pub record AreListed (image : List ℕ) (pages : List ℕ) (k : ℕ) : Type 0 where
+  pub listed : IsListed image pages k
+  pub inside : (i : ℕ) → i < length pages → slice_index pages i < blocks image
+
+-- what the bitmap tells of block b is not what the owners do
+abbrev pub IsBitFault : List Owner → ℕ → Bool → Fault → Type 0
+IsBitFault owners b is_free f =
+    ((is_free ≡ false) × (owner_at owners b ≡ Free) × (f ≡ fault b LostBlock)) ⊎ ((is_free ≡ true) × (owner_at owners b ≢ Free) × (f ≡ fault b OwnedFree))

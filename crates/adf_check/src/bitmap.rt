@@ -1,43 +1,38 @@
 // The bitmap against the owners.
 
-ghost use Rattle.std.specs.Prelude.{◌≡◌, ◌≤◌, ◌<◌, ◌+◌, ◌↔◌, IsTrue, length, OnOk, IfErr};
+ghost use Rattle.std.specs.Prelude.{◌≡◌, ◌<◌, ◌+◌, ◌*◌, ◌↔◌, IsBitSet, IsTrue, length, min, OnOk, IfErr};
 ghost use Rattle.adf_blocks.specs.Sizes.{blocks, pages_needed};
+ghost use Rattle.adf_volume.specs.declared.owner.Owner.TheVariants.{Free};
 ghost use Rattle.adf_check.specs.Reading.{IsMapped, IsRead, TellsFit};
 ghost use Rattle.adf_check.specs.Store.{owner_at};
 ghost use Rattle.adf_check.specs.Found.{IsTrueFault, store_of};
 ghost use Rattle.adf_check.specs.Image.{IsBegun};
-ghost use Rattle.adf_check.specs.Pages.{AreListed};
+ghost use Rattle.adf_check.specs.Pages.{AreListed, IsBitFault};
 
 use crate::fault::{Fault, fault_at};
 use crate::found::Found;
 use crate::image::Image;
-use crate::owners::Owners;
-use adf_blocks::{Cause, Page, place_of};
-use adf_volume::Owner;
+use crate::owner_table::OwnerTable;
+use adf_blocks::{Cause, PAGE_BITS};
 
-// Whether no part of the volume owns a block.
-fn is_unowned(owners: &Owners, b: u32) -> bool
-    requires { b < length owners.now }
-    ensures { IsTrue result ↔ (owner_at owners.now b ≡ Owner.Free) }
+/// Words of bits in a page.
+const PAGE_WORDS: u32 = PAGE_BITS / 32;
+
+// Whether a bit of a word is set.
+fn is_set(word: u32, bit: u32) -> bool
+    requires { bit < 32 }
+    ensures { IsTrue result ↔ IsBitSet word bit }
 {
-    match owners.get(b) {
-        Owner::Free => true,
-        _ => false,
-    }
+    word & (1 << bit) != 0
 }
 
 // Compares the bit of block `b` with its owner.
-fn check_block(image: &Image<'_>, found: &Found, pages: &[Page<'_>], b: u32) -> Result<(), Fault>
-    requires begun { IsBegun image.now }
-    requires inside { b < blocks image.now }
-    requires pages { AreListed image.now pages.now (pages_needed (blocks image.now)) }
-    requires state { IsMapped image.now (store_of found.now) b }
-    ensures state { OnOk result (IsMapped image.now (store_of found.now) (b + 1)) }
-    ensures fault { IfErr result (λ f. IsTrueFault image.now f) }
+fn check_block(owners: &OwnerTable, b: u32, is_free: bool) -> Result<(), Fault>
+    requires { b < length owners.now }
+    ensures ok { OnOk result (IsTrue is_free ↔ (owner_at owners.now b ≡ Free)) }
+    ensures fault { IfErr result (λ f. IsBitFault owners.now b is_free f) }
 {
-    let (page, bit) = place_of(b);
-    let is_free = pages[page as usize].is_free(bit);
-    if is_unowned(&found.owners, b) {
+    if owners.is_free(b) {
         if is_free {
             Ok(())
         } else {
@@ -50,15 +45,39 @@ fn check_block(image: &Image<'_>, found: &Found, pages: &[Page<'_>], b: u32) -> 
     }
 }
 
+// Compares word `i` of the bitmap with the owners of its blocks.
+fn check_word(image: &Image<'_>, found: &Found, pages: &[u32], i: u32) -> Result<(), Fault>
+    requires begun { IsBegun image.now }
+    requires inside { 2 + 32 * i < blocks image.now }
+    requires pages { AreListed image.now pages.now (pages_needed (blocks image.now)) }
+    requires state { IsMapped image.now (store_of found.now) (2 + 32 * i) }
+    ensures state { OnOk result (IsMapped image.now (store_of found.now) (min (2 + 32 * (i + 1)) (blocks image.now))) }
+    ensures fault { IfErr result (λ f. IsTrueFault image.now f) }
+{
+    let blocks = image.blocks();
+    let page = pages[(i / PAGE_WORDS) as usize];
+    let word = image.word(page, 1 + (i % PAGE_WORDS) as usize);
+    let first = 2 + 32 * i;
+    let len = (blocks - first).min(32);
+    if word == 0 && !found.owners.has_free(first, first + len) {
+        return Ok(());
+    }
+    for bit in 0..len {
+        check_block(&found.owners, first + bit, is_set(word, bit))?;
+    }
+    Ok(())
+}
+
 /// Compares the bitmap with the owners by ascending block.
-pub fn check_bitmap(image: &Image<'_>, found: &Found, pages: &[Page<'_>]) -> Result<(), Fault>
+pub fn check_bitmap(image: &Image<'_>, found: &Found, pages: &[u32]) -> Result<(), Fault>
     requires pages { AreListed image.now pages.now (pages_needed (blocks image.now)) }
     requires state { IsRead image.now (store_of found.now) }
     ensures fits { OnOk result (TellsFit image.now (store_of found.now)) }
     ensures fault { IfErr result (λ f. IsTrueFault image.now f) }
 {
-    for b in 2..image.blocks() {
-        check_block(image, found, pages, b)?;
+    let words = (image.blocks() - 2).div_ceil(32);
+    for i in 0..words {
+        check_word(image, found, pages, i)?;
     }
     Ok(())
 }

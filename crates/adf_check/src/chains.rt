@@ -11,9 +11,9 @@ use crate::fault::{Fault, fault_at};
 use crate::found::Found;
 use crate::image::Image;
 use crate::kept::Row;
+use crate::narrow_owner::NarrowOwner;
 use adf_blocks::{Cause, FIRST_SLOT, read_head};
 use adf_tree::{NameSet, Node};
-use adf_volume::Owner;
 
 /// The chain of a slot of a directory, whose block is `up`.
 #[derive(Drop)]
@@ -53,8 +53,8 @@ fn read_member(
     ensures fault { IfErr result (λ f. IsTrueFault image.now f) }
 {
     let kind = image.kind();
-    let node = Node(found.rows.len() + 1);
-    claim_named(&mut found.owners, at, b, Owner::Head(node))?;
+    let owner = NarrowOwner::Head((found.rows.len() + 1) as u32);
+    claim_named(&mut found.owners, at, b, owner)?;
     let head = match read_head(image.block(b), kind, b, chain.up, chain.slot) {
         Ok(head) => head,
         Err(cause) => return Err(fault_at(b, cause)),
@@ -109,7 +109,11 @@ pub fn read_directory(
     ensures fewer { OnOk result (IsFurther found.old found.new) }
     ensures fault { IfErr result (λ f. IsTrueFault image.now f) }
 {
+    let directory = image.block(up);
     for slot in 0..72u8 {
+        if directory.word(FIRST_SLOT + slot as usize) == 0 {
+            continue;
+        }
         read_chain(image, found, seen, &Chain { parent, up, slot })?;
     }
     Ok(())

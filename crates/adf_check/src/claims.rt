@@ -1,21 +1,28 @@
 // Claims of blocks that are named by words.
 
 ghost use Rattle.std.specs.Prelude.{◌≡◌, ◌+◌, ◌≤◌, OnOk, IfErr, length, set, true};
+ghost use Rattle.adf_volume.specs.declared.owner.Owner.TheVariants.{Free};
 ghost use Rattle.adf_check.specs.Store.{owner_at};
 ghost use Rattle.adf_check.specs.Found.{InRange, IsClaimFault};
+ghost use Rattle.adf_check.specs.Narrow.{wide};
 ghost use Rattle.adf_check.specs.Owners.{is_part, owned_count};
 
 use crate::fault::{Fault, fault_at};
-use crate::owners::Owners;
+use crate::narrow_owner::NarrowOwner;
+use crate::owner_table::OwnerTable;
 use adf_blocks::Cause;
-use adf_volume::Owner;
 
 /// Makes `o` the owner of block `b`, which a word of block `holder` names.
-pub fn claim_named(owners: &mut Owners, holder: u32, b: u32, o: Owner) -> Result<(), Fault>
-    requires { is_part o ≡ true }
+pub fn claim_named(
+    owners: &mut OwnerTable,
+    holder: u32,
+    b: u32,
+    o: NarrowOwner,
+) -> Result<(), Fault>
+    requires { is_part (wide o) ≡ true }
     ensures range { OnOk result (InRange (length owners.old) b) }
-    ensures free { OnOk result (owner_at owners.old b ≡ Owner.Free) }
-    ensures ok { OnOk result (owners.new ≡ set owners.old b o) }
+    ensures free { OnOk result (owner_at owners.old b ≡ Free) }
+    ensures ok { OnOk result (owners.new ≡ set owners.old b (wide o)) }
     ensures len { length owners.new ≡ length owners.old }
     ensures count { OnOk result (owned_count owners.new ≡ owned_count owners.old + 1) }
     ensures bound { OnOk result (owned_count owners.new + 2 ≤ length owners.new) }

@@ -1,6 +1,6 @@
 // The data blocks of files.
 
-ghost use Rattle.std.specs.Prelude.{◌≡◌, ◌≤◌, ◌<◌, ◌+◌, ◌-◌, ◌*◌, ◌/◌, ◌%◌, cond, nat_lt, OnOk, IfErr, length, slice_index, ℕ};
+ghost use Rattle.std.specs.Prelude.{◌≡◌, ◌≤◌, ◌<◌, ◌+◌, ◌-◌, ◌*◌, ◌/◌, ◌%◌, cond, nat_lt, min, OnOk, IfErr, length, slice_index, ℕ};
 ghost use Rattle.adf_tree.specs.declared.entry.Kind.TheVariants.{Ofs};
 ghost use Rattle.adf_blocks.specs.Sizes.{blocks};
 ghost use Rattle.adf_volume.specs.Demands.{AllHold, FirstFails, data_demands};
@@ -15,14 +15,14 @@ use crate::claims::claim_named;
 use crate::fault::{Fault, fault_at};
 use crate::found::Found;
 use crate::image::Image;
+use crate::narrow_owner::{NarrowOwner, number_of};
 use adf_blocks::{Cause, FIRST_POINTER, SIZE, read_data};
 use adf_tree::{Kind, Node};
-use adf_volume::Owner;
 
 /// A file whose data blocks are read: its node, the block of its header, its size in bytes, and the count of its data blocks.
 #[derive(Drop)]
 struct File {
-    node: Node,
+    node: u32,
     head: u32,
     size: u32,
     count: u32,
@@ -88,18 +88,21 @@ fn next_pointer(image: &Image<'_>, table: &[u32], count: u32, k: u32) -> u32
     }
 }
 
-// What is wrong with block `b` as data block `number` of the file: nothing is asked of one of FFS.
-fn check_data(image: &Image<'_>, file: &File, b: u32, number: u32, next: u32) -> Result<(), Cause>
+// What is wrong with block `b` as data block `k + 1` of the file: nothing is asked of one of FFS.
+fn check_data(image: &Image<'_>, table: &[u32], file: &File, b: u32, k: u32) -> Result<(), Cause>
     requires inside { b < blocks image.now }
-    requires from { 1 ≤ number }
-    ensures ok { OnOk result (AllHold (data_demands image.now (kind_of image.now) b file.now.head number (held (kind_of image.now) file.now.size number) next)) }
-    ensures fault { IfErr result (λ c. FirstFails (data_demands image.now (kind_of image.now) b file.now.head number (held (kind_of image.now) file.now.size number) next) b c) }
+    requires count { k < file.now.count }
+    requires enough { file.now.count ≤ 72 * length table.now }
+    requires blocks { (i : ℕ) → i < length table.now → slice_index table.now i < blocks image.now }
+    ensures ok { OnOk result (AllHold (data_demands image.now (kind_of image.now) b file.now.head (k + 1) (held (kind_of image.now) file.now.size (k + 1)) (next_of image.now table.now file.now.count (k + 1)))) }
+    ensures fault { IfErr result (λ c. FirstFails (data_demands image.now (kind_of image.now) b file.now.head (k + 1) (held (kind_of image.now) file.now.size (k + 1)) (next_of image.now table.now file.now.count (k + 1))) b c) }
 {
     match image.kind() {
         Kind::Ffs => Ok(()),
         Kind::Ofs => {
-            let held = held_in(file.size, number);
-            match read_data(image.block(b), file.head, number, held, next) {
+            let held = held_in(file.size, k + 1);
+            let next = next_pointer(image, table, file.count, k + 1);
+            match read_data(image.block(b), file.head, k + 1, held, next) {
                 Ok(_) => Ok(()),
                 Err(cause) => Err(cause),
             }
@@ -107,12 +110,15 @@ fn check_data(image: &Image<'_>, file: &File, b: u32, number: u32, next: u32) ->
     }
 }
 
-// Claims and checks data block `k + 1` of a file. The table has the header and the extension blocks.
+// Claims and checks block `b` as data block `k + 1` of a file, as block `at` of its table names it. The table has the header and
+// the extension blocks.
 fn read_member(
     image: &Image<'_>,
     found: &mut Found,
     table: &[u32],
     file: &File,
+    at: u32,
+    b: u32,
     k: u32,
 ) -> Result<(), Fault>
     requires begun { IsBegun image.now }
@@ -120,23 +126,56 @@ fn read_member(
     requires count { file.now.count ≡ data_count image.now file.now.head }
     requires enough { file.now.count ≤ 72 * length table.now }
     requires inside { k < file.now.count }
+    requires holder { at ≡ slice_index table.now (k / 72) }
+    requires named { b ≡ word_in image.now (slice_index table.now (k / 72)) (77 - k % 72) }
     requires state { IsInDatas image.now (store_of found.old) file.now.node file.now.head table.now k }
     ensures state { OnOk result (IsInDatas image.now (store_of found.new) file.now.node file.now.head table.now (k + 1)) }
     ensures fewer { OnOk result (IsFurther found.old found.new) }
     ensures fault { IfErr result (λ f. IsTrueFault image.now f) }
 {
-    let count = file.count;
-    let b = pointer(image, table, k);
-    let at = table[k as usize / 72];
-    claim_named(&mut found.owners, at, b, Owner::Data(file.node, k + 1))?;
-    let next = next_pointer(image, table, count, k + 1);
-    if let Err(cause) = check_data(image, file, b, k + 1, next) {
+    claim_named(
+        &mut found.owners,
+        at,
+        b,
+        NarrowOwner::Data(file.node, k + 1),
+    )?;
+    if let Err(cause) = check_data(image, table, file, b, k) {
         return Err(fault_at(b, cause));
     }
     match found.datas.push(b) {
         Ok(()) => Ok(()),
         Err(_) => Err(fault_at(0, Cause::NoMemory)),
     }
+}
+
+// Reads the data blocks that block `m` of the table names.
+fn read_named(
+    image: &Image<'_>,
+    found: &mut Found,
+    table: &[u32],
+    file: &File,
+    m: u32,
+) -> Result<(), Fault>
+    requires begun { IsBegun image.now }
+    requires size { file.now.size ≡ word_in image.now file.now.head 81 }
+    requires count { file.now.count ≡ data_count image.now file.now.head }
+    requires enough { file.now.count ≤ 72 * length table.now }
+    requires inside { 72 * m < file.now.count }
+    requires state { IsInDatas image.now (store_of found.old) file.now.node file.now.head table.now (72 * m) }
+    ensures state { OnOk result (IsInDatas image.now (store_of found.new) file.now.node file.now.head table.now (min (72 * (m + 1)) file.now.count)) }
+    ensures fewer { OnOk result (IsFurther found.old found.new) }
+    ensures fault { IfErr result (λ f. IsTrueFault image.now f) }
+{
+    let count = file.count;
+    let at = table[m as usize];
+    let names = image.block(at);
+    let first = 72 * m;
+    let len = (count - first).min(72);
+    for k in first..first + len {
+        let b = names.word(FIRST_POINTER - (k - first) as usize);
+        read_member(image, found, table, file, at, b, k)?;
+    }
+    Ok(())
 }
 
 /// Reads the data blocks of the file `node` with its header at block `head`. The table has the header and the extension blocks.
@@ -155,17 +194,18 @@ pub fn read_datas(
 {
     let size = image.word(head, SIZE);
     let count = count_of(image.kind(), size);
-    if (count as usize).div_ceil(72) > table.len() {
+    let tables = count.div_ceil(72);
+    if tables as usize > table.len() {
         return Err(fault_at(head, Cause::ShortFile));
     }
     let file = File {
-        node,
+        node: number_of(node),
         head,
         size,
         count,
     };
-    for k in 0..count {
-        read_member(image, found, table, &file, k)?;
+    for m in 0..tables {
+        read_named(image, found, table, &file, m)?;
     }
     Ok(())
 }

@@ -11,9 +11,9 @@ use crate::claims::claim_named;
 use crate::fault::{Fault, fault_at};
 use crate::found::Found;
 use crate::image::Image;
+use crate::narrow_owner::{NarrowOwner, number_of};
 use adf_blocks::{Cause, EXTENSION, read_ext};
 use adf_tree::Node;
-use adf_volume::Owner;
 
 // Claims and reads the extension block at block `b`, which a word of block `at` names, of the file `node` with its header at block
 // `head`: the next one, or 0. The table has the header and the extension blocks before.
@@ -34,7 +34,7 @@ fn read_member(
     ensures less { OnOk result (left found.new < left found.old) }
     ensures fault { IfErr result (λ f. IsTrueFault image.now f) }
 {
-    let owner = Owner::Ext(node, table.len() as u32);
+    let owner = NarrowOwner::Ext(number_of(node), table.len() as u32);
     claim_named(&mut found.owners, at, b, owner)?;
     let ext = match read_ext(image.block(b), b, head) {
         Ok(ext) => ext,

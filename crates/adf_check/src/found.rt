@@ -7,16 +7,16 @@ ghost use Rattle.adf_check.specs.Found.{store_of};
 
 use crate::image::Image;
 use crate::kept::{Row, Start};
-use crate::owners::Owners;
+use crate::narrow_owner::NarrowOwner;
+use crate::owner_table::OwnerTable;
 use adf_fields::NoMemory;
-use adf_volume::Owner;
 use std::alloc::Global;
 
 /// What the checker has read so far: the owner of each block, a row for each entry, and for each node, the root among
 /// them, where its blocks begin in the lists of all extension blocks and of all data blocks.
 #[derive(Drop)]
 pub struct Found {
-    pub owners: Owners,
+    pub owners: OwnerTable,
     pub rows: Vec<Row>,
     pub starts: Vec<Start>,
     pub exts: Vec<u32>,
@@ -28,8 +28,8 @@ impl Found {
     pub fn begin(alloc: Global, image: &Image<'_>) -> Result<Found, NoMemory>
         ensures { IfOk result (λ f. IsBeforePage image.now (store_of f) 0 (root_of image.now)) }
     {
-        let mut owners = Owners::new(alloc, image.blocks())?;
-        owners.claim(image.root(), Owner::Root).unwrap();
+        let mut owners = OwnerTable::new(alloc, image.blocks())?;
+        owners.claim(image.root(), NarrowOwner::Root).unwrap();
         Ok(Found {
             owners,
             rows: Vec::new(alloc),

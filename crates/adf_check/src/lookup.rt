@@ -14,7 +14,7 @@ ghost use Rattle.adf_check.specs.Lookup.{headed};
 
 use crate::found::Found;
 use crate::image::Image;
-use crate::owners::Owners;
+use crate::owner_table::OwnerTable;
 use adf_blocks::{FIRST_SLOT, Head, SECONDARY_TYPE, ST_DIR};
 use adf_fields::slot;
 use adf_tree::{Name, Node};
@@ -34,7 +34,7 @@ pub fn block_of(image: &Image<'_>, found: &Found, node: Node) -> u32
 }
 
 // The node whose header is at a block.
-fn node_at(owners: &Owners, b: u32) -> Option<Node>
+fn node_at(owners: &OwnerTable, b: u32) -> Option<Node>
     requires { b < length owners.now }
     ensures { result ≡ headed (owner_at owners.now b) }
 {

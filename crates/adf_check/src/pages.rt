@@ -13,10 +13,8 @@ use crate::claims::claim_named;
 use crate::fault::{Fault, fault_at};
 use crate::found::Found;
 use crate::image::Image;
-use adf_blocks::{
-    Cause, MAP_EXT_PAGES, Page, ROOT_PAGES, Root, page_count, read_map_ext, read_page,
-};
-use adf_volume::Owner;
+use crate::narrow_owner::NarrowOwner;
+use adf_blocks::{Cause, MAP_EXT_PAGES, ROOT_PAGES, Root, page_count, read_map_ext, read_page};
 use std::alloc::Global;
 
 // Whether page `i` is the first one of a bitmap extension block.
@@ -77,7 +75,7 @@ fn claim_map_ext(
 {
     let b = map_ext_named(image, root, holder, i);
     let j = (i - ROOT_PAGES as u32) / MAP_EXT_PAGES as u32;
-    claim_named(&mut found.owners, holder, b, Owner::MapExt(j))?;
+    claim_named(&mut found.owners, holder, b, NarrowOwner::MapExt(j))?;
     Ok(b)
 }
 
@@ -106,37 +104,38 @@ fn holder_of_page(
 }
 
 // Claims and reads page `i`, which `holder` names.
-fn read_page_at<'a>(
-    image: &Image<'a>,
+fn read_page_at(
+    image: &Image<'_>,
     root: &Root<'_>,
     found: &mut Found,
     holder: u32,
     i: u32,
-) -> Result<Page<'a>, Fault>
+) -> Result<u32, Fault>
     requires begun { IsBegun image.now }
     requires root { root.now ≡ block image.now (root_of image.now) }
     requires needed { i < pages_needed (blocks image.now) }
     requires inside { holder < blocks image.now }
     requires state { IsAtPage image.now (store_of found.old) i holder }
     ensures state { OnOk result (IsBeforePage image.now (store_of found.new) (i + 1) holder) }
-    ensures page { IfOk result (λ p. p ≡ block image.now (block_of_page image.now i)) }
+    ensures page { IfOk result (λ b. b ≡ block_of_page image.now i) }
+    ensures within { IfOk result (λ b. b < blocks image.now) }
     ensures fault { IfErr result (λ f. IsTrueFault image.now f) }
 {
     let b = page_named(image, root, holder, i);
-    claim_named(&mut found.owners, holder, b, Owner::Page(i))?;
+    claim_named(&mut found.owners, holder, b, NarrowOwner::Page(i))?;
     match read_page(image.block(b)) {
-        Ok(page) => Ok(page),
+        Ok(_) => Ok(b),
         Err(cause) => Err(fault_at(b, cause)),
     }
 }
 
-/// Claims and reads the bitmap pages, each bitmap extension block before its own: the pages by number.
-pub fn read_pages<'a>(
+/// Claims and reads the bitmap pages, each bitmap extension block before its own: the blocks of the pages by number.
+pub fn read_pages(
     alloc: Global,
-    image: &Image<'a>,
+    image: &Image<'_>,
     root: &Root<'_>,
     found: &mut Found,
-) -> Result<Vec<Page<'a>>, Fault>
+) -> Result<Vec<u32>, Fault>
     requires root { root.now ≡ block image.now (root_of image.now) }
     requires state { IsBeforePage image.now (store_of found.old) 0 (root_of image.now) }
     ensures state { OnOk result (IsAtNode image.now (store_of found.new) 0) }

@@ -1,4 +1,4 @@
-use Rattle.std.proofs.Common.{◌≡◌, ◌+◌, ◌++◌, ◌∷◌, [], ℕ, List, length, set, ap, subst, sym, refl, ◌∙◌, rules, true, false, Some, None}
+use Rattle.std.proofs.Common.{◌≡◌, ◌+◌, ◌++◌, ◌∷◌, [], ◌<◌, ◌^◌, ℕ, List, length, set, ap, subst, sym, refl, ◌∙◌, arith, rules, true, false, Some, None}
 use Rattle.std.specs.Prelude.{IfErr}
 use Rattle.adf_fields.specs.Words.{block, word}
 use Rattle.adf_tree.specs.NameSet.{has, HasMore}
@@ -14,7 +14,7 @@ use Rattle.adf_check.specs.Found.{IsClaimFault, IsTrueFault, sees_of, store_of}
 use Rattle.adf_check.specs.Owners.{owned_count}
 use Rattle.adf_blocks.specs.declared.cause.Cause.TheVariants.{SameName}
 use Rattle.adf_check.proofs.Faults.{first_fault}
-use Rattle.adf_check.proofs.Bounds.{parent_short}
+use Rattle.adf_check.proofs.Bounds.{entry_short, parent_short}
 use Rattle.adf_check.proofs.ChainSteps.{member_claim, member_fault, member_twice, member_done, name_in, was_new, was_seen}
 use Rattle.adf_check.proofs.Steps.{if_err}
 use Rattle.adf_check.proofs.chains.read_member.Goals as goal
@@ -74,3 +74,12 @@ returns-in-Ok-push-clause-state c =
     let by_rows : List Row → Type 0 = λ rs. IsInChain image (record { owners = owners; rows = rs; starts = store.starts; exts = store.exts; datas = store.datas; used = owned_count owners }) c.args.chain.now.parent c.args.chain.now.up c.args.chain.now.slot b c.next.result (sees_of c.put.new.self) in
     let by_next : ℕ → Type 0 = λ n. IsInChain image (record { owners = owners; rows = rows; starts = store.starts; exts = store.exts; datas = store.datas; used = owned_count owners }) c.args.chain.now.parent c.args.chain.now.up c.args.chain.now.slot b n (sees_of c.put.new.self) in
     subst by_rows (sym pushed) (subst by_next next done)
+
+pub overflow_cast-owner : goal.overflow_cast-owner
+overflow_cast-owner c =
+    let chain = c.args.chain.now in
+    let store = store_of c.args.found.now in
+    let count : c.len.result ≡ length store.rows = search rules in
+    let short : length store.rows + 1 < 2 ^ 32 = entry_short c.args.image.now store c.kind-kind.ensures.begun refl chain.parent chain.up chain.slot c.args.at c.args.b
+    (sees_of c.args.seen.now) c.requires.state in
+    omega arith

@@ -1,26 +1,30 @@
-use Rattle.std.proofs.Common.{◌≡◌, ◌+◌, ◌*◌, ◌<◌, suc, length, ap, subst, ◌∙◌, arith}
+use Rattle.std.proofs.Common.{◌≡◌, ◌+◌, ◌*◌, ◌<◌, ℕ, suc, length, min, ap, refl, subst, ◌∙◌, arith}
 use Rattle.adf_volume.specs.Image.{count, kind_of}
 use Rattle.adf_volume.specs.Walk.{data_count}
 use Rattle.adf_check.specs.Reading.{IsAtNode}
 use Rattle.adf_check.specs.Found.{store_of}
 use Rattle.adf_blocks.specs.declared.cause.Cause.TheVariants.{ShortFile}
-use Rattle.adf_check.proofs.InFiles.{datas_end}
-use Rattle.adf_check.proofs.InRows.{data_too_short}
+use Rattle.adf_check.proofs.Bounds.{file_in_datas}
 use Rattle.adf_check.proofs.Faults.{first_fault}
 use Rattle.adf_check.proofs.datas.read_datas.Goals as goal
 
-pub returns-then-div_ceil-table-clause-fault : goal.returns-then-div_ceil-table-clause-fault
-returns-then-div_ceil-table-clause-fault c =
+pub returns-then-tables-table-clause-fault : goal.returns-then-tables-table-clause-fault
+returns-then-tables-table-clause-fault c =
     let image = c.args.image.now in
     let e : c.count_of-count.result ≡ data_count image c.args.head = c.count_of-count.ensures ∙ ap (λ k. count k c.word-size.result) c.kind.ensures.kind ∙ ap (count (kind_of image)) c.word-size.ensures.word in
-    let more = c.if-div_ceil-table.true in
+    let more = c.if-tables-table.true in
     let short : 72 * length c.args.table.now < data_count image c.args.head = omega arith in
     rw c.fault_at.ensures (first_fault image c.args.head ShortFile (data_too_short image (store_of c.args.found.now) c.args.node c.args.head c.args.table.now c.word-size.ensures.begun c.requires.state short))
+
+pub number_of-requires : goal.number_of-requires
+number_of-requires c =
+    file_in_datas c.args.image.now (store_of c.args.found.now) c.word-size.ensures.begun refl c.args.node c.args.head c.args.table.now 0 c.requires.state
 
 pub returns-clause-state : goal.returns-clause-state
 returns-clause-state c =
     let image = c.args.image.now in
     let e : c.count_of-count.result ≡ data_count image c.args.head = c.count_of-count.ensures ∙ ap (λ k. count k c.word-size.result) c.kind.ensures.kind ∙ ap (count (kind_of image)) c.word-size.ensures.word in
     let one : suc c.args.node ≡ c.args.node + 1 = omega arith in
-    subst (IsAtNode image (store_of c.loop-k.found)) one
-    (datas_end image (store_of c.loop-k.found) c.args.node c.args.head c.args.table.now c.loop-k.k c.loop-k.invariant.state (omega arith))
+    let last : ℕ = min (72 * c.loop-m.m) c.count_of-count.result in
+    subst (IsAtNode image (store_of c.loop-m.found)) one
+    (datas_end image (store_of c.loop-m.found) c.args.node c.args.head c.args.table.now last c.loop-m.invariant.state (omega arith))

@@ -1,9 +1,10 @@
+use Rattle.std.proofs.Common.{◌*◌, min}
 use Rattle.adf_check.specs.Reading.{IsInDatas}
 use Rattle.adf_check.specs.Found.{IsFurther, store_of}
 use Rattle.adf_check.proofs.datas.read_datas.Given as goal
 
-abbrev pub invariant-loop-k : goal.invariant-loop-k
-invariant-loop-k l = record {
-  state : IsInDatas l.image (store_of l.found) l.fn.node l.head l.table l.k;
+abbrev pub invariant-loop-m : goal.invariant-loop-m
+invariant-loop-m l = record {
+  state : IsInDatas l.image (store_of l.found) l.fn.node l.head l.table (min (72 * l.m) l.count);
   fewer : IsFurther l.fn.found l.found;
 }

@@ -9,6 +9,7 @@ use Rattle.adf_check.specs.Reading.{IsInExts}
 use Rattle.adf_check.specs.Found.{IsClaimFault, IsTrueFault, store_of}
 use Rattle.adf_check.specs.Owners.{owned_count}
 use Rattle.adf_check.proofs.Faults.{first_fault}
+use Rattle.adf_check.proofs.Bounds.{file_in_exts}
 use Rattle.adf_check.proofs.ExtSteps.{ext_claim, ext_fault, ext_done, table_short}
 use Rattle.adf_check.proofs.Steps.{if_err}
 use Rattle.adf_check.proofs.exts.read_member.Goals as goal
@@ -44,7 +45,7 @@ returns-clause-state c =
     let pushed : c.push.new.self.items ≡ table ++ b ∷ [] = search rules in
     let kept : c.push-else-is_err.new.self.items ≡ store.exts ++ b ∷ [] = search rules in
     let done = ext_done image store n h table c.args.at b c.requires.begun c.requires.state c.requires.some owners (owned_count owners) c.in_ok-claim_named.ensures.range c.in_ok-claim_named.ensures.free
-    (c.in_ok-claim_named.ensures.ok ∙ ap (λ k. set store.owners b (AnExt n k)) count) c.in_ok-claim_named.ensures.count (subst of_block c.block.ensures.block c.in-Ok.ensures.0) in
+    (c.in_ok-claim_named.ensures.ok ∙ ap (λ m. set store.owners b (AnExt m c.len.result)) c.number_of.ensures ∙ ap (λ k. set store.owners b (AnExt n k)) count) c.in_ok-claim_named.ensures.count (subst of_block c.block.ensures.block c.in-Ok.ensures.0) in
     let next : word_in image b 126 ≡ c.next.result = ap (λ x. word x 126) (sym ext_is) ∙ sym c.next.ensures in
     let by_exts : List ℕ → Type 0 = λ es. IsInExts image (record { owners = owners; rows = store.rows; starts = store.starts; exts = es; datas = store.datas; used = owned_count owners }) n h c.push.new.self.items b c.next.result in
     let by_table : List ℕ → Type 0 = λ t. IsInExts image (record { owners = owners; rows = store.rows; starts = store.starts; exts = store.exts ++ b ∷ []; datas = store.datas; used = owned_count owners }) n h t b c.next.result in
@@ -57,3 +58,7 @@ overflow_cast-owner c =
     let count : c.len.result ≡ length table = search rules in
     let short : length table < 2 ^ 32 = table_short c.args.image.now (store_of c.args.found.now) c.args.node c.args.head table c.args.at c.args.b c.requires.begun refl c.requires.state in
     omega arith
+
+pub number_of-requires : goal.number_of-requires
+number_of-requires c =
+    file_in_exts c.args.image.now (store_of c.args.found.now) c.requires.begun refl c.args.node c.args.head c.args.table.now.items c.args.at c.args.b c.requires.state

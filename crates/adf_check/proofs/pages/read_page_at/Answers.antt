@@ -1,6 +1,5 @@
-use Rattle.std.proofs.Common.{◌≡◌, List, ℕ, ap, subst, ◌∙◌, rules, Some, None}
+use Rattle.std.proofs.Common.{◌≡◌, List, ℕ, subst, rules, Some, None}
 use Rattle.std.specs.Prelude.{IfErr}
-use Rattle.adf_fields.specs.Words.{block}
 use Rattle.adf_blocks.specs.Forms.{first_cause}
 use Rattle.adf_blocks.specs.PageBlock.{page_form}
 use Rattle.adf_check.specs.Found.{IsClaimFault, IsTrueFault, store_of}
@@ -38,7 +37,7 @@ returns-in-Ok-clause-page c =
     let store = store_of c.args.found.now in
     let next : IsPageNext image store c.args.i c.args.holder c.page_named-b.result =
     record { begun = c.requires.begun; needed = c.requires.needed; state = c.requires.state; named = c.page_named-b.ensures } in
-    c.in-Ok.ensures.1 ∙ c.block.ensures.block ∙ ap (block image) (page_by_number image store c.args.i c.args.holder c.page_named-b.result next)
+    page_by_number image store c.args.i c.args.holder c.page_named-b.result next
 
 pub returns-in-Err-clause-fault : goal.returns-in-Err-clause-fault
 returns-in-Err-clause-fault c =

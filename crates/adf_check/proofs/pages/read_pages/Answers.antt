@@ -10,14 +10,14 @@ use Rattle.adf_check.proofs.pages.read_pages.Goals as goal
 pub loop-i-preserved : goal.loop-i-preserved
 loop-i-preserved c =
     let image = c.args.image.now in
-    let page = c.in_ok-page.page in
+    let page : ℕ = c.in_ok-page.page in
     let pages = c.loop-i.pages.items in
     let pushed : c.push.new.self.items ≡ pages ++ page ∷ [] = search rules in
-    let more = list_done image pages page c.loop-i.i c.loop-i.invariant.pages c.in_ok-page.ensures.page in
+    let more = list_done image pages page c.loop-i.i c.loop-i.invariant.pages c.in_ok-page.ensures.page c.in_ok-page.ensures.within in
     record {
       inside = search rules;
       state = c.in_ok-page.ensures.state;
-      pages = subst (λ (ps : List (List ℕ)). AreListed image ps (c.loop-i.i + 1)) (sym pushed) more;
+      pages = subst (λ (ps : List ℕ). AreListed image ps (c.loop-i.i + 1)) (sym pushed) more;
     }
 
 pub returns-clause-state : goal.returns-clause-state

@@ -1,0 +1,9 @@
+use Rattle.adf_check.specs.Reading.{IsInDatas}
+use Rattle.adf_check.specs.Found.{IsFurther, store_of}
+use Rattle.adf_check.proofs.datas.read_named.Given as goal
+
+abbrev pub invariant-loop-k : goal.invariant-loop-k
+invariant-loop-k l = record {
+  state : IsInDatas l.image (store_of l.found) l.file.node l.file.head l.table l.k;
+  fewer : IsFurther l.fn.found l.found;
+}
