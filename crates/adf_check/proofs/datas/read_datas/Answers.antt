@@ -2,6 +2,8 @@ use Rattle.std.proofs.Common.{◌≡◌, ◌+◌, ◌*◌, ◌<◌, ℕ, suc, le
 use Rattle.adf_volume.specs.Image.{count, kind_of}
 use Rattle.adf_volume.specs.Walk.{data_count}
 use Rattle.adf_check.specs.Reading.{IsAtNode}
+use Rattle.adf_check.proofs.InFiles.{datas_end}
+use Rattle.adf_check.proofs.InRows.{data_too_short}
 use Rattle.adf_check.specs.Found.{store_of}
 use Rattle.adf_blocks.specs.declared.cause.Cause.TheVariants.{ShortFile}
 use Rattle.adf_check.proofs.Bounds.{file_in_datas}
