@@ -1,5 +1,7 @@
 // Devices that fail at each call in turn, and words that are refused before anything is read.
 
+ghost use Rattle.std.specs.Prelude.{◌≡◌, false};
+
 use crate::devices::{Counted, Endless, Failure, Given, Kept};
 use adf_cmd::{Device, Sink, Source, run};
 use std::alloc::Global;
