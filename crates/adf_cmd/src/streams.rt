@@ -1,6 +1,6 @@
 // Whole reads and writes over devices.
 
-ghost use Rattle.std.specs.Prelude.{◌≡◌, ◌+◌, ◌-◌, ◌<◌, ◌≤◌, ◌^◌, false, is_err, IfOk, OnOk, OnErr, IfSome, length, take, vec_len};
+ghost use Rattle.std.specs.Prelude.{◌≡◌, [], ◌+◌, ◌-◌, ◌<◌, ◌≤◌, ◌^◌, false, is_err, IfOk, OnOk, OnErr, IfSome, length, take, vec_len};
 ghost use Rattle.std.specs.Io.KnownBytes.{Appends};
 ghost use Rattle.adf_cmd.specs.Streams.{AppendsPart, KeepsPending, Says, TakesAtMost, is_device};
 
@@ -19,11 +19,24 @@ pub enum StreamFault {
 /// Bytes of the buffer that is read through, and of the text that waits to be written.
 const CHUNK: usize = 65536;
 
+/// Bytes that an input has room for from the start, a floppy's and more; what is not filled costs nothing.
+const FIRST_ROOM: usize = 1 << 20;
+
 // Room for a read.
 fn new_buffer(alloc: Global, size: usize) -> Result<Vec<u8>, AllocError>
     ensures { IfOk result (λ buffer. vec_len buffer ≡ size) }
 {
     vec![in alloc; 0u8; size]
+}
+
+// Room for an input; where that is refused, the input makes its own as it comes.
+fn room_for_input(alloc: Global) -> Vec<u8>
+    ensures { result.items ≡ [] }
+{
+    match Vec::with_capacity(alloc, FIRST_ROOM) {
+        Ok(room) => room,
+        Err(_) => Vec::new(alloc),
+    }
 }
 
 // Reads to the end through a buffer, and at most one byte more than the limit.
@@ -40,7 +53,7 @@ fn read_through<R: Source>(
     ensures at_most { TakesAtMost (limit + 1) (R.left input.old) (R.left input.new) }
     ensures failed { R.has_failed input.new ≡ is_device result }
 {
-    let mut all = Vec::new(alloc);
+    let mut all = room_for_input(alloc);
     while all.len() <= limit {
         let room = (limit + 1 - all.len()).min(buffer.len());
         match input.read(&mut buffer[..room]) {

@@ -1,6 +1,7 @@
 // Devices in memory.
 
-ghost use Rattle.std.specs.Prelude.{◌≡◌, ◌⊎◌, None, Ok, Err, false};
+ghost use Rattle.std.specs.Prelude.{◌≡◌, IfOk, None, false};
+ghost use Rattle.std.specs.Io.{WritesAtMost};
 ghost use Rattle.adf_cmd.specs.Devices.{write_fails};
 
 use adf_cmd::{Failed, Sink, Source};
@@ -60,7 +61,7 @@ pub struct Kept {
 impl Kept {
     // What it answers where it fails.
     fn fail(&mut self, bytes: &[u8]) -> Result<usize, Failed>
-        ensures answer { (result ≡ Ok 0) ⊎ (result ≡ Err Failed.Failed) }
+        ensures count { WritesAtMost result bytes.now }
         ensures failed { self.new.failed ≡ write_fails result bytes.now }
     {
         if self.failure == Failure::TakesNone {
@@ -118,7 +119,9 @@ pub struct Counted<'a> {
 }
 
 impl Counted<'_> {
-    fn call(&mut self) -> io::Result<usize> {
+    fn call(&mut self) -> io::Result<usize>
+        ensures { IfOk result (λ count. count ≡ 0) }
+    {
         *self.calls = self.calls.saturating_add(1);
         if *self.calls == 1 {
             Ok(0)

@@ -3,7 +3,7 @@
 ghost use Rattle.std.specs.Prelude.{◌≡◌, false};
 
 use crate::devices::{Counted, Endless, Failure, Given, Kept};
-use adf_cmd::{Device, Sink, Source, run};
+use adf_cmd::{Device, Sink, Source, StreamFault, read_all, run, write_listing};
 use std::alloc::Global;
 use std::test::Fail;
 
@@ -61,6 +61,51 @@ fn run_over(alloc: Global, words: &[&str], bytes: &[u8]) -> Run {
 
 fn image(alloc: Global) -> Vec<u8> {
     run_over(alloc, &["adf", "build"], MANIFEST).output
+}
+
+// A reader that fails at each call in turn, and a limit.
+#[test]
+fn reads_stop(rt: HostRuntime) -> Result<(), Fail> {
+    for calls in 0..6u32 {
+        let mut input = given(b"abcd", 1, calls);
+        let read = read_all(rt.alloc(), &mut input, 10);
+        assert_eq!(rt; input.failed, calls < 5);
+        match read {
+            Ok(all) => assert_eq!(rt; all.as_slice(), b"abcd".as_slice()),
+            Err(fault) => {
+                assert!(rt; calls < 5);
+                assert_eq!(rt; fault, StreamFault::Device);
+            }
+        }
+    }
+    let mut long = given(b"abcd", 1, 9);
+    let Ok(front) = read_all(rt.alloc(), &mut long, 2) else {
+        assert!(rt; false);
+        return Ok(());
+    };
+    assert_eq!(rt; front.as_slice(), b"abc".as_slice());
+    assert_eq!(rt; long.bytes, b"d".as_slice());
+    Ok(())
+}
+
+// A writer that fails at each call in turn.
+#[test]
+fn writes_stop(rt: HostRuntime) -> Result<(), Fail> {
+    let alloc = rt.alloc();
+    let mut image = vec![in alloc; 0u8; 1024]?;
+    image[515] = 7;
+    let text = b"1 0 00000007\n";
+    for calls in 0..14u32 {
+        for failure in [Failure::Error, Failure::TakesNone] {
+            let mut output = kept(alloc, calls, failure);
+            let answer = write_listing(alloc, &image, &mut output);
+            let taken = (calls as usize).min(text.len());
+            assert_eq!(rt; output.bytes.as_slice(), &text[..taken]);
+            assert_eq!(rt; answer.is_ok(), calls >= 13);
+            assert_eq!(rt; output.failed, calls < 13);
+        }
+    }
+    Ok(())
 }
 
 // A reader that gives one byte at each call and then fails.
