@@ -13,7 +13,7 @@ use std::io::{Read, Write};
 pub struct Given<'a> {
     pub bytes: &'a [u8],
     pub at_most: usize,
-    pub calls_left: u32,
+    pub calls_left: usize,
     pub failed: bool,
 }
 
@@ -53,7 +53,7 @@ pub enum Failure {
 pub struct Kept {
     pub bytes: Vec<u8>,
     pub at_most: usize,
-    pub calls_left: u32,
+    pub calls_left: usize,
     pub failure: Failure,
     pub failed: bool,
 }

@@ -18,7 +18,9 @@ struct Run {
 const MANIFEST: &[u8] = b"volume ofs 16\nfile 0:0:0 00000000 a\nfill 489 41\n";
 
 // Gives bytes, at most so many at each call, and fails once so many calls were made.
-fn given(bytes: &[u8], at_most: usize, calls: u32) -> Given<'_> {
+fn given(bytes: &[u8], at_most: usize, calls: usize) -> Given<'_>
+    ensures { result.failed ≡ false }
+{
     Given {
         bytes,
         at_most,
@@ -28,7 +30,9 @@ fn given(bytes: &[u8], at_most: usize, calls: u32) -> Given<'_> {
 }
 
 // Takes bytes one by one, and fails so once so many are taken.
-fn kept(alloc: Global, calls: u32, failure: Failure) -> Kept {
+fn kept(alloc: Global, calls: usize, failure: Failure) -> Kept
+    ensures { result.failed ≡ false }
+{
     Kept {
         bytes: Vec::new(alloc),
         at_most: 1,
@@ -44,7 +48,7 @@ fn run_between<S: Source>(alloc: Global, words: &[&str], input: &mut S, output: 
     requires writes { output.failed ≡ false }
 {
     let mut output = output;
-    let mut errors = kept(alloc, u32::MAX, Failure::Error);
+    let mut errors = kept(alloc, usize::MAX, Failure::Error);
     let status = run(alloc, words, input, &mut output, &mut errors);
     Run {
         status,
@@ -55,8 +59,8 @@ fn run_between<S: Source>(alloc: Global, words: &[&str], input: &mut S, output: 
 
 // Runs a command over bytes.
 fn run_over(alloc: Global, words: &[&str], bytes: &[u8]) -> Run {
-    let output = kept(alloc, u32::MAX, Failure::Error);
-    run_between(alloc, words, &mut given(bytes, 512, u32::MAX), output)
+    let output = kept(alloc, usize::MAX, Failure::Error);
+    run_between(alloc, words, &mut given(bytes, 512, usize::MAX), output)
 }
 
 fn image(alloc: Global) -> Vec<u8> {
@@ -66,7 +70,7 @@ fn image(alloc: Global) -> Vec<u8> {
 // A reader that fails at each call in turn, and a limit.
 #[test]
 fn reads_stop(rt: HostRuntime) -> Result<(), Fail> {
-    for calls in 0..6u32 {
+    for calls in 0..6usize {
         let mut input = given(b"abcd", 1, calls);
         let read = read_all(rt.alloc(), &mut input, 10);
         assert_eq!(rt; input.failed, calls < 5);
@@ -95,11 +99,11 @@ fn writes_stop(rt: HostRuntime) -> Result<(), Fail> {
     let mut image = vec![in alloc; 0u8; 1024]?;
     image[515] = 7;
     let text = b"1 0 00000007\n";
-    for calls in 0..14u32 {
+    for calls in 0..14usize {
         for failure in [Failure::Error, Failure::TakesNone] {
             let mut output = kept(alloc, calls, failure);
             let answer = write_listing(alloc, &image, &mut output);
-            let taken = (calls as usize).min(text.len());
+            let taken = calls.min(text.len());
             assert_eq!(rt; output.bytes.as_slice(), &text[..taken]);
             assert_eq!(rt; answer.is_ok(), calls >= 13);
             assert_eq!(rt; output.failed, calls < 13);
@@ -113,7 +117,7 @@ fn writes_stop(rt: HostRuntime) -> Result<(), Fail> {
 fn failing_reader(rt: HostRuntime) {
     let image = image(rt.alloc());
     for calls in [0, 1, 2, 511, 512, 8191, 8192] {
-        let output = kept(rt.alloc(), u32::MAX, Failure::Error);
+        let output = kept(rt.alloc(), usize::MAX, Failure::Error);
         let words = ["adf", "check"];
         let failed = run_between(rt.alloc(), &words, &mut given(&image, 1, calls), output);
         assert_eq!(rt; failed.status, 3, "after {calls} bytes");
@@ -127,8 +131,8 @@ fn fails_at_each_call(alloc: Global, words: &[&str], bytes: &[u8], failure: Fail
     let whole = run_over(alloc, words, bytes).output;
     let mut all = !whole.is_empty();
     for calls in 0..whole.len() {
-        let output = kept(alloc, calls as u32, failure);
-        let failed = run_between(alloc, words, &mut given(bytes, 512, u32::MAX), output);
+        let output = kept(alloc, calls, failure);
+        let failed = run_between(alloc, words, &mut given(bytes, 512, usize::MAX), output);
         all = all
             && failed.status == 3
             && failed.errors.as_slice() == b"write fault\n".as_slice()
@@ -161,8 +165,8 @@ fn failing_writer(rt: HostRuntime) {
 #[test]
 fn failing_errors(rt: HostRuntime) {
     let image = image(rt.alloc());
-    let mut input = given(&image, 512, u32::MAX);
-    let mut output = kept(rt.alloc(), u32::MAX, Failure::Error);
+    let mut input = given(&image, 512, usize::MAX);
+    let mut output = kept(rt.alloc(), usize::MAX, Failure::Error);
     let mut errors = kept(rt.alloc(), 0, Failure::Error);
     let words = ["adf", "cat", "b"];
     assert_eq!(rt;
@@ -174,7 +178,7 @@ fn failing_errors(rt: HostRuntime) {
 // A manifest that never ends is too long.
 #[test]
 fn endless_reader(rt: HostRuntime) {
-    let output = kept(rt.alloc(), u32::MAX, Failure::Error);
+    let output = kept(rt.alloc(), usize::MAX, Failure::Error);
     let built = run_between(rt.alloc(), &["adf", "build"], &mut Endless, output);
     assert_eq!(rt; built.errors.as_slice(), b"line 0: too long\n".as_slice());
     assert_eq!(rt; built.status, 1);
@@ -190,7 +194,7 @@ fn words_refused(rt: HostRuntime) {
         &["adf", "convert", "abc"],
     ];
     for words in rows {
-        let output = kept(rt.alloc(), u32::MAX, Failure::Error);
+        let output = kept(rt.alloc(), usize::MAX, Failure::Error);
         let refused = run_between(rt.alloc(), words, &mut given(MANIFEST, 1, 0), output);
         assert_eq!(rt; refused.status, 2);
         assert!(rt; refused.output.is_empty());
