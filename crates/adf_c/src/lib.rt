@@ -1,0 +1,4 @@
+//! What a C program calls: include/adf.h.
+#![tactic(auto)]
+
+mod verdict;
