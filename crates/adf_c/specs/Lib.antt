@@ -1,2 +1,3 @@
 pub mod Roles
 pub mod Verdicts
+pub mod Words
