@@ -48,7 +48,8 @@ fn run_words<R: Source, W: Sink, E: Sink>(
     ensures untouched { result ≡ 2 → (input.new ≡ input.old) × (output.new ≡ output.old) }
     ensures read_failed { R.has_failed input.new ≡ true → result ≡ 3 }
     ensures write_failed { W.has_failed output.new ≡ true → result ≡ 3 }
-    ensures failure { result ≡ 3 → Says (E.has_failed errors.new) (E.held errors.old) (E.held errors.new) (failure_line (R.has_failed input.new) (W.has_failed output.new)) }
+    ensures failure { result ≡ 3
+        → Says (E.has_failed errors.new) (E.held errors.old) (E.held errors.new) (failure_line (R.has_failed input.new) (W.has_failed output.new)) }
     ensures part { result ≡ 3 → (ws : List (List ℕ)) → AreWords words.now ws → IfSome (R.left input.old) (λ bytes.
         AnswersPart ws (R.has_failed input.new) bytes (W.held output.old) (W.held output.new)) }
     ensures at_most { (ws : List (List ℕ)) → AreWords words.now ws → TakesAtMost (limit_of (request_of ws) + 1) (R.left input.old) (R.left input.new) }
@@ -87,7 +88,8 @@ pub extern "C" fn adf_run(
 
     // Where the words are taken, at a status other than 3 the answer is the defined one.
     ensures answer { (ws : List (List ℕ)) → AreWords words.now ws → ¬ IsRefused ws → ¬ (result ≡ 3)
-        → Answers ws input.now result (Some []) (Some (take moved.new.output output.new)) moved.new.errors_full (Some []) (Some (take moved.new.errors errors.new)) }
+        → Answers ws input.now result (Some []) (Some (take moved.new.output output.new))
+        moved.new.errors_full (Some []) (Some (take moved.new.errors errors.new)) }
     ensures words { ¬ (result ≡ 2) → ¬ (result ≡ 3) → (ws : List (List ℕ)) × AreWords words.now ws × (¬ IsUnanswered ws) }
 
     // At status 2 the words are none, or are refused, or their path is not read, and nothing was read or written.
@@ -98,8 +100,10 @@ pub extern "C" fn adf_run(
 
     // At status 3 errors tell what failed, and output has a front part of an answer.
     ensures write_failed { moved.new.output_full ≡ true → result ≡ 3 }
-    ensures failure { result ≡ 3 → Says moved.new.errors_full (Some []) (Some (take moved.new.errors errors.new)) (failure_line false moved.new.output_full) }
-    ensures part { result ≡ 3 → (ws : List (List ℕ)) → AreWords words.now ws → AnswersPart ws false input.now (Some []) (Some (take moved.new.output output.new)) }
+    ensures failure { result ≡ 3
+        → Says moved.new.errors_full (Some []) (Some (take moved.new.errors errors.new)) (failure_line false moved.new.output_full) }
+    ensures part { result ≡ 3 → (ws : List (List ℕ)) → AreWords words.now ws
+        → AnswersPart ws false input.now (Some []) (Some (take moved.new.output output.new)) }
 
     ensures at_most { (ws : List (List ℕ)) → AreWords words.now ws → moved.new.input ≤ limit_of (request_of ws) + 1 }
 {

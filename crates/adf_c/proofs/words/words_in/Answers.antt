@@ -20,7 +20,8 @@ loop-rest-preserved c =
     let is = c.in-Ok.ensures.cases in
     record {
       split = subst (λ (ws : List (Bor (List ℕ))). parts c.args.bytes.now ≡ map (λ w. w.now) ws ++ parts c.in-Some.after.now) back
-          (pushed_split c.args.bytes.now c.loop-rest.rest.now c.in-Some.word.now c.in-Some.after.now items text c.loop-rest.invariant.split c.in-Some.ensures.some is.0);
+          (pushed_split c.args.bytes.now c.loop-rest.rest.now c.in-Some.word.now c.in-Some.after.now items text
+          c.loop-rest.invariant.split c.in-Some.ensures.some is.0);
       texts = subst (λ (ws : List (Bor (List ℕ))). All IsUtf8 (map (λ w. w.now) ws)) back
           (pushed_texts items text c.loop-rest.invariant.texts (subst IsUtf8 (sym is.0) is.1));
     }
