@@ -13,6 +13,7 @@
  *
  * - No pointer is null, not even where its length is 0.
  * - A pointer to bytes leads to as many as its length or room says, and no length is above PTRDIFF_MAX.
+ * - A room may hold anything before the call, and so may a struct, but for its bools, which are true or false: `= {0}` will do.
  * - Nothing else writes what is read here (const) while a call runs. What is written here (not const) overlaps nothing else
  *   that is passed, and nobody else reads or writes it while the call runs.
  * - A call is not made from a signal handler, nor in the forked child of a process that had threads.
@@ -124,8 +125,8 @@ struct adf_moved {
  *
  * Nothing is said of the bytes of a room behind those that `moved` counts.
  */
-uint8_t adf_run(const uint8_t *words, size_t words_length, const uint8_t *input, size_t input_length, uint8_t *output, size_t output_room,
-                uint8_t *errors, size_t errors_room, struct adf_moved *moved);
+uint8_t adf_run(const uint8_t *words, size_t words_length, const uint8_t *input, size_t input_length,
+                uint8_t *output, size_t output_room, uint8_t *errors, size_t errors_room, struct adf_moved *moved);
 
 #ifdef __cplusplus
 }

@@ -1,6 +1,6 @@
 // The whole command over memory.
 
-ghost use Rattle.std.specs.Prelude.{◌≡◌, ◌≤◌, ◌+◌, [], ℕ, List, true, false, codes, Some, IfSome, length, take, drop};
+ghost use Rattle.std.specs.Prelude.{◌≡◌, ◌≤◌, ◌+◌, [], ℕ, List, true, false, codes, Some, IfSome, length, take};
 ghost use Rattle.adf_cmd.specs.Answers.{Answers, AnswersPart, AsksBadPath, IsUnanswered, failure_line, limit_of};
 ghost use Rattle.adf_cmd.specs.CommandLine.{IsRefused, request_of};
 ghost use Rattle.adf_cmd.specs.Streams.{Says, TakesAtMost};

@@ -1,6 +1,6 @@
 // The verdict on an image.
 
-ghost use Rattle.std.specs.Prelude.{◌≡◌, ◌≤◌, IfOk, IfErr};
+ghost use Rattle.std.specs.Prelude.{◌≡◌, ◌≤◌};
 ghost use Rattle.adf_tree.specs.Tree.{Tree};
 ghost use Rattle.adf_blocks.specs.Causes.{cause_number};
 ghost use Rattle.adf_blocks.specs.declared.cause.Cause.{Cause};
