@@ -1,0 +1,4 @@
+pub mod Puts
+pub mod Rooms
+pub mod Told
+pub mod WordParts

@@ -1,0 +1,17 @@
+use Rattle.std.proofs.Common.{rules, sym, ap, take}
+use Rattle.adf_c.proofs.Rooms.{answered}
+use Rattle.adf_c.proofs.running.adf_run.Goals as goal
+
+pub returns-clause-answer : goal.returns-clause-answer
+returns-clause-answer c ws are fine other =
+    let old = c.new-output_room.result in
+    let new = c.run_words-status.new.output in
+    let old_e = c.new-errors_room.result in
+    let new_e = c.run_words-status.new.errors in
+    answered ws c.args.input.now c.new-given.result.left.now c.run_words-status.result
+    old.room.ghost_name new.room.ghost_name old_e.room.ghost_name new_e.room.ghost_name
+    (take old.taken old.room.now) (take old_e.taken old_e.room.now) (take new.taken new.room.now) _ (take new_e.taken new_e.room.now) _
+    new_e.full c.is_full-2.result
+    c.new-given.ensures (ap (λ i. take i old.room.now) c.new-output_room.ensures.taken) (ap (λ i. take i old_e.room.now) c.new-errors_room.ensures.taken)
+    (c.run_words-status.ensures.answer ws are fine other)
+    (λ same. search rules) (λ same. search rules) (sym c.is_full-2.ensures)

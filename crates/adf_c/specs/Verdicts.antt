@@ -1,0 +1,18 @@
+-- The verdict on an image, as C has it.
+use Rattle.std.specs.Prelude.{ℕ}
+use Rattle.adf_tree.specs.declared.entry.Kind.{Kind}
+use Rattle.adf_tree.specs.declared.entry.Kind.TheVariants.{Ofs, Ffs}
+use Rattle.adf_check.specs.declared.checked.Counts.{Counts}
+use Rattle.adf_c.specs.declared.verdict.Verdict.{Verdict}
+
+abbrev pub kind_number : Kind → ℕ
+kind_number Ofs = 0
+kind_number Ffs = 1
+
+-- an accepted image: its numbers, and no block of a fault
+abbrev pub accepted : Counts → Verdict
+accepted c = record { kind = kind_number c.kind; blocks = c.blocks; used = c.used; free = c.free; dirs = c.dirs; files = c.files; block = 0 }
+
+-- a refused image: the block of its fault
+abbrev pub refused : ℕ → Verdict
+refused b = record { kind = 0; blocks = 0; used = 0; free = 0; dirs = 0; files = 0; block = b }

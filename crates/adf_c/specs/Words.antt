@@ -1,0 +1,16 @@
+-- The words of a command line in memory.
+use Rattle.std.specs.Prelude.{◌≡◌, ◌==◌, ℕ, List, [], ◌∷◌, ◌++◌, Bool, All}
+use Rattle.std.specs.List.{slice_split}
+use Rattle.std.specs.Str.{IsUtf8}
+
+abbrev pub is_zero : ℕ → Bool
+is_zero b = b == 0
+
+-- the parts of memory between zero bytes
+abbrev pub parts : List ℕ → List (List ℕ)
+parts bytes = slice_split is_zero bytes
+
+-- the bytes are these words, each ended by a zero byte, and each word is a text
+pub record AreWords (bytes : List ℕ) (words : List (List ℕ)) : Type 0 where
+  pub ended : parts bytes ≡ words ++ [] ∷ []
+  pub texts : All IsUtf8 words

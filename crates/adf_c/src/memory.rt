@@ -1,0 +1,101 @@
+// A source and sinks in the caller's memory.
+
+ghost use Rattle.std.specs.Prelude.{◌≡◌, ◌≤◌, ◌∷◌, Some, false, length, min, take};
+
+use adf_cmd::{Failed, Sink, Source};
+
+/// Bytes that are given from the front.
+#[derive(Drop)]
+pub struct Given<'a> {
+    left: &'a [u8],
+}
+
+impl<'a> Given<'a> {
+    pub fn new(bytes: &'a [u8]) -> Given<'a>
+        ensures { result.left.now ≡ bytes.entry.now }
+    {
+        Given { left: bytes }
+    }
+
+    /// How many bytes are left.
+    pub fn len(&self) -> usize
+        ensures { result ≡ length self.now.left.now }
+    {
+        self.left.len()
+    }
+}
+
+impl Source for Given<'_> {
+    ghost left = { λ g. Some g.left.now };
+
+    ghost has_failed = { λ _. false };
+
+    fn read(&mut self, buf: &mut [u8]) -> Result<usize, Failed> {
+        let count = buf.len().min(self.left.len());
+        buf[..count].copy_from_slice(&self.left[..count]);
+        self.left = &self.left[count..];
+        Ok(count)
+    }
+
+    fn failed(&self) -> bool {
+        false
+    }
+}
+
+/// Room that is filled from the front. Where no room is left for a byte, it has failed.
+#[derive(Drop)]
+pub struct Room<'a> {
+    room: &'a mut [u8],
+    taken: usize,
+    full: bool,
+    ghost within: { taken ≤ length room.now },
+}
+
+impl<'a> Room<'a> {
+    pub fn new(room: &'a mut [u8]) -> Room<'a>
+        ensures same { result.room.ghost_name ≡ room.entry.ghost_name }
+        ensures room { result.room.now ≡ room.old }
+        ensures taken { result.taken ≡ 0 }
+        ensures full { result.full ≡ false }
+    {
+        Room {
+            room,
+            taken: 0,
+            full: false,
+        }
+    }
+
+    /// How many bytes are taken of room for so many.
+    pub fn taken(&self, most: usize) -> usize
+        ensures { result ≡ min self.now.taken most }
+    {
+        self.taken.min(most)
+    }
+
+    pub fn is_full(&self) -> bool
+        ensures { result ≡ self.now.full }
+    {
+        self.full
+    }
+}
+
+impl Sink for Room<'_> {
+    // Before the bytes stands the name of the room, so that whoever appends to them keeps to this room.
+    ghost held = { λ r. Some (r.room.ghost_name ∷ take r.taken r.room.now) };
+
+    ghost has_failed = { λ r. r.full };
+
+    fn write(&mut self, bytes: &[u8]) -> Result<usize, Failed> {
+        let count = bytes.len().min(self.room.len() - self.taken);
+        self.room[self.taken..self.taken + count].copy_from_slice(&bytes[..count]);
+        self.taken += count;
+        if count == 0 && bytes.len() > 0 {
+            self.full = true;
+        }
+        Ok(count)
+    }
+
+    fn failed(&self) -> bool {
+        self.full
+    }
+}

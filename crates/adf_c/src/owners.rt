@@ -1,0 +1,79 @@
+// The owners of blocks.
+
+ghost use Rattle.std.specs.Prelude.{◌≡◌, ◌≤◌, ◌<◌, ℕ, length, slice_index};
+ghost use Rattle.adf_tree.specs.Tree.{Tree};
+ghost use Rattle.adf_blocks.specs.Causes.{cause_number};
+ghost use Rattle.adf_blocks.specs.Sizes.{blocks};
+ghost use Rattle.adf_blocks.specs.declared.cause.Cause.{Cause};
+ghost use Rattle.adf_volume.specs.Fits.{Fits};
+ghost use Rattle.adf_volume.specs.Layout.{Layout};
+ghost use Rattle.adf_volume.specs.Walk.{FirstFault};
+ghost use Rattle.adf_check.specs.Volumes.{StandsFor};
+ghost use Rattle.adf_c.specs.Roles.{IsRole, role_number};
+
+use adf_check::{Checked, Owner, check};
+use std::alloc::Global;
+
+fn role_number(owner: Owner) -> u8
+    ensures { result ≡ role_number owner }
+{
+    match owner {
+        Owner::Free => 0,
+        Owner::Boot => 1,
+        Owner::Root => 2,
+        Owner::Page(_) => 3,
+        Owner::MapExt(_) => 4,
+        Owner::Head(_) => 5,
+        Owner::Ext(_, _) => 6,
+        Owner::Data(_, _) => 7,
+    }
+}
+
+// The role of a block.
+fn role_of(volume: &Checked<'_>, b: u32) -> u8
+    requires stands { (t : Tree) × (l : Layout) × StandsFor volume.now t l }
+    requires inside { b < blocks volume.now.image }
+    ensures { IsRole volume.now.image b result }
+{
+    role_number(volume.owner(b).unwrap())
+}
+
+// Puts the roles of the first blocks into the room, as many as there is room for.
+fn put_roles(volume: &Checked<'_>, roles: &mut [u8])
+    requires { (t : Tree) × (l : Layout) × StandsFor volume.now t l }
+    ensures roles { (b : ℕ) → b < length roles.new → b < blocks volume.now.image → IsRole volume.now.image b (slice_index roles.new b) }
+    ensures behind { (b : ℕ) → blocks volume.now.image ≤ b → slice_index roles.new b ≡ slice_index roles.old b }
+{
+    for b in 0..volume.counts().blocks {
+        let at = b as usize;
+        if at >= roles.len() {
+            return;
+        }
+        roles[at] = role_of(volume, b);
+    }
+}
+
+/// Puts the role of each block's owner into the room, a byte for each block, as far as there is room: 0 where the image is
+/// accepted, else the number of the cause, of which 23 is want of memory.
+#[unsafe(no_mangle)]
+pub extern "C" fn adf_owners(alloc: Global, image: &[u8], roles: &mut [u8]) -> u8
+    ensures number { result ≤ 23 }
+
+    // One tree and one layout fit an accepted image, and the roles are those of its parts.
+    ensures fits { result ≡ 0 → (t : Tree) × (l : Layout) × Fits image.now t l }
+    ensures roles { result ≡ 0 → (b : ℕ) → b < length roles.new → b < blocks image.now → IsRole image.now b (slice_index roles.new b) }
+    ensures behind { (b : ℕ) → blocks image.now ≤ b → slice_index roles.new b ≡ slice_index roles.old b }
+
+    // The cause is that of the first fault, nothing fits the image, and nothing is put into the room.
+    ensures first { ¬ (result ≡ 0) → ¬ (result ≡ 23) → (b : ℕ) × (c : Cause) × (cause_number c ≡ result) × FirstFault image.now b c }
+    ensures none { ¬ (result ≡ 0) → ¬ (result ≡ 23) → (t : Tree) (l : Layout) → Fits image.now t l → ⊥ }
+    ensures unchanged { ¬ (result ≡ 0) → roles.new ≡ roles.old }
+{
+    match check(alloc, image) {
+        Ok(volume) => {
+            put_roles(&volume, roles);
+            0
+        }
+        Err(fault) => fault.cause.number(),
+    }
+}

@@ -1,0 +1,124 @@
+// The whole command over memory.
+
+ghost use Rattle.std.specs.Prelude.{◌≡◌, ◌≤◌, ◌+◌, [], ℕ, List, true, false, codes, Some, IfSome, length, take};
+ghost use Rattle.adf_cmd.specs.Answers.{Answers, AnswersPart, AsksBadPath, IsUnanswered, failure_line, limit_of};
+ghost use Rattle.adf_cmd.specs.CommandLine.{IsRefused, request_of};
+ghost use Rattle.adf_cmd.specs.Streams.{Says, TakesAtMost};
+ghost use Rattle.adf_c.specs.Words.{AreWords};
+
+use crate::memory::{Given, Room};
+use crate::words::words_in;
+use adf_cmd::{Sink, Source, WordsFault, run, say};
+use std::alloc::Global;
+
+/// How much of the caller's memory a run has moved.
+#[repr(C)]
+#[derive(Clone, Copy)]
+pub struct Moved {
+    /// Bytes of the input that were read.
+    pub input: usize,
+    /// Bytes that stand in the room for output.
+    pub output: usize,
+    /// Bytes that stand in the room for errors.
+    pub errors: usize,
+    /// Whether output had too little room.
+    pub output_full: bool,
+    /// Whether errors had too little room.
+    pub errors_full: bool,
+}
+
+// Runs the command that the words in memory name.
+fn run_words<R: Source, W: Sink, E: Sink>(
+    alloc: Global,
+    words: &[u8],
+    input: &mut R,
+    output: &mut W,
+    errors: &mut E,
+) -> u8
+    requires reads { R.has_failed input.old ≡ false }
+    requires writes { W.has_failed output.old ≡ false }
+    requires tells { E.has_failed errors.old ≡ false }
+    ensures status { result ≤ 3 }
+    ensures answer { (ws : List (List ℕ)) → AreWords words.now ws → ¬ IsRefused ws → ¬ (result ≡ 3) → IfSome (R.left input.old) (λ bytes.
+        Answers ws bytes result (W.held output.old) (W.held output.new) (E.has_failed errors.new) (E.held errors.old) (E.held errors.new)) }
+    ensures words { ¬ (result ≡ 2) → ¬ (result ≡ 3) → (ws : List (List ℕ)) × AreWords words.now ws × (¬ IsUnanswered ws) }
+    ensures usage { result ≡ 2 → (ws : List (List ℕ)) → AreWords words.now ws → IsUnanswered ws }
+    ensures bad_path { result ≡ 2 → (ws : List (List ℕ)) → AreWords words.now ws → AsksBadPath ws
+        → Says (E.has_failed errors.new) (E.held errors.old) (E.held errors.new) (codes "bad path\n") }
+    ensures untouched { result ≡ 2 → (input.new ≡ input.old) × (output.new ≡ output.old) }
+    ensures read_failed { R.has_failed input.new ≡ true → result ≡ 3 }
+    ensures write_failed { W.has_failed output.new ≡ true → result ≡ 3 }
+    ensures failure { result ≡ 3
+        → Says (E.has_failed errors.new) (E.held errors.old) (E.held errors.new) (failure_line (R.has_failed input.new) (W.has_failed output.new)) }
+    ensures part { result ≡ 3 → (ws : List (List ℕ)) → AreWords words.now ws → IfSome (R.left input.old) (λ bytes.
+        AnswersPart ws (R.has_failed input.new) bytes (W.held output.old) (W.held output.new)) }
+    ensures at_most { (ws : List (List ℕ)) → AreWords words.now ws → TakesAtMost (limit_of (request_of ws) + 1) (R.left input.old) (R.left input.new) }
+    ensures taken { (n : ℕ) × TakesAtMost n (R.left input.old) (R.left input.new) }
+{
+    match words_in(alloc, words) {
+        Ok(texts) => run(alloc, &texts, input, output, errors),
+        Err(WordsFault::Usage) => 2,
+        Err(WordsFault::NoMemory) => {
+            say(errors, "no memory\n");
+            3
+        }
+    }
+}
+
+/// Runs the command that the words name, each ended by a zero byte and the first the program's name, over memory, and answers
+/// its status:
+///
+/// - 0 where the answer is written to output;
+/// - 1 where the input is refused: `check` says so on output, the others on errors;
+/// - 2 where the words are not accepted, or the path is not read; nothing is read, and output is empty;
+/// - 3 where output has too little room or memory was refused, which errors tell.
+#[unsafe(no_mangle)]
+pub extern "C" fn adf_run(
+    alloc: Global,
+    words: &[u8],
+    input: &[u8],
+    output: &mut [u8],
+    errors: &mut [u8],
+    moved: &mut Moved,
+) -> u8
+    ensures status { result ≤ 3 }
+    ensures input { moved.new.input ≤ length input.now }
+    ensures output { moved.new.output ≤ length output.new }
+    ensures errors { moved.new.errors ≤ length errors.new }
+
+    // Where the words are taken, at a status other than 3 the answer is the defined one.
+    ensures answer { (ws : List (List ℕ)) → AreWords words.now ws → ¬ IsRefused ws → ¬ (result ≡ 3)
+        → Answers ws input.now result (Some []) (Some (take moved.new.output output.new))
+        moved.new.errors_full (Some []) (Some (take moved.new.errors errors.new)) }
+    ensures words { ¬ (result ≡ 2) → ¬ (result ≡ 3) → (ws : List (List ℕ)) × AreWords words.now ws × (¬ IsUnanswered ws) }
+
+    // At status 2 the words are none, or are refused, or their path is not read, and nothing was read or written.
+    ensures usage { result ≡ 2 → (ws : List (List ℕ)) → AreWords words.now ws → IsUnanswered ws }
+    ensures bad_path { result ≡ 2 → (ws : List (List ℕ)) → AreWords words.now ws → AsksBadPath ws
+        → Says moved.new.errors_full (Some []) (Some (take moved.new.errors errors.new)) (codes "bad path\n") }
+    ensures untouched { result ≡ 2 → (moved.new.input ≡ 0) × (moved.new.output ≡ 0) × (output.new ≡ output.old) }
+
+    // At status 3 errors tell what failed, and output has a front part of an answer.
+    ensures write_failed { moved.new.output_full ≡ true → result ≡ 3 }
+    ensures failure { result ≡ 3
+        → Says moved.new.errors_full (Some []) (Some (take moved.new.errors errors.new)) (failure_line false moved.new.output_full) }
+    ensures part { result ≡ 3 → (ws : List (List ℕ)) → AreWords words.now ws
+        → AnswersPart ws false input.now (Some []) (Some (take moved.new.output output.new)) }
+
+    ensures at_most { (ws : List (List ℕ)) → AreWords words.now ws → moved.new.input ≤ limit_of (request_of ws) + 1 }
+{
+    let most_output = output.len();
+    let most_errors = errors.len();
+    let mut given = Given::new(input);
+    let mut output_room = Room::new(output);
+    let mut errors_room = Room::new(errors);
+    let status = run_words(alloc, words, &mut given, &mut output_room, &mut errors_room);
+    *moved = Moved {
+        input: input.len() - given.len(),
+        output: output_room.taken(most_output),
+        errors: errors_room.taken(most_errors),
+        output_full: output_room.is_full(),
+        errors_full: errors_room.is_full(),
+    };
+    status
+}
