@@ -20,13 +20,3 @@ returns-in-Head-clause-fault c = λ m w t.
     let text = c.args.line.now in
     let r = c.line_in_head.result in
     subst (λ (x : Manifest). IfErr r (λ k. StopsAt x text k)) (sym e) (stops_at r (bare c.in-Head.head) text (line_value c.in-Some.line) c.in-Some.ensures.form c.in-Some.ensures.some c.line_in_head.ensures.fault)
-
-pub returns-in-Entries-clause-lines : goal.returns-in-Entries-clause-lines
-returns-in-Entries-clause-lines c = λ m w t.
-    let g = subst (λ (s : State). Tells s m) c.in-Entries.is t in
-    goes_at c.line_in_entries.result m c.args.line.now (line_value c.in-Some.line) c.in-Some.ensures.some (c.line_in_entries.ensures.lines m g.0 w g.1)
-
-pub returns-in-Entries-clause-fault : goal.returns-in-Entries-clause-fault
-returns-in-Entries-clause-fault c = λ m w t.
-    let g = subst (λ (s : State). Tells s m) c.in-Entries.is t in
-    stops_at c.line_in_entries.result m c.args.line.now (line_value c.in-Some.line) c.in-Some.ensures.form c.in-Some.ensures.some (c.line_in_entries.ensures.fault m g.0 w g.1)
