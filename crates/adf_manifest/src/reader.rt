@@ -38,6 +38,13 @@ pub struct Head {
     pub stamps: Option<Stamps>,
 }
 
+const NO_HEAD: Head = Head {
+    kind: Kind::Ofs,
+    blocks: 0,
+    label: None,
+    stamps: None,
+};
+
 /// What the lines of an entry tell so far.
 #[derive(Drop)]
 pub struct Open {
@@ -360,20 +367,20 @@ pub fn first_state(line: &[u8]) -> Result<State, ManifestKind>
 }
 
 /// Reads a further line.
-pub fn next_state(alloc: Global, state: State, line: &[u8]) -> Result<State, ManifestKind>
-    ensures lines { (m : Manifest) → IsWell m → Tells state m → IfOk result (λ s. GoesOn s m line.now) }
-    ensures fault { (m : Manifest) → IsWell m → Tells state m → IfErr result (λ kind. StopsAt m line.now kind) }
+pub fn next_state(alloc: Global, state: &mut State, line: &[u8]) -> Result<(), ManifestKind>
+    ensures lines { (m : Manifest) → IsWell m → Tells state.old m → IfOk result (λ _. GoesOn state.new m line.now) }
+    ensures fault { (m : Manifest) → IsWell m → Tells state.old m → IfErr result (λ kind. StopsAt m line.now kind) }
 {
     let Some(line) = line_of(line) else {
         return Err(ManifestKind::BadLine);
     };
     match state {
-        State::Head(head) => line_in_head(alloc, head, line),
-        State::Entries(reading) => {
-            let mut reading = reading;
-            line_in_entries(alloc, &mut reading, line)?;
-            Ok(State::Entries(reading))
+        State::Head(head) => {
+            let head = mem::replace(head, NO_HEAD);
+            *state = line_in_head(alloc, head, line)?;
+            Ok(())
         }
+        State::Entries(reading) => line_in_entries(alloc, reading, line),
     }
 }
 
