@@ -1,5 +1,5 @@
 -- Laws of parts of lines: cuts at a byte, numbers in decimal, stamps.
-use Rattle.std.proofs.Common.{◌≡◌, ◌≢◌, inl, inr, ◌≤◌, ◌<◌, ◌^◌, ◌==◌, ◌&&◌, ◌||◌, not, ◌++◌, ◌∙◌, ℕ, Bool, true, false, nat_lt, List, ◌∷◌, Option, Some, None, Result, Ok, IfNone, refl, sym, ap, subst, arith, rules, length, slice_index, slice_index_or, length-append, drop, take, take-append-drop, IfSome, MatchOption, nat_eq}
+use Rattle.std.proofs.Common.{◌≡◌, ◌-◌, ◌+◌, ◌≢◌, inl, inr, ◌≤◌, ◌<◌, ◌^◌, ◌==◌, ◌&&◌, ◌||◌, not, ◌++◌, ◌∙◌, ℕ, Bool, true, false, nat_lt, List, ◌∷◌, [], Option, Some, None, Result, Ok, IfNone, refl, sym, ap, subst, arith, rules, length, slice_index, slice_index_or, length-append, drop, take, take-append-drop, IfSome, MatchOption, nat_eq}
 use Rattle.std.proofs.Math.Seq.{get_or-append_seam}
 use Rattle.std.specs.List.{slice_split}
 use Rattle.std.specs.Result.{OkIff}
@@ -142,3 +142,9 @@ pub prefix_none : {T : Type 0} (L : T → Type 0) (text prefix : List ℕ) (f : 
     → IfNone o ((rest : List ℕ) → text ≢ prefix ++ rest)
 prefix_none L text prefix f None h = λ rest e. other_text _ _ (sym h) (ap (take (length prefix)) e ∙ take_at prefix rest (length prefix) refl)
 prefix_none L text prefix f (Some x) h = tt
+
+-- a text of one digit is that number
+pub one_digit : (text : List ℕ) (n : ℕ) → length text ≡ 1 → 48 ≤ slice_index text 0 → slice_index text 0 ≤ 57 → n ≡ slice_index text 0 - 48 → text ≡ decimal n
+one_digit [] n long low high is = absurd (omega arith)
+one_digit (d ∷ []) n long low high is = let same : 48 + n ≡ d = omega arith in sym (decimal_digit n (omega arith) ∙ ap (λ k. k ∷ []) same)
+one_digit (d ∷ e ∷ more) n long low high is = absurd (omega arith)

@@ -159,10 +159,10 @@ HeadLines h r l = IsWell (bare h) → IfOk r (λ s. GoesOn s (bare h) (line_text
 abbrev pub HeadFault : Head → Result State ManifestKind → Line → Type 0
 HeadFault h r l = IfErr r (λ k. Stops (bare h) (line_value l) k)
 
-abbrev pub EntriesLines : Reading → Result State ManifestKind → Line → Type 0
-EntriesLines q r l = (m : Manifest) (e : Entries) → IsWell m → IsReading q m e → IfOk r (λ s. GoesOn s m (line_text (line_value l)))
+abbrev pub EntriesLines : Reading → Reading → Result (Unit {0}) ManifestKind → Line → Type 0
+EntriesLines old new r l = (m : Manifest) (e : Entries) → IsWell m → IsReading old m e → IfOk r (λ _. GoesOn (state.Entries new) m (line_text (line_value l)))
 
-abbrev pub EntriesFault : Reading → Result State ManifestKind → Line → Type 0
+abbrev pub EntriesFault : Reading → Result (Unit {0}) ManifestKind → Line → Type 0
 EntriesFault q r l = (m : Manifest) (e : Entries) → IsWell m → IsReading q m e → IfErr r (λ k. Stops m (line_value l) k)
 
 -- the same of the text of the line

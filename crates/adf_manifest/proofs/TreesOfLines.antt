@@ -1,8 +1,6 @@
 -- The tree of a manifest's lines: adding entry line after entry line gives it, and there is no other.
-use Rattle.std.proofs.Common.{◌≡◌, ◌++◌, ◌∙◌, ℕ, List, [], ◌∷◌, refl, sym, ap, subst, map, append_assoc}
-use Rattle.std.specs.Prelude.{IsOk}
+use Rattle.std.proofs.Common.{◌≡◌, ◌++◌, ◌∙◌, List, [], ◌∷◌, refl, sym, ap, subst, map, append_assoc}
 use Rattle.std.proofs.lemmas.List.{append-nil}
-use Rattle.adf_tree.specs.declared.entry.Entry.{Entry}
 use Rattle.adf_tree.specs.Additions.{Addition, IsTreeOf}
 use Rattle.adf_tree.specs.Tree.{Tree}
 use Rattle.adf_tree.proofs.Grown.{grown, nothing_added}

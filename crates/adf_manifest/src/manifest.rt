@@ -88,10 +88,10 @@ fn read_lines(alloc: Global, text: &[u8]) -> Result<State, ManifestFault>
     while let Some(rest) = left {
         let (line, behind) = next_line(rest);
         number += 1;
-        state = match next_state(alloc, state, line) {
-            Ok(more) => more,
+        match next_state(alloc, &mut state, line) {
+            Ok(()) => (),
             Err(kind) => return Err(fault_at(number, kind)),
-        };
+        }
         left = behind;
     }
     Ok(state)

@@ -44,8 +44,18 @@ fn has_number_front(text: &[u8]) -> bool
     !text.is_empty() && text[0] != b'+' && (text[0] != b'0' || text.len() == 1)
 }
 
-/// The number below 2 ^ 32 that a text is in decimal, without leading zeros.
-pub fn read_number(text: &[u8]) -> Option<u32>
+// The number that a text of one digit is.
+fn read_digit(text: &[u8]) -> Option<u32>
+    ensures { IfSome result (λ n. text.now ≡ decimal n) }
+{
+    match text {
+        [digit] if b'0' <= *digit && *digit <= b'9' => Some(u32::from(*digit - b'0')),
+        _ => None,
+    }
+}
+
+// The same of a text of any length.
+fn read_digits(text: &[u8]) -> Option<u32>
     ensures some { IfSome result (λ n. text.now ≡ decimal n) }
     ensures none { IfNone result ((n : ℕ) → n < 2 ^ 32 → text.now ≢ decimal n) }
 {
@@ -58,6 +68,17 @@ pub fn read_number(text: &[u8]) -> Option<u32>
             Err(_) => None,
         },
         Err(_) => None,
+    }
+}
+
+/// The number below 2 ^ 32 that a text is in decimal, without leading zeros.
+pub fn read_number(text: &[u8]) -> Option<u32>
+    ensures some { IfSome result (λ n. text.now ≡ decimal n) }
+    ensures none { IfNone result ((n : ℕ) → n < 2 ^ 32 → text.now ≢ decimal n) }
+{
+    match read_digit(text) {
+        Some(number) => Some(number),
+        None => read_digits(text),
     }
 }
 

@@ -21,6 +21,7 @@ use adf_tree::{
     read_path,
 };
 use std::alloc::Global;
+use std::mem;
 
 const NO_STAMP: Stamp = Stamp {
     days: 0,
@@ -36,6 +37,13 @@ pub struct Head {
     pub label: Option<Label>,
     pub stamps: Option<Stamps>,
 }
+
+const NO_HEAD: Head = Head {
+    kind: Kind::Ofs,
+    blocks: 0,
+    label: None,
+    stamps: None,
+};
 
 /// What the lines of an entry tell so far.
 #[derive(Drop)]
@@ -204,27 +212,20 @@ fn note_or_none(note: Option<Comment>) -> Comment
     }
 }
 
-// The tree with an entry whose lines are all read.
-fn closed(mut tree: Draft, last: Open) -> Result<Draft, ManifestKind>
-    ensures tree { IfOk result (λ t. (i : Item) → IsOpen last i → t ≡ with_item tree i) }
+// Adds an entry whose lines are all read to the tree.
+fn close(alloc: Global, tree: &mut Draft, last: &mut Open) -> Result<(), ManifestKind>
+    ensures tree { IfOk result (λ _. (i : Item) → IsOpen last.old i → tree.new ≡ with_item tree.old i) }
     ensures err { IfErr result (λ kind. kind ≡ ManifestKind.NoMemory) }
 {
-    let Open {
-        sort,
-        stamp,
-        protect,
-        path,
-        note,
-        bytes,
-    } = last;
     let meta = Meta {
-        comment: note_or_none(note),
-        protect,
-        stamp,
+        comment: note_or_none(last.note.take()),
+        protect: last.protect,
+        stamp: last.stamp,
     };
-    let body = body_of(sort, bytes);
-    match tree.add(path.as_slice(), meta, body) {
-        Ok(()) => Ok(tree),
+    let bytes = mem::replace(&mut last.bytes, Vec::new(alloc));
+    let body = body_of(last.sort, bytes);
+    match tree.add(last.path.as_slice(), meta, body) {
+        Ok(()) => Ok(()),
         Err(_) => Err(ManifestKind::NoMemory),
     }
 }
@@ -241,35 +242,35 @@ fn first_entry(alloc: Global, head: Head, line: EntryText) -> Result<State, Mani
     Ok(State::Entries(Reading { blocks, tree, last }))
 }
 
-// The state behind a further entry line.
-fn next_entry(alloc: Global, reading: Reading, line: EntryText) -> Result<State, ManifestKind>
+// Reads a further entry line.
+fn next_entry(alloc: Global, reading: &mut Reading, line: EntryText) -> Result<(), ManifestKind>
     requires form { IsLine (entry_value line) }
-    ensures lines { (m : Manifest) (e : Entries) → IsWell m → IsReading reading m e → IfOk result (λ s. GoesOn s m (line_text (entry_value line.entry))) }
-    ensures fault { (m : Manifest) (e : Entries) → IsReading reading m e → IfErr result (λ kind. StopsIn (manifest_tree m) (entry_value line.entry) kind) }
+    ensures lines { (m : Manifest) (e : Entries) → IsWell m → IsReading reading.old m e → IfOk result (λ _. GoesOn (State.Entries reading.new) m (line_text (entry_value line.entry))) }
+    ensures fault { (m : Manifest) (e : Entries) → IsReading reading.old m e → IfErr result (λ kind. StopsIn (manifest_tree m) (entry_value line.entry) kind) }
 {
-    let blocks = reading.blocks;
-    let tree = closed(reading.tree, reading.last)?;
-    let last = match opened(alloc, &tree, line) {
-        Ok(last) => last,
-        Err(kind) => return Err(kind),
-    };
-    Ok(State::Entries(Reading { blocks, tree, last }))
+    close(alloc, &mut reading.tree, &mut reading.last)?;
+    match opened(alloc, &reading.tree, line) {
+        Ok(last) => {
+            reading.last = last;
+            Ok(())
+        }
+        Err(kind) => Err(kind),
+    }
 }
 
-// The state behind a note line.
-fn with_note(reading: Reading, text: &[u8]) -> Result<State, ManifestKind>
+// Reads a note line.
+fn take_note(reading: &mut Reading, text: &[u8]) -> Result<(), ManifestKind>
     requires form { 0 < length text.now }
-    ensures lines { (m : Manifest) (e : Entries) → IsWell m → IsReading reading m e → IfOk result (λ s. GoesOn s m (line_text (NoteLine text.now))) }
-    ensures fault { (m : Manifest) (e : Entries) → IsWell m → IsReading reading m e → IfErr result (λ kind. Stops m (NoteLine text.now) kind) }
+    ensures lines { (m : Manifest) (e : Entries) → IsWell m → IsReading reading.old m e → IfOk result (λ _. GoesOn (State.Entries reading.new) m (line_text (NoteLine text.now))) }
+    ensures fault { (m : Manifest) (e : Entries) → IsWell m → IsReading reading.old m e → IfErr result (λ kind. Stops m (NoteLine text.now) kind) }
 {
-    let mut reading = reading;
     if reading.last.note.is_some() || !reading.last.bytes.is_empty() {
         return Err(ManifestKind::BadLine);
     }
     match Comment::read(text) {
         Some(note) => {
             reading.last.note = Some(note);
-            Ok(State::Entries(reading))
+            Ok(())
         }
         None => Err(ManifestKind::BadText),
     }
@@ -302,19 +303,18 @@ fn push_run(bytes: &mut Vec<u8>, run: Run) -> Result<(), ManifestKind>
     }
 }
 
-// The state behind a line of bytes.
-fn with_run(reading: Reading, run: Run) -> Result<State, ManifestKind>
+// Reads a line of bytes.
+fn take_run(reading: &mut Reading, run: Run) -> Result<(), ManifestKind>
     requires form { IsRun (run_value run) }
     requires digits { IsRunOfDigits run }
-    ensures lines { (m : Manifest) (e : Entries) → IsWell m → IsReading reading m e → IfOk result (λ s. GoesOn s m (line_text (RunLine (run_value run.entry)))) }
-    ensures fault { (m : Manifest) (e : Entries) → IsReading reading m e → IfErr result (λ kind. Stops m (RunLine (run_value run.entry)) kind) }
+    ensures lines { (m : Manifest) (e : Entries) → IsWell m → IsReading reading.old m e → IfOk result (λ _. GoesOn (State.Entries reading.new) m (line_text (RunLine (run_value run.entry)))) }
+    ensures fault { (m : Manifest) (e : Entries) → IsReading reading.old m e → IfErr result (λ kind. Stops m (RunLine (run_value run.entry)) kind) }
 {
-    let mut reading = reading;
     match reading.last.sort {
         Sort::Dir => Err(ManifestKind::BadLine),
         Sort::File => {
             push_run(&mut reading.last.bytes, run)?;
-            Ok(State::Entries(reading))
+            Ok(())
         }
     }
 }
@@ -343,17 +343,17 @@ fn line_in_head(alloc: Global, head: Head, line: Line) -> Result<State, Manifest
     }
 }
 
-// The state behind a line of this form, where an entry line was.
-fn line_in_entries(alloc: Global, reading: Reading, line: Line) -> Result<State, ManifestKind>
+// Reads a line of this form, where an entry line was.
+fn line_in_entries(alloc: Global, reading: &mut Reading, line: Line) -> Result<(), ManifestKind>
     requires form { IsLine (line_value line) }
     requires digits { HasDigits line }
-    ensures lines { (m : Manifest) (e : Entries) → IsWell m → IsReading reading m e → IfOk result (λ s. GoesOn s m (line_text (line_value line.entry))) }
-    ensures fault { (m : Manifest) (e : Entries) → IsWell m → IsReading reading m e → IfErr result (λ kind. Stops m (line_value line.entry) kind) }
+    ensures lines { (m : Manifest) (e : Entries) → IsWell m → IsReading reading.old m e → IfOk result (λ _. GoesOn (State.Entries reading.new) m (line_text (line_value line.entry))) }
+    ensures fault { (m : Manifest) (e : Entries) → IsWell m → IsReading reading.old m e → IfErr result (λ kind. Stops m (line_value line.entry) kind) }
 {
     match line {
         Line::Entry(entry) => next_entry(alloc, reading, entry),
-        Line::Note(text) => with_note(reading, text),
-        Line::Run(run) => with_run(reading, run),
+        Line::Note(text) => take_note(reading, text),
+        Line::Run(run) => take_run(reading, run),
         Line::Label(_) | Line::Stamps(_) => Err(ManifestKind::BadLine),
     }
 }
@@ -366,16 +366,20 @@ pub fn first_state(line: &[u8]) -> Result<State, ManifestKind>
     Ok(State::Head(read_volume(line)?))
 }
 
-/// The state behind a further line.
-pub fn next_state(alloc: Global, state: State, line: &[u8]) -> Result<State, ManifestKind>
-    ensures lines { (m : Manifest) → IsWell m → Tells state m → IfOk result (λ s. GoesOn s m line.now) }
-    ensures fault { (m : Manifest) → IsWell m → Tells state m → IfErr result (λ kind. StopsAt m line.now kind) }
+/// Reads a further line.
+pub fn next_state(alloc: Global, state: &mut State, line: &[u8]) -> Result<(), ManifestKind>
+    ensures lines { (m : Manifest) → IsWell m → Tells state.old m → IfOk result (λ _. GoesOn state.new m line.now) }
+    ensures fault { (m : Manifest) → IsWell m → Tells state.old m → IfErr result (λ kind. StopsAt m line.now kind) }
 {
     let Some(line) = line_of(line) else {
         return Err(ManifestKind::BadLine);
     };
     match state {
-        State::Head(head) => line_in_head(alloc, head, line),
+        State::Head(head) => {
+            let head = mem::replace(head, NO_HEAD);
+            *state = line_in_head(alloc, head, line)?;
+            Ok(())
+        }
         State::Entries(reading) => line_in_entries(alloc, reading, line),
     }
 }
@@ -402,8 +406,9 @@ pub fn finish(alloc: Global, state: State) -> Result<(Tree, u32), ManifestKind>
             finished(alloc, tree_of(alloc, head), blocks)
         }
         State::Entries(reading) => {
-            let blocks = reading.blocks;
-            finished(alloc, closed(reading.tree, reading.last)?, blocks)
+            let mut reading = reading;
+            close(alloc, &mut reading.tree, &mut reading.last)?;
+            finished(alloc, reading.tree, reading.blocks)
         }
     }
 }

@@ -1,5 +1,5 @@
 -- The set of the names of a tree's last chain.
-use Rattle.std.proofs.Common.{◌≡◌, ℕ, ◌+◌, ◌-◌, List, [], ◌∷◌, ◌++◌, length, take, drop, map, get_or, Bool, true, false, cond, Option, Some, None, Result, Ok, Err, inl, inr, arith, nat_lt, ◌==◌, ◌&&◌, ◌||◌, sym, refl, ◌∙◌, ap}
+use Rattle.std.proofs.Common.{◌≡◌, ℕ, ◌+◌, ◌-◌, List, [], ◌∷◌, ◌++◌, length, take, drop, map, get_or, Bool, true, false, Option, Some, None, Result, Ok, Err, arith, nat_lt, ◌==◌, ◌&&◌, ◌||◌, sym, refl, ◌∙◌, ap}
 use Rattle.std.specs.List.{list_any}
 use Rattle.std.specs.List.Sorted.{IsPartitionPoint}
 use Rattle.std.specs.Option.{is_some}

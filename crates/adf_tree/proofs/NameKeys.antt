@@ -1,5 +1,5 @@
 -- The keys of names.
-use Rattle.std.proofs.Common.{◌≡◌, ◌==◌, ◌||◌, cond, subst, inl, inr, ℕ, ◌+◌, ◌-◌, ◌<◌, ◌≤◌, List, [], ◌∷◌, ◌++◌, length, take, drop, map, get_or, set, Bool, true, false, arith, nat_lt, nat_le, ◌&&◌, sym, refl, zero, suc, ◌∙◌, ap, length-append}
+use Rattle.std.proofs.Common.{◌≡◌, ◌==◌, ◌||◌, cond, subst, inl, inr, ℕ, ◌+◌, ◌-◌, ◌<◌, ◌≤◌, List, [], ◌∷◌, ◌++◌, length, take, drop, get_or, set, Bool, true, false, arith, nat_lt, nat_le, ◌&&◌, sym, refl, zero, suc, ◌∙◌, ap, length-append}
 use Rattle.std.specs.Prelude.{replicate}
 use Rattle.std.specs.Int.{to_be_bytes, w64}
 use Rattle.std.specs.List.{list_all}
@@ -17,7 +17,7 @@ use Rattle.std.proofs.Math.Seq.{take-append_seam}
 use Rattle.adf_fields.specs.Hash.{upper_of}
 use Rattle.adf_tree.specs.Texts.{uppers}
 use Rattle.adf_tree.specs.declared.name_key.NameKey.{NameKey}
-use Rattle.adf_tree.specs.NameKeys.{by_words, is_short, key_in, key_of, padded, word_in}
+use Rattle.adf_tree.specs.NameKeys.{by_words, is_short, key_of, padded, word_in}
 use Rattle.adf_tree.specs.NameSet.{has, Names}
 
 upper_small : (c : ℕ) → c < 256 → nat_lt (upper_of c) 256 ≡ true

@@ -1,4 +1,4 @@
-use Rattle.std.proofs.Common.{arith, refl, ◌≡◌}
+use Rattle.std.proofs.Common.{arith}
 use Rattle.adf_tree.proofs.NameKeys.{short_name, next_byte, whole}
 use Rattle.adf_tree.proofs.name_key.padded.Goals as goal
 

@@ -1,4 +1,4 @@
-use Rattle.std.proofs.Common.{List, ℕ, ap, subst, sym, ◌∙◌, ◌++◌, ◌∷◌, [], rules, ◌≡◌}
+use Rattle.std.proofs.Common.{ap, ◌∙◌, ◌++◌, ◌∷◌, [], rules, ◌≡◌}
 use Rattle.adf_tree.specs.ChildMap.{number_in, Numbers}
 use Rattle.adf_tree.proofs.ChildMaps.{no_more}
 use Rattle.adf_tree.proofs.child_map.ChildMap.make_buckets.Goals as goal

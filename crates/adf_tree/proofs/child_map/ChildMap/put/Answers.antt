@@ -1,4 +1,4 @@
-use Rattle.std.proofs.Common.{List, set, ℕ, ap, subst, sym, ◌∙◌, arith}
+use Rattle.std.proofs.Common.{set, ℕ, subst, arith}
 use Rattle.adf_tree.specs.Texts.{uppers}
 use Rattle.adf_tree.specs.ChildMap.{HasNumber}
 use Rattle.adf_tree.proofs.ChildMaps.{has_number, same_number_in}

@@ -1,6 +1,5 @@
-use Rattle.std.proofs.Common.{List, ℕ, ap, subst, sym, ◌∙◌, ◌||◌}
-use Rattle.std.specs.Str.{bytes_eq}
-use Rattle.adf_tree.specs.NameSet.{has, HasMore}
+use Rattle.std.proofs.Common.{List, ℕ, subst}
+use Rattle.adf_tree.specs.NameSet.{HasMore}
 use Rattle.std.specs.BTreeSet.{Updates}
 use Rattle.adf_tree.specs.NameKeys.{by_words}
 use Rattle.adf_tree.specs.declared.name_key.NameKey.{NameKey}

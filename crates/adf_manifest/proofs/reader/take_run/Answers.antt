@@ -3,10 +3,10 @@ use Rattle.adf_manifest.specs.Lines.{run_value}
 use Rattle.adf_manifest.specs.Items.{run_bytes}
 use Rattle.adf_manifest.proofs.Growth.{given_bytes}
 use Rattle.adf_manifest.proofs.StateLaws.{run_step}
-use Rattle.adf_manifest.proofs.reader.with_run.Goals as goal
+use Rattle.adf_manifest.proofs.reader.take_run.Goals as goal
 
 pub returns-in_ok-push_run-in-File-clause-lines : goal.returns-in_ok-push_run-in-File-clause-lines
 returns-in_ok-push_run-in-File-clause-lines c = λ m e w g.
     let run = run_value c.args.run in
-    run_step c.args.reading _ m e run w g c.in-File.is c.requires.form
+    run_step c.args.reading.now _ m e run w g c.in-File.is c.requires.form
     (record { sort = g.last.sort; stamp = g.last.stamp; protect = g.last.protect; path = g.last.path; note = g.last.note; bytes = c.in_ok-push_run-in-File.ensures.bytes ∙ ap (λ l. l ++ run_bytes run) g.last.bytes ∙ sym (given_bytes e.last run) })

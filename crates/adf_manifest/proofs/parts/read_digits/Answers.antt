@@ -1,7 +1,7 @@
 use Rattle.std.proofs.Common.{◌≡◌, ◌∙◌, ap, sym, Result, Ok, Err}
 use Rattle.adf_manifest.specs.Parts.{has_number_front}
 use Rattle.adf_manifest.proofs.PartLaws.{no_number_front, number_is, number_read, number_utf8}
-use Rattle.adf_manifest.proofs.parts.read_number.Goals as goal
+use Rattle.adf_manifest.proofs.parts.read_digits.Goals as goal
 
 ok_not_err : {T E : Type 0} (r : Result T E) (x : T) (e : E) → r ≡ Ok x → r ≡ Err e → ⊥
 ok_not_err r x e h g = cc
