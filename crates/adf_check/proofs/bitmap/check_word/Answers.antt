@@ -39,7 +39,8 @@ loop-bit-preserved c =
     subst (λ (w : ℕ). IsTrue c.is_set.result ↔ IsBitSet w bit) c.word-word.ensures.word c.is_set.ensures in
     let next : b + 1 ≡ 2 + 32 * c.args.i + (bit + 1) = omega arith in
     subst (IsMapped image store) next
-    (bit_agrees image store pages c.args.i bit b refl within c.requires.begun below c.requires.pages c.loop-bit.invariant c.is_set.result told c.in_ok-check_block.ensures.ok)
+    (bit_agrees image store pages c.args.i bit b refl within c.requires.begun below c.requires.pages c.loop-bit.invariant c.is_set.result told
+    c.in_ok-check_block.ensures.ok)
 
 pub returns-then-not-has_free-clause-state : goal.returns-then-not-has_free-clause-state
 returns-then-not-has_free-clause-state c =
