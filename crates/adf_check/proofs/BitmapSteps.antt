@@ -1,5 +1,6 @@
 -- The steps along the bitmap.
-use Rattle.std.proofs.Common.{◌≡◌, ◌≢◌, ℕ, zero, suc, List, ◌^◌, ◌+◌, ◌-◌, ◌*◌, ◌/◌, ◌%◌, ◌<◌, ◌≤◌, length, Bool, true, false, IsTrue, refl, sym, inl, inr, ap, subst, ◌∙◌, arith}
+use Rattle.std.proofs.Common.{◌≡◌, ◌≢◌, ℕ, zero, suc, List, ◌^◌, ◌+◌, ◌-◌, ◌*◌, ◌/◌, ◌%◌, ◌<◌, ◌≤◌, Bool, true, false, IsTrue}
+use Rattle.std.proofs.Common.{refl, sym, inl, inr, ap, subst, ◌∙◌, arith}
 use Rattle.std.specs.Prelude.{◌↔◌, IsBitSet, bit_and, slice_index}
 use Rattle.adf_blocks.specs.declared.cause.Cause.TheVariants.{LostBlock, OwnedFree}
 use Rattle.adf_blocks.specs.Sizes.{blocks, pages_needed}
@@ -26,7 +27,10 @@ bit_at : (i bit : ℕ) → bit < 32 → (2 + 32 * i + bit - 2) % 4064 % 32 ≡ b
 bit_at i bit h = omega arith
 
 -- block b, of bit `bit` of word i, in a volume whose bitmap agrees below it: what the bit tells
-module _ (image : List ℕ) (store : Store) (pages : List ℕ) (i bit b : ℕ) (e : b ≡ 2 + 32 * i + bit) (within : bit < 32) (begun : IsBegun image) (hi : b < blocks image) (listed : AreListed image pages (pages_needed (blocks image))) (st : IsMapped image store b) (free : Bool) (told : IsTrue free ↔ IsBitSet (word_in image (slice_index pages (i / 127)) (1 + i % 127)) bit) where
+module _ (image : List ℕ) (store : Store) (pages : List ℕ) (i bit b : ℕ)
+    (e : b ≡ 2 + 32 * i + bit) (within : bit < 32) (begun : IsBegun image) (hi : b < blocks image)
+    (listed : AreListed image pages (pages_needed (blocks image))) (st : IsMapped image store b)
+    (free : Bool) (told : IsTrue free ↔ IsBitSet (word_in image (slice_index pages (i / 127)) (1 + i % 127)) bit) where
   abbrev number : ℕ
   number = slice_index pages ((b - 2) / 4064)
 
@@ -72,8 +76,10 @@ no_bit : (word bit : ℕ) → word ≡ 0 → IsTrue false ↔ IsBitSet word bit
 no_bit word bit e = ((λ h. absurd (let x : false ≡ true = h in cc)), (λ h. absurd (h (ap (λ w. bit_and w (2 ^ bit)) e))))
 
 -- where a word is 0 and its first blocks are owned, the bitmap agrees on them
-pub owned_run : (image : List ℕ) (store : Store) (pages : List ℕ) (i n : ℕ) → n ≤ 32 → 2 + 32 * i + n ≤ blocks image → IsBegun image → AreListed image pages (pages_needed (blocks image))
-    → word_in image (slice_index pages (i / 127)) (1 + i % 127) ≡ 0 → ((b : ℕ) → 2 + 32 * i ≤ b → b < 2 + 32 * i + n → owner_at store.owners b ≢ Free) → IsMapped image store (2 + 32 * i)
+pub owned_run : (image : List ℕ) (store : Store) (pages : List ℕ) (i n : ℕ) → n ≤ 32 → 2 + 32 * i + n ≤ blocks image → IsBegun image
+    → AreListed image pages (pages_needed (blocks image))
+    → word_in image (slice_index pages (i / 127)) (1 + i % 127) ≡ 0
+    → ((b : ℕ) → 2 + 32 * i ≤ b → b < 2 + 32 * i + n → owner_at store.owners b ≢ Free) → IsMapped image store (2 + 32 * i)
     → IsMapped image store (2 + 32 * i + n)
 owned_run image store pages i zero few hi begun listed none owned st = let e : 2 + 32 * i ≡ 2 + 32 * i + 0 = omega arith in subst (IsMapped image store) e st
 owned_run image store pages i (suc n) few hi begun listed none owned st =

@@ -11,7 +11,8 @@ use Rattle.adf_check.specs.Narrow.{wide}
 use Rattle.adf_check.specs.Owners.{IsTable, is_part, owned_count}
 
 -- a table is one still when a free block is claimed
-pub claimed : (t : List Owner) (n m b : ℕ) (o : Owner) → IsTable t n m → 2 ≤ b → b < length t → is_part o ≡ true → owner_at t b ≡ Free → IsTable (set t b o) n (m + 1)
+pub claimed : (t : List Owner) (n m b : ℕ) (o : Owner) → IsTable t n m → 2 ≤ b → b < length t → is_part o ≡ true → owner_at t b ≡ Free
+    → IsTable (set t b o) n (m + 1)
 claimed t n m b o h lo hi part free = record { boot = grind (arith, common_steps); blocks = grind (arith, common_steps); used = grind (arith, common_steps) }
 
 pub counted : (t : List Owner) (b : ℕ) (o : Owner) → b < length t → is_part o ≡ true → owner_at t b ≡ Free → owned_count (set t b o) ≡ owned_count t + 1
@@ -33,7 +34,8 @@ free_is zero = refl
 free_is (suc m) = ap (λ t. Free ∷ t) (free_is m)
 
 -- what is kept of a new table
-pub new_is : (n : ℕ) (xs : List NarrowOwner) → 2 ≤ n → xs ≡ replicate n NarrowFree → map wide (set (set xs 0 NarrowBoot) 1 NarrowBoot) ≡ Boot ∷ Boot ∷ replicate (n - 2) Free
+pub new_is : (n : ℕ) (xs : List NarrowOwner) → 2 ≤ n → xs ≡ replicate n NarrowFree
+    → map wide (set (set xs 0 NarrowBoot) 1 NarrowBoot) ≡ Boot ∷ Boot ∷ replicate (n - 2) Free
 new_is zero xs lo e = absurd (omega arith)
 new_is (suc zero) xs lo e = absurd (omega arith)
 new_is (suc (suc m)) xs lo e =

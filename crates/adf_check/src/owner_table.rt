@@ -102,7 +102,8 @@ impl OwnerTable {
     // Whether no part of the volume owns one of the blocks from `first` up to `end`.
     pub fn has_free(&self, first: u32, end: u32) -> bool
         requires { end ≤ length self.now }
-        ensures { result ≡ false → (b : ℕ) → first ≤ b → b < end → owner_at self.now b ≢ Owner.Free }
+        ensures none { result ≡ false → (b : ℕ) → first ≤ b → b < end → owner_at self.now b ≢ Owner.Free }
+        ensures some { result ≡ true → (b : ℕ) × ((first ≤ b) × (b < end) × (owner_at self.now b ≡ Owner.Free)) }
     {
         for b in first..end {
             if self.is_free(b) {

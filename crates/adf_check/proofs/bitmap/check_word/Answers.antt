@@ -39,7 +39,8 @@ loop-bit-preserved c =
     subst (λ (w : ℕ). IsTrue c.is_set.result ↔ IsBitSet w bit) c.word-word.ensures.word c.is_set.ensures in
     let next : b + 1 ≡ 2 + 32 * c.args.i + (bit + 1) = omega arith in
     subst (IsMapped image store) next
-    (bit_agrees image store pages c.args.i bit b refl within c.requires.begun below c.requires.pages c.loop-bit.invariant c.is_set.result told c.in_ok-check_block.ensures.ok)
+    (bit_agrees image store pages c.args.i bit b refl within c.requires.begun below c.requires.pages c.loop-bit.invariant c.is_set.result told
+    c.in_ok-check_block.ensures.ok)
 
 pub returns-then-not-has_free-clause-state : goal.returns-then-not-has_free-clause-state
 returns-then-not-has_free-clause-state c =
@@ -51,6 +52,6 @@ returns-then-not-has_free-clause-state c =
     let inside : 2 + 32 * c.args.i + len ≤ blocks image = omega arith in
     let none : word_in image (slice_index pages (c.args.i / 127)) (1 + c.args.i % 127) ≡ 0 = sym c.word-word.ensures.word ∙ c.if-word-eq0.true in
     let unowned : c.has_free.result ≡ false = search rules in
-    let owned : (b : ℕ) → 2 + 32 * c.args.i ≤ b → b < 2 + 32 * c.args.i + len → owner_at store.owners b ≢ Free = c.has_free.ensures unowned in
+    let owned : (b : ℕ) → 2 + 32 * c.args.i ≤ b → b < 2 + 32 * c.args.i + len → owner_at store.owners b ≢ Free = c.has_free.ensures.none unowned in
     let end : 2 + 32 * c.args.i + len ≡ min (2 + 32 * (c.args.i + 1)) (blocks image) = omega arith in
     subst (IsMapped image store) end (owned_run image store pages c.args.i len few inside c.requires.begun c.requires.pages none owned c.requires.state)

@@ -80,6 +80,7 @@ overflow_cast-owner c =
     let chain = c.args.chain.now in
     let store = store_of c.args.found.now in
     let count : c.len.result ≡ length store.rows = search rules in
-    let short : length store.rows + 1 < 2 ^ 32 = entry_short c.args.image.now store c.kind-kind.ensures.begun refl chain.parent chain.up chain.slot c.args.at c.args.b
+    let short : length store.rows + 1 < 2 ^ 32 =
+    entry_short c.args.image.now store c.kind-kind.ensures.begun refl chain.parent chain.up chain.slot c.args.at c.args.b
     (sees_of c.args.seen.now) c.requires.state in
     omega arith

@@ -5,5 +5,6 @@ use Rattle.adf_check.proofs.datas.read_named.Goals as goal
 
 pub block-names-requires : goal.block-names-requires
 block-names-requires c =
-    table_inside c.args.image.now (store_of c.args.found.now) c.args.file.now.node c.args.file.now.head c.args.table.now (72 * c.args.m) c.requires.begun c.requires.state
+    table_inside c.args.image.now (store_of c.args.found.now) c.args.file.now.node c.args.file.now.head c.args.table.now (72 * c.args.m)
+    c.requires.begun c.requires.state
     c.args.m (omega arith)

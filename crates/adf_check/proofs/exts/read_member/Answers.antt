@@ -45,7 +45,8 @@ returns-clause-state c =
     let pushed : c.push.new.self.items ≡ table ++ b ∷ [] = search rules in
     let kept : c.push-else-is_err.new.self.items ≡ store.exts ++ b ∷ [] = search rules in
     let done = ext_done image store n h table c.args.at b c.requires.begun c.requires.state c.requires.some owners (owned_count owners) c.in_ok-claim_named.ensures.range c.in_ok-claim_named.ensures.free
-    (c.in_ok-claim_named.ensures.ok ∙ ap (λ m. set store.owners b (AnExt m c.len.result)) c.number_of.ensures ∙ ap (λ k. set store.owners b (AnExt n k)) count) c.in_ok-claim_named.ensures.count (subst of_block c.block.ensures.block c.in-Ok.ensures.0) in
+    (c.in_ok-claim_named.ensures.ok ∙ ap (λ m. set store.owners b (AnExt m c.len.result)) c.number_of.ensures
+    ∙ ap (λ k. set store.owners b (AnExt n k)) count) c.in_ok-claim_named.ensures.count (subst of_block c.block.ensures.block c.in-Ok.ensures.0) in
     let next : word_in image b 126 ≡ c.next.result = ap (λ x. word x 126) (sym ext_is) ∙ sym c.next.ensures in
     let by_exts : List ℕ → Type 0 = λ es. IsInExts image (record { owners = owners; rows = store.rows; starts = store.starts; exts = es; datas = store.datas; used = owned_count owners }) n h c.push.new.self.items b c.next.result in
     let by_table : List ℕ → Type 0 = λ t. IsInExts image (record { owners = owners; rows = store.rows; starts = store.starts; exts = store.exts ++ b ∷ []; datas = store.datas; used = owned_count owners }) n h t b c.next.result in
@@ -61,4 +62,5 @@ overflow_cast-owner c =
 
 pub number_of-requires : goal.number_of-requires
 number_of-requires c =
-    file_in_exts c.args.image.now (store_of c.args.found.now) c.requires.begun refl c.args.node c.args.head c.args.table.now.items c.args.at c.args.b c.requires.state
+    file_in_exts c.args.image.now (store_of c.args.found.now) c.requires.begun refl c.args.node c.args.head c.args.table.now.items
+    c.args.at c.args.b c.requires.state

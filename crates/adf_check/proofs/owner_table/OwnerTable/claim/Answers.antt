@@ -11,7 +11,8 @@ invariant_of-self c =
     let below = subst (λ t. c.args.b < length t) (sym c.self.view_is) c.requires.below in
     let free = owner_is items c.args.b c.index.result.now below c.index.ensures ∙ ap wide c.in-Free.is in
     subst (λ t. IsTable t c.self.inside.blocks (c.self.inside.used + 1)) (sym (map-set wide items c.args.b c.args.o))
-    (claimed (map wide items) c.self.inside.blocks c.self.inside.used c.args.b (wide c.args.o) c.self.invariant c.requires.from below c.requires.part free)
+    (claimed (map wide items) c.self.inside.blocks c.self.inside.used c.args.b (wide c.args.o)
+    c.self.invariant c.requires.from below c.requires.part free)
 
 pub returns-in-Free-clause-ok : goal.returns-in-Free-clause-ok
 returns-in-Free-clause-ok c =
@@ -23,7 +24,9 @@ returns-in-Free-clause-count c =
     let items = c.self.inside.owners.items in
     let below = subst (λ t. c.args.b < length t) (sym c.self.view_is) c.requires.below in
     let free = owner_is items c.args.b c.index.result.now below c.index.ensures ∙ ap wide c.in-Free.is in
-    ap owned_count (map-set wide items c.args.b c.args.o) ∙ counted (map wide items) c.args.b (wide c.args.o) below c.requires.part free ∙ ap (λ t. owned_count t + 1) c.self.view_is
+    ap owned_count (map-set wide items c.args.b c.args.o)
+    ∙ counted (map wide items) c.args.b (wide c.args.o) below c.requires.part free
+    ∙ ap (λ t. owned_count t + 1) c.self.view_is
 
 pub returns-in-Free-clause-bound : goal.returns-in-Free-clause-bound
 returns-in-Free-clause-bound c =
@@ -31,4 +34,5 @@ returns-in-Free-clause-bound c =
     let below = subst (λ t. c.args.b < length t) (sym c.self.view_is) c.requires.below in
     let free = owner_is items c.args.b c.index.result.now below c.index.ensures ∙ ap wide c.in-Free.is in
     subst (λ t. owned_count t + 2 ≤ length t) (sym (map-set wide items c.args.b c.args.o))
-    (bounded _ _ _ (claimed (map wide items) c.self.inside.blocks c.self.inside.used c.args.b (wide c.args.o) c.self.invariant c.requires.from below c.requires.part free))
+    (bounded _ _ _ (claimed (map wide items) c.self.inside.blocks c.self.inside.used c.args.b (wide c.args.o)
+    c.self.invariant c.requires.from below c.requires.part free))
