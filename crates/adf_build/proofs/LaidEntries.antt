@@ -31,11 +31,7 @@ use Rattle.adf_build.proofs.Holding.{below}
 use Rattle.adf_build.proofs.Written.{holds_left, holds_right}
 use Rattle.adf_build.proofs.Spots.{Spot, spot, nodes_at, head_fits}
 use Rattle.adf_build.proofs.LaidFiles.{run_at, run_index, exts_linked, exts_formed, exts_point, bytes_held, datas_formed, held_long}
-
-size_small : (kind : Kind) (size : ℕ) → size ≤ 512 * count kind size
-unfolding count chunk
-size_small Ofs size = omega arith
-size_small Ffs size = omega arith
+use Rattle.adf_build.proofs.GivenBlocks.{size_small}
 
 chunks_cover : (kind : Kind) (size : ℕ) → size ≤ count kind size * chunk kind
 unfolding count chunk

@@ -42,6 +42,7 @@ use Rattle.adf_build.proofs.Bits.{bit_of, bits_small, owned_used, used_owned}
 use Rattle.adf_build.proofs.Holding.{fits_root, volume_long, volume_blocks, holds_map_exts, holds_pages, holds_root, holds_boot, listed_few, reserved_parts}
 use Rattle.adf_build.proofs.Spots.{spot, chain_laid, root_slot, dir_slot}
 use Rattle.adf_build.proofs.LaidEntries.{entry_laid, file_laid}
+use Rattle.std.proofs.lemmas.Bool.{false_from_ne_true}
 
 boot_holds : (kind : Kind) → first_cause (boot_form (laid ((0, boot_bytes kind) ∷ []))) ≡ None
 unfolding with_bytes
@@ -113,10 +114,6 @@ flag_true false h = absurd (omega arith)
 flag_one : (t : Bool) → t ≡ true → cond {A = ℕ} t 1 0 ≡ 1
 flag_one true h = refl
 flag_one false h = cc
-
-not_true : (t : Bool) → (t ≡ true → ⊥) → t ≡ false
-not_true true h = absurd (h refl)
-not_true false h = refl
 
 -- a bit of a page tells whether its block is free
 bit_tells : (n total q r : ℕ) → r < 4064 → IsFreeBit (page_block (page_words n total q)) r ↔ (is_free_bit n total (4064 * q + r) ≡ true)
@@ -232,7 +229,7 @@ module _ (t : Tree) (n : ℕ) (sound : IsSound t) (allowed : is_allowed n ≡ tr
       let r : ℕ = (b - 2) % 4064 in
       let four = size_low n allowed in
       let lt : q < pages_needed n = page_in n b lo hi in
-      let y : is_used n (entries_blocks t.kind t.entries) b ≡ false = not_true (is_used n (entries_blocks t.kind t.entries) b)
+      let y : is_used n (entries_blocks t.kind t.entries) b ≡ false = false_from_ne_true (is_used n (entries_blocks t.kind t.entries) b)
       (λ u. let x = in_block (owned (volume t n) (planned t n)) b ((owned_is b).1 (used_owned n (entries_blocks t.kind t.entries) b four lo u)) in f x.0 x.1) in
       let x = unused_free n (entries_blocks t.kind t.entries) (4064 * q + r) b (omega arith) hi y in
       let g : IsFreeBit (page_block (page_words n (entries_blocks t.kind t.entries) q)) r = (bit_tells n (entries_blocks t.kind t.entries) q r (omega arith)).1 x in

@@ -5,8 +5,8 @@ use Rattle.adf_tree.specs.declared.entry.Entry.{Entry}
 use Rattle.adf_tree.specs.Chain.{in_chain}
 use Rattle.adf_volume.specs.Lists.{Spelled}
 use Rattle.adf_volume.specs.Layout.{nodes_from}
-use Rattle.adf_volume.proofs.Trees.{test_tells}
 use Rattle.adf_build.specs.Laid.{first_block}
+use Rattle.adf_volume.proofs.Comparisons.{both_equal}
 
 -- what a link word of each member must be, so that the chain is spelled
 abbrev pub Links : (ℕ → ℕ) → (ℕ → ℕ) → ℕ → List Entry → Type 0
@@ -17,7 +17,7 @@ Links link at n (e ∷ es) = (link (at n) ≡ first_block at (nodes_from (suc n)
 pub spelled_chain : (link at : ℕ → ℕ) (n : ℕ) (es : List Entry) (p s : ℕ) → Links link at n es → Spelled link (first_block at (nodes_from n es p s)) (map at (nodes_from n es p s))
 spelled_chain link at n [] p s h = refl
 spelled_chain link at n (e ∷ es) p s h =
-    put (in_chain p s e) (test_tells e.parent p (slot_of e.name) s) (spelled_chain link at (suc n) es p s h.1)
+    put (in_chain p s e) (both_equal e.parent p (slot_of e.name) s) (spelled_chain link at (suc n) es p s h.1)
   where
     put : (t : Bool) → (t ≡ true → (e.parent ≡ p) × ((slot_of e.name) ≡ s)) → Spelled link (first_block at (nodes_from (suc n) es p s)) (map at (nodes_from (suc n) es p s))
         → Spelled link (first_block at (cond t (n ∷ nodes_from (suc n) es p s) (nodes_from (suc n) es p s))) (map at (cond t (n ∷ nodes_from (suc n) es p s) (nodes_from (suc n) es p s)))

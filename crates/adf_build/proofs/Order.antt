@@ -1,5 +1,5 @@
 -- The order of entries, and the chains that it makes.
-use Rattle.std.proofs.Common.{◌≡◌, ◌≤◌, ◌<◌, ◌≢◌, ◌+◌, ◌*◌, ℕ, zero, suc, List, [], ◌∷◌, refl, sym, ap, subst, ◌∙◌, arith, true, false, cond, length, drop, map, ◌⊎◌, inl, inr, get_or-set_other, get_or-set_same}
+use Rattle.std.proofs.Common.{◌≡◌, ◌≤◌, ◌<◌, ◌≢◌, ◌+◌, ◌*◌, ℕ, zero, suc, List, [], ◌∷◌, refl, sym, ap, subst, ◌∙◌, arith, false, cond, length, drop, map, ◌⊎◌, inl, inr, get_or-set_other, get_or-set_same}
 use Rattle.std.specs.Prelude.{◌==◌, ◌&&◌, slice_index, slice_index_or, replicate}
 use Rattle.std.specs.List.{AllWithin, range_with_len}
 use Rattle.std.specs.List.Sorted.{IsNonDecreasingBy}
@@ -16,6 +16,7 @@ use Rattle.adf_tree.proofs.Kept.{slot_small}
 use Rattle.adf_volume.specs.Layout.{nodes_from}
 use Rattle.adf_build.specs.Laid.{first_block, slots_of}
 use Rattle.adf_build.specs.Order.{RisesFrom}
+use Rattle.adf_volume.proofs.Comparisons.{equal_both}
 
 -- a lower bound
 pub rises_low : (q r : ℕ) (es : List Entry) → q ≤ r → RisesFrom r es → RisesFrom q es
@@ -41,16 +42,13 @@ rises_drop r (suc i) (e ∷ es) o = rises_drop r i es (rises_low r (rank e) es o
 apart : (a b c d : ℕ) → (a ≡ b → c ≡ d → ⊥) → ((a == b) && (c == d)) ≡ false
 apart a b c d h = grind (arith, nat_tests)
 
-at_one : (a b c d : ℕ) → a ≡ b → c ≡ d → ((a == b) && (c == d)) ≡ true
-at_one a b c d e f = grind (arith, nat_tests)
-
 -- an entry that does not stand in a chain
 passed : (n : ℕ) (e : Entry) (es : List Entry) (p s : ℕ) → (e.parent ≡ p → slot_of e.name ≡ s → ⊥) → nodes_from n (e ∷ es) p s ≡ nodes_from (suc n) es p s
 passed n e es p s h = ap (λ t. cond t (n ∷ nodes_from (suc n) es p s) (nodes_from (suc n) es p s)) (apart e.parent p (slot_of e.name) s h)
 
 -- an entry that stands in a chain
 taken : (n : ℕ) (e : Entry) (es : List Entry) (p s : ℕ) → e.parent ≡ p → slot_of e.name ≡ s → nodes_from n (e ∷ es) p s ≡ n ∷ nodes_from (suc n) es p s
-taken n e es p s h k = ap (λ t. cond t (n ∷ nodes_from (suc n) es p s) (nodes_from (suc n) es p s)) (at_one e.parent p (slot_of e.name) s h k)
+taken n e es p s h k = ap (λ t. cond t (n ∷ nodes_from (suc n) es p s) (nodes_from (suc n) es p s)) (equal_both e.parent p (slot_of e.name) s h k)
 
 -- where all entries stand behind a chain, it is empty
 pub none_below : (n r : ℕ) (es : List Entry) (p s : ℕ) → RisesFrom r es → 72 * p + s < r → nodes_from n es p s ≡ []

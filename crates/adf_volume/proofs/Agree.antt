@@ -1,5 +1,5 @@
 -- Agreement: where a tree and a layout fit, each walk goes along them.
-use Rattle.std.proofs.Common.{◌≡◌, ℕ, zero, suc, List, [], ◌∷◌, inl, inr, ◌+◌, ◌*◌, ◌/◌, ◌<◌, ◌≤◌, ◌≢◌, length, refl, sym, ap, subst, ◌∙◌, arith, map, Bool, true, false, cond}
+use Rattle.std.proofs.Common.{◌≡◌, ℕ, zero, suc, List, inl, inr, ◌+◌, ◌*◌, ◌/◌, ◌<◌, ◌≤◌, ◌≢◌, length, refl, sym, ap, subst, ◌∙◌, arith, map, Bool, true, false, cond}
 use native.Mathlib.Decide.{dec_le}
 use Rattle.adf_volume.specs.Lists.{At}
 use Rattle.adf_volume.specs.Image.{root_of, name_of, DIR, FILE, word_in, map_exts_needed, kind_of, count, held, table_word}
@@ -8,42 +8,26 @@ use Rattle.adf_fields.specs.Hash.{slot_of}
 use Rattle.adf_tree.specs.Texts.{uppers}
 use Rattle.adf_volume.specs.Demands.{AllHold, head_demands, ext_demands, data_demands}
 use Rattle.std.specs.Prelude.{slice_index, nat_lt}
-use Rattle.std.proofs.lemmas.Bool.Decides.{nat_tests}
 use Rattle.adf_tree.specs.declared.entry.Body.{Body}
 use Rattle.adf_tree.specs.declared.entry.Entry.{Entry}
 use Rattle.adf_tree.specs.Tree.{Tree}
-use Rattle.adf_volume.specs.Layout.{EntryAt, chain_nodes, Place, Layout, at_node, exts_at, exts_of, datas_of}
+use Rattle.adf_volume.specs.Layout.{EntryAt, chain_nodes, Layout, at_node, exts_of, datas_of}
 use Rattle.adf_volume.proofs.Ordered.{DirNode, ordered, is_dir}
 use Rattle.adf_tree.specs.declared.entry.Body.TheVariants.{Dir, File}
 use Rattle.adf_volume.specs.Fits.{Fits, FileFits, BodyFits, TableAt}
-use Rattle.adf_volume.specs.Walk.{Role, second, Before, Same, Has, heads, NodeAt, DirAt, FileAt, MemberAt, NamesPage, data_count, Asks, Lacks, IsDue, ext_count, Enough, NewName, form_demands, node_block, member_block, next_data, NoCause, IsWalk}
+use Rattle.adf_volume.specs.Walk.{Role, second, Before, Same, Has, heads, DirAt, FileAt, MemberAt, NamesPage, data_count, Asks, Lacks, IsDue, ext_count, Enough, NewName, form_demands, node_block, member_block, next_data, NoCause, IsWalk}
 use Rattle.adf_volume.specs.Walk.Role.{Root, Page, MapExt, Head, Ext, Data}
 use Rattle.adf_volume.specs.Walk.IsWalk.{start, step}
 use Rattle.adf_volume.specs.Parts.{Part}
-use Rattle.adf_volume.proofs.Images.{slot_below, map_exts_high}
+use Rattle.adf_volume.proofs.Images.{map_exts_high}
 use Rattle.adf_volume.proofs.Lists.{at_fun, at_below, at_some, at_before, at_map, at_unmap, spelled_first, spelled_next, spelled_word, spelled_link, all_append, at_index, index_past}
 use Rattle.adf_volume.proofs.Trees.{entry_at, entry_below, entry_some, place_at, one_place, sorted_places, chain_rises}
-use Rattle.adf_volume.proofs.Walks.{root_is, root_in, number_of, numbered, dec_has, has_role, same_of, ext_below, asks_number, due_file, node_is, member_is, file_is}
+use Rattle.adf_volume.proofs.Walks.{root_is, root_in, number_of, numbered, dec_has, has_role, same_of, ext_below, asks_number, due_file, node_is, member_is, file_is, dir_is_node}
 use Rattle.adf_volume.proofs.Parts.{part_range, one_part}
-
--- a directory has no file's word
-dir_not_file : (image : List ℕ) (h : ℕ) → word_in image h 127 ≡ DIR → word_in image h 127 ≡ FILE → ⊥
-dir_not_file image h d f = let e : DIR ≡ FILE = sym d ∙ f in omega arith
-
-less : (a b : ℕ) → nat_lt a b ≡ true → a < b
-less a b h = grind (arith, nat_tests)
-
-not_less : (a b : ℕ) → nat_lt a b ≡ false → b ≤ a
-not_less a b h = grind (arith, nat_tests)
-
-dir_node : (image : List ℕ) (w : List (Role × ℕ)) (p a : ℕ) → DirAt image w p a → NodeAt w p a
-dir_node image w zero a h = h
-dir_node image w (suc i) a h = h.0
-
-exts_below : (qs : List Place) (i k b : ℕ) → At (exts_at qs i) k b → i < length qs
-exts_below [] i k b h = absurd h
-exts_below (q ∷ qs) zero k b h = omega arith
-exts_below (q ∷ qs) (suc i) k b h = let ih : i < length qs = exts_below qs i k b h in omega arith
+use Rattle.std.proofs.lemmas.Bool.{ltb-false, ltb-true}
+use Rattle.adf_volume.proofs.Places.{exts_below}
+use Rattle.adf_volume.proofs.Told.{dir_not_file}
+use Rattle.adf_tree.proofs.Kept.{slot_small}
 
 module _ (image : List ℕ) (t : Tree) (l : Layout) (fit : Fits image t l) where
   -- a header whose word 127 says directory is a directory's
@@ -65,10 +49,6 @@ module _ (image : List ℕ) (t : Tree) (l : Layout) (fit : Fits image t l) where
 
   -- the walk so far goes along the tree
   module _ (w : List (Role × ℕ)) (v : IsWalk image w) (ag : (r : Role) (b : ℕ) → Has w r b → Part image t l r b) where
-    pub node_agrees : (p a : ℕ) → NodeAt w p a → at_node image l p ≡ a
-    node_agrees zero a h = root_is image w a v h
-    node_agrees (suc i) a h = (ag (Head (suc i) h.0 h.1 h.2) a h.3).1
-
     pub dir_agrees : (p a : ℕ) → DirAt image w p a → DirNode t p × (at_node image l p ≡ a)
     dir_agrees zero a h = (tt, root_is image w a v h)
     dir_agrees (suc i) a h =
@@ -120,7 +100,7 @@ module _ (image : List ℕ) (t : Tree) (l : Layout) (fit : Fits image t l) where
         let y : slot_of e.0.name ≡ s = e.3 in
         let u1 : e.0.parent < n = up.0 in
         let d : DirNode t p = subst (λ p. DirNode t p) x up.1 in
-        let below : slot_of e.0.name < 72 = slot_below e.0.name in
+        let below : slot_of e.0.name < 72 = slot_small e.0.name in
         let s1 : s < 72 = omega arith in
         let sp = fit.chains p s (is_dir t p d) s1 in
         let named : word_in image (at_node image l p) (6 + s) ≡ at_node image l n =
@@ -134,7 +114,7 @@ module _ (image : List ℕ) (t : Tree) (l : Layout) (fit : Fits image t l) where
         let e = entry_at t p s (suc j) n h in
         let up = (ordered t fit.tree).parents n e.0 e.1 in
         let d : DirNode t p = subst (λ p. DirNode t p) e.2 up.1 in
-        let below : slot_of e.0.name < 72 = slot_below e.0.name in
+        let below : slot_of e.0.name < 72 = slot_small e.0.name in
         let y : slot_of e.0.name ≡ s = e.3 in
         let s1 : s < 72 = omega arith in
         let sp = fit.chains p s (is_dir t p d) s1 in
@@ -250,7 +230,7 @@ module _ (image : List ℕ) (t : Tree) (l : Layout) (fit : Fits image t l) where
         let pt = ag (Head y.0 p s j) a y.1 in
         let e = entry_at t p s j y.0 pt.0 in
         let dir : DirNode t p = subst (DirNode t) e.2 ((ordered t fit.tree).parents y.0 e.0 e.1).1 in
-        let below : slot_of e.0.name < 72 = slot_below e.0.name in
+        let below : slot_of e.0.name < 72 = slot_small e.0.name in
         let s0 : slot_of e.0.name ≡ s = e.3 in
         let sp = fit.chains p s (is_dir t p dir) (omega arith) in
         let z : word_in image (at_node image l y.0) 124 ≡ word_in image a i = ap (λ a. word_in image a 124) pt.1 ∙ ap (word_in image a) (sym q.2) in
@@ -354,7 +334,7 @@ module _ (image : List ℕ) (t : Tree) (l : Layout) (fit : Fits image t l) where
         (x : Bool) → nat_lt (suc k) (data_count image (node_block w n)) ≡ x → k < length (datas_of l n) →
         cond x (word_in image (member_block w n (suc k / 72)) (table_word (suc k))) 0 ≡ slice_index (datas_of l n) (suc k)
     next_agrees n k a i h bytes d f ff c true z u =
-        let lt : suc k < data_count image (node_block w n) = less (suc k) (data_count image (node_block w n)) z in
+        let lt : suc k < data_count image (node_block w n) = ltb-true (suc k) (data_count image (node_block w n)) z in
         let len : length (datas_of l n) ≡ count t.kind (length bytes) = ff.datas in
         let en : count t.kind (length bytes) ≤ 72 * suc (length (exts_of l n)) = ff.enough in
         let m = table_there n k a i h (suc k / 72) d f (omega arith) in
@@ -363,7 +343,7 @@ module _ (image : List ℕ) (t : Tree) (l : Layout) (fit : Fits image t l) where
         ∙ ff.named (suc k) e.0 m.0 e.1 (member_agrees n (suc k / 72) m.0 m.1)
         ∙ sym (at_index (datas_of l n) (suc k) e.0 e.1)
     next_agrees n k a i h bytes d f ff c false z u =
-        let ge : data_count image (node_block w n) ≤ suc k = not_less (suc k) (data_count image (node_block w n)) z in
+        let ge : data_count image (node_block w n) ≤ suc k = ltb-false (suc k) (data_count image (node_block w n)) z in
         let len : length (datas_of l n) ≡ count t.kind (length bytes) = ff.datas in
         sym (index_past (datas_of l n) (suc k) (omega arith))
 
@@ -375,7 +355,7 @@ module _ (image : List ℕ) (t : Tree) (l : Layout) (fit : Fits image t l) where
         let up = (ordered t fit.tree).parents n e.0 e.1 in
         let u1 : e.0.parent < n = up.0 in
         let dir = has_dir e.0.parent (omega arith) up.1 in
-        let z : at_node image l e.0.parent ≡ node_block w p = sym (node_is image w e.0.parent (at_node image l e.0.parent) v (dir_node image w e.0.parent (at_node image l e.0.parent) dir)) ∙ ap (node_block w) e.2 in
+        let z : at_node image l e.0.parent ≡ node_block w p = sym (node_is image w e.0.parent (at_node image l e.0.parent) v (dir_is_node image w e.0.parent (at_node image l e.0.parent) dir)) ∙ ap (node_block w) e.2 in
         subst (λ k. AllHold (head_demands image k b (node_block w p) s)) fit.kind
         (subst (λ b. AllHold (head_demands image t.kind b (node_block w p) s)) h.1
         (subst (λ c. AllHold (head_demands image t.kind (at_node image l n) c s)) z

@@ -1,5 +1,5 @@
 -- There is one first fault.
-use Rattle.std.proofs.Common.{◌≡◌, ℕ, zero, suc, List, [], ◌∷◌, ◌++◌, ◌⊎◌, inl, inr, ◌+◌, ◌-◌, ◌*◌, ◌/◌, ◌<◌, length, refl, sym, ap, subst, ◌∙◌, arith}
+use Rattle.std.proofs.Common.{◌≡◌, ℕ, zero, suc, List, [], ◌∷◌, ◌++◌, inl, inr, ◌+◌, ◌-◌, ◌*◌, ◌/◌, ◌<◌, length, refl, sym, ap, subst, ◌∙◌, arith}
 use native.Mathlib.Decide.{dec_lt, ℕ_discrete}
 use Rattle.adf_blocks.specs.declared.cause.Cause.{Cause}
 use Rattle.adf_volume.specs.Image.{word_in, root_of}
@@ -91,22 +91,15 @@ module _ (image : List ℕ) where
     fine : NoCause image w role at (word_in image at index)
     same : w' ≡ (role, word_in image at index) ∷ w
 
-  -- of two walks, one goes on from the other: they are the same, or a step leads on from the shorter one
-  Comparable : List (Role × ℕ) → List (Role × ℕ) → Type 0
-  Comparable w u = (w ≡ u) ⊎ (((x : List (Role × ℕ)) × Step w x × IsWalk image x) ⊎ ((x : List (Role × ℕ)) × Step u x × IsWalk image x))
+  -- a walk has the root
+  not_empty : {w : List (Role × ℕ)} → IsWalk image w → length w ≡ 0 → ⊥
+  not_empty start e = omega arith
+  not_empty (step v d f n) e = omega arith
 
   same_walks : {w u : List (Role × ℕ)} → IsWalk image w → IsWalk image u → length w ≡ length u → w ≡ u
   same_walks start start e = refl
   same_walks start (step v d f n) e = absurd (not_empty v (omega arith))
-    where
-      not_empty : {w : List (Role × ℕ)} → IsWalk image w → length w ≡ 0 → ⊥
-      not_empty start e = omega arith
-      not_empty (step v d f n) e = omega arith
   same_walks (step v d f n) start e = absurd (not_empty v (omega arith))
-    where
-      not_empty : {w : List (Role × ℕ)} → IsWalk image w → length w ≡ 0 → ⊥
-      not_empty start e = omega arith
-      not_empty (step v d f n) e = omega arith
   same_walks (step {w = w} {r = r} {b = b} {a = a} {i = i} v d f n) (step {w = u} {r = q} {b = c} {a = a'} {i = i'} v' d' f' n') e =
       let z : w ≡ u = same_walks v v' (omega arith) in
       let d2 : IsDue image u r a i = subst (λ w. IsDue image w r a i) z d in
@@ -117,10 +110,6 @@ module _ (image : List ℕ) where
   -- from the shorter of two walks a step leads on
   goes_on : {u : List (Role × ℕ)} → IsWalk image u → (w : List (Role × ℕ)) → IsWalk image w → length w < length u → (x : List (Role × ℕ)) × Step w x
   goes_on start w v l = absurd (not_empty v (omega arith))
-    where
-      not_empty : {w : List (Role × ℕ)} → IsWalk image w → length w ≡ 0 → ⊥
-      not_empty start e = omega arith
-      not_empty (step v d f n) e = omega arith
   goes_on (step {w = u} {r = r} {b = b} {a = a} {i = i} v d f n) w vw l =
       elim (dec_lt (length w) (length u)) [
         | yes k ↦ goes_on v w vw k

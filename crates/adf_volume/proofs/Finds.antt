@@ -8,9 +8,9 @@ use Rattle.adf_tree.specs.Tree.{Tree, IsTree, child, is_child}
 use Rattle.adf_tree.proofs.Found.{child_says, is_child_from, child_is, no_children, not_true}
 use Rattle.adf_volume.specs.Lists.{At}
 use Rattle.adf_volume.specs.Layout.{EntryAt, chain_nodes}
-use Rattle.adf_volume.proofs.Images.{slot_upper}
 use Rattle.adf_volume.proofs.Lists.{at_below, at_some, at_index_or}
 use Rattle.adf_volume.proofs.Trees.{entry_at, entry_fun, place_at}
+use Rattle.adf_tree.proofs.Children.{same_slot}
 
 -- an entry of the directory with this name is the child
 pub child_yes : (t : Tree) (p : ℕ) (name : List ℕ) (n : ℕ) (e : Entry) → IsTree t.entries → EntryAt t n e → e.parent ≡ p → uppers e.name ≡ uppers name → child t.entries p name ≡ Some n
@@ -41,4 +41,4 @@ pub chain_no : (t : Tree) (p : ℕ) (name : List ℕ) → ((j n : ℕ) (e : Entr
 chain_no t p name h = child_no t p name
     (λ n e a q u.
     let x = place_at t n e a in
-    h x.0 n e (subst (λ p. At (chain_nodes t p (slot_of name)) x.0 n) q (subst (λ s. At (chain_nodes t e.parent s) x.0 n) (slot_upper e.name name u) x.1)) a u)
+    h x.0 n e (subst (λ p. At (chain_nodes t p (slot_of name)) x.0 n) q (subst (λ s. At (chain_nodes t e.parent s) x.0 n) (same_slot e.name name u) x.1)) a u)

@@ -1,18 +1,18 @@
 -- What each member of a walk was when it came, told of the walk as it is now.
-use Rattle.std.proofs.Common.{◌≡◌, ℕ, zero, suc, List, [], ◌∷◌, inl, inr, ◌+◌, ◌*◌, ◌/◌, ◌<◌, ◌≤◌, ◌≢◌, refl, sym, ap, subst, ◌∙◌, arith, Bool, true, false, cond}
+use Rattle.std.proofs.Common.{◌≡◌, ℕ, zero, suc, List, [], ◌∷◌, inl, inr, ◌+◌, ◌*◌, ◌/◌, ◌<◌, ◌≤◌, ◌≢◌, refl, sym, ap, subst, ◌∙◌, arith, true}
 use Rattle.std.specs.Prelude.{nat_lt}
-use Rattle.std.proofs.lemmas.Bool.Decides.{nat_tests}
 use native.Mathlib.Decide.{dec_le}
 use Rattle.adf_blocks.specs.declared.cause.Cause.TheVariants.{SameName}
 use Rattle.adf_volume.specs.Image.{word_in, root_of, kind_of, held, table_word, name_of}
 use Rattle.adf_blocks.specs.Sizes.{blocks, pages_needed}
 use Rattle.adf_tree.specs.Texts.{uppers}
 use Rattle.adf_volume.specs.Demands.{demand, AllHold, page_demands, head_demands, ext_demands, data_demands}
-use Rattle.adf_volume.specs.Walk.{Role, second, Has, NodeAt, DirAt, FileAt, MemberAt, NamesPage, data_count, Asks, IsDue, ext_count_of, ext_count, node_block, member_block, next_data, form_demands, NewName, NoCause, IsWalk}
+use Rattle.adf_volume.specs.Walk.{Role, second, Has, DirAt, FileAt, MemberAt, NamesPage, data_count, Asks, IsDue, ext_count_of, ext_count, node_block, member_block, next_data, form_demands, NewName, NoCause, IsWalk}
 use Rattle.adf_volume.specs.Walk.Role.{Root, Page, MapExt, Head, Ext, Data}
 use Rattle.adf_volume.specs.Walk.IsWalk.{start, step}
 use Rattle.adf_volume.proofs.Lists.{all_split}
-use Rattle.adf_volume.proofs.Walks.{node_is, member_is, file_is, due_file, ext_counted, count_up, dec_has, has_role}
+use Rattle.adf_volume.proofs.Walks.{node_is, member_is, file_is, due_file, ext_counted, count_up, dec_has, has_role, dir_is_node}
+use Rattle.std.proofs.lemmas.Bool.{cond-true, cond-false, le-ltb, lt-ltb}
 
 -- the word that names a header
 abbrev pub HeadNamed : List ℕ → List (Role × ℕ) → ℕ → ℕ → ℕ → ℕ → Type 0
@@ -40,26 +40,6 @@ Kept image w (Data n zero) b = ⊥
 Kept image w (Data n (suc k)) b = (h : ℕ) × FileAt image w n h × (k < data_count image h) × (data_count image h ≤ 72 * suc (ext_count w n))
     × ((c : ℕ) × MemberAt image w n (k / 72) c × (word_in image c (table_word k) ≡ b))
     × ((x : ℕ) × IsNext image w n (suc k) h x × AllHold (data_demands image (kind_of image) b h (suc k) (held (kind_of image) (word_in image h 81) (suc k)) x))
-
-less : (a b : ℕ) → nat_lt a b ≡ true → a < b
-less a b h = grind (arith, nat_tests)
-
-not_less : (a b : ℕ) → nat_lt a b ≡ false → b ≤ a
-not_less a b h = grind (arith, nat_tests)
-
-cond_true : (t : Bool) (a b : ℕ) → t ≡ true → cond t a b ≡ a
-cond_true true a b h = refl
-cond_true false a b h = cc
-
-cond_false : (t : Bool) (a b : ℕ) → t ≡ false → cond t a b ≡ b
-cond_false true a b h = cc
-cond_false false a b h = refl
-
-lt_test : (a b : ℕ) → a < b → nat_lt a b ≡ true
-lt_test a b h = grind (arith, nat_tests)
-
-ge_test : (a b : ℕ) → b ≤ a → nat_lt a b ≡ false
-ge_test a b h = grind (arith, nat_tests)
 
 same_number : (n m p s i j : ℕ) → Head n p s i ≡ Head m p s j → n ≡ m
 same_number n m p s i j h = cc
@@ -104,10 +84,6 @@ module _ (image : List ℕ) where
   asks_dir old n p s zero a i h = (h.1, (a, h.2))
   asks_dir old n p s (suc j) a i h = let k = old (Head h.1.0 p s j) a h.1.1 in (k.0, (k.2.0, k.2.1))
 
-  pub dir_is_node : (w : List (Role × ℕ)) (p a : ℕ) → DirAt image w p a → NodeAt w p a
-  dir_is_node w zero a h = h
-  dir_is_node w (suc i) a h = h.0
-
   module _ (w : List (Role × ℕ)) (v : IsWalk image w) (old : (r : Role) (b : ℕ) → Has w r b → Kept image w r b) where
     pub there : (n m a : ℕ) → FileAt image w n a → m ≤ ext_count w n → (c : ℕ) × MemberAt image w n m c
     there n zero a f u = (a, f)
@@ -147,15 +123,15 @@ module _ (image : List ℕ) where
         record {
           inner = (λ u.
               let m = there n (k / 72) h f (omega arith) in
-              let u' : nat_lt k (data_count image (node_block w n)) ≡ true = lt_test k (data_count image (node_block w n)) (subst (λ h. k < data_count image h) (sym z) u) in (
+              let u' : nat_lt k (data_count image (node_block w n)) ≡ true = lt-ltb k (data_count image (node_block w n)) (subst (λ h. k < data_count image h) (sym z) u) in (
                 m.0,
                 m.1,
-                cond_true (nat_lt k (data_count image (node_block w n))) (word_in image (member_block w n (k / 72)) (table_word k)) 0 u'
+                cond-true (nat_lt k (data_count image (node_block w n))) (word_in image (member_block w n (k / 72)) (table_word k)) 0 u'
                     ∙ ap (λ b. word_in image b (table_word k)) (member_is image w n (k / 72) m.0 v m.1),
               ));
           last = (λ u.
-              cond_false (nat_lt k (data_count image (node_block w n))) (word_in image (member_block w n (k / 72)) (table_word k)) 0
-              (ge_test k (data_count image (node_block w n)) (subst (λ h. data_count image h ≤ k) (sym z) u)));
+              cond-false (nat_lt k (data_count image (node_block w n))) (word_in image (member_block w n (k / 72)) (table_word k)) 0
+              (le-ltb k (data_count image (node_block w n)) (subst (λ h. data_count image h ≤ k) (sym z) u)));
         }
 
     kept_new : (r : Role) (a i b : ℕ) → IsDue image w r a i → word_in image a i ≡ b → NoCause image w r a b → Kept image w r b
@@ -167,7 +143,7 @@ module _ (image : List ℕ) where
     kept_new (Head n p s j) a i b d e g =
         let ad = asks_dir old n p s j a i d.asked in
         let c = ad.1 in
-        let z : node_block w p ≡ c.0 = node_is image w p c.0 v (dir_is_node w p c.0 c.1) in
+        let z : node_block w p ≡ c.0 = node_is image w p c.0 v (dir_is_node image w p c.0 c.1) in
         (ad.0, head_named n p s j a i b d.asked e, (c.0, c.1, subst (λ c. AllHold (head_demands image (kind_of image) b c s)) z (form_of (Head n p s j) a b g)))
     kept_new (Ext n zero) a i b d e g = absurd d.asked
     kept_new (Ext n (suc k)) a i b d e g =

@@ -1,4 +1,6 @@
+pub mod Comparisons
 pub mod Lists
+pub mod Places
 pub mod Told
 pub mod Images
 pub mod Ordered

@@ -15,9 +15,10 @@ use Rattle.adf_volume.specs.Walk.IsWalk.{start, step}
 use Rattle.adf_volume.specs.Made.{push_page, pages_in, push_map_ext, map_exts_in, push_ext, exts_in, push_data, datas_in, entry_in, place_in, push_entry, entries_in, push_place, places_in}
 use Rattle.adf_volume.proofs.Told.{head_slot_is}
 use Rattle.adf_volume.proofs.Lists.{at_fun, at_below, at_some, at_old, at_new, at_snoc, snoc_length}
-use Rattle.adf_volume.proofs.Trees.{chain_snoc, test_yes, test_tells}
+use Rattle.adf_volume.proofs.Trees.{chain_snoc}
 use Rattle.adf_volume.proofs.Walks.{numbered, asks_number, ext_counted, next_ext, dec_has, has_role, page_word}
 use Rattle.adf_volume.proofs.Kept.{kept, there, enough, map_ext_down}
+use Rattle.adf_volume.proofs.Comparisons.{both_equal, equal_both}
 
 entry_up : (image : List ℕ) (full : List (Role × ℕ)) (q : Role) (b : ℕ) (es : List Entry) (i : ℕ) (e : Entry) → At es i e → At (push_entry image full q b es) i e
 entry_up image full Root b es i e h = h
@@ -442,7 +443,7 @@ module _ (image : List ℕ) where
         go : (t : Bool) → ((q == p) && (slot_of (name_of image c) == s)) ≡ t → At (chain_in w p s ++ cond t (m ∷ []) []) j n → (b : ℕ) × Has ((Head m q u k, c) ∷ w) (Head n p s j) b
         go true z y =
             let nm = num m q u k refl in
-            let e = test_tells q p (slot_of (name_of image c)) s z in
+            let e = both_equal q p (slot_of (name_of image c)) s z in
             let e0 : q ≡ p = e.0 in
             let e1 : u ≡ s = sym nm.1 ∙ e.1 in
             elim (at_snoc (chain_in w p s) m j n y) [
@@ -474,7 +475,7 @@ module _ (image : List ℕ) where
           to = (λ n p s j b h. elim h [
             | inl y ↦
                 let nm = num n p s j y.0 in
-                let t : ((p == p) && (slot_of (name_of image c) == s)) ≡ true = test_yes p p (slot_of (name_of image c)) s refl nm.1 in
+                let t : ((p == p) && (slot_of (name_of image c) == s)) ≡ true = equal_both p p (slot_of (name_of image c)) s refl nm.1 in
                 subst (λ r. At (nodes_from 1 (push_entry image full r c (entries_in image full w)) p s) j n) (sym y.0)
                 (subst (λ xs. At xs j n) (sym (chain_head w n p s j c p s nm.0 ∙ ap (λ t. chain_in w p s ++ cond t (n ∷ []) []) t))
                 (at_new (chain_in w p s) n j nm.2))

@@ -16,7 +16,8 @@ use Rattle.adf_volume.proofs.Parts.Stands.{in_head, in_ext, in_data}
 use Rattle.adf_volume.proofs.Owners.{once_owned, blocks_once}
 use Rattle.adf_volume.proofs.Kept.{kept}
 use Rattle.adf_volume.proofs.Made.{places_length, ext_has, has_ext, data_has, has_data, page_has, has_page, map_ext_has, has_map_ext}
-use Rattle.adf_volume.proofs.Sound.{exts_below, datas_below, file_parts, head_is}
+use Rattle.adf_volume.proofs.Sound.{file_parts, head_is}
+use Rattle.adf_volume.proofs.Places.{exts_below, datas_below}
 
 module _ (image : List ℕ) (w : List (Role × ℕ)) (v : IsWalk image w) (whole : IsWhole image w) where
   -- each member of the walk is owned, and each owned block is a member

@@ -1,5 +1,5 @@
 -- What a whole walk tells: its tree, its pages, its chains and its files.
-use Rattle.std.proofs.Common.{◌≡◌, ℕ, zero, suc, List, [], ◌∷◌, inl, inr, ◌+◌, ◌*◌, ◌/◌, ◌<◌, ◌≤◌, length, refl, sym, ap, subst, ◌∙◌, arith, Bool, true, false, cond, map, eq-eqb}
+use Rattle.std.proofs.Common.{◌≡◌, ℕ, zero, suc, List, inl, inr, ◌+◌, ◌*◌, ◌/◌, ◌<◌, ◌≤◌, length, refl, sym, ap, subst, ◌∙◌, arith, Bool, true, false, cond, map, eq-eqb}
 use Rattle.std.specs.Prelude.{◌==◌, slice_index}
 use Rattle.std.proofs.lemmas.Bool.{eqb-true}
 use native.Mathlib.Decide.{dec_lt, ℕ_discrete}
@@ -10,42 +10,24 @@ use Rattle.adf_fields.specs.Hash.{slot_of}
 use Rattle.adf_tree.specs.Texts.{uppers}
 use Rattle.adf_volume.specs.Demands.{AllHold, boot_demands, head_demands, ext_demands, data_demands}
 use Rattle.adf_tree.specs.declared.entry.Entry.{Entry}
-use Rattle.adf_volume.specs.Layout.{Place, EntryAt, nodes_from, chain_nodes, at_node, head_at, exts_at, datas_at, exts_of, datas_of}
+use Rattle.adf_volume.specs.Layout.{EntryAt, nodes_from, chain_nodes, at_node, exts_of, datas_of}
 use Rattle.adf_volume.proofs.Ordered.{Ordered, DirNode}
 use Rattle.adf_tree.specs.declared.entry.Body.TheVariants.{Dir, File}
 use Rattle.adf_volume.specs.Fits.{EntryFits, FileFits, BodyFits, TableAt}
 use Rattle.adf_volume.specs.Walk.{Role, Before, Has, heads, NodeAt, DirAt, FileAt, MemberAt, NamesPage, data_count, ext_count, IsWalk, IsWhole}
 use Rattle.adf_volume.specs.Walk.Role.{Page, MapExt, Head, Ext, Data}
 use Rattle.adf_volume.specs.Made.{pages_in, map_exts_in, exts_in, datas_in, body_in, entry_in, place_in, entries_in, places_in, tree_in, layout_in}
-use Rattle.adf_volume.proofs.Told.{head_type}
-use Rattle.adf_volume.proofs.Images.{slot_upper, four_blocks, content_length, map_exts_high, map_exts_low}
+use Rattle.adf_volume.proofs.Told.{head_type, dir_not_file}
+use Rattle.adf_volume.proofs.Images.{content_length, map_exts_high, map_exts_low}
 use Rattle.adf_volume.proofs.Lists.{at_fun, at_below, at_some, at_unmap, spelled_from, no_length, at_index, index_past}
 use Rattle.adf_volume.proofs.Walks.{root_is, root_in, number_of, one_head, one_block, ext_file, asked_block, asked_header, page_word}
 use Rattle.adf_volume.proofs.Rising.{parent_below, in_order}
 use Rattle.adf_volume.proofs.Kept.{kept, there, IsNext, new_names, in_range, map_ext_low}
 use Rattle.adf_volume.proofs.Made.{entry_has, place_has, has_entry, exts_length, ext_has, has_ext, data_has, has_data, page_has, has_page, map_ext_has, has_map_ext, slot_is, chain_has, has_chain}
-
-place_parts : (qs : List Place) (i : ℕ) (q : Place) → At qs i q → (head_at qs i ≡ q.head) × (exts_at qs i ≡ q.exts) × (datas_at qs i ≡ q.datas)
-place_parts [] i q h = absurd h
-place_parts (r ∷ qs) zero q h = (ap (λ (x : Place). x.head) h, ap (λ (x : Place). x.exts) h, ap (λ (x : Place). x.datas) h)
-place_parts (r ∷ qs) (suc i) q h = place_parts qs i q h
-
-pub exts_below : (qs : List Place) (i k b : ℕ) → At (exts_at qs i) k b → i < length qs
-exts_below [] i k b h = absurd h
-exts_below (q ∷ qs) zero k b h = omega arith
-exts_below (q ∷ qs) (suc i) k b h = let ih : i < length qs = exts_below qs i k b h in omega arith
-
-pub datas_below : (qs : List Place) (i k b : ℕ) → At (datas_at qs i) k b → i < length qs
-datas_below [] i k b h = absurd h
-datas_below (q ∷ qs) zero k b h = omega arith
-datas_below (q ∷ qs) (suc i) k b h = let ih : i < length qs = datas_below qs i k b h in omega arith
-
-dir_not_file : (image : List ℕ) (h : ℕ) → word_in image h 127 ≡ DIR → word_in image h 127 ≡ FILE → ⊥
-dir_not_file image h d f = let e : DIR ≡ FILE = sym d ∙ f in omega arith
-
-map_length : {X Y : Type 0} (f : X → Y) (xs : List X) → length (map f xs) ≡ length xs
-map_length f [] = refl
-map_length f (x ∷ xs) = ap suc (map_length f xs)
+use Rattle.adf_volume.proofs.Places.{place_parts}
+use Rattle.std.proofs.lemmas.List.{length-map}
+use Rattle.adf_volume.proofs.Sizes.{size_low}
+use Rattle.adf_tree.proofs.Children.{same_slot}
 
 body_dir : (image : List ℕ) (w : List (Role × ℕ)) (n b : ℕ) (x : Bool) → cond x Dir (File (content image (kind_of image) b (datas_in w n))) ≡ Dir → x ≡ true
 body_dir image w n b true h = refl
@@ -119,7 +101,7 @@ module _ (image : List ℕ) (w : List (Role × ℕ)) (v : IsWalk image w) (whole
         let y = entry_is m f k in
         let p1 : x.0 ≡ y.0 = sym (ap (λ (z : Entry). z.parent) x.5) ∙ z ∙ ap (λ (z : Entry). z.parent) y.5 in
         let nm : uppers (name_of image x.3) ≡ uppers (name_of image y.3) = sym (ap (λ (z : Entry). uppers z.name) x.5) ∙ u ∙ ap (λ (z : Entry). uppers z.name) y.5 in
-        let s1 : x.1 ≡ y.1 = sym (slot_is image w v n x.0 x.1 x.2 x.3 x.4) ∙ slot_upper (name_of image x.3) (name_of image y.3) nm ∙ slot_is image w v m y.0 y.1 y.2 y.3 y.4 in
+        let s1 : x.1 ≡ y.1 = sym (slot_is image w v n x.0 x.1 x.2 x.3 x.4) ∙ same_slot (name_of image x.3) (name_of image y.3) nm ∙ slot_is image w v m y.0 y.1 y.2 y.3 y.4 in
         let y4 : Has w (Head m x.0 x.1 y.2) y.3 = subst (λ p. Has w (Head m p x.1 y.2) y.3) (sym p1) (subst (λ s. Has w (Head m y.0 s y.2) y.3) (sym s1) y.4) in
         new_names image v n m x.0 x.1 x.2 y.2 x.3 y.3 x.4 y4 ne nm);
   }
@@ -206,7 +188,7 @@ module _ (image : List ℕ) (w : List (Role × ℕ)) (v : IsWalk image w) (whole
         | no ne ↦
             let x = asked_header image w whole (suc (heads w)) p s 0 a (6 + s) (refl, lt, da, refl, ne) in
             let y : 0 < length c = at_below c 0 x.0 (chain_has image w w v x.0 p s 0 x.1 x.2) in
-            let l : length (map (at_node image (layout_in w)) c) ≡ length c = map_length (at_node image (layout_in w)) c in
+            let l : length (map (at_node image (layout_in w)) c) ≡ length c = length-map c (at_node image (layout_in w)) in
             absurd (omega arith)
       ])
       (λ j b b2 h h2.
@@ -228,7 +210,7 @@ module _ (image : List ℕ) (w : List (Role × ℕ)) (v : IsWalk image w) (whole
             let x' : Has w (Head u.0 p s j) b = subst (Has w (Head u.0 p s j)) y x.1 in
             let q = asked_header image w whole (suc (heads w)) p s (suc j) b 124 (refl, (u.0, x'), refl, ne) in
             let r : suc j < length c = at_below c (suc j) q.0 (chain_has image w w v q.0 p s (suc j) q.1 q.2) in
-            let l : length (map (at_node image (layout_in w)) c) ≡ length c = map_length (at_node image (layout_in w)) c in
+            let l : length (map (at_node image (layout_in w)) c) ≡ length c = length-map c (at_node image (layout_in w)) in
             absurd (omega arith)
       ])
 
@@ -365,7 +347,7 @@ module _ (image : List ℕ) (w : List (Role × ℕ)) (v : IsWalk image w) (whole
     pub content_long : (n h : ℕ) → FileAt image w n h → length (content image (kind_of image) h (datas_in w n)) ≡ word_in image h 81
     content_long n h f =
         content_length image (kind_of image) h (datas_in w n) boots.0.0
-        (λ k b x. (in_range image v (four_blocks (blocks image) boots.0.1) (Data n (suc k)) b (has_data image w v n k b x)).1)
+        (λ k b x. (in_range image v (size_low (blocks image) boots.0.1) (Data n (suc k)) b (has_data image w v n k b x)).1)
         (datas_length n h f)
 
     body_fits : (n p s j b c : ℕ) → Has w (Head n p s j) b → AllHold (head_demands image (kind_of image) b c s) → (x : Bool) → (word_in image b 127 == DIR) ≡ x → BodyFits image (kind_of image) (layout_in w) n b (cond x Dir (File (content image (kind_of image) b (datas_in w n))))

@@ -17,12 +17,7 @@ use Rattle.adf_volume.proofs.Ordered.{Ordered}
 use Rattle.adf_volume.specs.Walk.{Before}
 use Rattle.adf_volume.specs.Walk.Role.{Head}
 use Rattle.adf_volume.proofs.Lists.{at_fun, at_below, at_some}
-
-test_true : (a b c d : ℕ) → ((a == b) && (c == d)) ≡ true → (a ≡ b) × (c ≡ d)
-test_true a b c d h = grind (arith, nat_tests)
-
-test_of : (a b c d : ℕ) → a ≡ b → c ≡ d → ((a == b) && (c == d)) ≡ true
-test_of a b c d h k = grind (arith, nat_tests)
+use Rattle.adf_volume.proofs.Comparisons.{both_equal, equal_both}
 
 -- a place in a list that begins with k where t holds
 at_kept : (t : Bool) (k : ℕ) (rest : List ℕ) (j n : ℕ) → At (cond t (k ∷ rest) rest) j n → ((t ≡ true) × (k ≡ n)) ⊎ ((i : ℕ) × At rest i n)
@@ -34,7 +29,7 @@ pub at_chain : (k : ℕ) (es : List Entry) (p s j n : ℕ) → At (nodes_from k 
 at_chain k [] p s j n h = absurd h
 at_chain k (e ∷ es) p s j n h =
     elim (at_kept ((e.parent == p) && (slot_of e.name == s)) k (nodes_from (suc k) es p s) j n h) [
-      | inl z ↦ let q = test_true e.parent p (slot_of e.name) s z.0 in let y : n ≡ k + 0 = sym z.1 ∙ omega arith in (0, e, refl, y, q.0, q.1)
+      | inl z ↦ let q = both_equal e.parent p (slot_of e.name) s z.0 in let y : n ≡ k + 0 = sym z.1 ∙ omega arith in (0, e, refl, y, q.0, q.1)
       | inr g ↦ let r = at_chain (suc k) es p s g.0 n g.1 in let z : n ≡ k + suc r.0 = r.3 ∙ omega arith in (suc r.0, r.1, r.2, z, r.4, r.5)
     ]
 
@@ -42,7 +37,7 @@ at_chain k (e ∷ es) p s j n h =
 pub chain_at : (k : ℕ) (es : List Entry) (i : ℕ) (e : Entry) → At es i e → (j : ℕ) × At (nodes_from k es e.parent (slot_of e.name)) j (k + i)
 chain_at k [] i e h = absurd h
 chain_at k (f ∷ es) zero e h =
-    let t : ((f.parent == e.parent) && (slot_of f.name == slot_of e.name)) ≡ true = test_of f.parent e.parent (slot_of f.name) (slot_of e.name) (ap (λ (x : Entry). x.parent) h) (ap (λ (x : Entry). slot_of x.name) h) in
+    let t : ((f.parent == e.parent) && (slot_of f.name == slot_of e.name)) ≡ true = equal_both f.parent e.parent (slot_of f.name) (slot_of e.name) (ap (λ (x : Entry). x.parent) h) (ap (λ (x : Entry). slot_of x.name) h) in
     (0, rw t (omega arith))
 chain_at k (f ∷ es) (suc i) e h =
     let r = chain_at (suc k) es i e h in
@@ -142,12 +137,6 @@ chain_snoc k (f ∷ es) e p s =
     put : (t : Bool) (k : ℕ) (xs ys zs : List ℕ) → xs ≡ ys ++ zs → cond t (k ∷ xs) xs ≡ cond t (k ∷ ys) ys ++ zs
     put true k xs ys zs h = ap (λ l. k ∷ l) h
     put false k xs ys zs h = h
-
-pub test_yes : (a b c d : ℕ) → a ≡ b → c ≡ d → ((a == b) && (c == d)) ≡ true
-test_yes a b c d h k = test_of a b c d h k
-
-pub test_tells : (a b c d : ℕ) → ((a == b) && (c == d)) ≡ true → (a ≡ b) × (c ≡ d)
-test_tells a b c d h = test_true a b c d h
 
 entry_suc : (es : List Entry) (i : ℕ) → entry es (suc i) ≡ slice_get es i
 entry_suc es i =

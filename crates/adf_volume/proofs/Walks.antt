@@ -6,7 +6,7 @@ use Rattle.std.proofs.lemmas.Bool.Decides.{eqb_tells}
 use native.Mathlib.Decide.{dec_le, dec_lt, ℕ_discrete}
 use Rattle.adf_blocks.specs.Sizes.{blocks, pages_needed}
 use Rattle.adf_volume.specs.Image.{root_of}
-use Rattle.adf_volume.specs.Walk.{Role, first, second, third, Same, Has, head_count, heads, NodeAt, FileAt, MemberAt, Asks, Lacks, IsDue, ext_count_of, ext_count, IsWalk, IsWhole, node_block_of, node_block, ext_block_of, ext_block, member_block}
+use Rattle.adf_volume.specs.Walk.{Role, first, second, third, Same, Has, head_count, heads, NodeAt, FileAt, MemberAt, Asks, Lacks, IsDue, ext_count_of, ext_count, IsWalk, IsWhole, node_block_of, node_block, ext_block_of, ext_block, member_block, DirAt}
 use Rattle.adf_volume.specs.Walk.Role.{Root, Page, MapExt, Head, Ext, Data}
 use Rattle.adf_volume.specs.Walk.IsWalk.{start, step}
 
@@ -78,6 +78,11 @@ heads_up (Data n k) m = omega arith
 pub asks_number : (image : List ℕ) (w : List (Role × ℕ)) (n p s j a i : ℕ) → Asks image w (Head n p s j) a i → n ≡ suc (heads w)
 asks_number image w n p s zero a i h = h.0
 asks_number image w n p s (suc j) a i h = h.0
+
+-- a directory of a walk is a node of it
+pub dir_is_node : (image : List ℕ) (w : List (Role × ℕ)) (p a : ℕ) → DirAt image w p a → NodeAt w p a
+dir_is_node image w zero a h = h
+dir_is_node image w (suc i) a h = h.0
 
 module _ (image : List ℕ) where
   root_block : {w : List (Role × ℕ)} → IsWalk image w → (b : ℕ) → Has w Root b → root_of image ≡ b

@@ -1,5 +1,5 @@
 -- Completeness: where a tree and a layout fit, a walk that asks for nothing more has all their parts.
-use Rattle.std.proofs.Common.{◌≡◌, ℕ, zero, suc, List, [], ◌∷◌, inl, inr, ◌+◌, ◌*◌, ◌/◌, ◌<◌, ◌≤◌, length, refl, sym, ap, subst, ◌∙◌, arith}
+use Rattle.std.proofs.Common.{◌≡◌, ℕ, zero, suc, List, inl, inr, ◌+◌, ◌*◌, ◌/◌, ◌<◌, ◌≤◌, length, refl, sym, ap, subst, ◌∙◌, arith}
 use native.Mathlib.Decide.{dec_le}
 use Rattle.adf_volume.specs.Lists.{At}
 use Rattle.adf_volume.specs.Image.{root_of, FILE, word_in, map_exts_needed, count, table_word}
@@ -8,7 +8,7 @@ use Rattle.adf_fields.specs.Hash.{slot_of}
 use Rattle.adf_tree.specs.declared.entry.Body.{Body}
 use Rattle.adf_tree.specs.declared.entry.Entry.{Entry}
 use Rattle.adf_tree.specs.Tree.{Tree}
-use Rattle.adf_volume.specs.Layout.{EntryAt, chain_nodes, Place, Layout, at_node, datas_at, exts_of, datas_of}
+use Rattle.adf_volume.specs.Layout.{EntryAt, chain_nodes, Layout, at_node, exts_of, datas_of}
 use Rattle.adf_tree.specs.declared.entry.Body.TheVariants.{Dir, File}
 use Rattle.adf_volume.specs.Fits.{Fits, BodyFits}
 use Rattle.adf_volume.specs.Walk.{Role, second, Has, heads, FileAt, MemberAt, data_count, Asks, Lacks, IsWalk, IsWhole}
@@ -20,6 +20,7 @@ use Rattle.adf_volume.proofs.Walks.{root_in, number_of, numbered, dec_has, has_r
 use Rattle.adf_volume.proofs.Images.{map_exts_high, map_exts_low}
 use Rattle.adf_volume.proofs.Parts.{part_range}
 use Rattle.adf_volume.proofs.Agree.{agreement, file_agrees, count_agrees, has_node, asks_next, same_head, is_file}
+use Rattle.adf_volume.proofs.Places.{datas_below}
 
 file_word : (image : List ℕ) (t : Tree) (l : Layout) (n : ℕ) (e : Entry) (b : Body) (bytes : List ℕ) → b ≡ e.body → BodyFits image t.kind l n (at_node image l n) b → e.body ≡ File bytes → word_in image (at_node image l n) 127 ≡ FILE
 file_word image t l n e Dir bytes z f d = let k : Dir ≡ File bytes = z ∙ d in cc
@@ -28,11 +29,6 @@ file_word image t l n e (File x) bytes z f d = f.0
 no_datas : (image : List ℕ) (t : Tree) (l : Layout) (n : ℕ) (e : Entry) (b : Body) (k x : ℕ) → b ≡ e.body → BodyFits image t.kind l n (at_node image l n) b → At (datas_of l n) k x → (bytes : List ℕ) × (e.body ≡ File bytes)
 no_datas image t l n e Dir k x z f a = absurd (subst (λ xs. At xs k x) f.2 a)
 no_datas image t l n e (File bytes) k x z f a = (bytes, sym z)
-
-datas_below : (qs : List Place) (i k b : ℕ) → At (datas_at qs i) k b → i < length qs
-datas_below [] i k b h = absurd h
-datas_below (q ∷ qs) zero k b h = omega arith
-datas_below (q ∷ qs) (suc i) k b h = let ih : i < length qs = datas_below qs i k b h in omega arith
 
 no_head_second : (r : Role) → second r < 2 → (n m p s j : ℕ) → r ≡ Head n p s j → ⊥
 no_head_second r h n m p s j z = let y : second r ≡ second (Head n p s j) = ap second z in omega arith
@@ -147,28 +143,25 @@ module _ (image : List ℕ) (t : Tree) (l : Layout) (fit : Fits image t l) (w : 
       (b.0, all_map_exts j b.0 b.1)
 
   -- completeness: each part is in the walk
-  parts_walked : (r : Role) (b : ℕ) → Part image t l r b → Has w r b
-  parts_walked Root b h = subst (Has w Root) h (root_in image v)
-  parts_walked (Page k) b h =
+  pub part_walked : (r : Role) (b : ℕ) → Part image t l r b → Has w r b
+  part_walked Root b h = subst (Has w Root) h (root_in image v)
+  part_walked (Page k) b h =
       let u : k < length l.pages = at_below l.pages k b h in
       let p : length l.pages ≡ pages_needed (blocks image) = fit.pages in
       let m = page_word image w k (omega arith) (λ j y. some_map_ext j (omega arith)) in
       let x = asked_has (Page k) m.0 m.1 m.2 (omega arith) in
       subst (Has w (Page k)) (at_fun l.pages k x.0 b (ag (Page k) x.0 x.1) h) x.1
-  parts_walked (MapExt j) b h = all_map_exts j b h
-  parts_walked (Head n p s j) b h =
+  part_walked (MapExt j) b h = all_map_exts j b h
+  part_walked (Head n p s j) b h =
       let e = entry_at t p s j n h.0 in
       let u : n ≤ length t.entries = entry_below t n e.0 e.1 in
       let a = all_heads in
       let k = has_node image t l fit w v ag p s j n h.0 (omega arith) in
       subst (Has w (Head n p s j)) (sym (ag (Head n p s j) k.0 k.1).1 ∙ h.1) k.1
-  parts_walked (Ext n zero) b h = absurd h
-  parts_walked (Ext n (suc k)) b h = all_exts n k b h
-  parts_walked (Data n zero) b h = absurd h
-  parts_walked (Data n (suc k)) b h = all_datas n k b h
-
-  pub part_walked : (r : Role) (b : ℕ) → Part image t l r b → Has w r b
-  part_walked r b h = parts_walked r b h
+  part_walked (Ext n zero) b h = absurd h
+  part_walked (Ext n (suc k)) b h = all_exts n k b h
+  part_walked (Data n zero) b h = absurd h
+  part_walked (Data n (suc k)) b h = all_datas n k b h
 
   pub heads_walked : length t.entries ≡ heads w
   heads_walked = at_least (heads w) refl
