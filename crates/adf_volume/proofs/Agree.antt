@@ -130,15 +130,11 @@ module _ (image : List ℕ) (t : Tree) (l : Layout) (fit : Fits image t l) where
 
     -- only a header has a header's key
     pub same_head : (n p s j m : ℕ) (q : Role) → Same q (Head n p s j) → (m : ℕ) × (q ≡ Head m p s j)
-    same_head n p s j m Root h = absurd (omega arith)
-    same_head n p s j m (Page k) h = absurd (omega arith)
-    same_head n p s j m (MapExt k) h = absurd (omega arith)
-    same_head n p s j m (Ext x k) h = absurd (omega arith)
-    same_head n p s j m (Data x k) h = absurd (omega arith)
     same_head n p s j m (Head x y z k) h =
         let a : y ≡ p = omega arith in let b : z ≡ s = omega arith in let c : k ≡ j = omega arith in
         let e : Head x y z k ≡ Head x p s j = cc in
         (x, e)
+    same_head n p s j m _ h = absurd (omega arith)
 
     -- what is due in a chain is the tree's next node
     number_agrees : (p s j n m a i : ℕ) → IsDue image w (Head n p s j) a i → n ≡ suc (heads w) → At (chain_nodes t p s) j m → m ≡ n
@@ -306,11 +302,6 @@ module _ (image : List ℕ) (t : Tree) (l : Layout) (fit : Fits image t l) where
         (omega arith, (λ z. omega arith), (λ z y. omega arith)) (ext_no_head n (suc (suc k)))
 
     enough_due : (r : Role) (a i : ℕ) → IsDue image w r a i → Enough image w r
-    enough_due Root a i d = tt
-    enough_due (Page k) a i d = tt
-    enough_due (MapExt k) a i d = tt
-    enough_due (Head n p s j) a i d = tt
-    enough_due (Ext n k) a i d = tt
     enough_due (Data n k) a i d = λ e h f.
         let d' : IsDue image w (Data n 1) a i = subst (λ k. IsDue image w (Data n k) a i) e d in
         let g = file_agrees n h f in
@@ -324,6 +315,7 @@ module _ (image : List ℕ) (t : Tree) (l : Layout) (fit : Fits image t l) where
               let z : ext_count w n < ext_count w n = ext_below image v n (ext_count w n) x.0 x.1 in
               omega arith
         ]
+    enough_due _ a i d = tt
 
     table_there : (n d0 a i h m : ℕ) → IsDue image w (Data n (suc d0)) a i → FileAt image w n h → m ≤ length (exts_of l n) → (c : ℕ) × MemberAt image w n m c
     table_there n d0 a i h zero d f u = (h, f)
@@ -397,11 +389,6 @@ module _ (image : List ℕ) (t : Tree) (l : Layout) (fit : Fits image t l) where
     form_due (Data n (suc k)) a i b d h = data_form n k a i b d h
 
     new_due : (r : Role) (a i b : ℕ) → IsDue image w r a i → Part image t l r b → NewName image w r b
-    new_due Root a i b d h = tt
-    new_due (Page k) a i b d h = tt
-    new_due (MapExt k) a i b d h = tt
-    new_due (Ext n k) a i b d h = tt
-    new_due (Data n k) a i b d h = tt
     new_due (Head n p s j) a i b d h = λ m k c has eq.
         let u : n ≡ suc (heads w) = asks_number image w n p s j a i d.asked in
         let pt = ag (Head m p s k) c has in
@@ -411,6 +398,7 @@ module _ (image : List ℕ) (t : Tree) (l : Layout) (fit : Fits image t l) where
         let ne : n ≢ m = omega arith in
         (ordered t fit.tree).names n m e.0 f.0 e.1 f.1 ne (e.2 ∙ sym f.2)
         (ap uppers ((fit.entries n e.0 e.1).name ∙ ap (name_of image) h.1) ∙ sym eq ∙ sym (ap uppers ((fit.entries m f.0 f.1).name ∙ ap (name_of image) pt.1)))
+    new_due _ a i b d h = tt
 
     -- agreement, one step: what is due has no cause
     due_fine : (r : Role) (a i : ℕ) → IsDue image w r a i → NoCause image w r a (word_in image a i)

@@ -21,60 +21,36 @@ use Rattle.adf_volume.proofs.Kept.{kept, there, enough, map_ext_down}
 use Rattle.adf_volume.proofs.Comparisons.{both_equal, equal_both}
 
 entry_up : (image : List ℕ) (full : List (Role × ℕ)) (q : Role) (b : ℕ) (es : List Entry) (i : ℕ) (e : Entry) → At es i e → At (push_entry image full q b es) i e
-entry_up image full Root b es i e h = h
-entry_up image full (Page k) b es i e h = h
-entry_up image full (MapExt k) b es i e h = h
 entry_up image full (Head n p s j) b es i e h = at_old es (entry_in image full n p b ∷ []) i e h
-entry_up image full (Ext n k) b es i e h = h
-entry_up image full (Data n k) b es i e h = h
+entry_up image full _ b es i e h = h
 
 place_up : (full : List (Role × ℕ)) (q : Role) (b : ℕ) (es : List Place) (i : ℕ) (e : Place) → At es i e → At (push_place full q b es) i e
-place_up full Root b es i e h = h
-place_up full (Page k) b es i e h = h
-place_up full (MapExt k) b es i e h = h
 place_up full (Head n p s j) b es i e h = at_old es (place_in full n b ∷ []) i e h
-place_up full (Ext n k) b es i e h = h
-place_up full (Data n k) b es i e h = h
+place_up full _ b es i e h = h
 
 ext_up : (n : ℕ) (q : Role) (b : ℕ) (xs : List ℕ) (i e : ℕ) → At xs i e → At (push_ext n q b xs) i e
-ext_up n Root b xs i e h = h
-ext_up n (Page k) b xs i e h = h
-ext_up n (MapExt k) b xs i e h = h
-ext_up n (Head m p s j) b xs i e h = h
 ext_up n (Ext m k) b xs i e h = up (n == m)
   where
     up : (t : Bool) → At (cond t (xs ++ b ∷ []) xs) i e
     up true = at_old xs (b ∷ []) i e h
     up false = h
-ext_up n (Data m k) b xs i e h = h
+ext_up n _ b xs i e h = h
 
 data_up : (n : ℕ) (q : Role) (b : ℕ) (xs : List ℕ) (i e : ℕ) → At xs i e → At (push_data n q b xs) i e
-data_up n Root b xs i e h = h
-data_up n (Page k) b xs i e h = h
-data_up n (MapExt k) b xs i e h = h
-data_up n (Head m p s j) b xs i e h = h
-data_up n (Ext m k) b xs i e h = h
 data_up n (Data m k) b xs i e h = up (n == m)
   where
     up : (t : Bool) → At (cond t (xs ++ b ∷ []) xs) i e
     up true = at_old xs (b ∷ []) i e h
     up false = h
+data_up n _ b xs i e h = h
 
 page_up : (q : Role) (b : ℕ) (xs : List ℕ) (i e : ℕ) → At xs i e → At (push_page q b xs) i e
-page_up Root b xs i e h = h
 page_up (Page k) b xs i e h = at_old xs (b ∷ []) i e h
-page_up (MapExt j) b xs i e h = h
-page_up (Head m p s j) b xs i e h = h
-page_up (Ext m k) b xs i e h = h
-page_up (Data m k) b xs i e h = h
+page_up _ b xs i e h = h
 
 map_ext_up : (q : Role) (b : ℕ) (xs : List ℕ) (i e : ℕ) → At xs i e → At (push_map_ext q b xs) i e
-map_ext_up Root b xs i e h = h
-map_ext_up (Page k) b xs i e h = h
 map_ext_up (MapExt j) b xs i e h = at_old xs (b ∷ []) i e h
-map_ext_up (Head m p s j) b xs i e h = h
-map_ext_up (Ext m k) b xs i e h = h
-map_ext_up (Data m k) b xs i e h = h
+map_ext_up _ b xs i e h = h
 
 data_new : (n k : ℕ) (b : ℕ) (xs : List ℕ) → push_data n (Data n k) b xs ≡ xs ++ b ∷ []
 data_new n k b xs = ap (λ t. cond t (xs ++ b ∷ []) xs) (eq-eqb n n refl)
@@ -84,24 +60,16 @@ ext_new n k b xs = ap (λ t. cond t (xs ++ b ∷ []) xs) (eq-eqb n n refl)
 
 module _ (image : List ℕ) (full : List (Role × ℕ)) where
   entry_length : (r : Role) (b m : ℕ) (es : List Entry) → length es ≡ m → length (push_entry image full r b es) ≡ head_count r m
-  entry_length Root b m es h = h
-  entry_length (Page k) b m es h = h
-  entry_length (MapExt k) b m es h = h
   entry_length (Head n p s j) b m es h = snoc_length es (entry_in image full n p b) ∙ ap suc h
-  entry_length (Ext n k) b m es h = h
-  entry_length (Data n k) b m es h = h
+  entry_length _ b m es h = h
 
   pub entries_length : (w : List (Role × ℕ)) → length (entries_in image full w) ≡ heads w
   entries_length [] = refl
   entries_length (x ∷ w) = entry_length x.0 x.1 (heads w) (entries_in image full w) (entries_length w)
 
   place_length : (r : Role) (b m : ℕ) (es : List Place) → length es ≡ m → length (push_place full r b es) ≡ head_count r m
-  place_length Root b m es h = h
-  place_length (Page k) b m es h = h
-  place_length (MapExt k) b m es h = h
   place_length (Head n p s j) b m es h = snoc_length es (place_in full n b) ∙ ap suc h
-  place_length (Ext n k) b m es h = h
-  place_length (Data n k) b m es h = h
+  place_length _ b m es h = h
 
   pub places_length : (w : List (Role × ℕ)) → length (places_in full w) ≡ heads w
   places_length [] = refl
@@ -140,16 +108,12 @@ module _ (image : List ℕ) (full : List (Role × ℕ)) where
 module _ (image : List ℕ) where
   -- the extension blocks, in order
   ext_length : (n : ℕ) (r : Role) (b m : ℕ) (xs : List ℕ) → length xs ≡ m → length (push_ext n r b xs) ≡ ext_count_of n r m
-  ext_length n Root b m xs h = h
-  ext_length n (Page k) b m xs h = h
-  ext_length n (MapExt k) b m xs h = h
-  ext_length n (Head i p s j) b m xs h = h
   ext_length n (Ext i k) b m xs h = go (n == i)
     where
       go : (t : Bool) → length (cond t (xs ++ b ∷ []) xs) ≡ cond t (suc m) m
       go true = snoc_length xs b ∙ ap suc h
       go false = h
-  ext_length n (Data i k) b m xs h = h
+  ext_length n _ b m xs h = h
 
   pub exts_length : (w : List (Role × ℕ)) (n : ℕ) → length (exts_in w n) ≡ ext_count w n
   exts_length [] n = refl
@@ -207,11 +171,6 @@ module _ (image : List ℕ) where
       ]
 
   data_from : (w : List (Role × ℕ)) (q : Role) (c n k b : ℕ) → ((n k b : ℕ) → At (datas_in w n) k b → Has w (Data n (suc k)) b) → ((m : ℕ) → q ≡ Data n m → m ≡ suc (length (datas_in w n))) → At (push_data n q c (datas_in w n)) k b → Has ((q, c) ∷ w) (Data n (suc k)) b
-  data_from w Root c n k b ih new h = inr (ih n k b h)
-  data_from w (Page j) c n k b ih new h = inr (ih n k b h)
-  data_from w (MapExt j) c n k b ih new h = inr (ih n k b h)
-  data_from w (Head m p s j) c n k b ih new h = inr (ih n k b h)
-  data_from w (Ext m j) c n k b ih new h = inr (ih n k b h)
   data_from w (Data m j) c n k b ih new h = go (n == m) refl h
     where
       go : (t : Bool) → (n == m) ≡ t → At (cond t (datas_in w n ++ c ∷ []) (datas_in w n)) k b → Has ((Data m j, c) ∷ w) (Data n (suc k)) b
@@ -222,6 +181,7 @@ module _ (image : List ℕ) where
             | inr y ↦ let x : j ≡ suc (length (datas_in w n)) = new j (ap (λ m. Data m j) (sym e)) in inl (ap (λ m. Data m j) (sym e) ∙ ap (Data n) (x ∙ ap suc (sym y.0)), y.1)
           ]
       go false z h = inr (ih n k b h)
+  data_from w _ c n k b ih new h = inr (ih n k b h)
 
   datas : {w : List (Role × ℕ)} → IsWalk image w → Datas w
   datas start = record {
@@ -283,16 +243,12 @@ module _ (image : List ℕ) where
       ]
 
   page_from : (w : List (Role × ℕ)) (q : Role) (c k b : ℕ) → ((k b : ℕ) → At (pages_in w) k b → Has w (Page k) b) → ((m : ℕ) → q ≡ Page m → m ≡ length (pages_in w)) → At (push_page q c (pages_in w)) k b → Has ((q, c) ∷ w) (Page k) b
-  page_from w Root c k b ih new h = inr (ih k b h)
-  page_from w (Head m p s j) c k b ih new h = inr (ih k b h)
-  page_from w (Ext m j) c k b ih new h = inr (ih k b h)
-  page_from w (Data m j) c k b ih new h = inr (ih k b h)
-  page_from w (MapExt j) c k b ih new h = inr (ih k b h)
   page_from w (Page j) c k b ih new h =
       elim (at_snoc (pages_in w) c k b h) [
         | inl y ↦ inr (ih k b y)
         | inr y ↦ let x : j ≡ length (pages_in w) = new j refl in inl (ap Page (x ∙ sym y.0), y.1)
       ]
+  page_from w _ c k b ih new h = inr (ih k b h)
 
   pages : {w : List (Role × ℕ)} → IsWalk image w → Pages w
   pages start = record {
@@ -337,16 +293,12 @@ module _ (image : List ℕ) where
       ]
 
   map_ext_from : (w : List (Role × ℕ)) (q : Role) (c j b : ℕ) → ((j b : ℕ) → At (map_exts_in w) j b → Has w (MapExt j) b) → ((m : ℕ) → q ≡ MapExt m → m ≡ length (map_exts_in w)) → At (push_map_ext q c (map_exts_in w)) j b → Has ((q, c) ∷ w) (MapExt j) b
-  map_ext_from w Root c j b ih new h = inr (ih j b h)
-  map_ext_from w (Page k) c j b ih new h = inr (ih j b h)
-  map_ext_from w (Head m p s k) c j b ih new h = inr (ih j b h)
-  map_ext_from w (Ext m k) c j b ih new h = inr (ih j b h)
-  map_ext_from w (Data m k) c j b ih new h = inr (ih j b h)
   map_ext_from w (MapExt k) c j b ih new h =
       elim (at_snoc (map_exts_in w) c j b h) [
         | inl y ↦ inr (ih j b y)
         | inr y ↦ let x : k ≡ length (map_exts_in w) = new k refl in inl (ap MapExt (x ∙ sym y.0), y.1)
       ]
+  map_ext_from w _ c j b ih new h = inr (ih j b h)
 
   map_exts : {w : List (Role × ℕ)} → IsWalk image w → MapExts w
   map_exts start = record {
@@ -416,23 +368,14 @@ module _ (image : List ℕ) where
         ∙ ap (λ m. chain_in w q u ++ cond ((p == q) && (slot_of (name_of image c) == u)) (m ∷ []) []) y
 
     chain_old : (w : List (Role × ℕ)) (r : Role) (c n p s j : ℕ) → ((m q u k : ℕ) → r ≡ Head m q u k → m ≡ suc (heads w)) → At (chain_in w p s) j n → At (nodes_from 1 (push_entry image full r c (entries_in image full w)) p s) j n
-    chain_old w Root c n p s j num h = h
-    chain_old w (Page k) c n p s j num h = h
-    chain_old w (MapExt k) c n p s j num h = h
-    chain_old w (Ext m k) c n p s j num h = h
-    chain_old w (Data m k) c n p s j num h = h
     chain_old w (Head m q u k) c n p s j num h =
         subst (λ xs. At xs j n) (sym (chain_head w m q u k c p s (num m q u k refl)))
         (at_old (chain_in w p s) (cond ((q == p) && (slot_of (name_of image c) == s)) (m ∷ []) []) j n h)
+    chain_old w _ c n p s j num h = h
 
     chain_split : (w : List (Role × ℕ)) (r : Role) (c n p s j : ℕ) → ((m q u k : ℕ) → r ≡ Head m q u k → (m ≡ suc (heads w)) × (slot_of (name_of image c) ≡ u) × (k ≡ length (chain_in w q u))) →
         ((n p s j : ℕ) → At (chain_in w p s) j n → (b : ℕ) × Has w (Head n p s j) b) →
         At (nodes_from 1 (push_entry image full r c (entries_in image full w)) p s) j n → (b : ℕ) × Has ((r, c) ∷ w) (Head n p s j) b
-    chain_split w Root c n p s j num ih h = let x = ih n p s j h in (x.0, inr x.1)
-    chain_split w (Page k) c n p s j num ih h = let x = ih n p s j h in (x.0, inr x.1)
-    chain_split w (MapExt k) c n p s j num ih h = let x = ih n p s j h in (x.0, inr x.1)
-    chain_split w (Ext m k) c n p s j num ih h = let x = ih n p s j h in (x.0, inr x.1)
-    chain_split w (Data m k) c n p s j num ih h = let x = ih n p s j h in (x.0, inr x.1)
     chain_split w (Head m q u k) c n p s j num ih h =
         let nm = num m q u k refl in
         go ((q == p) && (slot_of (name_of image c) == s)) refl (subst (λ xs. At xs j n) (chain_head w m q u k c p s nm.0) h)
@@ -456,6 +399,7 @@ module _ (image : List ℕ) where
                   (c, inl (f, refl))
             ]
         go false z y = old (subst (λ xs. At xs j n) (append-nil (chain_in w p s)) y)
+    chain_split w _ c n p s j num ih h = let x = ih n p s j h in (x.0, inr x.1)
 
     chains : {w : List (Role × ℕ)} → IsWalk image w → Chains w
     chains start = record {

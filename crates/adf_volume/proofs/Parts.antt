@@ -108,26 +108,8 @@ module _ (image : List ℕ) (t : Tree) (l : Layout) (fit : Fits image t l) where
 
   same_owner : (r q : Role) (b c : ℕ) → owner_of r ≡ owner_of q → Part image t l r b → Part image t l q c → r ≡ q
   same_owner Root Root b c e h k = refl
-  same_owner Root (Page i) b c e h k = cc
-  same_owner Root (MapExt i) b c e h k = cc
-  same_owner Root (Head m p s j) b c e h k = cc
-  same_owner Root (Ext m j) b c e h k = cc
-  same_owner Root (Data m j) b c e h k = cc
-  same_owner (Page i) Root b c e h k = cc
   same_owner (Page i) (Page j) b c e h k = cc
-  same_owner (Page i) (MapExt j) b c e h k = cc
-  same_owner (Page i) (Head m p s j) b c e h k = cc
-  same_owner (Page i) (Ext m j) b c e h k = cc
-  same_owner (Page i) (Data m j) b c e h k = cc
-  same_owner (MapExt i) Root b c e h k = cc
-  same_owner (MapExt i) (Page j) b c e h k = cc
   same_owner (MapExt i) (MapExt j) b c e h k = cc
-  same_owner (MapExt i) (Head m p s j) b c e h k = cc
-  same_owner (MapExt i) (Ext m j) b c e h k = cc
-  same_owner (MapExt i) (Data m j) b c e h k = cc
-  same_owner (Head n p s j) Root b c e h k = cc
-  same_owner (Head n p s j) (Page i) b c e h k = cc
-  same_owner (Head n p s j) (MapExt i) b c e h k = cc
   same_owner (Head n p s j) (Head m q u i) b c e h k =
       let z : m ≡ n = cc in
       let x = one_place t p s j q u i n h.0 (subst (λ m. At (chain_nodes t q u) i m) z k.0) in
@@ -135,20 +117,9 @@ module _ (image : List ℕ) (t : Tree) (l : Layout) (fit : Fits image t l) where
       let x1 : s ≡ u = x.1 in
       let x2 : j ≡ i = x.2 in
       cc
-  same_owner (Head n p s j) (Ext m i) b c e h k = cc
-  same_owner (Head n p s j) (Data m i) b c e h k = cc
-  same_owner (Ext n j) Root b c e h k = cc
-  same_owner (Ext n j) (Page i) b c e h k = cc
-  same_owner (Ext n j) (MapExt i) b c e h k = cc
-  same_owner (Ext n j) (Head m p s i) b c e h k = cc
   same_owner (Ext n j) (Ext m i) b c e h k = cc
-  same_owner (Ext n j) (Data m i) b c e h k = cc
-  same_owner (Data n j) Root b c e h k = cc
-  same_owner (Data n j) (Page i) b c e h k = cc
-  same_owner (Data n j) (MapExt i) b c e h k = cc
-  same_owner (Data n j) (Head m p s i) b c e h k = cc
-  same_owner (Data n j) (Ext m i) b c e h k = cc
   same_owner (Data n j) (Data m i) b c e h k = cc
+  same_owner _ _ b c e h k = cc
 
   -- a block is one part
   pub one_part : (r q : Role) (b : ℕ) → Part image t l r b → Part image t l q b → r ≡ q

@@ -154,9 +154,7 @@ module _ (image : List ℕ) where
   root_before w Root a i h = absurd h
   root_before w (Page k) a i h = (omega arith, (λ z. omega arith), (λ z y. absurd (omega arith)))
   root_before w (MapExt k) a i h = (omega arith, (λ z. omega arith), (λ z y. absurd (omega arith)))
-  root_before w (Head n p s j) a i h = (omega arith, (λ z. absurd (omega arith)), (λ z y. absurd (omega arith)))
-  root_before w (Ext n k) a i h = (omega arith, (λ z. absurd (omega arith)), (λ z y. absurd (omega arith)))
-  root_before w (Data n k) a i h = (omega arith, (λ z. absurd (omega arith)), (λ z y. absurd (omega arith)))
+  root_before w _ a i h = (omega arith, (λ z. absurd (omega arith)), (λ z y. absurd (omega arith)))
 
   pub rises : {w : List (Role × ℕ)} → IsWalk image w → (r : Role) (a i : ℕ) → IsDue image w r a i → (q : Role) (b : ℕ) → Has w q b → Before q r
   rises start r a i d q b (inl e) = subst (λ q. Before q r) e.0 (root_before ((Root, root_of image) ∷ []) r a i d.asked)

@@ -13,26 +13,8 @@ use Rattle.adf_volume.specs.Walk.IsWalk.{start, step}
 -- two roles of one key, of which headers have one number, are one role
 pub same_role : (r q : Role) → Same r q → ((n m p s j : ℕ) → r ≡ Head n p s j → q ≡ Head m p s j → n ≡ m) → r ≡ q
 same_role Root Root h k = refl
-same_role Root (Page i) h k = absurd (omega arith)
-same_role Root (MapExt i) h k = absurd (omega arith)
-same_role Root (Head m p s j) h k = absurd (omega arith)
-same_role Root (Ext m j) h k = absurd (omega arith)
-same_role Root (Data m j) h k = absurd (omega arith)
-same_role (Page i) Root h k = absurd (omega arith)
 same_role (Page i) (Page j) h k = let e : i ≡ j = omega arith in ap Page e
-same_role (Page i) (MapExt j) h k = absurd (omega arith)
-same_role (Page i) (Head m p s j) h k = absurd (omega arith)
-same_role (Page i) (Ext m j) h k = absurd (omega arith)
-same_role (Page i) (Data m j) h k = absurd (omega arith)
-same_role (MapExt i) Root h k = absurd (omega arith)
-same_role (MapExt i) (Page j) h k = absurd (omega arith)
 same_role (MapExt i) (MapExt j) h k = let e : i ≡ j = omega arith in ap MapExt e
-same_role (MapExt i) (Head m p s j) h k = absurd (omega arith)
-same_role (MapExt i) (Ext m j) h k = absurd (omega arith)
-same_role (MapExt i) (Data m j) h k = absurd (omega arith)
-same_role (Head n p s j) Root h k = absurd (omega arith)
-same_role (Head n p s j) (Page i) h k = absurd (omega arith)
-same_role (Head n p s j) (MapExt i) h k = absurd (omega arith)
 same_role (Head n p s j) (Head m q t i) h k =
     let e1 : p ≡ q = omega arith in
     let e2 : s ≡ t = omega arith in
@@ -40,26 +22,15 @@ same_role (Head n p s j) (Head m q t i) h k =
     let eq : Head m q t i ≡ Head m p s j = cc in
     let e4 : n ≡ m = k n m p s j refl eq in
     cc
-same_role (Head n p s j) (Ext m i) h k = absurd (omega arith)
-same_role (Head n p s j) (Data m i) h k = absurd (omega arith)
-same_role (Ext n j) Root h k = absurd (omega arith)
-same_role (Ext n j) (Page i) h k = absurd (omega arith)
-same_role (Ext n j) (MapExt i) h k = absurd (omega arith)
-same_role (Ext n j) (Head m p s i) h k = absurd (omega arith)
 same_role (Ext n j) (Ext m i) h k =
     let e1 : n ≡ m = omega arith in
     let e3 : j ≡ i = omega arith in
     cc
-same_role (Ext n j) (Data m i) h k = absurd (omega arith)
-same_role (Data n j) Root h k = absurd (omega arith)
-same_role (Data n j) (Page i) h k = absurd (omega arith)
-same_role (Data n j) (MapExt i) h k = absurd (omega arith)
-same_role (Data n j) (Head m p s i) h k = absurd (omega arith)
-same_role (Data n j) (Ext m i) h k = absurd (omega arith)
 same_role (Data n j) (Data m i) h k =
     let e1 : n ≡ m = omega arith in
     let e3 : j ≡ i = omega arith in
     cc
+same_role _ _ h k = absurd (omega arith)
 
 pub same_refl : (r : Role) → Same r r
 same_refl r = (refl, refl, refl)
@@ -69,11 +40,7 @@ same_of r q e = (ap first e, ap second e, ap third e)
 
 pub heads_up : (r : Role) (m : ℕ) → m ≤ head_count r m
 heads_up Root m = omega arith
-heads_up (Page i) m = omega arith
-heads_up (MapExt i) m = omega arith
-heads_up (Head n p s j) m = omega arith
-heads_up (Ext n k) m = omega arith
-heads_up (Data n k) m = omega arith
+heads_up _ m = omega arith
 
 pub asks_number : (image : List ℕ) (w : List (Role × ℕ)) (n p s j a i : ℕ) → Asks image w (Head n p s j) a i → n ≡ suc (heads w)
 asks_number image w n p s zero a i h = h.0
@@ -115,22 +82,18 @@ module _ (image : List ℕ) where
   numbered start n l u = absurd (omega arith)
   numbered (step {w = w} {r = r} {b = b} {a = a} {i = i} v d e c) n l u = numbered_step r refl (numbered v n l)
     where
-      older : (m : ℕ) → ((p s j b : ℕ) × Has w (Head n p s j) b) → (p s j b' : ℕ) × Has ((r, b) ∷ w) (Head n p s j) b'
-      older m h = (h.0, h.1, h.2, h.3, inr h.4)
+      older : ((p s j b : ℕ) × Has w (Head n p s j) b) → (p s j b' : ℕ) × Has ((r, b) ∷ w) (Head n p s j) b'
+      older h = (h.0, h.1, h.2, h.3, inr h.4)
 
       numbered_step : (q : Role) → r ≡ q → (n ≤ heads w → (p s j b : ℕ) × Has w (Head n p s j) b) → (p s j b' : ℕ) × Has ((r, b) ∷ w) (Head n p s j) b'
-      numbered_step Root z ih = older 0 (ih (subst (λ q. n ≤ head_count q (heads w)) z u))
-      numbered_step (Page k) z ih = older 0 (ih (subst (λ q. n ≤ head_count q (heads w)) z u))
-      numbered_step (MapExt k) z ih = older 0 (ih (subst (λ q. n ≤ head_count q (heads w)) z u))
-      numbered_step (Ext k m) z ih = older 0 (ih (subst (λ q. n ≤ head_count q (heads w)) z u))
-      numbered_step (Data k m) z ih = older 0 (ih (subst (λ q. n ≤ head_count q (heads w)) z u))
       numbered_step (Head m p s j) z ih =
           let u' : n ≤ suc (heads w) = subst (λ q. n ≤ head_count q (heads w)) z u in
           let e : m ≡ suc (heads w) = asks_number image w m p s j a i (subst (λ r. Asks image w r a i) z d.asked) in
           elim (dec_le n (heads w)) [
-            | yes k ↦ older 0 (ih k)
+            | yes k ↦ older (ih k)
             | no k ↦ let y : m ≡ n = omega arith in (p, s, j, b, inl (z ∙ ap (λ m. Head m p s j) y, refl))
           ]
+      numbered_step _ z ih = older (ih (subst (λ q. n ≤ head_count q (heads w)) z u))
 
   -- a role has one block
   pub one_block : {w : List (Role × ℕ)} → IsWalk image w → (r q : Role) (b c : ℕ) → Has w r b → Has w q c → Same r q → (r ≡ q) × (b ≡ c)
@@ -158,11 +121,7 @@ module _ (image : List ℕ) where
     where
       IsRoot : Role → Type 0
       IsRoot Root = Unit {0}
-      IsRoot (Page k) = ⊥
-      IsRoot (MapExt k) = ⊥
-      IsRoot (Head a b c d) = ⊥
-      IsRoot (Ext n k) = ⊥
-      IsRoot (Data n k) = ⊥
+      IsRoot _ = ⊥
   one_head start n p s j b p' s' j' b' (inr e) f = absurd e
   one_head (step v d g c) n p s j b p' s' j' b' (inl e) (inl f) = (sym e.0 ∙ f.0, sym e.1 ∙ f.1)
   one_head (step {w = w} {r = r} {a = a} {i = i} v d g c) n p s j b p' s' j' b' (inl e) (inr f) =
@@ -181,16 +140,12 @@ module _ (image : List ℕ) where
 
 -- extension blocks are counted
 pub count_up : (n : ℕ) (r : Role) (c : ℕ) → c ≤ ext_count_of n r c
-count_up n Root c = omega arith
-count_up n (Page i) c = omega arith
-count_up n (MapExt i) c = omega arith
-count_up n (Head m p s j) c = omega arith
-count_up n (Data m k) c = omega arith
 count_up n (Ext m k) c = up (n == m)
   where
     up : (t : Bool) → c ≤ cond t (suc c) c
     up true = omega arith
     up false = omega arith
+count_up n _ c = omega arith
 
 pub count_own : (n k c : ℕ) → ext_count_of n (Ext n k) c ≡ suc c
 count_own n k c = rw (eq-eqb n n refl)
@@ -226,11 +181,6 @@ module _ (image : List ℕ) where
       ]
 
   counted_step : {w : List (Role × ℕ)} {r : Role} {b a i : ℕ} → IsWalk image w → IsDue image w r a i → (n k : ℕ) → ((k : ℕ) → k < ext_count w n → (b : ℕ) × Has w (Ext n (suc k)) b) → (q : Role) → r ≡ q → k < ext_count_of n q (ext_count w n) → (c : ℕ) × Has ((r, b) ∷ w) (Ext n (suc k)) c
-  counted_step v d n k ih Root e h = let x = ih k h in (x.0, inr x.1)
-  counted_step v d n k ih (Page j) e h = let x = ih k h in (x.0, inr x.1)
-  counted_step v d n k ih (MapExt j) e h = let x = ih k h in (x.0, inr x.1)
-  counted_step v d n k ih (Head m p s j) e h = let x = ih k h in (x.0, inr x.1)
-  counted_step v d n k ih (Data m j) e h = let x = ih k h in (x.0, inr x.1)
   counted_step {w = w} {r = r} {b = b} {a = a} {i = i} v d n k ih (Ext m j) e h =
       elim (eqb_tells n m) [
         | inl y ↦
@@ -246,6 +196,7 @@ module _ (image : List ℕ) where
             ]
         | inr y ↦ let h' : k < ext_count w n = rw y.0 at h in let x = ih k h' in (x.0, inr x.1)
       ]
+  counted_step v d n k ih _ e h = let x = ih k h in (x.0, inr x.1)
 
   pub ext_counted : {w : List (Role × ℕ)} → IsWalk image w → (n k : ℕ) → k < ext_count w n → (b : ℕ) × Has w (Ext n (suc k)) b
   ext_counted start n k h = absurd (omega arith)
@@ -280,11 +231,8 @@ module _ (image : List ℕ) where
 
   node_block_old : (n : ℕ) (r : Role) (b c a : ℕ) → ((p s j : ℕ) → r ≡ Head n p s j → ⊥) → (n ≡ 0 → r ≡ Root → ⊥) → c ≡ a → node_block_of n r b c ≡ a
   node_block_old n Root b c a h k z = cond_other (n == 0) b c a (λ t. k (eqb-true n 0 t) refl) z
-  node_block_old n (Page i) b c a h k z = z
-  node_block_old n (MapExt i) b c a h k z = z
   node_block_old n (Head m p s j) b c a h k z = cond_other (n == m) b c a (λ t. h p s j (ap (λ m. Head m p s j) (sym (eqb-true n m t)))) z
-  node_block_old n (Ext m i) b c a h k z = z
-  node_block_old n (Data m i) b c a h k z = z
+  node_block_old n _ b c a h k z = z
 
   head_block : {w : List (Role × ℕ)} → IsWalk image w → (n p s j b : ℕ) → Has w (Head n p s j) b → node_block w n ≡ b
   head_block start n p s j b (inl e) = let h : first Root ≡ first (Head n p s j) = ap first e.0 in absurd (omega arith)
@@ -316,12 +264,8 @@ module _ (image : List ℕ) where
   cond_both false u b c a h z = z
 
   ext_block_old : (n k : ℕ) (r : Role) (b c a : ℕ) → (r ≡ Ext n k → ⊥) → c ≡ a → ext_block_of n k r b c ≡ a
-  ext_block_old n k Root b c a h z = z
-  ext_block_old n k (Page i) b c a h z = z
-  ext_block_old n k (MapExt i) b c a h z = z
-  ext_block_old n k (Head m p s j) b c a h z = z
   ext_block_old n k (Ext m i) b c a h z = cond_both (n == m) (k == i) b c a (λ t u. h (ap (λ m. Ext m i) (sym (eqb-true n m t)) ∙ ap (Ext n) (sym (eqb-true k i u)))) z
-  ext_block_old n k (Data m i) b c a h z = z
+  ext_block_old n k _ b c a h z = z
 
   ext_is_block : {w : List (Role × ℕ)} → IsWalk image w → (n k b : ℕ) → Has w (Ext n k) b → ext_block w n k ≡ b
   ext_is_block start n k b (inl e) = let h : second Root ≡ second (Ext n k) = ap second e.0 in let g : first Root ≡ first (Ext n k) = ap first e.0 in absurd (omega arith)
@@ -364,15 +308,11 @@ has_role image w r nohead q b h s = subst (λ z. Has w z b) (same_role q r s (λ
 
 -- only a header has a header's key
 pub head_key : (n p s j : ℕ) (q : Role) → Same q (Head n p s j) → (m : ℕ) × (q ≡ Head m p s j)
-head_key n p s j Root h = absurd (omega arith)
-head_key n p s j (Page k) h = absurd (omega arith)
-head_key n p s j (MapExt k) h = absurd (omega arith)
-head_key n p s j (Ext x k) h = absurd (omega arith)
-head_key n p s j (Data x k) h = absurd (omega arith)
 head_key n p s j (Head x y z k) h =
     let a : y ≡ p = omega arith in let b : z ≡ s = omega arith in let c : k ≡ j = omega arith in
     let e : Head x y z k ≡ Head x p s j = cc in
     (x, e)
+head_key n p s j _ h = absurd (omega arith)
 
 -- what a whole walk asks for is there
 pub asked_block : (image : List ℕ) (w : List (Role × ℕ)) → IsWhole image w → (r : Role) (a i : ℕ) → Asks image w r a i → second r < 2 → (b : ℕ) × Has w r b

@@ -10,12 +10,8 @@ use Rattle.adf_volume.specs.Walk.{Role}
 use Rattle.adf_volume.specs.Walk.Role.{Root, Page, MapExt, Head, Ext, Data}
 
 abbrev pub push_page : Role → ℕ → List ℕ → List ℕ
-push_page Root b bs = bs
 push_page (Page i) b bs = bs ++ b ∷ []
-push_page (MapExt j) b bs = bs
-push_page (Head n p s j) b bs = bs
-push_page (Ext m k) b bs = bs
-push_page (Data m k) b bs = bs
+push_page _ b bs = bs
 
 -- the pages of a walk, in order
 abbrev pub pages_in : List (Role × ℕ) → List ℕ
@@ -23,12 +19,8 @@ pages_in [] = []
 pages_in (x ∷ w) = push_page x.0 x.1 (pages_in w)
 
 abbrev pub push_map_ext : Role → ℕ → List ℕ → List ℕ
-push_map_ext Root b bs = bs
-push_map_ext (Page i) b bs = bs
 push_map_ext (MapExt j) b bs = bs ++ b ∷ []
-push_map_ext (Head n p s j) b bs = bs
-push_map_ext (Ext m k) b bs = bs
-push_map_ext (Data m k) b bs = bs
+push_map_ext _ b bs = bs
 
 -- the bitmap extension blocks of a walk, in order
 abbrev pub map_exts_in : List (Role × ℕ) → List ℕ
@@ -36,12 +28,8 @@ map_exts_in [] = []
 map_exts_in (x ∷ w) = push_map_ext x.0 x.1 (map_exts_in w)
 
 abbrev pub push_ext : ℕ → Role → ℕ → List ℕ → List ℕ
-push_ext n Root b bs = bs
-push_ext n (Page i) b bs = bs
-push_ext n (MapExt i) b bs = bs
-push_ext n (Head m p s j) b bs = bs
 push_ext n (Ext m k) b bs = cond (n == m) (bs ++ b ∷ []) bs
-push_ext n (Data m k) b bs = bs
+push_ext n _ b bs = bs
 
 -- the extension blocks of file n in a walk, in order
 abbrev pub exts_in : List (Role × ℕ) → ℕ → List ℕ
@@ -49,12 +37,8 @@ exts_in [] n = []
 exts_in (x ∷ w) n = push_ext n x.0 x.1 (exts_in w n)
 
 abbrev pub push_data : ℕ → Role → ℕ → List ℕ → List ℕ
-push_data n Root b bs = bs
-push_data n (Page i) b bs = bs
-push_data n (MapExt i) b bs = bs
-push_data n (Head m p s j) b bs = bs
-push_data n (Ext m k) b bs = bs
 push_data n (Data m k) b bs = cond (n == m) (bs ++ b ∷ []) bs
+push_data n _ b bs = bs
 
 -- the data blocks of file n in a walk, in order
 abbrev pub datas_in : List (Role × ℕ) → ℕ → List ℕ
@@ -72,24 +56,16 @@ abbrev pub place_in : List (Role × ℕ) → ℕ → ℕ → Place
 place_in w n b = record { head = b; exts = exts_in w n; datas = datas_in w n }
 
 abbrev pub push_entry : List ℕ → List (Role × ℕ) → Role → ℕ → List Entry → List Entry
-push_entry image full Root b es = es
-push_entry image full (Page i) b es = es
-push_entry image full (MapExt i) b es = es
 push_entry image full (Head n p s j) b es = es ++ entry_in image full n p b ∷ []
-push_entry image full (Ext m k) b es = es
-push_entry image full (Data m k) b es = es
+push_entry image full _ b es = es
 
 abbrev pub entries_in : List ℕ → List (Role × ℕ) → List (Role × ℕ) → List Entry
 entries_in image full [] = []
 entries_in image full (x ∷ w) = push_entry image full x.0 x.1 (entries_in image full w)
 
 abbrev pub push_place : List (Role × ℕ) → Role → ℕ → List Place → List Place
-push_place full Root b qs = qs
-push_place full (Page i) b qs = qs
-push_place full (MapExt i) b qs = qs
 push_place full (Head n p s j) b qs = qs ++ place_in full n b ∷ []
-push_place full (Ext m k) b qs = qs
-push_place full (Data m k) b qs = qs
+push_place full _ b qs = qs
 
 abbrev pub places_in : List (Role × ℕ) → List (Role × ℕ) → List Place
 places_in full [] = []
