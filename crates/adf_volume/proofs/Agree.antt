@@ -15,14 +15,14 @@ use Rattle.adf_volume.specs.Layout.{EntryAt, chain_nodes, Layout, at_node, exts_
 use Rattle.adf_volume.proofs.Ordered.{DirNode, ordered, is_dir}
 use Rattle.adf_tree.specs.declared.entry.Body.TheVariants.{Dir, File}
 use Rattle.adf_volume.specs.Fits.{Fits, FileFits, BodyFits, TableAt}
-use Rattle.adf_volume.specs.Walk.{Role, second, Before, Same, Has, heads, DirAt, FileAt, MemberAt, NamesPage, data_count, Asks, Lacks, IsDue, ext_count, Enough, NewName, form_demands, node_block, member_block, next_data, NoCause, IsWalk}
+use Rattle.adf_volume.specs.Walk.{Role, Before, Has, heads, DirAt, FileAt, MemberAt, NamesPage, data_count, Asks, Lacks, IsDue, ext_count, Enough, NewName, form_demands, node_block, member_block, next_data, NoCause, IsWalk}
 use Rattle.adf_volume.specs.Walk.Role.{Root, Page, MapExt, Head, Ext, Data}
 use Rattle.adf_volume.specs.Walk.IsWalk.{start, step}
 use Rattle.adf_volume.specs.Parts.{Part}
 use Rattle.adf_volume.proofs.Images.{map_exts_high}
 use Rattle.adf_volume.proofs.Lists.{at_fun, at_below, at_some, at_before, at_map, at_unmap, spelled_first, spelled_next, spelled_word, spelled_link, all_append, at_index, index_past}
 use Rattle.adf_volume.proofs.Trees.{entry_at, entry_below, entry_some, place_at, one_place, sorted_places, chain_rises}
-use Rattle.adf_volume.proofs.Walks.{root_is, root_in, number_of, numbered, dec_has, has_role, same_of, ext_below, asks_number, due_file, node_is, member_is, file_is, dir_is_node}
+use Rattle.adf_volume.proofs.Walks.{root_is, root_in, number_of, numbered, same_of, ext_below, asks_number, due_file, node_is, member_is, file_is, dir_is_node, head_key, is_there}
 use Rattle.adf_volume.proofs.Parts.{part_range, one_part}
 use Rattle.std.proofs.lemmas.Bool.{ltb-false, ltb-true}
 use Rattle.adf_volume.proofs.Places.{exts_below}
@@ -128,14 +128,6 @@ module _ (image : List ℕ) (t : Tree) (l : Layout) (fit : Fits image t l) where
         let r1 : 2 ≤ at_node image l n = r.0 in
         (k.0, 124, (u, (m, k.1), refl, (λ q. let x : at_node image l n ≡ 0 = sym named ∙ (ap (λ b. word_in image b 124) z ∙ q) in omega arith)))
 
-    -- only a header has a header's key
-    pub same_head : (n p s j m : ℕ) (q : Role) → Same q (Head n p s j) → (m : ℕ) × (q ≡ Head m p s j)
-    same_head n p s j m (Head x y z k) h =
-        let a : y ≡ p = omega arith in let b : z ≡ s = omega arith in let c : k ≡ j = omega arith in
-        let e : Head x y z k ≡ Head x p s j = cc in
-        (x, e)
-    same_head n p s j m _ h = absurd (omega arith)
-
     -- what is due in a chain is the tree's next node
     number_agrees : (p s j n m a i : ℕ) → IsDue image w (Head n p s j) a i → n ≡ suc (heads w) → At (chain_nodes t p s) j m → m ≡ n
     number_agrees p s j n m a i d u h =
@@ -153,7 +145,7 @@ module _ (image : List ℕ) (t : Tree) (l : Layout) (fit : Fits image t l) where
                 let ask = asks_next e.0.parent (slot_of e.0.name) q.0 n q.1 u in
                 let lack : Lacks w (Head n e.0.parent (slot_of e.0.name) q.0) =
                 (λ r b has same.
-                let z = same_head n e.0.parent (slot_of e.0.name) q.0 n r same in
+                let z = head_key n e.0.parent (slot_of e.0.name) q.0 r same in
                 let has' : Has w (Head z.0 e.0.parent (slot_of e.0.name) q.0) b = subst (λ r. Has w r b) z.1 has in
                 let pt = ag (Head z.0 e.0.parent (slot_of e.0.name) q.0) b has' in
                 let f : z.0 ≡ n = at_fun (chain_nodes t e.0.parent (slot_of e.0.name)) q.0 z.0 n pt.0 q.1 in
@@ -266,17 +258,6 @@ module _ (image : List ℕ) (t : Tree) (l : Layout) (fit : Fits image t l) where
     pub file_block : (n h a : ℕ) → FileAt image w n h → at_node image l n ≡ h
     file_block n h a f = (file_agrees n h f).5
 
-    -- what is asked for and comes before what is due is there
-    is_there : (q r : Role) (a i c k : ℕ) → IsDue image w r a i → Asks image w q c k → Before q r → ((n m p s j : ℕ) → q ≡ Head n p s j → ⊥) → (b : ℕ) × Has w q b
-    is_there q r a i c k d ask bef nohead =
-        elim (dec_has w q) [
-          | inr y ↦ (y.1, has_role image w q (λ n p s j z. nohead n n p s j z) y.0 y.1 y.2 y.3)
-          | inl y ↦ absurd (d.least q c k ask y bef)
-        ]
-
-    ext_no_head : (n k : ℕ) → (x m p s j : ℕ) → Ext n k ≡ Head x p s j → ⊥
-    ext_no_head n k x m p s j z = let y : second (Ext n k) ≡ second (Head x p s j) = ap second z in omega arith
-
     -- a file's extension blocks are all there when its first data block is due
     has_exts : (n d0 a i h : ℕ) → IsDue image w (Data n (suc d0)) a i → FileAt image w n h → (k : ℕ) → k < length (exts_of l n) → (b : ℕ) × Has w (Ext n (suc k)) b
     has_exts n d0 a i h d f zero u =
@@ -286,9 +267,9 @@ module _ (image : List ℕ) (t : Tree) (l : Layout) (fit : Fits image t l) where
         let rg : 2 ≤ e.0 = (part_range image t l fit (Ext n 1) e.0 e.1).0 in
         let z : at_node image l n ≡ h = file_block n h a f in
         let y : word_in image (at_node image l n) 126 ≡ e.0 = spelled_word (λ b. word_in image b 126) (word_in image (at_node image l n) 126) (exts_of l n) e.0 ff.exts e.1 in
-        is_there (Ext n 1) (Data n (suc d0)) a i h 126 d
+        is_there image w (Ext n 1) (Data n (suc d0)) a i h 126 d
         (f, refl, (λ x. let o : e.0 ≡ 0 = sym y ∙ ap (λ a. word_in image a 126) z ∙ x in omega arith))
-        (omega arith, (λ z. omega arith), (λ z y. omega arith)) (ext_no_head n 1)
+        (omega arith, (λ z. omega arith), (λ z y. omega arith)) (omega arith)
     has_exts n d0 a i h d f (suc k) u =
         let x = has_exts n d0 a i h d f k (omega arith) in
         let px : At (exts_of l n) k x.0 = ag (Ext n (suc k)) x.0 x.1 in
@@ -297,9 +278,9 @@ module _ (image : List ℕ) (t : Tree) (l : Layout) (fit : Fits image t l) where
         let ff = fit.files n g.0 g.1 g.2 g.3 in
         let rg : 2 ≤ e.0 = (part_range image t l fit (Ext n (suc (suc k))) e.0 e.1).0 in
         let y : word_in image x.0 126 ≡ e.0 = spelled_link (λ b. word_in image b 126) (word_in image (at_node image l n) 126) (exts_of l n) k x.0 e.0 ff.exts px e.1 in
-        is_there (Ext n (suc (suc k))) (Data n (suc d0)) a i x.0 126 d
+        is_there image w (Ext n (suc (suc k))) (Data n (suc d0)) a i x.0 126 d
         (x.1, refl, (λ z. let o : e.0 ≡ 0 = sym y ∙ z in omega arith))
-        (omega arith, (λ z. omega arith), (λ z y. omega arith)) (ext_no_head n (suc (suc k)))
+        (omega arith, (λ z. omega arith), (λ z y. omega arith)) (omega arith)
 
     enough_due : (r : Role) (a i : ℕ) → IsDue image w r a i → Enough image w r
     enough_due (Data n k) a i d = λ e h f.

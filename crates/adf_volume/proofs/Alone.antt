@@ -1,16 +1,16 @@
 -- There is one first fault.
 use Rattle.std.proofs.Common.{◌≡◌, ℕ, zero, suc, List, [], ◌∷◌, ◌++◌, inl, inr, ◌+◌, ◌-◌, ◌*◌, ◌/◌, ◌<◌, length, refl, sym, ap, subst, ◌∙◌, arith}
-use native.Mathlib.Decide.{dec_lt, ℕ_discrete}
+use native.Mathlib.Decide.{dec_lt}
 use Rattle.adf_blocks.specs.declared.cause.Cause.{Cause}
 use Rattle.adf_volume.specs.Image.{word_in, root_of}
 use Rattle.adf_blocks.specs.Sizes.{blocks}
 use Rattle.adf_volume.specs.Demands.{Demand, FirstFails, boot_demands, root_demands}
-use Rattle.adf_volume.specs.Walk.{Role, first, second, third, Before, Same, Has, heads, DirAt, FileAt, MemberAt, NamesPage, Asks, IsDue, NoCause, demands, bitmap_demands, IsWalk, IsWhole, FirstFault}
+use Rattle.adf_volume.specs.Walk.{Role, Before, Same, Has, heads, DirAt, FileAt, MemberAt, NamesPage, Asks, IsDue, NoCause, demands, bitmap_demands, IsWalk, IsWhole, FirstFault}
 use Rattle.adf_volume.specs.Walk.Role.{Root, Page, MapExt, Head, Ext, Data}
 use Rattle.adf_volume.specs.Walk.IsWalk.{start, step}
 use Rattle.adf_volume.specs.Walk.FirstFault.{at_boot, at_due, at_bitmap}
 use Rattle.adf_volume.proofs.Lists.{fails_not_all}
-use Rattle.adf_volume.proofs.Walks.{same_role, asks_number, one_block, one_node, one_head}
+use Rattle.adf_volume.proofs.Walks.{same_role, asks_number, one_block, one_node, one_head, dec_same}
 use Rattle.adf_volume.proofs.Rising.{before_total}
 
 fails_one : (xs : List Demand) (b : ℕ) (c : Cause) (b' : ℕ) (c' : Cause) → FirstFails xs b c → FirstFails xs b' c' → (b ≡ b') × (c ≡ c')
@@ -70,15 +70,6 @@ module _ (image : List ℕ) where
       let x = asks_one w v q a i b j (subst (λ r. Asks image w r a i) z d.asked) e.asked in
       (z, x.0, x.1)
     where
-      dec_same : (r q : Role) → Dec (Same r q)
-      dec_same r q = elim (ℕ_discrete (first r) (first q)) [
-        | no n ↦ no (λ s. n s.0)
-        | yes e ↦ elim (ℕ_discrete (second r) (second q)) [
-          | no n ↦ no (λ s. n s.1)
-          | yes f ↦ elim (ℕ_discrete (third r) (third q)) [ no n ↦ no (λ s. n s.2) | yes g ↦ yes (e, f, g) ]
-        ]
-      ]
-
       total : (r q : Role) → (Before r q → ⊥) → (Before q r → ⊥) → Same r q
       total r q x y = elim (dec_same r q) [ yes s ↦ s | no s ↦ absurd (x (before_total r q y s)) ]
 

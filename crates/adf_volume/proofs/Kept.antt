@@ -11,7 +11,7 @@ use Rattle.adf_volume.specs.Walk.{Role, second, Has, DirAt, FileAt, MemberAt, Na
 use Rattle.adf_volume.specs.Walk.Role.{Root, Page, MapExt, Head, Ext, Data}
 use Rattle.adf_volume.specs.Walk.IsWalk.{start, step}
 use Rattle.adf_volume.proofs.Lists.{all_split}
-use Rattle.adf_volume.proofs.Walks.{node_is, member_is, file_is, due_file, ext_counted, count_up, dec_has, has_role, dir_is_node}
+use Rattle.adf_volume.proofs.Walks.{node_is, member_is, file_is, due_file, ext_counted, count_up, dir_is_node, is_there}
 use Rattle.std.proofs.lemmas.Bool.{cond-true, cond-false, le-ltb, lt-ltb}
 
 -- the word that names a header
@@ -89,23 +89,15 @@ module _ (image : List ℕ) where
     there n zero a f u = (a, f)
     there n (suc m) a f u = ext_counted image v n m (omega arith)
 
-    data_no_head : (n k : ℕ) → (x m p s j : ℕ) → Data n k ≡ Head x p s j → ⊥
-    data_no_head n k x m p s j z = let y : second (Data n k) ≡ second (Head x p s j) = ap second z in omega arith
-
     -- a file whose data block is due has enough extension blocks
     pub enough : (n k a i b h : ℕ) → IsDue image w (Data n (suc k)) a i → NoCause image w (Data n (suc k)) a b → FileAt image w n h → k < data_count image h → data_count image h ≤ 72 * suc (ext_count w n)
     enough n zero a i b h d g f u = g.0 refl h f
     enough n (suc k) a i b h d g f u =
-        elim (dec_has w (Data n 1)) [
-          | inr y ↦
-              let x : Has w (Data n 1) y.1 = has_role image w (Data n 1) (λ m p s j z. data_no_head n 1 m m p s j z) y.0 y.1 y.2 y.3 in
-              let kp = old (Data n 1) y.1 x in
-              let e : node_block w n ≡ h = file_is image w n h v f in
-              let e' : node_block w n ≡ kp.0 = file_is image w n kp.0 v kp.1 in
-              subst (λ h. data_count image h ≤ 72 * suc (ext_count w n)) (sym e' ∙ e) kp.3
-          | inl y ↦
-              absurd (d.least (Data n 1) h 77 ((h, f, omega arith), f, refl) y (omega arith, (λ z. omega arith), (λ z z'. omega arith)))
-        ]
+        let x = is_there image w (Data n 1) (Data n (suc (suc k))) a i h 77 d ((h, f, omega arith), f, refl) (omega arith, (λ z. omega arith), (λ z z'. omega arith)) (omega arith) in
+        let kp = old (Data n 1) x.0 x.1 in
+        let e : node_block w n ≡ h = file_is image w n h v f in
+        let e' : node_block w n ≡ kp.0 = file_is image w n kp.0 v kp.1 in
+        subst (λ h. data_count image h ≤ 72 * suc (ext_count w n)) (sym e' ∙ e) kp.3
 
     form_of : (r : Role) (a b : ℕ) → NoCause image w r a b → AllHold (form_demands image w r b)
     form_of r a b g = (all_split (form_demands image w r b) (demand SameName b (NewName image w r b) ∷ []) g.1.1.1).0

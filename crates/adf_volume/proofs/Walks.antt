@@ -6,7 +6,7 @@ use Rattle.std.proofs.lemmas.Bool.Decides.{eqb_tells}
 use native.Mathlib.Decide.{dec_le, dec_lt, ℕ_discrete}
 use Rattle.adf_blocks.specs.Sizes.{blocks, pages_needed}
 use Rattle.adf_volume.specs.Image.{root_of}
-use Rattle.adf_volume.specs.Walk.{Role, first, second, third, Same, Has, head_count, heads, NodeAt, FileAt, MemberAt, Asks, Lacks, IsDue, ext_count_of, ext_count, IsWalk, IsWhole, node_block_of, node_block, ext_block_of, ext_block, member_block, DirAt}
+use Rattle.adf_volume.specs.Walk.{Role, first, second, third, Same, Has, head_count, heads, NodeAt, FileAt, MemberAt, Asks, Lacks, IsDue, ext_count_of, ext_count, IsWalk, IsWhole, node_block_of, node_block, ext_block_of, ext_block, member_block, DirAt, Before}
 use Rattle.adf_volume.specs.Walk.Role.{Root, Page, MapExt, Head, Ext, Data}
 use Rattle.adf_volume.specs.Walk.IsWalk.{start, step}
 
@@ -281,6 +281,17 @@ module _ (image : List ℕ) where
   pub file_is : (w : List (Role × ℕ)) (n a : ℕ) → IsWalk image w → FileAt image w n a → node_block w n ≡ a
   file_is w n a v h = head_block v n h.0.0 h.0.1 h.0.2 a h.0.3
 
+-- whether two roles have one key
+pub dec_same : (r q : Role) → Dec (Same r q)
+dec_same r q =
+    elim (ℕ_discrete (first r) (first q)) [
+      | no n ↦ no (λ s. n s.0)
+      | yes e ↦ elim (ℕ_discrete (second r) (second q)) [
+        | no n ↦ no (λ s. n s.1)
+        | yes f ↦ elim (ℕ_discrete (third r) (third q)) [ no n ↦ no (λ s. n s.2) | yes g ↦ yes (e, f, g) ]
+      ]
+    ]
+
 -- whether a walk has a role
 pub dec_has : (w : List (Role × ℕ)) (r : Role) → Lacks w r ⊎ ((q : Role) × (b : ℕ) × Has w q b × Same q r)
 dec_has [] r = inl (λ q b h s. h)
@@ -292,16 +303,6 @@ dec_has (x ∷ w) r =
         | inr h ↦ inr (h.0, h.1, inr h.2, h.3)
       ]
     ]
-  where
-    dec_same : (r q : Role) → Dec (Same r q)
-    dec_same r q =
-        elim (ℕ_discrete (first r) (first q)) [
-          | no n ↦ no (λ s. n s.0)
-          | yes e ↦ elim (ℕ_discrete (second r) (second q)) [
-            | no n ↦ no (λ s. n s.1)
-            | yes f ↦ elim (ℕ_discrete (third r) (third q)) [ no n ↦ no (λ s. n s.2) | yes g ↦ yes (e, f, g) ]
-          ]
-        ]
 
 pub has_role : (image : List ℕ) (w : List (Role × ℕ)) (r : Role) → ((n p s j : ℕ) → r ≡ Head n p s j → ⊥) → (q : Role) (b : ℕ) → Has w q b → Same q r → Has w r b
 has_role image w r nohead q b h s = subst (λ z. Has w z b) (same_role q r s (λ n m p t j e f. absurd (nohead m p t j f))) h
@@ -313,6 +314,15 @@ head_key n p s j (Head x y z k) h =
     let e : Head x y z k ≡ Head x p s j = cc in
     (x, e)
 head_key n p s j _ h = absurd (omega arith)
+
+-- what is asked for and comes before what is due is there
+pub is_there : (image : List ℕ) (w : List (Role × ℕ)) (q r : Role) (a i c k : ℕ) → IsDue image w r a i → Asks image w q c k → Before q r → second q < 2
+    → (b : ℕ) × Has w q b
+is_there image w q r a i c k d ask bef low =
+    elim (dec_has w q) [
+      | inr y ↦ (y.1, has_role image w q (λ n p s j z. let x : second q ≡ second (Head n p s j) = ap second z in omega arith) y.0 y.1 y.2 y.3)
+      | inl y ↦ absurd (d.least q c k ask y bef)
+    ]
 
 -- what a whole walk asks for is there
 pub asked_block : (image : List ℕ) (w : List (Role × ℕ)) → IsWhole image w → (r : Role) (a i : ℕ) → Asks image w r a i → second r < 2 → (b : ℕ) × Has w r b
