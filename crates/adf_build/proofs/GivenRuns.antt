@@ -5,7 +5,7 @@ use Rattle.std.proofs.lemmas.Bool.Decides.{nat_tests}
 use Rattle.adf_blocks.specs.Sizes.{middle}
 use Rattle.adf_volume.specs.Lists.{In}
 use Rattle.adf_volume.specs.Image.{map_exts_needed}
-use Rattle.adf_volume.proofs.Blocks.{Distinct}
+use Rattle.adf_volume.proofs.DistinctBlocks.{Distinct}
 use Rattle.adf_build.specs.Plan.{reserved, given, run, row}
 
 -- below the root, and past the reserved blocks

@@ -13,23 +13,24 @@ use Rattle.adf_blocks.specs.Sizes.{is_allowed}
 use Rattle.adf_blocks.specs.Forms.{first_cause, text_at}
 use Rattle.adf_blocks.specs.HeadBlock.{HeadFields, FitsMeta, meta_at, secondary_of, size_of, ext_of, head_form}
 use Rattle.adf_blocks.specs.HeadBlock.BodyFields.{FileFields}
-use Rattle.adf_blocks.proofs.HeadLaws.{head_block-form, head_block-name, head_block-meta, head_block-secondary, head_block-size, head_block-ext, head_block-pointer}
+use Rattle.adf_blocks.proofs.HeadLaws.{head_block-form, head_block-name, head_block-meta, head_block-secondary, head_block-size, head_block-ext}
+use Rattle.adf_blocks.proofs.HeadLaws.{head_block-pointer}
 use Rattle.adf_volume.specs.Lists.{At, Spelled}
 use Rattle.adf_volume.specs.Image.{word_in, chunk, count, held, content, joined, table_word, name_of, meta_of}
 use Rattle.adf_volume.specs.Demands.{AllHold, head_demands, data_demands}
 use Rattle.adf_volume.specs.Layout.{at_node, exts_of, datas_of}
 use Rattle.adf_volume.specs.Fits.{EntryFits, FileFits, BodyFits, TableAt}
-use Rattle.adf_volume.proofs.Told.{all_told}
+use Rattle.adf_volume.proofs.FormDemands.{all_told}
 use Rattle.adf_volume.proofs.Lists.{at_below, at_index_or}
 use Rattle.adf_volume.proofs.Sizes.{size_low, size_high}
 use Rattle.adf_build.specs.Plan.{exts_needed, data_blocks, entries_blocks, blocks_needed, given, run, places_from, planned}
 use Rattle.adf_build.specs.Lay.{Holds}
 use Rattle.adf_build.specs.Laid.{given_or_none, slots_of, body_of, body_parts, data_parts, ext_parts, head_of, node_blocks, volume, IsSound}
 use Rattle.adf_build.proofs.GivenRuns.{length_run}
-use Rattle.adf_build.proofs.Shapes.{next_small}
-use Rattle.adf_build.proofs.Holding.{below}
-use Rattle.adf_build.proofs.Written.{holds_left, holds_right}
-use Rattle.adf_build.proofs.Spots.{Spot, spot, nodes_at, head_fits}
+use Rattle.adf_build.proofs.WholeBlocks.{next_small}
+use Rattle.adf_build.proofs.LaidParts.{below}
+use Rattle.adf_build.proofs.WrittenParts.{holds_left, holds_right}
+use Rattle.adf_build.proofs.EntryBlocks.{Spot, spot, nodes_at, head_fits}
 use Rattle.adf_build.proofs.LaidFiles.{run_at, run_index, exts_linked, exts_formed, exts_point, bytes_held, datas_formed, held_long}
 use Rattle.adf_build.proofs.GivenBlocks.{size_small}
 
@@ -137,7 +138,8 @@ module _ (t : Tree) (n : ℕ) (sound : IsSound t) (allowed : is_allowed n ≡ tr
         ∙ bytes_held (volume t n) n (entries_blocks t.kind t.entries) small few (below t n sound allowed room) (given n here.k) lies t.kind (suc here.k + exts_needed (count t.kind (length bytes))) 1 bytes (count t.kind (length bytes)) (omega arith) (omega arith) datas_hold (chunks_cover t.kind (length bytes)))
 
     -- the header or the extension block that names data block j
-    named_laid : (q j b a : ℕ) → j / 72 ≡ q → At (run n (suc here.k + exts_needed (count t.kind (length bytes))) (count t.kind (length bytes))) j b → TableAt (volume t n) (planned t n) (suc i) q a → word_in (volume t n) a (table_word j) ≡ b
+    named_laid : (q j b a : ℕ) → j / 72 ≡ q → At (run n (suc here.k + exts_needed (count t.kind (length bytes))) (count t.kind (length bytes))) j b
+        → TableAt (volume t n) (planned t n) (suc i) q a → word_in (volume t n) a (table_word j) ≡ b
     named_laid zero j b a z at ta =
         let x : ℕ = exts_needed (count t.kind (length bytes)) in
         let c : ℕ = count t.kind (length bytes) in
@@ -169,7 +171,8 @@ module _ (t : Tree) (n : ℕ) (sound : IsSound t) (allowed : is_allowed n ≡ tr
         exts_point (volume t n) n (entries_blocks t.kind t.entries) small few (below t n sound allowed room) (given n here.k) lies (suc here.k) (suc here.k + x + 72) (c - 72) x (omega arith) (omega arith) exts_hold q a (j % 72) ax (omega arith) (omega arith)
         ∙ (ap (given n) y ∙ sym (run_at n (suc here.k + x) c j b at))
 
-    formed_laid : (kind : Kind) → t.kind ≡ kind → (j b : ℕ) → At (run n (suc here.k + exts_needed (count t.kind (length bytes))) (count t.kind (length bytes))) j b
+    formed_laid : (kind : Kind) → t.kind ≡ kind → (j b : ℕ)
+        → At (run n (suc here.k + exts_needed (count t.kind (length bytes))) (count t.kind (length bytes))) j b
         → AllHold (data_demands (volume t n) kind b (given n here.k) (suc j) (held kind (length bytes) (suc j)) (slice_index (run n (suc here.k + exts_needed (count t.kind (length bytes))) (count t.kind (length bytes))) (suc j)))
     formed_laid Ffs z j b at = tt
     formed_laid Ofs z j b at =

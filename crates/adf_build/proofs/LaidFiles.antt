@@ -1,5 +1,6 @@
 -- The extension blocks, the data blocks and the content of a file that was laid.
-use Rattle.std.proofs.Common.{◌≡◌, ℕ, zero, suc, List, [], ◌∷◌, ◌++◌, inl, inr, ◌+◌, ◌-◌, ◌*◌, ◌^◌, ◌<◌, ◌≤◌, length, take, drop, min, refl, sym, ap, subst, ◌∙◌, arith, Bool, true, false, cond, take_all, length-take, length-drop, length-take-le}
+use Rattle.std.proofs.Common.{◌≡◌, ℕ, zero, suc, List, [], ◌∷◌, ◌++◌, inl, inr, ◌+◌, ◌-◌, ◌*◌, ◌^◌, ◌<◌, ◌≤◌, length, take, drop, min, refl, sym, ap, subst}
+use Rattle.std.proofs.Common.{◌∙◌, arith, Bool, true, false, cond, take_all, length-take, length-drop, length-take-le}
 use Rattle.std.specs.Prelude.{nat_lt, slice_index, None, replicate}
 use Rattle.std.proofs.lemmas.Bool.{cases_lt}
 use Rattle.std.proofs.lemmas.Bool.Decides.{nat_tests}
@@ -17,11 +18,11 @@ use Rattle.adf_blocks.proofs.DataLaws.{data_block-form, data_block-bytes}
 use Rattle.adf_volume.specs.Lists.{At, Spelled}
 use Rattle.adf_volume.specs.Image.{word_in, chunk, count, held, area, joined}
 use Rattle.adf_volume.specs.Demands.{AllHold, ext_demands, data_demands}
-use Rattle.adf_volume.proofs.Told.{all_told}
+use Rattle.adf_volume.proofs.FormDemands.{all_told}
 use Rattle.adf_build.specs.Plan.{given, run}
 use Rattle.adf_build.specs.Lay.{Holds}
 use Rattle.adf_build.specs.Laid.{given_or_none, data_bytes, data_parts, ext_laid, ext_parts}
-use Rattle.adf_build.proofs.Shapes.{next_small, fits_ext, fits_data, data_long, chunk_small, chunk_ofs}
+use Rattle.adf_build.proofs.WholeBlocks.{next_small, fits_ext, fits_data, data_long, chunk_small, chunk_ofs}
 
 some_given : (n k m : ℕ) → given_or_none n k (suc m) ≡ given n k
 some_given n k m = let t : nat_lt 0 (suc m) ≡ true = grind (arith, nat_tests) in ap (λ t. cond t (given n k) 0) t
@@ -62,7 +63,8 @@ module _ (v : List ℕ) (n total : ℕ) (small : n < 2 ^ 32) (few : total < 2 ^ 
   exts_formed k d c (suc m) l h (suc j) b a = exts_formed (suc k) (d + 72) (c - 72) m (omega arith) h.1 j b a
 
   -- pointer q of extension block j names data block 72 * j + q of the c that they name
-  pub exts_point : (k d c m : ℕ) → k + m ≤ total → d + c ≤ total → Holds v (ext_parts n head k d c m) → (j b q : ℕ) → At (run n k m) j b → q < 72 → 72 * j + q < c → word_in v b (77 - q) ≡ given n (d + 72 * j + q)
+  pub exts_point : (k d c m : ℕ) → k + m ≤ total → d + c ≤ total → Holds v (ext_parts n head k d c m) → (j b q : ℕ) → At (run n k m) j b → q < 72
+      → 72 * j + q < c → word_in v b (77 - q) ≡ given n (d + 72 * j + q)
   exts_point k d c zero l u h j b q a lt le = absurd a
   exts_point k d c (suc m) l u h zero b q a lt le =
       let f = fits_ext n total small few below head k d c m lies (omega arith) in
@@ -111,7 +113,8 @@ module _ (v : List ℕ) (n total : ℕ) (small : n < 2 ^ 32) (few : total < 2 ^ 
   no_bytes (b ∷ bs) h = absurd (omega arith)
 
   -- the areas of the data blocks joined and cut are the bytes
-  pub bytes_held : (kind : Kind) (k number : ℕ) (bytes : List ℕ) (m : ℕ) → k + m ≤ total → number + m ≤ 2 ^ 32 → Holds v (data_parts n kind head k number bytes m) → length bytes ≤ m * chunk kind → take (length bytes) (joined v kind (run n k m)) ≡ bytes
+  pub bytes_held : (kind : Kind) (k number : ℕ) (bytes : List ℕ) (m : ℕ) → k + m ≤ total → number + m ≤ 2 ^ 32
+      → Holds v (data_parts n kind head k number bytes m) → length bytes ≤ m * chunk kind → take (length bytes) (joined v kind (run n k m)) ≡ bytes
   bytes_held kind k number bytes zero l s h f = no_bytes bytes (let e : 0 * chunk kind ≡ 0 = omega arith in omega arith)
   bytes_held kind k number bytes (suc m) l s h f =
       let held : List ℕ = take (chunk kind) bytes in
@@ -155,7 +158,8 @@ module _ (v : List ℕ) (n total : ℕ) (small : n < 2 ^ 32) (few : total < 2 ^ 
   next_is k (suc m) = some_given n k m
 
   -- the data blocks of an OFS file have their form
-  pub datas_formed : (k number : ℕ) (bytes : List ℕ) (m : ℕ) → k + m ≤ total → number + m ≤ 2 ^ 32 → Holds v (data_parts n Ofs head k number bytes m) → (j b : ℕ) → At (run n k m) j b
+  pub datas_formed : (k number : ℕ) (bytes : List ℕ) (m : ℕ) → k + m ≤ total → number + m ≤ 2 ^ 32 → Holds v (data_parts n Ofs head k number bytes m)
+      → (j b : ℕ) → At (run n k m) j b
       → AllHold (data_demands v Ofs b head (number + j) (length (take (chunk Ofs) (drop (chunk Ofs * j) bytes))) (slice_index (run n k m) (suc j)))
   datas_formed k number bytes zero l s h j b a = absurd a
   datas_formed k number bytes (suc m) l s h zero b a =
@@ -180,7 +184,8 @@ module _ (v : List ℕ) (n total : ℕ) (small : n < 2 ^ 32) (few : total < 2 ^ 
       (datas_formed (suc k) (suc number) (drop (chunk Ofs) bytes) m (omega arith) (omega arith) h.1 j b a))
 
 -- what data block j holds of the bytes
-pub held_long : (bytes : List ℕ) (j : ℕ) → j < count Ofs (length bytes) → length (take (chunk Ofs) (drop (chunk Ofs * j) bytes)) ≡ held Ofs (length bytes) (suc j)
+pub held_long : (bytes : List ℕ) (j : ℕ) → j < count Ofs (length bytes)
+    → length (take (chunk Ofs) (drop (chunk Ofs * j) bytes)) ≡ held Ofs (length bytes) (suc j)
 unfolding chunk count held
 held_long bytes j h =
     let a : length (take 488 (drop (488 * j) bytes)) ≡ min 488 (length (drop (488 * j) bytes)) = length-take 488 (drop (488 * j) bytes) in

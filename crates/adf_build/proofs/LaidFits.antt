@@ -1,5 +1,6 @@
 -- What is laid fits.
-use Rattle.std.proofs.Common.{◌≡◌, ℕ, zero, suc, List, [], ◌∷◌, ◌++◌, ◌+◌, ◌-◌, ◌*◌, ◌/◌, ◌%◌, ◌^◌, ◌<◌, ◌≤◌, length, map, refl, sym, ap, subst, ◌∙◌, arith, Bool, true, false, cond}
+use Rattle.std.proofs.Common.{◌≡◌, ℕ, zero, suc, List, [], ◌∷◌, ◌++◌, ◌+◌, ◌-◌, ◌*◌, ◌/◌, ◌%◌, ◌^◌, ◌<◌, ◌≤◌, length, map, refl, sym, ap, subst, ◌∙◌, arith}
+use Rattle.std.proofs.Common.{Bool, true, false, cond}
 use Rattle.std.specs.Prelude.{min, slice_index, None, ◌↔◌, ◌==◌, ◌&&◌, not, nat_lt, IsBitSet}
 use Rattle.std.proofs.lemmas.Bool.Decides.{nat_tests}
 use lib.Bits.{bit_and}
@@ -26,11 +27,11 @@ use Rattle.adf_volume.specs.Image.{word_in, root_of, kind_of, label_of, stamps_o
 use Rattle.adf_volume.specs.Demands.{AllHold, boot_form, boot_demands, root_demands, page_demands}
 use Rattle.adf_volume.specs.Layout.{EntryAt, at_node, chain_nodes, owned}
 use Rattle.adf_volume.specs.Fits.{Fits, EntryFits, FileFits, IsFree}
-use Rattle.adf_volume.proofs.Told.{all_told}
+use Rattle.adf_volume.proofs.FormDemands.{all_told}
 use Rattle.adf_volume.proofs.Lists.{at_below, at_index}
 use Rattle.adf_volume.proofs.Images.{page_in}
-use Rattle.adf_volume.proofs.Ordered.{dir_node}
-use Rattle.adf_volume.proofs.Blocks.{block_in, in_block, blocks_of}
+use Rattle.adf_volume.proofs.TreeOrder.{dir_node}
+use Rattle.adf_volume.proofs.DistinctBlocks.{block_in, in_block, blocks_of}
 use Rattle.adf_volume.proofs.Sizes.{size_low, size_high}
 use Rattle.adf_build.specs.Plan.{reserved, entry_blocks, entries_blocks, blocks_needed, run, row, places_from, planned}
 use Rattle.adf_build.specs.Bits.{is_used, is_free_bit, bits_from, page_words}
@@ -39,8 +40,8 @@ use Rattle.adf_build.specs.Laid.{boot_bytes, page_parts, listed_pages, map_ext_o
 use Rattle.adf_build.proofs.GivenRuns.{length_row, reserved_below}
 use Rattle.adf_build.proofs.Planned.{owned_blocks, planned_once, planned_range}
 use Rattle.adf_build.proofs.Bits.{bit_of, bits_small, owned_used, used_owned}
-use Rattle.adf_build.proofs.Holding.{fits_root, volume_long, volume_blocks, holds_map_exts, holds_pages, holds_root, holds_boot, listed_few, reserved_parts}
-use Rattle.adf_build.proofs.Spots.{spot, chain_laid, root_slot, dir_slot}
+use Rattle.adf_build.proofs.LaidParts.{fits_root, volume_long, volume_blocks, holds_map_exts, holds_pages, holds_root, holds_boot, listed_few, reserved_parts}
+use Rattle.adf_build.proofs.EntryBlocks.{spot, chain_laid, root_slot, dir_slot}
 use Rattle.adf_build.proofs.LaidEntries.{entry_laid, file_laid}
 use Rattle.std.proofs.lemmas.Bool.{false_from_ne_true}
 
@@ -68,7 +69,8 @@ places_long : (n : ℕ) (kind : Kind) (k : ℕ) (es : List Entry) → length (pl
 places_long n kind k [] = refl
 places_long n kind k (e ∷ es) = ap suc (places_long n kind (k + entry_blocks kind e) es)
 
-page_holds : (v : List ℕ) (n total j m q : ℕ) → Holds v (page_parts n total j m) → q < m → block v (middle n + 1 + (j + q)) ≡ page_block (page_words n total (j + q))
+page_holds : (v : List ℕ) (n total j m q : ℕ) → Holds v (page_parts n total j m) → q < m
+    → block v (middle n + 1 + (j + q)) ≡ page_block (page_words n total (j + q))
 page_holds v n total j zero q h l = absurd (omega arith)
 page_holds v n total j (suc m) zero h l = let z : j ≡ j + 0 = omega arith in subst (λ j. block v (middle n + 1 + j) ≡ page_block (page_words n total j)) z h.0
 page_holds v n total j (suc m) (suc q) h l = let z : suc j + q ≡ j + suc q = omega arith in subst (λ j. block v (middle n + 1 + j) ≡ page_block (page_words n total j)) z (page_holds v n total (suc j) m q h.1 (omega arith))
@@ -207,10 +209,12 @@ module _ (t : Tree) (n : ℕ) (sound : IsSound t) (allowed : is_allowed n ≡ tr
       chain_laid t n sound allowed room (suc i) s (word_in (volume t n) (at_node (volume t n) (planned t n) (suc i)) (6 + s))
       (ap (λ b. word_in (volume t n) b (6 + s)) (spot t n sound allowed room i x.0 x.1).at ∙ dir_slot t n sound allowed room i s x.0 x.1 x.2 l)
 
-  owned_is : (b : ℕ) → In (blocks_of (owned (volume t n) (planned t n))) b ↔ In (middle n ∷ (row (middle n + 1) (reserved n) ++ run n 0 (entries_blocks t.kind t.entries))) b
+  owned_is : (b : ℕ)
+      → In (blocks_of (owned (volume t n) (planned t n))) b ↔ In (middle n ∷ (row (middle n + 1) (reserved n) ++ run n 0 (entries_blocks t.kind t.entries))) b
   owned_is b = let e = owned_blocks (volume t n) t n size in ((λ h. subst (λ l. In l b) e h), (λ h. subst (λ l. In l b) (sym e) h))
 
-  free_laid : (b : ℕ) → 2 ≤ b → b < n → IsFree (volume t n) (row (middle n + 1) (pages_needed n)) b → (o : Owner) → In (owned (volume t n) (planned t n)) (o, b) → ⊥
+  free_laid : (b : ℕ) → 2 ≤ b → b < n → IsFree (volume t n) (row (middle n + 1) (pages_needed n)) b → (o : Owner)
+      → In (owned (volume t n) (planned t n)) (o, b) → ⊥
   free_laid b lo hi f o i =
       let q : ℕ = (b - 2) / 4064 in
       let r : ℕ = (b - 2) % 4064 in
@@ -223,7 +227,8 @@ module _ (t : Tree) (n : ℕ) (sound : IsSound t) (allowed : is_allowed n ≡ tr
       let w : true ≡ false = sym u ∙ y in
       cc
 
-  unowned_laid : (b : ℕ) → 2 ≤ b → b < n → ((o : Owner) → In (owned (volume t n) (planned t n)) (o, b) → ⊥) → IsFree (volume t n) (row (middle n + 1) (pages_needed n)) b
+  unowned_laid : (b : ℕ) → 2 ≤ b → b < n → ((o : Owner) → In (owned (volume t n) (planned t n)) (o, b) → ⊥)
+      → IsFree (volume t n) (row (middle n + 1) (pages_needed n)) b
   unowned_laid b lo hi f =
       let q : ℕ = (b - 2) / 4064 in
       let r : ℕ = (b - 2) % 4064 in
@@ -267,7 +272,8 @@ module _ (t : Tree) (n : ℕ) (sound : IsSound t) (allowed : is_allowed n ≡ tr
       ap (λ bs. word bs 104) (holds_root t n sound allowed room)
       ∙ (root_block-map_ext (root_laid t n) (fits_root t n sound allowed room) small ∙ (map_ext_some n 0 (map_exts_needed (pages_needed n)) x.0 ∙ sym e))
 
-  map_next_laid : (j a b : ℕ) → At (row (middle n + 1 + pages_needed n) (map_exts_needed (pages_needed n))) j a → At (row (middle n + 1 + pages_needed n) (map_exts_needed (pages_needed n))) (suc j) b
+  map_next_laid : (j a b : ℕ) → At (row (middle n + 1 + pages_needed n) (map_exts_needed (pages_needed n))) j a
+      → At (row (middle n + 1 + pages_needed n) (map_exts_needed (pages_needed n))) (suc j) b
       → word_in (volume t n) a 127 ≡ b
   map_next_laid j a b g h =
       let x = map_ext_at j a g in
@@ -279,7 +285,8 @@ module _ (t : Tree) (n : ℕ) (sound : IsSound t) (allowed : is_allowed n ≡ tr
       ap (λ a. word_in (volume t n) a 127) x.1
       ∙ (ap (λ bs. word bs 127) (map_ext_is j x.0) ∙ (map_ext_block-next (listed_pages n j) (map_ext_or_none n (suc j) m) (listed_few n j) small ∙ (map_ext_some n (suc j) m (omega arith) ∙ sym e)))
 
-  page_listed_laid : (j i a b : ℕ) → i < 127 → At (row (middle n + 1 + pages_needed n) (map_exts_needed (pages_needed n))) j a → At (row (middle n + 1) (pages_needed n)) (25 + 127 * j + i) b
+  page_listed_laid : (j i a b : ℕ) → i < 127 → At (row (middle n + 1 + pages_needed n) (map_exts_needed (pages_needed n))) j a
+      → At (row (middle n + 1) (pages_needed n)) (25 + 127 * j + i) b
       → word_in (volume t n) a i ≡ b
   page_listed_laid j i a b l g h =
       let x = map_ext_at j a g in
@@ -297,7 +304,8 @@ module _ (t : Tree) (n : ℕ) (sound : IsSound t) (allowed : is_allowed n ≡ tr
   entries_fit zero e h = absurd h
   entries_fit (suc i) e h = entry_laid t n sound allowed room i e h
 
-  files_fit : (m : ℕ) (e : Entry) (bytes : List ℕ) → EntryAt t m e → e.body ≡ File bytes → FileFits (volume t n) t (planned t n) m (at_node (volume t n) (planned t n) m) bytes
+  files_fit : (m : ℕ) (e : Entry) (bytes : List ℕ) → EntryAt t m e → e.body ≡ File bytes
+      → FileFits (volume t n) t (planned t n) m (at_node (volume t n) (planned t n) m) bytes
   files_fit zero e bytes h f = absurd h
   files_fit (suc i) e bytes h f = file_laid t n sound allowed room i e h bytes f
 

@@ -78,7 +78,8 @@ none_free n total q a b e g h u =
     sym (word_clear n total q side (ap (is_used n total) (sym g) ∙ u))
 
 -- a word of one side, from block a to block b, whose first block is free and whose last one is there
-pub all_free : (n total q a b : ℕ) → a ≡ 2 + q → b ≡ 33 + q → (a < n / 2 → b < n / 2) → b < n → is_used n total a ≡ false → 4294967295 ≡ bits_from (is_free_bit n total) q 32
+pub all_free : (n total q a b : ℕ) → a ≡ 2 + q → b ≡ 33 + q → (a < n / 2 → b < n / 2) → b < n → is_used n total a ≡ false
+    → 4294967295 ≡ bits_from (is_free_bit n total) q 32
 all_free n total q a b e g h l u =
     let side = one_side n (2 + q) (33 + q) (λ l. omega (arith, h (omega arith))) in
     set_word (bits_from (is_free_bit n total) q 32) (word_set n total q side (omega arith) (ap (is_used n total) (sym e) ∙ u))

@@ -1,4 +1,4 @@
--- Facts on words and slots.
+-- Lengths of blocks and contents, and how many pages and bitmap extension blocks there are.
 use Rattle.std.proofs.Common.{◌≡◌, ℕ, suc, List, [], ◌∷◌, ◌+◌, ◌-◌, ◌/◌, ◌*◌, ◌<◌, ◌≤◌, arith, refl, sym, ◌∙◌, length, length-append, length-drop, length-take}
 use Rattle.adf_fields.specs.Words.{block}
 use Rattle.adf_volume.specs.Lists.{At}
@@ -16,7 +16,8 @@ unfolding area chunk
 area_length image Ofs b h l = let z = block_length image b h l in simp (length-take, length-drop) (omega arith)
 area_length image Ffs b h l = let z = block_length image b h l in simp (length-take, length-drop) (omega arith)
 
-joined_length : (image : List ℕ) (k : Kind) (bs : List ℕ) → length image ≡ 512 * blocks image → ((i b : ℕ) → At bs i b → b < blocks image) → length (joined image k bs) ≡ chunk k * length bs
+joined_length : (image : List ℕ) (k : Kind) (bs : List ℕ) → length image ≡ 512 * blocks image → ((i b : ℕ) → At bs i b → b < blocks image)
+    → length (joined image k bs) ≡ chunk k * length bs
 joined_length image k [] h l = omega arith
 joined_length image k (b ∷ bs) h l =
     let ih : length (joined image k bs) ≡ chunk k * length bs = joined_length image k bs h (λ i b z. l (suc i) b z) in
@@ -28,7 +29,8 @@ unfolding count chunk
 enough_bytes Ofs size n h = omega arith
 enough_bytes Ffs size n h = omega arith
 
-pub content_length : (image : List ℕ) (k : Kind) (h : ℕ) (bs : List ℕ) → length image ≡ 512 * blocks image → ((i b : ℕ) → At bs i b → b < blocks image) → length bs ≡ count k (word_in image h 81) → length (content image k h bs) ≡ word_in image h 81
+pub content_length : (image : List ℕ) (k : Kind) (h : ℕ) (bs : List ℕ) → length image ≡ 512 * blocks image → ((i b : ℕ) → At bs i b → b < blocks image)
+    → length bs ≡ count k (word_in image h 81) → length (content image k h bs) ≡ word_in image h 81
 unfolding content
 content_length image k h bs z l c =
     let j : length (joined image k bs) ≡ chunk k * length bs = joined_length image k bs z l in

@@ -49,7 +49,8 @@ spelled_link link w (x ∷ bs) zero b c h a k = ap link (sym a) ∙ spelled_word
 spelled_link link w (x ∷ bs) (suc j) b c h a k = spelled_link link (link x) bs j b c h.1 a k
 
 -- a list whose members are named in turn, and whose end is 0, is spelled
-pub spelled_from : (link : ℕ → ℕ) (w : ℕ) (bs : List ℕ) → ((b : ℕ) → At bs 0 b → w ≡ b) → (length bs ≡ 0 → w ≡ 0) → ((j b c : ℕ) → At bs j b → At bs (suc j) c → link b ≡ c) → ((j b : ℕ) → At bs j b → suc j ≡ length bs → link b ≡ 0) → Spelled link w bs
+pub spelled_from : (link : ℕ → ℕ) (w : ℕ) (bs : List ℕ) → ((b : ℕ) → At bs 0 b → w ≡ b) → (length bs ≡ 0 → w ≡ 0)
+    → ((j b c : ℕ) → At bs j b → At bs (suc j) c → link b ≡ c) → ((j b : ℕ) → At bs j b → suc j ≡ length bs → link b ≡ 0) → Spelled link w bs
 spelled_from link w [] f g n e = g refl
 spelled_from link w (b ∷ bs) f g n e = (f b refl, spelled_from link (link b) bs (λ c h. n 0 b c refl h) (λ z. e 0 b refl (ap suc (sym z))) (λ j x c h k. n (suc j) x c h k) (λ j x h z. e (suc j) x h (ap suc z)))
 

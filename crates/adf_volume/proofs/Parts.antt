@@ -12,7 +12,7 @@ use Rattle.adf_volume.specs.Walk.{Role}
 use Rattle.adf_volume.specs.Walk.Role.{Root, Page, MapExt, Head, Ext, Data}
 use Rattle.adf_volume.specs.Parts.{owner_of, Part}
 use Rattle.adf_volume.proofs.Lists.{in_left, in_right, in_numbered, one_member, in_cases, numbered_at}
-use Rattle.adf_volume.proofs.Trees.{entry_at, entry_below, entry_some, place_at, one_place}
+use Rattle.adf_volume.proofs.Chains.{entry_at, entry_below, entry_some, place_at, one_place}
 
 pub owned_head : (n : ℕ) (qs : List Place) (i : ℕ) → i < length qs → In (owned_from n qs) (AHead (n + i), head_at qs i)
 owned_head n [] i h = absurd (omega arith)

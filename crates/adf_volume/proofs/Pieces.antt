@@ -1,5 +1,6 @@
 -- The pieces of a file joined are its content.
-use Rattle.std.proofs.Common.{◌≡◌, ℕ, zero, suc, List, [], ◌∷◌, ◌++◌, ◌+◌, ◌-◌, ◌*◌, ◌<◌, ◌≤◌, length, refl, sym, ap, subst, ◌∙◌, arith, Bool, true, false, cond, take, take_all}
+use Rattle.std.proofs.Common.{◌≡◌, ℕ, zero, suc, List, [], ◌∷◌, ◌++◌, ◌+◌, ◌-◌, ◌*◌, ◌<◌, ◌≤◌, length, refl, sym, ap, subst, ◌∙◌, arith, Bool, true, false}
+use Rattle.std.proofs.Common.{cond, take, take_all}
 use Rattle.std.specs.Prelude.{nat_lt}
 use Rattle.std.specs.List.{concat}
 use Rattle.std.proofs.lemmas.Bool.Decides.{nat_tests}
@@ -45,7 +46,8 @@ unfolding left chunk
 left_more Ofs size k n h = omega arith
 left_more Ffs size k n h = omega arith
 
-pieces_from : (image : List ℕ) (kind : Kind) (size k : ℕ) (bs : List ℕ) → length image ≡ 512 * blocks image → ((i b : ℕ) → At bs i b → b < blocks image) → concat (pieces image kind size (suc k) bs) ≡ take (left kind size k) (joined image kind bs)
+pieces_from : (image : List ℕ) (kind : Kind) (size k : ℕ) (bs : List ℕ) → length image ≡ 512 * blocks image → ((i b : ℕ) → At bs i b → b < blocks image)
+    → concat (pieces image kind size (suc k) bs) ≡ take (left kind size k) (joined image kind bs)
 pieces_from image kind size k [] z l = none (left kind size k)
   where
     none : (n : ℕ) → ◌≡◌ {A = List ℕ} [] (take n [])
@@ -63,7 +65,8 @@ unfolding left
 left_all kind size = let z : chunk kind * 0 ≡ 0 = omega arith in omega arith
 
 -- the pieces of a file, one after the other, are its content
-pub pieces_joined : (image : List ℕ) (kind : Kind) (h : ℕ) (bs : List ℕ) → length image ≡ 512 * blocks image → ((i b : ℕ) → At bs i b → b < blocks image) → concat (pieces image kind (word_in image h 81) 1 bs) ≡ content image kind h bs
+pub pieces_joined : (image : List ℕ) (kind : Kind) (h : ℕ) (bs : List ℕ) → length image ≡ 512 * blocks image → ((i b : ℕ) → At bs i b → b < blocks image)
+    → concat (pieces image kind (word_in image h 81) 1 bs) ≡ content image kind h bs
 unfolding content
 pieces_joined image kind h bs z l = pieces_from image kind (word_in image h 81) 0 bs z l ∙ ap (λ n. take n (joined image kind bs)) (left_all kind (word_in image h 81))
 
@@ -72,7 +75,8 @@ pub pieces_length : (image : List ℕ) (kind : Kind) (size k : ℕ) (bs : List �
 pieces_length image kind size k [] = refl
 pieces_length image kind size k (b ∷ bs) = ap suc (pieces_length image kind size (suc k) bs)
 
-pub piece_at : (image : List ℕ) (kind : Kind) (size k : ℕ) (bs : List ℕ) (i b : ℕ) → At bs i b → At (pieces image kind size k bs) i (piece kind size (k + i) (block image b))
+pub piece_at : (image : List ℕ) (kind : Kind) (size k : ℕ) (bs : List ℕ) (i b : ℕ) → At bs i b
+    → At (pieces image kind size k bs) i (piece kind size (k + i) (block image b))
 piece_at image kind size k [] i b h = absurd h
 piece_at image kind size k (c ∷ bs) zero b h = let z : k ≡ k + 0 = omega arith in λ t. piece kind size (z t) (block image (h t))
 piece_at image kind size k (c ∷ bs) (suc i) b h =

@@ -1,12 +1,14 @@
 -- What holds of every walk.
-use Rattle.std.proofs.Common.{◌≡◌, ℕ, zero, suc, List, [], ◌∷◌, ◌⊎◌, inl, inr, ◌+◌, ◌-◌, ◌*◌, ◌/◌, ◌%◌, ◌<◌, ◌≤◌, refl, sym, ap, subst, ◌∙◌, arith, Bool, true, false, cond, eq-eqb}
+use Rattle.std.proofs.Common.{◌≡◌, ℕ, zero, suc, List, [], ◌∷◌, ◌⊎◌, inl, inr, ◌+◌, ◌-◌, ◌*◌, ◌/◌, ◌%◌, ◌<◌, ◌≤◌, refl, sym, ap, subst, ◌∙◌, arith, Bool}
+use Rattle.std.proofs.Common.{true, false, cond, eq-eqb}
 use Rattle.std.proofs.lemmas.Bool.{eqb-true}
 use Rattle.std.specs.Prelude.{◌==◌}
 use Rattle.std.proofs.lemmas.Bool.Decides.{eqb_tells}
 use native.Mathlib.Decide.{dec_le, dec_lt, ℕ_discrete}
 use Rattle.adf_blocks.specs.Sizes.{blocks, pages_needed}
 use Rattle.adf_volume.specs.Image.{root_of}
-use Rattle.adf_volume.specs.Walk.{Role, first, second, third, Same, Has, head_count, heads, NodeAt, FileAt, MemberAt, Asks, Lacks, IsDue, ext_count_of, ext_count, IsWalk, IsWhole, node_block_of, node_block, ext_block_of, ext_block, member_block, DirAt, Before}
+use Rattle.adf_volume.specs.Walk.{Role, first, second, third, Same, Has, head_count, heads, NodeAt, FileAt, MemberAt, Asks, Lacks, IsDue, ext_count_of}
+use Rattle.adf_volume.specs.Walk.{ext_count, IsWalk, IsWhole, node_block_of, node_block, ext_block_of, ext_block, member_block, DirAt, Before}
 use Rattle.adf_volume.specs.Walk.Role.{Root, Page, MapExt, Head, Ext, Data}
 use Rattle.adf_volume.specs.Walk.IsWalk.{start, step}
 
@@ -116,7 +118,8 @@ module _ (image : List ℕ) where
   one_role (step v d g n) r q b (inr e) (inr f) = one_role v r q b e f
 
   -- a number has one header
-  pub one_head : {w : List (Role × ℕ)} → IsWalk image w → (n p s j b p' s' j' b' : ℕ) → Has w (Head n p s j) b → Has w (Head n p' s' j') b' → (Head n p s j ≡ Head n p' s' j') × (b ≡ b')
+  pub one_head : {w : List (Role × ℕ)} → IsWalk image w → (n p s j b p' s' j' b' : ℕ) → Has w (Head n p s j) b → Has w (Head n p' s' j') b'
+      → (Head n p s j ≡ Head n p' s' j') × (b ≡ b')
   one_head start n p s j b p' s' j' b' (inl e) f = absurd (subst (λ r. IsRoot r) e.0 tt)
     where
       IsRoot : Role → Type 0
@@ -166,7 +169,8 @@ module _ (image : List ℕ) where
       omega arith
 
   -- an extension block that is due is the next one
-  pub next_ext : (w : List (Role × ℕ)) → IsWalk image w → (n k a i : ℕ) → IsDue image w (Ext n k) a i → ((k : ℕ) → k < ext_count w n → (b : ℕ) × Has w (Ext n (suc k)) b) → k ≡ suc (ext_count w n)
+  pub next_ext : (w : List (Role × ℕ)) → IsWalk image w → (n k a i : ℕ) → IsDue image w (Ext n k) a i
+      → ((k : ℕ) → k < ext_count w n → (b : ℕ) × Has w (Ext n (suc k)) b) → k ≡ suc (ext_count w n)
   next_ext w v n zero a i d ih = absurd d.asked
   next_ext w v n (suc zero) a i d ih =
       elim (dec_lt 0 (ext_count w n)) [
@@ -180,7 +184,9 @@ module _ (image : List ℕ) where
         | no u ↦ omega arith
       ]
 
-  counted_step : {w : List (Role × ℕ)} {r : Role} {b a i : ℕ} → IsWalk image w → IsDue image w r a i → (n k : ℕ) → ((k : ℕ) → k < ext_count w n → (b : ℕ) × Has w (Ext n (suc k)) b) → (q : Role) → r ≡ q → k < ext_count_of n q (ext_count w n) → (c : ℕ) × Has ((r, b) ∷ w) (Ext n (suc k)) c
+  counted_step : {w : List (Role × ℕ)} {r : Role} {b a i : ℕ} → IsWalk image w → IsDue image w r a i → (n k : ℕ)
+      → ((k : ℕ) → k < ext_count w n → (b : ℕ) × Has w (Ext n (suc k)) b) → (q : Role) → r ≡ q → k < ext_count_of n q (ext_count w n)
+      → (c : ℕ) × Has ((r, b) ∷ w) (Ext n (suc k)) c
   counted_step {w = w} {r = r} {b = b} {a = a} {i = i} v d n k ih (Ext m j) e h =
       elim (eqb_tells n m) [
         | inl y ↦
@@ -204,7 +210,8 @@ module _ (image : List ℕ) where
 
 -- a file's blocks come after its header
 module _ (image : List ℕ) where
-  asks_file : (w : List (Role × ℕ)) (n k a i : ℕ) → Asks image w (Ext n k) a i → ((j b : ℕ) → Has w (Ext n j) b → (h : ℕ) × FileAt image w n h) → (h : ℕ) × FileAt image w n h
+  asks_file : (w : List (Role × ℕ)) (n k a i : ℕ) → Asks image w (Ext n k) a i → ((j b : ℕ) → Has w (Ext n j) b → (h : ℕ) × FileAt image w n h)
+      → (h : ℕ) × FileAt image w n h
   asks_file w n zero a i h f = absurd h
   asks_file w n (suc zero) a i h f = (a, h.0)
   asks_file w n (suc (suc k)) a i h f = f (suc k) a h.0
@@ -304,7 +311,8 @@ dec_has (x ∷ w) r =
       ]
     ]
 
-pub has_role : (image : List ℕ) (w : List (Role × ℕ)) (r : Role) → ((n p s j : ℕ) → r ≡ Head n p s j → ⊥) → (q : Role) (b : ℕ) → Has w q b → Same q r → Has w r b
+pub has_role : (image : List ℕ) (w : List (Role × ℕ)) (r : Role) → ((n p s j : ℕ) → r ≡ Head n p s j → ⊥) → (q : Role) (b : ℕ) → Has w q b → Same q r
+    → Has w r b
 has_role image w r nohead q b h s = subst (λ z. Has w z b) (same_role q r s (λ n m p t j e f. absurd (nohead m p t j f))) h
 
 -- only a header has a header's key
@@ -332,7 +340,8 @@ asked_block image w whole r a i ask low =
       | inl y ↦ absurd (whole r a i ask y)
     ]
 
-pub asked_header : (image : List ℕ) (w : List (Role × ℕ)) → IsWhole image w → (n p s j a i : ℕ) → Asks image w (Head n p s j) a i → (m b : ℕ) × Has w (Head m p s j) b
+pub asked_header : (image : List ℕ) (w : List (Role × ℕ)) → IsWhole image w → (n p s j a i : ℕ) → Asks image w (Head n p s j) a i
+    → (m b : ℕ) × Has w (Head m p s j) b
 asked_header image w whole n p s j a i ask =
     elim (dec_has w (Head n p s j)) [
       | inr y ↦ let z = head_key n p s j y.0 y.3 in (z.0, y.1, subst (λ r. Has w r y.1) z.1 y.2)
@@ -340,7 +349,8 @@ asked_header image w whole n p s j a i ask =
     ]
 
 -- a page is asked for where the extension blocks up to it are there
-pub page_word : (image : List ℕ) (w : List (Role × ℕ)) (k : ℕ) → k < pages_needed (blocks image) → ((j : ℕ) → 25 + 127 * j ≤ k → (a : ℕ) × Has w (MapExt j) a) → (a i : ℕ) × Asks image w (Page k) a i
+pub page_word : (image : List ℕ) (w : List (Role × ℕ)) (k : ℕ) → k < pages_needed (blocks image) → ((j : ℕ) → 25 + 127 * j ≤ k → (a : ℕ) × Has w (MapExt j) a)
+    → (a i : ℕ) × Asks image w (Page k) a i
 page_word image w k lt have =
     elim (dec_lt k 25) [
       | yes l ↦ (root_of image, 79 + k, (lt, inl (l, refl, refl)))

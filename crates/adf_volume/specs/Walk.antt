@@ -184,7 +184,8 @@ NoCause image w r a b = AllHold (demands image w r a b)
 
 pub data IsWalk (image : List ℕ) : List (Role × ℕ) → Type 0 where
   start : IsWalk image ((Root, root_of image) ∷ [])
-  step : {w : List (Role × ℕ)} {r : Role} {b a i : ℕ} → IsWalk image w → IsDue image w r a i → word_in image a i ≡ b → NoCause image w r a b → IsWalk image ((r, b) ∷ w)
+  step : {w : List (Role × ℕ)} {r : Role} {b a i : ℕ} → IsWalk image w → IsDue image w r a i → word_in image a i ≡ b → NoCause image w r a b
+      → IsWalk image ((r, b) ∷ w)
 
 -- the walk asks for nothing that it lacks
 abbrev pub IsWhole : List ℕ → List (Role × ℕ) → Type 0
@@ -205,5 +206,7 @@ bitmap_demands image w b (suc n) =
 -- The first fault: of size, boot bytes and root; else of what is due after some walk; else of the bitmap after a whole walk.
 pub data FirstFault (image : List ℕ) (b : ℕ) (c : Cause) : Type 0 where
   at_boot : FirstFails (boot_demands image ++ root_demands image (root_of image)) b c → FirstFault image b c
-  at_due : AllHold (boot_demands image ++ root_demands image (root_of image)) → (w : List (Role × ℕ)) (r : Role) (a i : ℕ) → IsWalk image w → IsDue image w r a i → FirstFails (demands image w r a (word_in image a i)) b c → FirstFault image b c
-  at_bitmap : AllHold (boot_demands image ++ root_demands image (root_of image)) → (w : List (Role × ℕ)) → IsWalk image w → IsWhole image w → FirstFails (bitmap_demands image w 2 (blocks image - 2)) b c → FirstFault image b c
+  at_due : AllHold (boot_demands image ++ root_demands image (root_of image)) → (w : List (Role × ℕ)) (r : Role) (a i : ℕ) → IsWalk image w
+      → IsDue image w r a i → FirstFails (demands image w r a (word_in image a i)) b c → FirstFault image b c
+  at_bitmap : AllHold (boot_demands image ++ root_demands image (root_of image)) → (w : List (Role × ℕ)) → IsWalk image w → IsWhole image w
+      → FirstFails (bitmap_demands image w 2 (blocks image - 2)) b c → FirstFault image b c

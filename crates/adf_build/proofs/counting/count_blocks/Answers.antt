@@ -1,6 +1,6 @@
 use Rattle.std.proofs.Common.{◌≡◌, ◌+◌, ◌-◌, ◌^◌, ap, ◌∙◌, arith, min}
 use Rattle.adf_build.specs.Plan.{entry_blocks}
-use Rattle.adf_build.proofs.Counts.{count_goes_on, count_step}
+use Rattle.adf_build.proofs.CountSteps.{count_goes_on, count_step}
 use Rattle.adf_build.proofs.counting.count_blocks.Goals as goal
 use Rattle.adf_build.proofs.counting.count_blocks.Goals.{in-Some, in_default}
 

@@ -4,7 +4,7 @@ use Rattle.adf_fields.specs.Words.{with_block}
 use Rattle.adf_volume.specs.Image.{chunk}
 use Rattle.adf_build.specs.Laid.{data_bytes, given_or_none}
 use Rattle.adf_build.specs.Plan.{given}
-use Rattle.adf_build.proofs.Steps.{datas_step, drop_min}
+use Rattle.adf_build.proofs.WriteSteps.{datas_step, drop_min}
 use Rattle.adf_build.proofs.datas.write_datas.Goals as goal
 
 pub loop-j-preserved : goal.loop-j-preserved

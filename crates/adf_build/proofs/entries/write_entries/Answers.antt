@@ -9,7 +9,7 @@ use Rattle.adf_build.specs.Plan.{entry_blocks}
 use Rattle.adf_build.specs.Building.{entry_parts}
 use Rattle.adf_build.specs.declared.heads.Spot.{Spot}
 use Rattle.adf_build.proofs.Order.{slots_are}
-use Rattle.adf_build.proofs.Steps.{entry_step, room_step, sound_step}
+use Rattle.adf_build.proofs.WriteSteps.{entry_step, room_step, sound_step}
 use Rattle.adf_build.proofs.entries.write_entries.Goals as goal
 
 pub loop-i-preserved : goal.loop-i-preserved

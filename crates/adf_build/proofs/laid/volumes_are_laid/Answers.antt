@@ -2,7 +2,7 @@ use Rattle.std.proofs.Common.{◌≡◌, ◌≤◌, ◌-◌, ap, subst, sym, tru
 use Rattle.adf_blocks.specs.Sizes.{is_allowed}
 use Rattle.adf_build.specs.Laid.{volume}
 use Rattle.adf_build.specs.Plan.{blocks_needed}
-use Rattle.adf_build.proofs.Holding.{volume_blocks}
+use Rattle.adf_build.proofs.LaidParts.{volume_blocks}
 use Rattle.adf_build.proofs.laid.volumes_are_laid.Goals as goal
 
 pub returns-clause-laid : goal.returns-clause-laid

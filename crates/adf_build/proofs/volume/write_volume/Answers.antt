@@ -10,7 +10,7 @@ use Rattle.adf_build.specs.Laid.{boot_bytes, entries_parts, node_blocks, map_ext
 use Rattle.adf_build.specs.Plan.{entries_blocks}
 use Rattle.adf_build.proofs.Lays.{lay-append}
 use Rattle.adf_build.proofs.Order.{slots_are, tree_rises}
-use Rattle.adf_build.proofs.Steps.{nodes_length}
+use Rattle.adf_build.proofs.WriteSteps.{nodes_length}
 use Rattle.adf_build.proofs.volume.write_volume.Goals as goal
 
 pub prove-unreachable-requires : goal.prove-unreachable-requires

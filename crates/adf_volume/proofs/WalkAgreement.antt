@@ -1,5 +1,6 @@
 -- Agreement: where a tree and a layout fit, each walk goes along them.
-use Rattle.std.proofs.Common.{◌≡◌, ℕ, zero, suc, List, inl, inr, ◌+◌, ◌*◌, ◌/◌, ◌<◌, ◌≤◌, ◌≢◌, length, refl, sym, ap, subst, ◌∙◌, arith, map, Bool, true, false, cond}
+use Rattle.std.proofs.Common.{◌≡◌, ℕ, zero, suc, List, inl, inr, ◌+◌, ◌*◌, ◌/◌, ◌<◌, ◌≤◌, ◌≢◌, length, refl, sym, ap, subst, ◌∙◌, arith, map, Bool, true}
+use Rattle.std.proofs.Common.{false, cond}
 use native.Mathlib.Decide.{dec_le}
 use Rattle.adf_volume.specs.Lists.{At}
 use Rattle.adf_volume.specs.Image.{root_of, name_of, DIR, FILE, word_in, map_exts_needed, kind_of, count, held, table_word}
@@ -12,38 +13,45 @@ use Rattle.adf_tree.specs.declared.entry.Body.{Body}
 use Rattle.adf_tree.specs.declared.entry.Entry.{Entry}
 use Rattle.adf_tree.specs.Tree.{Tree}
 use Rattle.adf_volume.specs.Layout.{EntryAt, chain_nodes, Layout, at_node, exts_of, datas_of}
-use Rattle.adf_volume.proofs.Ordered.{DirNode, ordered, is_dir}
+use Rattle.adf_volume.proofs.TreeOrder.{DirNode, ordered, is_dir}
 use Rattle.adf_tree.specs.declared.entry.Body.TheVariants.{Dir, File}
 use Rattle.adf_volume.specs.Fits.{Fits, FileFits, BodyFits, TableAt}
-use Rattle.adf_volume.specs.Walk.{Role, Before, Has, heads, DirAt, FileAt, MemberAt, NamesPage, data_count, Asks, Lacks, IsDue, ext_count, Enough, NewName, form_demands, node_block, member_block, next_data, NoCause, IsWalk}
+use Rattle.adf_volume.specs.Walk.{Role, Before, Has, heads, DirAt, FileAt, MemberAt, NamesPage, data_count, Asks, Lacks, IsDue, ext_count, Enough, NewName}
+use Rattle.adf_volume.specs.Walk.{form_demands, node_block, member_block, next_data, NoCause, IsWalk}
 use Rattle.adf_volume.specs.Walk.Role.{Root, Page, MapExt, Head, Ext, Data}
 use Rattle.adf_volume.specs.Walk.IsWalk.{start, step}
 use Rattle.adf_volume.specs.Parts.{Part}
 use Rattle.adf_volume.proofs.Images.{map_exts_high}
-use Rattle.adf_volume.proofs.Lists.{at_fun, at_below, at_some, at_before, at_map, at_unmap, spelled_first, spelled_next, spelled_word, spelled_link, all_append, at_index, index_past}
-use Rattle.adf_volume.proofs.Trees.{entry_at, entry_below, entry_some, place_at, one_place, sorted_places, chain_rises}
-use Rattle.adf_volume.proofs.Walks.{root_is, root_in, number_of, numbered, same_of, ext_below, asks_number, due_file, node_is, member_is, file_is, dir_is_node, head_key, is_there}
+use Rattle.adf_volume.proofs.Lists.{at_fun, at_below, at_some, at_before, at_map, at_unmap, spelled_first, spelled_next, spelled_word, spelled_link}
+use Rattle.adf_volume.proofs.Lists.{all_append, at_index, index_past}
+use Rattle.adf_volume.proofs.Chains.{entry_at, entry_below, entry_some, place_at, one_place, sorted_places, chain_rises}
+use Rattle.adf_volume.proofs.Walks.{root_is, root_in, number_of, numbered, same_of, ext_below, asks_number, due_file, node_is, member_is, file_is}
+use Rattle.adf_volume.proofs.Walks.{dir_is_node, head_key, is_there}
 use Rattle.adf_volume.proofs.Parts.{part_range, one_part}
 use Rattle.std.proofs.lemmas.Bool.{ltb-false, ltb-true}
 use Rattle.adf_volume.proofs.Places.{exts_below}
-use Rattle.adf_volume.proofs.Told.{dir_not_file}
+use Rattle.adf_volume.proofs.FormDemands.{dir_not_file}
 use Rattle.adf_tree.proofs.Kept.{slot_small}
 
 module _ (image : List ℕ) (t : Tree) (l : Layout) (fit : Fits image t l) where
   -- a header whose word 127 says directory is a directory's
-  pub dir_of : (n : ℕ) (e : Entry) (b : Body) → b ≡ e.body → BodyFits image t.kind l n (at_node image l n) b → word_in image (at_node image l n) 127 ≡ DIR → e.body ≡ Dir
+  pub dir_of : (n : ℕ) (e : Entry) (b : Body) → b ≡ e.body → BodyFits image t.kind l n (at_node image l n) b → word_in image (at_node image l n) 127 ≡ DIR
+      → e.body ≡ Dir
   dir_of n e Dir z f d = sym z
   dir_of n e (File bytes) z f d = absurd (dir_not_file image (at_node image l n) d f.0)
 
-  pub dir_word : (n : ℕ) (e : Entry) (b : Body) → b ≡ e.body → BodyFits image t.kind l n (at_node image l n) b → e.body ≡ Dir → word_in image (at_node image l n) 127 ≡ DIR
+  pub dir_word : (n : ℕ) (e : Entry) (b : Body) → b ≡ e.body → BodyFits image t.kind l n (at_node image l n) b → e.body ≡ Dir
+      → word_in image (at_node image l n) 127 ≡ DIR
   dir_word n e Dir z f d = f.0
   dir_word n e (File bytes) z f d = let k : File bytes ≡ Dir = z ∙ d in cc
 
-  pub file_of : (n : ℕ) (e : Entry) (b : Body) → b ≡ e.body → BodyFits image t.kind l n (at_node image l n) b → word_in image (at_node image l n) 127 ≡ FILE → (bytes : List ℕ) × (e.body ≡ File bytes) × (length bytes ≡ word_in image (at_node image l n) 81)
+  pub file_of : (n : ℕ) (e : Entry) (b : Body) → b ≡ e.body → BodyFits image t.kind l n (at_node image l n) b → word_in image (at_node image l n) 127 ≡ FILE
+      → (bytes : List ℕ) × (e.body ≡ File bytes) × (length bytes ≡ word_in image (at_node image l n) 81)
   file_of n e Dir z f d = absurd (dir_not_file image (at_node image l n) f.0 d)
   file_of n e (File bytes) z f d = (bytes, sym z, f.2)
 
-  pub no_exts : (n : ℕ) (e : Entry) (b : Body) (k x : ℕ) → b ≡ e.body → BodyFits image t.kind l n (at_node image l n) b → At (exts_of l n) k x → (bytes : List ℕ) × (e.body ≡ File bytes)
+  pub no_exts : (n : ℕ) (e : Entry) (b : Body) (k x : ℕ) → b ≡ e.body → BodyFits image t.kind l n (at_node image l n) b → At (exts_of l n) k x
+      → (bytes : List ℕ) × (e.body ≡ File bytes)
   no_exts n e Dir k x z f a = absurd (subst (λ xs. At xs k x) f.1 a)
   no_exts n e (File bytes) k x z f a = (bytes, sym z)
 
@@ -58,7 +66,8 @@ module _ (image : List ℕ) (t : Tree) (l : Layout) (fit : Fits image t l) where
         let d : word_in image (at_node image l (suc i)) 127 ≡ DIR = ap (λ b. word_in image b 127) q.1 ∙ h.1 in
         ((e.0, e.1, dir_of (suc i) e.0 e.0.body refl (fit.entries (suc i) e.0 e.1).body d), q.1)
 
-    pub file_agrees : (n a : ℕ) → FileAt image w n a → (e : Entry) × (bytes : List ℕ) × EntryAt t n e × (e.body ≡ File bytes) × (length bytes ≡ word_in image a 81) × (at_node image l n ≡ a)
+    pub file_agrees : (n a : ℕ) → FileAt image w n a
+        → (e : Entry) × (bytes : List ℕ) × EntryAt t n e × (e.body ≡ File bytes) × (length bytes ≡ word_in image a 81) × (at_node image l n ≡ a)
     file_agrees n a h =
         let k = h.0 in
         let q = ag (Head n k.0 k.1 k.2) a k.3 in
@@ -259,7 +268,8 @@ module _ (image : List ℕ) (t : Tree) (l : Layout) (fit : Fits image t l) where
     file_block n h a f = (file_agrees n h f).5
 
     -- a file's extension blocks are all there when its first data block is due
-    has_exts : (n d0 a i h : ℕ) → IsDue image w (Data n (suc d0)) a i → FileAt image w n h → (k : ℕ) → k < length (exts_of l n) → (b : ℕ) × Has w (Ext n (suc k)) b
+    has_exts : (n d0 a i h : ℕ) → IsDue image w (Data n (suc d0)) a i → FileAt image w n h → (k : ℕ) → k < length (exts_of l n)
+        → (b : ℕ) × Has w (Ext n (suc k)) b
     has_exts n d0 a i h d f zero u =
         let e = at_some (exts_of l n) 0 u in
         let g = is_file n 0 e.0 e.1 in
@@ -303,7 +313,8 @@ module _ (image : List ℕ) (t : Tree) (l : Layout) (fit : Fits image t l) where
     table_there n d0 a i h (suc m) d f u = has_exts n d0 a i h d f m (omega arith)
 
     -- what the table has for the next data block is the layout's next data block
-    next_agrees : (n k a i h : ℕ) (bytes : List ℕ) → IsDue image w (Data n (suc k)) a i → FileAt image w n h → FileFits image t l n (at_node image l n) bytes → count t.kind (length bytes) ≡ data_count image (node_block w n) →
+    next_agrees : (n k a i h : ℕ) (bytes : List ℕ) → IsDue image w (Data n (suc k)) a i → FileAt image w n h → FileFits image t l n (at_node image l n) bytes
+        → count t.kind (length bytes) ≡ data_count image (node_block w n) →
         (x : Bool) → nat_lt (suc k) (data_count image (node_block w n)) ≡ x → k < length (datas_of l n) →
         cond x (word_in image (member_block w n (suc k / 72)) (table_word (suc k))) 0 ≡ slice_index (datas_of l n) (suc k)
     next_agrees n k a i h bytes d f ff c true z u =
@@ -407,5 +418,6 @@ module _ (image : List ℕ) (t : Tree) (l : Layout) (fit : Fits image t l) where
   pub agreement : (w : List (Role × ℕ)) (r : Role) (b : ℕ) → IsWalk image w → Has w r b → Part image t l r b
   agreement w r b v h = agrees v r b h
 
-  pub due_is_part : (w : List (Role × ℕ)) (r : Role) (a i : ℕ) → IsWalk image w → IsDue image w r a i → Part image t l r (word_in image a i) × NoCause image w r a (word_in image a i)
+  pub due_is_part : (w : List (Role × ℕ)) (r : Role) (a i : ℕ) → IsWalk image w → IsDue image w r a i
+      → Part image t l r (word_in image a i) × NoCause image w r a (word_in image a i)
   due_is_part w r a i v d = (due_part w v (agrees v) r a i d, due_fine w v (agrees v) r a i d)

@@ -4,20 +4,22 @@ use native.Mathlib.Decide.{ℕ_discrete}
 use Rattle.adf_volume.specs.Image.{root_of}
 use Rattle.adf_blocks.specs.Sizes.{blocks}
 use Rattle.adf_volume.specs.Demands.{AllHold, boot_demands, root_demands}
-use Rattle.adf_volume.proofs.Ordered.{dir_node, is_tree_from}
+use Rattle.adf_volume.proofs.TreeOrder.{dir_node, is_tree_from}
 use Rattle.adf_volume.specs.Fits.{Fits, FileFits}
 use Rattle.adf_volume.specs.Walk.{Role, IsAbsent, IsFreeIn, bitmap_demands, IsWalk, IsWhole}
 use Rattle.adf_volume.specs.Walk.Role.{Page, MapExt}
 use Rattle.adf_volume.specs.Made.{tree_in, layout_in}
 use Rattle.adf_volume.specs.Parts.{owner_of}
-use Rattle.adf_volume.proofs.Kept.{kept, in_range}
-use Rattle.adf_volume.proofs.Made.{entries_length, places_length, page_has, has_page, has_map_ext}
-use Rattle.adf_volume.proofs.Sound.{chains_spelled, content_long, entry_fits, ext_names, file_at, file_fits, is_tree, map_ext_next, map_exts_length, pages_length, root_names}
-use Rattle.adf_volume.proofs.OwnedIn.{is_owned, owned_has, once}
+use Rattle.adf_volume.proofs.MemberFacts.{kept, in_range}
+use Rattle.adf_volume.proofs.WalkMembers.{entries_length, places_length, page_has, has_page, has_map_ext}
+use Rattle.adf_volume.proofs.WholeWalks.{chains_spelled, content_long, entry_fits, ext_names, file_at, file_fits, is_tree, map_ext_next, map_exts_length}
+use Rattle.adf_volume.proofs.WholeWalks.{pages_length, root_names}
+use Rattle.adf_volume.proofs.WalkOwners.{is_owned, owned_has, once}
 use Rattle.adf_volume.proofs.Sizes.{size_low}
 
 module _ (image : List ℕ) (w : List (Role × ℕ)) (v : IsWalk image w) (whole : IsWhole image w) (boots : AllHold (boot_demands image)) where
-  bitmap_at : (b0 n b : ℕ) → AllHold (bitmap_demands image w b0 n) → b0 ≤ b → b < b0 + n → (IsAbsent w b → IsFreeIn image w b) × (IsFreeIn image w b → IsAbsent w b)
+  bitmap_at : (b0 n b : ℕ) → AllHold (bitmap_demands image w b0 n) → b0 ≤ b → b < b0 + n
+      → (IsAbsent w b → IsFreeIn image w b) × (IsFreeIn image w b → IsAbsent w b)
   bitmap_at b0 zero b h lo hi = absurd (omega arith)
   bitmap_at b0 (suc n) b h lo hi =
       elim (ℕ_discrete b0 b) [

@@ -53,7 +53,8 @@ pub nodes_length : (nodes : List ℕ) (t : Tree) (n : ℕ) → nodes ≡ node_bl
 nodes_length nodes t n e = let l = ap length e in let h = heads_length n t.kind 0 t.entries in omega arith
 
 -- the blocks of an entry and of those after it
-pub room_step : (kind : Kind) (k j total : ℕ) (left rest : List Entry) (e : Entry) → left ≡ e ∷ rest → j ≡ k + entry_blocks kind e → k + entries_blocks kind left ≡ total
+pub room_step : (kind : Kind) (k j total : ℕ) (left rest : List Entry) (e : Entry) → left ≡ e ∷ rest → j ≡ k + entry_blocks kind e
+    → k + entries_blocks kind left ≡ total
     → j + entries_blocks kind rest ≡ total
 room_step kind k j total left rest e split skip inv =
     let s : entries_blocks kind left ≡ entry_blocks kind e + entries_blocks kind rest = ap (entries_blocks kind) split in

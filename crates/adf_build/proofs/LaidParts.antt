@@ -1,5 +1,6 @@
 -- A laid volume holds each of its parts.
-use Rattle.std.proofs.Common.{◌≡◌, ℕ, zero, suc, List, [], ◌∷◌, ◌++◌, inl, inr, ◌+◌, ◌-◌, ◌*◌, ◌^◌, ◌<◌, ◌≤◌, length, refl, sym, ap, subst, ◌∙◌, arith, true, append_assoc}
+use Rattle.std.proofs.Common.{◌≡◌, ℕ, zero, suc, List, [], ◌∷◌, ◌++◌, inl, inr, ◌+◌, ◌-◌, ◌*◌, ◌^◌, ◌<◌, ◌≤◌, length, refl, sym, ap, subst, ◌∙◌, arith, true}
+use Rattle.std.proofs.Common.{append_assoc}
 use Rattle.std.specs.Prelude.{slice_index, replicate, min}
 use Rattle.std.proofs.lemmas.List.{length-replicate}
 use Rattle.std.proofs.lemmas.List.FromFn.{length-map-range_with_len}
@@ -21,15 +22,17 @@ use Rattle.adf_volume.specs.Image.{map_exts_needed}
 use Rattle.adf_volume.specs.Layout.{nodes_from}
 use Rattle.adf_volume.proofs.Lists.{in_cases, at_below, at_index_or}
 use Rattle.adf_volume.proofs.Sizes.{size_low, size_high}
-use Rattle.adf_volume.proofs.Blocks.{Distinct, distinct-append}
+use Rattle.adf_volume.proofs.DistinctBlocks.{Distinct, distinct-append}
 use Rattle.adf_build.specs.Plan.{reserved, entry_blocks, entries_blocks, blocks_needed, given, run, row}
 use Rattle.adf_build.specs.Bits.{bits_from, is_free_bit, page_words}
 use Rattle.adf_build.specs.Lay.{AreBlocks, NoneTwice, Holds, numbers_of}
-use Rattle.adf_build.specs.Laid.{first_block, entries_parts, heads_from, node_blocks, page_parts, map_ext_parts, map_ext_or_none, listed_pages, boot_bytes, root_laid, parts, volume, IsSound}
-use Rattle.adf_build.proofs.GivenRuns.{given_from, given_below, given_apart, reserved_below, in_run, in_row, distinct_run, distinct_row, length_row, row-append}
+use Rattle.adf_build.specs.Laid.{first_block, entries_parts, heads_from, node_blocks, page_parts, map_ext_parts, map_ext_or_none, listed_pages, boot_bytes}
+use Rattle.adf_build.specs.Laid.{root_laid, parts, volume, IsSound}
+use Rattle.adf_build.proofs.GivenRuns.{given_from, given_below, given_apart, reserved_below, in_run, in_row, distinct_run, distinct_row, length_row}
+use Rattle.adf_build.proofs.GivenRuns.{row-append}
 use Rattle.adf_build.proofs.Lays.{length-lay}
-use Rattle.adf_build.proofs.Written.{none_twice, laid_holds, holds_left, holds_right, numbers_of-append, entries_numbers}
-use Rattle.adf_build.proofs.Shapes.{are-append, are_entries}
+use Rattle.adf_build.proofs.WrittenParts.{none_twice, laid_holds, holds_left, holds_right, numbers_of-append, entries_numbers}
+use Rattle.adf_build.proofs.WholeBlocks.{are-append, are_entries}
 
 -- the reserved blocks are the pages and the bitmap extension blocks
 pub reserved_parts : (n : ℕ) → pages_needed n + map_exts_needed (pages_needed n) ≡ reserved n
@@ -84,7 +87,8 @@ module _ (t : Tree) (n : ℕ) (sound : IsSound t) (allowed : is_allowed n ≡ tr
   pub below : (k : ℕ) → k < entries_blocks t.kind t.entries → given n k < n
   below k l = let four : 4 ≤ n = size_low n allowed in given_below n k four (omega arith)
 
-  heads_near : (k : ℕ) (es : List Entry) → k + entries_blocks t.kind es ≤ entries_blocks t.kind t.entries → (j : ℕ) → slice_index (heads_from n t.kind k es) j < 2 ^ 32
+  heads_near : (k : ℕ) (es : List Entry) → k + entries_blocks t.kind es ≤ entries_blocks t.kind t.entries → (j : ℕ)
+      → slice_index (heads_from n t.kind k es) j < 2 ^ 32
   heads_near k [] l j = omega arith
   heads_near k (e ∷ es) l zero = let b = below k (omega arith) in let high = size_high n allowed in omega arith
   heads_near k (e ∷ es) l (suc j) = heads_near (k + entry_blocks t.kind e) es (omega arith) j

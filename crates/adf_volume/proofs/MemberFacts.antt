@@ -7,7 +7,8 @@ use Rattle.adf_volume.specs.Image.{word_in, root_of, kind_of, held, table_word, 
 use Rattle.adf_blocks.specs.Sizes.{blocks, pages_needed}
 use Rattle.adf_tree.specs.Texts.{uppers}
 use Rattle.adf_volume.specs.Demands.{demand, AllHold, page_demands, head_demands, ext_demands, data_demands}
-use Rattle.adf_volume.specs.Walk.{Role, second, Has, DirAt, FileAt, MemberAt, NamesPage, data_count, Asks, IsDue, ext_count_of, ext_count, node_block, member_block, next_data, form_demands, NewName, NoCause, IsWalk}
+use Rattle.adf_volume.specs.Walk.{Role, second, Has, DirAt, FileAt, MemberAt, NamesPage, data_count, Asks, IsDue, ext_count_of, ext_count, node_block}
+use Rattle.adf_volume.specs.Walk.{member_block, next_data, form_demands, NewName, NoCause, IsWalk}
 use Rattle.adf_volume.specs.Walk.Role.{Root, Page, MapExt, Head, Ext, Data}
 use Rattle.adf_volume.specs.Walk.IsWalk.{start, step}
 use Rattle.adf_volume.proofs.Lists.{all_split}
@@ -80,7 +81,8 @@ module _ (image : List ℕ) where
       (h.0, file_up w x n h.0 h.1, h.2, omega arith, (h.4.0, member_up w x n (k / 72) h.4.0 h.4.1, h.4.2), (h.5.0, next_up w x n (suc k) h.0 h.5.0 h.5.1, h.5.2))
 
   -- a header that is asked for has its directory
-  asks_dir : {w : List (Role × ℕ)} → ((r : Role) (b : ℕ) → Has w r b → Kept image w r b) → (n p s j a i : ℕ) → Asks image w (Head n p s j) a i → (s < 72) × ((c : ℕ) × DirAt image w p c)
+  asks_dir : {w : List (Role × ℕ)} → ((r : Role) (b : ℕ) → Has w r b → Kept image w r b) → (n p s j a i : ℕ) → Asks image w (Head n p s j) a i
+      → (s < 72) × ((c : ℕ) × DirAt image w p c)
   asks_dir old n p s zero a i h = (h.1, (a, h.2))
   asks_dir old n p s (suc j) a i h = let k = old (Head h.1.0 p s j) a h.1.1 in (k.0, (k.2.0, k.2.1))
 
@@ -90,7 +92,8 @@ module _ (image : List ℕ) where
     there n (suc m) a f u = ext_counted image v n m (omega arith)
 
     -- a file whose data block is due has enough extension blocks
-    pub enough : (n k a i b h : ℕ) → IsDue image w (Data n (suc k)) a i → NoCause image w (Data n (suc k)) a b → FileAt image w n h → k < data_count image h → data_count image h ≤ 72 * suc (ext_count w n)
+    pub enough : (n k a i b h : ℕ) → IsDue image w (Data n (suc k)) a i → NoCause image w (Data n (suc k)) a b → FileAt image w n h → k < data_count image h
+        → data_count image h ≤ 72 * suc (ext_count w n)
     enough n zero a i b h d g f u = g.0 refl h f
     enough n (suc k) a i b h d g f u =
         let x = is_there image w (Data n 1) (Data n (suc (suc k))) a i h 77 d ((h, f, omega arith), f, refl) (omega arith, (λ z. omega arith), (λ z z'. omega arith)) (omega arith) in
@@ -110,7 +113,8 @@ module _ (image : List ℕ) where
     ext_named n zero a i b h e = (a, h.0, ap (word_in image a) (sym h.1) ∙ e)
     ext_named n (suc k) a i b h e = (a, h.0, ap (word_in image a) (sym h.1) ∙ e)
 
-    next_is : (n k h : ℕ) → FileAt image w n h → node_block w n ≡ h → data_count image h ≤ 72 * suc (ext_count w n) → IsNext image w n k h (next_data image w n k)
+    next_is : (n k h : ℕ) → FileAt image w n h → node_block w n ≡ h → data_count image h ≤ 72 * suc (ext_count w n)
+        → IsNext image w n k h (next_data image w n k)
     next_is n k h f z en =
         record {
           inner = (λ u.
@@ -180,7 +184,8 @@ module _ (image : List ℕ) where
   map_ext_low w (suc j) b v h = (kept v (MapExt (suc j)) b h).0
 
   -- equal names do not stand in one chain
-  pub new_names : {w : List (Role × ℕ)} → IsWalk image w → (n m p s i j b c : ℕ) → Has w (Head n p s i) b → Has w (Head m p s j) c → n ≢ m → uppers (name_of image b) ≢ uppers (name_of image c)
+  pub new_names : {w : List (Role × ℕ)} → IsWalk image w → (n m p s i j b c : ℕ) → Has w (Head n p s i) b → Has w (Head m p s j) c → n ≢ m
+      → uppers (name_of image b) ≢ uppers (name_of image c)
   new_names start n m p s i j b c (inl e) h ne z = let x : second Root ≡ second (Head n p s i) = ap second e.0 in absurd (omega arith)
   new_names start n m p s i j b c (inr e) h ne z = e
   new_names (step {w = w} {r = q} {b = b'} {a = a} v d e g) n m p s i j b c (inl h) (inl k) ne z = absurd (let x : Head n p s i ≡ Head m p s j = sym h.0 ∙ k.0 in ne (same_number n m p s i j x))

@@ -1,5 +1,6 @@
 -- The tree and the layout of a walk list its members.
-use Rattle.std.proofs.Common.{◌≡◌, ℕ, zero, suc, List, [], ◌∷◌, ◌++◌, inl, inr, ◌+◌, ◌*◌, ◌/◌, ◌<◌, ◌≤◌, length, refl, sym, ap, subst, ◌∙◌, arith, Bool, true, false, cond, eq-eqb, append-nil}
+use Rattle.std.proofs.Common.{◌≡◌, ℕ, zero, suc, List, [], ◌∷◌, ◌++◌, inl, inr, ◌+◌, ◌*◌, ◌/◌, ◌<◌, ◌≤◌, length, refl, sym, ap, subst, ◌∙◌, arith, Bool, true}
+use Rattle.std.proofs.Common.{false, cond, eq-eqb, append-nil}
 use Rattle.std.specs.Prelude.{◌==◌, ◌&&◌}
 use Rattle.std.proofs.lemmas.Bool.{eqb-true}
 use native.Mathlib.Decide.{dec_lt}
@@ -12,12 +13,13 @@ use Rattle.adf_volume.specs.Layout.{nodes_from}
 use Rattle.adf_volume.specs.Walk.{Role, second, Has, head_count, heads, data_count, NamesPage, Asks, IsDue, ext_count_of, ext_count, NoCause, IsWalk}
 use Rattle.adf_volume.specs.Walk.Role.{Root, Page, MapExt, Head, Ext, Data}
 use Rattle.adf_volume.specs.Walk.IsWalk.{start, step}
-use Rattle.adf_volume.specs.Made.{picked, is_page, pages_in, is_map_ext, map_exts_in, is_ext_of, exts_in, push_ext, is_data_of, datas_in, entry_in, place_in, push_head, of_heads, entries_in, places_in}
-use Rattle.adf_volume.proofs.Told.{head_slot_is}
+use Rattle.adf_volume.specs.Made.{picked, is_page, pages_in, is_map_ext, map_exts_in, is_ext_of, exts_in, push_ext, is_data_of, datas_in, entry_in, place_in}
+use Rattle.adf_volume.specs.Made.{push_head, of_heads, entries_in, places_in}
+use Rattle.adf_volume.proofs.FormDemands.{head_slot_is}
 use Rattle.adf_volume.proofs.Lists.{at_fun, at_below, at_some, at_old, at_new, at_snoc, snoc_length}
-use Rattle.adf_volume.proofs.Trees.{chain_snoc}
+use Rattle.adf_volume.proofs.Chains.{chain_snoc}
 use Rattle.adf_volume.proofs.Walks.{numbered, asks_number, ext_counted, next_ext, page_word, is_there}
-use Rattle.adf_volume.proofs.Kept.{kept, there, enough, map_ext_down}
+use Rattle.adf_volume.proofs.MemberFacts.{kept, there, enough, map_ext_down}
 use Rattle.adf_volume.proofs.Comparisons.{both_equal, equal_both}
 
 -- the blocks that a test picks are those of one kind of role, by their numbers
@@ -85,14 +87,16 @@ module _ (image : List ℕ) (full : List (Role × ℕ)) where
   pub places_length : (w : List (Role × ℕ)) → length (places_in full w) ≡ heads w
   places_length w = heads_length (λ n p b. place_in full n b) w
 
-  pub entry_has : {w : List (Role × ℕ)} → IsWalk image w → (i p s j b : ℕ) → Has w (Head (suc i) p s j) b → At (entries_in image full w) i (entry_in image full (suc i) p b)
+  pub entry_has : {w : List (Role × ℕ)} → IsWalk image w → (i p s j b : ℕ) → Has w (Head (suc i) p s j) b
+      → At (entries_in image full w) i (entry_in image full (suc i) p b)
   entry_has v i p s j b h = head_has (entry_in image full) image v i p s j b h
 
   pub place_has : {w : List (Role × ℕ)} → IsWalk image w → (i p s j b : ℕ) → Has w (Head (suc i) p s j) b → At (places_in full w) i (place_in full (suc i) b)
   place_has v i p s j b h = head_has (λ n p b. place_in full n b) image v i p s j b h
 
   -- each entry is a header's
-  pub has_entry : (w : List (Role × ℕ)) → IsWalk image w → (i : ℕ) (e : Entry) → At (entries_in image full w) i e → (p s j b : ℕ) × Has w (Head (suc i) p s j) b × (e ≡ entry_in image full (suc i) p b)
+  pub has_entry : (w : List (Role × ℕ)) → IsWalk image w → (i : ℕ) (e : Entry) → At (entries_in image full w) i e
+      → (p s j b : ℕ) × Has w (Head (suc i) p s j) b × (e ≡ entry_in image full (suc i) p b)
   has_entry w v i e h =
       let u : i < length (entries_in image full w) = at_below (entries_in image full w) i e h in
       let l : length (entries_in image full w) ≡ heads w = entries_length w in
@@ -132,7 +136,8 @@ module _ (image : List ℕ) where
   has_ext w v n k b h = (exts n v).from k b h
 
   -- the data blocks
-  next_data_block : (w : List (Role × ℕ)) → (n : ℕ) → IsWalk image w → Lists (is_data_of n) (λ k. Data n (suc k)) w → (k a i b : ℕ) → IsDue image w (Data n (suc k)) a i → NoCause image w (Data n (suc k)) a b → k ≡ length (datas_in w n)
+  next_data_block : (w : List (Role × ℕ)) → (n : ℕ) → IsWalk image w → Lists (is_data_of n) (λ k. Data n (suc k)) w → (k a i b : ℕ)
+      → IsDue image w (Data n (suc k)) a i → NoCause image w (Data n (suc k)) a b → k ≡ length (datas_in w n)
   next_data_block w n v ih k a i b d g =
       elim (dec_lt k (length (datas_in w n))) [
         | yes u ↦
@@ -163,7 +168,8 @@ module _ (image : List ℕ) where
       (λ t. let x = data_only n q t in
       x.1 ∙ ap (Data n) (number x.0 (datas n v) (subst (λ r. IsDue image w r a i) x.1 d) (subst (λ r. NoCause image w r a c) x.1 g)))
     where
-      number : (m : ℕ) → Lists (is_data_of n) (λ k. Data n (suc k)) w → IsDue image w (Data n m) a i → NoCause image w (Data n m) a c → m ≡ suc (length (datas_in w n))
+      number : (m : ℕ) → Lists (is_data_of n) (λ k. Data n (suc k)) w → IsDue image w (Data n m) a i → NoCause image w (Data n m) a c
+          → m ≡ suc (length (datas_in w n))
       number zero old d g = absurd d.asked
       number (suc k) old d g = ap suc (next_data_block w n v old k a i c d g)
 
@@ -283,13 +289,15 @@ module _ (image : List ℕ) where
         chain_snoc 1 (entries_in image full w) (entry_in image full n p c) q u
         ∙ ap (λ m. chain_in w q u ++ cond ((p == q) && (slot_of (name_of image c) == u)) (m ∷ []) []) y
 
-    chain_old : (w : List (Role × ℕ)) (r : Role) (c n p s j : ℕ) → ((m q u k : ℕ) → r ≡ Head m q u k → m ≡ suc (heads w)) → At (chain_in w p s) j n → At (nodes_from 1 (push_head (entry_in image full) r c (entries_in image full w)) p s) j n
+    chain_old : (w : List (Role × ℕ)) (r : Role) (c n p s j : ℕ) → ((m q u k : ℕ) → r ≡ Head m q u k → m ≡ suc (heads w)) → At (chain_in w p s) j n
+        → At (nodes_from 1 (push_head (entry_in image full) r c (entries_in image full w)) p s) j n
     chain_old w (Head m q u k) c n p s j num h =
         subst (λ xs. At xs j n) (sym (chain_head w m q u k c p s (num m q u k refl)))
         (at_old (chain_in w p s) (cond ((q == p) && (slot_of (name_of image c) == s)) (m ∷ []) []) j n h)
     chain_old w _ c n p s j num h = h
 
-    chain_split : (w : List (Role × ℕ)) (r : Role) (c n p s j : ℕ) → ((m q u k : ℕ) → r ≡ Head m q u k → (m ≡ suc (heads w)) × (slot_of (name_of image c) ≡ u) × (k ≡ length (chain_in w q u))) →
+    chain_split : (w : List (Role × ℕ)) (r : Role) (c n p s j : ℕ)
+        → ((m q u k : ℕ) → r ≡ Head m q u k → (m ≡ suc (heads w)) × (slot_of (name_of image c) ≡ u) × (k ≡ length (chain_in w q u))) →
         ((n p s j : ℕ) → At (chain_in w p s) j n → (b : ℕ) × Has w (Head n p s j) b) →
         At (nodes_from 1 (push_head (entry_in image full) r c (entries_in image full w)) p s) j n → (b : ℕ) × Has ((r, c) ∷ w) (Head n p s j) b
     chain_split w (Head m q u k) c n p s j num ih h =
@@ -299,7 +307,8 @@ module _ (image : List ℕ) where
         old : At (chain_in w p s) j n → (b : ℕ) × Has ((Head m q u k, c) ∷ w) (Head n p s j) b
         old y = let x = ih n p s j y in (x.0, inr x.1)
 
-        go : (t : Bool) → ((q == p) && (slot_of (name_of image c) == s)) ≡ t → At (chain_in w p s ++ cond t (m ∷ []) []) j n → (b : ℕ) × Has ((Head m q u k, c) ∷ w) (Head n p s j) b
+        go : (t : Bool) → ((q == p) && (slot_of (name_of image c) == s)) ≡ t → At (chain_in w p s ++ cond t (m ∷ []) []) j n
+            → (b : ℕ) × Has ((Head m q u k, c) ∷ w) (Head n p s j) b
         go true z y =
             let nm = num m q u k refl in
             let e = both_equal q p (slot_of (name_of image c)) s z in
@@ -347,5 +356,6 @@ module _ (image : List ℕ) where
     pub chain_has : (w : List (Role × ℕ)) → IsWalk image w → (n p s j b : ℕ) → Has w (Head n p s j) b → At (nodes_from 1 (entries_in image full w) p s) j n
     chain_has w v n p s j b h = (chains v).to n p s j b h
 
-    pub has_chain : (w : List (Role × ℕ)) → IsWalk image w → (n p s j : ℕ) → At (nodes_from 1 (entries_in image full w) p s) j n → (b : ℕ) × Has w (Head n p s j) b
+    pub has_chain : (w : List (Role × ℕ)) → IsWalk image w → (n p s j : ℕ) → At (nodes_from 1 (entries_in image full w) p s) j n
+        → (b : ℕ) × Has w (Head n p s j) b
     has_chain w v n p s j h = (chains v).from n p s j h

@@ -15,8 +15,8 @@ use Rattle.adf_volume.specs.Walk.FirstFault.{at_boot, at_due, at_bitmap}
 use Rattle.adf_volume.specs.Parts.{owner_of}
 use Rattle.adf_volume.proofs.Lists.{all_append, fails_not_all}
 use Rattle.adf_volume.proofs.Parts.{part_owned, owned_part}
-use Rattle.adf_volume.proofs.Agree.{agreement, due_is_part}
-use Rattle.adf_volume.proofs.Whole.{part_walked}
+use Rattle.adf_volume.proofs.WalkAgreement.{agreement, due_is_part}
+use Rattle.adf_volume.proofs.WalkCompleteness.{part_walked}
 use Rattle.adf_volume.proofs.Sizes.{size_low}
 
 module _ (image : List ℕ) (t : Tree) (l : Layout) (fit : Fits image t l) (w : List (Role × ℕ)) (v : IsWalk image w) (whole : IsWhole image w) where

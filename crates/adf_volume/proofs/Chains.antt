@@ -1,5 +1,6 @@
 -- Chains of a tree.
-use Rattle.std.proofs.Common.{◌≡◌, ℕ, zero, suc, List, [], ◌∷◌, ◌++◌, ◌⊎◌, inl, inr, ◌+◌, ◌<◌, ◌≤◌, length, refl, sym, ap, subst, ◌∙◌, arith, Bool, true, false, cond}
+use Rattle.std.proofs.Common.{◌≡◌, ℕ, zero, suc, List, [], ◌∷◌, ◌++◌, ◌⊎◌, inl, inr, ◌+◌, ◌<◌, ◌≤◌, length, refl, sym, ap, subst, ◌∙◌, arith, Bool, true}
+use Rattle.std.proofs.Common.{false, cond}
 use Rattle.std.specs.Prelude.{if◌then◌else◌, Some, None, ◌↔◌, ◌-◌}
 use Rattle.std.specs.List.{slice_get}
 use Rattle.std.proofs.Common.{map, append_assoc}
@@ -13,7 +14,7 @@ use Rattle.adf_fields.specs.Hash.{slot_of}
 use Rattle.adf_tree.specs.declared.entry.Entry.{Entry}
 use Rattle.adf_tree.specs.Tree.{Tree}
 use Rattle.adf_volume.specs.Layout.{EntryAt, nodes_from, chain_nodes}
-use Rattle.adf_volume.proofs.Ordered.{Ordered}
+use Rattle.adf_volume.proofs.TreeOrder.{Ordered}
 use Rattle.adf_volume.specs.Walk.{Before}
 use Rattle.adf_volume.specs.Walk.Role.{Head}
 use Rattle.adf_volume.proofs.Lists.{at_fun, at_below, at_some}
@@ -25,7 +26,8 @@ at_kept true k rest zero n h = inl (refl, h)
 at_kept true k rest (suc j) n h = inr (j, h)
 at_kept false k rest j n h = inr (j, h)
 
-pub at_chain : (k : ℕ) (es : List Entry) (p s j n : ℕ) → At (nodes_from k es p s) j n → (i : ℕ) × (e : Entry) × At es i e × (n ≡ k + i) × (e.parent ≡ p) × (slot_of e.name ≡ s)
+pub at_chain : (k : ℕ) (es : List Entry) (p s j n : ℕ) → At (nodes_from k es p s) j n
+    → (i : ℕ) × (e : Entry) × At es i e × (n ≡ k + i) × (e.parent ≡ p) × (slot_of e.name ≡ s)
 at_chain k [] p s j n h = absurd h
 at_chain k (e ∷ es) p s j n h =
     elim (at_kept ((e.parent == p) && (slot_of e.name == s)) k (nodes_from (suc k) es p s) j n h) [
@@ -50,7 +52,8 @@ chain_at k (f ∷ es) (suc i) e h =
     put false k rest j n h = (j, h)
 
 -- a chain rises
-rises_kept : (t : Bool) (k : ℕ) (rest : List ℕ) (i j n m : ℕ) → ((l x : ℕ) → At rest l x → k < x) → ((i j n m : ℕ) → At rest i n → At rest j m → i < j → n < m) → At (cond t (k ∷ rest) rest) i n → At (cond t (k ∷ rest) rest) j m → i < j → n < m
+rises_kept : (t : Bool) (k : ℕ) (rest : List ℕ) (i j n m : ℕ) → ((l x : ℕ) → At rest l x → k < x)
+    → ((i j n m : ℕ) → At rest i n → At rest j m → i < j → n < m) → At (cond t (k ∷ rest) rest) i n → At (cond t (k ∷ rest) rest) j m → i < j → n < m
 rises_kept true k rest zero zero n m low ih a b l = absurd (omega arith)
 rises_kept true k rest zero (suc j) n m low ih a b l = let x : k < m = low j m b in let y : k ≡ n = a in omega arith
 rises_kept true k rest (suc i) zero n m low ih a b l = absurd (omega arith)
@@ -110,7 +113,8 @@ one_place t p s i q u j n a b =
     (x, y, place_fun t p s i j n a (subst (λ q. At (chain_nodes t q s) j n) (sym x) (subst (λ u. At (chain_nodes t q u) j n) (sym y) b)))
 
 -- a node that comes later stands later
-pub sorted_places : (t : Tree) → Ordered t → (p s i q u j n m a b : ℕ) → At (chain_nodes t p s) i n → At (chain_nodes t q u) j m → n < m → Before (Head a p s i) (Head b q u j)
+pub sorted_places : (t : Tree) → Ordered t → (p s i q u j n m a b : ℕ) → At (chain_nodes t p s) i n → At (chain_nodes t q u) j m → n < m
+    → Before (Head a p s i) (Head b q u j)
 sorted_places t v p s i q u j n m a' b' a b l =
     let e = entry_at t p s i n a in
     let f = entry_at t q u j m b in
@@ -126,7 +130,8 @@ sorted_places t v p s i q u j n m a' b' a b l =
     ((omega arith), (λ z. let k : s ≤ u = h2 (omega arith) in omega arith), (λ z y. h3 (omega arith) (omega arith)))
 
 -- one more entry
-pub chain_snoc : (k : ℕ) (es : List Entry) (e : Entry) (p s : ℕ) → nodes_from k (es ++ e ∷ []) p s ≡ nodes_from k es p s ++ cond ((e.parent == p) && (slot_of e.name == s)) ((k + length es) ∷ []) []
+pub chain_snoc : (k : ℕ) (es : List Entry) (e : Entry) (p s : ℕ)
+    → nodes_from k (es ++ e ∷ []) p s ≡ nodes_from k es p s ++ cond ((e.parent == p) && (slot_of e.name == s)) ((k + length es) ∷ []) []
 chain_snoc k [] e p s = let z : k ≡ k + 0 = omega arith in ap (λ m. cond ((e.parent == p) && (slot_of e.name == s)) (m ∷ []) []) z
 chain_snoc k (f ∷ es) e p s =
     let z : suc k + length es ≡ k + suc (length es) = omega arith in
@@ -163,7 +168,8 @@ nodes_chain pre (e ∷ es) p s =
         at [] = refl
         at (x ∷ pre) = at pre
 
-    put : (t : Bool) → entry (pre ++ e ∷ es) (suc (length pre)) ≡ Some e → map (λ n. entry (pre ++ e ∷ es) n) (nodes_from (suc (suc (length pre))) es p s) ≡ map Some (chain es p s) →
+    put : (t : Bool) → entry (pre ++ e ∷ es) (suc (length pre)) ≡ Some e
+        → map (λ n. entry (pre ++ e ∷ es) n) (nodes_from (suc (suc (length pre))) es p s) ≡ map Some (chain es p s) →
         map (λ n. entry (pre ++ e ∷ es) n) (cond t (suc (length pre) ∷ nodes_from (suc (suc (length pre))) es p s) (nodes_from (suc (suc (length pre))) es p s)) ≡ map Some (cond t (e ∷ chain es p s) (chain es p s))
     put true h r = λ i. h i ∷ r i
     put false h r = r

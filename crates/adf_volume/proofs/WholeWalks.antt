@@ -1,5 +1,6 @@
 -- What a whole walk tells: its tree, its pages, its chains and its files.
-use Rattle.std.proofs.Common.{◌≡◌, ℕ, zero, suc, List, inl, inr, ◌+◌, ◌*◌, ◌/◌, ◌<◌, ◌≤◌, length, refl, sym, ap, subst, ◌∙◌, arith, Bool, true, false, cond, map, eq-eqb}
+use Rattle.std.proofs.Common.{◌≡◌, ℕ, zero, suc, List, inl, inr, ◌+◌, ◌*◌, ◌/◌, ◌<◌, ◌≤◌, length, refl, sym, ap, subst, ◌∙◌, arith, Bool, true, false, cond}
+use Rattle.std.proofs.Common.{map, eq-eqb}
 use Rattle.std.specs.Prelude.{◌==◌, slice_index}
 use Rattle.std.proofs.lemmas.Bool.{eqb-true}
 use native.Mathlib.Decide.{dec_lt, ℕ_discrete}
@@ -11,19 +12,20 @@ use Rattle.adf_tree.specs.Texts.{uppers}
 use Rattle.adf_volume.specs.Demands.{AllHold, boot_demands, head_demands, ext_demands, data_demands}
 use Rattle.adf_tree.specs.declared.entry.Entry.{Entry}
 use Rattle.adf_volume.specs.Layout.{EntryAt, nodes_from, chain_nodes, at_node, exts_of, datas_of}
-use Rattle.adf_volume.proofs.Ordered.{Ordered, DirNode}
+use Rattle.adf_volume.proofs.TreeOrder.{Ordered, DirNode}
 use Rattle.adf_tree.specs.declared.entry.Body.TheVariants.{Dir, File}
 use Rattle.adf_volume.specs.Fits.{EntryFits, FileFits, BodyFits, TableAt}
 use Rattle.adf_volume.specs.Walk.{Role, Before, Has, heads, NodeAt, DirAt, FileAt, MemberAt, NamesPage, data_count, ext_count, IsWalk, IsWhole}
 use Rattle.adf_volume.specs.Walk.Role.{Page, MapExt, Head, Ext, Data}
 use Rattle.adf_volume.specs.Made.{pages_in, map_exts_in, exts_in, datas_in, body_in, entry_in, place_in, entries_in, places_in, tree_in, layout_in}
-use Rattle.adf_volume.proofs.Told.{head_type, dir_not_file}
+use Rattle.adf_volume.proofs.FormDemands.{head_type, dir_not_file}
 use Rattle.adf_volume.proofs.Images.{content_length, map_exts_high, map_exts_low}
 use Rattle.adf_volume.proofs.Lists.{at_fun, at_below, at_some, at_unmap, spelled_from, no_length, at_index, index_past}
 use Rattle.adf_volume.proofs.Walks.{root_is, root_in, number_of, one_head, one_block, ext_file, asked_block, asked_header, page_word}
-use Rattle.adf_volume.proofs.Rising.{parent_below, in_order}
-use Rattle.adf_volume.proofs.Kept.{kept, there, IsNext, new_names, in_range, map_ext_low}
-use Rattle.adf_volume.proofs.Made.{entry_has, place_has, has_entry, exts_length, ext_has, has_ext, data_has, has_data, page_has, has_page, map_ext_has, has_map_ext, slot_is, chain_has, has_chain}
+use Rattle.adf_volume.proofs.WalkOrder.{parent_below, in_order}
+use Rattle.adf_volume.proofs.MemberFacts.{kept, there, IsNext, new_names, in_range, map_ext_low}
+use Rattle.adf_volume.proofs.WalkMembers.{entry_has, place_has, has_entry, exts_length, ext_has, has_ext, data_has, has_data, page_has, has_page, map_ext_has}
+use Rattle.adf_volume.proofs.WalkMembers.{has_map_ext, slot_is, chain_has, has_chain}
 use Rattle.adf_volume.proofs.Places.{place_parts}
 use Rattle.std.proofs.lemmas.List.{length-map}
 use Rattle.adf_volume.proofs.Sizes.{size_low}
@@ -33,12 +35,14 @@ body_dir : (image : List ℕ) (w : List (Role × ℕ)) (n b : ℕ) (x : Bool) �
 body_dir image w n b true h = refl
 body_dir image w n b false h = cc
 
-body_file : (image : List ℕ) (w : List (Role × ℕ)) (n b : ℕ) (bytes : List ℕ) (x : Bool) → cond x Dir (File (content image (kind_of image) b (datas_in w n))) ≡ File bytes → (x ≡ false) × (bytes ≡ content image (kind_of image) b (datas_in w n))
+body_file : (image : List ℕ) (w : List (Role × ℕ)) (n b : ℕ) (bytes : List ℕ) (x : Bool)
+    → cond x Dir (File (content image (kind_of image) b (datas_in w n))) ≡ File bytes → (x ≡ false) × (bytes ≡ content image (kind_of image) b (datas_in w n))
 body_file image w n b bytes true h = cc
 body_file image w n b bytes false h = let e : bytes ≡ content image (kind_of image) b (datas_in w n) = cc in (refl, e)
 
 -- a header that is no directory is a file
-head_kind : (image : List ℕ) (b c s : ℕ) → AllHold (head_demands image (kind_of image) b c s) → (word_in image b 127 == DIR) ≡ false → word_in image b 127 ≡ FILE
+head_kind : (image : List ℕ) (b c s : ℕ) → AllHold (head_demands image (kind_of image) b c s) → (word_in image b 127 == DIR) ≡ false
+    → word_in image b 127 ≡ FILE
 head_kind image b c s h z =
     elim (head_type image (kind_of image) b c s h) [
       | inl d ↦ let e : (word_in image b 127 == DIR) ≡ true = eq-eqb (word_in image b 127) DIR d in absurd (let x : true ≡ false = sym e ∙ z in cc)
@@ -46,14 +50,16 @@ head_kind image b c s h z =
     ]
 
 -- a whole walk has all bitmap extension blocks
-pub all_map_exts : (image : List ℕ) (w : List (Role × ℕ)) → IsWhole image w → (j : ℕ) → 25 + 127 * j < pages_needed (blocks image) → (a : ℕ) × Has w (MapExt j) a
+pub all_map_exts : (image : List ℕ) (w : List (Role × ℕ)) → IsWhole image w → (j : ℕ) → 25 + 127 * j < pages_needed (blocks image)
+    → (a : ℕ) × Has w (MapExt j) a
 all_map_exts image w whole zero lt = asked_block image w whole (MapExt 0) (root_of image) 104 (lt, refl, refl) (omega arith)
 all_map_exts image w whole (suc j) lt =
     let x = all_map_exts image w whole j (omega arith) in
     asked_block image w whole (MapExt (suc j)) x.0 127 (lt, x.1, refl) (omega arith)
 
 module _ (image : List ℕ) (w : List (Role × ℕ)) (v : IsWalk image w) (whole : IsWhole image w) where
-  pub head_is : (n p s j b : ℕ) → Has w (Head n p s j) b → (at_node image (layout_in w) n ≡ b) × (exts_of (layout_in w) n ≡ exts_in w n) × (datas_of (layout_in w) n ≡ datas_in w n)
+  pub head_is : (n p s j b : ℕ) → Has w (Head n p s j) b
+      → (at_node image (layout_in w) n ≡ b) × (exts_of (layout_in w) n ≡ exts_in w n) × (datas_of (layout_in w) n ≡ datas_in w n)
   head_is zero p s j b h = let u : (1 ≤ 0) × (0 ≤ heads w) = number_of image v 0 p s j b h in absurd (omega arith)
   head_is (suc i) p s j b h = place_parts (places_in w w) i (place_in w (suc i) b) (place_has image w v i p s j b h)
 
@@ -150,7 +156,8 @@ module _ (image : List ℕ) (w : List (Role × ℕ)) (v : IsWalk image w) (whole
   root_names k b a i lt (inl x) e = ap (λ a. word_in image a (79 + k)) (sym x.1) ∙ ap (word_in image a) (sym x.2) ∙ e
   root_names k b a i lt (inr x) e = let z : k ≡ 25 + 127 * x.0 + i = x.3 in absurd (omega arith)
 
-  pub ext_names : (j i c b a m : ℕ) → i < 127 → At (map_exts_in w) j c → NamesPage image w (25 + 127 * j + i) a m → word_in image a m ≡ b → word_in image c i ≡ b
+  pub ext_names : (j i c b a m : ℕ) → i < 127 → At (map_exts_in w) j c → NamesPage image w (25 + 127 * j + i) a m → word_in image a m ≡ b
+      → word_in image c i ≡ b
   ext_names j i c b a m lt h (inl x) e = let y : 25 + 127 * j + i < 25 = x.0 in absurd (omega arith)
   ext_names j i c b a m lt h (inr x) e =
       let l : m < 127 = x.2 in
@@ -215,7 +222,8 @@ module _ (image : List ℕ) (w : List (Role × ℕ)) (v : IsWalk image w) (whole
       ])
 
   -- a file of the tree is one of the walk
-  pub file_at : (n : ℕ) (e : Entry) (bytes : List ℕ) → EntryAt (tree_in image w) n e → e.body ≡ File bytes → (h : ℕ) × FileAt image w n h × (bytes ≡ content image (kind_of image) h (datas_in w n)) × (at_node image (layout_in w) n ≡ h)
+  pub file_at : (n : ℕ) (e : Entry) (bytes : List ℕ) → EntryAt (tree_in image w) n e → e.body ≡ File bytes
+      → (h : ℕ) × FileAt image w n h × (bytes ≡ content image (kind_of image) h (datas_in w n)) × (at_node image (layout_in w) n ≡ h)
   file_at n e bytes h f =
       let x = entry_is n e h in
       let z : body_in image w n x.3 ≡ File bytes = ap (λ (y : Entry). y.body) (sym x.5) ∙ f in
@@ -223,7 +231,8 @@ module _ (image : List ℕ) (w : List (Role × ℕ)) (v : IsWalk image w) (whole
       let k = kept image v (Head n x.0 x.1 x.2) x.3 x.4 in
       (x.3, ((x.0, x.1, x.2, x.4), head_kind image x.3 k.2.0 x.1 k.2.2 y.0), y.1, (head_is n x.0 x.1 x.2 x.3 x.4).0)
 
-  pub file_parts : (n h : ℕ) → FileAt image w n h → (at_node image (layout_in w) n ≡ h) × (exts_of (layout_in w) n ≡ exts_in w n) × (datas_of (layout_in w) n ≡ datas_in w n)
+  pub file_parts : (n h : ℕ) → FileAt image w n h
+      → (at_node image (layout_in w) n ≡ h) × (exts_of (layout_in w) n ≡ exts_in w n) × (datas_of (layout_in w) n ≡ datas_in w n)
   file_parts n h f = head_is n f.0.0 f.0.1 f.0.2 h f.0.3
 
   one_file : (n h k : ℕ) → FileAt image w n h → FileAt image w n k → h ≡ k
@@ -311,7 +320,8 @@ module _ (image : List ℕ) (w : List (Role × ℕ)) (v : IsWalk image w) (whole
         | no u ↦ y.last (omega arith) ∙ sym (index_past (datas_in w n) k (omega arith))
       ]
 
-  data_formed : (n h k b : ℕ) → FileAt image w n h → At (datas_in w n) k b → AllHold (data_demands image (kind_of image) b h (suc k) (held (kind_of image) (word_in image h 81) (suc k)) (slice_index (datas_in w n) (suc k)))
+  data_formed : (n h k b : ℕ) → FileAt image w n h → At (datas_in w n) k b
+      → AllHold (data_demands image (kind_of image) b h (suc k) (held (kind_of image) (word_in image h 81) (suc k)) (slice_index (datas_in w n) (suc k)))
   data_formed n h k b f x =
       let y = kept image v (Data n (suc k)) b (has_data image w v n k b x) in
       let z : y.0 ≡ h = one_file n y.0 h y.1 f in
@@ -319,7 +329,8 @@ module _ (image : List ℕ) (w : List (Role × ℕ)) (v : IsWalk image w) (whole
       subst (λ x. AllHold (data_demands image (kind_of image) b h (suc k) (held (kind_of image) (word_in image h 81) (suc k)) x)) e
       (subst (λ h. AllHold (data_demands image (kind_of image) b h (suc k) (held (kind_of image) (word_in image h 81) (suc k)) y.5.0)) z y.5.2)
 
-  pub file_fits : (n h : ℕ) (bytes : List ℕ) → FileAt image w n h → length bytes ≡ word_in image h 81 → FileFits image (tree_in image w) (layout_in w) n h bytes
+  pub file_fits : (n h : ℕ) (bytes : List ℕ) → FileAt image w n h → length bytes ≡ word_in image h 81
+      → FileFits image (tree_in image w) (layout_in w) n h bytes
   file_fits n h bytes f z =
       let fp = file_parts n h f in
       let ex : exts_of (layout_in w) n ≡ exts_in w n = fp.1 in
@@ -350,7 +361,9 @@ module _ (image : List ℕ) (w : List (Role × ℕ)) (v : IsWalk image w) (whole
         (λ k b x. (in_range image v (size_low (blocks image) boots.0.1) (Data n (suc k)) b (has_data image w v n k b x)).1)
         (datas_length n h f)
 
-    body_fits : (n p s j b c : ℕ) → Has w (Head n p s j) b → AllHold (head_demands image (kind_of image) b c s) → (x : Bool) → (word_in image b 127 == DIR) ≡ x → BodyFits image (kind_of image) (layout_in w) n b (cond x Dir (File (content image (kind_of image) b (datas_in w n))))
+    body_fits : (n p s j b c : ℕ) → Has w (Head n p s j) b → AllHold (head_demands image (kind_of image) b c s) → (x : Bool)
+        → (word_in image b 127 == DIR) ≡ x
+        → BodyFits image (kind_of image) (layout_in w) n b (cond x Dir (File (content image (kind_of image) b (datas_in w n))))
     body_fits n p s j b c h k true z =
         let d : word_in image b 127 ≡ DIR = eqb-true (word_in image b 127) DIR z in
         let hp = head_is n p s j b h in

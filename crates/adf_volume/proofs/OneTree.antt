@@ -13,9 +13,9 @@ use Rattle.adf_volume.specs.Walk.{Role, heads, IsWalk, IsWhole}
 use Rattle.adf_volume.specs.Walk.Role.{Page, MapExt, Head, Ext, Data}
 use Rattle.adf_volume.specs.Parts.{Part}
 use Rattle.adf_volume.proofs.Lists.{at_below, at_some, same_list}
-use Rattle.adf_volume.proofs.Trees.{entry_at, entry_some, place_at}
-use Rattle.adf_volume.proofs.Agree.{agreement}
-use Rattle.adf_volume.proofs.Whole.{part_walked, heads_walked}
+use Rattle.adf_volume.proofs.Chains.{entry_at, entry_some, place_at}
+use Rattle.adf_volume.proofs.WalkAgreement.{agreement}
+use Rattle.adf_volume.proofs.WalkCompleteness.{part_walked, heads_walked}
 use Rattle.adf_volume.proofs.Places.{place_parts}
 
 same_entry : (e f : Entry) → e.parent ≡ f.parent → e.name ≡ f.name → e.meta ≡ f.meta → e.body ≡ f.body → e ≡ f
@@ -93,7 +93,8 @@ same_layout : (l m : Layout) → l.pages ≡ m.pages → l.map_exts ≡ m.map_ex
 same_layout l m a b c = λ i. record { pages = a i; map_exts = b i; places = c i }
 
 -- one image, one tree
-pub one_tree : (image : List ℕ) (w : List (Role × ℕ)) (t u : Tree) (l m : Layout) → IsWalk image w → IsWhole image w → Fits image t l → Fits image u m → (t ≡ u) × (l ≡ m)
+pub one_tree : (image : List ℕ) (w : List (Role × ℕ)) (t u : Tree) (l m : Layout) → IsWalk image w → IsWhole image w → Fits image t l → Fits image u m
+    → (t ≡ u) × (l ≡ m)
 one_tree image w t u l m v whole f g = (
   same_tree t u (f.kind ∙ sym g.kind) (f.label ∙ sym g.label) (f.stamps ∙ sym g.stamps)
       (same_list t.entries u.entries (λ i e h. entry_carried image w v whole t l f u m g (suc i) e h) (λ i e h. entry_carried image w v whole u m g t l f (suc i) e h)),

@@ -14,9 +14,9 @@ use Rattle.adf_volume.proofs.Walks.{root_is, root_in, number_of, numbered as num
 use Rattle.adf_volume.proofs.Parts.{Stands, owned_stands, owned_head, owned_ext, owned_data}
 use Rattle.adf_volume.proofs.Parts.Stands.{in_head, in_ext, in_data}
 use Rattle.adf_volume.proofs.Owners.{once_owned, blocks_once}
-use Rattle.adf_volume.proofs.Kept.{kept}
-use Rattle.adf_volume.proofs.Made.{places_length, ext_has, has_ext, data_has, has_data, page_has, has_page, map_ext_has, has_map_ext}
-use Rattle.adf_volume.proofs.Sound.{file_parts, head_is}
+use Rattle.adf_volume.proofs.MemberFacts.{kept}
+use Rattle.adf_volume.proofs.WalkMembers.{places_length, ext_has, has_ext, data_has, has_data, page_has, has_page, map_ext_has, has_map_ext}
+use Rattle.adf_volume.proofs.WholeWalks.{file_parts, head_is}
 use Rattle.adf_volume.proofs.Places.{exts_below, datas_below}
 
 module _ (image : List ℕ) (w : List (Role × ℕ)) (v : IsWalk image w) (whole : IsWhole image w) where

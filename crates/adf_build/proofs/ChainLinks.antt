@@ -14,12 +14,14 @@ Links link at n [] = Unit {0}
 Links link at n (e ∷ es) = (link (at n) ≡ first_block at (nodes_from (suc n) es e.parent (slot_of e.name))) × Links link at (suc n) es
 
 -- each chain is spelled
-pub spelled_chain : (link at : ℕ → ℕ) (n : ℕ) (es : List Entry) (p s : ℕ) → Links link at n es → Spelled link (first_block at (nodes_from n es p s)) (map at (nodes_from n es p s))
+pub spelled_chain : (link at : ℕ → ℕ) (n : ℕ) (es : List Entry) (p s : ℕ) → Links link at n es
+    → Spelled link (first_block at (nodes_from n es p s)) (map at (nodes_from n es p s))
 spelled_chain link at n [] p s h = refl
 spelled_chain link at n (e ∷ es) p s h =
     put (in_chain p s e) (both_equal e.parent p (slot_of e.name) s) (spelled_chain link at (suc n) es p s h.1)
   where
-    put : (t : Bool) → (t ≡ true → (e.parent ≡ p) × ((slot_of e.name) ≡ s)) → Spelled link (first_block at (nodes_from (suc n) es p s)) (map at (nodes_from (suc n) es p s))
+    put : (t : Bool) → (t ≡ true → (e.parent ≡ p) × ((slot_of e.name) ≡ s))
+        → Spelled link (first_block at (nodes_from (suc n) es p s)) (map at (nodes_from (suc n) es p s))
         → Spelled link (first_block at (cond t (n ∷ nodes_from (suc n) es p s) (nodes_from (suc n) es p s))) (map at (cond t (n ∷ nodes_from (suc n) es p s) (nodes_from (suc n) es p s)))
     put true f ih =
         let q = f refl in

@@ -15,18 +15,20 @@ use Rattle.adf_volume.specs.Walk.{Role, Has, heads, FileAt, MemberAt, data_count
 use Rattle.adf_volume.specs.Walk.Role.{Root, Page, MapExt, Head, Ext, Data}
 use Rattle.adf_volume.specs.Parts.{Part}
 use Rattle.adf_volume.proofs.Lists.{at_fun, at_below, at_some, at_before, spelled_word, spelled_link}
-use Rattle.adf_volume.proofs.Trees.{entry_at, entry_fun, entry_below, entry_some, place_at}
+use Rattle.adf_volume.proofs.Chains.{entry_at, entry_fun, entry_below, entry_some, place_at}
 use Rattle.adf_volume.proofs.Walks.{root_in, number_of, numbered, page_word, asked_block, head_key}
 use Rattle.adf_volume.proofs.Images.{map_exts_high, map_exts_low}
 use Rattle.adf_volume.proofs.Parts.{part_range}
-use Rattle.adf_volume.proofs.Agree.{agreement, file_agrees, count_agrees, has_node, asks_next, is_file}
+use Rattle.adf_volume.proofs.WalkAgreement.{agreement, file_agrees, count_agrees, has_node, asks_next, is_file}
 use Rattle.adf_volume.proofs.Places.{datas_below}
 
-file_word : (image : List ℕ) (t : Tree) (l : Layout) (n : ℕ) (e : Entry) (b : Body) (bytes : List ℕ) → b ≡ e.body → BodyFits image t.kind l n (at_node image l n) b → e.body ≡ File bytes → word_in image (at_node image l n) 127 ≡ FILE
+file_word : (image : List ℕ) (t : Tree) (l : Layout) (n : ℕ) (e : Entry) (b : Body) (bytes : List ℕ) → b ≡ e.body
+    → BodyFits image t.kind l n (at_node image l n) b → e.body ≡ File bytes → word_in image (at_node image l n) 127 ≡ FILE
 file_word image t l n e Dir bytes z f d = let k : Dir ≡ File bytes = z ∙ d in cc
 file_word image t l n e (File x) bytes z f d = f.0
 
-no_datas : (image : List ℕ) (t : Tree) (l : Layout) (n : ℕ) (e : Entry) (b : Body) (k x : ℕ) → b ≡ e.body → BodyFits image t.kind l n (at_node image l n) b → At (datas_of l n) k x → (bytes : List ℕ) × (e.body ≡ File bytes)
+no_datas : (image : List ℕ) (t : Tree) (l : Layout) (n : ℕ) (e : Entry) (b : Body) (k x : ℕ) → b ≡ e.body → BodyFits image t.kind l n (at_node image l n) b
+    → At (datas_of l n) k x → (bytes : List ℕ) × (e.body ≡ File bytes)
 no_datas image t l n e Dir k x z f a = absurd (subst (λ xs. At xs k x) f.2 a)
 no_datas image t l n e (File bytes) k x z f a = (bytes, sym z)
 

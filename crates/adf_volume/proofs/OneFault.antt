@@ -5,13 +5,14 @@ use Rattle.adf_blocks.specs.declared.cause.Cause.{Cause}
 use Rattle.adf_volume.specs.Image.{word_in, root_of}
 use Rattle.adf_blocks.specs.Sizes.{blocks}
 use Rattle.adf_volume.specs.Demands.{Demand, FirstFails, boot_demands, root_demands}
-use Rattle.adf_volume.specs.Walk.{Role, Before, Same, Has, heads, DirAt, FileAt, MemberAt, NamesPage, Asks, IsDue, NoCause, demands, bitmap_demands, IsWalk, IsWhole, FirstFault}
+use Rattle.adf_volume.specs.Walk.{Role, Before, Same, Has, heads, DirAt, FileAt, MemberAt, NamesPage, Asks, IsDue, NoCause, demands, bitmap_demands, IsWalk}
+use Rattle.adf_volume.specs.Walk.{IsWhole, FirstFault}
 use Rattle.adf_volume.specs.Walk.Role.{Root, Page, MapExt, Head, Ext, Data}
 use Rattle.adf_volume.specs.Walk.IsWalk.{start, step}
 use Rattle.adf_volume.specs.Walk.FirstFault.{at_boot, at_due, at_bitmap}
 use Rattle.adf_volume.proofs.Lists.{fails_not_all}
 use Rattle.adf_volume.proofs.Walks.{same_role, asks_number, one_block, one_node, one_head, dec_same}
-use Rattle.adf_volume.proofs.Rising.{before_total}
+use Rattle.adf_volume.proofs.WalkOrder.{before_total}
 
 fails_one : (xs : List Demand) (b : ℕ) (c : Cause) (b' : ℕ) (c' : Cause) → FirstFails xs b c → FirstFails xs b' c' → (b ≡ b') × (c ≡ c')
 fails_one [] b c b' c' h k = absurd h
@@ -119,7 +120,8 @@ module _ (image : List ℕ) where
       ]
 
   -- what is due after a walk has a cause, or a step leads on, and not both
-  no_step : (w x : List (Role × ℕ)) (r : Role) (a i b : ℕ) (c : Cause) → IsWalk image w → IsDue image w r a i → FirstFails (demands image w r a (word_in image a i)) b c → Step w x → ⊥
+  no_step : (w x : List (Role × ℕ)) (r : Role) (a i b : ℕ) (c : Cause) → IsWalk image w → IsDue image w r a i
+      → FirstFails (demands image w r a (word_in image a i)) b c → Step w x → ⊥
   no_step w x r a i b c v d f s =
       let z = due_one w v r s.role a i s.at s.index d s.due in
       fails_not_all (demands image w s.role s.at (word_in image s.at s.index)) b c
@@ -130,7 +132,8 @@ module _ (image : List ℕ) where
   whole_step : (w x : List (Role × ℕ)) → IsWhole image w → Step w x → ⊥
   whole_step w x h s = h s.role s.at s.index s.due.asked s.due.lacks
 
-  two_due : (w u : List (Role × ℕ)) (r q : Role) (a i a' i' b : ℕ) (c : Cause) (b' : ℕ) (c' : Cause) → IsWalk image w → IsWalk image u → IsDue image w r a i → IsDue image u q a' i' →
+  two_due : (w u : List (Role × ℕ)) (r q : Role) (a i a' i' b : ℕ) (c : Cause) (b' : ℕ) (c' : Cause) → IsWalk image w → IsWalk image u → IsDue image w r a i
+      → IsDue image u q a' i' →
       FirstFails (demands image w r a (word_in image a i)) b c → FirstFails (demands image u q a' (word_in image a' i')) b' c' → (b ≡ b') × (c ≡ c')
   two_due w u r q a i a' i' b c b' c' v v' d d' f f' =
       elim (dec_lt (length w) (length u)) [
@@ -149,7 +152,8 @@ module _ (image : List ℕ) where
         ]
       ]
 
-  due_and_whole : (w u : List (Role × ℕ)) (r : Role) (a i b : ℕ) (c : Cause) → IsWalk image w → IsWalk image u → IsDue image w r a i → FirstFails (demands image w r a (word_in image a i)) b c → IsWhole image u → ⊥
+  due_and_whole : (w u : List (Role × ℕ)) (r : Role) (a i b : ℕ) (c : Cause) → IsWalk image w → IsWalk image u → IsDue image w r a i
+      → FirstFails (demands image w r a (word_in image a i)) b c → IsWhole image u → ⊥
   due_and_whole w u r a i b c v v' d f h =
       elim (dec_lt (length w) (length u)) [
         | yes l ↦ let s = goes_on v' w v l in no_step w s.0 r a i b c v d f s.1

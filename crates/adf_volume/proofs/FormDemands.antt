@@ -47,7 +47,8 @@ which t true e h = inl (eqb-true t DIR e)
 which t false e h = inr (eqb-true t FILE h)
 
 -- a header is a directory's or a file's
-pub head_type : (image : List ℕ) (kind : Kind) (b up s : ℕ) → AllHold (told b (head_form kind b up s (block image b))) → (word_in image b 127 ≡ DIR) ⊎ (word_in image b 127 ≡ FILE)
+pub head_type : (image : List ℕ) (kind : Kind) (b up s : ℕ) → AllHold (told b (head_form kind b up s (block image b)))
+    → (word_in image b 127 ≡ DIR) ⊎ (word_in image b 127 ≡ FILE)
 head_type image kind b up s h =
     let t : ℕ = word_in image b 127 in
     which t (t == DIR) refl (entry (is_entry t) (is_link t) (and_parts (word_in image b 0 == 2) (is_entry t || is_link t) h.1.0).1 h.1.1.0)
