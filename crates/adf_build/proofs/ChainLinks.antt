@@ -22,9 +22,11 @@ spelled_chain link at n (e ∷ es) p s h =
   where
     put : (t : Bool) → (t ≡ true → (e.parent ≡ p) × ((slot_of e.name) ≡ s))
         → Spelled link (first_block at (nodes_from (suc n) es p s)) (map at (nodes_from (suc n) es p s))
-        → Spelled link (first_block at (cond t (n ∷ nodes_from (suc n) es p s) (nodes_from (suc n) es p s))) (map at (cond t (n ∷ nodes_from (suc n) es p s) (nodes_from (suc n) es p s)))
+        → Spelled link (first_block at (cond t (n ∷ nodes_from (suc n) es p s) (nodes_from (suc n) es p s)))
+        (map at (cond t (n ∷ nodes_from (suc n) es p s) (nodes_from (suc n) es p s)))
     put true f ih =
         let q = f refl in
-        let w : link (at n) ≡ first_block at (nodes_from (suc n) es p s) = h.0 ∙ ap (λ p. first_block at (nodes_from (suc n) es p (slot_of e.name))) q.0 ∙ ap (λ s. first_block at (nodes_from (suc n) es p s)) q.1 in
+        let w : link (at n) ≡ first_block at (nodes_from (suc n) es p s) =
+        h.0 ∙ ap (λ p. first_block at (nodes_from (suc n) es p (slot_of e.name))) q.0 ∙ ap (λ s. first_block at (nodes_from (suc n) es p s)) q.1 in
         (refl, subst (λ w. Spelled link w (map at (nodes_from (suc n) es p s))) (sym w) ih)
     put false f ih = ih

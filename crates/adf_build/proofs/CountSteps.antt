@@ -51,5 +51,6 @@ pub count_step : (kind : Kind) (es : List Entry) (i sum new need : ℕ) (e : Ent
     → min (sum + entries_blocks kind (drop i es)) (2 ^ 64 - 1) ≡ need → min (new + entries_blocks kind (drop (i + 1) es)) (2 ^ 64 - 1) ≡ need
 count_step kind es i sum new need e h f inv =
     let split = left_is es i e (sym (h ∙ entry-next es i)) in
-    let more : entries_blocks kind (drop i es) ≡ entry_blocks kind e + entries_blocks kind (drop (i + 1) es) = ap (entries_blocks kind) split ∙ ap (λ k. entry_blocks kind e + entries_blocks kind (drop k es)) (sym (add-one i)) in
+    let more : entries_blocks kind (drop i es) ≡ entry_blocks kind e + entries_blocks kind (drop (i + 1) es) =
+    ap (entries_blocks kind) split ∙ ap (λ k. entry_blocks kind e + entries_blocks kind (drop k es)) (sym (add-one i)) in
     omega arith

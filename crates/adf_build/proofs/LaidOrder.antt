@@ -31,7 +31,12 @@ given_is n k b four lo h (inl u) = elim (stretch n (b - 2)) [
 ]
 given_is n k b four lo h (inr u) = elim (stretch n (b - 3 - reserved n)) [
   | low a e ↦ absurd (omega arith)
-  | high a e ↦ (b - 3 - reserved n, (let g : k < b - 3 - reserved n → ⊥ = (λ l. let x = given_rises n k (b - 3 - reserved n) l in omega arith) in omega arith), omega arith)
+  | high a e ↦ (
+    b - 3 - reserved n,
+    (let g : k < b - 3 - reserved n → ⊥ =
+        (λ l. let x = given_rises n k (b - 3 - reserved n) l in omega arith) in omega arith),
+    omega arith,
+  )
 ]
 
 -- every block from 2 up to a given one is owned
@@ -40,7 +45,8 @@ pub no_gap : (image : List ℕ) (t : Tree) (k b : ℕ) → 4 ≤ blocks image �
 no_gap image t k b four lt lo h =
     let n : ℕ = blocks image in
     let m : ℕ = entries_blocks t.kind t.entries in
-    in_block (owned image (planned t n)) b (subst (λ l. In l b) (sym (owned_blocks image t n refl)) (put n m four (cases_lt b (middle n)) (cases_lt (middle n + reserved n) b) lt h))
+    in_block (owned image (planned t n)) b (subst (λ l. In l b) (sym (owned_blocks image t n refl))
+    (put n m four (cases_lt b (middle n)) (cases_lt (middle n + reserved n) b) lt h))
   where
     there : (n m : ℕ) → 4 ≤ n → ((b < middle n) ⊎ (middle n + reserved n < b)) → k < m → b ≤ given n k
         → In (middle n ∷ (row (middle n + 1) (reserved n) ++ run n 0 m)) b
@@ -64,7 +70,8 @@ unfolding volume
 part_held image t sound l b bytes h = ap (λ v. block v b) l.bytes ∙ held
   where
     held : block (volume t (blocks image)) b ≡ bytes
-    held = lay_same (blocks image) (replicate (blocks image * 512) 0) (parts t (blocks image)) b bytes (parts_are t (blocks image) sound l.size l.room) (parts_once t (blocks image) sound l.size l.room) (zeros_long t (blocks image) sound l.size l.room) h
+    held = lay_same (blocks image) (replicate (blocks image * 512) 0) (parts t (blocks image)) b bytes (parts_are t (blocks image) sound l.size l.room)
+        (parts_once t (blocks image) sound l.size l.room) (zeros_long t (blocks image) sound l.size l.room) h
 
 -- a block of zeros
 drop_zeros : (a m : ℕ) → drop a (replicate m 0) ≡ replicate {A = ℕ} (m - a) 0
@@ -82,7 +89,8 @@ zeros : (n b : ℕ) → b < n → block (replicate (n * 512) 0) b ≡ replicate 
 unfolding block
 zeros n b lt =
     let z : b * 512 + 512 - b * 512 ≡ 512 = omega arith in
-    ap (λ m. take m (drop (b * 512) (replicate (n * 512) 0))) z ∙ (ap (take 512) (drop_zeros (b * 512) (n * 512)) ∙ take_zeros 512 (n * 512 - b * 512) (omega arith))
+    ap (λ m. take m (drop (b * 512) (replicate (n * 512) 0))) z
+    ∙ (ap (take 512) (drop_zeros (b * 512) (n * 512)) ∙ take_zeros 512 (n * 512 - b * 512) (omega arith))
 
 -- and a block in which no part stands holds zeros
 pub rest_zero : (image : List ℕ) (t : Tree) → IsSound t → IsLaid image t → (b : ℕ) → b < blocks image → (In (numbers_of (parts t (blocks image))) b → ⊥)
@@ -91,5 +99,6 @@ unfolding volume
 rest_zero image t sound l b lt h = ap (λ v. block v b) l.bytes ∙ (other ∙ zeros (blocks image) b lt)
   where
     other : block (volume t (blocks image)) b ≡ block (replicate (blocks image * 512) 0) b
-    other = lay_other (blocks image) (replicate (blocks image * 512) 0) (parts t (blocks image)) b (parts_are t (blocks image) sound l.size l.room) (zeros_long t (blocks image) sound l.size l.room)
+    other = lay_other (blocks image) (replicate (blocks image * 512) 0) (parts t (blocks image)) b (parts_are t (blocks image) sound l.size l.room)
+        (zeros_long t (blocks image) sound l.size l.room)
         (λ q i e. h (subst (In (numbers_of (parts t (blocks image)))) e (number_in (parts t (blocks image)) q i)))

@@ -45,7 +45,9 @@ boot_short Ffs = refl
 
 page_numbers : (n total j m : ℕ) → numbers_of (page_parts n total j m) ≡ row (middle n + 1 + j) m
 page_numbers n total j zero = refl
-page_numbers n total j (suc m) = let e : middle n + 1 + suc j ≡ suc (middle n + 1 + j) = omega arith in ap (λ l. (middle n + 1 + j) ∷ l) (page_numbers n total (suc j) m ∙ ap (λ b. row b m) e)
+page_numbers n total j (suc m) =
+    let e : middle n + 1 + suc j ≡ suc (middle n + 1 + j) = omega arith in
+    ap (λ l. (middle n + 1 + j) ∷ l) (page_numbers n total (suc j) m ∙ ap (λ b. row b m) e)
 
 map_ext_numbers : (n j m : ℕ) → numbers_of (map_ext_parts n j m) ≡ row (middle n + 1 + pages_needed n + j) m
 map_ext_numbers n j zero = refl
@@ -56,7 +58,8 @@ map_ext_numbers n j (suc m) =
 -- a bitmap extension block names at most 127 pages
 pub listed_few : (n j : ℕ) → length (listed_pages n j) ≤ 127
 listed_few n j =
-    let l : length (listed_pages n j) ≡ min 127 (pages_needed n - (25 + 127 * j)) = length_row (middle n + 1 + (25 + 127 * j)) (min 127 (pages_needed n - (25 + 127 * j))) in
+    let l : length (listed_pages n j) ≡ min 127 (pages_needed n - (25 + 127 * j)) =
+    length_row (middle n + 1 + (25 + 127 * j)) (min 127 (pages_needed n - (25 + 127 * j))) in
     omega arith
 
 page_long : (n total j : ℕ) → length (page_words n total j) ≡ 127
@@ -68,7 +71,12 @@ are_pages n total j (suc m) h = (omega arith, length_page_block (page_words n to
 
 are_map_exts : (n j m : ℕ) → middle n + pages_needed n + j + m < n → AreBlocks n (map_ext_parts n j m)
 are_map_exts n j zero h = tt
-are_map_exts n j (suc m) h = (omega arith, length_map_ext_block (listed_pages n j) (map_ext_or_none n (suc j) m) (listed_few n j), are_map_exts n (suc j) m (omega arith))
+are_map_exts n j (suc m) h = (
+  omega arith,
+  length_map_ext_block (listed_pages n j) (map_ext_or_none n (suc j) m) (listed_few n j),
+  are_map_exts n (suc j) m
+      (omega arith),
+)
 
 -- the parts behind the entries: the pages, the bitmap extension blocks, the root and the boot block
 abbrev pages_of : Tree → ℕ → List (ℕ × List ℕ)
@@ -121,12 +129,21 @@ module _ (t : Tree) (n : ℕ) (sound : IsSound t) (allowed : is_allowed n ≡ tr
       let r = reserved_below n four in
       let b = boot_short t.kind in
       are-append n (entries_parts n t.kind (node_blocks t n) t.entries 1 0 t.entries) (pages_of t n ++ (map_exts_of n ++ ends_of t n))
-      (are_entries n (entries_blocks t.kind t.entries) (omega arith) (omega arith) below t.kind (node_blocks t n) t.entries 1 0 t.entries near (omega arith) entry_sound)
+      (are_entries n (entries_blocks t.kind t.entries) (omega arith) (omega arith) below t.kind (node_blocks t n) t.entries 1 0 t.entries near (omega arith)
+      entry_sound)
       (are-append n (pages_of t n) (map_exts_of n ++ ends_of t n)
       (are_pages n (entries_blocks t.kind t.entries) 0 (pages_needed n) (omega arith))
       (are-append n (map_exts_of n) (ends_of t n)
-      (are_map_exts n 0 (map_exts_needed (pages_needed n)) (omega arith))
-      (omega arith, length_root_block (root_laid t n) fits_root, (omega arith, length-laid 512 ((0, boot_bytes t.kind) ∷ []) (omega arith) (omega arith, tt), tt))))
+      (are_map_exts n 0 (map_exts_needed (pages_needed n)) (omega arith)) (
+        omega arith,
+        length_root_block (root_laid t n) fits_root,
+        (
+          omega arith,
+          length-laid 512 ((0, boot_bytes t.kind) ∷ []) (omega arith)
+              (omega arith, tt),
+          tt,
+        ),
+      )))
 
   parts_numbers : numbers_of (parts t n) ≡ run n 0 (entries_blocks t.kind t.entries) ++ (row (middle n + 1) (reserved n) ++ middle n ∷ 0 ∷ [])
   parts_numbers =
@@ -137,8 +154,10 @@ module _ (t : Tree) (n : ℕ) (sound : IsSound t) (allowed : is_allowed n ≡ tr
       let last : List ℕ = middle n ∷ 0 ∷ [] in
       let pages : numbers_of (pages_of t n) ≡ row (middle n + 1) p = page_numbers n (entries_blocks t.kind t.entries) 0 p ∙ ap (λ b. row b p) z in
       let exts : numbers_of (map_exts_of n) ≡ row (middle n + 1 + p) x = map_ext_numbers n 0 x ∙ ap (λ b. row b x) y in
-      let back : numbers_of (map_exts_of n ++ ends_of t n) ≡ row (middle n + 1 + p) x ++ last = numbers_of-append (map_exts_of n) (ends_of t n) ∙ ap (λ l. l ++ last) exts in
-      let both : row (middle n + 1) p ++ row (middle n + 1 + p) x ≡ row (middle n + 1) (reserved n) = row-append (middle n + 1) p x ∙ ap (row (middle n + 1)) (reserved_parts n) in
+      let back : numbers_of (map_exts_of n ++ ends_of t n) ≡ row (middle n + 1 + p) x ++ last =
+      numbers_of-append (map_exts_of n) (ends_of t n) ∙ ap (λ l. l ++ last) exts in
+      let both : row (middle n + 1) p ++ row (middle n + 1 + p) x ≡ row (middle n + 1) (reserved n) =
+      row-append (middle n + 1) p x ∙ ap (row (middle n + 1)) (reserved_parts n) in
       numbers_of-append (entries_parts n t.kind (node_blocks t n) t.entries 1 0 t.entries) (pages_of t n ++ (map_exts_of n ++ ends_of t n))
       ∙ ap (λ l. l ++ numbers_of (pages_of t n ++ (map_exts_of n ++ ends_of t n))) (entries_numbers n t.kind (node_blocks t n) t.entries 1 0 t.entries)
       ∙ ap (λ l. run n 0 (entries_blocks t.kind t.entries) ++ l) (
@@ -182,10 +201,12 @@ module _ (t : Tree) (n : ℕ) (sound : IsSound t) (allowed : is_allowed n ≡ tr
   holds_all = laid_holds n (replicate (n * 512) 0) (parts t n) (parts t n) parts_are parts_once zeros_long (λ q h. h)
 
   pub holds_entries : Holds (volume t n) (entries_parts n t.kind (node_blocks t n) t.entries 1 0 t.entries)
-  holds_entries = holds_left (volume t n) (entries_parts n t.kind (node_blocks t n) t.entries 1 0 t.entries) (pages_of t n ++ (map_exts_of n ++ ends_of t n)) holds_all
+  holds_entries = holds_left (volume t n) (entries_parts n t.kind (node_blocks t n) t.entries 1 0 t.entries)
+      (pages_of t n ++ (map_exts_of n ++ ends_of t n)) holds_all
 
   holds_rest : Holds (volume t n) (pages_of t n ++ (map_exts_of n ++ ends_of t n))
-  holds_rest = holds_right (volume t n) (entries_parts n t.kind (node_blocks t n) t.entries 1 0 t.entries) (pages_of t n ++ (map_exts_of n ++ ends_of t n)) holds_all
+  holds_rest = holds_right (volume t n) (entries_parts n t.kind (node_blocks t n) t.entries 1 0 t.entries) (pages_of t n ++ (map_exts_of n ++ ends_of t n))
+      holds_all
 
   pub holds_pages : Holds (volume t n) (page_parts n (entries_blocks t.kind t.entries) 0 (pages_needed n))
   holds_pages = holds_left (volume t n) (pages_of t n) (map_exts_of n ++ ends_of t n) holds_rest

@@ -31,5 +31,6 @@ pub map_exts_step : (image old all bytes : List ℕ) (n j b m : ℕ) → b ≡ m
 map_exts_step image old all bytes n j b m at lt e inv w =
     let split : m - j ≡ suc (m - (j + 1)) = omega arith in
     ap (λ i. lay image (map_ext_parts n i (m - (j + 1)))) (add-one j)
-    ∙ ap (λ im. lay im (map_ext_parts n (suc j) (m - (j + 1)))) (w ∙ ap (λ b. with_block old b bytes) at ∙ ap (with_block old (middle n + 1 + pages_needed n + j)) e)
+    ∙ ap (λ im. lay im (map_ext_parts n (suc j) (m - (j + 1)))) (w ∙ ap (λ b. with_block old b bytes) at
+    ∙ ap (with_block old (middle n + 1 + pages_needed n + j)) e)
     ∙ sym (ap (λ k. lay old (map_ext_parts n j k)) split) ∙ inv

@@ -68,7 +68,8 @@ planned_once image t n size =
         | inr i ↦ let r = in_run n 0 total (middle n) i in let e : given n r.0 ≡ middle n = r.3 in given_apart n r.0 (omega arith) (omega arith)
       ]),
       distinct-append (row (middle n + 1) (reserved n)) (run n 0 total) (distinct_row (middle n + 1) (reserved n)) (distinct_run n 0 total)
-          (λ b i j. let r = in_row (middle n + 1) (reserved n) b i in let s = in_run n 0 total b j in let e : given n s.0 ≡ b = s.3 in given_apart n s.0 (omega arith) (omega arith)),
+          (λ b i j. let r = in_row (middle n + 1) (reserved n) b i in let s = in_run n 0 total b j in let e : given n s.0 ≡ b =
+          s.3 in given_apart n s.0 (omega arith) (omega arith)),
     ))
 
 -- each block lies in the volume
@@ -77,7 +78,8 @@ pub planned_range : (image : List ℕ) (t : Tree) (n : ℕ) (o : Owner) (b : ℕ
 planned_range image t n o b size h fits i =
     let total : ℕ = entries_blocks t.kind t.entries in
     let end : middle n + reserved n < n = reserved_below n h in
-    let j : In (middle n ∷ (row (middle n + 1) (reserved n) ++ run n 0 total)) b = subst (λ l. In l b) (owned_blocks image t n size) (block_in (owned image (planned t n)) o b i) in
+    let j : In (middle n ∷ (row (middle n + 1) (reserved n) ++ run n 0 total)) b =
+    subst (λ l. In l b) (owned_blocks image t n size) (block_in (owned image (planned t n)) o b i) in
     elim j [
       | inl e ↦ (omega arith, omega arith)
       | inr k ↦ elim (in_cases (row (middle n + 1) (reserved n)) (run n 0 total) b k) [
@@ -99,7 +101,9 @@ planned_count image t n size =
     ∙ (ap length (owned_blocks image t n size)
     ∙ (let a : length (row (middle n + 1) (reserved n)) ≡ reserved n = length_row (middle n + 1) (reserved n) in
     let b : length (run n 0 (entries_blocks t.kind t.entries)) ≡ entries_blocks t.kind t.entries = length_run n 0 (entries_blocks t.kind t.entries) in
-    let c : length (row (middle n + 1) (reserved n) ++ run n 0 (entries_blocks t.kind t.entries)) ≡ length (row (middle n + 1) (reserved n)) + length (run n 0 (entries_blocks t.kind t.entries)) = length-append (row (middle n + 1) (reserved n)) (run n 0 (entries_blocks t.kind t.entries)) in
+    let c : length (row (middle n + 1) (reserved n) ++ run n 0 (entries_blocks t.kind t.entries))
+    ≡ length (row (middle n + 1) (reserved n)) + length (run n 0 (entries_blocks t.kind t.entries)) =
+    length-append (row (middle n + 1) (reserved n)) (run n 0 (entries_blocks t.kind t.entries)) in
     omega arith))
   where
     length_blocks : (xs : List (Owner × ℕ)) → length xs ≡ length (blocks_of xs)

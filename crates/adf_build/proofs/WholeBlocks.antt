@@ -63,7 +63,9 @@ module _ (n total : ℕ) (small : n < 2 ^ 32) (few : total < 2 ^ 32) (below : (k
 
   pub data_long : (kind : Kind) (head k number m : ℕ) (bytes : List ℕ) → head < n → k + suc m ≤ total → number < 2 ^ 32
       → length (data_bytes kind head number (given_or_none n (suc k) m) (take (chunk kind) bytes)) ≡ 512
-  data_long Ofs head k number m bytes h l s = length_data_block (record { head = head; number = number; next = given_or_none n (suc k) m; bytes = take (chunk Ofs) bytes }) (fits_data head k number m bytes h l s)
+  data_long Ofs head k number m bytes h l s =
+      length_data_block (record { head = head; number = number; next = given_or_none n (suc k) m; bytes = take (chunk Ofs) bytes })
+      (fits_data head k number m bytes h l s)
   data_long Ffs head k number m bytes h l s =
       let t : length (take (chunk Ffs) bytes) ≡ min (chunk Ffs) (length bytes) = length-take (chunk Ffs) bytes in
       let c = chunk_small Ffs in
@@ -72,13 +74,21 @@ module _ (n total : ℕ) (small : n < 2 ^ 32) (few : total < 2 ^ 32) (below : (k
   pub are_datas : (kind : Kind) (head k number : ℕ) (bytes : List ℕ) (m : ℕ) → head < n → k + m ≤ total → number + m ≤ 2 ^ 32
       → AreBlocks n (data_parts n kind head k number bytes m)
   are_datas kind head k number bytes zero h l s = tt
-  are_datas kind head k number bytes (suc m) h l s =
-      (below k (omega arith), data_long kind head k number m bytes h l (omega arith), are_datas kind head (suc k) (suc number) (drop (chunk kind) bytes) m h (omega arith) (omega arith))
+  are_datas kind head k number bytes (suc m) h l s = (
+    below k (omega arith),
+    data_long kind head k number m bytes h l (omega arith),
+    are_datas kind head (suc k) (suc number) (drop (chunk kind) bytes) m h
+        (omega arith) (omega arith),
+  )
 
   pub are_exts : (head k d c m : ℕ) → head < n → k + m ≤ total → AreBlocks n (ext_parts n head k d c m)
   are_exts head k d c zero h l = tt
-  are_exts head k d c (suc m) h l =
-      (below k (omega arith), length_ext_block (ext_laid n head k d c m) (fits_ext head k d c m h (omega arith)), are_exts head (suc k) (d + 72) (c - 72) m h (omega arith))
+  are_exts head k d c (suc m) h l = (
+    below k (omega arith),
+    length_ext_block (ext_laid n head k d c m) (fits_ext head k d c m h (omega arith)),
+    are_exts head (suc k) (d + 72) (c - 72) m
+        h (omega arith),
+  )
 
   pub are_body : (kind : Kind) (k : ℕ) (body : Body) → k + (1 + exts_needed (data_blocks kind body) + data_blocks kind body) ≤ total
       → AreBlocks n (body_parts n kind k body)

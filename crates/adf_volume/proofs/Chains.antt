@@ -39,7 +39,8 @@ at_chain k (e ∷ es) p s j n h =
 pub chain_at : (k : ℕ) (es : List Entry) (i : ℕ) (e : Entry) → At es i e → (j : ℕ) × At (nodes_from k es e.parent (slot_of e.name)) j (k + i)
 chain_at k [] i e h = absurd h
 chain_at k (f ∷ es) zero e h =
-    let t : ((f.parent == e.parent) && (slot_of f.name == slot_of e.name)) ≡ true = equal_both f.parent e.parent (slot_of f.name) (slot_of e.name) (ap (λ (x : Entry). x.parent) h) (ap (λ (x : Entry). slot_of x.name) h) in
+    let t : ((f.parent == e.parent) && (slot_of f.name == slot_of e.name)) ≡ true =
+    equal_both f.parent e.parent (slot_of f.name) (slot_of e.name) (ap (λ (x : Entry). x.parent) h) (ap (λ (x : Entry). slot_of x.name) h) in
     (0, rw t (omega arith))
 chain_at k (f ∷ es) (suc i) e h =
     let r = chain_at (suc k) es i e h in
@@ -121,7 +122,8 @@ sorted_places t v p s i q u j n m a' b' a b l =
     let o = v.order n m e.0 f.0 e.1 f.1 l in
     let h1 : p ≤ q = let k : e.0.parent ≤ f.0.parent = o.0 in let x : e.0.parent ≡ p = e.2 in let y : f.0.parent ≡ q = f.2 in omega arith in
     let h2 : p ≡ q → s ≤ u =
-    (λ z. let k : slot_of e.0.name ≤ slot_of f.0.name = o.1 (e.2 ∙ z ∙ sym f.2) in let x : slot_of e.0.name ≡ s = e.3 in let y : slot_of f.0.name ≡ u = f.3 in omega arith) in
+    (λ z. let k : slot_of e.0.name ≤ slot_of f.0.name = o.1 (e.2 ∙ z ∙ sym f.2) in let x : slot_of e.0.name ≡ s = e.3 in let y : slot_of f.0.name ≡ u =
+    f.3 in omega arith) in
     let h3 : p ≡ q → s ≡ u → i < j =
     (λ z y. let b'' : At (chain_nodes t p s) j m = subst (λ q. At (chain_nodes t q s) j m) (sym z) (subst (λ u. At (chain_nodes t q u) j m) (sym y) b) in
     let r : j < i → ⊥ = (λ l2. let k : m < n = chain_rises 1 t.entries p s j i m n b'' a l2 in omega arith) in
@@ -135,9 +137,11 @@ pub chain_snoc : (k : ℕ) (es : List Entry) (e : Entry) (p s : ℕ)
 chain_snoc k [] e p s = let z : k ≡ k + 0 = omega arith in ap (λ m. cond ((e.parent == p) && (slot_of e.name == s)) (m ∷ []) []) z
 chain_snoc k (f ∷ es) e p s =
     let z : suc k + length es ≡ k + suc (length es) = omega arith in
-    let ih : nodes_from (suc k) (es ++ e ∷ []) p s ≡ nodes_from (suc k) es p s ++ cond ((e.parent == p) && (slot_of e.name == s)) ((k + suc (length es)) ∷ []) [] =
+    let ih : nodes_from (suc k) (es ++ e ∷ []) p s
+    ≡ nodes_from (suc k) es p s ++ cond ((e.parent == p) && (slot_of e.name == s)) ((k + suc (length es)) ∷ []) [] =
     chain_snoc (suc k) es e p s ∙ ap (λ m. nodes_from (suc k) es p s ++ cond ((e.parent == p) && (slot_of e.name == s)) (m ∷ []) []) z in
-    put ((f.parent == p) && (slot_of f.name == s)) k (nodes_from (suc k) (es ++ e ∷ []) p s) (nodes_from (suc k) es p s) (cond ((e.parent == p) && (slot_of e.name == s)) ((k + suc (length es)) ∷ []) []) ih
+    put ((f.parent == p) && (slot_of f.name == s)) k (nodes_from (suc k) (es ++ e ∷ []) p s) (nodes_from (suc k) es p s)
+    (cond ((e.parent == p) && (slot_of e.name == s)) ((k + suc (length es)) ∷ []) []) ih
   where
     put : (t : Bool) (k : ℕ) (xs ys zs : List ℕ) → xs ≡ ys ++ zs → cond t (k ∷ xs) xs ≡ cond t (k ∷ ys) ys ++ zs
     put true k xs ys zs h = ap (λ l. k ∷ l) h
@@ -154,7 +158,8 @@ nodes_chain : (pre es : List Entry) (p s : ℕ) → map (λ n. entry (pre ++ es)
 nodes_chain pre [] p s = refl
 nodes_chain pre (e ∷ es) p s =
     let here : entry (pre ++ e ∷ es) (suc (length pre)) ≡ Some e = get_here pre in
-    let ih : map (λ n. entry ((pre ++ e ∷ []) ++ es) n) (nodes_from (suc (length (pre ++ e ∷ []))) es p s) ≡ map Some (chain es p s) = nodes_chain (pre ++ e ∷ []) es p s in
+    let ih : map (λ n. entry ((pre ++ e ∷ []) ++ es) n) (nodes_from (suc (length (pre ++ e ∷ []))) es p s) ≡ map Some (chain es p s) =
+    nodes_chain (pre ++ e ∷ []) es p s in
     let rest : map (λ n. entry (pre ++ e ∷ es) n) (nodes_from (suc (suc (length pre))) es p s) ≡ map Some (chain es p s) =
     ap (λ k. map (λ n. entry (pre ++ e ∷ es) n) (nodes_from (suc k) es p s)) (sym (snoc_length pre e))
     ∙ ap (λ xs. map (λ n. entry xs n) (nodes_from (suc (length (pre ++ e ∷ []))) es p s)) (sym (append_assoc pre (e ∷ []) es))
@@ -170,7 +175,8 @@ nodes_chain pre (e ∷ es) p s =
 
     put : (t : Bool) → entry (pre ++ e ∷ es) (suc (length pre)) ≡ Some e
         → map (λ n. entry (pre ++ e ∷ es) n) (nodes_from (suc (suc (length pre))) es p s) ≡ map Some (chain es p s) →
-        map (λ n. entry (pre ++ e ∷ es) n) (cond t (suc (length pre) ∷ nodes_from (suc (suc (length pre))) es p s) (nodes_from (suc (suc (length pre))) es p s)) ≡ map Some (cond t (e ∷ chain es p s) (chain es p s))
+        map (λ n. entry (pre ++ e ∷ es) n) (cond t (suc (length pre) ∷ nodes_from (suc (suc (length pre))) es p s)
+        (nodes_from (suc (suc (length pre))) es p s)) ≡ map Some (cond t (e ∷ chain es p s) (chain es p s))
     put true h r = λ i. h i ∷ r i
     put false h r = r
 

@@ -29,7 +29,8 @@ child_no t p name h = no_children t.entries p name
     (λ k d l.
     let e = at_some t.entries k l in
     let z : get_or t.entries k d ≡ e.0 = at_index_or t.entries k e.0 d e.1 in
-    subst (λ (x : Entry). is_child p name x ≡ false) (sym z) (not_true (is_child p name e.0) (λ y. let s = child_says p name e.0 y in h (suc k) e.0 e.1 s.0 s.1)))
+    subst (λ (x : Entry). is_child p name x
+    ≡ false) (sym z) (not_true (is_child p name e.0) (λ y. let s = child_says p name e.0 y in h (suc k) e.0 e.1 s.0 s.1)))
 
 -- a node of the chain with this name is the child
 pub chain_yes : (t : Tree) (p s : ℕ) (name : List ℕ) (j n : ℕ) (e : Entry) → IsTree t.entries → At (chain_nodes t p s) j n → EntryAt t n e

@@ -77,8 +77,19 @@ module _ (image : List ℕ) where
   kept_up w x (Data n zero) b h = absurd h
   kept_up w x (Data n (suc k)) b h =
       let u : ext_count w n ≤ ext_count_of n x.0 (ext_count w n) = count_up n x.0 (ext_count w n) in
-      let y : data_count image h.0 ≤ 72 * suc (ext_count w n) = h.3 in
-      (h.0, file_up w x n h.0 h.1, h.2, omega arith, (h.4.0, member_up w x n (k / 72) h.4.0 h.4.1, h.4.2), (h.5.0, next_up w x n (suc k) h.0 h.5.0 h.5.1, h.5.2))
+      let y : data_count image h.0 ≤ 72 * suc (ext_count w n) = h.3 in (
+        h.0,
+        file_up w x n h.0 h.1,
+        h.2,
+        omega arith,
+        (h.4.0, member_up w x n (k / 72) h.4.0 h.4.1, h.4.2),
+        (
+          h.5.0,
+          next_up w x n (suc k) h.0 h.5.0
+              h.5.1,
+          h.5.2,
+        ),
+      )
 
   -- a header that is asked for has its directory
   asks_dir : {w : List (Role × ℕ)} → ((r : Role) (b : ℕ) → Has w r b → Kept image w r b) → (n p s j a i : ℕ) → Asks image w (Head n p s j) a i
@@ -96,7 +107,8 @@ module _ (image : List ℕ) where
         → data_count image h ≤ 72 * suc (ext_count w n)
     enough n zero a i b h d g f u = g.0 refl h f
     enough n (suc k) a i b h d g f u =
-        let x = is_there image w (Data n 1) (Data n (suc (suc k))) a i h 77 d ((h, f, omega arith), f, refl) (omega arith, (λ z. omega arith), (λ z z'. omega arith)) (omega arith) in
+        let x = is_there image w (Data n 1) (Data n (suc (suc k))) a i h 77 d ((h, f, omega arith), f, refl)
+        (omega arith, (λ z. omega arith), (λ z z'. omega arith)) (omega arith) in
         let kp = old (Data n 1) x.0 x.1 in
         let e : node_block w n ≡ h = file_is image w n h v f in
         let e' : node_block w n ≡ kp.0 = file_is image w n kp.0 v kp.1 in
@@ -119,7 +131,8 @@ module _ (image : List ℕ) where
         record {
           inner = (λ u.
               let m = there n (k / 72) h f (omega arith) in
-              let u' : nat_lt k (data_count image (node_block w n)) ≡ true = lt-ltb k (data_count image (node_block w n)) (subst (λ h. k < data_count image h) (sym z) u) in (
+              let u' : nat_lt k (data_count image (node_block w n)) ≡ true =
+              lt-ltb k (data_count image (node_block w n)) (subst (λ h. k < data_count image h) (sym z) u) in (
                 m.0,
                 m.1,
                 cond-true (nat_lt k (data_count image (node_block w n))) (word_in image (member_block w n (k / 72)) (table_word k)) 0 u'
@@ -139,8 +152,16 @@ module _ (image : List ℕ) where
     kept_new (Head n p s j) a i b d e g =
         let ad = asks_dir old n p s j a i d.asked in
         let c = ad.1 in
-        let z : node_block w p ≡ c.0 = node_is image w p c.0 v (dir_is_node image w p c.0 c.1) in
-        (ad.0, head_named n p s j a i b d.asked e, (c.0, c.1, subst (λ c. AllHold (head_demands image (kind_of image) b c s)) z (form_of (Head n p s j) a b g)))
+        let z : node_block w p ≡ c.0 = node_is image w p c.0 v (dir_is_node image w p c.0 c.1) in (
+          ad.0,
+          head_named n p s j a i b d.asked e,
+          (
+            c.0,
+            c.1,
+            subst (λ c. AllHold (head_demands image (kind_of image) b c s)) z
+                (form_of (Head n p s j) a b g),
+          ),
+        )
     kept_new (Ext n zero) a i b d e g = absurd d.asked
     kept_new (Ext n (suc k)) a i b d e g =
         let f = due_file image w n (suc k) a i v d.asked in
@@ -159,7 +180,8 @@ module _ (image : List ℕ) where
           (
             next_data image w n (suc k),
             next_is n (suc k) f.0 f.1 z en,
-            subst (λ h. AllHold (data_demands image (kind_of image) b h (suc k) (held (kind_of image) (word_in image h 81) (suc k)) (next_data image w n (suc k)))) z (form_of (Data n (suc k)) a b g),
+            subst (λ h. AllHold (data_demands image (kind_of image) b h (suc k) (held (kind_of image) (word_in image h 81) (suc k))
+                (next_data image w n (suc k)))) z (form_of (Data n (suc k)) a b g),
           ),
         )
 
@@ -188,7 +210,8 @@ module _ (image : List ℕ) where
       → uppers (name_of image b) ≢ uppers (name_of image c)
   new_names start n m p s i j b c (inl e) h ne z = let x : second Root ≡ second (Head n p s i) = ap second e.0 in absurd (omega arith)
   new_names start n m p s i j b c (inr e) h ne z = e
-  new_names (step {w = w} {r = q} {b = b'} {a = a} v d e g) n m p s i j b c (inl h) (inl k) ne z = absurd (let x : Head n p s i ≡ Head m p s j = sym h.0 ∙ k.0 in ne (same_number n m p s i j x))
+  new_names (step {w = w} {r = q} {b = b'} {a = a} v d e g) n m p s i j b c (inl h) (inl k) ne z =
+      absurd (let x : Head n p s i ≡ Head m p s j = sym h.0 ∙ k.0 in ne (same_number n m p s i j x))
   new_names (step {w = w} {r = q} {b = b'} {a = a} v d e g) n m p s i j b c (inl h) (inr k) ne z =
       let nn = (all_split (form_demands image w q b') (demand SameName b' (NewName image w q b') ∷ []) g.1.1.1).1.0 in
       let nn' : NewName image w (Head n p s i) b = subst (λ r. NewName image w r b) h.0 (subst (NewName image w q) h.1 nn) in

@@ -39,7 +39,9 @@ module _ (image : List ℕ) (t : Tree) (l : Layout) (fit : Fits image t l) (w : 
       ((λ a. free_of b (f.1 (unowned_of b a))), ((λ a. absent_of b (f.0 (free_in_of b a))), bitmap_holds (suc b) n (omega arith) (omega arith)))
 
 pub none_fits : (image : List ℕ) (b : ℕ) (c : Cause) (t : Tree) (l : Layout) → FirstFault image b c → Fits image t l → ⊥
-none_fits image b c t l (at_boot h) fit = fails_not_all (boot_demands image ++ root_demands image (root_of image)) b c h (all_append (boot_demands image) (root_demands image (root_of image)) fit.boots fit.root)
+none_fits image b c t l (at_boot h) fit =
+    fails_not_all (boot_demands image ++ root_demands image (root_of image)) b c h
+    (all_append (boot_demands image) (root_demands image (root_of image)) fit.boots fit.root)
 none_fits image b c t l (at_due _ w r a i v d h) fit = fails_not_all (demands image w r a (word_in image a i)) b c h (due_is_part image t l fit w r a i v d).1
 none_fits image b c t l (at_bitmap _ w v whole h) fit =
     let size = fit.boots.0 in

@@ -53,7 +53,8 @@ module _ (image : List ℕ) where
   asks_one w v (MapExt zero) a i b j h k = (h.1 ∙ sym k.1, h.2 ∙ sym k.2)
   asks_one w v (MapExt (suc x)) a i b j h k = ((one_block image v (MapExt x) (MapExt x) a b h.1 k.1 (refl, refl, refl)).1, h.2 ∙ sym k.2)
   asks_one w v (Head n p s zero) a i b j h k = (dir_one w v p a b h.2 k.2, h.3 ∙ sym k.3)
-  asks_one w v (Head n p s (suc x)) a i b j h k = ((one_block image v (Head h.1.0 p s x) (Head k.1.0 p s x) a b h.1.1 k.1.1 (refl, refl, refl)).1, h.2 ∙ sym k.2)
+  asks_one w v (Head n p s (suc x)) a i b j h k =
+      ((one_block image v (Head h.1.0 p s x) (Head k.1.0 p s x) a b h.1.1 k.1.1 (refl, refl, refl)).1, h.2 ∙ sym k.2)
   asks_one w v (Ext n zero) a i b j h k = absurd h
   asks_one w v (Ext n (suc zero)) a i b j h k = (file_one w v n a b h.0 k.0, h.1 ∙ sym k.1)
   asks_one w v (Ext n (suc (suc x))) a i b j h k = ((one_block image v (Ext n (suc x)) (Ext n (suc x)) a b h.0 k.0 (refl, refl, refl)).1, h.1 ∙ sym k.1)
@@ -186,4 +187,5 @@ module _ (image : List ℕ) where
   one_fault b c b' c' (at_bitmap h w v k g) (at_boot f) = absurd (fails_not_all (boot_demands image ++ root_demands image (root_of image)) b' c' f h)
   one_fault b c b' c' (at_bitmap h w v k g) (at_due h' w' r' a' i' v' d' g') = absurd (due_and_whole w' w r' a' i' b' c' v' v d' g' k)
   one_fault b c b' c' (at_bitmap h w v k g) (at_bitmap h' w' v' k' g') =
-      fails_one (bitmap_demands image w' 2 (blocks image - 2)) b c b' c' (subst (λ w. FirstFails (bitmap_demands image w 2 (blocks image - 2)) b c) (two_whole w w' v v' k k') g) g'
+      fails_one (bitmap_demands image w' 2 (blocks image - 2)) b c b' c'
+      (subst (λ w. FirstFails (bitmap_demands image w 2 (blocks image - 2)) b c) (two_whole w w' v v' k k') g) g'

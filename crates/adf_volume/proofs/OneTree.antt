@@ -24,7 +24,8 @@ same_entry e f a b c d = λ i. record { parent = a i; name = b i; meta = c i; bo
 same_place : (q r : Place) → q.head ≡ r.head → q.exts ≡ r.exts → q.datas ≡ r.datas → q ≡ r
 same_place q r a b c = λ i. record { head = a i; exts = b i; datas = c i }
 
-module _ (image : List ℕ) (w : List (Role × ℕ)) (v : IsWalk image w) (whole : IsWhole image w) (t : Tree) (l : Layout) (fit : Fits image t l) (u : Tree) (m : Layout) (fit' : Fits image u m) where
+module _ (image : List ℕ) (w : List (Role × ℕ)) (v : IsWalk image w) (whole : IsWhole image w) (t : Tree) (l : Layout) (fit : Fits image t l) (u : Tree)
+    (m : Layout) (fit' : Fits image u m) where
   carry : (r : Role) (b : ℕ) → Part image t l r b → Part image u m r b
   carry r b h = agreement image u m fit' w r b v (part_walked image t l fit w v whole r b h)
 
@@ -83,7 +84,8 @@ module _ (image : List ℕ) (w : List (Role × ℕ)) (v : IsWalk image w) (whole
       let e = entry_some t (suc i) (omega arith) (omega arith) in
       let a = place_parts l.places i q h in
       let b = place_parts m.places i r.0 r.1 in
-      let same : q ≡ r.0 = same_place q r.0 (sym a.0 ∙ same_head_block (suc i) e.0 e.1 ∙ b.0) (sym a.1 ∙ same_exts (suc i) ∙ b.1) (sym a.2 ∙ same_datas (suc i) ∙ b.2) in
+      let same : q ≡ r.0 = same_place q r.0 (sym a.0 ∙ same_head_block (suc i) e.0 e.1 ∙ b.0) (sym a.1 ∙ same_exts (suc i) ∙ b.1)
+      (sym a.2 ∙ same_datas (suc i) ∙ b.2) in
       subst (At m.places i) (sym same) r.1
 
 same_tree : (t u : Tree) → t.kind ≡ u.kind → t.label ≡ u.label → t.stamps ≡ u.stamps → t.entries ≡ u.entries → t ≡ u
@@ -97,7 +99,8 @@ pub one_tree : (image : List ℕ) (w : List (Role × ℕ)) (t u : Tree) (l m : L
     → (t ≡ u) × (l ≡ m)
 one_tree image w t u l m v whole f g = (
   same_tree t u (f.kind ∙ sym g.kind) (f.label ∙ sym g.label) (f.stamps ∙ sym g.stamps)
-      (same_list t.entries u.entries (λ i e h. entry_carried image w v whole t l f u m g (suc i) e h) (λ i e h. entry_carried image w v whole u m g t l f (suc i) e h)),
+      (same_list t.entries u.entries (λ i e h. entry_carried image w v whole t l f u m g (suc i) e h)
+      (λ i e h. entry_carried image w v whole u m g t l f (suc i) e h)),
   same_layout l m (same_pages image w v whole t l f u m g) (same_map_exts image w v whole t l f u m g)
       (same_list l.places m.places (λ i q h. place_carried image w v whole t l f u m g i q h) (λ i q h. place_carried image w v whole u m g t l f i q h)),
 )

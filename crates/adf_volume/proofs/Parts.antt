@@ -27,7 +27,9 @@ owned_ext n [] i k b h = absurd h
 owned_ext n (q ∷ qs) zero k b h =
     let z : n ≡ n + 0 = omega arith in
     let y : 1 + k ≡ suc k = omega arith in
-    let m : In (numbered (AnExt n) 1 q.exts) (AnExt (n + 0) (suc k), b) = subst (λ m. In (numbered (AnExt n) 1 q.exts) (AnExt m (suc k), b)) z (subst (λ k. In (numbered (AnExt n) 1 q.exts) (AnExt n k, b)) y (in_numbered (AnExt n) 1 q.exts k b h)) in
+    let m : In (numbered (AnExt n) 1 q.exts) (AnExt (n + 0) (suc k), b) =
+    subst (λ m. In (numbered (AnExt n) 1 q.exts) (AnExt m (suc k), b)) z
+    (subst (λ k. In (numbered (AnExt n) 1 q.exts) (AnExt n k, b)) y (in_numbered (AnExt n) 1 q.exts k b h)) in
     inr (in_left (numbered (AnExt n) 1 q.exts ++ numbered (AData n) 1 q.datas) (owned_from (suc n) qs) (AnExt (n + 0) (suc k), b)
     (in_left (numbered (AnExt n) 1 q.exts) (numbered (AData n) 1 q.datas) (AnExt (n + 0) (suc k), b) m))
 owned_ext n (q ∷ qs) (suc i) k b h =
@@ -40,7 +42,9 @@ owned_data n [] i k b h = absurd h
 owned_data n (q ∷ qs) zero k b h =
     let z : n ≡ n + 0 = omega arith in
     let y : 1 + k ≡ suc k = omega arith in
-    let m : In (numbered (AData n) 1 q.datas) (AData (n + 0) (suc k), b) = subst (λ m. In (numbered (AData n) 1 q.datas) (AData m (suc k), b)) z (subst (λ k. In (numbered (AData n) 1 q.datas) (AData n k, b)) y (in_numbered (AData n) 1 q.datas k b h)) in
+    let m : In (numbered (AData n) 1 q.datas) (AData (n + 0) (suc k), b) =
+    subst (λ m. In (numbered (AData n) 1 q.datas) (AData m (suc k), b)) z
+    (subst (λ k. In (numbered (AData n) 1 q.datas) (AData n k, b)) y (in_numbered (AData n) 1 q.datas k b h)) in
     inr (in_left (numbered (AnExt n) 1 q.exts ++ numbered (AData n) 1 q.datas) (owned_from (suc n) qs) (AData (n + 0) (suc k), b)
     (in_right (numbered (AnExt n) 1 q.exts) (numbered (AData n) 1 q.datas) (AData (n + 0) (suc k), b) m))
 owned_data n (q ∷ qs) (suc i) k b h =
@@ -66,32 +70,40 @@ owned_stands n (q ∷ qs) o b (inr h) =
     let z : n ≡ n + 0 = omega arith in
     elim (in_cases (numbered (AnExt n) 1 q.exts ++ numbered (AData n) 1 q.datas) (owned_from (suc n) qs) (o, b) h) [
       | inl g ↦ elim (in_cases (numbered (AnExt n) 1 q.exts) (numbered (AData n) 1 q.datas) (o, b) g) [
-        | inl f ↦ let r = numbered_at (AnExt n) 1 q.exts o b f in let y : 1 + r.0 ≡ suc r.0 = omega arith in in_ext 0 r.0 r.1 (r.2 ∙ ap (AnExt n) y ∙ ap (λ m. AnExt m (suc r.0)) z)
-        | inr f ↦ let r = numbered_at (AData n) 1 q.datas o b f in let y : 1 + r.0 ≡ suc r.0 = omega arith in in_data 0 r.0 r.1 (r.2 ∙ ap (AData n) y ∙ ap (λ m. AData m (suc r.0)) z)
+        | inl f ↦
+            let r = numbered_at (AnExt n) 1 q.exts o b f in
+            let y : 1 + r.0 ≡ suc r.0 = omega arith in in_ext 0 r.0 r.1 (r.2 ∙ ap (AnExt n) y ∙ ap (λ m. AnExt m (suc r.0)) z)
+        | inr f ↦
+            let r = numbered_at (AData n) 1 q.datas o b f in
+            let y : 1 + r.0 ≡ suc r.0 = omega arith in in_data 0 r.0 r.1 (r.2 ∙ ap (AData n) y ∙ ap (λ m. AData m (suc r.0)) z)
       ]
       | inr g ↦ later n q qs o b (owned_stands (suc n) qs o b g)
     ]
 
 module _ (image : List ℕ) (t : Tree) (l : Layout) (fit : Fits image t l) where
   places_owned : (o : Owner) (b : ℕ) → In (owned_from 1 l.places) (o, b) → In (owned image l) (o, b)
-  places_owned o b h = inr (in_right (numbered APage 0 l.pages) (numbered AMapExt 0 l.map_exts ++ owned_from 1 l.places) (o, b) (in_right (numbered AMapExt 0 l.map_exts) (owned_from 1 l.places) (o, b) h))
+  places_owned o b h = inr (in_right (numbered APage 0 l.pages) (numbered AMapExt 0 l.map_exts ++ owned_from 1 l.places) (o, b)
+      (in_right (numbered AMapExt 0 l.map_exts) (owned_from 1 l.places) (o, b) h))
 
   pub part_owned : (r : Role) (b : ℕ) → Part image t l r b → In (owned image l) (owner_of r, b)
   part_owned Root b h = inl (λ i. (TheRoot, h i))
   part_owned (Page k) b h =
       let z : 0 + k ≡ k = omega arith in
-      inr (in_left (numbered APage 0 l.pages) (numbered AMapExt 0 l.map_exts ++ owned_from 1 l.places) (APage k, b) (subst (λ k. In (numbered APage 0 l.pages) (APage k, b)) z (in_numbered APage 0 l.pages k b h)))
+      inr (in_left (numbered APage 0 l.pages) (numbered AMapExt 0 l.map_exts ++ owned_from 1 l.places) (APage k, b)
+      (subst (λ k. In (numbered APage 0 l.pages) (APage k, b)) z (in_numbered APage 0 l.pages k b h)))
   part_owned (MapExt k) b h =
       let z : 0 + k ≡ k = omega arith in
       inr (in_right (numbered APage 0 l.pages) (numbered AMapExt 0 l.map_exts ++ owned_from 1 l.places) (AMapExt k, b)
-      (in_left (numbered AMapExt 0 l.map_exts) (owned_from 1 l.places) (AMapExt k, b) (subst (λ k. In (numbered AMapExt 0 l.map_exts) (AMapExt k, b)) z (in_numbered AMapExt 0 l.map_exts k b h))))
+      (in_left (numbered AMapExt 0 l.map_exts) (owned_from 1 l.places) (AMapExt k, b)
+      (subst (λ k. In (numbered AMapExt 0 l.map_exts) (AMapExt k, b)) z (in_numbered AMapExt 0 l.map_exts k b h))))
   part_owned (Head zero p s j) b h = let e = entry_at t p s j 0 h.0 in absurd e.1
   part_owned (Head (suc i) p s j) b h =
       let e = entry_at t p s j (suc i) h.0 in
       let k : suc i ≤ length t.entries = entry_below t (suc i) e.0 e.1 in
       let f : length l.places ≡ length t.entries = fit.places in
       let z : 1 + i ≡ suc i = omega arith in
-      places_owned (AHead (suc i)) b (subst (λ b. In (owned_from 1 l.places) (AHead (suc i), b)) h.1 (subst (λ m. In (owned_from 1 l.places) (AHead m, head_at l.places i)) z (owned_head 1 l.places i (omega arith))))
+      places_owned (AHead (suc i)) b (subst (λ b. In (owned_from 1 l.places) (AHead (suc i), b)) h.1
+      (subst (λ m. In (owned_from 1 l.places) (AHead m, head_at l.places i)) z (owned_head 1 l.places i (omega arith))))
   part_owned (Ext n zero) b h = absurd h
   part_owned (Ext zero (suc k)) b h = absurd h
   part_owned (Ext (suc i) (suc k)) b h =

@@ -21,7 +21,8 @@ take_append : (s : ℕ) (xs ys : List ℕ) → take s (xs ++ ys) ≡ take s xs +
 take_append zero [] ys = let z : 0 - length {A = ℕ} [] ≡ 0 = omega arith in ap (λ k. take k ys) (sym z)
 take_append (suc s) [] ys = let z : suc s - length {A = ℕ} [] ≡ suc s = omega arith in ap (λ k. take k ys) (sym z)
 take_append zero (x ∷ xs) ys = let z : 0 - length (x ∷ xs) ≡ 0 = omega arith in sym (take_zero ys) ∙ ap (λ k. take k ys) (sym z)
-take_append (suc s) (x ∷ xs) ys = let z : s - length xs ≡ suc s - length (x ∷ xs) = omega arith in ap (λ zs. x ∷ zs) (take_append s xs ys) ∙ ap (λ k. x ∷ (take s xs ++ take k ys)) z
+take_append (suc s) (x ∷ xs) ys =
+    let z : s - length xs ≡ suc s - length (x ∷ xs) = omega arith in ap (λ zs. x ∷ zs) (take_append s xs ys) ∙ ap (λ k. x ∷ (take s xs ++ take k ys)) z
 
 -- what is left of a size from data block k + 1 on
 left : Kind → ℕ → ℕ → ℕ
@@ -57,7 +58,8 @@ pieces_from image kind size k (b ∷ bs) z l =
     let n : length (area kind (block image b)) ≡ chunk kind = area_length image kind b z (l 0 b refl) in
     let ih = pieces_from image kind size (suc k) bs z (λ i c h. l (suc i) c h) in
     ap (λ xs. xs ++ concat (pieces image kind size (suc (suc k)) bs)) (held_is kind size k (area kind (block image b)) n)
-    ∙ (ap (λ ys. take (left kind size k) (area kind (block image b)) ++ ys) (ih ∙ ap (λ m. take m (joined image kind bs)) (sym (left_more kind size k (length (area kind (block image b))) n)))
+    ∙ (ap (λ ys. take (left kind size k) (area kind (block image b)) ++ ys)
+    (ih ∙ ap (λ m. take m (joined image kind bs)) (sym (left_more kind size k (length (area kind (block image b))) n)))
     ∙ sym (take_append (left kind size k) (area kind (block image b)) (joined image kind bs)))
 
 left_all : (kind : Kind) (size : ℕ) → left kind size 0 ≡ size
@@ -68,7 +70,8 @@ left_all kind size = let z : chunk kind * 0 ≡ 0 = omega arith in omega arith
 pub pieces_joined : (image : List ℕ) (kind : Kind) (h : ℕ) (bs : List ℕ) → length image ≡ 512 * blocks image → ((i b : ℕ) → At bs i b → b < blocks image)
     → concat (pieces image kind (word_in image h 81) 1 bs) ≡ content image kind h bs
 unfolding content
-pieces_joined image kind h bs z l = pieces_from image kind (word_in image h 81) 0 bs z l ∙ ap (λ n. take n (joined image kind bs)) (left_all kind (word_in image h 81))
+pieces_joined image kind h bs z l =
+    pieces_from image kind (word_in image h 81) 0 bs z l ∙ ap (λ n. take n (joined image kind bs)) (left_all kind (word_in image h 81))
 
 -- there is a piece for each data block
 pub pieces_length : (image : List ℕ) (kind : Kind) (size k : ℕ) (bs : List ℕ) → length (pieces image kind size k bs) ≡ length bs

@@ -113,7 +113,8 @@ module _ (image : List ℕ) (t : Tree) (l : Layout) (fit : Fits image t l) where
         let s1 : s < 72 = omega arith in
         let sp = fit.chains p s (is_dir t p d) s1 in
         let named : word_in image (at_node image l p) (6 + s) ≡ at_node image l n =
-        spelled_word (λ b. word_in image b 124) (word_in image (at_node image l p) (6 + s)) (map (at_node image l) (chain_nodes t p s)) (at_node image l n) sp (at_map (at_node image l) (chain_nodes t p s) 0 n h) in
+        spelled_word (λ b. word_in image b 124) (word_in image (at_node image l p) (6 + s)) (map (at_node image l) (chain_nodes t p s)) (at_node image l n)
+        sp (at_map (at_node image l) (chain_nodes t p s) 0 n h) in
         let r = part_range image t l fit (Head n p s 0) (at_node image l n) (h, refl) in
         let r1 : 2 ≤ at_node image l n = r.0 in
         (at_node image l p, 6 + s, (u, s1, has_dir p (omega arith) d, refl, (λ z. let k : at_node image l n ≡ 0 = sym named ∙ z in omega arith)))
@@ -131,7 +132,8 @@ module _ (image : List ℕ) (t : Tree) (l : Layout) (fit : Fits image t l) where
         let k = has_node p s j m b.1 (omega arith) in
         let z : at_node image l m ≡ k.0 = (ag (Head m p s j) k.0 k.1).1 in
         let named : word_in image (at_node image l m) 124 ≡ at_node image l n =
-        spelled_link (λ b. word_in image b 124) (word_in image (at_node image l p) (6 + s)) (map (at_node image l) (chain_nodes t p s)) j (at_node image l m) (at_node image l n) sp
+        spelled_link (λ b. word_in image b 124) (word_in image (at_node image l p) (6 + s)) (map (at_node image l) (chain_nodes t p s)) j
+        (at_node image l m) (at_node image l n) sp
         (at_map (at_node image l) (chain_nodes t p s) j m b.1) (at_map (at_node image l) (chain_nodes t p s) (suc j) n h) in
         let r = part_range image t l fit (Head n p s (suc j)) (at_node image l n) (h, refl) in
         let r1 : 2 ≤ at_node image l n = r.0 in
@@ -217,7 +219,8 @@ module _ (image : List ℕ) (t : Tree) (l : Layout) (fit : Fits image t l) where
         let z : word_in image (at_node image l p) (6 + s) ≡ word_in image a i = ap (λ a. word_in image a (6 + s)) g.1 ∙ ap (word_in image a) (sym q.3) in
         let sp = fit.chains p s (is_dir t p g.0) q.1 in
         let x : At (map (at_node image l) (chain_nodes t p s)) 0 (word_in image (at_node image l p) (6 + s)) =
-        spelled_first (λ b. word_in image b 124) (word_in image (at_node image l p) (6 + s)) (map (at_node image l) (chain_nodes t p s)) sp (λ y. q.4 (sym z ∙ y)) in
+        spelled_first (λ b. word_in image b 124) (word_in image (at_node image l p) (6 + s)) (map (at_node image l) (chain_nodes t p s)) sp
+        (λ y. q.4 (sym z ∙ y)) in
         let m = at_unmap (at_node image l) (chain_nodes t p s) 0 (word_in image (at_node image l p) (6 + s)) x in
         let e : m.0 ≡ n = number_agrees p s 0 n m.0 a i d q.0 m.1 in
         (subst (At (chain_nodes t p s) 0) e m.1, ap (at_node image l) (sym e) ∙ m.2 ∙ z)
@@ -232,7 +235,8 @@ module _ (image : List ℕ) (t : Tree) (l : Layout) (fit : Fits image t l) where
         let sp = fit.chains p s (is_dir t p dir) (omega arith) in
         let z : word_in image (at_node image l y.0) 124 ≡ word_in image a i = ap (λ a. word_in image a 124) pt.1 ∙ ap (word_in image a) (sym q.2) in
         let x : At (map (at_node image l) (chain_nodes t p s)) (suc j) (word_in image (at_node image l y.0) 124) =
-        spelled_next (λ b. word_in image b 124) (word_in image (at_node image l p) (6 + s)) (map (at_node image l) (chain_nodes t p s)) j (at_node image l y.0) sp
+        spelled_next (λ b. word_in image b 124) (word_in image (at_node image l p) (6 + s)) (map (at_node image l) (chain_nodes t p s)) j
+        (at_node image l y.0) sp
         (at_map (at_node image l) (chain_nodes t p s) j y.0 pt.0) (λ k. q.3 (sym z ∙ k)) in
         let m = at_unmap (at_node image l) (chain_nodes t p s) (suc j) (word_in image (at_node image l y.0) 124) x in
         let f : m.0 ≡ n = number_agrees p s (suc j) n m.0 a i d q.0 m.1 in
@@ -243,14 +247,16 @@ module _ (image : List ℕ) (t : Tree) (l : Layout) (fit : Fits image t l) where
         let f = file_agrees n a q.0 in
         let ff = fit.files n f.0 f.1 f.2 f.3 in
         let z : word_in image (at_node image l n) 126 ≡ word_in image a i = ap (λ a. word_in image a 126) f.5 ∙ ap (word_in image a) (sym q.1) in
-        subst (At (exts_of l n) 0) z (spelled_first (λ b. word_in image b 126) (word_in image (at_node image l n) 126) (exts_of l n) ff.exts (λ k. q.2 (sym z ∙ k)))
+        subst (At (exts_of l n) 0) z (spelled_first (λ b. word_in image b 126) (word_in image (at_node image l n) 126) (exts_of l n) ff.exts
+        (λ k. q.2 (sym z ∙ k)))
     due_part (Ext n (suc (suc k))) a i d =
         let q = d.asked in
         let h : At (exts_of l n) k a = ag (Ext n (suc k)) a q.0 in
         let f = is_file n k a h in
         let ff = fit.files n f.0 f.1 f.2 f.3 in
         let z : word_in image a 126 ≡ word_in image a i = ap (word_in image a) (sym q.1) in
-        subst (At (exts_of l n) (suc k)) z (spelled_next (λ b. word_in image b 126) (word_in image (at_node image l n) 126) (exts_of l n) k a ff.exts h (λ y. q.2 (sym z ∙ y)))
+        subst (At (exts_of l n) (suc k)) z (spelled_next (λ b. word_in image b 126) (word_in image (at_node image l n) 126) (exts_of l n) k a ff.exts h
+        (λ y. q.2 (sym z ∙ y)))
     due_part (Data n zero) a i d = absurd d.asked
     due_part (Data n (suc k)) a i d =
         let q = d.asked in
@@ -276,7 +282,8 @@ module _ (image : List ℕ) (t : Tree) (l : Layout) (fit : Fits image t l) where
         let ff = fit.files n g.0 g.1 g.2 g.3 in
         let rg : 2 ≤ e.0 = (part_range image t l fit (Ext n 1) e.0 e.1).0 in
         let z : at_node image l n ≡ h = file_block n h a f in
-        let y : word_in image (at_node image l n) 126 ≡ e.0 = spelled_word (λ b. word_in image b 126) (word_in image (at_node image l n) 126) (exts_of l n) e.0 ff.exts e.1 in
+        let y : word_in image (at_node image l n) 126 ≡ e.0 =
+        spelled_word (λ b. word_in image b 126) (word_in image (at_node image l n) 126) (exts_of l n) e.0 ff.exts e.1 in
         is_there image w (Ext n 1) (Data n (suc d0)) a i h 126 d
         (f, refl, (λ x. let o : e.0 ≡ 0 = sym y ∙ ap (λ a. word_in image a 126) z ∙ x in omega arith))
         (omega arith, (λ z. omega arith), (λ z y. omega arith)) (omega arith)
@@ -287,7 +294,8 @@ module _ (image : List ℕ) (t : Tree) (l : Layout) (fit : Fits image t l) where
         let g = is_file n (suc k) e.0 e.1 in
         let ff = fit.files n g.0 g.1 g.2 g.3 in
         let rg : 2 ≤ e.0 = (part_range image t l fit (Ext n (suc (suc k))) e.0 e.1).0 in
-        let y : word_in image x.0 126 ≡ e.0 = spelled_link (λ b. word_in image b 126) (word_in image (at_node image l n) 126) (exts_of l n) k x.0 e.0 ff.exts px e.1 in
+        let y : word_in image x.0 126 ≡ e.0 =
+        spelled_link (λ b. word_in image b 126) (word_in image (at_node image l n) 126) (exts_of l n) k x.0 e.0 ff.exts px e.1 in
         is_there image w (Ext n (suc (suc k))) (Data n (suc d0)) a i x.0 126 d
         (x.1, refl, (λ z. let o : e.0 ≡ 0 = sym y ∙ z in omega arith))
         (omega arith, (λ z. omega arith), (λ z y. omega arith)) (omega arith)
@@ -339,7 +347,9 @@ module _ (image : List ℕ) (t : Tree) (l : Layout) (fit : Fits image t l) where
         let up = (ordered t fit.tree).parents n e.0 e.1 in
         let u1 : e.0.parent < n = up.0 in
         let dir = has_dir e.0.parent (omega arith) up.1 in
-        let z : at_node image l e.0.parent ≡ node_block w p = sym (node_is image w e.0.parent (at_node image l e.0.parent) v (dir_is_node image w e.0.parent (at_node image l e.0.parent) dir)) ∙ ap (node_block w) e.2 in
+        let z : at_node image l e.0.parent ≡ node_block w p =
+        sym (node_is image w e.0.parent (at_node image l e.0.parent) v (dir_is_node image w e.0.parent (at_node image l e.0.parent) dir))
+        ∙ ap (node_block w) e.2 in
         subst (λ k. AllHold (head_demands image k b (node_block w p) s)) fit.kind
         (subst (λ b. AllHold (head_demands image t.kind b (node_block w p) s)) h.1
         (subst (λ c. AllHold (head_demands image t.kind (at_node image l n) c s)) z
@@ -365,8 +375,10 @@ module _ (image : List ℕ) (t : Tree) (l : Layout) (fit : Fits image t l) where
         let next : next_data image w n (suc k) ≡ slice_index (datas_of l n) (suc k) =
         next_agrees n k a i f.0 g.1 d f.1 ff c (nat_lt (suc k) (data_count image (node_block w n))) refl (at_below (datas_of l n) k b h) in
         let y = ff.data_form k b h in
-        subst (λ x. AllHold (data_demands image (kind_of image) b (node_block w n) (suc k) (held (kind_of image) (word_in image (node_block w n) 81) (suc k)) x)) (sym next)
-        (subst (λ z. AllHold (data_demands image (kind_of image) b (node_block w n) (suc k) (held (kind_of image) z (suc k)) (slice_index (datas_of l n) (suc k)))) size
+        subst (λ x. AllHold (data_demands image (kind_of image) b (node_block w n) (suc k)
+        (held (kind_of image) (word_in image (node_block w n) 81) (suc k)) x)) (sym next)
+        (subst (λ z. AllHold (data_demands image (kind_of image) b (node_block w n) (suc k) (held (kind_of image) z (suc k))
+        (slice_index (datas_of l n) (suc k)))) size
         (subst (λ y. AllHold (data_demands image y b (node_block w n) (suc k) (held y (length g.1) (suc k)) (slice_index (datas_of l n) (suc k)))) fit.kind
         (subst (λ h. AllHold (data_demands image t.kind b h (suc k) (held t.kind (length g.1) (suc k)) (slice_index (datas_of l n) (suc k)))) z y)))
 

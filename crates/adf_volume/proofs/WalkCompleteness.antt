@@ -73,8 +73,10 @@ module _ (image : List ℕ) (t : Tree) (l : Layout) (fit : Fits image t l) (w : 
       let g = is_file image t l fit w v ag n 0 b h in
       let ff = fit.files n g.0 g.1 g.2 g.3 in
       let rg : 2 ≤ b = (part_range image t l fit (Ext n 1) b h).0 in
-      let y : word_in image (at_node image l n) 126 ≡ b = spelled_word (λ b. word_in image b 126) (word_in image (at_node image l n) 126) (exts_of l n) b ff.exts h in
-      let x = asked_block image w whole (Ext n 1) (at_node image l n) 126 (has_file n g.0 g.1 g.2 g.3, refl, (λ z. let o : b ≡ 0 = sym y ∙ z in omega arith)) (omega arith) in
+      let y : word_in image (at_node image l n) 126 ≡ b =
+      spelled_word (λ b. word_in image b 126) (word_in image (at_node image l n) 126) (exts_of l n) b ff.exts h in
+      let x = asked_block image w whole (Ext n 1) (at_node image l n) 126
+      (has_file n g.0 g.1 g.2 g.3, refl, (λ z. let o : b ≡ 0 = sym y ∙ z in omega arith)) (omega arith) in
       subst (Has w (Ext n 1)) (at_fun (exts_of l n) 0 x.0 b (ag (Ext n 1) x.0 x.1) h) x.1
   all_exts n (suc k) b h =
       let c = at_before (exts_of l n) k b h in
@@ -82,7 +84,8 @@ module _ (image : List ℕ) (t : Tree) (l : Layout) (fit : Fits image t l) (w : 
       let g = is_file image t l fit w v ag n (suc k) b h in
       let ff = fit.files n g.0 g.1 g.2 g.3 in
       let rg : 2 ≤ b = (part_range image t l fit (Ext n (suc (suc k))) b h).0 in
-      let y : word_in image c.0 126 ≡ b = spelled_link (λ b. word_in image b 126) (word_in image (at_node image l n) 126) (exts_of l n) k c.0 b ff.exts c.1 h in
+      let y : word_in image c.0 126 ≡ b =
+      spelled_link (λ b. word_in image b 126) (word_in image (at_node image l n) 126) (exts_of l n) k c.0 b ff.exts c.1 h in
       let x = asked_block image w whole (Ext n (suc (suc k))) c.0 126 (hc, refl, (λ z. let o : b ≡ 0 = sym y ∙ z in omega arith)) (omega arith) in
       subst (Has w (Ext n (suc (suc k)))) (at_fun (exts_of l n) (suc k) x.0 b (ag (Ext n (suc (suc k))) x.0 x.1) h) x.1
 
@@ -117,13 +120,19 @@ module _ (image : List ℕ) (t : Tree) (l : Layout) (fit : Fits image t l) (w : 
   all_map_exts zero b h =
       let u : 0 < length l.map_exts = at_below l.map_exts 0 b h in
       let p : length l.map_exts ≡ map_exts_needed (pages_needed (blocks image)) = fit.map_exts in
-      let x = asked_block image w whole (MapExt 0) (root_of image) 104 (map_exts_low (pages_needed (blocks image)) 0 (omega arith), refl, refl) (omega arith) in
+      let x = asked_block image w whole (MapExt 0) (root_of image) 104 (map_exts_low (pages_needed (blocks image)) 0 (omega arith), refl, refl)
+      (omega arith) in
       subst (Has w (MapExt 0)) (at_fun l.map_exts 0 x.0 b (ag (MapExt 0) x.0 x.1) h) x.1
   all_map_exts (suc j) b h =
       let u : suc j < length l.map_exts = at_below l.map_exts (suc j) b h in
       let p : length l.map_exts ≡ map_exts_needed (pages_needed (blocks image)) = fit.map_exts in
       let c = at_before l.map_exts j b h in
-      let x = asked_block image w whole (MapExt (suc j)) c.0 127 (map_exts_low (pages_needed (blocks image)) (suc j) (omega arith), all_map_exts j c.0 c.1, refl) (omega arith) in
+      let x = asked_block image w whole (MapExt (suc j)) c.0 127 (
+        map_exts_low (pages_needed (blocks image)) (suc j) (omega arith),
+        all_map_exts j c.0
+            c.1,
+        refl,
+      ) (omega arith) in
       subst (Has w (MapExt (suc j))) (at_fun l.map_exts (suc j) x.0 b (ag (MapExt (suc j)) x.0 x.1) h) x.1
 
   some_map_ext : (j : ℕ) → 25 + 127 * j < pages_needed (blocks image) → (a : ℕ) × Has w (MapExt j) a

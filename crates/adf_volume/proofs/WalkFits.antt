@@ -49,7 +49,8 @@ module _ (image : List ℕ) (w : List (Role × ℕ)) (v : IsWalk image w) (whole
     chains = (λ p s d lt. (chains_spelled image w v whole) p s (dir_node (tree_in image w) p d) lt);
     files = (λ n e bytes h f.
         let x = file_at image w v whole n e bytes h f in
-        subst (λ h. FileFits image (tree_in image w) (layout_in w) n h bytes) (sym x.3) (file_fits image w v whole n x.0 bytes x.1 (ap length x.2 ∙ (content_long image w v whole boots) n x.0 x.1)));
+        subst (λ h. FileFits image (tree_in image w) (layout_in w) n h bytes) (sym x.3)
+        (file_fits image w v whole n x.0 bytes x.1 (ap length x.2 ∙ (content_long image w v whole boots) n x.0 x.1)));
     once = once image w v whole;
     range = (λ o b h. let r = owned_has image w v whole o b h in in_range image v (size_low (blocks image) boots.0.1) r.0 b r.1);
     bitmap = (λ b lo hi.

@@ -151,7 +151,8 @@ module _ (image : List ℕ) where
               let f2 : k < data_count image f.0 = f.2 in
               let en : data_count image f.0 ≤ 72 * suc (ext_count w n) = enough image w v (λ r b h. kept image v r b h) n k a i b f.0 d g f.1 f.2 in
               let t = there image w v (λ r b h. kept image v r b h) n (m / 72) f.0 f.1 (omega arith) in
-              let x = is_there image w (Data n (suc m)) (Data n (suc k)) a i t.0 (table_word m) d ((f.0, f.1, omega arith), t.1, refl) (omega arith, (λ z. omega arith), (λ z y. omega arith)) (omega arith) in
+              let x = is_there image w (Data n (suc m)) (Data n (suc k)) a i t.0 (table_word m) d ((f.0, f.1, omega arith), t.1, refl)
+              (omega arith, (λ z. omega arith), (λ z y. omega arith)) (omega arith) in
               let y : m < length (datas_in w n) = at_below (datas_in w n) m x.0 (ih.to m x.0 x.1) in
               absurd (omega arith)
         ]
@@ -282,7 +283,8 @@ module _ (image : List ℕ) where
 
     -- the chains with one more header
     chain_head : (w : List (Role × ℕ)) (n p s j c q u : ℕ) → n ≡ suc (heads w) →
-        nodes_from 1 (push_head (entry_in image full) (Head n p s j) c (entries_in image full w)) q u ≡ chain_in w q u ++ cond ((p == q) && (slot_of (name_of image c) == u)) (n ∷ []) []
+        nodes_from 1 (push_head (entry_in image full) (Head n p s j) c (entries_in image full w)) q u
+        ≡ chain_in w q u ++ cond ((p == q) && (slot_of (name_of image c) == u)) (n ∷ []) []
     chain_head w n p s j c q u z =
         let l : length (entries_in image full w) ≡ heads w = entries_length image full w in
         let y : 1 + length (entries_in image full w) ≡ n = omega arith in

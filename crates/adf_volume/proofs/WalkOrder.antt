@@ -72,7 +72,8 @@ module _ (image : List ℕ) where
   pub parent_below : {w : List (Role × ℕ)} → IsWalk image w → (n p s j b : ℕ) → Has w (Head n p s j) b → p < n
   parent_below start n p s j b (inl e) = let h : second Root ≡ second (Head n p s j) = ap second e.0 in absurd (omega arith)
   parent_below start n p s j b (inr f) = absurd f
-  parent_below (step {w = w} {r = r} {a = a} {i = i} v d g c) n p s j b (inl e) = asks_parent v n p s j a i (parent_below v) (subst (λ r. Asks image w r a i) e.0 d.asked)
+  parent_below (step {w = w} {r = r} {a = a} {i = i} v d g c) n p s j b (inl e) =
+      asks_parent v n p s j a i (parent_below v) (subst (λ r. Asks image w r a i) e.0 d.asked)
   parent_below (step v d g c) n p s j b (inr h) = parent_below v n p s j b h
 
   module _ (w : List (Role × ℕ)) (v : IsWalk image w) (q : Role) (c a0 i0 : ℕ) (d : IsDue image w q a0 i0) where

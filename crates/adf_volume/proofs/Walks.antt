@@ -217,7 +217,8 @@ module _ (image : List ℕ) where
   asks_file w n (suc (suc k)) a i h f = f (suc k) a h.0
 
   pub ext_file : {w : List (Role × ℕ)} → IsWalk image w → (n k b : ℕ) → Has w (Ext n k) b → (h : ℕ) × FileAt image w n h
-  ext_file start n k b (inl e) = let h : second Root ≡ second (Ext n k) = ap second e.0 in let g : first Root ≡ first (Ext n k) = ap first e.0 in absurd (omega arith)
+  ext_file start n k b (inl e) =
+      let h : second Root ≡ second (Ext n k) = ap second e.0 in let g : first Root ≡ first (Ext n k) = ap first e.0 in absurd (omega arith)
   ext_file start n k b (inr f) = absurd f
   ext_file (step {w = w} {r = r} {a = a} {i = i} v d g c) n k b (inl e) =
       let x = asks_file w n k a i (subst (λ r. Asks image w r a i) e.0 d.asked) (ext_file v n) in
@@ -263,7 +264,8 @@ module _ (image : List ℕ) where
   node_is w (suc i) a v h = head_block v (suc i) h.0 h.1 h.2 a h.3
 
   ext_block_new : (n k : ℕ) (r : Role) (b c : ℕ) → r ≡ Ext n k → ext_block_of n k r b c ≡ b
-  ext_block_new n k r b c e = ap (λ r. ext_block_of n k r b c) e ∙ ap (λ t. cond t (cond (k == k) b c) c) (eq-eqb n n refl) ∙ ap (λ t. cond t b c) (eq-eqb k k refl)
+  ext_block_new n k r b c e =
+      ap (λ r. ext_block_of n k r b c) e ∙ ap (λ t. cond t (cond (k == k) b c) c) (eq-eqb n n refl) ∙ ap (λ t. cond t b c) (eq-eqb k k refl)
 
   cond_both : (t u : Bool) (b c a : ℕ) → (t ≡ true → u ≡ true → ⊥) → c ≡ a → cond t (cond u b c) c ≡ a
   cond_both true true b c a h z = absurd (h refl refl)
@@ -271,11 +273,13 @@ module _ (image : List ℕ) where
   cond_both false u b c a h z = z
 
   ext_block_old : (n k : ℕ) (r : Role) (b c a : ℕ) → (r ≡ Ext n k → ⊥) → c ≡ a → ext_block_of n k r b c ≡ a
-  ext_block_old n k (Ext m i) b c a h z = cond_both (n == m) (k == i) b c a (λ t u. h (ap (λ m. Ext m i) (sym (eqb-true n m t)) ∙ ap (Ext n) (sym (eqb-true k i u)))) z
+  ext_block_old n k (Ext m i) b c a h z =
+      cond_both (n == m) (k == i) b c a (λ t u. h (ap (λ m. Ext m i) (sym (eqb-true n m t)) ∙ ap (Ext n) (sym (eqb-true k i u)))) z
   ext_block_old n k _ b c a h z = z
 
   ext_is_block : {w : List (Role × ℕ)} → IsWalk image w → (n k b : ℕ) → Has w (Ext n k) b → ext_block w n k ≡ b
-  ext_is_block start n k b (inl e) = let h : second Root ≡ second (Ext n k) = ap second e.0 in let g : first Root ≡ first (Ext n k) = ap first e.0 in absurd (omega arith)
+  ext_is_block start n k b (inl e) =
+      let h : second Root ≡ second (Ext n k) = ap second e.0 in let g : first Root ≡ first (Ext n k) = ap first e.0 in absurd (omega arith)
   ext_is_block start n k b (inr f) = absurd f
   ext_is_block (step {w = w} {r = r} {b = b'} v d g c) n k b (inl e) = ext_block_new n k r b' (ext_block w n k) e.0 ∙ e.1
   ext_is_block (step {w = w} {r = r} {b = b'} v d g c) n k b (inr h) =

@@ -106,9 +106,12 @@ module _ (image : List ℕ) (w : List (Role × ℕ)) (v : IsWalk image w) (whole
         let x = entry_is n e h in
         let y = entry_is m f k in
         let p1 : x.0 ≡ y.0 = sym (ap (λ (z : Entry). z.parent) x.5) ∙ z ∙ ap (λ (z : Entry). z.parent) y.5 in
-        let nm : uppers (name_of image x.3) ≡ uppers (name_of image y.3) = sym (ap (λ (z : Entry). uppers z.name) x.5) ∙ u ∙ ap (λ (z : Entry). uppers z.name) y.5 in
-        let s1 : x.1 ≡ y.1 = sym (slot_is image w v n x.0 x.1 x.2 x.3 x.4) ∙ same_slot (name_of image x.3) (name_of image y.3) nm ∙ slot_is image w v m y.0 y.1 y.2 y.3 y.4 in
-        let y4 : Has w (Head m x.0 x.1 y.2) y.3 = subst (λ p. Has w (Head m p x.1 y.2) y.3) (sym p1) (subst (λ s. Has w (Head m y.0 s y.2) y.3) (sym s1) y.4) in
+        let nm : uppers (name_of image x.3) ≡ uppers (name_of image y.3) =
+        sym (ap (λ (z : Entry). uppers z.name) x.5) ∙ u ∙ ap (λ (z : Entry). uppers z.name) y.5 in
+        let s1 : x.1 ≡ y.1 = sym (slot_is image w v n x.0 x.1 x.2 x.3 x.4) ∙ same_slot (name_of image x.3) (name_of image y.3) nm
+        ∙ slot_is image w v m y.0 y.1 y.2 y.3 y.4 in
+        let y4 : Has w (Head m x.0 x.1 y.2) y.3 =
+        subst (λ p. Has w (Head m p x.1 y.2) y.3) (sym p1) (subst (λ s. Has w (Head m y.0 s y.2) y.3) (sym s1) y.4) in
         new_names image v n m x.0 x.1 x.2 y.2 x.3 y.3 x.4 y4 ne nm);
   }
 
@@ -118,13 +121,15 @@ module _ (image : List ℕ) (w : List (Role × ℕ)) (v : IsWalk image w) (whole
         | yes u ↦
             let m = page_word image w (length (pages_in w)) u (λ j y. all_map_exts image w whole j (omega arith)) in
             let x = asked_block image w whole (Page (length (pages_in w))) m.0 m.1 m.2 (omega arith) in
-            let y : length (pages_in w) < length (pages_in w) = at_below (pages_in w) (length (pages_in w)) x.0 (page_has image w v (length (pages_in w)) x.0 x.1) in
+            let y : length (pages_in w) < length (pages_in w) =
+            at_below (pages_in w) (length (pages_in w)) x.0 (page_has image w v (length (pages_in w)) x.0 x.1) in
             omega arith
         | no u ↦ elim (dec_lt (pages_needed (blocks image)) (length (pages_in w))) [
           | no l ↦ omega arith
           | yes l ↦
               let x = at_some (pages_in w) (pages_needed (blocks image)) l in
-              let y : pages_needed (blocks image) < pages_needed (blocks image) = (kept image v (Page (pages_needed (blocks image))) x.0 (has_page image w v (pages_needed (blocks image)) x.0 x.1)).0 in
+              let y : pages_needed (blocks image) < pages_needed (blocks image) =
+              (kept image v (Page (pages_needed (blocks image))) x.0 (has_page image w v (pages_needed (blocks image)) x.0 x.1)).0 in
               omega arith
         ]
       ]
@@ -134,14 +139,16 @@ module _ (image : List ℕ) (w : List (Role × ℕ)) (v : IsWalk image w) (whole
       elim (dec_lt (length (map_exts_in w)) (map_exts_needed (pages_needed (blocks image)))) [
         | yes u ↦
             let x = all_map_exts image w whole (length (map_exts_in w)) (map_exts_low (pages_needed (blocks image)) (length (map_exts_in w)) u) in
-            let y : length (map_exts_in w) < length (map_exts_in w) = at_below (map_exts_in w) (length (map_exts_in w)) x.0 (map_ext_has image w v (length (map_exts_in w)) x.0 x.1) in
+            let y : length (map_exts_in w) < length (map_exts_in w) =
+            at_below (map_exts_in w) (length (map_exts_in w)) x.0 (map_ext_has image w v (length (map_exts_in w)) x.0 x.1) in
             omega arith
         | no u ↦ elim (dec_lt (map_exts_needed (pages_needed (blocks image))) (length (map_exts_in w))) [
           | no l ↦ omega arith
           | yes l ↦
               let m : ℕ = map_exts_needed (pages_needed (blocks image)) in
               let x = at_some (map_exts_in w) m l in
-              let y : m < map_exts_needed (pages_needed (blocks image)) = map_exts_high (pages_needed (blocks image)) m (map_ext_low image w m x.0 v (has_map_ext image w v m x.0 x.1)) in
+              let y : m < map_exts_needed (pages_needed (blocks image)) =
+              map_exts_high (pages_needed (blocks image)) m (map_ext_low image w m x.0 v (has_map_ext image w v m x.0 x.1)) in
               absurd (omega arith)
         ]
       ]
@@ -179,7 +186,8 @@ module _ (image : List ℕ) (w : List (Role × ℕ)) (v : IsWalk image w) (whole
 
   -- the chains are spelled
   pub chains_spelled : (p s : ℕ) → DirNode (tree_in image w) p → s < 72 →
-      Spelled (λ b. word_in image b 124) (word_in image (at_node image (layout_in w) p) (6 + s)) (map (at_node image (layout_in w)) (chain_nodes (tree_in image w) p s))
+      Spelled (λ b. word_in image b 124) (word_in image (at_node image (layout_in w) p) (6 + s))
+      (map (at_node image (layout_in w)) (chain_nodes (tree_in image w) p s))
   chains_spelled p s d lt =
       let da = is_dir_at p d in
       let a : ℕ = at_node image (layout_in w) p in
@@ -348,8 +356,10 @@ module _ (image : List ℕ) (w : List (Role × ℕ)) (v : IsWalk image w) (whole
         datas = ap length da ∙ datas_length n h f ∙ sym ct;
         named = (λ k b a x y. data_named n h k b a f (subst (λ xs. At xs k b) da x) y);
         data_form = (λ k b x.
-            subst (λ xs. AllHold (data_demands image (kind_of image) b h (suc k) (held (kind_of image) (length bytes) (suc k)) (slice_index xs (suc k)))) (sym da)
-            (subst (λ z. AllHold (data_demands image (kind_of image) b h (suc k) (held (kind_of image) z (suc k)) (slice_index (datas_in w n) (suc k)))) (sym z)
+            subst (λ xs. AllHold (data_demands image (kind_of image) b h (suc k) (held (kind_of image) (length bytes) (suc k)) (slice_index xs (suc k))))
+            (sym da)
+            (subst (λ z. AllHold (data_demands image (kind_of image) b h (suc k) (held (kind_of image) z (suc k)) (slice_index (datas_in w n) (suc k))))
+            (sym z)
             (data_formed n h k b f (subst (λ xs. At xs k b) da x))));
       }
 
@@ -368,7 +378,8 @@ module _ (image : List ℕ) (w : List (Role × ℕ)) (v : IsWalk image w) (whole
         let d : word_in image b 127 ≡ DIR = eqb-true (word_in image b 127) DIR z in
         let hp = head_is n p s j b h in
         let no_file : (a : ℕ) → FileAt image w n a → ⊥ =
-        (λ a f. let e : a ≡ b = (one_head image v n f.0.0 f.0.1 f.0.2 a p s j b f.0.3 h).1 in dir_not_file image b d (subst (λ a. word_in image a 127 ≡ FILE) e f.1)) in (
+        (λ a f. let e : a ≡ b =
+        (one_head image v n f.0.0 f.0.1 f.0.2 a p s j b f.0.3 h).1 in dir_not_file image b d (subst (λ a. word_in image a 127 ≡ FILE) e f.1)) in (
           d,
           hp.1 ∙ no_length (exts_in w n) (elim (dec_lt 0 (length (exts_in w n))) [
             | yes u ↦ let x = at_some (exts_in w n) 0 u in let f = ext_file image v n 1 x.0 (has_ext image w v n 0 x.0 x.1) in absurd (no_file f.0 f.1)
@@ -395,7 +406,8 @@ module _ (image : List ℕ) (w : List (Role × ℕ)) (v : IsWalk image w) (whole
         subst (λ e. EntryFits image (tree_in image w) (layout_in w) n (at_node image (layout_in w) n) e) (sym x.5)
         (subst (λ h. EntryFits image (tree_in image w) (layout_in w) n h (entry_in image w n x.0 b)) (sym hb)
         (record {
-          form = subst (λ c. AllHold (head_demands image (kind_of image) b c (slot_of (name_of image b)))) (sym pb) (subst (λ s. AllHold (head_demands image (kind_of image) b k.2.0 s)) (sym sl) k.2.2);
+          form = subst (λ c. AllHold (head_demands image (kind_of image) b c (slot_of (name_of image b)))) (sym pb)
+              (subst (λ s. AllHold (head_demands image (kind_of image) b k.2.0 s)) (sym sl) k.2.2);
           name = refl;
           meta = refl;
           body = body_fits n x.0 x.1 x.2 b k.2.0 x.4 k.2.2 (word_in image b 127 == DIR) refl;

@@ -78,7 +78,13 @@ abbrev pub places_in : List (Role × ℕ) → List (Role × ℕ) → List Place
 places_in full w = of_heads (λ n p b. place_in full n b) w
 
 abbrev pub tree_in : List ℕ → List (Role × ℕ) → Tree
-tree_in image w = record { kind = kind_of image; label = label_of image (root_of image); stamps = stamps_of image (root_of image); entries = entries_in image w w }
+tree_in image w = record {
+  kind = kind_of image;
+  label = label_of image (root_of image);
+  stamps = stamps_of image (root_of image);
+  entries =
+      entries_in image w w;
+}
 
 abbrev pub layout_in : List (Role × ℕ) → Layout
 layout_in w = record { pages = pages_in w; map_exts = map_exts_in w; places = places_in w w }

@@ -160,7 +160,8 @@ form_demands image w (Page i) b = page_demands image b
 form_demands image w (MapExt j) b = []
 form_demands image w (Head n p s j) b = head_demands image (kind_of image) b (node_block w p) s
 form_demands image w (Ext n k) b = ext_demands image b (node_block w n)
-form_demands image w (Data n k) b = data_demands image (kind_of image) b (node_block w n) k (held (kind_of image) (word_in image (node_block w n) 81) k) (next_data image w n k)
+form_demands image w (Data n k) b =
+    data_demands image (kind_of image) b (node_block w n) k (held (kind_of image) (word_in image (node_block w n) 81) k) (next_data image w n k)
 
 -- no earlier header of the chain has an equal name: SameName
 abbrev pub NewName : List ℕ → List (Role × ℕ) → Role → ℕ → Type 0
