@@ -1,4 +1,6 @@
 -- Walks of an image: its blocks with their roles, as they come to light one after the other, told by relations over the whole list.
+-- Letters: w a walk; r, q roles; b, c the block that has a role; a, i the block and the word that name one; n, m nodes; p a directory's node;
+-- s a slot; j a place in a chain, or a bitmap extension block's number; k the number of a page, an extension block or a data block; h a header's block.
 use Rattle.std.specs.Prelude.{◌≡◌, ℕ, List, [], ◌∷◌, ◌⊎◌, ◌+◌, ◌-◌, ◌*◌, ◌/◌, ◌%◌, ◌<◌, ◌≤◌, ◌≢◌, cond, ◌==◌, ◌++◌, nat_lt}
 use Rattle.std.proofs.Common.{zero, suc}
 use Rattle.adf_blocks.specs.declared.cause.Cause.{Cause}
