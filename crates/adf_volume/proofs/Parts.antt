@@ -14,43 +14,43 @@ use Rattle.adf_volume.specs.Parts.{owner_of, Part}
 use Rattle.adf_volume.proofs.Lists.{in_left, in_right, in_numbered, one_member, in_cases, numbered_at}
 use Rattle.adf_volume.proofs.Chains.{entry_at, entry_below, entry_some, place_at, one_place}
 
+-- what a later place owns is owned
+owned_later : (n : ℕ) (q : Place) (qs : List Place) (o : ℕ → Owner) (i b : ℕ) → In (owned_from (suc n) qs) (o (suc n + i), b)
+    → In (owned_from n (q ∷ qs)) (o (n + suc i), b)
+owned_later n q qs o i b h =
+    let z : suc n + i ≡ n + suc i = omega arith in
+    inr (in_right (numbered (AnExt n) 1 q.exts ++ numbered (AData n) 1 q.datas) (owned_from (suc n) qs) (o (n + suc i), b)
+    (subst (λ m. In (owned_from (suc n) qs) (o m, b)) z h))
+
+-- the blocks behind a header are owned
+owned_here : (n : ℕ) (q : Place) (qs : List Place) (o : ℕ → ℕ → Owner) (k b : ℕ)
+    → In (numbered (AnExt n) 1 q.exts ++ numbered (AData n) 1 q.datas) (o n (1 + k), b) → In (owned_from n (q ∷ qs)) (o (n + 0) (suc k), b)
+owned_here n q qs o k b h =
+    let xs : List (Owner × ℕ) = numbered (AnExt n) 1 q.exts ++ numbered (AData n) 1 q.datas in
+    let z : n ≡ n + 0 = omega arith in
+    let y : 1 + k ≡ suc k = omega arith in
+    inr (in_left xs (owned_from (suc n) qs) (o (n + 0) (suc k), b) (subst (λ m. In xs (o m (suc k), b)) z (subst (λ k. In xs (o n k, b)) y h)))
+
 pub owned_head : (n : ℕ) (qs : List Place) (i : ℕ) → i < length qs → In (owned_from n qs) (AHead (n + i), head_at qs i)
 owned_head n [] i h = absurd (omega arith)
-owned_head n (q ∷ qs) zero h = let z : n ≡ n + 0 = omega arith in inl (λ t. (AHead (z t), q.head))
-owned_head n (q ∷ qs) (suc i) h =
-    let z : suc n + i ≡ n + suc i = omega arith in
-    inr (in_right (numbered (AnExt n) 1 q.exts ++ numbered (AData n) 1 q.datas) (owned_from (suc n) qs) (AHead (n + suc i), head_at qs i)
-    (subst (λ m. In (owned_from (suc n) qs) (AHead m, head_at qs i)) z (owned_head (suc n) qs i (omega arith))))
+owned_head n (q ∷ qs) zero h =
+    let z : n ≡ n + 0 = omega arith in
+    inl (λ t. (AHead (z t), q.head))
+owned_head n (q ∷ qs) (suc i) h = owned_later n q qs AHead i (head_at qs i) (owned_head (suc n) qs i (omega arith))
 
 pub owned_ext : (n : ℕ) (qs : List Place) (i k b : ℕ) → At (exts_at qs i) k b → In (owned_from n qs) (AnExt (n + i) (suc k), b)
 owned_ext n [] i k b h = absurd h
 owned_ext n (q ∷ qs) zero k b h =
-    let z : n ≡ n + 0 = omega arith in
-    let y : 1 + k ≡ suc k = omega arith in
-    let m : In (numbered (AnExt n) 1 q.exts) (AnExt (n + 0) (suc k), b) =
-    subst (λ m. In (numbered (AnExt n) 1 q.exts) (AnExt m (suc k), b)) z
-    (subst (λ k. In (numbered (AnExt n) 1 q.exts) (AnExt n k, b)) y (in_numbered (AnExt n) 1 q.exts k b h)) in
-    inr (in_left (numbered (AnExt n) 1 q.exts ++ numbered (AData n) 1 q.datas) (owned_from (suc n) qs) (AnExt (n + 0) (suc k), b)
-    (in_left (numbered (AnExt n) 1 q.exts) (numbered (AData n) 1 q.datas) (AnExt (n + 0) (suc k), b) m))
-owned_ext n (q ∷ qs) (suc i) k b h =
-    let z : suc n + i ≡ n + suc i = omega arith in
-    inr (in_right (numbered (AnExt n) 1 q.exts ++ numbered (AData n) 1 q.datas) (owned_from (suc n) qs) (AnExt (n + suc i) (suc k), b)
-    (subst (λ m. In (owned_from (suc n) qs) (AnExt m (suc k), b)) z (owned_ext (suc n) qs i k b h)))
+    owned_here n q qs AnExt k b
+    (in_left (numbered (AnExt n) 1 q.exts) (numbered (AData n) 1 q.datas) (AnExt n (1 + k), b) (in_numbered (AnExt n) 1 q.exts k b h))
+owned_ext n (q ∷ qs) (suc i) k b h = owned_later n q qs (λ m. AnExt m (suc k)) i b (owned_ext (suc n) qs i k b h)
 
 pub owned_data : (n : ℕ) (qs : List Place) (i k b : ℕ) → At (datas_at qs i) k b → In (owned_from n qs) (AData (n + i) (suc k), b)
 owned_data n [] i k b h = absurd h
 owned_data n (q ∷ qs) zero k b h =
-    let z : n ≡ n + 0 = omega arith in
-    let y : 1 + k ≡ suc k = omega arith in
-    let m : In (numbered (AData n) 1 q.datas) (AData (n + 0) (suc k), b) =
-    subst (λ m. In (numbered (AData n) 1 q.datas) (AData m (suc k), b)) z
-    (subst (λ k. In (numbered (AData n) 1 q.datas) (AData n k, b)) y (in_numbered (AData n) 1 q.datas k b h)) in
-    inr (in_left (numbered (AnExt n) 1 q.exts ++ numbered (AData n) 1 q.datas) (owned_from (suc n) qs) (AData (n + 0) (suc k), b)
-    (in_right (numbered (AnExt n) 1 q.exts) (numbered (AData n) 1 q.datas) (AData (n + 0) (suc k), b) m))
-owned_data n (q ∷ qs) (suc i) k b h =
-    let z : suc n + i ≡ n + suc i = omega arith in
-    inr (in_right (numbered (AnExt n) 1 q.exts ++ numbered (AData n) 1 q.datas) (owned_from (suc n) qs) (AData (n + suc i) (suc k), b)
-    (subst (λ m. In (owned_from (suc n) qs) (AData m (suc k), b)) z (owned_data (suc n) qs i k b h)))
+    owned_here n q qs AData k b
+    (in_right (numbered (AnExt n) 1 q.exts) (numbered (AData n) 1 q.datas) (AData n (1 + k), b) (in_numbered (AData n) 1 q.datas k b h))
+owned_data n (q ∷ qs) (suc i) k b h = owned_later n q qs (λ m. AData m (suc k)) i b (owned_data (suc n) qs i k b h)
 
 -- where a member stands
 pub data Stands (n : ℕ) (qs : List Place) (o : Owner) (b : ℕ) : Type 0 where
