@@ -1,5 +1,6 @@
 -- The bits of the pages tell which blocks are free.
-use Rattle.std.proofs.Common.{◌≡◌, ℕ, zero, suc, List, [], ◌∷◌, ◌++◌, inl, inr, ◌+◌, ◌-◌, ◌*◌, ◌/◌, ◌%◌, ◌^◌, ◌<◌, ◌≤◌, length, refl, sym, ap, subst, ◌∙◌, arith, Bool, true, false, cond, map, take, add-one}
+use Rattle.std.proofs.Common.{◌≡◌, ℕ, zero, suc, List, [], ◌∷◌, ◌++◌, inl, inr, ◌+◌, ◌-◌, ◌*◌, ◌/◌, ◌%◌, ◌^◌, ◌<◌, ◌≤◌, length, refl, sym, ap, subst, ◌∙◌}
+use Rattle.std.proofs.Common.{arith, Bool, true, false, cond, map, take, add-one}
 use Rattle.std.proofs.lemmas.Bool.{cases_lt}
 use Rattle.std.proofs.lemmas.Bool.Decides.{nat_tests}
 use Rattle.std.proofs.Math.Nat.{pow-succ', div-div-eq-div-mul}
@@ -72,12 +73,18 @@ used_owned n total b big two e = put (use_cases n total b e)
       | inr l ↦ inl (omega arith)
     ]
     put (at_low h k) = elim (stretch n (b - 2)) [
-      | low a f ↦ let g : given n (b - 2) ≡ b = omega arith in inr (in_right (row (middle n + 1) (reserved n)) (run n 0 total) b (subst (λ c. In (run n 0 total) c) g (run_in n 0 total (b - 2) (omega arith) (omega arith))))
+      | low a f ↦
+          let g : given n (b - 2) ≡ b = omega arith in
+          inr (in_right (row (middle n + 1) (reserved n)) (run n 0 total) b
+          (subst (λ c. In (run n 0 total) c) g (run_in n 0 total (b - 2) (omega arith) (omega arith))))
       | high a f ↦ absurd (omega arith)
     ]
     put (at_high h k) = elim (stretch n (b - 3 - reserved n)) [
       | low a f ↦ absurd (omega arith)
-      | high a f ↦ let g : given n (b - 3 - reserved n) ≡ b = omega arith in inr (in_right (row (middle n + 1) (reserved n)) (run n 0 total) b (subst (λ c. In (run n 0 total) c) g (run_in n 0 total (b - 3 - reserved n) (omega arith) (omega arith))))
+      | high a f ↦
+          let g : given n (b - 3 - reserved n) ≡ b = omega arith in
+          inr (in_right (row (middle n + 1) (reserved n)) (run n 0 total) b
+          (subst (λ c. In (run n 0 total) c) g (run_in n 0 total (b - 3 - reserved n) (omega arith) (omega arith))))
     ]
 
 flag_small : (t : Bool) → cond t 1 0 < 2
@@ -136,7 +143,8 @@ pub words_step : (words : List ℕ) (n total j w v : ℕ) → w < length words
     → take (w + 1) (set words w v) ≡ map (λ w. bits_from (is_free_bit n total) (4064 * j + 32 * w) 32) (range_with_len 0 (w + 1))
 words_step words n total j w v h e g =
     let f : ℕ → ℕ = λ w. bits_from (is_free_bit n total) (4064 * j + 32 * w) 32 in
-    take_more_set words w v h ∙ ap (λ l. l ++ v ∷ []) e ∙ ap (λ v. map f (range_with_len 0 w) ++ v ∷ []) g ∙ sym (map-range_with_len_more f 0 w w (omega arith))
+    take_more_set words w v h ∙ ap (λ l. l ++ v ∷ []) e ∙ ap (λ v. map f (range_with_len 0 w) ++ v ∷ []) g
+    ∙ sym (map-range_with_len_more f 0 w w (omega arith))
 
 -- one page more
 pub pages_step : (image old all bytes : List ℕ) (n total j b m : ℕ) → b ≡ middle n + 1 + j → j < m → bytes ≡ page_block (page_words n total j)

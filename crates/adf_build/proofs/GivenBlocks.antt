@@ -12,7 +12,7 @@ use Rattle.adf_volume.proofs.Sizes.{size_high, size_low}
 use Rattle.adf_build.specs.Bits.{is_used}
 use Rattle.adf_build.specs.Plan.{given, reserved, run}
 use Rattle.adf_build.proofs.GivenRuns.{given_below, run-append}
-use Rattle.adf_build.proofs.Holding.{reserved_parts}
+use Rattle.adf_build.proofs.LaidParts.{reserved_parts}
 
 -- the pages and the bitmap extension blocks stand behind the root
 pub reserved_is : (n : ℕ) → reserved n ≡ pages_needed n + map_exts_needed (pages_needed n)
@@ -40,7 +40,8 @@ given_fits n k l h r e =
     omega arith
 
 -- one block more in a table
-pub run_step : (table : List ℕ) (n k j v : ℕ) → j < length table → take j table ≡ run n k j → v ≡ given n (k + j) → take (j + 1) (set table j v) ≡ run n k (j + 1)
+pub run_step : (table : List ℕ) (n k j v : ℕ) → j < length table → take j table ≡ run n k j → v ≡ given n (k + j)
+    → take (j + 1) (set table j v) ≡ run n k (j + 1)
 run_step table n k j v h e f =
     take_more_set table j v h ∙ ap (λ l. l ++ v ∷ []) e ∙ ap (λ v. run n k j ++ v ∷ []) f ∙ sym (run-append n k j 1)
 

@@ -5,7 +5,7 @@ use Rattle.std.proofs.lemmas.Bool.Decides.{nat_tests}
 use Rattle.adf_blocks.specs.Sizes.{middle}
 use Rattle.adf_volume.specs.Lists.{In}
 use Rattle.adf_volume.specs.Image.{map_exts_needed}
-use Rattle.adf_volume.proofs.Blocks.{Distinct}
+use Rattle.adf_volume.proofs.DistinctBlocks.{Distinct}
 use Rattle.adf_build.specs.Plan.{reserved, given, run, row}
 
 -- below the root, and past the reserved blocks
@@ -56,7 +56,8 @@ reserved_below n h = omega arith
 pub in_run : (n k m b : ℕ) → In (run n k m) b → (i : ℕ) × (k ≤ i) × (i < k + m) × (given n i ≡ b)
 in_run n k zero b h = absurd h
 in_run n k (suc m) b (inl e) = (k, omega arith, omega arith, e)
-in_run n k (suc m) b (inr h) = let r = in_run n (suc k) m b h in let l : suc k ≤ r.0 = r.1 in let u : r.0 < suc k + m = r.2 in (r.0, omega arith, omega arith, r.3)
+in_run n k (suc m) b (inr h) =
+    let r = in_run n (suc k) m b h in let l : suc k ≤ r.0 = r.1 in let u : r.0 < suc k + m = r.2 in (r.0, omega arith, omega arith, r.3)
 
 pub run_in : (n k m i : ℕ) → k ≤ i → i < k + m → In (run n k m) (given n i)
 run_in n k zero i l u = absurd (omega arith)

@@ -1,5 +1,6 @@
 -- What is laid fits.
-use Rattle.std.proofs.Common.{◌≡◌, ℕ, zero, suc, List, [], ◌∷◌, ◌++◌, ◌+◌, ◌-◌, ◌*◌, ◌/◌, ◌%◌, ◌^◌, ◌<◌, ◌≤◌, length, map, refl, sym, ap, subst, ◌∙◌, arith, Bool, true, false, cond}
+use Rattle.std.proofs.Common.{◌≡◌, ℕ, zero, suc, List, [], ◌∷◌, ◌++◌, ◌+◌, ◌-◌, ◌*◌, ◌/◌, ◌%◌, ◌^◌, ◌<◌, ◌≤◌, length, map, refl, sym, ap, subst, ◌∙◌, arith}
+use Rattle.std.proofs.Common.{Bool, true, false, cond}
 use Rattle.std.specs.Prelude.{min, slice_index, None, ◌↔◌, ◌==◌, ◌&&◌, not, nat_lt, IsBitSet}
 use Rattle.std.proofs.lemmas.Bool.Decides.{nat_tests}
 use lib.Bits.{bit_and}
@@ -26,11 +27,11 @@ use Rattle.adf_volume.specs.Image.{word_in, root_of, kind_of, label_of, stamps_o
 use Rattle.adf_volume.specs.Demands.{AllHold, boot_form, boot_demands, root_demands, page_demands}
 use Rattle.adf_volume.specs.Layout.{EntryAt, at_node, chain_nodes, owned}
 use Rattle.adf_volume.specs.Fits.{Fits, EntryFits, FileFits, IsFree}
-use Rattle.adf_volume.proofs.Told.{all_told}
+use Rattle.adf_volume.proofs.FormDemands.{all_told}
 use Rattle.adf_volume.proofs.Lists.{at_below, at_index}
 use Rattle.adf_volume.proofs.Images.{page_in}
-use Rattle.adf_volume.proofs.Ordered.{dir_node}
-use Rattle.adf_volume.proofs.Blocks.{block_in, in_block, blocks_of}
+use Rattle.adf_volume.proofs.TreeOrder.{dir_node}
+use Rattle.adf_volume.proofs.DistinctBlocks.{block_in, in_block, blocks_of}
 use Rattle.adf_volume.proofs.Sizes.{size_low, size_high}
 use Rattle.adf_build.specs.Plan.{reserved, entry_blocks, entries_blocks, blocks_needed, run, row, places_from, planned}
 use Rattle.adf_build.specs.Bits.{is_used, is_free_bit, bits_from, page_words}
@@ -39,9 +40,10 @@ use Rattle.adf_build.specs.Laid.{boot_bytes, page_parts, listed_pages, map_ext_o
 use Rattle.adf_build.proofs.GivenRuns.{length_row, reserved_below}
 use Rattle.adf_build.proofs.Planned.{owned_blocks, planned_once, planned_range}
 use Rattle.adf_build.proofs.Bits.{bit_of, bits_small, owned_used, used_owned}
-use Rattle.adf_build.proofs.Holding.{fits_root, volume_long, volume_blocks, holds_map_exts, holds_pages, holds_root, holds_boot, listed_few, reserved_parts}
-use Rattle.adf_build.proofs.Spots.{spot, chain_laid, root_slot, dir_slot}
+use Rattle.adf_build.proofs.LaidParts.{fits_root, volume_long, volume_blocks, holds_map_exts, holds_pages, holds_root, holds_boot, listed_few, reserved_parts}
+use Rattle.adf_build.proofs.EntryBlocks.{spot, chain_laid, root_slot, dir_slot}
 use Rattle.adf_build.proofs.LaidEntries.{entry_laid, file_laid}
+use Rattle.std.proofs.lemmas.Bool.{false_from_ne_true}
 
 boot_holds : (kind : Kind) → first_cause (boot_form (laid ((0, boot_bytes kind) ∷ []))) ≡ None
 unfolding with_bytes
@@ -67,10 +69,13 @@ places_long : (n : ℕ) (kind : Kind) (k : ℕ) (es : List Entry) → length (pl
 places_long n kind k [] = refl
 places_long n kind k (e ∷ es) = ap suc (places_long n kind (k + entry_blocks kind e) es)
 
-page_holds : (v : List ℕ) (n total j m q : ℕ) → Holds v (page_parts n total j m) → q < m → block v (middle n + 1 + (j + q)) ≡ page_block (page_words n total (j + q))
+page_holds : (v : List ℕ) (n total j m q : ℕ) → Holds v (page_parts n total j m) → q < m
+    → block v (middle n + 1 + (j + q)) ≡ page_block (page_words n total (j + q))
 page_holds v n total j zero q h l = absurd (omega arith)
 page_holds v n total j (suc m) zero h l = let z : j ≡ j + 0 = omega arith in subst (λ j. block v (middle n + 1 + j) ≡ page_block (page_words n total j)) z h.0
-page_holds v n total j (suc m) (suc q) h l = let z : suc j + q ≡ j + suc q = omega arith in subst (λ j. block v (middle n + 1 + j) ≡ page_block (page_words n total j)) z (page_holds v n total (suc j) m q h.1 (omega arith))
+page_holds v n total j (suc m) (suc q) h l =
+    let z : suc j + q ≡ j + suc q = omega arith in
+    subst (λ j. block v (middle n + 1 + j) ≡ page_block (page_words n total j)) z (page_holds v n total (suc j) m q h.1 (omega arith))
 
 -- what stands in bitmap extension block j + q of m from number j on
 map_ext_holds : (v : List ℕ) (n j m q : ℕ) → Holds v (map_ext_parts n j m) → q < m
@@ -104,7 +109,9 @@ row_index : (b m j : ℕ) → j < m → slice_index (row b m) j ≡ b + j
 row_index b m j h = at_index (row b m) j (b + j) (at_row b m j h)
 
 set_bit : (x k : ℕ) → IsBitSet x k ↔ (x / 2 ^ k % 2 ≡ 1)
-set_bit x k = let m : bit_and (x / 2 ^ k) 1 ≡ x / 2 ^ k % 2 = and_mask (x / 2 ^ k) 1 in ((λ h. sym m ∙ (bit_set_by_shift x k).1 h), (λ h. (bit_set_by_shift x k).0 (m ∙ h)))
+set_bit x k =
+    let m : bit_and (x / 2 ^ k) 1 ≡ x / 2 ^ k % 2 = and_mask (x / 2 ^ k) 1 in
+    ((λ h. sym m ∙ (bit_set_by_shift x k).1 h), (λ h. (bit_set_by_shift x k).0 (m ∙ h)))
 
 flag_true : (t : Bool) → cond {A = ℕ} t 1 0 ≡ 1 → t ≡ true
 flag_true true h = refl
@@ -114,27 +121,29 @@ flag_one : (t : Bool) → t ≡ true → cond {A = ℕ} t 1 0 ≡ 1
 flag_one true h = refl
 flag_one false h = cc
 
-not_true : (t : Bool) → (t ≡ true → ⊥) → t ≡ false
-not_true true h = absurd (h refl)
-not_true false h = refl
-
 -- a bit of a page tells whether its block is free
 bit_tells : (n total q r : ℕ) → r < 4064 → IsFreeBit (page_block (page_words n total q)) r ↔ (is_free_bit n total (4064 * q + r) ≡ true)
 bit_tells n total q r h =
     let f : ℕ → ℕ = λ w. bits_from (is_free_bit n total) (4064 * q + 32 * w) 32 in
     let z : 0 + r / 32 ≡ r / 32 = omega arith in
     let lt : r / 32 < 127 = omega arith in
-    let w : slice_index (page_words n total q) (r / 32) ≡ bits_from (is_free_bit n total) (4064 * q + 32 * (r / 32)) 32 = get_or-map-range_with_len f 0 127 (r / 32) (r / 32) 0 lt z in
+    let w : slice_index (page_words n total q) (r / 32) ≡ bits_from (is_free_bit n total) (4064 * q + 32 * (r / 32)) 32 =
+    get_or-map-range_with_len f 0 127 (r / 32) (r / 32) 0 lt z in
     let s : bits_from (is_free_bit n total) (4064 * q + 32 * (r / 32)) 32 < 2 ^ 32 = bits_small (is_free_bit n total) (4064 * q + 32 * (r / 32)) 32 in
-    let b : bits_from (is_free_bit n total) (4064 * q + 32 * (r / 32)) 32 / 2 ^ (r % 32) % 2 ≡ cond (is_free_bit n total (4064 * q + 32 * (r / 32) + r % 32)) 1 0 = bit_of (is_free_bit n total) (4064 * q + 32 * (r / 32)) 32 (r % 32) (omega arith) in
+    let b : bits_from (is_free_bit n total) (4064 * q + 32 * (r / 32)) 32 / 2 ^ (r % 32) % 2
+    ≡ cond (is_free_bit n total (4064 * q + 32 * (r / 32) + r % 32)) 1 0 =
+    bit_of (is_free_bit n total) (4064 * q + 32 * (r / 32)) 32 (r % 32) (omega arith) in
     let y : 4064 * q + 32 * (r / 32) + r % 32 ≡ 4064 * q + r = omega arith in
     let long : length (page_words n total q) ≡ 127 = length-map-range_with_len f 0 127 in
     let p = page_block-bit (page_words n total q) r long h (subst (λ x. x < 2 ^ 32) (sym w) s) in (
       (λ free.
           let x : IsBitSet (bits_from (is_free_bit n total) (4064 * q + 32 * (r / 32)) 32) (r % 32) = subst (λ x. IsBitSet x (r % 32)) w (p.0 free) in
-          ap (is_free_bit n total) (sym y) ∙ flag_true (is_free_bit n total (4064 * q + 32 * (r / 32) + r % 32)) (sym b ∙ (set_bit (bits_from (is_free_bit n total) (4064 * q + 32 * (r / 32)) 32) (r % 32)).0 x)),
+          ap (is_free_bit n total) (sym y)
+          ∙ flag_true (is_free_bit n total (4064 * q + 32 * (r / 32) + r % 32))
+          (sym b ∙ (set_bit (bits_from (is_free_bit n total) (4064 * q + 32 * (r / 32)) 32) (r % 32)).0 x)),
       (λ e.
-          let x = (set_bit (bits_from (is_free_bit n total) (4064 * q + 32 * (r / 32)) 32) (r % 32)).1 (b ∙ flag_one (is_free_bit n total (4064 * q + 32 * (r / 32) + r % 32)) (ap (is_free_bit n total) y ∙ e)) in
+          let x = (set_bit (bits_from (is_free_bit n total) (4064 * q + 32 * (r / 32)) 32) (r % 32)).1
+          (b ∙ flag_one (is_free_bit n total (4064 * q + 32 * (r / 32) + r % 32)) (ap (is_free_bit n total) y ∙ e)) in
           p.1 (subst (λ x. IsBitSet x (r % 32)) (sym w) x)),
     )
 
@@ -161,7 +170,8 @@ module _ (t : Tree) (n : ℕ) (sound : IsSound t) (allowed : is_allowed n ≡ tr
       let l : length (volume t n) ≡ n * 512 = volume_long t n sound allowed room in
       let s = size in (
         (omega arith, ap is_allowed s ∙ allowed),
-        all_told 0 (boot_form (block (volume t n) 0)) (subst (λ bs. first_cause (boot_form bs) ≡ None) (sym (holds_boot t n sound allowed room)) (boot_holds t.kind)),
+        all_told 0 (boot_form (block (volume t n) 0)) (subst (λ bs. first_cause (boot_form bs) ≡ None) (sym (holds_boot t n sound allowed room))
+            (boot_holds t.kind)),
       )
 
   kind_laid : t.kind ≡ kind_of (volume t n)
@@ -169,7 +179,9 @@ module _ (t : Tree) (n : ℕ) (sound : IsSound t) (allowed : is_allowed n ≡ tr
   kind_laid = sym (ap (λ bs. cond (slice_index bs 3 == 0) Ofs Ffs) (holds_boot t n sound allowed room) ∙ boot_kind t.kind)
 
   root_at : AllHold (root_demands (volume t n) (middle n))
-  root_at = all_told (middle n) (root_form (block (volume t n) (middle n))) (subst (λ bs. first_cause (root_form bs) ≡ None) (sym (holds_root t n sound allowed room)) (root_block-form (root_laid t n) (fits_root t n sound allowed room)))
+  root_at = all_told (middle n) (root_form (block (volume t n) (middle n)))
+      (subst (λ bs. first_cause (root_form bs) ≡ None) (sym (holds_root t n sound allowed room))
+      (root_block-form (root_laid t n) (fits_root t n sound allowed room)))
 
   label_laid : t.label ≡ label_of (volume t n) (middle n)
   unfolding label_of
@@ -186,7 +198,8 @@ module _ (t : Tree) (n : ℕ) (sound : IsSound t) (allowed : is_allowed n ≡ tr
       let l1 = length_row (middle n + 1) (pages_needed n) in
       let e : slice_index (row (middle n + 1) (min 25 (pages_needed n))) k ≡ b = row_index (middle n + 1) (min 25 (pages_needed n)) k (omega arith) ∙ sym a in
       let high = size_high n allowed in
-      ap (λ bs. word bs (79 + k)) (holds_root t n sound allowed room) ∙ (root_block-page (root_laid t n) k (fits_root t n sound allowed room) l (omega arith) ∙ e)
+      ap (λ bs. word bs (79 + k)) (holds_root t n sound allowed room)
+      ∙ (root_block-page (root_laid t n) k (fits_root t n sound allowed room) l (omega arith) ∙ e)
 
   page_at : (q : ℕ) → q < pages_needed n → block (volume t n) (middle n + 1 + q) ≡ page_block (page_words n (entries_blocks t.kind t.entries) q)
   page_at q l =
@@ -200,57 +213,73 @@ module _ (t : Tree) (n : ℕ) (sound : IsSound t) (allowed : is_allowed n ≡ tr
       let l0 : k < length (row (middle n + 1) (pages_needed n)) = at_below (row (middle n + 1) (pages_needed n)) k b h in
       let l1 = length_row (middle n + 1) (pages_needed n) in
       subst (λ b. AllHold (page_demands (volume t n) b)) (sym e)
-      (all_told (middle n + 1 + k) (page_form (block (volume t n) (middle n + 1 + k))) (subst (λ bs. first_cause (page_form bs) ≡ None) (sym (page_at k (omega arith)))
-      (page_block-form (page_words n (entries_blocks t.kind t.entries) k) (length-map-range_with_len (λ w. bits_from (is_free_bit n (entries_blocks t.kind t.entries)) (4064 * k + 32 * w) 32) 0 127))))
+      (all_told (middle n + 1 + k) (page_form (block (volume t n) (middle n + 1 + k)))
+      (subst (λ bs. first_cause (page_form bs) ≡ None) (sym (page_at k (omega arith)))
+      (page_block-form (page_words n (entries_blocks t.kind t.entries) k)
+      (length-map-range_with_len (λ w. bits_from (is_free_bit n (entries_blocks t.kind t.entries)) (4064 * k + 32 * w) 32) 0 127))))
 
-  chains_laid : (p s : ℕ) → IsDir t.entries p → s < 72 → Spelled (λ b. word_in (volume t n) b 124) (word_in (volume t n) (at_node (volume t n) (planned t n) p) (6 + s)) (map (at_node (volume t n) (planned t n)) (chain_nodes t p s))
-  chains_laid zero s d l = chain_laid t n sound allowed room 0 s (word_in (volume t n) (root_of (volume t n)) (6 + s)) (ap (λ b. word_in (volume t n) (middle b) (6 + s)) size ∙ root_slot t n sound allowed room s l)
+  chains_laid : (p s : ℕ) → IsDir t.entries p → s < 72
+      → Spelled (λ b. word_in (volume t n) b 124) (word_in (volume t n) (at_node (volume t n) (planned t n) p) (6 + s))
+      (map (at_node (volume t n) (planned t n)) (chain_nodes t p s))
+  chains_laid zero s d l =
+      chain_laid t n sound allowed room 0 s (word_in (volume t n) (root_of (volume t n)) (6 + s))
+      (ap (λ b. word_in (volume t n) (middle b) (6 + s)) size ∙ root_slot t n sound allowed room s l)
   chains_laid (suc i) s d l =
       let x = dir_node t (suc i) d in
       chain_laid t n sound allowed room (suc i) s (word_in (volume t n) (at_node (volume t n) (planned t n) (suc i)) (6 + s))
       (ap (λ b. word_in (volume t n) b (6 + s)) (spot t n sound allowed room i x.0 x.1).at ∙ dir_slot t n sound allowed room i s x.0 x.1 x.2 l)
 
-  owned_is : (b : ℕ) → In (blocks_of (owned (volume t n) (planned t n))) b ↔ In (middle n ∷ (row (middle n + 1) (reserved n) ++ run n 0 (entries_blocks t.kind t.entries))) b
+  owned_is : (b : ℕ)
+      → In (blocks_of (owned (volume t n) (planned t n))) b ↔ In (middle n ∷ (row (middle n + 1) (reserved n) ++ run n 0 (entries_blocks t.kind t.entries))) b
   owned_is b = let e = owned_blocks (volume t n) t n size in ((λ h. subst (λ l. In l b) e h), (λ h. subst (λ l. In l b) (sym e) h))
 
-  free_laid : (b : ℕ) → 2 ≤ b → b < n → IsFree (volume t n) (row (middle n + 1) (pages_needed n)) b → (o : Owner) → In (owned (volume t n) (planned t n)) (o, b) → ⊥
+  free_laid : (b : ℕ) → 2 ≤ b → b < n → IsFree (volume t n) (row (middle n + 1) (pages_needed n)) b → (o : Owner)
+      → In (owned (volume t n) (planned t n)) (o, b) → ⊥
   free_laid b lo hi f o i =
       let q : ℕ = (b - 2) / 4064 in
       let r : ℕ = (b - 2) % 4064 in
       let e : f.0 ≡ middle n + 1 + q = row_at (middle n + 1) (pages_needed n) q f.0 f.1 in
       let lt : q < pages_needed n = page_in n b lo hi in
       let g : IsFreeBit (block (volume t n) (middle n + 1 + q)) r = subst (λ p. IsFreeBit (block (volume t n) p) r) e f.2 in
-      let x : is_free_bit n (entries_blocks t.kind t.entries) (4064 * q + r) ≡ true = (bit_tells n (entries_blocks t.kind t.entries) q r (omega arith)).0 (subst (λ bs. IsFreeBit bs r) (page_at q lt) g) in
+      let x : is_free_bit n (entries_blocks t.kind t.entries) (4064 * q + r) ≡ true =
+      (bit_tells n (entries_blocks t.kind t.entries) q r (omega arith)).0 (subst (λ bs. IsFreeBit bs r) (page_at q lt) g) in
       let y : is_used n (entries_blocks t.kind t.entries) b ≡ false = free_unused n (entries_blocks t.kind t.entries) (4064 * q + r) b (omega arith) x in
-      let u : is_used n (entries_blocks t.kind t.entries) b ≡ true = owned_used n (entries_blocks t.kind t.entries) b ((owned_is b).0 (block_in (owned (volume t n) (planned t n)) o b i)) in
+      let u : is_used n (entries_blocks t.kind t.entries) b ≡ true =
+      owned_used n (entries_blocks t.kind t.entries) b ((owned_is b).0 (block_in (owned (volume t n) (planned t n)) o b i)) in
       let w : true ≡ false = sym u ∙ y in
       cc
 
-  unowned_laid : (b : ℕ) → 2 ≤ b → b < n → ((o : Owner) → In (owned (volume t n) (planned t n)) (o, b) → ⊥) → IsFree (volume t n) (row (middle n + 1) (pages_needed n)) b
+  unowned_laid : (b : ℕ) → 2 ≤ b → b < n → ((o : Owner) → In (owned (volume t n) (planned t n)) (o, b) → ⊥)
+      → IsFree (volume t n) (row (middle n + 1) (pages_needed n)) b
   unowned_laid b lo hi f =
       let q : ℕ = (b - 2) / 4064 in
       let r : ℕ = (b - 2) % 4064 in
       let four = size_low n allowed in
       let lt : q < pages_needed n = page_in n b lo hi in
-      let y : is_used n (entries_blocks t.kind t.entries) b ≡ false = not_true (is_used n (entries_blocks t.kind t.entries) b)
-      (λ u. let x = in_block (owned (volume t n) (planned t n)) b ((owned_is b).1 (used_owned n (entries_blocks t.kind t.entries) b four lo u)) in f x.0 x.1) in
+      let y : is_used n (entries_blocks t.kind t.entries) b ≡ false = false_from_ne_true (is_used n (entries_blocks t.kind t.entries) b)
+      (λ u. let x = in_block (owned (volume t n) (planned t n)) b ((owned_is b).1 (used_owned n (entries_blocks t.kind t.entries) b four lo u)) in
+      f x.0 x.1) in
       let x = unused_free n (entries_blocks t.kind t.entries) (4064 * q + r) b (omega arith) hi y in
-      let g : IsFreeBit (page_block (page_words n (entries_blocks t.kind t.entries) q)) r = (bit_tells n (entries_blocks t.kind t.entries) q r (omega arith)).1 x in
+      let g : IsFreeBit (page_block (page_words n (entries_blocks t.kind t.entries) q)) r =
+      (bit_tells n (entries_blocks t.kind t.entries) q r (omega arith)).1 x in
       (middle n + 1 + q, at_row (middle n + 1) (pages_needed n) q lt, subst (λ bs. IsFreeBit bs r) (sym (page_at q lt)) g)
 
   -- a bitmap extension block of the plan: its place, and what it holds
   map_ext_at : (j b : ℕ) → At (row (middle n + 1 + pages_needed n) (map_exts_needed (pages_needed n))) j b
       → (j < map_exts_needed (pages_needed n)) × (b ≡ middle n + 1 + pages_needed n + j)
   map_ext_at j b h =
-      let l0 : j < length (row (middle n + 1 + pages_needed n) (map_exts_needed (pages_needed n))) = at_below (row (middle n + 1 + pages_needed n) (map_exts_needed (pages_needed n))) j b h in
+      let l0 : j < length (row (middle n + 1 + pages_needed n) (map_exts_needed (pages_needed n))) =
+      at_below (row (middle n + 1 + pages_needed n) (map_exts_needed (pages_needed n))) j b h in
       let l1 = length_row (middle n + 1 + pages_needed n) (map_exts_needed (pages_needed n)) in
       (omega arith, row_at (middle n + 1 + pages_needed n) (map_exts_needed (pages_needed n)) j b h)
 
   map_ext_is : (j : ℕ) → j < map_exts_needed (pages_needed n)
-      → block (volume t n) (middle n + 1 + pages_needed n + j) ≡ map_ext_block (listed_pages n j) (map_ext_or_none n (suc j) (map_exts_needed (pages_needed n) - suc j))
+      → block (volume t n) (middle n + 1 + pages_needed n + j)
+      ≡ map_ext_block (listed_pages n j) (map_ext_or_none n (suc j) (map_exts_needed (pages_needed n) - suc j))
   map_ext_is j l =
       let z : 0 + j ≡ j = omega arith in
-      subst (λ k. block (volume t n) (middle n + 1 + pages_needed n + k) ≡ map_ext_block (listed_pages n k) (map_ext_or_none n (suc k) (map_exts_needed (pages_needed n) - suc j))) z
+      subst (λ k. block (volume t n) (middle n + 1 + pages_needed n + k)
+      ≡ map_ext_block (listed_pages n k) (map_ext_or_none n (suc k) (map_exts_needed (pages_needed n) - suc j))) z
       (map_ext_holds (volume t n) n 0 (map_exts_needed (pages_needed n)) j (holds_map_exts t n sound allowed room) l)
 
   -- a bitmap extension block lies in the volume
@@ -266,11 +295,13 @@ module _ (t : Tree) (n : ℕ) (sound : IsSound t) (allowed : is_allowed n ≡ tr
   map_first_laid b h =
       let x = map_ext_at 0 b h in
       let e : b ≡ middle n + 1 + pages_needed n + 0 = x.1 in
-      let small : map_ext_or_none n 0 (map_exts_needed (pages_needed n)) < 2 ^ 32 = map_ext_small n 0 (map_exts_needed (pages_needed n)) (map_ext_near 0 (omega arith)) in
+      let small : map_ext_or_none n 0 (map_exts_needed (pages_needed n)) < 2 ^ 32 =
+      map_ext_small n 0 (map_exts_needed (pages_needed n)) (map_ext_near 0 (omega arith)) in
       ap (λ bs. word bs 104) (holds_root t n sound allowed room)
       ∙ (root_block-map_ext (root_laid t n) (fits_root t n sound allowed room) small ∙ (map_ext_some n 0 (map_exts_needed (pages_needed n)) x.0 ∙ sym e))
 
-  map_next_laid : (j a b : ℕ) → At (row (middle n + 1 + pages_needed n) (map_exts_needed (pages_needed n))) j a → At (row (middle n + 1 + pages_needed n) (map_exts_needed (pages_needed n))) (suc j) b
+  map_next_laid : (j a b : ℕ) → At (row (middle n + 1 + pages_needed n) (map_exts_needed (pages_needed n))) j a
+      → At (row (middle n + 1 + pages_needed n) (map_exts_needed (pages_needed n))) (suc j) b
       → word_in (volume t n) a 127 ≡ b
   map_next_laid j a b g h =
       let x = map_ext_at j a g in
@@ -280,9 +311,11 @@ module _ (t : Tree) (n : ℕ) (sound : IsSound t) (allowed : is_allowed n ≡ tr
       let m : ℕ = map_exts_needed (pages_needed n) - suc j in
       let small : map_ext_or_none n (suc j) m < 2 ^ 32 = map_ext_small n (suc j) m (map_ext_near (suc j) (omega arith)) in
       ap (λ a. word_in (volume t n) a 127) x.1
-      ∙ (ap (λ bs. word bs 127) (map_ext_is j x.0) ∙ (map_ext_block-next (listed_pages n j) (map_ext_or_none n (suc j) m) (listed_few n j) small ∙ (map_ext_some n (suc j) m (omega arith) ∙ sym e)))
+      ∙ (ap (λ bs. word bs 127) (map_ext_is j x.0)
+      ∙ (map_ext_block-next (listed_pages n j) (map_ext_or_none n (suc j) m) (listed_few n j) small ∙ (map_ext_some n (suc j) m (omega arith) ∙ sym e)))
 
-  page_listed_laid : (j i a b : ℕ) → i < 127 → At (row (middle n + 1 + pages_needed n) (map_exts_needed (pages_needed n))) j a → At (row (middle n + 1) (pages_needed n)) (25 + 127 * j + i) b
+  page_listed_laid : (j i a b : ℕ) → i < 127 → At (row (middle n + 1 + pages_needed n) (map_exts_needed (pages_needed n))) j a
+      → At (row (middle n + 1) (pages_needed n)) (25 + 127 * j + i) b
       → word_in (volume t n) a i ≡ b
   page_listed_laid j i a b l g h =
       let x = map_ext_at j a g in
@@ -292,7 +325,8 @@ module _ (t : Tree) (n : ℕ) (sound : IsSound t) (allowed : is_allowed n ≡ tr
       let l0 : 25 + 127 * j + i < length (row (middle n + 1) (pages_needed n)) = at_below (row (middle n + 1) (pages_needed n)) (25 + 127 * j + i) b h in
       let l1 = length_row (middle n + 1) (pages_needed n) in
       let near = map_ext_near 0 (omega arith) in
-      let s : slice_index (listed_pages n j) i ≡ b = row_index (middle n + 1 + (25 + 127 * j)) (min 127 (pages_needed n - (25 + 127 * j))) i (omega arith) ∙ omega arith in
+      let s : slice_index (listed_pages n j) i ≡ b =
+      row_index (middle n + 1 + (25 + 127 * j)) (min 127 (pages_needed n - (25 + 127 * j))) i (omega arith) ∙ omega arith in
       ap (λ a. word_in (volume t n) a i) x.1
       ∙ (ap (λ bs. word bs i) (map_ext_is j u) ∙ (map_ext_block-page (listed_pages n j) (map_ext_or_none n (suc j) m) i (listed_few n j) l (omega arith) ∙ s))
 
@@ -300,7 +334,8 @@ module _ (t : Tree) (n : ℕ) (sound : IsSound t) (allowed : is_allowed n ≡ tr
   entries_fit zero e h = absurd h
   entries_fit (suc i) e h = entry_laid t n sound allowed room i e h
 
-  files_fit : (m : ℕ) (e : Entry) (bytes : List ℕ) → EntryAt t m e → e.body ≡ File bytes → FileFits (volume t n) t (planned t n) m (at_node (volume t n) (planned t n) m) bytes
+  files_fit : (m : ℕ) (e : Entry) (bytes : List ℕ) → EntryAt t m e → e.body ≡ File bytes
+      → FileFits (volume t n) t (planned t n) m (at_node (volume t n) (planned t n) m) bytes
   files_fit zero e bytes h f = absurd h
   files_fit (suc i) e bytes h f = file_laid t n sound allowed room i e h bytes f
 

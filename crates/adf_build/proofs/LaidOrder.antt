@@ -9,7 +9,7 @@ use Rattle.adf_volume.specs.declared.owner.Owner.{Owner}
 use Rattle.adf_volume.specs.Lists.{In}
 use Rattle.adf_volume.specs.Layout.{owned}
 use Rattle.adf_volume.proofs.Lists.{in_left, in_right}
-use Rattle.adf_volume.proofs.Blocks.{in_block}
+use Rattle.adf_volume.proofs.DistinctBlocks.{in_block}
 use Rattle.adf_build.specs.Plan.{reserved, entries_blocks, given, run, row, planned}
 use Rattle.adf_build.specs.Lay.{numbers_of}
 use Rattle.adf_build.specs.Laid.{parts, volume, IsLaid, IsSound}
@@ -17,8 +17,8 @@ use Rattle.adf_build.proofs.GivenRuns.{stretch, given_rises, run_in, row_in}
 use Rattle.adf_build.proofs.GivenRuns.Stretch.{low, high}
 use Rattle.adf_build.proofs.Planned.{owned_blocks}
 use Rattle.adf_build.proofs.Lays.{lay_same, lay_other}
-use Rattle.adf_build.proofs.Written.{number_in}
-use Rattle.adf_build.proofs.Holding.{parts_are, parts_once, zeros_long}
+use Rattle.adf_build.proofs.WrittenParts.{number_in}
+use Rattle.adf_build.proofs.LaidParts.{parts_are, parts_once, zeros_long}
 
 pub one_laid : (image other : List ℕ) (t : Tree) → IsLaid image t → IsLaid other t → blocks image ≡ blocks other → image ≡ other
 one_laid image other t l m e = l.bytes ∙ (ap (volume t) e ∙ sym m.bytes)
@@ -31,22 +31,31 @@ given_is n k b four lo h (inl u) = elim (stretch n (b - 2)) [
 ]
 given_is n k b four lo h (inr u) = elim (stretch n (b - 3 - reserved n)) [
   | low a e ↦ absurd (omega arith)
-  | high a e ↦ (b - 3 - reserved n, (let g : k < b - 3 - reserved n → ⊥ = (λ l. let x = given_rises n k (b - 3 - reserved n) l in omega arith) in omega arith), omega arith)
+  | high a e ↦ (
+    b - 3 - reserved n,
+    (let g : k < b - 3 - reserved n → ⊥ =
+        (λ l. let x = given_rises n k (b - 3 - reserved n) l in omega arith) in omega arith),
+    omega arith,
+  )
 ]
 
 -- every block from 2 up to a given one is owned
-pub no_gap : (image : List ℕ) (t : Tree) (k b : ℕ) → 4 ≤ blocks image → k < entries_blocks t.kind t.entries → 2 ≤ b → b ≤ given (blocks image) k → (o : Owner) × In (owned image (planned t (blocks image))) (o, b)
+pub no_gap : (image : List ℕ) (t : Tree) (k b : ℕ) → 4 ≤ blocks image → k < entries_blocks t.kind t.entries → 2 ≤ b → b ≤ given (blocks image) k
+    → (o : Owner) × In (owned image (planned t (blocks image))) (o, b)
 no_gap image t k b four lt lo h =
     let n : ℕ = blocks image in
     let m : ℕ = entries_blocks t.kind t.entries in
-    in_block (owned image (planned t n)) b (subst (λ l. In l b) (sym (owned_blocks image t n refl)) (put n m four (cases_lt b (middle n)) (cases_lt (middle n + reserved n) b) lt h))
+    in_block (owned image (planned t n)) b (subst (λ l. In l b) (sym (owned_blocks image t n refl))
+    (put n m four (cases_lt b (middle n)) (cases_lt (middle n + reserved n) b) lt h))
   where
-    there : (n m : ℕ) → 4 ≤ n → ((b < middle n) ⊎ (middle n + reserved n < b)) → k < m → b ≤ given n k → In (middle n ∷ (row (middle n + 1) (reserved n) ++ run n 0 m)) b
+    there : (n m : ℕ) → 4 ≤ n → ((b < middle n) ⊎ (middle n + reserved n < b)) → k < m → b ≤ given n k
+        → In (middle n ∷ (row (middle n + 1) (reserved n) ++ run n 0 m)) b
     there n m four c lt h =
         let x = given_is n k b four lo h c in
         inr (in_right (row (middle n + 1) (reserved n)) (run n 0 m) b (subst (In (run n 0 m)) x.2 (run_in n 0 m x.0 (omega arith) (omega arith))))
 
-    put : (n m : ℕ) → 4 ≤ n → (b < middle n) ⊎ (middle n ≤ b) → (middle n + reserved n < b) ⊎ (b ≤ middle n + reserved n) → k < m → b ≤ given n k → In (middle n ∷ (row (middle n + 1) (reserved n) ++ run n 0 m)) b
+    put : (n m : ℕ) → 4 ≤ n → (b < middle n) ⊎ (middle n ≤ b) → (middle n + reserved n < b) ⊎ (b ≤ middle n + reserved n) → k < m → b ≤ given n k
+        → In (middle n ∷ (row (middle n + 1) (reserved n) ++ run n 0 m)) b
     put n m four (inl u) c lt h = there n m four (inl u) lt h
     put n m four (inr u) (inl w) lt h = there n m four (inr w) lt h
     put n m four (inr u) (inr w) lt h = elim (cases_lt (middle n) b) [
@@ -55,12 +64,14 @@ no_gap image t k b four lt lo h =
     ]
 
 -- a part that is laid stands in its block
-pub part_held : (image : List ℕ) (t : Tree) → IsSound t → IsLaid image t → (b : ℕ) (bytes : List ℕ) → In (parts t (blocks image)) (b, bytes) → block image b ≡ bytes
+pub part_held : (image : List ℕ) (t : Tree) → IsSound t → IsLaid image t → (b : ℕ) (bytes : List ℕ) → In (parts t (blocks image)) (b, bytes)
+    → block image b ≡ bytes
 unfolding volume
 part_held image t sound l b bytes h = ap (λ v. block v b) l.bytes ∙ held
   where
     held : block (volume t (blocks image)) b ≡ bytes
-    held = lay_same (blocks image) (replicate (blocks image * 512) 0) (parts t (blocks image)) b bytes (parts_are t (blocks image) sound l.size l.room) (parts_once t (blocks image) sound l.size l.room) (zeros_long t (blocks image) sound l.size l.room) h
+    held = lay_same (blocks image) (replicate (blocks image * 512) 0) (parts t (blocks image)) b bytes (parts_are t (blocks image) sound l.size l.room)
+        (parts_once t (blocks image) sound l.size l.room) (zeros_long t (blocks image) sound l.size l.room) h
 
 -- a block of zeros
 drop_zeros : (a m : ℕ) → drop a (replicate m 0) ≡ replicate {A = ℕ} (m - a) 0
@@ -78,13 +89,16 @@ zeros : (n b : ℕ) → b < n → block (replicate (n * 512) 0) b ≡ replicate 
 unfolding block
 zeros n b lt =
     let z : b * 512 + 512 - b * 512 ≡ 512 = omega arith in
-    ap (λ m. take m (drop (b * 512) (replicate (n * 512) 0))) z ∙ (ap (take 512) (drop_zeros (b * 512) (n * 512)) ∙ take_zeros 512 (n * 512 - b * 512) (omega arith))
+    ap (λ m. take m (drop (b * 512) (replicate (n * 512) 0))) z
+    ∙ (ap (take 512) (drop_zeros (b * 512) (n * 512)) ∙ take_zeros 512 (n * 512 - b * 512) (omega arith))
 
 -- and a block in which no part stands holds zeros
-pub rest_zero : (image : List ℕ) (t : Tree) → IsSound t → IsLaid image t → (b : ℕ) → b < blocks image → (In (numbers_of (parts t (blocks image))) b → ⊥) → block image b ≡ replicate 512 0
+pub rest_zero : (image : List ℕ) (t : Tree) → IsSound t → IsLaid image t → (b : ℕ) → b < blocks image → (In (numbers_of (parts t (blocks image))) b → ⊥)
+    → block image b ≡ replicate 512 0
 unfolding volume
 rest_zero image t sound l b lt h = ap (λ v. block v b) l.bytes ∙ (other ∙ zeros (blocks image) b lt)
   where
     other : block (volume t (blocks image)) b ≡ block (replicate (blocks image * 512) 0) b
-    other = lay_other (blocks image) (replicate (blocks image * 512) 0) (parts t (blocks image)) b (parts_are t (blocks image) sound l.size l.room) (zeros_long t (blocks image) sound l.size l.room)
+    other = lay_other (blocks image) (replicate (blocks image * 512) 0) (parts t (blocks image)) b (parts_are t (blocks image) sound l.size l.room)
+        (zeros_long t (blocks image) sound l.size l.room)
         (λ q i e. h (subst (In (numbers_of (parts t (blocks image)))) e (number_in (parts t (blocks image)) q i)))

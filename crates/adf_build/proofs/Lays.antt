@@ -17,11 +17,13 @@ length-lay n image (p ∷ ps) a len =
     room : (n b : ℕ) (bs : List ℕ) (l : ℕ) → b < n → length bs ≡ 512 → l ≡ n * 512 → b * 512 + length bs ≤ l
     room n b bs l h e f = omega arith
 
-step : (n : ℕ) (image : List ℕ) (b : ℕ) (bs : List ℕ) → b < n → length bs ≡ 512 → length image ≡ n * 512 → (length (with_block image b bs) ≡ n * 512) × (b * 512 + 512 ≤ length image)
+step : (n : ℕ) (image : List ℕ) (b : ℕ) (bs : List ℕ) → b < n → length bs ≡ 512 → length image ≡ n * 512
+    → (length (with_block image b bs) ≡ n * 512) × (b * 512 + 512 ≤ length image)
 step n image b bs h e f = let g : b * 512 + 512 ≤ length image = omega arith in (length-with_bytes image (b * 512) bs (omega arith) ∙ f, g)
 
 -- a block that was not written
-pub lay_other : (n : ℕ) (image : List ℕ) (ps : List (ℕ × List ℕ)) (b : ℕ) → AreBlocks n ps → length image ≡ n * 512 → ((q : ℕ × List ℕ) → In ps q → q.0 ≢ b) → block (lay image ps) b ≡ block image b
+pub lay_other : (n : ℕ) (image : List ℕ) (ps : List (ℕ × List ℕ)) (b : ℕ) → AreBlocks n ps → length image ≡ n * 512 → ((q : ℕ × List ℕ) → In ps q → q.0 ≢ b)
+    → block (lay image ps) b ≡ block image b
 lay_other n image [] b a len f = refl
 lay_other n image (p ∷ ps) b a len f =
     let s = step n image p.0 p.1 a.0 a.1 len in
@@ -29,7 +31,8 @@ lay_other n image (p ∷ ps) b a len f =
     ∙ block_other image p.0 b p.1 s.1 a.1 (λ e. f p (inl refl) (sym e))
 
 -- a block that was written
-pub lay_same : (n : ℕ) (image : List ℕ) (ps : List (ℕ × List ℕ)) (b : ℕ) (bs : List ℕ) → AreBlocks n ps → NoneTwice ps → length image ≡ n * 512 → In ps (b, bs) → block (lay image ps) b ≡ bs
+pub lay_same : (n : ℕ) (image : List ℕ) (ps : List (ℕ × List ℕ)) (b : ℕ) (bs : List ℕ) → AreBlocks n ps → NoneTwice ps → length image ≡ n * 512
+    → In ps (b, bs) → block (lay image ps) b ≡ bs
 lay_same n image [] b bs a d len i = absurd i
 lay_same n image (p ∷ ps) b bs a d len (inl e) =
     let s = step n image p.0 p.1 a.0 a.1 len in

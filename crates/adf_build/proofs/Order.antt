@@ -1,5 +1,6 @@
 -- The order of entries, and the chains that it makes.
-use Rattle.std.proofs.Common.{◌≡◌, ◌≤◌, ◌<◌, ◌≢◌, ◌+◌, ◌*◌, ℕ, zero, suc, List, [], ◌∷◌, refl, sym, ap, subst, ◌∙◌, arith, true, false, cond, length, drop, map, ◌⊎◌, inl, inr, get_or-set_other, get_or-set_same}
+use Rattle.std.proofs.Common.{◌≡◌, ◌≤◌, ◌<◌, ◌≢◌, ◌+◌, ◌*◌, ℕ, zero, suc, List, [], ◌∷◌, refl, sym, ap, subst, ◌∙◌, arith, false, cond, length, drop, map}
+use Rattle.std.proofs.Common.{◌⊎◌, inl, inr, get_or-set_other, get_or-set_same}
 use Rattle.std.specs.Prelude.{◌==◌, ◌&&◌, slice_index, slice_index_or, replicate}
 use Rattle.std.specs.List.{AllWithin, range_with_len}
 use Rattle.std.specs.List.Sorted.{IsNonDecreasingBy}
@@ -16,6 +17,7 @@ use Rattle.adf_tree.proofs.Kept.{slot_small}
 use Rattle.adf_volume.specs.Layout.{nodes_from}
 use Rattle.adf_build.specs.Laid.{first_block, slots_of}
 use Rattle.adf_build.specs.Order.{RisesFrom}
+use Rattle.adf_volume.proofs.Comparisons.{equal_both}
 
 -- a lower bound
 pub rises_low : (q r : ℕ) (es : List Entry) → q ≤ r → RisesFrom r es → RisesFrom q es
@@ -41,16 +43,13 @@ rises_drop r (suc i) (e ∷ es) o = rises_drop r i es (rises_low r (rank e) es o
 apart : (a b c d : ℕ) → (a ≡ b → c ≡ d → ⊥) → ((a == b) && (c == d)) ≡ false
 apart a b c d h = grind (arith, nat_tests)
 
-at_one : (a b c d : ℕ) → a ≡ b → c ≡ d → ((a == b) && (c == d)) ≡ true
-at_one a b c d e f = grind (arith, nat_tests)
-
 -- an entry that does not stand in a chain
 passed : (n : ℕ) (e : Entry) (es : List Entry) (p s : ℕ) → (e.parent ≡ p → slot_of e.name ≡ s → ⊥) → nodes_from n (e ∷ es) p s ≡ nodes_from (suc n) es p s
 passed n e es p s h = ap (λ t. cond t (n ∷ nodes_from (suc n) es p s) (nodes_from (suc n) es p s)) (apart e.parent p (slot_of e.name) s h)
 
 -- an entry that stands in a chain
 taken : (n : ℕ) (e : Entry) (es : List Entry) (p s : ℕ) → e.parent ≡ p → slot_of e.name ≡ s → nodes_from n (e ∷ es) p s ≡ n ∷ nodes_from (suc n) es p s
-taken n e es p s h k = ap (λ t. cond t (n ∷ nodes_from (suc n) es p s) (nodes_from (suc n) es p s)) (at_one e.parent p (slot_of e.name) s h k)
+taken n e es p s h k = ap (λ t. cond t (n ∷ nodes_from (suc n) es p s) (nodes_from (suc n) es p s)) (equal_both e.parent p (slot_of e.name) s h k)
 
 -- where all entries stand behind a chain, it is empty
 pub none_below : (n r : ℕ) (es : List Entry) (p s : ℕ) → RisesFrom r es → 72 * p + s < r → nodes_from n es p s ≡ []
@@ -63,7 +62,8 @@ not_both : (a b c d : ℕ) → ((a == b) && (c == d)) ≡ false → a ≡ b → 
 not_both a b c d t e f = grind (arith, nat_tests)
 
 -- the next of a chain is none, where the next entry stands elsewhere or there is none
-pub next_none : (at : ℕ → ℕ) (n : ℕ) (e f : Entry) (left rest : List Entry) → left ≡ f ∷ rest → RisesFrom (rank e) left → in_chain e.parent (slot_of e.name) f ≡ false
+pub next_none : (at : ℕ → ℕ) (n : ℕ) (e f : Entry) (left rest : List Entry) → left ≡ f ∷ rest → RisesFrom (rank e) left
+    → in_chain e.parent (slot_of e.name) f ≡ false
     → first_block at (nodes_from n left e.parent (slot_of e.name)) ≡ 0
 next_none at n e f left rest split o t =
     let h : f.parent ≡ e.parent → slot_of f.name ≡ slot_of e.name → ⊥ = not_both f.parent e.parent (slot_of f.name) (slot_of e.name) t in
@@ -112,16 +112,19 @@ pub low_step : (left rest : List Entry) (r : ℕ) (e : Entry) → left ≡ e ∷
 low_step left rest r e split o = let p : RisesFrom r (e ∷ rest) = subst (RisesFrom r) split o in rises_low r (rank e) rest p.0 p.1
 
 -- the chains of other nodes begin behind a child
-pub others_step : (left rest : List Entry) (n m p : ℕ) (e : Entry) (q s : ℕ) → left ≡ e ∷ rest → m ≡ suc n → e.parent ≡ p → q ≢ p → nodes_from n left q s ≡ nodes_from m rest q s
+pub others_step : (left rest : List Entry) (n m p : ℕ) (e : Entry) (q s : ℕ) → left ≡ e ∷ rest → m ≡ suc n → e.parent ≡ p → q ≢ p
+    → nodes_from n left q s ≡ nodes_from m rest q s
 others_step left rest n m p e q s split up h ne =
     ap (λ l. nodes_from n l q s) split ∙ passed n e rest q s (λ a b. ne (sym a ∙ h)) ∙ ap (λ m. nodes_from m rest q s) (sym up)
 
 -- no slot is filled behind the children
-pub slots_start : (at : ℕ → ℕ) (n p s : ℕ) (left : List Entry) → RisesFrom (72 * (p + 1)) left → s < 72 → slice_index (replicate 72 0) s ≡ first_block at (nodes_from n left p s)
+pub slots_start : (at : ℕ → ℕ) (n p s : ℕ) (left : List Entry) → RisesFrom (72 * (p + 1)) left → s < 72
+    → slice_index (replicate 72 0) s ≡ first_block at (nodes_from n left p s)
 slots_start at n p s left o h = get_or-replicate 72 s 0 0 h ∙ sym (ap (first_block at) (none_below n (72 * (p + 1)) left p s o (omega arith)))
 
 -- one child more, before the others
-pub slots_step : (slots : List ℕ) (at : ℕ → ℕ) (n m p t v : ℕ) (e : Entry) (left rest : List Entry) → left ≡ e ∷ rest → m ≡ suc n → e.parent ≡ p → slot_of e.name ≡ t → v ≡ at n → length slots ≡ 72
+pub slots_step : (slots : List ℕ) (at : ℕ → ℕ) (n m p t v : ℕ) (e : Entry) (left rest : List Entry) → left ≡ e ∷ rest → m ≡ suc n → e.parent ≡ p
+    → slot_of e.name ≡ t → v ≡ at n → length slots ≡ 72
     → ((s : ℕ) → s < 72 → slice_index slots s ≡ first_block at (nodes_from m rest p s))
     → (s : ℕ) → s < 72 → slice_index (set slots t v) s ≡ first_block at (nodes_from n left p s)
 slots_step slots at n m p t v e left rest split up h slot here long f s lt =
@@ -155,7 +158,8 @@ same_members (x ∷ xs) (y ∷ ys) e h =
     λ i. a i ∷ b i
 
 -- the slots of a node, each of which is known
-pub slots_are : (slots nodes : List ℕ) (es : List Entry) (p : ℕ) → length slots ≡ 72 → ((s : ℕ) → s < 72 → slice_index slots s ≡ first_block (slice_index nodes) (nodes_from 1 es p s)) → slots ≡ slots_of nodes es p
+pub slots_are : (slots nodes : List ℕ) (es : List Entry) (p : ℕ) → length slots ≡ 72
+    → ((s : ℕ) → s < 72 → slice_index slots s ≡ first_block (slice_index nodes) (nodes_from 1 es p s)) → slots ≡ slots_of nodes es p
 slots_are slots nodes es p len h =
     let f : ℕ → ℕ = λ s. first_block (slice_index nodes) (nodes_from 1 es p s) in
     same_members slots (map f (range_with_len 0 72)) (len ∙ sym (length-map-range_with_len f 0 72))

@@ -1,5 +1,6 @@
 -- What a planned layout owns: the root, the reserved blocks and a run of given blocks.
-use Rattle.std.proofs.Common.{◌≡◌, ℕ, suc, List, [], ◌∷◌, ◌++◌, inl, inr, ◌+◌, ◌-◌, ◌<◌, ◌≤◌, length, refl, sym, ap, subst, ◌∙◌, arith, append_assoc, length-append}
+use Rattle.std.proofs.Common.{◌≡◌, ℕ, suc, List, [], ◌∷◌, ◌++◌, inl, inr, ◌+◌, ◌-◌, ◌<◌, ◌≤◌, length, refl, sym, ap, subst, ◌∙◌, arith, append_assoc}
+use Rattle.std.proofs.Common.{length-append}
 use Rattle.adf_volume.specs.Lists.{In, numbered, NoBlockTwice}
 use Rattle.adf_tree.specs.declared.entry.Kind.{Kind}
 use Rattle.adf_tree.specs.declared.entry.Entry.{Entry}
@@ -9,10 +10,11 @@ use Rattle.adf_volume.specs.Image.{map_exts_needed}
 use Rattle.adf_volume.specs.Layout.{owned_from, owned}
 use Rattle.adf_volume.specs.declared.owner.Owner.{Owner}
 use Rattle.adf_volume.specs.declared.owner.Owner.TheVariants.{Page as APage, MapExt as AMapExt, Ext as AnExt, Data as AData}
-use Rattle.adf_volume.proofs.Blocks.{blocks_of, blocks_of-append, blocks_of-numbered, block_in, Distinct, distinct_blocks, distinct-append}
+use Rattle.adf_volume.proofs.DistinctBlocks.{blocks_of, blocks_of-append, blocks_of-numbered, block_in, Distinct, distinct_blocks, distinct-append}
 use Rattle.adf_volume.proofs.Lists.{in_cases}
 use Rattle.adf_build.specs.Plan.{reserved, given, run, row, exts_needed, data_blocks, entries_blocks, blocks_needed, places_from, planned}
-use Rattle.adf_build.proofs.GivenRuns.{length_row, length_run, given_from, given_below, given_apart, reserved_below, in_run, run-append, distinct_run, in_row, distinct_row, row-append}
+use Rattle.adf_build.proofs.GivenRuns.{length_row, length_run, given_from, given_below, given_apart, reserved_below, in_run, run-append, distinct_run, in_row}
+use Rattle.adf_build.proofs.GivenRuns.{distinct_row, row-append}
 
 -- the blocks of entries are a run of given blocks
 blocks_of_places : (n : ℕ) (kind : Kind) (i k : ℕ) (es : List Entry) → blocks_of (owned_from i (places_from n kind k es)) ≡ run n k (entries_blocks kind es)
@@ -36,7 +38,8 @@ blocks_of_places n kind i k (e ∷ es) =
     ∙ sym (run-append n (suc k) (x + c) r) in
     ap (λ l. given n k ∷ l) parts ∙ ap (run n k) (sym all)
 
-pub owned_blocks : (image : List ℕ) (t : Tree) (n : ℕ) → blocks image ≡ n → blocks_of (owned image (planned t n)) ≡ middle n ∷ (row (middle n + 1) (reserved n) ++ run n 0 (entries_blocks t.kind t.entries))
+pub owned_blocks : (image : List ℕ) (t : Tree) (n : ℕ) → blocks image ≡ n
+    → blocks_of (owned image (planned t n)) ≡ middle n ∷ (row (middle n + 1) (reserved n) ++ run n 0 (entries_blocks t.kind t.entries))
 unfolding reserved
 owned_blocks image t n e =
     let p : ℕ = pages_needed n in
@@ -65,15 +68,18 @@ planned_once image t n size =
         | inr i ↦ let r = in_run n 0 total (middle n) i in let e : given n r.0 ≡ middle n = r.3 in given_apart n r.0 (omega arith) (omega arith)
       ]),
       distinct-append (row (middle n + 1) (reserved n)) (run n 0 total) (distinct_row (middle n + 1) (reserved n)) (distinct_run n 0 total)
-          (λ b i j. let r = in_row (middle n + 1) (reserved n) b i in let s = in_run n 0 total b j in let e : given n s.0 ≡ b = s.3 in given_apart n s.0 (omega arith) (omega arith)),
+          (λ b i j. let r = in_row (middle n + 1) (reserved n) b i in let s = in_run n 0 total b j in let e : given n s.0 ≡ b =
+          s.3 in given_apart n s.0 (omega arith) (omega arith)),
     ))
 
 -- each block lies in the volume
-pub planned_range : (image : List ℕ) (t : Tree) (n : ℕ) (o : Owner) (b : ℕ) → blocks image ≡ n → 4 ≤ n → blocks_needed t n ≤ n - 2 → In (owned image (planned t n)) (o, b) → (2 ≤ b) × (b < n)
+pub planned_range : (image : List ℕ) (t : Tree) (n : ℕ) (o : Owner) (b : ℕ) → blocks image ≡ n → 4 ≤ n → blocks_needed t n ≤ n - 2
+    → In (owned image (planned t n)) (o, b) → (2 ≤ b) × (b < n)
 planned_range image t n o b size h fits i =
     let total : ℕ = entries_blocks t.kind t.entries in
     let end : middle n + reserved n < n = reserved_below n h in
-    let j : In (middle n ∷ (row (middle n + 1) (reserved n) ++ run n 0 total)) b = subst (λ l. In l b) (owned_blocks image t n size) (block_in (owned image (planned t n)) o b i) in
+    let j : In (middle n ∷ (row (middle n + 1) (reserved n) ++ run n 0 total)) b =
+    subst (λ l. In l b) (owned_blocks image t n size) (block_in (owned image (planned t n)) o b i) in
     elim j [
       | inl e ↦ (omega arith, omega arith)
       | inr k ↦ elim (in_cases (row (middle n + 1) (reserved n)) (run n 0 total) b k) [
@@ -95,7 +101,9 @@ planned_count image t n size =
     ∙ (ap length (owned_blocks image t n size)
     ∙ (let a : length (row (middle n + 1) (reserved n)) ≡ reserved n = length_row (middle n + 1) (reserved n) in
     let b : length (run n 0 (entries_blocks t.kind t.entries)) ≡ entries_blocks t.kind t.entries = length_run n 0 (entries_blocks t.kind t.entries) in
-    let c : length (row (middle n + 1) (reserved n) ++ run n 0 (entries_blocks t.kind t.entries)) ≡ length (row (middle n + 1) (reserved n)) + length (run n 0 (entries_blocks t.kind t.entries)) = length-append (row (middle n + 1) (reserved n)) (run n 0 (entries_blocks t.kind t.entries)) in
+    let c : length (row (middle n + 1) (reserved n) ++ run n 0 (entries_blocks t.kind t.entries))
+    ≡ length (row (middle n + 1) (reserved n)) + length (run n 0 (entries_blocks t.kind t.entries)) =
+    length-append (row (middle n + 1) (reserved n)) (run n 0 (entries_blocks t.kind t.entries)) in
     omega arith))
   where
     length_blocks : (xs : List (Owner × ℕ)) → length xs ≡ length (blocks_of xs)

@@ -1,5 +1,5 @@
 -- What is laid for a tree as a whole.
-use Rattle.std.proofs.Common.{◌≡◌, ◌≤◌, ◌+◌, ◌-◌, ◌*◌, ◌/◌, ℕ, List, refl, sym, ap, subst, ◌∙◌, arith, true, length}
+use Rattle.std.proofs.Common.{◌≡◌, ◌≤◌, ◌+◌, ◌-◌, ◌*◌, ℕ, List, refl, sym, ap, subst, arith, true}
 use Rattle.std.specs.Prelude.{replicate}
 use Rattle.adf_tree.specs.Tree.{Tree}
 use Rattle.adf_blocks.specs.Sizes.{blocks, is_allowed}
@@ -10,6 +10,7 @@ use Rattle.adf_build.specs.Lay.{lay}
 use Rattle.adf_build.specs.Plan.{blocks_needed, entries_blocks, planned, reserved}
 use Rattle.adf_build.specs.Building.{HasRoom, need_of}
 use Rattle.adf_build.proofs.LaidFits.{laid_fits}
+use Rattle.adf_build.proofs.LaidParts.{volume_blocks}
 
 -- the blocks that are left for entries, where there is room
 pub total_is : (t : Tree) (n need : ℕ) → is_allowed n ≡ true → need ≡ need_of t n → need ≤ n - 2 → need ≡ 1 + reserved n + entries_blocks t.kind t.entries
@@ -21,19 +22,22 @@ pub laid_bytes : (t : Tree) (n : ℕ) → lay (replicate (n * 512) 0) (parts t n
 unfolding volume
 laid_bytes t n = refl
 
--- an image of all parts is laid for the tree
-pub is_laid : (image : List ℕ) (t : Tree) (n : ℕ) → HasRoom t n → length image ≡ n * 512 → image ≡ lay (replicate (n * 512) 0) (parts t n) → IsLaid image t
-is_laid image t n room len e =
-    let size : blocks image ≡ n = ap (λ l. l / 512) len ∙ omega arith in
-    let fits : ℕ → Type 0 = λ m. blocks_needed t m ≤ m - 2 in
+-- the volume of a tree is laid for it
+pub volume_laid : (t : Tree) (n : ℕ) → IsSound t → is_allowed n ≡ true → blocks_needed t n ≤ n - 2 → IsLaid (volume t n) t
+volume_laid t n sound allowed room =
+    let size = sym (volume_blocks t n sound allowed room) in
     record {
-      size = ap is_allowed size ∙ room.allowed;
-      room = subst fits (sym size) room.room;
-      bytes = e ∙ laid_bytes t n ∙ ap (volume t) (sym size);
+      size = subst (λ (m : ℕ). is_allowed m ≡ true) size allowed;
+      room = subst (λ (m : ℕ). blocks_needed t m ≤ m - 2) size room;
+      bytes = ap (volume t) size;
     }
 
+pub is_laid : {image : List ℕ} (t : Tree) (n : ℕ) → image ≡ volume t n → IsSound t → HasRoom t n → IsLaid image t
+is_laid t n e sound room = subst (λ im. IsLaid im t) (sym e) (volume_laid t n sound room.allowed room.room)
+
 -- what is laid fits the tree, as it was planned
-pub laid_as_planned : (image : List ℕ) (t : Tree) (n : ℕ) → IsSound t → length image ≡ n * 512 → IsLaid image t → Fits image t (planned t n)
-laid_as_planned image t n sound len laid =
-    let size : blocks image ≡ n = ap (λ l. l / 512) len ∙ omega arith in
-    subst (λ m. Fits image t (planned t m)) size (laid_fits image t sound laid)
+pub laid_as_planned : {image : List ℕ} (t : Tree) (n : ℕ) → image ≡ volume t n → IsSound t → HasRoom t n → Fits image t (planned t n)
+laid_as_planned t n e sound room =
+    let size : blocks (volume t n) ≡ n = volume_blocks t n sound room.allowed room.room in
+    subst (λ im. Fits im t (planned t n)) (sym e)
+    (subst (λ m. Fits (volume t n) t (planned t m)) size (laid_fits (volume t n) t sound (volume_laid t n sound room.allowed room.room)))

@@ -50,16 +50,19 @@ same_side n b c d e (inr h) l u = inr (omega arith)
 word_clear : (n total q : ℕ) → IsOneSide n (2 + q) (33 + q) → is_used n total (33 + q) ≡ true → bits_from (is_free_bit n total) q 32 ≡ 0
 word_clear n total q side u =
     bits_clear (is_free_bit n total) q 32
-    (λ k l h. used_bit n total k (used_before n total (2 + k) (33 + q) (same_side n (2 + q) (2 + k) (33 + q) (33 + q) side (omega arith) (omega arith)) (omega arith) u))
+    (λ k l h. used_bit n total k (used_before n total (2 + k) (33 + q) (same_side n (2 + q) (2 + k) (33 + q) (33 + q) side (omega arith) (omega arith))
+    (omega arith) u))
 
 -- all blocks of a word that begins free are free
 not_used : (n total b c : ℕ) → IsOneSide n b c → b ≤ c → is_used n total b ≡ false → is_used n total c ≡ false
-not_used n total b c side le u = elim (cases_Bool (is_used n total c)) [ inl t ↦ absurd (true≢false (sym (used_before n total b c side le t) ∙ u)) | inr f ↦ f ]
+not_used n total b c side le u =
+    elim (cases_Bool (is_used n total c)) [ inl t ↦ absurd (true≢false (sym (used_before n total b c side le t) ∙ u)) | inr f ↦ f ]
 
 word_set : (n total q : ℕ) → IsOneSide n (2 + q) (33 + q) → 33 + q < n → is_used n total (2 + q) ≡ false → bits_from (is_free_bit n total) q 32 + 1 ≡ 2 ^ 32
 word_set n total q side h u =
     bits_set (is_free_bit n total) q 32
-    (λ k l r. free_bit n total k (omega arith) (not_used n total (2 + q) (2 + k) (same_side n (2 + q) (2 + q) (2 + k) (33 + q) side (omega arith) (omega arith)) (omega arith) u))
+    (λ k l r. free_bit n total k (omega arith) (not_used n total (2 + q) (2 + k)
+    (same_side n (2 + q) (2 + q) (2 + k) (33 + q) side (omega arith) (omega arith)) (omega arith) u))
 
 absent_bit : (n total r : ℕ) → n ≤ 2 + r → is_free_bit n total r ≡ false
 absent_bit n total r h = grind (arith, nat_tests)
@@ -78,7 +81,8 @@ none_free n total q a b e g h u =
     sym (word_clear n total q side (ap (is_used n total) (sym g) ∙ u))
 
 -- a word of one side, from block a to block b, whose first block is free and whose last one is there
-pub all_free : (n total q a b : ℕ) → a ≡ 2 + q → b ≡ 33 + q → (a < n / 2 → b < n / 2) → b < n → is_used n total a ≡ false → 4294967295 ≡ bits_from (is_free_bit n total) q 32
+pub all_free : (n total q a b : ℕ) → a ≡ 2 + q → b ≡ 33 + q → (a < n / 2 → b < n / 2) → b < n → is_used n total a ≡ false
+    → 4294967295 ≡ bits_from (is_free_bit n total) q 32
 all_free n total q a b e g h l u =
     let side = one_side n (2 + q) (33 + q) (λ l. omega (arith, h (omega arith))) in
     set_word (bits_from (is_free_bit n total) q 32) (word_set n total q side (omega arith) (ap (is_used n total) (sym e) ∙ u))

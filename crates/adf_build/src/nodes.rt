@@ -11,7 +11,7 @@ use adf_tree::{Body, Entry, Kind, Node, Tree};
 use std::alloc::{AllocError, Global};
 
 /// The entry at place `i`, which is node `i + 1`.
-#[tactic(auto, using(crate::proofs::Counts::entry_left))]
+#[tactic(auto, using(crate::proofs::CountSteps::entry_left))]
 pub fn entry_at(tree: &Tree, i: usize) -> &Entry
     requires { i < length tree.now.entries }
     ensures { drop i tree.now.entries ≡ result.now ∷ drop (i + 1) tree.now.entries }

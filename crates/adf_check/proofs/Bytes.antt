@@ -21,7 +21,7 @@ use Rattle.adf_volume.proofs.Images.{area_length}
 use Rattle.adf_volume.proofs.Lists.{at_index_or, at_some, in_right}
 use Rattle.adf_volume.proofs.Parts.{owned_data}
 use Rattle.adf_volume.proofs.Pieces.{held_some, pieces_joined}
-use Rattle.adf_volume.proofs.Trees.{entry_is_at, entry_some}
+use Rattle.adf_volume.proofs.Chains.{entry_is_at, entry_some}
 use Rattle.adf_check.specs.declared.kept.Start.{Start}
 use Rattle.adf_check.specs.Keeps.{Keeps}
 use Rattle.adf_check.specs.Store.{Store}

@@ -14,7 +14,7 @@ use Rattle.adf_volume.specs.Image.{DIR, FILE, kind_of, word_in}
 use Rattle.adf_volume.specs.Layout.{Layout, at_node, owned}
 use Rattle.adf_volume.specs.Lists.{At}
 use Rattle.adf_volume.specs.Walk.Role.{Head}
-use Rattle.adf_volume.proofs.Kept.{in_range}
+use Rattle.adf_volume.proofs.MemberFacts.{in_range}
 use Rattle.adf_check.specs.declared.kept.Row.{Row}
 use Rattle.adf_check.specs.Keeps.{Keeps}
 use Rattle.adf_check.specs.Reading.{TellsFit}

@@ -7,8 +7,8 @@ use Rattle.adf_volume.specs.Walk.{Role, first, second, third, Before, Same, head
 use Rattle.adf_volume.specs.Walk.Role.{Root, Page, MapExt, Head, Ext, Data}
 use Rattle.adf_volume.specs.Walk.IsWalk.{start, step}
 use Rattle.adf_volume.proofs.Walks.{number_of, one_head, one_node, same_refl, due_file}
-use Rattle.adf_volume.proofs.Rising.{dir_number, asks_back, before_total}
-use Rattle.adf_volume.proofs.Kept.{kept}
+use Rattle.adf_volume.proofs.WalkOrder.{dir_number, asks_back, before_total}
+use Rattle.adf_volume.proofs.MemberFacts.{kept}
 use Rattle.adf_check.specs.Cursor.{IsBelow, IsUpTo}
 
 below_or : (r : Role) (x y z : ℕ) → (IsBelow r x y z → ⊥) → (x < first r) ⊎ ((first r ≡ x) × ((y < second r) ⊎ ((second r ≡ y) × (z ≤ third r))))

@@ -10,7 +10,7 @@ use Rattle.adf_volume.specs.Image.{held, kind_of, word_in}
 use Rattle.adf_volume.specs.Lists.{At}
 use Rattle.adf_volume.specs.Walk.{FirstFault, IsWalk, MemberAt, Role, data_count}
 use Rattle.adf_volume.specs.Walk.Role.{Data, Ext, Head}
-use Rattle.adf_volume.proofs.Kept.{in_range}
+use Rattle.adf_volume.proofs.MemberFacts.{in_range}
 use Rattle.adf_check.specs.Reading.{IsInDatas, IsNamed}
 use Rattle.adf_check.specs.Store.{Store, owner_at, stored}
 use Rattle.adf_check.proofs.InFiles.{data_named, data_enough, data_form_at, data_read}

@@ -11,7 +11,7 @@ use Rattle.adf_volume.specs.Demands.{Demand, FirstFails}
 use Rattle.adf_volume.specs.Image.{word_in}
 use Rattle.adf_volume.specs.Walk.{FirstFault, Role, ext_count}
 use Rattle.adf_volume.specs.Walk.Role.{Root, Page, MapExt, Head, Ext, Data}
-use Rattle.adf_volume.proofs.Told.{all_told, first_told}
+use Rattle.adf_volume.proofs.FormDemands.{all_told, first_told}
 use Rattle.adf_check.specs.Reading.{IsInExts}
 use Rattle.adf_check.specs.Store.{Store, owner_at}
 use Rattle.adf_check.proofs.InFiles.{ext_named, ext_form_at, ext_read}

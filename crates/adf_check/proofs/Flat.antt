@@ -8,7 +8,7 @@ use Rattle.adf_volume.specs.Walk.Role.{Root, Page, MapExt, Head, Ext, Data}
 use Rattle.adf_volume.specs.Walk.IsWalk.{start, step}
 use Rattle.adf_volume.specs.Made.{push_ext, push_data, exts_in, datas_in}
 use Rattle.adf_volume.proofs.Lists.{snoc_length}
-use Rattle.adf_volume.proofs.Rising.{rises}
+use Rattle.adf_volume.proofs.WalkOrder.{rises}
 use Rattle.adf_check.specs.Store.{all_exts, all_datas, ext_before_of, data_before_of, exts_before, datas_before}
 use Rattle.adf_check.proofs.Stores.{all_exts_before, all_datas_before}
 

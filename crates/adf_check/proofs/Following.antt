@@ -18,9 +18,9 @@ use Rattle.adf_volume.specs.Layout.{EntryAt, Layout, at_node, chain_nodes, head_
 use Rattle.adf_volume.specs.Lists.{At, In, Spelled, numbered}
 use Rattle.adf_volume.proofs.Finds.{chain_no, chain_yes}
 use Rattle.adf_volume.proofs.Lists.{at_below, at_some, in_right}
-use Rattle.adf_volume.proofs.Ordered.{DirNode, is_dir, ordered}
+use Rattle.adf_volume.proofs.TreeOrder.{DirNode, is_dir, ordered}
 use Rattle.adf_volume.proofs.Parts.{owned_head}
-use Rattle.adf_volume.proofs.Trees.{chain_rises, entry_at, entry_below}
+use Rattle.adf_volume.proofs.Chains.{chain_rises, entry_at, entry_below}
 use Rattle.adf_check.specs.declared.kept.Row.{Row}
 use Rattle.adf_check.specs.Keeps.{Keeps}
 use Rattle.adf_check.specs.Store.{Store, owner_at}

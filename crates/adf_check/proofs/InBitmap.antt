@@ -14,9 +14,9 @@ use Rattle.adf_volume.proofs.Images.{page_in}
 use Rattle.adf_volume.proofs.Lists.{all_split}
 use Rattle.adf_volume.proofs.Walks.{one_block, asked_block, page_word}
 use Rattle.adf_volume.specs.Made.{tree_in, layout_in}
-use Rattle.adf_volume.proofs.Sound.{all_map_exts}
-use Rattle.adf_volume.proofs.Fitting.{fits}
-use Rattle.adf_volume.proofs.Unique.{one_tree}
+use Rattle.adf_volume.proofs.WholeWalks.{all_map_exts}
+use Rattle.adf_volume.proofs.WalkFits.{fits}
+use Rattle.adf_volume.proofs.OneTree.{one_tree}
 use Rattle.adf_volume.specs.declared.owner.Owner.{Owner}
 use Rattle.adf_volume.specs.declared.owner.Owner.TheVariants.{Free, Boot, Root as TheRoot}
 use Rattle.adf_volume.specs.Parts.{owner_of}

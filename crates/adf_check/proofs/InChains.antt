@@ -11,7 +11,7 @@ use Rattle.adf_volume.specs.Walk.Role.{Head}
 use Rattle.adf_volume.specs.Walk.FirstFault.{at_due}
 use Rattle.adf_volume.proofs.Lists.{fails_left, fails_right, all_append}
 use Rattle.adf_volume.proofs.Walks.{node_is, one_block, one_node}
-use Rattle.adf_volume.proofs.Kept.{dir_up}
+use Rattle.adf_volume.proofs.MemberFacts.{dir_up}
 use Rattle.adf_volume.specs.declared.owner.Owner.TheVariants.{Free}
 use Rattle.std.specs.Prelude.{◌↔◌}
 use Rattle.adf_check.specs.Reading.{Next, IsAtSlot, IsInChain, Sees}

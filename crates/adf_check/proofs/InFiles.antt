@@ -10,7 +10,7 @@ use Rattle.adf_volume.specs.Walk.{Role, heads, DirAt, FileAt, MemberAt, data_cou
 use Rattle.adf_volume.specs.Walk.Role.{Ext, Data}
 use Rattle.adf_volume.proofs.Lists.{at_some, at_snoc, snoc_length, at_index}
 use Rattle.adf_volume.proofs.Walks.{file_is, member_is, one_block, one_head, count_own, ext_counted}
-use Rattle.adf_volume.proofs.Kept.{file_up, member_up}
+use Rattle.adf_volume.proofs.MemberFacts.{file_up, member_up}
 use Rattle.adf_volume.specs.declared.owner.Owner.TheVariants.{Free}
 use Rattle.adf_check.specs.Reading.{IsNamed, IsAtNode, IsAtSlot, NextExt, IsInExts, IsInDatas, IsInNode}
 use Rattle.adf_check.specs.Store.{Store, owner_at, Tells, stored}

@@ -8,7 +8,7 @@ use Rattle.adf_volume.specs.Demands.{AllHold, boot_demands, root_demands, page_d
 use Rattle.adf_volume.specs.Walk.{Role, Has, NamesPage, Asks, IsWalk}
 use Rattle.adf_volume.specs.Walk.Role.{Page, MapExt}
 use Rattle.adf_volume.proofs.Lists.{at_snoc, snoc_length}
-use Rattle.adf_volume.proofs.Kept.{kept}
+use Rattle.adf_volume.proofs.MemberFacts.{kept}
 use Rattle.adf_volume.specs.declared.owner.Owner.TheVariants.{Free}
 use Rattle.adf_check.specs.Cursor.{IsUpTo}
 use Rattle.adf_check.specs.Reading.{IsNamed, IsBeforePage, IsAtPage, map_ext_block, block_of_page, IsListed, IsAtNode}

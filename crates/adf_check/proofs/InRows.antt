@@ -6,10 +6,10 @@ use Rattle.adf_volume.specs.Image.{word_in, root_of, kind_of, table_word, DIR}
 use Rattle.adf_volume.specs.Demands.{AllHold, boot_demands, root_demands}
 use Rattle.adf_volume.specs.Walk.{Role, Has, heads, DirAt, FileAt, data_count, ext_count, IsWalk, FirstFault}
 use Rattle.adf_volume.specs.Walk.Role.{Root, Head, Data}
-use Rattle.adf_volume.proofs.Told.{head_type}
+use Rattle.adf_volume.proofs.FormDemands.{head_type}
 use Rattle.adf_volume.proofs.Lists.{at_below, at_some, at_fun}
 use Rattle.adf_volume.proofs.Walks.{numbered, root_in}
-use Rattle.adf_volume.proofs.Kept.{kept}
+use Rattle.adf_volume.proofs.MemberFacts.{kept}
 use Rattle.adf_check.specs.Reading.{IsAtNode, IsInDatas, IsRead}
 use Rattle.adf_check.specs.declared.kept.Row.{Row}
 use Rattle.adf_check.specs.Store.{Store, Tells}

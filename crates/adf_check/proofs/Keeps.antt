@@ -8,11 +8,11 @@ use Rattle.adf_volume.specs.Walk.Role.{Ext, Data}
 use Rattle.adf_volume.specs.Parts.{owner_of}
 use Rattle.adf_volume.specs.Made.{tree_in, layout_in, exts_in, datas_in}
 use Rattle.adf_volume.proofs.Lists.{at_fun, same_list}
-use Rattle.adf_volume.proofs.Agree.{agreement}
-use Rattle.adf_volume.proofs.Whole.{part_walked}
-use Rattle.adf_volume.proofs.Made.{entries_length, has_ext, ext_has, has_data, data_has}
-use Rattle.adf_volume.proofs.Sound.{head_is, entry_is}
-use Rattle.adf_volume.proofs.OwnedIn.{owned_has, is_owned}
+use Rattle.adf_volume.proofs.WalkAgreement.{agreement}
+use Rattle.adf_volume.proofs.WalkCompleteness.{part_walked}
+use Rattle.adf_volume.proofs.WalkMembers.{entries_length, has_ext, ext_has, has_data, data_has}
+use Rattle.adf_volume.proofs.WholeWalks.{head_is, entry_is}
+use Rattle.adf_volume.proofs.WalkOwners.{owned_has, is_owned}
 use Rattle.adf_check.specs.declared.kept.Row.{Row}
 use Rattle.adf_check.specs.Store.{Store, owner_at, all_exts, all_datas, exts_before, datas_before}
 use Rattle.adf_check.specs.Reading.{TellsFit}

@@ -12,7 +12,7 @@ use Rattle.adf_volume.specs.Walk.IsWalk.{start, step}
 use Rattle.adf_volume.specs.Made.{pages_in, map_exts_in, exts_in, datas_in, places_in, place_in, layout_in}
 use Rattle.adf_volume.proofs.Lists.{snoc_length}
 use Rattle.adf_volume.proofs.Walks.{asks_number, number_of, ext_file}
-use Rattle.adf_volume.proofs.Kept.{kept}
+use Rattle.adf_volume.proofs.MemberFacts.{kept}
 use Rattle.adf_check.specs.Store.{all_exts, all_datas, ext_before_of, data_before_of, exts_before, datas_before}
 use Rattle.adf_check.proofs.Stores.{all_exts_before, all_datas_before}
 use Rattle.adf_check.proofs.Flat.{exts_split, datas_split, no_exts, no_datas}

@@ -4,7 +4,7 @@ use Rattle.adf_blocks.specs.Sizes.{blocks}
 use Rattle.adf_volume.specs.Image.{DIR, root_of, word_in}
 use Rattle.adf_volume.specs.Lists.{At}
 use Rattle.adf_volume.specs.Walk.Role.{Head}
-use Rattle.adf_volume.proofs.Kept.{in_range}
+use Rattle.adf_volume.proofs.MemberFacts.{in_range}
 use Rattle.adf_check.specs.declared.kept.Row.{Row}
 use Rattle.adf_check.specs.Reading.{IsAtSlot, IsInExts, IsInNode}
 use Rattle.adf_check.specs.Store.{Store}

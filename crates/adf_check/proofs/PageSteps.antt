@@ -13,7 +13,7 @@ use Rattle.adf_volume.specs.declared.owner.Owner.TheVariants.{Free, Page as APag
 use Rattle.adf_volume.specs.Image.{word_in}
 use Rattle.adf_volume.specs.Walk.{FirstFault}
 use Rattle.adf_volume.specs.Walk.Role.{MapExt, Page}
-use Rattle.adf_volume.proofs.Told.{all_told, first_told}
+use Rattle.adf_volume.proofs.FormDemands.{all_told, first_told}
 use Rattle.adf_check.specs.Reading.{IsAtPage, IsBeforePage, IsListed, IsNamed, block_of_page}
 use Rattle.adf_check.specs.Store.{Store, owner_at, stored}
 use Rattle.adf_check.proofs.InPages.{listed_more, map_ext_read, map_ext_state, page_by_words, page_read, page_state}

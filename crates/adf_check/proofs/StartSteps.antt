@@ -13,7 +13,7 @@ use Rattle.adf_volume.specs.Image.{label_of, root_of, stamps_of}
 use Rattle.adf_volume.specs.Walk.{FirstFault}
 use Rattle.adf_volume.specs.Walk.FirstFault.{at_boot}
 use Rattle.adf_volume.proofs.Lists.{all_append, fails_left, fails_right}
-use Rattle.adf_volume.proofs.Told.{all_told, first_told}
+use Rattle.adf_volume.proofs.FormDemands.{all_told, first_told}
 use Rattle.adf_check.specs.Image.{IsBegun}
 use Rattle.adf_check.specs.Start.{is_whole, start_form}
 

@@ -17,9 +17,9 @@ use Rattle.adf_volume.specs.Image.{DIR, FILE, kind_of, meta_of, name_of, root_of
 use Rattle.adf_volume.specs.Layout.{Layout, at_node}
 use Rattle.adf_volume.specs.Lists.{At}
 use Rattle.adf_volume.specs.Walk.Role.{Head}
-use Rattle.adf_volume.proofs.Kept.{kept}
+use Rattle.adf_volume.proofs.MemberFacts.{kept}
 use Rattle.adf_volume.proofs.Lists.{all_append, at_some}
-use Rattle.adf_volume.proofs.Trees.{entry_is_at}
+use Rattle.adf_volume.proofs.Chains.{entry_is_at}
 use Rattle.adf_check.specs.declared.kept.Row.{Row as Kept}
 use Rattle.adf_check.specs.Keeps.{Keeps}
 use Rattle.adf_check.specs.Reading.{TellsFit}

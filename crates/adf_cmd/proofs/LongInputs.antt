@@ -7,7 +7,7 @@ use Rattle.adf_blocks.specs.Sizes.{MOST_BLOCKS, blocks}
 use Rattle.adf_volume.specs.Demands.{IsSize}
 use Rattle.adf_volume.specs.Walk.{FirstFault}
 use Rattle.adf_volume.specs.Walk.FirstFault.{at_boot}
-use Rattle.adf_volume.proofs.Alone.{one_fault}
+use Rattle.adf_volume.proofs.OneFault.{one_fault}
 use Rattle.adf_volume.proofs.Sizes.{size_high}
 use Rattle.adf_check.specs.declared.fault.Fault.{Fault}
 use Rattle.adf_manifest.specs.Manifest.{ExplainsKind}

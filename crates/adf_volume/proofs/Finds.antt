@@ -8,12 +8,13 @@ use Rattle.adf_tree.specs.Tree.{Tree, IsTree, child, is_child}
 use Rattle.adf_tree.proofs.Found.{child_says, is_child_from, child_is, no_children, not_true}
 use Rattle.adf_volume.specs.Lists.{At}
 use Rattle.adf_volume.specs.Layout.{EntryAt, chain_nodes}
-use Rattle.adf_volume.proofs.Images.{slot_upper}
 use Rattle.adf_volume.proofs.Lists.{at_below, at_some, at_index_or}
-use Rattle.adf_volume.proofs.Trees.{entry_at, entry_fun, place_at}
+use Rattle.adf_volume.proofs.Chains.{entry_at, entry_fun, place_at}
+use Rattle.adf_tree.proofs.Children.{same_slot}
 
 -- an entry of the directory with this name is the child
-pub child_yes : (t : Tree) (p : ℕ) (name : List ℕ) (n : ℕ) (e : Entry) → IsTree t.entries → EntryAt t n e → e.parent ≡ p → uppers e.name ≡ uppers name → child t.entries p name ≡ Some n
+pub child_yes : (t : Tree) (p : ℕ) (name : List ℕ) (n : ℕ) (e : Entry) → IsTree t.entries → EntryAt t n e → e.parent ≡ p → uppers e.name ≡ uppers name
+    → child t.entries p name ≡ Some n
 child_yes t p name zero e v h q u = absurd h
 child_yes t p name (suc i) e v h q u =
     let l : i < length t.entries = at_below t.entries i e h in
@@ -22,23 +23,27 @@ child_yes t p name (suc i) e v h q u =
     child_is t.entries p name i e v l (subst (λ (x : Entry). is_child p name x ≡ true) (sym z) (is_child_from p name e q u)) ∙ ap Some y
 
 -- where no entry of the directory has this name there is no child
-pub child_no : (t : Tree) (p : ℕ) (name : List ℕ) → ((n : ℕ) (e : Entry) → EntryAt t n e → e.parent ≡ p → uppers e.name ≢ uppers name) → child t.entries p name ≡ None
+pub child_no : (t : Tree) (p : ℕ) (name : List ℕ) → ((n : ℕ) (e : Entry) → EntryAt t n e → e.parent ≡ p → uppers e.name ≢ uppers name)
+    → child t.entries p name ≡ None
 child_no t p name h = no_children t.entries p name
     (λ k d l.
     let e = at_some t.entries k l in
     let z : get_or t.entries k d ≡ e.0 = at_index_or t.entries k e.0 d e.1 in
-    subst (λ (x : Entry). is_child p name x ≡ false) (sym z) (not_true (is_child p name e.0) (λ y. let s = child_says p name e.0 y in h (suc k) e.0 e.1 s.0 s.1)))
+    subst (λ (x : Entry). is_child p name x
+    ≡ false) (sym z) (not_true (is_child p name e.0) (λ y. let s = child_says p name e.0 y in h (suc k) e.0 e.1 s.0 s.1)))
 
 -- a node of the chain with this name is the child
-pub chain_yes : (t : Tree) (p s : ℕ) (name : List ℕ) (j n : ℕ) (e : Entry) → IsTree t.entries → At (chain_nodes t p s) j n → EntryAt t n e → uppers e.name ≡ uppers name → child t.entries p name ≡ Some n
+pub chain_yes : (t : Tree) (p s : ℕ) (name : List ℕ) (j n : ℕ) (e : Entry) → IsTree t.entries → At (chain_nodes t p s) j n → EntryAt t n e
+    → uppers e.name ≡ uppers name → child t.entries p name ≡ Some n
 chain_yes t p s name j n e v c h u =
     let x = entry_at t p s j n c in
     let z : x.0 ≡ e = entry_fun t n x.0 e x.1 h in
     child_yes t p name n e v h (ap (λ (y : Entry). y.parent) (sym z) ∙ x.2) u
 
 -- where no node of the name's chain has this name there is no child
-pub chain_no : (t : Tree) (p : ℕ) (name : List ℕ) → ((j n : ℕ) (e : Entry) → At (chain_nodes t p (slot_of name)) j n → EntryAt t n e → uppers e.name ≢ uppers name) → child t.entries p name ≡ None
+pub chain_no : (t : Tree) (p : ℕ) (name : List ℕ)
+    → ((j n : ℕ) (e : Entry) → At (chain_nodes t p (slot_of name)) j n → EntryAt t n e → uppers e.name ≢ uppers name) → child t.entries p name ≡ None
 chain_no t p name h = child_no t p name
     (λ n e a q u.
     let x = place_at t n e a in
-    h x.0 n e (subst (λ p. At (chain_nodes t p (slot_of name)) x.0 n) q (subst (λ s. At (chain_nodes t e.parent s) x.0 n) (slot_upper e.name name u) x.1)) a u)
+    h x.0 n e (subst (λ p. At (chain_nodes t p (slot_of name)) x.0 n) q (subst (λ s. At (chain_nodes t e.parent s) x.0 n) (same_slot e.name name u) x.1)) a u)

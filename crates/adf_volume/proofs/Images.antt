@@ -1,28 +1,11 @@
--- Facts on words and slots.
+-- Lengths of blocks and contents, and how many pages and bitmap extension blocks there are.
 use Rattle.std.proofs.Common.{◌≡◌, ℕ, suc, List, [], ◌∷◌, ◌+◌, ◌-◌, ◌/◌, ◌*◌, ◌<◌, ◌≤◌, arith, refl, sym, ◌∙◌, length, length-append, length-drop, length-take}
-use Rattle.std.proofs.lemmas.Bool.Decides.{nat_tests}
-use Rattle.std.specs.Prelude.{true}
 use Rattle.adf_fields.specs.Words.{block}
-use Rattle.adf_tree.proofs.Children.{same_slot}
-use Rattle.adf_tree.proofs.Kept.{slot_small}
 use Rattle.adf_volume.specs.Lists.{At}
-use Rattle.adf_fields.specs.Hash.{slot_of}
-use Rattle.adf_tree.specs.Texts.{uppers}
 use Rattle.adf_tree.specs.declared.entry.Kind.{Kind}
-use Rattle.adf_blocks.specs.Sizes.{blocks, is_allowed, pages_needed}
+use Rattle.adf_blocks.specs.Sizes.{blocks, pages_needed}
 use Rattle.adf_volume.specs.Image.{area, chunk, joined, count, content, word_in, map_exts_needed}
 use Rattle.adf_tree.specs.declared.entry.Kind.TheVariants.{Ofs, Ffs}
-
-pub slot_below : (name : List ℕ) → slot_of name < 72
-slot_below name = slot_small name
-
--- equal names have equal slots
-pub slot_upper : (a b : List ℕ) → uppers a ≡ uppers b → slot_of a ≡ slot_of b
-slot_upper a b h = same_slot a b h
-
--- an allowed size is at least 4
-pub four_blocks : (n : ℕ) → is_allowed n ≡ true → 4 ≤ n
-four_blocks n h = grind (arith, nat_tests)
 
 pub block_length : (image : List ℕ) (b : ℕ) → length image ≡ 512 * blocks image → b < blocks image → length (block image b) ≡ 512
 unfolding block
@@ -33,7 +16,8 @@ unfolding area chunk
 area_length image Ofs b h l = let z = block_length image b h l in simp (length-take, length-drop) (omega arith)
 area_length image Ffs b h l = let z = block_length image b h l in simp (length-take, length-drop) (omega arith)
 
-joined_length : (image : List ℕ) (k : Kind) (bs : List ℕ) → length image ≡ 512 * blocks image → ((i b : ℕ) → At bs i b → b < blocks image) → length (joined image k bs) ≡ chunk k * length bs
+joined_length : (image : List ℕ) (k : Kind) (bs : List ℕ) → length image ≡ 512 * blocks image → ((i b : ℕ) → At bs i b → b < blocks image)
+    → length (joined image k bs) ≡ chunk k * length bs
 joined_length image k [] h l = omega arith
 joined_length image k (b ∷ bs) h l =
     let ih : length (joined image k bs) ≡ chunk k * length bs = joined_length image k bs h (λ i b z. l (suc i) b z) in
@@ -45,7 +29,8 @@ unfolding count chunk
 enough_bytes Ofs size n h = omega arith
 enough_bytes Ffs size n h = omega arith
 
-pub content_length : (image : List ℕ) (k : Kind) (h : ℕ) (bs : List ℕ) → length image ≡ 512 * blocks image → ((i b : ℕ) → At bs i b → b < blocks image) → length bs ≡ count k (word_in image h 81) → length (content image k h bs) ≡ word_in image h 81
+pub content_length : (image : List ℕ) (k : Kind) (h : ℕ) (bs : List ℕ) → length image ≡ 512 * blocks image → ((i b : ℕ) → At bs i b → b < blocks image)
+    → length bs ≡ count k (word_in image h 81) → length (content image k h bs) ≡ word_in image h 81
 unfolding content
 content_length image k h bs z l c =
     let j : length (joined image k bs) ≡ chunk k * length bs = joined_length image k bs z l in

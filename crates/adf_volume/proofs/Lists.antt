@@ -49,9 +49,14 @@ spelled_link link w (x ∷ bs) zero b c h a k = ap link (sym a) ∙ spelled_word
 spelled_link link w (x ∷ bs) (suc j) b c h a k = spelled_link link (link x) bs j b c h.1 a k
 
 -- a list whose members are named in turn, and whose end is 0, is spelled
-pub spelled_from : (link : ℕ → ℕ) (w : ℕ) (bs : List ℕ) → ((b : ℕ) → At bs 0 b → w ≡ b) → (length bs ≡ 0 → w ≡ 0) → ((j b c : ℕ) → At bs j b → At bs (suc j) c → link b ≡ c) → ((j b : ℕ) → At bs j b → suc j ≡ length bs → link b ≡ 0) → Spelled link w bs
+pub spelled_from : (link : ℕ → ℕ) (w : ℕ) (bs : List ℕ) → ((b : ℕ) → At bs 0 b → w ≡ b) → (length bs ≡ 0 → w ≡ 0)
+    → ((j b c : ℕ) → At bs j b → At bs (suc j) c → link b ≡ c) → ((j b : ℕ) → At bs j b → suc j ≡ length bs → link b ≡ 0) → Spelled link w bs
 spelled_from link w [] f g n e = g refl
-spelled_from link w (b ∷ bs) f g n e = (f b refl, spelled_from link (link b) bs (λ c h. n 0 b c refl h) (λ z. e 0 b refl (ap suc (sym z))) (λ j x c h k. n (suc j) x c h k) (λ j x h z. e (suc j) x h (ap suc z)))
+spelled_from link w (b ∷ bs) f g n e = (
+  f b refl,
+  spelled_from link (link b) bs (λ c h. n 0 b c refl h) (λ z. e 0 b refl (ap suc (sym z)))
+      (λ j x c h k. n (suc j) x c h k) (λ j x h z. e (suc j) x h (ap suc z)),
+)
 
 pub in_left : {X : Type 0} (xs ys : List X) (x : X) → In xs x → In (xs ++ ys) x
 in_left [] ys x h = absurd h
@@ -70,12 +75,14 @@ in_cases (z ∷ xs) ys x (inr h) = elim (in_cases xs ys x h) [ inl k ↦ inl (in
 pub in_numbered : {X : Type 0} (f : ℕ → X) (k : ℕ) (bs : List ℕ) (i b : ℕ) → At bs i b → In (numbered f k bs) (f (k + i), b)
 in_numbered f k [] i b h = absurd h
 in_numbered {X} f k (c ∷ bs) zero b h = let e : k ≡ k + 0 = omega arith in inl (λ t. (f (e t), h t))
-in_numbered {X} f k (c ∷ bs) (suc i) b h = let e : suc k + i ≡ k + suc i = omega arith in inr (subst (λ n. In (numbered f (suc k) bs) (f n, b)) e (in_numbered f (suc k) bs i b h))
+in_numbered {X} f k (c ∷ bs) (suc i) b h =
+    let e : suc k + i ≡ k + suc i = omega arith in inr (subst (λ n. In (numbered f (suc k) bs) (f n, b)) e (in_numbered f (suc k) bs i b h))
 
 pub numbered_at : {X : Type 0} (f : ℕ → X) (k : ℕ) (bs : List ℕ) (x : X) (b : ℕ) → In (numbered f k bs) (x, b) → (i : ℕ) × At bs i b × (x ≡ f (k + i))
 numbered_at f k [] x b h = absurd h
 numbered_at f k (c ∷ bs) x b (inl e) = let z : k ≡ k + 0 = omega arith in (0, ap (λ p. p.1) e, sym (ap (λ p. p.0) e) ∙ ap f z)
-numbered_at f k (c ∷ bs) x b (inr h) = let r = numbered_at f (suc k) bs x b h in let z : suc k + r.0 ≡ k + suc r.0 = omega arith in (suc r.0, r.1, r.2 ∙ ap f z)
+numbered_at f k (c ∷ bs) x b (inr h) =
+    let r = numbered_at f (suc k) bs x b h in let z : suc k + r.0 ≡ k + suc r.0 = omega arith in (suc r.0, r.1, r.2 ∙ ap f z)
 
 -- one block, one member
 pub one_member : {X : Type 0} (xs : List (X × ℕ)) (x y : X) (b : ℕ) → NoBlockTwice xs → In xs (x, b) → In xs (y, b) → x ≡ y

@@ -108,7 +108,8 @@ once_owned image l =
       ]),
       once_append (numbered APage 0 l.pages) (maps ++ rest) (once_numbered APage 0 l.pages page_inj)
           (once_append maps rest (once_numbered AMapExt 0 l.map_exts map_ext_inj) (once_places 1 l.places)
-          (λ x y b c i j e. let r = numbered_at AMapExt 0 l.map_exts x b i in stands_no_map_ext 1 (0 + r.0) l.places y c (owned_stands 1 l.places y c j) (sym r.2 ∙ e)))
+          (λ x y b c i j e. let r =
+          numbered_at AMapExt 0 l.map_exts x b i in stands_no_map_ext 1 (0 + r.0) l.places y c (owned_stands 1 l.places y c j) (sym r.2 ∙ e)))
           (λ x y b c i j e.
           let r = numbered_at APage 0 l.pages x b i in
           elim (in_cases maps rest (y, c) j) [

@@ -1,5 +1,6 @@
 -- The pieces of a file joined are its content.
-use Rattle.std.proofs.Common.{◌≡◌, ℕ, zero, suc, List, [], ◌∷◌, ◌++◌, ◌+◌, ◌-◌, ◌*◌, ◌<◌, ◌≤◌, length, refl, sym, ap, subst, ◌∙◌, arith, Bool, true, false, cond, take, take_all}
+use Rattle.std.proofs.Common.{◌≡◌, ℕ, zero, suc, List, [], ◌∷◌, ◌++◌, ◌+◌, ◌-◌, ◌*◌, ◌<◌, ◌≤◌, length, refl, sym, ap, subst, ◌∙◌, arith, Bool, true, false}
+use Rattle.std.proofs.Common.{cond, take, take_all}
 use Rattle.std.specs.Prelude.{nat_lt}
 use Rattle.std.specs.List.{concat}
 use Rattle.std.proofs.lemmas.Bool.Decides.{nat_tests}
@@ -20,7 +21,8 @@ take_append : (s : ℕ) (xs ys : List ℕ) → take s (xs ++ ys) ≡ take s xs +
 take_append zero [] ys = let z : 0 - length {A = ℕ} [] ≡ 0 = omega arith in ap (λ k. take k ys) (sym z)
 take_append (suc s) [] ys = let z : suc s - length {A = ℕ} [] ≡ suc s = omega arith in ap (λ k. take k ys) (sym z)
 take_append zero (x ∷ xs) ys = let z : 0 - length (x ∷ xs) ≡ 0 = omega arith in sym (take_zero ys) ∙ ap (λ k. take k ys) (sym z)
-take_append (suc s) (x ∷ xs) ys = let z : s - length xs ≡ suc s - length (x ∷ xs) = omega arith in ap (λ zs. x ∷ zs) (take_append s xs ys) ∙ ap (λ k. x ∷ (take s xs ++ take k ys)) z
+take_append (suc s) (x ∷ xs) ys =
+    let z : s - length xs ≡ suc s - length (x ∷ xs) = omega arith in ap (λ zs. x ∷ zs) (take_append s xs ys) ∙ ap (λ k. x ∷ (take s xs ++ take k ys)) z
 
 -- what is left of a size from data block k + 1 on
 left : Kind → ℕ → ℕ → ℕ
@@ -45,7 +47,8 @@ unfolding left chunk
 left_more Ofs size k n h = omega arith
 left_more Ffs size k n h = omega arith
 
-pieces_from : (image : List ℕ) (kind : Kind) (size k : ℕ) (bs : List ℕ) → length image ≡ 512 * blocks image → ((i b : ℕ) → At bs i b → b < blocks image) → concat (pieces image kind size (suc k) bs) ≡ take (left kind size k) (joined image kind bs)
+pieces_from : (image : List ℕ) (kind : Kind) (size k : ℕ) (bs : List ℕ) → length image ≡ 512 * blocks image → ((i b : ℕ) → At bs i b → b < blocks image)
+    → concat (pieces image kind size (suc k) bs) ≡ take (left kind size k) (joined image kind bs)
 pieces_from image kind size k [] z l = none (left kind size k)
   where
     none : (n : ℕ) → ◌≡◌ {A = List ℕ} [] (take n [])
@@ -55,7 +58,8 @@ pieces_from image kind size k (b ∷ bs) z l =
     let n : length (area kind (block image b)) ≡ chunk kind = area_length image kind b z (l 0 b refl) in
     let ih = pieces_from image kind size (suc k) bs z (λ i c h. l (suc i) c h) in
     ap (λ xs. xs ++ concat (pieces image kind size (suc (suc k)) bs)) (held_is kind size k (area kind (block image b)) n)
-    ∙ (ap (λ ys. take (left kind size k) (area kind (block image b)) ++ ys) (ih ∙ ap (λ m. take m (joined image kind bs)) (sym (left_more kind size k (length (area kind (block image b))) n)))
+    ∙ (ap (λ ys. take (left kind size k) (area kind (block image b)) ++ ys)
+    (ih ∙ ap (λ m. take m (joined image kind bs)) (sym (left_more kind size k (length (area kind (block image b))) n)))
     ∙ sym (take_append (left kind size k) (area kind (block image b)) (joined image kind bs)))
 
 left_all : (kind : Kind) (size : ℕ) → left kind size 0 ≡ size
@@ -63,16 +67,19 @@ unfolding left
 left_all kind size = let z : chunk kind * 0 ≡ 0 = omega arith in omega arith
 
 -- the pieces of a file, one after the other, are its content
-pub pieces_joined : (image : List ℕ) (kind : Kind) (h : ℕ) (bs : List ℕ) → length image ≡ 512 * blocks image → ((i b : ℕ) → At bs i b → b < blocks image) → concat (pieces image kind (word_in image h 81) 1 bs) ≡ content image kind h bs
+pub pieces_joined : (image : List ℕ) (kind : Kind) (h : ℕ) (bs : List ℕ) → length image ≡ 512 * blocks image → ((i b : ℕ) → At bs i b → b < blocks image)
+    → concat (pieces image kind (word_in image h 81) 1 bs) ≡ content image kind h bs
 unfolding content
-pieces_joined image kind h bs z l = pieces_from image kind (word_in image h 81) 0 bs z l ∙ ap (λ n. take n (joined image kind bs)) (left_all kind (word_in image h 81))
+pieces_joined image kind h bs z l =
+    pieces_from image kind (word_in image h 81) 0 bs z l ∙ ap (λ n. take n (joined image kind bs)) (left_all kind (word_in image h 81))
 
 -- there is a piece for each data block
 pub pieces_length : (image : List ℕ) (kind : Kind) (size k : ℕ) (bs : List ℕ) → length (pieces image kind size k bs) ≡ length bs
 pieces_length image kind size k [] = refl
 pieces_length image kind size k (b ∷ bs) = ap suc (pieces_length image kind size (suc k) bs)
 
-pub piece_at : (image : List ℕ) (kind : Kind) (size k : ℕ) (bs : List ℕ) (i b : ℕ) → At bs i b → At (pieces image kind size k bs) i (piece kind size (k + i) (block image b))
+pub piece_at : (image : List ℕ) (kind : Kind) (size k : ℕ) (bs : List ℕ) (i b : ℕ) → At bs i b
+    → At (pieces image kind size k bs) i (piece kind size (k + i) (block image b))
 piece_at image kind size k [] i b h = absurd h
 piece_at image kind size k (c ∷ bs) zero b h = let z : k ≡ k + 0 = omega arith in λ t. piece kind size (z t) (block image (h t))
 piece_at image kind size k (c ∷ bs) (suc i) b h =

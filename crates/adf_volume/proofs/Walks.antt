@@ -1,38 +1,22 @@
 -- What holds of every walk.
-use Rattle.std.proofs.Common.{◌≡◌, ℕ, zero, suc, List, [], ◌∷◌, ◌⊎◌, inl, inr, ◌+◌, ◌-◌, ◌*◌, ◌/◌, ◌%◌, ◌<◌, ◌≤◌, refl, sym, ap, subst, ◌∙◌, arith, Bool, true, false, cond, eq-eqb}
+use Rattle.std.proofs.Common.{◌≡◌, ℕ, zero, suc, List, [], ◌∷◌, ◌⊎◌, inl, inr, ◌+◌, ◌-◌, ◌*◌, ◌/◌, ◌%◌, ◌<◌, ◌≤◌, refl, sym, ap, subst, ◌∙◌, arith, Bool}
+use Rattle.std.proofs.Common.{true, false, cond, eq-eqb}
 use Rattle.std.proofs.lemmas.Bool.{eqb-true}
 use Rattle.std.specs.Prelude.{◌==◌}
 use Rattle.std.proofs.lemmas.Bool.Decides.{eqb_tells}
 use native.Mathlib.Decide.{dec_le, dec_lt, ℕ_discrete}
 use Rattle.adf_blocks.specs.Sizes.{blocks, pages_needed}
 use Rattle.adf_volume.specs.Image.{root_of}
-use Rattle.adf_volume.specs.Walk.{Role, first, second, third, Same, Has, head_count, heads, NodeAt, FileAt, MemberAt, Asks, Lacks, IsDue, ext_count_of, ext_count, IsWalk, IsWhole, node_block_of, node_block, ext_block_of, ext_block, member_block}
+use Rattle.adf_volume.specs.Walk.{Role, first, second, third, Same, Has, head_count, heads, NodeAt, FileAt, MemberAt, Asks, Lacks, IsDue, ext_count_of}
+use Rattle.adf_volume.specs.Walk.{ext_count, IsWalk, IsWhole, node_block_of, node_block, ext_block_of, ext_block, member_block, DirAt, Before}
 use Rattle.adf_volume.specs.Walk.Role.{Root, Page, MapExt, Head, Ext, Data}
 use Rattle.adf_volume.specs.Walk.IsWalk.{start, step}
 
 -- two roles of one key, of which headers have one number, are one role
 pub same_role : (r q : Role) → Same r q → ((n m p s j : ℕ) → r ≡ Head n p s j → q ≡ Head m p s j → n ≡ m) → r ≡ q
 same_role Root Root h k = refl
-same_role Root (Page i) h k = absurd (omega arith)
-same_role Root (MapExt i) h k = absurd (omega arith)
-same_role Root (Head m p s j) h k = absurd (omega arith)
-same_role Root (Ext m j) h k = absurd (omega arith)
-same_role Root (Data m j) h k = absurd (omega arith)
-same_role (Page i) Root h k = absurd (omega arith)
 same_role (Page i) (Page j) h k = let e : i ≡ j = omega arith in ap Page e
-same_role (Page i) (MapExt j) h k = absurd (omega arith)
-same_role (Page i) (Head m p s j) h k = absurd (omega arith)
-same_role (Page i) (Ext m j) h k = absurd (omega arith)
-same_role (Page i) (Data m j) h k = absurd (omega arith)
-same_role (MapExt i) Root h k = absurd (omega arith)
-same_role (MapExt i) (Page j) h k = absurd (omega arith)
 same_role (MapExt i) (MapExt j) h k = let e : i ≡ j = omega arith in ap MapExt e
-same_role (MapExt i) (Head m p s j) h k = absurd (omega arith)
-same_role (MapExt i) (Ext m j) h k = absurd (omega arith)
-same_role (MapExt i) (Data m j) h k = absurd (omega arith)
-same_role (Head n p s j) Root h k = absurd (omega arith)
-same_role (Head n p s j) (Page i) h k = absurd (omega arith)
-same_role (Head n p s j) (MapExt i) h k = absurd (omega arith)
 same_role (Head n p s j) (Head m q t i) h k =
     let e1 : p ≡ q = omega arith in
     let e2 : s ≡ t = omega arith in
@@ -40,26 +24,15 @@ same_role (Head n p s j) (Head m q t i) h k =
     let eq : Head m q t i ≡ Head m p s j = cc in
     let e4 : n ≡ m = k n m p s j refl eq in
     cc
-same_role (Head n p s j) (Ext m i) h k = absurd (omega arith)
-same_role (Head n p s j) (Data m i) h k = absurd (omega arith)
-same_role (Ext n j) Root h k = absurd (omega arith)
-same_role (Ext n j) (Page i) h k = absurd (omega arith)
-same_role (Ext n j) (MapExt i) h k = absurd (omega arith)
-same_role (Ext n j) (Head m p s i) h k = absurd (omega arith)
 same_role (Ext n j) (Ext m i) h k =
     let e1 : n ≡ m = omega arith in
     let e3 : j ≡ i = omega arith in
     cc
-same_role (Ext n j) (Data m i) h k = absurd (omega arith)
-same_role (Data n j) Root h k = absurd (omega arith)
-same_role (Data n j) (Page i) h k = absurd (omega arith)
-same_role (Data n j) (MapExt i) h k = absurd (omega arith)
-same_role (Data n j) (Head m p s i) h k = absurd (omega arith)
-same_role (Data n j) (Ext m i) h k = absurd (omega arith)
 same_role (Data n j) (Data m i) h k =
     let e1 : n ≡ m = omega arith in
     let e3 : j ≡ i = omega arith in
     cc
+same_role _ _ h k = absurd (omega arith)
 
 pub same_refl : (r : Role) → Same r r
 same_refl r = (refl, refl, refl)
@@ -69,15 +42,16 @@ same_of r q e = (ap first e, ap second e, ap third e)
 
 pub heads_up : (r : Role) (m : ℕ) → m ≤ head_count r m
 heads_up Root m = omega arith
-heads_up (Page i) m = omega arith
-heads_up (MapExt i) m = omega arith
-heads_up (Head n p s j) m = omega arith
-heads_up (Ext n k) m = omega arith
-heads_up (Data n k) m = omega arith
+heads_up _ m = omega arith
 
 pub asks_number : (image : List ℕ) (w : List (Role × ℕ)) (n p s j a i : ℕ) → Asks image w (Head n p s j) a i → n ≡ suc (heads w)
 asks_number image w n p s zero a i h = h.0
 asks_number image w n p s (suc j) a i h = h.0
+
+-- a directory of a walk is a node of it
+pub dir_is_node : (image : List ℕ) (w : List (Role × ℕ)) (p a : ℕ) → DirAt image w p a → NodeAt w p a
+dir_is_node image w zero a h = h
+dir_is_node image w (suc i) a h = h.0
 
 module _ (image : List ℕ) where
   root_block : {w : List (Role × ℕ)} → IsWalk image w → (b : ℕ) → Has w Root b → root_of image ≡ b
@@ -110,22 +84,18 @@ module _ (image : List ℕ) where
   numbered start n l u = absurd (omega arith)
   numbered (step {w = w} {r = r} {b = b} {a = a} {i = i} v d e c) n l u = numbered_step r refl (numbered v n l)
     where
-      older : (m : ℕ) → ((p s j b : ℕ) × Has w (Head n p s j) b) → (p s j b' : ℕ) × Has ((r, b) ∷ w) (Head n p s j) b'
-      older m h = (h.0, h.1, h.2, h.3, inr h.4)
+      older : ((p s j b : ℕ) × Has w (Head n p s j) b) → (p s j b' : ℕ) × Has ((r, b) ∷ w) (Head n p s j) b'
+      older h = (h.0, h.1, h.2, h.3, inr h.4)
 
       numbered_step : (q : Role) → r ≡ q → (n ≤ heads w → (p s j b : ℕ) × Has w (Head n p s j) b) → (p s j b' : ℕ) × Has ((r, b) ∷ w) (Head n p s j) b'
-      numbered_step Root z ih = older 0 (ih (subst (λ q. n ≤ head_count q (heads w)) z u))
-      numbered_step (Page k) z ih = older 0 (ih (subst (λ q. n ≤ head_count q (heads w)) z u))
-      numbered_step (MapExt k) z ih = older 0 (ih (subst (λ q. n ≤ head_count q (heads w)) z u))
-      numbered_step (Ext k m) z ih = older 0 (ih (subst (λ q. n ≤ head_count q (heads w)) z u))
-      numbered_step (Data k m) z ih = older 0 (ih (subst (λ q. n ≤ head_count q (heads w)) z u))
       numbered_step (Head m p s j) z ih =
           let u' : n ≤ suc (heads w) = subst (λ q. n ≤ head_count q (heads w)) z u in
           let e : m ≡ suc (heads w) = asks_number image w m p s j a i (subst (λ r. Asks image w r a i) z d.asked) in
           elim (dec_le n (heads w)) [
-            | yes k ↦ older 0 (ih k)
+            | yes k ↦ older (ih k)
             | no k ↦ let y : m ≡ n = omega arith in (p, s, j, b, inl (z ∙ ap (λ m. Head m p s j) y, refl))
           ]
+      numbered_step _ z ih = older (ih (subst (λ q. n ≤ head_count q (heads w)) z u))
 
   -- a role has one block
   pub one_block : {w : List (Role × ℕ)} → IsWalk image w → (r q : Role) (b c : ℕ) → Has w r b → Has w q c → Same r q → (r ≡ q) × (b ≡ c)
@@ -148,16 +118,13 @@ module _ (image : List ℕ) where
   one_role (step v d g n) r q b (inr e) (inr f) = one_role v r q b e f
 
   -- a number has one header
-  pub one_head : {w : List (Role × ℕ)} → IsWalk image w → (n p s j b p' s' j' b' : ℕ) → Has w (Head n p s j) b → Has w (Head n p' s' j') b' → (Head n p s j ≡ Head n p' s' j') × (b ≡ b')
+  pub one_head : {w : List (Role × ℕ)} → IsWalk image w → (n p s j b p' s' j' b' : ℕ) → Has w (Head n p s j) b → Has w (Head n p' s' j') b'
+      → (Head n p s j ≡ Head n p' s' j') × (b ≡ b')
   one_head start n p s j b p' s' j' b' (inl e) f = absurd (subst (λ r. IsRoot r) e.0 tt)
     where
       IsRoot : Role → Type 0
       IsRoot Root = Unit {0}
-      IsRoot (Page k) = ⊥
-      IsRoot (MapExt k) = ⊥
-      IsRoot (Head a b c d) = ⊥
-      IsRoot (Ext n k) = ⊥
-      IsRoot (Data n k) = ⊥
+      IsRoot _ = ⊥
   one_head start n p s j b p' s' j' b' (inr e) f = absurd e
   one_head (step v d g c) n p s j b p' s' j' b' (inl e) (inl f) = (sym e.0 ∙ f.0, sym e.1 ∙ f.1)
   one_head (step {w = w} {r = r} {a = a} {i = i} v d g c) n p s j b p' s' j' b' (inl e) (inr f) =
@@ -176,16 +143,12 @@ module _ (image : List ℕ) where
 
 -- extension blocks are counted
 pub count_up : (n : ℕ) (r : Role) (c : ℕ) → c ≤ ext_count_of n r c
-count_up n Root c = omega arith
-count_up n (Page i) c = omega arith
-count_up n (MapExt i) c = omega arith
-count_up n (Head m p s j) c = omega arith
-count_up n (Data m k) c = omega arith
 count_up n (Ext m k) c = up (n == m)
   where
     up : (t : Bool) → c ≤ cond t (suc c) c
     up true = omega arith
     up false = omega arith
+count_up n _ c = omega arith
 
 pub count_own : (n k c : ℕ) → ext_count_of n (Ext n k) c ≡ suc c
 count_own n k c = rw (eq-eqb n n refl)
@@ -206,7 +169,8 @@ module _ (image : List ℕ) where
       omega arith
 
   -- an extension block that is due is the next one
-  pub next_ext : (w : List (Role × ℕ)) → IsWalk image w → (n k a i : ℕ) → IsDue image w (Ext n k) a i → ((k : ℕ) → k < ext_count w n → (b : ℕ) × Has w (Ext n (suc k)) b) → k ≡ suc (ext_count w n)
+  pub next_ext : (w : List (Role × ℕ)) → IsWalk image w → (n k a i : ℕ) → IsDue image w (Ext n k) a i
+      → ((k : ℕ) → k < ext_count w n → (b : ℕ) × Has w (Ext n (suc k)) b) → k ≡ suc (ext_count w n)
   next_ext w v n zero a i d ih = absurd d.asked
   next_ext w v n (suc zero) a i d ih =
       elim (dec_lt 0 (ext_count w n)) [
@@ -220,12 +184,9 @@ module _ (image : List ℕ) where
         | no u ↦ omega arith
       ]
 
-  counted_step : {w : List (Role × ℕ)} {r : Role} {b a i : ℕ} → IsWalk image w → IsDue image w r a i → (n k : ℕ) → ((k : ℕ) → k < ext_count w n → (b : ℕ) × Has w (Ext n (suc k)) b) → (q : Role) → r ≡ q → k < ext_count_of n q (ext_count w n) → (c : ℕ) × Has ((r, b) ∷ w) (Ext n (suc k)) c
-  counted_step v d n k ih Root e h = let x = ih k h in (x.0, inr x.1)
-  counted_step v d n k ih (Page j) e h = let x = ih k h in (x.0, inr x.1)
-  counted_step v d n k ih (MapExt j) e h = let x = ih k h in (x.0, inr x.1)
-  counted_step v d n k ih (Head m p s j) e h = let x = ih k h in (x.0, inr x.1)
-  counted_step v d n k ih (Data m j) e h = let x = ih k h in (x.0, inr x.1)
+  counted_step : {w : List (Role × ℕ)} {r : Role} {b a i : ℕ} → IsWalk image w → IsDue image w r a i → (n k : ℕ)
+      → ((k : ℕ) → k < ext_count w n → (b : ℕ) × Has w (Ext n (suc k)) b) → (q : Role) → r ≡ q → k < ext_count_of n q (ext_count w n)
+      → (c : ℕ) × Has ((r, b) ∷ w) (Ext n (suc k)) c
   counted_step {w = w} {r = r} {b = b} {a = a} {i = i} v d n k ih (Ext m j) e h =
       elim (eqb_tells n m) [
         | inl y ↦
@@ -241,6 +202,7 @@ module _ (image : List ℕ) where
             ]
         | inr y ↦ let h' : k < ext_count w n = rw y.0 at h in let x = ih k h' in (x.0, inr x.1)
       ]
+  counted_step v d n k ih _ e h = let x = ih k h in (x.0, inr x.1)
 
   pub ext_counted : {w : List (Role × ℕ)} → IsWalk image w → (n k : ℕ) → k < ext_count w n → (b : ℕ) × Has w (Ext n (suc k)) b
   ext_counted start n k h = absurd (omega arith)
@@ -248,13 +210,15 @@ module _ (image : List ℕ) where
 
 -- a file's blocks come after its header
 module _ (image : List ℕ) where
-  asks_file : (w : List (Role × ℕ)) (n k a i : ℕ) → Asks image w (Ext n k) a i → ((j b : ℕ) → Has w (Ext n j) b → (h : ℕ) × FileAt image w n h) → (h : ℕ) × FileAt image w n h
+  asks_file : (w : List (Role × ℕ)) (n k a i : ℕ) → Asks image w (Ext n k) a i → ((j b : ℕ) → Has w (Ext n j) b → (h : ℕ) × FileAt image w n h)
+      → (h : ℕ) × FileAt image w n h
   asks_file w n zero a i h f = absurd h
   asks_file w n (suc zero) a i h f = (a, h.0)
   asks_file w n (suc (suc k)) a i h f = f (suc k) a h.0
 
   pub ext_file : {w : List (Role × ℕ)} → IsWalk image w → (n k b : ℕ) → Has w (Ext n k) b → (h : ℕ) × FileAt image w n h
-  ext_file start n k b (inl e) = let h : second Root ≡ second (Ext n k) = ap second e.0 in let g : first Root ≡ first (Ext n k) = ap first e.0 in absurd (omega arith)
+  ext_file start n k b (inl e) =
+      let h : second Root ≡ second (Ext n k) = ap second e.0 in let g : first Root ≡ first (Ext n k) = ap first e.0 in absurd (omega arith)
   ext_file start n k b (inr f) = absurd f
   ext_file (step {w = w} {r = r} {a = a} {i = i} v d g c) n k b (inl e) =
       let x = asks_file w n k a i (subst (λ r. Asks image w r a i) e.0 d.asked) (ext_file v n) in
@@ -275,11 +239,8 @@ module _ (image : List ℕ) where
 
   node_block_old : (n : ℕ) (r : Role) (b c a : ℕ) → ((p s j : ℕ) → r ≡ Head n p s j → ⊥) → (n ≡ 0 → r ≡ Root → ⊥) → c ≡ a → node_block_of n r b c ≡ a
   node_block_old n Root b c a h k z = cond_other (n == 0) b c a (λ t. k (eqb-true n 0 t) refl) z
-  node_block_old n (Page i) b c a h k z = z
-  node_block_old n (MapExt i) b c a h k z = z
   node_block_old n (Head m p s j) b c a h k z = cond_other (n == m) b c a (λ t. h p s j (ap (λ m. Head m p s j) (sym (eqb-true n m t)))) z
-  node_block_old n (Ext m i) b c a h k z = z
-  node_block_old n (Data m i) b c a h k z = z
+  node_block_old n _ b c a h k z = z
 
   head_block : {w : List (Role × ℕ)} → IsWalk image w → (n p s j b : ℕ) → Has w (Head n p s j) b → node_block w n ≡ b
   head_block start n p s j b (inl e) = let h : first Root ≡ first (Head n p s j) = ap first e.0 in absurd (omega arith)
@@ -303,7 +264,8 @@ module _ (image : List ℕ) where
   node_is w (suc i) a v h = head_block v (suc i) h.0 h.1 h.2 a h.3
 
   ext_block_new : (n k : ℕ) (r : Role) (b c : ℕ) → r ≡ Ext n k → ext_block_of n k r b c ≡ b
-  ext_block_new n k r b c e = ap (λ r. ext_block_of n k r b c) e ∙ ap (λ t. cond t (cond (k == k) b c) c) (eq-eqb n n refl) ∙ ap (λ t. cond t b c) (eq-eqb k k refl)
+  ext_block_new n k r b c e =
+      ap (λ r. ext_block_of n k r b c) e ∙ ap (λ t. cond t (cond (k == k) b c) c) (eq-eqb n n refl) ∙ ap (λ t. cond t b c) (eq-eqb k k refl)
 
   cond_both : (t u : Bool) (b c a : ℕ) → (t ≡ true → u ≡ true → ⊥) → c ≡ a → cond t (cond u b c) c ≡ a
   cond_both true true b c a h z = absurd (h refl refl)
@@ -311,15 +273,13 @@ module _ (image : List ℕ) where
   cond_both false u b c a h z = z
 
   ext_block_old : (n k : ℕ) (r : Role) (b c a : ℕ) → (r ≡ Ext n k → ⊥) → c ≡ a → ext_block_of n k r b c ≡ a
-  ext_block_old n k Root b c a h z = z
-  ext_block_old n k (Page i) b c a h z = z
-  ext_block_old n k (MapExt i) b c a h z = z
-  ext_block_old n k (Head m p s j) b c a h z = z
-  ext_block_old n k (Ext m i) b c a h z = cond_both (n == m) (k == i) b c a (λ t u. h (ap (λ m. Ext m i) (sym (eqb-true n m t)) ∙ ap (Ext n) (sym (eqb-true k i u)))) z
-  ext_block_old n k (Data m i) b c a h z = z
+  ext_block_old n k (Ext m i) b c a h z =
+      cond_both (n == m) (k == i) b c a (λ t u. h (ap (λ m. Ext m i) (sym (eqb-true n m t)) ∙ ap (Ext n) (sym (eqb-true k i u)))) z
+  ext_block_old n k _ b c a h z = z
 
   ext_is_block : {w : List (Role × ℕ)} → IsWalk image w → (n k b : ℕ) → Has w (Ext n k) b → ext_block w n k ≡ b
-  ext_is_block start n k b (inl e) = let h : second Root ≡ second (Ext n k) = ap second e.0 in let g : first Root ≡ first (Ext n k) = ap first e.0 in absurd (omega arith)
+  ext_is_block start n k b (inl e) =
+      let h : second Root ≡ second (Ext n k) = ap second e.0 in let g : first Root ≡ first (Ext n k) = ap first e.0 in absurd (omega arith)
   ext_is_block start n k b (inr f) = absurd f
   ext_is_block (step {w = w} {r = r} {b = b'} v d g c) n k b (inl e) = ext_block_new n k r b' (ext_block w n k) e.0 ∙ e.1
   ext_is_block (step {w = w} {r = r} {b = b'} v d g c) n k b (inr h) =
@@ -332,6 +292,17 @@ module _ (image : List ℕ) where
   pub file_is : (w : List (Role × ℕ)) (n a : ℕ) → IsWalk image w → FileAt image w n a → node_block w n ≡ a
   file_is w n a v h = head_block v n h.0.0 h.0.1 h.0.2 a h.0.3
 
+-- whether two roles have one key
+pub dec_same : (r q : Role) → Dec (Same r q)
+dec_same r q =
+    elim (ℕ_discrete (first r) (first q)) [
+      | no n ↦ no (λ s. n s.0)
+      | yes e ↦ elim (ℕ_discrete (second r) (second q)) [
+        | no n ↦ no (λ s. n s.1)
+        | yes f ↦ elim (ℕ_discrete (third r) (third q)) [ no n ↦ no (λ s. n s.2) | yes g ↦ yes (e, f, g) ]
+      ]
+    ]
+
 -- whether a walk has a role
 pub dec_has : (w : List (Role × ℕ)) (r : Role) → Lacks w r ⊎ ((q : Role) × (b : ℕ) × Has w q b × Same q r)
 dec_has [] r = inl (λ q b h s. h)
@@ -343,31 +314,27 @@ dec_has (x ∷ w) r =
         | inr h ↦ inr (h.0, h.1, inr h.2, h.3)
       ]
     ]
-  where
-    dec_same : (r q : Role) → Dec (Same r q)
-    dec_same r q =
-        elim (ℕ_discrete (first r) (first q)) [
-          | no n ↦ no (λ s. n s.0)
-          | yes e ↦ elim (ℕ_discrete (second r) (second q)) [
-            | no n ↦ no (λ s. n s.1)
-            | yes f ↦ elim (ℕ_discrete (third r) (third q)) [ no n ↦ no (λ s. n s.2) | yes g ↦ yes (e, f, g) ]
-          ]
-        ]
 
-pub has_role : (image : List ℕ) (w : List (Role × ℕ)) (r : Role) → ((n p s j : ℕ) → r ≡ Head n p s j → ⊥) → (q : Role) (b : ℕ) → Has w q b → Same q r → Has w r b
+pub has_role : (image : List ℕ) (w : List (Role × ℕ)) (r : Role) → ((n p s j : ℕ) → r ≡ Head n p s j → ⊥) → (q : Role) (b : ℕ) → Has w q b → Same q r
+    → Has w r b
 has_role image w r nohead q b h s = subst (λ z. Has w z b) (same_role q r s (λ n m p t j e f. absurd (nohead m p t j f))) h
 
 -- only a header has a header's key
 pub head_key : (n p s j : ℕ) (q : Role) → Same q (Head n p s j) → (m : ℕ) × (q ≡ Head m p s j)
-head_key n p s j Root h = absurd (omega arith)
-head_key n p s j (Page k) h = absurd (omega arith)
-head_key n p s j (MapExt k) h = absurd (omega arith)
-head_key n p s j (Ext x k) h = absurd (omega arith)
-head_key n p s j (Data x k) h = absurd (omega arith)
 head_key n p s j (Head x y z k) h =
     let a : y ≡ p = omega arith in let b : z ≡ s = omega arith in let c : k ≡ j = omega arith in
     let e : Head x y z k ≡ Head x p s j = cc in
     (x, e)
+head_key n p s j _ h = absurd (omega arith)
+
+-- what is asked for and comes before what is due is there
+pub is_there : (image : List ℕ) (w : List (Role × ℕ)) (q r : Role) (a i c k : ℕ) → IsDue image w r a i → Asks image w q c k → Before q r → second q < 2
+    → (b : ℕ) × Has w q b
+is_there image w q r a i c k d ask bef low =
+    elim (dec_has w q) [
+      | inr y ↦ (y.1, has_role image w q (λ n p s j z. let x : second q ≡ second (Head n p s j) = ap second z in omega arith) y.0 y.1 y.2 y.3)
+      | inl y ↦ absurd (d.least q c k ask y bef)
+    ]
 
 -- what a whole walk asks for is there
 pub asked_block : (image : List ℕ) (w : List (Role × ℕ)) → IsWhole image w → (r : Role) (a i : ℕ) → Asks image w r a i → second r < 2 → (b : ℕ) × Has w r b
@@ -377,7 +344,8 @@ asked_block image w whole r a i ask low =
       | inl y ↦ absurd (whole r a i ask y)
     ]
 
-pub asked_header : (image : List ℕ) (w : List (Role × ℕ)) → IsWhole image w → (n p s j a i : ℕ) → Asks image w (Head n p s j) a i → (m b : ℕ) × Has w (Head m p s j) b
+pub asked_header : (image : List ℕ) (w : List (Role × ℕ)) → IsWhole image w → (n p s j a i : ℕ) → Asks image w (Head n p s j) a i
+    → (m b : ℕ) × Has w (Head m p s j) b
 asked_header image w whole n p s j a i ask =
     elim (dec_has w (Head n p s j)) [
       | inr y ↦ let z = head_key n p s j y.0 y.3 in (z.0, y.1, subst (λ r. Has w r y.1) z.1 y.2)
@@ -385,7 +353,8 @@ asked_header image w whole n p s j a i ask =
     ]
 
 -- a page is asked for where the extension blocks up to it are there
-pub page_word : (image : List ℕ) (w : List (Role × ℕ)) (k : ℕ) → k < pages_needed (blocks image) → ((j : ℕ) → 25 + 127 * j ≤ k → (a : ℕ) × Has w (MapExt j) a) → (a i : ℕ) × Asks image w (Page k) a i
+pub page_word : (image : List ℕ) (w : List (Role × ℕ)) (k : ℕ) → k < pages_needed (blocks image) → ((j : ℕ) → 25 + 127 * j ≤ k → (a : ℕ) × Has w (MapExt j) a)
+    → (a i : ℕ) × Asks image w (Page k) a i
 page_word image w k lt have =
     elim (dec_lt k 25) [
       | yes l ↦ (root_of image, 79 + k, (lt, inl (l, refl, refl)))

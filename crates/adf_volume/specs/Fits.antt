@@ -1,9 +1,12 @@
 -- When a tree and a layout fit an image.
+-- Letters: t a tree; l a layout; n an entry's number; e an entry; h its header's block; b, a blocks; k, m, j, i places in lists of blocks, or of words;
+-- p a directory's node; s a slot; o an owner.
 use Rattle.std.specs.Prelude.{◌≡◌, ℕ, List, [], ◌+◌, ◌-◌, ◌*◌, ◌/◌, ◌%◌, ◌<◌, ◌≤◌, ◌↔◌, map, length, slice_index}
 use Rattle.std.proofs.Common.{zero, suc}
 use Rattle.adf_volume.specs.Lists.{At, In, Spelled, NoBlockTwice}
 use Rattle.adf_tree.specs.declared.entry.Kind.{Kind}
-use Rattle.adf_volume.specs.Image.{word_in, root_of, map_exts_needed, kind_of, DIR, FILE, count, held, table_word, name_of, label_of, meta_of, stamps_of, content, IsFreeAt}
+use Rattle.adf_volume.specs.Image.{word_in, root_of, map_exts_needed, kind_of, DIR, FILE, count, held, table_word, name_of, label_of, meta_of, stamps_of}
+use Rattle.adf_volume.specs.Image.{content, IsFreeAt}
 use Rattle.adf_fields.specs.Hash.{slot_of}
 use Rattle.adf_blocks.specs.Sizes.{blocks, pages_needed}
 use Rattle.adf_volume.specs.Demands.{AllHold, boot_demands, root_demands, page_demands, head_demands, ext_demands, data_demands}
@@ -42,7 +45,8 @@ pub record FileFits (image : List ℕ) (t : Tree) (l : Layout) (n h : ℕ) (byte
   pub enough : count t.kind (length bytes) ≤ 72 * suc (length (exts_of l n))
   pub datas : length (datas_of l n) ≡ count t.kind (length bytes)
   pub named : (k b a : ℕ) → At (datas_of l n) k b → TableAt image l n (k / 72) a → word_in image a (table_word k) ≡ b
-  pub data_form : (k b : ℕ) → At (datas_of l n) k b → AllHold (data_demands image t.kind b h (suc k) (held t.kind (length bytes) (suc k)) (slice_index (datas_of l n) (suc k)))
+  pub data_form : (k b : ℕ) → At (datas_of l n) k b
+      → AllHold (data_demands image t.kind b h (suc k) (held t.kind (length bytes) (suc k)) (slice_index (datas_of l n) (suc k)))
 
 -- the image is a volume of this tree, which lies as the layout says
 pub record Fits (image : List ℕ) (t : Tree) (l : Layout) : Type 0 where
@@ -61,7 +65,8 @@ pub record Fits (image : List ℕ) (t : Tree) (l : Layout) : Type 0 where
   pub page_listed : (j i a b : ℕ) → i < 127 → At l.map_exts j a → At l.pages (25 + 127 * j + i) b → word_in image a i ≡ b
   pub page_form : (k b : ℕ) → At l.pages k b → AllHold (page_demands image b)
   pub entries : (n : ℕ) (e : Entry) → EntryAt t n e → EntryFits image t l n (at_node image l n) e
-  pub chains : (p s : ℕ) → IsDir t.entries p → s < 72 → Spelled (λ b. word_in image b 124) (word_in image (at_node image l p) (6 + s)) (map (at_node image l) (chain_nodes t p s))
+  pub chains : (p s : ℕ) → IsDir t.entries p → s < 72
+      → Spelled (λ b. word_in image b 124) (word_in image (at_node image l p) (6 + s)) (map (at_node image l) (chain_nodes t p s))
   pub files : (n : ℕ) (e : Entry) (bytes : List ℕ) → EntryAt t n e → e.body ≡ File bytes → FileFits image t l n (at_node image l n) bytes
   pub once : NoBlockTwice (owned image l)
   pub range : (o : Owner) (b : ℕ) → In (owned image l) (o, b) → (2 ≤ b) × (b < blocks image)

@@ -1,5 +1,5 @@
 -- The tree and the layout that a whole walk tells.
-use Rattle.std.specs.Prelude.{ℕ, List, [], ◌∷◌, ◌++◌, cond, ◌==◌}
+use Rattle.std.specs.Prelude.{Bool, true, false, ℕ, List, [], ◌∷◌, ◌++◌, cond, ◌==◌}
 use Rattle.adf_volume.specs.Image.{word_in, root_of, kind_of, DIR, name_of, label_of, meta_of, stamps_of, content}
 use Rattle.adf_tree.specs.declared.entry.Body.{Body}
 use Rattle.adf_tree.specs.declared.entry.Entry.{Entry}
@@ -7,59 +7,50 @@ use Rattle.adf_tree.specs.Tree.{Tree}
 use Rattle.adf_volume.specs.Layout.{Place, Layout}
 use Rattle.adf_tree.specs.declared.entry.Body.TheVariants.{Dir, File}
 use Rattle.adf_volume.specs.Walk.{Role}
-use Rattle.adf_volume.specs.Walk.Role.{Root, Page, MapExt, Head, Ext, Data}
+use Rattle.adf_volume.specs.Walk.Role.{Page, MapExt, Head, Ext, Data}
 
-abbrev pub push_page : Role → ℕ → List ℕ → List ℕ
-push_page Root b bs = bs
-push_page (Page i) b bs = bs ++ b ∷ []
-push_page (MapExt j) b bs = bs
-push_page (Head n p s j) b bs = bs
-push_page (Ext m k) b bs = bs
-push_page (Data m k) b bs = bs
+-- the blocks of the members that a test picks, in order
+abbrev pub picked : (Role → Bool) → List (Role × ℕ) → List ℕ
+picked f [] = []
+picked f (x ∷ w) = cond (f x.0) (picked f w ++ x.1 ∷ []) (picked f w)
 
--- the pages of a walk, in order
+abbrev pub is_page : Role → Bool
+is_page (Page i) = true
+is_page _ = false
+
+abbrev pub is_map_ext : Role → Bool
+is_map_ext (MapExt j) = true
+is_map_ext _ = false
+
+abbrev pub is_ext_of : ℕ → Role → Bool
+is_ext_of n (Ext m k) = n == m
+is_ext_of n _ = false
+
+abbrev pub is_data_of : ℕ → Role → Bool
+is_data_of n (Data m k) = n == m
+is_data_of n _ = false
+
+-- the pages of a walk
 abbrev pub pages_in : List (Role × ℕ) → List ℕ
-pages_in [] = []
-pages_in (x ∷ w) = push_page x.0 x.1 (pages_in w)
+pages_in w = picked is_page w
 
-abbrev pub push_map_ext : Role → ℕ → List ℕ → List ℕ
-push_map_ext Root b bs = bs
-push_map_ext (Page i) b bs = bs
-push_map_ext (MapExt j) b bs = bs ++ b ∷ []
-push_map_ext (Head n p s j) b bs = bs
-push_map_ext (Ext m k) b bs = bs
-push_map_ext (Data m k) b bs = bs
-
--- the bitmap extension blocks of a walk, in order
+-- the bitmap extension blocks of a walk
 abbrev pub map_exts_in : List (Role × ℕ) → List ℕ
-map_exts_in [] = []
-map_exts_in (x ∷ w) = push_map_ext x.0 x.1 (map_exts_in w)
+map_exts_in w = picked is_map_ext w
+
+-- the extension blocks of file n in a walk, and with one member more
+abbrev pub exts_in : List (Role × ℕ) → ℕ → List ℕ
+exts_in w n = picked (is_ext_of n) w
 
 abbrev pub push_ext : ℕ → Role → ℕ → List ℕ → List ℕ
-push_ext n Root b bs = bs
-push_ext n (Page i) b bs = bs
-push_ext n (MapExt i) b bs = bs
-push_ext n (Head m p s j) b bs = bs
-push_ext n (Ext m k) b bs = cond (n == m) (bs ++ b ∷ []) bs
-push_ext n (Data m k) b bs = bs
+push_ext n r b bs = cond (is_ext_of n r) (bs ++ b ∷ []) bs
 
--- the extension blocks of file n in a walk, in order
-abbrev pub exts_in : List (Role × ℕ) → ℕ → List ℕ
-exts_in [] n = []
-exts_in (x ∷ w) n = push_ext n x.0 x.1 (exts_in w n)
+-- the data blocks of file n in a walk, and with one member more
+abbrev pub datas_in : List (Role × ℕ) → ℕ → List ℕ
+datas_in w n = picked (is_data_of n) w
 
 abbrev pub push_data : ℕ → Role → ℕ → List ℕ → List ℕ
-push_data n Root b bs = bs
-push_data n (Page i) b bs = bs
-push_data n (MapExt i) b bs = bs
-push_data n (Head m p s j) b bs = bs
-push_data n (Ext m k) b bs = bs
-push_data n (Data m k) b bs = cond (n == m) (bs ++ b ∷ []) bs
-
--- the data blocks of file n in a walk, in order
-abbrev pub datas_in : List (Role × ℕ) → ℕ → List ℕ
-datas_in [] n = []
-datas_in (x ∷ w) n = push_data n x.0 x.1 (datas_in w n)
+push_data n r b bs = cond (is_data_of n r) (bs ++ b ∷ []) bs
 
 -- node n, with its header at b in a walk
 abbrev pub body_in : List ℕ → List (Role × ℕ) → ℕ → ℕ → Body
@@ -71,32 +62,29 @@ entry_in image w n p b = record { parent = p; name = name_of image b; meta = met
 abbrev pub place_in : List (Role × ℕ) → ℕ → ℕ → Place
 place_in w n b = record { head = b; exts = exts_in w n; datas = datas_in w n }
 
-abbrev pub push_entry : List ℕ → List (Role × ℕ) → Role → ℕ → List Entry → List Entry
-push_entry image full Root b es = es
-push_entry image full (Page i) b es = es
-push_entry image full (MapExt i) b es = es
-push_entry image full (Head n p s j) b es = es ++ entry_in image full n p b ∷ []
-push_entry image full (Ext m k) b es = es
-push_entry image full (Data m k) b es = es
+-- what is made of each header in turn, by its number, the number of its directory, and its block
+abbrev pub push_head : {X : Type 0} → (ℕ → ℕ → ℕ → X) → Role → ℕ → List X → List X
+push_head f (Head n p s j) b xs = xs ++ f n p b ∷ []
+push_head f _ b xs = xs
+
+abbrev pub of_heads : {X : Type 0} → (ℕ → ℕ → ℕ → X) → List (Role × ℕ) → List X
+of_heads f [] = []
+of_heads f (x ∷ w) = push_head f x.0 x.1 (of_heads f w)
 
 abbrev pub entries_in : List ℕ → List (Role × ℕ) → List (Role × ℕ) → List Entry
-entries_in image full [] = []
-entries_in image full (x ∷ w) = push_entry image full x.0 x.1 (entries_in image full w)
-
-abbrev pub push_place : List (Role × ℕ) → Role → ℕ → List Place → List Place
-push_place full Root b qs = qs
-push_place full (Page i) b qs = qs
-push_place full (MapExt i) b qs = qs
-push_place full (Head n p s j) b qs = qs ++ place_in full n b ∷ []
-push_place full (Ext m k) b qs = qs
-push_place full (Data m k) b qs = qs
+entries_in image full w = of_heads (entry_in image full) w
 
 abbrev pub places_in : List (Role × ℕ) → List (Role × ℕ) → List Place
-places_in full [] = []
-places_in full (x ∷ w) = push_place full x.0 x.1 (places_in full w)
+places_in full w = of_heads (λ n p b. place_in full n b) w
 
 abbrev pub tree_in : List ℕ → List (Role × ℕ) → Tree
-tree_in image w = record { kind = kind_of image; label = label_of image (root_of image); stamps = stamps_of image (root_of image); entries = entries_in image w w }
+tree_in image w = record {
+  kind = kind_of image;
+  label = label_of image (root_of image);
+  stamps = stamps_of image (root_of image);
+  entries =
+      entries_in image w w;
+}
 
 abbrev pub layout_in : List (Role × ℕ) → Layout
 layout_in w = record { pages = pages_in w; map_exts = map_exts_in w; places = places_in w w }

@@ -33,7 +33,8 @@ tiny_layout = record { pages = 3 ∷ []; map_exts = []; places = [] }
 
 -- the same with a page that tells block 3, which is the page's own, as free
 unfoldable pub tiny_freed : List ℕ
-tiny_freed = (0x44 ∷ 0x4F ∷ 0x53 ∷ 1 ∷ []) ++ (replicate 1020 0 ++ (tiny_root ++ ((0xFF ∷ 0xFF ∷ 0xFF ∷ 0xFE ∷ []) ++ ((0 ∷ 0 ∷ 0 ∷ 2 ∷ []) ++ replicate 504 0))))
+tiny_freed = (0x44 ∷ 0x4F ∷ 0x53 ∷ 1 ∷ []) ++ (replicate 1020 0 ++ (tiny_root ++ ((0xFF ∷ 0xFF ∷ 0xFF ∷ 0xFE ∷ []) ++ ((0 ∷ 0 ∷ 0 ∷ 2 ∷ []) ++ replicate 504
+    0))))
 
 -- a block of zeros but for these words, each behind its number
 abbrev pub block_with : List (ℕ × ℕ) → List ℕ
@@ -42,7 +43,10 @@ block_with (x ∷ xs) = with_word (block_with xs) x.0 x.1
 
 -- the header of a file `a` of 489 bytes at block 2, in slot 6 of the root at block 8
 abbrev head_of_a : List ℕ
-head_of_a = block_with ((0, 2) ∷ (1, 2) ∷ (2, 2) ∷ (4, 3) ∷ (5, 0xFE9EFE02) ∷ (76, 4) ∷ (77, 3) ∷ (81, 489) ∷ (108, 0x01610000) ∷ (125, 8) ∷ (127, 0xFFFFFFFD) ∷ [])
+head_of_a = block_with ((0, 2) ∷ (1, 2) ∷ (2, 2) ∷ (4, 3) ∷ (5, 0xFE9EFE02) ∷ (76, 4) ∷ (77, 3) ∷ (81, 489) ∷ (108, 0x01610000) ∷ (125, 8) ∷ (
+  127,
+  0xFFFFFFFD,
+) ∷ [])
 
 -- its first data block, block 3, with 488 bytes 0x41
 abbrev first_of_a : List ℕ

@@ -1,4 +1,6 @@
 -- Walks of an image: its blocks with their roles, as they come to light one after the other, told by relations over the whole list.
+-- Letters: w a walk; r, q roles; b, c the block that has a role; a, i the block and the word that name one; n, m nodes; p a directory's node;
+-- s a slot; j a place in a chain, or a bitmap extension block's number; k the number of a page, an extension block or a data block; h a header's block.
 use Rattle.std.specs.Prelude.{◌≡◌, ℕ, List, [], ◌∷◌, ◌⊎◌, ◌+◌, ◌-◌, ◌*◌, ◌/◌, ◌%◌, ◌<◌, ◌≤◌, ◌≢◌, cond, ◌==◌, ◌++◌, nat_lt}
 use Rattle.std.proofs.Common.{zero, suc}
 use Rattle.adf_blocks.specs.declared.cause.Cause.{Cause}
@@ -57,11 +59,7 @@ Has (x ∷ w) r b = ((x.0 ≡ r) × (x.1 ≡ b)) ⊎ Has w r b
 
 abbrev pub head_count : Role → ℕ → ℕ
 head_count (Head n p s j) m = suc m
-head_count Root m = m
-head_count (Page i) m = m
-head_count (MapExt i) m = m
-head_count (Ext n k) m = m
-head_count (Data n k) m = m
+head_count _ m = m
 
 -- how many headers a walk has
 abbrev pub heads : List (Role × ℕ) → ℕ
@@ -117,11 +115,7 @@ pub record IsDue (image : List ℕ) (w : List (Role × ℕ)) (r : Role) (a i : �
 
 abbrev pub ext_count_of : ℕ → Role → ℕ → ℕ
 ext_count_of n (Ext m k) c = cond (n == m) (suc c) c
-ext_count_of n Root c = c
-ext_count_of n (Page i) c = c
-ext_count_of n (MapExt i) c = c
-ext_count_of n (Head m p s j) c = c
-ext_count_of n (Data m k) c = c
+ext_count_of n _ c = c
 
 -- how many extension blocks of file n the walk has
 abbrev pub ext_count : List (Role × ℕ) → ℕ → ℕ
@@ -130,20 +124,13 @@ ext_count (x ∷ w) n = ext_count_of n x.0 (ext_count w n)
 
 -- the first data block of a file that has too few extension blocks: ShortFile
 abbrev pub Enough : List ℕ → List (Role × ℕ) → Role → Type 0
-Enough image w Root = Unit {0}
-Enough image w (Page i) = Unit {0}
-Enough image w (MapExt i) = Unit {0}
-Enough image w (Head n p s j) = Unit {0}
-Enough image w (Ext n k) = Unit {0}
 Enough image w (Data n k) = k ≡ 1 → (h : ℕ) → FileAt image w n h → data_count image h ≤ 72 * suc (ext_count w n)
+Enough image w _ = Unit {0}
 
 abbrev pub node_block_of : ℕ → Role → ℕ → ℕ → ℕ
 node_block_of n Root b c = cond (n == 0) b c
-node_block_of n (Page i) b c = c
-node_block_of n (MapExt i) b c = c
 node_block_of n (Head m p s j) b c = cond (n == m) b c
-node_block_of n (Ext m k) b c = c
-node_block_of n (Data m k) b c = c
+node_block_of n _ b c = c
 
 -- the block of node n, as a function
 abbrev pub node_block : List (Role × ℕ) → ℕ → ℕ
@@ -151,12 +138,8 @@ node_block [] n = 0
 node_block (x ∷ w) n = node_block_of n x.0 x.1 (node_block w n)
 
 abbrev pub ext_block_of : ℕ → ℕ → Role → ℕ → ℕ → ℕ
-ext_block_of n k Root b c = c
-ext_block_of n k (Page i) b c = c
-ext_block_of n k (MapExt i) b c = c
-ext_block_of n k (Head m p s j) b c = c
 ext_block_of n k (Ext m i) b c = cond (n == m) (cond (k == i) b c) c
-ext_block_of n k (Data m i) b c = c
+ext_block_of n k _ b c = c
 
 -- extension block k of file n
 abbrev pub ext_block : List (Role × ℕ) → ℕ → ℕ → ℕ
@@ -179,16 +162,13 @@ form_demands image w (Page i) b = page_demands image b
 form_demands image w (MapExt j) b = []
 form_demands image w (Head n p s j) b = head_demands image (kind_of image) b (node_block w p) s
 form_demands image w (Ext n k) b = ext_demands image b (node_block w n)
-form_demands image w (Data n k) b = data_demands image (kind_of image) b (node_block w n) k (held (kind_of image) (word_in image (node_block w n) 81) k) (next_data image w n k)
+form_demands image w (Data n k) b =
+    data_demands image (kind_of image) b (node_block w n) k (held (kind_of image) (word_in image (node_block w n) 81) k) (next_data image w n k)
 
 -- no earlier header of the chain has an equal name: SameName
 abbrev pub NewName : List ℕ → List (Role × ℕ) → Role → ℕ → Type 0
-NewName image w Root b = Unit {0}
-NewName image w (Page i) b = Unit {0}
-NewName image w (MapExt i) b = Unit {0}
 NewName image w (Head n p s j) b = (m k c : ℕ) → Has w (Head m p s k) c → uppers (name_of image c) ≢ uppers (name_of image b)
-NewName image w (Ext n k) b = Unit {0}
-NewName image w (Data n k) b = Unit {0}
+NewName image w _ b = Unit {0}
 
 -- no member of the walk has this block
 abbrev pub IsAbsent : List (Role × ℕ) → ℕ → Type 0
@@ -207,7 +187,8 @@ NoCause image w r a b = AllHold (demands image w r a b)
 
 pub data IsWalk (image : List ℕ) : List (Role × ℕ) → Type 0 where
   start : IsWalk image ((Root, root_of image) ∷ [])
-  step : {w : List (Role × ℕ)} {r : Role} {b a i : ℕ} → IsWalk image w → IsDue image w r a i → word_in image a i ≡ b → NoCause image w r a b → IsWalk image ((r, b) ∷ w)
+  step : {w : List (Role × ℕ)} {r : Role} {b a i : ℕ} → IsWalk image w → IsDue image w r a i → word_in image a i ≡ b → NoCause image w r a b
+      → IsWalk image ((r, b) ∷ w)
 
 -- the walk asks for nothing that it lacks
 abbrev pub IsWhole : List ℕ → List (Role × ℕ) → Type 0
@@ -228,5 +209,7 @@ bitmap_demands image w b (suc n) =
 -- The first fault: of size, boot bytes and root; else of what is due after some walk; else of the bitmap after a whole walk.
 pub data FirstFault (image : List ℕ) (b : ℕ) (c : Cause) : Type 0 where
   at_boot : FirstFails (boot_demands image ++ root_demands image (root_of image)) b c → FirstFault image b c
-  at_due : AllHold (boot_demands image ++ root_demands image (root_of image)) → (w : List (Role × ℕ)) (r : Role) (a i : ℕ) → IsWalk image w → IsDue image w r a i → FirstFails (demands image w r a (word_in image a i)) b c → FirstFault image b c
-  at_bitmap : AllHold (boot_demands image ++ root_demands image (root_of image)) → (w : List (Role × ℕ)) → IsWalk image w → IsWhole image w → FirstFails (bitmap_demands image w 2 (blocks image - 2)) b c → FirstFault image b c
+  at_due : AllHold (boot_demands image ++ root_demands image (root_of image)) → (w : List (Role × ℕ)) (r : Role) (a i : ℕ) → IsWalk image w
+      → IsDue image w r a i → FirstFails (demands image w r a (word_in image a i)) b c → FirstFault image b c
+  at_bitmap : AllHold (boot_demands image ++ root_demands image (root_of image)) → (w : List (Role × ℕ)) → IsWalk image w → IsWhole image w
+      → FirstFails (bitmap_demands image w 2 (blocks image - 2)) b c → FirstFault image b c

@@ -1,11 +1,9 @@
-use Rattle.std.proofs.Common.{◌≡◌, ◌+◌, ◌*◌, ◌∙◌, ℕ, List, drop, length, arith, rules, subst, sym}
+use Rattle.std.proofs.Common.{◌≡◌, ◌+◌, ◌*◌, ◌∙◌, ℕ, List, drop, length, arith, rules}
 use Rattle.std.proofs.lemmas.List.{take_at}
 use Rattle.std.specs.Prelude.{replicate}
-use Rattle.adf_volume.specs.Fits.{Fits}
-use Rattle.adf_build.specs.Laid.{IsLaid, parts}
+use Rattle.adf_build.specs.Laid.{parts}
 use Rattle.adf_build.specs.Lay.{lay}
-use Rattle.adf_build.specs.Plan.{entries_blocks, planned, reserved}
-use Rattle.adf_build.specs.Building.{HasRoom}
+use Rattle.adf_build.specs.Plan.{entries_blocks, reserved}
 use Rattle.adf_build.proofs.WholeVolume.{is_laid, laid_as_planned, laid_bytes, total_is}
 use Rattle.adf_build.proofs.builder.build.Goals as goal
 
@@ -21,19 +19,6 @@ write_volume-requires-clause-total c =
     total_is c.args.tree.now c.args.blocks c.in-Some.need c.in-Some.ensures.0 c.in-Some.ensures.1 (omega arith) in
     omega (arith, c.reserved_count.ensures.exact)
 
-pub returns-clause-laid : goal.returns-clause-laid
-returns-clause-laid c =
-    let tree = c.args.tree.now in
-    let n : ℕ = c.args.blocks in
-    let image : List ℕ = c.write_volume.new.image in
-    let full : length image ≡ c.in-Ok-vec.image.len = search rules in
-    let whole = take_at image (drop (length image) c.in-Ok-vec.image.items) c.in-Ok-vec.image.len full in
-    let len : length image ≡ n * 512 = search rules in
-    let room : HasRoom tree n = search rules in
-    let written : image ≡ lay (replicate (n * 512) 0) (parts tree n) = search rules in
-    let laid : List ℕ → Type 0 = λ im. IsLaid im tree in
-    subst laid (sym whole) (is_laid image tree n room len written)
-
 pub returns-clause-bytes : goal.returns-clause-bytes
 returns-clause-bytes c =
     let tree = c.args.tree.now in
@@ -43,15 +28,8 @@ returns-clause-bytes c =
     let written : image ≡ lay (replicate (n * 512) 0) (parts tree n) = search rules in
     take_at image (drop (length image) c.in-Ok-vec.image.items) c.in-Ok-vec.image.len full ∙ written ∙ laid_bytes tree n
 
+pub returns-clause-laid : goal.returns-clause-laid
+returns-clause-laid c = is_laid c.args.tree.now c.args.blocks (returns-clause-bytes c) c.write_volume.ensures.sound (search rules)
+
 pub returns-clause-fits : goal.returns-clause-fits
-returns-clause-fits c =
-    let tree = c.args.tree.now in
-    let n : ℕ = c.args.blocks in
-    let image : List ℕ = c.write_volume.new.image in
-    let full : length image ≡ c.in-Ok-vec.image.len = search rules in
-    let whole = take_at image (drop (length image) c.in-Ok-vec.image.items) c.in-Ok-vec.image.len full in
-    let len : length image ≡ n * 512 = search rules in
-    let room : HasRoom tree n = search rules in
-    let written : image ≡ lay (replicate (n * 512) 0) (parts tree n) = search rules in
-    let fits : List ℕ → Type 0 = λ im. Fits im tree (planned tree n) in
-    subst fits (sym whole) (laid_as_planned image tree n c.write_volume.ensures.sound len (is_laid image tree n room len written))
+returns-clause-fits c = laid_as_planned c.args.tree.now c.args.blocks (returns-clause-bytes c) c.write_volume.ensures.sound (search rules)

@@ -15,5 +15,6 @@ loop-end-preserved c =
       within = omega arith;
       low = low_step (drop end es) (drop (end + 1) es) (72 * c.args.p) e split c.loop-end.invariant.low;
       mine = mine_step es (drop (end + 1) es) c.args.p c.args.from end e split child c.loop-end.invariant.mine;
-      others = λ q s ne. c.loop-end.invariant.others q s ne ∙ others_step (drop end es) (drop (end + 1) es) (end + 1) (end + 1 + 1) c.args.p e q s split (omega arith) child ne;
+      others = λ q s ne. c.loop-end.invariant.others q s ne
+          ∙ others_step (drop end es) (drop (end + 1) es) (end + 1) (end + 1 + 1) c.args.p e q s split (omega arith) child ne;
     }

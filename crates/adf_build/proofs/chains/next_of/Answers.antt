@@ -14,7 +14,8 @@ returns-else-i-len c =
     let rest : List Entry = drop (i + 1) es in
     elim c.else-i-len.branch [
       | else-i-len-via-then-i-len+else-are_together w ↦
-          sym (next_none (slice_index c.args.nodes.now) (i + 2) e w.entry_at.result.now rest (drop (i + 1 + 1) es) w.entry_at.ensures (rises_behind es rest i e c.len.ensures.tree c.requires.here)
+          sym (next_none (slice_index c.args.nodes.now) (i + 2) e w.entry_at.result.now rest (drop (i + 1 + 1) es) w.entry_at.ensures
+          (rises_behind es rest i e c.len.ensures.tree c.requires.here)
           (sym w.are_together.ensures ∙ w.if-are_together.false))
       | else-i-len-via-else-i-len w ↦
           let l = length-drop (i + 1) es in

@@ -22,12 +22,15 @@ loop-at-preserved c =
     let up : at + 1 ≡ c.loop-at.at = omega arith in
     let left : drop at es ≡ e ∷ drop (at + 1) es = c.entry_at-entry.ensures in
     let split : drop at es ≡ e ∷ drop c.loop-at.at es = left ∙ ap (λ k. e ∷ drop k es) up in
-    let child : e.parent ≡ c.args.p = ap (λ (x : Entry). x.parent) (sym (place_is es (drop (at + 1) es) at e e left)) ∙ c.requires.mine at e (omega arith) (omega (arith, c.loop-at.invariant.within)) in
+    let child : e.parent ≡ c.args.p =
+    ap (λ (x : Entry). x.parent) (sym (place_is es (drop (at + 1) es) at e e left))
+    ∙ c.requires.mine at e (omega arith) (omega (arith, c.loop-at.invariant.within)) in
     let slot : slot_of e.name ≡ c.slot.result = sym (c.slot.ensures.exact ∙ ap slot_of c.bytes.ensures.bytes) in
     record {
       start = omega arith;
       within = omega (arith, c.loop-at.invariant.within);
       whole = search rules;
-      filled = slots_step c.loop-at.slots (slice_index c.args.nodes.now) (at + 1) (c.loop-at.at + 1) c.args.p c.slot.result _ e (drop at es) (drop c.loop-at.at es) split (omega arith) child slot refl
+      filled = slots_step c.loop-at.slots (slice_index c.args.nodes.now) (at + 1) (c.loop-at.at + 1) c.args.p c.slot.result _ e (drop at es)
+          (drop c.loop-at.at es) split (omega arith) child slot refl
           c.loop-at.invariant.whole c.loop-at.invariant.filled;
     }

@@ -4,7 +4,7 @@ use Rattle.adf_fields.specs.Words.{with_block}
 use Rattle.adf_volume.specs.Image.{chunk}
 use Rattle.adf_build.specs.Laid.{data_bytes, given_or_none}
 use Rattle.adf_build.specs.Plan.{given}
-use Rattle.adf_build.proofs.Steps.{datas_step, drop_min}
+use Rattle.adf_build.proofs.WriteSteps.{datas_step, drop_min}
 use Rattle.adf_build.proofs.datas.write_datas.Goals as goal
 
 pub loop-j-preserved : goal.loop-j-preserved
@@ -18,7 +18,8 @@ loop-j-preserved c =
     let front : c.split_at.result.0.now ≡ take (chunk kind) left = c.split_at.ensures.front ∙ ap (λ k. take k left) m ∙ take_min (chunk kind) left in
     let back : c.split_at.result.1.now ≡ drop (chunk kind) left = c.split_at.ensures.back ∙ drop_min (chunk kind) c.min.result left m in
     let put = λ (b next : ℕ) (held : List ℕ). with_block c.loop-j.image b (data_bytes kind c.args.head (1 + j) next held) in
-    datas_step c.write_one.new.image c.loop-j.image _ n kind c.args.head c.args.k j c.args.count left c.split_at.result.1.now (omega arith) back c.loop-j.invariant
+    datas_step c.write_one.new.image c.loop-j.image _ n kind c.args.head c.args.k j c.args.count left c.split_at.result.1.now (omega arith) back
+    c.loop-j.invariant
     (c.write_one.ensures
     ∙ ap (λ b. put b c.given_or_none.result c.split_at.result.0.now) c.given_block.ensures
     ∙ ap (λ next. put (given n (c.args.k + j)) next c.split_at.result.0.now) c.given_or_none.ensures

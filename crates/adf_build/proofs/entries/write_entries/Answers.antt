@@ -9,7 +9,7 @@ use Rattle.adf_build.specs.Plan.{entry_blocks}
 use Rattle.adf_build.specs.Building.{entry_parts}
 use Rattle.adf_build.specs.declared.heads.Spot.{Spot}
 use Rattle.adf_build.proofs.Order.{slots_are}
-use Rattle.adf_build.proofs.Steps.{entry_step, room_step, sound_step}
+use Rattle.adf_build.proofs.WriteSteps.{entry_step, room_step, sound_step}
 use Rattle.adf_build.proofs.entries.write_entries.Goals as goal
 
 pub loop-i-preserved : goal.loop-i-preserved
@@ -29,14 +29,17 @@ loop-i-preserved c =
     let next : c.next_of.result ≡ first_block (slice_index nodes) (nodes_from (suc (i + 1)) rest e.parent (slot_of e.name)) =
     c.next_of.ensures ∙ ap (λ m. first_block (slice_index nodes) (nodes_from m rest e.parent (slot_of e.name))) up in
     let at : ℕ → ℕ → Spot = λ p q. record { k = k; parent = p; next = q } in
-    let spot : at c.parent_block.result c.next_of.result ≡ at (slice_index nodes e.parent) (first_block (slice_index nodes) (nodes_from (suc (i + 1)) rest e.parent (slot_of e.name))) =
+    let spot : at c.parent_block.result c.next_of.result
+    ≡ at (slice_index nodes e.parent) (first_block (slice_index nodes) (nodes_from (suc (i + 1)) rest e.parent (slot_of e.name))) =
     ap (λ p. at p c.next_of.result) c.parent_block.ensures ∙ ap (at (slice_index nodes e.parent)) next in
     let all_slots : slots ≡ slots_of nodes es (i + 1) =
-    slots_are slots nodes es (i + 1) (search rules) (λ s h. c.slots_between-slots.ensures s h ∙ ap (first_block (slice_index nodes)) (sym (c.loop-i.invariant.chains (i + 1) s (omega arith)))) in
+    slots_are slots nodes es (i + 1) (search rules) (λ s h. c.slots_between-slots.ensures s h
+    ∙ ap (first_block (slice_index nodes)) (sym (c.loop-i.invariant.chains (i + 1) s (omega arith)))) in
     let written : c.write_entry.new.image ≡ lay c.loop-i.image (entry_parts n kind (at c.parent_block.result c.next_of.result) slots e) =
     c.write_entry.ensures.exact ∙ ap (λ kind. lay c.loop-i.image (entry_parts n kind (at c.parent_block.result c.next_of.result) slots e)) c.kind.ensures in
     record {
-      work = entry_step c.write_entry.new.image c.loop-i.image n kind nodes es (i + 1) (i + 1 + 1) k c.next_given-k.result (drop i es) rest e (at c.parent_block.result c.next_of.result) slots _
+      work = entry_step c.write_entry.new.image c.loop-i.image n kind nodes es (i + 1) (i + 1 + 1) k c.next_given-k.result (drop i es) rest e
+          (at c.parent_block.result c.next_of.result) slots _
           split (omega arith) skip spot all_slots c.loop-i.invariant.work written;
       room = room_step kind k c.next_given-k.result _ (drop i es) rest e split skip c.loop-i.invariant.room;
       within = c.children_end-end.ensures.within;

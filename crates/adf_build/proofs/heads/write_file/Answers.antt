@@ -43,8 +43,10 @@ returns-clause-exact c slots =
     c.write_file_head.ensures.exact ∙ ap (λ d. with_block old (given n k) (head_block (file_header n c.args.spot (length bytes) d e))) datas in
     let two : c.write_exts.new.image ≡ lay c.write_file_head.new.image es =
     c.write_exts.ensures
-    ∙ ap (λ h. lay c.write_file_head.new.image (ext_parts n h (k + 1) (k + 1 + c.ext_count-exts.result + 72) c.saturating_sub.result c.ext_count-exts.result)) own
-    ∙ ap (λ i. lay c.write_file_head.new.image (ext_parts n (given n k) i (k + 1 + c.ext_count-exts.result + 72) c.saturating_sub.result c.ext_count-exts.result)) next
+    ∙ ap (λ h. lay c.write_file_head.new.image (ext_parts n h (k + 1) (k + 1 + c.ext_count-exts.result + 72) c.saturating_sub.result
+    c.ext_count-exts.result)) own
+    ∙ ap (λ i. lay c.write_file_head.new.image (ext_parts n (given n k) i (k + 1 + c.ext_count-exts.result + 72) c.saturating_sub.result
+    c.ext_count-exts.result)) next
     ∙ ap (λ d. lay c.write_file_head.new.image (ext_parts n (given n k) (suc k) d c.saturating_sub.result c.ext_count-exts.result)) behind
     ∙ ap (λ d. lay c.write_file_head.new.image (ext_parts n (given n k) (suc k) (suc k + x + 72) d c.ext_count-exts.result)) left
     ∙ ap (λ x'. lay c.write_file_head.new.image (ext_parts n (given n k) (suc k) (suc k + x + 72) (m - 72) x')) exts in

@@ -24,7 +24,8 @@ returns-clause-exact c =
     let up : k + 1 ≡ suc k = omega arith in
     let table : take c.min-short.result c.table_of-table.result ≡ run n (suc k + x) (min 72 c.args.datas) =
     c.table_of-table.ensures ∙ ap (λ d. run n d c.min-short.result) first ∙ ap (run n (suc k + x)) short in
-    let ext : c.given_or_none.result ≡ given_or_none n (suc k) x = c.given_or_none.ensures ∙ ap (λ x. given_or_none n (k + 1) x) exts ∙ ap (λ k. given_or_none n k x) up in
+    let ext : c.given_or_none.result ≡ given_or_none n (suc k) x =
+    c.given_or_none.ensures ∙ ap (λ x. given_or_none n (k + 1) x) exts ∙ ap (λ k. given_or_none n k x) up in
     let put = λ (own ext : ℕ) (table : List ℕ). with_block c.args.image.now own (head_block (record {
       own = own;
       parent = c.args.spot.parent;

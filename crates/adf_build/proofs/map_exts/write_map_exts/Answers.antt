@@ -23,6 +23,8 @@ loop-j-preserved c =
     let at : n / 2 + 1 + c.page_count-pages.result + j ≡ middle n + 1 + pages_needed n + j = omega arith in
     let len : c.min-len.result ≡ min 127 (pages_needed n - (25 + 127 * j)) = omega (arith, c.min-len.ensures, c.saturating_sub.ensures) in
     let named : take c.min-len.result c.row_of-table.result ≡ listed_pages n j = c.row_of-table.ensures ∙ ap (row (n / 2 + 1 + (25 + 127 * j))) len in
-    let next : c.map_ext_or_none-next.result ≡ map_ext_or_none n (suc j) (count - (j + 1)) = c.map_ext_or_none-next.ensures ∙ ap (λ k. map_ext_or_none n k (count - (j + 1))) (add-one j) in
+    let next : c.map_ext_or_none-next.result ≡ map_ext_or_none n (suc j) (count - (j + 1)) =
+    c.map_ext_or_none-next.ensures ∙ ap (λ k. map_ext_or_none n k (count - (j + 1))) (add-one j) in
     map_exts_step c.write_map_ext.new.image c.loop-j.image _ _ n j (n / 2 + 1 + c.page_count-pages.result + j) count at few
-    (ap (λ l. map_ext_block l c.map_ext_or_none-next.result) named ∙ ap (map_ext_block (listed_pages n j)) next) c.loop-j.invariant c.write_map_ext.ensures.exact
+    (ap (λ l. map_ext_block l c.map_ext_or_none-next.result) named ∙ ap (map_ext_block (listed_pages n j)) next) c.loop-j.invariant
+    c.write_map_ext.ensures.exact

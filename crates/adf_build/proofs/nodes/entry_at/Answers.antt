@@ -1,4 +1,4 @@
-use Rattle.adf_build.proofs.Counts.{some_entry}
+use Rattle.adf_build.proofs.CountSteps.{some_entry}
 use Rattle.adf_build.proofs.nodes.entry_at.Goals as goal
 
 pub unwrap-requires : goal.unwrap-requires

@@ -24,4 +24,5 @@ returns-then-not-is_used_block c =
       | else-first-blocks-via-then-first-blocks+else-blocks-last w ↦ omega arith
       | else-first-blocks-via-else-first-blocks w ↦ omega arith
     ] in
-    all_free n c.args.total q (2 + q) (2 + q + 31) refl (omega arith) side (omega arith) (sym c.is_used_block-then-last-blocks.ensures ∙ c.if-not-is_used_block.true)
+    all_free n c.args.total q (2 + q) (2 + q + 31) refl (omega arith) side (omega arith)
+    (sym c.is_used_block-then-last-blocks.ensures ∙ c.if-not-is_used_block.true)

@@ -17,8 +17,10 @@ returns-clause-exact c =
     let taken : ℕ = c.min.result in
     let numbers : take taken c.page_numbers-numbers.result ≡ row (n / 2 + 1) few =
     ap (λ k. take k c.page_numbers-numbers.result) (omega (arith, c.page_count.ensures.exact)) ∙ c.page_numbers-numbers.ensures in
-    let ext : c.map_ext_or_none.result ≡ map_ext_or_none n 0 (map_exts_needed (pages_needed n)) = c.map_ext_or_none.ensures ∙ ap (map_ext_or_none n 0) c.map_ext_count.ensures in
-    let put = λ (slots pages : List ℕ) (map_ext : ℕ) (label : List ℕ) (stamps : Stamps). with_block c.args.image.now (n / 2) (root_block (record { slots = slots; pages = pages; map_ext = map_ext; label = label; stamps = stamps })) in
+    let ext : c.map_ext_or_none.result ≡ map_ext_or_none n 0 (map_exts_needed (pages_needed n)) =
+    c.map_ext_or_none.ensures ∙ ap (map_ext_or_none n 0) c.map_ext_count.ensures in
+    let put = λ (slots pages : List ℕ) (map_ext : ℕ) (label : List ℕ) (stamps : Stamps). with_block c.args.image.now (n / 2)
+    (root_block (record { slots = slots; pages = pages; map_ext = map_ext; label = label; stamps = stamps })) in
     let slots : List ℕ = slots_of (node_blocks tree n) tree.entries 0 in
     c.write_root.ensures.exact
     ∙ ap (λ s. put s (take taken c.page_numbers-numbers.result) c.map_ext_or_none.result c.label.result.now c.stamps.result) c.requires.slots

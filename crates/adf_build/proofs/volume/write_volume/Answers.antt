@@ -10,7 +10,7 @@ use Rattle.adf_build.specs.Laid.{boot_bytes, entries_parts, node_blocks, map_ext
 use Rattle.adf_build.specs.Plan.{entries_blocks}
 use Rattle.adf_build.proofs.Lays.{lay-append}
 use Rattle.adf_build.proofs.Order.{slots_are, tree_rises}
-use Rattle.adf_build.proofs.Steps.{nodes_length}
+use Rattle.adf_build.proofs.WriteSteps.{nodes_length}
 use Rattle.adf_build.proofs.volume.write_volume.Goals as goal
 
 pub prove-unreachable-requires : goal.prove-unreachable-requires
@@ -43,8 +43,10 @@ returns-clause-exact c =
     let root : List ℕ = root_block (root_laid tree n) in
     let boot : Kind → List ℕ = λ kind. laid ((0, boot_bytes kind) ∷ []) in
     let last : List (ℕ × List ℕ) = (middle n, root) ∷ (0, boot tree.kind) ∷ [] in
-    let one : c.write_entries.new.image ≡ lay old entries = c.write_entries.ensures.exact ∙ ap (λ nodes. lay old (entries_parts n tree.kind nodes es 1 0 es)) c.requires.nodes in
-    let two : c.write_pages.new.image ≡ lay c.write_entries.new.image pages = c.write_pages.ensures ∙ ap (λ total. lay c.write_entries.new.image (page_parts n total 0 (pages_needed n))) c.requires.total in
+    let one : c.write_entries.new.image ≡ lay old entries =
+    c.write_entries.ensures.exact ∙ ap (λ nodes. lay old (entries_parts n tree.kind nodes es 1 0 es)) c.requires.nodes in
+    let two : c.write_pages.new.image ≡ lay c.write_entries.new.image pages =
+    c.write_pages.ensures ∙ ap (λ total. lay c.write_entries.new.image (page_parts n total 0 (pages_needed n))) c.requires.total in
     let more : c.write_map_exts.new.image ≡ lay c.write_pages.new.image exts = c.write_map_exts.ensures in
     let three : c.write_the_root.new.image ≡ with_block c.write_map_exts.new.image (middle n) root = c.write_the_root.ensures.exact in
     let four : c.put_block.new.image ≡ with_block c.write_the_root.new.image 0 (boot tree.kind) =

@@ -4,7 +4,7 @@ use Rattle.adf_tree.specs.Tree.{Tree}
 use Rattle.adf_volume.specs.Fits.{Fits}
 use Rattle.adf_volume.specs.Layout.{Layout}
 use Rattle.adf_volume.specs.Walk.{FirstFault}
-use Rattle.adf_volume.proofs.Refuse.{none_fits}
+use Rattle.adf_volume.proofs.NoneFits.{none_fits}
 use Rattle.adf_check.specs.Found.{IsTrueFault}
 use Rattle.adf_check.proofs.Steps.{if_err}
 use Rattle.adf_check.proofs.checker.check.Goals as goal

@@ -1,4 +1,4 @@
-use Rattle.adf_volume.proofs.Agree as laws
+use Rattle.adf_volume.proofs.WalkAgreement as laws
 use Rattle.adf_volume.proofs.laws.agreement.Goals as goal
 
 pub returns-clause-part : goal.returns-clause-part

@@ -1,4 +1,4 @@
-use Rattle.adf_volume.proofs.Trees.{chain_entries, entry_is_at}
+use Rattle.adf_volume.proofs.Chains.{chain_entries, entry_is_at}
 use Rattle.adf_volume.proofs.laws.chains_of_numbers.Goals as goal
 
 pub returns-clause-entries : goal.returns-clause-entries

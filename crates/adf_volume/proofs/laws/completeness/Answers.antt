@@ -1,4 +1,4 @@
-use Rattle.adf_volume.proofs.Whole as laws
+use Rattle.adf_volume.proofs.WalkCompleteness as laws
 use Rattle.adf_volume.proofs.laws.completeness.Goals as goal
 
 pub returns : goal.returns

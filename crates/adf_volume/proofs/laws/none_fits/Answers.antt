@@ -1,4 +1,4 @@
-use Rattle.adf_volume.proofs.Refuse as laws
+use Rattle.adf_volume.proofs.NoneFits as laws
 use Rattle.adf_volume.proofs.laws.none_fits.Goals as goal
 
 pub returns : goal.returns

@@ -1,4 +1,4 @@
-use Rattle.adf_volume.proofs.Alone as laws
+use Rattle.adf_volume.proofs.OneFault as laws
 use Rattle.adf_volume.proofs.laws.one_fault.Goals as goal
 
 pub returns : goal.returns

@@ -1,4 +1,4 @@
-use Rattle.adf_volume.proofs.Unique as laws
+use Rattle.adf_volume.proofs.OneTree as laws
 use Rattle.adf_volume.proofs.laws.one_tree.Goals as goal
 
 pub returns : goal.returns

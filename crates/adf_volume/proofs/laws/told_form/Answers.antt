@@ -1,6 +1,6 @@
 use Rattle.std.proofs.Common.{subst}
 use Rattle.adf_volume.specs.Demands.{FirstFails, told}
-use Rattle.adf_volume.proofs.Told.{all_told, none_told, first_told, told_first}
+use Rattle.adf_volume.proofs.FormDemands.{all_told, none_told, first_told, told_first}
 use Rattle.adf_volume.proofs.laws.told_form.Goals as goal
 
 pub returns-clause-all : goal.returns-clause-all

@@ -1,4 +1,4 @@
-use Rattle.adf_volume.proofs.Fitting as laws
+use Rattle.adf_volume.proofs.WalkFits as laws
 use Rattle.adf_volume.proofs.laws.what_is_told_fits.Goals as goal
 
 pub returns : goal.returns

@@ -1,4 +1,4 @@
-use Rattle.adf_volume.proofs.OneFile.{one_file_fits}
+use Rattle.adf_volume.proofs.SampleFile.{one_file_fits}
 use Rattle.adf_volume.proofs.samples.file_volume_fits.Goals as goal
 
 pub returns : goal.returns

@@ -1,4 +1,4 @@
-use Rattle.adf_volume.proofs.Tiny.{freed_fits_none}
+use Rattle.adf_volume.proofs.SampleEmpty.{freed_fits_none}
 use Rattle.adf_volume.proofs.samples.freed_page_fits_nothing.Goals as goal
 
 pub returns : goal.returns

@@ -1,4 +1,4 @@
-use Rattle.adf_volume.proofs.Tiny.{tiny_fits}
+use Rattle.adf_volume.proofs.SampleEmpty.{tiny_fits}
 use Rattle.adf_volume.proofs.samples.tiny_volume_fits.Goals as goal
 
 pub returns : goal.returns

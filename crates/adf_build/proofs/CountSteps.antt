@@ -1,5 +1,6 @@
 -- Steps of a count of blocks over the entries of a tree.
-use Rattle.std.proofs.Common.{◌≡◌, ◌≤◌, ◌<◌, ℕ, zero, suc, ◌+◌, ◌-◌, ◌^◌, List, [], ◌∷◌, length, drop, min, refl, sym, ap, ◌∙◌, arith, Option, Bor, IsSome, option_copied, Some, None, add-one, false}
+use Rattle.std.proofs.Common.{◌≡◌, ◌≤◌, ◌<◌, ℕ, zero, suc, ◌+◌, ◌-◌, ◌^◌, List, [], ◌∷◌, length, drop, min, refl, sym, ap, ◌∙◌, arith, Option, Bor, IsSome}
+use Rattle.std.proofs.Common.{option_copied, Some, None, add-one, false}
 use Rattle.std.specs.Prelude.{if◌then◌else◌, ◌==◌}
 use Rattle.std.specs.List.{slice_get}
 use Rattle.std.proofs.lemmas.Bool.Decides.{nat_tests}
@@ -45,9 +46,11 @@ pub entry_left : (es : List Entry) (i : ℕ) (e : Entry) → Some e ≡ entry es
 entry_left es i e h = left_is es i e (sym (h ∙ entry-next es i)) ∙ ap (λ k. e ∷ drop k es) (sym (add-one i))
 
 -- one entry more is counted
-pub count_step : (kind : Kind) (es : List Entry) (i sum new need : ℕ) (e : Entry) → Some e ≡ entry es (i + 1) → new ≡ min (sum + entry_blocks kind e) (2 ^ 64 - 1)
+pub count_step : (kind : Kind) (es : List Entry) (i sum new need : ℕ) (e : Entry) → Some e ≡ entry es (i + 1)
+    → new ≡ min (sum + entry_blocks kind e) (2 ^ 64 - 1)
     → min (sum + entries_blocks kind (drop i es)) (2 ^ 64 - 1) ≡ need → min (new + entries_blocks kind (drop (i + 1) es)) (2 ^ 64 - 1) ≡ need
 count_step kind es i sum new need e h f inv =
     let split = left_is es i e (sym (h ∙ entry-next es i)) in
-    let more : entries_blocks kind (drop i es) ≡ entry_blocks kind e + entries_blocks kind (drop (i + 1) es) = ap (entries_blocks kind) split ∙ ap (λ k. entry_blocks kind e + entries_blocks kind (drop k es)) (sym (add-one i)) in
+    let more : entries_blocks kind (drop i es) ≡ entry_blocks kind e + entries_blocks kind (drop (i + 1) es) =
+    ap (entries_blocks kind) split ∙ ap (λ k. entry_blocks kind e + entries_blocks kind (drop k es)) (sym (add-one i)) in
     omega arith

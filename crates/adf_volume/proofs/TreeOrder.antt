@@ -9,8 +9,8 @@ use Rattle.adf_tree.specs.declared.entry.Body.TheVariants.{Dir}
 use Rattle.adf_tree.specs.Tree.{Tree, IsDir, IsTree, AreApart, rank}
 use Rattle.adf_volume.specs.Lists.{At}
 use Rattle.adf_volume.specs.Layout.{EntryAt}
-use Rattle.adf_volume.proofs.Images.{slot_below}
 use Rattle.adf_volume.proofs.Lists.{at_fun, at_below, at_some, at_index_or}
+use Rattle.adf_tree.proofs.Kept.{slot_small}
 
 -- node n is the root, or an entry that is a directory
 abbrev pub DirNode : Tree → ℕ → Type 0
@@ -61,13 +61,16 @@ module _ (t : Tree) (v : IsTree t.entries) where
   order_of (suc i) (suc j) e f h k lt =
       let l : j < length t.entries = at_below t.entries j f k in
       let x : rank (slice_index_or t.entries i e) ≤ rank (slice_index_or t.entries j e) = v.order i j e (omega arith) l in
-      let y : rank e ≤ rank f = subst (λ (g : Entry). rank e ≤ rank g) (at_index_or t.entries j f e k) (subst (λ (g : Entry). rank g ≤ rank (slice_index_or t.entries j e)) (at_index_or t.entries i e e h) x) in
-      rank_below e.parent f.parent (slot_of e.name) (slot_of f.name) y (slot_below e.name) (slot_below f.name)
+      let y : rank e ≤ rank f =
+      subst (λ (g : Entry). rank e ≤ rank g) (at_index_or t.entries j f e k)
+      (subst (λ (g : Entry). rank g ≤ rank (slice_index_or t.entries j e)) (at_index_or t.entries i e e h) x) in
+      rank_below e.parent f.parent (slot_of e.name) (slot_of f.name) y (slot_small e.name) (slot_small f.name)
 
   apart : (i j : ℕ) (e f : Entry) → At t.entries i e → At t.entries j f → i < j → AreApart e f
   apart i j e f h k lt =
       let l : j < length t.entries = at_below t.entries j f k in
-      subst (λ (g : Entry). AreApart e g) (at_index_or t.entries j f e k) (subst (λ (g : Entry). AreApart g (slice_index_or t.entries j e)) (at_index_or t.entries i e e h) (v.names i j e lt l))
+      subst (λ (g : Entry). AreApart e g) (at_index_or t.entries j f e k)
+      (subst (λ (g : Entry). AreApart g (slice_index_or t.entries j e)) (at_index_or t.entries i e e h) (v.names i j e lt l))
 
   names_of : (n m : ℕ) (e f : Entry) → EntryAt t n e → EntryAt t m f → n ≢ m → e.parent ≡ f.parent → uppers e.name ≢ uppers f.name
   names_of zero m e f h k ne p = absurd h
@@ -105,6 +108,9 @@ is_tree_from t o = record {
     rises : (i j : ℕ) (e f : Entry) → At t.entries i e → At t.entries j f → i ≤ j → rank e ≤ rank f
     rises i j e f h k le =
         elim (dec_lt i j) [
-          | yes lt ↦ let x = o.order (suc i) (suc j) e f h k (omega arith) in rank_up e.parent f.parent (slot_of e.name) (slot_of f.name) x.0 x.1 (slot_below e.name)
-          | no lt ↦ let z : e ≡ f = at_fun t.entries i e f h (subst (λ m. At t.entries m f) (omega arith) k) in subst (λ (g : Entry). rank e ≤ rank g) z (omega arith)
+          | yes lt ↦
+              let x = o.order (suc i) (suc j) e f h k (omega arith) in rank_up e.parent f.parent (slot_of e.name) (slot_of f.name) x.0 x.1 (slot_small e.name)
+          | no lt ↦
+              let z : e ≡ f = at_fun t.entries i e f h (subst (λ m. At t.entries m f) (omega arith) k) in
+              subst (λ (g : Entry). rank e ≤ rank g) z (omega arith)
         ]

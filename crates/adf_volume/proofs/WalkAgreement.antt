@@ -1,5 +1,6 @@
 -- Agreement: where a tree and a layout fit, each walk goes along them.
-use Rattle.std.proofs.Common.{◌≡◌, ℕ, zero, suc, List, [], ◌∷◌, inl, inr, ◌+◌, ◌*◌, ◌/◌, ◌<◌, ◌≤◌, ◌≢◌, length, refl, sym, ap, subst, ◌∙◌, arith, map, Bool, true, false, cond}
+use Rattle.std.proofs.Common.{◌≡◌, ℕ, zero, suc, List, inl, inr, ◌+◌, ◌*◌, ◌/◌, ◌<◌, ◌≤◌, ◌≢◌, length, refl, sym, ap, subst, ◌∙◌, arith, map, Bool, true}
+use Rattle.std.proofs.Common.{false, cond}
 use native.Mathlib.Decide.{dec_le}
 use Rattle.adf_volume.specs.Lists.{At}
 use Rattle.adf_volume.specs.Image.{root_of, name_of, DIR, FILE, word_in, map_exts_needed, kind_of, count, held, table_word}
@@ -8,67 +9,54 @@ use Rattle.adf_fields.specs.Hash.{slot_of}
 use Rattle.adf_tree.specs.Texts.{uppers}
 use Rattle.adf_volume.specs.Demands.{AllHold, head_demands, ext_demands, data_demands}
 use Rattle.std.specs.Prelude.{slice_index, nat_lt}
-use Rattle.std.proofs.lemmas.Bool.Decides.{nat_tests}
 use Rattle.adf_tree.specs.declared.entry.Body.{Body}
 use Rattle.adf_tree.specs.declared.entry.Entry.{Entry}
 use Rattle.adf_tree.specs.Tree.{Tree}
-use Rattle.adf_volume.specs.Layout.{EntryAt, chain_nodes, Place, Layout, at_node, exts_at, exts_of, datas_of}
-use Rattle.adf_volume.proofs.Ordered.{DirNode, ordered, is_dir}
+use Rattle.adf_volume.specs.Layout.{EntryAt, chain_nodes, Layout, at_node, exts_of, datas_of}
+use Rattle.adf_volume.proofs.TreeOrder.{DirNode, ordered, is_dir}
 use Rattle.adf_tree.specs.declared.entry.Body.TheVariants.{Dir, File}
 use Rattle.adf_volume.specs.Fits.{Fits, FileFits, BodyFits, TableAt}
-use Rattle.adf_volume.specs.Walk.{Role, second, Before, Same, Has, heads, NodeAt, DirAt, FileAt, MemberAt, NamesPage, data_count, Asks, Lacks, IsDue, ext_count, Enough, NewName, form_demands, node_block, member_block, next_data, NoCause, IsWalk}
+use Rattle.adf_volume.specs.Walk.{Role, Before, Has, heads, DirAt, FileAt, MemberAt, NamesPage, data_count, Asks, Lacks, IsDue, ext_count, Enough, NewName}
+use Rattle.adf_volume.specs.Walk.{form_demands, node_block, member_block, next_data, NoCause, IsWalk}
 use Rattle.adf_volume.specs.Walk.Role.{Root, Page, MapExt, Head, Ext, Data}
 use Rattle.adf_volume.specs.Walk.IsWalk.{start, step}
 use Rattle.adf_volume.specs.Parts.{Part}
-use Rattle.adf_volume.proofs.Images.{slot_below, map_exts_high}
-use Rattle.adf_volume.proofs.Lists.{at_fun, at_below, at_some, at_before, at_map, at_unmap, spelled_first, spelled_next, spelled_word, spelled_link, all_append, at_index, index_past}
-use Rattle.adf_volume.proofs.Trees.{entry_at, entry_below, entry_some, place_at, one_place, sorted_places, chain_rises}
-use Rattle.adf_volume.proofs.Walks.{root_is, root_in, number_of, numbered, dec_has, has_role, same_of, ext_below, asks_number, due_file, node_is, member_is, file_is}
+use Rattle.adf_volume.proofs.Images.{map_exts_high}
+use Rattle.adf_volume.proofs.Lists.{at_fun, at_below, at_some, at_before, at_map, at_unmap, spelled_first, spelled_next, spelled_word, spelled_link}
+use Rattle.adf_volume.proofs.Lists.{all_append, at_index, index_past}
+use Rattle.adf_volume.proofs.Chains.{entry_at, entry_below, entry_some, place_at, one_place, sorted_places, chain_rises}
+use Rattle.adf_volume.proofs.Walks.{root_is, root_in, number_of, numbered, same_of, ext_below, asks_number, due_file, node_is, member_is, file_is}
+use Rattle.adf_volume.proofs.Walks.{dir_is_node, head_key, is_there}
 use Rattle.adf_volume.proofs.Parts.{part_range, one_part}
-
--- a directory has no file's word
-dir_not_file : (image : List ℕ) (h : ℕ) → word_in image h 127 ≡ DIR → word_in image h 127 ≡ FILE → ⊥
-dir_not_file image h d f = let e : DIR ≡ FILE = sym d ∙ f in omega arith
-
-less : (a b : ℕ) → nat_lt a b ≡ true → a < b
-less a b h = grind (arith, nat_tests)
-
-not_less : (a b : ℕ) → nat_lt a b ≡ false → b ≤ a
-not_less a b h = grind (arith, nat_tests)
-
-dir_node : (image : List ℕ) (w : List (Role × ℕ)) (p a : ℕ) → DirAt image w p a → NodeAt w p a
-dir_node image w zero a h = h
-dir_node image w (suc i) a h = h.0
-
-exts_below : (qs : List Place) (i k b : ℕ) → At (exts_at qs i) k b → i < length qs
-exts_below [] i k b h = absurd h
-exts_below (q ∷ qs) zero k b h = omega arith
-exts_below (q ∷ qs) (suc i) k b h = let ih : i < length qs = exts_below qs i k b h in omega arith
+use Rattle.std.proofs.lemmas.Bool.{ltb-false, ltb-true}
+use Rattle.adf_volume.proofs.Places.{exts_below}
+use Rattle.adf_volume.proofs.FormDemands.{dir_not_file}
+use Rattle.adf_tree.proofs.Kept.{slot_small}
 
 module _ (image : List ℕ) (t : Tree) (l : Layout) (fit : Fits image t l) where
   -- a header whose word 127 says directory is a directory's
-  pub dir_of : (n : ℕ) (e : Entry) (b : Body) → b ≡ e.body → BodyFits image t.kind l n (at_node image l n) b → word_in image (at_node image l n) 127 ≡ DIR → e.body ≡ Dir
+  pub dir_of : (n : ℕ) (e : Entry) (b : Body) → b ≡ e.body → BodyFits image t.kind l n (at_node image l n) b → word_in image (at_node image l n) 127 ≡ DIR
+      → e.body ≡ Dir
   dir_of n e Dir z f d = sym z
   dir_of n e (File bytes) z f d = absurd (dir_not_file image (at_node image l n) d f.0)
 
-  pub dir_word : (n : ℕ) (e : Entry) (b : Body) → b ≡ e.body → BodyFits image t.kind l n (at_node image l n) b → e.body ≡ Dir → word_in image (at_node image l n) 127 ≡ DIR
+  pub dir_word : (n : ℕ) (e : Entry) (b : Body) → b ≡ e.body → BodyFits image t.kind l n (at_node image l n) b → e.body ≡ Dir
+      → word_in image (at_node image l n) 127 ≡ DIR
   dir_word n e Dir z f d = f.0
   dir_word n e (File bytes) z f d = let k : File bytes ≡ Dir = z ∙ d in cc
 
-  pub file_of : (n : ℕ) (e : Entry) (b : Body) → b ≡ e.body → BodyFits image t.kind l n (at_node image l n) b → word_in image (at_node image l n) 127 ≡ FILE → (bytes : List ℕ) × (e.body ≡ File bytes) × (length bytes ≡ word_in image (at_node image l n) 81)
+  pub file_of : (n : ℕ) (e : Entry) (b : Body) → b ≡ e.body → BodyFits image t.kind l n (at_node image l n) b → word_in image (at_node image l n) 127 ≡ FILE
+      → (bytes : List ℕ) × (e.body ≡ File bytes) × (length bytes ≡ word_in image (at_node image l n) 81)
   file_of n e Dir z f d = absurd (dir_not_file image (at_node image l n) f.0 d)
   file_of n e (File bytes) z f d = (bytes, sym z, f.2)
 
-  pub no_exts : (n : ℕ) (e : Entry) (b : Body) (k x : ℕ) → b ≡ e.body → BodyFits image t.kind l n (at_node image l n) b → At (exts_of l n) k x → (bytes : List ℕ) × (e.body ≡ File bytes)
+  pub no_exts : (n : ℕ) (e : Entry) (b : Body) (k x : ℕ) → b ≡ e.body → BodyFits image t.kind l n (at_node image l n) b → At (exts_of l n) k x
+      → (bytes : List ℕ) × (e.body ≡ File bytes)
   no_exts n e Dir k x z f a = absurd (subst (λ xs. At xs k x) f.1 a)
   no_exts n e (File bytes) k x z f a = (bytes, sym z)
 
   -- the walk so far goes along the tree
   module _ (w : List (Role × ℕ)) (v : IsWalk image w) (ag : (r : Role) (b : ℕ) → Has w r b → Part image t l r b) where
-    pub node_agrees : (p a : ℕ) → NodeAt w p a → at_node image l p ≡ a
-    node_agrees zero a h = root_is image w a v h
-    node_agrees (suc i) a h = (ag (Head (suc i) h.0 h.1 h.2) a h.3).1
-
     pub dir_agrees : (p a : ℕ) → DirAt image w p a → DirNode t p × (at_node image l p ≡ a)
     dir_agrees zero a h = (tt, root_is image w a v h)
     dir_agrees (suc i) a h =
@@ -78,7 +66,8 @@ module _ (image : List ℕ) (t : Tree) (l : Layout) (fit : Fits image t l) where
         let d : word_in image (at_node image l (suc i)) 127 ≡ DIR = ap (λ b. word_in image b 127) q.1 ∙ h.1 in
         ((e.0, e.1, dir_of (suc i) e.0 e.0.body refl (fit.entries (suc i) e.0 e.1).body d), q.1)
 
-    pub file_agrees : (n a : ℕ) → FileAt image w n a → (e : Entry) × (bytes : List ℕ) × EntryAt t n e × (e.body ≡ File bytes) × (length bytes ≡ word_in image a 81) × (at_node image l n ≡ a)
+    pub file_agrees : (n a : ℕ) → FileAt image w n a
+        → (e : Entry) × (bytes : List ℕ) × EntryAt t n e × (e.body ≡ File bytes) × (length bytes ≡ word_in image a 81) × (at_node image l n ≡ a)
     file_agrees n a h =
         let k = h.0 in
         let q = ag (Head n k.0 k.1 k.2) a k.3 in
@@ -120,11 +109,12 @@ module _ (image : List ℕ) (t : Tree) (l : Layout) (fit : Fits image t l) where
         let y : slot_of e.0.name ≡ s = e.3 in
         let u1 : e.0.parent < n = up.0 in
         let d : DirNode t p = subst (λ p. DirNode t p) x up.1 in
-        let below : slot_of e.0.name < 72 = slot_below e.0.name in
+        let below : slot_of e.0.name < 72 = slot_small e.0.name in
         let s1 : s < 72 = omega arith in
         let sp = fit.chains p s (is_dir t p d) s1 in
         let named : word_in image (at_node image l p) (6 + s) ≡ at_node image l n =
-        spelled_word (λ b. word_in image b 124) (word_in image (at_node image l p) (6 + s)) (map (at_node image l) (chain_nodes t p s)) (at_node image l n) sp (at_map (at_node image l) (chain_nodes t p s) 0 n h) in
+        spelled_word (λ b. word_in image b 124) (word_in image (at_node image l p) (6 + s)) (map (at_node image l) (chain_nodes t p s)) (at_node image l n)
+        sp (at_map (at_node image l) (chain_nodes t p s) 0 n h) in
         let r = part_range image t l fit (Head n p s 0) (at_node image l n) (h, refl) in
         let r1 : 2 ≤ at_node image l n = r.0 in
         (at_node image l p, 6 + s, (u, s1, has_dir p (omega arith) d, refl, (λ z. let k : at_node image l n ≡ 0 = sym named ∙ z in omega arith)))
@@ -134,7 +124,7 @@ module _ (image : List ℕ) (t : Tree) (l : Layout) (fit : Fits image t l) where
         let e = entry_at t p s (suc j) n h in
         let up = (ordered t fit.tree).parents n e.0 e.1 in
         let d : DirNode t p = subst (λ p. DirNode t p) e.2 up.1 in
-        let below : slot_of e.0.name < 72 = slot_below e.0.name in
+        let below : slot_of e.0.name < 72 = slot_small e.0.name in
         let y : slot_of e.0.name ≡ s = e.3 in
         let s1 : s < 72 = omega arith in
         let sp = fit.chains p s (is_dir t p d) s1 in
@@ -142,23 +132,12 @@ module _ (image : List ℕ) (t : Tree) (l : Layout) (fit : Fits image t l) where
         let k = has_node p s j m b.1 (omega arith) in
         let z : at_node image l m ≡ k.0 = (ag (Head m p s j) k.0 k.1).1 in
         let named : word_in image (at_node image l m) 124 ≡ at_node image l n =
-        spelled_link (λ b. word_in image b 124) (word_in image (at_node image l p) (6 + s)) (map (at_node image l) (chain_nodes t p s)) j (at_node image l m) (at_node image l n) sp
+        spelled_link (λ b. word_in image b 124) (word_in image (at_node image l p) (6 + s)) (map (at_node image l) (chain_nodes t p s)) j
+        (at_node image l m) (at_node image l n) sp
         (at_map (at_node image l) (chain_nodes t p s) j m b.1) (at_map (at_node image l) (chain_nodes t p s) (suc j) n h) in
         let r = part_range image t l fit (Head n p s (suc j)) (at_node image l n) (h, refl) in
         let r1 : 2 ≤ at_node image l n = r.0 in
         (k.0, 124, (u, (m, k.1), refl, (λ q. let x : at_node image l n ≡ 0 = sym named ∙ (ap (λ b. word_in image b 124) z ∙ q) in omega arith)))
-
-    -- only a header has a header's key
-    pub same_head : (n p s j m : ℕ) (q : Role) → Same q (Head n p s j) → (m : ℕ) × (q ≡ Head m p s j)
-    same_head n p s j m Root h = absurd (omega arith)
-    same_head n p s j m (Page k) h = absurd (omega arith)
-    same_head n p s j m (MapExt k) h = absurd (omega arith)
-    same_head n p s j m (Ext x k) h = absurd (omega arith)
-    same_head n p s j m (Data x k) h = absurd (omega arith)
-    same_head n p s j m (Head x y z k) h =
-        let a : y ≡ p = omega arith in let b : z ≡ s = omega arith in let c : k ≡ j = omega arith in
-        let e : Head x y z k ≡ Head x p s j = cc in
-        (x, e)
 
     -- what is due in a chain is the tree's next node
     number_agrees : (p s j n m a i : ℕ) → IsDue image w (Head n p s j) a i → n ≡ suc (heads w) → At (chain_nodes t p s) j m → m ≡ n
@@ -177,7 +156,7 @@ module _ (image : List ℕ) (t : Tree) (l : Layout) (fit : Fits image t l) where
                 let ask = asks_next e.0.parent (slot_of e.0.name) q.0 n q.1 u in
                 let lack : Lacks w (Head n e.0.parent (slot_of e.0.name) q.0) =
                 (λ r b has same.
-                let z = same_head n e.0.parent (slot_of e.0.name) q.0 n r same in
+                let z = head_key n e.0.parent (slot_of e.0.name) q.0 r same in
                 let has' : Has w (Head z.0 e.0.parent (slot_of e.0.name) q.0) b = subst (λ r. Has w r b) z.1 has in
                 let pt = ag (Head z.0 e.0.parent (slot_of e.0.name) q.0) b has' in
                 let f : z.0 ≡ n = at_fun (chain_nodes t e.0.parent (slot_of e.0.name)) q.0 z.0 n pt.0 q.1 in
@@ -240,7 +219,8 @@ module _ (image : List ℕ) (t : Tree) (l : Layout) (fit : Fits image t l) where
         let z : word_in image (at_node image l p) (6 + s) ≡ word_in image a i = ap (λ a. word_in image a (6 + s)) g.1 ∙ ap (word_in image a) (sym q.3) in
         let sp = fit.chains p s (is_dir t p g.0) q.1 in
         let x : At (map (at_node image l) (chain_nodes t p s)) 0 (word_in image (at_node image l p) (6 + s)) =
-        spelled_first (λ b. word_in image b 124) (word_in image (at_node image l p) (6 + s)) (map (at_node image l) (chain_nodes t p s)) sp (λ y. q.4 (sym z ∙ y)) in
+        spelled_first (λ b. word_in image b 124) (word_in image (at_node image l p) (6 + s)) (map (at_node image l) (chain_nodes t p s)) sp
+        (λ y. q.4 (sym z ∙ y)) in
         let m = at_unmap (at_node image l) (chain_nodes t p s) 0 (word_in image (at_node image l p) (6 + s)) x in
         let e : m.0 ≡ n = number_agrees p s 0 n m.0 a i d q.0 m.1 in
         (subst (At (chain_nodes t p s) 0) e m.1, ap (at_node image l) (sym e) ∙ m.2 ∙ z)
@@ -250,12 +230,13 @@ module _ (image : List ℕ) (t : Tree) (l : Layout) (fit : Fits image t l) where
         let pt = ag (Head y.0 p s j) a y.1 in
         let e = entry_at t p s j y.0 pt.0 in
         let dir : DirNode t p = subst (DirNode t) e.2 ((ordered t fit.tree).parents y.0 e.0 e.1).1 in
-        let below : slot_of e.0.name < 72 = slot_below e.0.name in
+        let below : slot_of e.0.name < 72 = slot_small e.0.name in
         let s0 : slot_of e.0.name ≡ s = e.3 in
         let sp = fit.chains p s (is_dir t p dir) (omega arith) in
         let z : word_in image (at_node image l y.0) 124 ≡ word_in image a i = ap (λ a. word_in image a 124) pt.1 ∙ ap (word_in image a) (sym q.2) in
         let x : At (map (at_node image l) (chain_nodes t p s)) (suc j) (word_in image (at_node image l y.0) 124) =
-        spelled_next (λ b. word_in image b 124) (word_in image (at_node image l p) (6 + s)) (map (at_node image l) (chain_nodes t p s)) j (at_node image l y.0) sp
+        spelled_next (λ b. word_in image b 124) (word_in image (at_node image l p) (6 + s)) (map (at_node image l) (chain_nodes t p s)) j
+        (at_node image l y.0) sp
         (at_map (at_node image l) (chain_nodes t p s) j y.0 pt.0) (λ k. q.3 (sym z ∙ k)) in
         let m = at_unmap (at_node image l) (chain_nodes t p s) (suc j) (word_in image (at_node image l y.0) 124) x in
         let f : m.0 ≡ n = number_agrees p s (suc j) n m.0 a i d q.0 m.1 in
@@ -266,14 +247,16 @@ module _ (image : List ℕ) (t : Tree) (l : Layout) (fit : Fits image t l) where
         let f = file_agrees n a q.0 in
         let ff = fit.files n f.0 f.1 f.2 f.3 in
         let z : word_in image (at_node image l n) 126 ≡ word_in image a i = ap (λ a. word_in image a 126) f.5 ∙ ap (word_in image a) (sym q.1) in
-        subst (At (exts_of l n) 0) z (spelled_first (λ b. word_in image b 126) (word_in image (at_node image l n) 126) (exts_of l n) ff.exts (λ k. q.2 (sym z ∙ k)))
+        subst (At (exts_of l n) 0) z (spelled_first (λ b. word_in image b 126) (word_in image (at_node image l n) 126) (exts_of l n) ff.exts
+        (λ k. q.2 (sym z ∙ k)))
     due_part (Ext n (suc (suc k))) a i d =
         let q = d.asked in
         let h : At (exts_of l n) k a = ag (Ext n (suc k)) a q.0 in
         let f = is_file n k a h in
         let ff = fit.files n f.0 f.1 f.2 f.3 in
         let z : word_in image a 126 ≡ word_in image a i = ap (word_in image a) (sym q.1) in
-        subst (At (exts_of l n) (suc k)) z (spelled_next (λ b. word_in image b 126) (word_in image (at_node image l n) 126) (exts_of l n) k a ff.exts h (λ y. q.2 (sym z ∙ y)))
+        subst (At (exts_of l n) (suc k)) z (spelled_next (λ b. word_in image b 126) (word_in image (at_node image l n) 126) (exts_of l n) k a ff.exts h
+        (λ y. q.2 (sym z ∙ y)))
     due_part (Data n zero) a i d = absurd d.asked
     due_part (Data n (suc k)) a i d =
         let q = d.asked in
@@ -290,29 +273,20 @@ module _ (image : List ℕ) (t : Tree) (l : Layout) (fit : Fits image t l) where
     pub file_block : (n h a : ℕ) → FileAt image w n h → at_node image l n ≡ h
     file_block n h a f = (file_agrees n h f).5
 
-    -- what is asked for and comes before what is due is there
-    is_there : (q r : Role) (a i c k : ℕ) → IsDue image w r a i → Asks image w q c k → Before q r → ((n m p s j : ℕ) → q ≡ Head n p s j → ⊥) → (b : ℕ) × Has w q b
-    is_there q r a i c k d ask bef nohead =
-        elim (dec_has w q) [
-          | inr y ↦ (y.1, has_role image w q (λ n p s j z. nohead n n p s j z) y.0 y.1 y.2 y.3)
-          | inl y ↦ absurd (d.least q c k ask y bef)
-        ]
-
-    ext_no_head : (n k : ℕ) → (x m p s j : ℕ) → Ext n k ≡ Head x p s j → ⊥
-    ext_no_head n k x m p s j z = let y : second (Ext n k) ≡ second (Head x p s j) = ap second z in omega arith
-
     -- a file's extension blocks are all there when its first data block is due
-    has_exts : (n d0 a i h : ℕ) → IsDue image w (Data n (suc d0)) a i → FileAt image w n h → (k : ℕ) → k < length (exts_of l n) → (b : ℕ) × Has w (Ext n (suc k)) b
+    has_exts : (n d0 a i h : ℕ) → IsDue image w (Data n (suc d0)) a i → FileAt image w n h → (k : ℕ) → k < length (exts_of l n)
+        → (b : ℕ) × Has w (Ext n (suc k)) b
     has_exts n d0 a i h d f zero u =
         let e = at_some (exts_of l n) 0 u in
         let g = is_file n 0 e.0 e.1 in
         let ff = fit.files n g.0 g.1 g.2 g.3 in
         let rg : 2 ≤ e.0 = (part_range image t l fit (Ext n 1) e.0 e.1).0 in
         let z : at_node image l n ≡ h = file_block n h a f in
-        let y : word_in image (at_node image l n) 126 ≡ e.0 = spelled_word (λ b. word_in image b 126) (word_in image (at_node image l n) 126) (exts_of l n) e.0 ff.exts e.1 in
-        is_there (Ext n 1) (Data n (suc d0)) a i h 126 d
+        let y : word_in image (at_node image l n) 126 ≡ e.0 =
+        spelled_word (λ b. word_in image b 126) (word_in image (at_node image l n) 126) (exts_of l n) e.0 ff.exts e.1 in
+        is_there image w (Ext n 1) (Data n (suc d0)) a i h 126 d
         (f, refl, (λ x. let o : e.0 ≡ 0 = sym y ∙ ap (λ a. word_in image a 126) z ∙ x in omega arith))
-        (omega arith, (λ z. omega arith), (λ z y. omega arith)) (ext_no_head n 1)
+        (omega arith, (λ z. omega arith), (λ z y. omega arith)) (omega arith)
     has_exts n d0 a i h d f (suc k) u =
         let x = has_exts n d0 a i h d f k (omega arith) in
         let px : At (exts_of l n) k x.0 = ag (Ext n (suc k)) x.0 x.1 in
@@ -320,17 +294,13 @@ module _ (image : List ℕ) (t : Tree) (l : Layout) (fit : Fits image t l) where
         let g = is_file n (suc k) e.0 e.1 in
         let ff = fit.files n g.0 g.1 g.2 g.3 in
         let rg : 2 ≤ e.0 = (part_range image t l fit (Ext n (suc (suc k))) e.0 e.1).0 in
-        let y : word_in image x.0 126 ≡ e.0 = spelled_link (λ b. word_in image b 126) (word_in image (at_node image l n) 126) (exts_of l n) k x.0 e.0 ff.exts px e.1 in
-        is_there (Ext n (suc (suc k))) (Data n (suc d0)) a i x.0 126 d
+        let y : word_in image x.0 126 ≡ e.0 =
+        spelled_link (λ b. word_in image b 126) (word_in image (at_node image l n) 126) (exts_of l n) k x.0 e.0 ff.exts px e.1 in
+        is_there image w (Ext n (suc (suc k))) (Data n (suc d0)) a i x.0 126 d
         (x.1, refl, (λ z. let o : e.0 ≡ 0 = sym y ∙ z in omega arith))
-        (omega arith, (λ z. omega arith), (λ z y. omega arith)) (ext_no_head n (suc (suc k)))
+        (omega arith, (λ z. omega arith), (λ z y. omega arith)) (omega arith)
 
     enough_due : (r : Role) (a i : ℕ) → IsDue image w r a i → Enough image w r
-    enough_due Root a i d = tt
-    enough_due (Page k) a i d = tt
-    enough_due (MapExt k) a i d = tt
-    enough_due (Head n p s j) a i d = tt
-    enough_due (Ext n k) a i d = tt
     enough_due (Data n k) a i d = λ e h f.
         let d' : IsDue image w (Data n 1) a i = subst (λ k. IsDue image w (Data n k) a i) e d in
         let g = file_agrees n h f in
@@ -344,17 +314,19 @@ module _ (image : List ℕ) (t : Tree) (l : Layout) (fit : Fits image t l) where
               let z : ext_count w n < ext_count w n = ext_below image v n (ext_count w n) x.0 x.1 in
               omega arith
         ]
+    enough_due _ a i d = tt
 
     table_there : (n d0 a i h m : ℕ) → IsDue image w (Data n (suc d0)) a i → FileAt image w n h → m ≤ length (exts_of l n) → (c : ℕ) × MemberAt image w n m c
     table_there n d0 a i h zero d f u = (h, f)
     table_there n d0 a i h (suc m) d f u = has_exts n d0 a i h d f m (omega arith)
 
     -- what the table has for the next data block is the layout's next data block
-    next_agrees : (n k a i h : ℕ) (bytes : List ℕ) → IsDue image w (Data n (suc k)) a i → FileAt image w n h → FileFits image t l n (at_node image l n) bytes → count t.kind (length bytes) ≡ data_count image (node_block w n) →
+    next_agrees : (n k a i h : ℕ) (bytes : List ℕ) → IsDue image w (Data n (suc k)) a i → FileAt image w n h → FileFits image t l n (at_node image l n) bytes
+        → count t.kind (length bytes) ≡ data_count image (node_block w n) →
         (x : Bool) → nat_lt (suc k) (data_count image (node_block w n)) ≡ x → k < length (datas_of l n) →
         cond x (word_in image (member_block w n (suc k / 72)) (table_word (suc k))) 0 ≡ slice_index (datas_of l n) (suc k)
     next_agrees n k a i h bytes d f ff c true z u =
-        let lt : suc k < data_count image (node_block w n) = less (suc k) (data_count image (node_block w n)) z in
+        let lt : suc k < data_count image (node_block w n) = ltb-true (suc k) (data_count image (node_block w n)) z in
         let len : length (datas_of l n) ≡ count t.kind (length bytes) = ff.datas in
         let en : count t.kind (length bytes) ≤ 72 * suc (length (exts_of l n)) = ff.enough in
         let m = table_there n k a i h (suc k / 72) d f (omega arith) in
@@ -363,7 +335,7 @@ module _ (image : List ℕ) (t : Tree) (l : Layout) (fit : Fits image t l) where
         ∙ ff.named (suc k) e.0 m.0 e.1 (member_agrees n (suc k / 72) m.0 m.1)
         ∙ sym (at_index (datas_of l n) (suc k) e.0 e.1)
     next_agrees n k a i h bytes d f ff c false z u =
-        let ge : data_count image (node_block w n) ≤ suc k = not_less (suc k) (data_count image (node_block w n)) z in
+        let ge : data_count image (node_block w n) ≤ suc k = ltb-false (suc k) (data_count image (node_block w n)) z in
         let len : length (datas_of l n) ≡ count t.kind (length bytes) = ff.datas in
         sym (index_past (datas_of l n) (suc k) (omega arith))
 
@@ -375,7 +347,9 @@ module _ (image : List ℕ) (t : Tree) (l : Layout) (fit : Fits image t l) where
         let up = (ordered t fit.tree).parents n e.0 e.1 in
         let u1 : e.0.parent < n = up.0 in
         let dir = has_dir e.0.parent (omega arith) up.1 in
-        let z : at_node image l e.0.parent ≡ node_block w p = sym (node_is image w e.0.parent (at_node image l e.0.parent) v (dir_node image w e.0.parent (at_node image l e.0.parent) dir)) ∙ ap (node_block w) e.2 in
+        let z : at_node image l e.0.parent ≡ node_block w p =
+        sym (node_is image w e.0.parent (at_node image l e.0.parent) v (dir_is_node image w e.0.parent (at_node image l e.0.parent) dir))
+        ∙ ap (node_block w) e.2 in
         subst (λ k. AllHold (head_demands image k b (node_block w p) s)) fit.kind
         (subst (λ b. AllHold (head_demands image t.kind b (node_block w p) s)) h.1
         (subst (λ c. AllHold (head_demands image t.kind (at_node image l n) c s)) z
@@ -401,8 +375,10 @@ module _ (image : List ℕ) (t : Tree) (l : Layout) (fit : Fits image t l) where
         let next : next_data image w n (suc k) ≡ slice_index (datas_of l n) (suc k) =
         next_agrees n k a i f.0 g.1 d f.1 ff c (nat_lt (suc k) (data_count image (node_block w n))) refl (at_below (datas_of l n) k b h) in
         let y = ff.data_form k b h in
-        subst (λ x. AllHold (data_demands image (kind_of image) b (node_block w n) (suc k) (held (kind_of image) (word_in image (node_block w n) 81) (suc k)) x)) (sym next)
-        (subst (λ z. AllHold (data_demands image (kind_of image) b (node_block w n) (suc k) (held (kind_of image) z (suc k)) (slice_index (datas_of l n) (suc k)))) size
+        subst (λ x. AllHold (data_demands image (kind_of image) b (node_block w n) (suc k)
+        (held (kind_of image) (word_in image (node_block w n) 81) (suc k)) x)) (sym next)
+        (subst (λ z. AllHold (data_demands image (kind_of image) b (node_block w n) (suc k) (held (kind_of image) z (suc k))
+        (slice_index (datas_of l n) (suc k)))) size
         (subst (λ y. AllHold (data_demands image y b (node_block w n) (suc k) (held y (length g.1) (suc k)) (slice_index (datas_of l n) (suc k)))) fit.kind
         (subst (λ h. AllHold (data_demands image t.kind b h (suc k) (held t.kind (length g.1) (suc k)) (slice_index (datas_of l n) (suc k)))) z y)))
 
@@ -417,11 +393,6 @@ module _ (image : List ℕ) (t : Tree) (l : Layout) (fit : Fits image t l) where
     form_due (Data n (suc k)) a i b d h = data_form n k a i b d h
 
     new_due : (r : Role) (a i b : ℕ) → IsDue image w r a i → Part image t l r b → NewName image w r b
-    new_due Root a i b d h = tt
-    new_due (Page k) a i b d h = tt
-    new_due (MapExt k) a i b d h = tt
-    new_due (Ext n k) a i b d h = tt
-    new_due (Data n k) a i b d h = tt
     new_due (Head n p s j) a i b d h = λ m k c has eq.
         let u : n ≡ suc (heads w) = asks_number image w n p s j a i d.asked in
         let pt = ag (Head m p s k) c has in
@@ -431,6 +402,7 @@ module _ (image : List ℕ) (t : Tree) (l : Layout) (fit : Fits image t l) where
         let ne : n ≢ m = omega arith in
         (ordered t fit.tree).names n m e.0 f.0 e.1 f.1 ne (e.2 ∙ sym f.2)
         (ap uppers ((fit.entries n e.0 e.1).name ∙ ap (name_of image) h.1) ∙ sym eq ∙ sym (ap uppers ((fit.entries m f.0 f.1).name ∙ ap (name_of image) pt.1)))
+    new_due _ a i b d h = tt
 
     -- agreement, one step: what is due has no cause
     due_fine : (r : Role) (a i : ℕ) → IsDue image w r a i → NoCause image w r a (word_in image a i)
@@ -458,5 +430,6 @@ module _ (image : List ℕ) (t : Tree) (l : Layout) (fit : Fits image t l) where
   pub agreement : (w : List (Role × ℕ)) (r : Role) (b : ℕ) → IsWalk image w → Has w r b → Part image t l r b
   agreement w r b v h = agrees v r b h
 
-  pub due_is_part : (w : List (Role × ℕ)) (r : Role) (a i : ℕ) → IsWalk image w → IsDue image w r a i → Part image t l r (word_in image a i) × NoCause image w r a (word_in image a i)
+  pub due_is_part : (w : List (Role × ℕ)) (r : Role) (a i : ℕ) → IsWalk image w → IsDue image w r a i
+      → Part image t l r (word_in image a i) × NoCause image w r a (word_in image a i)
   due_is_part w r a i v d = (due_part w v (agrees v) r a i d, due_fine w v (agrees v) r a i d)

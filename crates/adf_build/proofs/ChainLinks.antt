@@ -5,8 +5,8 @@ use Rattle.adf_tree.specs.declared.entry.Entry.{Entry}
 use Rattle.adf_tree.specs.Chain.{in_chain}
 use Rattle.adf_volume.specs.Lists.{Spelled}
 use Rattle.adf_volume.specs.Layout.{nodes_from}
-use Rattle.adf_volume.proofs.Trees.{test_tells}
 use Rattle.adf_build.specs.Laid.{first_block}
+use Rattle.adf_volume.proofs.Comparisons.{both_equal}
 
 -- what a link word of each member must be, so that the chain is spelled
 abbrev pub Links : (ℕ → ℕ) → (ℕ → ℕ) → ℕ → List Entry → Type 0
@@ -14,15 +14,19 @@ Links link at n [] = Unit {0}
 Links link at n (e ∷ es) = (link (at n) ≡ first_block at (nodes_from (suc n) es e.parent (slot_of e.name))) × Links link at (suc n) es
 
 -- each chain is spelled
-pub spelled_chain : (link at : ℕ → ℕ) (n : ℕ) (es : List Entry) (p s : ℕ) → Links link at n es → Spelled link (first_block at (nodes_from n es p s)) (map at (nodes_from n es p s))
+pub spelled_chain : (link at : ℕ → ℕ) (n : ℕ) (es : List Entry) (p s : ℕ) → Links link at n es
+    → Spelled link (first_block at (nodes_from n es p s)) (map at (nodes_from n es p s))
 spelled_chain link at n [] p s h = refl
 spelled_chain link at n (e ∷ es) p s h =
-    put (in_chain p s e) (test_tells e.parent p (slot_of e.name) s) (spelled_chain link at (suc n) es p s h.1)
+    put (in_chain p s e) (both_equal e.parent p (slot_of e.name) s) (spelled_chain link at (suc n) es p s h.1)
   where
-    put : (t : Bool) → (t ≡ true → (e.parent ≡ p) × ((slot_of e.name) ≡ s)) → Spelled link (first_block at (nodes_from (suc n) es p s)) (map at (nodes_from (suc n) es p s))
-        → Spelled link (first_block at (cond t (n ∷ nodes_from (suc n) es p s) (nodes_from (suc n) es p s))) (map at (cond t (n ∷ nodes_from (suc n) es p s) (nodes_from (suc n) es p s)))
+    put : (t : Bool) → (t ≡ true → (e.parent ≡ p) × ((slot_of e.name) ≡ s))
+        → Spelled link (first_block at (nodes_from (suc n) es p s)) (map at (nodes_from (suc n) es p s))
+        → Spelled link (first_block at (cond t (n ∷ nodes_from (suc n) es p s) (nodes_from (suc n) es p s)))
+        (map at (cond t (n ∷ nodes_from (suc n) es p s) (nodes_from (suc n) es p s)))
     put true f ih =
         let q = f refl in
-        let w : link (at n) ≡ first_block at (nodes_from (suc n) es p s) = h.0 ∙ ap (λ p. first_block at (nodes_from (suc n) es p (slot_of e.name))) q.0 ∙ ap (λ s. first_block at (nodes_from (suc n) es p s)) q.1 in
+        let w : link (at n) ≡ first_block at (nodes_from (suc n) es p s) =
+        h.0 ∙ ap (λ p. first_block at (nodes_from (suc n) es p (slot_of e.name))) q.0 ∙ ap (λ s. first_block at (nodes_from (suc n) es p s)) q.1 in
         (refl, subst (λ w. Spelled link w (map at (nodes_from (suc n) es p s))) (sym w) ih)
     put false f ih = ih

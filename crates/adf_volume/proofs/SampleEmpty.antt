@@ -3,7 +3,6 @@ use Rattle.std.proofs.Common.{◌≡◌, ℕ, zero, suc, inl, inr, ◌+◌, ◌-
 use Rattle.adf_fields.specs.Words.{block, word, words}
 use Rattle.adf_tree.specs.declared.entry.Entry.{Entry}
 use Rattle.adf_tree.specs.Tree.{Tree, IsDir}
-use Rattle.adf_blocks.specs.Sizes.{blocks}
 use Rattle.adf_volume.specs.declared.owner.Owner.{Owner}
 use Rattle.adf_volume.specs.Lists.{At, In, NoBlockTwice}
 use Rattle.adf_volume.specs.Image.{word_in, root_of, kind_of, label_of, stamps_of, map_exts_needed, IsFreeAt}
@@ -34,10 +33,6 @@ tiny_is_root = (refl, (refl, (refl, (refl, (refl, tt)))))
 tiny_is_page : AllHold (page_demands tiny 3)
 unfolding tiny tiny_root block word words
 tiny_is_page = (refl, tt)
-
-tiny_size : blocks tiny ≡ 4
-unfolding tiny tiny_root
-tiny_size = refl
 
 no_dir : (p : ℕ) → IsDir tiny_tree.entries p → p ≡ 0
 no_dir zero h = refl

@@ -4,20 +4,22 @@ use native.Mathlib.Decide.{ℕ_discrete}
 use Rattle.adf_volume.specs.Image.{root_of}
 use Rattle.adf_blocks.specs.Sizes.{blocks}
 use Rattle.adf_volume.specs.Demands.{AllHold, boot_demands, root_demands}
-use Rattle.adf_volume.proofs.Ordered.{dir_node, is_tree_from}
+use Rattle.adf_volume.proofs.TreeOrder.{dir_node, is_tree_from}
 use Rattle.adf_volume.specs.Fits.{Fits, FileFits}
 use Rattle.adf_volume.specs.Walk.{Role, IsAbsent, IsFreeIn, bitmap_demands, IsWalk, IsWhole}
 use Rattle.adf_volume.specs.Walk.Role.{Page, MapExt}
 use Rattle.adf_volume.specs.Made.{tree_in, layout_in}
 use Rattle.adf_volume.specs.Parts.{owner_of}
-use Rattle.adf_volume.proofs.Images.{four_blocks}
-use Rattle.adf_volume.proofs.Kept.{kept, in_range}
-use Rattle.adf_volume.proofs.Made.{entries_length, places_length, page_has, has_page, has_map_ext}
-use Rattle.adf_volume.proofs.Sound.{chains_spelled, content_long, entry_fits, ext_names, file_at, file_fits, is_tree, map_ext_next, map_exts_length, pages_length, root_names}
-use Rattle.adf_volume.proofs.OwnedIn.{is_owned, owned_has, once}
+use Rattle.adf_volume.proofs.MemberFacts.{kept, in_range}
+use Rattle.adf_volume.proofs.WalkMembers.{entries_length, places_length, page_has, has_page, has_map_ext}
+use Rattle.adf_volume.proofs.WholeWalks.{chains_spelled, content_long, entry_fits, ext_names, file_at, file_fits, is_tree, map_ext_next, map_exts_length}
+use Rattle.adf_volume.proofs.WholeWalks.{pages_length, root_names}
+use Rattle.adf_volume.proofs.WalkOwners.{is_owned, owned_has, once}
+use Rattle.adf_volume.proofs.Sizes.{size_low}
 
 module _ (image : List ℕ) (w : List (Role × ℕ)) (v : IsWalk image w) (whole : IsWhole image w) (boots : AllHold (boot_demands image)) where
-  bitmap_at : (b0 n b : ℕ) → AllHold (bitmap_demands image w b0 n) → b0 ≤ b → b < b0 + n → (IsAbsent w b → IsFreeIn image w b) × (IsFreeIn image w b → IsAbsent w b)
+  bitmap_at : (b0 n b : ℕ) → AllHold (bitmap_demands image w b0 n) → b0 ≤ b → b < b0 + n
+      → (IsAbsent w b → IsFreeIn image w b) × (IsFreeIn image w b → IsAbsent w b)
   bitmap_at b0 zero b h lo hi = absurd (omega arith)
   bitmap_at b0 (suc n) b h lo hi =
       elim (ℕ_discrete b0 b) [
@@ -47,11 +49,12 @@ module _ (image : List ℕ) (w : List (Role × ℕ)) (v : IsWalk image w) (whole
     chains = (λ p s d lt. (chains_spelled image w v whole) p s (dir_node (tree_in image w) p d) lt);
     files = (λ n e bytes h f.
         let x = file_at image w v whole n e bytes h f in
-        subst (λ h. FileFits image (tree_in image w) (layout_in w) n h bytes) (sym x.3) (file_fits image w v whole n x.0 bytes x.1 (ap length x.2 ∙ (content_long image w v whole boots) n x.0 x.1)));
+        subst (λ h. FileFits image (tree_in image w) (layout_in w) n h bytes) (sym x.3)
+        (file_fits image w v whole n x.0 bytes x.1 (ap length x.2 ∙ (content_long image w v whole boots) n x.0 x.1)));
     once = once image w v whole;
-    range = (λ o b h. let r = owned_has image w v whole o b h in in_range image v (four_blocks (blocks image) boots.0.1) r.0 b r.1);
+    range = (λ o b h. let r = owned_has image w v whole o b h in in_range image v (size_low (blocks image) boots.0.1) r.0 b r.1);
     bitmap = (λ b lo hi.
-        let s2 : 4 ≤ blocks image = (four_blocks (blocks image) boots.0.1) in
+        let s2 : 4 ≤ blocks image = (size_low (blocks image) boots.0.1) in
         let x = bitmap_at 2 (blocks image - 2) b bits lo (omega arith) in (
           (λ f o i. let r = owned_has image w v whole o b i in x.1 (f.0, has_page image w v ((b - 2) / 4064) f.0 f.1, f.2) r.0 r.1),
           (λ f. let y = x.0 (λ q h. f (owner_of q) (is_owned image w v whole q b h)) in (y.0, page_has image w v ((b - 2) / 4064) y.0 y.1, y.2)),

@@ -6,7 +6,7 @@ use Rattle.adf_tree.specs.declared.entry.Body.TheVariants.{Dir, File}
 use Rattle.adf_tree.specs.declared.entry.Entry.{Entry}
 use Rattle.adf_volume.specs.Lists.{In}
 use Rattle.adf_volume.specs.Image.{count}
-use Rattle.adf_volume.proofs.Blocks.{Distinct}
+use Rattle.adf_volume.proofs.DistinctBlocks.{Distinct}
 use Rattle.adf_build.specs.Plan.{exts_needed, data_blocks, entry_blocks, entries_blocks, given, run}
 use Rattle.adf_build.specs.Lay.{lay, AreBlocks, NoneTwice, Holds, numbers_of}
 use Rattle.adf_build.specs.Laid.{data_parts, ext_parts, body_parts, entries_parts}
@@ -23,7 +23,8 @@ none_twice [] d = tt
 none_twice (p ∷ ps) d = ((λ q i e. d.0 (subst (λ b. In (numbers_of ps) b) (sym e) (number_in ps q i))), none_twice ps d.1)
 
 -- an image that was laid holds what was laid
-pub laid_holds : (n : ℕ) (image : List ℕ) (all ps : List (ℕ × List ℕ)) → AreBlocks n all → NoneTwice all → length image ≡ n * 512 → ((q : ℕ × List ℕ) → In ps q → In all q) → Holds (lay image all) ps
+pub laid_holds : (n : ℕ) (image : List ℕ) (all ps : List (ℕ × List ℕ)) → AreBlocks n all → NoneTwice all → length image ≡ n * 512
+    → ((q : ℕ × List ℕ) → In ps q → In all q) → Holds (lay image all) ps
 laid_holds n image all [] a d len f = tt
 laid_holds n image all (p ∷ ps) a d len f = (lay_same n image all p.0 p.1 a d len (f p (inl refl)), laid_holds n image all ps a d len (λ q i. f q (inr i)))
 
@@ -48,7 +49,8 @@ ext_numbers : (n head k d c m : ℕ) → numbers_of (ext_parts n head k d c m) �
 ext_numbers n head k d c zero = refl
 ext_numbers n head k d c (suc m) = ap (λ l. given n k ∷ l) (ext_numbers n head (suc k) (d + 72) (c - 72) m)
 
-body_numbers : (n : ℕ) (kind : Kind) (k : ℕ) (body : Body) → numbers_of (body_parts n kind k body) ≡ run n (suc k) (exts_needed (data_blocks kind body) + data_blocks kind body)
+body_numbers : (n : ℕ) (kind : Kind) (k : ℕ) (body : Body)
+    → numbers_of (body_parts n kind k body) ≡ run n (suc k) (exts_needed (data_blocks kind body) + data_blocks kind body)
 unfolding exts_needed
 body_numbers n kind k Dir = refl
 body_numbers n kind k (File bytes) =
@@ -62,7 +64,8 @@ body_numbers n kind k (File bytes) =
     ∙ sym (run-append n (suc k) x c)
 
 -- the blocks of entries that are written are a run of given blocks: those of the layout
-pub entries_numbers : (n : ℕ) (kind : Kind) (nodes : List ℕ) (all : List Entry) (i k : ℕ) (es : List Entry) → numbers_of (entries_parts n kind nodes all i k es) ≡ run n k (entries_blocks kind es)
+pub entries_numbers : (n : ℕ) (kind : Kind) (nodes : List ℕ) (all : List Entry) (i k : ℕ) (es : List Entry)
+    → numbers_of (entries_parts n kind nodes all i k es) ≡ run n k (entries_blocks kind es)
 entries_numbers n kind nodes all i k [] = refl
 entries_numbers n kind nodes all i k (e ∷ es) =
     let b : ℕ = exts_needed (data_blocks kind e.body) + data_blocks kind e.body in

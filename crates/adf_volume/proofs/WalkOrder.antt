@@ -58,7 +58,8 @@ module _ (image : List ℕ) where
   dir_number w zero a v h = omega arith
   dir_number w (suc i) a v h = let k = h.0 in (number_of image v (suc i) k.0 k.1 k.2 a k.3).1
 
-  asks_parent : {w : List (Role × ℕ)} → IsWalk image w → (n p s j a i : ℕ) → ((m q u k b : ℕ) → Has w (Head m q u k) b → q < m) → Asks image w (Head n p s j) a i → p < n
+  asks_parent : {w : List (Role × ℕ)} → IsWalk image w → (n p s j a i : ℕ) → ((m q u k b : ℕ) → Has w (Head m q u k) b → q < m)
+      → Asks image w (Head n p s j) a i → p < n
   asks_parent {w = w} v n p s zero a i ih h = let x : p ≤ heads w = dir_number w p a v h.2 in let y : n ≡ suc (heads w) = h.0 in omega arith
   asks_parent {w = w} v n p s (suc j) a i ih h =
       let m = h.1 in
@@ -71,7 +72,8 @@ module _ (image : List ℕ) where
   pub parent_below : {w : List (Role × ℕ)} → IsWalk image w → (n p s j b : ℕ) → Has w (Head n p s j) b → p < n
   parent_below start n p s j b (inl e) = let h : second Root ≡ second (Head n p s j) = ap second e.0 in absurd (omega arith)
   parent_below start n p s j b (inr f) = absurd f
-  parent_below (step {w = w} {r = r} {a = a} {i = i} v d g c) n p s j b (inl e) = asks_parent v n p s j a i (parent_below v) (subst (λ r. Asks image w r a i) e.0 d.asked)
+  parent_below (step {w = w} {r = r} {a = a} {i = i} v d g c) n p s j b (inl e) =
+      asks_parent v n p s j a i (parent_below v) (subst (λ r. Asks image w r a i) e.0 d.asked)
   parent_below (step v d g c) n p s j b (inr h) = parent_below v n p s j b h
 
   module _ (w : List (Role × ℕ)) (v : IsWalk image w) (q : Role) (c a0 i0 : ℕ) (d : IsDue image w q a0 i0) where
@@ -96,7 +98,8 @@ module _ (image : List ℕ) where
     asks_back Root a i h = absurd h
     asks_back (Page k) a i h = go h.1
       where
-        past : (j : ℕ) → Has ((q, c) ∷ w) (MapExt j) a → i < 127 → k ≡ 25 + 127 * j + i → ((r' : Role) × Asks image w r' a i × Same r' (Page k)) ⊎ Before q (Page k)
+        past : (j : ℕ) → Has ((q, c) ∷ w) (MapExt j) a → i < 127 → k ≡ 25 + 127 * j + i
+            → ((r' : Role) × Asks image w r' a i × Same r' (Page k)) ⊎ Before q (Page k)
         past j (inl e) l z = inr (subst (λ q. Before q (Page k)) (sym e.0) (omega arith))
         past j (inr y) l z = inl (Page k, (h.0, inr (j, y, l, z)), (refl, refl, refl))
 
@@ -116,7 +119,8 @@ module _ (image : List ℕ) where
         go (inr k) = inl (Head (suc (heads w)) zero s zero, (refl, h.1, k, h.3, h.4), (refl, refl, refl))
     asks_back (Head n (suc p) s zero) a i h = go h.2.0.0 h.2.0.1 h.2.0.2 h.2.0.3
       where
-        go : (p' s' j' : ℕ) → Has ((q, c) ∷ w) (Head (suc p) p' s' j') a → ((r' : Role) × Asks image w r' a i × Same r' (Head n (suc p) s zero)) ⊎ Before q (Head n (suc p) s zero)
+        go : (p' s' j' : ℕ) → Has ((q, c) ∷ w) (Head (suc p) p' s' j') a
+            → ((r' : Role) × Asks image w r' a i × Same r' (Head n (suc p) s zero)) ⊎ Before q (Head n (suc p) s zero)
         go p' s' j' (inl e) = inr (head_before (suc p) p' s' j' (Head n (suc p) s zero) e.0 (omega arith))
         go p' s' j' (inr k) = inl (Head (suc (heads w)) (suc p) s zero, (refl, h.1, ((p', s', j', k), h.2.1), h.3, h.4), (refl, refl, refl))
     asks_back (Head n p s (suc j)) a i h = go h.1.0 h.1.1
@@ -154,9 +158,7 @@ module _ (image : List ℕ) where
   root_before w Root a i h = absurd h
   root_before w (Page k) a i h = (omega arith, (λ z. omega arith), (λ z y. absurd (omega arith)))
   root_before w (MapExt k) a i h = (omega arith, (λ z. omega arith), (λ z y. absurd (omega arith)))
-  root_before w (Head n p s j) a i h = (omega arith, (λ z. absurd (omega arith)), (λ z y. absurd (omega arith)))
-  root_before w (Ext n k) a i h = (omega arith, (λ z. absurd (omega arith)), (λ z y. absurd (omega arith)))
-  root_before w (Data n k) a i h = (omega arith, (λ z. absurd (omega arith)), (λ z y. absurd (omega arith)))
+  root_before w _ a i h = (omega arith, (λ z. absurd (omega arith)), (λ z y. absurd (omega arith)))
 
   pub rises : {w : List (Role × ℕ)} → IsWalk image w → (r : Role) (a i : ℕ) → IsDue image w r a i → (q : Role) (b : ℕ) → Has w q b → Before q r
   rises start r a i d q b (inl e) = subst (λ q. Before q r) e.0 (root_before ((Root, root_of image) ∷ []) r a i d.asked)
@@ -176,7 +178,8 @@ module _ (image : List ℕ) where
           ]
 
   -- headers stand in the order of their numbers
-  pub in_order : {w : List (Role × ℕ)} → IsWalk image w → (n p s i m q u j b c : ℕ) → Has w (Head n p s i) b → Has w (Head m q u j) c → n < m → Before (Head n p s i) (Head m q u j)
+  pub in_order : {w : List (Role × ℕ)} → IsWalk image w → (n p s i m q u j b c : ℕ) → Has w (Head n p s i) b → Has w (Head m q u j) c → n < m
+      → Before (Head n p s i) (Head m q u j)
   in_order start n p s i m q u j b c (inl e) k l = let x : second Root ≡ second (Head n p s i) = ap second e.0 in absurd (omega arith)
   in_order start n p s i m q u j b c (inr e) k l = absurd e
   in_order (step {w = w} {r = r} {a = a} {i = i0} v d e g) n p s i m q u j b c (inl h) (inl k) l =

@@ -14,20 +14,23 @@ use Rattle.adf_volume.proofs.Walks.{root_is, root_in, number_of, numbered as num
 use Rattle.adf_volume.proofs.Parts.{Stands, owned_stands, owned_head, owned_ext, owned_data}
 use Rattle.adf_volume.proofs.Parts.Stands.{in_head, in_ext, in_data}
 use Rattle.adf_volume.proofs.Owners.{once_owned, blocks_once}
-use Rattle.adf_volume.proofs.Kept.{kept}
-use Rattle.adf_volume.proofs.Made.{places_length, ext_has, has_ext, data_has, has_data, page_has, has_page, map_ext_has, has_map_ext}
-use Rattle.adf_volume.proofs.Sound.{exts_below, datas_below, file_parts, head_is}
+use Rattle.adf_volume.proofs.MemberFacts.{kept}
+use Rattle.adf_volume.proofs.WalkMembers.{places_length, ext_has, has_ext, data_has, has_data, page_has, has_page, map_ext_has, has_map_ext}
+use Rattle.adf_volume.proofs.WholeWalks.{file_parts, head_is}
+use Rattle.adf_volume.proofs.Places.{exts_below, datas_below}
 
 module _ (image : List ℕ) (w : List (Role × ℕ)) (v : IsWalk image w) (whole : IsWhole image w) where
   -- each member of the walk is owned, and each owned block is a member
   in_places : (o : Owner) (b : ℕ) → In (owned_from 1 (places_in w w)) (o, b) → In (owned image (layout_in w)) (o, b)
-  in_places o b h = inr (in_right (numbered APage 0 (pages_in w)) (numbered AMapExt 0 (map_exts_in w) ++ owned_from 1 (places_in w w)) (o, b) (in_right (numbered AMapExt 0 (map_exts_in w)) (owned_from 1 (places_in w w)) (o, b) h))
+  in_places o b h = inr (in_right (numbered APage 0 (pages_in w)) (numbered AMapExt 0 (map_exts_in w) ++ owned_from 1 (places_in w w)) (o, b)
+      (in_right (numbered AMapExt 0 (map_exts_in w)) (owned_from 1 (places_in w w)) (o, b) h))
 
   pub is_owned : (r : Role) (b : ℕ) → Has w r b → In (owned image (layout_in w)) (owner_of r, b)
   is_owned Root b h = let e : root_of image ≡ b = root_is image w b v h in inl (λ i. (TheRoot, e i))
   is_owned (Page k) b h =
       let z : 0 + k ≡ k = omega arith in
-      inr (in_left (numbered APage 0 (pages_in w)) (numbered AMapExt 0 (map_exts_in w) ++ owned_from 1 (places_in w w)) (APage k, b) (subst (λ k. In (numbered APage 0 (pages_in w)) (APage k, b)) z (in_numbered APage 0 (pages_in w) k b (page_has image w v k b h))))
+      inr (in_left (numbered APage 0 (pages_in w)) (numbered AMapExt 0 (map_exts_in w) ++ owned_from 1 (places_in w w)) (APage k, b)
+      (subst (λ k. In (numbered APage 0 (pages_in w)) (APage k, b)) z (in_numbered APage 0 (pages_in w) k b (page_has image w v k b h))))
   is_owned (MapExt k) b h =
       let z : 0 + k ≡ k = omega arith in
       inr (in_right (numbered APage 0 (pages_in w)) (numbered AMapExt 0 (map_exts_in w) ++ owned_from 1 (places_in w w)) (AMapExt k, b)
@@ -41,14 +44,17 @@ module _ (image : List ℕ) (w : List (Role × ℕ)) (v : IsWalk image w) (whole
       in_places (AHead (suc i)) b (subst (λ b. In (owned_from 1 (places_in w w)) (AHead (suc i), b)) (head_is image w v whole (suc i) p s j b h).0
       (subst (λ m. In (owned_from 1 (places_in w w)) (AHead m, head_at (places_in w w) i)) z (owned_head 1 (places_in w w) i (omega arith))))
   is_owned (Ext n zero) b h = absurd (kept image v (Ext n zero) b h)
-  is_owned (Ext zero (suc k)) b h = let f = (ext_file image v 0 (suc k) b h).1 in let u : (1 ≤ 0) × (0 ≤ heads w) = number_of image v 0 f.0.0 f.0.1 f.0.2 _ f.0.3 in absurd (omega arith)
+  is_owned (Ext zero (suc k)) b h =
+      let f = (ext_file image v 0 (suc k) b h).1 in let u : (1 ≤ 0) × (0 ≤ heads w) = number_of image v 0 f.0.0 f.0.1 f.0.2 _ f.0.3 in absurd (omega arith)
   is_owned (Ext (suc i) (suc k)) b h =
       let f = ext_file image v (suc i) (suc k) b h in
       let z : 1 + i ≡ suc i = omega arith in
       in_places (AnExt (suc i) (suc k)) b (subst (λ m. In (owned_from 1 (places_in w w)) (AnExt m (suc k), b)) z
       (owned_ext 1 (places_in w w) i k b (subst (λ xs. At xs k b) (sym (file_parts image w v whole (suc i) f.0 f.1).1) (ext_has image v (suc i) k b h))))
   is_owned (Data n zero) b h = absurd (kept image v (Data n zero) b h)
-  is_owned (Data zero (suc k)) b h = let f = kept image v (Data 0 (suc k)) b h in let u : (1 ≤ 0) × (0 ≤ heads w) = number_of image v 0 f.1.0.0 f.1.0.1 f.1.0.2 f.0 f.1.0.3 in absurd (omega arith)
+  is_owned (Data zero (suc k)) b h =
+      let f = kept image v (Data 0 (suc k)) b h in
+      let u : (1 ≤ 0) × (0 ≤ heads w) = number_of image v 0 f.1.0.0 f.1.0.1 f.1.0.2 f.0 f.1.0.3 in absurd (omega arith)
   is_owned (Data (suc i) (suc k)) b h =
       let f = kept image v (Data (suc i) (suc k)) b h in
       let z : 1 + i ≡ suc i = omega arith in
@@ -62,24 +68,39 @@ module _ (image : List ℕ) (w : List (Role × ℕ)) (v : IsWalk image w) (whole
   stands_has : (o : Owner) (b : ℕ) → Stands 1 (places_in w w) o b → (r : Role) × Has w r b × (o ≡ owner_of r)
   stands_has o b (in_head i u e z) =
       let x = place_is i u in
-      let y : 1 + i ≡ suc i = omega arith in
-      (Head (suc i) x.0 x.1 x.2, subst (Has w (Head (suc i) x.0 x.1 x.2)) (sym (head_is image w v whole (suc i) x.0 x.1 x.2 x.3 x.4).0 ∙ e) x.4, z ∙ ap AHead y)
+      let y : 1 + i ≡ suc i = omega arith in (
+        Head (suc i) x.0 x.1 x.2,
+        subst (Has w (Head (suc i) x.0 x.1 x.2)) (sym (head_is image w v whole (suc i) x.0 x.1 x.2 x.3 x.4).0 ∙ e) x.4,
+        z
+            ∙ ap AHead y,
+      )
   stands_has o b (in_ext i k h z) =
       let x = place_is i (exts_below (places_in w w) i k b h) in
-      let y : 1 + i ≡ suc i = omega arith in
-      (Ext (suc i) (suc k), has_ext image w v (suc i) k b (subst (λ xs. At xs k b) (head_is image w v whole (suc i) x.0 x.1 x.2 x.3 x.4).1 h), z ∙ ap (λ m. AnExt m (suc k)) y)
+      let y : 1 + i ≡ suc i = omega arith in (
+        Ext (suc i) (suc k),
+        has_ext image w v (suc i) k b (subst (λ xs. At xs k b) (head_is image w v whole (suc i) x.0 x.1 x.2 x.3 x.4).1 h),
+        z
+            ∙ ap (λ m. AnExt m (suc k)) y,
+      )
   stands_has o b (in_data i k h z) =
       let x = place_is i (datas_below (places_in w w) i k b h) in
-      let y : 1 + i ≡ suc i = omega arith in
-      (Data (suc i) (suc k), has_data image w v (suc i) k b (subst (λ xs. At xs k b) (head_is image w v whole (suc i) x.0 x.1 x.2 x.3 x.4).2 h), z ∙ ap (λ m. AData m (suc k)) y)
+      let y : 1 + i ≡ suc i = omega arith in (
+        Data (suc i) (suc k),
+        has_data image w v (suc i) k b (subst (λ xs. At xs k b) (head_is image w v whole (suc i) x.0 x.1 x.2 x.3 x.4).2 h),
+        z
+            ∙ ap (λ m. AData m (suc k)) y,
+      )
 
   pub owned_has : (o : Owner) (b : ℕ) → In (owned image (layout_in w)) (o, b) → (r : Role) × Has w r b × (o ≡ owner_of r)
   owned_has o b (inl e) = (Root, subst (Has w Root) (ap (λ (p : Owner × ℕ). p.1) e) (root_in image v), sym (ap (λ (p : Owner × ℕ). p.0) e))
   owned_has o b (inr h) =
       elim (in_cases (numbered APage 0 (pages_in w)) (numbered AMapExt 0 (map_exts_in w) ++ owned_from 1 (places_in w w)) (o, b) h) [
-        | inl g ↦ let r = numbered_at APage 0 (pages_in w) o b g in let y : 0 + r.0 ≡ r.0 = omega arith in (Page r.0, has_page image w v r.0 b r.1, r.2 ∙ ap APage y)
+        | inl g ↦
+            let r = numbered_at APage 0 (pages_in w) o b g in let y : 0 + r.0 ≡ r.0 = omega arith in (Page r.0, has_page image w v r.0 b r.1, r.2 ∙ ap APage y)
         | inr g ↦ elim (in_cases (numbered AMapExt 0 (map_exts_in w)) (owned_from 1 (places_in w w)) (o, b) g) [
-          | inl f ↦ let r = numbered_at AMapExt 0 (map_exts_in w) o b f in let y : 0 + r.0 ≡ r.0 = omega arith in (MapExt r.0, has_map_ext image w v r.0 b r.1, r.2 ∙ ap AMapExt y)
+          | inl f ↦
+              let r = numbered_at AMapExt 0 (map_exts_in w) o b f in
+              let y : 0 + r.0 ≡ r.0 = omega arith in (MapExt r.0, has_map_ext image w v r.0 b r.1, r.2 ∙ ap AMapExt y)
           | inr f ↦ stands_has o b (owned_stands 1 (places_in w w) o b f)
         ]
       ]

@@ -1,18 +1,19 @@
 -- What each member of a walk was when it came, told of the walk as it is now.
-use Rattle.std.proofs.Common.{◌≡◌, ℕ, zero, suc, List, [], ◌∷◌, inl, inr, ◌+◌, ◌*◌, ◌/◌, ◌<◌, ◌≤◌, ◌≢◌, refl, sym, ap, subst, ◌∙◌, arith, Bool, true, false, cond}
+use Rattle.std.proofs.Common.{◌≡◌, ℕ, zero, suc, List, [], ◌∷◌, inl, inr, ◌+◌, ◌*◌, ◌/◌, ◌<◌, ◌≤◌, ◌≢◌, refl, sym, ap, subst, ◌∙◌, arith, true}
 use Rattle.std.specs.Prelude.{nat_lt}
-use Rattle.std.proofs.lemmas.Bool.Decides.{nat_tests}
 use native.Mathlib.Decide.{dec_le}
 use Rattle.adf_blocks.specs.declared.cause.Cause.TheVariants.{SameName}
 use Rattle.adf_volume.specs.Image.{word_in, root_of, kind_of, held, table_word, name_of}
 use Rattle.adf_blocks.specs.Sizes.{blocks, pages_needed}
 use Rattle.adf_tree.specs.Texts.{uppers}
 use Rattle.adf_volume.specs.Demands.{demand, AllHold, page_demands, head_demands, ext_demands, data_demands}
-use Rattle.adf_volume.specs.Walk.{Role, second, Has, NodeAt, DirAt, FileAt, MemberAt, NamesPage, data_count, Asks, IsDue, ext_count_of, ext_count, node_block, member_block, next_data, form_demands, NewName, NoCause, IsWalk}
+use Rattle.adf_volume.specs.Walk.{Role, second, Has, DirAt, FileAt, MemberAt, NamesPage, data_count, Asks, IsDue, ext_count_of, ext_count, node_block}
+use Rattle.adf_volume.specs.Walk.{member_block, next_data, form_demands, NewName, NoCause, IsWalk}
 use Rattle.adf_volume.specs.Walk.Role.{Root, Page, MapExt, Head, Ext, Data}
 use Rattle.adf_volume.specs.Walk.IsWalk.{start, step}
 use Rattle.adf_volume.proofs.Lists.{all_split}
-use Rattle.adf_volume.proofs.Walks.{node_is, member_is, file_is, due_file, ext_counted, count_up, dec_has, has_role}
+use Rattle.adf_volume.proofs.Walks.{node_is, member_is, file_is, due_file, ext_counted, count_up, dir_is_node, is_there}
+use Rattle.std.proofs.lemmas.Bool.{cond-true, cond-false, le-ltb, lt-ltb}
 
 -- the word that names a header
 abbrev pub HeadNamed : List ℕ → List (Role × ℕ) → ℕ → ℕ → ℕ → ℕ → Type 0
@@ -40,26 +41,6 @@ Kept image w (Data n zero) b = ⊥
 Kept image w (Data n (suc k)) b = (h : ℕ) × FileAt image w n h × (k < data_count image h) × (data_count image h ≤ 72 * suc (ext_count w n))
     × ((c : ℕ) × MemberAt image w n (k / 72) c × (word_in image c (table_word k) ≡ b))
     × ((x : ℕ) × IsNext image w n (suc k) h x × AllHold (data_demands image (kind_of image) b h (suc k) (held (kind_of image) (word_in image h 81) (suc k)) x))
-
-less : (a b : ℕ) → nat_lt a b ≡ true → a < b
-less a b h = grind (arith, nat_tests)
-
-not_less : (a b : ℕ) → nat_lt a b ≡ false → b ≤ a
-not_less a b h = grind (arith, nat_tests)
-
-cond_true : (t : Bool) (a b : ℕ) → t ≡ true → cond t a b ≡ a
-cond_true true a b h = refl
-cond_true false a b h = cc
-
-cond_false : (t : Bool) (a b : ℕ) → t ≡ false → cond t a b ≡ b
-cond_false true a b h = cc
-cond_false false a b h = refl
-
-lt_test : (a b : ℕ) → a < b → nat_lt a b ≡ true
-lt_test a b h = grind (arith, nat_tests)
-
-ge_test : (a b : ℕ) → b ≤ a → nat_lt a b ≡ false
-ge_test a b h = grind (arith, nat_tests)
 
 same_number : (n m p s i j : ℕ) → Head n p s i ≡ Head m p s j → n ≡ m
 same_number n m p s i j h = cc
@@ -96,40 +77,42 @@ module _ (image : List ℕ) where
   kept_up w x (Data n zero) b h = absurd h
   kept_up w x (Data n (suc k)) b h =
       let u : ext_count w n ≤ ext_count_of n x.0 (ext_count w n) = count_up n x.0 (ext_count w n) in
-      let y : data_count image h.0 ≤ 72 * suc (ext_count w n) = h.3 in
-      (h.0, file_up w x n h.0 h.1, h.2, omega arith, (h.4.0, member_up w x n (k / 72) h.4.0 h.4.1, h.4.2), (h.5.0, next_up w x n (suc k) h.0 h.5.0 h.5.1, h.5.2))
+      let y : data_count image h.0 ≤ 72 * suc (ext_count w n) = h.3 in (
+        h.0,
+        file_up w x n h.0 h.1,
+        h.2,
+        omega arith,
+        (h.4.0, member_up w x n (k / 72) h.4.0 h.4.1, h.4.2),
+        (
+          h.5.0,
+          next_up w x n (suc k) h.0 h.5.0
+              h.5.1,
+          h.5.2,
+        ),
+      )
 
   -- a header that is asked for has its directory
-  asks_dir : {w : List (Role × ℕ)} → ((r : Role) (b : ℕ) → Has w r b → Kept image w r b) → (n p s j a i : ℕ) → Asks image w (Head n p s j) a i → (s < 72) × ((c : ℕ) × DirAt image w p c)
+  asks_dir : {w : List (Role × ℕ)} → ((r : Role) (b : ℕ) → Has w r b → Kept image w r b) → (n p s j a i : ℕ) → Asks image w (Head n p s j) a i
+      → (s < 72) × ((c : ℕ) × DirAt image w p c)
   asks_dir old n p s zero a i h = (h.1, (a, h.2))
   asks_dir old n p s (suc j) a i h = let k = old (Head h.1.0 p s j) a h.1.1 in (k.0, (k.2.0, k.2.1))
-
-  pub dir_is_node : (w : List (Role × ℕ)) (p a : ℕ) → DirAt image w p a → NodeAt w p a
-  dir_is_node w zero a h = h
-  dir_is_node w (suc i) a h = h.0
 
   module _ (w : List (Role × ℕ)) (v : IsWalk image w) (old : (r : Role) (b : ℕ) → Has w r b → Kept image w r b) where
     pub there : (n m a : ℕ) → FileAt image w n a → m ≤ ext_count w n → (c : ℕ) × MemberAt image w n m c
     there n zero a f u = (a, f)
     there n (suc m) a f u = ext_counted image v n m (omega arith)
 
-    data_no_head : (n k : ℕ) → (x m p s j : ℕ) → Data n k ≡ Head x p s j → ⊥
-    data_no_head n k x m p s j z = let y : second (Data n k) ≡ second (Head x p s j) = ap second z in omega arith
-
     -- a file whose data block is due has enough extension blocks
-    pub enough : (n k a i b h : ℕ) → IsDue image w (Data n (suc k)) a i → NoCause image w (Data n (suc k)) a b → FileAt image w n h → k < data_count image h → data_count image h ≤ 72 * suc (ext_count w n)
+    pub enough : (n k a i b h : ℕ) → IsDue image w (Data n (suc k)) a i → NoCause image w (Data n (suc k)) a b → FileAt image w n h → k < data_count image h
+        → data_count image h ≤ 72 * suc (ext_count w n)
     enough n zero a i b h d g f u = g.0 refl h f
     enough n (suc k) a i b h d g f u =
-        elim (dec_has w (Data n 1)) [
-          | inr y ↦
-              let x : Has w (Data n 1) y.1 = has_role image w (Data n 1) (λ m p s j z. data_no_head n 1 m m p s j z) y.0 y.1 y.2 y.3 in
-              let kp = old (Data n 1) y.1 x in
-              let e : node_block w n ≡ h = file_is image w n h v f in
-              let e' : node_block w n ≡ kp.0 = file_is image w n kp.0 v kp.1 in
-              subst (λ h. data_count image h ≤ 72 * suc (ext_count w n)) (sym e' ∙ e) kp.3
-          | inl y ↦
-              absurd (d.least (Data n 1) h 77 ((h, f, omega arith), f, refl) y (omega arith, (λ z. omega arith), (λ z z'. omega arith)))
-        ]
+        let x = is_there image w (Data n 1) (Data n (suc (suc k))) a i h 77 d ((h, f, omega arith), f, refl)
+        (omega arith, (λ z. omega arith), (λ z z'. omega arith)) (omega arith) in
+        let kp = old (Data n 1) x.0 x.1 in
+        let e : node_block w n ≡ h = file_is image w n h v f in
+        let e' : node_block w n ≡ kp.0 = file_is image w n kp.0 v kp.1 in
+        subst (λ h. data_count image h ≤ 72 * suc (ext_count w n)) (sym e' ∙ e) kp.3
 
     form_of : (r : Role) (a b : ℕ) → NoCause image w r a b → AllHold (form_demands image w r b)
     form_of r a b g = (all_split (form_demands image w r b) (demand SameName b (NewName image w r b) ∷ []) g.1.1.1).0
@@ -142,20 +125,22 @@ module _ (image : List ℕ) where
     ext_named n zero a i b h e = (a, h.0, ap (word_in image a) (sym h.1) ∙ e)
     ext_named n (suc k) a i b h e = (a, h.0, ap (word_in image a) (sym h.1) ∙ e)
 
-    next_is : (n k h : ℕ) → FileAt image w n h → node_block w n ≡ h → data_count image h ≤ 72 * suc (ext_count w n) → IsNext image w n k h (next_data image w n k)
+    next_is : (n k h : ℕ) → FileAt image w n h → node_block w n ≡ h → data_count image h ≤ 72 * suc (ext_count w n)
+        → IsNext image w n k h (next_data image w n k)
     next_is n k h f z en =
         record {
           inner = (λ u.
               let m = there n (k / 72) h f (omega arith) in
-              let u' : nat_lt k (data_count image (node_block w n)) ≡ true = lt_test k (data_count image (node_block w n)) (subst (λ h. k < data_count image h) (sym z) u) in (
+              let u' : nat_lt k (data_count image (node_block w n)) ≡ true =
+              lt-ltb k (data_count image (node_block w n)) (subst (λ h. k < data_count image h) (sym z) u) in (
                 m.0,
                 m.1,
-                cond_true (nat_lt k (data_count image (node_block w n))) (word_in image (member_block w n (k / 72)) (table_word k)) 0 u'
+                cond-true (nat_lt k (data_count image (node_block w n))) (word_in image (member_block w n (k / 72)) (table_word k)) 0 u'
                     ∙ ap (λ b. word_in image b (table_word k)) (member_is image w n (k / 72) m.0 v m.1),
               ));
           last = (λ u.
-              cond_false (nat_lt k (data_count image (node_block w n))) (word_in image (member_block w n (k / 72)) (table_word k)) 0
-              (ge_test k (data_count image (node_block w n)) (subst (λ h. data_count image h ≤ k) (sym z) u)));
+              cond-false (nat_lt k (data_count image (node_block w n))) (word_in image (member_block w n (k / 72)) (table_word k)) 0
+              (le-ltb k (data_count image (node_block w n)) (subst (λ h. data_count image h ≤ k) (sym z) u)));
         }
 
     kept_new : (r : Role) (a i b : ℕ) → IsDue image w r a i → word_in image a i ≡ b → NoCause image w r a b → Kept image w r b
@@ -167,8 +152,16 @@ module _ (image : List ℕ) where
     kept_new (Head n p s j) a i b d e g =
         let ad = asks_dir old n p s j a i d.asked in
         let c = ad.1 in
-        let z : node_block w p ≡ c.0 = node_is image w p c.0 v (dir_is_node w p c.0 c.1) in
-        (ad.0, head_named n p s j a i b d.asked e, (c.0, c.1, subst (λ c. AllHold (head_demands image (kind_of image) b c s)) z (form_of (Head n p s j) a b g)))
+        let z : node_block w p ≡ c.0 = node_is image w p c.0 v (dir_is_node image w p c.0 c.1) in (
+          ad.0,
+          head_named n p s j a i b d.asked e,
+          (
+            c.0,
+            c.1,
+            subst (λ c. AllHold (head_demands image (kind_of image) b c s)) z
+                (form_of (Head n p s j) a b g),
+          ),
+        )
     kept_new (Ext n zero) a i b d e g = absurd d.asked
     kept_new (Ext n (suc k)) a i b d e g =
         let f = due_file image w n (suc k) a i v d.asked in
@@ -187,7 +180,8 @@ module _ (image : List ℕ) where
           (
             next_data image w n (suc k),
             next_is n (suc k) f.0 f.1 z en,
-            subst (λ h. AllHold (data_demands image (kind_of image) b h (suc k) (held (kind_of image) (word_in image h 81) (suc k)) (next_data image w n (suc k)))) z (form_of (Data n (suc k)) a b g),
+            subst (λ h. AllHold (data_demands image (kind_of image) b h (suc k) (held (kind_of image) (word_in image h 81) (suc k))
+                (next_data image w n (suc k)))) z (form_of (Data n (suc k)) a b g),
           ),
         )
 
@@ -212,10 +206,12 @@ module _ (image : List ℕ) where
   map_ext_low w (suc j) b v h = (kept v (MapExt (suc j)) b h).0
 
   -- equal names do not stand in one chain
-  pub new_names : {w : List (Role × ℕ)} → IsWalk image w → (n m p s i j b c : ℕ) → Has w (Head n p s i) b → Has w (Head m p s j) c → n ≢ m → uppers (name_of image b) ≢ uppers (name_of image c)
+  pub new_names : {w : List (Role × ℕ)} → IsWalk image w → (n m p s i j b c : ℕ) → Has w (Head n p s i) b → Has w (Head m p s j) c → n ≢ m
+      → uppers (name_of image b) ≢ uppers (name_of image c)
   new_names start n m p s i j b c (inl e) h ne z = let x : second Root ≡ second (Head n p s i) = ap second e.0 in absurd (omega arith)
   new_names start n m p s i j b c (inr e) h ne z = e
-  new_names (step {w = w} {r = q} {b = b'} {a = a} v d e g) n m p s i j b c (inl h) (inl k) ne z = absurd (let x : Head n p s i ≡ Head m p s j = sym h.0 ∙ k.0 in ne (same_number n m p s i j x))
+  new_names (step {w = w} {r = q} {b = b'} {a = a} v d e g) n m p s i j b c (inl h) (inl k) ne z =
+      absurd (let x : Head n p s i ≡ Head m p s j = sym h.0 ∙ k.0 in ne (same_number n m p s i j x))
   new_names (step {w = w} {r = q} {b = b'} {a = a} v d e g) n m p s i j b c (inl h) (inr k) ne z =
       let nn = (all_split (form_demands image w q b') (demand SameName b' (NewName image w q b') ∷ []) g.1.1.1).1.0 in
       let nn' : NewName image w (Head n p s i) b = subst (λ r. NewName image w r b) h.0 (subst (NewName image w q) h.1 nn) in

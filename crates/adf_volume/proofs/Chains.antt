@@ -1,5 +1,6 @@
 -- Chains of a tree.
-use Rattle.std.proofs.Common.{◌≡◌, ℕ, zero, suc, List, [], ◌∷◌, ◌++◌, ◌⊎◌, inl, inr, ◌+◌, ◌<◌, ◌≤◌, length, refl, sym, ap, subst, ◌∙◌, arith, Bool, true, false, cond}
+use Rattle.std.proofs.Common.{◌≡◌, ℕ, zero, suc, List, [], ◌∷◌, ◌++◌, ◌⊎◌, inl, inr, ◌+◌, ◌<◌, ◌≤◌, length, refl, sym, ap, subst, ◌∙◌, arith, Bool, true}
+use Rattle.std.proofs.Common.{false, cond}
 use Rattle.std.specs.Prelude.{if◌then◌else◌, Some, None, ◌↔◌, ◌-◌}
 use Rattle.std.specs.List.{slice_get}
 use Rattle.std.proofs.Common.{map, append_assoc}
@@ -13,16 +14,11 @@ use Rattle.adf_fields.specs.Hash.{slot_of}
 use Rattle.adf_tree.specs.declared.entry.Entry.{Entry}
 use Rattle.adf_tree.specs.Tree.{Tree}
 use Rattle.adf_volume.specs.Layout.{EntryAt, nodes_from, chain_nodes}
-use Rattle.adf_volume.proofs.Ordered.{Ordered}
+use Rattle.adf_volume.proofs.TreeOrder.{Ordered}
 use Rattle.adf_volume.specs.Walk.{Before}
 use Rattle.adf_volume.specs.Walk.Role.{Head}
 use Rattle.adf_volume.proofs.Lists.{at_fun, at_below, at_some}
-
-test_true : (a b c d : ℕ) → ((a == b) && (c == d)) ≡ true → (a ≡ b) × (c ≡ d)
-test_true a b c d h = grind (arith, nat_tests)
-
-test_of : (a b c d : ℕ) → a ≡ b → c ≡ d → ((a == b) && (c == d)) ≡ true
-test_of a b c d h k = grind (arith, nat_tests)
+use Rattle.adf_volume.proofs.Comparisons.{both_equal, equal_both}
 
 -- a place in a list that begins with k where t holds
 at_kept : (t : Bool) (k : ℕ) (rest : List ℕ) (j n : ℕ) → At (cond t (k ∷ rest) rest) j n → ((t ≡ true) × (k ≡ n)) ⊎ ((i : ℕ) × At rest i n)
@@ -30,11 +26,12 @@ at_kept true k rest zero n h = inl (refl, h)
 at_kept true k rest (suc j) n h = inr (j, h)
 at_kept false k rest j n h = inr (j, h)
 
-pub at_chain : (k : ℕ) (es : List Entry) (p s j n : ℕ) → At (nodes_from k es p s) j n → (i : ℕ) × (e : Entry) × At es i e × (n ≡ k + i) × (e.parent ≡ p) × (slot_of e.name ≡ s)
+pub at_chain : (k : ℕ) (es : List Entry) (p s j n : ℕ) → At (nodes_from k es p s) j n
+    → (i : ℕ) × (e : Entry) × At es i e × (n ≡ k + i) × (e.parent ≡ p) × (slot_of e.name ≡ s)
 at_chain k [] p s j n h = absurd h
 at_chain k (e ∷ es) p s j n h =
     elim (at_kept ((e.parent == p) && (slot_of e.name == s)) k (nodes_from (suc k) es p s) j n h) [
-      | inl z ↦ let q = test_true e.parent p (slot_of e.name) s z.0 in let y : n ≡ k + 0 = sym z.1 ∙ omega arith in (0, e, refl, y, q.0, q.1)
+      | inl z ↦ let q = both_equal e.parent p (slot_of e.name) s z.0 in let y : n ≡ k + 0 = sym z.1 ∙ omega arith in (0, e, refl, y, q.0, q.1)
       | inr g ↦ let r = at_chain (suc k) es p s g.0 n g.1 in let z : n ≡ k + suc r.0 = r.3 ∙ omega arith in (suc r.0, r.1, r.2, z, r.4, r.5)
     ]
 
@@ -42,7 +39,8 @@ at_chain k (e ∷ es) p s j n h =
 pub chain_at : (k : ℕ) (es : List Entry) (i : ℕ) (e : Entry) → At es i e → (j : ℕ) × At (nodes_from k es e.parent (slot_of e.name)) j (k + i)
 chain_at k [] i e h = absurd h
 chain_at k (f ∷ es) zero e h =
-    let t : ((f.parent == e.parent) && (slot_of f.name == slot_of e.name)) ≡ true = test_of f.parent e.parent (slot_of f.name) (slot_of e.name) (ap (λ (x : Entry). x.parent) h) (ap (λ (x : Entry). slot_of x.name) h) in
+    let t : ((f.parent == e.parent) && (slot_of f.name == slot_of e.name)) ≡ true =
+    equal_both f.parent e.parent (slot_of f.name) (slot_of e.name) (ap (λ (x : Entry). x.parent) h) (ap (λ (x : Entry). slot_of x.name) h) in
     (0, rw t (omega arith))
 chain_at k (f ∷ es) (suc i) e h =
     let r = chain_at (suc k) es i e h in
@@ -55,7 +53,8 @@ chain_at k (f ∷ es) (suc i) e h =
     put false k rest j n h = (j, h)
 
 -- a chain rises
-rises_kept : (t : Bool) (k : ℕ) (rest : List ℕ) (i j n m : ℕ) → ((l x : ℕ) → At rest l x → k < x) → ((i j n m : ℕ) → At rest i n → At rest j m → i < j → n < m) → At (cond t (k ∷ rest) rest) i n → At (cond t (k ∷ rest) rest) j m → i < j → n < m
+rises_kept : (t : Bool) (k : ℕ) (rest : List ℕ) (i j n m : ℕ) → ((l x : ℕ) → At rest l x → k < x)
+    → ((i j n m : ℕ) → At rest i n → At rest j m → i < j → n < m) → At (cond t (k ∷ rest) rest) i n → At (cond t (k ∷ rest) rest) j m → i < j → n < m
 rises_kept true k rest zero zero n m low ih a b l = absurd (omega arith)
 rises_kept true k rest zero (suc j) n m low ih a b l = let x : k < m = low j m b in let y : k ≡ n = a in omega arith
 rises_kept true k rest (suc i) zero n m low ih a b l = absurd (omega arith)
@@ -115,14 +114,16 @@ one_place t p s i q u j n a b =
     (x, y, place_fun t p s i j n a (subst (λ q. At (chain_nodes t q s) j n) (sym x) (subst (λ u. At (chain_nodes t q u) j n) (sym y) b)))
 
 -- a node that comes later stands later
-pub sorted_places : (t : Tree) → Ordered t → (p s i q u j n m a b : ℕ) → At (chain_nodes t p s) i n → At (chain_nodes t q u) j m → n < m → Before (Head a p s i) (Head b q u j)
+pub sorted_places : (t : Tree) → Ordered t → (p s i q u j n m a b : ℕ) → At (chain_nodes t p s) i n → At (chain_nodes t q u) j m → n < m
+    → Before (Head a p s i) (Head b q u j)
 sorted_places t v p s i q u j n m a' b' a b l =
     let e = entry_at t p s i n a in
     let f = entry_at t q u j m b in
     let o = v.order n m e.0 f.0 e.1 f.1 l in
     let h1 : p ≤ q = let k : e.0.parent ≤ f.0.parent = o.0 in let x : e.0.parent ≡ p = e.2 in let y : f.0.parent ≡ q = f.2 in omega arith in
     let h2 : p ≡ q → s ≤ u =
-    (λ z. let k : slot_of e.0.name ≤ slot_of f.0.name = o.1 (e.2 ∙ z ∙ sym f.2) in let x : slot_of e.0.name ≡ s = e.3 in let y : slot_of f.0.name ≡ u = f.3 in omega arith) in
+    (λ z. let k : slot_of e.0.name ≤ slot_of f.0.name = o.1 (e.2 ∙ z ∙ sym f.2) in let x : slot_of e.0.name ≡ s = e.3 in let y : slot_of f.0.name ≡ u =
+    f.3 in omega arith) in
     let h3 : p ≡ q → s ≡ u → i < j =
     (λ z y. let b'' : At (chain_nodes t p s) j m = subst (λ q. At (chain_nodes t q s) j m) (sym z) (subst (λ u. At (chain_nodes t q u) j m) (sym y) b) in
     let r : j < i → ⊥ = (λ l2. let k : m < n = chain_rises 1 t.entries p s j i m n b'' a l2 in omega arith) in
@@ -131,23 +132,20 @@ sorted_places t v p s i q u j n m a' b' a b l =
     ((omega arith), (λ z. let k : s ≤ u = h2 (omega arith) in omega arith), (λ z y. h3 (omega arith) (omega arith)))
 
 -- one more entry
-pub chain_snoc : (k : ℕ) (es : List Entry) (e : Entry) (p s : ℕ) → nodes_from k (es ++ e ∷ []) p s ≡ nodes_from k es p s ++ cond ((e.parent == p) && (slot_of e.name == s)) ((k + length es) ∷ []) []
+pub chain_snoc : (k : ℕ) (es : List Entry) (e : Entry) (p s : ℕ)
+    → nodes_from k (es ++ e ∷ []) p s ≡ nodes_from k es p s ++ cond ((e.parent == p) && (slot_of e.name == s)) ((k + length es) ∷ []) []
 chain_snoc k [] e p s = let z : k ≡ k + 0 = omega arith in ap (λ m. cond ((e.parent == p) && (slot_of e.name == s)) (m ∷ []) []) z
 chain_snoc k (f ∷ es) e p s =
     let z : suc k + length es ≡ k + suc (length es) = omega arith in
-    let ih : nodes_from (suc k) (es ++ e ∷ []) p s ≡ nodes_from (suc k) es p s ++ cond ((e.parent == p) && (slot_of e.name == s)) ((k + suc (length es)) ∷ []) [] =
+    let ih : nodes_from (suc k) (es ++ e ∷ []) p s
+    ≡ nodes_from (suc k) es p s ++ cond ((e.parent == p) && (slot_of e.name == s)) ((k + suc (length es)) ∷ []) [] =
     chain_snoc (suc k) es e p s ∙ ap (λ m. nodes_from (suc k) es p s ++ cond ((e.parent == p) && (slot_of e.name == s)) (m ∷ []) []) z in
-    put ((f.parent == p) && (slot_of f.name == s)) k (nodes_from (suc k) (es ++ e ∷ []) p s) (nodes_from (suc k) es p s) (cond ((e.parent == p) && (slot_of e.name == s)) ((k + suc (length es)) ∷ []) []) ih
+    put ((f.parent == p) && (slot_of f.name == s)) k (nodes_from (suc k) (es ++ e ∷ []) p s) (nodes_from (suc k) es p s)
+    (cond ((e.parent == p) && (slot_of e.name == s)) ((k + suc (length es)) ∷ []) []) ih
   where
     put : (t : Bool) (k : ℕ) (xs ys zs : List ℕ) → xs ≡ ys ++ zs → cond t (k ∷ xs) xs ≡ cond t (k ∷ ys) ys ++ zs
     put true k xs ys zs h = ap (λ l. k ∷ l) h
     put false k xs ys zs h = h
-
-pub test_yes : (a b c d : ℕ) → a ≡ b → c ≡ d → ((a == b) && (c == d)) ≡ true
-test_yes a b c d h k = test_of a b c d h k
-
-pub test_tells : (a b c d : ℕ) → ((a == b) && (c == d)) ≡ true → (a ≡ b) × (c ≡ d)
-test_tells a b c d h = test_true a b c d h
 
 entry_suc : (es : List Entry) (i : ℕ) → entry es (suc i) ≡ slice_get es i
 entry_suc es i =
@@ -160,7 +158,8 @@ nodes_chain : (pre es : List Entry) (p s : ℕ) → map (λ n. entry (pre ++ es)
 nodes_chain pre [] p s = refl
 nodes_chain pre (e ∷ es) p s =
     let here : entry (pre ++ e ∷ es) (suc (length pre)) ≡ Some e = get_here pre in
-    let ih : map (λ n. entry ((pre ++ e ∷ []) ++ es) n) (nodes_from (suc (length (pre ++ e ∷ []))) es p s) ≡ map Some (chain es p s) = nodes_chain (pre ++ e ∷ []) es p s in
+    let ih : map (λ n. entry ((pre ++ e ∷ []) ++ es) n) (nodes_from (suc (length (pre ++ e ∷ []))) es p s) ≡ map Some (chain es p s) =
+    nodes_chain (pre ++ e ∷ []) es p s in
     let rest : map (λ n. entry (pre ++ e ∷ es) n) (nodes_from (suc (suc (length pre))) es p s) ≡ map Some (chain es p s) =
     ap (λ k. map (λ n. entry (pre ++ e ∷ es) n) (nodes_from (suc k) es p s)) (sym (snoc_length pre e))
     ∙ ap (λ xs. map (λ n. entry xs n) (nodes_from (suc (length (pre ++ e ∷ []))) es p s)) (sym (append_assoc pre (e ∷ []) es))
@@ -174,8 +173,10 @@ nodes_chain pre (e ∷ es) p s =
         at [] = refl
         at (x ∷ pre) = at pre
 
-    put : (t : Bool) → entry (pre ++ e ∷ es) (suc (length pre)) ≡ Some e → map (λ n. entry (pre ++ e ∷ es) n) (nodes_from (suc (suc (length pre))) es p s) ≡ map Some (chain es p s) →
-        map (λ n. entry (pre ++ e ∷ es) n) (cond t (suc (length pre) ∷ nodes_from (suc (suc (length pre))) es p s) (nodes_from (suc (suc (length pre))) es p s)) ≡ map Some (cond t (e ∷ chain es p s) (chain es p s))
+    put : (t : Bool) → entry (pre ++ e ∷ es) (suc (length pre)) ≡ Some e
+        → map (λ n. entry (pre ++ e ∷ es) n) (nodes_from (suc (suc (length pre))) es p s) ≡ map Some (chain es p s) →
+        map (λ n. entry (pre ++ e ∷ es) n) (cond t (suc (length pre) ∷ nodes_from (suc (suc (length pre))) es p s)
+        (nodes_from (suc (suc (length pre))) es p s)) ≡ map Some (cond t (e ∷ chain es p s) (chain es p s))
     put true h r = λ i. h i ∷ r i
     put false h r = r
 

@@ -1,5 +1,6 @@
 -- What a whole walk tells: its tree, its pages, its chains and its files.
-use Rattle.std.proofs.Common.{◌≡◌, ℕ, zero, suc, List, [], ◌∷◌, inl, inr, ◌+◌, ◌*◌, ◌/◌, ◌<◌, ◌≤◌, length, refl, sym, ap, subst, ◌∙◌, arith, Bool, true, false, cond, map, eq-eqb}
+use Rattle.std.proofs.Common.{◌≡◌, ℕ, zero, suc, List, inl, inr, ◌+◌, ◌*◌, ◌/◌, ◌<◌, ◌≤◌, length, refl, sym, ap, subst, ◌∙◌, arith, Bool, true, false, cond}
+use Rattle.std.proofs.Common.{map, eq-eqb}
 use Rattle.std.specs.Prelude.{◌==◌, slice_index}
 use Rattle.std.proofs.lemmas.Bool.{eqb-true}
 use native.Mathlib.Decide.{dec_lt, ℕ_discrete}
@@ -10,53 +11,38 @@ use Rattle.adf_fields.specs.Hash.{slot_of}
 use Rattle.adf_tree.specs.Texts.{uppers}
 use Rattle.adf_volume.specs.Demands.{AllHold, boot_demands, head_demands, ext_demands, data_demands}
 use Rattle.adf_tree.specs.declared.entry.Entry.{Entry}
-use Rattle.adf_volume.specs.Layout.{Place, EntryAt, nodes_from, chain_nodes, at_node, head_at, exts_at, datas_at, exts_of, datas_of}
-use Rattle.adf_volume.proofs.Ordered.{Ordered, DirNode}
+use Rattle.adf_volume.specs.Layout.{EntryAt, nodes_from, chain_nodes, at_node, exts_of, datas_of}
+use Rattle.adf_volume.proofs.TreeOrder.{Ordered, DirNode}
 use Rattle.adf_tree.specs.declared.entry.Body.TheVariants.{Dir, File}
 use Rattle.adf_volume.specs.Fits.{EntryFits, FileFits, BodyFits, TableAt}
 use Rattle.adf_volume.specs.Walk.{Role, Before, Has, heads, NodeAt, DirAt, FileAt, MemberAt, NamesPage, data_count, ext_count, IsWalk, IsWhole}
 use Rattle.adf_volume.specs.Walk.Role.{Page, MapExt, Head, Ext, Data}
 use Rattle.adf_volume.specs.Made.{pages_in, map_exts_in, exts_in, datas_in, body_in, entry_in, place_in, entries_in, places_in, tree_in, layout_in}
-use Rattle.adf_volume.proofs.Told.{head_type}
-use Rattle.adf_volume.proofs.Images.{slot_upper, four_blocks, content_length, map_exts_high, map_exts_low}
+use Rattle.adf_volume.proofs.FormDemands.{head_type, dir_not_file}
+use Rattle.adf_volume.proofs.Images.{content_length, map_exts_high, map_exts_low}
 use Rattle.adf_volume.proofs.Lists.{at_fun, at_below, at_some, at_unmap, spelled_from, no_length, at_index, index_past}
 use Rattle.adf_volume.proofs.Walks.{root_is, root_in, number_of, one_head, one_block, ext_file, asked_block, asked_header, page_word}
-use Rattle.adf_volume.proofs.Rising.{parent_below, in_order}
-use Rattle.adf_volume.proofs.Kept.{kept, there, IsNext, new_names, in_range, map_ext_low}
-use Rattle.adf_volume.proofs.Made.{entry_has, place_has, has_entry, exts_length, ext_has, has_ext, data_has, has_data, page_has, has_page, map_ext_has, has_map_ext, slot_is, chain_has, has_chain}
-
-place_parts : (qs : List Place) (i : ℕ) (q : Place) → At qs i q → (head_at qs i ≡ q.head) × (exts_at qs i ≡ q.exts) × (datas_at qs i ≡ q.datas)
-place_parts [] i q h = absurd h
-place_parts (r ∷ qs) zero q h = (ap (λ (x : Place). x.head) h, ap (λ (x : Place). x.exts) h, ap (λ (x : Place). x.datas) h)
-place_parts (r ∷ qs) (suc i) q h = place_parts qs i q h
-
-pub exts_below : (qs : List Place) (i k b : ℕ) → At (exts_at qs i) k b → i < length qs
-exts_below [] i k b h = absurd h
-exts_below (q ∷ qs) zero k b h = omega arith
-exts_below (q ∷ qs) (suc i) k b h = let ih : i < length qs = exts_below qs i k b h in omega arith
-
-pub datas_below : (qs : List Place) (i k b : ℕ) → At (datas_at qs i) k b → i < length qs
-datas_below [] i k b h = absurd h
-datas_below (q ∷ qs) zero k b h = omega arith
-datas_below (q ∷ qs) (suc i) k b h = let ih : i < length qs = datas_below qs i k b h in omega arith
-
-dir_not_file : (image : List ℕ) (h : ℕ) → word_in image h 127 ≡ DIR → word_in image h 127 ≡ FILE → ⊥
-dir_not_file image h d f = let e : DIR ≡ FILE = sym d ∙ f in omega arith
-
-map_length : {X Y : Type 0} (f : X → Y) (xs : List X) → length (map f xs) ≡ length xs
-map_length f [] = refl
-map_length f (x ∷ xs) = ap suc (map_length f xs)
+use Rattle.adf_volume.proofs.WalkOrder.{parent_below, in_order}
+use Rattle.adf_volume.proofs.MemberFacts.{kept, there, IsNext, new_names, in_range, map_ext_low}
+use Rattle.adf_volume.proofs.WalkMembers.{entry_has, place_has, has_entry, exts_length, ext_has, has_ext, data_has, has_data, page_has, has_page, map_ext_has}
+use Rattle.adf_volume.proofs.WalkMembers.{has_map_ext, slot_is, chain_has, has_chain}
+use Rattle.adf_volume.proofs.Places.{place_parts}
+use Rattle.std.proofs.lemmas.List.{length-map}
+use Rattle.adf_volume.proofs.Sizes.{size_low}
+use Rattle.adf_tree.proofs.Children.{same_slot}
 
 body_dir : (image : List ℕ) (w : List (Role × ℕ)) (n b : ℕ) (x : Bool) → cond x Dir (File (content image (kind_of image) b (datas_in w n))) ≡ Dir → x ≡ true
 body_dir image w n b true h = refl
 body_dir image w n b false h = cc
 
-body_file : (image : List ℕ) (w : List (Role × ℕ)) (n b : ℕ) (bytes : List ℕ) (x : Bool) → cond x Dir (File (content image (kind_of image) b (datas_in w n))) ≡ File bytes → (x ≡ false) × (bytes ≡ content image (kind_of image) b (datas_in w n))
+body_file : (image : List ℕ) (w : List (Role × ℕ)) (n b : ℕ) (bytes : List ℕ) (x : Bool)
+    → cond x Dir (File (content image (kind_of image) b (datas_in w n))) ≡ File bytes → (x ≡ false) × (bytes ≡ content image (kind_of image) b (datas_in w n))
 body_file image w n b bytes true h = cc
 body_file image w n b bytes false h = let e : bytes ≡ content image (kind_of image) b (datas_in w n) = cc in (refl, e)
 
 -- a header that is no directory is a file
-head_kind : (image : List ℕ) (b c s : ℕ) → AllHold (head_demands image (kind_of image) b c s) → (word_in image b 127 == DIR) ≡ false → word_in image b 127 ≡ FILE
+head_kind : (image : List ℕ) (b c s : ℕ) → AllHold (head_demands image (kind_of image) b c s) → (word_in image b 127 == DIR) ≡ false
+    → word_in image b 127 ≡ FILE
 head_kind image b c s h z =
     elim (head_type image (kind_of image) b c s h) [
       | inl d ↦ let e : (word_in image b 127 == DIR) ≡ true = eq-eqb (word_in image b 127) DIR d in absurd (let x : true ≡ false = sym e ∙ z in cc)
@@ -64,14 +50,16 @@ head_kind image b c s h z =
     ]
 
 -- a whole walk has all bitmap extension blocks
-pub all_map_exts : (image : List ℕ) (w : List (Role × ℕ)) → IsWhole image w → (j : ℕ) → 25 + 127 * j < pages_needed (blocks image) → (a : ℕ) × Has w (MapExt j) a
+pub all_map_exts : (image : List ℕ) (w : List (Role × ℕ)) → IsWhole image w → (j : ℕ) → 25 + 127 * j < pages_needed (blocks image)
+    → (a : ℕ) × Has w (MapExt j) a
 all_map_exts image w whole zero lt = asked_block image w whole (MapExt 0) (root_of image) 104 (lt, refl, refl) (omega arith)
 all_map_exts image w whole (suc j) lt =
     let x = all_map_exts image w whole j (omega arith) in
     asked_block image w whole (MapExt (suc j)) x.0 127 (lt, x.1, refl) (omega arith)
 
 module _ (image : List ℕ) (w : List (Role × ℕ)) (v : IsWalk image w) (whole : IsWhole image w) where
-  pub head_is : (n p s j b : ℕ) → Has w (Head n p s j) b → (at_node image (layout_in w) n ≡ b) × (exts_of (layout_in w) n ≡ exts_in w n) × (datas_of (layout_in w) n ≡ datas_in w n)
+  pub head_is : (n p s j b : ℕ) → Has w (Head n p s j) b
+      → (at_node image (layout_in w) n ≡ b) × (exts_of (layout_in w) n ≡ exts_in w n) × (datas_of (layout_in w) n ≡ datas_in w n)
   head_is zero p s j b h = let u : (1 ≤ 0) × (0 ≤ heads w) = number_of image v 0 p s j b h in absurd (omega arith)
   head_is (suc i) p s j b h = place_parts (places_in w w) i (place_in w (suc i) b) (place_has image w v i p s j b h)
 
@@ -118,9 +106,12 @@ module _ (image : List ℕ) (w : List (Role × ℕ)) (v : IsWalk image w) (whole
         let x = entry_is n e h in
         let y = entry_is m f k in
         let p1 : x.0 ≡ y.0 = sym (ap (λ (z : Entry). z.parent) x.5) ∙ z ∙ ap (λ (z : Entry). z.parent) y.5 in
-        let nm : uppers (name_of image x.3) ≡ uppers (name_of image y.3) = sym (ap (λ (z : Entry). uppers z.name) x.5) ∙ u ∙ ap (λ (z : Entry). uppers z.name) y.5 in
-        let s1 : x.1 ≡ y.1 = sym (slot_is image w v n x.0 x.1 x.2 x.3 x.4) ∙ slot_upper (name_of image x.3) (name_of image y.3) nm ∙ slot_is image w v m y.0 y.1 y.2 y.3 y.4 in
-        let y4 : Has w (Head m x.0 x.1 y.2) y.3 = subst (λ p. Has w (Head m p x.1 y.2) y.3) (sym p1) (subst (λ s. Has w (Head m y.0 s y.2) y.3) (sym s1) y.4) in
+        let nm : uppers (name_of image x.3) ≡ uppers (name_of image y.3) =
+        sym (ap (λ (z : Entry). uppers z.name) x.5) ∙ u ∙ ap (λ (z : Entry). uppers z.name) y.5 in
+        let s1 : x.1 ≡ y.1 = sym (slot_is image w v n x.0 x.1 x.2 x.3 x.4) ∙ same_slot (name_of image x.3) (name_of image y.3) nm
+        ∙ slot_is image w v m y.0 y.1 y.2 y.3 y.4 in
+        let y4 : Has w (Head m x.0 x.1 y.2) y.3 =
+        subst (λ p. Has w (Head m p x.1 y.2) y.3) (sym p1) (subst (λ s. Has w (Head m y.0 s y.2) y.3) (sym s1) y.4) in
         new_names image v n m x.0 x.1 x.2 y.2 x.3 y.3 x.4 y4 ne nm);
   }
 
@@ -130,13 +121,15 @@ module _ (image : List ℕ) (w : List (Role × ℕ)) (v : IsWalk image w) (whole
         | yes u ↦
             let m = page_word image w (length (pages_in w)) u (λ j y. all_map_exts image w whole j (omega arith)) in
             let x = asked_block image w whole (Page (length (pages_in w))) m.0 m.1 m.2 (omega arith) in
-            let y : length (pages_in w) < length (pages_in w) = at_below (pages_in w) (length (pages_in w)) x.0 (page_has image w v (length (pages_in w)) x.0 x.1) in
+            let y : length (pages_in w) < length (pages_in w) =
+            at_below (pages_in w) (length (pages_in w)) x.0 (page_has image w v (length (pages_in w)) x.0 x.1) in
             omega arith
         | no u ↦ elim (dec_lt (pages_needed (blocks image)) (length (pages_in w))) [
           | no l ↦ omega arith
           | yes l ↦
               let x = at_some (pages_in w) (pages_needed (blocks image)) l in
-              let y : pages_needed (blocks image) < pages_needed (blocks image) = (kept image v (Page (pages_needed (blocks image))) x.0 (has_page image w v (pages_needed (blocks image)) x.0 x.1)).0 in
+              let y : pages_needed (blocks image) < pages_needed (blocks image) =
+              (kept image v (Page (pages_needed (blocks image))) x.0 (has_page image w v (pages_needed (blocks image)) x.0 x.1)).0 in
               omega arith
         ]
       ]
@@ -146,14 +139,16 @@ module _ (image : List ℕ) (w : List (Role × ℕ)) (v : IsWalk image w) (whole
       elim (dec_lt (length (map_exts_in w)) (map_exts_needed (pages_needed (blocks image)))) [
         | yes u ↦
             let x = all_map_exts image w whole (length (map_exts_in w)) (map_exts_low (pages_needed (blocks image)) (length (map_exts_in w)) u) in
-            let y : length (map_exts_in w) < length (map_exts_in w) = at_below (map_exts_in w) (length (map_exts_in w)) x.0 (map_ext_has image w v (length (map_exts_in w)) x.0 x.1) in
+            let y : length (map_exts_in w) < length (map_exts_in w) =
+            at_below (map_exts_in w) (length (map_exts_in w)) x.0 (map_ext_has image w v (length (map_exts_in w)) x.0 x.1) in
             omega arith
         | no u ↦ elim (dec_lt (map_exts_needed (pages_needed (blocks image))) (length (map_exts_in w))) [
           | no l ↦ omega arith
           | yes l ↦
               let m : ℕ = map_exts_needed (pages_needed (blocks image)) in
               let x = at_some (map_exts_in w) m l in
-              let y : m < map_exts_needed (pages_needed (blocks image)) = map_exts_high (pages_needed (blocks image)) m (map_ext_low image w m x.0 v (has_map_ext image w v m x.0 x.1)) in
+              let y : m < map_exts_needed (pages_needed (blocks image)) =
+              map_exts_high (pages_needed (blocks image)) m (map_ext_low image w m x.0 v (has_map_ext image w v m x.0 x.1)) in
               absurd (omega arith)
         ]
       ]
@@ -168,7 +163,8 @@ module _ (image : List ℕ) (w : List (Role × ℕ)) (v : IsWalk image w) (whole
   root_names k b a i lt (inl x) e = ap (λ a. word_in image a (79 + k)) (sym x.1) ∙ ap (word_in image a) (sym x.2) ∙ e
   root_names k b a i lt (inr x) e = let z : k ≡ 25 + 127 * x.0 + i = x.3 in absurd (omega arith)
 
-  pub ext_names : (j i c b a m : ℕ) → i < 127 → At (map_exts_in w) j c → NamesPage image w (25 + 127 * j + i) a m → word_in image a m ≡ b → word_in image c i ≡ b
+  pub ext_names : (j i c b a m : ℕ) → i < 127 → At (map_exts_in w) j c → NamesPage image w (25 + 127 * j + i) a m → word_in image a m ≡ b
+      → word_in image c i ≡ b
   ext_names j i c b a m lt h (inl x) e = let y : 25 + 127 * j + i < 25 = x.0 in absurd (omega arith)
   ext_names j i c b a m lt h (inr x) e =
       let l : m < 127 = x.2 in
@@ -190,7 +186,8 @@ module _ (image : List ℕ) (w : List (Role × ℕ)) (v : IsWalk image w) (whole
 
   -- the chains are spelled
   pub chains_spelled : (p s : ℕ) → DirNode (tree_in image w) p → s < 72 →
-      Spelled (λ b. word_in image b 124) (word_in image (at_node image (layout_in w) p) (6 + s)) (map (at_node image (layout_in w)) (chain_nodes (tree_in image w) p s))
+      Spelled (λ b. word_in image b 124) (word_in image (at_node image (layout_in w) p) (6 + s))
+      (map (at_node image (layout_in w)) (chain_nodes (tree_in image w) p s))
   chains_spelled p s d lt =
       let da = is_dir_at p d in
       let a : ℕ = at_node image (layout_in w) p in
@@ -206,7 +203,7 @@ module _ (image : List ℕ) (w : List (Role × ℕ)) (v : IsWalk image w) (whole
         | no ne ↦
             let x = asked_header image w whole (suc (heads w)) p s 0 a (6 + s) (refl, lt, da, refl, ne) in
             let y : 0 < length c = at_below c 0 x.0 (chain_has image w w v x.0 p s 0 x.1 x.2) in
-            let l : length (map (at_node image (layout_in w)) c) ≡ length c = map_length (at_node image (layout_in w)) c in
+            let l : length (map (at_node image (layout_in w)) c) ≡ length c = length-map c (at_node image (layout_in w)) in
             absurd (omega arith)
       ])
       (λ j b b2 h h2.
@@ -228,12 +225,13 @@ module _ (image : List ℕ) (w : List (Role × ℕ)) (v : IsWalk image w) (whole
             let x' : Has w (Head u.0 p s j) b = subst (Has w (Head u.0 p s j)) y x.1 in
             let q = asked_header image w whole (suc (heads w)) p s (suc j) b 124 (refl, (u.0, x'), refl, ne) in
             let r : suc j < length c = at_below c (suc j) q.0 (chain_has image w w v q.0 p s (suc j) q.1 q.2) in
-            let l : length (map (at_node image (layout_in w)) c) ≡ length c = map_length (at_node image (layout_in w)) c in
+            let l : length (map (at_node image (layout_in w)) c) ≡ length c = length-map c (at_node image (layout_in w)) in
             absurd (omega arith)
       ])
 
   -- a file of the tree is one of the walk
-  pub file_at : (n : ℕ) (e : Entry) (bytes : List ℕ) → EntryAt (tree_in image w) n e → e.body ≡ File bytes → (h : ℕ) × FileAt image w n h × (bytes ≡ content image (kind_of image) h (datas_in w n)) × (at_node image (layout_in w) n ≡ h)
+  pub file_at : (n : ℕ) (e : Entry) (bytes : List ℕ) → EntryAt (tree_in image w) n e → e.body ≡ File bytes
+      → (h : ℕ) × FileAt image w n h × (bytes ≡ content image (kind_of image) h (datas_in w n)) × (at_node image (layout_in w) n ≡ h)
   file_at n e bytes h f =
       let x = entry_is n e h in
       let z : body_in image w n x.3 ≡ File bytes = ap (λ (y : Entry). y.body) (sym x.5) ∙ f in
@@ -241,7 +239,8 @@ module _ (image : List ℕ) (w : List (Role × ℕ)) (v : IsWalk image w) (whole
       let k = kept image v (Head n x.0 x.1 x.2) x.3 x.4 in
       (x.3, ((x.0, x.1, x.2, x.4), head_kind image x.3 k.2.0 x.1 k.2.2 y.0), y.1, (head_is n x.0 x.1 x.2 x.3 x.4).0)
 
-  pub file_parts : (n h : ℕ) → FileAt image w n h → (at_node image (layout_in w) n ≡ h) × (exts_of (layout_in w) n ≡ exts_in w n) × (datas_of (layout_in w) n ≡ datas_in w n)
+  pub file_parts : (n h : ℕ) → FileAt image w n h
+      → (at_node image (layout_in w) n ≡ h) × (exts_of (layout_in w) n ≡ exts_in w n) × (datas_of (layout_in w) n ≡ datas_in w n)
   file_parts n h f = head_is n f.0.0 f.0.1 f.0.2 h f.0.3
 
   one_file : (n h k : ℕ) → FileAt image w n h → FileAt image w n k → h ≡ k
@@ -329,7 +328,8 @@ module _ (image : List ℕ) (w : List (Role × ℕ)) (v : IsWalk image w) (whole
         | no u ↦ y.last (omega arith) ∙ sym (index_past (datas_in w n) k (omega arith))
       ]
 
-  data_formed : (n h k b : ℕ) → FileAt image w n h → At (datas_in w n) k b → AllHold (data_demands image (kind_of image) b h (suc k) (held (kind_of image) (word_in image h 81) (suc k)) (slice_index (datas_in w n) (suc k)))
+  data_formed : (n h k b : ℕ) → FileAt image w n h → At (datas_in w n) k b
+      → AllHold (data_demands image (kind_of image) b h (suc k) (held (kind_of image) (word_in image h 81) (suc k)) (slice_index (datas_in w n) (suc k)))
   data_formed n h k b f x =
       let y = kept image v (Data n (suc k)) b (has_data image w v n k b x) in
       let z : y.0 ≡ h = one_file n y.0 h y.1 f in
@@ -337,7 +337,8 @@ module _ (image : List ℕ) (w : List (Role × ℕ)) (v : IsWalk image w) (whole
       subst (λ x. AllHold (data_demands image (kind_of image) b h (suc k) (held (kind_of image) (word_in image h 81) (suc k)) x)) e
       (subst (λ h. AllHold (data_demands image (kind_of image) b h (suc k) (held (kind_of image) (word_in image h 81) (suc k)) y.5.0)) z y.5.2)
 
-  pub file_fits : (n h : ℕ) (bytes : List ℕ) → FileAt image w n h → length bytes ≡ word_in image h 81 → FileFits image (tree_in image w) (layout_in w) n h bytes
+  pub file_fits : (n h : ℕ) (bytes : List ℕ) → FileAt image w n h → length bytes ≡ word_in image h 81
+      → FileFits image (tree_in image w) (layout_in w) n h bytes
   file_fits n h bytes f z =
       let fp = file_parts n h f in
       let ex : exts_of (layout_in w) n ≡ exts_in w n = fp.1 in
@@ -355,8 +356,10 @@ module _ (image : List ℕ) (w : List (Role × ℕ)) (v : IsWalk image w) (whole
         datas = ap length da ∙ datas_length n h f ∙ sym ct;
         named = (λ k b a x y. data_named n h k b a f (subst (λ xs. At xs k b) da x) y);
         data_form = (λ k b x.
-            subst (λ xs. AllHold (data_demands image (kind_of image) b h (suc k) (held (kind_of image) (length bytes) (suc k)) (slice_index xs (suc k)))) (sym da)
-            (subst (λ z. AllHold (data_demands image (kind_of image) b h (suc k) (held (kind_of image) z (suc k)) (slice_index (datas_in w n) (suc k)))) (sym z)
+            subst (λ xs. AllHold (data_demands image (kind_of image) b h (suc k) (held (kind_of image) (length bytes) (suc k)) (slice_index xs (suc k))))
+            (sym da)
+            (subst (λ z. AllHold (data_demands image (kind_of image) b h (suc k) (held (kind_of image) z (suc k)) (slice_index (datas_in w n) (suc k))))
+            (sym z)
             (data_formed n h k b f (subst (λ xs. At xs k b) da x))));
       }
 
@@ -365,15 +368,18 @@ module _ (image : List ℕ) (w : List (Role × ℕ)) (v : IsWalk image w) (whole
     pub content_long : (n h : ℕ) → FileAt image w n h → length (content image (kind_of image) h (datas_in w n)) ≡ word_in image h 81
     content_long n h f =
         content_length image (kind_of image) h (datas_in w n) boots.0.0
-        (λ k b x. (in_range image v (four_blocks (blocks image) boots.0.1) (Data n (suc k)) b (has_data image w v n k b x)).1)
+        (λ k b x. (in_range image v (size_low (blocks image) boots.0.1) (Data n (suc k)) b (has_data image w v n k b x)).1)
         (datas_length n h f)
 
-    body_fits : (n p s j b c : ℕ) → Has w (Head n p s j) b → AllHold (head_demands image (kind_of image) b c s) → (x : Bool) → (word_in image b 127 == DIR) ≡ x → BodyFits image (kind_of image) (layout_in w) n b (cond x Dir (File (content image (kind_of image) b (datas_in w n))))
+    body_fits : (n p s j b c : ℕ) → Has w (Head n p s j) b → AllHold (head_demands image (kind_of image) b c s) → (x : Bool)
+        → (word_in image b 127 == DIR) ≡ x
+        → BodyFits image (kind_of image) (layout_in w) n b (cond x Dir (File (content image (kind_of image) b (datas_in w n))))
     body_fits n p s j b c h k true z =
         let d : word_in image b 127 ≡ DIR = eqb-true (word_in image b 127) DIR z in
         let hp = head_is n p s j b h in
         let no_file : (a : ℕ) → FileAt image w n a → ⊥ =
-        (λ a f. let e : a ≡ b = (one_head image v n f.0.0 f.0.1 f.0.2 a p s j b f.0.3 h).1 in dir_not_file image b d (subst (λ a. word_in image a 127 ≡ FILE) e f.1)) in (
+        (λ a f. let e : a ≡ b =
+        (one_head image v n f.0.0 f.0.1 f.0.2 a p s j b f.0.3 h).1 in dir_not_file image b d (subst (λ a. word_in image a 127 ≡ FILE) e f.1)) in (
           d,
           hp.1 ∙ no_length (exts_in w n) (elim (dec_lt 0 (length (exts_in w n))) [
             | yes u ↦ let x = at_some (exts_in w n) 0 u in let f = ext_file image v n 1 x.0 (has_ext image w v n 0 x.0 x.1) in absurd (no_file f.0 f.1)
@@ -400,7 +406,8 @@ module _ (image : List ℕ) (w : List (Role × ℕ)) (v : IsWalk image w) (whole
         subst (λ e. EntryFits image (tree_in image w) (layout_in w) n (at_node image (layout_in w) n) e) (sym x.5)
         (subst (λ h. EntryFits image (tree_in image w) (layout_in w) n h (entry_in image w n x.0 b)) (sym hb)
         (record {
-          form = subst (λ c. AllHold (head_demands image (kind_of image) b c (slot_of (name_of image b)))) (sym pb) (subst (λ s. AllHold (head_demands image (kind_of image) b k.2.0 s)) (sym sl) k.2.2);
+          form = subst (λ c. AllHold (head_demands image (kind_of image) b c (slot_of (name_of image b)))) (sym pb)
+              (subst (λ s. AllHold (head_demands image (kind_of image) b k.2.0 s)) (sym sl) k.2.2);
           name = refl;
           meta = refl;
           body = body_fits n x.0 x.1 x.2 b k.2.0 x.4 k.2.2 (word_in image b 127 == DIR) refl;

@@ -1,5 +1,6 @@
 -- Each part that is laid is a whole block in the volume.
-use Rattle.std.proofs.Common.{◌≡◌, ℕ, zero, suc, List, [], ◌∷◌, ◌++◌, ◌+◌, ◌-◌, ◌^◌, ◌<◌, ◌≤◌, length, take, drop, min, refl, arith, Bool, true, false, cond, length-take}
+use Rattle.std.proofs.Common.{◌≡◌, ℕ, zero, suc, List, [], ◌∷◌, ◌++◌, ◌+◌, ◌-◌, ◌^◌, ◌<◌, ◌≤◌, length, take, drop, min, refl, arith, Bool, true, false, cond}
+use Rattle.std.proofs.Common.{length-take}
 use Rattle.std.specs.Prelude.{nat_lt, slice_index}
 use Rattle.std.proofs.lemmas.Bool.Decides.{nat_tests}
 use Rattle.std.proofs.lemmas.List.FromFn.{length-map-range_with_len}
@@ -21,7 +22,8 @@ use Rattle.adf_volume.specs.Lists.{At}
 use Rattle.adf_volume.specs.Layout.{nodes_from}
 use Rattle.adf_build.specs.Plan.{exts_needed, data_blocks, entry_blocks, entries_blocks, given, run}
 use Rattle.adf_build.specs.Lay.{AreBlocks}
-use Rattle.adf_build.specs.Laid.{given_or_none, data_bytes, data_parts, ext_laid, ext_parts, slots_of, body_of, body_parts, head_of, entries_parts, first_block}
+use Rattle.adf_build.specs.Laid.{given_or_none, data_bytes, data_parts, ext_laid, ext_parts, slots_of, body_of, body_parts, head_of, entries_parts}
+use Rattle.adf_build.specs.Laid.{first_block}
 use Rattle.adf_build.proofs.GivenRuns.{length_run}
 
 pub chunk_small : (kind : Kind) → chunk kind ≤ 512
@@ -52,30 +54,44 @@ module _ (n total : ℕ) (small : n < 2 ^ 32) (few : total < 2 ^ 32) (below : (k
       let r : length (run n d (min 72 c)) ≡ min 72 c = length_run n d (min 72 c) in
       record { own = omega arith; head = omega arith; table = omega arith }
 
-  pub fits_data : (head k number m : ℕ) (bytes : List ℕ) → head < n → k + suc m ≤ total → number < 2 ^ 32 → FitsData (record { head = head; number = number; next = given_or_none n (suc k) m; bytes = take (chunk Ofs) bytes })
+  pub fits_data : (head k number m : ℕ) (bytes : List ℕ) → head < n → k + suc m ≤ total → number < 2 ^ 32
+      → FitsData (record { head = head; number = number; next = given_or_none n (suc k) m; bytes = take (chunk Ofs) bytes })
   fits_data head k number m bytes h l s =
       let t : length (take (chunk Ofs) bytes) ≡ min (chunk Ofs) (length bytes) = length-take (chunk Ofs) bytes in
       let c = chunk_ofs in
       record { head = omega arith; number = s; next = next_small (suc k) m (omega arith); bytes = omega arith }
 
-  pub data_long : (kind : Kind) (head k number m : ℕ) (bytes : List ℕ) → head < n → k + suc m ≤ total → number < 2 ^ 32 → length (data_bytes kind head number (given_or_none n (suc k) m) (take (chunk kind) bytes)) ≡ 512
-  data_long Ofs head k number m bytes h l s = length_data_block (record { head = head; number = number; next = given_or_none n (suc k) m; bytes = take (chunk Ofs) bytes }) (fits_data head k number m bytes h l s)
+  pub data_long : (kind : Kind) (head k number m : ℕ) (bytes : List ℕ) → head < n → k + suc m ≤ total → number < 2 ^ 32
+      → length (data_bytes kind head number (given_or_none n (suc k) m) (take (chunk kind) bytes)) ≡ 512
+  data_long Ofs head k number m bytes h l s =
+      length_data_block (record { head = head; number = number; next = given_or_none n (suc k) m; bytes = take (chunk Ofs) bytes })
+      (fits_data head k number m bytes h l s)
   data_long Ffs head k number m bytes h l s =
       let t : length (take (chunk Ffs) bytes) ≡ min (chunk Ffs) (length bytes) = length-take (chunk Ffs) bytes in
       let c = chunk_small Ffs in
       length-laid 512 ((0, take (chunk Ffs) bytes) ∷ []) (omega arith) (omega arith, tt)
 
-  pub are_datas : (kind : Kind) (head k number : ℕ) (bytes : List ℕ) (m : ℕ) → head < n → k + m ≤ total → number + m ≤ 2 ^ 32 → AreBlocks n (data_parts n kind head k number bytes m)
+  pub are_datas : (kind : Kind) (head k number : ℕ) (bytes : List ℕ) (m : ℕ) → head < n → k + m ≤ total → number + m ≤ 2 ^ 32
+      → AreBlocks n (data_parts n kind head k number bytes m)
   are_datas kind head k number bytes zero h l s = tt
-  are_datas kind head k number bytes (suc m) h l s =
-      (below k (omega arith), data_long kind head k number m bytes h l (omega arith), are_datas kind head (suc k) (suc number) (drop (chunk kind) bytes) m h (omega arith) (omega arith))
+  are_datas kind head k number bytes (suc m) h l s = (
+    below k (omega arith),
+    data_long kind head k number m bytes h l (omega arith),
+    are_datas kind head (suc k) (suc number) (drop (chunk kind) bytes) m h
+        (omega arith) (omega arith),
+  )
 
   pub are_exts : (head k d c m : ℕ) → head < n → k + m ≤ total → AreBlocks n (ext_parts n head k d c m)
   are_exts head k d c zero h l = tt
-  are_exts head k d c (suc m) h l =
-      (below k (omega arith), length_ext_block (ext_laid n head k d c m) (fits_ext head k d c m h (omega arith)), are_exts head (suc k) (d + 72) (c - 72) m h (omega arith))
+  are_exts head k d c (suc m) h l = (
+    below k (omega arith),
+    length_ext_block (ext_laid n head k d c m) (fits_ext head k d c m h (omega arith)),
+    are_exts head (suc k) (d + 72) (c - 72) m
+        h (omega arith),
+  )
 
-  pub are_body : (kind : Kind) (k : ℕ) (body : Body) → k + (1 + exts_needed (data_blocks kind body) + data_blocks kind body) ≤ total → AreBlocks n (body_parts n kind k body)
+  pub are_body : (kind : Kind) (k : ℕ) (body : Body) → k + (1 + exts_needed (data_blocks kind body) + data_blocks kind body) ≤ total
+      → AreBlocks n (body_parts n kind k body)
   are_body kind k Dir l = tt
   are_body kind k (File bytes) l =
       let c : ℕ = count kind (length bytes) in
@@ -92,7 +108,8 @@ module _ (n total : ℕ) (small : n < 2 ^ 32) (few : total < 2 ^ 32) (below : (k
       let r : length (run n (suc k + exts_needed c) (min 72 c)) ≡ min 72 c = length_run n (suc k + exts_needed c) (min 72 c) in
       omega arith
 
-  pub fits_head : (kind : Kind) (nodes : List ℕ) (all : List Entry) (i k : ℕ) (e : Entry) (es : List Entry) → ((j : ℕ) → slice_index nodes j < 2 ^ 32) → k < total → is_name e.name ≡ true → length e.meta.comment ≤ 79 → FitsHead (head_of n kind nodes all i k e es)
+  pub fits_head : (kind : Kind) (nodes : List ℕ) (all : List Entry) (i k : ℕ) (e : Entry) (es : List Entry) → ((j : ℕ) → slice_index nodes j < 2 ^ 32)
+      → k < total → is_name e.name ≡ true → length e.meta.comment ≤ 79 → FitsHead (head_of n kind nodes all i k e es)
   fits_head kind nodes all i k e es near l name comment =
       let b = below k l in
       record {
@@ -103,7 +120,8 @@ module _ (n total : ℕ) (small : n < 2 ^ 32) (few : total < 2 ^ 32) (below : (k
         body = fits_body k kind (slots_of nodes all i) e.body (length-map-range_with_len (λ s. first_block (slice_index nodes) (nodes_from 1 all i s)) 0 72);
       }
 
-  pub are_entries : (kind : Kind) (nodes : List ℕ) (all : List Entry) (i k : ℕ) (es : List Entry) → ((j : ℕ) → slice_index nodes j < 2 ^ 32) → k + entries_blocks kind es ≤ total
+  pub are_entries : (kind : Kind) (nodes : List ℕ) (all : List Entry) (i k : ℕ) (es : List Entry) → ((j : ℕ) → slice_index nodes j < 2 ^ 32)
+      → k + entries_blocks kind es ≤ total
       → ((j : ℕ) (e : Entry) → At es j e → (is_name e.name ≡ true) × (length e.meta.comment ≤ 79)) → AreBlocks n (entries_parts n kind nodes all i k es)
   are_entries kind nodes all i k [] near l f = tt
   are_entries kind nodes all i k (e ∷ es) near l f =

@@ -21,10 +21,10 @@ use Rattle.adf_volume.proofs.Sizes.{size_low, size_high}
 use Rattle.adf_build.specs.Plan.{exts_needed, data_blocks, entry_blocks, entries_blocks, blocks_needed, given, run, places_from, planned}
 use Rattle.adf_build.specs.Lay.{Holds}
 use Rattle.adf_build.specs.Laid.{first_block, slots_of, body_of, body_parts, head_of, entries_parts, heads_from, node_blocks, root_laid, volume, IsSound}
-use Rattle.adf_build.proofs.Links.{Links, spelled_chain}
-use Rattle.adf_build.proofs.Shapes.{fits_head}
-use Rattle.adf_build.proofs.Holding.{below, near, entry_sound, fits_root, volume_blocks, holds_entries, holds_root}
-use Rattle.adf_build.proofs.Written.{holds_left, holds_right}
+use Rattle.adf_build.proofs.ChainLinks.{Links, spelled_chain}
+use Rattle.adf_build.proofs.WholeBlocks.{fits_head}
+use Rattle.adf_build.proofs.LaidParts.{below, near, entry_sound, fits_root, volume_blocks, holds_entries, holds_root}
+use Rattle.adf_build.proofs.WrittenParts.{holds_left, holds_right}
 
 -- entry j of a list of places, which is entry i of the volume: from which given block on it lies, and what stands there
 pub record Spot (v : List ℕ) (n total : ℕ) (kind : Kind) (nodes : List ℕ) (all : List Entry) (qs : List Place) (j i : ℕ) (e : Entry) : Type 0 where
@@ -37,16 +37,29 @@ pub record Spot (v : List ℕ) (n total : ℕ) (kind : Kind) (nodes : List ℕ) 
   pub exts : exts_at qs j ≡ run n (suc k) (exts_needed (data_blocks kind e.body))
   pub datas : datas_at qs j ≡ run n (suc k + exts_needed (data_blocks kind e.body)) (data_blocks kind e.body)
 
-spots : (v : List ℕ) (n total : ℕ) (kind : Kind) (nodes : List ℕ) (all : List Entry) (i k : ℕ) (es : List Entry) → Holds v (entries_parts n kind nodes all i k es) → k + entries_blocks kind es ≤ total
+spots : (v : List ℕ) (n total : ℕ) (kind : Kind) (nodes : List ℕ) (all : List Entry) (i k : ℕ) (es : List Entry)
+    → Holds v (entries_parts n kind nodes all i k es) → k + entries_blocks kind es ≤ total
     → (j : ℕ) (e : Entry) → At es j e → Spot v n total kind nodes all (places_from n kind k es) j (i + j) e
 spots v n total kind nodes all i k [] h l j e a = absurd a
 spots v n total kind nodes all i k (x ∷ es) h l zero e a =
     let z : i ≡ i + 0 = omega arith in
     subst (λ m. Spot v n total kind nodes all (places_from n kind k (x ∷ es)) 0 m e) z
     (subst (λ e. Spot v n total kind nodes all (places_from n kind k (x ∷ es)) 0 i e) a
-    (record { k = k; rest = es; room = omega arith; head = h.0; body = holds_left v (body_parts n kind k x.body) (entries_parts n kind nodes all (suc i) (k + entry_blocks kind x) es) h.1; at = refl; exts = refl; datas = refl }))
+    (record {
+      k = k;
+      rest = es;
+      room = omega arith;
+      head = h.0;
+      body =
+          holds_left v (body_parts n kind k x.body) (entries_parts n kind nodes all (suc i) (k + entry_blocks kind x) es) h.1;
+      at = refl;
+      exts = refl;
+      datas =
+          refl;
+    }))
 spots v n total kind nodes all i k (x ∷ es) h l (suc j) e a =
-    let s = spots v n total kind nodes all (suc i) (k + entry_blocks kind x) es (holds_right v (body_parts n kind k x.body) (entries_parts n kind nodes all (suc i) (k + entry_blocks kind x) es) h.1) (omega arith) j e a in
+    let s = spots v n total kind nodes all (suc i) (k + entry_blocks kind x) es
+    (holds_right v (body_parts n kind k x.body) (entries_parts n kind nodes all (suc i) (k + entry_blocks kind x) es) h.1) (omega arith) j e a in
     let z : suc i + j ≡ i + suc j = omega arith in
     subst (λ m. Spot v n total kind nodes all (places_from n kind k (x ∷ es)) (suc j) m e) z
     (record { k = s.k; rest = s.rest; room = s.room; head = s.head; body = s.body; at = s.at; exts = s.exts; datas = s.datas })
@@ -62,28 +75,34 @@ first_near at (m ∷ ms) f = f m
 
 module _ (t : Tree) (n : ℕ) (sound : IsSound t) (allowed : is_allowed n ≡ true) (room : blocks_needed t n ≤ n - 2) where
   -- the spot of each entry
-  pub spot : (i : ℕ) (e : Entry) → At t.entries i e → Spot (volume t n) n (entries_blocks t.kind t.entries) t.kind (node_blocks t n) t.entries (places_from n t.kind 0 t.entries) i (suc i) e
+  pub spot : (i : ℕ) (e : Entry) → At t.entries i e
+      → Spot (volume t n) n (entries_blocks t.kind t.entries) t.kind (node_blocks t n) t.entries (places_from n t.kind 0 t.entries) i (suc i) e
   spot i e h =
       let z : 1 + i ≡ suc i = omega arith in
       subst (λ m. Spot (volume t n) n (entries_blocks t.kind t.entries) t.kind (node_blocks t n) t.entries (places_from n t.kind 0 t.entries) i m e) z
-      (spots (volume t n) n (entries_blocks t.kind t.entries) t.kind (node_blocks t n) t.entries 1 0 t.entries (holds_entries t n sound allowed room) (omega arith) i e h)
+      (spots (volume t n) n (entries_blocks t.kind t.entries) t.kind (node_blocks t n) t.entries 1 0 t.entries (holds_entries t n sound allowed room)
+      (omega arith) i e h)
 
   pub nodes_at : (j : ℕ) → slice_index (node_blocks t n) j ≡ at_node (volume t n) (planned t n) j
   nodes_at zero = ap middle (sym (volume_blocks t n sound allowed room))
   nodes_at (suc j) = heads_places n t.kind 0 t.entries j
 
   -- the fields of each header are words
-  pub head_fits : (i : ℕ) (e : Entry) (h : At t.entries i e) → FitsHead (head_of n t.kind (node_blocks t n) t.entries (suc i) (spot i e h).k e (spot i e h).rest)
+  pub head_fits : (i : ℕ) (e : Entry) (h : At t.entries i e)
+      → FitsHead (head_of n t.kind (node_blocks t n) t.entries (suc i) (spot i e h).k e (spot i e h).rest)
   head_fits i e h =
       let s = spot i e h in
       let r : s.k + entry_blocks t.kind e ≤ entries_blocks t.kind t.entries = s.room in
       let high = size_high n allowed in
       let g = entry_sound t n sound allowed room i e h in
       let four = size_low n allowed in
-      fits_head n (entries_blocks t.kind t.entries) (omega arith) (omega arith) (below t n sound allowed room) t.kind (node_blocks t n) t.entries (suc i) s.k e s.rest (near t n sound allowed room) (omega arith) g.0 g.1
+      fits_head n (entries_blocks t.kind t.entries) (omega arith) (omega arith) (below t n sound allowed room) t.kind (node_blocks t n) t.entries (suc i)
+      s.k e s.rest (near t n sound allowed room) (omega arith) g.0 g.1
 
-  links : (i k : ℕ) (es : List Entry) → ((j : ℕ) → slice_index (node_blocks t n) (i + j) ≡ slice_index (heads_from n t.kind k es) j) → Holds (volume t n) (entries_parts n t.kind (node_blocks t n) t.entries i k es)
-      → k + entries_blocks t.kind es ≤ entries_blocks t.kind t.entries → ((j : ℕ) (e : Entry) → At es j e → (is_name e.name ≡ true) × (length e.meta.comment ≤ 79))
+  links : (i k : ℕ) (es : List Entry) → ((j : ℕ) → slice_index (node_blocks t n) (i + j) ≡ slice_index (heads_from n t.kind k es) j)
+      → Holds (volume t n) (entries_parts n t.kind (node_blocks t n) t.entries i k es)
+      → k + entries_blocks t.kind es ≤ entries_blocks t.kind t.entries
+      → ((j : ℕ) (e : Entry) → At es j e → (is_name e.name ≡ true) × (length e.meta.comment ≤ 79))
       → Links (λ b. word_in (volume t n) b 124) (slice_index (node_blocks t n)) i es
   links i k [] f h l g = tt
   links i k (e ∷ es) f h l g =
@@ -92,18 +111,22 @@ module _ (t : Tree) (n : ℕ) (sound : IsSound t) (allowed : is_allowed n ≡ tr
       let high = size_high n allowed in
       let four = size_low n allowed in
       let p = g 0 e refl in
-      let fh = fits_head n (entries_blocks t.kind t.entries) (omega arith) (omega arith) (below t n sound allowed room) t.kind (node_blocks t n) t.entries i k e es (near t n sound allowed room) (omega arith) p.0 p.1 in
+      let fh = fits_head n (entries_blocks t.kind t.entries) (omega arith) (omega arith) (below t n sound allowed room) t.kind (node_blocks t n) t.entries i
+      k e es (near t n sound allowed room) (omega arith) p.0 p.1 in
       let nx = first_near (slice_index (node_blocks t n)) (nodes_from (suc i) es e.parent (slot_of e.name)) (near t n sound allowed room) in (
         ap (λ b. word_in (volume t n) b 124) a ∙ (ap (λ bs. word bs 124) h.0 ∙ head_block-next (head_of n t.kind (node_blocks t n) t.entries i k e es) fh nx),
         links (suc i) (k + entry_blocks t.kind e) es (λ j. let y : suc i + j ≡ i + suc j = omega arith in ap (slice_index (node_blocks t n)) y ∙ f (suc j))
-            (holds_right (volume t n) (body_parts n t.kind k e.body) (entries_parts n t.kind (node_blocks t n) t.entries (suc i) (k + entry_blocks t.kind e) es) h.1) (omega arith) (λ j d q. g (suc j) d q),
+            (holds_right (volume t n) (body_parts n t.kind k e.body) (entries_parts n t.kind (node_blocks t n) t.entries (suc i) (k + entry_blocks t.kind e)
+            es) h.1) (omega arith) (λ j d q. g (suc j) d q),
       )
 
   all_links : Links (λ b. word_in (volume t n) b 124) (slice_index (node_blocks t n)) 1 t.entries
-  all_links = links 1 0 t.entries (λ j. let y : 1 + j ≡ suc j = omega arith in ap (slice_index (node_blocks t n)) y) (holds_entries t n sound allowed room) (omega arith) (entry_sound t n sound allowed room)
+  all_links = links 1 0 t.entries (λ j. let y : 1 + j ≡ suc j = omega arith in ap (slice_index (node_blocks t n)) y) (holds_entries t n sound allowed room)
+      (omega arith) (entry_sound t n sound allowed room)
 
   -- a chain whose first header stands in this word
-  pub chain_laid : (p s w : ℕ) → w ≡ first_block (slice_index (node_blocks t n)) (chain_nodes t p s) → Spelled (λ b. word_in (volume t n) b 124) w (map (at_node (volume t n) (planned t n)) (chain_nodes t p s))
+  pub chain_laid : (p s w : ℕ) → w ≡ first_block (slice_index (node_blocks t n)) (chain_nodes t p s)
+      → Spelled (λ b. word_in (volume t n) b 124) w (map (at_node (volume t n) (planned t n)) (chain_nodes t p s))
   chain_laid p s w e =
       let same : slice_index (node_blocks t n) ≡ at_node (volume t n) (planned t n) = λ i j. nodes_at j i in
       subst (λ at. Spelled (λ b. word_in (volume t n) b 124) w (map at (chain_nodes t p s))) same
@@ -111,19 +134,27 @@ module _ (t : Tree) (n : ℕ) (sound : IsSound t) (allowed : is_allowed n ≡ tr
       (spelled_chain (λ b. word_in (volume t n) b 124) (slice_index (node_blocks t n)) 1 t.entries p s all_links))
 
   slot_is : (p s : ℕ) → s < 72 → slice_index (slots_of (node_blocks t n) t.entries p) s ≡ first_block (slice_index (node_blocks t n)) (chain_nodes t p s)
-  slot_is p s l = let z : 0 + s ≡ s = omega arith in get_or-map-range_with_len (λ s. first_block (slice_index (node_blocks t n)) (nodes_from 1 t.entries p s)) 0 72 s s 0 l z
+  slot_is p s l =
+      let z : 0 + s ≡ s = omega arith in
+      get_or-map-range_with_len (λ s. first_block (slice_index (node_blocks t n)) (nodes_from 1 t.entries p s)) 0 72 s s 0 l z
 
   -- the slots of the root and of directories
   pub root_slot : (s : ℕ) → s < 72 → word_in (volume t n) (middle n) (6 + s) ≡ first_block (slice_index (node_blocks t n)) (chain_nodes t 0 s)
   root_slot s l =
       let e = slot_is 0 s l in
-      let small : slice_index (slots_of (node_blocks t n) t.entries 0) s < 2 ^ 32 = subst (λ m. m < 2 ^ 32) (sym e) (first_near (slice_index (node_blocks t n)) (chain_nodes t 0 s) (near t n sound allowed room)) in
+      let small : slice_index (slots_of (node_blocks t n) t.entries 0) s < 2 ^ 32 =
+      subst (λ m. m < 2 ^ 32) (sym e) (first_near (slice_index (node_blocks t n)) (chain_nodes t 0 s) (near t n sound allowed room)) in
       ap (λ bs. word bs (6 + s)) (holds_root t n sound allowed room) ∙ (root_block-slot (root_laid t n) s (fits_root t n sound allowed room) l small ∙ e)
 
-  pub dir_slot : (i s : ℕ) (e : Entry) (h : At t.entries i e) → e.body ≡ Dir → s < 72 → word_in (volume t n) (given n (spot i e h).k) (6 + s) ≡ first_block (slice_index (node_blocks t n)) (chain_nodes t (suc i) s)
+  pub dir_slot : (i s : ℕ) (e : Entry) (h : At t.entries i e) → e.body ≡ Dir → s < 72
+      → word_in (volume t n) (given n (spot i e h).k) (6 + s) ≡ first_block (slice_index (node_blocks t n)) (chain_nodes t (suc i) s)
   dir_slot i s e h d l =
       let p = spot i e h in
       let y = slot_is (suc i) s l in
-      let small : slice_index (slots_of (node_blocks t n) t.entries (suc i)) s < 2 ^ 32 = subst (λ m. m < 2 ^ 32) (sym y) (first_near (slice_index (node_blocks t n)) (chain_nodes t (suc i) s) (near t n sound allowed room)) in
-      let b : body_of n p.k t.kind (slots_of (node_blocks t n) t.entries (suc i)) e.body ≡ DirFields (slots_of (node_blocks t n) t.entries (suc i)) = ap (body_of n p.k t.kind (slots_of (node_blocks t n) t.entries (suc i))) d in
-      ap (λ bs. word bs (6 + s)) p.head ∙ (head_block-slot (head_of n t.kind (node_blocks t n) t.entries (suc i) p.k e p.rest) (slots_of (node_blocks t n) t.entries (suc i)) s (head_fits i e h) b l small ∙ y)
+      let small : slice_index (slots_of (node_blocks t n) t.entries (suc i)) s < 2 ^ 32 =
+      subst (λ m. m < 2 ^ 32) (sym y) (first_near (slice_index (node_blocks t n)) (chain_nodes t (suc i) s) (near t n sound allowed room)) in
+      let b : body_of n p.k t.kind (slots_of (node_blocks t n) t.entries (suc i)) e.body ≡ DirFields (slots_of (node_blocks t n) t.entries (suc i)) =
+      ap (body_of n p.k t.kind (slots_of (node_blocks t n) t.entries (suc i))) d in
+      ap (λ bs. word bs (6 + s)) p.head
+      ∙ (head_block-slot (head_of n t.kind (node_blocks t n) t.entries (suc i) p.k e p.rest) (slots_of (node_blocks t n) t.entries (suc i)) s
+      (head_fits i e h) b l small ∙ y)

@@ -1,17 +1,18 @@
 -- There is one first fault.
-use Rattle.std.proofs.Common.{◌≡◌, ℕ, zero, suc, List, [], ◌∷◌, ◌++◌, ◌⊎◌, inl, inr, ◌+◌, ◌-◌, ◌*◌, ◌/◌, ◌<◌, length, refl, sym, ap, subst, ◌∙◌, arith}
-use native.Mathlib.Decide.{dec_lt, ℕ_discrete}
+use Rattle.std.proofs.Common.{◌≡◌, ℕ, zero, suc, List, [], ◌∷◌, ◌++◌, inl, inr, ◌+◌, ◌-◌, ◌*◌, ◌/◌, ◌<◌, length, refl, sym, ap, subst, ◌∙◌, arith}
+use native.Mathlib.Decide.{dec_lt}
 use Rattle.adf_blocks.specs.declared.cause.Cause.{Cause}
 use Rattle.adf_volume.specs.Image.{word_in, root_of}
 use Rattle.adf_blocks.specs.Sizes.{blocks}
 use Rattle.adf_volume.specs.Demands.{Demand, FirstFails, boot_demands, root_demands}
-use Rattle.adf_volume.specs.Walk.{Role, first, second, third, Before, Same, Has, heads, DirAt, FileAt, MemberAt, NamesPage, Asks, IsDue, NoCause, demands, bitmap_demands, IsWalk, IsWhole, FirstFault}
+use Rattle.adf_volume.specs.Walk.{Role, Before, Same, Has, heads, DirAt, FileAt, MemberAt, NamesPage, Asks, IsDue, NoCause, demands, bitmap_demands, IsWalk}
+use Rattle.adf_volume.specs.Walk.{IsWhole, FirstFault}
 use Rattle.adf_volume.specs.Walk.Role.{Root, Page, MapExt, Head, Ext, Data}
 use Rattle.adf_volume.specs.Walk.IsWalk.{start, step}
 use Rattle.adf_volume.specs.Walk.FirstFault.{at_boot, at_due, at_bitmap}
 use Rattle.adf_volume.proofs.Lists.{fails_not_all}
-use Rattle.adf_volume.proofs.Walks.{same_role, asks_number, one_block, one_node, one_head}
-use Rattle.adf_volume.proofs.Rising.{before_total}
+use Rattle.adf_volume.proofs.Walks.{same_role, asks_number, one_block, one_node, one_head, dec_same}
+use Rattle.adf_volume.proofs.WalkOrder.{before_total}
 
 fails_one : (xs : List Demand) (b : ℕ) (c : Cause) (b' : ℕ) (c' : Cause) → FirstFails xs b c → FirstFails xs b' c' → (b ≡ b') × (c ≡ c')
 fails_one [] b c b' c' h k = absurd h
@@ -52,7 +53,8 @@ module _ (image : List ℕ) where
   asks_one w v (MapExt zero) a i b j h k = (h.1 ∙ sym k.1, h.2 ∙ sym k.2)
   asks_one w v (MapExt (suc x)) a i b j h k = ((one_block image v (MapExt x) (MapExt x) a b h.1 k.1 (refl, refl, refl)).1, h.2 ∙ sym k.2)
   asks_one w v (Head n p s zero) a i b j h k = (dir_one w v p a b h.2 k.2, h.3 ∙ sym k.3)
-  asks_one w v (Head n p s (suc x)) a i b j h k = ((one_block image v (Head h.1.0 p s x) (Head k.1.0 p s x) a b h.1.1 k.1.1 (refl, refl, refl)).1, h.2 ∙ sym k.2)
+  asks_one w v (Head n p s (suc x)) a i b j h k =
+      ((one_block image v (Head h.1.0 p s x) (Head k.1.0 p s x) a b h.1.1 k.1.1 (refl, refl, refl)).1, h.2 ∙ sym k.2)
   asks_one w v (Ext n zero) a i b j h k = absurd h
   asks_one w v (Ext n (suc zero)) a i b j h k = (file_one w v n a b h.0 k.0, h.1 ∙ sym k.1)
   asks_one w v (Ext n (suc (suc x))) a i b j h k = ((one_block image v (Ext n (suc x)) (Ext n (suc x)) a b h.0 k.0 (refl, refl, refl)).1, h.1 ∙ sym k.1)
@@ -70,15 +72,6 @@ module _ (image : List ℕ) where
       let x = asks_one w v q a i b j (subst (λ r. Asks image w r a i) z d.asked) e.asked in
       (z, x.0, x.1)
     where
-      dec_same : (r q : Role) → Dec (Same r q)
-      dec_same r q = elim (ℕ_discrete (first r) (first q)) [
-        | no n ↦ no (λ s. n s.0)
-        | yes e ↦ elim (ℕ_discrete (second r) (second q)) [
-          | no n ↦ no (λ s. n s.1)
-          | yes f ↦ elim (ℕ_discrete (third r) (third q)) [ no n ↦ no (λ s. n s.2) | yes g ↦ yes (e, f, g) ]
-        ]
-      ]
-
       total : (r q : Role) → (Before r q → ⊥) → (Before q r → ⊥) → Same r q
       total r q x y = elim (dec_same r q) [ yes s ↦ s | no s ↦ absurd (x (before_total r q y s)) ]
 
@@ -91,22 +84,15 @@ module _ (image : List ℕ) where
     fine : NoCause image w role at (word_in image at index)
     same : w' ≡ (role, word_in image at index) ∷ w
 
-  -- of two walks, one goes on from the other: they are the same, or a step leads on from the shorter one
-  Comparable : List (Role × ℕ) → List (Role × ℕ) → Type 0
-  Comparable w u = (w ≡ u) ⊎ (((x : List (Role × ℕ)) × Step w x × IsWalk image x) ⊎ ((x : List (Role × ℕ)) × Step u x × IsWalk image x))
+  -- a walk has the root
+  not_empty : {w : List (Role × ℕ)} → IsWalk image w → length w ≡ 0 → ⊥
+  not_empty start e = omega arith
+  not_empty (step v d f n) e = omega arith
 
   same_walks : {w u : List (Role × ℕ)} → IsWalk image w → IsWalk image u → length w ≡ length u → w ≡ u
   same_walks start start e = refl
   same_walks start (step v d f n) e = absurd (not_empty v (omega arith))
-    where
-      not_empty : {w : List (Role × ℕ)} → IsWalk image w → length w ≡ 0 → ⊥
-      not_empty start e = omega arith
-      not_empty (step v d f n) e = omega arith
   same_walks (step v d f n) start e = absurd (not_empty v (omega arith))
-    where
-      not_empty : {w : List (Role × ℕ)} → IsWalk image w → length w ≡ 0 → ⊥
-      not_empty start e = omega arith
-      not_empty (step v d f n) e = omega arith
   same_walks (step {w = w} {r = r} {b = b} {a = a} {i = i} v d f n) (step {w = u} {r = q} {b = c} {a = a'} {i = i'} v' d' f' n') e =
       let z : w ≡ u = same_walks v v' (omega arith) in
       let d2 : IsDue image u r a i = subst (λ w. IsDue image w r a i) z d in
@@ -117,10 +103,6 @@ module _ (image : List ℕ) where
   -- from the shorter of two walks a step leads on
   goes_on : {u : List (Role × ℕ)} → IsWalk image u → (w : List (Role × ℕ)) → IsWalk image w → length w < length u → (x : List (Role × ℕ)) × Step w x
   goes_on start w v l = absurd (not_empty v (omega arith))
-    where
-      not_empty : {w : List (Role × ℕ)} → IsWalk image w → length w ≡ 0 → ⊥
-      not_empty start e = omega arith
-      not_empty (step v d f n) e = omega arith
   goes_on (step {w = u} {r = r} {b = b} {a = a} {i = i} v d f n) w vw l =
       elim (dec_lt (length w) (length u)) [
         | yes k ↦ goes_on v w vw k
@@ -139,7 +121,8 @@ module _ (image : List ℕ) where
       ]
 
   -- what is due after a walk has a cause, or a step leads on, and not both
-  no_step : (w x : List (Role × ℕ)) (r : Role) (a i b : ℕ) (c : Cause) → IsWalk image w → IsDue image w r a i → FirstFails (demands image w r a (word_in image a i)) b c → Step w x → ⊥
+  no_step : (w x : List (Role × ℕ)) (r : Role) (a i b : ℕ) (c : Cause) → IsWalk image w → IsDue image w r a i
+      → FirstFails (demands image w r a (word_in image a i)) b c → Step w x → ⊥
   no_step w x r a i b c v d f s =
       let z = due_one w v r s.role a i s.at s.index d s.due in
       fails_not_all (demands image w s.role s.at (word_in image s.at s.index)) b c
@@ -150,7 +133,8 @@ module _ (image : List ℕ) where
   whole_step : (w x : List (Role × ℕ)) → IsWhole image w → Step w x → ⊥
   whole_step w x h s = h s.role s.at s.index s.due.asked s.due.lacks
 
-  two_due : (w u : List (Role × ℕ)) (r q : Role) (a i a' i' b : ℕ) (c : Cause) (b' : ℕ) (c' : Cause) → IsWalk image w → IsWalk image u → IsDue image w r a i → IsDue image u q a' i' →
+  two_due : (w u : List (Role × ℕ)) (r q : Role) (a i a' i' b : ℕ) (c : Cause) (b' : ℕ) (c' : Cause) → IsWalk image w → IsWalk image u → IsDue image w r a i
+      → IsDue image u q a' i' →
       FirstFails (demands image w r a (word_in image a i)) b c → FirstFails (demands image u q a' (word_in image a' i')) b' c' → (b ≡ b') × (c ≡ c')
   two_due w u r q a i a' i' b c b' c' v v' d d' f f' =
       elim (dec_lt (length w) (length u)) [
@@ -169,7 +153,8 @@ module _ (image : List ℕ) where
         ]
       ]
 
-  due_and_whole : (w u : List (Role × ℕ)) (r : Role) (a i b : ℕ) (c : Cause) → IsWalk image w → IsWalk image u → IsDue image w r a i → FirstFails (demands image w r a (word_in image a i)) b c → IsWhole image u → ⊥
+  due_and_whole : (w u : List (Role × ℕ)) (r : Role) (a i b : ℕ) (c : Cause) → IsWalk image w → IsWalk image u → IsDue image w r a i
+      → FirstFails (demands image w r a (word_in image a i)) b c → IsWhole image u → ⊥
   due_and_whole w u r a i b c v v' d f h =
       elim (dec_lt (length w) (length u)) [
         | yes l ↦ let s = goes_on v' w v l in no_step w s.0 r a i b c v d f s.1
@@ -202,4 +187,5 @@ module _ (image : List ℕ) where
   one_fault b c b' c' (at_bitmap h w v k g) (at_boot f) = absurd (fails_not_all (boot_demands image ++ root_demands image (root_of image)) b' c' f h)
   one_fault b c b' c' (at_bitmap h w v k g) (at_due h' w' r' a' i' v' d' g') = absurd (due_and_whole w' w r' a' i' b' c' v' v d' g' k)
   one_fault b c b' c' (at_bitmap h w v k g) (at_bitmap h' w' v' k' g') =
-      fails_one (bitmap_demands image w' 2 (blocks image - 2)) b c b' c' (subst (λ w. FirstFails (bitmap_demands image w 2 (blocks image - 2)) b c) (two_whole w w' v v' k k') g) g'
+      fails_one (bitmap_demands image w' 2 (blocks image - 2)) b c b' c'
+      (subst (λ w. FirstFails (bitmap_demands image w 2 (blocks image - 2)) b c) (two_whole w w' v v' k k') g) g'

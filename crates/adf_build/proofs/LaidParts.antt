@@ -1,5 +1,6 @@
 -- A laid volume holds each of its parts.
-use Rattle.std.proofs.Common.{◌≡◌, ℕ, zero, suc, List, [], ◌∷◌, ◌++◌, inl, inr, ◌+◌, ◌-◌, ◌*◌, ◌^◌, ◌<◌, ◌≤◌, length, refl, sym, ap, subst, ◌∙◌, arith, true, append_assoc}
+use Rattle.std.proofs.Common.{◌≡◌, ℕ, zero, suc, List, [], ◌∷◌, ◌++◌, inl, inr, ◌+◌, ◌-◌, ◌*◌, ◌^◌, ◌<◌, ◌≤◌, length, refl, sym, ap, subst, ◌∙◌, arith, true}
+use Rattle.std.proofs.Common.{append_assoc}
 use Rattle.std.specs.Prelude.{slice_index, replicate, min}
 use Rattle.std.proofs.lemmas.List.{length-replicate}
 use Rattle.std.proofs.lemmas.List.FromFn.{length-map-range_with_len}
@@ -21,15 +22,17 @@ use Rattle.adf_volume.specs.Image.{map_exts_needed}
 use Rattle.adf_volume.specs.Layout.{nodes_from}
 use Rattle.adf_volume.proofs.Lists.{in_cases, at_below, at_index_or}
 use Rattle.adf_volume.proofs.Sizes.{size_low, size_high}
-use Rattle.adf_volume.proofs.Blocks.{Distinct, distinct-append}
+use Rattle.adf_volume.proofs.DistinctBlocks.{Distinct, distinct-append}
 use Rattle.adf_build.specs.Plan.{reserved, entry_blocks, entries_blocks, blocks_needed, given, run, row}
 use Rattle.adf_build.specs.Bits.{bits_from, is_free_bit, page_words}
 use Rattle.adf_build.specs.Lay.{AreBlocks, NoneTwice, Holds, numbers_of}
-use Rattle.adf_build.specs.Laid.{first_block, entries_parts, heads_from, node_blocks, page_parts, map_ext_parts, map_ext_or_none, listed_pages, boot_bytes, root_laid, parts, volume, IsSound}
-use Rattle.adf_build.proofs.GivenRuns.{given_from, given_below, given_apart, reserved_below, in_run, in_row, distinct_run, distinct_row, length_row, row-append}
+use Rattle.adf_build.specs.Laid.{first_block, entries_parts, heads_from, node_blocks, page_parts, map_ext_parts, map_ext_or_none, listed_pages, boot_bytes}
+use Rattle.adf_build.specs.Laid.{root_laid, parts, volume, IsSound}
+use Rattle.adf_build.proofs.GivenRuns.{given_from, given_below, given_apart, reserved_below, in_run, in_row, distinct_run, distinct_row, length_row}
+use Rattle.adf_build.proofs.GivenRuns.{row-append}
 use Rattle.adf_build.proofs.Lays.{length-lay}
-use Rattle.adf_build.proofs.Written.{none_twice, laid_holds, holds_left, holds_right, numbers_of-append, entries_numbers}
-use Rattle.adf_build.proofs.Shapes.{are-append, are_entries}
+use Rattle.adf_build.proofs.WrittenParts.{none_twice, laid_holds, holds_left, holds_right, numbers_of-append, entries_numbers}
+use Rattle.adf_build.proofs.WholeBlocks.{are-append, are_entries}
 
 -- the reserved blocks are the pages and the bitmap extension blocks
 pub reserved_parts : (n : ℕ) → pages_needed n + map_exts_needed (pages_needed n) ≡ reserved n
@@ -42,7 +45,9 @@ boot_short Ffs = refl
 
 page_numbers : (n total j m : ℕ) → numbers_of (page_parts n total j m) ≡ row (middle n + 1 + j) m
 page_numbers n total j zero = refl
-page_numbers n total j (suc m) = let e : middle n + 1 + suc j ≡ suc (middle n + 1 + j) = omega arith in ap (λ l. (middle n + 1 + j) ∷ l) (page_numbers n total (suc j) m ∙ ap (λ b. row b m) e)
+page_numbers n total j (suc m) =
+    let e : middle n + 1 + suc j ≡ suc (middle n + 1 + j) = omega arith in
+    ap (λ l. (middle n + 1 + j) ∷ l) (page_numbers n total (suc j) m ∙ ap (λ b. row b m) e)
 
 map_ext_numbers : (n j m : ℕ) → numbers_of (map_ext_parts n j m) ≡ row (middle n + 1 + pages_needed n + j) m
 map_ext_numbers n j zero = refl
@@ -53,7 +58,8 @@ map_ext_numbers n j (suc m) =
 -- a bitmap extension block names at most 127 pages
 pub listed_few : (n j : ℕ) → length (listed_pages n j) ≤ 127
 listed_few n j =
-    let l : length (listed_pages n j) ≡ min 127 (pages_needed n - (25 + 127 * j)) = length_row (middle n + 1 + (25 + 127 * j)) (min 127 (pages_needed n - (25 + 127 * j))) in
+    let l : length (listed_pages n j) ≡ min 127 (pages_needed n - (25 + 127 * j)) =
+    length_row (middle n + 1 + (25 + 127 * j)) (min 127 (pages_needed n - (25 + 127 * j))) in
     omega arith
 
 page_long : (n total j : ℕ) → length (page_words n total j) ≡ 127
@@ -65,7 +71,12 @@ are_pages n total j (suc m) h = (omega arith, length_page_block (page_words n to
 
 are_map_exts : (n j m : ℕ) → middle n + pages_needed n + j + m < n → AreBlocks n (map_ext_parts n j m)
 are_map_exts n j zero h = tt
-are_map_exts n j (suc m) h = (omega arith, length_map_ext_block (listed_pages n j) (map_ext_or_none n (suc j) m) (listed_few n j), are_map_exts n (suc j) m (omega arith))
+are_map_exts n j (suc m) h = (
+  omega arith,
+  length_map_ext_block (listed_pages n j) (map_ext_or_none n (suc j) m) (listed_few n j),
+  are_map_exts n (suc j) m
+      (omega arith),
+)
 
 -- the parts behind the entries: the pages, the bitmap extension blocks, the root and the boot block
 abbrev pages_of : Tree → ℕ → List (ℕ × List ℕ)
@@ -84,7 +95,8 @@ module _ (t : Tree) (n : ℕ) (sound : IsSound t) (allowed : is_allowed n ≡ tr
   pub below : (k : ℕ) → k < entries_blocks t.kind t.entries → given n k < n
   below k l = let four : 4 ≤ n = size_low n allowed in given_below n k four (omega arith)
 
-  heads_near : (k : ℕ) (es : List Entry) → k + entries_blocks t.kind es ≤ entries_blocks t.kind t.entries → (j : ℕ) → slice_index (heads_from n t.kind k es) j < 2 ^ 32
+  heads_near : (k : ℕ) (es : List Entry) → k + entries_blocks t.kind es ≤ entries_blocks t.kind t.entries → (j : ℕ)
+      → slice_index (heads_from n t.kind k es) j < 2 ^ 32
   heads_near k [] l j = omega arith
   heads_near k (e ∷ es) l zero = let b = below k (omega arith) in let high = size_high n allowed in omega arith
   heads_near k (e ∷ es) l (suc j) = heads_near (k + entry_blocks t.kind e) es (omega arith) j
@@ -117,12 +129,21 @@ module _ (t : Tree) (n : ℕ) (sound : IsSound t) (allowed : is_allowed n ≡ tr
       let r = reserved_below n four in
       let b = boot_short t.kind in
       are-append n (entries_parts n t.kind (node_blocks t n) t.entries 1 0 t.entries) (pages_of t n ++ (map_exts_of n ++ ends_of t n))
-      (are_entries n (entries_blocks t.kind t.entries) (omega arith) (omega arith) below t.kind (node_blocks t n) t.entries 1 0 t.entries near (omega arith) entry_sound)
+      (are_entries n (entries_blocks t.kind t.entries) (omega arith) (omega arith) below t.kind (node_blocks t n) t.entries 1 0 t.entries near (omega arith)
+      entry_sound)
       (are-append n (pages_of t n) (map_exts_of n ++ ends_of t n)
       (are_pages n (entries_blocks t.kind t.entries) 0 (pages_needed n) (omega arith))
       (are-append n (map_exts_of n) (ends_of t n)
-      (are_map_exts n 0 (map_exts_needed (pages_needed n)) (omega arith))
-      (omega arith, length_root_block (root_laid t n) fits_root, (omega arith, length-laid 512 ((0, boot_bytes t.kind) ∷ []) (omega arith) (omega arith, tt), tt))))
+      (are_map_exts n 0 (map_exts_needed (pages_needed n)) (omega arith)) (
+        omega arith,
+        length_root_block (root_laid t n) fits_root,
+        (
+          omega arith,
+          length-laid 512 ((0, boot_bytes t.kind) ∷ []) (omega arith)
+              (omega arith, tt),
+          tt,
+        ),
+      )))
 
   parts_numbers : numbers_of (parts t n) ≡ run n 0 (entries_blocks t.kind t.entries) ++ (row (middle n + 1) (reserved n) ++ middle n ∷ 0 ∷ [])
   parts_numbers =
@@ -133,8 +154,10 @@ module _ (t : Tree) (n : ℕ) (sound : IsSound t) (allowed : is_allowed n ≡ tr
       let last : List ℕ = middle n ∷ 0 ∷ [] in
       let pages : numbers_of (pages_of t n) ≡ row (middle n + 1) p = page_numbers n (entries_blocks t.kind t.entries) 0 p ∙ ap (λ b. row b p) z in
       let exts : numbers_of (map_exts_of n) ≡ row (middle n + 1 + p) x = map_ext_numbers n 0 x ∙ ap (λ b. row b x) y in
-      let back : numbers_of (map_exts_of n ++ ends_of t n) ≡ row (middle n + 1 + p) x ++ last = numbers_of-append (map_exts_of n) (ends_of t n) ∙ ap (λ l. l ++ last) exts in
-      let both : row (middle n + 1) p ++ row (middle n + 1 + p) x ≡ row (middle n + 1) (reserved n) = row-append (middle n + 1) p x ∙ ap (row (middle n + 1)) (reserved_parts n) in
+      let back : numbers_of (map_exts_of n ++ ends_of t n) ≡ row (middle n + 1 + p) x ++ last =
+      numbers_of-append (map_exts_of n) (ends_of t n) ∙ ap (λ l. l ++ last) exts in
+      let both : row (middle n + 1) p ++ row (middle n + 1 + p) x ≡ row (middle n + 1) (reserved n) =
+      row-append (middle n + 1) p x ∙ ap (row (middle n + 1)) (reserved_parts n) in
       numbers_of-append (entries_parts n t.kind (node_blocks t n) t.entries 1 0 t.entries) (pages_of t n ++ (map_exts_of n ++ ends_of t n))
       ∙ ap (λ l. l ++ numbers_of (pages_of t n ++ (map_exts_of n ++ ends_of t n))) (entries_numbers n t.kind (node_blocks t n) t.entries 1 0 t.entries)
       ∙ ap (λ l. run n 0 (entries_blocks t.kind t.entries) ++ l) (
@@ -178,10 +201,12 @@ module _ (t : Tree) (n : ℕ) (sound : IsSound t) (allowed : is_allowed n ≡ tr
   holds_all = laid_holds n (replicate (n * 512) 0) (parts t n) (parts t n) parts_are parts_once zeros_long (λ q h. h)
 
   pub holds_entries : Holds (volume t n) (entries_parts n t.kind (node_blocks t n) t.entries 1 0 t.entries)
-  holds_entries = holds_left (volume t n) (entries_parts n t.kind (node_blocks t n) t.entries 1 0 t.entries) (pages_of t n ++ (map_exts_of n ++ ends_of t n)) holds_all
+  holds_entries = holds_left (volume t n) (entries_parts n t.kind (node_blocks t n) t.entries 1 0 t.entries)
+      (pages_of t n ++ (map_exts_of n ++ ends_of t n)) holds_all
 
   holds_rest : Holds (volume t n) (pages_of t n ++ (map_exts_of n ++ ends_of t n))
-  holds_rest = holds_right (volume t n) (entries_parts n t.kind (node_blocks t n) t.entries 1 0 t.entries) (pages_of t n ++ (map_exts_of n ++ ends_of t n)) holds_all
+  holds_rest = holds_right (volume t n) (entries_parts n t.kind (node_blocks t n) t.entries 1 0 t.entries) (pages_of t n ++ (map_exts_of n ++ ends_of t n))
+      holds_all
 
   pub holds_pages : Holds (volume t n) (page_parts n (entries_blocks t.kind t.entries) 0 (pages_needed n))
   holds_pages = holds_left (volume t n) (pages_of t n) (map_exts_of n ++ ends_of t n) holds_rest

@@ -13,11 +13,11 @@ use Rattle.adf_volume.specs.Walk.{Role, IsAbsent, IsFreeIn, demands, bitmap_dema
 use Rattle.adf_volume.specs.Walk.Role.{Page}
 use Rattle.adf_volume.specs.Walk.FirstFault.{at_boot, at_due, at_bitmap}
 use Rattle.adf_volume.specs.Parts.{owner_of}
-use Rattle.adf_volume.proofs.Images.{four_blocks}
 use Rattle.adf_volume.proofs.Lists.{all_append, fails_not_all}
 use Rattle.adf_volume.proofs.Parts.{part_owned, owned_part}
-use Rattle.adf_volume.proofs.Agree.{agreement, due_is_part}
-use Rattle.adf_volume.proofs.Whole.{part_walked}
+use Rattle.adf_volume.proofs.WalkAgreement.{agreement, due_is_part}
+use Rattle.adf_volume.proofs.WalkCompleteness.{part_walked}
+use Rattle.adf_volume.proofs.Sizes.{size_low}
 
 module _ (image : List ℕ) (t : Tree) (l : Layout) (fit : Fits image t l) (w : List (Role × ℕ)) (v : IsWalk image w) (whole : IsWhole image w) where
   absent_of : (b : ℕ) → ((o : Owner) → In (owned image l) (o, b) → ⊥) → IsAbsent w b
@@ -39,9 +39,11 @@ module _ (image : List ℕ) (t : Tree) (l : Layout) (fit : Fits image t l) (w : 
       ((λ a. free_of b (f.1 (unowned_of b a))), ((λ a. absent_of b (f.0 (free_in_of b a))), bitmap_holds (suc b) n (omega arith) (omega arith)))
 
 pub none_fits : (image : List ℕ) (b : ℕ) (c : Cause) (t : Tree) (l : Layout) → FirstFault image b c → Fits image t l → ⊥
-none_fits image b c t l (at_boot h) fit = fails_not_all (boot_demands image ++ root_demands image (root_of image)) b c h (all_append (boot_demands image) (root_demands image (root_of image)) fit.boots fit.root)
+none_fits image b c t l (at_boot h) fit =
+    fails_not_all (boot_demands image ++ root_demands image (root_of image)) b c h
+    (all_append (boot_demands image) (root_demands image (root_of image)) fit.boots fit.root)
 none_fits image b c t l (at_due _ w r a i v d h) fit = fails_not_all (demands image w r a (word_in image a i)) b c h (due_is_part image t l fit w r a i v d).1
 none_fits image b c t l (at_bitmap _ w v whole h) fit =
     let size = fit.boots.0 in
-    let s2 : 4 ≤ blocks image = four_blocks (blocks image) size.1 in
+    let s2 : 4 ≤ blocks image = size_low (blocks image) size.1 in
     fails_not_all (bitmap_demands image w 2 (blocks image - 2)) b c h (bitmap_holds image t l fit w v whole 2 (blocks image - 2) (omega arith) (omega arith))

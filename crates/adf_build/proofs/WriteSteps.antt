@@ -53,14 +53,16 @@ pub nodes_length : (nodes : List ℕ) (t : Tree) (n : ℕ) → nodes ≡ node_bl
 nodes_length nodes t n e = let l = ap length e in let h = heads_length n t.kind 0 t.entries in omega arith
 
 -- the blocks of an entry and of those after it
-pub room_step : (kind : Kind) (k j total : ℕ) (left rest : List Entry) (e : Entry) → left ≡ e ∷ rest → j ≡ k + entry_blocks kind e → k + entries_blocks kind left ≡ total
+pub room_step : (kind : Kind) (k j total : ℕ) (left rest : List Entry) (e : Entry) → left ≡ e ∷ rest → j ≡ k + entry_blocks kind e
+    → k + entries_blocks kind left ≡ total
     → j + entries_blocks kind rest ≡ total
 room_step kind k j total left rest e split skip inv =
     let s : entries_blocks kind left ≡ entry_blocks kind e + entries_blocks kind rest = ap (entries_blocks kind) split in
     omega arith
 
 -- one entry more
-pub entry_step : (image old : List ℕ) (n : ℕ) (kind : Kind) (nodes : List ℕ) (es : List Entry) (i p k j : ℕ) (left rest : List Entry) (e : Entry) (spot : Spot) (slots end : List ℕ)
+pub entry_step : (image old : List ℕ) (n : ℕ) (kind : Kind) (nodes : List ℕ) (es : List Entry) (i p k j : ℕ) (left rest : List Entry) (e : Entry)
+    (spot : Spot) (slots end : List ℕ)
     → left ≡ e ∷ rest → p ≡ suc i → j ≡ k + entry_blocks kind e
     → spot ≡ record { k = k; parent = slice_index nodes e.parent; next = first_block (slice_index nodes) (nodes_from (suc i) rest e.parent (slot_of e.name)) }
     → slots ≡ slots_of nodes es i
@@ -68,10 +70,16 @@ pub entry_step : (image old : List ℕ) (n : ℕ) (kind : Kind) (nodes : List �
     → image ≡ lay old (entry_parts n kind spot slots e)
     → lay image (entries_parts n kind nodes es p j rest) ≡ end
 entry_step image old n kind nodes es i p k j left rest e spot slots end split up skip e-spot e-slots inv written =
-    let here : Spot = record { k = k; parent = slice_index nodes e.parent; next = first_block (slice_index nodes) (nodes_from (suc i) rest e.parent (slot_of e.name)) } in
+    let here : Spot = record {
+      k = k;
+      parent = slice_index nodes e.parent;
+      next =
+          first_block (slice_index nodes) (nodes_from (suc i) rest e.parent (slot_of e.name));
+    } in
     let parts : List (ℕ × List ℕ) = entry_parts n kind here (slots_of nodes es i) e in
     let more : List (ℕ × List ℕ) = entries_parts n kind nodes es (suc i) (k + entry_blocks kind e) rest in
-    let one : image ≡ lay old parts = written ∙ ap (λ s. lay old (entry_parts n kind s slots e)) e-spot ∙ ap (λ s. lay old (entry_parts n kind here s e)) e-slots in
+    let one : image ≡ lay old parts =
+    written ∙ ap (λ s. lay old (entry_parts n kind s slots e)) e-spot ∙ ap (λ s. lay old (entry_parts n kind here s e)) e-slots in
     ap (λ j. lay image (entries_parts n kind nodes es p j rest)) skip
     ∙ ap (λ i. lay image (entries_parts n kind nodes es i (k + entry_blocks kind e) rest)) up
     ∙ ap (λ im. lay im more) one

@@ -1,5 +1,5 @@
 -- Completeness: where a tree and a layout fit, a walk that asks for nothing more has all their parts.
-use Rattle.std.proofs.Common.{◌≡◌, ℕ, zero, suc, List, [], ◌∷◌, inl, inr, ◌+◌, ◌*◌, ◌/◌, ◌<◌, ◌≤◌, length, refl, sym, ap, subst, ◌∙◌, arith}
+use Rattle.std.proofs.Common.{◌≡◌, ℕ, zero, suc, List, ◌+◌, ◌*◌, ◌/◌, ◌<◌, ◌≤◌, length, refl, sym, ap, subst, ◌∙◌, arith}
 use native.Mathlib.Decide.{dec_le}
 use Rattle.adf_volume.specs.Lists.{At}
 use Rattle.adf_volume.specs.Image.{root_of, FILE, word_in, map_exts_needed, count, table_word}
@@ -8,46 +8,33 @@ use Rattle.adf_fields.specs.Hash.{slot_of}
 use Rattle.adf_tree.specs.declared.entry.Body.{Body}
 use Rattle.adf_tree.specs.declared.entry.Entry.{Entry}
 use Rattle.adf_tree.specs.Tree.{Tree}
-use Rattle.adf_volume.specs.Layout.{EntryAt, chain_nodes, Place, Layout, at_node, datas_at, exts_of, datas_of}
+use Rattle.adf_volume.specs.Layout.{EntryAt, chain_nodes, Layout, at_node, exts_of, datas_of}
 use Rattle.adf_tree.specs.declared.entry.Body.TheVariants.{Dir, File}
 use Rattle.adf_volume.specs.Fits.{Fits, BodyFits}
-use Rattle.adf_volume.specs.Walk.{Role, second, Has, heads, FileAt, MemberAt, data_count, Asks, Lacks, IsWalk, IsWhole}
+use Rattle.adf_volume.specs.Walk.{Role, Has, heads, FileAt, MemberAt, data_count, Lacks, IsWalk, IsWhole}
 use Rattle.adf_volume.specs.Walk.Role.{Root, Page, MapExt, Head, Ext, Data}
 use Rattle.adf_volume.specs.Parts.{Part}
 use Rattle.adf_volume.proofs.Lists.{at_fun, at_below, at_some, at_before, spelled_word, spelled_link}
-use Rattle.adf_volume.proofs.Trees.{entry_at, entry_fun, entry_below, entry_some, place_at}
-use Rattle.adf_volume.proofs.Walks.{root_in, number_of, numbered, dec_has, has_role, page_word}
+use Rattle.adf_volume.proofs.Chains.{entry_at, entry_fun, entry_below, entry_some, place_at}
+use Rattle.adf_volume.proofs.Walks.{root_in, number_of, numbered, page_word, asked_block, head_key}
 use Rattle.adf_volume.proofs.Images.{map_exts_high, map_exts_low}
 use Rattle.adf_volume.proofs.Parts.{part_range}
-use Rattle.adf_volume.proofs.Agree.{agreement, file_agrees, count_agrees, has_node, asks_next, same_head, is_file}
+use Rattle.adf_volume.proofs.WalkAgreement.{agreement, file_agrees, count_agrees, has_node, asks_next, is_file}
+use Rattle.adf_volume.proofs.Places.{datas_below}
 
-file_word : (image : List ℕ) (t : Tree) (l : Layout) (n : ℕ) (e : Entry) (b : Body) (bytes : List ℕ) → b ≡ e.body → BodyFits image t.kind l n (at_node image l n) b → e.body ≡ File bytes → word_in image (at_node image l n) 127 ≡ FILE
+file_word : (image : List ℕ) (t : Tree) (l : Layout) (n : ℕ) (e : Entry) (b : Body) (bytes : List ℕ) → b ≡ e.body
+    → BodyFits image t.kind l n (at_node image l n) b → e.body ≡ File bytes → word_in image (at_node image l n) 127 ≡ FILE
 file_word image t l n e Dir bytes z f d = let k : Dir ≡ File bytes = z ∙ d in cc
 file_word image t l n e (File x) bytes z f d = f.0
 
-no_datas : (image : List ℕ) (t : Tree) (l : Layout) (n : ℕ) (e : Entry) (b : Body) (k x : ℕ) → b ≡ e.body → BodyFits image t.kind l n (at_node image l n) b → At (datas_of l n) k x → (bytes : List ℕ) × (e.body ≡ File bytes)
+no_datas : (image : List ℕ) (t : Tree) (l : Layout) (n : ℕ) (e : Entry) (b : Body) (k x : ℕ) → b ≡ e.body → BodyFits image t.kind l n (at_node image l n) b
+    → At (datas_of l n) k x → (bytes : List ℕ) × (e.body ≡ File bytes)
 no_datas image t l n e Dir k x z f a = absurd (subst (λ xs. At xs k x) f.2 a)
 no_datas image t l n e (File bytes) k x z f a = (bytes, sym z)
-
-datas_below : (qs : List Place) (i k b : ℕ) → At (datas_at qs i) k b → i < length qs
-datas_below [] i k b h = absurd h
-datas_below (q ∷ qs) zero k b h = omega arith
-datas_below (q ∷ qs) (suc i) k b h = let ih : i < length qs = datas_below qs i k b h in omega arith
-
-no_head_second : (r : Role) → second r < 2 → (n m p s j : ℕ) → r ≡ Head n p s j → ⊥
-no_head_second r h n m p s j z = let y : second r ≡ second (Head n p s j) = ap second z in omega arith
 
 module _ (image : List ℕ) (t : Tree) (l : Layout) (fit : Fits image t l) (w : List (Role × ℕ)) (v : IsWalk image w) (whole : IsWhole image w) where
   ag : (r : Role) (b : ℕ) → Has w r b → Part image t l r b
   ag r b h = agreement image t l fit w r b v h
-
-  -- what is asked for is there
-  asked_has : (r : Role) (a i : ℕ) → Asks image w r a i → second r < 2 → (b : ℕ) × Has w r b
-  asked_has r a i ask h =
-      elim (dec_has w r) [
-        | inr y ↦ (y.1, has_role image w r (λ n p s j z. no_head_second r h n n p s j z) y.0 y.1 y.2 y.3)
-        | inl y ↦ absurd (whole r a i ask y)
-      ]
 
   -- the walk has as many headers as the tree has entries
   all_heads : length t.entries ≤ heads w
@@ -61,7 +48,7 @@ module _ (image : List ℕ) (t : Tree) (l : Layout) (fit : Fits image t l) (w : 
             let ask = asks_next image t l fit w v ag e.0.parent (slot_of e.0.name) q.0 n q.1 refl in
             let lack : Lacks w (Head n e.0.parent (slot_of e.0.name) q.0) =
             (λ r b has same.
-            let z = same_head image t l fit w v ag n e.0.parent (slot_of e.0.name) q.0 n r same in
+            let z = head_key n e.0.parent (slot_of e.0.name) q.0 r same in
             let has' : Has w (Head z.0 e.0.parent (slot_of e.0.name) q.0) b = subst (λ r. Has w r b) z.1 has in
             let pt = ag (Head z.0 e.0.parent (slot_of e.0.name) q.0) b has' in
             let f : z.0 ≡ n = at_fun (chain_nodes t e.0.parent (slot_of e.0.name)) q.0 z.0 n pt.0 q.1 in
@@ -86,8 +73,10 @@ module _ (image : List ℕ) (t : Tree) (l : Layout) (fit : Fits image t l) (w : 
       let g = is_file image t l fit w v ag n 0 b h in
       let ff = fit.files n g.0 g.1 g.2 g.3 in
       let rg : 2 ≤ b = (part_range image t l fit (Ext n 1) b h).0 in
-      let y : word_in image (at_node image l n) 126 ≡ b = spelled_word (λ b. word_in image b 126) (word_in image (at_node image l n) 126) (exts_of l n) b ff.exts h in
-      let x = asked_has (Ext n 1) (at_node image l n) 126 (has_file n g.0 g.1 g.2 g.3, refl, (λ z. let o : b ≡ 0 = sym y ∙ z in omega arith)) (omega arith) in
+      let y : word_in image (at_node image l n) 126 ≡ b =
+      spelled_word (λ b. word_in image b 126) (word_in image (at_node image l n) 126) (exts_of l n) b ff.exts h in
+      let x = asked_block image w whole (Ext n 1) (at_node image l n) 126
+      (has_file n g.0 g.1 g.2 g.3, refl, (λ z. let o : b ≡ 0 = sym y ∙ z in omega arith)) (omega arith) in
       subst (Has w (Ext n 1)) (at_fun (exts_of l n) 0 x.0 b (ag (Ext n 1) x.0 x.1) h) x.1
   all_exts n (suc k) b h =
       let c = at_before (exts_of l n) k b h in
@@ -95,8 +84,9 @@ module _ (image : List ℕ) (t : Tree) (l : Layout) (fit : Fits image t l) (w : 
       let g = is_file image t l fit w v ag n (suc k) b h in
       let ff = fit.files n g.0 g.1 g.2 g.3 in
       let rg : 2 ≤ b = (part_range image t l fit (Ext n (suc (suc k))) b h).0 in
-      let y : word_in image c.0 126 ≡ b = spelled_link (λ b. word_in image b 126) (word_in image (at_node image l n) 126) (exts_of l n) k c.0 b ff.exts c.1 h in
-      let x = asked_has (Ext n (suc (suc k))) c.0 126 (hc, refl, (λ z. let o : b ≡ 0 = sym y ∙ z in omega arith)) (omega arith) in
+      let y : word_in image c.0 126 ≡ b =
+      spelled_link (λ b. word_in image b 126) (word_in image (at_node image l n) 126) (exts_of l n) k c.0 b ff.exts c.1 h in
+      let x = asked_block image w whole (Ext n (suc (suc k))) c.0 126 (hc, refl, (λ z. let o : b ≡ 0 = sym y ∙ z in omega arith)) (omega arith) in
       subst (Has w (Ext n (suc (suc k)))) (at_fun (exts_of l n) (suc k) x.0 b (ag (Ext n (suc (suc k))) x.0 x.1) h) x.1
 
   all_datas : (n k b : ℕ) → At (datas_of l n) k b → Has w (Data n (suc k)) b
@@ -119,7 +109,7 @@ module _ (image : List ℕ) (t : Tree) (l : Layout) (fit : Fits image t l) (w : 
       let at : k < length (datas_of l n) = at_below (datas_of l n) k b h in
       let en : count t.kind (length g.0) ≤ 72 * suc (length (exts_of l n)) = ff.enough in
       let m = table (k / 72) (omega arith) fl in
-      let x = asked_has (Data n (suc k)) m.0 (table_word k) ((at_node image l n, fl, (omega arith)), m.1, refl) (omega arith) in
+      let x = asked_block image w whole (Data n (suc k)) m.0 (table_word k) ((at_node image l n, fl, (omega arith)), m.1, refl) (omega arith) in
       subst (Has w (Data n (suc k))) (at_fun (datas_of l n) k x.0 b (ag (Data n (suc k)) x.0 x.1) h) x.1
     where
       table : (m : ℕ) → m ≤ length (exts_of l (suc i)) → FileAt image w (suc i) (at_node image l (suc i)) → (a : ℕ) × MemberAt image w (suc i) m a
@@ -130,13 +120,19 @@ module _ (image : List ℕ) (t : Tree) (l : Layout) (fit : Fits image t l) (w : 
   all_map_exts zero b h =
       let u : 0 < length l.map_exts = at_below l.map_exts 0 b h in
       let p : length l.map_exts ≡ map_exts_needed (pages_needed (blocks image)) = fit.map_exts in
-      let x = asked_has (MapExt 0) (root_of image) 104 (map_exts_low (pages_needed (blocks image)) 0 (omega arith), refl, refl) (omega arith) in
+      let x = asked_block image w whole (MapExt 0) (root_of image) 104 (map_exts_low (pages_needed (blocks image)) 0 (omega arith), refl, refl)
+      (omega arith) in
       subst (Has w (MapExt 0)) (at_fun l.map_exts 0 x.0 b (ag (MapExt 0) x.0 x.1) h) x.1
   all_map_exts (suc j) b h =
       let u : suc j < length l.map_exts = at_below l.map_exts (suc j) b h in
       let p : length l.map_exts ≡ map_exts_needed (pages_needed (blocks image)) = fit.map_exts in
       let c = at_before l.map_exts j b h in
-      let x = asked_has (MapExt (suc j)) c.0 127 (map_exts_low (pages_needed (blocks image)) (suc j) (omega arith), all_map_exts j c.0 c.1, refl) (omega arith) in
+      let x = asked_block image w whole (MapExt (suc j)) c.0 127 (
+        map_exts_low (pages_needed (blocks image)) (suc j) (omega arith),
+        all_map_exts j c.0
+            c.1,
+        refl,
+      ) (omega arith) in
       subst (Has w (MapExt (suc j))) (at_fun l.map_exts (suc j) x.0 b (ag (MapExt (suc j)) x.0 x.1) h) x.1
 
   some_map_ext : (j : ℕ) → 25 + 127 * j < pages_needed (blocks image) → (a : ℕ) × Has w (MapExt j) a
@@ -147,28 +143,25 @@ module _ (image : List ℕ) (t : Tree) (l : Layout) (fit : Fits image t l) (w : 
       (b.0, all_map_exts j b.0 b.1)
 
   -- completeness: each part is in the walk
-  parts_walked : (r : Role) (b : ℕ) → Part image t l r b → Has w r b
-  parts_walked Root b h = subst (Has w Root) h (root_in image v)
-  parts_walked (Page k) b h =
+  pub part_walked : (r : Role) (b : ℕ) → Part image t l r b → Has w r b
+  part_walked Root b h = subst (Has w Root) h (root_in image v)
+  part_walked (Page k) b h =
       let u : k < length l.pages = at_below l.pages k b h in
       let p : length l.pages ≡ pages_needed (blocks image) = fit.pages in
       let m = page_word image w k (omega arith) (λ j y. some_map_ext j (omega arith)) in
-      let x = asked_has (Page k) m.0 m.1 m.2 (omega arith) in
+      let x = asked_block image w whole (Page k) m.0 m.1 m.2 (omega arith) in
       subst (Has w (Page k)) (at_fun l.pages k x.0 b (ag (Page k) x.0 x.1) h) x.1
-  parts_walked (MapExt j) b h = all_map_exts j b h
-  parts_walked (Head n p s j) b h =
+  part_walked (MapExt j) b h = all_map_exts j b h
+  part_walked (Head n p s j) b h =
       let e = entry_at t p s j n h.0 in
       let u : n ≤ length t.entries = entry_below t n e.0 e.1 in
       let a = all_heads in
       let k = has_node image t l fit w v ag p s j n h.0 (omega arith) in
       subst (Has w (Head n p s j)) (sym (ag (Head n p s j) k.0 k.1).1 ∙ h.1) k.1
-  parts_walked (Ext n zero) b h = absurd h
-  parts_walked (Ext n (suc k)) b h = all_exts n k b h
-  parts_walked (Data n zero) b h = absurd h
-  parts_walked (Data n (suc k)) b h = all_datas n k b h
-
-  pub part_walked : (r : Role) (b : ℕ) → Part image t l r b → Has w r b
-  part_walked r b h = parts_walked r b h
+  part_walked (Ext n zero) b h = absurd h
+  part_walked (Ext n (suc k)) b h = all_exts n k b h
+  part_walked (Data n zero) b h = absurd h
+  part_walked (Data n (suc k)) b h = all_datas n k b h
 
   pub heads_walked : length t.entries ≡ heads w
   heads_walked = at_least (heads w) refl

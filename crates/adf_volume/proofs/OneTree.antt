@@ -1,21 +1,22 @@
 -- Two trees with layouts that fit one image are one.
-use Rattle.std.proofs.Common.{◌≡◌, ℕ, zero, suc, List, [], ◌∷◌, ◌<◌, length, refl, sym, ap, subst, ◌∙◌, arith}
+use Rattle.std.proofs.Common.{◌≡◌, ℕ, suc, List, ◌<◌, length, refl, sym, ap, subst, ◌∙◌, arith}
 use Rattle.adf_volume.specs.Lists.{At}
 use Rattle.adf_fields.specs.Hash.{slot_of}
 use Rattle.adf_volume.specs.Image.{name_of, DIR, FILE, word_in, meta_of, content}
 use Rattle.adf_tree.specs.declared.entry.Body.{Body}
 use Rattle.adf_tree.specs.declared.entry.Entry.{Entry}
 use Rattle.adf_tree.specs.Tree.{Tree}
-use Rattle.adf_volume.specs.Layout.{EntryAt, Place, Layout, at_node, head_at, exts_at, datas_at, exts_of, datas_of}
+use Rattle.adf_volume.specs.Layout.{EntryAt, Place, Layout, at_node, exts_of, datas_of}
 use Rattle.adf_tree.specs.declared.entry.Body.TheVariants.{Dir, File}
 use Rattle.adf_volume.specs.Fits.{Fits, BodyFits}
 use Rattle.adf_volume.specs.Walk.{Role, heads, IsWalk, IsWhole}
 use Rattle.adf_volume.specs.Walk.Role.{Page, MapExt, Head, Ext, Data}
 use Rattle.adf_volume.specs.Parts.{Part}
 use Rattle.adf_volume.proofs.Lists.{at_below, at_some, same_list}
-use Rattle.adf_volume.proofs.Trees.{entry_at, entry_some, place_at}
-use Rattle.adf_volume.proofs.Agree.{agreement}
-use Rattle.adf_volume.proofs.Whole.{part_walked, heads_walked}
+use Rattle.adf_volume.proofs.Chains.{entry_at, entry_some, place_at}
+use Rattle.adf_volume.proofs.WalkAgreement.{agreement}
+use Rattle.adf_volume.proofs.WalkCompleteness.{part_walked, heads_walked}
+use Rattle.adf_volume.proofs.Places.{place_parts}
 
 same_entry : (e f : Entry) → e.parent ≡ f.parent → e.name ≡ f.name → e.meta ≡ f.meta → e.body ≡ f.body → e ≡ f
 same_entry e f a b c d = λ i. record { parent = a i; name = b i; meta = c i; body = d i }
@@ -23,12 +24,8 @@ same_entry e f a b c d = λ i. record { parent = a i; name = b i; meta = c i; bo
 same_place : (q r : Place) → q.head ≡ r.head → q.exts ≡ r.exts → q.datas ≡ r.datas → q ≡ r
 same_place q r a b c = λ i. record { head = a i; exts = b i; datas = c i }
 
-head_of_at : (qs : List Place) (i : ℕ) (q : Place) → At qs i q → (head_at qs i ≡ q.head) × (exts_at qs i ≡ q.exts) × (datas_at qs i ≡ q.datas)
-head_of_at [] i q h = absurd h
-head_of_at (r ∷ qs) zero q h = (ap (λ (x : Place). x.head) h, ap (λ (x : Place). x.exts) h, ap (λ (x : Place). x.datas) h)
-head_of_at (r ∷ qs) (suc i) q h = head_of_at qs i q h
-
-module _ (image : List ℕ) (w : List (Role × ℕ)) (v : IsWalk image w) (whole : IsWhole image w) (t : Tree) (l : Layout) (fit : Fits image t l) (u : Tree) (m : Layout) (fit' : Fits image u m) where
+module _ (image : List ℕ) (w : List (Role × ℕ)) (v : IsWalk image w) (whole : IsWhole image w) (t : Tree) (l : Layout) (fit : Fits image t l) (u : Tree)
+    (m : Layout) (fit' : Fits image u m) where
   carry : (r : Role) (b : ℕ) → Part image t l r b → Part image u m r b
   carry r b h = agreement image u m fit' w r b v (part_walked image t l fit w v whole r b h)
 
@@ -85,9 +82,10 @@ module _ (image : List ℕ) (w : List (Role × ℕ)) (v : IsWalk image w) (whole
       let h2 : length u.entries ≡ heads w = heads_walked image u m fit' w v whole in
       let r = at_some m.places i (omega arith) in
       let e = entry_some t (suc i) (omega arith) (omega arith) in
-      let a = head_of_at l.places i q h in
-      let b = head_of_at m.places i r.0 r.1 in
-      let same : q ≡ r.0 = same_place q r.0 (sym a.0 ∙ same_head_block (suc i) e.0 e.1 ∙ b.0) (sym a.1 ∙ same_exts (suc i) ∙ b.1) (sym a.2 ∙ same_datas (suc i) ∙ b.2) in
+      let a = place_parts l.places i q h in
+      let b = place_parts m.places i r.0 r.1 in
+      let same : q ≡ r.0 = same_place q r.0 (sym a.0 ∙ same_head_block (suc i) e.0 e.1 ∙ b.0) (sym a.1 ∙ same_exts (suc i) ∙ b.1)
+      (sym a.2 ∙ same_datas (suc i) ∙ b.2) in
       subst (At m.places i) (sym same) r.1
 
 same_tree : (t u : Tree) → t.kind ≡ u.kind → t.label ≡ u.label → t.stamps ≡ u.stamps → t.entries ≡ u.entries → t ≡ u
@@ -97,10 +95,12 @@ same_layout : (l m : Layout) → l.pages ≡ m.pages → l.map_exts ≡ m.map_ex
 same_layout l m a b c = λ i. record { pages = a i; map_exts = b i; places = c i }
 
 -- one image, one tree
-pub one_tree : (image : List ℕ) (w : List (Role × ℕ)) (t u : Tree) (l m : Layout) → IsWalk image w → IsWhole image w → Fits image t l → Fits image u m → (t ≡ u) × (l ≡ m)
+pub one_tree : (image : List ℕ) (w : List (Role × ℕ)) (t u : Tree) (l m : Layout) → IsWalk image w → IsWhole image w → Fits image t l → Fits image u m
+    → (t ≡ u) × (l ≡ m)
 one_tree image w t u l m v whole f g = (
   same_tree t u (f.kind ∙ sym g.kind) (f.label ∙ sym g.label) (f.stamps ∙ sym g.stamps)
-      (same_list t.entries u.entries (λ i e h. entry_carried image w v whole t l f u m g (suc i) e h) (λ i e h. entry_carried image w v whole u m g t l f (suc i) e h)),
+      (same_list t.entries u.entries (λ i e h. entry_carried image w v whole t l f u m g (suc i) e h)
+      (λ i e h. entry_carried image w v whole u m g t l f (suc i) e h)),
   same_layout l m (same_pages image w v whole t l f u m g) (same_map_exts image w v whole t l f u m g)
       (same_list l.places m.places (λ i q h. place_carried image w v whole t l f u m g i q h) (λ i q h. place_carried image w v whole u m g t l f i q h)),
 )

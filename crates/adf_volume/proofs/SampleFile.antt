@@ -1,5 +1,6 @@
 -- Fits holds of a small image with a file.
-use Rattle.std.proofs.Common.{◌≡◌, ◌≢◌, ℕ, zero, suc, List, [], ◌∷◌, inl, inr, ◌+◌, ◌-◌, ◌/◌, ◌%◌, ◌^◌, ◌<◌, ◌≤◌, refl, sym, ap, subst, ◌∙◌, arith, Bool, true, false, cond, map, eq-eqb}
+use Rattle.std.proofs.Common.{◌≡◌, ◌≢◌, ℕ, zero, suc, List, [], ◌∷◌, inl, inr, ◌+◌, ◌-◌, ◌/◌, ◌%◌, ◌^◌, ◌<◌, ◌≤◌, refl, sym, ap, subst, ◌∙◌, arith, Bool}
+use Rattle.std.proofs.Common.{true, false, cond, map, eq-eqb}
 use Rattle.std.specs.Prelude.{◌==◌, ◌||◌, ◌↔◌, bit_and, replicate, slice_index, slice_index_or}
 use Rattle.std.proofs.lemmas.Bool.{cases_lt, true≢false}
 use Rattle.std.proofs.lemmas.Bool.Decides.{eqb_tells, nat_tests}
@@ -12,12 +13,13 @@ use Rattle.adf_tree.specs.declared.entry.Entry.{Entry}
 use Rattle.adf_tree.specs.Tree.{IsDir, IsTree, rank}
 use Rattle.adf_volume.specs.declared.owner.Owner.{Owner}
 use Rattle.adf_volume.specs.Lists.{At, In, Spelled, NoBlockTwice}
-use Rattle.adf_volume.specs.Image.{word_in, root_of, kind_of, name_of, label_of, meta_of, stamps_of, content, area, chunk, count, held, table_word, map_exts_needed, IsFreeAt}
+use Rattle.adf_volume.specs.Image.{word_in, root_of, kind_of, name_of, label_of, meta_of, stamps_of, content, area, chunk, count, held, table_word}
+use Rattle.adf_volume.specs.Image.{map_exts_needed, IsFreeAt}
 use Rattle.adf_volume.specs.Demands.{AllHold, boot_demands, root_demands, page_demands, head_demands, data_demands}
 use Rattle.adf_volume.specs.Layout.{EntryAt, at_node, chain_nodes, owned}
 use Rattle.adf_volume.specs.Fits.{Fits, EntryFits, FileFits, IsFree, TableAt}
 use Rattle.adf_volume.specs.Samples.{one_file, one_file_tree, one_file_layout, file_a}
-use Rattle.adf_volume.proofs.Blocks.{Distinct, blocks_of, block_in, in_block, distinct_blocks}
+use Rattle.adf_volume.proofs.DistinctBlocks.{Distinct, blocks_of, block_in, in_block, distinct_blocks}
 use Rattle.adf_volume.proofs.Zeros.{zero_at}
 
 -- the block of a node

@@ -1,7 +1,7 @@
 -- Forms as demands, and what they say of headers.
-use Rattle.std.proofs.Common.{◌≡◌, ℕ, List, [], ◌∷◌, ◌⊎◌, inl, inr, Bool, true, false, ◌&&◌, ◌||◌, not, Some, None, refl, ap}
+use Rattle.std.proofs.Common.{◌≡◌, ℕ, List, [], ◌∷◌, ◌⊎◌, inl, inr, Bool, true, false, ◌||◌, not, Some, None, refl, ap, sym, ◌∙◌, arith}
 use Rattle.std.specs.Prelude.{◌==◌}
-use Rattle.std.proofs.lemmas.Bool.{eqb-true}
+use Rattle.std.proofs.lemmas.Bool.{and_parts, eqb-true}
 use Rattle.adf_blocks.specs.declared.cause.Cause.{Cause}
 use Rattle.adf_tree.specs.declared.entry.Kind.{Kind}
 use Rattle.adf_fields.specs.Words.{block}
@@ -37,10 +37,6 @@ told_first b a c ((true, d) ∷ form) (inr h) = told_first b a c form h.1
 told_first b a c ((false, d) ∷ form) (inl h) = (ap Some h.2, h.1)
 told_first b a c ((false, d) ∷ form) (inr h) = let e : false ≡ true = h.0 in cc
 
-right : (a b : Bool) → (a && b) ≡ true → b ≡ true
-right true b h = h
-right false b h = cc
-
 entry : (a l : Bool) → (a || l) ≡ true → not l ≡ true → a ≡ true
 entry true l h k = refl
 entry false true h k = cc
@@ -51,11 +47,16 @@ which t true e h = inl (eqb-true t DIR e)
 which t false e h = inr (eqb-true t FILE h)
 
 -- a header is a directory's or a file's
-pub head_type : (image : List ℕ) (kind : Kind) (b up s : ℕ) → AllHold (told b (head_form kind b up s (block image b))) → (word_in image b 127 ≡ DIR) ⊎ (word_in image b 127 ≡ FILE)
+pub head_type : (image : List ℕ) (kind : Kind) (b up s : ℕ) → AllHold (told b (head_form kind b up s (block image b)))
+    → (word_in image b 127 ≡ DIR) ⊎ (word_in image b 127 ≡ FILE)
 head_type image kind b up s h =
     let t : ℕ = word_in image b 127 in
-    which t (t == DIR) refl (entry (is_entry t) (is_link t) (right (word_in image b 0 == 2) (is_entry t || is_link t) h.1.0) h.1.1.0)
+    which t (t == DIR) refl (entry (is_entry t) (is_link t) (and_parts (word_in image b 0 == 2) (is_entry t || is_link t) h.1.0).1 h.1.1.0)
 
 pub head_slot_is : (image : List ℕ) (kind : Kind) (b up s : ℕ) → AllHold (told b (head_form kind b up s (block image b))) → slot_of (name_of image b) ≡ s
 unfolding name_of
 head_slot_is image kind b up s h = eqb-true (slot_of (name_of image b)) s h.1.1.1.1.1.1.1.0
+
+-- a directory's header is no file's
+pub dir_not_file : (image : List ℕ) (b : ℕ) → word_in image b 127 ≡ DIR → word_in image b 127 ≡ FILE → ⊥
+dir_not_file image b d f = let e : DIR ≡ FILE = sym d ∙ f in omega arith

@@ -1,0 +1,363 @@
+-- The tree and the layout of a walk list its members.
+use Rattle.std.proofs.Common.{◌≡◌, ℕ, zero, suc, List, [], ◌∷◌, ◌++◌, inl, inr, ◌+◌, ◌*◌, ◌/◌, ◌<◌, ◌≤◌, length, refl, sym, ap, subst, ◌∙◌, arith, Bool, true}
+use Rattle.std.proofs.Common.{false, cond, eq-eqb, append-nil}
+use Rattle.std.specs.Prelude.{◌==◌, ◌&&◌}
+use Rattle.std.proofs.lemmas.Bool.{eqb-true}
+use native.Mathlib.Decide.{dec_lt}
+use Rattle.adf_volume.specs.Lists.{At}
+use Rattle.adf_blocks.specs.Sizes.{blocks, pages_needed}
+use Rattle.adf_volume.specs.Image.{kind_of, table_word, name_of, root_of}
+use Rattle.adf_fields.specs.Hash.{slot_of}
+use Rattle.adf_tree.specs.declared.entry.Entry.{Entry}
+use Rattle.adf_volume.specs.Layout.{nodes_from}
+use Rattle.adf_volume.specs.Walk.{Role, second, Has, head_count, heads, data_count, NamesPage, Asks, IsDue, ext_count_of, ext_count, NoCause, IsWalk}
+use Rattle.adf_volume.specs.Walk.Role.{Root, Page, MapExt, Head, Ext, Data}
+use Rattle.adf_volume.specs.Walk.IsWalk.{start, step}
+use Rattle.adf_volume.specs.Made.{picked, is_page, pages_in, is_map_ext, map_exts_in, is_ext_of, exts_in, push_ext, is_data_of, datas_in, entry_in, place_in}
+use Rattle.adf_volume.specs.Made.{push_head, of_heads, entries_in, places_in}
+use Rattle.adf_volume.proofs.FormDemands.{head_slot_is}
+use Rattle.adf_volume.proofs.Lists.{at_fun, at_below, at_some, at_old, at_new, at_snoc, snoc_length}
+use Rattle.adf_volume.proofs.Chains.{chain_snoc}
+use Rattle.adf_volume.proofs.Walks.{numbered, asks_number, ext_counted, next_ext, page_word, is_there}
+use Rattle.adf_volume.proofs.MemberFacts.{kept, there, enough, map_ext_down}
+use Rattle.adf_volume.proofs.Comparisons.{both_equal, equal_both}
+
+-- the blocks that a test picks are those of one kind of role, by their numbers
+record Lists (f : Role → Bool) (role : ℕ → Role) (w : List (Role × ℕ)) : Type 0 where
+  to : (k b : ℕ) → Has w (role k) b → At (picked f w) k b
+  from : (k b : ℕ) → At (picked f w) k b → Has w (role k) b
+
+module _ (f : Role → Bool) (role : ℕ → Role) (own : (k : ℕ) → f (role k) ≡ true) where
+  -- the root alone has none
+  none_listed : (c : ℕ) → f Root ≡ false → Lists f role ((Root, c) ∷ [])
+  none_listed c z = record {
+    to = (λ k b h. elim h [ inl y ↦ absurd (let x : true ≡ false = sym (ap f y.0 ∙ own k) ∙ z in cc) | inr y ↦ absurd y ]);
+    from = (λ k b h. absurd (subst (λ t. At (cond t (c ∷ []) []) k b) z h));
+  }
+
+  -- one member more, which is the next one where the test picks it
+  one_more : (w : List (Role × ℕ)) (q : Role) (c : ℕ) → ((k m : ℕ) → role k ≡ role m → k ≡ m) → Lists f role w → (f q ≡ true → q ≡ role (length (picked f w)))
+      → Lists f role ((q, c) ∷ w)
+  one_more w q c apart old next = record { to = to; from = λ k b h. from k b (f q) refl h }
+    where
+      up : (k b : ℕ) (t : Bool) → At (picked f w) k b → At (cond t (picked f w ++ c ∷ []) (picked f w)) k b
+      up k b true h = at_old (picked f w) (c ∷ []) k b h
+      up k b false h = h
+
+      to : (k b : ℕ) → Has ((q, c) ∷ w) (role k) b → At (cond (f q) (picked f w ++ c ∷ []) (picked f w)) k b
+      to k b (inl y) =
+          let t : f q ≡ true = ap f y.0 ∙ own k in
+          let z : k ≡ length (picked f w) = apart k (length (picked f w)) (sym y.0 ∙ next t) in
+          subst (λ t. At (cond t (picked f w ++ c ∷ []) (picked f w)) k b) (sym t)
+          (subst (λ c. At (picked f w ++ c ∷ []) k b) (sym y.1) (at_new (picked f w) b k z))
+      to k b (inr y) = up k b (f q) (old.to k b y)
+
+      from : (k b : ℕ) (t : Bool) → f q ≡ t → At (cond t (picked f w ++ c ∷ []) (picked f w)) k b → Has ((q, c) ∷ w) (role k) b
+      from k b true z h = elim (at_snoc (picked f w) c k b h) [ inl y ↦ inr (old.from k b y) | inr y ↦ inl (next z ∙ ap role (sym y.0), y.1) ]
+      from k b false z h = inr (old.from k b h)
+
+-- what is made of each header
+module _ {X : Type 0} (f : ℕ → ℕ → ℕ → X) where
+  head_up : (q : Role) (b : ℕ) (xs : List X) (i : ℕ) (x : X) → At xs i x → At (push_head f q b xs) i x
+  head_up (Head n p s j) b xs i x h = at_old xs (f n p b ∷ []) i x h
+  head_up _ b xs i x h = h
+
+  head_length : (r : Role) (b m : ℕ) (xs : List X) → length xs ≡ m → length (push_head f r b xs) ≡ head_count r m
+  head_length (Head n p s j) b m xs h = snoc_length xs (f n p b) ∙ ap suc h
+  head_length _ b m xs h = h
+
+  heads_length : (w : List (Role × ℕ)) → length (of_heads f w) ≡ heads w
+  heads_length [] = refl
+  heads_length (x ∷ w) = head_length x.0 x.1 (heads w) (of_heads f w) (heads_length w)
+
+  head_has : (image : List ℕ) {w : List (Role × ℕ)} → IsWalk image w → (i p s j b : ℕ) → Has w (Head (suc i) p s j) b → At (of_heads f w) i (f (suc i) p b)
+  head_has image start i p s j b (inl e) = let x : second Root ≡ second (Head (suc i) p s j) = ap second e.0 in absurd (omega arith)
+  head_has image start i p s j b (inr e) = absurd e
+  head_has image (step {w = w} {r = q} {b = c} {a = a0} {i = i0} v d e g) i p s j b (inl h) =
+      let u : suc i ≡ suc (heads w) = asks_number image w (suc i) p s j a0 i0 (subst (λ r. Asks image w r a0 i0) h.0 d.asked) in
+      let l : length (of_heads f w) ≡ heads w = heads_length w in
+      subst (λ q. At (push_head f q c (of_heads f w)) i (f (suc i) p b)) (sym h.0)
+      (subst (λ c. At (of_heads f w ++ f (suc i) p c ∷ []) i (f (suc i) p b)) (sym h.1) (at_new (of_heads f w) (f (suc i) p b) i (omega arith)))
+  head_has image (step {w = w} {r = q} {b = c} v d e g) i p s j b (inr h) = head_up q c (of_heads f w) i (f (suc i) p b) (head_has image v i p s j b h)
+
+module _ (image : List ℕ) (full : List (Role × ℕ)) where
+  pub entries_length : (w : List (Role × ℕ)) → length (entries_in image full w) ≡ heads w
+  entries_length w = heads_length (entry_in image full) w
+
+  pub places_length : (w : List (Role × ℕ)) → length (places_in full w) ≡ heads w
+  places_length w = heads_length (λ n p b. place_in full n b) w
+
+  pub entry_has : {w : List (Role × ℕ)} → IsWalk image w → (i p s j b : ℕ) → Has w (Head (suc i) p s j) b
+      → At (entries_in image full w) i (entry_in image full (suc i) p b)
+  entry_has v i p s j b h = head_has (entry_in image full) image v i p s j b h
+
+  pub place_has : {w : List (Role × ℕ)} → IsWalk image w → (i p s j b : ℕ) → Has w (Head (suc i) p s j) b → At (places_in full w) i (place_in full (suc i) b)
+  place_has v i p s j b h = head_has (λ n p b. place_in full n b) image v i p s j b h
+
+  -- each entry is a header's
+  pub has_entry : (w : List (Role × ℕ)) → IsWalk image w → (i : ℕ) (e : Entry) → At (entries_in image full w) i e
+      → (p s j b : ℕ) × Has w (Head (suc i) p s j) b × (e ≡ entry_in image full (suc i) p b)
+  has_entry w v i e h =
+      let u : i < length (entries_in image full w) = at_below (entries_in image full w) i e h in
+      let l : length (entries_in image full w) ≡ heads w = entries_length w in
+      let k = numbered image v (suc i) (omega arith) (omega arith) in
+      (k.0, k.1, k.2, k.3, k.4, at_fun (entries_in image full w) i e (entry_in image full (suc i) k.0 k.3) h (entry_has v i k.0 k.1 k.2 k.3 k.4))
+
+module _ (image : List ℕ) where
+  -- the extension blocks, in order
+  ext_length : (n : ℕ) (r : Role) (b m : ℕ) (xs : List ℕ) → length xs ≡ m → length (push_ext n r b xs) ≡ ext_count_of n r m
+  ext_length n (Ext i k) b m xs h = go (n == i)
+    where
+      go : (t : Bool) → length (cond t (xs ++ b ∷ []) xs) ≡ cond t (suc m) m
+      go true = snoc_length xs b ∙ ap suc h
+      go false = h
+  ext_length n _ b m xs h = h
+
+  pub exts_length : (w : List (Role × ℕ)) (n : ℕ) → length (exts_in w n) ≡ ext_count w n
+  exts_length [] n = refl
+  exts_length (x ∷ w) n = ext_length n x.0 x.1 (ext_count w n) (exts_in w n) (exts_length w n)
+
+  ext_only : (n : ℕ) (q : Role) → is_ext_of n q ≡ true → (k : ℕ) × (q ≡ Ext n k)
+  ext_only n (Ext m k) t = (k, ap (λ m. Ext m k) (sym (eqb-true n m t)))
+  ext_only n _ t = cc
+
+  exts : (n : ℕ) {w : List (Role × ℕ)} → IsWalk image w → Lists (is_ext_of n) (λ k. Ext n (suc k)) w
+  exts n start = none_listed (is_ext_of n) (λ k. Ext n (suc k)) (λ k. eq-eqb n n refl) (root_of image) refl
+  exts n (step {w = w} {r = q} {b = c} {a = a} {i = i} v d e g) =
+      one_more (is_ext_of n) (λ k. Ext n (suc k)) (λ k. eq-eqb n n refl) w q c (λ k m z. cc) (exts n v)
+      (λ t. let x = ext_only n q t in
+      let z : x.0 ≡ suc (ext_count w n) = next_ext image w v n x.0 a i (subst (λ r. IsDue image w r a i) x.1 d) (ext_counted image v n) in
+      x.1 ∙ ap (Ext n) (z ∙ ap suc (sym (exts_length w n))))
+
+  pub ext_has : {w : List (Role × ℕ)} → IsWalk image w → (n k b : ℕ) → Has w (Ext n (suc k)) b → At (exts_in w n) k b
+  ext_has v n k b h = (exts n v).to k b h
+
+  pub has_ext : (w : List (Role × ℕ)) → IsWalk image w → (n k b : ℕ) → At (exts_in w n) k b → Has w (Ext n (suc k)) b
+  has_ext w v n k b h = (exts n v).from k b h
+
+  -- the data blocks
+  next_data_block : (w : List (Role × ℕ)) → (n : ℕ) → IsWalk image w → Lists (is_data_of n) (λ k. Data n (suc k)) w → (k a i b : ℕ)
+      → IsDue image w (Data n (suc k)) a i → NoCause image w (Data n (suc k)) a b → k ≡ length (datas_in w n)
+  next_data_block w n v ih k a i b d g =
+      elim (dec_lt k (length (datas_in w n))) [
+        | yes u ↦
+            let x = at_some (datas_in w n) k u in
+            absurd (d.lacks (Data n (suc k)) x.0 (ih.from k x.0 x.1) (refl, refl, refl))
+        | no u ↦ elim (dec_lt (length (datas_in w n)) k) [
+          | no l ↦ omega arith
+          | yes l ↦
+              let m : ℕ = length (datas_in w n) in
+              let f = d.asked.0 in
+              let f2 : k < data_count image f.0 = f.2 in
+              let en : data_count image f.0 ≤ 72 * suc (ext_count w n) = enough image w v (λ r b h. kept image v r b h) n k a i b f.0 d g f.1 f.2 in
+              let t = there image w v (λ r b h. kept image v r b h) n (m / 72) f.0 f.1 (omega arith) in
+              let x = is_there image w (Data n (suc m)) (Data n (suc k)) a i t.0 (table_word m) d ((f.0, f.1, omega arith), t.1, refl)
+              (omega arith, (λ z. omega arith), (λ z y. omega arith)) (omega arith) in
+              let y : m < length (datas_in w n) = at_below (datas_in w n) m x.0 (ih.to m x.0 x.1) in
+              absurd (omega arith)
+        ]
+      ]
+
+  data_only : (n : ℕ) (q : Role) → is_data_of n q ≡ true → (k : ℕ) × (q ≡ Data n k)
+  data_only n (Data m k) t = (k, ap (λ m. Data m k) (sym (eqb-true n m t)))
+  data_only n _ t = cc
+
+  datas : (n : ℕ) {w : List (Role × ℕ)} → IsWalk image w → Lists (is_data_of n) (λ k. Data n (suc k)) w
+  datas n start = none_listed (is_data_of n) (λ k. Data n (suc k)) (λ k. eq-eqb n n refl) (root_of image) refl
+  datas n (step {w = w} {r = q} {b = c} {a = a} {i = i} v d e g) =
+      one_more (is_data_of n) (λ k. Data n (suc k)) (λ k. eq-eqb n n refl) w q c (λ k m z. cc) (datas n v)
+      (λ t. let x = data_only n q t in
+      x.1 ∙ ap (Data n) (number x.0 (datas n v) (subst (λ r. IsDue image w r a i) x.1 d) (subst (λ r. NoCause image w r a c) x.1 g)))
+    where
+      number : (m : ℕ) → Lists (is_data_of n) (λ k. Data n (suc k)) w → IsDue image w (Data n m) a i → NoCause image w (Data n m) a c
+          → m ≡ suc (length (datas_in w n))
+      number zero old d g = absurd d.asked
+      number (suc k) old d g = ap suc (next_data_block w n v old k a i c d g)
+
+  pub data_has : (w : List (Role × ℕ)) → IsWalk image w → (n k b : ℕ) → Has w (Data n (suc k)) b → At (datas_in w n) k b
+  data_has w v n k b h = (datas n v).to k b h
+
+  pub has_data : (w : List (Role × ℕ)) → IsWalk image w → (n k b : ℕ) → At (datas_in w n) k b → Has w (Data n (suc k)) b
+  has_data w v n k b h = (datas n v).from k b h
+
+  -- what names a page has the extension blocks of the pages before it
+  before_page : (w : List (Role × ℕ)) → IsWalk image w → (k m j a i : ℕ) → m < k → 25 + 127 * j ≤ m → NamesPage image w k a i → (b : ℕ) × Has w (MapExt j) b
+  before_page w v k m j a i l u (inl x) = let y : k < 25 = x.0 in absurd (omega arith)
+  before_page w v k m j a i l u (inr x) = let y : i < 127 = x.2 in let z : k ≡ 25 + 127 * x.0 + i = x.3 in map_ext_down image w v x.0 j a x.1 (omega arith)
+
+  next_page : (w : List (Role × ℕ)) → IsWalk image w → Lists is_page Page w → (k a i : ℕ) → IsDue image w (Page k) a i → k ≡ length (pages_in w)
+  next_page w v ih k a i d =
+      elim (dec_lt k (length (pages_in w))) [
+        | yes u ↦
+            let x = at_some (pages_in w) k u in
+            absurd (d.lacks (Page k) x.0 (ih.from k x.0 x.1) (refl, refl, refl))
+        | no u ↦ elim (dec_lt (length (pages_in w)) k) [
+          | no l ↦ omega arith
+          | yes l ↦
+              let m : ℕ = length (pages_in w) in
+              let f : k < pages_needed (blocks image) = d.asked.0 in
+              let p = page_word image w m (omega arith) (λ j u. before_page w v k m j a i l u d.asked.1) in
+              let x = is_there image w (Page m) (Page k) a i p.0 p.1 d p.2 (omega arith, (λ z. omega arith), (λ z y. omega arith)) (omega arith) in
+              let y : m < length (pages_in w) = at_below (pages_in w) m x.0 (ih.to m x.0 x.1) in
+              absurd (omega arith)
+        ]
+      ]
+
+  page_only : (q : Role) → is_page q ≡ true → (k : ℕ) × (q ≡ Page k)
+  page_only (Page k) t = (k, refl)
+  page_only _ t = cc
+
+  pages : {w : List (Role × ℕ)} → IsWalk image w → Lists is_page Page w
+  pages start = none_listed is_page Page (λ k. refl) (root_of image) refl
+  pages (step {w = w} {r = q} {b = c} {a = a} {i = i} v d e g) =
+      one_more is_page Page (λ k. refl) w q c (λ k m z. cc) (pages v)
+      (λ t. let x = page_only q t in x.1 ∙ ap Page (next_page w v (pages v) x.0 a i (subst (λ r. IsDue image w r a i) x.1 d)))
+
+  pub page_has : (w : List (Role × ℕ)) → IsWalk image w → (k b : ℕ) → Has w (Page k) b → At (pages_in w) k b
+  page_has w v k b h = (pages v).to k b h
+
+  pub has_page : (w : List (Role × ℕ)) → IsWalk image w → (k b : ℕ) → At (pages_in w) k b → Has w (Page k) b
+  has_page w v k b h = (pages v).from k b h
+
+  -- the bitmap extension blocks
+  next_map_ext : (w : List (Role × ℕ)) → IsWalk image w → Lists is_map_ext MapExt w → (j a i : ℕ) → IsDue image w (MapExt j) a i → j ≡ length (map_exts_in w)
+  next_map_ext w v ih zero a i d =
+      elim (dec_lt 0 (length (map_exts_in w))) [
+        | yes u ↦ let x = at_some (map_exts_in w) 0 u in absurd (d.lacks (MapExt 0) x.0 (ih.from 0 x.0 x.1) (refl, refl, refl))
+        | no u ↦ omega arith
+      ]
+  next_map_ext w v ih (suc j) a i d =
+      elim (dec_lt (suc j) (length (map_exts_in w))) [
+        | yes u ↦ let x = at_some (map_exts_in w) (suc j) u in absurd (d.lacks (MapExt (suc j)) x.0 (ih.from (suc j) x.0 x.1) (refl, refl, refl))
+        | no u ↦ let y : j < length (map_exts_in w) = at_below (map_exts_in w) j a (ih.to j a d.asked.1) in omega arith
+      ]
+
+  map_ext_only : (q : Role) → is_map_ext q ≡ true → (k : ℕ) × (q ≡ MapExt k)
+  map_ext_only (MapExt k) t = (k, refl)
+  map_ext_only _ t = cc
+
+  map_exts : {w : List (Role × ℕ)} → IsWalk image w → Lists is_map_ext MapExt w
+  map_exts start = none_listed is_map_ext MapExt (λ k. refl) (root_of image) refl
+  map_exts (step {w = w} {r = q} {b = c} {a = a} {i = i} v d e g) =
+      one_more is_map_ext MapExt (λ k. refl) w q c (λ k m z. cc) (map_exts v)
+      (λ t. let x = map_ext_only q t in x.1 ∙ ap MapExt (next_map_ext w v (map_exts v) x.0 a i (subst (λ r. IsDue image w r a i) x.1 d)))
+
+  pub map_ext_has : (w : List (Role × ℕ)) → IsWalk image w → (j b : ℕ) → Has w (MapExt j) b → At (map_exts_in w) j b
+  map_ext_has w v j b h = (map_exts v).to j b h
+
+  pub has_map_ext : (w : List (Role × ℕ)) → IsWalk image w → (j b : ℕ) → At (map_exts_in w) j b → Has w (MapExt j) b
+  has_map_ext w v j b h = (map_exts v).from j b h
+
+  -- the slot of a header's name
+  pub slot_is : (w : List (Role × ℕ)) → IsWalk image w → (n p s j b : ℕ) → Has w (Head n p s j) b → slot_of (name_of image b) ≡ s
+  slot_is w v n p s j b h = let k = (kept image v (Head n p s j) b h).2 in head_slot_is image (kind_of image) b k.0 s k.2
+
+  module _ (full : List (Role × ℕ)) where
+    -- the chains, in order
+    abbrev chain_in : List (Role × ℕ) → ℕ → ℕ → List ℕ
+    chain_in w p s = nodes_from 1 (entries_in image full w) p s
+
+    record Chains (w : List (Role × ℕ)) : Type 0 where
+      to : (n p s j b : ℕ) → Has w (Head n p s j) b → At (chain_in w p s) j n
+      from : (n p s j : ℕ) → At (chain_in w p s) j n → (b : ℕ) × Has w (Head n p s j) b
+
+    next_place : (w : List (Role × ℕ)) → Chains w → (n p s j a i : ℕ) → IsDue image w (Head n p s j) a i → j ≡ length (chain_in w p s)
+    next_place w ih n p s zero a i d =
+        elim (dec_lt 0 (length (chain_in w p s))) [
+          | yes u ↦
+              let x = at_some (chain_in w p s) 0 u in
+              let y = ih.from x.0 p s 0 x.1 in
+              absurd (d.lacks (Head x.0 p s 0) y.0 y.1 (refl, refl, refl))
+          | no u ↦ omega arith
+        ]
+    next_place w ih n p s (suc j) a i d =
+        let h = d.asked.1 in
+        let lo : j < length (chain_in w p s) = at_below (chain_in w p s) j h.0 (ih.to h.0 p s j a h.1) in
+        elim (dec_lt (suc j) (length (chain_in w p s))) [
+          | yes u ↦
+              let x = at_some (chain_in w p s) (suc j) u in
+              let y = ih.from x.0 p s (suc j) x.1 in
+              absurd (d.lacks (Head x.0 p s (suc j)) y.0 y.1 (refl, refl, refl))
+          | no u ↦ omega arith
+        ]
+
+    -- the chains with one more header
+    chain_head : (w : List (Role × ℕ)) (n p s j c q u : ℕ) → n ≡ suc (heads w) →
+        nodes_from 1 (push_head (entry_in image full) (Head n p s j) c (entries_in image full w)) q u
+        ≡ chain_in w q u ++ cond ((p == q) && (slot_of (name_of image c) == u)) (n ∷ []) []
+    chain_head w n p s j c q u z =
+        let l : length (entries_in image full w) ≡ heads w = entries_length image full w in
+        let y : 1 + length (entries_in image full w) ≡ n = omega arith in
+        chain_snoc 1 (entries_in image full w) (entry_in image full n p c) q u
+        ∙ ap (λ m. chain_in w q u ++ cond ((p == q) && (slot_of (name_of image c) == u)) (m ∷ []) []) y
+
+    chain_old : (w : List (Role × ℕ)) (r : Role) (c n p s j : ℕ) → ((m q u k : ℕ) → r ≡ Head m q u k → m ≡ suc (heads w)) → At (chain_in w p s) j n
+        → At (nodes_from 1 (push_head (entry_in image full) r c (entries_in image full w)) p s) j n
+    chain_old w (Head m q u k) c n p s j num h =
+        subst (λ xs. At xs j n) (sym (chain_head w m q u k c p s (num m q u k refl)))
+        (at_old (chain_in w p s) (cond ((q == p) && (slot_of (name_of image c) == s)) (m ∷ []) []) j n h)
+    chain_old w _ c n p s j num h = h
+
+    chain_split : (w : List (Role × ℕ)) (r : Role) (c n p s j : ℕ)
+        → ((m q u k : ℕ) → r ≡ Head m q u k → (m ≡ suc (heads w)) × (slot_of (name_of image c) ≡ u) × (k ≡ length (chain_in w q u))) →
+        ((n p s j : ℕ) → At (chain_in w p s) j n → (b : ℕ) × Has w (Head n p s j) b) →
+        At (nodes_from 1 (push_head (entry_in image full) r c (entries_in image full w)) p s) j n → (b : ℕ) × Has ((r, c) ∷ w) (Head n p s j) b
+    chain_split w (Head m q u k) c n p s j num ih h =
+        let nm = num m q u k refl in
+        go ((q == p) && (slot_of (name_of image c) == s)) refl (subst (λ xs. At xs j n) (chain_head w m q u k c p s nm.0) h)
+      where
+        old : At (chain_in w p s) j n → (b : ℕ) × Has ((Head m q u k, c) ∷ w) (Head n p s j) b
+        old y = let x = ih n p s j y in (x.0, inr x.1)
+
+        go : (t : Bool) → ((q == p) && (slot_of (name_of image c) == s)) ≡ t → At (chain_in w p s ++ cond t (m ∷ []) []) j n
+            → (b : ℕ) × Has ((Head m q u k, c) ∷ w) (Head n p s j) b
+        go true z y =
+            let nm = num m q u k refl in
+            let e = both_equal q p (slot_of (name_of image c)) s z in
+            let e0 : q ≡ p = e.0 in
+            let e1 : u ≡ s = sym nm.1 ∙ e.1 in
+            elim (at_snoc (chain_in w p s) m j n y) [
+              | inl o ↦ old o
+              | inr o ↦
+                  let o0 : j ≡ length (chain_in w p s) = o.0 in
+                  let o1 : m ≡ n = o.1 in
+                  let k0 : k ≡ j = nm.2 ∙ ap (λ q. length (chain_in w q u)) e0 ∙ ap (λ u. length (chain_in w p u)) e1 ∙ sym o0 in
+                  let f : Head m q u k ≡ Head n p s j = cc in
+                  (c, inl (f, refl))
+            ]
+        go false z y = old (subst (λ xs. At xs j n) (append-nil (chain_in w p s)) y)
+    chain_split w _ c n p s j num ih h = let x = ih n p s j h in (x.0, inr x.1)
+
+    chains : {w : List (Role × ℕ)} → IsWalk image w → Chains w
+    chains start = record {
+      to = (λ n p s j b h. elim h [ inl e ↦ let x : second Root ≡ second (Head n p s j) = ap second e.0 in absurd (omega arith) | inr f ↦ absurd f ]);
+      from = (λ n p s j h. absurd h);
+    }
+    chains (step {w = w} {r = r} {b = c} {a = a} {i = i} v d e g) =
+        let ih = chains v in
+        let num : (m q u k : ℕ) → r ≡ Head m q u k → (m ≡ suc (heads w)) × (slot_of (name_of image c) ≡ u) × (k ≡ length (chain_in w q u)) =
+        (λ m q u k z.
+        let d' = subst (λ r. IsDue image w r a i) z d in (
+          asks_number image w m q u k a i d'.asked,
+          slot_is ((r, c) ∷ w) (step v d e g) m q u k c (inl (z, refl)),
+          next_place w ih m q u k a i d',
+        )) in
+        record {
+          to = (λ n p s j b h. elim h [
+            | inl y ↦
+                let nm = num n p s j y.0 in
+                let t : ((p == p) && (slot_of (name_of image c) == s)) ≡ true = equal_both p p (slot_of (name_of image c)) s refl nm.1 in
+                subst (λ r. At (nodes_from 1 (push_head (entry_in image full) r c (entries_in image full w)) p s) j n) (sym y.0)
+                (subst (λ xs. At xs j n) (sym (chain_head w n p s j c p s nm.0 ∙ ap (λ t. chain_in w p s ++ cond t (n ∷ []) []) t))
+                (at_new (chain_in w p s) n j nm.2))
+            | inr y ↦ chain_old w r c n p s j (λ m q u k z. (num m q u k z).0) (ih.to n p s j b y)
+          ]);
+          from = (λ n p s j h. chain_split w r c n p s j num ih.from h);
+        }
+
+    pub chain_has : (w : List (Role × ℕ)) → IsWalk image w → (n p s j b : ℕ) → Has w (Head n p s j) b → At (nodes_from 1 (entries_in image full w) p s) j n
+    chain_has w v n p s j b h = (chains v).to n p s j b h
+
+    pub has_chain : (w : List (Role × ℕ)) → IsWalk image w → (n p s j : ℕ) → At (nodes_from 1 (entries_in image full w) p s) j n
+        → (b : ℕ) × Has w (Head n p s j) b
+    has_chain w v n p s j h = (chains v).from n p s j h
