@@ -16,7 +16,7 @@ use Rattle.adf_volume.specs.declared.owner.Owner.TheVariants.{Free, Head as AHea
 use Rattle.adf_volume.specs.Image.{kind_of, name_of, word_in}
 use Rattle.adf_volume.specs.Walk.{FirstFault}
 use Rattle.adf_volume.specs.Walk.Role.{Head}
-use Rattle.adf_volume.proofs.Told.{all_told, first_told}
+use Rattle.adf_volume.proofs.FormDemands.{all_told, first_told}
 use Rattle.adf_check.specs.Reading.{IsInChain, IsAtSlot}
 use Rattle.adf_check.specs.Store.{Store, owner_at}
 use Rattle.adf_check.proofs.InChains.{fault_form, fault_name, next_chain, chain_begins, chain_ends}
