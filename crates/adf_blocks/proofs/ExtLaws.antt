@@ -53,7 +53,20 @@ pub ext_block-pointer : (e : ExtFields) (j : ℕ) → FitsExt e → j < 72 → s
 unfolding ext_block
 ext_block-pointer e j fits lt small =
     pointer_number (ext_table e) 3 77 j e.table (ext_descends e fits) (omega arith) refl (omega (arith, fits.table)) (omega arith) (omega arith)
-    (λ past. (inl (omega arith), (inl (omega arith), (inl (omega arith), (inl (omega arith), (inr (omega arith), (inr (omega arith), (inr (omega arith), tt))))))))
+    (λ past. (
+      inl (omega arith),
+      (
+        inl (omega arith),
+        (
+          inl (omega arith),
+          (
+            inl
+                (omega arith),
+            (inr (omega arith), (inr (omega arith), (inr (omega arith), tt))),
+          ),
+        ),
+      ),
+    ))
     ∙ long_number (slice_index e.table j) small
 
 both_true : (x y : Bool) → x ≡ true → y ≡ true → (x && y) ≡ true
@@ -66,7 +79,8 @@ ext_block-form e fits =
     no_cause (ext_form e.own e.head b) (
       eq-eqb (long_sum b) 0 (ext_block-sum e fits),
       (
-        both_true (word b 0 == 16) (word b 127 == 0xFFFFFFFD) (eq-eqb (word b 0) 16 (ext_block-type e fits)) (eq-eqb (word b 127) 0xFFFFFFFD (ext_block-secondary e fits)),
+        both_true (word b 0 == 16) (word b 127 == 0xFFFFFFFD) (eq-eqb (word b 0) 16 (ext_block-type e fits))
+            (eq-eqb (word b 127) 0xFFFFFFFD (ext_block-secondary e fits)),
         (
           eq-eqb (word b 1) e.own (ext_block-own e fits),
           (eq-eqb (word b 125) e.head (ext_block-head e fits), tt),

@@ -38,8 +38,34 @@ table_fits (FileFields size table ext) h =
 pub head_descends : (h : HeadFields) → FitsHead h → Descends 512 (head_table h)
 head_descends h fits =
     let name = name_short h.name fits.name in
-    let table = table_fits h.body fits.body in
-    (omega arith, (omega arith, (omega arith, (omega arith, (omega (arith, name), (omega arith, (omega (arith, fits.comment), (omega arith, (omega arith, (omega (arith, table.0), (omega (arith, table.1), (omega arith, (omega arith, (omega arith, tt))))))))))))))
+    let table = table_fits h.body fits.body in (
+      omega arith,
+      (
+        omega arith,
+        (
+          omega arith,
+          (
+            omega arith,
+            (
+              omega (arith, name),
+              (
+                omega arith,
+                (
+                  omega (arith, fits.comment),
+                  (
+                    omega arith,
+                    (
+                      omega arith,
+                      (omega (arith, table.0), (omega (arith, table.1), (omega arith, (omega arith, (omega arith, tt))))),
+                    ),
+                  ),
+                ),
+              ),
+            ),
+          ),
+        ),
+      ),
+    )
 
 -- a header is a whole block
 pub length_head_block : (h : HeadFields) → FitsHead h → length (head_block h) ≡ 512
@@ -67,7 +93,8 @@ pub head_block-size : (h : HeadFields) → FitsHead h → size_of h.body < 2 ^ 3
 unfolding head_block
 head_block-size h fits small = word_of_field (head_table h) 7 81 (size_of h.body) (head_descends h fits) (omega arith) refl (omega arith) small
 
-pub head_block-comment : (h : HeadFields) → FitsHead h → (slice_index (head_block h) 328 ≡ length h.meta.comment) × (text_at (head_block h) 328 ≡ h.meta.comment)
+pub head_block-comment : (h : HeadFields) → FitsHead h
+    → (slice_index (head_block h) 328 ≡ length h.meta.comment) × (text_at (head_block h) 328 ≡ h.meta.comment)
 unfolding head_block
 head_block-comment h fits = text_of_field (head_table h) 6 328 h.meta.comment (head_descends h fits) (omega arith) refl (omega arith)
 
@@ -97,7 +124,8 @@ secondary_small (FileFields size table ext) = omega arith
 
 pub head_block-secondary : (h : HeadFields) → FitsHead h → word (head_block h) 127 ≡ secondary_of h.body
 unfolding head_block
-head_block-secondary h fits = word_of_field (head_table h) 0 127 (secondary_of h.body) (head_descends h fits) (omega arith) refl (omega arith) (secondary_small h.body)
+head_block-secondary h fits =
+    word_of_field (head_table h) 0 127 (secondary_of h.body) (head_descends h fits) (omega arith) refl (omega arith) (secondary_small h.body)
 
 -- what the header's meta, body, slots and pointers read as
 pub head_block-meta : (h : HeadFields) → FitsHead h → FitsMeta h.meta → meta_at (head_block h) ≡ h.meta
@@ -107,7 +135,8 @@ head_block-meta h fits small =
     let stamp = head_block-stamp h fits small.stamp in
     rw (comment, protect, stamp) refl
 
-body_reads : (b : List ℕ) (body : BodyFields) → word b 127 ≡ secondary_of body → word b 81 ≡ size_of body → word b 126 ≡ ext_of body → body_at b ≡ body_told body
+body_reads : (b : List ℕ) (body : BodyFields) → word b 127 ≡ secondary_of body → word b 81 ≡ size_of body → word b 126 ≡ ext_of body
+    → body_at b ≡ body_told body
 body_reads b (DirFields slots) kind size ext = rw kind refl
 body_reads b (FileFields n table x) kind size ext = rw (kind, size, ext) refl
 
@@ -130,9 +159,45 @@ pointer_there h size table ext j fits e lt =
     let n : length table ≤ 72 = rw e at fits.body in
     let from : (table_of h.body).0 ≡ 4 * (77 + 1 - length table) = ap (λ b. (table_of b).0) e in
     pointer_number (head_table h) 9 77 j table (head_descends h fits) (omega arith) (ap table_of e) (omega arith) (omega arith) (omega arith)
-    (λ past. (inl (omega arith), (inl (omega arith), (inl (omega arith), (inl (omega arith), (inl (omega arith), (inl (omega arith), (inl (omega arith), (inl (omega arith), (inl (omega arith), (inl (omega arith), (inr (omega arith), (inr (omega arith), (inr (omega arith), (inr (omega arith), tt)))))))))))))))
+    (λ past. (
+      inl (omega arith),
+      (
+        inl (omega arith),
+        (
+          inl (omega arith),
+          (
+            inl
+                (omega arith),
+            (
+              inl (omega arith),
+              (
+                inl (omega arith),
+                (
+                  inl (omega arith),
+                  (
+                    inl (omega arith),
+                    (
+                      inl (omega arith),
+                      (
+                        inl (omega arith),
+                        (
+                          inr (omega
+                              arith),
+                          (inr (omega arith), (inr (omega arith), (inr (omega arith), tt))),
+                        ),
+                      ),
+                    ),
+                  ),
+                ),
+              ),
+            ),
+          ),
+        ),
+      ),
+    ))
 
-pub head_block-pointer : (h : HeadFields) (size : ℕ) (table : List ℕ) (ext j : ℕ) → FitsHead h → h.body ≡ FileFields size table ext → j < 72 → slice_index table j < 2 ^ 32
+pub head_block-pointer : (h : HeadFields) (size : ℕ) (table : List ℕ) (ext j : ℕ) → FitsHead h → h.body ≡ FileFields size table ext → j < 72
+    → slice_index table j < 2 ^ 32
     → word (head_block h) (77 - j) ≡ slice_index table j
 head_block-pointer h size table ext j fits e lt small = pointer_there h size table ext j fits e lt ∙ long_number (slice_index table j) small
 
@@ -141,7 +206,8 @@ first_there : (h : HeadFields) → FitsHead h → word (head_block h) 4 ≡ big_
 unfolding head_block
 first_there h fits = number_of_field (head_table h) 10 4 (first_of h.body) (head_descends h fits) (omega arith) refl (omega arith)
 
-first_of_file : (h : HeadFields) (size : ℕ) (table : List ℕ) (ext : ℕ) → FitsHead h → h.body ≡ FileFields size table ext → word (head_block h) 4 ≡ word (head_block h) 77
+first_of_file : (h : HeadFields) (size : ℕ) (table : List ℕ) (ext : ℕ) → FitsHead h → h.body ≡ FileFields size table ext
+    → word (head_block h) 4 ≡ word (head_block h) 77
 first_of_file h size table ext fits e =
     first_there h fits
     ∙ ap (λ b. big_number 4 (long (first_of b))) e

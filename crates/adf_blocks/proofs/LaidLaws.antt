@@ -115,29 +115,34 @@ laid_longs fs k i s ws d lt e in_words =
     number_there (laid fs) (i + s) (slice_index ws s) part
 
 -- the number in a word of words that were put down
-pub numbers_of_field : (c : ℕ) (fs : List Field) (k i s : ℕ) (ws : List ℕ) → c < 128 → Descends 512 fs → k < length fs → get_or fs k (0, []) ≡ (4 * i, longs ws) → s < length ws → i + s ≢ c
+pub numbers_of_field : (c : ℕ) (fs : List Field) (k i s : ℕ) (ws : List ℕ) → c < 128 → Descends 512 fs → k < length fs
+    → get_or fs k (0, []) ≡ (4 * i, longs ws) → s < length ws → i + s ≢ c
     → word (sealed c (laid fs)) (i + s) ≡ big_number 4 (long (slice_index ws s))
 numbers_of_field c fs k i s ws in_block d lt e in_words other =
     let n = length-laid 512 fs (omega arith) d in
     word-with_word_other (laid fs) c (checksum c (laid fs)) (i + s) (omega arith) other ∙ laid_longs fs k i s ws d lt e in_words
 
 -- a word of words that were put down
-pub words_of_field : (c : ℕ) (fs : List Field) (k i s : ℕ) (ws : List ℕ) → c < 128 → Descends 512 fs → k < length fs → get_or fs k (0, []) ≡ (4 * i, longs ws) → s < length ws → i + s ≢ c → slice_index ws s < 2 ^ 32
+pub words_of_field : (c : ℕ) (fs : List Field) (k i s : ℕ) (ws : List ℕ) → c < 128 → Descends 512 fs → k < length fs
+    → get_or fs k (0, []) ≡ (4 * i, longs ws) → s < length ws → i + s ≢ c → slice_index ws s < 2 ^ 32
     → word (sealed c (laid fs)) (i + s) ≡ slice_index ws s
-words_of_field c fs k i s ws in_block d lt e in_words other small = numbers_of_field c fs k i s ws in_block d lt e in_words other ∙ long_number (slice_index ws s) small
+words_of_field c fs k i s ws in_block d lt e in_words other small =
+    numbers_of_field c fs k i s ws in_block d lt e in_words other ∙ long_number (slice_index ws s) small
 
 -- a date that was put down
 pub stamp_of_field : (fs : List Field) (k i : ℕ) (s : Stamp) → Descends 512 fs → k < length fs → get_or fs k (0, []) ≡ (4 * i, stamp s) → 5 < i → FitsStamp s
     → stamp_at (sealed 5 (laid fs)) i ≡ s
 stamp_of_field fs k i s d lt e above fits =
     let ws : List ℕ = s.days ∷ s.mins ∷ s.ticks ∷ [] in
-    let days : word (sealed 5 (laid fs)) i ≡ s.days = ap (word (sealed 5 (laid fs))) (sym (add-zero i)) ∙ words_of_field 5 fs k i 0 ws (omega arith) d lt e (omega arith) (omega arith) fits.days in
+    let days : word (sealed 5 (laid fs)) i ≡ s.days =
+    ap (word (sealed 5 (laid fs))) (sym (add-zero i)) ∙ words_of_field 5 fs k i 0 ws (omega arith) d lt e (omega arith) (omega arith) fits.days in
     let mins : word (sealed 5 (laid fs)) (i + 1) ≡ s.mins = words_of_field 5 fs k i 1 ws (omega arith) d lt e (omega arith) (omega arith) fits.mins in
     let ticks : word (sealed 5 (laid fs)) (i + 2) ≡ s.ticks = words_of_field 5 fs k i 2 ws (omega arith) d lt e (omega arith) (omega arith) fits.ticks in
     rw (days, mins, ticks) refl
 
 -- the number in a word of words that were put down from word i on, downwards
-pub numbers_downwards : (fs : List Field) (k i j : ℕ) (ws : List ℕ) → Descends 512 fs → k < length fs → get_or fs k (0, []) ≡ downwards i ws → length ws + 5 ≤ i → j < length ws
+pub numbers_downwards : (fs : List Field) (k i j : ℕ) (ws : List ℕ) → Descends 512 fs → k < length fs → get_or fs k (0, []) ≡ downwards i ws
+    → length ws + 5 ≤ i → j < length ws
     → word (sealed 5 (laid fs)) (i - j) ≡ big_number 4 (long (slice_index ws j))
 numbers_downwards fs k i j ws d lt e room in_words =
     let n : length (reverse ws) ≡ length ws = length-reverse ws in
@@ -182,7 +187,8 @@ word_between fs i d lt apart other =
     word-with_word_other (laid fs) 5 (checksum 5 (laid fs)) i (omega arith) other ∙ laid_between fs i d lt apart
 
 -- the number in word i - j where words were put down from word i on, downwards: word j of these, or 0 past the last
-pub pointer_number : (fs : List Field) (k i j : ℕ) (ws : List ℕ) → Descends 512 fs → k < length fs → get_or fs k (0, []) ≡ downwards i ws → length ws + 5 ≤ i → j + 5 < i → i < 128
+pub pointer_number : (fs : List Field) (k i j : ℕ) (ws : List ℕ) → Descends 512 fs → k < length fs → get_or fs k (0, []) ≡ downwards i ws
+    → length ws + 5 ≤ i → j + 5 < i → i < 128
     → (length ws ≤ j → Apart (4 * (i - j)) (4 * (i - j) + 4) fs)
     → word (sealed 5 (laid fs)) (i - j) ≡ big_number 4 (long (slice_index ws j))
 pointer_number fs k i j ws d lt e room above in_block past = elim (cases_lt j (length ws)) [
@@ -204,7 +210,8 @@ pub bytes_of_field : (fs : List Field) (k from : ℕ) (xs : List ℕ) → Descen
 bytes_of_field fs k from xs d lt e above =
     let n = length-laid 512 fs (omega arith) d in
     let there : slice_range (laid fs) from (from + length xs) ≡ xs = rw e at (nth_field 512 fs k (0, []) (omega arith) d lt) in
-    range-with_bytes_above (laid fs) (4 * 5) (long (checksum 5 (laid fs))) from (from + length xs) (omega arith) (omega (arith, length_big_bytes 4 (checksum 5 (laid fs)))) ∙ there
+    range-with_bytes_above (laid fs) (4 * 5) (long (checksum 5 (laid fs))) from (from + length xs) (omega arith)
+    (omega (arith, length_big_bytes 4 (checksum 5 (laid fs)))) ∙ there
 
 -- how a length and a text read
 pub text_reads : (bs xs : List ℕ) (at : ℕ) → slice_range xs at (at + length (text bs)) ≡ text bs → (slice_index xs at ≡ length bs) × (text_at xs at ≡ bs)
@@ -212,7 +219,8 @@ text_reads bs xs at h =
     let n : at + length (text bs) - at ≡ suc (length bs) = omega arith in
     let whole : take (suc (length bs)) (drop at xs) ≡ length bs ∷ bs = ap (λ k. take k (drop at xs)) (sym n) ∙ h in
     let first : slice_index xs at ≡ length bs =
-    ap (λ k. slice_index xs k) (sym (add-zero at)) ∙ sym (get_or-drop at xs 0 0) ∙ sym (get_or-take (suc (length bs)) (drop at xs) 0 0 (omega arith)) ∙ ap (λ ys. get_or ys 0 0) whole in
+    ap (λ k. slice_index xs k) (sym (add-zero at)) ∙ sym (get_or-drop at xs 0 0) ∙ sym (get_or-take (suc (length bs)) (drop at xs) 0 0 (omega arith))
+    ∙ ap (λ ys. get_or ys 0 0) whole in
     let rest : slice_range xs (at + 1) (at + 1 + length bs) ≡ bs =
     sym (sub_range xs at (at + length (text bs)) 1 (1 + length bs) (omega arith) (omega arith) ∙ ap (slice_range xs (at + 1)) (omega arith))
     ∙ ap (λ ys. slice_range ys 1 (1 + length bs)) h

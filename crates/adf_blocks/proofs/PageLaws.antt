@@ -14,7 +14,8 @@ unfolding page_block
 length_page_block bits n =
     let m = length_longs bits in
     let len = length-laid 512 ((4 * 1, longs bits) ∷ []) (omega arith) (omega arith, tt) in
-    length-with_bytes (laid ((4 * 1, longs bits) ∷ [])) (4 * 0) (long (checksum 0 (laid ((4 * 1, longs bits) ∷ [])))) (omega (arith, length_big_bytes 4 (checksum 0 (laid ((4 * 1, longs bits) ∷ []))))) ∙ len
+    length-with_bytes (laid ((4 * 1, longs bits) ∷ [])) (4 * 0) (long (checksum 0 (laid ((4 * 1, longs bits) ∷ []))))
+    (omega (arith, length_big_bytes 4 (checksum 0 (laid ((4 * 1, longs bits) ∷ []))))) ∙ len
 
 -- the sum of a page
 pub page_block-sum : (bits : List ℕ) → length bits ≡ 127 → long_sum (page_block bits) ≡ 0

@@ -14,8 +14,23 @@ use Rattle.adf_blocks.proofs.LaidLaws.{length_sealed_laid, stamp_of_field, sum_o
 pub root_descends : (r : RootFields) → FitsRoot r → Descends 512 (root_table r)
 root_descends r h =
     let slots = length_longs r.slots in
-    let pages = length_longs r.pages in
-    (omega arith, (omega arith, (omega arith, (omega (arith, h.label), (omega arith, (omega arith, (omega (arith, h.pages), (omega arith, (omega (arith, h.slots), (omega arith, (omega arith, tt)))))))))))
+    let pages = length_longs r.pages in (
+      omega arith,
+      (
+        omega arith,
+        (
+          omega arith,
+          (
+            omega (arith, h.label),
+            (
+              omega
+                  arith,
+              (omega arith, (omega (arith, h.pages), (omega arith, (omega (arith, h.slots), (omega arith, (omega arith, tt)))))),
+            ),
+          ),
+        ),
+      ),
+    )
 
 -- the words of a root
 pub root_block-sum : (r : RootFields) → FitsRoot r → long_sum (root_block r) ≡ 0
@@ -37,7 +52,8 @@ root_block-valid r h = word_of_field (root_table r) 7 78 0xFFFFFFFF (root_descen
 -- a slot of a root
 pub root_block-slot : (r : RootFields) (s : ℕ) → FitsRoot r → s < 72 → slice_index r.slots s < 2 ^ 32 → word (root_block r) (6 + s) ≡ slice_index r.slots s
 unfolding root_block
-root_block-slot r s h lt small = words_of_field 5 (root_table r) 8 6 s r.slots (omega arith) (root_descends r h) (omega arith) refl (omega (arith, h.slots)) (omega arith) small
+root_block-slot r s h lt small =
+    words_of_field 5 (root_table r) 8 6 s r.slots (omega arith) (root_descends r h) (omega arith) refl (omega (arith, h.slots)) (omega arith) small
 
 pub root_block-hash_size : (r : RootFields) → FitsRoot r → word (root_block r) 3 ≡ 72
 unfolding root_block
@@ -59,8 +75,32 @@ root_block-page r i h lt small = elim (cases_lt i (length r.pages)) [
   | inr past ↦
       let pages = length_longs r.pages in
       let slots = length_longs r.slots in
-      word_between (root_table r) (79 + i) (root_descends r h) (omega arith)
-      (inl (omega arith), (inl (omega arith), (inl (omega arith), (inl (omega arith), (inl (omega arith), (inl (omega arith), (inr (omega arith), (inr (omega arith), (inr (omega (arith, h.slots)), (inr (omega arith), (inr (omega arith), tt)))))))))))
+      word_between (root_table r) (79 + i) (root_descends r h) (omega arith) (
+        inl (omega arith),
+        (
+          inl (omega arith),
+          (
+            inl (omega arith),
+            (
+              inl (omega arith),
+              (
+                inl (omega arith),
+                (
+                  inl (omega arith),
+                  (
+                    inr (omega arith),
+                    (
+                      inr
+                          (omega arith),
+                      (inr (omega (arith, h.slots)), (inr (omega arith), (inr (omega arith), tt))),
+                    ),
+                  ),
+                ),
+              ),
+            ),
+          ),
+        ),
+      )
       (omega arith)
       ∙ sym (get_or_past r.pages i 0 past)
 ]
@@ -82,7 +122,8 @@ root_block-stamps r h fits =
 -- a root that was written is read
 pub root_block-form : (r : RootFields) → FitsRoot r → first_cause (root_form (root_block r)) ≡ None
 root_block-form r h =
-    let len : nat_le (slice_index (root_block r) 432) 30 ≡ true = le-leb (slice_index (root_block r) 432) 30 (omega (arith, (root_block-label r h).0, h.label)) in
+    let len : nat_le (slice_index (root_block r) 432) 30 ≡ true =
+    le-leb (slice_index (root_block r) 432) 30 (omega (arith, (root_block-label r h).0, h.label)) in
     rw (root_block-sum r h, root_block-type r h, root_block-secondary r h, len, root_block-hash_size r h, root_block-valid r h) refl
 
 -- a root is a whole block

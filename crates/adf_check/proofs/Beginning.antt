@@ -34,11 +34,13 @@ none_owned zero = refl
 none_owned (suc m) = none_owned m
 
 -- the root alone is claimed
-pub begun_with_root : (image : List ℕ) (n : ℕ) (owners new : List Owner) → IsBegun image → n ≡ blocks image → owners ≡ Boot ∷ Boot ∷ replicate (n - 2) Free → new ≡ set owners (root_of image) Root → owned_count new ≡ owned_count owners + 1
+pub begun_with_root : (image : List ℕ) (n : ℕ) (owners new : List Owner) → IsBegun image → n ≡ blocks image → owners ≡ Boot ∷ Boot ∷ replicate (n - 2) Free
+    → new ≡ set owners (root_of image) Root → owned_count new ≡ owned_count owners + 1
     → IsBeforePage image (record { owners = new; rows = []; starts = []; exts = []; datas = []; used = owned_count new }) 0 (root_of image)
 begun_with_root image n owners new begun size e f count =
     subst (λ u. IsBeforePage image (record { owners = new; rows = []; starts = []; exts = []; datas = []; used = u }) 0 (root_of image)) (sym one)
-    (beginning image new (ap length claimed ∙ long) (λ b lt. ap (λ os. owner_at os b) claimed ∙ get_or-set_other start root b Root Free (λ x. omega (arith, many)) ∙ boot_two (replicate (n - 2) Free) b lt)
+    (beginning image new (ap length claimed ∙ long) (λ b lt. ap (λ os. owner_at os b) claimed
+    ∙ get_or-set_other start root b Root Free (λ x. omega (arith, many)) ∙ boot_two (replicate (n - 2) Free) b lt)
     (ap (λ os. owner_at os root) claimed ∙ get_or-set_same start root Root Free (omega (arith, length-replicate {A = Owner} (n - 2) Free, many, size)))
     (λ b lo hi ne. ap (λ os. owner_at os b) claimed ∙ get_or-set_other start root b Root Free ne ∙ free_above (n - 2) b lo))
   where
@@ -60,5 +62,7 @@ begun_with_root image n owners new begun size e f count =
     one : owned_count new ≡ 1
     one = count ∙ ap (λ os. owned_count os + 1) e ∙ ap (λ m. m + 1) (none_owned (n - 2))
 
-pub root_is_free : (image : List ℕ) (n : ℕ) (owners : List Owner) → IsBegun image → owners ≡ Boot ∷ Boot ∷ replicate (n - 2) Free → owner_at owners (root_of image) ≡ Free
-root_is_free image n owners begun e = let many = many_blocks image begun in ap (λ os. owner_at os (root_of image)) e ∙ free_above (n - 2) (root_of image) (omega arith)
+pub root_is_free : (image : List ℕ) (n : ℕ) (owners : List Owner) → IsBegun image → owners ≡ Boot ∷ Boot ∷ replicate (n - 2) Free
+    → owner_at owners (root_of image) ≡ Free
+root_is_free image n owners begun e =
+    let many = many_blocks image begun in ap (λ os. owner_at os (root_of image)) e ∙ free_above (n - 2) (root_of image) (omega arith)

@@ -67,11 +67,13 @@ count_small Ofs size h = omega arith
 count_small Ffs size h = omega arith
 
 -- no piece is empty
-some_from : (image : List ℕ) (kind : Kind) (size j : ℕ) (bs : List ℕ) → length image ≡ 512 * blocks image → ((i b : ℕ) → At bs i b → b < blocks image) → j + length bs ≤ count kind size → All (λ p. 0 < length p) (pieces image kind size (suc j) bs)
+some_from : (image : List ℕ) (kind : Kind) (size j : ℕ) (bs : List ℕ) → length image ≡ 512 * blocks image → ((i b : ℕ) → At bs i b → b < blocks image)
+    → j + length bs ≤ count kind size → All (λ p. 0 < length p) (pieces image kind size (suc j) bs)
 some_from image kind size j [] z w le = λ i d lt. absurd (omega arith)
 some_from image kind size j (b ∷ bs) z w le = go (some_from image kind size (suc j) bs z (λ i c h. w (suc i) c h) (omega arith))
   where
-    go : All (λ p. 0 < length p) (pieces image kind size (suc (suc j)) bs) → (i : ℕ) (d : List ℕ) → i < length (pieces image kind size (suc j) (b ∷ bs)) → 0 < length (get_or (pieces image kind size (suc j) (b ∷ bs)) i d)
+    go : All (λ p. 0 < length p) (pieces image kind size (suc (suc j)) bs) → (i : ℕ) (d : List ℕ) → i < length (pieces image kind size (suc j) (b ∷ bs))
+        → 0 < length (get_or (pieces image kind size (suc j) (b ∷ bs)) i d)
     go rest zero d lt =
         let a : length (area kind (block image b)) ≡ chunk kind = area_length image kind b z (w 0 b refl) in
         let h = held_some kind size j (omega arith) in
@@ -79,7 +81,8 @@ some_from image kind size j (b ∷ bs) z w le = go (some_from image kind size (s
         omega (arith, h.0, h.1)
     go rest (suc i) d lt = rest i d (omega arith)
 
-body_other : (image : List ℕ) (kind : Kind) (l : Layout) (n h : ℕ) (body : Body) → BodyFits image kind l n h body → word_in image h 127 ≢ DIR → (bytes : List ℕ) × (body ≡ File bytes)
+body_other : (image : List ℕ) (kind : Kind) (l : Layout) (n h : ℕ) (body : Body) → BodyFits image kind l n h body → word_in image h 127 ≢ DIR
+    → (bytes : List ℕ) × (body ≡ File bytes)
 body_other image kind l n h Dir f w = absurd (w f.0)
 body_other image kind l n h (File bytes) f w = (bytes, refl)
 
@@ -89,14 +92,17 @@ module _ (image : List ℕ) (store : Store) (t : Tree) (l : Layout) (k : Keeps i
   data_range (suc n) i b h =
       let one : 1 + n ≡ suc n = omega arith in
       let here : Owner × ℕ = (Data (suc n) (suc i), b) in
-      let x : In (owned_from 1 l.places) (Data (suc n) (suc i), b) = subst (λ m. In (owned_from 1 l.places) (Data m (suc i), b)) one (owned_data 1 l.places n i b h) in
-      (k.fits.range (Data (suc n) (suc i)) b (inr (in_right (numbered Page 0 l.pages) _ here (in_right (numbered MapExt 0 l.map_exts) (owned_from 1 l.places) here x)))).1
+      let x : In (owned_from 1 l.places) (Data (suc n) (suc i), b) =
+      subst (λ m. In (owned_from 1 l.places) (Data m (suc i), b)) one (owned_data 1 l.places n i b h) in
+      (k.fits.range (Data (suc n) (suc i)) b (inr (in_right (numbered Page 0 l.pages) _ here
+      (in_right (numbered MapExt 0 l.map_exts) (owned_from 1 l.places) here x)))).1
 
   whole : length image ≡ 512 * blocks image
   whole = k.fits.boots.0.0
 
   -- the data blocks of a node stand in the list of all, from its start on
-  pub datas_here : (n : ℕ) (x : Start) → n ≤ length store.rows → x ≡ get_or store.starts n x → take (length (datas_of l n)) (drop x.datas store.datas) ≡ datas_of l n
+  pub datas_here : (n : ℕ) (x : Start) → n ≤ length store.rows → x ≡ get_or store.starts n x
+      → take (length (datas_of l n)) (drop x.datas store.datas) ≡ datas_of l n
   datas_here n x le e =
       let c : length store.starts ≡ suc (length store.rows) = k.starts.count in
       k.starts.datas n x (subst (At store.starts n) (sym e) (at_or store.starts n x (omega arith)))
@@ -125,11 +131,13 @@ module _ (image : List ℕ) (store : Store) (t : Tree) (l : Layout) (k : Keeps i
       file_fits = subst (BodyFits image t.kind l n h) file.1 body_fits
 
       pub data_count_is : length (datas_of l n) ≡ count (kind_of image) (word_in image h 81)
-      data_count_is = (k.fits.files n here.0 file.0 here.1 file.1).datas ∙ ap (count t.kind) file_fits.2 ∙ ap (λ kind. count kind (word_in image h 81)) k.fits.kind
+      data_count_is = (k.fits.files n here.0 file.0 here.1 file.1).datas ∙ ap (count t.kind) file_fits.2
+          ∙ ap (λ kind. count kind (word_in image h 81)) k.fits.kind
 
       pub file_bytes : Some (concat (pieces image (kind_of image) (word_in image h 81) 1 (datas_of l n))) ≡ bytes_of (entry t.entries n)
       file_bytes =
-          ap Some (pieces_joined image (kind_of image) h (datas_of l n) whole (data_range n) ∙ ap (λ kind. content image kind h (datas_of l n)) (sym k.fits.kind) ∙ sym file_fits.1)
+          ap Some (pieces_joined image (kind_of image) h (datas_of l n) whole (data_range n)
+          ∙ ap (λ kind. content image kind h (datas_of l n)) (sym k.fits.kind) ∙ sym file_fits.1)
           ∙ sym (told ∙ ap bytes_in file.1)
 
       pub file_inside : word_in image h 81 < 2 ^ 32 → AreInside image (datas_of l n) 1
@@ -138,7 +146,8 @@ module _ (image : List ℕ) (store : Store) (t : Tree) (l : Layout) (k : Keeps i
           let s = count_small (kind_of image) (word_in image h 81) small in
           let size : length image ≡ 512 * blocks image = whole in
           record {
-            inside = (λ i d lt. let b : get_or (datas_of l n) i d < blocks image = data_range n i (get_or (datas_of l n) i d) (at_or (datas_of l n) i d lt) in omega arith);
+            inside = (λ i d lt. let b : get_or (datas_of l n) i d < blocks image =
+                data_range n i (get_or (datas_of l n) i d) (at_or (datas_of l n) i d lt) in omega arith);
             from = omega arith;
             few = omega arith;
           }

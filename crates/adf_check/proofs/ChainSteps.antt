@@ -47,7 +47,8 @@ seen_more old new name h x = (to, from)
     from (inr y) = h x ∙ joined (bytes_eq name x) (has old x) (inr ((bytes_eq-Decides name x).1 y))
 
 -- a slot whose word is 0 has no chain
-pub empty_chain : (image : List ℕ) (store : Store) (p up s : ℕ) → IsAtSlot image store p up s → word_in image up (6 + s) ≡ 0 → IsAtSlot image store p up (s + 1)
+pub empty_chain : (image : List ℕ) (store : Store) (p up s : ℕ) → IsAtSlot image store p up s → word_in image up (6 + s) ≡ 0
+    → IsAtSlot image store p up (s + 1)
 empty_chain image store p up s st none =
     let seen : List ℕ → Type 0 = λ x. ⊥ in
     let next : suc s ≡ s + 1 = omega arith in
@@ -55,7 +56,8 @@ empty_chain image store p up s st none =
     subst (IsAtSlot image store p up) next (chain_ends image store p up s up seen (subst (λ b. IsInChain image store p up s up b seen) none begins))
 
 -- a word of block a names block b next in the chain of slot s of directory p
-module _ (image : List ℕ) (store : Store) (p up s a b : ℕ) (names : Names) (lt : s < 72) (begun : IsBegun image) (st : IsInChain image store p up s a b (sees_of names)) (ne : b ≢ 0) where
+module _ (image : List ℕ) (store : Store) (p up s a b : ℕ) (names : Names) (lt : s < 72) (begun : IsBegun image)
+    (st : IsInChain image store p up s a b (sees_of names)) (ne : b ≢ 0) where
   pub member_claim : (f : Fault) → IsClaimFault store.owners a b f → IsTrueFault image f
   member_claim f h = head_claim image store p up s a b (sees_of names) f lt begun st ne h
 
@@ -68,21 +70,33 @@ module _ (image : List ℕ) (store : Store) (p up s a b : ℕ) (names : Names) (
     member_inside = below
 
     pub member_fault : (c : Cause) → first_cause (head_form (kind_of image) b up s (block image b)) ≡ Some c → FirstFault image b c
-    member_fault c f = fault_form image store p up s a b (sees_of names) lt begun st ne c r.0 below free (first_told b (head_form (kind_of image) b up s (block image b)) c f)
+    member_fault c f = fault_form image store p up s a b (sees_of names) lt begun st ne c r.0 below free
+        (first_told b (head_form (kind_of image) b up s (block image b)) c f)
 
     -- and holds a header
     module _ (form : first_cause (head_form (kind_of image) b up s (block image b)) ≡ None) where
       pub member_twice : has names (uppers (name_of image b)) ≡ true → FirstFault image b SameName
-      member_twice h = fault_name image store p up s a b (sees_of names) lt begun st ne r.0 below free (all_told b (head_form (kind_of image) b up s (block image b)) form) h
+      member_twice h = fault_name image store p up s a b (sees_of names) lt begun st ne r.0 below free
+          (all_told b (head_form (kind_of image) b up s (block image b)) form) h
 
       pub member_done : (owners : List Owner) (used : ℕ) (new : Names) → owners ≡ set store.owners b (AHead (length store.rows + 1)) → used ≡ store.used + 1
           → has names (uppers (name_of image b)) ≡ false → HasMore names new (uppers (name_of image b))
-          → IsInChain image (record { owners = owners; rows = store.rows ++ record { parent = p; head = b } ∷ []; starts = store.starts; exts = store.exts; datas = store.datas; used = used }) p up s b (word_in image b 124) (sees_of new)
+          → IsInChain image (record {
+            owners = owners;
+            rows = store.rows ++ record { parent = p; head = b } ∷ [];
+            starts = store.starts;
+            exts =
+                store.exts;
+            datas = store.datas;
+            used = used;
+          }) p up s b (word_in image b 124) (sees_of new)
       member_done owners used new o u fresh more =
           let k : length store.rows + 1 ≡ suc (length store.rows) = omega arith in
           let none : sees_of names (uppers (name_of image b)) → ⊥ = λ h. let e : true ≡ false = sym h ∙ fresh in cc in
-          let next = next_chain image store p up s a b (sees_of names) lt begun st ne r.0 below free (all_told b (head_form (kind_of image) b up s (block image b)) form) none (sees_of new) (seen_more names new (uppers (name_of image b)) more) in
-          subst (λ t. IsInChain image t p up s b (word_in image b 124) (sees_of new)) (stored_is store owners used (Head (suc (length store.rows)) p s 0) b (o ∙ ap (λ n. set store.owners b (AHead n)) k) u) next
+          let next = next_chain image store p up s a b (sees_of names) lt begun st ne r.0 below free
+          (all_told b (head_form (kind_of image) b up s (block image b)) form) none (sees_of new) (seen_more names new (uppers (name_of image b)) more) in
+          subst (λ t. IsInChain image t p up s b (word_in image b 124) (sees_of new))
+          (stored_is store owners used (Head (suc (length store.rows)) p s 0) b (o ∙ ap (λ n. set store.owners b (AHead n)) k) u) next
 
 -- a name that is not new was seen
 pub was_seen : (x y : Bool) → y ≡ not x → y ≡ false → x ≡ true

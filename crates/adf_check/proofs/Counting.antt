@@ -27,13 +27,15 @@ use Rattle.adf_check.specs.Volumes.{counts_of, is_dir_at, is_directory}
 use Rattle.adf_check.specs.declared.checked.Counts.{Counts}
 
 -- the headers of rows are blocks of the image
-pub rows_inside : (image : List ℕ) (store : Store) → IsBegun image → TellsFit image store → (i : ℕ) (d : Row) → i < length store.rows → (get_or store.rows i d).head < blocks image
+pub rows_inside : (image : List ℕ) (store : Store) → IsBegun image → TellsFit image store → (i : ℕ) (d : Row) → i < length store.rows
+    → (get_or store.rows i d).head < blocks image
 rows_inside image store begun st i d lt =
     let x = node_here image store st.walk st.tells st.is_walk i (get_or store.rows i d) (row_at store.rows i d lt) in
     (in_range image st.is_walk (many_blocks image begun) (Head (suc i) x.0 x.1 x.2) (get_or store.rows i d).head x.3).1
 
 -- two lists of one length whose members agree have one count
-same_count : {X Y : Type 0} (f : X → Bool) (g : Y → Bool) (xs : List X) (ys : List Y) → length xs ≡ length ys → ((i : ℕ) (x : X) (y : Y) → At xs i x → At ys i y → f x ≡ g y) → count_by f xs ≡ count_by g ys
+same_count : {X Y : Type 0} (f : X → Bool) (g : Y → Bool) (xs : List X) (ys : List Y) → length xs ≡ length ys
+    → ((i : ℕ) (x : X) (y : Y) → At xs i x → At ys i y → f x ≡ g y) → count_by f xs ≡ count_by g ys
 same_count f g [] [] e h = refl
 same_count f g [] (y ∷ ys) e h = absurd (omega arith)
 same_count f g (x ∷ xs) [] e h = absurd (omega arith)
@@ -60,18 +62,22 @@ both_counts f (x ∷ xs) =
 pub others : (es : List Entry) (all dirs : ℕ) → all ≡ length es → dirs ≡ count_by is_directory es → all - dirs ≡ count_by (λ e. not (is_directory e)) es
 others es all dirs a d = let both = both_counts is_directory es in omega arith
 
-same_type : (image : List ℕ) (t : Tree) (l : Layout) (n h : ℕ) (body : Body) → BodyFits image t.kind l n h body → (word_in image h 127 == DIR) ≡ is_dir_body body
+same_type : (image : List ℕ) (t : Tree) (l : Layout) (n h : ℕ) (body : Body) → BodyFits image t.kind l n h body
+    → (word_in image h 127 == DIR) ≡ is_dir_body body
 same_type image t l n h Dir b = let e : word_in image h 127 ≡ DIR = b.0 in grind (arith, nat_tests)
 same_type image t l n h (File bytes) b = let e : word_in image h 127 ≡ FILE = b.0 in grind (arith, nat_tests)
 
 -- the directories of the rows are those of the tree
-pub dirs_are : (image : List ℕ) (store : Store) (t : Tree) (l : Layout) → Keeps image store t l → count_by (is_dir_at image) store.rows ≡ count_by is_directory t.entries
+pub dirs_are : (image : List ℕ) (store : Store) (t : Tree) (l : Layout) → Keeps image store t l
+    → count_by (is_dir_at image) store.rows ≡ count_by is_directory t.entries
 dirs_are image store t l k = same_count (is_dir_at image) is_directory store.rows t.entries k.rows.count (λ i r e at_row at_entry.
     let h : at_node image l (suc i) ≡ r.head = k.rows.head i r at_row in
-    subst (λ b. (word_in image b 127 == DIR) ≡ is_directory e) h (same_type image t l (suc i) (at_node image l (suc i)) e.body (k.fits.entries (suc i) e at_entry).body))
+    subst (λ b. (word_in image b 127 == DIR)
+    ≡ is_directory e) h (same_type image t l (suc i) (at_node image l (suc i)) e.body (k.fits.entries (suc i) e at_entry).body))
 
 -- the numbers of a volume are those of the tree and the layout that it stands for
-pub counts_are : (image : List ℕ) (store : Store) (t : Tree) (l : Layout) (kind : Kind) (n used dirs all : ℕ) → Keeps image store t l → kind ≡ kind_of image → n ≡ blocks image → used ≡ store.used
+pub counts_are : (image : List ℕ) (store : Store) (t : Tree) (l : Layout) (kind : Kind) (n used dirs all : ℕ) → Keeps image store t l → kind ≡ kind_of image
+    → n ≡ blocks image → used ≡ store.used
     → dirs ≡ count_by (is_dir_at image) store.rows → all ≡ length store.rows
     → ◌≡◌ {A = Counts} (record { kind = kind; blocks = n; used = used; free = n - 2 - used; dirs = dirs; files = all - dirs }) (counts_of image t l)
 counts_are image store t l kind n used dirs all k ek en eu ed ea =

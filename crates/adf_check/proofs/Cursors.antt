@@ -35,12 +35,14 @@ module _ (image : List ℕ) (w : List (Role × ℕ)) where
   pub is_due : (r : Role) (a i : ℕ) → IsUpTo image w (first r) (second r) (third r) → Asks image w r a i → IsDue image w r a i
   is_due r a i u h = record {
     asked = h;
-    lacks = (λ q b k s. let x = u.below q b k in let s0 : first q ≡ first r = s.0 in let s1 : second q ≡ second r = s.1 in let s2 : third q ≡ third r = s.2 in let y : third q < third r = x.2 s0 s1 in omega arith);
+    lacks = (λ q b k s. let x = u.below q b k in let s0 : first q ≡ first r = s.0 in let s1 : second q ≡ second r = s.1 in let s2 : third q ≡ third r =
+        s.2 in let y : third q < third r = x.2 s0 s1 in omega arith);
     least = (λ q c k ask l b. u.all q c k ask l b);
   }
 
   -- and with no cause it is read, and the place moves on
-  pub take_it : (r : Role) (a i b : ℕ) → IsUpTo image w (first r) (second r) (third r) → Asks image w r a i → word_in image a i ≡ b → NoCause image w r a b → IsUpTo image ((r, b) ∷ w) (first r) (second r) (suc (third r))
+  pub take_it : (r : Role) (a i b : ℕ) → IsUpTo image w (first r) (second r) (third r) → Asks image w r a i → word_in image a i ≡ b → NoCause image w r a b
+      → IsUpTo image ((r, b) ∷ w) (first r) (second r) (suc (third r))
   take_it r a i b u h e n =
       let d = is_due r a i u h in
       record {
@@ -85,10 +87,12 @@ module _ (image : List ℕ) (w : List (Role × ℕ)) where
   }
 
   -- the chain of slot s of directory p ends at place j
-  pub end_chain : (p s j : ℕ) → IsUpTo image w (suc p) (suc (suc s)) j → ((n a i : ℕ) → Asks image w (Head n p s j) a i → ⊥) → IsUpTo image w (suc p) (suc (suc (suc s))) 0
+  pub end_chain : (p s j : ℕ) → IsUpTo image w (suc p) (suc (suc s)) j → ((n a i : ℕ) → Asks image w (Head n p s j) a i → ⊥)
+      → IsUpTo image w (suc p) (suc (suc (suc s))) 0
   end_chain p s j u ends =
       skip (suc p) (suc (suc s)) j (suc p) (suc (suc (suc s))) 0 u
-      (λ r h. let h0 : first r ≤ suc p = h.0 in (h0, (λ e. let x : second r ≤ suc (suc s) = h.1 e in omega arith), (λ e f. let x : second r ≤ suc (suc s) = h.1 e in absurd (omega arith))))
+      (λ r h. let h0 : first r ≤ suc p =
+      h.0 in (h0, (λ e. let x : second r ≤ suc (suc s) = h.1 e in omega arith), (λ e f. let x : second r ≤ suc (suc s) = h.1 e in absurd (omega arith))))
       none
     where
       none : (r : Role) (a i : ℕ) → Asks image w r a i → (IsBelow r (suc p) (suc (suc s)) j → ⊥) → IsBelow r (suc p) (suc (suc (suc s))) 0 → ⊥
@@ -171,7 +175,8 @@ module _ (image : List ℕ) (w : List (Role × ℕ)) where
   pub enter_dir : (p a : ℕ) → DirAt image w p a → IsUpTo image w (suc p) 0 0 → IsUpTo image w (suc p) 2 0
   enter_dir p c d u =
       skip (suc p) 0 0 (suc p) 2 0 u
-      (λ r h. let h0 : first r ≤ suc p = h.0 in (h0, (λ e. let x : second r ≤ 0 = h.1 e in omega arith), (λ e f. let x : second r ≤ 0 = h.1 e in absurd (omega arith)))) none
+      (λ r h. let h0 : first r ≤ suc p =
+      h.0 in (h0, (λ e. let x : second r ≤ 0 = h.1 e in omega arith), (λ e f. let x : second r ≤ 0 = h.1 e in absurd (omega arith)))) none
     where
       none : (r : Role) (a i : ℕ) → Asks image w r a i → (IsBelow r (suc p) 0 0 → ⊥) → IsBelow r (suc p) 2 0 → ⊥
       none Root a i h k b = h
@@ -189,7 +194,8 @@ module _ (image : List ℕ) (w : List (Role × ℕ)) where
             | no e ↦ let b0 : suc n ≤ suc p = b.0 in k (omega arith, (λ e2. absurd (omega arith)), (λ e2 f. absurd (omega arith)))
           ]
       none (Head n q s m) a i h k b =
-          let b2 : suc q ≡ suc p → ⊥ = (λ e. let x : suc (suc s) ≤ 2 = b.1 e in let y : suc (suc s) ≡ 2 → m < 0 = b.2 e in let z : m < 0 = y (omega arith) in omega arith) in
+          let b2 : suc q ≡ suc p → ⊥ = (λ e. let x : suc (suc s) ≤ 2 = b.1 e in let y : suc (suc s) ≡ 2 → m < 0 = b.2 e in let z : m < 0 =
+          y (omega arith) in omega arith) in
           let b0 : suc q ≤ suc p = b.0 in
           k (omega arith, (λ e. absurd (omega arith)), (λ e f. absurd (omega arith)))
 
@@ -302,11 +308,13 @@ module _ (image : List ℕ) (w : List (Role × ℕ)) where
       skip 0 1 (pages_needed (blocks image) + (pages_needed (blocks image) + 101) / 127) 1 0 0 u
       (λ r h. let h0 : first r ≤ 0 = h.0 in (omega arith, (λ e. absurd (omega arith)), (λ e f. absurd (omega arith)))) none
     where
-      none : (r : Role) (a i : ℕ) → Asks image w r a i → (IsBelow r 0 1 (pages_needed (blocks image) + (pages_needed (blocks image) + 101) / 127) → ⊥) → IsBelow r 1 0 0 → ⊥
+      none : (r : Role) (a i : ℕ) → Asks image w r a i → (IsBelow r 0 1 (pages_needed (blocks image) + (pages_needed (blocks image) + 101) / 127) → ⊥)
+          → IsBelow r 1 0 0 → ⊥
       none Root a i h k b = h
       none (Page m) a i h k b = let x : m < pages_needed (blocks image) = h.0 in k (omega arith, (λ e. omega arith), (λ e f. omega arith))
       none (MapExt zero) a i h k b = let x : 25 < pages_needed (blocks image) = h.0 in k (omega arith, (λ e. omega arith), (λ e f. omega arith))
-      none (MapExt (suc m)) a i h k b = let x : 25 + 127 * suc m < pages_needed (blocks image) = h.0 in k (omega arith, (λ e. omega arith), (λ e f. omega arith))
+      none (MapExt (suc m)) a i h k b =
+          let x : 25 + 127 * suc m < pages_needed (blocks image) = h.0 in k (omega arith, (λ e. omega arith), (λ e f. omega arith))
       none (Ext q m) a i h k b =
           let b0 : suc q ≤ 1 = b.0 in
           let z : q ≡ 0 = omega arith in

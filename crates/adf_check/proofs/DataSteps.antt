@@ -28,11 +28,14 @@ member_inside image w begun v n zero c h = (in_range image v (many_blocks image 
 member_inside image w begun v n (suc m) c h = (in_range image v (many_blocks image begun) (Ext n (suc m)) c h).1
 
 -- the blocks of the table are those of the image
-pub table_inside : (image : List ℕ) (store : Store) (n h : ℕ) (table : List ℕ) (k : ℕ) → IsBegun image → IsInDatas image store n h table k → (i : ℕ) → i < length table → slice_index table i < blocks image
-table_inside image store n h table k begun st i lt = member_inside image st.walk begun st.upto.walk n i (slice_index table i) (st.members i (slice_index table i) (at_get table i lt))
+pub table_inside : (image : List ℕ) (store : Store) (n h : ℕ) (table : List ℕ) (k : ℕ) → IsBegun image → IsInDatas image store n h table k → (i : ℕ)
+    → i < length table → slice_index table i < blocks image
+table_inside image store n h table k begun st i lt =
+    member_inside image st.walk begun st.upto.walk n i (slice_index table i) (st.members i (slice_index table i) (at_get table i lt))
 
 -- the table names block b as data block k + 1
-module _ (image : List ℕ) (store : Store) (n h : ℕ) (table : List ℕ) (k b : ℕ) (begun : IsBegun image) (enough : data_count image h ≤ 72 * length table) (lt : k < data_count image h) (st : IsInDatas image store n h table k) (e : b ≡ word_in image (slice_index table (k / 72)) (77 - k % 72)) where
+module _ (image : List ℕ) (store : Store) (n h : ℕ) (table : List ℕ) (k b : ℕ) (begun : IsBegun image) (enough : data_count image h ≤ 72 * length table)
+    (lt : k < data_count image h) (st : IsInDatas image store n h table k) (e : b ≡ word_in image (slice_index table (k / 72)) (77 - k % 72)) where
   -- the block whose word names it
   abbrev pub at : ℕ
   at = slice_index table (k / 72)
@@ -51,20 +54,32 @@ module _ (image : List ℕ) (store : Store) (n h : ℕ) (table : List ℕ) (k b 
   abbrev pub demands_of : ℕ → ℕ → List Demand
   demands_of number next = data_demands image (kind_of image) b h number (held (kind_of image) (word_in image h 81) number) next
 
-  pub data_fault : (c : Cause) → InRange (length store.owners) b → owner_at store.owners b ≡ Free → FirstFails (demands_of (k + 1) (next_of image table (data_count image h) (k + 1))) b c → FirstFault image b c
+  pub data_fault : (c : Cause) → InRange (length store.owners) b → owner_at store.owners b ≡ Free
+      → FirstFails (demands_of (k + 1) (next_of image table (data_count image h) (k + 1))) b c → FirstFault image b c
   unfolding named
   data_fault c r free f =
       let one : k + 1 ≡ suc k = omega arith in
-      plain_form image store (Data n (suc k)) at b begun tt named c (data_enough image store n h table k st enough) r.0 (subst (λ n. b < n) st.tells.owns.size r.1) free
+      plain_form image store (Data n (suc k)) at b begun tt named c (data_enough image store n h table k st enough) r.0
+      (subst (λ n. b < n) st.tells.owns.size r.1) free
       (data_form_at image store n h table k st b (next_of image table (data_count image h) (suc k)) enough refl (λ ds. FirstFails ds b c)
       (subst (λ m. FirstFails (demands_of m (next_of image table (data_count image h) m)) b c) one f))
 
-  pub data_done : (owners : List Owner) (used : ℕ) → InRange (length store.owners) b → owner_at store.owners b ≡ Free → owners ≡ set store.owners b (AData n (k + 1)) → used ≡ store.used + 1
+  pub data_done : (owners : List Owner) (used : ℕ) → InRange (length store.owners) b → owner_at store.owners b ≡ Free
+      → owners ≡ set store.owners b (AData n (k + 1)) → used ≡ store.used + 1
       → AllHold (demands_of (k + 1) (next_of image table (data_count image h) (k + 1)))
-      → IsInDatas image (record { owners = owners; rows = store.rows; starts = store.starts; exts = store.exts; datas = store.datas ++ b ∷ []; used = used }) n h table (k + 1)
+      → IsInDatas image (record {
+        owners = owners;
+        rows = store.rows;
+        starts = store.starts;
+        exts = store.exts;
+        datas = store.datas ++ b ∷ [];
+        used =
+            used;
+      }) n h table (k + 1)
   data_done owners used r free o u f =
       let one : k + 1 ≡ suc k = omega arith in
-      let read = data_read image store n h table k st begun lt enough at b (next_of image table (data_count image h) (suc k)) here (sym e) r.0 (subst (λ n. b < n) st.tells.owns.size r.1) free refl
+      let read = data_read image store n h table k st begun lt enough at b (next_of image table (data_count image h) (suc k)) here (sym e) r.0
+      (subst (λ n. b < n) st.tells.owns.size r.1) free refl
       (subst (λ m. AllHold (demands_of m (next_of image table (data_count image h) m))) one f) in
       subst (λ s. IsInDatas image s n h table (k + 1)) (stored_is store owners used (Data n (suc k)) b (o ∙ ap (λ m. set store.owners b (AData n m)) one) u)
       (subst (λ m. IsInDatas image (stored store (Data n (suc k)) b) n h table m) (sym one) read)

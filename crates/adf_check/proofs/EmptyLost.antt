@@ -60,7 +60,8 @@ unfolding store
 read =
     let st = page_then empty_lost 4 3 4 size root_is (omega arith) (omega arith) sound one page_is (omega arith) (omega arith) (λ e. omega arith) page_form in
     let sl = enter_root empty_lost store 3 root_is st in
-    all_read empty_lost (entered store) 1 refl (leave_directory empty_lost (entered store) 0 3 (empty_slots empty_lost (entered store) 0 3 0 72 (λ i l h. slots i h) sl))
+    all_read empty_lost (entered store) 1 refl (leave_directory empty_lost (entered store) 0 3
+    (empty_slots empty_lost (entered store) 0 3 0 72 (λ i l h. slots i h) sl))
 
 pub empty_first : FirstFault empty_lost 5 LostBlock
 unfolding store

@@ -42,7 +42,8 @@ exts_within (x ∷ w) n = more x.0 refl (exts_within w n)
     more (Ext m k) e within = subst (λ r. ext_count ((r, x.1) ∷ w) n ≤ suc (length w)) (sym e) (omega (arith, within, at_most_one (n == m) (ext_count w n)))
 
 -- so the table of a file is short
-pub table_short : (image : List ℕ) (store : Store) (n h : ℕ) (table : List ℕ) (a b : ℕ) → IsBegun image → store.used ≡ owned_count store.owners → IsInExts image store n h table a b → length table < 2 ^ 32
+pub table_short : (image : List ℕ) (store : Store) (n h : ℕ) (table : List ℕ) (a b : ℕ) → IsBegun image → store.used ≡ owned_count store.owners
+    → IsInExts image store n h table a b → length table < 2 ^ 32
 table_short image store n h table a b begun used st =
     let e : length table ≡ suc st.extra = st.size in
     let c : ext_count st.walk n ≡ st.extra = st.counted in
@@ -51,17 +52,22 @@ table_short image store n h table a b begun used st =
     omega arith
 
 -- a word of block a names block b next
-module _ (image : List ℕ) (store : Store) (n h : ℕ) (table : List ℕ) (a b : ℕ) (begun : IsBegun image) (st : IsInExts image store n h table a b) (ne : b ≢ 0) where
+module _ (image : List ℕ) (store : Store) (n h : ℕ) (table : List ℕ) (a b : ℕ) (begun : IsBegun image) (st : IsInExts image store n h table a b)
+    (ne : b ≢ 0) where
   pub ext_claim : (f : Fault) → IsClaimFault store.owners a b f → IsTrueFault image f
   ext_claim f k = plain_claim image store (Ext n (suc st.extra)) a b f begun tt (ext_named image store n h table a b ne st) tt k
 
-  pub ext_fault : (c : Cause) → InRange (length store.owners) b → owner_at store.owners b ≡ Free → first_cause (ext_form b h (block image b)) ≡ Some c → FirstFault image b c
+  pub ext_fault : (c : Cause) → InRange (length store.owners) b → owner_at store.owners b ≡ Free → first_cause (ext_form b h (block image b)) ≡ Some c
+      → FirstFault image b c
   ext_fault c r free f =
-      plain_form image store (Ext n (suc st.extra)) a b begun tt (ext_named image store n h table a b ne st) c tt r.0 (subst (λ n. b < n) st.tells.owns.size r.1) free
+      plain_form image store (Ext n (suc st.extra)) a b begun tt (ext_named image store n h table a b ne st) c tt r.0
+      (subst (λ n. b < n) st.tells.owns.size r.1) free
       (ext_form_at image store n h table a b b st (λ (ds : List Demand). FirstFails ds b c) (first_told b (ext_form b h (block image b)) c f))
 
-  pub ext_done : (owners : List Owner) (used : ℕ) → InRange (length store.owners) b → owner_at store.owners b ≡ Free → owners ≡ set store.owners b (AnExt n (length table)) → used ≡ store.used + 1 → first_cause (ext_form b h (block image b)) ≡ None
-      → IsInExts image (record { owners = owners; rows = store.rows; starts = store.starts; exts = store.exts ++ b ∷ []; datas = store.datas; used = used }) n h (table ++ b ∷ []) b (word_in image b 126)
+  pub ext_done : (owners : List Owner) (used : ℕ) → InRange (length store.owners) b → owner_at store.owners b ≡ Free
+      → owners ≡ set store.owners b (AnExt n (length table)) → used ≡ store.used + 1 → first_cause (ext_form b h (block image b)) ≡ None
+      → IsInExts image (record { owners = owners; rows = store.rows; starts = store.starts; exts = store.exts ++ b ∷ []; datas = store.datas; used = used })
+      n h (table ++ b ∷ []) b (word_in image b 126)
   ext_done owners used r free o u f =
       subst (λ s. IsInExts image s n h (table ++ b ∷ []) b (word_in image b 126)) (stored_is store owners used (Ext n (length table)) b o u)
       (ext_read image store n h table a b begun ne st r.0 (subst (λ n. b < n) st.tells.owns.size r.1) free (all_told b (ext_form b h (block image b)) f))

@@ -23,23 +23,28 @@ in_image : (image : List ℕ) (store : Store) (b : ℕ) → length store.owners 
 in_image image store b e r = subst (λ n. InRange n b) (sym e) r
 
 -- a block that no part but a header may have, and that is not claimed, is the first fault
-pub plain_claim : (image : List ℕ) (store : Store) (r : Role) (a b : ℕ) (f : Fault) → IsBegun image → IsPlain r → (st : IsNamed image store r a b) → Enough image st.walk r → IsClaimFault store.owners a b f → IsTrueFault image f
+pub plain_claim : (image : List ℕ) (store : Store) (r : Role) (a b : ℕ) (f : Fault) → IsBegun image → IsPlain r → (st : IsNamed image store r a b)
+    → Enough image st.walk r → IsClaimFault store.owners a b f → IsTrueFault image f
 plain_claim image store r a b f begun plain st enough h = elim h [
   | inl out ↦
       let x : FirstFault image a OutOfRange = plain_range image store r a b begun plain st enough (λ k. out.0 (in_image image store b st.tells.owns.size k)) in
       subst (IsTrueFault image) (sym out.1) (first_fault image a OutOfRange x)
   | inr taken ↦
-      let x : FirstFault image b Taken = plain_taken image store r a b begun plain st enough taken.0.0 (subst (λ n. b < n) st.tells.owns.size taken.0.1) taken.1 in
+      let x : FirstFault image b Taken =
+      plain_taken image store r a b begun plain st enough taken.0.0 (subst (λ n. b < n) st.tells.owns.size taken.0.1) taken.1 in
       subst (IsTrueFault image) (sym taken.2) (first_fault image b Taken x)
 ]
 
 -- and so is a header's block that is not claimed
-pub head_claim : (image : List ℕ) (store : Store) (p up s a b : ℕ) (seen : List ℕ → Type 0) (f : Fault) → s < 72 → IsBegun image → IsInChain image store p up s a b seen → b ≢ 0 → IsClaimFault store.owners a b f → IsTrueFault image f
+pub head_claim : (image : List ℕ) (store : Store) (p up s a b : ℕ) (seen : List ℕ → Type 0) (f : Fault) → s < 72 → IsBegun image
+    → IsInChain image store p up s a b seen → b ≢ 0 → IsClaimFault store.owners a b f → IsTrueFault image f
 head_claim image store p up s a b seen f lt begun st ne h = elim h [
   | inl out ↦
-      let x : FirstFault image a OutOfRange = chains.fault_range image store p up s a b seen lt begun st ne (λ k. out.0 (in_image image store b st.tells.owns.size k)) in
+      let x : FirstFault image a OutOfRange =
+      chains.fault_range image store p up s a b seen lt begun st ne (λ k. out.0 (in_image image store b st.tells.owns.size k)) in
       subst (IsTrueFault image) (sym out.1) (first_fault image a OutOfRange x)
   | inr taken ↦
-      let x : FirstFault image b Taken = chains.fault_taken image store p up s a b seen lt begun st ne taken.0.0 (subst (λ n. b < n) st.tells.owns.size taken.0.1) taken.1 in
+      let x : FirstFault image b Taken =
+      chains.fault_taken image store p up s a b seen lt begun st ne taken.0.0 (subst (λ n. b < n) st.tells.owns.size taken.0.1) taken.1 in
       subst (IsTrueFault image) (sym taken.2) (first_fault image b Taken x)
 ]

@@ -126,17 +126,20 @@ grows x = ((λ h. inr h), (λ h. elim h [ inl y ↦ absurd y | inr y ↦ y ]))
 behind_head : IsInChain file_lost at_head 0 8 6 2 0 one_name
 unfolding at_head at_slots
 behind_head = subst (λ b. IsInChain file_lost at_head 0 8 6 2 b one_name) no_next
-    (next_chain file_lost at_slots 0 8 6 8 2 no_name (omega arith) sound at_chain (λ e. omega arith) (omega arith) (subst (λ n. 2 < n) (sym size) (omega arith)) refl head_form (λ h. h) one_name grows)
+    (next_chain file_lost at_slots 0 8 6 8 2 no_name (omega arith) sound at_chain (λ e. omega arith) (omega arith)
+    (subst (λ n. 2 < n) (sym size) (omega arith)) refl head_form (λ h. h) one_name grows)
 
 behind_root : IsAtNode file_lost at_head 1
 behind_root = leave_directory file_lost at_head 0 8
-    (empty_slots file_lost at_head 0 8 7 65 (λ i l h. let z : 13 + (i - 7) ≡ 6 + i = omega arith in ap (word_in file_lost 8) (sym z) ∙ high_slots (i - 7) (omega arith)) (chain_ends file_lost at_head 0 8 6 2 one_name behind_head))
+    (empty_slots file_lost at_head 0 8 7 65 (λ i l h. let z : 13 + (i - 7) ≡ 6 + i =
+    omega arith in ap (word_in file_lost 8) (sym z) ∙ high_slots (i - 7) (omega arith)) (chain_ends file_lost at_head 0 8 6 2 one_name behind_head))
 
 before_datas : IsInDatas file_lost at_file 1 2 (2 ∷ []) 0
 unfolding at_file at_head at_slots
 before_datas =
     let st = enter_node file_lost at_head 1 behind_root in
-    let ex = enter_exts file_lost at_file 1 2 st (λ w t v. file_here file_lost at_file w t v 0 (record { parent = 0; head = 2 }) refl (λ e. let z : 0xFFFFFFFD ≡ 2 = sym is_file ∙ e in omega arith)) in
+    let ex = enter_exts file_lost at_file 1 2 st (λ w t v. file_here file_lost at_file w t v 0 (record { parent = 0; head = 2 }) refl
+    (λ e. let z : 0xFFFFFFFD ≡ 2 = sym is_file ∙ e in omega arith)) in
     exts_end file_lost at_file 1 2 (2 ∷ []) 2 (subst (λ b. IsInExts file_lost at_file 1 2 (2 ∷ []) 2 b) no_ext ex)
 
 next_first : 4 ≡ cond (nat_lt 1 (data_count file_lost 2)) (word_in file_lost (slice_index (2 ∷ []) (1 / 72)) (table_word 1)) 0
@@ -149,12 +152,14 @@ next_second = refl
 
 behind_first : IsInDatas file_lost (stored at_file (Data 1 1) 3) 1 2 (2 ∷ []) 1
 unfolding at_file at_head at_slots
-behind_first = data_read file_lost at_file 1 2 (2 ∷ []) 0 before_datas sound (subst (λ n. 0 < n) (sym two_datas) (omega arith)) (subst (λ n. n ≤ 72) (sym two_datas) (omega arith)) 2 3 4 refl names_first (omega arith)
+behind_first = data_read file_lost at_file 1 2 (2 ∷ []) 0 before_datas sound (subst (λ n. 0 < n) (sym two_datas) (omega arith))
+    (subst (λ n. n ≤ 72) (sym two_datas) (omega arith)) 2 3 4 refl names_first (omega arith)
     (subst (λ n. 3 < n) (sym size) (omega arith)) refl next_first first_form
 
 behind_second : IsInDatas file_lost at_end 1 2 (2 ∷ []) 2
 unfolding at_end at_file at_head at_slots
-behind_second = data_read file_lost (stored at_file (Data 1 1) 3) 1 2 (2 ∷ []) 1 behind_first sound (subst (λ n. 1 < n) (sym two_datas) (omega arith)) (subst (λ n. n ≤ 72) (sym two_datas) (omega arith)) 2 4 0 refl names_second (omega arith)
+behind_second = data_read file_lost (stored at_file (Data 1 1) 3) 1 2 (2 ∷ []) 1 behind_first sound (subst (λ n. 1 < n) (sym two_datas) (omega arith))
+    (subst (λ n. n ≤ 72) (sym two_datas) (omega arith)) 2 4 0 refl names_second (omega arith)
     (subst (λ n. 4 < n) (sym size) (omega arith)) refl next_second second_form
 
 read : IsRead file_lost at_end

@@ -32,7 +32,8 @@ take_none [] = refl
 take_none (x ∷ xs) = ap (λ ys. x ∷ ys) (take_none xs)
 
 -- the last part of a list grows with it
-last_slice : (xs ys : List ℕ) (c a : ℕ) → length xs ≡ a + length ys → take (length ys) (drop a xs) ≡ ys → take (length (ys ++ c ∷ [])) (drop a (xs ++ c ∷ [])) ≡ ys ++ c ∷ []
+last_slice : (xs ys : List ℕ) (c a : ℕ) → length xs ≡ a + length ys → take (length ys) (drop a xs) ≡ ys
+    → take (length (ys ++ c ∷ [])) (drop a (xs ++ c ∷ [])) ≡ ys ++ c ∷ []
 last_slice xs ys c zero u e = go xs ys (omega arith) e
   where
     go : (xs ys : List ℕ) → length xs ≡ length ys → take (length ys) xs ≡ ys → take (length (ys ++ c ∷ [])) (xs ++ c ∷ []) ≡ ys ++ c ∷ []
@@ -53,19 +54,26 @@ module _ (image : List ℕ) where
   exts_split [] m = refl
   exts_split (x ∷ w) m = more x.0 (exts_split w m)
     where
-      here : (n : ℕ) → exts_before w (suc m) ≡ exts_before w m + length (exts_in w m) → cond (nat_lt n (suc m)) (suc (exts_before w (suc m))) (exts_before w (suc m)) ≡ cond (nat_lt n m) (suc (exts_before w m)) (exts_before w m) + length (cond (m == n) (exts_in w m ++ x.1 ∷ []) (exts_in w m))
+      here : (n : ℕ) → exts_before w (suc m) ≡ exts_before w m + length (exts_in w m)
+          → cond (nat_lt n (suc m)) (suc (exts_before w (suc m))) (exts_before w (suc m))
+          ≡ cond (nat_lt n m) (suc (exts_before w m)) (exts_before w m) + length (cond (m == n) (exts_in w m ++ x.1 ∷ []) (exts_in w m))
       here n ih = go (nat_lt n (suc m)) (nat_lt n m) (m == n) refl refl refl
         where
-          go : (a b c : Bool) → nat_lt n (suc m) ≡ a → nat_lt n m ≡ b → (m == n) ≡ c → cond a (suc (exts_before w (suc m))) (exts_before w (suc m)) ≡ cond b (suc (exts_before w m)) (exts_before w m) + length (cond c (exts_in w m ++ x.1 ∷ []) (exts_in w m))
+          go : (a b c : Bool) → nat_lt n (suc m) ≡ a → nat_lt n m ≡ b → (m == n) ≡ c
+              → cond a (suc (exts_before w (suc m))) (exts_before w (suc m))
+              ≡ cond b (suc (exts_before w m)) (exts_before w m) + length (cond c (exts_in w m ++ x.1 ∷ []) (exts_in w m))
           go true true true p q r = let e : m ≡ n = eqb-true m n r in let l : n < m = less n m q in absurd (omega arith)
           go true true false p q r = omega arith
           go true false true p q r = let e = snoc_length (exts_in w m) x.1 in omega arith
-          go true false false p q r = absurd (let l : n < suc m = less n (suc m) p in let g : m ≤ n = not_less n m q in let ne : m ≡ n → ⊥ = (λ e. let z : (m == n) ≡ true = eq-eqb m n e in let y : true ≡ false = sym z ∙ r in cc) in omega arith)
+          go true false false p q r =
+              absurd (let l : n < suc m = less n (suc m) p in let g : m ≤ n = not_less n m q in let ne : m ≡ n → ⊥ =
+              (λ e. let z : (m == n) ≡ true = eq-eqb m n e in let y : true ≡ false = sym z ∙ r in cc) in omega arith)
           go false true c p q r = let l : n < m = less n m q in let g : suc m ≤ n = not_less n (suc m) p in absurd (omega arith)
           go false false true p q r = let e : m ≡ n = eqb-true m n r in let g : suc m ≤ n = not_less n (suc m) p in absurd (omega arith)
           go false false false p q r = ih
 
-      more : (r : Role) → exts_before w (suc m) ≡ exts_before w m + length (exts_in w m) → ext_before_of (suc m) r (exts_before w (suc m)) ≡ ext_before_of m r (exts_before w m) + length (push_ext m r x.1 (exts_in w m))
+      more : (r : Role) → exts_before w (suc m) ≡ exts_before w m + length (exts_in w m)
+          → ext_before_of (suc m) r (exts_before w (suc m)) ≡ ext_before_of m r (exts_before w m) + length (push_ext m r x.1 (exts_in w m))
       more Root ih = ih
       more (Page k) ih = ih
       more (MapExt k) ih = ih
@@ -90,8 +98,11 @@ module _ (image : List ℕ) where
           go false z = ih
       more (Data m k) e ih = ih
 
-  exts_step : {w : List (Role × ℕ)} → IsWalk image w → (m k a i c : ℕ) → IsDue image w (Ext m k) a i → (n : ℕ) → exts_before w n + length (exts_in w n) ≤ length (all_exts w) → take (length (exts_in w n)) (drop (exts_before w n) (all_exts w)) ≡ exts_in w n →
-      (ext_before_of n (Ext m k) (exts_before w n) + length (push_ext n (Ext m k) c (exts_in w n)) ≤ length (all_exts w ++ c ∷ [])) × (take (length (push_ext n (Ext m k) c (exts_in w n))) (drop (ext_before_of n (Ext m k) (exts_before w n)) (all_exts w ++ c ∷ [])) ≡ push_ext n (Ext m k) c (exts_in w n))
+  exts_step : {w : List (Role × ℕ)} → IsWalk image w → (m k a i c : ℕ) → IsDue image w (Ext m k) a i → (n : ℕ)
+      → exts_before w n + length (exts_in w n) ≤ length (all_exts w) → take (length (exts_in w n)) (drop (exts_before w n) (all_exts w)) ≡ exts_in w n →
+      (ext_before_of n (Ext m k) (exts_before w n) + length (push_ext n (Ext m k) c (exts_in w n)) ≤ length (all_exts w ++ c ∷ []))
+      × (take (length (push_ext n (Ext m k) c (exts_in w n))) (drop (ext_before_of n (Ext m k) (exts_before w n)) (all_exts w ++ c ∷ []))
+      ≡ push_ext n (Ext m k) c (exts_in w n))
   exts_step {w = w} v m k a i c d n le e = go (nat_lt m n) (n == m) refl refl
     where
       low : (q j b : ℕ) → Has w (Ext q j) b → q ≤ m
@@ -101,7 +112,9 @@ module _ (image : List ℕ) where
       long = snoc_length (all_exts w) c
 
       go : (s t : Bool) → nat_lt m n ≡ s → (n == m) ≡ t →
-          (cond s (suc (exts_before w n)) (exts_before w n) + length (cond t (exts_in w n ++ c ∷ []) (exts_in w n)) ≤ length (all_exts w ++ c ∷ [])) × (take (length (cond t (exts_in w n ++ c ∷ []) (exts_in w n))) (drop (cond s (suc (exts_before w n)) (exts_before w n)) (all_exts w ++ c ∷ [])) ≡ cond t (exts_in w n ++ c ∷ []) (exts_in w n))
+          (cond s (suc (exts_before w n)) (exts_before w n) + length (cond t (exts_in w n ++ c ∷ []) (exts_in w n)) ≤ length (all_exts w ++ c ∷ []))
+          × (take (length (cond t (exts_in w n ++ c ∷ []) (exts_in w n)))
+          (drop (cond s (suc (exts_before w n)) (exts_before w n)) (all_exts w ++ c ∷ [])) ≡ cond t (exts_in w n ++ c ∷ []) (exts_in w n))
       go true true p q = let z : n ≡ m = eqb-true n m q in let l : m < n = less m n p in absurd (omega arith)
       go true false p q =
           let l : m < n = less m n p in
@@ -113,13 +126,17 @@ module _ (image : List ℕ) where
           let z : n ≡ m = eqb-true n m q in
           let x : length (all_exts w) ≡ exts_before w (suc m) = all_exts_before w (suc m) (λ j k b h. let y : j ≤ m = low j k b h in omega arith) in
           let y : exts_before w (suc m) ≡ exts_before w m + length (exts_in w m) = exts_split w m in
-          let u : length (all_exts w) ≡ exts_before w n + length (exts_in w n) = subst (λ n. length (all_exts w) ≡ exts_before w n + length (exts_in w n)) (sym z) (x ∙ y) in
+          let u : length (all_exts w) ≡ exts_before w n + length (exts_in w n) =
+          subst (λ n. length (all_exts w) ≡ exts_before w n + length (exts_in w n)) (sym z) (x ∙ y) in
           let g : length (exts_in w n ++ c ∷ []) ≡ suc (length (exts_in w n)) = snoc_length (exts_in w n) c in
           let lg : length (all_exts w ++ c ∷ []) ≡ suc (length (all_exts w)) = long in
           (omega arith, last_slice (all_exts w) (exts_in w n) c (exts_before w n) u e)
-      go false false p q = let lg : length (all_exts w ++ c ∷ []) ≡ suc (length (all_exts w)) = long in (omega arith, old_slice (all_exts w) (c ∷ []) (exts_before w n) (length (exts_in w n)) le ∙ e)
+      go false false p q =
+          let lg : length (all_exts w ++ c ∷ []) ≡ suc (length (all_exts w)) = long in
+          (omega arith, old_slice (all_exts w) (c ∷ []) (exts_before w n) (length (exts_in w n)) le ∙ e)
 
-  exts_slice : {w : List (Role × ℕ)} → IsWalk image w → (n : ℕ) → (exts_before w n + length (exts_in w n) ≤ length (all_exts w)) × (take (length (exts_in w n)) (drop (exts_before w n) (all_exts w)) ≡ exts_in w n)
+  exts_slice : {w : List (Role × ℕ)} → IsWalk image w → (n : ℕ)
+      → (exts_before w n + length (exts_in w n) ≤ length (all_exts w)) × (take (length (exts_in w n)) (drop (exts_before w n) (all_exts w)) ≡ exts_in w n)
   exts_slice start n = (omega arith, refl)
   exts_slice (step {w = w} {r = Root} {b = c} v d e g) n = exts_slice v n
   exts_slice (step {w = w} {r = Page k} {b = c} v d e g) n = exts_slice v n
@@ -138,19 +155,26 @@ module _ (image : List ℕ) where
   datas_split [] m = refl
   datas_split (x ∷ w) m = more x.0 (datas_split w m)
     where
-      here : (n : ℕ) → datas_before w (suc m) ≡ datas_before w m + length (datas_in w m) → cond (nat_lt n (suc m)) (suc (datas_before w (suc m))) (datas_before w (suc m)) ≡ cond (nat_lt n m) (suc (datas_before w m)) (datas_before w m) + length (cond (m == n) (datas_in w m ++ x.1 ∷ []) (datas_in w m))
+      here : (n : ℕ) → datas_before w (suc m) ≡ datas_before w m + length (datas_in w m)
+          → cond (nat_lt n (suc m)) (suc (datas_before w (suc m))) (datas_before w (suc m))
+          ≡ cond (nat_lt n m) (suc (datas_before w m)) (datas_before w m) + length (cond (m == n) (datas_in w m ++ x.1 ∷ []) (datas_in w m))
       here n ih = go (nat_lt n (suc m)) (nat_lt n m) (m == n) refl refl refl
         where
-          go : (a b c : Bool) → nat_lt n (suc m) ≡ a → nat_lt n m ≡ b → (m == n) ≡ c → cond a (suc (datas_before w (suc m))) (datas_before w (suc m)) ≡ cond b (suc (datas_before w m)) (datas_before w m) + length (cond c (datas_in w m ++ x.1 ∷ []) (datas_in w m))
+          go : (a b c : Bool) → nat_lt n (suc m) ≡ a → nat_lt n m ≡ b → (m == n) ≡ c
+              → cond a (suc (datas_before w (suc m))) (datas_before w (suc m))
+              ≡ cond b (suc (datas_before w m)) (datas_before w m) + length (cond c (datas_in w m ++ x.1 ∷ []) (datas_in w m))
           go true true true p q r = let e : m ≡ n = eqb-true m n r in let l : n < m = less n m q in absurd (omega arith)
           go true true false p q r = omega arith
           go true false true p q r = let e = snoc_length (datas_in w m) x.1 in omega arith
-          go true false false p q r = absurd (let l : n < suc m = less n (suc m) p in let g : m ≤ n = not_less n m q in let ne : m ≡ n → ⊥ = (λ e. let z : (m == n) ≡ true = eq-eqb m n e in let y : true ≡ false = sym z ∙ r in cc) in omega arith)
+          go true false false p q r =
+              absurd (let l : n < suc m = less n (suc m) p in let g : m ≤ n = not_less n m q in let ne : m ≡ n → ⊥ =
+              (λ e. let z : (m == n) ≡ true = eq-eqb m n e in let y : true ≡ false = sym z ∙ r in cc) in omega arith)
           go false true c p q r = let l : n < m = less n m q in let g : suc m ≤ n = not_less n (suc m) p in absurd (omega arith)
           go false false true p q r = let e : m ≡ n = eqb-true m n r in let g : suc m ≤ n = not_less n (suc m) p in absurd (omega arith)
           go false false false p q r = ih
 
-      more : (r : Role) → datas_before w (suc m) ≡ datas_before w m + length (datas_in w m) → data_before_of (suc m) r (datas_before w (suc m)) ≡ data_before_of m r (datas_before w m) + length (push_data m r x.1 (datas_in w m))
+      more : (r : Role) → datas_before w (suc m) ≡ datas_before w m + length (datas_in w m)
+          → data_before_of (suc m) r (datas_before w (suc m)) ≡ data_before_of m r (datas_before w m) + length (push_data m r x.1 (datas_in w m))
       more Root ih = ih
       more (Page k) ih = ih
       more (MapExt k) ih = ih
@@ -175,8 +199,11 @@ module _ (image : List ℕ) where
           go true z = absurd (h k x.1 (inl (e ∙ ap (λ n. Data n k) (sym (eqb-true n m z)), refl)))
           go false z = ih
 
-  datas_step : {w : List (Role × ℕ)} → IsWalk image w → (m k a i c : ℕ) → IsDue image w (Data m k) a i → (n : ℕ) → datas_before w n + length (datas_in w n) ≤ length (all_datas w) → take (length (datas_in w n)) (drop (datas_before w n) (all_datas w)) ≡ datas_in w n →
-      (data_before_of n (Data m k) (datas_before w n) + length (push_data n (Data m k) c (datas_in w n)) ≤ length (all_datas w ++ c ∷ [])) × (take (length (push_data n (Data m k) c (datas_in w n))) (drop (data_before_of n (Data m k) (datas_before w n)) (all_datas w ++ c ∷ [])) ≡ push_data n (Data m k) c (datas_in w n))
+  datas_step : {w : List (Role × ℕ)} → IsWalk image w → (m k a i c : ℕ) → IsDue image w (Data m k) a i → (n : ℕ)
+      → datas_before w n + length (datas_in w n) ≤ length (all_datas w) → take (length (datas_in w n)) (drop (datas_before w n) (all_datas w)) ≡ datas_in w n →
+      (data_before_of n (Data m k) (datas_before w n) + length (push_data n (Data m k) c (datas_in w n)) ≤ length (all_datas w ++ c ∷ []))
+      × (take (length (push_data n (Data m k) c (datas_in w n))) (drop (data_before_of n (Data m k) (datas_before w n)) (all_datas w ++ c ∷ []))
+      ≡ push_data n (Data m k) c (datas_in w n))
   datas_step {w = w} v m k a i c d n le e = go (nat_lt m n) (n == m) refl refl
     where
       low : (q j b : ℕ) → Has w (Data q j) b → q ≤ m
@@ -186,7 +213,9 @@ module _ (image : List ℕ) where
       long = snoc_length (all_datas w) c
 
       go : (s t : Bool) → nat_lt m n ≡ s → (n == m) ≡ t →
-          (cond s (suc (datas_before w n)) (datas_before w n) + length (cond t (datas_in w n ++ c ∷ []) (datas_in w n)) ≤ length (all_datas w ++ c ∷ [])) × (take (length (cond t (datas_in w n ++ c ∷ []) (datas_in w n))) (drop (cond s (suc (datas_before w n)) (datas_before w n)) (all_datas w ++ c ∷ [])) ≡ cond t (datas_in w n ++ c ∷ []) (datas_in w n))
+          (cond s (suc (datas_before w n)) (datas_before w n) + length (cond t (datas_in w n ++ c ∷ []) (datas_in w n)) ≤ length (all_datas w ++ c ∷ []))
+          × (take (length (cond t (datas_in w n ++ c ∷ []) (datas_in w n)))
+          (drop (cond s (suc (datas_before w n)) (datas_before w n)) (all_datas w ++ c ∷ [])) ≡ cond t (datas_in w n ++ c ∷ []) (datas_in w n))
       go true true p q = let z : n ≡ m = eqb-true n m q in let l : m < n = less m n p in absurd (omega arith)
       go true false p q =
           let l : m < n = less m n p in
@@ -198,13 +227,18 @@ module _ (image : List ℕ) where
           let z : n ≡ m = eqb-true n m q in
           let x : length (all_datas w) ≡ datas_before w (suc m) = all_datas_before w (suc m) (λ j k b h. let y : j ≤ m = low j k b h in omega arith) in
           let y : datas_before w (suc m) ≡ datas_before w m + length (datas_in w m) = datas_split w m in
-          let u : length (all_datas w) ≡ datas_before w n + length (datas_in w n) = subst (λ n. length (all_datas w) ≡ datas_before w n + length (datas_in w n)) (sym z) (x ∙ y) in
+          let u : length (all_datas w) ≡ datas_before w n + length (datas_in w n) =
+          subst (λ n. length (all_datas w) ≡ datas_before w n + length (datas_in w n)) (sym z) (x ∙ y) in
           let g : length (datas_in w n ++ c ∷ []) ≡ suc (length (datas_in w n)) = snoc_length (datas_in w n) c in
           let lg : length (all_datas w ++ c ∷ []) ≡ suc (length (all_datas w)) = long in
           (omega arith, last_slice (all_datas w) (datas_in w n) c (datas_before w n) u e)
-      go false false p q = let lg : length (all_datas w ++ c ∷ []) ≡ suc (length (all_datas w)) = long in (omega arith, old_slice (all_datas w) (c ∷ []) (datas_before w n) (length (datas_in w n)) le ∙ e)
+      go false false p q =
+          let lg : length (all_datas w ++ c ∷ []) ≡ suc (length (all_datas w)) = long in
+          (omega arith, old_slice (all_datas w) (c ∷ []) (datas_before w n) (length (datas_in w n)) le ∙ e)
 
-  datas_slice : {w : List (Role × ℕ)} → IsWalk image w → (n : ℕ) → (datas_before w n + length (datas_in w n) ≤ length (all_datas w)) × (take (length (datas_in w n)) (drop (datas_before w n) (all_datas w)) ≡ datas_in w n)
+  datas_slice : {w : List (Role × ℕ)} → IsWalk image w → (n : ℕ)
+      → (datas_before w n + length (datas_in w n) ≤ length (all_datas w))
+      × (take (length (datas_in w n)) (drop (datas_before w n) (all_datas w)) ≡ datas_in w n)
   datas_slice start n = (omega arith, refl)
   datas_slice (step {w = w} {r = Root} {b = c} v d e g) n = datas_slice v n
   datas_slice (step {w = w} {r = Page k} {b = c} v d e g) n = datas_slice v n

@@ -55,7 +55,8 @@ at_all (x ∷ xs) zero n h = inl h
 at_all (x ∷ xs) (suc i) n h = inr (at_all xs i n h)
 
 -- a word that is not 0 names the first member
-cut : (link at : ℕ → ℕ) (b : ℕ) (rest : List ℕ) → Spelled link b (map at rest) → b ≢ 0 → (n : ℕ) × (ns : List ℕ) × (rest ≡ n ∷ ns) × (b ≡ at n) × Spelled link (link b) (map at ns)
+cut : (link at : ℕ → ℕ) (b : ℕ) (rest : List ℕ) → Spelled link b (map at rest) → b ≢ 0
+    → (n : ℕ) × (ns : List ℕ) × (rest ≡ n ∷ ns) × (b ≡ at n) × Spelled link (link b) (map at ns)
 cut link at b [] h ne = absurd (ne h)
 cut link at b (n ∷ ns) h ne = (n, ns, refl, h.0, subst (λ a. Spelled link (link a) (map at ns)) (sym h.0) h.1)
 
@@ -63,11 +64,13 @@ none_of : (xs : List ℕ) → ((n : ℕ) → At xs 0 n → ⊥) → xs ≡ []
 none_of [] h = refl
 none_of (x ∷ xs) h = absurd (h x refl)
 
-head_owned : (image : List ℕ) (t : Tree) (l : Layout) → length l.places ≡ length t.entries → (i : ℕ) → i < length t.entries → In (owned image l) (Head (suc i), head_at l.places i)
+head_owned : (image : List ℕ) (t : Tree) (l : Layout) → length l.places ≡ length t.entries → (i : ℕ) → i < length t.entries
+    → In (owned image l) (Head (suc i), head_at l.places i)
 head_owned image t l z i lt =
     let one : 1 + i ≡ suc i = omega arith in
     let here : Owner × ℕ = (Head (suc i), head_at l.places i) in
-    let h : In (owned_from 1 l.places) (Head (suc i), head_at l.places i) = subst (λ m. In (owned_from 1 l.places) (Head m, head_at l.places i)) one (owned_head 1 l.places i (omega arith)) in
+    let h : In (owned_from 1 l.places) (Head (suc i), head_at l.places i) =
+    subst (λ m. In (owned_from 1 l.places) (Head m, head_at l.places i)) one (owned_head 1 l.places i (omega arith)) in
     inr (in_right (numbered Page 0 l.pages) _ here (in_right (numbered MapExt 0 l.map_exts) (owned_from 1 l.places) here h))
 
 module _ (image : List ℕ) (store : Store) (t : Tree) (l : Layout) (k : Keeps image store t l) where
@@ -103,11 +106,13 @@ module _ (image : List ℕ) (store : Store) (t : Tree) (l : Layout) (k : Keeps i
       body_file (suc i) (at_node image l (suc i)) d.0.body fits.body d.2
 
   -- the chain of a slot of a directory
-  pub directory_chain : (p s : ℕ) → s < 72 → p ≤ length store.rows → (p ≢ 0 → word_in image (at_node image l p) 127 ≡ DIR) → Spelled (λ b. word_in image b 124) (word_in image (at_node image l p) (6 + s)) (map (at_node image l) (chain_nodes t p s))
+  pub directory_chain : (p s : ℕ) → s < 72 → p ≤ length store.rows → (p ≢ 0 → word_in image (at_node image l p) 127 ≡ DIR)
+      → Spelled (λ b. word_in image b 124) (word_in image (at_node image l p) (6 + s)) (map (at_node image l) (chain_nodes t p s))
   directory_chain p s lt le h = k.fits.chains p s (is_dir t p (dir_of p le h)) lt
 
   -- a file has none
-  pub file_chain : (p s : ℕ) → p ≢ 0 → word_in image (at_node image l p) 127 ≢ DIR → Spelled (λ b. word_in image b 124) 0 (map (at_node image l) (chain_nodes t p s))
+  pub file_chain : (p s : ℕ) → p ≢ 0 → word_in image (at_node image l p) 127 ≢ DIR
+      → Spelled (λ b. word_in image b 124) 0 (map (at_node image l) (chain_nodes t p s))
   file_chain p s ne h =
       let none : chain_nodes t p s ≡ [] = none_of (chain_nodes t p s) (λ n a.
       let x = entry_at t p s 0 n a in
@@ -128,8 +133,10 @@ module _ (image : List ℕ) (store : Store) (t : Tree) (l : Layout) (k : Keeps i
     pub chain_ended : OnChain image t l p name 0 → child t.entries p name ≡ None
     chain_ended c = go c.rest c.place c.spelled c.within c.others
       where
-        go : (rest : List ℕ) (place : ℕ) → Spelled (λ a. word_in image a 124) 0 (map (at_node image l) rest) → ((i n : ℕ) → At rest i n → At (chain_nodes t p (slot_of name)) (place + i) n)
-            → ((j n : ℕ) (e : Entry) → At (chain_nodes t p (slot_of name)) j n → EntryAt t n e → uppers e.name ≡ uppers name → In rest n) → child t.entries p name ≡ None
+        go : (rest : List ℕ) (place : ℕ) → Spelled (λ a. word_in image a 124) 0 (map (at_node image l) rest)
+            → ((i n : ℕ) → At rest i n → At (chain_nodes t p (slot_of name)) (place + i) n)
+            → ((j n : ℕ) (e : Entry) → At (chain_nodes t p (slot_of name)) j n → EntryAt t n e → uppers e.name ≡ uppers name → In rest n)
+            → child t.entries p name ≡ None
         go [] place h w o = chain_no t p name o
         go (n ∷ ns) place h w o =
             let x = entry_at t p (slot_of name) (place + 0) n (w 0 n refl) in
@@ -186,7 +193,8 @@ module _ (image : List ℕ) (store : Store) (t : Tree) (l : Layout) (k : Keeps i
         rest = after;
         place = suc c.place;
         spelled = next_spelled;
-        within = (λ i n a. let z : c.place + suc i ≡ suc c.place + i = omega arith in subst (λ j. At (chain_nodes t p (slot_of name)) j n) z (after_at (suc i) n a));
+        within = (λ i n a. let z : c.place + suc i ≡ suc c.place + i =
+            omega arith in subst (λ j. At (chain_nodes t p (slot_of name)) j n) z (after_at (suc i) n a));
         others = (λ j n e a v u. elim (subst (λ r. In r n) rest_is (c.others j n e a v u)) [
           | inl y ↦ absurd (ne (ap uppers (sym (name_is e (subst (λ m. EntryAt t m e) (sym y) v))) ∙ u))
           | inr y ↦ y
@@ -198,7 +206,8 @@ module _ (image : List ℕ) (store : Store) (t : Tree) (l : Layout) (k : Keeps i
 
       -- the chain ends: its nodes rise
       pub chain_smaller : chain_left store (word_in image b 124) < chain_left store b
-      chain_smaller = subst (λ m. chain_left store (word_in image b 124) < m) (sym left_here) (go (word_in image b 124) after next_spelled (λ m a. after_at 1 m a))
+      chain_smaller = subst (λ m. chain_left store (word_in image b 124) < m) (sym left_here)
+          (go (word_in image b 124) after next_spelled (λ m a. after_at 1 m a))
         where
           below : node ≤ length store.rows
           below =
@@ -206,7 +215,8 @@ module _ (image : List ℕ) (store : Store) (t : Tree) (l : Layout) (k : Keeps i
               let c : length store.rows ≡ length t.entries = k.rows.count in
               omega arith
 
-          go : (d : ℕ) (ns : List ℕ) → Spelled (λ a. word_in image a 124) d (map (at_node image l) ns) → ((m : ℕ) → At ns 0 m → At (chain_nodes t p (slot_of name)) (c.place + 1) m) → chain_left store d < suc (length store.rows) - node
+          go : (d : ℕ) (ns : List ℕ) → Spelled (λ a. word_in image a 124) d (map (at_node image l) ns)
+              → ((m : ℕ) → At ns 0 m → At (chain_nodes t p (slot_of name)) (c.place + 1) m) → chain_left store d < suc (length store.rows) - node
           go d [] h w =
               let inside : b < blocks image = here_inside in
               let boot : owner_at store.owners d ≡ Boot = ap (owner_at store.owners) h ∙ k.owners.boot 0 (omega arith) (omega arith) in
@@ -217,7 +227,8 @@ module _ (image : List ℕ) (store : Store) (t : Tree) (l : Layout) (k : Keeps i
               let x = entry_at t p (slot_of name) (c.place + 1) m (w m refl) in
               let o : owner_at store.owners d ≡ Head m = ap (owner_at store.owners) h.0 ∙ head_owner image store t l k m x.0 x.1 in
               let z : chain_left store d ≡ suc (length store.rows) - m = ap (node_left (length store.rows)) o in
-              let up : node < m = chain_rises 1 t.entries p (slot_of name) (c.place + 0) (c.place + 1) node m (after_at 0 node refl) (w m refl) (omega arith) in
+              let up : node < m = chain_rises 1 t.entries p (slot_of name) (c.place + 0) (c.place + 1) node m (after_at 0 node refl) (w m refl)
+              (omega arith) in
               let le : node ≤ length store.rows = below in
               omega arith
 

@@ -28,27 +28,41 @@ use Rattle.adf_check.proofs.PlainSteps.{at_get}
 use Rattle.adf_check.proofs.InPages.{page_is}
 
 -- the bitmap, one block more
-bitmap_more : (image : List ℕ) (w : List (Role × ℕ)) (b n : ℕ) → AllHold (bitmap_demands image w b n) → (IsAbsent w (b + n) → IsFreeIn image w (b + n)) → (IsFreeIn image w (b + n) → IsAbsent w (b + n)) → AllHold (bitmap_demands image w b (suc n))
+bitmap_more : (image : List ℕ) (w : List (Role × ℕ)) (b n : ℕ) → AllHold (bitmap_demands image w b n) → (IsAbsent w (b + n) → IsFreeIn image w (b + n))
+    → (IsFreeIn image w (b + n) → IsAbsent w (b + n)) → AllHold (bitmap_demands image w b (suc n))
 bitmap_more image w b zero h f g =
     let e : b + 0 ≡ b = omega arith in
     (subst (λ b. IsAbsent w b → IsFreeIn image w b) e f, (subst (λ b. IsFreeIn image w b → IsAbsent w b) e g, tt))
 bitmap_more image w b (suc n) h f g =
-    let e : b + suc n ≡ suc b + n = omega arith in
-    (h.0, (h.1.0, bitmap_more image w (suc b) n h.1.1 (subst (λ b. IsAbsent w b → IsFreeIn image w b) e f) (subst (λ b. IsFreeIn image w b → IsAbsent w b) e g)))
+    let e : b + suc n ≡ suc b + n = omega arith in (
+      h.0,
+      (
+        h.1.0,
+        bitmap_more image w (suc b) n h.1.1 (subst (λ b. IsAbsent w b → IsFreeIn image w b) e f)
+            (subst (λ b. IsFreeIn image w b → IsAbsent w b) e g),
+      ),
+    )
 
 bitmap_fails : (image : List ℕ) (w : List (Role × ℕ)) (b n m x : ℕ) (c : Cause) → AllHold (bitmap_demands image w b n) → x ≡ b + n → n < m →
-    (((IsAbsent w x → IsFreeIn image w x) → ⊥) × (c ≡ LostBlock)) ⊎ ((IsAbsent w x → IsFreeIn image w x) × (((IsFreeIn image w x → IsAbsent w x) → ⊥) × (c ≡ OwnedFree))) → FirstFails (bitmap_demands image w b m) x c
+    (((IsAbsent w x → IsFreeIn image w x) → ⊥) × (c ≡ LostBlock))
+    ⊎ ((IsAbsent w x → IsFreeIn image w x) × (((IsFreeIn image w x → IsAbsent w x) → ⊥) × (c ≡ OwnedFree))) → FirstFails (bitmap_demands image w b m) x c
 bitmap_fails image w b n zero x c h e lt f = absurd (omega arith)
 bitmap_fails image w b zero (suc m) x c h e lt f =
     let z : x ≡ b = omega arith in
     elim f [
       | inl y ↦ inl (subst (λ x. (IsAbsent w x → IsFreeIn image w x) → ⊥) z y.0, sym z, sym y.1)
-      | inr y ↦ inr (subst (λ x. IsAbsent w x → IsFreeIn image w x) z y.0, inl (subst (λ x. (IsFreeIn image w x → IsAbsent w x) → ⊥) z y.1.0, sym z, sym y.1.1))
+      | inr y ↦ inr (
+        subst (λ x. IsAbsent w x → IsFreeIn image w x) z y.0,
+        inl
+            (subst (λ x. (IsFreeIn image w x → IsAbsent w x) → ⊥) z y.1.0, sym z, sym y.1.1),
+      )
     ]
 bitmap_fails image w b (suc n) (suc m) x c h e lt f = inr (h.0, inr (h.1.0, bitmap_fails image w (suc b) n m x c h.1.1 (omega arith) (omega arith) f))
 
 -- what the reader sees of block b: its page, the bit there and the table
-module _ (image : List ℕ) (store : Store) (b page : ℕ) (free : Bool) (list : List ℕ) (hi : b < blocks image) (listed : IsListed image list (pages_needed (blocks image))) (page_is_at : page ≡ slice_index list ((b - 2) / 4064)) (free_is : IsTrue free ↔ IsFreeAt image page ((b - 2) % 4064)) (st : IsMapped image store b) where
+module _ (image : List ℕ) (store : Store) (b page : ℕ) (free : Bool) (list : List ℕ) (hi : b < blocks image)
+    (listed : IsListed image list (pages_needed (blocks image))) (page_is_at : page ≡ slice_index list ((b - 2) / 4064))
+    (free_is : IsTrue free ↔ IsFreeAt image page ((b - 2) % 4064)) (st : IsMapped image store b) where
   has_page : Has st.walk (Page ((b - 2) / 4064)) page
   has_page =
       let lo : 2 ≤ b = st.low in
@@ -86,7 +100,8 @@ module _ (image : List ℕ) (store : Store) (b page : ℕ) (free : Bool) (list :
       (bitmap_fails image st.walk 2 (b - 2) (blocks image - 2) b LostBlock st.agrees (sym length_of) (omega arith)
       (inl ((λ k. let x : free ≡ true = then_free (k (absent_then h)) in let y : true ≡ false = sym x ∙ f in cc), refl)))
 
-  pub owned_free : AllHold (boot_demands image ++ root_demands image (root_of image)) → free ≡ true → owner_at store.owners b ≢ Free → FirstFault image b OwnedFree
+  pub owned_free : AllHold (boot_demands image ++ root_demands image (root_of image)) → free ≡ true → owner_at store.owners b ≢ Free
+      → FirstFault image b OwnedFree
   owned_free sound f h =
       let lo : 2 ≤ b = st.low in
       at_bitmap sound st.walk st.is_walk st.whole
@@ -105,7 +120,8 @@ module _ (image : List ℕ) (store : Store) (b page : ℕ) (free : Bool) (list :
         whole = st.whole;
         low = omega arith;
         agrees = subst (λ n. AllHold (bitmap_demands image st.walk 2 n)) e
-            (bitmap_more image st.walk 2 (b - 2) st.agrees (subst (λ b. IsAbsent st.walk b → IsFreeIn image st.walk b) (sym length_of) f) (subst (λ b. IsFreeIn image st.walk b → IsAbsent st.walk b) (sym length_of) g));
+            (bitmap_more image st.walk 2 (b - 2) st.agrees (subst (λ b. IsAbsent st.walk b → IsFreeIn image st.walk b) (sym length_of) f)
+            (subst (λ b. IsFreeIn image st.walk b → IsAbsent st.walk b) (sym length_of) g));
       }
 
   pub mapped_free : free ≡ true → owner_at store.owners b ≡ Free → IsMapped image store (suc b)
@@ -115,9 +131,19 @@ module _ (image : List ℕ) (store : Store) (b page : ℕ) (free : Bool) (list :
   mapped_used f h = mapped (λ a. absurd (then_absent a h)) (λ k. absurd (let x : free ≡ true = then_free k in let y : true ≡ false = sym x ∙ f in cc))
 
 pub map_begins : (image : List ℕ) (store : Store) → IsRead image store → IsMapped image store 2
-map_begins image store st = record { walk = st.walk; tells = st.tells; started = st.started; is_walk = st.is_walk; whole = st.whole; low = omega arith; agrees = tt }
+map_begins image store st = record {
+  walk = st.walk;
+  tells = st.tells;
+  started = st.started;
+  is_walk = st.is_walk;
+  whole = st.whole;
+  low =
+      omega arith;
+  agrees = tt;
+}
 
-pub fits_alone : (image : List ℕ) (store : Store) (b : ℕ) → AllHold (boot_demands image ++ root_demands image (root_of image)) → b ≡ blocks image → IsMapped image store b → TellsFit image store
+pub fits_alone : (image : List ℕ) (store : Store) (b : ℕ) → AllHold (boot_demands image ++ root_demands image (root_of image)) → b ≡ blocks image
+    → IsMapped image store b → TellsFit image store
 fits_alone image store b sound e st =
     let s = all_split (boot_demands image) (root_demands image (root_of image)) sound in
     let f = fits image st.walk st.is_walk st.whole s.0 s.1 (subst (λ n. AllHold (bitmap_demands image st.walk 2 (n - 2))) e st.agrees) in
@@ -135,7 +161,8 @@ fits_alone image store b sound e st =
 abbrev pub first_store : List Owner → Store
 first_store owners = record { owners = owners; rows = []; starts = []; exts = []; datas = []; used = 1 }
 
-pub beginning : (image : List ℕ) (owners : List Owner) → length owners ≡ blocks image → ((b : ℕ) → b < 2 → owner_at owners b ≡ Boot) → owner_at owners (root_of image) ≡ TheRoot →
+pub beginning : (image : List ℕ) (owners : List Owner) → length owners ≡ blocks image → ((b : ℕ) → b < 2 → owner_at owners b ≡ Boot)
+    → owner_at owners (root_of image) ≡ TheRoot →
     ((b : ℕ) → 2 ≤ b → b < blocks image → b ≢ root_of image → owner_at owners b ≡ Free) → IsBeforePage image (first_store owners) 0 (root_of image)
 beginning image owners size boot root rest = record {
   walk = (Root, root_of image) ∷ [];

@@ -26,11 +26,13 @@ dir_node image w (suc i) a h = h.0
 dir_fun : (image : List ℕ) (w : List (Role × ℕ)) → IsWalk image w → (p a b : ℕ) → DirAt image w p a → DirAt image w p b → a ≡ b
 dir_fun image w v p a b h k = one_node image v p a b (dir_node image w p a h) (dir_node image w p b k)
 
-next_asks : (image : List ℕ) (w : List (Role × ℕ)) (p s j a b : ℕ) → s < 72 → b ≢ 0 → Next image w p s j a b → (i : ℕ) × Asks image w (Head (suc (heads w)) p s j) a i × (word_in image a i ≡ b)
+next_asks : (image : List ℕ) (w : List (Role × ℕ)) (p s j a b : ℕ) → s < 72 → b ≢ 0 → Next image w p s j a b
+    → (i : ℕ) × Asks image w (Head (suc (heads w)) p s j) a i × (word_in image a i ≡ b)
 next_asks image w p s zero a b lt ne h = (6 + s, (refl, lt, h.0, refl, (λ z. ne (sym h.1 ∙ z))), h.1)
 next_asks image w p s (suc j) a b lt ne h = (124, (refl, h.0, refl, (λ z. ne (sym h.1 ∙ z))), h.1)
 
-next_ends : (image : List ℕ) (w : List (Role × ℕ)) → IsWalk image w → (p s j a : ℕ) → Next image w p s j a 0 → (n c i : ℕ) → Asks image w (Head n p s j) c i → ⊥
+next_ends : (image : List ℕ) (w : List (Role × ℕ)) → IsWalk image w → (p s j a : ℕ) → Next image w p s j a 0 → (n c i : ℕ) → Asks image w (Head n p s j) c i
+    → ⊥
 next_ends image w v p s zero a h n c i k = k.4 (ap (word_in image c) k.3 ∙ ap (λ a. word_in image a (6 + s)) (dir_fun image w v p c a k.2 h.0) ∙ h.1)
 next_ends image w v p s (suc j) a h n c i k =
     let m = k.1 in
@@ -62,7 +64,8 @@ module _ (image : List ℕ) (store : Store) (p up s a b : ℕ) (seen : List ℕ 
     fault_taken lo hi h =
         fault_at b Taken (inr (tt, inr ((lo, hi), inl (taken_present image store.owners st.walk st.tells.owns b lo hi h, refl, refl))))
 
-    pub fault_form : (c : Cause) → 2 ≤ b → b < blocks image → owner_at store.owners b ≡ Free → FirstFails (head_demands image (kind_of image) b up s) b c → FirstFault image b c
+    pub fault_form : (c : Cause) → 2 ≤ b → b < blocks image → owner_at store.owners b ≡ Free → FirstFails (head_demands image (kind_of image) b up s) b c
+        → FirstFault image b c
     fault_form c lo hi h f =
         fault_at b c (inr (
           tt,
@@ -70,7 +73,8 @@ module _ (image : List ℕ) (store : Store) (p up s a b : ℕ) (seen : List ℕ 
             (lo, hi),
             inr (
               free_absent image store.owners st.walk st.tells.owns b h,
-              fails_left (head_demands image (kind_of image) b (node_block st.walk p) s) (demand SameName b (NewName image st.walk (Head (suc (heads st.walk)) p s st.place) b) ∷ []) b c
+              fails_left (head_demands image (kind_of image) b (node_block st.walk p) s)
+                  (demand SameName b (NewName image st.walk (Head (suc (heads st.walk)) p s st.place) b) ∷ []) b c
                   (subst (λ u. FirstFails (head_demands image (kind_of image) b u s) b c) (sym up_is) f),
             ),
           ),
@@ -83,7 +87,8 @@ module _ (image : List ℕ) (store : Store) (p up s a b : ℕ) (seen : List ℕ 
     forms : AllHold (head_demands image (kind_of image) b up s) → AllHold (head_demands image (kind_of image) b (node_block st.walk p) s)
     forms f = subst (λ u. AllHold (head_demands image (kind_of image) b u s)) (sym up_is) f
 
-    pub fault_name : 2 ≤ b → b < blocks image → owner_at store.owners b ≡ Free → AllHold (head_demands image (kind_of image) b up s) → seen (uppers (name_of image b)) → FirstFault image b SameName
+    pub fault_name : 2 ≤ b → b < blocks image → owner_at store.owners b ≡ Free → AllHold (head_demands image (kind_of image) b up s)
+        → seen (uppers (name_of image b)) → FirstFault image b SameName
     fault_name lo hi h f n =
         fault_at b SameName (inr (
           tt,
@@ -91,13 +96,15 @@ module _ (image : List ℕ) (store : Store) (p up s a b : ℕ) (seen : List ℕ 
             (lo, hi),
             inr (
               free_absent image store.owners st.walk st.tells.owns b h,
-              fails_right (head_demands image (kind_of image) b (node_block st.walk p) s) (demand SameName b (NewName image st.walk (Head (suc (heads st.walk)) p s st.place) b) ∷ []) b SameName (forms f)
+              fails_right (head_demands image (kind_of image) b (node_block st.walk p) s)
+                  (demand SameName b (NewName image st.walk (Head (suc (heads st.walk)) p s st.place) b) ∷ []) b SameName (forms f)
                   (inl ((λ k. let x = st.sees.only (uppers (name_of image b)) n in k x.0 x.1 x.2 x.3 x.4), refl, refl)),
             ),
           ),
         ))
 
-    sees_more : (seen' : List ℕ → Type 0) → ((x : List ℕ) → seen' x ↔ (seen x ⊎ (uppers (name_of image b) ≡ x))) → Sees image ((Head (suc (heads st.walk)) p s st.place, b) ∷ st.walk) p s seen'
+    sees_more : (seen' : List ℕ → Type 0) → ((x : List ℕ) → seen' x ↔ (seen x ⊎ (uppers (name_of image b) ≡ x)))
+        → Sees image ((Head (suc (heads st.walk)) p s st.place, b) ∷ st.walk) p s seen'
     sees_more seen' g = record {
       all = (λ m k c h. elim h [
         | inl y ↦ (g (uppers (name_of image c))).1 (inr (ap (λ b. uppers (name_of image b)) y.1))
@@ -109,7 +116,8 @@ module _ (image : List ℕ) (store : Store) (p up s a b : ℕ) (seen : List ℕ 
       ]);
     }
 
-    pub next_chain : 2 ≤ b → b < blocks image → owner_at store.owners b ≡ Free → AllHold (head_demands image (kind_of image) b up s) → (seen (uppers (name_of image b)) → ⊥) → (seen' : List ℕ → Type 0) → ((x : List ℕ) → seen' x ↔ (seen x ⊎ (uppers (name_of image b) ≡ x))) →
+    pub next_chain : 2 ≤ b → b < blocks image → owner_at store.owners b ≡ Free → AllHold (head_demands image (kind_of image) b up s)
+        → (seen (uppers (name_of image b)) → ⊥) → (seen' : List ℕ → Type 0) → ((x : List ℕ) → seen' x ↔ (seen x ⊎ (uppers (name_of image b) ≡ x))) →
         IsInChain image (stored store (Head (suc (length store.rows)) p s 0) b) p up s b (word_in image b 124) seen'
     next_chain lo hi h f n seen' g =
         let q = next_asks image st.walk p s st.place a b lt ne st.named in
@@ -122,7 +130,8 @@ module _ (image : List ℕ) (store : Store) (p up s a b : ℕ) (seen : List ℕ 
             (lo, hi),
             (
               free_absent image store.owners st.walk st.tells.owns b h,
-              all_append (head_demands image (kind_of image) b (node_block st.walk p) s) (demand SameName b (NewName image st.walk r b) ∷ []) (forms f) (new_name n, tt),
+              all_append (head_demands image (kind_of image) b (node_block st.walk p) s) (demand SameName b (NewName image st.walk r b) ∷ []) (forms f)
+                  (new_name n, tt),
             ),
           ),
         ) in
@@ -139,7 +148,8 @@ module _ (image : List ℕ) (store : Store) (p up s a b : ℕ) (seen : List ℕ 
         }
 
 -- a chain that ends leaves its slot
-pub chain_ends : (image : List ℕ) (store : Store) (p up s a : ℕ) (seen : List ℕ → Type 0) → IsInChain image store p up s a 0 seen → IsAtSlot image store p up (suc s)
+pub chain_ends : (image : List ℕ) (store : Store) (p up s a : ℕ) (seen : List ℕ → Type 0) → IsInChain image store p up s a 0 seen
+    → IsAtSlot image store p up (suc s)
 chain_ends image store p up s a seen st = record {
   walk = st.walk;
   tells = st.tells;
@@ -149,7 +159,8 @@ chain_ends image store p up s a seen st = record {
 }
 
 -- a slot's chain begins at the directory, and nothing of it was seen
-pub chain_begins : (image : List ℕ) (store : Store) (p up s : ℕ) (seen : List ℕ → Type 0) → ((x : List ℕ) → seen x → ⊥) → IsAtSlot image store p up s → IsInChain image store p up s up (word_in image up (6 + s)) seen
+pub chain_begins : (image : List ℕ) (store : Store) (p up s : ℕ) (seen : List ℕ → Type 0) → ((x : List ℕ) → seen x → ⊥) → IsAtSlot image store p up s
+    → IsInChain image store p up s up (word_in image up (6 + s)) seen
 chain_begins image store p up s seen none st = record {
   walk = st.walk;
   tells = st.tells;

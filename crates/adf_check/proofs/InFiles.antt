@@ -18,7 +18,8 @@ use Rattle.adf_check.proofs.Cursors.{enter_dir, end_dir, enter_file, end_exts, e
 use Rattle.adf_check.proofs.PlainSteps.{less, plain_upto, plain_tells, cond_yes, cond_no, lt_test, ge_test}
 
 -- nodes
-pub enter_directory : (image : List ℕ) (store : Store) (n a : ℕ) → IsInNode image store n → ((w : List (Role × ℕ)) → Tells image store w → IsWalk image w → DirAt image w n a) → IsAtSlot image store n a 0
+pub enter_directory : (image : List ℕ) (store : Store) (n a : ℕ) → IsInNode image store n
+    → ((w : List (Role × ℕ)) → Tells image store w → IsWalk image w → DirAt image w n a) → IsAtSlot image store n a 0
 enter_directory image store n a st d =
     let dir = d st.walk st.tells st.upto.walk in
     record { walk = st.walk; tells = st.tells; started = st.started; upto = enter_dir image st.walk n a dir st.upto; dir = dir }
@@ -27,7 +28,8 @@ pub leave_directory : (image : List ℕ) (store : Store) (n a : ℕ) → IsAtSlo
 leave_directory image store n a st = record { walk = st.walk; tells = st.tells; started = st.started; upto = end_dir image st.walk n st.upto }
 
 -- extension blocks
-pub enter_exts : (image : List ℕ) (store : Store) (n h : ℕ) → IsInNode image store n → ((w : List (Role × ℕ)) → Tells image store w → IsWalk image w → FileAt image w n h) → IsInExts image store n h (h ∷ []) h (word_in image h 126)
+pub enter_exts : (image : List ℕ) (store : Store) (n h : ℕ) → IsInNode image store n
+    → ((w : List (Role × ℕ)) → Tells image store w → IsWalk image w → FileAt image w n h) → IsInExts image store n h (h ∷ []) h (word_in image h 126)
 enter_exts image store n h st f =
     let file = f st.walk st.tells st.upto.walk in
     record {
@@ -58,20 +60,25 @@ enter_exts image store n h st f =
           | no u ↦ omega arith
         ]
 
-pub exts_asks : (image : List ℕ) (w : List (Role × ℕ)) (n h j a b : ℕ) → FileAt image w n h → b ≢ 0 → NextExt image w n h j a b → (i : ℕ) × Asks image w (Ext n (suc j)) a i × (word_in image a i ≡ b)
+pub exts_asks : (image : List ℕ) (w : List (Role × ℕ)) (n h j a b : ℕ) → FileAt image w n h → b ≢ 0 → NextExt image w n h j a b
+    → (i : ℕ) × Asks image w (Ext n (suc j)) a i × (word_in image a i ≡ b)
 exts_asks image w n h zero a b f ne x = (126, (subst (FileAt image w n) (sym x.0) f, refl, (λ z. ne (sym x.1 ∙ z))), x.1)
 exts_asks image w n h (suc j) a b f ne x = (126, (x.0, refl, (λ z. ne (sym x.1 ∙ z))), x.1)
 
-abbrev pub ext_named : (image : List ℕ) (store : Store) (n h : ℕ) (table : List ℕ) (a b : ℕ) → b ≢ 0 → (st : IsInExts image store n h table a b) → IsNamed image store (Ext n (suc st.extra)) a b
+abbrev pub ext_named : (image : List ℕ) (store : Store) (n h : ℕ) (table : List ℕ) (a b : ℕ) → b ≢ 0 → (st : IsInExts image store n h table a b)
+    → IsNamed image store (Ext n (suc st.extra)) a b
 ext_named image store n h table a b ne st =
     let q = exts_asks image st.walk n h st.extra a b st.file ne st.named in
     record { walk = st.walk; tells = st.tells; started = st.started; upto = st.upto; index = q.0; asked = q.1; names = q.2 }
 
-pub ext_form_at : (image : List ℕ) (store : Store) (n h : ℕ) (table : List ℕ) (a b x : ℕ) (st : IsInExts image store n h table a b) (P : List Demand → Type 0) → P (ext_demands image x h) → P (form_demands image st.walk (Ext n (suc st.extra)) x)
+pub ext_form_at : (image : List ℕ) (store : Store) (n h : ℕ) (table : List ℕ) (a b x : ℕ) (st : IsInExts image store n h table a b)
+    (P : List Demand → Type 0) → P (ext_demands image x h) → P (form_demands image st.walk (Ext n (suc st.extra)) x)
 ext_form_at image store n h table a b x st P p = subst (λ h. P (ext_demands image x h)) (sym (file_is image st.walk n h st.upto.walk st.file)) p
 
-pub ext_read : (image : List ℕ) (store : Store) (n h : ℕ) (table : List ℕ) (a b : ℕ) → AllHold (boot_demands image ++ root_demands image (root_of image)) → b ≢ 0 → IsInExts image store n h table a b →
-    2 ≤ b → b < blocks image → owner_at store.owners b ≡ Free → AllHold (ext_demands image b h) → IsInExts image (stored store (Ext n (length table)) b) n h (table ++ b ∷ []) b (word_in image b 126)
+pub ext_read : (image : List ℕ) (store : Store) (n h : ℕ) (table : List ℕ) (a b : ℕ) → AllHold (boot_demands image ++ root_demands image (root_of image))
+    → b ≢ 0 → IsInExts image store n h table a b →
+    2 ≤ b → b < blocks image → owner_at store.owners b ≡ Free → AllHold (ext_demands image b h)
+    → IsInExts image (stored store (Ext n (length table)) b) n h (table ++ b ∷ []) b (word_in image b 126)
 ext_read image store n h table a b sound ne st lo hi free f =
     let nm = ext_named image store n h table a b ne st in
     let r : Role = Ext n (suc st.extra) in
@@ -91,7 +98,8 @@ ext_read image store n h table a b sound ne st lo hi free f =
       named = (inl (refl, refl), refl);
     }
 
-exts_no : (image : List ℕ) (w : List (Role × ℕ)) → IsWalk image w → (n h j a : ℕ) → FileAt image w n h → NextExt image w n h j a 0 → (c i : ℕ) → Asks image w (Ext n (suc j)) c i → ⊥
+exts_no : (image : List ℕ) (w : List (Role × ℕ)) → IsWalk image w → (n h j a : ℕ) → FileAt image w n h → NextExt image w n h j a 0 → (c i : ℕ)
+    → Asks image w (Ext n (suc j)) c i → ⊥
 exts_no image w v n h zero a f x c i k =
     let e : c ≡ h = (one_head image v n k.0.0.0 k.0.0.1 k.0.0.2 c f.0.0 f.0.1 f.0.2 h k.0.0.3 f.0.3).1 in
     k.2 (ap (word_in image c) k.1 ∙ ap (λ a. word_in image a 126) (e ∙ sym x.0) ∙ x.1)
@@ -112,8 +120,18 @@ exts_end image store n h table a st = record {
 
 -- data blocks
 module _ (image : List ℕ) (store : Store) (n h : ℕ) (table : List ℕ) (k : ℕ) (st : IsInDatas image store n h table k) where
-  abbrev pub data_named : k < data_count image h → (c b : ℕ) → At table (k / 72) c → word_in image c (table_word k) ≡ b → IsNamed image store (Data n (suc k)) c b
-  data_named lt c b x e = record { walk = st.walk; tells = st.tells; started = st.started; upto = st.upto; index = table_word k; asked = ((h, st.file, lt), st.members (k / 72) c x, refl); names = e }
+  abbrev pub data_named : k < data_count image h → (c b : ℕ) → At table (k / 72) c → word_in image c (table_word k) ≡ b
+      → IsNamed image store (Data n (suc k)) c b
+  data_named lt c b x e = record {
+    walk = st.walk;
+    tells = st.tells;
+    started = st.started;
+    upto = st.upto;
+    index = table_word k;
+    asked =
+        ((h, st.file, lt), st.members (k / 72) c x, refl);
+    names = e;
+  }
 
   pub one_file : (a : ℕ) → FileAt image st.walk n a → h ≡ a
   one_file a f = (one_head image st.upto.walk n st.file.0.0 st.file.0.1 st.file.0.2 h f.0.0 f.0.1 f.0.2 a st.file.0.3 f.0.3).1
@@ -132,30 +150,39 @@ module _ (image : List ℕ) (store : Store) (n h : ℕ) (table : List ℕ) (k : 
       omega arith
 
   next_here : (t : Bool) → nat_lt (suc k) (data_count image h) ≡ t → data_count image h ≤ 72 * length table →
-      cond t (word_in image (member_block st.walk n (suc k / 72)) (table_word (suc k))) 0 ≡ cond t (word_in image (slice_index table (suc k / 72)) (table_word (suc k))) 0
+      cond t (word_in image (member_block st.walk n (suc k / 72)) (table_word (suc k))) 0
+      ≡ cond t (word_in image (slice_index table (suc k / 72)) (table_word (suc k))) 0
   next_here false z le = refl
   next_here true z le =
       let lt : suc k < data_count image h = less (suc k) (data_count image h) z in
       let e = at_some table (suc k / 72) (omega arith) in
-      ap (λ b. word_in image b (table_word (suc k))) (member_is image st.walk n (suc k / 72) e.0 st.upto.walk (st.members (suc k / 72) e.0 e.1) ∙ sym (at_index table (suc k / 72) e.0 e.1))
+      ap (λ b. word_in image b (table_word (suc k))) (member_is image st.walk n (suc k / 72) e.0 st.upto.walk (st.members (suc k / 72) e.0 e.1)
+      ∙ sym (at_index table (suc k / 72) e.0 e.1))
 
   -- the word that a data block has for the next one
-  pub next_word : data_count image h ≤ 72 * length table → next_data image st.walk n (suc k) ≡ cond (nat_lt (suc k) (data_count image h)) (word_in image (slice_index table (suc k / 72)) (table_word (suc k))) 0
+  pub next_word : data_count image h ≤ 72 * length table
+      → next_data image st.walk n (suc k) ≡ cond (nat_lt (suc k) (data_count image h)) (word_in image (slice_index table (suc k / 72)) (table_word (suc k))) 0
   next_word le =
       let z : node_block st.walk n ≡ h = file_is image st.walk n h st.upto.walk st.file in
       ap (λ h. cond (nat_lt (suc k) (data_count image h)) (word_in image (member_block st.walk n (suc k / 72)) (table_word (suc k))) 0) z
       ∙ next_here (nat_lt (suc k) (data_count image h)) refl le
 
-  pub data_form_at : (x y : ℕ) → data_count image h ≤ 72 * length table → y ≡ cond (nat_lt (suc k) (data_count image h)) (word_in image (slice_index table (suc k / 72)) (table_word (suc k))) 0 →
-      (P : List Demand → Type 0) → P (data_demands image (kind_of image) x h (suc k) (held (kind_of image) (word_in image h 81) (suc k)) y) → P (form_demands image st.walk (Data n (suc k)) x)
+  pub data_form_at : (x y : ℕ) → data_count image h ≤ 72 * length table
+      → y ≡ cond (nat_lt (suc k) (data_count image h)) (word_in image (slice_index table (suc k / 72)) (table_word (suc k))) 0 →
+      (P : List Demand → Type 0) → P (data_demands image (kind_of image) x h (suc k) (held (kind_of image) (word_in image h 81) (suc k)) y)
+      → P (form_demands image st.walk (Data n (suc k)) x)
   data_form_at x y le e P p =
       let z : node_block st.walk n ≡ h = file_is image st.walk n h st.upto.walk st.file in
-      subst (λ h. P (data_demands image (kind_of image) x h (suc k) (held (kind_of image) (word_in image h 81) (suc k)) (next_data image st.walk n (suc k)))) (sym z)
+      subst (λ h. P (data_demands image (kind_of image) x h (suc k) (held (kind_of image) (word_in image h 81) (suc k))
+      (next_data image st.walk n (suc k)))) (sym z)
       (subst (λ y. P (data_demands image (kind_of image) x h (suc k) (held (kind_of image) (word_in image h 81) (suc k)) y)) (e ∙ sym (next_word le)) p)
 
-  pub data_read : AllHold (boot_demands image ++ root_demands image (root_of image)) → k < data_count image h → data_count image h ≤ 72 * length table → (c b y : ℕ) → At table (k / 72) c → word_in image c (table_word k) ≡ b →
-      2 ≤ b → b < blocks image → owner_at store.owners b ≡ Free → y ≡ cond (nat_lt (suc k) (data_count image h)) (word_in image (slice_index table (suc k / 72)) (table_word (suc k))) 0 →
-      AllHold (data_demands image (kind_of image) b h (suc k) (held (kind_of image) (word_in image h 81) (suc k)) y) → IsInDatas image (stored store (Data n (suc k)) b) n h table (suc k)
+  pub data_read : AllHold (boot_demands image ++ root_demands image (root_of image)) → k < data_count image h → data_count image h ≤ 72 * length table
+      → (c b y : ℕ) → At table (k / 72) c → word_in image c (table_word k) ≡ b →
+      2 ≤ b → b < blocks image → owner_at store.owners b ≡ Free
+      → y ≡ cond (nat_lt (suc k) (data_count image h)) (word_in image (slice_index table (suc k / 72)) (table_word (suc k))) 0 →
+      AllHold (data_demands image (kind_of image) b h (suc k) (held (kind_of image) (word_in image h 81) (suc k)) y)
+      → IsInDatas image (stored store (Data n (suc k)) b) n h table (suc k)
   data_read sound lt le c b y x e lo hi free ye f =
       let nm = data_named lt c b x e in
       let r : Role = Data n (suc k) in
@@ -177,16 +204,20 @@ pub whole_end : (image : List ℕ) (store : Store) (n : ℕ) → length store.ro
 whole_end image store n lt st = let c : length store.rows ≡ heads st.walk = st.tells.lists.count in end_all image st.walk n (omega arith) st.upto
 
 -- the next word as the reader has it, for data block number m
-pub next_yes : (image : List ℕ) (table : List ℕ) (h k m y c : ℕ) → m ≡ suc k → c ≡ data_count image h → m < c → y ≡ word_in image (slice_index table (m / 72)) (77 - m % 72) →
+pub next_yes : (image : List ℕ) (table : List ℕ) (h k m y c : ℕ) → m ≡ suc k → c ≡ data_count image h → m < c
+    → y ≡ word_in image (slice_index table (m / 72)) (77 - m % 72) →
     y ≡ cond (nat_lt (suc k) (data_count image h)) (word_in image (slice_index table (suc k / 72)) (table_word (suc k))) 0
 next_yes image table h k m y c e z lt w =
     let l : suc k < data_count image h = omega arith in
-    w ∙ ap (λ m. word_in image (slice_index table (m / 72)) (77 - m % 72)) e ∙ sym (cond_yes (nat_lt (suc k) (data_count image h)) (word_in image (slice_index table (suc k / 72)) (table_word (suc k))) 0 (lt_test (suc k) (data_count image h) l))
+    w ∙ ap (λ m. word_in image (slice_index table (m / 72)) (77 - m % 72)) e
+    ∙ sym (cond_yes (nat_lt (suc k) (data_count image h)) (word_in image (slice_index table (suc k / 72)) (table_word (suc k))) 0
+    (lt_test (suc k) (data_count image h) l))
 
 pub next_no : (image : List ℕ) (table : List ℕ) (h k m y c : ℕ) → m ≡ suc k → c ≡ data_count image h → c ≤ m → y ≡ 0 →
     y ≡ cond (nat_lt (suc k) (data_count image h)) (word_in image (slice_index table (suc k / 72)) (table_word (suc k))) 0
 next_no image table h k m y c e z le w =
     let l : data_count image h ≤ suc k = omega arith in
-    w ∙ sym (cond_no (nat_lt (suc k) (data_count image h)) (word_in image (slice_index table (suc k / 72)) (table_word (suc k))) 0 (ge_test (suc k) (data_count image h) l))
+    w ∙ sym (cond_no (nat_lt (suc k) (data_count image h)) (word_in image (slice_index table (suc k / 72)) (table_word (suc k))) 0
+    (ge_test (suc k) (data_count image h) l))
 
 -- the node of a row

@@ -34,11 +34,24 @@ module _ (image : List ℕ) (w : List (Role × ℕ)) (k a i : ℕ) where
       let e : x.0 ≡ j = omega arith in
       subst (λ j. Has w (MapExt j) a) e x.1
 
-abbrev pub page_state : (image : List ℕ) (store : Store) (k a i b : ℕ) → k < pages_needed (blocks image) → (st : IsAtPage image store k a) → (k < 25 → i ≡ 79 + k) → (25 ≤ k → i ≡ (k - 25) % 127) → b ≡ word_in image a i → IsNamed image store (Page k) a b
-page_state image store k a i b lt st f g e = record { walk = st.walk; tells = st.tells; started = st.started; upto = st.upto; index = st.index; asked = (lt, st.named); names = ap (word_in image a) (sym (index_is image st.walk k a i st.index st.named f g)) ∙ sym e }
+abbrev pub page_state : (image : List ℕ) (store : Store) (k a i b : ℕ) → k < pages_needed (blocks image) → (st : IsAtPage image store k a)
+    → (k < 25 → i ≡ 79 + k) → (25 ≤ k → i ≡ (k - 25) % 127) → b ≡ word_in image a i → IsNamed image store (Page k) a b
+page_state image store k a i b lt st f g e =
+    record {
+      walk = st.walk;
+      tells = st.tells;
+      started = st.started;
+      upto = st.upto;
+      index = st.index;
+      asked = (lt, st.named);
+      names =
+          ap (word_in image a) (sym (index_is image st.walk k a i st.index st.named f g)) ∙ sym e;
+    }
 
-pub page_read : (image : List ℕ) (store : Store) (k a i b : ℕ) → AllHold (boot_demands image ++ root_demands image (root_of image)) → k < pages_needed (blocks image) → IsAtPage image store k a →
-    (k < 25 → i ≡ 79 + k) → (25 ≤ k → i ≡ (k - 25) % 127) → b ≡ word_in image a i → 2 ≤ b → b < blocks image → owner_at store.owners b ≡ Free → AllHold (page_demands image b) → IsBeforePage image (stored store (Page k) b) (suc k) a
+pub page_read : (image : List ℕ) (store : Store) (k a i b : ℕ) → AllHold (boot_demands image ++ root_demands image (root_of image))
+    → k < pages_needed (blocks image) → IsAtPage image store k a →
+    (k < 25 → i ≡ 79 + k) → (25 ≤ k → i ≡ (k - 25) % 127) → b ≡ word_in image a i → 2 ≤ b → b < blocks image → owner_at store.owners b ≡ Free
+    → AllHold (page_demands image b) → IsBeforePage image (stored store (Page k) b) (suc k) a
 page_read image store k a i b sound lt st p q e lo hi h f =
     let nm = page_state image store k a i b lt st p q e in
     let z : suc (k + (k + 102) / 127) ≡ suc k + (suc k + 101) / 127 = omega arith in
@@ -52,7 +65,8 @@ page_read image store k a i b sound lt st p q e lo hi h f =
     }
 
 -- where no bitmap extension block comes before page k
-no_ext_names : (image : List ℕ) (w : List (Role × ℕ)) (k a : ℕ) → (k ≤ 25 → a ≡ root_of image) → ((j : ℕ) → 25 + 127 * j < k → k ≤ 25 + 127 * suc j → Has w (MapExt j) a) → (25 ≤ k → 0 < (k - 25) % 127) → (i : ℕ) × NamesPage image w k a i
+no_ext_names : (image : List ℕ) (w : List (Role × ℕ)) (k a : ℕ) → (k ≤ 25 → a ≡ root_of image)
+    → ((j : ℕ) → 25 + 127 * j < k → k ≤ 25 + 127 * suc j → Has w (MapExt j) a) → (25 ≤ k → 0 < (k - 25) % 127) → (i : ℕ) × NamesPage image w k a i
 no_ext_names image w k a f g h =
     elim (dec_lt k 25) [
       | yes l ↦ (79 + k, inl (l, f (omega arith), refl))
@@ -64,22 +78,29 @@ no_ext_names image w k a f g h =
 pub same_holder : (image : List ℕ) (store : Store) (k a : ℕ) → IsBeforePage image store k a → (25 ≤ k → 0 < (k - 25) % 127) → IsAtPage image store k a
 same_holder image store k a st h =
     let x = no_ext_names image st.walk k a st.at_root st.at_ext h in
-    let z : k + (k + 101) / 127 ≡ k + (k + 102) / 127 = elim (dec_lt k 25) [ yes l ↦ omega arith | no l ↦ let y : 0 < (k - 25) % 127 = h (omega arith) in omega arith ] in
+    let z : k + (k + 101) / 127 ≡ k + (k + 102) / 127 =
+    elim (dec_lt k 25) [ yes l ↦ omega arith | no l ↦ let y : 0 < (k - 25) % 127 = h (omega arith) in omega arith ] in
     record { walk = st.walk; tells = st.tells; started = st.started; upto = subst (IsUpTo image st.walk 0 1) z st.upto; index = x.0; named = x.1 }
 
-pub map_ext_asks : (image : List ℕ) (store : Store) (k j a i b : ℕ) → k < pages_needed (blocks image) → k ≡ 25 + 127 * j → (st : IsBeforePage image store k a) → (k ≡ 25 → i ≡ 104) → (25 < k → i ≡ 127) → b ≡ word_in image a i →
+pub map_ext_asks : (image : List ℕ) (store : Store) (k j a i b : ℕ) → k < pages_needed (blocks image) → k ≡ 25 + 127 * j
+    → (st : IsBeforePage image store k a) → (k ≡ 25 → i ≡ 104) → (25 < k → i ≡ 127) → b ≡ word_in image a i →
     (n : ℕ) × Asks image st.walk (MapExt j) a n × (word_in image a n ≡ b)
-map_ext_asks image store k zero a i b lt z st f g e = (104, (omega arith, st.at_root (omega arith), refl), ap (word_in image a) (sym (f (omega arith))) ∙ sym e)
-map_ext_asks image store k (suc j) a i b lt z st f g e = (127, (omega arith, st.at_ext j (omega arith) (omega arith), refl), ap (word_in image a) (sym (g (omega arith))) ∙ sym e)
+map_ext_asks image store k zero a i b lt z st f g e =
+    (104, (omega arith, st.at_root (omega arith), refl), ap (word_in image a) (sym (f (omega arith))) ∙ sym e)
+map_ext_asks image store k (suc j) a i b lt z st f g e =
+    (127, (omega arith, st.at_ext j (omega arith) (omega arith), refl), ap (word_in image a) (sym (g (omega arith))) ∙ sym e)
 
-abbrev pub map_ext_state : (image : List ℕ) (store : Store) (k j a i b : ℕ) → k < pages_needed (blocks image) → k ≡ 25 + 127 * j → (st : IsBeforePage image store k a) → (k ≡ 25 → i ≡ 104) → (25 < k → i ≡ 127) → b ≡ word_in image a i → IsNamed image store (MapExt j) a b
+abbrev pub map_ext_state : (image : List ℕ) (store : Store) (k j a i b : ℕ) → k < pages_needed (blocks image) → k ≡ 25 + 127 * j
+    → (st : IsBeforePage image store k a) → (k ≡ 25 → i ≡ 104) → (25 < k → i ≡ 127) → b ≡ word_in image a i → IsNamed image store (MapExt j) a b
 map_ext_state image store k j a i b lt z st f g e =
     let q = map_ext_asks image store k j a i b lt z st f g e in
     let y : k + (k + 101) / 127 ≡ 25 + 128 * j = omega arith in
     record { walk = st.walk; tells = st.tells; started = st.started; upto = subst (IsUpTo image st.walk 0 1) y st.upto; index = q.0; asked = q.1; names = q.2 }
 
-pub map_ext_read : (image : List ℕ) (store : Store) (k j a i b : ℕ) → AllHold (boot_demands image ++ root_demands image (root_of image)) → k < pages_needed (blocks image) → k ≡ 25 + 127 * j → IsBeforePage image store k a →
-    (k ≡ 25 → i ≡ 104) → (25 < k → i ≡ 127) → b ≡ word_in image a i → 2 ≤ b → b < blocks image → owner_at store.owners b ≡ Free → IsAtPage image (stored store (MapExt j) b) k b
+pub map_ext_read : (image : List ℕ) (store : Store) (k j a i b : ℕ) → AllHold (boot_demands image ++ root_demands image (root_of image))
+    → k < pages_needed (blocks image) → k ≡ 25 + 127 * j → IsBeforePage image store k a →
+    (k ≡ 25 → i ≡ 104) → (25 < k → i ≡ 127) → b ≡ word_in image a i → 2 ≤ b → b < blocks image → owner_at store.owners b ≡ Free
+    → IsAtPage image (stored store (MapExt j) b) k b
 map_ext_read image store k j a i b sound lt z st p q e lo hi h =
     let nm = map_ext_state image store k j a i b lt z st p q e in
     let y : suc (25 + 128 * j) ≡ k + (k + 102) / 127 = omega arith in
@@ -113,7 +134,8 @@ names_is image w k b a i v (inr x) e =
     let ej : (k - 25) / 127 ≡ x.0 = omega arith in
     let ei : (k - 25) % 127 ≡ i = omega arith in
     cond_no (nat_lt k 25) (word_in image (root_of image) (79 + k)) (word_in image (map_ext_block image ((k - 25) / 127)) ((k - 25) % 127)) t
-    ∙ ap (word_in image (map_ext_block image ((k - 25) / 127))) ei ∙ ap (λ j. word_in image (map_ext_block image j) i) ej ∙ ap (λ a. word_in image a i) (map_ext_is image w x.0 a v x.1) ∙ e
+    ∙ ap (word_in image (map_ext_block image ((k - 25) / 127))) ei ∙ ap (λ j. word_in image (map_ext_block image j) i) ej
+    ∙ ap (λ a. word_in image a i) (map_ext_is image w x.0 a v x.1) ∙ e
 
 pub page_is : (image : List ℕ) (w : List (Role × ℕ)) (k b : ℕ) → IsWalk image w → Has w (Page k) b → block_of_page image k ≡ b
 page_is image w k b v h = let x = (kept image v (Page k) b h).1 in names_is image w k b x.0 x.1 v x.2 x.3

@@ -40,13 +40,22 @@ module _ (image : List ℕ) (store : Store) (w : List (Role × ℕ)) (t : Tells 
   pub root_here : (a : ℕ) → a ≡ root_of image → DirAt image w 0 a
   root_here a e = subst (Has w Root) (sym e) (root_in image v)
 
-pub data_too_short : (image : List ℕ) (store : Store) (n h : ℕ) (table : List ℕ) → AllHold (boot_demands image ++ root_demands image (root_of image)) → IsInDatas image store n h table 0 → 72 * length table < data_count image h → FirstFault image h ShortFile
+pub data_too_short : (image : List ℕ) (store : Store) (n h : ℕ) (table : List ℕ) → AllHold (boot_demands image ++ root_demands image (root_of image))
+    → IsInDatas image store n h table 0 → 72 * length table < data_count image h → FirstFault image h ShortFile
 data_too_short image store n h table sound st lt =
     let c : length table ≡ suc (ext_count st.walk n) = st.counted in
     let e = at_some table 0 (omega arith) in
     let z : h ≡ e.0 = one_file image store n h table 0 st e.0 (st.members 0 e.0 e.1) in
     subst (λ a. FirstFault image a ShortFile) (sym z)
-    (plain_enough image store (Data n 1) e.0 (word_in image e.0 (table_word 0)) sound tt (data_named image store n h table 0 st (omega arith) e.0 (word_in image e.0 (table_word 0)) e.1 refl) (data_short image store n h table 0 st refl lt))
+    (plain_enough image store (Data n 1) e.0 (word_in image e.0 (table_word 0)) sound tt
+    (data_named image store n h table 0 st (omega arith) e.0 (word_in image e.0 (table_word 0)) e.1 refl) (data_short image store n h table 0 st refl lt))
 
 pub all_read : (image : List ℕ) (store : Store) (n : ℕ) → n ≡ suc (length store.rows) → IsAtNode image store n → IsRead image store
-all_read image store n e st = record { walk = st.walk; tells = st.tells; started = st.started ∙ e; is_walk = st.upto.walk; whole = whole_end image store n (omega arith) st }
+all_read image store n e st = record {
+  walk = st.walk;
+  tells = st.tells;
+  started = st.started ∙ e;
+  is_walk = st.upto.walk;
+  whole =
+      whole_end image store n (omega arith) st;
+}

@@ -46,34 +46,42 @@ module _ (image : List ℕ) (store : Store) (st : TellsFit image store) where
   rows_fit : RowsFit image (tree_in image st.walk) (layout_in st.walk) store.rows
   rows_fit = record {
     count = st.tells.lists.count ∙ sym (entries_length image st.walk st.walk);
-    head = (λ i r h. let x = node_here image store st.walk st.tells st.is_walk i r h in (head_is image st.walk st.is_walk st.whole (suc i) x.0 x.1 x.2 r.head x.3).0);
+    head = (λ i r h. let x =
+        node_here image store st.walk st.tells st.is_walk i r h in (head_is image st.walk st.is_walk st.whole (suc i) x.0 x.1 x.2 r.head x.3).0);
     parent = (λ i r e h k.
         let x = entry_is image st.walk st.is_walk st.whole (suc i) e k in
-        let z : r ≡ record { parent = x.0; head = x.3 } = at_fun store.rows i r (record { parent = x.0; head = x.3 }) h (st.tells.lists.row i x.0 x.1 x.2 x.3 x.4) in
+        let z : r ≡ record { parent = x.0; head = x.3 } =
+        at_fun store.rows i r (record { parent = x.0; head = x.3 }) h (st.tells.lists.row i x.0 x.1 x.2 x.3 x.4) in
         ap (λ (y : Entry). y.parent) x.5 ∙ ap (λ (y : Row). y.parent) (sym z));
   }
 
   exts_are : (n : ℕ) → exts_of (layout_in st.walk) n ≡ exts_in st.walk n
   exts_are n = same_list (exts_of (layout_in st.walk) n) (exts_in st.walk n)
-      (λ k b h. ext_has image st.is_walk n k b (part_walked image (tree_in image st.walk) (layout_in st.walk) st.fits st.walk st.is_walk st.whole (Ext n (suc k)) b h))
-      (λ k b h. agreement image (tree_in image st.walk) (layout_in st.walk) st.fits st.walk (Ext n (suc k)) b st.is_walk (has_ext image st.walk st.is_walk n k b h))
+      (λ k b h. ext_has image st.is_walk n k b (part_walked image (tree_in image st.walk) (layout_in st.walk) st.fits st.walk st.is_walk st.whole
+      (Ext n (suc k)) b h))
+      (λ k b h. agreement image (tree_in image st.walk) (layout_in st.walk) st.fits st.walk (Ext n (suc k)) b st.is_walk
+      (has_ext image st.walk st.is_walk n k b h))
 
   datas_are : (n : ℕ) → datas_of (layout_in st.walk) n ≡ datas_in st.walk n
   datas_are n = same_list (datas_of (layout_in st.walk) n) (datas_in st.walk n)
-      (λ k b h. data_has image st.walk st.is_walk n k b (part_walked image (tree_in image st.walk) (layout_in st.walk) st.fits st.walk st.is_walk st.whole (Data n (suc k)) b h))
-      (λ k b h. agreement image (tree_in image st.walk) (layout_in st.walk) st.fits st.walk (Data n (suc k)) b st.is_walk (has_data image st.walk st.is_walk n k b h))
+      (λ k b h. data_has image st.walk st.is_walk n k b (part_walked image (tree_in image st.walk) (layout_in st.walk) st.fits st.walk st.is_walk st.whole
+      (Data n (suc k)) b h))
+      (λ k b h. agreement image (tree_in image st.walk) (layout_in st.walk) st.fits st.walk (Data n (suc k)) b st.is_walk
+      (has_data image st.walk st.is_walk n k b h))
 
   starts_fit : StartsFit (layout_in st.walk) store
   starts_fit = record {
     count = st.started;
     exts = (λ n x h.
-        let s : take (length (exts_in st.walk n)) (drop (exts_before st.walk n) (all_exts st.walk)) ≡ exts_in st.walk n = exts_stored image st.walk st.is_walk n in
+        let s : take (length (exts_in st.walk n)) (drop (exts_before st.walk n) (all_exts st.walk)) ≡ exts_in st.walk n =
+        exts_stored image st.walk st.is_walk n in
         let a : x.exts ≡ exts_before st.walk n = (st.tells.starts n x h).0 in
         subst (λ xs. take (length xs) (drop x.exts store.exts) ≡ xs) (sym (exts_are n))
         (subst (λ k. take (length (exts_in st.walk n)) (drop k store.exts) ≡ exts_in st.walk n) (sym a)
         (subst (λ ys. take (length (exts_in st.walk n)) (drop (exts_before st.walk n) ys) ≡ exts_in st.walk n) (sym st.tells.exts) s)));
     datas = (λ n x h.
-        let s : take (length (datas_in st.walk n)) (drop (datas_before st.walk n) (all_datas st.walk)) ≡ datas_in st.walk n = datas_stored image st.walk st.is_walk n in
+        let s : take (length (datas_in st.walk n)) (drop (datas_before st.walk n) (all_datas st.walk)) ≡ datas_in st.walk n =
+        datas_stored image st.walk st.is_walk n in
         let a : x.datas ≡ datas_before st.walk n = (st.tells.starts n x h).1 in
         subst (λ xs. take (length xs) (drop x.datas store.datas) ≡ xs) (sym (datas_are n))
         (subst (λ k. take (length (datas_in st.walk n)) (drop k store.datas) ≡ datas_in st.walk n) (sym a)
@@ -81,4 +89,12 @@ module _ (image : List ℕ) (store : Store) (st : TellsFit image store) where
   }
 
   pub keeps : Keeps image store (tree_in image st.walk) (layout_in st.walk)
-  keeps = record { fits = st.fits; only = st.only; owners = owners_fit; rows = rows_fit; starts = starts_fit; used = st.tells.used ∙ sym (walk_length image st.walk st.is_walk) }
+  keeps = record {
+    fits = st.fits;
+    only = st.only;
+    owners = owners_fit;
+    rows = rows_fit;
+    starts = starts_fit;
+    used =
+        st.tells.used ∙ sym (walk_length image st.walk st.is_walk);
+  }

@@ -71,7 +71,9 @@ module _ (image : List ℕ) where
       more (Ext n k) h = h
       more (Data n k) h = let z : nat_lt n 0 ≡ false = grind (arith, nat_tests) in ap (λ t. cond t (suc (datas_before w 0)) (datas_before w 0)) z ∙ h
 
-  places_sum : (full : List (Role × ℕ)) {w : List (Role × ℕ)} → IsWalk image w → count_places (places_in full w) + (exts_before full 1 + datas_before full 1) ≡ heads w + (exts_before full (suc (heads w)) + datas_before full (suc (heads w)))
+  places_sum : (full : List (Role × ℕ)) {w : List (Role × ℕ)} → IsWalk image w
+      → count_places (places_in full w) + (exts_before full 1 + datas_before full 1)
+      ≡ heads w + (exts_before full (suc (heads w)) + datas_before full (suc (heads w)))
   places_sum full start = let z = no_places in omega arith
   places_sum full (step {r = Root} {b = c} v d e g) = absurd d.asked
   places_sum full (step {r = Page k} {b = c} v d e g) = places_sum full v
@@ -88,7 +90,8 @@ module _ (image : List ℕ) where
       let dx : length (datas_in full n) ≡ length (datas_in full (suc (heads w))) = ap (λ n. length (datas_in full n)) z in
       omega arith
 
-  pub parts_sum : {w : List (Role × ℕ)} → IsWalk image w → length w ≡ 1 + (length (pages_in w) + (length (map_exts_in w) + (heads w + (length (all_exts w) + length (all_datas w)))))
+  pub parts_sum : {w : List (Role × ℕ)} → IsWalk image w
+      → length w ≡ 1 + (length (pages_in w) + (length (map_exts_in w) + (heads w + (length (all_exts w) + length (all_datas w)))))
   parts_sum start = omega arith
   parts_sum (step {r = Root} {b = c} v d e g) = absurd d.asked
   parts_sum (step {w = w} {r = Page k} {b = c} v d e g) = let ih = parts_sum v in let s = snoc_length (pages_in w) c in omega arith
@@ -98,11 +101,14 @@ module _ (image : List ℕ) where
   parts_sum (step {w = w} {r = Data n k} {b = c} v d e g) = let ih = parts_sum v in let s = snoc_length (all_datas w) c in omega arith
 
   ext_node : {w : List (Role × ℕ)} → IsWalk image w → (m k b : ℕ) → Has w (Ext m k) b → (1 ≤ m) × (m < suc (heads w))
-  ext_node {w = w} v m k b h = let f = (ext_file image v m k b h).1 in let u : (1 ≤ m) × (m ≤ heads w) = number_of image v m f.0.0 f.0.1 f.0.2 _ f.0.3 in (u.0, omega arith)
+  ext_node {w = w} v m k b h =
+      let f = (ext_file image v m k b h).1 in let u : (1 ≤ m) × (m ≤ heads w) = number_of image v m f.0.0 f.0.1 f.0.2 _ f.0.3 in (u.0, omega arith)
 
   data_node : {w : List (Role × ℕ)} → IsWalk image w → (m k b : ℕ) → Has w (Data m k) b → (1 ≤ m) × (m < suc (heads w))
   data_node v m zero b h = absurd (kept image v (Data m zero) b h)
-  data_node {w = w} v m (suc k) b h = let f = kept image v (Data m (suc k)) b h in let u : (1 ≤ m) × (m ≤ heads w) = number_of image v m f.1.0.0 f.1.0.1 f.1.0.2 f.0 f.1.0.3 in (u.0, omega arith)
+  data_node {w = w} v m (suc k) b h =
+      let f = kept image v (Data m (suc k)) b h in
+      let u : (1 ≤ m) × (m ≤ heads w) = number_of image v m f.1.0.0 f.1.0.1 f.1.0.2 f.0 f.1.0.3 in (u.0, omega arith)
 
   pub walk_length : (w : List (Role × ℕ)) → IsWalk image w → length (owned image (layout_in w)) ≡ length w
   walk_length w v =

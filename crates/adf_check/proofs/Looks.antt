@@ -13,7 +13,8 @@ use Rattle.adf_check.specs.Keeps.{Keeps}
 
 module _ (image : List ℕ) (store : Store) (t : Tree) (l : Layout) (keeps : Keeps image store t l) where
   in_places : (o : Owner) (b : ℕ) → In (owned_from 1 l.places) (o, b) → owner_at store.owners b ≡ o
-  in_places o b h = keeps.owners.part o b (inr (in_right (numbered Page 0 l.pages) _ (o, b) (in_right (numbered MapExt 0 l.map_exts) (owned_from 1 l.places) (o, b) h)))
+  in_places o b h = keeps.owners.part o b (inr (in_right (numbered Page 0 l.pages) _ (o, b)
+      (in_right (numbered MapExt 0 l.map_exts) (owned_from 1 l.places) (o, b) h)))
 
   -- the block of entry n has the owner Head n
   pub head_owner : (n : ℕ) (e : Entry) → EntryAt t n e → owner_at store.owners (at_node image l n) ≡ Head n
@@ -22,7 +23,8 @@ module _ (image : List ℕ) (store : Store) (t : Tree) (l : Layout) (keeps : Kee
       let a : i < length t.entries = at_below t.entries i e h in
       let b : length l.places ≡ length t.entries = keeps.fits.places in
       let z : 1 + i ≡ suc i = omega arith in
-      in_places (Head (suc i)) (head_at l.places i) (subst (λ m. In (owned_from 1 l.places) (Head m, head_at l.places i)) z (owned_head 1 l.places i (omega arith)))
+      in_places (Head (suc i)) (head_at l.places i) (subst (λ m. In (owned_from 1 l.places) (Head m, head_at l.places i)) z
+      (owned_head 1 l.places i (omega arith)))
 
   -- extension block k + 1 of entry n
   pub ext_owner : (n k b : ℕ) → At (exts_of l n) k b → owner_at store.owners b ≡ Ext n (suc k)

@@ -33,7 +33,8 @@ module _ (image : List ℕ) (store : Store) (i : ℕ) (d : Row) (begun : IsBegun
       (in_range image st.upto.walk (many_blocks image begun) (Head (suc i) x.0 x.1 x.2) head x.3).1
 
   pub directory_begins : word_in image head 127 ≡ DIR → IsInNode image store (suc i) → IsAtSlot image store (suc i) head 0
-  directory_begins e st = enter_directory image store (suc i) head st (λ w t v. dir_here image store w t v i (get_or store.rows i d) (row_at store.rows i d lt) e)
+  directory_begins e st =
+      enter_directory image store (suc i) head st (λ w t v. dir_here image store w t v i (get_or store.rows i d) (row_at store.rows i d lt) e)
 
   pub file_begins : word_in image head 127 ≢ DIR → IsInNode image store (suc i) → IsInExts image store (suc i) head (head ∷ []) head (word_in image head 126)
   file_begins e st = enter_exts image store (suc i) head st (λ w t v. file_here image store w t v i (get_or store.rows i d) (row_at store.rows i d lt) e)

@@ -114,10 +114,12 @@ all_below (x ∷ xs) b n zero h lt below = h 0 (omega arith)
 all_below (x ∷ xs) b n (suc j) h lt below = all_below xs b n j (λ i inside. h (suc i) (omega arith)) lt (omega arith)
 
 -- one page more is listed
-pub list_done : (image pages : List ℕ) (b i : ℕ) → AreListed image pages i → b ≡ block_of_page image i → b < blocks image → AreListed image (pages ++ b ∷ []) (i + 1)
+pub list_done : (image pages : List ℕ) (b i : ℕ) → AreListed image pages i → b ≡ block_of_page image i → b < blocks image
+    → AreListed image (pages ++ b ∷ []) (i + 1)
 list_done image pages b i h e lt = record {
   listed =
       let k : suc i ≡ i + 1 = omega arith in
-      subst (λ x. IsListed image (pages ++ x ∷ []) (i + 1)) (sym e) (subst (IsListed image (pages ++ block_of_page image i ∷ [])) k (listed_more image pages i h.listed));
+      subst (λ x. IsListed image (pages ++ x ∷ []) (i + 1)) (sym e) (subst (IsListed image (pages ++ block_of_page image i ∷ [])) k
+      (listed_more image pages i h.listed));
   inside = (λ j below. all_below pages b (blocks image) j h.inside lt below);
 }

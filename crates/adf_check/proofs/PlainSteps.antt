@@ -39,7 +39,8 @@ plain_name image w (Head n p s j) b h = absurd h
 plain_name image w (Ext n k) b h = tt
 plain_name image w (Data n k) b h = tt
 
-module _ (image : List ℕ) (store : Store) (r : Role) (a b : ℕ) (sound : AllHold (boot_demands image ++ root_demands image (root_of image))) (plain : IsPlain r) (st : IsNamed image store r a b) where
+module _ (image : List ℕ) (store : Store) (r : Role) (a b : ℕ) (sound : AllHold (boot_demands image ++ root_demands image (root_of image)))
+    (plain : IsPlain r) (st : IsNamed image store r a b) where
   fault_at : (x : ℕ) (c : Cause) → FirstFails (demands image st.walk r a b) x c → FirstFault image x c
   fault_at x c h = at_due sound st.walk r a st.index st.upto.walk (is_due image st.walk r a st.index st.upto st.asked)
       (subst (λ b. FirstFails (demands image st.walk r a b) x c) (sym st.names) h)
@@ -54,14 +55,35 @@ module _ (image : List ℕ) (store : Store) (r : Role) (a b : ℕ) (sound : AllH
   plain_taken en lo hi h =
       fault_at b Taken (inr (en, inr ((lo, hi), inl (taken_present image store.owners st.walk st.tells.owns b lo hi h, refl, refl))))
 
-  pub plain_form : (c : Cause) → Enough image st.walk r → 2 ≤ b → b < blocks image → owner_at store.owners b ≡ Free → FirstFails (form_demands image st.walk r b) b c → FirstFault image b c
+  pub plain_form : (c : Cause) → Enough image st.walk r → 2 ≤ b → b < blocks image → owner_at store.owners b ≡ Free
+      → FirstFails (form_demands image st.walk r b) b c → FirstFault image b c
   plain_form c en lo hi h f =
-      fault_at b c (inr (en, inr ((lo, hi), inr (free_absent image store.owners st.walk st.tells.owns b h, fails_left (form_demands image st.walk r b) (demand SameName b (NewName image st.walk r b) ∷ []) b c f))))
+      fault_at b c (inr (
+        en,
+        inr (
+          (lo, hi),
+          inr (
+            free_absent image store.owners st.walk st.tells.owns b h,
+            fails_left (form_demands image st.walk r b)
+                (demand SameName b (NewName image st.walk r b) ∷ []) b c f,
+          ),
+        ),
+      ))
 
-  pub plain_upto : Enough image st.walk r → 2 ≤ b → b < blocks image → owner_at store.owners b ≡ Free → AllHold (form_demands image st.walk r b) → IsUpTo image ((r, b) ∷ st.walk) (first r) (second r) (suc (third r))
+  pub plain_upto : Enough image st.walk r → 2 ≤ b → b < blocks image → owner_at store.owners b ≡ Free → AllHold (form_demands image st.walk r b)
+      → IsUpTo image ((r, b) ∷ st.walk) (first r) (second r) (suc (third r))
   plain_upto en lo hi h f =
-      take_it image st.walk r a st.index b st.upto st.asked st.names
-      (en, ((lo, hi), (free_absent image store.owners st.walk st.tells.owns b h, all_append (form_demands image st.walk r b) (demand SameName b (NewName image st.walk r b) ∷ []) f (plain_name image st.walk r b plain, tt))))
+      take_it image st.walk r a st.index b st.upto st.asked st.names (
+        en,
+        (
+          (lo, hi),
+          (
+            free_absent image store.owners st.walk st.tells.owns b h,
+            all_append (form_demands image st.walk r b)
+                (demand SameName b (NewName image st.walk r b) ∷ []) f (plain_name image st.walk r b plain, tt),
+          ),
+        ),
+      )
 
   pub plain_tells : 2 ≤ b → b < blocks image → owner_at store.owners b ≡ Free → Tells image (stored store r b) ((r, b) ∷ st.walk)
   plain_tells lo hi h =

@@ -20,7 +20,8 @@ body_back Dir = refl
 body_back (File bytes) = refl
 
 -- what is told of an entry, with its bytes, is the entry
-pub entry_back : (r : Row) (body : Body) (x : Option Entry) → IsTold (Some r) x → body ≡ body_of (bytes_of x) → ◌≡◌ {A = Option Entry} (Some (record { parent = r.parent; name = r.name; meta = r.meta; body = body })) x
+pub entry_back : (r : Row) (body : Body) (x : Option Entry) → IsTold (Some r) x → body ≡ body_of (bytes_of x)
+    → ◌≡◌ {A = Option Entry} (Some (record { parent = r.parent; name = r.name; meta = r.meta; body = body })) x
 entry_back r body None h b = absurd h
 entry_back r body (Some e) h b =
     let same : body ≡ e.body = b ∙ body_back e.body in
@@ -44,13 +45,16 @@ next_entry t i x tree lt e = subst (IsNext t.entries i) (entry_here t i x e) (is
 
 -- the first entries and the next one
 pub tree_more : (t : Tree) (i : ℕ) (x : Entry) → i < length t.entries → Some x ≡ entry t.entries (i + 1)
-    → with_last (record { kind = t.kind; label = t.label; stamps = t.stamps; entries = take i t.entries }) x ≡ record { kind = t.kind; label = t.label; stamps = t.stamps; entries = take (i + 1) t.entries }
+    → with_last (record { kind = t.kind; label = t.label; stamps = t.stamps; entries = take i t.entries }) x
+    ≡ record { kind = t.kind; label = t.label; stamps = t.stamps; entries = take (i + 1) t.entries }
 tree_more t i x lt e =
-    let z : take i t.entries ++ x ∷ [] ≡ take (i + 1) t.entries = ap (λ y. take i t.entries ++ y ∷ []) (sym (entry_here t i x e)) ∙ sym (take_more t.entries i x lt) in
+    let z : take i t.entries ++ x ∷ [] ≡ take (i + 1) t.entries =
+    ap (λ y. take i t.entries ++ y ∷ []) (sym (entry_here t i x e)) ∙ sym (take_more t.entries i x lt) in
     λ j. record { kind = t.kind; label = t.label; stamps = t.stamps; entries = z j }
 
 -- all entries
-pub tree_whole : (t : Tree) (i : ℕ) → length t.entries ≤ i → ◌≡◌ {A = Tree} (record { kind = t.kind; label = t.label; stamps = t.stamps; entries = take i t.entries }) t
+pub tree_whole : (t : Tree) (i : ℕ) → length t.entries ≤ i
+    → ◌≡◌ {A = Tree} (record { kind = t.kind; label = t.label; stamps = t.stamps; entries = take i t.entries }) t
 tree_whole t i h =
     let z : take i t.entries ≡ t.entries = take_all i t.entries h in
     λ j. record { kind = t.kind; label = t.label; stamps = t.stamps; entries = z j }

@@ -27,7 +27,8 @@ no_size image h size = let w : is_whole (length image) ≡ true = whole image si
     whole : (image : List ℕ) → length image ≡ 512 * blocks image → is_allowed (blocks image) ≡ true → is_whole (length image) ≡ true
     whole image l a = grind (arith, nat_tests)
 
-by_size : (image : List ℕ) (whole : Bool) (c : Cause) → is_whole (length image) ≡ whole → first_cause ((whole, BadSize) ∷ boot_form (block image 0)) ≡ Some c → FirstFails (boot_demands image) 0 c
+by_size : (image : List ℕ) (whole : Bool) (c : Cause) → is_whole (length image) ≡ whole
+    → first_cause ((whole, BadSize) ∷ boot_form (block image 0)) ≡ Some c → FirstFails (boot_demands image) 0 c
 by_size image true c w h = inr (size_is image w, first_told 0 (boot_form (block image 0)) c h)
 by_size image false c w h = let e : BadSize ≡ c = cc in inl (no_size image w, refl, e)
 
@@ -35,7 +36,8 @@ by_size image false c w h = let e : BadSize ≡ c = cc in inl (no_size image w, 
 pub start_fault : (image : List ℕ) (c : Cause) → first_cause (start_form image) ≡ Some c → FirstFault image 0 c
 start_fault image c h = at_boot (fails_left (boot_demands image) (root_demands image (root_of image)) 0 c (by_size image (is_whole (length image)) c refl h))
 
-none_by_size : (image : List ℕ) (whole : Bool) → is_whole (length image) ≡ whole → first_cause ((whole, BadSize) ∷ boot_form (block image 0)) ≡ None → AllHold (boot_demands image)
+none_by_size : (image : List ℕ) (whole : Bool) → is_whole (length image) ≡ whole → first_cause ((whole, BadSize) ∷ boot_form (block image 0)) ≡ None
+    → AllHold (boot_demands image)
 none_by_size image true w h = (size_is image w, all_told 0 (boot_form (block image 0)) h)
 none_by_size image false w h = cc
 
@@ -43,12 +45,15 @@ boots : (image : List ℕ) → first_cause (start_form image) ≡ None → AllHo
 boots image h = none_by_size image (is_whole (length image)) refl h
 
 -- and so is the first cause of the root, where there is none
-pub root_fault : (image : List ℕ) (c : Cause) → first_cause (start_form image) ≡ None → first_cause (root_form (block image (root_of image))) ≡ Some c → FirstFault image (root_of image) c
-root_fault image c h r = at_boot (fails_right (boot_demands image) (root_demands image (root_of image)) (root_of image) c (boots image h) (first_told (root_of image) (root_form (block image (root_of image))) c r))
+pub root_fault : (image : List ℕ) (c : Cause) → first_cause (start_form image) ≡ None → first_cause (root_form (block image (root_of image))) ≡ Some c
+    → FirstFault image (root_of image) c
+root_fault image c h r = at_boot (fails_right (boot_demands image) (root_demands image (root_of image)) (root_of image) c (boots image h)
+    (first_told (root_of image) (root_form (block image (root_of image))) c r))
 
 -- else the image begins as a volume
 pub begins : (image : List ℕ) → first_cause (start_form image) ≡ None → first_cause (root_form (block image (root_of image))) ≡ None → IsBegun image
-begins image h r = all_append (boot_demands image) (root_demands image (root_of image)) (boots image h) (all_told (root_of image) (root_form (block image (root_of image))) r)
+begins image h r = all_append (boot_demands image) (root_demands image (root_of image)) (boots image h)
+    (all_told (root_of image) (root_form (block image (root_of image))) r)
 
 -- the label and the dates that a root tells
 pub label_in : (image : List ℕ) (b : ℕ) (name : List ℕ) → name ≡ text_at (block image b) 432 → name ≡ label_of image b

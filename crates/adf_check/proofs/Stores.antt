@@ -122,7 +122,8 @@ data_not_before m (Ext n k) c h = refl
 data_not_before m (Data n k) c h = cond_no n m c (omega arith)
 
 -- one member of a walk more
-pub tells_more : (image : List ℕ) (store : Store) (w : List (Role × ℕ)) (r : Role) (b : ℕ) → ((n p s j : ℕ) → r ≡ Head n p s j → n ≡ suc (heads w)) → length store.starts ≤ first r → Tells image store w →
+pub tells_more : (image : List ℕ) (store : Store) (w : List (Role × ℕ)) (r : Role) (b : ℕ) → ((n p s j : ℕ) → r ≡ Head n p s j → n ≡ suc (heads w))
+    → length store.starts ≤ first r → Tells image store w →
     2 ≤ b → b < blocks image → owner_at store.owners b ≡ Free → Tells image (stored store r b) ((r, b) ∷ w)
 tells_more image store w r b f l t lo hi h = record {
   owns = owns_more image store.owners w t.owns r b lo hi h;

@@ -41,7 +41,8 @@ head_facts kind b own parent slot bytes h =
     }
 
 -- the block of a row holds a header
-pub row_is_head : (image : List ℕ) (store : Store) → TellsFit image store → (i : ℕ) (d : Kept) → i < length store.rows → IsHead (block image (get_or store.rows i d).head)
+pub row_is_head : (image : List ℕ) (store : Store) → TellsFit image store → (i : ℕ) (d : Kept) → i < length store.rows
+    → IsHead (block image (get_or store.rows i d).head)
 row_is_head image store st i d lt =
     let x = node_here image store st.walk st.tells st.is_walk i (get_or store.rows i d) (row_at store.rows i d lt) in
     let k = (kept image st.is_walk (Head (suc i) x.0 x.1 x.2) (get_or store.rows i d).head x.3).2 in
@@ -64,12 +65,14 @@ is_dir b h = grind (arith, nat_tests)
 no_dir : (b : List ℕ) → word b 127 ≡ FILE → (word b 127 == 2) ≡ false
 no_dir b h = grind (arith, nat_tests)
 
-body_here : (image : List ℕ) (t : Tree) (l : Layout) (n h : ℕ) (body : Body) → BodyFits image t.kind l n h body → BodyTold (row_body (body_at (block image h))) body
+body_here : (image : List ℕ) (t : Tree) (l : Layout) (n h : ℕ) (body : Body) → BodyFits image t.kind l n h body
+    → BodyTold (row_body (body_at (block image h))) body
 body_here image t l n h Dir f = rw (is_dir (block image h) f.0) tt
 body_here image t l n h (File bytes) f = rw (no_dir (block image h) f.0) (sym f.2)
 
 -- what a row's header tells is what the tree has
-pub entry_told : (image : List ℕ) (store : Store) (t : Tree) (l : Layout) → Keeps image store t l → (n i : ℕ) (r : Kept) (told : Row) → n ≡ suc i → i < length store.rows → At store.rows i r → told ≡ row_in r.parent (block image r.head) → IsTold (Some told) (entry t.entries n)
+pub entry_told : (image : List ℕ) (store : Store) (t : Tree) (l : Layout) → Keeps image store t l → (n i : ℕ) (r : Kept) (told : Row) → n ≡ suc i
+    → i < length store.rows → At store.rows i r → told ≡ row_in r.parent (block image r.head) → IsTold (Some told) (entry t.entries n)
 entry_told image store t l k n i r told e lt at_row is =
     let count : length store.rows ≡ length t.entries = k.rows.count in
     let at = at_some t.entries i (omega arith) in

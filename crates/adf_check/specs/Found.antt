@@ -13,7 +13,15 @@ use Rattle.adf_check.specs.declared.found.Found.{Found}
 
 -- what was read, as the model of a volume has it
 abbrev pub store_of : Found → Store
-store_of f = record { owners = f.owners; rows = f.rows.items; starts = f.starts.items; exts = f.exts.items; datas = f.datas.items; used = owned_count f.owners }
+store_of f = record {
+  owners = f.owners;
+  rows = f.rows.items;
+  starts = f.starts.items;
+  exts = f.exts.items;
+  datas = f.datas.items;
+  used =
+      owned_count f.owners;
+}
 
 -- the blocks that may still be claimed, and two more
 abbrev pub left : Found → ℕ
@@ -37,7 +45,8 @@ InRange n b = (2 ≤ b) × (b < n)
 
 -- why block b, which a word of block `holder` names, is not claimed: it is out of range, or it has an owner
 abbrev pub IsClaimFault : List Owner → ℕ → ℕ → Fault → Type 0
-IsClaimFault owners holder b f = ((InRange (length owners) b → ⊥) × (f ≡ fault holder OutOfRange)) ⊎ (InRange (length owners) b × (owner_at owners b ≢ Free) × (f ≡ fault b Taken))
+IsClaimFault owners holder b f =
+    ((InRange (length owners) b → ⊥) × (f ≡ fault holder OutOfRange)) ⊎ (InRange (length owners) b × (owner_at owners b ≢ Free) × (f ≡ fault b Taken))
 
 -- the fault is the first one of the image, or memory was refused, and then it names block 0
 pub record IsTrueFault (image : List ℕ) (f : Fault) : Type 0 where

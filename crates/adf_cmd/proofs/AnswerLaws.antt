@@ -132,7 +132,8 @@ copies : (found : Option (Option (List ℕ))) (path : List ℕ) (names : List (L
     → IsPathText path names → Fits image t l → contents_at t names ≡ found → Copies found s out err → Answer (cat path) image s out err
 copies found path names image t l s out err text fits e h = inr (inl (names, text, t, l, fits, subst (λ x. Copies x s out err) (sym e) h))
 
-pub copy_works : (w : Outcome) (path : List ℕ) (names : List (List ℕ)) (image : List ℕ) (t : Tree) (l : Layout) (o o' : Option (List ℕ)) → IsPathText path names
+pub copy_works : (w : Outcome) (path : List ℕ) (names : List (List ℕ)) (image : List ℕ) (t : Tree) (l : Layout) (o o' : Option (List ℕ))
+    → IsPathText path names
     → Fits image t l → CopyWorks w (contents_at t names) o o' → Works w (cat path) image o o'
 copy_works Done path names image t l o o' text fits (bytes, e, h) =
     (bytes, copies (Some (Some bytes)) path names image t l 0 bytes [] text fits e (refl, refl, refl), h)
@@ -147,7 +148,8 @@ copy_works NoMemory path names image t l o o' text fits (bytes, e, h) =
 copy_works _ path names image t l o o' text fits h = absurd h
 
 -- an outcome at a status other than 3 is an answer
-outcome_answers : (w : Outcome) (words : List (List ℕ)) (r : Request) (input : List ℕ) (o o' e e' : Option (List ℕ)) (failed : Bool) (status : ℕ) → Asks words r
+outcome_answers : (w : Outcome) (words : List (List ℕ)) (r : Request) (input : List ℕ) (o o' e e' : Option (List ℕ)) (failed : Bool) (status : ℕ)
+    → Asks words r
     → status ≡ status_of w → ¬ (status ≡ 3) → Works w r input o o' → Says failed e e' (line_of w) → Answers words input status o o' failed e e'
 outcome_answers ReadFault words r input o o' e e' failed status asks s ne h said = absurd (ne s)
 outcome_answers WriteFault words r input o o' e e' failed status asks s ne h said = absurd (ne s)

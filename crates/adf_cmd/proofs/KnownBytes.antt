@@ -15,7 +15,8 @@ appends_more None b c at n bytes part e p q = tt
 appends_more (Some x) None c at n bytes part e p q = absurd p
 appends_more (Some x) (Some y) None at n bytes part e p q = absurd q
 appends_more (Some x) (Some y) (Some z) at n bytes part e p q =
-    q ∙ ap (λ l. l ++ take n part) p ∙ append_assoc x (take at bytes) (take n part) ∙ ap (λ l. x ++ l) (ap (λ l. take at bytes ++ take n l) e ∙ sym (take-add at n bytes))
+    q ∙ ap (λ l. l ++ take n part) p ∙ append_assoc x (take at bytes) (take n part)
+    ∙ ap (λ l. x ++ l) (ap (λ l. take at bytes ++ take n l) e ∙ sym (take-add at n bytes))
 
 pub consumes_more : (a b c : Option (List ℕ)) (bs cs all : List ℕ) → all ≡ bs ++ cs → Consumes a b bs → Consumes b c cs → Consumes a c all
 consumes_more None b c bs cs all e p q = tt

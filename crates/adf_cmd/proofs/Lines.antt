@@ -25,8 +25,11 @@ blocks_front : (image : List ℕ) (n d : ℕ) → (rest : List ℕ) × (lines_of
 blocks_front image n zero = ([], ap (lines_of_blocks image) (add-zero n) ∙ sym (append-nil (lines_of_blocks image n)))
 blocks_front image n (suc d) =
     let before = blocks_front image n d in
-    let last = lines_of (n + d) (block image (n + d)) 128 in
-    (before.0 ++ last, ap (lines_of_blocks image) (add-suc n d ∙ sym (add-one (n + d))) ∙ blocks_more image (n + d) ∙ ap (λ l. l ++ last) before.1 ∙ append_assoc (lines_of_blocks image n) before.0 last)
+    let last = lines_of (n + d) (block image (n + d)) 128 in (
+      before.0 ++ last,
+      ap (lines_of_blocks image) (add-suc n d ∙ sym (add-one (n + d))) ∙ blocks_more image (n + d) ∙ ap (λ l. l ++ last) before.1
+          ∙ append_assoc (lines_of_blocks image n) before.0 last,
+    )
 
 pub listing_front : (image : List ℕ) (n : ℕ) → n ≤ length image / 512 → (rest : List ℕ) × (listing image ≡ lines_of_blocks image n ++ rest)
 listing_front image n h =

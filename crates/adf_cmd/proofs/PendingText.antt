@@ -20,7 +20,8 @@ pending_none a text done e f = ([], appends_nil a, f ∙ sym e)
 pub pending_begun : (a : Option (List ℕ)) (text done : List ℕ) → done ≡ text → Pending a a text done
 pending_begun a text done e = ([], appends_nil a, e)
 
-pub pending_more : (a b : Option (List ℕ)) (text done more text' done' : List ℕ) → text' ≡ text ++ more → done' ≡ done ++ more → Pending a b text done → Pending a b text' done'
+pub pending_more : (a b : Option (List ℕ)) (text done more text' done' : List ℕ) → text' ≡ text ++ more → done' ≡ done ++ more → Pending a b text done
+    → Pending a b text' done'
 pending_more a b text done more text' done' e f p =
     (p.0, p.1, f ∙ ap (λ l. l ++ more) p.2 ∙ append_assoc p.0 text more ∙ ap (λ l. p.0 ++ l) (sym e))
 
@@ -33,7 +34,8 @@ pending_flushed a b c text done p q = (done, pending_end a b c text done p q, sy
 pub pending_stops : (a b : Option (List ℕ)) (text done rest whole : List ℕ) → whole ≡ done ++ rest → Pending a b text done → AppendsPart a b whole
 pending_stops a b text done rest whole e p = (p.0, text ++ rest, e ∙ ap (λ l. l ++ rest) p.2 ∙ append_assoc p.0 text rest, p.1)
 
-pub pending_fails : (a b c : Option (List ℕ)) (text done rest whole : List ℕ) → whole ≡ done ++ rest → Pending a b text done → AppendsPart b c text → AppendsPart a c whole
+pub pending_fails : (a b c : Option (List ℕ)) (text done rest whole : List ℕ) → whole ≡ done ++ rest → Pending a b text done → AppendsPart b c text
+    → AppendsPart a c whole
 pending_fails a b c text done rest whole e p q = (
   p.0 ++ q.0,
   q.1 ++ rest,

@@ -57,7 +57,8 @@ abbrev pub BuildsManifest : Bool → List ℕ → ℕ → List ℕ → List ℕ 
 BuildsManifest lines input status output errors = (tree : Tree) × (n : ℕ) × IsManifest input tree n × BuildsOrIsFull lines tree n status output errors
 
 abbrev pub RefusesManifest : List ℕ → ℕ → List ℕ → List ℕ → Type 0
-RefusesManifest input status output errors = (f : ManifestFault) × ExplainsFault f input × (f.kind ≢ ManifestNoMemory) × (status ≡ 1) × (output ≡ []) × (errors ≡ manifest_fault_line f)
+RefusesManifest input status output errors =
+    (f : ManifestFault) × ExplainsFault f input × (f.kind ≢ ManifestNoMemory) × (status ≡ 1) × (output ≡ []) × (errors ≡ manifest_fault_line f)
 
 -- the commands other than `check` say at status 1 on errors that the image is refused
 abbrev pub RefusesImage : List ℕ → ℕ → List ℕ → List ℕ → Type 0

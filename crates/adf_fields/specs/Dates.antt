@@ -18,7 +18,8 @@ is_civil s = nat_lt s.days 2929975 && nat_lt s.mins 1440 && nat_lt s.ticks 3000
 
 -- hours, minutes, seconds and fiftieths of a second
 abbrev pub clock_text : Stamp → List ℕ
-clock_text s = two_digits (s.mins / 60) ++ (codes ":" ++ (two_digits (s.mins % 60) ++ (codes ":" ++ (two_digits (s.ticks / 50) ++ (codes "." ++ two_digits (s.ticks % 50))))))
+clock_text s = two_digits (s.mins / 60) ++ (codes ":" ++ (two_digits (s.mins % 60) ++ (codes ":" ++ (two_digits (s.ticks / 50) ++ (codes "." ++ two_digits
+    (s.ticks % 50))))))
 
 -- the three numbers
 abbrev pub plain_text : Stamp → List ℕ

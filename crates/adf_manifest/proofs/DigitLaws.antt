@@ -38,14 +38,16 @@ unpaired_pairs [] h = refl
 unpaired_pairs (b ∷ bs) h =
     ap (λ x. x ∷ unpaired (pairs bs)) (byte_digits b (All-head (λ k. k < 256) b bs h)) ∙ ap (λ xs. b ∷ xs) (unpaired_pairs bs (All-tail (λ k. k < 256) b bs h))
 
-pub pairs_more : (done : List ℕ) (b : ℕ) (text rest after : List ℕ) → text ≡ pairs done ++ rest → rest ≡ pair b ++ after → text ≡ pairs (done ++ b ∷ []) ++ after
+pub pairs_more : (done : List ℕ) (b : ℕ) (text rest after : List ℕ) → text ≡ pairs done ++ rest → rest ≡ pair b ++ after
+    → text ≡ pairs (done ++ b ∷ []) ++ after
 pairs_more [] b text rest after e g = e ∙ g
 pairs_more (d ∷ ds) b text rest after e g =
     let more = pairs_more ds b (pairs ds ++ rest) rest after refl g in
     e ∙ ap (λ xs. hex_digit (d / 16) ∷ hex_digit (d % 16) ∷ xs) more
 
 -- one pair fewer
-pub pairs_left : (b : ℕ) (rest after left : List ℕ) → rest ≡ pair b ++ after → b < 256 → All (λ k. k < 256) left → rest ≡ pairs left → (more : List ℕ) × All (λ k. k < 256) more × (left ≡ b ∷ more) × (after ≡ pairs more)
+pub pairs_left : (b : ℕ) (rest after left : List ℕ) → rest ≡ pair b ++ after → b < 256 → All (λ k. k < 256) left → rest ≡ pairs left
+    → (more : List ℕ) × All (λ k. k < 256) more × (left ≡ b ∷ more) × (after ≡ pairs more)
 pairs_left b rest after [] g h a e = let bad : [] ≡ pair b ++ after = sym e ∙ g in absurd cc
 pairs_left b rest after (x ∷ xs) g h a e =
     let both = one_pair x b (pairs xs) after (All-head (λ k. k < 256) x xs a) h (sym e ∙ g) in
@@ -69,7 +71,8 @@ abbrev four : ℕ → ℕ → ℕ → ℕ → List ℕ
 four a b c d = pair a ++ (pair b ++ (pair c ++ pair d))
 
 -- the digits of the bytes of a word
-pub word_is : (text : List ℕ) (a b c d w : ℕ) → a < 256 → b < 256 → c < 256 → d < 256 → w ≡ a * 16777216 + b * 65536 + c * 256 + d → text ≡ four a b c d → text ≡ hex_word w
+pub word_is : (text : List ℕ) (a b c d w : ℕ) → a < 256 → b < 256 → c < 256 → d < 256 → w ≡ a * 16777216 + b * 65536 + c * 256 + d → text ≡ four a b c d
+    → text ≡ hex_word w
 word_is text a b c d w ha hb hc hd s e =
     let p : a ≡ w / 16777216 % 256 = omega arith in
     let q : b ≡ w / 65536 % 256 = omega arith in
@@ -84,7 +87,8 @@ no_space d h = grind (arith, nat_tests)
 pub pair_lacks : (b : ℕ) (rest : List ℕ) → b < 256 → Lacks 32 rest → Lacks 32 (pair b ++ rest)
 pair_lacks b rest h a =
     let P : ℕ → Type 0 = λ x. (x == 32) ≡ false in
-    All-cons P (hex_digit (b / 16)) (hex_digit (b % 16) ∷ rest) (no_space (b / 16) (omega arith)) (All-cons P (hex_digit (b % 16)) rest (no_space (b % 16) (omega arith)) a)
+    All-cons P (hex_digit (b / 16)) (hex_digit (b % 16) ∷ rest) (no_space (b / 16) (omega arith))
+    (All-cons P (hex_digit (b % 16)) rest (no_space (b % 16) (omega arith)) a)
 
 pub word_lacks : (w : ℕ) → Lacks 32 (hex_word w)
 word_lacks w =
@@ -92,7 +96,8 @@ word_lacks w =
     let third = pair (w / 256 % 256) ++ last in
     let second = pair (w / 65536 % 256) ++ third in
     pair_lacks (w / 16777216 % 256) second (omega arith)
-    (pair_lacks (w / 65536 % 256) third (omega arith) (pair_lacks (w / 256 % 256) last (omega arith) (pair_lacks (w % 256) [] (omega arith) (All-nil (λ x. (x == 32) ≡ false)))))
+    (pair_lacks (w / 65536 % 256) third (omega arith) (pair_lacks (w / 256 % 256) last (omega arith)
+    (pair_lacks (w % 256) [] (omega arith) (All-nil (λ x. (x == 32) ≡ false)))))
 
 -- a word is the same where its digits are
 pub one_word : (v w : ℕ) → v < 2 ^ 32 → w < 2 ^ 32 → hex_word v ≡ hex_word w → v ≡ w

@@ -57,12 +57,14 @@ fault_good m n line Exists g f = room_good m n line add.Exists g f
 fault_good m n line NoMemory g f = f
 fault_good m n line TooLong g f = f
 
-of_good : (m n : Manifest) (line : LineValue) (text : List ℕ) (kind : ManifestKind) → Adds m line n → IsLine line → text ≡ line_text line → HasFaultOf m text kind → ⊥
+of_good : (m n : Manifest) (line : LineValue) (text : List ℕ) (kind : ManifestKind) → Adds m line n → IsLine line → text ≡ line_text line
+    → HasFaultOf m text kind → ⊥
 of_good m n line text kind g is e f =
     let same = line_same f.0 line f.1 is (sym f.3 ∙ e) in
     fault_good m n line kind g (subst (λ l. IsFaultOf (manifest_tree m) l kind) same f.4)
 
-line_good : (m n : Manifest) (line : LineValue) (text : List ℕ) (kind : ManifestKind) → Adds m line n → IsLine line → text ≡ line_text line → IsLaterFault m text kind → ⊥
+line_good : (m n : Manifest) (line : LineValue) (text : List ℕ) (kind : ManifestKind) → Adds m line n → IsLine line → text ≡ line_text line
+    → IsLaterFault m text kind → ⊥
 line_good m n line text BadLine g is e f = f (line, is, may_stand m n line g, e)
 line_good m n line text BadSize g is e f = f
 line_good m n line text BadText g is e f = of_good m n line text BadText g is e f
@@ -74,13 +76,15 @@ line_good m n line text TooLong g is e f = f
 
 -- behind lines of a manifest, a line that adds
 abbrev IsInner : List (List ℕ) → List ℕ → Type 0
-IsInner front text = (m : Manifest) × (n : Manifest) × (line : LineValue) × IsWell m × Adds m line n × IsLine line × (manifest_lines m ≡ front) × (text ≡ line_text line)
+IsInner front text = (m : Manifest) × (n : Manifest) × (line : LineValue) × IsWell m × Adds m line n × IsLine line × (manifest_lines m ≡ front)
+    × (text ≡ line_text line)
 
 inner_first : (n : Manifest) (front rest : List (List ℕ)) (text : List ℕ) → IsFirst n → manifest_lines n ≡ front ++ text ∷ rest → 0 < length front → ⊥
 inner_first n front rest text p e h = omega (arith, h, ap length (sym (first_lines n p) ∙ e), length-append front (text ∷ rest))
 
 -- each line of a manifest after the first is one
-inner : (k : ℕ) (n : Manifest) (front rest : List (List ℕ)) (text : List ℕ) → length (manifest_lines n) ≤ k → IsWell n → manifest_lines n ≡ front ++ text ∷ rest → 0 < length front → IsInner front text
+inner : (k : ℕ) (n : Manifest) (front rest : List (List ℕ)) (text : List ℕ) → length (manifest_lines n) ≤ k → IsWell n
+    → manifest_lines n ≡ front ++ text ∷ rest → 0 < length front → IsInner front text
 inner zero n front rest text s w e h = absurd (omega (arith, some_lines n, s))
 inner (suc k) n front rest text s w e h =
     elim (last_line n w) [
@@ -97,7 +101,8 @@ inner (suc k) n front rest text s w e h =
           ]
     ]
 
-pub later_good : (m n : Manifest) (text : List ℕ) (rest : List (List ℕ)) (kind : ManifestKind) → IsWell m → IsWell n → manifest_lines n ≡ manifest_lines m ++ text ∷ rest → IsLaterFault m text kind → ⊥
+pub later_good : (m n : Manifest) (text : List ℕ) (rest : List (List ℕ)) (kind : ManifestKind) → IsWell m → IsWell n
+    → manifest_lines n ≡ manifest_lines m ++ text ∷ rest → IsLaterFault m text kind → ⊥
 later_good m n text rest kind w v e f =
     let i = inner (length (manifest_lines n)) n (manifest_lines m) rest text (omega arith) v e (some_lines m) in
     let same = one_told i.0 m i.3 w i.6 in
@@ -121,7 +126,8 @@ first_good kind' n' line TooLong h e f = f
 volume_first : (m : Manifest) → (rest : List (List ℕ)) × (manifest_lines m ≡ volume_line m.head.kind m.head.blocks ∷ rest)
 volume_first m = ((label_lines m.head.label ++ stamps_lines m.head.stamps) ++ flat_map item_lines (items_of m.entries), refl)
 
-mixed : (all : List (List ℕ)) (text : List ℕ) (rest : List (List ℕ)) (kind : ManifestKind) (m : Manifest) (more : List (List ℕ)) → all ≡ text ∷ rest → IsFirstFault text kind → IsWell m → all ≡ manifest_lines m ++ more → ⊥
+mixed : (all : List (List ℕ)) (text : List ℕ) (rest : List (List ℕ)) (kind : ManifestKind) (m : Manifest) (more : List (List ℕ)) → all ≡ text ∷ rest
+    → IsFirstFault text kind → IsWell m → all ≡ manifest_lines m ++ more → ⊥
 unfolding volume_first
 mixed all text rest kind m more e f w g =
     let first = volume_first m in
@@ -147,7 +153,8 @@ abbrev NoRoomAt : Manifest → List ℕ → AddFault → Type 0
 NoRoomAt m text a = (line : LineValue) × IsLine line × MayStand m line × (text ≡ line_text line) × HasNoRoom (manifest_tree m) line a
 
 abbrev Later : Manifest → List ℕ → ManifestKind → Type 0
-Later m text kind = ((kind ≡ BadLine) × (¬ MayFollow m text)) ⊎ (((kind ≡ BadText) × HasFaultOf m text BadText) ⊎ ((a : AddFault) × (kind ≡ kind_of a) × NoRoomAt m text a))
+Later m text kind = ((kind ≡ BadLine) × (¬ MayFollow m text))
+    ⊎ (((kind ≡ BadText) × HasFaultOf m text BadText) ⊎ ((a : AddFault) × (kind ≡ kind_of a) × NoRoomAt m text a))
 
 later_kind : (m : Manifest) (text : List ℕ) (kind : ManifestKind) → IsLaterFault m text kind → Later m text kind
 unfolding kind_of

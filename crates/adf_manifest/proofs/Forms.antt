@@ -39,13 +39,15 @@ stamps_same s t r a k =
 pub one_stamps : (s t : Stamps) → AreStamps s → AreStamps t → stamps_line s ≡ stamps_line t → s ≡ t
 one_stamps s t g h e =
     let texts = append_cancel_left (codes "stamps ") (stamps_text s) (stamps_text t) e in
-    let parts = stamps_parts (stamps_text s) (plain_text s.root) (plain_text s.altered) (plain_text s.created) t (stamp_lacks s.root g.0) (stamp_lacks s.altered g.1) refl h texts in
+    let parts = stamps_parts (stamps_text s) (plain_text s.root) (plain_text s.altered) (plain_text s.created) t (stamp_lacks s.root g.0)
+    (stamp_lacks s.altered g.1) refl h texts in
     stamps_same s t (one_stamp s.root t.root g.0 h.0 parts.0) (one_stamp s.altered t.altered g.1 h.1 parts.1) (one_stamp s.created t.created g.2 h.2 parts.2)
 
 same_fields : (sort : Sort) (s t : Stamp) (p q : ℕ) (x y : List ℕ) → s ≡ t → p ≡ q → x ≡ y → EntryLine sort s p x ≡ EntryLine sort t q y
 same_fields sort s t p q x y e f g = ap (λ a. EntryLine sort a p x) e ∙ ap (λ a. EntryLine sort t a x) f ∙ ap (λ a. EntryLine sort t q a) g
 
-one_entry : (sort : Sort) (s t : Stamp) (p q : ℕ) (x y : List ℕ) → IsStamp s → IsStamp t → p < 2 ^ 32 → q < 2 ^ 32 → fields_text s p x ≡ fields_text t q y → EntryLine sort s p x ≡ EntryLine sort t q y
+one_entry : (sort : Sort) (s t : Stamp) (p q : ℕ) (x y : List ℕ) → IsStamp s → IsStamp t → p < 2 ^ 32 → q < 2 ^ 32 → fields_text s p x ≡ fields_text t q y
+    → EntryLine sort s p x ≡ EntryLine sort t q y
 one_entry sort s t p q x y hs ht hp hq e =
     let parts = fields_parts (fields_text s p x) (plain_text s) (hex_word p) x t q y (stamp_lacks s hs) (word_lacks p) refl ht e in
     same_fields sort s t p q x y (one_stamp s t hs ht parts.0) (one_word p q hp hq parts.1) parts.2
@@ -55,7 +57,8 @@ one_run a b g h e = sym (unpaired_pairs a g.1) ∙ ap unpaired e ∙ unpaired_pa
 
 one_fill : (n m a b : ℕ) → IsRun (FillRun n a) → IsRun (FillRun m b) → fill_line n a ≡ fill_line m b → FillRun n a ≡ FillRun m b
 one_fill n m a b g h e =
-    let parts = fill_parts (fill_line n a) (decimal n ++ 32 ∷ pair a) (decimal n) (pair a) m b refl refl (space_lacks n (let small = g.1 in omega arith)) h.1 e in
+    let parts = fill_parts (fill_line n a) (decimal n ++ 32 ∷ pair a) (decimal n) (pair a) m b refl refl (space_lacks n (let small = g.1 in omega arith))
+    h.1 e in
     let count : n ≡ m = decimal_injective n m (let small = g.1 in omega arith) (let small = h.1 in omega arith) parts.0 in
     let byte = (one_pair a b [] [] g.2 h.2 parts.1).0 in
     ap (λ x. FillRun x a) count ∙ ap (λ x. FillRun m x) byte
@@ -79,7 +82,8 @@ line_same (EntryLine Dir s p x) (EntryLine Dir t q y) g h e =
 line_same (EntryLine File s p x) (EntryLine File t q y) g h e =
     one_entry File s t p q x y g.0 h.0 g.1 h.1 (append_cancel_left (codes "file ") (fields_text s p x) (fields_text t q y) e)
 line_same (NoteLine a) (NoteLine b) g h e = ap NoteLine (append_cancel_left (codes "note ") a b e)
-line_same (RunLine (DataRun a)) (RunLine (DataRun b)) g h e = ap (λ x. RunLine (DataRun x)) (one_run a b g h (append_cancel_left (codes "data ") (pairs a) (pairs b) e))
+line_same (RunLine (DataRun a)) (RunLine (DataRun b)) g h e =
+    ap (λ x. RunLine (DataRun x)) (one_run a b g h (append_cancel_left (codes "data ") (pairs a) (pairs b) e))
 line_same (RunLine (FillRun n a)) (RunLine (FillRun m b)) g h e = ap RunLine (one_fill n m a b g h e)
 line_same (LabelLine a) (StampsLine t) g h e = differ (key (line_text (LabelLine a))) (key (line_text (StampsLine t))) refl (ap key e)
 line_same (LabelLine a) (EntryLine Dir t q y) g h e = differ (key (line_text (LabelLine a))) (key (line_text (EntryLine Dir t q y))) refl (ap key e)
@@ -95,16 +99,22 @@ line_same (StampsLine s) (RunLine (DataRun b)) g h e = differ (key (line_text (S
 line_same (StampsLine s) (RunLine (FillRun m b)) g h e = differ (key (line_text (StampsLine s))) (key (line_text (RunLine (FillRun m b)))) refl (ap key e)
 line_same (EntryLine Dir s p x) (LabelLine b) g h e = differ (key (line_text (EntryLine Dir s p x))) (key (line_text (LabelLine b))) refl (ap key e)
 line_same (EntryLine Dir s p x) (StampsLine t) g h e = differ (key (line_text (EntryLine Dir s p x))) (key (line_text (StampsLine t))) refl (ap key e)
-line_same (EntryLine Dir s p x) (EntryLine File t q y) g h e = differ (key (line_text (EntryLine Dir s p x))) (key (line_text (EntryLine File t q y))) refl (ap key e)
+line_same (EntryLine Dir s p x) (EntryLine File t q y) g h e =
+    differ (key (line_text (EntryLine Dir s p x))) (key (line_text (EntryLine File t q y))) refl (ap key e)
 line_same (EntryLine Dir s p x) (NoteLine b) g h e = differ (key (line_text (EntryLine Dir s p x))) (key (line_text (NoteLine b))) refl (ap key e)
-line_same (EntryLine Dir s p x) (RunLine (DataRun b)) g h e = differ (key (line_text (EntryLine Dir s p x))) (key (line_text (RunLine (DataRun b)))) refl (ap key e)
-line_same (EntryLine Dir s p x) (RunLine (FillRun m b)) g h e = differ (key (line_text (EntryLine Dir s p x))) (key (line_text (RunLine (FillRun m b)))) refl (ap key e)
+line_same (EntryLine Dir s p x) (RunLine (DataRun b)) g h e =
+    differ (key (line_text (EntryLine Dir s p x))) (key (line_text (RunLine (DataRun b)))) refl (ap key e)
+line_same (EntryLine Dir s p x) (RunLine (FillRun m b)) g h e =
+    differ (key (line_text (EntryLine Dir s p x))) (key (line_text (RunLine (FillRun m b)))) refl (ap key e)
 line_same (EntryLine File s p x) (LabelLine b) g h e = differ (key (line_text (EntryLine File s p x))) (key (line_text (LabelLine b))) refl (ap key e)
 line_same (EntryLine File s p x) (StampsLine t) g h e = differ (key (line_text (EntryLine File s p x))) (key (line_text (StampsLine t))) refl (ap key e)
-line_same (EntryLine File s p x) (EntryLine Dir t q y) g h e = differ (key (line_text (EntryLine File s p x))) (key (line_text (EntryLine Dir t q y))) refl (ap key e)
+line_same (EntryLine File s p x) (EntryLine Dir t q y) g h e =
+    differ (key (line_text (EntryLine File s p x))) (key (line_text (EntryLine Dir t q y))) refl (ap key e)
 line_same (EntryLine File s p x) (NoteLine b) g h e = differ (key (line_text (EntryLine File s p x))) (key (line_text (NoteLine b))) refl (ap key e)
-line_same (EntryLine File s p x) (RunLine (DataRun b)) g h e = differ (key (line_text (EntryLine File s p x))) (key (line_text (RunLine (DataRun b)))) refl (ap key e)
-line_same (EntryLine File s p x) (RunLine (FillRun m b)) g h e = differ (key (line_text (EntryLine File s p x))) (key (line_text (RunLine (FillRun m b)))) refl (ap key e)
+line_same (EntryLine File s p x) (RunLine (DataRun b)) g h e =
+    differ (key (line_text (EntryLine File s p x))) (key (line_text (RunLine (DataRun b)))) refl (ap key e)
+line_same (EntryLine File s p x) (RunLine (FillRun m b)) g h e =
+    differ (key (line_text (EntryLine File s p x))) (key (line_text (RunLine (FillRun m b)))) refl (ap key e)
 line_same (NoteLine a) (LabelLine b) g h e = differ (key (line_text (NoteLine a))) (key (line_text (LabelLine b))) refl (ap key e)
 line_same (NoteLine a) (StampsLine t) g h e = differ (key (line_text (NoteLine a))) (key (line_text (StampsLine t))) refl (ap key e)
 line_same (NoteLine a) (EntryLine Dir t q y) g h e = differ (key (line_text (NoteLine a))) (key (line_text (EntryLine Dir t q y))) refl (ap key e)
@@ -113,13 +123,19 @@ line_same (NoteLine a) (RunLine (DataRun b)) g h e = differ (key (line_text (Not
 line_same (NoteLine a) (RunLine (FillRun m b)) g h e = differ (key (line_text (NoteLine a))) (key (line_text (RunLine (FillRun m b)))) refl (ap key e)
 line_same (RunLine (DataRun a)) (LabelLine b) g h e = differ (key (line_text (RunLine (DataRun a)))) (key (line_text (LabelLine b))) refl (ap key e)
 line_same (RunLine (DataRun a)) (StampsLine t) g h e = differ (key (line_text (RunLine (DataRun a)))) (key (line_text (StampsLine t))) refl (ap key e)
-line_same (RunLine (DataRun a)) (EntryLine Dir t q y) g h e = differ (key (line_text (RunLine (DataRun a)))) (key (line_text (EntryLine Dir t q y))) refl (ap key e)
-line_same (RunLine (DataRun a)) (EntryLine File t q y) g h e = differ (key (line_text (RunLine (DataRun a)))) (key (line_text (EntryLine File t q y))) refl (ap key e)
+line_same (RunLine (DataRun a)) (EntryLine Dir t q y) g h e =
+    differ (key (line_text (RunLine (DataRun a)))) (key (line_text (EntryLine Dir t q y))) refl (ap key e)
+line_same (RunLine (DataRun a)) (EntryLine File t q y) g h e =
+    differ (key (line_text (RunLine (DataRun a)))) (key (line_text (EntryLine File t q y))) refl (ap key e)
 line_same (RunLine (DataRun a)) (NoteLine b) g h e = differ (key (line_text (RunLine (DataRun a)))) (key (line_text (NoteLine b))) refl (ap key e)
-line_same (RunLine (DataRun a)) (RunLine (FillRun m b)) g h e = differ (key (line_text (RunLine (DataRun a)))) (key (line_text (RunLine (FillRun m b)))) refl (ap key e)
+line_same (RunLine (DataRun a)) (RunLine (FillRun m b)) g h e =
+    differ (key (line_text (RunLine (DataRun a)))) (key (line_text (RunLine (FillRun m b)))) refl (ap key e)
 line_same (RunLine (FillRun n a)) (LabelLine b) g h e = differ (key (line_text (RunLine (FillRun n a)))) (key (line_text (LabelLine b))) refl (ap key e)
 line_same (RunLine (FillRun n a)) (StampsLine t) g h e = differ (key (line_text (RunLine (FillRun n a)))) (key (line_text (StampsLine t))) refl (ap key e)
-line_same (RunLine (FillRun n a)) (EntryLine Dir t q y) g h e = differ (key (line_text (RunLine (FillRun n a)))) (key (line_text (EntryLine Dir t q y))) refl (ap key e)
-line_same (RunLine (FillRun n a)) (EntryLine File t q y) g h e = differ (key (line_text (RunLine (FillRun n a)))) (key (line_text (EntryLine File t q y))) refl (ap key e)
+line_same (RunLine (FillRun n a)) (EntryLine Dir t q y) g h e =
+    differ (key (line_text (RunLine (FillRun n a)))) (key (line_text (EntryLine Dir t q y))) refl (ap key e)
+line_same (RunLine (FillRun n a)) (EntryLine File t q y) g h e =
+    differ (key (line_text (RunLine (FillRun n a)))) (key (line_text (EntryLine File t q y))) refl (ap key e)
 line_same (RunLine (FillRun n a)) (NoteLine b) g h e = differ (key (line_text (RunLine (FillRun n a)))) (key (line_text (NoteLine b))) refl (ap key e)
-line_same (RunLine (FillRun n a)) (RunLine (DataRun b)) g h e = differ (key (line_text (RunLine (FillRun n a)))) (key (line_text (RunLine (DataRun b)))) refl (ap key e)
+line_same (RunLine (FillRun n a)) (RunLine (DataRun b)) g h e =
+    differ (key (line_text (RunLine (FillRun n a)))) (key (line_text (RunLine (DataRun b)))) refl (ap key e)

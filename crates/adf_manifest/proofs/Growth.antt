@@ -30,12 +30,14 @@ unfolding HaveRoom
 room_none t = tt
 
 -- entries have room where those before the last and the last have
-pub room_more : (t : Tree) (items : List Item) (i : Item) → HaveRoom t items → IsOk (room_for (items_tree t items).entries i.path) → HaveRoom t (items ++ i ∷ [])
+pub room_more : (t : Tree) (items : List Item) (i : Item) → HaveRoom t items → IsOk (room_for (items_tree t items).entries i.path)
+    → HaveRoom t (items ++ i ∷ [])
 unfolding items_tree HaveRoom
 room_more t [] i h g = (g, tt)
 room_more t (x ∷ xs) i h g = (h.0, room_more (with_item t x) xs i h.1 g)
 
-pub room_less : (t : Tree) (items : List Item) (i : Item) → HaveRoom t (items ++ i ∷ []) → HaveRoom t items × IsOk (room_for (items_tree t items).entries i.path)
+pub room_less : (t : Tree) (items : List Item) (i : Item) → HaveRoom t (items ++ i ∷ [])
+    → HaveRoom t items × IsOk (room_for (items_tree t items).entries i.path)
 unfolding items_tree HaveRoom
 room_less t [] i h = (tt, h.0)
 room_less t (x ∷ xs) i h = let less = room_less (with_item t x) xs i h.1 in ((h.0, less.0), less.1)
@@ -76,16 +78,19 @@ last_split : (h l : List (List ℕ)) (before : List Item) (last last' : Item) (t
     → h ++ flat_map item_lines (before ++ last' ∷ []) ≡ (h ++ flat_map item_lines (before ++ last ∷ [])) ++ text ∷ []
 last_split h l before last last' text e =
     let front = flat_map item_lines before in
-    ap (λ x. h ++ x) (lines_push before last' ∙ ap (λ x. front ++ x) e ∙ sym (append_assoc front (item_lines last) (text ∷ [])) ∙ ap (λ x. x ++ text ∷ []) (sym (lines_push before last)))
+    ap (λ x. h ++ x) (lines_push before last' ∙ ap (λ x. front ++ x) e ∙ sym (append_assoc front (item_lines last) (text ∷ []))
+    ∙ ap (λ x. x ++ text ∷ []) (sym (lines_push before last)))
     ∙ sym (append_assoc h (flat_map item_lines (before ++ last ∷ [])) (text ∷ []))
 
-pub last_lines : (m : Manifest) (e : Entries) (i : Item) (text : List ℕ) → m.entries ≡ Some e → item_lines i ≡ item_lines e.last ++ text ∷ [] → manifest_lines (with_last m e i) ≡ manifest_lines m ++ text ∷ []
+pub last_lines : (m : Manifest) (e : Entries) (i : Item) (text : List ℕ) → m.entries ≡ Some e → item_lines i ≡ item_lines e.last ++ text ∷ []
+    → manifest_lines (with_last m e i) ≡ manifest_lines m ++ text ∷ []
 last_lines m e i text is g =
     last_split (head_lines m.head) [] e.before e.last i text g
     ∙ ap (λ x. (head_lines m.head ++ flat_map item_lines (items_of x)) ++ text ∷ []) (sym is)
 
 -- the entries before the last, and the last
-pub well_before : (m : Manifest) (e : Entries) → IsWell m → m.entries ≡ Some e → All IsItem (e.before ++ e.last ∷ []) × HaveRoom (head_tree m.head) (e.before ++ e.last ∷ [])
+pub well_before : (m : Manifest) (e : Entries) → IsWell m → m.entries ≡ Some e
+    → All IsItem (e.before ++ e.last ∷ []) × HaveRoom (head_tree m.head) (e.before ++ e.last ∷ [])
 well_before m e w is = (subst (λ x. All IsItem (items_of x)) is w.items, subst (λ x. HaveRoom (head_tree m.head) (items_of x)) is w.room)
 
 bare_lines : (text : Option (List ℕ)) (runs : List RunValue) → text ≡ None → runs ≡ [] → note_lines text ++ map run_line runs ≡ []
@@ -141,7 +146,8 @@ last_well m e i w is g same =
     record {
       head = w.head;
       items = All-push IsItem e.before i (All-front e.before e.last both.0) g;
-      room = room_more (head_tree m.head) e.before i less.0 (subst (λ p. IsOk (room_for (items_tree (head_tree m.head) e.before).entries p)) (sym same) less.1);
+      room = room_more (head_tree m.head) e.before i less.0 (subst (λ p. IsOk (room_for (items_tree (head_tree m.head) e.before).entries p)) (sym same)
+          less.1);
     }
 
 pub last_is : (m : Manifest) (e : Entries) → IsWell m → m.entries ≡ Some e → IsItem e.last

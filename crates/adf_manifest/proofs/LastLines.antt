@@ -29,10 +29,14 @@ with_stamps h stamps = record h { stamps = Some stamps }
 
 -- a line stands behind those of a manifest without a fault, and this is told with it
 abbrev pub Adds : Manifest → LineValue → Manifest → Type 0
-Adds m (LabelLine text) n = (m.entries ≡ None) × (m.head.label ≡ None) × (m.head.stamps ≡ None) × ((label : List ℕ) × IsSpelling 30 text label × (n ≡ bare (with_label m.head label)))
+Adds m (LabelLine text) n =
+    (m.entries ≡ None) × (m.head.label ≡ None) × (m.head.stamps ≡ None) × ((label : List ℕ) × IsSpelling 30 text label × (n ≡ bare (with_label m.head label)))
 Adds m (StampsLine stamps) n = (m.entries ≡ None) × (m.head.stamps ≡ None) × (n ≡ bare (with_stamps m.head stamps))
-Adds m (EntryLine sort stamp protect text) n = (path : List (List ℕ)) × IsPathText text path × IsOk (room_for (manifest_tree m).entries path) × (n ≡ with_new m (new_item sort stamp protect path))
-Adds m (NoteLine text) n = (e : Entries) × (m.entries ≡ Some e) × (e.last.note ≡ None) × (e.last.runs ≡ []) × ((note : List ℕ) × IsSpelling 79 text note × (n ≡ with_last m e (noted e.last note)))
+Adds m (EntryLine sort stamp protect text) n =
+    (path : List (List ℕ)) × IsPathText text path × IsOk (room_for (manifest_tree m).entries path) × (n ≡ with_new m (new_item sort stamp protect path))
+Adds m (NoteLine text) n =
+    (e : Entries) × (m.entries ≡ Some e) × (e.last.note ≡ None) × (e.last.runs ≡ [])
+    × ((note : List ℕ) × IsSpelling 79 text note × (n ≡ with_last m e (noted e.last note)))
 Adds m (RunLine run) n = (e : Entries) × (m.entries ≡ Some e) × (e.last.sort ≡ File) × (n ≡ with_last m e (given e.last run))
 
 -- a manifest of one line, or of a manifest's lines and one more
@@ -66,7 +70,8 @@ stamps_behind h stamps e =
     ap (λ l. top ∷ (l ++ mine)) (sym (append-nil (label_lines h.label)))
     ∙ ap (λ x. (top ∷ (label_lines h.label ++ stamps_lines x)) ++ mine) (sym e)
 
-pub last_of_head : (kind : Kind) (blocks : ℕ) (label : Option (List ℕ)) (stamps : Option Stamps) → let h : Head = record { kind = kind; blocks = blocks; label = label; stamps = stamps } in IsHead h → IsFirst (bare h) ⊎ IsNext (bare h)
+pub last_of_head : (kind : Kind) (blocks : ℕ) (label : Option (List ℕ)) (stamps : Option Stamps) → let h : Head =
+    record { kind = kind; blocks = blocks; label = label; stamps = stamps } in IsHead h → IsFirst (bare h) ⊎ IsNext (bare h)
 last_of_head kind blocks None None g = inl (refl, refl, refl)
 last_of_head kind blocks (Some label) None g =
     let before : Head = record { kind = kind; blocks = blocks; label = None; stamps = None } in
@@ -76,7 +81,15 @@ last_of_head kind blocks label (Some stamps) g =
     let before : Head = record { kind = kind; blocks = blocks; label = label; stamps = None } in
     let now : Head = record { kind = kind; blocks = blocks; label = label; stamps = Some stamps } in
     let well : IsHead before = record { size = g.size; label = g.label; stamps = tt } in
-    inr (bare before, StampsLine stamps, bare_well before well, g.stamps, (refl, refl, refl), bare_lines now ∙ stamps_behind before stamps refl ∙ ap (λ l. l ++ stamps_line stamps ∷ []) (sym (bare_lines before)))
+    inr (
+      bare before,
+      StampsLine stamps,
+      bare_well before well,
+      g.stamps,
+      (refl, refl, refl),
+      bare_lines now ∙ stamps_behind before stamps refl
+          ∙ ap (λ l. l ++ stamps_line stamps ∷ []) (sym (bare_lines before)),
+    )
 
 sorts : (s : Sort) → (s ≡ File) ⊎ (s ≡ Dir)
 sorts File = inl refl
@@ -108,10 +121,22 @@ not_dir i run runs g e =
     ]
 
 -- the same entry with the lines of its bytes but the last
-less_is : (i : Item) (run : RunValue) (runs : List RunValue) → IsItem i → i.runs ≡ runs ++ run ∷ [] → i.sort ≡ File → let j : Item = record i { runs = runs } in IsItem j × IsRun run
+less_is : (i : Item) (run : RunValue) (runs : List RunValue) → IsItem i → i.runs ≡ runs ++ run ∷ [] → i.sort ≡ File → let j : Item =
+    record i { runs = runs } in IsItem j × IsRun run
 less_is i run runs g e f =
-    let all : All IsRun (runs ++ run ∷ []) = subst (All IsRun) e g.runs in
-    (record { stamp = g.stamp; protect = g.protect; filled = g.filled; names = g.names; note = g.note; runs = Runs-front runs run all; plain = λ d. absurd (file_dir i.sort f d) }, Runs-last runs run all)
+    let all : All IsRun (runs ++ run ∷ []) = subst (All IsRun) e g.runs in (
+      record {
+        stamp = g.stamp;
+        protect = g.protect;
+        filled = g.filled;
+        names = g.names;
+        note = g.note;
+        runs = Runs-front runs run all;
+        plain =
+            λ d. absurd (file_dir i.sort f d);
+      },
+      Runs-last runs run all,
+    )
 
 -- the last line of a manifest with entries
 last_run : (m : Manifest) (e : Entries) (runs : List RunValue) (run : RunValue) → IsWell m → m.entries ≡ Some e → e.last.runs ≡ runs ++ run ∷ [] → IsNext m
@@ -129,8 +154,16 @@ last_run m e runs run w is r =
       items = All-push IsItem e.before i (All-front e.before e.last both.0) less.0;
       room = room_more (head_tree m.head) e.before i room.0 room.1;
     } in
-    let same : m ≡ with_last k before (given i run) = let by : List RunValue → Manifest = λ rs. with_last m e (record e.last { runs = rs }) in entries_same m e is ∙ ap by r in
-    (k, RunLine run, well, less.1, (before, refl, file, same), ap manifest_lines same ∙ last_lines k before (given i run) (run_line run) refl (given_lines i run))
+    let same : m ≡ with_last k before (given i run) = let by : List RunValue → Manifest =
+    λ rs. with_last m e (record e.last { runs = rs }) in entries_same m e is ∙ ap by r in (
+      k,
+      RunLine run,
+      well,
+      less.1,
+      (before, refl, file, same),
+      ap manifest_lines same
+          ∙ last_lines k before (given i run) (run_line run) refl (given_lines i run),
+    )
 
 given_note : (o : Option (List ℕ)) (note : List ℕ) → o ≡ Some note → IfSome o IsGivenNote → IsGivenNote note
 given_note None note e g = absurd cc
@@ -142,7 +175,16 @@ last_note m e note w is r n =
     let item : IsItem e.last = All-last e.before e.last both.0 in
     let mine : IsGivenNote note = given_note e.last.note note n item.note in
     let i : Item = record e.last { note = None } in
-    let good : IsItem i = record { stamp = item.stamp; protect = item.protect; filled = item.filled; names = item.names; note = tt; runs = item.runs; plain = item.plain } in
+    let good : IsItem i = record {
+      stamp = item.stamp;
+      protect = item.protect;
+      filled = item.filled;
+      names = item.names;
+      note = tt;
+      runs =
+          item.runs;
+      plain = item.plain;
+    } in
     let before : Entries = record { before = e.before; last = i } in
     let k : Manifest = record { head = m.head; entries = Some before } in
     let room = room_less (head_tree m.head) e.before e.last both.1 in
@@ -151,13 +193,22 @@ last_note m e note w is r n =
       items = All-push IsItem e.before i (All-front e.before e.last both.0) good;
       room = room_more (head_tree m.head) e.before i room.0 room.1;
     } in
-    let same : m ≡ with_last k before (noted i note) = let by : Option (List ℕ) → Manifest = λ o. with_last m e (record e.last { note = o }) in entries_same m e is ∙ ap by n in
-    (k, NoteLine (escaped note), well, filled note mine.0, (before, refl, refl, r, (note, mine.1, same)), ap manifest_lines same ∙ last_lines k before (noted i note) (note_line (escaped note)) refl (noted_lines i note refl r))
+    let same : m ≡ with_last k before (noted i note) = let by : Option (List ℕ) → Manifest =
+    λ o. with_last m e (record e.last { note = o }) in entries_same m e is ∙ ap by n in (
+      k,
+      NoteLine (escaped note),
+      well,
+      filled note mine.0,
+      (before, refl, refl, r, (note, mine.1, same)),
+      ap manifest_lines same
+          ∙ last_lines k before (noted i note) (note_line (escaped note)) refl (noted_lines i note refl r),
+    )
 
 path_some : (path : List (List ℕ)) → 0 < length path → All IsName path → 0 < length (path_text path)
 path_some path h g = filled_list (path_text path) (λ e. omega (arith, h, ap length (empty_path path g e)))
 
-last_entry : (m : Manifest) (e : Entries) (es : Option Entries) → e.before ≡ items_of es → IsWell m → m.entries ≡ Some e → e.last.runs ≡ [] → e.last.note ≡ None → IsNext m
+last_entry : (m : Manifest) (e : Entries) (es : Option Entries) → e.before ≡ items_of es → IsWell m → m.entries ≡ Some e → e.last.runs ≡ []
+    → e.last.note ≡ None → IsNext m
 last_entry m e es b w is r n =
     let both = well_before m e w is in
     let item : IsItem e.last = All-last e.before e.last both.0 in
@@ -172,12 +223,25 @@ last_entry m e es b w is r n =
     let path : List (List ℕ) = e.last.path in
     let i : Item = new_item e.last.sort e.last.stamp e.last.protect path in
     let by_before : List Item → Manifest = λ xs. record { head = m.head; entries = Some (record { before = xs; last = e.last }) } in
-    let by_note : Option (List ℕ) → Manifest = λ o. record { head = m.head; entries = Some (record { before = items_of es; last = record e.last { note = o } }) } in
-    let by_runs : List RunValue → Manifest = λ rs. record { head = m.head; entries = Some (record { before = items_of es; last = record e.last { note = None; runs = rs } }) } in
+    let by_note : Option (List ℕ) → Manifest =
+    λ o. record { head = m.head; entries = Some (record { before = items_of es; last = record e.last { note = o } }) } in
+    let by_runs : List RunValue → Manifest =
+    λ rs. record { head = m.head; entries = Some (record { before = items_of es; last = record e.last { note = None; runs = rs } }) } in
     let same : m ≡ with_new k i = entries_same m e is ∙ ap by_before b ∙ ap by_note n ∙ ap by_runs r in
     let place : IsOk (room_for (manifest_tree k).entries path) = subst (λ xs. IsOk (room_for (items_tree t xs).entries path)) b room.1 in
-    let text : IsPathText (path_text path) path = record { spells = refl; names = item.names } in
-    (k, EntryLine e.last.sort e.last.stamp e.last.protect (path_text path), well, (item.stamp, item.protect, path_some path item.filled item.names), (path, text, place, same), ap manifest_lines same ∙ new_lines k i)
+    let text : IsPathText (path_text path) path = record { spells = refl; names = item.names } in (
+      k,
+      EntryLine e.last.sort e.last.stamp e.last.protect (path_text path),
+      well,
+      (
+        item.stamp,
+        item.protect,
+        path_some path item.filled
+            item.names,
+      ),
+      (path, text, place, same),
+      ap manifest_lines same ∙ new_lines k i,
+    )
 
 bare_entry : (m : Manifest) (e : Entries) (note : Option (List ℕ)) → IsWell m → m.entries ≡ Some e → e.last.runs ≡ [] → e.last.note ≡ note → IsNext m
 bare_entry m e (Some note) w is r n = last_note m e note w is r n

@@ -49,7 +49,8 @@ not_cut c t a b h e =
     absurd cc
 
 -- nor at two of the byte
-pub one_cut_twice : (c : ℕ) (x y z a b d : List ℕ) → Lacks c x → Lacks c y → Lacks c a → Lacks c b → x ++ c ∷ (y ++ c ∷ z) ≡ a ++ c ∷ (b ++ c ∷ d) → (x ≡ a) × (y ≡ b) × (z ≡ d)
+pub one_cut_twice : (c : ℕ) (x y z a b d : List ℕ) → Lacks c x → Lacks c y → Lacks c a → Lacks c b → x ++ c ∷ (y ++ c ∷ z) ≡ a ++ c ∷ (b ++ c ∷ d)
+    → (x ≡ a) × (y ≡ b) × (z ≡ d)
 one_cut_twice c x y z a b d hx hy ha hb e =
     let first = one_cut c x (y ++ c ∷ z) a (b ++ c ∷ d) hx ha e in
     let second = one_cut c y z b d hy hb first.1 in
@@ -74,14 +75,17 @@ stamp_lacks s h =
     (All-cons P 58 _ refl (All-append P (decimal s.mins) _ (space_lacks s.mins h.1) (All-cons P 58 _ refl (space_lacks s.ticks h.2))))
 
 -- the parts of a stamp
-pub stamp_parts : (text x y z : List ℕ) (s : Stamp) → Lacks 58 x → Lacks 58 y → text ≡ x ++ 58 ∷ (y ++ 58 ∷ z) → IsStamp s → text ≡ plain_text s → (x ≡ decimal s.days) × (y ≡ decimal s.mins) × (z ≡ decimal s.ticks)
+pub stamp_parts : (text x y z : List ℕ) (s : Stamp) → Lacks 58 x → Lacks 58 y → text ≡ x ++ 58 ∷ (y ++ 58 ∷ z) → IsStamp s → text ≡ plain_text s
+    → (x ≡ decimal s.days) × (y ≡ decimal s.mins) × (z ≡ decimal s.ticks)
 stamp_parts text x y z s hx hy e h g =
     one_cut_twice 58 x y z (decimal s.days) (decimal s.mins) (decimal s.ticks) hx hy (colon_lacks s.days h.0) (colon_lacks s.mins h.1) (sym e ∙ g)
 
 -- the parts of three stamps
-pub stamps_parts : (text x y z : List ℕ) (s : Stamps) → Lacks 32 x → Lacks 32 y → text ≡ x ++ 32 ∷ (y ++ 32 ∷ z) → AreStamps s → text ≡ stamps_text s → (x ≡ plain_text s.root) × (y ≡ plain_text s.altered) × (z ≡ plain_text s.created)
+pub stamps_parts : (text x y z : List ℕ) (s : Stamps) → Lacks 32 x → Lacks 32 y → text ≡ x ++ 32 ∷ (y ++ 32 ∷ z) → AreStamps s → text ≡ stamps_text s
+    → (x ≡ plain_text s.root) × (y ≡ plain_text s.altered) × (z ≡ plain_text s.created)
 stamps_parts text x y z s hx hy e h g =
-    one_cut_twice 32 x y z (plain_text s.root) (plain_text s.altered) (plain_text s.created) hx hy (stamp_lacks s.root h.0) (stamp_lacks s.altered h.1) (sym e ∙ g)
+    one_cut_twice 32 x y z (plain_text s.root) (plain_text s.altered) (plain_text s.created) hx hy (stamp_lacks s.root h.0) (stamp_lacks s.altered h.1)
+    (sym e ∙ g)
 
 own : IsNumeralModel (AllDigits 10) (digits_value 10)
 own = numerals_by_value (AllDigits 10) tells_digits
@@ -109,7 +113,8 @@ decimal_front n h =
     ])
 
 -- what parse reads of a text with the front of a number
-pub number_is : {E : Type 0} (text : List ℕ) (n : ℕ) (r : Result ℕ E) → has_number_front text ≡ true → ParsesUnsigned 32 10 text r → r ≡ Ok n → text ≡ decimal n
+pub number_is : {E : Type 0} (text : List ℕ) (n : ℕ) (r : Result ℕ E) → has_number_front text ≡ true → ParsesUnsigned 32 10 text r → r ≡ Ok n
+    → text ≡ decimal n
 number_is text n r front h e =
     let told = front_told (length text) (slice_index text 0) front in
     let plain = parse_plain own 32 text r h told.1 in
@@ -130,7 +135,8 @@ number_read text n r h lt e = parse-decimal 32 n text r lt (omega arith) e h
 
 -- what a prefix that was taken off, or not found, says of a text
 pub prefix_some : {T : Type 0} (L : T → Type 0) (text prefix : List ℕ) (f : T → List ℕ) (o : Option T)
-    → MatchOption o (pointwise nat_eq (take (length prefix) text) prefix ≡ false) (λ x. (pointwise nat_eq (take (length prefix) text) prefix ≡ true) × (f x ≡ drop (length prefix) text) × L x)
+    → MatchOption o (pointwise nat_eq (take (length prefix) text) prefix ≡ false)
+    (λ x. (pointwise nat_eq (take (length prefix) text) prefix ≡ true) × (f x ≡ drop (length prefix) text) × L x)
     → IfSome o (λ x. text ≡ prefix ++ f x)
 prefix_some L text prefix f None h = tt
 prefix_some L text prefix f (Some x) h =
@@ -138,7 +144,8 @@ prefix_some L text prefix f (Some x) h =
     sym (take-append-drop n text) ∙ ap (λ l. l ++ drop n text) (same_text _ _ (sym h.0)) ∙ ap (λ l. prefix ++ l) (sym h.1)
 
 pub prefix_none : {T : Type 0} (L : T → Type 0) (text prefix : List ℕ) (f : T → List ℕ) (o : Option T)
-    → MatchOption o (pointwise nat_eq (take (length prefix) text) prefix ≡ false) (λ x. (pointwise nat_eq (take (length prefix) text) prefix ≡ true) × (f x ≡ drop (length prefix) text) × L x)
+    → MatchOption o (pointwise nat_eq (take (length prefix) text) prefix ≡ false)
+    (λ x. (pointwise nat_eq (take (length prefix) text) prefix ≡ true) × (f x ≡ drop (length prefix) text) × L x)
     → IfNone o ((rest : List ℕ) → text ≢ prefix ++ rest)
 prefix_none L text prefix f None h = λ rest e. other_text _ _ (sym h) (ap (take (length prefix)) e ∙ take_at prefix rest (length prefix) refl)
 prefix_none L text prefix f (Some x) h = tt

@@ -67,12 +67,22 @@ no_runs (r ∷ rs) h e = absurd (omega (arith, run_some r (All-head IsRun r rs h
 -- behind an entry line
 pub entry_step : (m : Manifest) (blocks : ℕ) (tree : Tree) (last : Open) (sort : Sort) (stamp : Stamp) (protect : ℕ) (text : List ℕ)
     → IsWell m → blocks ≡ m.head.blocks → tree ≡ manifest_tree m → IsLine (EntryLine sort stamp protect text)
-    → IsPathText text last.path.items → IsOk (room_for tree.entries last.path.items) → last.sort ≡ sort → last.stamp ≡ stamp → last.protect ≡ protect → last.note ≡ None → last.bytes.items ≡ []
+    → IsPathText text last.path.items → IsOk (room_for tree.entries last.path.items) → last.sort ≡ sort → last.stamp ≡ stamp → last.protect ≡ protect
+    → last.note ≡ None → last.bytes.items ≡ []
     → GoesOn (state.Entries (record { blocks = blocks; tree = tree; last = last })) m (entry_line sort stamp protect text)
 entry_step m blocks tree last sort stamp protect text w b t l p room e1 e2 e3 e4 e5 =
     let path : List (List ℕ) = last.path.items in
     let item = new_item sort stamp protect path in
-    let is : IsItem item = record { stamp = l.0; protect = l.1; filled = path_filled text path l.2 p; names = p.names; note = tt; runs = All-nil IsRun; plain = λ d. refl } in
+    let is : IsItem item = record {
+      stamp = l.0;
+      protect = l.1;
+      filled = path_filled text path l.2 p;
+      names = p.names;
+      note = tt;
+      runs =
+          All-nil IsRun;
+      plain = λ d. refl;
+    } in
     let same : IsOpen last item = record { sort = e1; stamp = e2; protect = e3; path = refl; note = e4; bytes = e5 } in
     let entries : Entries = record { before = items_of m.entries; last = item } in (
       with_new m item,
@@ -82,12 +92,15 @@ entry_step m blocks tree last sort stamp protect text w b t l p room e1 e2 e3 e4
     )
 
 reading_with : (r : Reading) (last : Open) (m : Manifest) (e : Entries) (i : Item) → IsReading r m e → IsOpen last i
-    → let n : Manifest = with_last m e i in let s : Entries = record { before = e.before; last = i } in let q : Reading = record { blocks = r.blocks; tree = r.tree; last = last } in IsReading q n s
+    → let n : Manifest = with_last m e i in let s : Entries = record { before = e.before; last = i } in let q : Reading =
+    record { blocks = r.blocks; tree = r.tree; last = last } in IsReading q n s
 reading_with r last m e i g o = record { entries = refl; blocks = g.blocks; tree = g.tree; last = o }
 
 -- behind a note line
-pub note_step : (r : Reading) (last : Open) (m : Manifest) (e : Entries) (text note : List ℕ) → IsWell m → IsReading r m e → r.last.note ≡ None → length r.last.bytes.items ≡ 0
-    → 0 < length text → IsSpelling 79 text note → IsOpen last (noted e.last note) → GoesOn (state.Entries (record { blocks = r.blocks; tree = r.tree; last = last })) m (note_line text)
+pub note_step : (r : Reading) (last : Open) (m : Manifest) (e : Entries) (text note : List ℕ) → IsWell m → IsReading r m e → r.last.note ≡ None
+    → length r.last.bytes.items ≡ 0
+    → 0 < length text → IsSpelling 79 text note → IsOpen last (noted e.last note)
+    → GoesOn (state.Entries (record { blocks = r.blocks; tree = r.tree; last = last })) m (note_line text)
 note_step r last m e text note w g n b filled spelling o =
     let is = last_is m e w g.entries in
     let runs = no_runs e.last.runs is.runs (ap length (sym g.last.bytes) ∙ b) in
@@ -97,11 +110,13 @@ note_step r last m e text note w g n b filled spelling o =
       with_last m e item,
       last_well m e item w g.entries (noted_is e.last note is (filled_list note some, mine)) refl,
       (record { before = e.before; last = item }, reading_with r last m e item g o),
-      last_lines m e item (note_line (escaped note)) g.entries (noted_lines e.last note (sym g.last.note ∙ n) runs) ∙ ap (λ t. manifest_lines m ++ note_line t ∷ []) (sym spelling.spells),
+      last_lines m e item (note_line (escaped note)) g.entries (noted_lines e.last note (sym g.last.note ∙ n) runs)
+          ∙ ap (λ t. manifest_lines m ++ note_line t ∷ []) (sym spelling.spells),
     )
 
 -- behind a line of bytes
-pub run_step : (r : Reading) (last : Open) (m : Manifest) (e : Entries) (run : RunValue) → IsWell m → IsReading r m e → r.last.sort ≡ File → IsRun run → IsOpen last (given e.last run)
+pub run_step : (r : Reading) (last : Open) (m : Manifest) (e : Entries) (run : RunValue) → IsWell m → IsReading r m e → r.last.sort ≡ File → IsRun run
+    → IsOpen last (given e.last run)
     → GoesOn (state.Entries (record { blocks = r.blocks; tree = r.tree; last = last })) m (run_line run)
 run_step r last m e run w g f h o =
     let item = given e.last run in (
@@ -114,7 +129,8 @@ run_step r last m e run w g f h o =
 -- the tree with the last entry
 pub closed_tree : (r : Reading) (m : Manifest) (e : Entries) (tree : Tree) → IsReading r m e → tree ≡ with_item r.tree e.last → tree ≡ manifest_tree m
 closed_tree r m e tree g h =
-    h ∙ ap (λ t. with_item t e.last) g.tree ∙ sym (tree_more (head_tree m.head) e.before e.last) ∙ ap (λ x. items_tree (head_tree m.head) (items_of x)) (sym g.entries)
+    h ∙ ap (λ t. with_item t e.last) g.tree ∙ sym (tree_more (head_tree m.head) e.before e.last)
+    ∙ ap (λ x. items_tree (head_tree m.head) (items_of x)) (sym g.entries)
 
 pub bare_tree : (h : Head) (tree : Tree) → tree ≡ head_tree h → tree ≡ manifest_tree (bare h)
 bare_tree h tree e = e ∙ sym (tree_none (head_tree h))
@@ -135,7 +151,8 @@ is_none None h = refl
 is_none (Some x) h = absurd cc
 
 -- an entry whose lines are all read is added as its item
-pub closed_is : (t : Tree) (o : Open) (i : Item) (path : List (List ℕ)) (comment : List ℕ) (body : Body) → IsOpen o i → path ≡ o.path.items → comment ≡ unwrap_or o.note [] → body ≡ body_of o.sort o.bytes.items
+pub closed_is : (t : Tree) (o : Open) (i : Item) (path : List (List ℕ)) (comment : List ℕ) (body : Body) → IsOpen o i → path ≡ o.path.items
+    → comment ≡ unwrap_or o.note [] → body ≡ body_of o.sort o.bytes.items
     → let meta : Meta = record { comment = comment; protect = o.protect; stamp = o.stamp } in with_entry t path meta body ≡ with_item t i
 closed_is t o i path comment body g e1 e2 e3 =
     let added : List (List ℕ) → List ℕ → ℕ → Stamp → Body → Tree = λ p c k s b. with_entry t p (record { comment = c; protect = k; stamp = s }) b in
@@ -148,7 +165,8 @@ closed_is t o i path comment body g e1 e2 e3 =
     ∙ ap (λ s. added i.path (unwrap_or i.note []) i.protect s body) g.stamp
     ∙ ap (λ b. added i.path (unwrap_or i.note []) i.protect i.stamp b) is_body
 
-pub stopped : {T : Type 0} (r : Result T ManifestKind) (m : Manifest) (line : LineValue) (tree : Tree) → tree ≡ manifest_tree m → MayStand m line → IfErr r (λ k. StopsIn tree line k) → IfErr r (λ k. Stops m line k)
+pub stopped : {T : Type 0} (r : Result T ManifestKind) (m : Manifest) (line : LineValue) (tree : Tree) → tree ≡ manifest_tree m → MayStand m line
+    → IfErr r (λ k. StopsIn tree line k) → IfErr r (λ k. Stops m line k)
 stopped (Ok x) m line tree e may f = tt
 stopped (Err k) m line tree e may f = stops m line k may (subst (λ t. StopsIn t line k) e f)
 
@@ -166,13 +184,15 @@ abbrev pub EntriesFault : Reading → Result (Unit {0}) ManifestKind → Line �
 EntriesFault q r l = (m : Manifest) (e : Entries) → IsWell m → IsReading q m e → IfErr r (λ k. Stops m (line_value l) k)
 
 -- the same of the text of the line
-pub goes_at : (r : Result State ManifestKind) (m : Manifest) (text : List ℕ) (line : LineValue) → text ≡ line_text line → IfOk r (λ s. GoesOn s m (line_text line)) → IfOk r (λ s. GoesOn s m text)
+pub goes_at : (r : Result State ManifestKind) (m : Manifest) (text : List ℕ) (line : LineValue) → text ≡ line_text line
+    → IfOk r (λ s. GoesOn s m (line_text line)) → IfOk r (λ s. GoesOn s m text)
 goes_at r m text line e h = subst (λ t. IfOk r (λ s. GoesOn s m t)) (sym e) h
 
 one_form : (m : Manifest) (text : List ℕ) (line : LineValue) → IsLine line → text ≡ line_text line → (¬ MayStand m line) → ¬ MayFollow m text
 one_form m text line is e not h = not (subst (MayStand m) (line_same h.0 line h.1 is (sym h.3 ∙ e)) h.2)
 
-stops_text : (m : Manifest) (text : List ℕ) (line : LineValue) (kind : ManifestKind) → IsLine line → text ≡ line_text line → Stops m line kind → StopsAt m text kind
+stops_text : (m : Manifest) (text : List ℕ) (line : LineValue) (kind : ManifestKind) → IsLine line → text ≡ line_text line → Stops m line kind
+    → StopsAt m text kind
 stops_text m text line BadLine is e h = one_form m text line is e h
 stops_text m text line BadSize is e h = h.1
 stops_text m text line BadText is e h = (line, is, h.0, e, h.1)
@@ -182,12 +202,14 @@ stops_text m text line Exists is e h = (line, is, h.0, e, h.1)
 stops_text m text line NoMemory is e h = tt
 stops_text m text line TooLong is e h = h.1
 
-pub stops_at : (r : Result State ManifestKind) (m : Manifest) (text : List ℕ) (line : LineValue) → IsLine line → text ≡ line_text line → IfErr r (λ k. Stops m line k) → IfErr r (λ k. StopsAt m text k)
+pub stops_at : (r : Result State ManifestKind) (m : Manifest) (text : List ℕ) (line : LineValue) → IsLine line → text ≡ line_text line
+    → IfErr r (λ k. Stops m line k) → IfErr r (λ k. StopsAt m text k)
 stops_at (Ok x) m text line is e h = tt
 stops_at (Err k) m text line is e h = stops_text m text line k is e h
 
 -- a fault is told in the manifest's words
-pub told : (kind : ManifestKind) (number : ℕ) (bytes : List ℕ) → length bytes ≤ most_bytes → ExplainsLines kind number (lines bytes) → ExplainsKind kind number bytes
+pub told : (kind : ManifestKind) (number : ℕ) (bytes : List ℕ) → length bytes ≤ most_bytes → ExplainsLines kind number (lines bytes)
+    → ExplainsKind kind number bytes
 told BadLine number bytes h f = (h, f)
 told BadSize number bytes h f = (h, f)
 told BadText number bytes h f = (h, f)

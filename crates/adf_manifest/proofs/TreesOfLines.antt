@@ -15,7 +15,8 @@ bare_tree t [] = refl
 bare_tree t (i ∷ items) = bare_tree (with_item t i) items
 
 -- the tree of additions, with one entry after another
-grown_by : (t : Tree) (before : List Addition) (items : List Item) → IsTreeOf t.entries before → HaveRoom t items → IsTreeOf (items_tree t items).entries (before ++ map addition_of items)
+grown_by : (t : Tree) (before : List Addition) (items : List Item) → IsTreeOf t.entries before → HaveRoom t items
+    → IsTreeOf (items_tree t items).entries (before ++ map addition_of items)
 unfolding items_tree HaveRoom
 grown_by t before [] h room = subst (λ (xs : List Addition). IsTreeOf t.entries xs) (sym (append-nil before)) h
 grown_by t before (i ∷ items) h room =

@@ -89,7 +89,8 @@ first_lines n f =
 
 first_is : (n : Manifest) → IsFirst n → let h : Head = record { kind = n.head.kind; blocks = n.head.blocks; label = None; stamps = None } in n ≡ bare h
 first_is n f =
-    let by : Option (List ℕ) → Option Stamps → Option Entries → Manifest = λ l s e. record { head = record { kind = n.head.kind; blocks = n.head.blocks; label = l; stamps = s }; entries = e } in
+    let by : Option (List ℕ) → Option Stamps → Option Entries → Manifest =
+    λ l s e. record { head = record { kind = n.head.kind; blocks = n.head.blocks; label = l; stamps = s }; entries = e } in
     ap (λ e. by n.head.label n.head.stamps e) f.0 ∙ ap (λ l. by l n.head.stamps None) f.1 ∙ ap (λ s. by None s None) f.2
 
 same_first : (m n : Manifest) → IsWell m → IsWell n → IsFirst m → IsFirst n → manifest_lines m ≡ manifest_lines n → m ≡ n
@@ -97,7 +98,8 @@ same_first m n w v f g e =
     let line = heads _ _ _ _ (sym (first_lines m f) ∙ e ∙ first_lines n g) in
     let by : Kind → ℕ → Manifest = λ k b. bare (record { kind = k; blocks = b; label = None; stamps = None }) in
     first_is m f ∙ ap (λ k. by k m.head.blocks) (one_kind m.head.kind n.head.kind m.head.blocks n.head.blocks line)
-    ∙ ap (λ b. by n.head.kind b) (one_number m.head.kind n.head.kind m.head.blocks n.head.blocks (small m.head.blocks w.head.size) (small n.head.blocks v.head.size) line) ∙ sym (first_is n g)
+    ∙ ap (λ b. by n.head.kind b) (one_number m.head.kind n.head.kind m.head.blocks n.head.blocks (small m.head.blocks w.head.size)
+    (small n.head.blocks v.head.size) line) ∙ sym (first_is n g)
 
 pub some_lines : (m : Manifest) → 0 < length (manifest_lines m)
 some_lines m = omega arith
@@ -121,7 +123,8 @@ same_told (suc f) m n small_f w v e =
             | inl q ↦ absurd (longer n m q p (sym e))
             | inr q ↦
                 let both = one_last (manifest_lines p.0) (manifest_lines q.0) (line_text p.1) (line_text q.1) (sym p.5 ∙ e ∙ q.5) in
-                let before = same_told f p.0 q.0 (omega (arith, small_f, ap length p.5, length-append (manifest_lines p.0) (line_text p.1 ∷ []))) p.2 q.2 both.0 in
+                let before = same_told f p.0 q.0 (omega (arith, small_f, ap length p.5, length-append (manifest_lines p.0) (line_text p.1 ∷ []))) p.2 q.2
+                both.0 in
                 let line = line_same p.1 q.1 p.3 q.3 both.1 in
                 let moved : Adds q.0 q.1 m = subst (λ (k : Manifest). Adds k q.1 m) before (subst (λ (l : LineValue). Adds p.0 l m) line p.4) in
                 one_adds q.0 m n q.1 moved q.4

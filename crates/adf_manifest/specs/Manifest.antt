@@ -112,7 +112,8 @@ pub record IsTreeOfManifest (tree : Tree) (m : Manifest) : Type 0 where
 
 -- the bytes are a manifest of this tree and this number of blocks
 abbrev pub IsManifest : List ℕ → Tree → ℕ → Type 0
-IsManifest bytes tree n = (length bytes ≤ most_bytes) × ((m : Manifest) × IsWell m × (lines bytes ≡ manifest_lines m) × IsTreeOfManifest tree m × (n ≡ m.head.blocks))
+IsManifest bytes tree n =
+    (length bytes ≤ most_bytes) × ((m : Manifest) × IsWell m × (lines bytes ≡ manifest_lines m) × IsTreeOfManifest tree m × (n ≡ m.head.blocks))
 
 -- the last entry has neither a note nor bytes; it is a file
 abbrev pub IsBare : Option Entries → Type 0
@@ -184,7 +185,8 @@ IsLaterFault m text _ = ⊥
 abbrev pub HasFault : List (List ℕ) → ℕ → ManifestKind → Type 0
 HasFault all number kind =
     ((text : List ℕ) × (rest : List (List ℕ)) × (all ≡ text ∷ rest) × (number ≡ 1) × IsFirstFault text kind)
-    ⊎ ((m : Manifest) × (text : List ℕ) × (rest : List (List ℕ)) × IsWell m × (all ≡ manifest_lines m ++ text ∷ rest) × (number ≡ length (manifest_lines m) + 1) × IsLaterFault m text kind)
+    ⊎ ((m : Manifest) × (text : List ℕ) × (rest : List (List ℕ)) × IsWell m × (all ≡ manifest_lines m ++ text ∷ rest)
+    × (number ≡ length (manifest_lines m) + 1) × IsLaterFault m text kind)
 
 -- what a fault says of the bytes
 abbrev pub ExplainsKind : ManifestKind → ℕ → List ℕ → Type 0
@@ -209,4 +211,5 @@ ManifestsAreFaultless = (bytes : List ℕ) (tree : Tree) (n number : ℕ) (kind 
 
 -- lines have one first fault at most
 abbrev pub LinesHaveOneFault : Type 0
-LinesHaveOneFault = (all : List (List ℕ)) (number number' : ℕ) (kind kind' : ManifestKind) → HasFault all number kind → HasFault all number' kind' → (number ≡ number') × (kind ≡ kind')
+LinesHaveOneFault = (all : List (List ℕ)) (number number' : ℕ) (kind kind' : ManifestKind) → HasFault all number kind → HasFault all number' kind'
+    → (number ≡ number') × (kind ≡ kind')

@@ -11,7 +11,8 @@ use Rattle.adf_check.specs.declared.fault.Fault.{Fault}
 
 -- the line of `check`
 abbrev pub ok_line : Counts → List ℕ
-ok_line c = codes "ok " ++ (kind_text c.kind ++ (codes " blocks " ++ (decimal c.blocks ++ (codes " used " ++ (decimal c.used ++ (codes " free " ++ (decimal c.free
+ok_line c = codes "ok " ++ (kind_text c.kind ++ (codes " blocks " ++ (decimal
+    c.blocks ++ (codes " used " ++ (decimal c.used ++ (codes " free " ++ (decimal c.free
     ++ (codes " dirs " ++ (decimal c.dirs ++ (codes " files " ++ (decimal c.files ++ codes "\n")))))))))))
 
 -- the line of a refused image

@@ -27,50 +27,61 @@ same_key m p k x sk sx =
 empty_none : (bucket : BTreeMap ChildKey ℕ) (k : ChildKey) → IsEmpty bucket → get by_child bucket k ≡ None
 empty_none bucket k h = ap (lookup (is_at (by_child k))) h
 
-none_more : (numbers : Numbers) (bucket : BTreeMap ChildKey ℕ) (i : ℕ) (k : ChildKey) → IsEmpty bucket → number_at (slice_get (numbers ++ bucket ∷ []) i) k ≡ number_at (slice_get numbers i) k
+none_more : (numbers : Numbers) (bucket : BTreeMap ChildKey ℕ) (i : ℕ) (k : ChildKey) → IsEmpty bucket
+    → number_at (slice_get (numbers ++ bucket ∷ []) i) k ≡ number_at (slice_get numbers i) k
 none_more [] bucket zero k h = empty_none bucket k h
 none_more [] bucket (suc i) k h = refl
 none_more (b ∷ bs) bucket zero k h = refl
 none_more (b ∷ bs) bucket (suc i) k h = none_more bs bucket i k h
 
-pub no_more : (numbers : Numbers) (bucket : BTreeMap ChildKey ℕ) (p : ℕ) (x : List ℕ) → IsEmpty bucket → number_in (numbers ++ bucket ∷ []) p x ≡ number_in numbers p x
+pub no_more : (numbers : Numbers) (bucket : BTreeMap ChildKey ℕ) (p : ℕ) (x : List ℕ) → IsEmpty bucket
+    → number_in (numbers ++ bucket ∷ []) p x ≡ number_in numbers p x
 unfolding number_in
 no_more numbers bucket p x h = ap (λ (o : Option ℕ). if is_short x then o else None) (none_more numbers bucket (bucket_of (child_key p x)) (child_key p x) h)
 
 -- the number in a bucket that was found
-pub number_is : (numbers : Numbers) (p : ℕ) (x : List ℕ) (o : Option (BTreeMap ChildKey ℕ)) → is_short x ≡ true → slice_get numbers (bucket_of (child_key p x)) ≡ o → number_at o (child_key p x) ≡ number_in numbers p x
+pub number_is : (numbers : Numbers) (p : ℕ) (x : List ℕ) (o : Option (BTreeMap ChildKey ℕ)) → is_short x ≡ true
+    → slice_get numbers (bucket_of (child_key p x)) ≡ o → number_at o (child_key p x) ≡ number_in numbers p x
 unfolding number_in
 number_is numbers p x o short at =
     ap (λ b. number_at b (child_key p x)) (sym at)
     ∙ sym (ap (λ b. let r : Option ℕ = if b then number_at (slice_get numbers (bucket_of (child_key p x))) (child_key p x) else None in r) short)
 
-pub number_past : (numbers : Numbers) (p : ℕ) (x : List ℕ) (k : ChildKey) (i : ℕ) → is_short x ≡ true → k ≡ child_key p x → i ≡ bucket_of k → length numbers ≤ i → None ≡ number_in numbers p x
+pub number_past : (numbers : Numbers) (p : ℕ) (x : List ℕ) (k : ChildKey) (i : ℕ) → is_short x ≡ true → k ≡ child_key p x → i ≡ bucket_of k
+    → length numbers ≤ i → None ≡ number_in numbers p x
 number_past numbers p x k i short key at past =
     number_is numbers p x None short (slice_get_past numbers (bucket_of (child_key p x)) (subst (λ (n : ℕ). length numbers ≤ n) (at ∙ ap bucket_of key) past))
 
-pub number_found : (numbers : Numbers) (p : ℕ) (x : List ℕ) (k : ChildKey) (i : ℕ) (bucket : BTreeMap ChildKey ℕ) → is_short x ≡ true → k ≡ child_key p x → i ≡ bucket_of k → i < length numbers → bucket ≡ get_or numbers i bucket → get by_child bucket k ≡ number_in numbers p x
+pub number_found : (numbers : Numbers) (p : ℕ) (x : List ℕ) (k : ChildKey) (i : ℕ) (bucket : BTreeMap ChildKey ℕ) → is_short x ≡ true → k ≡ child_key p x
+    → i ≡ bucket_of k → i < length numbers → bucket ≡ get_or numbers i bucket → get by_child bucket k ≡ number_in numbers p x
 number_found numbers p x k i bucket short key at within is =
     ap (get by_child bucket) key
     ∙ number_is numbers p x (Some bucket) short
-    (ap (slice_get numbers) (sym (at ∙ ap bucket_of key)) ∙ (slice_get-get_or numbers i bucket within ∙ ap (λ b. let o : Option (BTreeMap ChildKey ℕ) = Some b in o) (sym is)))
+    (ap (slice_get numbers) (sym (at ∙ ap bucket_of key))
+    ∙ (slice_get-get_or numbers i bucket within ∙ ap (λ b. let o : Option (BTreeMap ChildKey ℕ) = Some b in o) (sym is)))
 
 -- one more number
-set_at : (numbers : Numbers) (i j : ℕ) (new : BTreeMap ChildKey ℕ) (k : ChildKey) → j ≢ i → number_at (slice_get (set numbers i new) j) k ≡ number_at (slice_get numbers j) k
+set_at : (numbers : Numbers) (i j : ℕ) (new : BTreeMap ChildKey ℕ) (k : ChildKey) → j ≢ i
+    → number_at (slice_get (set numbers i new) j) k ≡ number_at (slice_get numbers j) k
 set_at [] i j new k ne = refl
 set_at (b ∷ bs) zero zero new k ne = absurd (ne refl)
 set_at (b ∷ bs) zero (suc j) new k ne = refl
 set_at (b ∷ bs) (suc i) zero new k ne = refl
 set_at (b ∷ bs) (suc i) (suc j) new k ne = set_at bs i j new k (λ e. ne (ap (λ n. suc n) e))
 
-set_here : (numbers : Numbers) (i : ℕ) (new : BTreeMap ChildKey ℕ) (k : ChildKey) → i < length numbers → number_at (slice_get (set numbers i new) i) k ≡ get by_child new k
+set_here : (numbers : Numbers) (i : ℕ) (new : BTreeMap ChildKey ℕ) (k : ChildKey) → i < length numbers
+    → number_at (slice_get (set numbers i new) i) k ≡ get by_child new k
 set_here [] i new k lt = absurd (omega arith)
 set_here (b ∷ bs) zero new k lt = refl
 set_here (b ∷ bs) (suc i) new k lt = set_here bs i new k (omega arith)
 
-get_here : (numbers : Numbers) (i : ℕ) (old : BTreeMap ChildKey ℕ) (k : ChildKey) → i < length numbers → old ≡ get_or numbers i old → number_at (slice_get numbers i) k ≡ get by_child old k
+get_here : (numbers : Numbers) (i : ℕ) (old : BTreeMap ChildKey ℕ) (k : ChildKey) → i < length numbers → old ≡ get_or numbers i old
+    → number_at (slice_get numbers i) k ≡ get by_child old k
 get_here numbers i old k lt is = ap (λ o. number_at o k) (slice_get-get_or numbers i old lt) ∙ ap (λ b. get by_child b k) (sym is)
 
-sums : (a a' b b' c c' d d' p p' : ℕ) → a ≡ a' → b ≡ b' → c ≡ c' → d ≡ d' → p ≡ p' → bucket_of (record { name = record { first = a; second = b; third = c; fourth = d }; parent = p }) ≡ bucket_of (record { name = record { first = a'; second = b'; third = c'; fourth = d' }; parent = p' })
+sums : (a a' b b' c c' d d' p p' : ℕ) → a ≡ a' → b ≡ b' → c ≡ c' → d ≡ d' → p ≡ p'
+    → bucket_of (record { name = record { first = a; second = b; third = c; fourth = d }; parent = p })
+    ≡ bucket_of (record { name = record { first = a'; second = b'; third = c'; fourth = d' }; parent = p' })
 sums a a' b b' c c' d d' p p' e f g h i = rw (e, f, g, h, i) refl
 
 not_equal : (b : Bool) → (b ≡ true → ⊥) → b ≡ false
@@ -83,7 +94,8 @@ only_if b o h = ap (λ c. let r : Option ℕ = if c then o else None in r) h
 not_if : (b : Bool) (o : Option ℕ) → b ≡ false → (if b then o else None) ≡ None
 not_if b o h = ap (λ c. let r : Option ℕ = if c then o else None in r) h
 
-unchanged_at : (numbers : Numbers) (i : ℕ) (old new : BTreeMap ChildKey ℕ) (q : ChildKey) → i < length numbers → old ≡ get_or numbers i old → IsUnchanged old new → number_at (slice_get (set numbers i new) (bucket_of q)) q ≡ number_at (slice_get numbers (bucket_of q)) q
+unchanged_at : (numbers : Numbers) (i : ℕ) (old new : BTreeMap ChildKey ℕ) (q : ChildKey) → i < length numbers → old ≡ get_or numbers i old
+    → IsUnchanged old new → number_at (slice_get (set numbers i new) (bucket_of q)) q ≡ number_at (slice_get numbers (bucket_of q)) q
 unchanged_at numbers i old new q lt is un =
     elim (cases_eq (bucket_of q) i) [
       | inl e ↦
@@ -97,27 +109,35 @@ unchanged_at numbers i old new q lt is un =
 -- keys that compare equal are in one bucket
 same_bucket : (k q : ChildKey) → is_eq (by_child k q) ≡ true → bucket_of q ≡ bucket_of k
 same_bucket k q h =
-    let both = and_parts (is_eq (by_words k.name q.name)) (is_eq (nat_cmp k.parent q.parent)) (sym (then_is (by_words k.name q.name) (nat_cmp k.parent q.parent)) ∙ h) in
+    let both = and_parts (is_eq (by_words k.name q.name)) (is_eq (nat_cmp k.parent q.parent))
+    (sym (then_is (by_words k.name q.name) (nat_cmp k.parent q.parent)) ∙ h) in
     let p : k.parent ≡ q.parent = eqb-true k.parent q.parent (sym (same_number k.parent q.parent) ∙ both.1) in
     let w = equal_words k.name q.name both.0 in
-    sums q.name.first k.name.first q.name.second k.name.second q.name.third k.name.third q.name.fourth k.name.fourth q.parent k.parent (sym w.0) (sym w.1) (sym w.2) (sym w.3) (sym p)
+    sums q.name.first k.name.first q.name.second k.name.second q.name.third k.name.third q.name.fourth k.name.fourth q.parent k.parent (sym w.0) (sym w.1)
+    (sym w.2) (sym w.3) (sym p)
 
 -- what a bucket says after a write
-one_bucket : (numbers : Numbers) (i : ℕ) (old new : BTreeMap ChildKey ℕ) (k q : ChildKey) (n : ℕ) → i < length numbers → old ≡ get_or numbers i old → i ≡ bucket_of k → Updates by_child old new k (Some n) → number_at (slice_get (set numbers i new) (bucket_of q)) q ≡ cond (is_eq (by_child k q)) (Some n) (number_at (slice_get numbers (bucket_of q)) q)
+one_bucket : (numbers : Numbers) (i : ℕ) (old new : BTreeMap ChildKey ℕ) (k q : ChildKey) (n : ℕ) → i < length numbers → old ≡ get_or numbers i old
+    → i ≡ bucket_of k → Updates by_child old new k (Some n)
+    → number_at (slice_get (set numbers i new) (bucket_of q)) q ≡ cond (is_eq (by_child k q)) (Some n) (number_at (slice_get numbers (bucket_of q)) q)
 one_bucket numbers i old new k q n lt is at up =
     elim (cases_eq (bucket_of q) i) [
       | inl e ↦
           ap (λ j. number_at (slice_get (set numbers i new) j) q) e
           ∙ (set_here numbers i new q lt
           ∙ (up.0 q
-          ∙ ap (λ (o : Option ℕ). cond (is_eq (by_child k q)) (Some n) o) (sym (get_here numbers i old q lt is) ∙ ap (λ j. number_at (slice_get numbers j) q) (sym e))))
+          ∙ ap (λ (o : Option ℕ). cond (is_eq (by_child k q)) (Some n) o)
+          (sym (get_here numbers i old q lt is) ∙ ap (λ j. number_at (slice_get numbers j) q) (sym e))))
       | inr ne ↦
           set_at numbers i (bucket_of q) new q ne
-          ∙ sym (ap (λ b. cond b (Some n) (number_at (slice_get numbers (bucket_of q)) q)) (not_equal (is_eq (by_child k q)) (λ t. ne (same_bucket k q t ∙ sym at))))
+          ∙ sym (ap (λ b. cond b (Some n) (number_at (slice_get numbers (bucket_of q)) q))
+          (not_equal (is_eq (by_child k q)) (λ t. ne (same_bucket k q t ∙ sym at))))
     ]
 
 -- one number more
-pub has_number : (old numbers : Numbers) (i m : ℕ) (x : List ℕ) (bucket new : BTreeMap ChildKey ℕ) (k : ChildKey) (n : ℕ) → ((p : ℕ) (y : List ℕ) → number_in numbers p y ≡ number_in old p y) → i < length numbers → bucket ≡ get_or numbers i bucket → i ≡ bucket_of k → k ≡ child_key m x → is_short x ≡ true → Updates by_child bucket new k (Some n) → HasNumber old (set numbers i new) m x n
+pub has_number : (old numbers : Numbers) (i m : ℕ) (x : List ℕ) (bucket new : BTreeMap ChildKey ℕ) (k : ChildKey) (n : ℕ)
+    → ((p : ℕ) (y : List ℕ) → number_in numbers p y ≡ number_in old p y) → i < length numbers → bucket ≡ get_or numbers i bucket → i ≡ bucket_of k
+    → k ≡ child_key m x → is_short x ≡ true → Updates by_child bucket new k (Some n) → HasNumber old (set numbers i new) m x n
 unfolding number_in
 has_number old numbers i m x bucket new k n same lt is at key short up p y =
     elim (cases_Bool (is_short y)) [
@@ -126,15 +146,19 @@ has_number old numbers i m x bucket new k n same lt is at key short up p y =
           ∙ (one_bucket numbers i bucket new k (child_key p y) n lt is at up
           ∙ (ap (λ b. let o : Option ℕ = cond b (Some n) (number_at (slice_get numbers (bucket_of (child_key p y))) (child_key p y)) in o)
           (ap (λ q. is_eq (by_child q (child_key p y))) key ∙ same_key m p x y short t)
-          ∙ ap (λ (o : Option ℕ). if (m == p) && bytes_eq x y then Some n else o) (sym (only_if (is_short y) (number_at (slice_get numbers (bucket_of (child_key p y))) (child_key p y)) t) ∙ same p y)))
+          ∙ ap (λ (o : Option ℕ). if (m == p) && bytes_eq x y then Some n else o)
+          (sym (only_if (is_short y) (number_at (slice_get numbers (bucket_of (child_key p y))) (child_key p y)) t) ∙ same p y)))
       | inr f ↦
           not_if (is_short y) (number_at (slice_get (set numbers i new) (bucket_of (child_key p y))) (child_key p y)) f
-          ∙ sym (ap (λ b. let o : Option ℕ = if b then Some n else number_in old p y in o) (and_swap (m == p) (bytes_eq x y) ∙ ap (λ b. b && (m == p)) (not_short x y short f))
+          ∙ sym (ap (λ b. let o : Option ℕ = if b then Some n else number_in old p y in o)
+          (and_swap (m == p) (bytes_eq x y) ∙ ap (λ b. b && (m == p)) (not_short x y short f))
           ∙ not_if (is_short y) (number_at (slice_get old (bucket_of (child_key p y))) (child_key p y)) f)
     ]
 
 -- a bucket that was not changed
-pub same_number_in : (old numbers : Numbers) (i : ℕ) (bucket new : BTreeMap ChildKey ℕ) (p : ℕ) (y : List ℕ) → ((p : ℕ) (y : List ℕ) → number_in numbers p y ≡ number_in old p y) → i < length numbers → bucket ≡ get_or numbers i bucket → IsUnchanged bucket new → number_in (set numbers i new) p y ≡ number_in old p y
+pub same_number_in : (old numbers : Numbers) (i : ℕ) (bucket new : BTreeMap ChildKey ℕ) (p : ℕ) (y : List ℕ)
+    → ((p : ℕ) (y : List ℕ) → number_in numbers p y ≡ number_in old p y) → i < length numbers → bucket ≡ get_or numbers i bucket → IsUnchanged bucket new
+    → number_in (set numbers i new) p y ≡ number_in old p y
 unfolding number_in
 same_number_in old numbers i bucket new p y same lt is un =
     ap (λ (o : Option ℕ). if is_short y then o else None) (unchanged_at numbers i bucket new (child_key p y) lt is un) ∙ same p y

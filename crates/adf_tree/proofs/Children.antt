@@ -32,7 +32,8 @@ same_slot a b h = sym (slot_uppers a) ∙ (ap slot_of h ∙ slot_uppers b)
 -- a child stands at its parent and its slot
 pub child_rank : (e : Entry) (parent : ℕ) (name : List ℕ) → is_child parent name e ≡ true → rank e ≡ rank_of parent (slot_of name)
 child_rank e parent name h =
-    let both : ((e.parent == parent) ≡ true) × (bytes_eq (uppers e.name) (uppers name) ≡ true) = and_parts (e.parent == parent) (bytes_eq (uppers e.name) (uppers name)) h in
+    let both : ((e.parent == parent) ≡ true) × (bytes_eq (uppers e.name) (uppers name) ≡ true) =
+    and_parts (e.parent == parent) (bytes_eq (uppers e.name) (uppers name)) h in
     let p : e.parent ≡ parent = eqb-true e.parent parent both.0 in
     let s : slot_of e.name ≡ slot_of name = same_slot e.name name ((bytes_eq-Decides (uppers e.name) (uppers name)).0 both.1) in
     ap (λ q. rank_of q (slot_of e.name)) p ∙ ap (λ t. rank_of parent t) s
@@ -41,10 +42,12 @@ pub no_child : (e : Entry) (parent : ℕ) (name : List ℕ) → rank e ≢ rank_
 no_child e parent name ne =
     elim (cases_Bool (is_child parent name e)) [ inl t ↦ absurd (ne (child_rank e parent name t)) | inr f ↦ f ]
 
-pub position_yes : {X : Type 0} (p : X → Bool) (xs : List X) (i : ℕ) (d : X) → i < length xs → p (get_or xs i d) ≡ true → ((k : ℕ) → k < i → p (get_or xs k d) ≡ false) → position p xs ≡ Some i
+pub position_yes : {X : Type 0} (p : X → Bool) (xs : List X) (i : ℕ) (d : X) → i < length xs → p (get_or xs i d) ≡ true
+    → ((k : ℕ) → k < i → p (get_or xs k d) ≡ false) → position p xs ≡ Some i
 position_yes {X} p xs i d lt holds others =
     let at : position_or_len p xs ≡ i = position_or_len_is p xs i d (omega arith) others (λ _. holds) in
-    ap (λ n. cond (nat_lt n (length xs)) (Some n) None) at ∙ ap (λ b. cond b (Some i) None) (let t : nat_lt i (length xs) ≡ true = grind (arith, nat_tests) in t)
+    ap (λ n. cond (nat_lt n (length xs)) (Some n) None) at
+    ∙ ap (λ b. cond b (Some i) None) (let t : nat_lt i (length xs) ≡ true = grind (arith, nat_tests) in t)
 
 pub position_no : {X : Type 0} (p : X → Bool) (xs : List X) → ((k : ℕ) (d : X) → k < length xs → p (get_or xs k d) ≡ false) → position p xs ≡ None
 position_no p [] others = refl
@@ -54,20 +57,26 @@ position_no {X} p (x ∷ xs) others =
     ap (λ m. cond (nat_lt m n) (Some m) None) at ∙ ap (λ b. cond b (Some n) None) (let t : nat_lt n n ≡ false = grind (arith, nat_tests) in t)
 
 -- what a search along a chain finds
-pub child_found : (es : List Entry) (parent : ℕ) (name : List ℕ) (i : ℕ) (e : Entry) → i < length es → e ≡ get_or es i e → is_child parent name e ≡ true → ((k : ℕ) (d : Entry) → k < i → is_child parent name (get_or es k d) ≡ false) → Some (i + 1) ≡ child es parent name
+pub child_found : (es : List Entry) (parent : ℕ) (name : List ℕ) (i : ℕ) (e : Entry) → i < length es → e ≡ get_or es i e → is_child parent name e ≡ true
+    → ((k : ℕ) (d : Entry) → k < i → is_child parent name (get_or es k d) ≡ false) → Some (i + 1) ≡ child es parent name
 child_found es parent name i e lt at holds others =
     sym (ap (option_map (λ j. j + 1)) (position_yes (is_child parent name) es i e lt (ap (is_child parent name) (sym at) ∙ holds) (λ k h. others k e h)))
 
-pub child_none : (es : List Entry) (parent : ℕ) (name : List ℕ) → ((k : ℕ) (d : Entry) → k < length es → is_child parent name (get_or es k d) ≡ false) → None ≡ child es parent name
+pub child_none : (es : List Entry) (parent : ℕ) (name : List ℕ) → ((k : ℕ) (d : Entry) → k < length es → is_child parent name (get_or es k d) ≡ false)
+    → None ≡ child es parent name
 child_none es parent name others = sym (ap (option_map (λ j. j + 1)) (position_no (is_child parent name) es others))
 
 -- nothing stands before the chain, and nothing past it
-pub child_not_before : (es : List Entry) (parent : ℕ) (name : List ℕ) (s from : ℕ) → s ≡ slot_of name → IsPartitionPoint (λ e. nat_lt (rank e) (rank_of parent s) ≡ true) (λ e. nat_lt (rank e) (rank_of parent s) ≡ false) es from → (k : ℕ) (d : Entry) → k < from → is_child parent name (get_or es k d) ≡ false
+pub child_not_before : (es : List Entry) (parent : ℕ) (name : List ℕ) (s from : ℕ) → s ≡ slot_of name
+    → IsPartitionPoint (λ e. nat_lt (rank e) (rank_of parent s) ≡ true) (λ e. nat_lt (rank e) (rank_of parent s) ≡ false) es from → (k : ℕ) (d : Entry)
+    → k < from → is_child parent name (get_or es k d) ≡ false
 child_not_before es parent name s from same point k d lt =
     let less : rank (get_or es k d) < rank_of parent s = ltb-true (rank (get_or es k d)) (rank_of parent s) (point.0 k d (omega arith) lt) in
     no_child (get_or es k d) parent name (omega (arith, less, same))
 
-pub child_not_past : (es : List Entry) (parent : ℕ) (name : List ℕ) (s to i : ℕ) → s ≡ slot_of name → IsNonDecreasingBy rank es → to ≡ place es (rank_of parent s) → to ≤ i → ((k : ℕ) (d : Entry) → k < i → is_child parent name (get_or es k d) ≡ false) → (k : ℕ) (d : Entry) → k < length es → is_child parent name (get_or es k d) ≡ false
+pub child_not_past : (es : List Entry) (parent : ℕ) (name : List ℕ) (s to i : ℕ) → s ≡ slot_of name → IsNonDecreasingBy rank es
+    → to ≡ place es (rank_of parent s) → to ≤ i → ((k : ℕ) (d : Entry) → k < i → is_child parent name (get_or es k d) ≡ false) → (k : ℕ) (d : Entry)
+    → k < length es → is_child parent name (get_or es k d) ≡ false
 child_not_past es parent name s to i same up at past others k d lt =
     elim (cases_lt k i) [
       | inl h ↦ others k d h

@@ -41,23 +41,28 @@ past es names o = elim o [ None ↦ Err NoParent | Some n ↦ if is_dir es n the
 pub record Steps (drafts : List Entry) (w : Walk) (path : List (List ℕ)) (i m : ℕ) (o : Option ℕ) : Type 0 where
   pub none : o ≡ None → directory_from w.entries (node_of w.nodes m) (drop i path) ≡ Err NoParent
   pub file : (n : ℕ) → o ≡ Some n → is_dir drafts n ≡ false → directory_from w.entries (node_of w.nodes m) (drop i path) ≡ Err ParentIsFile
-  pub dir : (n : ℕ) → o ≡ Some n → is_dir drafts n ≡ true → directory_from w.entries (node_of w.nodes m) (drop i path) ≡ directory_from w.entries (node_of w.nodes n) (drop (i + 1) path)
+  pub dir : (n : ℕ) → o ≡ Some n → is_dir drafts n ≡ true
+      → directory_from w.entries (node_of w.nodes m) (drop i path) ≡ directory_from w.entries (node_of w.nodes n) (drop (i + 1) path)
   pub within : (n : ℕ) → o ≡ Some n → n ≤ length drafts
 
-pub steps : (drafts : List Entry) (numbers : Numbers) (path : List (List ℕ)) (i m : ℕ) (name : List ℕ) → IsDraft drafts numbers → m ≤ length drafts → i < length path → name ≡ get_or path i name → Steps drafts (walk drafts) path i m (number_in numbers m (uppers name))
+pub steps : (drafts : List Entry) (numbers : Numbers) (path : List (List ℕ)) (i m : ℕ) (name : List ℕ) → IsDraft drafts numbers → m ≤ length drafts
+    → i < length path → name ≡ get_or path i name → Steps drafts (walk drafts) path i m (number_in numbers m (uppers name))
 steps drafts numbers path i m name h le lt is =
     let w : Walk = walk drafts in
     let es : List Entry = w.entries in
     let found : child es (node_of w.nodes m) name ≡ option_map (node_of w.nodes) (number_in numbers m (uppers name)) = h.found.found m name le in
     let next : drop i path ≡ name ∷ drop (i + 1) path = drop_more path i name lt ∙ ap (λ x. x ∷ drop (i + 1) path) (sym is) in
-    let go : directory_from es (node_of w.nodes m) (drop i path) ≡ past es (drop (i + 1) path) (option_map (node_of w.nodes) (number_in numbers m (uppers name))) =
+    let go : directory_from es (node_of w.nodes m) (drop i path)
+    ≡ past es (drop (i + 1) path) (option_map (node_of w.nodes) (number_in numbers m (uppers name))) =
     ap (directory_from es (node_of w.nodes m)) next ∙ ap (past es (drop (i + 1) path)) found in
     let some : (n : ℕ) → number_in numbers m (uppers name) ≡ Some n → n ≤ length drafts = λ n at. (h.found.within m n (uppers name) at).1 in
-    let to : (n : ℕ) (b : Bool) → number_in numbers m (uppers name) ≡ Some n → is_dir drafts n ≡ b → directory_from es (node_of w.nodes m) (drop i path) ≡ (if b then directory_from es (node_of w.nodes n) (drop (i + 1) path) else Err ParentIsFile) =
+    let to : (n : ℕ) (b : Bool) → number_in numbers m (uppers name) ≡ Some n → is_dir drafts n ≡ b
+    → directory_from es (node_of w.nodes m) (drop i path) ≡ (if b then directory_from es (node_of w.nodes n) (drop (i + 1) path) else Err ParentIsFile) =
     λ n b at is_one.
     go
     ∙ (ap (λ o. past es (drop (i + 1) path) (option_map (node_of w.nodes) o)) at
-    ∙ ap (λ t. let r : Result ℕ AddFault = if t then directory_from es (node_of w.nodes n) (drop (i + 1) path) else Err ParentIsFile in r) (dir_same drafts w n h.gives (some n at) ∙ is_one)) in
+    ∙ ap (λ t. let r : Result ℕ AddFault = if t then directory_from es (node_of w.nodes n) (drop (i + 1) path) else Err ParentIsFile in r)
+    (dir_same drafts w n h.gives (some n at) ∙ is_one)) in
     record {
       none = λ at. go ∙ ap (λ o. past es (drop (i + 1) path) (option_map (node_of w.nodes) o)) at;
       file = λ n at no. to n false at no;
@@ -66,7 +71,10 @@ steps drafts numbers path i m name h le lt is =
     }
 
 -- a directory with nothing of a name, or with something
-pub room_is : (drafts : List Entry) (numbers : Numbers) (path : List (List ℕ)) (name : List ℕ) (m : ℕ) (o : Option ℕ) → IsDraft drafts numbers → m ≤ length drafts → directory_from (walk drafts).entries 0 path ≡ Ok (node_of (walk drafts).nodes m) → number_in numbers m (uppers name) ≡ o → room_at (walk drafts).entries name (directory_from (walk drafts).entries 0 path) ≡ free_in (node_of (walk drafts).nodes m) (option_map (node_of (walk drafts).nodes) o)
+pub room_is : (drafts : List Entry) (numbers : Numbers) (path : List (List ℕ)) (name : List ℕ) (m : ℕ) (o : Option ℕ) → IsDraft drafts numbers
+    → m ≤ length drafts → directory_from (walk drafts).entries 0 path ≡ Ok (node_of (walk drafts).nodes m) → number_in numbers m (uppers name) ≡ o
+    → room_at (walk drafts).entries name (directory_from (walk drafts).entries 0 path)
+    ≡ free_in (node_of (walk drafts).nodes m) (option_map (node_of (walk drafts).nodes) o)
 room_is drafts numbers path name m o h le leads at =
     let w : Walk = walk drafts in
     ap (room_at w.entries name) leads

@@ -52,7 +52,8 @@ get_or-insert_past xs i y d k lt le =
     ap (λ v. get_or (insert xs i y) v d) (sym e) ∙ get_or-insert_above xs i y d (k - 1) (omega arith) le
 
 -- pairs of a symmetric relation
-pub all_pairs_insert : {X : Type 0} → (R : X → X → Type 0) → ((a b : X) → R a b → R b a) → (xs : List X) (i : ℕ) (y : X) → i ≤ length xs → AllPairs R xs → ((k : ℕ) (d : X) → k < length xs → R (get_or xs k d) y) → AllPairs R (insert xs i y)
+pub all_pairs_insert : {X : Type 0} → (R : X → X → Type 0) → ((a b : X) → R a b → R b a) → (xs : List X) (i : ℕ) (y : X) → i ≤ length xs → AllPairs R xs
+    → ((k : ℕ) (d : X) → k < length xs → R (get_or xs k d) y) → AllPairs R (insert xs i y)
 all_pairs_insert {X} R flip xs i y le all new a b d lt short =
     let long : length (insert xs i y) ≡ length xs + 1 = length-insert xs i y le in
     let go : (u v : X) → get_or (insert xs i y) a d ≡ u → get_or (insert xs i y) b d ≡ v → R u v → R (get_or (insert xs i y) a d) (get_or (insert xs i y) b d)
@@ -60,12 +61,16 @@ all_pairs_insert {X} R flip xs i y le all new a b d lt short =
     let at_i : (k : ℕ) → k ≡ i → get_or (insert xs i y) k d ≡ y = λ k e. ap (λ v. get_or (insert xs i y) v d) e ∙ get_or-insert_at xs i y d le in
     elim (cases_order b i) [
       | inl e ↦ go (get_or xs a d) y (get_or-insert_below xs i y d a (omega arith) le) (at_i b e) (new a d (omega arith))
-      | inr (inl below) ↦ go (get_or xs a d) (get_or xs b d) (get_or-insert_below xs i y d a (omega arith) le) (get_or-insert_below xs i y d b below le) (all a b d lt (omega arith))
+      | inr (inl below) ↦ go (get_or xs a d) (get_or xs b d) (get_or-insert_below xs i y d a (omega arith) le) (get_or-insert_below xs i y d b below le)
+          (all a b d lt (omega arith))
       | inr (inr past) ↦
           elim (cases_order a i) [
-            | inl e ↦ go y (get_or xs (b - 1) d) (at_i a e) (get_or-insert_past xs i y d b past le) (flip (get_or xs (b - 1) d) y (new (b - 1) d (omega arith)))
-            | inr (inl below) ↦ go (get_or xs a d) (get_or xs (b - 1) d) (get_or-insert_below xs i y d a below le) (get_or-insert_past xs i y d b past le) (all a (b - 1) d (omega arith) (omega arith))
-            | inr (inr above) ↦ go (get_or xs (a - 1) d) (get_or xs (b - 1) d) (get_or-insert_past xs i y d a above le) (get_or-insert_past xs i y d b past le) (all (a - 1) (b - 1) d (omega arith) (omega arith))
+            | inl e ↦ go y (get_or xs (b - 1) d) (at_i a e) (get_or-insert_past xs i y d b past le)
+                (flip (get_or xs (b - 1) d) y (new (b - 1) d (omega arith)))
+            | inr (inl below) ↦ go (get_or xs a d) (get_or xs (b - 1) d) (get_or-insert_below xs i y d a below le) (get_or-insert_past xs i y d b past le)
+                (all a (b - 1) d (omega arith) (omega arith))
+            | inr (inr above) ↦ go (get_or xs (a - 1) d) (get_or xs (b - 1) d) (get_or-insert_past xs i y d a above le)
+                (get_or-insert_past xs i y d b past le) (all (a - 1) (b - 1) d (omega arith) (omega arith))
           ]
     ]
 
@@ -81,7 +86,8 @@ before es r k d lt = ltb-false r (rank (get_or es k d)) (fails_before_first (λ 
 -- the entries from the place on have a greater one
 pub after : (es : List Entry) (r k : ℕ) (d : Entry) → IsNonDecreasingBy rank es → place es r ≤ k → k < length es → r < rank (get_or es k d)
 after es r k d up le short =
-    let first : r < rank (get_or es (place es r) d) = ltb-true r (rank (get_or es (place es r) d)) (passes_at_first (λ e. nat_lt r (rank e)) es d (omega arith)) in
+    let first : r < rank (get_or es (place es r) d) =
+    ltb-true r (rank (get_or es (place es r) d)) (passes_at_first (λ e. nat_lt r (rank e)) es d (omega arith)) in
     let more : rank (get_or es (place es r) d) ≤ rank (get_or es k d) = up (place es r) k d le short in
     omega (arith, first, more)
 
@@ -148,7 +154,8 @@ at_place es e d t =
     let m : length (map f es) ≡ length es = length-map es f in
     ap (λ xs. get_or xs i d) (added_is es e t) ∙ get_or-insert_at (map f es) i e d (omega (arith, place_le es (rank e), m))
 
-pub at_above : (es : List Entry) (e : Entry) (k : ℕ) (d : Entry) → IsTree es → place es (rank e) ≤ k → k < length es → get_or (added es e) (k + 1) d ≡ renumbered (place es (rank e) + 1) (get_or es k d)
+pub at_above : (es : List Entry) (e : Entry) (k : ℕ) (d : Entry) → IsTree es → place es (rank e) ≤ k → k < length es
+    → get_or (added es e) (k + 1) d ≡ renumbered (place es (rank e) + 1) (get_or es k d)
 at_above es e k d t le lt =
     let i : ℕ = place es (rank e) in
     let f : Entry → Entry = renumbered (i + 1) in
@@ -189,7 +196,8 @@ apart_both a b h p u = h (sym p) (sym u)
 apart_moved : (n : ℕ) (a b : Entry) → AreApart a b → AreApart (renumbered n a) (renumbered n b)
 apart_moved n a b h p u = h (moved_same n a.parent b.parent p) u
 
-kept_parent : (es : List Entry) (e : Entry) (k : ℕ) (d : Entry) → IsTree es → IsDir es e.parent → k < length (added es e) → ((get_or (added es e) k d).parent ≤ k) × IsDir (added es e) (get_or (added es e) k d).parent
+kept_parent : (es : List Entry) (e : Entry) (k : ℕ) (d : Entry) → IsTree es → IsDir es e.parent → k < length (added es e)
+    → ((get_or (added es e) k d).parent ≤ k) × IsDir (added es e) (get_or (added es e) k d).parent
 kept_parent es e k d t dir lt =
     let i : ℕ = place es (rank e) in
     let n : ℕ = i + 1 in
@@ -204,11 +212,15 @@ kept_parent es e k d t dir lt =
       | inr (inl below) ↦
           let x : Entry = get_or es k d in
           let small : (get_or es k d).parent ≤ k = t.parents k d (omega arith) in
-          subst P (sym (at_below es e k d t below))
-          (small, subst (λ q. IsDir (added es e) q) (moved_below n (get_or es k d).parent (omega arith)) (dir_kept es e (get_or es k d).parent t (t.dirs k d (omega arith))))
+          subst P (sym (at_below es e k d t below)) (
+            small,
+            subst (λ q. IsDir (added es e) q) (moved_below n (get_or es k d).parent (omega arith))
+                (dir_kept es e (get_or es k d).parent t (t.dirs k d (omega arith))),
+          )
       | inr (inr past) ↦
           let back : k ≡ k - 1 + 1 = omega arith in
-          let here : get_or (added es e) k d ≡ renumbered n (get_or es (k - 1) d) = ap (λ j. get_or (added es e) j d) back ∙ at_above es e (k - 1) d t (omega arith) (omega arith) in
+          let here : get_or (added es e) k d ≡ renumbered n (get_or es (k - 1) d) =
+          ap (λ j. get_or (added es e) j d) back ∙ at_above es e (k - 1) d t (omega arith) (omega arith) in
           let small : (get_or es (k - 1) d).parent ≤ k - 1 = t.parents (k - 1) d (omega arith) in
           let near : moved n (get_or es (k - 1) d).parent ≤ (get_or es (k - 1) d).parent + 1 = moved_near n (get_or es (k - 1) d).parent in
           subst P (sym here) (omega arith, dir_kept es e (get_or es (k - 1) d).parent t (t.dirs (k - 1) d (omega arith)))

@@ -48,7 +48,8 @@ less_not : (a b : ℕ) → nat_lt a b ≡ true → nat_lt b a ≡ false
 less_not a b h = grind (arith, nat_tests)
 
 -- past all of lesser pairs
-pub place_past : (es : List Entry) (r from : ℕ) → IsPartitionPoint (λ e. nat_lt (rank e) r ≡ true) (λ e. nat_lt (rank e) r ≡ false) es from → from ≡ length es → place es r ≡ length es
+pub place_past : (es : List Entry) (r from : ℕ) → IsPartitionPoint (λ e. nat_lt (rank e) r ≡ true) (λ e. nat_lt (rank e) r ≡ false) es from
+    → from ≡ length es → place es r ≡ length es
 place_past [] r from parted all = refl
 place_past (e ∷ es) r from parted all =
     position_or_len_is (λ x. nat_lt r (rank x)) (e ∷ es) (length (e ∷ es)) e (omega arith)
@@ -56,7 +57,9 @@ place_past (e ∷ es) r from parted all =
     (λ lt. absurd (omega arith))
 
 -- a chain that begins
-pub begun : (c : LastChain) (es : List Entry) (parent s from : ℕ) → c.parent ≡ parent → c.slot ≡ s → ((x : List ℕ) → has c.names x ≡ false) → IsPartitionPoint (λ e. nat_lt (rank e) (rank_of parent s) ≡ true) (λ e. nat_lt (rank e) (rank_of parent s) ≡ false) es from → from ≡ length es → IsOf c es
+pub begun : (c : LastChain) (es : List Entry) (parent s from : ℕ) → c.parent ≡ parent → c.slot ≡ s → ((x : List ℕ) → has c.names x ≡ false)
+    → IsPartitionPoint (λ e. nat_lt (rank e) (rank_of parent s) ≡ true) (λ e. nat_lt (rank e) (rank_of parent s) ≡ false) es from → from ≡ length es
+    → IsOf c es
 begun c es parent s from p q none parted all = record {
   names = λ name t h.
       none (uppers name)
@@ -81,7 +84,8 @@ child_by_name : (e : Entry) (p : ℕ) (name : List ℕ) → e.parent ≡ p → i
 child_by_name e p name h = ap (λ b. b && bytes_eq (uppers e.name) (uppers name)) (eq-eqb e.parent p h)
 
 -- one entry more at the end of the chain
-pub one_more : (old new : LastChain) (es : List Entry) (e : Entry) (bytes : List ℕ) → IsOf old es → Puts old new bytes → bytes ≡ uppers e.name → (old.is_known ≡ true → old.parent ≡ e.parent) → (old.is_known ≡ true → place es (rank e) ≡ length es) → IsOf new (added es e)
+pub one_more : (old new : LastChain) (es : List Entry) (e : Entry) (bytes : List ℕ) → IsOf old es → Puts old new bytes → bytes ≡ uppers e.name
+    → (old.is_known ≡ true → old.parent ≡ e.parent) → (old.is_known ≡ true → place es (rank e) ≡ length es) → IsOf new (added es e)
 one_more old new es e bytes of puts is parent at = record {
   names = λ name t h.
       let known : old.is_known ≡ true = puts.was_known t in
@@ -100,7 +104,8 @@ one_more old new es e bytes of puts is parent at = record {
 }
 
 -- what is known tells whether there is a child
-pub known_child : (c : LastChain) (es : List Entry) (p s : ℕ) (name : List ℕ) → IsOf c es → s ≡ slot_of name → knows c p s ≡ true → has c.names (uppers name) ≡ is_some (child es p name)
+pub known_child : (c : LastChain) (es : List Entry) (p s : ℕ) (name : List ℕ) → IsOf c es → s ≡ slot_of name → knows c p s ≡ true
+    → has c.names (uppers name) ≡ is_some (child es p name)
 known_child c es p s name of same h =
     let both = and_parts (c.is_known && (c.parent == p)) (c.slot == s) h in
     let two = and_parts c.is_known (c.parent == p) both.0 in

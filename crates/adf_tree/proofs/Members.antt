@@ -30,7 +30,8 @@ contains_filter {X} q (y ∷ ys) x h passes =
       | inr there ↦
           let rest : Contains (filter q ys) x = contains_filter q ys x there passes in
           elim (cases_Bool (q y)) [
-            | inl t ↦ subst (λ (zs : List X). Contains zs x) (sym (ap (λ b. cond b (y ∷ filter q ys) (filter q ys)) t)) (Contains-append_right (y ∷ []) (filter q ys) x rest)
+            | inl t ↦ subst (λ (zs : List X). Contains zs x) (sym (ap (λ b. cond b (y ∷ filter q ys) (filter q ys)) t))
+                (Contains-append_right (y ∷ []) (filter q ys) x rest)
             | inr f ↦ subst (λ (zs : List X). Contains zs x) (sym (ap (λ b. cond b (y ∷ filter q ys) (filter q ys)) f)) rest
           ]
     ]
@@ -41,7 +42,8 @@ passes_filter {X} q (y ∷ ys) x h =
     elim (cases_Bool (q y)) [
       | inr f ↦ passes_filter q ys x (subst (λ (zs : List X). Contains zs x) (ap (λ b. cond b (y ∷ filter q ys) (filter q ys)) f) h)
       | inl t ↦
-          elim (Contains-append_cases (y ∷ []) (filter q ys) x (subst (λ (zs : List X). Contains zs x) (ap (λ b. cond b (y ∷ filter q ys) (filter q ys)) t) h)) [
+          elim (Contains-append_cases (y ∷ []) (filter q ys) x (subst (λ (zs : List X). Contains zs x) (ap (λ b. cond b (y ∷ filter q ys) (filter q ys)) t)
+          h)) [
             | inl here ↦ ap q (sym (contains_one y x here)) ∙ t
             | inr there ↦ passes_filter q ys x there
           ]
@@ -76,7 +78,8 @@ child_in_chain es p name n d h =
       chain = in_its_chain es (get_or es (n - 1) d) p (slot_of name) (Contains-get_or es (n - 1) d (omega arith)) says.0 (same_slot e.name name says.1);
     }
 
-pub child_found_is : (es : List Entry) (p : ℕ) (name : List ℕ) (n : ℕ) (d : Entry) → IsTree es → (child es p name ≡ Some n) ↔ ((0 < n) × (n ≤ length es) × IsChild es p name n (get_or es (n - 1) d))
+pub child_found_is : (es : List Entry) (p : ℕ) (name : List ℕ) (n : ℕ) (d : Entry) → IsTree es
+    → (child es p name ≡ Some n) ↔ ((0 < n) × (n ≤ length es) × IsChild es p name n (get_or es (n - 1) d))
 child_found_is es p name n d t = (
   λ h. let found = found_is es p name n d h in (found.0, found.1, child_in_chain es p name n d h),
   λ at.

@@ -28,7 +28,8 @@ upper_bytes [] h = refl
 upper_bytes (x ∷ xs) h = ap (λ b. b && list_all (λ c. nat_lt c 256) (uppers xs)) (upper_small x (h 0)) ∙ upper_bytes xs (λ i. h (suc i))
 
 pub short_name : (xs : List ℕ) → length xs ≤ 30 → ((i : ℕ) → get_or xs i 0 < 256) → is_short (uppers xs) ≡ true
-short_name xs le h = ap (λ b. nat_le (length (uppers xs)) 30 && b) (upper_bytes xs h) ∙ ap (λ n. nat_le n 30 && true) (length-map xs upper_of) ∙ grind (arith, nat_tests)
+short_name xs le h = ap (λ b. nat_le (length (uppers xs)) 30 && b) (upper_bytes xs h) ∙ ap (λ n. nat_le n 30 && true) (length-map xs upper_of)
+    ∙ grind (arith, nat_tests)
 
 -- the next byte of a name, at the first of the zeros
 put_next : (xs : List ℕ) (n v : ℕ) → set (xs ++ replicate (suc n) 0) (length xs) v ≡ (xs ++ v ∷ []) ++ replicate n 0
@@ -41,7 +42,8 @@ fewer n i h = omega arith
 one_more : (i : ℕ) → i + 1 ≡ suc i
 one_more i = omega arith
 
-pub next_byte : (name text : List ℕ) (i : ℕ) → i < length name → length name ≤ 30 → text ≡ 0 ∷ (uppers (take i name) ++ replicate (31 - i) 0) → set text (i + 1) (upper_of (get_or name i 0)) ≡ 0 ∷ (uppers (take (i + 1) name) ++ replicate (31 - (i + 1)) 0)
+pub next_byte : (name text : List ℕ) (i : ℕ) → i < length name → length name ≤ 30 → text ≡ 0 ∷ (uppers (take i name) ++ replicate (31 - i) 0)
+    → set text (i + 1) (upper_of (get_or name i 0)) ≡ 0 ∷ (uppers (take (i + 1) name) ++ replicate (31 - (i + 1)) 0)
 next_byte name text i lt le is =
     let v : ℕ = upper_of (get_or name i 0) in
     let before : List ℕ = uppers (take i name) in
@@ -53,7 +55,8 @@ next_byte name text i lt le is =
     ∙ (put_next before (31 - (i + 1)) v
     ∙ ap (λ ys. ys ++ replicate (31 - (i + 1)) 0) (sym (ap uppers (take_more name i 0 lt) ∙ map-append upper_of (take i name) (get_or name i 0 ∷ [])))))
 
-pub whole : (name text : List ℕ) (i : ℕ) → i ≡ length name → length name ≤ 30 → text ≡ 0 ∷ (uppers (take i name) ++ replicate (31 - i) 0) → set text 0 (length name) ≡ padded (uppers name)
+pub whole : (name text : List ℕ) (i : ℕ) → i ≡ length name → length name ≤ 30 → text ≡ 0 ∷ (uppers (take i name) ++ replicate (31 - i) 0)
+    → set text 0 (length name) ≡ padded (uppers name)
 whole name text i all le is =
     ap (λ t. set t 0 (length name)) (is ∙ ap (λ n. 0 ∷ (uppers (take n name) ++ replicate (31 - n) 0)) all)
     ∙ (ap (λ xs. length name ∷ (uppers xs ++ replicate (31 - length name) 0)) (take_all (length name) name (omega arith))
@@ -96,15 +99,18 @@ few xs h = let le : nat_le (length xs) 30 ≡ true = (and_parts (nat_le (length 
 
 padded_bytes : (xs : List ℕ) → is_short xs ≡ true → AreBytes (padded xs)
 padded_bytes xs h zero = omega (arith, few xs h)
-padded_bytes xs h (suc i) = joined xs (replicate (31 - length xs) 0) (listed xs (and_parts (nat_le (length xs) 30) (list_all (λ c. nat_lt c 256) xs) h).1) (zeros (31 - length xs)) i
+padded_bytes xs h (suc i) =
+    joined xs (replicate (31 - length xs) 0) (listed xs (and_parts (nat_le (length xs) 30) (list_all (λ c. nat_lt c 256) xs) h).1) (zeros (31 - length xs)) i
 
 padded_long : (xs : List ℕ) → is_short xs ≡ true → length (padded xs) ≡ 32
 padded_long xs h = omega (arith, few xs h, length-append xs (replicate (31 - length xs) 0), length-replicate {A = ℕ} (31 - length xs) 0)
 
 -- 8 bytes have one number
-same_part : (p q : List ℕ) (i : ℕ) → AreBytes p → AreBytes q → i + 8 ≤ length p → length p ≡ length q → word_in p i ≡ word_in q i → take 8 (drop i p) ≡ take 8 (drop i q)
+same_part : (p q : List ℕ) (i : ℕ) → AreBytes p → AreBytes q → i + 8 ≤ length p → length p ≡ length q → word_in p i ≡ word_in q i
+    → take 8 (drop i p) ≡ take 8 (drop i q)
 same_part p q i bp bq le long h =
-    sym (be_bytes_8 (take 8 (drop i p)) (word_in p i) (length-take-le 8 (drop i p) (omega (arith, length-drop i p))) (taken 8 (drop i p) (dropped i p bp)) refl)
+    sym (be_bytes_8 (take 8 (drop i p)) (word_in p i) (length-take-le 8 (drop i p) (omega (arith, length-drop i p))) (taken 8 (drop i p) (dropped i p bp))
+    refl)
     ∙ (ap (to_be_bytes w64) h
     ∙ be_bytes_8 (take 8 (drop i q)) (word_in q i) (length-take-le 8 (drop i q) (omega (arith, length-drop i q))) (taken 8 (drop i q) (dropped i q bq)) refl)
 
@@ -119,7 +125,8 @@ in_parts t long =
     ∙ take-append-drop 8 t))))
 
 -- a name has one key, and a key is of one name
-same_text : (p q : List ℕ) → AreBytes p → AreBytes q → length p ≡ 32 → length q ≡ 32 → word_in p 0 ≡ word_in q 0 → word_in p 8 ≡ word_in q 8 → word_in p 16 ≡ word_in q 16 → word_in p 24 ≡ word_in q 24 → p ≡ q
+same_text : (p q : List ℕ) → AreBytes p → AreBytes q → length p ≡ 32 → length q ≡ 32 → word_in p 0 ≡ word_in q 0 → word_in p 8 ≡ word_in q 8
+    → word_in p 16 ≡ word_in q 16 → word_in p 24 ≡ word_in q 24 → p ≡ q
 same_text p q bp bq lp lq a b c d =
     sym (in_parts p lp)
     ∙ (ap (λ xs. xs ++ (take 8 (drop 8 p) ++ (take 8 (drop 16 p) ++ take 8 (drop 24 p)))) (same_part p q 0 bp bq (omega arith) (omega arith) a)
@@ -146,11 +153,17 @@ same_number a b = grind (arith, nat_tests)
 same_words : (a b : NameKey) → is_eq (by_words a b) ≡ ((a.first == b.first) && ((a.second == b.second) && ((a.third == b.third) && (a.fourth == b.fourth))))
 same_words a b =
     let last : is_eq (ordering_then (nat_cmp a.third b.third) (nat_cmp a.fourth b.fourth)) ≡ ((a.third == b.third) && (a.fourth == b.fourth)) =
-    then_is (nat_cmp a.third b.third) (nat_cmp a.fourth b.fourth) ∙ (ap (λ x. x && is_eq (nat_cmp a.fourth b.fourth)) (same_number a.third b.third) ∙ ap (λ x. (a.third == b.third) && x) (same_number a.fourth b.fourth)) in
-    let rest : is_eq (ordering_then (nat_cmp a.second b.second) (ordering_then (nat_cmp a.third b.third) (nat_cmp a.fourth b.fourth))) ≡ ((a.second == b.second) && ((a.third == b.third) && (a.fourth == b.fourth))) =
-    then_is (nat_cmp a.second b.second) (ordering_then (nat_cmp a.third b.third) (nat_cmp a.fourth b.fourth)) ∙ (ap (λ x. x && is_eq (ordering_then (nat_cmp a.third b.third) (nat_cmp a.fourth b.fourth))) (same_number a.second b.second) ∙ ap (λ x. (a.second == b.second) && x) last) in
+    then_is (nat_cmp a.third b.third) (nat_cmp a.fourth b.fourth)
+    ∙ (ap (λ x. x && is_eq (nat_cmp a.fourth b.fourth)) (same_number a.third b.third)
+    ∙ ap (λ x. (a.third == b.third) && x) (same_number a.fourth b.fourth)) in
+    let rest : is_eq (ordering_then (nat_cmp a.second b.second) (ordering_then (nat_cmp a.third b.third) (nat_cmp a.fourth b.fourth)))
+    ≡ ((a.second == b.second) && ((a.third == b.third) && (a.fourth == b.fourth))) =
+    then_is (nat_cmp a.second b.second) (ordering_then (nat_cmp a.third b.third) (nat_cmp a.fourth b.fourth))
+    ∙ (ap (λ x. x && is_eq (ordering_then (nat_cmp a.third b.third) (nat_cmp a.fourth b.fourth))) (same_number a.second b.second)
+    ∙ ap (λ x. (a.second == b.second) && x) last) in
     then_is (nat_cmp a.first b.first) (ordering_then (nat_cmp a.second b.second) (ordering_then (nat_cmp a.third b.third) (nat_cmp a.fourth b.fourth)))
-    ∙ (ap (λ x. x && is_eq (ordering_then (nat_cmp a.second b.second) (ordering_then (nat_cmp a.third b.third) (nat_cmp a.fourth b.fourth)))) (same_number a.first b.first) ∙ ap (λ x. (a.first == b.first) && x) rest)
+    ∙ (ap (λ x. x && is_eq (ordering_then (nat_cmp a.second b.second) (ordering_then (nat_cmp a.third b.third) (nat_cmp a.fourth b.fourth))))
+    (same_number a.first b.first) ∙ ap (λ x. (a.first == b.first) && x) rest)
 
 all_same : (a b c d : Bool) → a ≡ true → b ≡ true → c ≡ true → d ≡ true → (a && (b && (c && d))) ≡ true
 all_same a b c d h i j k = cc
@@ -158,7 +171,8 @@ all_same a b c d h i j k = cc
 same_itself : (a : NameKey) → is_eq (by_words a a) ≡ true
 same_itself a =
     same_words a a
-    ∙ all_same (a.first == a.first) (a.second == a.second) (a.third == a.third) (a.fourth == a.fourth) (eq-eqb a.first a.first refl) (eq-eqb a.second a.second refl) (eq-eqb a.third a.third refl) (eq-eqb a.fourth a.fourth refl)
+    ∙ all_same (a.first == a.first) (a.second == a.second) (a.third == a.third) (a.fourth == a.fourth) (eq-eqb a.first a.first refl)
+    (eq-eqb a.second a.second refl) (eq-eqb a.third a.third refl) (eq-eqb a.fourth a.fourth refl)
 
 pub equal_words : (a b : NameKey) → is_eq (by_words a b) ≡ true → (a.first ≡ b.first) × (a.second ≡ b.second) × (a.third ≡ b.third) × (a.fourth ≡ b.fourth)
 equal_words a b h =
@@ -207,7 +221,8 @@ and_yes : (a b : Bool) → a ≡ true → (a && b) ≡ b
 and_yes a b h = cc
 
 -- a set with one name more
-pub has_more : (old new : Names) (bytes x : List ℕ) → is_short bytes ≡ true → Updates by_words old new (key_of bytes) true → has new x ≡ (bytes_eq bytes x || has old x)
+pub has_more : (old new : Names) (bytes x : List ℕ) → is_short bytes ≡ true → Updates by_words old new (key_of bytes) true
+    → has new x ≡ (bytes_eq bytes x || has old x)
 unfolding has
 has_more old new bytes x short up =
     elim (cases_Bool (is_short x)) [

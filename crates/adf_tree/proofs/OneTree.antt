@@ -19,7 +19,8 @@ use Rattle.adf_tree.proofs.PathsFound.{path_found}
 use Rattle.adf_tree.proofs.Told.{entry_at, path_past}
 
 -- a path depends on the entries up to its own
-pub path_in_front : (front rest : List Entry) (d : Entry) (f n : ℕ) → IsTree (front ++ rest) → n ≤ length front → path_in (front ++ rest) f n ≡ path_in front f n
+pub path_in_front : (front rest : List Entry) (d : Entry) (f n : ℕ) → IsTree (front ++ rest) → n ≤ length front
+    → path_in (front ++ rest) f n ≡ path_in front f n
 path_in_front front rest d zero n t le = refl
 path_in_front front rest d (suc f) zero t le = refl
 path_in_front front rest d (suc f) (suc m) t le =
@@ -45,7 +46,8 @@ pub record IsFirst (y : Entry) (p s : ℕ) (c : Content) : Type 0 where
   pub early : rank y ≤ rank_of p s
   pub same : in_chain p s y ≡ true → content y ≡ c
 
-early_one : (y : Entry) (p s : ℕ) (l : List Entry) (c : Content) (cs : List Content) → All (λ w. rank y ≤ rank w) l → All (λ w. in_chain p s w ≡ true) l → c ∷ cs ≡ map content l → rank y ≤ rank_of p s
+early_one : (y : Entry) (p s : ℕ) (l : List Entry) (c : Content) (cs : List Content) → All (λ w. rank y ≤ rank w) l → All (λ w. in_chain p s w ≡ true) l
+    → c ∷ cs ≡ map content l → rank y ≤ rank_of p s
 early_one y p s [] c cs later in_it h = cc
 early_one y p s (w ∷ ws) c cs later in_it h =
     let at = in_chain_rank p s w (in_it 0 w (omega arith)) in
@@ -53,7 +55,8 @@ early_one y p s (w ∷ ws) c cs later in_it h =
     let le : rank y ≤ rank w = later 0 w (omega arith) in
     omega (arith, is, le)
 
-first_in : (y : Entry) (ys : List Entry) (p s : ℕ) (c : Content) (cs : List Content) → IsNonDecreasingBy rank (y ∷ ys) → c ∷ cs ≡ map content (filter (in_chain p s) (y ∷ ys)) → IsFirst y p s c
+first_in : (y : Entry) (ys : List Entry) (p s : ℕ) (c : Content) (cs : List Content) → IsNonDecreasingBy rank (y ∷ ys)
+    → c ∷ cs ≡ map content (filter (in_chain p s) (y ∷ ys)) → IsFirst y p s c
 first_in y ys p s c cs up h =
     let q : Entry → Bool = in_chain p s in
     elim (cases_Bool (in_chain p s y)) [
@@ -79,7 +82,8 @@ back_sorted front back up a b d ab lt =
     (up (length front + a) (length front + b) d (omega arith) (omega arith)))
 
 -- the chain of the next entry has the same contents in both trees
-same_chain : (front r other : List Entry) (e : Entry) (a : List Addition) → IsTreeOf (front ++ e ∷ r) a → IsTreeOf (front ++ other) a → content e ∷ map content (filter (in_chain e.parent (slot_of e.name)) r) ≡ map content (filter (in_chain e.parent (slot_of e.name)) other)
+same_chain : (front r other : List Entry) (e : Entry) (a : List Addition) → IsTreeOf (front ++ e ∷ r) a → IsTreeOf (front ++ other) a
+    → content e ∷ map content (filter (in_chain e.parent (slot_of e.name)) r) ≡ map content (filter (in_chain e.parent (slot_of e.name)) other)
 same_chain front r other e a t u =
     let es : List Entry = front ++ e ∷ r in
     let os : List Entry = front ++ other in
@@ -99,11 +103,14 @@ same_chain front r other e a t u =
     λ back. ap (map content) (filter-append q front back) ∙ map-append content (filter q front) (filter q back) in
     let mine : filter q (e ∷ r) ≡ e ∷ filter q r = ap (λ b. cond b (e ∷ filter q r) (filter q r)) (in_chain_from p s e refl refl) in
     ap (map content) (sym mine)
-    ∙ append_cancel_left (map content (filter q front)) (map content (filter q (e ∷ r))) (map content (filter q other)) (sym (split (e ∷ r)) ∙ (both ∙ split other))
+    ∙ append_cancel_left (map content (filter q front)) (map content (filter q (e ∷ r))) (map content (filter q other))
+    (sym (split (e ∷ r)) ∙ (both ∙ split other))
 
-next_is : (front r ys : List Entry) (e y : Entry) (a : List Addition) → IsTreeOf (front ++ e ∷ r) a → IsTreeOf (front ++ y ∷ ys) a → IsFirst y e.parent (slot_of e.name) (content e)
+next_is : (front r ys : List Entry) (e y : Entry) (a : List Addition) → IsTreeOf (front ++ e ∷ r) a → IsTreeOf (front ++ y ∷ ys) a
+    → IsFirst y e.parent (slot_of e.name) (content e)
 next_is front r ys e y a t u =
-    first_in y ys e.parent (slot_of e.name) (content e) (map content (filter (in_chain e.parent (slot_of e.name)) r)) (back_sorted front (y ∷ ys) u.tree.order) (same_chain front r (y ∷ ys) e a t u)
+    first_in y ys e.parent (slot_of e.name) (content e) (map content (filter (in_chain e.parent (slot_of e.name)) r))
+    (back_sorted front (y ∷ ys) u.tree.order) (same_chain front r (y ∷ ys) e a t u)
 
 -- so the next entries are one
 next_same : (front r ys : List Entry) (e y : Entry) (a : List Addition) → IsTreeOf (front ++ e ∷ r) a → IsTreeOf (front ++ y ∷ ys) a → e ≡ y

@@ -37,7 +37,8 @@ pub uncut : (text : List ℕ) → None ≡ position is_slash text → parts text
 uncut text h =
     elim (cases_Bool (nat_lt (position_or_len is_slash text) (length text))) [
       | inl t ↦ let g : None ≡ Some (position_or_len is_slash text) = h ∙ ap (λ b. cond b (Some (position_or_len is_slash text)) None) t in cc
-      | inr f ↦ slice_split_none is_slash text (λ k d lt. fails_before_first is_slash text k d (omega (arith, ltb-false (position_or_len is_slash text) (length text) f)))
+      | inr f ↦ slice_split_none is_slash text (λ k d lt. fails_before_first is_slash text k d
+          (omega (arith, ltb-false (position_or_len is_slash text) (length text) f)))
     ]
 
 -- names have no `/`, escaped or not
@@ -86,18 +87,21 @@ parts_of_text text path some h =
     ap parts h.spells ∙ parts_of_some path (omega (arith, some, ap length h.spells)) h.names
 
 -- a part that spells no name
-pub bad_part : (text part : List ℕ) (names more : List (List ℕ)) → 0 < length text → parts text ≡ map escaped names ++ part ∷ more → ((name : List ℕ) → IsName name → part ≢ escaped name) → (path : List (List ℕ)) → ¬ IsPathText text path
+pub bad_part : (text part : List ℕ) (names more : List (List ℕ)) → 0 < length text → parts text ≡ map escaped names ++ part ∷ more
+    → ((name : List ℕ) → IsName name → part ≢ escaped name) → (path : List (List ℕ)) → ¬ IsPathText text path
 bad_part text part names more some split none path h =
     let front : List (List ℕ) = map escaped names in
     let k : ℕ = length front in
     let whole : parts text ≡ map escaped path = parts_of_text text path some h in
-    let within : length (map escaped names) < length path = omega (arith, ap length whole, length-map path escaped, ap length split, length-append front (part ∷ more)) in
+    let within : length (map escaped names) < length path =
+    omega (arith, ap length whole, length-map path escaped, ap length split, length-append front (part ∷ more)) in
     none (get_or path k []) (h.names k [] within)
     (sym (get_or-append_seam front part more part)
     ∙ (ap (λ ps. get_or ps k part) (sym split ∙ whole) ∙ get_or-map escaped path k [] part within))
 
 -- one part more spells a name
-pub one_part : (text part name : List ℕ) (names more : List (List ℕ)) → parts text ≡ map escaped names ++ part ∷ more → part ≡ escaped name → parts text ≡ map escaped (names ++ name ∷ []) ++ more
+pub one_part : (text part name : List ℕ) (names more : List (List ℕ)) → parts text ≡ map escaped names ++ part ∷ more → part ≡ escaped name
+    → parts text ≡ map escaped (names ++ name ∷ []) ++ more
 one_part text part name names more split is =
     split
     ∙ (ap (λ p. map escaped names ++ p ∷ more) is
@@ -109,11 +113,13 @@ pub all_parts : (text : List ℕ) (path : List (List ℕ)) → parts text ≡ ma
 all_parts text path h names = record { spells = sym (join_with_byte-slice_split 47 text) ∙ ap (join_with_byte 47) h; names = names }
 
 -- the part before the next `/`
-pub next_part : (text part rest : List ℕ) (names more : List (List ℕ)) → parts text ≡ map escaped names ++ parts rest → parts rest ≡ part ∷ more → parts text ≡ map escaped names ++ part ∷ more
+pub next_part : (text part rest : List ℕ) (names more : List (List ℕ)) → parts text ≡ map escaped names ++ parts rest → parts rest ≡ part ∷ more
+    → parts text ≡ map escaped names ++ part ∷ more
 next_part text part rest names more split cut = split ∙ ap (λ ps. map escaped names ++ ps) cut
 
 -- the first part is there whatever follows
-pub part_first : (o : Option (Bor (List ℕ))) (part : List ℕ) (ps : List (List ℕ)) → IfNone o (ps ≡ part ∷ []) → IfSome o (λ after. ps ≡ part ∷ parts after.now) → (more : List (List ℕ)) × (ps ≡ part ∷ more)
+pub part_first : (o : Option (Bor (List ℕ))) (part : List ℕ) (ps : List (List ℕ)) → IfNone o (ps ≡ part ∷ [])
+    → IfSome o (λ after. ps ≡ part ∷ parts after.now) → (more : List (List ℕ)) × (ps ≡ part ∷ more)
 part_first (Some after) part ps none some = (parts after.now, some)
 part_first None part ps none some = ([], none)
 
@@ -125,11 +131,13 @@ pub last_part : (o : Option (Bor (List ℕ))) (part : List ℕ) (ps : List (List
 last_part None part ps h is = is
 last_part (Some after) part ps h is = cc
 
-pub part_before : (o : Option (Bor (List ℕ))) (part : List ℕ) (ps : List (List ℕ)) (after : Bor (List ℕ)) → o ≡ Some after → IfSome o (λ after. ps ≡ part ∷ parts after.now) → ps ≡ part ∷ parts after.now
+pub part_before : (o : Option (Bor (List ℕ))) (part : List ℕ) (ps : List (List ℕ)) (after : Bor (List ℕ)) → o ≡ Some after
+    → IfSome o (λ after. ps ≡ part ∷ parts after.now) → ps ≡ part ∷ parts after.now
 part_before None part ps after h is = cc
 part_before (Some x) part ps after h is = let same : x ≡ after = cc in is ∙ ap (λ y. part ∷ parts y.now) same
 
-pub some_name : (r : Option (List ℕ)) (part : List ℕ) → is_some r ≡ true → IfSome r (λ n. part ≡ escaped n) → IfSome r IsName → (name : List ℕ) × (part ≡ escaped name) × IsName name
+pub some_name : (r : Option (List ℕ)) (part : List ℕ) → is_some r ≡ true → IfSome r (λ n. part ≡ escaped n) → IfSome r IsName
+    → (name : List ℕ) × (part ≡ escaped name) × IsName name
 some_name (Some name) part h is ok = (name, is, ok)
 some_name None part h is ok = cc
 
@@ -161,7 +169,8 @@ one_path (c ∷ cs) path other h g =
     (sym (parts_of_text (c ∷ cs) path (omega arith) h) ∙ parts_of_text (c ∷ cs) other (omega arith) g)
 
 -- where the only bytes that a text spells are no name
-pub no_name : (r : Option (List ℕ)) (text bytes : List ℕ) → IsSpelling 30 text bytes → (IsSome r ↔ (is_name bytes ≡ true)) → IfNone r ((name : List ℕ) → IsName name → text ≢ escaped name)
+pub no_name : (r : Option (List ℕ)) (text bytes : List ℕ) → IsSpelling 30 text bytes → (IsSome r ↔ (is_name bytes ≡ true))
+    → IfNone r ((name : List ℕ) → IsName name → text ≢ escaped name)
 no_name (Some n) text bytes h allowed = tt
 no_name None text bytes h allowed = λ name is e.
     let same : bytes ≡ name = only_spelled bytes name h.are_bytes is.are_bytes (sym h.spells ∙ e) in
@@ -181,7 +190,8 @@ path_text_more (first ∷ next ∷ names) name =
     ∙ (ap (λ t. t ++ escaped name) (sym (append_assoc (escaped first) (47 ∷ rest) (47 ∷ [])))
     ∙ ap (with_name (path_text (first ∷ next ∷ names)) name) (sym more)))
 
-pub path_text_step : (path : List (List ℕ)) (i : ℕ) (name text : List ℕ) → i < length path → name ≡ get_or path i name → text ≡ with_name (path_text (take i path)) name (i == 0) → text ≡ path_text (take (i + 1) path)
+pub path_text_step : (path : List (List ℕ)) (i : ℕ) (name text : List ℕ) → i < length path → name ≡ get_or path i name
+    → text ≡ with_name (path_text (take i path)) name (i == 0) → text ≡ path_text (take (i + 1) path)
 path_text_step path i name text lt at is =
     is
     ∙ (ap (λ n. with_name (path_text (take i path)) name (n == 0)) (sym (length-take-le i path (omega arith)))

@@ -30,7 +30,8 @@ found_in es (suc f) (suc m) t le small =
     let back : n - 1 + 1 ≡ n = omega arith in
     ap (λ o. find es (path_past es f o)) (entry_at es n d (omega arith) le)
     ∙ (find_snoc es 0 e.parent parents (uppers e.name) (found_in es f e.parent t (omega arith) (omega arith))
-    ∙ (ap (then_find es []) (child_is es e.parent (uppers e.name) (n - 1) d t (omega arith) (is_child_from e.parent (uppers e.name) e refl (sym (uppers_twice e.name)))) ∙ ap Some back))
+    ∙ (ap (then_find es []) (child_is es e.parent (uppers e.name) (n - 1) d t (omega arith)
+    (is_child_from e.parent (uppers e.name) e refl (sym (uppers_twice e.name)))) ∙ ap Some back))
 
 pub path_found : (es : List Entry) (n : ℕ) → IsTree es → n ≤ length es → find es (path_of es n) ≡ Some n
 path_found es n t le = found_in es n n t le (omega arith)

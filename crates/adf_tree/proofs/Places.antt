@@ -12,7 +12,8 @@ greater a b h = grind (arith, nat_tests)
 not_greater : (a b : ℕ) → nat_le a b ≡ false → nat_lt b a ≡ true
 not_greater a b h = grind (arith, nat_tests)
 
-pub place_is : (es : List Entry) (r i : ℕ) → i ≤ length es → IsPartitionPoint (λ e. nat_le (rank e) r ≡ true) (λ e. nat_le (rank e) r ≡ false) es i → i ≡ place es r
+pub place_is : (es : List Entry) (r i : ℕ) → i ≤ length es → IsPartitionPoint (λ e. nat_le (rank e) r ≡ true) (λ e. nat_le (rank e) r ≡ false) es i
+    → i ≡ place es r
 place_is [] r i le h = omega arith
 place_is (e ∷ es) r i le h =
     sym

@@ -22,7 +22,8 @@ body_is_dir : (b : Body) → is_dir_body b ≡ true → b ≡ Dir
 body_is_dir Dir h = refl
 body_is_dir (File bytes) h = cc
 
-slice_dir : (es : List Entry) (i : ℕ) → unwrap_or (option_map (λ e. is_dir_body e.body) (slice_get es i)) false ≡ true → (i < length es) × ((d : Entry) → (get_or es i d).body ≡ Dir)
+slice_dir : (es : List Entry) (i : ℕ) → unwrap_or (option_map (λ e. is_dir_body e.body) (slice_get es i)) false ≡ true
+    → (i < length es) × ((d : Entry) → (get_or es i d).body ≡ Dir)
 slice_dir [] i h = cc
 slice_dir (e ∷ es) zero h = (omega arith, λ d. body_is_dir e.body h)
 slice_dir (e ∷ es) (suc i) h = let more = slice_dir es i h in (omega (arith, more.0), more.1)
@@ -35,13 +36,16 @@ is_dir_says es n h some =
     (omega (arith, at.0), at.1)
 
 -- a path of directories leads to one
-step_dir : (es : List Entry) (names : List (List ℕ)) (q : ℕ) → ((n : ℕ) → directory_from es n names ≡ Ok q → IsDir es n → IsDir es q) → (o : Option ℕ) → (let r : Result ℕ AddFault = elim o [ None ↦ Err NoParent | Some n ↦ if is_dir es n then directory_from es n names else Err ParentIsFile ] in r ≡ Ok q) → IsDir es q
+step_dir : (es : List Entry) (names : List (List ℕ)) (q : ℕ) → ((n : ℕ) → directory_from es n names ≡ Ok q → IsDir es n → IsDir es q) → (o : Option ℕ)
+    → (let r : Result ℕ AddFault =
+    elim o [ None ↦ Err NoParent | Some n ↦ if is_dir es n then directory_from es n names else Err ParentIsFile ] in r ≡ Ok q) → IsDir es q
 step_dir es names q ih None h = cc
 step_dir es names q ih (Some n) h =
     elim (cases_Bool (is_dir es n)) [
       | inl t ↦ ih n (sym (ap (λ b. let r : Result ℕ AddFault = if b then directory_from es n names else Err ParentIsFile in r) t) ∙ h) (is_dir_says es n t)
       | inr f ↦
-          let g : (let r : Result ℕ AddFault = Err ParentIsFile in r ≡ Ok q) = sym (ap (λ b. let r : Result ℕ AddFault = if b then directory_from es n names else Err ParentIsFile in r) f) ∙ h in
+          let g : (let r : Result ℕ AddFault = Err ParentIsFile in r ≡ Ok q) =
+          sym (ap (λ b. let r : Result ℕ AddFault = if b then directory_from es n names else Err ParentIsFile in r) f) ∙ h in
           cc
     ]
 
@@ -55,20 +59,25 @@ none_is es p name k d h lt =
     let test : Entry → Bool = is_child p name in
     let n : ℕ = position_or_len (is_child p name) es in
     elim (cases_Bool (nat_lt (position_or_len (is_child p name) es) (length es))) [
-      | inl t ↦ let g : Some (position_or_len (is_child p name) es + 1) ≡ None = sym (ap (λ b. option_map (λ i. i + 1) (cond b (Some (position_or_len (is_child p name) es)) None)) t) ∙ h in cc
+      | inl t ↦
+          let g : Some (position_or_len (is_child p name) es + 1) ≡ None =
+          sym (ap (λ b. option_map (λ i. i + 1) (cond b (Some (position_or_len (is_child p name) es)) None)) t) ∙ h in
+          cc
       | inr f ↦ fails_before_first (is_child p name) es k d (omega (arith, ltb-false (position_or_len (is_child p name) es) (length es) f))
     ]
 
 pub none_is_fresh : (es : List Entry) (e : Entry) → child es e.parent e.name ≡ None → (k : ℕ) (d : Entry) → k < length es → AreApart (get_or es k d) e
 none_is_fresh es e h k d lt p u =
     both_ways (is_child e.parent e.name (get_or es k d)) (none_is es e.parent e.name k d h lt)
-    (and_from ((get_or es k d).parent == e.parent) (bytes_eq (uppers (get_or es k d).name) (uppers e.name)) (eq-eqb (get_or es k d).parent e.parent p) ((bytes_eq-Decides (uppers (get_or es k d).name) (uppers e.name)).1 u))
+    (and_from ((get_or es k d).parent == e.parent) (bytes_eq (uppers (get_or es k d).name) (uppers e.name)) (eq-eqb (get_or es k d).parent e.parent p)
+    ((bytes_eq-Decides (uppers (get_or es k d).name) (uppers e.name)).1 u))
 
 free_says : (p q : ℕ) (o : Option ℕ) → free_in p o ≡ Ok q → (p ≡ q) × (o ≡ None)
 free_says p q None h = (cc, refl)
 free_says p q (Some n) h = cc
 
-pub room_says : (es : List Entry) (e : Entry) (r : Result ℕ AddFault) → room_at es e.name r ≡ Ok e.parent → (r ≡ Ok e.parent) × (child es e.parent e.name ≡ None)
+pub room_says : (es : List Entry) (e : Entry) (r : Result ℕ AddFault) → room_at es e.name r ≡ Ok e.parent
+    → (r ≡ Ok e.parent) × (child es e.parent e.name ≡ None)
 room_says es e (Ok p) h =
     let both = free_says p e.parent (child es p e.name) h in
     (ap (λ n. let r : Result ℕ AddFault = Ok n in r) both.0, ap (λ n. child es n e.name) (sym both.0) ∙ both.1)
@@ -83,12 +92,16 @@ room_may_add es e names h =
     }
 
 -- so a tree stays one, whatever `add` answers
-pub room_keeps : (es : List Entry) (e : Entry) (names : List (List ℕ)) (b : Bool) → IsTree es → room_at es e.name (directory_from es 0 names) ≡ Ok e.parent → IsTree (if b then added es e else es)
+pub room_keeps : (es : List Entry) (e : Entry) (names : List (List ℕ)) (b : Bool) → IsTree es → room_at es e.name (directory_from es 0 names) ≡ Ok e.parent
+    → IsTree (if b then added es e else es)
 room_keeps es e names true t h = added_tree es e t (room_may_add es e names h)
 room_keeps es e names false t h = t
 
 -- the entry that `add` makes
-pub same_entry : (es : List Entry) (path : List (List ℕ)) (meta : Meta) (body : Body) (x name : List ℕ) (p : ℕ) → (length path == 0) ≡ false → x ≡ get_or path (length path - 1) x → name ≡ x → (let r : Result ℕ AddFault = Ok p in r ≡ room_at es name (directory_from es 0 (take (length path - 1) path))) → (let e : Entry = record { parent = p; name = name; meta = meta; body = body } in e ≡ new_entry es path meta body)
+pub same_entry : (es : List Entry) (path : List (List ℕ)) (meta : Meta) (body : Body) (x name : List ℕ) (p : ℕ) → (length path == 0) ≡ false
+    → x ≡ get_or path (length path - 1) x → name ≡ x
+    → (let r : Result ℕ AddFault = Ok p in r ≡ room_at es name (directory_from es 0 (take (length path - 1) path)))
+    → (let e : Entry = record { parent = p; name = name; meta = meta; body = body } in e ≡ new_entry es path meta body)
 same_entry es path meta body x name p some at same ok =
     let lt : length path - 1 < length path = omega (arith, eqb-false (length path) 0 some) in
     let last : name ≡ last_of path = same ∙ (at ∙ get_or_default path (length path - 1) x [] lt) in
@@ -99,6 +112,8 @@ same_entry es path meta body x name p some at same ok =
     ∙ ap (λ q. let e : Entry = record { parent = q; name = last_of path; meta = meta; body = body } in e) (sym (ap in_directory room))
 
 -- the tree that it leaves
-pub tree_left : (t : Tree) (entries : List Entry) (e : Entry) (b : Bool) (path : List (List ℕ)) (meta : Meta) (body : Body) → entries ≡ (if b then added t.entries e else t.entries) → e ≡ new_entry t.entries path meta body → (let u : Tree = record t { entries = entries } in u ≡ (if b then with_entry t path meta body else t))
+pub tree_left : (t : Tree) (entries : List Entry) (e : Entry) (b : Bool) (path : List (List ℕ)) (meta : Meta) (body : Body)
+    → entries ≡ (if b then added t.entries e else t.entries) → e ≡ new_entry t.entries path meta body
+    → (let u : Tree = record t { entries = entries } in u ≡ (if b then with_entry t path meta body else t))
 tree_left t entries e true path meta body h same = ap (λ es. let u : Tree = record t { entries = es } in u) (h ∙ ap (added t.entries) same)
 tree_left t entries e false path meta body h same = ap (λ es. let u : Tree = record t { entries = es } in u) h

@@ -13,7 +13,8 @@ not_true false h = refl
 get_or-uppers : (a : List ℕ) (k : ℕ) → k < length a → get_or (uppers a) k 0 ≡ upper_of (get_or a k 0)
 get_or-uppers a k h = get_or-map upper_of a k 0 0 h
 
-pub same_yes : (a b : List ℕ) → length a ≡ length b → ((k : ℕ) → k < length a → upper_of (get_or a k 0) ≡ upper_of (get_or b k 0)) → bytes_eq (uppers a) (uppers b) ≡ true
+pub same_yes : (a b : List ℕ) → length a ≡ length b → ((k : ℕ) → k < length a → upper_of (get_or a k 0) ≡ upper_of (get_or b k 0))
+    → bytes_eq (uppers a) (uppers b) ≡ true
 same_yes a b e h =
     (bytes_eq-Decides (uppers a) (uppers b)).1
     (same_lists (uppers a) (uppers b) (simp length-map e)

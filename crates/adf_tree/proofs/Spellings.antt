@@ -34,18 +34,21 @@ one_spelling c d u v cs ds h =
                 let g : c ∷ u ≡ d ∷ v = sym (ap (λ s. s ++ u) (spelled_plain c p)) ∙ (h ∙ ap (λ s. s ++ v) (spelled_plain d q)) in
                 (cc, cc)
             | inr q ↦
-                let g : c ∷ u ≡ 92 ∷ (120 ∷ hex_digit (d / 16) ∷ hex_digit (d % 16) ∷ v) = sym (ap (λ s. s ++ u) (spelled_plain c p)) ∙ (h ∙ ap (λ s. s ++ v) (spelled_escape d q)) in
+                let g : c ∷ u ≡ 92 ∷ (120 ∷ hex_digit (d / 16) ∷ hex_digit (d % 16) ∷ v) =
+                sym (ap (λ s. s ++ u) (spelled_plain c p)) ∙ (h ∙ ap (λ s. s ++ v) (spelled_escape d q)) in
                 let e : c ≡ 92 = cc in
                 absurd (plain_not_escape c p e)
           ]
       | inr p ↦
           elim (cases_Bool (is_plain d)) [
             | inl q ↦
-                let g : 92 ∷ (120 ∷ hex_digit (c / 16) ∷ hex_digit (c % 16) ∷ u) ≡ d ∷ v = sym (ap (λ s. s ++ u) (spelled_escape c p)) ∙ (h ∙ ap (λ s. s ++ v) (spelled_plain d q)) in
+                let g : 92 ∷ (120 ∷ hex_digit (c / 16) ∷ hex_digit (c % 16) ∷ u) ≡ d ∷ v =
+                sym (ap (λ s. s ++ u) (spelled_escape c p)) ∙ (h ∙ ap (λ s. s ++ v) (spelled_plain d q)) in
                 let e : d ≡ 92 = cc in
                 absurd (plain_not_escape d q e)
             | inr q ↦
-                let g : 92 ∷ (120 ∷ hex_digit (c / 16) ∷ hex_digit (c % 16) ∷ u) ≡ 92 ∷ (120 ∷ hex_digit (d / 16) ∷ hex_digit (d % 16) ∷ v) = sym (ap (λ s. s ++ u) (spelled_escape c p)) ∙ (h ∙ ap (λ s. s ++ v) (spelled_escape d q)) in
+                let g : 92 ∷ (120 ∷ hex_digit (c / 16) ∷ hex_digit (c % 16) ∷ u) ≡ 92 ∷ (120 ∷ hex_digit (d / 16) ∷ hex_digit (d % 16) ∷ v) =
+                sym (ap (λ s. s ++ u) (spelled_escape c p)) ∙ (h ∙ ap (λ s. s ++ v) (spelled_escape d q)) in
                 let a : hex_digit (c / 16) ≡ hex_digit (d / 16) = cc in
                 let b : hex_digit (c % 16) ≡ hex_digit (d % 16) = cc in
                 let t : u ≡ v = cc in
@@ -61,11 +64,13 @@ spelling_some c u h =
     ]
 
 -- what was read of a text is the head of what it spells
-pub rest_spelled : (done bytes rest : List ℕ) → All (λ c. c < 256) done → All (λ c. c < 256) bytes → escaped bytes ≡ escaped done ++ rest → (more : List ℕ) × (bytes ≡ done ++ more) × (escaped more ≡ rest)
+pub rest_spelled : (done bytes rest : List ℕ) → All (λ c. c < 256) done → All (λ c. c < 256) bytes → escaped bytes ≡ escaped done ++ rest
+    → (more : List ℕ) × (bytes ≡ done ++ more) × (escaped more ≡ rest)
 rest_spelled [] bytes rest x y h = (bytes, refl, h)
 rest_spelled (c ∷ cs) [] rest x y h = absurd (spelling_some c (escaped cs ++ rest) (sym (append_assoc (escape_of c) (escaped cs) rest) ∙ sym h))
 rest_spelled (c ∷ cs) (d ∷ ds) rest x y h =
-    let both = one_spelling d c (escaped ds) (escaped cs ++ rest) (All-head (λ k. k < 256) d ds y) (All-head (λ k. k < 256) c cs x) (h ∙ append_assoc (escape_of c) (escaped cs) rest) in
+    let both = one_spelling d c (escaped ds) (escaped cs ++ rest) (All-head (λ k. k < 256) d ds y) (All-head (λ k. k < 256) c cs x)
+    (h ∙ append_assoc (escape_of c) (escaped cs) rest) in
     let more = rest_spelled cs ds rest (All-tail (λ k. k < 256) c cs x) (All-tail (λ k. k < 256) d ds y) both.1 in
     (more.0, ap (λ k. k ∷ ds) both.0 ∙ ap (λ zs. c ∷ zs) more.1, more.2)
 
@@ -77,18 +82,21 @@ read_more text done rest after c h g =
     ∙ (sym (append_assoc (escaped done) (escape_of c) after)
     ∙ ap (λ s. s ++ after) (ap (λ s. escaped done ++ s) (sym (append-nil (escape_of c))) ∙ sym (flat_map-append escape_of done (c ∷ [])))))
 
-some_more : (done rest bytes more : List ℕ) → 0 < length rest → bytes ≡ done ++ more → escaped more ≡ rest → (c : ℕ) × (after : List ℕ) × (bytes ≡ done ++ c ∷ after) × (rest ≡ escape_of c ++ escaped after)
+some_more : (done rest bytes more : List ℕ) → 0 < length rest → bytes ≡ done ++ more → escaped more ≡ rest
+    → (c : ℕ) × (after : List ℕ) × (bytes ≡ done ++ c ∷ after) × (rest ≡ escape_of c ++ escaped after)
 some_more done rest bytes [] some is spells = absurd (omega (arith, some, ap length spells))
 some_more done rest bytes (c ∷ after) some is spells = (c, after, is, sym spells)
 
 -- a text spells more than was read of it
-more_spelled : (most : ℕ) (text done rest bytes : List ℕ) → text ≡ escaped done ++ rest → All (λ c. c < 256) done → 0 < length rest → IsSpelling most text bytes → (c : ℕ) × (more : List ℕ) × (bytes ≡ done ++ c ∷ more) × (rest ≡ escape_of c ++ escaped more)
+more_spelled : (most : ℕ) (text done rest bytes : List ℕ) → text ≡ escaped done ++ rest → All (λ c. c < 256) done → 0 < length rest
+    → IsSpelling most text bytes → (c : ℕ) × (more : List ℕ) × (bytes ≡ done ++ c ∷ more) × (rest ≡ escape_of c ++ escaped more)
 more_spelled most text done rest bytes h x some spelling =
     let tail = rest_spelled done bytes rest x spelling.are_bytes (sym spelling.spells ∙ h) in
     some_more done rest bytes tail.0 some tail.1 tail.2
 
 -- no bytes are spelled where no byte's spelling comes next
-pub no_spelling : (most : ℕ) (text done rest : List ℕ) → text ≡ escaped done ++ rest → All (λ c. c < 256) done → 0 < length rest → ((c : ℕ) (after : List ℕ) → c < 256 → rest ≢ escape_of c ++ after) → (bytes : List ℕ) → ¬ IsSpelling most text bytes
+pub no_spelling : (most : ℕ) (text done rest : List ℕ) → text ≡ escaped done ++ rest → All (λ c. c < 256) done → 0 < length rest
+    → ((c : ℕ) (after : List ℕ) → c < 256 → rest ≢ escape_of c ++ after) → (bytes : List ℕ) → ¬ IsSpelling most text bytes
 no_spelling most text done rest h x some none bytes spelling =
     let next = more_spelled most text done rest bytes h x some spelling in
     let in_bytes : length done < length bytes = omega (arith, ap length next.2, length-append done (next.0 ∷ next.1)) in
@@ -96,13 +104,15 @@ no_spelling most text done rest h x some none bytes spelling =
     none next.0 (escaped next.1) (omega (arith, spelling.are_bytes (length done) 0 in_bytes, here)) next.3
 
 -- nor where there are too many
-pub too_many : (most : ℕ) (text done rest : List ℕ) → text ≡ escaped done ++ rest → All (λ c. c < 256) done → 0 < length rest → length done ≡ most → (bytes : List ℕ) → ¬ IsSpelling most text bytes
+pub too_many : (most : ℕ) (text done rest : List ℕ) → text ≡ escaped done ++ rest → All (λ c. c < 256) done → 0 < length rest → length done ≡ most
+    → (bytes : List ℕ) → ¬ IsSpelling most text bytes
 too_many most text done rest h x some full bytes spelling =
     let next = more_spelled most text done rest bytes h x some spelling in
     omega (arith, spelling.short, full, ap length next.2, length-append done (next.0 ∷ next.1))
 
 -- all was read
-pub whole_spelling : (most : ℕ) (text done rest : List ℕ) → text ≡ escaped done ++ rest → All (λ c. c < 256) done → length done ≤ most → length rest ≡ 0 → IsSpelling most text done
+pub whole_spelling : (most : ℕ) (text done rest : List ℕ) → text ≡ escaped done ++ rest → All (λ c. c < 256) done → length done ≤ most → length rest ≡ 0
+    → IsSpelling most text done
 whole_spelling most text done [] h x short end = record { spells = h ∙ append-nil (escaped done); are_bytes = x; short = short }
 whole_spelling most text done (c ∷ cs) h x short end = absurd (omega arith)
 

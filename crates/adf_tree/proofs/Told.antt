@@ -46,7 +46,8 @@ entry_at es n d some most =
 abbrev pub path_past : List Entry → ℕ → Option Entry → List (List ℕ)
 path_past es f o = elim o [ None ↦ [] | Some e ↦ path_in es f e.parent ++ uppers e.name ∷ [] ]
 
-fuel_past : (es : List Entry) (f g : ℕ) (o : Option Entry) → ((x : Entry) → o ≡ Some x → path_in es f x.parent ≡ path_in es g x.parent) → path_past es f o ≡ path_past es g o
+fuel_past : (es : List Entry) (f g : ℕ) (o : Option Entry) → ((x : Entry) → o ≡ Some x → path_in es f x.parent ≡ path_in es g x.parent)
+    → path_past es f o ≡ path_past es g o
 fuel_past es f g None h = refl
 fuel_past es f g (Some x) h = ap (λ zs. zs ++ uppers x.name ∷ []) (h x refl)
 
@@ -77,7 +78,9 @@ child_path es p x k d t h =
     ∙ ap (λ zs. zs ++ uppers x ∷ []) (fuel es (k - 1) p p t (omega (arith, small, says.0)) (omega arith)))))
 
 -- a path leads to the node whose path it is
-led_past : (es : List Entry) (p m : ℕ) (x : List ℕ) (xs : List (List ℕ)) (d : Entry) (o : Option ℕ) → IsTree es → child es p x ≡ o → then_find es xs o ≡ Some m → ((k : ℕ) → find_from es k xs ≡ Some m → path_of es m ≡ path_of es k ++ map uppers xs) → path_of es m ≡ path_of es p ++ (uppers x ∷ map uppers xs)
+led_past : (es : List Entry) (p m : ℕ) (x : List ℕ) (xs : List (List ℕ)) (d : Entry) (o : Option ℕ) → IsTree es → child es p x ≡ o
+    → then_find es xs o ≡ Some m → ((k : ℕ) → find_from es k xs ≡ Some m → path_of es m ≡ path_of es k ++ map uppers xs)
+    → path_of es m ≡ path_of es p ++ (uppers x ∷ map uppers xs)
 led_past es p m x xs d None t h g ih = cc
 led_past es p m x xs d (Some k) t h g ih =
     ih k g ∙ (ap (λ zs. zs ++ map uppers xs) (child_path es p x k d t h) ∙ append_assoc (path_of es p) (uppers x ∷ []) (map uppers xs))
@@ -90,7 +93,8 @@ led es p m (x ∷ xs) d t h = led_past es p m x xs d (child es p x) t refl h (λ
 child_uppers : (es : List Entry) (p : ℕ) (x y : List ℕ) → uppers x ≡ uppers y → child es p x ≡ child es p y
 child_uppers es p x y h = ap (λ u. option_map (λ i. i + 1) (position (λ e. (e.parent == p) && bytes_eq (uppers e.name) u) es)) h
 
-same_then : (es : List Entry) (xs ys : List (List ℕ)) (o : Option ℕ) → ((k : ℕ) → find_from es k xs ≡ find_from es k ys) → then_find es xs o ≡ then_find es ys o
+same_then : (es : List Entry) (xs ys : List (List ℕ)) (o : Option ℕ) → ((k : ℕ) → find_from es k xs ≡ find_from es k ys)
+    → then_find es xs o ≡ then_find es ys o
 same_then es xs ys None h = refl
 same_then es xs ys (Some k) h = h k
 
@@ -103,18 +107,22 @@ find_uppers es p (x ∷ xs) (y ∷ ys) h =
     let rest : map uppers xs ≡ map uppers ys = cc in
     ap (then_find es xs) (child_uppers es p x y one) ∙ same_then es xs ys (child es p y) (λ k. find_uppers es k xs ys rest)
 
-snoc_past : (es : List Entry) (m : ℕ) (ys : List (List ℕ)) (x : List ℕ) (o : Option ℕ) → then_find es ys o ≡ Some m → ((k : ℕ) → find_from es k ys ≡ Some m → find_from es k (ys ++ x ∷ []) ≡ then_find es [] (child es m x)) → then_find es (ys ++ x ∷ []) o ≡ then_find es [] (child es m x)
+snoc_past : (es : List Entry) (m : ℕ) (ys : List (List ℕ)) (x : List ℕ) (o : Option ℕ) → then_find es ys o ≡ Some m
+    → ((k : ℕ) → find_from es k ys ≡ Some m → find_from es k (ys ++ x ∷ []) ≡ then_find es [] (child es m x))
+    → then_find es (ys ++ x ∷ []) o ≡ then_find es [] (child es m x)
 snoc_past es m ys x None h ih = cc
 snoc_past es m ys x (Some k) h ih = ih k h
 
-pub find_snoc : (es : List Entry) (p m : ℕ) (a : List (List ℕ)) (x : List ℕ) → find_from es p a ≡ Some m → find_from es p (a ++ x ∷ []) ≡ then_find es [] (child es m x)
+pub find_snoc : (es : List Entry) (p m : ℕ) (a : List (List ℕ)) (x : List ℕ) → find_from es p a ≡ Some m
+    → find_from es p (a ++ x ∷ []) ≡ then_find es [] (child es m x)
 find_snoc es p m [] x h = let same : p ≡ m = cc in ap (λ v. then_find es [] (child es v x)) same
 find_snoc es p m (y ∷ ys) x h = snoc_past es m ys x (child es p y) h (λ k g. find_snoc es k m ys x g)
 
 -- the laws
 
 -- the path of the new entry leads to it, in whatever case
-pub found_new : (es : List Entry) (e : Entry) (parents q : List (List ℕ)) → IsTree es → MayAdd es e → find es parents ≡ Some e.parent → map uppers q ≡ map uppers (parents ++ e.name ∷ []) → find (added es e) q ≡ Some (place es (rank e) + 1)
+pub found_new : (es : List Entry) (e : Entry) (parents q : List (List ℕ)) → IsTree es → MayAdd es e → find es parents ≡ Some e.parent
+    → map uppers q ≡ map uppers (parents ++ e.name ∷ []) → find (added es e) q ≡ Some (place es (rank e) + 1)
 found_new es e parents q t may to same =
     let n : ℕ = place es (rank e) + 1 in
     let root : moved n 0 ≡ 0 = moved_below n 0 (omega arith) in
@@ -127,7 +135,8 @@ found_new es e parents q t may to same =
     find_uppers (added es e) 0 q (parents ++ e.name ∷ []) same
     ∙ (find_snoc (added es e) 0 e.parent parents e.name there ∙ ap (then_find (added es e) []) (child_new es e e.name t may refl))
 
-pub told_new : (es : List Entry) (e : Entry) (parents q : List (List ℕ)) → IsTree es → MayAdd es e → find es parents ≡ Some e.parent → map uppers q ≡ map uppers (parents ++ e.name ∷ []) → told (added es e) q ≡ Some (content e)
+pub told_new : (es : List Entry) (e : Entry) (parents q : List (List ℕ)) → IsTree es → MayAdd es e → find es parents ≡ Some e.parent
+    → map uppers q ≡ map uppers (parents ++ e.name ∷ []) → told (added es e) q ≡ Some (content e)
 told_new es e parents q t may to same =
     let n : ℕ = place es (rank e) + 1 in
     let at : n - 1 ≡ place es (rank e) = omega arith in
@@ -146,7 +155,8 @@ entry_none es n h =
     ∙ slice_none es (n - 1) (omega arith)
 
 -- an entry is told as before under its new number
-same_content : (es : List Entry) (e : Entry) (m : ℕ) → IsTree es → option_map content (entry (added es e) (moved (place es (rank e) + 1) m)) ≡ option_map content (entry es m)
+same_content : (es : List Entry) (e : Entry) (m : ℕ) → IsTree es
+    → option_map content (entry (added es e) (moved (place es (rank e) + 1) m)) ≡ option_map content (entry es m)
 same_content es e m t =
     let n : ℕ = place es (rank e) + 1 in
     let le : place es (rank e) ≤ length es = place_le es (rank e) in
@@ -160,7 +170,8 @@ same_content es e m t =
       | inr nz ↦
           elim (cases_lt (length es) m) [
             | inl past ↦
-                ap (option_map content) (entry_none (added es e) (moved n m) (omega (arith, moved_above n m (omega arith)))) ∙ sym (ap (option_map content) (entry_none es m past))
+                ap (option_map content) (entry_none (added es e) (moved n m) (omega (arith, moved_above n m (omega arith))))
+                ∙ sym (ap (option_map content) (entry_none es m past))
             | inr within ↦
                 let back : m - 1 + 1 ≡ m = omega arith in
                 ap (option_map content) (entry_at (added es e) (moved n m) e (omega arith) (omega arith))
@@ -169,12 +180,15 @@ same_content es e m t =
           ]
     ]
 
-told_at : (es : List Entry) (e : Entry) (o : Option ℕ) → IsTree es → option_and_then (λ m. option_map content (entry (added es e) m)) (option_map (moved (place es (rank e) + 1)) o) ≡ option_and_then (λ m. option_map content (entry es m)) o
+told_at : (es : List Entry) (e : Entry) (o : Option ℕ) → IsTree es
+    → option_and_then (λ m. option_map content (entry (added es e) m)) (option_map (moved (place es (rank e) + 1)) o)
+    ≡ option_and_then (λ m. option_map content (entry es m)) o
 told_at es e None t = refl
 told_at es e (Some m) t = same_content es e m t
 
 -- every other path tells what it told
-pub told_old : (es : List Entry) (e : Entry) (parents q : List (List ℕ)) → IsTree es → MayAdd es e → find es parents ≡ Some e.parent → map uppers q ≢ map uppers (parents ++ e.name ∷ []) → told (added es e) q ≡ told es q
+pub told_old : (es : List Entry) (e : Entry) (parents q : List (List ℕ)) → IsTree es → MayAdd es e → find es parents ≡ Some e.parent
+    → map uppers q ≢ map uppers (parents ++ e.name ∷ []) → told (added es e) q ≡ told es q
 told_old es e parents q t may to other =
     let n : ℕ = place es (rank e) + 1 in
     let root : moved n 0 ≡ 0 = moved_below n 0 (omega arith) in

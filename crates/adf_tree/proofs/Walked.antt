@@ -28,7 +28,8 @@ pub record GoesToNew (es : List Entry) (e : Entry) (p : ℕ) (q : List (List ℕ
 
 -- a path leads where it led, or to the new entry
 abbrev pub Leads : List Entry → Entry → ℕ → List (List ℕ) → Type 0
-Leads es e p q = (find_from (added es e) (moved (place es (rank e) + 1) p) q ≡ option_map (moved (place es (rank e) + 1)) (find_from es p q)) ⊎ GoesToNew es e p q
+Leads es e p q = (find_from (added es e) (moved (place es (rank e) + 1) p) q ≡ option_map (moved (place es (rank e) + 1)) (find_from es p q))
+    ⊎ GoesToNew es e p q
 
 -- the parent has no child of the new entry's name yet
 nothing_yet : (es : List Entry) (e : Entry) (x : List ℕ) → MayAdd es e → uppers e.name ≡ uppers x → child es e.parent x ≡ None
@@ -37,9 +38,19 @@ nothing_yet es e x may same =
     (λ k d lt. not_true (is_child e.parent x (get_or es k d))
     (λ h. let says = child_says e.parent x (get_or es k d) h in may.fresh k d lt says.0 (says.1 ∙ sym same)))
 
-at_new_then : (es : List Entry) (e : Entry) (p : ℕ) (x : List ℕ) (xs : List (List ℕ)) → IsTree es → MayAdd es e → p ≡ e.parent → uppers e.name ≡ uppers x → child (added es e) (moved (place es (rank e) + 1) p) x ≡ Some (place es (rank e) + 1) → child es p x ≡ None → Leads es e p (x ∷ xs)
+at_new_then : (es : List Entry) (e : Entry) (p : ℕ) (x : List ℕ) (xs : List (List ℕ)) → IsTree es → MayAdd es e → p ≡ e.parent → uppers e.name ≡ uppers x
+    → child (added es e) (moved (place es (rank e) + 1) p) x ≡ Some (place es (rank e) + 1) → child es p x ≡ None → Leads es e p (x ∷ xs)
 at_new_then es e p x [] t may here same now was =
-    inr (record { front = []; last = x; is = refl; leads = ap Some here; same = same; new = step (added es e) (moved (place es (rank e) + 1) p) x [] (Some (place es (rank e) + 1)) now; old = step es p x [] None was })
+    inr (record {
+      front = [];
+      last = x;
+      is = refl;
+      leads = ap Some here;
+      same = same;
+      new =
+          step (added es e) (moved (place es (rank e) + 1) p) x [] (Some (place es (rank e) + 1)) now;
+      old = step es p x [] None was;
+    })
 at_new_then es e p x (y ∷ ys) t may here same now was =
     let n : ℕ = place es (rank e) + 1 in
     inl
@@ -47,7 +58,8 @@ at_new_then es e p x (y ∷ ys) t may here same now was =
     ∙ (step (added es e) n y ys None (child_of_new es e y t may.parent)
     ∙ sym (ap (option_map (moved n)) (step es p x (y ∷ ys) None was))))
 
-at_new : (es : List Entry) (e : Entry) (p : ℕ) (x : List ℕ) (xs : List (List ℕ)) → IsTree es → MayAdd es e → p ≡ e.parent → uppers e.name ≡ uppers x → Leads es e p (x ∷ xs)
+at_new : (es : List Entry) (e : Entry) (p : ℕ) (x : List ℕ) (xs : List (List ℕ)) → IsTree es → MayAdd es e → p ≡ e.parent → uppers e.name ≡ uppers x
+    → Leads es e p (x ∷ xs)
 at_new es e p x xs t may here same =
     let n : ℕ = place es (rank e) + 1 in
     let to : moved n p ≡ e.parent = ap (moved n) here ∙ parent_stays es e t may.parent in
@@ -56,7 +68,9 @@ at_new es e p x xs t may here same =
     at_new_then es e p x xs t may here same now was
 
 -- past a name that is found as before
-past_old : (es : List Entry) (e : Entry) (p : ℕ) (x : List ℕ) (xs : List (List ℕ)) (o : Option ℕ) → child es p x ≡ o → child (added es e) (moved (place es (rank e) + 1) p) x ≡ option_map (moved (place es (rank e) + 1)) o → ((m : ℕ) → Leads es e m xs) → Leads es e p (x ∷ xs)
+past_old : (es : List Entry) (e : Entry) (p : ℕ) (x : List ℕ) (xs : List (List ℕ)) (o : Option ℕ) → child es p x ≡ o
+    → child (added es e) (moved (place es (rank e) + 1) p) x ≡ option_map (moved (place es (rank e) + 1)) o → ((m : ℕ) → Leads es e m xs)
+    → Leads es e p (x ∷ xs)
 past_old es e p x xs None was now ih =
     let n : ℕ = place es (rank e) + 1 in
     inl (step (added es e) (moved n p) x xs None now ∙ sym (ap (option_map (moved n)) (step es p x xs None was)))
@@ -66,13 +80,23 @@ past_old es e p x xs (Some m) was now ih =
     let b : find_from es p (x ∷ xs) ≡ find_from es m xs = step es p x xs (Some m) was in
     elim (ih m) [
       | inl h ↦ inl (a ∙ (h ∙ sym (ap (option_map (moved n)) b)))
-      | inr g ↦ inr (record { front = x ∷ g.front; last = g.last; is = ap (λ zs. x ∷ zs) g.is; leads = step es p x g.front (Some m) was ∙ g.leads; same = g.same; new = a ∙ g.new; old = b ∙ g.old })
+      | inr g ↦ inr (record {
+        front = x ∷ g.front;
+        last = g.last;
+        is = ap (λ zs. x ∷ zs) g.is;
+        leads = step es p x g.front (Some m) was ∙ g.leads;
+        same =
+            g.same;
+        new = a ∙ g.new;
+        old = b ∙ g.old;
+      })
     ]
 
 pub leads : (es : List Entry) (e : Entry) (p : ℕ) (q : List (List ℕ)) → IsTree es → MayAdd es e → Leads es e p q
 leads es e p [] t may = inl refl
 leads es e p (x ∷ xs) t may =
-    let go : (p ≡ e.parent → uppers e.name ≢ uppers x) → Leads es e p (x ∷ xs) = λ other. past_old es e p x xs (child es p x) refl (child_other es e p x t may other) (λ m. leads es e m xs t may) in
+    let go : (p ≡ e.parent → uppers e.name ≢ uppers x) → Leads es e p (x ∷ xs) =
+    λ other. past_old es e p x xs (child es p x) refl (child_other es e p x t may other) (λ m. leads es e m xs t may) in
     elim (cases_eq p e.parent) [
       | inr far ↦ go (λ h. absurd (far h))
       | inl here ↦

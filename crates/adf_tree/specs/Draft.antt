@@ -43,13 +43,15 @@ pub record IsWalk (drafts : List Entry) (w : Walk) : Type 0 where
   pub within : (m : ℕ) → m ≤ length drafts → node_of w.nodes m ≤ length drafts
   pub apart : (m k : ℕ) → m ≤ length drafts → k ≤ length drafts → node_of w.nodes m ≡ node_of w.nodes k → m ≡ k
   pub parents : HasEarlyParents drafts
-  pub entries : (m : ℕ) (d : Entry) → 0 < m → m ≤ length drafts → slice_index_or w.entries (node_of w.nodes m - 1) d ≡ in_tree w.nodes (slice_index_or drafts (m - 1) d)
+  pub entries : (m : ℕ) (d : Entry) → 0 < m → m ≤ length drafts
+      → slice_index_or w.entries (node_of w.nodes m - 1) d ≡ in_tree w.nodes (slice_index_or drafts (m - 1) d)
   pub chains : (m s : ℕ) → m ≤ length drafts → chain w.entries (node_of w.nodes m) s ≡ map (in_tree w.nodes) (chain drafts m s)
 
 -- the numbers of the additions are found by their parents and names
 pub record AreNumbered (drafts : List Entry) (w : Walk) (numbers : Numbers) : Type 0 where
   pub within : (m k : ℕ) (name : List ℕ) → number_in numbers m name ≡ Some k → (m ≤ length drafts) × (k ≤ length drafts)
-  pub found : (m : ℕ) (name : List ℕ) → m ≤ length drafts → child w.entries (node_of w.nodes m) name ≡ option_map (node_of w.nodes) (number_in numbers m (uppers name))
+  pub found : (m : ℕ) (name : List ℕ) → m ≤ length drafts
+      → child w.entries (node_of w.nodes m) name ≡ option_map (node_of w.nodes) (number_in numbers m (uppers name))
 
 -- what holds of every tree in the making
 pub record IsDraft (drafts : List Entry) (numbers : Numbers) : Type 0 where

@@ -32,7 +32,8 @@ pub record IsChild (es : List Entry) (p : ℕ) (x : List ℕ) (n : ℕ) (e : Ent
 
 -- what is found for a name is its entry, and each entry is found
 abbrev pub ChildrenAreFound : Type 0
-ChildrenAreFound = (es : List Entry) (p : ℕ) (name : List ℕ) (n : ℕ) (d : Entry) → IsTree es → (child es p name ≡ Some n) ↔ ((0 < n) × (n ≤ length es) × IsChild es p name n (slice_index_or es (n - 1) d))
+ChildrenAreFound = (es : List Entry) (p : ℕ) (name : List ℕ) (n : ℕ) (d : Entry) → IsTree es
+    → (child es p name ≡ Some n) ↔ ((0 < n) × (n ≤ length es) × IsChild es p name n (slice_index_or es (n - 1) d))
 
 -- each entry is found under its path
 abbrev pub PathsAreFound : Type 0
@@ -58,7 +59,8 @@ AdditionsHaveOneTree = (es others : List Entry) (additions : List Addition) → 
 
 -- `add` makes the tree of one addition more
 abbrev pub AddingGrowsTheTree : Type 0
-AddingGrowsTheTree = (es : List Entry) (additions : List Addition) (x : Addition) → IsTreeOf es additions → IsOk (room_for es x.path) → IsTreeOf (with_addition es x) (additions ++ x ∷ [])
+AddingGrowsTheTree = (es : List Entry) (additions : List Addition) (x : Addition) → IsTreeOf es additions → IsOk (room_for es x.path)
+    → IsTreeOf (with_addition es x) (additions ++ x ∷ [])
 
 -- so additions that all have room have the tree that `add` makes of them
 abbrev pub AdditionsAreBuilt : Type 0

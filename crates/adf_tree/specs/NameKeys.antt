@@ -28,4 +28,5 @@ key_of bytes = key_in (padded bytes)
 
 -- keys in the order of their numbers
 abbrev pub by_words : NameKey → NameKey → Ordering
-by_words a b = ordering_then (nat_cmp a.first b.first) (ordering_then (nat_cmp a.second b.second) (ordering_then (nat_cmp a.third b.third) (nat_cmp a.fourth b.fourth)))
+by_words a b = ordering_then (nat_cmp a.first b.first) (ordering_then (nat_cmp a.second b.second)
+    (ordering_then (nat_cmp a.third b.third) (nat_cmp a.fourth b.fourth)))

@@ -99,7 +99,8 @@ find es path = find_from es 0 path
 -- the directory that a path leads to from the directory p, or why there is none
 abbrev pub directory_from : List Entry → ℕ → List (List ℕ) → Result ℕ AddFault
 directory_from es p [] = Ok p
-directory_from es p (name ∷ names) = elim (child es p name) [ None ↦ Err NoParent | Some n ↦ if is_dir es n then directory_from es n names else Err ParentIsFile ]
+directory_from es p (name ∷ names) =
+    elim (child es p name) [ None ↦ Err NoParent | Some n ↦ if is_dir es n then directory_from es n names else Err ParentIsFile ]
 
 -- a path without its last name, and that name
 abbrev pub parents_of : List (List ℕ) → List (List ℕ)

@@ -15,7 +15,8 @@ use Rattle.adf_check.proofs.checker.check_all.Goals as goal
 pub new-requires : goal.new-requires
 new-requires c =
     let image = c.in_ok-opened.opened.image in
-    let root : c.in_ok-opened.opened.root ≡ block image (root_of image) = c.in_ok-opened.ensures.root ∙ ap (λ i. block i (root_of i)) (sym c.in_ok-opened.ensures.image) in
+    let root : c.in_ok-opened.opened.root ≡ block image (root_of image) =
+    c.in_ok-opened.ensures.root ∙ ap (λ i. block i (root_of i)) (sym c.in_ok-opened.ensures.image) in
     record {
       tells = c.in_ok-check_bitmap.ensures.fits;
       label = label_in image (root_of image) c.label.result (c.label.ensures ∙ ap (λ b. text_at b 432) root);

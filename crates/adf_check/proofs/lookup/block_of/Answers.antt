@@ -28,4 +28,5 @@ returns-clause-inside c =
     let node : c.args.node ≡ suc i = omega (arith, c.node.view_is, c.if-node-eq0.false) in
     let le : c.args.node ≤ length store.rows = c.requires.node in
     let lt : i < length store.rows = omega arith in
-    subst (λ (r : Row). r.head < blocks image) (sym c.index.ensures) (rows_inside image store (tells_begun image store c.requires.tells) c.requires.tells i row lt)
+    subst (λ (r : Row). r.head < blocks image) (sym c.index.ensures) (rows_inside image store (tells_begun image store c.requires.tells) c.requires.tells i
+    row lt)

@@ -20,18 +20,22 @@ loop-b-init c = λ t l k.
     let name = c.args.name.now in
     let slot : c.slot.result ≡ slot_of name = c.slot.ensures.exact ∙ ap slot_of c.bytes.ensures.bytes in
     chain_begins image (store_of c.args.found.now) t l k c.args.parent name c.first_of-b.result
-    (subst (λ s. Spelled (λ b. word_in image b 124) c.first_of-b.result (map (at_node image l) (chain_nodes t c.args.parent s))) slot (c.first_of-b.ensures t l k))
+    (subst (λ s. Spelled (λ b. word_in image b 124) c.first_of-b.result (map (at_node image l) (chain_nodes t c.args.parent s))) slot
+    (c.first_of-b.ensures t l k))
 
 pub block-requires : goal.block-requires
-block-requires c = on_inside c.args.image.now (store_of c.args.found.now) c.requires.tells c.args.parent c.args.name.now c.loop-b.b c.loop-b.invariant c.loop-b-test.true
+block-requires c = on_inside c.args.image.now (store_of c.args.found.now) c.requires.tells c.args.parent c.args.name.now c.loop-b.b c.loop-b.invariant
+    c.loop-b-test.true
 
 pub over-head-requires : goal.over-head-requires
 over-head-requires c =
-    subst IsHead (sym c.block.ensures.block) (on_head c.args.image.now (store_of c.args.found.now) c.requires.tells c.args.parent c.args.name.now c.loop-b.b c.loop-b.invariant c.loop-b-test.true)
+    subst IsHead (sym c.block.ensures.block) (on_head c.args.image.now (store_of c.args.found.now) c.requires.tells c.args.parent c.args.name.now c.loop-b.b
+    c.loop-b.invariant c.loop-b-test.true)
 
 pub node_at-requires : goal.node_at-requires
 node_at-requires c =
-    let inside = on_inside c.args.image.now (store_of c.args.found.now) c.requires.tells c.args.parent c.args.name.now c.loop-b.b c.loop-b.invariant c.loop-b-test.true in
+    let inside = on_inside c.args.image.now (store_of c.args.found.now) c.requires.tells c.args.parent c.args.name.now c.loop-b.b c.loop-b.invariant
+    c.loop-b-test.true in
     subst (λ n. c.loop-b.b < n) (sym c.requires.tells.tells.owns.size) inside
 
 pub returns-then-same-clause-found : goal.returns-then-same-clause-found
@@ -61,7 +65,8 @@ loop-b-smaller c =
     let store = store_of c.args.found.now in
     let b = c.loop-b.b in
     let next : c.next-b.result ≡ word_in image b 124 = c.next-b.ensures ∙ ap (λ x. word x 124) (c.over-head.ensures ∙ c.block.ensures.block) in
-    subst (λ d. chain_left store d < chain_left store b) (sym next) (on_smaller image store c.requires.tells c.args.parent c.args.name.now b c.loop-b.invariant c.loop-b-test.true)
+    subst (λ d. chain_left store d < chain_left store b) (sym next) (on_smaller image store c.requires.tells c.args.parent c.args.name.now b
+    c.loop-b.invariant c.loop-b-test.true)
 
 pub loop-b-preserved : goal.loop-b-preserved
 loop-b-preserved c = λ t l k.
@@ -76,10 +81,12 @@ loop-b-preserved c = λ t l k.
     let no = c.if-same.false in
     let told = c.same.ensures in
     cc in
-    subst (OnChain image t l c.args.parent name) (sym next) (chain_next image store t l k c.args.parent name b (c.loop-b.invariant t l k) c.loop-b-test.true other)
+    subst (OnChain image t l c.args.parent name) (sym next) (chain_next image store t l k c.args.parent name b (c.loop-b.invariant t l k) c.loop-b-test.true
+    other)
 
 pub returns-clause-found : goal.returns-clause-found
 returns-clause-found c = λ t l k.
     let image = c.args.image.now in
     let name = c.args.name.now in
-    sym (chain_ended image (store_of c.args.found.now) t l k c.args.parent name (subst (OnChain image t l c.args.parent name) c.loop-b-test.false (c.loop-b.invariant t l k)))
+    sym (chain_ended image (store_of c.args.found.now) t l k c.args.parent name
+    (subst (OnChain image t l c.args.parent name) c.loop-b-test.false (c.loop-b.invariant t l k)))

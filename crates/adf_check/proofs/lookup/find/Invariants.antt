@@ -7,6 +7,7 @@ use Rattle.adf_check.proofs.lookup.find.Given as goal
 
 abbrev pub invariant-loop-name : goal.invariant-loop-name
 invariant-loop-name l = record {
-  found : (t : Tree) (m : Layout) → Keeps l.image (store_of l.found) t m → find_from t.entries 0 l.path ≡ find_from t.entries l.node (drop l.name-index l.path);
+  found : (t : Tree) (m : Layout) → Keeps l.image (store_of l.found) t m
+      → find_from t.entries 0 l.path ≡ find_from t.entries l.node (drop l.name-index l.path);
   node : l.node ≤ length l.found.rows.items;
 }

@@ -23,7 +23,8 @@ word-requires-clause-block c =
     let row = c.index.result.now in
     let node : c.args.node ≡ suc i = omega (arith, c.node.view_is, c.if-node-eq0.false) in
     let lt : i < length store.rows = omega (arith, c.requires.inside) in
-    subst (λ (r : Row). r.head < blocks image) (sym c.index.ensures) (head_inside image store i row c.root-root.ensures.begun lt (subst (IsInNode image store) node c.requires.state))
+    subst (λ (r : Row). r.head < blocks image) (sym c.index.ensures) (head_inside image store i row c.root-root.ensures.begun lt
+    (subst (IsInNode image store) node c.requires.state))
 
 pub read_directory-requires-then-word-eq-ST_DIR-clause-inside : goal.read_directory-requires-then-word-eq-ST_DIR-clause-inside
 read_directory-requires-then-word-eq-ST_DIR-clause-inside c =
@@ -33,7 +34,8 @@ read_directory-requires-then-word-eq-ST_DIR-clause-inside c =
     let row = c.index.result.now in
     let node : c.args.node ≡ suc i = omega (arith, c.node.view_is, c.if-node-eq0.false) in
     let lt : i < length store.rows = omega (arith, c.requires.inside) in
-    subst (λ (r : Row). r.head < blocks image) (sym c.index.ensures) (head_inside image store i row c.root-root.ensures.begun lt (subst (IsInNode image store) node c.requires.state))
+    subst (λ (r : Row). r.head < blocks image) (sym c.index.ensures) (head_inside image store i row c.root-root.ensures.begun lt
+    (subst (IsInNode image store) node c.requires.state))
 
 pub read_directory-requires-then-word-eq-ST_DIR-clause-state : goal.read_directory-requires-then-word-eq-ST_DIR-clause-state
 read_directory-requires-then-word-eq-ST_DIR-clause-state c =
@@ -44,9 +46,11 @@ read_directory-requires-then-word-eq-ST_DIR-clause-state c =
     let node : c.args.node ≡ suc i = omega (arith, c.node.view_is, c.if-node-eq0.false) in
     let lt : i < length store.rows = omega (arith, c.requires.inside) in
     let here : row ≡ get_or store.rows i row = c.index.ensures in
-    let dir : word_in image (get_or store.rows i row).head 127 ≡ DIR = ap (λ (r : Row). word_in image r.head 127) (sym here) ∙ sym c.word.ensures.word ∙ c.if-word-eq-ST_DIR.true in
+    let dir : word_in image (get_or store.rows i row).head 127 ≡ DIR =
+    ap (λ (r : Row). word_in image r.head 127) (sym here) ∙ sym c.word.ensures.word ∙ c.if-word-eq-ST_DIR.true in
     subst (λ n. IsAtSlot image store n row.head 0) (sym node)
-    (subst (λ (r : Row). IsAtSlot image store (suc i) r.head 0) (sym here) (directory_begins image store i row c.root-root.ensures.begun lt dir (subst (IsInNode image store) node c.requires.state)))
+    (subst (λ (r : Row). IsAtSlot image store (suc i) r.head 0) (sym here)
+    (directory_begins image store i row c.root-root.ensures.begun lt dir (subst (IsInNode image store) node c.requires.state)))
 
 pub read_file-requires-clause-inside : goal.read_file-requires-clause-inside
 read_file-requires-clause-inside c =
@@ -56,7 +60,8 @@ read_file-requires-clause-inside c =
     let row = c.index.result.now in
     let node : c.args.node ≡ suc i = omega (arith, c.node.view_is, c.if-node-eq0.false) in
     let lt : i < length store.rows = omega (arith, c.requires.inside) in
-    subst (λ (r : Row). r.head < blocks image) (sym c.index.ensures) (head_inside image store i row c.root-root.ensures.begun lt (subst (IsInNode image store) node c.requires.state))
+    subst (λ (r : Row). r.head < blocks image) (sym c.index.ensures) (head_inside image store i row c.root-root.ensures.begun lt
+    (subst (IsInNode image store) node c.requires.state))
 
 pub read_file-requires-clause-state : goal.read_file-requires-clause-state
 read_file-requires-clause-state c =
@@ -67,6 +72,8 @@ read_file-requires-clause-state c =
     let node : c.args.node ≡ suc i = omega (arith, c.node.view_is, c.if-node-eq0.false) in
     let lt : i < length store.rows = omega (arith, c.requires.inside) in
     let here : row ≡ get_or store.rows i row = c.index.ensures in
-    let file : word_in image (get_or store.rows i row).head 127 ≢ DIR = λ e. c.if-word-eq-ST_DIR.false (c.word.ensures.word ∙ ap (λ (r : Row). word_in image r.head 127) here ∙ e) in
+    let file : word_in image (get_or store.rows i row).head 127 ≢ DIR =
+    λ e. c.if-word-eq-ST_DIR.false (c.word.ensures.word ∙ ap (λ (r : Row). word_in image r.head 127) here ∙ e) in
     subst (λ n. IsInExts image store n row.head (row.head ∷ []) row.head (word_in image row.head 126)) (sym node)
-    (subst (λ (r : Row). IsInExts image store (suc i) r.head (r.head ∷ []) r.head (word_in image r.head 126)) (sym here) (file_begins image store i row c.root-root.ensures.begun lt file (subst (IsInNode image store) node c.requires.state)))
+    (subst (λ (r : Row). IsInExts image store (suc i) r.head (r.head ∷ []) r.head (word_in image r.head 126)) (sym here)
+    (file_begins image store i row c.root-root.ensures.begun lt file (subst (IsInNode image store) node c.requires.state)))

@@ -16,7 +16,8 @@ returns-then-word-eq-ST_DIR-clause-joined c = λ t l k.
     let store = store_of c.args.found.now in
     let ne : c.args.n ≢ 0 = λ z. c.if-n-eq0.false (c.n.view_is ∙ z) in
     let le : c.args.n ≤ length store.rows = omega (arith, c.n.view_is, c.if-len-n.false, c.len.ensures) in
-    dir_bytes image store t l k c.args.n c.block_of-head.result ne le (c.block_of-head.ensures.block t l k) (sym c.word.ensures.word ∙ c.if-word-eq-ST_DIR.true)
+    dir_bytes image store t l k c.args.n c.block_of-head.result ne le (c.block_of-head.ensures.block t l k)
+    (sym c.word.ensures.word ∙ c.if-word-eq-ST_DIR.true)
 
 pub datas_of-datas-requires-clause-size : goal.datas_of-datas-requires-clause-size
 datas_of-datas-requires-clause-size c = λ t l k.
@@ -25,7 +26,8 @@ datas_of-datas-requires-clause-size c = λ t l k.
     let ne : c.args.n ≢ 0 = λ z. c.if-n-eq0.false (c.n.view_is ∙ z) in
     let le : c.args.n ≤ length store.rows = omega (arith, c.n.view_is, c.if-len-n.false, c.len.ensures) in
     let type : word_in image c.block_of-head.result 127 ≢ DIR = λ z. c.if-word-eq-ST_DIR.false (c.word.ensures.word ∙ z) in
-    data_count_is image store t l k c.args.n c.block_of-head.result ne le (c.block_of-head.ensures.block t l k) type ∙ ap (count (kind_of image)) (sym c.word-size.ensures.word)
+    data_count_is image store t l k c.args.n c.block_of-head.result ne le (c.block_of-head.ensures.block t l k) type
+    ∙ ap (count (kind_of image)) (sym c.word-size.ensures.word)
 
 pub new-requires : goal.new-requires
 new-requires c =
@@ -45,8 +47,11 @@ new-requires c =
     (file_inside image store t l k c.args.n h ne le (c.block_of-head.ensures.block t l k) type small))
 
 -- what the pieces are
-made : (image xs : List ℕ) (size h : ℕ) (ds es : List ℕ) (ps : List (List ℕ)) (kind : _) → ps ≡ pieces xs kind size 1 ds → xs ≡ image → kind ≡ kind_of image → size ≡ word_in image h 81 → ds ≡ es → ps ≡ pieces image (kind_of image) (word_in image h 81) 1 es
-made image xs size h ds es ps kind e a b c d = e ∙ ap (λ xs. pieces xs kind size 1 ds) a ∙ ap (λ kind. pieces image kind size 1 ds) b ∙ ap (λ s. pieces image (kind_of image) s 1 ds) c ∙ ap (pieces image (kind_of image) (word_in image h 81) 1) d
+made : (image xs : List ℕ) (size h : ℕ) (ds es : List ℕ) (ps : List (List ℕ)) (kind : _) → ps ≡ pieces xs kind size 1 ds → xs ≡ image → kind ≡ kind_of image
+    → size ≡ word_in image h 81 → ds ≡ es → ps ≡ pieces image (kind_of image) (word_in image h 81) 1 es
+made image xs size h ds es ps kind e a b c d =
+    e ∙ ap (λ xs. pieces xs kind size 1 ds) a ∙ ap (λ kind. pieces image kind size 1 ds) b ∙ ap (λ s. pieces image (kind_of image) s 1 ds) c
+    ∙ ap (pieces image (kind_of image) (word_in image h 81) 1) d
 
 pub returns-clause-joined : goal.returns-clause-joined
 returns-clause-joined c = λ t l k.
@@ -56,12 +61,14 @@ returns-clause-joined c = λ t l k.
     let ne : c.args.n ≢ 0 = λ z. c.if-n-eq0.false (c.n.view_is ∙ z) in
     let le : c.args.n ≤ length store.rows = omega (arith, c.n.view_is, c.if-len-n.false, c.len.ensures) in
     let type : word_in image h 127 ≢ DIR = λ z. c.if-word-eq-ST_DIR.false (c.word.ensures.word ∙ z) in
-    let is = made image c.bytes.result.now c.word-size.result h c.datas_of-datas.result.now (datas_of l c.args.n) c.new.result c.kind.result c.new.ensures c.bytes.ensures.bytes c.kind.ensures.kind c.word-size.ensures.word (c.datas_of-datas.ensures t l k) in
+    let is = made image c.bytes.result.now c.word-size.result h c.datas_of-datas.result.now (datas_of l c.args.n) c.new.result c.kind.result c.new.ensures
+    c.bytes.ensures.bytes c.kind.ensures.kind c.word-size.ensures.word (c.datas_of-datas.ensures t l k) in
     ap (λ ps. Some (concat ps)) is ∙ file_bytes image store t l k c.args.n h ne le (c.block_of-head.ensures.block t l k) type
 
 pub returns-clause-one_each : goal.returns-clause-one_each
 returns-clause-one_each c = λ t l k.
-    ap length c.new.ensures ∙ pieces_length c.bytes.result.now c.kind.result c.word-size.result 1 c.datas_of-datas.result.now ∙ ap length (c.datas_of-datas.ensures t l k)
+    ap length c.new.ensures ∙ pieces_length c.bytes.result.now c.kind.result c.word-size.result 1 c.datas_of-datas.result.now
+    ∙ ap length (c.datas_of-datas.ensures t l k)
 
 pub returns-clause-some : goal.returns-clause-some
 returns-clause-some c =
@@ -75,5 +82,6 @@ returns-clause-some c =
     let ne : c.args.n ≢ 0 = λ z. c.if-n-eq0.false (c.n.view_is ∙ z) in
     let le : c.args.n ≤ length store.rows = omega (arith, c.n.view_is, c.if-len-n.false, c.len.ensures) in
     let type : word_in image h 127 ≢ DIR = λ z. c.if-word-eq-ST_DIR.false (c.word.ensures.word ∙ z) in
-    let is = made image c.bytes.result.now c.word-size.result h c.datas_of-datas.result.now (datas_of l c.args.n) c.new.result c.kind.result c.new.ensures c.bytes.ensures.bytes c.kind.ensures.kind c.word-size.ensures.word (c.datas_of-datas.ensures t l k) in
+    let is = made image c.bytes.result.now c.word-size.result h c.datas_of-datas.result.now (datas_of l c.args.n) c.new.result c.kind.result c.new.ensures
+    c.bytes.ensures.bytes c.kind.ensures.kind c.word-size.ensures.word (c.datas_of-datas.ensures t l k) in
     subst (All (λ p. 0 < length p)) (sym is) (file_some image store t l k c.args.n h ne le (c.block_of-head.ensures.block t l k) type)

@@ -10,4 +10,5 @@ returns-in-Ok-clause-works g c =
 
 pub returns-in-Err-clause-works : goal.returns-in-Err-clause-works
 returns-in-Err-clause-works g c =
-    fault_works c.refuse_manifest.result c.args.lines c.args.bytes.now c.in-Err.fault (g.W.Sink.held c.args.output.now) c.in-Err.ensures.fault c.refuse_manifest.ensures
+    fault_works c.refuse_manifest.result c.args.lines c.args.bytes.now c.in-Err.fault (g.W.Sink.held c.args.output.now) c.in-Err.ensures.fault
+    c.refuse_manifest.ensures

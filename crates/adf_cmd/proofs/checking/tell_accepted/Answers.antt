@@ -13,4 +13,5 @@ returns-clause-works g c =
     let t = c.requires.stands.0 in
     let l = c.requires.stands.1 in
     let stands = c.requires.stands.2 in
-    accepted_part c.args.volume.now.image line c.counts.result o o' (t, l, stands.fits, c.counts.ensures t l stands) c.in-Ok.ensures (subst by_line c.as_bytes.ensures.value c.in-Err.ensures.err)
+    accepted_part c.args.volume.now.image line c.counts.result o o' (t, l, stands.fits, c.counts.ensures t l stands) c.in-Ok.ensures
+    (subst by_line c.as_bytes.ensures.value c.in-Err.ensures.err)

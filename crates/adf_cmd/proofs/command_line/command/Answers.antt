@@ -8,7 +8,11 @@ pub returns : goal.returns
 returns c =
     let top : App → Shape = λ a. a.top in
     let one_is = c.in_ok-subcommand.ensures.shape c.new-2.ensures.local ∙ ap₂ with_subcommand c.new.ensures.app (ap top c.new-2.ensures.app) in
-    let plain_is : app_of c.in_ok-plain.plain ≡ plain_app = c.in_ok-plain.ensures.shape c.new-3.ensures.local ∙ ap₂ with_subcommand one_is (ap top c.new-3.ensures.app) in
-    let three_is = c.in_ok-subcommand-2.ensures.shape c.in_ok-cat_command.ensures.local ∙ ap₂ with_subcommand plain_is (ap top c.in_ok-cat_command.ensures.app) in
-    let four_is = c.in_ok-subcommand-3.ensures.shape c.in_ok-build_command.ensures.local ∙ ap₂ with_subcommand three_is (ap top c.in_ok-build_command.ensures.app) in
-    IfOk-weaker c.subcommand-5.result _ _ (λ r h. h.shape c.in_ok-convert_command.ensures.local ∙ ap₂ with_subcommand four_is (ap top c.in_ok-convert_command.ensures.app)) c.subcommand-5.ensures
+    let plain_is : app_of c.in_ok-plain.plain ≡ plain_app =
+    c.in_ok-plain.ensures.shape c.new-3.ensures.local ∙ ap₂ with_subcommand one_is (ap top c.new-3.ensures.app) in
+    let three_is = c.in_ok-subcommand-2.ensures.shape c.in_ok-cat_command.ensures.local
+    ∙ ap₂ with_subcommand plain_is (ap top c.in_ok-cat_command.ensures.app) in
+    let four_is = c.in_ok-subcommand-3.ensures.shape c.in_ok-build_command.ensures.local
+    ∙ ap₂ with_subcommand three_is (ap top c.in_ok-build_command.ensures.app) in
+    IfOk-weaker c.subcommand-5.result _ _ (λ r h. h.shape c.in_ok-convert_command.ensures.local
+    ∙ ap₂ with_subcommand four_is (ap top c.in_ok-convert_command.ensures.app)) c.subcommand-5.ensures

@@ -9,7 +9,8 @@ returns-clause-refused c =
     let error = c.in-Err-try_get_matches_from.error in
     let words = map (λ w. w.now) c.args.words.now in
     let fails : App → Type 0 = λ a. HasKind (fault_of a words) error in
-    let kinds : fails adf_app = subst fails c.in-Ok.ensures (c.in-Err-try_get_matches_from.ensures.kinds (ap is_simple_and_free c.in-Ok.ensures ∙ adf_simple)) in
+    let kinds : fails adf_app =
+    subst fails c.in-Ok.ensures (c.in-Err-try_get_matches_from.ensures.kinds (ap is_simple_and_free c.in-Ok.ensures ∙ adf_simple)) in
     elim kinds [
       | inl h ↦ absurd (c.in_default.not-OutOfMemory (c.kind.ensures ∙ h))
       | inr h ↦ inl (among_some _ _ h)

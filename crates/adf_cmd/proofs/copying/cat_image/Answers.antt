@@ -13,7 +13,8 @@ returns-in-Ok-clause-works g c = λ path text.
     let t = c.in-Ok.ensures.fits.0 in
     let l = c.in-Ok.ensures.fits.1 in
     let stands = c.in-Ok.ensures.fits.2 in
-    subst works c.in-Ok.ensures.image (copy_works w path c.args.names.now c.in-Ok.volume.image t l o o' text stands.fits (c.copy_file.ensures.works t l stands))
+    subst works c.in-Ok.ensures.image (copy_works w path c.args.names.now c.in-Ok.volume.image t l o o' text stands.fits
+    (c.copy_file.ensures.works t l stands))
 
 pub returns-in-Err-clause-works : goal.returns-in-Err-clause-works
 returns-in-Err-clause-works g c = λ path text. cat_refused c.in-Err.outcome path c.args.image.now (g.W.Sink.held c.args.output.now) c.in-Err.ensures.refused

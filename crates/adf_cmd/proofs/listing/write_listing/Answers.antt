@@ -10,7 +10,8 @@ use Rattle.adf_cmd.proofs.listing.write_listing.Goals as goal
 pub loop-b-init : goal.loop-b-init
 loop-b-init g c = record {
   works = c.requires.works;
-  so_far = pending_none (g.W.Sink.held c.args.output.now) c.new-text.result.items (lines_of_blocks c.args.image.now 0) c.new-text.ensures.items (blocks_none c.args.image.now);
+  so_far = pending_none (g.W.Sink.held c.args.output.now) c.new-text.result.items (lines_of_blocks c.args.image.now 0) c.new-text.ensures.items
+      (blocks_none c.args.image.now);
 }
 
 pub loop-b-preserved : goal.loop-b-preserved
@@ -22,7 +23,8 @@ loop-b-preserved g c =
     record {
       works = search rules;
       so_far = c.in_ok-list_block.ensures.ok (held c.args.output.now) (lines_of_blocks image (b + 1))
-          (pending_more (held c.args.output.now) (held c.loop-b.output) text (lines_of_blocks image b) (lines_of b (block image b) 128) (text ++ lines_of b (block image b) 128) (lines_of_blocks image (b + 1)) refl (blocks_more image b) c.loop-b.invariant.so_far);
+          (pending_more (held c.args.output.now) (held c.loop-b.output) text (lines_of_blocks image b) (lines_of b (block image b) 128)
+          (text ++ lines_of b (block image b) 128) (lines_of_blocks image (b + 1)) refl (blocks_more image b) c.loop-b.invariant.so_far);
     }
 
 pub returns-in_err-list_block-clause-err : goal.returns-in_err-list_block-clause-err
@@ -31,9 +33,11 @@ returns-in_err-list_block-clause-err g c =
     let image = c.args.image.now in
     let b = c.loop-b.b in
     let text = c.loop-b.text.items in
-    let more = pending_more (held c.args.output.now) (held c.loop-b.output) text (lines_of_blocks image b) (lines_of b (block image b) 128) (text ++ lines_of b (block image b) 128) (lines_of_blocks image (b + 1)) refl (blocks_more image b) c.loop-b.invariant.so_far in
+    let more = pending_more (held c.args.output.now) (held c.loop-b.output) text (lines_of_blocks image b) (lines_of b (block image b) 128)
+    (text ++ lines_of b (block image b) 128) (lines_of_blocks image (b + 1)) refl (blocks_more image b) c.loop-b.invariant.so_far in
     let front = listing_front image (b + 1) (omega arith) in
-    on_err c.from_residual.result (pending_fails (held c.args.output.now) (held c.loop-b.output) (held c.list_block.new.output) (text ++ lines_of b (block image b) 128) (lines_of_blocks image (b + 1)) front.0 _ front.1 more c.in_err-list_block.ensures.err)
+    on_err c.from_residual.result (pending_fails (held c.args.output.now) (held c.loop-b.output) (held c.list_block.new.output)
+    (text ++ lines_of b (block image b) 128) (lines_of_blocks image (b + 1)) front.0 _ front.1 more c.in_err-list_block.ensures.err)
 
 pub returns-in-Ok-clause-ok : goal.returns-in-Ok-clause-ok
 returns-in-Ok-clause-ok g c =
@@ -43,7 +47,8 @@ returns-in-Ok-clause-ok g c =
     let whole = listing_whole image b (omega arith) in
     let wrote : List ℕ → Type 0 = λ l. Appends (held c.loop-b.output) (held c.write_all.new.output) l in
     let all : List ℕ → Type 0 = λ l. Appends (held c.args.output.now) (held c.write_all.new.output) l in
-    subst all (sym whole) (pending_end (held c.args.output.now) (held c.loop-b.output) (held c.write_all.new.output) c.loop-b.text.items (lines_of_blocks image b) c.loop-b.invariant.so_far
+    subst all (sym whole) (pending_end (held c.args.output.now) (held c.loop-b.output) (held c.write_all.new.output) c.loop-b.text.items
+    (lines_of_blocks image b) c.loop-b.invariant.so_far
     (subst wrote c.deref.ensures.value c.in-Ok.ensures.ok))
 
 pub returns-clause-err : goal.returns-clause-err
@@ -53,5 +58,6 @@ returns-clause-err g c =
     let b = c.loop-b.b in
     let whole = listing_whole image b (omega arith) in
     let wrote : List ℕ → Type 0 = λ l. AppendsPart (held c.loop-b.output) (held c.write_all.new.output) l in
-    pending_fails (held c.args.output.now) (held c.loop-b.output) (held c.write_all.new.output) c.loop-b.text.items (lines_of_blocks image b) [] _ (whole ∙ sym (append-nil (lines_of_blocks image b))) c.loop-b.invariant.so_far
+    pending_fails (held c.args.output.now) (held c.loop-b.output) (held c.write_all.new.output) c.loop-b.text.items (lines_of_blocks image b) [] _
+    (whole ∙ sym (append-nil (lines_of_blocks image b))) c.loop-b.invariant.so_far
     (subst wrote c.deref.ensures.value c.in-Err.ensures.err)

@@ -7,7 +7,8 @@ pub unreachable-requires : goal.unreachable-requires
 unreachable-requires c =
     let tree = c.args.tree.now in
     let layout = planned tree c.args.blocks in
-    let fits : Fits c.deref.result.now tree layout = subst (λ (image : List ℕ). Fits image tree layout) (sym c.deref.ensures.value) c.in_ok-image.ensures.fits in
+    let fits : Fits c.deref.result.now tree layout =
+    subst (λ (image : List ℕ). Fits image tree layout) (sym c.deref.ensures.value) c.in_ok-image.ensures.fits in
     c.in-Err.ensures.none c.in_default.not-NoMemory tree layout fits
 
 pub returns-in-Ok-to_tree-clause-same : goal.returns-in-Ok-to_tree-clause-same

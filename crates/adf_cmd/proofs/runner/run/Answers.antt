@@ -29,7 +29,8 @@ returns-in-Ok-List-clause-answer g c = λ taken not_three.
     let e' = g.E.Sink.held c.finish-in-Ok-List.new.errors in
     let failed = g.E.Sink.has_failed c.finish-in-Ok-List.new.errors in
     let told = c.finish-in-Ok-List.ensures in
-    left_answers c.list_input.result words list left o o' e e' failed c.finish-in-Ok-List.result asks told.status not_three c.list_input.ensures.works told.said
+    left_answers c.list_input.result words list left o o' e e' failed c.finish-in-Ok-List.result asks told.status not_three c.list_input.ensures.works
+    told.said
 
 pub returns-in-Ok-clause-answer : goal.returns-in-Ok-clause-answer
 returns-in-Ok-clause-answer g c = λ taken not_three.
@@ -46,7 +47,8 @@ returns-in-Ok-clause-answer g c = λ taken not_three.
     let e' = g.E.Sink.held c.finish-in-Ok.new.errors in
     let failed = g.E.Sink.has_failed c.finish-in-Ok.new.errors in
     let told = c.finish-in-Ok.ensures in
-    left_answers c.cat_input.result words (cat path) left o o' e e' failed c.finish-in-Ok.result asks told.status not_three (c.cat_input.ensures.works path text) told.said
+    left_answers c.cat_input.result words (cat path) left o o' e e' failed c.finish-in-Ok.result asks told.status not_three
+    (c.cat_input.ensures.works path text) told.said
 
 pub returns-in-Ok-clause-part : goal.returns-in-Ok-clause-part
 returns-in-Ok-clause-part g c = λ three.
@@ -89,7 +91,8 @@ returns-in-Ok-Build-clause-answer g c = λ taken not_three.
     let e' = g.E.Sink.held c.finish-in-Ok-Build.new.errors in
     let failed = g.E.Sink.has_failed c.finish-in-Ok-Build.new.errors in
     let told = c.finish-in-Ok-Build.ensures in
-    left_answers c.build_input.result words (build c.in-Ok-Build.list) left o o' e e' failed c.finish-in-Ok-Build.result asks told.status not_three c.build_input.ensures.works told.said
+    left_answers c.build_input.result words (build c.in-Ok-Build.list) left o o' e e' failed c.finish-in-Ok-Build.result asks told.status not_three
+    c.build_input.ensures.works told.said
 
 pub returns-in-Ok-Convert-clause-answer : goal.returns-in-Ok-Convert-clause-answer
 returns-in-Ok-Convert-clause-answer g c = λ taken not_three.
@@ -102,4 +105,5 @@ returns-in-Ok-Convert-clause-answer g c = λ taken not_three.
     let e' = g.E.Sink.held c.finish-in-Ok-Convert.new.errors in
     let failed = g.E.Sink.has_failed c.finish-in-Ok-Convert.new.errors in
     let told = c.finish-in-Ok-Convert.ensures in
-    left_answers c.convert_input.result words (convert c.in-Ok-Convert.kind) left o o' e e' failed c.finish-in-Ok-Convert.result asks told.status not_three c.convert_input.ensures.works told.said
+    left_answers c.convert_input.result words (convert c.in-Ok-Convert.kind) left o o' e e' failed c.finish-in-Ok-Convert.result asks told.status not_three
+    c.convert_input.ensures.works told.said

@@ -9,5 +9,6 @@ civil_digits-requires-clause-year c = civil_year _ c.civil_day.result c.civil_da
 pub returns-then-s-lt3000 : goal.returns-then-s-lt3000
 returns-then-s-lt3000 c =
     appends_where c.extend_from_slice.result c.args.s c.args.text.now.items c.extend_from_slice.new.self.items c.civil_digits.result
-    (civil_case c.args.s c.civil_day.result c.civil_digits.result c.if-s-lt2929975.true c.if-s-lt1440.true c.if-s-lt3000.true c.civil_day.ensures c.civil_digits.ensures)
+    (civil_case c.args.s c.civil_day.result c.civil_digits.result c.if-s-lt2929975.true c.if-s-lt1440.true c.if-s-lt3000.true c.civil_day.ensures
+    c.civil_digits.ensures)
     c.extend_from_slice.ensures.items

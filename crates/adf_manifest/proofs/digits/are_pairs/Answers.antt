@@ -15,7 +15,12 @@ loop-rest-preserved c =
     let inv = c.loop-rest.invariant in
     let b = c.in-Some.field-0-0 in
     record {
-      read = (inv.read.0 ++ b ∷ [], All-push (λ k. k < 256) inv.read.0 b inv.read.1 c.in-Some.ensures.byte, pairs_more inv.read.0 b c.args.text.now c.loop-rest.rest.now c.in-Some.more.now inv.read.2 c.in-Some.ensures.some);
+      read = (
+        inv.read.0 ++ b ∷ [],
+        All-push (λ k. k < 256) inv.read.0 b inv.read.1 c.in-Some.ensures.byte,
+        pairs_more inv.read.0 b c.args.text.now
+            c.loop-rest.rest.now c.in-Some.more.now inv.read.2 c.in-Some.ensures.some,
+      );
       left = λ bytes a e.
           let so_far = inv.left bytes a e in
           let one = pairs_left b c.loop-rest.rest.now c.in-Some.more.now so_far.0 c.in-Some.ensures.some c.in-Some.ensures.byte so_far.1 so_far.2 in

@@ -15,13 +15,15 @@ pub returns-in_err-stamp-2-clause-none : goal.returns-in_err-stamp-2-clause-none
 returns-in_err-stamp-2-clause-none c =
     let cut = c.in_ok-stamp.ensures.some in
     if_none c.from_residual-in_err-stamp-2.result (λ s p path hs hp hf e.
-    c.in_err-stamp-2.ensures.none s hs (fields_parts c.args.text.now c.in_ok-stamp.stamp.now c.in_ok-stamp.protect.now c.in_ok-stamp.path.now s p path cut.1 cut.2 cut.0 hs e).0)
+    c.in_err-stamp-2.ensures.none s hs (fields_parts c.args.text.now c.in_ok-stamp.stamp.now c.in_ok-stamp.protect.now c.in_ok-stamp.path.now s p path cut.1
+    cut.2 cut.0 hs e).0)
 
 pub returns-in_err-protect-clause-none : goal.returns-in_err-protect-clause-none
 returns-in_err-protect-clause-none c =
     let cut = c.in_ok-stamp.ensures.some in
     if_none c.from_residual-in_err-protect.result (λ s p path hs hp hf e.
-    c.in_err-protect.ensures.none p hp (fields_parts c.args.text.now c.in_ok-stamp.stamp.now c.in_ok-stamp.protect.now c.in_ok-stamp.path.now s p path cut.1 cut.2 cut.0 hs e).1)
+    c.in_err-protect.ensures.none p hp (fields_parts c.args.text.now c.in_ok-stamp.stamp.now c.in_ok-stamp.protect.now c.in_ok-stamp.path.now s p path cut.1
+    cut.2 cut.0 hs e).1)
 
 pub returns-then-is_empty-clause-none : goal.returns-then-is_empty-clause-none
 returns-then-is_empty-clause-none c =

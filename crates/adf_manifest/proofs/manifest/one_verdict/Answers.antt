@@ -7,8 +7,11 @@ use Rattle.adf_manifest.proofs.manifest.one_verdict.Goals as goal
 
 pub returns-clause-one_tree : goal.returns-clause-one_tree
 returns-clause-one_tree c = λ bytes tree tree' n n' m w.
-    let one = one_told m.1.0 w.1.0 m.1.1 w.1.1 (sym m.1.2 ∙ w.1.2) in
-    (one_tree_of w.1.0 tree tree' (subst (λ (x : Manifest). IsTreeOfManifest tree x) one m.1.3) w.1.3, m.1.4 ∙ ap (λ (x : Manifest). x.head.blocks) one ∙ sym w.1.4)
+    let one = one_told m.1.0 w.1.0 m.1.1 w.1.1 (sym m.1.2 ∙ w.1.2) in (
+      one_tree_of w.1.0 tree tree' (subst (λ (x : Manifest). IsTreeOfManifest tree x) one m.1.3) w.1.3,
+      m.1.4 ∙ ap (λ (x : Manifest). x.head.blocks) one
+          ∙ sym w.1.4,
+    )
 
 pub returns-clause-faultless : goal.returns-clause-faultless
 returns-clause-faultless c = λ bytes tree n number kind m f. faultless m.1.0 (lines bytes) number kind m.1.1 m.1.2 f

@@ -4,7 +4,9 @@ use Rattle.adf_manifest.specs.Reader.{Tells}
 use Rattle.adf_manifest.proofs.manifest.read_lines.Given as goal
 
 abbrev pub invariant-loop-left : goal.invariant-loop-left
-invariant-loop-left l = (m : Manifest) × IsWell m × Tells l.state m × (parts l.text ≡ manifest_lines m ++ parts_behind (option_map (λ rest. rest.now) l.left)) × (l.number ≡ length (manifest_lines m))
+invariant-loop-left l =
+    (m : Manifest) × IsWell m × Tells l.state m × (parts l.text ≡ manifest_lines m ++ parts_behind (option_map (λ rest. rest.now) l.left))
+    × (l.number ≡ length (manifest_lines m))
 
 abbrev pub decreases-loop-left : goal.decreases-loop-left
 decreases-loop-left l = length (parts_behind (option_map (λ rest. rest.now) l.left))

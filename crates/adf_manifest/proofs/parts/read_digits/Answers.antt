@@ -12,7 +12,8 @@ returns-then-not-has_number_front-clause-none c = no_number_front c.args.text.no
 pub returns-in-Ok-parse-clause-some : goal.returns-in-Ok-parse-clause-some
 returns-in-Ok-parse-clause-some c =
     let digits = c.in-Ok.ensures.cases.0 in
-    sym digits ∙ number_is c.in-Ok.digits.now c.in-Ok-parse.number c.parse.result (ap has_number_front digits ∙ sym c.if-not-has_number_front.ensures) c.parse.ensures.value.0 c.in-Ok-parse.is
+    sym digits ∙ number_is c.in-Ok.digits.now c.in-Ok-parse.number c.parse.result (ap has_number_front digits ∙ sym c.if-not-has_number_front.ensures)
+    c.parse.ensures.value.0 c.in-Ok-parse.is
 
 pub returns-in-Err-parse-clause-none : goal.returns-in-Err-parse-clause-none
 returns-in-Err-parse-clause-none c =

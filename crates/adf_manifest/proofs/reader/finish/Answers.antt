@@ -8,7 +8,11 @@ use Rattle.adf_manifest.proofs.reader.finish.Goals as goal
 pub returns-in-Head-clause-told : goal.returns-in-Head-clause-told
 returns-in-Head-clause-told c = λ m w t.
     let e = subst (λ (s : State). Tells s m) c.in-Head.is t in
-    if_ok_weaker c.finished.result (λ r h. (h.0 ∙ bare_tree c.in-Head.head c.tree_of.result c.tree_of.ensures ∙ ap manifest_tree (sym e), h.1 ∙ ap (λ (x : Manifest). x.head.blocks) (sym e))) c.finished.ensures.told
+    if_ok_weaker c.finished.result (λ r h. (
+      h.0 ∙ bare_tree c.in-Head.head c.tree_of.result c.tree_of.ensures ∙ ap manifest_tree (sym e),
+      h.1
+          ∙ ap (λ (x : Manifest). x.head.blocks) (sym e),
+    )) c.finished.ensures.told
 
 pub returns-in_ok-close-in-Entries-clause-told : goal.returns-in_ok-close-in-Entries-clause-told
 returns-in_ok-close-in-Entries-clause-told c = λ m w t.

@@ -15,4 +15,5 @@ returns-in-Ok-clause-lines c = λ m e w g.
     let line = c.args.line in
     let f = c.in-Ok.ensures.fields in
     let is = closed_tree c.args.reading.now m e c.close.new.tree g (c.in_ok-close.ensures.tree e.last g.last) in
-    entry_step m c.args.reading.now.blocks c.close.new.tree c.in-Ok.last line.sort line.stamp line.protect line.path.now w g.blocks is c.requires.form c.in-Ok.ensures.path c.in-Ok.ensures.room f.0 f.1 f.2 f.3 f.4
+    entry_step m c.args.reading.now.blocks c.close.new.tree c.in-Ok.last line.sort line.stamp line.protect line.path.now w g.blocks is c.requires.form
+    c.in-Ok.ensures.path c.in-Ok.ensures.room f.0 f.1 f.2 f.3 f.4

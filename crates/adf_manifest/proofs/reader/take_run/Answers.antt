@@ -9,4 +9,12 @@ pub returns-in_ok-push_run-in-File-clause-lines : goal.returns-in_ok-push_run-in
 returns-in_ok-push_run-in-File-clause-lines c = λ m e w g.
     let run = run_value c.args.run in
     run_step c.args.reading.now _ m e run w g c.in-File.is c.requires.form
-    (record { sort = g.last.sort; stamp = g.last.stamp; protect = g.last.protect; path = g.last.path; note = g.last.note; bytes = c.in_ok-push_run-in-File.ensures.bytes ∙ ap (λ l. l ++ run_bytes run) g.last.bytes ∙ sym (given_bytes e.last run) })
+    (record {
+      sort = g.last.sort;
+      stamp = g.last.stamp;
+      protect = g.last.protect;
+      path = g.last.path;
+      note = g.last.note;
+      bytes =
+          c.in_ok-push_run-in-File.ensures.bytes ∙ ap (λ l. l ++ run_bytes run) g.last.bytes ∙ sym (given_bytes e.last run);
+    })

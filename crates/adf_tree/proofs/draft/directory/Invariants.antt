@@ -6,5 +6,6 @@ use Rattle.adf_tree.proofs.draft.directory.Given as goal
 abbrev pub invariant-loop-name : goal.invariant-loop-name
 invariant-loop-name l = record {
   within : l.node ≤ length l.entries;
-  leads : directory_from (walk l.entries).entries 0 l.path ≡ directory_from (walk l.entries).entries (node_of (walk l.entries).nodes l.node) (drop l.name-index l.path);
+  leads : directory_from (walk l.entries).entries 0 l.path
+      ≡ directory_from (walk l.entries).entries (node_of (walk l.entries).nodes l.node) (drop l.name-index l.path);
 }

@@ -33,16 +33,21 @@ returns-in_err-ok-clause-none g c =
     let inv = c.loop-rest.invariant in
     let some : 0 < length c.loop-rest.rest.now = grind (arith, nat_tests) in
     rw c.from_residual-in_err-ok.ensures
-    (too_many g.row.MOST c.args.text.now c.loop-rest.bytes.items c.loop-rest.rest.now inv.spells inv.are_bytes some (at_err c.try_push.result (sym c.ok.ensures.value ∙ c.in_err-ok.was) c.try_push.ensures.full))
+    (too_many g.row.MOST c.args.text.now c.loop-rest.bytes.items c.loop-rest.rest.now inv.spells inv.are_bytes some
+    (at_err c.try_push.result (sym c.ok.ensures.value ∙ c.in_err-ok.was) c.try_push.ensures.full))
 
 pub loop-rest-preserved : goal.loop-rest-preserved
 loop-rest-preserved g c =
     let inv = c.loop-rest.invariant in
-    let pushed : c.try_push.new.self.items ≡ c.loop-rest.bytes.items ++ c.in_ok-c.c ∷ [] = at_ok c.try_push.result c.in_ok-ok.field-0 (sym c.ok.ensures.value ∙ c.in_ok-ok.was) c.try_push.ensures.ok in
-    let room : length c.loop-rest.bytes.items < g.row.MOST = c.try_push.ensures.variant.0 (is_at_ok c.try_push.result c.in_ok-ok.field-0 (sym c.ok.ensures.value ∙ c.in_ok-ok.was)) in
+    let pushed : c.try_push.new.self.items ≡ c.loop-rest.bytes.items ++ c.in_ok-c.c ∷ [] =
+    at_ok c.try_push.result c.in_ok-ok.field-0 (sym c.ok.ensures.value ∙ c.in_ok-ok.was) c.try_push.ensures.ok in
+    let room : length c.loop-rest.bytes.items < g.row.MOST =
+    c.try_push.ensures.variant.0 (is_at_ok c.try_push.result c.in_ok-ok.field-0 (sym c.ok.ensures.value ∙ c.in_ok-ok.was)) in
     record {
-      spells = read_more c.args.text.now c.loop-rest.bytes.items c.loop-rest.rest.now c.in_ok-c.after.now c.in_ok-c.c inv.spells c.in_ok-c.ensures.some ∙ ap (λ bs. escaped bs ++ c.in_ok-c.after.now) (sym pushed);
-      are_bytes = subst (λ bs. All (λ b. b < 256) bs) (sym pushed) (All-push (λ b. b < 256) c.loop-rest.bytes.items c.in_ok-c.c inv.are_bytes c.in_ok-c.ensures.byte);
+      spells = read_more c.args.text.now c.loop-rest.bytes.items c.loop-rest.rest.now c.in_ok-c.after.now c.in_ok-c.c inv.spells c.in_ok-c.ensures.some
+          ∙ ap (λ bs. escaped bs ++ c.in_ok-c.after.now) (sym pushed);
+      are_bytes = subst (λ bs. All (λ b. b < 256) bs) (sym pushed) (All-push (λ b. b < 256) c.loop-rest.bytes.items c.in_ok-c.c inv.are_bytes
+          c.in_ok-c.ensures.byte);
       short = omega (arith, room, ap length pushed, length-append c.loop-rest.bytes.items (c.in_ok-c.c ∷ []));
     }
 

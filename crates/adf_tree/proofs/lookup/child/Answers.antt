@@ -5,13 +5,16 @@ use Rattle.adf_tree.proofs.lookup.child.Goals as goal
 
 pub loop-i-init : goal.loop-i-init
 loop-i-init c =
-    child_not_before c.args.entries.now c.args.parent c.args.name.now c.slot-slot.result c.start_of-start.result (c.slot-slot.ensures.exact ∙ ap slot_of c.bytes.ensures.bytes) c.start_of-start.ensures.parted
+    child_not_before c.args.entries.now c.args.parent c.args.name.now c.slot-slot.result c.start_of-start.result
+    (c.slot-slot.ensures.exact ∙ ap slot_of c.bytes.ensures.bytes) c.start_of-start.ensures.parted
 
 pub returns-then-is_child : goal.returns-then-is_child
 returns-then-is_child c =
-    child_found c.args.entries.now c.args.parent c.args.name.now c.loop-i.i c.index-entries-i.result (omega arith) c.index-entries-i.is (sym c.is_child.ensures ∙ c.if-is_child.true) c.loop-i.invariant
+    child_found c.args.entries.now c.args.parent c.args.name.now c.loop-i.i c.index-entries-i.result (omega arith) c.index-entries-i.is
+    (sym c.is_child.ensures ∙ c.if-is_child.true) c.loop-i.invariant
 
 pub returns : goal.returns
 returns c =
     child_none c.args.entries.now c.args.parent c.args.name.now
-    (child_not_past c.args.entries.now c.args.parent c.args.name.now c.slot-slot.result c.place_of-end.result c.loop-i.i (c.slot-slot.ensures.exact ∙ ap slot_of c.bytes.ensures.bytes) c.requires c.place_of-end.ensures.exact (omega arith) c.loop-i.invariant)
+    (child_not_past c.args.entries.now c.args.parent c.args.name.now c.slot-slot.result c.place_of-end.result c.loop-i.i
+    (c.slot-slot.ensures.exact ∙ ap slot_of c.bytes.ensures.bytes) c.requires c.place_of-end.ensures.exact (omega arith) c.loop-i.invariant)

@@ -6,4 +6,5 @@ use Rattle.adf_tree.proofs.lookup.is_taken.Goals as goal
 pub returns-then-knows : goal.returns-then-knows
 returns-then-knows c =
     c.has.ensures
-    ∙ known_child c.args.chain.now c.args.entries.now c.args.parent c.slot.result c.args.name.now c.requires.names (c.slot.ensures.exact ∙ ap slot_of c.bytes.ensures.bytes) (sym c.knows.ensures ∙ c.if-knows.true)
+    ∙ known_child c.args.chain.now c.args.entries.now c.args.parent c.slot.result c.args.name.now c.requires.names
+    (c.slot.ensures.exact ∙ ap slot_of c.bytes.ensures.bytes) (sym c.knows.ensures ∙ c.if-knows.true)

@@ -20,7 +20,9 @@ loop-after-preserved c =
     let part : List ℕ = c.cut.result.0.now in
     let here = some_name c.read_name.result part (c.is_none.ensures ∙ ap not c.if-is_none.false) c.read_name.ensures.some c.read_name.ensures.name in (
       so_far.0 ++ here.0 ∷ [],
-      one_part c.args.text.now part here.0 so_far.0 (parts c.in-Some.text.now) (next_part c.args.text.now part c.loop-after.rest.now so_far.0 (parts c.in-Some.text.now) so_far.1 (part_before c.cut.result.1 part (parts c.loop-after.rest.now) c.in-Some.text c.in-Some.is c.cut.ensures.more)) here.1,
+      one_part c.args.text.now part here.0 so_far.0 (parts c.in-Some.text.now)
+          (next_part c.args.text.now part c.loop-after.rest.now so_far.0 (parts c.in-Some.text.now) so_far.1
+          (part_before c.cut.result.1 part (parts c.loop-after.rest.now) c.in-Some.text c.in-Some.is c.cut.ensures.more)) here.1,
       All-push IsName so_far.0 here.0 so_far.2 here.2,
     )
 
@@ -32,6 +34,7 @@ returns-in-None-clause-yes c =
     let path : List (List ℕ) = so_far.0 ++ here.0 ∷ [] in (
       so_far.0 ++ here.0 ∷ [],
       all_parts c.args.text.now path
-          (one_part c.args.text.now part here.0 so_far.0 [] (next_part c.args.text.now part c.loop-after.rest.now so_far.0 [] so_far.1 (last_part c.cut.result.1 part (parts c.loop-after.rest.now) c.in-None.is c.cut.ensures.last)) here.1 ∙ append-nil (map escaped path))
+          (one_part c.args.text.now part here.0 so_far.0 [] (next_part c.args.text.now part c.loop-after.rest.now so_far.0 [] so_far.1
+          (last_part c.cut.result.1 part (parts c.loop-after.rest.now) c.in-None.is c.cut.ensures.last)) here.1 ∙ append-nil (map escaped path))
           (All-push IsName so_far.0 here.0 so_far.2 here.2),
     )

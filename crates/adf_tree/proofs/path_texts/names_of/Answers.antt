@@ -12,7 +12,8 @@ returns-in_default-clause-err c = λ _.
     let part : List ℕ = c.cut.result.0.now in
     let names : List (List ℕ) = c.loop-name.path.items in
     let first = part_first c.cut.result.1 part (parts c.loop-name.rest.now) c.cut.ensures.last c.cut.ensures.more in
-    bad_part c.args.text.now part names first.0 c.requires (next_part c.args.text.now part c.loop-name.rest.now names first.0 inv.split first.1) c.in_default.ensures.none
+    bad_part c.args.text.now part names first.0 c.requires (next_part c.args.text.now part c.loop-name.rest.now names first.0 inv.split first.1)
+    c.in_default.ensures.none
 
 pub returns-in-None-clause-ok : goal.returns-in-None-clause-ok
 returns-in-None-clause-ok c =
@@ -23,5 +24,6 @@ returns-in-None-clause-ok c =
     let pushed : c.push.new.self.items ≡ path = c.push.ensures.items ∙ ap (λ b. if b then path else names) c.if-is_err.ensures.negation in
     subst (λ ns. IsPathText c.args.text.now ns) (sym pushed)
     (all_parts c.args.text.now path
-    (one_part c.args.text.now part c.in-Some.name names [] (next_part c.args.text.now part c.loop-name.rest.now names [] inv.split (last_part c.cut.result.1 part (parts c.loop-name.rest.now) c.in-None.is c.cut.ensures.last)) c.in-Some.ensures.some ∙ append-nil (map escaped path))
+    (one_part c.args.text.now part c.in-Some.name names [] (next_part c.args.text.now part c.loop-name.rest.now names [] inv.split
+    (last_part c.cut.result.1 part (parts c.loop-name.rest.now) c.in-None.is c.cut.ensures.last)) c.in-Some.ensures.some ∙ append-nil (map escaped path))
     (All-push IsName names c.in-Some.name inv.names c.in-Some.ensures.name))

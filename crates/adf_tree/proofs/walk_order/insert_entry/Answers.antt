@@ -19,8 +19,11 @@ returns-clause-entries c =
     let after : List Entry → List Entry = λ xs. take (i + 1) xs ++ map (renumbered (i + 1)) (drop (i + 1) xs) in
     let ok : is_ok c.insert.result ≡ true = c.if-is_err.ensures.negation in
     let put : c.insert.new.self.items ≡ insert es i e = c.insert.ensures.items ∙ ap (λ b. if b then insert es i e else es) ok in
-    let here : i ≡ place es (rank e) = c.place_of-at.ensures.exact ∙ (ap (λ xs. place xs (rank_of e.parent c.slot.result)) c.deref.ensures.value ∙ ap (λ s. place es (rank_of e.parent s)) (c.slot.ensures.exact ∙ ap slot_of c.bytes.ensures.bytes)) in
-    written_whole c.insert.new.self.len c.insert.new.self.items c.renumber.new.entries (omega (arith, c.renumber.auto.entries, c.deref_mut.ensures.len)) (sym (ap length c.deref_mut.ensures.value) ∙ c.deref_mut.ensures.len)
+    let here : i ≡ place es (rank e) =
+    c.place_of-at.ensures.exact ∙ (ap (λ xs. place xs (rank_of e.parent c.slot.result)) c.deref.ensures.value
+    ∙ ap (λ s. place es (rank_of e.parent s)) (c.slot.ensures.exact ∙ ap slot_of c.bytes.ensures.bytes)) in
+    written_whole c.insert.new.self.len c.insert.new.self.items c.renumber.new.entries (omega (arith, c.renumber.auto.entries, c.deref_mut.ensures.len))
+    (sym (ap length c.deref_mut.ensures.value) ∙ c.deref_mut.ensures.len)
     ∙ (c.renumber.ensures
     ∙ (ap after (c.deref_mut.ensures.value ∙ put)
     ∙ (inserted_mapped (renumbered (i + 1)) es i e (omega (arith, here, place_le es (rank e)))

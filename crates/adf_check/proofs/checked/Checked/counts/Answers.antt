@@ -13,8 +13,10 @@ pub returns : goal.returns
 returns c = λ t l st.
     let image = c.self.inside.image in
     let store = store_of c.self.inside.found in
-    let dirs : c.count_dirs-dirs.result ≡ count_by (is_dir_at image) store.rows = c.count_dirs-dirs.ensures.exact ∙ ap (count_by (is_dir_at image)) c.deref.ensures.value in
+    let dirs : c.count_dirs-dirs.result ≡ count_by (is_dir_at image) store.rows =
+    c.count_dirs-dirs.ensures.exact ∙ ap (count_by (is_dir_at image)) c.deref.ensures.value in
     let all : c.len.result ≡ length store.rows = search rules in
-    counts_are image store t l c.kind.result c.blocks-blocks.result c.used-used.result c.count_dirs-dirs.result c.len.result (subst (λ (v : Volume). StandsFor v t l) (sym c.self.view_is) st)
+    counts_are image store t l c.kind.result c.blocks-blocks.result c.used-used.result c.count_dirs-dirs.result c.len.result
+    (subst (λ (v : Volume). StandsFor v t l) (sym c.self.view_is) st)
     c.kind.ensures.kind c.blocks-blocks.ensures.blocks c.used-used.ensures.used dirs all
     ∙ ap (λ (v : Volume). counts_of v.image t l) c.self.view_is

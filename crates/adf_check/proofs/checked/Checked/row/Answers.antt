@@ -21,7 +21,8 @@ block-requires c =
     let found = c.in_ok-kept.ensures.lookup in
     let lt : i < length store.rows = subst (λ (rs : List Kept). i < length rs) c.deref.ensures.value found.3.0 in
     let here : kept ≡ get_or store.rows i kept = found.1 ∙ ap (λ rs. get_or rs i kept) c.deref.ensures.value in
-    subst (λ (r : Kept). r.head < blocks image) (sym here) (rows_inside image store (tells_begun image store c.self.invariant.tells) c.self.invariant.tells i kept lt)
+    subst (λ (r : Kept). r.head < blocks image) (sym here) (rows_inside image store (tells_begun image store c.self.invariant.tells) c.self.invariant.tells
+    i kept lt)
 
 pub over-head-requires : goal.over-head-requires
 over-head-requires c =
@@ -44,5 +45,7 @@ returns c = λ t l stands.
     let lt : i < length store.rows = subst (λ (rs : List Kept). i < length rs) c.deref.ensures.value found.3.0 in
     let here : kept ≡ get_or store.rows i kept = found.1 ∙ ap (λ rs. get_or rs i kept) c.deref.ensures.value in
     let node : c.args.n ≡ suc i = omega (arith, c.n.view_is, c.if-n-eq0.false) in
-    let told : c.row_of.result ≡ row_in kept.parent (block image kept.head) = c.row_of.ensures ∙ ap (row_in kept.parent) (c.over-head.ensures ∙ c.block.ensures.block) in
-    entry_told image store t l (subst (λ (v : Volume). StandsFor v t l) (sym c.self.view_is) stands) c.args.n i kept c.row_of.result node lt (subst (At store.rows i) (sym here) (row_at store.rows i kept lt)) told
+    let told : c.row_of.result ≡ row_in kept.parent (block image kept.head) =
+    c.row_of.ensures ∙ ap (row_in kept.parent) (c.over-head.ensures ∙ c.block.ensures.block) in
+    entry_told image store t l (subst (λ (v : Volume). StandsFor v t l) (sym c.self.view_is) stands) c.args.n i kept c.row_of.result node lt
+    (subst (At store.rows i) (sym here) (row_at store.rows i kept lt)) told

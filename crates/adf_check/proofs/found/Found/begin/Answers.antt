@@ -12,9 +12,11 @@ pub returns : goal.returns
 returns c =
     let image = c.args.image.now in
     let owners = c.in_ok-owners.owners in
-    let free : owner_at owners c.root.result ≡ Free = ap (owner_at owners) c.root.ensures.root ∙ root_is_free image c.blocks-2.result owners c.root.ensures.begun c.in_ok-owners.ensures in
+    let free : owner_at owners c.root.result ≡ Free =
+    ap (owner_at owners) c.root.ensures.root ∙ root_is_free image c.blocks-2.result owners c.root.ensures.begun c.in_ok-owners.ensures in
     let done : IsOk c.claim.result = c.claim.ensures.free.1 free in
-    let claimed : c.claim.new.self ≡ set owners (root_of image) Root = on_ok c.claim.result done c.claim.ensures.ok ∙ ap (λ b. set owners b Root) c.root.ensures.root in
+    let claimed : c.claim.new.self ≡ set owners (root_of image) Root =
+    on_ok c.claim.result done c.claim.ensures.ok ∙ ap (λ b. set owners b Root) c.root.ensures.root in
     let counted : owned_count c.claim.new.self ≡ owned_count owners + 1 = on_ok c.claim.result done c.claim.ensures.count in
     rw (c.new-2.ensures.items, c.new-3.ensures.items, c.new-4.ensures.items, c.new-5.ensures.items)
     (begun_with_root image c.blocks-2.result owners c.claim.new.self c.root.ensures.begun c.blocks-2.ensures.blocks c.in_ok-owners.ensures claimed counted)

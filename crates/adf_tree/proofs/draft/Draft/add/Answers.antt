@@ -16,10 +16,13 @@ invariant_of-self c =
     let m : ℕ = c.in_ok-parent.parent in
     let parents : List (List ℕ) = take (length c.args.path.now - 1) c.args.path.now in
     let d : Entry = record { parent = m; name = c.copy-name.result; meta = c.args.meta; body = c.args.body } in
-    let room = subst (λ (xs : List Entry). room_at (walk xs).entries c.copy-name.result (directory_from (walk xs).entries 0 parents) ≡ Ok (node_of (walk xs).nodes m)) c.deref.ensures.value c.in_ok-parent.ensures.room in
+    let room = subst (λ (xs : List Entry). room_at (walk xs).entries c.copy-name.result (directory_from (walk xs).entries 0 parents)
+    ≡ Ok (node_of (walk xs).nodes m)) c.deref.ensures.value c.in_ok-parent.ensures.room in
     let small : m ≤ length drafts = subst (λ (xs : List Entry). m ≤ length xs) c.deref.ensures.value c.in_ok-parent.ensures.within in
-    kept_draft drafts c.add_child.new.entries.items c.self.inside.children.buckets.items c.add_child.new.children.buckets.items c.add_child.result d c.self.invariant small
-    (room_may_add (walk drafts).entries (in_tree (walk drafts).nodes d) parents room) c.add_child.ensures.entries c.add_child.ensures.more c.add_child.ensures.same
+    kept_draft drafts c.add_child.new.entries.items c.self.inside.children.buckets.items c.add_child.new.children.buckets.items c.add_child.result d
+    c.self.invariant small
+    (room_may_add (walk drafts).entries (in_tree (walk drafts).nodes d) parents room) c.add_child.ensures.entries c.add_child.ensures.more
+    c.add_child.ensures.same
 
 pub returns-clause-tree : goal.returns-clause-tree
 returns-clause-tree c =
@@ -29,9 +32,13 @@ returns-clause-tree c =
     let path : List (List ℕ) = c.args.path.now in
     let parents : List (List ℕ) = take (length path - 1) path in
     let d : Entry = record { parent = m; name = c.copy-name.result; meta = c.args.meta; body = c.args.body } in
-    let room = subst (λ (xs : List Entry). room_at (walk xs).entries c.copy-name.result (directory_from (walk xs).entries 0 parents) ≡ Ok (node_of (walk xs).nodes m)) c.deref.ensures.value c.in_ok-parent.ensures.room in
-    tree_left (record { kind = c.self.inside.kind; label = c.self.inside.label; stamps = c.self.inside.stamps; entries = es }) (walk c.add_child.new.entries.items).entries (in_tree (walk drafts).nodes d) (is_ok c.add_child.result) path c.args.meta c.args.body (entries_left drafts c.add_child.new.entries.items d (is_ok c.add_child.result) c.add_child.ensures.entries)
-    (same_entry es path c.args.meta c.args.body c.index-path-last.result c.copy-name.result (node_of (walk drafts).nodes m) (sym c.is_empty.ensures ∙ c.if-is_empty.false) c.index-path-last.is c.copy-name.ensures (sym room))
+    let room = subst (λ (xs : List Entry). room_at (walk xs).entries c.copy-name.result (directory_from (walk xs).entries 0 parents)
+    ≡ Ok (node_of (walk xs).nodes m)) c.deref.ensures.value c.in_ok-parent.ensures.room in
+    tree_left (record { kind = c.self.inside.kind; label = c.self.inside.label; stamps = c.self.inside.stamps; entries = es })
+    (walk c.add_child.new.entries.items).entries (in_tree (walk drafts).nodes d) (is_ok c.add_child.result) path c.args.meta c.args.body
+    (entries_left drafts c.add_child.new.entries.items d (is_ok c.add_child.result) c.add_child.ensures.entries)
+    (same_entry es path c.args.meta c.args.body c.index-path-last.result c.copy-name.result (node_of (walk drafts).nodes m)
+    (sym c.is_empty.ensures ∙ c.if-is_empty.false) c.index-path-last.is c.copy-name.ensures (sym room))
     ∙ ap (λ t. if is_ok c.add_child.result then with_entry t path c.args.meta c.args.body else t) c.self.view_is
 
 pub returns-clause-paths : goal.returns-clause-paths
@@ -44,9 +51,15 @@ returns-clause-paths c =
     let d : Entry = record { parent = m; name = c.copy-name.result; meta = c.args.meta; body = c.args.body } in
     let e : Entry = in_tree (walk drafts).nodes d in
     let some : (length path == 0) ≡ false = sym c.is_empty.ensures ∙ c.if-is_empty.false in
-    let room = subst (λ (xs : List Entry). room_at (walk xs).entries c.copy-name.result (directory_from (walk xs).entries 0 parents) ≡ Ok (node_of (walk xs).nodes m)) c.deref.ensures.value c.in_ok-parent.ensures.room in
-    let is : path ≡ parents ++ e.name ∷ [] = whole_path path c.index-path-last.result some ∙ ap (λ y. parents ++ y ∷ []) (sym c.index-path-last.is ∙ sym c.copy-name.ensures) in
-    subst (λ t. OnOk c.add_child.result (AddsOne t.entries (walk c.add_child.new.entries.items).entries (new_entry t.entries path c.args.meta c.args.body) path)) c.self.view_is
+    let room = subst (λ (xs : List Entry). room_at (walk xs).entries c.copy-name.result (directory_from (walk xs).entries 0 parents)
+    ≡ Ok (node_of (walk xs).nodes m)) c.deref.ensures.value c.in_ok-parent.ensures.room in
+    let is : path ≡ parents ++ e.name ∷ [] =
+    whole_path path c.index-path-last.result some ∙ ap (λ y. parents ++ y ∷ []) (sym c.index-path-last.is ∙ sym c.copy-name.ensures) in
+    subst (λ t. OnOk c.add_child.result (AddsOne t.entries (walk c.add_child.new.entries.items).entries (new_entry t.entries path c.args.meta c.args.body)
+    path)) c.self.view_is
     (subst (λ (x : Entry). OnOk c.add_child.result (AddsOne es (walk c.add_child.new.entries.items).entries x path))
-    (same_entry es path c.args.meta c.args.body c.index-path-last.result c.copy-name.result (node_of (walk drafts).nodes m) some c.index-path-last.is c.copy-name.ensures (sym room))
-    (on_ok c.add_child.result es (walk c.add_child.new.entries.items).entries e path (entries_left drafts c.add_child.new.entries.items d (is_ok c.add_child.result) c.add_child.ensures.entries) (adds_one es e parents path c.self.invariant.gives.tree room is)))
+    (same_entry es path c.args.meta c.args.body c.index-path-last.result c.copy-name.result (node_of (walk drafts).nodes m) some c.index-path-last.is
+    c.copy-name.ensures (sym room))
+    (on_ok c.add_child.result es (walk c.add_child.new.entries.items).entries e path
+    (entries_left drafts c.add_child.new.entries.items d (is_ok c.add_child.result) c.add_child.ensures.entries)
+    (adds_one es e parents path c.self.invariant.gives.tree room is)))

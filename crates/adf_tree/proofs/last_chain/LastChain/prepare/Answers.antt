@@ -5,7 +5,8 @@ use Rattle.adf_tree.proofs.last_chain.LastChain.prepare.Goals as goal
 
 pub returns-then-start_of-entries-clause-names : goal.returns-then-start_of-entries-clause-names
 returns-then-start_of-entries-clause-names c =
-    begun c.start.new.self c.args.entries.now c.args.parent c.args.slot c.start_of.result c.start.ensures.parent c.start.ensures.slot c.start.ensures.none c.start_of.ensures.parted (omega arith)
+    begun c.start.new.self c.args.entries.now c.args.parent c.args.slot c.start_of.result c.start.ensures.parent c.start.ensures.slot c.start.ensures.none
+    c.start_of.ensures.parted (omega arith)
 
 pub returns-then-start_of-entries-clause-last : goal.returns-then-start_of-entries-clause-last
 returns-then-start_of-entries-clause-last c =

@@ -30,8 +30,10 @@ returns-clause-tree c =
     let path : List (List ℕ) = c.args.path.now in
     let parents : List (List ℕ) = take (length path - 1) path in
     let e : Entry = record { parent = c.in_ok-parent.parent; name = c.copy-name.result; meta = c.args.meta; body = c.args.body } in
-    tree_left (record { kind = c.self.inside.kind; label = c.self.inside.label; stamps = c.self.inside.stamps; entries = es }) c.add_entry.new.entries.items e (is_ok c.add_entry.result) path c.args.meta c.args.body c.add_entry.ensures.entries
-    (same_entry es path c.args.meta c.args.body c.index-path-last.result c.copy-name.result c.in_ok-parent.parent (sym c.is_empty.ensures ∙ c.if-is_empty.false) c.index-path-last.is c.copy-name.ensures
+    tree_left (record { kind = c.self.inside.kind; label = c.self.inside.label; stamps = c.self.inside.stamps; entries = es }) c.add_entry.new.entries.items
+    e (is_ok c.add_entry.result) path c.args.meta c.args.body c.add_entry.ensures.entries
+    (same_entry es path c.args.meta c.args.body c.index-path-last.result c.copy-name.result c.in_ok-parent.parent
+    (sym c.is_empty.ensures ∙ c.if-is_empty.false) c.index-path-last.is c.copy-name.ensures
     (c.in_ok-parent.ensures ∙ ap (λ xs. room_at xs c.copy-name.result (directory_from xs 0 parents)) c.deref.ensures.value))
     ∙ ap (λ t. if is_ok c.add_entry.result then with_entry t path c.args.meta c.args.body else t) c.self.view_is
 
@@ -43,8 +45,12 @@ returns-clause-paths c =
     let e : Entry = record { parent = c.in_ok-parent.parent; name = c.copy-name.result; meta = c.args.meta; body = c.args.body } in
     let some : (length path == 0) ≡ false = sym c.is_empty.ensures ∙ c.if-is_empty.false in
     let room = c.in_ok-parent.ensures ∙ ap (λ xs. room_at xs c.copy-name.result (directory_from xs 0 parents)) c.deref.ensures.value in
-    let is : path ≡ parents ++ e.name ∷ [] = whole_path path c.index-path-last.result some ∙ ap (λ y. parents ++ y ∷ []) (sym c.index-path-last.is ∙ sym c.copy-name.ensures) in
-    subst (λ t. OnOk c.add_entry.result (AddsOne t.entries c.add_entry.new.entries.items (new_entry t.entries path c.args.meta c.args.body) path)) c.self.view_is
+    let is : path ≡ parents ++ e.name ∷ [] =
+    whole_path path c.index-path-last.result some ∙ ap (λ y. parents ++ y ∷ []) (sym c.index-path-last.is ∙ sym c.copy-name.ensures) in
+    subst (λ t. OnOk c.add_entry.result (AddsOne t.entries c.add_entry.new.entries.items (new_entry t.entries path c.args.meta c.args.body) path))
+    c.self.view_is
     (subst (λ x. OnOk c.add_entry.result (AddsOne es c.add_entry.new.entries.items x path))
-    (same_entry es path c.args.meta c.args.body c.index-path-last.result c.copy-name.result c.in_ok-parent.parent some c.index-path-last.is c.copy-name.ensures room)
-    (on_ok c.add_entry.result es c.add_entry.new.entries.items e path c.add_entry.ensures.entries (adds_one es e parents path c.self.invariant.0 (sym room) is)))
+    (same_entry es path c.args.meta c.args.body c.index-path-last.result c.copy-name.result c.in_ok-parent.parent some c.index-path-last.is
+    c.copy-name.ensures room)
+    (on_ok c.add_entry.result es c.add_entry.new.entries.items e path c.add_entry.ensures.entries
+    (adds_one es e parents path c.self.invariant.0 (sym room) is)))
