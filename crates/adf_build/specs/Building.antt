@@ -23,6 +23,12 @@ pub record HasRoom (tree : Tree) (n : ℕ) : Type 0 where
   pub allowed : is_allowed n ≡ true
   pub room : blocks_needed tree n ≤ n - 2
 
+-- the number of a reason why no image is built, 1 to 3
+abbrev pub build_fault_number : BuildFault → ℕ
+build_fault_number BadSize = 1
+build_fault_number (Full need have) = 2
+build_fault_number NoMemory = 3
+
 -- why no image is built of the tree in n blocks: the size is not allowed; else it does not fit in, with both numbers; else memory was refused
 abbrev pub IsBuildFault : Tree → ℕ → BuildFault → Type 0
 IsBuildFault tree n BadSize = is_allowed n ≡ false

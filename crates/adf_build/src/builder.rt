@@ -4,7 +4,7 @@ ghost use Rattle.std.specs.Prelude.{◌≡◌, ◌*◌, IfOk, IfErr, OnOk, vec_l
 ghost use Rattle.adf_volume.specs.Fits.{Fits};
 ghost use Rattle.adf_build.specs.Laid.{IsLaid, volume};
 ghost use Rattle.adf_build.specs.Plan.{planned};
-ghost use Rattle.adf_build.specs.Building.{HasRoom, IsBuildFault};
+ghost use Rattle.adf_build.specs.Building.{HasRoom, IsBuildFault, build_fault_number};
 
 use crate::counting::need;
 use crate::given::reserved_count;
@@ -23,6 +23,19 @@ pub enum BuildFault {
     Full { need: u64, have: u64 },
     /// A growth was refused.
     NoMemory,
+}
+
+impl BuildFault {
+    /// The number of the fault, 1 to 3.
+    pub fn number(self) -> u8
+        ensures { result ≡ build_fault_number self }
+    {
+        match self {
+            BuildFault::BadSize => 1,
+            BuildFault::Full { .. } => 2,
+            BuildFault::NoMemory => 3,
+        }
+    }
 }
 
 /// The image of a tree in a volume of so many blocks: the root in the middle, the bitmap pages and bitmap extension blocks behind it,
