@@ -8,7 +8,7 @@ use Rattle.adf_blocks.specs.Forms.{first_cause}
 use Rattle.adf_blocks.specs.Fields.{Descends}
 use Rattle.adf_blocks.specs.DataBlock.{DataFields, FitsData, data_block, data_form, data_table}
 use Rattle.adf_blocks.proofs.ClauseLaws.{no_cause}
-use Rattle.adf_blocks.proofs.LaidLaws.{bytes_of_field, length_sealed_laid, sum_of_laid, word_of_field}
+use Rattle.adf_blocks.proofs.FieldLaws.{bytes_of_field, length_sealed_fields, sum_of_fields, word_of_field}
 
 -- the fields of a data block fit side by side
 pub data_descends : (d : DataFields) → FitsData d → Descends 512 (data_table d)
@@ -17,12 +17,12 @@ data_descends d fits = (omega (arith, fits.bytes), (omega arith, (omega arith, (
 -- a data block is a whole block
 pub length_data_block : (d : DataFields) → FitsData d → length (data_block d) ≡ 512
 unfolding data_block
-length_data_block d fits = length_sealed_laid (data_table d) (data_descends d fits)
+length_data_block d fits = length_sealed_fields (data_table d) (data_descends d fits)
 
 -- the fields of a data block
 pub data_block-sum : (d : DataFields) → FitsData d → long_sum (data_block d) ≡ 0
 unfolding data_block
-data_block-sum d fits = sum_of_laid (data_table d) (data_descends d fits)
+data_block-sum d fits = sum_of_fields (data_table d) (data_descends d fits)
 
 pub data_block-type : (d : DataFields) → FitsData d → word (data_block d) 0 ≡ 8
 unfolding data_block

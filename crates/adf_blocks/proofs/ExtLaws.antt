@@ -9,7 +9,7 @@ use Rattle.adf_blocks.specs.Forms.{first_cause}
 use Rattle.adf_blocks.specs.Fields.{Descends}
 use Rattle.adf_blocks.specs.ExtBlock.{ExtFields, FitsExt, ext_block, ext_form, ext_table}
 use Rattle.adf_blocks.proofs.ClauseLaws.{no_cause}
-use Rattle.adf_blocks.proofs.LaidLaws.{length_sealed_laid, long_number, pointer_number, sum_of_laid, word_of_field}
+use Rattle.adf_blocks.proofs.FieldLaws.{length_sealed_fields, long_number, pointer_number, sum_of_fields, word_of_field}
 
 -- the fields of an extension block fit side by side
 pub ext_descends : (e : ExtFields) → FitsExt e → Descends 512 (ext_table e)
@@ -21,12 +21,12 @@ ext_descends e fits =
 -- an extension block is a whole block
 pub length_ext_block : (e : ExtFields) → FitsExt e → length (ext_block e) ≡ 512
 unfolding ext_block
-length_ext_block e fits = length_sealed_laid (ext_table e) (ext_descends e fits)
+length_ext_block e fits = length_sealed_fields (ext_table e) (ext_descends e fits)
 
 -- the fields of an extension block
 pub ext_block-sum : (e : ExtFields) → FitsExt e → long_sum (ext_block e) ≡ 0
 unfolding ext_block
-ext_block-sum e fits = sum_of_laid (ext_table e) (ext_descends e fits)
+ext_block-sum e fits = sum_of_fields (ext_table e) (ext_descends e fits)
 
 pub ext_block-type : (e : ExtFields) → FitsExt e → word (ext_block e) 0 ≡ 16
 unfolding ext_block

@@ -18,7 +18,7 @@ use Rattle.adf_blocks.specs.Fields.{Descends, FitsStamp, long}
 use Rattle.adf_blocks.specs.HeadBlock.{BodyFields, FitsBody, FitsBodyWords, FitsHead, FitsMeta, HeadFields, body_at, body_told, ext_of, first_of, has_first, has_type, head_block, head_form, head_table, is_link, is_name_at, meta_at, secondary_of, size_of, table_of}
 use Rattle.adf_blocks.specs.HeadBlock.BodyFields.{DirFields, FileFields}
 use Rattle.adf_blocks.proofs.ClauseLaws.{no_cause}
-use Rattle.adf_blocks.proofs.LaidLaws.{length_sealed_laid, long_number, number_of_field, pointer_number, stamp_of_field, sum_of_laid, text_of_field, word_of_field, words_of_field}
+use Rattle.adf_blocks.proofs.FieldLaws.{length_sealed_fields, long_number, number_of_field, pointer_number, stamp_of_field, sum_of_fields, text_of_field, word_of_field, words_of_field}
 
 -- a name has at most 30 bytes
 name_short : (bs : List ℕ) → is_name bs ≡ true → length bs ≤ 30
@@ -70,12 +70,12 @@ head_descends h fits =
 -- a header is a whole block
 pub length_head_block : (h : HeadFields) → FitsHead h → length (head_block h) ≡ 512
 unfolding head_block
-length_head_block h fits = length_sealed_laid (head_table h) (head_descends h fits)
+length_head_block h fits = length_sealed_fields (head_table h) (head_descends h fits)
 
 -- the fields of a header
 pub head_block-sum : (h : HeadFields) → FitsHead h → long_sum (head_block h) ≡ 0
 unfolding head_block
-head_block-sum h fits = sum_of_laid (head_table h) (head_descends h fits)
+head_block-sum h fits = sum_of_fields (head_table h) (head_descends h fits)
 
 pub head_block-type : (h : HeadFields) → FitsHead h → word (head_block h) 0 ≡ 2
 unfolding head_block

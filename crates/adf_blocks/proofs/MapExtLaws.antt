@@ -5,9 +5,9 @@ use Rattle.std.proofs.lemmas.Bool.{cases_lt}
 use Rattle.std.proofs.lemmas.List.{get_or_past}
 use Rattle.adf_fields.specs.Words.{word}
 use Rattle.adf_fields.proofs.WordLaws.{length_longs}
-use Rattle.adf_blocks.specs.Fields.{Descends, laid}
+use Rattle.adf_blocks.specs.Fields.{Descends, block_of_fields}
 use Rattle.adf_blocks.specs.MapExtBlock.{map_ext_block, map_ext_table}
-use Rattle.adf_blocks.proofs.LaidLaws.{laid_between, laid_long, laid_longs, length-laid, long_number}
+use Rattle.adf_blocks.proofs.FieldLaws.{fields_between, fields_long, fields_longs, length-block_of_fields, long_number}
 
 -- the fields fit side by side
 pub map_ext_descends : (pages : List ℕ) (next : ℕ) → length pages ≤ 127 → Descends 512 (map_ext_table pages next)
@@ -18,7 +18,7 @@ map_ext_descends pages next few =
 -- a bitmap extension block is a whole block
 pub length_map_ext_block : (pages : List ℕ) (next : ℕ) → length pages ≤ 127 → length (map_ext_block pages next) ≡ 512
 unfolding map_ext_block
-length_map_ext_block pages next few = length-laid 512 (map_ext_table pages next) (omega arith) (map_ext_descends pages next few)
+length_map_ext_block pages next few = length-block_of_fields 512 (map_ext_table pages next) (omega arith) (map_ext_descends pages next few)
 
 -- a page that is named, or 0 past the last
 pub map_ext_block-page : (pages : List ℕ) (next j : ℕ) → length pages ≤ 127 → j < 127 → slice_index pages j < 2 ^ 32
@@ -27,12 +27,12 @@ unfolding map_ext_block
 map_ext_block-page pages next j few lt small = elim (cases_lt j (length pages)) [
   | inl in_pages ↦
       let z : j ≡ 0 + j = omega arith in
-      ap (word (laid (map_ext_table pages next))) z
-      ∙ laid_longs (map_ext_table pages next) 1 0 j pages (map_ext_descends pages next few) (omega arith) refl in_pages
+      ap (word (block_of_fields (map_ext_table pages next))) z
+      ∙ fields_longs (map_ext_table pages next) 1 0 j pages (map_ext_descends pages next few) (omega arith) refl in_pages
       ∙ long_number (slice_index pages j) small
   | inr past ↦
       let m = length_longs pages in
-      laid_between (map_ext_table pages next) j (map_ext_descends pages next few) (omega arith) (inl (omega arith), (inr (omega arith), tt))
+      fields_between (map_ext_table pages next) j (map_ext_descends pages next few) (omega arith) (inl (omega arith), (inr (omega arith), tt))
       ∙ sym (get_or_past pages j 0 past)
 ]
 
@@ -40,4 +40,4 @@ map_ext_block-page pages next j few lt small = elim (cases_lt j (length pages)) 
 pub map_ext_block-next : (pages : List ℕ) (next : ℕ) → length pages ≤ 127 → next < 2 ^ 32 → word (map_ext_block pages next) 127 ≡ next
 unfolding map_ext_block
 map_ext_block-next pages next few small =
-    laid_long (map_ext_table pages next) 0 127 next (map_ext_descends pages next few) (omega arith) refl ∙ long_number next small
+    fields_long (map_ext_table pages next) 0 127 next (map_ext_descends pages next few) (omega arith) refl ∙ long_number next small

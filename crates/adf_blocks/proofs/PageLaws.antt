@@ -4,25 +4,25 @@ use Rattle.std.specs.Prelude.{None, slice_index, IsBitSet, ◌/◌, ◌%◌, ◌
 use Rattle.adf_fields.specs.Words.{block, word, with_block, long_sum, checksum}
 use Rattle.adf_fields.proofs.WordLaws.{block_written, length-with_bytes, length_big_bytes, length_longs, long_sum-sealed}
 use Rattle.adf_blocks.specs.Forms.{first_cause}
-use Rattle.adf_blocks.specs.Fields.{laid, long, longs}
+use Rattle.adf_blocks.specs.Fields.{block_of_fields, long, longs}
 use Rattle.adf_blocks.specs.PageBlock.{IsFreeBit, page_block, page_form}
-use Rattle.adf_blocks.proofs.LaidLaws.{length-laid, words_of_field}
+use Rattle.adf_blocks.proofs.FieldLaws.{length-block_of_fields, words_of_field}
 
 -- a page is a whole block
 pub length_page_block : (bits : List ℕ) → length bits ≡ 127 → length (page_block bits) ≡ 512
 unfolding page_block
 length_page_block bits n =
     let m = length_longs bits in
-    let len = length-laid 512 ((4 * 1, longs bits) ∷ []) (omega arith) (omega arith, tt) in
-    length-with_bytes (laid ((4 * 1, longs bits) ∷ [])) (4 * 0) (long (checksum 0 (laid ((4 * 1, longs bits) ∷ []))))
-    (omega (arith, length_big_bytes 4 (checksum 0 (laid ((4 * 1, longs bits) ∷ []))))) ∙ len
+    let len = length-block_of_fields 512 ((4 * 1, longs bits) ∷ []) (omega arith) (omega arith, tt) in
+    length-with_bytes (block_of_fields ((4 * 1, longs bits) ∷ [])) (4 * 0) (long (checksum 0 (block_of_fields ((4 * 1, longs bits) ∷ []))))
+    (omega (arith, length_big_bytes 4 (checksum 0 (block_of_fields ((4 * 1, longs bits) ∷ []))))) ∙ len
 
 -- the sum of a page
 pub page_block-sum : (bits : List ℕ) → length bits ≡ 127 → long_sum (page_block bits) ≡ 0
 unfolding page_block
 page_block-sum bits n =
     let m = length_longs bits in
-    long_sum-sealed 0 (laid ((4 * 1, longs bits) ∷ [])) (omega arith) (length-laid 512 ((4 * 1, longs bits) ∷ []) (omega arith) (omega arith, tt))
+    long_sum-sealed 0 (block_of_fields ((4 * 1, longs bits) ∷ [])) (omega arith) (length-block_of_fields 512 ((4 * 1, longs bits) ∷ []) (omega arith) (omega arith, tt))
 
 -- a word of a page's bits
 pub page_block-word : (bits : List ℕ) (i : ℕ) → length bits ≡ 127 → i < 127 → slice_index bits i < 2 ^ 32 → word (page_block bits) (1 + i) ≡ slice_index bits i

@@ -8,7 +8,7 @@ use Rattle.adf_fields.proofs.WordLaws.{length_longs, block_written}
 use Rattle.adf_blocks.specs.Forms.{first_cause, text_at}
 use Rattle.adf_blocks.specs.Fields.{Descends}
 use Rattle.adf_blocks.specs.RootBlock.{FitsRoot, FitsStamps, RootFields, root_block, root_form, root_table, stamps_at}
-use Rattle.adf_blocks.proofs.LaidLaws.{length_sealed_laid, stamp_of_field, sum_of_laid, text_of_field, word_between, word_of_field, words_of_field}
+use Rattle.adf_blocks.proofs.FieldLaws.{length_sealed_fields, stamp_of_field, sum_of_fields, text_of_field, word_between, word_of_field, words_of_field}
 
 -- the fields of a root fit side by side
 pub root_descends : (r : RootFields) → FitsRoot r → Descends 512 (root_table r)
@@ -35,7 +35,7 @@ root_descends r h =
 -- the words of a root
 pub root_block-sum : (r : RootFields) → FitsRoot r → long_sum (root_block r) ≡ 0
 unfolding root_block
-root_block-sum r h = sum_of_laid (root_table r) (root_descends r h)
+root_block-sum r h = sum_of_fields (root_table r) (root_descends r h)
 
 pub root_block-type : (r : RootFields) → FitsRoot r → word (root_block r) 0 ≡ 2
 unfolding root_block
@@ -129,7 +129,7 @@ root_block-form r h =
 -- a root is a whole block
 pub length_root_block : (r : RootFields) → FitsRoot r → length (root_block r) ≡ 512
 unfolding root_block
-length_root_block r h = length_sealed_laid (root_table r) (root_descends r h)
+length_root_block r h = length_sealed_fields (root_table r) (root_descends r h)
 
 -- a root that was written into an image is read there
 pub written_root_form : (image : List ℕ) (b : ℕ) (r : RootFields) → FitsRoot r → b * 512 + 512 ≤ length image

@@ -3,7 +3,7 @@ use Rattle.std.specs.Prelude.{◌≤◌, ◌<◌, ◌*◌, ◌^◌, ℕ, ◌==�
 use Rattle.adf_fields.specs.Words.{word, long_sum, sealed}
 use Rattle.adf_blocks.specs.declared.cause.Cause.TheVariants.{BadSum, BadType, BadData}
 use Rattle.adf_blocks.specs.declared.«data».DataOut.{DataOut}
-use Rattle.adf_blocks.specs.Fields.{Field, laid, long}
+use Rattle.adf_blocks.specs.Fields.{Field, block_of_fields, long}
 use Rattle.adf_blocks.specs.Forms.{Clause}
 
 -- what data block `number` holds, counted from 1, of the file whose header is block `head`: the bytes held and the next data block, or 0
@@ -38,7 +38,7 @@ data_table d =
 
 -- the block of a data block with these fields
 unfoldable pub data_block : DataFields → List ℕ
-data_block d = sealed 5 (laid (data_table d))
+data_block d = sealed 5 (block_of_fields (data_table d))
 
 -- fields that a data block has room for
 pub record FitsData (d : DataFields) : Type 0 where

@@ -3,7 +3,7 @@ use Rattle.std.specs.Prelude.{◌≤◌, ◌<◌, ◌*◌, ◌^◌, ℕ, ◌==�
 use Rattle.adf_fields.specs.Words.{word, long_sum, sealed}
 use Rattle.adf_blocks.specs.declared.cause.Cause.TheVariants.{BadSum, BadType, BadOwnKey, BadParent}
 use Rattle.adf_blocks.specs.declared.ext.ExtOut.{ExtOut}
-use Rattle.adf_blocks.specs.Fields.{Field, downwards, laid, long}
+use Rattle.adf_blocks.specs.Fields.{Field, downwards, block_of_fields, long}
 use Rattle.adf_blocks.specs.Forms.{Clause}
 
 -- what an extension block holds at block `own`, of the file whose header is block `head`
@@ -40,7 +40,7 @@ ext_table e =
 
 -- the block of an extension block with these fields
 unfoldable pub ext_block : ExtFields → List ℕ
-ext_block e = sealed 5 (laid (ext_table e))
+ext_block e = sealed 5 (block_of_fields (ext_table e))
 
 -- fields that an extension block has room for
 pub record FitsExt (e : ExtFields) : Type 0 where

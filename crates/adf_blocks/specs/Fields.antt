@@ -26,9 +26,9 @@ abbrev pub Field : Type 0
 Field = ℕ × List ℕ
 
 -- a block that holds these fields, and 0 elsewhere
-abbrev pub laid : List Field → List ℕ
-laid [] = replicate 512 0
-laid (f ∷ fs) = with_bytes (laid fs) f.0 f.1
+abbrev pub block_of_fields : List Field → List ℕ
+block_of_fields [] = replicate 512 0
+block_of_fields (f ∷ fs) = with_bytes (block_of_fields fs) f.0 f.1
 
 -- the fields lie below `top`, and each below the one before it
 abbrev pub Descends : ℕ → List Field → Type 0

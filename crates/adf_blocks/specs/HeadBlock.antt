@@ -12,7 +12,7 @@ use Rattle.adf_blocks.specs.declared.head.HeadBody.TheVariants.{Dir, File}
 use Rattle.adf_blocks.specs.declared.head_out.HeadOut.{HeadOut}
 use Rattle.adf_blocks.specs.declared.head_out.HeadOutBody.{HeadOutBody}
 use Rattle.adf_blocks.specs.declared.head_out.HeadOutBody.TheVariants.{Dir as DirOut, File as FileOut}
-use Rattle.adf_blocks.specs.Fields.{Field, FitsStamp, downwards, laid, long, longs, stamp, text}
+use Rattle.adf_blocks.specs.Fields.{Field, FitsStamp, downwards, block_of_fields, long, longs, stamp, text}
 use Rattle.adf_blocks.specs.Forms.{Clause, stamp_at, text_at}
 
 -- the secondary types of the three links: soft, hard to a directory, hard to a file
@@ -139,7 +139,7 @@ head_table h =
 
 -- the block of a header with these fields
 unfoldable pub head_block : HeadFields → List ℕ
-head_block h = sealed 5 (laid (head_table h))
+head_block h = sealed 5 (block_of_fields (head_table h))
 
 -- pointers that a header has room for
 abbrev pub FitsTable : BodyFields → Type 0

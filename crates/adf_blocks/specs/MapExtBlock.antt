@@ -1,6 +1,6 @@
 -- Bitmap extension blocks. They have no checksum and no type, so every block is one.
 use Rattle.std.specs.Prelude.{◌*◌, ℕ, List, [], ◌∷◌}
-use Rattle.adf_blocks.specs.Fields.{Field, laid, long, longs}
+use Rattle.adf_blocks.specs.Fields.{Field, block_of_fields, long, longs}
 
 -- the fields of a bitmap extension block that names these pages and the next such block, the last first
 abbrev pub map_ext_table : List ℕ → ℕ → List Field
@@ -8,4 +8,4 @@ map_ext_table pages next = (4 * 127, long next) ∷ (4 * 0, longs pages) ∷ []
 
 -- the block of a bitmap extension block that names these pages and the next such block
 unfoldable pub map_ext_block : List ℕ → ℕ → List ℕ
-map_ext_block pages next = laid (map_ext_table pages next)
+map_ext_block pages next = block_of_fields (map_ext_table pages next)

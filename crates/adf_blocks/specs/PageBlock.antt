@@ -3,7 +3,7 @@ use Rattle.std.specs.Prelude.{◌+◌, ◌*◌, ◌/◌, ◌%◌, ◌==◌, ℕ,
 use Rattle.adf_fields.specs.Words.{word, long_sum, sealed}
 use Rattle.adf_blocks.specs.declared.cause.Cause.TheVariants.{BadSum}
 use Rattle.adf_blocks.specs.Forms.{Clause}
-use Rattle.adf_blocks.specs.Fields.{laid, longs}
+use Rattle.adf_blocks.specs.Fields.{block_of_fields, longs}
 
 -- what a page holds
 abbrev pub page_form : List ℕ → List Clause
@@ -15,4 +15,4 @@ IsFreeBit b bit = IsBitSet (word b (1 + bit / 32)) (bit % 32)
 
 -- the block of a page with these words of bits
 unfoldable pub page_block : List ℕ → List ℕ
-page_block bits = sealed 0 (laid ((4 * 1, longs bits) ∷ []))
+page_block bits = sealed 0 (block_of_fields ((4 * 1, longs bits) ∷ []))

@@ -5,7 +5,7 @@ use Rattle.adf_tree.specs.declared.entry.Stamps.{Stamps}
 use Rattle.adf_blocks.specs.declared.cause.Cause.TheVariants.{BadSum, BadType, BadName, BadHashSize, NotValidated}
 use Rattle.adf_blocks.specs.declared.root_out.RootOut.{RootOut}
 use Rattle.adf_blocks.specs.Forms.{Clause, stamp_at}
-use Rattle.adf_blocks.specs.Fields.{Field, FitsStamp, laid, long, longs, stamp, text}
+use Rattle.adf_blocks.specs.Fields.{Field, FitsStamp, block_of_fields, long, longs, stamp, text}
 
 -- what a root holds
 abbrev pub root_form : List ℕ → List Clause
@@ -51,7 +51,7 @@ root_table r =
 
 -- the block of a root with these fields
 unfoldable pub root_block : RootFields → List ℕ
-root_block r = sealed 5 (laid (root_table r))
+root_block r = sealed 5 (block_of_fields (root_table r))
 
 -- fields that a root has room for
 pub record FitsRoot (r : RootFields) : Type 0 where

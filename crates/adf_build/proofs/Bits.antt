@@ -13,12 +13,12 @@ use Rattle.std.proofs.lemmas.List.FromFn.{map-range_with_len_more}
 use Rattle.adf_fields.specs.Words.{with_block}
 use Rattle.adf_blocks.specs.PageBlock.{page_block}
 use Rattle.adf_volume.proofs.Lists.{in_left, in_right, in_cases}
-use Rattle.adf_build.specs.Plan.{reserved, given, run, row}
-use Rattle.adf_build.specs.Lay.{lay}
-use Rattle.adf_build.specs.Laid.{page_parts}
+use Rattle.adf_build.specs.Plan.{reserved, nth_free, allocated}
+use Rattle.adf_build.specs.Writes.{with_blocks}
+use Rattle.adf_build.specs.Laid.{page_writes}
 use Rattle.adf_build.specs.Bits.{is_used, bits_from, is_free_bit, page_words}
-use Rattle.adf_build.proofs.GivenRuns.{stretch, in_run, run_in, in_row, row_in}
-use Rattle.adf_build.proofs.GivenRuns.Stretch.{low, high}
+use Rattle.adf_build.proofs.AllocatedBlocks.{stretch, in_allocated, allocated_in, in_range, range_in}
+use Rattle.adf_build.proofs.AllocatedBlocks.Stretch.{low, high}
 
 used_middle : (n total b : ℕ) → middle n ≤ b → b ≤ middle n + reserved n → is_used n total b ≡ true
 unfolding is_used
@@ -33,13 +33,13 @@ unfolding is_used
 used_high n total b h k = grind (arith, nat_tests)
 
 -- the blocks of a layout are those that are used
-pub owned_used : (n total b : ℕ) → In (middle n ∷ (row (middle n + 1) (reserved n) ++ run n 0 total)) b → is_used n total b ≡ true
+pub owned_used : (n total b : ℕ) → In (middle n ∷ (range_with_len (middle n + 1) (reserved n) ++ allocated n 0 total)) b → is_used n total b ≡ true
 owned_used n total b (inl e) = used_middle n total b (omega arith) (omega arith)
-owned_used n total b (inr h) = elim (in_cases (row (middle n + 1) (reserved n)) (run n 0 total) b h) [
-  | inl i ↦ let r = in_row (middle n + 1) (reserved n) b i in used_middle n total b (omega arith) (omega arith)
+owned_used n total b (inr h) = elim (in_cases (range_with_len (middle n + 1) (reserved n)) (allocated n 0 total) b h) [
+  | inl i ↦ let r = in_range (middle n + 1) (reserved n) b i in used_middle n total b (omega arith) (omega arith)
   | inr i ↦
-      let r = in_run n 0 total b i in
-      let e : given n r.0 ≡ b = r.3 in
+      let r = in_allocated n 0 total b i in
+      let e : nth_free n r.0 ≡ b = r.3 in
       let u : r.0 < 0 + total = r.2 in
       elim (stretch n r.0) [ low a f ↦ used_low n total b (omega arith) (omega arith) | high a f ↦ used_high n total b (omega arith) (omega arith) ]
 ]
@@ -64,27 +64,27 @@ use_cases n total b e = elim (cases_lt b (middle n)) [
   | inr h ↦ elim (cases_lt (middle n + reserved n) b) [ inl k ↦ at_high k (use_high n total b k e) | inr k ↦ at_middle h k ]
 ]
 
-pub used_owned : (n total b : ℕ) → 4 ≤ n → 2 ≤ b → is_used n total b ≡ true → In (middle n ∷ (row (middle n + 1) (reserved n) ++ run n 0 total)) b
+pub used_owned : (n total b : ℕ) → 4 ≤ n → 2 ≤ b → is_used n total b ≡ true → In (middle n ∷ (range_with_len (middle n + 1) (reserved n) ++ allocated n 0 total)) b
 used_owned n total b big two e = put (use_cases n total b e)
   where
-    put : Use n total b → In (middle n ∷ (row (middle n + 1) (reserved n) ++ run n 0 total)) b
+    put : Use n total b → In (middle n ∷ (range_with_len (middle n + 1) (reserved n) ++ allocated n 0 total)) b
     put (at_middle h k) = elim (cases_lt (middle n) b) [
-      | inl l ↦ inr (in_left (row (middle n + 1) (reserved n)) (run n 0 total) b (row_in (middle n + 1) (reserved n) b (omega arith) (omega arith)))
+      | inl l ↦ inr (in_left (range_with_len (middle n + 1) (reserved n)) (allocated n 0 total) b (range_in (middle n + 1) (reserved n) b (omega arith) (omega arith)))
       | inr l ↦ inl (omega arith)
     ]
     put (at_low h k) = elim (stretch n (b - 2)) [
       | low a f ↦
-          let g : given n (b - 2) ≡ b = omega arith in
-          inr (in_right (row (middle n + 1) (reserved n)) (run n 0 total) b
-          (subst (λ c. In (run n 0 total) c) g (run_in n 0 total (b - 2) (omega arith) (omega arith))))
+          let g : nth_free n (b - 2) ≡ b = omega arith in
+          inr (in_right (range_with_len (middle n + 1) (reserved n)) (allocated n 0 total) b
+          (subst (λ c. In (allocated n 0 total) c) g (allocated_in n 0 total (b - 2) (omega arith) (omega arith))))
       | high a f ↦ absurd (omega arith)
     ]
     put (at_high h k) = elim (stretch n (b - 3 - reserved n)) [
       | low a f ↦ absurd (omega arith)
       | high a f ↦
-          let g : given n (b - 3 - reserved n) ≡ b = omega arith in
-          inr (in_right (row (middle n + 1) (reserved n)) (run n 0 total) b
-          (subst (λ c. In (run n 0 total) c) g (run_in n 0 total (b - 3 - reserved n) (omega arith) (omega arith))))
+          let g : nth_free n (b - 3 - reserved n) ≡ b = omega arith in
+          inr (in_right (range_with_len (middle n + 1) (reserved n)) (allocated n 0 total) b
+          (subst (λ c. In (allocated n 0 total) c) g (allocated_in n 0 total (b - 3 - reserved n) (omega arith) (omega arith))))
     ]
 
 flag_small : (t : Bool) → cond t 1 0 < 2
@@ -148,10 +148,10 @@ words_step words n total j w v h e g =
 
 -- one page more
 pub pages_step : (image old all bytes : List ℕ) (n total j b m : ℕ) → b ≡ middle n + 1 + j → j < m → bytes ≡ page_block (page_words n total j)
-    → lay old (page_parts n total j (m - j)) ≡ all → image ≡ with_block old b bytes
-    → lay image (page_parts n total (j + 1) (m - (j + 1))) ≡ all
+    → with_blocks old (page_writes n total j (m - j)) ≡ all → image ≡ with_block old b bytes
+    → with_blocks image (page_writes n total (j + 1) (m - (j + 1))) ≡ all
 pages_step image old all bytes n total j b m at lt e inv w =
     let split : m - j ≡ suc (m - (j + 1)) = omega arith in
-    ap (λ i. lay image (page_parts n total i (m - (j + 1)))) (add-one j)
-    ∙ ap (λ im. lay im (page_parts n total (suc j) (m - (j + 1)))) (w ∙ ap (λ b. with_block old b bytes) at ∙ ap (with_block old (middle n + 1 + j)) e)
-    ∙ sym (ap (λ k. lay old (page_parts n total j k)) split) ∙ inv
+    ap (λ i. with_blocks image (page_writes n total i (m - (j + 1)))) (add-one j)
+    ∙ ap (λ im. with_blocks im (page_writes n total (suc j) (m - (j + 1)))) (w ∙ ap (λ b. with_block old b bytes) at ∙ ap (with_block old (middle n + 1 + j)) e)
+    ∙ sym (ap (λ k. with_blocks old (page_writes n total j k)) split) ∙ inv

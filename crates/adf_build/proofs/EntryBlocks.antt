@@ -18,27 +18,27 @@ use Rattle.adf_volume.specs.Lists.{At, Spelled}
 use Rattle.adf_volume.specs.Image.{word_in}
 use Rattle.adf_volume.specs.Layout.{Place, nodes_from, chain_nodes, head_at, exts_at, datas_at, at_node}
 use Rattle.adf_volume.proofs.Sizes.{size_low, size_high}
-use Rattle.adf_build.specs.Plan.{exts_needed, data_blocks, entry_blocks, entries_blocks, blocks_needed, given, run, places_from, planned}
-use Rattle.adf_build.specs.Lay.{Holds}
-use Rattle.adf_build.specs.Laid.{first_block, slots_of, body_of, body_parts, head_of, entries_parts, heads_from, node_blocks, root_laid, volume, IsSound}
+use Rattle.adf_build.specs.Plan.{exts_needed, data_blocks, entry_blocks, entries_blocks, blocks_needed, nth_free, allocated, places_from, planned}
+use Rattle.adf_build.specs.Writes.{Holds}
+use Rattle.adf_build.specs.Laid.{first_block, slots_of, body_of, body_writes, head_of, entries_writes, heads_from, node_blocks, planned_root, volume, IsSound}
 use Rattle.adf_build.proofs.ChainLinks.{Links, spelled_chain}
 use Rattle.adf_build.proofs.WholeBlocks.{fits_head}
-use Rattle.adf_build.proofs.LaidParts.{below, near, entry_sound, fits_root, volume_blocks, holds_entries, holds_root}
-use Rattle.adf_build.proofs.WrittenParts.{holds_left, holds_right}
+use Rattle.adf_build.proofs.LaidWrites.{below, near, entry_sound, fits_root, volume_blocks, holds_entries, holds_root}
+use Rattle.adf_build.proofs.WrittenBlocks.{holds_left, holds_right}
 
--- entry j of a list of places, which is entry i of the volume: from which given block on it lies, and what stands there
+-- entry j of a list of places, which is entry i of the volume: from which free block on it lies, and what stands there
 pub record Spot (v : List ℕ) (n total : ℕ) (kind : Kind) (nodes : List ℕ) (all : List Entry) (qs : List Place) (j i : ℕ) (e : Entry) : Type 0 where
   pub k : ℕ
   pub rest : List Entry
   pub room : k + entry_blocks kind e ≤ total
-  pub head : block v (given n k) ≡ head_block (head_of n kind nodes all i k e rest)
-  pub body : Holds v (body_parts n kind k e.body)
-  pub at : head_at qs j ≡ given n k
-  pub exts : exts_at qs j ≡ run n (suc k) (exts_needed (data_blocks kind e.body))
-  pub datas : datas_at qs j ≡ run n (suc k + exts_needed (data_blocks kind e.body)) (data_blocks kind e.body)
+  pub head : block v (nth_free n k) ≡ head_block (head_of n kind nodes all i k e rest)
+  pub body : Holds v (body_writes n kind k e.body)
+  pub at : head_at qs j ≡ nth_free n k
+  pub exts : exts_at qs j ≡ allocated n (suc k) (exts_needed (data_blocks kind e.body))
+  pub datas : datas_at qs j ≡ allocated n (suc k + exts_needed (data_blocks kind e.body)) (data_blocks kind e.body)
 
 spots : (v : List ℕ) (n total : ℕ) (kind : Kind) (nodes : List ℕ) (all : List Entry) (i k : ℕ) (es : List Entry)
-    → Holds v (entries_parts n kind nodes all i k es) → k + entries_blocks kind es ≤ total
+    → Holds v (entries_writes n kind nodes all i k es) → k + entries_blocks kind es ≤ total
     → (j : ℕ) (e : Entry) → At es j e → Spot v n total kind nodes all (places_from n kind k es) j (i + j) e
 spots v n total kind nodes all i k [] h l j e a = absurd a
 spots v n total kind nodes all i k (x ∷ es) h l zero e a =
@@ -51,7 +51,7 @@ spots v n total kind nodes all i k (x ∷ es) h l zero e a =
       room = omega arith;
       head = h.0;
       body =
-          holds_left v (body_parts n kind k x.body) (entries_parts n kind nodes all (suc i) (k + entry_blocks kind x) es) h.1;
+          holds_left v (body_writes n kind k x.body) (entries_writes n kind nodes all (suc i) (k + entry_blocks kind x) es) h.1;
       at = refl;
       exts = refl;
       datas =
@@ -59,7 +59,7 @@ spots v n total kind nodes all i k (x ∷ es) h l zero e a =
     }))
 spots v n total kind nodes all i k (x ∷ es) h l (suc j) e a =
     let s = spots v n total kind nodes all (suc i) (k + entry_blocks kind x) es
-    (holds_right v (body_parts n kind k x.body) (entries_parts n kind nodes all (suc i) (k + entry_blocks kind x) es) h.1) (omega arith) j e a in
+    (holds_right v (body_writes n kind k x.body) (entries_writes n kind nodes all (suc i) (k + entry_blocks kind x) es) h.1) (omega arith) j e a in
     let z : suc i + j ≡ i + suc j = omega arith in
     subst (λ m. Spot v n total kind nodes all (places_from n kind k (x ∷ es)) (suc j) m e) z
     (record { k = s.k; rest = s.rest; room = s.room; head = s.head; body = s.body; at = s.at; exts = s.exts; datas = s.datas })
@@ -100,14 +100,14 @@ module _ (t : Tree) (n : ℕ) (sound : IsSound t) (allowed : is_allowed n ≡ tr
       s.k e s.rest (near t n sound allowed room) (omega arith) g.0 g.1
 
   links : (i k : ℕ) (es : List Entry) → ((j : ℕ) → slice_index (node_blocks t n) (i + j) ≡ slice_index (heads_from n t.kind k es) j)
-      → Holds (volume t n) (entries_parts n t.kind (node_blocks t n) t.entries i k es)
+      → Holds (volume t n) (entries_writes n t.kind (node_blocks t n) t.entries i k es)
       → k + entries_blocks t.kind es ≤ entries_blocks t.kind t.entries
       → ((j : ℕ) (e : Entry) → At es j e → (is_name e.name ≡ true) × (length e.meta.comment ≤ 79))
       → Links (λ b. word_in (volume t n) b 124) (slice_index (node_blocks t n)) i es
   links i k [] f h l g = tt
   links i k (e ∷ es) f h l g =
       let z : i + 0 ≡ i = omega arith in
-      let a : slice_index (node_blocks t n) i ≡ given n k = ap (slice_index (node_blocks t n)) (sym z) ∙ f 0 in
+      let a : slice_index (node_blocks t n) i ≡ nth_free n k = ap (slice_index (node_blocks t n)) (sym z) ∙ f 0 in
       let high = size_high n allowed in
       let four = size_low n allowed in
       let p = g 0 e refl in
@@ -116,7 +116,7 @@ module _ (t : Tree) (n : ℕ) (sound : IsSound t) (allowed : is_allowed n ≡ tr
       let nx = first_near (slice_index (node_blocks t n)) (nodes_from (suc i) es e.parent (slot_of e.name)) (near t n sound allowed room) in (
         ap (λ b. word_in (volume t n) b 124) a ∙ (ap (λ bs. word bs 124) h.0 ∙ head_block-next (head_of n t.kind (node_blocks t n) t.entries i k e es) fh nx),
         links (suc i) (k + entry_blocks t.kind e) es (λ j. let y : suc i + j ≡ i + suc j = omega arith in ap (slice_index (node_blocks t n)) y ∙ f (suc j))
-            (holds_right (volume t n) (body_parts n t.kind k e.body) (entries_parts n t.kind (node_blocks t n) t.entries (suc i) (k + entry_blocks t.kind e)
+            (holds_right (volume t n) (body_writes n t.kind k e.body) (entries_writes n t.kind (node_blocks t n) t.entries (suc i) (k + entry_blocks t.kind e)
             es) h.1) (omega arith) (λ j d q. g (suc j) d q),
       )
 
@@ -144,10 +144,10 @@ module _ (t : Tree) (n : ℕ) (sound : IsSound t) (allowed : is_allowed n ≡ tr
       let e = slot_is 0 s l in
       let small : slice_index (slots_of (node_blocks t n) t.entries 0) s < 2 ^ 32 =
       subst (λ m. m < 2 ^ 32) (sym e) (first_near (slice_index (node_blocks t n)) (chain_nodes t 0 s) (near t n sound allowed room)) in
-      ap (λ bs. word bs (6 + s)) (holds_root t n sound allowed room) ∙ (root_block-slot (root_laid t n) s (fits_root t n sound allowed room) l small ∙ e)
+      ap (λ bs. word bs (6 + s)) (holds_root t n sound allowed room) ∙ (root_block-slot (planned_root t n) s (fits_root t n sound allowed room) l small ∙ e)
 
   pub dir_slot : (i s : ℕ) (e : Entry) (h : At t.entries i e) → e.body ≡ Dir → s < 72
-      → word_in (volume t n) (given n (spot i e h).k) (6 + s) ≡ first_block (slice_index (node_blocks t n)) (chain_nodes t (suc i) s)
+      → word_in (volume t n) (nth_free n (spot i e h).k) (6 + s) ≡ first_block (slice_index (node_blocks t n)) (chain_nodes t (suc i) s)
   dir_slot i s e h d l =
       let p = spot i e h in
       let y = slot_is (suc i) s l in

@@ -20,19 +20,19 @@ use Rattle.adf_volume.specs.Image.{word_in, chunk, count, held, content, joined,
 use Rattle.adf_volume.specs.Demands.{AllHold, head_demands, data_demands}
 use Rattle.adf_volume.specs.Layout.{at_node, exts_of, datas_of}
 use Rattle.adf_volume.specs.Fits.{EntryFits, FileFits, BodyFits, TableAt}
-use Rattle.adf_volume.proofs.FormDemands.{all_told}
+use Rattle.adf_volume.proofs.FormDemands.{all_demanded}
 use Rattle.adf_volume.proofs.Lists.{at_below, at_index_or}
 use Rattle.adf_volume.proofs.Sizes.{size_low, size_high}
-use Rattle.adf_build.specs.Plan.{exts_needed, data_blocks, entries_blocks, blocks_needed, given, run, places_from, planned}
-use Rattle.adf_build.specs.Lay.{Holds}
-use Rattle.adf_build.specs.Laid.{given_or_none, slots_of, body_of, body_parts, data_parts, ext_parts, head_of, node_blocks, volume, IsSound}
-use Rattle.adf_build.proofs.GivenRuns.{length_run}
+use Rattle.adf_build.specs.Plan.{exts_needed, data_blocks, entries_blocks, blocks_needed, nth_free, allocated, places_from, planned}
+use Rattle.adf_build.specs.Writes.{Holds}
+use Rattle.adf_build.specs.Laid.{nth_free_or_none, slots_of, body_of, body_writes, data_writes, ext_writes, head_of, node_blocks, volume, IsSound}
+use Rattle.adf_build.proofs.AllocatedBlocks.{length_allocated}
 use Rattle.adf_build.proofs.WholeBlocks.{next_small}
-use Rattle.adf_build.proofs.LaidParts.{below}
-use Rattle.adf_build.proofs.WrittenParts.{holds_left, holds_right}
+use Rattle.adf_build.proofs.LaidWrites.{below}
+use Rattle.adf_build.proofs.WrittenBlocks.{holds_left, holds_right}
 use Rattle.adf_build.proofs.EntryBlocks.{Spot, spot, nodes_at, head_fits}
-use Rattle.adf_build.proofs.LaidFiles.{run_at, run_index, exts_linked, exts_formed, exts_point, bytes_held, datas_formed, held_long}
-use Rattle.adf_build.proofs.GivenBlocks.{size_small}
+use Rattle.adf_build.proofs.LaidFiles.{allocated_at, allocated_index, exts_linked, exts_formed, exts_point, bytes_held, datas_formed, held_long}
+use Rattle.adf_build.proofs.FreeBlocks.{size_small}
 
 chunks_cover : (kind : Kind) (size : ℕ) → size ≤ count kind size * chunk kind
 unfolding count chunk
@@ -63,24 +63,24 @@ module _ (t : Tree) (n : ℕ) (sound : IsSound t) (allowed : is_allowed n ≡ tr
   meta_fits =
       let l : i < length t.entries = at_below t.entries i e h in subst (λ (x : Entry). FitsMeta x.meta) (at_index_or t.entries i e e h) (sound.metas i e l)
 
-  form_laid : AllHold (head_demands (volume t n) t.kind (given n here.k) (at_node (volume t n) (planned t n) e.parent) (slot_of e.name))
+  form_laid : AllHold (head_demands (volume t n) t.kind (nth_free n here.k) (at_node (volume t n) (planned t n) e.parent) (slot_of e.name))
   form_laid =
       let f = head_block-form t.kind fields (head_fits t n sound allowed room i e h) in
-      all_told (given n here.k) (head_form t.kind (given n here.k) (at_node (volume t n) (planned t n) e.parent) (slot_of e.name)
-      (block (volume t n) (given n here.k)))
-      (subst (λ up. first_cause (head_form t.kind (given n here.k) up (slot_of e.name) (block (volume t n) (given n here.k))) ≡ None)
+      all_demanded (nth_free n here.k) (head_form t.kind (nth_free n here.k) (at_node (volume t n) (planned t n) e.parent) (slot_of e.name)
+      (block (volume t n) (nth_free n here.k)))
+      (subst (λ up. first_cause (head_form t.kind (nth_free n here.k) up (slot_of e.name) (block (volume t n) (nth_free n here.k))) ≡ None)
       (nodes_at t n sound allowed room e.parent)
-      (subst (λ bs. first_cause (head_form t.kind (given n here.k) (slice_index (node_blocks t n) e.parent) (slot_of e.name) bs) ≡ None) (sym here.head) f))
+      (subst (λ bs. first_cause (head_form t.kind (nth_free n here.k) (slice_index (node_blocks t n) e.parent) (slot_of e.name) bs) ≡ None) (sym here.head) f))
 
-  name_laid : e.name ≡ name_of (volume t n) (given n here.k)
+  name_laid : e.name ≡ name_of (volume t n) (nth_free n here.k)
   unfolding name_of
   name_laid = sym (ap (λ bs. text_at bs 432) here.head ∙ (head_block-name fields (head_fits t n sound allowed room i e h)).1)
 
-  meta_laid : e.meta ≡ meta_of (volume t n) (given n here.k)
+  meta_laid : e.meta ≡ meta_of (volume t n) (nth_free n here.k)
   unfolding meta_of
   meta_laid = sym (ap meta_at here.head ∙ head_block-meta fields (head_fits t n sound allowed room i e h) meta_fits)
 
-  type_laid : word_in (volume t n) (given n here.k) 127 ≡ secondary_of (body_of n here.k t.kind (slots_of (node_blocks t n) t.entries (suc i)) e.body)
+  type_laid : word_in (volume t n) (nth_free n here.k) 127 ≡ secondary_of (body_of n here.k t.kind (slots_of (node_blocks t n) t.entries (suc i)) e.body)
   type_laid = ap (λ bs. word bs 127) here.head ∙ head_block-secondary fields (head_fits t n sound allowed room i e h)
 
   -- the blocks that the entry takes
@@ -90,7 +90,7 @@ module _ (t : Tree) (n : ℕ) (sound : IsSound t) (allowed : is_allowed n ≡ tr
   few : entries_blocks t.kind t.entries < 2 ^ 32
   few = let high = size_high n allowed in let four = size_low n allowed in omega arith
 
-  lies : given n here.k < n
+  lies : nth_free n here.k < n
   lies = let r = kept_blocks in below t n sound allowed room here.k (omega arith)
 
   small : n < 2 ^ 32
@@ -109,144 +109,144 @@ module _ (t : Tree) (n : ℕ) (sound : IsSound t) (allowed : is_allowed n ≡ tr
         omega arith
 
     body_is : body_of n here.k t.kind (slots_of (node_blocks t n) t.entries (suc i)) e.body
-        ≡ FileFields (length bytes) (run n (suc here.k + exts_needed (count t.kind (length bytes))) (min 72 (count t.kind (length bytes))))
-        (given_or_none n (suc here.k) (exts_needed (count t.kind (length bytes))))
+        ≡ FileFields (length bytes) (allocated n (suc here.k + exts_needed (count t.kind (length bytes))) (min 72 (count t.kind (length bytes))))
+        (nth_free_or_none n (suc here.k) (exts_needed (count t.kind (length bytes))))
     body_is = ap (body_of n here.k t.kind (slots_of (node_blocks t n) t.entries (suc i))) is
 
-    parts_hold : Holds (volume t n) (body_parts n t.kind here.k (File bytes))
-    parts_hold = subst (λ b. Holds (volume t n) (body_parts n t.kind here.k b)) is here.body
+    writes_hold : Holds (volume t n) (body_writes n t.kind here.k (File bytes))
+    writes_hold = subst (λ b. Holds (volume t n) (body_writes n t.kind here.k b)) is here.body
 
-    exts_hold : Holds (volume t n) (ext_parts n (given n here.k) (suc here.k) (suc here.k + exts_needed (count t.kind (length bytes)) + 72)
+    exts_hold : Holds (volume t n) (ext_writes n (nth_free n here.k) (suc here.k) (suc here.k + exts_needed (count t.kind (length bytes)) + 72)
         (count t.kind (length bytes) - 72) (exts_needed (count t.kind (length bytes))))
-    exts_hold = holds_left (volume t n) (ext_parts n (given n here.k) (suc here.k) (suc here.k + exts_needed (count t.kind (length bytes)) + 72)
+    exts_hold = holds_left (volume t n) (ext_writes n (nth_free n here.k) (suc here.k) (suc here.k + exts_needed (count t.kind (length bytes)) + 72)
         (count t.kind (length bytes) - 72) (exts_needed (count t.kind (length bytes))))
-        (data_parts n t.kind (given n here.k) (suc here.k + exts_needed (count t.kind (length bytes))) 1 bytes (count t.kind (length bytes))) parts_hold
+        (data_writes n t.kind (nth_free n here.k) (suc here.k + exts_needed (count t.kind (length bytes))) 1 bytes (count t.kind (length bytes))) writes_hold
 
-    datas_hold : Holds (volume t n) (data_parts n t.kind (given n here.k) (suc here.k + exts_needed (count t.kind (length bytes))) 1 bytes
+    datas_hold : Holds (volume t n) (data_writes n t.kind (nth_free n here.k) (suc here.k + exts_needed (count t.kind (length bytes))) 1 bytes
         (count t.kind (length bytes)))
-    datas_hold = holds_right (volume t n) (ext_parts n (given n here.k) (suc here.k) (suc here.k + exts_needed (count t.kind (length bytes)) + 72)
+    datas_hold = holds_right (volume t n) (ext_writes n (nth_free n here.k) (suc here.k) (suc here.k + exts_needed (count t.kind (length bytes)) + 72)
         (count t.kind (length bytes) - 72) (exts_needed (count t.kind (length bytes))))
-        (data_parts n t.kind (given n here.k) (suc here.k + exts_needed (count t.kind (length bytes))) 1 bytes (count t.kind (length bytes))) parts_hold
+        (data_writes n t.kind (nth_free n here.k) (suc here.k + exts_needed (count t.kind (length bytes))) 1 bytes (count t.kind (length bytes))) writes_hold
 
-    exts_are : exts_of (planned t n) (suc i) ≡ run n (suc here.k) (exts_needed (count t.kind (length bytes)))
-    exts_are = here.exts ∙ ap (λ b. run n (suc here.k) (exts_needed (data_blocks t.kind b))) is
+    exts_are : exts_of (planned t n) (suc i) ≡ allocated n (suc here.k) (exts_needed (count t.kind (length bytes)))
+    exts_are = here.exts ∙ ap (λ b. allocated n (suc here.k) (exts_needed (data_blocks t.kind b))) is
 
-    datas_are : datas_of (planned t n) (suc i) ≡ run n (suc here.k + exts_needed (count t.kind (length bytes))) (count t.kind (length bytes))
-    datas_are = here.datas ∙ ap (λ b. run n (suc here.k + exts_needed (data_blocks t.kind b)) (data_blocks t.kind b)) is
+    datas_are : datas_of (planned t n) (suc i) ≡ allocated n (suc here.k + exts_needed (count t.kind (length bytes))) (count t.kind (length bytes))
+    datas_are = here.datas ∙ ap (λ b. allocated n (suc here.k + exts_needed (data_blocks t.kind b)) (data_blocks t.kind b)) is
 
-    size_laid : word_in (volume t n) (given n here.k) 81 ≡ length bytes
+    size_laid : word_in (volume t n) (nth_free n here.k) 81 ≡ length bytes
     size_laid =
         let w : size_of fields.body ≡ length bytes = ap size_of body_is in
         ap (λ bs. word bs 81) here.head ∙ (head_block-size fields (head_fits t n sound allowed room i e h) (let s = size_word in omega arith) ∙ w)
 
-    content_laid : bytes ≡ content (volume t n) t.kind (given n here.k)
-        (run n (suc here.k + exts_needed (count t.kind (length bytes))) (count t.kind (length bytes)))
+    content_laid : bytes ≡ content (volume t n) t.kind (nth_free n here.k)
+        (allocated n (suc here.k + exts_needed (count t.kind (length bytes))) (count t.kind (length bytes)))
     unfolding content
     content_laid =
         let b = file_blocks in
         let f = few in
-        sym (ap (λ m. take m (joined (volume t n) t.kind (run n (suc here.k + exts_needed (count t.kind (length bytes))) (count t.kind (length bytes)))))
+        sym (ap (λ m. take m (joined (volume t n) t.kind (allocated n (suc here.k + exts_needed (count t.kind (length bytes))) (count t.kind (length bytes)))))
         size_laid
-        ∙ bytes_held (volume t n) n (entries_blocks t.kind t.entries) small few (below t n sound allowed room) (given n here.k) lies t.kind
+        ∙ bytes_held (volume t n) n (entries_blocks t.kind t.entries) small few (below t n sound allowed room) (nth_free n here.k) lies t.kind
         (suc here.k + exts_needed (count t.kind (length bytes))) 1 bytes (count t.kind (length bytes)) (omega arith) (omega arith) datas_hold
         (chunks_cover t.kind (length bytes)))
 
     -- the header or the extension block that names data block j
-    named_laid : (q j b a : ℕ) → j / 72 ≡ q → At (run n (suc here.k + exts_needed (count t.kind (length bytes))) (count t.kind (length bytes))) j b
+    named_laid : (q j b a : ℕ) → j / 72 ≡ q → At (allocated n (suc here.k + exts_needed (count t.kind (length bytes))) (count t.kind (length bytes))) j b
         → TableAt (volume t n) (planned t n) (suc i) q a → word_in (volume t n) a (table_word j) ≡ b
     named_laid zero j b a z at ta =
         let x : ℕ = exts_needed (count t.kind (length bytes)) in
         let c : ℕ = count t.kind (length bytes) in
-        let l0 : j < length (run n (suc here.k + x) c) = at_below (run n (suc here.k + x) c) j b at in
-        let l1 : length (run n (suc here.k + x) c) ≡ c = length_run n (suc here.k + x) c in
+        let l0 : j < length (allocated n (suc here.k + x) c) = at_below (allocated n (suc here.k + x) c) j b at in
+        let l1 : length (allocated n (suc here.k + x) c) ≡ c = length_allocated n (suc here.k + x) c in
         let m : j % 72 ≡ j = omega arith in
         let lt : j < 72 = omega arith in
         let fb = file_blocks in
-        let idx : slice_index (run n (suc here.k + x) (min 72 c)) j ≡ given n (suc here.k + x + j) = run_index n (suc here.k + x) (min 72 c) j (omega arith) in
+        let idx : slice_index (allocated n (suc here.k + x) (min 72 c)) j ≡ nth_free n (suc here.k + x + j) = allocated_index n (suc here.k + x) (min 72 c) j (omega arith) in
         let s = below t n sound allowed room (suc here.k + x + j) (omega arith) in
         let sm = small in
-        let at_head : given n here.k ≡ a = sym here.at ∙ ta in
+        let at_head : nth_free n here.k ≡ a = sym here.at ∙ ta in
         ap (λ a. word_in (volume t n) a (77 - j % 72)) (sym at_head)
-        ∙ (ap (λ m. word_in (volume t n) (given n here.k) (77 - m)) m
+        ∙ (ap (λ m. word_in (volume t n) (nth_free n here.k) (77 - m)) m
         ∙ (ap (λ bs. word bs (77 - j)) here.head
-        ∙ (head_block-pointer fields (length bytes) (run n (suc here.k + x) (min 72 c)) (given_or_none n (suc here.k) x) j
+        ∙ (head_block-pointer fields (length bytes) (allocated n (suc here.k + x) (min 72 c)) (nth_free_or_none n (suc here.k) x) j
         (head_fits t n sound allowed room i e h) body_is lt (omega arith)
-        ∙ (idx ∙ sym (run_at n (suc here.k + x) c j b at)))))
+        ∙ (idx ∙ sym (allocated_at n (suc here.k + x) c j b at)))))
     named_laid (suc q) j b a z at ta =
         let x : ℕ = exts_needed (count t.kind (length bytes)) in
         let c : ℕ = count t.kind (length bytes) in
-        let l0 : j < length (run n (suc here.k + x) c) = at_below (run n (suc here.k + x) c) j b at in
-        let l1 : length (run n (suc here.k + x) c) ≡ c = length_run n (suc here.k + x) c in
-        let ax : At (run n (suc here.k) x) q a = subst (λ xs. At xs q a) exts_are ta in
-        let lx0 : q < length (run n (suc here.k) x) = at_below (run n (suc here.k) x) q a ax in
-        let lx1 : length (run n (suc here.k) x) ≡ x = length_run n (suc here.k) x in
+        let l0 : j < length (allocated n (suc here.k + x) c) = at_below (allocated n (suc here.k + x) c) j b at in
+        let l1 : length (allocated n (suc here.k + x) c) ≡ c = length_allocated n (suc here.k + x) c in
+        let ax : At (allocated n (suc here.k) x) q a = subst (λ xs. At xs q a) exts_are ta in
+        let lx0 : q < length (allocated n (suc here.k) x) = at_below (allocated n (suc here.k) x) q a ax in
+        let lx1 : length (allocated n (suc here.k) x) ≡ x = length_allocated n (suc here.k) x in
         let more : 72 < c = exts_some c q (omega arith) in
         let fb = file_blocks in
         let y : suc here.k + x + 72 + 72 * q + j % 72 ≡ suc here.k + x + j = omega arith in
-        exts_point (volume t n) n (entries_blocks t.kind t.entries) small few (below t n sound allowed room) (given n here.k) lies (suc here.k)
+        exts_point (volume t n) n (entries_blocks t.kind t.entries) small few (below t n sound allowed room) (nth_free n here.k) lies (suc here.k)
         (suc here.k + x + 72) (c - 72) x (omega arith) (omega arith) exts_hold q a (j % 72) ax (omega arith) (omega arith)
-        ∙ (ap (given n) y ∙ sym (run_at n (suc here.k + x) c j b at))
+        ∙ (ap (nth_free n) y ∙ sym (allocated_at n (suc here.k + x) c j b at))
 
     formed_laid : (kind : Kind) → t.kind ≡ kind → (j b : ℕ)
-        → At (run n (suc here.k + exts_needed (count t.kind (length bytes))) (count t.kind (length bytes))) j b
-        → AllHold (data_demands (volume t n) kind b (given n here.k) (suc j) (held kind (length bytes) (suc j))
-        (slice_index (run n (suc here.k + exts_needed (count t.kind (length bytes))) (count t.kind (length bytes))) (suc j)))
+        → At (allocated n (suc here.k + exts_needed (count t.kind (length bytes))) (count t.kind (length bytes))) j b
+        → AllHold (data_demands (volume t n) kind b (nth_free n here.k) (suc j) (held kind (length bytes) (suc j))
+        (slice_index (allocated n (suc here.k + exts_needed (count t.kind (length bytes))) (count t.kind (length bytes))) (suc j)))
     formed_laid Ffs z j b at = tt
     formed_laid Ofs z j b at =
         let x : ℕ = exts_needed (count t.kind (length bytes)) in
         let c : ℕ = count t.kind (length bytes) in
-        let l0 : j < length (run n (suc here.k + x) c) = at_below (run n (suc here.k + x) c) j b at in
-        let l1 : length (run n (suc here.k + x) c) ≡ c = length_run n (suc here.k + x) c in
+        let l0 : j < length (allocated n (suc here.k + x) c) = at_below (allocated n (suc here.k + x) c) j b at in
+        let l1 : length (allocated n (suc here.k + x) c) ≡ c = length_allocated n (suc here.k + x) c in
         let co : c ≡ count Ofs (length bytes) = ap (λ k. count k (length bytes)) z in
         let fb = file_blocks in
         let f = few in
         let y : 1 + j ≡ suc j = omega arith in
-        let ho : Holds (volume t n) (data_parts n Ofs (given n here.k) (suc here.k + x) 1 bytes c) =
-        subst (λ k. Holds (volume t n) (data_parts n k (given n here.k) (suc here.k + x) 1 bytes c)) z datas_hold in
-        subst (λ m. AllHold (data_demands (volume t n) Ofs b (given n here.k) (suc j) m (slice_index (run n (suc here.k + x) c) (suc j))))
+        let ho : Holds (volume t n) (data_writes n Ofs (nth_free n here.k) (suc here.k + x) 1 bytes c) =
+        subst (λ k. Holds (volume t n) (data_writes n k (nth_free n here.k) (suc here.k + x) 1 bytes c)) z datas_hold in
+        subst (λ m. AllHold (data_demands (volume t n) Ofs b (nth_free n here.k) (suc j) m (slice_index (allocated n (suc here.k + x) c) (suc j))))
         (held_long bytes j (omega arith))
-        (subst (λ m. AllHold (data_demands (volume t n) Ofs b (given n here.k) m (length (take (chunk Ofs) (drop (chunk Ofs * j) bytes)))
-        (slice_index (run n (suc here.k + x) c) (suc j)))) y
-        (datas_formed (volume t n) n (entries_blocks t.kind t.entries) small few (below t n sound allowed room) (given n here.k) lies (suc here.k + x) 1
+        (subst (λ m. AllHold (data_demands (volume t n) Ofs b (nth_free n here.k) m (length (take (chunk Ofs) (drop (chunk Ofs * j) bytes)))
+        (slice_index (allocated n (suc here.k + x) c) (suc j)))) y
+        (datas_formed (volume t n) n (entries_blocks t.kind t.entries) small few (below t n sound allowed room) (nth_free n here.k) lies (suc here.k + x) 1
         bytes c (omega arith) (omega arith) ho j b at))
 
-    file_at : FileFits (volume t n) t (planned t n) (suc i) (given n here.k) bytes
+    file_at : FileFits (volume t n) t (planned t n) (suc i) (nth_free n here.k) bytes
     file_at =
         let x : ℕ = exts_needed (count t.kind (length bytes)) in
         let c : ℕ = count t.kind (length bytes) in
         let fb = file_blocks in
-        let first : word_in (volume t n) (given n here.k) 126 ≡ given_or_none n (suc here.k) x =
+        let first : word_in (volume t n) (nth_free n here.k) 126 ≡ nth_free_or_none n (suc here.k) x =
         ap (λ bs. word bs 126) here.head
         ∙ (head_block-ext fields (head_fits t n sound allowed room i e h)
         (subst (λ b. ext_of b < 2 ^ 32) (sym body_is) (next_small n (entries_blocks t.kind t.entries) small few (below t n sound allowed room)
         (suc here.k) x (omega arith))) ∙ ap ext_of body_is) in
         record {
-          exts = subst (λ xs. Spelled (λ b. word_in (volume t n) b 126) (word_in (volume t n) (given n here.k) 126) xs) (sym exts_are)
-              (subst (λ w. Spelled (λ b. word_in (volume t n) b 126) w (run n (suc here.k) x)) (sym first)
-              (exts_linked (volume t n) n (entries_blocks t.kind t.entries) small few (below t n sound allowed room) (given n here.k) lies (suc here.k)
+          exts = subst (λ xs. Spelled (λ b. word_in (volume t n) b 126) (word_in (volume t n) (nth_free n here.k) 126) xs) (sym exts_are)
+              (subst (λ w. Spelled (λ b. word_in (volume t n) b 126) w (allocated n (suc here.k) x)) (sym first)
+              (exts_linked (volume t n) n (entries_blocks t.kind t.entries) small few (below t n sound allowed room) (nth_free n here.k) lies (suc here.k)
               (suc here.k + x + 72) (c - 72) x (omega arith) exts_hold));
-          ext_form = (λ k b a. exts_formed (volume t n) n (entries_blocks t.kind t.entries) small few (below t n sound allowed room) (given n here.k) lies
+          ext_form = (λ k b a. exts_formed (volume t n) n (entries_blocks t.kind t.entries) small few (below t n sound allowed room) (nth_free n here.k) lies
               (suc here.k) (suc here.k + x + 72) (c - 72) x (omega arith) exts_hold k b (subst (λ xs. At xs k b) exts_are a));
           enough = (let a = exts_enough c in let l : length (exts_of (planned t n) (suc i)) ≡ x =
-              ap length exts_are ∙ length_run n (suc here.k) x in omega arith);
-          datas = ap length datas_are ∙ length_run n (suc here.k + x) c;
+              ap length exts_are ∙ length_allocated n (suc here.k) x in omega arith);
+          datas = ap length datas_are ∙ length_allocated n (suc here.k + x) c;
           named = (λ k b a at ta. named_laid (k / 72) k b a refl (subst (λ xs. At xs k b) datas_are at) ta);
-          data_form = (λ k b at. subst (λ xs. AllHold (data_demands (volume t n) t.kind b (given n here.k) (suc k) (held t.kind (length bytes) (suc k))
+          data_form = (λ k b at. subst (λ xs. AllHold (data_demands (volume t n) t.kind b (nth_free n here.k) (suc k) (held t.kind (length bytes) (suc k))
               (slice_index xs (suc k)))) (sym datas_are) (formed_laid t.kind refl k b (subst (λ xs. At xs k b) datas_are at)));
         }
 
     pub file_laid : FileFits (volume t n) t (planned t n) (suc i) (at_node (volume t n) (planned t n) (suc i)) bytes
     file_laid = subst (λ b. FileFits (volume t n) t (planned t n) (suc i) b bytes) (sym here.at) file_at
 
-  body_laid : (b : Body) → e.body ≡ b → BodyFits (volume t n) t.kind (planned t n) (suc i) (given n here.k) b
+  body_laid : (b : Body) → e.body ≡ b → BodyFits (volume t n) t.kind (planned t n) (suc i) (nth_free n here.k) b
   body_laid Dir z = (
     type_laid ∙ ap (λ b. secondary_of (body_of n here.k t.kind (slots_of (node_blocks t n) t.entries (suc i)) b)) z,
-    here.exts ∙ (ap (λ b. run n (suc here.k) (exts_needed (data_blocks t.kind b))) z ∙ ap (run n (suc here.k)) no_exts),
-    here.datas ∙ ap (λ b. run n (suc here.k + exts_needed (data_blocks t.kind b)) (data_blocks t.kind b)) z,
+    here.exts ∙ (ap (λ b. allocated n (suc here.k) (exts_needed (data_blocks t.kind b))) z ∙ ap (allocated n (suc here.k)) no_exts),
+    here.datas ∙ ap (λ b. allocated n (suc here.k + exts_needed (data_blocks t.kind b)) (data_blocks t.kind b)) z,
   )
   body_laid (File bytes) z = (
     type_laid ∙ ap (λ b. secondary_of (body_of n here.k t.kind (slots_of (node_blocks t n) t.entries (suc i)) b)) z,
-    content_laid bytes z ∙ ap (content (volume t n) t.kind (given n here.k)) (sym (datas_are bytes z)),
+    content_laid bytes z ∙ ap (content (volume t n) t.kind (nth_free n here.k)) (sym (datas_are bytes z)),
     sym (size_laid bytes z),
   )
 

@@ -18,66 +18,66 @@ use Rattle.adf_blocks.proofs.DataLaws.{data_block-form, data_block-bytes}
 use Rattle.adf_volume.specs.Lists.{At, Spelled}
 use Rattle.adf_volume.specs.Image.{word_in, chunk, count, held, area, joined}
 use Rattle.adf_volume.specs.Demands.{AllHold, ext_demands, data_demands}
-use Rattle.adf_volume.proofs.FormDemands.{all_told}
-use Rattle.adf_build.specs.Plan.{given, run}
-use Rattle.adf_build.specs.Lay.{Holds}
-use Rattle.adf_build.specs.Laid.{given_or_none, data_bytes, data_parts, ext_laid, ext_parts}
+use Rattle.adf_volume.proofs.FormDemands.{all_demanded}
+use Rattle.adf_build.specs.Plan.{nth_free, allocated}
+use Rattle.adf_build.specs.Writes.{Holds}
+use Rattle.adf_build.specs.Laid.{nth_free_or_none, data_bytes, data_writes, planned_ext, ext_writes}
 use Rattle.adf_build.proofs.WholeBlocks.{next_small, fits_ext, fits_data, data_long, chunk_small, chunk_ofs}
 
-some_given : (n k m : ℕ) → given_or_none n k (suc m) ≡ given n k
-some_given n k m = let t : nat_lt 0 (suc m) ≡ true = grind (arith, nat_tests) in ap (λ t. cond t (given n k) 0) t
+some_free : (n k m : ℕ) → nth_free_or_none n k (suc m) ≡ nth_free n k
+some_free n k m = let t : nat_lt 0 (suc m) ≡ true = grind (arith, nat_tests) in ap (λ t. cond t (nth_free n k) 0) t
 
 -- block j of a run
-pub run_at : (n k m j b : ℕ) → At (run n k m) j b → b ≡ given n (k + j)
-run_at n k zero j b h = absurd h
-run_at n k (suc m) zero b h = let z : k ≡ k + 0 = omega arith in sym h ∙ ap (given n) z
-run_at n k (suc m) (suc j) b h = let z : suc k + j ≡ k + suc j = omega arith in run_at n (suc k) m j b h ∙ ap (given n) z
+pub allocated_at : (n k m j b : ℕ) → At (allocated n k m) j b → b ≡ nth_free n (k + j)
+allocated_at n k zero j b h = absurd h
+allocated_at n k (suc m) zero b h = let z : k ≡ k + 0 = omega arith in sym h ∙ ap (nth_free n) z
+allocated_at n k (suc m) (suc j) b h = let z : suc k + j ≡ k + suc j = omega arith in allocated_at n (suc k) m j b h ∙ ap (nth_free n) z
 
-pub run_index : (n k m j : ℕ) → j < m → slice_index (run n k m) j ≡ given n (k + j)
-run_index n k zero j h = absurd (omega arith)
-run_index n k (suc m) zero h = let z : k ≡ k + 0 = omega arith in ap (given n) z
-run_index n k (suc m) (suc j) h = let z : suc k + j ≡ k + suc j = omega arith in run_index n (suc k) m j (omega arith) ∙ ap (given n) z
+pub allocated_index : (n k m j : ℕ) → j < m → slice_index (allocated n k m) j ≡ nth_free n (k + j)
+allocated_index n k zero j h = absurd (omega arith)
+allocated_index n k (suc m) zero h = let z : k ≡ k + 0 = omega arith in ap (nth_free n) z
+allocated_index n k (suc m) (suc j) h = let z : suc k + j ≡ k + suc j = omega arith in allocated_index n (suc k) m j (omega arith) ∙ ap (nth_free n) z
 
-pub run_past : (n k m j : ℕ) → m ≤ j → slice_index (run n k m) j ≡ 0
-run_past n k zero j h = refl
-run_past n k (suc m) zero h = absurd (omega arith)
-run_past n k (suc m) (suc j) h = run_past n (suc k) m j (omega arith)
+pub allocated_past : (n k m j : ℕ) → m ≤ j → slice_index (allocated n k m) j ≡ 0
+allocated_past n k zero j h = refl
+allocated_past n k (suc m) zero h = absurd (omega arith)
+allocated_past n k (suc m) (suc j) h = allocated_past n (suc k) m j (omega arith)
 
-module _ (v : List ℕ) (n total : ℕ) (small : n < 2 ^ 32) (few : total < 2 ^ 32) (below : (k : ℕ) → k < total → given n k < n) (head : ℕ) (lies : head < n)
+module _ (v : List ℕ) (n total : ℕ) (small : n < 2 ^ 32) (few : total < 2 ^ 32) (below : (k : ℕ) → k < total → nth_free n k < n) (head : ℕ) (lies : head < n)
   where
     -- the extension blocks are spelled
-    pub exts_linked : (k d c m : ℕ) → k + m ≤ total → Holds v (ext_parts n head k d c m) → Spelled (λ b. word_in v b 126) (given_or_none n k m) (run n k m)
+    pub exts_linked : (k d c m : ℕ) → k + m ≤ total → Holds v (ext_writes n head k d c m) → Spelled (λ b. word_in v b 126) (nth_free_or_none n k m) (allocated n k m)
     exts_linked k d c zero l h = refl
     exts_linked k d c (suc m) l h =
         let f = fits_ext n total small few below head k d c m lies (omega arith) in
-        let w : word_in v (given n k) 126 ≡ given_or_none n (suc k) m =
-        ap (λ bs. word bs 126) h.0 ∙ ext_block-next (ext_laid n head k d c m) f (next_small n total small few below (suc k) m (omega arith)) in
-        (some_given n k m, subst (λ w. Spelled (λ b. word_in v b 126) w (run n (suc k) m)) (sym w) (exts_linked (suc k) (d + 72) (c - 72) m (omega arith) h.1))
+        let w : word_in v (nth_free n k) 126 ≡ nth_free_or_none n (suc k) m =
+        ap (λ bs. word bs 126) h.0 ∙ ext_block-next (planned_ext n head k d c m) f (next_small n total small few below (suc k) m (omega arith)) in
+        (some_free n k m, subst (λ w. Spelled (λ b. word_in v b 126) w (allocated n (suc k) m)) (sym w) (exts_linked (suc k) (d + 72) (c - 72) m (omega arith) h.1))
 
     -- and have their form
-    pub exts_formed : (k d c m : ℕ) → k + m ≤ total → Holds v (ext_parts n head k d c m) → (j b : ℕ) → At (run n k m) j b → AllHold (ext_demands v b head)
+    pub exts_formed : (k d c m : ℕ) → k + m ≤ total → Holds v (ext_writes n head k d c m) → (j b : ℕ) → At (allocated n k m) j b → AllHold (ext_demands v b head)
     exts_formed k d c zero l h j b a = absurd a
     exts_formed k d c (suc m) l h zero b a =
         let f = fits_ext n total small few below head k d c m lies (omega arith) in
         subst (λ b. AllHold (ext_demands v b head)) a
-        (all_told (given n k) (ext_form (given n k) head (block v (given n k)))
-        (subst (λ bs. first_cause (ext_form (given n k) head bs) ≡ None) (sym h.0) (ext_block-form (ext_laid n head k d c m) f)))
+        (all_demanded (nth_free n k) (ext_form (nth_free n k) head (block v (nth_free n k)))
+        (subst (λ bs. first_cause (ext_form (nth_free n k) head bs) ≡ None) (sym h.0) (ext_block-form (planned_ext n head k d c m) f)))
     exts_formed k d c (suc m) l h (suc j) b a = exts_formed (suc k) (d + 72) (c - 72) m (omega arith) h.1 j b a
 
     -- pointer q of extension block j names data block 72 * j + q of the c that they name
-    pub exts_point : (k d c m : ℕ) → k + m ≤ total → d + c ≤ total → Holds v (ext_parts n head k d c m) → (j b q : ℕ) → At (run n k m) j b → q < 72
-        → 72 * j + q < c → word_in v b (77 - q) ≡ given n (d + 72 * j + q)
+    pub exts_point : (k d c m : ℕ) → k + m ≤ total → d + c ≤ total → Holds v (ext_writes n head k d c m) → (j b q : ℕ) → At (allocated n k m) j b → q < 72
+        → 72 * j + q < c → word_in v b (77 - q) ≡ nth_free n (d + 72 * j + q)
     exts_point k d c zero l u h j b q a lt le = absurd a
     exts_point k d c (suc m) l u h zero b q a lt le =
         let f = fits_ext n total small few below head k d c m lies (omega arith) in
-        let i : slice_index (run n d (min 72 c)) q ≡ given n (d + q) = run_index n d (min 72 c) q (omega arith) in
+        let i : slice_index (allocated n d (min 72 c)) q ≡ nth_free n (d + q) = allocated_index n d (min 72 c) q (omega arith) in
         let s = below (d + q) (omega arith) in
         let z : d + q ≡ d + 72 * 0 + q = omega arith in
         ap (λ b. word_in v b (77 - q)) (sym a)
-        ∙ (ap (λ bs. word bs (77 - q)) h.0 ∙ (ext_block-pointer (ext_laid n head k d c m) q f lt (omega arith) ∙ (i ∙ ap (given n) z)))
+        ∙ (ap (λ bs. word bs (77 - q)) h.0 ∙ (ext_block-pointer (planned_ext n head k d c m) q f lt (omega arith) ∙ (i ∙ ap (nth_free n) z)))
     exts_point k d c (suc m) l u h (suc j) b q a lt le =
         let z : d + 72 + 72 * j + q ≡ d + 72 * suc j + q = omega arith in
-        exts_point (suc k) (d + 72) (c - 72) m (omega arith) (omega arith) h.1 j b q a lt (omega arith) ∙ ap (given n) z
+        exts_point (suc k) (d + 72) (c - 72) m (omega arith) (omega arith) h.1 j b q a lt (omega arith) ∙ ap (nth_free n) z
 
     take_take : (a b : ℕ) (xs : List ℕ) → a ≤ b → take a (take b xs) ≡ take a xs
     take_take zero zero xs h = refl
@@ -94,7 +94,7 @@ module _ (v : List ℕ) (n total : ℕ) (small : n < 2 ^ 32) (few : total < 2 ^ 
 
     -- what a data block holds
     area_holds : (kind : Kind) (k number m : ℕ) (bytes : List ℕ) → k + suc m ≤ total → number < 2 ^ 32 →
-        take (length (take (chunk kind) bytes)) (area kind (data_bytes kind head number (given_or_none n (suc k) m) (take (chunk kind) bytes)))
+        take (length (take (chunk kind) bytes)) (area kind (data_bytes kind head number (nth_free_or_none n (suc k) m) (take (chunk kind) bytes)))
         ≡ take (chunk kind) bytes
     unfolding area
     area_holds Ofs k number m bytes l s =
@@ -102,17 +102,17 @@ module _ (v : List ℕ) (n total : ℕ) (small : n < 2 ^ 32) (few : total < 2 ^ 
         let t : length xs ≡ min (chunk Ofs) (length bytes) = length-take (chunk Ofs) bytes in
         let c = chunk_ofs in
         let z : 24 + length xs - 24 ≡ length xs = omega arith in
-        let bs : List ℕ = data_bytes Ofs head number (given_or_none n (suc k) m) xs in
+        let bs : List ℕ = data_bytes Ofs head number (nth_free_or_none n (suc k) m) xs in
         take_take (length xs) 488 (drop 24 bs) (omega arith)
         ∙ (ap (λ m. take m (drop 24 bs)) (sym z)
-        ∙ data_block-bytes (record { head = head; number = number; next = given_or_none n (suc k) m; bytes = xs })
+        ∙ data_block-bytes (record { head = head; number = number; next = nth_free_or_none n (suc k) m; bytes = xs })
         (fits_data n total small few below head k number m bytes lies l s))
     area_holds Ffs k number m bytes l s =
         let xs : List ℕ = take (chunk Ffs) bytes in
         let t : length xs ≡ min (chunk Ffs) (length bytes) = length-take (chunk Ffs) bytes in
         let c = chunk_small Ffs in
         let z : length xs - 0 ≡ length xs = omega arith in
-        let bs : List ℕ = data_bytes Ffs head number (given_or_none n (suc k) m) xs in
+        let bs : List ℕ = data_bytes Ffs head number (nth_free_or_none n (suc k) m) xs in
         take_take (length xs) 512 (drop 0 bs) (omega arith)
         ∙ (ap (λ m. take m (drop 0 bs)) (sym z) ∙ range-with_bytes_same (replicate 512 0) 0 xs (length xs) (omega arith) (omega arith))
 
@@ -122,14 +122,14 @@ module _ (v : List ℕ) (n total : ℕ) (small : n < 2 ^ 32) (few : total < 2 ^ 
 
     -- the areas of the data blocks joined and cut are the bytes
     pub bytes_held : (kind : Kind) (k number : ℕ) (bytes : List ℕ) (m : ℕ) → k + m ≤ total → number + m ≤ 2 ^ 32
-        → Holds v (data_parts n kind head k number bytes m) → length bytes ≤ m * chunk kind → take (length bytes) (joined v kind (run n k m)) ≡ bytes
+        → Holds v (data_writes n kind head k number bytes m) → length bytes ≤ m * chunk kind → take (length bytes) (joined v kind (allocated n k m)) ≡ bytes
     bytes_held kind k number bytes zero l s h f = no_bytes bytes (let e : 0 * chunk kind ≡ 0 = omega arith in omega arith)
     bytes_held kind k number bytes (suc m) l s h f =
         let held : List ℕ = take (chunk kind) bytes in
-        let first : List ℕ = area kind (block v (given n k)) in
-        let rest : List ℕ = joined v kind (run n (suc k) m) in
-        let whole : length (block v (given n k)) ≡ 512 = ap length h.0 ∙ data_long n total small few below kind head k number m bytes lies l (omega arith) in
-        let n-first : length first ≡ chunk kind = area_long kind (block v (given n k)) whole in
+        let first : List ℕ = area kind (block v (nth_free n k)) in
+        let rest : List ℕ = joined v kind (allocated n (suc k) m) in
+        let whole : length (block v (nth_free n k)) ≡ 512 = ap length h.0 ∙ data_long n total small few below kind head k number m bytes lies l (omega arith) in
+        let n-first : length first ≡ chunk kind = area_long kind (block v (nth_free n k)) whole in
         let part : take (length held) first ≡ held =
         subst (λ bs. take (length held) (area kind bs) ≡ held) (sym h.0) (area_holds kind k number m bytes l (omega arith)) in
         elim (cases_lt (chunk kind) (length bytes)) [
@@ -163,37 +163,37 @@ module _ (v : List ℕ) (n total : ℕ) (small : n < 2 ^ 32) (few : total < 2 ^ 
         empty (suc a) (suc b) = refl
     drop_drop a (suc b) (x ∷ xs) = let z : suc (b + a) ≡ suc b + a = omega arith in drop_drop a b xs ∙ ap (λ m. drop m (x ∷ xs)) z
 
-    next_is : (k m : ℕ) → given_or_none n k m ≡ slice_index (run n k m) 0
+    next_is : (k m : ℕ) → nth_free_or_none n k m ≡ slice_index (allocated n k m) 0
     next_is k zero = refl
-    next_is k (suc m) = some_given n k m
+    next_is k (suc m) = some_free n k m
 
     -- the data blocks of an OFS file have their form
-    pub datas_formed : (k number : ℕ) (bytes : List ℕ) (m : ℕ) → k + m ≤ total → number + m ≤ 2 ^ 32 → Holds v (data_parts n Ofs head k number bytes m)
-        → (j b : ℕ) → At (run n k m) j b
-        → AllHold (data_demands v Ofs b head (number + j) (length (take (chunk Ofs) (drop (chunk Ofs * j) bytes))) (slice_index (run n k m) (suc j)))
+    pub datas_formed : (k number : ℕ) (bytes : List ℕ) (m : ℕ) → k + m ≤ total → number + m ≤ 2 ^ 32 → Holds v (data_writes n Ofs head k number bytes m)
+        → (j b : ℕ) → At (allocated n k m) j b
+        → AllHold (data_demands v Ofs b head (number + j) (length (take (chunk Ofs) (drop (chunk Ofs * j) bytes))) (slice_index (allocated n k m) (suc j)))
     datas_formed k number bytes zero l s h j b a = absurd a
     datas_formed k number bytes (suc m) l s h zero b a =
         let f = fits_data n total small few below head k number m bytes lies l (omega arith) in
         let z : number ≡ number + 0 = omega arith in
         let y : chunk Ofs * 0 ≡ 0 = omega arith in
         let d : bytes ≡ drop (chunk Ofs * 0) bytes = ap (λ q. drop q bytes) (sym y) in
-        let w : first_cause (data_form head number (length (take (chunk Ofs) bytes)) (given_or_none n (suc k) m) (block v (given n k))) ≡ None =
-        subst (λ bs. first_cause (data_form head number (length (take (chunk Ofs) bytes)) (given_or_none n (suc k) m) bs) ≡ None) (sym h.0)
-        (data_block-form (record { head = head; number = number; next = given_or_none n (suc k) m; bytes = take (chunk Ofs) bytes }) f) in
+        let w : first_cause (data_form head number (length (take (chunk Ofs) bytes)) (nth_free_or_none n (suc k) m) (block v (nth_free n k))) ≡ None =
+        subst (λ bs. first_cause (data_form head number (length (take (chunk Ofs) bytes)) (nth_free_or_none n (suc k) m) bs) ≡ None) (sym h.0)
+        (data_block-form (record { head = head; number = number; next = nth_free_or_none n (suc k) m; bytes = take (chunk Ofs) bytes }) f) in
         subst (λ b. AllHold (data_demands v Ofs b head (number + 0) (length (take (chunk Ofs) (drop (chunk Ofs * 0) bytes)))
-        (slice_index (run n (suc k) m) 0))) a
-        (subst (λ u. AllHold (data_demands v Ofs (given n k) head (number + 0) (length (take (chunk Ofs) (drop (chunk Ofs * 0) bytes))) u)) (next_is (suc k) m)
-        (subst (λ u. AllHold (data_demands v Ofs (given n k) head (number + 0) (length (take (chunk Ofs) u)) (given_or_none n (suc k) m))) d
-        (subst (λ u. AllHold (data_demands v Ofs (given n k) head u (length (take (chunk Ofs) bytes)) (given_or_none n (suc k) m))) z
-        (all_told (given n k) (data_form head number (length (take (chunk Ofs) bytes)) (given_or_none n (suc k) m) (block v (given n k))) w))))
+        (slice_index (allocated n (suc k) m) 0))) a
+        (subst (λ u. AllHold (data_demands v Ofs (nth_free n k) head (number + 0) (length (take (chunk Ofs) (drop (chunk Ofs * 0) bytes))) u)) (next_is (suc k) m)
+        (subst (λ u. AllHold (data_demands v Ofs (nth_free n k) head (number + 0) (length (take (chunk Ofs) u)) (nth_free_or_none n (suc k) m))) d
+        (subst (λ u. AllHold (data_demands v Ofs (nth_free n k) head u (length (take (chunk Ofs) bytes)) (nth_free_or_none n (suc k) m))) z
+        (all_demanded (nth_free n k) (data_form head number (length (take (chunk Ofs) bytes)) (nth_free_or_none n (suc k) m) (block v (nth_free n k))) w))))
     datas_formed k number bytes (suc m) l s h (suc j) b a =
         let z : suc number + j ≡ number + suc j = omega arith in
         let y : chunk Ofs + chunk Ofs * j ≡ chunk Ofs * suc j = omega arith in
         let d : drop (chunk Ofs * j) (drop (chunk Ofs) bytes) ≡ drop (chunk Ofs * suc j) bytes =
         drop_drop (chunk Ofs * j) (chunk Ofs) bytes ∙ ap (λ q. drop q bytes) y in
-        subst (λ u. AllHold (data_demands v Ofs b head (number + suc j) (length (take (chunk Ofs) u)) (slice_index (run n (suc k) m) (suc j)))) d
+        subst (λ u. AllHold (data_demands v Ofs b head (number + suc j) (length (take (chunk Ofs) u)) (slice_index (allocated n (suc k) m) (suc j)))) d
         (subst (λ u. AllHold (data_demands v Ofs b head u (length (take (chunk Ofs) (drop (chunk Ofs * j) (drop (chunk Ofs) bytes))))
-        (slice_index (run n (suc k) m) (suc j)))) z
+        (slice_index (allocated n (suc k) m) (suc j)))) z
         (datas_formed (suc k) (suc number) (drop (chunk Ofs) bytes) m (omega arith) (omega arith) h.1 j b a))
 
 -- what data block j holds of the bytes

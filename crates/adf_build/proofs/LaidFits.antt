@@ -1,12 +1,13 @@
 -- What is laid fits.
 use Rattle.std.proofs.Common.{◌≡◌, ℕ, zero, suc, List, [], ◌∷◌, ◌++◌, ◌+◌, ◌-◌, ◌*◌, ◌/◌, ◌%◌, ◌^◌, ◌<◌, ◌≤◌, length, map, refl, sym, ap, subst, ◌∙◌, arith}
+use Rattle.std.specs.List.{range_with_len}
 use Rattle.std.proofs.Common.{Bool, true, false, cond}
 use Rattle.std.specs.Prelude.{min, slice_index, None, ◌↔◌, ◌==◌, ◌&&◌, not, nat_lt, IsBitSet}
 use Rattle.std.proofs.lemmas.Bool.Decides.{nat_tests}
 use lib.Bits.{bit_and}
 use Rattle.std.proofs.lemmas.Nat.{bit_set_by_shift, and_mask}
 use Rattle.adf_tree.specs.declared.entry.Body.TheVariants.{File}
-use Rattle.std.proofs.lemmas.List.FromFn.{get_or-map-range_with_len, length-map-range_with_len}
+use Rattle.std.proofs.lemmas.List.FromFn.{get_or-map-range_with_len, length-map-range_with_len, length-range_with_len}
 use Rattle.adf_fields.specs.Words.{block, word, with_bytes}
 use Rattle.adf_tree.specs.declared.entry.Kind.{Kind}
 use Rattle.adf_tree.specs.declared.entry.Kind.TheVariants.{Ofs, Ffs}
@@ -14,7 +15,7 @@ use Rattle.adf_tree.specs.declared.entry.Entry.{Entry}
 use Rattle.adf_tree.specs.Tree.{Tree, IsDir}
 use Rattle.adf_blocks.specs.Sizes.{blocks, middle, pages_needed, is_allowed}
 use Rattle.adf_blocks.specs.Forms.{first_cause, text_at}
-use Rattle.adf_blocks.specs.Fields.{laid}
+use Rattle.adf_blocks.specs.Fields.{block_of_fields}
 use Rattle.adf_blocks.specs.RootBlock.{root_form, stamps_at}
 use Rattle.adf_blocks.specs.MapExtBlock.{map_ext_block}
 use Rattle.adf_blocks.specs.PageBlock.{page_form, page_block, IsFreeBit}
@@ -27,49 +28,49 @@ use Rattle.adf_volume.specs.Image.{word_in, root_of, kind_of, label_of, stamps_o
 use Rattle.adf_volume.specs.Demands.{AllHold, boot_form, boot_demands, root_demands, page_demands}
 use Rattle.adf_volume.specs.Layout.{EntryAt, at_node, chain_nodes, owned}
 use Rattle.adf_volume.specs.Fits.{Fits, EntryFits, FileFits, IsFree}
-use Rattle.adf_volume.proofs.FormDemands.{all_told}
+use Rattle.adf_volume.proofs.FormDemands.{all_demanded}
 use Rattle.adf_volume.proofs.Lists.{at_below, at_index}
 use Rattle.adf_volume.proofs.Images.{page_in}
 use Rattle.adf_volume.proofs.TreeOrder.{dir_node}
 use Rattle.adf_volume.proofs.DistinctBlocks.{block_in, in_block, blocks_of}
 use Rattle.adf_volume.proofs.Sizes.{size_low, size_high}
-use Rattle.adf_build.specs.Plan.{reserved, entry_blocks, entries_blocks, blocks_needed, run, row, places_from, planned}
+use Rattle.adf_build.specs.Plan.{reserved, entry_blocks, entries_blocks, blocks_needed, allocated, places_from, planned}
 use Rattle.adf_build.specs.Bits.{is_used, is_free_bit, bits_from, page_words}
-use Rattle.adf_build.specs.Lay.{Holds}
-use Rattle.adf_build.specs.Laid.{boot_bytes, page_parts, listed_pages, map_ext_or_none, map_ext_parts, root_laid, volume, IsLaid, IsSound}
-use Rattle.adf_build.proofs.GivenRuns.{length_row, reserved_below}
+use Rattle.adf_build.specs.Writes.{Holds}
+use Rattle.adf_build.specs.Laid.{boot_bytes, page_writes, listed_pages, map_ext_or_none, map_ext_writes, planned_root, volume, IsLaid, IsSound}
+use Rattle.adf_build.proofs.AllocatedBlocks.{reserved_below}
 use Rattle.adf_build.proofs.Planned.{owned_blocks, planned_once, planned_range}
 use Rattle.adf_build.proofs.Bits.{bit_of, bits_small, owned_used, used_owned}
-use Rattle.adf_build.proofs.LaidParts.{fits_root, volume_long, volume_blocks, holds_map_exts, holds_pages, holds_root, holds_boot, listed_few, reserved_parts}
+use Rattle.adf_build.proofs.LaidWrites.{fits_root, volume_long, volume_blocks, holds_map_exts, holds_pages, holds_root, holds_boot, listed_few, reserved_parts}
 use Rattle.adf_build.proofs.EntryBlocks.{spot, chain_laid, root_slot, dir_slot}
 use Rattle.adf_build.proofs.LaidEntries.{entry_laid, file_laid}
 use Rattle.std.proofs.lemmas.Bool.{false_from_ne_true}
 
-boot_holds : (kind : Kind) → first_cause (boot_form (laid ((0, boot_bytes kind) ∷ []))) ≡ None
+boot_holds : (kind : Kind) → first_cause (boot_form (block_of_fields ((0, boot_bytes kind) ∷ []))) ≡ None
 unfolding with_bytes
 boot_holds Ofs = refl
 boot_holds Ffs = refl
 
-boot_kind : (kind : Kind) → cond (slice_index (laid ((0, boot_bytes kind) ∷ [])) 3 == 0) Ofs Ffs ≡ kind
+boot_kind : (kind : Kind) → cond (slice_index (block_of_fields ((0, boot_bytes kind) ∷ [])) 3 == 0) Ofs Ffs ≡ kind
 unfolding with_bytes
 boot_kind Ofs = refl
 boot_kind Ffs = refl
 
-row_at : (b m j c : ℕ) → At (row b m) j c → c ≡ b + j
-row_at b zero j c h = absurd h
-row_at b (suc m) zero c h = let e : b ≡ c = h in omega arith
-row_at b (suc m) (suc j) c h = let e = row_at (suc b) m j c h in omega arith
+range_at : (b m j c : ℕ) → At (range_with_len b m) j c → c ≡ b + j
+range_at b zero j c h = absurd h
+range_at b (suc m) zero c h = let e : b ≡ c = h in omega arith
+range_at b (suc m) (suc j) c h = let e = range_at (b + 1) m j c h in omega arith
 
-at_row : (b m j : ℕ) → j < m → At (row b m) j (b + j)
-at_row b zero j h = absurd (omega arith)
-at_row b (suc m) zero h = omega arith
-at_row b (suc m) (suc j) h = let z : suc b + j ≡ b + suc j = omega arith in subst (At (row (suc b) m) j) z (at_row (suc b) m j (omega arith))
+at_range : (b m j : ℕ) → j < m → At (range_with_len b m) j (b + j)
+at_range b zero j h = absurd (omega arith)
+at_range b (suc m) zero h = omega arith
+at_range b (suc m) (suc j) h = let z : b + 1 + j ≡ b + suc j = omega arith in subst (At (range_with_len (b + 1) m) j) z (at_range (b + 1) m j (omega arith))
 
 places_long : (n : ℕ) (kind : Kind) (k : ℕ) (es : List Entry) → length (places_from n kind k es) ≡ length es
 places_long n kind k [] = refl
 places_long n kind k (e ∷ es) = ap suc (places_long n kind (k + entry_blocks kind e) es)
 
-page_holds : (v : List ℕ) (n total j m q : ℕ) → Holds v (page_parts n total j m) → q < m
+page_holds : (v : List ℕ) (n total j m q : ℕ) → Holds v (page_writes n total j m) → q < m
     → block v (middle n + 1 + (j + q)) ≡ page_block (page_words n total (j + q))
 page_holds v n total j zero q h l = absurd (omega arith)
 page_holds v n total j (suc m) zero h l = let z : j ≡ j + 0 = omega arith in subst (λ j. block v (middle n + 1 + j) ≡ page_block (page_words n total j)) z h.0
@@ -78,7 +79,7 @@ page_holds v n total j (suc m) (suc q) h l =
     subst (λ j. block v (middle n + 1 + j) ≡ page_block (page_words n total j)) z (page_holds v n total (suc j) m q h.1 (omega arith))
 
 -- what stands in bitmap extension block j + q of m from number j on
-map_ext_holds : (v : List ℕ) (n j m q : ℕ) → Holds v (map_ext_parts n j m) → q < m
+map_ext_holds : (v : List ℕ) (n j m q : ℕ) → Holds v (map_ext_writes n j m) → q < m
     → block v (middle n + 1 + pages_needed n + (j + q)) ≡ map_ext_block (listed_pages n (j + q)) (map_ext_or_none n (suc (j + q)) (m - suc q))
 map_ext_holds v n j zero q h l = absurd (omega arith)
 map_ext_holds v n j (suc m) zero h l =
@@ -105,8 +106,8 @@ map_ext_small n j m h = go (nat_lt 0 m)
     go true = h
     go false = omega arith
 
-row_index : (b m j : ℕ) → j < m → slice_index (row b m) j ≡ b + j
-row_index b m j h = at_index (row b m) j (b + j) (at_row b m j h)
+range_index : (b m j : ℕ) → j < m → slice_index (range_with_len b m) j ≡ b + j
+range_index b m j h = at_index (range_with_len b m) j (b + j) (at_range b m j h)
 
 set_bit : (x k : ℕ) → IsBitSet x k ↔ (x / 2 ^ k % 2 ≡ 1)
 set_bit x k =
@@ -170,7 +171,7 @@ module _ (t : Tree) (n : ℕ) (sound : IsSound t) (allowed : is_allowed n ≡ tr
       let l : length (volume t n) ≡ n * 512 = volume_long t n sound allowed room in
       let s = size in (
         (omega arith, ap is_allowed s ∙ allowed),
-        all_told 0 (boot_form (block (volume t n) 0)) (subst (λ bs. first_cause (boot_form bs) ≡ None) (sym (holds_boot t n sound allowed room))
+        all_demanded 0 (boot_form (block (volume t n) 0)) (subst (λ bs. first_cause (boot_form bs) ≡ None) (sym (holds_boot t n sound allowed room))
             (boot_holds t.kind)),
       )
 
@@ -179,27 +180,27 @@ module _ (t : Tree) (n : ℕ) (sound : IsSound t) (allowed : is_allowed n ≡ tr
   kind_laid = sym (ap (λ bs. cond (slice_index bs 3 == 0) Ofs Ffs) (holds_boot t n sound allowed room) ∙ boot_kind t.kind)
 
   root_at : AllHold (root_demands (volume t n) (middle n))
-  root_at = all_told (middle n) (root_form (block (volume t n) (middle n)))
+  root_at = all_demanded (middle n) (root_form (block (volume t n) (middle n)))
       (subst (λ bs. first_cause (root_form bs) ≡ None) (sym (holds_root t n sound allowed room))
-      (root_block-form (root_laid t n) (fits_root t n sound allowed room)))
+      (root_block-form (planned_root t n) (fits_root t n sound allowed room)))
 
   label_laid : t.label ≡ label_of (volume t n) (middle n)
   unfolding label_of
-  label_laid = sym (ap (λ bs. text_at bs 432) (holds_root t n sound allowed room) ∙ root_block-text (root_laid t n) (fits_root t n sound allowed room))
+  label_laid = sym (ap (λ bs. text_at bs 432) (holds_root t n sound allowed room) ∙ root_block-text (planned_root t n) (fits_root t n sound allowed room))
 
   stamps_laid : t.stamps ≡ stamps_of (volume t n) (middle n)
   unfolding stamps_of
-  stamps_laid = sym (ap stamps_at (holds_root t n sound allowed room) ∙ root_block-stamps (root_laid t n) (fits_root t n sound allowed room) sound.stamps)
+  stamps_laid = sym (ap stamps_at (holds_root t n sound allowed room) ∙ root_block-stamps (planned_root t n) (fits_root t n sound allowed room) sound.stamps)
 
-  page_word : (k b : ℕ) → k < 25 → At (row (middle n + 1) (pages_needed n)) k b → word_in (volume t n) (middle n) (79 + k) ≡ b
+  page_word : (k b : ℕ) → k < 25 → At (range_with_len (middle n + 1) (pages_needed n)) k b → word_in (volume t n) (middle n) (79 + k) ≡ b
   page_word k b l h =
-      let a : b ≡ middle n + 1 + k = row_at (middle n + 1) (pages_needed n) k b h in
-      let l0 : k < length (row (middle n + 1) (pages_needed n)) = at_below (row (middle n + 1) (pages_needed n)) k b h in
-      let l1 = length_row (middle n + 1) (pages_needed n) in
-      let e : slice_index (row (middle n + 1) (min 25 (pages_needed n))) k ≡ b = row_index (middle n + 1) (min 25 (pages_needed n)) k (omega arith) ∙ sym a in
+      let a : b ≡ middle n + 1 + k = range_at (middle n + 1) (pages_needed n) k b h in
+      let l0 : k < length (range_with_len (middle n + 1) (pages_needed n)) = at_below (range_with_len (middle n + 1) (pages_needed n)) k b h in
+      let l1 = length-range_with_len (middle n + 1) (pages_needed n) in
+      let e : slice_index (range_with_len (middle n + 1) (min 25 (pages_needed n))) k ≡ b = range_index (middle n + 1) (min 25 (pages_needed n)) k (omega arith) ∙ sym a in
       let high = size_high n allowed in
       ap (λ bs. word bs (79 + k)) (holds_root t n sound allowed room)
-      ∙ (root_block-page (root_laid t n) k (fits_root t n sound allowed room) l (omega arith) ∙ e)
+      ∙ (root_block-page (planned_root t n) k (fits_root t n sound allowed room) l (omega arith) ∙ e)
 
   page_at : (q : ℕ) → q < pages_needed n → block (volume t n) (middle n + 1 + q) ≡ page_block (page_words n (entries_blocks t.kind t.entries) q)
   page_at q l =
@@ -207,13 +208,13 @@ module _ (t : Tree) (n : ℕ) (sound : IsSound t) (allowed : is_allowed n ≡ tr
       subst (λ j. block (volume t n) (middle n + 1 + j) ≡ page_block (page_words n (entries_blocks t.kind t.entries) j)) z
       (page_holds (volume t n) n (entries_blocks t.kind t.entries) 0 (pages_needed n) q (holds_pages t n sound allowed room) l)
 
-  page_formed : (k b : ℕ) → At (row (middle n + 1) (pages_needed n)) k b → AllHold (page_demands (volume t n) b)
+  page_formed : (k b : ℕ) → At (range_with_len (middle n + 1) (pages_needed n)) k b → AllHold (page_demands (volume t n) b)
   page_formed k b h =
-      let e : b ≡ middle n + 1 + k = row_at (middle n + 1) (pages_needed n) k b h in
-      let l0 : k < length (row (middle n + 1) (pages_needed n)) = at_below (row (middle n + 1) (pages_needed n)) k b h in
-      let l1 = length_row (middle n + 1) (pages_needed n) in
+      let e : b ≡ middle n + 1 + k = range_at (middle n + 1) (pages_needed n) k b h in
+      let l0 : k < length (range_with_len (middle n + 1) (pages_needed n)) = at_below (range_with_len (middle n + 1) (pages_needed n)) k b h in
+      let l1 = length-range_with_len (middle n + 1) (pages_needed n) in
       subst (λ b. AllHold (page_demands (volume t n) b)) (sym e)
-      (all_told (middle n + 1 + k) (page_form (block (volume t n) (middle n + 1 + k)))
+      (all_demanded (middle n + 1 + k) (page_form (block (volume t n) (middle n + 1 + k)))
       (subst (λ bs. first_cause (page_form bs) ≡ None) (sym (page_at k (omega arith)))
       (page_block-form (page_words n (entries_blocks t.kind t.entries) k)
       (length-map-range_with_len (λ w. bits_from (is_free_bit n (entries_blocks t.kind t.entries)) (4064 * k + 32 * w) 32) 0 127))))
@@ -230,15 +231,15 @@ module _ (t : Tree) (n : ℕ) (sound : IsSound t) (allowed : is_allowed n ≡ tr
       (ap (λ b. word_in (volume t n) b (6 + s)) (spot t n sound allowed room i x.0 x.1).at ∙ dir_slot t n sound allowed room i s x.0 x.1 x.2 l)
 
   owned_is : (b : ℕ)
-      → In (blocks_of (owned (volume t n) (planned t n))) b ↔ In (middle n ∷ (row (middle n + 1) (reserved n) ++ run n 0 (entries_blocks t.kind t.entries))) b
+      → In (blocks_of (owned (volume t n) (planned t n))) b ↔ In (middle n ∷ (range_with_len (middle n + 1) (reserved n) ++ allocated n 0 (entries_blocks t.kind t.entries))) b
   owned_is b = let e = owned_blocks (volume t n) t n size in ((λ h. subst (λ l. In l b) e h), (λ h. subst (λ l. In l b) (sym e) h))
 
-  free_laid : (b : ℕ) → 2 ≤ b → b < n → IsFree (volume t n) (row (middle n + 1) (pages_needed n)) b → (o : Owner)
+  free_laid : (b : ℕ) → 2 ≤ b → b < n → IsFree (volume t n) (range_with_len (middle n + 1) (pages_needed n)) b → (o : Owner)
       → In (owned (volume t n) (planned t n)) (o, b) → ⊥
   free_laid b lo hi f o i =
       let q : ℕ = (b - 2) / 4064 in
       let r : ℕ = (b - 2) % 4064 in
-      let e : f.0 ≡ middle n + 1 + q = row_at (middle n + 1) (pages_needed n) q f.0 f.1 in
+      let e : f.0 ≡ middle n + 1 + q = range_at (middle n + 1) (pages_needed n) q f.0 f.1 in
       let lt : q < pages_needed n = page_in n b lo hi in
       let g : IsFreeBit (block (volume t n) (middle n + 1 + q)) r = subst (λ p. IsFreeBit (block (volume t n) p) r) e f.2 in
       let x : is_free_bit n (entries_blocks t.kind t.entries) (4064 * q + r) ≡ true =
@@ -250,7 +251,7 @@ module _ (t : Tree) (n : ℕ) (sound : IsSound t) (allowed : is_allowed n ≡ tr
       cc
 
   unowned_laid : (b : ℕ) → 2 ≤ b → b < n → ((o : Owner) → In (owned (volume t n) (planned t n)) (o, b) → ⊥)
-      → IsFree (volume t n) (row (middle n + 1) (pages_needed n)) b
+      → IsFree (volume t n) (range_with_len (middle n + 1) (pages_needed n)) b
   unowned_laid b lo hi f =
       let q : ℕ = (b - 2) / 4064 in
       let r : ℕ = (b - 2) % 4064 in
@@ -262,16 +263,16 @@ module _ (t : Tree) (n : ℕ) (sound : IsSound t) (allowed : is_allowed n ≡ tr
       let x = unused_free n (entries_blocks t.kind t.entries) (4064 * q + r) b (omega arith) hi y in
       let g : IsFreeBit (page_block (page_words n (entries_blocks t.kind t.entries) q)) r =
       (bit_tells n (entries_blocks t.kind t.entries) q r (omega arith)).1 x in
-      (middle n + 1 + q, at_row (middle n + 1) (pages_needed n) q lt, subst (λ bs. IsFreeBit bs r) (sym (page_at q lt)) g)
+      (middle n + 1 + q, at_range (middle n + 1) (pages_needed n) q lt, subst (λ bs. IsFreeBit bs r) (sym (page_at q lt)) g)
 
   -- a bitmap extension block of the plan: its place, and what it holds
-  map_ext_at : (j b : ℕ) → At (row (middle n + 1 + pages_needed n) (map_exts_needed (pages_needed n))) j b
+  map_ext_at : (j b : ℕ) → At (range_with_len (middle n + 1 + pages_needed n) (map_exts_needed (pages_needed n))) j b
       → (j < map_exts_needed (pages_needed n)) × (b ≡ middle n + 1 + pages_needed n + j)
   map_ext_at j b h =
-      let l0 : j < length (row (middle n + 1 + pages_needed n) (map_exts_needed (pages_needed n))) =
-      at_below (row (middle n + 1 + pages_needed n) (map_exts_needed (pages_needed n))) j b h in
-      let l1 = length_row (middle n + 1 + pages_needed n) (map_exts_needed (pages_needed n)) in
-      (omega arith, row_at (middle n + 1 + pages_needed n) (map_exts_needed (pages_needed n)) j b h)
+      let l0 : j < length (range_with_len (middle n + 1 + pages_needed n) (map_exts_needed (pages_needed n))) =
+      at_below (range_with_len (middle n + 1 + pages_needed n) (map_exts_needed (pages_needed n))) j b h in
+      let l1 = length-range_with_len (middle n + 1 + pages_needed n) (map_exts_needed (pages_needed n)) in
+      (omega arith, range_at (middle n + 1 + pages_needed n) (map_exts_needed (pages_needed n)) j b h)
 
   map_ext_is : (j : ℕ) → j < map_exts_needed (pages_needed n)
       → block (volume t n) (middle n + 1 + pages_needed n + j)
@@ -291,17 +292,17 @@ module _ (t : Tree) (n : ℕ) (sound : IsSound t) (allowed : is_allowed n ≡ tr
       let r = reserved_below n four in
       omega arith
 
-  map_first_laid : (b : ℕ) → At (row (middle n + 1 + pages_needed n) (map_exts_needed (pages_needed n))) 0 b → word_in (volume t n) (middle n) 104 ≡ b
+  map_first_laid : (b : ℕ) → At (range_with_len (middle n + 1 + pages_needed n) (map_exts_needed (pages_needed n))) 0 b → word_in (volume t n) (middle n) 104 ≡ b
   map_first_laid b h =
       let x = map_ext_at 0 b h in
       let e : b ≡ middle n + 1 + pages_needed n + 0 = x.1 in
       let small : map_ext_or_none n 0 (map_exts_needed (pages_needed n)) < 2 ^ 32 =
       map_ext_small n 0 (map_exts_needed (pages_needed n)) (map_ext_near 0 (omega arith)) in
       ap (λ bs. word bs 104) (holds_root t n sound allowed room)
-      ∙ (root_block-map_ext (root_laid t n) (fits_root t n sound allowed room) small ∙ (map_ext_some n 0 (map_exts_needed (pages_needed n)) x.0 ∙ sym e))
+      ∙ (root_block-map_ext (planned_root t n) (fits_root t n sound allowed room) small ∙ (map_ext_some n 0 (map_exts_needed (pages_needed n)) x.0 ∙ sym e))
 
-  map_next_laid : (j a b : ℕ) → At (row (middle n + 1 + pages_needed n) (map_exts_needed (pages_needed n))) j a
-      → At (row (middle n + 1 + pages_needed n) (map_exts_needed (pages_needed n))) (suc j) b
+  map_next_laid : (j a b : ℕ) → At (range_with_len (middle n + 1 + pages_needed n) (map_exts_needed (pages_needed n))) j a
+      → At (range_with_len (middle n + 1 + pages_needed n) (map_exts_needed (pages_needed n))) (suc j) b
       → word_in (volume t n) a 127 ≡ b
   map_next_laid j a b g h =
       let x = map_ext_at j a g in
@@ -314,19 +315,19 @@ module _ (t : Tree) (n : ℕ) (sound : IsSound t) (allowed : is_allowed n ≡ tr
       ∙ (ap (λ bs. word bs 127) (map_ext_is j x.0)
       ∙ (map_ext_block-next (listed_pages n j) (map_ext_or_none n (suc j) m) (listed_few n j) small ∙ (map_ext_some n (suc j) m (omega arith) ∙ sym e)))
 
-  page_listed_laid : (j i a b : ℕ) → i < 127 → At (row (middle n + 1 + pages_needed n) (map_exts_needed (pages_needed n))) j a
-      → At (row (middle n + 1) (pages_needed n)) (25 + 127 * j + i) b
+  page_listed_laid : (j i a b : ℕ) → i < 127 → At (range_with_len (middle n + 1 + pages_needed n) (map_exts_needed (pages_needed n))) j a
+      → At (range_with_len (middle n + 1) (pages_needed n)) (25 + 127 * j + i) b
       → word_in (volume t n) a i ≡ b
   page_listed_laid j i a b l g h =
       let x = map_ext_at j a g in
       let u : j < map_exts_needed (pages_needed n) = x.0 in
       let m : ℕ = map_exts_needed (pages_needed n) - suc j in
-      let e : b ≡ middle n + 1 + (25 + 127 * j + i) = row_at (middle n + 1) (pages_needed n) (25 + 127 * j + i) b h in
-      let l0 : 25 + 127 * j + i < length (row (middle n + 1) (pages_needed n)) = at_below (row (middle n + 1) (pages_needed n)) (25 + 127 * j + i) b h in
-      let l1 = length_row (middle n + 1) (pages_needed n) in
+      let e : b ≡ middle n + 1 + (25 + 127 * j + i) = range_at (middle n + 1) (pages_needed n) (25 + 127 * j + i) b h in
+      let l0 : 25 + 127 * j + i < length (range_with_len (middle n + 1) (pages_needed n)) = at_below (range_with_len (middle n + 1) (pages_needed n)) (25 + 127 * j + i) b h in
+      let l1 = length-range_with_len (middle n + 1) (pages_needed n) in
       let near = map_ext_near 0 (omega arith) in
       let s : slice_index (listed_pages n j) i ≡ b =
-      row_index (middle n + 1 + (25 + 127 * j)) (min 127 (pages_needed n - (25 + 127 * j))) i (omega arith) ∙ omega arith in
+      range_index (middle n + 1 + (25 + 127 * j)) (min 127 (pages_needed n - (25 + 127 * j))) i (omega arith) ∙ omega arith in
       ap (λ a. word_in (volume t n) a i) x.1
       ∙ (ap (λ bs. word bs i) (map_ext_is j u) ∙ (map_ext_block-page (listed_pages n j) (map_ext_or_none n (suc j) m) i (listed_few n j) l (omega arith) ∙ s))
 
@@ -351,8 +352,8 @@ module _ (t : Tree) (n : ℕ) (sound : IsSound t) (allowed : is_allowed n ≡ tr
         stamps = subst (λ b. t.stamps ≡ stamps_of (volume t n) b) s stamps_laid;
         tree = sound.tree;
         places = places_long n t.kind 0 t.entries;
-        pages = length_row (middle n + 1) (pages_needed n) ∙ ap pages_needed (sym size);
-        map_exts = length_row (middle n + 1 + pages_needed n) (map_exts_needed (pages_needed n)) ∙ ap (λ n. map_exts_needed (pages_needed n)) (sym size);
+        pages = length-range_with_len (middle n + 1) (pages_needed n) ∙ ap pages_needed (sym size);
+        map_exts = length-range_with_len (middle n + 1 + pages_needed n) (map_exts_needed (pages_needed n)) ∙ ap (λ n. map_exts_needed (pages_needed n)) (sym size);
         map_first = (λ b h. ap (λ r. word_in (volume t n) r 104) (sym s) ∙ map_first_laid b h);
         map_next = map_next_laid;
         page_named = (λ k b l h. ap (λ r. word_in (volume t n) r (79 + k)) (sym s) ∙ page_word k b l h);

@@ -1,9 +1,9 @@
 -- which blocks are given, and to what
-pub mod GivenBlocks
-pub mod GivenRuns
+pub mod FreeBlocks
+pub mod AllocatedBlocks
 pub mod MapExts
 pub mod Planned
-pub mod Rows
+pub mod Ranges
 -- the entries of a tree, their numbers and chains
 pub mod ChainLinks
 pub mod CountSteps
@@ -15,11 +15,11 @@ pub mod WholeWords
 pub mod EntryBlocks
 pub mod LaidEntries
 pub mod LaidFiles
-pub mod LaidParts
-pub mod Lays
+pub mod LaidWrites
+pub mod BlockWrites
 pub mod WholeBlocks
 pub mod WriteSteps
-pub mod WrittenParts
+pub mod WrittenBlocks
 -- the laws
 pub mod LaidFits
 pub mod LaidOrder

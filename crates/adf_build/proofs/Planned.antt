@@ -1,5 +1,7 @@
--- What a planned layout owns: the root, the reserved blocks and a run of given blocks.
+-- What a planned layout owns: the root, the reserved blocks and a run of free blocks.
 use Rattle.std.proofs.Common.{◌≡◌, ℕ, suc, List, [], ◌∷◌, ◌++◌, inl, inr, ◌+◌, ◌-◌, ◌<◌, ◌≤◌, length, refl, sym, ap, subst, ◌∙◌, arith, append_assoc}
+use Rattle.std.proofs.lemmas.List.FromFn.{length-range_with_len}
+use Rattle.std.specs.List.{range_with_len}
 use Rattle.std.proofs.Common.{length-append}
 use Rattle.adf_volume.specs.Lists.{In, numbered, NoBlockTwice}
 use Rattle.adf_tree.specs.declared.entry.Kind.{Kind}
@@ -12,50 +14,50 @@ use Rattle.adf_volume.specs.declared.owner.Owner.{Owner}
 use Rattle.adf_volume.specs.declared.owner.Owner.TheVariants.{Page as APage, MapExt as AMapExt, Ext as AnExt, Data as AData}
 use Rattle.adf_volume.proofs.DistinctBlocks.{blocks_of, blocks_of-append, blocks_of-numbered, block_in, Distinct, distinct_blocks, distinct-append}
 use Rattle.adf_volume.proofs.Lists.{in_cases}
-use Rattle.adf_build.specs.Plan.{reserved, given, run, row, exts_needed, data_blocks, entries_blocks, blocks_needed, places_from, planned}
-use Rattle.adf_build.proofs.GivenRuns.{length_row, length_run, given_from, given_below, given_apart, reserved_below, in_run, run-append, distinct_run, in_row}
-use Rattle.adf_build.proofs.GivenRuns.{distinct_row, row-append}
+use Rattle.adf_build.specs.Plan.{reserved, nth_free, allocated, exts_needed, data_blocks, entries_blocks, blocks_needed, places_from, planned}
+use Rattle.adf_build.proofs.AllocatedBlocks.{length_allocated, free_from, free_below, free_apart, reserved_below, in_allocated, allocated-append, distinct_allocated, in_range}
+use Rattle.adf_build.proofs.AllocatedBlocks.{distinct_range, range_with_len-append}
 
--- the blocks of entries are a run of given blocks
-blocks_of_places : (n : ℕ) (kind : Kind) (i k : ℕ) (es : List Entry) → blocks_of (owned_from i (places_from n kind k es)) ≡ run n k (entries_blocks kind es)
+-- the blocks of entries are a run of free blocks
+blocks_of_places : (n : ℕ) (kind : Kind) (i k : ℕ) (es : List Entry) → blocks_of (owned_from i (places_from n kind k es)) ≡ allocated n k (entries_blocks kind es)
 blocks_of_places n kind i k [] = refl
 blocks_of_places n kind i k (e ∷ es) =
     let c : ℕ = data_blocks kind e.body in
     let x : ℕ = exts_needed c in
     let r : ℕ = entries_blocks kind es in
-    let exts : List (Owner × ℕ) = numbered (AnExt i) 1 (run n (suc k) x) in
-    let datas : List (Owner × ℕ) = numbered (AData i) 1 (run n (suc k + x) c) in
+    let exts : List (Owner × ℕ) = numbered (AnExt i) 1 (allocated n (suc k) x) in
+    let datas : List (Owner × ℕ) = numbered (AData i) 1 (allocated n (suc k + x) c) in
     let rest : List (Owner × ℕ) = owned_from (suc i) (places_from n kind (k + (1 + x + c)) es) in
     let at : k + (1 + x + c) ≡ suc k + (x + c) = omega arith in
     let all : (1 + x + c) + r ≡ suc ((x + c) + r) = omega arith in
-    let parts : blocks_of ((exts ++ datas) ++ rest) ≡ run n (suc k) ((x + c) + r) =
+    let writes : blocks_of ((exts ++ datas) ++ rest) ≡ allocated n (suc k) ((x + c) + r) =
     blocks_of-append (exts ++ datas) rest
     ∙ ap (λ l. l ++ blocks_of rest) (blocks_of-append exts datas
-    ∙ ap (λ l. l ++ blocks_of datas) (blocks_of-numbered (AnExt i) 1 (run n (suc k) x))
-    ∙ ap (λ l. run n (suc k) x ++ l) (blocks_of-numbered (AData i) 1 (run n (suc k + x) c))
-    ∙ sym (run-append n (suc k) x c))
-    ∙ ap (λ l. run n (suc k) (x + c) ++ l) (blocks_of_places n kind (suc i) (k + (1 + x + c)) es ∙ ap (λ j. run n j r) at)
-    ∙ sym (run-append n (suc k) (x + c) r) in
-    ap (λ l. given n k ∷ l) parts ∙ ap (run n k) (sym all)
+    ∙ ap (λ l. l ++ blocks_of datas) (blocks_of-numbered (AnExt i) 1 (allocated n (suc k) x))
+    ∙ ap (λ l. allocated n (suc k) x ++ l) (blocks_of-numbered (AData i) 1 (allocated n (suc k + x) c))
+    ∙ sym (allocated-append n (suc k) x c))
+    ∙ ap (λ l. allocated n (suc k) (x + c) ++ l) (blocks_of_places n kind (suc i) (k + (1 + x + c)) es ∙ ap (λ j. allocated n j r) at)
+    ∙ sym (allocated-append n (suc k) (x + c) r) in
+    ap (λ l. nth_free n k ∷ l) writes ∙ ap (allocated n k) (sym all)
 
 pub owned_blocks : (image : List ℕ) (t : Tree) (n : ℕ) → blocks image ≡ n
-    → blocks_of (owned image (planned t n)) ≡ middle n ∷ (row (middle n + 1) (reserved n) ++ run n 0 (entries_blocks t.kind t.entries))
+    → blocks_of (owned image (planned t n)) ≡ middle n ∷ (range_with_len (middle n + 1) (reserved n) ++ allocated n 0 (entries_blocks t.kind t.entries))
 unfolding reserved
 owned_blocks image t n e =
     let p : ℕ = pages_needed n in
     let x : ℕ = map_exts_needed (pages_needed n) in
-    let pages : List (Owner × ℕ) = numbered APage 0 (row (middle n + 1) p) in
-    let map_exts : List (Owner × ℕ) = numbered AMapExt 0 (row (middle n + 1 + p) x) in
+    let pages : List (Owner × ℕ) = numbered APage 0 (range_with_len (middle n + 1) p) in
+    let map_exts : List (Owner × ℕ) = numbered AMapExt 0 (range_with_len (middle n + 1 + p) x) in
     let rest : List (Owner × ℕ) = owned_from 1 (places_from n t.kind 0 t.entries) in
     let total : ℕ = entries_blocks t.kind t.entries in
     ap (λ b. b ∷ blocks_of (pages ++ (map_exts ++ rest))) (ap middle e)
     ∙ ap (λ l. middle n ∷ l) (blocks_of-append pages (map_exts ++ rest)
-    ∙ ap (λ l. l ++ blocks_of (map_exts ++ rest)) (blocks_of-numbered APage 0 (row (middle n + 1) p))
-    ∙ ap (λ l. row (middle n + 1) p ++ l) (blocks_of-append map_exts rest
-    ∙ ap (λ l. l ++ blocks_of rest) (blocks_of-numbered AMapExt 0 (row (middle n + 1 + p) x))
-    ∙ ap (λ l. row (middle n + 1 + p) x ++ l) (blocks_of_places n t.kind 1 0 t.entries))
-    ∙ sym (append_assoc (row (middle n + 1) p) (row (middle n + 1 + p) x) (run n 0 total))
-    ∙ ap (λ l. l ++ run n 0 total) (row-append (middle n + 1) p x))
+    ∙ ap (λ l. l ++ blocks_of (map_exts ++ rest)) (blocks_of-numbered APage 0 (range_with_len (middle n + 1) p))
+    ∙ ap (λ l. range_with_len (middle n + 1) p ++ l) (blocks_of-append map_exts rest
+    ∙ ap (λ l. l ++ blocks_of rest) (blocks_of-numbered AMapExt 0 (range_with_len (middle n + 1 + p) x))
+    ∙ ap (λ l. range_with_len (middle n + 1 + p) x ++ l) (blocks_of_places n t.kind 1 0 t.entries))
+    ∙ sym (append_assoc (range_with_len (middle n + 1) p) (range_with_len (middle n + 1 + p) x) (allocated n 0 total))
+    ∙ ap (λ l. l ++ allocated n 0 total) (range_with_len-append (middle n + 1) p x))
 
 -- no block twice
 pub planned_once : (image : List ℕ) (t : Tree) (n : ℕ) → blocks image ≡ n → NoBlockTwice (owned image (planned t n))
@@ -63,13 +65,13 @@ planned_once image t n size =
     let total : ℕ = entries_blocks t.kind t.entries in
     let P : List ℕ → Type 0 = Distinct in
     distinct_blocks (owned image (planned t n)) (subst P (sym (owned_blocks image t n size)) (
-      (λ h. elim (in_cases (row (middle n + 1) (reserved n)) (run n 0 total) (middle n) h) [
-        | inl i ↦ let r = in_row (middle n + 1) (reserved n) (middle n) i in omega arith
-        | inr i ↦ let r = in_run n 0 total (middle n) i in let e : given n r.0 ≡ middle n = r.3 in given_apart n r.0 (omega arith) (omega arith)
+      (λ h. elim (in_cases (range_with_len (middle n + 1) (reserved n)) (allocated n 0 total) (middle n) h) [
+        | inl i ↦ let r = in_range (middle n + 1) (reserved n) (middle n) i in omega arith
+        | inr i ↦ let r = in_allocated n 0 total (middle n) i in let e : nth_free n r.0 ≡ middle n = r.3 in free_apart n r.0 (omega arith) (omega arith)
       ]),
-      distinct-append (row (middle n + 1) (reserved n)) (run n 0 total) (distinct_row (middle n + 1) (reserved n)) (distinct_run n 0 total)
-          (λ b i j. let r = in_row (middle n + 1) (reserved n) b i in let s = in_run n 0 total b j in let e : given n s.0 ≡ b =
-          s.3 in given_apart n s.0 (omega arith) (omega arith)),
+      distinct-append (range_with_len (middle n + 1) (reserved n)) (allocated n 0 total) (distinct_range (middle n + 1) (reserved n)) (distinct_allocated n 0 total)
+          (λ b i j. let r = in_range (middle n + 1) (reserved n) b i in let s = in_allocated n 0 total b j in let e : nth_free n s.0 ≡ b =
+          s.3 in free_apart n s.0 (omega arith) (omega arith)),
     ))
 
 -- each block lies in the volume
@@ -78,18 +80,18 @@ pub planned_range : (image : List ℕ) (t : Tree) (n : ℕ) (o : Owner) (b : ℕ
 planned_range image t n o b size h fits i =
     let total : ℕ = entries_blocks t.kind t.entries in
     let end : middle n + reserved n < n = reserved_below n h in
-    let j : In (middle n ∷ (row (middle n + 1) (reserved n) ++ run n 0 total)) b =
+    let j : In (middle n ∷ (range_with_len (middle n + 1) (reserved n) ++ allocated n 0 total)) b =
     subst (λ l. In l b) (owned_blocks image t n size) (block_in (owned image (planned t n)) o b i) in
     elim j [
       | inl e ↦ (omega arith, omega arith)
-      | inr k ↦ elim (in_cases (row (middle n + 1) (reserved n)) (run n 0 total) b k) [
-        | inl r ↦ let s = in_row (middle n + 1) (reserved n) b r in (omega arith, omega arith)
+      | inr k ↦ elim (in_cases (range_with_len (middle n + 1) (reserved n)) (allocated n 0 total) b k) [
+        | inl r ↦ let s = in_range (middle n + 1) (reserved n) b r in (omega arith, omega arith)
         | inr r ↦
-            let s = in_run n 0 total b r in
-            let e : given n s.0 ≡ b = s.3 in
+            let s = in_allocated n 0 total b r in
+            let e : nth_free n s.0 ≡ b = s.3 in
             let u : s.0 < 0 + total = s.2 in
-            let f = given_from n s.0 in
-            let g = given_below n s.0 h (omega arith) in
+            let f = free_from n s.0 in
+            let g = free_below n s.0 h (omega arith) in
             (omega arith, omega arith)
       ]
     ]
@@ -99,11 +101,11 @@ pub planned_count : (image : List ℕ) (t : Tree) (n : ℕ) → blocks image ≡
 planned_count image t n size =
     length_blocks (owned image (planned t n))
     ∙ (ap length (owned_blocks image t n size)
-    ∙ (let a : length (row (middle n + 1) (reserved n)) ≡ reserved n = length_row (middle n + 1) (reserved n) in
-    let b : length (run n 0 (entries_blocks t.kind t.entries)) ≡ entries_blocks t.kind t.entries = length_run n 0 (entries_blocks t.kind t.entries) in
-    let c : length (row (middle n + 1) (reserved n) ++ run n 0 (entries_blocks t.kind t.entries))
-    ≡ length (row (middle n + 1) (reserved n)) + length (run n 0 (entries_blocks t.kind t.entries)) =
-    length-append (row (middle n + 1) (reserved n)) (run n 0 (entries_blocks t.kind t.entries)) in
+    ∙ (let a : length (range_with_len (middle n + 1) (reserved n)) ≡ reserved n = length-range_with_len (middle n + 1) (reserved n) in
+    let b : length (allocated n 0 (entries_blocks t.kind t.entries)) ≡ entries_blocks t.kind t.entries = length_allocated n 0 (entries_blocks t.kind t.entries) in
+    let c : length (range_with_len (middle n + 1) (reserved n) ++ allocated n 0 (entries_blocks t.kind t.entries))
+    ≡ length (range_with_len (middle n + 1) (reserved n)) + length (allocated n 0 (entries_blocks t.kind t.entries)) =
+    length-append (range_with_len (middle n + 1) (reserved n)) (allocated n 0 (entries_blocks t.kind t.entries)) in
     omega arith))
   where
     length_blocks : (xs : List (Owner × ℕ)) → length xs ≡ length (blocks_of xs)

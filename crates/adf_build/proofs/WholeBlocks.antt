@@ -13,18 +13,18 @@ use Rattle.adf_tree.specs.declared.entry.Entry.{Entry}
 use Rattle.adf_blocks.specs.HeadBlock.{FitsHead, FitsBody}
 use Rattle.adf_blocks.specs.ExtBlock.{FitsExt}
 use Rattle.adf_blocks.specs.DataBlock.{FitsData}
-use Rattle.adf_blocks.proofs.LaidLaws.{length-laid}
+use Rattle.adf_blocks.proofs.FieldLaws.{length-block_of_fields}
 use Rattle.adf_blocks.proofs.HeadLaws.{length_head_block}
 use Rattle.adf_blocks.proofs.ExtLaws.{length_ext_block}
 use Rattle.adf_blocks.proofs.DataLaws.{length_data_block}
 use Rattle.adf_volume.specs.Image.{chunk, count}
 use Rattle.adf_volume.specs.Lists.{At}
 use Rattle.adf_volume.specs.Layout.{nodes_from}
-use Rattle.adf_build.specs.Plan.{exts_needed, data_blocks, entry_blocks, entries_blocks, given, run}
-use Rattle.adf_build.specs.Lay.{AreBlocks}
-use Rattle.adf_build.specs.Laid.{given_or_none, data_bytes, data_parts, ext_laid, ext_parts, slots_of, body_of, body_parts, head_of, entries_parts}
+use Rattle.adf_build.specs.Plan.{exts_needed, data_blocks, entry_blocks, entries_blocks, nth_free, allocated}
+use Rattle.adf_build.specs.Writes.{AreBlocks}
+use Rattle.adf_build.specs.Laid.{nth_free_or_none, data_bytes, data_writes, planned_ext, ext_writes, slots_of, body_of, body_writes, head_of, entries_writes}
 use Rattle.adf_build.specs.Laid.{first_block}
-use Rattle.adf_build.proofs.GivenRuns.{length_run}
+use Rattle.adf_build.proofs.AllocatedBlocks.{length_allocated}
 
 pub chunk_small : (kind : Kind) → chunk kind ≤ 512
 unfolding chunk
@@ -39,40 +39,40 @@ pub are-append : (n : ℕ) (ps qs : List (ℕ × List ℕ)) → AreBlocks n ps �
 are-append n [] qs a b = b
 are-append n (p ∷ ps) qs a b = (a.0, a.1, are-append n ps qs a.2 b)
 
--- in a volume of n blocks the first `total` given blocks are there
-module _ (n total : ℕ) (small : n < 2 ^ 32) (few : total < 2 ^ 32) (below : (k : ℕ) → k < total → given n k < n) where
-  pub next_small : (k m : ℕ) → k + m ≤ total → given_or_none n k m < 2 ^ 32
+-- in a volume of n blocks the first `total` free blocks are there
+module _ (n total : ℕ) (small : n < 2 ^ 32) (few : total < 2 ^ 32) (below : (k : ℕ) → k < total → nth_free n k < n) where
+  pub next_small : (k m : ℕ) → k + m ≤ total → nth_free_or_none n k m < 2 ^ 32
   next_small k m h = go (nat_lt 0 m) refl
     where
-      go : (t : Bool) → nat_lt 0 m ≡ t → cond t (given n k) 0 < 2 ^ 32
+      go : (t : Bool) → nat_lt 0 m ≡ t → cond t (nth_free n k) 0 < 2 ^ 32
       go true z = let l : 0 < m = grind (arith, nat_tests) in let b = below k (omega arith) in omega arith
       go false z = omega arith
 
-  pub fits_ext : (head k d c m : ℕ) → head < n → k < total → FitsExt (ext_laid n head k d c m)
+  pub fits_ext : (head k d c m : ℕ) → head < n → k < total → FitsExt (planned_ext n head k d c m)
   fits_ext head k d c m h l =
       let b = below k l in
-      let r : length (run n d (min 72 c)) ≡ min 72 c = length_run n d (min 72 c) in
+      let r : length (allocated n d (min 72 c)) ≡ min 72 c = length_allocated n d (min 72 c) in
       record { own = omega arith; head = omega arith; table = omega arith }
 
   pub fits_data : (head k number m : ℕ) (bytes : List ℕ) → head < n → k + suc m ≤ total → number < 2 ^ 32
-      → FitsData (record { head = head; number = number; next = given_or_none n (suc k) m; bytes = take (chunk Ofs) bytes })
+      → FitsData (record { head = head; number = number; next = nth_free_or_none n (suc k) m; bytes = take (chunk Ofs) bytes })
   fits_data head k number m bytes h l s =
       let t : length (take (chunk Ofs) bytes) ≡ min (chunk Ofs) (length bytes) = length-take (chunk Ofs) bytes in
       let c = chunk_ofs in
       record { head = omega arith; number = s; next = next_small (suc k) m (omega arith); bytes = omega arith }
 
   pub data_long : (kind : Kind) (head k number m : ℕ) (bytes : List ℕ) → head < n → k + suc m ≤ total → number < 2 ^ 32
-      → length (data_bytes kind head number (given_or_none n (suc k) m) (take (chunk kind) bytes)) ≡ 512
+      → length (data_bytes kind head number (nth_free_or_none n (suc k) m) (take (chunk kind) bytes)) ≡ 512
   data_long Ofs head k number m bytes h l s =
-      length_data_block (record { head = head; number = number; next = given_or_none n (suc k) m; bytes = take (chunk Ofs) bytes })
+      length_data_block (record { head = head; number = number; next = nth_free_or_none n (suc k) m; bytes = take (chunk Ofs) bytes })
       (fits_data head k number m bytes h l s)
   data_long Ffs head k number m bytes h l s =
       let t : length (take (chunk Ffs) bytes) ≡ min (chunk Ffs) (length bytes) = length-take (chunk Ffs) bytes in
       let c = chunk_small Ffs in
-      length-laid 512 ((0, take (chunk Ffs) bytes) ∷ []) (omega arith) (omega arith, tt)
+      length-block_of_fields 512 ((0, take (chunk Ffs) bytes) ∷ []) (omega arith) (omega arith, tt)
 
   pub are_datas : (kind : Kind) (head k number : ℕ) (bytes : List ℕ) (m : ℕ) → head < n → k + m ≤ total → number + m ≤ 2 ^ 32
-      → AreBlocks n (data_parts n kind head k number bytes m)
+      → AreBlocks n (data_writes n kind head k number bytes m)
   are_datas kind head k number bytes zero h l s = tt
   are_datas kind head k number bytes (suc m) h l s = (
     below k (omega arith),
@@ -81,31 +81,31 @@ module _ (n total : ℕ) (small : n < 2 ^ 32) (few : total < 2 ^ 32) (below : (k
         (omega arith) (omega arith),
   )
 
-  pub are_exts : (head k d c m : ℕ) → head < n → k + m ≤ total → AreBlocks n (ext_parts n head k d c m)
+  pub are_exts : (head k d c m : ℕ) → head < n → k + m ≤ total → AreBlocks n (ext_writes n head k d c m)
   are_exts head k d c zero h l = tt
   are_exts head k d c (suc m) h l = (
     below k (omega arith),
-    length_ext_block (ext_laid n head k d c m) (fits_ext head k d c m h (omega arith)),
+    length_ext_block (planned_ext n head k d c m) (fits_ext head k d c m h (omega arith)),
     are_exts head (suc k) (d + 72) (c - 72) m
         h (omega arith),
   )
 
   pub are_body : (kind : Kind) (k : ℕ) (body : Body) → k + (1 + exts_needed (data_blocks kind body) + data_blocks kind body) ≤ total
-      → AreBlocks n (body_parts n kind k body)
+      → AreBlocks n (body_writes n kind k body)
   are_body kind k Dir l = tt
   are_body kind k (File bytes) l =
       let c : ℕ = count kind (length bytes) in
       let x : ℕ = exts_needed c in
-      let b : given n k < n = below k (omega arith) in
-      are-append n (ext_parts n (given n k) (suc k) (suc k + x + 72) (c - 72) x) (data_parts n kind (given n k) (suc k + x) 1 bytes c)
-      (are_exts (given n k) (suc k) (suc k + x + 72) (c - 72) x b (omega arith))
-      (are_datas kind (given n k) (suc k + x) 1 bytes c b (omega arith) (omega arith))
+      let b : nth_free n k < n = below k (omega arith) in
+      are-append n (ext_writes n (nth_free n k) (suc k) (suc k + x + 72) (c - 72) x) (data_writes n kind (nth_free n k) (suc k + x) 1 bytes c)
+      (are_exts (nth_free n k) (suc k) (suc k + x + 72) (c - 72) x b (omega arith))
+      (are_datas kind (nth_free n k) (suc k + x) 1 bytes c b (omega arith) (omega arith))
 
   pub fits_body : (k : ℕ) (kind : Kind) (slots : List ℕ) (body : Body) → length slots ≡ 72 → FitsBody (body_of n k kind slots body)
   fits_body k kind slots Dir h = h
   fits_body k kind slots (File bytes) h =
       let c : ℕ = count kind (length bytes) in
-      let r : length (run n (suc k + exts_needed c) (min 72 c)) ≡ min 72 c = length_run n (suc k + exts_needed c) (min 72 c) in
+      let r : length (allocated n (suc k + exts_needed c) (min 72 c)) ≡ min 72 c = length_allocated n (suc k + exts_needed c) (min 72 c) in
       omega arith
 
   pub fits_head : (kind : Kind) (nodes : List ℕ) (all : List Entry) (i k : ℕ) (e : Entry) (es : List Entry) → ((j : ℕ) → slice_index nodes j < 2 ^ 32)
@@ -122,13 +122,13 @@ module _ (n total : ℕ) (small : n < 2 ^ 32) (few : total < 2 ^ 32) (below : (k
 
   pub are_entries : (kind : Kind) (nodes : List ℕ) (all : List Entry) (i k : ℕ) (es : List Entry) → ((j : ℕ) → slice_index nodes j < 2 ^ 32)
       → k + entries_blocks kind es ≤ total
-      → ((j : ℕ) (e : Entry) → At es j e → (is_name e.name ≡ true) × (length e.meta.comment ≤ 79)) → AreBlocks n (entries_parts n kind nodes all i k es)
+      → ((j : ℕ) (e : Entry) → At es j e → (is_name e.name ≡ true) × (length e.meta.comment ≤ 79)) → AreBlocks n (entries_writes n kind nodes all i k es)
   are_entries kind nodes all i k [] near l f = tt
   are_entries kind nodes all i k (e ∷ es) near l f =
       let g = f 0 e refl in
       let b : k < total = omega arith in (
         below k b,
         length_head_block (head_of n kind nodes all i k e es) (fits_head kind nodes all i k e es near b g.0 g.1),
-        are-append n (body_parts n kind k e.body) (entries_parts n kind nodes all (suc i) (k + entry_blocks kind e) es) (are_body kind k e.body (omega arith))
+        are-append n (body_writes n kind k e.body) (entries_writes n kind nodes all (suc i) (k + entry_blocks kind e) es) (are_body kind k e.body (omega arith))
             (are_entries kind nodes all (suc i) (k + entry_blocks kind e) es near (omega arith) (λ j d h. f (suc j) d h)),
       )

@@ -5,12 +5,12 @@ use Rattle.adf_tree.specs.Tree.{Tree}
 use Rattle.adf_blocks.specs.Sizes.{blocks, is_allowed}
 use Rattle.adf_volume.specs.Fits.{Fits}
 use Rattle.adf_volume.proofs.Sizes.{size_high}
-use Rattle.adf_build.specs.Laid.{IsLaid, IsSound, parts, volume}
-use Rattle.adf_build.specs.Lay.{lay}
+use Rattle.adf_build.specs.Laid.{IsLaid, IsSound, writes, volume}
+use Rattle.adf_build.specs.Writes.{with_blocks}
 use Rattle.adf_build.specs.Plan.{blocks_needed, entries_blocks, planned, reserved}
 use Rattle.adf_build.specs.Building.{HasRoom, need_of}
 use Rattle.adf_build.proofs.LaidFits.{laid_fits}
-use Rattle.adf_build.proofs.LaidParts.{volume_blocks}
+use Rattle.adf_build.proofs.LaidWrites.{volume_blocks}
 
 -- the blocks that are left for entries, where there is room
 pub total_is : (t : Tree) (n need : ℕ) → is_allowed n ≡ true → need ≡ need_of t n → need ≤ n - 2 → need ≡ 1 + reserved n + entries_blocks t.kind t.entries
@@ -18,7 +18,7 @@ total_is t n need a e h =
     let high = size_high n a in
     omega arith
 
-pub laid_bytes : (t : Tree) (n : ℕ) → lay (replicate (n * 512) 0) (parts t n) ≡ volume t n
+pub laid_bytes : (t : Tree) (n : ℕ) → with_blocks (replicate (n * 512) 0) (writes t n) ≡ volume t n
 unfolding volume
 laid_bytes t n = refl
 

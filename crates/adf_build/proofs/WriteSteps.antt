@@ -10,12 +10,12 @@ use Rattle.adf_tree.specs.declared.entry.Entry.{Entry}
 use Rattle.adf_tree.specs.Tree.{Tree}
 use Rattle.adf_volume.specs.Image.{chunk}
 use Rattle.adf_volume.specs.Layout.{nodes_from}
-use Rattle.adf_build.specs.Lay.{lay}
-use Rattle.adf_build.specs.Laid.{data_bytes, data_parts, entries_parts, first_block, given_or_none, heads_from, node_blocks, slots_of}
-use Rattle.adf_build.specs.Plan.{entries_blocks, entry_blocks, given}
-use Rattle.adf_build.specs.Building.{IsSoundEntry, entry_parts}
+use Rattle.adf_build.specs.Writes.{with_blocks}
+use Rattle.adf_build.specs.Laid.{data_bytes, data_writes, entries_writes, first_block, nth_free_or_none, heads_from, node_blocks, slots_of}
+use Rattle.adf_build.specs.Plan.{entries_blocks, entry_blocks, nth_free}
+use Rattle.adf_build.specs.Building.{IsSoundEntry, entry_writes}
 use Rattle.adf_build.specs.declared.heads.Spot.{Spot}
-use Rattle.adf_build.proofs.Lays.{lay-append}
+use Rattle.adf_build.proofs.BlockWrites.{with_blocks-append}
 use Rattle.adf_build.proofs.Order.{place_is}
 
 -- the bytes past a block, or past all
@@ -28,21 +28,21 @@ drop_min k m l e = elim (cases_lt k (length l)) [
 -- one data block more
 pub datas_step : (image old all : List ℕ) (n : ℕ) (kind : Kind) (head k j count : ℕ) (left rest : List ℕ) → j < count
     → rest ≡ drop (chunk kind) left
-    → lay old (data_parts n kind head (k + j) (1 + j) left (count - j)) ≡ all
-    → image ≡ with_block old (given n (k + j)) (data_bytes kind head (1 + j) (given_or_none n (k + j + 1) (count - (j + 1))) (take (chunk kind) left))
-    → lay image (data_parts n kind head (k + (j + 1)) (1 + (j + 1)) rest (count - (j + 1))) ≡ all
+    → with_blocks old (data_writes n kind head (k + j) (1 + j) left (count - j)) ≡ all
+    → image ≡ with_block old (nth_free n (k + j)) (data_bytes kind head (1 + j) (nth_free_or_none n (k + j + 1) (count - (j + 1))) (take (chunk kind) left))
+    → with_blocks image (data_writes n kind head (k + (j + 1)) (1 + (j + 1)) rest (count - (j + 1))) ≡ all
 datas_step image old all n kind head k j count left rest lt e inv w =
     let m : ℕ = count - (j + 1) in
     let split : count - j ≡ suc m = omega arith in
     let a : k + (j + 1) ≡ suc (k + j) = omega arith in
     let b : 1 + (j + 1) ≡ suc (1 + j) = omega arith in
     let c : k + j + 1 ≡ suc (k + j) = omega arith in
-    ap (λ i. lay image (data_parts n kind head i (1 + (j + 1)) rest m)) a
-    ∙ ap (λ i. lay image (data_parts n kind head (suc (k + j)) i rest m)) b
-    ∙ ap (λ r. lay image (data_parts n kind head (suc (k + j)) (suc (1 + j)) r m)) e
-    ∙ ap (λ im. lay im (data_parts n kind head (suc (k + j)) (suc (1 + j)) (drop (chunk kind) left) m))
-    (w ∙ ap (λ i. with_block old (given n (k + j)) (data_bytes kind head (1 + j) (given_or_none n i m) (take (chunk kind) left))) c)
-    ∙ sym (ap (λ m. lay old (data_parts n kind head (k + j) (1 + j) left m)) split) ∙ inv
+    ap (λ i. with_blocks image (data_writes n kind head i (1 + (j + 1)) rest m)) a
+    ∙ ap (λ i. with_blocks image (data_writes n kind head (suc (k + j)) i rest m)) b
+    ∙ ap (λ r. with_blocks image (data_writes n kind head (suc (k + j)) (suc (1 + j)) r m)) e
+    ∙ ap (λ im. with_blocks im (data_writes n kind head (suc (k + j)) (suc (1 + j)) (drop (chunk kind) left) m))
+    (w ∙ ap (λ i. with_block old (nth_free n (k + j)) (data_bytes kind head (1 + j) (nth_free_or_none n i m) (take (chunk kind) left))) c)
+    ∙ sym (ap (λ m. with_blocks old (data_writes n kind head (k + j) (1 + j) left m)) split) ∙ inv
 
 heads_length : (n : ℕ) (kind : Kind) (k : ℕ) (es : List Entry) → length (heads_from n kind k es) ≡ length es
 heads_length n kind k [] = refl
@@ -66,9 +66,9 @@ pub entry_step : (image old : List ℕ) (n : ℕ) (kind : Kind) (nodes : List �
     → left ≡ e ∷ rest → p ≡ suc i → j ≡ k + entry_blocks kind e
     → spot ≡ record { k = k; parent = slice_index nodes e.parent; next = first_block (slice_index nodes) (nodes_from (suc i) rest e.parent (slot_of e.name)) }
     → slots ≡ slots_of nodes es i
-    → lay old (entries_parts n kind nodes es i k left) ≡ end
-    → image ≡ lay old (entry_parts n kind spot slots e)
-    → lay image (entries_parts n kind nodes es p j rest) ≡ end
+    → with_blocks old (entries_writes n kind nodes es i k left) ≡ end
+    → image ≡ with_blocks old (entry_writes n kind spot slots e)
+    → with_blocks image (entries_writes n kind nodes es p j rest) ≡ end
 entry_step image old n kind nodes es i p k j left rest e spot slots end split up skip e-spot e-slots inv written =
     let here : Spot = record {
       k = k;
@@ -76,15 +76,15 @@ entry_step image old n kind nodes es i p k j left rest e spot slots end split up
       next =
           first_block (slice_index nodes) (nodes_from (suc i) rest e.parent (slot_of e.name));
     } in
-    let parts : List (ℕ × List ℕ) = entry_parts n kind here (slots_of nodes es i) e in
-    let more : List (ℕ × List ℕ) = entries_parts n kind nodes es (suc i) (k + entry_blocks kind e) rest in
-    let one : image ≡ lay old parts =
-    written ∙ ap (λ s. lay old (entry_parts n kind s slots e)) e-spot ∙ ap (λ s. lay old (entry_parts n kind here s e)) e-slots in
-    ap (λ j. lay image (entries_parts n kind nodes es p j rest)) skip
-    ∙ ap (λ i. lay image (entries_parts n kind nodes es i (k + entry_blocks kind e) rest)) up
-    ∙ ap (λ im. lay im more) one
-    ∙ sym (lay-append old parts more)
-    ∙ ap (λ l. lay old (entries_parts n kind nodes es i k l)) (sym split)
+    let writes : List (ℕ × List ℕ) = entry_writes n kind here (slots_of nodes es i) e in
+    let more : List (ℕ × List ℕ) = entries_writes n kind nodes es (suc i) (k + entry_blocks kind e) rest in
+    let one : image ≡ with_blocks old writes =
+    written ∙ ap (λ s. with_blocks old (entry_writes n kind s slots e)) e-spot ∙ ap (λ s. with_blocks old (entry_writes n kind here s e)) e-slots in
+    ap (λ j. with_blocks image (entries_writes n kind nodes es p j rest)) skip
+    ∙ ap (λ i. with_blocks image (entries_writes n kind nodes es i (k + entry_blocks kind e) rest)) up
+    ∙ ap (λ im. with_blocks im more) one
+    ∙ sym (with_blocks-append old writes more)
+    ∙ ap (λ l. with_blocks old (entries_writes n kind nodes es i k l)) (sym split)
     ∙ inv
 
 -- one entry more is sound

@@ -5,7 +5,7 @@ use Rattle.std.proofs.Common.{zero, suc}
 use Rattle.adf_blocks.specs.Sizes.{middle}
 use Rattle.adf_build.specs.Plan.{reserved}
 
--- block b is the root, a reserved block or one of the first `total` given blocks
+-- block b is the root, a reserved block or one of the first `total` free blocks
 unfoldable pub is_used : ℕ → ℕ → ℕ → Bool
 is_used n total b = (nat_le (middle n) b && nat_le b (middle n + reserved n)) || nat_lt (cond (nat_lt b (middle n)) (b - 2) (b - 3 - reserved n)) total
 

@@ -8,8 +8,8 @@ use Rattle.adf_tree.specs.declared.entry.Kind.{Kind}
 use Rattle.adf_blocks.specs.HeadBlock.{FitsMeta, HeadFields, head_block}
 use Rattle.adf_blocks.specs.HeadBlock.BodyFields.{FileFields}
 use Rattle.adf_blocks.specs.Sizes.{is_allowed}
-use Rattle.adf_build.specs.Plan.{blocks_needed, exts_needed, given, run}
-use Rattle.adf_build.specs.Laid.{body_of, body_parts, given_or_none}
+use Rattle.adf_build.specs.Plan.{blocks_needed, exts_needed, nth_free, allocated}
+use Rattle.adf_build.specs.Laid.{body_of, body_writes, nth_free_or_none}
 use Rattle.adf_build.specs.declared.heads.Spot.{Spot}
 use Rattle.adf_build.specs.declared.builder.BuildFault.{BuildFault}
 use Rattle.adf_build.specs.declared.builder.BuildFault.TheVariants.{BadSize, Full, NoMemory}
@@ -44,7 +44,7 @@ pub record IsSoundEntry (e : Entry) : Type 0 where
 -- the fields of the header of an entry with these slots, in a volume of n blocks
 abbrev pub header : ℕ → Kind → Spot → List ℕ → Entry → HeadFields
 header n kind spot slots e = record {
-  own = given n spot.k;
+  own = nth_free n spot.k;
   parent = spot.parent;
   next = spot.next;
   name = e.name;
@@ -55,14 +55,14 @@ header n kind spot slots e = record {
 -- the fields of the header of a file of so many bytes in so many data blocks
 abbrev pub file_header : ℕ → Spot → ℕ → ℕ → Entry → HeadFields
 file_header n spot size datas e = record {
-  own = given n spot.k;
+  own = nth_free n spot.k;
   parent = spot.parent;
   next = spot.next;
   name = e.name;
   meta = e.meta;
-  body = FileFields size (run n (suc spot.k + exts_needed datas) (min 72 datas)) (given_or_none n (suc spot.k) (exts_needed datas));
+  body = FileFields size (allocated n (suc spot.k + exts_needed datas) (min 72 datas)) (nth_free_or_none n (suc spot.k) (exts_needed datas));
 }
 
 -- the blocks of an entry with these slots, in a volume of n blocks
-abbrev pub entry_parts : ℕ → Kind → Spot → List ℕ → Entry → List (ℕ × List ℕ)
-entry_parts n kind spot slots e = (given n spot.k, head_block (header n kind spot slots e)) ∷ body_parts n kind spot.k e.body
+abbrev pub entry_writes : ℕ → Kind → Spot → List ℕ → Entry → List (ℕ × List ℕ)
+entry_writes n kind spot slots e = (nth_free n spot.k, head_block (header n kind spot slots e)) ∷ body_writes n kind spot.k e.body

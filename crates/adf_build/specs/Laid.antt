@@ -1,5 +1,5 @@
 -- The image that the builder lays: each part of the volume in its place, and zeros elsewhere. In each definition n is the number of
--- blocks, k the number of the next given block, and `nodes` the list of the blocks of all nodes, the root's first.
+-- blocks, k the number of the next free block, and `nodes` the list of the blocks of all nodes, the root's first.
 use Rattle.std.specs.Prelude.{◌≡◌, ◌≤◌, ℕ, List, [], ◌∷◌, ◌++◌, ◌+◌, ◌-◌, ◌*◌, nat_lt, cond, length, take, drop, map, replicate, slice_index, min, true}
 use Rattle.std.specs.List.{range_with_len, All}
 use Rattle.std.proofs.Common.{zero, suc}
@@ -12,7 +12,7 @@ use Rattle.adf_tree.specs.declared.entry.Body.TheVariants.{Dir, File}
 use Rattle.adf_tree.specs.declared.entry.Entry.{Entry}
 use Rattle.adf_tree.specs.Tree.{Tree, IsTree}
 use Rattle.adf_blocks.specs.Sizes.{blocks, middle, is_allowed, pages_needed}
-use Rattle.adf_blocks.specs.Fields.{laid}
+use Rattle.adf_blocks.specs.Fields.{block_of_fields}
 use Rattle.adf_blocks.specs.RootBlock.{RootFields, root_block, FitsStamps}
 use Rattle.adf_blocks.specs.PageBlock.{page_block}
 use Rattle.adf_blocks.specs.MapExtBlock.{map_ext_block}
@@ -22,8 +22,8 @@ use Rattle.adf_blocks.specs.ExtBlock.{ExtFields, ext_block}
 use Rattle.adf_blocks.specs.DataBlock.{data_block}
 use Rattle.adf_volume.specs.Image.{chunk, count, map_exts_needed}
 use Rattle.adf_volume.specs.Layout.{nodes_from}
-use Rattle.adf_build.specs.Plan.{exts_needed, entry_blocks, entries_blocks, blocks_needed, given, run, row}
-use Rattle.adf_build.specs.Lay.{lay}
+use Rattle.adf_build.specs.Plan.{exts_needed, entry_blocks, entries_blocks, blocks_needed, nth_free, allocated}
+use Rattle.adf_build.specs.Writes.{with_blocks}
 use Rattle.adf_build.specs.Bits.{page_words}
 
 -- the block of the first node of a chain, or 0
@@ -31,56 +31,56 @@ abbrev pub first_block : (ℕ → ℕ) → List ℕ → ℕ
 first_block at [] = 0
 first_block at (n ∷ ns) = at n
 
--- what stands in the table or in a next word for the first of m blocks from the k-th given one on: that block, or 0 where m is 0
-abbrev pub given_or_none : ℕ → ℕ → ℕ → ℕ
-given_or_none n k m = cond (nat_lt 0 m) (given n k) 0
+-- what stands in the table or in a next word for the first of m blocks from the k-th free one on: that block, or 0 where m is 0
+abbrev pub nth_free_or_none : ℕ → ℕ → ℕ → ℕ
+nth_free_or_none n k m = cond (nat_lt 0 m) (nth_free n k) 0
 
 -- a data block of a kind: these bytes, and for OFS the words before them
 abbrev pub data_bytes : Kind → ℕ → ℕ → ℕ → List ℕ → List ℕ
 data_bytes Ofs head number next held = data_block (record { head = head; number = number; next = next; bytes = held })
-data_bytes Ffs head number next held = laid ((0, held) ∷ [])
+data_bytes Ffs head number next held = block_of_fields ((0, held) ∷ [])
 
--- m data blocks of bytes, the first with this number and at the k-th given block
-abbrev pub data_parts : ℕ → Kind → ℕ → ℕ → ℕ → List ℕ → ℕ → List (ℕ × List ℕ)
-data_parts n kind head k number bytes zero = []
-data_parts n kind head k number bytes (suc m) =
-    (given n k, data_bytes kind head number (given_or_none n (suc k) m) (take (chunk kind) bytes))
-    ∷ data_parts n kind head (suc k) (suc number) (drop (chunk kind) bytes) m
+-- m data blocks of bytes, the first with this number and at the k-th free block
+abbrev pub data_writes : ℕ → Kind → ℕ → ℕ → ℕ → List ℕ → ℕ → List (ℕ × List ℕ)
+data_writes n kind head k number bytes zero = []
+data_writes n kind head k number bytes (suc m) =
+    (nth_free n k, data_bytes kind head number (nth_free_or_none n (suc k) m) (take (chunk kind) bytes))
+    ∷ data_writes n kind head (suc k) (suc number) (drop (chunk kind) bytes) m
 
--- the fields of an extension block at the k-th given block, followed by m others, that names up to 72 of c data blocks from the d-th given one on
-abbrev pub ext_laid : ℕ → ℕ → ℕ → ℕ → ℕ → ℕ → ExtFields
-ext_laid n head k d c m = record { own = given n k; head = head; table = run n d (min 72 c); next = given_or_none n (suc k) m }
+-- the fields of an extension block at the k-th free block, followed by m others, that names up to 72 of c data blocks from the d-th free one on
+abbrev pub planned_ext : ℕ → ℕ → ℕ → ℕ → ℕ → ℕ → ExtFields
+planned_ext n head k d c m = record { own = nth_free n k; head = head; table = allocated n d (min 72 c); next = nth_free_or_none n (suc k) m }
 
--- m extension blocks, the first at the k-th given block, that name c data blocks from the d-th given one on
-abbrev pub ext_parts : ℕ → ℕ → ℕ → ℕ → ℕ → ℕ → List (ℕ × List ℕ)
-ext_parts n head k d c zero = []
-ext_parts n head k d c (suc m) =
-    (given n k, ext_block (ext_laid n head k d c m))
-    ∷ ext_parts n head (suc k) (d + 72) (c - 72) m
+-- m extension blocks, the first at the k-th free block, that name c data blocks from the d-th free one on
+abbrev pub ext_writes : ℕ → ℕ → ℕ → ℕ → ℕ → ℕ → List (ℕ × List ℕ)
+ext_writes n head k d c zero = []
+ext_writes n head k d c (suc m) =
+    (nth_free n k, ext_block (planned_ext n head k d c m))
+    ∷ ext_writes n head (suc k) (d + 72) (c - 72) m
 
 -- the slots of node p: the block of the first member of each chain, or 0
 abbrev pub slots_of : List ℕ → List Entry → ℕ → List ℕ
 slots_of nodes es p = map (λ s. first_block (slice_index nodes) (nodes_from 1 es p s)) (range_with_len 0 72)
 
--- the fields of a header at the k-th given block that depend on its body
+-- the fields of a header at the k-th free block that depend on its body
 abbrev pub body_of : ℕ → ℕ → Kind → List ℕ → Body → BodyFields
 body_of n k kind slots Dir = DirFields slots
 body_of n k kind slots (File bytes) =
     let c = count kind (length bytes) in
-    FileFields (length bytes) (run n (suc k + exts_needed c) (min 72 c)) (given_or_none n (suc k) (exts_needed c))
+    FileFields (length bytes) (allocated n (suc k + exts_needed c) (min 72 c)) (nth_free_or_none n (suc k) (exts_needed c))
 
--- the blocks of a body, behind the header at the k-th given block
-abbrev pub body_parts : ℕ → Kind → ℕ → Body → List (ℕ × List ℕ)
-body_parts n kind k Dir = []
-body_parts n kind k (File bytes) =
+-- the blocks of a body, behind the header at the k-th free block
+abbrev pub body_writes : ℕ → Kind → ℕ → Body → List (ℕ × List ℕ)
+body_writes n kind k Dir = []
+body_writes n kind k (File bytes) =
     let c = count kind (length bytes) in
-    ext_parts n (given n k) (suc k) (suc k + exts_needed c + 72) (c - 72) (exts_needed c)
-    ++ data_parts n kind (given n k) (suc k + exts_needed c) 1 bytes c
+    ext_writes n (nth_free n k) (suc k) (suc k + exts_needed c + 72) (c - 72) (exts_needed c)
+    ++ data_writes n kind (nth_free n k) (suc k + exts_needed c) 1 bytes c
 
--- the fields of the header of entry i at the k-th given block; es are the entries after it, `all` are all entries
+-- the fields of the header of entry i at the k-th free block; es are the entries after it, `all` are all entries
 abbrev pub head_of : ℕ → Kind → List ℕ → List Entry → ℕ → ℕ → Entry → List Entry → HeadFields
 head_of n kind nodes all i k e es = record {
-  own = given n k;
+  own = nth_free n k;
   parent = slice_index nodes e.parent;
   next = first_block (slice_index nodes) (nodes_from (suc i) es e.parent (slot_of e.name));
   name = e.name;
@@ -89,25 +89,25 @@ head_of n kind nodes all i k e es = record {
 }
 
 -- the blocks of entries, from entry i on
-abbrev pub entries_parts : ℕ → Kind → List ℕ → List Entry → ℕ → ℕ → List Entry → List (ℕ × List ℕ)
-entries_parts n kind nodes all i k [] = []
-entries_parts n kind nodes all i k (e ∷ es) =
-    (given n k, head_block (head_of n kind nodes all i k e es))
-    ∷ (body_parts n kind k e.body ++ entries_parts n kind nodes all (suc i) (k + entry_blocks kind e) es)
+abbrev pub entries_writes : ℕ → Kind → List ℕ → List Entry → ℕ → ℕ → List Entry → List (ℕ × List ℕ)
+entries_writes n kind nodes all i k [] = []
+entries_writes n kind nodes all i k (e ∷ es) =
+    (nth_free n k, head_block (head_of n kind nodes all i k e es))
+    ∷ (body_writes n kind k e.body ++ entries_writes n kind nodes all (suc i) (k + entry_blocks kind e) es)
 
--- the blocks of the headers of entries, the first at the k-th given block
+-- the blocks of the headers of entries, the first at the k-th free block
 abbrev pub heads_from : ℕ → Kind → ℕ → List Entry → List ℕ
 heads_from n kind k [] = []
-heads_from n kind k (e ∷ es) = given n k ∷ heads_from n kind (k + entry_blocks kind e) es
+heads_from n kind k (e ∷ es) = nth_free n k ∷ heads_from n kind (k + entry_blocks kind e) es
 
 -- the blocks of all nodes
 abbrev pub node_blocks : Tree → ℕ → List ℕ
 node_blocks t n = middle n ∷ heads_from n t.kind 0 t.entries
 
 -- m pages, from page j on
-abbrev pub page_parts : ℕ → ℕ → ℕ → ℕ → List (ℕ × List ℕ)
-page_parts n total j zero = []
-page_parts n total j (suc m) = (middle n + 1 + j, page_block (page_words n total j)) ∷ page_parts n total (suc j) m
+abbrev pub page_writes : ℕ → ℕ → ℕ → ℕ → List (ℕ × List ℕ)
+page_writes n total j zero = []
+page_writes n total j (suc m) = (middle n + 1 + j, page_block (page_words n total j)) ∷ page_writes n total (suc j) m
 
 -- what names the first of m bitmap extension blocks, the one with number j: its block, or 0 where m is 0
 abbrev pub map_ext_or_none : ℕ → ℕ → ℕ → ℕ
@@ -115,14 +115,14 @@ map_ext_or_none n j m = cond (nat_lt 0 m) (middle n + 1 + pages_needed n + j) 0
 
 -- the pages that bitmap extension block j names: up to 127, from page 25 + 127 * j on
 abbrev pub listed_pages : ℕ → ℕ → List ℕ
-listed_pages n j = row (middle n + 1 + (25 + 127 * j)) (min 127 (pages_needed n - (25 + 127 * j)))
+listed_pages n j = range_with_len (middle n + 1 + (25 + 127 * j)) (min 127 (pages_needed n - (25 + 127 * j)))
 
 -- m bitmap extension blocks, from number j on
-abbrev pub map_ext_parts : ℕ → ℕ → ℕ → List (ℕ × List ℕ)
-map_ext_parts n j zero = []
-map_ext_parts n j (suc m) =
+abbrev pub map_ext_writes : ℕ → ℕ → ℕ → List (ℕ × List ℕ)
+map_ext_writes n j zero = []
+map_ext_writes n j (suc m) =
     (middle n + 1 + pages_needed n + j, map_ext_block (listed_pages n j) (map_ext_or_none n (suc j) m))
-    ∷ map_ext_parts n (suc j) m
+    ∷ map_ext_writes n (suc j) m
 
 -- the boot block begins with `DOS` and the type
 abbrev pub boot_bytes : Kind → List ℕ
@@ -130,26 +130,26 @@ boot_bytes Ofs = 0x44 ∷ 0x4F ∷ 0x53 ∷ 0 ∷ []
 boot_bytes Ffs = 0x44 ∷ 0x4F ∷ 0x53 ∷ 1 ∷ []
 
 -- the fields of the root: it names its first headers, the first 25 pages and the first bitmap extension block
-abbrev pub root_laid : Tree → ℕ → RootFields
-root_laid t n = record {
+abbrev pub planned_root : Tree → ℕ → RootFields
+planned_root t n = record {
   slots = slots_of (node_blocks t n) t.entries 0;
-  pages = row (middle n + 1) (min 25 (pages_needed n));
+  pages = range_with_len (middle n + 1) (min 25 (pages_needed n));
   map_ext = map_ext_or_none n 0 (map_exts_needed (pages_needed n));
   label = t.label;
   stamps = t.stamps;
 }
 
 -- every block that is written, with its bytes
-abbrev pub parts : Tree → ℕ → List (ℕ × List ℕ)
-parts t n =
-    entries_parts n t.kind (node_blocks t n) t.entries 1 0 t.entries
-    ++ (page_parts n (entries_blocks t.kind t.entries) 0 (pages_needed n)
-    ++ (map_ext_parts n 0 (map_exts_needed (pages_needed n))
-    ++ (middle n, root_block (root_laid t n)) ∷ (0, laid ((0, boot_bytes t.kind) ∷ [])) ∷ []))
+abbrev pub writes : Tree → ℕ → List (ℕ × List ℕ)
+writes t n =
+    entries_writes n t.kind (node_blocks t n) t.entries 1 0 t.entries
+    ++ (page_writes n (entries_blocks t.kind t.entries) 0 (pages_needed n)
+    ++ (map_ext_writes n 0 (map_exts_needed (pages_needed n))
+    ++ (middle n, root_block (planned_root t n)) ∷ (0, block_of_fields ((0, boot_bytes t.kind) ∷ [])) ∷ []))
 
 -- the volume of n blocks that the builder lays for a tree
 unfoldable pub volume : Tree → ℕ → List ℕ
-volume t n = lay (replicate (n * 512) 0) (parts t n)
+volume t n = with_blocks (replicate (n * 512) 0) (writes t n)
 
 -- the image is what the builder lays for the tree, in a volume of an allowed size that has room for it
 pub record IsLaid (image : List ℕ) (t : Tree) : Type 0 where

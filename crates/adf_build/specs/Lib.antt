@@ -1,5 +1,5 @@
 pub mod Plan
-pub mod Lay
+pub mod Writes
 pub mod Bits
 pub mod Laid
 pub mod Building

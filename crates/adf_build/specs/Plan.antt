@@ -1,6 +1,7 @@
 -- Where the builder lays the parts of a tree, in a volume of n blocks: the root in the middle, behind it the pages and the bitmap
--- extension blocks. The other blocks from 2 on are given ascending to the entries in order: the k-th of them is `given n k`.
+-- extension blocks. The other blocks from 2 on are free for the entries, ascending in order: the k-th of them is `nth_free n k`.
 use Rattle.std.specs.Prelude.{ℕ, List, [], ◌∷◌, ◌+◌, ◌-◌, ◌/◌, nat_lt, cond, length}
+use Rattle.std.specs.List.{range_with_len}
 use Rattle.std.proofs.Common.{zero, suc}
 use Rattle.adf_tree.specs.declared.entry.Kind.{Kind}
 use Rattle.adf_tree.specs.declared.entry.Body.{Body}
@@ -37,29 +38,24 @@ reserved n = pages_needed n + map_exts_needed (pages_needed n)
 abbrev pub blocks_needed : Tree → ℕ → ℕ
 blocks_needed t n = 1 + reserved n + entries_blocks t.kind t.entries
 
--- the k-th block that is given to entries
-unfoldable pub given : ℕ → ℕ → ℕ
-given n k = cond (nat_lt (2 + k) (middle n)) (2 + k) (3 + k + reserved n)
+-- the k-th block that is free for entries
+unfoldable pub nth_free : ℕ → ℕ → ℕ
+nth_free n k = cond (nat_lt (2 + k) (middle n)) (2 + k) (3 + k + reserved n)
 
--- m given blocks, from the k-th on
-abbrev pub run : ℕ → ℕ → ℕ → List ℕ
-run n k zero = []
-run n k (suc m) = given n k ∷ run n (suc k) m
+-- m free blocks, from the k-th on
+abbrev pub allocated : ℕ → ℕ → ℕ → List ℕ
+allocated n k zero = []
+allocated n k (suc m) = nth_free n k ∷ allocated n (suc k) m
 
--- m blocks, from b on
-abbrev pub row : ℕ → ℕ → List ℕ
-row b zero = []
-row b (suc m) = b ∷ row (suc b) m
-
--- where an entry with this body lies, whose header is the k-th given block
+-- where an entry with this body lies, whose header is the k-th free block
 abbrev pub place_of : ℕ → Kind → ℕ → Body → Place
 place_of n kind k body = record {
-  head = given n k;
-  exts = run n (suc k) (exts_needed (data_blocks kind body));
-  datas = run n (suc k + exts_needed (data_blocks kind body)) (data_blocks kind body);
+  head = nth_free n k;
+  exts = allocated n (suc k) (exts_needed (data_blocks kind body));
+  datas = allocated n (suc k + exts_needed (data_blocks kind body)) (data_blocks kind body);
 }
 
--- where entries lie, the first from the k-th given block on
+-- where entries lie, the first from the k-th free block on
 abbrev pub places_from : ℕ → Kind → ℕ → List Entry → List Place
 places_from n kind k [] = []
 places_from n kind k (e ∷ es) = place_of n kind k e.body ∷ places_from n kind (k + entry_blocks kind e) es
@@ -67,7 +63,7 @@ places_from n kind k (e ∷ es) = place_of n kind k e.body ∷ places_from n kin
 -- where the builder lays a tree
 abbrev pub planned : Tree → ℕ → Layout
 planned t n = record {
-  pages = row (middle n + 1) (pages_needed n);
-  map_exts = row (middle n + 1 + pages_needed n) (map_exts_needed (pages_needed n));
+  pages = range_with_len (middle n + 1) (pages_needed n);
+  map_exts = range_with_len (middle n + 1 + pages_needed n) (map_exts_needed (pages_needed n));
   places = places_from n t.kind 0 t.entries;
 }

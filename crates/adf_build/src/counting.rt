@@ -7,7 +7,7 @@ ghost use Rattle.adf_build.specs.Plan.{data_blocks, entry_blocks, exts_needed};
 ghost use Rattle.adf_build.specs.Building.{need_of};
 ghost use Rattle.adf_volume.specs.Image.{chunk, count};
 
-use crate::given::reserved_count;
+use crate::allocation::reserved_count;
 use adf_blocks::is_allowed_size;
 use adf_tree::{Body, Entry, Kind, Node, Tree};
 

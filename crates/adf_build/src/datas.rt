@@ -2,15 +2,15 @@
 
 ghost use Rattle.std.specs.Prelude.{◌≡◌, ◌≤◌, ◌<◌, ◌+◌, ◌-◌, ◌*◌, [], ◌∷◌, true, length};
 ghost use Rattle.adf_fields.specs.Words.{with_block};
-ghost use Rattle.adf_blocks.specs.Fields.{laid};
+ghost use Rattle.adf_blocks.specs.Fields.{block_of_fields};
 ghost use Rattle.adf_blocks.specs.Sizes.{is_allowed};
 ghost use Rattle.adf_volume.specs.Image.{chunk};
-ghost use Rattle.adf_build.specs.Laid.{data_bytes, data_parts};
-ghost use Rattle.adf_build.specs.Lay.{lay};
-ghost use Rattle.adf_build.specs.Plan.{given, reserved};
+ghost use Rattle.adf_build.specs.Laid.{data_bytes, data_writes};
+ghost use Rattle.adf_build.specs.Writes.{with_blocks};
+ghost use Rattle.adf_build.specs.Plan.{nth_free, reserved};
 
 use crate::counting::bytes_of_block;
-use crate::given::{given_block, given_or_none};
+use crate::allocation::{nth_free, nth_free_or_none};
 use adf_blocks::{DataOut, write_data};
 use adf_fields::{put_block, put_bytes};
 use adf_tree::Kind;
@@ -18,7 +18,7 @@ use adf_tree::Kind;
 // The 512 bytes of an FFS data block: the bytes held, and 0 behind them.
 fn bare_block(held: &[u8]) -> [u8; 512]
     requires { length held.now ≤ 512 }
-    ensures { result ≡ laid ((0, held.now) ∷ []) }
+    ensures { result ≡ block_of_fields ((0, held.now) ∷ []) }
 {
     let mut block = [0u8; 512];
     put_bytes(&mut block, 0, held);
@@ -38,8 +38,8 @@ fn write_one(image: &mut [u8], b: u32, kind: Kind, data: &DataOut<'_>)
     }
 }
 
-/// Writes bytes into `count` data blocks, from the `k`-th given block on, of the file whose header is block `head`.
-#[tactic(auto, using(crate::proofs::GivenBlocks::given_fits))]
+/// Writes bytes into `count` data blocks, from the `k`-th free block on, of the file whose header is block `head`.
+#[tactic(auto, using(crate::proofs::FreeBlocks::free_fits))]
 pub fn write_datas(
     image: &mut [u8],
     blocks: u32,
@@ -52,7 +52,7 @@ pub fn write_datas(
     requires size { is_allowed blocks ≡ true }
     requires whole { length image.old ≡ blocks * 512 }
     requires room { 1 + reserved blocks + (k + count) ≤ blocks - 2 }
-    ensures { image.new ≡ lay image.old (data_parts blocks kind head k 1 bytes.now count) }
+    ensures { image.new ≡ with_blocks image.old (data_writes blocks kind head k 1 bytes.now count) }
 {
     let mut left = bytes;
     for j in 0..count {
@@ -60,10 +60,10 @@ pub fn write_datas(
         let data = DataOut {
             head,
             number: 1 + j,
-            next: given_or_none(blocks, k + j + 1, count - (j + 1)),
+            next: nth_free_or_none(blocks, k + j + 1, count - (j + 1)),
             bytes: held,
         };
-        write_one(image, given_block(blocks, k + j), kind, &data);
+        write_one(image, nth_free(blocks, k + j), kind, &data);
         left = rest;
     }
 }

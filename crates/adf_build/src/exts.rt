@@ -2,16 +2,16 @@
 
 ghost use Rattle.std.specs.Prelude.{◌≡◌, ◌≤◌, ◌<◌, ◌+◌, ◌-◌, ◌*◌, ◌^◌, true, length};
 ghost use Rattle.adf_blocks.specs.Sizes.{is_allowed};
-ghost use Rattle.adf_build.specs.Laid.{ext_parts};
-ghost use Rattle.adf_build.specs.Lay.{lay};
-ghost use Rattle.adf_build.specs.Plan.{given, reserved};
+ghost use Rattle.adf_build.specs.Laid.{ext_writes};
+ghost use Rattle.adf_build.specs.Writes.{with_blocks};
+ghost use Rattle.adf_build.specs.Plan.{nth_free, reserved};
 
-use crate::given::{given_block, given_or_none, table_of};
+use crate::allocation::{nth_free, nth_free_or_none, table_of};
 use adf_blocks::{ExtOut, write_ext};
 
-/// Writes `count` extension blocks, from the `k`-th given block on, of the file whose header is block `head`: they name
-/// `datas` data blocks, from the `d`-th given block on.
-#[tactic(auto, using(crate::proofs::GivenBlocks::given_fits))]
+/// Writes `count` extension blocks, from the `k`-th free block on, of the file whose header is block `head`: they name
+/// `datas` data blocks, from the `d`-th free block on.
+#[tactic(auto, using(crate::proofs::FreeBlocks::free_fits))]
 pub fn write_exts(
     image: &mut [u8],
     blocks: u32,
@@ -25,18 +25,18 @@ pub fn write_exts(
     requires whole { length image.old ≡ blocks * 512 }
     requires room { 1 + reserved blocks + (k + count) ≤ blocks - 2 }
     requires near { d + 72 * count < 2 ^ 29 }
-    ensures { image.new ≡ lay image.old (ext_parts blocks head k d datas count) }
+    ensures { image.new ≡ with_blocks image.old (ext_writes blocks head k d datas count) }
 {
     let mut left = datas;
     let mut next = d;
     for j in 0..count {
         let short = left.min(72);
-        let own = given_block(blocks, k + j);
+        let own = nth_free(blocks, k + j);
         let ext = ExtOut {
             own,
             head,
             table: &table_of(blocks, next, short)[..short],
-            next: given_or_none(blocks, k + j + 1, count - (j + 1)),
+            next: nth_free_or_none(blocks, k + j + 1, count - (j + 1)),
         };
         write_ext(image, own, &ext);
         left = left.saturating_sub(72);

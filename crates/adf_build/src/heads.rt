@@ -5,19 +5,19 @@ ghost use Rattle.adf_tree.specs.declared.entry.Body.TheVariants.{Dir as TheDir, 
 ghost use Rattle.adf_fields.specs.Words.{with_block};
 ghost use Rattle.adf_blocks.specs.HeadBlock.{head_block};
 ghost use Rattle.adf_blocks.specs.Sizes.{is_allowed};
-ghost use Rattle.adf_build.specs.Lay.{lay};
-ghost use Rattle.adf_build.specs.Plan.{entry_blocks, exts_needed, given, reserved};
-ghost use Rattle.adf_build.specs.Building.{IsSoundEntry, entry_parts, file_header};
+ghost use Rattle.adf_build.specs.Writes.{with_blocks};
+ghost use Rattle.adf_build.specs.Plan.{entry_blocks, exts_needed, nth_free, reserved};
+ghost use Rattle.adf_build.specs.Building.{IsSoundEntry, entry_writes, file_header};
 ghost use Rattle.adf_tree.specs.declared.entry.Kind.{Kind};
 
 use crate::counting::{data_count, ext_count};
 use crate::datas::write_datas;
 use crate::exts::write_exts;
-use crate::given::{given_block, given_or_none, table_of};
+use crate::allocation::{nth_free, nth_free_or_none, table_of};
 use adf_blocks::{HeadOut, HeadOutBody, write_head};
 use adf_tree::{Body, Entry, Kind};
 
-/// Where the header of an entry is written and what it names: its place among the given blocks, the block of its
+/// Where the header of an entry is written and what it names: its place among the free blocks, the block of its
 /// directory, and the next header of its chain or 0.
 #[derive(Clone, Copy)]
 pub struct Spot {
@@ -27,16 +27,16 @@ pub struct Spot {
 }
 
 // Writes the header of a directory.
-#[tactic(auto, using(crate::proofs::GivenBlocks::given_fits))]
+#[tactic(auto, using(crate::proofs::FreeBlocks::free_fits))]
 fn write_dir(image: &mut [u8], blocks: u32, spot: Spot, slots: [u32; 72], entry: &Entry)
     requires body { entry.now.body ≡ TheDir }
     requires size { is_allowed blocks ≡ true }
     requires whole { length image.old ≡ blocks * 512 }
     requires room { 1 + reserved blocks + (spot.k + 1) ≤ blocks - 2 }
-    ensures exact { (kind : Kind) → image.new ≡ lay image.old (entry_parts blocks kind spot slots entry.now) }
+    ensures exact { (kind : Kind) → image.new ≡ with_blocks image.old (entry_writes blocks kind spot slots entry.now) }
     ensures sound { IsSoundEntry entry.now }
 {
-    let own = given_block(blocks, spot.k);
+    let own = nth_free(blocks, spot.k);
     let head = HeadOut {
         own,
         parent: spot.parent,
@@ -60,10 +60,10 @@ fn write_file_head(
     requires size { is_allowed blocks ≡ true }
     requires whole { length image.old ≡ blocks * 512 }
     requires room { 1 + reserved blocks + (spot.k + (1 + exts_needed datas + datas)) ≤ blocks - 2 }
-    ensures exact { image.new ≡ with_block image.old (given blocks spot.k) (head_block (file_header blocks spot size datas entry.now)) }
+    ensures exact { image.new ≡ with_block image.old (nth_free blocks spot.k) (head_block (file_header blocks spot size datas entry.now)) }
     ensures sound { IsSoundEntry entry.now }
 {
-    let own = given_block(blocks, spot.k);
+    let own = nth_free(blocks, spot.k);
     let exts = ext_count(datas) as u32;
     let short = datas.min(72);
     let table = table_of(blocks, spot.k + 1 + exts, short);
@@ -76,7 +76,7 @@ fn write_file_head(
         body: HeadOutBody::File {
             size,
             table: &table[..short],
-            ext: given_or_none(blocks, spot.k + 1, exts),
+            ext: nth_free_or_none(blocks, spot.k + 1, exts),
         },
     };
     write_head(image, own, &head);
@@ -88,12 +88,12 @@ fn write_file(image: &mut [u8], blocks: u32, kind: Kind, spot: Spot, entry: &Ent
     requires size { is_allowed blocks ≡ true }
     requires whole { length image.old ≡ blocks * 512 }
     requires room { 1 + reserved blocks + (spot.k + entry_blocks kind entry.now) ≤ blocks - 2 }
-    ensures exact { (slots : List ℕ) → image.new ≡ lay image.old (entry_parts blocks kind spot slots entry.now) }
+    ensures exact { (slots : List ℕ) → image.new ≡ with_blocks image.old (entry_writes blocks kind spot slots entry.now) }
     ensures sound { IsSoundEntry entry.now }
 {
     let datas = data_count(kind, &entry.body);
     let exts = ext_count(datas) as u32;
-    let own = given_block(blocks, spot.k);
+    let own = nth_free(blocks, spot.k);
     let first = spot.k + 1 + exts;
     write_file_head(image, blocks, spot, bytes.len() as u32, datas, entry);
     write_exts(
@@ -120,7 +120,7 @@ pub fn write_entry(
     requires size { is_allowed blocks ≡ true }
     requires whole { length image.old ≡ blocks * 512 }
     requires room { 1 + reserved blocks + (spot.k + entry_blocks kind entry.now) ≤ blocks - 2 }
-    ensures exact { image.new ≡ lay image.old (entry_parts blocks kind spot slots entry.now) }
+    ensures exact { image.new ≡ with_blocks image.old (entry_writes blocks kind spot slots entry.now) }
     ensures sound { IsSoundEntry entry.now }
 {
     match &entry.body {

@@ -8,9 +8,9 @@ ghost use Rattle.adf_volume.specs.declared.owner.Owner.{Owner};
 ghost use Rattle.adf_volume.specs.Lists.{In, NoBlockTwice};
 ghost use Rattle.adf_volume.specs.Layout.{owned};
 ghost use Rattle.adf_volume.specs.Fits.{Fits};
-ghost use Rattle.adf_build.specs.Plan.{blocks_needed, entries_blocks, exts_needed, given, planned};
-ghost use Rattle.adf_build.specs.Lay.{numbers_of};
-ghost use Rattle.adf_build.specs.Laid.{IsLaid, IsSound, parts, volume};
+ghost use Rattle.adf_build.specs.Plan.{blocks_needed, entries_blocks, exts_needed, nth_free, planned};
+ghost use Rattle.adf_build.specs.Writes.{numbers_of};
+ghost use Rattle.adf_build.specs.Laid.{IsLaid, IsSound, writes, volume};
 
 /// The planned layout owns as many blocks as the tree needs, none twice, and all in range where there is room.
 pub fn planned_blocks()
@@ -49,14 +49,14 @@ pub fn laid_room()
 
 /// Each part of a laid image stands in its block, and all else is zeros.
 pub fn laid_bytes()
-    ensures part { (image : List ℕ) (t : Tree) → IsSound t → IsLaid image t → (b : ℕ) (bytes : List ℕ) → In (parts t (blocks image)) (b, bytes) → block image b ≡ bytes }
-    ensures rest { (image : List ℕ) (t : Tree) → IsSound t → IsLaid image t → (b : ℕ) → b < blocks image → (In (numbers_of (parts t (blocks image))) b → ⊥)
+    ensures part { (image : List ℕ) (t : Tree) → IsSound t → IsLaid image t → (b : ℕ) (bytes : List ℕ) → In (writes t (blocks image)) (b, bytes) → block image b ≡ bytes }
+    ensures rest { (image : List ℕ) (t : Tree) → IsSound t → IsLaid image t → (b : ℕ) → b < blocks image → (In (numbers_of (writes t (blocks image))) b → ⊥)
         → block image b ≡ replicate 512 0 }
 {}
 
-/// The blocks that are given to entries rise, and every block from 2 up to a given one is owned.
+/// The blocks that are free for entries rise, and every block from 2 up to a free one is owned.
 pub fn laid_in_order()
-    ensures rise { (n i j : ℕ) → i < j → given n i < given n j }
-    ensures no_gap { (image : List ℕ) (t : Tree) (k b : ℕ) → 4 ≤ blocks image → k < entries_blocks t.kind t.entries → 2 ≤ b → b ≤ given (blocks image) k
+    ensures rise { (n i j : ℕ) → i < j → nth_free n i < nth_free n j }
+    ensures no_gap { (image : List ℕ) (t : Tree) (k b : ℕ) → 4 ≤ blocks image → k < entries_blocks t.kind t.entries → 2 ≤ b → b ≤ nth_free (blocks image) k
         → (o : Owner) × In (owned image (planned t (blocks image))) (o, b) }
 {}

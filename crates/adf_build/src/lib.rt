@@ -7,7 +7,7 @@ mod counting;
 mod datas;
 mod entries;
 mod exts;
-mod given;
+mod allocation;
 mod heads;
 mod laid;
 mod map_exts;

@@ -1,13 +1,13 @@
 // The bitmap extension blocks of a volume.
 
 ghost use Rattle.std.specs.Prelude.{◌≡◌, ◌≤◌, ◌<◌, ◌+◌, ◌*◌, ◌/◌, ◌^◌, true, length, take};
+ghost use Rattle.std.specs.List.{range_with_len};
 ghost use Rattle.adf_blocks.specs.Sizes.{is_allowed, pages_needed};
 ghost use Rattle.adf_volume.specs.Image.{map_exts_needed};
-ghost use Rattle.adf_build.specs.Laid.{map_ext_or_none, map_ext_parts};
-ghost use Rattle.adf_build.specs.Lay.{lay};
-ghost use Rattle.adf_build.specs.Plan.{row};
+ghost use Rattle.adf_build.specs.Laid.{map_ext_or_none, map_ext_writes};
+ghost use Rattle.adf_build.specs.Writes.{with_blocks};
 
-use crate::given::map_ext_count;
+use crate::allocation::map_ext_count;
 use adf_blocks::{MAP_EXT_PAGES, ROOT_PAGES, page_count, write_map_ext};
 
 /// The block of bitmap extension block `j` where blocks are left, 0 where none is.
@@ -24,11 +24,11 @@ pub fn map_ext_or_none(blocks: u32, j: u32, left: u32) -> u32
 }
 
 // A table that begins with `m` blocks, from `first` on.
-#[tactic(auto, using(crate::proofs::Rows::row_step))]
+#[tactic(auto, using(crate::proofs::Ranges::range_step))]
 fn row_of(first: u32, m: usize) -> [u32; MAP_EXT_PAGES]
     requires short { m ≤ 127 }
     requires near { first < 2 ^ 31 }
-    ensures { take m result ≡ row first m }
+    ensures { take m result ≡ range_with_len first m }
 {
     let mut table = [0u32; MAP_EXT_PAGES];
     for i in 0..m {
@@ -42,7 +42,7 @@ fn row_of(first: u32, m: usize) -> [u32; MAP_EXT_PAGES]
 pub fn write_map_exts(image: &mut [u8], blocks: u32)
     requires size { is_allowed blocks ≡ true }
     requires whole { length image.old ≡ blocks * 512 }
-    ensures { image.new ≡ lay image.old (map_ext_parts blocks 0 (map_exts_needed (pages_needed blocks))) }
+    ensures { image.new ≡ with_blocks image.old (map_ext_writes blocks 0 (map_exts_needed (pages_needed blocks))) }
 {
     let pages = page_count(blocks);
     let count = map_ext_count(blocks);

@@ -6,7 +6,7 @@ ghost use Rattle.adf_build.specs.Plan.{data_blocks, exts_needed};
 ghost use Rattle.adf_build.specs.Building.{HasRoom};
 
 use crate::counting::{data_count, ext_count};
-use crate::given::given_block;
+use crate::allocation::nth_free;
 use adf_tree::{Body, Entry, Kind, Node, Tree};
 use std::alloc::{AllocError, Global};
 
@@ -28,8 +28,8 @@ pub fn parent_of(entry: &Entry) -> usize
     entry.parent.0
 }
 
-/// The number of the given block behind those of an entry whose header is the `k`-th one.
-pub fn next_given(k: u32, kind: Kind, body: &Body) -> u32
+/// The number of the free block behind those of an entry whose header is the `k`-th one.
+pub fn next_free(k: u32, kind: Kind, body: &Body) -> u32
     requires { k + (1 + exts_needed (data_blocks kind body.now) + data_blocks kind body.now) < 2 ^ 30 }
     ensures { result ≡ k + (1 + exts_needed (data_blocks kind body.now) + data_blocks kind body.now) }
 {
@@ -46,8 +46,8 @@ pub fn nodes_of(alloc: Global, tree: &Tree, blocks: u32) -> Result<Vec<u32>, All
     nodes.push(blocks / 2)?;
     let mut k = 0;
     for i in 0..tree.len() {
-        nodes.push(given_block(blocks, k))?;
-        k = next_given(k, tree.kind(), &entry_at(tree, i).body);
+        nodes.push(nth_free(blocks, k))?;
+        k = next_free(k, tree.kind(), &entry_at(tree, i).body);
     }
     Ok(nodes)
 }

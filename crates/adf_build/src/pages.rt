@@ -3,14 +3,14 @@
 ghost use Rattle.std.specs.Prelude.{◌≡◌, ◌≤◌, ◌<◌, ◌+◌, ◌*◌, ◌^◌, true, length, IfSome};
 ghost use Rattle.adf_blocks.specs.Sizes.{is_allowed, pages_needed};
 ghost use Rattle.adf_build.specs.Bits.{bits_from, is_free_bit, is_used, page_words};
-ghost use Rattle.adf_build.specs.Laid.{page_parts};
-ghost use Rattle.adf_build.specs.Lay.{lay};
+ghost use Rattle.adf_build.specs.Laid.{page_writes};
+ghost use Rattle.adf_build.specs.Writes.{with_blocks};
 
-use crate::given::reserved_count;
+use crate::allocation::reserved_count;
 use adf_blocks::{page_count, write_page};
 
-// Whether block `b` is the root, a reserved block behind it or one of the first `total` given blocks.
-#[tactic(auto, using(crate::proofs::GivenBlocks::used_low, crate::proofs::GivenBlocks::used_high))]
+// Whether block `b` is the root, a reserved block behind it or one of the first `total` free blocks.
+#[tactic(auto, using(crate::proofs::FreeBlocks::used_low, crate::proofs::FreeBlocks::used_high))]
 fn is_used_block(blocks: u32, total: u32, b: u32) -> bool
     requires { is_allowed blocks ≡ true }
     ensures { result ≡ is_used blocks total b }
@@ -95,7 +95,7 @@ fn words_of_page(blocks: u32, total: u32, j: u32) -> [u32; 127]
 pub fn write_pages(image: &mut [u8], blocks: u32, total: u32)
     requires size { is_allowed blocks ≡ true }
     requires whole { length image.old ≡ blocks * 512 }
-    ensures { image.new ≡ lay image.old (page_parts blocks total 0 (pages_needed blocks)) }
+    ensures { image.new ≡ with_blocks image.old (page_writes blocks total 0 (pages_needed blocks)) }
 {
     for j in 0..page_count(blocks) {
         write_page(image, blocks / 2 + 1 + j, &words_of_page(blocks, total, j));

@@ -1,18 +1,19 @@
 // The parts of a volume.
 
 ghost use Rattle.std.specs.Prelude.{◌≡◌, ◌≤◌, ◌<◌, ◌+◌, ◌*◌, ◌/◌, [], ◌∷◌, true, length, min, take};
+ghost use Rattle.std.specs.List.{range_with_len};
 ghost use Rattle.adf_fields.specs.Words.{with_block};
-ghost use Rattle.adf_blocks.specs.Fields.{laid};
+ghost use Rattle.adf_blocks.specs.Fields.{block_of_fields};
 ghost use Rattle.adf_blocks.specs.RootBlock.{FitsStamps, root_block};
 ghost use Rattle.adf_blocks.specs.Sizes.{is_allowed, middle, pages_needed};
-ghost use Rattle.adf_build.specs.Laid.{IsSound, boot_bytes, node_blocks, parts, root_laid, slots_of};
-ghost use Rattle.adf_build.specs.Lay.{lay};
-ghost use Rattle.adf_build.specs.Plan.{entries_blocks, row};
+ghost use Rattle.adf_build.specs.Laid.{IsSound, boot_bytes, node_blocks, writes, planned_root, slots_of};
+ghost use Rattle.adf_build.specs.Writes.{with_blocks};
+ghost use Rattle.adf_build.specs.Plan.{entries_blocks};
 ghost use Rattle.adf_build.specs.Building.{HasRoom};
 
 use crate::chains::{children_end, slots_between};
 use crate::entries::write_entries;
-use crate::given::map_ext_count;
+use crate::allocation::map_ext_count;
 use crate::map_exts::{map_ext_or_none, write_map_exts};
 use crate::pages::write_pages;
 use adf_blocks::{ROOT_PAGES, RootOut, page_count, write_root};
@@ -20,10 +21,10 @@ use adf_fields::{put_block, put_bytes};
 use adf_tree::{Kind, Tree};
 
 // The blocks of the bitmap pages that the root names, behind it.
-#[tactic(auto, using(crate::proofs::Rows::row_step))]
+#[tactic(auto, using(crate::proofs::Ranges::range_step))]
 fn page_numbers(blocks: u32) -> [u32; ROOT_PAGES]
     requires { is_allowed blocks ≡ true }
-    ensures { take (min 25 (pages_needed blocks)) result ≡ row (blocks / 2 + 1) (min 25 (pages_needed blocks)) }
+    ensures { take (min 25 (pages_needed blocks)) result ≡ range_with_len (blocks / 2 + 1) (min 25 (pages_needed blocks)) }
 {
     let mut numbers = [0u32; ROOT_PAGES];
     for j in 0..ROOT_PAGES.min(page_count(blocks) as usize) {
@@ -34,7 +35,7 @@ fn page_numbers(blocks: u32) -> [u32; ROOT_PAGES]
 
 // The 512 bytes of block 0.
 fn boot_block(kind: Kind) -> [u8; 512]
-    ensures { result ≡ laid ((0, boot_bytes kind) ∷ []) }
+    ensures { result ≡ block_of_fields ((0, boot_bytes kind) ∷ []) }
 {
     let mut block = [0u8; 512];
     match kind {
@@ -49,7 +50,7 @@ fn write_the_root(image: &mut [u8], blocks: u32, tree: &Tree, slots: [u32; 72])
     requires size { is_allowed blocks ≡ true }
     requires whole { length image.old ≡ blocks * 512 }
     requires slots { slots ≡ slots_of (node_blocks tree.now blocks) tree.now.entries 0 }
-    ensures exact { image.new ≡ with_block image.old (middle blocks) (root_block (root_laid tree.now blocks)) }
+    ensures exact { image.new ≡ with_block image.old (middle blocks) (root_block (planned_root tree.now blocks)) }
     ensures label { length tree.now.label ≤ 30 }
     ensures stamps { FitsStamps tree.now.stamps }
 {
@@ -71,7 +72,7 @@ pub fn write_volume(image: &mut [u8], blocks: u32, tree: &Tree, nodes: &[u32], t
     requires whole { length image.old ≡ blocks * 512 }
     requires nodes { nodes.now ≡ node_blocks tree.now blocks }
     requires total { total ≡ entries_blocks tree.now.kind tree.now.entries }
-    ensures exact { image.new ≡ lay image.old (parts tree.now blocks) }
+    ensures exact { image.new ≡ with_blocks image.old (writes tree.now blocks) }
     ensures sound { IsSound tree.now }
 {
     let count = tree.len();

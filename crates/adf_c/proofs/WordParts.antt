@@ -10,24 +10,24 @@ use Rattle.std.proofs.lemmas.List.{append_assoc, append_cancel_right, get_or_app
 use Rattle.std.proofs.lemmas.List.Elements.{All-push}
 use Rattle.std.proofs.lemmas.List.Sums.{fails_before_first}
 use Rattle.std.proofs.lemmas.List.Splits.{slice_split_none, slice_split_first, length-slice_split}
-use Rattle.adf_c.specs.Words.{AreWords, is_zero, parts}
+use Rattle.adf_c.specs.Words.{AreWords, is_zero, between_zeros}
 
 -- memory is cut at its first zero byte
 pub cut_at : (bytes : List ℕ) (i : ℕ) → Some i ≡ position is_zero bytes
-    → parts bytes ≡ take i bytes ∷ parts (take (length bytes - (i + 1)) (drop (i + 1) bytes))
+    → between_zeros bytes ≡ take i bytes ∷ between_zeros (take (length bytes - (i + 1)) (drop (i + 1) bytes))
 cut_at bytes i h =
     elim (cases_Bool (nat_lt (position_or_len is_zero bytes) (length bytes))) [
       | inl t ↦
           let g : Some i ≡ Some (position_or_len is_zero bytes) = h ∙ ap (λ b. cond b (Some (position_or_len is_zero bytes)) None) t in
           let same : position_or_len is_zero bytes ≡ i = cc in
           slice_split_first is_zero bytes 0 (ltb-true (position_or_len is_zero bytes) (length bytes) t)
-          ∙ (ap (λ k. take k bytes ∷ parts (drop (k + 1) bytes)) same
-          ∙ ap (λ ys. take i bytes ∷ parts ys) (sym (take_all (length bytes - (i + 1)) (drop (i + 1) bytes) (omega (arith, length-drop (i + 1) bytes)))))
+          ∙ (ap (λ k. take k bytes ∷ between_zeros (drop (k + 1) bytes)) same
+          ∙ ap (λ ys. take i bytes ∷ between_zeros ys) (sym (take_all (length bytes - (i + 1)) (drop (i + 1) bytes) (omega (arith, length-drop (i + 1) bytes)))))
       | inr f ↦ let g : Some i ≡ None = h ∙ ap (λ b. cond b (Some (position_or_len is_zero bytes)) None) f in cc
     ]
 
 -- memory with no zero byte is one part
-pub uncut : (bytes : List ℕ) → None ≡ position is_zero bytes → parts bytes ≡ bytes ∷ []
+pub uncut : (bytes : List ℕ) → None ≡ position is_zero bytes → between_zeros bytes ≡ bytes ∷ []
 uncut bytes h =
     elim (cases_Bool (nat_lt (position_or_len is_zero bytes) (length bytes))) [
       | inl t ↦ let g : None ≡ Some (position_or_len is_zero bytes) = h ∙ ap (λ b. cond b (Some (position_or_len is_zero bytes)) None) t in cc
@@ -41,15 +41,15 @@ pub one_list : (bytes : List ℕ) (words others : List (List ℕ)) → AreWords 
 one_list bytes words others h g = append_cancel_right words others ([] ∷ []) (sym h.ended ∙ g.ended)
 
 -- a part that is no text, and is not the last, stands among no words
-pub no_text : (bytes rest word after : List ℕ) (done : List (List ℕ)) → parts bytes ≡ done ++ parts rest → parts rest ≡ word ∷ parts after
+pub no_text : (bytes rest word after : List ℕ) (done : List (List ℕ)) → between_zeros bytes ≡ done ++ between_zeros rest → between_zeros rest ≡ word ∷ between_zeros after
     → ¬ IsUtf8 word → (words : List (List ℕ)) → ¬ AreWords bytes words
 no_text bytes rest word after done split cut bad words h =
-    let whole : words ++ [] ∷ [] ≡ done ++ word ∷ parts after = sym h.ended ∙ (split ∙ ap (λ ps. done ++ ps) cut) in
+    let whole : words ++ [] ∷ [] ≡ done ++ word ∷ between_zeros after = sym h.ended ∙ (split ∙ ap (λ ps. done ++ ps) cut) in
     let within : length done < length words =
-    omega (arith, ap length whole, length-append words ([] ∷ []), length-append done (word ∷ parts after), length-slice_split is_zero after) in
+    omega (arith, ap length whole, length-append words ([] ∷ []), length-append done (word ∷ between_zeros after), length-slice_split is_zero after) in
     let same : get_or words (length done) word ≡ word =
     sym (get_or_append_left words ([] ∷ []) word (length done) within)
-    ∙ (ap (λ zs. get_or zs (length done) word) whole ∙ get_or-append_seam done word (parts after) word) in
+    ∙ (ap (λ zs. get_or zs (length done) word) whole ∙ get_or-append_seam done word (between_zeros after) word) in
     bad (subst IsUtf8 same (h.texts (length done) word within))
 
 -- the texts of words
@@ -64,12 +64,12 @@ texts_pushed : (items : List (Bor (List ℕ))) (text : Bor (List ℕ)) → texts
 texts_pushed items text = map-append (λ (w : Bor (List ℕ)). w.now) items (text ∷ [])
 
 -- a word is behind those before it, and is a text as they are
-pub pushed_split : (bytes rest word after : List ℕ) (items : List (Bor (List ℕ))) (text : Bor (List ℕ)) → parts bytes ≡ texts_of items ++ parts rest
-    → parts rest ≡ word ∷ parts after → text.now ≡ word → parts bytes ≡ texts_of (items ++ text ∷ []) ++ parts after
+pub pushed_split : (bytes rest word after : List ℕ) (items : List (Bor (List ℕ))) (text : Bor (List ℕ)) → between_zeros bytes ≡ texts_of items ++ between_zeros rest
+    → between_zeros rest ≡ word ∷ between_zeros after → text.now ≡ word → between_zeros bytes ≡ texts_of (items ++ text ∷ []) ++ between_zeros after
 pushed_split bytes rest word after items text split cut same =
     let done : List (List ℕ) = texts_of items in
-    split ∙ (ap (λ ps. done ++ ps) cut ∙ (ap (λ w. done ++ w ∷ parts after) (sym same)
-    ∙ (sym (append_assoc done (text.now ∷ []) (parts after)) ∙ ap (λ ps. ps ++ parts after) (sym (texts_pushed items text)))))
+    split ∙ (ap (λ ps. done ++ ps) cut ∙ (ap (λ w. done ++ w ∷ between_zeros after) (sym same)
+    ∙ (sym (append_assoc done (text.now ∷ []) (between_zeros after)) ∙ ap (λ ps. ps ++ between_zeros after) (sym (texts_pushed items text)))))
 
 pub pushed_texts : (items : List (Bor (List ℕ))) (text : Bor (List ℕ)) → All IsUtf8 (texts_of items) → IsUtf8 text.now
     → All IsUtf8 (texts_of (items ++ text ∷ []))

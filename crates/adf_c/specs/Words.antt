@@ -7,10 +7,10 @@ abbrev pub is_zero : ℕ → Bool
 is_zero b = b == 0
 
 -- the parts of memory between zero bytes
-abbrev pub parts : List ℕ → List (List ℕ)
-parts bytes = slice_split is_zero bytes
+abbrev pub between_zeros : List ℕ → List (List ℕ)
+between_zeros bytes = slice_split is_zero bytes
 
 -- the bytes are these words, each ended by a zero byte, and each word is a text
 pub record AreWords (bytes : List ℕ) (words : List (List ℕ)) : Type 0 where
-  pub ended : parts bytes ≡ words ++ [] ∷ []
+  pub ended : between_zeros bytes ≡ words ++ [] ∷ []
   pub texts : All IsUtf8 words

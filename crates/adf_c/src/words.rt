@@ -1,7 +1,7 @@
 // The words of a command line in memory.
 
 ghost use Rattle.std.specs.Prelude.{◌≡◌, ◌<◌, ◌∷◌, [], ℕ, List, IfOk, IfErr, IfSome, IfNone, length, map, position};
-ghost use Rattle.adf_c.specs.Words.{AreWords, is_zero, parts};
+ghost use Rattle.adf_c.specs.Words.{AreWords, is_zero, between_zeros};
 
 use adf_cmd::WordsFault;
 use std::alloc::Global;
@@ -16,9 +16,9 @@ fn zero(bytes: &[u8]) -> Option<usize>
 
 // What stands before the first zero byte, and what is after that.
 fn cut(bytes: &[u8]) -> Option<(&[u8], &[u8])>
-    ensures some { IfSome result (λ r. parts bytes.now ≡ r.0.now ∷ parts r.1.now) }
+    ensures some { IfSome result (λ r. between_zeros bytes.now ≡ r.0.now ∷ between_zeros r.1.now) }
     ensures shorter { IfSome result (λ r. length r.1.now < length bytes.now) }
-    ensures none { IfNone result (parts bytes.now ≡ bytes.now ∷ []) }
+    ensures none { IfNone result (between_zeros bytes.now ≡ bytes.now ∷ []) }
 {
     match zero(bytes) {
         Some(at) => Some((&bytes[..at], &bytes[at + 1..])),

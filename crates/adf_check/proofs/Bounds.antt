@@ -7,7 +7,7 @@ use Rattle.adf_volume.proofs.Sizes.{size_high, size_low}
 use Rattle.adf_volume.proofs.Lists.{at_below}
 use Rattle.adf_volume.proofs.Walks.{number_of}
 use Rattle.adf_check.specs.Reading.{IsAtNode, IsInChain, IsInDatas, IsInExts}
-use Rattle.adf_check.specs.Store.{Store, Tells, all_datas, all_exts}
+use Rattle.adf_check.specs.Store.{Store, StoreMatches, all_datas, all_exts}
 use Rattle.adf_check.specs.Image.{IsBegun}
 use Rattle.adf_check.specs.Owners.{is_part, owned_count}
 use Rattle.adf_check.proofs.Lengths.{parts_sum}
@@ -17,7 +17,7 @@ pub many_blocks : (image : List ℕ) → IsBegun image → 4 ≤ blocks image
 many_blocks image begun = size_low (blocks image) begun.0.1
 
 -- a walk has no more members than there are blocks
-pub walk_short : (image : List ℕ) (store : Store) (w : List (Role × ℕ)) → IsBegun image → store.used ≡ owned_count store.owners → Tells image store w
+pub walk_short : (image : List ℕ) (store : Store) (w : List (Role × ℕ)) → IsBegun image → store.used ≡ owned_count store.owners → StoreMatches image store w
     → length w ≤ MOST_BLOCKS
 walk_short image store w begun used tells =
     let walked : store.used ≡ length w = tells.used in
@@ -37,7 +37,7 @@ module _ (image : List ℕ) (store : Store) (begun : IsBegun image) (used : stor
       (omega arith, omega arith)
 
   -- a directory is no further than the rows
-  dir_within : (w : List (Role × ℕ)) (p up : ℕ) → Tells image store w → DirAt image w p up → p ≤ heads w
+  dir_within : (w : List (Role × ℕ)) (p up : ℕ) → StoreMatches image store w → DirAt image w p up → p ≤ heads w
   dir_within w zero up tells dir = omega arith
   dir_within w (suc i) up tells dir =
       let h = dir.0 in
@@ -61,7 +61,7 @@ module _ (image : List ℕ) (store : Store) (begun : IsBegun image) (used : stor
       let count : length store.rows ≡ heads st.walk = st.tells.lists.count in
       omega arith
 
-  file_short : (w : List (Role × ℕ)) (n h : ℕ) → IsWalk image w → Tells image store w → FileAt image w n h → n < 2 ^ 32
+  file_short : (w : List (Role × ℕ)) (n h : ℕ) → IsWalk image w → StoreMatches image store w → FileAt image w n h → n < 2 ^ 32
   file_short w n h walk tells file =
       let short = walk_short image store w begun used tells in
       let sum = parts_sum image walk in

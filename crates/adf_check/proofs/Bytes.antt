@@ -19,11 +19,11 @@ use Rattle.adf_volume.specs.Layout.{EntryAt, Layout, at_node, datas_of, owned_fr
 use Rattle.adf_volume.specs.Lists.{At, In, numbered}
 use Rattle.adf_volume.proofs.Images.{area_length}
 use Rattle.adf_volume.proofs.Lists.{at_index_or, at_some, in_right}
-use Rattle.adf_volume.proofs.Parts.{owned_data}
+use Rattle.adf_volume.proofs.LayoutRoles.{owned_data}
 use Rattle.adf_volume.proofs.Pieces.{held_some, pieces_joined}
 use Rattle.adf_volume.proofs.Chains.{entry_is_at, entry_some}
 use Rattle.adf_check.specs.declared.kept.Start.{Start}
-use Rattle.adf_check.specs.Keeps.{Keeps}
+use Rattle.adf_check.specs.StoredVolume.{StoreStandsFor}
 use Rattle.adf_check.specs.Store.{Store}
 use Rattle.adf_check.proofs.Following.{body_dir}
 use Rattle.adf_check.specs.Pieces.{AreInside, bytes_in, bytes_of}
@@ -86,7 +86,7 @@ body_other : (image : List ℕ) (kind : Kind) (l : Layout) (n h : ℕ) (body : B
 body_other image kind l n h Dir f w = absurd (w f.0)
 body_other image kind l n h (File bytes) f w = (bytes, refl)
 
-module _ (image : List ℕ) (store : Store) (t : Tree) (l : Layout) (k : Keeps image store t l) where
+module _ (image : List ℕ) (store : Store) (t : Tree) (l : Layout) (k : StoreStandsFor image store t l) where
   data_range : (n i b : ℕ) → At (datas_of l n) i b → b < blocks image
   data_range zero i b h = absurd h
   data_range (suc n) i b h =

@@ -16,7 +16,7 @@ use Rattle.adf_volume.specs.declared.owner.Owner.TheVariants.{Free, Head as AHea
 use Rattle.adf_volume.specs.Image.{kind_of, name_of, word_in}
 use Rattle.adf_volume.specs.Walk.{FirstFault}
 use Rattle.adf_volume.specs.Walk.Role.{Head}
-use Rattle.adf_volume.proofs.FormDemands.{all_told, first_told}
+use Rattle.adf_volume.proofs.FormDemands.{all_demanded, first_demanded}
 use Rattle.adf_check.specs.Reading.{IsInChain, IsAtSlot}
 use Rattle.adf_check.specs.Store.{Store, owner_at}
 use Rattle.adf_check.proofs.InChains.{fault_form, fault_name, next_chain, chain_begins, chain_ends}
@@ -71,13 +71,13 @@ module _ (image : List ℕ) (store : Store) (p up s a b : ℕ) (names : Names) (
 
     pub member_fault : (c : Cause) → first_cause (head_form (kind_of image) b up s (block image b)) ≡ Some c → FirstFault image b c
     member_fault c f = fault_form image store p up s a b (sees_of names) lt begun st ne c r.0 below free
-        (first_told b (head_form (kind_of image) b up s (block image b)) c f)
+        (first_demanded b (head_form (kind_of image) b up s (block image b)) c f)
 
     -- and holds a header
     module _ (form : first_cause (head_form (kind_of image) b up s (block image b)) ≡ None) where
       pub member_twice : has names (uppers (name_of image b)) ≡ true → FirstFault image b SameName
       member_twice h = fault_name image store p up s a b (sees_of names) lt begun st ne r.0 below free
-          (all_told b (head_form (kind_of image) b up s (block image b)) form) h
+          (all_demanded b (head_form (kind_of image) b up s (block image b)) form) h
 
       pub member_done : (owners : List Owner) (used : ℕ) (new : Names) → owners ≡ set store.owners b (AHead (length store.rows + 1)) → used ≡ store.used + 1
           → has names (uppers (name_of image b)) ≡ false → HasMore names new (uppers (name_of image b))
@@ -94,7 +94,7 @@ module _ (image : List ℕ) (store : Store) (p up s a b : ℕ) (names : Names) (
           let k : length store.rows + 1 ≡ suc (length store.rows) = omega arith in
           let none : sees_of names (uppers (name_of image b)) → ⊥ = λ h. let e : true ≡ false = sym h ∙ fresh in cc in
           let next = next_chain image store p up s a b (sees_of names) lt begun st ne r.0 below free
-          (all_told b (head_form (kind_of image) b up s (block image b)) form) none (sees_of new) (seen_more names new (uppers (name_of image b)) more) in
+          (all_demanded b (head_form (kind_of image) b up s (block image b)) form) none (sees_of new) (seen_more names new (uppers (name_of image b)) more) in
           subst (λ t. IsInChain image t p up s b (word_in image b 124) (sees_of new))
           (stored_is store owners used (Head (suc (length store.rows)) p s 0) b (o ∙ ap (λ n. set store.owners b (AHead n)) k) u) next
 

@@ -15,9 +15,9 @@ use Rattle.adf_volume.specs.Layout.{Layout, at_node, owned}
 use Rattle.adf_volume.specs.Lists.{At}
 use Rattle.adf_volume.specs.Walk.Role.{Head}
 use Rattle.adf_volume.proofs.MemberFacts.{in_range}
-use Rattle.adf_check.specs.declared.kept.Row.{Row}
-use Rattle.adf_check.specs.Keeps.{Keeps}
-use Rattle.adf_check.specs.Reading.{TellsFit}
+use Rattle.adf_check.specs.declared.kept.KeptHeader.{KeptHeader}
+use Rattle.adf_check.specs.StoredVolume.{StoreStandsFor}
+use Rattle.adf_check.specs.Reading.{StoreFits}
 use Rattle.adf_check.specs.Store.{Store}
 use Rattle.adf_check.proofs.InRows.{node_here}
 use Rattle.adf_check.proofs.Bounds.{many_blocks}
@@ -27,7 +27,7 @@ use Rattle.adf_check.specs.Volumes.{counts_of, is_dir_at, is_directory}
 use Rattle.adf_check.specs.declared.checked.Counts.{Counts}
 
 -- the headers of rows are blocks of the image
-pub rows_inside : (image : List ℕ) (store : Store) → IsBegun image → TellsFit image store → (i : ℕ) (d : Row) → i < length store.rows
+pub rows_inside : (image : List ℕ) (store : Store) → IsBegun image → StoreFits image store → (i : ℕ) (d : KeptHeader) → i < length store.rows
     → (get_or store.rows i d).head < blocks image
 rows_inside image store begun st i d lt =
     let x = node_here image store st.walk st.tells st.is_walk i (get_or store.rows i d) (row_at store.rows i d lt) in
@@ -68,7 +68,7 @@ same_type image t l n h Dir b = let e : word_in image h 127 ≡ DIR = b.0 in gri
 same_type image t l n h (File bytes) b = let e : word_in image h 127 ≡ FILE = b.0 in grind (arith, nat_tests)
 
 -- the directories of the rows are those of the tree
-pub dirs_are : (image : List ℕ) (store : Store) (t : Tree) (l : Layout) → Keeps image store t l
+pub dirs_are : (image : List ℕ) (store : Store) (t : Tree) (l : Layout) → StoreStandsFor image store t l
     → count_by (is_dir_at image) store.rows ≡ count_by is_directory t.entries
 dirs_are image store t l k = same_count (is_dir_at image) is_directory store.rows t.entries k.rows.count (λ i r e at_row at_entry.
     let h : at_node image l (suc i) ≡ r.head = k.rows.head i r at_row in
@@ -76,7 +76,7 @@ dirs_are image store t l k = same_count (is_dir_at image) is_directory store.row
     ≡ is_directory e) h (same_type image t l (suc i) (at_node image l (suc i)) e.body (k.fits.entries (suc i) e at_entry).body))
 
 -- the numbers of a volume are those of the tree and the layout that it stands for
-pub counts_are : (image : List ℕ) (store : Store) (t : Tree) (l : Layout) (kind : Kind) (n used dirs all : ℕ) → Keeps image store t l → kind ≡ kind_of image
+pub counts_are : (image : List ℕ) (store : Store) (t : Tree) (l : Layout) (kind : Kind) (n used dirs all : ℕ) → StoreStandsFor image store t l → kind ≡ kind_of image
     → n ≡ blocks image → used ≡ store.used
     → dirs ≡ count_by (is_dir_at image) store.rows → all ≡ length store.rows
     → ◌≡◌ {A = Counts} (record { kind = kind; blocks = n; used = used; free = n - 2 - used; dirs = dirs; files = all - dirs }) (counts_of image t l)

@@ -11,7 +11,7 @@ use Rattle.adf_volume.specs.Demands.{Demand, FirstFails}
 use Rattle.adf_volume.specs.Image.{word_in}
 use Rattle.adf_volume.specs.Walk.{FirstFault, Role, ext_count}
 use Rattle.adf_volume.specs.Walk.Role.{Root, Page, MapExt, Head, Ext, Data}
-use Rattle.adf_volume.proofs.FormDemands.{all_told, first_told}
+use Rattle.adf_volume.proofs.FormDemands.{all_demanded, first_demanded}
 use Rattle.adf_check.specs.Reading.{IsInExts}
 use Rattle.adf_check.specs.Store.{Store, owner_at}
 use Rattle.adf_check.proofs.InFiles.{ext_named, ext_form_at, ext_read}
@@ -62,7 +62,7 @@ module _ (image : List ℕ) (store : Store) (n h : ℕ) (table : List ℕ) (a b 
   ext_fault c r free f =
       plain_form image store (Ext n (suc st.extra)) a b begun tt (ext_named image store n h table a b ne st) c tt r.0
       (subst (λ n. b < n) st.tells.owns.size r.1) free
-      (ext_form_at image store n h table a b b st (λ (ds : List Demand). FirstFails ds b c) (first_told b (ext_form b h (block image b)) c f))
+      (ext_form_at image store n h table a b b st (λ (ds : List Demand). FirstFails ds b c) (first_demanded b (ext_form b h (block image b)) c f))
 
   pub ext_done : (owners : List Owner) (used : ℕ) → InRange (length store.owners) b → owner_at store.owners b ≡ Free
       → owners ≡ set store.owners b (AnExt n (length table)) → used ≡ store.used + 1 → first_cause (ext_form b h (block image b)) ≡ None
@@ -70,4 +70,4 @@ module _ (image : List ℕ) (store : Store) (n h : ℕ) (table : List ℕ) (a b 
       n h (table ++ b ∷ []) b (word_in image b 126)
   ext_done owners used r free o u f =
       subst (λ s. IsInExts image s n h (table ++ b ∷ []) b (word_in image b 126)) (stored_is store owners used (Ext n (length table)) b o u)
-      (ext_read image store n h table a b begun ne st r.0 (subst (λ n. b < n) st.tells.owns.size r.1) free (all_told b (ext_form b h (block image b)) f))
+      (ext_read image store n h table a b begun ne st r.0 (subst (λ n. b < n) st.tells.owns.size r.1) free (all_demanded b (ext_form b h (block image b)) f))

@@ -19,14 +19,14 @@ use Rattle.adf_volume.specs.Lists.{At, In, Spelled, numbered}
 use Rattle.adf_volume.proofs.Finds.{chain_no, chain_yes}
 use Rattle.adf_volume.proofs.Lists.{at_below, at_some, in_right}
 use Rattle.adf_volume.proofs.TreeOrder.{DirNode, is_dir, ordered}
-use Rattle.adf_volume.proofs.Parts.{owned_head}
+use Rattle.adf_volume.proofs.LayoutRoles.{owned_head}
 use Rattle.adf_volume.proofs.Chains.{chain_rises, entry_at, entry_below}
-use Rattle.adf_check.specs.declared.kept.Row.{Row}
-use Rattle.adf_check.specs.Keeps.{Keeps}
+use Rattle.adf_check.specs.declared.kept.KeptHeader.{KeptHeader}
+use Rattle.adf_check.specs.StoredVolume.{StoreStandsFor}
 use Rattle.adf_check.specs.Store.{Store, owner_at}
-use Rattle.adf_check.specs.Reading.{TellsFit}
+use Rattle.adf_check.specs.Reading.{StoreFits}
 use Rattle.adf_check.proofs.Looks.{head_owner}
-use Rattle.adf_check.proofs.Keeps.{keeps}
+use Rattle.adf_check.proofs.StoredVolume.{keeps}
 use Rattle.adf_check.proofs.NodeSteps.{row_at}
 use Rattle.adf_check.proofs.Telling.{head_facts}
 use Rattle.adf_volume.specs.Made.{layout_in, tree_in}
@@ -73,14 +73,14 @@ head_owned image t l z i lt =
     subst (λ m. In (owned_from 1 l.places) (Head m, head_at l.places i)) one (owned_head 1 l.places i (omega arith)) in
     inr (in_right (numbered Page 0 l.pages) _ here (in_right (numbered MapExt 0 l.map_exts) (owned_from 1 l.places) here h))
 
-module _ (image : List ℕ) (store : Store) (t : Tree) (l : Layout) (k : Keeps image store t l) where
+module _ (image : List ℕ) (store : Store) (t : Tree) (l : Layout) (k : StoreStandsFor image store t l) where
   -- the header of an entry is a block of the image, behind the boot blocks
   pub head_range : (n : ℕ) (e : Entry) → EntryAt t n e → (2 ≤ at_node image l n) × (at_node image l n < blocks image)
   head_range zero e h = absurd h
   head_range (suc i) e h = k.fits.range (Head (suc i)) (head_at l.places i) (head_owned image t l k.fits.places i (at_below t.entries i e h))
 
   -- the row of an entry has its header
-  pub node_of_row : (i : ℕ) (d : Row) → i < length store.rows → at_node image l (suc i) ≡ (get_or store.rows i d).head
+  pub node_of_row : (i : ℕ) (d : KeptHeader) → i < length store.rows → at_node image l (suc i) ≡ (get_or store.rows i d).head
   node_of_row i d lt = k.rows.head i (get_or store.rows i d) (row_at store.rows i d lt)
 
   pub body_dir : (n h : ℕ) (body : Body) → BodyFits image t.kind l n h body → word_in image h 127 ≡ DIR → body ≡ Dir
@@ -238,8 +238,8 @@ child_below [] p name n h = cc
 child_below (e ∷ es) p name n h = (found_is (e ∷ es) p name n e h).1
 
 -- the same, of what is kept
-module _ (image : List ℕ) (store : Store) (tells : TellsFit image store) (p : ℕ) (name : List ℕ) where
-  pub child_within : (r : Option ℕ) → ((t : Tree) (l : Layout) → Keeps image store t l → r ≡ child t.entries p name) → IfSome r (λ n. n ≤ length store.rows)
+module _ (image : List ℕ) (store : Store) (tells : StoreFits image store) (p : ℕ) (name : List ℕ) where
+  pub child_within : (r : Option ℕ) → ((t : Tree) (l : Layout) → StoreStandsFor image store t l → r ≡ child t.entries p name) → IfSome r (λ n. n ≤ length store.rows)
   child_within None h = tt
   child_within (Some n) h =
       let t : Tree = tree_in image tells.walk in
@@ -248,7 +248,7 @@ module _ (image : List ℕ) (store : Store) (tells : TellsFit image store) (p : 
       let c : length store.rows ≡ length t.entries = k.rows.count in
       omega arith
 
-  module _ (b : ℕ) (c : (t : Tree) (l : Layout) → Keeps image store t l → OnChain image t l p name b) (ne : b ≢ 0) where
+  module _ (b : ℕ) (c : (t : Tree) (l : Layout) → StoreStandsFor image store t l → OnChain image t l p name b) (ne : b ≢ 0) where
     abbrev known : OnChain image (tree_in image tells.walk) (layout_in tells.walk) p name b
     known = c (tree_in image tells.walk) (layout_in tells.walk) (keeps image store tells)
 

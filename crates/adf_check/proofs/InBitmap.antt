@@ -19,8 +19,8 @@ use Rattle.adf_volume.proofs.WalkFits.{fits}
 use Rattle.adf_volume.proofs.OneTree.{one_tree}
 use Rattle.adf_volume.specs.declared.owner.Owner.{Owner}
 use Rattle.adf_volume.specs.declared.owner.Owner.TheVariants.{Free, Boot, Root as TheRoot}
-use Rattle.adf_volume.specs.Parts.{owner_of}
-use Rattle.adf_check.specs.Reading.{IsBeforePage, block_of_page, IsListed, IsRead, IsMapped, TellsFit}
+use Rattle.adf_volume.specs.LayoutRoles.{owner_of}
+use Rattle.adf_check.specs.Reading.{IsBeforePage, block_of_page, IsListed, IsRead, IsMapped, StoreFits}
 use Rattle.adf_check.specs.Store.{Store, owner_at}
 use Rattle.adf_check.proofs.Cursors.{begin}
 use Rattle.adf_check.proofs.Stores.{free_absent, taken_present}
@@ -143,7 +143,7 @@ map_begins image store st = record {
 }
 
 pub fits_alone : (image : List ℕ) (store : Store) (b : ℕ) → AllHold (boot_demands image ++ root_demands image (root_of image)) → b ≡ blocks image
-    → IsMapped image store b → TellsFit image store
+    → IsMapped image store b → StoreFits image store
 fits_alone image store b sound e st =
     let s = all_split (boot_demands image) (root_demands image (root_of image)) sound in
     let f = fits image st.walk st.is_walk st.whole s.0 s.1 (subst (λ n. AllHold (bitmap_demands image st.walk 2 (n - 2))) e st.agrees) in

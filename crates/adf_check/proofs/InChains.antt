@@ -15,7 +15,7 @@ use Rattle.adf_volume.proofs.MemberFacts.{dir_up}
 use Rattle.adf_volume.specs.declared.owner.Owner.TheVariants.{Free}
 use Rattle.std.specs.Prelude.{◌↔◌}
 use Rattle.adf_check.specs.Reading.{Next, IsAtSlot, IsInChain, Sees}
-use Rattle.adf_check.specs.Store.{Store, owner_at, Tells, stored}
+use Rattle.adf_check.specs.Store.{Store, owner_at, StoreMatches, stored}
 use Rattle.adf_check.proofs.Cursors.{is_due, take_it, end_chain}
 use Rattle.adf_check.proofs.Stores.{free_absent, taken_present, tells_more}
 
@@ -137,7 +137,7 @@ module _ (image : List ℕ) (store : Store) (p up s a b : ℕ) (seen : List ℕ 
         ) in
         record {
           walk = (r, b) ∷ st.walk;
-          tells = subst (λ k. Tells image (stored store (Head (suc k) p s 0) b) ((r, b) ∷ st.walk)) (sym st.tells.lists.count)
+          tells = subst (λ k. StoreMatches image (stored store (Head (suc k) p s 0) b) ((r, b) ∷ st.walk)) (sym st.tells.lists.count)
               (tells_more image store st.walk r b (λ n q u k z. sym (role_number (suc (heads st.walk)) p s st.place n q u k z)) started st.tells lo hi h);
           started = st.started;
           place = suc st.place;

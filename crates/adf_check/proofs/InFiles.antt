@@ -13,13 +13,13 @@ use Rattle.adf_volume.proofs.Walks.{file_is, member_is, one_block, one_head, cou
 use Rattle.adf_volume.proofs.MemberFacts.{file_up, member_up}
 use Rattle.adf_volume.specs.declared.owner.Owner.TheVariants.{Free}
 use Rattle.adf_check.specs.Reading.{IsNamed, IsAtNode, IsAtSlot, NextExt, IsInExts, IsInDatas, IsInNode}
-use Rattle.adf_check.specs.Store.{Store, owner_at, Tells, stored}
+use Rattle.adf_check.specs.Store.{Store, owner_at, StoreMatches, stored}
 use Rattle.adf_check.proofs.Cursors.{enter_dir, end_dir, enter_file, end_exts, end_datas, end_all}
 use Rattle.adf_check.proofs.PlainSteps.{less, plain_upto, plain_tells, cond_yes, cond_no, lt_test, ge_test}
 
 -- nodes
 pub enter_directory : (image : List ℕ) (store : Store) (n a : ℕ) → IsInNode image store n
-    → ((w : List (Role × ℕ)) → Tells image store w → IsWalk image w → DirAt image w n a) → IsAtSlot image store n a 0
+    → ((w : List (Role × ℕ)) → StoreMatches image store w → IsWalk image w → DirAt image w n a) → IsAtSlot image store n a 0
 enter_directory image store n a st d =
     let dir = d st.walk st.tells st.upto.walk in
     record { walk = st.walk; tells = st.tells; started = st.started; upto = enter_dir image st.walk n a dir st.upto; dir = dir }
@@ -29,7 +29,7 @@ leave_directory image store n a st = record { walk = st.walk; tells = st.tells; 
 
 -- extension blocks
 pub enter_exts : (image : List ℕ) (store : Store) (n h : ℕ) → IsInNode image store n
-    → ((w : List (Role × ℕ)) → Tells image store w → IsWalk image w → FileAt image w n h) → IsInExts image store n h (h ∷ []) h (word_in image h 126)
+    → ((w : List (Role × ℕ)) → StoreMatches image store w → IsWalk image w → FileAt image w n h) → IsInExts image store n h (h ∷ []) h (word_in image h 126)
 enter_exts image store n h st f =
     let file = f st.walk st.tells st.upto.walk in
     record {
@@ -84,7 +84,7 @@ ext_read image store n h table a b sound ne st lo hi free f =
     let r : Role = Ext n (suc st.extra) in
     record {
       walk = (r, b) ∷ st.walk;
-      tells = subst (λ k. Tells image (stored store (Ext n k) b) ((r, b) ∷ st.walk)) (sym st.size) (plain_tells image store r a b sound tt nm lo hi free);
+      tells = subst (λ k. StoreMatches image (stored store (Ext n k) b) ((r, b) ∷ st.walk)) (sym st.size) (plain_tells image store r a b sound tt nm lo hi free);
       started = st.started;
       extra = suc st.extra;
       size = snoc_length table b ∙ ap suc st.size;

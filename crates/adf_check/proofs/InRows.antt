@@ -11,25 +11,25 @@ use Rattle.adf_volume.proofs.Lists.{at_below, at_some, at_fun}
 use Rattle.adf_volume.proofs.Walks.{numbered, root_in}
 use Rattle.adf_volume.proofs.MemberFacts.{kept}
 use Rattle.adf_check.specs.Reading.{IsAtNode, IsInDatas, IsRead}
-use Rattle.adf_check.specs.declared.kept.Row.{Row}
-use Rattle.adf_check.specs.Store.{Store, Tells}
+use Rattle.adf_check.specs.declared.kept.KeptHeader.{KeptHeader}
+use Rattle.adf_check.specs.Store.{Store, StoreMatches}
 use Rattle.adf_check.proofs.PlainSteps.{plain_enough}
 use Rattle.adf_check.proofs.InFiles.{one_file, data_named, data_short, whole_end}
 
 -- the node of a row
-module _ (image : List ℕ) (store : Store) (w : List (Role × ℕ)) (t : Tells image store w) (v : IsWalk image w) where
-  pub node_here : (i : ℕ) (r : Row) → At store.rows i r → (p s j : ℕ) × Has w (Head (suc i) p s j) r.head
+module _ (image : List ℕ) (store : Store) (w : List (Role × ℕ)) (t : StoreMatches image store w) (v : IsWalk image w) where
+  pub node_here : (i : ℕ) (r : KeptHeader) → At store.rows i r → (p s j : ℕ) × Has w (Head (suc i) p s j) r.head
   node_here i r h =
       let c : length store.rows ≡ heads w = t.lists.count in
       let u : i < length store.rows = at_below store.rows i r h in
       let k = numbered image v (suc i) (omega arith) (omega arith) in
       let z : r ≡ record { parent = k.0; head = k.3 } = at_fun store.rows i r (record { parent = k.0; head = k.3 }) h (t.lists.row i k.0 k.1 k.2 k.3 k.4) in
-      (k.0, k.1, k.2, subst (Has w (Head (suc i) k.0 k.1 k.2)) (ap (λ (x : Row). x.head) (sym z)) k.4)
+      (k.0, k.1, k.2, subst (Has w (Head (suc i) k.0 k.1 k.2)) (ap (λ (x : KeptHeader). x.head) (sym z)) k.4)
 
-  pub dir_here : (i : ℕ) (r : Row) → At store.rows i r → word_in image r.head 127 ≡ DIR → DirAt image w (suc i) r.head
+  pub dir_here : (i : ℕ) (r : KeptHeader) → At store.rows i r → word_in image r.head 127 ≡ DIR → DirAt image w (suc i) r.head
   dir_here i r h d = let x = node_here i r h in ((x.0, x.1, x.2, x.3), d)
 
-  pub file_here : (i : ℕ) (r : Row) → At store.rows i r → word_in image r.head 127 ≢ DIR → FileAt image w (suc i) r.head
+  pub file_here : (i : ℕ) (r : KeptHeader) → At store.rows i r → word_in image r.head 127 ≢ DIR → FileAt image w (suc i) r.head
   file_here i r h d =
       let x = node_here i r h in
       let k = (kept image v (Head (suc i) x.0 x.1 x.2) r.head x.3).2 in (

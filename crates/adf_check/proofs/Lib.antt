@@ -8,7 +8,7 @@ pub mod InRows
 pub mod InBitmap
 pub mod Flat
 pub mod Lengths
-pub mod Keeps
+pub mod StoredVolume
 pub mod Looks
 pub mod Strolls
 pub mod EmptyLost

@@ -7,11 +7,11 @@ use Rattle.adf_volume.specs.declared.owner.Owner.TheVariants.{Page, MapExt, Head
 use Rattle.adf_volume.specs.Lists.{At, In, numbered}
 use Rattle.adf_volume.specs.Layout.{Layout, EntryAt, at_node, head_at, exts_of, datas_of, owned_from}
 use Rattle.adf_volume.proofs.Lists.{at_below, in_right}
-use Rattle.adf_volume.proofs.Parts.{owned_head, owned_ext, owned_data}
+use Rattle.adf_volume.proofs.LayoutRoles.{owned_head, owned_ext, owned_data}
 use Rattle.adf_check.specs.Store.{Store, owner_at}
-use Rattle.adf_check.specs.Keeps.{Keeps}
+use Rattle.adf_check.specs.StoredVolume.{StoreStandsFor}
 
-module _ (image : List ℕ) (store : Store) (t : Tree) (l : Layout) (keeps : Keeps image store t l) where
+module _ (image : List ℕ) (store : Store) (t : Tree) (l : Layout) (keeps : StoreStandsFor image store t l) where
   in_places : (o : Owner) (b : ℕ) → In (owned_from 1 l.places) (o, b) → owner_at store.owners b ≡ o
   in_places o b h = keeps.owners.part o b (inr (in_right (numbered Page 0 l.pages) _ (o, b)
       (in_right (numbered MapExt 0 l.map_exts) (owned_from 1 l.places) (o, b) h)))

@@ -5,7 +5,7 @@ use Rattle.adf_volume.specs.Image.{DIR, root_of, word_in}
 use Rattle.adf_volume.specs.Lists.{At}
 use Rattle.adf_volume.specs.Walk.Role.{Head}
 use Rattle.adf_volume.proofs.MemberFacts.{in_range}
-use Rattle.adf_check.specs.declared.kept.Row.{Row}
+use Rattle.adf_check.specs.declared.kept.KeptHeader.{KeptHeader}
 use Rattle.adf_check.specs.Reading.{IsAtSlot, IsInExts, IsInNode}
 use Rattle.adf_check.specs.Store.{Store}
 use Rattle.adf_check.proofs.InFiles.{enter_directory, enter_exts}
@@ -14,7 +14,7 @@ use Rattle.adf_check.proofs.Bounds.{many_blocks}
 use Rattle.adf_check.specs.Image.{IsBegun}
 
 -- the row at a place
-pub row_at : (rows : List Row) (i : ℕ) (d : Row) → i < length rows → At rows i (get_or rows i d)
+pub row_at : (rows : List KeptHeader) (i : ℕ) (d : KeptHeader) → i < length rows → At rows i (get_or rows i d)
 row_at [] i d lt = absurd (omega arith)
 row_at (r ∷ rows) zero d lt = refl
 row_at (r ∷ rows) (suc i) d lt = row_at rows i d (omega arith)
@@ -23,7 +23,7 @@ pub root_begins : (image : List ℕ) (store : Store) (a : ℕ) → a ≡ root_of
 root_begins image store a e st = enter_directory image store 0 a st (λ w t v. root_here image store w t v a e)
 
 -- node i + 1, whose row is r
-module _ (image : List ℕ) (store : Store) (i : ℕ) (d : Row) (begun : IsBegun image) (lt : i < length store.rows) where
+module _ (image : List ℕ) (store : Store) (i : ℕ) (d : KeptHeader) (begun : IsBegun image) (lt : i < length store.rows) where
   abbrev pub head : ℕ
   head = (get_or store.rows i d).head
 

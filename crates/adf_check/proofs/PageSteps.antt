@@ -13,7 +13,7 @@ use Rattle.adf_volume.specs.declared.owner.Owner.TheVariants.{Free, Page as APag
 use Rattle.adf_volume.specs.Image.{word_in}
 use Rattle.adf_volume.specs.Walk.{FirstFault}
 use Rattle.adf_volume.specs.Walk.Role.{MapExt, Page}
-use Rattle.adf_volume.proofs.FormDemands.{all_told, first_told}
+use Rattle.adf_volume.proofs.FormDemands.{all_demanded, first_demanded}
 use Rattle.adf_check.specs.Reading.{IsAtPage, IsBeforePage, IsListed, IsNamed, block_of_page}
 use Rattle.adf_check.specs.Store.{Store, owner_at, stored}
 use Rattle.adf_check.proofs.InPages.{listed_more, map_ext_read, map_ext_state, page_by_words, page_read, page_state}
@@ -62,14 +62,14 @@ module _ (image : List ℕ) (store : Store) (i a b : ℕ) (h : IsPageNext image 
   pub page_fault : (c : Cause) → InRange (length store.owners) b → owner_at store.owners b ≡ Free
       → first_cause (page_form (block image b)) ≡ Some c → FirstFault image b c
   page_fault c r free f =
-      plain_form image store (Page i) a b h.begun tt page_next c tt r.0 (in_image r) free (first_told b (page_form (block image b)) c f)
+      plain_form image store (Page i) a b h.begun tt page_next c tt r.0 (in_image r) free (first_demanded b (page_form (block image b)) c f)
 
   pub page_done : (owners : List Owner) (used : ℕ) → InRange (length store.owners) b → owner_at store.owners b ≡ Free
       → owners ≡ set store.owners b (APage i) → used ≡ store.used + 1 → first_cause (page_form (block image b)) ≡ None
       → IsBeforePage image (owned_by store owners used) (i + 1) a
   page_done owners used r free o u f =
       let k : suc i ≡ i + 1 = omega arith in
-      let form = all_told b (page_form (block image b)) f in
+      let form = all_demanded b (page_form (block image b)) f in
       let read =
       page_read image store i a (index_of_page i) b h.begun h.needed h.state (in_root i) (in_map_ext i) h.named r.0 (in_image r) free form in
       subst (λ s. IsBeforePage image s (i + 1) a) (stored_is store owners used (Page i) b o u)

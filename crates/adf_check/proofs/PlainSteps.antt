@@ -15,7 +15,7 @@ use Rattle.adf_volume.proofs.Lists.{fails_left, all_append, at_some, at_index}
 use Rattle.adf_volume.specs.declared.owner.Owner.TheVariants.{Free}
 use Rattle.adf_check.specs.Cursor.{IsUpTo}
 use Rattle.adf_check.specs.Reading.{IsNamed}
-use Rattle.adf_check.specs.Store.{Store, owner_at, Tells, stored}
+use Rattle.adf_check.specs.Store.{Store, owner_at, StoreMatches, stored}
 use Rattle.adf_check.proofs.Cursors.{is_due, take_it}
 use Rattle.adf_check.proofs.Stores.{free_absent, taken_present, tells_more}
 
@@ -85,7 +85,7 @@ module _ (image : List ℕ) (store : Store) (r : Role) (a b : ℕ) (sound : AllH
         ),
       )
 
-  pub plain_tells : 2 ≤ b → b < blocks image → owner_at store.owners b ≡ Free → Tells image (stored store r b) ((r, b) ∷ st.walk)
+  pub plain_tells : 2 ≤ b → b < blocks image → owner_at store.owners b ≡ Free → StoreMatches image (stored store r b) ((r, b) ∷ st.walk)
   plain_tells lo hi h =
       let e : length store.starts ≡ first r = st.started in
       tells_more image store st.walk r b (λ n p s j z. absurd (subst IsPlain z plain)) (omega arith) st.tells lo hi h

@@ -12,7 +12,7 @@ use Rattle.adf_volume.proofs.Lists.{at_index_or, at_some}
 use Rattle.adf_volume.proofs.Chains.{entry_is_at}
 use Rattle.adf_check.specs.Pieces.{bytes_in, bytes_of}
 use Rattle.adf_check.specs.Rebuild.{body_of}
-use Rattle.adf_check.specs.Rows.{IsTold}
+use Rattle.adf_check.specs.Rows.{RowMatches}
 use Rattle.adf_check.specs.declared.row.Row.{Row}
 
 body_back : (body : Body) → body_of (bytes_in body) ≡ body
@@ -20,7 +20,7 @@ body_back Dir = refl
 body_back (File bytes) = refl
 
 -- what is told of an entry, with its bytes, is the entry
-pub entry_back : (r : Row) (body : Body) (x : Option Entry) → IsTold (Some r) x → body ≡ body_of (bytes_of x)
+pub entry_back : (r : Row) (body : Body) (x : Option Entry) → RowMatches (Some r) x → body ≡ body_of (bytes_of x)
     → ◌≡◌ {A = Option Entry} (Some (record { parent = r.parent; name = r.name; meta = r.meta; body = body })) x
 entry_back r body None h b = absurd h
 entry_back r body (Some e) h b =

@@ -2,7 +2,7 @@
 use Rattle.std.proofs.Common.{◌≡◌, ℕ, suc, List, ◌+◌, set, sym, arith, Result, Ok, Err}
 use Rattle.std.specs.Prelude.{IfErr, IsOk, OnOk}
 use Rattle.adf_volume.specs.declared.owner.Owner.{Owner}
-use Rattle.adf_volume.specs.Parts.{owner_of}
+use Rattle.adf_volume.specs.LayoutRoles.{owner_of}
 use Rattle.adf_volume.specs.Walk.{Role}
 use Rattle.adf_check.specs.Store.{Store, push_row, push_any_ext, push_any_data, stored}
 use Rattle.adf_check.specs.declared.fault.Fault.{Fault}

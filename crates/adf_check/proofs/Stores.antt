@@ -7,13 +7,13 @@ use Rattle.adf_volume.specs.declared.owner.Owner.TheVariants.{Free}
 use Rattle.adf_volume.specs.Lists.{At}
 use Rattle.adf_volume.specs.Walk.{Role, first, second, Has, head_count, heads, IsAbsent}
 use Rattle.adf_volume.specs.Walk.Role.{Root, Page, MapExt, Head, Ext, Data}
-use Rattle.adf_volume.specs.Parts.{owner_of}
+use Rattle.adf_volume.specs.LayoutRoles.{owner_of}
 use Rattle.std.specs.Prelude.{nat_lt}
 use Rattle.std.proofs.lemmas.Bool.Decides.{nat_tests}
 use Rattle.adf_volume.proofs.Lists.{at_new, at_old, at_below, at_snoc, snoc_length}
-use Rattle.adf_check.specs.declared.kept.Row.{Row}
+use Rattle.adf_check.specs.declared.kept.KeptHeader.{KeptHeader}
 use Rattle.adf_check.specs.declared.kept.Start.{Start}
-use Rattle.adf_check.specs.Store.{Store, owner_at, push_row, push_any_ext, push_any_data, stored, entered, all_exts, all_datas, ext_before_of, data_before_of, exts_before, datas_before, Owns, Rows, Tells}
+use Rattle.adf_check.specs.Store.{Store, owner_at, push_row, push_any_ext, push_any_data, stored, entered, all_exts, all_datas, ext_before_of, data_before_of, exts_before, datas_before, Owns, Rows, StoreMatches}
 use Rattle.adf_check.specs.Reading.{IsAtNode, IsInNode}
 
 -- no role owns a free block
@@ -31,7 +31,7 @@ head_num n p s j m q u k h = cc
 head_parent : (n p s j m q u k : ℕ) → Head n p s j ≡ Head m q u k → p ≡ q
 head_parent n p s j m q u k h = cc
 
-row_same : (p b q c : ℕ) → p ≡ q → b ≡ c → ◌≡◌ {A = Row} (record { parent = p; head = b }) (record { parent = q; head = c })
+row_same : (p b q c : ℕ) → p ≡ q → b ≡ c → ◌≡◌ {A = KeptHeader} (record { parent = p; head = b }) (record { parent = q; head = c })
 row_same p b q c x z = λ i. record { parent = x i; head = z i }
 
 module _ (image : List ℕ) (owners : List Owner) (w : List (Role × ℕ)) (t : Owns image owners w) where
@@ -68,7 +68,7 @@ module _ (image : List ℕ) (owners : List Owner) (w : List (Role × ℕ)) (t : 
       }
 
 -- the rows, one member of a walk more; a header has the next number
-module _ (rows : List Row) (w : List (Role × ℕ)) (t : Rows rows w) where
+module _ (rows : List KeptHeader) (w : List (Role × ℕ)) (t : Rows rows w) where
   no_row : (r : Role) (b : ℕ) → head_count r (heads w) ≡ heads w → ((n p s j : ℕ) → r ≡ Head n p s j → ⊥) → Rows rows ((r, b) ∷ w)
   no_row r b c none = record {
     count = t.count ∙ sym c;
@@ -123,8 +123,8 @@ data_not_before m (Data n k) c h = cond_no n m c (omega arith)
 
 -- one member of a walk more
 pub tells_more : (image : List ℕ) (store : Store) (w : List (Role × ℕ)) (r : Role) (b : ℕ) → ((n p s j : ℕ) → r ≡ Head n p s j → n ≡ suc (heads w))
-    → length store.starts ≤ first r → Tells image store w →
-    2 ≤ b → b < blocks image → owner_at store.owners b ≡ Free → Tells image (stored store r b) ((r, b) ∷ w)
+    → length store.starts ≤ first r → StoreMatches image store w →
+    2 ≤ b → b < blocks image → owner_at store.owners b ≡ Free → StoreMatches image (stored store r b) ((r, b) ∷ w)
 tells_more image store w r b f l t lo hi h = record {
   owns = owns_more image store.owners w t.owns r b lo hi h;
   lists = rows_more store.rows w t.lists r b f;

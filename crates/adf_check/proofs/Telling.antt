@@ -11,7 +11,7 @@ use Rattle.adf_tree.specs.declared.entry.Kind.{Kind}
 use Rattle.adf_tree.specs.Tree.{Tree, entry}
 use Rattle.adf_blocks.specs.Forms.{text_at}
 use Rattle.adf_blocks.specs.HeadBlock.{IsHead, body_at, head_form, meta_at}
-use Rattle.adf_volume.specs.Demands.{AllHold, boot_demands, root_demands, told}
+use Rattle.adf_volume.specs.Demands.{AllHold, boot_demands, root_demands, demands_at}
 use Rattle.adf_volume.specs.Fits.{BodyFits, EntryFits}
 use Rattle.adf_volume.specs.Image.{DIR, FILE, kind_of, meta_of, name_of, root_of}
 use Rattle.adf_volume.specs.Layout.{Layout, at_node}
@@ -20,18 +20,18 @@ use Rattle.adf_volume.specs.Walk.Role.{Head}
 use Rattle.adf_volume.proofs.MemberFacts.{kept}
 use Rattle.adf_volume.proofs.Lists.{all_append, at_some}
 use Rattle.adf_volume.proofs.Chains.{entry_is_at}
-use Rattle.adf_check.specs.declared.kept.Row.{Row as Kept}
-use Rattle.adf_check.specs.Keeps.{Keeps}
-use Rattle.adf_check.specs.Reading.{TellsFit}
+use Rattle.adf_check.specs.declared.kept.KeptHeader.{KeptHeader as Kept}
+use Rattle.adf_check.specs.StoredVolume.{StoreStandsFor}
+use Rattle.adf_check.specs.Reading.{StoreFits}
 use Rattle.adf_check.specs.Store.{Store}
 use Rattle.adf_check.proofs.InRows.{node_here}
 use Rattle.adf_check.proofs.NodeSteps.{row_at}
 use Rattle.adf_check.specs.Image.{IsBegun}
-use Rattle.adf_check.specs.Rows.{BodyTold, EntryTold, IsTold, row_body, row_in}
+use Rattle.adf_check.specs.Rows.{BodyMatches, EntryMatches, RowMatches, row_body, row_in}
 use Rattle.adf_check.specs.declared.row.Row.{Row}
 
 -- a block with the form of a header is one
-pub head_facts : (kind : Kind) (b own parent slot : ℕ) (bytes : List ℕ) → AllHold (told b (head_form kind own parent slot bytes)) → IsHead bytes
+pub head_facts : (kind : Kind) (b own parent slot : ℕ) (bytes : List ℕ) → AllHold (demands_at b (head_form kind own parent slot bytes)) → IsHead bytes
 head_facts kind b own parent slot bytes h =
     let named = and_parts (nat_le _ 30) (is_name (text_at bytes 432)) h.1.1.1.1.1.0 in
     record {
@@ -41,14 +41,14 @@ head_facts kind b own parent slot bytes h =
     }
 
 -- the block of a row holds a header
-pub row_is_head : (image : List ℕ) (store : Store) → TellsFit image store → (i : ℕ) (d : Kept) → i < length store.rows
+pub row_is_head : (image : List ℕ) (store : Store) → StoreFits image store → (i : ℕ) (d : Kept) → i < length store.rows
     → IsHead (block image (get_or store.rows i d).head)
 row_is_head image store st i d lt =
     let x = node_here image store st.walk st.tells st.is_walk i (get_or store.rows i d) (row_at store.rows i d lt) in
     let k = (kept image st.is_walk (Head (suc i) x.0 x.1 x.2) (get_or store.rows i d).head x.3).2 in
     head_facts (kind_of image) (get_or store.rows i d).head (get_or store.rows i d).head k.0 x.1 (block image (get_or store.rows i d).head) k.2
 
-pub tells_begun : (image : List ℕ) (store : Store) → TellsFit image store → IsBegun image
+pub tells_begun : (image : List ℕ) (store : Store) → StoreFits image store → IsBegun image
 tells_begun image store st = all_append (boot_demands image) (root_demands image (root_of image)) st.fits.boots st.fits.root
 
 pub name_here : (image : List ℕ) (b : ℕ) → text_at (block image b) 432 ≡ name_of image b
@@ -66,23 +66,23 @@ no_dir : (b : List ℕ) → word b 127 ≡ FILE → (word b 127 == 2) ≡ false
 no_dir b h = grind (arith, nat_tests)
 
 body_here : (image : List ℕ) (t : Tree) (l : Layout) (n h : ℕ) (body : Body) → BodyFits image t.kind l n h body
-    → BodyTold (row_body (body_at (block image h))) body
+    → BodyMatches (row_body (body_at (block image h))) body
 body_here image t l n h Dir f = rw (is_dir (block image h) f.0) tt
 body_here image t l n h (File bytes) f = rw (no_dir (block image h) f.0) (sym f.2)
 
 -- what a row's header tells is what the tree has
-pub entry_told : (image : List ℕ) (store : Store) (t : Tree) (l : Layout) → Keeps image store t l → (n i : ℕ) (r : Kept) (told : Row) → n ≡ suc i
-    → i < length store.rows → At store.rows i r → told ≡ row_in r.parent (block image r.head) → IsTold (Some told) (entry t.entries n)
+pub entry_told : (image : List ℕ) (store : Store) (t : Tree) (l : Layout) → StoreStandsFor image store t l → (n i : ℕ) (r : Kept) (told : Row) → n ≡ suc i
+    → i < length store.rows → At store.rows i r → told ≡ row_in r.parent (block image r.head) → RowMatches (Some told) (entry t.entries n)
 entry_told image store t l k n i r told e lt at_row is =
     let count : length store.rows ≡ length t.entries = k.rows.count in
     let at = at_some t.entries i (omega arith) in
     let entry_is : entry t.entries n ≡ Some at.0 = ap (entry t.entries) e ∙ (entry_is_at t (suc i) at.0).0 at.1 in
     let h : at_node image l (suc i) ≡ r.head = k.rows.head i r at_row in
     let fits : EntryFits image t l (suc i) r.head at.0 = subst (λ b. EntryFits image t l (suc i) b at.0) h (k.fits.entries (suc i) at.0 at.1) in
-    let tells : EntryTold (row_in r.parent (block image r.head)) at.0 = record {
+    let tells : EntryMatches (row_in r.parent (block image r.head)) at.0 = record {
       parent = sym (k.rows.parent i r at.0 at_row at.1);
       name = name_here image r.head ∙ sym fits.name;
       meta = meta_here image r.head ∙ sym fits.meta;
       body = body_here image t l (suc i) r.head at.0.body fits.body;
     } in
-    subst (IsTold (Some told)) (sym entry_is) (subst (λ r. EntryTold r at.0) (sym is) tells)
+    subst (RowMatches (Some told)) (sym entry_is) (subst (λ r. EntryMatches r at.0) (sym is) tells)

@@ -1,7 +1,7 @@
 pub mod Cursor
 pub mod Store
 pub mod Reading
-pub mod Keeps
+pub mod StoredVolume
 pub mod Owners
 pub mod Narrow
 pub mod Checks

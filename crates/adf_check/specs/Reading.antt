@@ -13,7 +13,7 @@ use Rattle.adf_volume.specs.Walk.Role.{MapExt, Head, Ext}
 use Rattle.adf_volume.specs.Layout.{Layout}
 use Rattle.adf_volume.specs.Fits.{Fits}
 use Rattle.adf_volume.specs.Made.{tree_in, layout_in}
-use Rattle.adf_check.specs.Store.{Store, Tells}
+use Rattle.adf_check.specs.Store.{Store, StoreMatches}
 use Rattle.adf_check.specs.Cursor.{IsUpTo}
 
 -- the word of block a that names place j of slot s of directory p has the number b
@@ -24,7 +24,7 @@ Next image w p s (suc j) a b = ((m : ℕ) × Has w (Head m p s j) a) × (word_in
 -- everything up to slot s of directory p, whose block is up, has been read
 pub record IsAtSlot (image : List ℕ) (store : Store) (p up s : ℕ) : Type 0 where
   pub walk : List (Role × ℕ)
-  pub tells : Tells image store walk
+  pub tells : StoreMatches image store walk
   pub started : length store.starts ≡ suc p
   pub upto : IsUpTo image walk (suc p) (suc (suc s)) 0
   pub dir : DirAt image walk p up
@@ -37,7 +37,7 @@ pub record Sees (image : List ℕ) (w : List (Role × ℕ)) (p s : ℕ) (seen : 
 -- in that slot's chain, a word of block a names block b next
 pub record IsInChain (image : List ℕ) (store : Store) (p up s a b : ℕ) (seen : List ℕ → Type 0) : Type 0 where
   pub walk : List (Role × ℕ)
-  pub tells : Tells image store walk
+  pub tells : StoreMatches image store walk
   pub started : length store.starts ≡ suc p
   pub place : ℕ
   pub upto : IsUpTo image walk (suc p) (suc (suc s)) place
@@ -48,7 +48,7 @@ pub record IsInChain (image : List ℕ) (store : Store) (p up s a b : ℕ) (seen
 -- the role comes next, and a word of block a names block b for it
 pub record IsNamed (image : List ℕ) (store : Store) (r : Role) (a b : ℕ) : Type 0 where
   pub walk : List (Role × ℕ)
-  pub tells : Tells image store walk
+  pub tells : StoreMatches image store walk
   pub started : length store.starts ≡ first r
   pub upto : IsUpTo image walk (first r) (second r) (third r)
   pub index : ℕ
@@ -58,7 +58,7 @@ pub record IsNamed (image : List ℕ) (store : Store) (r : Role) (a b : ℕ) : T
 -- the pages below k and the bitmap extension blocks that name them have been read; block a named the last of them, or is the root
 pub record IsBeforePage (image : List ℕ) (store : Store) (k a : ℕ) : Type 0 where
   pub walk : List (Role × ℕ)
-  pub tells : Tells image store walk
+  pub tells : StoreMatches image store walk
   pub started : length store.starts ≡ 0
   pub upto : IsUpTo image walk 0 1 (k + (k + 101) / 127)
   pub at_root : k ≤ 25 → a ≡ root_of image
@@ -67,7 +67,7 @@ pub record IsBeforePage (image : List ℕ) (store : Store) (k a : ℕ) : Type 0 
 -- everything up to page k has been read, and a word of block a names it
 pub record IsAtPage (image : List ℕ) (store : Store) (k a : ℕ) : Type 0 where
   pub walk : List (Role × ℕ)
-  pub tells : Tells image store walk
+  pub tells : StoreMatches image store walk
   pub started : length store.starts ≡ 0
   pub upto : IsUpTo image walk 0 1 (k + (k + 102) / 127)
   pub index : ℕ
@@ -90,14 +90,14 @@ pub record IsListed (image : List ℕ) (list : List ℕ) (k : ℕ) : Type 0 wher
 -- everything up to node n has been read
 pub record IsAtNode (image : List ℕ) (store : Store) (n : ℕ) : Type 0 where
   pub walk : List (Role × ℕ)
-  pub tells : Tells image store walk
+  pub tells : StoreMatches image store walk
   pub started : length store.starts ≡ n
   pub upto : IsUpTo image walk (suc n) 0 0
 
 -- node n has been begun, and nothing of it has been read
 pub record IsInNode (image : List ℕ) (store : Store) (n : ℕ) : Type 0 where
   pub walk : List (Role × ℕ)
-  pub tells : Tells image store walk
+  pub tells : StoreMatches image store walk
   pub started : length store.starts ≡ suc n
   pub upto : IsUpTo image walk (suc n) 0 0
 
@@ -109,7 +109,7 @@ NextExt image w n h (suc j) a b = Has w (Ext n (suc j)) a × (word_in image a 12
 -- the table has the header and the extension blocks so far of file n, and a word of block a names block b next
 pub record IsInExts (image : List ℕ) (store : Store) (n h : ℕ) (table : List ℕ) (a b : ℕ) : Type 0 where
   pub walk : List (Role × ℕ)
-  pub tells : Tells image store walk
+  pub tells : StoreMatches image store walk
   pub started : length store.starts ≡ suc n
   pub extra : ℕ
   pub size : length table ≡ suc extra
@@ -122,7 +122,7 @@ pub record IsInExts (image : List ℕ) (store : Store) (n h : ℕ) (table : List
 -- the table has the header and all extension blocks of file n, of which k data blocks have been read
 pub record IsInDatas (image : List ℕ) (store : Store) (n h : ℕ) (table : List ℕ) (k : ℕ) : Type 0 where
   pub walk : List (Role × ℕ)
-  pub tells : Tells image store walk
+  pub tells : StoreMatches image store walk
   pub started : length store.starts ≡ suc n
   pub upto : IsUpTo image walk (suc n) 1 (suc k)
   pub file : FileAt image walk n h
@@ -132,7 +132,7 @@ pub record IsInDatas (image : List ℕ) (store : Store) (n h : ℕ) (table : Lis
 -- everything has been read
 pub record IsRead (image : List ℕ) (store : Store) : Type 0 where
   pub walk : List (Role × ℕ)
-  pub tells : Tells image store walk
+  pub tells : StoreMatches image store walk
   pub started : length store.starts ≡ suc (length store.rows)
   pub is_walk : IsWalk image walk
   pub whole : IsWhole image walk
@@ -140,7 +140,7 @@ pub record IsRead (image : List ℕ) (store : Store) : Type 0 where
 -- everything has been read, and the bitmap agrees below block b
 pub record IsMapped (image : List ℕ) (store : Store) (b : ℕ) : Type 0 where
   pub walk : List (Role × ℕ)
-  pub tells : Tells image store walk
+  pub tells : StoreMatches image store walk
   pub started : length store.starts ≡ suc (length store.rows)
   pub is_walk : IsWalk image walk
   pub whole : IsWhole image walk
@@ -148,9 +148,9 @@ pub record IsMapped (image : List ℕ) (store : Store) (b : ℕ) : Type 0 where
   pub agrees : AllHold (bitmap_demands image walk 2 (b - 2))
 
 -- what is kept tells of a whole walk whose tree and layout fit, and no others do
-pub record TellsFit (image : List ℕ) (store : Store) : Type 0 where
+pub record StoreFits (image : List ℕ) (store : Store) : Type 0 where
   pub walk : List (Role × ℕ)
-  pub tells : Tells image store walk
+  pub tells : StoreMatches image store walk
   pub started : length store.starts ≡ suc (length store.rows)
   pub is_walk : IsWalk image walk
   pub whole : IsWhole image walk

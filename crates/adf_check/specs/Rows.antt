@@ -21,20 +21,20 @@ abbrev pub row_in : ℕ → List ℕ → Row
 row_in parent b = record { parent = parent; name = text_at b 432; meta = meta_at b; body = row_body (body_at b) }
 
 -- a directory is told as one, and a file with the number of its bytes
-abbrev pub BodyTold : RowBody → Body → Type 0
-BodyTold Dir ADir = Unit {0}
-BodyTold (File size) (AFile bytes) = size ≡ length bytes
-BodyTold _ _ = ⊥
+abbrev pub BodyMatches : RowBody → Body → Type 0
+BodyMatches Dir ADir = Unit {0}
+BodyMatches (File size) (AFile bytes) = size ≡ length bytes
+BodyMatches _ _ = ⊥
 
 -- the row has the parent, name, comment, protection, date and kind of the entry
-pub record EntryTold (r : Row) (e : Entry) : Type 0 where
+pub record EntryMatches (r : Row) (e : Entry) : Type 0 where
   pub parent : r.parent ≡ e.parent
   pub name : r.name ≡ e.name
   pub meta : r.meta ≡ e.meta
-  pub body : BodyTold r.body e.body
+  pub body : BodyMatches r.body e.body
 
 -- a row for an entry, none for none
-abbrev pub IsTold : Option Row → Option Entry → Type 0
-IsTold None None = Unit {0}
-IsTold (Some r) (Some e) = EntryTold r e
-IsTold _ _ = ⊥
+abbrev pub RowMatches : Option Row → Option Entry → Type 0
+RowMatches None None = Unit {0}
+RowMatches (Some r) (Some e) = EntryMatches r e
+RowMatches _ _ = ⊥

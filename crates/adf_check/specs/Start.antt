@@ -7,9 +7,9 @@ use Rattle.adf_blocks.specs.Sizes.{is_allowed}
 use Rattle.adf_volume.specs.Demands.{boot_form}
 
 -- whole blocks, of an allowed number
-abbrev pub is_whole : ℕ → Bool
-is_whole size = (size % 512 == 0) && is_allowed (size / 512)
+abbrev pub is_image_len : ℕ → Bool
+is_image_len size = (size % 512 == 0) && is_allowed (size / 512)
 
 -- what the size and the boot bytes of an image must be
 abbrev pub start_form : List ℕ → List Clause
-start_form image = (is_whole (length image), BadSize) ∷ boot_form (block image 0)
+start_form image = (is_image_len (length image), BadSize) ∷ boot_form (block image 0)

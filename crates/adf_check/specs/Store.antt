@@ -7,14 +7,14 @@ use Rattle.adf_volume.specs.declared.owner.Owner.TheVariants.{Free, Boot}
 use Rattle.adf_volume.specs.Lists.{At}
 use Rattle.adf_volume.specs.Walk.{Role, Has, heads}
 use Rattle.adf_volume.specs.Walk.Role.{Root, Page, MapExt, Head, Ext, Data}
-use Rattle.adf_volume.specs.Parts.{owner_of}
-use Rattle.adf_check.specs.declared.kept.Row.{Row}
+use Rattle.adf_volume.specs.LayoutRoles.{owner_of}
+use Rattle.adf_check.specs.declared.kept.KeptHeader.{KeptHeader}
 use Rattle.adf_check.specs.declared.kept.Start.{Start}
 
 -- the rows are of nodes 1, 2, .., the starts of nodes 0, 1, ..; so many blocks have an owner
 pub record Store : Type 0 where
   pub owners : List Owner
-  pub rows : List Row
+  pub rows : List KeptHeader
   pub starts : List Start
   pub exts : List ℕ
   pub datas : List ℕ
@@ -24,7 +24,7 @@ pub record Store : Type 0 where
 abbrev pub owner_at : List Owner → ℕ → Owner
 owner_at owners b = slice_index_or owners b Free
 
-abbrev pub push_row : Role → ℕ → List Row → List Row
+abbrev pub push_row : Role → ℕ → List KeptHeader → List KeptHeader
 push_row Root b rows = rows
 push_row (Page k) b rows = rows
 push_row (MapExt k) b rows = rows
@@ -107,12 +107,12 @@ pub record Owns (image : List ℕ) (owners : List Owner) (w : List (Role × ℕ)
   pub owned : (b : ℕ) → 2 ≤ b → b < blocks image → owner_at owners b ≢ Free → (q : Role) × Has w q b × (owner_at owners b ≡ owner_of q)
 
 -- row i is the header of node i + 1
-pub record Rows (rows : List Row) (w : List (Role × ℕ)) : Type 0 where
+pub record Rows (rows : List KeptHeader) (w : List (Role × ℕ)) : Type 0 where
   pub count : length rows ≡ heads w
   pub row : (i p s j b : ℕ) → Has w (Head (suc i) p s j) b → At rows i (record { parent = p; head = b })
 
 -- what is kept tells of the walk
-pub record Tells (image : List ℕ) (store : Store) (w : List (Role × ℕ)) : Type 0 where
+pub record StoreMatches (image : List ℕ) (store : Store) (w : List (Role × ℕ)) : Type 0 where
   pub owns : Owns image store.owners w
   pub lists : Rows store.rows w
   pub exts : store.exts ≡ all_exts w

@@ -6,9 +6,9 @@ use Rattle.adf_tree.specs.Tree.{Tree, is_dir_body}
 use Rattle.adf_blocks.specs.Sizes.{blocks}
 use Rattle.adf_volume.specs.Image.{DIR, label_of, root_of, stamps_of, word_in}
 use Rattle.adf_volume.specs.Layout.{Layout, owned}
-use Rattle.adf_check.specs.declared.kept.Row.{Row}
-use Rattle.adf_check.specs.Keeps.{Keeps}
-use Rattle.adf_check.specs.Reading.{TellsFit}
+use Rattle.adf_check.specs.declared.kept.KeptHeader.{KeptHeader}
+use Rattle.adf_check.specs.StoredVolume.{StoreStandsFor}
+use Rattle.adf_check.specs.Reading.{StoreFits}
 use Rattle.adf_check.specs.Store.{Store}
 use Rattle.adf_check.specs.declared.checked.Counts.{Counts}
 
@@ -19,11 +19,11 @@ pub record Volume : Type 0 where
 
 -- the volume stands for this tree and layout: they fit its image and no others do, and what was read tells of them
 abbrev pub StandsFor : Volume → Tree → Layout → Type 0
-StandsFor v t l = Keeps v.image v.store t l
+StandsFor v t l = StoreStandsFor v.image v.store t l
 
 -- what holds of every checked volume
 pub record IsChecked (v : Volume) (name : List ℕ) (dates : Stamps) : Type 0 where
-  pub tells : TellsFit v.image v.store
+  pub tells : StoreFits v.image v.store
   pub label : name ≡ label_of v.image (root_of v.image)
   pub stamps : dates ≡ stamps_of v.image (root_of v.image)
 
@@ -43,5 +43,5 @@ counts_of image t l = record {
 }
 
 -- whether the header at a row's block is that of a directory
-abbrev pub is_dir_at : List ℕ → Row → Bool
+abbrev pub is_dir_at : List ℕ → KeptHeader → Bool
 is_dir_at image r = word_in image r.head 127 == DIR

@@ -3,7 +3,7 @@
 ghost use Rattle.std.specs.Prelude.{◌≡◌, ◌<◌, ◌+◌, ◌*◌, ◌↔◌, IsBitSet, IsTrue, length, min, OnOk, IfErr};
 ghost use Rattle.adf_blocks.specs.Sizes.{blocks, pages_needed};
 ghost use Rattle.adf_volume.specs.declared.owner.Owner.TheVariants.{Free};
-ghost use Rattle.adf_check.specs.Reading.{IsMapped, IsRead, TellsFit};
+ghost use Rattle.adf_check.specs.Reading.{IsMapped, IsRead, StoreFits};
 ghost use Rattle.adf_check.specs.Store.{owner_at};
 ghost use Rattle.adf_check.specs.Found.{IsTrueFault, store_of};
 ghost use Rattle.adf_check.specs.Image.{IsBegun};
@@ -72,7 +72,7 @@ fn check_word(image: &Image<'_>, found: &Found, pages: &[u32], i: u32) -> Result
 pub fn check_bitmap(image: &Image<'_>, found: &Found, pages: &[u32]) -> Result<(), Fault>
     requires pages { AreListed image.now pages.now (pages_needed (blocks image.now)) }
     requires state { IsRead image.now (store_of found.now) }
-    ensures fits { OnOk result (TellsFit image.now (store_of found.now)) }
+    ensures fits { OnOk result (StoreFits image.now (store_of found.now)) }
     ensures fault { IfErr result (λ f. IsTrueFault image.now f) }
 {
     let words = (image.blocks() - 2).div_ceil(32);

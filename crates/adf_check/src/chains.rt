@@ -10,7 +10,7 @@ use crate::claims::claim_named;
 use crate::fault::{Fault, fault_at};
 use crate::found::Found;
 use crate::image::Image;
-use crate::kept::Row;
+use crate::kept::KeptHeader;
 use crate::narrow_owner::NarrowOwner;
 use adf_blocks::{Cause, FIRST_SLOT, read_head};
 use adf_tree::{NameSet, Node};
@@ -24,18 +24,18 @@ struct Chain {
 }
 
 // What is kept of the header at block `head`, of an entry with this parent.
-fn kept_row(parent: Node, head: u32) -> Row
+fn kept_row(parent: Node, head: u32) -> KeptHeader
     requires { parent < 2 ^ 32 }
     ensures { result ≡ record { parent = parent; head = head } }
 {
-    Row {
+    KeptHeader {
         parent: parent.0 as u32,
         head,
     }
 }
 
 // Claims and reads the header at block `b`, which a word of block `at` names: the next one of its chain, or 0.
-fn read_member(
+fn read_header(
     image: &Image<'_>,
     found: &mut Found,
     seen: &mut NameSet,
@@ -88,7 +88,7 @@ fn read_chain(
     let mut at = chain.up;
     let mut b = image.word(at, FIRST_SLOT + chain.slot as usize);
     while b != 0 {
-        let next = read_member(image, found, seen, chain, at, b)?;
+        let next = read_header(image, found, seen, chain, at, b)?;
         at = b;
         b = next;
     }

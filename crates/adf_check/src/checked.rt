@@ -9,12 +9,12 @@ ghost use Rattle.adf_volume.specs.Layout.{Layout, datas_of, owned};
 ghost use Rattle.adf_volume.specs.Lists.{In};
 ghost use Rattle.adf_check.specs.Found.{store_of};
 ghost use Rattle.adf_check.specs.Pieces.{bytes_of};
-ghost use Rattle.adf_check.specs.Rows.{IsTold};
+ghost use Rattle.adf_check.specs.Rows.{RowMatches};
 ghost use Rattle.adf_check.specs.Volumes.{IsChecked, StandsFor, counts_of, is_dir_at};
 
 use crate::found::Found;
 use crate::image::Image;
-use crate::kept::Row as Kept;
+use crate::kept::KeptHeader;
 use crate::lookup::find;
 use crate::pieces::{Pieces, joined, pieces_of};
 use crate::rebuild::tree_of;
@@ -117,7 +117,7 @@ impl Checked<'_> {
 
     /// What is told of an entry; None for the root and past the last entry.
     pub fn row(&self, n: Node) -> Option<Row>
-        ensures { (t : Tree) (l : Layout) → StandsFor self.now t l → IsTold result (entry t.entries n) }
+        ensures { (t : Tree) (l : Layout) → StandsFor self.now t l → RowMatches result (entry t.entries n) }
     {
         if n.0 == 0 {
             return None;
@@ -181,8 +181,8 @@ impl Checked<'_> {
 
 // The directories among the entries of these rows.
 #[tactic(auto, using(std::proofs::lemmas::List::Sums::count_by_more_yes, std::proofs::lemmas::List::Sums::count_by_more_no))]
-fn count_dirs(image: &Image<'_>, rows: &[Kept]) -> usize
-    requires { (i : ℕ) (d : Kept) → i < length rows.now → (get_or rows.now i d).head < blocks image.now }
+fn count_dirs(image: &Image<'_>, rows: &[KeptHeader]) -> usize
+    requires { (i : ℕ) (d : KeptHeader) → i < length rows.now → (get_or rows.now i d).head < blocks image.now }
     ensures exact { result ≡ count_by (is_dir_at image.now) rows.now }
     ensures within { result ≤ length rows.now }
 {

@@ -112,7 +112,7 @@ fn check_data(image: &Image<'_>, table: &[u32], file: &File, b: u32, k: u32) -> 
 
 // Claims and checks block `b` as data block `k + 1` of a file, as block `at` of its table names it. The table has the header and
 // the extension blocks.
-fn read_member(
+fn read_data_block(
     image: &Image<'_>,
     found: &mut Found,
     table: &[u32],
@@ -173,7 +173,7 @@ fn read_named(
     let len = (count - first).min(72);
     for k in first..first + len {
         let b = names.word(FIRST_POINTER - (k - first) as usize);
-        read_member(image, found, table, file, at, b, k)?;
+        read_data_block(image, found, table, file, at, b, k)?;
     }
     Ok(())
 }

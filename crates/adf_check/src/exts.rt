@@ -17,7 +17,7 @@ use adf_tree::Node;
 
 // Claims and reads the extension block at block `b`, which a word of block `at` names, of the file `node` with its header at block
 // `head`: the next one, or 0. The table has the header and the extension blocks before.
-fn read_member(
+fn read_ext_block(
     image: &Image<'_>,
     found: &mut Found,
     table: &mut Vec<u32>,
@@ -63,7 +63,7 @@ pub fn read_exts(
     let mut at = head;
     let mut b = image.word(at, EXTENSION);
     while b != 0 {
-        let next = read_member(image, found, table, node, head, at, b)?;
+        let next = read_ext_block(image, found, table, node, head, at, b)?;
         at = b;
         b = next;
     }

@@ -6,7 +6,7 @@ ghost use Rattle.adf_check.specs.Reading.{IsBeforePage};
 ghost use Rattle.adf_check.specs.Found.{store_of};
 
 use crate::image::Image;
-use crate::kept::{Row, Start};
+use crate::kept::{KeptHeader, Start};
 use crate::narrow_owner::NarrowOwner;
 use crate::owner_table::OwnerTable;
 use adf_fields::NoMemory;
@@ -17,7 +17,7 @@ use std::alloc::Global;
 #[derive(Drop)]
 pub struct Found {
     pub owners: OwnerTable,
-    pub rows: Vec<Row>,
+    pub rows: Vec<KeptHeader>,
     pub starts: Vec<Start>,
     pub exts: Vec<u32>,
     pub datas: Vec<u32>,

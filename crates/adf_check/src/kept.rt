@@ -3,13 +3,13 @@
 ghost use Rattle.std.specs.Prelude.{ℕ, List};
 ghost use Rattle.adf_tree.specs.Tree.{Tree};
 ghost use Rattle.adf_volume.specs.Layout.{Layout};
-ghost use Rattle.adf_check.specs.Keeps.{Keeps};
-ghost use Rattle.adf_check.specs.Reading.{TellsFit};
+ghost use Rattle.adf_check.specs.StoredVolume.{StoreStandsFor};
+ghost use Rattle.adf_check.specs.Reading.{StoreFits};
 ghost use Rattle.adf_check.specs.Store.{Store};
 
 /// What is kept of a header: the number of its entry's parent, and its block.
 #[derive(Clone, Copy, Debug, PartialEq, Eq)]
-pub struct Row {
+pub struct KeptHeader {
     pub parent: u32,
     pub head: u32,
 }
@@ -22,6 +22,6 @@ pub struct Start {
 }
 
 /// What a reader keeps of a whole walk tells of the one tree and layout that fit.
-pub fn what_is_kept_tells()
-    ensures { (image : List ℕ) (store : Store) → TellsFit image store → (t : Tree) × (l : Layout) × Keeps image store t l }
+pub fn stores_stand_for_trees()
+    ensures { (image : List ℕ) (store : Store) → StoreFits image store → (t : Tree) × (l : Layout) × StoreStandsFor image store t l }
 {}

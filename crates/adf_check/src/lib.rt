@@ -27,7 +27,7 @@ mod start;
 pub use crate::checked::{Checked, Counts};
 pub use crate::checker::check;
 pub use crate::fault::Fault;
-pub use crate::kept::what_is_kept_tells;
+pub use crate::kept::stores_stand_for_trees;
 pub use crate::owners::Owners;
 pub use crate::pieces::Pieces;
 pub use crate::row::{Row, RowBody};

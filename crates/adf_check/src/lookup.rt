@@ -6,8 +6,8 @@ ghost use Rattle.adf_blocks.specs.Sizes.{blocks};
 ghost use Rattle.adf_volume.specs.Image.{word_in};
 ghost use Rattle.adf_volume.specs.Layout.{Layout, at_node, chain_nodes};
 ghost use Rattle.adf_volume.specs.Lists.{Spelled};
-ghost use Rattle.adf_check.specs.Keeps.{Keeps};
-ghost use Rattle.adf_check.specs.Reading.{TellsFit};
+ghost use Rattle.adf_check.specs.StoredVolume.{StoreStandsFor};
+ghost use Rattle.adf_check.specs.Reading.{StoreFits};
 ghost use Rattle.adf_check.specs.Store.{owner_at};
 ghost use Rattle.adf_check.specs.Found.{store_of};
 ghost use Rattle.adf_check.specs.Lookup.{headed};
@@ -22,9 +22,9 @@ use adf_volume::Owner;
 
 /// The block of a node.
 pub fn block_of(image: &Image<'_>, found: &Found, node: Node) -> u32
-    requires tells { TellsFit image.now (store_of found.now) }
+    requires tells { StoreFits image.now (store_of found.now) }
     requires node { node ≤ length found.now.rows.items }
-    ensures block { (t : Tree) (l : Layout) → Keeps image.now (store_of found.now) t l → result ≡ at_node image.now l node }
+    ensures block { (t : Tree) (l : Layout) → StoreStandsFor image.now (store_of found.now) t l → result ≡ at_node image.now l node }
     ensures inside { result < blocks image.now }
 {
     if node.0 == 0 {
@@ -46,10 +46,10 @@ fn node_at(owners: &OwnerTable, b: u32) -> Option<Node>
 
 // The first header in the chain of a slot of a node, or 0: a file has no chain.
 fn first_of(image: &Image<'_>, found: &Found, parent: Node, slot: u8) -> u32
-    requires tells { TellsFit image.now (store_of found.now) }
+    requires tells { StoreFits image.now (store_of found.now) }
     requires node { parent ≤ length found.now.rows.items }
     requires slot { slot < 72 }
-    ensures { (t : Tree) (l : Layout) → Keeps image.now (store_of found.now) t l
+    ensures { (t : Tree) (l : Layout) → StoreStandsFor image.now (store_of found.now) t l
         → Spelled (λ b. word_in image.now b 124) result (map (at_node image.now l) (chain_nodes t parent slot)) }
 {
     let up = block_of(image, found, parent);
@@ -61,9 +61,9 @@ fn first_of(image: &Image<'_>, found: &Found, parent: Node, slot: u8) -> u32
 
 /// The entry with this parent and this name, whatever the case.
 pub fn child(image: &Image<'_>, found: &Found, parent: Node, name: &Name) -> Option<Node>
-    requires tells { TellsFit image.now (store_of found.now) }
+    requires tells { StoreFits image.now (store_of found.now) }
     requires node { parent ≤ length found.now.rows.items }
-    ensures found { (t : Tree) (l : Layout) → Keeps image.now (store_of found.now) t l → result ≡ child t.entries parent name.now }
+    ensures found { (t : Tree) (l : Layout) → StoreStandsFor image.now (store_of found.now) t l → result ≡ child t.entries parent name.now }
     ensures node { IfSome result (λ n. n ≤ length found.now.rows.items) }
 {
     let mut b = first_of(image, found, parent, slot(name.bytes()));
@@ -79,8 +79,8 @@ pub fn child(image: &Image<'_>, found: &Found, parent: Node, name: &Name) -> Opt
 
 /// The node that the path leads to.
 pub fn find(image: &Image<'_>, found: &Found, path: &[Name]) -> Option<Node>
-    requires { TellsFit image.now (store_of found.now) }
-    ensures { (t : Tree) (l : Layout) → Keeps image.now (store_of found.now) t l → result ≡ find_from t.entries 0 path.now }
+    requires { StoreFits image.now (store_of found.now) }
+    ensures { (t : Tree) (l : Layout) → StoreStandsFor image.now (store_of found.now) t l → result ≡ find_from t.entries 0 path.now }
 {
     let mut node = Node(0);
     for name in path {

@@ -8,8 +8,8 @@ ghost use Rattle.adf_tree.specs.declared.entry.Kind.TheVariants.{Ffs};
 ghost use Rattle.adf_blocks.specs.Sizes.{blocks};
 ghost use Rattle.adf_volume.specs.Image.{DIR, count, held, kind_of, piece, pieces, word_in};
 ghost use Rattle.adf_volume.specs.Layout.{Layout, at_node, datas_of};
-ghost use Rattle.adf_check.specs.Keeps.{Keeps};
-ghost use Rattle.adf_check.specs.Reading.{TellsFit};
+ghost use Rattle.adf_check.specs.StoredVolume.{StoreStandsFor};
+ghost use Rattle.adf_check.specs.Reading.{StoreFits};
 ghost use Rattle.adf_check.specs.Found.{store_of};
 ghost use Rattle.adf_check.specs.Pieces.{AreInside, bytes_of};
 
@@ -115,10 +115,10 @@ fn part(xs: &[u32], from: usize, len: usize) -> &[u32]
 
 // The data blocks of file `n` of so many bytes.
 fn datas_of<'a>(image: &Image<'_>, found: &'a Found, n: Node, size: u32) -> &'a [u32]
-    requires tells { TellsFit image.now (store_of found.now) }
+    requires tells { StoreFits image.now (store_of found.now) }
     requires node { n ≤ length found.now.rows.items }
-    requires size { (t : Tree) (l : Layout) → Keeps image.now (store_of found.now) t l → length (datas_of l n) ≡ count (kind_of image.now) size }
-    ensures { (t : Tree) (l : Layout) → Keeps image.now (store_of found.now) t l → result.now ≡ datas_of l n }
+    requires size { (t : Tree) (l : Layout) → StoreStandsFor image.now (store_of found.now) t l → length (datas_of l n) ≡ count (kind_of image.now) size }
+    ensures { (t : Tree) (l : Layout) → StoreStandsFor image.now (store_of found.now) t l → result.now ≡ datas_of l n }
 {
     let count = count_of(image.kind(), size) as usize;
     if count == 0 {
@@ -129,9 +129,9 @@ fn datas_of<'a>(image: &Image<'_>, found: &'a Found, n: Node, size: u32) -> &'a 
 
 /// The pieces of a file; none of the root, a directory and what is past the last entry.
 pub fn pieces_of<'a>(image: &Image<'a>, found: &'a Found, n: Node) -> Option<Pieces<'a>>
-    requires { TellsFit image.now (store_of found.now) }
-    ensures joined { (t : Tree) (l : Layout) → Keeps image.now (store_of found.now) t l → option_map concat result ≡ bytes_of (entry t.entries n) }
-    ensures one_each { (t : Tree) (l : Layout) → Keeps image.now (store_of found.now) t l → IfSome result (λ ps. length ps ≡ length (datas_of l n)) }
+    requires { StoreFits image.now (store_of found.now) }
+    ensures joined { (t : Tree) (l : Layout) → StoreStandsFor image.now (store_of found.now) t l → option_map concat result ≡ bytes_of (entry t.entries n) }
+    ensures one_each { (t : Tree) (l : Layout) → StoreStandsFor image.now (store_of found.now) t l → IfSome result (λ ps. length ps ≡ length (datas_of l n)) }
     ensures some { IfSome result (λ ps. All (λ p. 0 < length p) ps) }
 {
     if n.0 == 0 || found.rows.len() < n.0 {

@@ -5,7 +5,7 @@ ghost use Rattle.adf_fields.specs.Words.{block};
 ghost use Rattle.adf_volume.specs.Image.{kind_of, root_of};
 ghost use Rattle.adf_check.specs.Found.{IsTrueFault};
 ghost use Rattle.adf_check.specs.Image.{IsBegun};
-ghost use Rattle.adf_check.specs.Start.{is_whole, start_form};
+ghost use Rattle.adf_check.specs.Start.{is_image_len, start_form};
 ghost use Rattle.adf_blocks.specs.Forms.{ReadsForm};
 ghost use Rattle.adf_blocks.specs.Sizes.{blocks, is_allowed};
 
@@ -30,8 +30,8 @@ pub struct Opened<'a> {
 }
 
 // Whether a volume may have so many bytes.
-fn is_whole_size(size: usize) -> bool
-    ensures { result ≡ is_whole size }
+fn is_image_len(size: usize) -> bool
+    ensures { result ≡ is_image_len size }
 {
     let blocks = size / BLOCK_LEN;
     size % BLOCK_LEN == 0 && (4 <= blocks && blocks <= MOST_BLOCKS as usize && blocks % 2 == 0)
@@ -70,7 +70,7 @@ fn kind_in(image: &[u8]) -> Kind
 fn read_start(image: &[u8]) -> Result<Start, Cause>
     ensures { ReadsForm (start_form image.now) (λ s. (s.blocks ≡ blocks image.now) × (s.kind ≡ kind_of image.now)) result }
 {
-    if !is_whole_size(image.len()) {
+    if !is_image_len(image.len()) {
         return Err(Cause::BadSize);
     }
     let boot = boot_block(image);

@@ -24,7 +24,7 @@ use Rattle.adf_texts.specs.Lines.{fault_line, ok_line}
 use Rattle.adf_texts.specs.VolumeLines.{AreDates, volume_lines}
 use Rattle.adf_manifest.specs.declared.manifest.ManifestFault.{ManifestFault}
 use Rattle.adf_cmd.specs.declared.outcome.Outcome.{Outcome}
-use Rattle.adf_cmd.specs.declared.outcome.Outcome.TheVariants.{Done, Told, Refused, NoSuchPath, NotAFile, ReadFault, WriteFault, NoMemory}
+use Rattle.adf_cmd.specs.declared.outcome.Outcome.TheVariants.{Done, FaultWritten, Refused, NoSuchPath, NotAFile, ReadFault, WriteFault, NoMemory}
 
 pub if_some_weaker : {T : Type 0} {P Q : T → Type 0} (o : Option T) → ((x : T) → P x → Q x) → IfSome o P → IfSome o Q
 if_some_weaker None f p = tt
@@ -51,7 +51,7 @@ accepted_works image line counts o o' (t, l, fits, numbers) e whole = (line, inl
 -- what is told of a fault answers the refused image
 pub refused_works : (w : Outcome) (image : List ℕ) (f : Fault) (o o' : Option (List ℕ)) → f.cause ≢ CauseNoMemory
     → (f.cause ≢ CauseNoMemory → FirstFault image f.block f.cause) → TellsFault w f o o' → Works w check image o o'
-refused_works Told image f o o' cause first h = (fault_line f, inr (f, first cause, refl, refl, refl), h)
+refused_works FaultWritten image f o o' cause first h = (fault_line f, inr (f, first cause, refl, refl, refl), h)
 refused_works WriteFault image f o o' cause first h = (1, fault_line f, [], inr (f, first cause, refl, refl, refl), h)
 refused_works NoMemory image f o o' cause first h = inl h
 refused_works _ image f o o' cause first h = absurd h

@@ -7,20 +7,20 @@ use Rattle.adf_tree.specs.Paths.{names_of}
 use Rattle.adf_tree.specs.Tree.{IsTree, entry}
 use Rattle.adf_tree.proofs.NamesFound.{names_next, names_past}
 use Rattle.adf_tree.proofs.Told.{entry_says}
-use Rattle.adf_check.specs.Rows.{EntryTold, IsTold}
+use Rattle.adf_check.specs.Rows.{EntryMatches, RowMatches}
 use Rattle.adf_check.specs.declared.row.Row.{Row}
 
 -- the entry of which a row tells
-pub told_entry : (r : Row) (o : Option Entry) → IsTold (Some r) o → (e : Entry) × (o ≡ Some e) × EntryTold r e
+pub told_entry : (r : Row) (o : Option Entry) → RowMatches (Some r) o → (e : Entry) × (o ≡ Some e) × EntryMatches r e
 told_entry r None h = absurd h
 told_entry r (Some e) h = (e, refl, h)
 
-told_none : (o : Option Entry) → IsTold None o → o ≡ None
+told_none : (o : Option Entry) → RowMatches None o → o ≡ None
 told_none None h = refl
 told_none (Some e) h = absurd h
 
 -- the parent of an entry has a smaller number
-pub parent_smaller : (es : List Entry) (n : ℕ) (r : Row) → IsTree es → IsTold (Some r) (entry es n) → r.parent < n
+pub parent_smaller : (es : List Entry) (n : ℕ) (r : Row) → IsTree es → RowMatches (Some r) (entry es n) → r.parent < n
 parent_smaller es n r t h =
     let told = told_entry r (entry es n) h in
     let e = told.0 in
@@ -30,7 +30,7 @@ parent_smaller es n r t h =
     omega (arith, small, same, says.0)
 
 -- the names of the parent, behind which the name of the entry is gathered
-pub gathered_more : (es : List Entry) (names path : List (List ℕ)) (n : ℕ) (r : Row) → IsTree es → IsTold (Some r) (entry es n)
+pub gathered_more : (es : List Entry) (names path : List (List ℕ)) (n : ℕ) (r : Row) → IsTree es → RowMatches (Some r) (entry es n)
     → names ≡ names_of es n ++ reverse path → names ≡ names_of es r.parent ++ reverse (path ++ r.name ∷ [])
 gathered_more es names path n r t h e =
     let told = told_entry r (entry es n) h in
@@ -46,6 +46,6 @@ names_none : (es : List Entry) (n : ℕ) → entry es n ≡ None → names_of es
 names_none es zero h = refl
 names_none es (suc m) h = ap (names_past es m) h
 
-pub gathered_all : (es : List Entry) (names path : List (List ℕ)) (n : ℕ) → IsTold None (entry es n) → names ≡ names_of es n ++ reverse path
+pub gathered_all : (es : List Entry) (names path : List (List ℕ)) (n : ℕ) → RowMatches None (entry es n) → names ≡ names_of es n ++ reverse path
     → reverse path ≡ names
 gathered_all es names path n h e = sym (e ∙ ap (λ l. l ++ reverse path) (names_none es n (told_none (entry es n) h)))

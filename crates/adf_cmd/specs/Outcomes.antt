@@ -14,11 +14,11 @@ use Rattle.adf_texts.specs.Lines.{fault_line, full_line, manifest_fault_line}
 use Rattle.adf_manifest.specs.declared.manifest.ManifestFault.{ManifestFault}
 use Rattle.adf_manifest.specs.declared.manifest.ManifestKind.TheVariants.{NoMemory as ManifestNoMemory}
 use Rattle.adf_cmd.specs.declared.outcome.Outcome.{Outcome}
-use Rattle.adf_cmd.specs.declared.outcome.Outcome.TheVariants.{Done, Told, Refused, NoSuchPath, NotAFile, ReadFault, WriteFault, NoMemory}
+use Rattle.adf_cmd.specs.declared.outcome.Outcome.TheVariants.{Done, FaultWritten, Refused, NoSuchPath, NotAFile, ReadFault, WriteFault, NoMemory}
 
 abbrev pub status_of : Outcome → ℕ
 status_of Done = 0
-status_of Told = 1
+status_of FaultWritten = 1
 status_of (Refused line) = 1
 status_of NoSuchPath = 1
 status_of NotAFile = 1
@@ -29,7 +29,7 @@ status_of NoMemory = 3
 -- what is said on errors
 abbrev pub line_of : Outcome → List ℕ
 line_of Done = []
-line_of Told = []
+line_of FaultWritten = []
 line_of (Refused line) = string_bytes line
 line_of NoSuchPath = codes "no such path\n"
 line_of NotAFile = codes "not a file\n"
@@ -78,7 +78,7 @@ IsFaultOutcome f _ = ⊥
 
 -- telling a fault: its line is written, or a front part of it, or nothing for want of memory
 abbrev pub TellsFault : Outcome → Fault → Option (List ℕ) → Option (List ℕ) → Type 0
-TellsFault Told f o o' = Appends o o' (fault_line f)
+TellsFault FaultWritten f o o' = Appends o o' (fault_line f)
 TellsFault WriteFault f o o' = AppendsPart o o' (fault_line f)
 TellsFault NoMemory f o o' = Appends o o' []
 TellsFault _ f o o' = ⊥

@@ -57,7 +57,7 @@ fn tell_refused<W: Sink>(alloc: Global, fault: Fault, output: &mut W) -> Outcome
         return Outcome::NoMemory;
     };
     match write_all(output, line.as_bytes()) {
-        Ok(()) => Outcome::Told,
+        Ok(()) => Outcome::FaultWritten,
         Err(_) => Outcome::WriteFault,
     }
 }

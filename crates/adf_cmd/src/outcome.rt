@@ -9,7 +9,7 @@ pub enum Outcome {
     /// The answer is written.
     Done,
     /// The image is refused, and output says so.
-    Told,
+    FaultWritten,
     /// The input is refused, and errors are to get this line.
     Refused(String),
     /// Nothing is there under the path.
@@ -28,7 +28,7 @@ impl Outcome {
     {
         match self {
             Outcome::Done => 0,
-            Outcome::Told => 1,
+            Outcome::FaultWritten => 1,
             Outcome::Refused(_) => 1,
             Outcome::NoSuchPath => 1,
             Outcome::NotAFile => 1,
@@ -44,7 +44,7 @@ impl Outcome {
     {
         match self {
             Outcome::Done => "",
-            Outcome::Told => "",
+            Outcome::FaultWritten => "",
             Outcome::Refused(line) => line.as_str(),
             Outcome::NoSuchPath => "no such path\n",
             Outcome::NotAFile => "not a file\n",

@@ -3,16 +3,16 @@ use Rattle.std.proofs.Common.{◌≡◌, ◌≤◌, ◌+◌, ◌==◌, ◌++◌,
 use Rattle.std.proofs.lemmas.List.Sums.{count_by-le-length}
 use Rattle.std.proofs.lemmas.List.Splits.{length-slice_split, slice_split_at, slice_split_none}
 use Rattle.adf_manifest.specs.Parts.{Lacks}
-use Rattle.adf_manifest.specs.Manifest.{parts}
+use Rattle.adf_manifest.specs.Manifest.{between_feeds}
 
-pub parts_cut : (text line rest : List ℕ) → text ≡ line ++ 10 ∷ rest → Lacks 10 line → parts text ≡ line ∷ parts rest
-parts_cut text line rest e h = ap parts e ∙ slice_split_at (λ c. c == 10) line 10 rest h refl
+pub parts_cut : (text line rest : List ℕ) → text ≡ line ++ 10 ∷ rest → Lacks 10 line → between_feeds text ≡ line ∷ between_feeds rest
+parts_cut text line rest e h = ap between_feeds e ∙ slice_split_at (λ c. c == 10) line 10 rest h refl
 
-pub parts_whole : (text : List ℕ) → Lacks 10 text → parts text ≡ text ∷ []
+pub parts_whole : (text : List ℕ) → Lacks 10 text → between_feeds text ≡ text ∷ []
 parts_whole text h = slice_split_none (λ c. c == 10) text h
 
 -- there are no more lines than bytes and one
-pub parts_few : (text : List ℕ) → length (parts text) ≤ length text + 1
+pub parts_few : (text : List ℕ) → length (between_feeds text) ≤ length text + 1
 parts_few text = omega (arith, length-slice_split (λ c. c == 10) text, count_by-le-length (λ c. c == 10) text)
 
 -- the lines that are read, when one more is

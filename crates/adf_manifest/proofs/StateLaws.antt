@@ -208,14 +208,14 @@ stops_at (Ok x) m text line is e h = tt
 stops_at (Err k) m text line is e h = stops_text m text line k is e h
 
 -- a fault is told in the manifest's words
-pub told : (kind : ManifestKind) (number : ℕ) (bytes : List ℕ) → length bytes ≤ most_bytes → ExplainsLines kind number (lines bytes)
+pub first_fault_explains : (kind : ManifestKind) (number : ℕ) (bytes : List ℕ) → length bytes ≤ most_bytes → ExplainsLines kind number (lines bytes)
     → ExplainsKind kind number bytes
-told BadLine number bytes h f = (h, f)
-told BadSize number bytes h f = (h, f)
-told BadText number bytes h f = (h, f)
-told NoParent number bytes h f = (h, f)
-told ParentIsFile number bytes h f = (h, f)
-told Exists number bytes h f = (h, f)
-told NoMemory number bytes h f = f
-told TooLong number bytes h (inl f) = absurd f.4
-told TooLong number bytes h (inr f) = absurd f.6
+first_fault_explains BadLine number bytes h f = (h, f)
+first_fault_explains BadSize number bytes h f = (h, f)
+first_fault_explains BadText number bytes h f = (h, f)
+first_fault_explains NoParent number bytes h f = (h, f)
+first_fault_explains ParentIsFile number bytes h f = (h, f)
+first_fault_explains Exists number bytes h f = (h, f)
+first_fault_explains NoMemory number bytes h f = f
+first_fault_explains TooLong number bytes h (inl f) = absurd f.4
+first_fault_explains TooLong number bytes h (inr f) = absurd f.6

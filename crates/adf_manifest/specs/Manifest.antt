@@ -29,17 +29,17 @@ abbrev pub without_last_feed : List ℕ → List ℕ
 without_last_feed bytes = if nat_lt 0 (length bytes) && (slice_index bytes (length bytes - 1) == 10) then take (length bytes - 1) bytes else bytes
 
 -- the parts between line feeds
-abbrev pub parts : List ℕ → List (List ℕ)
-parts bytes = slice_split (λ c. c == 10) bytes
+abbrev pub between_feeds : List ℕ → List (List ℕ)
+between_feeds bytes = slice_split (λ c. c == 10) bytes
 
 -- the parts of what stands behind a line feed, where one was there
-abbrev pub parts_behind : Option (List ℕ) → List (List ℕ)
-parts_behind None = []
-parts_behind (Some rest) = parts rest
+abbrev pub lines_behind : Option (List ℕ) → List (List ℕ)
+lines_behind None = []
+lines_behind (Some rest) = between_feeds rest
 
 -- the lines: each ended by a line feed, which the last may lack; no bytes are one empty line
 abbrev pub lines : List ℕ → List (List ℕ)
-lines bytes = parts (without_last_feed bytes)
+lines bytes = between_feeds (without_last_feed bytes)
 
 -- the line of a label, and of stamps, where the manifest has them
 abbrev pub label_lines : Option (List ℕ) → List (List ℕ)

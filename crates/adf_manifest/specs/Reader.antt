@@ -33,13 +33,13 @@ abbrev pub bare : Head → Manifest
 bare h = record { head = h; entries = None }
 
 -- the lines so far tell this
-abbrev pub Tells : State → Manifest → Type 0
-Tells (state.Head h) m = m ≡ bare h
-Tells (state.Entries r) m = (e : Entries) × IsReading r m e
+abbrev pub StateMatches : State → Manifest → Type 0
+StateMatches (state.Head h) m = m ≡ bare h
+StateMatches (state.Entries r) m = (e : Entries) × IsReading r m e
 
 -- with one line more
 abbrev pub GoesOn : State → Manifest → List ℕ → Type 0
-GoesOn s m text = (n : Manifest) × IsWell n × Tells s n × (manifest_lines n ≡ manifest_lines m ++ text ∷ [])
+GoesOn s m text = (n : Manifest) × IsWell n × StateMatches s n × (manifest_lines n ≡ manifest_lines m ++ text ∷ [])
 
 -- why a line of a form is not taken where it may stand: its fault, or memory
 abbrev pub StopsIn : Tree → LineValue → ManifestKind → Type 0

@@ -2,8 +2,8 @@
 
 ghost use Rattle.std.specs.Prelude.{◌≡◌, ◌≤◌, ◌++◌, ◌∷◌, IfOk, IfErr, length, option_map};
 ghost use Rattle.adf_manifest.specs.Kinds.{kind_number};
-ghost use Rattle.adf_manifest.specs.Manifest.{AddingLinesGivesTheTree, ExplainsFault, IsManifest, IsWell, LinesHaveOneFault, Manifest, ManifestsAreFaultless, ManifestsAreOfOneTree, manifest_lines, manifest_tree, most_bytes, parts, parts_behind, without_last_feed};
-ghost use Rattle.adf_manifest.specs.Reader.{ExplainsLines, Tells, line_of_fault};
+ghost use Rattle.adf_manifest.specs.Manifest.{AddingLinesGivesTheTree, ExplainsFault, IsManifest, IsWell, LinesHaveOneFault, Manifest, ManifestsAreFaultless, ManifestsAreOfOneTree, manifest_lines, manifest_tree, most_bytes, between_feeds, lines_behind, without_last_feed};
+ghost use Rattle.adf_manifest.specs.Reader.{ExplainsLines, StateMatches, line_of_fault};
 
 use crate::parts::cut_at;
 use crate::reader::{State, finish, first_state, next_state};
@@ -53,7 +53,7 @@ pub struct ManifestFault {
 
 // The first line of a text, and what stands behind its line feed.
 fn next_line(text: &[u8]) -> (&[u8], Option<&[u8]>)
-    ensures { parts text.now ≡ result.0.now ∷ parts_behind (option_map (λ rest. rest.now) result.1) }
+    ensures { between_feeds text.now ≡ result.0.now ∷ lines_behind (option_map (λ rest. rest.now) result.1) }
 {
     match cut_at(text, b'\n') {
         Some((line, rest)) => (line, Some(rest)),
@@ -76,8 +76,8 @@ fn fault_at(number: usize, kind: ManifestKind) -> ManifestFault
 // Reads the lines of a text, whose last line has no line feed.
 fn read_lines(alloc: Global, text: &[u8]) -> Result<State, ManifestFault>
     requires { length text.now ≤ most_bytes }
-    ensures lines { IfOk result (λ s. (m : Manifest) × IsWell m × Tells s m × (parts text.now ≡ manifest_lines m)) }
-    ensures fault { IfErr result (λ f. ExplainsLines f.kind f.line (parts text.now)) }
+    ensures lines { IfOk result (λ s. (m : Manifest) × IsWell m × StateMatches s m × (between_feeds text.now ≡ manifest_lines m)) }
+    ensures fault { IfErr result (λ f. ExplainsLines f.kind f.line (between_feeds text.now)) }
 {
     let (line, mut left) = next_line(text);
     let mut state = match first_state(line) {

@@ -8,7 +8,7 @@ ghost use Rattle.adf_manifest.specs.Parts.{AreStamps};
 ghost use Rattle.adf_manifest.specs.Lines.{IsLine, IsRun, IsVolumeLine, LabelLine, NoteLine, RunLine, StampsLine, entry_value, label_line, line_text, line_value, run_value, IsRunOfDigits, HasDigits, stamps_line, volume_line};
 ghost use Rattle.adf_manifest.specs.Items.{Item, body_of, run_bytes, with_item};
 ghost use Rattle.adf_manifest.specs.Manifest.{Entries, HasBadText, IsFirstFault, IsHead, IsLaterFault, IsWell, Manifest, head_lines, head_tree, manifest_lines, manifest_tree};
-ghost use Rattle.adf_manifest.specs.Reader.{GoesOn, IsOpen, IsReading, StopsIn, Stops, StopsAt, Tells, bare};
+ghost use Rattle.adf_manifest.specs.Reader.{GoesOn, IsOpen, IsReading, StopsIn, Stops, StopsAt, StateMatches, bare};
 
 use crate::digits::push_pairs;
 use crate::lines::{EntryText, Line, Run, Sort, line_of};
@@ -360,7 +360,7 @@ fn line_in_entries(alloc: Global, reading: &mut Reading, line: Line) -> Result<(
 
 /// The state behind the first line.
 pub fn first_state(line: &[u8]) -> Result<State, ManifestKind>
-    ensures lines { IfOk result (λ s. (m : Manifest) × IsWell m × Tells s m × (manifest_lines m ≡ line.now ∷ [])) }
+    ensures lines { IfOk result (λ s. (m : Manifest) × IsWell m × StateMatches s m × (manifest_lines m ≡ line.now ∷ [])) }
     ensures fault { IfErr result (λ kind. IsFirstFault line.now kind) }
 {
     Ok(State::Head(read_volume(line)?))
@@ -368,8 +368,8 @@ pub fn first_state(line: &[u8]) -> Result<State, ManifestKind>
 
 /// Reads a further line.
 pub fn next_state(alloc: Global, state: &mut State, line: &[u8]) -> Result<(), ManifestKind>
-    ensures lines { (m : Manifest) → IsWell m → Tells state.old m → IfOk result (λ _. GoesOn state.new m line.now) }
-    ensures fault { (m : Manifest) → IsWell m → Tells state.old m → IfErr result (λ kind. StopsAt m line.now kind) }
+    ensures lines { (m : Manifest) → IsWell m → StateMatches state.old m → IfOk result (λ _. GoesOn state.new m line.now) }
+    ensures fault { (m : Manifest) → IsWell m → StateMatches state.old m → IfErr result (λ kind. StopsAt m line.now kind) }
 {
     let Some(line) = line_of(line) else {
         return Err(ManifestKind::BadLine);
@@ -397,7 +397,7 @@ fn finished(alloc: Global, draft: Draft, blocks: u32) -> Result<(Tree, u32), Man
 
 /// The tree and the number of blocks that the lines tell.
 pub fn finish(alloc: Global, state: State) -> Result<(Tree, u32), ManifestKind>
-    ensures told { (m : Manifest) → IsWell m → Tells state m → IfOk result (λ r. (r.0 ≡ manifest_tree m) × (r.1 ≡ m.head.blocks)) }
+    ensures told { (m : Manifest) → IsWell m → StateMatches state m → IfOk result (λ r. (r.0 ≡ manifest_tree m) × (r.1 ≡ m.head.blocks)) }
     ensures err { IfErr result (λ kind. kind ≡ ManifestKind.NoMemory) }
 {
     match state {

@@ -9,7 +9,7 @@ use Rattle.adf_tree.specs.declared.entry.Body.{Body}
 use Rattle.adf_tree.specs.declared.entry.Body.TheVariants.{Dir as ADir, File as AFile}
 use Rattle.adf_tree.specs.declared.entry.Entry.{Entry}
 use Rattle.adf_tree.specs.declared.entry.Meta.{Meta}
-use Rattle.adf_check.specs.Rows.{BodyTold, EntryTold}
+use Rattle.adf_check.specs.Rows.{BodyMatches, EntryMatches}
 use Rattle.adf_check.specs.declared.row.Row.{Row}
 use Rattle.adf_check.specs.declared.row.RowBody.{RowBody}
 use Rattle.adf_check.specs.declared.row.RowBody.TheVariants.{Dir, File}
@@ -17,20 +17,20 @@ use Rattle.adf_texts.proofs.Ranges.{flat_map_next}
 use Rattle.adf_texts.specs.RowTexts.{row_size, row_word}
 use Rattle.adf_texts.specs.VolumeLines.{body_word, entry_lines, lines_of_entries, lines_of_entry, lines_with, opening_lines, size_text, volume_lines}
 
-word_told : (told : RowBody) (body : Body) → BodyTold told body → row_word told ≡ body_word body
+word_told : (told : RowBody) (body : Body) → BodyMatches told body → row_word told ≡ body_word body
 word_told Dir ADir h = refl
 word_told Dir (AFile bytes) h = absurd h
 word_told (File size) ADir h = absurd h
 word_told (File size) (AFile bytes) h = refl
 
-size_told : (told : RowBody) (body : Body) → BodyTold told body → row_size told ≡ size_text body
+size_told : (told : RowBody) (body : Body) → BodyMatches told body → row_size told ≡ size_text body
 size_told Dir ADir h = refl
 size_told Dir (AFile bytes) h = absurd h
 size_told (File size) ADir h = absurd h
 size_told (File size) (AFile bytes) h = ap decimal h
 
 -- the lines of a row are those of the entry of which it tells
-pub row_lines_told : (date : Stamp → List ℕ) (names : List (List ℕ)) (r : Row) (e : Entry) → EntryTold r e
+pub row_lines_told : (date : Stamp → List ℕ) (names : List (List ℕ)) (r : Row) (e : Entry) → EntryMatches r e
     → lines_with date names (row_word r.body) (row_size r.body) r.meta ≡ entry_lines date names e
 row_lines_told date names r e told =
     let meta : Meta → List ℕ = lines_with date names (row_word r.body) (row_size r.body) in

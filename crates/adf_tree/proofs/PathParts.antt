@@ -11,7 +11,7 @@ use Rattle.std.proofs.lemmas.List.Elements.{All-head, All-tail, All-append, All-
 use Rattle.std.proofs.lemmas.List.Splits.{slice_split_none, slice_split_at, slice_split_first, join_with_byte-slice_split}
 use Rattle.adf_tree.specs.Texts.{is_name, is_name_byte}
 use Rattle.adf_tree.specs.Escapes.{escape_of, escaped, hex_digit, is_plain, IsSpelling}
-use Rattle.adf_tree.specs.PathTexts.{path_text, with_name, parts, IsName, IsPathText}
+use Rattle.adf_tree.specs.PathTexts.{path_text, with_name, between_slashes, IsName, IsPathText}
 use Rattle.adf_tree.proofs.Spellings.{spelling_some, spelled_plain, spelled_escape, only_spelled}
 
 -- whether a byte is `/`
@@ -20,7 +20,7 @@ is_slash c = c == 47
 
 -- a text is cut at its first `/`
 
-pub cut_at : (text : List ℕ) (i : ℕ) → Some i ≡ position is_slash text → parts text ≡ take i text ∷ parts (take (length text - (i + 1)) (drop (i + 1) text))
+pub cut_at : (text : List ℕ) (i : ℕ) → Some i ≡ position is_slash text → between_slashes text ≡ take i text ∷ between_slashes (take (length text - (i + 1)) (drop (i + 1) text))
 cut_at text i h =
     elim (cases_Bool (nat_lt (position_or_len is_slash text) (length text))) [
       | inl t ↦
@@ -28,12 +28,12 @@ cut_at text i h =
           let same : position_or_len is_slash text ≡ i = cc in
           let lt : position_or_len is_slash text < length text = ltb-true (position_or_len is_slash text) (length text) t in
           slice_split_first is_slash text 0 lt
-          ∙ (ap (λ k. take k text ∷ parts (drop (k + 1) text)) same
-          ∙ ap (λ ys. take i text ∷ parts ys) (sym (take_all (length text - (i + 1)) (drop (i + 1) text) (omega (arith, length-drop (i + 1) text)))))
+          ∙ (ap (λ k. take k text ∷ between_slashes (drop (k + 1) text)) same
+          ∙ ap (λ ys. take i text ∷ between_slashes ys) (sym (take_all (length text - (i + 1)) (drop (i + 1) text) (omega (arith, length-drop (i + 1) text)))))
       | inr f ↦ let g : Some i ≡ None = h ∙ ap (λ b. cond b (Some (position_or_len is_slash text)) None) f in cc
     ]
 
-pub uncut : (text : List ℕ) → None ≡ position is_slash text → parts text ≡ text ∷ []
+pub uncut : (text : List ℕ) → None ≡ position is_slash text → between_slashes text ≡ text ∷ []
 uncut text h =
     elim (cases_Bool (nat_lt (position_or_len is_slash text) (length text))) [
       | inl t ↦ let g : None ≡ Some (position_or_len is_slash text) = h ∙ ap (λ b. cond b (Some (position_or_len is_slash text)) None) t in cc
@@ -72,27 +72,27 @@ pub no_slash : (name : List ℕ) → IsName name → All (λ x. is_slash x ≡ f
 no_slash name h = no_slash_bytes name (and_parts (nat_le 1 (length name) && nat_le (length name) 30) (list_all is_name_byte name) h.allowed).1
 
 -- the parts of the text of a path are its escaped names
-pub parts_of_path : (name : List ℕ) (names : List (List ℕ)) → All IsName (name ∷ names) → parts (path_text (name ∷ names)) ≡ map escaped (name ∷ names)
+pub parts_of_path : (name : List ℕ) (names : List (List ℕ)) → All IsName (name ∷ names) → between_slashes (path_text (name ∷ names)) ≡ map escaped (name ∷ names)
 parts_of_path name [] h = slice_split_none is_slash (escaped name) (no_slash name (All-head IsName name [] h))
 parts_of_path name (next ∷ names) h =
     slice_split_at is_slash (escaped name) 47 (path_text (next ∷ names)) (no_slash name (All-head IsName name (next ∷ names) h)) refl
     ∙ ap (λ ps. escaped name ∷ ps) (parts_of_path next names (All-tail IsName name (next ∷ names) h))
 
-parts_of_some : (path : List (List ℕ)) → 0 < length (path_text path) → All IsName path → parts (path_text path) ≡ map escaped path
+parts_of_some : (path : List (List ℕ)) → 0 < length (path_text path) → All IsName path → between_slashes (path_text path) ≡ map escaped path
 parts_of_some [] some h = absurd (omega arith)
 parts_of_some (name ∷ names) some h = parts_of_path name names h
 
-pub parts_of_text : (text : List ℕ) (path : List (List ℕ)) → 0 < length text → IsPathText text path → parts text ≡ map escaped path
+pub parts_of_text : (text : List ℕ) (path : List (List ℕ)) → 0 < length text → IsPathText text path → between_slashes text ≡ map escaped path
 parts_of_text text path some h =
-    ap parts h.spells ∙ parts_of_some path (omega (arith, some, ap length h.spells)) h.names
+    ap between_slashes h.spells ∙ parts_of_some path (omega (arith, some, ap length h.spells)) h.names
 
 -- a part that spells no name
-pub bad_part : (text part : List ℕ) (names more : List (List ℕ)) → 0 < length text → parts text ≡ map escaped names ++ part ∷ more
+pub bad_part : (text part : List ℕ) (names more : List (List ℕ)) → 0 < length text → between_slashes text ≡ map escaped names ++ part ∷ more
     → ((name : List ℕ) → IsName name → part ≢ escaped name) → (path : List (List ℕ)) → ¬ IsPathText text path
 bad_part text part names more some split none path h =
     let front : List (List ℕ) = map escaped names in
     let k : ℕ = length front in
-    let whole : parts text ≡ map escaped path = parts_of_text text path some h in
+    let whole : between_slashes text ≡ map escaped path = parts_of_text text path some h in
     let within : length (map escaped names) < length path =
     omega (arith, ap length whole, length-map path escaped, ap length split, length-append front (part ∷ more)) in
     none (get_or path k []) (h.names k [] within)
@@ -100,8 +100,8 @@ bad_part text part names more some split none path h =
     ∙ (ap (λ ps. get_or ps k part) (sym split ∙ whole) ∙ get_or-map escaped path k [] part within))
 
 -- one part more spells a name
-pub one_part : (text part name : List ℕ) (names more : List (List ℕ)) → parts text ≡ map escaped names ++ part ∷ more → part ≡ escaped name
-    → parts text ≡ map escaped (names ++ name ∷ []) ++ more
+pub one_part : (text part name : List ℕ) (names more : List (List ℕ)) → between_slashes text ≡ map escaped names ++ part ∷ more → part ≡ escaped name
+    → between_slashes text ≡ map escaped (names ++ name ∷ []) ++ more
 one_part text part name names more split is =
     split
     ∙ (ap (λ p. map escaped names ++ p ∷ more) is
@@ -109,18 +109,18 @@ one_part text part name names more split is =
     ∙ ap (λ ps. ps ++ more) (sym (map-append escaped names (name ∷ [])))))
 
 -- all parts spell names
-pub all_parts : (text : List ℕ) (path : List (List ℕ)) → parts text ≡ map escaped path → All IsName path → IsPathText text path
+pub all_parts : (text : List ℕ) (path : List (List ℕ)) → between_slashes text ≡ map escaped path → All IsName path → IsPathText text path
 all_parts text path h names = record { spells = sym (join_with_byte-slice_split 47 text) ∙ ap (join_with_byte 47) h; names = names }
 
 -- the part before the next `/`
-pub next_part : (text part rest : List ℕ) (names more : List (List ℕ)) → parts text ≡ map escaped names ++ parts rest → parts rest ≡ part ∷ more
-    → parts text ≡ map escaped names ++ part ∷ more
+pub next_part : (text part rest : List ℕ) (names more : List (List ℕ)) → between_slashes text ≡ map escaped names ++ between_slashes rest → between_slashes rest ≡ part ∷ more
+    → between_slashes text ≡ map escaped names ++ part ∷ more
 next_part text part rest names more split cut = split ∙ ap (λ ps. map escaped names ++ ps) cut
 
 -- the first part is there whatever follows
 pub part_first : (o : Option (Bor (List ℕ))) (part : List ℕ) (ps : List (List ℕ)) → IfNone o (ps ≡ part ∷ [])
-    → IfSome o (λ after. ps ≡ part ∷ parts after.now) → (more : List (List ℕ)) × (ps ≡ part ∷ more)
-part_first (Some after) part ps none some = (parts after.now, some)
+    → IfSome o (λ after. ps ≡ part ∷ between_slashes after.now) → (more : List (List ℕ)) × (ps ≡ part ∷ more)
+part_first (Some after) part ps none some = (between_slashes after.now, some)
 part_first None part ps none some = ([], none)
 
 pub at_none : {X P : Type 0} (o : Option X) → is_some o ≡ false → IfNone o P → P
@@ -132,9 +132,9 @@ last_part None part ps h is = is
 last_part (Some after) part ps h is = cc
 
 pub part_before : (o : Option (Bor (List ℕ))) (part : List ℕ) (ps : List (List ℕ)) (after : Bor (List ℕ)) → o ≡ Some after
-    → IfSome o (λ after. ps ≡ part ∷ parts after.now) → ps ≡ part ∷ parts after.now
+    → IfSome o (λ after. ps ≡ part ∷ between_slashes after.now) → ps ≡ part ∷ between_slashes after.now
 part_before None part ps after h is = cc
-part_before (Some x) part ps after h is = let same : x ≡ after = cc in is ∙ ap (λ y. part ∷ parts y.now) same
+part_before (Some x) part ps after h is = let same : x ≡ after = cc in is ∙ ap (λ y. part ∷ between_slashes y.now) same
 
 pub some_name : (r : Option (List ℕ)) (part : List ℕ) → is_some r ≡ true → IfSome r (λ n. part ≡ escaped n) → IfSome r IsName
     → (name : List ℕ) × (part ≡ escaped name) × IsName name

@@ -8,7 +8,7 @@ use Rattle.std.proofs.lemmas.Bool.{cases_eq, ne_eqb, cases_lt}
 use Rattle.std.proofs.lemmas.List.{append-nil, append_assoc, map-append}
 use Rattle.adf_tree.specs.declared.entry.Entry.{Entry}
 use Rattle.adf_tree.specs.Texts.{uppers}
-use Rattle.adf_tree.specs.Paths.{content, told, path_in, path_of}
+use Rattle.adf_tree.specs.Paths.{content, content_at, path_in, path_of}
 use Rattle.adf_tree.specs.Tree.{place, rank, moved, added, entry, child, find, find_from, IsTree, MayAdd}
 use Rattle.adf_tree.proofs.Kept.{moved_below, moved_above, moved_up, moved_near, length_added, at_place, place_le}
 use Rattle.adf_tree.proofs.Found.{child_new, found_is, child_says, parent_stays, new_get}
@@ -135,9 +135,9 @@ found_new es e parents q t may to same =
     find_uppers (added es e) 0 q (parents ++ e.name ∷ []) same
     ∙ (find_snoc (added es e) 0 e.parent parents e.name there ∙ ap (then_find (added es e) []) (child_new es e e.name t may refl))
 
-pub told_new : (es : List Entry) (e : Entry) (parents q : List (List ℕ)) → IsTree es → MayAdd es e → find es parents ≡ Some e.parent
-    → map uppers q ≡ map uppers (parents ++ e.name ∷ []) → told (added es e) q ≡ Some (content e)
-told_new es e parents q t may to same =
+pub content_new : (es : List Entry) (e : Entry) (parents q : List (List ℕ)) → IsTree es → MayAdd es e → find es parents ≡ Some e.parent
+    → map uppers q ≡ map uppers (parents ++ e.name ∷ []) → content_at (added es e) q ≡ Some (content e)
+content_new es e parents q t may to same =
     let n : ℕ = place es (rank e) + 1 in
     let at : n - 1 ≡ place es (rank e) = omega arith in
     ap (option_and_then (λ m. option_map content (entry (added es e) m))) (found_new es e parents q t may to same)
@@ -180,22 +180,22 @@ same_content es e m t =
           ]
     ]
 
-told_at : (es : List Entry) (e : Entry) (o : Option ℕ) → IsTree es
+content_there : (es : List Entry) (e : Entry) (o : Option ℕ) → IsTree es
     → option_and_then (λ m. option_map content (entry (added es e) m)) (option_map (moved (place es (rank e) + 1)) o)
     ≡ option_and_then (λ m. option_map content (entry es m)) o
-told_at es e None t = refl
-told_at es e (Some m) t = same_content es e m t
+content_there es e None t = refl
+content_there es e (Some m) t = same_content es e m t
 
 -- every other path tells what it told
-pub told_old : (es : List Entry) (e : Entry) (parents q : List (List ℕ)) → IsTree es → MayAdd es e → find es parents ≡ Some e.parent
-    → map uppers q ≢ map uppers (parents ++ e.name ∷ []) → told (added es e) q ≡ told es q
-told_old es e parents q t may to other =
+pub content_old : (es : List Entry) (e : Entry) (parents q : List (List ℕ)) → IsTree es → MayAdd es e → find es parents ≡ Some e.parent
+    → map uppers q ≢ map uppers (parents ++ e.name ∷ []) → content_at (added es e) q ≡ content_at es q
+content_old es e parents q t may to other =
     let n : ℕ = place es (rank e) + 1 in
     let root : moved n 0 ≡ 0 = moved_below n 0 (omega arith) in
     elim (leads es e 0 q t may) [
       | inl h ↦
           ap (λ v. option_and_then (λ m. option_map content (entry (added es e) m)) (find_from (added es e) v q)) (sym root)
-          ∙ (ap (option_and_then (λ m. option_map content (entry (added es e) m))) h ∙ told_at es e (find es q) t)
+          ∙ (ap (option_and_then (λ m. option_map content (entry (added es e) m))) h ∙ content_there es e (find es q) t)
       | inr g ↦
           let a : path_of es e.parent ≡ map uppers parents = led es 0 e.parent parents e t to in
           let b : path_of es e.parent ≡ map uppers g.front = led es 0 e.parent g.front e t g.leads in

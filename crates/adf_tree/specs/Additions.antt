@@ -10,7 +10,7 @@ use Rattle.adf_tree.specs.declared.entry.Meta.{Meta}
 use Rattle.adf_tree.specs.declared.entry.Body.{Body}
 use Rattle.adf_tree.specs.Tree.{added, find, last_of, new_entry, parents_of, room_for, IsTree}
 use Rattle.adf_tree.specs.Chain.{chain}
-use Rattle.adf_tree.specs.Paths.{content, told, Content}
+use Rattle.adf_tree.specs.Paths.{content, content_at, Content}
 
 -- a new path, and what it gets
 pub record Addition : Type 0 where
@@ -33,8 +33,8 @@ comes_into dir s x = same_path (parents_of x.path) dir && (slot_of (last_of x.pa
 -- es is the tree of these additions: it tells each of them, and nothing else, and the chains have them in their order
 pub record IsTreeOf (es : List Entry) (additions : List Addition) : Type 0 where
   pub tree : IsTree es
-  pub there : All (λ x. told es x.path ≡ Some (content_of x)) additions
-  pub others : (q : List (List ℕ)) → All (λ x. map uppers q ≢ map uppers x.path) additions → told es q ≡ None
+  pub there : All (λ x. content_at es x.path ≡ Some (content_of x)) additions
+  pub others : (q : List (List ℕ)) → All (λ x. map uppers q ≢ map uppers x.path) additions → content_at es q ≡ None
   pub chains : (dir : List (List ℕ)) (p s : ℕ) → find es dir ≡ Some p → map content (chain es p s) ≡ map content_of (filter (comes_into dir s) additions)
 
 -- the entries with an addition more, as `add` leaves them

@@ -18,8 +18,8 @@ abbrev pub with_name : List ℕ → List ℕ → Bool → List ℕ
 with_name text name is_first = (if is_first then text else text ++ 47 ∷ []) ++ escaped name
 
 -- the parts of a text between `/`
-abbrev pub parts : List ℕ → List (List ℕ)
-parts text = slice_split (λ c. c == 47) text
+abbrev pub between_slashes : List ℕ → List (List ℕ)
+between_slashes text = slice_split (λ c. c == 47) text
 
 -- the text is that of a path, a list of names
 pub record IsPathText (text : List ℕ) (path : List (List ℕ)) : Type 0 where

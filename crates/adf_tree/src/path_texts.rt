@@ -5,7 +5,7 @@ ghost use Rattle.std.specs.Bool.{OnTrue, OnFalse};
 ghost use Rattle.std.specs.String.{string_bytes};
 ghost use Rattle.adf_tree.specs.Escapes.{escaped};
 ghost use Rattle.adf_tree.specs.Faults.{path_fault_number};
-ghost use Rattle.adf_tree.specs.PathTexts.{parts, path_text, with_name, IsName, IsPathText, PathTextsDecide};
+ghost use Rattle.adf_tree.specs.PathTexts.{between_slashes, path_text, with_name, IsName, IsPathText, PathTextsDecide};
 
 use crate::escapes::{push_escaped, read_escaped};
 use crate::name::Name;
@@ -49,8 +49,8 @@ fn slash(text: &[u8]) -> Option<usize>
 
 // The part of a text before the first `/`, and what is after that.
 fn cut(text: &[u8]) -> (&[u8], Option<&[u8]>)
-    ensures last { IfNone result.1 (parts text.now ≡ result.0.now ∷ []) }
-    ensures more { IfSome result.1 (λ after. parts text.now ≡ result.0.now ∷ parts after.now) }
+    ensures last { IfNone result.1 (between_slashes text.now ≡ result.0.now ∷ []) }
+    ensures more { IfSome result.1 (λ after. between_slashes text.now ≡ result.0.now ∷ between_slashes after.now) }
     ensures shorter { IfSome result.1 (λ after. length after.now < length text.now) }
 {
     match slash(text) {

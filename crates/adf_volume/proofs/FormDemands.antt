@@ -7,35 +7,35 @@ use Rattle.adf_tree.specs.declared.entry.Kind.{Kind}
 use Rattle.adf_fields.specs.Words.{block}
 use Rattle.adf_volume.specs.Image.{word_in, name_of, DIR, FILE}
 use Rattle.adf_fields.specs.Hash.{slot_of}
-use Rattle.adf_volume.specs.Demands.{AllHold, FirstFails, told}
+use Rattle.adf_volume.specs.Demands.{AllHold, FirstFails, demands_at}
 use Rattle.adf_blocks.specs.Forms.{first_cause}
 use Rattle.adf_blocks.specs.HeadBlock.{is_entry, is_link, head_form}
 
 -- where no test fails, each demand holds
-pub all_told : (b : ℕ) (form : List (Bool × Cause)) → first_cause form ≡ None → AllHold (told b form)
-all_told b [] h = tt
-all_told b ((true, c) ∷ form) h = (refl, all_told b form h)
-all_told b ((false, c) ∷ form) h = cc
+pub all_demanded : (b : ℕ) (form : List (Bool × Cause)) → first_cause form ≡ None → AllHold (demands_at b form)
+all_demanded b [] h = tt
+all_demanded b ((true, c) ∷ form) h = (refl, all_demanded b form h)
+all_demanded b ((false, c) ∷ form) h = cc
 
 -- and the other way round
-pub none_told : (b : ℕ) (form : List (Bool × Cause)) → AllHold (told b form) → first_cause form ≡ None
-none_told b [] h = refl
-none_told b ((true, c) ∷ form) h = none_told b form h.1
-none_told b ((false, c) ∷ form) h = cc
+pub none_demanded : (b : ℕ) (form : List (Bool × Cause)) → AllHold (demands_at b form) → first_cause form ≡ None
+none_demanded b [] h = refl
+none_demanded b ((true, c) ∷ form) h = none_demanded b form h.1
+none_demanded b ((false, c) ∷ form) h = cc
 
 -- the first cause is that of the first demand that fails
-pub first_told : (b : ℕ) (form : List (Bool × Cause)) (c : Cause) → first_cause form ≡ Some c → FirstFails (told b form) b c
-first_told b [] c h = cc
-first_told b ((true, d) ∷ form) c h = inr (refl, first_told b form c h)
-first_told b ((false, d) ∷ form) c h = let z : d ≡ c = cc in inl ((λ e. cc), refl, z)
+pub first_demanded : (b : ℕ) (form : List (Bool × Cause)) (c : Cause) → first_cause form ≡ Some c → FirstFails (demands_at b form) b c
+first_demanded b [] c h = cc
+first_demanded b ((true, d) ∷ form) c h = inr (refl, first_demanded b form c h)
+first_demanded b ((false, d) ∷ form) c h = let z : d ≡ c = cc in inl ((λ e. cc), refl, z)
 
 -- and the other way round
-pub told_first : (b a : ℕ) (c : Cause) (form : List (Bool × Cause)) → FirstFails (told b form) a c → (first_cause form ≡ Some c) × (b ≡ a)
-told_first b a c [] h = absurd h
-told_first b a c ((true, d) ∷ form) (inl h) = absurd (h.0 refl)
-told_first b a c ((true, d) ∷ form) (inr h) = told_first b a c form h.1
-told_first b a c ((false, d) ∷ form) (inl h) = (ap Some h.2, h.1)
-told_first b a c ((false, d) ∷ form) (inr h) = let e : false ≡ true = h.0 in cc
+pub demanded_first : (b a : ℕ) (c : Cause) (form : List (Bool × Cause)) → FirstFails (demands_at b form) a c → (first_cause form ≡ Some c) × (b ≡ a)
+demanded_first b a c [] h = absurd h
+demanded_first b a c ((true, d) ∷ form) (inl h) = absurd (h.0 refl)
+demanded_first b a c ((true, d) ∷ form) (inr h) = demanded_first b a c form h.1
+demanded_first b a c ((false, d) ∷ form) (inl h) = (ap Some h.2, h.1)
+demanded_first b a c ((false, d) ∷ form) (inr h) = let e : false ≡ true = h.0 in cc
 
 entry : (a l : Bool) → (a || l) ≡ true → not l ≡ true → a ≡ true
 entry true l h k = refl
@@ -47,13 +47,13 @@ which t true e h = inl (eqb-true t DIR e)
 which t false e h = inr (eqb-true t FILE h)
 
 -- a header is a directory's or a file's
-pub head_type : (image : List ℕ) (kind : Kind) (b up s : ℕ) → AllHold (told b (head_form kind b up s (block image b)))
+pub head_type : (image : List ℕ) (kind : Kind) (b up s : ℕ) → AllHold (demands_at b (head_form kind b up s (block image b)))
     → (word_in image b 127 ≡ DIR) ⊎ (word_in image b 127 ≡ FILE)
 head_type image kind b up s h =
     let t : ℕ = word_in image b 127 in
     which t (t == DIR) refl (entry (is_entry t) (is_link t) (and_parts (word_in image b 0 == 2) (is_entry t || is_link t) h.1.0).1 h.1.1.0)
 
-pub head_slot_is : (image : List ℕ) (kind : Kind) (b up s : ℕ) → AllHold (told b (head_form kind b up s (block image b))) → slot_of (name_of image b) ≡ s
+pub head_slot_is : (image : List ℕ) (kind : Kind) (b up s : ℕ) → AllHold (demands_at b (head_form kind b up s (block image b))) → slot_of (name_of image b) ≡ s
 unfolding name_of
 head_slot_is image kind b up s h = eqb-true (slot_of (name_of image b)) s h.1.1.1.1.1.1.1.0
 

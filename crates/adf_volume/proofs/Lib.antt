@@ -10,7 +10,7 @@ pub mod Finds
 pub mod FormDemands
 pub mod Images
 pub mod Owners
-pub mod Parts
+pub mod LayoutRoles
 pub mod Pieces
 pub mod Places
 pub mod TreeOrder

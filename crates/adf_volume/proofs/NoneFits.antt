@@ -12,9 +12,9 @@ use Rattle.adf_volume.specs.Fits.{Fits, IsFree}
 use Rattle.adf_volume.specs.Walk.{Role, IsAbsent, IsFreeIn, demands, bitmap_demands, IsWalk, IsWhole, FirstFault}
 use Rattle.adf_volume.specs.Walk.Role.{Page}
 use Rattle.adf_volume.specs.Walk.FirstFault.{at_boot, at_due, at_bitmap}
-use Rattle.adf_volume.specs.Parts.{owner_of}
+use Rattle.adf_volume.specs.LayoutRoles.{owner_of}
 use Rattle.adf_volume.proofs.Lists.{all_append, fails_not_all}
-use Rattle.adf_volume.proofs.Parts.{part_owned, owned_part}
+use Rattle.adf_volume.proofs.LayoutRoles.{part_owned, owned_part}
 use Rattle.adf_volume.proofs.WalkAgreement.{agreement, due_is_part}
 use Rattle.adf_volume.proofs.WalkCompleteness.{part_walked}
 use Rattle.adf_volume.proofs.Sizes.{size_low}

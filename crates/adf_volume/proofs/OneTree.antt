@@ -11,7 +11,7 @@ use Rattle.adf_tree.specs.declared.entry.Body.TheVariants.{Dir, File}
 use Rattle.adf_volume.specs.Fits.{Fits, BodyFits}
 use Rattle.adf_volume.specs.Walk.{Role, heads, IsWalk, IsWhole}
 use Rattle.adf_volume.specs.Walk.Role.{Page, MapExt, Head, Ext, Data}
-use Rattle.adf_volume.specs.Parts.{Part}
+use Rattle.adf_volume.specs.LayoutRoles.{LayoutHas}
 use Rattle.adf_volume.proofs.Lists.{at_below, at_some, same_list}
 use Rattle.adf_volume.proofs.Chains.{entry_at, entry_some, place_at}
 use Rattle.adf_volume.proofs.WalkAgreement.{agreement}
@@ -26,10 +26,10 @@ same_place q r a b c = λ i. record { head = a i; exts = b i; datas = c i }
 
 module _ (image : List ℕ) (w : List (Role × ℕ)) (v : IsWalk image w) (whole : IsWhole image w) (t : Tree) (l : Layout) (fit : Fits image t l) (u : Tree)
     (m : Layout) (fit' : Fits image u m) where
-  carry : (r : Role) (b : ℕ) → Part image t l r b → Part image u m r b
+  carry : (r : Role) (b : ℕ) → LayoutHas image t l r b → LayoutHas image u m r b
   carry r b h = agreement image u m fit' w r b v (part_walked image t l fit w v whole r b h)
 
-  back : (r : Role) (b : ℕ) → Part image u m r b → Part image t l r b
+  back : (r : Role) (b : ℕ) → LayoutHas image u m r b → LayoutHas image t l r b
   back r b h = agreement image t l fit w r b v (part_walked image u m fit' w v whole r b h)
 
   same_kind : t.kind ≡ u.kind

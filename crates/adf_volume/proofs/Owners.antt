@@ -5,8 +5,8 @@ use Rattle.adf_volume.specs.Layout.{Place, Layout, owned_from, owned}
 use Rattle.adf_volume.specs.declared.owner.Owner.{Owner}
 use Rattle.adf_volume.specs.declared.owner.Owner.TheVariants.{Root as TheRoot, Page as APage, MapExt as AMapExt, Head as AHead, Ext as AnExt, Data as AData}
 use Rattle.adf_volume.proofs.Lists.{in_cases, numbered_at}
-use Rattle.adf_volume.proofs.Parts.{Stands, owned_stands}
-use Rattle.adf_volume.proofs.Parts.Stands.{in_head, in_ext, in_data}
+use Rattle.adf_volume.proofs.LayoutRoles.{Stands, owned_stands}
+use Rattle.adf_volume.proofs.LayoutRoles.Stands.{in_head, in_ext, in_data}
 
 -- no owner stands twice
 abbrev pub Once : List (Owner × ℕ) → Type 0

@@ -197,10 +197,10 @@ files_fit n e bytes h f =
     (subst (λ l. FileFits one_file one_file_tree one_file_layout 1 2 l) z file_fits)
 
 -- the blocks of its parts
-abbrev parts : List ℕ
-parts = 8 ∷ 9 ∷ 2 ∷ 3 ∷ 4 ∷ []
+abbrev owned_blocks : List ℕ
+owned_blocks = 8 ∷ 9 ∷ 2 ∷ 3 ∷ 4 ∷ []
 
-parts_are : blocks_of (owned one_file one_file_layout) ≡ parts
+parts_are : blocks_of (owned one_file one_file_layout) ≡ owned_blocks
 unfolding one_file with_bytes
 parts_are = refl
 
@@ -218,10 +218,10 @@ in_has : (xs : List ℕ) (b : ℕ) → has xs b ≡ true → In xs b
 in_has [] b h = absurd (let z : false ≡ true = h in cc)
 in_has (x ∷ xs) b h = elim (eqb_tells x b) [ inl e ↦ inl e.1 | inr n ↦ inr (in_has xs b (ap (λ t. t || has xs b) (sym n.0) ∙ h)) ]
 
-part_in : (o : Owner) (b : ℕ) → In (owned one_file one_file_layout) (o, b) → In parts b
+part_in : (o : Owner) (b : ℕ) → In (owned one_file one_file_layout) (o, b) → In owned_blocks b
 part_in o b h = subst (λ l. In l b) parts_are (block_in (owned one_file one_file_layout) o b h)
 
-in_part : (b : ℕ) → In parts b → (o : Owner) × In (owned one_file one_file_layout) (o, b)
+in_part : (b : ℕ) → In owned_blocks b → (o : Owner) × In (owned one_file one_file_layout) (o, b)
 in_part b h = in_block (owned one_file one_file_layout) b (subst (λ l. In l b) (sym parts_are) h)
 
 apart : (xs : List ℕ) (b : ℕ) → has xs b ≡ false → In xs b → ⊥
@@ -236,7 +236,7 @@ once = distinct_blocks (owned one_file one_file_layout) (subst Distinct (sym par
 range : (o : Owner) (b : ℕ) → In (owned one_file one_file_layout) (o, b) → (2 ≤ b) × (b < 16)
 range o b h = put (part_in o b h)
   where
-    put : In parts b → (2 ≤ b) × (b < 16)
+    put : In owned_blocks b → (2 ≤ b) × (b < 16)
     put (inl e) = (omega arith, omega arith)
     put (inr (inl e)) = (omega arith, omega arith)
     put (inr (inr (inl e))) = (omega arith, omega arith)
@@ -257,7 +257,7 @@ set_bit n w e = grind (arith, nat_tests)
 
 -- 0 where block b is a part and its bit is clear, or is none and its bit is set
 abbrev wrong : ℕ → ℕ
-wrong b = cond (has parts b) (bit_at b) (clear (bit_at b))
+wrong b = cond (has owned_blocks b) (bit_at b) (clear (bit_at b))
 
 none_wrong : (r : ℕ) → r < 14 → wrong (2 + r) ≡ 0
 unfolding one_file block word with_bytes
@@ -267,19 +267,19 @@ not_wrong : (b : ℕ) → 2 ≤ b → b < 16 → wrong b ≡ 0
 not_wrong b l u = let z : 2 + (b - 2) ≡ b = omega arith in subst (λ b. wrong b ≡ 0) z (none_wrong (b - 2) (omega arith))
 
 bitmap : (b : ℕ) → 2 ≤ b → b < 16 → IsFree one_file one_file_layout.pages b ↔ ((o : Owner) → In (owned one_file one_file_layout) (o, b) → ⊥)
-bitmap b l u = put (has parts b) refl (not_wrong b l u)
+bitmap b l u = put (has owned_blocks b) refl (not_wrong b l u)
   where
     first : (b - 2) / 4064 ≡ 0
     first = omega arith
 
-    put : (t : Bool) → has parts b ≡ t → cond t (bit_at b) (clear (bit_at b)) ≡ 0
+    put : (t : Bool) → has owned_blocks b ≡ t → cond t (bit_at b) (clear (bit_at b)) ≡ 0
         → IsFree one_file one_file_layout.pages b ↔ ((o : Owner) → In (owned one_file one_file_layout) (o, b) → ⊥)
     put true h w = (
       (λ f. absurd (let x = page_at ((b - 2) / 4064) f.0 f.1 in subst (λ p. IsFreeAt one_file p ((b - 2) % 4064)) (sym x.1) f.2 w)),
-      (λ n. absurd (let o = in_part b (in_has parts b h) in n o.0 o.1)),
+      (λ n. absurd (let o = in_part b (in_has owned_blocks b h) in n o.0 o.1)),
     )
     put false h w = (
-      (λ f o i. apart parts b h (part_in o b i)),
+      (λ f o i. apart owned_blocks b h (part_in o b i)),
       (λ n. (9, subst (λ k. At one_file_layout.pages k 9) (sym first) refl, set_bit (bit_at b) w)),
     )
 

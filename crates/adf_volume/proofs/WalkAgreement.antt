@@ -20,14 +20,14 @@ use Rattle.adf_volume.specs.Walk.{Role, Before, Has, heads, DirAt, FileAt, Membe
 use Rattle.adf_volume.specs.Walk.{form_demands, node_block, member_block, next_data, NoCause, IsWalk}
 use Rattle.adf_volume.specs.Walk.Role.{Root, Page, MapExt, Head, Ext, Data}
 use Rattle.adf_volume.specs.Walk.IsWalk.{start, step}
-use Rattle.adf_volume.specs.Parts.{Part}
+use Rattle.adf_volume.specs.LayoutRoles.{LayoutHas}
 use Rattle.adf_volume.proofs.Images.{map_exts_high}
 use Rattle.adf_volume.proofs.Lists.{at_fun, at_below, at_some, at_before, at_map, at_unmap, spelled_first, spelled_next, spelled_word, spelled_link}
 use Rattle.adf_volume.proofs.Lists.{all_append, at_index, index_past}
 use Rattle.adf_volume.proofs.Chains.{entry_at, entry_below, entry_some, place_at, one_place, sorted_places, chain_rises}
 use Rattle.adf_volume.proofs.Walks.{root_is, root_in, number_of, numbered, same_of, ext_below, asks_number, due_file, node_is, member_is, file_is}
 use Rattle.adf_volume.proofs.Walks.{dir_is_node, head_key, is_there}
-use Rattle.adf_volume.proofs.Parts.{part_range, one_part}
+use Rattle.adf_volume.proofs.LayoutRoles.{part_range, one_part}
 use Rattle.std.proofs.lemmas.Bool.{ltb-false, ltb-true}
 use Rattle.adf_volume.proofs.Places.{exts_below}
 use Rattle.adf_volume.proofs.FormDemands.{dir_not_file}
@@ -56,7 +56,7 @@ module _ (image : List ℕ) (t : Tree) (l : Layout) (fit : Fits image t l) where
   no_exts n e (File bytes) k x z f a = (bytes, sym z)
 
   -- the walk so far goes along the tree
-  module _ (w : List (Role × ℕ)) (v : IsWalk image w) (ag : (r : Role) (b : ℕ) → Has w r b → Part image t l r b) where
+  module _ (w : List (Role × ℕ)) (v : IsWalk image w) (ag : (r : Role) (b : ℕ) → Has w r b → LayoutHas image t l r b) where
     pub dir_agrees : (p a : ℕ) → DirAt image w p a → DirNode t p × (at_node image l p ≡ a)
     dir_agrees zero a h = (tt, root_is image w a v h)
     dir_agrees (suc i) a h =
@@ -196,7 +196,7 @@ module _ (image : List ℕ) (t : Tree) (l : Layout) (fit : Fits image t l) where
         subst (At l.pages k) (sym z) b.1
 
     -- agreement, one step: what is due is a part
-    due_part : (r : Role) (a i : ℕ) → IsDue image w r a i → Part image t l r (word_in image a i)
+    due_part : (r : Role) (a i : ℕ) → IsDue image w r a i → LayoutHas image t l r (word_in image a i)
     due_part Root a i d = absurd d.asked
     due_part (Page k) a i d = page_part k a i d.asked.0 d.asked.1
     due_part (MapExt zero) a i d =
@@ -339,7 +339,7 @@ module _ (image : List ℕ) (t : Tree) (l : Layout) (fit : Fits image t l) where
         let len : length (datas_of l n) ≡ count t.kind (length bytes) = ff.datas in
         sym (index_past (datas_of l n) (suc k) (omega arith))
 
-    head_form : (n p s j a i b : ℕ) → IsDue image w (Head n p s j) a i → Part image t l (Head n p s j) b → AllHold (form_demands image w (Head n p s j) b)
+    head_form : (n p s j a i b : ℕ) → IsDue image w (Head n p s j) a i → LayoutHas image t l (Head n p s j) b → AllHold (form_demands image w (Head n p s j) b)
     head_form n p s j a i b d h =
         let e = entry_at t p s j n h.0 in
         let ef = fit.entries n e.0 e.1 in
@@ -382,7 +382,7 @@ module _ (image : List ℕ) (t : Tree) (l : Layout) (fit : Fits image t l) where
         (subst (λ y. AllHold (data_demands image y b (node_block w n) (suc k) (held y (length g.1) (suc k)) (slice_index (datas_of l n) (suc k)))) fit.kind
         (subst (λ h. AllHold (data_demands image t.kind b h (suc k) (held t.kind (length g.1) (suc k)) (slice_index (datas_of l n) (suc k)))) z y)))
 
-    form_due : (r : Role) (a i b : ℕ) → IsDue image w r a i → Part image t l r b → AllHold (form_demands image w r b)
+    form_due : (r : Role) (a i b : ℕ) → IsDue image w r a i → LayoutHas image t l r b → AllHold (form_demands image w r b)
     form_due Root a i b d h = tt
     form_due (Page k) a i b d h = fit.page_form k b h
     form_due (MapExt j) a i b d h = tt
@@ -392,7 +392,7 @@ module _ (image : List ℕ) (t : Tree) (l : Layout) (fit : Fits image t l) where
     form_due (Data n zero) a i b d h = absurd h
     form_due (Data n (suc k)) a i b d h = data_form n k a i b d h
 
-    new_due : (r : Role) (a i b : ℕ) → IsDue image w r a i → Part image t l r b → NewName image w r b
+    new_due : (r : Role) (a i b : ℕ) → IsDue image w r a i → LayoutHas image t l r b → NewName image w r b
     new_due (Head n p s j) a i b d h = λ m k c has eq.
         let u : n ≡ suc (heads w) = asks_number image w n p s j a i d.asked in
         let pt = ag (Head m p s k) c has in
@@ -420,16 +420,16 @@ module _ (image : List ℕ) (t : Tree) (l : Layout) (fit : Fits image t l) where
         )
 
   -- agreement: each role and block of a walk is a part
-  agrees : {w : List (Role × ℕ)} → IsWalk image w → (r : Role) (b : ℕ) → Has w r b → Part image t l r b
-  agrees start r b (inl e) = subst (λ r. Part image t l r b) e.0 e.1
+  agrees : {w : List (Role × ℕ)} → IsWalk image w → (r : Role) (b : ℕ) → Has w r b → LayoutHas image t l r b
+  agrees start r b (inl e) = subst (λ r. LayoutHas image t l r b) e.0 e.1
   agrees start r b (inr h) = absurd h
   agrees (step {w = w} {r = q} {a = a} {i = i} v d e c) r b (inl h) =
-      subst (λ r. Part image t l r b) h.0 (subst (Part image t l q) (e ∙ h.1) (due_part w v (agrees v) q a i d))
+      subst (λ r. LayoutHas image t l r b) h.0 (subst (LayoutHas image t l q) (e ∙ h.1) (due_part w v (agrees v) q a i d))
   agrees (step v d e c) r b (inr h) = agrees v r b h
 
-  pub agreement : (w : List (Role × ℕ)) (r : Role) (b : ℕ) → IsWalk image w → Has w r b → Part image t l r b
+  pub agreement : (w : List (Role × ℕ)) (r : Role) (b : ℕ) → IsWalk image w → Has w r b → LayoutHas image t l r b
   agreement w r b v h = agrees v r b h
 
   pub due_is_part : (w : List (Role × ℕ)) (r : Role) (a i : ℕ) → IsWalk image w → IsDue image w r a i
-      → Part image t l r (word_in image a i) × NoCause image w r a (word_in image a i)
+      → LayoutHas image t l r (word_in image a i) × NoCause image w r a (word_in image a i)
   due_is_part w r a i v d = (due_part w v (agrees v) r a i d, due_fine w v (agrees v) r a i d)

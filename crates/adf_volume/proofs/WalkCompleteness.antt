@@ -13,12 +13,12 @@ use Rattle.adf_tree.specs.declared.entry.Body.TheVariants.{Dir, File}
 use Rattle.adf_volume.specs.Fits.{Fits, BodyFits}
 use Rattle.adf_volume.specs.Walk.{Role, Has, heads, FileAt, MemberAt, data_count, Lacks, IsWalk, IsWhole}
 use Rattle.adf_volume.specs.Walk.Role.{Root, Page, MapExt, Head, Ext, Data}
-use Rattle.adf_volume.specs.Parts.{Part}
+use Rattle.adf_volume.specs.LayoutRoles.{LayoutHas}
 use Rattle.adf_volume.proofs.Lists.{at_fun, at_below, at_some, at_before, spelled_word, spelled_link}
 use Rattle.adf_volume.proofs.Chains.{entry_at, entry_fun, entry_below, entry_some, place_at}
 use Rattle.adf_volume.proofs.Walks.{root_in, number_of, numbered, page_word, asked_block, head_key}
 use Rattle.adf_volume.proofs.Images.{map_exts_high, map_exts_low}
-use Rattle.adf_volume.proofs.Parts.{part_range}
+use Rattle.adf_volume.proofs.LayoutRoles.{part_range}
 use Rattle.adf_volume.proofs.WalkAgreement.{agreement, file_agrees, count_agrees, has_node, asks_next, is_file}
 use Rattle.adf_volume.proofs.Places.{datas_below}
 
@@ -33,7 +33,7 @@ no_datas image t l n e Dir k x z f a = absurd (subst (λ xs. At xs k x) f.2 a)
 no_datas image t l n e (File bytes) k x z f a = (bytes, sym z)
 
 module _ (image : List ℕ) (t : Tree) (l : Layout) (fit : Fits image t l) (w : List (Role × ℕ)) (v : IsWalk image w) (whole : IsWhole image w) where
-  ag : (r : Role) (b : ℕ) → Has w r b → Part image t l r b
+  ag : (r : Role) (b : ℕ) → Has w r b → LayoutHas image t l r b
   ag r b h = agreement image t l fit w r b v h
 
   -- the walk has as many headers as the tree has entries
@@ -143,7 +143,7 @@ module _ (image : List ℕ) (t : Tree) (l : Layout) (fit : Fits image t l) (w : 
       (b.0, all_map_exts j b.0 b.1)
 
   -- completeness: each part is in the walk
-  pub part_walked : (r : Role) (b : ℕ) → Part image t l r b → Has w r b
+  pub part_walked : (r : Role) (b : ℕ) → LayoutHas image t l r b → Has w r b
   part_walked Root b h = subst (Has w Root) h (root_in image v)
   part_walked (Page k) b h =
       let u : k < length l.pages = at_below l.pages k b h in

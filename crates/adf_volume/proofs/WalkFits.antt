@@ -9,7 +9,7 @@ use Rattle.adf_volume.specs.Fits.{Fits, FileFits}
 use Rattle.adf_volume.specs.Walk.{Role, IsAbsent, IsFreeIn, bitmap_demands, IsWalk, IsWhole}
 use Rattle.adf_volume.specs.Walk.Role.{Page, MapExt}
 use Rattle.adf_volume.specs.Made.{tree_in, layout_in}
-use Rattle.adf_volume.specs.Parts.{owner_of}
+use Rattle.adf_volume.specs.LayoutRoles.{owner_of}
 use Rattle.adf_volume.proofs.MemberFacts.{kept, in_range}
 use Rattle.adf_volume.proofs.WalkMembers.{entries_length, places_length, page_has, has_page, has_map_ext}
 use Rattle.adf_volume.proofs.WholeWalks.{chains_spelled, content_long, entry_fits, ext_names, file_at, file_fits, is_tree, map_ext_next, map_exts_length}

@@ -8,11 +8,11 @@ use Rattle.adf_volume.specs.declared.owner.Owner.TheVariants.{Root as TheRoot, P
 use Rattle.adf_volume.specs.Walk.{Role, Has, heads, IsWalk, IsWhole}
 use Rattle.adf_volume.specs.Walk.Role.{Root, Page, MapExt, Head, Ext, Data}
 use Rattle.adf_volume.specs.Made.{pages_in, map_exts_in, places_in, layout_in}
-use Rattle.adf_volume.specs.Parts.{owner_of}
+use Rattle.adf_volume.specs.LayoutRoles.{owner_of}
 use Rattle.adf_volume.proofs.Lists.{in_left, in_right, in_cases, in_numbered, numbered_at}
 use Rattle.adf_volume.proofs.Walks.{root_is, root_in, number_of, numbered as numbers, one_role, ext_file}
-use Rattle.adf_volume.proofs.Parts.{Stands, owned_stands, owned_head, owned_ext, owned_data}
-use Rattle.adf_volume.proofs.Parts.Stands.{in_head, in_ext, in_data}
+use Rattle.adf_volume.proofs.LayoutRoles.{Stands, owned_stands, owned_head, owned_ext, owned_data}
+use Rattle.adf_volume.proofs.LayoutRoles.Stands.{in_head, in_ext, in_data}
 use Rattle.adf_volume.proofs.Owners.{once_owned, blocks_once}
 use Rattle.adf_volume.proofs.MemberFacts.{kept}
 use Rattle.adf_volume.proofs.WalkMembers.{places_length, ext_has, has_ext, data_has, has_data, page_has, has_page, map_ext_has, has_map_ext}

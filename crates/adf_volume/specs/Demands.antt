@@ -33,9 +33,9 @@ FirstFails [] b c = ⊥
 FirstFails (x ∷ xs) b c = ((x.holds → ⊥) × (x.at ≡ b) × (x.cause ≡ c)) ⊎ (x.holds × FirstFails xs b c)
 
 -- the clauses of a form, demanded of block b
-abbrev pub told : ℕ → List Clause → List Demand
-told b [] = []
-told b (x ∷ xs) = demand x.1 b (x.0 ≡ true) ∷ told b xs
+abbrev pub demands_at : ℕ → List Clause → List Demand
+demands_at b [] = []
+demands_at b (x ∷ xs) = demand x.1 b (x.0 ≡ true) ∷ demands_at b xs
 
 -- the image is whole blocks, of an allowed number
 abbrev pub IsSize : List ℕ → Type 0
@@ -51,25 +51,25 @@ boot_form b =
 
 -- size and boot bytes
 abbrev pub boot_demands : List ℕ → List Demand
-boot_demands image = demand BadSize 0 (IsSize image) ∷ told 0 (boot_form (block image 0))
+boot_demands image = demand BadSize 0 (IsSize image) ∷ demands_at 0 (boot_form (block image 0))
 
 -- the root at block b
 abbrev pub root_demands : List ℕ → ℕ → List Demand
-root_demands image b = told b (root_form (block image b))
+root_demands image b = demands_at b (root_form (block image b))
 
 -- a page of the bitmap at block b
 abbrev pub page_demands : List ℕ → ℕ → List Demand
-page_demands image b = told b (page_form (block image b))
+page_demands image b = demands_at b (page_form (block image b))
 
 -- a header at block b, in the chain of slot s of the directory at block up
 abbrev pub head_demands : List ℕ → Kind → ℕ → ℕ → ℕ → List Demand
-head_demands image kind b up s = told b (head_form kind b up s (block image b))
+head_demands image kind b up s = demands_at b (head_form kind b up s (block image b))
 
 -- an extension block at block b, of the file at block h
 abbrev pub ext_demands : List ℕ → ℕ → ℕ → List Demand
-ext_demands image b h = told b (ext_form b h (block image b))
+ext_demands image b h = demands_at b (ext_form b h (block image b))
 
 -- data block k, at block b, of the file at block h: n bytes held, and the next data block; nothing is demanded of an FFS one
 abbrev pub data_demands : List ℕ → Kind → ℕ → ℕ → ℕ → ℕ → ℕ → List Demand
-data_demands image Ofs b h k n next = told b (data_form h k n next (block image b))
+data_demands image Ofs b h k n next = demands_at b (data_form h k n next (block image b))
 data_demands image Ffs b h k n next = []

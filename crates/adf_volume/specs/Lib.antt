@@ -4,6 +4,6 @@ pub mod Demands
 pub mod Layout
 pub mod Fits
 pub mod Walk
-pub mod Parts
+pub mod LayoutRoles
 pub mod Made
 pub mod Samples

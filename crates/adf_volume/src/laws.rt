@@ -11,31 +11,31 @@ ghost use Rattle.adf_blocks.specs.Forms.{Clause, first_cause};
 ghost use Rattle.adf_blocks.specs.Sizes.{blocks};
 ghost use Rattle.adf_volume.specs.Lists.{At};
 ghost use Rattle.adf_volume.specs.Image.{content, pieces, root_of, word_in};
-ghost use Rattle.adf_volume.specs.Demands.{AllHold, FirstFails, boot_demands, root_demands, told};
+ghost use Rattle.adf_volume.specs.Demands.{AllHold, FirstFails, boot_demands, root_demands, demands_at};
 ghost use Rattle.adf_volume.specs.Layout.{EntryAt, Layout, chain_nodes};
 ghost use Rattle.adf_volume.specs.Fits.{Fits};
 ghost use Rattle.adf_volume.specs.Walk.{FirstFault, Has, IsDue, IsWalk, IsWhole, NoCause, Role, bitmap_demands};
-ghost use Rattle.adf_volume.specs.Parts.{Part};
+ghost use Rattle.adf_volume.specs.LayoutRoles.{LayoutHas};
 ghost use Rattle.adf_volume.specs.Made.{layout_in, tree_in};
 
 /// The demands of a form all hold exactly where it has no first cause; the first that fails is its first cause.
-pub fn told_form()
-    ensures all { (b : ℕ) (form : List Clause) → AllHold (told b form) ↔ (first_cause form ≡ None) }
-    ensures first { (b a : ℕ) (c : Cause) (form : List Clause) → FirstFails (told b form) a c ↔ ((first_cause form ≡ Some c) × (b ≡ a)) }
+pub fn demanded_form()
+    ensures all { (b : ℕ) (form : List Clause) → AllHold (demands_at b form) ↔ (first_cause form ≡ None) }
+    ensures first { (b a : ℕ) (c : Cause) (form : List Clause) → FirstFails (demands_at b form) a c ↔ ((first_cause form ≡ Some c) × (b ≡ a)) }
 {}
 
 /// Where a tree and a layout fit, what a walk has is a part of them, and what is due next is one and has no cause.
 pub fn agreement()
     ensures part { (image : List ℕ) (t : Tree) (l : Layout) (w : List (Role × ℕ)) → Fits image t l → IsWalk image w
-        → (r : Role) (b : ℕ) → Has w r b → Part image t l r b }
+        → (r : Role) (b : ℕ) → Has w r b → LayoutHas image t l r b }
     ensures due { (image : List ℕ) (t : Tree) (l : Layout) (w : List (Role × ℕ)) → Fits image t l → IsWalk image w
-        → (r : Role) (a i : ℕ) → IsDue image w r a i → Part image t l r (word_in image a i) × NoCause image w r a (word_in image a i) }
+        → (r : Role) (a i : ℕ) → IsDue image w r a i → LayoutHas image t l r (word_in image a i) × NoCause image w r a (word_in image a i) }
 {}
 
 /// Where besides nothing is due, each part is in the walk.
 pub fn completeness()
     ensures { (image : List ℕ) (t : Tree) (l : Layout) (w : List (Role × ℕ)) → Fits image t l → IsWalk image w → IsWhole image w
-        → (r : Role) (b : ℕ) → Part image t l r b → Has w r b }
+        → (r : Role) (b : ℕ) → LayoutHas image t l r b → Has w r b }
 {}
 
 /// An image with a first fault has no tree.
@@ -50,7 +50,7 @@ pub fn one_tree()
 {}
 
 /// What a whole walk tells of an image whose boot bytes, root and bitmap are sound, fits it.
-pub fn what_is_told_fits()
+pub fn layout_of_walk_fits()
     ensures { (image : List ℕ) (w : List (Role × ℕ)) → AllHold (boot_demands image) → AllHold (root_demands image (root_of image))
         → IsWalk image w → IsWhole image w → AllHold (bitmap_demands image w 2 (blocks image - 2))
         → Fits image (tree_in image w) (layout_in w) }

@@ -7,7 +7,7 @@ mod samples;
 
 pub use crate::laws::{
     agreement, chains_of_numbers, completeness, none_fits, one_fault, one_tree, pieces_are_content,
-    told_form, what_is_told_fits,
+    demanded_form, layout_of_walk_fits,
 };
 pub use crate::owner::Owner;
 pub use crate::samples::{file_volume_fits, freed_page_fits_nothing, tiny_volume_fits};

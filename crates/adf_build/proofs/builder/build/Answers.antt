@@ -1,8 +1,8 @@
 use Rattle.std.proofs.Common.{◌≡◌, ◌+◌, ◌*◌, ◌∙◌, ℕ, List, drop, length, arith, rules}
 use Rattle.std.proofs.lemmas.List.{take_at}
 use Rattle.std.specs.Prelude.{replicate}
-use Rattle.adf_build.specs.Laid.{parts}
-use Rattle.adf_build.specs.Lay.{lay}
+use Rattle.adf_build.specs.Laid.{writes}
+use Rattle.adf_build.specs.Writes.{with_blocks}
 use Rattle.adf_build.specs.Plan.{entries_blocks, reserved}
 use Rattle.adf_build.proofs.WholeVolume.{is_laid, laid_as_planned, laid_bytes, total_is}
 use Rattle.adf_build.proofs.builder.build.Goals as goal
@@ -25,7 +25,7 @@ returns-clause-bytes c =
     let n : ℕ = c.args.blocks in
     let image : List ℕ = c.write_volume.new.image in
     let full : length image ≡ c.in-Ok-vec.image.len = search rules in
-    let written : image ≡ lay (replicate (n * 512) 0) (parts tree n) = search rules in
+    let written : image ≡ with_blocks (replicate (n * 512) 0) (writes tree n) = search rules in
     take_at image (drop (length image) c.in-Ok-vec.image.items) c.in-Ok-vec.image.len full ∙ written ∙ laid_bytes tree n
 
 pub returns-clause-laid : goal.returns-clause-laid

@@ -2,8 +2,8 @@ use Rattle.std.proofs.Common.{◌≡◌, ◌+◌, ◌-◌, ◌∙◌, ℕ, List,
 use Rattle.std.proofs.lemmas.List.{take_min}
 use Rattle.adf_fields.specs.Words.{with_block}
 use Rattle.adf_volume.specs.Image.{chunk}
-use Rattle.adf_build.specs.Laid.{data_bytes, given_or_none}
-use Rattle.adf_build.specs.Plan.{given}
+use Rattle.adf_build.specs.Laid.{data_bytes, nth_free_or_none}
+use Rattle.adf_build.specs.Plan.{nth_free}
 use Rattle.adf_build.proofs.WriteSteps.{datas_step, drop_min}
 use Rattle.adf_build.proofs.datas.write_datas.Goals as goal
 
@@ -21,6 +21,6 @@ loop-j-preserved c =
     datas_step c.write_one.new.image c.loop-j.image _ n kind c.args.head c.args.k j c.args.count left c.split_at.result.1.now (omega arith) back
     c.loop-j.invariant
     (c.write_one.ensures
-    ∙ ap (λ b. put b c.given_or_none.result c.split_at.result.0.now) c.given_block.ensures
-    ∙ ap (λ next. put (given n (c.args.k + j)) next c.split_at.result.0.now) c.given_or_none.ensures
-    ∙ ap (put (given n (c.args.k + j)) (given_or_none n (c.args.k + j + 1) (c.args.count - (j + 1)))) front)
+    ∙ ap (λ b. put b c.nth_free_or_none.result c.split_at.result.0.now) c.nth_free.ensures
+    ∙ ap (λ next. put (nth_free n (c.args.k + j)) next c.split_at.result.0.now) c.nth_free_or_none.ensures
+    ∙ ap (put (nth_free n (c.args.k + j)) (nth_free_or_none n (c.args.k + j + 1) (c.args.count - (j + 1)))) front)

@@ -4,12 +4,12 @@ use Rattle.adf_fields.specs.Words.{with_block}
 use Rattle.adf_blocks.specs.HeadBlock.{head_block}
 use Rattle.adf_volume.specs.Image.{count}
 use Rattle.adf_volume.proofs.Sizes.{size_high}
-use Rattle.adf_build.specs.Lay.{lay}
-use Rattle.adf_build.specs.Laid.{body_of, body_parts, data_parts, ext_parts}
-use Rattle.adf_build.specs.Plan.{data_blocks, exts_needed, given}
+use Rattle.adf_build.specs.Writes.{with_blocks}
+use Rattle.adf_build.specs.Laid.{body_of, body_writes, data_writes, ext_writes}
+use Rattle.adf_build.specs.Plan.{data_blocks, exts_needed, nth_free}
 use Rattle.adf_build.specs.Building.{file_header}
-use Rattle.adf_build.proofs.Lays.{lay-append}
-use Rattle.adf_build.proofs.GivenBlocks.{size_small}
+use Rattle.adf_build.proofs.BlockWrites.{with_blocks-append}
+use Rattle.adf_build.proofs.FreeBlocks.{size_small}
 use Rattle.adf_build.proofs.heads.write_file.Goals as goal
 
 pub overflow_cast-bytes : goal.overflow_cast-bytes
@@ -31,39 +31,39 @@ returns-clause-exact c slots =
     let x : ℕ = exts_needed m in
     let datas : c.data_count-datas.result ≡ m = c.data_count-datas.ensures ∙ ap (data_blocks kind) c.requires.body in
     let exts : c.ext_count-exts.result ≡ x = c.ext_count-exts.ensures ∙ ap exts_needed datas in
-    let own : c.given_block-own.result ≡ given n k = c.given_block-own.ensures in
+    let own : c.nth_free-own.result ≡ nth_free n k = c.nth_free-own.ensures in
     let next : k + 1 ≡ suc k = omega arith in
     let first : k + 1 + c.ext_count-exts.result ≡ suc k + x = omega arith in
     let behind : k + 1 + c.ext_count-exts.result + 72 ≡ suc k + x + 72 = omega arith in
     let left : c.saturating_sub.result ≡ m - 72 = omega arith in
-    let head : List ℕ = with_block old (given n k) (head_block (file_header n c.args.spot (length bytes) m e)) in
-    let es : List (ℕ × List ℕ) = ext_parts n (given n k) (suc k) (suc k + x + 72) (m - 72) x in
-    let ds : List (ℕ × List ℕ) = data_parts n kind (given n k) (suc k + x) 1 bytes m in
+    let head : List ℕ = with_block old (nth_free n k) (head_block (file_header n c.args.spot (length bytes) m e)) in
+    let es : List (ℕ × List ℕ) = ext_writes n (nth_free n k) (suc k) (suc k + x + 72) (m - 72) x in
+    let ds : List (ℕ × List ℕ) = data_writes n kind (nth_free n k) (suc k + x) 1 bytes m in
     let one : c.write_file_head.new.image ≡ head =
-    c.write_file_head.ensures.exact ∙ ap (λ d. with_block old (given n k) (head_block (file_header n c.args.spot (length bytes) d e))) datas in
-    let two : c.write_exts.new.image ≡ lay c.write_file_head.new.image es =
+    c.write_file_head.ensures.exact ∙ ap (λ d. with_block old (nth_free n k) (head_block (file_header n c.args.spot (length bytes) d e))) datas in
+    let two : c.write_exts.new.image ≡ with_blocks c.write_file_head.new.image es =
     c.write_exts.ensures
-    ∙ ap (λ h. lay c.write_file_head.new.image (ext_parts n h (k + 1) (k + 1 + c.ext_count-exts.result + 72) c.saturating_sub.result
+    ∙ ap (λ h. with_blocks c.write_file_head.new.image (ext_writes n h (k + 1) (k + 1 + c.ext_count-exts.result + 72) c.saturating_sub.result
     c.ext_count-exts.result)) own
-    ∙ ap (λ i. lay c.write_file_head.new.image (ext_parts n (given n k) i (k + 1 + c.ext_count-exts.result + 72) c.saturating_sub.result
+    ∙ ap (λ i. with_blocks c.write_file_head.new.image (ext_writes n (nth_free n k) i (k + 1 + c.ext_count-exts.result + 72) c.saturating_sub.result
     c.ext_count-exts.result)) next
-    ∙ ap (λ d. lay c.write_file_head.new.image (ext_parts n (given n k) (suc k) d c.saturating_sub.result c.ext_count-exts.result)) behind
-    ∙ ap (λ d. lay c.write_file_head.new.image (ext_parts n (given n k) (suc k) (suc k + x + 72) d c.ext_count-exts.result)) left
-    ∙ ap (λ x'. lay c.write_file_head.new.image (ext_parts n (given n k) (suc k) (suc k + x + 72) (m - 72) x')) exts in
-    let three : c.write_datas.new.image ≡ lay c.write_exts.new.image ds =
+    ∙ ap (λ d. with_blocks c.write_file_head.new.image (ext_writes n (nth_free n k) (suc k) d c.saturating_sub.result c.ext_count-exts.result)) behind
+    ∙ ap (λ d. with_blocks c.write_file_head.new.image (ext_writes n (nth_free n k) (suc k) (suc k + x + 72) d c.ext_count-exts.result)) left
+    ∙ ap (λ x'. with_blocks c.write_file_head.new.image (ext_writes n (nth_free n k) (suc k) (suc k + x + 72) (m - 72) x')) exts in
+    let three : c.write_datas.new.image ≡ with_blocks c.write_exts.new.image ds =
     c.write_datas.ensures
-    ∙ ap (λ h. lay c.write_exts.new.image (data_parts n kind h (k + 1 + c.ext_count-exts.result) 1 bytes c.data_count-datas.result)) own
-    ∙ ap (λ i. lay c.write_exts.new.image (data_parts n kind (given n k) i 1 bytes c.data_count-datas.result)) first
-    ∙ ap (λ d. lay c.write_exts.new.image (data_parts n kind (given n k) (suc k + x) 1 bytes d)) datas in
-    let all : Body → List ℕ = λ b. lay old ((
-      given n k,
+    ∙ ap (λ h. with_blocks c.write_exts.new.image (data_writes n kind h (k + 1 + c.ext_count-exts.result) 1 bytes c.data_count-datas.result)) own
+    ∙ ap (λ i. with_blocks c.write_exts.new.image (data_writes n kind (nth_free n k) i 1 bytes c.data_count-datas.result)) first
+    ∙ ap (λ d. with_blocks c.write_exts.new.image (data_writes n kind (nth_free n k) (suc k + x) 1 bytes d)) datas in
+    let all : Body → List ℕ = λ b. with_blocks old ((
+      nth_free n k,
       head_block (record {
-        own = given n k;
+        own = nth_free n k;
         parent = c.args.spot.parent;
         next = c.args.spot.next;
         name = e.name;
         meta = e.meta;
         body = body_of n k kind slots b;
       }),
-    ) ∷ body_parts n kind k b) in
-    three ∙ ap (λ im. lay im ds) (two ∙ ap (λ im. lay im es) one) ∙ sym (lay-append head es ds) ∙ ap all (sym c.requires.body)
+    ) ∷ body_writes n kind k b) in
+    three ∙ ap (λ im. with_blocks im ds) (two ∙ ap (λ im. with_blocks im es) one) ∙ sym (with_blocks-append head es ds) ∙ ap all (sym c.requires.body)

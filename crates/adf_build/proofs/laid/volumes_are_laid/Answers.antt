@@ -1,4 +1,4 @@
-use Rattle.adf_build.proofs.LaidParts.{volume_blocks}
+use Rattle.adf_build.proofs.LaidWrites.{volume_blocks}
 use Rattle.adf_build.proofs.WholeVolume.{volume_laid}
 use Rattle.adf_build.proofs.laid.volumes_are_laid.Goals as goal
 

@@ -1,11 +1,11 @@
 use Rattle.std.proofs.Common.{◌≡◌, ◌+◌, ◌/◌, ◌∙◌, ℕ, List, take, min, ap, arith}
+use Rattle.std.specs.List.{range_with_len}
 use Rattle.adf_fields.specs.Words.{with_block}
 use Rattle.adf_tree.specs.declared.entry.Stamps.{Stamps}
 use Rattle.adf_blocks.specs.RootBlock.{root_block}
 use Rattle.adf_blocks.specs.Sizes.{pages_needed}
 use Rattle.adf_volume.specs.Image.{map_exts_needed}
 use Rattle.adf_build.specs.Laid.{map_ext_or_none, node_blocks, slots_of}
-use Rattle.adf_build.specs.Plan.{row}
 use Rattle.adf_build.proofs.volume.write_the_root.Goals as goal
 
 pub returns-clause-exact : goal.returns-clause-exact
@@ -15,7 +15,7 @@ returns-clause-exact c =
     let few : ℕ = min 25 (pages_needed n) in
     let count : min 25 c.page_count.result ≡ few = ap (min 25) c.page_count.ensures.exact in
     let taken : ℕ = c.min.result in
-    let numbers : take taken c.page_numbers-numbers.result ≡ row (n / 2 + 1) few =
+    let numbers : take taken c.page_numbers-numbers.result ≡ range_with_len (n / 2 + 1) few =
     ap (λ k. take k c.page_numbers-numbers.result) (omega (arith, c.page_count.ensures.exact)) ∙ c.page_numbers-numbers.ensures in
     let ext : c.map_ext_or_none.result ≡ map_ext_or_none n 0 (map_exts_needed (pages_needed n)) =
     c.map_ext_or_none.ensures ∙ ap (map_ext_or_none n 0) c.map_ext_count.ensures in
@@ -25,6 +25,6 @@ returns-clause-exact c =
     c.write_root.ensures.exact
     ∙ ap (λ s. put s (take taken c.page_numbers-numbers.result) c.map_ext_or_none.result c.label.result.now c.stamps.result) c.requires.slots
     ∙ ap (λ p. put slots p c.map_ext_or_none.result c.label.result.now c.stamps.result) numbers
-    ∙ ap (λ x. put slots (row (n / 2 + 1) few) x c.label.result.now c.stamps.result) ext
-    ∙ ap (λ l. put slots (row (n / 2 + 1) few) (map_ext_or_none n 0 (map_exts_needed (pages_needed n))) l c.stamps.result) c.label.ensures
-    ∙ ap (put slots (row (n / 2 + 1) few) (map_ext_or_none n 0 (map_exts_needed (pages_needed n))) tree.label) c.stamps.ensures
+    ∙ ap (λ x. put slots (range_with_len (n / 2 + 1) few) x c.label.result.now c.stamps.result) ext
+    ∙ ap (λ l. put slots (range_with_len (n / 2 + 1) few) (map_ext_or_none n 0 (map_exts_needed (pages_needed n))) l c.stamps.result) c.label.ensures
+    ∙ ap (put slots (range_with_len (n / 2 + 1) few) (map_ext_or_none n 0 (map_exts_needed (pages_needed n))) tree.label) c.stamps.ensures

@@ -1,7 +1,7 @@
 use Rattle.std.proofs.Common.{◌≡◌, ◌++◌, ◌∷◌, [], ◌∙◌, List, ℕ, Bor, ap, sym, subst, map, if◌then◌else◌}
 use Rattle.std.specs.List.{All}
 use Rattle.std.specs.Str.{IsUtf8}
-use Rattle.adf_c.specs.Words.{parts}
+use Rattle.adf_c.specs.Words.{between_zeros}
 use Rattle.adf_c.proofs.WordParts.{no_text, pushed_split, pushed_texts}
 use Rattle.adf_c.proofs.words.words_in.Goals as goal
 
@@ -19,7 +19,7 @@ loop-rest-preserved c =
     let back : more ≡ c.push.new.self.items = sym pushed in
     let is = c.in-Ok.ensures.cases in
     record {
-      split = subst (λ (ws : List (Bor (List ℕ))). parts c.args.bytes.now ≡ map (λ w. w.now) ws ++ parts c.in-Some.after.now) back
+      split = subst (λ (ws : List (Bor (List ℕ))). between_zeros c.args.bytes.now ≡ map (λ w. w.now) ws ++ between_zeros c.in-Some.after.now) back
           (pushed_split c.args.bytes.now c.loop-rest.rest.now c.in-Some.word.now c.in-Some.after.now items text
           c.loop-rest.invariant.split c.in-Some.ensures.some is.0);
       texts = subst (λ (ws : List (Bor (List ℕ))). All IsUtf8 (map (λ w. w.now) ws)) back

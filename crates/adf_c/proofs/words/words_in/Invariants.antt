@@ -1,12 +1,12 @@
 use Rattle.std.proofs.Common.{◌≡◌, ◌++◌, length, map}
 use Rattle.std.specs.List.{All}
 use Rattle.std.specs.Str.{IsUtf8}
-use Rattle.adf_c.specs.Words.{parts}
+use Rattle.adf_c.specs.Words.{between_zeros}
 use Rattle.adf_c.proofs.words.words_in.Given as goal
 
 abbrev pub invariant-loop-rest : goal.invariant-loop-rest
 invariant-loop-rest l = record {
-  split : parts l.bytes ≡ map (λ w. w.now) l.words.items ++ parts l.rest;
+  split : between_zeros l.bytes ≡ map (λ w. w.now) l.words.items ++ between_zeros l.rest;
   texts : All IsUtf8 (map (λ w. w.now) l.words.items);
 }
 

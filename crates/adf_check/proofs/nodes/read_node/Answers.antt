@@ -1,7 +1,7 @@
 use Rattle.std.proofs.Common.{◌≡◌, ◌≢◌, ◌-◌, ◌<◌, ◌∷◌, [], ℕ, suc, length, get_or, ap, subst, sym, ◌∙◌, arith}
 use Rattle.adf_blocks.specs.Sizes.{blocks}
 use Rattle.adf_volume.specs.Image.{DIR, word_in}
-use Rattle.adf_check.specs.declared.kept.Row.{Row}
+use Rattle.adf_check.specs.declared.kept.KeptHeader.{KeptHeader}
 use Rattle.adf_check.specs.Reading.{IsAtSlot, IsInExts, IsInNode}
 use Rattle.adf_check.specs.Found.{store_of}
 use Rattle.adf_check.proofs.NodeSteps.{directory_begins, file_begins, head_inside, root_begins}
@@ -23,7 +23,7 @@ word-requires-clause-block c =
     let row = c.index.result.now in
     let node : c.args.node ≡ suc i = omega (arith, c.node.view_is, c.if-node-eq0.false) in
     let lt : i < length store.rows = omega (arith, c.requires.inside) in
-    subst (λ (r : Row). r.head < blocks image) (sym c.index.ensures) (head_inside image store i row c.root-root.ensures.begun lt
+    subst (λ (r : KeptHeader). r.head < blocks image) (sym c.index.ensures) (head_inside image store i row c.root-root.ensures.begun lt
     (subst (IsInNode image store) node c.requires.state))
 
 pub read_directory-requires-then-word-eq-ST_DIR-clause-inside : goal.read_directory-requires-then-word-eq-ST_DIR-clause-inside
@@ -34,7 +34,7 @@ read_directory-requires-then-word-eq-ST_DIR-clause-inside c =
     let row = c.index.result.now in
     let node : c.args.node ≡ suc i = omega (arith, c.node.view_is, c.if-node-eq0.false) in
     let lt : i < length store.rows = omega (arith, c.requires.inside) in
-    subst (λ (r : Row). r.head < blocks image) (sym c.index.ensures) (head_inside image store i row c.root-root.ensures.begun lt
+    subst (λ (r : KeptHeader). r.head < blocks image) (sym c.index.ensures) (head_inside image store i row c.root-root.ensures.begun lt
     (subst (IsInNode image store) node c.requires.state))
 
 pub read_directory-requires-then-word-eq-ST_DIR-clause-state : goal.read_directory-requires-then-word-eq-ST_DIR-clause-state
@@ -47,9 +47,9 @@ read_directory-requires-then-word-eq-ST_DIR-clause-state c =
     let lt : i < length store.rows = omega (arith, c.requires.inside) in
     let here : row ≡ get_or store.rows i row = c.index.ensures in
     let dir : word_in image (get_or store.rows i row).head 127 ≡ DIR =
-    ap (λ (r : Row). word_in image r.head 127) (sym here) ∙ sym c.word.ensures.word ∙ c.if-word-eq-ST_DIR.true in
+    ap (λ (r : KeptHeader). word_in image r.head 127) (sym here) ∙ sym c.word.ensures.word ∙ c.if-word-eq-ST_DIR.true in
     subst (λ n. IsAtSlot image store n row.head 0) (sym node)
-    (subst (λ (r : Row). IsAtSlot image store (suc i) r.head 0) (sym here)
+    (subst (λ (r : KeptHeader). IsAtSlot image store (suc i) r.head 0) (sym here)
     (directory_begins image store i row c.root-root.ensures.begun lt dir (subst (IsInNode image store) node c.requires.state)))
 
 pub read_file-requires-clause-inside : goal.read_file-requires-clause-inside
@@ -60,7 +60,7 @@ read_file-requires-clause-inside c =
     let row = c.index.result.now in
     let node : c.args.node ≡ suc i = omega (arith, c.node.view_is, c.if-node-eq0.false) in
     let lt : i < length store.rows = omega (arith, c.requires.inside) in
-    subst (λ (r : Row). r.head < blocks image) (sym c.index.ensures) (head_inside image store i row c.root-root.ensures.begun lt
+    subst (λ (r : KeptHeader). r.head < blocks image) (sym c.index.ensures) (head_inside image store i row c.root-root.ensures.begun lt
     (subst (IsInNode image store) node c.requires.state))
 
 pub read_file-requires-clause-state : goal.read_file-requires-clause-state
@@ -73,7 +73,7 @@ read_file-requires-clause-state c =
     let lt : i < length store.rows = omega (arith, c.requires.inside) in
     let here : row ≡ get_or store.rows i row = c.index.ensures in
     let file : word_in image (get_or store.rows i row).head 127 ≢ DIR =
-    λ e. c.if-word-eq-ST_DIR.false (c.word.ensures.word ∙ ap (λ (r : Row). word_in image r.head 127) here ∙ e) in
+    λ e. c.if-word-eq-ST_DIR.false (c.word.ensures.word ∙ ap (λ (r : KeptHeader). word_in image r.head 127) here ∙ e) in
     subst (λ n. IsInExts image store n row.head (row.head ∷ []) row.head (word_in image row.head 126)) (sym node)
-    (subst (λ (r : Row). IsInExts image store (suc i) r.head (r.head ∷ []) r.head (word_in image r.head 126)) (sym here)
+    (subst (λ (r : KeptHeader). IsInExts image store (suc i) r.head (r.head ∷ []) r.head (word_in image r.head 126)) (sym here)
     (file_begins image store i row c.root-root.ensures.begun lt file (subst (IsInNode image store) node c.requires.state)))

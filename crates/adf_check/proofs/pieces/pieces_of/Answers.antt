@@ -6,7 +6,7 @@ use Rattle.adf_volume.specs.Made.{layout_in, tree_in}
 use Rattle.adf_volume.proofs.Pieces.{pieces_length}
 use Rattle.adf_check.specs.Found.{store_of}
 use Rattle.adf_check.specs.Pieces.{AreInside}
-use Rattle.adf_check.proofs.Keeps.{keeps}
+use Rattle.adf_check.proofs.StoredVolume.{keeps}
 use Rattle.adf_check.proofs.Bytes.{data_count_is, dir_bytes, file_bytes, file_inside, file_some}
 use Rattle.adf_check.proofs.pieces.pieces_of.Goals as goal
 

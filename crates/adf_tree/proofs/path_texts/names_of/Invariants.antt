@@ -1,12 +1,12 @@
 use Rattle.std.proofs.Common.{◌≡◌, ◌++◌, length, map}
 use Rattle.std.specs.List.{All}
 use Rattle.adf_tree.specs.Escapes.{escaped}
-use Rattle.adf_tree.specs.PathTexts.{parts, IsName}
+use Rattle.adf_tree.specs.PathTexts.{between_slashes, IsName}
 use Rattle.adf_tree.proofs.path_texts.names_of.Given as goal
 
 abbrev pub invariant-loop-name : goal.invariant-loop-name
 invariant-loop-name l = record {
-  split : parts l.text ≡ map escaped l.path.items ++ parts l.rest;
+  split : between_slashes l.text ≡ map escaped l.path.items ++ between_slashes l.rest;
   names : All IsName l.path.items;
 }
 

@@ -2,7 +2,7 @@ use Rattle.std.proofs.Common.{subst}
 use Rattle.adf_volume.specs.Made.{layout_in, tree_in}
 use Rattle.adf_check.specs.Found.{store_of}
 use Rattle.adf_check.specs.Volumes.{StandsFor, Volume}
-use Rattle.adf_check.proofs.Keeps.{keeps}
+use Rattle.adf_check.proofs.StoredVolume.{keeps}
 use Rattle.adf_check.proofs.checked.Checked.len.Goals as goal
 
 pub returns-clause-stands : goal.returns-clause-stands

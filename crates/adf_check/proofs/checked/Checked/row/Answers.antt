@@ -3,7 +3,7 @@ use Rattle.adf_fields.specs.Words.{block}
 use Rattle.adf_blocks.specs.HeadBlock.{IsHead}
 use Rattle.adf_blocks.specs.Sizes.{blocks}
 use Rattle.adf_volume.specs.Lists.{At}
-use Rattle.adf_check.specs.declared.kept.Row.{Row as Kept}
+use Rattle.adf_check.specs.declared.kept.KeptHeader.{KeptHeader as Kept}
 use Rattle.adf_check.specs.Found.{store_of}
 use Rattle.adf_check.specs.Rows.{row_in}
 use Rattle.adf_check.specs.Volumes.{StandsFor, Volume}

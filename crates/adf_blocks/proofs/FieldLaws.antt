@@ -1,0 +1,233 @@
+-- What a block that was laid out of fields holds.
+use Rattle.std.proofs.Common.{◌≡◌, ◌≢◌, ◌≤◌, ◌<◌, ℕ, zero, suc, ◌+◌, ◌-◌, ◌*◌, ◌^◌, ◌⊎◌, List, ◌++◌, [], ◌∷◌, length, get_or, refl, sym, ap, ◌∙◌, arith, append-nil, inl, inr}
+use Rattle.std.proofs.Common.{take, drop, add-zero}
+use Rattle.std.proofs.lemmas.Bool.{cases_lt}
+use Rattle.std.proofs.lemmas.List.{length-replicate, length-reverse, drop-take, drop-drop, take-take, take_at, take_all, get_or-drop, get_or-take, get_or-reverse, get_or_past, drop-replicate, take-replicate}
+use Rattle.std.proofs.Math.Seq.{drop-append-add}
+use Rattle.std.specs.Prelude.{slice_range, slice_index, replicate, reverse}
+use Rattle.byteorder.specs.Endian.{big_number}
+use Rattle.byteorder.specs.Numbers.{big_number-reads_back}
+use Rattle.adf_fields.specs.Words.{word, long_sum, sealed, checksum}
+use Rattle.adf_fields.specs.declared.dates.Stamp.{Stamp}
+use Rattle.adf_fields.proofs.WordLaws.{length-with_bytes, range-with_bytes_same, range-with_bytes_below, word-with_word_other, range-with_bytes_above, length_longs, length_big_bytes, long_sum-sealed}
+use Rattle.adf_blocks.specs.Forms.{stamp_at, text_at}
+use Rattle.adf_blocks.specs.Fields.{Field, FitsStamp, block_of_fields, Descends, downwards, long, longs, stamp, text}
+
+-- a block that is laid is whole
+pub length-block_of_fields : (top : ℕ) (fs : List Field) → top ≤ 512 → Descends top fs → length (block_of_fields fs) ≡ 512
+length-block_of_fields top [] le d = length-replicate {A = ℕ} 512 0
+length-block_of_fields top (f ∷ fs) le d =
+    let ih = length-block_of_fields f.0 fs (omega (arith, d.0)) d.1 in
+    length-with_bytes (block_of_fields fs) f.0 f.1 (omega (arith, d.0)) ∙ ih
+
+-- each field lies below the top
+field_below : (top : ℕ) (fs : List Field) (k : ℕ) (e : Field) → Descends top fs → k < length fs → (get_or fs k e).0 + length (get_or fs k e).1 ≤ top
+field_below top [] k e d lt = absurd (omega arith)
+field_below top (f ∷ fs) zero e d lt = d.0
+field_below top (f ∷ fs) (suc k) e d lt =
+    let ih = field_below f.0 fs k e d.1 (omega arith) in
+    omega (arith, d.0)
+
+-- a field stands where it was put
+pub nth_field : (top : ℕ) (fs : List Field) (k : ℕ) (e : Field) → top ≤ 512 → Descends top fs → k < length fs
+    → slice_range (block_of_fields fs) (get_or fs k e).0 ((get_or fs k e).0 + length (get_or fs k e).1) ≡ (get_or fs k e).1
+nth_field top [] k e le d lt = absurd (omega arith)
+nth_field top (f ∷ fs) zero e le d lt =
+    let n = length-block_of_fields f.0 fs (omega (arith, d.0)) d.1 in
+    range-with_bytes_same (block_of_fields fs) f.0 f.1 (f.0 + length f.1) (omega (arith, d.0)) refl
+nth_field top (f ∷ fs) (suc k) e le d lt =
+    let n = length-block_of_fields f.0 fs (omega (arith, d.0)) d.1 in
+    let below = field_below f.0 fs k e d.1 (omega arith) in
+    range-with_bytes_below (block_of_fields fs) f.0 f.1 (get_or fs k e).0 ((get_or fs k e).0 + length (get_or fs k e).1) (omega (arith, d.0)) below
+    ∙ nth_field f.0 fs k e (omega (arith, d.0)) d.1 (omega arith)
+
+-- the number of a word's bytes
+pub long_number : (w : ℕ) → w < 2 ^ 32 → big_number 4 (long w) ≡ w
+long_number w small = ap (big_number 4) (sym (append-nil (long w))) ∙ big_number-reads_back 4 w [] small
+
+-- a word by its bytes
+number_there : (bs : List ℕ) (i w : ℕ) → slice_range bs (4 * i) (4 * i + 4) ≡ long w → word bs i ≡ big_number 4 (long w)
+unfolding word
+number_there bs i w h = ap (big_number 4) h
+
+-- the number in a word that was put down, where nothing is sealed
+pub fields_long : (fs : List Field) (k i w : ℕ) → Descends 512 fs → k < length fs → get_or fs k (0, []) ≡ (4 * i, long w)
+    → word (block_of_fields fs) i ≡ big_number 4 (long w)
+fields_long fs k i w d lt e =
+    let n = length_big_bytes 4 w in
+    let z : 4 * i + length (long w) ≡ 4 * i + 4 = omega arith in
+    let there : slice_range (block_of_fields fs) (4 * i) (4 * i + length (long w)) ≡ long w = rw e at (nth_field 512 fs k (0, []) (omega arith) d lt) in
+    number_there (block_of_fields fs) i w (ap (slice_range (block_of_fields fs) (4 * i)) (sym z) ∙ there)
+
+-- the number in a word that was put down
+pub number_of_field : (fs : List Field) (k i w : ℕ) → Descends 512 fs → k < length fs → get_or fs k (0, []) ≡ (4 * i, long w) → i ≢ 5
+    → word (sealed 5 (block_of_fields fs)) i ≡ big_number 4 (long w)
+number_of_field fs k i w d lt e other =
+    let n = length-block_of_fields 512 fs (omega arith) d in
+    let there = nth_field 512 fs k (0, []) (omega arith) d lt in
+    word-with_word_other (block_of_fields fs) 5 (checksum 5 (block_of_fields fs)) i (omega arith) other
+    ∙ number_there (block_of_fields fs) i w (rw e at there)
+
+-- a word that was put down
+pub word_of_field : (fs : List Field) (k i w : ℕ) → Descends 512 fs → k < length fs → get_or fs k (0, []) ≡ (4 * i, long w) → i ≢ 5 → w < 2 ^ 32
+    → word (sealed 5 (block_of_fields fs)) i ≡ w
+word_of_field fs k i w d lt e other small = number_of_field fs k i w d lt e other ∙ long_number w small
+
+-- the sum of what was sealed
+pub sum_of_fields : (fs : List Field) → Descends 512 fs → long_sum (sealed 5 (block_of_fields fs)) ≡ 0
+sum_of_fields fs d = long_sum-sealed 5 (block_of_fields fs) (omega arith) (length-block_of_fields 512 fs (omega arith) d)
+
+-- a part of a part
+pub sub_range : (xs : List ℕ) (a b i j : ℕ) → i ≤ j → a + j ≤ b → slice_range (slice_range xs a b) i j ≡ slice_range xs (a + i) (a + j)
+sub_range xs a b i j le h =
+    let m : ℕ = b - a - i in
+    let split : b - a ≡ i + m = omega arith in
+    let width : a + j - (a + i) ≡ j - i = omega arith in
+    let inner : drop i (take (b - a) (drop a xs)) ≡ take m (drop (a + i) xs) =
+    ap (λ k. drop i (take k (drop a xs))) split ∙ drop-take i m (drop a xs) ∙ ap (take m) (drop-drop i a xs) in
+    ap (take (j - i)) inner ∙ take-take (j - i) m (drop (a + i) xs) (omega arith) ∙ ap (λ k. take k (drop (a + i) xs)) (sym width)
+
+-- word s of words that stand one after the other
+pub longs_at : (ws : List ℕ) (s : ℕ) → s < length ws → slice_range (longs ws) (4 * s) (4 * s + 4) ≡ long (slice_index ws s)
+longs_at [] s lt = absurd (omega arith)
+longs_at (w ∷ ws) zero lt = take_at (long w) (longs ws) 4 (length_big_bytes 4 w)
+longs_at (w ∷ ws) (suc s) lt =
+    let skip : drop (4 * suc s) (long w ++ longs ws) ≡ drop (4 * s) (longs ws) =
+    ap (λ k. drop k (long w ++ longs ws)) (omega (arith, length_big_bytes 4 w)) ∙ drop-append-add (long w) (longs ws) (4 * s) in
+    let n : 4 * suc s + 4 - 4 * suc s ≡ 4 * s + 4 - 4 * s = omega arith in
+    ap (take (4 * suc s + 4 - 4 * suc s)) skip ∙ ap (λ k. take k (drop (4 * s) (longs ws))) n ∙ longs_at ws s (omega arith)
+
+-- the number in a word of words that were put down, where nothing is sealed
+pub fields_longs : (fs : List Field) (k i s : ℕ) (ws : List ℕ) → Descends 512 fs → k < length fs → get_or fs k (0, []) ≡ (4 * i, longs ws) → s < length ws
+    → word (block_of_fields fs) (i + s) ≡ big_number 4 (long (slice_index ws s))
+fields_longs fs k i s ws d lt e in_words =
+    let n = length-block_of_fields 512 fs (omega arith) d in
+    let there : slice_range (block_of_fields fs) (4 * i) (4 * i + length (longs ws)) ≡ longs ws = rw e at (nth_field 512 fs k (0, []) (omega arith) d lt) in
+    let m = length_longs ws in
+    let a : 4 * (i + s) ≡ 4 * i + 4 * s = omega arith in
+    let b : 4 * (i + s) + 4 ≡ 4 * i + (4 * s + 4) = omega arith in
+    let part : slice_range (block_of_fields fs) (4 * (i + s)) (4 * (i + s) + 4) ≡ long (slice_index ws s) =
+    ap (λ p. slice_range (block_of_fields fs) p (4 * (i + s) + 4)) a
+    ∙ ap (λ q. slice_range (block_of_fields fs) (4 * i + 4 * s) q) b
+    ∙ sym (sub_range (block_of_fields fs) (4 * i) (4 * i + length (longs ws)) (4 * s) (4 * s + 4) (omega arith) (omega arith))
+    ∙ ap (λ xs. slice_range xs (4 * s) (4 * s + 4)) there
+    ∙ longs_at ws s in_words in
+    number_there (block_of_fields fs) (i + s) (slice_index ws s) part
+
+-- the number in a word of words that were put down
+pub numbers_of_field : (c : ℕ) (fs : List Field) (k i s : ℕ) (ws : List ℕ) → c < 128 → Descends 512 fs → k < length fs
+    → get_or fs k (0, []) ≡ (4 * i, longs ws) → s < length ws → i + s ≢ c
+    → word (sealed c (block_of_fields fs)) (i + s) ≡ big_number 4 (long (slice_index ws s))
+numbers_of_field c fs k i s ws in_block d lt e in_words other =
+    let n = length-block_of_fields 512 fs (omega arith) d in
+    word-with_word_other (block_of_fields fs) c (checksum c (block_of_fields fs)) (i + s) (omega arith) other ∙ fields_longs fs k i s ws d lt e in_words
+
+-- a word of words that were put down
+pub words_of_field : (c : ℕ) (fs : List Field) (k i s : ℕ) (ws : List ℕ) → c < 128 → Descends 512 fs → k < length fs
+    → get_or fs k (0, []) ≡ (4 * i, longs ws) → s < length ws → i + s ≢ c → slice_index ws s < 2 ^ 32
+    → word (sealed c (block_of_fields fs)) (i + s) ≡ slice_index ws s
+words_of_field c fs k i s ws in_block d lt e in_words other small =
+    numbers_of_field c fs k i s ws in_block d lt e in_words other ∙ long_number (slice_index ws s) small
+
+-- a date that was put down
+pub stamp_of_field : (fs : List Field) (k i : ℕ) (s : Stamp) → Descends 512 fs → k < length fs → get_or fs k (0, []) ≡ (4 * i, stamp s) → 5 < i → FitsStamp s
+    → stamp_at (sealed 5 (block_of_fields fs)) i ≡ s
+stamp_of_field fs k i s d lt e above fits =
+    let ws : List ℕ = s.days ∷ s.mins ∷ s.ticks ∷ [] in
+    let days : word (sealed 5 (block_of_fields fs)) i ≡ s.days =
+    ap (word (sealed 5 (block_of_fields fs))) (sym (add-zero i)) ∙ words_of_field 5 fs k i 0 ws (omega arith) d lt e (omega arith) (omega arith) fits.days in
+    let mins : word (sealed 5 (block_of_fields fs)) (i + 1) ≡ s.mins = words_of_field 5 fs k i 1 ws (omega arith) d lt e (omega arith) (omega arith) fits.mins in
+    let ticks : word (sealed 5 (block_of_fields fs)) (i + 2) ≡ s.ticks = words_of_field 5 fs k i 2 ws (omega arith) d lt e (omega arith) (omega arith) fits.ticks in
+    rw (days, mins, ticks) refl
+
+-- the number in a word of words that were put down from word i on, downwards
+pub numbers_downwards : (fs : List Field) (k i j : ℕ) (ws : List ℕ) → Descends 512 fs → k < length fs → get_or fs k (0, []) ≡ downwards i ws
+    → length ws + 5 ≤ i → j < length ws
+    → word (sealed 5 (block_of_fields fs)) (i - j) ≡ big_number 4 (long (slice_index ws j))
+numbers_downwards fs k i j ws d lt e room in_words =
+    let n : length (reverse ws) ≡ length ws = length-reverse ws in
+    let at : i - j ≡ (i + 1 - length ws) + (length ws - 1 - j) = omega arith in
+    let back : length ws - 1 - (length ws - 1 - j) ≡ j = omega arith in
+    ap (word (sealed 5 (block_of_fields fs))) at
+    ∙ numbers_of_field 5 fs k (i + 1 - length ws) (length ws - 1 - j) (reverse ws) (omega arith) d lt e (omega arith) (omega arith)
+    ∙ ap (λ w. big_number 4 (long w)) (get_or-reverse ws (length ws - 1 - j) 0 (omega arith) ∙ ap (slice_index ws) back)
+
+-- each field ends at byte a or before, or begins at byte b or after
+abbrev pub Apart : ℕ → ℕ → List Field → Type 0
+Apart a b [] = Unit {0}
+Apart a b (f ∷ fs) = ((b ≤ f.0) ⊎ (f.0 + length f.1 ≤ a)) × Apart a b fs
+
+-- bytes that no field is put over
+range_between : (top a b : ℕ) (fs : List Field) → top ≤ 512 → Descends top fs → Apart a b fs → slice_range (block_of_fields fs) a b ≡ slice_range (replicate 512 0) a b
+range_between top a b [] le d apart = refl
+range_between top a b (f ∷ fs) le d apart =
+    let n = length-block_of_fields f.0 fs (omega (arith, d.0)) d.1 in
+    let ih = range_between f.0 a b fs (omega (arith, d.0)) d.1 apart.1 in
+    elim apart.0 [
+      | inl below ↦ range-with_bytes_below (block_of_fields fs) f.0 f.1 a b (omega (arith, d.0)) below ∙ ih
+      | inr above ↦ range-with_bytes_above (block_of_fields fs) f.0 f.1 a b (omega (arith, d.0)) above ∙ ih
+    ]
+
+-- a word of zeros
+zero_word : (i : ℕ) → i < 128 → slice_range (replicate 512 0) (4 * i) (4 * i + 4) ≡ long 0
+zero_word i lt =
+    let n : 4 * i + 4 - 4 * i ≡ 4 = omega arith in
+    ap (take (4 * i + 4 - 4 * i)) (drop-replicate (4 * i) 512 0)
+    ∙ ap (λ k. take k (replicate (512 - 4 * i) 0)) n
+    ∙ take-replicate 4 (512 - 4 * i) 0 (omega arith)
+
+-- a word that no field is put over, where nothing is sealed
+pub fields_between : (fs : List Field) (i : ℕ) → Descends 512 fs → i < 128 → Apart (4 * i) (4 * i + 4) fs → word (block_of_fields fs) i ≡ 0
+fields_between fs i d lt apart = number_there (block_of_fields fs) i 0 (range_between 512 (4 * i) (4 * i + 4) fs (omega arith) d apart ∙ zero_word i lt)
+
+-- a word that no field is put over
+pub word_between : (fs : List Field) (i : ℕ) → Descends 512 fs → i < 128 → Apart (4 * i) (4 * i + 4) fs → i ≢ 5 → word (sealed 5 (block_of_fields fs)) i ≡ 0
+word_between fs i d lt apart other =
+    let n = length-block_of_fields 512 fs (omega arith) d in
+    word-with_word_other (block_of_fields fs) 5 (checksum 5 (block_of_fields fs)) i (omega arith) other ∙ fields_between fs i d lt apart
+
+-- the number in word i - j where words were put down from word i on, downwards: word j of these, or 0 past the last
+pub pointer_number : (fs : List Field) (k i j : ℕ) (ws : List ℕ) → Descends 512 fs → k < length fs → get_or fs k (0, []) ≡ downwards i ws
+    → length ws + 5 ≤ i → j + 5 < i → i < 128
+    → (length ws ≤ j → Apart (4 * (i - j)) (4 * (i - j) + 4) fs)
+    → word (sealed 5 (block_of_fields fs)) (i - j) ≡ big_number 4 (long (slice_index ws j))
+pointer_number fs k i j ws d lt e room above in_block past = elim (cases_lt j (length ws)) [
+  | inl in_words ↦ numbers_downwards fs k i j ws d lt e room in_words
+  | inr beyond ↦
+      let zero_there : slice_index ws j ≡ 0 = get_or_past ws j 0 beyond in
+      word_between fs (i - j) d (omega arith) (past beyond) (omega arith) ∙ ap (λ w. big_number 4 (long w)) (sym zero_there)
+]
+
+-- a block that was laid and sealed is whole
+pub length_sealed_fields : (fs : List Field) → Descends 512 fs → length (sealed 5 (block_of_fields fs)) ≡ 512
+length_sealed_fields fs d =
+    let len = length-block_of_fields 512 fs (omega arith) d in
+    length-with_bytes (block_of_fields fs) (4 * 5) (long (checksum 5 (block_of_fields fs))) (omega (arith, length_big_bytes 4 (checksum 5 (block_of_fields fs)))) ∙ len
+
+-- bytes that were put down above word 5
+pub bytes_of_field : (fs : List Field) (k from : ℕ) (xs : List ℕ) → Descends 512 fs → k < length fs → get_or fs k (0, []) ≡ (from, xs) → 24 ≤ from
+    → slice_range (sealed 5 (block_of_fields fs)) from (from + length xs) ≡ xs
+bytes_of_field fs k from xs d lt e above =
+    let n = length-block_of_fields 512 fs (omega arith) d in
+    let there : slice_range (block_of_fields fs) from (from + length xs) ≡ xs = rw e at (nth_field 512 fs k (0, []) (omega arith) d lt) in
+    range-with_bytes_above (block_of_fields fs) (4 * 5) (long (checksum 5 (block_of_fields fs))) from (from + length xs) (omega arith)
+    (omega (arith, length_big_bytes 4 (checksum 5 (block_of_fields fs)))) ∙ there
+
+-- how a length and a text read
+pub text_reads : (bs xs : List ℕ) (at : ℕ) → slice_range xs at (at + length (text bs)) ≡ text bs → (slice_index xs at ≡ length bs) × (text_at xs at ≡ bs)
+text_reads bs xs at h =
+    let n : at + length (text bs) - at ≡ suc (length bs) = omega arith in
+    let whole : take (suc (length bs)) (drop at xs) ≡ length bs ∷ bs = ap (λ k. take k (drop at xs)) (sym n) ∙ h in
+    let first : slice_index xs at ≡ length bs =
+    ap (λ k. slice_index xs k) (sym (add-zero at)) ∙ sym (get_or-drop at xs 0 0) ∙ sym (get_or-take (suc (length bs)) (drop at xs) 0 0 (omega arith))
+    ∙ ap (λ ys. get_or ys 0 0) whole in
+    let rest : slice_range xs (at + 1) (at + 1 + length bs) ≡ bs =
+    sym (sub_range xs at (at + length (text bs)) 1 (1 + length bs) (omega arith) (omega arith) ∙ ap (slice_range xs (at + 1)) (omega arith))
+    ∙ ap (λ ys. slice_range ys 1 (1 + length bs)) h
+    ∙ ap (λ k. take k bs) (omega arith) ∙ take_all (length bs) bs (omega arith) in
+    (first, ap (λ k. slice_range xs (at + 1) (at + 1 + k)) first ∙ rest)
+
+-- a length and a text that were put down above word 5
+pub text_of_field : (fs : List Field) (k at : ℕ) (bs : List ℕ) → Descends 512 fs → k < length fs → get_or fs k (0, []) ≡ (at, text bs) → 24 ≤ at
+    → (slice_index (sealed 5 (block_of_fields fs)) at ≡ length bs) × (text_at (sealed 5 (block_of_fields fs)) at ≡ bs)
+text_of_field fs k at bs d lt e above = text_reads bs (sealed 5 (block_of_fields fs)) at (bytes_of_field fs k at (text bs) d lt e above)

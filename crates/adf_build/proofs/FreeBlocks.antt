@@ -1,0 +1,52 @@
+-- The blocks that are free for entries, and the tables that name them.
+use Rattle.std.proofs.Common.{◌≡◌, ◌≤◌, ◌<◌, ◌+◌, ◌-◌, ◌*◌, ◌/◌, ◌^◌, ℕ, List, [], ◌∷◌, ◌++◌, sym, ap, ◌∙◌, arith, true, length, take}
+use Rattle.std.specs.Prelude.{nat_le, nat_lt, ◌||◌}
+use Rattle.std.proofs.Math.ListN.{set}
+use Rattle.std.proofs.lemmas.Bool.Decides.{nat_tests}
+use Rattle.std.proofs.lemmas.List.{take_more_set}
+use Rattle.adf_tree.specs.declared.entry.Kind.{Kind}
+use Rattle.adf_tree.specs.declared.entry.Kind.TheVariants.{Ofs, Ffs}
+use Rattle.adf_blocks.specs.Sizes.{is_allowed, pages_needed}
+use Rattle.adf_volume.specs.Image.{chunk, count, map_exts_needed}
+use Rattle.adf_volume.proofs.Sizes.{size_high, size_low}
+use Rattle.adf_build.specs.Bits.{is_used}
+use Rattle.adf_build.specs.Plan.{nth_free, reserved, allocated}
+use Rattle.adf_build.proofs.AllocatedBlocks.{free_below, allocated-append}
+use Rattle.adf_build.proofs.LaidWrites.{reserved_parts}
+
+-- the pages and the bitmap extension blocks stand behind the root
+pub reserved_is : (n : ℕ) → reserved n ≡ pages_needed n + map_exts_needed (pages_needed n)
+reserved_is n = sym (reserved_parts n)
+
+pub reserved_few : (n : ℕ) → is_allowed n ≡ true → reserved n < 2 ^ 16
+unfolding reserved map_exts_needed
+reserved_few n a = let high = size_high n a in omega arith
+
+-- a block that is used, below the root
+pub used_low : (n total b : ℕ) → b < n / 2 → is_used n total b ≡ nat_lt (b - 2) total
+unfolding is_used
+used_low n total b h = grind (arith, nat_tests)
+
+-- a block that is used, from the root on
+pub used_high : (n total b : ℕ) → n / 2 ≤ b → is_used n total b ≡ (nat_le b (n / 2 + reserved n) || nat_lt (b - (3 + reserved n)) total)
+unfolding is_used
+used_high n total b h = grind (arith, nat_tests)
+
+-- a free block lies whole in the image
+pub free_fits : (n k l : ℕ) → is_allowed n ≡ true → 1 + reserved n + (k + 1) ≤ n - 2 → l ≡ n * 512 → nth_free n k * 512 + 512 ≤ l
+free_fits n k l h r e =
+    let four = size_low n h in
+    let b = free_below n k four (omega arith) in
+    omega arith
+
+-- one block more in a table
+pub allocated_step : (table : List ℕ) (n k j v : ℕ) → j < length table → take j table ≡ allocated n k j → v ≡ nth_free n (k + j)
+    → take (j + 1) (set table j v) ≡ allocated n k (j + 1)
+allocated_step table n k j v h e f =
+    take_more_set table j v h ∙ ap (λ l. l ++ v ∷ []) e ∙ ap (λ v. allocated n k j ++ v ∷ []) f ∙ sym (allocated-append n k j 1)
+
+-- a file in so many data blocks is not longer than they are
+pub size_small : (kind : Kind) (size : ℕ) → size ≤ 512 * count kind size
+unfolding count chunk
+size_small Ofs size = omega arith
+size_small Ffs size = omega arith

@@ -1,0 +1,228 @@
+-- A laid volume holds each of its parts.
+use Rattle.std.proofs.Common.{◌≡◌, ℕ, zero, suc, List, [], ◌∷◌, ◌++◌, inl, inr, ◌+◌, ◌-◌, ◌*◌, ◌^◌, ◌<◌, ◌≤◌, length, refl, sym, ap, subst, ◌∙◌, arith, true}
+use Rattle.std.specs.List.{range_with_len}
+use Rattle.std.proofs.Common.{append_assoc}
+use Rattle.std.specs.Prelude.{slice_index, replicate, min}
+use Rattle.std.proofs.lemmas.List.{length-replicate}
+use Rattle.std.proofs.lemmas.List.FromFn.{length-map-range_with_len, length-range_with_len}
+use Rattle.adf_fields.specs.Words.{block}
+use Rattle.adf_tree.specs.Texts.{is_name}
+use Rattle.adf_tree.specs.declared.entry.Kind.{Kind}
+use Rattle.adf_tree.specs.declared.entry.Kind.TheVariants.{Ofs, Ffs}
+use Rattle.adf_tree.specs.declared.entry.Entry.{Entry}
+use Rattle.adf_tree.specs.Tree.{Tree}
+use Rattle.adf_blocks.specs.Sizes.{blocks, middle, pages_needed, is_allowed}
+use Rattle.adf_blocks.specs.Fields.{block_of_fields}
+use Rattle.adf_blocks.specs.RootBlock.{FitsRoot, root_block}
+use Rattle.adf_blocks.proofs.FieldLaws.{length-block_of_fields}
+use Rattle.adf_blocks.proofs.RootLaws.{length_root_block}
+use Rattle.adf_blocks.proofs.PageLaws.{length_page_block}
+use Rattle.adf_blocks.proofs.MapExtLaws.{length_map_ext_block}
+use Rattle.adf_volume.specs.Lists.{At}
+use Rattle.adf_volume.specs.Image.{map_exts_needed}
+use Rattle.adf_volume.specs.Layout.{nodes_from}
+use Rattle.adf_volume.proofs.Lists.{in_cases, at_below, at_index_or}
+use Rattle.adf_volume.proofs.Sizes.{size_low, size_high}
+use Rattle.adf_volume.proofs.DistinctBlocks.{Distinct, distinct-append}
+use Rattle.adf_build.specs.Plan.{reserved, entry_blocks, entries_blocks, blocks_needed, nth_free, allocated}
+use Rattle.adf_build.specs.Bits.{bits_from, is_free_bit, page_words}
+use Rattle.adf_build.specs.Writes.{AreBlocks, NoneTwice, Holds, numbers_of}
+use Rattle.adf_build.specs.Laid.{first_block, entries_writes, heads_from, node_blocks, page_writes, map_ext_writes, map_ext_or_none, listed_pages, boot_bytes}
+use Rattle.adf_build.specs.Laid.{planned_root, writes, volume, IsSound}
+use Rattle.adf_build.proofs.AllocatedBlocks.{free_from, free_below, free_apart, reserved_below, in_allocated, in_range, distinct_allocated, distinct_range}
+use Rattle.adf_build.proofs.AllocatedBlocks.{range_with_len-append}
+use Rattle.adf_build.proofs.BlockWrites.{length-with_blocks}
+use Rattle.adf_build.proofs.WrittenBlocks.{none_twice, laid_holds, holds_left, holds_right, numbers_of-append, entries_numbers}
+use Rattle.adf_build.proofs.WholeBlocks.{are-append, are_entries}
+
+-- the reserved blocks are the pages and the bitmap extension blocks
+pub reserved_parts : (n : ℕ) → pages_needed n + map_exts_needed (pages_needed n) ≡ reserved n
+unfolding reserved
+reserved_parts n = refl
+
+boot_short : (kind : Kind) → length (boot_bytes kind) ≡ 4
+boot_short Ofs = refl
+boot_short Ffs = refl
+
+page_numbers : (n total j m : ℕ) → numbers_of (page_writes n total j m) ≡ range_with_len (middle n + 1 + j) m
+page_numbers n total j zero = refl
+page_numbers n total j (suc m) =
+    let e : middle n + 1 + suc j ≡ middle n + 1 + j + 1 = omega arith in
+    ap (λ l. (middle n + 1 + j) ∷ l) (page_numbers n total (suc j) m ∙ ap (λ b. range_with_len b m) e)
+
+map_ext_numbers : (n j m : ℕ) → numbers_of (map_ext_writes n j m) ≡ range_with_len (middle n + 1 + pages_needed n + j) m
+map_ext_numbers n j zero = refl
+map_ext_numbers n j (suc m) =
+    let e : middle n + 1 + pages_needed n + suc j ≡ middle n + 1 + pages_needed n + j + 1 = omega arith in
+    ap (λ l. (middle n + 1 + pages_needed n + j) ∷ l) (map_ext_numbers n (suc j) m ∙ ap (λ b. range_with_len b m) e)
+
+-- a bitmap extension block names at most 127 pages
+pub listed_few : (n j : ℕ) → length (listed_pages n j) ≤ 127
+listed_few n j =
+    let l : length (listed_pages n j) ≡ min 127 (pages_needed n - (25 + 127 * j)) =
+    length-range_with_len (middle n + 1 + (25 + 127 * j)) (min 127 (pages_needed n - (25 + 127 * j))) in
+    omega arith
+
+page_long : (n total j : ℕ) → length (page_words n total j) ≡ 127
+page_long n total j = length-map-range_with_len (λ w. bits_from (is_free_bit n total) (4064 * j + 32 * w) 32) 0 127
+
+are_pages : (n total j m : ℕ) → middle n + j + m < n → AreBlocks n (page_writes n total j m)
+are_pages n total j zero h = tt
+are_pages n total j (suc m) h = (omega arith, length_page_block (page_words n total j) (page_long n total j), are_pages n total (suc j) m (omega arith))
+
+are_map_exts : (n j m : ℕ) → middle n + pages_needed n + j + m < n → AreBlocks n (map_ext_writes n j m)
+are_map_exts n j zero h = tt
+are_map_exts n j (suc m) h = (
+  omega arith,
+  length_map_ext_block (listed_pages n j) (map_ext_or_none n (suc j) m) (listed_few n j),
+  are_map_exts n (suc j) m
+      (omega arith),
+)
+
+-- the parts behind the entries: the pages, the bitmap extension blocks, the root and the boot block
+abbrev pages_of : Tree → ℕ → List (ℕ × List ℕ)
+pages_of t n = page_writes n (entries_blocks t.kind t.entries) 0 (pages_needed n)
+
+abbrev map_exts_of : ℕ → List (ℕ × List ℕ)
+map_exts_of n = map_ext_writes n 0 (map_exts_needed (pages_needed n))
+
+abbrev ends_of : Tree → ℕ → List (ℕ × List ℕ)
+ends_of t n = (middle n, root_block (planned_root t n)) ∷ (0, block_of_fields ((0, boot_bytes t.kind) ∷ [])) ∷ []
+
+module _ (t : Tree) (n : ℕ) (sound : IsSound t) (allowed : is_allowed n ≡ true) (room : blocks_needed t n ≤ n - 2) where
+  total : ℕ
+  total = entries_blocks t.kind t.entries
+
+  pub below : (k : ℕ) → k < entries_blocks t.kind t.entries → nth_free n k < n
+  below k l = let four : 4 ≤ n = size_low n allowed in free_below n k four (omega arith)
+
+  heads_near : (k : ℕ) (es : List Entry) → k + entries_blocks t.kind es ≤ entries_blocks t.kind t.entries → (j : ℕ)
+      → slice_index (heads_from n t.kind k es) j < 2 ^ 32
+  heads_near k [] l j = omega arith
+  heads_near k (e ∷ es) l zero = let b = below k (omega arith) in let high = size_high n allowed in omega arith
+  heads_near k (e ∷ es) l (suc j) = heads_near (k + entry_blocks t.kind e) es (omega arith) j
+
+  -- the block of each node is a word
+  pub near : (j : ℕ) → slice_index (node_blocks t n) j < 2 ^ 32
+  near zero = let high = size_high n allowed in omega arith
+  near (suc j) = heads_near 0 t.entries (omega arith) j
+
+  pub entry_sound : (j : ℕ) (e : Entry) → At t.entries j e → (is_name e.name ≡ true) × (length e.meta.comment ≤ 79)
+  entry_sound j e h =
+      let l : j < length t.entries = at_below t.entries j e h in
+      let z = at_index_or t.entries j e e h in
+      (subst (λ (x : Entry). is_name x.name ≡ true) z (sound.names j e l), subst (λ (x : Entry). length x.meta.comment ≤ 79) z (sound.comments j e l))
+
+  pub fits_root : FitsRoot (planned_root t n)
+  fits_root =
+      let r : length (range_with_len (middle n + 1) (min 25 (pages_needed n))) ≡ min 25 (pages_needed n) = length-range_with_len (middle n + 1) (min 25 (pages_needed n)) in
+      record {
+        slots = length-map-range_with_len (λ s. first_block (slice_index (node_blocks t n)) (nodes_from 1 t.entries 0 s)) 0 72;
+        pages = omega arith;
+        label = sound.label;
+      }
+
+  pub writes_are : AreBlocks n (writes t n)
+  writes_are =
+      let four = size_low n allowed in
+      let high = size_high n allowed in
+      let p = reserved_parts n in
+      let r = reserved_below n four in
+      let b = boot_short t.kind in
+      are-append n (entries_writes n t.kind (node_blocks t n) t.entries 1 0 t.entries) (pages_of t n ++ (map_exts_of n ++ ends_of t n))
+      (are_entries n (entries_blocks t.kind t.entries) (omega arith) (omega arith) below t.kind (node_blocks t n) t.entries 1 0 t.entries near (omega arith)
+      entry_sound)
+      (are-append n (pages_of t n) (map_exts_of n ++ ends_of t n)
+      (are_pages n (entries_blocks t.kind t.entries) 0 (pages_needed n) (omega arith))
+      (are-append n (map_exts_of n) (ends_of t n)
+      (are_map_exts n 0 (map_exts_needed (pages_needed n)) (omega arith)) (
+        omega arith,
+        length_root_block (planned_root t n) fits_root,
+        (
+          omega arith,
+          length-block_of_fields 512 ((0, boot_bytes t.kind) ∷ []) (omega arith)
+              (omega arith, tt),
+          tt,
+        ),
+      )))
+
+  writes_numbers : numbers_of (writes t n) ≡ allocated n 0 (entries_blocks t.kind t.entries) ++ (range_with_len (middle n + 1) (reserved n) ++ middle n ∷ 0 ∷ [])
+  writes_numbers =
+      let p : ℕ = pages_needed n in
+      let x : ℕ = map_exts_needed (pages_needed n) in
+      let z : middle n + 1 + 0 ≡ middle n + 1 = omega arith in
+      let y : middle n + 1 + p + 0 ≡ middle n + 1 + p = omega arith in
+      let last : List ℕ = middle n ∷ 0 ∷ [] in
+      let pages : numbers_of (pages_of t n) ≡ range_with_len (middle n + 1) p = page_numbers n (entries_blocks t.kind t.entries) 0 p ∙ ap (λ b. range_with_len b p) z in
+      let exts : numbers_of (map_exts_of n) ≡ range_with_len (middle n + 1 + p) x = map_ext_numbers n 0 x ∙ ap (λ b. range_with_len b x) y in
+      let back : numbers_of (map_exts_of n ++ ends_of t n) ≡ range_with_len (middle n + 1 + p) x ++ last =
+      numbers_of-append (map_exts_of n) (ends_of t n) ∙ ap (λ l. l ++ last) exts in
+      let both : range_with_len (middle n + 1) p ++ range_with_len (middle n + 1 + p) x ≡ range_with_len (middle n + 1) (reserved n) =
+      range_with_len-append (middle n + 1) p x ∙ ap (range_with_len (middle n + 1)) (reserved_parts n) in
+      numbers_of-append (entries_writes n t.kind (node_blocks t n) t.entries 1 0 t.entries) (pages_of t n ++ (map_exts_of n ++ ends_of t n))
+      ∙ ap (λ l. l ++ numbers_of (pages_of t n ++ (map_exts_of n ++ ends_of t n))) (entries_numbers n t.kind (node_blocks t n) t.entries 1 0 t.entries)
+      ∙ ap (λ l. allocated n 0 (entries_blocks t.kind t.entries) ++ l) (
+      numbers_of-append (pages_of t n) (map_exts_of n ++ ends_of t n)
+      ∙ ap (λ l. l ++ numbers_of (map_exts_of n ++ ends_of t n)) pages
+      ∙ ap (λ l. range_with_len (middle n + 1) p ++ l) back
+      ∙ sym (append_assoc (range_with_len (middle n + 1) p) (range_with_len (middle n + 1 + p) x) last)
+      ∙ ap (λ l. l ++ last) both
+      )
+
+  pub writes_once : NoneTwice (writes t n)
+  writes_once =
+      let four = size_low n allowed in
+      let m : ℕ = entries_blocks t.kind t.entries in
+      none_twice (writes t n) (subst Distinct (sym writes_numbers)
+      (distinct-append (allocated n 0 m) (range_with_len (middle n + 1) (reserved n) ++ middle n ∷ 0 ∷ []) (distinct_allocated n 0 m)
+      (distinct-append (range_with_len (middle n + 1) (reserved n)) (middle n ∷ 0 ∷ []) (distinct_range (middle n + 1) (reserved n))
+      ((λ h. elim h [ inl e ↦ omega arith | inr g ↦ g ]), ((λ h. h), tt))
+      (λ b i j. let r = in_range (middle n + 1) (reserved n) b i in elim j [ inl e ↦ omega arith | inr g ↦ elim g [ inl e ↦ omega arith | inr f ↦ f ] ]))
+      (λ b i j.
+      let s = in_allocated n 0 m b i in
+      let e : nth_free n s.0 ≡ b = s.3 in
+      let f = free_from n s.0 in
+      elim (in_cases (range_with_len (middle n + 1) (reserved n)) (middle n ∷ 0 ∷ []) b j) [
+        | inl k ↦ let r = in_range (middle n + 1) (reserved n) b k in free_apart n s.0 (omega arith) (omega arith)
+        | inr k ↦ elim k [ inl g ↦ free_apart n s.0 (omega arith) (omega arith) | inr g ↦ elim g [ inl h ↦ omega arith | inr h ↦ h ] ]
+      ])))
+
+  pub zeros_long : length {A = ℕ} (replicate (n * 512) 0) ≡ n * 512
+  zeros_long = length-replicate (n * 512) 0
+
+  pub volume_long : length (volume t n) ≡ n * 512
+  unfolding volume
+  volume_long = length-with_blocks n (replicate (n * 512) 0) (writes t n) writes_are zeros_long
+
+  pub volume_blocks : blocks (volume t n) ≡ n
+  volume_blocks = let l = volume_long in omega arith
+
+  holds_all : Holds (volume t n) (writes t n)
+  unfolding volume
+  holds_all = laid_holds n (replicate (n * 512) 0) (writes t n) (writes t n) writes_are writes_once zeros_long (λ q h. h)
+
+  pub holds_entries : Holds (volume t n) (entries_writes n t.kind (node_blocks t n) t.entries 1 0 t.entries)
+  holds_entries = holds_left (volume t n) (entries_writes n t.kind (node_blocks t n) t.entries 1 0 t.entries)
+      (pages_of t n ++ (map_exts_of n ++ ends_of t n)) holds_all
+
+  holds_rest : Holds (volume t n) (pages_of t n ++ (map_exts_of n ++ ends_of t n))
+  holds_rest = holds_right (volume t n) (entries_writes n t.kind (node_blocks t n) t.entries 1 0 t.entries) (pages_of t n ++ (map_exts_of n ++ ends_of t n))
+      holds_all
+
+  pub holds_pages : Holds (volume t n) (page_writes n (entries_blocks t.kind t.entries) 0 (pages_needed n))
+  holds_pages = holds_left (volume t n) (pages_of t n) (map_exts_of n ++ ends_of t n) holds_rest
+
+  holds_back : Holds (volume t n) (map_exts_of n ++ ends_of t n)
+  holds_back = holds_right (volume t n) (pages_of t n) (map_exts_of n ++ ends_of t n) holds_rest
+
+  pub holds_map_exts : Holds (volume t n) (map_ext_writes n 0 (map_exts_needed (pages_needed n)))
+  holds_map_exts = holds_left (volume t n) (map_exts_of n) (ends_of t n) holds_back
+
+  holds_ends : Holds (volume t n) (ends_of t n)
+  holds_ends = holds_right (volume t n) (map_exts_of n) (ends_of t n) holds_back
+
+  pub holds_root : block (volume t n) (middle n) ≡ root_block (planned_root t n)
+  holds_root = holds_ends.0
+
+  pub holds_boot : block (volume t n) 0 ≡ block_of_fields ((0, boot_bytes t.kind) ∷ [])
+  holds_boot = holds_ends.1.0

@@ -1,9 +1,0 @@
-use Rattle.std.proofs.Common.{◌≡◌, take, length}
-use Rattle.adf_build.specs.Plan.{run}
-use Rattle.adf_build.proofs.given.table_of.Given as goal
-
-abbrev pub invariant-loop-j : goal.invariant-loop-j
-invariant-loop-j l = record {
-  whole : length l.table ≡ 72;
-  work : take l.j l.table ≡ run l.blocks l.k l.j;
-}

@@ -1,6 +1,0 @@
-use Rattle.adf_volume.specs.Made.{tree_in, layout_in}
-use Rattle.adf_check.proofs.Keeps.{keeps}
-use Rattle.adf_check.proofs.kept.what_is_kept_tells.Goals as goal
-
-pub returns : goal.returns
-returns c = λ image store st. (tree_in image st.walk, layout_in st.walk, keeps image store st)

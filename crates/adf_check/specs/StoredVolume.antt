@@ -1,0 +1,42 @@
+-- What is kept of a volume that a tree and a layout fit.
+use Rattle.std.specs.Prelude.{◌≡◌, ℕ, List, ◌<◌, ◌≤◌, length, take, drop}
+use Rattle.std.proofs.Common.{suc}
+use Rattle.adf_tree.specs.declared.entry.Entry.{Entry}
+use Rattle.adf_tree.specs.Tree.{Tree}
+use Rattle.adf_blocks.specs.Sizes.{blocks}
+use Rattle.adf_volume.specs.declared.owner.Owner.{Owner}
+use Rattle.adf_volume.specs.declared.owner.Owner.TheVariants.{Free, Boot}
+use Rattle.adf_volume.specs.Lists.{At, In}
+use Rattle.adf_volume.specs.Layout.{Layout, EntryAt, at_node, exts_of, datas_of, owned}
+use Rattle.adf_volume.specs.Fits.{Fits}
+use Rattle.adf_check.specs.declared.kept.KeptHeader.{KeptHeader}
+use Rattle.adf_check.specs.declared.kept.Start.{Start}
+use Rattle.adf_check.specs.Store.{Store, owner_at}
+
+-- the table has each block's one owner
+pub record OwnersFit (image : List ℕ) (l : Layout) (owners : List Owner) : Type 0 where
+  pub size : length owners ≡ blocks image
+  pub boot : (b : ℕ) → b < 2 → b < blocks image → owner_at owners b ≡ Boot
+  pub part : (o : Owner) (b : ℕ) → In (owned image l) (o, b) → owner_at owners b ≡ o
+  pub free : (b : ℕ) → 2 ≤ b → b < blocks image → ((o : Owner) → In (owned image l) (o, b) → ⊥) → owner_at owners b ≡ Free
+
+-- row i has the parent and the header of entry i + 1
+pub record RowsFit (image : List ℕ) (t : Tree) (l : Layout) (rows : List KeptHeader) : Type 0 where
+  pub count : length rows ≡ length t.entries
+  pub head : (i : ℕ) (r : KeptHeader) → At rows i r → at_node image l (suc i) ≡ r.head
+  pub parent : (i : ℕ) (r : KeptHeader) (e : Entry) → At rows i r → EntryAt t (suc i) e → e.parent ≡ r.parent
+
+-- start n says where the extension blocks and the data blocks of node n stand in the flat lists
+pub record StartsFit (l : Layout) (store : Store) : Type 0 where
+  pub count : length store.starts ≡ suc (length store.rows)
+  pub exts : (n : ℕ) (x : Start) → At store.starts n x → take (length (exts_of l n)) (drop x.exts store.exts) ≡ exts_of l n
+  pub datas : (n : ℕ) (x : Start) → At store.starts n x → take (length (datas_of l n)) (drop x.datas store.datas) ≡ datas_of l n
+
+-- what is kept tells of this tree and layout, which fit the image, and no others do
+pub record StoreStandsFor (image : List ℕ) (store : Store) (t : Tree) (l : Layout) : Type 0 where
+  pub fits : Fits image t l
+  pub only : (u : Tree) (m : Layout) → Fits image u m → (u ≡ t) × (m ≡ l)
+  pub owners : OwnersFit image l store.owners
+  pub rows : RowsFit image t l store.rows
+  pub starts : StartsFit l store
+  pub used : store.used ≡ length (owned image l)

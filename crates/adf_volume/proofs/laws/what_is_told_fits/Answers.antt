@@ -1,5 +1,0 @@
-use Rattle.adf_volume.proofs.WalkFits as laws
-use Rattle.adf_volume.proofs.laws.what_is_told_fits.Goals as goal
-
-pub returns : goal.returns
-returns c = λ image w boots root v whole bits. laws.fits image w v whole boots root bits

@@ -1,0 +1,30 @@
+-- The parts of a tree and a layout, by the roles of a walk.
+use Rattle.std.specs.Prelude.{◌≡◌, ℕ, List}
+use Rattle.std.proofs.Common.{zero, suc}
+use Rattle.adf_volume.specs.Lists.{At}
+use Rattle.adf_volume.specs.Image.{root_of}
+use Rattle.adf_tree.specs.Tree.{Tree}
+use Rattle.adf_volume.specs.Layout.{Layout, chain_nodes, at_node, exts_of, datas_of}
+use Rattle.adf_volume.specs.declared.owner.Owner.{Owner}
+use Rattle.adf_volume.specs.declared.owner.Owner.TheVariants.{Root as TheRoot, Page as APage, MapExt as AMapExt, Head as AHead, Ext as AnExt, Data as AData}
+use Rattle.adf_volume.specs.Walk.{Role}
+use Rattle.adf_volume.specs.Walk.Role.{Root, Page, MapExt, Head, Ext, Data}
+
+abbrev pub owner_of : Role → Owner
+owner_of Root = TheRoot
+owner_of (Page i) = APage i
+owner_of (MapExt j) = AMapExt j
+owner_of (Head n p s j) = AHead n
+owner_of (Ext n k) = AnExt n k
+owner_of (Data n k) = AData n k
+
+-- the block is this part of the volume
+abbrev pub LayoutHas : List ℕ → Tree → Layout → Role → ℕ → Type 0
+LayoutHas image t l Root b = root_of image ≡ b
+LayoutHas image t l (Page i) b = At l.pages i b
+LayoutHas image t l (MapExt j) b = At l.map_exts j b
+LayoutHas image t l (Head n p s j) b = At (chain_nodes t p s) j n × (at_node image l n ≡ b)
+LayoutHas image t l (Ext n zero) b = ⊥
+LayoutHas image t l (Ext n (suc k)) b = At (exts_of l n) k b
+LayoutHas image t l (Data n zero) b = ⊥
+LayoutHas image t l (Data n (suc k)) b = At (datas_of l n) k b
