@@ -42,6 +42,23 @@ pub enum HeadBody {
     File { size: u32, ext: u32 },
 }
 
+impl HeadBody {
+    /// What a block that is known to be a header has: a directory where word 127 is 2; else a file, with its size in word 81 and
+    /// its first extension block in word 126.
+    pub fn of(b: &Block<'_>) -> HeadBody
+        ensures { result ≡ body_at b.now }
+    {
+        if b.word(SECONDARY_TYPE) == ST_DIR {
+            HeadBody::Dir
+        } else {
+            HeadBody::File {
+                size: b.word(SIZE),
+                ext: b.word(EXTENSION),
+            }
+        }
+    }
+}
+
 // Whether a secondary type is that of a link.
 fn tells_link(t: u32) -> bool
     ensures { result ≡ is_link t }
@@ -190,14 +207,7 @@ impl Head<'_> {
     pub fn body(&self) -> HeadBody
         ensures { result ≡ body_at self.now }
     {
-        if self.block.word(SECONDARY_TYPE) == ST_DIR {
-            HeadBody::Dir
-        } else {
-            HeadBody::File {
-                size: self.block.word(SIZE),
-                ext: self.block.word(EXTENSION),
-            }
-        }
+        HeadBody::of(&self.block)
     }
 
     /// Of a directory, the first header of a slot's chain, or 0: words 6 to 77.

@@ -1,3 +1,4 @@
+pub mod HeaderBodies
 pub mod Cursors
 pub mod Stores
 pub mod PlainSteps

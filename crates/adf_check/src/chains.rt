@@ -12,7 +12,7 @@ use crate::found::Found;
 use crate::image::Image;
 use crate::kept::KeptHeader;
 use crate::narrow_owner::NarrowOwner;
-use adf_blocks::{Cause, FIRST_SLOT, read_head};
+use adf_blocks::{Cause, read_head};
 use adf_tree::{NameSet, Node};
 
 /// The chain of a slot of a directory, whose block is `up`.
@@ -86,7 +86,7 @@ fn read_chain(
 {
     seen.clear();
     let mut at = chain.up;
-    let mut b = image.word(at, FIRST_SLOT + chain.slot as usize);
+    let mut b = image.directory(at).slot(chain.slot);
     while b != 0 {
         let next = read_header(image, found, seen, chain, at, b)?;
         at = b;
@@ -109,9 +109,9 @@ pub fn read_directory(
     ensures fewer { OnOk result (IsFurther found.old found.new) }
     ensures fault { IfErr result (λ f. IsTrueFault image.now f) }
 {
-    let directory = image.block(up);
+    let directory = image.directory(up);
     for slot in 0..72u8 {
-        if directory.word(FIRST_SLOT + slot as usize) == 0 {
+        if directory.slot(slot) == 0 {
             continue;
         }
         read_chain(image, found, seen, &Chain { parent, up, slot })?;

@@ -19,7 +19,7 @@ use crate::lookup::find;
 use crate::pieces::{Pieces, joined, pieces_of};
 use crate::rebuild::tree_of;
 use crate::row::{Row, row_of};
-use adf_blocks::{Head, SECONDARY_TYPE, ST_DIR};
+use adf_blocks::{Head, HeadBody};
 use adf_fields::NoMemory;
 use adf_tree::{Kind, Label, Name, Node, Stamps};
 use adf_volume::Owner;
@@ -188,7 +188,7 @@ fn count_dirs(image: &Image<'_>, rows: &[KeptHeader]) -> usize
 {
     let mut dirs = 0;
     for row in rows {
-        if image.word(row.head, SECONDARY_TYPE) == ST_DIR {
+        if image.body(row.head) == HeadBody::Dir {
             dirs += 1;
         }
     }

@@ -16,7 +16,7 @@ use crate::fault::{Fault, fault_at};
 use crate::found::Found;
 use crate::image::Image;
 use crate::narrow_owner::{NarrowOwner, number_of};
-use adf_blocks::{Cause, FIRST_POINTER, SIZE, read_data};
+use adf_blocks::{Cause, read_data};
 use adf_tree::{Kind, Node};
 
 /// A file whose data blocks are read: its node, the block of its header, its size in bytes, and the count of its data blocks.
@@ -72,7 +72,7 @@ fn pointer(image: &Image<'_>, table: &[u32], k: u32) -> u32
     requires blocks { (i : ℕ) → i < length table.now → slice_index table.now i < blocks image.now }
     ensures { result ≡ word_in image.now (slice_index table.now (k / 72)) (77 - k % 72) }
 {
-    image.word(table[k as usize / 72], FIRST_POINTER - k as usize % 72)
+    image.table(table[k as usize / 72]).pointer(k as usize % 72)
 }
 
 // The block that the table names for data block `k + 1`, or 0 past the last.
@@ -168,31 +168,33 @@ fn read_named(
 {
     let count = file.count;
     let at = table[m as usize];
-    let names = image.block(at);
+    let names = image.table(at);
     let first = 72 * m;
     let len = (count - first).min(72);
     for k in first..first + len {
-        let b = names.word(FIRST_POINTER - (k - first) as usize);
+        let b = names.pointer((k - first) as usize);
         read_data_block(image, found, table, file, at, b, k)?;
     }
     Ok(())
 }
 
-/// Reads the data blocks of the file `node` with its header at block `head`. The table has the header and the extension blocks.
+/// Reads the data blocks of the file `node` of so many bytes, with its header at block `head`. The table has the header and the
+/// extension blocks.
 pub fn read_datas(
     image: &Image<'_>,
     found: &mut Found,
     table: &[u32],
     node: Node,
     head: u32,
+    size: u32,
 ) -> Result<(), Fault>
-    requires inside { head < blocks image.now }
+    requires begun { IsBegun image.now }
+    requires size { size ≡ word_in image.now head 81 }
     requires state { IsInDatas image.now (store_of found.old) node head table.now 0 }
     ensures state { OnOk result (IsAtNode image.now (store_of found.new) (node + 1)) }
     ensures fewer { OnOk result (IsFurther found.old found.new) }
     ensures fault { IfErr result (λ f. IsTrueFault image.now f) }
 {
-    let size = image.word(head, SIZE);
     let count = count_of(image.kind(), size);
     let tables = count.div_ceil(72);
     if tables as usize > table.len() {

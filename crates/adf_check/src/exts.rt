@@ -12,7 +12,7 @@ use crate::fault::{Fault, fault_at};
 use crate::found::Found;
 use crate::image::Image;
 use crate::narrow_owner::{NarrowOwner, number_of};
-use adf_blocks::{Cause, EXTENSION, read_ext};
+use adf_blocks::{Cause, read_ext};
 use adf_tree::Node;
 
 // Claims and reads the extension block at block `b`, which a word of block `at` names, of the file `node` with its header at block
@@ -46,22 +46,24 @@ fn read_ext_block(
     Ok(ext.next())
 }
 
-/// Reads the extension blocks of the file `node` with its header at block `head`. The table, which has the header, gets them.
+/// Reads the extension blocks, from block `first` on or none where that is 0, of the file `node` with its header at block `head`. The
+/// table, which has the header, gets them.
 pub fn read_exts(
     image: &Image<'_>,
     found: &mut Found,
     table: &mut Vec<u32>,
     node: Node,
     head: u32,
+    first: u32,
 ) -> Result<(), Fault>
-    requires inside { head < blocks image.now }
-    requires state { IsInExts image.now (store_of found.old) node head table.old.items head (word_in image.now head 126) }
+    requires begun { IsBegun image.now }
+    requires state { IsInExts image.now (store_of found.old) node head table.old.items head first }
     ensures state { OnOk result (IsInDatas image.now (store_of found.new) node head table.new.items 0) }
     ensures fewer { OnOk result (IsFurther found.old found.new) }
     ensures fault { IfErr result (λ f. IsTrueFault image.now f) }
 {
     let mut at = head;
-    let mut b = image.word(at, EXTENSION);
+    let mut b = first;
     while b != 0 {
         let next = read_ext_block(image, found, table, node, head, at, b)?;
         at = b;

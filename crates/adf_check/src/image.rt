@@ -2,10 +2,12 @@
 
 ghost use Rattle.std.specs.Prelude.{◌≡◌, ◌<◌, ◌≤◌, ◌^◌};
 ghost use Rattle.adf_fields.specs.Words.{block};
+ghost use Rattle.adf_blocks.specs.HeadBlock.{body_at};
 ghost use Rattle.adf_blocks.specs.Sizes.{blocks};
 ghost use Rattle.adf_volume.specs.Image.{kind_of, root_of, word_in};
 ghost use Rattle.adf_check.specs.Image.{IsBegun, IsImage};
 
+use adf_blocks::{Directory, HeadBody, Table};
 use adf_fields::Block;
 use adf_tree::Kind;
 use std::marker::Model;
@@ -95,5 +97,30 @@ impl<'a> Image<'a> {
         ensures begun { IsBegun self.now }
     {
         self.block(b).word(i)
+    }
+
+    // Whether the header at a block is that of a directory, or of a file, with its size and its first extension block.
+    pub fn body(&self, b: u32) -> HeadBody
+        requires { b < blocks self.now }
+        ensures body { result ≡ body_at (block self.now b) }
+        ensures begun { IsBegun self.now }
+    {
+        HeadBody::of(&self.block(b))
+    }
+
+    // The slots of the root or a directory.
+    pub fn directory(&self, b: u32) -> Directory<'a>
+        requires { b < blocks self.now }
+        ensures { result ≡ block self.now b }
+    {
+        Directory::over(self.block(b))
+    }
+
+    // The table of a file's header or extension block.
+    pub fn table(&self, b: u32) -> Table<'a>
+        requires { b < blocks self.now }
+        ensures { result ≡ block self.now b }
+    {
+        Table::over(self.block(b))
     }
 }

@@ -15,7 +15,7 @@ ghost use Rattle.adf_check.specs.Lookup.{headed};
 use crate::found::Found;
 use crate::image::Image;
 use crate::owner_table::OwnerTable;
-use adf_blocks::{FIRST_SLOT, Head, SECONDARY_TYPE, ST_DIR};
+use adf_blocks::{Head, HeadBody};
 use adf_fields::slot;
 use adf_tree::{Name, Node};
 use adf_volume::Owner;
@@ -53,10 +53,10 @@ fn first_of(image: &Image<'_>, found: &Found, parent: Node, slot: u8) -> u32
         → Spelled (λ b. word_in image.now b 124) result (map (at_node image.now l) (chain_nodes t parent slot)) }
 {
     let up = block_of(image, found, parent);
-    if parent.0 != 0 && image.word(up, SECONDARY_TYPE) != ST_DIR {
-        return 0;
+    match image.body(up) {
+        HeadBody::File { .. } if parent.0 != 0 => 0,
+        _ => image.directory(up).slot(slot),
     }
-    image.word(up, FIRST_SLOT + slot as usize)
 }
 
 /// The entry with this parent and this name, whatever the case.

@@ -16,7 +16,7 @@ use crate::fault::{Fault, fault_at};
 use crate::found::Found;
 use crate::image::Image;
 use crate::kept::Start;
-use adf_blocks::{Cause, SECONDARY_TYPE, ST_DIR};
+use adf_blocks::{Cause, HeadBody};
 use adf_tree::{NameSet, Node};
 use std::alloc::Global;
 
@@ -38,16 +38,19 @@ fn enter(found: &mut Found) -> Result<(), Fault>
     }
 }
 
-// Reads the blocks of the file `node` with its header at block `head`.
+// Reads the blocks of the file `node` with its header at block `head`, of `size` bytes and with its first extension block at `ext`.
 fn read_file(
     image: &Image<'_>,
     found: &mut Found,
     table: &mut Vec<u32>,
     node: Node,
     head: u32,
+    size: u32,
+    ext: u32,
 ) -> Result<(), Fault>
-    requires inside { head < blocks image.now }
-    requires state { IsInExts image.now (store_of found.old) node head (head ∷ []) head (word_in image.now head 126) }
+    requires begun { IsBegun image.now }
+    requires size { size ≡ word_in image.now head 81 }
+    requires state { IsInExts image.now (store_of found.old) node head (head ∷ []) head ext }
     ensures state { OnOk result (IsAtNode image.now (store_of found.new) (node + 1)) }
     ensures fewer { OnOk result (IsFurther found.old found.new) }
     ensures fault { IfErr result (λ f. IsTrueFault image.now f) }
@@ -56,8 +59,8 @@ fn read_file(
     if table.push(head).is_err() {
         return Err(fault_at(0, Cause::NoMemory));
     }
-    read_exts(image, found, table, node, head)?;
-    read_datas(image, found, table, node, head)
+    read_exts(image, found, table, node, head, ext)?;
+    read_datas(image, found, table, node, head, size)
 }
 
 // Reads what the node asks for: the chains of a directory, or the blocks of a file.
@@ -79,10 +82,10 @@ fn read_node(
         return read_directory(image, found, seen, node, root);
     }
     let head = found.rows[node.0 - 1].head;
-    if image.word(head, SECONDARY_TYPE) == ST_DIR {
-        return read_directory(image, found, seen, node, head);
+    match image.body(head) {
+        HeadBody::Dir => read_directory(image, found, seen, node, head),
+        HeadBody::File { size, ext } => { read_file(image, found, table, node, head, size, ext) }
     }
-    read_file(image, found, table, node, head)
 }
 
 /// Reads all nodes. Those that a directory names come behind those that were found.

@@ -17,7 +17,7 @@ use crate::datas::{count_of, held_in};
 use crate::found::Found;
 use crate::image::Image;
 use crate::lookup::block_of;
-use adf_blocks::{SECONDARY_TYPE, SIZE, ST_DIR};
+use adf_blocks::HeadBody;
 use adf_fields::{Block, NoMemory};
 use adf_tree::{Kind, Node};
 use std::alloc::Global;
@@ -138,10 +138,9 @@ pub fn pieces_of<'a>(image: &Image<'a>, found: &'a Found, n: Node) -> Option<Pie
         return None;
     }
     let head = block_of(image, found, n);
-    if image.word(head, SECONDARY_TYPE) == ST_DIR {
+    let HeadBody::File { size, .. } = image.body(head) else {
         return None;
-    }
-    let size = image.word(head, SIZE);
+    };
     let datas = datas_of(image, found, n, size);
     Some(Pieces::new(image.bytes(), image.kind(), size, datas))
 }

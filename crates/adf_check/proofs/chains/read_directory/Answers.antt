@@ -5,11 +5,11 @@ use Rattle.adf_check.specs.Found.{store_of}
 use Rattle.adf_check.proofs.ChainSteps.{empty_chain}
 use Rattle.adf_check.proofs.chains.read_directory.Goals as goal
 
-pub loop-slot-preserved-then-word-eq0 : goal.loop-slot-preserved-then-word-eq0
-loop-slot-preserved-then-word-eq0 c =
+pub loop-slot-preserved-then-slot-eq0 : goal.loop-slot-preserved-then-slot-eq0
+loop-slot-preserved-then-slot-eq0 c =
     let image = c.args.image.now in
     let none : word_in image c.args.up (6 + c.loop-slot.slot) ≡ 0 =
-    ap (λ b. word b (6 + c.loop-slot.slot)) (sym c.block-directory.ensures.block) ∙ sym c.word.ensures ∙ c.if-word-eq0.true in
+    ap (λ b. word b (6 + c.loop-slot.slot)) (sym c.directory-directory.ensures) ∙ sym c.slot.ensures ∙ c.if-slot-eq0.true in
     record {
       state = empty_chain image (store_of c.loop-slot.found) c.args.parent c.args.up c.loop-slot.slot c.loop-slot.invariant.state none;
       fewer = c.loop-slot.invariant.fewer;

@@ -14,21 +14,21 @@ pub returns-then-tables-table-clause-fault : goal.returns-then-tables-table-clau
 returns-then-tables-table-clause-fault c =
     let image = c.args.image.now in
     let e : c.count_of-count.result ≡ data_count image c.args.head =
-    c.count_of-count.ensures ∙ ap (λ k. count k c.word-size.result) c.kind.ensures.kind ∙ ap (count (kind_of image)) c.word-size.ensures.word in
+    c.count_of-count.ensures ∙ ap (λ k. count k c.args.size) c.kind.ensures.kind ∙ ap (count (kind_of image)) c.requires.size in
     let more = c.if-tables-table.true in
     let short : 72 * length c.args.table.now < data_count image c.args.head = omega arith in
     rw c.fault_at.ensures (first_fault image c.args.head ShortFile (data_too_short image (store_of c.args.found.now) c.args.node c.args.head
-    c.args.table.now c.word-size.ensures.begun c.requires.state short))
+    c.args.table.now c.requires.begun c.requires.state short))
 
 pub number_of-requires : goal.number_of-requires
 number_of-requires c =
-    file_in_datas c.args.image.now (store_of c.args.found.now) c.word-size.ensures.begun refl c.args.node c.args.head c.args.table.now 0 c.requires.state
+    file_in_datas c.args.image.now (store_of c.args.found.now) c.requires.begun refl c.args.node c.args.head c.args.table.now 0 c.requires.state
 
 pub returns-clause-state : goal.returns-clause-state
 returns-clause-state c =
     let image = c.args.image.now in
     let e : c.count_of-count.result ≡ data_count image c.args.head =
-    c.count_of-count.ensures ∙ ap (λ k. count k c.word-size.result) c.kind.ensures.kind ∙ ap (count (kind_of image)) c.word-size.ensures.word in
+    c.count_of-count.ensures ∙ ap (λ k. count k c.args.size) c.kind.ensures.kind ∙ ap (count (kind_of image)) c.requires.size in
     let one : suc c.args.node ≡ c.args.node + 1 = omega arith in
     let last : ℕ = min (72 * c.loop-m.m) c.count_of-count.result in
     subst (IsAtNode image (store_of c.loop-m.found)) one

@@ -1,0 +1,77 @@
+// The words of a block that name other blocks, read of blocks whose form is known.
+
+ghost use Rattle.std.specs.Prelude.{◌≡◌, ◌<◌, ◌+◌, ◌-◌};
+ghost use Rattle.adf_fields.specs.Words.{word};
+
+use crate::layout::{EXTENSION, FIRST_POINTER, FIRST_SLOT};
+use adf_fields::Block;
+use std::marker::Model;
+
+/// The slots of a root, or of the header of a directory.
+#[derive(Drop)]
+pub struct Directory<'a> {
+    block: Block<'a>,
+}
+
+impl<'a> Model for Directory<'a> {
+    ghost use Rattle.std.specs.Prelude.{List, ℕ};
+
+    ghost Value = { List ℕ };
+
+    ghost view = { λ d. d.block };
+}
+
+impl<'a> Directory<'a> {
+    /// The slots that a block has.
+    pub fn over(block: Block<'a>) -> Directory<'a>
+        ensures { result ≡ block.entry }
+    {
+        Directory { block }
+    }
+
+    /// The first header of a slot's chain, or 0: words 6 to 77.
+    pub fn slot(&self, s: u8) -> u32
+        requires { s < 72 }
+        ensures { result ≡ word self.now (6 + s) }
+    {
+        self.block.word(FIRST_SLOT + s as usize)
+    }
+}
+
+/// The table of a file's header or extension block: up to 72 pointers to data blocks, and the extension block that has the next ones.
+#[derive(Drop)]
+pub struct Table<'a> {
+    block: Block<'a>,
+}
+
+impl<'a> Model for Table<'a> {
+    ghost use Rattle.std.specs.Prelude.{List, ℕ};
+
+    ghost Value = { List ℕ };
+
+    ghost view = { λ t. t.block };
+}
+
+impl<'a> Table<'a> {
+    /// The table that a block has.
+    pub fn over(block: Block<'a>) -> Table<'a>
+        ensures { result ≡ block.entry }
+    {
+        Table { block }
+    }
+
+    /// The data block that pointer `j` names: words 77 down to 6.
+    pub fn pointer(&self, j: usize) -> u32
+        requires { j < 72 }
+        ensures { result ≡ word self.now (77 - j) }
+    {
+        self.block.word(FIRST_POINTER - j)
+    }
+
+    /// The next extension block of the file, or 0: word 126.
+    pub fn next(&self) -> u32
+        ensures { result ≡ word self.now 126 }
+    {
+        self.block.word(EXTENSION)
+    }
+}
