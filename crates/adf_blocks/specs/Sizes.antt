@@ -1,5 +1,7 @@
--- The size of a volume, and what follows from it.
+-- The size of a volume and of a file, and what follows from it.
 use Rattle.std.specs.Prelude.{ℕ, ◌+◌, ◌-◌, ◌/◌, ◌%◌, ◌==◌, ◌&&◌, nat_le, Bool, List, length}
+use Rattle.adf_tree.specs.declared.entry.Kind.{Kind}
+use Rattle.adf_tree.specs.declared.entry.Kind.TheVariants.{Ofs, Ffs}
 
 -- the most blocks that a volume has: 259 bitmap pages, the first 25 named by the root, the others by two bitmap extension blocks
 abbrev pub MOST_BLOCKS : ℕ
@@ -20,3 +22,12 @@ middle n = n / 2
 -- the bitmap pages that n blocks need: a page has the bits of 4,064 blocks, and blocks 0 and 1 have none
 abbrev pub pages_needed : ℕ → ℕ
 pages_needed n = (n - 2 + 4063) / 4064
+
+-- the bytes of content that a full data block holds
+unfoldable pub chunk : Kind → ℕ
+chunk Ofs = 488
+chunk Ffs = 512
+
+-- the data blocks that so many bytes need
+unfoldable pub count : Kind → ℕ → ℕ
+count kind size = (size + (chunk kind - 1)) / chunk kind

@@ -26,4 +26,4 @@ pub use crate::map_ext::{MapExt, read_map_ext, write_map_ext, written_map_exts_a
 pub use crate::page::{Page, place_of, read_page, write_page, written_pages_are_read};
 pub use crate::root::{Root, read_root};
 pub use crate::root_out::{RootOut, write_root, written_roots_are_read};
-pub use crate::sizes::{is_allowed_size, page_count};
+pub use crate::sizes::{chunk_len, data_count, is_allowed_size, page_count};

@@ -1,9 +1,10 @@
-// The sizes of volumes.
+// The sizes of volumes and files.
 
 ghost use Rattle.std.specs.Prelude.{◌≡◌, ◌≤◌, true};
-ghost use Rattle.adf_blocks.specs.Sizes.{is_allowed, pages_needed};
+ghost use Rattle.adf_blocks.specs.Sizes.{chunk, count, is_allowed, pages_needed};
 
 use crate::layout::{MOST_BLOCKS, PAGE_BITS};
+use adf_tree::Kind;
 
 /// Whether a volume may have so many blocks: even, 4 to `MOST_BLOCKS`.
 pub fn is_allowed_size(blocks: u32) -> bool
@@ -19,4 +20,26 @@ pub fn page_count(blocks: u32) -> u32
     ensures few { result ≤ 259 }
 {
     (blocks - 2).div_ceil(PAGE_BITS)
+}
+
+/// The bytes of a file that a full data block holds: 488 of OFS, 512 of FFS.
+#[tactic(auto, unfolding(crate::specs::Sizes::chunk))]
+pub fn chunk_len(kind: Kind) -> usize
+    ensures exact { result ≡ chunk kind }
+    ensures low { 488 ≤ result }
+    ensures high { result ≤ 512 }
+{
+    match kind {
+        Kind::Ofs => 488,
+        Kind::Ffs => 512,
+    }
+}
+
+/// The data blocks of a file of so many bytes.
+#[tactic(auto, unfolding(crate::specs::Sizes::count))]
+pub fn data_count(kind: Kind, size: usize) -> usize
+    ensures exact { result ≡ count kind size }
+    ensures few { result ≤ size }
+{
+    size.div_ceil(chunk_len(kind))
 }

@@ -6,8 +6,8 @@ use Rattle.std.proofs.lemmas.Bool.Decides.{nat_tests}
 use Rattle.std.proofs.lemmas.List.{take_more_set}
 use Rattle.adf_tree.specs.declared.entry.Kind.{Kind}
 use Rattle.adf_tree.specs.declared.entry.Kind.TheVariants.{Ofs, Ffs}
-use Rattle.adf_blocks.specs.Sizes.{is_allowed, pages_needed}
-use Rattle.adf_volume.specs.Image.{chunk, count, map_exts_needed}
+use Rattle.adf_blocks.specs.Sizes.{chunk, count, is_allowed, pages_needed}
+use Rattle.adf_volume.specs.Image.{map_exts_needed}
 use Rattle.adf_volume.proofs.Sizes.{size_high, size_low}
 use Rattle.adf_build.specs.Bits.{is_used}
 use Rattle.adf_build.specs.Plan.{nth_free, reserved, allocated}

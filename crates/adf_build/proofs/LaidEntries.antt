@@ -9,14 +9,14 @@ use Rattle.adf_tree.specs.declared.entry.Body.{Body}
 use Rattle.adf_tree.specs.declared.entry.Body.TheVariants.{Dir, File}
 use Rattle.adf_tree.specs.declared.entry.Entry.{Entry}
 use Rattle.adf_tree.specs.Tree.{Tree}
-use Rattle.adf_blocks.specs.Sizes.{is_allowed}
+use Rattle.adf_blocks.specs.Sizes.{chunk, count, is_allowed}
 use Rattle.adf_blocks.specs.Forms.{first_cause, text_at}
 use Rattle.adf_blocks.specs.HeadBlock.{HeadFields, FitsMeta, meta_at, secondary_of, size_of, ext_of, head_form}
 use Rattle.adf_blocks.specs.HeadBlock.BodyFields.{FileFields}
 use Rattle.adf_blocks.proofs.HeadLaws.{head_block-form, head_block-name, head_block-meta, head_block-secondary, head_block-size, head_block-ext}
 use Rattle.adf_blocks.proofs.HeadLaws.{head_block-pointer}
 use Rattle.adf_volume.specs.Lists.{At, Spelled}
-use Rattle.adf_volume.specs.Image.{word_in, chunk, count, held, content, joined, table_word, name_of, meta_of}
+use Rattle.adf_volume.specs.Image.{word_in, held, content, joined, table_word, name_of, meta_of}
 use Rattle.adf_volume.specs.Demands.{AllHold, head_demands, data_demands}
 use Rattle.adf_volume.specs.Layout.{at_node, exts_of, datas_of}
 use Rattle.adf_volume.specs.Fits.{EntryFits, FileFits, BodyFits, TableAt}

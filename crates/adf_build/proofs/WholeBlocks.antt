@@ -17,7 +17,7 @@ use Rattle.adf_blocks.proofs.FieldLaws.{length-block_of_fields}
 use Rattle.adf_blocks.proofs.HeadLaws.{length_head_block}
 use Rattle.adf_blocks.proofs.ExtLaws.{length_ext_block}
 use Rattle.adf_blocks.proofs.DataLaws.{length_data_block}
-use Rattle.adf_volume.specs.Image.{chunk, count}
+use Rattle.adf_blocks.specs.Sizes.{chunk, count}
 use Rattle.adf_volume.specs.Lists.{At}
 use Rattle.adf_volume.specs.Layout.{nodes_from}
 use Rattle.adf_build.specs.Plan.{exts_needed, data_blocks, entry_blocks, entries_blocks, nth_free, allocated}

@@ -8,7 +8,7 @@ use Rattle.adf_fields.specs.Words.{with_block}
 use Rattle.adf_tree.specs.declared.entry.Kind.{Kind}
 use Rattle.adf_tree.specs.declared.entry.Entry.{Entry}
 use Rattle.adf_tree.specs.Tree.{Tree}
-use Rattle.adf_volume.specs.Image.{chunk}
+use Rattle.adf_blocks.specs.Sizes.{chunk}
 use Rattle.adf_volume.specs.Layout.{nodes_from}
 use Rattle.adf_build.specs.Writes.{with_blocks}
 use Rattle.adf_build.specs.Laid.{data_bytes, data_writes, entries_writes, first_block, nth_free_or_none, heads_from, node_blocks, slots_of}

@@ -5,7 +5,7 @@ use Rattle.adf_tree.specs.declared.entry.Body.{Body}
 use Rattle.adf_tree.specs.declared.entry.Body.TheVariants.{Dir, File}
 use Rattle.adf_tree.specs.declared.entry.Entry.{Entry}
 use Rattle.adf_volume.specs.Lists.{In}
-use Rattle.adf_volume.specs.Image.{count}
+use Rattle.adf_blocks.specs.Sizes.{count}
 use Rattle.adf_volume.proofs.DistinctBlocks.{Distinct}
 use Rattle.adf_build.specs.Plan.{exts_needed, data_blocks, entry_blocks, entries_blocks, nth_free, allocated}
 use Rattle.adf_build.specs.Writes.{with_blocks, AreBlocks, NoneTwice, Holds, numbers_of}

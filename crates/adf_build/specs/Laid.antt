@@ -11,7 +11,7 @@ use Rattle.adf_tree.specs.declared.entry.Body.{Body}
 use Rattle.adf_tree.specs.declared.entry.Body.TheVariants.{Dir, File}
 use Rattle.adf_tree.specs.declared.entry.Entry.{Entry}
 use Rattle.adf_tree.specs.Tree.{Tree, IsTree}
-use Rattle.adf_blocks.specs.Sizes.{blocks, middle, is_allowed, pages_needed}
+use Rattle.adf_blocks.specs.Sizes.{blocks, chunk, count, is_allowed, middle, pages_needed}
 use Rattle.adf_blocks.specs.Fields.{block_of_fields}
 use Rattle.adf_blocks.specs.RootBlock.{RootFields, root_block, FitsStamps}
 use Rattle.adf_blocks.specs.PageBlock.{page_block}
@@ -20,7 +20,7 @@ use Rattle.adf_blocks.specs.HeadBlock.{BodyFields, FitsMeta, HeadFields, head_bl
 use Rattle.adf_blocks.specs.HeadBlock.BodyFields.{DirFields, FileFields}
 use Rattle.adf_blocks.specs.ExtBlock.{ExtFields, ext_block}
 use Rattle.adf_blocks.specs.DataBlock.{data_block}
-use Rattle.adf_volume.specs.Image.{chunk, count, map_exts_needed}
+use Rattle.adf_volume.specs.Image.{map_exts_needed}
 use Rattle.adf_volume.specs.Layout.{nodes_from}
 use Rattle.adf_build.specs.Plan.{exts_needed, entry_blocks, entries_blocks, blocks_needed, nth_free, allocated}
 use Rattle.adf_build.specs.Writes.{with_blocks}

@@ -8,8 +8,8 @@ use Rattle.adf_tree.specs.declared.entry.Body.{Body}
 use Rattle.adf_tree.specs.declared.entry.Body.TheVariants.{Dir, File}
 use Rattle.adf_tree.specs.declared.entry.Entry.{Entry}
 use Rattle.adf_tree.specs.Tree.{Tree}
-use Rattle.adf_blocks.specs.Sizes.{middle, pages_needed}
-use Rattle.adf_volume.specs.Image.{count, map_exts_needed}
+use Rattle.adf_blocks.specs.Sizes.{count, middle, pages_needed}
+use Rattle.adf_volume.specs.Image.{map_exts_needed}
 use Rattle.adf_volume.specs.Layout.{Place, Layout}
 
 -- the extension blocks that so many data blocks need: the header names 72, each extension block 72 more

@@ -6,8 +6,8 @@ ghost use Rattle.adf_build.specs.Laid.{IsLaid, volume};
 ghost use Rattle.adf_build.specs.Plan.{planned};
 ghost use Rattle.adf_build.specs.Building.{HasRoom, IsBuildFault, build_fault_number};
 
-use crate::counting::need;
 use crate::allocation::reserved_count;
+use crate::counting::need;
 use crate::nodes::nodes_of;
 use crate::volume::write_volume;
 use adf_fields::BLOCK_LEN;

@@ -5,33 +5,18 @@ ghost use Rattle.std.specs.Option.{SomeIff};
 ghost use Rattle.adf_blocks.specs.Sizes.{is_allowed};
 ghost use Rattle.adf_build.specs.Plan.{data_blocks, entry_blocks, exts_needed};
 ghost use Rattle.adf_build.specs.Building.{need_of};
-ghost use Rattle.adf_volume.specs.Image.{chunk, count};
 
 use crate::allocation::reserved_count;
-use adf_blocks::is_allowed_size;
+use adf_blocks::{data_count, is_allowed_size};
 use adf_tree::{Body, Entry, Kind, Node, Tree};
 
-/// The data bytes of a block.
-#[tactic(auto, unfolding(adf_volume::specs::Image::chunk))]
-pub fn bytes_of_block(kind: Kind) -> usize
-    ensures exact { result ≡ chunk kind }
-    ensures low { 488 ≤ result }
-    ensures high { result ≤ 512 }
-{
-    match kind {
-        Kind::Ofs => 488,
-        Kind::Ffs => 512,
-    }
-}
-
 /// The data blocks of a body.
-#[tactic(auto, unfolding(adf_volume::specs::Image::count))]
-pub fn data_count(kind: Kind, body: &Body) -> usize
+pub fn data_blocks(kind: Kind, body: &Body) -> usize
     ensures { result ≡ data_blocks kind body.now }
 {
     match body {
         Body::Dir => 0,
-        Body::File(file) => file.bytes().len().div_ceil(bytes_of_block(kind)),
+        Body::File(file) => data_count(kind, file.bytes().len()),
     }
 }
 
@@ -47,7 +32,7 @@ pub fn ext_count(datas: usize) -> usize
 fn add_entry(sum: u64, kind: Kind, entry: &Entry) -> u64
     ensures { result ≡ min (sum + entry_blocks kind entry.now) (2 ^ 64 - 1) }
 {
-    let datas = data_count(kind, &entry.body);
+    let datas = data_blocks(kind, &entry.body);
     sum.saturating_add(1)
         .saturating_add(ext_count(datas) as u64)
         .saturating_add(datas as u64)

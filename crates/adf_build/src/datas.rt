@@ -3,15 +3,13 @@
 ghost use Rattle.std.specs.Prelude.{◌≡◌, ◌≤◌, ◌<◌, ◌+◌, ◌-◌, ◌*◌, [], ◌∷◌, true, length};
 ghost use Rattle.adf_fields.specs.Words.{with_block};
 ghost use Rattle.adf_blocks.specs.Fields.{block_of_fields};
-ghost use Rattle.adf_blocks.specs.Sizes.{is_allowed};
-ghost use Rattle.adf_volume.specs.Image.{chunk};
+ghost use Rattle.adf_blocks.specs.Sizes.{chunk, is_allowed};
 ghost use Rattle.adf_build.specs.Laid.{data_bytes, data_writes};
 ghost use Rattle.adf_build.specs.Writes.{with_blocks};
 ghost use Rattle.adf_build.specs.Plan.{nth_free, reserved};
 
-use crate::counting::bytes_of_block;
 use crate::allocation::{nth_free, nth_free_or_none};
-use adf_blocks::{DataOut, write_data};
+use adf_blocks::{DataOut, chunk_len, write_data};
 use adf_fields::{put_block, put_bytes};
 use adf_tree::Kind;
 
@@ -26,7 +24,7 @@ fn bare_block(held: &[u8]) -> [u8; 512]
 }
 
 // Writes a data block of a kind.
-#[tactic(auto, unfolding(adf_volume::specs::Image::chunk))]
+#[tactic(auto, unfolding(adf_blocks::specs::Sizes::chunk))]
 fn write_one(image: &mut [u8], b: u32, kind: Kind, data: &DataOut<'_>)
     requires whole { b * 512 + 512 ≤ length image.old }
     requires held { length data.now.bytes.now ≤ chunk kind }
@@ -56,7 +54,7 @@ pub fn write_datas(
 {
     let mut left = bytes;
     for j in 0..count {
-        let (held, rest) = left.split_at(left.len().min(bytes_of_block(kind)));
+        let (held, rest) = left.split_at(left.len().min(chunk_len(kind)));
         let data = DataOut {
             head,
             number: 1 + j,

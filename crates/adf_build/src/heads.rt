@@ -10,10 +10,10 @@ ghost use Rattle.adf_build.specs.Plan.{entry_blocks, exts_needed, nth_free, rese
 ghost use Rattle.adf_build.specs.Building.{IsSoundEntry, entry_writes, file_header};
 ghost use Rattle.adf_tree.specs.declared.entry.Kind.{Kind};
 
-use crate::counting::{data_count, ext_count};
+use crate::allocation::{nth_free, nth_free_or_none, table_of};
+use crate::counting::{data_blocks, ext_count};
 use crate::datas::write_datas;
 use crate::exts::write_exts;
-use crate::allocation::{nth_free, nth_free_or_none, table_of};
 use adf_blocks::{HeadOut, HeadOutBody, write_head};
 use adf_tree::{Body, Entry, Kind};
 
@@ -91,7 +91,7 @@ fn write_file(image: &mut [u8], blocks: u32, kind: Kind, spot: Spot, entry: &Ent
     ensures exact { (slots : List ℕ) → image.new ≡ with_blocks image.old (entry_writes blocks kind spot slots entry.now) }
     ensures sound { IsSoundEntry entry.now }
 {
-    let datas = data_count(kind, &entry.body);
+    let datas = data_blocks(kind, &entry.body);
     let exts = ext_count(datas) as u32;
     let own = nth_free(blocks, spot.k);
     let first = spot.k + 1 + exts;

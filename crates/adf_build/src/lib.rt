@@ -1,13 +1,13 @@
 //! Builds the image of an Amiga volume from a tree; the laws of what is laid.
 #![tactic(auto)]
 
+mod allocation;
 mod builder;
 mod chains;
 mod counting;
 mod datas;
 mod entries;
 mod exts;
-mod allocation;
 mod heads;
 mod laid;
 mod map_exts;

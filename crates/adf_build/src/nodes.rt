@@ -5,8 +5,8 @@ ghost use Rattle.adf_build.specs.Laid.{node_blocks};
 ghost use Rattle.adf_build.specs.Plan.{data_blocks, exts_needed};
 ghost use Rattle.adf_build.specs.Building.{HasRoom};
 
-use crate::counting::{data_count, ext_count};
 use crate::allocation::nth_free;
+use crate::counting::{data_blocks, ext_count};
 use adf_tree::{Body, Entry, Kind, Node, Tree};
 use std::alloc::{AllocError, Global};
 
@@ -33,7 +33,7 @@ pub fn next_free(k: u32, kind: Kind, body: &Body) -> u32
     requires { k + (1 + exts_needed (data_blocks kind body.now) + data_blocks kind body.now) < 2 ^ 30 }
     ensures { result ≡ k + (1 + exts_needed (data_blocks kind body.now) + data_blocks kind body.now) }
 {
-    let datas = data_count(kind, body);
+    let datas = data_blocks(kind, body);
     k + (1 + ext_count(datas) + datas) as u32
 }
 

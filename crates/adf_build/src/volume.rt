@@ -11,9 +11,9 @@ ghost use Rattle.adf_build.specs.Writes.{with_blocks};
 ghost use Rattle.adf_build.specs.Plan.{entries_blocks};
 ghost use Rattle.adf_build.specs.Building.{HasRoom};
 
+use crate::allocation::map_ext_count;
 use crate::chains::{children_end, slots_between};
 use crate::entries::write_entries;
-use crate::allocation::map_ext_count;
 use crate::map_exts::{map_ext_or_none, write_map_exts};
 use crate::pages::write_pages;
 use adf_blocks::{ROOT_PAGES, RootOut, page_count, write_root};

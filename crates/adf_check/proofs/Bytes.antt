@@ -10,11 +10,11 @@ use Rattle.adf_tree.specs.declared.entry.Entry.{Entry}
 use Rattle.adf_tree.specs.declared.entry.Kind.{Kind}
 use Rattle.adf_tree.specs.declared.entry.Kind.TheVariants.{Ofs, Ffs}
 use Rattle.adf_tree.specs.Tree.{Tree, entry}
-use Rattle.adf_blocks.specs.Sizes.{blocks}
+use Rattle.adf_blocks.specs.Sizes.{blocks, chunk, count}
 use Rattle.adf_volume.specs.declared.owner.Owner.{Owner}
 use Rattle.adf_volume.specs.declared.owner.Owner.TheVariants.{Data, Page, MapExt}
 use Rattle.adf_volume.specs.Fits.{BodyFits}
-use Rattle.adf_volume.specs.Image.{DIR, area, chunk, content, count, held, kind_of, piece, pieces, word_in}
+use Rattle.adf_volume.specs.Image.{DIR, area, content, held, kind_of, piece, pieces, word_in}
 use Rattle.adf_volume.specs.Layout.{EntryAt, Layout, at_node, datas_of, owned_from}
 use Rattle.adf_volume.specs.Lists.{At, In, numbered}
 use Rattle.adf_volume.proofs.Images.{area_length}

@@ -3,9 +3,9 @@ use Rattle.std.proofs.Common.{◌≡◌, ℕ, List, [], ◌∷◌, ◌++◌, inl
 use Rattle.std.specs.Prelude.{◌↔◌, cond, nat_lt, slice_index}
 use Rattle.adf_fields.specs.Words.{block, word, words, with_bytes}
 use Rattle.adf_tree.specs.Texts.{uppers}
-use Rattle.adf_blocks.specs.Sizes.{blocks, pages_needed}
+use Rattle.adf_blocks.specs.Sizes.{blocks, chunk, count, pages_needed}
 use Rattle.adf_blocks.specs.declared.cause.Cause.TheVariants.{LostBlock}
-use Rattle.adf_volume.specs.Image.{word_in, root_of, kind_of, name_of, count, chunk, held, table_word}
+use Rattle.adf_volume.specs.Image.{word_in, root_of, kind_of, name_of, held, table_word}
 use Rattle.adf_volume.specs.Demands.{AllHold, boot_demands, root_demands, page_demands, head_demands, data_demands}
 use Rattle.adf_volume.specs.Walk.{FirstFault, data_count}
 use Rattle.adf_volume.specs.Walk.Role.{Page, Head, Data}

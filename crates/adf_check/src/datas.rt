@@ -2,9 +2,9 @@
 
 ghost use Rattle.std.specs.Prelude.{◌≡◌, ◌≤◌, ◌<◌, ◌+◌, ◌-◌, ◌*◌, ◌/◌, ◌%◌, cond, nat_lt, min, OnOk, IfErr, length, slice_index, ℕ};
 ghost use Rattle.adf_tree.specs.declared.entry.Kind.TheVariants.{Ofs};
-ghost use Rattle.adf_blocks.specs.Sizes.{blocks};
+ghost use Rattle.adf_blocks.specs.Sizes.{blocks, count};
 ghost use Rattle.adf_volume.specs.Demands.{AllHold, FirstFails, data_demands};
-ghost use Rattle.adf_volume.specs.Image.{chunk, count, held, kind_of, word_in};
+ghost use Rattle.adf_volume.specs.Image.{held, kind_of, word_in};
 ghost use Rattle.adf_volume.specs.Walk.{data_count};
 ghost use Rattle.adf_check.specs.Reading.{IsAtNode, IsInDatas};
 ghost use Rattle.adf_check.specs.Found.{IsFurther, IsTrueFault, store_of};
@@ -16,7 +16,7 @@ use crate::fault::{Fault, fault_at};
 use crate::found::Found;
 use crate::image::Image;
 use crate::narrow_owner::{NarrowOwner, number_of};
-use adf_blocks::{Cause, read_data};
+use adf_blocks::{Cause, data_count, read_data};
 use adf_tree::{Kind, Node};
 
 /// A file whose data blocks are read: its node, the block of its header, its size in bytes, and the count of its data blocks.
@@ -28,30 +28,15 @@ struct File {
     count: u32,
 }
 
-// The data bytes of a block.
-#[tactic(auto, unfolding(adf_volume::specs::Image::chunk))]
-fn chunk(kind: Kind) -> u64
-    ensures exact { result ≡ chunk kind }
-    ensures low { 488 ≤ result }
-    ensures high { result ≤ 512 }
-{
-    match kind {
-        Kind::Ofs => 488,
-        Kind::Ffs => 512,
-    }
-}
-
 // The data blocks of a file of so many bytes.
-#[tactic(auto, unfolding(adf_volume::specs::Image::count))]
 pub(crate) fn count_of(kind: Kind, size: u32) -> u32
     ensures { result ≡ count kind size }
 {
-    let chunk = chunk(kind);
-    ((u64::from(size) + (chunk - 1)) / chunk) as u32
+    data_count(kind, size as usize) as u32
 }
 
 // The bytes that data block `number`, from 1 on, of an OFS file of so many bytes holds.
-#[tactic(auto, unfolding(adf_volume::specs::Image::held, adf_volume::specs::Image::chunk))]
+#[tactic(auto, unfolding(adf_volume::specs::Image::held, adf_blocks::specs::Sizes::chunk))]
 pub(crate) fn held_in(size: u32, number: u32) -> u32
     requires { 1 ≤ number }
     ensures exact { result ≡ held Ofs size number }

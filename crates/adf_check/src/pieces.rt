@@ -5,8 +5,8 @@ ghost use Rattle.std.specs.Iterator.{YieldsFirstRef, item_count};
 ghost use Rattle.std.specs.List.{All, concat};
 ghost use Rattle.adf_tree.specs.Tree.{Tree, entry};
 ghost use Rattle.adf_tree.specs.declared.entry.Kind.TheVariants.{Ffs};
-ghost use Rattle.adf_blocks.specs.Sizes.{blocks};
-ghost use Rattle.adf_volume.specs.Image.{DIR, count, held, kind_of, piece, pieces, word_in};
+ghost use Rattle.adf_blocks.specs.Sizes.{blocks, count};
+ghost use Rattle.adf_volume.specs.Image.{DIR, held, kind_of, piece, pieces, word_in};
 ghost use Rattle.adf_volume.specs.Layout.{Layout, at_node, datas_of};
 ghost use Rattle.adf_check.specs.StoredVolume.{StoreStandsFor};
 ghost use Rattle.adf_check.specs.Reading.{StoreFits};
@@ -46,7 +46,7 @@ impl<'a> Model for Pieces<'a> {
 }
 
 // The bytes that data block `number`, from 1 on, of an FFS file of so many bytes holds.
-#[tactic(auto, unfolding(adf_volume::specs::Image::held, adf_volume::specs::Image::chunk))]
+#[tactic(auto, unfolding(adf_volume::specs::Image::held, adf_blocks::specs::Sizes::chunk))]
 fn held_in_ffs(size: u32, number: u32) -> u32
     requires { 1 ≤ number }
     ensures exact { result ≡ held Ffs size number }

@@ -11,7 +11,7 @@ ghost use Rattle.adf_blocks.specs.Sizes.{blocks, is_allowed};
 
 use crate::fault::{Fault, fault_at};
 use crate::image::Image;
-use adf_blocks::{Cause, MOST_BLOCKS, Root, read_root};
+use adf_blocks::{Cause, Root, is_allowed_size, read_root};
 use adf_fields::{BLOCK_LEN, Block};
 use adf_tree::Kind;
 
@@ -33,8 +33,10 @@ pub struct Opened<'a> {
 fn is_image_len(size: usize) -> bool
     ensures { result ≡ is_image_len size }
 {
-    let blocks = size / BLOCK_LEN;
-    size % BLOCK_LEN == 0 && (4 <= blocks && blocks <= MOST_BLOCKS as usize && blocks % 2 == 0)
+    match u32::try_from(size / BLOCK_LEN) {
+        Ok(blocks) => size % BLOCK_LEN == 0 && is_allowed_size(blocks),
+        Err(_) => false,
+    }
 }
 
 // Block 0.

@@ -3,8 +3,8 @@ use Rattle.std.proofs.Common.{◌≡◌, ℕ, suc, List, [], ◌∷◌, ◌+◌,
 use Rattle.adf_fields.specs.Words.{block}
 use Rattle.adf_volume.specs.Lists.{At}
 use Rattle.adf_tree.specs.declared.entry.Kind.{Kind}
-use Rattle.adf_blocks.specs.Sizes.{blocks, pages_needed}
-use Rattle.adf_volume.specs.Image.{area, chunk, joined, count, content, word_in, map_exts_needed}
+use Rattle.adf_blocks.specs.Sizes.{blocks, chunk, count, pages_needed}
+use Rattle.adf_volume.specs.Image.{area, joined, content, word_in, map_exts_needed}
 use Rattle.adf_tree.specs.declared.entry.Kind.TheVariants.{Ofs, Ffs}
 
 pub block_length : (image : List ℕ) (b : ℕ) → length image ≡ 512 * blocks image → b < blocks image → length (block image b) ≡ 512

@@ -7,9 +7,9 @@ use Rattle.std.proofs.lemmas.Bool.Decides.{nat_tests}
 use Rattle.adf_fields.specs.Words.{block}
 use Rattle.adf_tree.specs.declared.entry.Kind.{Kind}
 use Rattle.adf_tree.specs.declared.entry.Kind.TheVariants.{Ofs, Ffs}
-use Rattle.adf_blocks.specs.Sizes.{blocks}
+use Rattle.adf_blocks.specs.Sizes.{blocks, chunk, count}
 use Rattle.adf_volume.specs.Lists.{At}
-use Rattle.adf_volume.specs.Image.{word_in, chunk, count, held, area, joined, content, piece, pieces}
+use Rattle.adf_volume.specs.Image.{word_in, held, area, joined, content, piece, pieces}
 use Rattle.adf_volume.proofs.Images.{area_length}
 
 take_zero : (xs : List ℕ) → take 0 xs ≡ []

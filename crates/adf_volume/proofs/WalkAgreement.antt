@@ -3,8 +3,8 @@ use Rattle.std.proofs.Common.{◌≡◌, ℕ, zero, suc, List, inl, inr, ◌+◌
 use Rattle.std.proofs.Common.{false, cond}
 use native.Mathlib.Decide.{dec_le}
 use Rattle.adf_volume.specs.Lists.{At}
-use Rattle.adf_volume.specs.Image.{root_of, name_of, DIR, FILE, word_in, map_exts_needed, kind_of, count, held, table_word}
-use Rattle.adf_blocks.specs.Sizes.{blocks, pages_needed}
+use Rattle.adf_blocks.specs.Sizes.{blocks, count, pages_needed}
+use Rattle.adf_volume.specs.Image.{root_of, name_of, DIR, FILE, word_in, map_exts_needed, kind_of, held, table_word}
 use Rattle.adf_fields.specs.Hash.{slot_of}
 use Rattle.adf_tree.specs.Texts.{uppers}
 use Rattle.adf_volume.specs.Demands.{AllHold, head_demands, ext_demands, data_demands}

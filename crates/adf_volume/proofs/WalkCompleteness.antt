@@ -2,8 +2,8 @@
 use Rattle.std.proofs.Common.{◌≡◌, ℕ, zero, suc, List, ◌+◌, ◌*◌, ◌/◌, ◌<◌, ◌≤◌, length, refl, sym, ap, subst, ◌∙◌, arith}
 use native.Mathlib.Decide.{dec_le}
 use Rattle.adf_volume.specs.Lists.{At}
-use Rattle.adf_volume.specs.Image.{root_of, FILE, word_in, map_exts_needed, count, table_word}
-use Rattle.adf_blocks.specs.Sizes.{blocks, pages_needed}
+use Rattle.adf_blocks.specs.Sizes.{blocks, count, pages_needed}
+use Rattle.adf_volume.specs.Image.{root_of, FILE, word_in, map_exts_needed, table_word}
 use Rattle.adf_fields.specs.Hash.{slot_of}
 use Rattle.adf_tree.specs.declared.entry.Body.{Body}
 use Rattle.adf_tree.specs.declared.entry.Entry.{Entry}

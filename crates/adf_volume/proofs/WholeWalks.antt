@@ -5,8 +5,8 @@ use Rattle.std.specs.Prelude.{◌==◌, slice_index}
 use Rattle.std.proofs.lemmas.Bool.{eqb-true}
 use native.Mathlib.Decide.{dec_lt, ℕ_discrete}
 use Rattle.adf_volume.specs.Lists.{At, Spelled}
-use Rattle.adf_volume.specs.Image.{word_in, root_of, map_exts_needed, kind_of, count, held, table_word, DIR, FILE, name_of, content}
-use Rattle.adf_blocks.specs.Sizes.{blocks, pages_needed}
+use Rattle.adf_blocks.specs.Sizes.{blocks, count, pages_needed}
+use Rattle.adf_volume.specs.Image.{word_in, root_of, map_exts_needed, kind_of, held, table_word, DIR, FILE, name_of, content}
 use Rattle.adf_fields.specs.Hash.{slot_of}
 use Rattle.adf_tree.specs.Texts.{uppers}
 use Rattle.adf_volume.specs.Demands.{AllHold, boot_demands, head_demands, ext_demands, data_demands}

@@ -5,10 +5,10 @@ use Rattle.std.specs.Prelude.{◌≡◌, ℕ, List, [], ◌+◌, ◌-◌, ◌*�
 use Rattle.std.proofs.Common.{zero, suc}
 use Rattle.adf_volume.specs.Lists.{At, In, Spelled, NoBlockTwice}
 use Rattle.adf_tree.specs.declared.entry.Kind.{Kind}
-use Rattle.adf_volume.specs.Image.{word_in, root_of, map_exts_needed, kind_of, DIR, FILE, count, held, table_word, name_of, label_of, meta_of, stamps_of}
+use Rattle.adf_blocks.specs.Sizes.{blocks, count, pages_needed}
+use Rattle.adf_volume.specs.Image.{word_in, root_of, map_exts_needed, kind_of, DIR, FILE, held, table_word, name_of, label_of, meta_of, stamps_of}
 use Rattle.adf_volume.specs.Image.{content, IsFreeAt}
 use Rattle.adf_fields.specs.Hash.{slot_of}
-use Rattle.adf_blocks.specs.Sizes.{blocks, pages_needed}
 use Rattle.adf_volume.specs.Demands.{AllHold, boot_demands, root_demands, page_demands, head_demands, ext_demands, data_demands}
 use Rattle.adf_tree.specs.declared.entry.Body.{Body}
 use Rattle.adf_tree.specs.declared.entry.Entry.{Entry}

@@ -9,7 +9,7 @@ use Rattle.adf_tree.specs.declared.entry.Stamps.{Stamps}
 use Rattle.adf_blocks.specs.Forms.{text_at, stamp_at}
 use Rattle.adf_blocks.specs.PageBlock.{IsFreeBit}
 use Rattle.adf_blocks.specs.RootBlock.{stamps_at}
-use Rattle.adf_blocks.specs.Sizes.{blocks, middle}
+use Rattle.adf_blocks.specs.Sizes.{blocks, chunk, middle}
 
 -- word i of block b
 abbrev pub word_in : List ℕ → ℕ → ℕ → ℕ
@@ -45,15 +45,6 @@ meta_of image b = record { comment = text_at (block image b) 328; protect = word
 -- the three dates in a root
 unfoldable pub stamps_of : List ℕ → ℕ → Stamps
 stamps_of image b = stamps_at (block image b)
-
--- the bytes of content that a full data block holds
-unfoldable pub chunk : Kind → ℕ
-chunk Ofs = 488
-chunk Ffs = 512
-
--- the data blocks that so many bytes need
-unfoldable pub count : Kind → ℕ → ℕ
-count kind size = (size + (chunk kind - 1)) / chunk kind
 
 -- the bytes that data block k, counted from 1, of a file of this size holds
 unfoldable pub held : Kind → ℕ → ℕ → ℕ

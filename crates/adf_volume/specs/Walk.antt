@@ -5,9 +5,9 @@ use Rattle.std.specs.Prelude.{◌≡◌, ℕ, List, [], ◌∷◌, ◌⊎◌, �
 use Rattle.std.proofs.Common.{zero, suc}
 use Rattle.adf_blocks.specs.declared.cause.Cause.{Cause}
 use Rattle.adf_blocks.specs.declared.cause.Cause.TheVariants.{OutOfRange, Taken, SameName, ShortFile, LostBlock, OwnedFree}
-use Rattle.adf_volume.specs.Image.{word_in, root_of, kind_of, DIR, FILE, count, held, table_word, name_of, IsFreeAt}
+use Rattle.adf_blocks.specs.Sizes.{blocks, count, pages_needed}
+use Rattle.adf_volume.specs.Image.{word_in, root_of, kind_of, DIR, FILE, held, table_word, name_of, IsFreeAt}
 use Rattle.adf_tree.specs.Texts.{uppers}
-use Rattle.adf_blocks.specs.Sizes.{blocks, pages_needed}
 use Rattle.adf_volume.specs.Demands.{Demand, demand, AllHold, FirstFails, boot_demands, root_demands, page_demands, head_demands, ext_demands, data_demands}
 
 -- A header is that of node n, at place j of the chain of slot s of directory p.

@@ -1,7 +1,7 @@
 use Rattle.std.proofs.Common.{◌≡◌, ◌+◌, ◌-◌, ◌∙◌, ℕ, List, length, take, drop, min, ap, arith}
 use Rattle.std.proofs.lemmas.List.{take_min}
 use Rattle.adf_fields.specs.Words.{with_block}
-use Rattle.adf_volume.specs.Image.{chunk}
+use Rattle.adf_blocks.specs.Sizes.{chunk}
 use Rattle.adf_build.specs.Laid.{data_bytes, nth_free_or_none}
 use Rattle.adf_build.specs.Plan.{nth_free}
 use Rattle.adf_build.proofs.WriteSteps.{datas_step, drop_min}
@@ -13,7 +13,7 @@ loop-j-preserved c =
     let kind = c.args.kind in
     let j : ℕ = c.loop-j.j in
     let left : List ℕ = c.loop-j.left.now in
-    let exact : c.bytes_of_block.result ≡ chunk kind = c.bytes_of_block.ensures.exact in
+    let exact : c.chunk_len.result ≡ chunk kind = c.chunk_len.ensures.exact in
     let m : c.min.result ≡ min (chunk kind) (length left) = omega arith in
     let front : c.split_at.result.0.now ≡ take (chunk kind) left = c.split_at.ensures.front ∙ ap (λ k. take k left) m ∙ take_min (chunk kind) left in
     let back : c.split_at.result.1.now ≡ drop (chunk kind) left = c.split_at.ensures.back ∙ drop_min (chunk kind) c.min.result left m in

@@ -2,7 +2,7 @@ use Rattle.std.proofs.Common.{◌≡◌, ◌+◌, ◌-◌, ◌∷◌, ◌∙◌,
 use Rattle.adf_tree.specs.declared.entry.Body.{Body}
 use Rattle.adf_fields.specs.Words.{with_block}
 use Rattle.adf_blocks.specs.HeadBlock.{head_block}
-use Rattle.adf_volume.specs.Image.{count}
+use Rattle.adf_blocks.specs.Sizes.{count}
 use Rattle.adf_volume.proofs.Sizes.{size_high}
 use Rattle.adf_build.specs.Writes.{with_blocks}
 use Rattle.adf_build.specs.Laid.{body_of, body_writes, data_writes, ext_writes}
@@ -29,7 +29,7 @@ returns-clause-exact c slots =
     let old : List ℕ = c.args.image.now in
     let m : ℕ = count kind (length bytes) in
     let x : ℕ = exts_needed m in
-    let datas : c.data_count-datas.result ≡ m = c.data_count-datas.ensures ∙ ap (data_blocks kind) c.requires.body in
+    let datas : c.data_blocks-datas.result ≡ m = c.data_blocks-datas.ensures ∙ ap (data_blocks kind) c.requires.body in
     let exts : c.ext_count-exts.result ≡ x = c.ext_count-exts.ensures ∙ ap exts_needed datas in
     let own : c.nth_free-own.result ≡ nth_free n k = c.nth_free-own.ensures in
     let next : k + 1 ≡ suc k = omega arith in
@@ -52,8 +52,8 @@ returns-clause-exact c slots =
     ∙ ap (λ x'. with_blocks c.write_file_head.new.image (ext_writes n (nth_free n k) (suc k) (suc k + x + 72) (m - 72) x')) exts in
     let three : c.write_datas.new.image ≡ with_blocks c.write_exts.new.image ds =
     c.write_datas.ensures
-    ∙ ap (λ h. with_blocks c.write_exts.new.image (data_writes n kind h (k + 1 + c.ext_count-exts.result) 1 bytes c.data_count-datas.result)) own
-    ∙ ap (λ i. with_blocks c.write_exts.new.image (data_writes n kind (nth_free n k) i 1 bytes c.data_count-datas.result)) first
+    ∙ ap (λ h. with_blocks c.write_exts.new.image (data_writes n kind h (k + 1 + c.ext_count-exts.result) 1 bytes c.data_blocks-datas.result)) own
+    ∙ ap (λ i. with_blocks c.write_exts.new.image (data_writes n kind (nth_free n k) i 1 bytes c.data_blocks-datas.result)) first
     ∙ ap (λ d. with_blocks c.write_exts.new.image (data_writes n kind (nth_free n k) (suc k + x) 1 bytes d)) datas in
     let all : Body → List ℕ = λ b. with_blocks old ((
       nth_free n k,

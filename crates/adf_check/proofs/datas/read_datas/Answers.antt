@@ -1,5 +1,6 @@
 use Rattle.std.proofs.Common.{◌≡◌, ◌+◌, ◌*◌, ◌<◌, ℕ, suc, length, min, ap, refl, subst, ◌∙◌, arith}
-use Rattle.adf_volume.specs.Image.{count, kind_of}
+use Rattle.adf_blocks.specs.Sizes.{count}
+use Rattle.adf_volume.specs.Image.{kind_of}
 use Rattle.adf_volume.specs.Walk.{data_count}
 use Rattle.adf_check.specs.Reading.{IsAtNode}
 use Rattle.adf_check.proofs.InFiles.{datas_end}

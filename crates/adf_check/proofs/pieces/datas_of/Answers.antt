@@ -1,5 +1,5 @@
 use Rattle.std.proofs.Common.{◌≡◌, ◌≤◌, ◌+◌, ℕ, length, take, drop, get_or, ap, subst, sym, ◌∙◌}
-use Rattle.adf_volume.specs.Image.{count}
+use Rattle.adf_blocks.specs.Sizes.{count}
 use Rattle.adf_volume.specs.Layout.{datas_of}
 use Rattle.adf_volume.specs.Made.{layout_in, tree_in}
 use Rattle.adf_check.specs.Found.{store_of}

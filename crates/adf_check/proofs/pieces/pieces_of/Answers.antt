@@ -1,6 +1,7 @@
 use Rattle.std.proofs.Common.{◌≡◌, ◌≢◌, ◌≤◌, ◌<◌, ◌^◌, ℕ, List, length, ap, subst, sym, ◌∙◌, arith, Some}
 use Rattle.std.specs.List.{All, concat}
-use Rattle.adf_volume.specs.Image.{DIR, count, kind_of, pieces, word_in}
+use Rattle.adf_blocks.specs.Sizes.{count}
+use Rattle.adf_volume.specs.Image.{DIR, kind_of, pieces, word_in}
 use Rattle.adf_volume.specs.Layout.{datas_of}
 use Rattle.adf_volume.specs.Made.{layout_in, tree_in}
 use Rattle.adf_volume.proofs.Pieces.{pieces_length}
