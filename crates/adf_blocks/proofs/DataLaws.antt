@@ -1,9 +1,11 @@
 -- What the block of an OFS data block holds.
-use Rattle.std.proofs.Common.{◌≡◌, ◌≤◌, ℕ, ◌+◌, ◌*◌, List, length, refl, arith, true}
-use Rattle.std.specs.Prelude.{None, Bool, ◌&&◌, ◌==◌, slice_range}
+use Rattle.std.proofs.Common.{◌≡◌, ◌≤◌, ℕ, ◌+◌, ◌*◌, List, length, refl, arith}
+use Rattle.std.specs.Prelude.{None, slice_range}
+use Rattle.std.specs.Cmp.Derive.{both_true}
 use Rattle.std.proofs.lemmas.Bool.{eq-eqb}
 use Rattle.adf_fields.specs.Words.{block, word, with_block, long_sum}
 use Rattle.adf_fields.proofs.WordLaws.{block_written}
+use Rattle.adf_blocks.specs.declared.layout.TheConstants.{DATA_BYTES, DATA_HEAD, DATA_HELD, DATA_NEXT, DATA_NUMBER, TYPE, T_DATA}
 use Rattle.adf_blocks.specs.Forms.{first_cause}
 use Rattle.adf_blocks.specs.Fields.{Descends}
 use Rattle.adf_blocks.specs.DataBlock.{DataFields, FitsData, data_block, data_form, data_table}
@@ -24,32 +26,30 @@ pub data_block-sum : (d : DataFields) → FitsData d → long_sum (data_block d)
 unfolding data_block
 data_block-sum d fits = sum_of_fields (data_table d) (data_descends d fits)
 
-pub data_block-type : (d : DataFields) → FitsData d → word (data_block d) 0 ≡ 8
+pub data_block-type : (d : DataFields) → FitsData d → word (data_block d) TYPE ≡ T_DATA
 unfolding data_block
-data_block-type d fits = word_of_field (data_table d) 5 0 8 (data_descends d fits) (omega arith) refl (omega arith) (omega arith)
+data_block-type d fits = word_of_field (data_table d) 5 TYPE T_DATA (data_descends d fits) (omega arith) refl (omega arith) (omega arith)
 
-pub data_block-head : (d : DataFields) → FitsData d → word (data_block d) 1 ≡ d.head
+pub data_block-head : (d : DataFields) → FitsData d → word (data_block d) DATA_HEAD ≡ d.head
 unfolding data_block
-data_block-head d fits = word_of_field (data_table d) 4 1 d.head (data_descends d fits) (omega arith) refl (omega arith) fits.head
+data_block-head d fits = word_of_field (data_table d) 4 DATA_HEAD d.head (data_descends d fits) (omega arith) refl (omega arith) fits.head
 
-pub data_block-number : (d : DataFields) → FitsData d → word (data_block d) 2 ≡ d.number
+pub data_block-number : (d : DataFields) → FitsData d → word (data_block d) DATA_NUMBER ≡ d.number
 unfolding data_block
-data_block-number d fits = word_of_field (data_table d) 3 2 d.number (data_descends d fits) (omega arith) refl (omega arith) fits.number
+data_block-number d fits = word_of_field (data_table d) 3 DATA_NUMBER d.number (data_descends d fits) (omega arith) refl (omega arith) fits.number
 
-pub data_block-held : (d : DataFields) → FitsData d → word (data_block d) 3 ≡ length d.bytes
+pub data_block-held : (d : DataFields) → FitsData d → word (data_block d) DATA_HELD ≡ length d.bytes
 unfolding data_block
-data_block-held d fits = word_of_field (data_table d) 2 3 (length d.bytes) (data_descends d fits) (omega arith) refl (omega arith) (omega (arith, fits.bytes))
+data_block-held d fits =
+    word_of_field (data_table d) 2 DATA_HELD (length d.bytes) (data_descends d fits) (omega arith) refl (omega arith) (omega (arith, fits.bytes))
 
-pub data_block-next : (d : DataFields) → FitsData d → word (data_block d) 4 ≡ d.next
+pub data_block-next : (d : DataFields) → FitsData d → word (data_block d) DATA_NEXT ≡ d.next
 unfolding data_block
-data_block-next d fits = word_of_field (data_table d) 1 4 d.next (data_descends d fits) (omega arith) refl (omega arith) fits.next
+data_block-next d fits = word_of_field (data_table d) 1 DATA_NEXT d.next (data_descends d fits) (omega arith) refl (omega arith) fits.next
 
-pub data_block-bytes : (d : DataFields) → FitsData d → slice_range (data_block d) 24 (24 + length d.bytes) ≡ d.bytes
+pub data_block-bytes : (d : DataFields) → FitsData d → slice_range (data_block d) DATA_BYTES (DATA_BYTES + length d.bytes) ≡ d.bytes
 unfolding data_block
-data_block-bytes d fits = bytes_of_field (data_table d) 0 24 d.bytes (data_descends d fits) (omega arith) refl (omega arith)
-
-four_true : (w x y z : Bool) → w ≡ true → x ≡ true → y ≡ true → z ≡ true → (w && x && y && z) ≡ true
-four_true w x y z o p q r = rw (o, p, q, r) refl
+data_block-bytes d fits = bytes_of_field (data_table d) 0 DATA_BYTES d.bytes (data_descends d fits) (omega arith) refl (omega arith)
 
 -- a data block that was written is read
 pub data_block-form : (d : DataFields) → FitsData d → first_cause (data_form d.head d.number (length d.bytes) d.next (data_block d)) ≡ None
@@ -58,13 +58,13 @@ data_block-form d fits =
     no_cause (data_form d.head d.number (length d.bytes) d.next b) (
       eq-eqb (long_sum b) 0 (data_block-sum d fits),
       (
-        eq-eqb (word b 0) 8 (data_block-type d fits),
+        eq-eqb (word b TYPE) T_DATA (data_block-type d fits),
         (
-          four_true (word b 1 == d.head) (word b 2 == d.number) (word b 3 == length d.bytes) (word b 4 == d.next)
-              (eq-eqb (word b 1) d.head (data_block-head d fits))
-              (eq-eqb (word b 2) d.number (data_block-number d fits))
-              (eq-eqb (word b 3) (length d.bytes) (data_block-held d fits))
-              (eq-eqb (word b 4) d.next (data_block-next d fits)),
+          both_true (both_true (both_true
+              (eq-eqb (word b DATA_HEAD) d.head (data_block-head d fits))
+              (eq-eqb (word b DATA_NUMBER) d.number (data_block-number d fits)))
+              (eq-eqb (word b DATA_HELD) (length d.bytes) (data_block-held d fits)))
+              (eq-eqb (word b DATA_NEXT) d.next (data_block-next d fits)),
           tt,
         ),
       ),

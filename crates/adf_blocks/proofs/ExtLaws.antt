@@ -1,11 +1,13 @@
 -- What the block of an extension block holds.
-use Rattle.std.proofs.Common.{◌≡◌, ◌≤◌, ◌<◌, ℕ, ◌+◌, ◌-◌, ◌*◌, ◌^◌, List, length, refl, ◌∙◌, arith, inl, inr, true}
-use Rattle.std.specs.Prelude.{None, Bool, ◌&&◌, ◌==◌, reverse, slice_index}
+use Rattle.std.proofs.Common.{◌≡◌, ◌≤◌, ◌<◌, ℕ, ◌+◌, ◌-◌, ◌*◌, ◌^◌, List, length, refl, ◌∙◌, arith, inl, inr}
+use Rattle.std.specs.Prelude.{None, reverse, slice_index}
+use Rattle.std.specs.Cmp.Derive.{both_true}
 use Rattle.std.proofs.lemmas.Bool.{eq-eqb}
 use Rattle.std.proofs.lemmas.List.{length-reverse}
 use Rattle.adf_fields.specs.Words.{block, word, with_block, long_sum}
 use Rattle.adf_fields.proofs.WordLaws.{length_longs, block_written}
 use Rattle.adf_blocks.specs.Forms.{first_cause}
+use Rattle.adf_blocks.specs.declared.layout.TheConstants.{EXTENSION, FIRST_POINTER, OWN_KEY, PARENT, POINTERS, SECONDARY_TYPE, ST_FILE, TYPE, T_LIST}
 use Rattle.adf_blocks.specs.Fields.{Descends}
 use Rattle.adf_blocks.specs.ExtBlock.{ExtFields, FitsExt, ext_block, ext_form, ext_table}
 use Rattle.adf_blocks.proofs.ClauseLaws.{no_cause}
@@ -28,31 +30,32 @@ pub ext_block-sum : (e : ExtFields) → FitsExt e → long_sum (ext_block e) ≡
 unfolding ext_block
 ext_block-sum e fits = sum_of_fields (ext_table e) (ext_descends e fits)
 
-pub ext_block-type : (e : ExtFields) → FitsExt e → word (ext_block e) 0 ≡ 16
+pub ext_block-type : (e : ExtFields) → FitsExt e → word (ext_block e) TYPE ≡ T_LIST
 unfolding ext_block
-ext_block-type e fits = word_of_field (ext_table e) 6 0 16 (ext_descends e fits) (omega arith) refl (omega arith) (omega arith)
+ext_block-type e fits = word_of_field (ext_table e) 6 TYPE T_LIST (ext_descends e fits) (omega arith) refl (omega arith) (omega arith)
 
-pub ext_block-own : (e : ExtFields) → FitsExt e → word (ext_block e) 1 ≡ e.own
+pub ext_block-own : (e : ExtFields) → FitsExt e → word (ext_block e) OWN_KEY ≡ e.own
 unfolding ext_block
-ext_block-own e fits = word_of_field (ext_table e) 5 1 e.own (ext_descends e fits) (omega arith) refl (omega arith) fits.own
+ext_block-own e fits = word_of_field (ext_table e) 5 OWN_KEY e.own (ext_descends e fits) (omega arith) refl (omega arith) fits.own
 
-pub ext_block-head : (e : ExtFields) → FitsExt e → word (ext_block e) 125 ≡ e.head
+pub ext_block-head : (e : ExtFields) → FitsExt e → word (ext_block e) PARENT ≡ e.head
 unfolding ext_block
-ext_block-head e fits = word_of_field (ext_table e) 2 125 e.head (ext_descends e fits) (omega arith) refl (omega arith) fits.head
+ext_block-head e fits = word_of_field (ext_table e) 2 PARENT e.head (ext_descends e fits) (omega arith) refl (omega arith) fits.head
 
-pub ext_block-next : (e : ExtFields) → FitsExt e → e.next < 2 ^ 32 → word (ext_block e) 126 ≡ e.next
+pub ext_block-next : (e : ExtFields) → FitsExt e → e.next < 2 ^ 32 → word (ext_block e) EXTENSION ≡ e.next
 unfolding ext_block
-ext_block-next e fits small = word_of_field (ext_table e) 1 126 e.next (ext_descends e fits) (omega arith) refl (omega arith) small
+ext_block-next e fits small = word_of_field (ext_table e) 1 EXTENSION e.next (ext_descends e fits) (omega arith) refl (omega arith) small
 
-pub ext_block-secondary : (e : ExtFields) → FitsExt e → word (ext_block e) 127 ≡ 0xFFFFFFFD
+pub ext_block-secondary : (e : ExtFields) → FitsExt e → word (ext_block e) SECONDARY_TYPE ≡ ST_FILE
 unfolding ext_block
-ext_block-secondary e fits = word_of_field (ext_table e) 0 127 0xFFFFFFFD (ext_descends e fits) (omega arith) refl (omega arith) (omega arith)
+ext_block-secondary e fits = word_of_field (ext_table e) 0 SECONDARY_TYPE ST_FILE (ext_descends e fits) (omega arith) refl (omega arith) (omega arith)
 
 -- a pointer of an extension block, or 0 past the last
-pub ext_block-pointer : (e : ExtFields) (j : ℕ) → FitsExt e → j < 72 → slice_index e.table j < 2 ^ 32 → word (ext_block e) (77 - j) ≡ slice_index e.table j
+pub ext_block-pointer : (e : ExtFields) (j : ℕ) → FitsExt e → j < POINTERS → slice_index e.table j < 2 ^ 32
+    → word (ext_block e) (FIRST_POINTER - j) ≡ slice_index e.table j
 unfolding ext_block
 ext_block-pointer e j fits lt small =
-    pointer_number (ext_table e) 3 77 j e.table (ext_descends e fits) (omega arith) refl (omega (arith, fits.table)) (omega arith) (omega arith)
+    pointer_number (ext_table e) 3 FIRST_POINTER j e.table (ext_descends e fits) (omega arith) refl (omega (arith, fits.table)) (omega arith) (omega arith)
     (λ past. (
       inl (omega arith),
       (
@@ -69,9 +72,6 @@ ext_block-pointer e j fits lt small =
     ))
     ∙ long_number (slice_index e.table j) small
 
-both_true : (x y : Bool) → x ≡ true → y ≡ true → (x && y) ≡ true
-both_true x y p q = rw (p, q) refl
-
 -- an extension block that was written is read
 pub ext_block-form : (e : ExtFields) → FitsExt e → first_cause (ext_form e.own e.head (ext_block e)) ≡ None
 ext_block-form e fits =
@@ -79,11 +79,10 @@ ext_block-form e fits =
     no_cause (ext_form e.own e.head b) (
       eq-eqb (long_sum b) 0 (ext_block-sum e fits),
       (
-        both_true (word b 0 == 16) (word b 127 == 0xFFFFFFFD) (eq-eqb (word b 0) 16 (ext_block-type e fits))
-            (eq-eqb (word b 127) 0xFFFFFFFD (ext_block-secondary e fits)),
+        both_true (eq-eqb (word b TYPE) T_LIST (ext_block-type e fits)) (eq-eqb (word b SECONDARY_TYPE) ST_FILE (ext_block-secondary e fits)),
         (
-          eq-eqb (word b 1) e.own (ext_block-own e fits),
-          (eq-eqb (word b 125) e.head (ext_block-head e fits), tt),
+          eq-eqb (word b OWN_KEY) e.own (ext_block-own e fits),
+          (eq-eqb (word b PARENT) e.head (ext_block-head e fits), tt),
         ),
       ),
     )

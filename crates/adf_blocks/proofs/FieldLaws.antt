@@ -1,15 +1,18 @@
 -- What a block that was laid out of fields holds.
-use Rattle.std.proofs.Common.{◌≡◌, ◌≢◌, ◌≤◌, ◌<◌, ℕ, zero, suc, ◌+◌, ◌-◌, ◌*◌, ◌^◌, ◌⊎◌, List, ◌++◌, [], ◌∷◌, length, get_or, refl, sym, ap, ◌∙◌, arith, append-nil, inl, inr}
-use Rattle.std.proofs.Common.{take, drop, add-zero}
+use Rattle.std.proofs.Common.{◌≡◌, ◌≢◌, ◌≤◌, ◌<◌, ℕ, zero, suc, ◌+◌, ◌-◌, ◌*◌, ◌^◌, ◌⊎◌, List, ◌++◌, [], ◌∷◌}
+use Rattle.std.proofs.Common.{length, get_or, take, drop, refl, sym, ap, ◌∙◌, arith, add-zero, append-nil, inl, inr}
 use Rattle.std.proofs.lemmas.Bool.{cases_lt}
-use Rattle.std.proofs.lemmas.List.{length-replicate, length-reverse, drop-take, drop-drop, take-take, take_at, take_all, get_or-drop, get_or-take, get_or-reverse, get_or_past, drop-replicate, take-replicate}
+use Rattle.std.proofs.lemmas.List.{length-replicate, length-reverse, drop-take, drop-drop, take-take, take_at, take_all, drop-replicate, take-replicate}
+use Rattle.std.proofs.lemmas.List.{get_or-drop, get_or-take, get_or-reverse, get_or_past}
 use Rattle.std.proofs.Math.Seq.{drop-append-add}
 use Rattle.std.specs.Prelude.{slice_range, slice_index, replicate, reverse}
 use Rattle.byteorder.specs.Endian.{big_number}
 use Rattle.byteorder.specs.Numbers.{big_number-reads_back}
 use Rattle.adf_fields.specs.Words.{word, long_sum, sealed, checksum}
 use Rattle.adf_fields.specs.declared.dates.Stamp.{Stamp}
-use Rattle.adf_fields.proofs.WordLaws.{length-with_bytes, range-with_bytes_same, range-with_bytes_below, word-with_word_other, range-with_bytes_above, length_longs, length_big_bytes, long_sum-sealed}
+use Rattle.adf_fields.proofs.WordLaws.{length-with_bytes, range-with_bytes_same, range-with_bytes_below, range-with_bytes_above}
+use Rattle.adf_fields.proofs.WordLaws.{word-with_word_other, length_longs, length_big_bytes, long_sum-sealed}
+use Rattle.adf_blocks.specs.declared.layout.TheConstants.{CHECKSUM}
 use Rattle.adf_blocks.specs.Forms.{stamp_at, text_at}
 use Rattle.adf_blocks.specs.Fields.{Field, FitsStamp, block_of_fields, Descends, downwards, long, longs, stamp, text}
 
@@ -60,22 +63,22 @@ fields_long fs k i w d lt e =
     number_there (block_of_fields fs) i w (ap (slice_range (block_of_fields fs) (4 * i)) (sym z) ∙ there)
 
 -- the number in a word that was put down
-pub number_of_field : (fs : List Field) (k i w : ℕ) → Descends 512 fs → k < length fs → get_or fs k (0, []) ≡ (4 * i, long w) → i ≢ 5
-    → word (sealed 5 (block_of_fields fs)) i ≡ big_number 4 (long w)
+pub number_of_field : (fs : List Field) (k i w : ℕ) → Descends 512 fs → k < length fs → get_or fs k (0, []) ≡ (4 * i, long w) → i ≢ CHECKSUM
+    → word (sealed CHECKSUM (block_of_fields fs)) i ≡ big_number 4 (long w)
 number_of_field fs k i w d lt e other =
     let n = length-block_of_fields 512 fs (omega arith) d in
     let there = nth_field 512 fs k (0, []) (omega arith) d lt in
-    word-with_word_other (block_of_fields fs) 5 (checksum 5 (block_of_fields fs)) i (omega arith) other
+    word-with_word_other (block_of_fields fs) CHECKSUM (checksum CHECKSUM (block_of_fields fs)) i (omega arith) other
     ∙ number_there (block_of_fields fs) i w (rw e at there)
 
 -- a word that was put down
-pub word_of_field : (fs : List Field) (k i w : ℕ) → Descends 512 fs → k < length fs → get_or fs k (0, []) ≡ (4 * i, long w) → i ≢ 5 → w < 2 ^ 32
-    → word (sealed 5 (block_of_fields fs)) i ≡ w
+pub word_of_field : (fs : List Field) (k i w : ℕ) → Descends 512 fs → k < length fs → get_or fs k (0, []) ≡ (4 * i, long w) → i ≢ CHECKSUM → w < 2 ^ 32
+    → word (sealed CHECKSUM (block_of_fields fs)) i ≡ w
 word_of_field fs k i w d lt e other small = number_of_field fs k i w d lt e other ∙ long_number w small
 
 -- the sum of what was sealed
-pub sum_of_fields : (fs : List Field) → Descends 512 fs → long_sum (sealed 5 (block_of_fields fs)) ≡ 0
-sum_of_fields fs d = long_sum-sealed 5 (block_of_fields fs) (omega arith) (length-block_of_fields 512 fs (omega arith) d)
+pub sum_of_fields : (fs : List Field) → Descends 512 fs → long_sum (sealed CHECKSUM (block_of_fields fs)) ≡ 0
+sum_of_fields fs d = long_sum-sealed CHECKSUM (block_of_fields fs) (omega arith) (length-block_of_fields 512 fs (omega arith) d)
 
 -- a part of a part
 pub sub_range : (xs : List ℕ) (a b i j : ℕ) → i ≤ j → a + j ≤ b → slice_range (slice_range xs a b) i j ≡ slice_range xs (a + i) (a + j)
@@ -122,35 +125,15 @@ numbers_of_field c fs k i s ws in_block d lt e in_words other =
     let n = length-block_of_fields 512 fs (omega arith) d in
     word-with_word_other (block_of_fields fs) c (checksum c (block_of_fields fs)) (i + s) (omega arith) other ∙ fields_longs fs k i s ws d lt e in_words
 
--- a word of words that were put down
-pub words_of_field : (c : ℕ) (fs : List Field) (k i s : ℕ) (ws : List ℕ) → c < 128 → Descends 512 fs → k < length fs
-    → get_or fs k (0, []) ≡ (4 * i, longs ws) → s < length ws → i + s ≢ c → slice_index ws s < 2 ^ 32
-    → word (sealed c (block_of_fields fs)) (i + s) ≡ slice_index ws s
-words_of_field c fs k i s ws in_block d lt e in_words other small =
-    numbers_of_field c fs k i s ws in_block d lt e in_words other ∙ long_number (slice_index ws s) small
-
 -- a date that was put down
-pub stamp_of_field : (fs : List Field) (k i : ℕ) (s : Stamp) → Descends 512 fs → k < length fs → get_or fs k (0, []) ≡ (4 * i, stamp s) → 5 < i → FitsStamp s
-    → stamp_at (sealed 5 (block_of_fields fs)) i ≡ s
+pub stamp_of_field : (fs : List Field) (k i : ℕ) (s : Stamp) → Descends 512 fs → k < length fs → get_or fs k (0, []) ≡ (4 * i, stamp s)
+    → CHECKSUM < i → FitsStamp s → stamp_at (sealed CHECKSUM (block_of_fields fs)) i ≡ s
 stamp_of_field fs k i s d lt e above fits =
     let ws : List ℕ = s.days ∷ s.mins ∷ s.ticks ∷ [] in
-    let days : word (sealed 5 (block_of_fields fs)) i ≡ s.days =
-    ap (word (sealed 5 (block_of_fields fs))) (sym (add-zero i)) ∙ words_of_field 5 fs k i 0 ws (omega arith) d lt e (omega arith) (omega arith) fits.days in
-    let mins : word (sealed 5 (block_of_fields fs)) (i + 1) ≡ s.mins = words_of_field 5 fs k i 1 ws (omega arith) d lt e (omega arith) (omega arith) fits.mins in
-    let ticks : word (sealed 5 (block_of_fields fs)) (i + 2) ≡ s.ticks = words_of_field 5 fs k i 2 ws (omega arith) d lt e (omega arith) (omega arith) fits.ticks in
-    rw (days, mins, ticks) refl
-
--- the number in a word of words that were put down from word i on, downwards
-pub numbers_downwards : (fs : List Field) (k i j : ℕ) (ws : List ℕ) → Descends 512 fs → k < length fs → get_or fs k (0, []) ≡ downwards i ws
-    → length ws + 5 ≤ i → j < length ws
-    → word (sealed 5 (block_of_fields fs)) (i - j) ≡ big_number 4 (long (slice_index ws j))
-numbers_downwards fs k i j ws d lt e room in_words =
-    let n : length (reverse ws) ≡ length ws = length-reverse ws in
-    let at : i - j ≡ (i + 1 - length ws) + (length ws - 1 - j) = omega arith in
-    let back : length ws - 1 - (length ws - 1 - j) ≡ j = omega arith in
-    ap (word (sealed 5 (block_of_fields fs))) at
-    ∙ numbers_of_field 5 fs k (i + 1 - length ws) (length ws - 1 - j) (reverse ws) (omega arith) d lt e (omega arith) (omega arith)
-    ∙ ap (λ w. big_number 4 (long w)) (get_or-reverse ws (length ws - 1 - j) 0 (omega arith) ∙ ap (slice_index ws) back)
+    let there : (j : ℕ) → j < 3 → slice_index ws j < 2 ^ 32 → word (sealed CHECKSUM (block_of_fields fs)) (i + j) ≡ slice_index ws j =
+    λ j in_date small. numbers_of_field CHECKSUM fs k i j ws (omega arith) d lt e (omega arith) (omega arith) ∙ long_number (slice_index ws j) small in
+    let days : word (sealed CHECKSUM (block_of_fields fs)) i ≡ s.days = ap (word (sealed CHECKSUM (block_of_fields fs))) (sym (add-zero i)) ∙ there 0 (omega arith) fits.days in
+    rw (days, there 1 (omega arith) fits.mins, there 2 (omega arith) fits.ticks) refl
 
 -- each field ends at byte a or before, or begins at byte b or after
 abbrev pub Apart : ℕ → ℕ → List Field → Type 0
@@ -181,37 +164,43 @@ pub fields_between : (fs : List Field) (i : ℕ) → Descends 512 fs → i < 128
 fields_between fs i d lt apart = number_there (block_of_fields fs) i 0 (range_between 512 (4 * i) (4 * i + 4) fs (omega arith) d apart ∙ zero_word i lt)
 
 -- a word that no field is put over
-pub word_between : (fs : List Field) (i : ℕ) → Descends 512 fs → i < 128 → Apart (4 * i) (4 * i + 4) fs → i ≢ 5 → word (sealed 5 (block_of_fields fs)) i ≡ 0
+pub word_between : (fs : List Field) (i : ℕ) → Descends 512 fs → i < 128 → Apart (4 * i) (4 * i + 4) fs → i ≢ CHECKSUM → word (sealed CHECKSUM (block_of_fields fs)) i ≡ 0
 word_between fs i d lt apart other =
     let n = length-block_of_fields 512 fs (omega arith) d in
-    word-with_word_other (block_of_fields fs) 5 (checksum 5 (block_of_fields fs)) i (omega arith) other ∙ fields_between fs i d lt apart
+    word-with_word_other (block_of_fields fs) CHECKSUM (checksum CHECKSUM (block_of_fields fs)) i (omega arith) other ∙ fields_between fs i d lt apart
 
 -- the number in word i - j where words were put down from word i on, downwards: word j of these, or 0 past the last
 pub pointer_number : (fs : List Field) (k i j : ℕ) (ws : List ℕ) → Descends 512 fs → k < length fs → get_or fs k (0, []) ≡ downwards i ws
-    → length ws + 5 ≤ i → j + 5 < i → i < 128
+    → length ws + CHECKSUM ≤ i → j + CHECKSUM < i → i < 128
     → (length ws ≤ j → Apart (4 * (i - j)) (4 * (i - j) + 4) fs)
-    → word (sealed 5 (block_of_fields fs)) (i - j) ≡ big_number 4 (long (slice_index ws j))
+    → word (sealed CHECKSUM (block_of_fields fs)) (i - j) ≡ big_number 4 (long (slice_index ws j))
 pointer_number fs k i j ws d lt e room above in_block past = elim (cases_lt j (length ws)) [
-  | inl in_words ↦ numbers_downwards fs k i j ws d lt e room in_words
+  | inl in_words ↦
+      let n : length (reverse ws) ≡ length ws = length-reverse ws in
+      let at : i - j ≡ (i + 1 - length ws) + (length ws - 1 - j) = omega arith in
+      let back : length ws - 1 - (length ws - 1 - j) ≡ j = omega arith in
+      ap (word (sealed CHECKSUM (block_of_fields fs))) at
+      ∙ numbers_of_field CHECKSUM fs k (i + 1 - length ws) (length ws - 1 - j) (reverse ws) (omega arith) d lt e (omega arith) (omega arith)
+      ∙ ap (λ w. big_number 4 (long w)) (get_or-reverse ws (length ws - 1 - j) 0 (omega arith) ∙ ap (slice_index ws) back)
   | inr beyond ↦
       let zero_there : slice_index ws j ≡ 0 = get_or_past ws j 0 beyond in
       word_between fs (i - j) d (omega arith) (past beyond) (omega arith) ∙ ap (λ w. big_number 4 (long w)) (sym zero_there)
 ]
 
 -- a block that was laid and sealed is whole
-pub length_sealed_fields : (fs : List Field) → Descends 512 fs → length (sealed 5 (block_of_fields fs)) ≡ 512
+pub length_sealed_fields : (fs : List Field) → Descends 512 fs → length (sealed CHECKSUM (block_of_fields fs)) ≡ 512
 length_sealed_fields fs d =
     let len = length-block_of_fields 512 fs (omega arith) d in
-    length-with_bytes (block_of_fields fs) (4 * 5) (long (checksum 5 (block_of_fields fs))) (omega (arith, length_big_bytes 4 (checksum 5 (block_of_fields fs)))) ∙ len
+    length-with_bytes (block_of_fields fs) (4 * CHECKSUM) (long (checksum CHECKSUM (block_of_fields fs))) (omega (arith, length_big_bytes 4 (checksum CHECKSUM (block_of_fields fs)))) ∙ len
 
 -- bytes that were put down above word 5
-pub bytes_of_field : (fs : List Field) (k from : ℕ) (xs : List ℕ) → Descends 512 fs → k < length fs → get_or fs k (0, []) ≡ (from, xs) → 24 ≤ from
-    → slice_range (sealed 5 (block_of_fields fs)) from (from + length xs) ≡ xs
+pub bytes_of_field : (fs : List Field) (k from : ℕ) (xs : List ℕ) → Descends 512 fs → k < length fs → get_or fs k (0, []) ≡ (from, xs) → 4 * CHECKSUM + 4 ≤ from
+    → slice_range (sealed CHECKSUM (block_of_fields fs)) from (from + length xs) ≡ xs
 bytes_of_field fs k from xs d lt e above =
     let n = length-block_of_fields 512 fs (omega arith) d in
     let there : slice_range (block_of_fields fs) from (from + length xs) ≡ xs = rw e at (nth_field 512 fs k (0, []) (omega arith) d lt) in
-    range-with_bytes_above (block_of_fields fs) (4 * 5) (long (checksum 5 (block_of_fields fs))) from (from + length xs) (omega arith)
-    (omega (arith, length_big_bytes 4 (checksum 5 (block_of_fields fs)))) ∙ there
+    range-with_bytes_above (block_of_fields fs) (4 * CHECKSUM) (long (checksum CHECKSUM (block_of_fields fs))) from (from + length xs) (omega arith)
+    (omega (arith, length_big_bytes 4 (checksum CHECKSUM (block_of_fields fs)))) ∙ there
 
 -- how a length and a text read
 pub text_reads : (bs xs : List ℕ) (at : ℕ) → slice_range xs at (at + length (text bs)) ≡ text bs → (slice_index xs at ≡ length bs) × (text_at xs at ≡ bs)
@@ -228,6 +217,6 @@ text_reads bs xs at h =
     (first, ap (λ k. slice_range xs (at + 1) (at + 1 + k)) first ∙ rest)
 
 -- a length and a text that were put down above word 5
-pub text_of_field : (fs : List Field) (k at : ℕ) (bs : List ℕ) → Descends 512 fs → k < length fs → get_or fs k (0, []) ≡ (at, text bs) → 24 ≤ at
-    → (slice_index (sealed 5 (block_of_fields fs)) at ≡ length bs) × (text_at (sealed 5 (block_of_fields fs)) at ≡ bs)
-text_of_field fs k at bs d lt e above = text_reads bs (sealed 5 (block_of_fields fs)) at (bytes_of_field fs k at (text bs) d lt e above)
+pub text_of_field : (fs : List Field) (k at : ℕ) (bs : List ℕ) → Descends 512 fs → k < length fs → get_or fs k (0, []) ≡ (at, text bs) → 4 * CHECKSUM + 4 ≤ at
+    → (slice_index (sealed CHECKSUM (block_of_fields fs)) at ≡ length bs) × (text_at (sealed CHECKSUM (block_of_fields fs)) at ≡ bs)
+text_of_field fs k at bs d lt e above = text_reads bs (sealed CHECKSUM (block_of_fields fs)) at (bytes_of_field fs k at (text bs) d lt e above)

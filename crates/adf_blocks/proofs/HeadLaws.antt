@@ -1,11 +1,11 @@
 -- What the block of a header holds.
 use Rattle.std.proofs.Common.{◌≡◌, ◌≤◌, ◌<◌, ℕ, ◌+◌, ◌-◌, ◌*◌, ◌^◌, List, length, refl, sym, ap, ◌∙◌, arith, inl, inr, true}
-use Rattle.std.specs.Prelude.{None, Bool, ◌&&◌, not, nat_le, slice_index}
+use Rattle.std.specs.Prelude.{None, not, reverse, slice_index}
+use Rattle.std.specs.Cmp.Derive.{both_true}
 use Rattle.std.proofs.lemmas.Bool.{eq-eqb, le-leb}
 use Rattle.std.proofs.lemmas.Bool.Decides.{nat_tests}
 use Rattle.std.proofs.lemmas.List.{length-reverse}
 use Rattle.std.proofs.Math.Bool.{or-true}
-use Rattle.std.specs.Prelude.{reverse}
 use Rattle.byteorder.specs.Endian.{big_number}
 use Rattle.adf_fields.specs.Hash.{slot_of}
 use Rattle.adf_fields.specs.Words.{block, word, with_block, long_sum}
@@ -14,18 +14,22 @@ use Rattle.adf_tree.specs.Texts.{is_name}
 use Rattle.adf_tree.specs.declared.entry.Kind.{Kind}
 use Rattle.adf_tree.specs.declared.entry.Kind.TheVariants.{Ofs, Ffs}
 use Rattle.adf_blocks.specs.Forms.{first_cause, stamp_at, text_at}
+use Rattle.adf_blocks.specs.declared.layout.TheConstants.{CHECKSUM, COMMENT, DATE, EXTENSION, FIRST_DATA, FIRST_POINTER, FIRST_SLOT, NAME, NEXT_IN_CHAIN}
+use Rattle.adf_blocks.specs.declared.layout.TheConstants.{OWN_KEY, PARENT, POINTERS, PROTECTION, SECONDARY_TYPE, SIZE, SLOTS, ST_DIR, TYPE, T_SHORT}
 use Rattle.adf_blocks.specs.Fields.{Descends, FitsStamp, long}
-use Rattle.adf_blocks.specs.HeadBlock.{BodyFields, FitsBody, FitsBodyWords, FitsHead, FitsMeta, HeadFields, body_at, body_told, ext_of, first_of, has_first, has_type, head_block, head_form, head_table, is_link, is_name_at, meta_at, secondary_of, size_of, table_of}
+use Rattle.adf_blocks.specs.HeadBlock.{BodyFields, FitsBody, FitsBodyWords, FitsHead, FitsMeta, HeadFields, head_block, head_form, head_table}
+use Rattle.adf_blocks.specs.HeadBlock.{body_at, body_told, ext_of, first_of, has_first, has_type, is_link, is_name_at, meta_at, secondary_of, size_of, table_of}
 use Rattle.adf_blocks.specs.HeadBlock.BodyFields.{DirFields, FileFields}
 use Rattle.adf_blocks.proofs.ClauseLaws.{no_cause}
-use Rattle.adf_blocks.proofs.FieldLaws.{length_sealed_fields, long_number, number_of_field, pointer_number, stamp_of_field, sum_of_fields, text_of_field, word_of_field, words_of_field}
+use Rattle.adf_blocks.proofs.FieldLaws.{length_sealed_fields, long_number, number_of_field, numbers_of_field, pointer_number, stamp_of_field}
+use Rattle.adf_blocks.proofs.FieldLaws.{sum_of_fields, text_of_field, word_of_field}
 
 -- a name has at most 30 bytes
 name_short : (bs : List ℕ) → is_name bs ≡ true → length bs ≤ 30
 name_short bs h = grind (arith, nat_tests)
 
--- the slots or pointers lie in words 5 to 77
-table_fits : (b : BodyFields) → FitsBody b → ((table_of b).0 + length (table_of b).1 ≤ 4 * 78) × (4 * 5 ≤ (table_of b).0)
+-- the slots or pointers lie between the other fields
+table_fits : (b : BodyFields) → FitsBody b → ((table_of b).0 + length (table_of b).1 ≤ 4 * PROTECTION) × (4 * FIRST_DATA + 4 ≤ (table_of b).0)
 table_fits (DirFields slots) h =
     let n = length_longs slots in
     (omega (arith, h), omega arith)
@@ -77,55 +81,55 @@ pub head_block-sum : (h : HeadFields) → FitsHead h → long_sum (head_block h)
 unfolding head_block
 head_block-sum h fits = sum_of_fields (head_table h) (head_descends h fits)
 
-pub head_block-type : (h : HeadFields) → FitsHead h → word (head_block h) 0 ≡ 2
+pub head_block-type : (h : HeadFields) → FitsHead h → word (head_block h) TYPE ≡ T_SHORT
 unfolding head_block
-head_block-type h fits = word_of_field (head_table h) 13 0 2 (head_descends h fits) (omega arith) refl (omega arith) (omega arith)
+head_block-type h fits = word_of_field (head_table h) 13 TYPE T_SHORT (head_descends h fits) (omega arith) refl (omega arith) (omega arith)
 
-pub head_block-own : (h : HeadFields) → FitsHead h → word (head_block h) 1 ≡ h.own
+pub head_block-own : (h : HeadFields) → FitsHead h → word (head_block h) OWN_KEY ≡ h.own
 unfolding head_block
-head_block-own h fits = word_of_field (head_table h) 12 1 h.own (head_descends h fits) (omega arith) refl (omega arith) fits.own
+head_block-own h fits = word_of_field (head_table h) 12 OWN_KEY h.own (head_descends h fits) (omega arith) refl (omega arith) fits.own
 
-pub head_block-protect : (h : HeadFields) → FitsHead h → h.meta.protect < 2 ^ 32 → word (head_block h) 80 ≡ h.meta.protect
+pub head_block-protect : (h : HeadFields) → FitsHead h → h.meta.protect < 2 ^ 32 → word (head_block h) PROTECTION ≡ h.meta.protect
 unfolding head_block
-head_block-protect h fits small = word_of_field (head_table h) 8 80 h.meta.protect (head_descends h fits) (omega arith) refl (omega arith) small
+head_block-protect h fits small = word_of_field (head_table h) 8 PROTECTION h.meta.protect (head_descends h fits) (omega arith) refl (omega arith) small
 
-pub head_block-size : (h : HeadFields) → FitsHead h → size_of h.body < 2 ^ 32 → word (head_block h) 81 ≡ size_of h.body
+pub head_block-size : (h : HeadFields) → FitsHead h → size_of h.body < 2 ^ 32 → word (head_block h) SIZE ≡ size_of h.body
 unfolding head_block
-head_block-size h fits small = word_of_field (head_table h) 7 81 (size_of h.body) (head_descends h fits) (omega arith) refl (omega arith) small
+head_block-size h fits small = word_of_field (head_table h) 7 SIZE (size_of h.body) (head_descends h fits) (omega arith) refl (omega arith) small
 
 pub head_block-comment : (h : HeadFields) → FitsHead h
-    → (slice_index (head_block h) 328 ≡ length h.meta.comment) × (text_at (head_block h) 328 ≡ h.meta.comment)
+    → (slice_index (head_block h) COMMENT ≡ length h.meta.comment) × (text_at (head_block h) COMMENT ≡ h.meta.comment)
 unfolding head_block
-head_block-comment h fits = text_of_field (head_table h) 6 328 h.meta.comment (head_descends h fits) (omega arith) refl (omega arith)
+head_block-comment h fits = text_of_field (head_table h) 6 COMMENT h.meta.comment (head_descends h fits) (omega arith) refl (omega arith)
 
-pub head_block-stamp : (h : HeadFields) → FitsHead h → FitsStamp h.meta.stamp → stamp_at (head_block h) 105 ≡ h.meta.stamp
+pub head_block-stamp : (h : HeadFields) → FitsHead h → FitsStamp h.meta.stamp → stamp_at (head_block h) DATE ≡ h.meta.stamp
 unfolding head_block
-head_block-stamp h fits small = stamp_of_field (head_table h) 5 105 h.meta.stamp (head_descends h fits) (omega arith) refl (omega arith) small
+head_block-stamp h fits small = stamp_of_field (head_table h) 5 DATE h.meta.stamp (head_descends h fits) (omega arith) refl (omega arith) small
 
-pub head_block-name : (h : HeadFields) → FitsHead h → (slice_index (head_block h) 432 ≡ length h.name) × (text_at (head_block h) 432 ≡ h.name)
+pub head_block-name : (h : HeadFields) → FitsHead h → (slice_index (head_block h) NAME ≡ length h.name) × (text_at (head_block h) NAME ≡ h.name)
 unfolding head_block
-head_block-name h fits = text_of_field (head_table h) 4 432 h.name (head_descends h fits) (omega arith) refl (omega arith)
+head_block-name h fits = text_of_field (head_table h) 4 NAME h.name (head_descends h fits) (omega arith) refl (omega arith)
 
-pub head_block-next : (h : HeadFields) → FitsHead h → h.next < 2 ^ 32 → word (head_block h) 124 ≡ h.next
+pub head_block-next : (h : HeadFields) → FitsHead h → h.next < 2 ^ 32 → word (head_block h) NEXT_IN_CHAIN ≡ h.next
 unfolding head_block
-head_block-next h fits small = word_of_field (head_table h) 3 124 h.next (head_descends h fits) (omega arith) refl (omega arith) small
+head_block-next h fits small = word_of_field (head_table h) 3 NEXT_IN_CHAIN h.next (head_descends h fits) (omega arith) refl (omega arith) small
 
-pub head_block-parent : (h : HeadFields) → FitsHead h → word (head_block h) 125 ≡ h.parent
+pub head_block-parent : (h : HeadFields) → FitsHead h → word (head_block h) PARENT ≡ h.parent
 unfolding head_block
-head_block-parent h fits = word_of_field (head_table h) 2 125 h.parent (head_descends h fits) (omega arith) refl (omega arith) fits.parent
+head_block-parent h fits = word_of_field (head_table h) 2 PARENT h.parent (head_descends h fits) (omega arith) refl (omega arith) fits.parent
 
-pub head_block-ext : (h : HeadFields) → FitsHead h → ext_of h.body < 2 ^ 32 → word (head_block h) 126 ≡ ext_of h.body
+pub head_block-ext : (h : HeadFields) → FitsHead h → ext_of h.body < 2 ^ 32 → word (head_block h) EXTENSION ≡ ext_of h.body
 unfolding head_block
-head_block-ext h fits small = word_of_field (head_table h) 1 126 (ext_of h.body) (head_descends h fits) (omega arith) refl (omega arith) small
+head_block-ext h fits small = word_of_field (head_table h) 1 EXTENSION (ext_of h.body) (head_descends h fits) (omega arith) refl (omega arith) small
 
 secondary_small : (b : BodyFields) → secondary_of b < 2 ^ 32
 secondary_small (DirFields slots) = omega arith
 secondary_small (FileFields size table ext) = omega arith
 
-pub head_block-secondary : (h : HeadFields) → FitsHead h → word (head_block h) 127 ≡ secondary_of h.body
+pub head_block-secondary : (h : HeadFields) → FitsHead h → word (head_block h) SECONDARY_TYPE ≡ secondary_of h.body
 unfolding head_block
 head_block-secondary h fits =
-    word_of_field (head_table h) 0 127 (secondary_of h.body) (head_descends h fits) (omega arith) refl (omega arith) (secondary_small h.body)
+    word_of_field (head_table h) 0 SECONDARY_TYPE (secondary_of h.body) (head_descends h fits) (omega arith) refl (omega arith) (secondary_small h.body)
 
 -- what the header's meta, body, slots and pointers read as
 pub head_block-meta : (h : HeadFields) → FitsHead h → FitsMeta h.meta → meta_at (head_block h) ≡ h.meta
@@ -135,7 +139,7 @@ head_block-meta h fits small =
     let stamp = head_block-stamp h fits small.stamp in
     rw (comment, protect, stamp) refl
 
-body_reads : (b : List ℕ) (body : BodyFields) → word b 127 ≡ secondary_of body → word b 81 ≡ size_of body → word b 126 ≡ ext_of body
+body_reads : (b : List ℕ) (body : BodyFields) → word b SECONDARY_TYPE ≡ secondary_of body → word b SIZE ≡ size_of body → word b EXTENSION ≡ ext_of body
     → body_at b ≡ body_told body
 body_reads b (DirFields slots) kind size ext = rw kind refl
 body_reads b (FileFields n table x) kind size ext = rw (kind, size, ext) refl
@@ -144,21 +148,22 @@ pub head_block-body : (h : HeadFields) → FitsHead h → FitsBodyWords h.body �
 head_block-body h fits small =
     body_reads (head_block h) h.body (head_block-secondary h fits) (head_block-size h fits small.size) (head_block-ext h fits small.ext)
 
-pub head_block-slot : (h : HeadFields) (slots : List ℕ) (s : ℕ) → FitsHead h → h.body ≡ DirFields slots → s < 72 → slice_index slots s < 2 ^ 32
-    → word (head_block h) (6 + s) ≡ slice_index slots s
+pub head_block-slot : (h : HeadFields) (slots : List ℕ) (s : ℕ) → FitsHead h → h.body ≡ DirFields slots → s < SLOTS → slice_index slots s < 2 ^ 32
+    → word (head_block h) (FIRST_SLOT + s) ≡ slice_index slots s
 unfolding head_block
 head_block-slot h slots s fits e lt small =
-    let n : length slots ≡ 72 = rw e at fits.body in
-    words_of_field 5 (head_table h) 9 6 s slots (omega arith) (head_descends h fits) (omega arith) (ap table_of e) (omega arith) (omega arith) small
+    let n : length slots ≡ SLOTS = rw e at fits.body in
+    numbers_of_field CHECKSUM (head_table h) 9 FIRST_SLOT s slots (omega arith) (head_descends h fits) (omega arith) (ap table_of e) (omega arith) (omega arith)
+    ∙ long_number (slice_index slots s) small
 
 -- the number in pointer j of a file, or 0 past the last
-pointer_there : (h : HeadFields) (size : ℕ) (table : List ℕ) (ext j : ℕ) → FitsHead h → h.body ≡ FileFields size table ext → j < 72
-    → word (head_block h) (77 - j) ≡ big_number 4 (long (slice_index table j))
+pub head_block-pointer : (h : HeadFields) (size : ℕ) (table : List ℕ) (ext j : ℕ) → FitsHead h → h.body ≡ FileFields size table ext → j < POINTERS
+    → word (head_block h) (FIRST_POINTER - j) ≡ big_number 4 (long (slice_index table j))
 unfolding head_block
-pointer_there h size table ext j fits e lt =
-    let n : length table ≤ 72 = rw e at fits.body in
-    let from : (table_of h.body).0 ≡ 4 * (77 + 1 - length table) = ap (λ b. (table_of b).0) e in
-    pointer_number (head_table h) 9 77 j table (head_descends h fits) (omega arith) (ap table_of e) (omega arith) (omega arith) (omega arith)
+head_block-pointer h size table ext j fits e lt =
+    let n : length table ≤ POINTERS = rw e at fits.body in
+    let from : (table_of h.body).0 ≡ 4 * (FIRST_POINTER + 1 - length table) = ap (λ b. (table_of b).0) e in
+    pointer_number (head_table h) 9 FIRST_POINTER j table (head_descends h fits) (omega arith) (ap table_of e) (omega arith) (omega arith) (omega arith)
     (λ past. (
       inl (omega arith),
       (
@@ -196,53 +201,43 @@ pointer_there h size table ext j fits e lt =
       ),
     ))
 
-pub head_block-pointer : (h : HeadFields) (size : ℕ) (table : List ℕ) (ext j : ℕ) → FitsHead h → h.body ≡ FileFields size table ext → j < 72
-    → slice_index table j < 2 ^ 32
-    → word (head_block h) (77 - j) ≡ slice_index table j
-head_block-pointer h size table ext j fits e lt small = pointer_there h size table ext j fits e lt ∙ long_number (slice_index table j) small
-
--- the first data block stands in words 4 and 77
-first_there : (h : HeadFields) → FitsHead h → word (head_block h) 4 ≡ big_number 4 (long (first_of h.body))
+-- the first data block is named twice
+first_there : (h : HeadFields) → FitsHead h → word (head_block h) FIRST_DATA ≡ big_number 4 (long (first_of h.body))
 unfolding head_block
-first_there h fits = number_of_field (head_table h) 10 4 (first_of h.body) (head_descends h fits) (omega arith) refl (omega arith)
+first_there h fits = number_of_field (head_table h) 10 FIRST_DATA (first_of h.body) (head_descends h fits) (omega arith) refl (omega arith)
 
 first_of_file : (h : HeadFields) (size : ℕ) (table : List ℕ) (ext : ℕ) → FitsHead h → h.body ≡ FileFields size table ext
-    → word (head_block h) 4 ≡ word (head_block h) 77
+    → word (head_block h) FIRST_DATA ≡ word (head_block h) FIRST_POINTER
 first_of_file h size table ext fits e =
     first_there h fits
     ∙ ap (λ b. big_number 4 (long (first_of b))) e
-    ∙ sym (pointer_there h size table ext 0 fits e (omega arith))
+    ∙ sym (head_block-pointer h size table ext 0 fits e (omega arith))
 
-has_first_dir : (kind : Kind) (b : List ℕ) → word b 127 ≡ 2 → has_first kind b ≡ true
+has_first_dir : (kind : Kind) (b : List ℕ) → word b SECONDARY_TYPE ≡ ST_DIR → has_first kind b ≡ true
 has_first_dir Ofs b e = rw e refl
 has_first_dir Ffs b e = refl
 
-has_first_file : (kind : Kind) (b : List ℕ) → word b 4 ≡ word b 77 → has_first kind b ≡ true
-has_first_file Ofs b e = rw (eq-eqb (word b 4) (word b 77) e) (or-true _)
+has_first_file : (kind : Kind) (b : List ℕ) → word b FIRST_DATA ≡ word b FIRST_POINTER → has_first kind b ≡ true
+has_first_file Ofs b e = rw (eq-eqb (word b FIRST_DATA) (word b FIRST_POINTER) e) (or-true _)
 has_first_file Ffs b e = refl
 
 first_holds : (kind : Kind) (h : HeadFields) (body : BodyFields) → FitsHead h → h.body ≡ body → has_first kind (head_block h) ≡ true
 first_holds kind h (DirFields slots) fits e = has_first_dir kind (head_block h) (head_block-secondary h fits ∙ ap secondary_of e)
 first_holds kind h (FileFields size table ext) fits e = has_first_file kind (head_block h) (first_of_file h size table ext fits e)
 
-types_hold : (b : List ℕ) (body : BodyFields) → word b 0 ≡ 2 → word b 127 ≡ secondary_of body → has_type b ≡ true
+types_hold : (b : List ℕ) (body : BodyFields) → word b TYPE ≡ T_SHORT → word b SECONDARY_TYPE ≡ secondary_of body → has_type b ≡ true
 types_hold b (DirFields slots) t e = rw (t, e) refl
 types_hold b (FileFields size table ext) t e = rw (t, e) refl
 
-no_link : (b : List ℕ) (body : BodyFields) → word b 127 ≡ secondary_of body → not (is_link (word b 127)) ≡ true
+no_link : (b : List ℕ) (body : BodyFields) → word b SECONDARY_TYPE ≡ secondary_of body → not (is_link (word b SECONDARY_TYPE)) ≡ true
 no_link b (DirFields slots) e = rw e refl
 no_link b (FileFields size table ext) e = rw e refl
 
-both_true : (x y : Bool) → x ≡ true → y ≡ true → (x && y) ≡ true
-both_true x y p q = rw (p, q) refl
-
-name_there : (h : HeadFields) → FitsHead h → is_name_at (head_block h) 432 ≡ true
+name_there : (h : HeadFields) → FitsHead h → is_name_at (head_block h) NAME ≡ true
 name_there h fits =
     let name = head_block-name h fits in
     let short = name_short h.name fits.name in
-    both_true (nat_le (slice_index (head_block h) 432) 30) (is_name (text_at (head_block h) 432))
-    (le-leb (slice_index (head_block h) 432) 30 (omega (arith, name.0)))
-    (ap is_name name.1 ∙ fits.name)
+    both_true (le-leb (slice_index (head_block h) NAME) 30 (omega (arith, name.0))) (ap is_name name.1 ∙ fits.name)
 
 -- a header that was written is read
 pub head_block-form : (kind : Kind) (h : HeadFields) → FitsHead h → first_cause (head_form kind h.own h.parent (slot_of h.name) (head_block h)) ≡ None
@@ -256,15 +251,15 @@ head_block-form kind h fits =
         (
           no_link b h.body (head_block-secondary h fits),
           (
-            eq-eqb (word b 1) h.own (head_block-own h fits),
+            eq-eqb (word b OWN_KEY) h.own (head_block-own h fits),
             (
-              eq-eqb (word b 125) h.parent (head_block-parent h fits),
+              eq-eqb (word b PARENT) h.parent (head_block-parent h fits),
               (
                 name_there h fits,
                 (
-                  le-leb (slice_index b 328) 79 (omega (arith, comment.0, fits.comment)),
+                  le-leb (slice_index b COMMENT) 79 (omega (arith, comment.0, fits.comment)),
                   (
-                    eq-eqb (slot_of (text_at b 432)) (slot_of h.name) (ap slot_of (head_block-name h fits).1),
+                    eq-eqb (slot_of (text_at b NAME)) (slot_of h.name) (ap slot_of (head_block-name h fits).1),
                     (first_holds kind h h.body fits refl, tt),
                   ),
                 ),

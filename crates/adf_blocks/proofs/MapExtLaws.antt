@@ -5,30 +5,31 @@ use Rattle.std.proofs.lemmas.Bool.{cases_lt}
 use Rattle.std.proofs.lemmas.List.{get_or_past}
 use Rattle.adf_fields.specs.Words.{word}
 use Rattle.adf_fields.proofs.WordLaws.{length_longs}
+use Rattle.adf_blocks.specs.declared.layout.TheConstants.{MAP_EXT_FIRST, MAP_EXT_NEXT, MAP_EXT_PAGES}
 use Rattle.adf_blocks.specs.Fields.{Descends, block_of_fields}
 use Rattle.adf_blocks.specs.MapExtBlock.{map_ext_block, map_ext_table}
 use Rattle.adf_blocks.proofs.FieldLaws.{fields_between, fields_long, fields_longs, length-block_of_fields, long_number}
 
 -- the fields fit side by side
-pub map_ext_descends : (pages : List ℕ) (next : ℕ) → length pages ≤ 127 → Descends 512 (map_ext_table pages next)
+pub map_ext_descends : (pages : List ℕ) (next : ℕ) → length pages ≤ MAP_EXT_PAGES → Descends 512 (map_ext_table pages next)
 map_ext_descends pages next few =
     let m = length_longs pages in
     (omega arith, (omega arith, tt))
 
 -- a bitmap extension block is a whole block
-pub length_map_ext_block : (pages : List ℕ) (next : ℕ) → length pages ≤ 127 → length (map_ext_block pages next) ≡ 512
+pub length_map_ext_block : (pages : List ℕ) (next : ℕ) → length pages ≤ MAP_EXT_PAGES → length (map_ext_block pages next) ≡ 512
 unfolding map_ext_block
 length_map_ext_block pages next few = length-block_of_fields 512 (map_ext_table pages next) (omega arith) (map_ext_descends pages next few)
 
 -- a page that is named, or 0 past the last
-pub map_ext_block-page : (pages : List ℕ) (next j : ℕ) → length pages ≤ 127 → j < 127 → slice_index pages j < 2 ^ 32
+pub map_ext_block-page : (pages : List ℕ) (next j : ℕ) → length pages ≤ MAP_EXT_PAGES → j < MAP_EXT_PAGES → slice_index pages j < 2 ^ 32
     → word (map_ext_block pages next) j ≡ slice_index pages j
 unfolding map_ext_block
 map_ext_block-page pages next j few lt small = elim (cases_lt j (length pages)) [
   | inl in_pages ↦
-      let z : j ≡ 0 + j = omega arith in
+      let z : j ≡ MAP_EXT_FIRST + j = omega arith in
       ap (word (block_of_fields (map_ext_table pages next))) z
-      ∙ fields_longs (map_ext_table pages next) 1 0 j pages (map_ext_descends pages next few) (omega arith) refl in_pages
+      ∙ fields_longs (map_ext_table pages next) 1 MAP_EXT_FIRST j pages (map_ext_descends pages next few) (omega arith) refl in_pages
       ∙ long_number (slice_index pages j) small
   | inr past ↦
       let m = length_longs pages in
@@ -37,7 +38,7 @@ map_ext_block-page pages next j few lt small = elim (cases_lt j (length pages)) 
 ]
 
 -- the next bitmap extension block
-pub map_ext_block-next : (pages : List ℕ) (next : ℕ) → length pages ≤ 127 → next < 2 ^ 32 → word (map_ext_block pages next) 127 ≡ next
+pub map_ext_block-next : (pages : List ℕ) (next : ℕ) → length pages ≤ MAP_EXT_PAGES → next < 2 ^ 32 → word (map_ext_block pages next) MAP_EXT_NEXT ≡ next
 unfolding map_ext_block
 map_ext_block-next pages next few small =
-    fields_long (map_ext_table pages next) 0 127 next (map_ext_descends pages next few) (omega arith) refl ∙ long_number next small
+    fields_long (map_ext_table pages next) 0 MAP_EXT_NEXT next (map_ext_descends pages next few) (omega arith) refl ∙ long_number next small

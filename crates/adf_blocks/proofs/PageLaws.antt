@@ -1,38 +1,44 @@
 -- What the block of a bitmap page holds.
-use Rattle.std.proofs.Common.{◌≡◌, ◌≤◌, ◌<◌, ℕ, ◌+◌, ◌*◌, ◌^◌, List, [], ◌∷◌, length, refl, arith, ◌∙◌}
+use Rattle.std.proofs.Common.{◌≡◌, ◌≤◌, ◌<◌, ℕ, ◌+◌, ◌*◌, ◌^◌, List, length, refl, arith, ◌∙◌}
 use Rattle.std.specs.Prelude.{None, slice_index, IsBitSet, ◌/◌, ◌%◌, ◌↔◌}
 use Rattle.adf_fields.specs.Words.{block, word, with_block, long_sum, checksum}
 use Rattle.adf_fields.proofs.WordLaws.{block_written, length-with_bytes, length_big_bytes, length_longs, long_sum-sealed}
+use Rattle.adf_blocks.specs.declared.layout.TheConstants.{PAGE_BITS, PAGE_CHECKSUM, PAGE_FIRST}
 use Rattle.adf_blocks.specs.Forms.{first_cause}
-use Rattle.adf_blocks.specs.Fields.{block_of_fields, long, longs}
-use Rattle.adf_blocks.specs.PageBlock.{IsFreeBit, page_block, page_form}
-use Rattle.adf_blocks.proofs.FieldLaws.{length-block_of_fields, words_of_field}
+use Rattle.adf_blocks.specs.Fields.{Descends, block_of_fields, long}
+use Rattle.adf_blocks.specs.PageBlock.{IsFreeBit, page_block, page_form, page_table}
+use Rattle.adf_blocks.proofs.FieldLaws.{length-block_of_fields, long_number, numbers_of_field}
+
+-- the words of bits fit behind the checksum
+page_descends : (bits : List ℕ) → length bits ≡ 127 → Descends 512 (page_table bits)
+page_descends bits n =
+    let m = length_longs bits in
+    (omega arith, tt)
 
 -- a page is a whole block
 pub length_page_block : (bits : List ℕ) → length bits ≡ 127 → length (page_block bits) ≡ 512
 unfolding page_block
 length_page_block bits n =
-    let m = length_longs bits in
-    let len = length-block_of_fields 512 ((4 * 1, longs bits) ∷ []) (omega arith) (omega arith, tt) in
-    length-with_bytes (block_of_fields ((4 * 1, longs bits) ∷ [])) (4 * 0) (long (checksum 0 (block_of_fields ((4 * 1, longs bits) ∷ []))))
-    (omega (arith, length_big_bytes 4 (checksum 0 (block_of_fields ((4 * 1, longs bits) ∷ []))))) ∙ len
+    let len = length-block_of_fields 512 (page_table bits) (omega arith) (page_descends bits n) in
+    length-with_bytes (block_of_fields (page_table bits)) (4 * PAGE_CHECKSUM) (long (checksum PAGE_CHECKSUM (block_of_fields (page_table bits))))
+    (omega (arith, length_big_bytes 4 (checksum PAGE_CHECKSUM (block_of_fields (page_table bits))))) ∙ len
 
 -- the sum of a page
 pub page_block-sum : (bits : List ℕ) → length bits ≡ 127 → long_sum (page_block bits) ≡ 0
 unfolding page_block
 page_block-sum bits n =
-    let m = length_longs bits in
-    long_sum-sealed 0 (block_of_fields ((4 * 1, longs bits) ∷ [])) (omega arith) (length-block_of_fields 512 ((4 * 1, longs bits) ∷ []) (omega arith) (omega arith, tt))
+    long_sum-sealed PAGE_CHECKSUM (block_of_fields (page_table bits)) (omega arith) (length-block_of_fields 512 (page_table bits) (omega arith) (page_descends bits n))
 
 -- a word of a page's bits
-pub page_block-word : (bits : List ℕ) (i : ℕ) → length bits ≡ 127 → i < 127 → slice_index bits i < 2 ^ 32 → word (page_block bits) (1 + i) ≡ slice_index bits i
+pub page_block-word : (bits : List ℕ) (i : ℕ) → length bits ≡ 127 → i < 127 → slice_index bits i < 2 ^ 32
+    → word (page_block bits) (PAGE_FIRST + i) ≡ slice_index bits i
 unfolding page_block
 page_block-word bits i n lt small =
-    let m = length_longs bits in
-    words_of_field 0 ((4 * 1, longs bits) ∷ []) 0 1 i bits (omega arith) (omega arith, tt) (omega arith) refl (omega arith) (omega arith) small
+    numbers_of_field PAGE_CHECKSUM (page_table bits) 0 PAGE_FIRST i bits (omega arith) (page_descends bits n) (omega arith) refl (omega arith) (omega arith)
+    ∙ long_number (slice_index bits i) small
 
 -- a bit of a page
-pub page_block-bit : (bits : List ℕ) (bit : ℕ) → length bits ≡ 127 → bit < 4064 → slice_index bits (bit / 32) < 2 ^ 32
+pub page_block-bit : (bits : List ℕ) (bit : ℕ) → length bits ≡ 127 → bit < PAGE_BITS → slice_index bits (bit / 32) < 2 ^ 32
     → IsFreeBit (page_block bits) bit ↔ IsBitSet (slice_index bits (bit / 32)) (bit % 32)
 page_block-bit bits bit n lt small =
     let there = page_block-word bits (bit / 32) n (omega arith) small in

@@ -5,10 +5,13 @@ use Rattle.std.proofs.lemmas.Bool.{le-leb, cases_lt}
 use Rattle.std.proofs.lemmas.List.{get_or_past}
 use Rattle.adf_fields.specs.Words.{block, word, with_block, long_sum}
 use Rattle.adf_fields.proofs.WordLaws.{length_longs, block_written}
+use Rattle.adf_blocks.specs.declared.layout.TheConstants.{ALTERED, BITMAP_FLAG, CHECKSUM, CREATED, DATE, FIRST_MAP_EXT, FIRST_PAGE, FIRST_SLOT, HASH_SIZE}
+use Rattle.adf_blocks.specs.declared.layout.TheConstants.{NAME, ROOT_PAGES, SECONDARY_TYPE, SLOTS, ST_ROOT, TYPE, T_SHORT, VALID}
 use Rattle.adf_blocks.specs.Forms.{first_cause, text_at}
 use Rattle.adf_blocks.specs.Fields.{Descends}
 use Rattle.adf_blocks.specs.RootBlock.{FitsRoot, FitsStamps, RootFields, root_block, root_form, root_table, stamps_at}
-use Rattle.adf_blocks.proofs.FieldLaws.{length_sealed_fields, stamp_of_field, sum_of_fields, text_of_field, word_between, word_of_field, words_of_field}
+use Rattle.adf_blocks.proofs.FieldLaws.{length_sealed_fields, long_number, numbers_of_field, stamp_of_field}
+use Rattle.adf_blocks.proofs.FieldLaws.{sum_of_fields, text_of_field, word_between, word_of_field}
 
 -- the fields of a root fit side by side
 pub root_descends : (r : RootFields) → FitsRoot r → Descends 512 (root_table r)
@@ -37,45 +40,50 @@ pub root_block-sum : (r : RootFields) → FitsRoot r → long_sum (root_block r)
 unfolding root_block
 root_block-sum r h = sum_of_fields (root_table r) (root_descends r h)
 
-pub root_block-type : (r : RootFields) → FitsRoot r → word (root_block r) 0 ≡ 2
+pub root_block-type : (r : RootFields) → FitsRoot r → word (root_block r) TYPE ≡ T_SHORT
 unfolding root_block
-root_block-type r h = word_of_field (root_table r) 10 0 2 (root_descends r h) (omega arith) refl (omega arith) (omega arith)
+root_block-type r h = word_of_field (root_table r) 10 TYPE T_SHORT (root_descends r h) (omega arith) refl (omega arith) (omega arith)
 
-pub root_block-secondary : (r : RootFields) → FitsRoot r → word (root_block r) 127 ≡ 1
+pub root_block-secondary : (r : RootFields) → FitsRoot r → word (root_block r) SECONDARY_TYPE ≡ ST_ROOT
 unfolding root_block
-root_block-secondary r h = word_of_field (root_table r) 0 127 1 (root_descends r h) (omega arith) refl (omega arith) (omega arith)
+root_block-secondary r h = word_of_field (root_table r) 0 SECONDARY_TYPE ST_ROOT (root_descends r h) (omega arith) refl (omega arith) (omega arith)
 
-pub root_block-valid : (r : RootFields) → FitsRoot r → word (root_block r) 78 ≡ 0xFFFFFFFF
+pub root_block-valid : (r : RootFields) → FitsRoot r → word (root_block r) BITMAP_FLAG ≡ VALID
 unfolding root_block
-root_block-valid r h = word_of_field (root_table r) 7 78 0xFFFFFFFF (root_descends r h) (omega arith) refl (omega arith) (omega arith)
+root_block-valid r h = word_of_field (root_table r) 7 BITMAP_FLAG VALID (root_descends r h) (omega arith) refl (omega arith) (omega arith)
 
 -- a slot of a root
-pub root_block-slot : (r : RootFields) (s : ℕ) → FitsRoot r → s < 72 → slice_index r.slots s < 2 ^ 32 → word (root_block r) (6 + s) ≡ slice_index r.slots s
+pub root_block-slot : (r : RootFields) (s : ℕ) → FitsRoot r → s < SLOTS → slice_index r.slots s < 2 ^ 32
+    → word (root_block r) (FIRST_SLOT + s) ≡ slice_index r.slots s
 unfolding root_block
 root_block-slot r s h lt small =
-    words_of_field 5 (root_table r) 8 6 s r.slots (omega arith) (root_descends r h) (omega arith) refl (omega (arith, h.slots)) (omega arith) small
+    numbers_of_field CHECKSUM (root_table r) 8 FIRST_SLOT s r.slots (omega arith) (root_descends r h) (omega arith) refl (omega (arith, h.slots)) (omega arith)
+    ∙ long_number (slice_index r.slots s) small
 
-pub root_block-hash_size : (r : RootFields) → FitsRoot r → word (root_block r) 3 ≡ 72
+pub root_block-hash_size : (r : RootFields) → FitsRoot r → word (root_block r) HASH_SIZE ≡ SLOTS
 unfolding root_block
-root_block-hash_size r h = word_of_field (root_table r) 9 3 72 (root_descends r h) (omega arith) refl (omega arith) (omega arith)
+root_block-hash_size r h = word_of_field (root_table r) 9 HASH_SIZE SLOTS (root_descends r h) (omega arith) refl (omega arith) (omega arith)
 
-pub root_block-label : (r : RootFields) → FitsRoot r → (slice_index (root_block r) 432 ≡ length r.label) × (text_at (root_block r) 432 ≡ r.label)
+pub root_block-label : (r : RootFields) → FitsRoot r → (slice_index (root_block r) NAME ≡ length r.label) × (text_at (root_block r) NAME ≡ r.label)
 unfolding root_block
-root_block-label r h = text_of_field (root_table r) 3 432 r.label (root_descends r h) (omega arith) refl (omega arith)
+root_block-label r h = text_of_field (root_table r) 3 NAME r.label (root_descends r h) (omega arith) refl (omega arith)
 
 -- the text of a root's label
-pub root_block-text : (r : RootFields) → FitsRoot r → text_at (root_block r) 432 ≡ r.label
+pub root_block-text : (r : RootFields) → FitsRoot r → text_at (root_block r) NAME ≡ r.label
 root_block-text r h = (root_block-label r h).1
 
 -- the bitmap pages of a root, or 0 past the last
-pub root_block-page : (r : RootFields) (i : ℕ) → FitsRoot r → i < 25 → slice_index r.pages i < 2 ^ 32 → word (root_block r) (79 + i) ≡ slice_index r.pages i
+pub root_block-page : (r : RootFields) (i : ℕ) → FitsRoot r → i < ROOT_PAGES → slice_index r.pages i < 2 ^ 32
+    → word (root_block r) (FIRST_PAGE + i) ≡ slice_index r.pages i
 unfolding root_block
 root_block-page r i h lt small = elim (cases_lt i (length r.pages)) [
-  | inl in_pages ↦ words_of_field 5 (root_table r) 6 79 i r.pages (omega arith) (root_descends r h) (omega arith) refl in_pages (omega arith) small
+  | inl in_pages ↦
+      numbers_of_field CHECKSUM (root_table r) 6 FIRST_PAGE i r.pages (omega arith) (root_descends r h) (omega arith) refl in_pages (omega arith)
+      ∙ long_number (slice_index r.pages i) small
   | inr past ↦
       let pages = length_longs r.pages in
       let slots = length_longs r.slots in
-      word_between (root_table r) (79 + i) (root_descends r h) (omega arith) (
+      word_between (root_table r) (FIRST_PAGE + i) (root_descends r h) (omega arith) (
         inl (omega arith),
         (
           inl (omega arith),
@@ -106,24 +114,24 @@ root_block-page r i h lt small = elim (cases_lt i (length r.pages)) [
 ]
 
 -- the first bitmap extension block of a root
-pub root_block-map_ext : (r : RootFields) → FitsRoot r → r.map_ext < 2 ^ 32 → word (root_block r) 104 ≡ r.map_ext
+pub root_block-map_ext : (r : RootFields) → FitsRoot r → r.map_ext < 2 ^ 32 → word (root_block r) FIRST_MAP_EXT ≡ r.map_ext
 unfolding root_block
-root_block-map_ext r h small = word_of_field (root_table r) 5 104 r.map_ext (root_descends r h) (omega arith) refl (omega arith) small
+root_block-map_ext r h small = word_of_field (root_table r) 5 FIRST_MAP_EXT r.map_ext (root_descends r h) (omega arith) refl (omega arith) small
 
 -- the dates of a root
 pub root_block-stamps : (r : RootFields) → FitsRoot r → FitsStamps r.stamps → stamps_at (root_block r) ≡ r.stamps
 unfolding root_block
 root_block-stamps r h fits =
-    let root = stamp_of_field (root_table r) 4 105 r.stamps.root (root_descends r h) (omega arith) refl (omega arith) fits.root in
-    let altered = stamp_of_field (root_table r) 2 118 r.stamps.altered (root_descends r h) (omega arith) refl (omega arith) fits.altered in
-    let created = stamp_of_field (root_table r) 1 121 r.stamps.created (root_descends r h) (omega arith) refl (omega arith) fits.created in
+    let root = stamp_of_field (root_table r) 4 DATE r.stamps.root (root_descends r h) (omega arith) refl (omega arith) fits.root in
+    let altered = stamp_of_field (root_table r) 2 ALTERED r.stamps.altered (root_descends r h) (omega arith) refl (omega arith) fits.altered in
+    let created = stamp_of_field (root_table r) 1 CREATED r.stamps.created (root_descends r h) (omega arith) refl (omega arith) fits.created in
     rw (root, altered, created) refl
 
 -- a root that was written is read
 pub root_block-form : (r : RootFields) → FitsRoot r → first_cause (root_form (root_block r)) ≡ None
 root_block-form r h =
-    let len : nat_le (slice_index (root_block r) 432) 30 ≡ true =
-    le-leb (slice_index (root_block r) 432) 30 (omega (arith, (root_block-label r h).0, h.label)) in
+    let len : nat_le (slice_index (root_block r) NAME) 30 ≡ true =
+    le-leb (slice_index (root_block r) NAME) 30 (omega (arith, (root_block-label r h).0, h.label)) in
     rw (root_block-sum r h, root_block-type r h, root_block-secondary r h, len, root_block-hash_size r h, root_block-valid r h) refl
 
 -- a root is a whole block

@@ -1,7 +1,9 @@
 -- The texts and numbers of causes.
 use Rattle.std.specs.Prelude.{ℕ, List, codes}
 use Rattle.adf_blocks.specs.declared.cause.Cause.{Cause}
-use Rattle.adf_blocks.specs.declared.cause.Cause.TheVariants.{BadSize, NotDos, International, DirCache, OutOfRange, Taken, BadSum, BadType, Link, BadOwnKey, BadParent, BadName, BadComment, WrongSlot, BadFirst, SameName, BadHashSize, NotValidated, ShortFile, BadData, LostBlock, OwnedFree, NoMemory}
+use Rattle.adf_blocks.specs.declared.cause.Cause.TheVariants.{BadSize, NotDos, International, DirCache, OutOfRange, Taken, BadSum, BadType, Link, BadOwnKey}
+use Rattle.adf_blocks.specs.declared.cause.Cause.TheVariants.{BadParent, BadName, BadComment, WrongSlot, BadFirst, SameName, BadHashSize, NotValidated}
+use Rattle.adf_blocks.specs.declared.cause.Cause.TheVariants.{ShortFile, BadData, LostBlock, OwnedFree, NoMemory}
 
 -- what is printed of a cause
 abbrev pub cause_text : Cause → List ℕ

@@ -3,6 +3,7 @@ use Rattle.std.specs.Prelude.{◌≤◌, ◌<◌, ◌*◌, ◌^◌, ℕ, ◌==�
 use Rattle.adf_fields.specs.Words.{word, long_sum, sealed}
 use Rattle.adf_blocks.specs.declared.cause.Cause.TheVariants.{BadSum, BadType, BadData}
 use Rattle.adf_blocks.specs.declared.«data».DataOut.{DataOut}
+use Rattle.adf_blocks.specs.declared.layout.TheConstants.{CHECKSUM, DATA_BYTES, DATA_HEAD, DATA_HELD, DATA_NEXT, DATA_NUMBER, TYPE, T_DATA}
 use Rattle.adf_blocks.specs.Fields.{Field, block_of_fields, long}
 use Rattle.adf_blocks.specs.Forms.{Clause}
 
@@ -10,8 +11,8 @@ use Rattle.adf_blocks.specs.Forms.{Clause}
 abbrev pub data_form : ℕ → ℕ → ℕ → ℕ → List ℕ → List Clause
 data_form head number held next b =
     (long_sum b == 0, BadSum)
-    ∷ (word b 0 == 8, BadType)
-    ∷ ((word b 1 == head) && (word b 2 == number) && (word b 3 == held) && (word b 4 == next), BadData)
+    ∷ (word b TYPE == T_DATA, BadType)
+    ∷ ((word b DATA_HEAD == head) && (word b DATA_NUMBER == number) && (word b DATA_HELD == held) && (word b DATA_NEXT == next), BadData)
     ∷ []
 
 -- the fields of a data block
@@ -28,17 +29,17 @@ data_fields d = record { head = d.head; number = d.number; next = d.next; bytes 
 -- the fields of a data block, the last first
 abbrev pub data_table : DataFields → List Field
 data_table d =
-    (24, d.bytes)
-    ∷ (4 * 4, long d.next)
-    ∷ (4 * 3, long (length d.bytes))
-    ∷ (4 * 2, long d.number)
-    ∷ (4 * 1, long d.head)
-    ∷ (4 * 0, long 8)
+    (DATA_BYTES, d.bytes)
+    ∷ (4 * DATA_NEXT, long d.next)
+    ∷ (4 * DATA_HELD, long (length d.bytes))
+    ∷ (4 * DATA_NUMBER, long d.number)
+    ∷ (4 * DATA_HEAD, long d.head)
+    ∷ (4 * TYPE, long T_DATA)
     ∷ []
 
 -- the block of a data block with these fields
 unfoldable pub data_block : DataFields → List ℕ
-data_block d = sealed 5 (block_of_fields (data_table d))
+data_block d = sealed CHECKSUM (block_of_fields (data_table d))
 
 -- fields that a data block has room for
 pub record FitsData (d : DataFields) : Type 0 where

@@ -12,20 +12,23 @@ use Rattle.adf_blocks.specs.declared.head.HeadBody.TheVariants.{Dir, File}
 use Rattle.adf_blocks.specs.declared.head_out.HeadOut.{HeadOut}
 use Rattle.adf_blocks.specs.declared.head_out.HeadOutBody.{HeadOutBody}
 use Rattle.adf_blocks.specs.declared.head_out.HeadOutBody.TheVariants.{Dir as DirOut, File as FileOut}
+use Rattle.adf_blocks.specs.declared.layout.TheConstants.{CHECKSUM, COMMENT, DATE, EXTENSION, FIRST_DATA, FIRST_POINTER, FIRST_SLOT, NAME, NEXT_IN_CHAIN}
+use Rattle.adf_blocks.specs.declared.layout.TheConstants.{OWN_KEY, PARENT, POINTERS, POINTER_COUNT, PROTECTION, SECONDARY_TYPE, SIZE, SLOTS, ST_DIR, ST_FILE}
+use Rattle.adf_blocks.specs.declared.layout.TheConstants.{ST_LINK_DIR, ST_LINK_FILE, ST_SOFT_LINK, TYPE, T_SHORT}
 use Rattle.adf_blocks.specs.Fields.{Field, FitsStamp, downwards, block_of_fields, long, longs, stamp, text}
 use Rattle.adf_blocks.specs.Forms.{Clause, stamp_at, text_at}
 
 -- the secondary types of the three links: soft, hard to a directory, hard to a file
 abbrev pub is_link : ℕ → Bool
-is_link t = (t == 3) || (t == 4) || (t == 0xFFFFFFFC)
+is_link t = (t == ST_SOFT_LINK) || (t == ST_LINK_DIR) || (t == ST_LINK_FILE)
 
 -- the secondary types of a directory and a file
 abbrev pub is_entry : ℕ → Bool
-is_entry t = (t == 2) || (t == 0xFFFFFFFD)
+is_entry t = (t == ST_DIR) || (t == ST_FILE)
 
 -- the primary type of a header, and the secondary type of an entry or a link
 abbrev pub has_type : List ℕ → Bool
-has_type b = (word b 0 == 2) && (is_entry (word b 127) || is_link (word b 127))
+has_type b = (word b TYPE == T_SHORT) && (is_entry (word b SECONDARY_TYPE) || is_link (word b SECONDARY_TYPE))
 
 -- the text at a byte is a name
 abbrev pub is_name_at : List ℕ → ℕ → Bool
@@ -35,39 +38,42 @@ abbrev pub is_ofs : Kind → Bool
 is_ofs Ofs = true
 is_ofs Ffs = false
 
--- word 4 of an OFS file that is not empty is its first data block
+-- an OFS file that is not empty names its first data block twice
 abbrev pub has_first : Kind → List ℕ → Bool
-has_first kind b = not (is_ofs kind && (word b 127 == 0xFFFFFFFD) && not (word b 81 == 0)) || (word b 4 == word b 77)
+has_first kind b =
+    not (is_ofs kind && (word b SECONDARY_TYPE == ST_FILE) && not (word b SIZE == 0))
+    || (word b FIRST_DATA == word b FIRST_POINTER)
 
 -- what a header holds at block `own`, in the chain of a slot of the directory whose block is `parent`
 abbrev pub head_form : Kind → ℕ → ℕ → ℕ → List ℕ → List Clause
 head_form kind own parent slot b =
     (long_sum b == 0, BadSum)
     ∷ (has_type b, BadType)
-    ∷ (not (is_link (word b 127)), Link)
-    ∷ (word b 1 == own, BadOwnKey)
-    ∷ (word b 125 == parent, BadParent)
-    ∷ (is_name_at b 432, BadName)
-    ∷ (nat_le (slice_index b 328) 79, BadComment)
-    ∷ (slot_of (text_at b 432) == slot, WrongSlot)
+    ∷ (not (is_link (word b SECONDARY_TYPE)), Link)
+    ∷ (word b OWN_KEY == own, BadOwnKey)
+    ∷ (word b PARENT == parent, BadParent)
+    ∷ (is_name_at b NAME, BadName)
+    ∷ (nat_le (slice_index b COMMENT) 79, BadComment)
+    ∷ (slot_of (text_at b NAME) == slot, WrongSlot)
     ∷ (has_first kind b, BadFirst)
     ∷ []
 
 -- what holds of every header that was read
 pub record IsHead (b : List ℕ) : Type 0 where
-  pub name_len : slice_index b 432 ≤ 30
-  pub name : is_name (text_at b 432) ≡ true
-  pub comment_len : slice_index b 328 ≤ 79
+  pub name_len : slice_index b NAME ≤ 30
+  pub name : is_name (text_at b NAME) ≡ true
+  pub comment_len : slice_index b COMMENT ≤ 79
 
 -- what a header has beside its name and its body
 abbrev pub meta_at : List ℕ → Meta
-meta_at b = record { comment = text_at b 328; protect = word b 80; stamp = stamp_at b 105 }
+meta_at b = record { comment = text_at b COMMENT; protect = word b PROTECTION; stamp = stamp_at b DATE }
 
 -- what a header has by its secondary type
 abbrev pub body_at : List ℕ → HeadBody
-body_at b = if word b 127 == 2 then Dir else File (word b 81) (word b 126)
+body_at b = if word b SECONDARY_TYPE == ST_DIR then Dir else File (word b SIZE) (word b EXTENSION)
 
--- the fields of a header that depend on its type: of a directory the first header of each slot's chain; of a file its size, the first of its data blocks and its first extension block
+-- the fields of a header that depend on its type: of a directory the first header of each slot's chain; of a file its size, the first of its
+-- data blocks and its first extension block
 pub data BodyFields : Type 0 where
   DirFields : (slots : List ℕ) → BodyFields
   FileFields : (size : ℕ) (table : List ℕ) (ext : ℕ) → BodyFields
@@ -99,10 +105,10 @@ abbrev pub first_of : BodyFields → ℕ
 first_of (DirFields slots) = 0
 first_of (FileFields size table ext) = slice_index table 0
 
--- words 6 to 77: the slots, or the pointers from word 77 down
+-- the slots, or the pointers from FIRST_POINTER down
 abbrev pub table_of : BodyFields → Field
-table_of (DirFields slots) = (4 * 6, longs slots)
-table_of (FileFields size table ext) = downwards 77 table
+table_of (DirFields slots) = (4 * FIRST_SLOT, longs slots)
+table_of (FileFields size table ext) = downwards FIRST_POINTER table
 
 abbrev pub size_of : BodyFields → ℕ
 size_of (DirFields slots) = 0
@@ -115,41 +121,41 @@ ext_of (FileFields size table ext) = ext
 
 -- the secondary type
 abbrev pub secondary_of : BodyFields → ℕ
-secondary_of (DirFields slots) = 2
-secondary_of (FileFields size table ext) = 0xFFFFFFFD
+secondary_of (DirFields slots) = ST_DIR
+secondary_of (FileFields size table ext) = ST_FILE
 
 -- the fields of a header, the last first
 abbrev pub head_table : HeadFields → List Field
 head_table h =
-    (4 * 127, long (secondary_of h.body))
-    ∷ (4 * 126, long (ext_of h.body))
-    ∷ (4 * 125, long h.parent)
-    ∷ (4 * 124, long h.next)
-    ∷ (432, text h.name)
-    ∷ (4 * 105, stamp h.meta.stamp)
-    ∷ (328, text h.meta.comment)
-    ∷ (4 * 81, long (size_of h.body))
-    ∷ (4 * 80, long h.meta.protect)
+    (4 * SECONDARY_TYPE, long (secondary_of h.body))
+    ∷ (4 * EXTENSION, long (ext_of h.body))
+    ∷ (4 * PARENT, long h.parent)
+    ∷ (4 * NEXT_IN_CHAIN, long h.next)
+    ∷ (NAME, text h.name)
+    ∷ (4 * DATE, stamp h.meta.stamp)
+    ∷ (COMMENT, text h.meta.comment)
+    ∷ (4 * SIZE, long (size_of h.body))
+    ∷ (4 * PROTECTION, long h.meta.protect)
     ∷ table_of h.body
-    ∷ (4 * 4, long (first_of h.body))
-    ∷ (4 * 2, long (count_of h.body))
-    ∷ (4 * 1, long h.own)
-    ∷ (4 * 0, long 2)
+    ∷ (4 * FIRST_DATA, long (first_of h.body))
+    ∷ (4 * POINTER_COUNT, long (count_of h.body))
+    ∷ (4 * OWN_KEY, long h.own)
+    ∷ (4 * TYPE, long T_SHORT)
     ∷ []
 
 -- the block of a header with these fields
 unfoldable pub head_block : HeadFields → List ℕ
-head_block h = sealed 5 (block_of_fields (head_table h))
+head_block h = sealed CHECKSUM (block_of_fields (head_table h))
 
 -- pointers that a header has room for
 abbrev pub FitsTable : BodyFields → Type 0
 FitsTable (DirFields slots) = Unit {0}
-FitsTable (FileFields size table ext) = length table ≤ 72
+FitsTable (FileFields size table ext) = length table ≤ POINTERS
 
 -- slots or pointers that a header has room for
 abbrev pub FitsBody : BodyFields → Type 0
-FitsBody (DirFields slots) = length slots ≡ 72
-FitsBody (FileFields size table ext) = length table ≤ 72
+FitsBody (DirFields slots) = length slots ≡ SLOTS
+FitsBody (FileFields size table ext) = length table ≤ POINTERS
 
 -- fields that a header has room for
 pub record FitsHead (h : HeadFields) : Type 0 where

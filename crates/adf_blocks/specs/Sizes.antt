@@ -2,10 +2,11 @@
 use Rattle.std.specs.Prelude.{ℕ, ◌+◌, ◌-◌, ◌/◌, ◌%◌, ◌==◌, ◌&&◌, nat_le, Bool, List, length}
 use Rattle.adf_tree.specs.declared.entry.Kind.{Kind}
 use Rattle.adf_tree.specs.declared.entry.Kind.TheVariants.{Ofs, Ffs}
+use Rattle.adf_blocks.specs.declared.layout.TheConstants.{DATA_BYTES, MOST_BLOCKS as THE_MOST, PAGE_BITS}
 
--- the most blocks that a volume has: 259 bitmap pages, the first 25 named by the root, the others by two bitmap extension blocks
+-- the most blocks that a volume has
 abbrev pub MOST_BLOCKS : ℕ
-MOST_BLOCKS = 1048576
+MOST_BLOCKS = THE_MOST
 
 -- an allowed size, in blocks: even, 4 to MOST_BLOCKS
 abbrev pub is_allowed : ℕ → Bool
@@ -19,13 +20,13 @@ blocks image = length image / 512
 abbrev pub middle : ℕ → ℕ
 middle n = n / 2
 
--- the bitmap pages that n blocks need: a page has the bits of 4,064 blocks, and blocks 0 and 1 have none
+-- the bitmap pages that n blocks need: each has the bits of PAGE_BITS blocks, and blocks 0 and 1 have none
 abbrev pub pages_needed : ℕ → ℕ
-pages_needed n = (n - 2 + 4063) / 4064
+pages_needed n = (n - 2 + (PAGE_BITS - 1)) / PAGE_BITS
 
 -- the bytes of content that a full data block holds
 unfoldable pub chunk : Kind → ℕ
-chunk Ofs = 488
+chunk Ofs = 512 - DATA_BYTES
 chunk Ffs = 512
 
 -- the data blocks that so many bytes need

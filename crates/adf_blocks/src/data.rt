@@ -25,7 +25,7 @@ pub fn read_data<'a>(
 ) -> Result<&'a [u8], Cause>
     requires { held ≤ 488 }
     ensures { ReadsForm (data_form head number held next b.entry)
-        (λ bytes. bytes.now ≡ slice_range b.entry 24 (24 + held)) result }
+        (λ bytes. bytes.now ≡ slice_range b.entry DATA_BYTES (DATA_BYTES + held)) result }
 {
     if b.long_sum() != 0 {
         return Err(Cause::BadSum);
@@ -92,5 +92,5 @@ pub fn written_data_are_read()
     ensures whole { (d : DataFields) → FitsData d → length (data_block d) ≡ 512 }
     ensures form { (d : DataFields) → FitsData d
         → first_cause (data_form d.head d.number (length d.bytes) d.next (data_block d)) ≡ None }
-    ensures bytes { (d : DataFields) → FitsData d → slice_range (data_block d) 24 (24 + length d.bytes) ≡ d.bytes }
+    ensures bytes { (d : DataFields) → FitsData d → slice_range (data_block d) DATA_BYTES (DATA_BYTES + length d.bytes) ≡ d.bytes }
 {}

@@ -7,8 +7,8 @@ ghost use Rattle.adf_blocks.specs.ExtBlock.{ExtFields, FitsExt, ext_block, ext_f
 
 use crate::cause::Cause;
 use crate::layout::{
-    CHECKSUM, EXTENSION, FIRST_POINTER, OWN_KEY, PARENT, POINTER_COUNT, SECONDARY_TYPE, ST_FILE,
-    T_LIST, TYPE,
+    CHECKSUM, EXTENSION, FIRST_POINTER, OWN_KEY, PARENT, POINTER_COUNT, POINTERS, SECONDARY_TYPE,
+    ST_FILE, T_LIST, TYPE,
 };
 use adf_fields::{Block, put_block, put_word, put_words_down, seal_block};
 use std::marker::Model;
@@ -52,15 +52,15 @@ pub fn read_ext<'a>(b: Block<'a>, own: u32, head: u32) -> Result<Ext<'a>, Cause>
 impl Ext<'_> {
     /// The data block that pointer `j` of this block names: words 77 down to 6.
     pub fn pointer(&self, j: usize) -> u32
-        requires { j < 72 }
-        ensures { result ≡ word self.now (77 - j) }
+        requires { j < POINTERS }
+        ensures { result ≡ word self.now (FIRST_POINTER - j) }
     {
         self.block.word(FIRST_POINTER - j)
     }
 
     /// The next extension block of the file, or 0: word 126.
     pub fn next(&self) -> u32
-        ensures { result ≡ word self.now 126 }
+        ensures { result ≡ word self.now EXTENSION }
     {
         self.block.word(EXTENSION)
     }
@@ -82,7 +82,7 @@ pub struct ExtOut<'a> {
 // The 512 bytes of an extension block.
 #[tactic(auto, unfolding(crate::specs::ExtBlock::ext_block))]
 fn ext_bytes(e: &ExtOut<'_>) -> [u8; 512]
-    requires { length e.now.table.now ≤ 72 }
+    requires { length e.now.table.now ≤ POINTERS }
     ensures exact { result ≡ ext_block (ext_fields e.now) }
     ensures fits { FitsExt (ext_fields e.now) }
 {
@@ -103,7 +103,7 @@ fn ext_bytes(e: &ExtOut<'_>) -> [u8; 512]
 #[tactic(auto, using(crate::proofs::ExtLaws::written_ext_form))]
 pub fn write_ext(image: &mut [u8], b: u32, e: &ExtOut<'_>)
     requires whole { b * 512 + 512 ≤ length image.old }
-    requires table { length e.now.table.now ≤ 72 }
+    requires table { length e.now.table.now ≤ POINTERS }
     ensures exact { image.new ≡ with_block image.old b (ext_block (ext_fields e.now)) }
     ensures form { first_cause (ext_form e.now.own e.now.head (block image.new b)) ≡ None }
     ensures fits { FitsExt (ext_fields e.now) }
@@ -116,7 +116,7 @@ pub fn written_exts_are_read()
     ensures whole { (e : ExtFields) → FitsExt e → length (ext_block e) ≡ 512 }
     ensures form { (e : ExtFields) → FitsExt e → first_cause (ext_form e.own e.head (ext_block e)) ≡ None }
     // past the last pointer `slice_index` is 0
-    ensures pointers { (e : ExtFields) (j : ℕ) → FitsExt e → j < 72 → slice_index e.table j < 2 ^ 32
-        → word (ext_block e) (77 - j) ≡ slice_index e.table j }
-    ensures next { (e : ExtFields) → FitsExt e → e.next < 2 ^ 32 → word (ext_block e) 126 ≡ e.next }
+    ensures pointers { (e : ExtFields) (j : ℕ) → FitsExt e → j < POINTERS → slice_index e.table j < 2 ^ 32
+        → word (ext_block e) (FIRST_POINTER - j) ≡ slice_index e.table j }
+    ensures next { (e : ExtFields) → FitsExt e → e.next < 2 ^ 32 → word (ext_block e) EXTENSION ≡ e.next }
 {}

@@ -10,8 +10,8 @@ use crate::cause::Cause;
 use crate::fields::stamp_in;
 use crate::layout::{
     COMMENT, DATE, EXTENSION, FIRST_DATA, FIRST_POINTER, FIRST_SLOT, NAME, NEXT_IN_CHAIN, OWN_KEY,
-    PARENT, PROTECTION, SECONDARY_TYPE, SIZE, ST_DIR, ST_FILE, ST_LINK_DIR, ST_LINK_FILE,
-    ST_SOFT_LINK, T_SHORT, TYPE,
+    PARENT, POINTERS, PROTECTION, SECONDARY_TYPE, SIZE, SLOTS, ST_DIR, ST_FILE, ST_LINK_DIR,
+    ST_LINK_FILE, ST_SOFT_LINK, T_SHORT, TYPE,
 };
 use adf_fields::{Block, slot as slot_of_name};
 use adf_tree::{Comment, Kind, Meta, Name};
@@ -83,7 +83,7 @@ fn type_holds(b: &Block<'_>) -> bool
 
 // Whether the name is one.
 fn name_holds(b: &Block<'_>) -> bool
-    ensures { result ≡ is_name_at b.now 432 }
+    ensures { result ≡ is_name_at b.now NAME }
 {
     let len = b.byte(NAME) as usize;
     len <= 30 && Name::is_name(b.bytes(NAME + 1, len))
@@ -91,8 +91,8 @@ fn name_holds(b: &Block<'_>) -> bool
 
 // Whether the name's hash is this slot.
 fn slot_holds(b: &Block<'_>, slot: u8) -> bool
-    requires { is_name_at b.now 432 ≡ true }
-    ensures { result ≡ (slot_of (text_at b.now 432) == slot) }
+    requires { is_name_at b.now NAME ≡ true }
+    ensures { result ≡ (slot_of (text_at b.now NAME) == slot) }
 {
     let len = b.byte(NAME) as usize;
     slot_of_name(b.bytes(NAME + 1, len)) == slot
@@ -171,7 +171,7 @@ impl<'a> Head<'a> {
 impl Head<'_> {
     /// The name: its length in byte 432, its bytes from byte 433 on.
     pub fn name(&self) -> Name
-        ensures { result ≡ text_at self.now 432 }
+        ensures { result ≡ text_at self.now NAME }
     {
         let len = self.block.byte(NAME) as usize;
         Name::new(self.block.bytes(NAME + 1, len)).unwrap()
@@ -179,7 +179,7 @@ impl Head<'_> {
 
     // The comment: its length in byte 328, its bytes from byte 329 on.
     fn comment(&self) -> Comment
-        ensures { result ≡ text_at self.now 328 }
+        ensures { result ≡ text_at self.now COMMENT }
     {
         let len = self.block.byte(COMMENT) as usize;
         Comment::new(self.block.bytes(COMMENT + 1, len)).unwrap()
@@ -198,7 +198,7 @@ impl Head<'_> {
 
     /// The next header of the chain, or 0: word 124.
     pub fn next(&self) -> u32
-        ensures { result ≡ word self.now 124 }
+        ensures { result ≡ word self.now NEXT_IN_CHAIN }
     {
         self.block.word(NEXT_IN_CHAIN)
     }
@@ -212,16 +212,16 @@ impl Head<'_> {
 
     /// Of a directory, the first header of a slot's chain, or 0: words 6 to 77.
     pub fn slot(&self, s: usize) -> u32
-        requires { s < 72 }
-        ensures { result ≡ word self.now (6 + s) }
+        requires { s < SLOTS }
+        ensures { result ≡ word self.now (FIRST_SLOT + s) }
     {
         self.block.word(FIRST_SLOT + s)
     }
 
     /// Of a file, the data block that pointer `j` names: words 77 down to 6.
     pub fn pointer(&self, j: usize) -> u32
-        requires { j < 72 }
-        ensures { result ≡ word self.now (77 - j) }
+        requires { j < POINTERS }
+        ensures { result ≡ word self.now (FIRST_POINTER - j) }
     {
         self.block.word(FIRST_POINTER - j)
     }

@@ -12,8 +12,8 @@ ghost use Rattle.adf_blocks.specs.HeadBlock.{FitsBody, FitsBodyWords, FitsHead, 
 use crate::fields::{put_stamp, put_text};
 use crate::layout::{
     CHECKSUM, COMMENT, DATE, EXTENSION, FIRST_DATA, FIRST_POINTER, FIRST_SLOT, NAME, NEXT_IN_CHAIN,
-    OWN_KEY, PARENT, POINTER_COUNT, PROTECTION, SECONDARY_TYPE, SIZE, ST_DIR, ST_FILE, T_SHORT,
-    TYPE,
+    OWN_KEY, PARENT, POINTER_COUNT, POINTERS, PROTECTION, SECONDARY_TYPE, SIZE, SLOTS, ST_DIR,
+    ST_FILE, T_SHORT, TYPE,
 };
 use adf_fields::{put_block, put_word, put_words, put_words_down, seal_block};
 use adf_tree::{Meta, Name};
@@ -161,20 +161,20 @@ pub fn written_heads_are_read()
     ensures whole { (h : HeadFields) → FitsHead h → length (head_block h) ≡ 512 }
     ensures form { (h : HeadFields) (kind : Kind) → FitsHead h
         → first_cause (head_form kind h.own h.parent (slot_of h.name) (head_block h)) ≡ None }
-    ensures name { (h : HeadFields) → FitsHead h → text_at (head_block h) 432 ≡ h.name }
-    ensures comment { (h : HeadFields) → FitsHead h → text_at (head_block h) 328 ≡ h.meta.comment }
+    ensures name { (h : HeadFields) → FitsHead h → text_at (head_block h) NAME ≡ h.name }
+    ensures comment { (h : HeadFields) → FitsHead h → text_at (head_block h) COMMENT ≡ h.meta.comment }
     ensures protection { (h : HeadFields) → FitsHead h → h.meta.protect < 2 ^ 32
-        → word (head_block h) 80 ≡ h.meta.protect }
+        → word (head_block h) PROTECTION ≡ h.meta.protect }
     ensures date { (h : HeadFields) → FitsHead h → FitsStamp h.meta.stamp
-        → stamp_at (head_block h) 105 ≡ h.meta.stamp }
+        → stamp_at (head_block h) DATE ≡ h.meta.stamp }
     ensures meta { (h : HeadFields) → FitsHead h → FitsMeta h.meta → meta_at (head_block h) ≡ h.meta }
-    ensures next { (h : HeadFields) → FitsHead h → h.next < 2 ^ 32 → word (head_block h) 124 ≡ h.next }
+    ensures next { (h : HeadFields) → FitsHead h → h.next < 2 ^ 32 → word (head_block h) NEXT_IN_CHAIN ≡ h.next }
     ensures body { (h : HeadFields) → FitsHead h → FitsBodyWords h.body
         → body_at (head_block h) ≡ body_told h.body }
-    ensures slots { (h : HeadFields) (slots : List ℕ) (s : ℕ) → FitsHead h → h.body ≡ DirFields slots → s < 72
-        → slice_index slots s < 2 ^ 32 → word (head_block h) (6 + s) ≡ slice_index slots s }
+    ensures slots { (h : HeadFields) (slots : List ℕ) (s : ℕ) → FitsHead h → h.body ≡ DirFields slots → s < SLOTS
+        → slice_index slots s < 2 ^ 32 → word (head_block h) (FIRST_SLOT + s) ≡ slice_index slots s }
     // past the last pointer `slice_index` is 0
     ensures pointers { (h : HeadFields) (size : ℕ) (table : List ℕ) (ext j : ℕ) → FitsHead h
-        → h.body ≡ FileFields size table ext → j < 72 → slice_index table j < 2 ^ 32
-        → word (head_block h) (77 - j) ≡ slice_index table j }
+        → h.body ≡ FileFields size table ext → j < POINTERS → slice_index table j < 2 ^ 32
+        → word (head_block h) (FIRST_POINTER - j) ≡ slice_index table j }
 {}

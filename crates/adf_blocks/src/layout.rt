@@ -66,6 +66,9 @@ pub const SLOTS: u32 = 72;
 /// The word of slot 0 of the root or a directory.
 pub const FIRST_SLOT: usize = 6;
 
+/// The most pointers to data blocks in a header or an extension block.
+pub const POINTERS: usize = 72;
+
 /// The word of a file's first pointer to a data block in a header or an extension block; the others go down from here.
 pub const FIRST_POINTER: usize = 77;
 

@@ -4,7 +4,7 @@ ghost use Rattle.std.specs.Prelude.{◌≡◌, ◌≤◌, ◌<◌, ◌+◌, ◌*
 ghost use Rattle.adf_fields.specs.Words.{with_block, word};
 ghost use Rattle.adf_blocks.specs.MapExtBlock.{map_ext_block};
 
-use crate::layout::{MAP_EXT_FIRST, MAP_EXT_NEXT};
+use crate::layout::{MAP_EXT_FIRST, MAP_EXT_NEXT, MAP_EXT_PAGES};
 use adf_fields::{Block, put_block, put_word, put_words};
 use std::marker::Model;
 
@@ -32,7 +32,7 @@ pub fn read_map_ext<'a>(b: Block<'a>) -> MapExt<'a>
 impl MapExt<'_> {
     /// The bitmap page that entry `j` of this block names: words 0 to 126.
     pub fn page(&self, j: usize) -> u32
-        requires { j < 127 }
+        requires { j < MAP_EXT_PAGES }
         ensures { result ≡ word self.now j }
     {
         self.block.word(MAP_EXT_FIRST + j)
@@ -40,7 +40,7 @@ impl MapExt<'_> {
 
     /// The next bitmap extension block: word 127.
     pub fn next(&self) -> u32
-        ensures { result ≡ word self.now 127 }
+        ensures { result ≡ word self.now MAP_EXT_NEXT }
     {
         self.block.word(MAP_EXT_NEXT)
     }
@@ -49,7 +49,7 @@ impl MapExt<'_> {
 // The 512 bytes of a bitmap extension block.
 #[tactic(auto, unfolding(crate::specs::MapExtBlock::map_ext_block))]
 fn map_ext_bytes(pages: &[u32], next: u32) -> [u8; 512]
-    requires { length pages.now ≤ 127 }
+    requires { length pages.now ≤ MAP_EXT_PAGES }
     ensures { result ≡ map_ext_block pages.now next }
 {
     let mut block = [0u8; 512];
@@ -62,7 +62,7 @@ fn map_ext_bytes(pages: &[u32], next: u32) -> [u8; 512]
 /// image; its words past the last page are 0.
 pub fn write_map_ext(image: &mut [u8], b: u32, pages: &[u32], next: u32)
     requires whole { b * 512 + 512 ≤ length image.old }
-    requires pages { length pages.now ≤ 127 }
+    requires pages { length pages.now ≤ MAP_EXT_PAGES }
     ensures exact { image.new ≡ with_block image.old b (map_ext_block pages.now next) }
 {
     put_block(image, b, &map_ext_bytes(pages, next));
@@ -70,9 +70,9 @@ pub fn write_map_ext(image: &mut [u8], b: u32, pages: &[u32], next: u32)
 
 /// A bitmap extension block tells the numbers that it was written with: the law of its reader and its writer.
 pub fn written_map_exts_are_read()
-    ensures whole { (pages : List ℕ) (next : ℕ) → length pages ≤ 127 → length (map_ext_block pages next) ≡ 512 }
+    ensures whole { (pages : List ℕ) (next : ℕ) → length pages ≤ MAP_EXT_PAGES → length (map_ext_block pages next) ≡ 512 }
     // past the last page `slice_index` is 0
-    ensures pages { (pages : List ℕ) (next j : ℕ) → length pages ≤ 127 → j < 127 → slice_index pages j < 2 ^ 32
+    ensures pages { (pages : List ℕ) (next j : ℕ) → length pages ≤ MAP_EXT_PAGES → j < MAP_EXT_PAGES → slice_index pages j < 2 ^ 32
         → word (map_ext_block pages next) j ≡ slice_index pages j }
-    ensures next { (pages : List ℕ) (next : ℕ) → length pages ≤ 127 → next < 2 ^ 32 → word (map_ext_block pages next) 127 ≡ next }
+    ensures next { (pages : List ℕ) (next : ℕ) → length pages ≤ MAP_EXT_PAGES → next < 2 ^ 32 → word (map_ext_block pages next) MAP_EXT_NEXT ≡ next }
 {}

@@ -37,7 +37,7 @@ pub fn read_page<'a>(b: Block<'a>) -> Result<Page<'a>, Cause>
 impl Page<'_> {
     /// Whether the block of a bit is free: bit `bit % 32`, the lowest first, of word `1 + bit / 32`.
     pub fn is_free(&self, bit: u32) -> bool
-        requires { bit < 4064 }
+        requires { bit < PAGE_BITS }
         ensures { IsTrue result ↔ IsFreeBit self.now bit }
     {
         let word = self.block.word(PAGE_FIRST + bit as usize / 32);
@@ -48,8 +48,8 @@ impl Page<'_> {
 /// The page and the bit of a block, both from 0 on.
 pub fn place_of(b: u32) -> (u32, u32)
     requires { 2 ≤ b }
-    ensures page { result.0 ≡ (b - 2) / 4064 }
-    ensures bit { result.1 ≡ (b - 2) % 4064 }
+    ensures page { result.0 ≡ (b - 2) / PAGE_BITS }
+    ensures bit { result.1 ≡ (b - 2) % PAGE_BITS }
 {
     ((b - 2) / PAGE_BITS, (b - 2) % PAGE_BITS)
 }
@@ -79,7 +79,7 @@ pub fn write_page(image: &mut [u8], b: u32, bits: &[u32; 127])
 pub fn written_pages_are_read()
     ensures whole { (bits : List ℕ) → length bits ≡ 127 → length (page_block bits) ≡ 512 }
     ensures form { (bits : List ℕ) → length bits ≡ 127 → first_cause (page_form (page_block bits)) ≡ None }
-    ensures bits { (bits : List ℕ) (bit : ℕ) → length bits ≡ 127 → bit < 4064
+    ensures bits { (bits : List ℕ) (bit : ℕ) → length bits ≡ 127 → bit < PAGE_BITS
         → slice_index bits (bit / 32) < 2 ^ 32
         → IsFreeBit (page_block bits) bit ↔ IsBitSet (slice_index bits (bit / 32)) (bit % 32) }
 {}

@@ -9,7 +9,7 @@ use crate::cause::Cause;
 use crate::fields::stamp_in;
 use crate::layout::{
     ALTERED, BITMAP_FLAG, CREATED, DATE, FIRST_MAP_EXT, FIRST_PAGE, FIRST_SLOT, HASH_SIZE, NAME,
-    SECONDARY_TYPE, SLOTS, ST_ROOT, T_SHORT, TYPE, VALID,
+    ROOT_PAGES, SECONDARY_TYPE, SLOTS, ST_ROOT, T_SHORT, TYPE, VALID,
 };
 use adf_fields::Block;
 use adf_tree::{Label, Stamps};
@@ -61,30 +61,30 @@ pub fn read_root<'a>(b: Block<'a>) -> Result<Root<'a>, Cause>
 impl Root<'_> {
     /// The first header of a slot's chain, or 0: words 6 to 77.
     pub fn slot(&self, s: usize) -> u32
-        requires { s < 72 }
-        ensures { result ≡ word self.now (6 + s) }
+        requires { s < SLOTS }
+        ensures { result ≡ word self.now (FIRST_SLOT + s) }
     {
         self.block.word(FIRST_SLOT + s)
     }
 
     /// The number of bitmap page `i`: words 79 to 103.
     pub fn page(&self, i: usize) -> u32
-        requires { i < 25 }
-        ensures { result ≡ word self.now (79 + i) }
+        requires { i < ROOT_PAGES }
+        ensures { result ≡ word self.now (FIRST_PAGE + i) }
     {
         self.block.word(FIRST_PAGE + i)
     }
 
     /// The first bitmap extension block: word 104.
     pub fn map_ext(&self) -> u32
-        ensures { result ≡ word self.now 104 }
+        ensures { result ≡ word self.now FIRST_MAP_EXT }
     {
         self.block.word(FIRST_MAP_EXT)
     }
 
     /// The label: its length in byte 432, its bytes from byte 433 on.
     pub fn label(&self) -> Label
-        ensures { result ≡ text_at self.now 432 }
+        ensures { result ≡ text_at self.now NAME }
     {
         let len = self.block.byte(NAME) as usize;
         Label::new(self.block.bytes(NAME + 1, len)).unwrap()

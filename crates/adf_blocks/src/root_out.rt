@@ -8,7 +8,7 @@ ghost use Rattle.adf_blocks.specs.RootBlock.{FitsRoot, FitsStamps, RootFields, r
 use crate::fields::{put_stamp, put_text};
 use crate::layout::{
     ALTERED, BITMAP_FLAG, CHECKSUM, CREATED, DATE, FIRST_MAP_EXT, FIRST_PAGE, FIRST_SLOT,
-    HASH_SIZE, NAME, SECONDARY_TYPE, SLOTS, ST_ROOT, T_SHORT, TYPE, VALID,
+    HASH_SIZE, NAME, ROOT_PAGES, SECONDARY_TYPE, SLOTS, ST_ROOT, T_SHORT, TYPE, VALID,
 };
 use adf_fields::{put_block, put_word, put_words, seal_block};
 use adf_tree::{Label, Stamps};
@@ -29,7 +29,7 @@ pub struct RootOut<'p, 'l> {
 // The 512 bytes of a root.
 #[tactic(auto, unfolding(crate::specs::RootBlock::root_block))]
 fn root_bytes(r: &RootOut<'_, '_>) -> [u8; 512]
-    requires { length r.now.pages.now ≤ 25 }
+    requires { length r.now.pages.now ≤ ROOT_PAGES }
     ensures exact { result ≡ root_block (root_fields r.now) }
     ensures fits { FitsRoot (root_fields r.now) }
     ensures stamps { FitsStamps r.now.stamps }
@@ -54,7 +54,7 @@ fn root_bytes(r: &RootOut<'_, '_>) -> [u8; 512]
 #[tactic(auto, using(crate::proofs::RootLaws::written_root_form))]
 pub fn write_root(image: &mut [u8], b: u32, r: &RootOut<'_, '_>)
     requires whole { b * 512 + 512 ≤ length image.old }
-    requires pages { length r.now.pages.now ≤ 25 }
+    requires pages { length r.now.pages.now ≤ ROOT_PAGES }
     ensures exact { image.new ≡ with_block image.old b (root_block (root_fields r.now)) }
     ensures form { first_cause (root_form (block image.new b)) ≡ None }
     ensures fits { FitsRoot (root_fields r.now) }
@@ -67,12 +67,12 @@ pub fn write_root(image: &mut [u8], b: u32, r: &RootOut<'_, '_>)
 pub fn written_roots_are_read()
     ensures whole { (r : RootFields) → FitsRoot r → length (root_block r) ≡ 512 }
     ensures form { (r : RootFields) → FitsRoot r → first_cause (root_form (root_block r)) ≡ None }
-    ensures slots { (r : RootFields) (s : ℕ) → FitsRoot r → s < 72 → slice_index r.slots s < 2 ^ 32
-        → word (root_block r) (6 + s) ≡ slice_index r.slots s }
+    ensures slots { (r : RootFields) (s : ℕ) → FitsRoot r → s < SLOTS → slice_index r.slots s < 2 ^ 32
+        → word (root_block r) (FIRST_SLOT + s) ≡ slice_index r.slots s }
     // past the last page `slice_index` is 0
-    ensures pages { (r : RootFields) (i : ℕ) → FitsRoot r → i < 25 → slice_index r.pages i < 2 ^ 32
-        → word (root_block r) (79 + i) ≡ slice_index r.pages i }
-    ensures map_ext { (r : RootFields) → FitsRoot r → r.map_ext < 2 ^ 32 → word (root_block r) 104 ≡ r.map_ext }
-    ensures label { (r : RootFields) → FitsRoot r → text_at (root_block r) 432 ≡ r.label }
+    ensures pages { (r : RootFields) (i : ℕ) → FitsRoot r → i < ROOT_PAGES → slice_index r.pages i < 2 ^ 32
+        → word (root_block r) (FIRST_PAGE + i) ≡ slice_index r.pages i }
+    ensures map_ext { (r : RootFields) → FitsRoot r → r.map_ext < 2 ^ 32 → word (root_block r) FIRST_MAP_EXT ≡ r.map_ext }
+    ensures label { (r : RootFields) → FitsRoot r → text_at (root_block r) NAME ≡ r.label }
     ensures stamps { (r : RootFields) → FitsRoot r → FitsStamps r.stamps → stamps_at (root_block r) ≡ r.stamps }
 {}

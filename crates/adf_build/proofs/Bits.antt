@@ -4,6 +4,7 @@ use Rattle.std.proofs.Common.{arith, Bool, true, false, cond, map, take, add-one
 use Rattle.std.proofs.lemmas.Bool.{cases_lt}
 use Rattle.std.proofs.lemmas.Bool.Decides.{nat_tests}
 use Rattle.std.proofs.Math.Nat.{pow-succ', div-div-eq-div-mul}
+use Rattle.adf_blocks.specs.declared.layout.TheConstants.{PAGE_BITS}
 use Rattle.adf_blocks.specs.Sizes.{middle}
 use Rattle.adf_volume.specs.Lists.{In}
 use Rattle.std.proofs.Math.ListN.{set}
@@ -138,11 +139,11 @@ bits_step f q m p k e g = ap (bits_from f p) g ∙ ap (λ q. cond (f p) 1 0 + 2 
 
 -- one word of a page more
 pub words_step : (words : List ℕ) (n total j w v : ℕ) → w < length words
-    → take w words ≡ map (λ w. bits_from (is_free_bit n total) (4064 * j + 32 * w) 32) (range_with_len 0 w)
-    → v ≡ bits_from (is_free_bit n total) (4064 * j + 32 * w) 32
-    → take (w + 1) (set words w v) ≡ map (λ w. bits_from (is_free_bit n total) (4064 * j + 32 * w) 32) (range_with_len 0 (w + 1))
+    → take w words ≡ map (λ w. bits_from (is_free_bit n total) (PAGE_BITS * j + 32 * w) 32) (range_with_len 0 w)
+    → v ≡ bits_from (is_free_bit n total) (PAGE_BITS * j + 32 * w) 32
+    → take (w + 1) (set words w v) ≡ map (λ w. bits_from (is_free_bit n total) (PAGE_BITS * j + 32 * w) 32) (range_with_len 0 (w + 1))
 words_step words n total j w v h e g =
-    let f : ℕ → ℕ = λ w. bits_from (is_free_bit n total) (4064 * j + 32 * w) 32 in
+    let f : ℕ → ℕ = λ w. bits_from (is_free_bit n total) (PAGE_BITS * j + 32 * w) 32 in
     take_more_set words w v h ∙ ap (λ l. l ++ v ∷ []) e ∙ ap (λ v. map f (range_with_len 0 w) ++ v ∷ []) g
     ∙ sym (map-range_with_len_more f 0 w w (omega arith))
 

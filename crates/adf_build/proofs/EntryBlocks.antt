@@ -9,6 +9,7 @@ use Rattle.adf_tree.specs.declared.entry.Kind.{Kind}
 use Rattle.adf_tree.specs.declared.entry.Entry.{Entry}
 use Rattle.adf_tree.specs.declared.entry.Body.TheVariants.{Dir}
 use Rattle.adf_tree.specs.Tree.{Tree}
+use Rattle.adf_blocks.specs.declared.layout.TheConstants.{FIRST_SLOT, NEXT_IN_CHAIN, SLOTS}
 use Rattle.adf_blocks.specs.Sizes.{middle, is_allowed}
 use Rattle.adf_blocks.specs.HeadBlock.{FitsHead, head_block}
 use Rattle.adf_blocks.specs.HeadBlock.BodyFields.{DirFields}
@@ -103,7 +104,7 @@ module _ (t : Tree) (n : ℕ) (sound : IsSound t) (allowed : is_allowed n ≡ tr
       → Holds (volume t n) (entries_writes n t.kind (node_blocks t n) t.entries i k es)
       → k + entries_blocks t.kind es ≤ entries_blocks t.kind t.entries
       → ((j : ℕ) (e : Entry) → At es j e → (is_name e.name ≡ true) × (length e.meta.comment ≤ 79))
-      → Links (λ b. word_in (volume t n) b 124) (slice_index (node_blocks t n)) i es
+      → Links (λ b. word_in (volume t n) b NEXT_IN_CHAIN) (slice_index (node_blocks t n)) i es
   links i k [] f h l g = tt
   links i k (e ∷ es) f h l g =
       let z : i + 0 ≡ i = omega arith in
@@ -114,40 +115,40 @@ module _ (t : Tree) (n : ℕ) (sound : IsSound t) (allowed : is_allowed n ≡ tr
       let fh = fits_head n (entries_blocks t.kind t.entries) (omega arith) (omega arith) (below t n sound allowed room) t.kind (node_blocks t n) t.entries i
       k e es (near t n sound allowed room) (omega arith) p.0 p.1 in
       let nx = first_near (slice_index (node_blocks t n)) (nodes_from (suc i) es e.parent (slot_of e.name)) (near t n sound allowed room) in (
-        ap (λ b. word_in (volume t n) b 124) a ∙ (ap (λ bs. word bs 124) h.0 ∙ head_block-next (head_of n t.kind (node_blocks t n) t.entries i k e es) fh nx),
+        ap (λ b. word_in (volume t n) b NEXT_IN_CHAIN) a ∙ (ap (λ bs. word bs NEXT_IN_CHAIN) h.0 ∙ head_block-next (head_of n t.kind (node_blocks t n) t.entries i k e es) fh nx),
         links (suc i) (k + entry_blocks t.kind e) es (λ j. let y : suc i + j ≡ i + suc j = omega arith in ap (slice_index (node_blocks t n)) y ∙ f (suc j))
             (holds_right (volume t n) (body_writes n t.kind k e.body) (entries_writes n t.kind (node_blocks t n) t.entries (suc i) (k + entry_blocks t.kind e)
             es) h.1) (omega arith) (λ j d q. g (suc j) d q),
       )
 
-  all_links : Links (λ b. word_in (volume t n) b 124) (slice_index (node_blocks t n)) 1 t.entries
+  all_links : Links (λ b. word_in (volume t n) b NEXT_IN_CHAIN) (slice_index (node_blocks t n)) 1 t.entries
   all_links = links 1 0 t.entries (λ j. let y : 1 + j ≡ suc j = omega arith in ap (slice_index (node_blocks t n)) y) (holds_entries t n sound allowed room)
       (omega arith) (entry_sound t n sound allowed room)
 
   -- a chain whose first header stands in this word
   pub chain_laid : (p s w : ℕ) → w ≡ first_block (slice_index (node_blocks t n)) (chain_nodes t p s)
-      → Spelled (λ b. word_in (volume t n) b 124) w (map (at_node (volume t n) (planned t n)) (chain_nodes t p s))
+      → Spelled (λ b. word_in (volume t n) b NEXT_IN_CHAIN) w (map (at_node (volume t n) (planned t n)) (chain_nodes t p s))
   chain_laid p s w e =
       let same : slice_index (node_blocks t n) ≡ at_node (volume t n) (planned t n) = λ i j. nodes_at j i in
-      subst (λ at. Spelled (λ b. word_in (volume t n) b 124) w (map at (chain_nodes t p s))) same
-      (subst (λ w. Spelled (λ b. word_in (volume t n) b 124) w (map (slice_index (node_blocks t n)) (chain_nodes t p s))) (sym e)
-      (spelled_chain (λ b. word_in (volume t n) b 124) (slice_index (node_blocks t n)) 1 t.entries p s all_links))
+      subst (λ at. Spelled (λ b. word_in (volume t n) b NEXT_IN_CHAIN) w (map at (chain_nodes t p s))) same
+      (subst (λ w. Spelled (λ b. word_in (volume t n) b NEXT_IN_CHAIN) w (map (slice_index (node_blocks t n)) (chain_nodes t p s))) (sym e)
+      (spelled_chain (λ b. word_in (volume t n) b NEXT_IN_CHAIN) (slice_index (node_blocks t n)) 1 t.entries p s all_links))
 
-  slot_is : (p s : ℕ) → s < 72 → slice_index (slots_of (node_blocks t n) t.entries p) s ≡ first_block (slice_index (node_blocks t n)) (chain_nodes t p s)
+  slot_is : (p s : ℕ) → s < SLOTS → slice_index (slots_of (node_blocks t n) t.entries p) s ≡ first_block (slice_index (node_blocks t n)) (chain_nodes t p s)
   slot_is p s l =
       let z : 0 + s ≡ s = omega arith in
-      get_or-map-range_with_len (λ s. first_block (slice_index (node_blocks t n)) (nodes_from 1 t.entries p s)) 0 72 s s 0 l z
+      get_or-map-range_with_len (λ s. first_block (slice_index (node_blocks t n)) (nodes_from 1 t.entries p s)) 0 SLOTS s s 0 l z
 
   -- the slots of the root and of directories
-  pub root_slot : (s : ℕ) → s < 72 → word_in (volume t n) (middle n) (6 + s) ≡ first_block (slice_index (node_blocks t n)) (chain_nodes t 0 s)
+  pub root_slot : (s : ℕ) → s < SLOTS → word_in (volume t n) (middle n) (FIRST_SLOT + s) ≡ first_block (slice_index (node_blocks t n)) (chain_nodes t 0 s)
   root_slot s l =
       let e = slot_is 0 s l in
       let small : slice_index (slots_of (node_blocks t n) t.entries 0) s < 2 ^ 32 =
       subst (λ m. m < 2 ^ 32) (sym e) (first_near (slice_index (node_blocks t n)) (chain_nodes t 0 s) (near t n sound allowed room)) in
-      ap (λ bs. word bs (6 + s)) (holds_root t n sound allowed room) ∙ (root_block-slot (planned_root t n) s (fits_root t n sound allowed room) l small ∙ e)
+      ap (λ bs. word bs (FIRST_SLOT + s)) (holds_root t n sound allowed room) ∙ (root_block-slot (planned_root t n) s (fits_root t n sound allowed room) l small ∙ e)
 
-  pub dir_slot : (i s : ℕ) (e : Entry) (h : At t.entries i e) → e.body ≡ Dir → s < 72
-      → word_in (volume t n) (nth_free n (spot i e h).k) (6 + s) ≡ first_block (slice_index (node_blocks t n)) (chain_nodes t (suc i) s)
+  pub dir_slot : (i s : ℕ) (e : Entry) (h : At t.entries i e) → e.body ≡ Dir → s < SLOTS
+      → word_in (volume t n) (nth_free n (spot i e h).k) (FIRST_SLOT + s) ≡ first_block (slice_index (node_blocks t n)) (chain_nodes t (suc i) s)
   dir_slot i s e h d l =
       let p = spot i e h in
       let y = slot_is (suc i) s l in
@@ -155,6 +156,6 @@ module _ (t : Tree) (n : ℕ) (sound : IsSound t) (allowed : is_allowed n ≡ tr
       subst (λ m. m < 2 ^ 32) (sym y) (first_near (slice_index (node_blocks t n)) (chain_nodes t (suc i) s) (near t n sound allowed room)) in
       let b : body_of n p.k t.kind (slots_of (node_blocks t n) t.entries (suc i)) e.body ≡ DirFields (slots_of (node_blocks t n) t.entries (suc i)) =
       ap (body_of n p.k t.kind (slots_of (node_blocks t n) t.entries (suc i))) d in
-      ap (λ bs. word bs (6 + s)) p.head
+      ap (λ bs. word bs (FIRST_SLOT + s)) p.head
       ∙ (head_block-slot (head_of n t.kind (node_blocks t n) t.entries (suc i) p.k e p.rest) (slots_of (node_blocks t n) t.entries (suc i)) s
       (head_fits i e h) b l small ∙ y)

@@ -10,11 +10,13 @@ use Rattle.adf_tree.specs.declared.entry.Body.TheVariants.{Dir, File}
 use Rattle.adf_tree.specs.declared.entry.Entry.{Entry}
 use Rattle.adf_tree.specs.Tree.{Tree}
 use Rattle.adf_blocks.specs.Sizes.{chunk, count, is_allowed}
+use Rattle.adf_blocks.specs.declared.layout.TheConstants.{EXTENSION, FIRST_POINTER, NAME, POINTERS, SECONDARY_TYPE, SIZE}
 use Rattle.adf_blocks.specs.Forms.{first_cause, text_at}
 use Rattle.adf_blocks.specs.HeadBlock.{HeadFields, FitsMeta, meta_at, secondary_of, size_of, ext_of, head_form}
 use Rattle.adf_blocks.specs.HeadBlock.BodyFields.{FileFields}
 use Rattle.adf_blocks.proofs.HeadLaws.{head_block-form, head_block-name, head_block-meta, head_block-secondary, head_block-size, head_block-ext}
 use Rattle.adf_blocks.proofs.HeadLaws.{head_block-pointer}
+use Rattle.adf_blocks.proofs.FieldLaws.{long_number}
 use Rattle.adf_volume.specs.Lists.{At, Spelled}
 use Rattle.adf_volume.specs.Image.{word_in, held, content, joined, table_word, name_of, meta_of}
 use Rattle.adf_volume.specs.Demands.{AllHold, head_demands, data_demands}
@@ -43,11 +45,11 @@ no_exts : exts_needed 0 ≡ 0
 unfolding exts_needed
 no_exts = refl
 
-exts_enough : (c : ℕ) → c ≤ 72 * suc (exts_needed c)
+exts_enough : (c : ℕ) → c ≤ POINTERS * suc (exts_needed c)
 unfolding exts_needed
 exts_enough c = omega arith
 
-exts_some : (c m : ℕ) → m < exts_needed c → 72 < c
+exts_some : (c m : ℕ) → m < exts_needed c → POINTERS < c
 unfolding exts_needed
 exts_some c m h = omega arith
 
@@ -74,14 +76,14 @@ module _ (t : Tree) (n : ℕ) (sound : IsSound t) (allowed : is_allowed n ≡ tr
 
   name_laid : e.name ≡ name_of (volume t n) (nth_free n here.k)
   unfolding name_of
-  name_laid = sym (ap (λ bs. text_at bs 432) here.head ∙ (head_block-name fields (head_fits t n sound allowed room i e h)).1)
+  name_laid = sym (ap (λ bs. text_at bs NAME) here.head ∙ (head_block-name fields (head_fits t n sound allowed room i e h)).1)
 
   meta_laid : e.meta ≡ meta_of (volume t n) (nth_free n here.k)
   unfolding meta_of
   meta_laid = sym (ap meta_at here.head ∙ head_block-meta fields (head_fits t n sound allowed room i e h) meta_fits)
 
-  type_laid : word_in (volume t n) (nth_free n here.k) 127 ≡ secondary_of (body_of n here.k t.kind (slots_of (node_blocks t n) t.entries (suc i)) e.body)
-  type_laid = ap (λ bs. word bs 127) here.head ∙ head_block-secondary fields (head_fits t n sound allowed room i e h)
+  type_laid : word_in (volume t n) (nth_free n here.k) SECONDARY_TYPE ≡ secondary_of (body_of n here.k t.kind (slots_of (node_blocks t n) t.entries (suc i)) e.body)
+  type_laid = ap (λ bs. word bs SECONDARY_TYPE) here.head ∙ head_block-secondary fields (head_fits t n sound allowed room i e h)
 
   -- the blocks that the entry takes
   kept_blocks : here.k + (1 + exts_needed (data_blocks t.kind e.body) + data_blocks t.kind e.body) ≤ entries_blocks t.kind t.entries
@@ -109,23 +111,23 @@ module _ (t : Tree) (n : ℕ) (sound : IsSound t) (allowed : is_allowed n ≡ tr
         omega arith
 
     body_is : body_of n here.k t.kind (slots_of (node_blocks t n) t.entries (suc i)) e.body
-        ≡ FileFields (length bytes) (allocated n (suc here.k + exts_needed (count t.kind (length bytes))) (min 72 (count t.kind (length bytes))))
+        ≡ FileFields (length bytes) (allocated n (suc here.k + exts_needed (count t.kind (length bytes))) (min POINTERS (count t.kind (length bytes))))
         (nth_free_or_none n (suc here.k) (exts_needed (count t.kind (length bytes))))
     body_is = ap (body_of n here.k t.kind (slots_of (node_blocks t n) t.entries (suc i))) is
 
     writes_hold : Holds (volume t n) (body_writes n t.kind here.k (File bytes))
     writes_hold = subst (λ b. Holds (volume t n) (body_writes n t.kind here.k b)) is here.body
 
-    exts_hold : Holds (volume t n) (ext_writes n (nth_free n here.k) (suc here.k) (suc here.k + exts_needed (count t.kind (length bytes)) + 72)
-        (count t.kind (length bytes) - 72) (exts_needed (count t.kind (length bytes))))
-    exts_hold = holds_left (volume t n) (ext_writes n (nth_free n here.k) (suc here.k) (suc here.k + exts_needed (count t.kind (length bytes)) + 72)
-        (count t.kind (length bytes) - 72) (exts_needed (count t.kind (length bytes))))
+    exts_hold : Holds (volume t n) (ext_writes n (nth_free n here.k) (suc here.k) (suc here.k + exts_needed (count t.kind (length bytes)) + POINTERS)
+        (count t.kind (length bytes) - POINTERS) (exts_needed (count t.kind (length bytes))))
+    exts_hold = holds_left (volume t n) (ext_writes n (nth_free n here.k) (suc here.k) (suc here.k + exts_needed (count t.kind (length bytes)) + POINTERS)
+        (count t.kind (length bytes) - POINTERS) (exts_needed (count t.kind (length bytes))))
         (data_writes n t.kind (nth_free n here.k) (suc here.k + exts_needed (count t.kind (length bytes))) 1 bytes (count t.kind (length bytes))) writes_hold
 
     datas_hold : Holds (volume t n) (data_writes n t.kind (nth_free n here.k) (suc here.k + exts_needed (count t.kind (length bytes))) 1 bytes
         (count t.kind (length bytes)))
-    datas_hold = holds_right (volume t n) (ext_writes n (nth_free n here.k) (suc here.k) (suc here.k + exts_needed (count t.kind (length bytes)) + 72)
-        (count t.kind (length bytes) - 72) (exts_needed (count t.kind (length bytes))))
+    datas_hold = holds_right (volume t n) (ext_writes n (nth_free n here.k) (suc here.k) (suc here.k + exts_needed (count t.kind (length bytes)) + POINTERS)
+        (count t.kind (length bytes) - POINTERS) (exts_needed (count t.kind (length bytes))))
         (data_writes n t.kind (nth_free n here.k) (suc here.k + exts_needed (count t.kind (length bytes))) 1 bytes (count t.kind (length bytes))) writes_hold
 
     exts_are : exts_of (planned t n) (suc i) ≡ allocated n (suc here.k) (exts_needed (count t.kind (length bytes)))
@@ -134,10 +136,10 @@ module _ (t : Tree) (n : ℕ) (sound : IsSound t) (allowed : is_allowed n ≡ tr
     datas_are : datas_of (planned t n) (suc i) ≡ allocated n (suc here.k + exts_needed (count t.kind (length bytes))) (count t.kind (length bytes))
     datas_are = here.datas ∙ ap (λ b. allocated n (suc here.k + exts_needed (data_blocks t.kind b)) (data_blocks t.kind b)) is
 
-    size_laid : word_in (volume t n) (nth_free n here.k) 81 ≡ length bytes
+    size_laid : word_in (volume t n) (nth_free n here.k) SIZE ≡ length bytes
     size_laid =
         let w : size_of fields.body ≡ length bytes = ap size_of body_is in
-        ap (λ bs. word bs 81) here.head ∙ (head_block-size fields (head_fits t n sound allowed room i e h) (let s = size_word in omega arith) ∙ w)
+        ap (λ bs. word bs SIZE) here.head ∙ (head_block-size fields (head_fits t n sound allowed room i e h) (let s = size_word in omega arith) ∙ w)
 
     content_laid : bytes ≡ content (volume t n) t.kind (nth_free n here.k)
         (allocated n (suc here.k + exts_needed (count t.kind (length bytes))) (count t.kind (length bytes)))
@@ -152,26 +154,27 @@ module _ (t : Tree) (n : ℕ) (sound : IsSound t) (allowed : is_allowed n ≡ tr
         (chunks_cover t.kind (length bytes)))
 
     -- the header or the extension block that names data block j
-    named_laid : (q j b a : ℕ) → j / 72 ≡ q → At (allocated n (suc here.k + exts_needed (count t.kind (length bytes))) (count t.kind (length bytes))) j b
+    named_laid : (q j b a : ℕ) → j / POINTERS ≡ q → At (allocated n (suc here.k + exts_needed (count t.kind (length bytes))) (count t.kind (length bytes))) j b
         → TableAt (volume t n) (planned t n) (suc i) q a → word_in (volume t n) a (table_word j) ≡ b
     named_laid zero j b a z at ta =
         let x : ℕ = exts_needed (count t.kind (length bytes)) in
         let c : ℕ = count t.kind (length bytes) in
         let l0 : j < length (allocated n (suc here.k + x) c) = at_below (allocated n (suc here.k + x) c) j b at in
         let l1 : length (allocated n (suc here.k + x) c) ≡ c = length_allocated n (suc here.k + x) c in
-        let m : j % 72 ≡ j = omega arith in
-        let lt : j < 72 = omega arith in
+        let m : j % POINTERS ≡ j = omega arith in
+        let lt : j < POINTERS = omega arith in
         let fb = file_blocks in
-        let idx : slice_index (allocated n (suc here.k + x) (min 72 c)) j ≡ nth_free n (suc here.k + x + j) = allocated_index n (suc here.k + x) (min 72 c) j (omega arith) in
+        let idx : slice_index (allocated n (suc here.k + x) (min POINTERS c)) j ≡ nth_free n (suc here.k + x + j) = allocated_index n (suc here.k + x) (min POINTERS c) j (omega arith) in
         let s = below t n sound allowed room (suc here.k + x + j) (omega arith) in
         let sm = small in
         let at_head : nth_free n here.k ≡ a = sym here.at ∙ ta in
-        ap (λ a. word_in (volume t n) a (77 - j % 72)) (sym at_head)
-        ∙ (ap (λ m. word_in (volume t n) (nth_free n here.k) (77 - m)) m
-        ∙ (ap (λ bs. word bs (77 - j)) here.head
-        ∙ (head_block-pointer fields (length bytes) (allocated n (suc here.k + x) (min 72 c)) (nth_free_or_none n (suc here.k) x) j
-        (head_fits t n sound allowed room i e h) body_is lt (omega arith)
-        ∙ (idx ∙ sym (allocated_at n (suc here.k + x) c j b at)))))
+        ap (λ a. word_in (volume t n) a (FIRST_POINTER - j % POINTERS)) (sym at_head)
+        ∙ (ap (λ m. word_in (volume t n) (nth_free n here.k) (FIRST_POINTER - m)) m
+        ∙ (ap (λ bs. word bs (FIRST_POINTER - j)) here.head
+        ∙ (head_block-pointer fields (length bytes) (allocated n (suc here.k + x) (min POINTERS c)) (nth_free_or_none n (suc here.k) x) j
+        (head_fits t n sound allowed room i e h) body_is lt
+        ∙ (long_number (slice_index (allocated n (suc here.k + x) (min POINTERS c)) j) (omega arith)
+        ∙ (idx ∙ sym (allocated_at n (suc here.k + x) c j b at))))))
     named_laid (suc q) j b a z at ta =
         let x : ℕ = exts_needed (count t.kind (length bytes)) in
         let c : ℕ = count t.kind (length bytes) in
@@ -180,11 +183,11 @@ module _ (t : Tree) (n : ℕ) (sound : IsSound t) (allowed : is_allowed n ≡ tr
         let ax : At (allocated n (suc here.k) x) q a = subst (λ xs. At xs q a) exts_are ta in
         let lx0 : q < length (allocated n (suc here.k) x) = at_below (allocated n (suc here.k) x) q a ax in
         let lx1 : length (allocated n (suc here.k) x) ≡ x = length_allocated n (suc here.k) x in
-        let more : 72 < c = exts_some c q (omega arith) in
+        let more : POINTERS < c = exts_some c q (omega arith) in
         let fb = file_blocks in
-        let y : suc here.k + x + 72 + 72 * q + j % 72 ≡ suc here.k + x + j = omega arith in
+        let y : suc here.k + x + POINTERS + POINTERS * q + j % POINTERS ≡ suc here.k + x + j = omega arith in
         exts_point (volume t n) n (entries_blocks t.kind t.entries) small few (below t n sound allowed room) (nth_free n here.k) lies (suc here.k)
-        (suc here.k + x + 72) (c - 72) x (omega arith) (omega arith) exts_hold q a (j % 72) ax (omega arith) (omega arith)
+        (suc here.k + x + POINTERS) (c - POINTERS) x (omega arith) (omega arith) exts_hold q a (j % POINTERS) ax (omega arith) (omega arith)
         ∙ (ap (nth_free n) y ∙ sym (allocated_at n (suc here.k + x) c j b at))
 
     formed_laid : (kind : Kind) → t.kind ≡ kind → (j b : ℕ)
@@ -215,22 +218,22 @@ module _ (t : Tree) (n : ℕ) (sound : IsSound t) (allowed : is_allowed n ≡ tr
         let x : ℕ = exts_needed (count t.kind (length bytes)) in
         let c : ℕ = count t.kind (length bytes) in
         let fb = file_blocks in
-        let first : word_in (volume t n) (nth_free n here.k) 126 ≡ nth_free_or_none n (suc here.k) x =
-        ap (λ bs. word bs 126) here.head
+        let first : word_in (volume t n) (nth_free n here.k) EXTENSION ≡ nth_free_or_none n (suc here.k) x =
+        ap (λ bs. word bs EXTENSION) here.head
         ∙ (head_block-ext fields (head_fits t n sound allowed room i e h)
         (subst (λ b. ext_of b < 2 ^ 32) (sym body_is) (next_small n (entries_blocks t.kind t.entries) small few (below t n sound allowed room)
         (suc here.k) x (omega arith))) ∙ ap ext_of body_is) in
         record {
-          exts = subst (λ xs. Spelled (λ b. word_in (volume t n) b 126) (word_in (volume t n) (nth_free n here.k) 126) xs) (sym exts_are)
-              (subst (λ w. Spelled (λ b. word_in (volume t n) b 126) w (allocated n (suc here.k) x)) (sym first)
+          exts = subst (λ xs. Spelled (λ b. word_in (volume t n) b EXTENSION) (word_in (volume t n) (nth_free n here.k) EXTENSION) xs) (sym exts_are)
+              (subst (λ w. Spelled (λ b. word_in (volume t n) b EXTENSION) w (allocated n (suc here.k) x)) (sym first)
               (exts_linked (volume t n) n (entries_blocks t.kind t.entries) small few (below t n sound allowed room) (nth_free n here.k) lies (suc here.k)
-              (suc here.k + x + 72) (c - 72) x (omega arith) exts_hold));
+              (suc here.k + x + POINTERS) (c - POINTERS) x (omega arith) exts_hold));
           ext_form = (λ k b a. exts_formed (volume t n) n (entries_blocks t.kind t.entries) small few (below t n sound allowed room) (nth_free n here.k) lies
-              (suc here.k) (suc here.k + x + 72) (c - 72) x (omega arith) exts_hold k b (subst (λ xs. At xs k b) exts_are a));
+              (suc here.k) (suc here.k + x + POINTERS) (c - POINTERS) x (omega arith) exts_hold k b (subst (λ xs. At xs k b) exts_are a));
           enough = (let a = exts_enough c in let l : length (exts_of (planned t n) (suc i)) ≡ x =
               ap length exts_are ∙ length_allocated n (suc here.k) x in omega arith);
           datas = ap length datas_are ∙ length_allocated n (suc here.k + x) c;
-          named = (λ k b a at ta. named_laid (k / 72) k b a refl (subst (λ xs. At xs k b) datas_are at) ta);
+          named = (λ k b a at ta. named_laid (k / POINTERS) k b a refl (subst (λ xs. At xs k b) datas_are at) ta);
           data_form = (λ k b at. subst (λ xs. AllHold (data_demands (volume t n) t.kind b (nth_free n here.k) (suc k) (held t.kind (length bytes) (suc k))
               (slice_index xs (suc k)))) (sym datas_are) (formed_laid t.kind refl k b (subst (λ xs. At xs k b) datas_are at)));
         }

@@ -10,6 +10,7 @@ use Rattle.adf_fields.specs.Words.{block, word}
 use Rattle.adf_fields.proofs.WordLaws.{range-with_bytes_same}
 use Rattle.adf_tree.specs.declared.entry.Kind.{Kind}
 use Rattle.adf_tree.specs.declared.entry.Kind.TheVariants.{Ofs, Ffs}
+use Rattle.adf_blocks.specs.declared.layout.TheConstants.{EXTENSION, FIRST_POINTER, POINTERS}
 use Rattle.adf_blocks.specs.Forms.{first_cause}
 use Rattle.adf_blocks.specs.ExtBlock.{ext_form}
 use Rattle.adf_blocks.specs.DataBlock.{data_form}
@@ -47,13 +48,13 @@ allocated_past n k (suc m) (suc j) h = allocated_past n (suc k) m j (omega arith
 module _ (v : List ℕ) (n total : ℕ) (small : n < 2 ^ 32) (few : total < 2 ^ 32) (below : (k : ℕ) → k < total → nth_free n k < n) (head : ℕ) (lies : head < n)
   where
     -- the extension blocks are spelled
-    pub exts_linked : (k d c m : ℕ) → k + m ≤ total → Holds v (ext_writes n head k d c m) → Spelled (λ b. word_in v b 126) (nth_free_or_none n k m) (allocated n k m)
+    pub exts_linked : (k d c m : ℕ) → k + m ≤ total → Holds v (ext_writes n head k d c m) → Spelled (λ b. word_in v b EXTENSION) (nth_free_or_none n k m) (allocated n k m)
     exts_linked k d c zero l h = refl
     exts_linked k d c (suc m) l h =
         let f = fits_ext n total small few below head k d c m lies (omega arith) in
-        let w : word_in v (nth_free n k) 126 ≡ nth_free_or_none n (suc k) m =
-        ap (λ bs. word bs 126) h.0 ∙ ext_block-next (planned_ext n head k d c m) f (next_small n total small few below (suc k) m (omega arith)) in
-        (some_free n k m, subst (λ w. Spelled (λ b. word_in v b 126) w (allocated n (suc k) m)) (sym w) (exts_linked (suc k) (d + 72) (c - 72) m (omega arith) h.1))
+        let w : word_in v (nth_free n k) EXTENSION ≡ nth_free_or_none n (suc k) m =
+        ap (λ bs. word bs EXTENSION) h.0 ∙ ext_block-next (planned_ext n head k d c m) f (next_small n total small few below (suc k) m (omega arith)) in
+        (some_free n k m, subst (λ w. Spelled (λ b. word_in v b EXTENSION) w (allocated n (suc k) m)) (sym w) (exts_linked (suc k) (d + POINTERS) (c - POINTERS) m (omega arith) h.1))
 
     -- and have their form
     pub exts_formed : (k d c m : ℕ) → k + m ≤ total → Holds v (ext_writes n head k d c m) → (j b : ℕ) → At (allocated n k m) j b → AllHold (ext_demands v b head)
@@ -63,22 +64,22 @@ module _ (v : List ℕ) (n total : ℕ) (small : n < 2 ^ 32) (few : total < 2 ^ 
         subst (λ b. AllHold (ext_demands v b head)) a
         (all_demanded (nth_free n k) (ext_form (nth_free n k) head (block v (nth_free n k)))
         (subst (λ bs. first_cause (ext_form (nth_free n k) head bs) ≡ None) (sym h.0) (ext_block-form (planned_ext n head k d c m) f)))
-    exts_formed k d c (suc m) l h (suc j) b a = exts_formed (suc k) (d + 72) (c - 72) m (omega arith) h.1 j b a
+    exts_formed k d c (suc m) l h (suc j) b a = exts_formed (suc k) (d + POINTERS) (c - POINTERS) m (omega arith) h.1 j b a
 
-    -- pointer q of extension block j names data block 72 * j + q of the c that they name
-    pub exts_point : (k d c m : ℕ) → k + m ≤ total → d + c ≤ total → Holds v (ext_writes n head k d c m) → (j b q : ℕ) → At (allocated n k m) j b → q < 72
-        → 72 * j + q < c → word_in v b (77 - q) ≡ nth_free n (d + 72 * j + q)
+    -- pointer q of extension block j names data block POINTERS * j + q of the c that they name
+    pub exts_point : (k d c m : ℕ) → k + m ≤ total → d + c ≤ total → Holds v (ext_writes n head k d c m) → (j b q : ℕ) → At (allocated n k m) j b → q < POINTERS
+        → POINTERS * j + q < c → word_in v b (FIRST_POINTER - q) ≡ nth_free n (d + POINTERS * j + q)
     exts_point k d c zero l u h j b q a lt le = absurd a
     exts_point k d c (suc m) l u h zero b q a lt le =
         let f = fits_ext n total small few below head k d c m lies (omega arith) in
-        let i : slice_index (allocated n d (min 72 c)) q ≡ nth_free n (d + q) = allocated_index n d (min 72 c) q (omega arith) in
+        let i : slice_index (allocated n d (min POINTERS c)) q ≡ nth_free n (d + q) = allocated_index n d (min POINTERS c) q (omega arith) in
         let s = below (d + q) (omega arith) in
-        let z : d + q ≡ d + 72 * 0 + q = omega arith in
-        ap (λ b. word_in v b (77 - q)) (sym a)
-        ∙ (ap (λ bs. word bs (77 - q)) h.0 ∙ (ext_block-pointer (planned_ext n head k d c m) q f lt (omega arith) ∙ (i ∙ ap (nth_free n) z)))
+        let z : d + q ≡ d + POINTERS * 0 + q = omega arith in
+        ap (λ b. word_in v b (FIRST_POINTER - q)) (sym a)
+        ∙ (ap (λ bs. word bs (FIRST_POINTER - q)) h.0 ∙ (ext_block-pointer (planned_ext n head k d c m) q f lt (omega arith) ∙ (i ∙ ap (nth_free n) z)))
     exts_point k d c (suc m) l u h (suc j) b q a lt le =
-        let z : d + 72 + 72 * j + q ≡ d + 72 * suc j + q = omega arith in
-        exts_point (suc k) (d + 72) (c - 72) m (omega arith) (omega arith) h.1 j b q a lt (omega arith) ∙ ap (nth_free n) z
+        let z : d + POINTERS + POINTERS * j + q ≡ d + POINTERS * suc j + q = omega arith in
+        exts_point (suc k) (d + POINTERS) (c - POINTERS) m (omega arith) (omega arith) h.1 j b q a lt (omega arith) ∙ ap (nth_free n) z
 
     take_take : (a b : ℕ) (xs : List ℕ) → a ≤ b → take a (take b xs) ≡ take a xs
     take_take zero zero xs h = refl

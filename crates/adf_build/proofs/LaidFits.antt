@@ -13,6 +13,8 @@ use Rattle.adf_tree.specs.declared.entry.Kind.{Kind}
 use Rattle.adf_tree.specs.declared.entry.Kind.TheVariants.{Ofs, Ffs}
 use Rattle.adf_tree.specs.declared.entry.Entry.{Entry}
 use Rattle.adf_tree.specs.Tree.{Tree, IsDir}
+use Rattle.adf_blocks.specs.declared.layout.TheConstants.{FIRST_MAP_EXT, FIRST_PAGE, FIRST_SLOT, MAP_EXT_NEXT, MAP_EXT_PAGES, NAME, NEXT_IN_CHAIN, PAGE_BITS}
+use Rattle.adf_blocks.specs.declared.layout.TheConstants.{ROOT_PAGES, SLOTS}
 use Rattle.adf_blocks.specs.Sizes.{blocks, middle, pages_needed, is_allowed}
 use Rattle.adf_blocks.specs.Forms.{first_cause, text_at}
 use Rattle.adf_blocks.specs.Fields.{block_of_fields}
@@ -123,28 +125,28 @@ flag_one true h = refl
 flag_one false h = cc
 
 -- a bit of a page tells whether its block is free
-bit_tells : (n total q r : ℕ) → r < 4064 → IsFreeBit (page_block (page_words n total q)) r ↔ (is_free_bit n total (4064 * q + r) ≡ true)
+bit_tells : (n total q r : ℕ) → r < PAGE_BITS → IsFreeBit (page_block (page_words n total q)) r ↔ (is_free_bit n total (PAGE_BITS * q + r) ≡ true)
 bit_tells n total q r h =
-    let f : ℕ → ℕ = λ w. bits_from (is_free_bit n total) (4064 * q + 32 * w) 32 in
+    let f : ℕ → ℕ = λ w. bits_from (is_free_bit n total) (PAGE_BITS * q + 32 * w) 32 in
     let z : 0 + r / 32 ≡ r / 32 = omega arith in
     let lt : r / 32 < 127 = omega arith in
-    let w : slice_index (page_words n total q) (r / 32) ≡ bits_from (is_free_bit n total) (4064 * q + 32 * (r / 32)) 32 =
+    let w : slice_index (page_words n total q) (r / 32) ≡ bits_from (is_free_bit n total) (PAGE_BITS * q + 32 * (r / 32)) 32 =
     get_or-map-range_with_len f 0 127 (r / 32) (r / 32) 0 lt z in
-    let s : bits_from (is_free_bit n total) (4064 * q + 32 * (r / 32)) 32 < 2 ^ 32 = bits_small (is_free_bit n total) (4064 * q + 32 * (r / 32)) 32 in
-    let b : bits_from (is_free_bit n total) (4064 * q + 32 * (r / 32)) 32 / 2 ^ (r % 32) % 2
-    ≡ cond (is_free_bit n total (4064 * q + 32 * (r / 32) + r % 32)) 1 0 =
-    bit_of (is_free_bit n total) (4064 * q + 32 * (r / 32)) 32 (r % 32) (omega arith) in
-    let y : 4064 * q + 32 * (r / 32) + r % 32 ≡ 4064 * q + r = omega arith in
+    let s : bits_from (is_free_bit n total) (PAGE_BITS * q + 32 * (r / 32)) 32 < 2 ^ 32 = bits_small (is_free_bit n total) (PAGE_BITS * q + 32 * (r / 32)) 32 in
+    let b : bits_from (is_free_bit n total) (PAGE_BITS * q + 32 * (r / 32)) 32 / 2 ^ (r % 32) % 2
+    ≡ cond (is_free_bit n total (PAGE_BITS * q + 32 * (r / 32) + r % 32)) 1 0 =
+    bit_of (is_free_bit n total) (PAGE_BITS * q + 32 * (r / 32)) 32 (r % 32) (omega arith) in
+    let y : PAGE_BITS * q + 32 * (r / 32) + r % 32 ≡ PAGE_BITS * q + r = omega arith in
     let long : length (page_words n total q) ≡ 127 = length-map-range_with_len f 0 127 in
     let p = page_block-bit (page_words n total q) r long h (subst (λ x. x < 2 ^ 32) (sym w) s) in (
       (λ free.
-          let x : IsBitSet (bits_from (is_free_bit n total) (4064 * q + 32 * (r / 32)) 32) (r % 32) = subst (λ x. IsBitSet x (r % 32)) w (p.0 free) in
+          let x : IsBitSet (bits_from (is_free_bit n total) (PAGE_BITS * q + 32 * (r / 32)) 32) (r % 32) = subst (λ x. IsBitSet x (r % 32)) w (p.0 free) in
           ap (is_free_bit n total) (sym y)
-          ∙ flag_true (is_free_bit n total (4064 * q + 32 * (r / 32) + r % 32))
-          (sym b ∙ (set_bit (bits_from (is_free_bit n total) (4064 * q + 32 * (r / 32)) 32) (r % 32)).0 x)),
+          ∙ flag_true (is_free_bit n total (PAGE_BITS * q + 32 * (r / 32) + r % 32))
+          (sym b ∙ (set_bit (bits_from (is_free_bit n total) (PAGE_BITS * q + 32 * (r / 32)) 32) (r % 32)).0 x)),
       (λ e.
-          let x = (set_bit (bits_from (is_free_bit n total) (4064 * q + 32 * (r / 32)) 32) (r % 32)).1
-          (b ∙ flag_one (is_free_bit n total (4064 * q + 32 * (r / 32) + r % 32)) (ap (is_free_bit n total) y ∙ e)) in
+          let x = (set_bit (bits_from (is_free_bit n total) (PAGE_BITS * q + 32 * (r / 32)) 32) (r % 32)).1
+          (b ∙ flag_one (is_free_bit n total (PAGE_BITS * q + 32 * (r / 32) + r % 32)) (ap (is_free_bit n total) y ∙ e)) in
           p.1 (subst (λ x. IsBitSet x (r % 32)) (sym w) x)),
     )
 
@@ -186,20 +188,20 @@ module _ (t : Tree) (n : ℕ) (sound : IsSound t) (allowed : is_allowed n ≡ tr
 
   label_laid : t.label ≡ label_of (volume t n) (middle n)
   unfolding label_of
-  label_laid = sym (ap (λ bs. text_at bs 432) (holds_root t n sound allowed room) ∙ root_block-text (planned_root t n) (fits_root t n sound allowed room))
+  label_laid = sym (ap (λ bs. text_at bs NAME) (holds_root t n sound allowed room) ∙ root_block-text (planned_root t n) (fits_root t n sound allowed room))
 
   stamps_laid : t.stamps ≡ stamps_of (volume t n) (middle n)
   unfolding stamps_of
   stamps_laid = sym (ap stamps_at (holds_root t n sound allowed room) ∙ root_block-stamps (planned_root t n) (fits_root t n sound allowed room) sound.stamps)
 
-  page_word : (k b : ℕ) → k < 25 → At (range_with_len (middle n + 1) (pages_needed n)) k b → word_in (volume t n) (middle n) (79 + k) ≡ b
+  page_word : (k b : ℕ) → k < ROOT_PAGES → At (range_with_len (middle n + 1) (pages_needed n)) k b → word_in (volume t n) (middle n) (FIRST_PAGE + k) ≡ b
   page_word k b l h =
       let a : b ≡ middle n + 1 + k = range_at (middle n + 1) (pages_needed n) k b h in
       let l0 : k < length (range_with_len (middle n + 1) (pages_needed n)) = at_below (range_with_len (middle n + 1) (pages_needed n)) k b h in
       let l1 = length-range_with_len (middle n + 1) (pages_needed n) in
-      let e : slice_index (range_with_len (middle n + 1) (min 25 (pages_needed n))) k ≡ b = range_index (middle n + 1) (min 25 (pages_needed n)) k (omega arith) ∙ sym a in
+      let e : slice_index (range_with_len (middle n + 1) (min ROOT_PAGES (pages_needed n))) k ≡ b = range_index (middle n + 1) (min ROOT_PAGES (pages_needed n)) k (omega arith) ∙ sym a in
       let high = size_high n allowed in
-      ap (λ bs. word bs (79 + k)) (holds_root t n sound allowed room)
+      ap (λ bs. word bs (FIRST_PAGE + k)) (holds_root t n sound allowed room)
       ∙ (root_block-page (planned_root t n) k (fits_root t n sound allowed room) l (omega arith) ∙ e)
 
   page_at : (q : ℕ) → q < pages_needed n → block (volume t n) (middle n + 1 + q) ≡ page_block (page_words n (entries_blocks t.kind t.entries) q)
@@ -217,18 +219,18 @@ module _ (t : Tree) (n : ℕ) (sound : IsSound t) (allowed : is_allowed n ≡ tr
       (all_demanded (middle n + 1 + k) (page_form (block (volume t n) (middle n + 1 + k)))
       (subst (λ bs. first_cause (page_form bs) ≡ None) (sym (page_at k (omega arith)))
       (page_block-form (page_words n (entries_blocks t.kind t.entries) k)
-      (length-map-range_with_len (λ w. bits_from (is_free_bit n (entries_blocks t.kind t.entries)) (4064 * k + 32 * w) 32) 0 127))))
+      (length-map-range_with_len (λ w. bits_from (is_free_bit n (entries_blocks t.kind t.entries)) (PAGE_BITS * k + 32 * w) 32) 0 127))))
 
-  chains_laid : (p s : ℕ) → IsDir t.entries p → s < 72
-      → Spelled (λ b. word_in (volume t n) b 124) (word_in (volume t n) (at_node (volume t n) (planned t n) p) (6 + s))
+  chains_laid : (p s : ℕ) → IsDir t.entries p → s < SLOTS
+      → Spelled (λ b. word_in (volume t n) b NEXT_IN_CHAIN) (word_in (volume t n) (at_node (volume t n) (planned t n) p) (FIRST_SLOT + s))
       (map (at_node (volume t n) (planned t n)) (chain_nodes t p s))
   chains_laid zero s d l =
-      chain_laid t n sound allowed room 0 s (word_in (volume t n) (root_of (volume t n)) (6 + s))
-      (ap (λ b. word_in (volume t n) (middle b) (6 + s)) size ∙ root_slot t n sound allowed room s l)
+      chain_laid t n sound allowed room 0 s (word_in (volume t n) (root_of (volume t n)) (FIRST_SLOT + s))
+      (ap (λ b. word_in (volume t n) (middle b) (FIRST_SLOT + s)) size ∙ root_slot t n sound allowed room s l)
   chains_laid (suc i) s d l =
       let x = dir_node t (suc i) d in
-      chain_laid t n sound allowed room (suc i) s (word_in (volume t n) (at_node (volume t n) (planned t n) (suc i)) (6 + s))
-      (ap (λ b. word_in (volume t n) b (6 + s)) (spot t n sound allowed room i x.0 x.1).at ∙ dir_slot t n sound allowed room i s x.0 x.1 x.2 l)
+      chain_laid t n sound allowed room (suc i) s (word_in (volume t n) (at_node (volume t n) (planned t n) (suc i)) (FIRST_SLOT + s))
+      (ap (λ b. word_in (volume t n) b (FIRST_SLOT + s)) (spot t n sound allowed room i x.0 x.1).at ∙ dir_slot t n sound allowed room i s x.0 x.1 x.2 l)
 
   owned_is : (b : ℕ)
       → In (blocks_of (owned (volume t n) (planned t n))) b ↔ In (middle n ∷ (range_with_len (middle n + 1) (reserved n) ++ allocated n 0 (entries_blocks t.kind t.entries))) b
@@ -237,14 +239,14 @@ module _ (t : Tree) (n : ℕ) (sound : IsSound t) (allowed : is_allowed n ≡ tr
   free_laid : (b : ℕ) → 2 ≤ b → b < n → IsFree (volume t n) (range_with_len (middle n + 1) (pages_needed n)) b → (o : Owner)
       → In (owned (volume t n) (planned t n)) (o, b) → ⊥
   free_laid b lo hi f o i =
-      let q : ℕ = (b - 2) / 4064 in
-      let r : ℕ = (b - 2) % 4064 in
+      let q : ℕ = (b - 2) / PAGE_BITS in
+      let r : ℕ = (b - 2) % PAGE_BITS in
       let e : f.0 ≡ middle n + 1 + q = range_at (middle n + 1) (pages_needed n) q f.0 f.1 in
       let lt : q < pages_needed n = page_in n b lo hi in
       let g : IsFreeBit (block (volume t n) (middle n + 1 + q)) r = subst (λ p. IsFreeBit (block (volume t n) p) r) e f.2 in
-      let x : is_free_bit n (entries_blocks t.kind t.entries) (4064 * q + r) ≡ true =
+      let x : is_free_bit n (entries_blocks t.kind t.entries) (PAGE_BITS * q + r) ≡ true =
       (bit_tells n (entries_blocks t.kind t.entries) q r (omega arith)).0 (subst (λ bs. IsFreeBit bs r) (page_at q lt) g) in
-      let y : is_used n (entries_blocks t.kind t.entries) b ≡ false = free_unused n (entries_blocks t.kind t.entries) (4064 * q + r) b (omega arith) x in
+      let y : is_used n (entries_blocks t.kind t.entries) b ≡ false = free_unused n (entries_blocks t.kind t.entries) (PAGE_BITS * q + r) b (omega arith) x in
       let u : is_used n (entries_blocks t.kind t.entries) b ≡ true =
       owned_used n (entries_blocks t.kind t.entries) b ((owned_is b).0 (block_in (owned (volume t n) (planned t n)) o b i)) in
       let w : true ≡ false = sym u ∙ y in
@@ -253,14 +255,14 @@ module _ (t : Tree) (n : ℕ) (sound : IsSound t) (allowed : is_allowed n ≡ tr
   unowned_laid : (b : ℕ) → 2 ≤ b → b < n → ((o : Owner) → In (owned (volume t n) (planned t n)) (o, b) → ⊥)
       → IsFree (volume t n) (range_with_len (middle n + 1) (pages_needed n)) b
   unowned_laid b lo hi f =
-      let q : ℕ = (b - 2) / 4064 in
-      let r : ℕ = (b - 2) % 4064 in
+      let q : ℕ = (b - 2) / PAGE_BITS in
+      let r : ℕ = (b - 2) % PAGE_BITS in
       let four = size_low n allowed in
       let lt : q < pages_needed n = page_in n b lo hi in
       let y : is_used n (entries_blocks t.kind t.entries) b ≡ false = false_from_ne_true (is_used n (entries_blocks t.kind t.entries) b)
       (λ u. let x = in_block (owned (volume t n) (planned t n)) b ((owned_is b).1 (used_owned n (entries_blocks t.kind t.entries) b four lo u)) in
       f x.0 x.1) in
-      let x = unused_free n (entries_blocks t.kind t.entries) (4064 * q + r) b (omega arith) hi y in
+      let x = unused_free n (entries_blocks t.kind t.entries) (PAGE_BITS * q + r) b (omega arith) hi y in
       let g : IsFreeBit (page_block (page_words n (entries_blocks t.kind t.entries) q)) r =
       (bit_tells n (entries_blocks t.kind t.entries) q r (omega arith)).1 x in
       (middle n + 1 + q, at_range (middle n + 1) (pages_needed n) q lt, subst (λ bs. IsFreeBit bs r) (sym (page_at q lt)) g)
@@ -292,18 +294,18 @@ module _ (t : Tree) (n : ℕ) (sound : IsSound t) (allowed : is_allowed n ≡ tr
       let r = reserved_below n four in
       omega arith
 
-  map_first_laid : (b : ℕ) → At (range_with_len (middle n + 1 + pages_needed n) (map_exts_needed (pages_needed n))) 0 b → word_in (volume t n) (middle n) 104 ≡ b
+  map_first_laid : (b : ℕ) → At (range_with_len (middle n + 1 + pages_needed n) (map_exts_needed (pages_needed n))) 0 b → word_in (volume t n) (middle n) FIRST_MAP_EXT ≡ b
   map_first_laid b h =
       let x = map_ext_at 0 b h in
       let e : b ≡ middle n + 1 + pages_needed n + 0 = x.1 in
       let small : map_ext_or_none n 0 (map_exts_needed (pages_needed n)) < 2 ^ 32 =
       map_ext_small n 0 (map_exts_needed (pages_needed n)) (map_ext_near 0 (omega arith)) in
-      ap (λ bs. word bs 104) (holds_root t n sound allowed room)
+      ap (λ bs. word bs FIRST_MAP_EXT) (holds_root t n sound allowed room)
       ∙ (root_block-map_ext (planned_root t n) (fits_root t n sound allowed room) small ∙ (map_ext_some n 0 (map_exts_needed (pages_needed n)) x.0 ∙ sym e))
 
   map_next_laid : (j a b : ℕ) → At (range_with_len (middle n + 1 + pages_needed n) (map_exts_needed (pages_needed n))) j a
       → At (range_with_len (middle n + 1 + pages_needed n) (map_exts_needed (pages_needed n))) (suc j) b
-      → word_in (volume t n) a 127 ≡ b
+      → word_in (volume t n) a MAP_EXT_NEXT ≡ b
   map_next_laid j a b g h =
       let x = map_ext_at j a g in
       let y = map_ext_at (suc j) b h in
@@ -311,23 +313,23 @@ module _ (t : Tree) (n : ℕ) (sound : IsSound t) (allowed : is_allowed n ≡ tr
       let e : b ≡ middle n + 1 + pages_needed n + suc j = y.1 in
       let m : ℕ = map_exts_needed (pages_needed n) - suc j in
       let small : map_ext_or_none n (suc j) m < 2 ^ 32 = map_ext_small n (suc j) m (map_ext_near (suc j) (omega arith)) in
-      ap (λ a. word_in (volume t n) a 127) x.1
-      ∙ (ap (λ bs. word bs 127) (map_ext_is j x.0)
+      ap (λ a. word_in (volume t n) a MAP_EXT_NEXT) x.1
+      ∙ (ap (λ bs. word bs MAP_EXT_NEXT) (map_ext_is j x.0)
       ∙ (map_ext_block-next (listed_pages n j) (map_ext_or_none n (suc j) m) (listed_few n j) small ∙ (map_ext_some n (suc j) m (omega arith) ∙ sym e)))
 
-  page_listed_laid : (j i a b : ℕ) → i < 127 → At (range_with_len (middle n + 1 + pages_needed n) (map_exts_needed (pages_needed n))) j a
-      → At (range_with_len (middle n + 1) (pages_needed n)) (25 + 127 * j + i) b
+  page_listed_laid : (j i a b : ℕ) → i < MAP_EXT_PAGES → At (range_with_len (middle n + 1 + pages_needed n) (map_exts_needed (pages_needed n))) j a
+      → At (range_with_len (middle n + 1) (pages_needed n)) (ROOT_PAGES + MAP_EXT_PAGES * j + i) b
       → word_in (volume t n) a i ≡ b
   page_listed_laid j i a b l g h =
       let x = map_ext_at j a g in
       let u : j < map_exts_needed (pages_needed n) = x.0 in
       let m : ℕ = map_exts_needed (pages_needed n) - suc j in
-      let e : b ≡ middle n + 1 + (25 + 127 * j + i) = range_at (middle n + 1) (pages_needed n) (25 + 127 * j + i) b h in
-      let l0 : 25 + 127 * j + i < length (range_with_len (middle n + 1) (pages_needed n)) = at_below (range_with_len (middle n + 1) (pages_needed n)) (25 + 127 * j + i) b h in
+      let e : b ≡ middle n + 1 + (ROOT_PAGES + MAP_EXT_PAGES * j + i) = range_at (middle n + 1) (pages_needed n) (ROOT_PAGES + MAP_EXT_PAGES * j + i) b h in
+      let l0 : ROOT_PAGES + MAP_EXT_PAGES * j + i < length (range_with_len (middle n + 1) (pages_needed n)) = at_below (range_with_len (middle n + 1) (pages_needed n)) (ROOT_PAGES + MAP_EXT_PAGES * j + i) b h in
       let l1 = length-range_with_len (middle n + 1) (pages_needed n) in
       let near = map_ext_near 0 (omega arith) in
       let s : slice_index (listed_pages n j) i ≡ b =
-      range_index (middle n + 1 + (25 + 127 * j)) (min 127 (pages_needed n - (25 + 127 * j))) i (omega arith) ∙ omega arith in
+      range_index (middle n + 1 + (ROOT_PAGES + MAP_EXT_PAGES * j)) (min MAP_EXT_PAGES (pages_needed n - (ROOT_PAGES + MAP_EXT_PAGES * j))) i (omega arith) ∙ omega arith in
       ap (λ a. word_in (volume t n) a i) x.1
       ∙ (ap (λ bs. word bs i) (map_ext_is j u) ∙ (map_ext_block-page (listed_pages n j) (map_ext_or_none n (suc j) m) i (listed_few n j) l (omega arith) ∙ s))
 
@@ -354,9 +356,9 @@ module _ (t : Tree) (n : ℕ) (sound : IsSound t) (allowed : is_allowed n ≡ tr
         places = places_long n t.kind 0 t.entries;
         pages = length-range_with_len (middle n + 1) (pages_needed n) ∙ ap pages_needed (sym size);
         map_exts = length-range_with_len (middle n + 1 + pages_needed n) (map_exts_needed (pages_needed n)) ∙ ap (λ n. map_exts_needed (pages_needed n)) (sym size);
-        map_first = (λ b h. ap (λ r. word_in (volume t n) r 104) (sym s) ∙ map_first_laid b h);
+        map_first = (λ b h. ap (λ r. word_in (volume t n) r FIRST_MAP_EXT) (sym s) ∙ map_first_laid b h);
         map_next = map_next_laid;
-        page_named = (λ k b l h. ap (λ r. word_in (volume t n) r (79 + k)) (sym s) ∙ page_word k b l h);
+        page_named = (λ k b l h. ap (λ r. word_in (volume t n) r (FIRST_PAGE + k)) (sym s) ∙ page_word k b l h);
         page_listed = page_listed_laid;
         page_form = page_formed;
         entries = entries_fit;

@@ -11,6 +11,7 @@ use Rattle.adf_tree.specs.declared.entry.Kind.{Kind}
 use Rattle.adf_tree.specs.declared.entry.Kind.TheVariants.{Ofs, Ffs}
 use Rattle.adf_tree.specs.declared.entry.Entry.{Entry}
 use Rattle.adf_tree.specs.Tree.{Tree}
+use Rattle.adf_blocks.specs.declared.layout.TheConstants.{MAP_EXT_PAGES, PAGE_BITS, ROOT_PAGES, SLOTS}
 use Rattle.adf_blocks.specs.Sizes.{blocks, middle, pages_needed, is_allowed}
 use Rattle.adf_blocks.specs.Fields.{block_of_fields}
 use Rattle.adf_blocks.specs.RootBlock.{FitsRoot, root_block}
@@ -56,15 +57,15 @@ map_ext_numbers n j (suc m) =
     let e : middle n + 1 + pages_needed n + suc j ≡ middle n + 1 + pages_needed n + j + 1 = omega arith in
     ap (λ l. (middle n + 1 + pages_needed n + j) ∷ l) (map_ext_numbers n (suc j) m ∙ ap (λ b. range_with_len b m) e)
 
--- a bitmap extension block names at most 127 pages
-pub listed_few : (n j : ℕ) → length (listed_pages n j) ≤ 127
+-- a bitmap extension block names at most MAP_EXT_PAGES pages
+pub listed_few : (n j : ℕ) → length (listed_pages n j) ≤ MAP_EXT_PAGES
 listed_few n j =
-    let l : length (listed_pages n j) ≡ min 127 (pages_needed n - (25 + 127 * j)) =
-    length-range_with_len (middle n + 1 + (25 + 127 * j)) (min 127 (pages_needed n - (25 + 127 * j))) in
+    let l : length (listed_pages n j) ≡ min MAP_EXT_PAGES (pages_needed n - (ROOT_PAGES + MAP_EXT_PAGES * j)) =
+    length-range_with_len (middle n + 1 + (ROOT_PAGES + MAP_EXT_PAGES * j)) (min MAP_EXT_PAGES (pages_needed n - (ROOT_PAGES + MAP_EXT_PAGES * j))) in
     omega arith
 
 page_long : (n total j : ℕ) → length (page_words n total j) ≡ 127
-page_long n total j = length-map-range_with_len (λ w. bits_from (is_free_bit n total) (4064 * j + 32 * w) 32) 0 127
+page_long n total j = length-map-range_with_len (λ w. bits_from (is_free_bit n total) (PAGE_BITS * j + 32 * w) 32) 0 127
 
 are_pages : (n total j m : ℕ) → middle n + j + m < n → AreBlocks n (page_writes n total j m)
 are_pages n total j zero h = tt
@@ -115,9 +116,9 @@ module _ (t : Tree) (n : ℕ) (sound : IsSound t) (allowed : is_allowed n ≡ tr
 
   pub fits_root : FitsRoot (planned_root t n)
   fits_root =
-      let r : length (range_with_len (middle n + 1) (min 25 (pages_needed n))) ≡ min 25 (pages_needed n) = length-range_with_len (middle n + 1) (min 25 (pages_needed n)) in
+      let r : length (range_with_len (middle n + 1) (min ROOT_PAGES (pages_needed n))) ≡ min ROOT_PAGES (pages_needed n) = length-range_with_len (middle n + 1) (min ROOT_PAGES (pages_needed n)) in
       record {
-        slots = length-map-range_with_len (λ s. first_block (slice_index (node_blocks t n)) (nodes_from 1 t.entries 0 s)) 0 72;
+        slots = length-map-range_with_len (λ s. first_block (slice_index (node_blocks t n)) (nodes_from 1 t.entries 0 s)) 0 SLOTS;
         pages = omega arith;
         label = sound.label;
       }

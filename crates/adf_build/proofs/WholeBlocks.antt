@@ -10,6 +10,7 @@ use Rattle.adf_tree.specs.declared.entry.Kind.TheVariants.{Ofs, Ffs}
 use Rattle.adf_tree.specs.declared.entry.Body.{Body}
 use Rattle.adf_tree.specs.declared.entry.Body.TheVariants.{Dir, File}
 use Rattle.adf_tree.specs.declared.entry.Entry.{Entry}
+use Rattle.adf_blocks.specs.declared.layout.TheConstants.{POINTERS, SLOTS}
 use Rattle.adf_blocks.specs.HeadBlock.{FitsHead, FitsBody}
 use Rattle.adf_blocks.specs.ExtBlock.{FitsExt}
 use Rattle.adf_blocks.specs.DataBlock.{FitsData}
@@ -51,7 +52,7 @@ module _ (n total : ℕ) (small : n < 2 ^ 32) (few : total < 2 ^ 32) (below : (k
   pub fits_ext : (head k d c m : ℕ) → head < n → k < total → FitsExt (planned_ext n head k d c m)
   fits_ext head k d c m h l =
       let b = below k l in
-      let r : length (allocated n d (min 72 c)) ≡ min 72 c = length_allocated n d (min 72 c) in
+      let r : length (allocated n d (min POINTERS c)) ≡ min POINTERS c = length_allocated n d (min POINTERS c) in
       record { own = omega arith; head = omega arith; table = omega arith }
 
   pub fits_data : (head k number m : ℕ) (bytes : List ℕ) → head < n → k + suc m ≤ total → number < 2 ^ 32
@@ -86,7 +87,7 @@ module _ (n total : ℕ) (small : n < 2 ^ 32) (few : total < 2 ^ 32) (below : (k
   are_exts head k d c (suc m) h l = (
     below k (omega arith),
     length_ext_block (planned_ext n head k d c m) (fits_ext head k d c m h (omega arith)),
-    are_exts head (suc k) (d + 72) (c - 72) m
+    are_exts head (suc k) (d + POINTERS) (c - POINTERS) m
         h (omega arith),
   )
 
@@ -97,15 +98,15 @@ module _ (n total : ℕ) (small : n < 2 ^ 32) (few : total < 2 ^ 32) (below : (k
       let c : ℕ = count kind (length bytes) in
       let x : ℕ = exts_needed c in
       let b : nth_free n k < n = below k (omega arith) in
-      are-append n (ext_writes n (nth_free n k) (suc k) (suc k + x + 72) (c - 72) x) (data_writes n kind (nth_free n k) (suc k + x) 1 bytes c)
-      (are_exts (nth_free n k) (suc k) (suc k + x + 72) (c - 72) x b (omega arith))
+      are-append n (ext_writes n (nth_free n k) (suc k) (suc k + x + POINTERS) (c - POINTERS) x) (data_writes n kind (nth_free n k) (suc k + x) 1 bytes c)
+      (are_exts (nth_free n k) (suc k) (suc k + x + POINTERS) (c - POINTERS) x b (omega arith))
       (are_datas kind (nth_free n k) (suc k + x) 1 bytes c b (omega arith) (omega arith))
 
-  pub fits_body : (k : ℕ) (kind : Kind) (slots : List ℕ) (body : Body) → length slots ≡ 72 → FitsBody (body_of n k kind slots body)
+  pub fits_body : (k : ℕ) (kind : Kind) (slots : List ℕ) (body : Body) → length slots ≡ SLOTS → FitsBody (body_of n k kind slots body)
   fits_body k kind slots Dir h = h
   fits_body k kind slots (File bytes) h =
       let c : ℕ = count kind (length bytes) in
-      let r : length (allocated n (suc k + exts_needed c) (min 72 c)) ≡ min 72 c = length_allocated n (suc k + exts_needed c) (min 72 c) in
+      let r : length (allocated n (suc k + exts_needed c) (min POINTERS c)) ≡ min POINTERS c = length_allocated n (suc k + exts_needed c) (min POINTERS c) in
       omega arith
 
   pub fits_head : (kind : Kind) (nodes : List ℕ) (all : List Entry) (i k : ℕ) (e : Entry) (es : List Entry) → ((j : ℕ) → slice_index nodes j < 2 ^ 32)
@@ -117,7 +118,7 @@ module _ (n total : ℕ) (small : n < 2 ^ 32) (few : total < 2 ^ 32) (below : (k
         parent = near e.parent;
         name = name;
         comment = comment;
-        body = fits_body k kind (slots_of nodes all i) e.body (length-map-range_with_len (λ s. first_block (slice_index nodes) (nodes_from 1 all i s)) 0 72);
+        body = fits_body k kind (slots_of nodes all i) e.body (length-map-range_with_len (λ s. first_block (slice_index nodes) (nodes_from 1 all i s)) 0 SLOTS);
       }
 
   pub are_entries : (kind : Kind) (nodes : List ℕ) (all : List Entry) (i k : ℕ) (es : List Entry) → ((j : ℕ) → slice_index nodes j < 2 ^ 32)

@@ -4,6 +4,7 @@ use Rattle.adf_tree.specs.declared.entry.Kind.{Kind}
 use Rattle.adf_tree.specs.declared.entry.Body.{Body}
 use Rattle.adf_tree.specs.declared.entry.Body.TheVariants.{Dir, File}
 use Rattle.adf_tree.specs.declared.entry.Entry.{Entry}
+use Rattle.adf_blocks.specs.declared.layout.TheConstants.{POINTERS}
 use Rattle.adf_volume.specs.Lists.{In}
 use Rattle.adf_blocks.specs.Sizes.{count}
 use Rattle.adf_volume.proofs.DistinctBlocks.{Distinct}
@@ -47,7 +48,7 @@ data_numbers n kind head k number bytes (suc m) = ap (λ l. nth_free n k ∷ l) 
 
 ext_numbers : (n head k d c m : ℕ) → numbers_of (ext_writes n head k d c m) ≡ allocated n k m
 ext_numbers n head k d c zero = refl
-ext_numbers n head k d c (suc m) = ap (λ l. nth_free n k ∷ l) (ext_numbers n head (suc k) (d + 72) (c - 72) m)
+ext_numbers n head k d c (suc m) = ap (λ l. nth_free n k ∷ l) (ext_numbers n head (suc k) (d + POINTERS) (c - POINTERS) m)
 
 body_numbers : (n : ℕ) (kind : Kind) (k : ℕ) (body : Body)
     → numbers_of (body_writes n kind k body) ≡ allocated n (suc k) (exts_needed (data_blocks kind body) + data_blocks kind body)
@@ -56,10 +57,10 @@ body_numbers n kind k Dir = refl
 body_numbers n kind k (File bytes) =
     let c : ℕ = count kind (length bytes) in
     let x : ℕ = exts_needed c in
-    let exts : List (ℕ × List ℕ) = ext_writes n (nth_free n k) (suc k) (suc k + x + 72) (c - 72) x in
+    let exts : List (ℕ × List ℕ) = ext_writes n (nth_free n k) (suc k) (suc k + x + POINTERS) (c - POINTERS) x in
     let datas : List (ℕ × List ℕ) = data_writes n kind (nth_free n k) (suc k + x) 1 bytes c in
     numbers_of-append exts datas
-    ∙ ap (λ l. l ++ numbers_of datas) (ext_numbers n (nth_free n k) (suc k) (suc k + x + 72) (c - 72) x)
+    ∙ ap (λ l. l ++ numbers_of datas) (ext_numbers n (nth_free n k) (suc k) (suc k + x + POINTERS) (c - POINTERS) x)
     ∙ ap (λ l. allocated n (suc k) x ++ l) (data_numbers n kind (nth_free n k) (suc k + x) 1 bytes c)
     ∙ sym (allocated-append n (suc k) x c)
 

@@ -2,6 +2,7 @@
 use Rattle.std.specs.Prelude.{ℕ, List, ◌+◌, ◌-◌, ◌*◌, ◌&&◌, ◌||◌, nat_lt, nat_le, not, cond, Bool, map}
 use Rattle.std.specs.List.{range_with_len}
 use Rattle.std.proofs.Common.{zero, suc}
+use Rattle.adf_blocks.specs.declared.layout.TheConstants.{PAGE_BITS}
 use Rattle.adf_blocks.specs.Sizes.{middle}
 use Rattle.adf_build.specs.Plan.{reserved}
 
@@ -20,4 +21,4 @@ bits_from f q (suc m) = cond (f q) 1 0 + 2 * bits_from f (suc q) m
 
 -- words 1 to 127 of page j
 abbrev pub page_words : ℕ → ℕ → ℕ → List ℕ
-page_words n total j = map (λ w. bits_from (is_free_bit n total) (4064 * j + 32 * w) 32) (range_with_len 0 127)
+page_words n total j = map (λ w. bits_from (is_free_bit n total) (PAGE_BITS * j + 32 * w) 32) (range_with_len 0 127)

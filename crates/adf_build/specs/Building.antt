@@ -5,6 +5,7 @@ use Rattle.adf_tree.specs.Texts.{is_name}
 use Rattle.adf_tree.specs.Tree.{Tree}
 use Rattle.adf_tree.specs.declared.entry.Entry.{Entry}
 use Rattle.adf_tree.specs.declared.entry.Kind.{Kind}
+use Rattle.adf_blocks.specs.declared.layout.TheConstants.{POINTERS}
 use Rattle.adf_blocks.specs.HeadBlock.{FitsMeta, HeadFields, head_block}
 use Rattle.adf_blocks.specs.HeadBlock.BodyFields.{FileFields}
 use Rattle.adf_blocks.specs.Sizes.{is_allowed}
@@ -60,7 +61,7 @@ file_header n spot size datas e = record {
   next = spot.next;
   name = e.name;
   meta = e.meta;
-  body = FileFields size (allocated n (suc spot.k + exts_needed datas) (min 72 datas)) (nth_free_or_none n (suc spot.k) (exts_needed datas));
+  body = FileFields size (allocated n (suc spot.k + exts_needed datas) (min POINTERS datas)) (nth_free_or_none n (suc spot.k) (exts_needed datas));
 }
 
 -- the blocks of an entry with these slots, in a volume of n blocks

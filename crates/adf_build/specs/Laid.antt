@@ -12,6 +12,7 @@ use Rattle.adf_tree.specs.declared.entry.Body.TheVariants.{Dir, File}
 use Rattle.adf_tree.specs.declared.entry.Entry.{Entry}
 use Rattle.adf_tree.specs.Tree.{Tree, IsTree}
 use Rattle.adf_blocks.specs.Sizes.{blocks, chunk, count, is_allowed, middle, pages_needed}
+use Rattle.adf_blocks.specs.declared.layout.TheConstants.{MAP_EXT_PAGES, POINTERS, ROOT_PAGES, SLOTS}
 use Rattle.adf_blocks.specs.Fields.{block_of_fields}
 use Rattle.adf_blocks.specs.RootBlock.{RootFields, root_block, FitsStamps}
 use Rattle.adf_blocks.specs.PageBlock.{page_block}
@@ -47,34 +48,34 @@ data_writes n kind head k number bytes (suc m) =
     (nth_free n k, data_bytes kind head number (nth_free_or_none n (suc k) m) (take (chunk kind) bytes))
     ∷ data_writes n kind head (suc k) (suc number) (drop (chunk kind) bytes) m
 
--- the fields of an extension block at the k-th free block, followed by m others, that names up to 72 of c data blocks from the d-th free one on
+-- the fields of an extension block at the k-th free block, followed by m others, that names up to POINTERS of c data blocks from the d-th free one on
 abbrev pub planned_ext : ℕ → ℕ → ℕ → ℕ → ℕ → ℕ → ExtFields
-planned_ext n head k d c m = record { own = nth_free n k; head = head; table = allocated n d (min 72 c); next = nth_free_or_none n (suc k) m }
+planned_ext n head k d c m = record { own = nth_free n k; head = head; table = allocated n d (min POINTERS c); next = nth_free_or_none n (suc k) m }
 
 -- m extension blocks, the first at the k-th free block, that name c data blocks from the d-th free one on
 abbrev pub ext_writes : ℕ → ℕ → ℕ → ℕ → ℕ → ℕ → List (ℕ × List ℕ)
 ext_writes n head k d c zero = []
 ext_writes n head k d c (suc m) =
     (nth_free n k, ext_block (planned_ext n head k d c m))
-    ∷ ext_writes n head (suc k) (d + 72) (c - 72) m
+    ∷ ext_writes n head (suc k) (d + POINTERS) (c - POINTERS) m
 
 -- the slots of node p: the block of the first member of each chain, or 0
 abbrev pub slots_of : List ℕ → List Entry → ℕ → List ℕ
-slots_of nodes es p = map (λ s. first_block (slice_index nodes) (nodes_from 1 es p s)) (range_with_len 0 72)
+slots_of nodes es p = map (λ s. first_block (slice_index nodes) (nodes_from 1 es p s)) (range_with_len 0 SLOTS)
 
 -- the fields of a header at the k-th free block that depend on its body
 abbrev pub body_of : ℕ → ℕ → Kind → List ℕ → Body → BodyFields
 body_of n k kind slots Dir = DirFields slots
 body_of n k kind slots (File bytes) =
     let c = count kind (length bytes) in
-    FileFields (length bytes) (allocated n (suc k + exts_needed c) (min 72 c)) (nth_free_or_none n (suc k) (exts_needed c))
+    FileFields (length bytes) (allocated n (suc k + exts_needed c) (min POINTERS c)) (nth_free_or_none n (suc k) (exts_needed c))
 
 -- the blocks of a body, behind the header at the k-th free block
 abbrev pub body_writes : ℕ → Kind → ℕ → Body → List (ℕ × List ℕ)
 body_writes n kind k Dir = []
 body_writes n kind k (File bytes) =
     let c = count kind (length bytes) in
-    ext_writes n (nth_free n k) (suc k) (suc k + exts_needed c + 72) (c - 72) (exts_needed c)
+    ext_writes n (nth_free n k) (suc k) (suc k + exts_needed c + POINTERS) (c - POINTERS) (exts_needed c)
     ++ data_writes n kind (nth_free n k) (suc k + exts_needed c) 1 bytes c
 
 -- the fields of the header of entry i at the k-th free block; es are the entries after it, `all` are all entries
@@ -113,9 +114,10 @@ page_writes n total j (suc m) = (middle n + 1 + j, page_block (page_words n tota
 abbrev pub map_ext_or_none : ℕ → ℕ → ℕ → ℕ
 map_ext_or_none n j m = cond (nat_lt 0 m) (middle n + 1 + pages_needed n + j) 0
 
--- the pages that bitmap extension block j names: up to 127, from page 25 + 127 * j on
+-- the pages that bitmap extension block j names: up to MAP_EXT_PAGES, behind those of the root and of the extension blocks before it
 abbrev pub listed_pages : ℕ → ℕ → List ℕ
-listed_pages n j = range_with_len (middle n + 1 + (25 + 127 * j)) (min 127 (pages_needed n - (25 + 127 * j)))
+listed_pages n j =
+    range_with_len (middle n + 1 + (ROOT_PAGES + MAP_EXT_PAGES * j)) (min MAP_EXT_PAGES (pages_needed n - (ROOT_PAGES + MAP_EXT_PAGES * j)))
 
 -- m bitmap extension blocks, from number j on
 abbrev pub map_ext_writes : ℕ → ℕ → ℕ → List (ℕ × List ℕ)
@@ -129,11 +131,11 @@ abbrev pub boot_bytes : Kind → List ℕ
 boot_bytes Ofs = 0x44 ∷ 0x4F ∷ 0x53 ∷ 0 ∷ []
 boot_bytes Ffs = 0x44 ∷ 0x4F ∷ 0x53 ∷ 1 ∷ []
 
--- the fields of the root: it names its first headers, the first 25 pages and the first bitmap extension block
+-- the fields of the root: it names its first headers, the first ROOT_PAGES pages and the first bitmap extension block
 abbrev pub planned_root : Tree → ℕ → RootFields
 planned_root t n = record {
   slots = slots_of (node_blocks t n) t.entries 0;
-  pages = range_with_len (middle n + 1) (min 25 (pages_needed n));
+  pages = range_with_len (middle n + 1) (min ROOT_PAGES (pages_needed n));
   map_ext = map_ext_or_none n 0 (map_exts_needed (pages_needed n));
   label = t.label;
   stamps = t.stamps;

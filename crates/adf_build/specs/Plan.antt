@@ -10,11 +10,12 @@ use Rattle.adf_tree.specs.declared.entry.Entry.{Entry}
 use Rattle.adf_tree.specs.Tree.{Tree}
 use Rattle.adf_blocks.specs.Sizes.{count, middle, pages_needed}
 use Rattle.adf_volume.specs.Image.{map_exts_needed}
+use Rattle.adf_blocks.specs.declared.layout.TheConstants.{POINTERS}
 use Rattle.adf_volume.specs.Layout.{Place, Layout}
 
--- the extension blocks that so many data blocks need: the header names 72, each extension block 72 more
+-- the extension blocks that so many data blocks need: the header and each of them name up to POINTERS
 unfoldable pub exts_needed : ℕ → ℕ
-exts_needed c = (c - 72 + 71) / 72
+exts_needed c = (c - POINTERS + (POINTERS - 1)) / POINTERS
 
 -- the data blocks of a body
 abbrev pub data_blocks : Kind → Body → ℕ

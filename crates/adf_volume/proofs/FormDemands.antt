@@ -3,9 +3,10 @@ use Rattle.std.proofs.Common.{◌≡◌, ℕ, List, [], ◌∷◌, ◌⊎◌, in
 use Rattle.std.specs.Prelude.{◌==◌}
 use Rattle.std.proofs.lemmas.Bool.{and_parts, eqb-true}
 use Rattle.adf_blocks.specs.declared.cause.Cause.{Cause}
+use Rattle.adf_blocks.specs.declared.layout.TheConstants.{SECONDARY_TYPE, ST_DIR, ST_FILE, TYPE, T_SHORT}
 use Rattle.adf_tree.specs.declared.entry.Kind.{Kind}
 use Rattle.adf_fields.specs.Words.{block}
-use Rattle.adf_volume.specs.Image.{word_in, name_of, DIR, FILE}
+use Rattle.adf_volume.specs.Image.{word_in, name_of}
 use Rattle.adf_fields.specs.Hash.{slot_of}
 use Rattle.adf_volume.specs.Demands.{AllHold, FirstFails, demands_at}
 use Rattle.adf_blocks.specs.Forms.{first_cause}
@@ -42,21 +43,21 @@ entry true l h k = refl
 entry false true h k = cc
 entry false false h k = h
 
-which : (t : ℕ) (x : Bool) → (t == DIR) ≡ x → (x || (t == FILE)) ≡ true → (t ≡ DIR) ⊎ (t ≡ FILE)
-which t true e h = inl (eqb-true t DIR e)
-which t false e h = inr (eqb-true t FILE h)
+which : (t : ℕ) (x : Bool) → (t == ST_DIR) ≡ x → (x || (t == ST_FILE)) ≡ true → (t ≡ ST_DIR) ⊎ (t ≡ ST_FILE)
+which t true e h = inl (eqb-true t ST_DIR e)
+which t false e h = inr (eqb-true t ST_FILE h)
 
 -- a header is a directory's or a file's
 pub head_type : (image : List ℕ) (kind : Kind) (b up s : ℕ) → AllHold (demands_at b (head_form kind b up s (block image b)))
-    → (word_in image b 127 ≡ DIR) ⊎ (word_in image b 127 ≡ FILE)
+    → (word_in image b SECONDARY_TYPE ≡ ST_DIR) ⊎ (word_in image b SECONDARY_TYPE ≡ ST_FILE)
 head_type image kind b up s h =
-    let t : ℕ = word_in image b 127 in
-    which t (t == DIR) refl (entry (is_entry t) (is_link t) (and_parts (word_in image b 0 == 2) (is_entry t || is_link t) h.1.0).1 h.1.1.0)
+    let t : ℕ = word_in image b SECONDARY_TYPE in
+    which t (t == ST_DIR) refl (entry (is_entry t) (is_link t) (and_parts (word_in image b TYPE == T_SHORT) (is_entry t || is_link t) h.1.0).1 h.1.1.0)
 
 pub head_slot_is : (image : List ℕ) (kind : Kind) (b up s : ℕ) → AllHold (demands_at b (head_form kind b up s (block image b))) → slot_of (name_of image b) ≡ s
 unfolding name_of
 head_slot_is image kind b up s h = eqb-true (slot_of (name_of image b)) s h.1.1.1.1.1.1.1.0
 
 -- a directory's header is no file's
-pub dir_not_file : (image : List ℕ) (b : ℕ) → word_in image b 127 ≡ DIR → word_in image b 127 ≡ FILE → ⊥
-dir_not_file image b d f = let e : DIR ≡ FILE = sym d ∙ f in omega arith
+pub dir_not_file : (image : List ℕ) (b : ℕ) → word_in image b SECONDARY_TYPE ≡ ST_DIR → word_in image b SECONDARY_TYPE ≡ ST_FILE → ⊥
+dir_not_file image b d f = let e : ST_DIR ≡ ST_FILE = sym d ∙ f in omega arith

@@ -1,11 +1,16 @@
 -- Lengths of blocks and contents, and how many pages and bitmap extension blocks there are.
 use Rattle.std.proofs.Common.{◌≡◌, ℕ, suc, List, [], ◌∷◌, ◌+◌, ◌-◌, ◌/◌, ◌*◌, ◌<◌, ◌≤◌, arith, refl, sym, ◌∙◌, length, length-append, length-drop, length-take}
 use Rattle.adf_fields.specs.Words.{block}
+use Rattle.adf_blocks.specs.declared.layout.TheConstants.{MAP_EXT_PAGES, PAGE_BITS, ROOT_PAGES, SIZE}
 use Rattle.adf_volume.specs.Lists.{At}
 use Rattle.adf_tree.specs.declared.entry.Kind.{Kind}
 use Rattle.adf_blocks.specs.Sizes.{blocks, chunk, count, pages_needed}
 use Rattle.adf_volume.specs.Image.{area, joined, content, word_in, map_exts_needed}
 use Rattle.adf_tree.specs.declared.entry.Kind.TheVariants.{Ofs, Ffs}
+
+-- each of these blocks lies in the image
+abbrev pub AreIn : List ℕ → List ℕ → Type 0
+AreIn image bs = (i b : ℕ) → At bs i b → b < blocks image
 
 pub block_length : (image : List ℕ) (b : ℕ) → length image ≡ 512 * blocks image → b < blocks image → length (block image b) ≡ 512
 unfolding block
@@ -16,8 +21,7 @@ unfolding area chunk
 area_length image Ofs b h l = let z = block_length image b h l in simp (length-take, length-drop) (omega arith)
 area_length image Ffs b h l = let z = block_length image b h l in simp (length-take, length-drop) (omega arith)
 
-joined_length : (image : List ℕ) (k : Kind) (bs : List ℕ) → length image ≡ 512 * blocks image → ((i b : ℕ) → At bs i b → b < blocks image)
-    → length (joined image k bs) ≡ chunk k * length bs
+joined_length : (image : List ℕ) (k : Kind) (bs : List ℕ) → length image ≡ 512 * blocks image → AreIn image bs → length (joined image k bs) ≡ chunk k * length bs
 joined_length image k [] h l = omega arith
 joined_length image k (b ∷ bs) h l =
     let ih : length (joined image k bs) ≡ chunk k * length bs = joined_length image k bs h (λ i b z. l (suc i) b z) in
@@ -29,21 +33,21 @@ unfolding count chunk
 enough_bytes Ofs size n h = omega arith
 enough_bytes Ffs size n h = omega arith
 
-pub content_length : (image : List ℕ) (k : Kind) (h : ℕ) (bs : List ℕ) → length image ≡ 512 * blocks image → ((i b : ℕ) → At bs i b → b < blocks image)
-    → length bs ≡ count k (word_in image h 81) → length (content image k h bs) ≡ word_in image h 81
+pub content_length : (image : List ℕ) (k : Kind) (h : ℕ) (bs : List ℕ) → length image ≡ 512 * blocks image → AreIn image bs → length bs ≡ count k (word_in image h SIZE)
+    → length (content image k h bs) ≡ word_in image h SIZE
 unfolding content
 content_length image k h bs z l c =
     let j : length (joined image k bs) ≡ chunk k * length bs = joined_length image k bs z l in
-    let e : word_in image h 81 ≤ chunk k * length bs = enough_bytes k (word_in image h 81) (length bs) (sym c) in
+    let e : word_in image h SIZE ≤ chunk k * length bs = enough_bytes k (word_in image h SIZE) (length bs) (sym c) in
     simp length-take (omega arith)
 
-pub page_in : (n b : ℕ) → 2 ≤ b → b < n → (b - 2) / 4064 < pages_needed n
+pub page_in : (n b : ℕ) → 2 ≤ b → b < n → (b - 2) / PAGE_BITS < pages_needed n
 page_in n b lo hi = omega arith
 
-pub map_exts_high : (p j : ℕ) → 25 + 127 * j < p → j < map_exts_needed p
+pub map_exts_high : (p j : ℕ) → ROOT_PAGES + MAP_EXT_PAGES * j < p → j < map_exts_needed p
 unfolding map_exts_needed
 map_exts_high p j h = omega arith
 
-pub map_exts_low : (p j : ℕ) → j < map_exts_needed p → 25 + 127 * j < p
+pub map_exts_low : (p j : ℕ) → j < map_exts_needed p → ROOT_PAGES + MAP_EXT_PAGES * j < p
 unfolding map_exts_needed
 map_exts_low p j h = omega arith

@@ -2,6 +2,8 @@
 use Rattle.std.proofs.Common.{◌≡◌, ℕ, zero, suc, List, [], ◌∷◌, inl, inr, ◌+◌, ◌*◌, ◌/◌, ◌<◌, ◌≤◌, ◌≢◌, refl, sym, ap, subst, ◌∙◌, arith, true}
 use Rattle.std.specs.Prelude.{nat_lt}
 use native.Mathlib.Decide.{dec_le}
+use Rattle.adf_blocks.specs.declared.layout.TheConstants.{EXTENSION, FIRST_MAP_EXT, FIRST_POINTER, FIRST_SLOT, MAP_EXT_NEXT, MAP_EXT_PAGES, NEXT_IN_CHAIN}
+use Rattle.adf_blocks.specs.declared.layout.TheConstants.{POINTERS, ROOT_PAGES, SIZE, SLOTS}
 use Rattle.adf_blocks.specs.declared.cause.Cause.TheVariants.{SameName}
 use Rattle.adf_volume.specs.Image.{word_in, root_of, kind_of, held, table_word, name_of}
 use Rattle.adf_blocks.specs.Sizes.{blocks, pages_needed}
@@ -17,30 +19,30 @@ use Rattle.std.proofs.lemmas.Bool.{cond-true, cond-false, le-ltb, lt-ltb}
 
 -- the word that names a header
 abbrev pub HeadNamed : List ℕ → List (Role × ℕ) → ℕ → ℕ → ℕ → ℕ → Type 0
-HeadNamed image w p s zero b = (a : ℕ) × DirAt image w p a × (word_in image a (6 + s) ≡ b)
-HeadNamed image w p s (suc j) b = (m a : ℕ) × Has w (Head m p s j) a × (word_in image a 124 ≡ b)
+HeadNamed image w p s zero b = (a : ℕ) × DirAt image w p a × (word_in image a (FIRST_SLOT + s) ≡ b)
+HeadNamed image w p s (suc j) b = (m a : ℕ) × Has w (Head m p s j) a × (word_in image a NEXT_IN_CHAIN ≡ b)
 
 abbrev pub ExtNamed : List ℕ → List (Role × ℕ) → ℕ → ℕ → ℕ → Type 0
-ExtNamed image w n zero b = (a : ℕ) × FileAt image w n a × (word_in image a 126 ≡ b)
-ExtNamed image w n (suc k) b = (a : ℕ) × Has w (Ext n (suc k)) a × (word_in image a 126 ≡ b)
+ExtNamed image w n zero b = (a : ℕ) × FileAt image w n a × (word_in image a EXTENSION ≡ b)
+ExtNamed image w n (suc k) b = (a : ℕ) × Has w (Ext n (suc k)) a × (word_in image a EXTENSION ≡ b)
 
 -- x is the word that names data block k + 1 of the file with header h, or 0 where it has no such block
 pub record IsNext (image : List ℕ) (w : List (Role × ℕ)) (n k h x : ℕ) : Type 0 where
-  pub inner : k < data_count image h → (c : ℕ) × MemberAt image w n (k / 72) c × (x ≡ word_in image c (table_word k))
+  pub inner : k < data_count image h → (c : ℕ) × MemberAt image w n (k / POINTERS) c × (x ≡ word_in image c (table_word k))
   pub last : data_count image h ≤ k → x ≡ 0
 
 abbrev pub Kept : List ℕ → List (Role × ℕ) → Role → ℕ → Type 0
 Kept image w Root b = Unit {0}
 Kept image w (Page k) b = (k < pages_needed (blocks image)) × ((a i : ℕ) × NamesPage image w k a i × (word_in image a i ≡ b)) × AllHold (page_demands image b)
-Kept image w (MapExt zero) b = (25 < pages_needed (blocks image)) × (word_in image (root_of image) 104 ≡ b)
-Kept image w (MapExt (suc j)) b = (25 + 127 * suc j < pages_needed (blocks image)) × ((a : ℕ) × Has w (MapExt j) a × (word_in image a 127 ≡ b))
-Kept image w (Head n p s j) b = (s < 72) × HeadNamed image w p s j b × ((c : ℕ) × DirAt image w p c × AllHold (head_demands image (kind_of image) b c s))
+Kept image w (MapExt zero) b = (ROOT_PAGES < pages_needed (blocks image)) × (word_in image (root_of image) FIRST_MAP_EXT ≡ b)
+Kept image w (MapExt (suc j)) b = (ROOT_PAGES + MAP_EXT_PAGES * suc j < pages_needed (blocks image)) × ((a : ℕ) × Has w (MapExt j) a × (word_in image a MAP_EXT_NEXT ≡ b))
+Kept image w (Head n p s j) b = (s < SLOTS) × HeadNamed image w p s j b × ((c : ℕ) × DirAt image w p c × AllHold (head_demands image (kind_of image) b c s))
 Kept image w (Ext n zero) b = ⊥
 Kept image w (Ext n (suc k)) b = ExtNamed image w n k b × ((h : ℕ) × FileAt image w n h × AllHold (ext_demands image b h))
 Kept image w (Data n zero) b = ⊥
-Kept image w (Data n (suc k)) b = (h : ℕ) × FileAt image w n h × (k < data_count image h) × (data_count image h ≤ 72 * suc (ext_count w n))
-    × ((c : ℕ) × MemberAt image w n (k / 72) c × (word_in image c (table_word k) ≡ b))
-    × ((x : ℕ) × IsNext image w n (suc k) h x × AllHold (data_demands image (kind_of image) b h (suc k) (held (kind_of image) (word_in image h 81) (suc k)) x))
+Kept image w (Data n (suc k)) b = (h : ℕ) × FileAt image w n h × (k < data_count image h) × (data_count image h ≤ POINTERS * suc (ext_count w n))
+    × ((c : ℕ) × MemberAt image w n (k / POINTERS) c × (word_in image c (table_word k) ≡ b))
+    × ((x : ℕ) × IsNext image w n (suc k) h x × AllHold (data_demands image (kind_of image) b h (suc k) (held (kind_of image) (word_in image h SIZE) (suc k)) x))
 
 same_number : (n m p s i j : ℕ) → Head n p s i ≡ Head m p s j → n ≡ m
 same_number n m p s i j h = cc
@@ -62,7 +64,7 @@ module _ (image : List ℕ) where
   names_up w x k a i (inr h) = inr (h.0, inr h.1, h.2, h.3)
 
   next_up : (w : List (Role × ℕ)) (x : Role × ℕ) (n k h y : ℕ) → IsNext image w n k h y → IsNext image (x ∷ w) n k h y
-  next_up w x n k h y z = record { inner = (λ u. let r = z.inner u in (r.0, member_up w x n (k / 72) r.0 r.1, r.2)); last = z.last }
+  next_up w x n k h y z = record { inner = (λ u. let r = z.inner u in (r.0, member_up w x n (k / POINTERS) r.0 r.1, r.2)); last = z.last }
 
   kept_up : (w : List (Role × ℕ)) (x : Role × ℕ) (r : Role) (b : ℕ) → Kept image w r b → Kept image (x ∷ w) r b
   kept_up w x Root b h = tt
@@ -77,12 +79,12 @@ module _ (image : List ℕ) where
   kept_up w x (Data n zero) b h = absurd h
   kept_up w x (Data n (suc k)) b h =
       let u : ext_count w n ≤ ext_count_of n x.0 (ext_count w n) = count_up n x.0 (ext_count w n) in
-      let y : data_count image h.0 ≤ 72 * suc (ext_count w n) = h.3 in (
+      let y : data_count image h.0 ≤ POINTERS * suc (ext_count w n) = h.3 in (
         h.0,
         file_up w x n h.0 h.1,
         h.2,
         omega arith,
-        (h.4.0, member_up w x n (k / 72) h.4.0 h.4.1, h.4.2),
+        (h.4.0, member_up w x n (k / POINTERS) h.4.0 h.4.1, h.4.2),
         (
           h.5.0,
           next_up w x n (suc k) h.0 h.5.0
@@ -93,7 +95,7 @@ module _ (image : List ℕ) where
 
   -- a header that is asked for has its directory
   asks_dir : {w : List (Role × ℕ)} → ((r : Role) (b : ℕ) → Has w r b → Kept image w r b) → (n p s j a i : ℕ) → Asks image w (Head n p s j) a i
-      → (s < 72) × ((c : ℕ) × DirAt image w p c)
+      → (s < SLOTS) × ((c : ℕ) × DirAt image w p c)
   asks_dir old n p s zero a i h = (h.1, (a, h.2))
   asks_dir old n p s (suc j) a i h = let k = old (Head h.1.0 p s j) a h.1.1 in (k.0, (k.2.0, k.2.1))
 
@@ -104,15 +106,15 @@ module _ (image : List ℕ) where
 
     -- a file whose data block is due has enough extension blocks
     pub enough : (n k a i b h : ℕ) → IsDue image w (Data n (suc k)) a i → NoCause image w (Data n (suc k)) a b → FileAt image w n h → k < data_count image h
-        → data_count image h ≤ 72 * suc (ext_count w n)
+        → data_count image h ≤ POINTERS * suc (ext_count w n)
     enough n zero a i b h d g f u = g.0 refl h f
     enough n (suc k) a i b h d g f u =
-        let x = is_there image w (Data n 1) (Data n (suc (suc k))) a i h 77 d ((h, f, omega arith), f, refl)
+        let x = is_there image w (Data n 1) (Data n (suc (suc k))) a i h FIRST_POINTER d ((h, f, omega arith), f, refl)
         (omega arith, (λ z. omega arith), (λ z z'. omega arith)) (omega arith) in
         let kp = old (Data n 1) x.0 x.1 in
         let e : node_block w n ≡ h = file_is image w n h v f in
         let e' : node_block w n ≡ kp.0 = file_is image w n kp.0 v kp.1 in
-        subst (λ h. data_count image h ≤ 72 * suc (ext_count w n)) (sym e' ∙ e) kp.3
+        subst (λ h. data_count image h ≤ POINTERS * suc (ext_count w n)) (sym e' ∙ e) kp.3
 
     form_of : (r : Role) (a b : ℕ) → NoCause image w r a b → AllHold (form_demands image w r b)
     form_of r a b g = (all_split (form_demands image w r b) (demand SameName b (NewName image w r b) ∷ []) g.1.1.1).0
@@ -125,21 +127,21 @@ module _ (image : List ℕ) where
     ext_named n zero a i b h e = (a, h.0, ap (word_in image a) (sym h.1) ∙ e)
     ext_named n (suc k) a i b h e = (a, h.0, ap (word_in image a) (sym h.1) ∙ e)
 
-    next_is : (n k h : ℕ) → FileAt image w n h → node_block w n ≡ h → data_count image h ≤ 72 * suc (ext_count w n)
+    next_is : (n k h : ℕ) → FileAt image w n h → node_block w n ≡ h → data_count image h ≤ POINTERS * suc (ext_count w n)
         → IsNext image w n k h (next_data image w n k)
     next_is n k h f z en =
         record {
           inner = (λ u.
-              let m = there n (k / 72) h f (omega arith) in
+              let m = there n (k / POINTERS) h f (omega arith) in
               let u' : nat_lt k (data_count image (node_block w n)) ≡ true =
               lt-ltb k (data_count image (node_block w n)) (subst (λ h. k < data_count image h) (sym z) u) in (
                 m.0,
                 m.1,
-                cond-true (nat_lt k (data_count image (node_block w n))) (word_in image (member_block w n (k / 72)) (table_word k)) 0 u'
-                    ∙ ap (λ b. word_in image b (table_word k)) (member_is image w n (k / 72) m.0 v m.1),
+                cond-true (nat_lt k (data_count image (node_block w n))) (word_in image (member_block w n (k / POINTERS)) (table_word k)) 0 u'
+                    ∙ ap (λ b. word_in image b (table_word k)) (member_is image w n (k / POINTERS) m.0 v m.1),
               ));
           last = (λ u.
-              cond-false (nat_lt k (data_count image (node_block w n))) (word_in image (member_block w n (k / 72)) (table_word k)) 0
+              cond-false (nat_lt k (data_count image (node_block w n))) (word_in image (member_block w n (k / POINTERS)) (table_word k)) 0
               (le-ltb k (data_count image (node_block w n)) (subst (λ h. data_count image h ≤ k) (sym z) u)));
         }
 
@@ -147,7 +149,7 @@ module _ (image : List ℕ) where
     kept_new Root a i b d e g = tt
     kept_new (Page k) a i b d e g =
         (d.asked.0, (a, i, d.asked.1, e), form_of (Page k) a b g)
-    kept_new (MapExt zero) a i b d e g = (d.asked.0, ap (λ a. word_in image a 104) (sym d.asked.1) ∙ ap (word_in image a) (sym d.asked.2) ∙ e)
+    kept_new (MapExt zero) a i b d e g = (d.asked.0, ap (λ a. word_in image a FIRST_MAP_EXT) (sym d.asked.1) ∙ ap (word_in image a) (sym d.asked.2) ∙ e)
     kept_new (MapExt (suc j)) a i b d e g = (d.asked.0, (a, d.asked.1, ap (word_in image a) (sym d.asked.2) ∙ e))
     kept_new (Head n p s j) a i b d e g =
         let ad = asks_dir old n p s j a i d.asked in
@@ -180,7 +182,7 @@ module _ (image : List ℕ) where
           (
             next_data image w n (suc k),
             next_is n (suc k) f.0 f.1 z en,
-            subst (λ h. AllHold (data_demands image (kind_of image) b h (suc k) (held (kind_of image) (word_in image h 81) (suc k))
+            subst (λ h. AllHold (data_demands image (kind_of image) b h (suc k) (held (kind_of image) (word_in image h SIZE) (suc k))
                 (next_data image w n (suc k)))) z (form_of (Data n (suc k)) a b g),
           ),
         )
@@ -201,7 +203,7 @@ module _ (image : List ℕ) where
         | no u ↦ let e : suc j ≡ i = omega arith in (b, subst (λ i. Has w (MapExt i) b) e h)
       ]
 
-  pub map_ext_low : (w : List (Role × ℕ)) (j b : ℕ) → IsWalk image w → Has w (MapExt j) b → 25 + 127 * j < pages_needed (blocks image)
+  pub map_ext_low : (w : List (Role × ℕ)) (j b : ℕ) → IsWalk image w → Has w (MapExt j) b → ROOT_PAGES + MAP_EXT_PAGES * j < pages_needed (blocks image)
   map_ext_low w zero b v h = (kept v (MapExt 0) b h).0
   map_ext_low w (suc j) b v h = (kept v (MapExt (suc j)) b h).0
 

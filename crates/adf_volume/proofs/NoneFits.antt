@@ -1,5 +1,6 @@
 -- Where there is a first fault, nothing fits.
 use Rattle.std.proofs.Common.{ℕ, zero, suc, List, ◌++◌, ◌+◌, ◌-◌, ◌/◌, ◌≤◌, arith}
+use Rattle.adf_blocks.specs.declared.layout.TheConstants.{PAGE_BITS}
 use Rattle.adf_blocks.specs.declared.cause.Cause.{Cause}
 use Rattle.adf_volume.specs.Lists.{In}
 use Rattle.adf_volume.specs.Image.{root_of, word_in}
@@ -27,10 +28,10 @@ module _ (image : List ℕ) (t : Tree) (l : Layout) (fit : Fits image t l) (w : 
   unowned_of b h o k = let r = owned_part image t l fit o b k in h r.0 (part_walked image t l fit w v whole r.0 b r.1)
 
   free_of : (b : ℕ) → IsFree image l.pages b → IsFreeIn image w b
-  free_of b h = (h.0, part_walked image t l fit w v whole (Page ((b - 2) / 4064)) h.0 h.1, h.2)
+  free_of b h = (h.0, part_walked image t l fit w v whole (Page ((b - 2) / PAGE_BITS)) h.0 h.1, h.2)
 
   free_in_of : (b : ℕ) → IsFreeIn image w b → IsFree image l.pages b
-  free_in_of b h = (h.0, agreement image t l fit w (Page ((b - 2) / 4064)) h.0 v h.1, h.2)
+  free_in_of b h = (h.0, agreement image t l fit w (Page ((b - 2) / PAGE_BITS)) h.0 v h.1, h.2)
 
   bitmap_holds : (b n : ℕ) → 2 ≤ b → b + n ≤ blocks image → AllHold (bitmap_demands image w b n)
   bitmap_holds b zero lo hi = tt

@@ -1,6 +1,7 @@
 -- There is one first fault.
 use Rattle.std.proofs.Common.{◌≡◌, ℕ, zero, suc, List, [], ◌∷◌, ◌++◌, inl, inr, ◌+◌, ◌-◌, ◌*◌, ◌/◌, ◌<◌, length, refl, sym, ap, subst, ◌∙◌, arith}
 use native.Mathlib.Decide.{dec_lt}
+use Rattle.adf_blocks.specs.declared.layout.TheConstants.{MAP_EXT_PAGES, POINTERS, ROOT_PAGES}
 use Rattle.adf_blocks.specs.declared.cause.Cause.{Cause}
 use Rattle.adf_volume.specs.Image.{word_in, root_of}
 use Rattle.adf_blocks.specs.Sizes.{blocks}
@@ -35,13 +36,13 @@ module _ (image : List ℕ) where
 
   names_one : (w : List (Role × ℕ)) → IsWalk image w → (n a i b j : ℕ) → NamesPage image w n a i → NamesPage image w n b j → (a ≡ b) × (i ≡ j)
   names_one w v n a i b j (inl h) (inl k) = (h.1 ∙ sym k.1, h.2 ∙ sym k.2)
-  names_one w v n a i b j (inl h) (inr k) = let x : n < 25 = h.0 in let y : n ≡ 25 + 127 * k.0 + j = k.3 in absurd (omega arith)
-  names_one w v n a i b j (inr h) (inl k) = let x : n < 25 = k.0 in let y : n ≡ 25 + 127 * h.0 + i = h.3 in absurd (omega arith)
+  names_one w v n a i b j (inl h) (inr k) = let x : n < ROOT_PAGES = h.0 in let y : n ≡ ROOT_PAGES + MAP_EXT_PAGES * k.0 + j = k.3 in absurd (omega arith)
+  names_one w v n a i b j (inr h) (inl k) = let x : n < ROOT_PAGES = k.0 in let y : n ≡ ROOT_PAGES + MAP_EXT_PAGES * h.0 + i = h.3 in absurd (omega arith)
   names_one w v n a i b j (inr h) (inr k) =
-      let x : n ≡ 25 + 127 * h.0 + i = h.3 in
-      let y : n ≡ 25 + 127 * k.0 + j = k.3 in
-      let li : i < 127 = h.2 in
-      let lj : j < 127 = k.2 in
+      let x : n ≡ ROOT_PAGES + MAP_EXT_PAGES * h.0 + i = h.3 in
+      let y : n ≡ ROOT_PAGES + MAP_EXT_PAGES * k.0 + j = k.3 in
+      let li : i < MAP_EXT_PAGES = h.2 in
+      let lj : j < MAP_EXT_PAGES = k.2 in
       let e : h.0 ≡ k.0 = omega arith in
       let f : i ≡ j = omega arith in
       let k1 : Has w (MapExt h.0) b = subst (λ x. Has w (MapExt x) b) (sym e) k.1 in
@@ -59,7 +60,7 @@ module _ (image : List ℕ) where
   asks_one w v (Ext n (suc zero)) a i b j h k = (file_one w v n a b h.0 k.0, h.1 ∙ sym k.1)
   asks_one w v (Ext n (suc (suc x))) a i b j h k = ((one_block image v (Ext n (suc x)) (Ext n (suc x)) a b h.0 k.0 (refl, refl, refl)).1, h.1 ∙ sym k.1)
   asks_one w v (Data n zero) a i b j h k = absurd h
-  asks_one w v (Data n (suc x)) a i b j h k = (member_one w v n (x / 72) a b h.1 k.1, h.2 ∙ sym k.2)
+  asks_one w v (Data n (suc x)) a i b j h k = (member_one w v n (x / POINTERS) a b h.1 k.1, h.2 ∙ sym k.2)
 
   number_is : (w : List (Role × ℕ)) (r : Role) (a i n p s j : ℕ) → Asks image w r a i → r ≡ Head n p s j → n ≡ suc (heads w)
   number_is w r a i n p s j h e = asks_number image w n p s j a i (subst (λ r. Asks image w r a i) e h)

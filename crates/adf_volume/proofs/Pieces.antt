@@ -8,9 +8,10 @@ use Rattle.adf_fields.specs.Words.{block}
 use Rattle.adf_tree.specs.declared.entry.Kind.{Kind}
 use Rattle.adf_tree.specs.declared.entry.Kind.TheVariants.{Ofs, Ffs}
 use Rattle.adf_blocks.specs.Sizes.{blocks, chunk, count}
+use Rattle.adf_blocks.specs.declared.layout.TheConstants.{SIZE}
 use Rattle.adf_volume.specs.Lists.{At}
 use Rattle.adf_volume.specs.Image.{word_in, held, area, joined, content, piece, pieces}
-use Rattle.adf_volume.proofs.Images.{area_length}
+use Rattle.adf_volume.proofs.Images.{area_length, AreIn}
 
 take_zero : (xs : List ℕ) → take 0 xs ≡ []
 take_zero [] = refl
@@ -30,24 +31,25 @@ left kind size k = size - chunk kind * k
 
 -- a data block that is followed holds all that it can, the last one what is left
 held_is : (kind : Kind) (size k : ℕ) (xs : List ℕ) → length xs ≡ chunk kind → take (held kind size (suc k)) xs ≡ take (left kind size k) xs
-unfolding held chunk left
-held_is Ofs size k xs h = go (nat_lt (488 * suc k) size) refl
+unfolding held left
+held_is kind size k xs h = go (nat_lt (c * suc k) size) refl
   where
-    go : (t : Bool) → nat_lt (488 * suc k) size ≡ t → take (cond t 488 (size - 488 * (suc k - 1))) xs ≡ take (size - 488 * k) xs
-    go true z = let l : 488 * suc k < size = grind (arith, nat_tests) in take_all 488 xs (omega arith) ∙ sym (take_all (size - 488 * k) xs (omega arith))
-    go false z = let e : size - 488 * (suc k - 1) ≡ size - 488 * k = omega arith in ap (λ n. take n xs) e
-held_is Ffs size k xs h = go (nat_lt (512 * suc k) size) refl
-  where
-    go : (t : Bool) → nat_lt (512 * suc k) size ≡ t → take (cond t 512 (size - 512 * (suc k - 1))) xs ≡ take (size - 512 * k) xs
-    go true z = let l : 512 * suc k < size = grind (arith, nat_tests) in take_all 512 xs (omega arith) ∙ sym (take_all (size - 512 * k) xs (omega arith))
-    go false z = let e : size - 512 * (suc k - 1) ≡ size - 512 * k = omega arith in ap (λ n. take n xs) e
+    c : ℕ
+    c = chunk kind
+
+    m : c * suc k ≡ c + c * k
+    m = omega arith
+
+    go : (t : Bool) → nat_lt (c * suc k) size ≡ t → take (cond t c (size - c * (suc k - 1))) xs ≡ take (size - c * k) xs
+    go true z = let l : c * suc k < size = grind (arith, nat_tests) in take_all c xs (omega (arith, h)) ∙ sym (take_all (size - c * k) xs (omega (arith, h, m)))
+    go false z = let e : suc k - 1 ≡ k = omega arith in ap (λ n. take (size - c * n) xs) e
 
 left_more : (kind : Kind) (size k n : ℕ) → n ≡ chunk kind → left kind size k - n ≡ left kind size (suc k)
 unfolding left chunk
 left_more Ofs size k n h = omega arith
 left_more Ffs size k n h = omega arith
 
-pieces_from : (image : List ℕ) (kind : Kind) (size k : ℕ) (bs : List ℕ) → length image ≡ 512 * blocks image → ((i b : ℕ) → At bs i b → b < blocks image)
+pieces_from : (image : List ℕ) (kind : Kind) (size k : ℕ) (bs : List ℕ) → length image ≡ 512 * blocks image → AreIn image bs
     → concat (pieces image kind size (suc k) bs) ≡ take (left kind size k) (joined image kind bs)
 pieces_from image kind size k [] z l = none (left kind size k)
   where
@@ -67,11 +69,11 @@ unfolding left
 left_all kind size = let z : chunk kind * 0 ≡ 0 = omega arith in omega arith
 
 -- the pieces of a file, one after the other, are its content
-pub pieces_joined : (image : List ℕ) (kind : Kind) (h : ℕ) (bs : List ℕ) → length image ≡ 512 * blocks image → ((i b : ℕ) → At bs i b → b < blocks image)
-    → concat (pieces image kind (word_in image h 81) 1 bs) ≡ content image kind h bs
+pub pieces_joined : (image : List ℕ) (kind : Kind) (h : ℕ) (bs : List ℕ) → length image ≡ 512 * blocks image → AreIn image bs
+    → concat (pieces image kind (word_in image h SIZE) 1 bs) ≡ content image kind h bs
 unfolding content
 pieces_joined image kind h bs z l =
-    pieces_from image kind (word_in image h 81) 0 bs z l ∙ ap (λ n. take n (joined image kind bs)) (left_all kind (word_in image h 81))
+    pieces_from image kind (word_in image h SIZE) 0 bs z l ∙ ap (λ n. take n (joined image kind bs)) (left_all kind (word_in image h SIZE))
 
 -- there is a piece for each data block
 pub pieces_length : (image : List ℕ) (kind : Kind) (size k : ℕ) (bs : List ℕ) → length (pieces image kind size k bs) ≡ length bs

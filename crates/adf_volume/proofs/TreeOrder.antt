@@ -3,7 +3,6 @@ use Rattle.std.proofs.Common.{◌≡◌, ℕ, zero, suc, ◌+◌, ◌-◌, ◌*�
 use Rattle.std.specs.Prelude.{slice_index_or}
 use native.Mathlib.Decide.{dec_lt, ℕ_discrete}
 use Rattle.adf_fields.specs.Hash.{slot_of}
-use Rattle.adf_tree.specs.Texts.{uppers}
 use Rattle.adf_tree.specs.declared.entry.Entry.{Entry}
 use Rattle.adf_tree.specs.declared.entry.Body.TheVariants.{Dir}
 use Rattle.adf_tree.specs.Tree.{Tree, IsDir, IsTree, AreApart, rank}
@@ -17,11 +16,24 @@ abbrev pub DirNode : Tree → ℕ → Type 0
 DirNode t zero = Unit {0}
 DirNode t (suc i) = (e : Entry) × At t.entries i e × (e.body ≡ Dir)
 
+-- the directory of each entry is the root, or a directory before it
+abbrev pub HasParents : Tree → Type 0
+HasParents t = (n : ℕ) (e : Entry) → EntryAt t n e → (e.parent < n) × DirNode t e.parent
+
+-- entries stand in the order of their directories, and in one directory in the order of their slots
+abbrev pub HasOrder : Tree → Type 0
+HasOrder t = (n m : ℕ) (e f : Entry) → EntryAt t n e → EntryAt t m f → n < m
+    → (e.parent ≤ f.parent) × (e.parent ≡ f.parent → slot_of e.name ≤ slot_of f.name)
+
+-- no two entries of a directory have equal names
+abbrev pub HasNames : Tree → Type 0
+HasNames t = (n m : ℕ) (e f : Entry) → EntryAt t n e → EntryAt t m f → n ≢ m → AreApart e f
+
 -- what holds of the entries of a tree, by their numbers
 pub record Ordered (t : Tree) : Type 0 where
-  pub parents : (n : ℕ) (e : Entry) → EntryAt t n e → (e.parent < n) × DirNode t e.parent
-  pub order : (n m : ℕ) (e f : Entry) → EntryAt t n e → EntryAt t m f → n < m → (e.parent ≤ f.parent) × (e.parent ≡ f.parent → slot_of e.name ≤ slot_of f.name)
-  pub names : (n m : ℕ) (e f : Entry) → EntryAt t n e → EntryAt t m f → n ≢ m → e.parent ≡ f.parent → uppers e.name ≢ uppers f.name
+  pub parents : HasParents t
+  pub order : HasOrder t
+  pub names : HasNames t
 
 pub dir_node : (t : Tree) (p : ℕ) → IsDir t.entries p → DirNode t p
 dir_node t zero h = tt
@@ -46,7 +58,7 @@ rank_up : (p q s u : ℕ) → p ≤ q → (p ≡ q → s ≤ u) → s < 72 → 7
 rank_up p q s u h f a = elim (ℕ_discrete p q) [ yes e ↦ let k : s ≤ u = f e in omega arith | no n ↦ omega arith ]
 
 module _ (t : Tree) (v : IsTree t.entries) where
-  parents_of : (n : ℕ) (e : Entry) → EntryAt t n e → (e.parent < n) × DirNode t e.parent
+  parents_of : HasParents t
   parents_of zero e h = absurd h
   parents_of (suc i) e h =
       let l : i < length t.entries = at_below t.entries i e h in
@@ -55,7 +67,7 @@ module _ (t : Tree) (v : IsTree t.entries) where
       let y : e.parent ≤ i = subst (λ (f : Entry). f.parent ≤ i) z x in
       (omega arith, dir_node t e.parent (subst (λ (f : Entry). IsDir t.entries f.parent) z (v.dirs i e l)))
 
-  order_of : (n m : ℕ) (e f : Entry) → EntryAt t n e → EntryAt t m f → n < m → (e.parent ≤ f.parent) × (e.parent ≡ f.parent → slot_of e.name ≤ slot_of f.name)
+  order_of : HasOrder t
   order_of zero m e f h k lt = absurd h
   order_of (suc i) zero e f h k lt = absurd k
   order_of (suc i) (suc j) e f h k lt =
@@ -72,7 +84,7 @@ module _ (t : Tree) (v : IsTree t.entries) where
       subst (λ (g : Entry). AreApart e g) (at_index_or t.entries j f e k)
       (subst (λ (g : Entry). AreApart g (slice_index_or t.entries j e)) (at_index_or t.entries i e e h) (v.names i j e lt l))
 
-  names_of : (n m : ℕ) (e f : Entry) → EntryAt t n e → EntryAt t m f → n ≢ m → e.parent ≡ f.parent → uppers e.name ≢ uppers f.name
+  names_of : HasNames t
   names_of zero m e f h k ne p = absurd h
   names_of (suc i) zero e f h k ne p = absurd k
   names_of (suc i) (suc j) e f h k ne p =

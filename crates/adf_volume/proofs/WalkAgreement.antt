@@ -2,9 +2,10 @@
 use Rattle.std.proofs.Common.{◌≡◌, ℕ, zero, suc, List, inl, inr, ◌+◌, ◌*◌, ◌/◌, ◌<◌, ◌≤◌, ◌≢◌, length, refl, sym, ap, subst, ◌∙◌, arith, map, Bool, true}
 use Rattle.std.proofs.Common.{false, cond}
 use native.Mathlib.Decide.{dec_le}
+use Rattle.adf_blocks.specs.declared.layout.TheConstants.{EXTENSION, FIRST_SLOT, NEXT_IN_CHAIN, POINTERS, SECONDARY_TYPE, SIZE, SLOTS, ST_DIR, ST_FILE}
 use Rattle.adf_volume.specs.Lists.{At}
 use Rattle.adf_blocks.specs.Sizes.{blocks, count, pages_needed}
-use Rattle.adf_volume.specs.Image.{root_of, name_of, DIR, FILE, word_in, map_exts_needed, kind_of, held, table_word}
+use Rattle.adf_volume.specs.Image.{root_of, name_of, word_in, map_exts_needed, kind_of, held, table_word}
 use Rattle.adf_fields.specs.Hash.{slot_of}
 use Rattle.adf_tree.specs.Texts.{uppers}
 use Rattle.adf_volume.specs.Demands.{AllHold, head_demands, ext_demands, data_demands}
@@ -34,19 +35,19 @@ use Rattle.adf_volume.proofs.FormDemands.{dir_not_file}
 use Rattle.adf_tree.proofs.Kept.{slot_small}
 
 module _ (image : List ℕ) (t : Tree) (l : Layout) (fit : Fits image t l) where
-  -- a header whose word 127 says directory is a directory's
-  pub dir_of : (n : ℕ) (e : Entry) (b : Body) → b ≡ e.body → BodyFits image t.kind l n (at_node image l n) b → word_in image (at_node image l n) 127 ≡ DIR
+  -- a header whose secondary type says directory is a directory's
+  pub dir_of : (n : ℕ) (e : Entry) (b : Body) → b ≡ e.body → BodyFits image t.kind l n (at_node image l n) b → word_in image (at_node image l n) SECONDARY_TYPE ≡ ST_DIR
       → e.body ≡ Dir
   dir_of n e Dir z f d = sym z
   dir_of n e (File bytes) z f d = absurd (dir_not_file image (at_node image l n) d f.0)
 
   pub dir_word : (n : ℕ) (e : Entry) (b : Body) → b ≡ e.body → BodyFits image t.kind l n (at_node image l n) b → e.body ≡ Dir
-      → word_in image (at_node image l n) 127 ≡ DIR
+      → word_in image (at_node image l n) SECONDARY_TYPE ≡ ST_DIR
   dir_word n e Dir z f d = f.0
   dir_word n e (File bytes) z f d = let k : File bytes ≡ Dir = z ∙ d in cc
 
-  pub file_of : (n : ℕ) (e : Entry) (b : Body) → b ≡ e.body → BodyFits image t.kind l n (at_node image l n) b → word_in image (at_node image l n) 127 ≡ FILE
-      → (bytes : List ℕ) × (e.body ≡ File bytes) × (length bytes ≡ word_in image (at_node image l n) 81)
+  pub file_of : (n : ℕ) (e : Entry) (b : Body) → b ≡ e.body → BodyFits image t.kind l n (at_node image l n) b → word_in image (at_node image l n) SECONDARY_TYPE ≡ ST_FILE
+      → (bytes : List ℕ) × (e.body ≡ File bytes) × (length bytes ≡ word_in image (at_node image l n) SIZE)
   file_of n e Dir z f d = absurd (dir_not_file image (at_node image l n) f.0 d)
   file_of n e (File bytes) z f d = (bytes, sym z, f.2)
 
@@ -63,20 +64,20 @@ module _ (image : List ℕ) (t : Tree) (l : Layout) (fit : Fits image t l) where
         let k = h.0 in
         let q = ag (Head (suc i) k.0 k.1 k.2) a k.3 in
         let e = entry_at t k.0 k.1 k.2 (suc i) q.0 in
-        let d : word_in image (at_node image l (suc i)) 127 ≡ DIR = ap (λ b. word_in image b 127) q.1 ∙ h.1 in
+        let d : word_in image (at_node image l (suc i)) SECONDARY_TYPE ≡ ST_DIR = ap (λ b. word_in image b SECONDARY_TYPE) q.1 ∙ h.1 in
         ((e.0, e.1, dir_of (suc i) e.0 e.0.body refl (fit.entries (suc i) e.0 e.1).body d), q.1)
 
     pub file_agrees : (n a : ℕ) → FileAt image w n a
-        → (e : Entry) × (bytes : List ℕ) × EntryAt t n e × (e.body ≡ File bytes) × (length bytes ≡ word_in image a 81) × (at_node image l n ≡ a)
+        → (e : Entry) × (bytes : List ℕ) × EntryAt t n e × (e.body ≡ File bytes) × (length bytes ≡ word_in image a SIZE) × (at_node image l n ≡ a)
     file_agrees n a h =
         let k = h.0 in
         let q = ag (Head n k.0 k.1 k.2) a k.3 in
         let e = entry_at t k.0 k.1 k.2 n q.0 in
-        let d : word_in image (at_node image l n) 127 ≡ FILE = ap (λ b. word_in image b 127) q.1 ∙ h.1 in
+        let d : word_in image (at_node image l n) SECONDARY_TYPE ≡ ST_FILE = ap (λ b. word_in image b SECONDARY_TYPE) q.1 ∙ h.1 in
         let f = file_of n e.0 e.0.body refl (fit.entries n e.0 e.1).body d in
-        (e.0, f.0, e.1, f.1, f.2 ∙ ap (λ b. word_in image b 81) q.1, q.1)
+        (e.0, f.0, e.1, f.1, f.2 ∙ ap (λ b. word_in image b SIZE) q.1, q.1)
 
-    pub count_agrees : (n a : ℕ) (bytes : List ℕ) → length bytes ≡ word_in image a 81 → count t.kind (length bytes) ≡ data_count image a
+    pub count_agrees : (n a : ℕ) (bytes : List ℕ) → length bytes ≡ word_in image a SIZE → count t.kind (length bytes) ≡ data_count image a
     count_agrees n a bytes z = ap (λ k. count k (length bytes)) fit.kind ∙ ap (count (kind_of image)) z
 
     -- a node of the tree with a number that the walk has stands in the walk at its place
@@ -109,11 +110,11 @@ module _ (image : List ℕ) (t : Tree) (l : Layout) (fit : Fits image t l) where
         let y : slot_of e.0.name ≡ s = e.3 in
         let u1 : e.0.parent < n = up.0 in
         let d : DirNode t p = subst (λ p. DirNode t p) x up.1 in
-        let below : slot_of e.0.name < 72 = slot_small e.0.name in
-        let s1 : s < 72 = omega arith in
+        let below : slot_of e.0.name < SLOTS = slot_small e.0.name in
+        let s1 : s < SLOTS = omega arith in
         let sp = fit.chains p s (is_dir t p d) s1 in
-        let named : word_in image (at_node image l p) (6 + s) ≡ at_node image l n =
-        spelled_word (λ b. word_in image b 124) (word_in image (at_node image l p) (6 + s)) (map (at_node image l) (chain_nodes t p s)) (at_node image l n)
+        let named : word_in image (at_node image l p) (FIRST_SLOT + s) ≡ at_node image l n =
+        spelled_word (λ b. word_in image b NEXT_IN_CHAIN) (word_in image (at_node image l p) (FIRST_SLOT + s)) (map (at_node image l) (chain_nodes t p s)) (at_node image l n)
         sp (at_map (at_node image l) (chain_nodes t p s) 0 n h) in
         let r = part_range image t l fit (Head n p s 0) (at_node image l n) (h, refl) in
         let r1 : 2 ≤ at_node image l n = r.0 in
@@ -124,20 +125,20 @@ module _ (image : List ℕ) (t : Tree) (l : Layout) (fit : Fits image t l) where
         let e = entry_at t p s (suc j) n h in
         let up = (ordered t fit.tree).parents n e.0 e.1 in
         let d : DirNode t p = subst (λ p. DirNode t p) e.2 up.1 in
-        let below : slot_of e.0.name < 72 = slot_small e.0.name in
+        let below : slot_of e.0.name < SLOTS = slot_small e.0.name in
         let y : slot_of e.0.name ≡ s = e.3 in
-        let s1 : s < 72 = omega arith in
+        let s1 : s < SLOTS = omega arith in
         let sp = fit.chains p s (is_dir t p d) s1 in
         let less : m < n = chain_rises 1 t.entries p s j (suc j) m n b.1 h (omega arith) in
         let k = has_node p s j m b.1 (omega arith) in
         let z : at_node image l m ≡ k.0 = (ag (Head m p s j) k.0 k.1).1 in
-        let named : word_in image (at_node image l m) 124 ≡ at_node image l n =
-        spelled_link (λ b. word_in image b 124) (word_in image (at_node image l p) (6 + s)) (map (at_node image l) (chain_nodes t p s)) j
+        let named : word_in image (at_node image l m) NEXT_IN_CHAIN ≡ at_node image l n =
+        spelled_link (λ b. word_in image b NEXT_IN_CHAIN) (word_in image (at_node image l p) (FIRST_SLOT + s)) (map (at_node image l) (chain_nodes t p s)) j
         (at_node image l m) (at_node image l n) sp
         (at_map (at_node image l) (chain_nodes t p s) j m b.1) (at_map (at_node image l) (chain_nodes t p s) (suc j) n h) in
         let r = part_range image t l fit (Head n p s (suc j)) (at_node image l n) (h, refl) in
         let r1 : 2 ≤ at_node image l n = r.0 in
-        (k.0, 124, (u, (m, k.1), refl, (λ q. let x : at_node image l n ≡ 0 = sym named ∙ (ap (λ b. word_in image b 124) z ∙ q) in omega arith)))
+        (k.0, NEXT_IN_CHAIN, (u, (m, k.1), refl, (λ q. let x : at_node image l n ≡ 0 = sym named ∙ (ap (λ b. word_in image b NEXT_IN_CHAIN) z ∙ q) in omega arith)))
 
     -- what is due in a chain is the tree's next node
     number_agrees : (p s j n m a i : ℕ) → IsDue image w (Head n p s j) a i → n ≡ suc (heads w) → At (chain_nodes t p s) j m → m ≡ n
@@ -216,12 +217,12 @@ module _ (image : List ℕ) (t : Tree) (l : Layout) (fit : Fits image t l) where
     due_part (Head n p s zero) a i d =
         let q = d.asked in
         let g = dir_agrees p a q.2 in
-        let z : word_in image (at_node image l p) (6 + s) ≡ word_in image a i = ap (λ a. word_in image a (6 + s)) g.1 ∙ ap (word_in image a) (sym q.3) in
+        let z : word_in image (at_node image l p) (FIRST_SLOT + s) ≡ word_in image a i = ap (λ a. word_in image a (FIRST_SLOT + s)) g.1 ∙ ap (word_in image a) (sym q.3) in
         let sp = fit.chains p s (is_dir t p g.0) q.1 in
-        let x : At (map (at_node image l) (chain_nodes t p s)) 0 (word_in image (at_node image l p) (6 + s)) =
-        spelled_first (λ b. word_in image b 124) (word_in image (at_node image l p) (6 + s)) (map (at_node image l) (chain_nodes t p s)) sp
+        let x : At (map (at_node image l) (chain_nodes t p s)) 0 (word_in image (at_node image l p) (FIRST_SLOT + s)) =
+        spelled_first (λ b. word_in image b NEXT_IN_CHAIN) (word_in image (at_node image l p) (FIRST_SLOT + s)) (map (at_node image l) (chain_nodes t p s)) sp
         (λ y. q.4 (sym z ∙ y)) in
-        let m = at_unmap (at_node image l) (chain_nodes t p s) 0 (word_in image (at_node image l p) (6 + s)) x in
+        let m = at_unmap (at_node image l) (chain_nodes t p s) 0 (word_in image (at_node image l p) (FIRST_SLOT + s)) x in
         let e : m.0 ≡ n = number_agrees p s 0 n m.0 a i d q.0 m.1 in
         (subst (At (chain_nodes t p s) 0) e m.1, ap (at_node image l) (sym e) ∙ m.2 ∙ z)
     due_part (Head n p s (suc j)) a i d =
@@ -230,15 +231,15 @@ module _ (image : List ℕ) (t : Tree) (l : Layout) (fit : Fits image t l) where
         let pt = ag (Head y.0 p s j) a y.1 in
         let e = entry_at t p s j y.0 pt.0 in
         let dir : DirNode t p = subst (DirNode t) e.2 ((ordered t fit.tree).parents y.0 e.0 e.1).1 in
-        let below : slot_of e.0.name < 72 = slot_small e.0.name in
+        let below : slot_of e.0.name < SLOTS = slot_small e.0.name in
         let s0 : slot_of e.0.name ≡ s = e.3 in
         let sp = fit.chains p s (is_dir t p dir) (omega arith) in
-        let z : word_in image (at_node image l y.0) 124 ≡ word_in image a i = ap (λ a. word_in image a 124) pt.1 ∙ ap (word_in image a) (sym q.2) in
-        let x : At (map (at_node image l) (chain_nodes t p s)) (suc j) (word_in image (at_node image l y.0) 124) =
-        spelled_next (λ b. word_in image b 124) (word_in image (at_node image l p) (6 + s)) (map (at_node image l) (chain_nodes t p s)) j
+        let z : word_in image (at_node image l y.0) NEXT_IN_CHAIN ≡ word_in image a i = ap (λ a. word_in image a NEXT_IN_CHAIN) pt.1 ∙ ap (word_in image a) (sym q.2) in
+        let x : At (map (at_node image l) (chain_nodes t p s)) (suc j) (word_in image (at_node image l y.0) NEXT_IN_CHAIN) =
+        spelled_next (λ b. word_in image b NEXT_IN_CHAIN) (word_in image (at_node image l p) (FIRST_SLOT + s)) (map (at_node image l) (chain_nodes t p s)) j
         (at_node image l y.0) sp
         (at_map (at_node image l) (chain_nodes t p s) j y.0 pt.0) (λ k. q.3 (sym z ∙ k)) in
-        let m = at_unmap (at_node image l) (chain_nodes t p s) (suc j) (word_in image (at_node image l y.0) 124) x in
+        let m = at_unmap (at_node image l) (chain_nodes t p s) (suc j) (word_in image (at_node image l y.0) NEXT_IN_CHAIN) x in
         let f : m.0 ≡ n = number_agrees p s (suc j) n m.0 a i d q.0 m.1 in
         (subst (At (chain_nodes t p s) (suc j)) f m.1, ap (at_node image l) (sym f) ∙ m.2 ∙ z)
     due_part (Ext n zero) a i d = absurd d.asked
@@ -246,16 +247,16 @@ module _ (image : List ℕ) (t : Tree) (l : Layout) (fit : Fits image t l) where
         let q = d.asked in
         let f = file_agrees n a q.0 in
         let ff = fit.files n f.0 f.1 f.2 f.3 in
-        let z : word_in image (at_node image l n) 126 ≡ word_in image a i = ap (λ a. word_in image a 126) f.5 ∙ ap (word_in image a) (sym q.1) in
-        subst (At (exts_of l n) 0) z (spelled_first (λ b. word_in image b 126) (word_in image (at_node image l n) 126) (exts_of l n) ff.exts
+        let z : word_in image (at_node image l n) EXTENSION ≡ word_in image a i = ap (λ a. word_in image a EXTENSION) f.5 ∙ ap (word_in image a) (sym q.1) in
+        subst (At (exts_of l n) 0) z (spelled_first (λ b. word_in image b EXTENSION) (word_in image (at_node image l n) EXTENSION) (exts_of l n) ff.exts
         (λ k. q.2 (sym z ∙ k)))
     due_part (Ext n (suc (suc k))) a i d =
         let q = d.asked in
         let h : At (exts_of l n) k a = ag (Ext n (suc k)) a q.0 in
         let f = is_file n k a h in
         let ff = fit.files n f.0 f.1 f.2 f.3 in
-        let z : word_in image a 126 ≡ word_in image a i = ap (word_in image a) (sym q.1) in
-        subst (At (exts_of l n) (suc k)) z (spelled_next (λ b. word_in image b 126) (word_in image (at_node image l n) 126) (exts_of l n) k a ff.exts h
+        let z : word_in image a EXTENSION ≡ word_in image a i = ap (word_in image a) (sym q.1) in
+        subst (At (exts_of l n) (suc k)) z (spelled_next (λ b. word_in image b EXTENSION) (word_in image (at_node image l n) EXTENSION) (exts_of l n) k a ff.exts h
         (λ y. q.2 (sym z ∙ y)))
     due_part (Data n zero) a i d = absurd d.asked
     due_part (Data n (suc k)) a i d =
@@ -267,7 +268,7 @@ module _ (image : List ℕ) (t : Tree) (l : Layout) (fit : Fits image t l) where
         let len : length (datas_of l n) ≡ count t.kind (length f.1) = ff.datas in
         let h2 : k < data_count image h.0 = h.2 in
         let b = at_some (datas_of l n) k (omega arith) in
-        let z : word_in image a i ≡ b.0 = ap (word_in image a) q.2 ∙ ff.named k b.0 a b.1 (member_agrees n (k / 72) a q.1) in
+        let z : word_in image a i ≡ b.0 = ap (word_in image a) q.2 ∙ ff.named k b.0 a b.1 (member_agrees n (k / POINTERS) a q.1) in
         subst (At (datas_of l n) k) (sym z) b.1
 
     pub file_block : (n h a : ℕ) → FileAt image w n h → at_node image l n ≡ h
@@ -282,10 +283,10 @@ module _ (image : List ℕ) (t : Tree) (l : Layout) (fit : Fits image t l) where
         let ff = fit.files n g.0 g.1 g.2 g.3 in
         let rg : 2 ≤ e.0 = (part_range image t l fit (Ext n 1) e.0 e.1).0 in
         let z : at_node image l n ≡ h = file_block n h a f in
-        let y : word_in image (at_node image l n) 126 ≡ e.0 =
-        spelled_word (λ b. word_in image b 126) (word_in image (at_node image l n) 126) (exts_of l n) e.0 ff.exts e.1 in
-        is_there image w (Ext n 1) (Data n (suc d0)) a i h 126 d
-        (f, refl, (λ x. let o : e.0 ≡ 0 = sym y ∙ ap (λ a. word_in image a 126) z ∙ x in omega arith))
+        let y : word_in image (at_node image l n) EXTENSION ≡ e.0 =
+        spelled_word (λ b. word_in image b EXTENSION) (word_in image (at_node image l n) EXTENSION) (exts_of l n) e.0 ff.exts e.1 in
+        is_there image w (Ext n 1) (Data n (suc d0)) a i h EXTENSION d
+        (f, refl, (λ x. let o : e.0 ≡ 0 = sym y ∙ ap (λ a. word_in image a EXTENSION) z ∙ x in omega arith))
         (omega arith, (λ z. omega arith), (λ z y. omega arith)) (omega arith)
     has_exts n d0 a i h d f (suc k) u =
         let x = has_exts n d0 a i h d f k (omega arith) in
@@ -294,9 +295,9 @@ module _ (image : List ℕ) (t : Tree) (l : Layout) (fit : Fits image t l) where
         let g = is_file n (suc k) e.0 e.1 in
         let ff = fit.files n g.0 g.1 g.2 g.3 in
         let rg : 2 ≤ e.0 = (part_range image t l fit (Ext n (suc (suc k))) e.0 e.1).0 in
-        let y : word_in image x.0 126 ≡ e.0 =
-        spelled_link (λ b. word_in image b 126) (word_in image (at_node image l n) 126) (exts_of l n) k x.0 e.0 ff.exts px e.1 in
-        is_there image w (Ext n (suc (suc k))) (Data n (suc d0)) a i x.0 126 d
+        let y : word_in image x.0 EXTENSION ≡ e.0 =
+        spelled_link (λ b. word_in image b EXTENSION) (word_in image (at_node image l n) EXTENSION) (exts_of l n) k x.0 e.0 ff.exts px e.1 in
+        is_there image w (Ext n (suc (suc k))) (Data n (suc d0)) a i x.0 EXTENSION d
         (x.1, refl, (λ z. let o : e.0 ≡ 0 = sym y ∙ z in omega arith))
         (omega arith, (λ z. omega arith), (λ z y. omega arith)) (omega arith)
 
@@ -306,7 +307,7 @@ module _ (image : List ℕ) (t : Tree) (l : Layout) (fit : Fits image t l) where
         let g = file_agrees n h f in
         let ff = fit.files n g.0 g.1 g.2 g.3 in
         let c : count t.kind (length g.1) ≡ data_count image h = count_agrees n h g.1 g.4 in
-        let en : count t.kind (length g.1) ≤ 72 * suc (length (exts_of l n)) = ff.enough in
+        let en : count t.kind (length g.1) ≤ POINTERS * suc (length (exts_of l n)) = ff.enough in
         elim (dec_le (length (exts_of l n)) (ext_count w n)) [
           | yes y ↦ omega arith
           | no y ↦
@@ -324,15 +325,15 @@ module _ (image : List ℕ) (t : Tree) (l : Layout) (fit : Fits image t l) where
     next_agrees : (n k a i h : ℕ) (bytes : List ℕ) → IsDue image w (Data n (suc k)) a i → FileAt image w n h → FileFits image t l n (at_node image l n) bytes
         → count t.kind (length bytes) ≡ data_count image (node_block w n) →
         (x : Bool) → nat_lt (suc k) (data_count image (node_block w n)) ≡ x → k < length (datas_of l n) →
-        cond x (word_in image (member_block w n (suc k / 72)) (table_word (suc k))) 0 ≡ slice_index (datas_of l n) (suc k)
+        cond x (word_in image (member_block w n (suc k / POINTERS)) (table_word (suc k))) 0 ≡ slice_index (datas_of l n) (suc k)
     next_agrees n k a i h bytes d f ff c true z u =
         let lt : suc k < data_count image (node_block w n) = ltb-true (suc k) (data_count image (node_block w n)) z in
         let len : length (datas_of l n) ≡ count t.kind (length bytes) = ff.datas in
-        let en : count t.kind (length bytes) ≤ 72 * suc (length (exts_of l n)) = ff.enough in
-        let m = table_there n k a i h (suc k / 72) d f (omega arith) in
+        let en : count t.kind (length bytes) ≤ POINTERS * suc (length (exts_of l n)) = ff.enough in
+        let m = table_there n k a i h (suc k / POINTERS) d f (omega arith) in
         let e = at_some (datas_of l n) (suc k) (omega arith) in
-        ap (λ b. word_in image b (table_word (suc k))) (member_is image w n (suc k / 72) m.0 v m.1)
-        ∙ ff.named (suc k) e.0 m.0 e.1 (member_agrees n (suc k / 72) m.0 m.1)
+        ap (λ b. word_in image b (table_word (suc k))) (member_is image w n (suc k / POINTERS) m.0 v m.1)
+        ∙ ff.named (suc k) e.0 m.0 e.1 (member_agrees n (suc k / POINTERS) m.0 m.1)
         ∙ sym (at_index (datas_of l n) (suc k) e.0 e.1)
     next_agrees n k a i h bytes d f ff c false z u =
         let ge : data_count image (node_block w n) ≤ suc k = ltb-false (suc k) (data_count image (node_block w n)) z in
@@ -371,12 +372,12 @@ module _ (image : List ℕ) (t : Tree) (l : Layout) (fit : Fits image t l) where
         let z0 : f.0 ≡ node_block w n = sym (file_is image w n f.0 v f.1) in
         let z : at_node image l n ≡ node_block w n = g.5 ∙ z0 in
         let c : count t.kind (length g.1) ≡ data_count image (node_block w n) = count_agrees n f.0 g.1 g.4 ∙ ap (data_count image) z0 in
-        let size : length g.1 ≡ word_in image (node_block w n) 81 = g.4 ∙ ap (λ h. word_in image h 81) z0 in
+        let size : length g.1 ≡ word_in image (node_block w n) SIZE = g.4 ∙ ap (λ h. word_in image h SIZE) z0 in
         let next : next_data image w n (suc k) ≡ slice_index (datas_of l n) (suc k) =
         next_agrees n k a i f.0 g.1 d f.1 ff c (nat_lt (suc k) (data_count image (node_block w n))) refl (at_below (datas_of l n) k b h) in
         let y = ff.data_form k b h in
         subst (λ x. AllHold (data_demands image (kind_of image) b (node_block w n) (suc k)
-        (held (kind_of image) (word_in image (node_block w n) 81) (suc k)) x)) (sym next)
+        (held (kind_of image) (word_in image (node_block w n) SIZE) (suc k)) x)) (sym next)
         (subst (λ z. AllHold (data_demands image (kind_of image) b (node_block w n) (suc k) (held (kind_of image) z (suc k))
         (slice_index (datas_of l n) (suc k)))) size
         (subst (λ y. AllHold (data_demands image y b (node_block w n) (suc k) (held y (length g.1) (suc k)) (slice_index (datas_of l n) (suc k)))) fit.kind

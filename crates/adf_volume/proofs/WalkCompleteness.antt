@@ -1,9 +1,11 @@
 -- Completeness: where a tree and a layout fit, a walk that asks for nothing more has all their parts.
 use Rattle.std.proofs.Common.{◌≡◌, ℕ, zero, suc, List, ◌+◌, ◌*◌, ◌/◌, ◌<◌, ◌≤◌, length, refl, sym, ap, subst, ◌∙◌, arith}
 use native.Mathlib.Decide.{dec_le}
+use Rattle.adf_blocks.specs.declared.layout.TheConstants.{EXTENSION, FIRST_MAP_EXT, MAP_EXT_NEXT, MAP_EXT_PAGES, POINTERS, ROOT_PAGES, SECONDARY_TYPE}
+use Rattle.adf_blocks.specs.declared.layout.TheConstants.{ST_FILE}
 use Rattle.adf_volume.specs.Lists.{At}
 use Rattle.adf_blocks.specs.Sizes.{blocks, count, pages_needed}
-use Rattle.adf_volume.specs.Image.{root_of, FILE, word_in, map_exts_needed, table_word}
+use Rattle.adf_volume.specs.Image.{root_of, word_in, map_exts_needed, table_word}
 use Rattle.adf_fields.specs.Hash.{slot_of}
 use Rattle.adf_tree.specs.declared.entry.Body.{Body}
 use Rattle.adf_tree.specs.declared.entry.Entry.{Entry}
@@ -23,7 +25,7 @@ use Rattle.adf_volume.proofs.WalkAgreement.{agreement, file_agrees, count_agrees
 use Rattle.adf_volume.proofs.Places.{datas_below}
 
 file_word : (image : List ℕ) (t : Tree) (l : Layout) (n : ℕ) (e : Entry) (b : Body) (bytes : List ℕ) → b ≡ e.body
-    → BodyFits image t.kind l n (at_node image l n) b → e.body ≡ File bytes → word_in image (at_node image l n) 127 ≡ FILE
+    → BodyFits image t.kind l n (at_node image l n) b → e.body ≡ File bytes → word_in image (at_node image l n) SECONDARY_TYPE ≡ ST_FILE
 file_word image t l n e Dir bytes z f d = let k : Dir ≡ File bytes = z ∙ d in cc
 file_word image t l n e (File x) bytes z f d = f.0
 
@@ -73,9 +75,9 @@ module _ (image : List ℕ) (t : Tree) (l : Layout) (fit : Fits image t l) (w : 
       let g = is_file image t l fit w v ag n 0 b h in
       let ff = fit.files n g.0 g.1 g.2 g.3 in
       let rg : 2 ≤ b = (part_range image t l fit (Ext n 1) b h).0 in
-      let y : word_in image (at_node image l n) 126 ≡ b =
-      spelled_word (λ b. word_in image b 126) (word_in image (at_node image l n) 126) (exts_of l n) b ff.exts h in
-      let x = asked_block image w whole (Ext n 1) (at_node image l n) 126
+      let y : word_in image (at_node image l n) EXTENSION ≡ b =
+      spelled_word (λ b. word_in image b EXTENSION) (word_in image (at_node image l n) EXTENSION) (exts_of l n) b ff.exts h in
+      let x = asked_block image w whole (Ext n 1) (at_node image l n) EXTENSION
       (has_file n g.0 g.1 g.2 g.3, refl, (λ z. let o : b ≡ 0 = sym y ∙ z in omega arith)) (omega arith) in
       subst (Has w (Ext n 1)) (at_fun (exts_of l n) 0 x.0 b (ag (Ext n 1) x.0 x.1) h) x.1
   all_exts n (suc k) b h =
@@ -84,9 +86,9 @@ module _ (image : List ℕ) (t : Tree) (l : Layout) (fit : Fits image t l) (w : 
       let g = is_file image t l fit w v ag n (suc k) b h in
       let ff = fit.files n g.0 g.1 g.2 g.3 in
       let rg : 2 ≤ b = (part_range image t l fit (Ext n (suc (suc k))) b h).0 in
-      let y : word_in image c.0 126 ≡ b =
-      spelled_link (λ b. word_in image b 126) (word_in image (at_node image l n) 126) (exts_of l n) k c.0 b ff.exts c.1 h in
-      let x = asked_block image w whole (Ext n (suc (suc k))) c.0 126 (hc, refl, (λ z. let o : b ≡ 0 = sym y ∙ z in omega arith)) (omega arith) in
+      let y : word_in image c.0 EXTENSION ≡ b =
+      spelled_link (λ b. word_in image b EXTENSION) (word_in image (at_node image l n) EXTENSION) (exts_of l n) k c.0 b ff.exts c.1 h in
+      let x = asked_block image w whole (Ext n (suc (suc k))) c.0 EXTENSION (hc, refl, (λ z. let o : b ≡ 0 = sym y ∙ z in omega arith)) (omega arith) in
       subst (Has w (Ext n (suc (suc k)))) (at_fun (exts_of l n) (suc k) x.0 b (ag (Ext n (suc (suc k))) x.0 x.1) h) x.1
 
   all_datas : (n k b : ℕ) → At (datas_of l n) k b → Has w (Data n (suc k)) b
@@ -107,8 +109,8 @@ module _ (image : List ℕ) (t : Tree) (l : Layout) (fit : Fits image t l) (w : 
       count_agrees image t l fit w v ag n (at_node image l n) g.0 (ap length bb ∙ fa.4) in
       let len : length (datas_of l n) ≡ count t.kind (length g.0) = ff.datas in
       let at : k < length (datas_of l n) = at_below (datas_of l n) k b h in
-      let en : count t.kind (length g.0) ≤ 72 * suc (length (exts_of l n)) = ff.enough in
-      let m = table (k / 72) (omega arith) fl in
+      let en : count t.kind (length g.0) ≤ POINTERS * suc (length (exts_of l n)) = ff.enough in
+      let m = table (k / POINTERS) (omega arith) fl in
       let x = asked_block image w whole (Data n (suc k)) m.0 (table_word k) ((at_node image l n, fl, (omega arith)), m.1, refl) (omega arith) in
       subst (Has w (Data n (suc k))) (at_fun (datas_of l n) k x.0 b (ag (Data n (suc k)) x.0 x.1) h) x.1
     where
@@ -120,14 +122,14 @@ module _ (image : List ℕ) (t : Tree) (l : Layout) (fit : Fits image t l) (w : 
   all_map_exts zero b h =
       let u : 0 < length l.map_exts = at_below l.map_exts 0 b h in
       let p : length l.map_exts ≡ map_exts_needed (pages_needed (blocks image)) = fit.map_exts in
-      let x = asked_block image w whole (MapExt 0) (root_of image) 104 (map_exts_low (pages_needed (blocks image)) 0 (omega arith), refl, refl)
+      let x = asked_block image w whole (MapExt 0) (root_of image) FIRST_MAP_EXT (map_exts_low (pages_needed (blocks image)) 0 (omega arith), refl, refl)
       (omega arith) in
       subst (Has w (MapExt 0)) (at_fun l.map_exts 0 x.0 b (ag (MapExt 0) x.0 x.1) h) x.1
   all_map_exts (suc j) b h =
       let u : suc j < length l.map_exts = at_below l.map_exts (suc j) b h in
       let p : length l.map_exts ≡ map_exts_needed (pages_needed (blocks image)) = fit.map_exts in
       let c = at_before l.map_exts j b h in
-      let x = asked_block image w whole (MapExt (suc j)) c.0 127 (
+      let x = asked_block image w whole (MapExt (suc j)) c.0 MAP_EXT_NEXT (
         map_exts_low (pages_needed (blocks image)) (suc j) (omega arith),
         all_map_exts j c.0
             c.1,
@@ -135,7 +137,7 @@ module _ (image : List ℕ) (t : Tree) (l : Layout) (fit : Fits image t l) (w : 
       ) (omega arith) in
       subst (Has w (MapExt (suc j))) (at_fun l.map_exts (suc j) x.0 b (ag (MapExt (suc j)) x.0 x.1) h) x.1
 
-  some_map_ext : (j : ℕ) → 25 + 127 * j < pages_needed (blocks image) → (a : ℕ) × Has w (MapExt j) a
+  some_map_ext : (j : ℕ) → ROOT_PAGES + MAP_EXT_PAGES * j < pages_needed (blocks image) → (a : ℕ) × Has w (MapExt j) a
   some_map_ext j lt =
       let p : length l.map_exts ≡ map_exts_needed (pages_needed (blocks image)) = fit.map_exts in
       let u : j < map_exts_needed (pages_needed (blocks image)) = map_exts_high (pages_needed (blocks image)) j lt in

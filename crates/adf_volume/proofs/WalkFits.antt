@@ -1,6 +1,7 @@
 -- What a whole walk tells, fits.
 use Rattle.std.proofs.Common.{ℕ, zero, suc, List, ◌+◌, ◌-◌, ◌*◌, ◌/◌, ◌<◌, ◌≤◌, length, refl, sym, ap, subst, ◌∙◌, arith}
 use native.Mathlib.Decide.{ℕ_discrete}
+use Rattle.adf_blocks.specs.declared.layout.TheConstants.{MAP_EXT_PAGES, PAGE_BITS, ROOT_PAGES}
 use Rattle.adf_volume.specs.Image.{root_of}
 use Rattle.adf_blocks.specs.Sizes.{blocks}
 use Rattle.adf_volume.specs.Demands.{AllHold, boot_demands, root_demands}
@@ -42,7 +43,7 @@ module _ (image : List ℕ) (w : List (Role × ℕ)) (v : IsWalk image w) (whole
     map_next = map_ext_next image w v whole;
     page_named = (λ k b lt h. let x = (kept image v (Page k) b (has_page image w v k b h)).1 in root_names image w v whole k b x.0 x.1 lt x.2 x.3);
     page_listed = (λ j i a b lt h k.
-        let x = (kept image v (Page (25 + 127 * j + i)) b (has_page image w v (25 + 127 * j + i) b k)).1 in
+        let x = (kept image v (Page (ROOT_PAGES + MAP_EXT_PAGES * j + i)) b (has_page image w v (ROOT_PAGES + MAP_EXT_PAGES * j + i) b k)).1 in
         (ext_names image w v whole) j i a b x.0 x.1 lt h x.2 x.3);
     page_form = (λ k b h. (kept image v (Page k) b (has_page image w v k b h)).2);
     entries = entry_fits image w v whole boots;
@@ -56,7 +57,7 @@ module _ (image : List ℕ) (w : List (Role × ℕ)) (v : IsWalk image w) (whole
     bitmap = (λ b lo hi.
         let s2 : 4 ≤ blocks image = (size_low (blocks image) boots.0.1) in
         let x = bitmap_at 2 (blocks image - 2) b bits lo (omega arith) in (
-          (λ f o i. let r = owned_has image w v whole o b i in x.1 (f.0, has_page image w v ((b - 2) / 4064) f.0 f.1, f.2) r.0 r.1),
-          (λ f. let y = x.0 (λ q h. f (owner_of q) (is_owned image w v whole q b h)) in (y.0, page_has image w v ((b - 2) / 4064) y.0 y.1, y.2)),
+          (λ f o i. let r = owned_has image w v whole o b i in x.1 (f.0, has_page image w v ((b - 2) / PAGE_BITS) f.0 f.1, f.2) r.0 r.1),
+          (λ f. let y = x.0 (λ q h. f (owner_of q) (is_owned image w v whole q b h)) in (y.0, page_has image w v ((b - 2) / PAGE_BITS) y.0 y.1, y.2)),
         ));
   }

@@ -4,6 +4,7 @@ use Rattle.std.proofs.Common.{false, cond, eq-eqb, append-nil}
 use Rattle.std.specs.Prelude.{◌==◌, ◌&&◌}
 use Rattle.std.proofs.lemmas.Bool.{eqb-true}
 use native.Mathlib.Decide.{dec_lt}
+use Rattle.adf_blocks.specs.declared.layout.TheConstants.{MAP_EXT_PAGES, POINTERS, ROOT_PAGES}
 use Rattle.adf_volume.specs.Lists.{At}
 use Rattle.adf_blocks.specs.Sizes.{blocks, pages_needed}
 use Rattle.adf_volume.specs.Image.{kind_of, table_word, name_of, root_of}
@@ -149,8 +150,8 @@ module _ (image : List ℕ) where
               let m : ℕ = length (datas_in w n) in
               let f = d.asked.0 in
               let f2 : k < data_count image f.0 = f.2 in
-              let en : data_count image f.0 ≤ 72 * suc (ext_count w n) = enough image w v (λ r b h. kept image v r b h) n k a i b f.0 d g f.1 f.2 in
-              let t = there image w v (λ r b h. kept image v r b h) n (m / 72) f.0 f.1 (omega arith) in
+              let en : data_count image f.0 ≤ POINTERS * suc (ext_count w n) = enough image w v (λ r b h. kept image v r b h) n k a i b f.0 d g f.1 f.2 in
+              let t = there image w v (λ r b h. kept image v r b h) n (m / POINTERS) f.0 f.1 (omega arith) in
               let x = is_there image w (Data n (suc m)) (Data n (suc k)) a i t.0 (table_word m) d ((f.0, f.1, omega arith), t.1, refl)
               (omega arith, (λ z. omega arith), (λ z y. omega arith)) (omega arith) in
               let y : m < length (datas_in w n) = at_below (datas_in w n) m x.0 (ih.to m x.0 x.1) in
@@ -181,9 +182,9 @@ module _ (image : List ℕ) where
   has_data w v n k b h = (datas n v).from k b h
 
   -- what names a page has the extension blocks of the pages before it
-  before_page : (w : List (Role × ℕ)) → IsWalk image w → (k m j a i : ℕ) → m < k → 25 + 127 * j ≤ m → NamesPage image w k a i → (b : ℕ) × Has w (MapExt j) b
-  before_page w v k m j a i l u (inl x) = let y : k < 25 = x.0 in absurd (omega arith)
-  before_page w v k m j a i l u (inr x) = let y : i < 127 = x.2 in let z : k ≡ 25 + 127 * x.0 + i = x.3 in map_ext_down image w v x.0 j a x.1 (omega arith)
+  before_page : (w : List (Role × ℕ)) → IsWalk image w → (k m j a i : ℕ) → m < k → ROOT_PAGES + MAP_EXT_PAGES * j ≤ m → NamesPage image w k a i → (b : ℕ) × Has w (MapExt j) b
+  before_page w v k m j a i l u (inl x) = let y : k < ROOT_PAGES = x.0 in absurd (omega arith)
+  before_page w v k m j a i l u (inr x) = let y : i < MAP_EXT_PAGES = x.2 in let z : k ≡ ROOT_PAGES + MAP_EXT_PAGES * x.0 + i = x.3 in map_ext_down image w v x.0 j a x.1 (omega arith)
 
   next_page : (w : List (Role × ℕ)) → IsWalk image w → Lists is_page Page w → (k a i : ℕ) → IsDue image w (Page k) a i → k ≡ length (pages_in w)
   next_page w v ih k a i d =

@@ -1,6 +1,7 @@
 -- A walk rises: what is due comes after all that is there.
 use Rattle.std.proofs.Common.{◌≡◌, ℕ, zero, suc, List, [], ◌∷◌, ◌⊎◌, inl, inr, ◌+◌, ◌*◌, ◌/◌, ◌<◌, ◌≤◌, refl, sym, ap, subst, ◌∙◌, arith}
 use native.Mathlib.Decide.{dec_lt}
+use Rattle.adf_blocks.specs.declared.layout.TheConstants.{MAP_EXT_PAGES, POINTERS, ROOT_PAGES}
 use Rattle.adf_volume.specs.Image.{root_of}
 use Rattle.adf_volume.specs.Walk.{Role, first, second, third, Before, Same, Has, heads, DirAt, FileAt, MemberAt, NamesPage, Asks, Lacks, IsDue, IsWalk}
 use Rattle.adf_volume.specs.Walk.Role.{Root, Page, MapExt, Head, Ext, Data}
@@ -98,7 +99,7 @@ module _ (image : List ℕ) where
     asks_back Root a i h = absurd h
     asks_back (Page k) a i h = go h.1
       where
-        past : (j : ℕ) → Has ((q, c) ∷ w) (MapExt j) a → i < 127 → k ≡ 25 + 127 * j + i
+        past : (j : ℕ) → Has ((q, c) ∷ w) (MapExt j) a → i < MAP_EXT_PAGES → k ≡ ROOT_PAGES + MAP_EXT_PAGES * j + i
             → ((r' : Role) × Asks image w r' a i × Same r' (Page k)) ⊎ Before q (Page k)
         past j (inl e) l z = inr (subst (λ q. Before q (Page k)) (sym e.0) (omega arith))
         past j (inr y) l z = inl (Page k, (h.0, inr (j, y, l, z)), (refl, refl, refl))
@@ -142,7 +143,7 @@ module _ (image : List ℕ) where
     asks_back (Data n zero) a i h = absurd h
     asks_back (Data n (suc k)) a i h =
         elim (file_back n h.0.0 (Data n (suc k)) (omega arith) h.0.1) [
-          | inl f ↦ elim (member (k / 72) h.1) [
+          | inl f ↦ elim (member (k / POINTERS) h.1) [
             | inl m ↦ inl (Data n (suc k), ((h.0.0, f, h.0.2), m, h.2), (refl, refl, refl))
             | inr b ↦ inr b
           ]

@@ -5,6 +5,7 @@ use Rattle.std.proofs.lemmas.Bool.{eqb-true}
 use Rattle.std.specs.Prelude.{◌==◌}
 use Rattle.std.proofs.lemmas.Bool.Decides.{eqb_tells}
 use native.Mathlib.Decide.{dec_le, dec_lt, ℕ_discrete}
+use Rattle.adf_blocks.specs.declared.layout.TheConstants.{FIRST_PAGE, MAP_EXT_PAGES, ROOT_PAGES}
 use Rattle.adf_blocks.specs.Sizes.{blocks, pages_needed}
 use Rattle.adf_volume.specs.Image.{root_of}
 use Rattle.adf_volume.specs.Walk.{Role, first, second, third, Same, Has, head_count, heads, NodeAt, FileAt, MemberAt, Asks, Lacks, IsDue, ext_count_of}
@@ -353,10 +354,10 @@ asked_header image w whole n p s j a i ask =
     ]
 
 -- a page is asked for where the extension blocks up to it are there
-pub page_word : (image : List ℕ) (w : List (Role × ℕ)) (k : ℕ) → k < pages_needed (blocks image) → ((j : ℕ) → 25 + 127 * j ≤ k → (a : ℕ) × Has w (MapExt j) a)
+pub page_word : (image : List ℕ) (w : List (Role × ℕ)) (k : ℕ) → k < pages_needed (blocks image) → ((j : ℕ) → ROOT_PAGES + MAP_EXT_PAGES * j ≤ k → (a : ℕ) × Has w (MapExt j) a)
     → (a i : ℕ) × Asks image w (Page k) a i
 page_word image w k lt have =
-    elim (dec_lt k 25) [
-      | yes l ↦ (root_of image, 79 + k, (lt, inl (l, refl, refl)))
-      | no l ↦ let m = have ((k - 25) / 127) (omega arith) in (m.0, (k - 25) % 127, (lt, inr ((k - 25) / 127, m.1, omega arith, omega arith)))
+    elim (dec_lt k ROOT_PAGES) [
+      | yes l ↦ (root_of image, FIRST_PAGE + k, (lt, inl (l, refl, refl)))
+      | no l ↦ let m = have ((k - ROOT_PAGES) / MAP_EXT_PAGES) (omega arith) in (m.0, (k - ROOT_PAGES) % MAP_EXT_PAGES, (lt, inr ((k - ROOT_PAGES) / MAP_EXT_PAGES, m.1, omega arith, omega arith)))
     ]

@@ -4,9 +4,11 @@ use Rattle.std.proofs.Common.{map, eq-eqb}
 use Rattle.std.specs.Prelude.{◌==◌, slice_index}
 use Rattle.std.proofs.lemmas.Bool.{eqb-true}
 use native.Mathlib.Decide.{dec_lt, ℕ_discrete}
+use Rattle.adf_blocks.specs.declared.layout.TheConstants.{EXTENSION, FIRST_MAP_EXT, FIRST_PAGE, FIRST_SLOT, MAP_EXT_NEXT, MAP_EXT_PAGES, NEXT_IN_CHAIN}
+use Rattle.adf_blocks.specs.declared.layout.TheConstants.{POINTERS, ROOT_PAGES, SECONDARY_TYPE, SIZE, SLOTS, ST_DIR, ST_FILE}
 use Rattle.adf_volume.specs.Lists.{At, Spelled}
 use Rattle.adf_blocks.specs.Sizes.{blocks, count, pages_needed}
-use Rattle.adf_volume.specs.Image.{word_in, root_of, map_exts_needed, kind_of, held, table_word, DIR, FILE, name_of, content}
+use Rattle.adf_volume.specs.Image.{word_in, root_of, map_exts_needed, kind_of, held, table_word, name_of, content}
 use Rattle.adf_fields.specs.Hash.{slot_of}
 use Rattle.adf_tree.specs.Texts.{uppers}
 use Rattle.adf_volume.specs.Demands.{AllHold, boot_demands, head_demands, ext_demands, data_demands}
@@ -41,21 +43,21 @@ body_file image w n b bytes true h = cc
 body_file image w n b bytes false h = let e : bytes ≡ content image (kind_of image) b (datas_in w n) = cc in (refl, e)
 
 -- a header that is no directory is a file
-head_kind : (image : List ℕ) (b c s : ℕ) → AllHold (head_demands image (kind_of image) b c s) → (word_in image b 127 == DIR) ≡ false
-    → word_in image b 127 ≡ FILE
+head_kind : (image : List ℕ) (b c s : ℕ) → AllHold (head_demands image (kind_of image) b c s) → (word_in image b SECONDARY_TYPE == ST_DIR) ≡ false
+    → word_in image b SECONDARY_TYPE ≡ ST_FILE
 head_kind image b c s h z =
     elim (head_type image (kind_of image) b c s h) [
-      | inl d ↦ let e : (word_in image b 127 == DIR) ≡ true = eq-eqb (word_in image b 127) DIR d in absurd (let x : true ≡ false = sym e ∙ z in cc)
+      | inl d ↦ let e : (word_in image b SECONDARY_TYPE == ST_DIR) ≡ true = eq-eqb (word_in image b SECONDARY_TYPE) ST_DIR d in absurd (let x : true ≡ false = sym e ∙ z in cc)
       | inr f ↦ f
     ]
 
 -- a whole walk has all bitmap extension blocks
-pub all_map_exts : (image : List ℕ) (w : List (Role × ℕ)) → IsWhole image w → (j : ℕ) → 25 + 127 * j < pages_needed (blocks image)
+pub all_map_exts : (image : List ℕ) (w : List (Role × ℕ)) → IsWhole image w → (j : ℕ) → ROOT_PAGES + MAP_EXT_PAGES * j < pages_needed (blocks image)
     → (a : ℕ) × Has w (MapExt j) a
-all_map_exts image w whole zero lt = asked_block image w whole (MapExt 0) (root_of image) 104 (lt, refl, refl) (omega arith)
+all_map_exts image w whole zero lt = asked_block image w whole (MapExt 0) (root_of image) FIRST_MAP_EXT (lt, refl, refl) (omega arith)
 all_map_exts image w whole (suc j) lt =
     let x = all_map_exts image w whole j (omega arith) in
-    asked_block image w whole (MapExt (suc j)) x.0 127 (lt, x.1, refl) (omega arith)
+    asked_block image w whole (MapExt (suc j)) x.0 MAP_EXT_NEXT (lt, x.1, refl) (omega arith)
 
 module _ (image : List ℕ) (w : List (Role × ℕ)) (v : IsWalk image w) (whole : IsWhole image w) where
   pub head_is : (n p s j b : ℕ) → Has w (Head n p s j) b
@@ -82,7 +84,7 @@ module _ (image : List ℕ) (w : List (Role × ℕ)) (v : IsWalk image w) (whole
       let k = h.0 in (
         entry_in image w (suc i) k.0 c,
         entry_has image w v i k.0 k.1 k.2 c k.3,
-        ap (λ x. cond x Dir (File (content image (kind_of image) c (datas_in w (suc i))))) (eq-eqb (word_in image c 127) DIR h.1),
+        ap (λ x. cond x Dir (File (content image (kind_of image) c (datas_in w (suc i))))) (eq-eqb (word_in image c SECONDARY_TYPE) ST_DIR h.1),
       )
 
   pub is_tree : Ordered (tree_in image w)
@@ -153,22 +155,22 @@ module _ (image : List ℕ) (w : List (Role × ℕ)) (v : IsWalk image w) (whole
         ]
       ]
 
-  pub map_ext_next : (j a b : ℕ) → At (map_exts_in w) j a → At (map_exts_in w) (suc j) b → word_in image a 127 ≡ b
+  pub map_ext_next : (j a b : ℕ) → At (map_exts_in w) j a → At (map_exts_in w) (suc j) b → word_in image a MAP_EXT_NEXT ≡ b
   map_ext_next j a b h k =
       let y = (kept image v (MapExt (suc j)) b (has_map_ext image w v (suc j) b k)).1 in
       let e : a ≡ y.0 = at_fun (map_exts_in w) j a y.0 h (map_ext_has image w v j y.0 y.1) in
-      ap (λ a. word_in image a 127) e ∙ y.2
+      ap (λ a. word_in image a MAP_EXT_NEXT) e ∙ y.2
 
-  pub root_names : (k b a i : ℕ) → k < 25 → NamesPage image w k a i → word_in image a i ≡ b → word_in image (root_of image) (79 + k) ≡ b
-  root_names k b a i lt (inl x) e = ap (λ a. word_in image a (79 + k)) (sym x.1) ∙ ap (word_in image a) (sym x.2) ∙ e
-  root_names k b a i lt (inr x) e = let z : k ≡ 25 + 127 * x.0 + i = x.3 in absurd (omega arith)
+  pub root_names : (k b a i : ℕ) → k < ROOT_PAGES → NamesPage image w k a i → word_in image a i ≡ b → word_in image (root_of image) (FIRST_PAGE + k) ≡ b
+  root_names k b a i lt (inl x) e = ap (λ a. word_in image a (FIRST_PAGE + k)) (sym x.1) ∙ ap (word_in image a) (sym x.2) ∙ e
+  root_names k b a i lt (inr x) e = let z : k ≡ ROOT_PAGES + MAP_EXT_PAGES * x.0 + i = x.3 in absurd (omega arith)
 
-  pub ext_names : (j i c b a m : ℕ) → i < 127 → At (map_exts_in w) j c → NamesPage image w (25 + 127 * j + i) a m → word_in image a m ≡ b
+  pub ext_names : (j i c b a m : ℕ) → i < MAP_EXT_PAGES → At (map_exts_in w) j c → NamesPage image w (ROOT_PAGES + MAP_EXT_PAGES * j + i) a m → word_in image a m ≡ b
       → word_in image c i ≡ b
-  ext_names j i c b a m lt h (inl x) e = let y : 25 + 127 * j + i < 25 = x.0 in absurd (omega arith)
+  ext_names j i c b a m lt h (inl x) e = let y : ROOT_PAGES + MAP_EXT_PAGES * j + i < ROOT_PAGES = x.0 in absurd (omega arith)
   ext_names j i c b a m lt h (inr x) e =
-      let l : m < 127 = x.2 in
-      let z : 25 + 127 * j + i ≡ 25 + 127 * x.0 + m = x.3 in
+      let l : m < MAP_EXT_PAGES = x.2 in
+      let z : ROOT_PAGES + MAP_EXT_PAGES * j + i ≡ ROOT_PAGES + MAP_EXT_PAGES * x.0 + m = x.3 in
       let ej : x.0 ≡ j = omega arith in
       let ei : i ≡ m = omega arith in
       let ea : c ≡ a = at_fun (map_exts_in w) j c a h (subst (λ j. At (map_exts_in w) j a) ej (map_ext_has image w v x.0 a x.1)) in
@@ -180,28 +182,28 @@ module _ (image : List ℕ) (w : List (Role × ℕ)) (v : IsWalk image w) (whole
       let x = has_entry image w w v i d.0 d.1 in
       let b : ℕ = x.3 in
       let z : body_in image w (suc i) b ≡ Dir = ap (λ (y : Entry). y.body) (sym x.5) ∙ d.2 in
-      let y : word_in image b 127 ≡ DIR = eqb-true (word_in image b 127) DIR (body_dir image w (suc i) b (word_in image b 127 == DIR) z) in
+      let y : word_in image b SECONDARY_TYPE ≡ ST_DIR = eqb-true (word_in image b SECONDARY_TYPE) ST_DIR (body_dir image w (suc i) b (word_in image b SECONDARY_TYPE == ST_DIR) z) in
       let e : b ≡ at_node image (layout_in w) (suc i) = sym (head_is (suc i) x.0 x.1 x.2 b x.4).0 in
       subst (DirAt image w (suc i)) e ((x.0, x.1, x.2, x.4), y)
 
   -- the chains are spelled
-  pub chains_spelled : (p s : ℕ) → DirNode (tree_in image w) p → s < 72 →
-      Spelled (λ b. word_in image b 124) (word_in image (at_node image (layout_in w) p) (6 + s))
+  pub chains_spelled : (p s : ℕ) → DirNode (tree_in image w) p → s < SLOTS →
+      Spelled (λ b. word_in image b NEXT_IN_CHAIN) (word_in image (at_node image (layout_in w) p) (FIRST_SLOT + s))
       (map (at_node image (layout_in w)) (chain_nodes (tree_in image w) p s))
   chains_spelled p s d lt =
       let da = is_dir_at p d in
       let a : ℕ = at_node image (layout_in w) p in
       let c : List ℕ = nodes_from 1 (entries_in image w w) p s in
-      spelled_from (λ b. word_in image b 124) (word_in image a (6 + s)) (map (at_node image (layout_in w)) c)
+      spelled_from (λ b. word_in image b NEXT_IN_CHAIN) (word_in image a (FIRST_SLOT + s)) (map (at_node image (layout_in w)) c)
       (λ b h.
       let u = at_unmap (at_node image (layout_in w)) c 0 b h in
       let x = has_chain image w w v u.0 p s 0 u.1 in
       let k = (kept image v (Head u.0 p s 0) x.0 x.1).1 in
-      ap (λ a. word_in image a (6 + s)) (dir_at p k.0 k.1) ∙ k.2 ∙ sym (head_is u.0 p s 0 x.0 x.1).0 ∙ u.2)
-      (λ h. elim (ℕ_discrete (word_in image a (6 + s)) 0) [
+      ap (λ a. word_in image a (FIRST_SLOT + s)) (dir_at p k.0 k.1) ∙ k.2 ∙ sym (head_is u.0 p s 0 x.0 x.1).0 ∙ u.2)
+      (λ h. elim (ℕ_discrete (word_in image a (FIRST_SLOT + s)) 0) [
         | yes z ↦ z
         | no ne ↦
-            let x = asked_header image w whole (suc (heads w)) p s 0 a (6 + s) (refl, lt, da, refl, ne) in
+            let x = asked_header image w whole (suc (heads w)) p s 0 a (FIRST_SLOT + s) (refl, lt, da, refl, ne) in
             let y : 0 < length c = at_below c 0 x.0 (chain_has image w w v x.0 p s 0 x.1 x.2) in
             let l : length (map (at_node image (layout_in w)) c) ≡ length c = length-map c (at_node image (layout_in w)) in
             absurd (omega arith)
@@ -214,16 +216,16 @@ module _ (image : List ℕ) (w : List (Role × ℕ)) (v : IsWalk image w) (whole
       let k = (kept image v (Head u2.0 p s (suc j)) x2.0 x2.1).1 in
       let z : k.1 ≡ x.0 = (one_block image v (Head k.0 p s j) (Head u.0 p s j) k.1 x.0 k.2 x.1 (refl, refl, refl)).1 in
       let y : b ≡ k.1 = sym u.2 ∙ (head_is u.0 p s j x.0 x.1).0 ∙ sym z in
-      ap (λ b. word_in image b 124) y ∙ k.3 ∙ sym (head_is u2.0 p s (suc j) x2.0 x2.1).0 ∙ u2.2)
+      ap (λ b. word_in image b NEXT_IN_CHAIN) y ∙ k.3 ∙ sym (head_is u2.0 p s (suc j) x2.0 x2.1).0 ∙ u2.2)
       (λ j b h e.
       let u = at_unmap (at_node image (layout_in w)) c j b h in
       let x = has_chain image w w v u.0 p s j u.1 in
       let y : x.0 ≡ b = sym (head_is u.0 p s j x.0 x.1).0 ∙ u.2 in
-      elim (ℕ_discrete (word_in image b 124) 0) [
+      elim (ℕ_discrete (word_in image b NEXT_IN_CHAIN) 0) [
         | yes z ↦ z
         | no ne ↦
             let x' : Has w (Head u.0 p s j) b = subst (Has w (Head u.0 p s j)) y x.1 in
-            let q = asked_header image w whole (suc (heads w)) p s (suc j) b 124 (refl, (u.0, x'), refl, ne) in
+            let q = asked_header image w whole (suc (heads w)) p s (suc j) b NEXT_IN_CHAIN (refl, (u.0, x'), refl, ne) in
             let r : suc j < length c = at_below c (suc j) q.0 (chain_has image w w v q.0 p s (suc j) q.1 q.2) in
             let l : length (map (at_node image (layout_in w)) c) ≡ length c = length-map c (at_node image (layout_in w)) in
             absurd (omega arith)
@@ -235,7 +237,7 @@ module _ (image : List ℕ) (w : List (Role × ℕ)) (v : IsWalk image w) (whole
   file_at n e bytes h f =
       let x = entry_is n e h in
       let z : body_in image w n x.3 ≡ File bytes = ap (λ (y : Entry). y.body) (sym x.5) ∙ f in
-      let y = body_file image w n x.3 bytes (word_in image x.3 127 == DIR) z in
+      let y = body_file image w n x.3 bytes (word_in image x.3 SECONDARY_TYPE == ST_DIR) z in
       let k = kept image v (Head n x.0 x.1 x.2) x.3 x.4 in
       (x.3, ((x.0, x.1, x.2, x.4), head_kind image x.3 k.2.0 x.1 k.2.2 y.0), y.1, (head_is n x.0 x.1 x.2 x.3 x.4).0)
 
@@ -246,14 +248,14 @@ module _ (image : List ℕ) (w : List (Role × ℕ)) (v : IsWalk image w) (whole
   one_file : (n h k : ℕ) → FileAt image w n h → FileAt image w n k → h ≡ k
   one_file n h k f g = (one_head image v n f.0.0 f.0.1 f.0.2 h g.0.0 g.0.1 g.0.2 k f.0.3 g.0.3).1
 
-  enough_now : (n h : ℕ) → FileAt image w n h → data_count image h ≤ 72 * suc (ext_count w n)
+  enough_now : (n h : ℕ) → FileAt image w n h → data_count image h ≤ POINTERS * suc (ext_count w n)
   enough_now n h f =
       elim (dec_lt 0 (data_count image h)) [
         | yes u ↦
             let x = asked_block image w whole (Data n 1) h (table_word 0) ((h, f, u), f, refl) (omega arith) in
             let k = kept image v (Data n 1) x.0 x.1 in
             let z : k.0 ≡ h = one_file n k.0 h k.1 f in
-            subst (λ h. data_count image h ≤ 72 * suc (ext_count w n)) z k.3
+            subst (λ h. data_count image h ≤ POINTERS * suc (ext_count w n)) z k.3
         | no u ↦ omega arith
       ]
 
@@ -263,7 +265,7 @@ module _ (image : List ℕ) (w : List (Role × ℕ)) (v : IsWalk image w) (whole
         | yes u ↦
             let m : ℕ = length (datas_in w n) in
             let en = enough_now n h f in
-            let t = there image w v (λ r b h. kept image v r b h) n (m / 72) h f (omega arith) in
+            let t = there image w v (λ r b h. kept image v r b h) n (m / POINTERS) h f (omega arith) in
             let x = asked_block image w whole (Data n (suc m)) t.0 (table_word m) ((h, f, u), t.1, refl) (omega arith) in
             let y : m < length (datas_in w n) = at_below (datas_in w n) m x.0 (data_has image w v n m x.0 x.1) in
             absurd (omega arith)
@@ -278,27 +280,27 @@ module _ (image : List ℕ) (w : List (Role × ℕ)) (v : IsWalk image w) (whole
         ]
       ]
 
-  exts_spelled : (n h : ℕ) → FileAt image w n h → Spelled (λ b. word_in image b 126) (word_in image h 126) (exts_in w n)
+  exts_spelled : (n h : ℕ) → FileAt image w n h → Spelled (λ b. word_in image b EXTENSION) (word_in image h EXTENSION) (exts_in w n)
   exts_spelled n h f =
-      spelled_from (λ b. word_in image b 126) (word_in image h 126) (exts_in w n)
+      spelled_from (λ b. word_in image b EXTENSION) (word_in image h EXTENSION) (exts_in w n)
       (λ b x.
       let k = (kept image v (Ext n 1) b (has_ext image w v n 0 b x)).0 in
-      ap (λ h. word_in image h 126) (one_file n h k.0 f k.1) ∙ k.2)
-      (λ z. elim (ℕ_discrete (word_in image h 126) 0) [
+      ap (λ h. word_in image h EXTENSION) (one_file n h k.0 f k.1) ∙ k.2)
+      (λ z. elim (ℕ_discrete (word_in image h EXTENSION) 0) [
         | yes y ↦ y
         | no ne ↦
-            let x = asked_block image w whole (Ext n 1) h 126 (f, refl, ne) (omega arith) in
+            let x = asked_block image w whole (Ext n 1) h EXTENSION (f, refl, ne) (omega arith) in
             let y : 0 < length (exts_in w n) = at_below (exts_in w n) 0 x.0 (ext_has image v n 0 x.0 x.1) in
             absurd (omega arith)
       ])
       (λ j b c x y.
       let k = (kept image v (Ext n (suc (suc j))) c (has_ext image w v n (suc j) c y)).0 in
       let e : b ≡ k.0 = at_fun (exts_in w n) j b k.0 x (ext_has image v n j k.0 k.1) in
-      ap (λ b. word_in image b 126) e ∙ k.2)
-      (λ j b x e. elim (ℕ_discrete (word_in image b 126) 0) [
+      ap (λ b. word_in image b EXTENSION) e ∙ k.2)
+      (λ j b x e. elim (ℕ_discrete (word_in image b EXTENSION) 0) [
         | yes y ↦ y
         | no ne ↦
-            let q = asked_block image w whole (Ext n (suc (suc j))) b 126 (has_ext image w v n j b x, refl, ne) (omega arith) in
+            let q = asked_block image w whole (Ext n (suc (suc j))) b EXTENSION (has_ext image w v n j b x, refl, ne) (omega arith) in
             let y : suc j < length (exts_in w n) = at_below (exts_in w n) (suc j) q.0 (ext_has image v n (suc j) q.0 q.1) in
             absurd (omega arith)
       ])
@@ -308,10 +310,10 @@ module _ (image : List ℕ) (w : List (Role × ℕ)) (v : IsWalk image w) (whole
   table_is n h zero a c f x y = sym x ∙ (file_parts n c y).0
   table_is n h (suc m) a c f x y = at_fun (exts_in w n) m a c (subst (λ xs. At xs m a) (file_parts n h f).1 x) (ext_has image v n m c y)
 
-  data_named : (n h k b a : ℕ) → FileAt image w n h → At (datas_in w n) k b → TableAt image (layout_in w) n (k / 72) a → word_in image a (table_word k) ≡ b
+  data_named : (n h k b a : ℕ) → FileAt image w n h → At (datas_in w n) k b → TableAt image (layout_in w) n (k / POINTERS) a → word_in image a (table_word k) ≡ b
   data_named n h k b a f x y =
       let z = (kept image v (Data n (suc k)) b (has_data image w v n k b x)).4 in
-      ap (λ a. word_in image a (table_word k)) (table_is n h (k / 72) a z.0 f y z.1) ∙ z.2
+      ap (λ a. word_in image a (table_word k)) (table_is n h (k / POINTERS) a z.0 f y z.1) ∙ z.2
 
   table_of : (n h m c : ℕ) → FileAt image w n h → MemberAt image w n m c → TableAt image (layout_in w) n m c
   table_of n h zero c f y = (file_parts n c y).0
@@ -324,20 +326,20 @@ module _ (image : List ℕ) (w : List (Role × ℕ)) (v : IsWalk image w) (whole
         | yes u ↦
             let c = y.inner u in
             let e = at_some (datas_in w n) k (omega arith) in
-            c.2 ∙ data_named n h k e.0 c.0 f e.1 (table_of n h (k / 72) c.0 f c.1) ∙ sym (at_index (datas_in w n) k e.0 e.1)
+            c.2 ∙ data_named n h k e.0 c.0 f e.1 (table_of n h (k / POINTERS) c.0 f c.1) ∙ sym (at_index (datas_in w n) k e.0 e.1)
         | no u ↦ y.last (omega arith) ∙ sym (index_past (datas_in w n) k (omega arith))
       ]
 
   data_formed : (n h k b : ℕ) → FileAt image w n h → At (datas_in w n) k b
-      → AllHold (data_demands image (kind_of image) b h (suc k) (held (kind_of image) (word_in image h 81) (suc k)) (slice_index (datas_in w n) (suc k)))
+      → AllHold (data_demands image (kind_of image) b h (suc k) (held (kind_of image) (word_in image h SIZE) (suc k)) (slice_index (datas_in w n) (suc k)))
   data_formed n h k b f x =
       let y = kept image v (Data n (suc k)) b (has_data image w v n k b x) in
       let z : y.0 ≡ h = one_file n y.0 h y.1 f in
       let e : y.5.0 ≡ slice_index (datas_in w n) (suc k) = data_next n h (suc k) y.5.0 f (subst (λ h. IsNext image w n (suc k) h y.5.0) z y.5.1) in
-      subst (λ x. AllHold (data_demands image (kind_of image) b h (suc k) (held (kind_of image) (word_in image h 81) (suc k)) x)) e
-      (subst (λ h. AllHold (data_demands image (kind_of image) b h (suc k) (held (kind_of image) (word_in image h 81) (suc k)) y.5.0)) z y.5.2)
+      subst (λ x. AllHold (data_demands image (kind_of image) b h (suc k) (held (kind_of image) (word_in image h SIZE) (suc k)) x)) e
+      (subst (λ h. AllHold (data_demands image (kind_of image) b h (suc k) (held (kind_of image) (word_in image h SIZE) (suc k)) y.5.0)) z y.5.2)
 
-  pub file_fits : (n h : ℕ) (bytes : List ℕ) → FileAt image w n h → length bytes ≡ word_in image h 81
+  pub file_fits : (n h : ℕ) (bytes : List ℕ) → FileAt image w n h → length bytes ≡ word_in image h SIZE
       → FileFits image (tree_in image w) (layout_in w) n h bytes
   file_fits n h bytes f z =
       let fp = file_parts n h f in
@@ -345,12 +347,12 @@ module _ (image : List ℕ) (w : List (Role × ℕ)) (v : IsWalk image w) (whole
       let da : datas_of (layout_in w) n ≡ datas_in w n = fp.2 in
       let ct : count (kind_of image) (length bytes) ≡ data_count image h = ap (count (kind_of image)) z in
       record {
-        exts = subst (Spelled (λ b. word_in image b 126) (word_in image h 126)) (sym ex) (exts_spelled n h f);
+        exts = subst (Spelled (λ b. word_in image b EXTENSION) (word_in image h EXTENSION)) (sym ex) (exts_spelled n h f);
         ext_form = (λ k b x.
             let y = (kept image v (Ext n (suc k)) b (has_ext image w v n k b (subst (λ xs. At xs k b) ex x))).1 in
             subst (λ h. AllHold (ext_demands image b h)) (one_file n y.0 h y.1 f) y.2);
         enough =
-            (let en : data_count image h ≤ 72 * suc (ext_count w n) = enough_now n h f in
+            (let en : data_count image h ≤ POINTERS * suc (ext_count w n) = enough_now n h f in
             let l : length (exts_of (layout_in w) n) ≡ ext_count w n = ap length ex ∙ exts_length image w n in
             omega arith);
         datas = ap length da ∙ datas_length n h f ∙ sym ct;
@@ -365,21 +367,21 @@ module _ (image : List ℕ) (w : List (Role × ℕ)) (v : IsWalk image w) (whole
 
   module _ (boots : AllHold (boot_demands image)) where
     -- what a file holds is as long as its header says
-    pub content_long : (n h : ℕ) → FileAt image w n h → length (content image (kind_of image) h (datas_in w n)) ≡ word_in image h 81
+    pub content_long : (n h : ℕ) → FileAt image w n h → length (content image (kind_of image) h (datas_in w n)) ≡ word_in image h SIZE
     content_long n h f =
         content_length image (kind_of image) h (datas_in w n) boots.0.0
         (λ k b x. (in_range image v (size_low (blocks image) boots.0.1) (Data n (suc k)) b (has_data image w v n k b x)).1)
         (datas_length n h f)
 
     body_fits : (n p s j b c : ℕ) → Has w (Head n p s j) b → AllHold (head_demands image (kind_of image) b c s) → (x : Bool)
-        → (word_in image b 127 == DIR) ≡ x
+        → (word_in image b SECONDARY_TYPE == ST_DIR) ≡ x
         → BodyFits image (kind_of image) (layout_in w) n b (cond x Dir (File (content image (kind_of image) b (datas_in w n))))
     body_fits n p s j b c h k true z =
-        let d : word_in image b 127 ≡ DIR = eqb-true (word_in image b 127) DIR z in
+        let d : word_in image b SECONDARY_TYPE ≡ ST_DIR = eqb-true (word_in image b SECONDARY_TYPE) ST_DIR z in
         let hp = head_is n p s j b h in
         let no_file : (a : ℕ) → FileAt image w n a → ⊥ =
         (λ a f. let e : a ≡ b =
-        (one_head image v n f.0.0 f.0.1 f.0.2 a p s j b f.0.3 h).1 in dir_not_file image b d (subst (λ a. word_in image a 127 ≡ FILE) e f.1)) in (
+        (one_head image v n f.0.0 f.0.1 f.0.2 a p s j b f.0.3 h).1 in dir_not_file image b d (subst (λ a. word_in image a SECONDARY_TYPE ≡ ST_FILE) e f.1)) in (
           d,
           hp.1 ∙ no_length (exts_in w n) (elim (dec_lt 0 (length (exts_in w n))) [
             | yes u ↦ let x = at_some (exts_in w n) 0 u in let f = ext_file image v n 1 x.0 (has_ext image w v n 0 x.0 x.1) in absurd (no_file f.0 f.1)
@@ -410,5 +412,5 @@ module _ (image : List ℕ) (w : List (Role × ℕ)) (v : IsWalk image w) (whole
               (subst (λ s. AllHold (head_demands image (kind_of image) b k.2.0 s)) (sym sl) k.2.2);
           name = refl;
           meta = refl;
-          body = body_fits n x.0 x.1 x.2 b k.2.0 x.4 k.2.2 (word_in image b 127 == DIR) refl;
+          body = body_fits n x.0 x.1 x.2 b k.2.0 x.4 k.2.2 (word_in image b SECONDARY_TYPE == ST_DIR) refl;
         }))

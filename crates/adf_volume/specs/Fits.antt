@@ -6,9 +6,10 @@ use Rattle.std.proofs.Common.{zero, suc}
 use Rattle.adf_volume.specs.Lists.{At, In, Spelled, NoBlockTwice}
 use Rattle.adf_tree.specs.declared.entry.Kind.{Kind}
 use Rattle.adf_blocks.specs.Sizes.{blocks, count, pages_needed}
-use Rattle.adf_volume.specs.Image.{word_in, root_of, map_exts_needed, kind_of, DIR, FILE, held, table_word, name_of, label_of, meta_of, stamps_of}
+use Rattle.adf_volume.specs.Image.{word_in, root_of, map_exts_needed, kind_of, held, table_word, name_of, label_of, meta_of, stamps_of}
 use Rattle.adf_volume.specs.Image.{content, IsFreeAt}
 use Rattle.adf_fields.specs.Hash.{slot_of}
+use Rattle.adf_blocks.specs.declared.layout.TheConstants.{EXTENSION, FIRST_MAP_EXT, FIRST_PAGE, FIRST_SLOT, MAP_EXT_NEXT, MAP_EXT_PAGES, NEXT_IN_CHAIN, PAGE_BITS, POINTERS, ROOT_PAGES, SECONDARY_TYPE, SIZE, SLOTS, ST_DIR, ST_FILE}
 use Rattle.adf_volume.specs.Demands.{AllHold, boot_demands, root_demands, page_demands, head_demands, ext_demands, data_demands}
 use Rattle.adf_tree.specs.declared.entry.Body.{Body}
 use Rattle.adf_tree.specs.declared.entry.Entry.{Entry}
@@ -24,12 +25,13 @@ TableAt image l n (suc m) a = At (exts_of l n) m a
 
 -- the bit of block b is set
 abbrev pub IsFree : List ℕ → List ℕ → ℕ → Type 0
-IsFree image pages b = (page : ℕ) × At pages ((b - 2) / 4064) page × IsFreeAt image page ((b - 2) % 4064)
+IsFree image pages b = (page : ℕ) × At pages ((b - 2) / PAGE_BITS) page × IsFreeAt image page ((b - 2) % PAGE_BITS)
 
 -- the body of entry n, whose header is h
 abbrev pub BodyFits : List ℕ → Kind → Layout → ℕ → ℕ → Body → Type 0
-BodyFits image kind l n h Dir = (word_in image h 127 ≡ DIR) × (exts_of l n ≡ []) × (datas_of l n ≡ [])
-BodyFits image kind l n h (File bytes) = (word_in image h 127 ≡ FILE) × (bytes ≡ content image kind h (datas_of l n)) × (length bytes ≡ word_in image h 81)
+BodyFits image kind l n h Dir = (word_in image h SECONDARY_TYPE ≡ ST_DIR) × (exts_of l n ≡ []) × (datas_of l n ≡ [])
+BodyFits image kind l n h (File bytes) =
+    (word_in image h SECONDARY_TYPE ≡ ST_FILE) × (bytes ≡ content image kind h (datas_of l n)) × (length bytes ≡ word_in image h SIZE)
 
 -- what is asked of entry n, whose header is h
 pub record EntryFits (image : List ℕ) (t : Tree) (l : Layout) (n h : ℕ) (e : Entry) : Type 0 where
@@ -40,11 +42,11 @@ pub record EntryFits (image : List ℕ) (t : Tree) (l : Layout) (n h : ℕ) (e :
 
 -- what is asked of the blocks of file n, whose header is h
 pub record FileFits (image : List ℕ) (t : Tree) (l : Layout) (n h : ℕ) (bytes : List ℕ) : Type 0 where
-  pub exts : Spelled (λ b. word_in image b 126) (word_in image h 126) (exts_of l n)
+  pub exts : Spelled (λ b. word_in image b EXTENSION) (word_in image h EXTENSION) (exts_of l n)
   pub ext_form : (k b : ℕ) → At (exts_of l n) k b → AllHold (ext_demands image b h)
-  pub enough : count t.kind (length bytes) ≤ 72 * suc (length (exts_of l n))
+  pub enough : count t.kind (length bytes) ≤ POINTERS * suc (length (exts_of l n))
   pub datas : length (datas_of l n) ≡ count t.kind (length bytes)
-  pub named : (k b a : ℕ) → At (datas_of l n) k b → TableAt image l n (k / 72) a → word_in image a (table_word k) ≡ b
+  pub named : (k b a : ℕ) → At (datas_of l n) k b → TableAt image l n (k / POINTERS) a → word_in image a (table_word k) ≡ b
   pub data_form : (k b : ℕ) → At (datas_of l n) k b
       → AllHold (data_demands image t.kind b h (suc k) (held t.kind (length bytes) (suc k)) (slice_index (datas_of l n) (suc k)))
 
@@ -59,14 +61,14 @@ pub record Fits (image : List ℕ) (t : Tree) (l : Layout) : Type 0 where
   pub places : length l.places ≡ length t.entries
   pub pages : length l.pages ≡ pages_needed (blocks image)
   pub map_exts : length l.map_exts ≡ map_exts_needed (pages_needed (blocks image))
-  pub map_first : (b : ℕ) → At l.map_exts 0 b → word_in image (root_of image) 104 ≡ b
-  pub map_next : (j a b : ℕ) → At l.map_exts j a → At l.map_exts (suc j) b → word_in image a 127 ≡ b
-  pub page_named : (k b : ℕ) → k < 25 → At l.pages k b → word_in image (root_of image) (79 + k) ≡ b
-  pub page_listed : (j i a b : ℕ) → i < 127 → At l.map_exts j a → At l.pages (25 + 127 * j + i) b → word_in image a i ≡ b
+  pub map_first : (b : ℕ) → At l.map_exts 0 b → word_in image (root_of image) FIRST_MAP_EXT ≡ b
+  pub map_next : (j a b : ℕ) → At l.map_exts j a → At l.map_exts (suc j) b → word_in image a MAP_EXT_NEXT ≡ b
+  pub page_named : (k b : ℕ) → k < ROOT_PAGES → At l.pages k b → word_in image (root_of image) (FIRST_PAGE + k) ≡ b
+  pub page_listed : (j i a b : ℕ) → i < MAP_EXT_PAGES → At l.map_exts j a → At l.pages (ROOT_PAGES + MAP_EXT_PAGES * j + i) b → word_in image a i ≡ b
   pub page_form : (k b : ℕ) → At l.pages k b → AllHold (page_demands image b)
   pub entries : (n : ℕ) (e : Entry) → EntryAt t n e → EntryFits image t l n (at_node image l n) e
-  pub chains : (p s : ℕ) → IsDir t.entries p → s < 72
-      → Spelled (λ b. word_in image b 124) (word_in image (at_node image l p) (6 + s)) (map (at_node image l) (chain_nodes t p s))
+  pub chains : (p s : ℕ) → IsDir t.entries p → s < SLOTS
+      → Spelled (λ b. word_in image b NEXT_IN_CHAIN) (word_in image (at_node image l p) (FIRST_SLOT + s)) (map (at_node image l) (chain_nodes t p s))
   pub files : (n : ℕ) (e : Entry) (bytes : List ℕ) → EntryAt t n e → e.body ≡ File bytes → FileFits image t l n (at_node image l n) bytes
   pub once : NoBlockTwice (owned image l)
   pub range : (o : Owner) (b : ℕ) → In (owned image l) (o, b) → (2 ≤ b) × (b < blocks image)

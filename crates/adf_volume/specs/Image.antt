@@ -6,6 +6,8 @@ use Rattle.adf_tree.specs.declared.entry.Kind.{Kind}
 use Rattle.adf_tree.specs.declared.entry.Kind.TheVariants.{Ofs, Ffs}
 use Rattle.adf_tree.specs.declared.entry.Meta.{Meta}
 use Rattle.adf_tree.specs.declared.entry.Stamps.{Stamps}
+use Rattle.adf_blocks.specs.declared.layout.TheConstants.{COMMENT, DATA_BYTES, DATE, FIRST_POINTER, MAP_EXT_PAGES, NAME, POINTERS, PROTECTION, ROOT_PAGES}
+use Rattle.adf_blocks.specs.declared.layout.TheConstants.{SIZE, ST_DIR, ST_FILE}
 use Rattle.adf_blocks.specs.Forms.{text_at, stamp_at}
 use Rattle.adf_blocks.specs.PageBlock.{IsFreeBit}
 use Rattle.adf_blocks.specs.RootBlock.{stamps_at}
@@ -25,22 +27,22 @@ kind_of image = cond (slice_index (block image 0) 3 == 0) Ofs Ffs
 
 -- the secondary types of a directory and of a file
 abbrev pub DIR : ℕ
-DIR = 2
+DIR = ST_DIR
 
 abbrev pub FILE : ℕ
-FILE = 0xFFFFFFFD
+FILE = ST_FILE
 
 -- the name in a header
 unfoldable pub name_of : List ℕ → ℕ → List ℕ
-name_of image b = text_at (block image b) 432
+name_of image b = text_at (block image b) NAME
 
 -- the label in a root
 unfoldable pub label_of : List ℕ → ℕ → List ℕ
-label_of image b = text_at (block image b) 432
+label_of image b = text_at (block image b) NAME
 
 -- comment, protection and date in a header
 unfoldable pub meta_of : List ℕ → ℕ → Meta
-meta_of image b = record { comment = text_at (block image b) 328; protect = word_in image b 80; stamp = stamp_at (block image b) 105 }
+meta_of image b = record { comment = text_at (block image b) COMMENT; protect = word_in image b PROTECTION; stamp = stamp_at (block image b) DATE }
 
 -- the three dates in a root
 unfoldable pub stamps_of : List ℕ → ℕ → Stamps
@@ -52,11 +54,11 @@ held kind size k = cond (nat_lt (chunk kind * k) size) (chunk kind) (size - chun
 
 -- data block k + 1 of a file is named by this word of its header or of an extension block
 abbrev pub table_word : ℕ → ℕ
-table_word k = 77 - k % 72
+table_word k = FIRST_POINTER - k % POINTERS
 
 -- the data area of a block
 unfoldable pub area : Kind → List ℕ → List ℕ
-area Ofs b = slice_range b 24 512
+area Ofs b = slice_range b DATA_BYTES 512
 area Ffs b = slice_range b 0 512
 
 -- the data areas of blocks, one after the other
@@ -66,7 +68,7 @@ joined image kind (b ∷ bs) = area kind (block image b) ++ joined image kind bs
 
 -- the content of the file whose header is block h: its data areas joined, cut at the size in the header
 unfoldable pub content : List ℕ → Kind → ℕ → List ℕ → List ℕ
-content image kind h datas = take (word_in image h 81) (joined image kind datas)
+content image kind h datas = take (word_in image h SIZE) (joined image kind datas)
 
 -- the content that data block k, counted from 1, of a file of this size holds
 abbrev pub piece : Kind → ℕ → ℕ → List ℕ → List ℕ
@@ -77,9 +79,9 @@ abbrev pub pieces : List ℕ → Kind → ℕ → ℕ → List ℕ → List (Lis
 pieces image kind size k [] = []
 pieces image kind size k (b ∷ bs) = piece kind size k (block image b) ∷ pieces image kind size (suc k) bs
 
--- the bitmap extension blocks that so many pages need: the root names 25 pages, each extension block 127
+-- the bitmap extension blocks that so many pages need: the root names ROOT_PAGES, each extension block MAP_EXT_PAGES more
 unfoldable pub map_exts_needed : ℕ → ℕ
-map_exts_needed pages = (pages - 25 + 126) / 127
+map_exts_needed pages = (pages - ROOT_PAGES + (MAP_EXT_PAGES - 1)) / MAP_EXT_PAGES
 
 -- the bit is set in the page at this block
 abbrev pub IsFreeAt : List ℕ → ℕ → ℕ → Type 0

@@ -1,6 +1,7 @@
 -- The tree and the layout that a whole walk tells.
 use Rattle.std.specs.Prelude.{Bool, true, false, ℕ, List, [], ◌∷◌, ◌++◌, cond, ◌==◌}
-use Rattle.adf_volume.specs.Image.{word_in, root_of, kind_of, DIR, name_of, label_of, meta_of, stamps_of, content}
+use Rattle.adf_blocks.specs.declared.layout.TheConstants.{SECONDARY_TYPE, ST_DIR}
+use Rattle.adf_volume.specs.Image.{word_in, root_of, kind_of, name_of, label_of, meta_of, stamps_of, content}
 use Rattle.adf_tree.specs.declared.entry.Body.{Body}
 use Rattle.adf_tree.specs.declared.entry.Entry.{Entry}
 use Rattle.adf_tree.specs.Tree.{Tree}
@@ -54,7 +55,7 @@ push_data n r b bs = cond (is_data_of n r) (bs ++ b ∷ []) bs
 
 -- node n, with its header at b in a walk
 abbrev pub body_in : List ℕ → List (Role × ℕ) → ℕ → ℕ → Body
-body_in image w n b = cond (word_in image b 127 == DIR) Dir (File (content image (kind_of image) b (datas_in w n)))
+body_in image w n b = cond (word_in image b SECONDARY_TYPE == ST_DIR) Dir (File (content image (kind_of image) b (datas_in w n)))
 
 abbrev pub entry_in : List ℕ → List (Role × ℕ) → ℕ → ℕ → ℕ → Entry
 entry_in image w n p b = record { parent = p; name = name_of image b; meta = meta_of image b; body = body_in image w n b }

@@ -6,7 +6,8 @@ use Rattle.std.proofs.Common.{zero, suc}
 use Rattle.adf_blocks.specs.declared.cause.Cause.{Cause}
 use Rattle.adf_blocks.specs.declared.cause.Cause.TheVariants.{OutOfRange, Taken, SameName, ShortFile, LostBlock, OwnedFree}
 use Rattle.adf_blocks.specs.Sizes.{blocks, count, pages_needed}
-use Rattle.adf_volume.specs.Image.{word_in, root_of, kind_of, DIR, FILE, held, table_word, name_of, IsFreeAt}
+use Rattle.adf_volume.specs.Image.{word_in, root_of, kind_of, held, table_word, name_of, IsFreeAt}
+use Rattle.adf_blocks.specs.declared.layout.TheConstants.{EXTENSION, FIRST_MAP_EXT, FIRST_PAGE, FIRST_SLOT, MAP_EXT_NEXT, MAP_EXT_PAGES, NEXT_IN_CHAIN, PAGE_BITS, POINTERS, ROOT_PAGES, SECONDARY_TYPE, SIZE, SLOTS, ST_DIR, ST_FILE}
 use Rattle.adf_tree.specs.Texts.{uppers}
 use Rattle.adf_volume.specs.Demands.{Demand, demand, AllHold, FirstFails, boot_demands, root_demands, page_demands, head_demands, ext_demands, data_demands}
 
@@ -19,7 +20,7 @@ pub data Role : Type 0 where
   Ext : (n k : ℕ) → Role
   Data : (n k : ℕ) → Role
 
--- Roles are ordered by three numbers: pages by number, each bitmap extension block before the 127 pages that it names
+-- Roles are ordered by three numbers: pages by number, each bitmap extension block before the pages that it names
 -- (page 25 + 127 * j + i is behind extension block j, at 26 + 128 * j + i); then by node; in a directory by slot and place; in a file
 -- extensions, then data.
 abbrev pub first : Role → ℕ
@@ -40,8 +41,8 @@ second (Data n k) = 1
 
 abbrev pub third : Role → ℕ
 third Root = 0
-third (Page i) = i + (i + 102) / 127
-third (MapExt j) = 25 + 128 * j
+third (Page i) = i + (i + (MAP_EXT_PAGES - ROOT_PAGES)) / MAP_EXT_PAGES
+third (MapExt j) = ROOT_PAGES + (1 + MAP_EXT_PAGES) * j
 third (Head n p s j) = j
 third (Ext n k) = k
 third (Data n k) = k
@@ -73,10 +74,10 @@ NodeAt w (suc i) a = (p s j : ℕ) × Has w (Head (suc i) p s j) a
 
 abbrev pub DirAt : List ℕ → List (Role × ℕ) → ℕ → ℕ → Type 0
 DirAt image w zero a = Has w Root a
-DirAt image w (suc i) a = NodeAt w (suc i) a × (word_in image a 127 ≡ DIR)
+DirAt image w (suc i) a = NodeAt w (suc i) a × (word_in image a SECONDARY_TYPE ≡ ST_DIR)
 
 abbrev pub FileAt : List ℕ → List (Role × ℕ) → ℕ → ℕ → Type 0
-FileAt image w n a = ((p s j : ℕ) × Has w (Head n p s j) a) × (word_in image a 127 ≡ FILE)
+FileAt image w n a = ((p s j : ℕ) × Has w (Head n p s j) a) × (word_in image a SECONDARY_TYPE ≡ ST_FILE)
 
 -- member m of the header of n followed by its extension blocks
 abbrev pub MemberAt : List ℕ → List (Role × ℕ) → ℕ → ℕ → ℕ → Type 0
@@ -84,25 +85,31 @@ MemberAt image w n zero a = FileAt image w n a
 MemberAt image w n (suc m) a = Has w (Ext n (suc m)) a
 
 abbrev pub data_count : List ℕ → ℕ → ℕ
-data_count image h = count (kind_of image) (word_in image h 81)
+data_count image h = count (kind_of image) (word_in image h SIZE)
 
 -- word i of block a is the one for page k: of the root, or of a bitmap extension block that the walk has
 abbrev pub NamesPage : List ℕ → List (Role × ℕ) → ℕ → ℕ → ℕ → Type 0
-NamesPage image w k a i = ((k < 25) × (a ≡ root_of image) × (i ≡ 79 + k)) ⊎ ((j : ℕ) × Has w (MapExt j) a × (i < 127) × (k ≡ 25 + 127 * j + i))
+NamesPage image w k a i =
+    ((k < ROOT_PAGES) × (a ≡ root_of image) × (i ≡ FIRST_PAGE + k))
+    ⊎ ((j : ℕ) × Has w (MapExt j) a × (i < MAP_EXT_PAGES) × (k ≡ ROOT_PAGES + MAP_EXT_PAGES * j + i))
 
 -- the walk asks for the role by word i of block a
 abbrev pub Asks : List ℕ → List (Role × ℕ) → Role → ℕ → ℕ → Type 0
 Asks image w Root a i = ⊥
 Asks image w (Page k) a i = (k < pages_needed (blocks image)) × NamesPage image w k a i
-Asks image w (MapExt zero) a i = (25 < pages_needed (blocks image)) × (a ≡ root_of image) × (i ≡ 104)
-Asks image w (MapExt (suc j)) a i = (25 + 127 * suc j < pages_needed (blocks image)) × Has w (MapExt j) a × (i ≡ 127)
-Asks image w (Head n p s zero) a i = (n ≡ suc (heads w)) × (s < 72) × DirAt image w p a × (i ≡ 6 + s) × (word_in image a i ≢ 0)
-Asks image w (Head n p s (suc j)) a i = (n ≡ suc (heads w)) × ((m : ℕ) × Has w (Head m p s j) a) × (i ≡ 124) × (word_in image a i ≢ 0)
+Asks image w (MapExt zero) a i = (ROOT_PAGES < pages_needed (blocks image)) × (a ≡ root_of image) × (i ≡ FIRST_MAP_EXT)
+Asks image w (MapExt (suc j)) a i =
+    (ROOT_PAGES + MAP_EXT_PAGES * suc j < pages_needed (blocks image)) × Has w (MapExt j) a × (i ≡ MAP_EXT_NEXT)
+Asks image w (Head n p s zero) a i =
+    (n ≡ suc (heads w)) × (s < SLOTS) × DirAt image w p a × (i ≡ FIRST_SLOT + s) × (word_in image a i ≢ 0)
+Asks image w (Head n p s (suc j)) a i =
+    (n ≡ suc (heads w)) × ((m : ℕ) × Has w (Head m p s j) a) × (i ≡ NEXT_IN_CHAIN) × (word_in image a i ≢ 0)
 Asks image w (Ext n zero) a i = ⊥
-Asks image w (Ext n (suc zero)) a i = FileAt image w n a × (i ≡ 126) × (word_in image a i ≢ 0)
-Asks image w (Ext n (suc (suc k))) a i = Has w (Ext n (suc k)) a × (i ≡ 126) × (word_in image a i ≢ 0)
+Asks image w (Ext n (suc zero)) a i = FileAt image w n a × (i ≡ EXTENSION) × (word_in image a i ≢ 0)
+Asks image w (Ext n (suc (suc k))) a i = Has w (Ext n (suc k)) a × (i ≡ EXTENSION) × (word_in image a i ≢ 0)
 Asks image w (Data n zero) a i = ⊥
-Asks image w (Data n (suc k)) a i = ((h : ℕ) × FileAt image w n h × (k < data_count image h)) × MemberAt image w n (k / 72) a × (i ≡ table_word k)
+Asks image w (Data n (suc k)) a i =
+    ((h : ℕ) × FileAt image w n h × (k < data_count image h)) × MemberAt image w n (k / POINTERS) a × (i ≡ table_word k)
 
 abbrev pub Lacks : List (Role × ℕ) → Role → Type 0
 Lacks w r = (q : Role) (b : ℕ) → Has w q b → Same q r → ⊥
@@ -124,7 +131,7 @@ ext_count (x ∷ w) n = ext_count_of n x.0 (ext_count w n)
 
 -- the first data block of a file that has too few extension blocks: ShortFile
 abbrev pub Enough : List ℕ → List (Role × ℕ) → Role → Type 0
-Enough image w (Data n k) = k ≡ 1 → (h : ℕ) → FileAt image w n h → data_count image h ≤ 72 * suc (ext_count w n)
+Enough image w (Data n k) = k ≡ 1 → (h : ℕ) → FileAt image w n h → data_count image h ≤ POINTERS * suc (ext_count w n)
 Enough image w _ = Unit {0}
 
 abbrev pub node_block_of : ℕ → Role → ℕ → ℕ → ℕ
@@ -153,7 +160,8 @@ member_block w n (suc m) = ext_block w n (suc m)
 
 -- what the table of file n has for data block k + 1, or 0 where that is past the last
 abbrev pub next_data : List ℕ → List (Role × ℕ) → ℕ → ℕ → ℕ
-next_data image w n k = cond (nat_lt k (data_count image (node_block w n))) (word_in image (member_block w n (k / 72)) (table_word k)) 0
+next_data image w n k =
+    cond (nat_lt k (data_count image (node_block w n))) (word_in image (member_block w n (k / POINTERS)) (table_word k)) 0
 
 -- the form of block b in the role
 abbrev pub form_demands : List ℕ → List (Role × ℕ) → Role → ℕ → List Demand
@@ -163,7 +171,7 @@ form_demands image w (MapExt j) b = []
 form_demands image w (Head n p s j) b = head_demands image (kind_of image) b (node_block w p) s
 form_demands image w (Ext n k) b = ext_demands image b (node_block w n)
 form_demands image w (Data n k) b =
-    data_demands image (kind_of image) b (node_block w n) k (held (kind_of image) (word_in image (node_block w n) 81) k) (next_data image w n k)
+    data_demands image (kind_of image) b (node_block w n) k (held (kind_of image) (word_in image (node_block w n) SIZE) k) (next_data image w n k)
 
 -- no earlier header of the chain has an equal name: SameName
 abbrev pub NewName : List ℕ → List (Role × ℕ) → Role → ℕ → Type 0
@@ -196,7 +204,7 @@ IsWhole image w = (r : Role) (a i : ℕ) → Asks image w r a i → Lacks w r �
 
 -- the walk has the page of block b, and its bit is set
 abbrev pub IsFreeIn : List ℕ → List (Role × ℕ) → ℕ → Type 0
-IsFreeIn image w b = (page : ℕ) × Has w (Page ((b - 2) / 4064)) page × IsFreeAt image page ((b - 2) % 4064)
+IsFreeIn image w b = (page : ℕ) × Has w (Page ((b - 2) / PAGE_BITS)) page × IsFreeAt image page ((b - 2) % PAGE_BITS)
 
 -- n blocks of the bitmap, from b on: in use without an owner, or owned and free
 abbrev pub bitmap_demands : List ℕ → List (Role × ℕ) → ℕ → ℕ → List Demand

@@ -7,6 +7,7 @@ ghost use Rattle.adf_tree.specs.declared.entry.Kind.{Kind};
 ghost use Rattle.adf_tree.specs.Chain.{chain};
 ghost use Rattle.adf_tree.specs.Tree.{Tree, entry};
 ghost use Rattle.adf_blocks.specs.declared.cause.Cause.{Cause};
+ghost use Rattle.adf_blocks.specs.declared.layout.TheConstants.{SIZE};
 ghost use Rattle.adf_blocks.specs.Forms.{Clause, first_cause};
 ghost use Rattle.adf_blocks.specs.Sizes.{blocks};
 ghost use Rattle.adf_volume.specs.Lists.{At};
@@ -70,6 +71,6 @@ pub fn chains_of_numbers()
 /// The pieces of a file, one after the other, are its content.
 pub fn pieces_are_content()
     ensures joined { (image : List ℕ) (kind : Kind) (h : ℕ) (datas : List ℕ) → length image ≡ 512 * blocks image → ((i b : ℕ) → At datas i b → b < blocks image)
-        → concat (pieces image kind (word_in image h 81) 1 datas) ≡ content image kind h datas }
+        → concat (pieces image kind (word_in image h SIZE) 1 datas) ≡ content image kind h datas }
     ensures one_each { (image : List ℕ) (kind : Kind) (size k : ℕ) (datas : List ℕ) → length (pieces image kind size k datas) ≡ length datas }
 {}

@@ -1,4 +1,8 @@
-use Rattle.adf_blocks.proofs.HeadLaws.{head_block-body, head_block-comment, head_block-form, head_block-meta, head_block-name, head_block-next, head_block-pointer, head_block-protect, head_block-slot, head_block-stamp, length_head_block}
+use Rattle.std.specs.Prelude.{slice_index}
+use Rattle.std.proofs.Common.{◌∙◌}
+use Rattle.adf_blocks.proofs.HeadLaws.{head_block-body, head_block-comment, head_block-form, head_block-meta, head_block-name, head_block-next}
+use Rattle.adf_blocks.proofs.HeadLaws.{head_block-pointer, head_block-protect, head_block-slot, head_block-stamp, length_head_block}
+use Rattle.adf_blocks.proofs.FieldLaws.{long_number}
 use Rattle.adf_blocks.proofs.head_out.written_heads_are_read.Goals as goal
 
 pub returns-clause-whole : goal.returns-clause-whole
@@ -32,4 +36,4 @@ pub returns-clause-slots : goal.returns-clause-slots
 returns-clause-slots c = head_block-slot
 
 pub returns-clause-pointers : goal.returns-clause-pointers
-returns-clause-pointers c = head_block-pointer
+returns-clause-pointers c = λ h size table ext j fits e lt small. head_block-pointer h size table ext j fits e lt ∙ long_number (slice_index table j) small

@@ -1,6 +1,7 @@
 use Rattle.std.proofs.Common.{◌≡◌, ◌+◌, ◌-◌, ◌∷◌, ◌∙◌, ℕ, List, length, suc, ap, sym, arith}
 use Rattle.adf_tree.specs.declared.entry.Body.{Body}
 use Rattle.adf_fields.specs.Words.{with_block}
+use Rattle.adf_blocks.specs.declared.layout.TheConstants.{POINTERS}
 use Rattle.adf_blocks.specs.HeadBlock.{head_block}
 use Rattle.adf_blocks.specs.Sizes.{count}
 use Rattle.adf_volume.proofs.Sizes.{size_high}
@@ -34,22 +35,22 @@ returns-clause-exact c slots =
     let own : c.nth_free-own.result ≡ nth_free n k = c.nth_free-own.ensures in
     let next : k + 1 ≡ suc k = omega arith in
     let first : k + 1 + c.ext_count-exts.result ≡ suc k + x = omega arith in
-    let behind : k + 1 + c.ext_count-exts.result + 72 ≡ suc k + x + 72 = omega arith in
-    let left : c.saturating_sub.result ≡ m - 72 = omega arith in
+    let behind : k + 1 + c.ext_count-exts.result + POINTERS ≡ suc k + x + 72 = omega arith in
+    let left : c.saturating_sub.result ≡ m - POINTERS = omega arith in
     let head : List ℕ = with_block old (nth_free n k) (head_block (file_header n c.args.spot (length bytes) m e)) in
-    let es : List (ℕ × List ℕ) = ext_writes n (nth_free n k) (suc k) (suc k + x + 72) (m - 72) x in
+    let es : List (ℕ × List ℕ) = ext_writes n (nth_free n k) (suc k) (suc k + x + POINTERS) (m - POINTERS) x in
     let ds : List (ℕ × List ℕ) = data_writes n kind (nth_free n k) (suc k + x) 1 bytes m in
     let one : c.write_file_head.new.image ≡ head =
     c.write_file_head.ensures.exact ∙ ap (λ d. with_block old (nth_free n k) (head_block (file_header n c.args.spot (length bytes) d e))) datas in
     let two : c.write_exts.new.image ≡ with_blocks c.write_file_head.new.image es =
     c.write_exts.ensures
-    ∙ ap (λ h. with_blocks c.write_file_head.new.image (ext_writes n h (k + 1) (k + 1 + c.ext_count-exts.result + 72) c.saturating_sub.result
+    ∙ ap (λ h. with_blocks c.write_file_head.new.image (ext_writes n h (k + 1) (k + 1 + c.ext_count-exts.result + POINTERS) c.saturating_sub.result
     c.ext_count-exts.result)) own
-    ∙ ap (λ i. with_blocks c.write_file_head.new.image (ext_writes n (nth_free n k) i (k + 1 + c.ext_count-exts.result + 72) c.saturating_sub.result
+    ∙ ap (λ i. with_blocks c.write_file_head.new.image (ext_writes n (nth_free n k) i (k + 1 + c.ext_count-exts.result + POINTERS) c.saturating_sub.result
     c.ext_count-exts.result)) next
     ∙ ap (λ d. with_blocks c.write_file_head.new.image (ext_writes n (nth_free n k) (suc k) d c.saturating_sub.result c.ext_count-exts.result)) behind
-    ∙ ap (λ d. with_blocks c.write_file_head.new.image (ext_writes n (nth_free n k) (suc k) (suc k + x + 72) d c.ext_count-exts.result)) left
-    ∙ ap (λ x'. with_blocks c.write_file_head.new.image (ext_writes n (nth_free n k) (suc k) (suc k + x + 72) (m - 72) x')) exts in
+    ∙ ap (λ d. with_blocks c.write_file_head.new.image (ext_writes n (nth_free n k) (suc k) (suc k + x + POINTERS) d c.ext_count-exts.result)) left
+    ∙ ap (λ x'. with_blocks c.write_file_head.new.image (ext_writes n (nth_free n k) (suc k) (suc k + x + POINTERS) (m - POINTERS) x')) exts in
     let three : c.write_datas.new.image ≡ with_blocks c.write_exts.new.image ds =
     c.write_datas.ensures
     ∙ ap (λ h. with_blocks c.write_exts.new.image (data_writes n kind h (k + 1 + c.ext_count-exts.result) 1 bytes c.data_blocks-datas.result)) own

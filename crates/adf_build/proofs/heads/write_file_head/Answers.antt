@@ -1,5 +1,6 @@
 use Rattle.std.proofs.Common.{◌≡◌, ◌+◌, ◌∙◌, ℕ, List, length, take, min, suc, ap, arith}
 use Rattle.adf_fields.specs.Words.{with_block}
+use Rattle.adf_blocks.specs.declared.layout.TheConstants.{POINTERS}
 use Rattle.adf_blocks.specs.HeadBlock.{head_block}
 use Rattle.adf_blocks.specs.HeadBlock.BodyFields.{FileFields}
 use Rattle.adf_build.specs.Laid.{nth_free_or_none}
@@ -20,9 +21,9 @@ returns-clause-exact c =
     let x : ℕ = exts_needed c.args.datas in
     let exts : c.ext_count-exts.result ≡ x = c.ext_count-exts.ensures in
     let first : k + 1 + c.ext_count-exts.result ≡ suc k + x = omega arith in
-    let short : c.min-short.result ≡ min 72 c.args.datas = omega arith in
+    let short : c.min-short.result ≡ min POINTERS c.args.datas = omega arith in
     let up : k + 1 ≡ suc k = omega arith in
-    let table : take c.min-short.result c.table_of-table.result ≡ allocated n (suc k + x) (min 72 c.args.datas) =
+    let table : take c.min-short.result c.table_of-table.result ≡ allocated n (suc k + x) (min POINTERS c.args.datas) =
     c.table_of-table.ensures ∙ ap (λ d. allocated n d c.min-short.result) first ∙ ap (allocated n (suc k + x)) short in
     let ext : c.nth_free_or_none.result ≡ nth_free_or_none n (suc k) x =
     c.nth_free_or_none.ensures ∙ ap (λ x. nth_free_or_none n (k + 1) x) exts ∙ ap (λ k. nth_free_or_none n k x) up in

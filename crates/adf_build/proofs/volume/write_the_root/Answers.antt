@@ -2,6 +2,7 @@ use Rattle.std.proofs.Common.{◌≡◌, ◌+◌, ◌/◌, ◌∙◌, ℕ, List,
 use Rattle.std.specs.List.{range_with_len}
 use Rattle.adf_fields.specs.Words.{with_block}
 use Rattle.adf_tree.specs.declared.entry.Stamps.{Stamps}
+use Rattle.adf_blocks.specs.declared.layout.TheConstants.{ROOT_PAGES}
 use Rattle.adf_blocks.specs.RootBlock.{root_block}
 use Rattle.adf_blocks.specs.Sizes.{pages_needed}
 use Rattle.adf_volume.specs.Image.{map_exts_needed}
@@ -12,8 +13,8 @@ pub returns-clause-exact : goal.returns-clause-exact
 returns-clause-exact c =
     let n : ℕ = c.args.blocks in
     let tree = c.args.tree.now in
-    let few : ℕ = min 25 (pages_needed n) in
-    let count : min 25 c.page_count.result ≡ few = ap (min 25) c.page_count.ensures.exact in
+    let few : ℕ = min ROOT_PAGES (pages_needed n) in
+    let count : min ROOT_PAGES c.page_count.result ≡ few = ap (min ROOT_PAGES) c.page_count.ensures.exact in
     let taken : ℕ = c.min.result in
     let numbers : take taken c.page_numbers-numbers.result ≡ range_with_len (n / 2 + 1) few =
     ap (λ k. take k c.page_numbers-numbers.result) (omega (arith, c.page_count.ensures.exact)) ∙ c.page_numbers-numbers.ensures in
