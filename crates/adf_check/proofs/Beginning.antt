@@ -1,68 +1,110 @@
 -- What is found before anything is read but the root.
-use Rattle.std.proofs.Common.{◌≡◌, ℕ, zero, suc, List, [], ◌∷◌, ◌+◌, ◌-◌, ◌<◌, ◌≤◌, length, get_or, set, length-set, get_or-set_same, get_or-set_other, refl, sym, ap, subst, ◌∙◌, arith}
+use Rattle.std.proofs.Common.{◌≡◌, ◌≢◌, inl, inr, ℕ, zero, suc, List, [], ◌∷◌, ◌+◌, ◌-◌, ◌<◌, ◌≤◌, length, set, length-set, get_or-set_same, get_or-set_other, refl, sym, ap, subst, ◌∙◌, arith}
 use Rattle.std.specs.Prelude.{replicate}
-use Rattle.std.proofs.lemmas.List.{length-replicate}
+use Rattle.std.proofs.lemmas.List.{length-replicate, get_or-replicate}
+use native.Mathlib.Decide.{ℕ_discrete}
 use Rattle.adf_blocks.specs.Sizes.{blocks}
 use Rattle.adf_volume.specs.declared.owner.Owner.{Owner}
 use Rattle.adf_volume.specs.declared.owner.Owner.TheVariants.{Free, Boot, Root}
 use Rattle.adf_volume.specs.Image.{root_of}
-use Rattle.adf_check.specs.Reading.{IsBeforePage}
-use Rattle.adf_check.specs.Store.{owner_at}
-use Rattle.adf_check.proofs.InBitmap.{beginning}
-use Rattle.adf_check.proofs.Bounds.{many_blocks}
+use Rattle.adf_volume.specs.LayoutRoles.{owner_of}
+use Rattle.adf_volume.specs.Walk.{second}
+use Rattle.adf_volume.specs.Walk.Role.{Head, Root as TheRoot}
 use Rattle.adf_check.specs.Image.{IsBegun}
 use Rattle.adf_check.specs.Owners.{owned_count}
+use Rattle.adf_check.specs.Reading.{IsBeforePage}
+use Rattle.adf_check.specs.Store.{Store, owner_at}
+use Rattle.adf_check.proofs.Bounds.{many_blocks}
+use Rattle.adf_check.proofs.Cursors.{begin}
 
--- the owners of a volume of which nothing is claimed
-boot_two : (xs : List Owner) (b : ℕ) → b < 2 → get_or (Boot ∷ Boot ∷ xs) b Free ≡ Boot
-boot_two xs zero h = refl
-boot_two xs (suc zero) h = refl
-boot_two xs (suc (suc b)) h = absurd (omega arith)
+-- the owners of 2 + m blocks of which nothing is claimed
+abbrev pub new_owners : ℕ → List Owner
+new_owners m = Boot ∷ Boot ∷ replicate m Free
 
-all_free : (m b : ℕ) → get_or (replicate m Free) b Free ≡ Free
-all_free zero b = refl
-all_free (suc m) zero = refl
-all_free (suc m) (suc b) = all_free m b
+-- and of which the root alone is
+abbrev pub owners_of : ℕ → ℕ → List Owner
+owners_of m root = set (new_owners m) root Root
 
-free_above : (m b : ℕ) → 2 ≤ b → get_or (Boot ∷ Boot ∷ replicate m Free) b Free ≡ Free
-free_above m zero h = absurd (omega arith)
-free_above m (suc zero) h = absurd (omega arith)
-free_above m (suc (suc b)) h = all_free m b
+-- what is kept when the root alone was read
+abbrev pub first_store : List Owner → Store
+first_store owners = record { owners = owners; rows = []; starts = []; exts = []; datas = []; used = 1 }
+
+new_length : (m : ℕ) → length (new_owners m) ≡ 2 + m
+new_length m = let z : length {A = Owner} (replicate m Free) ≡ m = length-replicate m Free in omega arith
+
+new_boot : (m b : ℕ) → b < 2 → owner_at (new_owners m) b ≡ Boot
+new_boot m zero h = refl
+new_boot m (suc zero) h = refl
+new_boot m (suc (suc b)) h = absurd (omega arith)
+
+new_free : (m b : ℕ) → 2 ≤ b → b < 2 + m → owner_at (new_owners m) b ≡ Free
+new_free m zero l h = absurd (omega arith)
+new_free m (suc zero) l h = absurd (omega arith)
+new_free m (suc (suc b)) l h = get_or-replicate m b Free Free (omega arith)
+
+pub owners_free : (m root b : ℕ) → 2 ≤ b → b < 2 + m → b ≢ root → owner_at (owners_of m root) b ≡ Free
+owners_free m root b l h ne = get_or-set_other (new_owners m) root b Root Free ne ∙ new_free m b l h
+
+-- the root alone is claimed
+pub root_read : (image : List ℕ) (m root : ℕ) → blocks image ≡ 2 + m → root_of image ≡ root → 2 ≤ root → root < 2 + m
+    → IsBeforePage image (first_store (owners_of m root)) 0 (root_of image)
+root_read image m root size root_is low high = record {
+  walk = (TheRoot, root_of image) ∷ [];
+  read = record {
+    tells = record {
+      owns = record {
+        size = length-set (new_owners m) root Root ∙ new_length m ∙ sym size;
+        boot = (λ b l h. get_or-set_other (new_owners m) root b Root Free (λ e. omega arith) ∙ new_boot m b l);
+        told = (λ q b k. elim k [
+          | inl e ↦ ap (owner_at (owners_of m root)) (sym e.1) ∙ (here ∙ ap owner_of e.0)
+          | inr f ↦ absurd f
+        ]);
+        owned = (λ b lo hi h. elim (ℕ_discrete b (root_of image)) [
+          | yes e ↦ (TheRoot, inl (refl, sym e), ap (owner_at (owners_of m root)) e ∙ here)
+          | no n ↦ absurd (h (owners_free m root b lo (omega arith) (λ e. n (e ∙ sym root_is))))
+        ]);
+      };
+      lists = record {
+        count = refl;
+        row = (λ i p s j b h. elim h [
+          | inl e ↦ let x : second TheRoot ≡ second (Head (suc i) p s j) = ap second e.0 in absurd (omega arith)
+          | inr f ↦ absurd f
+        ]);
+      };
+      exts = refl;
+      datas = refl;
+      used = refl;
+      starts = (λ m x a. absurd a);
+    };
+    started = refl;
+    upto = begin image;
+  };
+  at_root = (λ _. refl);
+  at_ext = (λ j l h. absurd (omega arith));
+}
+  where
+    here : owner_at (owners_of m root) (root_of image) ≡ Root
+    here =
+        let long : length (new_owners m) ≡ 2 + m = new_length m in
+        ap (owner_at (owners_of m root)) root_is ∙ get_or-set_same (new_owners m) root Root Free (omega arith)
 
 none_owned : (m : ℕ) → owned_count (replicate m Free) ≡ 0
 none_owned zero = refl
 none_owned (suc m) = none_owned m
 
--- the root alone is claimed
-pub begun_with_root : (image : List ℕ) (n : ℕ) (owners new : List Owner) → IsBegun image → n ≡ blocks image → owners ≡ Boot ∷ Boot ∷ replicate (n - 2) Free
+pub begun_with_root : (image : List ℕ) (n : ℕ) (owners new : List Owner) → IsBegun image → n ≡ blocks image → owners ≡ new_owners (n - 2)
     → new ≡ set owners (root_of image) Root → owned_count new ≡ owned_count owners + 1
     → IsBeforePage image (record { owners = new; rows = []; starts = []; exts = []; datas = []; used = owned_count new }) 0 (root_of image)
 begun_with_root image n owners new begun size e f count =
-    subst (λ u. IsBeforePage image (record { owners = new; rows = []; starts = []; exts = []; datas = []; used = u }) 0 (root_of image)) (sym one)
-    (beginning image new (ap length claimed ∙ long) (λ b lt. ap (λ os. owner_at os b) claimed
-    ∙ get_or-set_other start root b Root Free (λ x. omega (arith, many)) ∙ boot_two (replicate (n - 2) Free) b lt)
-    (ap (λ os. owner_at os root) claimed ∙ get_or-set_same start root Root Free (omega (arith, length-replicate {A = Owner} (n - 2) Free, many, size)))
-    (λ b lo hi ne. ap (λ os. owner_at os b) claimed ∙ get_or-set_other start root b Root Free ne ∙ free_above (n - 2) b lo))
-  where
-    root : ℕ
-    root = root_of image
+    let many : 4 ≤ blocks image = many_blocks image begun in
+    let claimed : new ≡ owners_of (n - 2) (root_of image) = f ∙ ap (λ os. set os (root_of image) Root) e in
+    let one : owned_count new ≡ 1 = count ∙ ap (λ os. owned_count os + 1) e ∙ ap (λ m. m + 1) (none_owned (n - 2)) in
+    let kept : first_store (owners_of (n - 2) (root_of image)) ≡ record { owners = new; rows = []; starts = []; exts = []; datas = []; used = owned_count new } =
+    λ i. record { owners = (sym claimed) i; rows = []; starts = []; exts = []; datas = []; used = (sym one) i } in
+    subst (λ s. IsBeforePage image s 0 (root_of image)) kept (root_read image (n - 2) (root_of image) (omega arith) refl (omega arith) (omega arith))
 
-    many : 4 ≤ blocks image
-    many = many_blocks image begun
-
-    start : List Owner
-    start = Boot ∷ Boot ∷ replicate (n - 2) Free
-
-    claimed : new ≡ set start (root_of image) Root
-    claimed = f ∙ ap (λ os. set os (root_of image) Root) e
-
-    long : length (set start (root_of image) Root) ≡ blocks image
-    long = length-set start (root_of image) Root ∙ omega (arith, length-replicate {A = Owner} (n - 2) Free, many, size)
-
-    one : owned_count new ≡ 1
-    one = count ∙ ap (λ os. owned_count os + 1) e ∙ ap (λ m. m + 1) (none_owned (n - 2))
-
-pub root_is_free : (image : List ℕ) (n : ℕ) (owners : List Owner) → IsBegun image → owners ≡ Boot ∷ Boot ∷ replicate (n - 2) Free
+pub root_is_free : (image : List ℕ) (n : ℕ) (owners : List Owner) → IsBegun image → n ≡ blocks image → owners ≡ new_owners (n - 2)
     → owner_at owners (root_of image) ≡ Free
-root_is_free image n owners begun e =
-    let many = many_blocks image begun in ap (λ os. owner_at os (root_of image)) e ∙ free_above (n - 2) (root_of image) (omega arith)
+root_is_free image n owners begun size e =
+    let many : 4 ≤ blocks image = many_blocks image begun in
+    ap (λ os. owner_at os (root_of image)) e ∙ new_free (n - 2) (root_of image) (omega arith) (omega arith)

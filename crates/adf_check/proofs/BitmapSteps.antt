@@ -1,20 +1,153 @@
--- The steps along the bitmap.
-use Rattle.std.proofs.Common.{◌≡◌, ◌≢◌, ℕ, zero, suc, List, ◌^◌, ◌+◌, ◌-◌, ◌*◌, ◌/◌, ◌%◌, ◌<◌, ◌≤◌, Bool, true, false, IsTrue}
-use Rattle.std.proofs.Common.{refl, sym, inl, inr, ap, subst, ◌∙◌, arith}
-use Rattle.std.specs.Prelude.{◌↔◌, IsBitSet, bit_and, slice_index}
+-- The steps along the bitmap, and what the reader knows at its end.
+use Rattle.std.proofs.Common.{◌≡◌, ◌≢◌, ◌⊎◌, inl, inr, ℕ, zero, suc, List, ◌+◌, ◌-◌, ◌*◌, ◌/◌, ◌%◌, ◌^◌, ◌<◌, ◌≤◌, length, refl, sym, ap, subst, ◌∙◌, arith, Bool, true, false}
+use Rattle.std.specs.Prelude.{slice_index, IsTrue, ◌↔◌, IsBitSet, bit_and}
+use Rattle.adf_blocks.specs.declared.cause.Cause.{Cause}
 use Rattle.adf_blocks.specs.declared.cause.Cause.TheVariants.{LostBlock, OwnedFree}
 use Rattle.adf_blocks.specs.Sizes.{blocks, pages_needed}
 use Rattle.adf_volume.specs.declared.owner.Owner.TheVariants.{Free}
-use Rattle.adf_volume.specs.Image.{word_in}
-use Rattle.adf_volume.specs.Walk.{FirstFault}
-use Rattle.adf_check.specs.Reading.{IsMapped}
-use Rattle.adf_check.specs.Store.{Store, owner_at}
-use Rattle.adf_check.proofs.InBitmap.{lost, owned_free, mapped_free, mapped_used}
-use Rattle.adf_check.proofs.Faults.{first_fault}
+use Rattle.adf_volume.specs.Image.{root_of, word_in, IsFreeAt}
+use Rattle.adf_volume.specs.Demands.{AllHold, FirstFails, boot_demands, root_demands}
+use Rattle.adf_volume.specs.Walk.{Role, Has, IsAbsent, IsFreeIn, bitmap_demands, FirstFault}
+use Rattle.adf_volume.specs.Walk.Role.{Page}
+use Rattle.adf_volume.specs.Walk.FirstFault.{at_bitmap}
+use Rattle.adf_volume.specs.Made.{tree_in, layout_in}
+use Rattle.adf_volume.proofs.Images.{page_in}
+use Rattle.adf_volume.proofs.Lists.{all_split}
+use Rattle.adf_volume.proofs.OneTree.{one_tree}
+use Rattle.adf_volume.proofs.WalkFits.{fits}
+use Rattle.adf_volume.proofs.Walks.{one_block, asked_block, page_word}
+use Rattle.adf_volume.proofs.WholeWalks.{all_map_exts}
+use Rattle.adf_check.specs.declared.fault.Fault.{Fault}
 use Rattle.adf_check.specs.Found.{IsTrueFault}
 use Rattle.adf_check.specs.Image.{IsBegun}
 use Rattle.adf_check.specs.Pages.{AreListed, IsBitFault}
-use Rattle.adf_check.specs.declared.fault.Fault.{Fault}
+use Rattle.adf_check.specs.Reading.{block_of_page, IsListed, IsRead, IsMapped, StoreFits}
+use Rattle.adf_check.specs.Store.{Store, owner_at}
+use Rattle.adf_check.proofs.ClaimSteps.{first_fault}
+use Rattle.adf_check.proofs.DataSteps.{at_get}
+use Rattle.adf_check.proofs.PageSteps.{page_is}
+use Rattle.adf_check.proofs.StoreSteps.{free_absent, taken_present}
+
+pub clash : {t : Bool} → t ≡ true → t ≡ false → ⊥
+clash a b = let e : true ≡ false = sym a ∙ b in cc
+
+-- the bitmap, one block more
+bitmap_more : (image : List ℕ) (w : List (Role × ℕ)) (b n : ℕ) → AllHold (bitmap_demands image w b n) → (IsAbsent w (b + n) → IsFreeIn image w (b + n))
+    → (IsFreeIn image w (b + n) → IsAbsent w (b + n)) → AllHold (bitmap_demands image w b (suc n))
+bitmap_more image w b zero h f g =
+    let e : b + 0 ≡ b = omega arith in
+    (subst (λ b. IsAbsent w b → IsFreeIn image w b) e f, (subst (λ b. IsFreeIn image w b → IsAbsent w b) e g, tt))
+bitmap_more image w b (suc n) h f g =
+    let e : b + suc n ≡ suc b + n = omega arith in (
+      h.0,
+      (
+        h.1.0,
+        bitmap_more image w (suc b) n h.1.1 (subst (λ b. IsAbsent w b → IsFreeIn image w b) e f)
+            (subst (λ b. IsFreeIn image w b → IsAbsent w b) e g),
+      ),
+    )
+
+bitmap_fails : (image : List ℕ) (w : List (Role × ℕ)) (b n m x : ℕ) (c : Cause) → AllHold (bitmap_demands image w b n) → x ≡ b + n → n < m →
+    (((IsAbsent w x → IsFreeIn image w x) → ⊥) × (c ≡ LostBlock))
+    ⊎ ((IsAbsent w x → IsFreeIn image w x) × (((IsFreeIn image w x → IsAbsent w x) → ⊥) × (c ≡ OwnedFree))) → FirstFails (bitmap_demands image w b m) x c
+bitmap_fails image w b n zero x c h e lt f = absurd (omega arith)
+bitmap_fails image w b zero (suc m) x c h e lt f =
+    let z : x ≡ b = omega arith in
+    elim f [
+      | inl y ↦ inl (subst (λ x. (IsAbsent w x → IsFreeIn image w x) → ⊥) z y.0, sym z, sym y.1)
+      | inr y ↦ inr (
+        subst (λ x. IsAbsent w x → IsFreeIn image w x) z y.0,
+        inl
+            (subst (λ x. (IsFreeIn image w x → IsAbsent w x) → ⊥) z y.1.0, sym z, sym y.1.1),
+      )
+    ]
+bitmap_fails image w b (suc n) (suc m) x c h e lt f = inr (h.0, inr (h.1.0, bitmap_fails image w (suc b) n m x c h.1.1 (omega arith) (omega arith) f))
+
+-- what the reader sees of block b: its page, the bit there and the table
+module _ (image : List ℕ) (store : Store) (b page : ℕ) (free : Bool) (list : List ℕ) (hi : b < blocks image)
+    (listed : IsListed image list (pages_needed (blocks image))) (page_is_at : page ≡ slice_index list ((b - 2) / 4064))
+    (free_is : IsTrue free ↔ IsFreeAt image page ((b - 2) % 4064)) (st : IsMapped image store b) where
+  has_page : Has st.walk (Page ((b - 2) / 4064)) page
+  has_page =
+      let lo : 2 ≤ b = st.low in
+      let q : ℕ = (b - 2) / 4064 in
+      let lt : q < pages_needed (blocks image) = page_in (blocks image) b lo hi in
+      let n : length list ≡ pages_needed (blocks image) = listed.size in
+      let m = page_word image st.walk q lt (λ j y. all_map_exts image st.walk st.read.whole j (omega arith)) in
+      let x = asked_block image st.walk st.read.whole (Page q) m.0 m.1 m.2 (omega arith) in
+      let k : block_of_page image q ≡ x.0 = page_is image st.walk q x.0 st.read.is_walk x.1 in
+      let l : block_of_page image q ≡ slice_index list q = listed.pages q (slice_index list q) (at_get list q (omega arith)) in
+      subst (Has st.walk (Page q)) (sym k ∙ l ∙ sym page_is_at) x.1
+
+  only_page : (c : ℕ) → Has st.walk (Page ((b - 2) / 4064)) c → c ≡ page
+  only_page c h = (one_block image st.read.is_walk (Page ((b - 2) / 4064)) (Page ((b - 2) / 4064)) c page h has_page (refl, refl, refl)).1
+
+  free_then : free ≡ true → IsFreeIn image st.walk b
+  free_then e = (page, has_page, free_is.0 e)
+
+  then_free : IsFreeIn image st.walk b → free ≡ true
+  then_free f = free_is.1 (subst (λ p. IsFreeAt image p ((b - 2) % 4064)) (only_page f.0 f.1) f.2)
+
+  absent_then : owner_at store.owners b ≡ Free → IsAbsent st.walk b
+  absent_then h = free_absent image store.owners st.walk st.read.tells.owns b h
+
+  then_absent : IsAbsent st.walk b → owner_at store.owners b ≢ Free → ⊥
+  then_absent a h = taken_present image store.owners st.walk st.read.tells.owns b st.low hi h a
+
+  length_of : 2 + (b - 2) ≡ b
+  length_of = let lo : 2 ≤ b = st.low in omega arith
+
+  pub lost : IsBegun image → free ≡ false → owner_at store.owners b ≡ Free → FirstFault image b LostBlock
+  lost sound f h =
+      let lo : 2 ≤ b = st.low in
+      at_bitmap sound st.walk st.read.is_walk st.read.whole
+      (bitmap_fails image st.walk 2 (b - 2) (blocks image - 2) b LostBlock st.agrees (sym length_of) (omega arith)
+      (inl ((λ k. clash (then_free (k (absent_then h))) f), refl)))
+
+  pub owned_free : IsBegun image → free ≡ true → owner_at store.owners b ≢ Free
+      → FirstFault image b OwnedFree
+  owned_free sound f h =
+      let lo : 2 ≤ b = st.low in
+      at_bitmap sound st.walk st.read.is_walk st.read.whole
+      (bitmap_fails image st.walk 2 (b - 2) (blocks image - 2) b OwnedFree st.agrees (sym length_of) (omega arith)
+      (inr ((λ a. absurd (then_absent a h)), ((λ k. then_absent (k (free_then f)) h), refl))))
+
+  mapped : (IsAbsent st.walk b → IsFreeIn image st.walk b) → (IsFreeIn image st.walk b → IsAbsent st.walk b)
+      → IsMapped image store (suc b)
+  mapped f g =
+      let lo : 2 ≤ b = st.low in
+      let e : suc (b - 2) ≡ suc b - 2 = omega arith in
+      record {
+        walk = st.walk;
+        read = st.read;
+        low = omega arith;
+        agrees = subst (λ n. AllHold (bitmap_demands image st.walk 2 n)) e
+            (bitmap_more image st.walk 2 (b - 2) st.agrees (subst (λ b. IsAbsent st.walk b → IsFreeIn image st.walk b) (sym length_of) f)
+            (subst (λ b. IsFreeIn image st.walk b → IsAbsent st.walk b) (sym length_of) g));
+      }
+
+  agrees_by : (t : Bool) → free ≡ t → IsTrue free ↔ (owner_at store.owners b ≡ Free) → IsMapped image store (suc b)
+  agrees_by true e h = mapped (λ _. free_then e) (λ _. absent_then (h.0 e))
+  agrees_by false e h =
+      let other : owner_at store.owners b ≢ Free = λ o. clash (h.1 o) e in
+      mapped (λ a. absurd (then_absent a other)) (λ k. absurd (clash (then_free k) e))
+
+  pub agrees : IsTrue free ↔ (owner_at store.owners b ≡ Free) → IsMapped image store (suc b)
+  agrees h = agrees_by free refl h
+
+pub map_begins : (image : List ℕ) (store : Store) → IsRead image store → IsMapped image store 2
+map_begins image store st = record { walk = st.walk; read = st.read; low = omega arith; agrees = tt }
+
+pub fits_alone : (image : List ℕ) (store : Store) (b : ℕ) → IsBegun image → b ≡ blocks image → IsMapped image store b → StoreFits image store
+fits_alone image store b begun e st =
+    let s = all_split (boot_demands image) (root_demands image (root_of image)) begun in
+    let f = fits image st.walk st.read.is_walk st.read.whole s.0 s.1 (subst (λ n. AllHold (bitmap_demands image st.walk 2 (n - 2))) e st.agrees) in
+    record {
+      walk = st.walk;
+      read = st.read;
+      fits = f;
+      only = (λ t l g. one_tree image st.walk t (tree_in image st.walk) l (layout_in st.walk) st.read.is_walk st.read.whole g f);
+    }
 
 -- where bit `bit` of word i stands
 page_at : (i bit : ℕ) → bit < 32 → (2 + 32 * i + bit - 2) / 4064 ≡ i / 127
@@ -43,33 +176,16 @@ module _ (image : List ℕ) (store : Store) (pages : List ℕ) (i bit b : ℕ)
       (subst (λ w. IsTrue free ↔ IsBitSet (word_in image (slice_index pages (i / 127)) w) ((b - 2) % 4064 % 32)) (sym at_word)
       (subst (λ t. IsTrue free ↔ IsBitSet (word_in image (slice_index pages (i / 127)) (1 + i % 127)) t) (sym at_bit) told))
 
-  one : suc b ≡ b + 1
-  one = omega arith
-
-  block_lost : free ≡ false → owner_at store.owners b ≡ Free → FirstFault image b LostBlock
-  block_lost f h = lost image store b number free pages hi listed.listed refl here st begun f h
-
-  block_owned_free : free ≡ true → owner_at store.owners b ≢ Free → FirstFault image b OwnedFree
-  block_owned_free f h = owned_free image store b number free pages hi listed.listed refl here st begun f h
-
-  block_free : free ≡ true → owner_at store.owners b ≡ Free → IsMapped image store (b + 1)
-  block_free f h = subst (IsMapped image store) one (mapped_free image store b number free pages hi listed.listed refl here st f h)
-
-  block_used : free ≡ false → owner_at store.owners b ≢ Free → IsMapped image store (b + 1)
-  block_used f h = subst (IsMapped image store) one (mapped_used image store b number free pages hi listed.listed refl here st f h)
-
   pub bit_fault : (f : Fault) → IsBitFault store.owners b free f → IsTrueFault image f
-  bit_fault f x = elim x [
-    | inl y ↦ subst (IsTrueFault image) (sym y.2) (first_fault image b LostBlock (block_lost y.0 y.1))
-    | inr y ↦ subst (IsTrueFault image) (sym y.2) (first_fault image b OwnedFree (block_owned_free y.0 y.1))
-  ]
-
-  agrees_by : (t : Bool) → free ≡ t → IsTrue free ↔ (owner_at store.owners b ≡ Free) → IsMapped image store (b + 1)
-  agrees_by true e h = block_free e (h.0 e)
-  agrees_by false e h = block_used e (λ o. let k : free ≡ true = h.1 o in let y : true ≡ false = sym k ∙ e in cc)
+  bit_fault f (inl y) = subst (IsTrueFault image) (sym y.2)
+      (first_fault image b LostBlock (lost image store b number free pages hi listed.listed refl here st begun y.0 y.1))
+  bit_fault f (inr y) = subst (IsTrueFault image) (sym y.2)
+      (first_fault image b OwnedFree (owned_free image store b number free pages hi listed.listed refl here st begun y.0 y.1))
 
   pub bit_agrees : IsTrue free ↔ (owner_at store.owners b ≡ Free) → IsMapped image store (b + 1)
-  bit_agrees h = agrees_by free refl h
+  bit_agrees h =
+      let one : suc b ≡ b + 1 = omega arith in
+      subst (IsMapped image store) one (agrees image store b number free pages hi listed.listed refl here st h)
 
 -- no bit of 0 is set
 no_bit : (word bit : ℕ) → word ≡ 0 → IsTrue false ↔ IsBitSet word bit

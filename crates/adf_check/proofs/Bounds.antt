@@ -7,10 +7,10 @@ use Rattle.adf_volume.proofs.Sizes.{size_high, size_low}
 use Rattle.adf_volume.proofs.Lists.{at_below}
 use Rattle.adf_volume.proofs.Walks.{number_of}
 use Rattle.adf_check.specs.Reading.{IsAtNode, IsInChain, IsInDatas, IsInExts}
-use Rattle.adf_check.specs.Store.{Store, StoreMatches, all_datas, all_exts}
+use Rattle.adf_check.specs.Store.{Store, StoreMatches, data_file, ext_file, file_blocks}
 use Rattle.adf_check.specs.Image.{IsBegun}
 use Rattle.adf_check.specs.Owners.{is_part, owned_count}
-use Rattle.adf_check.proofs.Lengths.{parts_sum}
+use Rattle.adf_check.proofs.WalkLengths.{parts_sum}
 
 -- there are at least 4 blocks
 pub many_blocks : (image : List ℕ) → IsBegun image → 4 ≤ blocks image
@@ -30,10 +30,10 @@ module _ (image : List ℕ) (store : Store) (begun : IsBegun image) (used : stor
   -- the lists of all extension blocks and of all data blocks are short
   pub lists_short : (n : ℕ) → IsAtNode image store n → (length store.exts < 2 ^ 32) × (length store.datas < 2 ^ 32)
   lists_short n st =
-      let short = walk_short image store st.walk begun used st.tells in
-      let sum = parts_sum image st.upto.walk in
-      let exts : length store.exts ≡ length (all_exts st.walk) = ap length st.tells.exts in
-      let datas : length store.datas ≡ length (all_datas st.walk) = ap length st.tells.datas in
+      let short = walk_short image store st.walk begun used st.read.tells in
+      let sum = parts_sum image st.read.upto.walk in
+      let exts : length store.exts ≡ length (file_blocks ext_file st.walk) = ap length st.read.tells.exts in
+      let datas : length store.datas ≡ length (file_blocks data_file st.walk) = ap length st.read.tells.datas in
       (omega arith, omega arith)
 
   -- a directory is no further than the rows
@@ -48,17 +48,17 @@ module _ (image : List ℕ) (store : Store) (begun : IsBegun image) (used : stor
   -- the number of a directory is short
   pub parent_short : (p up s a b : ℕ) (seen : List ℕ → Type 0) → IsInChain image store p up s a b seen → p < 2 ^ 32
   parent_short p up s a b seen st =
-      let short = walk_short image store st.walk begun used st.tells in
-      let sum = parts_sum image st.upto.walk in
-      let within = dir_within st.walk p up st.tells st.dir in
+      let short = walk_short image store st.walk begun used st.read.tells in
+      let sum = parts_sum image st.read.upto.walk in
+      let within = dir_within st.walk p up st.read.tells st.dir in
       omega arith
 
   -- the number of a header that is due is short
   pub entry_short : (p up s a b : ℕ) (seen : List ℕ → Type 0) → IsInChain image store p up s a b seen → length store.rows + 1 < 2 ^ 32
   entry_short p up s a b seen st =
-      let short = walk_short image store st.walk begun used st.tells in
-      let sum = parts_sum image st.upto.walk in
-      let count : length store.rows ≡ heads st.walk = st.tells.lists.count in
+      let short = walk_short image store st.walk begun used st.read.tells in
+      let sum = parts_sum image st.read.upto.walk in
+      let count : length store.rows ≡ heads st.walk = st.read.tells.lists.count in
       omega arith
 
   file_short : (w : List (Role × ℕ)) (n h : ℕ) → IsWalk image w → StoreMatches image store w → FileAt image w n h → n < 2 ^ 32
@@ -70,7 +70,7 @@ module _ (image : List ℕ) (store : Store) (begun : IsBegun image) (used : stor
 
   -- the number of a file is short
   pub file_in_exts : (n h : ℕ) (table : List ℕ) (a b : ℕ) → IsInExts image store n h table a b → n < 2 ^ 32
-  file_in_exts n h table a b st = file_short st.walk n h st.upto.walk st.tells st.file
+  file_in_exts n h table a b st = file_short st.walk n h st.read.upto.walk st.read.tells st.holds.file
 
   pub file_in_datas : (n h : ℕ) (table : List ℕ) (k : ℕ) → IsInDatas image store n h table k → n < 2 ^ 32
-  file_in_datas n h table k st = file_short st.walk n h st.upto.walk st.tells st.file
+  file_in_datas n h table k st = file_short st.walk n h st.read.upto.walk st.read.tells st.holds.file

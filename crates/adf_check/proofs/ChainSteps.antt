@@ -1,30 +1,84 @@
--- The steps along a chain of headers.
-use Rattle.std.proofs.Common.{◌≡◌, ◌≢◌, ◌⊎◌, inl, inr, ℕ, suc, List, [], ◌∷◌, ◌++◌, ◌+◌, ◌<◌, length, set, Bool, true, false, refl, sym, ap, subst, ◌∙◌, arith, Some, None}
+-- The steps along the headers of a chain.
+use Rattle.std.proofs.Common.{◌≡◌, ◌≢◌, ◌⊎◌, inl, inr, ℕ, zero, suc, List, ◌∷◌, ◌+◌, ◌<◌, length, Bool, true, false, refl, sym, ap, subst, ◌∙◌, arith, Some, None}
 use Rattle.std.specs.Prelude.{◌↔◌, ◌||◌, not}
 use Rattle.std.specs.Str.{bytes_eq}
 use Rattle.std.proofs.lemmas.Slice.Eq.{bytes_eq-Decides}
-use Rattle.adf_fields.specs.Words.{block}
+use Rattle.adf_fields.specs.Words.{block, word}
 use Rattle.adf_tree.specs.Texts.{uppers}
 use Rattle.adf_tree.specs.NameSet.{has, HasMore, Names}
+use Rattle.adf_tree.specs.declared.entry.Kind.{Kind}
 use Rattle.adf_blocks.specs.declared.cause.Cause.{Cause}
 use Rattle.adf_blocks.specs.declared.cause.Cause.TheVariants.{SameName}
 use Rattle.adf_blocks.specs.Forms.{first_cause, text_at}
 use Rattle.adf_blocks.specs.HeadBlock.{head_form}
-use Rattle.adf_blocks.specs.Sizes.{blocks}
-use Rattle.adf_volume.specs.declared.owner.Owner.{Owner}
-use Rattle.adf_volume.specs.declared.owner.Owner.TheVariants.{Free, Head as AHead}
+use Rattle.adf_volume.specs.declared.owner.Owner.TheVariants.{Free}
+use Rattle.adf_volume.specs.Demands.{Demand, AllHold, FirstFails, head_demands}
 use Rattle.adf_volume.specs.Image.{kind_of, name_of, word_in}
-use Rattle.adf_volume.specs.Walk.{FirstFault}
+use Rattle.adf_volume.specs.Walk.{Role, heads, Asks, form_demands, IsWalk}
 use Rattle.adf_volume.specs.Walk.Role.{Head}
 use Rattle.adf_volume.proofs.FormDemands.{all_demanded, first_demanded}
-use Rattle.adf_check.specs.Reading.{IsInChain, IsAtSlot}
-use Rattle.adf_check.specs.Store.{Store, owner_at}
-use Rattle.adf_check.proofs.InChains.{fault_form, fault_name, next_chain, chain_begins, chain_ends}
-use Rattle.adf_check.proofs.Faults.{head_claim}
-use Rattle.adf_check.proofs.Steps.{stored_is}
-use Rattle.adf_check.specs.Found.{InRange, IsClaimFault, IsTrueFault, sees_of}
+use Rattle.adf_volume.proofs.MemberFacts.{dir_up}
+use Rattle.adf_volume.proofs.Walks.{dir_is_node, node_is, one_block, one_node}
+use Rattle.adf_check.specs.Checks.{fault}
+use Rattle.adf_check.specs.Cursor.Cursor.{BeforeRole}
+use Rattle.adf_check.specs.Found.{InRange, IsTrueFault, sees_of}
 use Rattle.adf_check.specs.Image.{IsBegun}
-use Rattle.adf_check.specs.declared.fault.Fault.{Fault}
+use Rattle.adf_check.specs.Reading.{Next, IsAtSlot, IsInChain, Sees, next_head}
+use Rattle.adf_check.specs.Store.{Store, owner_at}
+use Rattle.adf_check.proofs.ClaimSteps.{IsNamed, IsStored, form_fault, name_fault, read_one}
+use Rattle.adf_check.proofs.Cursors.{end_chain}
+
+next_asks : (image : List ℕ) (w : List (Role × ℕ)) (p s j a b : ℕ) → s < 72 → b ≢ 0 → Next image w p s j a b
+    → (i : ℕ) × Asks image w (next_head w p s j) a i × (word_in image a i ≡ b)
+next_asks image w p s zero a b lt ne h = (6 + s, (refl, lt, h.0, refl, (λ z. ne (sym h.1 ∙ z))), h.1)
+next_asks image w p s (suc j) a b lt ne h = (124, (refl, h.0, refl, (λ z. ne (sym h.1 ∙ z))), h.1)
+
+next_ends : (image : List ℕ) (w : List (Role × ℕ)) → IsWalk image w → (p s j a : ℕ) → Next image w p s j a 0 → (n c i : ℕ) → Asks image w (Head n p s j) c i
+    → ⊥
+next_ends image w v p s zero a h n c i k =
+    let e : c ≡ a = one_node image v p c a (dir_is_node image w p c k.2) (dir_is_node image w p a h.0) in
+    k.4 (ap (word_in image c) k.3 ∙ ap (λ a. word_in image a (6 + s)) e ∙ h.1)
+next_ends image w v p s (suc j) a h n c i k =
+    let m = k.1 in
+    let e : c ≡ a = (one_block image v (Head m.0 p s j) (Head h.0.0 p s j) c a m.1 h.0.1 (refl, refl, refl)).1 in
+    k.3 (ap (word_in image c) k.2 ∙ ap (λ a. word_in image a 124) e ∙ h.1)
+
+-- a chain that ends leaves its slot
+pub chain_ends : (image : List ℕ) (store : Store) (p up s a : ℕ) (seen : List ℕ → Type 0) → IsInChain image store p up s a 0 seen
+    → IsAtSlot image store p up (suc s)
+chain_ends image store p up s a seen st = record {
+  walk = st.walk;
+  read = record {
+    tells = st.read.tells;
+    started = st.read.started;
+    upto = end_chain image st.walk p s st.place st.read.upto (next_ends image st.walk st.read.upto.walk p s st.place a st.named);
+  };
+  dir = st.dir;
+}
+
+-- a slot's chain begins at the directory, and nothing of it was seen
+pub chain_begins : (image : List ℕ) (store : Store) (p up s : ℕ) (seen : List ℕ → Type 0) → ((x : List ℕ) → seen x → ⊥) → IsAtSlot image store p up s
+    → IsInChain image store p up s up (word_in image up (6 + s)) seen
+chain_begins image store p up s seen none st = record {
+  walk = st.walk;
+  place = 0;
+  read = st.read;
+  dir = st.dir;
+  named = (st.dir, refl);
+  sees = record {
+    all = (λ m k c h. let x = st.read.upto.below (Head m p s k) c h in let y : k < 0 = x.2 refl refl in absurd (omega arith));
+    only = (λ x h. absurd (none x h));
+  };
+}
+
+-- a slot whose word is 0 has no chain
+pub empty_chain : (image : List ℕ) (store : Store) (p up s : ℕ) → IsAtSlot image store p up s → word_in image up (6 + s) ≡ 0
+    → IsAtSlot image store p up (s + 1)
+empty_chain image store p up s st none =
+    let seen : List ℕ → Type 0 = λ x. ⊥ in
+    let next : suc s ≡ s + 1 = omega arith in
+    let begins : IsInChain image store p up s up (word_in image up (6 + s)) seen = chain_begins image store p up s seen (λ x h. h) st in
+    subst (IsAtSlot image store p up) next (chain_ends image store p up s up seen (subst (λ b. IsInChain image store p up s up b seen) none begins))
 
 -- one name more is seen
 seen_more : (old new : Names) (name : List ℕ) → HasMore old new name → (x : List ℕ) → sees_of new x ↔ (sees_of old x ⊎ (name ≡ x))
@@ -46,57 +100,79 @@ seen_more old new name h x = (to, from)
     from (inl y) = h x ∙ joined (bytes_eq name x) (has old x) (inl y)
     from (inr y) = h x ∙ joined (bytes_eq name x) (has old x) (inr ((bytes_eq-Decides name x).1 y))
 
--- a slot whose word is 0 has no chain
-pub empty_chain : (image : List ℕ) (store : Store) (p up s : ℕ) → IsAtSlot image store p up s → word_in image up (6 + s) ≡ 0
-    → IsAtSlot image store p up (s + 1)
-empty_chain image store p up s st none =
-    let seen : List ℕ → Type 0 = λ x. ⊥ in
-    let next : suc s ≡ s + 1 = omega arith in
-    let begins : IsInChain image store p up s up (word_in image up (6 + s)) seen = chain_begins image store p up s seen (λ x h. h) st in
-    subst (IsAtSlot image store p up) next (chain_ends image store p up s up seen (subst (λ b. IsInChain image store p up s up b seen) none begins))
-
 -- a word of block a names block b next in the chain of slot s of directory p
-module _ (image : List ℕ) (store : Store) (p up s a b : ℕ) (names : Names) (lt : s < 72) (begun : IsBegun image)
-    (st : IsInChain image store p up s a b (sees_of names)) (ne : b ≢ 0) where
-  pub member_claim : (f : Fault) → IsClaimFault store.owners a b f → IsTrueFault image f
-  member_claim f h = head_claim image store p up s a b (sees_of names) f lt begun st ne h
+module _ {image : List ℕ} {store : Store} {p up s a b : ℕ} {seen : List ℕ → Type 0} (lt : s < 72) (begun : IsBegun image)
+    (st : IsInChain image store p up s a b seen) (ne : b ≢ 0) where
+  pub head_named : IsNamed image store st.walk (next_head st.walk p s st.place) a b
+  head_named =
+      let q = next_asks image st.walk p s st.place a b lt ne st.named in
+      record { begun = begun; read = st.read; index = q.0; asked = q.1; names = q.2 }
+
+  form_at : (P : List Demand → Type 0) → P (head_demands image (kind_of image) b up s) → P (form_demands image st.walk (next_head st.walk p s st.place) b)
+  form_at P = subst (λ u. P (head_demands image (kind_of image) b u s)) (sym (node_is image st.walk p up st.read.upto.walk (dir_is_node image st.walk p up st.dir)))
+
+  sees_more : (seen' : List ℕ → Type 0) → ((x : List ℕ) → seen' x ↔ (seen x ⊎ (uppers (name_of image b) ≡ x)))
+      → Sees image ((next_head st.walk p s st.place, b) ∷ st.walk) p s seen'
+  sees_more seen' g = record {
+    all = (λ m k c h. elim h [
+      | inl y ↦ (g (uppers (name_of image c))).1 (inr (ap (λ b. uppers (name_of image b)) y.1))
+      | inr y ↦ (g (uppers (name_of image c))).1 (inl (st.sees.all m k c y))
+    ]);
+    only = (λ x h. elim ((g x).0 h) [
+      | inl y ↦ let z = st.sees.only x y in (z.0, z.1, z.2, inr z.3, z.4)
+      | inr y ↦ (suc (heads st.walk), st.place, b, inl (refl, refl), y)
+    ]);
+  }
 
   -- the block is free
-  module _ (r : InRange (length store.owners) b) (free : owner_at store.owners b ≡ Free) where
-    below : b < blocks image
-    below = subst (λ n. b < n) st.tells.owns.size r.1
+  module _ (range : InRange (length store.owners) b) (free : owner_at store.owners b ≡ Free) where
+    -- and holds a header, whose name was not seen
+    pub next_chain : AllHold (head_demands image (kind_of image) b up s) → (seen (uppers (name_of image b)) → ⊥) → (seen' : List ℕ → Type 0)
+        → ((x : List ℕ) → seen' x ↔ (seen x ⊎ (uppers (name_of image b) ≡ x))) → {new : Store} → IsStored store new (next_head st.walk p s st.place) b
+        → IsInChain image new p up s b (word_in image b 124) seen'
+    next_chain form fresh seen' g stored =
+        let r : Role = next_head st.walk p s st.place in
+        record {
+          walk = (r, b) ∷ st.walk;
+          place = suc st.place;
+          read = read_one head_named tt range free (form_at AllHold form) (λ m k c has eq. fresh (subst seen eq (st.sees.all m k c has))) stored
+              (BeforeRole (next_head ((r, b) ∷ st.walk) p s (suc st.place))) (refl, refl, refl, refl);
+          dir = dir_up image st.walk (r, b) p up st.dir;
+          named = ((suc (heads st.walk), inl (refl, refl)), refl);
+          sees = sees_more seen' g;
+        }
 
-    pub member_inside : b < blocks image
-    member_inside = below
+-- what was read of it
+module _ {image : List ℕ} {store : Store} {p up s a b : ℕ} (names : Names) (lt : s < 72) (begun : IsBegun image)
+    (st : IsInChain image store p up s a b (sees_of names)) (ne : b ≢ 0) (range : InRange (length store.owners) b) (free : owner_at store.owners b ≡ Free)
+    {kind : Kind} {bytes : List ℕ} (is_kind : kind ≡ kind_of image) (is_block : bytes ≡ block image b) where
+  cause_is : first_cause (head_form kind b up s bytes) ≡ first_cause (head_form (kind_of image) b up s (block image b))
+  cause_is = ap (λ x. first_cause (head_form kind b up s x)) is_block ∙ ap (λ k. first_cause (head_form k b up s (block image b))) is_kind
 
-    pub member_fault : (c : Cause) → first_cause (head_form (kind_of image) b up s (block image b)) ≡ Some c → FirstFault image b c
-    member_fault c f = fault_form image store p up s a b (sees_of names) lt begun st ne c r.0 below free
-        (first_demanded b (head_form (kind_of image) b up s (block image b)) c f)
+  -- it is no header
+  pub head_fault : (c : Cause) → first_cause (head_form kind b up s bytes) ≡ Some c → IsTrueFault image (fault b c)
+  head_fault c h = form_fault (head_named lt begun st ne) tt range free c (form_at lt begun st ne (λ ds. FirstFails ds b c)
+      (first_demanded b (head_form (kind_of image) b up s (block image b)) c (sym cause_is ∙ h)))
 
-    -- and holds a header
-    module _ (form : first_cause (head_form (kind_of image) b up s (block image b)) ≡ None) where
-      pub member_twice : has names (uppers (name_of image b)) ≡ true → FirstFault image b SameName
-      member_twice h = fault_name image store p up s a b (sees_of names) lt begun st ne r.0 below free
-          (all_demanded b (head_form (kind_of image) b up s (block image b)) form) h
+  -- it is one, with this name
+  module _ (none : first_cause (head_form kind b up s bytes) ≡ None) {head : List ℕ} (same : head ≡ bytes) {name : List ℕ} (told : name ≡ text_at head 432) where
+    form : AllHold (head_demands image (kind_of image) b up s)
+    form = all_demanded b (head_form (kind_of image) b up s (block image b)) (sym cause_is ∙ none)
 
-      pub member_done : (owners : List Owner) (used : ℕ) (new : Names) → owners ≡ set store.owners b (AHead (length store.rows + 1)) → used ≡ store.used + 1
-          → has names (uppers (name_of image b)) ≡ false → HasMore names new (uppers (name_of image b))
-          → IsInChain image (record {
-            owners = owners;
-            rows = store.rows ++ record { parent = p; head = b } ∷ [];
-            starts = store.starts;
-            exts =
-                store.exts;
-            datas = store.datas;
-            used = used;
-          }) p up s b (word_in image b 124) (sees_of new)
-      member_done owners used new o u fresh more =
-          let k : length store.rows + 1 ≡ suc (length store.rows) = omega arith in
-          let none : sees_of names (uppers (name_of image b)) → ⊥ = λ h. let e : true ≡ false = sym h ∙ fresh in cc in
-          let next = next_chain image store p up s a b (sees_of names) lt begun st ne r.0 below free
-          (all_demanded b (head_form (kind_of image) b up s (block image b)) form) none (sees_of new) (seen_more names new (uppers (name_of image b)) more) in
-          subst (λ t. IsInChain image t p up s b (word_in image b 124) (sees_of new))
-          (stored_is store owners used (Head (suc (length store.rows)) p s 0) b (o ∙ ap (λ n. set store.owners b (AHead n)) k) u) next
+    name_is : uppers name ≡ uppers (name_of image b)
+    unfolding name_of
+    name_is = ap uppers (told ∙ ap (λ x. text_at x 432) (same ∙ is_block))
+
+    pub twice_fault : has names (uppers name) ≡ true → IsTrueFault image (fault b SameName)
+    twice_fault h = name_fault (head_named lt begun st ne) tt range free (form_at lt begun st ne AllHold form)
+        (λ k. let x = st.sees.only (uppers (name_of image b)) (ap (has names) (sym name_is) ∙ h) in k x.0 x.1 x.2 x.3 x.4)
+
+    pub head_done : has names (uppers name) ≡ false → (more : Names) → HasMore names more (uppers name) → {next : ℕ} → next ≡ word head 124 → {new : Store}
+        → IsStored store new (next_head st.walk p s st.place) b → IsInChain image new p up s b next (sees_of more)
+    head_done fresh more grows next_is {new = new} stored =
+        subst (λ n. IsInChain image new p up s b n (sees_of more)) (ap (λ x. word x 124) (sym (same ∙ is_block)) ∙ sym next_is)
+        (next_chain lt begun st ne range free form (λ h. let e : true ≡ false = sym h ∙ ap (has names) (sym name_is) ∙ fresh in cc) (sees_of more)
+        (seen_more names more (uppers (name_of image b)) (subst (HasMore names more) name_is grows)) stored)
 
 -- a name that is not new was seen
 pub was_seen : (x y : Bool) → y ≡ not x → y ≡ false → x ≡ true
@@ -106,8 +182,3 @@ was_seen false y e h = let z : true ≡ false = sym e ∙ h in cc
 pub was_new : (x y : Bool) → y ≡ not x → y ≡ true → x ≡ false
 was_new false y e h = refl
 was_new true y e h = let z : false ≡ true = sym e ∙ h in cc
-
--- the name that a header tells
-pub name_in : (image : List ℕ) (b : ℕ) (name : List ℕ) → name ≡ text_at (block image b) 432 → name ≡ name_of image b
-unfolding name_of
-name_in image b name h = h

@@ -19,7 +19,7 @@ use Rattle.adf_check.specs.declared.kept.KeptHeader.{KeptHeader}
 use Rattle.adf_check.specs.StoredVolume.{StoreStandsFor}
 use Rattle.adf_check.specs.Reading.{StoreFits}
 use Rattle.adf_check.specs.Store.{Store}
-use Rattle.adf_check.proofs.InRows.{node_here}
+use Rattle.adf_check.proofs.NodeSteps.{node_here}
 use Rattle.adf_check.proofs.Bounds.{many_blocks}
 use Rattle.adf_check.proofs.NodeSteps.{row_at}
 use Rattle.adf_check.specs.Image.{IsBegun}
@@ -30,8 +30,8 @@ use Rattle.adf_check.specs.declared.checked.Counts.{Counts}
 pub rows_inside : (image : List ℕ) (store : Store) → IsBegun image → StoreFits image store → (i : ℕ) (d : KeptHeader) → i < length store.rows
     → (get_or store.rows i d).head < blocks image
 rows_inside image store begun st i d lt =
-    let x = node_here image store st.walk st.tells st.is_walk i (get_or store.rows i d) (row_at store.rows i d lt) in
-    (in_range image st.is_walk (many_blocks image begun) (Head (suc i) x.0 x.1 x.2) (get_or store.rows i d).head x.3).1
+    let x = node_here image store st.walk st.read.tells st.read.is_walk i (get_or store.rows i d) (row_at store.rows i d lt) in
+    (in_range image st.read.is_walk (many_blocks image begun) (Head (suc i) x.0 x.1 x.2) (get_or store.rows i d).head x.3).1
 
 -- two lists of one length whose members agree have one count
 same_count : {X Y : Type 0} (f : X → Bool) (g : Y → Bool) (xs : List X) (ys : List Y) → length xs ≡ length ys

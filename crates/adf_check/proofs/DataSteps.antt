@@ -1,85 +1,135 @@
 -- The steps along the data blocks of a file.
-use Rattle.std.proofs.Common.{◌≡◌, ℕ, zero, suc, List, [], ◌∷◌, ◌++◌, ◌+◌, ◌-◌, ◌*◌, ◌/◌, ◌%◌, ◌<◌, ◌≤◌, length, set, refl, sym, ap, subst, ◌∙◌, arith}
-use Rattle.std.specs.Prelude.{slice_index}
+use Rattle.std.proofs.Common.{◌≡◌, ℕ, zero, suc, List, ◌∷◌, ◌+◌, ◌-◌, ◌*◌, ◌/◌, ◌%◌, ◌<◌, ◌≤◌, length, Bool, true, false, cond, refl, sym, ap, subst, ◌∙◌, arith}
+use Rattle.std.specs.Prelude.{nat_lt, slice_index}
+use Rattle.std.proofs.lemmas.Bool.{ltb-true}
 use Rattle.adf_blocks.specs.declared.cause.Cause.{Cause}
+use Rattle.adf_blocks.specs.declared.cause.Cause.TheVariants.{ShortFile}
 use Rattle.adf_blocks.specs.Sizes.{blocks}
-use Rattle.adf_volume.specs.declared.owner.Owner.{Owner}
-use Rattle.adf_volume.specs.declared.owner.Owner.TheVariants.{Free, Data as AData}
+use Rattle.adf_volume.specs.declared.owner.Owner.TheVariants.{Free}
 use Rattle.adf_volume.specs.Demands.{Demand, AllHold, FirstFails, data_demands}
-use Rattle.adf_volume.specs.Image.{held, kind_of, word_in}
+use Rattle.adf_volume.specs.Image.{held, kind_of, table_word, word_in}
 use Rattle.adf_volume.specs.Lists.{At}
-use Rattle.adf_volume.specs.Walk.{FirstFault, IsWalk, MemberAt, Role, data_count}
+use Rattle.adf_volume.specs.Walk.{Enough, FileAt, IsWalk, MemberAt, Role, data_count, ext_count, form_demands, member_block, next_data, node_block}
 use Rattle.adf_volume.specs.Walk.Role.{Data, Ext, Head}
-use Rattle.adf_volume.proofs.MemberFacts.{in_range}
-use Rattle.adf_check.specs.Reading.{IsInDatas, IsNamed}
-use Rattle.adf_check.specs.Store.{Store, owner_at, stored}
-use Rattle.adf_check.proofs.InFiles.{data_named, data_enough, data_form_at, data_read}
-use Rattle.adf_check.proofs.PlainSteps.{at_get, plain_form}
-use Rattle.adf_check.proofs.Bounds.{many_blocks}
-use Rattle.adf_check.proofs.Faults.{plain_claim}
-use Rattle.adf_check.proofs.Steps.{stored_is}
+use Rattle.adf_volume.proofs.Lists.{at_index, at_some}
+use Rattle.adf_volume.proofs.MemberFacts.{file_up, in_range, member_up}
+use Rattle.adf_volume.proofs.Walks.{file_is, member_is, one_head}
+use Rattle.adf_check.specs.Checks.{fault}
+use Rattle.adf_check.specs.Cursor.Cursor.{BeforeRole}
 use Rattle.adf_check.specs.Files.{next_of}
-use Rattle.adf_check.specs.Found.{InRange, IsClaimFault, IsTrueFault}
+use Rattle.adf_check.specs.Found.{InRange, IsTrueFault}
 use Rattle.adf_check.specs.Image.{IsBegun}
-use Rattle.adf_check.specs.declared.fault.Fault.{Fault}
+use Rattle.adf_check.specs.Reading.{IsAtNode, IsInDatas}
+use Rattle.adf_check.specs.Store.{Store, owner_at}
+use Rattle.adf_check.proofs.Bounds.{many_blocks}
+use Rattle.adf_check.proofs.ClaimSteps.{IsNamed, IsStored, form_fault, read_one, short_fault}
+use Rattle.adf_check.proofs.Cursors.{end_datas}
+
+pub at_get : (xs : List ℕ) (i : ℕ) → i < length xs → At xs i (slice_index xs i)
+at_get xs i h = let e = at_some xs i h in subst (At xs i) (sym (at_index xs i e.0 e.1)) e.1
 
 member_inside : (image : List ℕ) (w : List (Role × ℕ)) → IsBegun image → IsWalk image w → (n m c : ℕ) → MemberAt image w n m c → c < blocks image
 member_inside image w begun v n zero c h = (in_range image v (many_blocks image begun) (Head n h.0.0 h.0.1 h.0.2) c h.0.3).1
 member_inside image w begun v n (suc m) c h = (in_range image v (many_blocks image begun) (Ext n (suc m)) c h).1
 
 -- the blocks of the table are those of the image
-pub table_inside : (image : List ℕ) (store : Store) (n h : ℕ) (table : List ℕ) (k : ℕ) → IsBegun image → IsInDatas image store n h table k → (i : ℕ)
+pub table_inside : {image : List ℕ} {store : Store} {n h : ℕ} {table : List ℕ} {k : ℕ} → IsBegun image → IsInDatas image store n h table k → (i : ℕ)
     → i < length table → slice_index table i < blocks image
-table_inside image store n h table k begun st i lt =
-    member_inside image st.walk begun st.upto.walk n i (slice_index table i) (st.members i (slice_index table i) (at_get table i lt))
+table_inside {image = image} {n = n} {table = table} begun st i lt =
+    member_inside image st.walk begun st.read.upto.walk n i (slice_index table i) (st.holds.members i (slice_index table i) (at_get table i lt))
 
--- the table names block b as data block k + 1
-module _ (image : List ℕ) (store : Store) (n h : ℕ) (table : List ℕ) (k b : ℕ) (begun : IsBegun image) (enough : data_count image h ≤ 72 * length table)
-    (lt : k < data_count image h) (st : IsInDatas image store n h table k) (e : b ≡ word_in image (slice_index table (k / 72)) (77 - k % 72)) where
-  -- the block whose word names it
-  abbrev pub at : ℕ
-  at = slice_index table (k / 72)
+-- behind the last data block
+pub datas_end : (image : List ℕ) (store : Store) (n h : ℕ) (table : List ℕ) (k : ℕ) → IsInDatas image store n h table k → data_count image h ≤ k
+    → IsAtNode image store (suc n)
+datas_end image store n h table k st le = record {
+  walk = st.walk;
+  read = record {
+    tells = st.read.tells;
+    started = st.read.started;
+    upto = end_datas image st.walk n (suc k) h st.holds.file (omega arith) st.read.upto;
+  };
+}
 
-  here : At table (k / 72) at
-  here = at_get table (k / 72) (omega arith)
+module _ {image : List ℕ} {store : Store} {n h : ℕ} {table : List ℕ} {k : ℕ} (begun : IsBegun image) (st : IsInDatas image store n h table k) where
+  one_file : (a : ℕ) → FileAt image st.walk n a → h ≡ a
+  one_file a f =
+      let g = st.holds.file in
+      (one_head image st.read.upto.walk n g.0.0 g.0.1 g.0.2 h f.0.0 f.0.1 f.0.2 a g.0.3 f.0.3).1
 
-  named : IsNamed image store (Data n (suc k)) at b
-  named = data_named image store n h table k st lt at b here (sym e)
+  named_by : k < data_count image h → (c b : ℕ) → At table (k / 72) c → b ≡ word_in image c (table_word k) → IsNamed image store st.walk (Data n (suc k)) c b
+  named_by lt c b x e = record {
+    begun = begun;
+    read = st.read;
+    index = table_word k;
+    asked = ((h, st.holds.file, lt), st.holds.members (k / 72) c x, refl);
+    names = sym e;
+  }
 
-  pub data_claim : (f : Fault) → IsClaimFault store.owners at b f → IsTrueFault image f
-  unfolding named
-  data_claim f x = plain_claim image store (Data n (suc k)) at b f begun tt named (data_enough image store n h table k st enough) x
+  -- the table names too few data blocks
+  pub too_short : k ≡ 0 → 72 * length table < data_count image h → IsTrueFault image (fault h ShortFile)
+  too_short z lt =
+      let c : length table ≡ suc (ext_count st.walk n) = st.holds.counted in
+      let e = at_some table 0 (omega arith) in
+      let here : At table (k / 72) e.0 = subst (λ k. At table (k / 72) e.0) (sym z) e.1 in
+      let lacks : Enough image st.walk (Data n (suc k)) → ⊥ =
+      λ en. let x : data_count image h ≤ 72 * suc (ext_count st.walk n) = en (ap suc z) h st.holds.file in omega arith in
+      subst (λ a. IsTrueFault image (fault a ShortFile)) (sym (one_file e.0 (st.holds.members 0 e.0 e.1)))
+      (short_fault (named_by (omega arith) e.0 (word_in image e.0 (table_word k)) here refl) lacks)
 
-  -- the demands of a data block, by its number
-  abbrev pub demands_of : ℕ → ℕ → List Demand
-  demands_of number next = data_demands image (kind_of image) b h number (held (kind_of image) (word_in image h 81) number) next
+  -- the table names block b as data block k + 1
+  module _ (enough : data_count image h ≤ 72 * length table) (lt : k < data_count image h) {b : ℕ}
+      (e : b ≡ word_in image (slice_index table (k / 72)) (77 - k % 72)) where
+    pub data_named : IsNamed image store st.walk (Data n (suc k)) (slice_index table (k / 72)) b
+    data_named = named_by lt (slice_index table (k / 72)) b (at_get table (k / 72) (omega arith)) e
 
-  pub data_fault : (c : Cause) → InRange (length store.owners) b → owner_at store.owners b ≡ Free
-      → FirstFails (demands_of (k + 1) (next_of image table (data_count image h) (k + 1))) b c → FirstFault image b c
-  unfolding named
-  data_fault c r free f =
-      let one : k + 1 ≡ suc k = omega arith in
-      plain_form image store (Data n (suc k)) at b begun tt named c (data_enough image store n h table k st enough) r.0
-      (subst (λ n. b < n) st.tells.owns.size r.1) free
-      (data_form_at image store n h table k st b (next_of image table (data_count image h) (suc k)) enough refl (λ ds. FirstFails ds b c)
-      (subst (λ m. FirstFails (demands_of m (next_of image table (data_count image h) m)) b c) one f))
+    pub data_enough : Enough image st.walk (Data n (suc k))
+    data_enough _ a f =
+        let c : length table ≡ suc (ext_count st.walk n) = st.holds.counted in
+        let x : data_count image a ≤ 72 * length table = subst (λ a. data_count image a ≤ 72 * length table) (one_file a f) enough in
+        omega arith
 
-  pub data_done : (owners : List Owner) (used : ℕ) → InRange (length store.owners) b → owner_at store.owners b ≡ Free
-      → owners ≡ set store.owners b (AData n (k + 1)) → used ≡ store.used + 1
-      → AllHold (demands_of (k + 1) (next_of image table (data_count image h) (k + 1)))
-      → IsInDatas image (record {
-        owners = owners;
-        rows = store.rows;
-        starts = store.starts;
-        exts = store.exts;
-        datas = store.datas ++ b ∷ [];
-        used =
-            used;
-      }) n h table (k + 1)
-  data_done owners used r free o u f =
-      let one : k + 1 ≡ suc k = omega arith in
-      let read = data_read image store n h table k st begun lt enough at b (next_of image table (data_count image h) (suc k)) here (sym e) r.0
-      (subst (λ n. b < n) st.tells.owns.size r.1) free refl
-      (subst (λ m. AllHold (demands_of m (next_of image table (data_count image h) m))) one f) in
-      subst (λ s. IsInDatas image s n h table (k + 1)) (stored_is store owners used (Data n (suc k)) b (o ∙ ap (λ m. set store.owners b (AData n m)) one) u)
-      (subst (λ m. IsInDatas image (stored store (Data n (suc k)) b) n h table m) (sym one) read)
+    next_here : (t : Bool) → nat_lt (suc k) (data_count image h) ≡ t
+        → cond t (word_in image (member_block st.walk n (suc k / 72)) (table_word (suc k))) 0
+        ≡ cond t (word_in image (slice_index table (suc k / 72)) (table_word (suc k))) 0
+    next_here false z = refl
+    next_here true z =
+        let more : suc k < data_count image h = ltb-true (suc k) (data_count image h) z in
+        let x = at_get table (suc k / 72) (omega arith) in
+        ap (λ b. word_in image b (table_word (suc k))) (member_is image st.walk n (suc k / 72) (slice_index table (suc k / 72)) st.read.upto.walk
+        (st.holds.members (suc k / 72) (slice_index table (suc k / 72)) x))
+
+    -- the demands of a data block, by its number and the next one
+    abbrev pub demands_of : ℕ → ℕ → List Demand
+    demands_of number next = data_demands image (kind_of image) b h number (held (kind_of image) (word_in image h 81) number) next
+
+    form_at : (P : List Demand → Type 0) → P (demands_of (k + 1) (next_of image table (data_count image h) (k + 1)))
+        → P (form_demands image st.walk (Data n (suc k)) b)
+    form_at P p =
+        let one : k + 1 ≡ suc k = omega arith in
+        let head : node_block st.walk n ≡ h = file_is image st.walk n h st.read.upto.walk st.holds.file in
+        subst (λ h. P (data_demands image (kind_of image) b h (suc k) (held (kind_of image) (word_in image h 81) (suc k))
+        (next_data image st.walk n (suc k)))) (sym head)
+        (subst (λ y. P (demands_of (suc k) y))
+        (sym (ap (λ h. cond (nat_lt (suc k) (data_count image h)) (word_in image (member_block st.walk n (suc k / 72)) (table_word (suc k))) 0) head
+        ∙ next_here (nat_lt (suc k) (data_count image h)) refl))
+        (subst (λ m. P (demands_of m (next_of image table (data_count image h) m))) one p))
+
+    module _ (range : InRange (length store.owners) b) (free : owner_at store.owners b ≡ Free) where
+      pub data_fault : (c : Cause) → FirstFails (demands_of (k + 1) (next_of image table (data_count image h) (k + 1))) b c → IsTrueFault image (fault b c)
+      data_fault c f = form_fault data_named data_enough range free c (form_at (λ ds. FirstFails ds b c) f)
+
+      pub data_done : AllHold (demands_of (k + 1) (next_of image table (data_count image h) (k + 1))) → {new : Store} → IsStored store new (Data n (k + 1)) b
+          → IsInDatas image new n h table (k + 1)
+      data_done f {new = new} stored =
+          let r : Role = Data n (suc k) in
+          let one : k + 1 ≡ suc k = omega arith in
+          record {
+            walk = (r, b) ∷ st.walk;
+            read = read_one data_named data_enough range free (form_at AllHold f) tt (subst (λ m. IsStored store new (Data n m) b) one stored)
+                (BeforeRole (Data n (suc (k + 1)))) (refl, refl, refl, omega arith);
+            holds = record {
+              file = file_up image st.walk (r, b) n h st.holds.file;
+              members = (λ m c x. member_up image st.walk (r, b) n m c (st.holds.members m c x));
+              counted = st.holds.counted;
+            };
+          }

@@ -1,20 +1,21 @@
 -- The first fault of an empty volume with a lost block.
-use Rattle.std.proofs.Common.{◌≡◌, ℕ, ◌++◌, ◌+◌, ◌<◌, ◌≤◌, refl, sym, ap, subst, ◌∙◌, arith, true, false}
+use Rattle.std.proofs.Common.{◌≡◌, ℕ, ◌+◌, ◌<◌, ◌≤◌, refl, sym, ap, subst, ◌∙◌, arith, true, false}
 use Rattle.adf_fields.specs.Words.{block, word, words, with_bytes}
 use Rattle.adf_blocks.specs.Sizes.{blocks, pages_needed}
 use Rattle.adf_blocks.specs.declared.cause.Cause.TheVariants.{LostBlock}
 use Rattle.adf_volume.specs.Image.{word_in, root_of}
-use Rattle.adf_volume.specs.Demands.{AllHold, boot_demands, root_demands, page_demands}
+use Rattle.adf_volume.specs.Demands.{AllHold, page_demands}
 use Rattle.adf_volume.specs.Walk.{FirstFault}
 use Rattle.adf_volume.specs.Walk.Role.{Page}
 use Rattle.adf_volume.proofs.Zeros.{zero_at}
 use Rattle.adf_check.specs.Samples.{empty_lost}
 use Rattle.adf_check.specs.Store.{Store, stored, entered}
 use Rattle.adf_check.specs.Reading.{IsRead}
-use Rattle.adf_check.proofs.InBitmap.{first_store, map_begins}
-use Rattle.adf_check.proofs.InFiles.{leave_directory}
-use Rattle.adf_check.proofs.InRows.{all_read}
-use Rattle.adf_check.proofs.Strolls.{owners_of, page_then, enter_root, empty_slots, agree, agreeing, bit_is, lost_at}
+use Rattle.adf_check.specs.Image.{IsBegun}
+use Rattle.adf_check.proofs.Beginning.{first_store, owners_of}
+use Rattle.adf_check.proofs.BitmapSteps.{map_begins}
+use Rattle.adf_check.proofs.NodeSteps.{all_read, leave_directory}
+use Rattle.adf_check.proofs.Strolls.{page_then, enter_root, empty_slots, agree, agreeing, bit_is, lost_at}
 
 size : blocks empty_lost ≡ 6
 unfolding empty_lost with_bytes
@@ -28,7 +29,7 @@ page_is : word_in empty_lost 3 79 ≡ 4
 unfolding empty_lost block word with_bytes
 page_is = refl
 
-sound : AllHold (boot_demands empty_lost ++ root_demands empty_lost (root_of empty_lost))
+sound : IsBegun empty_lost
 unfolding empty_lost block word words with_bytes
 sound = ((refl, refl), (refl, (refl, (refl, (refl, (refl, (refl, (refl, (refl, tt)))))))))
 

@@ -1,28 +1,86 @@
 -- The steps along the extension blocks of a file.
-use Rattle.std.proofs.Common.{◌≡◌, ◌≢◌, ℕ, suc, List, [], ◌∷◌, ◌++◌, ◌+◌, ◌^◌, ◌<◌, ◌≤◌, length, set, Bool, true, false, cond, refl, sym, subst, arith, Some, None}
+use Rattle.std.proofs.Common.{◌≡◌, ◌≢◌, inl, inr, ℕ, zero, suc, List, [], ◌∷◌, ◌++◌, ◌^◌, ◌<◌, ◌≤◌, length, Bool, true, false, cond, refl, sym, ap, subst, ◌∙◌, arith, Some, None}
 use Rattle.std.specs.Prelude.{◌==◌}
-use Rattle.adf_fields.specs.Words.{block}
+use native.Mathlib.Decide.{dec_lt}
+use Rattle.adf_fields.specs.Words.{block, word}
 use Rattle.adf_blocks.specs.declared.cause.Cause.{Cause}
 use Rattle.adf_blocks.specs.Forms.{first_cause}
 use Rattle.adf_blocks.specs.ExtBlock.{ext_form}
-use Rattle.adf_volume.specs.declared.owner.Owner.{Owner}
-use Rattle.adf_volume.specs.declared.owner.Owner.TheVariants.{Free, Ext as AnExt}
-use Rattle.adf_volume.specs.Demands.{Demand, FirstFails}
+use Rattle.adf_volume.specs.declared.owner.Owner.TheVariants.{Free}
+use Rattle.adf_volume.specs.Demands.{Demand, AllHold, FirstFails, ext_demands}
 use Rattle.adf_volume.specs.Image.{word_in}
-use Rattle.adf_volume.specs.Walk.{FirstFault, Role, ext_count}
-use Rattle.adf_volume.specs.Walk.Role.{Root, Page, MapExt, Head, Ext, Data}
+use Rattle.adf_volume.specs.Lists.{At}
+use Rattle.adf_volume.specs.Walk.{Role, Asks, FileAt, MemberAt, form_demands, ext_count, IsWalk}
+use Rattle.adf_volume.specs.Walk.Role.{Ext}
 use Rattle.adf_volume.proofs.FormDemands.{all_demanded, first_demanded}
-use Rattle.adf_check.specs.Reading.{IsInExts}
-use Rattle.adf_check.specs.Store.{Store, owner_at}
-use Rattle.adf_check.proofs.InFiles.{ext_named, ext_form_at, ext_read}
-use Rattle.adf_check.proofs.PlainSteps.{plain_form}
-use Rattle.adf_check.proofs.Bounds.{walk_short}
-use Rattle.adf_check.proofs.Faults.{plain_claim}
-use Rattle.adf_check.proofs.Steps.{stored_is}
-use Rattle.adf_check.specs.Found.{InRange, IsClaimFault, IsTrueFault}
+use Rattle.adf_volume.proofs.Lists.{at_snoc, snoc_length}
+use Rattle.adf_volume.proofs.MemberFacts.{file_up, member_up}
+use Rattle.adf_volume.proofs.Walks.{file_is, one_block, one_head, count_own, ext_counted}
+use Rattle.adf_check.specs.Checks.{fault}
+use Rattle.adf_check.specs.Cursor.Cursor.{BeforeRole}
+use Rattle.adf_check.specs.Found.{InRange, IsTrueFault}
 use Rattle.adf_check.specs.Image.{IsBegun}
 use Rattle.adf_check.specs.Owners.{owned_count}
-use Rattle.adf_check.specs.declared.fault.Fault.{Fault}
+use Rattle.adf_check.specs.Reading.{HasTable, IsInDatas, IsInExts, IsInNode, NextExt}
+use Rattle.adf_check.specs.Store.{Store, owner_at}
+use Rattle.adf_check.proofs.Bounds.{walk_short}
+use Rattle.adf_check.proofs.ClaimSteps.{IsNamed, IsStored, form_fault, read_one}
+use Rattle.adf_check.proofs.Cursors.{enter_file, end_exts}
+
+-- a file's table begins with its header
+pub enter_exts : (image : List ℕ) (store : Store) (n h : ℕ) (st : IsInNode image store n) → FileAt image st.walk n h
+    → IsInExts image store n h (h ∷ []) h (word_in image h 126)
+enter_exts image store n h st file =
+    record {
+      walk = st.walk;
+      extra = 0;
+      read = record { tells = st.read.tells; started = st.read.started; upto = enter_file image st.walk n st.read.upto };
+      holds = record { file = file; members = member; counted = ap suc (sym none) };
+      counted = none;
+      named = (refl, refl);
+    }
+  where
+    member : (m c : ℕ) → At (h ∷ []) m c → MemberAt image st.walk n m c
+    member zero c x = subst (FileAt image st.walk n) x file
+    member (suc m) c x = absurd x
+
+    none : ext_count st.walk n ≡ 0
+    none =
+        elim (dec_lt 0 (ext_count st.walk n)) [
+          | yes u ↦
+              let x = ext_counted image st.read.upto.walk n 0 u in
+              let y = st.read.upto.below (Ext n 1) x.0 x.1 in
+              let z : 1 < 0 = y.2 refl refl in
+              absurd (omega arith)
+          | no u ↦ omega arith
+        ]
+
+exts_asks : (image : List ℕ) (w : List (Role × ℕ)) (n h j a b : ℕ) → FileAt image w n h → b ≢ 0 → NextExt image w n h j a b
+    → (i : ℕ) × Asks image w (Ext n (suc j)) a i × (word_in image a i ≡ b)
+exts_asks image w n h zero a b f ne x = (126, (subst (FileAt image w n) (sym x.0) f, refl, (λ z. ne (sym x.1 ∙ z))), x.1)
+exts_asks image w n h (suc j) a b f ne x = (126, (x.0, refl, (λ z. ne (sym x.1 ∙ z))), x.1)
+
+exts_no : (image : List ℕ) (w : List (Role × ℕ)) → IsWalk image w → (n h j a : ℕ) → FileAt image w n h → NextExt image w n h j a 0 → (c i : ℕ)
+    → Asks image w (Ext n (suc j)) c i → ⊥
+exts_no image w v n h zero a f x c i k =
+    let e : c ≡ h = (one_head image v n k.0.0.0 k.0.0.1 k.0.0.2 c f.0.0 f.0.1 f.0.2 h k.0.0.3 f.0.3).1 in
+    k.2 (ap (word_in image c) k.1 ∙ ap (λ a. word_in image a 126) (e ∙ sym x.0) ∙ x.1)
+exts_no image w v n h (suc j) a f x c i k =
+    let e : c ≡ a = (one_block image v (Ext n (suc j)) (Ext n (suc j)) c a k.0 x.0 (refl, refl, refl)).1 in
+    k.2 (ap (word_in image c) k.1 ∙ ap (λ a. word_in image a 126) e ∙ x.1)
+
+-- no extension block follows
+pub exts_end : (image : List ℕ) (store : Store) (n h : ℕ) (table : List ℕ) (a : ℕ) → IsInExts image store n h table a 0 → IsInDatas image store n h table 0
+exts_end image store n h table a st = record {
+  walk = st.walk;
+  read = record {
+    tells = st.read.tells;
+    started = st.read.started;
+    upto = end_exts image st.walk n (suc st.extra) (omega arith) st.read.upto
+        (exts_no image st.walk st.read.upto.walk n h st.extra a st.holds.file st.named);
+  };
+  holds = st.holds;
+}
 
 at_most_one : (t : Bool) (m : ℕ) → cond t (suc m) m ≤ suc m
 at_most_one true m = omega arith
@@ -34,40 +92,55 @@ exts_within [] n = omega arith
 exts_within (x ∷ w) n = more x.0 refl (exts_within w n)
   where
     more : (r : Role) → x.0 ≡ r → ext_count w n ≤ length w → ext_count (x ∷ w) n ≤ suc (length w)
-    more Root e within = subst (λ r. ext_count ((r, x.1) ∷ w) n ≤ suc (length w)) (sym e) (omega (arith, within))
-    more (Page i) e within = subst (λ r. ext_count ((r, x.1) ∷ w) n ≤ suc (length w)) (sym e) (omega (arith, within))
-    more (MapExt j) e within = subst (λ r. ext_count ((r, x.1) ∷ w) n ≤ suc (length w)) (sym e) (omega (arith, within))
-    more (Head m p s j) e within = subst (λ r. ext_count ((r, x.1) ∷ w) n ≤ suc (length w)) (sym e) (omega (arith, within))
-    more (Data m k) e within = subst (λ r. ext_count ((r, x.1) ∷ w) n ≤ suc (length w)) (sym e) (omega (arith, within))
     more (Ext m k) e within = subst (λ r. ext_count ((r, x.1) ∷ w) n ≤ suc (length w)) (sym e) (omega (arith, within, at_most_one (n == m) (ext_count w n)))
+    more _ e within = subst (λ r. ext_count ((r, x.1) ∷ w) n ≤ suc (length w)) (sym e) (omega (arith, within))
 
 -- so the table of a file is short
-pub table_short : (image : List ℕ) (store : Store) (n h : ℕ) (table : List ℕ) (a b : ℕ) → IsBegun image → store.used ≡ owned_count store.owners
+pub table_short : {image : List ℕ} {store : Store} {n h : ℕ} {table : List ℕ} {a b : ℕ} → IsBegun image → store.used ≡ owned_count store.owners
     → IsInExts image store n h table a b → length table < 2 ^ 32
-table_short image store n h table a b begun used st =
-    let e : length table ≡ suc st.extra = st.size in
-    let c : ext_count st.walk n ≡ st.extra = st.counted in
+table_short {image = image} {store = store} {n = n} {table = table} begun used st =
+    let e : length table ≡ suc (ext_count st.walk n) = st.holds.counted in
     let within : ext_count st.walk n ≤ length st.walk = exts_within st.walk n in
-    let short = walk_short image store st.walk begun used st.tells in
+    let short = walk_short image store st.walk begun used st.read.tells in
     omega arith
 
 -- a word of block a names block b next
-module _ (image : List ℕ) (store : Store) (n h : ℕ) (table : List ℕ) (a b : ℕ) (begun : IsBegun image) (st : IsInExts image store n h table a b)
+module _ {image : List ℕ} {store : Store} {n h : ℕ} {table : List ℕ} {a b : ℕ} (begun : IsBegun image) (st : IsInExts image store n h table a b)
     (ne : b ≢ 0) where
-  pub ext_claim : (f : Fault) → IsClaimFault store.owners a b f → IsTrueFault image f
-  ext_claim f k = plain_claim image store (Ext n (suc st.extra)) a b f begun tt (ext_named image store n h table a b ne st) tt k
+  pub ext_named : IsNamed image store st.walk (Ext n (suc st.extra)) a b
+  ext_named =
+      let q = exts_asks image st.walk n h st.extra a b st.holds.file ne st.named in
+      record { begun = begun; read = st.read; index = q.0; asked = q.1; names = q.2 }
 
-  pub ext_fault : (c : Cause) → InRange (length store.owners) b → owner_at store.owners b ≡ Free → first_cause (ext_form b h (block image b)) ≡ Some c
-      → FirstFault image b c
-  ext_fault c r free f =
-      plain_form image store (Ext n (suc st.extra)) a b begun tt (ext_named image store n h table a b ne st) c tt r.0
-      (subst (λ n. b < n) st.tells.owns.size r.1) free
-      (ext_form_at image store n h table a b b st (λ (ds : List Demand). FirstFails ds b c) (first_demanded b (ext_form b h (block image b)) c f))
+  form_at : (P : List Demand → Type 0) → P (ext_demands image b h) → P (form_demands image st.walk (Ext n (suc st.extra)) b)
+  form_at P = subst (λ h. P (ext_demands image b h)) (sym (file_is image st.walk n h st.read.upto.walk st.holds.file))
 
-  pub ext_done : (owners : List Owner) (used : ℕ) → InRange (length store.owners) b → owner_at store.owners b ≡ Free
-      → owners ≡ set store.owners b (AnExt n (length table)) → used ≡ store.used + 1 → first_cause (ext_form b h (block image b)) ≡ None
-      → IsInExts image (record { owners = owners; rows = store.rows; starts = store.starts; exts = store.exts ++ b ∷ []; datas = store.datas; used = used })
-      n h (table ++ b ∷ []) b (word_in image b 126)
-  ext_done owners used r free o u f =
-      subst (λ s. IsInExts image s n h (table ++ b ∷ []) b (word_in image b 126)) (stored_is store owners used (Ext n (length table)) b o u)
-      (ext_read image store n h table a b begun ne st r.0 (subst (λ n. b < n) st.tells.owns.size r.1) free (all_demanded b (ext_form b h (block image b)) f))
+  -- what was read of it
+  module _ (range : InRange (length store.owners) b) (free : owner_at store.owners b ≡ Free) {bytes : List ℕ} (is_block : bytes ≡ block image b) where
+    pub ext_fault : (c : Cause) → first_cause (ext_form b h bytes) ≡ Some c → IsTrueFault image (fault b c)
+    ext_fault c f = form_fault ext_named tt range free c (form_at (λ ds. FirstFails ds b c)
+        (first_demanded b (ext_form b h (block image b)) c (ap (λ x. first_cause (ext_form b h x)) (sym is_block) ∙ f)))
+
+    pub ext_done : first_cause (ext_form b h bytes) ≡ None → {ext : List ℕ} → ext ≡ bytes → {next : ℕ} → next ≡ word ext 126 → {longer : List ℕ}
+        → longer ≡ table ++ b ∷ [] → {new : Store} → IsStored store new (Ext n (length table)) b → IsInExts image new n h longer b next
+    ext_done f same next_is longer_is {new = new} stored =
+        let r : Role = Ext n (suc st.extra) in
+        let number : length table ≡ suc st.extra = st.holds.counted ∙ ap suc st.counted in
+        let form = all_demanded b (ext_form b h (block image b)) (ap (λ x. first_cause (ext_form b h x)) (sym is_block) ∙ f) in
+        let one : ext_count ((r, b) ∷ st.walk) n ≡ suc (ext_count st.walk n) = count_own n (suc st.extra) (ext_count st.walk n) in
+        record {
+          walk = (r, b) ∷ st.walk;
+          extra = suc st.extra;
+          read = read_one ext_named tt range free (form_at AllHold form) tt (subst (λ k. IsStored store new (Ext n k) b) number stored)
+              (BeforeRole (Ext n (suc (suc st.extra)))) (refl, refl, refl, refl);
+          holds = subst (HasTable image ((r, b) ∷ st.walk) n h) (sym longer_is) (record {
+            file = file_up image st.walk (r, b) n h st.holds.file;
+            members = (λ m c x. elim (at_snoc table b m c x) [
+              | inl y ↦ member_up image st.walk (r, b) n m c (st.holds.members m c y)
+              | inr y ↦ subst (λ m. MemberAt image ((r, b) ∷ st.walk) n m c) (sym number ∙ sym y.0) (inl (refl, y.1))
+            ]);
+            counted = snoc_length table b ∙ ap suc (st.holds.counted ∙ sym one);
+          });
+          counted = one ∙ ap suc st.counted;
+          named = (inl (refl, refl), ap (λ x. word x 126) (sym (same ∙ is_block)) ∙ sym next_is);
+        }

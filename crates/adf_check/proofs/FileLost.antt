@@ -1,24 +1,29 @@
 -- The first fault of a volume with a file and a lost block.
-use Rattle.std.proofs.Common.{◌≡◌, ℕ, List, [], ◌∷◌, ◌++◌, inl, inr, ◌+◌, ◌-◌, ◌/◌, ◌<◌, ◌≤◌, refl, sym, ap, subst, ◌∙◌, arith, true, false, ◌⊎◌}
-use Rattle.std.specs.Prelude.{◌↔◌, cond, nat_lt, slice_index}
+use Rattle.std.proofs.Common.{suc, set, ◌≡◌, ℕ, List, [], ◌∷◌, inl, inr, ◌+◌, ◌-◌, ◌<◌, ◌≤◌, refl, sym, ap, subst, ◌∙◌, arith, true, false, ◌⊎◌}
+use Rattle.std.specs.Prelude.{◌↔◌}
 use Rattle.adf_fields.specs.Words.{block, word, words, with_bytes}
 use Rattle.adf_tree.specs.Texts.{uppers}
 use Rattle.adf_blocks.specs.Sizes.{blocks, chunk, count, pages_needed}
 use Rattle.adf_blocks.specs.declared.cause.Cause.TheVariants.{LostBlock}
-use Rattle.adf_volume.specs.Image.{word_in, root_of, kind_of, name_of, held, table_word}
-use Rattle.adf_volume.specs.Demands.{AllHold, boot_demands, root_demands, page_demands, head_demands, data_demands}
-use Rattle.adf_volume.specs.Walk.{FirstFault, data_count}
+use Rattle.adf_volume.specs.Image.{word_in, root_of, kind_of, name_of, held}
+use Rattle.adf_volume.specs.Demands.{AllHold, page_demands, head_demands, data_demands}
+use Rattle.adf_volume.specs.Walk.{FirstFault, data_count, heads}
+use Rattle.adf_volume.specs.declared.owner.Owner.TheVariants.{Head as AHead}
 use Rattle.adf_volume.specs.Walk.Role.{Page, Head, Data}
 use Rattle.adf_volume.proofs.Zeros.{zero_at}
 use Rattle.adf_check.specs.Samples.{file_lost}
 use Rattle.adf_check.specs.Store.{Store, stored, entered}
-use Rattle.adf_check.specs.Reading.{IsRead, IsAtSlot, IsInChain, IsAtNode, IsInExts, IsInDatas}
-use Rattle.adf_check.proofs.Stores.{enter_node}
-use Rattle.adf_check.proofs.InBitmap.{first_store, map_begins}
-use Rattle.adf_check.proofs.InChains.{chain_begins, chain_ends, next_chain}
-use Rattle.adf_check.proofs.InFiles.{leave_directory, enter_exts, exts_end, data_read, datas_end}
-use Rattle.adf_check.proofs.InRows.{all_read, file_here}
-use Rattle.adf_check.proofs.Strolls.{owners_of, page_then, enter_root, empty_slots, no_name, agree, agreeing, bit_is, lost_at}
+use Rattle.adf_check.specs.Reading.{next_head, IsRead, IsAtSlot, IsInChain, IsAtNode, IsInExts, IsInDatas}
+use Rattle.adf_check.specs.Files.{next_of}
+use Rattle.adf_check.specs.Image.{IsBegun}
+use Rattle.adf_check.proofs.Beginning.{first_store, owners_of}
+use Rattle.adf_check.proofs.BitmapSteps.{map_begins}
+use Rattle.adf_check.proofs.ChainSteps.{chain_begins, chain_ends, next_chain}
+use Rattle.adf_check.proofs.ClaimSteps.{IsStored, is_stored}
+use Rattle.adf_check.proofs.DataSteps.{data_done, datas_end}
+use Rattle.adf_check.proofs.ExtSteps.{exts_end}
+use Rattle.adf_check.proofs.NodeSteps.{all_read, enter_node, file_begins, leave_directory}
+use Rattle.adf_check.proofs.Strolls.{page_then, enter_root, empty_slots, no_name, agree, agreeing, bit_is, lost_at}
 
 -- the image
 size : blocks file_lost ≡ 16
@@ -36,7 +41,7 @@ page_is : word_in file_lost 8 79 ≡ 9
 unfolding file_lost block word with_bytes
 page_is = refl
 
-sound : AllHold (boot_demands file_lost ++ root_demands file_lost (root_of file_lost))
+sound : IsBegun file_lost
 unfolding file_lost block word words with_bytes
 sound = ((refl, refl), (refl, (refl, (refl, (refl, (refl, (refl, (refl, (refl, tt)))))))))
 
@@ -126,8 +131,12 @@ grows x = ((λ h. inr h), (λ h. elim h [ inl y ↦ absurd y | inr y ↦ y ]))
 behind_head : IsInChain file_lost at_head 0 8 6 2 0 one_name
 unfolding at_head at_slots
 behind_head = subst (λ b. IsInChain file_lost at_head 0 8 6 2 b one_name) no_next
-    (next_chain file_lost at_slots 0 8 6 8 2 no_name (omega arith) sound at_chain (λ e. omega arith) (omega arith)
-    (subst (λ n. 2 < n) (sym size) (omega arith)) refl head_form (λ h. h) one_name grows)
+    (next_chain (omega arith) sound at_chain (λ e. omega arith) (omega arith) refl head_form (λ h. h) one_name grows stored_head)
+  where
+    stored_head : IsStored at_slots at_head (next_head at_chain.walk 0 6 at_chain.place) 2
+    stored_head =
+        let first : 0 ≡ heads at_chain.walk = at_chain.read.tells.lists.count in
+        record { owners = ap (λ n. set at_slots.owners 2 (AHead (suc n))) first; rows = refl; starts = refl; exts = refl; datas = refl; used = omega arith }
 
 behind_root : IsAtNode file_lost at_head 1
 behind_root = leave_directory file_lost at_head 0 8
@@ -138,29 +147,32 @@ before_datas : IsInDatas file_lost at_file 1 2 (2 ∷ []) 0
 unfolding at_file at_head at_slots
 before_datas =
     let st = enter_node file_lost at_head 1 behind_root in
-    let ex = enter_exts file_lost at_file 1 2 st (λ w t v. file_here file_lost at_file w t v 0 (record { parent = 0; head = 2 }) refl
-    (λ e. let z : 0xFFFFFFFD ≡ 2 = sym is_file ∙ e in omega arith)) in
+    let ex = file_begins {i = 0} {row = record { parent = 0; head = 2 }} sound refl (omega arith) refl st
+    (λ e. let z : 0xFFFFFFFD ≡ 2 = sym is_file ∙ e in omega arith) in
     exts_end file_lost at_file 1 2 (2 ∷ []) 2 (subst (λ b. IsInExts file_lost at_file 1 2 (2 ∷ []) 2 b) no_ext ex)
 
-next_first : 4 ≡ cond (nat_lt 1 (data_count file_lost 2)) (word_in file_lost (slice_index (2 ∷ []) (1 / 72)) (table_word 1)) 0
+next_first : 4 ≡ next_of file_lost (2 ∷ []) (data_count file_lost 2) 1
 unfolding file_lost block word with_bytes kind_of count chunk
 next_first = refl
 
-next_second : 0 ≡ cond (nat_lt 2 (data_count file_lost 2)) (word_in file_lost (slice_index (2 ∷ []) (2 / 72)) (table_word 2)) 0
+next_second : 0 ≡ next_of file_lost (2 ∷ []) (data_count file_lost 2) 2
 unfolding file_lost block word with_bytes kind_of count chunk
 next_second = refl
 
+few_datas : data_count file_lost 2 ≤ 72
+few_datas = subst (λ n. n ≤ 72) (sym two_datas) (omega arith)
+
 behind_first : IsInDatas file_lost (stored at_file (Data 1 1) 3) 1 2 (2 ∷ []) 1
 unfolding at_file at_head at_slots
-behind_first = data_read file_lost at_file 1 2 (2 ∷ []) 0 before_datas sound (subst (λ n. 0 < n) (sym two_datas) (omega arith))
-    (subst (λ n. n ≤ 72) (sym two_datas) (omega arith)) 2 3 4 refl names_first (omega arith)
-    (subst (λ n. 3 < n) (sym size) (omega arith)) refl next_first first_form
+behind_first = data_done sound before_datas few_datas (subst (λ n. 0 < n) (sym two_datas) (omega arith)) (sym names_first) (omega arith) refl
+    (subst (λ y. AllHold (data_demands file_lost (kind_of file_lost) 3 2 1 (held (kind_of file_lost) (word_in file_lost 2 81) 1) y)) next_first first_form)
+    (is_stored at_file (Data 1 1) 3)
 
 behind_second : IsInDatas file_lost at_end 1 2 (2 ∷ []) 2
 unfolding at_end at_file at_head at_slots
-behind_second = data_read file_lost (stored at_file (Data 1 1) 3) 1 2 (2 ∷ []) 1 behind_first sound (subst (λ n. 1 < n) (sym two_datas) (omega arith))
-    (subst (λ n. n ≤ 72) (sym two_datas) (omega arith)) 2 4 0 refl names_second (omega arith)
-    (subst (λ n. 4 < n) (sym size) (omega arith)) refl next_second second_form
+behind_second = data_done sound behind_first few_datas (subst (λ n. 1 < n) (sym two_datas) (omega arith)) (sym names_second) (omega arith) refl
+    (subst (λ y. AllHold (data_demands file_lost (kind_of file_lost) 4 2 2 (held (kind_of file_lost) (word_in file_lost 2 81) 2) y)) next_second second_form)
+    (is_stored (stored at_file (Data 1 1) 3) (Data 1 2) 4)
 
 read : IsRead file_lost at_end
 unfolding at_end at_file at_head at_slots

@@ -1,17 +1,23 @@
--- The steps along the nodes.
-use Rattle.std.proofs.Common.{◌≡◌, ◌≢◌, ℕ, zero, suc, List, [], ◌∷◌, ◌<◌, length, get_or, refl, arith}
+-- The steps along the nodes: each is begun, and what its header names is read.
+use Rattle.std.proofs.Common.{◌≡◌, ◌≢◌, inl, inr, ℕ, zero, suc, List, [], ◌∷◌, ◌<◌, ◌≤◌, length, get_or, Some, refl, sym, ap, subst, ◌∙◌, arith}
 use Rattle.adf_blocks.specs.Sizes.{blocks}
-use Rattle.adf_volume.specs.Image.{DIR, root_of, word_in}
+use Rattle.adf_volume.specs.Image.{DIR, kind_of, root_of, word_in}
 use Rattle.adf_volume.specs.Lists.{At}
-use Rattle.adf_volume.specs.Walk.Role.{Head}
-use Rattle.adf_volume.proofs.MemberFacts.{in_range}
+use Rattle.adf_volume.specs.Walk.{Role, Has, heads, DirAt, FileAt, IsWalk}
+use Rattle.adf_volume.specs.Walk.Role.{Root, Head, Ext, Data}
+use Rattle.adf_volume.proofs.FormDemands.{head_type}
+use Rattle.adf_volume.proofs.Lists.{at_below, at_fun, at_snoc, snoc_length}
+use Rattle.adf_volume.proofs.MemberFacts.{in_range, kept}
+use Rattle.adf_volume.proofs.Walks.{numbered, root_in}
 use Rattle.adf_check.specs.declared.kept.KeptHeader.{KeptHeader}
-use Rattle.adf_check.specs.Reading.{IsAtSlot, IsInExts, IsInNode}
-use Rattle.adf_check.specs.Store.{Store}
-use Rattle.adf_check.proofs.InFiles.{enter_directory, enter_exts}
-use Rattle.adf_check.proofs.InRows.{node_here, dir_here, file_here, root_here}
-use Rattle.adf_check.proofs.Bounds.{many_blocks}
+use Rattle.adf_check.specs.declared.kept.Start.{Start}
 use Rattle.adf_check.specs.Image.{IsBegun}
+use Rattle.adf_check.specs.Reading.{IsAtNode, IsAtSlot, IsInExts, IsInNode, IsRead}
+use Rattle.adf_check.specs.Store.{Store, StoreMatches, blocks_before, data_file, entered, ext_file}
+use Rattle.adf_check.proofs.Bounds.{many_blocks}
+use Rattle.adf_check.proofs.Cursors.{enter_dir, end_dir, end_all}
+use Rattle.adf_check.proofs.ExtSteps.{enter_exts}
+use Rattle.adf_check.proofs.FileBlocks.{all_before, data_tells, ext_tells}
 
 -- the row at a place
 pub row_at : (rows : List KeptHeader) (i : ℕ) (d : KeptHeader) → i < length rows → At rows i (get_or rows i d)
@@ -19,22 +25,117 @@ row_at [] i d lt = absurd (omega arith)
 row_at (r ∷ rows) zero d lt = refl
 row_at (r ∷ rows) (suc i) d lt = row_at rows i d (omega arith)
 
-pub root_begins : (image : List ℕ) (store : Store) (a : ℕ) → a ≡ root_of image → IsInNode image store 0 → IsAtSlot image store 0 a 0
-root_begins image store a e st = enter_directory image store 0 a st (λ w t v. root_here image store w t v a e)
+-- the next node is begun
+pub enter_node : (image : List ℕ) (store : Store) (n : ℕ) → IsAtNode image store n → IsInNode image (entered store) n
+enter_node image store n st = record {
+  walk = st.walk;
+  read = record {
+    tells = record {
+      owns = st.read.tells.owns;
+      lists = st.read.tells.lists;
+      exts = st.read.tells.exts;
+      datas = st.read.tells.datas;
+      used = st.read.tells.used;
+      starts = (λ m x a. elim (at_snoc store.starts (record { exts = length store.exts; datas = length store.datas }) m x a) [
+        | inl y ↦ st.read.tells.starts m x y
+        | inr y ↦
+            let e : n ≡ m = let z : length store.starts ≡ n = st.read.started in let z2 : m ≡ length store.starts = y.0 in omega arith in (
+              ap (λ (x : Start). x.exts) (sym y.1) ∙ ap length st.read.tells.exts
+                  ∙ all_before image ext_file ext_tells st.walk n exts_low ∙ ap (blocks_before ext_file st.walk) e,
+              ap (λ (x : Start). x.datas) (sym y.1) ∙ ap length st.read.tells.datas
+                  ∙ all_before image data_file data_tells st.walk n datas_low ∙ ap (blocks_before data_file st.walk) e,
+            )
+      ]);
+    };
+    started = snoc_length store.starts (record { exts = length store.exts; datas = length store.datas }) ∙ ap suc st.read.started;
+    upto = st.read.upto;
+  };
+}
+  where
+    exts_low : (r : Role) (b m : ℕ) → Has st.walk r b → ext_file r ≡ Some m → m < n
+    exts_low (Ext q k) b m h e =
+        let x = st.read.upto.below (Ext q k) b h in
+        let x0 : suc q ≤ suc n = x.0 in
+        let ne : suc q ≡ suc n → ⊥ = (λ e. let z : k < 0 = x.2 e refl in omega arith) in
+        let z : q ≡ m = cc in
+        omega arith
+    exts_low _ b m h e = cc
 
--- node i + 1, whose row is r
-module _ (image : List ℕ) (store : Store) (i : ℕ) (d : KeptHeader) (begun : IsBegun image) (lt : i < length store.rows) where
-  abbrev pub head : ℕ
-  head = (get_or store.rows i d).head
+    datas_low : (r : Role) (b m : ℕ) → Has st.walk r b → data_file r ≡ Some m → m < n
+    datas_low (Data q k) b m h e =
+        let x = st.read.upto.below (Data q k) b h in
+        let x0 : suc q ≤ suc n = x.0 in
+        let ne : suc q ≡ suc n → ⊥ = (λ e. let z : 1 ≤ 0 = x.1 e in omega arith) in
+        let z : q ≡ m = cc in
+        omega arith
+    datas_low _ b m h e = cc
 
-  pub head_inside : IsInNode image store (suc i) → head < blocks image
-  head_inside st =
-      let x = node_here image store st.walk st.tells st.upto.walk i (get_or store.rows i d) (row_at store.rows i d lt) in
-      (in_range image st.upto.walk (many_blocks image begun) (Head (suc i) x.0 x.1 x.2) head x.3).1
+-- the node of a row
+module _ (image : List ℕ) (store : Store) (w : List (Role × ℕ)) (t : StoreMatches image store w) (v : IsWalk image w) where
+  pub node_here : (i : ℕ) (r : KeptHeader) → At store.rows i r → (p s j : ℕ) × Has w (Head (suc i) p s j) r.head
+  node_here i r h =
+      let c : length store.rows ≡ heads w = t.lists.count in
+      let u : i < length store.rows = at_below store.rows i r h in
+      let k = numbered image v (suc i) (omega arith) (omega arith) in
+      let z : r ≡ record { parent = k.0; head = k.3 } = at_fun store.rows i r (record { parent = k.0; head = k.3 }) h (t.lists.row i k.0 k.1 k.2 k.3 k.4) in
+      (k.0, k.1, k.2, subst (Has w (Head (suc i) k.0 k.1 k.2)) (ap (λ (x : KeptHeader). x.head) (sym z)) k.4)
 
-  pub directory_begins : word_in image head 127 ≡ DIR → IsInNode image store (suc i) → IsAtSlot image store (suc i) head 0
-  directory_begins e st =
-      enter_directory image store (suc i) head st (λ w t v. dir_here image store w t v i (get_or store.rows i d) (row_at store.rows i d lt) e)
+  pub file_here : (i : ℕ) (r : KeptHeader) → At store.rows i r → word_in image r.head 127 ≢ DIR → FileAt image w (suc i) r.head
+  file_here i r h d =
+      let x = node_here i r h in
+      let k = (kept image v (Head (suc i) x.0 x.1 x.2) r.head x.3).2 in (
+        x,
+        elim (head_type image (kind_of image) r.head k.0 x.1 k.2) [ inl e ↦ absurd (d e) | inr e ↦ e ],
+      )
 
-  pub file_begins : word_in image head 127 ≢ DIR → IsInNode image store (suc i) → IsInExts image store (suc i) head (head ∷ []) head (word_in image head 126)
-  file_begins e st = enter_exts image store (suc i) head st (λ w t v. file_here image store w t v i (get_or store.rows i d) (row_at store.rows i d lt) e)
+-- a directory's slots are next
+pub enter_directory : (image : List ℕ) (store : Store) (n a : ℕ) (st : IsInNode image store n) → DirAt image st.walk n a → IsAtSlot image store n a 0
+enter_directory image store n a st dir = record {
+  walk = st.walk;
+  read = record { tells = st.read.tells; started = st.read.started; upto = enter_dir image st.walk n a dir st.read.upto };
+  dir = dir;
+}
+
+-- they are read
+pub leave_directory : (image : List ℕ) (store : Store) (n a : ℕ) → IsAtSlot image store n a 72 → IsAtNode image store (suc n)
+leave_directory image store n a st = record {
+  walk = st.walk;
+  read = record { tells = st.read.tells; started = st.read.started; upto = end_dir image st.walk n st.read.upto };
+}
+
+pub root_begins : (image : List ℕ) (store : Store) (n a : ℕ) → n ≡ 0 → a ≡ root_of image → IsInNode image store n → IsAtSlot image store n a 0
+root_begins image store n a z e st =
+    enter_directory image store n a st (subst (λ n. DirAt image st.walk n a) (sym z) (subst (Has st.walk Root) (sym e) (root_in image st.read.upto.walk)))
+
+-- the next node is n, of row i
+module _ {image : List ℕ} {store : Store} {n i : ℕ} {row : KeptHeader} (begun : IsBegun image) (node : n ≡ suc i) (within : n ≤ length store.rows)
+    (row_is : row ≡ get_or store.rows i row) (st : IsInNode image store n) where
+  here : At store.rows i row
+  here = subst (At store.rows i) (sym row_is) (row_at store.rows i row (omega arith))
+
+  pub head_inside : row.head < blocks image
+  head_inside =
+      let x = node_here image store st.walk st.read.tells st.read.upto.walk i row here in
+      (in_range image st.read.upto.walk (many_blocks image begun) (Head (suc i) x.0 x.1 x.2) row.head x.3).1
+
+  pub directory_begins : word_in image row.head 127 ≡ DIR → IsAtSlot image store n row.head 0
+  directory_begins e =
+      enter_directory image store n row.head st (subst (λ n. DirAt image st.walk n row.head) (sym node)
+      (node_here image store st.walk st.read.tells st.read.upto.walk i row here, e))
+
+  pub file_begins : word_in image row.head 127 ≢ DIR → IsInExts image store n row.head (row.head ∷ []) row.head (word_in image row.head 126)
+  file_begins e =
+      enter_exts image store n row.head st (subst (λ n. FileAt image st.walk n row.head) (sym node)
+      (file_here image store st.walk st.read.tells st.read.upto.walk i row here e))
+
+-- behind the last node all is read
+pub all_read : (image : List ℕ) (store : Store) (n : ℕ) → n ≡ suc (length store.rows) → IsAtNode image store n → IsRead image store
+all_read image store n e st = record {
+  walk = st.walk;
+  read = record {
+    tells = st.read.tells;
+    started = st.read.started ∙ e;
+    is_walk = st.read.upto.walk;
+    whole = let c : length store.rows ≡ heads st.walk = st.read.tells.lists.count in end_all image st.walk n (omega arith) st.read.upto;
+  };
+}

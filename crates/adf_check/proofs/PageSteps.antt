@@ -1,111 +1,172 @@
 -- The steps along the bitmap pages and the bitmap extension blocks.
-use Rattle.std.proofs.Common.{◌≡◌, ℕ, zero, suc, List, [], ◌∷◌, ◌++◌, ◌+◌, ◌-◌, ◌*◌, ◌/◌, ◌%◌, ◌<◌, ◌≤◌}
-use Rattle.std.proofs.Common.{length, set, sym, subst, arith, Some, None}
-use Rattle.std.specs.Prelude.{slice_index}
+use Rattle.std.proofs.Common.{◌≡◌, inl, inr, ℕ, zero, suc, List, [], ◌∷◌, ◌++◌, ◌+◌, ◌-◌, ◌*◌, ◌/◌, ◌%◌, ◌<◌, ◌≤◌, length, refl, sym, ap, subst, ◌∙◌, arith, Some, None}
+use Rattle.std.specs.Prelude.{nat_lt, slice_index}
+use Rattle.std.proofs.lemmas.Bool.{cond-true, cond-false, le-ltb, lt-ltb}
 use Rattle.std.proofs.lemmas.Bool.Decides.{nat_tests}
+use native.Mathlib.Decide.{dec_lt}
 use Rattle.adf_fields.specs.Words.{block}
 use Rattle.adf_blocks.specs.declared.cause.Cause.{Cause}
 use Rattle.adf_blocks.specs.Forms.{first_cause}
 use Rattle.adf_blocks.specs.PageBlock.{page_form}
 use Rattle.adf_blocks.specs.Sizes.{blocks, pages_needed}
-use Rattle.adf_volume.specs.declared.owner.Owner.{Owner}
-use Rattle.adf_volume.specs.declared.owner.Owner.TheVariants.{Free, Page as APage, MapExt as AMapExt}
-use Rattle.adf_volume.specs.Image.{word_in}
-use Rattle.adf_volume.specs.Walk.{FirstFault}
+use Rattle.adf_volume.specs.declared.owner.Owner.TheVariants.{Free}
+use Rattle.adf_volume.specs.Demands.{AllHold, page_demands}
+use Rattle.adf_volume.specs.Image.{root_of, word_in}
+use Rattle.adf_volume.specs.Walk.{Role, Has, NamesPage, Asks, IsWalk}
 use Rattle.adf_volume.specs.Walk.Role.{MapExt, Page}
 use Rattle.adf_volume.proofs.FormDemands.{all_demanded, first_demanded}
-use Rattle.adf_check.specs.Reading.{IsAtPage, IsBeforePage, IsListed, IsNamed, block_of_page}
-use Rattle.adf_check.specs.Store.{Store, owner_at, stored}
-use Rattle.adf_check.proofs.InPages.{listed_more, map_ext_read, map_ext_state, page_by_words, page_read, page_state}
-use Rattle.adf_check.proofs.PlainSteps.{plain_form}
-use Rattle.adf_check.proofs.Faults.{plain_claim}
-use Rattle.adf_check.proofs.Steps.{stored_is}
-use Rattle.adf_check.specs.Found.{InRange, IsClaimFault, IsTrueFault}
+use Rattle.adf_volume.proofs.Lists.{at_snoc, snoc_length}
+use Rattle.adf_volume.proofs.MemberFacts.{kept}
+use Rattle.adf_check.specs.Checks.{fault}
+use Rattle.adf_check.specs.Cursor.{IsUpTo}
+use Rattle.adf_check.specs.Cursor.Cursor.{BeforePage, BeforeRole}
+use Rattle.adf_check.specs.Found.{InRange, IsTrueFault}
 use Rattle.adf_check.specs.Image.{IsBegun}
 use Rattle.adf_check.specs.Pages.{AreListed, index_of_map_ext, index_of_page}
-use Rattle.adf_check.specs.declared.fault.Fault.{Fault}
+use Rattle.adf_check.specs.Reading.{IsAtNode, IsAtPage, IsBeforePage, block_of_page, map_ext_block}
+use Rattle.adf_check.specs.Store.{Store, owner_at}
+use Rattle.adf_check.proofs.ClaimSteps.{IsNamed, IsStored, form_fault, read_one}
+use Rattle.adf_check.proofs.Cursors.{end_all_pages}
 
--- the words of the root that name pages, and those of bitmap extension blocks
-in_root : (i : ℕ) → i < 25 → index_of_page i ≡ 79 + i
-in_root i h = grind (arith, nat_tests)
+-- the word that names a page
+index_is : (image : List ℕ) (w : List (Role × ℕ)) (k a n : ℕ) → NamesPage image w k a n → index_of_page k ≡ n
+index_is image w k a n (inl x) = let y : k < 25 = x.0 in let z : n ≡ 79 + k = x.2 in grind (arith, nat_tests)
+index_is image w k a n (inr x) =
+    let y : k ≡ 25 + 127 * x.0 + n = x.3 in
+    let l : n < 127 = x.2 in
+    let i : index_of_page k ≡ (k - 25) % 127 = cond-false (nat_lt k 25) (79 + k) ((k - 25) % 127) (le-ltb k 25 (omega arith)) in
+    omega arith
 
-in_map_ext : (i : ℕ) → 25 ≤ i → index_of_page i ≡ (i - 25) % 127
-in_map_ext i h = grind (arith, nat_tests)
+-- where no bitmap extension block comes before page k
+no_ext_names : (image : List ℕ) (w : List (Role × ℕ)) (k a : ℕ) → (k ≤ 25 → a ≡ root_of image)
+    → ((j : ℕ) → 25 + 127 * j < k → k ≤ 25 + 127 * suc j → Has w (MapExt j) a) → (25 ≤ k → 0 < (k - 25) % 127) → (i : ℕ) × NamesPage image w k a i
+no_ext_names image w k a f g h =
+    elim (dec_lt k 25) [
+      | yes l ↦ (79 + k, inl (l, f (omega arith), refl))
+      | no l ↦
+          let x : 0 < (k - 25) % 127 = h (omega arith) in
+          ((k - 25) % 127, inr ((k - 25) / 127, g ((k - 25) / 127) (omega arith) (omega arith), omega arith, omega arith))
+    ]
 
-of_root : (i : ℕ) → i ≡ 25 → index_of_map_ext i ≡ 104
-of_root i h = grind (arith, nat_tests)
+pub same_holder : (image : List ℕ) (store : Store) (k a : ℕ) → IsBeforePage image store k a → (25 ≤ k → 0 < (k - 25) % 127) → IsAtPage image store k a
+same_holder image store k a st h =
+    let x = no_ext_names image st.walk k a st.at_root st.at_ext h in
+    let z : k + (k + 101) / 127 ≡ k + (k + 102) / 127 =
+    elim (dec_lt k 25) [ yes l ↦ omega arith | no l ↦ let y : 0 < (k - 25) % 127 = h (omega arith) in omega arith ] in
+    record {
+      walk = st.walk;
+      read = record { tells = st.read.tells; started = st.read.started; upto = subst (IsUpTo image st.walk 0 1) z st.read.upto };
+      index = x.0;
+      named = x.1;
+    }
 
-of_map_ext : (i : ℕ) → 25 < i → index_of_map_ext i ≡ 127
-of_map_ext i h = grind (arith, nat_tests)
+-- behind the last page
+pub pages_end : (image : List ℕ) (store : Store) (a : ℕ) → IsBeforePage image store (pages_needed (blocks image)) a → IsAtNode image store 0
+pages_end image store a st = record {
+  walk = st.walk;
+  read = record { tells = st.read.tells; started = st.read.started; upto = end_all_pages image st.walk st.read.upto };
+}
 
--- what is kept, with other owners
-abbrev pub owned_by : Store → List Owner → ℕ → Store
-owned_by store owners used = record { owners = owners; rows = store.rows; starts = store.starts; exts = store.exts; datas = store.datas; used = used }
+-- pages by the words alone
+map_ext_is : (image : List ℕ) (w : List (Role × ℕ)) (j a : ℕ) → IsWalk image w → Has w (MapExt j) a → map_ext_block image j ≡ a
+map_ext_is image w zero a v h = (kept image v (MapExt 0) a h).1
+map_ext_is image w (suc j) a v h = let k = (kept image v (MapExt (suc j)) a h).1 in ap (λ a. word_in image a 127) (map_ext_is image w j k.0 v k.1) ∙ k.2
+
+names_is : (image : List ℕ) (w : List (Role × ℕ)) (k b a i : ℕ) → IsWalk image w → NamesPage image w k a i → word_in image a i ≡ b → block_of_page image k ≡ b
+names_is image w k b a i v (inl x) e =
+    cond-true (nat_lt k 25) _ _ (lt-ltb k 25 x.0) ∙ ap (word_in image (root_of image)) (sym x.2) ∙ ap (λ a. word_in image a i) (sym x.1) ∙ e
+names_is image w k b a i v (inr x) e =
+    let y : k ≡ 25 + 127 * x.0 + i = x.3 in
+    let l : i < 127 = x.2 in
+    let ej : (k - 25) / 127 ≡ x.0 = omega arith in
+    let ei : (k - 25) % 127 ≡ i = omega arith in
+    cond-false (nat_lt k 25) _ _ (le-ltb k 25 (omega arith))
+    ∙ ap (word_in image (map_ext_block image ((k - 25) / 127))) ei ∙ ap (λ j. word_in image (map_ext_block image j) i) ej
+    ∙ ap (λ a. word_in image a i) (map_ext_is image w x.0 a v x.1) ∙ e
+
+pub page_is : (image : List ℕ) (w : List (Role × ℕ)) (k b : ℕ) → IsWalk image w → Has w (Page k) b → block_of_page image k ≡ b
+page_is image w k b v h = let x = (kept image v (Page k) b h).1 in names_is image w k b x.0 x.1 v x.2 x.3
 
 -- page i comes next, and a word of block a names it as block b
-pub record IsPageNext (image : List ℕ) (store : Store) (i a b : ℕ) : Type 0 where
-  pub begun : IsBegun image
-  pub needed : i < pages_needed (blocks image)
-  pub state : IsAtPage image store i a
-  pub named : b ≡ word_in image a (index_of_page i)
+module _ {image : List ℕ} {store : Store} {i a b : ℕ} (begun : IsBegun image) (needed : i < pages_needed (blocks image)) (st : IsAtPage image store i a)
+    (named : b ≡ word_in image a (index_of_page i)) where
+  names : word_in image a st.index ≡ b
+  names = ap (word_in image a) (sym (index_is image st.walk i a st.index st.named)) ∙ sym named
 
-module _ (image : List ℕ) (store : Store) (i a b : ℕ) (h : IsPageNext image store i a b) where
-  page_next : IsNamed image store (Page i) a b
-  page_next = page_state image store i a (index_of_page i) b h.needed h.state (in_root i) (in_map_ext i) h.named
-
-  in_image : InRange (length store.owners) b → b < blocks image
-  in_image r = subst (λ n. b < n) h.state.tells.owns.size r.1
-
-  pub page_claim : (f : Fault) → IsClaimFault store.owners a b f → IsTrueFault image f
-  page_claim f x = plain_claim image store (Page i) a b f h.begun tt page_next tt x
-
-  pub page_fault : (c : Cause) → InRange (length store.owners) b → owner_at store.owners b ≡ Free
-      → first_cause (page_form (block image b)) ≡ Some c → FirstFault image b c
-  page_fault c r free f =
-      plain_form image store (Page i) a b h.begun tt page_next c tt r.0 (in_image r) free (first_demanded b (page_form (block image b)) c f)
-
-  pub page_done : (owners : List Owner) (used : ℕ) → InRange (length store.owners) b → owner_at store.owners b ≡ Free
-      → owners ≡ set store.owners b (APage i) → used ≡ store.used + 1 → first_cause (page_form (block image b)) ≡ None
-      → IsBeforePage image (owned_by store owners used) (i + 1) a
-  page_done owners used r free o u f =
-      let k : suc i ≡ i + 1 = omega arith in
-      let form = all_demanded b (page_form (block image b)) f in
-      let read =
-      page_read image store i a (index_of_page i) b h.begun h.needed h.state (in_root i) (in_map_ext i) h.named r.0 (in_image r) free form in
-      subst (λ s. IsBeforePage image s (i + 1) a) (stored_is store owners used (Page i) b o u)
-      (subst (λ k. IsBeforePage image (stored store (Page i) b) k a) k read)
+  pub page_named : IsNamed image store st.walk (Page i) a b
+  page_named = record {
+    begun = begun;
+    read = st.read;
+    index = st.index;
+    asked = (needed, st.named);
+    names = names;
+  }
 
   pub page_by_number : b ≡ block_of_page image i
-  page_by_number = sym (page_by_words image store i a (index_of_page i) b h.state (in_root i) (in_map_ext i) h.named)
+  page_by_number = sym (names_is image st.walk i b a st.index st.read.upto.walk st.named names)
+
+  module _ (range : InRange (length store.owners) b) (free : owner_at store.owners b ≡ Free) {bytes : List ℕ} (is_block : bytes ≡ block image b) where
+    pub page_fault : (c : Cause) → first_cause (page_form bytes) ≡ Some c → IsTrueFault image (fault b c)
+    page_fault c f =
+        form_fault page_named tt range free c (first_demanded b (page_form (block image b)) c (ap (λ x. first_cause (page_form x)) (sym is_block) ∙ f))
+
+    pub page_done : first_cause (page_form bytes) ≡ None → {new : Store} → IsStored store new (Page i) b → IsBeforePage image new (i + 1) a
+    page_done f stored =
+        let form : AllHold (page_demands image b) = all_demanded b (page_form (block image b)) (ap (λ x. first_cause (page_form x)) (sym is_block) ∙ f) in
+        record {
+          walk = (Page i, b) ∷ st.walk;
+          read = read_one page_named tt range free form tt stored (BeforePage (i + 1)) (refl, refl, refl, omega arith);
+          at_root = (λ l. at_root st.index st.named (omega arith));
+          at_ext = (λ j l u. inr (at_ext st.index st.named j (omega arith) (omega arith)));
+        }
+      where
+        at_root : (n : ℕ) → NamesPage image st.walk i a n → suc i ≤ 25 → a ≡ root_of image
+        at_root n (inl x) l = x.1
+        at_root n (inr x) l = let y : i ≡ 25 + 127 * x.0 + n = x.3 in absurd (omega arith)
+
+        at_ext : (n : ℕ) → NamesPage image st.walk i a n → (j : ℕ) → 25 + 127 * j < suc i → suc i ≤ 25 + 127 * suc j → Has st.walk (MapExt j) a
+        at_ext n (inl x) j l h = let y : i < 25 = x.0 in absurd (omega arith)
+        at_ext n (inr x) j l h =
+            let y : i ≡ 25 + 127 * x.0 + n = x.3 in
+            let u : n < 127 = x.2 in
+            let e : x.0 ≡ j = omega arith in
+            subst (λ j. Has st.walk (MapExt j) a) e x.1
 
 -- the bitmap extension block whose first page is page i comes next, and a word of block a names it as block b
-pub record IsMapExtNext (image : List ℕ) (store : Store) (i a b : ℕ) : Type 0 where
-  pub begun : IsBegun image
-  pub needed : i < pages_needed (blocks image)
-  pub past : 25 ≤ i
-  pub begins : (i - 25) % 127 ≡ 0
-  pub state : IsBeforePage image store i a
-  pub named : b ≡ word_in image a (index_of_map_ext i)
-
-module _ (image : List ℕ) (store : Store) (i a b : ℕ) (h : IsMapExtNext image store i a b) where
+module _ {image : List ℕ} {store : Store} {i a b : ℕ} (begun : IsBegun image) (needed : i < pages_needed (blocks image)) (past : 25 ≤ i)
+    (begins : (i - 25) % 127 ≡ 0) (st : IsBeforePage image store i a) (named : b ≡ word_in image a (index_of_map_ext i)) where
   abbrev pub number : ℕ
   number = (i - 25) / 127
 
-  place : i ≡ 25 + 127 * number
-  place = let past = h.past in let begins = h.begins in omega arith
+  asks : (j : ℕ) → i ≡ 25 + 127 * j → (n : ℕ) × Asks image st.walk (MapExt j) a n × (word_in image a n ≡ b)
+  asks zero z =
+      let here : index_of_map_ext i ≡ 104 = grind (arith, nat_tests) in
+      (104, (omega arith, st.at_root (omega arith), refl), ap (word_in image a) (sym here) ∙ sym named)
+  asks (suc j) z =
+      let other : i ≡ 25 → ⊥ = λ e. omega arith in
+      let here : index_of_map_ext i ≡ 127 = grind (arith, nat_tests) in
+      (127, (omega arith, st.at_ext j (omega arith) (omega arith), refl), ap (word_in image a) (sym here) ∙ sym named)
 
-  map_ext_next : IsNamed image store (MapExt number) a b
-  map_ext_next = map_ext_state image store i number a (index_of_map_ext i) b h.needed place h.state (of_root i) (of_map_ext i) h.named
+  pub map_ext_named : IsNamed image store st.walk (MapExt number) a b
+  map_ext_named =
+      let q = asks number (omega arith) in
+      let y : i + (i + 101) / 127 ≡ 25 + 128 * number = omega arith in
+      record {
+        begun = begun;
+        read = record { tells = st.read.tells; started = st.read.started; upto = subst (IsUpTo image st.walk 0 1) y st.read.upto };
+        index = q.0;
+        asked = q.1;
+        names = q.2;
+      }
 
-  pub map_ext_claim : (f : Fault) → IsClaimFault store.owners a b f → IsTrueFault image f
-  map_ext_claim f x = plain_claim image store (MapExt number) a b f h.begun tt map_ext_next tt x
-
-  pub map_ext_done : (owners : List Owner) (used : ℕ) → InRange (length store.owners) b → owner_at store.owners b ≡ Free
-      → owners ≡ set store.owners b (AMapExt number) → used ≡ store.used + 1 → IsAtPage image (owned_by store owners used) i b
-  map_ext_done owners used r free o u =
-      let below : b < blocks image = subst (λ n. b < n) h.state.tells.owns.size r.1 in
-      subst (λ s. IsAtPage image s i b) (stored_is store owners used (MapExt number) b o u)
-      (map_ext_read image store i number a (index_of_map_ext i) b h.begun h.needed place h.state (of_root i) (of_map_ext i) h.named r.0 below free)
+  pub map_ext_done : InRange (length store.owners) b → owner_at store.owners b ≡ Free → {new : Store} → IsStored store new (MapExt number) b
+      → IsAtPage image new i b
+  map_ext_done range free stored = record {
+    walk = (MapExt number, b) ∷ st.walk;
+    read = read_one map_ext_named tt range free tt tt stored (BeforeRole (Page i)) (refl, refl, refl, omega arith);
+    index = 0;
+    named = inr (number, inl (refl, refl), omega arith, omega arith);
+  }
 
 all_below : (xs : List ℕ) (b n j : ℕ) → ((i : ℕ) → i < length xs → slice_index xs i < n) → b < n → j < length (xs ++ b ∷ []) → slice_index (xs ++ b ∷ []) j < n
 all_below [] b n zero h lt below = lt
@@ -117,9 +178,12 @@ all_below (x ∷ xs) b n (suc j) h lt below = all_below xs b n j (λ i inside. h
 pub list_done : (image pages : List ℕ) (b i : ℕ) → AreListed image pages i → b ≡ block_of_page image i → b < blocks image
     → AreListed image (pages ++ b ∷ []) (i + 1)
 list_done image pages b i h e lt = record {
-  listed =
-      let k : suc i ≡ i + 1 = omega arith in
-      subst (λ x. IsListed image (pages ++ x ∷ []) (i + 1)) (sym e) (subst (IsListed image (pages ++ block_of_page image i ∷ [])) k
-      (listed_more image pages i h.listed));
+  listed = record {
+    size = let k : length pages ≡ i = h.listed.size in let s = snoc_length pages b in omega arith;
+    pages = (λ n c x. elim (at_snoc pages b n c x) [
+      | inl y ↦ h.listed.pages n c y
+      | inr y ↦ ap (block_of_page image) (y.0 ∙ h.listed.size) ∙ sym e ∙ y.1
+    ]);
+  };
   inside = (λ j below. all_below pages b (blocks image) j h.inside lt below);
 }

@@ -1,5 +1,5 @@
 -- What is kept of a whole walk tells of the tree and the layout that fit.
-use Rattle.std.proofs.Common.{◌≡◌, ◌≢◌, ◌⊎◌, ℕ, suc, List, inl, inr, length, refl, sym, ap, subst, ◌∙◌, take, drop}
+use Rattle.std.proofs.Common.{◌≡◌, ◌≢◌, ◌⊎◌, ℕ, suc, List, inl, inr, length, refl, sym, ap, ◌∙◌, take, drop}
 use Rattle.adf_tree.specs.declared.entry.Entry.{Entry}
 use Rattle.adf_volume.specs.declared.owner.Owner.{Owner}
 use Rattle.adf_volume.specs.declared.owner.Owner.TheVariants.{Free, Boot, Root as TheRoot, Page as APage, MapExt as AMapExt, Head as AHead, Ext as AnExt, Data as AData}
@@ -14,12 +14,12 @@ use Rattle.adf_volume.proofs.WalkMembers.{entries_length, has_ext, ext_has, has_
 use Rattle.adf_volume.proofs.WholeWalks.{head_is, entry_is}
 use Rattle.adf_volume.proofs.WalkOwners.{owned_has, is_owned}
 use Rattle.adf_check.specs.declared.kept.KeptHeader.{KeptHeader}
-use Rattle.adf_check.specs.Store.{Store, owner_at, all_exts, all_datas, exts_before, datas_before}
+use Rattle.adf_check.specs.Store.{Store, owner_at}
 use Rattle.adf_check.specs.Reading.{StoreFits}
 use Rattle.adf_check.specs.StoredVolume.{OwnersFit, RowsFit, StartsFit, StoreStandsFor}
-use Rattle.adf_check.proofs.InRows.{node_here}
-use Rattle.adf_check.proofs.Lengths.{walk_length}
-use Rattle.adf_check.proofs.Flat.{exts_stored, datas_stored}
+use Rattle.adf_check.proofs.NodeSteps.{node_here}
+use Rattle.adf_check.proofs.WalkLengths.{walk_length}
+use Rattle.adf_check.proofs.FileBlocks.{exts_stored, datas_stored}
 
 is_free : (o : Owner) → (o ≡ Free) ⊎ (o ≢ Free)
 is_free Free = inl refl
@@ -34,59 +34,52 @@ is_free (AData n k) = inr (λ e. cc)
 module _ (image : List ℕ) (store : Store) (st : StoreFits image store) where
   owners_fit : OwnersFit image (layout_in st.walk) store.owners
   owners_fit = record {
-    size = st.tells.owns.size;
-    boot = st.tells.owns.boot;
-    part = (λ o b h. let r = owned_has image st.walk st.is_walk st.whole o b h in st.tells.owns.told r.0 b r.1 ∙ sym r.2);
+    size = st.read.tells.owns.size;
+    boot = st.read.tells.owns.boot;
+    part = (λ o b h. let r = owned_has image st.walk st.read.is_walk st.read.whole o b h in st.read.tells.owns.told r.0 b r.1 ∙ sym r.2);
     free = (λ b lo hi h. elim (is_free (owner_at store.owners b)) [
       | inl e ↦ e
-      | inr n ↦ let x = st.tells.owns.owned b lo hi n in absurd (h (owner_of x.0) (is_owned image st.walk st.is_walk st.whole x.0 b x.1))
+      | inr n ↦ let x = st.read.tells.owns.owned b lo hi n in absurd (h (owner_of x.0) (is_owned image st.walk st.read.is_walk st.read.whole x.0 b x.1))
     ]);
   }
 
   rows_fit : RowsFit image (tree_in image st.walk) (layout_in st.walk) store.rows
   rows_fit = record {
-    count = st.tells.lists.count ∙ sym (entries_length image st.walk st.walk);
+    count = st.read.tells.lists.count ∙ sym (entries_length image st.walk st.walk);
     head = (λ i r h. let x =
-        node_here image store st.walk st.tells st.is_walk i r h in (head_is image st.walk st.is_walk st.whole (suc i) x.0 x.1 x.2 r.head x.3).0);
+        node_here image store st.walk st.read.tells st.read.is_walk i r h in (head_is image st.walk st.read.is_walk st.read.whole (suc i) x.0 x.1 x.2 r.head x.3).0);
     parent = (λ i r e h k.
-        let x = entry_is image st.walk st.is_walk st.whole (suc i) e k in
+        let x = entry_is image st.walk st.read.is_walk st.read.whole (suc i) e k in
         let z : r ≡ record { parent = x.0; head = x.3 } =
-        at_fun store.rows i r (record { parent = x.0; head = x.3 }) h (st.tells.lists.row i x.0 x.1 x.2 x.3 x.4) in
+        at_fun store.rows i r (record { parent = x.0; head = x.3 }) h (st.read.tells.lists.row i x.0 x.1 x.2 x.3 x.4) in
         ap (λ (y : Entry). y.parent) x.5 ∙ ap (λ (y : KeptHeader). y.parent) (sym z));
   }
 
   exts_are : (n : ℕ) → exts_of (layout_in st.walk) n ≡ exts_in st.walk n
   exts_are n = same_list (exts_of (layout_in st.walk) n) (exts_in st.walk n)
-      (λ k b h. ext_has image st.is_walk n k b (part_walked image (tree_in image st.walk) (layout_in st.walk) st.fits st.walk st.is_walk st.whole
+      (λ k b h. ext_has image st.read.is_walk n k b (part_walked image (tree_in image st.walk) (layout_in st.walk) st.fits st.walk st.read.is_walk st.read.whole
       (Ext n (suc k)) b h))
-      (λ k b h. agreement image (tree_in image st.walk) (layout_in st.walk) st.fits st.walk (Ext n (suc k)) b st.is_walk
-      (has_ext image st.walk st.is_walk n k b h))
+      (λ k b h. agreement image (tree_in image st.walk) (layout_in st.walk) st.fits st.walk (Ext n (suc k)) b st.read.is_walk
+      (has_ext image st.walk st.read.is_walk n k b h))
 
   datas_are : (n : ℕ) → datas_of (layout_in st.walk) n ≡ datas_in st.walk n
   datas_are n = same_list (datas_of (layout_in st.walk) n) (datas_in st.walk n)
-      (λ k b h. data_has image st.walk st.is_walk n k b (part_walked image (tree_in image st.walk) (layout_in st.walk) st.fits st.walk st.is_walk st.whole
+      (λ k b h. data_has image st.walk st.read.is_walk n k b (part_walked image (tree_in image st.walk) (layout_in st.walk) st.fits st.walk st.read.is_walk st.read.whole
       (Data n (suc k)) b h))
-      (λ k b h. agreement image (tree_in image st.walk) (layout_in st.walk) st.fits st.walk (Data n (suc k)) b st.is_walk
-      (has_data image st.walk st.is_walk n k b h))
+      (λ k b h. agreement image (tree_in image st.walk) (layout_in st.walk) st.fits st.walk (Data n (suc k)) b st.read.is_walk
+      (has_data image st.walk st.read.is_walk n k b h))
 
   starts_fit : StartsFit (layout_in st.walk) store
   starts_fit = record {
-    count = st.started;
-    exts = (λ n x h.
-        let s : take (length (exts_in st.walk n)) (drop (exts_before st.walk n) (all_exts st.walk)) ≡ exts_in st.walk n =
-        exts_stored image st.walk st.is_walk n in
-        let a : x.exts ≡ exts_before st.walk n = (st.tells.starts n x h).0 in
-        subst (λ xs. take (length xs) (drop x.exts store.exts) ≡ xs) (sym (exts_are n))
-        (subst (λ k. take (length (exts_in st.walk n)) (drop k store.exts) ≡ exts_in st.walk n) (sym a)
-        (subst (λ ys. take (length (exts_in st.walk n)) (drop (exts_before st.walk n) ys) ≡ exts_in st.walk n) (sym st.tells.exts) s)));
-    datas = (λ n x h.
-        let s : take (length (datas_in st.walk n)) (drop (datas_before st.walk n) (all_datas st.walk)) ≡ datas_in st.walk n =
-        datas_stored image st.walk st.is_walk n in
-        let a : x.datas ≡ datas_before st.walk n = (st.tells.starts n x h).1 in
-        subst (λ xs. take (length xs) (drop x.datas store.datas) ≡ xs) (sym (datas_are n))
-        (subst (λ k. take (length (datas_in st.walk n)) (drop k store.datas) ≡ datas_in st.walk n) (sym a)
-        (subst (λ ys. take (length (datas_in st.walk n)) (drop (datas_before st.walk n) ys) ≡ datas_in st.walk n) (sym st.tells.datas) s)));
+    count = st.read.started;
+    exts = (λ n x h. moved (st.read.tells.starts n x h).0 st.read.tells.exts (exts_are n) (exts_stored image n st.read.is_walk));
+    datas = (λ n x h. moved (st.read.tells.starts n x h).1 st.read.tells.datas (datas_are n) (datas_stored image n st.read.is_walk));
   }
+    where
+      moved : {a b : ℕ} {xs ys is here : List ℕ} → a ≡ b → xs ≡ ys → is ≡ here → take (length here) (drop b ys) ≡ here → take (length is) (drop a xs) ≡ is
+      moved {a = a} {b = b} {xs = xs} {here = here} ea ex ei h =
+          ap (λ (is : List ℕ). take (length is) (drop a xs)) ei ∙ ap (λ a. take (length here) (drop a xs)) ea ∙ ap (λ xs. take (length here) (drop b xs)) ex
+          ∙ h ∙ sym ei
 
   pub keeps : StoreStandsFor image store (tree_in image st.walk) (layout_in st.walk)
   keeps = record {
@@ -96,5 +89,5 @@ module _ (image : List ℕ) (store : Store) (st : StoreFits image store) where
     rows = rows_fit;
     starts = starts_fit;
     used =
-        st.tells.used ∙ sym (walk_length image st.walk st.is_walk);
+        st.read.tells.used ∙ sym (walk_length image st.walk st.read.is_walk);
   }

@@ -1,61 +1,42 @@
 -- The steps of a reader that goes through a small image: one page, the root first.
-use Rattle.std.proofs.Common.{◌≡◌, ℕ, zero, suc, List, [], ◌∷◌, ◌++◌, ◌+◌, ◌-◌, ◌/◌, ◌%◌, ◌<◌, ◌≤◌, ◌≢◌, length, refl, sym, ap, subst, ◌∙◌, arith, Bool, true, false, set, length-set, get_or-set_same, get_or-set_other, eq-eqb}
-use Rattle.std.specs.Prelude.{◌==◌, ◌&&◌, not, bit_and, ◌^◌, replicate, IsTrue, ◌↔◌, slice_index}
+use Rattle.std.proofs.Common.{◌≡◌, ℕ, zero, suc, List, [], ◌∷◌, ◌+◌, ◌-◌, ◌/◌, ◌%◌, ◌<◌, ◌≤◌, ◌≢◌, length, refl, sym, ap, subst, ◌∙◌, arith, Bool, true, false, eq-eqb}
+use Rattle.std.specs.Prelude.{◌==◌, ◌&&◌, not, bit_and, ◌^◌, IsTrue, ◌↔◌, slice_index}
 use Rattle.std.proofs.lemmas.Bool.{and_parts, eqb-true}
-use Rattle.std.proofs.lemmas.List.{length-replicate, get_or-replicate}
+use Rattle.adf_fields.specs.Words.{block}
+use Rattle.adf_blocks.specs.PageBlock.{page_form}
 use Rattle.adf_blocks.specs.Sizes.{blocks, pages_needed}
 use Rattle.adf_blocks.specs.declared.cause.Cause.TheVariants.{LostBlock}
 use Rattle.adf_volume.specs.declared.owner.Owner.{Owner}
 use Rattle.adf_volume.specs.declared.owner.Owner.TheVariants.{Free, Boot, Root, Page, MapExt, Head, Ext, Data}
 use Rattle.adf_volume.specs.Image.{word_in, root_of}
-use Rattle.adf_volume.specs.Demands.{AllHold, boot_demands, root_demands, page_demands}
+use Rattle.adf_volume.specs.Demands.{AllHold, page_demands}
+use Rattle.adf_volume.specs.Lists.{At}
 use Rattle.adf_volume.specs.Walk.{FirstFault}
 use Rattle.adf_volume.specs.Walk.Role.{Page as APage}
+use Rattle.adf_volume.proofs.FormDemands.{none_demanded}
+use Rattle.adf_check.specs.Image.{IsBegun}
 use Rattle.adf_check.specs.Store.{Store, owner_at, stored, entered}
-use Rattle.adf_check.specs.Reading.{IsBeforePage, IsAtNode, IsAtSlot, IsInChain, IsListed, IsMapped}
-use Rattle.adf_check.proofs.Stores.{enter_node}
-use Rattle.adf_check.proofs.InBitmap.{first_store, beginning, mapped_free, mapped_used, lost}
-use Rattle.adf_check.proofs.InChains.{chain_begins, chain_ends}
-use Rattle.adf_check.proofs.InFiles.{enter_directory}
-use Rattle.adf_check.proofs.InPages.{same_holder, page_read, pages_end}
-use Rattle.adf_check.proofs.InRows.{root_here}
-
--- the owners of 2 + m blocks of which the root alone was read
-abbrev pub owners_of : ℕ → ℕ → List Owner
-owners_of m root = set (Boot ∷ Boot ∷ replicate m Free) root Root
-
-owners_boot : (m root b : ℕ) → 2 ≤ root → b < 2 → owner_at (owners_of m root) b ≡ Boot
-owners_boot m root zero l h = get_or-set_other (Boot ∷ Boot ∷ replicate m Free) root 0 Root Free (λ e. omega arith)
-owners_boot m root (suc zero) l h = get_or-set_other (Boot ∷ Boot ∷ replicate m Free) root 1 Root Free (λ e. omega arith)
-owners_boot m root (suc (suc b)) l h = absurd (omega arith)
-
-owners_free : (m root b : ℕ) → 2 ≤ b → b < 2 + m → b ≢ root → owner_at (owners_of m root) b ≡ Free
-owners_free m root zero l h n = absurd (omega arith)
-owners_free m root (suc zero) l h n = absurd (omega arith)
-owners_free m root (suc (suc b)) l h n =
-    get_or-set_other (Boot ∷ Boot ∷ replicate m Free) root (suc (suc b)) Root Free n ∙ get_or-replicate m b Free Free (omega arith)
+use Rattle.adf_check.specs.Reading.{IsBeforePage, IsAtNode, IsAtSlot, IsInChain, IsListed, IsMapped, block_of_page}
+use Rattle.adf_check.proofs.Beginning.{first_store, owners_free, owners_of, root_read}
+use Rattle.adf_check.proofs.BitmapSteps.{agrees, clash, lost}
+use Rattle.adf_check.proofs.ChainSteps.{chain_begins, chain_ends}
+use Rattle.adf_check.proofs.ClaimSteps.{is_stored}
+use Rattle.adf_check.proofs.NodeSteps.{enter_node, root_begins}
+use Rattle.adf_check.proofs.PageSteps.{page_done, pages_end, same_holder}
 
 -- the root and the one page were read
-module _ (image : List ℕ) (m root page : ℕ) (size : blocks image ≡ 2 + m) (root_is : root_of image ≡ root) (low : 2 ≤ root) (high : root < 2 + m) where
-  begun : IsBeforePage image (first_store (owners_of m root)) 0 (root_of image)
-  begun = beginning image (owners_of m root)
-      (length-set (Boot ∷ Boot ∷ replicate m Free) root Root ∙ (let z : length {A = Owner} (replicate m Free) ≡ m = length-replicate m Free in omega arith))
-      (λ b h. owners_boot m root b low h)
-      (ap (owner_at (owners_of m root)) root_is
-      ∙ get_or-set_same (Boot ∷ Boot ∷ replicate m Free) root Root Free
-      (let z : length {A = Owner} (replicate m Free) ≡ m = length-replicate m Free in omega arith))
-      (λ b l h n. owners_free m root b l (omega arith) (λ e. n (e ∙ sym root_is)))
-
-  pub page_then : AllHold (boot_demands image ++ root_demands image (root_of image)) → pages_needed (blocks image) ≡ 1 → word_in image root 79 ≡ page
-      → 2 ≤ page → page < 2 + m → page ≢ root → AllHold (page_demands image page) →
-      IsAtNode image (stored (first_store (owners_of m root)) (APage 0) page) 0
-  page_then sound one named lo hi ne form =
-      pages_end image (stored (first_store (owners_of m root)) (APage 0) page) (root_of image)
-      (subst (λ k. IsBeforePage image (stored (first_store (owners_of m root)) (APage 0) page) k (root_of image)) (sym one)
-      (page_read image (first_store (owners_of m root)) 0 (root_of image) 79 page sound (omega arith)
-      (same_holder image (first_store (owners_of m root)) 0 (root_of image) begun (λ h. absurd (omega arith)))
-      (λ h. refl) (λ h. absurd (omega arith)) (sym named ∙ ap (λ a. word_in image a 79) (sym root_is)) lo (omega arith) (owners_free m root page lo hi ne)
-      form))
+pub page_then : (image : List ℕ) (m root page : ℕ) → blocks image ≡ 2 + m → root_of image ≡ root → 2 ≤ root → root < 2 + m → IsBegun image
+    → pages_needed (blocks image) ≡ 1 → word_in image root 79 ≡ page → 2 ≤ page → page < 2 + m → page ≢ root → AllHold (page_demands image page)
+    → IsAtNode image (stored (first_store (owners_of m root)) (APage 0) page) 0
+page_then image m root page size root_is low high begun one named lo hi ne form =
+    let store : Store = first_store (owners_of m root) in
+    let next = same_holder image store 0 (root_of image) (root_read image m root size root_is low high) (λ h. absurd (omega arith)) in
+    let is_named : page ≡ word_in image (root_of image) 79 = sym named ∙ ap (λ a. word_in image a 79) (sym root_is) in
+    let long : length (owners_of m root) ≡ blocks image = next.read.tells.owns.size in
+    pages_end image (stored store (APage 0) page) (root_of image)
+    (subst (λ k. IsBeforePage image (stored store (APage 0) page) k (root_of image)) (sym one)
+    (page_done begun (omega arith) next is_named (lo, omega arith) (owners_free m root page lo hi ne) refl (none_demanded page (page_form (block image page)) form)
+    (is_stored store (APage 0) page)))
 
 -- no name was seen
 abbrev pub no_name : List ℕ → Type 0
@@ -75,7 +56,7 @@ empty_slots image store p up s (suc n) none st =
 -- the root is entered
 pub enter_root : (image : List ℕ) (store : Store) (root : ℕ) → root_of image ≡ root → IsAtNode image store 0 → IsAtSlot image (entered store) 0 root 0
 enter_root image store root e st =
-    enter_directory image (entered store) 0 root (enter_node image store 0 st) (λ w t v. root_here image (entered store) w t v root (sym e))
+    root_begins image (entered store) 0 root refl (sym e) (enter_node image store 0 st)
 
 -- the bit of block b in a page
 abbrev pub bit_is : List ℕ → ℕ → ℕ → Bool
@@ -124,7 +105,7 @@ module _ (image : List ℕ) (store : Store) (page : ℕ) (one : pages_needed (bl
   listed : IsListed image (page ∷ []) (pages_needed (blocks image))
   listed = record { size = sym one; pages = at }
     where
-      at : (i b : ℕ) → Rattle.adf_volume.specs.Lists.At (page ∷ []) i b → Rattle.adf_check.specs.Reading.block_of_page image i ≡ b
+      at : (i b : ℕ) → At (page ∷ []) i b → block_of_page image i ≡ b
       at zero b h = named ∙ h
       at (suc i) b h = absurd h
 
@@ -134,11 +115,11 @@ module _ (image : List ℕ) (store : Store) (page : ℕ) (one : pages_needed (bl
   agree_one : (b : ℕ) → b < blocks image → (f o : Bool) → bit_is image page b ≡ f → is_free (owner_at store.owners b) ≡ o → same f o ≡ true
       → IsMapped image store b → IsMapped image store (suc b)
   agree_one b hi true true ef eo h st =
-      mapped_free image store b page (bit_is image page b) (page ∷ []) hi listed (page_at ((b - 2) / 4064) (omega arith)) (not_zero _) st ef
-      (free_owner (owner_at store.owners b) eo)
+      agrees image store b page (bit_is image page b) (page ∷ []) hi listed (page_at ((b - 2) / 4064) (omega arith)) (not_zero _) st
+      ((λ _. free_owner (owner_at store.owners b) eo), (λ _. ef))
   agree_one b hi false false ef eo h st =
-      mapped_used image store b page (bit_is image page b) (page ∷ []) hi listed (page_at ((b - 2) / 4064) (omega arith)) (not_zero _) st ef
-      (taken_owner (owner_at store.owners b) eo)
+      agrees image store b page (bit_is image page b) (page ∷ []) hi listed (page_at ((b - 2) / 4064) (omega arith)) (not_zero _) st
+      ((λ t. absurd (clash t ef)), (λ o. absurd (taken_owner (owner_at store.owners b) eo o)))
   agree_one b hi true false ef eo h st = absurd (let z : false ≡ true = h in cc)
   agree_one b hi false true ef eo h st = absurd (let z : false ≡ true = h in cc)
 
@@ -150,7 +131,7 @@ module _ (image : List ℕ) (store : Store) (page : ℕ) (one : pages_needed (bl
       subst (IsMapped image store) z (agreeing (suc b) n (omega arith) x.1
       (agree_one b (omega arith) (bit_is image page b) (is_free (owner_at store.owners b)) refl refl x.0 st))
 
-  pub lost_at : (b : ℕ) → AllHold (boot_demands image ++ root_demands image (root_of image)) → b < blocks image → bit_is image page b ≡ false
+  pub lost_at : (b : ℕ) → IsBegun image → b < blocks image → bit_is image page b ≡ false
       → is_free (owner_at store.owners b) ≡ true → IsMapped image store b → FirstFault image b LostBlock
   lost_at b sound hi ef eo st =
       lost image store b page (bit_is image page b) (page ∷ []) hi listed (page_at ((b - 2) / 4064) (omega arith)) (not_zero _) st sound ef

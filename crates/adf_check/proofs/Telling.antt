@@ -24,7 +24,7 @@ use Rattle.adf_check.specs.declared.kept.KeptHeader.{KeptHeader as Kept}
 use Rattle.adf_check.specs.StoredVolume.{StoreStandsFor}
 use Rattle.adf_check.specs.Reading.{StoreFits}
 use Rattle.adf_check.specs.Store.{Store}
-use Rattle.adf_check.proofs.InRows.{node_here}
+use Rattle.adf_check.proofs.NodeSteps.{node_here}
 use Rattle.adf_check.proofs.NodeSteps.{row_at}
 use Rattle.adf_check.specs.Image.{IsBegun}
 use Rattle.adf_check.specs.Rows.{BodyMatches, EntryMatches, RowMatches, row_body, row_in}
@@ -44,8 +44,8 @@ head_facts kind b own parent slot bytes h =
 pub row_is_head : (image : List ℕ) (store : Store) → StoreFits image store → (i : ℕ) (d : Kept) → i < length store.rows
     → IsHead (block image (get_or store.rows i d).head)
 row_is_head image store st i d lt =
-    let x = node_here image store st.walk st.tells st.is_walk i (get_or store.rows i d) (row_at store.rows i d lt) in
-    let k = (kept image st.is_walk (Head (suc i) x.0 x.1 x.2) (get_or store.rows i d).head x.3).2 in
+    let x = node_here image store st.walk st.read.tells st.read.is_walk i (get_or store.rows i d) (row_at store.rows i d lt) in
+    let k = (kept image st.read.is_walk (Head (suc i) x.0 x.1 x.2) (get_or store.rows i d).head x.3).2 in
     head_facts (kind_of image) (get_or store.rows i d).head (get_or store.rows i d).head k.0 x.1 (block image (get_or store.rows i d).head) k.2
 
 pub tells_begun : (image : List ℕ) (store : Store) → StoreFits image store → IsBegun image

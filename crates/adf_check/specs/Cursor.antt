@@ -1,6 +1,41 @@
 -- A place in the order of roles, up to which a walk has all that it asks for.
-use Rattle.std.specs.Prelude.{◌≡◌, ℕ, List, ◌<◌, ◌≤◌}
+-- Letters: w a walk; r a role; k the number of a page; n a node; x, y, z the three numbers of a place.
+use Rattle.std.specs.Prelude.{◌≡◌, ℕ, List, ◌+◌, ◌/◌, ◌<◌, ◌≤◌}
+use Rattle.std.proofs.Common.{suc}
 use Rattle.adf_volume.specs.Walk.{Role, first, second, third, Has, Asks, Lacks, IsWalk}
+
+-- where a reader is: behind page k - 1, behind node n - 1, at the beginning of node n, or at a role that comes next
+pub data Cursor : Type 0 where
+  BeforePage : (k : ℕ) → Cursor
+  BeforeNode : (n : ℕ) → Cursor
+  InNode : (n : ℕ) → Cursor
+  BeforeRole : (r : Role) → Cursor
+
+-- its three numbers
+abbrev pub first_of : Cursor → ℕ
+first_of (BeforePage k) = 0
+first_of (BeforeNode n) = suc n
+first_of (InNode n) = suc n
+first_of (BeforeRole r) = first r
+
+abbrev pub second_of : Cursor → ℕ
+second_of (BeforePage k) = 1
+second_of (BeforeNode n) = 0
+second_of (InNode n) = 0
+second_of (BeforeRole r) = second r
+
+abbrev pub third_of : Cursor → ℕ
+third_of (BeforePage k) = k + (k + 101) / 127
+third_of (BeforeNode n) = 0
+third_of (InNode n) = 0
+third_of (BeforeRole r) = third r
+
+-- how many nodes have been begun
+abbrev pub nodes_begun : Cursor → ℕ
+nodes_begun (BeforePage k) = 0
+nodes_begun (BeforeNode n) = n
+nodes_begun (InNode n) = suc n
+nodes_begun (BeforeRole r) = first r
 
 -- a role comes before the place
 abbrev pub IsBelow : Role → ℕ → ℕ → ℕ → Type 0

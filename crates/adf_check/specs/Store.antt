@@ -1,12 +1,14 @@
 -- What a reader keeps of what it has read: the owner of each block, a row for each header, and the blocks of files in two flat lists.
-use Rattle.std.specs.Prelude.{◌≡◌, ◌≢◌, ℕ, List, [], ◌∷◌, ◌++◌, ◌<◌, ◌≤◌, cond, nat_lt, length, slice_index_or, set}
+-- Letters: w a walk; r, q roles; b a block; n, m nodes; p a directory's node; s a slot; j a place in a chain; k the number of a page or of a part of a file.
+use Rattle.std.specs.Prelude.{◌≡◌, ◌≢◌, ℕ, Bool, false, Option, Some, None, List, [], ◌∷◌, ◌++◌, ◌<◌, ◌≤◌, cond, is_some, nat_lt, length, slice_index_or, set}
 use Rattle.std.proofs.Common.{suc}
 use Rattle.adf_blocks.specs.Sizes.{blocks}
 use Rattle.adf_volume.specs.declared.owner.Owner.{Owner}
 use Rattle.adf_volume.specs.declared.owner.Owner.TheVariants.{Free, Boot}
 use Rattle.adf_volume.specs.Lists.{At}
 use Rattle.adf_volume.specs.Walk.{Role, Has, heads}
-use Rattle.adf_volume.specs.Walk.Role.{Root, Page, MapExt, Head, Ext, Data}
+use Rattle.adf_volume.specs.Walk.Role.{Head, Ext, Data}
+use Rattle.adf_volume.specs.Made.{picked}
 use Rattle.adf_volume.specs.LayoutRoles.{owner_of}
 use Rattle.adf_check.specs.declared.kept.KeptHeader.{KeptHeader}
 use Rattle.adf_check.specs.declared.kept.Start.{Start}
@@ -24,29 +26,36 @@ pub record Store : Type 0 where
 abbrev pub owner_at : List Owner → ℕ → Owner
 owner_at owners b = slice_index_or owners b Free
 
+-- the rows, one role more
 abbrev pub push_row : Role → ℕ → List KeptHeader → List KeptHeader
-push_row Root b rows = rows
-push_row (Page k) b rows = rows
-push_row (MapExt k) b rows = rows
 push_row (Head n p s j) b rows = rows ++ record { parent = p; head = b } ∷ []
-push_row (Ext n k) b rows = rows
-push_row (Data n k) b rows = rows
+push_row _ b rows = rows
 
-abbrev pub push_any_ext : Role → ℕ → List ℕ → List ℕ
-push_any_ext Root b bs = bs
-push_any_ext (Page k) b bs = bs
-push_any_ext (MapExt k) b bs = bs
-push_any_ext (Head n p s j) b bs = bs
-push_any_ext (Ext n k) b bs = bs ++ b ∷ []
-push_any_ext (Data n k) b bs = bs
+-- the file that has the role as an extension block
+abbrev pub ext_file : Role → Option ℕ
+ext_file (Ext n k) = Some n
+ext_file _ = None
 
-abbrev pub push_any_data : Role → ℕ → List ℕ → List ℕ
-push_any_data Root b bs = bs
-push_any_data (Page k) b bs = bs
-push_any_data (MapExt k) b bs = bs
-push_any_data (Head n p s j) b bs = bs
-push_any_data (Ext n k) b bs = bs
-push_any_data (Data n k) b bs = bs ++ b ∷ []
+-- the file that has the role as a data block
+abbrev pub data_file : Role → Option ℕ
+data_file (Data n k) = Some n
+data_file _ = None
+
+-- the blocks of files in a walk, in order; a file is told by `ext_file` or `data_file`
+abbrev pub file_blocks : (Role → Option ℕ) → List (Role × ℕ) → List ℕ
+file_blocks file w = picked (λ r. is_some (file r)) w
+
+-- and with one member more
+abbrev pub push_block : (Role → Option ℕ) → Role → ℕ → List ℕ → List ℕ
+push_block file r b bs = cond (is_some (file r)) (bs ++ b ∷ []) bs
+
+abbrev pub is_below : ℕ → Option ℕ → Bool
+is_below m None = false
+is_below m (Some n) = nat_lt n m
+
+-- how many of them are of nodes below m
+abbrev pub blocks_before : (Role → Option ℕ) → List (Role × ℕ) → ℕ → ℕ
+blocks_before file w m = length (picked (λ r. is_below m (file r)) w)
 
 -- what is kept when block b was read in this role
 abbrev pub stored : Store → Role → ℕ → Store
@@ -54,50 +63,14 @@ stored store r b = record {
   owners = set store.owners b (owner_of r);
   rows = push_row r b store.rows;
   starts = store.starts;
-  exts = push_any_ext r b store.exts;
-  datas = push_any_data r b store.datas;
+  exts = push_block ext_file r b store.exts;
+  datas = push_block data_file r b store.datas;
   used = suc store.used;
 }
 
 -- what is kept when the next node is begun
 abbrev pub entered : Store → Store
 entered store = record store { starts = store.starts ++ record { exts = length store.exts; datas = length store.datas } ∷ [] }
-
--- the extension blocks of all files in a walk, in order
-abbrev pub all_exts : List (Role × ℕ) → List ℕ
-all_exts [] = []
-all_exts (x ∷ w) = push_any_ext x.0 x.1 (all_exts w)
-
--- the data blocks of all files in a walk, in order
-abbrev pub all_datas : List (Role × ℕ) → List ℕ
-all_datas [] = []
-all_datas (x ∷ w) = push_any_data x.0 x.1 (all_datas w)
-
-abbrev pub ext_before_of : ℕ → Role → ℕ → ℕ
-ext_before_of m Root c = c
-ext_before_of m (Page k) c = c
-ext_before_of m (MapExt k) c = c
-ext_before_of m (Head n p s j) c = c
-ext_before_of m (Ext n k) c = cond (nat_lt n m) (suc c) c
-ext_before_of m (Data n k) c = c
-
-abbrev pub data_before_of : ℕ → Role → ℕ → ℕ
-data_before_of m Root c = c
-data_before_of m (Page k) c = c
-data_before_of m (MapExt k) c = c
-data_before_of m (Head n p s j) c = c
-data_before_of m (Ext n k) c = c
-data_before_of m (Data n k) c = cond (nat_lt n m) (suc c) c
-
--- how many extension blocks of nodes below m a walk has
-abbrev pub exts_before : List (Role × ℕ) → ℕ → ℕ
-exts_before [] m = 0
-exts_before (x ∷ w) m = ext_before_of m x.0 (exts_before w m)
-
--- how many data blocks of nodes below m a walk has
-abbrev pub datas_before : List (Role × ℕ) → ℕ → ℕ
-datas_before [] m = 0
-datas_before (x ∷ w) m = data_before_of m x.0 (datas_before w m)
 
 -- the table has the owner of each block of the walk, and no other
 pub record Owns (image : List ℕ) (owners : List Owner) (w : List (Role × ℕ)) : Type 0 where
@@ -115,7 +88,7 @@ pub record Rows (rows : List KeptHeader) (w : List (Role × ℕ)) : Type 0 where
 pub record StoreMatches (image : List ℕ) (store : Store) (w : List (Role × ℕ)) : Type 0 where
   pub owns : Owns image store.owners w
   pub lists : Rows store.rows w
-  pub exts : store.exts ≡ all_exts w
-  pub datas : store.datas ≡ all_datas w
+  pub exts : store.exts ≡ file_blocks ext_file w
+  pub datas : store.datas ≡ file_blocks data_file w
   pub used : store.used ≡ length w
-  pub starts : (m : ℕ) (x : Start) → At store.starts m x → (x.exts ≡ exts_before w m) × (x.datas ≡ datas_before w m)
+  pub starts : (m : ℕ) (x : Start) → At store.starts m x → (x.exts ≡ blocks_before ext_file w m) × (x.datas ≡ blocks_before data_file w m)

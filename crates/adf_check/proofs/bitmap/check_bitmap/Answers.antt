@@ -1,7 +1,7 @@
 use Rattle.std.proofs.Common.{◌≡◌, ◌+◌, ◌*◌, min, arith}
 use Rattle.adf_blocks.specs.Sizes.{blocks}
 use Rattle.adf_check.specs.Found.{store_of}
-use Rattle.adf_check.proofs.InBitmap.{fits_alone}
+use Rattle.adf_check.proofs.BitmapSteps.{fits_alone}
 use Rattle.adf_check.proofs.bitmap.check_bitmap.Goals as goal
 
 pub returns-clause-fits : goal.returns-clause-fits

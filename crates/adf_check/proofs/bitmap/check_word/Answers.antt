@@ -8,7 +8,7 @@ use Rattle.adf_check.specs.Store.{owner_at}
 use Rattle.adf_check.specs.Found.{IsTrueFault, store_of}
 use Rattle.adf_check.specs.Pages.{IsBitFault}
 use Rattle.adf_check.proofs.BitmapSteps.{bit_agrees, bit_fault, owned_run}
-use Rattle.adf_check.proofs.Steps.{if_err}
+use Rattle.adf_check.proofs.ClaimSteps.{if_err}
 use Rattle.adf_check.proofs.bitmap.check_word.Goals as goal
 
 pub returns-in_err-check_block-clause-fault : goal.returns-in_err-check_block-clause-fault

@@ -1,7 +1,7 @@
 use Rattle.std.proofs.Common.{◌≡◌, ◌+◌, suc, subst, arith}
 use Rattle.adf_check.specs.Reading.{IsAtSlot, IsInChain}
 use Rattle.adf_check.specs.Found.{sees_of, store_of}
-use Rattle.adf_check.proofs.InChains.{chain_ends}
+use Rattle.adf_check.proofs.ChainSteps.{chain_ends}
 use Rattle.adf_check.proofs.chains.read_chain.Goals as goal
 
 pub returns-clause-state : goal.returns-clause-state

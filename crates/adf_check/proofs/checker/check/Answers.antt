@@ -6,7 +6,7 @@ use Rattle.adf_volume.specs.Layout.{Layout}
 use Rattle.adf_volume.specs.Walk.{FirstFault}
 use Rattle.adf_volume.proofs.NoneFits.{none_fits}
 use Rattle.adf_check.specs.Found.{IsTrueFault}
-use Rattle.adf_check.proofs.Steps.{if_err}
+use Rattle.adf_check.proofs.ClaimSteps.{if_err}
 use Rattle.adf_check.proofs.checker.check.Goals as goal
 
 pub returns-clause-first : goal.returns-clause-first

@@ -3,12 +3,9 @@ use Rattle.adf_blocks.specs.Sizes.{count}
 use Rattle.adf_volume.specs.Image.{kind_of}
 use Rattle.adf_volume.specs.Walk.{data_count}
 use Rattle.adf_check.specs.Reading.{IsAtNode}
-use Rattle.adf_check.proofs.InFiles.{datas_end}
-use Rattle.adf_check.proofs.InRows.{data_too_short}
+use Rattle.adf_check.proofs.DataSteps.{datas_end, too_short}
 use Rattle.adf_check.specs.Found.{store_of}
-use Rattle.adf_blocks.specs.declared.cause.Cause.TheVariants.{ShortFile}
 use Rattle.adf_check.proofs.Bounds.{file_in_datas}
-use Rattle.adf_check.proofs.Faults.{first_fault}
 use Rattle.adf_check.proofs.datas.read_datas.Goals as goal
 
 pub returns-then-tables-table-clause-fault : goal.returns-then-tables-table-clause-fault
@@ -18,8 +15,7 @@ returns-then-tables-table-clause-fault c =
     c.count_of-count.ensures ∙ ap (λ k. count k c.args.size) c.kind.ensures.kind ∙ ap (count (kind_of image)) c.requires.size in
     let more = c.if-tables-table.true in
     let short : 72 * length c.args.table.now < data_count image c.args.head = omega arith in
-    rw c.fault_at.ensures (first_fault image c.args.head ShortFile (data_too_short image (store_of c.args.found.now) c.args.node c.args.head
-    c.args.table.now c.requires.begun c.requires.state short))
+    rw c.fault_at.ensures (too_short c.requires.begun c.requires.state refl short)
 
 pub number_of-requires : goal.number_of-requires
 number_of-requires c =

@@ -1,7 +1,7 @@
 use Rattle.std.proofs.Common.{subst}
 use Rattle.adf_check.specs.Reading.{IsInExts}
 use Rattle.adf_check.specs.Found.{store_of}
-use Rattle.adf_check.proofs.InFiles.{exts_end}
+use Rattle.adf_check.proofs.ExtSteps.{exts_end}
 use Rattle.adf_check.proofs.exts.read_exts.Goals as goal
 
 pub returns-clause-state : goal.returns-clause-state

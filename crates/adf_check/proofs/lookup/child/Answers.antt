@@ -36,7 +36,7 @@ pub node_at-requires : goal.node_at-requires
 node_at-requires c =
     let inside = on_inside c.args.image.now (store_of c.args.found.now) c.requires.tells c.args.parent c.args.name.now c.loop-b.b c.loop-b.invariant
     c.loop-b-test.true in
-    subst (λ n. c.loop-b.b < n) (sym c.requires.tells.tells.owns.size) inside
+    subst (λ n. c.loop-b.b < n) (sym c.requires.tells.read.tells.owns.size) inside
 
 pub returns-then-same-clause-found : goal.returns-then-same-clause-found
 returns-then-same-clause-found c = λ t l k.

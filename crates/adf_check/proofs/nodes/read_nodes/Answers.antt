@@ -1,8 +1,8 @@
 use Rattle.std.proofs.Common.{◌≡◌, ◌<◌, suc, length, subst, sym, refl, arith, rules}
 use Rattle.adf_check.specs.Reading.{IsInNode}
 use Rattle.adf_check.specs.Found.{store_of}
-use Rattle.adf_check.proofs.Stores.{enter_node}
-use Rattle.adf_check.proofs.InRows.{all_read}
+use Rattle.adf_check.proofs.NodeSteps.{enter_node}
+use Rattle.adf_check.proofs.NodeSteps.{all_read}
 use Rattle.adf_check.proofs.Bounds.{lists_short}
 use Rattle.adf_check.proofs.nodes.read_nodes.Goals as goal
 

@@ -1,6 +1,6 @@
 use Rattle.std.proofs.Common.{◌≡◌, ◌≤◌, ◌<◌, ◌-◌, ◌%◌, true, false, sym, ◌∙◌, arith}
 use Rattle.adf_check.specs.Found.{store_of}
-use Rattle.adf_check.proofs.InPages.{same_holder}
+use Rattle.adf_check.proofs.PageSteps.{same_holder}
 use Rattle.adf_check.proofs.pages.holder_of_page.Goals as goal
 
 pub returns-else-is_first_of_map_ext-clause-state : goal.returns-else-is_first_of_map_ext-clause-state

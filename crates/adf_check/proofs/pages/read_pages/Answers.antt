@@ -3,7 +3,7 @@ use Rattle.adf_blocks.specs.Sizes.{blocks, pages_needed}
 use Rattle.adf_check.specs.Reading.{IsBeforePage}
 use Rattle.adf_check.specs.Found.{store_of}
 use Rattle.adf_check.specs.Pages.{AreListed}
-use Rattle.adf_check.proofs.InPages.{pages_end}
+use Rattle.adf_check.proofs.PageSteps.{pages_end}
 use Rattle.adf_check.proofs.PageSteps.{list_done}
 use Rattle.adf_check.proofs.pages.read_pages.Goals as goal
 

@@ -5,7 +5,7 @@ use Rattle.adf_volume.specs.Image.{root_of}
 use Rattle.adf_check.specs.Store.{owner_at}
 use Rattle.adf_check.specs.Owners.{owned_count}
 use Rattle.adf_check.proofs.Beginning.{begun_with_root, root_is_free}
-use Rattle.adf_check.proofs.Steps.{on_ok}
+use Rattle.adf_check.proofs.ClaimSteps.{on_ok}
 use Rattle.adf_check.proofs.found.Found.begin.Goals as goal
 
 pub returns : goal.returns
@@ -13,7 +13,8 @@ returns c =
     let image = c.args.image.now in
     let owners = c.in_ok-owners.owners in
     let free : owner_at owners c.root.result ≡ Free =
-    ap (owner_at owners) c.root.ensures.root ∙ root_is_free image c.blocks-2.result owners c.root.ensures.begun c.in_ok-owners.ensures in
+    ap (owner_at owners) c.root.ensures.root ∙ root_is_free image c.blocks-2.result owners c.root.ensures.begun c.blocks-2.ensures.blocks
+    c.in_ok-owners.ensures in
     let done : IsOk c.claim.result = c.claim.ensures.free.1 free in
     let claimed : c.claim.new.self ≡ set owners (root_of image) Root =
     on_ok c.claim.result done c.claim.ensures.ok ∙ ap (λ b. set owners b Root) c.root.ensures.root in

@@ -1,0 +1,165 @@
+-- One step of a reader: the role that comes next is claimed and kept, or it is refused, and that is the first fault.
+use Rattle.std.proofs.Common.{◌≡◌, ℕ, suc, List, [], ◌∷◌, ◌+◌, ◌<◌, length, set, inl, inr, refl, sym, ap, subst, ◌∙◌, arith, Result, Ok, Err}
+use Rattle.std.specs.Prelude.{IfErr, IsOk, OnOk}
+use Rattle.adf_blocks.specs.declared.cause.Cause.{Cause}
+use Rattle.adf_blocks.specs.declared.cause.Cause.TheVariants.{OutOfRange, Taken, SameName, ShortFile}
+use Rattle.adf_blocks.specs.Sizes.{blocks}
+use Rattle.adf_volume.specs.declared.owner.Owner.TheVariants.{Free}
+use Rattle.adf_volume.specs.Demands.{demand, AllHold, FirstFails}
+use Rattle.adf_volume.specs.Image.{word_in}
+use Rattle.adf_volume.specs.LayoutRoles.{owner_of}
+use Rattle.adf_volume.specs.Walk.{Role, first, second, third, heads, Asks, Enough, NewName, form_demands, demands, FirstFault}
+use Rattle.adf_volume.specs.Walk.Role.{Head}
+use Rattle.adf_volume.specs.Walk.FirstFault.{at_due}
+use Rattle.adf_volume.proofs.Lists.{fails_left, fails_right, all_append}
+use Rattle.adf_volume.proofs.Memory.{fault_of_image}
+use Rattle.adf_volume.proofs.Walks.{asks_number}
+use Rattle.adf_check.specs.declared.fault.Fault.{Fault}
+use Rattle.adf_check.specs.Checks.{fault}
+use Rattle.adf_check.specs.Cursor.{Cursor, first_of, second_of, third_of, nodes_begun, IsUpTo}
+use Rattle.adf_check.specs.Cursor.Cursor.{BeforeRole}
+use Rattle.adf_check.specs.Found.{InRange, IsClaimFault, IsTrueFault}
+use Rattle.adf_check.specs.Image.{IsBegun}
+use Rattle.adf_check.specs.Reading.{HasRead}
+use Rattle.adf_check.specs.Store.{Store, owner_at, push_row, push_block, ext_file, data_file, stored, StoreMatches}
+use Rattle.adf_check.proofs.Cursors.{is_due, take_it}
+use Rattle.adf_check.proofs.StoreSteps.{free_absent, taken_present, tells_more}
+
+-- what is said of an error, said otherwise
+pub if_err : {T : Type 0} (r : Result T Fault) (P Q : Fault → Type 0) → IfErr r P → ((f : Fault) → P f → Q f) → IfErr r Q
+if_err (Ok x) P Q h g = tt
+if_err (Err f) P Q h g = g f h
+
+-- what is said of an Ok
+pub on_ok : {X Y P : Type 0} (r : Result X Y) → IsOk r → OnOk r P → P
+on_ok (Ok x) h p = p
+on_ok (Err y) h p = cc
+
+-- the first fault of the image is a true one: it is not want of memory
+pub first_fault : (image : List ℕ) (b : ℕ) (c : Cause) → FirstFault image b c → IsTrueFault image (fault b c)
+first_fault image b c h = record { first = (λ _. h); memory = (λ e. absurd (fault_of_image image b c h e)) }
+
+-- the role comes next, and a word of block a names block b for it
+pub record IsNamed (image : List ℕ) (store : Store) (w : List (Role × ℕ)) (r : Role) (a b : ℕ) : Type 0 where
+  pub begun : IsBegun image
+  pub read : HasRead image store w (BeforeRole r)
+  pub index : ℕ
+  pub asked : Asks image w r a index
+  pub names : word_in image a index ≡ b
+
+-- what is kept when block b was read in this role
+pub record IsStored (old new : Store) (r : Role) (b : ℕ) : Type 0 where
+  pub owners : new.owners ≡ set old.owners b (owner_of r)
+  pub rows : new.rows ≡ push_row r b old.rows
+  pub starts : new.starts ≡ old.starts
+  pub exts : new.exts ≡ push_block ext_file r b old.exts
+  pub datas : new.datas ≡ push_block data_file r b old.datas
+  pub used : new.used ≡ old.used + 1
+
+pub is_stored : (old : Store) (r : Role) (b : ℕ) → IsStored old (stored old r b) r b
+is_stored old r b = record { owners = refl; rows = refl; starts = refl; exts = refl; datas = refl; used = omega arith }
+
+stored_is : (old new : Store) (r : Role) (b : ℕ) → IsStored old new r b → stored old r b ≡ new
+stored_is old new r b s =
+    let used : suc old.used ≡ new.used = omega (arith, s.used) in
+    λ i. record {
+      owners = (sym s.owners) i;
+      rows = (sym s.rows) i;
+      starts = (sym s.starts) i;
+      exts = (sym s.exts) i;
+      datas = (sym s.datas) i;
+      used = used i;
+    }
+
+-- the place is the one behind the role
+abbrev pub IsBehind : Role → Cursor → Type 0
+IsBehind r at = (nodes_begun at ≡ first r) × (first_of at ≡ first r) × (second_of at ≡ second r) × (third_of at ≡ suc (third r))
+
+module _ {image : List ℕ} {store : Store} {w : List (Role × ℕ)} {r : Role} {a b : ℕ} (st : IsNamed image store w r a b) where
+  is_fault : (x : ℕ) (c : Cause) → FirstFails (demands image w r a b) x c → IsTrueFault image (fault x c)
+  is_fault x c h =
+      first_fault image x c (at_due st.begun w r a st.index st.read.upto.walk (is_due image w r a st.index st.read.upto st.asked)
+      (subst (λ b. FirstFails (demands image w r a b) x c) (sym st.names) h))
+
+  in_image : InRange (length store.owners) b → InRange (blocks image) b
+  in_image h = subst (λ n. InRange n b) st.read.tells.owns.size h
+
+  -- the file has too few extension blocks
+  pub short_fault : (Enough image w r → ⊥) → IsTrueFault image (fault a ShortFile)
+  short_fault h = is_fault a ShortFile (inl (h, refl, refl))
+
+  module _ (enough : Enough image w r) where
+    -- the block is not claimed
+    claim_fault : (f : Fault) → IsClaimFault store.owners a b f → IsTrueFault image f
+    claim_fault f (inl out) =
+        subst (IsTrueFault image) (sym out.1) (is_fault a OutOfRange (inr (
+          enough,
+          inl ((λ k. out.0 (subst (λ n. InRange n b) (sym st.read.tells.owns.size) k)), refl, refl),
+        )))
+    claim_fault f (inr taken) =
+        let within = in_image taken.0 in
+        subst (IsTrueFault image) (sym taken.2) (is_fault b Taken (inr (
+          enough,
+          inr (within, inl (taken_present image store.owners w st.read.tells.owns b within.0 within.1 taken.1, refl, refl)),
+        )))
+
+    pub claim_refused : {T : Type 0} (x : Result T Fault) → IfErr x (IsClaimFault store.owners a b) → IfErr x (IsTrueFault image)
+    claim_refused (Ok y) h = tt
+    claim_refused (Err f) h = claim_fault f h
+
+    module _ (range : InRange (length store.owners) b) (free : owner_at store.owners b ≡ Free) where
+      pub inside : b < blocks image
+      inside = (in_image range).1
+
+      -- it has not the form of the role
+      pub form_fault : (c : Cause) → FirstFails (form_demands image w r b) b c → IsTrueFault image (fault b c)
+      form_fault c h =
+          is_fault b c (inr (
+            enough,
+            inr (
+              in_image range,
+              inr (
+                free_absent image store.owners w st.read.tells.owns b free,
+                fails_left (form_demands image w r b) (demand SameName b (NewName image w r b) ∷ []) b c h,
+              ),
+            ),
+          ))
+
+      module _ (form : AllHold (form_demands image w r b)) where
+        -- an earlier header of the chain has the name
+        pub name_fault : (NewName image w r b → ⊥) → IsTrueFault image (fault b SameName)
+        name_fault h =
+            is_fault b SameName (inr (
+              enough,
+              inr (
+                in_image range,
+                inr (
+                  free_absent image store.owners w st.read.tells.owns b free,
+                  fails_right (form_demands image w r b) (demand SameName b (NewName image w r b) ∷ []) b SameName form (inl (h, refl, refl)),
+                ),
+              ),
+            ))
+
+        -- it is claimed and kept: the reader has read one role more
+        pub read_one : NewName image w r b → {new : Store} → IsStored store new r b → (at : Cursor) → IsBehind r at → HasRead image new ((r, b) ∷ w) at
+        read_one fresh {new = new} s at e =
+            let within = in_image range in
+            let begun : length store.starts ≡ first r = st.read.started in
+            let upto : IsUpTo image ((r, b) ∷ w) (first r) (second r) (suc (third r)) = take_it image w r a st.index b st.read.upto st.asked st.names (
+              enough,
+              (
+                within,
+                (
+                  free_absent image store.owners w st.read.tells.owns b free,
+                  all_append (form_demands image w r b) (demand SameName b (NewName image w r b) ∷ []) form (fresh, tt),
+                ),
+              ),
+            ) in
+            let number : (n p s j : ℕ) → r ≡ Head n p s j → n ≡ suc (heads w) =
+            λ n p s j z. asks_number image w n p s j a st.index (subst (λ r. Asks image w r a st.index) z st.asked) in
+            record {
+              tells = subst (λ t. StoreMatches image t ((r, b) ∷ w)) (stored_is store new r b s)
+                  (tells_more image store w r b number (omega arith) st.read.tells within.0 within.1 free);
+              started = ap length s.starts ∙ begun ∙ sym e.0;
+              upto = rw (e.1, e.2, e.3) upto;
+            }
