@@ -10,8 +10,7 @@ use Rattle.byteorder.specs.Endian.{big_number}
 use Rattle.byteorder.specs.Numbers.{big_number-reads_back}
 use Rattle.adf_fields.specs.Words.{word, long_sum, sealed, checksum}
 use Rattle.adf_fields.specs.declared.dates.Stamp.{Stamp}
-use Rattle.adf_fields.proofs.WordLaws.{length-with_bytes, range-with_bytes_same, range-with_bytes_below, range-with_bytes_above}
-use Rattle.adf_fields.proofs.WordLaws.{word-with_word_other, length_longs, length_big_bytes, long_sum-sealed}
+use Rattle.adf_fields.proofs.WordLaws.{length-with_bytes, range-with_bytes_same, range-with_bytes_below, range-with_bytes_above, word-with_word_other, length_longs, long_sum-sealed, length-big_bytes}
 use Rattle.adf_blocks.specs.declared.layout.TheConstants.{CHECKSUM}
 use Rattle.adf_blocks.specs.Forms.{stamp_at, text_at}
 use Rattle.adf_blocks.specs.Fields.{Field, FitsStamp, block_of_fields, Descends, downwards, long, longs, stamp, text}
@@ -57,7 +56,7 @@ number_there bs i w h = ap (big_number 4) h
 pub fields_long : (fs : List Field) (k i w : ℕ) → Descends 512 fs → k < length fs → get_or fs k (0, []) ≡ (4 * i, long w)
     → word (block_of_fields fs) i ≡ big_number 4 (long w)
 fields_long fs k i w d lt e =
-    let n = length_big_bytes 4 w in
+    let n = length-big_bytes 4 w in
     let z : 4 * i + length (long w) ≡ 4 * i + 4 = omega arith in
     let there : slice_range (block_of_fields fs) (4 * i) (4 * i + length (long w)) ≡ long w = rw e at (nth_field 512 fs k (0, []) (omega arith) d lt) in
     number_there (block_of_fields fs) i w (ap (slice_range (block_of_fields fs) (4 * i)) (sym z) ∙ there)
@@ -93,10 +92,10 @@ sub_range xs a b i j le h =
 -- word s of words that stand one after the other
 pub longs_at : (ws : List ℕ) (s : ℕ) → s < length ws → slice_range (longs ws) (4 * s) (4 * s + 4) ≡ long (slice_index ws s)
 longs_at [] s lt = absurd (omega arith)
-longs_at (w ∷ ws) zero lt = take_at (long w) (longs ws) 4 (length_big_bytes 4 w)
+longs_at (w ∷ ws) zero lt = take_at (long w) (longs ws) 4 (length-big_bytes 4 w)
 longs_at (w ∷ ws) (suc s) lt =
     let skip : drop (4 * suc s) (long w ++ longs ws) ≡ drop (4 * s) (longs ws) =
-    ap (λ k. drop k (long w ++ longs ws)) (omega (arith, length_big_bytes 4 w)) ∙ drop-append-add (long w) (longs ws) (4 * s) in
+    ap (λ k. drop k (long w ++ longs ws)) (omega (arith, length-big_bytes 4 w)) ∙ drop-append-add (long w) (longs ws) (4 * s) in
     let n : 4 * suc s + 4 - 4 * suc s ≡ 4 * s + 4 - 4 * s = omega arith in
     ap (take (4 * suc s + 4 - 4 * suc s)) skip ∙ ap (λ k. take k (drop (4 * s) (longs ws))) n ∙ longs_at ws s (omega arith)
 
@@ -191,7 +190,7 @@ pointer_number fs k i j ws d lt e room above in_block past = elim (cases_lt j (l
 pub length_sealed_fields : (fs : List Field) → Descends 512 fs → length (sealed CHECKSUM (block_of_fields fs)) ≡ 512
 length_sealed_fields fs d =
     let len = length-block_of_fields 512 fs (omega arith) d in
-    length-with_bytes (block_of_fields fs) (4 * CHECKSUM) (long (checksum CHECKSUM (block_of_fields fs))) (omega (arith, length_big_bytes 4 (checksum CHECKSUM (block_of_fields fs)))) ∙ len
+    length-with_bytes (block_of_fields fs) (4 * CHECKSUM) (long (checksum CHECKSUM (block_of_fields fs))) (omega (arith, length-big_bytes 4 (checksum CHECKSUM (block_of_fields fs)))) ∙ len
 
 -- bytes that were put down above word 5
 pub bytes_of_field : (fs : List Field) (k from : ℕ) (xs : List ℕ) → Descends 512 fs → k < length fs → get_or fs k (0, []) ≡ (from, xs) → 4 * CHECKSUM + 4 ≤ from
@@ -200,7 +199,7 @@ bytes_of_field fs k from xs d lt e above =
     let n = length-block_of_fields 512 fs (omega arith) d in
     let there : slice_range (block_of_fields fs) from (from + length xs) ≡ xs = rw e at (nth_field 512 fs k (0, []) (omega arith) d lt) in
     range-with_bytes_above (block_of_fields fs) (4 * CHECKSUM) (long (checksum CHECKSUM (block_of_fields fs))) from (from + length xs) (omega arith)
-    (omega (arith, length_big_bytes 4 (checksum CHECKSUM (block_of_fields fs)))) ∙ there
+    (omega (arith, length-big_bytes 4 (checksum CHECKSUM (block_of_fields fs)))) ∙ there
 
 -- how a length and a text read
 pub text_reads : (bs xs : List ℕ) (at : ℕ) → slice_range xs at (at + length (text bs)) ≡ text bs → (slice_index xs at ≡ length bs) × (text_at xs at ≡ bs)

@@ -2,7 +2,7 @@
 use Rattle.std.proofs.Common.{◌≡◌, ◌≤◌, ◌<◌, ℕ, ◌+◌, ◌*◌, ◌^◌, List, length, refl, arith, ◌∙◌}
 use Rattle.std.specs.Prelude.{None, slice_index, IsBitSet, ◌/◌, ◌%◌, ◌↔◌}
 use Rattle.adf_fields.specs.Words.{block, word, with_block, long_sum, checksum}
-use Rattle.adf_fields.proofs.WordLaws.{block_written, length-with_bytes, length_big_bytes, length_longs, long_sum-sealed}
+use Rattle.adf_fields.proofs.WordLaws.{block_written, length-with_bytes, length_longs, long_sum-sealed, length-big_bytes}
 use Rattle.adf_blocks.specs.declared.layout.TheConstants.{PAGE_BITS, PAGE_CHECKSUM, PAGE_FIRST}
 use Rattle.adf_blocks.specs.Forms.{first_cause}
 use Rattle.adf_blocks.specs.Fields.{Descends, block_of_fields, long}
@@ -21,7 +21,7 @@ unfolding page_block
 length_page_block bits n =
     let len = length-block_of_fields 512 (page_table bits) (omega arith) (page_descends bits n) in
     length-with_bytes (block_of_fields (page_table bits)) (4 * PAGE_CHECKSUM) (long (checksum PAGE_CHECKSUM (block_of_fields (page_table bits))))
-    (omega (arith, length_big_bytes 4 (checksum PAGE_CHECKSUM (block_of_fields (page_table bits))))) ∙ len
+    (omega (arith, length-big_bytes 4 (checksum PAGE_CHECKSUM (block_of_fields (page_table bits))))) ∙ len
 
 -- the sum of a page
 pub page_block-sum : (bits : List ℕ) → length bits ≡ 127 → long_sum (page_block bits) ≡ 0

@@ -13,7 +13,7 @@ use Rattle.adf_fields.specs.Hash.{slot_of}
 use Rattle.adf_tree.specs.declared.entry.Entry.{Entry}
 use Rattle.adf_tree.specs.Chain.{in_chain}
 use Rattle.adf_tree.specs.Tree.{IsTree, rank}
-use Rattle.adf_tree.proofs.Kept.{slot_small}
+use Rattle.adf_tree.proofs.TreeInvariant.{slot_small}
 use Rattle.adf_volume.specs.Layout.{nodes_from}
 use Rattle.adf_build.specs.Laid.{first_block, slots_of}
 use Rattle.adf_build.specs.Order.{RisesFrom}

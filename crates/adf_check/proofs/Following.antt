@@ -1,5 +1,6 @@
 -- Look-up along the chains of an image that a tree and a layout fit.
-use Rattle.std.proofs.Common.{◌≡◌, ◌≢◌, inl, inr, ℕ, zero, suc, List, [], ◌∷◌, ◌+◌, ◌-◌, ◌<◌, ◌≤◌, length, map, get_or, refl, sym, ap, subst, ◌∙◌, arith, Option, Some, None}
+use Rattle.std.proofs.Common.{◌≡◌, ◌≢◌, inl, inr, ℕ, zero, suc, List, [], ◌∷◌, ◌+◌, ◌-◌, ◌<◌, ◌≤◌, length, map, get_or, refl, sym, ap, subst, ◌∙◌, arith}
+use Rattle.std.proofs.Common.{Option, Some, None}
 use Rattle.std.specs.Prelude.{IfSome}
 use Rattle.adf_fields.specs.Hash.{slot_of}
 use Rattle.adf_fields.specs.Words.{block}
@@ -30,7 +31,7 @@ use Rattle.adf_check.proofs.StoredVolume.{keeps}
 use Rattle.adf_check.proofs.NodeSteps.{row_at}
 use Rattle.adf_check.proofs.Telling.{head_facts}
 use Rattle.adf_volume.specs.Made.{layout_in, tree_in}
-use Rattle.adf_tree.proofs.Found.{found_is}
+use Rattle.adf_tree.proofs.ChildLookup.{found_is}
 use Rattle.adf_check.specs.Lookup.{headed}
 
 -- the nodes from that of the header at a block on, by its owner

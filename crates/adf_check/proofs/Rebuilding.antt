@@ -7,7 +7,7 @@ use Rattle.adf_tree.specs.declared.entry.Body.TheVariants.{Dir, File}
 use Rattle.adf_tree.specs.declared.entry.Entry.{Entry}
 use Rattle.adf_tree.specs.Laws.{IsNext}
 use Rattle.adf_tree.specs.Tree.{IsTree, Tree, entry, with_last}
-use Rattle.adf_tree.proofs.Prefixes.{is_next}
+use Rattle.adf_tree.proofs.TreePrefixes.{is_next}
 use Rattle.adf_volume.proofs.Lists.{at_index_or, at_some}
 use Rattle.adf_volume.proofs.Chains.{entry_is_at}
 use Rattle.adf_check.specs.Pieces.{bytes_in, bytes_of}

@@ -5,8 +5,8 @@ use Rattle.std.proofs.lemmas.List.{reverse-append}
 use Rattle.adf_tree.specs.declared.entry.Entry.{Entry}
 use Rattle.adf_tree.specs.Paths.{names_of}
 use Rattle.adf_tree.specs.Tree.{IsTree, entry}
-use Rattle.adf_tree.proofs.NamesFound.{names_next, names_past}
-use Rattle.adf_tree.proofs.Told.{entry_says}
+use Rattle.adf_tree.proofs.EntryPaths.{names_next}
+use Rattle.adf_tree.proofs.PathContents.{entry_says, names_past}
 use Rattle.adf_check.specs.Rows.{EntryMatches, RowMatches}
 use Rattle.adf_check.specs.declared.row.Row.{Row}
 

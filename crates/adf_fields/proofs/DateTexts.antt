@@ -46,9 +46,6 @@ pub date_of_is : (s : Stamp) → IsStampText s (date_of s)
 unfolding date_of
 date_of_is s = (some_text s).1
 
-pub only_date_of : (s : Stamp) (t : List ℕ) → IsStampText s t → t ≡ date_of s
-only_date_of s t h = one_text s t (date_of s) h (date_of_is s)
-
 -- a call that appends the text where it succeeds
 pub appends_where : {T E : Type 0} (r : Result T E) (s : Stamp) (old new t : List ℕ) → IsStampText s t → new ≡ (if is_ok r then old ++ t else old)
     → OnOk r (AppendsStampText s old new)

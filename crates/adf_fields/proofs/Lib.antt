@@ -1,4 +1,6 @@
+-- words and blocks
 pub mod WordLaws
+-- dates and their texts
 pub mod Digits
 pub mod CivilDates
 pub mod DateTexts

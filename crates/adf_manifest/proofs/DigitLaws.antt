@@ -5,27 +5,16 @@ use Rattle.std.proofs.lemmas.Bool.Decides.{nat_tests}
 use Rattle.std.proofs.lemmas.List.{append_assoc}
 use Rattle.std.proofs.lemmas.List.Elements.{All-cons, All-head, All-nil, All-tail}
 use Rattle.adf_tree.specs.Escapes.{hex_digit}
-use Rattle.adf_manifest.specs.Parts.{Lacks}
+use Rattle.adf_manifest.specs.Tokens.{Lacks}
 use Rattle.adf_manifest.specs.Texts.{digit, hex_word, pair, pairs, unpaired}
-
-hex_apart : (a b : ℕ) → hex_digit a ≡ hex_digit b → a < 16 → b < 16 → a ≡ b
-hex_apart a b h x y = grind (arith, nat_tests)
-
-heads : (a b c d : ℕ) (x y : List ℕ) → a ∷ b ∷ x ≡ c ∷ d ∷ y → (a ≡ c) × (b ≡ d) × (x ≡ y)
-heads a b c d x y e = (cc, cc, cc)
-
-same_parts : (c d : ℕ) → c / 16 ≡ d / 16 → c % 16 ≡ d % 16 → c ≡ d
-same_parts c d a b = omega arith
+use Rattle.adf_tree.proofs.Spellings.{same_digits}
 
 -- the digits of a byte at the head of a text are of one byte
 pub one_pair : (a b : ℕ) (x y : List ℕ) → a < 256 → b < 256 → pair a ++ x ≡ pair b ++ y → (a ≡ b) × (x ≡ y)
 one_pair a b x y h g e =
-    let both = heads (hex_digit (a / 16)) (hex_digit (a % 16)) (hex_digit (b / 16)) (hex_digit (b % 16)) x y e in
-    (same_parts a b (hex_apart (a / 16) (b / 16) both.0 (omega arith) (omega arith)) (hex_apart (a % 16) (b % 16) both.1 (omega arith) (omega arith)), both.2)
-
--- behind the digits of a byte the texts are the same
-pub behind_pair : (a b : ℕ) (x y : List ℕ) → pair a ++ x ≡ pair b ++ y → x ≡ y
-behind_pair a b x y e = (heads (hex_digit (a / 16)) (hex_digit (a % 16)) (hex_digit (b / 16)) (hex_digit (b % 16)) x y e).2
+    let high : hex_digit (a / 16) ≡ hex_digit (b / 16) = cc in
+    let low : hex_digit (a % 16) ≡ hex_digit (b % 16) = cc in
+    (same_digits a b h g high low, cc)
 
 digit_hex : (d : ℕ) → d < 16 → digit (hex_digit d) ≡ d
 digit_hex d h = grind (arith, nat_tests)

@@ -1,8 +1,9 @@
 -- A manifest has no fault, and lines have one first fault at most.
-use Rattle.std.proofs.Common.{◌≡◌, ◌<◌, ◌≤◌, ◌+◌, ◌++◌, ◌∙◌, ◌⊎◌, inl, inr, ℕ, zero, suc, true, false, List, [], ◌∷◌, Result, Ok, Err, refl, sym, ap, subst, arith, length, length-append}
+use Rattle.std.proofs.Common.{◌≡◌, ◌<◌, ◌≤◌, ◌+◌, ◌++◌, ◌∙◌, ◌⊎◌, inl, inr, ℕ, zero, suc, true, false, List, [], ◌∷◌, Result, Ok, Err, refl, sym, ap, subst}
+use Rattle.std.proofs.Common.{arith, length, length-append, take, drop}
 use Rattle.std.specs.Prelude.{IsOk}
 use Rattle.std.proofs.lemmas.Bool.{cases_order}
-use Rattle.std.proofs.lemmas.List.{append_assoc}
+use Rattle.std.proofs.lemmas.List.{append_assoc, same_from_push, take_at, drop_at}
 use Rattle.adf_tree.specs.Tree.{Tree, room_for}
 use Rattle.adf_tree.specs.declared.entry.Kind.{Kind}
 use Rattle.adf_tree.specs.declared.tree.AddFault.{AddFault}
@@ -12,12 +13,13 @@ use Rattle.adf_blocks.specs.Sizes.{is_allowed}
 use Rattle.adf_manifest.specs.Lines.{IsLine, IsVolumeLine, LineValue, LabelLine, StampsLine, EntryLine, NoteLine, RunLine, line_text, volume_line}
 use Rattle.adf_manifest.specs.Items.{item_lines}
 use Rattle.std.specs.List.{flat_map}
-use Rattle.adf_manifest.specs.Manifest.{EndsInFile, HasBadText, HasFault, HasFaultOf, HasNoRoom, IsBare, IsFaultOf, IsFirstFault, IsLaterFault, IsWell, Manifest, MayFollow, MayStand, items_of, label_lines, manifest_lines, manifest_tree, stamps_lines}
+use Rattle.adf_manifest.specs.Manifest.{EndsInFile, HasBadText, HasFault, HasFaultOf, HasNoRoom, IsBare, IsFaultOf, IsFirstFault, IsLaterFault, IsWell}
+use Rattle.adf_manifest.specs.Manifest.{Manifest, MayFollow, MayStand, items_of, label_lines, manifest_lines, manifest_tree, stamps_lines}
 use Rattle.adf_manifest.specs.declared.manifest.ManifestKind.{ManifestKind}
-use Rattle.adf_manifest.specs.declared.manifest.ManifestKind.TheVariants.{BadLine, BadSize, BadText, NoParent, ParentIsFile, Exists, NoMemory, TooLong}
+use Rattle.adf_manifest.specs.declared.manifest.ManifestKind.TheVariants.{BadLine, BadSize, BadText, NoParent, ParentIsFile, Exists, NoMemory}
 use Rattle.adf_manifest.proofs.Forms.{line_same}
 use Rattle.adf_manifest.proofs.LastLines.{Adds, IsFirst, ends, last_line}
-use Rattle.adf_manifest.proofs.Verdicts.{first_lines, heads, one_last, one_number, one_told, rests, small, some_lines}
+use Rattle.adf_manifest.proofs.Verdicts.{first_lines, heads, one_number, one_told, rests, small, some_lines}
 
 -- a line that adds may stand at its place, and has no fault
 may_stand : (m n : Manifest) (line : LineValue) → Adds m line n → MayStand m line
@@ -29,33 +31,26 @@ may_stand m n (RunLine run) g = subst EndsInFile (sym g.1) g.2
 
 text_good : (m n : Manifest) (line : LineValue) → Adds m line n → HasBadText line → ⊥
 text_good m n (LabelLine text) g f = f g.3.0 g.3.1
-text_good m n (StampsLine stamps) g f = f
 text_good m n (EntryLine sort stamp protect text) g f = f g.0 g.1
 text_good m n (NoteLine text) g f = f g.4.0 g.4.1
-text_good m n (RunLine run) g f = f
+text_good m n line g f = f
 
 ok_err : (r : Result ℕ AddFault) (f : AddFault) → IsOk r → r ≡ Err f → ⊥
 ok_err (Ok x) f h e = cc
 ok_err (Err x) f h e = cc
 
 room_good : (m n : Manifest) (line : LineValue) (a : AddFault) → Adds m line n → HasNoRoom (manifest_tree m) line a → ⊥
-room_good m n (LabelLine text) a g f = f
-room_good m n (StampsLine stamps) a g f = f
 room_good m n (EntryLine sort stamp protect text) a g f =
     let same = one_path text g.0 f.0 g.1 f.1 in
     ok_err (room_for (manifest_tree m).entries f.0) a (subst (λ p. IsOk (room_for (manifest_tree m).entries p)) same g.2) f.2
-room_good m n (NoteLine text) a g f = f
-room_good m n (RunLine run) a g f = f
+room_good m n line a g f = f
 
 fault_good : (m n : Manifest) (line : LineValue) (kind : ManifestKind) → Adds m line n → IsFaultOf (manifest_tree m) line kind → ⊥
-fault_good m n line BadLine g f = f
-fault_good m n line BadSize g f = f
 fault_good m n line BadText g f = text_good m n line g f
 fault_good m n line NoParent g f = room_good m n line add.NoParent g f
 fault_good m n line ParentIsFile g f = room_good m n line add.ParentIsFile g f
 fault_good m n line Exists g f = room_good m n line add.Exists g f
-fault_good m n line NoMemory g f = f
-fault_good m n line TooLong g f = f
+fault_good m n line kind g f = f
 
 of_good : (m n : Manifest) (line : LineValue) (text : List ℕ) (kind : ManifestKind) → Adds m line n → IsLine line → text ≡ line_text line
     → HasFaultOf m text kind → ⊥
@@ -66,13 +61,11 @@ of_good m n line text kind g is e f =
 line_good : (m n : Manifest) (line : LineValue) (text : List ℕ) (kind : ManifestKind) → Adds m line n → IsLine line → text ≡ line_text line
     → IsLaterFault m text kind → ⊥
 line_good m n line text BadLine g is e f = f (line, is, may_stand m n line g, e)
-line_good m n line text BadSize g is e f = f
 line_good m n line text BadText g is e f = of_good m n line text BadText g is e f
 line_good m n line text NoParent g is e f = of_good m n line text NoParent g is e f
 line_good m n line text ParentIsFile g is e f = of_good m n line text ParentIsFile g is e f
 line_good m n line text Exists g is e f = of_good m n line text Exists g is e f
-line_good m n line text NoMemory g is e f = f
-line_good m n line text TooLong g is e f = f
+line_good m n line text kind g is e f = f
 
 -- behind lines of a manifest, a line that adds
 abbrev IsInner : List (List ℕ) → List ℕ → Type 0
@@ -92,11 +85,11 @@ inner (suc k) n front rest text s w e h =
       | inr p ↦
           elim (ends rest) [
             | inl r ↦
-                let both = one_last front (manifest_lines p.0) text (line_text p.1) (ap (λ x. front ++ text ∷ x) (sym r) ∙ sym e ∙ p.5) in
+                let both = same_from_push front (manifest_lines p.0) text (line_text p.1) (ap (λ x. front ++ text ∷ x) (sym r) ∙ sym e ∙ p.5) in
                 (p.0, n, p.1, p.2, p.4, p.3, sym both.0, both.1)
             | inr q ↦
                 let split = append_assoc front (text ∷ q.0) (q.1 ∷ []) ∙ ap (λ x. front ++ text ∷ x) (sym q.2) ∙ sym e ∙ p.5 in
-                let both = one_last (front ++ text ∷ q.0) (manifest_lines p.0) q.1 (line_text p.1) split in
+                let both = same_from_push (front ++ text ∷ q.0) (manifest_lines p.0) q.1 (line_text p.1) split in
                 inner k p.0 front q.0 text (omega (arith, s, ap length p.5, length-append (manifest_lines p.0) (line_text p.1 ∷ []))) p.2 (sym both.0) h
           ]
     ]
@@ -115,12 +108,7 @@ first_good kind' n' line BadSize h e f =
     let same = one_number f.0 kind' f.1 n' f.2 (small n' h) (sym f.3 ∙ e) in
     let bad : true ≡ false = sym h ∙ ap is_allowed (sym same) ∙ f.4 in
     absurd cc
-first_good kind' n' line BadText h e f = f
-first_good kind' n' line NoParent h e f = f
-first_good kind' n' line ParentIsFile h e f = f
-first_good kind' n' line Exists h e f = f
-first_good kind' n' line NoMemory h e f = f
-first_good kind' n' line TooLong h e f = f
+first_good kind' n' line kind h e f = f
 
 -- the lines of a manifest begin with its volume line
 volume_first : (m : Manifest) → (rest : List (List ℕ)) × (manifest_lines m ≡ volume_line m.head.kind m.head.blocks ∷ rest)
@@ -159,31 +147,23 @@ Later m text kind = ((kind ≡ BadLine) × (¬ MayFollow m text))
 later_kind : (m : Manifest) (text : List ℕ) (kind : ManifestKind) → IsLaterFault m text kind → Later m text kind
 unfolding kind_of
 later_kind m text BadLine f = inl (refl, f)
-later_kind m text BadSize f = absurd f
 later_kind m text BadText f = inr (inl (refl, f))
 later_kind m text NoParent f = inr (inr (add.NoParent, refl, f))
 later_kind m text ParentIsFile f = inr (inr (add.ParentIsFile, refl, f))
 later_kind m text Exists f = inr (inr (add.Exists, refl, f))
-later_kind m text NoMemory f = absurd f
-later_kind m text TooLong f = absurd f
+later_kind m text kind f = absurd f
 
 text_or_room : (tree : Tree) (line : LineValue) (a : AddFault) → HasBadText line → HasNoRoom tree line a → ⊥
-text_or_room tree (LabelLine text) a f g = g
-text_or_room tree (StampsLine stamps) a f g = g
 text_or_room tree (EntryLine sort stamp protect text) a f g = f g.0 g.1
-text_or_room tree (NoteLine text) a f g = g
-text_or_room tree (RunLine run) a f g = g
+text_or_room tree line a f g = g
 
 one_err : (r : Result ℕ AddFault) (a b : AddFault) → r ≡ Err a → r ≡ Err b → a ≡ b
 one_err r a b e g = cc
 
 one_room : (tree : Tree) (line : LineValue) (a b : AddFault) → HasNoRoom tree line a → HasNoRoom tree line b → a ≡ b
-one_room tree (LabelLine text) a b f g = absurd f
-one_room tree (StampsLine stamps) a b f g = absurd f
 one_room tree (EntryLine sort stamp protect text) a b f g =
     one_err (room_for tree.entries g.0) a b (ap (λ p. room_for tree.entries p) (sym (one_path text f.0 g.0 f.1 g.1)) ∙ f.2) g.2
-one_room tree (NoteLine text) a b f g = absurd f
-one_room tree (RunLine run) a b f g = absurd f
+one_room tree line a b f g = absurd f
 
 -- a text has not both a bad part and no room
 text_not_room : (m : Manifest) (text : List ℕ) (a : AddFault) → HasFaultOf m text BadText → NoRoomAt m text a → ⊥
@@ -214,12 +194,7 @@ First text kind = ((kind ≡ BadLine) × (¬ IsVolumeLine text)) ⊎ ((kind ≡ 
 first_kind : (text : List ℕ) (kind : ManifestKind) → IsFirstFault text kind → First text kind
 first_kind text BadLine f = inl (refl, f)
 first_kind text BadSize f = inr (refl, (f.0, f.1, f.2, f.3))
-first_kind text BadText f = absurd f
-first_kind text NoParent f = absurd f
-first_kind text ParentIsFile f = absurd f
-first_kind text Exists f = absurd f
-first_kind text NoMemory f = absurd f
-first_kind text TooLong f = absurd f
+first_kind text kind f = absurd f
 
 one_first_kind : (text : List ℕ) (k k' : ManifestKind) → First text k → First text k' → k ≡ k'
 one_first_kind text k k' (inl p) (inl q) = p.0 ∙ sym q.0
@@ -238,12 +213,10 @@ inside (x ∷ xs) (y ∷ ys) r r' a e h =
 
 -- two fronts of one length are the same, and so is what follows
 fronts : (xs ys r r' : List (List ℕ)) → xs ++ r ≡ ys ++ r' → length xs ≡ length ys → (xs ≡ ys) × (r ≡ r')
-fronts [] [] r r' e h = (refl, e)
-fronts [] (y ∷ ys) r r' e h = absurd (omega arith)
-fronts (x ∷ xs) [] r r' e h = absurd (omega arith)
-fronts (x ∷ xs) (y ∷ ys) r r' e h =
-    let more = fronts xs ys r r' (rests x y (xs ++ r) (ys ++ r') e) (omega arith) in
-    (ap (λ z. z ∷ xs) (heads x y (xs ++ r) (ys ++ r') e) ∙ ap (λ l. y ∷ l) more.0, more.1)
+fronts xs ys r r' e h = (
+  sym (take_at xs r (length ys) h) ∙ ap (take (length ys)) e ∙ take_at ys r' (length ys) refl,
+  sym (drop_at xs r (length ys) h) ∙ ap (drop (length ys)) e ∙ drop_at ys r' (length ys) refl,
+)
 
 -- lines have one first fault at most
 pub one_fault : (all : List (List ℕ)) (n n' : ℕ) (k k' : ManifestKind) → HasFault all n k → HasFault all n' k' → (n ≡ n') × (k ≡ k')

@@ -7,14 +7,15 @@ use Rattle.std.proofs.lemmas.List.{append_cancel_left}
 use Rattle.adf_fields.specs.Dates.{plain_text}
 use Rattle.adf_fields.specs.declared.dates.Stamp.{Stamp}
 use Rattle.adf_tree.specs.declared.entry.Stamps.{Stamps}
-use Rattle.adf_manifest.specs.Parts.{AreStamps, IsStamp, stamps_text}
+use Rattle.adf_manifest.specs.Tokens.{AreStamps, IsStamp, stamps_text}
 use Rattle.adf_manifest.specs.Texts.{hex_word, pair, pairs, unpaired}
-use Rattle.adf_manifest.specs.Lines.{IsLine, IsRun, LineValue, LabelLine, StampsLine, EntryLine, NoteLine, RunLine, DataRun, FillRun, fields_text, fill_line, line_text, stamps_line}
+use Rattle.adf_manifest.specs.Lines.{IsLine, IsRun, LineValue, LabelLine, StampsLine, EntryLine, NoteLine, RunLine, DataRun, FillRun, fields_text, fill_line}
+use Rattle.adf_manifest.specs.Lines.{line_text, stamps_line}
 use Rattle.adf_manifest.specs.declared.lines.Sort.{Sort}
 use Rattle.adf_manifest.specs.declared.lines.Sort.TheVariants.{Dir, File}
 use Rattle.adf_manifest.proofs.DigitLaws.{one_pair, one_word, unpaired_pairs, word_lacks}
 use Rattle.adf_manifest.proofs.LineLaws.{fields_parts, fill_parts}
-use Rattle.adf_manifest.proofs.PartLaws.{colon_lacks, space_lacks, stamp_lacks, stamp_parts, stamps_parts}
+use Rattle.adf_manifest.proofs.TokenLaws.{colon_lacks, space_lacks, stamp_lacks, stamp_parts, stamps_parts}
 
 stamp_same : (s t : Stamp) → s.days ≡ t.days → s.mins ≡ t.mins → s.ticks ≡ t.ticks → s ≡ t
 stamp_same s t d m k =
@@ -85,57 +86,8 @@ line_same (NoteLine a) (NoteLine b) g h e = ap NoteLine (append_cancel_left (cod
 line_same (RunLine (DataRun a)) (RunLine (DataRun b)) g h e =
     ap (λ x. RunLine (DataRun x)) (one_run a b g h (append_cancel_left (codes "data ") (pairs a) (pairs b) e))
 line_same (RunLine (FillRun n a)) (RunLine (FillRun m b)) g h e = ap RunLine (one_fill n m a b g h e)
-line_same (LabelLine a) (StampsLine t) g h e = differ (key (line_text (LabelLine a))) (key (line_text (StampsLine t))) refl (ap key e)
-line_same (LabelLine a) (EntryLine Dir t q y) g h e = differ (key (line_text (LabelLine a))) (key (line_text (EntryLine Dir t q y))) refl (ap key e)
-line_same (LabelLine a) (EntryLine File t q y) g h e = differ (key (line_text (LabelLine a))) (key (line_text (EntryLine File t q y))) refl (ap key e)
-line_same (LabelLine a) (NoteLine b) g h e = differ (key (line_text (LabelLine a))) (key (line_text (NoteLine b))) refl (ap key e)
-line_same (LabelLine a) (RunLine (DataRun b)) g h e = differ (key (line_text (LabelLine a))) (key (line_text (RunLine (DataRun b)))) refl (ap key e)
-line_same (LabelLine a) (RunLine (FillRun m b)) g h e = differ (key (line_text (LabelLine a))) (key (line_text (RunLine (FillRun m b)))) refl (ap key e)
-line_same (StampsLine s) (LabelLine b) g h e = differ (key (line_text (StampsLine s))) (key (line_text (LabelLine b))) refl (ap key e)
-line_same (StampsLine s) (EntryLine Dir t q y) g h e = differ (key (line_text (StampsLine s))) (key (line_text (EntryLine Dir t q y))) refl (ap key e)
-line_same (StampsLine s) (EntryLine File t q y) g h e = differ (key (line_text (StampsLine s))) (key (line_text (EntryLine File t q y))) refl (ap key e)
-line_same (StampsLine s) (NoteLine b) g h e = differ (key (line_text (StampsLine s))) (key (line_text (NoteLine b))) refl (ap key e)
-line_same (StampsLine s) (RunLine (DataRun b)) g h e = differ (key (line_text (StampsLine s))) (key (line_text (RunLine (DataRun b)))) refl (ap key e)
-line_same (StampsLine s) (RunLine (FillRun m b)) g h e = differ (key (line_text (StampsLine s))) (key (line_text (RunLine (FillRun m b)))) refl (ap key e)
-line_same (EntryLine Dir s p x) (LabelLine b) g h e = differ (key (line_text (EntryLine Dir s p x))) (key (line_text (LabelLine b))) refl (ap key e)
-line_same (EntryLine Dir s p x) (StampsLine t) g h e = differ (key (line_text (EntryLine Dir s p x))) (key (line_text (StampsLine t))) refl (ap key e)
-line_same (EntryLine Dir s p x) (EntryLine File t q y) g h e =
-    differ (key (line_text (EntryLine Dir s p x))) (key (line_text (EntryLine File t q y))) refl (ap key e)
-line_same (EntryLine Dir s p x) (NoteLine b) g h e = differ (key (line_text (EntryLine Dir s p x))) (key (line_text (NoteLine b))) refl (ap key e)
-line_same (EntryLine Dir s p x) (RunLine (DataRun b)) g h e =
-    differ (key (line_text (EntryLine Dir s p x))) (key (line_text (RunLine (DataRun b)))) refl (ap key e)
-line_same (EntryLine Dir s p x) (RunLine (FillRun m b)) g h e =
-    differ (key (line_text (EntryLine Dir s p x))) (key (line_text (RunLine (FillRun m b)))) refl (ap key e)
-line_same (EntryLine File s p x) (LabelLine b) g h e = differ (key (line_text (EntryLine File s p x))) (key (line_text (LabelLine b))) refl (ap key e)
-line_same (EntryLine File s p x) (StampsLine t) g h e = differ (key (line_text (EntryLine File s p x))) (key (line_text (StampsLine t))) refl (ap key e)
-line_same (EntryLine File s p x) (EntryLine Dir t q y) g h e =
-    differ (key (line_text (EntryLine File s p x))) (key (line_text (EntryLine Dir t q y))) refl (ap key e)
-line_same (EntryLine File s p x) (NoteLine b) g h e = differ (key (line_text (EntryLine File s p x))) (key (line_text (NoteLine b))) refl (ap key e)
-line_same (EntryLine File s p x) (RunLine (DataRun b)) g h e =
-    differ (key (line_text (EntryLine File s p x))) (key (line_text (RunLine (DataRun b)))) refl (ap key e)
-line_same (EntryLine File s p x) (RunLine (FillRun m b)) g h e =
-    differ (key (line_text (EntryLine File s p x))) (key (line_text (RunLine (FillRun m b)))) refl (ap key e)
-line_same (NoteLine a) (LabelLine b) g h e = differ (key (line_text (NoteLine a))) (key (line_text (LabelLine b))) refl (ap key e)
-line_same (NoteLine a) (StampsLine t) g h e = differ (key (line_text (NoteLine a))) (key (line_text (StampsLine t))) refl (ap key e)
-line_same (NoteLine a) (EntryLine Dir t q y) g h e = differ (key (line_text (NoteLine a))) (key (line_text (EntryLine Dir t q y))) refl (ap key e)
-line_same (NoteLine a) (EntryLine File t q y) g h e = differ (key (line_text (NoteLine a))) (key (line_text (EntryLine File t q y))) refl (ap key e)
-line_same (NoteLine a) (RunLine (DataRun b)) g h e = differ (key (line_text (NoteLine a))) (key (line_text (RunLine (DataRun b)))) refl (ap key e)
-line_same (NoteLine a) (RunLine (FillRun m b)) g h e = differ (key (line_text (NoteLine a))) (key (line_text (RunLine (FillRun m b)))) refl (ap key e)
-line_same (RunLine (DataRun a)) (LabelLine b) g h e = differ (key (line_text (RunLine (DataRun a)))) (key (line_text (LabelLine b))) refl (ap key e)
-line_same (RunLine (DataRun a)) (StampsLine t) g h e = differ (key (line_text (RunLine (DataRun a)))) (key (line_text (StampsLine t))) refl (ap key e)
-line_same (RunLine (DataRun a)) (EntryLine Dir t q y) g h e =
-    differ (key (line_text (RunLine (DataRun a)))) (key (line_text (EntryLine Dir t q y))) refl (ap key e)
-line_same (RunLine (DataRun a)) (EntryLine File t q y) g h e =
-    differ (key (line_text (RunLine (DataRun a)))) (key (line_text (EntryLine File t q y))) refl (ap key e)
-line_same (RunLine (DataRun a)) (NoteLine b) g h e = differ (key (line_text (RunLine (DataRun a)))) (key (line_text (NoteLine b))) refl (ap key e)
-line_same (RunLine (DataRun a)) (RunLine (FillRun m b)) g h e =
-    differ (key (line_text (RunLine (DataRun a)))) (key (line_text (RunLine (FillRun m b)))) refl (ap key e)
-line_same (RunLine (FillRun n a)) (LabelLine b) g h e = differ (key (line_text (RunLine (FillRun n a)))) (key (line_text (LabelLine b))) refl (ap key e)
-line_same (RunLine (FillRun n a)) (StampsLine t) g h e = differ (key (line_text (RunLine (FillRun n a)))) (key (line_text (StampsLine t))) refl (ap key e)
-line_same (RunLine (FillRun n a)) (EntryLine Dir t q y) g h e =
-    differ (key (line_text (RunLine (FillRun n a)))) (key (line_text (EntryLine Dir t q y))) refl (ap key e)
-line_same (RunLine (FillRun n a)) (EntryLine File t q y) g h e =
-    differ (key (line_text (RunLine (FillRun n a)))) (key (line_text (EntryLine File t q y))) refl (ap key e)
-line_same (RunLine (FillRun n a)) (NoteLine b) g h e = differ (key (line_text (RunLine (FillRun n a)))) (key (line_text (NoteLine b))) refl (ap key e)
-line_same (RunLine (FillRun n a)) (RunLine (DataRun b)) g h e =
-    differ (key (line_text (RunLine (FillRun n a)))) (key (line_text (RunLine (DataRun b)))) refl (ap key e)
+line_same a (EntryLine Dir t q y) g h e = differ (key (line_text a)) (key (line_text (EntryLine Dir t q y))) refl (ap key e)
+line_same a (EntryLine File t q y) g h e = differ (key (line_text a)) (key (line_text (EntryLine File t q y))) refl (ap key e)
+line_same a (RunLine (DataRun b)) g h e = differ (key (line_text a)) (key (line_text (RunLine (DataRun b)))) refl (ap key e)
+line_same a (RunLine (FillRun m b)) g h e = differ (key (line_text a)) (key (line_text (RunLine (FillRun m b)))) refl (ap key e)
+line_same a b g h e = differ (key (line_text a)) (key (line_text b)) refl (ap key e)

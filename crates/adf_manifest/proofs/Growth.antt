@@ -3,7 +3,7 @@ use Rattle.std.proofs.Common.{◌≡◌, ◌++◌, ◌∙◌, ℕ, List, [], ◌
 use Rattle.std.specs.Prelude.{IsOk}
 use Rattle.std.specs.List.{All, flat_map}
 use Rattle.std.proofs.lemmas.List.{append_assoc, append-nil, map-append}
-use Rattle.std.proofs.lemmas.List.Elements.{All-cons, All-head, All-nil, All-push, All-tail}
+use Rattle.std.proofs.lemmas.List.Elements.{All-push, All-pop}
 use Rattle.std.proofs.lemmas.Grind.{flat_map-append}
 use Rattle.adf_tree.specs.Escapes.{escaped}
 use Rattle.adf_tree.specs.PathTexts.{path_text}
@@ -49,8 +49,8 @@ new_item sort stamp protect path = record { sort = sort; stamp = stamp; protect 
 abbrev pub noted : Item → List ℕ → Item
 noted i note = record i { note = Some note }
 
-abbrev pub given : Item → RunValue → Item
-given i run = record i { runs = i.runs ++ run ∷ [] }
+abbrev pub with_run : Item → RunValue → Item
+with_run i run = record i { runs = i.runs ++ run ∷ [] }
 
 -- a manifest with an entry more, and one with another last entry
 abbrev pub with_new : Manifest → Item → Manifest
@@ -88,6 +88,10 @@ last_lines m e i text is g =
     last_split (head_lines m.head) [] e.before e.last i text g
     ∙ ap (λ x. (head_lines m.head ++ flat_map item_lines (items_of x)) ++ text ∷ []) (sym is)
 
+-- what holds of each element holds of those before the last, and of the last
+pub last_off : {X : Type 0} → (P : X → Type 0) (xs : List X) (x : X) → All P (xs ++ x ∷ []) → All P xs × P x
+last_off P xs x h = All-pop P (xs ++ x ∷ []) xs (Some x) refl h
+
 -- the entries before the last, and the last
 pub well_before : (m : Manifest) (e : Entries) → IsWell m → m.entries ≡ Some e
     → All IsItem (e.before ++ e.last ∷ []) × HaveRoom (head_tree m.head) (e.before ++ e.last ∷ [])
@@ -95,14 +99,6 @@ well_before m e w is = (subst (λ x. All IsItem (items_of x)) is w.items, subst 
 
 bare_lines : (text : Option (List ℕ)) (runs : List RunValue) → text ≡ None → runs ≡ [] → note_lines text ++ map run_line runs ≡ []
 bare_lines text runs e g = ap (λ n. note_lines n ++ map run_line runs) e ∙ ap (map run_line) g
-
-pub All-front : (items : List Item) (i : Item) → All IsItem (items ++ i ∷ []) → All IsItem items
-All-front [] i h = All-nil IsItem
-All-front (x ∷ xs) i h = All-cons IsItem x xs (All-head IsItem x (xs ++ i ∷ []) h) (All-front xs i (All-tail IsItem x (xs ++ i ∷ []) h))
-
-pub All-last : (items : List Item) (i : Item) → All IsItem (items ++ i ∷ []) → IsItem i
-All-last [] i h = All-head IsItem i [] h
-All-last (x ∷ xs) i h = All-last xs i (All-tail IsItem x (xs ++ i ∷ []) h)
 
 -- an entry with a note: its lines, and its limits
 pub noted_lines : (i : Item) (note : List ℕ) → i.note ≡ None → i.runs ≡ [] → item_lines (noted i note) ≡ item_lines i ++ note_line (escaped note) ∷ []
@@ -115,28 +111,25 @@ pub noted_is : (i : Item) (note : List ℕ) → IsItem i → IsGivenNote note �
 noted_is i note g h = record { stamp = g.stamp; protect = g.protect; filled = g.filled; names = g.names; note = h; runs = g.runs; plain = g.plain }
 
 -- an entry with a line of bytes more
-pub given_lines : (i : Item) (run : RunValue) → item_lines (given i run) ≡ item_lines i ++ run_line run ∷ []
-given_lines i run =
+pub with_run_lines : (i : Item) (run : RunValue) → item_lines (with_run i run) ≡ item_lines i ++ run_line run ∷ []
+with_run_lines i run =
     let top = entry_line i.sort i.stamp i.protect (path_text i.path) in
     ap (λ l. top ∷ (note_lines i.note ++ l)) (map-append run_line i.runs (run ∷ []))
     ∙ ap (λ l. top ∷ l) (sym (append_assoc (note_lines i.note) (map run_line i.runs) (run_line run ∷ [])))
 
-file_not_dir : (s : Sort) → s ≡ File → s ≡ Dir → ⊥
-file_not_dir s e g = cc
-
-pub given_is : (i : Item) (run : RunValue) → IsItem i → i.sort ≡ File → IsRun run → IsItem (given i run)
-given_is i run g e h = record {
+pub with_run_is : (i : Item) (run : RunValue) → IsItem i → i.sort ≡ File → IsRun run → IsItem (with_run i run)
+with_run_is i run g e h = record {
   stamp = g.stamp;
   protect = g.protect;
   filled = g.filled;
   names = g.names;
   note = g.note;
   runs = All-push IsRun i.runs run g.runs h;
-  plain = λ d. absurd (file_not_dir i.sort e d);
+  plain = λ d. let clash : File ≡ Dir = sym e ∙ d in cc;
 }
 
-pub given_bytes : (i : Item) (run : RunValue) → file_bytes (given i run).runs ≡ file_bytes i.runs ++ run_bytes run
-given_bytes i run = flat_map-append run_bytes i.runs (run ∷ []) ∙ ap (λ l. file_bytes i.runs ++ l) (append-nil (run_bytes run))
+pub with_run_bytes : (i : Item) (run : RunValue) → file_bytes (with_run i run).runs ≡ file_bytes i.runs ++ run_bytes run
+with_run_bytes i run = flat_map-append run_bytes i.runs (run ∷ []) ∙ ap (λ l. file_bytes i.runs ++ l) (append-nil (run_bytes run))
 
 -- a manifest with another last entry of the same path
 pub last_well : (m : Manifest) (e : Entries) (i : Item) → IsWell m → m.entries ≡ Some e → IsItem i → i.path ≡ e.last.path → IsWell (with_last m e i)
@@ -145,10 +138,10 @@ last_well m e i w is g same =
     let less = room_less (head_tree m.head) e.before e.last both.1 in
     record {
       head = w.head;
-      items = All-push IsItem e.before i (All-front e.before e.last both.0) g;
+      items = All-push IsItem e.before i (last_off IsItem e.before e.last both.0).0 g;
       room = room_more (head_tree m.head) e.before i less.0 (subst (λ p. IsOk (room_for (items_tree (head_tree m.head) e.before).entries p)) (sym same)
           less.1);
     }
 
 pub last_is : (m : Manifest) (e : Entries) → IsWell m → m.entries ≡ Some e → IsItem e.last
-last_is m e w is = All-last e.before e.last (well_before m e w is).0
+last_is m e w is = (last_off IsItem e.before e.last (well_before m e w is).0).1

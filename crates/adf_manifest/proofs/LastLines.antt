@@ -3,7 +3,7 @@ use Rattle.std.proofs.Common.{◌≡◌, ◌≢◌, ◌<◌, ◌++◌, ◌∙◌
 use Rattle.std.specs.Prelude.{IsOk}
 use Rattle.std.specs.List.{All}
 use Rattle.std.proofs.lemmas.List.{append-nil}
-use Rattle.std.proofs.lemmas.List.Elements.{All-cons, All-head, All-nil, All-push, All-tail}
+use Rattle.std.proofs.lemmas.List.Elements.{All-push}
 use Rattle.adf_tree.specs.Escapes.{IsSpelling, escaped}
 use Rattle.adf_tree.specs.PathTexts.{IsName, IsPathText, path_text}
 use Rattle.adf_tree.specs.Tree.{room_for}
@@ -11,14 +11,17 @@ use Rattle.adf_tree.specs.declared.entry.Kind.{Kind}
 use Rattle.adf_tree.specs.declared.entry.Stamps.{Stamps}
 use Rattle.adf_tree.proofs.Spellings.{spelling_some}
 use Rattle.adf_tree.proofs.PathParts.{empty_path}
-use Rattle.adf_manifest.specs.Lines.{IsLine, IsRun, LineValue, LabelLine, StampsLine, EntryLine, NoteLine, RunLine, RunValue, line_text, run_line, volume_line, stamps_line, note_line}
+use Rattle.adf_manifest.specs.Lines.{IsLine, IsRun, LineValue, LabelLine, StampsLine, EntryLine, NoteLine, RunLine, RunValue, line_text, run_line}
+use Rattle.adf_manifest.specs.Lines.{volume_line, stamps_line, note_line}
 use Rattle.adf_manifest.specs.Items.{HaveRoom, IsGivenNote, IsItem, Item, items_tree}
-use Rattle.adf_manifest.specs.Manifest.{Entries, IsHead, IsWell, Manifest, head_lines, head_tree, label_lines, stamps_lines, items_of, manifest_lines, manifest_tree}
+use Rattle.adf_manifest.specs.Manifest.{Entries, IsHead, IsWell, Manifest, head_lines, head_tree, label_lines, stamps_lines, items_of, manifest_lines}
+use Rattle.adf_manifest.specs.Manifest.{manifest_tree}
 use Rattle.adf_manifest.specs.Reader.{bare}
 use Rattle.adf_manifest.specs.declared.lines.Sort.{Sort}
 use Rattle.adf_manifest.specs.declared.lines.Sort.TheVariants.{Dir, File}
 use Rattle.adf_manifest.specs.declared.reader.Head.{Head}
-use Rattle.adf_manifest.proofs.Growth.{All-front, All-last, given, given_lines, last_lines, new_item, new_lines, noted, noted_lines, room_less, room_more, well_before, with_last, with_new}
+use Rattle.adf_manifest.proofs.Growth.{with_run, with_run_lines, last_lines, new_item, new_lines, noted, noted_lines, room_less, room_more, well_before, with_last}
+use Rattle.adf_manifest.proofs.Growth.{with_new, last_off}
 use Rattle.adf_manifest.proofs.StateLaws.{bare_lines, bare_well}
 
 abbrev pub with_label : Head → List ℕ → Head
@@ -37,7 +40,7 @@ Adds m (EntryLine sort stamp protect text) n =
 Adds m (NoteLine text) n =
     (e : Entries) × (m.entries ≡ Some e) × (e.last.note ≡ None) × (e.last.runs ≡ [])
     × ((note : List ℕ) × IsSpelling 79 text note × (n ≡ with_last m e (noted e.last note)))
-Adds m (RunLine run) n = (e : Entries) × (m.entries ≡ Some e) × (e.last.sort ≡ File) × (n ≡ with_last m e (given e.last run))
+Adds m (RunLine run) n = (e : Entries) × (m.entries ≡ Some e) × (e.last.sort ≡ File) × (n ≡ with_last m e (with_run e.last run))
 
 -- a manifest of one line, or of a manifest's lines and one more
 abbrev pub IsFirst : Manifest → Type 0
@@ -91,59 +94,41 @@ last_of_head kind blocks label (Some stamps) g =
           ∙ ap (λ l. l ++ stamps_line stamps ∷ []) (sym (bare_lines before)),
     )
 
-sorts : (s : Sort) → (s ≡ File) ⊎ (s ≡ Dir)
-sorts File = inl refl
-sorts Dir = inr refl
-
-file_dir : (s : Sort) → s ≡ File → s ≡ Dir → ⊥
-file_dir s e g = cc
-
 no_end : (runs : List RunValue) (run : RunValue) → runs ++ run ∷ [] ≡ [] → ⊥
 no_end [] run e = cc
 no_end (x ∷ xs) run e = cc
 
-Runs-front : (runs : List RunValue) (run : RunValue) → All IsRun (runs ++ run ∷ []) → All IsRun runs
-Runs-front [] run h = All-nil IsRun
-Runs-front (x ∷ xs) run h = All-cons IsRun x xs (All-head IsRun x (xs ++ run ∷ []) h) (Runs-front xs run (All-tail IsRun x (xs ++ run ∷ []) h))
-
-Runs-last : (runs : List RunValue) (run : RunValue) → All IsRun (runs ++ run ∷ []) → IsRun run
-Runs-last [] run h = All-head IsRun run [] h
-Runs-last (x ∷ xs) run h = Runs-last xs run (All-tail IsRun x (xs ++ run ∷ []) h)
-
 entries_same : (m : Manifest) (e : Entries) → m.entries ≡ Some e → let n : Manifest = record { head = m.head; entries = Some e } in m ≡ n
 entries_same m e is = let by : Option Entries → Manifest = λ x. record { head = m.head; entries = x } in ap by is
 
-not_dir : (i : Item) (run : RunValue) (runs : List RunValue) → IsItem i → i.runs ≡ runs ++ run ∷ [] → i.sort ≡ File
-not_dir i run runs g e =
-    elim (sorts i.sort) [
-      | inl f ↦ f
-      | inr d ↦ absurd (no_end runs run (sym e ∙ g.plain d))
-    ]
+not_dir : (i : Item) (run : RunValue) (runs : List RunValue) → IsItem i → i.runs ≡ runs ++ run ∷ [] → (s : Sort) → i.sort ≡ s → s ≡ File
+not_dir i run runs g e File is = refl
+not_dir i run runs g e Dir is = absurd (no_end runs run (sym e ∙ g.plain is))
 
 -- the same entry with the lines of its bytes but the last
 less_is : (i : Item) (run : RunValue) (runs : List RunValue) → IsItem i → i.runs ≡ runs ++ run ∷ [] → i.sort ≡ File → let j : Item =
     record i { runs = runs } in IsItem j × IsRun run
 less_is i run runs g e f =
-    let all : All IsRun (runs ++ run ∷ []) = subst (All IsRun) e g.runs in (
+    let all = last_off IsRun runs run (subst (All IsRun) e g.runs) in (
       record {
         stamp = g.stamp;
         protect = g.protect;
         filled = g.filled;
         names = g.names;
         note = g.note;
-        runs = Runs-front runs run all;
-        plain =
-            λ d. absurd (file_dir i.sort f d);
+        runs = all.0;
+        plain = λ d. let clash : File ≡ Dir = sym f ∙ d in cc;
       },
-      Runs-last runs run all,
+      all.1,
     )
 
 -- the last line of a manifest with entries
 last_run : (m : Manifest) (e : Entries) (runs : List RunValue) (run : RunValue) → IsWell m → m.entries ≡ Some e → e.last.runs ≡ runs ++ run ∷ [] → IsNext m
 last_run m e runs run w is r =
     let both = well_before m e w is in
-    let item : IsItem e.last = All-last e.before e.last both.0 in
-    let file = not_dir e.last run runs item r in
+    let items = last_off IsItem e.before e.last both.0 in
+    let item : IsItem e.last = items.1 in
+    let file = not_dir e.last run runs item r e.last.sort refl in
     let less = less_is e.last run runs item r file in
     let i : Item = record e.last { runs = runs } in
     let before : Entries = record { before = e.before; last = i } in
@@ -151,10 +136,10 @@ last_run m e runs run w is r =
     let room = room_less (head_tree m.head) e.before e.last both.1 in
     let well : IsWell k = record {
       head = w.head;
-      items = All-push IsItem e.before i (All-front e.before e.last both.0) less.0;
+      items = All-push IsItem e.before i items.0 less.0;
       room = room_more (head_tree m.head) e.before i room.0 room.1;
     } in
-    let same : m ≡ with_last k before (given i run) = let by : List RunValue → Manifest =
+    let same : m ≡ with_last k before (with_run i run) = let by : List RunValue → Manifest =
     λ rs. with_last m e (record e.last { runs = rs }) in entries_same m e is ∙ ap by r in (
       k,
       RunLine run,
@@ -162,7 +147,7 @@ last_run m e runs run w is r =
       less.1,
       (before, refl, file, same),
       ap manifest_lines same
-          ∙ last_lines k before (given i run) (run_line run) refl (given_lines i run),
+          ∙ last_lines k before (with_run i run) (run_line run) refl (with_run_lines i run),
     )
 
 given_note : (o : Option (List ℕ)) (note : List ℕ) → o ≡ Some note → IfSome o IsGivenNote → IsGivenNote note
@@ -172,7 +157,8 @@ given_note (Some x) note e g = let same : x ≡ note = cc in subst IsGivenNote s
 last_note : (m : Manifest) (e : Entries) (note : List ℕ) → IsWell m → m.entries ≡ Some e → e.last.runs ≡ [] → e.last.note ≡ Some note → IsNext m
 last_note m e note w is r n =
     let both = well_before m e w is in
-    let item : IsItem e.last = All-last e.before e.last both.0 in
+    let items = last_off IsItem e.before e.last both.0 in
+    let item : IsItem e.last = items.1 in
     let mine : IsGivenNote note = given_note e.last.note note n item.note in
     let i : Item = record e.last { note = None } in
     let good : IsItem i = record {
@@ -190,7 +176,7 @@ last_note m e note w is r n =
     let room = room_less (head_tree m.head) e.before e.last both.1 in
     let well : IsWell k = record {
       head = w.head;
-      items = All-push IsItem e.before i (All-front e.before e.last both.0) good;
+      items = All-push IsItem e.before i items.0 good;
       room = room_more (head_tree m.head) e.before i room.0 room.1;
     } in
     let same : m ≡ with_last k before (noted i note) = let by : Option (List ℕ) → Manifest =
@@ -211,13 +197,14 @@ last_entry : (m : Manifest) (e : Entries) (es : Option Entries) → e.before ≡
     → e.last.note ≡ None → IsNext m
 last_entry m e es b w is r n =
     let both = well_before m e w is in
-    let item : IsItem e.last = All-last e.before e.last both.0 in
+    let items = last_off IsItem e.before e.last both.0 in
+    let item : IsItem e.last = items.1 in
     let k : Manifest = record { head = m.head; entries = es } in
     let t = head_tree m.head in
     let room = room_less t e.before e.last both.1 in
     let well : IsWell k = record {
       head = w.head;
-      items = subst (All IsItem) b (All-front e.before e.last both.0);
+      items = subst (All IsItem) b items.0;
       room = subst (HaveRoom t) b room.0;
     } in
     let path : List (List ℕ) = e.last.path in

@@ -4,10 +4,10 @@ use Rattle.std.specs.Fmt.{decimal}
 use Rattle.std.proofs.lemmas.List.{append_cancel_left}
 use Rattle.adf_fields.specs.Dates.{plain_text}
 use Rattle.adf_fields.specs.declared.dates.Stamp.{Stamp}
-use Rattle.adf_manifest.specs.Parts.{IsStamp, Lacks}
+use Rattle.adf_manifest.specs.Tokens.{IsStamp, Lacks}
 use Rattle.adf_manifest.specs.Texts.{hex_word, pair}
 use Rattle.adf_manifest.specs.Lines.{fields_text, fill_line, most_fill}
-use Rattle.adf_manifest.proofs.PartLaws.{one_cut, one_cut_twice, space_lacks, stamp_lacks}
+use Rattle.adf_manifest.proofs.TokenLaws.{one_cut, one_cut_twice, space_lacks, stamp_lacks}
 use Rattle.adf_manifest.proofs.DigitLaws.{word_lacks}
 
 -- what stands behind the word of a fill line

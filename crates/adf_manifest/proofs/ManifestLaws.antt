@@ -2,7 +2,7 @@
 use Rattle.std.proofs.Common.{◌≡◌, ◌≤◌, ◌+◌, ◌==◌, ◌++◌, ◌∙◌, ℕ, List, [], ◌∷◌, refl, sym, ap, arith, length, append_assoc}
 use Rattle.std.proofs.lemmas.List.Sums.{count_by-le-length}
 use Rattle.std.proofs.lemmas.List.Splits.{length-slice_split, slice_split_at, slice_split_none}
-use Rattle.adf_manifest.specs.Parts.{Lacks}
+use Rattle.adf_manifest.specs.Tokens.{Lacks}
 use Rattle.adf_manifest.specs.Manifest.{between_feeds}
 
 pub parts_cut : (text line rest : List ℕ) → text ≡ line ++ 10 ∷ rest → Lacks 10 line → between_feeds text ≡ line ∷ between_feeds rest
@@ -18,7 +18,3 @@ parts_few text = omega (arith, length-slice_split (λ c. c == 10) text, count_by
 -- the lines that are read, when one more is
 pub one_more : (all front front' behind : List (List ℕ)) (line : List ℕ) → all ≡ front ++ line ∷ behind → front' ≡ front ++ line ∷ [] → all ≡ front' ++ behind
 one_more all front front' behind line e g = e ∙ sym (append_assoc front (line ∷ []) behind) ∙ ap (λ l. l ++ behind) (sym g)
-
--- the lines after those that are read
-pub one_left : (all front rest behind : List (List ℕ)) (line : List ℕ) → all ≡ front ++ rest → rest ≡ line ∷ behind → all ≡ front ++ line ∷ behind
-one_left all front rest behind line e g = e ∙ ap (λ l. front ++ l) g

@@ -13,8 +13,9 @@ use Rattle.adf_tree.specs.declared.entry.Body.{Body}
 use Rattle.adf_tree.specs.declared.entry.Meta.{Meta}
 use Rattle.adf_manifest.specs.Lines.{EntryLine, IsLine, IsRun, RunValue, DataRun, FillRun, entry_line, line_text, line_value, note_line, run_line, LineValue}
 use Rattle.adf_manifest.specs.Items.{IsItem, Item, body_of, file_bytes, items_tree, run_bytes, with_item}
-use Rattle.adf_manifest.specs.Manifest.{Entries, IsHead, IsWell, Manifest, MayFollow, MayStand, head_lines, head_tree, items_of, manifest_lines, manifest_tree, ExplainsKind, lines, most_bytes}
-use Rattle.adf_manifest.specs.Reader.{GoesOn, IsOpen, IsReading, Stops, StopsIn, StopsAt, bare, ExplainsLines}
+use Rattle.adf_manifest.specs.Manifest.{Entries, IsHead, IsWell, Manifest, MayStand, head_lines, head_tree, items_of, manifest_lines}
+use Rattle.adf_manifest.specs.Manifest.{manifest_tree, ExplainsKind, lines, most_bytes}
+use Rattle.adf_manifest.specs.Reader.{GoesOn, IsOpen, IsReading, Stops, StopsIn, bare, ExplainsLines}
 use Rattle.adf_manifest.specs.declared.lines.Sort.{Sort}
 use Rattle.adf_manifest.specs.declared.lines.Sort.TheVariants.{File}
 use Rattle.adf_manifest.specs.declared.reader.Head.{Head}
@@ -24,9 +25,9 @@ use Rattle.adf_manifest.specs.declared.lines.Line.{Line}
 use Rattle.adf_manifest.specs.declared.reader.State.{State}
 use Rattle.adf_manifest.specs.declared.reader.State.TheVariants as state
 use Rattle.adf_manifest.specs.declared.manifest.ManifestKind.{ManifestKind}
-use Rattle.adf_manifest.specs.declared.manifest.ManifestKind.TheVariants.{BadLine, BadSize, BadText, NoParent, ParentIsFile, Exists, NoMemory, TooLong}
-use Rattle.adf_manifest.proofs.Forms.{line_same}
-use Rattle.adf_manifest.proofs.Growth.{given, given_is, given_lines, last_is, last_lines, last_well, new_item, new_lines, new_well, noted, noted_is, noted_lines, room_none, tree_more, tree_none, with_last, with_new}
+use Rattle.adf_manifest.specs.declared.manifest.ManifestKind.TheVariants.{BadLine, NoMemory, TooLong}
+use Rattle.adf_manifest.proofs.Growth.{with_run, with_run_is, with_run_lines, last_is, last_lines, last_well, new_item, new_lines, new_well, noted, noted_is}
+use Rattle.adf_manifest.proofs.Growth.{noted_lines, room_none, tree_more, tree_none, with_last, with_new}
 
 -- what holds of the value of an Ok, weaker
 pub if_ok_weaker : {T E : Type 0} {P Q : T → Type 0} (r : Result T E) → ((x : T) → P x → Q x) → IfOk r P → IfOk r Q
@@ -116,14 +117,14 @@ note_step r last m e text note w g n b filled spelling o =
 
 -- behind a line of bytes
 pub run_step : (r : Reading) (last : Open) (m : Manifest) (e : Entries) (run : RunValue) → IsWell m → IsReading r m e → r.last.sort ≡ File → IsRun run
-    → IsOpen last (given e.last run)
+    → IsOpen last (with_run e.last run)
     → GoesOn (state.Entries (record { blocks = r.blocks; tree = r.tree; last = last })) m (run_line run)
 run_step r last m e run w g f h o =
-    let item = given e.last run in (
+    let item = with_run e.last run in (
       with_last m e item,
-      last_well m e item w g.entries (given_is e.last run (last_is m e w g.entries) (sym g.last.sort ∙ f) h) refl,
+      last_well m e item w g.entries (with_run_is e.last run (last_is m e w g.entries) (sym g.last.sort ∙ f) h) refl,
       (record { before = e.before; last = item }, reading_with r last m e item g o),
-      last_lines m e item (run_line run) g.entries (given_lines e.last run),
+      last_lines m e item (run_line run) g.entries (with_run_lines e.last run),
     )
 
 -- the tree with the last entry
@@ -138,13 +139,7 @@ bare_tree h tree e = e ∙ sym (tree_none (head_tree h))
 -- a line that may stand stops the reader by its fault
 pub stops : (m : Manifest) (line : LineValue) (kind : ManifestKind) → MayStand m line → StopsIn (manifest_tree m) line kind → Stops m line kind
 stops m line BadLine h f = absurd f
-stops m line BadSize h f = (h, f)
-stops m line BadText h f = (h, f)
-stops m line NoParent h f = (h, f)
-stops m line ParentIsFile h f = (h, f)
-stops m line Exists h f = (h, f)
-stops m line NoMemory h f = (h, f)
-stops m line TooLong h f = (h, f)
+stops m line kind h f = (h, f)
 
 pub is_none : {X : Type 0} (o : Option X) → is_some o ≡ false → o ≡ None
 is_none None h = refl
@@ -183,39 +178,10 @@ EntriesLines old new r l = (m : Manifest) (e : Entries) → IsWell m → IsReadi
 abbrev pub EntriesFault : Reading → Result (Unit {0}) ManifestKind → Line → Type 0
 EntriesFault q r l = (m : Manifest) (e : Entries) → IsWell m → IsReading q m e → IfErr r (λ k. Stops m (line_value l) k)
 
--- the same of the text of the line
-pub goes_at : (r : Result State ManifestKind) (m : Manifest) (text : List ℕ) (line : LineValue) → text ≡ line_text line
-    → IfOk r (λ s. GoesOn s m (line_text line)) → IfOk r (λ s. GoesOn s m text)
-goes_at r m text line e h = subst (λ t. IfOk r (λ s. GoesOn s m t)) (sym e) h
-
-one_form : (m : Manifest) (text : List ℕ) (line : LineValue) → IsLine line → text ≡ line_text line → (¬ MayStand m line) → ¬ MayFollow m text
-one_form m text line is e not h = not (subst (MayStand m) (line_same h.0 line h.1 is (sym h.3 ∙ e)) h.2)
-
-stops_text : (m : Manifest) (text : List ℕ) (line : LineValue) (kind : ManifestKind) → IsLine line → text ≡ line_text line → Stops m line kind
-    → StopsAt m text kind
-stops_text m text line BadLine is e h = one_form m text line is e h
-stops_text m text line BadSize is e h = h.1
-stops_text m text line BadText is e h = (line, is, h.0, e, h.1)
-stops_text m text line NoParent is e h = (line, is, h.0, e, h.1)
-stops_text m text line ParentIsFile is e h = (line, is, h.0, e, h.1)
-stops_text m text line Exists is e h = (line, is, h.0, e, h.1)
-stops_text m text line NoMemory is e h = tt
-stops_text m text line TooLong is e h = h.1
-
-pub stops_at : (r : Result State ManifestKind) (m : Manifest) (text : List ℕ) (line : LineValue) → IsLine line → text ≡ line_text line
-    → IfErr r (λ k. Stops m line k) → IfErr r (λ k. StopsAt m text k)
-stops_at (Ok x) m text line is e h = tt
-stops_at (Err k) m text line is e h = stops_text m text line k is e h
-
 -- a fault is told in the manifest's words
 pub first_fault_explains : (kind : ManifestKind) (number : ℕ) (bytes : List ℕ) → length bytes ≤ most_bytes → ExplainsLines kind number (lines bytes)
     → ExplainsKind kind number bytes
-first_fault_explains BadLine number bytes h f = (h, f)
-first_fault_explains BadSize number bytes h f = (h, f)
-first_fault_explains BadText number bytes h f = (h, f)
-first_fault_explains NoParent number bytes h f = (h, f)
-first_fault_explains ParentIsFile number bytes h f = (h, f)
-first_fault_explains Exists number bytes h f = (h, f)
 first_fault_explains NoMemory number bytes h f = f
 first_fault_explains TooLong number bytes h (inl f) = absurd f.4
 first_fault_explains TooLong number bytes h (inr f) = absurd f.6
+first_fault_explains kind number bytes h f = (h, f)

@@ -3,8 +3,8 @@ use Rattle.std.proofs.Common.{◌≡◌, ◌++◌, ◌∙◌, List, [], ◌∷�
 use Rattle.std.proofs.lemmas.List.{append-nil}
 use Rattle.adf_tree.specs.Additions.{Addition, IsTreeOf}
 use Rattle.adf_tree.specs.Tree.{Tree}
-use Rattle.adf_tree.proofs.Grown.{grown, nothing_added}
-use Rattle.adf_tree.proofs.OneTree.{one_tree}
+use Rattle.adf_tree.proofs.TreeOfAdditions.{grown, nothing_added}
+use Rattle.adf_tree.proofs.OneTreeOfAdditions.{one_tree}
 use Rattle.adf_manifest.specs.Items.{HaveRoom, Item, addition_of, items_tree, with_item}
 use Rattle.adf_manifest.specs.Manifest.{IsTreeOfManifest, IsWell, Manifest, head_tree, items_of, manifest_tree}
 

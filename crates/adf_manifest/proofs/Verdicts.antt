@@ -1,9 +1,10 @@
 -- A manifest has one verdict: one tree and number of blocks, or one first fault.
-use Rattle.std.proofs.Common.{◌≡◌, ◌<◌, ◌≤◌, ◌^◌, ◌++◌, ◌∙◌, inl, inr, ℕ, zero, suc, true, List, [], ◌∷◌, Option, Some, None, refl, sym, ap, subst, arith, length, length-append, codes, slice_index}
+use Rattle.std.proofs.Common.{◌≡◌, ◌<◌, ◌≤◌, ◌^◌, ◌++◌, ◌∙◌, inl, inr, ℕ, zero, suc, true, List, [], ◌∷◌, Option, Some, None, refl, sym, ap, subst, arith}
+use Rattle.std.proofs.Common.{length, length-append, codes, slice_index}
 use Rattle.std.specs.Fmt.{decimal}
 use Rattle.std.proofs.lemmas.Bool.Decides.{nat_tests}
 use Rattle.std.proofs.lemmas.Fmt.{decimal_injective}
-use Rattle.std.proofs.lemmas.List.{append_cancel_left}
+use Rattle.std.proofs.lemmas.List.{append_cancel_left, same_from_push}
 use Rattle.adf_tree.specs.Escapes.{IsSpelling}
 use Rattle.adf_tree.specs.declared.entry.Kind.{Kind}
 use Rattle.adf_tree.specs.declared.entry.Kind.TheVariants.{Ofs, Ffs}
@@ -18,7 +19,7 @@ use Rattle.std.specs.List.{flat_map}
 use Rattle.adf_manifest.specs.Reader.{bare}
 use Rattle.adf_manifest.specs.declared.reader.Head.{Head}
 use Rattle.adf_manifest.proofs.Forms.{line_same}
-use Rattle.adf_manifest.proofs.Growth.{given, new_item, noted, with_last, with_new}
+use Rattle.adf_manifest.proofs.Growth.{with_run, new_item, noted, with_last, with_new}
 use Rattle.adf_manifest.proofs.LastLines.{Adds, IsFirst, IsNext, last_line, with_label}
 
 pub heads : (a b : List ℕ) (x y : List (List ℕ)) → a ∷ x ≡ b ∷ y → a ≡ b
@@ -43,22 +44,6 @@ one_kind Ffs Ffs n n' e = refl
 one_kind Ofs Ffs n n' e = let bad : 111 ≡ 102 = ap (λ t. slice_index t 7) e in absurd (omega (arith, bad))
 one_kind Ffs Ofs n n' e = let bad : 102 ≡ 111 = ap (λ t. slice_index t 7) e in absurd (omega (arith, bad))
 
--- lists that end in one element
-no_last : (xs : List (List ℕ)) (a : List ℕ) → [] ≡ xs ++ a ∷ [] → ⊥
-no_last [] a e = cc
-no_last (x ∷ xs) a e = cc
-
-some_last : (x b : List ℕ) (xs ys : List (List ℕ)) → length ys ≡ 0 → (x ∷ xs) ++ b ∷ [] ≡ ys ++ b ∷ [] → ⊥
-some_last x b xs ys h e = omega (arith, ap length e, length-append xs (b ∷ []), length-append ys (b ∷ []))
-
-pub one_last : (xs ys : List (List ℕ)) (a b : List ℕ) → xs ++ a ∷ [] ≡ ys ++ b ∷ [] → (xs ≡ ys) × (a ≡ b)
-one_last [] [] a b e = (refl, heads a b [] [] e)
-one_last [] (y ∷ ys) a b e = absurd (no_last ys b (rests a y [] (ys ++ b ∷ []) e))
-one_last (x ∷ xs) [] a b e = absurd (no_last xs a (sym (rests x b (xs ++ a ∷ []) [] e)))
-one_last (x ∷ xs) (y ∷ ys) a b e =
-    let more = one_last xs ys a b (rests x y (xs ++ a ∷ []) (ys ++ b ∷ []) e) in
-    (ap (λ z. z ∷ xs) (heads x y (xs ++ a ∷ []) (ys ++ b ∷ []) e) ∙ ap (λ l. y ∷ l) more.0, more.1)
-
 one_entries : (o : Option Entries) (e f : Entries) → o ≡ Some e → o ≡ Some f → e ≡ f
 one_entries o e f p q = cc
 
@@ -78,7 +63,7 @@ one_adds m n n' (NoteLine text) g h =
     let same = spelled_once 79 text g.4.0 h.4.0 g.4.1 h.4.1 in
     let entries = one_entries m.entries g.0 h.0 g.1 h.1 in
     g.4.2 ∙ ap (λ e. with_last m e (noted e.last g.4.0)) entries ∙ ap (λ t. with_last m h.0 (noted h.0.last t)) same ∙ sym h.4.2
-one_adds m n n' (RunLine run) g h = g.3 ∙ ap (λ e. with_last m e (given e.last run)) (one_entries m.entries g.0 h.0 g.1 h.1) ∙ sym h.3
+one_adds m n n' (RunLine run) g h = g.3 ∙ ap (λ e. with_last m e (with_run e.last run)) (one_entries m.entries g.0 h.0 g.1 h.1) ∙ sym h.3
 
 -- a manifest of one line
 pub first_lines : (n : Manifest) → IsFirst n → manifest_lines n ≡ volume_line n.head.kind n.head.blocks ∷ []
@@ -122,7 +107,7 @@ same_told (suc f) m n small_f w v e =
           elim (last_line n v) [
             | inl q ↦ absurd (longer n m q p (sym e))
             | inr q ↦
-                let both = one_last (manifest_lines p.0) (manifest_lines q.0) (line_text p.1) (line_text q.1) (sym p.5 ∙ e ∙ q.5) in
+                let both = same_from_push (manifest_lines p.0) (manifest_lines q.0) (line_text p.1) (line_text q.1) (sym p.5 ∙ e ∙ q.5) in
                 let before = same_told f p.0 q.0 (omega (arith, small_f, ap length p.5, length-append (manifest_lines p.0) (line_text p.1 ∷ []))) p.2 q.2
                 both.0 in
                 let line = line_same p.1 q.1 p.3 q.3 both.1 in

@@ -1,5 +1,5 @@
 pub mod Texts
-pub mod Parts
+pub mod Tokens
 pub mod Lines
 pub mod Items
 pub mod Manifest

@@ -5,7 +5,7 @@ use Rattle.adf_fields.specs.Dates.{plain_text}
 use Rattle.adf_fields.specs.declared.dates.Stamp.{Stamp}
 use Rattle.adf_tree.specs.declared.entry.Kind.{Kind}
 use Rattle.adf_tree.specs.declared.entry.Stamps.{Stamps}
-use Rattle.adf_manifest.specs.Parts.{AreStamps, IsStamp, stamps_text}
+use Rattle.adf_manifest.specs.Tokens.{AreStamps, IsStamp, stamps_text}
 use Rattle.adf_manifest.specs.Texts.{hex_word, kind_text, pair, pairs, unpaired}
 use Rattle.adf_manifest.specs.declared.lines.Sort.{Sort}
 use Rattle.adf_manifest.specs.declared.lines.Sort.TheVariants.{Dir, File}

@@ -11,7 +11,7 @@ use Rattle.adf_tree.specs.declared.entry.Stamps.{Stamps}
 use Rattle.adf_tree.specs.declared.tree.AddFault.{AddFault}
 use Rattle.adf_tree.specs.declared.tree.AddFault.TheVariants as add
 use Rattle.adf_blocks.specs.Sizes.{is_allowed}
-use Rattle.adf_manifest.specs.Parts.{AreStamps}
+use Rattle.adf_manifest.specs.Tokens.{AreStamps}
 use Rattle.adf_manifest.specs.Lines.{IsLine, IsVolumeLine, LineValue, LabelLine, StampsLine, EntryLine, NoteLine, RunLine, label_line, line_text, stamps_line, volume_line}
 use Rattle.adf_manifest.specs.Items.{HaveRoom, IsItem, Item, addition_of, item_lines, items_tree}
 use Rattle.adf_manifest.specs.declared.lines.Sort.TheVariants.{File}

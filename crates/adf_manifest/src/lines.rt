@@ -4,12 +4,12 @@ ghost use Rattle.std.specs.Prelude.{◌≡◌, ◌≢◌, ◌<◌, ◌≤◌, �
 ghost use Rattle.adf_fields.specs.declared.dates.Stamp.{Stamp as StampValue};
 ghost use Rattle.adf_tree.specs.declared.entry.Stamps.{Stamps as StampsValue};
 ghost use Rattle.adf_manifest.specs.declared.lines.Sort.{Sort as SortValue};
-ghost use Rattle.adf_manifest.specs.Parts.{AreStamps, IsStamp};
+ghost use Rattle.adf_manifest.specs.Tokens.{AreStamps, IsStamp};
 ghost use Rattle.adf_manifest.specs.Texts.{pairs, unpaired};
 ghost use Rattle.adf_manifest.specs.Lines.{DataRun, FillRun, HasDigits, HasForm, IsLine, IsRun, IsRunOfDigits, LineValue, RunValue, data_line, entry_line, fields_text, fill_line, label_line, line_text, line_value, note_line, run_line, run_value, sort_text, stamps_line};
 
 use crate::digits::{are_pairs, read_byte, read_word};
-use crate::parts::{after, cut_at, cut_twice, read_number, read_stamp, read_stamps};
+use crate::tokens::{after, cut_at, cut_twice, read_number, read_stamp, read_stamps};
 use adf_fields::Stamp;
 use adf_tree::Stamps;
 

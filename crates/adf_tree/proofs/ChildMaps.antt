@@ -1,27 +1,23 @@
 -- Numbers by parents and names.
-use Rattle.std.proofs.Common.{◌≡◌, ◌≢◌, ℕ, ◌<◌, ◌≤◌, inl, inr, List, [], ◌∷◌, ◌++◌, length, set, get_or, Some, None, Option, cond, true, false, Bool, arith, ◌==◌, ◌&&◌, refl, zero, suc, sym, ◌∙◌, ap, subst, if◌then◌else◌}
+use Rattle.std.proofs.Common.{◌≡◌, ◌≢◌, ℕ, ◌<◌, inl, inr, List, [], ◌∷◌, ◌++◌, length, set, get_or, Some, None, Option, cond, true, arith}
+use Rattle.std.proofs.Common.{◌==◌, ◌&&◌, refl, zero, suc, sym, ◌∙◌, ap, if◌then◌else◌}
 use Rattle.std.specs.List.{slice_get}
 use Rattle.std.specs.Ordering.{is_eq, nat_cmp}
 use Rattle.std.specs.Str.{bytes_eq}
 use Rattle.std.specs.Map.{lookup}
 use Rattle.std.specs.BTreeMap.{BTreeMap, get, is_at, IsEmpty, IsUnchanged, Updates}
-use Rattle.std.proofs.lemmas.Bool.{and_parts, cases_Bool, cases_eq, eqb-true}
-use Rattle.std.proofs.lemmas.Option.{slice_get-get_or, slice_get_past}
+use Rattle.std.proofs.lemmas.Bool.{and_parts, cases_Bool, cases_eq, eqb-true, false_from_ne_true, cond-true, cond-false}
+use Rattle.std.proofs.lemmas.Option.{slice_get-get_or}
 use Rattle.adf_tree.specs.declared.child_map.ChildKey.{ChildKey}
 use Rattle.adf_tree.specs.NameKeys.{by_words, is_short, key_of}
 use Rattle.adf_tree.specs.ChildMap.{bucket_of, by_child, child_key, number_at, number_in, HasNumber, Numbers}
 use Rattle.adf_tree.proofs.NameKeys.{equal_words, not_short, same_names, same_number, then_is}
-
-and_swap : (a b : Bool) → (a && b) ≡ (b && a)
-and_swap true true = refl
-and_swap true false = refl
-and_swap false true = refl
-and_swap false false = refl
+use Rattle.std.proofs.Math.Bool.{and_comm}
 
 same_key : (m p : ℕ) (k x : List ℕ) → is_short k ≡ true → is_short x ≡ true → is_eq (by_child (child_key m k) (child_key p x)) ≡ ((m == p) && bytes_eq k x)
 same_key m p k x sk sx =
     then_is (by_words (key_of k) (key_of x)) (nat_cmp m p)
-    ∙ (ap (λ b. b && is_eq (nat_cmp m p)) (same_names k x sk sx) ∙ (ap (λ b. bytes_eq k x && b) (same_number m p) ∙ and_swap (bytes_eq k x) (m == p)))
+    ∙ (ap (λ b. b && is_eq (nat_cmp m p)) (same_names k x sk sx) ∙ (ap (λ b. bytes_eq k x && b) (same_number m p) ∙ and_comm (bytes_eq k x) (m == p)))
 
 -- one bucket more, with nothing in it
 empty_none : (bucket : BTreeMap ChildKey ℕ) (k : ChildKey) → IsEmpty bucket → get by_child bucket k ≡ None
@@ -47,19 +43,6 @@ number_is numbers p x o short at =
     ap (λ b. number_at b (child_key p x)) (sym at)
     ∙ sym (ap (λ b. let r : Option ℕ = if b then number_at (slice_get numbers (bucket_of (child_key p x))) (child_key p x) else None in r) short)
 
-pub number_past : (numbers : Numbers) (p : ℕ) (x : List ℕ) (k : ChildKey) (i : ℕ) → is_short x ≡ true → k ≡ child_key p x → i ≡ bucket_of k
-    → length numbers ≤ i → None ≡ number_in numbers p x
-number_past numbers p x k i short key at past =
-    number_is numbers p x None short (slice_get_past numbers (bucket_of (child_key p x)) (subst (λ (n : ℕ). length numbers ≤ n) (at ∙ ap bucket_of key) past))
-
-pub number_found : (numbers : Numbers) (p : ℕ) (x : List ℕ) (k : ChildKey) (i : ℕ) (bucket : BTreeMap ChildKey ℕ) → is_short x ≡ true → k ≡ child_key p x
-    → i ≡ bucket_of k → i < length numbers → bucket ≡ get_or numbers i bucket → get by_child bucket k ≡ number_in numbers p x
-number_found numbers p x k i bucket short key at within is =
-    ap (get by_child bucket) key
-    ∙ number_is numbers p x (Some bucket) short
-    (ap (slice_get numbers) (sym (at ∙ ap bucket_of key))
-    ∙ (slice_get-get_or numbers i bucket within ∙ ap (λ b. let o : Option (BTreeMap ChildKey ℕ) = Some b in o) (sym is)))
-
 -- one more number
 set_at : (numbers : Numbers) (i j : ℕ) (new : BTreeMap ChildKey ℕ) (k : ChildKey) → j ≢ i
     → number_at (slice_get (set numbers i new) j) k ≡ number_at (slice_get numbers j) k
@@ -83,16 +66,6 @@ sums : (a a' b b' c c' d d' p p' : ℕ) → a ≡ a' → b ≡ b' → c ≡ c' �
     → bucket_of (record { name = record { first = a; second = b; third = c; fourth = d }; parent = p })
     ≡ bucket_of (record { name = record { first = a'; second = b'; third = c'; fourth = d' }; parent = p' })
 sums a a' b b' c c' d d' p p' e f g h i = rw (e, f, g, h, i) refl
-
-not_equal : (b : Bool) → (b ≡ true → ⊥) → b ≡ false
-not_equal true h = absurd (h refl)
-not_equal false h = refl
-
-only_if : (b : Bool) (o : Option ℕ) → b ≡ true → (if b then o else None) ≡ o
-only_if b o h = ap (λ c. let r : Option ℕ = if c then o else None in r) h
-
-not_if : (b : Bool) (o : Option ℕ) → b ≡ false → (if b then o else None) ≡ None
-not_if b o h = ap (λ c. let r : Option ℕ = if c then o else None in r) h
 
 unchanged_at : (numbers : Numbers) (i : ℕ) (old new : BTreeMap ChildKey ℕ) (q : ChildKey) → i < length numbers → old ≡ get_or numbers i old
     → IsUnchanged old new → number_at (slice_get (set numbers i new) (bucket_of q)) q ≡ number_at (slice_get numbers (bucket_of q)) q
@@ -131,7 +104,7 @@ one_bucket numbers i old new k q n lt is at up =
       | inr ne ↦
           set_at numbers i (bucket_of q) new q ne
           ∙ sym (ap (λ b. cond b (Some n) (number_at (slice_get numbers (bucket_of q)) q))
-          (not_equal (is_eq (by_child k q)) (λ t. ne (same_bucket k q t ∙ sym at))))
+          (false_from_ne_true (is_eq (by_child k q)) (λ t. ne (same_bucket k q t ∙ sym at))))
     ]
 
 -- one number more
@@ -142,17 +115,17 @@ unfolding number_in
 has_number old numbers i m x bucket new k n same lt is at key short up p y =
     elim (cases_Bool (is_short y)) [
       | inl t ↦
-          only_if (is_short y) (number_at (slice_get (set numbers i new) (bucket_of (child_key p y))) (child_key p y)) t
+          cond-true (is_short y) (number_at (slice_get (set numbers i new) (bucket_of (child_key p y))) (child_key p y)) None t
           ∙ (one_bucket numbers i bucket new k (child_key p y) n lt is at up
           ∙ (ap (λ b. let o : Option ℕ = cond b (Some n) (number_at (slice_get numbers (bucket_of (child_key p y))) (child_key p y)) in o)
           (ap (λ q. is_eq (by_child q (child_key p y))) key ∙ same_key m p x y short t)
           ∙ ap (λ (o : Option ℕ). if (m == p) && bytes_eq x y then Some n else o)
-          (sym (only_if (is_short y) (number_at (slice_get numbers (bucket_of (child_key p y))) (child_key p y)) t) ∙ same p y)))
+          (sym (cond-true (is_short y) (number_at (slice_get numbers (bucket_of (child_key p y))) (child_key p y)) None t) ∙ same p y)))
       | inr f ↦
-          not_if (is_short y) (number_at (slice_get (set numbers i new) (bucket_of (child_key p y))) (child_key p y)) f
+          cond-false (is_short y) (number_at (slice_get (set numbers i new) (bucket_of (child_key p y))) (child_key p y)) None f
           ∙ sym (ap (λ b. let o : Option ℕ = if b then Some n else number_in old p y in o)
-          (and_swap (m == p) (bytes_eq x y) ∙ ap (λ b. b && (m == p)) (not_short x y short f))
-          ∙ not_if (is_short y) (number_at (slice_get old (bucket_of (child_key p y))) (child_key p y)) f)
+          (and_comm (m == p) (bytes_eq x y) ∙ ap (λ b. b && (m == p)) (not_short x y short f))
+          ∙ cond-false (is_short y) (number_at (slice_get old (bucket_of (child_key p y))) (child_key p y)) None f)
     ]
 
 -- a bucket that was not changed

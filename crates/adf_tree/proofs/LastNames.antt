@@ -1,5 +1,6 @@
 -- The set of the names of a tree's last chain.
-use Rattle.std.proofs.Common.{◌≡◌, ℕ, ◌+◌, ◌-◌, List, [], ◌∷◌, ◌++◌, length, take, drop, map, get_or, Bool, true, false, Option, Some, None, Result, Ok, Err, arith, nat_lt, ◌==◌, ◌&&◌, ◌||◌, sym, refl, ◌∙◌, ap}
+use Rattle.std.proofs.Common.{◌≡◌, ℕ, ◌+◌, ◌-◌, List, [], ◌∷◌, ◌++◌, length, take, drop, map, get_or, Bool, true, false, Option, Some, None, Result, Ok, Err}
+use Rattle.std.proofs.Common.{arith, nat_lt, ◌==◌, ◌&&◌, ◌||◌, sym, refl, ◌∙◌, ap}
 use Rattle.std.specs.List.{list_any}
 use Rattle.std.specs.List.Sorted.{IsPartitionPoint}
 use Rattle.std.specs.Option.{is_some}
@@ -17,9 +18,7 @@ use Rattle.adf_tree.specs.Texts.{uppers}
 use Rattle.adf_tree.specs.Tree.{place, rank, rank_of, renumbered, added, is_child, child}
 use Rattle.adf_tree.specs.NameSet.{has}
 use Rattle.adf_tree.specs.LastChain.{knows, IsOf, Puts}
-use Rattle.adf_tree.proofs.Children.{child_not_before}
-use Rattle.adf_tree.proofs.Found.{found_is}
-use Rattle.adf_tree.proofs.Rooms.{none_is}
+use Rattle.adf_tree.proofs.ChildLookup.{child_not_before, found_is, none_is}
 
 -- what is said of an Ok
 pub at_ok : {X Y P : Type 0} (r : Result X Y) → is_err r ≡ false → OnOk r P → P

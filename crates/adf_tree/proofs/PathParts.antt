@@ -1,18 +1,19 @@
 -- The parts between `/` of the text of a path.
-use Rattle.std.proofs.Common.{◌≡◌, ◌≢◌, ◌↔◌, Bor, Option, Some, None, nat_lt, ℕ, ◌+◌, ◌<◌, ◌/◌, ◌%◌, inl, inr, List, [], ◌∷◌, ◌++◌, length, get_or, take, drop, cond, ◌-◌, map, Bool, true, false, arith, sym, refl, ◌∙◌, ap, ◌==◌, ◌&&◌, nat_le, subst}
+use Rattle.std.proofs.Common.{◌≡◌, ◌≢◌, ◌↔◌, Bor, Option, Some, None, ℕ, ◌+◌, ◌<◌, ◌/◌, ◌%◌, inl, inr, List, [], ◌∷◌, ◌++◌, length, get_or, take}
+use Rattle.std.proofs.Common.{drop, ◌-◌, map, Bool, true, false, arith, sym, refl, ◌∙◌, ap, ◌==◌, ◌&&◌, nat_le, subst}
 use Rattle.std.specs.Prelude.{IsSome, IfNone, IfSome, is_some, position}
 use Rattle.std.proofs.Math.Seq.{get_or-append_seam}
-use Rattle.std.specs.List.{All, join_with_byte, list_all, position_or_len}
-use Rattle.std.proofs.lemmas.Bool.{cases_Bool, and_parts, ltb-true, ltb-false, eqb-true, ne_eqb}
-use Rattle.std.proofs.lemmas.List.Sums.{fails_before_first}
+use Rattle.std.specs.List.{All, join_with_byte, list_all}
+use Rattle.std.proofs.lemmas.Bool.{cases_Bool, and_parts, eqb-true, ne_eqb}
 use Rattle.std.proofs.lemmas.Bool.Decides.{nat_tests}
-use Rattle.std.proofs.lemmas.List.{append_assoc, length-append, length-map, get_or-map, map-append, take_all, take_more, length-drop, length-take-le}
+use Rattle.std.proofs.lemmas.List.{append_assoc, length-append, length-map, get_or-map, map-append, take_more, length-take-le}
 use Rattle.std.proofs.lemmas.List.Elements.{All-head, All-tail, All-append, All-cons, All-nil}
-use Rattle.std.proofs.lemmas.List.Splits.{slice_split_none, slice_split_at, slice_split_first, join_with_byte-slice_split}
+use Rattle.std.proofs.lemmas.List.Splits.{slice_split_none, slice_split_at, join_with_byte-slice_split}
 use Rattle.adf_tree.specs.Texts.{is_name, is_name_byte}
 use Rattle.adf_tree.specs.Escapes.{escape_of, escaped, hex_digit, is_plain, IsSpelling}
 use Rattle.adf_tree.specs.PathTexts.{path_text, with_name, between_slashes, IsName, IsPathText}
 use Rattle.adf_tree.proofs.Spellings.{spelling_some, spelled_plain, spelled_escape, only_spelled}
+use Rattle.adf_tree.proofs.Lists.{cut_at_position, uncut_at_none}
 
 -- whether a byte is `/`
 abbrev pub is_slash : ℕ → Bool
@@ -21,25 +22,10 @@ is_slash c = c == 47
 -- a text is cut at its first `/`
 
 pub cut_at : (text : List ℕ) (i : ℕ) → Some i ≡ position is_slash text → between_slashes text ≡ take i text ∷ between_slashes (take (length text - (i + 1)) (drop (i + 1) text))
-cut_at text i h =
-    elim (cases_Bool (nat_lt (position_or_len is_slash text) (length text))) [
-      | inl t ↦
-          let g : Some i ≡ Some (position_or_len is_slash text) = h ∙ ap (λ b. cond b (Some (position_or_len is_slash text)) None) t in
-          let same : position_or_len is_slash text ≡ i = cc in
-          let lt : position_or_len is_slash text < length text = ltb-true (position_or_len is_slash text) (length text) t in
-          slice_split_first is_slash text 0 lt
-          ∙ (ap (λ k. take k text ∷ between_slashes (drop (k + 1) text)) same
-          ∙ ap (λ ys. take i text ∷ between_slashes ys) (sym (take_all (length text - (i + 1)) (drop (i + 1) text) (omega (arith, length-drop (i + 1) text)))))
-      | inr f ↦ let g : Some i ≡ None = h ∙ ap (λ b. cond b (Some (position_or_len is_slash text)) None) f in cc
-    ]
+cut_at text i h = cut_at_position is_slash text i h
 
 pub uncut : (text : List ℕ) → None ≡ position is_slash text → between_slashes text ≡ text ∷ []
-uncut text h =
-    elim (cases_Bool (nat_lt (position_or_len is_slash text) (length text))) [
-      | inl t ↦ let g : None ≡ Some (position_or_len is_slash text) = h ∙ ap (λ b. cond b (Some (position_or_len is_slash text)) None) t in cc
-      | inr f ↦ slice_split_none is_slash text (λ k d lt. fails_before_first is_slash text k d
-          (omega (arith, ltb-false (position_or_len is_slash text) (length text) f)))
-    ]
+uncut text h = uncut_at_none is_slash text h
 
 -- names have no `/`, escaped or not
 

@@ -1,5 +1,6 @@
 -- A text is the escape form of one list of bytes at most.
-use Rattle.std.proofs.Common.{◌≡◌, ◌≢◌, ℕ, ◌/◌, ◌%◌, ◌<◌, ◌≤◌, inl, inr, List, [], ◌∷◌, ◌++◌, length, get_or, true, false, arith, sym, refl, ◌∙◌, ap, if◌then◌else◌}
+use Rattle.std.proofs.Common.{◌≡◌, ◌≢◌, ℕ, ◌/◌, ◌%◌, ◌<◌, ◌≤◌, inl, inr, List, [], ◌∷◌, ◌++◌, length, get_or, true, false, arith, sym, refl, ◌∙◌, ap}
+use Rattle.std.proofs.Common.{if◌then◌else◌}
 use Rattle.std.proofs.lemmas.Bool.{cases_Bool}
 use Rattle.std.proofs.lemmas.Bool.Decides.{nat_tests}
 use Rattle.std.proofs.lemmas.List.{append_assoc, append-nil, length-append}
@@ -12,6 +13,13 @@ use Rattle.adf_tree.specs.Escapes.{is_plain, hex_digit, escape_of, escaped, IsSp
 hex_apart : (a b : ℕ) → hex_digit a ≡ hex_digit b → a < 16 → b < 16 → a ≡ b
 hex_apart a b h x y = grind (arith, nat_tests)
 
+-- the digits of a byte are of no other
+pub same_digits : (c d : ℕ) → c < 256 → d < 256 → hex_digit (c / 16) ≡ hex_digit (d / 16) → hex_digit (c % 16) ≡ hex_digit (d % 16) → c ≡ d
+same_digits c d small other high low =
+    let a : c / 16 ≡ d / 16 = hex_apart (c / 16) (d / 16) high (omega arith) (omega arith) in
+    let b : c % 16 ≡ d % 16 = hex_apart (c % 16) (d % 16) low (omega arith) (omega arith) in
+    omega arith
+
 plain_not_escape : (c : ℕ) → is_plain c ≡ true → c ≢ 92
 plain_not_escape c h e = grind (arith, nat_tests)
 
@@ -21,38 +29,30 @@ spelled_plain c h = ap (λ b. if b then c ∷ [] else 92 ∷ 120 ∷ hex_digit (
 pub spelled_escape : (c : ℕ) → is_plain c ≡ false → escape_of c ≡ 92 ∷ 120 ∷ hex_digit (c / 16) ∷ hex_digit (c % 16) ∷ []
 spelled_escape c h = ap (λ b. if b then c ∷ [] else 92 ∷ 120 ∷ hex_digit (c / 16) ∷ hex_digit (c % 16) ∷ []) h
 
-same_parts : (c d : ℕ) → c / 16 ≡ d / 16 → c % 16 ≡ d % 16 → c ≡ d
-same_parts c d a b = omega arith
-
 -- two spellings at the head of one text are of one byte
 pub one_spelling : (c d : ℕ) (u v : List ℕ) → c < 256 → d < 256 → escape_of c ++ u ≡ escape_of d ++ v → (c ≡ d) × (u ≡ v)
 one_spelling c d u v cs ds h =
     elim (cases_Bool (is_plain c)) [
       | inl p ↦
           elim (cases_Bool (is_plain d)) [
-            | inl q ↦
-                let g : c ∷ u ≡ d ∷ v = sym (ap (λ s. s ++ u) (spelled_plain c p)) ∙ (h ∙ ap (λ s. s ++ v) (spelled_plain d q)) in
-                (cc, cc)
+            | inl q ↦ let g : c ∷ u ≡ d ∷ v = rw (p, q) at h in (cc, cc)
             | inr q ↦
-                let g : c ∷ u ≡ 92 ∷ (120 ∷ hex_digit (d / 16) ∷ hex_digit (d % 16) ∷ v) =
-                sym (ap (λ s. s ++ u) (spelled_plain c p)) ∙ (h ∙ ap (λ s. s ++ v) (spelled_escape d q)) in
+                let g : c ∷ u ≡ 92 ∷ (120 ∷ hex_digit (d / 16) ∷ hex_digit (d % 16) ∷ v) = rw (p, q) at h in
                 let e : c ≡ 92 = cc in
                 absurd (plain_not_escape c p e)
           ]
       | inr p ↦
           elim (cases_Bool (is_plain d)) [
             | inl q ↦
-                let g : 92 ∷ (120 ∷ hex_digit (c / 16) ∷ hex_digit (c % 16) ∷ u) ≡ d ∷ v =
-                sym (ap (λ s. s ++ u) (spelled_escape c p)) ∙ (h ∙ ap (λ s. s ++ v) (spelled_plain d q)) in
+                let g : 92 ∷ (120 ∷ hex_digit (c / 16) ∷ hex_digit (c % 16) ∷ u) ≡ d ∷ v = rw (p, q) at h in
                 let e : d ≡ 92 = cc in
                 absurd (plain_not_escape d q e)
             | inr q ↦
                 let g : 92 ∷ (120 ∷ hex_digit (c / 16) ∷ hex_digit (c % 16) ∷ u) ≡ 92 ∷ (120 ∷ hex_digit (d / 16) ∷ hex_digit (d % 16) ∷ v) =
-                sym (ap (λ s. s ++ u) (spelled_escape c p)) ∙ (h ∙ ap (λ s. s ++ v) (spelled_escape d q)) in
-                let a : hex_digit (c / 16) ≡ hex_digit (d / 16) = cc in
-                let b : hex_digit (c % 16) ≡ hex_digit (d % 16) = cc in
-                let t : u ≡ v = cc in
-                (same_parts c d (hex_apart (c / 16) (d / 16) a (omega arith) (omega arith)) (hex_apart (c % 16) (d % 16) b (omega arith) (omega arith)), t)
+                rw (p, q) at h in
+                let high : hex_digit (c / 16) ≡ hex_digit (d / 16) = cc in
+                let low : hex_digit (c % 16) ≡ hex_digit (d % 16) = cc in
+                (same_digits c d cs ds high low, cc)
           ]
     ]
 

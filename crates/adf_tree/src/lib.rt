@@ -22,7 +22,7 @@ mod walk_order;
 pub use crate::comment::Comment;
 pub use crate::draft::Draft;
 pub use crate::entry::{Body, Bytes, Entry, Kind, Meta, Node, Stamps};
-pub use crate::escapes::spellings_decide;
+pub use crate::escapes::{hex_digit, is_plain, spellings_decide};
 pub use crate::label::Label;
 pub use crate::laws::{
     adding_grows_the_tree, additions_are_built, additions_have_one_tree, case_keeps_paths,

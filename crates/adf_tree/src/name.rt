@@ -78,7 +78,7 @@ impl Name {
     }
 }
 
-#[tactic(auto, using(crate::proofs::Same::same_yes, crate::proofs::Same::same_no, crate::proofs::Same::same_short))]
+#[tactic(auto, using(crate::proofs::EqualNames::same_yes, crate::proofs::EqualNames::same_no, crate::proofs::EqualNames::same_short))]
 // Whether two texts are equal without the case of `a` to `z`.
 fn are_same(a: &[u8], b: &[u8]) -> bool
     ensures { result ≡ bytes_eq (uppers a.now) (uppers b.now) }

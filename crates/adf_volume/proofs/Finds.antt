@@ -1,16 +1,16 @@
 -- What a look-up in a chain finds in the tree.
 use Rattle.std.proofs.Common.{◌≡◌, ◌≢◌, true, false, ℕ, zero, suc, List, ◌+◌, ◌<◌, length, sym, ap, subst, ◌∙◌, arith, get_or}
 use Rattle.std.specs.Prelude.{Some, None}
+use Rattle.std.proofs.lemmas.Bool.{false_from_ne_true}
 use Rattle.adf_fields.specs.Hash.{slot_of}
 use Rattle.adf_tree.specs.Texts.{uppers}
 use Rattle.adf_tree.specs.declared.entry.Entry.{Entry}
 use Rattle.adf_tree.specs.Tree.{Tree, IsTree, child, is_child}
-use Rattle.adf_tree.proofs.Found.{child_says, is_child_from, child_is, no_children, not_true}
+use Rattle.adf_tree.proofs.ChildLookup.{child_says, is_child_from, child_is, no_children, same_slot}
 use Rattle.adf_volume.specs.Lists.{At}
 use Rattle.adf_volume.specs.Layout.{EntryAt, chain_nodes}
 use Rattle.adf_volume.proofs.Lists.{at_below, at_some, at_index_or}
 use Rattle.adf_volume.proofs.Chains.{entry_at, entry_fun, place_at}
-use Rattle.adf_tree.proofs.Children.{same_slot}
 
 -- an entry of the directory with this name is the child
 pub child_yes : (t : Tree) (p : ℕ) (name : List ℕ) (n : ℕ) (e : Entry) → IsTree t.entries → EntryAt t n e → e.parent ≡ p → uppers e.name ≡ uppers name
@@ -30,7 +30,7 @@ child_no t p name h = no_children t.entries p name
     let e = at_some t.entries k l in
     let z : get_or t.entries k d ≡ e.0 = at_index_or t.entries k e.0 d e.1 in
     subst (λ (x : Entry). is_child p name x
-    ≡ false) (sym z) (not_true (is_child p name e.0) (λ y. let s = child_says p name e.0 y in h (suc k) e.0 e.1 s.0 s.1)))
+    ≡ false) (sym z) (false_from_ne_true (is_child p name e.0) (λ y. let s = child_says p name e.0 y in h (suc k) e.0 e.1 s.0 s.1)))
 
 -- a node of the chain with this name is the child
 pub chain_yes : (t : Tree) (p s : ℕ) (name : List ℕ) (j n : ℕ) (e : Entry) → IsTree t.entries → At (chain_nodes t p s) j n → EntryAt t n e

@@ -9,7 +9,7 @@ use Rattle.adf_tree.specs.Tree.{Tree, IsDir, IsTree, AreApart, rank}
 use Rattle.adf_volume.specs.Lists.{At}
 use Rattle.adf_volume.specs.Layout.{EntryAt}
 use Rattle.adf_volume.proofs.Lists.{at_fun, at_below, at_some, at_index_or}
-use Rattle.adf_tree.proofs.Kept.{slot_small}
+use Rattle.adf_tree.proofs.TreeInvariant.{slot_small}
 
 -- node n is the root, or an entry that is a directory
 abbrev pub DirNode : Tree → ℕ → Type 0

@@ -32,7 +32,7 @@ use Rattle.adf_volume.proofs.LayoutRoles.{part_range, one_part}
 use Rattle.std.proofs.lemmas.Bool.{ltb-false, ltb-true}
 use Rattle.adf_volume.proofs.Places.{exts_below}
 use Rattle.adf_volume.proofs.FormDemands.{dir_not_file}
-use Rattle.adf_tree.proofs.Kept.{slot_small}
+use Rattle.adf_tree.proofs.TreeInvariant.{slot_small}
 
 module _ (image : List ℕ) (t : Tree) (l : Layout) (fit : Fits image t l) where
   -- a header whose secondary type says directory is a directory's

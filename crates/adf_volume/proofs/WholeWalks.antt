@@ -31,7 +31,7 @@ use Rattle.adf_volume.proofs.WalkMembers.{has_map_ext, slot_is, chain_has, has_c
 use Rattle.adf_volume.proofs.Places.{place_parts}
 use Rattle.std.proofs.lemmas.List.{length-map}
 use Rattle.adf_volume.proofs.Sizes.{size_low}
-use Rattle.adf_tree.proofs.Children.{same_slot}
+use Rattle.adf_tree.proofs.ChildLookup.{same_slot}
 
 body_dir : (image : List ℕ) (w : List (Role × ℕ)) (n b : ℕ) (x : Bool) → cond x Dir (File (content image (kind_of image) b (datas_in w n))) ≡ Dir → x ≡ true
 body_dir image w n b true h = refl

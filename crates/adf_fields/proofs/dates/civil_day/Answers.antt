@@ -1,5 +1,5 @@
-use Rattle.std.proofs.Common.{arith, ◌≡◌, ◌∙◌, sym, pos, ◌+ℤ◌, ◌+◌, ℤ, FitsSigned, w64, ap, rules}
-use Rattle.jiff.specs.Words.{epoch_day, date_after, IsEpochDay}
+use Rattle.std.proofs.Common.{arith, ◌∙◌, pos, ◌+ℤ◌, FitsSigned, w64}
+use Rattle.jiff.specs.Words.{epoch_day, IsEpochDay}
 use Rattle.jiff.proofs.SpanFacts.{signed_arith, date_add-days, can_add-days}
 use Rattle.std.proofs.lemmas.Int.{to_z-of_z}
 use Rattle.adf_fields.proofs.Digits.{epoch_day_1970}

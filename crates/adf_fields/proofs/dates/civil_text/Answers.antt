@@ -1,4 +1,4 @@
-use Rattle.std.proofs.Common.{arith, ◌≡◌, ◌<◌, ◌/◌, ◌%◌}
+use Rattle.std.proofs.Common.{arith, ◌/◌, ◌%◌}
 use Rattle.adf_fields.proofs.Digits.{two_places}
 use Rattle.adf_fields.proofs.dates.civil_text.Goals as goal
 

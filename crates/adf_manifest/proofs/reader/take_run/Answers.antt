@@ -1,7 +1,7 @@
 use Rattle.std.proofs.Common.{◌++◌, ◌∙◌, sym, ap}
 use Rattle.adf_manifest.specs.Lines.{run_value}
 use Rattle.adf_manifest.specs.Items.{run_bytes}
-use Rattle.adf_manifest.proofs.Growth.{given_bytes}
+use Rattle.adf_manifest.proofs.Growth.{with_run_bytes}
 use Rattle.adf_manifest.proofs.StateLaws.{run_step}
 use Rattle.adf_manifest.proofs.reader.take_run.Goals as goal
 
@@ -16,5 +16,5 @@ returns-in_ok-push_run-in-File-clause-lines c = λ m e w g.
       path = g.last.path;
       note = g.last.note;
       bytes =
-          c.in_ok-push_run-in-File.ensures.bytes ∙ ap (λ l. l ++ run_bytes run) g.last.bytes ∙ sym (given_bytes e.last run);
+          c.in_ok-push_run-in-File.ensures.bytes ∙ ap (λ l. l ++ run_bytes run) g.last.bytes ∙ sym (with_run_bytes e.last run);
     })

@@ -1,5 +1,5 @@
 use Rattle.std.proofs.Common.{sym, ◌∙◌}
-use Rattle.adf_tree.proofs.DraftRooms.{steps}
+use Rattle.adf_tree.proofs.DraftLookup.{steps}
 use Rattle.adf_tree.proofs.draft.directory.Goals as goal
 
 pub returns-in-None-clause-room : goal.returns-in-None-clause-room

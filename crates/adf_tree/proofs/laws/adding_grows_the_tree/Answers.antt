@@ -1,4 +1,4 @@
-use Rattle.adf_tree.proofs.Grown.{grown}
+use Rattle.adf_tree.proofs.TreeOfAdditions.{grown}
 use Rattle.adf_tree.proofs.laws.adding_grows_the_tree.Goals as goal
 
 pub returns : goal.returns

@@ -1,4 +1,4 @@
-use Rattle.adf_tree.proofs.Grown.{all_built}
+use Rattle.adf_tree.proofs.TreeOfAdditions.{all_built}
 use Rattle.adf_tree.proofs.laws.additions_are_built.Goals as goal
 
 pub returns : goal.returns

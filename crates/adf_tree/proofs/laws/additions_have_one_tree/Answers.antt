@@ -1,4 +1,4 @@
-use Rattle.adf_tree.proofs.OneTree.{one_tree}
+use Rattle.adf_tree.proofs.OneTreeOfAdditions.{one_tree}
 use Rattle.adf_tree.proofs.laws.additions_have_one_tree.Goals as goal
 
 pub returns : goal.returns

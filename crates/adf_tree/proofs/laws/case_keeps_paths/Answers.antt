@@ -1,4 +1,4 @@
-use Rattle.adf_tree.proofs.Told.{find_uppers}
+use Rattle.adf_tree.proofs.PathContents.{find_uppers}
 use Rattle.adf_tree.proofs.laws.case_keeps_paths.Goals as goal
 
 pub returns : goal.returns

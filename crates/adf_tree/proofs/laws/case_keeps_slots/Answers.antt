@@ -1,4 +1,4 @@
-use Rattle.adf_tree.proofs.Children.{same_slot}
+use Rattle.adf_tree.proofs.ChildLookup.{same_slot}
 use Rattle.adf_tree.proofs.laws.case_keeps_slots.Goals as goal
 
 pub returns : goal.returns

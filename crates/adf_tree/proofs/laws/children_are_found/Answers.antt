@@ -1,4 +1,4 @@
-use Rattle.adf_tree.proofs.Members.{child_found_is}
+use Rattle.adf_tree.proofs.ChainMembers.{child_found_is}
 use Rattle.adf_tree.proofs.laws.children_are_found.Goals as goal
 
 pub returns : goal.returns

@@ -1,4 +1,4 @@
-use Rattle.adf_tree.proofs.Members.{one_chain}
+use Rattle.adf_tree.proofs.ChainMembers.{one_chain}
 use Rattle.adf_tree.proofs.laws.entries_stand_in_one_chain.Goals as goal
 
 pub returns : goal.returns

@@ -1,4 +1,4 @@
-use Rattle.adf_tree.proofs.NamesFound.{names_found}
+use Rattle.adf_tree.proofs.EntryPaths.{names_found}
 use Rattle.adf_tree.proofs.laws.names_are_found.Goals as goal
 
 pub returns : goal.returns

@@ -1,4 +1,4 @@
-use Rattle.adf_tree.proofs.PathsFound.{path_found}
+use Rattle.adf_tree.proofs.EntryPaths.{path_found}
 use Rattle.adf_tree.proofs.laws.paths_are_found.Goals as goal
 
 pub returns : goal.returns

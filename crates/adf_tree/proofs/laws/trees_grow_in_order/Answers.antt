@@ -1,4 +1,4 @@
-use Rattle.adf_tree.proofs.Prefixes.{is_next}
+use Rattle.adf_tree.proofs.TreePrefixes.{is_next}
 use Rattle.adf_tree.proofs.laws.trees_grow_in_order.Goals as goal
 
 pub returns : goal.returns

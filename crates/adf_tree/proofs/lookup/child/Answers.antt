@@ -1,6 +1,6 @@
 use Rattle.std.proofs.Common.{arith, sym, ◌∙◌, ap}
 use Rattle.adf_fields.specs.Hash.{slot_of}
-use Rattle.adf_tree.proofs.Children.{child_found, child_none, child_not_before, child_not_past}
+use Rattle.adf_tree.proofs.ChildLookup.{child_found, child_not_before, child_not_past, no_children}
 use Rattle.adf_tree.proofs.lookup.child.Goals as goal
 
 pub loop-i-init : goal.loop-i-init
@@ -15,6 +15,6 @@ returns-then-is_child c =
 
 pub returns : goal.returns
 returns c =
-    child_none c.args.entries.now c.args.parent c.args.name.now
+    sym (no_children c.args.entries.now c.args.parent c.args.name.now
     (child_not_past c.args.entries.now c.args.parent c.args.name.now c.slot-slot.result c.place_of-end.result c.loop-i.i
-    (c.slot-slot.ensures.exact ∙ ap slot_of c.bytes.ensures.bytes) c.requires c.place_of-end.ensures.exact (omega arith) c.loop-i.invariant)
+    (c.slot-slot.ensures.exact ∙ ap slot_of c.bytes.ensures.bytes) c.requires c.place_of-end.ensures.exact (omega arith) c.loop-i.invariant))

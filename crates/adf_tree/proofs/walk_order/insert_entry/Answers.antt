@@ -4,8 +4,8 @@ use Rattle.std.specs.Result.{is_ok}
 use Rattle.adf_tree.specs.declared.entry.Entry.{Entry}
 use Rattle.adf_tree.specs.Tree.{renumbered, place, rank, rank_of}
 use Rattle.adf_fields.specs.Hash.{slot_of}
-use Rattle.adf_tree.proofs.Inserted.{inserted_mapped, written_whole}
-use Rattle.adf_tree.proofs.Kept.{place_le}
+use Rattle.adf_tree.proofs.WalkOrder.{inserted_mapped, written_whole}
+use Rattle.adf_tree.proofs.TreeInvariant.{place_le}
 use Rattle.adf_tree.proofs.walk_order.insert_entry.Goals as goal
 
 pub place_of-at-requires-clause-order : goal.place_of-at-requires-clause-order

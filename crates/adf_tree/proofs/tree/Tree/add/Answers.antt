@@ -1,11 +1,11 @@
-use Rattle.std.proofs.Common.{sym, ◌∙◌, ap, ◌≡◌, ℕ, ◌-◌, List, take, length, if◌then◌else◌, subst, ◌++◌, ◌∷◌, [], ◌==◌, false}
+use Rattle.std.proofs.Common.{sym, ◌∙◌, ap, ℕ, List, if◌then◌else◌, subst}
 use Rattle.std.specs.Result.{is_ok}
 use Rattle.adf_tree.specs.declared.entry.Entry.{Entry}
-use Rattle.adf_tree.specs.Tree.{room_at, directory_from, added, with_entry, new_entry, IsTree}
+use Rattle.adf_tree.specs.Tree.{room_at, directory_from, added, with_entry, new_entry, IsTree, parents_of}
 use Rattle.std.specs.Prelude.{OnOk}
 use Rattle.adf_tree.specs.Paths.{AddsOne}
-use Rattle.adf_tree.proofs.Adds.{adds_one, whole_path, on_ok}
-use Rattle.adf_tree.proofs.Rooms.{room_keeps, same_entry, tree_left}
+use Rattle.adf_tree.proofs.PathContents.{added_paths}
+use Rattle.adf_tree.proofs.AddRoom.{is_new, room_keeps, tree_left}
 use Rattle.adf_tree.proofs.tree.Tree.add.Goals as goal
 
 pub room_for-requires-clause-order : goal.room_for-requires-clause-order
@@ -17,7 +17,7 @@ room_for-requires-clause-names c = rw c.deref.ensures.value c.self.invariant.1
 pub invariant_of-self : goal.invariant_of-self
 invariant_of-self c =
     let es : List Entry = c.self.inside.entries.items in
-    let parents : List (List ℕ) = take (length c.args.path.now - 1) c.args.path.now in
+    let parents : List (List ℕ) = parents_of c.args.path.now in
     let e : Entry = record { parent = c.in_ok-parent.parent; name = c.copy-name.result; meta = c.args.meta; body = c.args.body } in
     let tree : IsTree (if is_ok c.add_entry.result then added es e else es) =
     room_keeps es e parents (is_ok c.add_entry.result) c.self.invariant.0
@@ -28,29 +28,20 @@ pub returns-clause-tree : goal.returns-clause-tree
 returns-clause-tree c =
     let es : List Entry = c.self.inside.entries.items in
     let path : List (List ℕ) = c.args.path.now in
-    let parents : List (List ℕ) = take (length path - 1) path in
-    let e : Entry = record { parent = c.in_ok-parent.parent; name = c.copy-name.result; meta = c.args.meta; body = c.args.body } in
-    tree_left (record { kind = c.self.inside.kind; label = c.self.inside.label; stamps = c.self.inside.stamps; entries = es }) c.add_entry.new.entries.items
-    e (is_ok c.add_entry.result) path c.args.meta c.args.body c.add_entry.ensures.entries
-    (same_entry es path c.args.meta c.args.body c.index-path-last.result c.copy-name.result c.in_ok-parent.parent
+    let fresh = is_new es path c.args.meta c.args.body c.index-path-last.result c.copy-name.result c.in_ok-parent.parent
     (sym c.is_empty.ensures ∙ c.if-is_empty.false) c.index-path-last.is c.copy-name.ensures
-    (c.in_ok-parent.ensures ∙ ap (λ xs. room_at xs c.copy-name.result (directory_from xs 0 parents)) c.deref.ensures.value))
+    (c.in_ok-parent.ensures ∙ ap (λ xs. room_at xs c.copy-name.result (directory_from xs 0 (parents_of path))) c.deref.ensures.value) in
+    tree_left (record { kind = c.self.inside.kind; label = c.self.inside.label; stamps = c.self.inside.stamps; entries = es }) c.add_entry.new.entries.items
+    _ (is_ok c.add_entry.result) path c.args.meta c.args.body c.add_entry.ensures.entries fresh.entry
     ∙ ap (λ t. if is_ok c.add_entry.result then with_entry t path c.args.meta c.args.body else t) c.self.view_is
 
 pub returns-clause-paths : goal.returns-clause-paths
 returns-clause-paths c =
     let es : List Entry = c.self.inside.entries.items in
     let path : List (List ℕ) = c.args.path.now in
-    let parents : List (List ℕ) = take (length path - 1) path in
-    let e : Entry = record { parent = c.in_ok-parent.parent; name = c.copy-name.result; meta = c.args.meta; body = c.args.body } in
-    let some : (length path == 0) ≡ false = sym c.is_empty.ensures ∙ c.if-is_empty.false in
-    let room = c.in_ok-parent.ensures ∙ ap (λ xs. room_at xs c.copy-name.result (directory_from xs 0 parents)) c.deref.ensures.value in
-    let is : path ≡ parents ++ e.name ∷ [] =
-    whole_path path c.index-path-last.result some ∙ ap (λ y. parents ++ y ∷ []) (sym c.index-path-last.is ∙ sym c.copy-name.ensures) in
+    let fresh = is_new es path c.args.meta c.args.body c.index-path-last.result c.copy-name.result c.in_ok-parent.parent
+    (sym c.is_empty.ensures ∙ c.if-is_empty.false) c.index-path-last.is c.copy-name.ensures
+    (c.in_ok-parent.ensures ∙ ap (λ xs. room_at xs c.copy-name.result (directory_from xs 0 (parents_of path))) c.deref.ensures.value) in
     subst (λ t. OnOk c.add_entry.result (AddsOne t.entries c.add_entry.new.entries.items (new_entry t.entries path c.args.meta c.args.body) path))
     c.self.view_is
-    (subst (λ x. OnOk c.add_entry.result (AddsOne es c.add_entry.new.entries.items x path))
-    (same_entry es path c.args.meta c.args.body c.index-path-last.result c.copy-name.result c.in_ok-parent.parent some c.index-path-last.is
-    c.copy-name.ensures room)
-    (on_ok c.add_entry.result es c.add_entry.new.entries.items e path c.add_entry.ensures.entries
-    (adds_one es e parents path c.self.invariant.0 (sym room) is)))
+    (added_paths c.add_entry.result es c.add_entry.new.entries.items _ path c.args.meta c.args.body c.self.invariant.0 fresh c.add_entry.ensures.entries)

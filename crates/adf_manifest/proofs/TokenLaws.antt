@@ -1,0 +1,149 @@
+-- Laws of parts of lines: cuts at a byte, numbers in decimal, stamps.
+use Rattle.std.proofs.Common.{◌≡◌, ◌-◌, ◌+◌, ◌≢◌, inl, inr, ◌≤◌, ◌<◌, ◌^◌, ◌==◌, ◌&&◌, ◌||◌, not, ◌++◌, ◌∙◌, ℕ, Bool, true, false, nat_lt, List, ◌∷◌, []}
+use Rattle.std.proofs.Common.{Option, Some, None, Result, Ok, IfNone, refl, sym, ap, subst, arith, rules, length, slice_index, slice_index_or, length-append}
+use Rattle.std.proofs.Common.{drop, take, take-append-drop, IfSome, MatchOption, nat_eq}
+use Rattle.std.proofs.Math.Seq.{get_or-append_seam}
+use Rattle.std.specs.List.{slice_split}
+use Rattle.std.specs.Result.{OkIff}
+use Rattle.std.proofs.lemmas.Bool.{cases_eq, cases_lt}
+use Rattle.std.specs.Fmt.{decimal}
+use Rattle.std.specs.Str.{IsUtf8}
+use Rattle.std.specs.Str.Parse.{AllDigits, ParsesUnsigned, digits_value}
+use Rattle.std.proofs.lemmas.Fmt.{IsAscii-decimal, decimal_is_IsNumeral, decimal-digits_value, decimal_digit, decimal_nonempty, first_decimal, parse-decimal}
+use Rattle.std.specs.Cmp.Lexicographic.{other_text, pointwise, same_text}
+use Rattle.std.proofs.lemmas.List.{append_cancel_left, take_at}
+use Rattle.std.proofs.lemmas.Bool.Decides.{nat_tests}
+use Rattle.std.proofs.lemmas.List.Elements.{All-append, All-cons, All-from_get_or}
+use Rattle.std.proofs.lemmas.List.Splits.{slice_split_at}
+use Rattle.std.proofs.lemmas.Str.{IsUtf8-from_ascii}
+use Rattle.std.proofs.lemmas.Str.Parse.{IsNumeralModel, digit_at, numerals_by_value, parse_plain, tells_digits}
+use Rattle.adf_fields.specs.Dates.{plain_text}
+use Rattle.adf_fields.specs.declared.dates.Stamp.{Stamp}
+use Rattle.adf_tree.specs.declared.entry.Stamps.{Stamps}
+use Rattle.adf_manifest.specs.Tokens.{AreStamps, IsStamp, Lacks, has_number_front, stamps_text}
+
+pub if_none : {T P : Type 0} (o : Option T) → P → IfNone o P
+if_none None p = p
+if_none (Some x) p = tt
+
+-- a text is cut in one way at the first of a byte
+pub one_cut : (c : ℕ) (a b a' b' : List ℕ) → Lacks c a → Lacks c a' → a ++ c ∷ b ≡ a' ++ c ∷ b' → (a ≡ a') × (b ≡ b')
+one_cut c a b a' b' h h' e =
+    let p : ℕ → Bool = λ x. x == c in
+    let same : p c ≡ true = search rules in
+    let parts : a ∷ slice_split p b ≡ a' ∷ slice_split p b' =
+    sym (slice_split_at p a c b h same) ∙ ap (slice_split p) e ∙ slice_split_at p a' c b' h' same in
+    let front : a ≡ a' = cc in
+    let back : c ∷ b ≡ c ∷ b' = append_cancel_left a' (c ∷ b) (c ∷ b') (ap (λ l. l ++ c ∷ b) (sym front) ∙ e) in
+    (front, cc)
+
+-- a text with the byte does not lack it
+pub not_cut : (c : ℕ) (t a b : List ℕ) → Lacks c t → t ≡ a ++ c ∷ b → ⊥
+not_cut c t a b h e =
+    let at : slice_index_or t (length a) 0 ≡ c = rw e (get_or-append_seam a c b 0) in
+    let within : length a < length t = rw e (omega (arith, length-append a (c ∷ b))) in
+    let other : (slice_index_or t (length a) 0 == c) ≡ false = h (length a) 0 within in
+    let same : (c == c) ≡ true = search rules in
+    let bad : true ≡ false = sym same ∙ ap (λ x. x == c) (sym at) ∙ other in
+    absurd cc
+
+-- nor at two of the byte
+pub one_cut_twice : (c : ℕ) (x y z a b d : List ℕ) → Lacks c x → Lacks c y → Lacks c a → Lacks c b → x ++ c ∷ (y ++ c ∷ z) ≡ a ++ c ∷ (b ++ c ∷ d)
+    → (x ≡ a) × (y ≡ b) × (z ≡ d)
+one_cut_twice c x y z a b d hx hy ha hb e =
+    let first = one_cut c x (y ++ c ∷ z) a (b ++ c ∷ d) hx ha e in
+    let second = one_cut c y z b d hy hb first.1 in
+    (first.0, second.0, second.1)
+
+-- a number in decimal has no other byte than digits
+decimal_lacks : (c n : ℕ) → ((d : ℕ) → 48 ≤ d → d ≤ 57 → (d == c) ≡ false) → n < 2 ^ 32 → Lacks c (decimal n)
+decimal_lacks c n f h =
+    let numeral = decimal_is_IsNumeral n (omega arith) in
+    All-from_get_or (λ x. (x == c) ≡ false) (decimal n) 0 (λ i lt. let r = digit_at (decimal n) i numeral.0.1 lt in f (slice_index_or (decimal n) i 0) r.0 r.1)
+
+pub colon_lacks : (n : ℕ) → n < 2 ^ 32 → Lacks 58 (decimal n)
+colon_lacks n h = decimal_lacks 58 n (λ d low high. grind (arith, nat_tests)) h
+
+pub space_lacks : (n : ℕ) → n < 2 ^ 32 → Lacks 32 (decimal n)
+space_lacks n h = decimal_lacks 32 n (λ d low high. grind (arith, nat_tests)) h
+
+pub stamp_lacks : (s : Stamp) → IsStamp s → Lacks 32 (plain_text s)
+stamp_lacks s h =
+    let P : ℕ → Type 0 = λ x. (x == 32) ≡ false in
+    All-append P (decimal s.days) _ (space_lacks s.days h.0)
+    (All-cons P 58 _ refl (All-append P (decimal s.mins) _ (space_lacks s.mins h.1) (All-cons P 58 _ refl (space_lacks s.ticks h.2))))
+
+-- the parts of a stamp
+pub stamp_parts : (text x y z : List ℕ) (s : Stamp) → Lacks 58 x → Lacks 58 y → text ≡ x ++ 58 ∷ (y ++ 58 ∷ z) → IsStamp s → text ≡ plain_text s
+    → (x ≡ decimal s.days) × (y ≡ decimal s.mins) × (z ≡ decimal s.ticks)
+stamp_parts text x y z s hx hy e h g =
+    one_cut_twice 58 x y z (decimal s.days) (decimal s.mins) (decimal s.ticks) hx hy (colon_lacks s.days h.0) (colon_lacks s.mins h.1) (sym e ∙ g)
+
+-- the parts of three stamps
+pub stamps_parts : (text x y z : List ℕ) (s : Stamps) → Lacks 32 x → Lacks 32 y → text ≡ x ++ 32 ∷ (y ++ 32 ∷ z) → AreStamps s → text ≡ stamps_text s
+    → (x ≡ plain_text s.root) × (y ≡ plain_text s.altered) × (z ≡ plain_text s.created)
+stamps_parts text x y z s hx hy e h g =
+    one_cut_twice 32 x y z (plain_text s.root) (plain_text s.altered) (plain_text s.created) hx hy (stamp_lacks s.root h.0) (stamp_lacks s.altered h.1)
+    (sym e ∙ g)
+
+own : IsNumeralModel (AllDigits 10) (digits_value 10)
+own = numerals_by_value (AllDigits 10) tells_digits
+
+-- what the test of the front says of a length and a first byte
+front_true : (n first : ℕ) → 0 < n → first ≢ 43 → (first ≡ 48 → n ≡ 1) → (nat_lt 0 n && (not (first == 43) && (not (first == 48) || (n == 1)))) ≡ true
+front_true n first h p z =
+    elim (cases_eq first 48) [
+      | inl e ↦ let one = z e in grind (arith, nat_tests)
+      | inr ne ↦ grind (arith, nat_tests)
+    ]
+
+front_told : (n first : ℕ) → (nat_lt 0 n && (not (first == 43) && (not (first == 48) || (n == 1)))) ≡ true → (0 < n) × (first ≢ 43) × (first ≡ 48 → n ≡ 1)
+front_told n first h = (grind (arith, nat_tests), (λ e. grind (arith, nat_tests)), (λ e. grind (arith, nat_tests)))
+
+decimal_front : (n : ℕ) → n < 2 ^ 32 → has_number_front (decimal n) ≡ true
+decimal_front n h =
+    let numeral = decimal_is_IsNumeral n (omega arith) in
+    let filled = decimal_nonempty n (omega arith) in
+    let first = digit_at (decimal n) 0 numeral.0.1 filled in
+    front_true (length (decimal n)) (slice_index (decimal n) 0) filled (λ e. omega (arith, first.0))
+    (λ e. elim (cases_lt 0 n) [
+      | inl pos ↦ absurd (omega (arith, first_decimal n pos (omega arith)))
+      | inr zero ↦ ap length (decimal_digit n (omega arith))
+    ])
+
+-- what parse reads of a text with the front of a number
+pub number_is : {E : Type 0} (text : List ℕ) (n : ℕ) (r : Result ℕ E) → has_number_front text ≡ true → ParsesUnsigned 32 10 text r → r ≡ Ok n
+    → text ≡ decimal n
+number_is text n r front h e =
+    let told = front_told (length text) (slice_index text 0) front in
+    let plain = parse_plain own 32 text r h told.1 in
+    let Q : Type 0 = AllDigits 10 text × (0 < length text) × (digits_value 10 text < 2 ^ 32) in
+    let ok = subst (λ q. OkIff q Q (digits_value 10 text)) e plain in
+    sym (decimal-digits_value own text ok.0.0 told.0 told.2 (let small = ok.0.2 in omega arith)) ∙ ap decimal (sym ok.1)
+
+pub no_number_front : (text : List ℕ) → has_number_front text ≡ false → (n : ℕ) → n < 2 ^ 32 → text ≢ decimal n
+no_number_front text h n lt e =
+    let bad : true ≡ false = sym (decimal_front n lt) ∙ ap has_number_front (sym e) ∙ h in
+    absurd cc
+
+pub number_utf8 : (text : List ℕ) (n : ℕ) → n < 2 ^ 32 → text ≡ decimal n → IsUtf8 text
+number_utf8 text n lt e = subst IsUtf8 (sym e) (IsUtf8-from_ascii (decimal n) (IsAscii-decimal n (omega arith)))
+
+pub number_read : {E : Type 0} (text : List ℕ) (n : ℕ) (r : Result ℕ E) → ParsesUnsigned 32 10 text r → n < 2 ^ 32 → text ≡ decimal n → r ≡ Ok n
+number_read text n r h lt e = parse-decimal 32 n text r lt (omega arith) e h
+
+-- what a prefix that was taken off, or not found, says of a text
+pub prefix_says : {T : Type 0} (L : T → Type 0) (text prefix : List ℕ) (f : T → List ℕ) (o : Option T)
+    → MatchOption o (pointwise nat_eq (take (length prefix) text) prefix ≡ false)
+    (λ x. (pointwise nat_eq (take (length prefix) text) prefix ≡ true) × (f x ≡ drop (length prefix) text) × L x)
+    → IfSome o (λ x. text ≡ prefix ++ f x) × IfNone o ((rest : List ℕ) → text ≢ prefix ++ rest)
+prefix_says L text prefix f None h = (tt, λ rest e. other_text _ _ (sym h) (ap (take (length prefix)) e ∙ take_at prefix rest (length prefix) refl))
+prefix_says L text prefix f (Some x) h =
+    let n = length prefix in
+    (sym (take-append-drop n text) ∙ ap (λ l. l ++ drop n text) (same_text _ _ (sym h.0)) ∙ ap (λ l. prefix ++ l) (sym h.1), tt)
+
+-- a text of one digit is that number
+pub one_digit : (text : List ℕ) (n : ℕ) → length text ≡ 1 → 48 ≤ slice_index text 0 → slice_index text 0 ≤ 57 → n ≡ slice_index text 0 - 48 → text ≡ decimal n
+one_digit [] n long low high is = absurd (omega arith)
+one_digit (d ∷ []) n long low high is = let same : 48 + n ≡ d = omega arith in sym (decimal_digit n (omega arith) ∙ ap (λ k. k ∷ []) same)
+one_digit (d ∷ e ∷ more) n long low high is = absurd (omega arith)

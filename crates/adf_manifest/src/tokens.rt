@@ -1,0 +1,111 @@
+// Tokens of a line: what follows a word, what stands around a byte, numbers and stamps.
+
+ghost use Rattle.std.specs.Prelude.{◌≡◌, ◌≢◌, ◌<◌, ◌^◌, ◌++◌, ◌∷◌, ℕ, List, IfSome, IfNone, length};
+ghost use Rattle.std.specs.Fmt.{decimal};
+ghost use Rattle.adf_fields.specs.Dates.{plain_text};
+ghost use Rattle.adf_fields.specs.declared.dates.Stamp.{Stamp as StampValue};
+ghost use Rattle.adf_tree.specs.declared.entry.Stamps.{Stamps as StampsValue};
+ghost use Rattle.adf_manifest.specs.Tokens.{AreStamps, IsStamp, Lacks, has_number_front, stamps_text};
+
+use adf_fields::Stamp;
+use adf_tree::Stamps;
+
+/// The rest of a text behind a prefix.
+pub fn after<'a>(text: &'a [u8], prefix: &[u8]) -> Option<&'a [u8]>
+    ensures some { IfSome result (λ rest. text.now ≡ prefix.now ++ rest.now) }
+    ensures none { IfNone result ((rest : List ℕ) → text.now ≢ prefix.now ++ rest) }
+{
+    text.strip_prefix(prefix)
+}
+
+/// What stands before and after the first of these bytes.
+pub fn cut_at<'a>(text: &'a [u8], byte: u8) -> Option<(&'a [u8], &'a [u8])>
+    ensures some { IfSome result (λ r. (text.now ≡ r.0.now ++ byte ∷ r.1.now) × Lacks byte r.0.now) }
+    ensures none { IfNone result (Lacks byte text.now) }
+{
+    let at = text.iter().position(|c| *c == byte)?;
+    Some((&text[..at], &text[at + 1..]))
+}
+
+/// The three parts around the first two of these bytes.
+pub fn cut_twice<'a>(text: &'a [u8], byte: u8) -> Option<(&'a [u8], &'a [u8], &'a [u8])>
+    ensures some { IfSome result (λ r. (text.now ≡ r.0.now ++ byte ∷ (r.1.now ++ byte ∷ r.2.now)) × Lacks byte r.0.now × Lacks byte r.1.now) }
+    ensures none { IfNone result ((a b c : List ℕ) → Lacks byte a → Lacks byte b → text.now ≢ a ++ byte ∷ (b ++ byte ∷ c)) }
+{
+    let (first, rest) = cut_at(text, byte)?;
+    let (second, third) = cut_at(rest, byte)?;
+    Some((first, second, third))
+}
+
+// Whether a text may be a number by its length and its first byte.
+fn has_number_front(text: &[u8]) -> bool
+    ensures { result ≡ has_number_front text.now }
+{
+    !text.is_empty() && text[0] != b'+' && (text[0] != b'0' || text.len() == 1)
+}
+
+// The number that a text of one digit is.
+fn read_digit(text: &[u8]) -> Option<u32>
+    ensures { IfSome result (λ n. text.now ≡ decimal n) }
+{
+    match text {
+        [digit] if b'0' <= *digit && *digit <= b'9' => Some(u32::from(*digit - b'0')),
+        _ => None,
+    }
+}
+
+// The same of a text of any length.
+fn read_digits(text: &[u8]) -> Option<u32>
+    ensures some { IfSome result (λ n. text.now ≡ decimal n) }
+    ensures none { IfNone result ((n : ℕ) → n < 2 ^ 32 → text.now ≢ decimal n) }
+{
+    if !has_number_front(text) {
+        return None;
+    }
+    match std::str::from_utf8(text) {
+        Ok(digits) => match digits.parse::<u32>() {
+            Ok(number) => Some(number),
+            Err(_) => None,
+        },
+        Err(_) => None,
+    }
+}
+
+/// The number below 2 ^ 32 that a text is in decimal, without leading zeros.
+pub fn read_number(text: &[u8]) -> Option<u32>
+    ensures some { IfSome result (λ n. text.now ≡ decimal n) }
+    ensures none { IfNone result ((n : ℕ) → n < 2 ^ 32 → text.now ≢ decimal n) }
+{
+    match read_digit(text) {
+        Some(number) => Some(number),
+        None => read_digits(text),
+    }
+}
+
+/// The stamp that a text is: days, minutes and ticks in decimal, joined by `:`.
+pub fn read_stamp(text: &[u8]) -> Option<Stamp>
+    ensures some { IfSome result (λ s. text.now ≡ plain_text s) }
+    ensures none { IfNone result ((s : StampValue) → IsStamp s → text.now ≢ plain_text s) }
+{
+    let (days, mins, ticks) = cut_twice(text, b':')?;
+    let days = read_number(days)?;
+    let mins = read_number(mins)?;
+    let ticks = read_number(ticks)?;
+    Some(Stamp { days, mins, ticks })
+}
+
+/// The three stamps that a text is, joined by spaces.
+pub fn read_stamps(text: &[u8]) -> Option<Stamps>
+    ensures some { IfSome result (λ s. text.now ≡ stamps_text s) }
+    ensures none { IfNone result ((s : StampsValue) → AreStamps s → text.now ≢ stamps_text s) }
+{
+    let (root, altered, created) = cut_twice(text, b' ')?;
+    let root = read_stamp(root)?;
+    let altered = read_stamp(altered)?;
+    let created = read_stamp(created)?;
+    Some(Stamps {
+        root,
+        altered,
+        created,
+    })
+}

@@ -1,0 +1,130 @@
+-- Whether there is room for a path, and what may be added there.
+use Rattle.std.proofs.Common.{◌≡◌, ℕ, ◌-◌, ◌<◌, inl, inr, List, [], ◌∷◌, length, get_or, true, false, Bool, Option, Some, None, Result, Ok, Err, arith, ◌==◌}
+use Rattle.std.proofs.Common.{◌||◌, sym, refl, ◌∙◌, ap, subst, if◌then◌else◌, zero, suc, take, ◌++◌, ◌+◌}
+use Rattle.std.specs.Prelude.{option_map}
+use Rattle.std.specs.Option.{unwrap_or}
+use Rattle.std.specs.List.{slice_get}
+use Rattle.std.specs.Str.{bytes_eq}
+use Rattle.std.proofs.lemmas.Bool.{cases_Bool, and_from, eq-eqb, eqb-false, ne_eqb, both_ways}
+use Rattle.std.proofs.lemmas.List.{get_or_default, take_more, take_all}
+use Rattle.std.proofs.lemmas.Slice.Eq.{bytes_eq-Decides}
+use Rattle.adf_tree.specs.declared.entry.Entry.{Entry}
+use Rattle.adf_tree.specs.declared.entry.Meta.{Meta}
+use Rattle.adf_tree.specs.declared.entry.Body.{Body}
+use Rattle.adf_tree.specs.declared.entry.Body.TheVariants.{Dir, File}
+use Rattle.adf_tree.specs.declared.tree.AddFault.{AddFault}
+use Rattle.adf_tree.specs.declared.tree.AddFault.TheVariants.{NoParent, ParentIsFile, EmptyPath}
+use Rattle.adf_tree.specs.Texts.{uppers}
+use Rattle.adf_tree.specs.Tree.{is_child, child, is_dir, is_dir_body, directory_from, room_at, free_in, added, IsDir, IsTree, AreApart, MayAdd, Tree}
+use Rattle.adf_tree.specs.Tree.{new_entry, with_entry, last_of, parents_of, room_for, in_directory}
+use Rattle.adf_tree.proofs.TreeInvariant.{added_tree}
+use Rattle.adf_tree.proofs.ChildLookup.{none_is}
+
+body_is_dir : (b : Body) → is_dir_body b ≡ true → b ≡ Dir
+body_is_dir Dir h = refl
+body_is_dir (File bytes) h = cc
+
+slice_dir : (es : List Entry) (i : ℕ) → unwrap_or (option_map (λ e. is_dir_body e.body) (slice_get es i)) false ≡ true
+    → (i < length es) × ((d : Entry) → (get_or es i d).body ≡ Dir)
+slice_dir [] i h = cc
+slice_dir (e ∷ es) zero h = (omega arith, λ d. body_is_dir e.body h)
+slice_dir (e ∷ es) (suc i) h = let more = slice_dir es i h in (omega (arith, more.0), more.1)
+
+is_dir_says : (es : List Entry) (n : ℕ) → is_dir es n ≡ true → IsDir es n
+is_dir_says es n h some =
+    let z : (n == 0) ≡ false = ne_eqb n 0 (omega arith) in
+    let at : (n - 1 < length es) × ((d : Entry) → (get_or es (n - 1) d).body ≡ Dir) =
+    slice_dir es (n - 1) (sym (ap (λ b. b || unwrap_or (option_map (λ e. is_dir_body e.body) (if b then None else slice_get es (n - 1))) false) z) ∙ h) in
+    (omega (arith, at.0), at.1)
+
+-- a path of directories leads to one
+pub next_dir : (es : List Entry) (names : List (List ℕ)) (q : ℕ) (o : Option ℕ)
+    → (let r : Result ℕ AddFault =
+    elim o [ None ↦ Err NoParent | Some n ↦ if is_dir es n then directory_from es n names else Err ParentIsFile ] in r ≡ Ok q)
+    → (n : ℕ) × (o ≡ Some n) × (is_dir es n ≡ true) × (directory_from es n names ≡ Ok q)
+next_dir es names q None h = cc
+next_dir es names q (Some n) h =
+    elim (cases_Bool (is_dir es n)) [
+      | inl t ↦ (n, refl, t, rw t at h)
+      | inr f ↦ let g : (let r : Result ℕ AddFault = Err ParentIsFile in r ≡ Ok q) = rw f at h in cc
+    ]
+
+pub directory_is_dir : (es : List Entry) (p : ℕ) (names : List (List ℕ)) (q : ℕ) → directory_from es p names ≡ Ok q → IsDir es p → IsDir es q
+directory_is_dir es p [] q h dir = let same : p ≡ q = cc in subst (λ n. IsDir es n) same dir
+directory_is_dir es p (name ∷ names) q h dir =
+    let next = next_dir es names q (child es p name) h in
+    directory_is_dir es next.0 names q next.3 (is_dir_says es next.0 next.2)
+
+pub none_is_fresh : (es : List Entry) (e : Entry) → child es e.parent e.name ≡ None → (k : ℕ) (d : Entry) → k < length es → AreApart (get_or es k d) e
+none_is_fresh es e h k d lt p u =
+    both_ways (is_child e.parent e.name (get_or es k d)) (none_is es e.parent e.name k d h lt)
+    (and_from ((get_or es k d).parent == e.parent) (bytes_eq (uppers (get_or es k d).name) (uppers e.name)) (eq-eqb (get_or es k d).parent e.parent p)
+    ((bytes_eq-Decides (uppers (get_or es k d).name) (uppers e.name)).1 u))
+
+free_says : (p q : ℕ) (o : Option ℕ) → free_in p o ≡ Ok q → (p ≡ q) × (o ≡ None)
+free_says p q None h = (cc, refl)
+free_says p q (Some n) h = cc
+
+pub room_says : (es : List Entry) (e : Entry) (r : Result ℕ AddFault) → room_at es e.name r ≡ Ok e.parent
+    → (r ≡ Ok e.parent) × (child es e.parent e.name ≡ None)
+room_says es e (Ok p) h =
+    let both = free_says p e.parent (child es p e.name) h in
+    (ap (λ n. let r : Result ℕ AddFault = Ok n in r) both.0, ap (λ n. child es n e.name) (sym both.0) ∙ both.1)
+room_says es e (Err f) h = cc
+
+pub room_may_add : (es : List Entry) (e : Entry) (names : List (List ℕ)) → room_at es e.name (directory_from es 0 names) ≡ Ok e.parent → MayAdd es e
+room_may_add es e names h =
+    let both = room_says es e (directory_from es 0 names) h in
+    record {
+      parent = directory_is_dir es 0 names e.parent both.0 (λ some. absurd (omega arith));
+      fresh = none_is_fresh es e both.1;
+    }
+
+pub whole_path : (path : List (List ℕ)) (d : List ℕ) → (length path == 0) ≡ false → path ≡ take (length path - 1) path ++ get_or path (length path - 1) d ∷ []
+whole_path path d h =
+    let lt : length path - 1 < length path = omega (arith, eqb-false (length path) 0 h) in
+    let n : length path - 1 + 1 ≡ length path = omega arith in
+    sym (take_all (length path) path (omega arith)) ∙ (ap (λ k. take k path) (sym n) ∙ take_more path (length path - 1) d lt)
+
+-- so a tree stays one, whatever `add` answers
+pub room_keeps : (es : List Entry) (e : Entry) (names : List (List ℕ)) (b : Bool) → IsTree es → room_at es e.name (directory_from es 0 names) ≡ Ok e.parent
+    → IsTree (if b then added es e else es)
+room_keeps es e names true t h = added_tree es e t (room_may_add es e names h)
+room_keeps es e names false t h = t
+
+-- the entry that `add` makes
+same_entry : (es : List Entry) (path : List (List ℕ)) (meta : Meta) (body : Body) (x name : List ℕ) (p : ℕ) → (length path == 0) ≡ false
+    → x ≡ get_or path (length path - 1) x → name ≡ x
+    → (let r : Result ℕ AddFault = Ok p in r ≡ room_at es name (directory_from es 0 (take (length path - 1) path)))
+    → (let e : Entry = record { parent = p; name = name; meta = meta; body = body } in e ≡ new_entry es path meta body)
+same_entry es path meta body x name p some at same ok =
+    let lt : length path - 1 < length path = omega (arith, eqb-false (length path) 0 some) in
+    let last : name ≡ last_of path = same ∙ (at ∙ get_or_default path (length path - 1) x [] lt) in
+    let room : (let r : Result ℕ AddFault = Ok p in room_for es path ≡ r) =
+    ap (λ b. let r : Result ℕ AddFault = if b then Err EmptyPath else room_at es (last_of path) (directory_from es 0 (parents_of path)) in r) some
+    ∙ (ap (λ y. room_at es y (directory_from es 0 (parents_of path))) (sym last) ∙ sym ok) in
+    ap (λ n. let e : Entry = record { parent = p; name = n; meta = meta; body = body } in e) last
+    ∙ ap (λ q. let e : Entry = record { parent = q; name = last_of path; meta = meta; body = body } in e) (sym (ap in_directory room))
+
+-- an entry is the one that a path with room gets
+pub record IsNew (es : List Entry) (path : List (List ℕ)) (meta : Meta) (body : Body) (e : Entry) : Type 0 where
+  pub is : path ≡ parents_of path ++ e.name ∷ []
+  pub room : room_at es e.name (directory_from es 0 (parents_of path)) ≡ Ok e.parent
+  pub entry : e ≡ new_entry es path meta body
+
+pub is_new : (es : List Entry) (path : List (List ℕ)) (meta : Meta) (body : Body) (x name : List ℕ) (p : ℕ) → (length path == 0) ≡ false
+    → x ≡ get_or path (length path - 1) x → name ≡ x
+    → (let r : Result ℕ AddFault = Ok p in r ≡ room_at es name (directory_from es 0 (parents_of path)))
+    → IsNew es path meta body (record { parent = p; name = name; meta = meta; body = body })
+is_new es path meta body x name p some at same ok = record {
+  is = whole_path path x some ∙ ap (λ y. parents_of path ++ y ∷ []) (sym at ∙ sym same);
+  room = sym ok;
+  entry = same_entry es path meta body x name p some at same ok;
+}
+
+-- the tree that it leaves
+pub tree_left : (t : Tree) (entries : List Entry) (e : Entry) (b : Bool) (path : List (List ℕ)) (meta : Meta) (body : Body)
+    → entries ≡ (if b then added t.entries e else t.entries) → e ≡ new_entry t.entries path meta body
+    → (let u : Tree = record t { entries = entries } in u ≡ (if b then with_entry t path meta body else t))
+tree_left t entries e true path meta body h same = ap (λ es. let u : Tree = record t { entries = es } in u) (h ∙ ap (added t.entries) same)
+tree_left t entries e false path meta body h same = ap (λ es. let u : Tree = record t { entries = es } in u) h

@@ -1,0 +1,31 @@
+-- Names that are equal without their case.
+use Rattle.std.proofs.Common.{◌≡◌, ◌≢◌, ℕ, ◌<◌, List, length, get_or, true, false, arith, ap, ◌∙◌, sym}
+use Rattle.std.proofs.lemmas.List.{same_lists, get_or-map, length-map}
+use Rattle.std.proofs.lemmas.Slice.Eq.{bytes_eq-Decides}
+use Rattle.std.specs.Str.{bytes_eq}
+use Rattle.adf_fields.specs.Hash.{upper_of}
+use Rattle.adf_tree.specs.Texts.{uppers}
+use Rattle.std.proofs.lemmas.Bool.{false_from_ne_true}
+
+get_or-uppers : (a : List ℕ) (k : ℕ) → k < length a → get_or (uppers a) k 0 ≡ upper_of (get_or a k 0)
+get_or-uppers a k h = get_or-map upper_of a k 0 0 h
+
+pub same_yes : (a b : List ℕ) → length a ≡ length b → ((k : ℕ) → k < length a → upper_of (get_or a k 0) ≡ upper_of (get_or b k 0))
+    → bytes_eq (uppers a) (uppers b) ≡ true
+same_yes a b e h =
+    (bytes_eq-Decides (uppers a) (uppers b)).1
+    (same_lists (uppers a) (uppers b) (simp length-map e)
+    (λ k d lt.
+    let la : k < length a = omega (arith, simp length-map at lt) in
+    let lb : k < length b = omega arith in
+    get_or-map upper_of a k 0 d la ∙ (h k la ∙ sym (get_or-map upper_of b k 0 d lb))))
+
+pub same_no : (a b : List ℕ) (k : ℕ) → k < length a → k < length b → upper_of (get_or a k 0) ≢ upper_of (get_or b k 0) → bytes_eq (uppers a) (uppers b) ≡ false
+same_no a b k la lb ne =
+    false_from_ne_true (bytes_eq (uppers a) (uppers b))
+    (λ t. ne (sym (get_or-uppers a k la) ∙ (ap (λ s. get_or s k 0) ((bytes_eq-Decides (uppers a) (uppers b)).0 t) ∙ get_or-uppers b k lb)))
+
+pub same_short : (a b : List ℕ) → length a ≢ length b → bytes_eq (uppers a) (uppers b) ≡ false
+same_short a b ne =
+    false_from_ne_true (bytes_eq (uppers a) (uppers b))
+    (λ t. ne (simp length-map at (ap length ((bytes_eq-Decides (uppers a) (uppers b)).0 t))))

@@ -1,0 +1,77 @@
+-- What filters and maps leave of lists.
+use Rattle.std.proofs.Common.{◌≡◌, List, [], ◌∷◌, map, true, false, Bool, arith, ◌&&◌, inl, inr, sym, refl, ◌∙◌, ap, Some, None, take, drop, ◌+◌, ◌-◌, nat_lt}
+use Rattle.std.proofs.Common.{ℕ, length, ◌<◌}
+use Rattle.std.specs.List.{All, Contains, filter, position_or_len, slice_split}
+use Rattle.std.proofs.Math.Bool.{and_comm}
+use Rattle.std.proofs.lemmas.Bool.{cases_Bool, ltb-false}
+use Rattle.std.proofs.lemmas.List.Elements.{All-head, All-tail, Contains-append_cases, Contains-append_right, Contains-push_cases, filter_agree}
+use Rattle.std.specs.Prelude.{position}
+use Rattle.std.proofs.lemmas.List.{take_rest}
+use Rattle.std.proofs.lemmas.List.Quantifiers.{position-Some}
+use Rattle.std.proofs.lemmas.List.Splits.{slice_split_first, slice_split_none}
+use Rattle.std.proofs.lemmas.List.Sums.{position_or_len_is, fails_before_first}
+
+-- two tests
+pub filter_both : {X : Type 0} → (p q : X → Bool) (xs : List X) → filter p (filter q xs) ≡ filter (λ x. q x && p x) xs
+filter_both p q [] = refl
+filter_both p q (x ∷ xs) = elim (cases_Bool (q x)) [ inl t ↦ rw (t, filter_both p q xs) refl | inr f ↦ rw (f, filter_both p q xs) refl ]
+
+pub filters_commute : {X : Type 0} → (p q : X → Bool) (xs : List X) → filter p (filter q xs) ≡ filter q (filter p xs)
+filters_commute p q xs = filter_both p q xs ∙ (filter_agree (λ x. q x && p x) (λ x. p x && q x) (λ x. and_comm (q x) (p x)) xs ∙ sym (filter_both q p xs))
+
+pub filter_of_map : {X Y : Type 0} → (f : X → Y) (q : Y → Bool) (xs : List X) → filter q (map f xs) ≡ map f (filter (λ x. q (f x)) xs)
+filter_of_map f q [] = refl
+filter_of_map f q (x ∷ xs) = elim (cases_Bool (q (f x))) [ inl t ↦ rw (t, filter_of_map f q xs) refl | inr n ↦ rw (n, filter_of_map f q xs) refl ]
+
+-- where none passes, and where all do
+pub filter_nothing : {X : Type 0} → (q : X → Bool) (xs : List X) → All (λ x. q x ≡ false) xs → filter q xs ≡ []
+filter_nothing q [] h = refl
+filter_nothing q (x ∷ xs) h = rw (All-head (λ y. q y ≡ false) x xs h) (filter_nothing q xs (All-tail (λ y. q y ≡ false) x xs h))
+
+pub filter_all : {X : Type 0} → (q : X → Bool) (xs : List X) → All (λ x. q x ≡ true) xs → filter q xs ≡ xs
+filter_all q [] h = refl
+filter_all q (x ∷ xs) h = rw (All-head (λ y. q y ≡ true) x xs h) (ap (λ ys. x ∷ ys) (filter_all q xs (All-tail (λ y. q y ≡ true) x xs h)))
+
+-- what passes is kept
+pub contains_filter : {X : Type 0} → (q : X → Bool) (xs : List X) (x : X) → Contains xs x → q x ≡ true → Contains (filter q xs) x
+contains_filter q [] x h passes = absurd (omega (arith, h.1))
+contains_filter q (y ∷ ys) x h passes =
+    elim (Contains-append_cases (y ∷ []) ys x h) [
+      | inl here ↦
+          elim (Contains-push_cases [] y x here) [
+            | inl none ↦ absurd (omega (arith, none.1))
+            | inr same ↦ rw (ap q same ∙ passes) (0, omega arith, same)
+          ]
+      | inr there ↦
+          let rest : Contains (filter q ys) x = contains_filter q ys x there passes in
+          elim (cases_Bool (q y)) [ inl t ↦ rw t (Contains-append_right (y ∷ []) (filter q ys) x rest) | inr f ↦ rw f rest ]
+    ]
+
+-- functions that agree on a list
+pub map_agree : {X Y : Type 0} (f g : X → Y) (xs : List X) → All (λ x. f x ≡ g x) xs → map f xs ≡ map g xs
+map_agree f g [] h = refl
+map_agree f g (x ∷ xs) h = rw (All-head (λ y. f y ≡ g y) x xs h) (ap (λ ys. g x ∷ ys) (map_agree f g xs (All-tail (λ y. f y ≡ g y) x xs h)))
+
+position_is : {X : Type 0} → (p : X → Bool) (xs : List X) (i : ℕ) (d : X) → Some i ≡ position p xs → position_or_len p xs ≡ i
+position_is p xs i d h =
+    let says = position-Some p xs i d (sym h) in
+    position_or_len_is p xs i d (omega (arith, says.0)) says.2 (λ _. says.1)
+
+-- a list is cut where the first element passes
+pub cut_at_position : {X : Type 0} → (p : X → Bool) (xs : List X) (i : ℕ) → Some i ≡ position p xs
+    → slice_split p xs ≡ take i xs ∷ slice_split p (take (length xs - (i + 1)) (drop (i + 1) xs))
+cut_at_position p [] i h = cc
+cut_at_position p (x ∷ xs) i h =
+    let lt : i < length (x ∷ xs) = (position-Some p (x ∷ xs) i x (sym h)).0 in
+    let at : position_or_len p (x ∷ xs) ≡ i = position_is p (x ∷ xs) i x h in
+    slice_split_first p (x ∷ xs) x (omega arith)
+    ∙ (ap (λ k. take k (x ∷ xs) ∷ slice_split p (drop (k + 1) (x ∷ xs))) at
+    ∙ ap (λ ys. take i (x ∷ xs) ∷ slice_split p ys) (sym (take_rest (x ∷ xs) (i + 1))))
+
+-- and is one part where none does
+pub uncut_at_none : {X : Type 0} → (p : X → Bool) (xs : List X) → None ≡ position p xs → slice_split p xs ≡ xs ∷ []
+uncut_at_none p xs h =
+    elim (cases_Bool (nat_lt (position_or_len p xs) (length xs))) [
+      | inl t ↦ let clash : None ≡ Some (position_or_len p xs) = rw t at h in cc
+      | inr f ↦ slice_split_none p xs (λ k d lt. fails_before_first p xs k d (omega (arith, ltb-false (position_or_len p xs) (length xs) f)))
+    ]

@@ -1,0 +1,103 @@
+-- Where paths lead when an entry is added.
+use Rattle.std.proofs.Common.{◌≡◌, ◌≢◌, ℕ, ◌+◌, ◌⊎◌, inl, inr, List, [], ◌∷◌, ◌++◌, get_or, Option, Some, None, sym, refl, ◌∙◌, ap}
+use Rattle.std.specs.Prelude.{option_map}
+use Rattle.std.specs.Str.{bytes_eq}
+use Rattle.std.proofs.lemmas.Bool.{cases_Bool, cases_eq, both_ways, false_from_ne_true}
+use Rattle.std.proofs.lemmas.Slice.Eq.{bytes_eq-Decides}
+use Rattle.adf_tree.specs.declared.entry.Entry.{Entry}
+use Rattle.adf_tree.specs.Texts.{uppers}
+use Rattle.adf_tree.specs.Tree.{place, rank, moved, added, is_child, child, find_from, IsTree, MayAdd}
+use Rattle.adf_tree.proofs.ChildLookup.{child_new, child_of_new, child_other, child_says, no_children, parent_stays}
+
+-- one name more
+abbrev pub then_find : List Entry → List (List ℕ) → Option ℕ → Option ℕ
+then_find es names o = elim o [ None ↦ None | Some n ↦ find_from es n names ]
+
+pub step : (es : List Entry) (p : ℕ) (x : List ℕ) (xs : List (List ℕ)) (o : Option ℕ) → child es p x ≡ o → find_from es p (x ∷ xs) ≡ then_find es xs o
+step es p x xs o h = ap (then_find es xs) h
+
+-- a path goes to the new entry: its names before the last lead to the parent, and the last one is its name
+pub record GoesToNew (es : List Entry) (e : Entry) (p : ℕ) (q : List (List ℕ)) : Type 0 where
+  pub front : List (List ℕ)
+  pub last : List ℕ
+  pub is : q ≡ front ++ last ∷ []
+  pub leads : find_from es p front ≡ Some e.parent
+  pub same : uppers e.name ≡ uppers last
+  pub new : find_from (added es e) (moved (place es (rank e) + 1) p) q ≡ Some (place es (rank e) + 1)
+  pub old : find_from es p q ≡ None
+
+-- a path leads where it led, or to the new entry
+abbrev pub Leads : List Entry → Entry → ℕ → List (List ℕ) → Type 0
+Leads es e p q = (find_from (added es e) (moved (place es (rank e) + 1) p) q ≡ option_map (moved (place es (rank e) + 1)) (find_from es p q))
+    ⊎ GoesToNew es e p q
+
+-- the parent has no child of the new entry's name yet
+nothing_yet : (es : List Entry) (e : Entry) (p : ℕ) (x : List ℕ) → MayAdd es e → p ≡ e.parent → uppers e.name ≡ uppers x → child es p x ≡ None
+nothing_yet es e p x may here same =
+    no_children es p x
+    (λ k d lt. false_from_ne_true (is_child p x (get_or es k d))
+    (λ h. let says = child_says p x (get_or es k d) h in may.fresh k d lt (says.0 ∙ here) (says.1 ∙ sym same)))
+
+new_there : (es : List Entry) (e : Entry) (p : ℕ) (x : List ℕ) → IsTree es → MayAdd es e → p ≡ e.parent → uppers e.name ≡ uppers x
+    → child (added es e) (moved (place es (rank e) + 1) p) x ≡ Some (place es (rank e) + 1)
+new_there es e p x t may here same =
+    let n : ℕ = place es (rank e) + 1 in
+    ap (λ v. child (added es e) v x) (ap (moved n) here ∙ parent_stays es e t may.parent) ∙ child_new es e x t may same
+
+at_new : (es : List Entry) (e : Entry) (p : ℕ) (x : List ℕ) (xs : List (List ℕ)) → IsTree es → MayAdd es e → p ≡ e.parent → uppers e.name ≡ uppers x
+    → Leads es e p (x ∷ xs)
+at_new es e p x [] t may here same =
+    inr (record {
+      front = [];
+      last = x;
+      is = refl;
+      leads = ap Some here;
+      same = same;
+      new = ap (then_find (added es e) []) (new_there es e p x t may here same);
+      old = ap (then_find es []) (nothing_yet es e p x may here same);
+    })
+at_new es e p x (y ∷ ys) t may here same =
+    let n : ℕ = place es (rank e) + 1 in
+    inl
+    (ap (then_find (added es e) (y ∷ ys)) (new_there es e p x t may here same)
+    ∙ (ap (then_find (added es e) ys) (child_of_new es e y t may.parent)
+    ∙ sym (ap (λ o. option_map (moved n) (then_find es (y ∷ ys) o)) (nothing_yet es e p x may here same))))
+
+-- past a name that is found as before
+past_old : (es : List Entry) (e : Entry) (p : ℕ) (x : List ℕ) (xs : List (List ℕ)) (o : Option ℕ) → child es p x ≡ o
+    → child (added es e) (moved (place es (rank e) + 1) p) x ≡ option_map (moved (place es (rank e) + 1)) o → ((m : ℕ) → Leads es e m xs)
+    → Leads es e p (x ∷ xs)
+past_old es e p x xs None was now ih =
+    let n : ℕ = place es (rank e) + 1 in
+    inl (step (added es e) (moved n p) x xs None now ∙ sym (ap (option_map (moved n)) (step es p x xs None was)))
+past_old es e p x xs (Some m) was now ih =
+    let n : ℕ = place es (rank e) + 1 in
+    let a : find_from (added es e) (moved n p) (x ∷ xs) ≡ find_from (added es e) (moved n m) xs = step (added es e) (moved n p) x xs (Some (moved n m)) now in
+    let b : find_from es p (x ∷ xs) ≡ find_from es m xs = step es p x xs (Some m) was in
+    elim (ih m) [
+      | inl h ↦ inl (a ∙ (h ∙ sym (ap (option_map (moved n)) b)))
+      | inr g ↦ inr (record {
+        front = x ∷ g.front;
+        last = g.last;
+        is = ap (λ zs. x ∷ zs) g.is;
+        leads = step es p x g.front (Some m) was ∙ g.leads;
+        same =
+            g.same;
+        new = a ∙ g.new;
+        old = b ∙ g.old;
+      })
+    ]
+
+pub leads : (es : List Entry) (e : Entry) (p : ℕ) (q : List (List ℕ)) → IsTree es → MayAdd es e → Leads es e p q
+leads es e p [] t may = inl refl
+leads es e p (x ∷ xs) t may =
+    let go : (p ≡ e.parent → uppers e.name ≢ uppers x) → Leads es e p (x ∷ xs) =
+    λ other. past_old es e p x xs (child es p x) refl (child_other es e p x t may other) (λ m. leads es e m xs t may) in
+    elim (cases_eq p e.parent) [
+      | inr far ↦ go (λ h. absurd (far h))
+      | inl here ↦
+          elim (cases_Bool (bytes_eq (uppers e.name) (uppers x))) [
+            | inl same ↦ at_new es e p x xs t may here ((bytes_eq-Decides (uppers e.name) (uppers x)).0 same)
+            | inr other ↦ go (λ _ h. both_ways (bytes_eq (uppers e.name) (uppers x)) other ((bytes_eq-Decides (uppers e.name) (uppers x)).1 h))
+          ]
+    ]

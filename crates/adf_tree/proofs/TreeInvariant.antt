@@ -1,0 +1,237 @@
+-- A tree stays one when an entry is added: its numbers, its order, its directories and its names.
+use Rattle.std.proofs.Common.{◌≡◌, ℕ, ◌+◌, ◌-◌, ◌*◌, ◌<◌, ◌≤◌, inl, inr, List, ◌∷◌, ◌++◌, length, get_or, take, drop, map, arith, nat_lt, sym, ◌∙◌, ap, subst}
+use Rattle.std.proofs.Common.{not}
+use Rattle.std.specs.List.{AllPairs, insert, drop-map}
+use Rattle.std.specs.List.Sorted.{IsNonDecreasingBy}
+use Rattle.std.proofs.lemmas.Bool.{cases_lt, cases_order, ltb-true, ltb-false}
+use Rattle.std.proofs.lemmas.List.{same_lists, get_or-map, length-map, get_or-take, length-take-le, take-map}
+use Rattle.std.proofs.lemmas.List.Edits.{length-insert, get_or-insert_below, get_or-insert_at, get_or-insert_above}
+use Rattle.std.proofs.lemmas.List.Sums.{fails_before_first, passes_at_first, prefix_len-le-length}
+use Rattle.std.proofs.lemmas.List.Sorted.{IsNonDecreasingBy-insert}
+use Rattle.std.proofs.lemmas.Bool.Decides.{nat_tests}
+use Rattle.adf_tree.specs.declared.entry.Entry.{Entry}
+use Rattle.adf_fields.specs.Hash.{slot_of}
+use Rattle.adf_tree.specs.Tree.{place, rank, renumbered, moved, added, IsTree, IsDir, AreApart, MayAdd}
+
+-- numbers
+
+pub moved_below : (n p : ℕ) → p < n → moved n p ≡ p
+moved_below n p h = grind (arith, nat_tests)
+
+pub moved_above : (n p : ℕ) → n ≤ p → moved n p ≡ p + 1
+moved_above n p h = grind (arith, nat_tests)
+
+pub moved_same : (n p q : ℕ) → moved n p ≡ moved n q → p ≡ q
+moved_same n p q h = grind (arith, nat_tests)
+
+pub moved_up : (n p : ℕ) → p ≤ moved n p
+moved_up n p = grind (arith, nat_tests)
+
+pub moved_near : (n p : ℕ) → moved n p ≤ p + 1
+moved_near n p = grind (arith, nat_tests)
+
+-- the order of numbers stays
+moved_less : (n p q : ℕ) → p < q → moved n p < moved n q
+moved_less n p q h = grind (arith, nat_tests)
+
+pub slot_small : (name : List ℕ) → slot_of name < 72
+slot_small name = omega arith
+
+rank_rises : (n p q s t : ℕ) → s < 72 → t < 72 → 72 * p + s ≤ 72 * q + t → 72 * moved n p + s ≤ 72 * moved n q + t
+rank_rises n p q s t hs ht h = grind (arith, nat_tests)
+
+rank_grows : (n : ℕ) (e : Entry) → rank e ≤ rank (renumbered n e)
+rank_grows n e = let h = moved_up n e.parent in omega arith
+
+renumbered_rises : (n : ℕ) (e f : Entry) → rank e ≤ rank f → rank (renumbered n e) ≤ rank (renumbered n f)
+renumbered_rises n e f h = rank_rises n e.parent f.parent (slot_of e.name) (slot_of f.name) (slot_small e.name) (slot_small f.name) h
+
+-- where a new entry is put
+
+pub place_le : (es : List Entry) (r : ℕ) → place es r ≤ length es
+place_le es r = prefix_len-le-length (λ e. not (nat_lt r (rank e))) es
+
+-- the entries before the place have a lesser or the same pair
+pub before : (es : List Entry) (r k : ℕ) (d : Entry) → k < place es r → rank (get_or es k d) ≤ r
+before es r k d lt = ltb-false r (rank (get_or es k d)) (fails_before_first (λ e. nat_lt r (rank e)) es k d lt)
+
+-- the entries from the place on have a greater one
+pub after : (es : List Entry) (r k : ℕ) (d : Entry) → IsNonDecreasingBy rank es → place es r ≤ k → k < length es → r < rank (get_or es k d)
+after es r k d up le short =
+    let first : r < rank (get_or es (place es r) d) =
+    ltb-true r (rank (get_or es (place es r) d)) (passes_at_first (λ e. nat_lt r (rank e)) es d (omega arith)) in
+    let more : rank (get_or es (place es r) d) ≤ rank (get_or es k d) = up (place es r) k d le short in
+    omega (arith, first, more)
+
+-- a directory stands before the place of its children
+pub dir_before : (es : List Entry) (e : Entry) → IsTree es → IsDir es e.parent → e.parent ≤ place es (rank e)
+dir_before es e t dir =
+    elim (cases_lt (place es (rank e)) e.parent) [
+      | inr le ↦ le
+      | inl lt ↦
+          let p : e.parent ≤ length es = (dir (omega arith)).0 in
+          let late : rank e < rank (get_or es (e.parent - 1) e) = after es (rank e) (e.parent - 1) e t.order (omega arith) (omega arith) in
+          let early : (get_or es (e.parent - 1) e).parent ≤ e.parent - 1 = t.parents (e.parent - 1) e (omega arith) in
+          let small : slot_of (get_or es (e.parent - 1) e).name < 72 = slot_small (get_or es (e.parent - 1) e).name in
+          absurd (omega arith)
+    ]
+
+-- the entries before the place keep their parents
+pub fixed : (es : List Entry) (i k : ℕ) (d : Entry) → IsTree es → i ≤ length es → k < i → renumbered (i + 1) (get_or es k d) ≡ get_or es k d
+fixed es i k d t le lt =
+    let small : (get_or es k d).parent ≤ k = t.parents k d (omega arith) in
+    ap (λ p. let x : Entry = record (get_or es k d) { parent = p } in x) (moved_below (i + 1) (get_or es k d).parent (omega arith))
+
+fixed_front : (es : List Entry) (i : ℕ) → IsTree es → i ≤ length es → map (renumbered (i + 1)) (take i es) ≡ take i es
+fixed_front es i t le =
+    let n : length (take i es) ≡ i = length-take-le i es le in
+    let m : length (map (renumbered (i + 1)) (take i es)) ≡ i = length-map (take i es) (renumbered (i + 1)) ∙ n in
+    same_lists (map (renumbered (i + 1)) (take i es)) (take i es) (m ∙ sym n)
+    (λ k d lt.
+    get_or-map (renumbered (i + 1)) (take i es) k d d (omega arith)
+    ∙ (ap (renumbered (i + 1)) (get_or-take i es k d (omega arith))
+    ∙ (fixed es i k d t le (omega arith) ∙ sym (get_or-take i es k d (omega arith)))))
+
+-- so all may be renumbered
+pub added_is : (es : List Entry) (e : Entry) → IsTree es → added es e ≡ insert (map (renumbered (place es (rank e) + 1)) es) (place es (rank e)) e
+added_is es e t =
+    let i : ℕ = place es (rank e) in
+    let f : Entry → Entry = renumbered (i + 1) in
+    let front : take i (map f es) ≡ take i es = take-map f i es ∙ fixed_front es i t (place_le es (rank e)) in
+    sym (ap (λ xs. xs ++ e ∷ drop i (map f es)) front ∙ ap (λ xs. take i es ++ e ∷ xs) (drop-map f i es))
+
+-- the new list
+
+pub length_added : (es : List Entry) (e : Entry) → IsTree es → length (added es e) ≡ length es + 1
+length_added es e t =
+    let i : ℕ = place es (rank e) in
+    let f : Entry → Entry = renumbered (i + 1) in
+    let m : length (map f es) ≡ length es = length-map es f in
+    ap length (added_is es e t) ∙ (length-insert (map f es) i e (omega (arith, place_le es (rank e), m)) ∙ ap (λ n. n + 1) m)
+
+pub at_below : (es : List Entry) (e : Entry) (k : ℕ) (d : Entry) → IsTree es → k < place es (rank e) → get_or (added es e) k d ≡ get_or es k d
+at_below es e k d t lt =
+    let i : ℕ = place es (rank e) in
+    let f : Entry → Entry = renumbered (i + 1) in
+    let le : i ≤ length es = place_le es (rank e) in
+    let m : length (map f es) ≡ length es = length-map es f in
+    ap (λ xs. get_or xs k d) (added_is es e t)
+    ∙ (get_or-insert_below (map f es) i e d k lt (omega arith)
+    ∙ (get_or-map f es k d d (omega arith) ∙ fixed es i k d t le lt))
+
+pub at_place : (es : List Entry) (e d : Entry) → IsTree es → get_or (added es e) (place es (rank e)) d ≡ e
+at_place es e d t =
+    let i : ℕ = place es (rank e) in
+    let f : Entry → Entry = renumbered (i + 1) in
+    let m : length (map f es) ≡ length es = length-map es f in
+    ap (λ xs. get_or xs i d) (added_is es e t) ∙ get_or-insert_at (map f es) i e d (omega (arith, place_le es (rank e), m))
+
+pub at_above : (es : List Entry) (e : Entry) (k : ℕ) (d : Entry) → IsTree es → place es (rank e) ≤ k → k < length es
+    → get_or (added es e) (k + 1) d ≡ renumbered (place es (rank e) + 1) (get_or es k d)
+at_above es e k d t le lt =
+    let i : ℕ = place es (rank e) in
+    let f : Entry → Entry = renumbered (i + 1) in
+    let m : length (map f es) ≡ length es = length-map es f in
+    ap (λ xs. get_or xs (k + 1) d) (added_is es e t)
+    ∙ (get_or-insert_above (map f es) i e d k le (omega (arith, place_le es (rank e), m))
+    ∙ get_or-map f es k d d lt)
+
+-- the old entries stand under their new numbers
+pub new_get : (es : List Entry) (e : Entry) (m : ℕ) (d : Entry) → IsTree es → 0 < m → m ≤ length es
+    → get_or (added es e) (moved (place es (rank e) + 1) m - 1) d ≡ renumbered (place es (rank e) + 1) (get_or es (m - 1) d)
+new_get es e m d t some le =
+    let i : ℕ = place es (rank e) in
+    elim (cases_lt (m - 1) i) [
+      | inl below ↦
+          let at : moved (i + 1) m - 1 ≡ m - 1 = omega (arith, moved_below (i + 1) m (omega arith)) in
+          ap (λ v. get_or (added es e) v d) at ∙ (at_below es e (m - 1) d t below ∙ sym (fixed es i (m - 1) d t (place_le es (rank e)) below))
+      | inr past ↦
+          let at : moved (i + 1) m - 1 ≡ m - 1 + 1 = omega (arith, moved_above (i + 1) m (omega arith)) in
+          ap (λ v. get_or (added es e) v d) at ∙ at_above es e (m - 1) d t past (omega arith)
+    ]
+
+-- what an entry of the new list is: the new one, or an old one under its new number
+pub by_case : (es : List Entry) (e : Entry) (d : Entry) (P : ℕ → Entry → Type 0) → IsTree es → P (place es (rank e)) e
+    → ((m : ℕ) → 0 < m → m ≤ length es → P (moved (place es (rank e) + 1) m - 1) (renumbered (place es (rank e) + 1) (get_or es (m - 1) d)))
+    → (k : ℕ) → k < length (added es e) → P k (get_or (added es e) k d)
+by_case es e d P t new old k lt =
+    let i : ℕ = place es (rank e) in
+    let le : i ≤ length es = place_le es (rank e) in
+    let long : length (added es e) ≡ length es + 1 = length_added es e t in
+    let here : (m : ℕ) → 0 < m → m ≤ length es → moved (i + 1) m - 1 ≡ k → P k (get_or (added es e) k d) =
+    λ m some most at. subst (λ j. P j (get_or (added es e) j d)) at
+    (subst (λ (x : Entry). P (moved (i + 1) m - 1) x) (sym (new_get es e m d t some most)) (old m some most)) in
+    elim (cases_order k i) [
+      | inl same ↦ subst (λ j. P j (get_or (added es e) j d)) (sym same) (subst (λ (x : Entry). P i x) (sym (at_place es e d t)) new)
+      | inr (inl below) ↦ here (k + 1) (omega arith) (omega arith) (omega (arith, moved_below (i + 1) (k + 1) (omega arith)))
+      | inr (inr past) ↦ here k (omega arith) (omega arith) (omega (arith, moved_above (i + 1) k (omega arith)))
+    ]
+
+-- a directory stays one, under its new number
+dir_kept : (es : List Entry) (e : Entry) (p : ℕ) → IsTree es → IsDir es p → IsDir (added es e) (moved (place es (rank e) + 1) p)
+dir_kept es e p t dir some =
+    let n : ℕ = place es (rank e) + 1 in
+    let long : length (added es e) ≡ length es + 1 = length_added es e t in
+    let was : 0 < p = elim (cases_lt 0 p) [ inl lt ↦ lt | inr none ↦ absurd (omega (arith, moved_below n p (omega arith))) ] in
+    let at : p ≤ length es = (dir was).0 in
+    let near : moved n p ≤ p + 1 = moved_near n p in
+    (omega arith, λ d. ap (λ (x : Entry). x.body) (new_get es e p d t was at) ∙ (dir was).1 d)
+
+kept_parent : (es : List Entry) (e : Entry) (k : ℕ) (d : Entry) → IsTree es → IsDir es e.parent → k < length (added es e)
+    → ((get_or (added es e) k d).parent ≤ k) × IsDir (added es e) (get_or (added es e) k d).parent
+kept_parent es e k d t dir lt =
+    let n : ℕ = place es (rank e) + 1 in
+    let early : e.parent ≤ place es (rank e) = dir_before es e t dir in
+    by_case es e d (λ j x. (x.parent ≤ j) × IsDir (added es e) x.parent) t
+    (early, subst (λ q. IsDir (added es e) q) (moved_below n e.parent (omega arith)) (dir_kept es e e.parent t dir))
+    (λ m some le.
+    let small : (get_or es (m - 1) d).parent ≤ m - 1 = t.parents (m - 1) d (omega arith) in
+    let less : moved n (get_or es (m - 1) d).parent < moved n m = moved_less n (get_or es (m - 1) d).parent m (omega arith) in
+    (omega arith, dir_kept es e (get_or es (m - 1) d).parent t (t.dirs (m - 1) d (omega arith))))
+    k lt
+
+kept_order : (es : List Entry) (e : Entry) → IsTree es → IsNonDecreasingBy rank (added es e)
+kept_order es e t =
+    let i : ℕ = place es (rank e) in
+    let f : Entry → Entry = renumbered (i + 1) in
+    let le : i ≤ length es = place_le es (rank e) in
+    let m : length (map f es) ≡ length es = length-map es f in
+    rw (added_is es e t) (IsNonDecreasingBy-insert rank (map f es) i e
+    (λ a b d ab short.
+    rw (get_or-map f es a d d (omega arith), get_or-map f es b d d (omega arith))
+    (renumbered_rises (i + 1) (get_or es a d) (get_or es b d) (t.order a b d ab (omega arith))))
+    (omega arith)
+    (λ k d lt. rw (get_or-map f es k d d (omega arith)) (omega (arith, ap rank (fixed es i k d t le lt), before es (rank e) k d lt)))
+    (λ k d past short.
+    let more : rank e < rank (get_or es k d) = after es (rank e) k d t.order past (omega arith) in
+    let grows : rank (get_or es k d) ≤ rank (f (get_or es k d)) = rank_grows (i + 1) (get_or es k d) in
+    rw (get_or-map f es k d d (omega arith)) (omega (arith, more, grows))))
+
+earlier : (n m k : ℕ) → 0 < m → moved n m - 1 < moved n k - 1 → m - 1 < k - 1
+earlier n m k some h = grind (arith, nat_tests)
+
+kept_names : (es : List Entry) (e : Entry) → IsTree es → MayAdd es e → AllPairs AreApart (added es e)
+kept_names es e t may a b d lt short =
+    let n : ℕ = place es (rank e) + 1 in
+    let early : e.parent ≤ place es (rank e) = dir_before es e t may.parent in
+    let stays : moved n e.parent ≡ e.parent = moved_below n e.parent (omega arith) in
+    let fresh : (m : ℕ) → 0 < m → m ≤ length es → AreApart (renumbered n (get_or es (m - 1) d)) e =
+    λ m some le p u. may.fresh (m - 1) d (omega arith) (moved_same n (get_or es (m - 1) d).parent e.parent (p ∙ sym stays)) u in
+    by_case es e d (λ j x. j < b → AreApart x (get_or (added es e) b d)) t
+    (λ less. by_case es e d (λ k y. place es (rank e) < k → AreApart e y) t (λ no. absurd (omega arith))
+    (λ m some le _ p u. fresh m some le (sym p) (sym u)) b short less)
+    (λ m some le less. by_case es e d (λ k y. moved n m - 1 < k → AreApart (renumbered n (get_or es (m - 1) d)) y) t (λ _. fresh m some le)
+    (λ k some_k le_k order p u.
+    t.names (m - 1) (k - 1) d (earlier n m k some order) (omega arith)
+    (moved_same n (get_or es (m - 1) d).parent (get_or es (k - 1) d).parent p) u)
+    b short less)
+    a (omega arith) lt
+
+-- a tree with an entry more is a tree
+pub added_tree : (es : List Entry) (e : Entry) → IsTree es → MayAdd es e → IsTree (added es e)
+added_tree es e t may = record {
+  parents = λ k d lt. (kept_parent es e k d t may.parent lt).0;
+  dirs = λ k d lt. (kept_parent es e k d t may.parent lt).1;
+  order = kept_order es e t;
+  names = kept_names es e t may;
+}
