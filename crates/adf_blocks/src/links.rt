@@ -3,7 +3,7 @@
 ghost use Rattle.std.specs.Prelude.{◌≡◌, ◌<◌, ◌+◌, ◌-◌};
 ghost use Rattle.adf_fields.specs.Words.{word};
 
-use crate::layout::{EXTENSION, FIRST_POINTER, FIRST_SLOT};
+use crate::layout::{EXTENSION, FIRST_POINTER, FIRST_SLOT, POINTERS, SLOTS};
 use adf_fields::Block;
 use std::marker::Model;
 
@@ -31,8 +31,8 @@ impl<'a> Directory<'a> {
 
     /// The first header of a slot's chain, or 0: words 6 to 77.
     pub fn slot(&self, s: u8) -> u32
-        requires { s < 72 }
-        ensures { result ≡ word self.now (6 + s) }
+        requires { s < SLOTS }
+        ensures { result ≡ word self.now (FIRST_SLOT + s) }
     {
         self.block.word(FIRST_SLOT + s as usize)
     }
@@ -62,15 +62,15 @@ impl<'a> Table<'a> {
 
     /// The data block that pointer `j` names: words 77 down to 6.
     pub fn pointer(&self, j: usize) -> u32
-        requires { j < 72 }
-        ensures { result ≡ word self.now (77 - j) }
+        requires { j < POINTERS }
+        ensures { result ≡ word self.now (FIRST_POINTER - j) }
     {
         self.block.word(FIRST_POINTER - j)
     }
 
     /// The next extension block of the file, or 0: word 126.
     pub fn next(&self) -> u32
-        ensures { result ≡ word self.now 126 }
+        ensures { result ≡ word self.now EXTENSION }
     {
         self.block.word(EXTENSION)
     }

@@ -55,7 +55,7 @@ root_read image m root size root_is low high = record {
       owns = record {
         size = length-set (new_owners m) root Root ∙ new_length m ∙ sym size;
         boot = (λ b l h. get_or-set_other (new_owners m) root b Root Free (λ e. omega arith) ∙ new_boot m b l);
-        told = (λ q b k. elim k [
+        assigned = (λ q b k. elim k [
           | inl e ↦ ap (owner_at (owners_of m root)) (sym e.1) ∙ (here ∙ ap owner_of e.0)
           | inr f ↦ absurd f
         ]);

@@ -35,7 +35,7 @@ row_same p b q c x z = λ i. record { parent = x i; head = z i }
 module _ (image : List ℕ) (owners : List Owner) (w : List (Role × ℕ)) (t : Owns image owners w) where
   -- a free block is in no role
   pub free_absent : (b : ℕ) → owner_at owners b ≡ Free → IsAbsent w b
-  free_absent b h q k = owner_not_free q (sym (t.told q b k) ∙ h)
+  free_absent b h q k = owner_not_free q (sym (t.assigned q b k) ∙ h)
 
   -- and the other way round
   pub taken_present : (b : ℕ) → 2 ≤ b → b < blocks image → owner_at owners b ≢ Free → IsAbsent w b → ⊥
@@ -52,9 +52,9 @@ module _ (image : List ℕ) (owners : List Owner) (w : List (Role × ℕ)) (t : 
       record {
         size = length-set owners b (owner_of r) ∙ size;
         boot = (λ x l m. other (owner_of r) x b (λ e. omega arith) ∙ t.boot x l m);
-        told = (λ q x k. elim k [
+        assigned = (λ q x k. elim k [
           | inl y ↦ ap (owner_at (set owners b (owner_of r))) (sym y.1) ∙ (here ∙ ap owner_of y.0)
-          | inr y ↦ other (owner_of r) x b (λ e. free_absent b h q (subst (Has w q) e y)) ∙ t.told q x y
+          | inr y ↦ other (owner_of r) x b (λ e. free_absent b h q (subst (Has w q) e y)) ∙ t.assigned q x y
         ]);
         owned = (λ x l m f. elim (ℕ_discrete x b) [
           | yes e ↦ (r, inl (refl, sym e), ap (owner_at (set owners b (owner_of r))) e ∙ here)

@@ -36,7 +36,7 @@ module _ (image : List ℕ) (store : Store) (st : StoreFits image store) where
   owners_fit = record {
     size = st.read.tells.owns.size;
     boot = st.read.tells.owns.boot;
-    part = (λ o b h. let r = owned_has image st.walk st.read.is_walk st.read.whole o b h in st.read.tells.owns.told r.0 b r.1 ∙ sym r.2);
+    part = (λ o b h. let r = owned_has image st.walk st.read.is_walk st.read.whole o b h in st.read.tells.owns.assigned r.0 b r.1 ∙ sym r.2);
     free = (λ b lo hi h. elim (is_free (owner_at store.owners b)) [
       | inl e ↦ e
       | inr n ↦ let x = st.read.tells.owns.owned b lo hi n in absurd (h (owner_of x.0) (is_owned image st.walk st.read.is_walk st.read.whole x.0 b x.1))

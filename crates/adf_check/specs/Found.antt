@@ -4,7 +4,7 @@ use Rattle.adf_tree.specs.NameSet.{has, Names}
 use Rattle.adf_blocks.specs.declared.cause.Cause.TheVariants.{NoMemory, OutOfRange, Taken}
 use Rattle.adf_volume.specs.declared.owner.Owner.{Owner}
 use Rattle.adf_volume.specs.declared.owner.Owner.TheVariants.{Free}
-use Rattle.adf_check.specs.Reading.{IsRight}
+use Rattle.adf_volume.specs.Walk.{FirstFault}
 use Rattle.adf_check.specs.Store.{Store, owner_at}
 use Rattle.adf_check.specs.Checks.{fault}
 use Rattle.adf_check.specs.Owners.{owned_count}
@@ -50,5 +50,5 @@ IsClaimFault owners holder b f =
 
 -- the fault is the first one of the image, or memory was refused, and then it names block 0
 pub record IsTrueFault (image : List ℕ) (f : Fault) : Type 0 where
-  pub first : IsRight image f.block f.cause
+  pub first : f.cause ≢ NoMemory → FirstFault image f.block f.cause
   pub memory : f.cause ≡ NoMemory → f.block ≡ 0

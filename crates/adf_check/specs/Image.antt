@@ -10,7 +10,7 @@ abbrev pub IsBegun : List ℕ → Type 0
 IsBegun image = AllHold (boot_demands image ++ root_demands image (root_of image))
 
 -- an image that begins as a volume of this kind and so many blocks
-pub record IsImage (image : List ℕ) (told : Kind) (n : ℕ) : Type 0 where
+pub record IsImage (image : List ℕ) (read : Kind) (n : ℕ) : Type 0 where
   pub begun : IsBegun image
-  pub kind : told ≡ kind_of image
+  pub kind : read ≡ kind_of image
   pub blocks : n ≡ blocks image

@@ -1,5 +1,6 @@
 -- The bitmap pages that were read.
 use Rattle.std.specs.Prelude.{◌≡◌, ◌≢◌, ◌⊎◌, Bool, true, false, ℕ, List, ◌+◌, ◌-◌, ◌%◌, ◌<◌, ◌==◌, cond, nat_lt, length, slice_index}
+use Rattle.adf_blocks.specs.declared.layout.TheConstants.{FIRST_MAP_EXT, FIRST_PAGE, MAP_EXT_NEXT, MAP_EXT_PAGES, ROOT_PAGES}
 use Rattle.adf_blocks.specs.Sizes.{blocks}
 use Rattle.adf_blocks.specs.declared.cause.Cause.TheVariants.{LostBlock, OwnedFree}
 use Rattle.adf_volume.specs.declared.owner.Owner.{Owner}
@@ -11,11 +12,11 @@ use Rattle.adf_check.specs.declared.fault.Fault.{Fault}
 
 -- the word that names page i, in the root or in a bitmap extension block
 abbrev pub index_of_page : ℕ → ℕ
-index_of_page i = cond (nat_lt i 25) (79 + i) ((i - 25) % 127)
+index_of_page i = cond (nat_lt i ROOT_PAGES) (FIRST_PAGE + i) ((i - ROOT_PAGES) % MAP_EXT_PAGES)
 
 -- the word that names the bitmap extension block of page i, the first of its pages, in the root or in the bitmap extension block before
 abbrev pub index_of_map_ext : ℕ → ℕ
-index_of_map_ext i = cond (i == 25) 104 127
+index_of_map_ext i = cond (i == ROOT_PAGES) FIRST_MAP_EXT MAP_EXT_NEXT
 
 -- these are the blocks of the first k pages, and the image has them
 pub record AreListed (image : List ℕ) (pages : List ℕ) (k : ℕ) : Type 0 where

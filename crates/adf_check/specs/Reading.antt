@@ -1,16 +1,15 @@
 -- The states of a reader that goes along the order of roles. Each says which walk the reader has done, and where in the order it is.
 -- Letters: w a walk; r a role; a a block whose word names block b next; n a node, h its header; p a directory's node, up its block; s a slot;
 -- j a place in a chain, or the number of a bitmap extension block; k the number of a page or of a data block.
-use Rattle.std.specs.Prelude.{◌≡◌, ◌≢◌, ℕ, List, ◌+◌, ◌-◌, ◌*◌, ◌/◌, ◌%◌, ◌<◌, ◌≤◌, cond, nat_lt, length}
+use Rattle.std.specs.Prelude.{◌≡◌, ℕ, List, ◌+◌, ◌-◌, ◌*◌, ◌/◌, ◌%◌, ◌<◌, ◌≤◌, cond, nat_lt, length}
 use Rattle.std.proofs.Common.{zero, suc}
+use Rattle.adf_blocks.specs.declared.layout.TheConstants.{EXTENSION, FIRST_MAP_EXT, FIRST_PAGE, FIRST_SLOT, MAP_EXT_NEXT, MAP_EXT_PAGES, NEXT_IN_CHAIN, ROOT_PAGES}
 use Rattle.adf_tree.specs.Texts.{uppers}
 use Rattle.adf_tree.specs.Tree.{Tree}
-use Rattle.adf_blocks.specs.declared.cause.Cause.{Cause}
-use Rattle.adf_blocks.specs.declared.cause.Cause.TheVariants.{NoMemory}
 use Rattle.adf_volume.specs.Lists.{At}
 use Rattle.adf_volume.specs.Image.{word_in, root_of, name_of}
 use Rattle.adf_volume.specs.Demands.{AllHold}
-use Rattle.adf_volume.specs.Walk.{Role, Has, heads, DirAt, FileAt, MemberAt, NamesPage, ext_count, IsWalk, IsWhole, bitmap_demands, FirstFault}
+use Rattle.adf_volume.specs.Walk.{Role, Has, heads, DirAt, FileAt, MemberAt, NamesPage, ext_count, IsWalk, IsWhole, bitmap_demands}
 use Rattle.adf_volume.specs.Walk.Role.{Page, MapExt, Head, Ext, Data}
 use Rattle.adf_volume.specs.Layout.{Layout}
 use Rattle.adf_volume.specs.Fits.{Fits}
@@ -50,8 +49,8 @@ pub record IsAtSlot (image : List ℕ) (store : Store) (p up s : ℕ) : Type 0 w
 
 -- the word of block a that names place j of slot s of directory p has the number b
 abbrev pub Next : List ℕ → List (Role × ℕ) → ℕ → ℕ → ℕ → ℕ → ℕ → Type 0
-Next image w p s zero a b = DirAt image w p a × (word_in image a (6 + s) ≡ b)
-Next image w p s (suc j) a b = ((m : ℕ) × Has w (Head m p s j) a) × (word_in image a 124 ≡ b)
+Next image w p s zero a b = DirAt image w p a × (word_in image a (FIRST_SLOT + s) ≡ b)
+Next image w p s (suc j) a b = ((m : ℕ) × Has w (Head m p s j) a) × (word_in image a NEXT_IN_CHAIN ≡ b)
 
 -- `seen` holds of the names, without their case, of the headers that the walk has in a chain, and of no others
 pub record Sees (image : List ℕ) (w : List (Role × ℕ)) (p s : ℕ) (seen : List ℕ → Type 0) : Type 0 where
@@ -71,8 +70,8 @@ pub record IsInChain (image : List ℕ) (store : Store) (p up s a b : ℕ) (seen
 pub record IsBeforePage (image : List ℕ) (store : Store) (k a : ℕ) : Type 0 where
   pub walk : List (Role × ℕ)
   pub read : HasRead image store walk (BeforePage k)
-  pub at_root : k ≤ 25 → a ≡ root_of image
-  pub at_ext : (j : ℕ) → 25 + 127 * j < k → k ≤ 25 + 127 * suc j → Has walk (MapExt j) a
+  pub at_root : k ≤ ROOT_PAGES → a ≡ root_of image
+  pub at_ext : (j : ℕ) → ROOT_PAGES + MAP_EXT_PAGES * j < k → k ≤ ROOT_PAGES + MAP_EXT_PAGES * suc j → Has walk (MapExt j) a
 
 -- everything up to page k has been read, and a word of block a names it
 pub record IsAtPage (image : List ℕ) (store : Store) (k a : ℕ) : Type 0 where
@@ -83,22 +82,24 @@ pub record IsAtPage (image : List ℕ) (store : Store) (k a : ℕ) : Type 0 wher
 
 -- bitmap extension block j, by the words alone
 abbrev pub map_ext_block : List ℕ → ℕ → ℕ
-map_ext_block image zero = word_in image (root_of image) 104
-map_ext_block image (suc j) = word_in image (map_ext_block image j) 127
+map_ext_block image zero = word_in image (root_of image) FIRST_MAP_EXT
+map_ext_block image (suc j) = word_in image (map_ext_block image j) MAP_EXT_NEXT
 
 -- the block of page k, by the words alone
 abbrev pub block_of_page : List ℕ → ℕ → ℕ
-block_of_page image k = cond (nat_lt k 25) (word_in image (root_of image) (79 + k)) (word_in image (map_ext_block image ((k - 25) / 127)) ((k - 25) % 127))
+block_of_page image k =
+    cond (nat_lt k ROOT_PAGES) (word_in image (root_of image) (FIRST_PAGE + k))
+    (word_in image (map_ext_block image ((k - ROOT_PAGES) / MAP_EXT_PAGES)) ((k - ROOT_PAGES) % MAP_EXT_PAGES))
 
 -- the list has the blocks of pages 0 to k - 1
 pub record IsListed (image : List ℕ) (list : List ℕ) (k : ℕ) : Type 0 where
   pub size : length list ≡ k
   pub pages : (i b : ℕ) → At list i b → block_of_page image i ≡ b
 
--- word 126 of block a, of file n with its header at h, has the number b of extension block j + 1
+-- the word of block a that names the next extension block of file n, with its header at h, has the number b of extension block j + 1
 abbrev pub NextExt : List ℕ → List (Role × ℕ) → ℕ → ℕ → ℕ → ℕ → ℕ → Type 0
-NextExt image w n h zero a b = (a ≡ h) × (word_in image a 126 ≡ b)
-NextExt image w n h (suc j) a b = Has w (Ext n (suc j)) a × (word_in image a 126 ≡ b)
+NextExt image w n h zero a b = (a ≡ h) × (word_in image a EXTENSION ≡ b)
+NextExt image w n h (suc j) a b = Has w (Ext n (suc j)) a × (word_in image a EXTENSION ≡ b)
 
 -- the table has the header of file n, at block h, and then the extension blocks that the walk has
 pub record HasTable (image : List ℕ) (w : List (Role × ℕ)) (n h : ℕ) (table : List ℕ) : Type 0 where
@@ -146,7 +147,3 @@ pub record StoreFits (image : List ℕ) (store : Store) : Type 0 where
   pub read : HasReadAll image store walk
   pub fits : Fits image (tree_in image walk) (layout_in walk)
   pub only : (t : Tree) (l : Layout) → Fits image t l → (t ≡ tree_in image walk) × (l ≡ layout_in walk)
-
--- the fault is the first one, or memory was refused
-abbrev pub IsRight : List ℕ → ℕ → Cause → Type 0
-IsRight image b c = c ≢ NoMemory → FirstFault image b c

@@ -1,5 +1,6 @@
 -- What is told of entries.
 use Rattle.std.specs.Prelude.{◌≡◌, ℕ, List, length, Option, Some, None}
+use Rattle.adf_blocks.specs.declared.layout.TheConstants.{NAME}
 use Rattle.adf_tree.specs.declared.entry.Body.{Body}
 use Rattle.adf_tree.specs.declared.entry.Body.TheVariants.{Dir as ADir, File as AFile}
 use Rattle.adf_tree.specs.declared.entry.Entry.{Entry}
@@ -18,7 +19,7 @@ row_body (HeadFile size ext) = File size
 
 -- what a header tells of its entry
 abbrev pub row_in : ℕ → List ℕ → Row
-row_in parent b = record { parent = parent; name = text_at b 432; meta = meta_at b; body = row_body (body_at b) }
+row_in parent b = record { parent = parent; name = text_at b NAME; meta = meta_at b; body = row_body (body_at b) }
 
 -- a directory is told as one, and a file with the number of its bytes
 abbrev pub BodyMatches : RowBody → Body → Type 0

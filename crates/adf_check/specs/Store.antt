@@ -76,7 +76,7 @@ entered store = record store { starts = store.starts ++ record { exts = length s
 pub record Owns (image : List ℕ) (owners : List Owner) (w : List (Role × ℕ)) : Type 0 where
   pub size : length owners ≡ blocks image
   pub boot : (b : ℕ) → b < 2 → b < blocks image → owner_at owners b ≡ Boot
-  pub told : (q : Role) (b : ℕ) → Has w q b → owner_at owners b ≡ owner_of q
+  pub assigned : (q : Role) (b : ℕ) → Has w q b → owner_at owners b ≡ owner_of q
   pub owned : (b : ℕ) → 2 ≤ b → b < blocks image → owner_at owners b ≢ Free → (q : Role) × Has w q b × (owner_at owners b ≡ owner_of q)
 
 -- row i is the header of node i + 1

@@ -40,12 +40,12 @@ fn read_header(
     found: &mut Found,
     seen: &mut NameSet,
     chain: &Chain,
-    at: u32,
+    holder: u32,
     b: u32,
 ) -> Result<u32, Fault>
     requires slot { chain.now.slot < 72 }
     requires some { b ≢ 0 }
-    requires state { IsInChain image.now (store_of found.old) chain.now.parent chain.now.up chain.now.slot at b (sees_of seen.old) }
+    requires state { IsInChain image.now (store_of found.old) chain.now.parent chain.now.up chain.now.slot holder b (sees_of seen.old) }
     ensures state { IfOk result (λ next. IsInChain image.now (store_of found.new) chain.now.parent chain.now.up chain.now.slot b next (sees_of seen.new)) }
     ensures fewer { OnOk result (IsFurther found.old found.new) }
     ensures less { OnOk result (left found.new < left found.old) }
@@ -54,7 +54,7 @@ fn read_header(
 {
     let kind = image.kind();
     let owner = NarrowOwner::Head((found.rows.len() + 1) as u32);
-    claim_named(&mut found.owners, at, b, owner)?;
+    claim_named(&mut found.owners, holder, b, owner)?;
     let head = match read_head(image.block(b), kind, b, chain.up, chain.slot) {
         Ok(head) => head,
         Err(cause) => return Err(fault_at(b, cause)),
@@ -85,11 +85,11 @@ fn read_chain(
     ensures fault { IfErr result (λ f. IsTrueFault image.now f) }
 {
     seen.clear();
-    let mut at = chain.up;
-    let mut b = image.directory(at).slot(chain.slot);
+    let mut holder = chain.up;
+    let mut b = image.directory(holder).slot(chain.slot);
     while b != 0 {
-        let next = read_header(image, found, seen, chain, at, b)?;
-        at = b;
+        let next = read_header(image, found, seen, chain, holder, b)?;
+        holder = b;
         b = next;
     }
     Ok(())

@@ -102,7 +102,7 @@ fn read_data_block(
     found: &mut Found,
     table: &[u32],
     file: &File,
-    at: u32,
+    holder: u32,
     b: u32,
     k: u32,
 ) -> Result<(), Fault>
@@ -111,7 +111,7 @@ fn read_data_block(
     requires count { file.now.count ≡ data_count image.now file.now.head }
     requires enough { file.now.count ≤ 72 * length table.now }
     requires inside { k < file.now.count }
-    requires holder { at ≡ slice_index table.now (k / 72) }
+    requires holder { holder ≡ slice_index table.now (k / 72) }
     requires named { b ≡ word_in image.now (slice_index table.now (k / 72)) (77 - k % 72) }
     requires state { IsInDatas image.now (store_of found.old) file.now.node file.now.head table.now k }
     ensures state { OnOk result (IsInDatas image.now (store_of found.new) file.now.node file.now.head table.now (k + 1)) }
@@ -120,7 +120,7 @@ fn read_data_block(
 {
     claim_named(
         &mut found.owners,
-        at,
+        holder,
         b,
         NarrowOwner::Data(file.node, k + 1),
     )?;
@@ -152,13 +152,13 @@ fn read_named(
     ensures fault { IfErr result (λ f. IsTrueFault image.now f) }
 {
     let count = file.count;
-    let at = table[m as usize];
-    let names = image.table(at);
+    let holder = table[m as usize];
+    let names = image.table(holder);
     let first = 72 * m;
     let len = (count - first).min(72);
     for k in first..first + len {
         let b = names.pointer((k - first) as usize);
-        read_data_block(image, found, table, file, at, b, k)?;
+        read_data_block(image, found, table, file, holder, b, k)?;
     }
     Ok(())
 }

@@ -23,19 +23,19 @@ fn read_ext_block(
     table: &mut Vec<u32>,
     node: Node,
     head: u32,
-    at: u32,
+    holder: u32,
     b: u32,
 ) -> Result<u32, Fault>
     requires begun { IsBegun image.now }
     requires some { b ≢ 0 }
-    requires state { IsInExts image.now (store_of found.old) node head table.old.items at b }
+    requires state { IsInExts image.now (store_of found.old) node head table.old.items holder b }
     ensures state { IfOk result (λ next. IsInExts image.now (store_of found.new) node head table.new.items b next) }
     ensures fewer { OnOk result (IsFurther found.old found.new) }
     ensures less { OnOk result (left found.new < left found.old) }
     ensures fault { IfErr result (λ f. IsTrueFault image.now f) }
 {
     let owner = NarrowOwner::Ext(number_of(node), table.len() as u32);
-    claim_named(&mut found.owners, at, b, owner)?;
+    claim_named(&mut found.owners, holder, b, owner)?;
     let ext = match read_ext(image.block(b), b, head) {
         Ok(ext) => ext,
         Err(cause) => return Err(fault_at(b, cause)),
@@ -62,11 +62,11 @@ pub fn read_exts(
     ensures fewer { OnOk result (IsFurther found.old found.new) }
     ensures fault { IfErr result (λ f. IsTrueFault image.now f) }
 {
-    let mut at = head;
+    let mut holder = head;
     let mut b = first;
     while b != 0 {
-        let next = read_ext_block(image, found, table, node, head, at, b)?;
-        at = b;
+        let next = read_ext_block(image, found, table, node, head, holder, b)?;
+        holder = b;
         b = next;
     }
     Ok(())

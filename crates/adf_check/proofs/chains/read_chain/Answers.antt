@@ -12,5 +12,5 @@ returns-clause-state c =
     let seen = sees_of c.loop-b.seen in
     let next : suc chain.slot ≡ chain.slot + 1 = omega arith in
     subst (IsAtSlot image store chain.parent chain.up) next
-    (chain_ends image store chain.parent chain.up chain.slot c.loop-b.at seen
-    (subst (λ b. IsInChain image store chain.parent chain.up chain.slot c.loop-b.at b seen) c.loop-b-test.false c.loop-b.invariant.state))
+    (chain_ends image store chain.parent chain.up chain.slot c.loop-b.holder seen
+    (subst (λ b. IsInChain image store chain.parent chain.up chain.slot c.loop-b.holder b seen) c.loop-b-test.false c.loop-b.invariant.state))

@@ -4,7 +4,7 @@ use Rattle.adf_check.proofs.chains.read_chain.Given as goal
 
 abbrev pub invariant-loop-b : goal.invariant-loop-b
 invariant-loop-b l = record {
-  state : IsInChain l.image (store_of l.found) l.chain.parent l.chain.up l.chain.slot l.at l.b (sees_of l.seen);
+  state : IsInChain l.image (store_of l.found) l.chain.parent l.chain.up l.chain.slot l.holder l.b (sees_of l.seen);
   fewer : IsFurther l.fn.found l.found;
 }
 

@@ -29,7 +29,7 @@ returns-in-Ok-false-clause-fault c =
 pub kept_row-requires : goal.kept_row-requires
 kept_row-requires c =
     let chain = c.args.chain.now in
-    parent_short c.args.image.now (store_of c.args.found.now) c.kind-kind.ensures.begun refl chain.parent chain.up chain.slot c.args.at c.args.b
+    parent_short c.args.image.now (store_of c.args.found.now) c.kind-kind.ensures.begun refl chain.parent chain.up chain.slot c.args.holder c.args.b
     _ c.requires.state
 
 pub returns-in-Ok-push-clause-state : goal.returns-in-Ok-push-clause-state
@@ -60,5 +60,5 @@ overflow_cast-owner c =
     let store = store_of c.args.found.now in
     let count : c.len.result ≡ length store.rows = search rules in
     let short : length store.rows + 1 < 2 ^ 32 =
-    entry_short c.args.image.now store c.kind-kind.ensures.begun refl chain.parent chain.up chain.slot c.args.at c.args.b _ c.requires.state in
+    entry_short c.args.image.now store c.kind-kind.ensures.begun refl chain.parent chain.up chain.slot c.args.holder c.args.b _ c.requires.state in
     omega arith

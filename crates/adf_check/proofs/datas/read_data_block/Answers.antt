@@ -12,10 +12,10 @@ pub returns-in_err-claim_named-clause-fault : goal.returns-in_err-claim_named-cl
 returns-in_err-claim_named-clause-fault c =
     let enough = subst (λ n. n ≤ 72 * length c.args.table.now) c.requires.count c.requires.enough in
     let lt = subst (λ n. c.args.k < n) c.requires.count c.requires.inside in
-    let refused : IfErr c.from_residual.result (λ f. IsClaimFault c.args.found.now.owners c.args.at c.args.b f) = search rules in
+    let refused : IfErr c.from_residual.result (λ f. IsClaimFault c.args.found.now.owners c.args.holder c.args.b f) = search rules in
     claim_refused (data_named c.requires.begun c.requires.state enough lt c.requires.named)
     (data_enough c.requires.begun c.requires.state enough lt c.requires.named) c.from_residual.result
-    (subst (λ (at : ℕ). IfErr c.from_residual.result (λ f. IsClaimFault c.args.found.now.owners at c.args.b f)) c.requires.holder refused)
+    (subst (λ (holder : ℕ). IfErr c.from_residual.result (λ f. IsClaimFault c.args.found.now.owners holder c.args.b f)) c.requires.holder refused)
 
 pub returns-in-Err-clause-fault : goal.returns-in-Err-clause-fault
 returns-in-Err-clause-fault c =

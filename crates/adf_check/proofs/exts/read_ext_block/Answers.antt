@@ -45,4 +45,4 @@ overflow_cast-owner c =
 pub number_of-requires : goal.number_of-requires
 number_of-requires c =
     file_in_exts c.args.image.now (store_of c.args.found.now) c.requires.begun refl c.args.node c.args.head c.args.table.now.items
-    c.args.at c.args.b c.requires.state
+    c.args.holder c.args.b c.requires.state

@@ -9,5 +9,5 @@ returns-clause-state c =
     let image = c.args.image.now in
     let store = store_of c.loop-b.found in
     let table = c.loop-b.table.items in
-    exts_end image store c.args.node c.args.head table c.loop-b.at
-    (subst (IsInExts image store c.args.node c.args.head table c.loop-b.at) c.loop-b-test.false c.loop-b.invariant.state)
+    exts_end image store c.args.node c.args.head table c.loop-b.holder
+    (subst (IsInExts image store c.args.node c.args.head table c.loop-b.holder) c.loop-b-test.false c.loop-b.invariant.state)

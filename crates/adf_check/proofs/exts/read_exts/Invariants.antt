@@ -4,7 +4,7 @@ use Rattle.adf_check.proofs.exts.read_exts.Given as goal
 
 abbrev pub invariant-loop-b : goal.invariant-loop-b
 invariant-loop-b l = record {
-  state : IsInExts l.image (store_of l.found) l.node l.head l.table.items l.at l.b;
+  state : IsInExts l.image (store_of l.found) l.node l.head l.table.items l.holder l.b;
   fewer : IsFurther l.fn.found l.found;
 }
 
