@@ -14,7 +14,7 @@ use Rattle.adf_blocks.proofs.FieldLaws.{bytes_of_field, length_sealed_fields, su
 
 -- the fields of a data block fit side by side
 pub data_descends : (d : DataFields) → FitsData d → Descends 512 (data_table d)
-data_descends d fits = (omega (arith, fits.bytes), (omega arith, (omega arith, (omega arith, (omega arith, (omega arith, tt))))))
+data_descends d fits = search (arith, fits.bytes)
 
 -- a data block is a whole block
 pub length_data_block : (d : DataFields) → FitsData d → length (data_block d) ≡ 512
@@ -55,20 +55,15 @@ data_block-bytes d fits = bytes_of_field (data_table d) 0 DATA_BYTES d.bytes (da
 pub data_block-form : (d : DataFields) → FitsData d → first_cause (data_form d.head d.number (length d.bytes) d.next (data_block d)) ≡ None
 data_block-form d fits =
     let b : List ℕ = data_block d in
-    no_cause (data_form d.head d.number (length d.bytes) d.next b) (
+    no_cause (data_form d.head d.number (length d.bytes) d.next b) (search (
       eq-eqb (long_sum b) 0 (data_block-sum d fits),
-      (
-        eq-eqb (word b TYPE) T_DATA (data_block-type d fits),
-        (
-          both_true (both_true (both_true
-              (eq-eqb (word b DATA_HEAD) d.head (data_block-head d fits))
-              (eq-eqb (word b DATA_NUMBER) d.number (data_block-number d fits)))
-              (eq-eqb (word b DATA_HELD) (length d.bytes) (data_block-held d fits)))
-              (eq-eqb (word b DATA_NEXT) d.next (data_block-next d fits)),
-          tt,
-        ),
-      ),
-    )
+      eq-eqb (word b TYPE) T_DATA (data_block-type d fits),
+      both_true (both_true (both_true
+          (eq-eqb (word b DATA_HEAD) d.head (data_block-head d fits))
+          (eq-eqb (word b DATA_NUMBER) d.number (data_block-number d fits)))
+          (eq-eqb (word b DATA_HELD) (length d.bytes) (data_block-held d fits)))
+          (eq-eqb (word b DATA_NEXT) d.next (data_block-next d fits)),
+    ))
 
 -- a data block that was written into an image is read there
 pub written_data_form : (image : List ℕ) (b : ℕ) (d : DataFields) → FitsData d → b * 512 + 512 ≤ length image

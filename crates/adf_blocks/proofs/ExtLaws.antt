@@ -1,5 +1,5 @@
 -- What the block of an extension block holds.
-use Rattle.std.proofs.Common.{◌≡◌, ◌≤◌, ◌<◌, ℕ, ◌+◌, ◌-◌, ◌*◌, ◌^◌, List, length, refl, ◌∙◌, arith, inl, inr}
+use Rattle.std.proofs.Common.{◌≡◌, ◌≤◌, ◌<◌, ℕ, ◌+◌, ◌-◌, ◌*◌, ◌^◌, List, length, refl, ◌∙◌, arith}
 use Rattle.std.specs.Prelude.{None, reverse, slice_index}
 use Rattle.std.specs.Cmp.Derive.{both_true}
 use Rattle.std.proofs.lemmas.Bool.{eq-eqb}
@@ -18,7 +18,7 @@ pub ext_descends : (e : ExtFields) → FitsExt e → Descends 512 (ext_table e)
 ext_descends e fits =
     let n = length_longs (reverse e.table) in
     let m = length-reverse e.table in
-    (omega arith, (omega arith, (omega arith, (omega (arith, fits.table), (omega (arith, fits.table), (omega arith, (omega arith, tt)))))))
+    search (arith, fits.table)
 
 -- an extension block is a whole block
 pub length_ext_block : (e : ExtFields) → FitsExt e → length (ext_block e) ≡ 512
@@ -56,36 +56,19 @@ pub ext_block-pointer : (e : ExtFields) (j : ℕ) → FitsExt e → j < POINTERS
 unfolding ext_block
 ext_block-pointer e j fits lt small =
     pointer_number (ext_table e) 3 FIRST_POINTER j e.table (ext_descends e fits) (omega arith) refl (omega (arith, fits.table)) (omega arith) (omega arith)
-    (λ past. (
-      inl (omega arith),
-      (
-        inl (omega arith),
-        (
-          inl (omega arith),
-          (
-            inl
-                (omega arith),
-            (inr (omega arith), (inr (omega arith), (inr (omega arith), tt))),
-          ),
-        ),
-      ),
-    ))
+    (omega arith)
     ∙ long_number (slice_index e.table j) small
 
 -- an extension block that was written is read
 pub ext_block-form : (e : ExtFields) → FitsExt e → first_cause (ext_form e.own e.head (ext_block e)) ≡ None
 ext_block-form e fits =
     let b : List ℕ = ext_block e in
-    no_cause (ext_form e.own e.head b) (
+    no_cause (ext_form e.own e.head b) (search (
       eq-eqb (long_sum b) 0 (ext_block-sum e fits),
-      (
-        both_true (eq-eqb (word b TYPE) T_LIST (ext_block-type e fits)) (eq-eqb (word b SECONDARY_TYPE) ST_FILE (ext_block-secondary e fits)),
-        (
-          eq-eqb (word b OWN_KEY) e.own (ext_block-own e fits),
-          (eq-eqb (word b PARENT) e.head (ext_block-head e fits), tt),
-        ),
-      ),
-    )
+      both_true (eq-eqb (word b TYPE) T_LIST (ext_block-type e fits)) (eq-eqb (word b SECONDARY_TYPE) ST_FILE (ext_block-secondary e fits)),
+      eq-eqb (word b OWN_KEY) e.own (ext_block-own e fits),
+      eq-eqb (word b PARENT) e.head (ext_block-head e fits),
+    ))
 
 -- an extension block that was written into an image is read there
 pub written_ext_form : (image : List ℕ) (b : ℕ) (e : ExtFields) → FitsExt e → b * 512 + 512 ≤ length image

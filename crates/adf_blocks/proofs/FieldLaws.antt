@@ -139,6 +139,21 @@ abbrev pub Apart : ℕ → ℕ → List Field → Type 0
 Apart a b [] = Unit {0}
 Apart a b (f ∷ fs) = ((b ≤ f.0) ⊎ (f.0 + length f.1 ≤ a)) × Apart a b fs
 
+-- what lies above all fields is apart from them
+apart_below : (top a b : ℕ) (fs : List Field) → Descends top fs → top ≤ a → Apart a b fs
+apart_below top a b [] d le = tt
+apart_below top a b (f ∷ fs) d le = (inr (omega (arith, d.0)), apart_below f.0 a b fs d.1 (omega (arith, d.0)))
+
+-- what lies between field k + 1 and field k is apart from all fields
+pub apart_between : (top a b k : ℕ) (fs : List Field) (e : Field) → Descends top fs → suc k < length fs → b ≤ (get_or fs k e).0
+    → (get_or fs (suc k) e).0 + length (get_or fs (suc k) e).1 ≤ a → Apart a b fs
+apart_between top a b k [] e d lt lo hi = absurd (omega arith)
+apart_between top a b zero (f ∷ []) e d lt lo hi = absurd (omega arith)
+apart_between top a b zero (f ∷ (g ∷ fs)) e d lt lo hi = (inl lo, (inr hi, apart_below g.0 a b fs d.1.1 (omega (arith, hi))))
+apart_between top a b (suc k) (f ∷ fs) e d lt lo hi =
+    let below = field_below f.0 fs k e d.1 (omega arith) in
+    (inl (omega (arith, lo)), apart_between f.0 a b k fs e d.1 (omega arith) lo hi)
+
 -- bytes that no field is put over
 range_between : (top a b : ℕ) (fs : List Field) → top ≤ 512 → Descends top fs → Apart a b fs → slice_range (block_of_fields fs) a b ≡ slice_range (replicate 512 0) a b
 range_between top a b [] le d apart = refl
@@ -169,21 +184,23 @@ word_between fs i d lt apart other =
     word-with_word_other (block_of_fields fs) CHECKSUM (checksum CHECKSUM (block_of_fields fs)) i (omega arith) other ∙ fields_between fs i d lt apart
 
 -- the number in word i - j where words were put down from word i on, downwards: word j of these, or 0 past the last
-pub pointer_number : (fs : List Field) (k i j : ℕ) (ws : List ℕ) → Descends 512 fs → k < length fs → get_or fs k (0, []) ≡ downwards i ws
+pub pointer_number : (fs : List Field) (k i j : ℕ) (ws : List ℕ) → Descends 512 fs → suc k < length fs → get_or fs k (0, []) ≡ downwards i ws
     → length ws + CHECKSUM ≤ i → j + CHECKSUM < i → i < 128
-    → (length ws ≤ j → Apart (4 * (i - j)) (4 * (i - j) + 4) fs)
+    → (get_or fs (suc k) (0, [])).0 + length (get_or fs (suc k) (0, [])).1 ≤ 4 * (i - j)
     → word (sealed CHECKSUM (block_of_fields fs)) (i - j) ≡ big_number 4 (long (slice_index ws j))
-pointer_number fs k i j ws d lt e room above in_block past = elim (cases_lt j (length ws)) [
+pointer_number fs k i j ws d lt e room above in_block next = elim (cases_lt j (length ws)) [
   | inl in_words ↦
       let n : length (reverse ws) ≡ length ws = length-reverse ws in
       let at : i - j ≡ (i + 1 - length ws) + (length ws - 1 - j) = omega arith in
       let back : length ws - 1 - (length ws - 1 - j) ≡ j = omega arith in
       ap (word (sealed CHECKSUM (block_of_fields fs))) at
-      ∙ numbers_of_field CHECKSUM fs k (i + 1 - length ws) (length ws - 1 - j) (reverse ws) (omega arith) d lt e (omega arith) (omega arith)
+      ∙ numbers_of_field CHECKSUM fs k (i + 1 - length ws) (length ws - 1 - j) (reverse ws) (omega arith) d (omega arith) e (omega arith) (omega arith)
       ∙ ap (λ w. big_number 4 (long w)) (get_or-reverse ws (length ws - 1 - j) 0 (omega arith) ∙ ap (slice_index ws) back)
   | inr beyond ↦
       let zero_there : slice_index ws j ≡ 0 = get_or_past ws j 0 beyond in
-      word_between fs (i - j) d (omega arith) (past beyond) (omega arith) ∙ ap (λ w. big_number 4 (long w)) (sym zero_there)
+      let from : (get_or fs k (0, [])).0 ≡ 4 * (i + 1 - length ws) = ap (λ (f : Field). f.0) e in
+      word_between fs (i - j) d (omega arith) (apart_between 512 (4 * (i - j)) (4 * (i - j) + 4) k fs (0, []) d lt (omega arith) next) (omega arith)
+      ∙ ap (λ w. big_number 4 (long w)) (sym zero_there)
 ]
 
 -- a block that was laid and sealed is whole

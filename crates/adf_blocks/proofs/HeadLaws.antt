@@ -1,5 +1,5 @@
 -- What the block of a header holds.
-use Rattle.std.proofs.Common.{◌≡◌, ◌≤◌, ◌<◌, ℕ, ◌+◌, ◌-◌, ◌*◌, ◌^◌, List, length, refl, sym, ap, ◌∙◌, arith, inl, inr, true}
+use Rattle.std.proofs.Common.{◌≡◌, ◌≤◌, ◌<◌, ℕ, ◌+◌, ◌-◌, ◌*◌, ◌^◌, List, length, refl, sym, ap, ◌∙◌, arith, true}
 use Rattle.std.specs.Prelude.{None, not, reverse, slice_index}
 use Rattle.std.specs.Cmp.Derive.{both_true}
 use Rattle.std.proofs.lemmas.Bool.{eq-eqb, le-leb}
@@ -42,34 +42,8 @@ table_fits (FileFields size table ext) h =
 pub head_descends : (h : HeadFields) → FitsHead h → Descends 512 (head_table h)
 head_descends h fits =
     let name = name_short h.name fits.name in
-    let table = table_fits h.body fits.body in (
-      omega arith,
-      (
-        omega arith,
-        (
-          omega arith,
-          (
-            omega arith,
-            (
-              omega (arith, name),
-              (
-                omega arith,
-                (
-                  omega (arith, fits.comment),
-                  (
-                    omega arith,
-                    (
-                      omega arith,
-                      (omega (arith, table.0), (omega (arith, table.1), (omega arith, (omega arith, (omega arith, tt))))),
-                    ),
-                  ),
-                ),
-              ),
-            ),
-          ),
-        ),
-      ),
-    )
+    let table = table_fits h.body fits.body in
+    search (arith, name, fits.comment, table.0, table.1)
 
 -- a header is a whole block
 pub length_head_block : (h : HeadFields) → FitsHead h → length (head_block h) ≡ 512
@@ -162,44 +136,8 @@ pub head_block-pointer : (h : HeadFields) (size : ℕ) (table : List ℕ) (ext j
 unfolding head_block
 head_block-pointer h size table ext j fits e lt =
     let n : length table ≤ POINTERS = rw e at fits.body in
-    let from : (table_of h.body).0 ≡ 4 * (FIRST_POINTER + 1 - length table) = ap (λ b. (table_of b).0) e in
     pointer_number (head_table h) 9 FIRST_POINTER j table (head_descends h fits) (omega arith) (ap table_of e) (omega arith) (omega arith) (omega arith)
-    (λ past. (
-      inl (omega arith),
-      (
-        inl (omega arith),
-        (
-          inl (omega arith),
-          (
-            inl
-                (omega arith),
-            (
-              inl (omega arith),
-              (
-                inl (omega arith),
-                (
-                  inl (omega arith),
-                  (
-                    inl (omega arith),
-                    (
-                      inl (omega arith),
-                      (
-                        inl (omega arith),
-                        (
-                          inr (omega
-                              arith),
-                          (inr (omega arith), (inr (omega arith), (inr (omega arith), tt))),
-                        ),
-                      ),
-                    ),
-                  ),
-                ),
-              ),
-            ),
-          ),
-        ),
-      ),
-    ))
+    (omega arith)
 
 -- the first data block is named twice
 first_there : (h : HeadFields) → FitsHead h → word (head_block h) FIRST_DATA ≡ big_number 4 (long (first_of h.body))
@@ -244,31 +182,17 @@ pub head_block-form : (kind : Kind) (h : HeadFields) → FitsHead h → first_ca
 head_block-form kind h fits =
     let b : List ℕ = head_block h in
     let comment = head_block-comment h fits in
-    no_cause (head_form kind h.own h.parent (slot_of h.name) b) (
+    no_cause (head_form kind h.own h.parent (slot_of h.name) b) (search (
       eq-eqb (long_sum b) 0 (head_block-sum h fits),
-      (
-        types_hold b h.body (head_block-type h fits) (head_block-secondary h fits),
-        (
-          no_link b h.body (head_block-secondary h fits),
-          (
-            eq-eqb (word b OWN_KEY) h.own (head_block-own h fits),
-            (
-              eq-eqb (word b PARENT) h.parent (head_block-parent h fits),
-              (
-                name_there h fits,
-                (
-                  le-leb (slice_index b COMMENT) 79 (omega (arith, comment.0, fits.comment)),
-                  (
-                    eq-eqb (slot_of (text_at b NAME)) (slot_of h.name) (ap slot_of (head_block-name h fits).1),
-                    (first_holds kind h h.body fits refl, tt),
-                  ),
-                ),
-              ),
-            ),
-          ),
-        ),
-      ),
-    )
+      types_hold b h.body (head_block-type h fits) (head_block-secondary h fits),
+      no_link b h.body (head_block-secondary h fits),
+      eq-eqb (word b OWN_KEY) h.own (head_block-own h fits),
+      eq-eqb (word b PARENT) h.parent (head_block-parent h fits),
+      name_there h fits,
+      le-leb (slice_index b COMMENT) 79 (omega (arith, comment.0, fits.comment)),
+      eq-eqb (slot_of (text_at b NAME)) (slot_of h.name) (ap slot_of (head_block-name h fits).1),
+      first_holds kind h h.body fits refl,
+    ))
 
 -- a header that was written into an image is read there
 pub written_head_form : (image : List ℕ) (b : ℕ) (h : HeadFields) (kind : Kind) → FitsHead h → b * 512 + 512 ≤ length image

@@ -1,5 +1,5 @@
 -- What the block of a root holds.
-use Rattle.std.proofs.Common.{◌≡◌, ◌≤◌, ◌<◌, ℕ, ◌+◌, ◌*◌, ◌^◌, List, length, refl, sym, ◌∙◌, arith, inl, inr}
+use Rattle.std.proofs.Common.{◌≡◌, ◌≤◌, ◌<◌, ℕ, ◌+◌, ◌*◌, ◌^◌, List, [], length, refl, sym, ◌∙◌, arith, inl, inr}
 use Rattle.std.specs.Prelude.{None, true, nat_le, slice_index}
 use Rattle.std.proofs.lemmas.Bool.{le-leb, cases_lt}
 use Rattle.std.proofs.lemmas.List.{get_or_past}
@@ -10,30 +10,15 @@ use Rattle.adf_blocks.specs.declared.layout.TheConstants.{NAME, ROOT_PAGES, SECO
 use Rattle.adf_blocks.specs.Forms.{first_cause, text_at}
 use Rattle.adf_blocks.specs.Fields.{Descends}
 use Rattle.adf_blocks.specs.RootBlock.{FitsRoot, FitsStamps, RootFields, root_block, root_form, root_table, stamps_at}
-use Rattle.adf_blocks.proofs.FieldLaws.{length_sealed_fields, long_number, numbers_of_field, stamp_of_field}
+use Rattle.adf_blocks.proofs.FieldLaws.{apart_between, length_sealed_fields, long_number, numbers_of_field, stamp_of_field}
 use Rattle.adf_blocks.proofs.FieldLaws.{sum_of_fields, text_of_field, word_between, word_of_field}
 
 -- the fields of a root fit side by side
 pub root_descends : (r : RootFields) → FitsRoot r → Descends 512 (root_table r)
 root_descends r h =
     let slots = length_longs r.slots in
-    let pages = length_longs r.pages in (
-      omega arith,
-      (
-        omega arith,
-        (
-          omega arith,
-          (
-            omega (arith, h.label),
-            (
-              omega
-                  arith,
-              (omega arith, (omega (arith, h.pages), (omega arith, (omega (arith, h.slots), (omega arith, (omega arith, tt)))))),
-            ),
-          ),
-        ),
-      ),
-    )
+    let pages = length_longs r.pages in
+    search (arith, h.label, h.pages, h.slots)
 
 -- the words of a root
 pub root_block-sum : (r : RootFields) → FitsRoot r → long_sum (root_block r) ≡ 0
@@ -82,33 +67,9 @@ root_block-page r i h lt small = elim (cases_lt i (length r.pages)) [
       ∙ long_number (slice_index r.pages i) small
   | inr past ↦
       let pages = length_longs r.pages in
-      let slots = length_longs r.slots in
-      word_between (root_table r) (FIRST_PAGE + i) (root_descends r h) (omega arith) (
-        inl (omega arith),
-        (
-          inl (omega arith),
-          (
-            inl (omega arith),
-            (
-              inl (omega arith),
-              (
-                inl (omega arith),
-                (
-                  inl (omega arith),
-                  (
-                    inr (omega arith),
-                    (
-                      inr
-                          (omega arith),
-                      (inr (omega (arith, h.slots)), (inr (omega arith), (inr (omega arith), tt))),
-                    ),
-                  ),
-                ),
-              ),
-            ),
-          ),
-        ),
-      )
+      word_between (root_table r) (FIRST_PAGE + i) (root_descends r h) (omega arith)
+      (apart_between 512 (4 * (FIRST_PAGE + i)) (4 * (FIRST_PAGE + i) + 4) 5 (root_table r) (0, []) (root_descends r h) (omega arith) (omega arith)
+      (omega arith))
       (omega arith)
       ∙ sym (get_or_past r.pages i 0 past)
 ]

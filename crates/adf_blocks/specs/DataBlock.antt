@@ -3,7 +3,7 @@ use Rattle.std.specs.Prelude.{◌≤◌, ◌<◌, ◌*◌, ◌^◌, ℕ, ◌==�
 use Rattle.adf_fields.specs.Words.{word, long_sum, sealed}
 use Rattle.adf_blocks.specs.declared.cause.Cause.TheVariants.{BadSum, BadType, BadData}
 use Rattle.adf_blocks.specs.declared.«data».DataOut.{DataOut}
-use Rattle.adf_blocks.specs.declared.layout.TheConstants.{CHECKSUM, DATA_BYTES, DATA_HEAD, DATA_HELD, DATA_NEXT, DATA_NUMBER, TYPE, T_DATA}
+use Rattle.adf_blocks.specs.declared.layout.TheConstants.{CHECKSUM, DATA_BYTES, DATA_HEAD, DATA_HELD, DATA_NEXT, DATA_NUMBER, DATA_ROOM, TYPE, T_DATA}
 use Rattle.adf_blocks.specs.Fields.{Field, block_of_fields, long}
 use Rattle.adf_blocks.specs.Forms.{Clause}
 
@@ -46,4 +46,4 @@ pub record FitsData (d : DataFields) : Type 0 where
   pub head : d.head < 2 ^ 32
   pub number : d.number < 2 ^ 32
   pub next : d.next < 2 ^ 32
-  pub bytes : length d.bytes ≤ 488
+  pub bytes : length d.bytes ≤ DATA_ROOM

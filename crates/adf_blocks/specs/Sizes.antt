@@ -2,7 +2,7 @@
 use Rattle.std.specs.Prelude.{ℕ, ◌+◌, ◌-◌, ◌/◌, ◌%◌, ◌==◌, ◌&&◌, nat_le, Bool, List, length}
 use Rattle.adf_tree.specs.declared.entry.Kind.{Kind}
 use Rattle.adf_tree.specs.declared.entry.Kind.TheVariants.{Ofs, Ffs}
-use Rattle.adf_blocks.specs.declared.layout.TheConstants.{DATA_BYTES, MOST_BLOCKS as THE_MOST, PAGE_BITS}
+use Rattle.adf_blocks.specs.declared.layout.TheConstants.{DATA_ROOM, MOST_BLOCKS as THE_MOST, PAGE_BITS}
 
 -- the most blocks that a volume has
 abbrev pub MOST_BLOCKS : ℕ
@@ -26,7 +26,7 @@ pages_needed n = (n - 2 + (PAGE_BITS - 1)) / PAGE_BITS
 
 -- the bytes of content that a full data block holds
 unfoldable pub chunk : Kind → ℕ
-chunk Ofs = 512 - DATA_BYTES
+chunk Ofs = DATA_ROOM
 chunk Ffs = 512
 
 -- the data blocks that so many bytes need

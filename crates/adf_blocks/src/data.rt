@@ -7,7 +7,7 @@ ghost use Rattle.adf_blocks.specs.DataBlock.{DataFields, FitsData, data_block, d
 
 use crate::cause::Cause;
 use crate::layout::{
-    CHECKSUM, DATA_BYTES, DATA_HEAD, DATA_HELD, DATA_NEXT, DATA_NUMBER, T_DATA, TYPE,
+    CHECKSUM, DATA_BYTES, DATA_HEAD, DATA_HELD, DATA_NEXT, DATA_NUMBER, DATA_ROOM, T_DATA, TYPE,
 };
 use adf_fields::{Block, put_block, put_bytes, put_word, seal_block};
 
@@ -23,7 +23,7 @@ pub fn read_data<'a>(
     held: u32,
     next: u32,
 ) -> Result<&'a [u8], Cause>
-    requires { held ≤ 488 }
+    requires { held ≤ DATA_ROOM }
     ensures { ReadsForm (data_form head number held next b.entry)
         (λ bytes. bytes.now ≡ slice_range b.entry DATA_BYTES (DATA_BYTES + held)) result }
 {
@@ -59,7 +59,7 @@ pub struct DataOut<'a> {
 // The 512 bytes of a data block.
 #[tactic(auto, unfolding(crate::specs::DataBlock::data_block))]
 fn data_bytes(d: &DataOut<'_>) -> [u8; 512]
-    requires { length d.now.bytes.now ≤ 488 }
+    requires { length d.now.bytes.now ≤ DATA_ROOM }
     ensures exact { result ≡ data_block (data_fields d.now) }
     ensures fits { FitsData (data_fields d.now) }
 {
@@ -78,7 +78,7 @@ fn data_bytes(d: &DataOut<'_>) -> [u8; 512]
 #[tactic(auto, using(crate::proofs::DataLaws::written_data_form))]
 pub fn write_data(image: &mut [u8], b: u32, d: &DataOut<'_>)
     requires whole { b * 512 + 512 ≤ length image.old }
-    requires bytes { length d.now.bytes.now ≤ 488 }
+    requires bytes { length d.now.bytes.now ≤ DATA_ROOM }
     ensures exact { image.new ≡ with_block image.old b (data_block (data_fields d.now)) }
     ensures form { let held = length d.now.bytes.now in
         first_cause (data_form d.now.head d.now.number held d.now.next (block image.new b)) ≡ None }

@@ -48,6 +48,9 @@ pub const DATA_NEXT: usize = 4;
 /// The first byte that an OFS data block holds for its file.
 pub const DATA_BYTES: usize = 24;
 
+/// The most bytes that an OFS data block holds for its file.
+pub const DATA_ROOM: usize = 488;
+
 /// The word of the checksum, but in a bitmap page.
 pub const CHECKSUM: usize = 5;
 

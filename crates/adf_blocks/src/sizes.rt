@@ -3,7 +3,7 @@
 ghost use Rattle.std.specs.Prelude.{◌≡◌, ◌≤◌, true};
 ghost use Rattle.adf_blocks.specs.Sizes.{chunk, count, is_allowed, pages_needed};
 
-use crate::layout::{MOST_BLOCKS, PAGE_BITS};
+use crate::layout::{DATA_ROOM, MOST_BLOCKS, PAGE_BITS};
 use adf_tree::Kind;
 
 /// Whether a volume may have so many blocks: even, 4 to `MOST_BLOCKS`.
@@ -26,11 +26,11 @@ pub fn page_count(blocks: u32) -> u32
 #[tactic(auto, unfolding(crate::specs::Sizes::chunk))]
 pub fn chunk_len(kind: Kind) -> usize
     ensures exact { result ≡ chunk kind }
-    ensures low { 488 ≤ result }
+    ensures low { DATA_ROOM ≤ result }
     ensures high { result ≤ 512 }
 {
     match kind {
-        Kind::Ofs => 488,
+        Kind::Ofs => DATA_ROOM,
         Kind::Ffs => 512,
     }
 }

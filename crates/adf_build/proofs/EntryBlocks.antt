@@ -115,7 +115,8 @@ module _ (t : Tree) (n : ℕ) (sound : IsSound t) (allowed : is_allowed n ≡ tr
       let fh = fits_head n (entries_blocks t.kind t.entries) (omega arith) (omega arith) (below t n sound allowed room) t.kind (node_blocks t n) t.entries i
       k e es (near t n sound allowed room) (omega arith) p.0 p.1 in
       let nx = first_near (slice_index (node_blocks t n)) (nodes_from (suc i) es e.parent (slot_of e.name)) (near t n sound allowed room) in (
-        ap (λ b. word_in (volume t n) b NEXT_IN_CHAIN) a ∙ (ap (λ bs. word bs NEXT_IN_CHAIN) h.0 ∙ head_block-next (head_of n t.kind (node_blocks t n) t.entries i k e es) fh nx),
+        ap (λ b. word_in (volume t n) b NEXT_IN_CHAIN) a
+            ∙ (ap (λ bs. word bs NEXT_IN_CHAIN) h.0 ∙ head_block-next (head_of n t.kind (node_blocks t n) t.entries i k e es) fh nx),
         links (suc i) (k + entry_blocks t.kind e) es (λ j. let y : suc i + j ≡ i + suc j = omega arith in ap (slice_index (node_blocks t n)) y ∙ f (suc j))
             (holds_right (volume t n) (body_writes n t.kind k e.body) (entries_writes n t.kind (node_blocks t n) t.entries (suc i) (k + entry_blocks t.kind e)
             es) h.1) (omega arith) (λ j d q. g (suc j) d q),
@@ -145,7 +146,8 @@ module _ (t : Tree) (n : ℕ) (sound : IsSound t) (allowed : is_allowed n ≡ tr
       let e = slot_is 0 s l in
       let small : slice_index (slots_of (node_blocks t n) t.entries 0) s < 2 ^ 32 =
       subst (λ m. m < 2 ^ 32) (sym e) (first_near (slice_index (node_blocks t n)) (chain_nodes t 0 s) (near t n sound allowed room)) in
-      ap (λ bs. word bs (FIRST_SLOT + s)) (holds_root t n sound allowed room) ∙ (root_block-slot (planned_root t n) s (fits_root t n sound allowed room) l small ∙ e)
+      ap (λ bs. word bs (FIRST_SLOT + s)) (holds_root t n sound allowed room)
+      ∙ (root_block-slot (planned_root t n) s (fits_root t n sound allowed room) l small ∙ e)
 
   pub dir_slot : (i s : ℕ) (e : Entry) (h : At t.entries i e) → e.body ≡ Dir → s < SLOTS
       → word_in (volume t n) (nth_free n (spot i e h).k) (FIRST_SLOT + s) ≡ first_block (slice_index (node_blocks t n)) (chain_nodes t (suc i) s)

@@ -82,7 +82,8 @@ module _ (t : Tree) (n : ℕ) (sound : IsSound t) (allowed : is_allowed n ≡ tr
   unfolding meta_of
   meta_laid = sym (ap meta_at here.head ∙ head_block-meta fields (head_fits t n sound allowed room i e h) meta_fits)
 
-  type_laid : word_in (volume t n) (nth_free n here.k) SECONDARY_TYPE ≡ secondary_of (body_of n here.k t.kind (slots_of (node_blocks t n) t.entries (suc i)) e.body)
+  type_laid : word_in (volume t n) (nth_free n here.k) SECONDARY_TYPE
+      ≡ secondary_of (body_of n here.k t.kind (slots_of (node_blocks t n) t.entries (suc i)) e.body)
   type_laid = ap (λ bs. word bs SECONDARY_TYPE) here.head ∙ head_block-secondary fields (head_fits t n sound allowed room i e h)
 
   -- the blocks that the entry takes
@@ -164,7 +165,8 @@ module _ (t : Tree) (n : ℕ) (sound : IsSound t) (allowed : is_allowed n ≡ tr
         let m : j % POINTERS ≡ j = omega arith in
         let lt : j < POINTERS = omega arith in
         let fb = file_blocks in
-        let idx : slice_index (allocated n (suc here.k + x) (min POINTERS c)) j ≡ nth_free n (suc here.k + x + j) = allocated_index n (suc here.k + x) (min POINTERS c) j (omega arith) in
+        let idx : slice_index (allocated n (suc here.k + x) (min POINTERS c)) j ≡ nth_free n (suc here.k + x + j) =
+        allocated_index n (suc here.k + x) (min POINTERS c) j (omega arith) in
         let s = below t n sound allowed room (suc here.k + x + j) (omega arith) in
         let sm = small in
         let at_head : nth_free n here.k ≡ a = sym here.at ∙ ta in
@@ -207,7 +209,7 @@ module _ (t : Tree) (n : ℕ) (sound : IsSound t) (allowed : is_allowed n ≡ tr
         let ho : Holds (volume t n) (data_writes n Ofs (nth_free n here.k) (suc here.k + x) 1 bytes c) =
         subst (λ k. Holds (volume t n) (data_writes n k (nth_free n here.k) (suc here.k + x) 1 bytes c)) z datas_hold in
         subst (λ m. AllHold (data_demands (volume t n) Ofs b (nth_free n here.k) (suc j) m (slice_index (allocated n (suc here.k + x) c) (suc j))))
-        (held_long bytes j (omega arith))
+        (held_long bytes j)
         (subst (λ m. AllHold (data_demands (volume t n) Ofs b (nth_free n here.k) m (length (take (chunk Ofs) (drop (chunk Ofs * j) bytes)))
         (slice_index (allocated n (suc here.k + x) c) (suc j)))) y
         (datas_formed (volume t n) n (entries_blocks t.kind t.entries) small few (below t n sound allowed room) (nth_free n here.k) lies (suc here.k + x) 1

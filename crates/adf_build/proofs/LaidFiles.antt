@@ -10,7 +10,7 @@ use Rattle.adf_fields.specs.Words.{block, word}
 use Rattle.adf_fields.proofs.WordLaws.{range-with_bytes_same}
 use Rattle.adf_tree.specs.declared.entry.Kind.{Kind}
 use Rattle.adf_tree.specs.declared.entry.Kind.TheVariants.{Ofs, Ffs}
-use Rattle.adf_blocks.specs.declared.layout.TheConstants.{EXTENSION, FIRST_POINTER, POINTERS}
+use Rattle.adf_blocks.specs.declared.layout.TheConstants.{DATA_BYTES, DATA_ROOM, EXTENSION, FIRST_POINTER, POINTERS}
 use Rattle.adf_blocks.specs.Forms.{first_cause}
 use Rattle.adf_blocks.specs.ExtBlock.{ext_form}
 use Rattle.adf_blocks.specs.DataBlock.{data_form}
@@ -48,13 +48,17 @@ allocated_past n k (suc m) (suc j) h = allocated_past n (suc k) m j (omega arith
 module _ (v : List ℕ) (n total : ℕ) (small : n < 2 ^ 32) (few : total < 2 ^ 32) (below : (k : ℕ) → k < total → nth_free n k < n) (head : ℕ) (lies : head < n)
   where
     -- the extension blocks are spelled
-    pub exts_linked : (k d c m : ℕ) → k + m ≤ total → Holds v (ext_writes n head k d c m) → Spelled (λ b. word_in v b EXTENSION) (nth_free_or_none n k m) (allocated n k m)
+    pub exts_linked : (k d c m : ℕ) → k + m ≤ total → Holds v (ext_writes n head k d c m)
+        → Spelled (λ b. word_in v b EXTENSION) (nth_free_or_none n k m) (allocated n k m)
     exts_linked k d c zero l h = refl
     exts_linked k d c (suc m) l h =
         let f = fits_ext n total small few below head k d c m lies (omega arith) in
         let w : word_in v (nth_free n k) EXTENSION ≡ nth_free_or_none n (suc k) m =
-        ap (λ bs. word bs EXTENSION) h.0 ∙ ext_block-next (planned_ext n head k d c m) f (next_small n total small few below (suc k) m (omega arith)) in
-        (some_free n k m, subst (λ w. Spelled (λ b. word_in v b EXTENSION) w (allocated n (suc k) m)) (sym w) (exts_linked (suc k) (d + POINTERS) (c - POINTERS) m (omega arith) h.1))
+        ap (λ bs. word bs EXTENSION) h.0 ∙ ext_block-next (planned_ext n head k d c m) f (next_small n total small few below (suc k) m (omega arith)) in (
+          some_free n k m,
+          subst (λ w. Spelled (λ b. word_in v b EXTENSION) w (allocated n (suc k) m)) (sym w)
+              (exts_linked (suc k) (d + POINTERS) (c - POINTERS) m (omega arith) h.1),
+        )
 
     -- and have their form
     pub exts_formed : (k d c m : ℕ) → k + m ≤ total → Holds v (ext_writes n head k d c m) → (j b : ℕ) → At (allocated n k m) j b → AllHold (ext_demands v b head)
@@ -105,8 +109,8 @@ module _ (v : List ℕ) (n total : ℕ) (small : n < 2 ^ 32) (few : total < 2 ^ 
         let c = chunk_ofs in
         let z : 24 + length xs - 24 ≡ length xs = omega arith in
         let bs : List ℕ = data_bytes Ofs head number (nth_free_or_none n (suc k) m) xs in
-        take_take (length xs) 488 (drop 24 bs) (omega arith)
-        ∙ (ap (λ m. take m (drop 24 bs)) (sym z)
+        take_take (length xs) DATA_ROOM (drop DATA_BYTES bs) (omega arith)
+        ∙ (ap (λ m. take m (drop DATA_BYTES bs)) (sym z)
         ∙ data_block-bytes (record { head = head; number = number; next = nth_free_or_none n (suc k) m; bytes = xs })
         (fits_data n total small few below head k number m bytes lies l s))
     area_holds Ffs k number m bytes l s =
@@ -199,18 +203,22 @@ module _ (v : List ℕ) (n total : ℕ) (small : n < 2 ^ 32) (few : total < 2 ^ 
         (datas_formed (suc k) (suc number) (drop (chunk Ofs) bytes) m (omega arith) (omega arith) h.1 j b a))
 
 -- what data block j holds of the bytes
-pub held_long : (bytes : List ℕ) (j : ℕ) → j < count Ofs (length bytes)
-    → length (take (chunk Ofs) (drop (chunk Ofs * j) bytes)) ≡ held Ofs (length bytes) (suc j)
-unfolding chunk count held
-held_long bytes j h =
-    let a : length (take 488 (drop (488 * j) bytes)) ≡ min 488 (length (drop (488 * j) bytes)) = length-take 488 (drop (488 * j) bytes) in
-    let b : length (drop (488 * j) bytes) ≡ length bytes - 488 * j = length-drop (488 * j) bytes in
-    a ∙ go (nat_lt (488 * suc j) (length bytes)) refl
+pub held_long : (bytes : List ℕ) (j : ℕ) → length (take (chunk Ofs) (drop (chunk Ofs * j) bytes)) ≡ held Ofs (length bytes) (suc j)
+unfolding held
+held_long bytes j = length-take c (drop (c * j) bytes) ∙ go (nat_lt (c * suc j) (length bytes)) refl
   where
-    go : (t : Bool) → nat_lt (488 * suc j) (length bytes) ≡ t → min 488 (length (drop (488 * j) bytes)) ≡ cond t 488 (length bytes - 488 * (suc j - 1))
-    go true z =
-        let b : length (drop (488 * j) bytes) ≡ length bytes - 488 * j = length-drop (488 * j) bytes in
-        let l : 488 * suc j < length bytes = grind (arith, nat_tests) in omega arith
+    c : ℕ
+    c = chunk Ofs
+
+    b : length (drop (c * j) bytes) ≡ length bytes - c * j
+    b = length-drop (c * j) bytes
+
+    m : c * suc j ≡ c + c * j
+    m = omega arith
+
+    go : (t : Bool) → nat_lt (c * suc j) (length bytes) ≡ t → min c (length (drop (c * j) bytes)) ≡ cond t c (length bytes - c * (suc j - 1))
+    go true z = let l : c * suc j < length bytes = grind (arith, nat_tests) in omega (arith, b, m)
     go false z =
-        let b : length (drop (488 * j) bytes) ≡ length bytes - 488 * j = length-drop (488 * j) bytes in
-        let l : length bytes ≤ 488 * suc j = grind (arith, nat_tests) in omega arith
+        let l : length bytes ≤ c * suc j = grind (arith, nat_tests) in
+        let e : c * (suc j - 1) ≡ c * j = ap (λ i. c * i) (omega arith) in
+        omega (arith, b, m)

@@ -199,7 +199,8 @@ module _ (t : Tree) (n : ℕ) (sound : IsSound t) (allowed : is_allowed n ≡ tr
       let a : b ≡ middle n + 1 + k = range_at (middle n + 1) (pages_needed n) k b h in
       let l0 : k < length (range_with_len (middle n + 1) (pages_needed n)) = at_below (range_with_len (middle n + 1) (pages_needed n)) k b h in
       let l1 = length-range_with_len (middle n + 1) (pages_needed n) in
-      let e : slice_index (range_with_len (middle n + 1) (min ROOT_PAGES (pages_needed n))) k ≡ b = range_index (middle n + 1) (min ROOT_PAGES (pages_needed n)) k (omega arith) ∙ sym a in
+      let e : slice_index (range_with_len (middle n + 1) (min ROOT_PAGES (pages_needed n))) k ≡ b =
+      range_index (middle n + 1) (min ROOT_PAGES (pages_needed n)) k (omega arith) ∙ sym a in
       let high = size_high n allowed in
       ap (λ bs. word bs (FIRST_PAGE + k)) (holds_root t n sound allowed room)
       ∙ (root_block-page (planned_root t n) k (fits_root t n sound allowed room) l (omega arith) ∙ e)
@@ -325,11 +326,13 @@ module _ (t : Tree) (n : ℕ) (sound : IsSound t) (allowed : is_allowed n ≡ tr
       let u : j < map_exts_needed (pages_needed n) = x.0 in
       let m : ℕ = map_exts_needed (pages_needed n) - suc j in
       let e : b ≡ middle n + 1 + (ROOT_PAGES + MAP_EXT_PAGES * j + i) = range_at (middle n + 1) (pages_needed n) (ROOT_PAGES + MAP_EXT_PAGES * j + i) b h in
-      let l0 : ROOT_PAGES + MAP_EXT_PAGES * j + i < length (range_with_len (middle n + 1) (pages_needed n)) = at_below (range_with_len (middle n + 1) (pages_needed n)) (ROOT_PAGES + MAP_EXT_PAGES * j + i) b h in
+      let l0 : ROOT_PAGES + MAP_EXT_PAGES * j + i < length (range_with_len (middle n + 1) (pages_needed n)) =
+      at_below (range_with_len (middle n + 1) (pages_needed n)) (ROOT_PAGES + MAP_EXT_PAGES * j + i) b h in
       let l1 = length-range_with_len (middle n + 1) (pages_needed n) in
       let near = map_ext_near 0 (omega arith) in
       let s : slice_index (listed_pages n j) i ≡ b =
-      range_index (middle n + 1 + (ROOT_PAGES + MAP_EXT_PAGES * j)) (min MAP_EXT_PAGES (pages_needed n - (ROOT_PAGES + MAP_EXT_PAGES * j))) i (omega arith) ∙ omega arith in
+      range_index (middle n + 1 + (ROOT_PAGES + MAP_EXT_PAGES * j)) (min MAP_EXT_PAGES (pages_needed n - (ROOT_PAGES + MAP_EXT_PAGES * j))) i (omega arith)
+      ∙ omega arith in
       ap (λ a. word_in (volume t n) a i) x.1
       ∙ (ap (λ bs. word bs i) (map_ext_is j u) ∙ (map_ext_block-page (listed_pages n j) (map_ext_or_none n (suc j) m) i (listed_few n j) l (omega arith) ∙ s))
 

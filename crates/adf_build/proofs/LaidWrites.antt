@@ -116,7 +116,8 @@ module _ (t : Tree) (n : ℕ) (sound : IsSound t) (allowed : is_allowed n ≡ tr
 
   pub fits_root : FitsRoot (planned_root t n)
   fits_root =
-      let r : length (range_with_len (middle n + 1) (min ROOT_PAGES (pages_needed n))) ≡ min ROOT_PAGES (pages_needed n) = length-range_with_len (middle n + 1) (min ROOT_PAGES (pages_needed n)) in
+      let r : length (range_with_len (middle n + 1) (min ROOT_PAGES (pages_needed n))) ≡ min ROOT_PAGES (pages_needed n) =
+      length-range_with_len (middle n + 1) (min ROOT_PAGES (pages_needed n)) in
       record {
         slots = length-map-range_with_len (λ s. first_block (slice_index (node_blocks t n)) (nodes_from 1 t.entries 0 s)) 0 SLOTS;
         pages = omega arith;

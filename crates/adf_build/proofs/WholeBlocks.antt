@@ -10,7 +10,7 @@ use Rattle.adf_tree.specs.declared.entry.Kind.TheVariants.{Ofs, Ffs}
 use Rattle.adf_tree.specs.declared.entry.Body.{Body}
 use Rattle.adf_tree.specs.declared.entry.Body.TheVariants.{Dir, File}
 use Rattle.adf_tree.specs.declared.entry.Entry.{Entry}
-use Rattle.adf_blocks.specs.declared.layout.TheConstants.{POINTERS, SLOTS}
+use Rattle.adf_blocks.specs.declared.layout.TheConstants.{DATA_ROOM, POINTERS, SLOTS}
 use Rattle.adf_blocks.specs.HeadBlock.{FitsHead, FitsBody}
 use Rattle.adf_blocks.specs.ExtBlock.{FitsExt}
 use Rattle.adf_blocks.specs.DataBlock.{FitsData}
@@ -32,7 +32,7 @@ unfolding chunk
 chunk_small Ofs = omega arith
 chunk_small Ffs = omega arith
 
-pub chunk_ofs : chunk Ofs ≡ 488
+pub chunk_ofs : chunk Ofs ≡ DATA_ROOM
 unfolding chunk
 chunk_ofs = refl
 

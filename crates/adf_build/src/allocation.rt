@@ -6,7 +6,7 @@ ghost use Rattle.adf_volume.specs.Image.{map_exts_needed};
 ghost use Rattle.adf_build.specs.Laid.{nth_free_or_none};
 ghost use Rattle.adf_build.specs.Plan.{nth_free, reserved, allocated};
 
-use adf_blocks::{MAP_EXT_PAGES, ROOT_PAGES, page_count};
+use adf_blocks::{MAP_EXT_PAGES, POINTERS, ROOT_PAGES, page_count};
 
 /// The bitmap extension blocks of a volume: the root names 25 pages, each of these 127 more.
 #[tactic(auto, unfolding(adf_volume::specs::Image::map_exts_needed))]
@@ -54,13 +54,13 @@ pub fn nth_free_or_none(blocks: u32, k: u32, left: u32) -> u32
 
 /// A table that begins with `m` free blocks, from the `k`-th on.
 #[tactic(auto, using(crate::proofs::FreeBlocks::allocated_step))]
-pub fn table_of(blocks: u32, k: u32, m: usize) -> [u32; 72]
+pub fn table_of(blocks: u32, k: u32, m: usize) -> [u32; POINTERS]
     requires size { is_allowed blocks ≡ true }
     requires room { k < 2 ^ 29 }
-    requires short { m ≤ 72 }
+    requires short { m ≤ POINTERS }
     ensures { take m result ≡ allocated blocks k m }
 {
-    let mut table = [0u32; 72];
+    let mut table = [0u32; POINTERS];
     for j in 0..m {
         table[j] = nth_free(blocks, k + j as u32);
     }

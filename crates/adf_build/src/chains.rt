@@ -5,6 +5,7 @@ ghost use Rattle.std.specs.List.{AllWithin};
 ghost use Rattle.adf_fields.specs.Hash.{slot_of};
 ghost use Rattle.adf_tree.specs.declared.entry.Entry.{Entry};
 ghost use Rattle.adf_tree.specs.Chain.{in_chain};
+ghost use Rattle.adf_blocks.specs.declared.layout.TheConstants.{SLOTS};
 ghost use Rattle.adf_build.specs.Laid.{first_block};
 ghost use Rattle.adf_build.specs.Order.{RisesFrom};
 ghost use Rattle.adf_volume.specs.Layout.{nodes_from};
@@ -72,7 +73,7 @@ pub fn slots_between(tree: &Tree, nodes: &[u32], p: usize, from: usize, end: usi
     requires nodes { length nodes.now ≡ 1 + length tree.now.entries }
     requires mine { AllWithin (λ (e : Entry). e.parent ≡ p) tree.now.entries from end }
     requires past { RisesFrom (72 * (p + 1)) (drop end tree.now.entries) }
-    ensures { (s : ℕ) → s < 72 → slice_index result s ≡ first_block (slice_index nodes.now) (nodes_from (from + 1) (drop from tree.now.entries) p s) }
+    ensures { (s : ℕ) → s < SLOTS → slice_index result s ≡ first_block (slice_index nodes.now) (nodes_from (from + 1) (drop from tree.now.entries) p s) }
 {
     let mut slots = [0u32; 72];
     let mut at = end;

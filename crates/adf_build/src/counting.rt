@@ -7,7 +7,7 @@ ghost use Rattle.adf_build.specs.Plan.{data_blocks, entry_blocks, exts_needed};
 ghost use Rattle.adf_build.specs.Building.{need_of};
 
 use crate::allocation::reserved_count;
-use adf_blocks::{data_count, is_allowed_size};
+use adf_blocks::{POINTERS, data_count, is_allowed_size};
 use adf_tree::{Body, Entry, Kind, Node, Tree};
 
 /// The data blocks of a body.
@@ -25,7 +25,7 @@ pub fn data_blocks(kind: Kind, body: &Body) -> usize
 pub fn ext_count(datas: usize) -> usize
     ensures { result ≡ exts_needed datas }
 {
-    datas.saturating_sub(72).div_ceil(72)
+    datas.saturating_sub(POINTERS).div_ceil(POINTERS)
 }
 
 // A number of blocks and those of an entry, or the greatest number.

@@ -7,7 +7,7 @@ ghost use Rattle.adf_build.specs.Writes.{with_blocks};
 ghost use Rattle.adf_build.specs.Plan.{nth_free, reserved};
 
 use crate::allocation::{nth_free, nth_free_or_none, table_of};
-use adf_blocks::{ExtOut, write_ext};
+use adf_blocks::{ExtOut, POINTERS, write_ext};
 
 /// Writes `count` extension blocks, from the `k`-th free block on, of the file whose header is block `head`: they name
 /// `datas` data blocks, from the `d`-th free block on.
@@ -24,13 +24,13 @@ pub fn write_exts(
     requires size { is_allowed blocks ≡ true }
     requires whole { length image.old ≡ blocks * 512 }
     requires room { 1 + reserved blocks + (k + count) ≤ blocks - 2 }
-    requires near { d + 72 * count < 2 ^ 29 }
+    requires near { d + POINTERS * count < 2 ^ 29 }
     ensures { image.new ≡ with_blocks image.old (ext_writes blocks head k d datas count) }
 {
     let mut left = datas;
     let mut next = d;
     for j in 0..count {
-        let short = left.min(72);
+        let short = left.min(POINTERS);
         let own = nth_free(blocks, k + j);
         let ext = ExtOut {
             own,
@@ -39,7 +39,7 @@ pub fn write_exts(
             next: nth_free_or_none(blocks, k + j + 1, count - (j + 1)),
         };
         write_ext(image, own, &ext);
-        left = left.saturating_sub(72);
-        next += 72;
+        left = left.saturating_sub(POINTERS);
+        next += POINTERS as u32;
     }
 }

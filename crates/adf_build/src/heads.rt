@@ -14,7 +14,7 @@ use crate::allocation::{nth_free, nth_free_or_none, table_of};
 use crate::counting::{data_blocks, ext_count};
 use crate::datas::write_datas;
 use crate::exts::write_exts;
-use adf_blocks::{HeadOut, HeadOutBody, write_head};
+use adf_blocks::{HeadOut, HeadOutBody, POINTERS, write_head};
 use adf_tree::{Body, Entry, Kind};
 
 /// Where the header of an entry is written and what it names: its place among the free blocks, the block of its
@@ -65,7 +65,7 @@ fn write_file_head(
 {
     let own = nth_free(blocks, spot.k);
     let exts = ext_count(datas) as u32;
-    let short = datas.min(72);
+    let short = datas.min(POINTERS);
     let table = table_of(blocks, spot.k + 1 + exts, short);
     let head = HeadOut {
         own,
@@ -101,8 +101,8 @@ fn write_file(image: &mut [u8], blocks: u32, kind: Kind, spot: Spot, entry: &Ent
         blocks,
         own,
         spot.k + 1,
-        first + 72,
-        datas.saturating_sub(72),
+        first + POINTERS as u32,
+        datas.saturating_sub(POINTERS),
         exts,
     );
     write_datas(image, blocks, kind, own, first, bytes, datas as u32);

@@ -3,6 +3,7 @@
 ghost use Rattle.std.specs.Prelude.{◌≡◌, ◌≤◌, ◌<◌, ◌↔◌, ℕ, List, ◌+◌, ◌-◌, ◌*◌, length, replicate, true};
 ghost use Rattle.adf_fields.specs.Words.{block};
 ghost use Rattle.adf_tree.specs.Tree.{Tree};
+ghost use Rattle.adf_blocks.specs.declared.layout.TheConstants.{POINTERS};
 ghost use Rattle.adf_blocks.specs.Sizes.{blocks, is_allowed};
 ghost use Rattle.adf_volume.specs.declared.owner.Owner.{Owner};
 ghost use Rattle.adf_volume.specs.Lists.{In, NoBlockTwice};
@@ -31,9 +32,9 @@ pub fn volumes_are_laid()
     ensures size { (t : Tree) (n : ℕ) → IsSound t → is_allowed n ≡ true → blocks_needed t n ≤ n - 2 → blocks (volume t n) ≡ n }
 {}
 
-/// A file has as few extension blocks as name its data blocks, of which its header names 72.
+/// A file has as few extension blocks as name its data blocks, of which its header and each of them name up to 72.
 pub fn extensions_are_few()
-    ensures { (count exts : ℕ) → (count ≤ 72 * (1 + exts)) ↔ (exts_needed count ≤ exts) }
+    ensures { (count exts : ℕ) → (count ≤ POINTERS * (1 + exts)) ↔ (exts_needed count ≤ exts) }
 {}
 
 /// For a tree and a size at most one image is laid.

@@ -26,7 +26,7 @@ pub fn map_ext_or_none(blocks: u32, j: u32, left: u32) -> u32
 // A table that begins with `m` blocks, from `first` on.
 #[tactic(auto, using(crate::proofs::Ranges::range_step))]
 fn row_of(first: u32, m: usize) -> [u32; MAP_EXT_PAGES]
-    requires short { m ≤ 127 }
+    requires short { m ≤ MAP_EXT_PAGES }
     requires near { first < 2 ^ 31 }
     ensures { take m result ≡ range_with_len first m }
 {

@@ -7,7 +7,7 @@ ghost use Rattle.adf_build.specs.Laid.{page_writes};
 ghost use Rattle.adf_build.specs.Writes.{with_blocks};
 
 use crate::allocation::reserved_count;
-use adf_blocks::{page_count, write_page};
+use adf_blocks::{PAGE_BITS, page_count, write_page};
 
 // Whether block `b` is the root, a reserved block behind it or one of the first `total` free blocks.
 #[tactic(auto, using(crate::proofs::FreeBlocks::used_low, crate::proofs::FreeBlocks::used_high))]
@@ -86,7 +86,7 @@ fn words_of_page(blocks: u32, total: u32, j: u32) -> [u32; 127]
 {
     let mut words = [0u32; 127];
     for w in 0..127usize {
-        words[w] = page_word(blocks, total, 4064 * j + 32 * w as u32);
+        words[w] = page_word(blocks, total, PAGE_BITS * j + 32 * w as u32);
     }
     words
 }

@@ -24,7 +24,7 @@ use adf_tree::{Kind, Tree};
 #[tactic(auto, using(crate::proofs::Ranges::range_step))]
 fn page_numbers(blocks: u32) -> [u32; ROOT_PAGES]
     requires { is_allowed blocks ≡ true }
-    ensures { take (min 25 (pages_needed blocks)) result ≡ range_with_len (blocks / 2 + 1) (min 25 (pages_needed blocks)) }
+    ensures { take (min ROOT_PAGES (pages_needed blocks)) result ≡ range_with_len (blocks / 2 + 1) (min ROOT_PAGES (pages_needed blocks)) }
 {
     let mut numbers = [0u32; ROOT_PAGES];
     for j in 0..ROOT_PAGES.min(page_count(blocks) as usize) {

@@ -1,4 +1,5 @@
-pub mod Puts
+-- memory that C gives: rooms and words
 pub mod Rooms
-pub mod Told
 pub mod WordParts
+-- what is told of a volume
+pub mod CheckedVolumes

@@ -1,40 +1,12 @@
 -- The parts of memory between zero bytes.
-use Rattle.std.proofs.Common.{◌≡◌, map, Bor, Some, None, nat_lt, ℕ, ◌+◌, ◌-◌, ◌<◌, inl, inr, List, [], ◌∷◌, ◌++◌, length, get_or, take, drop, cond}
-use Rattle.std.proofs.Common.{arith, sym, ◌∙◌, ap, subst}
-use Rattle.std.specs.Prelude.{position}
-use Rattle.std.specs.List.{All, position_or_len}
+use Rattle.std.proofs.Common.{◌≡◌, map, Bor, ℕ, ◌+◌, ◌-◌, ◌<◌, List, [], ◌∷◌, ◌++◌, length, get_or, arith, sym, ◌∙◌, ap, subst}
+use Rattle.std.specs.List.{All}
 use Rattle.std.specs.Str.{IsUtf8}
-use Rattle.std.proofs.lemmas.Bool.{cases_Bool, ltb-true, ltb-false}
 use Rattle.std.proofs.Math.Seq.{get_or-append_seam}
-use Rattle.std.proofs.lemmas.List.{append_assoc, append_cancel_right, get_or_append_left, map-append, take_all, length-drop, length-append}
+use Rattle.std.proofs.lemmas.List.{append_assoc, append_cancel_right, get_or_append_left, map-append, length-append}
 use Rattle.std.proofs.lemmas.List.Elements.{All-push}
-use Rattle.std.proofs.lemmas.List.Sums.{fails_before_first}
-use Rattle.std.proofs.lemmas.List.Splits.{slice_split_none, slice_split_first, length-slice_split}
+use Rattle.std.proofs.lemmas.List.Splits.{length-slice_split}
 use Rattle.adf_c.specs.Words.{AreWords, is_zero, between_zeros}
-
--- memory is cut at its first zero byte
-pub cut_at : (bytes : List ℕ) (i : ℕ) → Some i ≡ position is_zero bytes
-    → between_zeros bytes ≡ take i bytes ∷ between_zeros (take (length bytes - (i + 1)) (drop (i + 1) bytes))
-cut_at bytes i h =
-    elim (cases_Bool (nat_lt (position_or_len is_zero bytes) (length bytes))) [
-      | inl t ↦
-          let g : Some i ≡ Some (position_or_len is_zero bytes) = h ∙ ap (λ b. cond b (Some (position_or_len is_zero bytes)) None) t in
-          let same : position_or_len is_zero bytes ≡ i = cc in
-          slice_split_first is_zero bytes 0 (ltb-true (position_or_len is_zero bytes) (length bytes) t)
-          ∙ (ap (λ k. take k bytes ∷ between_zeros (drop (k + 1) bytes)) same
-          ∙ ap (λ ys. take i bytes ∷ between_zeros ys) (sym (take_all (length bytes - (i + 1)) (drop (i + 1) bytes) (omega (arith, length-drop (i + 1) bytes)))))
-      | inr f ↦ let g : Some i ≡ None = h ∙ ap (λ b. cond b (Some (position_or_len is_zero bytes)) None) f in cc
-    ]
-
--- memory with no zero byte is one part
-pub uncut : (bytes : List ℕ) → None ≡ position is_zero bytes → between_zeros bytes ≡ bytes ∷ []
-uncut bytes h =
-    elim (cases_Bool (nat_lt (position_or_len is_zero bytes) (length bytes))) [
-      | inl t ↦ let g : None ≡ Some (position_or_len is_zero bytes) = h ∙ ap (λ b. cond b (Some (position_or_len is_zero bytes)) None) t in cc
-      | inr f ↦
-          let far = ltb-false (position_or_len is_zero bytes) (length bytes) f in
-          slice_split_none is_zero bytes (λ k d lt. fails_before_first is_zero bytes k d (omega (arith, far)))
-    ]
 
 -- memory holds one list of words at most
 pub one_list : (bytes : List ℕ) (words others : List (List ℕ)) → AreWords bytes words → AreWords bytes others → words ≡ others

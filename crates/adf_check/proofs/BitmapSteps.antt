@@ -1,6 +1,6 @@
 -- The steps along the bitmap, and what the reader knows at its end.
-use Rattle.std.proofs.Common.{◌≡◌, ◌≢◌, ◌⊎◌, inl, inr, ℕ, zero, suc, List, ◌+◌, ◌-◌, ◌*◌, ◌/◌, ◌%◌, ◌^◌, ◌<◌, ◌≤◌, length, refl, sym, ap, subst, ◌∙◌, arith, Bool, true, false}
-use Rattle.std.specs.Prelude.{slice_index, IsTrue, ◌↔◌, IsBitSet, bit_and}
+use Rattle.std.proofs.Common.{◌≡◌, ◌≢◌, ◌⊎◌, inl, inr, ℕ, zero, suc, List, ◌+◌, ◌-◌, ◌*◌, ◌/◌, ◌%◌, ◌<◌, ◌≤◌, length, refl, sym, subst, ◌∙◌, arith, Bool, true, false}
+use Rattle.std.specs.Prelude.{IfErr, Result, Ok, Err, slice_index, IsTrue, ◌↔◌, IsBitSet}
 use Rattle.adf_blocks.specs.declared.cause.Cause.{Cause}
 use Rattle.adf_blocks.specs.declared.cause.Cause.TheVariants.{LostBlock, OwnedFree}
 use Rattle.adf_blocks.specs.Sizes.{blocks, pages_needed}
@@ -159,50 +159,47 @@ word_at i bit h = omega arith
 bit_at : (i bit : ℕ) → bit < 32 → (2 + 32 * i + bit - 2) % 4064 % 32 ≡ bit
 bit_at i bit h = omega arith
 
--- block b, of bit `bit` of word i, in a volume whose bitmap agrees below it: what the bit tells
-module _ (image : List ℕ) (store : Store) (pages : List ℕ) (i bit b : ℕ)
-    (e : b ≡ 2 + 32 * i + bit) (within : bit < 32) (begun : IsBegun image) (hi : b < blocks image)
-    (listed : AreListed image pages (pages_needed (blocks image))) (st : IsMapped image store b)
-    (free : Bool) (told : IsTrue free ↔ IsBitSet (word_in image (slice_index pages (i / 127)) (1 + i % 127)) bit) where
-  abbrev number : ℕ
-  number = slice_index pages ((b - 2) / 4064)
+-- bit `bit` of word i, in a volume whose bitmap agrees below its block
+abbrev block_of_bit : ℕ → ℕ → ℕ
+block_of_bit i bit = 2 + 32 * i + bit
 
-  here : IsTrue free ↔ IsBitSet (word_in image (slice_index pages ((b - 2) / 4064)) (1 + (b - 2) % 4064 / 32)) ((b - 2) % 4064 % 32)
-  here =
-      let at_page : (b - 2) / 4064 ≡ i / 127 = ap (λ b. (b - 2) / 4064) e ∙ page_at i bit within in
-      let at_word : 1 + (b - 2) % 4064 / 32 ≡ 1 + i % 127 = ap (λ b. 1 + (b - 2) % 4064 / 32) e ∙ word_at i bit within in
-      let at_bit : (b - 2) % 4064 % 32 ≡ bit = ap (λ b. (b - 2) % 4064 % 32) e ∙ bit_at i bit within in
-      subst (λ p. IsTrue free ↔ IsBitSet (word_in image (slice_index pages p) (1 + (b - 2) % 4064 / 32)) ((b - 2) % 4064 % 32)) (sym at_page)
-      (subst (λ w. IsTrue free ↔ IsBitSet (word_in image (slice_index pages (i / 127)) w) ((b - 2) % 4064 % 32)) (sym at_word)
-      (subst (λ t. IsTrue free ↔ IsBitSet (word_in image (slice_index pages (i / 127)) (1 + i % 127)) t) (sym at_bit) told))
+module _ (i bit : ℕ) {image : List ℕ} {store : Store} {pages : List ℕ} (within : bit < 32) (begun : IsBegun image) (hi : 2 + 32 * i + bit < blocks image)
+    (listed : AreListed image pages (pages_needed (blocks image))) (st : IsMapped image store (2 + 32 * i + bit)) {word : ℕ} {free : Bool}
+    (word_is : word ≡ word_in image (slice_index pages (i / 127)) (1 + i % 127)) (told : IsTrue free ↔ IsBitSet word bit) where
+  here : IsTrue free ↔ IsBitSet (word_in image (slice_index pages (((block_of_bit i bit) - 2) / 4064)) (1 + ((block_of_bit i bit) - 2) % 4064 / 32)) (((block_of_bit i bit) - 2) % 4064 % 32)
+  here = rw (page_at i bit within, word_at i bit within, bit_at i bit within, sym word_is) told
 
-  pub bit_fault : (f : Fault) → IsBitFault store.owners b free f → IsTrueFault image f
+  bit_fault : (f : Fault) → IsBitFault store.owners (block_of_bit i bit) free f → IsTrueFault image f
   bit_fault f (inl y) = subst (IsTrueFault image) (sym y.2)
-      (first_fault image b LostBlock (lost image store b number free pages hi listed.listed refl here st begun y.0 y.1))
+      (first_fault image (block_of_bit i bit) LostBlock (lost image store (block_of_bit i bit) (slice_index pages (((block_of_bit i bit) - 2) / 4064)) free pages hi listed.listed refl here st begun y.0 y.1))
   bit_fault f (inr y) = subst (IsTrueFault image) (sym y.2)
-      (first_fault image b OwnedFree (owned_free image store b number free pages hi listed.listed refl here st begun y.0 y.1))
+      (first_fault image (block_of_bit i bit) OwnedFree (owned_free image store (block_of_bit i bit) (slice_index pages (((block_of_bit i bit) - 2) / 4064)) free pages hi listed.listed refl here st begun y.0 y.1))
 
-  pub bit_agrees : IsTrue free ↔ (owner_at store.owners b ≡ Free) → IsMapped image store (b + 1)
+  -- what the bit tells is not what the owner does
+  pub bit_refused : {T : Type 0} (x : Result T Fault) → IfErr x (IsBitFault store.owners (block_of_bit i bit) free) → IfErr x (IsTrueFault image)
+  bit_refused (Ok y) h = tt
+  bit_refused (Err f) h = bit_fault f h
+
+  -- or it is
+  pub bit_agrees : IsTrue free ↔ (owner_at store.owners (block_of_bit i bit) ≡ Free) → IsMapped image store (2 + 32 * i + (bit + 1))
   bit_agrees h =
-      let one : suc b ≡ b + 1 = omega arith in
-      subst (IsMapped image store) one (agrees image store b number free pages hi listed.listed refl here st h)
+      let next : suc (block_of_bit i bit) ≡ 2 + 32 * i + (bit + 1) = omega arith in
+      subst (IsMapped image store) next (agrees image store (block_of_bit i bit) (slice_index pages (((block_of_bit i bit) - 2) / 4064)) free pages hi listed.listed refl here st h)
 
 -- no bit of 0 is set
-no_bit : (word bit : ℕ) → word ≡ 0 → IsTrue false ↔ IsBitSet word bit
-no_bit word bit e = ((λ h. absurd (let x : false ≡ true = h in cc)), (λ h. absurd (h (ap (λ w. bit_and w (2 ^ bit)) e))))
+no_bit : (bit : ℕ) → IsTrue false ↔ IsBitSet 0 bit
+no_bit bit = ((λ h. absurd (let x : false ≡ true = h in cc)), (λ h. absurd (h refl)))
 
 -- where a word is 0 and its first blocks are owned, the bitmap agrees on them
-pub owned_run : (image : List ℕ) (store : Store) (pages : List ℕ) (i n : ℕ) → n ≤ 32 → 2 + 32 * i + n ≤ blocks image → IsBegun image
-    → AreListed image pages (pages_needed (blocks image))
-    → word_in image (slice_index pages (i / 127)) (1 + i % 127) ≡ 0
+pub owned_run : (i n : ℕ) {image : List ℕ} {store : Store} {pages : List ℕ} → n ≤ 32 → 2 + 32 * i + n ≤ blocks image → IsBegun image
+    → AreListed image pages (pages_needed (blocks image)) → 0 ≡ word_in image (slice_index pages (i / 127)) (1 + i % 127)
     → ((b : ℕ) → 2 + 32 * i ≤ b → b < 2 + 32 * i + n → owner_at store.owners b ≢ Free) → IsMapped image store (2 + 32 * i)
     → IsMapped image store (2 + 32 * i + n)
-owned_run image store pages i zero few hi begun listed none owned st = let e : 2 + 32 * i ≡ 2 + 32 * i + 0 = omega arith in subst (IsMapped image store) e st
-owned_run image store pages i (suc n) few hi begun listed none owned st =
-    let b : ℕ = 2 + 32 * i + n in
-    let before = owned_run image store pages i n (omega arith) (omega arith) begun listed none (λ c lo lt. owned c lo (omega arith)) st in
-    let here : owner_at store.owners b ≢ Free = owned b (omega arith) (omega arith) in
-    let e : b + 1 ≡ 2 + 32 * i + suc n = omega arith in
-    subst (IsMapped image store) e
-    (bit_agrees image store pages i n b refl (omega arith) begun (omega arith) listed before false (no_bit _ n none)
-    ((λ h. absurd (let x : false ≡ true = h in cc)), (λ h. absurd (here h))))
+owned_run i zero {image = image} {store = store} few hi begun listed none owned st =
+    let e : 2 + 32 * i ≡ 2 + 32 * i + 0 = omega arith in subst (IsMapped image store) e st
+owned_run i (suc n) {image = image} {store = store} few hi begun listed none owned st =
+    let before = owned_run i n (omega arith) (omega arith) begun listed none (λ c lo lt. owned c lo (omega arith)) st in
+    let here : owner_at store.owners (2 + 32 * i + n) ≢ Free = owned (2 + 32 * i + n) (omega arith) (omega arith) in
+    let e : n + 1 ≡ suc n = omega arith in
+    subst (λ n. IsMapped image store (2 + 32 * i + n)) e
+    (bit_agrees i n (omega arith) begun (omega arith) listed before none (no_bit n) ((λ h. absurd (let x : false ≡ true = h in cc)), (λ h. absurd (here h))))

@@ -1,5 +1,5 @@
 -- The bytes of files, piece by piece.
-use Rattle.std.proofs.Common.{◌≡◌, ◌≢◌, inr, ℕ, zero, suc, List, [], ◌∷◌, ◌+◌, ◌-◌, ◌*◌, ◌^◌, ◌<◌, ◌≤◌, length, take, drop, get_or, refl, sym, ap, subst, ◌∙◌, arith, Option, Some, None, length-take, length-drop}
+use Rattle.std.proofs.Common.{◌≡◌, ◌≢◌, inr, ℕ, zero, suc, List, ◌∷◌, ◌+◌, ◌-◌, ◌*◌, ◌^◌, ◌<◌, ◌≤◌, length, take, drop, get_or, refl, sym, ap, subst, ◌∙◌, arith, Option, Some, None, length-take, length-drop}
 use Rattle.std.specs.Prelude.{slice_range}
 use Rattle.std.specs.List.{All, concat}
 use Rattle.std.proofs.lemmas.List.{take-take}
@@ -20,12 +20,14 @@ use Rattle.adf_volume.specs.Lists.{At, In, numbered}
 use Rattle.adf_volume.proofs.Images.{area_length}
 use Rattle.adf_volume.proofs.Lists.{at_index_or, at_some, in_right}
 use Rattle.adf_volume.proofs.LayoutRoles.{owned_data}
-use Rattle.adf_volume.proofs.Pieces.{held_some, pieces_joined}
+use Rattle.adf_volume.proofs.Pieces.{held_some, piece_at, pieces_joined, pieces_length}
 use Rattle.adf_volume.proofs.Chains.{entry_is_at, entry_some}
 use Rattle.adf_check.specs.declared.kept.Start.{Start}
 use Rattle.adf_check.specs.StoredVolume.{StoreStandsFor}
 use Rattle.adf_check.specs.Store.{Store}
 use Rattle.adf_check.proofs.Following.{body_dir}
+use Rattle.adf_check.proofs.StoredVolume.{keeps}
+use Rattle.adf_check.specs.Reading.{StoreFits}
 use Rattle.adf_check.specs.Pieces.{AreInside, bytes_in, bytes_of}
 
 -- one data block less
@@ -66,27 +68,12 @@ unfolding count chunk
 count_small Ofs size h = omega arith
 count_small Ffs size h = omega arith
 
--- no piece is empty
-some_from : (image : List ℕ) (kind : Kind) (size j : ℕ) (bs : List ℕ) → length image ≡ 512 * blocks image → ((i b : ℕ) → At bs i b → b < blocks image)
-    → j + length bs ≤ count kind size → All (λ p. 0 < length p) (pieces image kind size (suc j) bs)
-some_from image kind size j [] z w le = λ i d lt. absurd (omega arith)
-some_from image kind size j (b ∷ bs) z w le = go (some_from image kind size (suc j) bs z (λ i c h. w (suc i) c h) (omega arith))
-  where
-    go : All (λ p. 0 < length p) (pieces image kind size (suc (suc j)) bs) → (i : ℕ) (d : List ℕ) → i < length (pieces image kind size (suc j) (b ∷ bs))
-        → 0 < length (get_or (pieces image kind size (suc j) (b ∷ bs)) i d)
-    go rest zero d lt =
-        let a : length (area kind (block image b)) ≡ chunk kind = area_length image kind b z (w 0 b refl) in
-        let h = held_some kind size j (omega arith) in
-        let x = length-take (held kind size (suc j)) (area kind (block image b)) in
-        omega (arith, h.0, h.1)
-    go rest (suc i) d lt = rest i d (omega arith)
-
 body_other : (image : List ℕ) (kind : Kind) (l : Layout) (n h : ℕ) (body : Body) → BodyFits image kind l n h body → word_in image h 127 ≢ DIR
     → (bytes : List ℕ) × (body ≡ File bytes)
 body_other image kind l n h Dir f w = absurd (w f.0)
 body_other image kind l n h (File bytes) f w = (bytes, refl)
 
-module _ (image : List ℕ) (store : Store) (t : Tree) (l : Layout) (k : StoreStandsFor image store t l) where
+module _ {image : List ℕ} {store : Store} {t : Tree} {l : Layout} (k : StoreStandsFor image store t l) where
   data_range : (n i b : ℕ) → At (datas_of l n) i b → b < blocks image
   data_range zero i b h = absurd h
   data_range (suc n) i b h =
@@ -107,21 +94,29 @@ module _ (image : List ℕ) (store : Store) (t : Tree) (l : Layout) (k : StoreSt
       let c : length store.starts ≡ suc (length store.rows) = k.starts.count in
       k.starts.datas n x (subst (At store.starts n) (sym e) (at_or store.starts n x (omega arith)))
 
-  -- entry n, whose header is h
-  module _ (n h : ℕ) (ne : n ≢ 0) (le : n ≤ length store.rows) (e : h ≡ at_node image l n) where
+-- node n is a file, or a directory, with its header at block h
+pub record IsEntry (image : List ℕ) (store : Store) (n h : ℕ) : Type 0 where
+  pub some : n ≢ 0
+  pub within : n ≤ length store.rows
+  pub block : (t : Tree) (l : Layout) → StoreStandsFor image store t l → h ≡ at_node image l n
+
+module _ {image : List ℕ} {store : Store} {n h : ℕ} (is : IsEntry image store n h) where
+  module _ (t : Tree) (l : Layout) (k : StoreStandsFor image store t l) where
     here : (x : Entry) × EntryAt t n x
     here =
         let c : length store.rows ≡ length t.entries = k.rows.count in
+        let some = is.some in
+        let within = is.within in
         entry_some t n (omega arith) (omega arith)
 
     body_fits : BodyFits image t.kind l n h here.0.body
-    body_fits = subst (λ b. BodyFits image t.kind l n b here.0.body) (sym e) (k.fits.entries n here.0 here.1).body
+    body_fits = subst (λ b. BodyFits image t.kind l n b here.0.body) (sym (is.block t l k)) (k.fits.entries n here.0 here.1).body
 
     told : bytes_of (entry t.entries n) ≡ bytes_in here.0.body
     told = ap bytes_of ((entry_is_at t n here.0).0 here.1)
 
     pub dir_bytes : word_in image h 127 ≡ DIR → ◌≡◌ {A = Option (List ℕ)} None (bytes_of (entry t.entries n))
-    dir_bytes w = sym (told ∙ ap bytes_in (body_dir image store t l k n h here.0.body body_fits w))
+    dir_bytes w = sym (told ∙ ap bytes_in (body_dir k n h here.0.body body_fits w))
 
     module _ (w : word_in image h 127 ≢ DIR) where
       file : (bytes : List ℕ) × (here.0.body ≡ File bytes)
@@ -134,25 +129,61 @@ module _ (image : List ℕ) (store : Store) (t : Tree) (l : Layout) (k : StoreSt
       data_count_is = (k.fits.files n here.0 file.0 here.1 file.1).datas ∙ ap (count t.kind) file_fits.2
           ∙ ap (λ kind. count kind (word_in image h 81)) k.fits.kind
 
-      pub file_bytes : Some (concat (pieces image (kind_of image) (word_in image h 81) 1 (datas_of l n))) ≡ bytes_of (entry t.entries n)
+      file_bytes : Some (concat (pieces image (kind_of image) (word_in image h 81) 1 (datas_of l n))) ≡ bytes_of (entry t.entries n)
       file_bytes =
-          ap Some (pieces_joined image (kind_of image) h (datas_of l n) whole (data_range n)
+          ap Some (pieces_joined image (kind_of image) h (datas_of l n) (whole k) (data_range k n)
           ∙ ap (λ kind. content image kind h (datas_of l n)) (sym k.fits.kind) ∙ sym file_fits.1)
           ∙ sym (told ∙ ap bytes_in file.1)
 
-      pub file_inside : word_in image h 81 < 2 ^ 32 → AreInside image (datas_of l n) 1
+      file_inside : word_in image h 81 < 2 ^ 32 → AreInside image (datas_of l n) 1
       file_inside small =
           let c = data_count_is in
           let s = count_small (kind_of image) (word_in image h 81) small in
-          let size : length image ≡ 512 * blocks image = whole in
+          let size : length image ≡ 512 * blocks image = whole k in
           record {
             inside = (λ i d lt. let b : get_or (datas_of l n) i d < blocks image =
-                data_range n i (get_or (datas_of l n) i d) (at_or (datas_of l n) i d lt) in omega arith);
+                data_range k n i (get_or (datas_of l n) i d) (at_or (datas_of l n) i d lt) in omega arith);
             from = omega arith;
             few = omega arith;
           }
 
-      pub file_some : All (λ p. 0 < length p) (pieces image (kind_of image) (word_in image h 81) 1 (datas_of l n))
-      file_some =
-          let c = data_count_is in
-          some_from image (kind_of image) (word_in image h 81) 0 (datas_of l n) whole (data_range n) (omega arith)
+      -- no piece is empty
+      file_some : All (λ p. 0 < length p) (pieces image (kind_of image) (word_in image h 81) 1 (datas_of l n))
+      file_some i d lt =
+          let ds = datas_of l n in
+          let size : ℕ = word_in image h 81 in
+          let many = data_count_is in
+          let long = pieces_length image (kind_of image) size 1 ds in
+          let b : ℕ = get_or ds i 0 in
+          let at : At ds i b = at_or ds i 0 (omega arith) in
+          let one : 1 + i ≡ suc i = omega arith in
+          let piece_is : get_or (pieces image (kind_of image) size 1 ds) i d ≡ piece (kind_of image) size (suc i) (block image b) =
+          at_index_or (pieces image (kind_of image) size 1 ds) i (piece (kind_of image) size (1 + i) (block image b)) d
+          (piece_at image (kind_of image) size 1 ds i b at) ∙ ap (λ j. piece (kind_of image) size j (block image b)) one in
+          let held_here = held_some (kind_of image) size i (omega arith) in
+          let area_is = area_length image (kind_of image) b (whole k) (data_range k n i b at) in
+          let taken = length-take (held (kind_of image) size (suc i)) (area (kind_of image) (block image b)) in
+          subst (λ p. 0 < length p) (sym piece_is) (omega (arith, held_here.0, held_here.1, area_is, taken))
+
+  -- what is made of the data blocks of a file
+  module _ (tells : StoreFits image store) (w : word_in image h 127 ≢ DIR) {xs ds : List ℕ} {kind : Kind} {size : ℕ} (is_image : xs ≡ image)
+      (is_kind : kind ≡ kind_of image) (is_size : size ≡ word_in image h 81)
+      (are : (t : Tree) (l : Layout) → StoreStandsFor image store t l → ds ≡ datas_of l n) where
+    pieces_are : (t : Tree) (l : Layout) → StoreStandsFor image store t l
+        → pieces xs kind size 1 ds ≡ pieces image (kind_of image) (word_in image h 81) 1 (datas_of l n)
+    pieces_are t l k = λ i. pieces (is_image i) (is_kind i) (is_size i) 1 (are t l k i)
+
+    pub made_inside : size < 2 ^ 32 → AreInside xs ds 1
+    made_inside small =
+        let k = keeps image store tells in
+        let inside = file_inside _ _ k w (subst (λ s. s < 2 ^ 32) is_size small) in
+        subst (λ xs. AreInside xs ds 1) (sym is_image) (subst (λ ds. AreInside image ds 1) (sym (are _ _ k)) inside)
+
+    pub made_joined : (t : Tree) (l : Layout) → StoreStandsFor image store t l → {ps : List (List ℕ)} → ps ≡ pieces xs kind size 1 ds
+        → Some (concat ps) ≡ bytes_of (entry t.entries n)
+    made_joined t l k made = ap (λ ps. Some (concat ps)) (made ∙ pieces_are t l k) ∙ file_bytes t l k w
+
+    pub made_some : {ps : List (List ℕ)} → ps ≡ pieces xs kind size 1 ds → All (λ p. 0 < length p) ps
+    made_some made =
+        let k = keeps image store tells in
+        subst (All (λ p. 0 < length p)) (sym (made ∙ pieces_are _ _ k)) (file_some _ _ k w)

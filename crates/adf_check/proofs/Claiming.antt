@@ -1,6 +1,6 @@
 -- Tables of owners: a new one, and one claim more.
-use Rattle.std.proofs.Common.{◌≡◌, ℕ, suc, List, ◌∷◌, ◌+◌, ◌-◌, ◌<◌, ◌≤◌, length, get_or, replicate, map, set, true, refl, sym, ap, ◌∙◌, zero, arith}
-use Rattle.std.proofs.lemmas.List.{get_or-map, length-map}
+use Rattle.std.proofs.Common.{◌≡◌, ℕ, suc, List, ◌∷◌, ◌+◌, ◌-◌, ◌<◌, ◌≤◌, length, get_or, replicate, map, set, true, refl, sym, subst, ap, ◌∙◌, zero, arith}
+use Rattle.std.proofs.lemmas.List.{get_or-map, length-map, map-set}
 use Rattle.std.proofs.lemmas.Grind.{common_steps}
 use Rattle.adf_volume.specs.declared.owner.Owner.{Owner}
 use Rattle.adf_volume.specs.declared.owner.Owner.TheVariants.{Free, Boot}
@@ -11,23 +11,47 @@ use Rattle.adf_check.specs.Narrow.{wide}
 use Rattle.adf_check.specs.Owners.{IsTable, is_part, owned_count}
 
 -- a table is one still when a free block is claimed
-pub claimed : (t : List Owner) (n m b : ℕ) (o : Owner) → IsTable t n m → 2 ≤ b → b < length t → is_part o ≡ true → owner_at t b ≡ Free
+claimed : (t : List Owner) (n m b : ℕ) (o : Owner) → IsTable t n m → 2 ≤ b → b < length t → is_part o ≡ true → owner_at t b ≡ Free
     → IsTable (set t b o) n (m + 1)
 claimed t n m b o h lo hi part free = record { boot = grind (arith, common_steps); blocks = grind (arith, common_steps); used = grind (arith, common_steps) }
 
-pub counted : (t : List Owner) (b : ℕ) (o : Owner) → b < length t → is_part o ≡ true → owner_at t b ≡ Free → owned_count (set t b o) ≡ owned_count t + 1
+counted : (t : List Owner) (b : ℕ) (o : Owner) → b < length t → is_part o ≡ true → owner_at t b ≡ Free → owned_count (set t b o) ≡ owned_count t + 1
 counted t b o hi part free = grind (arith, common_steps)
 
 -- the two boot blocks are owned by no part
-pub bounded : (t : List Owner) (n m : ℕ) → IsTable t n m → owned_count t + 2 ≤ length t
+bounded : (t : List Owner) (n m : ℕ) → IsTable t n m → owned_count t + 2 ≤ length t
 bounded t n m h = grind (arith, common_steps)
 
 -- the owner that the table tells is the one that is kept
-pub owner_is : (xs : List NarrowOwner) (b : ℕ) (x : NarrowOwner) → b < length (map wide xs) → x ≡ get_or xs b x → owner_at (map wide xs) b ≡ wide x
+owner_is : (xs : List NarrowOwner) (b : ℕ) (x : NarrowOwner) → b < length (map wide xs) → x ≡ get_or xs b x → owner_at (map wide xs) b ≡ wide x
 owner_is xs b x lt e =
     let count : length (map wide xs) ≡ length xs = length-map xs wide in
     let inside : b < length xs = omega arith in
     get_or-map wide xs b x Free inside ∙ ap wide (sym e)
+
+-- a free block is claimed in the table that is kept
+module _ (items : List NarrowOwner) (o : NarrowOwner) {old : List Owner} {blocks used b : ℕ} {x : NarrowOwner} (view : map wide items ≡ old)
+    (table : IsTable (map wide items) blocks used) (lo : 2 ≤ b) (hi : b < length old) (part : is_part (wide o) ≡ true) (here : x ≡ get_or items b x)
+    (free : x ≡ NarrowFree) where
+  below : b < length (map wide items)
+  below = subst (λ t. b < length t) (sym view) hi
+
+  was_free : owner_at (map wide items) b ≡ Free
+  was_free = owner_is items b x below here ∙ ap wide free
+
+  pub table_after : IsTable (map wide (set items b o)) blocks (used + 1)
+  table_after =
+      subst (λ t. IsTable t blocks (used + 1)) (sym (map-set wide items b o)) (claimed (map wide items) blocks used b (wide o) table lo below part was_free)
+
+  pub view_after : map wide (set items b o) ≡ set old b (wide o)
+  view_after = map-set wide items b o ∙ ap (λ t. set t b (wide o)) view
+
+  pub count_after : owned_count (map wide (set items b o)) ≡ owned_count old + 1
+  count_after =
+      ap owned_count (map-set wide items b o) ∙ counted (map wide items) b (wide o) below part was_free ∙ ap (λ t. owned_count t + 1) view
+
+  pub bound_after : owned_count (map wide (set items b o)) + 2 ≤ length (map wide (set items b o))
+  bound_after = bounded (map wide (set items b o)) blocks (used + 1) table_after
 
 free_is : (m : ℕ) → map wide (replicate m NarrowFree) ≡ replicate m Free
 free_is zero = refl

@@ -2,15 +2,11 @@
 use Rattle.std.proofs.Common.{◌≡◌, ℕ, suc, List, [], ◌∷◌, ◌+◌, ◌-◌, ◌<◌, length, get_or, count_by, cond, Bool, true, false, refl, sym, ap, subst, ◌∙◌, arith}
 use Rattle.std.specs.Prelude.{◌==◌, not}
 use Rattle.std.proofs.lemmas.List.Sums.{sum_by-cons}
-use Rattle.std.proofs.lemmas.Bool.Decides.{nat_tests}
-use Rattle.adf_tree.specs.declared.entry.Body.{Body}
-use Rattle.adf_tree.specs.declared.entry.Body.TheVariants.{Dir, File}
 use Rattle.adf_tree.specs.declared.entry.Entry.{Entry}
 use Rattle.adf_tree.specs.declared.entry.Kind.{Kind}
-use Rattle.adf_tree.specs.Tree.{Tree, is_dir_body}
+use Rattle.adf_tree.specs.Tree.{Tree}
 use Rattle.adf_blocks.specs.Sizes.{blocks}
-use Rattle.adf_volume.specs.Fits.{BodyFits}
-use Rattle.adf_volume.specs.Image.{DIR, FILE, kind_of, word_in}
+use Rattle.adf_volume.specs.Image.{DIR, kind_of, word_in}
 use Rattle.adf_volume.specs.Layout.{Layout, at_node, owned}
 use Rattle.adf_volume.specs.Lists.{At}
 use Rattle.adf_volume.specs.Walk.Role.{Head}
@@ -21,17 +17,20 @@ use Rattle.adf_check.specs.Reading.{StoreFits}
 use Rattle.adf_check.specs.Store.{Store}
 use Rattle.adf_check.proofs.NodeSteps.{node_here}
 use Rattle.adf_check.proofs.Bounds.{many_blocks}
+use Rattle.adf_check.proofs.Telling.{tells_begun, type_told}
 use Rattle.adf_check.proofs.NodeSteps.{row_at}
-use Rattle.adf_check.specs.Image.{IsBegun}
 use Rattle.adf_check.specs.Volumes.{counts_of, is_dir_at, is_directory}
 use Rattle.adf_check.specs.declared.checked.Counts.{Counts}
 
 -- the headers of rows are blocks of the image
-pub rows_inside : (image : List ℕ) (store : Store) → IsBegun image → StoreFits image store → (i : ℕ) (d : KeptHeader) → i < length store.rows
+pub row_inside : {image : List ℕ} {store : Store} → StoreFits image store → (i : ℕ) (r : KeptHeader) → At store.rows i r → r.head < blocks image
+row_inside {image = image} {store = store} st i r at =
+    let x = node_here image store st.walk st.read.tells st.read.is_walk i r at in
+    (in_range image st.read.is_walk (many_blocks image (tells_begun image store st)) (Head (suc i) x.0 x.1 x.2) r.head x.3).1
+
+pub rows_inside : (image : List ℕ) (store : Store) → StoreFits image store → (i : ℕ) (d : KeptHeader) → i < length store.rows
     → (get_or store.rows i d).head < blocks image
-rows_inside image store begun st i d lt =
-    let x = node_here image store st.walk st.read.tells st.read.is_walk i (get_or store.rows i d) (row_at store.rows i d lt) in
-    (in_range image st.read.is_walk (many_blocks image begun) (Head (suc i) x.0 x.1 x.2) (get_or store.rows i d).head x.3).1
+rows_inside image store st i d lt = row_inside st i (get_or store.rows i d) (row_at store.rows i d lt)
 
 -- two lists of one length whose members agree have one count
 same_count : {X Y : Type 0} (f : X → Bool) (g : Y → Bool) (xs : List X) (ys : List Y) → length xs ≡ length ys
@@ -62,18 +61,13 @@ both_counts f (x ∷ xs) =
 pub others : (es : List Entry) (all dirs : ℕ) → all ≡ length es → dirs ≡ count_by is_directory es → all - dirs ≡ count_by (λ e. not (is_directory e)) es
 others es all dirs a d = let both = both_counts is_directory es in omega arith
 
-same_type : (image : List ℕ) (t : Tree) (l : Layout) (n h : ℕ) (body : Body) → BodyFits image t.kind l n h body
-    → (word_in image h 127 == DIR) ≡ is_dir_body body
-same_type image t l n h Dir b = let e : word_in image h 127 ≡ DIR = b.0 in grind (arith, nat_tests)
-same_type image t l n h (File bytes) b = let e : word_in image h 127 ≡ FILE = b.0 in grind (arith, nat_tests)
-
 -- the directories of the rows are those of the tree
 pub dirs_are : (image : List ℕ) (store : Store) (t : Tree) (l : Layout) → StoreStandsFor image store t l
     → count_by (is_dir_at image) store.rows ≡ count_by is_directory t.entries
 dirs_are image store t l k = same_count (is_dir_at image) is_directory store.rows t.entries k.rows.count (λ i r e at_row at_entry.
     let h : at_node image l (suc i) ≡ r.head = k.rows.head i r at_row in
     subst (λ b. (word_in image b 127 == DIR)
-    ≡ is_directory e) h (same_type image t l (suc i) (at_node image l (suc i)) e.body (k.fits.entries (suc i) e at_entry).body))
+    ≡ is_directory e) h (type_told image t l (suc i) (at_node image l (suc i)) e.body (k.fits.entries (suc i) e at_entry).body).0)
 
 -- the numbers of a volume are those of the tree and the layout that it stands for
 pub counts_are : (image : List ℕ) (store : Store) (t : Tree) (l : Layout) (kind : Kind) (n used dirs all : ℕ) → StoreStandsFor image store t l → kind ≡ kind_of image

@@ -1,5 +1,5 @@
 -- The steps of a reader that goes along the order of roles.
-use Rattle.std.proofs.Common.{◌≡◌, ℕ, zero, suc, List, [], ◌∷◌, ◌⊎◌, inl, inr, ◌+◌, ◌*◌, ◌/◌, ◌<◌, ◌≤◌, refl, sym, ap, subst, ◌∙◌, arith}
+use Rattle.std.proofs.Common.{◌≡◌, ℕ, zero, suc, List, [], ◌∷◌, ◌⊎◌, inl, inr, ◌+◌, ◌/◌, ◌<◌, ◌≤◌, refl, sym, ap, subst, ◌∙◌, arith}
 use native.Mathlib.Decide.{dec_le, dec_lt, ℕ_discrete}
 use Rattle.adf_volume.specs.Image.{word_in, root_of, DIR, FILE}
 use Rattle.adf_blocks.specs.Sizes.{blocks, pages_needed}
@@ -16,15 +16,12 @@ below_or r x y z h =
     elim (dec_lt x (first r)) [
       | yes a ↦ inl a
       | no a ↦ elim (dec_lt (first r) x) [
-        | yes b ↦ absurd (h (omega arith, (λ e. absurd (omega arith)), (λ e f. absurd (omega arith))))
+        | yes b ↦ absurd (h (omega arith))
         | no b ↦ elim (dec_lt y (second r)) [
           | yes c ↦ inr (omega arith, inl c)
           | no c ↦ elim (dec_lt (second r) y) [
-            | yes d ↦ absurd (h (omega arith, (λ e. omega arith), (λ e f. absurd (omega arith))))
-            | no d ↦ elim (dec_le z (third r)) [
-              | yes e ↦ inr (omega arith, inr (omega arith, e))
-              | no e ↦ absurd (h (omega arith, (λ e2. omega arith), (λ e2 f. omega arith)))
-            ]
+            | yes d ↦ absurd (h (omega arith))
+            | no d ↦ elim (dec_le z (third r)) [ yes e ↦ inr (omega arith, inr (omega arith, e)) | no e ↦ absurd (h (omega arith)) ]
           ]
         ]
       ]
@@ -89,56 +86,43 @@ module _ (image : List ℕ) (w : List (Role × ℕ)) where
   -- the chain of slot s of directory p ends at place j
   pub end_chain : (p s j : ℕ) → IsUpTo image w (suc p) (suc (suc s)) j → ((n a i : ℕ) → Asks image w (Head n p s j) a i → ⊥)
       → IsUpTo image w (suc p) (suc (suc (suc s))) 0
-  end_chain p s j u ends =
-      skip (suc p) (suc (suc s)) j (suc p) (suc (suc (suc s))) 0 u
-      (λ r h. let h0 : first r ≤ suc p =
-      h.0 in (h0, (λ e. let x : second r ≤ suc (suc s) = h.1 e in omega arith), (λ e f. let x : second r ≤ suc (suc s) = h.1 e in absurd (omega arith))))
-      none
+  end_chain p s j u ends = skip (suc p) (suc (suc s)) j (suc p) (suc (suc (suc s))) 0 u (λ r h. omega arith) none
     where
+      past : (n m a i : ℕ) → Asks image w (Head n p s m) a i → j < m → ⊥
+      past n zero a i h l = omega arith
+      past n (suc m) a i h l =
+          let x = u.below (Head h.1.0 p s m) a h.1.1 in
+          let y : m < j = x.2 refl refl in
+          omega arith
+
       none : (r : Role) (a i : ℕ) → Asks image w r a i → (IsBelow r (suc p) (suc (suc s)) j → ⊥) → IsBelow r (suc p) (suc (suc (suc s))) 0 → ⊥
-      none Root a i h k b = h
-      none (Page m) a i h k b = k (omega arith, (λ e. absurd (omega arith)), (λ e f. absurd (omega arith)))
-      none (MapExt m) a i h k b = k (omega arith, (λ e. absurd (omega arith)), (λ e f. absurd (omega arith)))
-      none (Ext n m) a i h k b = k (b.0, (λ e. omega arith), (λ e f. absurd (omega arith)))
-      none (Data n m) a i h k b = k (b.0, (λ e. omega arith), (λ e f. absurd (omega arith)))
       none (Head n q t m) a i h k b =
           elim (below_or (Head n q t m) (suc p) (suc (suc s)) j k) [
-            | inl x ↦ let b0 : suc q ≤ suc p = b.0 in absurd (omega arith)
-            | inr x ↦
-                let e : suc q ≡ suc p = x.0 in
-                let b1 : suc (suc t) ≤ suc (suc (suc s)) = b.1 e in
-                let b2 : suc (suc t) ≡ suc (suc (suc s)) → ⊥ = (λ f. let g : m < 0 = b.2 e f in omega arith) in
-                elim x.1 [
-                  | inl y ↦ absurd (omega arith)
-                  | inr y ↦
-                      let qp : q ≡ p = omega arith in
-                      let ts : t ≡ s = let y0 : suc (suc t) ≡ suc (suc s) = y.0 in omega arith in
-                      let y1 : j ≤ m = y.1 in
-                      at m a i (subst (λ q. Asks image w (Head n q s m) a i) qp (subst (λ t. Asks image w (Head n q t m) a i) ts h)) y1
-                ]
+            | inl x ↦ omega arith
+            | inr x ↦ elim x.1 [
+              | inl y ↦ omega (arith, x.0)
+              | inr y ↦
+                  let qp : q ≡ p = omega (arith, x.0) in
+                  let ts : t ≡ s = omega (arith, y.0) in
+                  let here : Asks image w (Head n p s m) a i =
+                  subst (λ q. Asks image w (Head n q s m) a i) qp (subst (λ t. Asks image w (Head n q t m) a i) ts h) in
+                  elim (ℕ_discrete m j) [
+                    | yes e ↦ ends n a i (subst (λ m. Asks image w (Head n p s m) a i) e here)
+                    | no ne ↦ past n m a i here (omega (arith, y.1))
+                  ]
+            ]
           ]
-        where
-          at : (m a i : ℕ) → Asks image w (Head n p s m) a i → j ≤ m → ⊥
-          at m a i h l =
-              elim (ℕ_discrete m j) [
-                | yes e ↦ ends n a i (subst (λ m. Asks image w (Head n p s m) a i) e h)
-                | no ne ↦ past m a i h (omega arith)
-              ]
-            where
-              past : (m a i : ℕ) → Asks image w (Head n p s m) a i → j < m → ⊥
-              past zero a i h l = absurd (omega arith)
-              past (suc m) a i h l =
-                  let x = u.below (Head h.1.0 p s m) a h.1.1 in
-                  let y : m < j = x.2 refl refl in
-                  omega arith
+      none _ a i h k b = k (omega arith)
 
   -- what is asked for in a directory lies in its slots
   slot_low : (v : IsWalk image w) (n p s j a i : ℕ) → Asks image w (Head n p s j) a i → (s < 72) × ((c : ℕ) × DirAt image w p c)
   slot_low v n p s zero a i h = (h.1, (a, h.2))
   slot_low v n p s (suc j) a i h = let k = kept image v (Head h.1.0 p s j) a h.1.1 in (k.0, (k.2.0, k.2.1))
 
-  file_of : (v : IsWalk image w) (n k a i : ℕ) → Asks image w (Ext n k) a i → (h : ℕ) × FileAt image w n h
-  file_of v n k a i h = due_file image w n k a i v h
+  -- and what is asked for in a file belongs to one
+  data_file_of : (n m a i : ℕ) → Asks image w (Data n m) a i → (h : ℕ) × FileAt image w n h
+  data_file_of n zero a i h = absurd h
+  data_file_of n (suc m) a i h = (h.0.0, h.0.1)
 
   dir_no_file : IsWalk image w → (n a b : ℕ) → DirAt image w n a → FileAt image w n b → ⊥
   dir_no_file v zero a b d f = let x : (1 ≤ 0) × (0 ≤ heads w) = number_of image v 0 f.0.0 f.0.1 f.0.2 b f.0.3 in omega arith
@@ -148,88 +132,35 @@ module _ (image : List ℕ) (w : List (Role × ℕ)) where
 
   -- behind the last slot of a directory
   pub end_dir : (p : ℕ) → IsUpTo image w (suc p) 74 0 → IsUpTo image w (suc (suc p)) 0 0
-  end_dir p u =
-      skip (suc p) 74 0 (suc (suc p)) 0 0 u
-      (λ r h. let h0 : first r ≤ suc p = h.0 in (omega arith, (λ e. absurd (omega arith)), (λ e f. absurd (omega arith)))) none
+  end_dir p u = skip (suc p) 74 0 (suc (suc p)) 0 0 u (λ r h. omega arith) none
     where
       none : (r : Role) (a i : ℕ) → Asks image w r a i → (IsBelow r (suc p) 74 0 → ⊥) → IsBelow r (suc (suc p)) 0 0 → ⊥
-      none Root a i h k b = h
-      none (Page m) a i h k b = k (omega arith, (λ e. absurd (omega arith)), (λ e f. absurd (omega arith)))
-      none (MapExt m) a i h k b = k (omega arith, (λ e. absurd (omega arith)), (λ e f. absurd (omega arith)))
-      none (Ext n m) a i h k b =
-          let b2 : suc n ≡ suc (suc p) → ⊥ = (λ e. let x : m < 0 = b.2 e refl in omega arith) in
-          let b0 : suc n ≤ suc (suc p) = b.0 in
-          k (omega arith, (λ e. omega arith), (λ e f. absurd (omega arith)))
-      none (Data n m) a i h k b =
-          let b1 : suc n ≡ suc (suc p) → 1 ≤ 0 = b.1 in
-          let b2 : suc n ≡ suc (suc p) → ⊥ = (λ e. let x : 1 ≤ 0 = b.1 e in omega arith) in
-          let b0 : suc n ≤ suc (suc p) = b.0 in
-          k (omega arith, (λ e. omega arith), (λ e f. absurd (omega arith)))
-      none (Head n q s m) a i h k b =
-          let b2 : suc q ≡ suc (suc p) → ⊥ = (λ e. let x : suc (suc s) ≤ 0 = b.1 e in omega arith) in
-          let b0 : suc q ≤ suc (suc p) = b.0 in
-          let lo : s < 72 = (slot_low u.walk n q s m a i h).0 in
-          k (omega arith, (λ e. omega arith), (λ e f. absurd (omega arith)))
+      none (Head n q s m) a i h k b = let low = (slot_low u.walk n q s m a i h).0 in k (grind (arith, low))
+      none _ a i h k b = k (grind arith)
 
   -- a directory has no file's blocks
   pub enter_dir : (p a : ℕ) → DirAt image w p a → IsUpTo image w (suc p) 0 0 → IsUpTo image w (suc p) 2 0
-  enter_dir p c d u =
-      skip (suc p) 0 0 (suc p) 2 0 u
-      (λ r h. let h0 : first r ≤ suc p =
-      h.0 in (h0, (λ e. let x : second r ≤ 0 = h.1 e in omega arith), (λ e f. let x : second r ≤ 0 = h.1 e in absurd (omega arith)))) none
+  enter_dir p c d u = skip (suc p) 0 0 (suc p) 2 0 u (λ r h. omega arith) none
     where
+      other : (n : ℕ) → (h : ℕ) × FileAt image w n h → n ≡ p → ⊥
+      other n f e = dir_no_file u.walk p c f.0 d (subst (λ n. FileAt image w n f.0) e f.1)
+
       none : (r : Role) (a i : ℕ) → Asks image w r a i → (IsBelow r (suc p) 0 0 → ⊥) → IsBelow r (suc p) 2 0 → ⊥
-      none Root a i h k b = h
-      none (Page m) a i h k b = k (omega arith, (λ e. absurd (omega arith)), (λ e f. absurd (omega arith)))
-      none (MapExt m) a i h k b = k (omega arith, (λ e. absurd (omega arith)), (λ e f. absurd (omega arith)))
-      none (Ext n m) a i h k b =
-          elim (ℕ_discrete n p) [
-            | yes e ↦ let f = file_of u.walk n m a i h in dir_no_file u.walk p c f.0 d (subst (λ n. FileAt image w n f.0) e f.1)
-            | no e ↦ let b0 : suc n ≤ suc p = b.0 in k (omega arith, (λ e2. absurd (omega arith)), (λ e2 f. absurd (omega arith)))
-          ]
-      none (Data n zero) a i h k b = h
-      none (Data n (suc m)) a i h k b =
-          elim (ℕ_discrete n p) [
-            | yes e ↦ dir_no_file u.walk p c h.0.0 d (subst (λ n. FileAt image w n h.0.0) e h.0.1)
-            | no e ↦ let b0 : suc n ≤ suc p = b.0 in k (omega arith, (λ e2. absurd (omega arith)), (λ e2 f. absurd (omega arith)))
-          ]
-      none (Head n q s m) a i h k b =
-          let b2 : suc q ≡ suc p → ⊥ = (λ e. let x : suc (suc s) ≤ 2 = b.1 e in let y : suc (suc s) ≡ 2 → m < 0 = b.2 e in let z : m < 0 =
-          y (omega arith) in omega arith) in
-          let b0 : suc q ≤ suc p = b.0 in
-          k (omega arith, (λ e. absurd (omega arith)), (λ e f. absurd (omega arith)))
+      none (Ext n m) a i h k b = let ne = other n (due_file image w n m a i u.walk h) in k (omega (arith, ne))
+      none (Data n m) a i h k b = let ne = other n (data_file_of n m a i h) in k (omega (arith, ne))
+      none _ a i h k b = k (grind arith)
 
   -- a file's blocks begin with extension block 1
   pub enter_file : (n : ℕ) → IsUpTo image w (suc n) 0 0 → IsUpTo image w (suc n) 0 1
-  enter_file n u =
-      skip (suc n) 0 0 (suc n) 0 1 u (λ r h. (h.0, h.1, (λ e f. let x : third r < 0 = h.2 e f in absurd (omega arith)))) none
+  enter_file n u = skip (suc n) 0 0 (suc n) 0 1 u (λ r h. omega arith) none
     where
       none : (r : Role) (a i : ℕ) → Asks image w r a i → (IsBelow r (suc n) 0 0 → ⊥) → IsBelow r (suc n) 0 1 → ⊥
-      none Root a i h k b = h
-      none (Page m) a i h k b = k (omega arith, (λ e. absurd (omega arith)), (λ e f. absurd (omega arith)))
-      none (MapExt m) a i h k b = k (omega arith, (λ e. absurd (omega arith)), (λ e f. absurd (omega arith)))
       none (Ext q zero) a i h k b = h
-      none (Ext q (suc m)) a i h k b =
-          let b2 : suc q ≡ suc n → ⊥ = (λ e. let x : suc m < 1 = b.2 e refl in omega arith) in
-          let b0 : suc q ≤ suc n = b.0 in
-          k (omega arith, (λ e. absurd (omega arith)), (λ e f. absurd (omega arith)))
-      none (Data q m) a i h k b =
-          let b2 : suc q ≡ suc n → ⊥ = (λ e. let x : 1 ≤ 0 = b.1 e in omega arith) in
-          let b0 : suc q ≤ suc n = b.0 in
-          k (omega arith, (λ e. absurd (omega arith)), (λ e f. absurd (omega arith)))
-      none (Head m q s j) a i h k b =
-          let b2 : suc q ≡ suc n → ⊥ = (λ e. let x : suc (suc s) ≤ 0 = b.1 e in omega arith) in
-          let b0 : suc q ≤ suc n = b.0 in
-          k (omega arith, (λ e. absurd (omega arith)), (λ e f. absurd (omega arith)))
-
-  no_file_zero : IsWalk image w → (b : ℕ) → FileAt image w 0 b → ⊥
-  no_file_zero v b f = let x : (1 ≤ 0) × (0 ≤ heads w) = number_of image v 0 f.0.0 f.0.1 f.0.2 b f.0.3 in omega arith
+      none _ a i h k b = k (omega arith)
 
   -- the extension blocks of file n end at number j
   pub end_exts : (n j : ℕ) → 1 ≤ j → IsUpTo image w (suc n) 0 j → ((a i : ℕ) → Asks image w (Ext n j) a i → ⊥) → IsUpTo image w (suc n) 1 1
-  end_exts n j low u ends =
-      skip (suc n) 0 j (suc n) 1 1 u
-      (λ r h. (h.0, (λ e. let x : second r ≤ 0 = h.1 e in omega arith), (λ e f. let x : second r ≤ 0 = h.1 e in absurd (omega arith)))) none
+  end_exts n j low u ends = skip (suc n) 0 j (suc n) 1 1 u (λ r h. omega arith) none
     where
       past : (m a i : ℕ) → Asks image w (Ext n m) a i → j < m → ⊥
       past zero a i h l = h
@@ -240,117 +171,71 @@ module _ (image : List ℕ) (w : List (Role × ℕ)) where
           omega arith
 
       none : (r : Role) (a i : ℕ) → Asks image w r a i → (IsBelow r (suc n) 0 j → ⊥) → IsBelow r (suc n) 1 1 → ⊥
-      none Root a i h k b = h
-      none (Page m) a i h k b = k (omega arith, (λ e. absurd (omega arith)), (λ e f. absurd (omega arith)))
-      none (MapExt m) a i h k b = k (omega arith, (λ e. absurd (omega arith)), (λ e f. absurd (omega arith)))
+      none (Data q zero) a i h k b = h
       none (Ext q m) a i h k b =
           elim (ℕ_discrete q n) [
+            | no e ↦ k (omega arith)
             | yes e ↦
-                let h' : Asks image w (Ext n m) a i = subst (λ q. Asks image w (Ext q m) a i) e h in
-                elim (dec_lt m j) [
-                  | yes l ↦ k (omega arith, (λ e2. omega arith), (λ e2 f. l))
-                  | no l ↦ elim (ℕ_discrete m j) [
-                    | yes f ↦ ends a i (subst (λ m. Asks image w (Ext n m) a i) f h')
-                    | no f ↦ past m a i h' (omega arith)
-                  ]
+                let here : Asks image w (Ext n m) a i = subst (λ q. Asks image w (Ext q m) a i) e h in
+                elim (ℕ_discrete m j) [
+                  | yes f ↦ ends a i (subst (λ m. Asks image w (Ext n m) a i) f here)
+                  | no f ↦ elim (dec_lt m j) [ yes l ↦ k (omega arith) | no l ↦ past m a i here (omega arith) ]
                 ]
-            | no e ↦ let b0 : suc q ≤ suc n = b.0 in k (omega arith, (λ e2. absurd (omega arith)), (λ e2 f. absurd (omega arith)))
           ]
-      none (Data q zero) a i h k b = h
-      none (Data q (suc m)) a i h k b =
-          let b2 : suc q ≡ suc n → ⊥ = (λ e. let x : suc m < 1 = b.2 e refl in omega arith) in
-          let b0 : suc q ≤ suc n = b.0 in
-          k (omega arith, (λ e. absurd (omega arith)), (λ e f. absurd (omega arith)))
-      none (Head m q s i') a i h k b =
-          let b2 : suc q ≡ suc n → ⊥ = (λ e. let x : suc (suc s) ≤ 1 = b.1 e in omega arith) in
-          let b0 : suc q ≤ suc n = b.0 in
-          k (omega arith, (λ e. absurd (omega arith)), (λ e f. absurd (omega arith)))
+      none _ a i h k b = k (omega arith)
 
   -- the data blocks of file n end behind their count
   pub end_datas : (n j c : ℕ) → FileAt image w n c → data_count image c < j → IsUpTo image w (suc n) 1 j → IsUpTo image w (suc (suc n)) 0 0
-  end_datas n j c f lt u =
-      skip (suc n) 1 j (suc (suc n)) 0 0 u
-      (λ r h. let h0 : first r ≤ suc n = h.0 in (omega arith, (λ e. absurd (omega arith)), (λ e f. absurd (omega arith)))) none
+  end_datas n j c f lt u = skip (suc n) 1 j (suc (suc n)) 0 0 u (λ r h. omega arith) none
     where
       none : (r : Role) (a i : ℕ) → Asks image w r a i → (IsBelow r (suc n) 1 j → ⊥) → IsBelow r (suc (suc n)) 0 0 → ⊥
-      none Root a i h k b = h
-      none (Page m) a i h k b = k (omega arith, (λ e. absurd (omega arith)), (λ e f. absurd (omega arith)))
-      none (MapExt m) a i h k b = k (omega arith, (λ e. absurd (omega arith)), (λ e f. absurd (omega arith)))
-      none (Ext q m) a i h k b =
-          let b2 : suc q ≡ suc (suc n) → ⊥ = (λ e. let x : m < 0 = b.2 e refl in omega arith) in
-          let b0 : suc q ≤ suc (suc n) = b.0 in
-          k (omega arith, (λ e. omega arith), (λ e f. absurd (omega arith)))
-      none (Data q zero) a i h k b = h
       none (Data q (suc m)) a i h k b =
-          let b2 : suc q ≡ suc (suc n) → ⊥ = (λ e. let x : 1 ≤ 0 = b.1 e in omega arith) in
-          let b0 : suc q ≤ suc (suc n) = b.0 in
           elim (ℕ_discrete q n) [
             | yes e ↦
-                let hf : FileAt image w n h.0.0 = subst (λ q. FileAt image w q h.0.0) e h.0.1 in
-                let z : h.0.0 ≡ c = (one_head image u.walk n hf.0.0 hf.0.1 hf.0.2 h.0.0 f.0.0 f.0.1 f.0.2 c hf.0.3 f.0.3).1 in
+                let g : FileAt image w n h.0.0 = subst (λ q. FileAt image w q h.0.0) e h.0.1 in
+                let z : h.0.0 ≡ c = (one_head image u.walk n g.0.0 g.0.1 g.0.2 h.0.0 f.0.0 f.0.1 f.0.2 c g.0.3 f.0.3).1 in
                 let x : m < data_count image c = subst (λ c. m < data_count image c) z h.0.2 in
-                k (omega arith, (λ e2. omega arith), (λ e2 f2. omega arith))
-            | no e ↦ k (omega arith, (λ e2. absurd (omega arith)), (λ e2 f2. absurd (omega arith)))
+                k (omega arith)
+            | no e ↦ k (grind arith)
           ]
       none (Head m q s i') a i h k b =
-          let b2 : suc q ≡ suc (suc n) → ⊥ = (λ e. let x : suc (suc s) ≤ 0 = b.1 e in omega arith) in
-          let b0 : suc q ≤ suc (suc n) = b.0 in
-          elim (ℕ_discrete q n) [
-            | yes e ↦
-                let x = slot_low u.walk m q s i' a i h in
-                dir_no_file u.walk n x.1.0 c (subst (λ q. DirAt image w q x.1.0) e x.1.1) f
-            | no e ↦ k (omega arith, (λ e2. absurd (omega arith)), (λ e2 f2. absurd (omega arith)))
-          ]
+          let x = slot_low u.walk m q s i' a i h in
+          let ne : q ≡ n → ⊥ = λ e. dir_no_file u.walk n x.1.0 c (subst (λ q. DirAt image w q x.1.0) e x.1.1) f in
+          k (grind (arith, ne))
+      none _ a i h k b = k (grind arith)
 
   -- behind the pages comes node 0
   pub end_all_pages : IsUpTo image w 0 1 (pages_needed (blocks image) + (pages_needed (blocks image) + 101) / 127) → IsUpTo image w 1 0 0
-  end_all_pages u =
-      skip 0 1 (pages_needed (blocks image) + (pages_needed (blocks image) + 101) / 127) 1 0 0 u
-      (λ r h. let h0 : first r ≤ 0 = h.0 in (omega arith, (λ e. absurd (omega arith)), (λ e f. absurd (omega arith)))) none
+  end_all_pages u = skip 0 1 (pages_needed (blocks image) + (pages_needed (blocks image) + 101) / 127) 1 0 0 u (λ r h. omega arith) none
     where
+      no_file : (q : ℕ) → (h : ℕ) × FileAt image w q h → 1 ≤ q
+      no_file q f = (number_of image u.walk q f.1.0.0 f.1.0.1 f.1.0.2 f.0 f.1.0.3).0
+
       none : (r : Role) (a i : ℕ) → Asks image w r a i → (IsBelow r 0 1 (pages_needed (blocks image) + (pages_needed (blocks image) + 101) / 127) → ⊥)
           → IsBelow r 1 0 0 → ⊥
       none Root a i h k b = h
-      none (Page m) a i h k b = let x : m < pages_needed (blocks image) = h.0 in k (omega arith, (λ e. omega arith), (λ e f. omega arith))
-      none (MapExt zero) a i h k b = let x : 25 < pages_needed (blocks image) = h.0 in k (omega arith, (λ e. omega arith), (λ e f. omega arith))
-      none (MapExt (suc m)) a i h k b =
-          let x : 25 + 127 * suc m < pages_needed (blocks image) = h.0 in k (omega arith, (λ e. omega arith), (λ e f. omega arith))
-      none (Ext q m) a i h k b =
-          let b0 : suc q ≤ 1 = b.0 in
-          let z : q ≡ 0 = omega arith in
-          let f = file_of u.walk q m a i h in no_file_zero u.walk f.0 (subst (λ q. FileAt image w q f.0) z f.1)
-      none (Data q zero) a i h k b = h
-      none (Data q (suc m)) a i h k b =
-          let b0 : suc q ≤ 1 = b.0 in
-          let z : q ≡ 0 = omega arith in
-          no_file_zero u.walk h.0.0 (subst (λ q. FileAt image w q h.0.0) z h.0.1)
-      none (Head m q s i') a i h k b =
-          let b0 : suc q ≤ 1 = b.0 in
-          let e : suc q ≡ 1 = omega arith in
-          let b1 : suc (suc s) ≤ 0 = b.1 e in
-          omega arith
+      none (Page m) a i h k b = k (omega (arith, h.0))
+      none (MapExt zero) a i h k b = k (omega (arith, h.0))
+      none (MapExt (suc m)) a i h k b = k (omega (arith, h.0))
+      none (Ext q m) a i h k b = let low = no_file q (due_file image w q m a i u.walk h) in omega (arith, low)
+      none (Data q m) a i h k b = let low = no_file q (data_file_of q m a i h) in omega (arith, low)
+      none (Head m q s i') a i h k b = grind arith
 
   -- behind the last node nothing is asked for
   pub end_all : (n : ℕ) → heads w < n → IsUpTo image w (suc n) 0 0 → IsWhole image w
   end_all n lt u r a i h l = u.all r a i h l (low r a i h)
     where
+      file_low : (q : ℕ) → (h : ℕ) × FileAt image w q h → q < n
+      file_low q f = let x = number_of image u.walk q f.1.0.0 f.1.0.1 f.1.0.2 f.0 f.1.0.3 in omega (arith, x.1)
+
       low : (r : Role) (a i : ℕ) → Asks image w r a i → IsBelow r (suc n) 0 0
-      low Root a i h = absurd h
-      low (Page m) a i h = (omega arith, (λ e. absurd (omega arith)), (λ e f. absurd (omega arith)))
-      low (MapExt m) a i h = (omega arith, (λ e. absurd (omega arith)), (λ e f. absurd (omega arith)))
-      low (Ext q m) a i h =
-          let f = file_of u.walk q m a i h in
-          let x : (1 ≤ q) × (q ≤ heads w) = number_of image u.walk q f.1.0.0 f.1.0.1 f.1.0.2 f.0 f.1.0.3 in
-          (omega arith, (λ e. absurd (omega arith)), (λ e f. absurd (omega arith)))
-      low (Data q zero) a i h = absurd h
-      low (Data q (suc m)) a i h =
-          let f = h.0.1 in
-          let x : (1 ≤ q) × (q ≤ heads w) = number_of image u.walk q f.0.0 f.0.1 f.0.2 h.0.0 f.0.3 in
-          (omega arith, (λ e. absurd (omega arith)), (λ e f. absurd (omega arith)))
+      low (Ext q m) a i h = let x = file_low q (due_file image w q m a i u.walk h) in omega (arith, x)
+      low (Data q m) a i h = let x = file_low q (data_file_of q m a i h) in omega (arith, x)
       low (Head m q s j) a i h =
           let d = slot_low u.walk m q s j a i h in
           let x : q ≤ heads w = dir_number image w q d.1.0 u.walk d.1.1 in
-          (omega arith, (λ e. absurd (omega arith)), (λ e f. absurd (omega arith)))
+          omega arith
+      low _ a i h = omega arith
 
 -- where the reader begins
 pub begin : (image : List ℕ) → IsUpTo image ((Root, root_of image) ∷ []) 0 1 0
@@ -362,8 +247,4 @@ begin image = record {
   where
     none : (r : Role) (a i : ℕ) → Asks image ((Root, root_of image) ∷ []) r a i → IsBelow r 0 1 0 → ⊥
     none Root a i h b = h
-    none (Page m) a i h b = let x : m + (m + 102) / 127 < 0 = b.2 refl refl in omega arith
-    none (MapExt m) a i h b = let x : 25 + 128 * m < 0 = b.2 refl refl in omega arith
-    none (Ext q m) a i h b = let x : suc q ≤ 0 = b.0 in omega arith
-    none (Data q m) a i h b = let x : suc q ≤ 0 = b.0 in omega arith
-    none (Head n q s j) a i h b = let x : suc q ≤ 0 = b.0 in omega arith
+    none _ a i h b = grind arith

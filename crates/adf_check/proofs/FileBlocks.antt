@@ -158,14 +158,6 @@ module _ (image : List ℕ) (file : Role → Option ℕ) (tells : TellsFile file
         (ap (λ xs. take (length here) (drop (length below) xs)) all ∙ ap (take (length here)) (drop-append_seam below (here ++ later))
         ∙ take-append_seam here later)
 
-  -- no file is below 0
-  pub none_before : (w : List (Role × ℕ)) → blocks_before file w 0 ≡ 0
-  none_before w = ap length (picked_none (λ r. is_below 0 (file r)) w (λ r b h. none (file r)))
-    where
-      none : (o : Option ℕ) → is_below 0 o ≡ false
-      none None = refl
-      none (Some n) = le-ltb n 0 (omega arith)
-
   -- where all files are below n
   pub all_before : (w : List (Role × ℕ)) (n : ℕ) → ((r : Role) (b m : ℕ) → Has w r b → file r ≡ Some m → m < n) → length (file_blocks file w) ≡ blocks_before file w n
   all_before w n h = ap length (picked_same (λ r. is_some (file r)) (λ r. is_below n (file r)) w (λ r b y. same (file r) (λ m e. h r b m y e)))

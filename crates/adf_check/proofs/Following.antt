@@ -1,6 +1,5 @@
 -- Look-up along the chains of an image that a tree and a layout fit.
-use Rattle.std.proofs.Common.{◌≡◌, ◌≢◌, inl, inr, ℕ, zero, suc, List, [], ◌∷◌, ◌+◌, ◌-◌, ◌<◌, ◌≤◌, length, map, get_or, refl, sym, ap, subst, ◌∙◌, arith}
-use Rattle.std.proofs.Common.{Option, Some, None}
+use Rattle.std.proofs.Common.{◌≡◌, ◌≢◌, inl, inr, ℕ, zero, suc, List, [], ◌∷◌, ◌+◌, ◌-◌, ◌<◌, ◌≤◌, length, map, refl, sym, ap, subst, ◌∙◌, arith, Option, Some, None, Bool, true, false}
 use Rattle.std.specs.Prelude.{IfSome}
 use Rattle.adf_fields.specs.Hash.{slot_of}
 use Rattle.adf_fields.specs.Words.{block}
@@ -22,17 +21,32 @@ use Rattle.adf_volume.proofs.Lists.{at_below, at_some, in_right}
 use Rattle.adf_volume.proofs.TreeOrder.{DirNode, is_dir, ordered}
 use Rattle.adf_volume.proofs.LayoutRoles.{owned_head}
 use Rattle.adf_volume.proofs.Chains.{chain_rises, entry_at, entry_below}
-use Rattle.adf_check.specs.declared.kept.KeptHeader.{KeptHeader}
 use Rattle.adf_check.specs.StoredVolume.{StoreStandsFor}
 use Rattle.adf_check.specs.Store.{Store, owner_at}
 use Rattle.adf_check.specs.Reading.{StoreFits}
-use Rattle.adf_check.proofs.Looks.{head_owner}
 use Rattle.adf_check.proofs.StoredVolume.{keeps}
-use Rattle.adf_check.proofs.NodeSteps.{row_at}
-use Rattle.adf_check.proofs.Telling.{head_facts}
+use Rattle.std.specs.Str.{bytes_eq}
+use Rattle.std.proofs.lemmas.Slice.Eq.{bytes_eq-Decides}
+use Rattle.adf_blocks.specs.Forms.{text_at}
+use Rattle.adf_check.proofs.Telling.{head_facts, name_here}
 use Rattle.adf_volume.specs.Made.{layout_in, tree_in}
 use Rattle.adf_tree.proofs.ChildLookup.{found_is}
 use Rattle.adf_check.specs.Lookup.{headed}
+
+-- the name of a header, as it is read and compared
+module _ (image : List ℕ) (b : ℕ) (name : List ℕ) {told head bytes : List ℕ} {t : Bool} (is_told : told ≡ text_at head 432) (over : head ≡ bytes)
+    (is_block : bytes ≡ block image b) (compared : t ≡ bytes_eq (uppers told) (uppers name)) where
+  told_is : uppers told ≡ uppers (name_of image b)
+  told_is = ap uppers (is_told ∙ ap (λ x. text_at x 432) (over ∙ is_block) ∙ name_here image b)
+
+  pub same_name : t ≡ true → uppers (name_of image b) ≡ uppers name
+  same_name e = sym told_is ∙ (bytes_eq-Decides (uppers told) (uppers name)).0 (sym compared ∙ e)
+
+  pub other_name : t ≡ false → uppers (name_of image b) ≢ uppers name
+  other_name e same =
+      let yes : bytes_eq (uppers told) (uppers name) ≡ true = (bytes_eq-Decides (uppers told) (uppers name)).1 (told_is ∙ same) in
+      let no : true ≡ false = sym yes ∙ sym compared ∙ e in
+      cc
 
 -- the nodes from that of the header at a block on, by its owner
 abbrev node_left : ℕ → Owner → ℕ
@@ -74,15 +88,16 @@ head_owned image t l z i lt =
     subst (λ m. In (owned_from 1 l.places) (Head m, head_at l.places i)) one (owned_head 1 l.places i (omega arith)) in
     inr (in_right (numbered Page 0 l.pages) _ here (in_right (numbered MapExt 0 l.map_exts) (owned_from 1 l.places) here h))
 
-module _ (image : List ℕ) (store : Store) (t : Tree) (l : Layout) (k : StoreStandsFor image store t l) where
+module _ {image : List ℕ} {store : Store} {t : Tree} {l : Layout} (k : StoreStandsFor image store t l) where
   -- the header of an entry is a block of the image, behind the boot blocks
   pub head_range : (n : ℕ) (e : Entry) → EntryAt t n e → (2 ≤ at_node image l n) × (at_node image l n < blocks image)
   head_range zero e h = absurd h
   head_range (suc i) e h = k.fits.range (Head (suc i)) (head_at l.places i) (head_owned image t l k.fits.places i (at_below t.entries i e h))
 
-  -- the row of an entry has its header
-  pub node_of_row : (i : ℕ) (d : KeptHeader) → i < length store.rows → at_node image l (suc i) ≡ (get_or store.rows i d).head
-  node_of_row i d lt = k.rows.head i (get_or store.rows i d) (row_at store.rows i d lt)
+  -- and its owner is the header
+  head_owner : (n : ℕ) (e : Entry) → EntryAt t n e → owner_at store.owners (at_node image l n) ≡ Head n
+  head_owner zero e h = absurd h
+  head_owner (suc i) e h = k.owners.part (Head (suc i)) (head_at l.places i) (head_owned image t l k.fits.places i (at_below t.entries i e h))
 
   pub body_dir : (n h : ℕ) (body : Body) → BodyFits image t.kind l n h body → word_in image h 127 ≡ DIR → body ≡ Dir
   body_dir n h Dir f w = refl
@@ -120,7 +135,7 @@ module _ (image : List ℕ) (store : Store) (t : Tree) (l : Layout) (k : StoreSt
       h (type_of p ne (subst (DirNode t) x.2 ((ordered t k.fits.tree).parents n x.0 x.1).1))) in
       subst (λ ns. Spelled (λ b. word_in image b 124) 0 (map (at_node image l) ns)) (sym none) refl
 
-  module _ (p : ℕ) (name : List ℕ) where
+  module _ {p : ℕ} {name : List ℕ} where
     pub chain_begins : (b : ℕ) → Spelled (λ a. word_in image a 124) b (map (at_node image l) (chain_nodes t p (slot_of name))) → OnChain image t l p name b
     chain_begins b h = record {
       rest = chain_nodes t p (slot_of name);
@@ -145,7 +160,7 @@ module _ (image : List ℕ) (store : Store) (t : Tree) (l : Layout) (k : StoreSt
             let z : 0 ≡ at_node image l n = h.0 in
             absurd (omega arith)
 
-    module _ (b : ℕ) (c : OnChain image t l p name b) (ne : b ≢ 0) where
+    module _ {b : ℕ} (c : OnChain image t l p name b) (ne : b ≢ 0) where
       -- the node of the header
       abbrev node : ℕ
       node = (cut (λ a. word_in image a 124) (at_node image l) b c.rest c.spelled ne).0
@@ -185,7 +200,7 @@ module _ (image : List ℕ) (store : Store) (t : Tree) (l : Layout) (k : StoreSt
       pub chain_found : uppers (name_of image b) ≡ uppers name → headed (owner_at store.owners b) ≡ child t.entries p name
       chain_found u =
           let x = node_entry in
-          let o : owner_at store.owners b ≡ Head node = ap (owner_at store.owners) block_is ∙ head_owner image store t l k node x.0 x.1 in
+          let o : owner_at store.owners b ≡ Head node = ap (owner_at store.owners) block_is ∙ head_owner node x.0 x.1 in
           ap headed o ∙ sym (chain_yes t p (slot_of name) name (c.place + 0) node x.0 k.fits.tree (after_at 0 node refl) x.1 (ap uppers (name_is x.0 x.1) ∙ u))
 
       -- or it is passed
@@ -203,7 +218,7 @@ module _ (image : List ℕ) (store : Store) (t : Tree) (l : Layout) (k : StoreSt
       }
 
       left_here : chain_left store b ≡ suc (length store.rows) - node
-      left_here = ap (node_left (length store.rows)) (ap (owner_at store.owners) block_is ∙ head_owner image store t l k node node_entry.0 node_entry.1)
+      left_here = ap (node_left (length store.rows)) (ap (owner_at store.owners) block_is ∙ head_owner node node_entry.0 node_entry.1)
 
       -- the chain ends: its nodes rise
       pub chain_smaller : chain_left store (word_in image b 124) < chain_left store b
@@ -226,7 +241,7 @@ module _ (image : List ℕ) (store : Store) (t : Tree) (l : Layout) (k : StoreSt
               omega arith
           go d (m ∷ ns) h w =
               let x = entry_at t p (slot_of name) (c.place + 1) m (w m refl) in
-              let o : owner_at store.owners d ≡ Head m = ap (owner_at store.owners) h.0 ∙ head_owner image store t l k m x.0 x.1 in
+              let o : owner_at store.owners d ≡ Head m = ap (owner_at store.owners) h.0 ∙ head_owner m x.0 x.1 in
               let z : chain_left store d ≡ suc (length store.rows) - m = ap (node_left (length store.rows)) o in
               let up : node < m = chain_rises 1 t.entries p (slot_of name) (c.place + 0) (c.place + 1) node m (after_at 0 node refl) (w m refl)
               (omega arith) in
@@ -239,25 +254,26 @@ child_below [] p name n h = cc
 child_below (e ∷ es) p name n h = (found_is (e ∷ es) p name n e h).1
 
 -- the same, of what is kept
-module _ (image : List ℕ) (store : Store) (tells : StoreFits image store) (p : ℕ) (name : List ℕ) where
-  pub child_within : (r : Option ℕ) → ((t : Tree) (l : Layout) → StoreStandsFor image store t l → r ≡ child t.entries p name) → IfSome r (λ n. n ≤ length store.rows)
-  child_within None h = tt
-  child_within (Some n) h =
+module _ {image : List ℕ} {store : Store} (tells : StoreFits image store) where
+  pub child_within : (p : ℕ) (name : List ℕ) (r : Option ℕ) → ((t : Tree) (l : Layout) → StoreStandsFor image store t l → r ≡ child t.entries p name)
+      → IfSome r (λ n. n ≤ length store.rows)
+  child_within p name None h = tt
+  child_within p name (Some n) h =
       let t : Tree = tree_in image tells.walk in
       let k = keeps image store tells in
       let z : n ≤ length t.entries = child_below t.entries p name n (sym (h t (layout_in tells.walk) k)) in
       let c : length store.rows ≡ length t.entries = k.rows.count in
       omega arith
 
-  module _ (b : ℕ) (c : (t : Tree) (l : Layout) → StoreStandsFor image store t l → OnChain image t l p name b) (ne : b ≢ 0) where
+  module _ {p : ℕ} {name : List ℕ} {b : ℕ} (c : (t : Tree) (l : Layout) → StoreStandsFor image store t l → OnChain image t l p name b) (ne : b ≢ 0) where
     abbrev known : OnChain image (tree_in image tells.walk) (layout_in tells.walk) p name b
     known = c (tree_in image tells.walk) (layout_in tells.walk) (keeps image store tells)
 
     pub on_inside : b < blocks image
-    on_inside = here_inside image store (tree_in image tells.walk) (layout_in tells.walk) (keeps image store tells) p name b known ne
+    on_inside = here_inside (keeps image store tells) known ne
 
     pub on_head : IsHead (block image b)
-    on_head = here_head image store (tree_in image tells.walk) (layout_in tells.walk) (keeps image store tells) p name b known ne
+    on_head = here_head (keeps image store tells) known ne
 
     pub on_smaller : chain_left store (word_in image b 124) < chain_left store b
-    on_smaller = chain_smaller image store (tree_in image tells.walk) (layout_in tells.walk) (keeps image store tells) p name b known ne
+    on_smaller = chain_smaller (keeps image store tells) known ne

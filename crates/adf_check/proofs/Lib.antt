@@ -4,7 +4,6 @@ pub mod StoreSteps
 pub mod FileBlocks
 pub mod WalkLengths
 pub mod StoredVolume
-pub mod Looks
 pub mod Strolls
 pub mod EmptyLost
 pub mod FileLost

@@ -25,6 +25,10 @@ row_at [] i d lt = absurd (omega arith)
 row_at (r ∷ rows) zero d lt = refl
 row_at (r ∷ rows) (suc i) d lt = row_at rows i d (omega arith)
 
+-- the same of a list that is the rows
+pub row_here : (rows : List KeptHeader) (i : ℕ) (r : KeptHeader) {xs : List KeptHeader} → xs ≡ rows → i < length xs → r ≡ get_or xs i r → At rows i r
+row_here rows i r {xs = xs} e lt is = subst (λ xs. At xs i r) e (subst (At xs i) (sym is) (row_at xs i r lt))
+
 -- the next node is begun
 pub enter_node : (image : List ℕ) (store : Store) (n : ℕ) → IsAtNode image store n → IsInNode image (entered store) n
 enter_node image store n st = record {
@@ -111,7 +115,7 @@ root_begins image store n a z e st =
 module _ {image : List ℕ} {store : Store} {n i : ℕ} {row : KeptHeader} (begun : IsBegun image) (node : n ≡ suc i) (within : n ≤ length store.rows)
     (row_is : row ≡ get_or store.rows i row) (st : IsInNode image store n) where
   here : At store.rows i row
-  here = subst (At store.rows i) (sym row_is) (row_at store.rows i row (omega arith))
+  here = row_here store.rows i row refl (omega arith) row_is
 
   pub head_inside : row.head < blocks image
   head_inside =

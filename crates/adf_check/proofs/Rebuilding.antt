@@ -6,7 +6,7 @@ use Rattle.adf_tree.specs.declared.entry.Body.{Body}
 use Rattle.adf_tree.specs.declared.entry.Body.TheVariants.{Dir, File}
 use Rattle.adf_tree.specs.declared.entry.Entry.{Entry}
 use Rattle.adf_tree.specs.Laws.{IsNext}
-use Rattle.adf_tree.specs.Tree.{IsTree, Tree, entry, with_last}
+use Rattle.adf_tree.specs.Tree.{IsTree, Tree, entry, with_last, IsLast, MayAdd}
 use Rattle.adf_tree.proofs.TreePrefixes.{is_next}
 use Rattle.adf_volume.proofs.Lists.{at_index_or, at_some}
 use Rattle.adf_volume.proofs.Chains.{entry_is_at}
@@ -40,8 +40,12 @@ entry_here t i x e =
     at_index_or t.entries i x x ((entry_is_at t (suc i) x).1 (sym (e ∙ ap (entry t.entries) k)))
 
 -- each entry may be added behind those before it
-pub next_entry : (t : Tree) (i : ℕ) (x : Entry) → IsTree t.entries → i < length t.entries → Some x ≡ entry t.entries (i + 1) → IsNext t.entries i x
-next_entry t i x tree lt e = subst (IsNext t.entries i) (entry_here t i x e) (is_next t.entries i x tree lt)
+pub may_follow : {t u : Tree} {i n : ℕ} {x : Entry} {r : Option Entry} → IsTree t.entries
+    → u ≡ record { kind = t.kind; label = t.label; stamps = t.stamps; entries = take i t.entries } → n ≡ length t.entries → i < n
+    → r ≡ entry t.entries (i + 1) → r ≡ Some x → MayAdd u.entries x × IsLast u.entries x
+may_follow {t = t} {u = u} {i = i} {x = x} tree e count lt here is =
+    let next : IsNext t.entries i x = subst (IsNext t.entries i) (entry_here t i x (sym is ∙ here)) (is_next t.entries i x tree (omega arith)) in
+    subst (λ (u : Tree). MayAdd u.entries x × IsLast u.entries x) (sym e) (next.may, next.last)
 
 -- the first entries and the next one
 pub tree_more : (t : Tree) (i : ℕ) (x : Entry) → i < length t.entries → Some x ≡ entry t.entries (i + 1)

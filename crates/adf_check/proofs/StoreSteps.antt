@@ -15,19 +15,9 @@ use Rattle.adf_volume.specs.Made.{picked}
 use Rattle.adf_check.proofs.FileBlocks.{TellsFile, data_tells, ext_tells, not_below}
 
 -- no role owns a free block
-pub owner_not_free : (r : Role) → owner_of r ≢ Free
+owner_not_free : (r : Role) → owner_of r ≢ Free
 owner_not_free Root e = cc
-owner_not_free (Page k) e = cc
-owner_not_free (MapExt k) e = cc
-owner_not_free (Head n p s j) e = cc
-owner_not_free (Ext n k) e = cc
-owner_not_free (Data n k) e = cc
-
-head_num : (n p s j m q u k : ℕ) → Head n p s j ≡ Head m q u k → n ≡ m
-head_num n p s j m q u k h = cc
-
-head_parent : (n p s j m q u k : ℕ) → Head n p s j ≡ Head m q u k → p ≡ q
-head_parent n p s j m q u k h = cc
+owner_not_free _ e = cc
 
 row_same : (p b q c : ℕ) → p ≡ q → b ≡ c → ◌≡◌ {A = KeptHeader} (record { parent = p; head = b }) (record { parent = q; head = c })
 row_same p b q c x z = λ i. record { parent = x i; head = z i }
@@ -81,10 +71,12 @@ module _ (rows : List KeptHeader) (w : List (Role × ℕ)) (t : Rows rows w) whe
     count = snoc_length rows (record { parent = p; head = b }) ∙ ap suc t.count;
     row = (λ i p' s' j' b' h. elim h [
       | inl y ↦
-          let m : n ≡ suc i = head_num n p s j (suc i) p' s' j' y.0 in
+          let same : Head n p s j ≡ Head (suc i) p' s' j' = y.0 in
+          let m : n ≡ suc i = cc in
+          let q : p ≡ p' = cc in
           let e : n ≡ suc (heads w) = f n p s j refl in
           let c : length rows ≡ heads w = t.count in
-          let z : record { parent = p; head = b } ≡ record { parent = p'; head = b' } = row_same p b p' b' (head_parent n p s j (suc i) p' s' j' y.0) y.1 in
+          let z : record { parent = p; head = b } ≡ record { parent = p'; head = b' } = row_same p b p' b' q y.1 in
           subst (At (rows ++ record { parent = p; head = b } ∷ []) i) z (at_new rows (record { parent = p; head = b }) i (omega arith))
       | inr y ↦ at_old rows (record { parent = p; head = b } ∷ []) i (record { parent = p'; head = b' }) (t.row i p' s' j' b' y)
     ]);

@@ -2,7 +2,7 @@
 use Rattle.std.proofs.Common.{◌≡◌, ◌≢◌, ◌⊎◌, ℕ, suc, List, inl, inr, length, refl, sym, ap, ◌∙◌, take, drop}
 use Rattle.adf_tree.specs.declared.entry.Entry.{Entry}
 use Rattle.adf_volume.specs.declared.owner.Owner.{Owner}
-use Rattle.adf_volume.specs.declared.owner.Owner.TheVariants.{Free, Boot, Root as TheRoot, Page as APage, MapExt as AMapExt, Head as AHead, Ext as AnExt, Data as AData}
+use Rattle.adf_volume.specs.declared.owner.Owner.TheVariants.{Free}
 use Rattle.adf_volume.specs.Layout.{exts_of, datas_of}
 use Rattle.adf_volume.specs.Walk.Role.{Ext, Data}
 use Rattle.adf_volume.specs.LayoutRoles.{owner_of}
@@ -23,13 +23,7 @@ use Rattle.adf_check.proofs.FileBlocks.{exts_stored, datas_stored}
 
 is_free : (o : Owner) → (o ≡ Free) ⊎ (o ≢ Free)
 is_free Free = inl refl
-is_free Boot = inr (λ e. cc)
-is_free TheRoot = inr (λ e. cc)
-is_free (APage k) = inr (λ e. cc)
-is_free (AMapExt k) = inr (λ e. cc)
-is_free (AHead n) = inr (λ e. cc)
-is_free (AnExt n k) = inr (λ e. cc)
-is_free (AData n k) = inr (λ e. cc)
+is_free _ = inr (λ e. cc)
 
 module _ (image : List ℕ) (store : Store) (st : StoreFits image store) where
   owners_fit : OwnersFit image (layout_in st.walk) store.owners

@@ -7,7 +7,7 @@ use Rattle.adf_blocks.specs.PageBlock.{page_form}
 use Rattle.adf_blocks.specs.Sizes.{blocks, pages_needed}
 use Rattle.adf_blocks.specs.declared.cause.Cause.TheVariants.{LostBlock}
 use Rattle.adf_volume.specs.declared.owner.Owner.{Owner}
-use Rattle.adf_volume.specs.declared.owner.Owner.TheVariants.{Free, Boot, Root, Page, MapExt, Head, Ext, Data}
+use Rattle.adf_volume.specs.declared.owner.Owner.TheVariants.{Free}
 use Rattle.adf_volume.specs.Image.{word_in, root_of}
 use Rattle.adf_volume.specs.Demands.{AllHold, page_demands}
 use Rattle.adf_volume.specs.Lists.{At}
@@ -64,23 +64,11 @@ bit_is image page b = not (bit_and (word_in image page (1 + ((b - 2) % 4064) / 3
 
 abbrev pub is_free : Owner → Bool
 is_free Free = true
-is_free Boot = false
-is_free Root = false
-is_free (Page k) = false
-is_free (MapExt k) = false
-is_free (Head n) = false
-is_free (Ext n k) = false
-is_free (Data n k) = false
+is_free _ = false
 
 free_owner : (o : Owner) → is_free o ≡ true → o ≡ Free
 free_owner Free h = refl
-free_owner Boot h = cc
-free_owner Root h = cc
-free_owner (Page k) h = cc
-free_owner (MapExt k) h = cc
-free_owner (Head n) h = cc
-free_owner (Ext n k) h = cc
-free_owner (Data n k) h = cc
+free_owner _ h = cc
 
 taken_owner : (o : Owner) → is_free o ≡ false → o ≢ Free
 taken_owner o h e = let x : is_free o ≡ true = ap is_free e in let y : true ≡ false = sym x ∙ h in cc

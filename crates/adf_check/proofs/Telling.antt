@@ -1,31 +1,30 @@
 -- What is told of entries.
-use Rattle.std.proofs.Common.{◌≡◌, ℕ, suc, List, ◌<◌, length, get_or, true, false, refl, sym, ap, subst, ◌∙◌, arith, Some}
+use Rattle.std.proofs.Common.{true, false, ◌≡◌, ℕ, suc, List, ◌<◌, length, refl, sym, ap, subst, ◌∙◌, arith, Some}
 use Rattle.std.specs.Prelude.{nat_le, ◌==◌}
 use Rattle.std.proofs.lemmas.Bool.{and_parts}
 use Rattle.std.proofs.lemmas.Bool.Decides.{nat_tests}
-use Rattle.adf_fields.specs.Words.{block, word}
+use Rattle.adf_fields.specs.Words.{block}
 use Rattle.adf_tree.specs.Texts.{is_name}
 use Rattle.adf_tree.specs.declared.entry.Body.{Body}
 use Rattle.adf_tree.specs.declared.entry.Body.TheVariants.{Dir, File}
 use Rattle.adf_tree.specs.declared.entry.Kind.{Kind}
-use Rattle.adf_tree.specs.Tree.{Tree, entry}
+use Rattle.adf_tree.specs.Tree.{Tree, entry, is_dir_body}
 use Rattle.adf_blocks.specs.Forms.{text_at}
 use Rattle.adf_blocks.specs.HeadBlock.{IsHead, body_at, head_form, meta_at}
 use Rattle.adf_volume.specs.Demands.{AllHold, boot_demands, root_demands, demands_at}
 use Rattle.adf_volume.specs.Fits.{BodyFits, EntryFits}
-use Rattle.adf_volume.specs.Image.{DIR, FILE, kind_of, meta_of, name_of, root_of}
+use Rattle.adf_volume.specs.Image.{DIR, FILE, kind_of, meta_of, name_of, root_of, word_in}
 use Rattle.adf_volume.specs.Layout.{Layout, at_node}
 use Rattle.adf_volume.specs.Lists.{At}
 use Rattle.adf_volume.specs.Walk.Role.{Head}
 use Rattle.adf_volume.proofs.MemberFacts.{kept}
-use Rattle.adf_volume.proofs.Lists.{all_append, at_some}
+use Rattle.adf_volume.proofs.Lists.{all_append, at_below, at_some}
 use Rattle.adf_volume.proofs.Chains.{entry_is_at}
 use Rattle.adf_check.specs.declared.kept.KeptHeader.{KeptHeader as Kept}
 use Rattle.adf_check.specs.StoredVolume.{StoreStandsFor}
 use Rattle.adf_check.specs.Reading.{StoreFits}
 use Rattle.adf_check.specs.Store.{Store}
 use Rattle.adf_check.proofs.NodeSteps.{node_here}
-use Rattle.adf_check.proofs.NodeSteps.{row_at}
 use Rattle.adf_check.specs.Image.{IsBegun}
 use Rattle.adf_check.specs.Rows.{BodyMatches, EntryMatches, RowMatches, row_body, row_in}
 use Rattle.adf_check.specs.declared.row.Row.{Row}
@@ -41,12 +40,11 @@ head_facts kind b own parent slot bytes h =
     }
 
 -- the block of a row holds a header
-pub row_is_head : (image : List ℕ) (store : Store) → StoreFits image store → (i : ℕ) (d : Kept) → i < length store.rows
-    → IsHead (block image (get_or store.rows i d).head)
-row_is_head image store st i d lt =
-    let x = node_here image store st.walk st.read.tells st.read.is_walk i (get_or store.rows i d) (row_at store.rows i d lt) in
-    let k = (kept image st.read.is_walk (Head (suc i) x.0 x.1 x.2) (get_or store.rows i d).head x.3).2 in
-    head_facts (kind_of image) (get_or store.rows i d).head (get_or store.rows i d).head k.0 x.1 (block image (get_or store.rows i d).head) k.2
+pub row_is_head : {image : List ℕ} {store : Store} → StoreFits image store → (i : ℕ) (r : Kept) → At store.rows i r → IsHead (block image r.head)
+row_is_head {image = image} {store = store} st i r at =
+    let x = node_here image store st.walk st.read.tells st.read.is_walk i r at in
+    let k = (kept image st.read.is_walk (Head (suc i) x.0 x.1 x.2) r.head x.3).2 in
+    head_facts (kind_of image) r.head r.head k.0 x.1 (block image r.head) k.2
 
 pub tells_begun : (image : List ℕ) (store : Store) → StoreFits image store → IsBegun image
 tells_begun image store st = all_append (boot_demands image) (root_demands image (root_of image)) st.fits.boots st.fits.root
@@ -59,21 +57,23 @@ meta_here : (image : List ℕ) (b : ℕ) → meta_at (block image b) ≡ meta_of
 unfolding meta_of
 meta_here image b = refl
 
-is_dir : (b : List ℕ) → word b 127 ≡ DIR → (word b 127 == 2) ≡ true
-is_dir b h = grind (arith, nat_tests)
-
-no_dir : (b : List ℕ) → word b 127 ≡ FILE → (word b 127 == 2) ≡ false
-no_dir b h = grind (arith, nat_tests)
-
-body_here : (image : List ℕ) (t : Tree) (l : Layout) (n h : ℕ) (body : Body) → BodyFits image t.kind l n h body
-    → BodyMatches (row_body (body_at (block image h))) body
-body_here image t l n h Dir f = rw (is_dir (block image h) f.0) tt
-body_here image t l n h (File bytes) f = rw (no_dir (block image h) f.0) (sym f.2)
+-- the secondary type of a header tells whether its entry is a directory, and its words the size of a file
+pub type_told : (image : List ℕ) (t : Tree) (l : Layout) (n h : ℕ) (body : Body) → BodyFits image t.kind l n h body
+    → ((word_in image h 127 == DIR) ≡ is_dir_body body) × BodyMatches (row_body (body_at (block image h))) body
+type_told image t l n h Dir f =
+    let e : word_in image h 127 ≡ DIR = f.0 in
+    let is : (word_in image h 127 == DIR) ≡ true = grind (arith, nat_tests) in
+    (is, rw is tt)
+type_told image t l n h (File bytes) f =
+    let e : word_in image h 127 ≡ FILE = f.0 in
+    let is : (word_in image h 127 == DIR) ≡ false = grind (arith, nat_tests) in
+    (is, rw is (sym f.2))
 
 -- what a row's header tells is what the tree has
 pub entry_told : (image : List ℕ) (store : Store) (t : Tree) (l : Layout) → StoreStandsFor image store t l → (n i : ℕ) (r : Kept) (told : Row) → n ≡ suc i
-    → i < length store.rows → At store.rows i r → told ≡ row_in r.parent (block image r.head) → RowMatches (Some told) (entry t.entries n)
-entry_told image store t l k n i r told e lt at_row is =
+    → At store.rows i r → told ≡ row_in r.parent (block image r.head) → RowMatches (Some told) (entry t.entries n)
+entry_told image store t l k n i r told e at_row is =
+    let lt : i < length store.rows = at_below store.rows i r at_row in
     let count : length store.rows ≡ length t.entries = k.rows.count in
     let at = at_some t.entries i (omega arith) in
     let entry_is : entry t.entries n ≡ Some at.0 = ap (entry t.entries) e ∙ (entry_is_at t (suc i) at.0).0 at.1 in
@@ -83,6 +83,6 @@ entry_told image store t l k n i r told e lt at_row is =
       parent = sym (k.rows.parent i r at.0 at_row at.1);
       name = name_here image r.head ∙ sym fits.name;
       meta = meta_here image r.head ∙ sym fits.meta;
-      body = body_here image t l (suc i) r.head at.0.body fits.body;
+      body = (type_told image t l (suc i) r.head at.0.body fits.body).1;
     } in
     subst (RowMatches (Some told)) (sym entry_is) (subst (λ r. EntryMatches r at.0) (sym is) tells)

@@ -7,7 +7,7 @@ ghost use Rattle.adf_check.specs.Reading.{IsAtNode, IsAtSlot, IsInChain};
 ghost use Rattle.adf_check.specs.Found.{IsFurther, IsTrueFault, left, sees_of, store_of};
 
 use crate::claims::claim_named;
-use crate::fault::{Fault, fault_at};
+use crate::fault::{Fault, fault_at, no_memory};
 use crate::found::Found;
 use crate::image::Image;
 use crate::kept::KeptHeader;
@@ -34,7 +34,7 @@ fn kept_row(parent: Node, head: u32) -> KeptHeader
     }
 }
 
-// Claims and reads the header at block `b`, which a word of block `at` names: the next one of its chain, or 0.
+// Claims and reads the header at block `b`, which a word of block `holder` names: the next one of its chain, or 0.
 fn read_header(
     image: &Image<'_>,
     found: &mut Found,
@@ -62,11 +62,11 @@ fn read_header(
     match seen.put(&head.name()) {
         Ok(true) => (),
         Ok(false) => return Err(fault_at(b, Cause::SameName)),
-        Err(_) => return Err(fault_at(0, Cause::NoMemory)),
+        Err(_) => return Err(no_memory()),
     }
     match found.rows.push(kept_row(chain.parent, b)) {
         Ok(()) => Ok(head.next()),
-        Err(_) => Err(fault_at(0, Cause::NoMemory)),
+        Err(_) => Err(no_memory()),
     }
 }
 

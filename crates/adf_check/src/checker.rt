@@ -10,7 +10,7 @@ ghost use Rattle.adf_check.specs.Volumes.{StandsFor};
 
 use crate::bitmap::check_bitmap;
 use crate::checked::Checked;
-use crate::fault::{Fault, fault_at};
+use crate::fault::{Fault, no_memory};
 use crate::found::Found;
 use crate::nodes::read_nodes;
 use crate::pages::read_pages;
@@ -48,7 +48,7 @@ fn check_all<'a>(alloc: Global, image: &'a [u8]) -> Result<Checked<'a>, Fault>
 {
     let opened = open(image)?;
     let Ok(mut found) = Found::begin(alloc, &opened.image) else {
-        return Err(fault_at(0, Cause::NoMemory));
+        return Err(no_memory());
     };
     let pages = read_pages(alloc, &opened.image, &opened.root, &mut found)?;
     read_nodes(alloc, &opened.image, &mut found)?;

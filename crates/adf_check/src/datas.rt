@@ -12,7 +12,7 @@ ghost use Rattle.adf_check.specs.Files.{next_of};
 ghost use Rattle.adf_check.specs.Image.{IsBegun};
 
 use crate::claims::claim_named;
-use crate::fault::{Fault, fault_at};
+use crate::fault::{Fault, fault_at, no_memory};
 use crate::found::Found;
 use crate::image::Image;
 use crate::narrow_owner::{NarrowOwner, number_of};
@@ -95,7 +95,7 @@ fn check_data(image: &Image<'_>, table: &[u32], file: &File, b: u32, k: u32) -> 
     }
 }
 
-// Claims and checks block `b` as data block `k + 1` of a file, as block `at` of its table names it. The table has the header and
+// Claims and checks block `b` as data block `k + 1` of a file, as block `holder` of its table names it. The table has the header and
 // the extension blocks.
 fn read_data_block(
     image: &Image<'_>,
@@ -129,7 +129,7 @@ fn read_data_block(
     }
     match found.datas.push(b) {
         Ok(()) => Ok(()),
-        Err(_) => Err(fault_at(0, Cause::NoMemory)),
+        Err(_) => Err(no_memory()),
     }
 }
 

@@ -8,14 +8,14 @@ ghost use Rattle.adf_check.specs.Found.{IsFurther, IsTrueFault, left, store_of};
 ghost use Rattle.adf_check.specs.Image.{IsBegun};
 
 use crate::claims::claim_named;
-use crate::fault::{Fault, fault_at};
+use crate::fault::{Fault, fault_at, no_memory};
 use crate::found::Found;
 use crate::image::Image;
 use crate::narrow_owner::{NarrowOwner, number_of};
-use adf_blocks::{Cause, read_ext};
+use adf_blocks::read_ext;
 use adf_tree::Node;
 
-// Claims and reads the extension block at block `b`, which a word of block `at` names, of the file `node` with its header at block
+// Claims and reads the extension block at block `b`, which a word of block `holder` names, of the file `node` with its header at block
 // `head`: the next one, or 0. The table has the header and the extension blocks before.
 fn read_ext_block(
     image: &Image<'_>,
@@ -41,7 +41,7 @@ fn read_ext_block(
         Err(cause) => return Err(fault_at(b, cause)),
     };
     if table.push(b).is_err() || found.exts.push(b).is_err() {
-        return Err(fault_at(0, Cause::NoMemory));
+        return Err(no_memory());
     }
     Ok(ext.next())
 }

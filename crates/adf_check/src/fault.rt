@@ -18,3 +18,10 @@ pub fn fault_at(block: u32, cause: Cause) -> Fault
 {
     Fault { block, cause }
 }
+
+// Want of memory, which names block 0.
+pub fn no_memory() -> Fault
+    ensures { result ≡ fault 0 Cause.NoMemory }
+{
+    fault_at(0, Cause::NoMemory)
+}

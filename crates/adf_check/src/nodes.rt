@@ -12,7 +12,7 @@ ghost use Rattle.adf_check.specs.Image.{IsBegun};
 use crate::chains::read_directory;
 use crate::datas::read_datas;
 use crate::exts::read_exts;
-use crate::fault::{Fault, fault_at};
+use crate::fault::{Fault, no_memory};
 use crate::found::Found;
 use crate::image::Image;
 use crate::kept::Start;
@@ -34,7 +34,7 @@ fn enter(found: &mut Found) -> Result<(), Fault>
     };
     match found.starts.push(start) {
         Ok(()) => Ok(()),
-        Err(_) => Err(fault_at(0, Cause::NoMemory)),
+        Err(_) => Err(no_memory()),
     }
 }
 
@@ -57,7 +57,7 @@ fn read_file(
 {
     table.clear();
     if table.push(head).is_err() {
-        return Err(fault_at(0, Cause::NoMemory));
+        return Err(no_memory());
     }
     read_exts(image, found, table, node, head, ext)?;
     read_datas(image, found, table, node, head, size)

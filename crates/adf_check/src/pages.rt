@@ -10,11 +10,11 @@ ghost use Rattle.adf_check.specs.Image.{IsBegun};
 ghost use Rattle.adf_check.specs.Pages.{AreListed, index_of_map_ext, index_of_page};
 
 use crate::claims::claim_named;
-use crate::fault::{Fault, fault_at};
+use crate::fault::{Fault, fault_at, no_memory};
 use crate::found::Found;
 use crate::image::Image;
 use crate::narrow_owner::NarrowOwner;
-use adf_blocks::{Cause, MAP_EXT_PAGES, ROOT_PAGES, Root, page_count, read_map_ext, read_page};
+use adf_blocks::{MAP_EXT_PAGES, ROOT_PAGES, Root, page_count, read_map_ext, read_page};
 use std::alloc::Global;
 
 // Whether page `i` is the first one of a bitmap extension block.
@@ -148,7 +148,7 @@ pub fn read_pages(
         holder = holder_of_page(image, root, found, holder, i)?;
         let page = read_page_at(image, root, found, holder, i)?;
         if pages.push(page).is_err() {
-            return Err(fault_at(0, Cause::NoMemory));
+            return Err(no_memory());
         }
     }
     Ok(pages)

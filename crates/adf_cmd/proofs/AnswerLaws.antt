@@ -1,7 +1,6 @@
 -- From outcomes to answers.
-use Rattle.std.proofs.Common.{◌≡◌, ◌≢◌, ◌∙◌, inl, inr, ℕ, Bool, false, List, [], Option, Some, None, IfSome, refl, sym, ap, subst, arith, append-nil}
+use Rattle.std.proofs.Common.{◌≡◌, ◌≢◌, ◌∙◌, inl, inr, ℕ, Bool, false, List, [], Option, Some, None, IfSome, refl, sym, ap, subst, arith}
 use Rattle.std.specs.Prelude.{codes, option_map, string_bytes}
-use Rattle.std.specs.Io.KnownBytes.{Appends}
 use Rattle.adf_fields.specs.declared.dates.Stamp.{Stamp}
 use Rattle.adf_tree.specs.PathTexts.{IsPathText}
 use Rattle.adf_tree.specs.Tree.{Tree, entry, find, with_kind}
@@ -25,14 +24,11 @@ use Rattle.adf_texts.specs.VolumeLines.{AreDates, volume_lines}
 use Rattle.adf_manifest.specs.declared.manifest.ManifestFault.{ManifestFault}
 use Rattle.adf_cmd.specs.declared.outcome.Outcome.{Outcome}
 use Rattle.adf_cmd.specs.declared.outcome.Outcome.TheVariants.{Done, FaultWritten, Refused, NoSuchPath, NotAFile, ReadFault, WriteFault, NoMemory}
+use Rattle.adf_cmd.proofs.PendingText.{appends_nil}
 
 pub if_some_weaker : {T : Type 0} {P Q : T → Type 0} (o : Option T) → ((x : T) → P x → Q x) → IfSome o P → IfSome o Q
 if_some_weaker None f p = tt
 if_some_weaker (Some x) f p = f x p
-
-appends_nil : (o : Option (List ℕ)) → Appends o o []
-appends_nil None = tt
-appends_nil (Some x) = sym (append-nil x)
 
 -- the numbers are those of a tree and a layout that fit
 abbrev CountsOf : List ℕ → Counts → Type 0
@@ -42,11 +38,6 @@ CountsOf image counts = (t : Tree) × (l : Layout) × Fits image t l × (counts 
 pub accepted_part : (image line : List ℕ) (counts : Counts) (o o' : Option (List ℕ)) → CountsOf image counts → line ≡ ok_line counts → AppendsPart o o' line
     → IsPart check image o o'
 accepted_part image line counts o o' (t, l, fits, numbers) e part = (0, line, [], inl (t, l, fits, refl, e ∙ ap ok_line numbers, refl), part)
-
--- and the whole line
-pub accepted_works : (image line : List ℕ) (counts : Counts) (o o' : Option (List ℕ)) → CountsOf image counts → line ≡ ok_line counts → Appends o o' line
-    → Works Done check image o o'
-accepted_works image line counts o o' (t, l, fits, numbers) e whole = (line, inl (t, l, fits, refl, e ∙ ap ok_line numbers, refl), whole)
 
 -- what is told of a fault answers the refused image
 pub refused_works : (w : Outcome) (image : List ℕ) (f : Fault) (o o' : Option (List ℕ)) → f.cause ≢ CauseNoMemory
@@ -79,14 +70,10 @@ cat_refused w path image o h = refused_image_works w (cat path) image o (λ err 
 pub convert_refused : (w : Outcome) (kind : Kind) (image : List ℕ) (o : Option (List ℕ)) → IsRefusedImage image w → Works w (convert kind) image o o
 convert_refused w kind image o h = refused_image_works w (convert kind) image o (λ err refuses. inr refuses) h
 
--- the lines of a volume answer `list`, and so does a front part of them
-pub list_works : (image : List ℕ) (t : Tree) (l : Layout) (date : Stamp → List ℕ) (o o' : Option (List ℕ)) → Fits image t l → AreDates date
-    → Appends o o' (volume_lines date t (blocks image)) → Works Done list image o o'
-list_works image t l date o o' fits dates whole = (_, inl (t, l, fits, date, dates, refl, refl, refl), whole)
-
-pub list_part : (image : List ℕ) (t : Tree) (l : Layout) (date : Stamp → List ℕ) (o o' : Option (List ℕ)) → Fits image t l → AreDates date
-    → AppendsPart o o' (volume_lines date t (blocks image)) → IsPart list image o o'
-list_part image t l date o o' fits dates part = (0, _, [], inl (t, l, fits, date, dates, refl, refl, refl), part)
+-- the lines of a volume answer `list`
+pub listed : (image : List ℕ) (t : Tree) (l : Layout) (date : Stamp → List ℕ) → Fits image t l → AreDates date
+    → Answer list image 0 (volume_lines date t (blocks image)) []
+listed image t l date fits dates = inl (t, l, fits, date, dates, refl, refl, refl)
 
 -- what is said of a refused manifest answers it
 pub fault_works : (w : Outcome) (lines : Bool) (input : List ℕ) (f : ManifestFault) (o : Option (List ℕ)) → ExplainsFault f input → IsFaultOutcome f w

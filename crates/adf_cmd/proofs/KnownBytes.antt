@@ -1,8 +1,9 @@
 -- Laws of known bytes.
-use Rattle.std.proofs.Common.{◌≡◌, ◌≤◌, ◌+◌, ◌-◌, ◌++◌, length-drop, ◌∙◌, ℕ, List, Option, Some, None, IfSome, [], sym, ap, length, take, drop, arith, append_assoc, append-nil}
-use Rattle.std.specs.Io.KnownBytes.{Appends, Consumes, IsAtEnd, Keeps}
+use Rattle.std.proofs.Common.{◌≡◌, ◌+◌, ◌-◌, ◌++◌, length-drop, ◌∙◌, ℕ, List, Option, Some, None, [], sym, ap, length, take, drop, arith}
+use Rattle.std.proofs.Common.{append_assoc, append-nil}
+use Rattle.std.specs.Io.KnownBytes.{Appends, Consumes, Keeps}
 use Rattle.std.proofs.Math.Seq.{take-add}
-use Rattle.std.proofs.lemmas.List.{take_all, take_at}
+use Rattle.std.proofs.lemmas.List.{take_all}
 
 -- what is left past `at`, as a slice says it
 pub rest_is : (at : ℕ) (bytes : List ℕ) → take (length bytes - at) (drop at bytes) ≡ drop at bytes
@@ -23,26 +24,6 @@ consumes_more None b c bs cs all e p q = tt
 consumes_more (Some x) None c bs cs all e p q = absurd p
 consumes_more (Some x) (Some y) None bs cs all e p q = absurd q
 consumes_more (Some x) (Some y) (Some z) bs cs all e p q = p ∙ ap (λ l. bs ++ l) q ∙ sym (append_assoc bs cs z) ∙ ap (λ l. l ++ z) (sym e)
-
-pub consumes_kept : (a b c : Option (List ℕ)) (bs : List ℕ) → Consumes a b bs → Keeps b c → Consumes a c bs
-consumes_kept None b c bs p q = tt
-consumes_kept (Some x) None c bs p q = absurd p
-consumes_kept (Some x) (Some y) None bs p q = absurd q
-consumes_kept (Some x) (Some y) (Some z) bs p q = p ∙ ap (λ l. bs ++ l) (sym q)
-
--- what was taken is all there was
-pub all_at_end : (a b : Option (List ℕ)) (bs : List ℕ) (n : ℕ) → length bs ≤ n → Consumes a b bs → IsAtEnd b → IfSome a (λ xs. bs ≡ take n xs)
-all_at_end None b bs n h p q = tt
-all_at_end (Some x) None bs n h p q = absurd p
-all_at_end (Some x) (Some y) bs n h p q =
-    let whole : x ≡ bs = p ∙ ap (λ l. bs ++ l) q ∙ append-nil bs in
-    sym (rw whole (take_all n bs h))
-
--- what was taken is all that was wanted
-pub all_of_room : (a b : Option (List ℕ)) (bs : List ℕ) (n : ℕ) → length bs ≡ n → Consumes a b bs → IfSome a (λ xs. bs ≡ take n xs)
-all_of_room None b bs n h p = tt
-all_of_room (Some x) None bs n h p = absurd p
-all_of_room (Some x) (Some y) bs n h p = rw p (sym (take_at bs y n h))
 
 pub appends_kept : (a b c : Option (List ℕ)) (bs : List ℕ) → Appends a b bs → Keeps b c → Appends a c bs
 appends_kept None b c bs p q = tt

@@ -1,9 +1,12 @@
+-- bytes, lines and words
 pub mod KnownBytes
+pub mod PendingText
 pub mod Lines
 pub mod Literals
-pub mod PendingText
-pub mod Refused
+-- the rows of a volume
 pub mod EntryNames
 pub mod EntryLines
+-- answers
+pub mod Refusals
 pub mod LongInputs
 pub mod AnswerLaws

@@ -3,7 +3,7 @@ use Rattle.std.proofs.Common.{◌≡◌, ◌++◌, ◌∙◌, ℕ, List, Option,
 use Rattle.std.specs.Io.KnownBytes.{Appends}
 use Rattle.adf_cmd.specs.Streams.{AppendsPart, KeepsPending, Pending}
 
-appends_nil : (a : Option (List ℕ)) → Appends a a []
+pub appends_nil : (a : Option (List ℕ)) → Appends a a []
 appends_nil None = tt
 appends_nil (Some x) = sym (append-nil x)
 
@@ -28,12 +28,6 @@ pending_more a b text done more text' done' e f p =
 pub pending_end : (a b c : Option (List ℕ)) (text done : List ℕ) → Pending a b text done → Appends b c text → Appends a c done
 pending_end a b c text done p q = appends_two a b c p.0 text done p.2 p.1 q
 
-pub pending_flushed : (a b c : Option (List ℕ)) (text done : List ℕ) → Pending a b text done → Appends b c text → Pending a c [] done
-pending_flushed a b c text done p q = (done, pending_end a b c text done p q, sym (append-nil done))
-
-pub pending_stops : (a b : Option (List ℕ)) (text done rest whole : List ℕ) → whole ≡ done ++ rest → Pending a b text done → AppendsPart a b whole
-pending_stops a b text done rest whole e p = (p.0, text ++ rest, e ∙ ap (λ l. l ++ rest) p.2 ∙ append_assoc p.0 text rest, p.1)
-
 pub pending_fails : (a b c : Option (List ℕ)) (text done rest whole : List ℕ) → whole ≡ done ++ rest → Pending a b text done → AppendsPart b c text
     → AppendsPart a c whole
 pending_fails a b c text done rest whole e p q = (
@@ -45,9 +39,6 @@ pending_fails a b c text done rest whole e p q = (
 
 pub pending_cleared : (b c : Option (List ℕ)) (text text' : List ℕ) → text' ≡ [] → Appends b c text → KeepsPending b text c text'
 pending_cleared b c text text' e q = λ a done p. (done, pending_end a b c text done p q, sym (ap (λ l. done ++ l) e ∙ append-nil done))
-
-pub part_none : (a : Option (List ℕ)) (whole : List ℕ) → AppendsPart a a whole
-part_none a whole = ([], whole, refl, appends_nil a)
 
 -- what holds whatever a result is holds where it is an error
 pub on_err : {T E P : Type 0} (r : Result T E) → P → OnErr r P

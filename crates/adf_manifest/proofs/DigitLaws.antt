@@ -1,8 +1,8 @@
 -- Laws of hexadecimal digits.
-use Rattle.std.proofs.Common.{◌≡◌, ◌≢◌, ◌<◌, ◌^◌, ◌+◌, ◌*◌, ◌/◌, ◌%◌, ◌==◌, ◌++◌, ◌∙◌, ℕ, false, List, [], ◌∷◌, refl, sym, ap, arith}
+use Rattle.std.proofs.Common.{◌≡◌, ◌≢◌, ◌<◌, ◌^◌, ◌+◌, ◌*◌, ◌/◌, ◌%◌, ◌==◌, ◌++◌, ◌∙◌, ℕ, false, List, [], ◌∷◌, refl, sym, ap, arith, length}
 use Rattle.std.specs.List.{All}
 use Rattle.std.proofs.lemmas.Bool.Decides.{nat_tests}
-use Rattle.std.proofs.lemmas.List.{append_assoc}
+use Rattle.std.proofs.lemmas.List.{append_assoc, nil_from_length, append-nil}
 use Rattle.std.proofs.lemmas.List.Elements.{All-cons, All-head, All-nil, All-tail}
 use Rattle.adf_tree.specs.Escapes.{hex_digit}
 use Rattle.adf_manifest.specs.Tokens.{Lacks}
@@ -47,10 +47,12 @@ pub none_left : (rest left : List ℕ) → ((b : ℕ) (more : List ℕ) → b < 
 none_left rest [] h a e = refl
 none_left rest (x ∷ xs) h a e = absurd (h x (pairs xs) (All-head (λ k. k < 256) x xs a) e)
 
-pub all_pairs : (text done : List ℕ) → All (λ b. b < 256) done → text ≡ pairs done → (text ≡ pairs (unpaired text)) × All (λ b. b < 256) (unpaired text)
-all_pairs text done a e =
-    let back : unpaired text ≡ done = ap unpaired e ∙ unpaired_pairs done a in
-    (e ∙ ap pairs (sym back), rw back a)
+pub all_pairs : (text done rest : List ℕ) → All (λ b. b < 256) done → text ≡ pairs done ++ rest → length rest ≡ 0
+    → (text ≡ pairs (unpaired text)) × All (λ b. b < 256) (unpaired text)
+all_pairs text done rest a e none =
+    let all : text ≡ pairs done = e ∙ ap (λ r. pairs done ++ r) (nil_from_length rest none) ∙ append-nil (pairs done) in
+    let back : unpaired text ≡ done = ap unpaired all ∙ unpaired_pairs done a in
+    (all ∙ ap pairs (sym back), rw back a)
 
 -- a text with a byte more than bytes
 pub put_more : (old now left bytes more : List ℕ) (b : ℕ) → now ++ left ≡ old ++ bytes → left ≡ b ∷ more → (now ++ b ∷ []) ++ more ≡ old ++ bytes

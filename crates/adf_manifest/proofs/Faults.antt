@@ -19,7 +19,7 @@ use Rattle.adf_manifest.specs.declared.manifest.ManifestKind.{ManifestKind}
 use Rattle.adf_manifest.specs.declared.manifest.ManifestKind.TheVariants.{BadLine, BadSize, BadText, NoParent, ParentIsFile, Exists, NoMemory}
 use Rattle.adf_manifest.proofs.Forms.{line_same}
 use Rattle.adf_manifest.proofs.LastLines.{Adds, IsFirst, ends, last_line}
-use Rattle.adf_manifest.proofs.Verdicts.{first_lines, heads, one_number, one_told, rests, small, some_lines}
+use Rattle.adf_manifest.proofs.Verdicts.{first_lines, heads, one_volume, one_told, rests, small, some_lines}
 
 -- a line that adds may stand at its place, and has no fault
 may_stand : (m n : Manifest) (line : LineValue) → Adds m line n → MayStand m line
@@ -105,7 +105,7 @@ later_good m n text rest kind w v e f =
 first_good : (kind' : Kind) (n' : ℕ) (line : List ℕ) (kind : ManifestKind) → is_allowed n' ≡ true → line ≡ volume_line kind' n' → IsFirstFault line kind → ⊥
 first_good kind' n' line BadLine h e f = f (kind', n', small n' h, e)
 first_good kind' n' line BadSize h e f =
-    let same = one_number f.0 kind' f.1 n' f.2 (small n' h) (sym f.3 ∙ e) in
+    let same = (one_volume f.0 kind' f.1 n' f.2 (small n' h) (sym f.3 ∙ e)).1 in
     let bad : true ≡ false = sym h ∙ ap is_allowed (sym same) ∙ f.4 in
     absurd cc
 first_good kind' n' line kind h e f = f

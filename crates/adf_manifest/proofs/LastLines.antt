@@ -3,7 +3,6 @@ use Rattle.std.proofs.Common.{◌≡◌, ◌≢◌, ◌<◌, ◌++◌, ◌∙◌
 use Rattle.std.specs.Prelude.{IsOk}
 use Rattle.std.specs.List.{All}
 use Rattle.std.proofs.lemmas.List.{append-nil}
-use Rattle.std.proofs.lemmas.List.Elements.{All-push}
 use Rattle.adf_tree.specs.Escapes.{IsSpelling, escaped}
 use Rattle.adf_tree.specs.PathTexts.{IsName, IsPathText, path_text}
 use Rattle.adf_tree.specs.Tree.{room_for}
@@ -20,8 +19,8 @@ use Rattle.adf_manifest.specs.Reader.{bare}
 use Rattle.adf_manifest.specs.declared.lines.Sort.{Sort}
 use Rattle.adf_manifest.specs.declared.lines.Sort.TheVariants.{Dir, File}
 use Rattle.adf_manifest.specs.declared.reader.Head.{Head}
-use Rattle.adf_manifest.proofs.Growth.{with_run, with_run_lines, last_lines, new_item, new_lines, noted, noted_lines, room_less, room_more, well_before, with_last}
-use Rattle.adf_manifest.proofs.Growth.{with_new, last_off}
+use Rattle.adf_manifest.proofs.Growth.{with_run, with_run_lines, last_lines, new_item, new_lines, noted, noted_lines, room_less, well_before, with_last}
+use Rattle.adf_manifest.proofs.Growth.{with_new, last_off, last_is, last_well}
 use Rattle.adf_manifest.proofs.StateLaws.{bare_lines, bare_well}
 
 abbrev pub with_label : Head → List ℕ → Head
@@ -125,25 +124,17 @@ less_is i run runs g e f =
 -- the last line of a manifest with entries
 last_run : (m : Manifest) (e : Entries) (runs : List RunValue) (run : RunValue) → IsWell m → m.entries ≡ Some e → e.last.runs ≡ runs ++ run ∷ [] → IsNext m
 last_run m e runs run w is r =
-    let both = well_before m e w is in
-    let items = last_off IsItem e.before e.last both.0 in
-    let item : IsItem e.last = items.1 in
+    let item : IsItem e.last = last_is m e w is in
     let file = not_dir e.last run runs item r e.last.sort refl in
     let less = less_is e.last run runs item r file in
     let i : Item = record e.last { runs = runs } in
     let before : Entries = record { before = e.before; last = i } in
     let k : Manifest = record { head = m.head; entries = Some before } in
-    let room = room_less (head_tree m.head) e.before e.last both.1 in
-    let well : IsWell k = record {
-      head = w.head;
-      items = All-push IsItem e.before i items.0 less.0;
-      room = room_more (head_tree m.head) e.before i room.0 room.1;
-    } in
     let same : m ≡ with_last k before (with_run i run) = let by : List RunValue → Manifest =
     λ rs. with_last m e (record e.last { runs = rs }) in entries_same m e is ∙ ap by r in (
       k,
       RunLine run,
-      well,
+      last_well m e i w is less.0 refl,
       less.1,
       (before, refl, file, same),
       ap manifest_lines same
@@ -156,34 +147,18 @@ given_note (Some x) note e g = let same : x ≡ note = cc in subst IsGivenNote s
 
 last_note : (m : Manifest) (e : Entries) (note : List ℕ) → IsWell m → m.entries ≡ Some e → e.last.runs ≡ [] → e.last.note ≡ Some note → IsNext m
 last_note m e note w is r n =
-    let both = well_before m e w is in
-    let items = last_off IsItem e.before e.last both.0 in
-    let item : IsItem e.last = items.1 in
-    let mine : IsGivenNote note = given_note e.last.note note n item.note in
+    let g : IsItem e.last = last_is m e w is in
+    let mine : IsGivenNote note = given_note e.last.note note n g.note in
     let i : Item = record e.last { note = None } in
-    let good : IsItem i = record {
-      stamp = item.stamp;
-      protect = item.protect;
-      filled = item.filled;
-      names = item.names;
-      note = tt;
-      runs =
-          item.runs;
-      plain = item.plain;
-    } in
+    let bare : IsItem i =
+    record { stamp = g.stamp; protect = g.protect; filled = g.filled; names = g.names; note = tt; runs = g.runs; plain = g.plain } in
     let before : Entries = record { before = e.before; last = i } in
     let k : Manifest = record { head = m.head; entries = Some before } in
-    let room = room_less (head_tree m.head) e.before e.last both.1 in
-    let well : IsWell k = record {
-      head = w.head;
-      items = All-push IsItem e.before i items.0 good;
-      room = room_more (head_tree m.head) e.before i room.0 room.1;
-    } in
     let same : m ≡ with_last k before (noted i note) = let by : Option (List ℕ) → Manifest =
     λ o. with_last m e (record e.last { note = o }) in entries_same m e is ∙ ap by n in (
       k,
       NoteLine (escaped note),
-      well,
+      last_well m e i w is bare refl,
       filled note mine.0,
       (before, refl, refl, r, (note, mine.1, same)),
       ap manifest_lines same

@@ -32,17 +32,13 @@ pub small : (n : ℕ) → is_allowed n ≡ true → n < 2 ^ 32
 small n h = grind (arith, nat_tests)
 
 -- a volume line has one kind and one number
-pub one_number : (kind kind' : Kind) (n n' : ℕ) → n < 2 ^ 32 → n' < 2 ^ 32 → volume_line kind n ≡ volume_line kind' n' → n ≡ n'
-one_number Ofs Ofs n n' h h' e = decimal_injective n n' (omega arith) (omega arith) (append_cancel_left (codes "volume ofs ") (decimal n) (decimal n') e)
-one_number Ffs Ffs n n' h h' e = decimal_injective n n' (omega arith) (omega arith) (append_cancel_left (codes "volume ffs ") (decimal n) (decimal n') e)
-one_number Ofs Ffs n n' h h' e = let bad : 111 ≡ 102 = ap (λ t. slice_index t 7) e in absurd (omega (arith, bad))
-one_number Ffs Ofs n n' h h' e = let bad : 102 ≡ 111 = ap (λ t. slice_index t 7) e in absurd (omega (arith, bad))
-
-one_kind : (k k' : Kind) (n n' : ℕ) → volume_line k n ≡ volume_line k' n' → k ≡ k'
-one_kind Ofs Ofs n n' e = refl
-one_kind Ffs Ffs n n' e = refl
-one_kind Ofs Ffs n n' e = let bad : 111 ≡ 102 = ap (λ t. slice_index t 7) e in absurd (omega (arith, bad))
-one_kind Ffs Ofs n n' e = let bad : 102 ≡ 111 = ap (λ t. slice_index t 7) e in absurd (omega (arith, bad))
+pub one_volume : (kind kind' : Kind) (n n' : ℕ) → n < 2 ^ 32 → n' < 2 ^ 32 → volume_line kind n ≡ volume_line kind' n' → (kind ≡ kind') × (n ≡ n')
+one_volume Ofs Ofs n n' h h' e =
+    (refl, decimal_injective n n' (omega arith) (omega arith) (append_cancel_left (codes "volume ofs ") (decimal n) (decimal n') e))
+one_volume Ffs Ffs n n' h h' e =
+    (refl, decimal_injective n n' (omega arith) (omega arith) (append_cancel_left (codes "volume ffs ") (decimal n) (decimal n') e))
+one_volume Ofs Ffs n n' h h' e = let bad : 111 ≡ 102 = ap (λ t. slice_index t 7) e in absurd (omega (arith, bad))
+one_volume Ffs Ofs n n' h h' e = let bad : 102 ≡ 111 = ap (λ t. slice_index t 7) e in absurd (omega (arith, bad))
 
 one_entries : (o : Option Entries) (e f : Entries) → o ≡ Some e → o ≡ Some f → e ≡ f
 one_entries o e f p q = cc
@@ -82,9 +78,8 @@ same_first : (m n : Manifest) → IsWell m → IsWell n → IsFirst m → IsFirs
 same_first m n w v f g e =
     let line = heads _ _ _ _ (sym (first_lines m f) ∙ e ∙ first_lines n g) in
     let by : Kind → ℕ → Manifest = λ k b. bare (record { kind = k; blocks = b; label = None; stamps = None }) in
-    first_is m f ∙ ap (λ k. by k m.head.blocks) (one_kind m.head.kind n.head.kind m.head.blocks n.head.blocks line)
-    ∙ ap (λ b. by n.head.kind b) (one_number m.head.kind n.head.kind m.head.blocks n.head.blocks (small m.head.blocks w.head.size)
-    (small n.head.blocks v.head.size) line) ∙ sym (first_is n g)
+    let same = one_volume m.head.kind n.head.kind m.head.blocks n.head.blocks (small m.head.blocks w.head.size) (small n.head.blocks v.head.size) line in
+    first_is m f ∙ ap (λ k. by k m.head.blocks) same.0 ∙ ap (λ b. by n.head.kind b) same.1 ∙ sym (first_is n g)
 
 pub some_lines : (m : Manifest) → 0 < length (manifest_lines m)
 some_lines m = omega arith

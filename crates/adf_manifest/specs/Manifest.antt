@@ -1,5 +1,6 @@
 -- Manifests: the lines of their heads and entries, what they tell, and the first line with a fault.
-use Rattle.std.specs.Prelude.{◌≡◌, ◌+◌, ◌-◌, ◌<◌, ◌≤◌, ◌^◌, ◌==◌, ◌&&◌, ◌⊎◌, nat_lt, ℕ, true, false, List, [], ◌∷◌, ◌++◌, length, take, slice_index, if◌then◌else◌, map, Option, Some, None, IfSome, All, Err}
+use Rattle.std.specs.Prelude.{◌≡◌, ◌+◌, ◌-◌, ◌<◌, ◌≤◌, ◌^◌, ◌==◌, ◌&&◌, ◌⊎◌, nat_lt, ℕ, true, false, List, [], ◌∷◌, ◌++◌, length, take, slice_index}
+use Rattle.std.specs.Prelude.{if◌then◌else◌, map, Option, Some, None, IfSome, All, Err}
 use Rattle.std.specs.List.{slice_split, flat_map}
 use Rattle.std.specs.Option.{unwrap_or}
 use Rattle.adf_tree.specs.Escapes.{IsSpelling, escaped}
@@ -12,7 +13,8 @@ use Rattle.adf_tree.specs.declared.tree.AddFault.{AddFault}
 use Rattle.adf_tree.specs.declared.tree.AddFault.TheVariants as add
 use Rattle.adf_blocks.specs.Sizes.{is_allowed}
 use Rattle.adf_manifest.specs.Tokens.{AreStamps}
-use Rattle.adf_manifest.specs.Lines.{IsLine, IsVolumeLine, LineValue, LabelLine, StampsLine, EntryLine, NoteLine, RunLine, label_line, line_text, stamps_line, volume_line}
+use Rattle.adf_manifest.specs.Lines.{IsLine, IsVolumeLine, LineValue, LabelLine, StampsLine, EntryLine, NoteLine, RunLine, label_line, line_text, stamps_line}
+use Rattle.adf_manifest.specs.Lines.{volume_line}
 use Rattle.adf_manifest.specs.Items.{HaveRoom, IsItem, Item, addition_of, item_lines, items_tree}
 use Rattle.adf_manifest.specs.declared.lines.Sort.TheVariants.{File}
 use Rattle.adf_manifest.specs.declared.reader.Head.{Head}

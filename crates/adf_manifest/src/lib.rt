@@ -4,7 +4,7 @@
 mod digits;
 mod lines;
 mod manifest;
-mod tokens;
 mod reader;
+mod tokens;
 
 pub use crate::manifest::{MOST_BYTES, ManifestFault, ManifestKind, one_verdict, read_manifest};

@@ -5,8 +5,8 @@ ghost use Rattle.adf_manifest.specs.Kinds.{kind_number};
 ghost use Rattle.adf_manifest.specs.Manifest.{AddingLinesGivesTheTree, ExplainsFault, IsManifest, IsWell, LinesHaveOneFault, Manifest, ManifestsAreFaultless, ManifestsAreOfOneTree, manifest_lines, manifest_tree, most_bytes, between_feeds, lines_behind, without_last_feed};
 ghost use Rattle.adf_manifest.specs.Reader.{ExplainsLines, StateMatches, line_of_fault};
 
-use crate::tokens::cut_at;
 use crate::reader::{State, finish, first_state, next_state};
+use crate::tokens::cut_at;
 use adf_tree::Tree;
 use std::alloc::Global;
 

@@ -1,6 +1,6 @@
 -- The lines of `list`: of a row, and of the first entries.
-use Rattle.std.proofs.Common.{◌≡◌, ◌≤◌, ◌∙◌, ◌+◌, ◌-◌, ℕ, zero, suc, List, [], ◌∷◌, ◌++◌, Some, refl, sym, ap, arith, length}
-use Rattle.std.proofs.Common.{append_assoc, append-nil, add-suc, add-zero, add-one}
+use Rattle.std.proofs.Common.{◌≡◌, ◌≤◌, ◌∙◌, ◌+◌, ◌-◌, ℕ, zero, suc, List, [], ◌∷◌, ◌++◌, Some, refl, sym, ap, arith, length, append_assoc, append-nil}
+use Rattle.std.proofs.Common.{add-suc, add-zero, add-one}
 use Rattle.std.specs.Fmt.{decimal}
 use Rattle.adf_fields.specs.declared.dates.Stamp.{Stamp}
 use Rattle.adf_tree.specs.Paths.{names_of}
@@ -51,11 +51,6 @@ pub lines_of_more : (date : Stamp → List ℕ) (es : List Entry) (k : ℕ)
     → lines_of_entries date es (k + 1) ≡ lines_of_entries date es k ++ lines_of_entry date es (k + 1)
 unfolding lines_of_entries
 lines_of_more date es k = flat_map_next (lines_of_entry date es) 1 k (k + 1) (omega arith)
-
--- the lines of entry n, where it is known
-pub lines_of_known : (date : Stamp → List ℕ) (es : List Entry) (n : ℕ) (e : Entry) → entry es n ≡ Some e
-    → lines_of_entry date es n ≡ entry_lines date (names_of es n) e
-lines_of_known date es n e h = rw (h, lines_of_entry) refl
 
 -- the lines of fewer entries stand in front
 lines_front : (date : Stamp → List ℕ) (es : List Entry) (k d : ℕ) → (rest : List ℕ) × (lines_of_entries date es (k + d) ≡ lines_of_entries date es k ++ rest)

@@ -2,41 +2,29 @@
 
 ghost use Rattle.std.specs.Prelude.{◌≡◌, ◌<◌, ◌≤◌, ◌++◌, [], ◌∷◌, drop, take, is_ok, if◌then◌else◌, replicate};
 ghost use Rattle.std.specs.Fmt.{decimal};
-ghost use Rattle.adf_tree.specs.Escapes.{hex_digit};
 ghost use Rattle.adf_manifest.specs.Texts.{hex_word};
 ghost use Rattle.adf_texts.specs.VolumeLines.{right_in_ten};
 
+use adf_tree::hex_digit;
 use std::alloc::AllocError;
-
-/// A hexadecimal digit.
-pub fn digit(value: u32) -> u8
-    requires { value < 16 }
-    ensures { result ≡ hex_digit value }
-{
-    if value < 10 {
-        b'0' + value as u8
-    } else {
-        b'a' + (value - 10) as u8
-    }
-}
 
 /// Appends eight hexadecimal digits and the byte behind them.
 pub fn push_hex(text: &mut Vec<u8>, word: u32, end: u8) -> Result<(), AllocError>
     ensures { text.new.items ≡ (if is_ok result then text.old.items ++ (hex_word word ++ end ∷ []) else text.old.items) }
 {
-    let first = (word >> 24) % 256;
-    let second = (word >> 16) % 256;
-    let third = (word >> 8) % 256;
-    let fourth = word % 256;
+    let first = ((word >> 24) % 256) as u8;
+    let second = ((word >> 16) % 256) as u8;
+    let third = ((word >> 8) % 256) as u8;
+    let fourth = (word % 256) as u8;
     let digits = [
-        digit(first / 16),
-        digit(first % 16),
-        digit(second / 16),
-        digit(second % 16),
-        digit(third / 16),
-        digit(third % 16),
-        digit(fourth / 16),
-        digit(fourth % 16),
+        hex_digit(first / 16),
+        hex_digit(first % 16),
+        hex_digit(second / 16),
+        hex_digit(second % 16),
+        hex_digit(third / 16),
+        hex_digit(third % 16),
+        hex_digit(fourth / 16),
+        hex_digit(fourth % 16),
         end,
     ];
     text.extend_from_slice(&digits)

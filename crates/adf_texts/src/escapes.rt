@@ -5,16 +5,8 @@ ghost use Rattle.std.specs.List.{list_all};
 ghost use Rattle.adf_tree.specs.Escapes.{escape_of, escaped, is_plain};
 ghost use Rattle.adf_tree.specs.PathTexts.{path_text};
 
-use crate::digits::digit;
-use adf_tree::Name;
+use adf_tree::{Name, hex_digit, is_plain};
 use std::alloc::AllocError;
-
-// Whether the byte stands for itself.
-fn is_plain(c: u8) -> bool
-    ensures { result ≡ is_plain c }
-{
-    32 <= c && c <= 126 && c != b'\\'
-}
 
 // Appends the spelling of a byte.
 fn push_escape(text: &mut Vec<u8>, c: u8) -> Result<(), AllocError>
@@ -24,8 +16,7 @@ fn push_escape(text: &mut Vec<u8>, c: u8) -> Result<(), AllocError>
         text.push(c)?;
         return Ok(());
     }
-    let value = u32::from(c);
-    text.extend_from_slice(&[b'\\', b'x', digit(value / 16), digit(value % 16)])
+    text.extend_from_slice(&[b'\\', b'x', hex_digit(c / 16), hex_digit(c % 16)])
 }
 
 // Whether all bytes stand for themselves.

@@ -1,6 +1,6 @@
 -- Numbers by parents and names.
-use Rattle.std.proofs.Common.{◌≡◌, ◌≢◌, ℕ, ◌<◌, inl, inr, List, [], ◌∷◌, ◌++◌, length, set, get_or, Some, None, Option, cond, true, arith}
-use Rattle.std.proofs.Common.{◌==◌, ◌&&◌, refl, zero, suc, sym, ◌∙◌, ap, if◌then◌else◌}
+use Rattle.std.proofs.Common.{◌≡◌, ◌≢◌, ℕ, ◌<◌, inl, inr, List, [], ◌∷◌, ◌++◌, length, set, get_or, Some, None, Option, cond, true, arith, ◌==◌, ◌&&◌, refl}
+use Rattle.std.proofs.Common.{zero, suc, sym, ◌∙◌, ap, if◌then◌else◌}
 use Rattle.std.specs.List.{slice_get}
 use Rattle.std.specs.Ordering.{is_eq, nat_cmp}
 use Rattle.std.specs.Str.{bytes_eq}
@@ -67,16 +67,18 @@ sums : (a a' b b' c c' d d' p p' : ℕ) → a ≡ a' → b ≡ b' → c ≡ c' �
     ≡ bucket_of (record { name = record { first = a'; second = b'; third = c'; fourth = d' }; parent = p' })
 sums a a' b b' c c' d d' p p' e f g h i = rw (e, f, g, h, i) refl
 
-unchanged_at : (numbers : Numbers) (i : ℕ) (old new : BTreeMap ChildKey ℕ) (q : ChildKey) → i < length numbers → old ≡ get_or numbers i old
-    → IsUnchanged old new → number_at (slice_get (set numbers i new) (bucket_of q)) q ≡ number_at (slice_get numbers (bucket_of q)) q
-unchanged_at numbers i old new q lt is un =
+-- what a bucket says after it was written
+written : (numbers : Numbers) (i : ℕ) (old new : BTreeMap ChildKey ℕ) (q : ChildKey) (f : Option ℕ → Option ℕ) → i < length numbers
+    → old ≡ get_or numbers i old → get by_child new q ≡ f (get by_child old q)
+    → (bucket_of q ≢ i → number_at (slice_get numbers (bucket_of q)) q ≡ f (number_at (slice_get numbers (bucket_of q)) q))
+    → number_at (slice_get (set numbers i new) (bucket_of q)) q ≡ f (number_at (slice_get numbers (bucket_of q)) q)
+written numbers i old new q f lt is here there =
     elim (cases_eq (bucket_of q) i) [
       | inl e ↦
           ap (λ j. number_at (slice_get (set numbers i new) j) q) e
           ∙ (set_here numbers i new q lt
-          ∙ (ap (lookup (is_at (by_child q))) un
-          ∙ (sym (get_here numbers i old q lt is) ∙ ap (λ j. number_at (slice_get numbers j) q) (sym e))))
-      | inr ne ↦ set_at numbers i (bucket_of q) new q ne
+          ∙ (here ∙ ap f (sym (get_here numbers i old q lt is) ∙ ap (λ j. number_at (slice_get numbers j) q) (sym e))))
+      | inr ne ↦ set_at numbers i (bucket_of q) new q ne ∙ there ne
     ]
 
 -- keys that compare equal are in one bucket
@@ -89,23 +91,14 @@ same_bucket k q h =
     sums q.name.first k.name.first q.name.second k.name.second q.name.third k.name.third q.name.fourth k.name.fourth q.parent k.parent (sym w.0) (sym w.1)
     (sym w.2) (sym w.3) (sym p)
 
--- what a bucket says after a write
+-- one number more in a bucket
 one_bucket : (numbers : Numbers) (i : ℕ) (old new : BTreeMap ChildKey ℕ) (k q : ChildKey) (n : ℕ) → i < length numbers → old ≡ get_or numbers i old
     → i ≡ bucket_of k → Updates by_child old new k (Some n)
     → number_at (slice_get (set numbers i new) (bucket_of q)) q ≡ cond (is_eq (by_child k q)) (Some n) (number_at (slice_get numbers (bucket_of q)) q)
 one_bucket numbers i old new k q n lt is at up =
-    elim (cases_eq (bucket_of q) i) [
-      | inl e ↦
-          ap (λ j. number_at (slice_get (set numbers i new) j) q) e
-          ∙ (set_here numbers i new q lt
-          ∙ (up.0 q
-          ∙ ap (λ (o : Option ℕ). cond (is_eq (by_child k q)) (Some n) o)
-          (sym (get_here numbers i old q lt is) ∙ ap (λ j. number_at (slice_get numbers j) q) (sym e))))
-      | inr ne ↦
-          set_at numbers i (bucket_of q) new q ne
-          ∙ sym (ap (λ b. cond b (Some n) (number_at (slice_get numbers (bucket_of q)) q))
-          (false_from_ne_true (is_eq (by_child k q)) (λ t. ne (same_bucket k q t ∙ sym at))))
-    ]
+    written numbers i old new q (λ o. cond (is_eq (by_child k q)) (Some n) o) lt is (up.0 q)
+    (λ ne. sym (cond-false (is_eq (by_child k q)) (Some n) (number_at (slice_get numbers (bucket_of q)) q)
+    (false_from_ne_true (is_eq (by_child k q)) (λ t. ne (same_bucket k q t ∙ sym at)))))
 
 -- one number more
 pub has_number : (old numbers : Numbers) (i m : ℕ) (x : List ℕ) (bucket new : BTreeMap ChildKey ℕ) (k : ChildKey) (n : ℕ)
@@ -134,4 +127,5 @@ pub same_number_in : (old numbers : Numbers) (i : ℕ) (bucket new : BTreeMap Ch
     → number_in (set numbers i new) p y ≡ number_in old p y
 unfolding number_in
 same_number_in old numbers i bucket new p y same lt is un =
-    ap (λ (o : Option ℕ). if is_short y then o else None) (unchanged_at numbers i bucket new (child_key p y) lt is un) ∙ same p y
+    ap (λ (o : Option ℕ). if is_short y then o else None) (written numbers i bucket new (child_key p y) (λ o. o) lt is
+    (ap (lookup (is_at (by_child (child_key p y)))) un) (λ ne. refl)) ∙ same p y

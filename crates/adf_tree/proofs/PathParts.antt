@@ -1,7 +1,7 @@
 -- The parts between `/` of the text of a path.
 use Rattle.std.proofs.Common.{◌≡◌, ◌≢◌, ◌↔◌, Bor, Option, Some, None, ℕ, ◌+◌, ◌<◌, ◌/◌, ◌%◌, inl, inr, List, [], ◌∷◌, ◌++◌, length, get_or, take}
-use Rattle.std.proofs.Common.{drop, ◌-◌, map, Bool, true, false, arith, sym, refl, ◌∙◌, ap, ◌==◌, ◌&&◌, nat_le, subst}
-use Rattle.std.specs.Prelude.{IsSome, IfNone, IfSome, is_some, position}
+use Rattle.std.proofs.Common.{map, Bool, true, false, arith, sym, refl, ◌∙◌, ap, ◌==◌, ◌&&◌, nat_le, subst}
+use Rattle.std.specs.Prelude.{IsSome, IfNone, IfSome, is_some}
 use Rattle.std.proofs.Math.Seq.{get_or-append_seam}
 use Rattle.std.specs.List.{All, join_with_byte, list_all}
 use Rattle.std.proofs.lemmas.Bool.{cases_Bool, and_parts, eqb-true, ne_eqb}
@@ -13,19 +13,10 @@ use Rattle.adf_tree.specs.Texts.{is_name, is_name_byte}
 use Rattle.adf_tree.specs.Escapes.{escape_of, escaped, hex_digit, is_plain, IsSpelling}
 use Rattle.adf_tree.specs.PathTexts.{path_text, with_name, between_slashes, IsName, IsPathText}
 use Rattle.adf_tree.proofs.Spellings.{spelling_some, spelled_plain, spelled_escape, only_spelled}
-use Rattle.adf_tree.proofs.Lists.{cut_at_position, uncut_at_none}
 
 -- whether a byte is `/`
 abbrev pub is_slash : ℕ → Bool
 is_slash c = c == 47
-
--- a text is cut at its first `/`
-
-pub cut_at : (text : List ℕ) (i : ℕ) → Some i ≡ position is_slash text → between_slashes text ≡ take i text ∷ between_slashes (take (length text - (i + 1)) (drop (i + 1) text))
-cut_at text i h = cut_at_position is_slash text i h
-
-pub uncut : (text : List ℕ) → None ≡ position is_slash text → between_slashes text ≡ text ∷ []
-uncut text h = uncut_at_none is_slash text h
 
 -- names have no `/`, escaped or not
 

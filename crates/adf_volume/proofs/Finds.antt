@@ -11,6 +11,7 @@ use Rattle.adf_volume.specs.Lists.{At}
 use Rattle.adf_volume.specs.Layout.{EntryAt, chain_nodes}
 use Rattle.adf_volume.proofs.Lists.{at_below, at_some, at_index_or}
 use Rattle.adf_volume.proofs.Chains.{entry_at, entry_fun, place_at}
+use Rattle.std.proofs.lemmas.Bool.{false_from_ne_true}
 
 -- an entry of the directory with this name is the child
 pub child_yes : (t : Tree) (p : ℕ) (name : List ℕ) (n : ℕ) (e : Entry) → IsTree t.entries → EntryAt t n e → e.parent ≡ p → uppers e.name ≡ uppers name

@@ -21,7 +21,8 @@ unfolding area chunk
 area_length image Ofs b h l = let z = block_length image b h l in simp (length-take, length-drop) (omega arith)
 area_length image Ffs b h l = let z = block_length image b h l in simp (length-take, length-drop) (omega arith)
 
-joined_length : (image : List ℕ) (k : Kind) (bs : List ℕ) → length image ≡ 512 * blocks image → AreIn image bs → length (joined image k bs) ≡ chunk k * length bs
+joined_length : (image : List ℕ) (k : Kind) (bs : List ℕ) → length image ≡ 512 * blocks image → AreIn image bs
+    → length (joined image k bs) ≡ chunk k * length bs
 joined_length image k [] h l = omega arith
 joined_length image k (b ∷ bs) h l =
     let ih : length (joined image k bs) ≡ chunk k * length bs = joined_length image k bs h (λ i b z. l (suc i) b z) in
@@ -33,7 +34,8 @@ unfolding count chunk
 enough_bytes Ofs size n h = omega arith
 enough_bytes Ffs size n h = omega arith
 
-pub content_length : (image : List ℕ) (k : Kind) (h : ℕ) (bs : List ℕ) → length image ≡ 512 * blocks image → AreIn image bs → length bs ≡ count k (word_in image h SIZE)
+pub content_length : (image : List ℕ) (k : Kind) (h : ℕ) (bs : List ℕ) → length image ≡ 512 * blocks image → AreIn image bs
+    → length bs ≡ count k (word_in image h SIZE)
     → length (content image k h bs) ≡ word_in image h SIZE
 unfolding content
 content_length image k h bs z l c =

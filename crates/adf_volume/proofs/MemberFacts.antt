@@ -35,14 +35,16 @@ abbrev pub Kept : List ℕ → List (Role × ℕ) → Role → ℕ → Type 0
 Kept image w Root b = Unit {0}
 Kept image w (Page k) b = (k < pages_needed (blocks image)) × ((a i : ℕ) × NamesPage image w k a i × (word_in image a i ≡ b)) × AllHold (page_demands image b)
 Kept image w (MapExt zero) b = (ROOT_PAGES < pages_needed (blocks image)) × (word_in image (root_of image) FIRST_MAP_EXT ≡ b)
-Kept image w (MapExt (suc j)) b = (ROOT_PAGES + MAP_EXT_PAGES * suc j < pages_needed (blocks image)) × ((a : ℕ) × Has w (MapExt j) a × (word_in image a MAP_EXT_NEXT ≡ b))
+Kept image w (MapExt (suc j)) b =
+    (ROOT_PAGES + MAP_EXT_PAGES * suc j < pages_needed (blocks image)) × ((a : ℕ) × Has w (MapExt j) a × (word_in image a MAP_EXT_NEXT ≡ b))
 Kept image w (Head n p s j) b = (s < SLOTS) × HeadNamed image w p s j b × ((c : ℕ) × DirAt image w p c × AllHold (head_demands image (kind_of image) b c s))
 Kept image w (Ext n zero) b = ⊥
 Kept image w (Ext n (suc k)) b = ExtNamed image w n k b × ((h : ℕ) × FileAt image w n h × AllHold (ext_demands image b h))
 Kept image w (Data n zero) b = ⊥
 Kept image w (Data n (suc k)) b = (h : ℕ) × FileAt image w n h × (k < data_count image h) × (data_count image h ≤ POINTERS * suc (ext_count w n))
     × ((c : ℕ) × MemberAt image w n (k / POINTERS) c × (word_in image c (table_word k) ≡ b))
-    × ((x : ℕ) × IsNext image w n (suc k) h x × AllHold (data_demands image (kind_of image) b h (suc k) (held (kind_of image) (word_in image h SIZE) (suc k)) x))
+    × ((x : ℕ) × IsNext image w n (suc k) h x
+    × AllHold (data_demands image (kind_of image) b h (suc k) (held (kind_of image) (word_in image h SIZE) (suc k)) x))
 
 same_number : (n m p s i j : ℕ) → Head n p s i ≡ Head m p s j → n ≡ m
 same_number n m p s i j h = cc

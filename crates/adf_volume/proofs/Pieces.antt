@@ -69,8 +69,8 @@ unfolding left
 left_all kind size = let z : chunk kind * 0 ≡ 0 = omega arith in omega arith
 
 -- the pieces of a file, one after the other, are its content
-pub pieces_joined : (image : List ℕ) (kind : Kind) (h : ℕ) (bs : List ℕ) → length image ≡ 512 * blocks image → AreIn image bs
-    → concat (pieces image kind (word_in image h SIZE) 1 bs) ≡ content image kind h bs
+pub pieces_joined : (image : List ℕ) (kind : Kind) (h : ℕ) (bs : List ℕ) → length image ≡ 512 * blocks image
+    → AreIn image bs → concat (pieces image kind (word_in image h SIZE) 1 bs) ≡ content image kind h bs
 unfolding content
 pieces_joined image kind h bs z l =
     pieces_from image kind (word_in image h SIZE) 0 bs z l ∙ ap (λ n. take n (joined image kind bs)) (left_all kind (word_in image h SIZE))
@@ -88,16 +88,29 @@ piece_at image kind size k (c ∷ bs) (suc i) b h =
     let z : suc k + i ≡ k + suc i = omega arith in
     subst (λ m. At (pieces image kind size (suc k) bs) i (piece kind size m (block image b))) z (piece_at image kind size (suc k) bs i b h)
 
+-- a data block that a size needs begins within it
+some_left : (kind : Kind) (size k : ℕ) → k < count kind size → (0 < chunk kind) × (chunk kind * k < size)
+unfolding count chunk
+some_left Ofs size k h = (omega arith, omega arith)
+some_left Ffs size k h = (omega arith, omega arith)
+
 -- no data block that a size needs is empty, and none holds more than it can
 pub held_some : (kind : Kind) (size k : ℕ) → k < count kind size → (0 < held kind size (suc k)) × (held kind size (suc k) ≤ chunk kind)
-unfolding held count chunk
-held_some Ofs size k h = go (nat_lt (488 * suc k) size) refl
+unfolding held
+held_some kind size k h = go (nat_lt (c * suc k) size) refl
   where
-    go : (t : Bool) → nat_lt (488 * suc k) size ≡ t → (0 < cond t 488 (size - 488 * (suc k - 1))) × (cond t 488 (size - 488 * (suc k - 1)) ≤ 488)
-    go true z = (omega arith, omega arith)
-    go false z = let l : size ≤ 488 * suc k = grind (arith, nat_tests) in (omega arith, omega arith)
-held_some Ffs size k h = go (nat_lt (512 * suc k) size) refl
-  where
-    go : (t : Bool) → nat_lt (512 * suc k) size ≡ t → (0 < cond t 512 (size - 512 * (suc k - 1))) × (cond t 512 (size - 512 * (suc k - 1)) ≤ 512)
-    go true z = (omega arith, omega arith)
-    go false z = let l : size ≤ 512 * suc k = grind (arith, nat_tests) in (omega arith, omega arith)
+    c : ℕ
+    c = chunk kind
+
+    some : (0 < c) × (c * k < size)
+    some = some_left kind size k h
+
+    m : c * suc k ≡ c + c * k
+    m = omega arith
+
+    go : (t : Bool) → nat_lt (c * suc k) size ≡ t → (0 < cond t c (size - c * (suc k - 1))) × (cond t c (size - c * (suc k - 1)) ≤ c)
+    go true z = (some.0, omega arith)
+    go false z =
+        let l : size ≤ c * suc k = grind (arith, nat_tests) in
+        let e : c * (suc k - 1) ≡ c * k = ap (λ n. c * n) (omega arith) in
+        (omega (arith, some.1), omega (arith, m))

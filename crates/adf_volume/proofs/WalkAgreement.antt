@@ -36,8 +36,8 @@ use Rattle.adf_tree.proofs.TreeInvariant.{slot_small}
 
 module _ (image : List ℕ) (t : Tree) (l : Layout) (fit : Fits image t l) where
   -- a header whose secondary type says directory is a directory's
-  pub dir_of : (n : ℕ) (e : Entry) (b : Body) → b ≡ e.body → BodyFits image t.kind l n (at_node image l n) b → word_in image (at_node image l n) SECONDARY_TYPE ≡ ST_DIR
-      → e.body ≡ Dir
+  pub dir_of : (n : ℕ) (e : Entry) (b : Body) → b ≡ e.body
+      → BodyFits image t.kind l n (at_node image l n) b → word_in image (at_node image l n) SECONDARY_TYPE ≡ ST_DIR → e.body ≡ Dir
   dir_of n e Dir z f d = sym z
   dir_of n e (File bytes) z f d = absurd (dir_not_file image (at_node image l n) d f.0)
 
@@ -46,7 +46,8 @@ module _ (image : List ℕ) (t : Tree) (l : Layout) (fit : Fits image t l) where
   dir_word n e Dir z f d = f.0
   dir_word n e (File bytes) z f d = let k : File bytes ≡ Dir = z ∙ d in cc
 
-  pub file_of : (n : ℕ) (e : Entry) (b : Body) → b ≡ e.body → BodyFits image t.kind l n (at_node image l n) b → word_in image (at_node image l n) SECONDARY_TYPE ≡ ST_FILE
+  pub file_of : (n : ℕ) (e : Entry) (b : Body) → b ≡ e.body → BodyFits image t.kind l n (at_node image l n) b
+      → word_in image (at_node image l n) SECONDARY_TYPE ≡ ST_FILE
       → (bytes : List ℕ) × (e.body ≡ File bytes) × (length bytes ≡ word_in image (at_node image l n) SIZE)
   file_of n e Dir z f d = absurd (dir_not_file image (at_node image l n) f.0 d)
   file_of n e (File bytes) z f d = (bytes, sym z, f.2)
@@ -114,7 +115,8 @@ module _ (image : List ℕ) (t : Tree) (l : Layout) (fit : Fits image t l) where
         let s1 : s < SLOTS = omega arith in
         let sp = fit.chains p s (is_dir t p d) s1 in
         let named : word_in image (at_node image l p) (FIRST_SLOT + s) ≡ at_node image l n =
-        spelled_word (λ b. word_in image b NEXT_IN_CHAIN) (word_in image (at_node image l p) (FIRST_SLOT + s)) (map (at_node image l) (chain_nodes t p s)) (at_node image l n)
+        spelled_word (λ b. word_in image b NEXT_IN_CHAIN) (word_in image (at_node image l p) (FIRST_SLOT + s))
+        (map (at_node image l) (chain_nodes t p s)) (at_node image l n)
         sp (at_map (at_node image l) (chain_nodes t p s) 0 n h) in
         let r = part_range image t l fit (Head n p s 0) (at_node image l n) (h, refl) in
         let r1 : 2 ≤ at_node image l n = r.0 in
@@ -137,8 +139,18 @@ module _ (image : List ℕ) (t : Tree) (l : Layout) (fit : Fits image t l) where
         (at_node image l m) (at_node image l n) sp
         (at_map (at_node image l) (chain_nodes t p s) j m b.1) (at_map (at_node image l) (chain_nodes t p s) (suc j) n h) in
         let r = part_range image t l fit (Head n p s (suc j)) (at_node image l n) (h, refl) in
-        let r1 : 2 ≤ at_node image l n = r.0 in
-        (k.0, NEXT_IN_CHAIN, (u, (m, k.1), refl, (λ q. let x : at_node image l n ≡ 0 = sym named ∙ (ap (λ b. word_in image b NEXT_IN_CHAIN) z ∙ q) in omega arith)))
+        let r1 : 2 ≤ at_node image l n = r.0 in (
+          k.0,
+          NEXT_IN_CHAIN,
+          (
+            u,
+            (m, k.1),
+            refl,
+            (λ q.
+                let x : at_node image l n ≡ 0 = sym named ∙ (ap (λ b. word_in image b NEXT_IN_CHAIN) z ∙ q) in
+                omega arith),
+          ),
+        )
 
     -- what is due in a chain is the tree's next node
     number_agrees : (p s j n m a i : ℕ) → IsDue image w (Head n p s j) a i → n ≡ suc (heads w) → At (chain_nodes t p s) j m → m ≡ n
@@ -217,7 +229,8 @@ module _ (image : List ℕ) (t : Tree) (l : Layout) (fit : Fits image t l) where
     due_part (Head n p s zero) a i d =
         let q = d.asked in
         let g = dir_agrees p a q.2 in
-        let z : word_in image (at_node image l p) (FIRST_SLOT + s) ≡ word_in image a i = ap (λ a. word_in image a (FIRST_SLOT + s)) g.1 ∙ ap (word_in image a) (sym q.3) in
+        let z : word_in image (at_node image l p) (FIRST_SLOT + s) ≡ word_in image a i =
+        ap (λ a. word_in image a (FIRST_SLOT + s)) g.1 ∙ ap (word_in image a) (sym q.3) in
         let sp = fit.chains p s (is_dir t p g.0) q.1 in
         let x : At (map (at_node image l) (chain_nodes t p s)) 0 (word_in image (at_node image l p) (FIRST_SLOT + s)) =
         spelled_first (λ b. word_in image b NEXT_IN_CHAIN) (word_in image (at_node image l p) (FIRST_SLOT + s)) (map (at_node image l) (chain_nodes t p s)) sp
@@ -234,7 +247,8 @@ module _ (image : List ℕ) (t : Tree) (l : Layout) (fit : Fits image t l) where
         let below : slot_of e.0.name < SLOTS = slot_small e.0.name in
         let s0 : slot_of e.0.name ≡ s = e.3 in
         let sp = fit.chains p s (is_dir t p dir) (omega arith) in
-        let z : word_in image (at_node image l y.0) NEXT_IN_CHAIN ≡ word_in image a i = ap (λ a. word_in image a NEXT_IN_CHAIN) pt.1 ∙ ap (word_in image a) (sym q.2) in
+        let z : word_in image (at_node image l y.0) NEXT_IN_CHAIN ≡ word_in image a i =
+        ap (λ a. word_in image a NEXT_IN_CHAIN) pt.1 ∙ ap (word_in image a) (sym q.2) in
         let x : At (map (at_node image l) (chain_nodes t p s)) (suc j) (word_in image (at_node image l y.0) NEXT_IN_CHAIN) =
         spelled_next (λ b. word_in image b NEXT_IN_CHAIN) (word_in image (at_node image l p) (FIRST_SLOT + s)) (map (at_node image l) (chain_nodes t p s)) j
         (at_node image l y.0) sp
@@ -256,7 +270,8 @@ module _ (image : List ℕ) (t : Tree) (l : Layout) (fit : Fits image t l) where
         let f = is_file n k a h in
         let ff = fit.files n f.0 f.1 f.2 f.3 in
         let z : word_in image a EXTENSION ≡ word_in image a i = ap (word_in image a) (sym q.1) in
-        subst (At (exts_of l n) (suc k)) z (spelled_next (λ b. word_in image b EXTENSION) (word_in image (at_node image l n) EXTENSION) (exts_of l n) k a ff.exts h
+        subst (At (exts_of l n) (suc k)) z
+        (spelled_next (λ b. word_in image b EXTENSION) (word_in image (at_node image l n) EXTENSION) (exts_of l n) k a ff.exts h
         (λ y. q.2 (sym z ∙ y)))
     due_part (Data n zero) a i d = absurd d.asked
     due_part (Data n (suc k)) a i d =

@@ -182,9 +182,13 @@ module _ (image : List ℕ) where
   has_data w v n k b h = (datas n v).from k b h
 
   -- what names a page has the extension blocks of the pages before it
-  before_page : (w : List (Role × ℕ)) → IsWalk image w → (k m j a i : ℕ) → m < k → ROOT_PAGES + MAP_EXT_PAGES * j ≤ m → NamesPage image w k a i → (b : ℕ) × Has w (MapExt j) b
+  before_page : (w : List (Role × ℕ)) → IsWalk image w → (k m j a i : ℕ) → m < k → ROOT_PAGES + MAP_EXT_PAGES * j ≤ m → NamesPage image w k a i
+      → (b : ℕ) × Has w (MapExt j) b
   before_page w v k m j a i l u (inl x) = let y : k < ROOT_PAGES = x.0 in absurd (omega arith)
-  before_page w v k m j a i l u (inr x) = let y : i < MAP_EXT_PAGES = x.2 in let z : k ≡ ROOT_PAGES + MAP_EXT_PAGES * x.0 + i = x.3 in map_ext_down image w v x.0 j a x.1 (omega arith)
+  before_page w v k m j a i l u (inr x) =
+      let y : i < MAP_EXT_PAGES = x.2 in
+      let z : k ≡ ROOT_PAGES + MAP_EXT_PAGES * x.0 + i = x.3 in
+      map_ext_down image w v x.0 j a x.1 (omega arith)
 
   next_page : (w : List (Role × ℕ)) → IsWalk image w → Lists is_page Page w → (k a i : ℕ) → IsDue image w (Page k) a i → k ≡ length (pages_in w)
   next_page w v ih k a i d =

@@ -354,10 +354,13 @@ asked_header image w whole n p s j a i ask =
     ]
 
 -- a page is asked for where the extension blocks up to it are there
-pub page_word : (image : List ℕ) (w : List (Role × ℕ)) (k : ℕ) → k < pages_needed (blocks image) → ((j : ℕ) → ROOT_PAGES + MAP_EXT_PAGES * j ≤ k → (a : ℕ) × Has w (MapExt j) a)
+pub page_word : (image : List ℕ) (w : List (Role × ℕ)) (k : ℕ) → k < pages_needed (blocks image)
+    → ((j : ℕ) → ROOT_PAGES + MAP_EXT_PAGES * j ≤ k → (a : ℕ) × Has w (MapExt j) a)
     → (a i : ℕ) × Asks image w (Page k) a i
 page_word image w k lt have =
     elim (dec_lt k ROOT_PAGES) [
       | yes l ↦ (root_of image, FIRST_PAGE + k, (lt, inl (l, refl, refl)))
-      | no l ↦ let m = have ((k - ROOT_PAGES) / MAP_EXT_PAGES) (omega arith) in (m.0, (k - ROOT_PAGES) % MAP_EXT_PAGES, (lt, inr ((k - ROOT_PAGES) / MAP_EXT_PAGES, m.1, omega arith, omega arith)))
+      | no l ↦
+          let m = have ((k - ROOT_PAGES) / MAP_EXT_PAGES) (omega arith) in
+          (m.0, (k - ROOT_PAGES) % MAP_EXT_PAGES, (lt, inr ((k - ROOT_PAGES) / MAP_EXT_PAGES, m.1, omega arith, omega arith)))
     ]

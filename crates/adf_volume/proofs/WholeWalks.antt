@@ -47,7 +47,9 @@ head_kind : (image : List ℕ) (b c s : ℕ) → AllHold (head_demands image (ki
     → word_in image b SECONDARY_TYPE ≡ ST_FILE
 head_kind image b c s h z =
     elim (head_type image (kind_of image) b c s h) [
-      | inl d ↦ let e : (word_in image b SECONDARY_TYPE == ST_DIR) ≡ true = eq-eqb (word_in image b SECONDARY_TYPE) ST_DIR d in absurd (let x : true ≡ false = sym e ∙ z in cc)
+      | inl d ↦
+          let e : (word_in image b SECONDARY_TYPE == ST_DIR) ≡ true = eq-eqb (word_in image b SECONDARY_TYPE) ST_DIR d in
+          absurd (let x : true ≡ false = sym e ∙ z in cc)
       | inr f ↦ f
     ]
 
@@ -165,7 +167,8 @@ module _ (image : List ℕ) (w : List (Role × ℕ)) (v : IsWalk image w) (whole
   root_names k b a i lt (inl x) e = ap (λ a. word_in image a (FIRST_PAGE + k)) (sym x.1) ∙ ap (word_in image a) (sym x.2) ∙ e
   root_names k b a i lt (inr x) e = let z : k ≡ ROOT_PAGES + MAP_EXT_PAGES * x.0 + i = x.3 in absurd (omega arith)
 
-  pub ext_names : (j i c b a m : ℕ) → i < MAP_EXT_PAGES → At (map_exts_in w) j c → NamesPage image w (ROOT_PAGES + MAP_EXT_PAGES * j + i) a m → word_in image a m ≡ b
+  pub ext_names : (j i c b a m : ℕ) → i < MAP_EXT_PAGES → At (map_exts_in w) j c → NamesPage image w (ROOT_PAGES + MAP_EXT_PAGES * j + i) a m
+      → word_in image a m ≡ b
       → word_in image c i ≡ b
   ext_names j i c b a m lt h (inl x) e = let y : ROOT_PAGES + MAP_EXT_PAGES * j + i < ROOT_PAGES = x.0 in absurd (omega arith)
   ext_names j i c b a m lt h (inr x) e =
@@ -182,7 +185,8 @@ module _ (image : List ℕ) (w : List (Role × ℕ)) (v : IsWalk image w) (whole
       let x = has_entry image w w v i d.0 d.1 in
       let b : ℕ = x.3 in
       let z : body_in image w (suc i) b ≡ Dir = ap (λ (y : Entry). y.body) (sym x.5) ∙ d.2 in
-      let y : word_in image b SECONDARY_TYPE ≡ ST_DIR = eqb-true (word_in image b SECONDARY_TYPE) ST_DIR (body_dir image w (suc i) b (word_in image b SECONDARY_TYPE == ST_DIR) z) in
+      let y : word_in image b SECONDARY_TYPE ≡ ST_DIR =
+      eqb-true (word_in image b SECONDARY_TYPE) ST_DIR (body_dir image w (suc i) b (word_in image b SECONDARY_TYPE == ST_DIR) z) in
       let e : b ≡ at_node image (layout_in w) (suc i) = sym (head_is (suc i) x.0 x.1 x.2 b x.4).0 in
       subst (DirAt image w (suc i)) e ((x.0, x.1, x.2, x.4), y)
 
@@ -310,7 +314,8 @@ module _ (image : List ℕ) (w : List (Role × ℕ)) (v : IsWalk image w) (whole
   table_is n h zero a c f x y = sym x ∙ (file_parts n c y).0
   table_is n h (suc m) a c f x y = at_fun (exts_in w n) m a c (subst (λ xs. At xs m a) (file_parts n h f).1 x) (ext_has image v n m c y)
 
-  data_named : (n h k b a : ℕ) → FileAt image w n h → At (datas_in w n) k b → TableAt image (layout_in w) n (k / POINTERS) a → word_in image a (table_word k) ≡ b
+  data_named : (n h k b a : ℕ) → FileAt image w n h → At (datas_in w n) k b → TableAt image (layout_in w) n (k / POINTERS) a
+      → word_in image a (table_word k) ≡ b
   data_named n h k b a f x y =
       let z = (kept image v (Data n (suc k)) b (has_data image w v n k b x)).4 in
       ap (λ a. word_in image a (table_word k)) (table_is n h (k / POINTERS) a z.0 f y z.1) ∙ z.2

@@ -6,8 +6,8 @@ use Rattle.adf_tree.specs.declared.entry.Kind.{Kind}
 use Rattle.adf_tree.specs.declared.entry.Kind.TheVariants.{Ofs, Ffs}
 use Rattle.adf_tree.specs.declared.entry.Meta.{Meta}
 use Rattle.adf_tree.specs.declared.entry.Stamps.{Stamps}
-use Rattle.adf_blocks.specs.declared.layout.TheConstants.{COMMENT, DATA_BYTES, DATE, FIRST_POINTER, MAP_EXT_PAGES, NAME, POINTERS, PROTECTION, ROOT_PAGES}
-use Rattle.adf_blocks.specs.declared.layout.TheConstants.{SIZE, ST_DIR, ST_FILE}
+use Rattle.adf_blocks.specs.declared.layout.TheConstants.{COMMENT, DATA_BYTES, DATA_ROOM, DATE, FIRST_POINTER, MAP_EXT_PAGES, NAME, POINTERS, PROTECTION}
+use Rattle.adf_blocks.specs.declared.layout.TheConstants.{ROOT_PAGES, SIZE, ST_DIR, ST_FILE}
 use Rattle.adf_blocks.specs.Forms.{text_at, stamp_at}
 use Rattle.adf_blocks.specs.PageBlock.{IsFreeBit}
 use Rattle.adf_blocks.specs.RootBlock.{stamps_at}

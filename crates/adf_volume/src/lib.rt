@@ -6,8 +6,8 @@ mod owner;
 mod samples;
 
 pub use crate::laws::{
-    agreement, chains_of_numbers, completeness, none_fits, one_fault, one_tree, pieces_are_content,
-    demanded_form, layout_of_walk_fits,
+    agreement, chains_of_numbers, completeness, demanded_form, layout_of_walk_fits, none_fits,
+    one_fault, one_tree, pieces_are_content,
 };
 pub use crate::owner::Owner;
 pub use crate::samples::{file_volume_fits, freed_page_fits_nothing, tiny_volume_fits};

@@ -22,8 +22,10 @@ loop-j-preserved c =
     let few : j < count = search rules in
     let pages : c.page_count-pages.result ≡ pages_needed n = c.page_count-pages.ensures.exact in
     let at : n / 2 + 1 + c.page_count-pages.result + j ≡ middle n + 1 + pages_needed n + j = omega arith in
-    let len : c.min-len.result ≡ min MAP_EXT_PAGES (pages_needed n - (ROOT_PAGES + MAP_EXT_PAGES * j)) = omega (arith, c.min-len.ensures, c.saturating_sub.ensures) in
-    let named : take c.min-len.result c.row_of-table.result ≡ listed_pages n j = c.row_of-table.ensures ∙ ap (range_with_len (n / 2 + 1 + (ROOT_PAGES + MAP_EXT_PAGES * j))) len in
+    let len : c.min-len.result ≡ min MAP_EXT_PAGES (pages_needed n - (ROOT_PAGES + MAP_EXT_PAGES * j)) =
+    omega (arith, c.min-len.ensures, c.saturating_sub.ensures) in
+    let named : take c.min-len.result c.row_of-table.result ≡ listed_pages n j =
+    c.row_of-table.ensures ∙ ap (range_with_len (n / 2 + 1 + (ROOT_PAGES + MAP_EXT_PAGES * j))) len in
     let next : c.map_ext_or_none-next.result ≡ map_ext_or_none n (suc j) (count - (j + 1)) =
     c.map_ext_or_none-next.ensures ∙ ap (λ k. map_ext_or_none n k (count - (j + 1))) (add-one j) in
     map_exts_step c.write_map_ext.new.image c.loop-j.image _ _ n j (n / 2 + 1 + c.page_count-pages.result + j) count at few

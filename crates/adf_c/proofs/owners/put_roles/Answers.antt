@@ -1,6 +1,6 @@
 use Rattle.std.proofs.Common.{◌∙◌, arith}
 use Rattle.adf_c.specs.Roles.{IsRole}
-use Rattle.adf_c.proofs.Puts.{put_more, put_keeps}
+use Rattle.adf_c.proofs.Rooms.{put_more, put_keeps}
 use Rattle.adf_c.proofs.owners.put_roles.Goals as goal
 
 pub loop-b-preserved : goal.loop-b-preserved

@@ -1,4 +1,4 @@
-use Rattle.adf_c.proofs.Told.{role_told}
+use Rattle.adf_c.proofs.CheckedVolumes.{role_told}
 use Rattle.adf_c.proofs.owners.role_of.Goals as goal
 
 pub returns : goal.returns

@@ -3,7 +3,6 @@ use Rattle.adf_fields.specs.Words.{word}
 use Rattle.adf_volume.specs.Image.{DIR, word_in}
 use Rattle.adf_volume.specs.Layout.{at_node, chain_nodes}
 use Rattle.adf_volume.specs.Lists.{Spelled}
-use Rattle.adf_check.specs.Found.{store_of}
 use Rattle.adf_check.proofs.Following.{directory_chain, file_chain}
 use Rattle.adf_check.proofs.HeaderBodies.{dir_type, file_words}
 use Rattle.adf_check.proofs.lookup.first_of.Goals as goal
@@ -14,13 +13,11 @@ returns-in-File c = λ t l k.
     let image = c.args.image.now in
     let up : c.block_of-up.result ≡ at_node image l c.args.parent = c.block_of-up.ensures.block t l k in
     let told = file_words image c.block_of-up.result c.in-File.size c.in-File.ext c.body.result c.body.ensures.body c.in-File.is in
-    file_chain image (store_of c.args.found.now) t l k c.args.parent c.args.slot (λ z. c.if-parent-ne0.true (c.parent.view_is ∙ z))
-    (subst (λ b. word_in image b 127 ≢ DIR) up told.0)
+    file_chain k c.args.parent c.args.slot (λ z. c.if-parent-ne0.true (c.parent.view_is ∙ z)) (subst (λ b. word_in image b 127 ≢ DIR) up told.0)
 
 pub returns-in_default : goal.returns-in_default
 returns-in_default c = λ t l k.
     let image = c.args.image.now in
-    let store = store_of c.args.found.now in
     let up : c.block_of-up.result ≡ at_node image l c.args.parent = c.block_of-up.ensures.block t l k in
     let type : c.args.parent ≢ 0 → word_in image (at_node image l c.args.parent) 127 ≡ DIR = λ ne. elim c.in_default.branch [
       | in_default-via-in-File+else-parent-ne0 w ↦ absurd (ne (sym c.parent.view_is ∙ w.if-parent-ne0.false))
@@ -29,4 +26,4 @@ returns-in_default c = λ t l k.
     let slot : c.slot.result ≡ word_in image (at_node image l c.args.parent) (6 + c.args.slot) =
     c.slot.ensures ∙ ap (λ b. word b (6 + c.args.slot)) c.directory.ensures ∙ ap (λ b. word_in image b (6 + c.args.slot)) up in
     subst (λ w. Spelled (λ b. word_in image b 124) w (map (at_node image l) (chain_nodes t c.args.parent c.args.slot))) (sym slot)
-    (directory_chain image store t l k c.args.parent c.args.slot c.requires.slot c.requires.node type)
+    (directory_chain k c.args.parent c.args.slot c.requires.slot c.requires.node type)

@@ -21,7 +21,7 @@ part-requires c =
     let many : length (datas_of l n) ≡ c.count_of-count.result =
     c.requires.size t l k ∙ ap (λ kind. count kind c.args.size) (sym c.kind.ensures.kind) ∙ sym c.count_of-count.ensures in
     subst (λ ds. x.datas + c.count_of-count.result ≤ length ds) (sym c.deref.ensures.value)
-    (part_inside store.datas (datas_of l n) x.datas c.count_of-count.result (datas_here image store t l k n x c.requires.node start) many c.if-count-eq0.false)
+    (part_inside store.datas (datas_of l n) x.datas c.count_of-count.result (datas_here k n x c.requires.node start) many c.if-count-eq0.false)
 
 pub returns : goal.returns
 returns c = λ t l k.
@@ -33,4 +33,4 @@ returns c = λ t l k.
     let many : length (datas_of l n) ≡ c.count_of-count.result =
     c.requires.size t l k ∙ ap (λ kind. count kind c.args.size) (sym c.kind.ensures.kind) ∙ sym c.count_of-count.ensures in
     c.part.ensures ∙ ap (λ ds. take c.count_of-count.result (drop x.datas ds)) c.deref.ensures.value
-    ∙ ap (λ m. take m (drop x.datas store.datas)) (sym many) ∙ datas_here image store t l k n x c.requires.node start
+    ∙ ap (λ m. take m (drop x.datas store.datas)) (sym many) ∙ datas_here k n x c.requires.node start

@@ -1,6 +1,6 @@
 use Rattle.std.proofs.Common.{◌≡◌, ◌+◌, ◌<◌, ◌≤◌, length, ap, subst, sym, ◌∙◌, arith, rules, Some}
-use Rattle.adf_tree.specs.Tree.{IsLast, MayAdd, Tree, entry, with_last}
-use Rattle.adf_check.proofs.Rebuilding.{next_entry, some_entry, tree_more, tree_whole}
+use Rattle.adf_tree.specs.Tree.{Tree, entry, with_last}
+use Rattle.adf_check.proofs.Rebuilding.{may_follow, some_entry, tree_more, tree_whole}
 use Rattle.adf_check.proofs.rebuild.tree_of.Goals as goal
 
 pub unwrap-entry-requires : goal.unwrap-entry-requires
@@ -13,22 +13,14 @@ unwrap-entry-requires c =
 pub add_last-requires-clause-may : goal.add_last-requires-clause-may
 add_last-requires-clause-may c =
     let s = c.len-i-end.ensures.stands in
-    let t = s.0 in
-    let lt : c.loop-i.i < length t.entries = subst (λ n. c.loop-i.i < n) (c.len-i-end.ensures.count t s.1 s.2) c.loop-i-test.true in
-    let x = c.unwrap-entry.result in
-    let is : Some x ≡ entry t.entries (c.loop-i.i + 1) = sym c.unwrap-entry.ensures ∙ c.in_ok-entry_of.ensures t s.1 s.2 in
-    let next = next_entry t c.loop-i.i x s.2.fits.tree lt is in
-    subst (λ (u : Tree). MayAdd u.entries x) (sym (c.loop-i.invariant t s.1 s.2)) next.may
+    (may_follow s.2.fits.tree (c.loop-i.invariant s.0 s.1 s.2) (c.len-i-end.ensures.count s.0 s.1 s.2) c.loop-i-test.true
+    (c.in_ok-entry_of.ensures s.0 s.1 s.2) c.unwrap-entry.ensures).0
 
 pub add_last-requires-clause-last : goal.add_last-requires-clause-last
 add_last-requires-clause-last c =
     let s = c.len-i-end.ensures.stands in
-    let t = s.0 in
-    let lt : c.loop-i.i < length t.entries = subst (λ n. c.loop-i.i < n) (c.len-i-end.ensures.count t s.1 s.2) c.loop-i-test.true in
-    let x = c.unwrap-entry.result in
-    let is : Some x ≡ entry t.entries (c.loop-i.i + 1) = sym c.unwrap-entry.ensures ∙ c.in_ok-entry_of.ensures t s.1 s.2 in
-    let next = next_entry t c.loop-i.i x s.2.fits.tree lt is in
-    subst (λ (u : Tree). IsLast u.entries x) (sym (c.loop-i.invariant t s.1 s.2)) next.last
+    (may_follow s.2.fits.tree (c.loop-i.invariant s.0 s.1 s.2) (c.len-i-end.ensures.count s.0 s.1 s.2) c.loop-i-test.true
+    (c.in_ok-entry_of.ensures s.0 s.1 s.2) c.unwrap-entry.ensures).1
 
 pub loop-i-preserved : goal.loop-i-preserved
 loop-i-preserved c = λ t l st.

@@ -1,6 +1,6 @@
 use Rattle.std.proofs.Common.{ap, subst, ◌∙◌, inl, inr, map}
 use Rattle.clap.specs.Words.{App, HasKind, fault_of, is_simple_and_free}
-use Rattle.adf_cmd.proofs.Refused.{among_some, adf_simple}
+use Rattle.adf_cmd.proofs.Refusals.{among_some, adf_simple}
 use Rattle.adf_cmd.specs.CommandLine.{adf_app}
 use Rattle.adf_cmd.proofs.command_line.parse.Goals as goal
 

@@ -1,4 +1,6 @@
-use Rattle.adf_cmd.proofs.Literals.{bare_cat_refused, bare_convert_refused, build_is, build_list_is, cat_any, cat_plain, check_help_refused, check_is, convert_ffs_is, convert_ofs_is, dash_refused, frob_refused, help_refused, help_word, list_is, no_words_refused, none_refused, other_kind_refused, two_paths_refused}
+use Rattle.adf_cmd.proofs.Literals.{bare_cat_refused, bare_convert_refused, build_is, build_list_is, cat_any, cat_plain, check_help_refused, check_is}
+use Rattle.adf_cmd.proofs.Literals.{convert_ffs_is, convert_ofs_is, dash_refused, frob_refused, help_refused, help_word, list_is, no_words_refused}
+use Rattle.adf_cmd.proofs.Literals.{none_refused, other_kind_refused, two_paths_refused}
 use Rattle.adf_cmd.proofs.command_line.words_as_documented.Goals as goal
 
 pub returns : goal.returns

@@ -9,28 +9,15 @@ pub returns-in-Ok-Check-clause-answer : goal.returns-in-Ok-Check-clause-answer
 returns-in-Ok-Check-clause-answer g c = λ taken not_three.
     let words : List (List ℕ) = map (λ (w : Bor (List ℕ)). w.now) c.args.words.now in
     let asks : Asks words check = search rules in
-    let left = g.R.Source.left c.args.input.now in
-    let o = g.W.Sink.held c.args.output.now in
-    let o' = g.W.Sink.held c.check_input.new.output in
-    let e = g.E.Sink.held c.args.errors.now in
-    let e' = g.E.Sink.held c.finish.new.errors in
-    let failed = g.E.Sink.has_failed c.finish.new.errors in
-    let told = c.finish.ensures in
-    left_answers c.check_input.result words check left o o' e e' failed c.finish.result asks told.status not_three c.check_input.ensures.works told.said
+    left_answers c.check_input.result words check _ _ _ _ _ _ c.finish.result asks c.finish.ensures.status not_three c.check_input.ensures.works
+    c.finish.ensures.said
 
 pub returns-in-Ok-List-clause-answer : goal.returns-in-Ok-List-clause-answer
 returns-in-Ok-List-clause-answer g c = λ taken not_three.
     let words : List (List ℕ) = map (λ (w : Bor (List ℕ)). w.now) c.args.words.now in
     let asks : Asks words list = search rules in
-    let left = g.R.Source.left c.args.input.now in
-    let o = g.W.Sink.held c.args.output.now in
-    let o' = g.W.Sink.held c.list_input.new.output in
-    let e = g.E.Sink.held c.args.errors.now in
-    let e' = g.E.Sink.held c.finish-in-Ok-List.new.errors in
-    let failed = g.E.Sink.has_failed c.finish-in-Ok-List.new.errors in
-    let told = c.finish-in-Ok-List.ensures in
-    left_answers c.list_input.result words list left o o' e e' failed c.finish-in-Ok-List.result asks told.status not_three c.list_input.ensures.works
-    told.said
+    left_answers c.list_input.result words list _ _ _ _ _ _ c.finish-in-Ok-List.result asks c.finish-in-Ok-List.ensures.status not_three c.list_input.ensures.works
+    c.finish-in-Ok-List.ensures.said
 
 pub returns-in-Ok-clause-answer : goal.returns-in-Ok-clause-answer
 returns-in-Ok-clause-answer g c = λ taken not_three.
@@ -40,15 +27,8 @@ returns-in-Ok-clause-answer g c = λ taken not_three.
     let reads : List (List ℕ) → Type 0 = λ names. IsPathText path names in
     let text = subst reads (sym c.deref.ensures.value) (subst spells c.as_bytes.ensures.value c.in-Ok.ensures.ok) in
     let asks : Asks words (cat path) = search rules in
-    let left = g.R.Source.left c.args.input.now in
-    let o = g.W.Sink.held c.args.output.now in
-    let o' = g.W.Sink.held c.cat_input.new.output in
-    let e = g.E.Sink.held c.args.errors.now in
-    let e' = g.E.Sink.held c.finish-in-Ok.new.errors in
-    let failed = g.E.Sink.has_failed c.finish-in-Ok.new.errors in
-    let told = c.finish-in-Ok.ensures in
-    left_answers c.cat_input.result words (cat path) left o o' e e' failed c.finish-in-Ok.result asks told.status not_three
-    (c.cat_input.ensures.works path text) told.said
+    left_answers c.cat_input.result words (cat path) _ _ _ _ _ _ c.finish-in-Ok.result asks c.finish-in-Ok.ensures.status not_three
+    (c.cat_input.ensures.works path text) c.finish-in-Ok.ensures.said
 
 pub returns-in-Ok-clause-part : goal.returns-in-Ok-clause-part
 returns-in-Ok-clause-part g c = λ three.
@@ -58,13 +38,8 @@ returns-in-Ok-clause-part g c = λ three.
     let reads : List (List ℕ) → Type 0 = λ names. IsPathText path names in
     let text = subst reads (sym c.deref.ensures.value) (subst spells c.as_bytes.ensures.value c.in-Ok.ensures.ok) in
     let asks : Asks words (cat path) = search rules in
-    let left = g.R.Source.left c.args.input.now in
-    let o = g.W.Sink.held c.args.output.now in
-    let o' = g.W.Sink.held c.cat_input.new.output in
-    let failed = g.R.Source.has_failed c.cat_input.new.input in
-    let w = c.cat_input.result in
-    let works = c.cat_input.ensures in
-    left_part w words (cat path) left o o' failed c.finish-in-Ok.result asks c.finish-in-Ok.ensures.status works.read three (works.works path text)
+    left_part c.cat_input.result words (cat path) _ _ _ _ c.finish-in-Ok.result asks c.finish-in-Ok.ensures.status c.cat_input.ensures.read three
+    (c.cat_input.ensures.works path text)
 
 pub returns-in-Err-BadText-clause-answer : goal.returns-in-Err-BadText-clause-answer
 returns-in-Err-BadText-clause-answer g c = λ taken not_three.
@@ -73,37 +48,18 @@ returns-in-Err-BadText-clause-answer g c = λ taken not_three.
     let asks : Asks words (cat path) = search rules in
     let bad_text : List ℕ → Type 0 = IsBadPath in
     let bad = subst bad_text c.as_bytes.ensures.value (c.in-Err-BadText.ensures.bad_text.0 (cc)) in
-    let left = g.R.Source.left c.args.input.now in
-    let o = g.W.Sink.held c.args.output.now in
-    let e = g.E.Sink.held c.args.errors.now in
-    let e' = g.E.Sink.held c.refuse.new.errors in
-    let failed = g.E.Sink.has_failed c.refuse.new.errors in
-    bad_path_answers words path left o e e' failed c.refuse.result asks bad c.refuse.ensures.status c.refuse.ensures.said
+    bad_path_answers words path _ _ _ _ _ c.refuse.result asks bad c.refuse.ensures.status c.refuse.ensures.said
 
 pub returns-in-Ok-Build-clause-answer : goal.returns-in-Ok-Build-clause-answer
 returns-in-Ok-Build-clause-answer g c = λ taken not_three.
     let words : List (List ℕ) = map (λ (w : Bor (List ℕ)). w.now) c.args.words.now in
     let asks : Asks words (build c.in-Ok-Build.list) = search rules in
-    let left = g.R.Source.left c.args.input.now in
-    let o = g.W.Sink.held c.args.output.now in
-    let o' = g.W.Sink.held c.build_input.new.output in
-    let e = g.E.Sink.held c.args.errors.now in
-    let e' = g.E.Sink.held c.finish-in-Ok-Build.new.errors in
-    let failed = g.E.Sink.has_failed c.finish-in-Ok-Build.new.errors in
-    let told = c.finish-in-Ok-Build.ensures in
-    left_answers c.build_input.result words (build c.in-Ok-Build.list) left o o' e e' failed c.finish-in-Ok-Build.result asks told.status not_three
-    c.build_input.ensures.works told.said
+    left_answers c.build_input.result words (build c.in-Ok-Build.list) _ _ _ _ _ _ c.finish-in-Ok-Build.result asks c.finish-in-Ok-Build.ensures.status not_three c.build_input.ensures.works
+    c.finish-in-Ok-Build.ensures.said
 
 pub returns-in-Ok-Convert-clause-answer : goal.returns-in-Ok-Convert-clause-answer
 returns-in-Ok-Convert-clause-answer g c = λ taken not_three.
     let words : List (List ℕ) = map (λ (w : Bor (List ℕ)). w.now) c.args.words.now in
     let asks : Asks words (convert c.in-Ok-Convert.kind) = search rules in
-    let left = g.R.Source.left c.args.input.now in
-    let o = g.W.Sink.held c.args.output.now in
-    let o' = g.W.Sink.held c.convert_input.new.output in
-    let e = g.E.Sink.held c.args.errors.now in
-    let e' = g.E.Sink.held c.finish-in-Ok-Convert.new.errors in
-    let failed = g.E.Sink.has_failed c.finish-in-Ok-Convert.new.errors in
-    let told = c.finish-in-Ok-Convert.ensures in
-    left_answers c.convert_input.result words (convert c.in-Ok-Convert.kind) left o o' e e' failed c.finish-in-Ok-Convert.result asks told.status not_three
-    c.convert_input.ensures.works told.said
+    left_answers c.convert_input.result words (convert c.in-Ok-Convert.kind) _ _ _ _ _ _ c.finish-in-Ok-Convert.result asks c.finish-in-Ok-Convert.ensures.status not_three c.convert_input.ensures.works
+    c.finish-in-Ok-Convert.ensures.said

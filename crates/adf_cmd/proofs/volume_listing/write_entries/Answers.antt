@@ -1,4 +1,4 @@
-use Rattle.std.proofs.Common.{◌≡◌, ◌++◌, ◌+◌, ◌≤◌, ◌<◌, ◌∙◌, ℕ, List, [], ap, arith, append-nil, length, refl, rules, subst, sym}
+use Rattle.std.proofs.Common.{◌≡◌, ◌++◌, ◌+◌, ℕ, List, arith, length, refl, rules, subst}
 use Rattle.std.specs.Io.KnownBytes.{Appends}
 use Rattle.adf_texts.specs.VolumeLines.{lines_of_entries, lines_of_entry}
 use Rattle.adf_cmd.specs.Streams.{AppendsPart}

@@ -1,4 +1,4 @@
-use Rattle.std.proofs.Common.{◌≡◌, ◌++◌, ◌∙◌, ℕ, List, OnErr, OnOk, ap, length, subst}
+use Rattle.std.proofs.Common.{◌++◌, ◌∙◌, ℕ, List, OnErr, OnOk, ap, length, subst}
 use Rattle.std.specs.Io.KnownBytes.{Appends}
 use Rattle.adf_blocks.specs.Sizes.{blocks}
 use Rattle.adf_texts.specs.VolumeLines.{lines_of_entries, opening_lines}

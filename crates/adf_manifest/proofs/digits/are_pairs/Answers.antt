@@ -1,14 +1,9 @@
-use Rattle.std.proofs.Common.{◌≡◌, ◌==◌, true, false, ◌<◌, ◌++◌, ◌∷◌, [], ◌∙◌, ℕ, List, refl, sym, ap, arith, length}
+use Rattle.std.proofs.Common.{◌≡◌, ◌==◌, true, false, ◌<◌, ◌++◌, ◌∷◌, [], ◌∙◌, sym, ap, arith, length}
 use Rattle.std.proofs.lemmas.Bool.Decides.{nat_tests}
-use Rattle.std.proofs.lemmas.List.{append-nil}
 use Rattle.std.proofs.lemmas.List.Elements.{All-push}
 use Rattle.adf_manifest.specs.Texts.{pairs}
 use Rattle.adf_manifest.proofs.DigitLaws.{all_pairs, none_left, pairs_left, pairs_more}
 use Rattle.adf_manifest.proofs.digits.are_pairs.Goals as goal
-
-nothing : (xs : List ℕ) → length xs ≡ 0 → xs ≡ []
-nothing [] h = refl
-nothing (x ∷ xs) h = absurd (omega arith)
 
 pub loop-rest-preserved : goal.loop-rest-preserved
 loop-rest-preserved c =
@@ -39,10 +34,10 @@ pub returns-clause-yes : goal.returns-clause-yes
 returns-clause-yes c =
     let inv = c.loop-rest.invariant.read in
     let empty : length c.loop-rest.rest.now ≡ 0 = grind (arith, nat_tests) in
-    (all_pairs c.args.text.now inv.0 inv.1 (inv.2 ∙ ap (λ r. pairs inv.0 ++ r) (nothing c.loop-rest.rest.now empty) ∙ append-nil (pairs inv.0))).0
+    (all_pairs c.args.text.now inv.0 c.loop-rest.rest.now inv.1 inv.2 empty).0
 
 pub returns-clause-bytes : goal.returns-clause-bytes
 returns-clause-bytes c =
     let inv = c.loop-rest.invariant.read in
     let empty : length c.loop-rest.rest.now ≡ 0 = grind (arith, nat_tests) in
-    (all_pairs c.args.text.now inv.0 inv.1 (inv.2 ∙ ap (λ r. pairs inv.0 ++ r) (nothing c.loop-rest.rest.now empty) ∙ append-nil (pairs inv.0))).1
+    (all_pairs c.args.text.now inv.0 c.loop-rest.rest.now inv.1 inv.2 empty).1

@@ -15,20 +15,18 @@ pub returns-in_err-stamp-2-clause-none : goal.returns-in_err-stamp-2-clause-none
 returns-in_err-stamp-2-clause-none c =
     let cut = c.in_ok-stamp.ensures.some in
     if_none c.from_residual-in_err-stamp-2.result (λ s p path hs hp hf e.
-    c.in_err-stamp-2.ensures.none s hs (fields_parts c.args.text.now c.in_ok-stamp.stamp.now c.in_ok-stamp.protect.now c.in_ok-stamp.path.now s p path cut.1
-    cut.2 cut.0 hs e).0)
+    c.in_err-stamp-2.ensures.none s hs (fields_parts _ _ _ _ s p path cut.1 cut.2 cut.0 hs e).0)
 
 pub returns-in_err-protect-clause-none : goal.returns-in_err-protect-clause-none
 returns-in_err-protect-clause-none c =
     let cut = c.in_ok-stamp.ensures.some in
     if_none c.from_residual-in_err-protect.result (λ s p path hs hp hf e.
-    c.in_err-protect.ensures.none p hp (fields_parts c.args.text.now c.in_ok-stamp.stamp.now c.in_ok-stamp.protect.now c.in_ok-stamp.path.now s p path cut.1
-    cut.2 cut.0 hs e).1)
+    c.in_err-protect.ensures.none p hp (fields_parts _ _ _ _ s p path cut.1 cut.2 cut.0 hs e).1)
 
 pub returns-then-is_empty-clause-none : goal.returns-then-is_empty-clause-none
 returns-then-is_empty-clause-none c =
     let cut = c.in_ok-stamp.ensures.some in
     let empty : length c.in_ok-stamp.path.now ≡ 0 = grind (arith, nat_tests) in
     λ s p path hs hp hf e.
-    let same = (fields_parts c.args.text.now c.in_ok-stamp.stamp.now c.in_ok-stamp.protect.now c.in_ok-stamp.path.now s p path cut.1 cut.2 cut.0 hs e).2 in
+    let same = (fields_parts _ _ _ _ s p path cut.1 cut.2 cut.0 hs e).2 in
     omega (arith, ap length same, hf, empty)

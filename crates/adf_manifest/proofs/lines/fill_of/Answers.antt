@@ -16,15 +16,13 @@ pub returns-in_err-count-2-clause-none : goal.returns-in_err-count-2-clause-none
 returns-in_err-count-2-clause-none c =
     let cut = c.in_ok-count.ensures.some in
     if_none c.from_residual-in_err-count-2.result (λ count byte h e.
-    c.in_err-count-2.ensures.none count (omega (arith, h.1)) (fill_parts c.args.line.now c.in_ok-text.text.now c.in_ok-count.count.now
-    c.in_ok-count.byte.now count byte c.in_ok-text.ensures.some cut.0 cut.1 h.1 e).0)
+    c.in_err-count-2.ensures.none count (omega (arith, h.1)) (fill_parts _ _ _ _ count byte c.in_ok-text.ensures.some cut.0 cut.1 h.1 e).0)
 
 pub returns-in_err-byte-clause-none : goal.returns-in_err-byte-clause-none
 returns-in_err-byte-clause-none c =
     let cut = c.in_ok-count.ensures.some in
     if_none c.from_residual-in_err-byte.result (λ count byte h e.
-    c.in_err-byte.ensures.none byte h.2 (fill_parts c.args.line.now c.in_ok-text.text.now c.in_ok-count.count.now c.in_ok-count.byte.now count byte
-    c.in_ok-text.ensures.some cut.0 cut.1 h.1 e).1)
+    c.in_err-byte.ensures.none byte h.2 (fill_parts _ _ _ _ count byte c.in_ok-text.ensures.some cut.0 cut.1 h.1 e).1)
 
 pub returns-else-count-gt0-clause-none : goal.returns-else-count-gt0-clause-none
 returns-else-count-gt0-clause-none c = λ count byte h e.

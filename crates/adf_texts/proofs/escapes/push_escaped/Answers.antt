@@ -3,17 +3,15 @@ use Rattle.std.specs.List.{list_all}
 use Rattle.std.proofs.lemmas.Bool.{and_parts}
 use Rattle.adf_tree.specs.Escapes.{escape_of, escaped, is_plain}
 use Rattle.adf_texts.proofs.Appends.{appended_as, appends_if}
+use Rattle.adf_tree.proofs.Spellings.{spelled_plain}
 use Rattle.adf_texts.proofs.escapes.push_escaped.Goals as goal
-
-plain_byte : (c : ℕ) → is_plain c ≡ true → escape_of c ≡ c ∷ []
-plain_byte c h = rw h refl
 
 -- bytes that stand for themselves are their escape form
 plain_escaped : (bytes : List ℕ) → list_all is_plain bytes ≡ true → escaped bytes ≡ bytes
 plain_escaped [] h = refl
 plain_escaped (c ∷ cs) h =
     let parts = and_parts (is_plain c) (list_all is_plain cs) h in
-    ap (λ t. t ++ escaped cs) (plain_byte c parts.0) ∙ ap (λ t. c ∷ t) (plain_escaped cs parts.1)
+    ap (λ t. t ++ escaped cs) (spelled_plain c parts.0) ∙ ap (λ t. c ∷ t) (plain_escaped cs parts.1)
 
 pub returns-then-are_plain : goal.returns-then-are_plain
 returns-then-are_plain c =

@@ -7,7 +7,7 @@ use Rattle.adf_check.proofs.checked.Checked.counts.Goals as goal
 pub count_dirs-dirs-requires : goal.count_dirs-dirs-requires
 count_dirs-dirs-requires c =
     let image = c.self.inside.image in
-    rw c.deref.ensures.value (rows_inside image (store_of c.self.inside.found) c.blocks-blocks.ensures.begun c.self.invariant.tells)
+    rw c.deref.ensures.value (rows_inside image (store_of c.self.inside.found) c.self.invariant.tells)
 
 pub returns : goal.returns
 returns c = λ t l st.
