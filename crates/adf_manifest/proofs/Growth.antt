@@ -3,7 +3,7 @@ use Rattle.std.proofs.Common.{◌≡◌, ◌++◌, ◌∙◌, ℕ, List, [], ◌
 use Rattle.std.specs.Prelude.{IsOk}
 use Rattle.std.specs.List.{All, flat_map}
 use Rattle.std.proofs.lemmas.List.{append_assoc, append-nil, map-append}
-use Rattle.std.proofs.lemmas.List.Elements.{All-push, All-pop}
+use Rattle.std.proofs.lemmas.List.Elements.{All-push}
 use Rattle.std.proofs.lemmas.Grind.{flat_map-append}
 use Rattle.adf_tree.specs.Escapes.{escaped}
 use Rattle.adf_tree.specs.PathTexts.{path_text}
@@ -14,6 +14,7 @@ use Rattle.adf_manifest.specs.Items.{HaveRoom, IsGivenNote, IsItem, Item, file_b
 use Rattle.adf_manifest.specs.Manifest.{Entries, IsWell, Manifest, head_lines, head_tree, items_of, manifest_lines, manifest_tree}
 use Rattle.adf_manifest.specs.declared.lines.Sort.{Sort}
 use Rattle.adf_manifest.specs.declared.lines.Sort.TheVariants.{Dir, File}
+use Rattle.adf_tree.proofs.Lists.{last_off}
 
 -- the tree with one entry more, the last
 pub tree_more : (t : Tree) (items : List Item) (i : Item) → items_tree t (items ++ i ∷ []) ≡ with_item (items_tree t items) i
@@ -87,10 +88,6 @@ pub last_lines : (m : Manifest) (e : Entries) (i : Item) (text : List ℕ) → m
 last_lines m e i text is g =
     last_split (head_lines m.head) [] e.before e.last i text g
     ∙ ap (λ x. (head_lines m.head ++ flat_map item_lines (items_of x)) ++ text ∷ []) (sym is)
-
--- what holds of each element holds of those before the last, and of the last
-pub last_off : {X : Type 0} → (P : X → Type 0) (xs : List X) (x : X) → All P (xs ++ x ∷ []) → All P xs × P x
-last_off P xs x h = All-pop P (xs ++ x ∷ []) xs (Some x) refl h
 
 -- the entries before the last, and the last
 pub well_before : (m : Manifest) (e : Entries) → IsWell m → m.entries ≡ Some e

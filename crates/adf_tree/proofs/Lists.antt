@@ -1,10 +1,10 @@
 -- What filters and maps leave of lists.
 use Rattle.std.proofs.Common.{◌≡◌, List, [], ◌∷◌, map, true, false, Bool, arith, ◌&&◌, inl, inr, sym, refl, ◌∙◌, ap, Some, None, take, drop, ◌+◌, ◌-◌, nat_lt}
-use Rattle.std.proofs.Common.{ℕ, length, ◌<◌}
+use Rattle.std.proofs.Common.{ℕ, length, ◌<◌, ◌++◌}
 use Rattle.std.specs.List.{All, Contains, filter, position_or_len, slice_split}
 use Rattle.std.proofs.Math.Bool.{and_comm}
 use Rattle.std.proofs.lemmas.Bool.{cases_Bool, ltb-false}
-use Rattle.std.proofs.lemmas.List.Elements.{All-head, All-tail, Contains-append_cases, Contains-append_right, Contains-push_cases, filter_agree}
+use Rattle.std.proofs.lemmas.List.Elements.{All-head, All-tail, Contains-append_cases, Contains-append_right, Contains-push_cases, filter_agree, All-pop}
 use Rattle.std.specs.Prelude.{position}
 use Rattle.std.proofs.lemmas.List.{take_rest}
 use Rattle.std.proofs.lemmas.List.Quantifiers.{position-Some}
@@ -51,6 +51,10 @@ contains_filter q (y ∷ ys) x h passes =
 pub map_agree : {X Y : Type 0} (f g : X → Y) (xs : List X) → All (λ x. f x ≡ g x) xs → map f xs ≡ map g xs
 map_agree f g [] h = refl
 map_agree f g (x ∷ xs) h = rw (All-head (λ y. f y ≡ g y) x xs h) (ap (λ ys. g x ∷ ys) (map_agree f g xs (All-tail (λ y. f y ≡ g y) x xs h)))
+
+-- what holds of each element holds of those before the last, and of the last
+pub last_off : {X : Type 0} → (P : X → Type 0) (xs : List X) (x : X) → All P (xs ++ x ∷ []) → All P xs × P x
+last_off P xs x h = All-pop P (xs ++ x ∷ []) xs (Some x) refl h
 
 position_is : {X : Type 0} → (p : X → Bool) (xs : List X) (i : ℕ) (d : X) → Some i ≡ position p xs → position_or_len p xs ≡ i
 position_is p xs i d h =

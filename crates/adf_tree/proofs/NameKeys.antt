@@ -1,5 +1,5 @@
 -- The keys of names.
-use Rattle.std.proofs.Common.{◌≡◌, ◌==◌, ◌||◌, cond, subst, inl, inr, ℕ, ◌+◌, ◌-◌, ◌<◌, ◌≤◌, List, [], ◌∷◌, ◌++◌, length, take, drop, get_or, set, Bool, true, false, arith, nat_lt, nat_le, ◌&&◌, sym, refl, zero, suc, ◌∙◌, ap, length-append}
+use Rattle.std.proofs.Common.{◌≡◌, ◌==◌, ◌||◌, subst, inl, inr, ℕ, ◌+◌, ◌-◌, ◌<◌, ◌≤◌, List, [], ◌∷◌, ◌++◌, length, take, drop, get_or, set, Bool, true, false, arith, nat_lt, nat_le, ◌&&◌, sym, refl, zero, suc, ◌∙◌, ap, length-append}
 use Rattle.std.specs.Prelude.{replicate}
 use Rattle.std.specs.Int.{to_be_bytes, w64}
 use Rattle.std.specs.List.{list_all}
@@ -7,7 +7,6 @@ use Rattle.std.specs.Ordering.{is_eq, nat_cmp, ordering_then}
 use Rattle.std.specs.declared.cmp.Ordering.{Ordering}
 use Rattle.std.specs.declared.cmp.Ordering.TheVariants.{Less, Equal, Greater}
 use Rattle.std.specs.Str.{bytes_eq}
-use Rattle.std.specs.BTreeSet.{contains, Updates}
 use Rattle.std.proofs.lemmas.Bool.{cases_Bool, both_ways, and_parts, eq-eqb, eqb-true}
 use Rattle.std.proofs.lemmas.Nat.{be_bytes_8}
 use Rattle.std.proofs.lemmas.Slice.Eq.{bytes_eq-Decides}
@@ -18,7 +17,7 @@ use Rattle.adf_fields.specs.Hash.{upper_of}
 use Rattle.adf_tree.specs.Texts.{uppers}
 use Rattle.adf_tree.specs.declared.name_key.NameKey.{NameKey}
 use Rattle.adf_tree.specs.NameKeys.{by_words, is_short, key_of, padded, word_in}
-use Rattle.adf_tree.specs.NameSet.{has, Names}
+use Rattle.adf_tree.specs.NameSet.{has, is_among, IsWith, Names}
 
 upper_small : (c : ℕ) → c < 256 → nat_lt (upper_of c) 256 ≡ true
 upper_small c h = grind (arith, nat_tests)
@@ -150,7 +149,7 @@ then_is Greater p = refl
 pub same_number : (a b : ℕ) → is_eq (nat_cmp a b) ≡ (a == b)
 same_number a b = grind (arith, nat_tests)
 
-same_words : (a b : NameKey) → is_eq (by_words a b) ≡ ((a.first == b.first) && ((a.second == b.second) && ((a.third == b.third) && (a.fourth == b.fourth))))
+pub same_words : (a b : NameKey) → is_eq (by_words a b) ≡ ((a.first == b.first) && ((a.second == b.second) && ((a.third == b.third) && (a.fourth == b.fourth))))
 same_words a b =
     let last : is_eq (ordering_then (nat_cmp a.third b.third) (nat_cmp a.fourth b.fourth)) ≡ ((a.third == b.third) && (a.fourth == b.fourth)) =
     then_is (nat_cmp a.third b.third) (nat_cmp a.fourth b.fourth)
@@ -168,7 +167,7 @@ same_words a b =
 all_same : (a b c d : Bool) → a ≡ true → b ≡ true → c ≡ true → d ≡ true → (a && (b && (c && d))) ≡ true
 all_same a b c d h i j k = cc
 
-same_itself : (a : NameKey) → is_eq (by_words a a) ≡ true
+pub same_itself : (a : NameKey) → is_eq (by_words a a) ≡ true
 same_itself a =
     same_words a a
     ∙ all_same (a.first == a.first) (a.second == a.second) (a.third == a.third) (a.fourth == a.fourth) (eq-eqb a.first a.first refl)
@@ -207,10 +206,6 @@ not_short x y sx ny =
       | inr f ↦ f
     ]
 
-cond_or : (a b : Bool) → cond a true b ≡ (a || b)
-cond_or true b = refl
-cond_or false b = refl
-
 or_false : (a : Bool) (b : Bool) → a ≡ false → b ≡ false → (a || b) ≡ false
 or_false a b h g = cc
 
@@ -220,19 +215,45 @@ and_no a b h = cc
 and_yes : (a b : Bool) → a ≡ true → (a && b) ≡ b
 and_yes a b h = cc
 
--- a set with one name more
-pub has_more : (old new : Names) (bytes x : List ℕ) → is_short bytes ≡ true → Updates by_words old new (key_of bytes) true
-    → has new x ≡ (bytes_eq bytes x || has old x)
+-- a name in a set
+pub has_key : (names : Names) (bytes : List ℕ) → is_short bytes ≡ true → has names bytes ≡ is_among names (key_of bytes)
 unfolding has
-has_more old new bytes x short up =
+has_key names bytes short = and_yes (is_short bytes) (is_among names (key_of bytes)) short
+
+-- a set with one name more
+pub has_more : (old new : Names) (bytes x : List ℕ) → is_short bytes ≡ true → IsWith old new (key_of bytes) → has new x ≡ (bytes_eq bytes x || has old x)
+unfolding has
+has_more old new bytes x short more =
     elim (cases_Bool (is_short x)) [
       | inl t ↦
-          and_yes (is_short x) (contains by_words new (key_of x)) t
-          ∙ (up.0 (key_of x)
-          ∙ (cond_or (is_eq (by_words (key_of bytes) (key_of x))) (contains by_words old (key_of x))
-          ∙ (ap (λ b. b || contains by_words old (key_of x)) (same_names bytes x short t)
-          ∙ ap (λ b. bytes_eq bytes x || b) (sym (and_yes (is_short x) (contains by_words old (key_of x)) t)))))
+          and_yes (is_short x) (is_among new (key_of x)) t
+          ∙ (more (key_of x)
+          ∙ (ap (λ b. b || is_among old (key_of x)) (same_names bytes x short t)
+          ∙ ap (λ b. bytes_eq bytes x || b) (sym (and_yes (is_short x) (is_among old (key_of x)) t))))
       | inr f ↦
-          and_no (is_short x) (contains by_words new (key_of x)) f
-          ∙ sym (or_false (bytes_eq bytes x) (has old x) (not_short bytes x short f) (and_no (is_short x) (contains by_words old (key_of x)) f))
+          and_no (is_short x) (is_among new (key_of x)) f
+          ∙ sym (or_false (bytes_eq bytes x) (has old x) (not_short bytes x short f) (and_no (is_short x) (is_among old (key_of x)) f))
+    ]
+
+-- equal keys are one
+same_fields : (a b : NameKey) → a.first ≡ b.first → a.second ≡ b.second → a.third ≡ b.third → a.fourth ≡ b.fourth → a ≡ b
+same_fields a b p q r s =
+    ap (λ (x : ℕ). record { first = x; second = a.second; third = a.third; fourth = a.fourth }) p
+    ∙ (ap (λ (x : ℕ). record { first = b.first; second = x; third = a.third; fourth = a.fourth }) q
+    ∙ (ap (λ (x : ℕ). record { first = b.first; second = b.second; third = x; fourth = a.fourth }) r
+    ∙ ap (λ (x : ℕ). record { first = b.first; second = b.second; third = b.third; fourth = x }) s))
+
+pub one_key : (a b : NameKey) → is_eq (by_words a b) ≡ true → a ≡ b
+one_key a b h = let w = equal_words a b h in same_fields a b w.0 w.1 w.2 w.3
+
+-- which of two keys comes first does not count
+pub same_either : (a b : NameKey) → is_eq (by_words a b) ≡ is_eq (by_words b a)
+same_either a b =
+    elim (cases_Bool (is_eq (by_words a b))) [
+      | inl t ↦ t ∙ sym (ap (λ x. is_eq (by_words x a)) (sym (one_key a b t)) ∙ same_itself a)
+      | inr f ↦
+          elim (cases_Bool (is_eq (by_words b a))) [
+            | inl t ↦ absurd (both_ways (is_eq (by_words a b)) f (ap (λ x. is_eq (by_words x b)) (sym (one_key b a t)) ∙ same_itself b))
+            | inr g ↦ f ∙ sym g
+          ]
     ]

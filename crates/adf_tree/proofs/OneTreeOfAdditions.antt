@@ -4,7 +4,7 @@ use Rattle.std.proofs.Common.{◌∙◌, ap, subst, zero, suc}
 use Rattle.std.specs.List.{filter, All}
 use Rattle.std.specs.List.Sorted.{IsNonDecreasingBy}
 use Rattle.std.proofs.lemmas.Bool.{cases_Bool}
-use Rattle.std.proofs.lemmas.List.{append_assoc, append_cancel_left, map-append, get_or_append_left, get_or_at, get_or-append-add, length-append}
+use Rattle.std.proofs.lemmas.List.{append_assoc, append_cancel_left, map-append, get_or_append_left, get_or_at, length-append, drop_at}
 use Rattle.std.proofs.lemmas.List.Elements.{filter-append, filter_passes, All-filter}
 use Rattle.adf_tree.specs.declared.entry.Entry.{Entry}
 use Rattle.adf_fields.specs.Hash.{slot_of}
@@ -18,6 +18,7 @@ use Rattle.adf_tree.proofs.ChainOrder.{chain_rank}
 use Rattle.adf_tree.proofs.ChainMembers.{in_chain_from}
 use Rattle.adf_tree.proofs.EntryPaths.{path_found}
 use Rattle.adf_tree.proofs.PathContents.{entry_at, path_past}
+use Rattle.std.proofs.lemmas.List.Sorted.{IsNonDecreasingBy-drop}
 
 -- a path depends on the entries up to its own
 pub path_in_front : (front rest : List Entry) (d : Entry) (f n : ℕ) → IsTree (front ++ rest) → n ≤ length front
@@ -73,11 +74,8 @@ first_in y ys p s c cs up h =
     ]
 
 back_sorted : (front back : List Entry) → IsNonDecreasingBy rank (front ++ back) → IsNonDecreasingBy rank back
-back_sorted front back up a b d ab lt =
-    let long : length (front ++ back) ≡ length front + length back = length-append front back in
-    subst (λ (x : Entry). rank x ≤ rank (get_or back b d)) (get_or-append-add front back a d)
-    (subst (λ (x : Entry). rank (get_or (front ++ back) (length front + a) d) ≤ rank x) (get_or-append-add front back b d)
-    (up (length front + a) (length front + b) d (omega arith) (omega arith)))
+back_sorted front back up =
+    subst (λ xs. IsNonDecreasingBy rank xs) (drop_at front back (length front) refl) (IsNonDecreasingBy-drop rank (length front) (front ++ back) up)
 
 -- the chain of the next entry has the same contents in both trees
 same_chain : (front r other : List Entry) (e : Entry) (a : List Addition) → IsTreeOf (front ++ e ∷ r) a → IsTreeOf (front ++ other) a

@@ -4,7 +4,7 @@ use Rattle.std.proofs.Common.{not}
 use Rattle.std.specs.List.{AllPairs, insert, drop-map}
 use Rattle.std.specs.List.Sorted.{IsNonDecreasingBy}
 use Rattle.std.proofs.lemmas.Bool.{cases_lt, cases_order, ltb-true, ltb-false}
-use Rattle.std.proofs.lemmas.List.{same_lists, get_or-map, length-map, get_or-take, length-take-le, take-map}
+use Rattle.std.proofs.lemmas.List.{get_or-map, length-map, get_or-take, length-take-le, take-map}
 use Rattle.std.proofs.lemmas.List.Edits.{length-insert, get_or-insert_below, get_or-insert_at, get_or-insert_above}
 use Rattle.std.proofs.lemmas.List.Sums.{fails_before_first, passes_at_first, prefix_len-le-length}
 use Rattle.std.proofs.lemmas.List.Sorted.{IsNonDecreasingBy-insert}
@@ -12,6 +12,7 @@ use Rattle.std.proofs.lemmas.Bool.Decides.{nat_tests}
 use Rattle.adf_tree.specs.declared.entry.Entry.{Entry}
 use Rattle.adf_fields.specs.Hash.{slot_of}
 use Rattle.adf_tree.specs.Tree.{place, rank, renumbered, moved, added, IsTree, IsDir, AreApart, MayAdd}
+use Rattle.std.proofs.lemmas.List.Folds.{map_fixed}
 
 -- numbers
 
@@ -85,12 +86,8 @@ fixed es i k d t le lt =
 fixed_front : (es : List Entry) (i : ℕ) → IsTree es → i ≤ length es → map (renumbered (i + 1)) (take i es) ≡ take i es
 fixed_front es i t le =
     let n : length (take i es) ≡ i = length-take-le i es le in
-    let m : length (map (renumbered (i + 1)) (take i es)) ≡ i = length-map (take i es) (renumbered (i + 1)) ∙ n in
-    same_lists (map (renumbered (i + 1)) (take i es)) (take i es) (m ∙ sym n)
-    (λ k d lt.
-    get_or-map (renumbered (i + 1)) (take i es) k d d (omega arith)
-    ∙ (ap (renumbered (i + 1)) (get_or-take i es k d (omega arith))
-    ∙ (fixed es i k d t le (omega arith) ∙ sym (get_or-take i es k d (omega arith)))))
+    map_fixed (renumbered (i + 1)) (take i es)
+    (λ k d lt. subst (λ (x : Entry). renumbered (i + 1) x ≡ x) (sym (get_or-take i es k d (omega arith))) (fixed es i k d t le (omega arith)))
 
 -- so all may be renumbered
 pub added_is : (es : List Entry) (e : Entry) → IsTree es → added es e ≡ insert (map (renumbered (place es (rank e) + 1)) es) (place es (rank e)) e

@@ -1,7 +1,8 @@
 -- Names as numbers.
-use Rattle.std.specs.Prelude.{ℕ, ◌-◌, ◌&&◌, nat_lt, nat_le, Bool, List, ◌∷◌, ◌++◌, length, take, drop, replicate}
+use Rattle.std.specs.Prelude.{ℕ, ◌+◌, ◌*◌, ◌/◌, ◌%◌, ◌^◌, ◌-◌, ◌&&◌, nat_lt, nat_le, Bool, List, ◌∷◌, ◌++◌, length, take, drop, replicate}
 use Rattle.std.specs.List.{list_all}
 use Rattle.std.specs.Int.{from_be_bytes, w64}
+use Rattle.std.specs.Int.Bits.{bit_xor}
 use Rattle.std.specs.Ordering.{nat_cmp, ordering_then}
 use Rattle.std.specs.declared.cmp.Ordering.{Ordering}
 use Rattle.adf_tree.specs.declared.name_key.NameKey.{NameKey}
@@ -30,3 +31,15 @@ key_of bytes = key_in (padded bytes)
 abbrev pub by_words : NameKey → NameKey → Ordering
 by_words a b = ordering_then (nat_cmp a.first b.first) (ordering_then (nat_cmp a.second b.second)
     (ordering_then (nat_cmp a.third b.third) (nat_cmp a.fourth b.fourth)))
+
+-- a number with one word more mixed in
+abbrev pub stirred : ℕ → ℕ → ℕ
+stirred number word = (number * 11400714819323198485 % 2 ^ 64 + word) % 2 ^ 64
+
+-- a number with its upper half mixed into its lower one
+abbrev pub folded : ℕ → ℕ
+folded number = bit_xor number (number / 2 ^ 32)
+
+-- a number in which keys that differ little differ much
+unfoldable pub spread_of : NameKey → ℕ
+spread_of k = stirred (folded (stirred (stirred (stirred k.first k.second) k.third) k.fourth)) 0

@@ -2,7 +2,7 @@
 
 ghost use Rattle.std.specs.Prelude.{◌≡◌, ◌≤◌, ◌+◌, length, true};
 ghost use Rattle.adf_tree.specs.Texts.{uppers};
-ghost use Rattle.adf_tree.specs.NameKeys.{is_short, key_of, padded, word_in};
+ghost use Rattle.adf_tree.specs.NameKeys.{is_short, key_of, padded, spread_of, stirred, word_in};
 
 use crate::name::Name;
 use adf_fields::upper;
@@ -14,6 +14,16 @@ pub struct NameKey {
     pub second: u64,
     pub third: u64,
     pub fourth: u64,
+}
+
+// 2^64 over the golden ratio.
+const FACTOR: u64 = 11400714819323198485;
+
+// A number with one word more mixed in.
+fn stirred(number: u64, word: u64) -> u64
+    ensures { result ≡ stirred number word }
+{
+    number.wrapping_mul(FACTOR).wrapping_add(word)
 }
 
 // The length of a name, its bytes without case, and zeros.
@@ -53,5 +63,15 @@ impl NameKey {
             third: word_in(&text, 16),
             fourth: word_in(&text, 24),
         }
+    }
+
+    #[tactic(auto, unfolding(crate::specs::NameKeys::spread_of))]
+    /// A number in which keys that differ little differ much.
+    pub fn spread(self) -> u64
+        ensures { result ≡ spread_of self }
+    {
+        let half = stirred(self.first, self.second);
+        let whole = stirred(stirred(half, self.third), self.fourth);
+        stirred(whole ^ (whole >> 32), 0)
     }
 }

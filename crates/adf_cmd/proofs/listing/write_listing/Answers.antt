@@ -15,29 +15,19 @@ loop-b-init g c = record {
 }
 
 pub loop-b-preserved : goal.loop-b-preserved
-loop-b-preserved g c =
-    let held = g.W.Sink.held in
-    let image = c.args.image.now in
-    let b = c.loop-b.b in
-    let text = c.loop-b.text.items in
-    record {
-      works = search rules;
-      so_far = c.in_ok-list_block.ensures.ok (held c.args.output.now) (lines_of_blocks image (b + 1))
-          (pending_more (held c.args.output.now) (held c.loop-b.output) text (lines_of_blocks image b) (lines_of b (block image b) 128)
-          (text ++ lines_of b (block image b) 128) (lines_of_blocks image (b + 1)) refl (blocks_more image b) c.loop-b.invariant.so_far);
-    }
+loop-b-preserved g c = record {
+  works = search rules;
+  so_far = c.in_ok-list_block.ensures.ok _ _ (pending_more _ _ _ _ _ _ _ refl (blocks_more c.args.image.now c.loop-b.b) c.loop-b.invariant.so_far);
+}
 
 pub returns-in_err-list_block-clause-err : goal.returns-in_err-list_block-clause-err
 returns-in_err-list_block-clause-err g c =
-    let held = g.W.Sink.held in
     let image = c.args.image.now in
     let b = c.loop-b.b in
-    let text = c.loop-b.text.items in
-    let more = pending_more (held c.args.output.now) (held c.loop-b.output) text (lines_of_blocks image b) (lines_of b (block image b) 128)
-    (text ++ lines_of b (block image b) 128) (lines_of_blocks image (b + 1)) refl (blocks_more image b) c.loop-b.invariant.so_far in
     let front = listing_front image (b + 1) (omega arith) in
-    on_err c.from_residual.result (pending_fails (held c.args.output.now) (held c.loop-b.output) (held c.list_block.new.output)
-    (text ++ lines_of b (block image b) 128) (lines_of_blocks image (b + 1)) front.0 _ front.1 more c.in_err-list_block.ensures.err)
+    on_err c.from_residual.result
+    (pending_fails _ _ _ _ _ front.0 _ front.1 (pending_more _ _ _ _ _ _ _ refl (blocks_more image b) c.loop-b.invariant.so_far)
+    c.in_err-list_block.ensures.err)
 
 pub returns-in-Ok-clause-ok : goal.returns-in-Ok-clause-ok
 returns-in-Ok-clause-ok g c =

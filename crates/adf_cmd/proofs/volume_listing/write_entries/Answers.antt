@@ -18,36 +18,21 @@ pub loop-i-preserved : goal.loop-i-preserved
 loop-i-preserved g c = record {
   works = search rules;
   so_far = λ date t l dates stands.
-      let o = g.W.Sink.held c.args.output.now in
-      let es = t.entries in
-      let i = c.loop-i.i in
-      let first = c.args.text.items in
-      let text = c.loop-i.text.items in
-      let lines = lines_of_entry date es (i + 1) in
-      let done = first ++ lines_of_entries date es (i + 1) in
       let so_far = c.loop-i.invariant.so_far date t l dates stands in
-      let before = first ++ lines_of_entries date es i in
-      let more = pending_more o (g.W.Sink.held c.loop-i.output) text before lines (text ++ lines) done refl (entries_more date es first i) so_far in
-      c.in_ok-list_entry.ensures.ok date t l dates stands o done more;
+      c.in_ok-list_entry.ensures.ok date t l dates stands _ _
+      (pending_more _ _ _ _ _ _ _ refl (entries_more date t.entries c.args.text.items c.loop-i.i) so_far);
 }
 
 pub returns-in_err-list_entry-clause-err : goal.returns-in_err-list_entry-clause-err
 returns-in_err-list_entry-clause-err g c = λ date t l dates stands.
-    let o = g.W.Sink.held c.args.output.now in
-    let o' = g.W.Sink.held c.list_entry.new.output in
-    let es = t.entries in
-    let i = c.loop-i.i in
     let first = c.args.text.items in
-    let text = c.loop-i.text.items in
-    let lines = lines_of_entry date es (i + 1) in
-    let done = first ++ lines_of_entries date es (i + 1) in
+    let i = c.loop-i.i in
     let so_far = c.loop-i.invariant.so_far date t l dates stands in
-    let before = first ++ lines_of_entries date es i in
-    let more = pending_more o (g.W.Sink.held c.loop-i.output) text before lines (text ++ lines) done refl (entries_more date es first i) so_far in
     let count = c.len-i-end.ensures.count t l stands in
     let front = entries_front date t first (i + 1) (omega (arith, count)) in
     on_err c.from_residual.result
-    (pending_fails o (g.W.Sink.held c.loop-i.output) o' (text ++ lines) done front.0 _ front.1 more (c.in_err-list_entry.ensures.err date t l dates stands))
+    (pending_fails _ _ _ _ _ front.0 _ front.1 (pending_more _ _ _ _ _ _ _ refl (entries_more date t.entries first i) so_far)
+    (c.in_err-list_entry.ensures.err date t l dates stands))
 
 pub returns-in-Ok-clause-ok : goal.returns-in-Ok-clause-ok
 returns-in-Ok-clause-ok g c = λ date t l dates stands.
