@@ -10,7 +10,8 @@ use Rattle.byteorder.specs.Endian.{big_number}
 use Rattle.byteorder.specs.Numbers.{big_number-reads_back}
 use Rattle.adf_fields.specs.Words.{word, long_sum, sealed, checksum}
 use Rattle.adf_fields.specs.declared.dates.Stamp.{Stamp}
-use Rattle.adf_fields.proofs.WordLaws.{length-with_bytes, range-with_bytes_same, range-with_bytes_below, range-with_bytes_above, word-with_word_other, length_longs, long_sum-sealed, length-big_bytes}
+use Rattle.adf_fields.proofs.WordLaws.{length-with_bytes, range-with_bytes_same, range-with_bytes_below, range-with_bytes_above, word-with_word_other}
+use Rattle.adf_fields.proofs.WordLaws.{length_longs, long_sum-sealed, length-big_bytes}
 use Rattle.adf_blocks.specs.declared.layout.TheConstants.{CHECKSUM}
 use Rattle.adf_blocks.specs.Forms.{stamp_at, text_at}
 use Rattle.adf_blocks.specs.Fields.{Field, FitsStamp, block_of_fields, Descends, downwards, long, longs, stamp, text}
@@ -131,7 +132,8 @@ stamp_of_field fs k i s d lt e above fits =
     let ws : List ℕ = s.days ∷ s.mins ∷ s.ticks ∷ [] in
     let there : (j : ℕ) → j < 3 → slice_index ws j < 2 ^ 32 → word (sealed CHECKSUM (block_of_fields fs)) (i + j) ≡ slice_index ws j =
     λ j in_date small. numbers_of_field CHECKSUM fs k i j ws (omega arith) d lt e (omega arith) (omega arith) ∙ long_number (slice_index ws j) small in
-    let days : word (sealed CHECKSUM (block_of_fields fs)) i ≡ s.days = ap (word (sealed CHECKSUM (block_of_fields fs))) (sym (add-zero i)) ∙ there 0 (omega arith) fits.days in
+    let days : word (sealed CHECKSUM (block_of_fields fs)) i ≡ s.days = ap (word (sealed CHECKSUM (block_of_fields fs))) (sym (add-zero i))
+        ∙ there 0 (omega arith) fits.days in
     rw (days, there 1 (omega arith) fits.mins, there 2 (omega arith) fits.ticks) refl
 
 -- each field ends at byte a or before, or begins at byte b or after
@@ -155,7 +157,8 @@ apart_between top a b (suc k) (f ∷ fs) e d lt lo hi =
     (inl (omega (arith, lo)), apart_between f.0 a b k fs e d.1 (omega arith) lo hi)
 
 -- bytes that no field is put over
-range_between : (top a b : ℕ) (fs : List Field) → top ≤ 512 → Descends top fs → Apart a b fs → slice_range (block_of_fields fs) a b ≡ slice_range (replicate 512 0) a b
+range_between : (top a b : ℕ) (fs : List Field) → top ≤ 512 → Descends top fs → Apart a b fs
+    → slice_range (block_of_fields fs) a b ≡ slice_range (replicate 512 0) a b
 range_between top a b [] le d apart = refl
 range_between top a b (f ∷ fs) le d apart =
     let n = length-block_of_fields f.0 fs (omega (arith, d.0)) d.1 in
@@ -178,7 +181,8 @@ pub fields_between : (fs : List Field) (i : ℕ) → Descends 512 fs → i < 128
 fields_between fs i d lt apart = number_there (block_of_fields fs) i 0 (range_between 512 (4 * i) (4 * i + 4) fs (omega arith) d apart ∙ zero_word i lt)
 
 -- a word that no field is put over
-pub word_between : (fs : List Field) (i : ℕ) → Descends 512 fs → i < 128 → Apart (4 * i) (4 * i + 4) fs → i ≢ CHECKSUM → word (sealed CHECKSUM (block_of_fields fs)) i ≡ 0
+pub word_between : (fs : List Field) (i : ℕ) → Descends 512 fs → i < 128 → Apart (4 * i) (4 * i + 4) fs → i ≢ CHECKSUM
+    → word (sealed CHECKSUM (block_of_fields fs)) i ≡ 0
 word_between fs i d lt apart other =
     let n = length-block_of_fields 512 fs (omega arith) d in
     word-with_word_other (block_of_fields fs) CHECKSUM (checksum CHECKSUM (block_of_fields fs)) i (omega arith) other ∙ fields_between fs i d lt apart
@@ -207,7 +211,8 @@ pointer_number fs k i j ws d lt e room above in_block next = elim (cases_lt j (l
 pub length_sealed_fields : (fs : List Field) → Descends 512 fs → length (sealed CHECKSUM (block_of_fields fs)) ≡ 512
 length_sealed_fields fs d =
     let len = length-block_of_fields 512 fs (omega arith) d in
-    length-with_bytes (block_of_fields fs) (4 * CHECKSUM) (long (checksum CHECKSUM (block_of_fields fs))) (omega (arith, length-big_bytes 4 (checksum CHECKSUM (block_of_fields fs)))) ∙ len
+    length-with_bytes (block_of_fields fs) (4 * CHECKSUM) (long (checksum CHECKSUM (block_of_fields fs)))
+        (omega (arith, length-big_bytes 4 (checksum CHECKSUM (block_of_fields fs)))) ∙ len
 
 -- bytes that were put down above word 5
 pub bytes_of_field : (fs : List Field) (k from : ℕ) (xs : List ℕ) → Descends 512 fs → k < length fs → get_or fs k (0, []) ≡ (from, xs) → 4 * CHECKSUM + 4 ≤ from

@@ -2,11 +2,7 @@
 use Rattle.std.specs.Prelude.{ℕ, ◌+◌, ◌-◌, ◌/◌, ◌%◌, ◌==◌, ◌&&◌, nat_le, Bool, List, length}
 use Rattle.adf_tree.specs.declared.entry.Kind.{Kind}
 use Rattle.adf_tree.specs.declared.entry.Kind.TheVariants.{Ofs, Ffs}
-use Rattle.adf_blocks.specs.declared.layout.TheConstants.{DATA_ROOM, MOST_BLOCKS as THE_MOST, PAGE_BITS}
-
--- the most blocks that a volume has
-abbrev pub MOST_BLOCKS : ℕ
-MOST_BLOCKS = THE_MOST
+use Rattle.adf_blocks.specs.declared.layout.TheConstants.{DATA_ROOM, MOST_BLOCKS, PAGE_BITS}
 
 -- an allowed size, in blocks: even, 4 to MOST_BLOCKS
 abbrev pub is_allowed : ℕ → Bool

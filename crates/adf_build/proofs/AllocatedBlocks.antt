@@ -98,7 +98,8 @@ distinct_range a zero = tt
 distinct_range a (suc m) = ((λ h. let r = in_range (a + 1) m a h in omega arith), distinct_range (a + 1) m)
 
 pub range_with_len-append : (b m k : ℕ) → range_with_len b m ++ range_with_len (b + m) k ≡ range_with_len b (m + k)
-range_with_len-append b zero k = let e : b + 0 ≡ b = omega arith in let f : 0 + k ≡ k = omega arith in ap (λ b. range_with_len b k) e ∙ ap (range_with_len b) (sym f)
+range_with_len-append b zero k = let e : b + 0 ≡ b = omega arith in let f : 0 + k ≡ k = omega arith in ap (λ b. range_with_len b k) e
+    ∙ ap (range_with_len b) (sym f)
 range_with_len-append b (suc m) k =
     let e : b + suc m ≡ b + 1 + m = omega arith in
     let f : suc (m + k) ≡ suc m + k = omega arith in

@@ -65,12 +65,14 @@ use_cases n total b e = elim (cases_lt b (middle n)) [
   | inr h ↦ elim (cases_lt (middle n + reserved n) b) [ inl k ↦ at_high k (use_high n total b k e) | inr k ↦ at_middle h k ]
 ]
 
-pub used_owned : (n total b : ℕ) → 4 ≤ n → 2 ≤ b → is_used n total b ≡ true → In (middle n ∷ (range_with_len (middle n + 1) (reserved n) ++ allocated n 0 total)) b
+pub used_owned : (n total b : ℕ) → 4 ≤ n → 2 ≤ b → is_used n total b ≡ true
+    → In (middle n ∷ (range_with_len (middle n + 1) (reserved n) ++ allocated n 0 total)) b
 used_owned n total b big two e = put (use_cases n total b e)
   where
     put : Use n total b → In (middle n ∷ (range_with_len (middle n + 1) (reserved n) ++ allocated n 0 total)) b
     put (at_middle h k) = elim (cases_lt (middle n) b) [
-      | inl l ↦ inr (in_left (range_with_len (middle n + 1) (reserved n)) (allocated n 0 total) b (range_in (middle n + 1) (reserved n) b (omega arith) (omega arith)))
+      | inl l ↦ inr (in_left (range_with_len (middle n + 1) (reserved n)) (allocated n 0 total) b
+          (range_in (middle n + 1) (reserved n) b (omega arith) (omega arith)))
       | inr l ↦ inl (omega arith)
     ]
     put (at_low h k) = elim (stretch n (b - 2)) [

@@ -22,7 +22,8 @@ step : (n : ℕ) (image : List ℕ) (b : ℕ) (bs : List ℕ) → b < n → leng
 step n image b bs h e f = let g : b * 512 + 512 ≤ length image = omega arith in (length-with_bytes image (b * 512) bs (omega arith) ∙ f, g)
 
 -- a block that was not written
-pub with_blocks_other : (n : ℕ) (image : List ℕ) (ps : List (ℕ × List ℕ)) (b : ℕ) → AreBlocks n ps → length image ≡ n * 512 → ((q : ℕ × List ℕ) → In ps q → q.0 ≢ b)
+pub with_blocks_other : (n : ℕ) (image : List ℕ) (ps : List (ℕ × List ℕ)) (b : ℕ) → AreBlocks n ps → length image ≡ n * 512
+    → ((q : ℕ × List ℕ) → In ps q → q.0 ≢ b)
     → block (with_blocks image ps) b ≡ block image b
 with_blocks_other n image [] b a len f = refl
 with_blocks_other n image (p ∷ ps) b a len f =

@@ -61,7 +61,8 @@ module _ (v : List ℕ) (n total : ℕ) (small : n < 2 ^ 32) (few : total < 2 ^ 
         )
 
     -- and have their form
-    pub exts_formed : (k d c m : ℕ) → k + m ≤ total → Holds v (ext_writes n head k d c m) → (j b : ℕ) → At (allocated n k m) j b → AllHold (ext_demands v b head)
+    pub exts_formed : (k d c m : ℕ) → k + m ≤ total → Holds v (ext_writes n head k d c m) → (j b : ℕ) → At (allocated n k m) j b
+        → AllHold (ext_demands v b head)
     exts_formed k d c zero l h j b a = absurd a
     exts_formed k d c (suc m) l h zero b a =
         let f = fits_ext n total small few below head k d c m lies (omega arith) in
@@ -188,7 +189,8 @@ module _ (v : List ℕ) (n total : ℕ) (small : n < 2 ^ 32) (few : total < 2 ^ 
         (data_block-form (record { head = head; number = number; next = nth_free_or_none n (suc k) m; bytes = take (chunk Ofs) bytes }) f) in
         subst (λ b. AllHold (data_demands v Ofs b head (number + 0) (length (take (chunk Ofs) (drop (chunk Ofs * 0) bytes)))
         (slice_index (allocated n (suc k) m) 0))) a
-        (subst (λ u. AllHold (data_demands v Ofs (nth_free n k) head (number + 0) (length (take (chunk Ofs) (drop (chunk Ofs * 0) bytes))) u)) (next_is (suc k) m)
+        (subst (λ u. AllHold (data_demands v Ofs (nth_free n k) head (number + 0) (length (take (chunk Ofs) (drop (chunk Ofs * 0) bytes))) u))
+            (next_is (suc k) m)
         (subst (λ u. AllHold (data_demands v Ofs (nth_free n k) head (number + 0) (length (take (chunk Ofs) u)) (nth_free_or_none n (suc k) m))) d
         (subst (λ u. AllHold (data_demands v Ofs (nth_free n k) head u (length (take (chunk Ofs) bytes)) (nth_free_or_none n (suc k) m))) z
         (all_demanded (nth_free n k) (data_form head number (length (take (chunk Ofs) bytes)) (nth_free_or_none n (suc k) m) (block v (nth_free n k))) w))))

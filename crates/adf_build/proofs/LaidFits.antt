@@ -234,7 +234,8 @@ module _ (t : Tree) (n : ℕ) (sound : IsSound t) (allowed : is_allowed n ≡ tr
       (ap (λ b. word_in (volume t n) b (FIRST_SLOT + s)) (spot t n sound allowed room i x.0 x.1).at ∙ dir_slot t n sound allowed room i s x.0 x.1 x.2 l)
 
   owned_is : (b : ℕ)
-      → In (blocks_of (owned (volume t n) (planned t n))) b ↔ In (middle n ∷ (range_with_len (middle n + 1) (reserved n) ++ allocated n 0 (entries_blocks t.kind t.entries))) b
+      → In (blocks_of (owned (volume t n) (planned t n))) b ↔ In (middle n ∷
+          (range_with_len (middle n + 1) (reserved n) ++ allocated n 0 (entries_blocks t.kind t.entries))) b
   owned_is b = let e = owned_blocks (volume t n) t n size in ((λ h. subst (λ l. In l b) e h), (λ h. subst (λ l. In l b) (sym e) h))
 
   free_laid : (b : ℕ) → 2 ≤ b → b < n → IsFree (volume t n) (range_with_len (middle n + 1) (pages_needed n)) b → (o : Owner)
@@ -295,7 +296,8 @@ module _ (t : Tree) (n : ℕ) (sound : IsSound t) (allowed : is_allowed n ≡ tr
       let r = reserved_below n four in
       omega arith
 
-  map_first_laid : (b : ℕ) → At (range_with_len (middle n + 1 + pages_needed n) (map_exts_needed (pages_needed n))) 0 b → word_in (volume t n) (middle n) FIRST_MAP_EXT ≡ b
+  map_first_laid : (b : ℕ) → At (range_with_len (middle n + 1 + pages_needed n) (map_exts_needed (pages_needed n))) 0 b
+      → word_in (volume t n) (middle n) FIRST_MAP_EXT ≡ b
   map_first_laid b h =
       let x = map_ext_at 0 b h in
       let e : b ≡ middle n + 1 + pages_needed n + 0 = x.1 in
@@ -358,7 +360,8 @@ module _ (t : Tree) (n : ℕ) (sound : IsSound t) (allowed : is_allowed n ≡ tr
         tree = sound.tree;
         places = places_long n t.kind 0 t.entries;
         pages = length-range_with_len (middle n + 1) (pages_needed n) ∙ ap pages_needed (sym size);
-        map_exts = length-range_with_len (middle n + 1 + pages_needed n) (map_exts_needed (pages_needed n)) ∙ ap (λ n. map_exts_needed (pages_needed n)) (sym size);
+        map_exts = length-range_with_len (middle n + 1 + pages_needed n) (map_exts_needed (pages_needed n))
+            ∙ ap (λ n. map_exts_needed (pages_needed n)) (sym size);
         map_first = (λ b h. ap (λ r. word_in (volume t n) r FIRST_MAP_EXT) (sym s) ∙ map_first_laid b h);
         map_next = map_next_laid;
         page_named = (λ k b l h. ap (λ r. word_in (volume t n) r (FIRST_PAGE + k)) (sym s) ∙ page_word k b l h);

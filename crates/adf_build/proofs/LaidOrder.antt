@@ -53,14 +53,16 @@ no_gap image t k b four lt lo h =
         → In (middle n ∷ (range_with_len (middle n + 1) (reserved n) ++ allocated n 0 m)) b
     there n m four c lt h =
         let x = free_is n k b four lo h c in
-        inr (in_right (range_with_len (middle n + 1) (reserved n)) (allocated n 0 m) b (subst (In (allocated n 0 m)) x.2 (allocated_in n 0 m x.0 (omega arith) (omega arith))))
+        inr (in_right (range_with_len (middle n + 1) (reserved n)) (allocated n 0 m) b
+            (subst (In (allocated n 0 m)) x.2 (allocated_in n 0 m x.0 (omega arith) (omega arith))))
 
     put : (n m : ℕ) → 4 ≤ n → (b < middle n) ⊎ (middle n ≤ b) → (middle n + reserved n < b) ⊎ (b ≤ middle n + reserved n) → k < m → b ≤ nth_free n k
         → In (middle n ∷ (range_with_len (middle n + 1) (reserved n) ++ allocated n 0 m)) b
     put n m four (inl u) c lt h = there n m four (inl u) lt h
     put n m four (inr u) (inl w) lt h = there n m four (inr w) lt h
     put n m four (inr u) (inr w) lt h = elim (cases_lt (middle n) b) [
-      | inl x ↦ inr (in_left (range_with_len (middle n + 1) (reserved n)) (allocated n 0 m) b (range_in (middle n + 1) (reserved n) b (omega arith) (omega arith)))
+      | inl x ↦ inr (in_left (range_with_len (middle n + 1) (reserved n)) (allocated n 0 m) b
+          (range_in (middle n + 1) (reserved n) b (omega arith) (omega arith)))
       | inr x ↦ inl (omega arith)
     ]
 
@@ -71,7 +73,8 @@ unfolding volume
 write_held image t sound l b bytes h = ap (λ v. block v b) l.bytes ∙ held
   where
     held : block (volume t (blocks image)) b ≡ bytes
-    held = with_blocks_same (blocks image) (replicate (blocks image * 512) 0) (writes t (blocks image)) b bytes (writes_are t (blocks image) sound l.size l.room)
+    held = with_blocks_same (blocks image) (replicate (blocks image * 512) 0) (writes t (blocks image)) b bytes
+        (writes_are t (blocks image) sound l.size l.room)
         (writes_once t (blocks image) sound l.size l.room) (zeros_long t (blocks image) sound l.size l.room) h
 
 -- a block of zeros

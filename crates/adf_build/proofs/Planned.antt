@@ -15,11 +15,13 @@ use Rattle.adf_volume.specs.declared.owner.Owner.TheVariants.{Page as APage, Map
 use Rattle.adf_volume.proofs.DistinctBlocks.{blocks_of, blocks_of-append, blocks_of-numbered, block_in, Distinct, distinct_blocks, distinct-append}
 use Rattle.adf_volume.proofs.Lists.{in_cases}
 use Rattle.adf_build.specs.Plan.{reserved, nth_free, allocated, exts_needed, data_blocks, entries_blocks, blocks_needed, places_from, planned}
-use Rattle.adf_build.proofs.AllocatedBlocks.{length_allocated, free_from, free_below, free_apart, reserved_below, in_allocated, allocated-append, distinct_allocated, in_range}
+use Rattle.adf_build.proofs.AllocatedBlocks.{length_allocated, free_from, free_below, free_apart, reserved_below, in_allocated, allocated-append}
+use Rattle.adf_build.proofs.AllocatedBlocks.{distinct_allocated, in_range}
 use Rattle.adf_build.proofs.AllocatedBlocks.{distinct_range, range_with_len-append}
 
 -- the blocks of entries are a run of free blocks
-blocks_of_places : (n : ℕ) (kind : Kind) (i k : ℕ) (es : List Entry) → blocks_of (owned_from i (places_from n kind k es)) ≡ allocated n k (entries_blocks kind es)
+blocks_of_places : (n : ℕ) (kind : Kind) (i k : ℕ) (es : List Entry) → blocks_of (owned_from i (places_from n kind k es)) ≡ allocated n k
+    (entries_blocks kind es)
 blocks_of_places n kind i k [] = refl
 blocks_of_places n kind i k (e ∷ es) =
     let c : ℕ = data_blocks kind e.body in
@@ -69,7 +71,8 @@ planned_once image t n size =
         | inl i ↦ let r = in_range (middle n + 1) (reserved n) (middle n) i in omega arith
         | inr i ↦ let r = in_allocated n 0 total (middle n) i in let e : nth_free n r.0 ≡ middle n = r.3 in free_apart n r.0 (omega arith) (omega arith)
       ]),
-      distinct-append (range_with_len (middle n + 1) (reserved n)) (allocated n 0 total) (distinct_range (middle n + 1) (reserved n)) (distinct_allocated n 0 total)
+      distinct-append (range_with_len (middle n + 1) (reserved n)) (allocated n 0 total) (distinct_range (middle n + 1) (reserved n))
+          (distinct_allocated n 0 total)
           (λ b i j. let r = in_range (middle n + 1) (reserved n) b i in let s = in_allocated n 0 total b j in let e : nth_free n s.0 ≡ b =
           s.3 in free_apart n s.0 (omega arith) (omega arith)),
     ))
@@ -102,7 +105,8 @@ planned_count image t n size =
     length_blocks (owned image (planned t n))
     ∙ (ap length (owned_blocks image t n size)
     ∙ (let a : length (range_with_len (middle n + 1) (reserved n)) ≡ reserved n = length-range_with_len (middle n + 1) (reserved n) in
-    let b : length (allocated n 0 (entries_blocks t.kind t.entries)) ≡ entries_blocks t.kind t.entries = length_allocated n 0 (entries_blocks t.kind t.entries) in
+    let b : length (allocated n 0 (entries_blocks t.kind t.entries)) ≡ entries_blocks t.kind t.entries =
+        length_allocated n 0 (entries_blocks t.kind t.entries) in
     let c : length (range_with_len (middle n + 1) (reserved n) ++ allocated n 0 (entries_blocks t.kind t.entries))
     ≡ length (range_with_len (middle n + 1) (reserved n)) + length (allocated n 0 (entries_blocks t.kind t.entries)) =
     length-append (range_with_len (middle n + 1) (reserved n)) (allocated n 0 (entries_blocks t.kind t.entries)) in

@@ -13,7 +13,8 @@ pub one_list : (bytes : List ℕ) (words others : List (List ℕ)) → AreWords 
 one_list bytes words others h g = append_cancel_right words others ([] ∷ []) (sym h.ended ∙ g.ended)
 
 -- a part that is no text, and is not the last, stands among no words
-pub no_text : (bytes rest word after : List ℕ) (done : List (List ℕ)) → between_zeros bytes ≡ done ++ between_zeros rest → between_zeros rest ≡ word ∷ between_zeros after
+pub no_text : (bytes rest word after : List ℕ) (done : List (List ℕ)) → between_zeros bytes ≡ done ++ between_zeros rest
+    → between_zeros rest ≡ word ∷ between_zeros after
     → ¬ IsUtf8 word → (words : List (List ℕ)) → ¬ AreWords bytes words
 no_text bytes rest word after done split cut bad words h =
     let whole : words ++ [] ∷ [] ≡ done ++ word ∷ between_zeros after = sym h.ended ∙ (split ∙ ap (λ ps. done ++ ps) cut) in
@@ -36,7 +37,8 @@ texts_pushed : (items : List (Bor (List ℕ))) (text : Bor (List ℕ)) → texts
 texts_pushed items text = map-append (λ (w : Bor (List ℕ)). w.now) items (text ∷ [])
 
 -- a word is behind those before it, and is a text as they are
-pub pushed_split : (bytes rest word after : List ℕ) (items : List (Bor (List ℕ))) (text : Bor (List ℕ)) → between_zeros bytes ≡ texts_of items ++ between_zeros rest
+pub pushed_split : (bytes rest word after : List ℕ) (items : List (Bor (List ℕ))) (text : Bor (List ℕ)) → between_zeros bytes ≡ texts_of items
+    ++ between_zeros rest
     → between_zeros rest ≡ word ∷ between_zeros after → text.now ≡ word → between_zeros bytes ≡ texts_of (items ++ text ∷ []) ++ between_zeros after
 pushed_split bytes rest word after items text split cut same =
     let done : List (List ℕ) = texts_of items in

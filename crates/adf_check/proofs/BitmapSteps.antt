@@ -1,5 +1,7 @@
 -- The steps along the bitmap, and what the reader knows at its end.
-use Rattle.std.proofs.Common.{◌≡◌, ◌≢◌, ◌⊎◌, inl, inr, ℕ, zero, suc, List, ◌+◌, ◌-◌, ◌*◌, ◌/◌, ◌%◌, ◌<◌, ◌≤◌, length, refl, sym, subst, ◌∙◌, arith, Bool, true, false}
+use Rattle.adf_check.specs.Fault.{IsTrueFault}
+use Rattle.std.proofs.Common.{◌≡◌, ◌≢◌, ◌⊎◌, inl, inr, ℕ, zero, suc, List, ◌+◌, ◌-◌, ◌*◌, ◌/◌, ◌%◌, ◌<◌, ◌≤◌, length, refl, sym, subst, ◌∙◌, arith}
+use Rattle.std.proofs.Common.{Bool, true, false}
 use Rattle.std.specs.Prelude.{IfErr, Result, Ok, Err, slice_index, IsTrue, ◌↔◌, IsBitSet}
 use Rattle.adf_blocks.specs.declared.cause.Cause.{Cause}
 use Rattle.adf_blocks.specs.declared.cause.Cause.TheVariants.{LostBlock, OwnedFree}
@@ -18,7 +20,6 @@ use Rattle.adf_volume.proofs.WalkFits.{fits}
 use Rattle.adf_volume.proofs.Walks.{one_block, asked_block, page_word}
 use Rattle.adf_volume.proofs.WholeWalks.{all_map_exts}
 use Rattle.adf_check.specs.declared.fault.Fault.{Fault}
-use Rattle.adf_check.specs.Found.{IsTrueFault}
 use Rattle.adf_check.specs.Image.{IsBegun}
 use Rattle.adf_check.specs.Pages.{AreListed, IsBitFault}
 use Rattle.adf_check.specs.Reading.{block_of_page, IsListed, IsRead, IsMapped, StoreFits}
@@ -64,7 +65,7 @@ bitmap_fails image w b zero (suc m) x c h e lt f =
 bitmap_fails image w b (suc n) (suc m) x c h e lt f = inr (h.0, inr (h.1.0, bitmap_fails image w (suc b) n m x c h.1.1 (omega arith) (omega arith) f))
 
 -- what the reader sees of block b: its page, the bit there and the table
-module _ (image : List ℕ) (store : Store) (b page : ℕ) (free : Bool) (list : List ℕ) (hi : b < blocks image)
+module _ (free : Bool) {image : List ℕ} {store : Store} {b page : ℕ} {list : List ℕ} (hi : b < blocks image)
     (listed : IsListed image list (pages_needed (blocks image))) (page_is_at : page ≡ slice_index list ((b - 2) / 4064))
     (free_is : IsTrue free ↔ IsFreeAt image page ((b - 2) % 4064)) (st : IsMapped image store b) where
   has_page : Has st.walk (Page ((b - 2) / 4064)) page
@@ -166,14 +167,14 @@ block_of_bit i bit = 2 + 32 * i + bit
 module _ (i bit : ℕ) {image : List ℕ} {store : Store} {pages : List ℕ} (within : bit < 32) (begun : IsBegun image) (hi : 2 + 32 * i + bit < blocks image)
     (listed : AreListed image pages (pages_needed (blocks image))) (st : IsMapped image store (2 + 32 * i + bit)) {word : ℕ} {free : Bool}
     (word_is : word ≡ word_in image (slice_index pages (i / 127)) (1 + i % 127)) (told : IsTrue free ↔ IsBitSet word bit) where
-  here : IsTrue free ↔ IsBitSet (word_in image (slice_index pages (((block_of_bit i bit) - 2) / 4064)) (1 + ((block_of_bit i bit) - 2) % 4064 / 32)) (((block_of_bit i bit) - 2) % 4064 % 32)
+  here : IsTrue free ↔ IsFreeAt image (slice_index pages ((block_of_bit i bit - 2) / 4064)) ((block_of_bit i bit - 2) % 4064)
   here = rw (page_at i bit within, word_at i bit within, bit_at i bit within, sym word_is) told
 
   bit_fault : (f : Fault) → IsBitFault store.owners (block_of_bit i bit) free f → IsTrueFault image f
   bit_fault f (inl y) = subst (IsTrueFault image) (sym y.2)
-      (first_fault image (block_of_bit i bit) LostBlock (lost image store (block_of_bit i bit) (slice_index pages (((block_of_bit i bit) - 2) / 4064)) free pages hi listed.listed refl here st begun y.0 y.1))
+      (first_fault image (block_of_bit i bit) LostBlock (lost free hi listed.listed refl here st begun y.0 y.1))
   bit_fault f (inr y) = subst (IsTrueFault image) (sym y.2)
-      (first_fault image (block_of_bit i bit) OwnedFree (owned_free image store (block_of_bit i bit) (slice_index pages (((block_of_bit i bit) - 2) / 4064)) free pages hi listed.listed refl here st begun y.0 y.1))
+      (first_fault image (block_of_bit i bit) OwnedFree (owned_free free hi listed.listed refl here st begun y.0 y.1))
 
   -- what the bit tells is not what the owner does
   pub bit_refused : {T : Type 0} (x : Result T Fault) → IfErr x (IsBitFault store.owners (block_of_bit i bit) free) → IfErr x (IsTrueFault image)
@@ -184,7 +185,7 @@ module _ (i bit : ℕ) {image : List ℕ} {store : Store} {pages : List ℕ} (wi
   pub bit_agrees : IsTrue free ↔ (owner_at store.owners (block_of_bit i bit) ≡ Free) → IsMapped image store (2 + 32 * i + (bit + 1))
   bit_agrees h =
       let next : suc (block_of_bit i bit) ≡ 2 + 32 * i + (bit + 1) = omega arith in
-      subst (IsMapped image store) next (agrees image store (block_of_bit i bit) (slice_index pages (((block_of_bit i bit) - 2) / 4064)) free pages hi listed.listed refl here st h)
+      subst (IsMapped image store) next (agrees free hi listed.listed refl here st h)
 
 -- no bit of 0 is set
 no_bit : (bit : ℕ) → IsTrue false ↔ IsBitSet 0 bit

@@ -1,5 +1,7 @@
 -- The steps along the headers of a chain.
-use Rattle.std.proofs.Common.{◌≡◌, ◌≢◌, ◌⊎◌, inl, inr, ℕ, zero, suc, List, ◌∷◌, ◌+◌, ◌<◌, length, Bool, true, false, refl, sym, ap, subst, ◌∙◌, arith, Some, None}
+use Rattle.adf_check.specs.Claims.{InRange}
+use Rattle.std.proofs.Common.{◌≡◌, ◌≢◌, ◌⊎◌, inl, inr, ℕ, zero, suc, List, ◌∷◌, ◌+◌, ◌<◌, length, Bool, true, false, refl, sym, ap, subst, ◌∙◌, arith}
+use Rattle.std.proofs.Common.{Some, None}
 use Rattle.std.specs.Prelude.{◌↔◌, ◌||◌, not}
 use Rattle.std.specs.Str.{bytes_eq}
 use Rattle.std.proofs.lemmas.Slice.Eq.{bytes_eq-Decides}
@@ -19,14 +21,14 @@ use Rattle.adf_volume.specs.Walk.Role.{Head}
 use Rattle.adf_volume.proofs.FormDemands.{all_demanded, first_demanded}
 use Rattle.adf_volume.proofs.MemberFacts.{dir_up}
 use Rattle.adf_volume.proofs.Walks.{dir_is_node, node_is, one_block, one_node}
-use Rattle.adf_check.specs.Checks.{fault}
+use Rattle.adf_check.specs.Fault.{IsTrueFault, fault}
 use Rattle.adf_check.specs.Cursor.Cursor.{BeforeRole}
-use Rattle.adf_check.specs.Found.{InRange, IsTrueFault, sees_of}
+use Rattle.adf_check.specs.Found.{sees_of}
 use Rattle.adf_check.specs.Image.{IsBegun}
 use Rattle.adf_check.specs.Reading.{Next, IsAtSlot, IsInChain, Sees, next_head}
 use Rattle.adf_check.specs.Store.{Store, owner_at}
 use Rattle.adf_check.proofs.ClaimSteps.{IsNamed, IsStored, form_fault, name_fault, read_one}
-use Rattle.adf_check.proofs.Cursors.{end_chain}
+use Rattle.adf_check.proofs.CursorMoves.{moved, end_chain}
 
 next_asks : (image : List ℕ) (w : List (Role × ℕ)) (p s j a b : ℕ) → s < 72 → b ≢ 0 → Next image w p s j a b
     → (i : ℕ) × Asks image w (next_head w p s j) a i × (word_in image a i ≡ b)
@@ -48,11 +50,7 @@ pub chain_ends : (image : List ℕ) (store : Store) (p up s a : ℕ) (seen : Lis
     → IsAtSlot image store p up (suc s)
 chain_ends image store p up s a seen st = record {
   walk = st.walk;
-  read = record {
-    tells = st.read.tells;
-    started = st.read.started;
-    upto = end_chain image st.walk p s st.place st.read.upto (next_ends image st.walk st.read.upto.walk p s st.place a st.named);
-  };
+  read = moved st.read refl (end_chain image st.walk p s st.place st.read.upto (next_ends image st.walk st.read.upto.walk p s st.place a st.named));
   dir = st.dir;
 }
 
@@ -109,7 +107,9 @@ module _ {image : List ℕ} {store : Store} {p up s a b : ℕ} {seen : List ℕ 
       record { begun = begun; read = st.read; index = q.0; asked = q.1; names = q.2 }
 
   form_at : (P : List Demand → Type 0) → P (head_demands image (kind_of image) b up s) → P (form_demands image st.walk (next_head st.walk p s st.place) b)
-  form_at P = subst (λ u. P (head_demands image (kind_of image) b u s)) (sym (node_is image st.walk p up st.read.upto.walk (dir_is_node image st.walk p up st.dir)))
+  form_at P =
+      subst (λ u. P (head_demands image (kind_of image) b u s))
+      (sym (node_is image st.walk p up st.read.upto.walk (dir_is_node image st.walk p up st.dir)))
 
   sees_more : (seen' : List ℕ → Type 0) → ((x : List ℕ) → seen' x ↔ (seen x ⊎ (uppers (name_of image b) ≡ x)))
       → Sees image ((next_head st.walk p s st.place, b) ∷ st.walk) p s seen'
@@ -155,7 +155,8 @@ module _ {image : List ℕ} {store : Store} {p up s a b : ℕ} (names : Names) (
       (first_demanded b (head_form (kind_of image) b up s (block image b)) c (sym cause_is ∙ h)))
 
   -- it is one, with this name
-  module _ (none : first_cause (head_form kind b up s bytes) ≡ None) {head : List ℕ} (same : head ≡ bytes) {name : List ℕ} (told : name ≡ text_at head 432) where
+  module _ (none : first_cause (head_form kind b up s bytes) ≡ None) {head : List ℕ} (same : head ≡ bytes) {name : List ℕ}
+      (told : name ≡ text_at head 432) where
     form : AllHold (head_demands image (kind_of image) b up s)
     form = all_demanded b (head_form (kind_of image) b up s (block image b)) (sym cause_is ∙ none)
 

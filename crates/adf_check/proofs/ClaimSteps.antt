@@ -1,4 +1,5 @@
 -- One step of a reader: the role that comes next is claimed and kept, or it is refused, and that is the first fault.
+use Rattle.adf_check.specs.Claims.{InRange, IsClaimFault}
 use Rattle.std.proofs.Common.{◌≡◌, ℕ, suc, List, [], ◌∷◌, ◌+◌, ◌<◌, length, set, inl, inr, refl, sym, ap, subst, ◌∙◌, arith, Result, Ok, Err}
 use Rattle.std.specs.Prelude.{IfErr, IsOk, OnOk}
 use Rattle.adf_blocks.specs.declared.cause.Cause.{Cause}
@@ -15,14 +16,13 @@ use Rattle.adf_volume.proofs.Lists.{fails_left, fails_right, all_append}
 use Rattle.adf_volume.proofs.Memory.{fault_of_image}
 use Rattle.adf_volume.proofs.Walks.{asks_number}
 use Rattle.adf_check.specs.declared.fault.Fault.{Fault}
-use Rattle.adf_check.specs.Checks.{fault}
+use Rattle.adf_check.specs.Fault.{IsTrueFault, fault}
 use Rattle.adf_check.specs.Cursor.{Cursor, first_of, second_of, third_of, nodes_begun, IsUpTo}
 use Rattle.adf_check.specs.Cursor.Cursor.{BeforeRole}
-use Rattle.adf_check.specs.Found.{InRange, IsClaimFault, IsTrueFault}
 use Rattle.adf_check.specs.Image.{IsBegun}
 use Rattle.adf_check.specs.Reading.{HasRead}
 use Rattle.adf_check.specs.Store.{Store, owner_at, push_row, push_block, ext_file, data_file, stored, StoreMatches}
-use Rattle.adf_check.proofs.Cursors.{is_due, take_it}
+use Rattle.adf_check.proofs.CursorMoves.{is_due, take_it}
 use Rattle.adf_check.proofs.StoreSteps.{free_absent, taken_present, tells_more}
 
 -- what is said of an error, said otherwise
@@ -47,7 +47,7 @@ pub record IsNamed (image : List ℕ) (store : Store) (w : List (Role × ℕ)) (
   pub asked : Asks image w r a index
   pub names : word_in image a index ≡ b
 
--- what is kept when block b was read in this role
+-- the new store is the old one with block b in this role, field by field
 pub record IsStored (old new : Store) (r : Role) (b : ℕ) : Type 0 where
   pub owners : new.owners ≡ set old.owners b (owner_of r)
   pub rows : new.rows ≡ push_row r b old.rows

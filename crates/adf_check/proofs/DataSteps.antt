@@ -1,5 +1,7 @@
 -- The steps along the data blocks of a file.
-use Rattle.std.proofs.Common.{◌≡◌, ℕ, zero, suc, List, ◌∷◌, ◌+◌, ◌-◌, ◌*◌, ◌/◌, ◌%◌, ◌<◌, ◌≤◌, length, Bool, true, false, cond, refl, sym, ap, subst, ◌∙◌, arith}
+use Rattle.adf_check.specs.Claims.{InRange}
+use Rattle.std.proofs.Common.{◌≡◌, ℕ, zero, suc, List, ◌∷◌, ◌+◌, ◌-◌, ◌*◌, ◌/◌, ◌%◌, ◌<◌, ◌≤◌, length, Bool, true, false, cond, refl, sym, ap, subst}
+use Rattle.std.proofs.Common.{◌∙◌, arith}
 use Rattle.std.specs.Prelude.{nat_lt, slice_index}
 use Rattle.std.proofs.lemmas.Bool.{ltb-true}
 use Rattle.adf_blocks.specs.declared.cause.Cause.{Cause}
@@ -14,16 +16,15 @@ use Rattle.adf_volume.specs.Walk.Role.{Data, Ext, Head}
 use Rattle.adf_volume.proofs.Lists.{at_index, at_some}
 use Rattle.adf_volume.proofs.MemberFacts.{file_up, in_range, member_up}
 use Rattle.adf_volume.proofs.Walks.{file_is, member_is, one_head}
-use Rattle.adf_check.specs.Checks.{fault}
+use Rattle.adf_check.specs.Fault.{IsTrueFault, fault}
 use Rattle.adf_check.specs.Cursor.Cursor.{BeforeRole}
-use Rattle.adf_check.specs.Files.{next_of}
-use Rattle.adf_check.specs.Found.{InRange, IsTrueFault}
+use Rattle.adf_check.specs.Datas.{next_of}
 use Rattle.adf_check.specs.Image.{IsBegun}
 use Rattle.adf_check.specs.Reading.{IsAtNode, IsInDatas}
 use Rattle.adf_check.specs.Store.{Store, owner_at}
-use Rattle.adf_check.proofs.Bounds.{many_blocks}
+use Rattle.adf_check.proofs.NumberBounds.{many_blocks}
 use Rattle.adf_check.proofs.ClaimSteps.{IsNamed, IsStored, form_fault, read_one, short_fault}
-use Rattle.adf_check.proofs.Cursors.{end_datas}
+use Rattle.adf_check.proofs.CursorMoves.{moved, end_datas}
 
 pub at_get : (xs : List ℕ) (i : ℕ) → i < length xs → At xs i (slice_index xs i)
 at_get xs i h = let e = at_some xs i h in subst (At xs i) (sym (at_index xs i e.0 e.1)) e.1
@@ -43,11 +44,7 @@ pub datas_end : (image : List ℕ) (store : Store) (n h : ℕ) (table : List ℕ
     → IsAtNode image store (suc n)
 datas_end image store n h table k st le = record {
   walk = st.walk;
-  read = record {
-    tells = st.read.tells;
-    started = st.read.started;
-    upto = end_datas image st.walk n (suc k) h st.holds.file (omega arith) st.read.upto;
-  };
+  read = moved st.read refl (end_datas image st.walk n (suc k) h st.holds.file (omega arith) st.read.upto);
 }
 
 module _ {image : List ℕ} {store : Store} {n h : ℕ} {table : List ℕ} {k : ℕ} (begun : IsBegun image) (st : IsInDatas image store n h table k) where

@@ -12,10 +12,10 @@ use Rattle.adf_check.specs.Samples.{empty_lost}
 use Rattle.adf_check.specs.Store.{Store, stored, entered}
 use Rattle.adf_check.specs.Reading.{IsRead}
 use Rattle.adf_check.specs.Image.{IsBegun}
-use Rattle.adf_check.proofs.Beginning.{first_store, owners_of}
+use Rattle.adf_check.proofs.RootRead.{first_store, owners_of}
 use Rattle.adf_check.proofs.BitmapSteps.{map_begins}
 use Rattle.adf_check.proofs.NodeSteps.{all_read, leave_directory}
-use Rattle.adf_check.proofs.Strolls.{page_then, enter_root, empty_slots, agree, agreeing, bit_is, lost_at}
+use Rattle.adf_check.proofs.SmallImages.{page_then, enter_root, empty_slots, agree, agreeing, bit_is, lost_at}
 
 size : blocks empty_lost ≡ 6
 unfolding empty_lost with_bytes

@@ -1,5 +1,7 @@
 -- The steps along the extension blocks of a file.
-use Rattle.std.proofs.Common.{◌≡◌, ◌≢◌, inl, inr, ℕ, zero, suc, List, [], ◌∷◌, ◌++◌, ◌^◌, ◌<◌, ◌≤◌, length, Bool, true, false, cond, refl, sym, ap, subst, ◌∙◌, arith, Some, None}
+use Rattle.adf_check.specs.Claims.{InRange}
+use Rattle.std.proofs.Common.{◌≡◌, ◌≢◌, inl, inr, ℕ, zero, suc, List, [], ◌∷◌, ◌++◌, ◌^◌, ◌<◌, ◌≤◌, length, Bool, true, false, cond, refl, sym, ap}
+use Rattle.std.proofs.Common.{subst, ◌∙◌, arith, Some, None}
 use Rattle.std.specs.Prelude.{◌==◌}
 use native.Mathlib.Decide.{dec_lt}
 use Rattle.adf_fields.specs.Words.{block, word}
@@ -16,16 +18,15 @@ use Rattle.adf_volume.proofs.FormDemands.{all_demanded, first_demanded}
 use Rattle.adf_volume.proofs.Lists.{at_snoc, snoc_length}
 use Rattle.adf_volume.proofs.MemberFacts.{file_up, member_up}
 use Rattle.adf_volume.proofs.Walks.{file_is, one_block, one_head, count_own, ext_counted}
-use Rattle.adf_check.specs.Checks.{fault}
+use Rattle.adf_check.specs.Fault.{IsTrueFault, fault}
 use Rattle.adf_check.specs.Cursor.Cursor.{BeforeRole}
-use Rattle.adf_check.specs.Found.{InRange, IsTrueFault}
 use Rattle.adf_check.specs.Image.{IsBegun}
 use Rattle.adf_check.specs.Owners.{owned_count}
 use Rattle.adf_check.specs.Reading.{HasTable, IsInDatas, IsInExts, IsInNode, NextExt}
 use Rattle.adf_check.specs.Store.{Store, owner_at}
-use Rattle.adf_check.proofs.Bounds.{walk_short}
+use Rattle.adf_check.proofs.NumberBounds.{walk_short}
 use Rattle.adf_check.proofs.ClaimSteps.{IsNamed, IsStored, form_fault, read_one}
-use Rattle.adf_check.proofs.Cursors.{enter_file, end_exts}
+use Rattle.adf_check.proofs.CursorMoves.{moved, enter_file, end_exts}
 
 -- a file's table begins with its header
 pub enter_exts : (image : List ℕ) (store : Store) (n h : ℕ) (st : IsInNode image store n) → FileAt image st.walk n h
@@ -34,7 +35,7 @@ enter_exts image store n h st file =
     record {
       walk = st.walk;
       extra = 0;
-      read = record { tells = st.read.tells; started = st.read.started; upto = enter_file image st.walk n st.read.upto };
+      read = moved st.read refl (enter_file image st.walk n st.read.upto);
       holds = record { file = file; members = member; counted = ap suc (sym none) };
       counted = none;
       named = (refl, refl);
@@ -73,12 +74,8 @@ exts_no image w v n h (suc j) a f x c i k =
 pub exts_end : (image : List ℕ) (store : Store) (n h : ℕ) (table : List ℕ) (a : ℕ) → IsInExts image store n h table a 0 → IsInDatas image store n h table 0
 exts_end image store n h table a st = record {
   walk = st.walk;
-  read = record {
-    tells = st.read.tells;
-    started = st.read.started;
-    upto = end_exts image st.walk n (suc st.extra) (omega arith) st.read.upto
-        (exts_no image st.walk st.read.upto.walk n h st.extra a st.holds.file st.named);
-  };
+  read = moved st.read refl (end_exts image st.walk n (suc st.extra) (omega arith) st.read.upto
+      (exts_no image st.walk st.read.upto.walk n h st.extra a st.holds.file st.named));
   holds = st.holds;
 }
 

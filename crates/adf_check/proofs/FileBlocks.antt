@@ -1,5 +1,6 @@
--- The blocks of each file in the flat lists of a walk.
-use Rattle.std.proofs.Common.{◌≡◌, ℕ, suc, List, [], ◌∷◌, ◌++◌, inl, inr, ◌+◌, ◌<◌, ◌≤◌, length, refl, sym, ap, subst, ◌∙◌, arith, Bool, true, false, cond, take, drop, append_assoc, Option, Some, None, length-append}
+-- The blocks of each file stand together in the flat lists of a walk.
+use Rattle.std.proofs.Common.{◌≡◌, ℕ, suc, List, [], ◌∷◌, ◌++◌, inl, inr, ◌+◌, ◌<◌, ◌≤◌, length, refl, sym, ap, subst, ◌∙◌, arith, Bool, true, false}
+use Rattle.std.proofs.Common.{cond, take, drop, append_assoc, Option, Some, None, length-append}
 use Rattle.std.specs.Prelude.{◌==◌, is_some, nat_lt, not}
 use Rattle.std.proofs.lemmas.Bool.{eqb-false, eqb-true, false_from_ne_true, le-ltb, lt-ltb, ltb-false, ltb-true, not-true}
 use Rattle.std.proofs.lemmas.List.{append-nil}
@@ -159,7 +160,8 @@ module _ (image : List ℕ) (file : Role → Option ℕ) (tells : TellsFile file
         ∙ take-append_seam here later)
 
   -- where all files are below n
-  pub all_before : (w : List (Role × ℕ)) (n : ℕ) → ((r : Role) (b m : ℕ) → Has w r b → file r ≡ Some m → m < n) → length (file_blocks file w) ≡ blocks_before file w n
+  pub all_before : (w : List (Role × ℕ)) (n : ℕ) → ((r : Role) (b m : ℕ) → Has w r b → file r ≡ Some m → m < n)
+      → length (file_blocks file w) ≡ blocks_before file w n
   all_before w n h = ap length (picked_same (λ r. is_some (file r)) (λ r. is_below n (file r)) w (λ r b y. same (file r) (λ m e. h r b m y e)))
     where
       same : (o : Option ℕ) → ((m : ℕ) → o ≡ Some m → m < n) → is_some o ≡ is_below n o

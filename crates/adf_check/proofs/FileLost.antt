@@ -14,16 +14,16 @@ use Rattle.adf_volume.proofs.Zeros.{zero_at}
 use Rattle.adf_check.specs.Samples.{file_lost}
 use Rattle.adf_check.specs.Store.{Store, stored, entered}
 use Rattle.adf_check.specs.Reading.{next_head, IsRead, IsAtSlot, IsInChain, IsAtNode, IsInExts, IsInDatas}
-use Rattle.adf_check.specs.Files.{next_of}
+use Rattle.adf_check.specs.Datas.{next_of}
 use Rattle.adf_check.specs.Image.{IsBegun}
-use Rattle.adf_check.proofs.Beginning.{first_store, owners_of}
+use Rattle.adf_check.proofs.RootRead.{first_store, owners_of}
 use Rattle.adf_check.proofs.BitmapSteps.{map_begins}
 use Rattle.adf_check.proofs.ChainSteps.{chain_begins, chain_ends, next_chain}
 use Rattle.adf_check.proofs.ClaimSteps.{IsStored, is_stored}
 use Rattle.adf_check.proofs.DataSteps.{data_done, datas_end}
 use Rattle.adf_check.proofs.ExtSteps.{exts_end}
 use Rattle.adf_check.proofs.NodeSteps.{all_read, enter_node, file_begins, leave_directory}
-use Rattle.adf_check.proofs.Strolls.{page_then, enter_root, empty_slots, no_name, agree, agreeing, bit_is, lost_at}
+use Rattle.adf_check.proofs.SmallImages.{page_then, enter_root, empty_slots, agree, agreeing, bit_is, lost_at}
 
 -- the image
 size : blocks file_lost ≡ 16
@@ -109,6 +109,10 @@ at_file = entered at_head
 
 at_end : Store
 at_end = stored (stored at_file (Data 1 1) 3) (Data 1 2) 4
+
+-- no name was seen
+abbrev no_name : List ℕ → Type 0
+no_name x = ⊥
 
 -- the name of the header is the only one
 one_name : List ℕ → Type 0

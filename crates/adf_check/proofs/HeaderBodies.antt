@@ -1,11 +1,12 @@
 -- What the body of a header tells of its words.
 use Rattle.std.proofs.Common.{◌≡◌, ◌≢◌, ◌==◌, ℕ, List, Bool, true, false, refl, sym, ap, ◌∙◌, if◌then◌else◌}
 use Rattle.std.proofs.lemmas.Bool.{eqb-true, eqb-false, eq-eqb}
+use Rattle.adf_blocks.specs.declared.layout.TheConstants.{ST_DIR}
 use Rattle.adf_fields.specs.Words.{block}
 use Rattle.adf_blocks.specs.HeadBlock.{body_at}
 use Rattle.adf_blocks.specs.declared.head.HeadBody.{HeadBody}
 use Rattle.adf_blocks.specs.declared.head.HeadBody.TheVariants.{Dir, File}
-use Rattle.adf_volume.specs.Image.{DIR, word_in}
+use Rattle.adf_volume.specs.Image.{word_in}
 
 pick_dir : (t : Bool) (s e : ℕ) → (if t then Dir else File s e) ≡ Dir → t ≡ true
 pick_dir true s e h = refl
@@ -16,16 +17,16 @@ pick_file true s e x y h = cc
 pick_file false s e x y h = (refl, cc, cc)
 
 -- a directory has the type of one
-pub dir_type : (image : List ℕ) (b : ℕ) (body : HeadBody) → body ≡ body_at (block image b) → body ≡ Dir → word_in image b 127 ≡ DIR
+pub dir_type : (image : List ℕ) (b : ℕ) (body : HeadBody) → body ≡ body_at (block image b) → body ≡ Dir → word_in image b 127 ≡ ST_DIR
 dir_type image b body is h = eqb-true (word_in image b 127) 2 (pick_dir _ (word_in image b 81) (word_in image b 126) (sym is ∙ h))
 
 -- a file has not, and its size and its first extension block
 pub file_words : (image : List ℕ) (b size ext : ℕ) (body : HeadBody) → body ≡ body_at (block image b) → body ≡ File size ext
-    → (word_in image b 127 ≢ DIR) × (size ≡ word_in image b 81) × (ext ≡ word_in image b 126)
+    → (word_in image b 127 ≢ ST_DIR) × (size ≡ word_in image b 81) × (ext ≡ word_in image b 126)
 file_words image b size ext body is h =
     let r = pick_file (word_in image b 127 == 2) (word_in image b 81) (word_in image b 126) size ext (sym is ∙ h) in
     (eqb-false (word_in image b 127) 2 r.0, r.1, r.2)
 
 -- what is no directory has another type
-pub not_dir : (image : List ℕ) (b : ℕ) (body : HeadBody) → body ≡ body_at (block image b) → body ≢ Dir → word_in image b 127 ≢ DIR
+pub not_dir : (image : List ℕ) (b : ℕ) (body : HeadBody) → body ≡ body_at (block image b) → body ≢ Dir → word_in image b 127 ≢ ST_DIR
 not_dir image b body is h e = h (is ∙ ap (λ t. if t then Dir else File (word_in image b 81) (word_in image b 126)) (eq-eqb (word_in image b 127) 2 e))

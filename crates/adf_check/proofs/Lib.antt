@@ -1,25 +1,30 @@
-pub mod HeaderBodies
-pub mod Cursors
-pub mod StoreSteps
+-- what is kept, and where a reader is
+pub mod CursorMoves
 pub mod FileBlocks
-pub mod WalkLengths
-pub mod StoredVolume
-pub mod Strolls
-pub mod EmptyLost
-pub mod FileLost
-pub mod Claiming
-pub mod Bounds
+pub mod HeaderBodies
+pub mod StoreSteps
+pub mod OwnerTables
+-- the steps from state to state
 pub mod ClaimSteps
+pub mod ImageStart
+pub mod RootRead
 pub mod PageSteps
+pub mod NodeSteps
 pub mod ChainSteps
 pub mod ExtSteps
 pub mod DataSteps
-pub mod NodeSteps
 pub mod BitmapSteps
-pub mod StartSteps
-pub mod Beginning
-pub mod Counting
-pub mod Telling
-pub mod Following
-pub mod Bytes
-pub mod Rebuilding
+-- numbers that fit their types
+pub mod WalkLengths
+pub mod NumberBounds
+-- what is told of a checked volume
+pub mod StoredVolume
+pub mod RowLaws
+pub mod VolumeCounts
+pub mod ChainLookups
+pub mod FilePieces
+pub mod TreeEntries
+-- the states tried on images
+pub mod SmallImages
+pub mod EmptyLost
+pub mod FileLost

@@ -1,7 +1,8 @@
 -- The steps along the nodes: each is begun, and what its header names is read.
 use Rattle.std.proofs.Common.{◌≡◌, ◌≢◌, inl, inr, ℕ, zero, suc, List, [], ◌∷◌, ◌<◌, ◌≤◌, length, get_or, Some, refl, sym, ap, subst, ◌∙◌, arith}
+use Rattle.adf_blocks.specs.declared.layout.TheConstants.{ST_DIR}
 use Rattle.adf_blocks.specs.Sizes.{blocks}
-use Rattle.adf_volume.specs.Image.{DIR, kind_of, root_of, word_in}
+use Rattle.adf_volume.specs.Image.{kind_of, root_of, word_in}
 use Rattle.adf_volume.specs.Lists.{At}
 use Rattle.adf_volume.specs.Walk.{Role, Has, heads, DirAt, FileAt, IsWalk}
 use Rattle.adf_volume.specs.Walk.Role.{Root, Head, Ext, Data}
@@ -14,8 +15,8 @@ use Rattle.adf_check.specs.declared.kept.Start.{Start}
 use Rattle.adf_check.specs.Image.{IsBegun}
 use Rattle.adf_check.specs.Reading.{IsAtNode, IsAtSlot, IsInExts, IsInNode, IsRead}
 use Rattle.adf_check.specs.Store.{Store, StoreMatches, blocks_before, data_file, entered, ext_file}
-use Rattle.adf_check.proofs.Bounds.{many_blocks}
-use Rattle.adf_check.proofs.Cursors.{enter_dir, end_dir, end_all}
+use Rattle.adf_check.proofs.NumberBounds.{many_blocks}
+use Rattle.adf_check.proofs.CursorMoves.{moved, enter_dir, end_dir, end_all}
 use Rattle.adf_check.proofs.ExtSteps.{enter_exts}
 use Rattle.adf_check.proofs.FileBlocks.{all_before, data_tells, ext_tells}
 
@@ -84,7 +85,7 @@ module _ (image : List ℕ) (store : Store) (w : List (Role × ℕ)) (t : StoreM
       let z : r ≡ record { parent = k.0; head = k.3 } = at_fun store.rows i r (record { parent = k.0; head = k.3 }) h (t.lists.row i k.0 k.1 k.2 k.3 k.4) in
       (k.0, k.1, k.2, subst (Has w (Head (suc i) k.0 k.1 k.2)) (ap (λ (x : KeptHeader). x.head) (sym z)) k.4)
 
-  pub file_here : (i : ℕ) (r : KeptHeader) → At store.rows i r → word_in image r.head 127 ≢ DIR → FileAt image w (suc i) r.head
+  pub file_here : (i : ℕ) (r : KeptHeader) → At store.rows i r → word_in image r.head 127 ≢ ST_DIR → FileAt image w (suc i) r.head
   file_here i r h d =
       let x = node_here i r h in
       let k = (kept image v (Head (suc i) x.0 x.1 x.2) r.head x.3).2 in (
@@ -96,7 +97,7 @@ module _ (image : List ℕ) (store : Store) (w : List (Role × ℕ)) (t : StoreM
 pub enter_directory : (image : List ℕ) (store : Store) (n a : ℕ) (st : IsInNode image store n) → DirAt image st.walk n a → IsAtSlot image store n a 0
 enter_directory image store n a st dir = record {
   walk = st.walk;
-  read = record { tells = st.read.tells; started = st.read.started; upto = enter_dir image st.walk n a dir st.read.upto };
+  read = moved st.read refl (enter_dir image st.walk n a dir st.read.upto);
   dir = dir;
 }
 
@@ -104,7 +105,7 @@ enter_directory image store n a st dir = record {
 pub leave_directory : (image : List ℕ) (store : Store) (n a : ℕ) → IsAtSlot image store n a 72 → IsAtNode image store (suc n)
 leave_directory image store n a st = record {
   walk = st.walk;
-  read = record { tells = st.read.tells; started = st.read.started; upto = end_dir image st.walk n st.read.upto };
+  read = moved st.read refl (end_dir image st.walk n st.read.upto);
 }
 
 pub root_begins : (image : List ℕ) (store : Store) (n a : ℕ) → n ≡ 0 → a ≡ root_of image → IsInNode image store n → IsAtSlot image store n a 0
@@ -122,12 +123,12 @@ module _ {image : List ℕ} {store : Store} {n i : ℕ} {row : KeptHeader} (begu
       let x = node_here image store st.walk st.read.tells st.read.upto.walk i row here in
       (in_range image st.read.upto.walk (many_blocks image begun) (Head (suc i) x.0 x.1 x.2) row.head x.3).1
 
-  pub directory_begins : word_in image row.head 127 ≡ DIR → IsAtSlot image store n row.head 0
+  pub directory_begins : word_in image row.head 127 ≡ ST_DIR → IsAtSlot image store n row.head 0
   directory_begins e =
       enter_directory image store n row.head st (subst (λ n. DirAt image st.walk n row.head) (sym node)
       (node_here image store st.walk st.read.tells st.read.upto.walk i row here, e))
 
-  pub file_begins : word_in image row.head 127 ≢ DIR → IsInExts image store n row.head (row.head ∷ []) row.head (word_in image row.head 126)
+  pub file_begins : word_in image row.head 127 ≢ ST_DIR → IsInExts image store n row.head (row.head ∷ []) row.head (word_in image row.head 126)
   file_begins e =
       enter_exts image store n row.head st (subst (λ n. FileAt image st.walk n row.head) (sym node)
       (file_here image store st.walk st.read.tells st.read.upto.walk i row here e))

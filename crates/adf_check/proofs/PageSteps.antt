@@ -1,5 +1,7 @@
 -- The steps along the bitmap pages and the bitmap extension blocks.
-use Rattle.std.proofs.Common.{◌≡◌, inl, inr, ℕ, zero, suc, List, [], ◌∷◌, ◌++◌, ◌+◌, ◌-◌, ◌*◌, ◌/◌, ◌%◌, ◌<◌, ◌≤◌, length, refl, sym, ap, subst, ◌∙◌, arith, Some, None}
+use Rattle.adf_check.specs.Claims.{InRange}
+use Rattle.std.proofs.Common.{◌≡◌, inl, inr, ℕ, zero, suc, List, [], ◌∷◌, ◌++◌, ◌+◌, ◌-◌, ◌*◌, ◌/◌, ◌%◌, ◌<◌, ◌≤◌, length, refl, sym, ap, subst, ◌∙◌}
+use Rattle.std.proofs.Common.{arith, Some, None}
 use Rattle.std.specs.Prelude.{nat_lt, slice_index}
 use Rattle.std.proofs.lemmas.Bool.{cond-true, cond-false, le-ltb, lt-ltb}
 use Rattle.std.proofs.lemmas.Bool.Decides.{nat_tests}
@@ -17,16 +19,15 @@ use Rattle.adf_volume.specs.Walk.Role.{MapExt, Page}
 use Rattle.adf_volume.proofs.FormDemands.{all_demanded, first_demanded}
 use Rattle.adf_volume.proofs.Lists.{at_snoc, snoc_length}
 use Rattle.adf_volume.proofs.MemberFacts.{kept}
-use Rattle.adf_check.specs.Checks.{fault}
+use Rattle.adf_check.specs.Fault.{IsTrueFault, fault}
 use Rattle.adf_check.specs.Cursor.{IsUpTo}
 use Rattle.adf_check.specs.Cursor.Cursor.{BeforePage, BeforeRole}
-use Rattle.adf_check.specs.Found.{InRange, IsTrueFault}
 use Rattle.adf_check.specs.Image.{IsBegun}
 use Rattle.adf_check.specs.Pages.{AreListed, index_of_map_ext, index_of_page}
 use Rattle.adf_check.specs.Reading.{IsAtNode, IsAtPage, IsBeforePage, block_of_page, map_ext_block}
 use Rattle.adf_check.specs.Store.{Store, owner_at}
 use Rattle.adf_check.proofs.ClaimSteps.{IsNamed, IsStored, form_fault, read_one}
-use Rattle.adf_check.proofs.Cursors.{end_all_pages}
+use Rattle.adf_check.proofs.CursorMoves.{moved, end_all_pages}
 
 -- the word that names a page
 index_is : (image : List ℕ) (w : List (Role × ℕ)) (k a n : ℕ) → NamesPage image w k a n → index_of_page k ≡ n
@@ -55,7 +56,7 @@ same_holder image store k a st h =
     elim (dec_lt k 25) [ yes l ↦ omega arith | no l ↦ let y : 0 < (k - 25) % 127 = h (omega arith) in omega arith ] in
     record {
       walk = st.walk;
-      read = record { tells = st.read.tells; started = st.read.started; upto = subst (IsUpTo image st.walk 0 1) z st.read.upto };
+      read = moved st.read refl (subst (IsUpTo image st.walk 0 1) z st.read.upto);
       index = x.0;
       named = x.1;
     }
@@ -64,7 +65,7 @@ same_holder image store k a st h =
 pub pages_end : (image : List ℕ) (store : Store) (a : ℕ) → IsBeforePage image store (pages_needed (blocks image)) a → IsAtNode image store 0
 pages_end image store a st = record {
   walk = st.walk;
-  read = record { tells = st.read.tells; started = st.read.started; upto = end_all_pages image st.walk st.read.upto };
+  read = moved st.read refl (end_all_pages image st.walk st.read.upto);
 }
 
 -- pages by the words alone
@@ -153,7 +154,7 @@ module _ {image : List ℕ} {store : Store} {i a b : ℕ} (begun : IsBegun image
       let y : i + (i + 101) / 127 ≡ 25 + 128 * number = omega arith in
       record {
         begun = begun;
-        read = record { tells = st.read.tells; started = st.read.started; upto = subst (IsUpTo image st.walk 0 1) y st.read.upto };
+        read = moved st.read refl (subst (IsUpTo image st.walk 0 1) y st.read.upto);
         index = q.0;
         asked = q.1;
         names = q.2;

@@ -1,12 +1,13 @@
--- What a reader keeps, one member of a walk more.
-use Rattle.std.proofs.Common.{◌≡◌, ℕ, suc, List, [], ◌∷◌, ◌++◌, inl, inr, ◌<◌, ◌≤◌, ◌≢◌, length, Option, refl, sym, ap, subst, ◌∙◌, arith, set, length-set, get_or-set_same, get_or-set_other, cond}
+-- What is kept tells of a walk: with one member more.
+use Rattle.std.proofs.Common.{◌≡◌, ℕ, suc, List, [], ◌∷◌, ◌++◌, inl, inr, ◌<◌, ◌≤◌, ◌≢◌, length, Option, refl, sym, ap, subst, ◌∙◌, arith, set}
+use Rattle.std.proofs.Common.{length-set, get_or-set_same, get_or-set_other, cond}
 use native.Mathlib.Decide.{ℕ_discrete}
 use Rattle.adf_blocks.specs.Sizes.{blocks}
 use Rattle.adf_volume.specs.declared.owner.Owner.{Owner}
 use Rattle.adf_volume.specs.declared.owner.Owner.TheVariants.{Free}
 use Rattle.adf_volume.specs.Lists.{At}
 use Rattle.adf_volume.specs.Walk.{Role, first, second, Has, head_count, heads, IsAbsent}
-use Rattle.adf_volume.specs.Walk.Role.{Root, Page, MapExt, Head, Ext, Data}
+use Rattle.adf_volume.specs.Walk.Role.{Root, Head}
 use Rattle.adf_volume.specs.LayoutRoles.{owner_of}
 use Rattle.adf_volume.proofs.Lists.{at_new, at_old, at_below, snoc_length}
 use Rattle.adf_check.specs.declared.kept.KeptHeader.{KeptHeader}
@@ -81,11 +82,7 @@ module _ (rows : List KeptHeader) (w : List (Role × ℕ)) (t : Rows rows w) whe
       | inr y ↦ at_old rows (record { parent = p; head = b } ∷ []) i (record { parent = p'; head = b' }) (t.row i p' s' j' b' y)
     ]);
   }
-  rows_more Root b f = no_row Root b (λ n p s j e. omega (arith, e)) refl
-  rows_more (Page k) b f = no_row (Page k) b (λ n p s j e. omega (arith, e)) refl
-  rows_more (MapExt k) b f = no_row (MapExt k) b (λ n p s j e. omega (arith, e)) refl
-  rows_more (Ext m k) b f = no_row (Ext m k) b (λ n p s j e. omega (arith, e)) refl
-  rows_more (Data m k) b f = no_row (Data m k) b (λ n p s j e. omega (arith, e)) refl
+  rows_more r b f = no_row r b (λ n p s j e. omega (arith, e)) refl
 
 -- one member of a walk more
 pub tells_more : (image : List ℕ) (store : Store) (w : List (Role × ℕ)) (r : Role) (b : ℕ) → ((n p s j : ℕ) → r ≡ Head n p s j → n ≡ suc (heads w))

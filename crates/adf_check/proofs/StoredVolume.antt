@@ -4,7 +4,9 @@ use Rattle.adf_tree.specs.declared.entry.Entry.{Entry}
 use Rattle.adf_volume.specs.declared.owner.Owner.{Owner}
 use Rattle.adf_volume.specs.declared.owner.Owner.TheVariants.{Free}
 use Rattle.adf_volume.specs.Layout.{exts_of, datas_of}
+use Rattle.adf_volume.specs.Walk.{Role, Has}
 use Rattle.adf_volume.specs.Walk.Role.{Ext, Data}
+use Rattle.adf_volume.specs.LayoutRoles.{Part}
 use Rattle.adf_volume.specs.LayoutRoles.{owner_of}
 use Rattle.adf_volume.specs.Made.{tree_in, layout_in, exts_in, datas_in}
 use Rattle.adf_volume.proofs.Lists.{at_fun, same_list}
@@ -40,8 +42,9 @@ module _ (image : List ℕ) (store : Store) (st : StoreFits image store) where
   rows_fit : RowsFit image (tree_in image st.walk) (layout_in st.walk) store.rows
   rows_fit = record {
     count = st.read.tells.lists.count ∙ sym (entries_length image st.walk st.walk);
-    head = (λ i r h. let x =
-        node_here image store st.walk st.read.tells st.read.is_walk i r h in (head_is image st.walk st.read.is_walk st.read.whole (suc i) x.0 x.1 x.2 r.head x.3).0);
+    head = (λ i r h.
+        let x = node_here image store st.walk st.read.tells st.read.is_walk i r h in
+        (head_is image st.walk st.read.is_walk st.read.whole (suc i) x.0 x.1 x.2 r.head x.3).0);
     parent = (λ i r e h k.
         let x = entry_is image st.walk st.read.is_walk st.read.whole (suc i) e k in
         let z : r ≡ record { parent = x.0; head = x.3 } =
@@ -49,19 +52,22 @@ module _ (image : List ℕ) (store : Store) (st : StoreFits image store) where
         ap (λ (y : Entry). y.parent) x.5 ∙ ap (λ (y : KeptHeader). y.parent) (sym z));
   }
 
+  -- a part that the layout tells is in the walk, and the other way round
+  walked : (r : Role) (b : ℕ) → Part image (tree_in image st.walk) (layout_in st.walk) r b → Has st.walk r b
+  walked = part_walked image (tree_in image st.walk) (layout_in st.walk) st.fits st.walk st.read.is_walk st.read.whole
+
+  agreed : (r : Role) (b : ℕ) → Has st.walk r b → Part image (tree_in image st.walk) (layout_in st.walk) r b
+  agreed r b = agreement image (tree_in image st.walk) (layout_in st.walk) st.fits st.walk r b st.read.is_walk
+
   exts_are : (n : ℕ) → exts_of (layout_in st.walk) n ≡ exts_in st.walk n
   exts_are n = same_list (exts_of (layout_in st.walk) n) (exts_in st.walk n)
-      (λ k b h. ext_has image st.read.is_walk n k b (part_walked image (tree_in image st.walk) (layout_in st.walk) st.fits st.walk st.read.is_walk st.read.whole
-      (Ext n (suc k)) b h))
-      (λ k b h. agreement image (tree_in image st.walk) (layout_in st.walk) st.fits st.walk (Ext n (suc k)) b st.read.is_walk
-      (has_ext image st.walk st.read.is_walk n k b h))
+      (λ k b h. ext_has image st.read.is_walk n k b (walked (Ext n (suc k)) b h))
+      (λ k b h. agreed (Ext n (suc k)) b (has_ext image st.walk st.read.is_walk n k b h))
 
   datas_are : (n : ℕ) → datas_of (layout_in st.walk) n ≡ datas_in st.walk n
   datas_are n = same_list (datas_of (layout_in st.walk) n) (datas_in st.walk n)
-      (λ k b h. data_has image st.walk st.read.is_walk n k b (part_walked image (tree_in image st.walk) (layout_in st.walk) st.fits st.walk st.read.is_walk st.read.whole
-      (Data n (suc k)) b h))
-      (λ k b h. agreement image (tree_in image st.walk) (layout_in st.walk) st.fits st.walk (Data n (suc k)) b st.read.is_walk
-      (has_data image st.walk st.read.is_walk n k b h))
+      (λ k b h. data_has image st.walk st.read.is_walk n k b (walked (Data n (suc k)) b h))
+      (λ k b h. agreed (Data n (suc k)) b (has_data image st.walk st.read.is_walk n k b h))
 
   starts_fit : StartsFit (layout_in st.walk) store
   starts_fit = record {

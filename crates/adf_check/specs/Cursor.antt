@@ -4,7 +4,7 @@ use Rattle.std.specs.Prelude.{◌≡◌, ℕ, List, ◌+◌, ◌/◌, ◌<◌, �
 use Rattle.std.proofs.Common.{suc}
 use Rattle.adf_volume.specs.Walk.{Role, first, second, third, Has, Asks, Lacks, IsWalk}
 
--- where a reader is: behind page k - 1, behind node n - 1, at the beginning of node n, or at a role that comes next
+-- where a reader is: before page k and the bitmap extension block that it may begin, before node n, at the beginning of node n, or before a role
 pub data Cursor : Type 0 where
   BeforePage : (k : ℕ) → Cursor
   BeforeNode : (n : ℕ) → Cursor

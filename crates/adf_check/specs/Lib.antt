@@ -1,18 +1,25 @@
-pub mod Cursor
+-- what a reader keeps, where it is, and the states that it goes through
 pub mod Store
+pub mod Cursor
 pub mod Reading
+-- what its answer stands for
 pub mod StoredVolume
+pub mod Volumes
+-- faults and claims
+pub mod Fault
 pub mod Owners
-pub mod Narrow
-pub mod Checks
+pub mod NarrowOwner
+pub mod Claims
+-- what is read
+pub mod Start
 pub mod Image
 pub mod Found
 pub mod Pages
-pub mod Files
-pub mod Start
-pub mod Volumes
-pub mod Rows
+pub mod Datas
+-- what is told
 pub mod Lookup
+pub mod Rows
 pub mod Pieces
 pub mod Rebuild
+-- images to try the states on
 pub mod Samples

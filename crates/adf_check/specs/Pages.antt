@@ -7,7 +7,7 @@ use Rattle.adf_volume.specs.declared.owner.Owner.{Owner}
 use Rattle.adf_volume.specs.declared.owner.Owner.TheVariants.{Free}
 use Rattle.adf_check.specs.Reading.{IsListed}
 use Rattle.adf_check.specs.Store.{owner_at}
-use Rattle.adf_check.specs.Checks.{fault}
+use Rattle.adf_check.specs.Fault.{fault}
 use Rattle.adf_check.specs.declared.fault.Fault.{Fault}
 
 -- the word that names page i, in the root or in a bitmap extension block

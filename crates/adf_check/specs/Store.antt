@@ -49,11 +49,12 @@ file_blocks file w = picked (λ r. is_some (file r)) w
 abbrev pub push_block : (Role → Option ℕ) → Role → ℕ → List ℕ → List ℕ
 push_block file r b bs = cond (is_some (file r)) (bs ++ b ∷ []) bs
 
+-- a node below m
 abbrev pub is_below : ℕ → Option ℕ → Bool
 is_below m None = false
 is_below m (Some n) = nat_lt n m
 
--- how many of them are of nodes below m
+-- how many of the blocks of files are of nodes below m
 abbrev pub blocks_before : (Role → Option ℕ) → List (Role × ℕ) → ℕ → ℕ
 blocks_before file w m = length (picked (λ r. is_below m (file r)) w)
 

@@ -1,11 +1,11 @@
 -- What a checked volume stands for.
 use Rattle.std.specs.Prelude.{◌≡◌, ◌-◌, ◌==◌, ℕ, Bool, not, List, length, count_by}
-use Rattle.adf_blocks.specs.declared.layout.TheConstants.{SECONDARY_TYPE}
+use Rattle.adf_blocks.specs.declared.layout.TheConstants.{SECONDARY_TYPE, ST_DIR}
 use Rattle.adf_tree.specs.declared.entry.Entry.{Entry}
 use Rattle.adf_tree.specs.declared.entry.Stamps.{Stamps}
 use Rattle.adf_tree.specs.Tree.{Tree, is_dir_body}
 use Rattle.adf_blocks.specs.Sizes.{blocks}
-use Rattle.adf_volume.specs.Image.{DIR, label_of, root_of, stamps_of, word_in}
+use Rattle.adf_volume.specs.Image.{label_of, root_of, stamps_of, word_in}
 use Rattle.adf_volume.specs.Layout.{Layout, owned}
 use Rattle.adf_check.specs.declared.kept.KeptHeader.{KeptHeader}
 use Rattle.adf_check.specs.StoredVolume.{StoreStandsFor}
@@ -45,4 +45,4 @@ counts_of image t l = record {
 
 -- whether the header at a row's block is that of a directory
 abbrev pub is_dir_at : List ℕ → KeptHeader → Bool
-is_dir_at image r = word_in image r.head SECONDARY_TYPE == DIR
+is_dir_at image r = word_in image r.head SECONDARY_TYPE == ST_DIR

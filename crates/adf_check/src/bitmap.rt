@@ -1,11 +1,12 @@
 // The bitmap against the owners.
 
+ghost use Rattle.adf_check.specs.Fault.{IsTrueFault};
 ghost use Rattle.std.specs.Prelude.{◌≡◌, ◌<◌, ◌+◌, ◌*◌, ◌↔◌, IsBitSet, IsTrue, length, min, OnOk, IfErr};
 ghost use Rattle.adf_blocks.specs.Sizes.{blocks, pages_needed};
 ghost use Rattle.adf_volume.specs.declared.owner.Owner.TheVariants.{Free};
 ghost use Rattle.adf_check.specs.Reading.{IsMapped, IsRead, StoreFits};
 ghost use Rattle.adf_check.specs.Store.{owner_at};
-ghost use Rattle.adf_check.specs.Found.{IsTrueFault, store_of};
+ghost use Rattle.adf_check.specs.Found.{store_of};
 ghost use Rattle.adf_check.specs.Image.{IsBegun};
 ghost use Rattle.adf_check.specs.Pages.{AreListed, IsBitFault};
 

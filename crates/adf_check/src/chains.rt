@@ -1,10 +1,11 @@
 // Directories: the headers of each slot's chain.
 
+ghost use Rattle.adf_check.specs.Fault.{IsTrueFault};
 ghost use Rattle.std.specs.Prelude.{◌≡◌, ◌≢◌, ◌≤◌, ◌<◌, ◌+◌, ◌^◌, OnOk, IfOk, IfErr};
 ghost use Rattle.adf_blocks.specs.Sizes.{blocks};
 ghost use Rattle.adf_volume.specs.Image.{word_in};
 ghost use Rattle.adf_check.specs.Reading.{IsAtNode, IsAtSlot, IsInChain};
-ghost use Rattle.adf_check.specs.Found.{IsFurther, IsTrueFault, left, sees_of, store_of};
+ghost use Rattle.adf_check.specs.Found.{IsFurther, left, sees_of, store_of};
 
 use crate::claims::claim_named;
 use crate::fault::{Fault, fault_at, no_memory};

@@ -1,11 +1,11 @@
 // The whole check.
 
+ghost use Rattle.adf_check.specs.Fault.{IsTrueFault};
 ghost use Rattle.std.specs.Prelude.{◌≡◌, ◌≢◌, IfOk, IfErr};
 ghost use Rattle.adf_tree.specs.Tree.{Tree};
 ghost use Rattle.adf_volume.specs.Fits.{Fits};
 ghost use Rattle.adf_volume.specs.Layout.{Layout};
 ghost use Rattle.adf_volume.specs.Walk.{FirstFault};
-ghost use Rattle.adf_check.specs.Found.{IsTrueFault};
 ghost use Rattle.adf_check.specs.Volumes.{StandsFor};
 
 use crate::bitmap::check_bitmap;

@@ -1,10 +1,10 @@
 // Claims of blocks that are named by words.
 
+ghost use Rattle.adf_check.specs.Claims.{InRange, IsClaimFault};
 ghost use Rattle.std.specs.Prelude.{◌≡◌, ◌+◌, ◌≤◌, OnOk, IfErr, length, set, true};
 ghost use Rattle.adf_volume.specs.declared.owner.Owner.TheVariants.{Free};
 ghost use Rattle.adf_check.specs.Store.{owner_at};
-ghost use Rattle.adf_check.specs.Found.{InRange, IsClaimFault};
-ghost use Rattle.adf_check.specs.Narrow.{wide};
+ghost use Rattle.adf_check.specs.NarrowOwner.{wide};
 ghost use Rattle.adf_check.specs.Owners.{is_part, owned_count};
 
 use crate::fault::{Fault, fault_at};

@@ -1,14 +1,16 @@
 // The data blocks of files.
 
+ghost use Rattle.adf_blocks.specs.declared.layout.TheConstants.{SIZE};
+ghost use Rattle.adf_check.specs.Fault.{IsTrueFault};
 ghost use Rattle.std.specs.Prelude.{◌≡◌, ◌≤◌, ◌<◌, ◌+◌, ◌-◌, ◌*◌, ◌/◌, ◌%◌, cond, nat_lt, min, OnOk, IfErr, length, slice_index, ℕ};
 ghost use Rattle.adf_tree.specs.declared.entry.Kind.TheVariants.{Ofs};
 ghost use Rattle.adf_blocks.specs.Sizes.{blocks, count};
 ghost use Rattle.adf_volume.specs.Demands.{AllHold, FirstFails, data_demands};
-ghost use Rattle.adf_volume.specs.Image.{held, kind_of, word_in};
+ghost use Rattle.adf_volume.specs.Image.{held, kind_of, table_word, word_in};
 ghost use Rattle.adf_volume.specs.Walk.{data_count};
 ghost use Rattle.adf_check.specs.Reading.{IsAtNode, IsInDatas};
-ghost use Rattle.adf_check.specs.Found.{IsFurther, IsTrueFault, store_of};
-ghost use Rattle.adf_check.specs.Files.{next_of};
+ghost use Rattle.adf_check.specs.Found.{IsFurther, store_of};
+ghost use Rattle.adf_check.specs.Datas.{next_of};
 ghost use Rattle.adf_check.specs.Image.{IsBegun};
 
 use crate::claims::claim_named;
@@ -55,7 +57,7 @@ pub(crate) fn held_in(size: u32, number: u32) -> u32
 fn pointer(image: &Image<'_>, table: &[u32], k: u32) -> u32
     requires inside { k < 72 * length table.now }
     requires blocks { (i : ℕ) → i < length table.now → slice_index table.now i < blocks image.now }
-    ensures { result ≡ word_in image.now (slice_index table.now (k / 72)) (77 - k % 72) }
+    ensures { result ≡ word_in image.now (slice_index table.now (k / 72)) (table_word k) }
 {
     image.table(table[k as usize / 72]).pointer(k as usize % 72)
 }
@@ -107,12 +109,12 @@ fn read_data_block(
     k: u32,
 ) -> Result<(), Fault>
     requires begun { IsBegun image.now }
-    requires size { file.now.size ≡ word_in image.now file.now.head 81 }
+    requires size { file.now.size ≡ word_in image.now file.now.head SIZE }
     requires count { file.now.count ≡ data_count image.now file.now.head }
     requires enough { file.now.count ≤ 72 * length table.now }
     requires inside { k < file.now.count }
     requires holder { holder ≡ slice_index table.now (k / 72) }
-    requires named { b ≡ word_in image.now (slice_index table.now (k / 72)) (77 - k % 72) }
+    requires named { b ≡ word_in image.now (slice_index table.now (k / 72)) (table_word k) }
     requires state { IsInDatas image.now (store_of found.old) file.now.node file.now.head table.now k }
     ensures state { OnOk result (IsInDatas image.now (store_of found.new) file.now.node file.now.head table.now (k + 1)) }
     ensures fewer { OnOk result (IsFurther found.old found.new) }
@@ -142,7 +144,7 @@ fn read_named(
     m: u32,
 ) -> Result<(), Fault>
     requires begun { IsBegun image.now }
-    requires size { file.now.size ≡ word_in image.now file.now.head 81 }
+    requires size { file.now.size ≡ word_in image.now file.now.head SIZE }
     requires count { file.now.count ≡ data_count image.now file.now.head }
     requires enough { file.now.count ≤ 72 * length table.now }
     requires inside { 72 * m < file.now.count }
@@ -174,7 +176,7 @@ pub fn read_datas(
     size: u32,
 ) -> Result<(), Fault>
     requires begun { IsBegun image.now }
-    requires size { size ≡ word_in image.now head 81 }
+    requires size { size ≡ word_in image.now head SIZE }
     requires state { IsInDatas image.now (store_of found.old) node head table.now 0 }
     ensures state { OnOk result (IsAtNode image.now (store_of found.new) (node + 1)) }
     ensures fewer { OnOk result (IsFurther found.old found.new) }

@@ -1,7 +1,7 @@
 // Faults.
 
 ghost use Rattle.std.specs.Prelude.{◌≡◌};
-ghost use Rattle.adf_check.specs.Checks.{fault};
+ghost use Rattle.adf_check.specs.Fault.{fault};
 
 use adf_blocks::Cause;
 

@@ -1,7 +1,7 @@
 // Owners in numbers of 32 bits.
 
 ghost use Rattle.std.specs.Prelude.{◌≡◌, ◌<◌, ◌^◌};
-ghost use Rattle.adf_check.specs.Narrow.{wide};
+ghost use Rattle.adf_check.specs.NarrowOwner.{wide};
 
 use adf_tree::Node;
 use adf_volume::Owner;

@@ -1,12 +1,13 @@
 // The nodes of a volume, one after the other: the root, and each entry as its header was found.
 
 ghost use Rattle.std.specs.Prelude.{◌≡◌, ◌≤◌, ◌<◌, ◌+◌, ◌^◌, [], ◌∷◌, OnOk, IfErr, length};
+ghost use Rattle.adf_blocks.specs.declared.layout.TheConstants.{SIZE};
 ghost use Rattle.adf_blocks.specs.Sizes.{blocks};
 ghost use Rattle.adf_volume.specs.Image.{word_in};
 ghost use Rattle.adf_check.specs.Reading.{IsAtNode, IsInExts, IsInNode, IsRead};
 ghost use Rattle.adf_check.specs.Store.{entered};
-ghost use Rattle.adf_check.specs.Checks.{fault};
-ghost use Rattle.adf_check.specs.Found.{IsFurther, IsTrueFault, store_of};
+ghost use Rattle.adf_check.specs.Fault.{IsTrueFault, fault};
+ghost use Rattle.adf_check.specs.Found.{IsFurther, store_of};
 ghost use Rattle.adf_check.specs.Image.{IsBegun};
 
 use crate::chains::read_directory;
@@ -49,7 +50,7 @@ fn read_file(
     ext: u32,
 ) -> Result<(), Fault>
     requires begun { IsBegun image.now }
-    requires size { size ≡ word_in image.now head 81 }
+    requires size { size ≡ word_in image.now head SIZE }
     requires state { IsInExts image.now (store_of found.old) node head (head ∷ []) head ext }
     ensures state { OnOk result (IsAtNode image.now (store_of found.new) (node + 1)) }
     ensures fewer { OnOk result (IsFurther found.old found.new) }

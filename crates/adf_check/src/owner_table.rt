@@ -2,7 +2,7 @@
 
 ghost use Rattle.std.specs.Prelude.{◌≡◌, ◌≢◌, ◌≤◌, ◌<◌, ◌+◌, ◌-◌, ◌∷◌, ◌++◌, ◌↔◌, [], length, replicate, ℕ, true, false, IsTrue, IsOk, IfOk, IfErr, OnOk, OnErr, slice_set};
 ghost use Rattle.adf_check.specs.Store.{owner_at};
-ghost use Rattle.adf_check.specs.Narrow.{wide};
+ghost use Rattle.adf_check.specs.NarrowOwner.{wide};
 ghost use Rattle.adf_check.specs.Owners.{is_part, owned_count};
 
 use crate::narrow_owner::{NarrowOwner, wide};
@@ -22,7 +22,7 @@ pub struct OwnerTable {
 
 impl Model for OwnerTable {
     ghost use Rattle.std.specs.Prelude.{List, map};
-    ghost use Rattle.adf_check.specs.Narrow.{wide};
+    ghost use Rattle.adf_check.specs.NarrowOwner.{wide};
     ghost use Rattle.adf_check.specs.Owners.{IsTable};
     ghost use Rattle.adf_volume.specs.declared.owner.Owner.{Owner};
 

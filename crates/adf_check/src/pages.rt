@@ -1,11 +1,12 @@
 // The bitmap's pages: those that the root names, then each bitmap extension block with those that it names.
 
+ghost use Rattle.adf_check.specs.Fault.{IsTrueFault};
 ghost use Rattle.std.specs.Prelude.{◌≡◌, ◌≤◌, ◌<◌, ◌+◌, ◌-◌, ◌%◌, ◌↔◌, IsTrue, OnOk, IfOk, IfErr};
 ghost use Rattle.adf_fields.specs.Words.{block};
 ghost use Rattle.adf_blocks.specs.Sizes.{blocks, pages_needed};
 ghost use Rattle.adf_volume.specs.Image.{root_of, word_in};
 ghost use Rattle.adf_check.specs.Reading.{IsAtNode, IsAtPage, IsBeforePage, block_of_page};
-ghost use Rattle.adf_check.specs.Found.{IsTrueFault, store_of};
+ghost use Rattle.adf_check.specs.Found.{store_of};
 ghost use Rattle.adf_check.specs.Image.{IsBegun};
 ghost use Rattle.adf_check.specs.Pages.{AreListed, index_of_map_ext, index_of_page};
 

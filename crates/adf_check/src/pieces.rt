@@ -6,7 +6,7 @@ ghost use Rattle.std.specs.List.{All, concat};
 ghost use Rattle.adf_tree.specs.Tree.{Tree, entry};
 ghost use Rattle.adf_tree.specs.declared.entry.Kind.TheVariants.{Ffs};
 ghost use Rattle.adf_blocks.specs.Sizes.{blocks, count};
-ghost use Rattle.adf_volume.specs.Image.{DIR, held, kind_of, piece, pieces, word_in};
+ghost use Rattle.adf_volume.specs.Image.{held, kind_of, piece, pieces, word_in};
 ghost use Rattle.adf_volume.specs.Layout.{Layout, at_node, datas_of};
 ghost use Rattle.adf_check.specs.StoredVolume.{StoreStandsFor};
 ghost use Rattle.adf_check.specs.Reading.{StoreFits};

@@ -1,9 +1,9 @@
 // The size of an image and its first four bytes.
 
+ghost use Rattle.adf_check.specs.Fault.{IsTrueFault};
 ghost use Rattle.std.specs.Prelude.{◌≡◌, ◌≤◌, length, slice_index, ◌==◌, ◌&&◌, nat_le, IfOk, IfErr};
 ghost use Rattle.adf_fields.specs.Words.{block};
 ghost use Rattle.adf_volume.specs.Image.{kind_of, root_of};
-ghost use Rattle.adf_check.specs.Found.{IsTrueFault};
 ghost use Rattle.adf_check.specs.Image.{IsBegun};
 ghost use Rattle.adf_check.specs.Start.{is_image_len, start_form};
 ghost use Rattle.adf_blocks.specs.Forms.{ReadsForm};

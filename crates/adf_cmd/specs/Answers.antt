@@ -1,11 +1,12 @@
 -- What the command answers to its words and its input.
 use Rattle.std.specs.Prelude.{◌≡◌, ◌≢◌, ◌<◌, ◌-◌, ◌*◌, ◌⊎◌, ℕ, Bool, true, false, List, [], codes, Option, None, Some, option_map, if◌then◌else◌}
 use Rattle.std.specs.Io.KnownBytes.{Appends}
+use Rattle.adf_blocks.specs.declared.layout.TheConstants.{MOST_BLOCKS}
 use Rattle.adf_fields.specs.declared.dates.Stamp.{Stamp}
 use Rattle.adf_tree.specs.PathTexts.{IsPathText}
 use Rattle.adf_tree.specs.Tree.{Tree, entry, find, with_kind}
 use Rattle.adf_tree.specs.declared.entry.Kind.{Kind}
-use Rattle.adf_blocks.specs.Sizes.{MOST_BLOCKS, blocks}
+use Rattle.adf_blocks.specs.Sizes.{blocks}
 use Rattle.adf_volume.specs.Fits.{Fits}
 use Rattle.adf_volume.specs.Layout.{Layout}
 use Rattle.adf_volume.specs.Walk.{FirstFault}

@@ -19,7 +19,8 @@ use Rattle.adf_manifest.specs.Reader.{bare}
 use Rattle.adf_manifest.specs.declared.lines.Sort.{Sort}
 use Rattle.adf_manifest.specs.declared.lines.Sort.TheVariants.{Dir, File}
 use Rattle.adf_manifest.specs.declared.reader.Head.{Head}
-use Rattle.adf_manifest.proofs.Growth.{with_run, with_run_lines, last_lines, new_item, new_lines, noted, noted_lines, room_less, well_before, with_last, with_new}
+use Rattle.adf_manifest.proofs.Growth.{with_run, with_run_lines, last_lines, new_item, new_lines, noted, noted_lines, room_less, well_before, with_last}
+use Rattle.adf_manifest.proofs.Growth.{with_new}
 use Rattle.adf_manifest.proofs.Growth.{last_is, last_well}
 use Rattle.adf_manifest.proofs.StateLaws.{bare_lines, bare_well}
 use Rattle.adf_tree.proofs.Lists.{last_off}

@@ -92,20 +92,6 @@ pub room_keeps : (es : List Entry) (e : Entry) (names : List (List ℕ)) (b : Bo
 room_keeps es e names true t h = added_tree es e t (room_may_add es e names h)
 room_keeps es e names false t h = t
 
--- the entry that `add` makes
-same_entry : (es : List Entry) (path : List (List ℕ)) (meta : Meta) (body : Body) (x name : List ℕ) (p : ℕ) → (length path == 0) ≡ false
-    → x ≡ get_or path (length path - 1) x → name ≡ x
-    → (let r : Result ℕ AddFault = Ok p in r ≡ room_at es name (directory_from es 0 (take (length path - 1) path)))
-    → (let e : Entry = record { parent = p; name = name; meta = meta; body = body } in e ≡ new_entry es path meta body)
-same_entry es path meta body x name p some at same ok =
-    let lt : length path - 1 < length path = omega (arith, eqb-false (length path) 0 some) in
-    let last : name ≡ last_of path = same ∙ (at ∙ get_or_default path (length path - 1) x [] lt) in
-    let room : (let r : Result ℕ AddFault = Ok p in room_for es path ≡ r) =
-    ap (λ b. let r : Result ℕ AddFault = if b then Err EmptyPath else room_at es (last_of path) (directory_from es 0 (parents_of path)) in r) some
-    ∙ (ap (λ y. room_at es y (directory_from es 0 (parents_of path))) (sym last) ∙ sym ok) in
-    ap (λ n. let e : Entry = record { parent = p; name = n; meta = meta; body = body } in e) last
-    ∙ ap (λ q. let e : Entry = record { parent = q; name = last_of path; meta = meta; body = body } in e) (sym (ap in_directory room))
-
 -- an entry is the one that a path with room gets
 pub record IsNew (es : List Entry) (path : List (List ℕ)) (meta : Meta) (body : Body) (e : Entry) : Type 0 where
   pub is : path ≡ parents_of path ++ e.name ∷ []
@@ -116,11 +102,18 @@ pub is_new : (es : List Entry) (path : List (List ℕ)) (meta : Meta) (body : Bo
     → x ≡ get_or path (length path - 1) x → name ≡ x
     → (let r : Result ℕ AddFault = Ok p in r ≡ room_at es name (directory_from es 0 (parents_of path)))
     → IsNew es path meta body (record { parent = p; name = name; meta = meta; body = body })
-is_new es path meta body x name p some at same ok = record {
-  is = whole_path path x some ∙ ap (λ y. parents_of path ++ y ∷ []) (sym at ∙ sym same);
-  room = sym ok;
-  entry = same_entry es path meta body x name p some at same ok;
-}
+is_new es path meta body x name p some at same ok =
+    let lt : length path - 1 < length path = omega (arith, eqb-false (length path) 0 some) in
+    let last : name ≡ last_of path = same ∙ (at ∙ get_or_default path (length path - 1) x [] lt) in
+    let room : (let r : Result ℕ AddFault = Ok p in room_for es path ≡ r) =
+    ap (λ b. let r : Result ℕ AddFault = if b then Err EmptyPath else room_at es (last_of path) (directory_from es 0 (parents_of path)) in r) some
+    ∙ (ap (λ y. room_at es y (directory_from es 0 (parents_of path))) (sym last) ∙ sym ok) in
+    record {
+      is = whole_path path x some ∙ ap (λ y. parents_of path ++ y ∷ []) (sym at ∙ sym same);
+      room = sym ok;
+      entry = ap (λ n. let e : Entry = record { parent = p; name = n; meta = meta; body = body } in e) last
+          ∙ ap (λ q. let e : Entry = record { parent = q; name = last_of path; meta = meta; body = body } in e) (sym (ap in_directory room));
+    }
 
 -- the tree that it leaves
 pub tree_left : (t : Tree) (entries : List Entry) (e : Entry) (b : Bool) (path : List (List ℕ)) (meta : Meta) (body : Body)

@@ -5,9 +5,9 @@ use Rattle.std.specs.Prelude.{fold, option_map, position}
 use Rattle.std.specs.List.{position_or_len}
 use Rattle.std.specs.List.Sorted.{IsNonDecreasingBy, IsPartitionPoint}
 use Rattle.std.specs.Str.{bytes_eq}
-use Rattle.std.proofs.lemmas.Bool.{cases_lt, cases_Bool, and_parts, eqb-true, ltb-true, and_from, eq-eqb, ltb-false, false_from_ne_true}
+use Rattle.std.proofs.lemmas.Bool.{cases_lt, and_parts, eqb-true, ltb-true, and_from, eq-eqb, false_from_ne_true}
 use Rattle.std.proofs.lemmas.List.{length-map}
-use Rattle.std.proofs.lemmas.List.Sums.{position_or_len_is, fails_before_first}
+use Rattle.std.proofs.lemmas.List.Sums.{position_or_len_is}
 use Rattle.std.proofs.lemmas.Slice.Eq.{bytes_eq-Decides}
 use Rattle.std.proofs.lemmas.Bool.Decides.{nat_tests}
 use Rattle.adf_tree.specs.declared.entry.Entry.{Entry}
@@ -18,6 +18,7 @@ use Rattle.adf_tree.proofs.TreeInvariant.{after, moved_same, moved_below, moved_
 use Rattle.adf_tree.proofs.TreeInvariant.{at_place, new_get, by_case}
 use Rattle.adf_tree.proofs.ChainOrder.{moved_test}
 use Rattle.std.proofs.lemmas.List.Quantifiers.{position-Some}
+use Rattle.adf_tree.proofs.Lists.{fails_at_none}
 
 pub upper_twice : (c : ℕ) → upper_of (upper_of c) ≡ upper_of c
 upper_twice c = grind (arith, nat_tests)
@@ -89,18 +90,13 @@ child_not_past es parent name s to i same up at past others k d lt =
           no_child (get_or es k d) parent name (omega (arith, more, same))
     ]
 
+none_before : (o : Option ℕ) → option_map (λ i. i + 1) o ≡ None → o ≡ None
+none_before None h = refl
+none_before (Some i) h = cc
+
 -- where no child is found there is none
 pub none_is : (es : List Entry) (p : ℕ) (name : List ℕ) (k : ℕ) (d : Entry) → child es p name ≡ None → k < length es → is_child p name (get_or es k d) ≡ false
-none_is es p name k d h lt =
-    let test : Entry → Bool = is_child p name in
-    let n : ℕ = position_or_len (is_child p name) es in
-    elim (cases_Bool (nat_lt (position_or_len (is_child p name) es) (length es))) [
-      | inl t ↦
-          let g : Some (position_or_len (is_child p name) es + 1) ≡ None =
-          sym (ap (λ b. option_map (λ i. i + 1) (cond b (Some (position_or_len (is_child p name) es)) None)) t) ∙ h in
-          cc
-      | inr f ↦ fails_before_first (is_child p name) es k d (omega (arith, ltb-false (position_or_len (is_child p name) es) (length es) f))
-    ]
+none_is es p name k d h lt = fails_at_none (is_child p name) es (none_before (position (is_child p name) es) h) k d lt
 
 pub child_says : (p : ℕ) (name : List ℕ) (x : Entry) → is_child p name x ≡ true → (x.parent ≡ p) × (uppers x.name ≡ uppers name)
 child_says p name x h =

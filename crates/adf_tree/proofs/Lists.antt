@@ -61,6 +61,14 @@ position_is p xs i d h =
     let says = position-Some p xs i d (sym h) in
     position_or_len_is p xs i d (omega (arith, says.0)) says.2 (λ _. says.1)
 
+-- none passes where none is found
+pub fails_at_none : {X : Type 0} → (p : X → Bool) (xs : List X) → position p xs ≡ None → All (λ x. p x ≡ false) xs
+fails_at_none p xs h k d lt =
+    elim (cases_Bool (nat_lt (position_or_len p xs) (length xs))) [
+      | inl t ↦ let clash : Some (position_or_len p xs) ≡ None = rw t at h in cc
+      | inr f ↦ fails_before_first p xs k d (omega (arith, ltb-false (position_or_len p xs) (length xs) f))
+    ]
+
 -- a list is cut where the first element passes
 pub cut_at_position : {X : Type 0} → (p : X → Bool) (xs : List X) (i : ℕ) → Some i ≡ position p xs
     → slice_split p xs ≡ take i xs ∷ slice_split p (take (length xs - (i + 1)) (drop (i + 1) xs))
@@ -74,8 +82,4 @@ cut_at_position p (x ∷ xs) i h =
 
 -- and is one part where none does
 pub uncut_at_none : {X : Type 0} → (p : X → Bool) (xs : List X) → None ≡ position p xs → slice_split p xs ≡ xs ∷ []
-uncut_at_none p xs h =
-    elim (cases_Bool (nat_lt (position_or_len p xs) (length xs))) [
-      | inl t ↦ let clash : None ≡ Some (position_or_len p xs) = rw t at h in cc
-      | inr f ↦ slice_split_none p xs (λ k d lt. fails_before_first p xs k d (omega (arith, ltb-false (position_or_len p xs) (length xs) f)))
-    ]
+uncut_at_none p xs h = slice_split_none p xs (fails_at_none p xs (sym h))

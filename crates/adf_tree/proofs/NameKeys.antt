@@ -1,5 +1,6 @@
 -- The keys of names.
-use Rattle.std.proofs.Common.{◌≡◌, ◌==◌, ◌||◌, subst, inl, inr, ℕ, ◌+◌, ◌-◌, ◌<◌, ◌≤◌, List, [], ◌∷◌, ◌++◌, length, take, drop, get_or, set, Bool, true, false, arith, nat_lt, nat_le, ◌&&◌, sym, refl, zero, suc, ◌∙◌, ap, length-append}
+use Rattle.std.proofs.Common.{◌≡◌, ◌==◌, ◌||◌, subst, inl, inr, ℕ, ◌+◌, ◌-◌, ◌<◌, ◌≤◌, List, [], ◌∷◌, ◌++◌, length, take, drop, get_or, set, Bool, true, false}
+use Rattle.std.proofs.Common.{arith, nat_lt, nat_le, ◌&&◌, sym, refl, zero, suc, ◌∙◌, ap, length-append}
 use Rattle.std.specs.Prelude.{replicate}
 use Rattle.std.specs.Int.{to_be_bytes, w64}
 use Rattle.std.specs.List.{list_all}
@@ -10,7 +11,8 @@ use Rattle.std.specs.Str.{bytes_eq}
 use Rattle.std.proofs.lemmas.Bool.{cases_Bool, both_ways, and_parts, eq-eqb, eqb-true}
 use Rattle.std.proofs.lemmas.Nat.{be_bytes_8}
 use Rattle.std.proofs.lemmas.Slice.Eq.{bytes_eq-Decides}
-use Rattle.std.proofs.lemmas.List.{map-append, length-map, length-take-le, take_more, take_all, take-append-drop, drop-drop, get_or-drop, length-replicate, length-drop}
+use Rattle.std.proofs.lemmas.List.{map-append, length-map, length-take-le, take_more, take_all, take-append-drop, drop-drop, get_or-drop, length-replicate}
+use Rattle.std.proofs.lemmas.List.{length-drop}
 use Rattle.std.proofs.lemmas.Bool.Decides.{nat_tests}
 use Rattle.std.proofs.Math.Seq.{take-append_seam}
 use Rattle.adf_fields.specs.Hash.{upper_of}

@@ -49,7 +49,8 @@ pub no_slash : (name : List ℕ) → IsName name → All (λ x. is_slash x ≡ f
 no_slash name h = no_slash_bytes name (and_parts (nat_le 1 (length name) && nat_le (length name) 30) (list_all is_name_byte name) h.allowed).1
 
 -- the parts of the text of a path are its escaped names
-pub parts_of_path : (name : List ℕ) (names : List (List ℕ)) → All IsName (name ∷ names) → between_slashes (path_text (name ∷ names)) ≡ map escaped (name ∷ names)
+pub parts_of_path : (name : List ℕ) (names : List (List ℕ)) → All IsName (name ∷ names)
+    → between_slashes (path_text (name ∷ names)) ≡ map escaped (name ∷ names)
 parts_of_path name [] h = slice_split_none is_slash (escaped name) (no_slash name (All-head IsName name [] h))
 parts_of_path name (next ∷ names) h =
     slice_split_at is_slash (escaped name) 47 (path_text (next ∷ names)) (no_slash name (All-head IsName name (next ∷ names) h)) refl
@@ -90,7 +91,8 @@ pub all_parts : (text : List ℕ) (path : List (List ℕ)) → between_slashes t
 all_parts text path h names = record { spells = sym (join_with_byte-slice_split 47 text) ∙ ap (join_with_byte 47) h; names = names }
 
 -- the part before the next `/`
-pub next_part : (text part rest : List ℕ) (names more : List (List ℕ)) → between_slashes text ≡ map escaped names ++ between_slashes rest → between_slashes rest ≡ part ∷ more
+pub next_part : (text part rest : List ℕ) (names more : List (List ℕ)) → between_slashes text ≡ map escaped names ++ between_slashes rest
+    → between_slashes rest ≡ part ∷ more
     → between_slashes text ≡ map escaped names ++ part ∷ more
 next_part text part rest names more split cut = split ∙ ap (λ ps. map escaped names ++ ps) cut
 

@@ -7,7 +7,7 @@ use Rattle.adf_tree.specs.declared.entry.Kind.TheVariants.{Ofs, Ffs}
 use Rattle.adf_tree.specs.declared.entry.Meta.{Meta}
 use Rattle.adf_tree.specs.declared.entry.Stamps.{Stamps}
 use Rattle.adf_blocks.specs.declared.layout.TheConstants.{COMMENT, DATA_BYTES, DATA_ROOM, DATE, FIRST_POINTER, MAP_EXT_PAGES, NAME, POINTERS, PROTECTION}
-use Rattle.adf_blocks.specs.declared.layout.TheConstants.{ROOT_PAGES, SIZE, ST_DIR, ST_FILE}
+use Rattle.adf_blocks.specs.declared.layout.TheConstants.{ROOT_PAGES, SIZE}
 use Rattle.adf_blocks.specs.Forms.{text_at, stamp_at}
 use Rattle.adf_blocks.specs.PageBlock.{IsFreeBit}
 use Rattle.adf_blocks.specs.RootBlock.{stamps_at}
@@ -24,13 +24,6 @@ root_of image = middle (blocks image)
 -- the kind that the boot bytes tell
 unfoldable pub kind_of : List ℕ → Kind
 kind_of image = cond (slice_index (block image 0) 3 == 0) Ofs Ffs
-
--- the secondary types of a directory and of a file
-abbrev pub DIR : ℕ
-DIR = ST_DIR
-
-abbrev pub FILE : ℕ
-FILE = ST_FILE
 
 -- the name in a header
 unfoldable pub name_of : List ℕ → ℕ → List ℕ

@@ -7,7 +7,8 @@ use Rattle.adf_blocks.specs.declared.cause.Cause.{Cause}
 use Rattle.adf_blocks.specs.declared.cause.Cause.TheVariants.{OutOfRange, Taken, SameName, ShortFile, LostBlock, OwnedFree}
 use Rattle.adf_blocks.specs.Sizes.{blocks, count, pages_needed}
 use Rattle.adf_volume.specs.Image.{word_in, root_of, kind_of, held, table_word, name_of, IsFreeAt}
-use Rattle.adf_blocks.specs.declared.layout.TheConstants.{EXTENSION, FIRST_MAP_EXT, FIRST_PAGE, FIRST_SLOT, MAP_EXT_NEXT, MAP_EXT_PAGES, NEXT_IN_CHAIN, PAGE_BITS, POINTERS, ROOT_PAGES, SECONDARY_TYPE, SIZE, SLOTS, ST_DIR, ST_FILE}
+use Rattle.adf_blocks.specs.declared.layout.TheConstants.{EXTENSION, FIRST_MAP_EXT, FIRST_PAGE, FIRST_SLOT, MAP_EXT_NEXT, MAP_EXT_PAGES, NEXT_IN_CHAIN}
+use Rattle.adf_blocks.specs.declared.layout.TheConstants.{PAGE_BITS, POINTERS, ROOT_PAGES, SECONDARY_TYPE, SIZE, SLOTS, ST_DIR, ST_FILE}
 use Rattle.adf_tree.specs.Texts.{uppers}
 use Rattle.adf_volume.specs.Demands.{Demand, demand, AllHold, FirstFails, boot_demands, root_demands, page_demands, head_demands, ext_demands, data_demands}
 
@@ -21,7 +22,7 @@ pub data Role : Type 0 where
   Data : (n k : ℕ) → Role
 
 -- Roles are ordered by three numbers: pages by number, each bitmap extension block before the pages that it names
--- (page 25 + 127 * j + i is behind extension block j, at 26 + 128 * j + i); then by node; in a directory by slot and place; in a file
+-- (page ROOT_PAGES + MAP_EXT_PAGES * j + i stands 1 + i places behind extension block j); then by node; in a directory by slot and place; in a file
 -- extensions, then data.
 abbrev pub first : Role → ℕ
 first Root = 0

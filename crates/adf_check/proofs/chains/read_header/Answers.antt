@@ -3,7 +3,7 @@ use Rattle.adf_tree.specs.NameSet.{has}
 use Rattle.adf_tree.specs.Texts.{uppers}
 use Rattle.adf_volume.specs.declared.owner.Owner.TheVariants.{Head as AHead}
 use Rattle.adf_check.specs.Found.{store_of}
-use Rattle.adf_check.proofs.Bounds.{entry_short, parent_short}
+use Rattle.adf_check.proofs.NumberBounds.{entry_short, parent_short}
 use Rattle.adf_check.proofs.ChainSteps.{head_named, head_fault, twice_fault, head_done, was_new, was_seen}
 use Rattle.adf_check.proofs.ClaimSteps.{claim_refused}
 use Rattle.adf_check.proofs.chains.read_header.Goals as goal
@@ -23,8 +23,8 @@ returns-in-Ok-false-clause-fault c =
     let claimed = c.in_ok-claim_named.ensures in
     let twice : has c.args.seen.now (uppers c.name.result) ≡ true =
     was_seen (has c.args.seen.now (uppers c.name.result)) c.in-Ok-false.field-0 c.in-Ok-false.ensures.new c.in-Ok-false.field-0-test in
-    rw c.fault_at-in-Ok-false.ensures (twice_fault c.args.seen.now c.requires.slot c.kind-kind.ensures.begun c.requires.state c.requires.some claimed.range claimed.free
-    c.kind-kind.ensures.kind c.block.ensures.block c.in-Ok.ensures.0 c.in-Ok.ensures.1 c.name.ensures twice)
+    rw c.fault_at-in-Ok-false.ensures (twice_fault c.args.seen.now c.requires.slot c.kind-kind.ensures.begun c.requires.state c.requires.some claimed.range
+    claimed.free c.kind-kind.ensures.kind c.block.ensures.block c.in-Ok.ensures.0 c.in-Ok.ensures.1 c.name.ensures twice)
 
 pub kept_row-requires : goal.kept_row-requires
 kept_row-requires c =

@@ -1,3 +1,4 @@
+use Rattle.adf_check.specs.Fault.{IsTrueFault}
 use Rattle.std.proofs.Common.{◌≢◌}
 use Rattle.adf_blocks.specs.declared.cause.Cause.TheVariants.{NoMemory}
 use Rattle.adf_tree.specs.Tree.{Tree}
@@ -5,7 +6,6 @@ use Rattle.adf_volume.specs.Fits.{Fits}
 use Rattle.adf_volume.specs.Layout.{Layout}
 use Rattle.adf_volume.specs.Walk.{FirstFault}
 use Rattle.adf_volume.proofs.NoneFits.{none_fits}
-use Rattle.adf_check.specs.Found.{IsTrueFault}
 use Rattle.adf_check.proofs.ClaimSteps.{if_err}
 use Rattle.adf_check.proofs.checker.check.Goals as goal
 

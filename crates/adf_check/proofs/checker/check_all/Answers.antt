@@ -9,7 +9,7 @@ use Rattle.adf_volume.specs.Made.{layout_in, tree_in}
 use Rattle.adf_check.specs.Found.{store_of}
 use Rattle.adf_check.specs.Volumes.{StandsFor, Volume}
 use Rattle.adf_check.proofs.StoredVolume.{keeps}
-use Rattle.adf_check.proofs.StartSteps.{label_in, stamps_in}
+use Rattle.adf_check.proofs.ImageStart.{label_in, stamps_in}
 use Rattle.adf_check.proofs.checker.check_all.Goals as goal
 
 pub new-requires : goal.new-requires

@@ -1,6 +1,6 @@
+use Rattle.adf_check.specs.Claims.{IsClaimFault}
 use Rattle.std.proofs.Common.{◌≡◌, ◌*◌, ◌++◌, ◌∷◌, ◌<◌, ◌≤◌, [], ℕ, length, subst, sym, refl, rules}
 use Rattle.std.specs.Prelude.{IfErr}
-use Rattle.adf_check.specs.Found.{IsClaimFault}
 use Rattle.adf_check.proofs.ClaimSteps.{claim_refused}
 use Rattle.adf_check.proofs.DataSteps.{data_done, data_enough, data_fault, data_named, table_inside}
 use Rattle.adf_check.proofs.datas.read_data_block.Goals as goal

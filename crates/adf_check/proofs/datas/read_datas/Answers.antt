@@ -5,7 +5,7 @@ use Rattle.adf_volume.specs.Walk.{data_count}
 use Rattle.adf_check.specs.Reading.{IsAtNode}
 use Rattle.adf_check.proofs.DataSteps.{datas_end, too_short}
 use Rattle.adf_check.specs.Found.{store_of}
-use Rattle.adf_check.proofs.Bounds.{file_in_datas}
+use Rattle.adf_check.proofs.NumberBounds.{file_in_datas}
 use Rattle.adf_check.proofs.datas.read_datas.Goals as goal
 
 pub returns-then-tables-table-clause-fault : goal.returns-then-tables-table-clause-fault

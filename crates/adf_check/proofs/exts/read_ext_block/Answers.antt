@@ -1,7 +1,7 @@
 use Rattle.std.proofs.Common.{◌≡◌, ◌++◌, ◌∷◌, ◌<◌, ◌^◌, [], length, set, ap, refl, ◌∙◌, rules, arith}
 use Rattle.adf_volume.specs.declared.owner.Owner.TheVariants.{Ext as AnExt}
 use Rattle.adf_check.specs.Found.{store_of}
-use Rattle.adf_check.proofs.Bounds.{file_in_exts}
+use Rattle.adf_check.proofs.NumberBounds.{file_in_exts}
 use Rattle.adf_check.proofs.ClaimSteps.{claim_refused}
 use Rattle.adf_check.proofs.ExtSteps.{ext_named, ext_fault, ext_done, table_short}
 use Rattle.adf_check.proofs.exts.read_ext_block.Goals as goal

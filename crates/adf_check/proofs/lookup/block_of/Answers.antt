@@ -1,6 +1,6 @@
 use Rattle.std.proofs.Common.{◌≡◌, ◌-◌, suc, refl, ap, sym, ◌∙◌, arith}
 use Rattle.adf_volume.specs.Layout.{at_node}
-use Rattle.adf_check.proofs.Counting.{row_inside}
+use Rattle.adf_check.proofs.VolumeCounts.{row_inside}
 use Rattle.adf_check.proofs.NodeSteps.{row_here}
 use Rattle.adf_check.proofs.lookup.block_of.Goals as goal
 

@@ -6,7 +6,8 @@ use Rattle.adf_volume.specs.Image.{word_in}
 use Rattle.adf_volume.specs.Layout.{at_node, chain_nodes}
 use Rattle.adf_volume.specs.Lists.{Spelled}
 use Rattle.adf_check.specs.Found.{store_of}
-use Rattle.adf_check.proofs.Following.{OnChain, chain_begins, chain_ended, chain_found, chain_left, chain_next, child_within, on_head, on_inside, on_smaller, other_name, same_name}
+use Rattle.adf_check.proofs.ChainLookups.{OnChain, chain_begins, chain_ended, chain_found, chain_left, chain_next, child_within, on_head, on_inside}
+use Rattle.adf_check.proofs.ChainLookups.{on_smaller, other_name, same_name}
 use Rattle.adf_check.proofs.lookup.child.Goals as goal
 
 pub loop-b-init : goal.loop-b-init

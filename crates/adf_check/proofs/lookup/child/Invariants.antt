@@ -2,7 +2,7 @@ use Rattle.adf_tree.specs.Tree.{Tree}
 use Rattle.adf_volume.specs.Layout.{Layout}
 use Rattle.adf_check.specs.StoredVolume.{StoreStandsFor}
 use Rattle.adf_check.specs.Found.{store_of}
-use Rattle.adf_check.proofs.Following.{OnChain, chain_left}
+use Rattle.adf_check.proofs.ChainLookups.{OnChain, chain_left}
 use Rattle.adf_check.proofs.lookup.child.Given as goal
 
 abbrev pub invariant-loop-b : goal.invariant-loop-b

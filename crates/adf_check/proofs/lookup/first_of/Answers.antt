@@ -1,10 +1,11 @@
 use Rattle.std.proofs.Common.{◌≡◌, ◌≢◌, ◌+◌, map, ap, subst, sym, ◌∙◌}
+use Rattle.adf_blocks.specs.declared.layout.TheConstants.{ST_DIR}
 use Rattle.adf_fields.specs.Words.{word}
-use Rattle.adf_volume.specs.Image.{DIR, word_in}
+use Rattle.adf_volume.specs.Image.{word_in}
 use Rattle.adf_volume.specs.Layout.{at_node, chain_nodes}
 use Rattle.adf_volume.specs.Lists.{Spelled}
-use Rattle.adf_check.proofs.Following.{directory_chain, file_chain}
 use Rattle.adf_check.proofs.HeaderBodies.{dir_type, file_words}
+use Rattle.adf_check.proofs.ChainLookups.{directory_chain, file_chain}
 use Rattle.adf_check.proofs.lookup.first_of.Goals as goal
 use Rattle.adf_check.proofs.lookup.first_of.Goals.{in_default-via-in-File+else-parent-ne0, in_default-via-in_default}
 
@@ -13,15 +14,16 @@ returns-in-File c = λ t l k.
     let image = c.args.image.now in
     let up : c.block_of-up.result ≡ at_node image l c.args.parent = c.block_of-up.ensures.block t l k in
     let told = file_words image c.block_of-up.result c.in-File.size c.in-File.ext c.body.result c.body.ensures.body c.in-File.is in
-    file_chain k c.args.parent c.args.slot (λ z. c.if-parent-ne0.true (c.parent.view_is ∙ z)) (subst (λ b. word_in image b 127 ≢ DIR) up told.0)
+    file_chain k c.args.parent c.args.slot (λ z. c.if-parent-ne0.true (c.parent.view_is ∙ z)) (subst (λ b. word_in image b 127 ≢ ST_DIR) up told.0)
 
 pub returns-in_default : goal.returns-in_default
 returns-in_default c = λ t l k.
     let image = c.args.image.now in
     let up : c.block_of-up.result ≡ at_node image l c.args.parent = c.block_of-up.ensures.block t l k in
-    let type : c.args.parent ≢ 0 → word_in image (at_node image l c.args.parent) 127 ≡ DIR = λ ne. elim c.in_default.branch [
+    let type : c.args.parent ≢ 0 → word_in image (at_node image l c.args.parent) 127 ≡ ST_DIR = λ ne. elim c.in_default.branch [
       | in_default-via-in-File+else-parent-ne0 w ↦ absurd (ne (sym c.parent.view_is ∙ w.if-parent-ne0.false))
-      | in_default-via-in_default w ↦ subst (λ b. word_in image b 127 ≡ DIR) up (dir_type image c.block_of-up.result c.body.result c.body.ensures.body w.in_default.is)
+      | in_default-via-in_default w ↦ subst (λ b. word_in image b 127 ≡ ST_DIR) up
+          (dir_type image c.block_of-up.result c.body.result c.body.ensures.body w.in_default.is)
     ] in
     let slot : c.slot.result ≡ word_in image (at_node image l c.args.parent) (6 + c.args.slot) =
     c.slot.ensures ∙ ap (λ b. word b (6 + c.args.slot)) c.directory.ensures ∙ ap (λ b. word_in image b (6 + c.args.slot)) up in

@@ -3,7 +3,7 @@ use Rattle.adf_check.specs.Reading.{IsInNode}
 use Rattle.adf_check.specs.Found.{store_of}
 use Rattle.adf_check.proofs.NodeSteps.{enter_node}
 use Rattle.adf_check.proofs.NodeSteps.{all_read}
-use Rattle.adf_check.proofs.Bounds.{lists_short}
+use Rattle.adf_check.proofs.NumberBounds.{lists_short}
 use Rattle.adf_check.proofs.nodes.read_nodes.Goals as goal
 
 pub enter-requires-clause-exts : goal.enter-requires-clause-exts

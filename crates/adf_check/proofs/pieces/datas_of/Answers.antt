@@ -4,7 +4,7 @@ use Rattle.adf_volume.specs.Layout.{datas_of}
 use Rattle.adf_volume.specs.Made.{layout_in, tree_in}
 use Rattle.adf_check.specs.Found.{store_of}
 use Rattle.adf_check.proofs.StoredVolume.{keeps}
-use Rattle.adf_check.proofs.Bytes.{datas_here, part_inside}
+use Rattle.adf_check.proofs.FilePieces.{datas_here, part_inside}
 use Rattle.adf_check.proofs.pieces.datas_of.Goals as goal
 
 pub part-requires : goal.part-requires

@@ -1,6 +1,6 @@
 use Rattle.std.proofs.Common.{ap, sym, ◌∙◌}
 use Rattle.adf_volume.specs.Image.{piece}
-use Rattle.adf_check.proofs.Bytes.{piece_ffs, piece_ofs}
+use Rattle.adf_check.proofs.FilePieces.{piece_ffs, piece_ofs}
 use Rattle.adf_check.proofs.pieces.piece_of.Goals as goal
 
 pub returns-in-Ofs : goal.returns-in-Ofs

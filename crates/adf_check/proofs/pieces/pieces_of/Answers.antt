@@ -3,11 +3,11 @@ use Rattle.adf_blocks.specs.Sizes.{count}
 use Rattle.adf_volume.specs.Image.{kind_of}
 use Rattle.adf_volume.specs.Layout.{Layout, at_node}
 use Rattle.adf_volume.proofs.Pieces.{pieces_length}
-use Rattle.adf_check.proofs.Bytes.{data_count_is, dir_bytes, IsEntry, made_inside, made_joined, made_some}
 use Rattle.adf_check.proofs.HeaderBodies.{dir_type, file_words}
 use Rattle.adf_tree.specs.Tree.{Tree}
 use Rattle.adf_check.specs.StoredVolume.{StoreStandsFor}
 use Rattle.adf_check.specs.Store.{Store}
+use Rattle.adf_check.proofs.FilePieces.{IsEntry, data_count_is, dir_bytes, made_inside, made_joined, made_some}
 use Rattle.adf_check.proofs.pieces.pieces_of.Goals as goal
 
 -- the node is an entry, by its number and the number of rows

@@ -1,7 +1,7 @@
 use Rattle.std.proofs.Common.{ap, ◌∙◌}
 use Rattle.adf_tree.specs.Tree.{entry}
 use Rattle.adf_check.specs.Rebuild.{body_of}
-use Rattle.adf_check.proofs.Rebuilding.{entry_back}
+use Rattle.adf_check.proofs.TreeEntries.{entry_back}
 use Rattle.adf_check.proofs.rebuild.entry_of.Goals as goal
 
 pub returns : goal.returns

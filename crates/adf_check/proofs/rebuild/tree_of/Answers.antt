@@ -1,6 +1,6 @@
 use Rattle.std.proofs.Common.{◌≡◌, ◌+◌, ◌<◌, ◌≤◌, length, ap, subst, sym, ◌∙◌, arith, rules, Some}
 use Rattle.adf_tree.specs.Tree.{Tree, entry, with_last}
-use Rattle.adf_check.proofs.Rebuilding.{may_follow, some_entry, tree_more, tree_whole}
+use Rattle.adf_check.proofs.TreeEntries.{may_follow, some_entry, tree_more, tree_whole}
 use Rattle.adf_check.proofs.rebuild.tree_of.Goals as goal
 
 pub unwrap-entry-requires : goal.unwrap-entry-requires

@@ -1,7 +1,6 @@
-use Rattle.std.proofs.Common.{List, ℕ, ◌+◌, ◌++◌, ◌∙◌, [], subst, sym, refl, rules, arith, append-nil}
+use Rattle.std.proofs.Common.{List, ℕ, ◌+◌, ◌∙◌, [], subst, sym, refl, rules, arith, append-nil}
 use Rattle.std.specs.Io.KnownBytes.{Appends}
-use Rattle.adf_fields.specs.Words.{block}
-use Rattle.adf_cmd.specs.Listing.{lines_of, lines_of_blocks}
+use Rattle.adf_cmd.specs.Listing.{lines_of_blocks}
 use Rattle.adf_cmd.specs.Streams.{AppendsPart}
 use Rattle.adf_cmd.proofs.Lines.{blocks_more, blocks_none, listing_front, listing_whole}
 use Rattle.adf_cmd.proofs.PendingText.{on_err, pending_end, pending_fails, pending_more, pending_none}

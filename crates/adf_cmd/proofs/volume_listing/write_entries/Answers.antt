@@ -1,6 +1,6 @@
 use Rattle.std.proofs.Common.{◌≡◌, ◌++◌, ◌+◌, ℕ, List, arith, length, refl, rules, subst}
 use Rattle.std.specs.Io.KnownBytes.{Appends}
-use Rattle.adf_texts.specs.VolumeLines.{lines_of_entries, lines_of_entry}
+use Rattle.adf_texts.specs.VolumeLines.{lines_of_entries}
 use Rattle.adf_cmd.specs.Streams.{AppendsPart}
 use Rattle.adf_cmd.proofs.EntryLines.{entries_front, entries_more, entries_none}
 use Rattle.adf_cmd.proofs.PendingText.{on_err, pending_begun, pending_end, pending_fails, pending_more}

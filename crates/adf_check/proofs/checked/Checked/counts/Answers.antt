@@ -1,7 +1,7 @@
 use Rattle.std.proofs.Common.{◌≡◌, ◌∙◌, length, count_by, ap, subst, sym, rules}
 use Rattle.adf_check.specs.Found.{store_of}
 use Rattle.adf_check.specs.Volumes.{StandsFor, Volume, counts_of, is_dir_at}
-use Rattle.adf_check.proofs.Counting.{counts_are, rows_inside}
+use Rattle.adf_check.proofs.VolumeCounts.{counts_are, rows_inside}
 use Rattle.adf_check.proofs.checked.Checked.counts.Goals as goal
 
 pub count_dirs-dirs-requires : goal.count_dirs-dirs-requires

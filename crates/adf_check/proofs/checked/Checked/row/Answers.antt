@@ -4,9 +4,9 @@ use Rattle.adf_blocks.specs.HeadBlock.{IsHead}
 use Rattle.adf_check.specs.Found.{store_of}
 use Rattle.adf_check.specs.Rows.{row_in}
 use Rattle.adf_check.specs.Volumes.{StandsFor, Volume}
-use Rattle.adf_check.proofs.Counting.{row_inside}
+use Rattle.adf_check.proofs.VolumeCounts.{row_inside}
 use Rattle.adf_check.proofs.NodeSteps.{row_here}
-use Rattle.adf_check.proofs.Telling.{entry_told, row_is_head}
+use Rattle.adf_check.proofs.RowLaws.{entry_told, row_is_head}
 use Rattle.adf_check.proofs.checked.Checked.row.Goals as goal
 
 pub block-requires : goal.block-requires

@@ -4,7 +4,7 @@ use Rattle.adf_volume.specs.declared.owner.Owner.TheVariants.{Free, Root}
 use Rattle.adf_volume.specs.Image.{root_of}
 use Rattle.adf_check.specs.Store.{owner_at}
 use Rattle.adf_check.specs.Owners.{owned_count}
-use Rattle.adf_check.proofs.Beginning.{begun_with_root, root_is_free}
+use Rattle.adf_check.proofs.RootRead.{begun_with_root, root_is_free}
 use Rattle.adf_check.proofs.ClaimSteps.{on_ok}
 use Rattle.adf_check.proofs.found.Found.begin.Goals as goal
 

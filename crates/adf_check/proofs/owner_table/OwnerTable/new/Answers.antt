@@ -2,7 +2,7 @@ use Rattle.std.proofs.Common.{rules, ◌≡◌, arith, replicate, sym, subst}
 use Rattle.std.proofs.lemmas.Grind.{common_steps}
 use Rattle.adf_check.specs.Owners.{IsTable}
 use Rattle.adf_check.specs.declared.narrow_owner.NarrowOwner.TheVariants.{Free as NarrowFree}
-use Rattle.adf_check.proofs.Claiming.{new_is, new_table}
+use Rattle.adf_check.proofs.OwnerTables.{new_is, new_table}
 use Rattle.adf_check.proofs.owner_table.OwnerTable.new.Goals as goal
 
 pub invariant_of-result : goal.invariant_of-result

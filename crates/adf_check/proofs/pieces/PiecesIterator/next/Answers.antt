@@ -1,4 +1,4 @@
-use Rattle.adf_check.proofs.Bytes.{inside_next}
+use Rattle.adf_check.proofs.FilePieces.{inside_next}
 use Rattle.adf_check.proofs.pieces.PiecesIterator.next.Goals as goal
 
 pub invariant_of-self : goal.invariant_of-self

@@ -1,7 +1,8 @@
--- How many blocks and parts there are in an image that begins as a volume.
+-- The numbers of blocks, nodes and parts have 32 bits.
 use Rattle.std.proofs.Common.{◌≡◌, ℕ, zero, suc, List, ◌+◌, ◌^◌, ◌<◌, ◌≤◌, length, ap, arith}
 use Rattle.std.proofs.lemmas.List.Sums.{count_by-le-length}
-use Rattle.adf_blocks.specs.Sizes.{MOST_BLOCKS, blocks}
+use Rattle.adf_blocks.specs.declared.layout.TheConstants.{MOST_BLOCKS}
+use Rattle.adf_blocks.specs.Sizes.{blocks}
 use Rattle.adf_volume.specs.Walk.{DirAt, FileAt, IsWalk, Role, heads}
 use Rattle.adf_volume.proofs.Sizes.{size_high, size_low}
 use Rattle.adf_volume.proofs.Lists.{at_below}

@@ -1,8 +1,10 @@
--- The bytes of files, piece by piece.
-use Rattle.std.proofs.Common.{◌≡◌, ◌≢◌, inr, ℕ, zero, suc, List, ◌∷◌, ◌+◌, ◌-◌, ◌*◌, ◌^◌, ◌<◌, ◌≤◌, length, take, drop, get_or, refl, sym, ap, subst, ◌∙◌, arith, Option, Some, None, length-take, length-drop}
+-- The pieces of a file, joined, are its bytes.
+use Rattle.std.proofs.Common.{◌≡◌, ◌≢◌, inr, ℕ, zero, suc, List, ◌∷◌, ◌+◌, ◌-◌, ◌*◌, ◌^◌, ◌<◌, ◌≤◌, length, take, drop, get_or, refl, sym, ap, subst}
+use Rattle.std.proofs.Common.{◌∙◌, arith, Option, Some, None, length-take, length-drop}
 use Rattle.std.specs.Prelude.{slice_range}
 use Rattle.std.specs.List.{All, concat}
 use Rattle.std.proofs.lemmas.List.{take-take}
+use Rattle.adf_blocks.specs.declared.layout.TheConstants.{ST_DIR}
 use Rattle.adf_fields.specs.Words.{block}
 use Rattle.adf_tree.specs.declared.entry.Body.{Body}
 use Rattle.adf_tree.specs.declared.entry.Body.TheVariants.{Dir, File}
@@ -14,7 +16,7 @@ use Rattle.adf_blocks.specs.Sizes.{blocks, chunk, count}
 use Rattle.adf_volume.specs.declared.owner.Owner.{Owner}
 use Rattle.adf_volume.specs.declared.owner.Owner.TheVariants.{Data, Page, MapExt}
 use Rattle.adf_volume.specs.Fits.{BodyFits}
-use Rattle.adf_volume.specs.Image.{DIR, area, content, held, kind_of, piece, pieces, word_in}
+use Rattle.adf_volume.specs.Image.{area, content, held, kind_of, piece, pieces, word_in}
 use Rattle.adf_volume.specs.Layout.{EntryAt, Layout, at_node, datas_of, owned_from}
 use Rattle.adf_volume.specs.Lists.{At, In, numbered}
 use Rattle.adf_volume.proofs.Images.{area_length}
@@ -25,7 +27,7 @@ use Rattle.adf_volume.proofs.Chains.{entry_is_at, entry_some}
 use Rattle.adf_check.specs.declared.kept.Start.{Start}
 use Rattle.adf_check.specs.StoredVolume.{StoreStandsFor}
 use Rattle.adf_check.specs.Store.{Store}
-use Rattle.adf_check.proofs.Following.{body_dir}
+use Rattle.adf_check.proofs.ChainLookups.{body_dir}
 use Rattle.adf_check.proofs.StoredVolume.{keeps}
 use Rattle.adf_check.specs.Reading.{StoreFits}
 use Rattle.adf_check.specs.Pieces.{AreInside, bytes_in, bytes_of}
@@ -68,7 +70,7 @@ unfolding count chunk
 count_small Ofs size h = omega arith
 count_small Ffs size h = omega arith
 
-body_other : (image : List ℕ) (kind : Kind) (l : Layout) (n h : ℕ) (body : Body) → BodyFits image kind l n h body → word_in image h 127 ≢ DIR
+body_other : (image : List ℕ) (kind : Kind) (l : Layout) (n h : ℕ) (body : Body) → BodyFits image kind l n h body → word_in image h 127 ≢ ST_DIR
     → (bytes : List ℕ) × (body ≡ File bytes)
 body_other image kind l n h Dir f w = absurd (w f.0)
 body_other image kind l n h (File bytes) f w = (bytes, refl)
@@ -115,10 +117,10 @@ module _ {image : List ℕ} {store : Store} {n h : ℕ} (is : IsEntry image stor
     told : bytes_of (entry t.entries n) ≡ bytes_in here.0.body
     told = ap bytes_of ((entry_is_at t n here.0).0 here.1)
 
-    pub dir_bytes : word_in image h 127 ≡ DIR → ◌≡◌ {A = Option (List ℕ)} None (bytes_of (entry t.entries n))
+    pub dir_bytes : word_in image h 127 ≡ ST_DIR → ◌≡◌ {A = Option (List ℕ)} None (bytes_of (entry t.entries n))
     dir_bytes w = sym (told ∙ ap bytes_in (body_dir k n h here.0.body body_fits w))
 
-    module _ (w : word_in image h 127 ≢ DIR) where
+    module _ (w : word_in image h 127 ≢ ST_DIR) where
       file : (bytes : List ℕ) × (here.0.body ≡ File bytes)
       file = body_other image t.kind l n h here.0.body body_fits w
 
@@ -166,7 +168,7 @@ module _ {image : List ℕ} {store : Store} {n h : ℕ} (is : IsEntry image stor
           subst (λ p. 0 < length p) (sym piece_is) (omega (arith, held_here.0, held_here.1, area_is, taken))
 
   -- what is made of the data blocks of a file
-  module _ (tells : StoreFits image store) (w : word_in image h 127 ≢ DIR) {xs ds : List ℕ} {kind : Kind} {size : ℕ} (is_image : xs ≡ image)
+  module _ (tells : StoreFits image store) (w : word_in image h 127 ≢ ST_DIR) {xs ds : List ℕ} {kind : Kind} {size : ℕ} (is_image : xs ≡ image)
       (is_kind : kind ≡ kind_of image) (is_size : size ≡ word_in image h 81)
       (are : (t : Tree) (l : Layout) → StoreStandsFor image store t l → ds ≡ datas_of l n) where
     pieces_are : (t : Tree) (l : Layout) → StoreStandsFor image store t l

@@ -1,6 +1,8 @@
--- Look-up along the chains of an image that a tree and a layout fit.
-use Rattle.std.proofs.Common.{◌≡◌, ◌≢◌, inl, inr, ℕ, zero, suc, List, [], ◌∷◌, ◌+◌, ◌-◌, ◌<◌, ◌≤◌, length, map, refl, sym, ap, subst, ◌∙◌, arith, Option, Some, None, Bool, true, false}
+-- A look-up along the chains of an image finds the entry of the tree.
+use Rattle.std.proofs.Common.{◌≡◌, ◌≢◌, inl, inr, ℕ, zero, suc, List, [], ◌∷◌, ◌+◌, ◌-◌, ◌<◌, ◌≤◌, length, map, refl, sym, ap, subst, ◌∙◌, arith}
+use Rattle.std.proofs.Common.{Bool, true, false, Option, Some, None}
 use Rattle.std.specs.Prelude.{IfSome}
+use Rattle.adf_blocks.specs.declared.layout.TheConstants.{ST_DIR, ST_FILE}
 use Rattle.adf_fields.specs.Hash.{slot_of}
 use Rattle.adf_fields.specs.Words.{block}
 use Rattle.adf_tree.specs.Texts.{uppers}
@@ -13,7 +15,7 @@ use Rattle.adf_blocks.specs.Sizes.{blocks}
 use Rattle.adf_volume.specs.declared.owner.Owner.{Owner}
 use Rattle.adf_volume.specs.declared.owner.Owner.TheVariants.{Head, Boot, Page, MapExt}
 use Rattle.adf_volume.specs.Fits.{BodyFits, EntryFits}
-use Rattle.adf_volume.specs.Image.{DIR, FILE, name_of, word_in}
+use Rattle.adf_volume.specs.Image.{name_of, word_in}
 use Rattle.adf_volume.specs.Layout.{EntryAt, Layout, at_node, chain_nodes, head_at, owned, owned_from}
 use Rattle.adf_volume.specs.Lists.{At, In, Spelled, numbered}
 use Rattle.adf_volume.proofs.Finds.{chain_no, chain_yes}
@@ -28,7 +30,7 @@ use Rattle.adf_check.proofs.StoredVolume.{keeps}
 use Rattle.std.specs.Str.{bytes_eq}
 use Rattle.std.proofs.lemmas.Slice.Eq.{bytes_eq-Decides}
 use Rattle.adf_blocks.specs.Forms.{text_at}
-use Rattle.adf_check.proofs.Telling.{head_facts, name_here}
+use Rattle.adf_check.proofs.RowLaws.{head_facts, name_here}
 use Rattle.adf_volume.specs.Made.{layout_in, tree_in}
 use Rattle.adf_tree.proofs.ChildLookup.{found_is}
 use Rattle.adf_check.specs.Lookup.{headed}
@@ -99,15 +101,15 @@ module _ {image : List ℕ} {store : Store} {t : Tree} {l : Layout} (k : StoreSt
   head_owner zero e h = absurd h
   head_owner (suc i) e h = k.owners.part (Head (suc i)) (head_at l.places i) (head_owned image t l k.fits.places i (at_below t.entries i e h))
 
-  pub body_dir : (n h : ℕ) (body : Body) → BodyFits image t.kind l n h body → word_in image h 127 ≡ DIR → body ≡ Dir
+  pub body_dir : (n h : ℕ) (body : Body) → BodyFits image t.kind l n h body → word_in image h 127 ≡ ST_DIR → body ≡ Dir
   body_dir n h Dir f w = refl
-  body_dir n h (File bytes) f w = let e : word_in image h 127 ≡ FILE = f.0 in absurd (omega arith)
+  body_dir n h (File bytes) f w = let e : word_in image h 127 ≡ ST_FILE = f.0 in absurd (omega arith)
 
-  body_file : (n h : ℕ) (body : Body) → BodyFits image t.kind l n h body → body ≡ Dir → word_in image h 127 ≡ DIR
+  body_file : (n h : ℕ) (body : Body) → BodyFits image t.kind l n h body → body ≡ Dir → word_in image h 127 ≡ ST_DIR
   body_file n h Dir f w = f.0
   body_file n h (File bytes) f w = cc
 
-  dir_of : (p : ℕ) → p ≤ length store.rows → (p ≢ 0 → word_in image (at_node image l p) 127 ≡ DIR) → DirNode t p
+  dir_of : (p : ℕ) → p ≤ length store.rows → (p ≢ 0 → word_in image (at_node image l p) 127 ≡ ST_DIR) → DirNode t p
   dir_of zero le h = tt
   dir_of (suc i) le h =
       let c : length store.rows ≡ length t.entries = k.rows.count in
@@ -115,19 +117,19 @@ module _ {image : List ℕ} {store : Store} {t : Tree} {l : Layout} (k : StoreSt
       let fits : EntryFits image t l (suc i) (at_node image l (suc i)) x.0 = k.fits.entries (suc i) x.0 x.1 in
       (x.0, x.1, body_dir (suc i) (at_node image l (suc i)) x.0.body fits.body (h (λ z. omega arith)))
 
-  type_of : (p : ℕ) → p ≢ 0 → DirNode t p → word_in image (at_node image l p) 127 ≡ DIR
+  type_of : (p : ℕ) → p ≢ 0 → DirNode t p → word_in image (at_node image l p) 127 ≡ ST_DIR
   type_of zero ne d = absurd (ne refl)
   type_of (suc i) ne d =
       let fits : EntryFits image t l (suc i) (at_node image l (suc i)) d.0 = k.fits.entries (suc i) d.0 d.1 in
       body_file (suc i) (at_node image l (suc i)) d.0.body fits.body d.2
 
   -- the chain of a slot of a directory
-  pub directory_chain : (p s : ℕ) → s < 72 → p ≤ length store.rows → (p ≢ 0 → word_in image (at_node image l p) 127 ≡ DIR)
+  pub directory_chain : (p s : ℕ) → s < 72 → p ≤ length store.rows → (p ≢ 0 → word_in image (at_node image l p) 127 ≡ ST_DIR)
       → Spelled (λ b. word_in image b 124) (word_in image (at_node image l p) (6 + s)) (map (at_node image l) (chain_nodes t p s))
   directory_chain p s lt le h = k.fits.chains p s (is_dir t p (dir_of p le h)) lt
 
   -- a file has none
-  pub file_chain : (p s : ℕ) → p ≢ 0 → word_in image (at_node image l p) 127 ≢ DIR
+  pub file_chain : (p s : ℕ) → p ≢ 0 → word_in image (at_node image l p) 127 ≢ ST_DIR
       → Spelled (λ b. word_in image b 124) 0 (map (at_node image l) (chain_nodes t p s))
   file_chain p s ne h =
       let none : chain_nodes t p s ≡ [] = none_of (chain_nodes t p s) (λ n a.

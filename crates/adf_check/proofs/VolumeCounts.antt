@@ -1,12 +1,13 @@
--- The numbers of a volume.
+-- The numbers of a volume are those of its tree and layout.
 use Rattle.std.proofs.Common.{◌≡◌, ℕ, suc, List, [], ◌∷◌, ◌+◌, ◌-◌, ◌<◌, length, get_or, count_by, cond, Bool, true, false, refl, sym, ap, subst, ◌∙◌, arith}
 use Rattle.std.specs.Prelude.{◌==◌, not}
 use Rattle.std.proofs.lemmas.List.Sums.{sum_by-cons}
+use Rattle.adf_blocks.specs.declared.layout.TheConstants.{ST_DIR}
 use Rattle.adf_tree.specs.declared.entry.Entry.{Entry}
 use Rattle.adf_tree.specs.declared.entry.Kind.{Kind}
 use Rattle.adf_tree.specs.Tree.{Tree}
 use Rattle.adf_blocks.specs.Sizes.{blocks}
-use Rattle.adf_volume.specs.Image.{DIR, kind_of, word_in}
+use Rattle.adf_volume.specs.Image.{kind_of, word_in}
 use Rattle.adf_volume.specs.Layout.{Layout, at_node, owned}
 use Rattle.adf_volume.specs.Lists.{At}
 use Rattle.adf_volume.specs.Walk.Role.{Head}
@@ -16,8 +17,8 @@ use Rattle.adf_check.specs.StoredVolume.{StoreStandsFor}
 use Rattle.adf_check.specs.Reading.{StoreFits}
 use Rattle.adf_check.specs.Store.{Store}
 use Rattle.adf_check.proofs.NodeSteps.{node_here}
-use Rattle.adf_check.proofs.Bounds.{many_blocks}
-use Rattle.adf_check.proofs.Telling.{tells_begun, type_told}
+use Rattle.adf_check.proofs.NumberBounds.{many_blocks}
+use Rattle.adf_check.proofs.RowLaws.{tells_begun, type_told}
 use Rattle.adf_check.proofs.NodeSteps.{row_at}
 use Rattle.adf_check.specs.Volumes.{counts_of, is_dir_at, is_directory}
 use Rattle.adf_check.specs.declared.checked.Counts.{Counts}
@@ -66,11 +67,12 @@ pub dirs_are : (image : List ℕ) (store : Store) (t : Tree) (l : Layout) → St
     → count_by (is_dir_at image) store.rows ≡ count_by is_directory t.entries
 dirs_are image store t l k = same_count (is_dir_at image) is_directory store.rows t.entries k.rows.count (λ i r e at_row at_entry.
     let h : at_node image l (suc i) ≡ r.head = k.rows.head i r at_row in
-    subst (λ b. (word_in image b 127 == DIR)
+    subst (λ b. (word_in image b 127 == ST_DIR)
     ≡ is_directory e) h (type_told image t l (suc i) (at_node image l (suc i)) e.body (k.fits.entries (suc i) e at_entry).body).0)
 
 -- the numbers of a volume are those of the tree and the layout that it stands for
-pub counts_are : (image : List ℕ) (store : Store) (t : Tree) (l : Layout) (kind : Kind) (n used dirs all : ℕ) → StoreStandsFor image store t l → kind ≡ kind_of image
+pub counts_are : (image : List ℕ) (store : Store) (t : Tree) (l : Layout) (kind : Kind) (n used dirs all : ℕ) → StoreStandsFor image store t l
+    → kind ≡ kind_of image
     → n ≡ blocks image → used ≡ store.used
     → dirs ≡ count_by (is_dir_at image) store.rows → all ≡ length store.rows
     → ◌≡◌ {A = Counts} (record { kind = kind; blocks = n; used = used; free = n - 2 - used; dirs = dirs; files = all - dirs }) (counts_of image t l)

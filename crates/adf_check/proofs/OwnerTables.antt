@@ -1,4 +1,4 @@
--- Tables of owners: a new one, and one claim more.
+-- Tables of owners: a new one, and one with one claim more.
 use Rattle.std.proofs.Common.{◌≡◌, ℕ, suc, List, ◌∷◌, ◌+◌, ◌-◌, ◌<◌, ◌≤◌, length, get_or, replicate, map, set, true, refl, sym, subst, ap, ◌∙◌, zero, arith}
 use Rattle.std.proofs.lemmas.List.{get_or-map, length-map, map-set}
 use Rattle.std.proofs.lemmas.Grind.{common_steps}
@@ -7,7 +7,7 @@ use Rattle.adf_volume.specs.declared.owner.Owner.TheVariants.{Free, Boot}
 use Rattle.adf_check.specs.Store.{owner_at}
 use Rattle.adf_check.specs.declared.narrow_owner.NarrowOwner.{NarrowOwner}
 use Rattle.adf_check.specs.declared.narrow_owner.NarrowOwner.TheVariants.{Free as NarrowFree, Boot as NarrowBoot}
-use Rattle.adf_check.specs.Narrow.{wide}
+use Rattle.adf_check.specs.NarrowOwner.{wide}
 use Rattle.adf_check.specs.Owners.{IsTable, is_part, owned_count}
 
 -- a table is one still when a free block is claimed

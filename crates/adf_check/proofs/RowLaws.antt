@@ -1,8 +1,9 @@
--- What is told of entries.
+-- A row tells what the tree has of its entry.
 use Rattle.std.proofs.Common.{true, false, ◌≡◌, ℕ, suc, List, ◌<◌, length, refl, sym, ap, subst, ◌∙◌, arith, Some}
 use Rattle.std.specs.Prelude.{nat_le, ◌==◌}
 use Rattle.std.proofs.lemmas.Bool.{and_parts}
 use Rattle.std.proofs.lemmas.Bool.Decides.{nat_tests}
+use Rattle.adf_blocks.specs.declared.layout.TheConstants.{ST_DIR, ST_FILE}
 use Rattle.adf_fields.specs.Words.{block}
 use Rattle.adf_tree.specs.Texts.{is_name}
 use Rattle.adf_tree.specs.declared.entry.Body.{Body}
@@ -13,7 +14,7 @@ use Rattle.adf_blocks.specs.Forms.{text_at}
 use Rattle.adf_blocks.specs.HeadBlock.{IsHead, body_at, head_form, meta_at}
 use Rattle.adf_volume.specs.Demands.{AllHold, boot_demands, root_demands, demands_at}
 use Rattle.adf_volume.specs.Fits.{BodyFits, EntryFits}
-use Rattle.adf_volume.specs.Image.{DIR, FILE, kind_of, meta_of, name_of, root_of, word_in}
+use Rattle.adf_volume.specs.Image.{kind_of, meta_of, name_of, root_of, word_in}
 use Rattle.adf_volume.specs.Layout.{Layout, at_node}
 use Rattle.adf_volume.specs.Lists.{At}
 use Rattle.adf_volume.specs.Walk.Role.{Head}
@@ -59,14 +60,14 @@ meta_here image b = refl
 
 -- the secondary type of a header tells whether its entry is a directory, and its words the size of a file
 pub type_told : (image : List ℕ) (t : Tree) (l : Layout) (n h : ℕ) (body : Body) → BodyFits image t.kind l n h body
-    → ((word_in image h 127 == DIR) ≡ is_dir_body body) × BodyMatches (row_body (body_at (block image h))) body
+    → ((word_in image h 127 == ST_DIR) ≡ is_dir_body body) × BodyMatches (row_body (body_at (block image h))) body
 type_told image t l n h Dir f =
-    let e : word_in image h 127 ≡ DIR = f.0 in
-    let is : (word_in image h 127 == DIR) ≡ true = grind (arith, nat_tests) in
+    let e : word_in image h 127 ≡ ST_DIR = f.0 in
+    let is : (word_in image h 127 == ST_DIR) ≡ true = grind (arith, nat_tests) in
     (is, rw is tt)
 type_told image t l n h (File bytes) f =
-    let e : word_in image h 127 ≡ FILE = f.0 in
-    let is : (word_in image h 127 == DIR) ≡ false = grind (arith, nat_tests) in
+    let e : word_in image h 127 ≡ ST_FILE = f.0 in
+    let is : (word_in image h 127 == ST_DIR) ≡ false = grind (arith, nat_tests) in
     (is, rw is (sym f.2))
 
 -- what a row's header tells is what the tree has

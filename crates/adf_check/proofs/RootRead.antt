@@ -1,5 +1,6 @@
--- What is found before anything is read but the root.
-use Rattle.std.proofs.Common.{◌≡◌, ◌≢◌, inl, inr, ℕ, zero, suc, List, [], ◌∷◌, ◌+◌, ◌-◌, ◌<◌, ◌≤◌, length, set, length-set, get_or-set_same, get_or-set_other, refl, sym, ap, subst, ◌∙◌, arith}
+-- The state of a reader that has read the root alone.
+use Rattle.std.proofs.Common.{◌≡◌, ◌≢◌, inl, inr, ℕ, zero, suc, List, [], ◌∷◌, ◌+◌, ◌-◌, ◌<◌, ◌≤◌, length, set, length-set, get_or-set_same}
+use Rattle.std.proofs.Common.{get_or-set_other, refl, sym, ap, subst, ◌∙◌, arith}
 use Rattle.std.specs.Prelude.{replicate}
 use Rattle.std.proofs.lemmas.List.{length-replicate, get_or-replicate}
 use native.Mathlib.Decide.{ℕ_discrete}
@@ -14,8 +15,8 @@ use Rattle.adf_check.specs.Image.{IsBegun}
 use Rattle.adf_check.specs.Owners.{owned_count}
 use Rattle.adf_check.specs.Reading.{IsBeforePage}
 use Rattle.adf_check.specs.Store.{Store, owner_at}
-use Rattle.adf_check.proofs.Bounds.{many_blocks}
-use Rattle.adf_check.proofs.Cursors.{begin}
+use Rattle.adf_check.proofs.NumberBounds.{many_blocks}
+use Rattle.adf_check.proofs.CursorMoves.{begin}
 
 -- the owners of 2 + m blocks of which nothing is claimed
 abbrev pub new_owners : ℕ → List Owner
@@ -99,7 +100,8 @@ begun_with_root image n owners new begun size e f count =
     let many : 4 ≤ blocks image = many_blocks image begun in
     let claimed : new ≡ owners_of (n - 2) (root_of image) = f ∙ ap (λ os. set os (root_of image) Root) e in
     let one : owned_count new ≡ 1 = count ∙ ap (λ os. owned_count os + 1) e ∙ ap (λ m. m + 1) (none_owned (n - 2)) in
-    let kept : first_store (owners_of (n - 2) (root_of image)) ≡ record { owners = new; rows = []; starts = []; exts = []; datas = []; used = owned_count new } =
+    let kept : first_store (owners_of (n - 2) (root_of image))
+    ≡ record { owners = new; rows = []; starts = []; exts = []; datas = []; used = owned_count new } =
     λ i. record { owners = (sym claimed) i; rows = []; starts = []; exts = []; datas = []; used = (sym one) i } in
     subst (λ s. IsBeforePage image s 0 (root_of image)) kept (root_read image (n - 2) (root_of image) (omega arith) refl (omega arith) (omega arith))
 

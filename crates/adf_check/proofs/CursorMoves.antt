@@ -1,7 +1,8 @@
--- The steps of a reader that goes along the order of roles.
+-- The place of a reader moves on: over a role that is read, and over what is not asked for.
 use Rattle.std.proofs.Common.{◌≡◌, ℕ, zero, suc, List, [], ◌∷◌, ◌⊎◌, inl, inr, ◌+◌, ◌/◌, ◌<◌, ◌≤◌, refl, sym, ap, subst, ◌∙◌, arith}
 use native.Mathlib.Decide.{dec_le, dec_lt, ℕ_discrete}
-use Rattle.adf_volume.specs.Image.{word_in, root_of, DIR, FILE}
+use Rattle.adf_blocks.specs.declared.layout.TheConstants.{ST_DIR, ST_FILE}
+use Rattle.adf_volume.specs.Image.{word_in, root_of}
 use Rattle.adf_blocks.specs.Sizes.{blocks, pages_needed}
 use Rattle.adf_volume.specs.Walk.{Role, first, second, third, Before, Same, heads, DirAt, FileAt, data_count, Asks, Lacks, IsDue, NoCause, IsWalk, IsWhole}
 use Rattle.adf_volume.specs.Walk.Role.{Root, Page, MapExt, Head, Ext, Data}
@@ -9,7 +10,14 @@ use Rattle.adf_volume.specs.Walk.IsWalk.{start, step}
 use Rattle.adf_volume.proofs.Walks.{number_of, one_head, one_node, same_refl, due_file}
 use Rattle.adf_volume.proofs.WalkOrder.{dir_number, asks_back, before_total}
 use Rattle.adf_volume.proofs.MemberFacts.{kept}
-use Rattle.adf_check.specs.Cursor.{IsBelow, IsUpTo}
+use Rattle.adf_check.specs.Cursor.{Cursor, first_of, second_of, third_of, nodes_begun, IsBelow, IsUpTo}
+use Rattle.adf_check.specs.Reading.{HasRead}
+use Rattle.adf_check.specs.Store.{Store}
+
+-- a reader at one place is at another, where its walk has as much up to there
+pub moved : {image : List ℕ} {store : Store} {w : List (Role × ℕ)} {old new : Cursor} → HasRead image store w old → nodes_begun old ≡ nodes_begun new
+    → IsUpTo image w (first_of new) (second_of new) (third_of new) → HasRead image store w new
+moved read same upto = record { tells = read.tells; started = read.started ∙ same; upto = upto }
 
 below_or : (r : Role) (x y z : ℕ) → (IsBelow r x y z → ⊥) → (x < first r) ⊎ ((first r ≡ x) × ((y < second r) ⊎ ((second r ≡ y) × (z ≤ third r))))
 below_or r x y z h =
@@ -128,7 +136,7 @@ module _ (image : List ℕ) (w : List (Role × ℕ)) where
   dir_no_file v zero a b d f = let x : (1 ≤ 0) × (0 ≤ heads w) = number_of image v 0 f.0.0 f.0.1 f.0.2 b f.0.3 in omega arith
   dir_no_file v (suc i) a b d f =
       let e : a ≡ b = one_node image v (suc i) a b d.0 f.0 in
-      let z : DIR ≡ FILE = sym d.1 ∙ ap (λ a. word_in image a 127) e ∙ f.1 in omega arith
+      let z : ST_DIR ≡ ST_FILE = sym d.1 ∙ ap (λ a. word_in image a 127) e ∙ f.1 in omega arith
 
   -- behind the last slot of a directory
   pub end_dir : (p : ℕ) → IsUpTo image w (suc p) 74 0 → IsUpTo image w (suc (suc p)) 0 0

@@ -1,4 +1,4 @@
--- How an image begins, and its faults.
+-- How an image begins: its size, boot bytes and root.
 use Rattle.std.proofs.Common.{◌≡◌, ℕ, List, ◌∷◌, Bool, true, false, length, refl, arith, None}
 use Rattle.std.proofs.lemmas.Bool.Decides.{nat_tests}
 use Rattle.adf_fields.specs.Words.{block}

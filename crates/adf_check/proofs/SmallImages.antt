@@ -1,5 +1,6 @@
--- The steps of a reader that goes through a small image: one page, the root first.
-use Rattle.std.proofs.Common.{◌≡◌, ℕ, zero, suc, List, [], ◌∷◌, ◌+◌, ◌-◌, ◌/◌, ◌%◌, ◌<◌, ◌≤◌, ◌≢◌, length, refl, sym, ap, subst, ◌∙◌, arith, Bool, true, false, eq-eqb}
+-- The states of a reader in a small image: one page, the root first.
+use Rattle.std.proofs.Common.{◌≡◌, ℕ, zero, suc, List, [], ◌∷◌, ◌+◌, ◌-◌, ◌/◌, ◌%◌, ◌<◌, ◌≤◌, ◌≢◌, length, refl, sym, ap, subst, ◌∙◌, arith, Bool}
+use Rattle.std.proofs.Common.{true, false, eq-eqb}
 use Rattle.std.specs.Prelude.{◌==◌, ◌&&◌, not, bit_and, ◌^◌, IsTrue, ◌↔◌, slice_index}
 use Rattle.std.proofs.lemmas.Bool.{and_parts, eqb-true}
 use Rattle.adf_fields.specs.Words.{block}
@@ -16,10 +17,10 @@ use Rattle.adf_volume.specs.Walk.Role.{Page as APage}
 use Rattle.adf_volume.proofs.FormDemands.{none_demanded}
 use Rattle.adf_check.specs.Image.{IsBegun}
 use Rattle.adf_check.specs.Store.{Store, owner_at, stored, entered}
-use Rattle.adf_check.specs.Reading.{IsBeforePage, IsAtNode, IsAtSlot, IsInChain, IsListed, IsMapped, block_of_page}
-use Rattle.adf_check.proofs.Beginning.{first_store, owners_free, owners_of, root_read}
+use Rattle.adf_check.specs.Reading.{IsBeforePage, IsAtNode, IsAtSlot, IsListed, IsMapped, block_of_page}
+use Rattle.adf_check.proofs.RootRead.{first_store, owners_free, owners_of, root_read}
 use Rattle.adf_check.proofs.BitmapSteps.{agrees, clash, lost}
-use Rattle.adf_check.proofs.ChainSteps.{chain_begins, chain_ends}
+use Rattle.adf_check.proofs.ChainSteps.{empty_chain}
 use Rattle.adf_check.proofs.ClaimSteps.{is_stored}
 use Rattle.adf_check.proofs.NodeSteps.{enter_node, root_begins}
 use Rattle.adf_check.proofs.PageSteps.{page_done, pages_end, same_holder}
@@ -35,23 +36,18 @@ page_then image m root page size root_is low high begun one named lo hi ne form 
     let long : length (owners_of m root) ≡ blocks image = next.read.tells.owns.size in
     pages_end image (stored store (APage 0) page) (root_of image)
     (subst (λ k. IsBeforePage image (stored store (APage 0) page) k (root_of image)) (sym one)
-    (page_done begun (omega arith) next is_named (lo, omega arith) (owners_free m root page lo hi ne) refl (none_demanded page (page_form (block image page)) form)
+    (page_done begun (omega arith) next is_named (lo, omega arith) (owners_free m root page lo hi ne) refl
+        (none_demanded page (page_form (block image page)) form)
     (is_stored store (APage 0) page)))
-
--- no name was seen
-abbrev pub no_name : List ℕ → Type 0
-no_name x = ⊥
 
 -- n slots are empty from slot s on
 pub empty_slots : (image : List ℕ) (store : Store) (p up s n : ℕ) → ((i : ℕ) → s ≤ i → i < s + n → word_in image up (6 + i) ≡ 0)
     → IsAtSlot image store p up s → IsAtSlot image store p up (s + n)
 empty_slots image store p up s zero none st = let z : s ≡ s + 0 = omega arith in subst (IsAtSlot image store p up) z st
 empty_slots image store p up s (suc n) none st =
-    let z : suc s + n ≡ s + suc n = omega arith in
-    let e : word_in image up (6 + s) ≡ 0 = none s (omega arith) (omega arith) in
-    subst (IsAtSlot image store p up) z (empty_slots image store p up (suc s) n (λ i l h. none i (omega arith) (omega arith))
-    (chain_ends image store p up s up no_name (subst (λ b. IsInChain image store p up s up b no_name) e
-    (chain_begins image store p up s no_name (λ x h. h) st))))
+    let z : s + 1 + n ≡ s + suc n = omega arith in
+    let next = empty_chain image store p up s st (none s (omega arith) (omega arith)) in
+    subst (IsAtSlot image store p up) z (empty_slots image store p up (s + 1) n (λ i l h. none i (omega arith) (omega arith)) next)
 
 -- the root is entered
 pub enter_root : (image : List ℕ) (store : Store) (root : ℕ) → root_of image ≡ root → IsAtNode image store 0 → IsAtSlot image (entered store) 0 root 0
@@ -103,10 +99,10 @@ module _ (image : List ℕ) (store : Store) (page : ℕ) (one : pages_needed (bl
   agree_one : (b : ℕ) → b < blocks image → (f o : Bool) → bit_is image page b ≡ f → is_free (owner_at store.owners b) ≡ o → same f o ≡ true
       → IsMapped image store b → IsMapped image store (suc b)
   agree_one b hi true true ef eo h st =
-      agrees image store b page (bit_is image page b) (page ∷ []) hi listed (page_at ((b - 2) / 4064) (omega arith)) (not_zero _) st
+      agrees (bit_is image page b) hi listed (page_at ((b - 2) / 4064) (omega arith)) (not_zero _) st
       ((λ _. free_owner (owner_at store.owners b) eo), (λ _. ef))
   agree_one b hi false false ef eo h st =
-      agrees image store b page (bit_is image page b) (page ∷ []) hi listed (page_at ((b - 2) / 4064) (omega arith)) (not_zero _) st
+      agrees (bit_is image page b) hi listed (page_at ((b - 2) / 4064) (omega arith)) (not_zero _) st
       ((λ t. absurd (clash t ef)), (λ o. absurd (taken_owner (owner_at store.owners b) eo o)))
   agree_one b hi true false ef eo h st = absurd (let z : false ≡ true = h in cc)
   agree_one b hi false true ef eo h st = absurd (let z : false ≡ true = h in cc)
@@ -122,5 +118,5 @@ module _ (image : List ℕ) (store : Store) (page : ℕ) (one : pages_needed (bl
   pub lost_at : (b : ℕ) → IsBegun image → b < blocks image → bit_is image page b ≡ false
       → is_free (owner_at store.owners b) ≡ true → IsMapped image store b → FirstFault image b LostBlock
   lost_at b sound hi ef eo st =
-      lost image store b page (bit_is image page b) (page ∷ []) hi listed (page_at ((b - 2) / 4064) (omega arith)) (not_zero _) st sound ef
+      lost (bit_is image page b) hi listed (page_at ((b - 2) / 4064) (omega arith)) (not_zero _) st sound ef
       (free_owner (owner_at store.owners b) eo)
