@@ -174,7 +174,7 @@ impl Head<'_> {
         ensures { result ≡ text_at self.now NAME }
     {
         let len = self.block.byte(NAME) as usize;
-        Name::new(self.block.bytes(NAME + 1, len)).unwrap()
+        Name::known(self.block.bytes(NAME + 1, len))
     }
 
     // The comment: its length in byte 328, its bytes from byte 329 on.

@@ -6,7 +6,7 @@ use Rattle.adf_volume.specs.declared.owner.Owner.TheVariants.{Free}
 use Rattle.adf_volume.specs.Layout.{exts_of, datas_of}
 use Rattle.adf_volume.specs.Walk.{Role, Has}
 use Rattle.adf_volume.specs.Walk.Role.{Ext, Data}
-use Rattle.adf_volume.specs.LayoutRoles.{Part}
+use Rattle.adf_volume.specs.LayoutRoles.{LayoutHas}
 use Rattle.adf_volume.specs.LayoutRoles.{owner_of}
 use Rattle.adf_volume.specs.Made.{tree_in, layout_in, exts_in, datas_in}
 use Rattle.adf_volume.proofs.Lists.{at_fun, same_list}
@@ -53,10 +53,10 @@ module _ (image : List ℕ) (store : Store) (st : StoreFits image store) where
   }
 
   -- a part that the layout tells is in the walk, and the other way round
-  walked : (r : Role) (b : ℕ) → Part image (tree_in image st.walk) (layout_in st.walk) r b → Has st.walk r b
+  walked : (r : Role) (b : ℕ) → LayoutHas image (tree_in image st.walk) (layout_in st.walk) r b → Has st.walk r b
   walked = part_walked image (tree_in image st.walk) (layout_in st.walk) st.fits st.walk st.read.is_walk st.read.whole
 
-  agreed : (r : Role) (b : ℕ) → Has st.walk r b → Part image (tree_in image st.walk) (layout_in st.walk) r b
+  agreed : (r : Role) (b : ℕ) → Has st.walk r b → LayoutHas image (tree_in image st.walk) (layout_in st.walk) r b
   agreed r b = agreement image (tree_in image st.walk) (layout_in st.walk) st.fits st.walk r b st.read.is_walk
 
   exts_are : (n : ℕ) → exts_of (layout_in st.walk) n ≡ exts_in st.walk n

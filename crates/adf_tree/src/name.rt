@@ -53,13 +53,21 @@ impl Name {
         Some(Name { text })
     }
 
+    /// The name with these bytes, which are known to be a name.
+    pub fn known(bytes: &[u8]) -> Name
+        requires { is_name bytes.now ≡ true }
+        ensures { result ≡ bytes.now }
+    {
+        Name {
+            text: ArrayVec::try_from(bytes).unwrap(),
+        }
+    }
+
     /// The same name once more.
     pub fn copy(&self) -> Name
         ensures { result ≡ self.now }
     {
-        Name {
-            text: ArrayVec::try_from(self.bytes()).unwrap(),
-        }
+        Name::known(self.bytes())
     }
 
     /// Whether the names are equal without the case of `a` to `z`.
