@@ -133,7 +133,7 @@ stamp_of_field fs k i s d lt e above fits =
     let there : (j : ℕ) → j < 3 → slice_index ws j < 2 ^ 32 → word (sealed CHECKSUM (block_of_fields fs)) (i + j) ≡ slice_index ws j =
     λ j in_date small. numbers_of_field CHECKSUM fs k i j ws (omega arith) d lt e (omega arith) (omega arith) ∙ long_number (slice_index ws j) small in
     let days : word (sealed CHECKSUM (block_of_fields fs)) i ≡ s.days = ap (word (sealed CHECKSUM (block_of_fields fs))) (sym (add-zero i))
-        ∙ there 0 (omega arith) fits.days in
+    ∙ there 0 (omega arith) fits.days in
     rw (days, there 1 (omega arith) fits.mins, there 2 (omega arith) fits.ticks) refl
 
 -- each field ends at byte a or before, or begins at byte b or after
@@ -212,7 +212,7 @@ pub length_sealed_fields : (fs : List Field) → Descends 512 fs → length (sea
 length_sealed_fields fs d =
     let len = length-block_of_fields 512 fs (omega arith) d in
     length-with_bytes (block_of_fields fs) (4 * CHECKSUM) (long (checksum CHECKSUM (block_of_fields fs)))
-        (omega (arith, length-big_bytes 4 (checksum CHECKSUM (block_of_fields fs)))) ∙ len
+    (omega (arith, length-big_bytes 4 (checksum CHECKSUM (block_of_fields fs)))) ∙ len
 
 -- bytes that were put down above word 5
 pub bytes_of_field : (fs : List Field) (k from : ℕ) (xs : List ℕ) → Descends 512 fs → k < length fs → get_or fs k (0, []) ≡ (from, xs) → 4 * CHECKSUM + 4 ≤ from

@@ -28,7 +28,7 @@ pub page_block-sum : (bits : List ℕ) → length bits ≡ 127 → long_sum (pag
 unfolding page_block
 page_block-sum bits n =
     long_sum-sealed PAGE_CHECKSUM (block_of_fields (page_table bits)) (omega arith)
-        (length-block_of_fields 512 (page_table bits) (omega arith) (page_descends bits n))
+    (length-block_of_fields 512 (page_table bits) (omega arith) (page_descends bits n))
 
 -- a word of a page's bits
 pub page_block-word : (bits : List ℕ) (i : ℕ) → length bits ≡ 127 → i < 127 → slice_index bits i < 2 ^ 32

@@ -190,7 +190,7 @@ module _ (v : List ℕ) (n total : ℕ) (small : n < 2 ^ 32) (few : total < 2 ^ 
         subst (λ b. AllHold (data_demands v Ofs b head (number + 0) (length (take (chunk Ofs) (drop (chunk Ofs * 0) bytes)))
         (slice_index (allocated n (suc k) m) 0))) a
         (subst (λ u. AllHold (data_demands v Ofs (nth_free n k) head (number + 0) (length (take (chunk Ofs) (drop (chunk Ofs * 0) bytes))) u))
-            (next_is (suc k) m)
+        (next_is (suc k) m)
         (subst (λ u. AllHold (data_demands v Ofs (nth_free n k) head (number + 0) (length (take (chunk Ofs) u)) (nth_free_or_none n (suc k) m))) d
         (subst (λ u. AllHold (data_demands v Ofs (nth_free n k) head u (length (take (chunk Ofs) bytes)) (nth_free_or_none n (suc k) m))) z
         (all_demanded (nth_free n k) (data_form head number (length (take (chunk Ofs) bytes)) (nth_free_or_none n (suc k) m) (block v (nth_free n k))) w))))

@@ -235,7 +235,7 @@ module _ (t : Tree) (n : ℕ) (sound : IsSound t) (allowed : is_allowed n ≡ tr
 
   owned_is : (b : ℕ)
       → In (blocks_of (owned (volume t n) (planned t n))) b ↔ In (middle n ∷
-          (range_with_len (middle n + 1) (reserved n) ++ allocated n 0 (entries_blocks t.kind t.entries))) b
+      (range_with_len (middle n + 1) (reserved n) ++ allocated n 0 (entries_blocks t.kind t.entries))) b
   owned_is b = let e = owned_blocks (volume t n) t n size in ((λ h. subst (λ l. In l b) e h), (λ h. subst (λ l. In l b) (sym e) h))
 
   free_laid : (b : ℕ) → 2 ≤ b → b < n → IsFree (volume t n) (range_with_len (middle n + 1) (pages_needed n)) b → (o : Owner)

@@ -54,7 +54,7 @@ no_gap image t k b four lt lo h =
     there n m four c lt h =
         let x = free_is n k b four lo h c in
         inr (in_right (range_with_len (middle n + 1) (reserved n)) (allocated n 0 m) b
-            (subst (In (allocated n 0 m)) x.2 (allocated_in n 0 m x.0 (omega arith) (omega arith))))
+        (subst (In (allocated n 0 m)) x.2 (allocated_in n 0 m x.0 (omega arith) (omega arith))))
 
     put : (n m : ℕ) → 4 ≤ n → (b < middle n) ⊎ (middle n ≤ b) → (middle n + reserved n < b) ⊎ (b ≤ middle n + reserved n) → k < m → b ≤ nth_free n k
         → In (middle n ∷ (range_with_len (middle n + 1) (reserved n) ++ allocated n 0 m)) b

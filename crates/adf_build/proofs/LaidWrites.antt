@@ -157,7 +157,7 @@ module _ (t : Tree) (n : ℕ) (sound : IsSound t) (allowed : is_allowed n ≡ tr
       let y : middle n + 1 + p + 0 ≡ middle n + 1 + p = omega arith in
       let last : List ℕ = middle n ∷ 0 ∷ [] in
       let pages : numbers_of (pages_of t n) ≡ range_with_len (middle n + 1) p = page_numbers n (entries_blocks t.kind t.entries) 0 p
-          ∙ ap (λ b. range_with_len b p) z in
+      ∙ ap (λ b. range_with_len b p) z in
       let exts : numbers_of (map_exts_of n) ≡ range_with_len (middle n + 1 + p) x = map_ext_numbers n 0 x ∙ ap (λ b. range_with_len b x) y in
       let back : numbers_of (map_exts_of n ++ ends_of t n) ≡ range_with_len (middle n + 1 + p) x ++ last =
       numbers_of-append (map_exts_of n) (ends_of t n) ∙ ap (λ l. l ++ last) exts in

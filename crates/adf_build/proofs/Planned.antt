@@ -106,7 +106,7 @@ planned_count image t n size =
     ∙ (ap length (owned_blocks image t n size)
     ∙ (let a : length (range_with_len (middle n + 1) (reserved n)) ≡ reserved n = length-range_with_len (middle n + 1) (reserved n) in
     let b : length (allocated n 0 (entries_blocks t.kind t.entries)) ≡ entries_blocks t.kind t.entries =
-        length_allocated n 0 (entries_blocks t.kind t.entries) in
+    length_allocated n 0 (entries_blocks t.kind t.entries) in
     let c : length (range_with_len (middle n + 1) (reserved n) ++ allocated n 0 (entries_blocks t.kind t.entries))
     ≡ length (range_with_len (middle n + 1) (reserved n)) + length (allocated n 0 (entries_blocks t.kind t.entries)) =
     length-append (range_with_len (middle n + 1) (reserved n)) (allocated n 0 (entries_blocks t.kind t.entries)) in

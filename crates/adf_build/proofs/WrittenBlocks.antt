@@ -27,8 +27,11 @@ none_twice (p ∷ ps) d = ((λ q i e. d.0 (subst (λ b. In (numbers_of ps) b) (s
 pub laid_holds : (n : ℕ) (image : List ℕ) (all ps : List (ℕ × List ℕ)) → AreBlocks n all → NoneTwice all → length image ≡ n * 512
     → ((q : ℕ × List ℕ) → In ps q → In all q) → Holds (with_blocks image all) ps
 laid_holds n image all [] a d len f = tt
-laid_holds n image all (p ∷ ps) a d len f = (with_blocks_same n image all p.0 p.1 a d len (f p (inl refl)), laid_holds n image all ps a d len
-    (λ q i. f q (inr i)))
+laid_holds n image all (p ∷ ps) a d len f = (
+  with_blocks_same n image all p.0 p.1 a d len (f p (inl refl)),
+  laid_holds n image all ps a d len
+      (λ q i. f q (inr i)),
+)
 
 pub holds_left : (image : List ℕ) (ps qs : List (ℕ × List ℕ)) → Holds image (ps ++ qs) → Holds image ps
 holds_left image [] qs h = tt

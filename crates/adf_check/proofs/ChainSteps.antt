@@ -2,7 +2,7 @@
 use Rattle.adf_check.specs.Claims.{InRange}
 use Rattle.std.proofs.Common.{◌≡◌, ◌≢◌, ◌⊎◌, inl, inr, ℕ, zero, suc, List, ◌∷◌, ◌+◌, ◌<◌, length, Bool, true, false, refl, sym, ap, subst, ◌∙◌, arith}
 use Rattle.std.proofs.Common.{Some, None}
-use Rattle.std.specs.Prelude.{◌↔◌, ◌||◌, not}
+use Rattle.std.specs.Prelude.{◌↔◌, ◌||◌}
 use Rattle.std.specs.Str.{bytes_eq}
 use Rattle.std.proofs.lemmas.Slice.Eq.{bytes_eq-Decides}
 use Rattle.adf_fields.specs.Words.{block, word}
@@ -174,12 +174,3 @@ module _ {image : List ℕ} {store : Store} {p up s a b : ℕ} (names : Names) (
         subst (λ n. IsInChain image new p up s b n (sees_of more)) (ap (λ x. word x 124) (sym (same ∙ is_block)) ∙ sym next_is)
         (next_chain lt begun st ne range free form (λ h. let e : true ≡ false = sym h ∙ ap (has names) (sym name_is) ∙ fresh in cc) (sees_of more)
         (seen_more names more (uppers (name_of image b)) (subst (HasMore names more) name_is grows)) stored)
-
--- a name that is not new was seen
-pub was_seen : (x y : Bool) → y ≡ not x → y ≡ false → x ≡ true
-was_seen true y e h = refl
-was_seen false y e h = let z : true ≡ false = sym e ∙ h in cc
-
-pub was_new : (x y : Bool) → y ≡ not x → y ≡ true → x ≡ false
-was_new false y e h = refl
-was_new true y e h = let z : false ≡ true = sym e ∙ h in cc

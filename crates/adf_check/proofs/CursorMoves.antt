@@ -40,8 +40,7 @@ module _ (image : List ℕ) (w : List (Role × ℕ)) where
   pub is_due : (r : Role) (a i : ℕ) → IsUpTo image w (first r) (second r) (third r) → Asks image w r a i → IsDue image w r a i
   is_due r a i u h = record {
     asked = h;
-    lacks = (λ q b k s. let x = u.below q b k in let s0 : first q ≡ first r = s.0 in let s1 : second q ≡ second r = s.1 in let s2 : third q ≡ third r =
-        s.2 in let y : third q < third r = x.2 s0 s1 in omega arith);
+    lacks = (λ q b k s. let x = u.below q b k in grind (arith, x));
     least = (λ q c k ask l b. u.all q c k ask l b);
   }
 
@@ -70,17 +69,7 @@ module _ (image : List ℕ) (w : List (Role × ℕ)) where
       }
     where
       clash : (r q x : Role) → Same x q → Before r x → IsBelow q (first r) (second r) (suc (third r)) → ⊥
-      clash r q x s b l =
-          let s0 : first x ≡ first q = s.0 in let s1 : second x ≡ second q = s.1 in let s2 : third x ≡ third q = s.2 in
-          let b0 : first r ≤ first x = b.0 in
-          let l0 : first q ≤ first r = l.0 in
-          let e : first r ≡ first x = omega arith in
-          let b1 : second r ≤ second x = b.1 e in
-          let l1 : second q ≤ second r = l.1 (omega arith) in
-          let f : second r ≡ second x = omega arith in
-          let b2 : third r < third x = b.2 e f in
-          let l2 : third q < suc (third r) = l.2 (omega arith) (omega arith) in
-          omega arith
+      clash r q x s b l = grind arith
 
   -- the place moves on over what is not asked for
   pub skip : (x y z x' y' z' : ℕ) → IsUpTo image w x y z → ((r : Role) → IsBelow r x y z → IsBelow r x' y' z') →

@@ -1,10 +1,11 @@
 -- The blocks of each file stand together in the flat lists of a walk.
-use Rattle.std.proofs.Common.{◌≡◌, ℕ, suc, List, [], ◌∷◌, ◌++◌, inl, inr, ◌+◌, ◌<◌, ◌≤◌, length, refl, sym, ap, subst, ◌∙◌, arith, Bool, true, false}
+use Rattle.std.proofs.Common.{eq-eqb, ◌≡◌, ℕ, suc, List, [], ◌∷◌, ◌++◌, inl, inr, ◌+◌, ◌<◌, ◌≤◌, length, refl, sym, ap, subst, ◌∙◌, arith, Bool, true, false}
 use Rattle.std.proofs.Common.{cond, take, drop, append_assoc, Option, Some, None, length-append}
 use Rattle.std.specs.Prelude.{◌==◌, is_some, nat_lt, not}
-use Rattle.std.proofs.lemmas.Bool.{eqb-false, eqb-true, false_from_ne_true, le-ltb, lt-ltb, ltb-false, ltb-true, not-true}
+use Rattle.std.proofs.lemmas.Bool.{ne_eqb, eqb-true, false_from_ne_true, le-ltb, lt-ltb, ltb-false, ltb-true, not-true}
 use Rattle.std.proofs.lemmas.List.{append-nil}
 use Rattle.std.proofs.Math.Seq.{drop-append_seam, take-append_seam}
+use native.Mathlib.Decide.{dec_lt, ℕ_discrete}
 use Rattle.adf_volume.specs.Image.{root_of}
 use Rattle.adf_volume.specs.Walk.{Role, first, Before, Has, IsWalk}
 use Rattle.adf_volume.specs.Walk.Role.{Root, Ext, Data}
@@ -107,16 +108,13 @@ module _ (image : List ℕ) (file : Role → Option ℕ) (tells : TellsFile file
 
   at_file : (n : ℕ) (o : Option ℕ) → Parts (is_below (suc n) o) (is_below n o) (is_file n o)
   at_file n None = tt
-  at_file n (Some m) = go (nat_lt m (suc n)) (nat_lt m n) (n == m) refl refl refl
-    where
-      go : (x y z : Bool) → nat_lt m (suc n) ≡ x → nat_lt m n ≡ y → (n == m) ≡ z → Parts x y z
-      go true true false p q r = tt
-      go true false true p q r = tt
-      go false false false p q r = tt
-      go true true true p q r = let e : n ≡ m = eqb-true n m r in let l : m < n = ltb-true m n q in absurd (omega arith)
-      go true false false p q r = let l : m < suc n = ltb-true m (suc n) p in let g : n ≤ m = ltb-false m n q in absurd (eqb-false n m r (omega arith))
-      go false true z p q r = let g : suc n ≤ m = ltb-false m (suc n) p in let l : m < n = ltb-true m n q in absurd (omega arith)
-      go false false true p q r = let e : n ≡ m = eqb-true n m r in let g : suc n ≤ m = ltb-false m (suc n) p in absurd (omega arith)
+  at_file n (Some m) = elim (dec_lt m n) [
+    | yes l ↦ rw (lt-ltb m (suc n) (omega arith), lt-ltb m n l, ne_eqb n m (λ e. omega arith)) tt
+    | no l ↦ elim (ℕ_discrete n m) [
+      | yes e ↦ rw (lt-ltb m (suc n) (omega arith), le-ltb m n (omega arith), eq-eqb n m e) tt
+      | no ne ↦ rw (le-ltb m (suc n) (omega arith), le-ltb m n (omega arith), ne_eqb n m ne) tt
+    ]
+  ]
 
   at_all : (n : ℕ) (o : Option ℕ) → Parts (is_some o) (is_below n o) (is_later n o)
   at_all n None = tt

@@ -58,21 +58,11 @@ enter_node image store n st = record {
 }
   where
     exts_low : (r : Role) (b m : ℕ) → Has st.walk r b → ext_file r ≡ Some m → m < n
-    exts_low (Ext q k) b m h e =
-        let x = st.read.upto.below (Ext q k) b h in
-        let x0 : suc q ≤ suc n = x.0 in
-        let ne : suc q ≡ suc n → ⊥ = (λ e. let z : k < 0 = x.2 e refl in omega arith) in
-        let z : q ≡ m = cc in
-        omega arith
+    exts_low (Ext q k) b m h e = let x = st.read.upto.below (Ext q k) b h in let z : q ≡ m = cc in grind (arith, x)
     exts_low _ b m h e = cc
 
     datas_low : (r : Role) (b m : ℕ) → Has st.walk r b → data_file r ≡ Some m → m < n
-    datas_low (Data q k) b m h e =
-        let x = st.read.upto.below (Data q k) b h in
-        let x0 : suc q ≤ suc n = x.0 in
-        let ne : suc q ≡ suc n → ⊥ = (λ e. let z : 1 ≤ 0 = x.1 e in omega arith) in
-        let z : q ≡ m = cc in
-        omega arith
+    datas_low (Data q k) b m h e = let x = st.read.upto.below (Data q k) b h in let z : q ≡ m = cc in grind (arith, x)
     datas_low _ b m h e = cc
 
 -- the node of a row

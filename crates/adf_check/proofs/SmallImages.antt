@@ -37,7 +37,7 @@ page_then image m root page size root_is low high begun one named lo hi ne form 
     pages_end image (stored store (APage 0) page) (root_of image)
     (subst (λ k. IsBeforePage image (stored store (APage 0) page) k (root_of image)) (sym one)
     (page_done begun (omega arith) next is_named (lo, omega arith) (owners_free m root page lo hi ne) refl
-        (none_demanded page (page_form (block image page)) form)
+    (none_demanded page (page_form (block image page)) form)
     (is_stored store (APage 0) page)))
 
 -- n slots are empty from slot s on
@@ -67,7 +67,7 @@ free_owner Free h = refl
 free_owner _ h = cc
 
 taken_owner : (o : Owner) → is_free o ≡ false → o ≢ Free
-taken_owner o h e = let x : is_free o ≡ true = ap is_free e in let y : true ≡ false = sym x ∙ h in cc
+taken_owner o h e = clash (ap is_free e) h
 
 not_zero : (n : ℕ) → IsTrue (not (n == 0)) ↔ (n ≢ 0)
 not_zero n = go (n == 0) refl

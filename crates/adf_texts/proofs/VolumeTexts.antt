@@ -1,10 +1,9 @@
 -- The lines of `list`: of a row, and of the first entries.
-use Rattle.std.proofs.Common.{◌≡◌, ◌≤◌, ◌∙◌, ◌+◌, ◌-◌, ℕ, zero, suc, List, [], ◌∷◌, ◌++◌, Some, refl, sym, ap, arith, length, append_assoc, append-nil}
+use Rattle.std.proofs.Common.{◌≡◌, ◌≤◌, ◌∙◌, ◌+◌, ◌-◌, ℕ, zero, suc, List, [], ◌∷◌, ◌++◌, refl, sym, ap, arith, length, append_assoc, append-nil}
 use Rattle.std.proofs.Common.{add-suc, add-zero, add-one}
 use Rattle.std.specs.Fmt.{decimal}
 use Rattle.adf_fields.specs.declared.dates.Stamp.{Stamp}
-use Rattle.adf_tree.specs.Paths.{names_of}
-use Rattle.adf_tree.specs.Tree.{Tree, entry}
+use Rattle.adf_tree.specs.Tree.{Tree}
 use Rattle.adf_tree.specs.declared.entry.Body.{Body}
 use Rattle.adf_tree.specs.declared.entry.Body.TheVariants.{Dir as ADir, File as AFile}
 use Rattle.adf_tree.specs.declared.entry.Entry.{Entry}

@@ -46,7 +46,7 @@ fn seat_of(name: NameKey, count: usize) -> usize
     ((u128::from(name.spread()) * count as u128) >> 64) as usize
 }
 
-// The name that has a seat.
+// The name that has a seat; of a seat that was given before the set was cleared the number may be that of another name.
 fn holder(names: &[NameKey], seats: &[u32], seat: usize) -> Option<NameKey>
     ensures { result ≡ holder_of names.now seats.now seat }
 {
@@ -70,7 +70,7 @@ fn is_in(names: &[NameKey], seats: &[u32], rest: &BTreeSet<NameKey>, name: NameK
     }
 }
 
-// Whether the seats are too few, or none.
+// Whether there are no seats, or more would help: a quarter is taken, and the rest are not most names.
 fn are_few(seats: usize, seated: usize, rest: usize) -> bool
     ensures { result ≡ false → 0 < seats }
 {

@@ -37,7 +37,7 @@ loop-i-preserved c =
     ∙ ap (first_block (slice_index nodes)) (sym (c.loop-i.invariant.chains (i + 1) s (omega arith)))) in
     let written : c.write_entry.new.image ≡ with_blocks c.loop-i.image (entry_writes n kind (at c.parent_block.result c.next_of.result) slots e) =
     c.write_entry.ensures.exact ∙ ap (λ kind. with_blocks c.loop-i.image (entry_writes n kind (at c.parent_block.result c.next_of.result) slots e))
-        c.kind.ensures in
+    c.kind.ensures in
     record {
       work = entry_step c.write_entry.new.image c.loop-i.image n kind nodes es (i + 1) (i + 1 + 1) k c.next_free-k.result (drop i es) rest e
           (at c.parent_block.result c.next_of.result) slots _

@@ -1,10 +1,11 @@
-use Rattle.std.proofs.Common.{◌≡◌, ◌+◌, ◌++◌, ◌∷◌, [], ◌<◌, ◌^◌, ℕ, suc, length, set, ap, refl, ◌∙◌, arith, rules, true, false}
+use Rattle.std.proofs.Common.{◌≡◌, ◌+◌, ◌++◌, ◌∷◌, [], ◌<◌, ◌^◌, ℕ, suc, length, set, ap, refl, sym, ◌∙◌, arith, rules, true, false}
+use Rattle.std.proofs.lemmas.Bool.{not-false, not-true}
 use Rattle.adf_tree.specs.NameSet.{has}
 use Rattle.adf_tree.specs.Texts.{uppers}
 use Rattle.adf_volume.specs.declared.owner.Owner.TheVariants.{Head as AHead}
 use Rattle.adf_check.specs.Found.{store_of}
 use Rattle.adf_check.proofs.NumberBounds.{entry_short, parent_short}
-use Rattle.adf_check.proofs.ChainSteps.{head_named, head_fault, twice_fault, head_done, was_new, was_seen}
+use Rattle.adf_check.proofs.ChainSteps.{head_named, head_fault, twice_fault, head_done}
 use Rattle.adf_check.proofs.ClaimSteps.{claim_refused}
 use Rattle.adf_check.proofs.chains.read_header.Goals as goal
 
@@ -22,7 +23,7 @@ pub returns-in-Ok-false-clause-fault : goal.returns-in-Ok-false-clause-fault
 returns-in-Ok-false-clause-fault c =
     let claimed = c.in_ok-claim_named.ensures in
     let twice : has c.args.seen.now (uppers c.name.result) ≡ true =
-    was_seen (has c.args.seen.now (uppers c.name.result)) c.in-Ok-false.field-0 c.in-Ok-false.ensures.new c.in-Ok-false.field-0-test in
+    not-false _ (sym c.in-Ok-false.ensures.new ∙ c.in-Ok-false.field-0-test) in
     rw c.fault_at-in-Ok-false.ensures (twice_fault c.args.seen.now c.requires.slot c.kind-kind.ensures.begun c.requires.state c.requires.some claimed.range
     claimed.free c.kind-kind.ensures.kind c.block.ensures.block c.in-Ok.ensures.0 c.in-Ok.ensures.1 c.name.ensures twice)
 
@@ -37,7 +38,7 @@ returns-in-Ok-push-clause-state c =
     let store = store_of c.args.found.now in
     let claimed = c.in_ok-claim_named.ensures in
     let fresh : has c.args.seen.now (uppers c.name.result) ≡ false =
-    was_new (has c.args.seen.now (uppers c.name.result)) c.in-Ok-true.field-0 c.in-Ok-true.ensures.new c.in-Ok-true.field-0-test in
+    not-true _ (sym c.in-Ok-true.ensures.new ∙ c.in-Ok-true.field-0-test) in
     let count : c.len.result ≡ length store.rows = search rules in
     let pushed : c.push.new.self.items ≡ store.rows ++ record { parent = c.args.chain.now.parent; head = c.args.b } ∷ [] = search rules in
     head_done c.args.seen.now c.requires.slot c.kind-kind.ensures.begun c.requires.state c.requires.some claimed.range claimed.free

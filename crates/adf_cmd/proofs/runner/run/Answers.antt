@@ -9,16 +9,15 @@ pub returns-in-Ok-Check-clause-answer : goal.returns-in-Ok-Check-clause-answer
 returns-in-Ok-Check-clause-answer g c = λ taken not_three.
     let words : List (List ℕ) = map (λ (w : Bor (List ℕ)). w.now) c.args.words.now in
     let asks : Asks words check = search rules in
-    left_answers c.check_input.result words check _ _ _ _ _ _ c.finish.result asks c.finish.ensures.status not_three c.check_input.ensures.works
-    c.finish.ensures.said
+    left_answers c.check_input.result words check _ _ _ _ _ _ c.finish.result asks c.finish.ensures.status not_three
+    c.check_input.ensures.works c.finish.ensures.said
 
 pub returns-in-Ok-List-clause-answer : goal.returns-in-Ok-List-clause-answer
 returns-in-Ok-List-clause-answer g c = λ taken not_three.
     let words : List (List ℕ) = map (λ (w : Bor (List ℕ)). w.now) c.args.words.now in
     let asks : Asks words list = search rules in
     left_answers c.list_input.result words list _ _ _ _ _ _ c.finish-in-Ok-List.result asks c.finish-in-Ok-List.ensures.status not_three
-        c.list_input.ensures.works
-    c.finish-in-Ok-List.ensures.said
+    c.list_input.ensures.works c.finish-in-Ok-List.ensures.said
 
 pub returns-in-Ok-clause-answer : goal.returns-in-Ok-clause-answer
 returns-in-Ok-clause-answer g c = λ taken not_three.
@@ -55,14 +54,12 @@ pub returns-in-Ok-Build-clause-answer : goal.returns-in-Ok-Build-clause-answer
 returns-in-Ok-Build-clause-answer g c = λ taken not_three.
     let words : List (List ℕ) = map (λ (w : Bor (List ℕ)). w.now) c.args.words.now in
     let asks : Asks words (build c.in-Ok-Build.list) = search rules in
-    left_answers c.build_input.result words (build c.in-Ok-Build.list) _ _ _ _ _ _ c.finish-in-Ok-Build.result asks c.finish-in-Ok-Build.ensures.status
-        not_three c.build_input.ensures.works
-    c.finish-in-Ok-Build.ensures.said
+    left_answers c.build_input.result words (build c.in-Ok-Build.list) _ _ _ _ _ _ c.finish-in-Ok-Build.result asks
+    c.finish-in-Ok-Build.ensures.status not_three c.build_input.ensures.works c.finish-in-Ok-Build.ensures.said
 
 pub returns-in-Ok-Convert-clause-answer : goal.returns-in-Ok-Convert-clause-answer
 returns-in-Ok-Convert-clause-answer g c = λ taken not_three.
     let words : List (List ℕ) = map (λ (w : Bor (List ℕ)). w.now) c.args.words.now in
     let asks : Asks words (convert c.in-Ok-Convert.kind) = search rules in
     left_answers c.convert_input.result words (convert c.in-Ok-Convert.kind) _ _ _ _ _ _ c.finish-in-Ok-Convert.result asks
-        c.finish-in-Ok-Convert.ensures.status not_three c.convert_input.ensures.works
-    c.finish-in-Ok-Convert.ensures.said
+    c.finish-in-Ok-Convert.ensures.status not_three c.convert_input.ensures.works c.finish-in-Ok-Convert.ensures.said

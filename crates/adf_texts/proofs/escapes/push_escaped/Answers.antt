@@ -1,7 +1,7 @@
 use Rattle.std.proofs.Common.{◌≡◌, ◌∙◌, ◌++◌, ℕ, List, [], ◌∷◌, true, refl, sym, ap}
 use Rattle.std.specs.List.{list_all}
 use Rattle.std.proofs.lemmas.Bool.{and_parts}
-use Rattle.adf_tree.specs.Escapes.{escape_of, escaped, is_plain}
+use Rattle.adf_tree.specs.Escapes.{escaped, is_plain}
 use Rattle.adf_texts.proofs.Appends.{appended_as, appends_if}
 use Rattle.adf_tree.proofs.Spellings.{spelled_plain}
 use Rattle.adf_texts.proofs.escapes.push_escaped.Goals as goal

@@ -26,5 +26,5 @@ returns-in-None-clause-ok c =
     (all_parts c.args.text.now path
     (one_part c.args.text.now part c.in-Some.name names [] (next_part c.args.text.now part c.loop-name.rest.now names [] inv.split
     (last_part c.cut.result.1 part (between_slashes c.loop-name.rest.now) c.in-None.is c.cut.ensures.last)) c.in-Some.ensures.some
-        ∙ append-nil (map escaped path))
+    ∙ append-nil (map escaped path))
     (All-push IsName names c.in-Some.name inv.names c.in-Some.ensures.name))
