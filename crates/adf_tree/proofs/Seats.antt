@@ -158,20 +158,6 @@ seated_rest names seats old new name h s some up = record {
       ];
 }
 
-cond_or : (a b c : Bool) → (a || cond b true c) ≡ (b || (a || c))
-cond_or true true c = refl
-cond_or true false c = refl
-cond_or false true c = refl
-cond_or false false c = refl
-
-pub with_rest : (names : Names) (old new : BTreeSet NameKey) (name : NameKey) → Updates by_words old new name true
-    → IsWith (names ++ old.keys) (names ++ new.keys) name
-with_rest names old new name up = λ k.
-    list_any-append (λ n. is_eq (by_words k n)) names new.keys
-    ∙ (ap (λ b. is_among names k || b) (up.0 k)
-    ∙ (cond_or (is_among names k) (is_eq (by_words name k)) (is_among old.keys k)
-    ∙ ap (λ b. is_eq (by_words name k) || b) (sym (list_any-append (λ n. is_eq (by_words k n)) names old.keys))))
-
 or_swap : (a b c : Bool) → ((a || (b || false)) || c) ≡ (b || (a || c))
 or_swap true true c = refl
 or_swap true false c = refl
