@@ -15,7 +15,7 @@ pub struct Bench {
     image: Vec<u8>,
     /// What the last run wrote to output.
     output: Vec<u8>,
-    row: Option<Timing>,
+    row: Option<Trial>,
     rows: usize,
 }
 
@@ -28,7 +28,7 @@ struct Image {
 
 /// A row that is not at its end.
 #[derive(Drop)]
-struct Timing {
+struct Trial {
     /// Its first line.
     line: usize,
     came: Option<Answer>,
@@ -56,7 +56,7 @@ impl Bench {
     pub fn step(&mut self, number: usize, line: &Line<'_>) -> Result<(), Failure> {
         match line {
             Line::Blank => self.finish(),
-            Line::Timing => {
+            Line::Row => {
                 self.finish()?;
                 self.begin(number);
                 Ok(())
@@ -70,7 +70,7 @@ impl Bench {
 
     fn begin(&mut self, line: usize) {
         self.rows = self.rows.saturating_add(1);
-        self.row = Some(Timing {
+        self.row = Some(Trial {
             line,
             came: None,
             wanted: Wanted::new(self.alloc, None),
@@ -79,7 +79,7 @@ impl Bench {
 
     /// Ends the row, if one was begun.
     pub fn finish(&mut self) -> Result<(), Failure> {
-        let Some(Timing { line, came, wanted }) = self.row.take() else {
+        let Some(Trial { line, came, wanted }) = self.row.take() else {
             return Ok(());
         };
         let Some(came) = came else {
@@ -93,7 +93,7 @@ impl Bench {
 
     fn act(&mut self, line: &Line<'_>) -> Result<(), Wrong> {
         match line {
-            Line::Comment | Line::Blank | Line::Timing => Ok(()),
+            Line::Comment | Line::Blank | Line::Row => Ok(()),
             Line::Start(start) => self.start(start),
             Line::Change(change) => change.make(&mut self.image),
             Line::Name(name) => self.keep(name),
