@@ -28,8 +28,12 @@ build_app = with_rule (new_app (codes "build")) list_rule
 abbrev pub convert_app : App
 convert_app = with_rule (new_app (codes "convert")) kind_rule
 
+-- with no flag and no subcommand for help
+abbrev pub bare_app : App
+bare_app = record (new_app (codes "adf")) { top = record (new_app (codes "adf")).top { disable_help_flag = true; disable_help_subcommand = true } }
+
 abbrev pub plain_app : App
-plain_app = with_subcommand (with_subcommand (new_app (codes "adf")) (new_app (codes "check")).top) (new_app (codes "list")).top
+plain_app = with_subcommand (with_subcommand bare_app (new_app (codes "check")).top) (new_app (codes "list")).top
 
 -- the command line: check, list, cat PATH, build [--list], convert KIND
 abbrev pub adf_app : App

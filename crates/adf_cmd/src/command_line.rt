@@ -56,11 +56,14 @@ fn convert_command<'a>(alloc: Global) -> Result<Command<'a>, AllocError>
     Command::new(alloc, "convert").arg(kind)
 }
 
-// The command line, with its subcommands.
+// The command line, with its subcommands. Words of help are refused as any others are, so that clap lays out no text for them.
 fn command<'a>(alloc: Global) -> Result<Command<'a>, AllocError>
     ensures { IfOk result (λ c. app_of c ≡ adf_app) }
 {
-    let plain = Command::new(alloc, "adf")
+    let bare = Command::new(alloc, "adf")
+        .disable_help_flag(true)
+        .disable_help_subcommand(true);
+    let plain = bare
         .subcommand(Command::new(alloc, "check"))?
         .subcommand(Command::new(alloc, "list"))?;
     plain
