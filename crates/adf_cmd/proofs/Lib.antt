@@ -2,7 +2,6 @@
 pub mod KnownBytes
 pub mod PendingText
 pub mod Lines
-pub mod Literals
 -- the rows of a volume
 pub mod EntryNames
 pub mod EntryLines

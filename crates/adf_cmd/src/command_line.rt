@@ -158,6 +158,7 @@ pub fn parse<'a>(alloc: Global, words: &'a [&str]) -> Result<Order<'a>, WordsFau
 
 /// The commands of the documentation are taken with the request that they name, and other words are
 /// refused, calls for help among them.
+#[tactic(auto, unfolding(clap::proofs::OnLiterals::clap_on_literals))]
 pub fn words_as_documented()
     ensures check { Asks (codes "adf" ∷ codes "check" ∷ []) check }
     ensures list { Asks (codes "adf" ∷ codes "list" ∷ []) list }
