@@ -34,6 +34,7 @@ pub fn agreement()
 {}
 
 /// Where besides nothing is due, each part is in the walk.
+#[tactic(auto, using(crate::proofs::WalkCompleteness::part_walked))]
 pub fn completeness()
     ensures { (image : List ℕ) (t : Tree) (l : Layout) (w : List (Role × ℕ)) → Fits image t l → IsWalk image w → IsWhole image w
         → (r : Role) (b : ℕ) → LayoutHas image t l r b → Has w r b }
@@ -45,6 +46,7 @@ pub fn none_fits()
 {}
 
 /// Two trees that fit an image with a whole walk are one, and so are their layouts.
+#[tactic(auto, using(crate::proofs::OneTree::one_tree))]
 pub fn one_tree()
     ensures { (image : List ℕ) (w : List (Role × ℕ)) → IsWalk image w → IsWhole image w
         → (t u : Tree) (l m : Layout) → Fits image t l → Fits image u m → (t ≡ u) × (l ≡ m) }
@@ -63,12 +65,14 @@ pub fn one_fault()
 {}
 
 /// The numbers of a chain are those of its entries.
+#[tactic(auto, using(crate::proofs::Chains::chain_entries, crate::proofs::Chains::entry_is_at))]
 pub fn chains_of_numbers()
     ensures entries { (t : Tree) (p s : ℕ) → map (λ n. entry t.entries n) (chain_nodes t p s) ≡ map Some (chain t.entries p s) }
     ensures numbers { (t : Tree) (n : ℕ) (e : Entry) → EntryAt t n e ↔ (entry t.entries n ≡ Some e) }
 {}
 
 /// The pieces of a file, one after the other, are its content.
+#[tactic(auto, using(crate::proofs::Pieces::pieces_joined, crate::proofs::Pieces::pieces_length))]
 pub fn pieces_are_content()
     ensures joined { (image : List ℕ) (kind : Kind) (h : ℕ) (datas : List ℕ) → length image ≡ 512 * blocks image → ((i b : ℕ) → At datas i b → b < blocks image)
         → concat (pieces image kind (word_in image h SIZE) 1 datas) ≡ content image kind h datas }
