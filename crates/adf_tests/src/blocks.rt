@@ -261,7 +261,7 @@ fn reads_roots(rt: HostRuntime) {
 }
 
 #[test]
-fn reads_pages(rt: HostRuntime) -> Result<(), Fail> {
+fn places_blocks(rt: HostRuntime) -> Result<(), Fail> {
     let rows = [
         (2, (0, 0)),
         (12, (0, 10)),
@@ -272,6 +272,11 @@ fn reads_pages(rt: HostRuntime) -> Result<(), Fail> {
     for (b, place) in rows {
         assert_eq!(rt; place_of(b), place, "block {b}");
     }
+    Ok(())
+}
+
+#[test]
+fn reads_pages(rt: HostRuntime) -> Result<(), Fail> {
     let mut image = example();
     let page = read_page(Block::at(&image, 9).ok_or("no block")?);
     let page = page.ok().ok_or("no page")?;
@@ -324,6 +329,12 @@ fn reads_exts(rt: HostRuntime) -> Result<(), Fail> {
         seal(&mut patched, 5, 5);
         assert_eq!(rt; ext_cause(&patched), Some(cause), "word {i} is {word}");
     }
+    Ok(())
+}
+
+#[test]
+fn writes_exts(rt: HostRuntime) -> Result<(), Fail> {
+    let mut image = example();
     let out = ExtOut {
         own: 5,
         head: 2,
@@ -367,7 +378,20 @@ fn reads_data(rt: HostRuntime) -> Result<(), Fail> {
             "block {b}"
         );
     }
-    let mut patched = image;
+    Ok(())
+}
+
+#[test]
+fn reads_the_last_data(rt: HostRuntime) -> Result<(), Fail> {
+    let image = example();
+    let last = read_data(Block::at(&image, 4).ok_or("no block")?, 2, 2, 1, 0);
+    assert_eq!(rt; last.ok().ok_or("no data")?, [0x41].as_slice());
+    Ok(())
+}
+
+#[test]
+fn reads_patched_data(rt: HostRuntime) -> Result<(), Fail> {
+    let mut patched = example();
     set_word(&mut patched, 3, 0, 2);
     assert_eq!(rt; data_cause(&patched, 3, 1, 488, 4), Some(Cause::BadSum));
     seal(&mut patched, 3, 5);
@@ -375,8 +399,6 @@ fn reads_data(rt: HostRuntime) -> Result<(), Fail> {
     set_word(&mut patched, 4, 3, 2);
     seal(&mut patched, 4, 5);
     assert_eq!(rt; data_cause(&patched, 4, 2, 1, 0), Some(Cause::BadData));
-    let last = read_data(Block::at(&image, 4).ok_or("no block")?, 2, 2, 1, 0);
-    assert_eq!(rt; last.ok().ok_or("no data")?, [0x41].as_slice());
     Ok(())
 }
 
