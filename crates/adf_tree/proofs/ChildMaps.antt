@@ -1,12 +1,12 @@
 -- Numbers by parents and names.
 use Rattle.std.proofs.Common.{◌≡◌, ◌≢◌, ℕ, ◌<◌, inl, inr, List, [], ◌∷◌, ◌++◌, length, set, get_or, Some, None, Option, cond, true, arith, ◌==◌, ◌&&◌, refl}
-use Rattle.std.proofs.Common.{zero, suc, sym, ◌∙◌, ap, if◌then◌else◌}
+use Rattle.std.proofs.Common.{zero, suc, sym, ◌∙◌, ap}
 use Rattle.std.specs.List.{slice_get}
 use Rattle.std.specs.Ordering.{is_eq, nat_cmp}
 use Rattle.std.specs.Str.{bytes_eq}
 use Rattle.std.specs.Map.{lookup}
 use Rattle.std.specs.BTreeMap.{BTreeMap, get, is_at, IsEmpty, IsUnchanged, Updates}
-use Rattle.std.proofs.lemmas.Bool.{and_parts, cases_Bool, cases_eq, eqb-true, false_from_ne_true, cond-true, cond-false}
+use Rattle.std.proofs.lemmas.Bool.{and_parts, cases_Bool, cases_eq, eqb-true, false_from_ne_true, cond-false}
 use Rattle.std.proofs.lemmas.Option.{slice_get-get_or}
 use Rattle.adf_tree.specs.declared.child_map.ChildKey.{ChildKey}
 use Rattle.adf_tree.specs.NameKeys.{by_words, is_short, key_of}
@@ -16,8 +16,7 @@ use Rattle.std.proofs.Math.Bool.{and_comm}
 
 same_key : (m p : ℕ) (k x : List ℕ) → is_short k ≡ true → is_short x ≡ true → is_eq (by_child (child_key m k) (child_key p x)) ≡ ((m == p) && bytes_eq k x)
 same_key m p k x sk sx =
-    then_is (by_words (key_of k) (key_of x)) (nat_cmp m p)
-    ∙ (ap (λ b. b && is_eq (nat_cmp m p)) (same_names k x sk sx) ∙ (ap (λ b. bytes_eq k x && b) (same_number m p) ∙ and_comm (bytes_eq k x) (m == p)))
+    rw (then_is (by_words (key_of k) (key_of x)) (nat_cmp m p), same_names k x sk sx, same_number m p) (and_comm (bytes_eq k x) (m == p))
 
 -- one bucket more, with nothing in it
 empty_none : (bucket : BTreeMap ChildKey ℕ) (k : ChildKey) → IsEmpty bucket → get by_child bucket k ≡ None
@@ -33,15 +32,14 @@ none_more (b ∷ bs) bucket (suc i) k h = none_more bs bucket i k h
 pub no_more : (numbers : Numbers) (bucket : BTreeMap ChildKey ℕ) (p : ℕ) (x : List ℕ) → IsEmpty bucket
     → number_in (numbers ++ bucket ∷ []) p x ≡ number_in numbers p x
 unfolding number_in
-no_more numbers bucket p x h = ap (λ (o : Option ℕ). if is_short x then o else None) (none_more numbers bucket (bucket_of (child_key p x)) (child_key p x) h)
+no_more numbers bucket p x h = rw (none_more numbers bucket (bucket_of (child_key p x)) (child_key p x) h)
 
 -- the number in a bucket that was found
 pub number_is : (numbers : Numbers) (p : ℕ) (x : List ℕ) (o : Option (BTreeMap ChildKey ℕ)) → is_short x ≡ true
     → slice_get numbers (bucket_of (child_key p x)) ≡ o → number_at o (child_key p x) ≡ number_in numbers p x
 unfolding number_in
 number_is numbers p x o short at =
-    ap (λ b. number_at b (child_key p x)) (sym at)
-    ∙ sym (ap (λ b. let r : Option ℕ = if b then number_at (slice_get numbers (bucket_of (child_key p x))) (child_key p x) else None in r) short)
+    rw (← at, short)
 
 -- one more number
 set_at : (numbers : Numbers) (i j : ℕ) (new : BTreeMap ChildKey ℕ) (k : ChildKey) → j ≢ i
@@ -60,12 +58,7 @@ set_here (b ∷ bs) (suc i) new k lt = set_here bs i new k (omega arith)
 
 get_here : (numbers : Numbers) (i : ℕ) (old : BTreeMap ChildKey ℕ) (k : ChildKey) → i < length numbers → old ≡ get_or numbers i old
     → number_at (slice_get numbers i) k ≡ get by_child old k
-get_here numbers i old k lt is = ap (λ o. number_at o k) (slice_get-get_or numbers i old lt) ∙ ap (λ b. get by_child b k) (sym is)
-
-sums : (a a' b b' c c' d d' p p' : ℕ) → a ≡ a' → b ≡ b' → c ≡ c' → d ≡ d' → p ≡ p'
-    → bucket_of (record { name = record { first = a; second = b; third = c; fourth = d }; parent = p })
-    ≡ bucket_of (record { name = record { first = a'; second = b'; third = c'; fourth = d' }; parent = p' })
-sums a a' b b' c c' d d' p p' e f g h i = rw (e, f, g, h, i) refl
+get_here numbers i old k lt is = rw (slice_get-get_or numbers i old lt, ← is)
 
 -- what a bucket says after it was written
 written : (numbers : Numbers) (i : ℕ) (old new : BTreeMap ChildKey ℕ) (q : ChildKey) (f : Option ℕ → Option ℕ) → i < length numbers
@@ -74,10 +67,7 @@ written : (numbers : Numbers) (i : ℕ) (old new : BTreeMap ChildKey ℕ) (q : C
     → number_at (slice_get (set numbers i new) (bucket_of q)) q ≡ f (number_at (slice_get numbers (bucket_of q)) q)
 written numbers i old new q f lt is here there =
     elim (cases_eq (bucket_of q) i) [
-      | inl e ↦
-          ap (λ j. number_at (slice_get (set numbers i new) j) q) e
-          ∙ (set_here numbers i new q lt
-          ∙ (here ∙ ap f (sym (get_here numbers i old q lt is) ∙ ap (λ j. number_at (slice_get numbers j) q) (sym e))))
+      | inl e ↦ rw (e, set_here numbers i new q lt, here, get_here numbers i old q lt is)
       | inr ne ↦ set_at numbers i (bucket_of q) new q ne ∙ there ne
     ]
 
@@ -86,10 +76,8 @@ same_bucket : (k q : ChildKey) → is_eq (by_child k q) ≡ true → bucket_of q
 same_bucket k q h =
     let both = and_parts (is_eq (by_words k.name q.name)) (is_eq (nat_cmp k.parent q.parent))
     (sym (then_is (by_words k.name q.name) (nat_cmp k.parent q.parent)) ∙ h) in
-    let p : k.parent ≡ q.parent = eqb-true k.parent q.parent (sym (same_number k.parent q.parent) ∙ both.1) in
     let w = equal_words k.name q.name both.0 in
-    sums q.name.first k.name.first q.name.second k.name.second q.name.third k.name.third q.name.fourth k.name.fourth q.parent k.parent (sym w.0) (sym w.1)
-    (sym w.2) (sym w.3) (sym p)
+    rw (w.0, w.1, w.2, w.3, eqb-true k.parent q.parent (sym (same_number k.parent q.parent) ∙ both.1))
 
 -- one number more in a bucket
 one_bucket : (numbers : Numbers) (i : ℕ) (old new : BTreeMap ChildKey ℕ) (k q : ChildKey) (n : ℕ) → i < length numbers → old ≡ get_or numbers i old
@@ -107,18 +95,8 @@ pub has_number : (old numbers : Numbers) (i m : ℕ) (x : List ℕ) (bucket new 
 unfolding number_in
 has_number old numbers i m x bucket new k n same lt is at key short up p y =
     elim (cases_Bool (is_short y)) [
-      | inl t ↦
-          cond-true (is_short y) (number_at (slice_get (set numbers i new) (bucket_of (child_key p y))) (child_key p y)) None t
-          ∙ (one_bucket numbers i bucket new k (child_key p y) n lt is at up
-          ∙ (ap (λ b. let o : Option ℕ = cond b (Some n) (number_at (slice_get numbers (bucket_of (child_key p y))) (child_key p y)) in o)
-          (ap (λ q. is_eq (by_child q (child_key p y))) key ∙ same_key m p x y short t)
-          ∙ ap (λ (o : Option ℕ). if (m == p) && bytes_eq x y then Some n else o)
-          (sym (cond-true (is_short y) (number_at (slice_get numbers (bucket_of (child_key p y))) (child_key p y)) None t) ∙ same p y)))
-      | inr f ↦
-          cond-false (is_short y) (number_at (slice_get (set numbers i new) (bucket_of (child_key p y))) (child_key p y)) None f
-          ∙ sym (ap (λ b. let o : Option ℕ = if b then Some n else number_in old p y in o)
-          (and_comm (m == p) (bytes_eq x y) ∙ ap (λ b. b && (m == p)) (not_short x y short f))
-          ∙ cond-false (is_short y) (number_at (slice_get old (bucket_of (child_key p y))) (child_key p y)) None f)
+      | inl t ↦ rw (← same p y, t, one_bucket numbers i bucket new k (child_key p y) n lt is at up, key, same_key m p x y short t)
+      | inr f ↦ rw (f, and_comm (m == p) (bytes_eq x y), not_short x y short f)
     ]
 
 -- a bucket that was not changed
@@ -127,5 +105,4 @@ pub same_number_in : (old numbers : Numbers) (i : ℕ) (bucket new : BTreeMap Ch
     → number_in (set numbers i new) p y ≡ number_in old p y
 unfolding number_in
 same_number_in old numbers i bucket new p y same lt is un =
-    ap (λ (o : Option ℕ). if is_short y then o else None) (written numbers i bucket new (child_key p y) (λ o. o) lt is
-    (ap (lookup (is_at (by_child (child_key p y)))) un) (λ ne. refl)) ∙ same p y
+    rw (written numbers i bucket new (child_key p y) (λ o. o) lt is (ap (lookup (is_at (by_child (child_key p y)))) un) (λ ne. refl)) (same p y)

@@ -1,14 +1,15 @@
 -- The seats of names.
 use Rattle.std.proofs.Common.{◌≡◌, ◌≢◌, ◌==◌, ◌&&◌, ◌||◌, ◌⊎◌, inl, inr, ℕ, ◌+◌, ◌*◌, ◌/◌, ◌^◌, ◌<◌, ◌≤◌, List, [], ◌∷◌, ◌++◌, length, get_or, set, Bool, true}
-use Rattle.std.proofs.Common.{false, cond, Option, Some, None, arith, sym, refl, zero, suc, ◌∙◌, ap, length-append, get_or-set_same, get_or-set_other}
+use Rattle.std.proofs.Common.{false, Option, Some, None, arith, sym, refl, zero, suc, ◌∙◌, ap, length-append, get_or-set_same, get_or-set_other}
 use Rattle.std.specs.Option.{is_some}
 use Rattle.std.specs.Ordering.{is_eq}
 use Rattle.std.specs.List.{slice_get}
 use Rattle.std.specs.BTreeSet.{BTreeSet, Updates}
-use Rattle.std.proofs.lemmas.Bool.{cases_Bool, both_ways, eq-eqb, eqb-true}
+use Rattle.std.specs.Cmp.{both_ways}
+use Rattle.std.proofs.lemmas.Bool.{cases_Bool, eq-eqb, eqb-true, false_from_ne_true}
 use Rattle.std.proofs.lemmas.List.{length-set}
-use Rattle.std.proofs.lemmas.Option.{slice_get_within}
-use Rattle.std.proofs.lemmas.List.Folds.{list_any-append}
+use Rattle.std.proofs.lemmas.Option.{get_or_from_slice_get, slice_get-get_or, slice_get_within}
+use Rattle.std.proofs.lemmas.List.Folds.{list_any-append, list_any_at, Any-from_list_any}
 use Rattle.std.proofs.Math.Nat.{div-div-eq-div-mul, mul-div_cancel}
 use Rattle.adf_tree.specs.declared.name_key.NameKey.{NameKey}
 use Rattle.adf_tree.specs.NameKeys.{by_words, spread_of}
@@ -20,14 +21,11 @@ use Rattle.adf_tree.proofs.NameKeys.{one_key, same_either, same_itself, same_wor
 half : (x n : ℕ) → x * (2 * n) / 2 ^ 64 / 2 ≡ x * n / 2 ^ 64
 half x n =
     let twice : x * (2 * n) ≡ x * n * 2 = omega arith in
-    ap (λ (m : ℕ). m / 2 ^ 64 / 2) twice
-    ∙ (div-div-eq-div-mul (x * n * 2) (2 ^ 64) 2
-    ∙ (sym (div-div-eq-div-mul (x * n * 2) 2 (2 ^ 64))
-    ∙ ap (λ (m : ℕ). m / 2 ^ 64) (mul-div_cancel (x * n) (omega arith))))
+    rw (twice, div-div-eq-div-mul (x * n * 2) (2 ^ 64) 2, ← div-div-eq-div-mul (x * n * 2) 2 (2 ^ 64), mul-div_cancel (x * n) {n = 2} (omega arith))
 
 pub split : (n : ℕ) (a b : NameKey) → seat_in (2 * n) a ≡ seat_in (2 * n) b → seat_in n a ≡ seat_in n b
 unfolding seat_in
-split n a b h = sym (half (spread_of a) n) ∙ (ap (λ (s : ℕ). s / 2) h ∙ half (spread_of b) n)
+split n a b h = rw (← half (spread_of a) n, h) (half (spread_of b) n)
 
 -- names and their places
 at_more : (xs ys : Names) (i : ℕ) (k : NameKey) → slice_get xs i ≡ Some k → slice_get (xs ++ ys) i ≡ Some k
@@ -42,75 +40,52 @@ at_last (x ∷ xs) y zero k h = inl h
 at_last (x ∷ xs) y (suc i) k h = elim (at_last xs y i k h) [ inl p ↦ inl p | inr p ↦ inr (ap suc p.0, p.1) ]
 
 at_among : (xs : Names) (i : ℕ) (h k : NameKey) → slice_get xs i ≡ Some h → is_eq (by_words k h) ≡ true → is_among xs k ≡ true
-at_among [] i h k at same = cc
-at_among (x ∷ xs) zero h k at same = let e : x ≡ h = cc in ap (λ y. is_eq (by_words k y) || is_among xs k) e ∙ ap (λ b. b || is_among xs k) same
-at_among (x ∷ xs) (suc i) h k at same =
-    elim (cases_Bool (is_eq (by_words k x))) [
-      | inl t ↦ ap (λ b. b || is_among xs k) t
-      | inr f ↦ ap (λ b. b || is_among xs k) f ∙ at_among xs i h k at same
-    ]
+at_among xs i h k at same =
+    list_any_at (λ n. is_eq (by_words k n)) xs i h (slice_get_within xs i h at) (rw (get_or_from_slice_get xs i h h at) same)
 
 among_at : (xs : Names) (k : NameKey) → is_among xs k ≡ true → (i : ℕ) × (slice_get xs i ≡ Some k)
-among_at [] k h = cc
-among_at (x ∷ xs) k h =
-    elim (cases_Bool (is_eq (by_words k x))) [
-      | inl t ↦ (0, ap Some (sym (one_key k x t)))
-      | inr f ↦ let r = among_at xs k (sym (ap (λ b. b || is_among xs k) f) ∙ h) in (suc r.0, r.1)
-    ]
+among_at xs k h =
+    let some = Any-from_list_any (λ n. is_eq (by_words k n)) xs h in
+    (some.0, slice_get-get_or xs some.0 some.1 some.2 ∙ ap Some (some.3 ∙ sym (one_key k some.1 some.4)))
 
 -- who has a seat
 seated_at : (n s : ℕ) (o : Option NameKey) (h : NameKey) → if_seated n s o ≡ Some h → o ≡ Some h
 seated_at n s None h e = cc
 seated_at n s (Some k) h e =
     elim (cases_Bool (seat_in n k == s)) [
-      | inl t ↦ sym (ap (λ b. cond b (Some k) None) t) ∙ e
-      | inr f ↦ cc (sym (ap (λ b. cond b (Some k) None) f) ∙ e)
+      | inl t ↦ rw t at e
+      | inr f ↦ let clash = rw f at e in cc
     ]
 
 -- a name with a seat has it
 pub own_holder : (names : Names) (seats : List ℕ) (i : ℕ) (k : NameKey) → HaveSeats names seats → slice_get names i ≡ Some k
     → holder_of names seats (seat_in (length seats) k) ≡ Some k
-own_holder names seats i k own at =
-    ap (λ (p : ℕ). if_seated (length seats) (seat_in (length seats) k) (slice_get names p)) (own i k at)
-    ∙ (ap (if_seated (length seats) (seat_in (length seats) k)) at
-    ∙ ap (λ b. cond b (Some k) None) (eq-eqb (seat_in (length seats) k) (seat_in (length seats) k) refl))
+own_holder names seats i k own at = rw (own i k at, at, eq-eqb (seat_in (length seats) k) (seat_in (length seats) k) refl)
 
 -- a name whose seat none has is not in the set
-pub not_found : (names : Names) (seats : List ℕ) (rest : Names) (k : NameKey) → AreSeated names seats rest
+not_found : (names : Names) (seats : List ℕ) (rest : Names) (k : NameKey) → AreSeated names seats rest
     → holder_of names seats (seat_in (length seats) k) ≡ None → is_among (names ++ rest) k ≡ false
 not_found names seats rest k s none =
-    let first : is_among names k ≡ false =
-    elim (cases_Bool (is_among names k)) [
-      | inl t ↦ let r = among_at names k t in cc (sym none ∙ own_holder names seats r.0 k s.own r.1)
-      | inr f ↦ f
-    ] in
-    let second : is_among rest k ≡ false =
-    elim (cases_Bool (is_among rest k)) [
-      | inl t ↦ cc (sym (ap is_some none) ∙ s.taken k t)
-      | inr f ↦ f
-    ] in
-    list_any-append (λ n. is_eq (by_words k n)) names rest ∙ cc
+    rw (
+      list_any-append (λ n. is_eq (by_words k n)) names rest,
+      false_from_ne_true (is_among names k) (λ t. let r = among_at names k t in cc (sym none ∙ own_holder names seats r.0 k s.own r.1)),
+      false_from_ne_true (is_among rest k) (λ t. cc (sym (ap is_some none) ∙ s.taken k t)),
+    )
 
 -- a name whose seat another has is among the rest, if anywhere
-pub found : (names : Names) (seats : List ℕ) (rest : Names) (k h : NameKey) → AreSeated names seats rest
+found : (names : Names) (seats : List ℕ) (rest : Names) (k h : NameKey) → AreSeated names seats rest
     → holder_of names seats (seat_in (length seats) k) ≡ Some h → is_among (names ++ rest) k ≡ (is_eq (by_words k h) || is_among rest k)
 found names seats rest k h s some =
     let at : slice_get names (get_or seats (seat_in (length seats) k) 0) ≡ Some h =
     seated_at (length seats) (seat_in (length seats) k) (slice_get names (get_or seats (seat_in (length seats) k) 0)) h some in
     let first : is_among names k ≡ is_eq (by_words k h) =
-    elim (cases_Bool (is_eq (by_words k h))) [
-      | inl t ↦ at_among names (get_or seats (seat_in (length seats) k) 0) h k at t ∙ sym t
-      | inr f ↦
-          elim (cases_Bool (is_among names k)) [
-            | inl t ↦
-                let r = among_at names k t in
-                let e : Some k ≡ Some h = sym (own_holder names seats r.0 k s.own r.1) ∙ some in
-                let same : k ≡ h = cc in
-                absurd (both_ways (is_eq (by_words k h)) f (ap (λ x. is_eq (by_words k x)) (sym same) ∙ same_itself k))
-            | inr g ↦ g ∙ sym f
-          ]
-    ] in
-    list_any-append (λ n. is_eq (by_words k n)) names rest ∙ ap (λ b. b || is_among rest k) first
+    both_ways (is_among names k) (is_eq (by_words k h))
+    (λ t. let r = among_at names k t in
+    let e : Some k ≡ Some h = sym (own_holder names seats r.0 k s.own r.1) ∙ some in
+    let same : k ≡ h = cc in
+    rw same (same_itself h))
+    (λ t. at_among names (get_or seats (seat_in (length seats) k) 0) h k at t) in
+    rw (list_any-append (λ n. is_eq (by_words k n)) names rest, first)
 
 -- a new name is given its seat
 held_more : (n s : ℕ) (names more : Names) (i : ℕ) (o : Option NameKey) → slice_get names i ≡ o → is_some (if_seated n s o) ≡ true
@@ -127,21 +102,17 @@ seated_new names seats rest seat name s few inside is free =
     λ k some same. cc (sym (ap (λ (x : ℕ). is_some (holder_of names seats x)) same ∙ ap is_some free) ∙ some) in
     record {
       few = omega (arith, length-append names (name ∷ []));
-      own = λ i k at. ap (λ (n : ℕ). get_or (set seats seat (length names)) (seat_in n k) 0) long
-          ∙ elim (at_last names name i k at) [
+      own = λ i k at. rw long
+          (elim (at_last names name i k at) [
             | inl old ↦
-                get_or-set_other seats seat (seat_in (length seats) k) (length names) 0 (apart k (ap is_some (own_holder names seats i k s.own old)))
-                ∙ s.own i k old
-            | inr new ↦
-                ap (λ (x : ℕ). get_or (set seats seat (length names)) x 0) (ap (seat_in (length seats)) (sym new.1) ∙ sym is)
-                ∙ (get_or-set_same seats seat (length names) 0 inside ∙ sym new.0)
-          ];
+                rw (get_or-set_other seats seat (seat_in (length seats) k) (length names) 0 (apart k (ap is_some (own_holder names seats i k s.own old))))
+                (s.own i k old)
+            | inr new ↦ rw (← new.1, ← is, get_or-set_same seats seat (length names) 0 inside) (sym new.0)
+          ]);
       taken = λ k among.
-          let held : is_some (holder_of names seats (seat_in (length seats) k)) ≡ true = s.taken k among in
-          ap (λ (n : ℕ). is_some (if_seated n (seat_in n k) (slice_get (names ++ name ∷ []) (get_or (set seats seat (length names)) (seat_in n k) 0)))) long
-          ∙ (ap (λ (p : ℕ). is_some (if_seated (length seats) (seat_in (length seats) k) (slice_get (names ++ name ∷ []) p)))
-          (get_or-set_other seats seat (seat_in (length seats) k) (length names) 0 (apart k held))
-          ∙ held_more (length seats) (seat_in (length seats) k) names (name ∷ []) (get_or seats (seat_in (length seats) k) 0)
+          let held = s.taken k among in
+          rw (long, get_or-set_other seats seat (seat_in (length seats) k) (length names) 0 (apart k held))
+          (held_more (length seats) (seat_in (length seats) k) names (name ∷ []) (get_or seats (seat_in (length seats) k) 0)
           (slice_get names (get_or seats (seat_in (length seats) k) 0)) refl held);
     }
 
@@ -153,8 +124,8 @@ seated_rest names seats old new name h s some up = record {
   own = s.own;
   taken = λ k among.
       elim (cases_Bool (is_eq (by_words name k))) [
-        | inl t ↦ ap (λ x. is_some (holder_of names seats (seat_in (length seats) x))) (sym (one_key name k t)) ∙ ap is_some some
-        | inr f ↦ s.taken k (sym (up.0 k ∙ ap (λ b. cond b true (is_among old.keys k)) f) ∙ among)
+        | inl t ↦ rw (← one_key name k t, some)
+        | inr f ↦ s.taken k (sym (rw f at (up.0 k)) ∙ among)
       ];
 }
 
@@ -166,18 +137,19 @@ or_swap false false c = refl
 
 pub with_new : (names rest : Names) (name : NameKey) → IsWith (names ++ rest) ((names ++ name ∷ []) ++ rest) name
 with_new names rest name = λ k.
-    list_any-append (λ n. is_eq (by_words k n)) (names ++ name ∷ []) rest
-    ∙ (ap (λ b. b || is_among rest k) (list_any-append (λ n. is_eq (by_words k n)) names (name ∷ []))
-    ∙ (ap (λ b. (is_among names k || (b || false)) || is_among rest k) (same_either k name)
-    ∙ (or_swap (is_among names k) (is_eq (by_words name k)) (is_among rest k)
-    ∙ ap (λ b. is_eq (by_words name k) || b) (sym (list_any-append (λ n. is_eq (by_words k n)) names rest)))))
+    rw (
+      list_any-append (λ n. is_eq (by_words k n)) (names ++ name ∷ []) rest,
+      list_any-append (λ n. is_eq (by_words k n)) names (name ∷ []),
+      list_any-append (λ n. is_eq (by_words k n)) names rest,
+      same_either k name,
+    ) (or_swap (is_among names k) (is_eq (by_words name k)) (is_among rest k))
 
 -- a name that is there once more
 pub with_same : (names : Names) (name : NameKey) → is_among names name ≡ true → IsWith names names name
 with_same names name there = λ k.
     elim (cases_Bool (is_eq (by_words name k))) [
-      | inl t ↦ ap (is_among names) (sym (one_key name k t)) ∙ (there ∙ sym (ap (λ b. b || is_among names k) t))
-      | inr f ↦ sym (ap (λ b. b || is_among names k) f)
+      | inl t ↦ rw (t, ← one_key name k t) there
+      | inr f ↦ rw f
     ]
 
 -- one name is seated anew
@@ -192,32 +164,33 @@ reseated names old seats i seat count name own parts at is inside before j k lt 
           let same : j ≡ i = eqb-true j i t in
           let one : Some k ≡ Some name = sym there ∙ (ap (slice_get names) same ∙ at) in
           let key : k ≡ name = cc in
-          ap (λ (x : ℕ). get_or (set seats seat i) x 0) (ap (seat_in count) key ∙ sym is)
-          ∙ (get_or-set_same seats seat i 0 inside ∙ sym same)
+          rw (key, ← is, same) (get_or-set_same seats seat i 0 inside)
       | inr f ↦
-          let other : j ≢ i = λ e. both_ways (j == i) f (eq-eqb j i e) in
-          let apart : seat_in count k ≢ seat =
-          λ e. other (sym (own j k there) ∙ (ap (λ (x : ℕ). get_or old x 0) (parts k name (e ∙ is)) ∙ own i name at)) in
-          get_or-set_other seats seat (seat_in count k) i 0 apart ∙ before j k (omega (arith, other)) there
+          let other : j ≢ i = λ e. cc (sym (eq-eqb j i e) ∙ f) in
+          let apart : seat_in count k ≢ seat = λ e. other (sym (own j k there) ∙ rw (parts k name (e ∙ is)) (own i name at)) in
+          rw (get_or-set_other seats seat (seat_in count k) i 0 apart) (before j k (omega (arith, other)) there)
     ]
 
 -- what was read is who has the seat
-pub held_by : (names read : Names) (seats : List ℕ) (seat : ℕ) (name : NameKey) (o p : Option NameKey) → read ≡ names → seat ≡ seat_in (length seats) name
-    → o ≡ holder_of read seats seat → o ≡ p → holder_of names seats (seat_in (length seats) name) ≡ p
-held_by names read seats seat name o p same is h e =
-    ap (λ (x : ℕ). holder_of names seats x) (sym is) ∙ (ap (λ ns. holder_of ns seats seat) (sym same) ∙ (sym h ∙ e))
+module _ {names read rest : Names} {seats : List ℕ} {seat : ℕ} (name : NameKey) {o : Option NameKey} (s : AreSeated names seats rest) (same : read ≡ names)
+    (is : seat ≡ seat_in (length seats) name) (held : o ≡ holder_of read seats seat) where
+  pub held_by : {p : Option NameKey} → o ≡ p → holder_of names seats (seat_in (length seats) name) ≡ p
+  held_by e = rw (← is, ← same, ← held) e
 
--- equal words are those of one name
-pub words_same : (a b : NameKey) (same : Bool)
-    → same ≡ ((a.first == b.first) && ((a.second == b.second) && ((a.third == b.third) && (a.fourth == b.fourth)))) → is_eq (by_words b a) ≡ same
-words_same a b same h = same_either b a ∙ (same_words a b ∙ sym h)
+  pub held_by_none : o ≡ None → is_among (names ++ rest) name ≡ false
+  held_by_none e = not_found names seats rest name s (held_by e)
+
+  -- equal words are those of one name
+  pub held_by_some : {h : NameKey} {words answer : Bool} → o ≡ Some h
+      → words ≡ ((h.first == name.first) && ((h.second == name.second) && ((h.third == name.third) && (h.fourth == name.fourth)))) → words ≡ answer
+      → is_among (names ++ rest) name ≡ (answer || is_among rest name)
+  held_by_some {h = h} e are at = rw (← at, are, ← same_words h name, same_either h name) (found names seats rest name h s (held_by e))
 
 -- the names of a set whose seats are told
 pub all_seated : (names : Names) (seats : List ℕ) (i count : ℕ) → length seats ≡ count → length names ≤ i
     → ((j : ℕ) (k : NameKey) → j < i → slice_get names j ≡ Some k → get_or seats (seat_in count k) 0 ≡ j) → HaveSeats names seats
 all_seated names seats i count long past before = λ j k at.
-    let lt : j < length names = slice_get_within names j k at in
-    ap (λ (n : ℕ). get_or seats (seat_in n k) 0) long ∙ before j k (omega arith) at
+    rw long (before j k (omega (arith, slice_get_within names j k at)) at)
 
 -- of no seats, all names have one
 seat_none : (k : NameKey) → seat_in 0 k ≡ 0
@@ -226,8 +199,8 @@ seat_none k = let none : spread_of k * 0 ≡ 0 = omega arith in ap (λ (m : ℕ)
 
 -- seats are split, or there were none
 pub parted : (n count : ℕ) → (n ≡ 0) ⊎ (count ≡ 2 * n) → (a b : NameKey) → seat_in count a ≡ seat_in count b → seat_in n a ≡ seat_in n b
-parted n count (inl none) a b h = ap (λ (m : ℕ). seat_in m a) none ∙ (seat_none a ∙ (sym (seat_none b) ∙ ap (λ (m : ℕ). seat_in m b) (sym none)))
-parted n count (inr twice) a b h = split n a b (ap (λ (m : ℕ). seat_in m a) (sym twice) ∙ (h ∙ ap (λ (m : ℕ). seat_in m b) twice))
+parted n count (inl none) a b h = rw (none, seat_none a) (sym (seat_none b))
+parted n count (inr twice) a b h = split n a b (rw twice at h)
 
 pub some : (n : ℕ) → (n == 0) ≡ false → 0 < n
 some zero h = cc

@@ -1,7 +1,5 @@
-use Rattle.std.proofs.Common.{arith, ◌∷◌, ◌++◌, [], set, ◌<◌, ◌≡◌, length, sym, refl, ◌∙◌, subst, cond, false, ◌^◌, ℕ, Result, Ok, Err}
+use Rattle.std.proofs.Common.{arith, ◌∷◌, ◌++◌, [], ◌<◌, ◌≡◌, length, sym, refl, ◌∙◌, cond, false, ◌^◌, Result, Ok, Err}
 use Rattle.std.specs.Result.{is_err, is_ok}
-use Rattle.adf_tree.specs.NameSet.{Names}
-use Rattle.adf_tree.specs.Seats.{AreSeated}
 use Rattle.adf_tree.proofs.Seats.{seated_new}
 use Rattle.adf_tree.proofs.name_set.seat_new.Goals as goal
 
@@ -16,8 +14,5 @@ returns-clause-seated c = λ rest seated.
     let seats = c.args.seats.now in
     let long : length names ≡ c.in-Ok.place = omega (arith, c.in-Ok.ensures.1, c.len.ensures, c.args.names.now.ok) in
     let few : length names < 2 ^ 32 = omega (arith, c.in-Ok.ensures.0, c.len.ensures, c.args.names.now.ok) in
-    let more : AreSeated (names ++ c.args.name ∷ []) (set seats c.args.seat c.in-Ok.place) rest =
-    subst (λ (p : ℕ). AreSeated (names ++ c.args.name ∷ []) (set seats c.args.seat p) rest) long
-    (seated_new names seats rest c.args.seat c.args.name seated few c.requires.inside c.requires.seat c.requires.free) in
-    subst (λ (ns : Names). AreSeated ns (set seats c.args.seat c.in-Ok.place) rest)
-    (sym (c.push.ensures.items ∙ pushed c.push.result (names ++ c.args.name ∷ []) names (sym c.is_err.ensures.value ∙ c.if-is_err.false))) more
+    rw (c.push.ensures.items, pushed c.push.result (names ++ c.args.name ∷ []) names (sym c.is_err.ensures.value ∙ c.if-is_err.false), ← long)
+    (seated_new names seats rest c.args.seat c.args.name seated few c.requires.inside c.requires.seat c.requires.free)
