@@ -1,13 +1,13 @@
 -- The parts between `/` of the text of a path.
 use Rattle.std.proofs.Common.{◌≡◌, ◌≢◌, ◌↔◌, Bor, Option, Some, None, ℕ, ◌+◌, ◌<◌, ◌/◌, ◌%◌, inl, inr, List, [], ◌∷◌, ◌++◌, length, get_or, take}
-use Rattle.std.proofs.Common.{map, Bool, true, false, arith, sym, refl, ◌∙◌, ap, ◌==◌, ◌&&◌, nat_le, subst}
+use Rattle.std.proofs.Common.{map, Bool, true, false, arith, sym, refl, ◌∙◌, ap, ◌==◌, ◌&&◌, nat_le}
 use Rattle.std.specs.Prelude.{IsSome, IfNone, IfSome, is_some}
 use Rattle.std.proofs.Math.Seq.{get_or-append_seam}
 use Rattle.std.specs.List.{All, join_with_byte, list_all}
 use Rattle.std.proofs.lemmas.Bool.{cases_Bool, and_parts, eqb-true, ne_eqb}
 use Rattle.std.proofs.lemmas.Bool.Decides.{nat_tests}
-use Rattle.std.proofs.lemmas.List.{append_assoc, length-append, length-map, get_or-map, map-append, take_more, length-take-le}
-use Rattle.std.proofs.lemmas.List.Elements.{All-head, All-tail, All-append, All-cons, All-nil}
+use Rattle.std.proofs.lemmas.List.{append-nil, append_assoc, length-append, length-map, get_or-map, map-append, take_more, length-take-le}
+use Rattle.std.proofs.lemmas.List.Elements.{All-head, All-tail, All-append, All-cons, All-nil, All-push}
 use Rattle.std.proofs.lemmas.List.Splits.{slice_split_none, slice_split_at, join_with_byte-slice_split}
 use Rattle.adf_tree.specs.Texts.{is_name, is_name_byte}
 use Rattle.adf_tree.specs.Escapes.{escape_of, escaped, hex_digit, is_plain, IsSpelling}
@@ -30,9 +30,9 @@ no_slash_byte : (c : ℕ) → is_name_byte c ≡ true → All (λ x. is_slash x 
 no_slash_byte c h =
     let P : ℕ → Type 0 = λ x. is_slash x ≡ false in
     elim (cases_Bool (is_plain c)) [
-      | inl p ↦ subst (λ s. All P s) (sym (spelled_plain c p)) (All-cons P c [] (name_no_slash c h) (All-nil P))
+      | inl p ↦ rw (spelled_plain c p) (All-cons P c [] (name_no_slash c h) (All-nil P))
       | inr p ↦
-          subst (λ s. All P s) (sym (spelled_escape c p))
+          rw (spelled_escape c p)
           (All-cons P 92 (120 ∷ hex_digit (c / 16) ∷ hex_digit (c % 16) ∷ []) refl
           (All-cons P 120 (hex_digit (c / 16) ∷ hex_digit (c % 16) ∷ []) refl
           (All-cons P (hex_digit (c / 16)) (hex_digit (c % 16) ∷ []) (hex_no_slash (c / 16))
@@ -65,36 +65,30 @@ parts_of_text text path some h =
     ap between_slashes h.spells ∙ parts_of_some path (omega (arith, some, ap length h.spells)) h.names
 
 -- a part that spells no name
-pub bad_part : (text part : List ℕ) (names more : List (List ℕ)) → 0 < length text → between_slashes text ≡ map escaped names ++ part ∷ more
-    → ((name : List ℕ) → IsName name → part ≢ escaped name) → (path : List (List ℕ)) → ¬ IsPathText text path
-bad_part text part names more some split none path h =
+pub bad_part : (text part rest : List ℕ) (names more : List (List ℕ)) → 0 < length text → between_slashes text ≡ map escaped names ++ between_slashes rest
+    → between_slashes rest ≡ part ∷ more → ((name : List ℕ) → IsName name → part ≢ escaped name) → (path : List (List ℕ)) → ¬ IsPathText text path
+bad_part text part rest names more some split cut none path h =
     let front : List (List ℕ) = map escaped names in
     let k : ℕ = length front in
-    let whole : between_slashes text ≡ map escaped path = parts_of_text text path some h in
-    let within : length (map escaped names) < length path =
-    omega (arith, ap length whole, length-map path escaped, ap length split, length-append front (part ∷ more)) in
+    let whole = rw (split, cut) at (parts_of_text text path some h) in
+    let within : k < length path = omega (arith, ap length whole, length-map path escaped, length-append front (part ∷ more)) in
     none (get_or path k []) (h.names k [] within)
-    (sym (get_or-append_seam front part more part)
-    ∙ (ap (λ ps. get_or ps k part) (sym split ∙ whole) ∙ get_or-map escaped path k [] part within))
+    (sym (get_or-append_seam front part more part) ∙ rw whole (get_or-map escaped path k [] part within))
 
 -- one part more spells a name
-pub one_part : (text part name : List ℕ) (names more : List (List ℕ)) → between_slashes text ≡ map escaped names ++ part ∷ more → part ≡ escaped name
-    → between_slashes text ≡ map escaped (names ++ name ∷ []) ++ more
-one_part text part name names more split is =
-    split
-    ∙ (ap (λ p. map escaped names ++ p ∷ more) is
-    ∙ (sym (append_assoc (map escaped names) (escaped name ∷ []) more)
-    ∙ ap (λ ps. ps ++ more) (sym (map-append escaped names (name ∷ [])))))
+pub one_part : (text part rest name : List ℕ) (names more : List (List ℕ)) → between_slashes text ≡ map escaped names ++ between_slashes rest
+    → between_slashes rest ≡ part ∷ more → part ≡ escaped name → between_slashes text ≡ map escaped (names ++ name ∷ []) ++ more
+one_part text part rest name names more split cut is =
+    rw (split, cut, is, map-append escaped names (name ∷ []), append_assoc (map escaped names) (escaped name ∷ []) more)
 
--- all parts spell names
-pub all_parts : (text : List ℕ) (path : List (List ℕ)) → between_slashes text ≡ map escaped path → All IsName path → IsPathText text path
-all_parts text path h names = record { spells = sym (join_with_byte-slice_split 47 text) ∙ ap (join_with_byte 47) h; names = names }
-
--- the part before the next `/`
-pub next_part : (text part rest : List ℕ) (names more : List (List ℕ)) → between_slashes text ≡ map escaped names ++ between_slashes rest
-    → between_slashes rest ≡ part ∷ more
-    → between_slashes text ≡ map escaped names ++ part ∷ more
-next_part text part rest names more split cut = split ∙ ap (λ ps. map escaped names ++ ps) cut
+-- and the last one too
+pub last_name : (text part rest name : List ℕ) (names : List (List ℕ)) → between_slashes text ≡ map escaped names ++ between_slashes rest
+    → between_slashes rest ≡ part ∷ [] → part ≡ escaped name → All IsName names → IsName name → IsPathText text (names ++ name ∷ [])
+last_name text part rest name names split cut is all ok = record {
+  spells = sym (join_with_byte-slice_split 47 text)
+      ∙ ap (join_with_byte 47) (one_part text part rest name names [] split cut is ∙ append-nil (map escaped (names ++ name ∷ [])));
+  names = All-push IsName names name all ok;
+}
 
 -- the first part is there whatever follows
 pub part_first : (o : Option (Bor (List ℕ))) (part : List ℕ) (ps : List (List ℕ)) → IfNone o (ps ≡ part ∷ [])
@@ -161,21 +155,15 @@ pub path_text_more : (path : List (List ℕ)) (name : List ℕ) → path_text (p
 path_text_more [] name = refl
 path_text_more (first ∷ []) name = sym (append_assoc (escaped first) (47 ∷ []) (escaped name))
 path_text_more (first ∷ next ∷ names) name =
-    let some : (length (next ∷ names) == 0) ≡ false = ne_eqb (length (next ∷ names)) 0 (λ z. absurd (omega arith)) in
-    let more : (length (first ∷ next ∷ names) == 0) ≡ false = ne_eqb (length (first ∷ next ∷ names)) 0 (λ z. absurd (omega arith)) in
     let rest : List ℕ = path_text (next ∷ names) in
-    ap (λ t. escaped first ++ 47 ∷ t) (path_text_more (next ∷ names) name ∙ ap (with_name rest name) some)
-    ∙ (sym (append_assoc (escaped first) (47 ∷ (rest ++ 47 ∷ [])) (escaped name))
-    ∙ (ap (λ t. t ++ escaped name) (sym (append_assoc (escaped first) (47 ∷ rest) (47 ∷ [])))
-    ∙ ap (with_name (path_text (first ∷ next ∷ names)) name) (sym more)))
+    rw (path_text_more (next ∷ names) name, ne_eqb (length (next ∷ names)) 0 (omega arith), ne_eqb (length (first ∷ next ∷ names)) 0 (omega arith))
+    (sym (append_assoc (escaped first) (47 ∷ (rest ++ 47 ∷ [])) (escaped name))
+    ∙ ap (λ t. t ++ escaped name) (sym (append_assoc (escaped first) (47 ∷ rest) (47 ∷ []))))
 
 pub path_text_step : (path : List (List ℕ)) (i : ℕ) (name text : List ℕ) → i < length path → name ≡ get_or path i name
     → text ≡ with_name (path_text (take i path)) name (i == 0) → text ≡ path_text (take (i + 1) path)
 path_text_step path i name text lt at is =
-    is
-    ∙ (ap (λ n. with_name (path_text (take i path)) name (n == 0)) (sym (length-take-le i path (omega arith)))
-    ∙ (sym (path_text_more (take i path) name)
-    ∙ ap path_text (ap (λ n. take i path ++ n ∷ []) at ∙ sym (take_more path i name lt))))
+    rw (is, take_more path i name lt, ← at, path_text_more (take i path) name, length-take-le i path (omega arith))
 
 -- the empty text is that of the empty path
 pub empty_is_path : (text : List ℕ) → (length text == 0) ≡ true → IsPathText text []

@@ -77,10 +77,7 @@ rest_spelled (c ∷ cs) (d ∷ ds) rest x y h =
 -- one byte more is read
 pub read_more : (text done rest after : List ℕ) (c : ℕ) → text ≡ escaped done ++ rest → rest ≡ escape_of c ++ after → text ≡ escaped (done ++ c ∷ []) ++ after
 read_more text done rest after c h g =
-    h
-    ∙ (ap (λ r. escaped done ++ r) g
-    ∙ (sym (append_assoc (escaped done) (escape_of c) after)
-    ∙ ap (λ s. s ++ after) (ap (λ s. escaped done ++ s) (sym (append-nil (escape_of c))) ∙ sym (flat_map-append escape_of done (c ∷ [])))))
+    rw (h, g, flat_map-append escape_of done (c ∷ []), append-nil (escape_of c), append_assoc (escaped done) (escape_of c) after)
 
 some_more : (done rest bytes more : List ℕ) → 0 < length rest → bytes ≡ done ++ more → escaped more ≡ rest
     → (c : ℕ) × (after : List ℕ) × (bytes ≡ done ++ c ∷ after) × (rest ≡ escape_of c ++ escaped after)
@@ -124,4 +121,4 @@ nothing_more (c ∷ cs) h = absurd (spelling_some c (escaped cs) h)
 pub only_spelled : (a b : List ℕ) → All (λ c. c < 256) a → All (λ c. c < 256) b → escaped a ≡ escaped b → a ≡ b
 only_spelled a b x y h =
     let tail = rest_spelled b a [] y x (h ∙ sym (append-nil (escaped b))) in
-    tail.1 ∙ (ap (λ more. b ++ more) (nothing_more tail.0 tail.2) ∙ append-nil b)
+    tail.1 ∙ rw (nothing_more tail.0 tail.2, append-nil b)

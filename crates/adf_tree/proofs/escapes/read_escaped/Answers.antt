@@ -1,11 +1,9 @@
-use Rattle.std.proofs.Common.{arith, ◌<◌, ◌≡◌, ◌++◌, ◌∷◌, [], length, Result, Some, None, Ok, Err, sym, ◌∙◌, subst, ap, refl}
+use Rattle.std.proofs.Common.{arith, ◌<◌, ◌≡◌, ◌∷◌, [], length, Result, Some, None, Ok, Err, sym, ◌∙◌, refl}
 use Rattle.std.specs.Prelude.{OnOk, OnErr, IsOk}
-use Rattle.std.specs.List.{All}
 use Rattle.std.specs.Result.{result_ok}
 use Rattle.std.proofs.lemmas.Bool.Decides.{nat_tests}
 use Rattle.std.proofs.lemmas.List.{length-append}
 use Rattle.std.proofs.lemmas.List.Elements.{All-push}
-use Rattle.adf_tree.specs.Escapes.{escaped}
 use Rattle.adf_tree.proofs.Spellings.{read_more, no_spelling, too_many, whole_spelling}
 use Rattle.adf_tree.proofs.escapes.read_escaped.Goals as goal
 
@@ -13,13 +11,9 @@ at_err : {T E P : Type 0} (r : Result T E) → result_ok r ≡ None → OnErr r 
 at_err (Ok x) h p = cc
 at_err (Err e) h p = p
 
-at_ok : {T E P : Type 0} (r : Result T E) (x : T) → result_ok r ≡ Some x → OnOk r P → P
-at_ok (Ok y) x h p = p
+at_ok : {T E P : Type 0} (r : Result T E) (x : T) → result_ok r ≡ Some x → OnOk r P → IsOk r × P
+at_ok (Ok y) x h p = (refl, p)
 at_ok (Err e) x h p = cc
-
-is_at_ok : {T E : Type 0} (r : Result T E) (x : T) → result_ok r ≡ Some x → IsOk r
-is_at_ok (Ok y) x h = refl
-is_at_ok (Err e) x h = cc
 
 pub returns-in_err-c-clause-none : goal.returns-in_err-c-clause-none
 returns-in_err-c-clause-none g c =
@@ -39,17 +33,13 @@ returns-in_err-ok-clause-none g c =
 pub loop-rest-preserved : goal.loop-rest-preserved
 loop-rest-preserved g c =
     let inv = c.loop-rest.invariant in
-    let pushed : c.try_push.new.self.items ≡ c.loop-rest.bytes.items ++ c.in_ok-c.c ∷ [] =
-    at_ok c.try_push.result c.in_ok-ok.field-0 (sym c.ok.ensures.value ∙ c.in_ok-ok.was) c.try_push.ensures.ok in
-    let room : length c.loop-rest.bytes.items < g.row.MOST =
-    c.try_push.ensures.variant.0 (is_at_ok c.try_push.result c.in_ok-ok.field-0 (sym c.ok.ensures.value ∙ c.in_ok-ok.was)) in
-    record {
-      spells = read_more c.args.text.now c.loop-rest.bytes.items c.loop-rest.rest.now c.in_ok-c.after.now c.in_ok-c.c inv.spells c.in_ok-c.ensures.some
-          ∙ ap (λ bs. escaped bs ++ c.in_ok-c.after.now) (sym pushed);
-      are_bytes = subst (λ bs. All (λ b. b < 256) bs) (sym pushed) (All-push (λ b. b < 256) c.loop-rest.bytes.items c.in_ok-c.c inv.are_bytes
-          c.in_ok-c.ensures.byte);
-      short = omega (arith, room, ap length pushed, length-append c.loop-rest.bytes.items (c.in_ok-c.c ∷ []));
-    }
+    let pushed = at_ok c.try_push.result c.in_ok-ok.field-0 (sym c.ok.ensures.value ∙ c.in_ok-ok.was) c.try_push.ensures.ok in
+    rw pushed.1
+    (record {
+      spells = read_more c.args.text.now c.loop-rest.bytes.items c.loop-rest.rest.now c.in_ok-c.after.now c.in_ok-c.c inv.spells c.in_ok-c.ensures.some;
+      are_bytes = All-push (λ b. b < 256) c.loop-rest.bytes.items c.in_ok-c.c inv.are_bytes c.in_ok-c.ensures.byte;
+      short = omega (arith, c.try_push.ensures.variant.0 pushed.0, length-append c.loop-rest.bytes.items (c.in_ok-c.c ∷ []));
+    })
 
 pub returns-clause-some : goal.returns-clause-some
 returns-clause-some g c =

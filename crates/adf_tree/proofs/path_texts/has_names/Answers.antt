@@ -1,9 +1,7 @@
-use Rattle.std.proofs.Common.{◌∙◌, ap, List, ℕ, [], ◌∷◌, ◌++◌, map, not}
-use Rattle.std.proofs.lemmas.List.{append-nil}
+use Rattle.std.proofs.Common.{◌∙◌, ap, List, ℕ, [], ◌∷◌, ◌++◌, not}
 use Rattle.std.proofs.lemmas.List.Elements.{All-push}
-use Rattle.adf_tree.specs.Escapes.{escaped}
 use Rattle.adf_tree.specs.PathTexts.{between_slashes, IsName}
-use Rattle.adf_tree.proofs.PathParts.{bad_part, one_part, all_parts, next_part, part_first, at_none, some_name, last_part, part_before}
+use Rattle.adf_tree.proofs.PathParts.{bad_part, last_name, one_part, part_first, at_none, some_name, last_part, part_before}
 use Rattle.adf_tree.proofs.path_texts.has_names.Goals as goal
 
 pub returns-then-is_none-clause-no : goal.returns-then-is_none-clause-no
@@ -11,7 +9,7 @@ returns-then-is_none-clause-no c =
     let so_far = c.loop-after.invariant in
     let part : List ℕ = c.cut.result.0.now in
     let first = part_first c.cut.result.1 part (between_slashes c.loop-after.rest.now) c.cut.ensures.last c.cut.ensures.more in
-    bad_part c.args.text.now part so_far.0 first.0 c.requires (next_part c.args.text.now part c.loop-after.rest.now so_far.0 first.0 so_far.1 first.1)
+    bad_part c.args.text.now part c.loop-after.rest.now so_far.0 first.0 c.requires so_far.1 first.1
     (at_none c.read_name.result (c.is_none.ensures ∙ ap not c.if-is_none.true) c.read_name.ensures.none)
 
 pub loop-after-preserved : goal.loop-after-preserved
@@ -20,9 +18,8 @@ loop-after-preserved c =
     let part : List ℕ = c.cut.result.0.now in
     let here = some_name c.read_name.result part (c.is_none.ensures ∙ ap not c.if-is_none.false) c.read_name.ensures.some c.read_name.ensures.name in (
       so_far.0 ++ here.0 ∷ [],
-      one_part c.args.text.now part here.0 so_far.0 (between_slashes c.in-Some.text.now)
-          (next_part c.args.text.now part c.loop-after.rest.now so_far.0 (between_slashes c.in-Some.text.now) so_far.1
-          (part_before c.cut.result.1 part (between_slashes c.loop-after.rest.now) c.in-Some.text c.in-Some.is c.cut.ensures.more)) here.1,
+      one_part c.args.text.now part c.loop-after.rest.now here.0 so_far.0 (between_slashes c.in-Some.text.now) so_far.1
+          (part_before c.cut.result.1 part (between_slashes c.loop-after.rest.now) c.in-Some.text c.in-Some.is c.cut.ensures.more) here.1,
       All-push IsName so_far.0 here.0 so_far.2 here.2,
     )
 
@@ -31,10 +28,5 @@ returns-in-None-clause-yes c =
     let so_far = c.loop-after.invariant in
     let part : List ℕ = c.cut.result.0.now in
     let here = some_name c.read_name.result part (c.is_none.ensures ∙ ap not c.if-is_none.false) c.read_name.ensures.some c.read_name.ensures.name in
-    let path : List (List ℕ) = so_far.0 ++ here.0 ∷ [] in (
-      so_far.0 ++ here.0 ∷ [],
-      all_parts c.args.text.now path
-          (one_part c.args.text.now part here.0 so_far.0 [] (next_part c.args.text.now part c.loop-after.rest.now so_far.0 [] so_far.1
-          (last_part c.cut.result.1 part (between_slashes c.loop-after.rest.now) c.in-None.is c.cut.ensures.last)) here.1 ∙ append-nil (map escaped path))
-          (All-push IsName so_far.0 here.0 so_far.2 here.2),
-    )
+    let cut = last_part c.cut.result.1 part (between_slashes c.loop-after.rest.now) c.in-None.is c.cut.ensures.last in
+    (so_far.0 ++ here.0 ∷ [], last_name c.args.text.now part c.loop-after.rest.now here.0 so_far.0 so_far.1 cut here.1 so_far.2 here.2)
