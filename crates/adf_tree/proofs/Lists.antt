@@ -11,13 +11,22 @@ use Rattle.std.proofs.lemmas.List.Quantifiers.{position-Some}
 use Rattle.std.proofs.lemmas.List.Splits.{slice_split_first, slice_split_none}
 use Rattle.std.proofs.lemmas.List.Sums.{position_or_len_is, fails_before_first}
 
+-- an element
+pub some_in : {X : Type 0} → (xs : List X) → 0 < length xs → X
+some_in [] h = absurd (omega arith)
+some_in (x ∷ xs) h = x
+
 -- two tests
 pub filter_both : {X : Type 0} → (p q : X → Bool) (xs : List X) → filter p (filter q xs) ≡ filter (λ x. q x && p x) xs
 filter_both p q [] = refl
 filter_both p q (x ∷ xs) = elim (cases_Bool (q x)) [ inl t ↦ rw (t, filter_both p q xs) refl | inr f ↦ rw (f, filter_both p q xs) refl ]
 
+-- two tests that are one
+pub filter_joined : {X : Type 0} → (p q r : X → Bool) → ((x : X) → (q x && p x) ≡ r x) → (xs : List X) → filter p (filter q xs) ≡ filter r xs
+filter_joined p q r same xs = filter_both p q xs ∙ filter_agree (λ x. q x && p x) r same xs
+
 pub filters_commute : {X : Type 0} → (p q : X → Bool) (xs : List X) → filter p (filter q xs) ≡ filter q (filter p xs)
-filters_commute p q xs = filter_both p q xs ∙ (filter_agree (λ x. q x && p x) (λ x. p x && q x) (λ x. and_comm (q x) (p x)) xs ∙ sym (filter_both q p xs))
+filters_commute p q xs = filter_joined p q (λ x. p x && q x) (λ x. and_comm (q x) (p x)) xs ∙ sym (filter_both q p xs)
 
 pub filter_of_map : {X Y : Type 0} → (f : X → Y) (q : Y → Bool) (xs : List X) → filter q (map f xs) ≡ map f (filter (λ x. q (f x)) xs)
 filter_of_map f q [] = refl
