@@ -1,6 +1,6 @@
 -- Whether there is room for a path, and what may be added there.
 use Rattle.std.proofs.Common.{◌≡◌, ℕ, ◌-◌, ◌<◌, inl, inr, List, [], ◌∷◌, length, get_or, true, false, Bool, Option, Some, None, Result, Ok, Err, arith, ◌==◌}
-use Rattle.std.proofs.Common.{◌||◌, sym, refl, ◌∙◌, ap, subst, if◌then◌else◌, zero, suc, take, ◌++◌, ◌+◌}
+use Rattle.std.proofs.Common.{sym, refl, ◌∙◌, ap, if◌then◌else◌, zero, suc, take, ◌++◌, ◌+◌}
 use Rattle.std.specs.Prelude.{option_map}
 use Rattle.std.specs.Option.{unwrap_or}
 use Rattle.std.specs.List.{slice_get}
@@ -13,10 +13,10 @@ use Rattle.adf_tree.specs.declared.entry.Meta.{Meta}
 use Rattle.adf_tree.specs.declared.entry.Body.{Body}
 use Rattle.adf_tree.specs.declared.entry.Body.TheVariants.{Dir, File}
 use Rattle.adf_tree.specs.declared.tree.AddFault.{AddFault}
-use Rattle.adf_tree.specs.declared.tree.AddFault.TheVariants.{NoParent, ParentIsFile, EmptyPath}
+use Rattle.adf_tree.specs.declared.tree.AddFault.TheVariants.{NoParent, ParentIsFile}
 use Rattle.adf_tree.specs.Texts.{uppers}
 use Rattle.adf_tree.specs.Tree.{is_child, child, is_dir, is_dir_body, directory_from, room_at, free_in, added, IsDir, IsTree, AreApart, MayAdd, Tree}
-use Rattle.adf_tree.specs.Tree.{new_entry, with_entry, last_of, parents_of, room_for, in_directory}
+use Rattle.adf_tree.specs.Tree.{new_entry, with_entry, last_of, parents_of, room_for}
 use Rattle.adf_tree.proofs.TreeInvariant.{added_tree}
 use Rattle.adf_tree.proofs.ChildLookup.{none_is}
 
@@ -32,9 +32,7 @@ slice_dir (e ∷ es) (suc i) h = let more = slice_dir es i h in (omega (arith, m
 
 is_dir_says : (es : List Entry) (n : ℕ) → is_dir es n ≡ true → IsDir es n
 is_dir_says es n h some =
-    let z : (n == 0) ≡ false = ne_eqb n 0 (omega arith) in
-    let at : (n - 1 < length es) × ((d : Entry) → (get_or es (n - 1) d).body ≡ Dir) =
-    slice_dir es (n - 1) (sym (ap (λ b. b || unwrap_or (option_map (λ e. is_dir_body e.body) (if b then None else slice_get es (n - 1))) false) z) ∙ h) in
+    let at = slice_dir es (n - 1) (rw (ne_eqb n 0 (omega arith)) at h) in
     (omega (arith, at.0), at.1)
 
 -- a path of directories leads to one
@@ -50,7 +48,7 @@ next_dir es names q (Some n) h =
     ]
 
 pub directory_is_dir : (es : List Entry) (p : ℕ) (names : List (List ℕ)) (q : ℕ) → directory_from es p names ≡ Ok q → IsDir es p → IsDir es q
-directory_is_dir es p [] q h dir = let same : p ≡ q = cc in subst (λ n. IsDir es n) same dir
+directory_is_dir es p [] q h dir = let same : q ≡ p = cc in rw same dir
 directory_is_dir es p (name ∷ names) q h dir =
     let next = next_dir es names q (child es p name) h in
     directory_is_dir es next.0 names q next.3 (is_dir_says es next.0 next.2)
@@ -69,7 +67,7 @@ pub room_says : (es : List Entry) (e : Entry) (r : Result ℕ AddFault) → room
     → (r ≡ Ok e.parent) × (child es e.parent e.name ≡ None)
 room_says es e (Ok p) h =
     let both = free_says p e.parent (child es p e.name) h in
-    (ap (λ n. let r : Result ℕ AddFault = Ok n in r) both.0, ap (λ n. child es n e.name) (sym both.0) ∙ both.1)
+    (rw both.0 refl, rw (← both.0) both.1)
 room_says es e (Err f) h = cc
 
 pub room_may_add : (es : List Entry) (e : Entry) (names : List (List ℕ)) → room_at es e.name (directory_from es 0 names) ≡ Ok e.parent → MayAdd es e
@@ -105,19 +103,16 @@ pub is_new : (es : List Entry) (path : List (List ℕ)) (meta : Meta) (body : Bo
 is_new es path meta body x name p some at same ok =
     let lt : length path - 1 < length path = omega (arith, eqb-false (length path) 0 some) in
     let last : name ≡ last_of path = same ∙ (at ∙ get_or_default path (length path - 1) x [] lt) in
-    let room : (let r : Result ℕ AddFault = Ok p in room_for es path ≡ r) =
-    ap (λ b. let r : Result ℕ AddFault = if b then Err EmptyPath else room_at es (last_of path) (directory_from es 0 (parents_of path)) in r) some
-    ∙ (ap (λ y. room_at es y (directory_from es 0 (parents_of path))) (sym last) ∙ sym ok) in
+    let room : (let r : Result ℕ AddFault = Ok p in room_for es path ≡ r) = rw (some, ← last) (sym ok) in
     record {
       is = whole_path path x some ∙ ap (λ y. parents_of path ++ y ∷ []) (sym at ∙ sym same);
       room = sym ok;
-      entry = ap (λ n. let e : Entry = record { parent = p; name = n; meta = meta; body = body } in e) last
-          ∙ ap (λ q. let e : Entry = record { parent = q; name = last_of path; meta = meta; body = body } in e) (sym (ap in_directory room));
+      entry = rw (room, last) refl;
     }
 
 -- the tree that it leaves
 pub tree_left : (t : Tree) (entries : List Entry) (e : Entry) (b : Bool) (path : List (List ℕ)) (meta : Meta) (body : Body)
     → entries ≡ (if b then added t.entries e else t.entries) → e ≡ new_entry t.entries path meta body
     → (let u : Tree = record t { entries = entries } in u ≡ (if b then with_entry t path meta body else t))
-tree_left t entries e true path meta body h same = ap (λ es. let u : Tree = record t { entries = es } in u) (h ∙ ap (added t.entries) same)
-tree_left t entries e false path meta body h same = ap (λ es. let u : Tree = record t { entries = es } in u) h
+tree_left t entries e true path meta body h same = rw (h, same)
+tree_left t entries e false path meta body h same = rw h

@@ -1,5 +1,5 @@
 -- The members of chains: each entry stands in the chain of its parent and slot, and in no other.
-use Rattle.std.proofs.Common.{◌≡◌, ℕ, ◌+◌, ◌-◌, ◌<◌, ◌≤◌, List, length, get_or, true, Some, arith, sym, ◌∙◌, ap, ◌==◌}
+use Rattle.std.proofs.Common.{◌≡◌, ℕ, ◌+◌, ◌-◌, ◌<◌, ◌≤◌, List, length, get_or, true, Some, arith, sym, ◌==◌}
 use Rattle.std.proofs.Common.{◌↔◌}
 use Rattle.std.specs.List.{Contains}
 use Rattle.std.proofs.lemmas.Bool.{and_from, eq-eqb}
@@ -34,15 +34,13 @@ one_chain es e h p s = (in_no_other es e p s, λ at. in_its_chain es e p s h (sy
 pub child_in_chain : (es : List Entry) (p : ℕ) (name : List ℕ) (n : ℕ) (d : Entry) → child es p name ≡ Some n → IsChild es p name n (get_or es (n - 1) d)
 child_in_chain es p name n d h =
     let found = found_is es p name n d h in
-    let some : 0 < n = found.0 in
-    let most : n ≤ length es = found.1 in
     let e : Entry = get_or es (n - 1) d in
-    let says = child_says p name (get_or es (n - 1) d) found.2 in
+    let says = child_says p name e found.2 in
     record {
-      entry = entry_at es n d some most;
+      entry = entry_at es n d found.0 found.1;
       parent = says.0;
       name = says.1;
-      chain = in_its_chain es (get_or es (n - 1) d) p (slot_of name) (Contains-get_or es (n - 1) d (omega arith)) says.0 (same_slot e.name name says.1);
+      chain = in_its_chain es e p (slot_of name) (Contains-get_or es (n - 1) d (omega (arith, found.0, found.1))) says.0 (same_slot e.name name says.1);
     }
 
 pub child_found_is : (es : List Entry) (p : ℕ) (name : List ℕ) (n : ℕ) (d : Entry) → IsTree es
@@ -50,8 +48,6 @@ pub child_found_is : (es : List Entry) (p : ℕ) (name : List ℕ) (n : ℕ) (d 
 child_found_is es p name n d t = (
   λ h. let found = found_is es p name n d h in (found.0, found.1, child_in_chain es p name n d h),
   λ at.
-      let some : 0 < n = at.0 in
-      let most : n ≤ length es = at.1 in
-      let back : n - 1 + 1 ≡ n = omega arith in
-      child_is es p name (n - 1) d t (omega arith) (is_child_from p name (get_or es (n - 1) d) at.2.parent at.2.name) ∙ ap Some back,
+      let back : n - 1 + 1 ≡ n = omega (arith, at.0) in
+      rw back at (child_is es p name (n - 1) d t (omega (arith, at.0, at.1)) (is_child_from p name (get_or es (n - 1) d) at.2.parent at.2.name)),
 )

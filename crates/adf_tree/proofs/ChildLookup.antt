@@ -1,11 +1,11 @@
 -- The entry with a parent and a name: where it stands, and what is found when an entry is added.
-use Rattle.std.proofs.Common.{◌≡◌, ◌≢◌, ℕ, ◌+◌, ◌*◌, ◌%◌, ◌<◌, ◌≤◌, inl, inr, List, [], ◌∷◌, length, get_or, true, false, Bool, Some, None, cond, arith}
+use Rattle.std.proofs.Common.{◌≡◌, ◌≢◌, ℕ, ◌+◌, ◌*◌, ◌%◌, ◌<◌, ◌≤◌, inl, inr, List, [], ◌∷◌, length, get_or, true, false, Bool, Some, None, arith}
 use Rattle.std.proofs.Common.{nat_lt, ◌==◌, sym, refl, ◌∙◌, ap, ◌-◌, Option, ◌&&◌}
 use Rattle.std.specs.Prelude.{fold, option_map, position}
-use Rattle.std.specs.List.{position_or_len}
+use Rattle.std.specs.List.{All}
 use Rattle.std.specs.List.Sorted.{IsNonDecreasingBy, IsPartitionPoint}
 use Rattle.std.specs.Str.{bytes_eq}
-use Rattle.std.proofs.lemmas.Bool.{cases_lt, and_parts, eqb-true, ltb-true, and_from, eq-eqb, false_from_ne_true}
+use Rattle.std.proofs.lemmas.Bool.{cases_lt, and_parts, eqb-true, ltb-true, and_from, eq-eqb, false_from_ne_true, lt-ltb, le-ltb}
 use Rattle.std.proofs.lemmas.List.{length-map}
 use Rattle.std.proofs.lemmas.List.Sums.{position_or_len_is}
 use Rattle.std.proofs.lemmas.Slice.Eq.{bytes_eq-Decides}
@@ -29,37 +29,36 @@ hash_uppers h (c ∷ cs) = ap (λ u. fold hash_more ((h * 13 + u) % 2048) (upper
 
 -- the case of a name does not change its slot
 pub slot_uppers : (name : List ℕ) → slot_of (uppers name) ≡ slot_of name
-slot_uppers name = ap (λ n. fold hash_more n (uppers name) % 72) (length-map name upper_of) ∙ ap (λ h. h % 72) (hash_uppers (length name) name)
+slot_uppers name = rw (length-map name upper_of, hash_uppers (length name) name)
 
 pub same_slot : (a b : List ℕ) → uppers a ≡ uppers b → slot_of a ≡ slot_of b
 same_slot a b h = sym (slot_uppers a) ∙ (ap slot_of h ∙ slot_uppers b)
 
+pub child_says : (p : ℕ) (name : List ℕ) (x : Entry) → is_child p name x ≡ true → (x.parent ≡ p) × (uppers x.name ≡ uppers name)
+child_says p name x h =
+    let both = and_parts (x.parent == p) (bytes_eq (uppers x.name) (uppers name)) h in
+    (eqb-true x.parent p both.0, (bytes_eq-Decides (uppers x.name) (uppers name)).0 both.1)
+
+pub is_child_from : (p : ℕ) (name : List ℕ) (x : Entry) → x.parent ≡ p → uppers x.name ≡ uppers name → is_child p name x ≡ true
+is_child_from p name x a b =
+    and_from (x.parent == p) (bytes_eq (uppers x.name) (uppers name)) (eq-eqb x.parent p a) ((bytes_eq-Decides (uppers x.name) (uppers name)).1 b)
+
 -- a child stands at its parent and its slot
 pub child_rank : (e : Entry) (parent : ℕ) (name : List ℕ) → is_child parent name e ≡ true → rank e ≡ rank_of parent (slot_of name)
-child_rank e parent name h =
-    let both : ((e.parent == parent) ≡ true) × (bytes_eq (uppers e.name) (uppers name) ≡ true) =
-    and_parts (e.parent == parent) (bytes_eq (uppers e.name) (uppers name)) h in
-    let p : e.parent ≡ parent = eqb-true e.parent parent both.0 in
-    let s : slot_of e.name ≡ slot_of name = same_slot e.name name ((bytes_eq-Decides (uppers e.name) (uppers name)).0 both.1) in
-    ap (λ q. rank_of q (slot_of e.name)) p ∙ ap (λ t. rank_of parent t) s
+child_rank e parent name h = let both = child_says parent name e h in rw (both.0, same_slot e.name name both.1)
 
 pub no_child : (e : Entry) (parent : ℕ) (name : List ℕ) → rank e ≢ rank_of parent (slot_of name) → is_child parent name e ≡ false
-no_child e parent name ne =
-    false_from_ne_true (is_child parent name e) (λ t. ne (child_rank e parent name t))
+no_child e parent name ne = false_from_ne_true (is_child parent name e) (λ t. ne (child_rank e parent name t))
 
 pub position_yes : {X : Type 0} (p : X → Bool) (xs : List X) (i : ℕ) (d : X) → i < length xs → p (get_or xs i d) ≡ true
     → ((k : ℕ) → k < i → p (get_or xs k d) ≡ false) → position p xs ≡ Some i
-position_yes {X} p xs i d lt holds others =
-    let at : position_or_len p xs ≡ i = position_or_len_is p xs i d (omega arith) others (λ _. holds) in
-    ap (λ n. cond (nat_lt n (length xs)) (Some n) None) at
-    ∙ ap (λ b. cond b (Some i) None) (let t : nat_lt i (length xs) ≡ true = grind (arith, nat_tests) in t)
+position_yes p xs i d lt holds others = rw (position_or_len_is p xs i d (omega arith) others (λ _. holds), lt-ltb i (length xs) lt)
 
 pub position_no : {X : Type 0} (p : X → Bool) (xs : List X) → ((k : ℕ) (d : X) → k < length xs → p (get_or xs k d) ≡ false) → position p xs ≡ None
 position_no p [] others = refl
-position_no {X} p (x ∷ xs) others =
-    let n : ℕ = length (x ∷ xs) in
-    let at : position_or_len p (x ∷ xs) ≡ n = position_or_len_is p (x ∷ xs) n x (omega arith) (λ k lt. others k x lt) (λ lt. absurd (omega arith)) in
-    ap (λ m. cond (nat_lt m n) (Some m) None) at ∙ ap (λ b. cond b (Some n) None) (let t : nat_lt n n ≡ false = grind (arith, nat_tests) in t)
+position_no p (x ∷ xs) others =
+    let at = position_or_len_is p (x ∷ xs) (length (x ∷ xs)) x (omega arith) (λ k lt. others k x lt) (λ lt. absurd (omega arith)) in
+    rw (at, le-ltb (length (x ∷ xs)) (length (x ∷ xs)) (omega arith))
 
 -- what a search along a chain finds
 pub child_found : (es : List Entry) (parent : ℕ) (name : List ℕ) (i : ℕ) (e : Entry) → i < length es → e ≡ get_or es i e → is_child parent name e ≡ true
@@ -76,8 +75,8 @@ pub child_not_before : (es : List Entry) (parent : ℕ) (name : List ℕ) (s fro
     → IsPartitionPoint (λ e. nat_lt (rank e) (rank_of parent s) ≡ true) (λ e. nat_lt (rank e) (rank_of parent s) ≡ false) es from → (k : ℕ) (d : Entry)
     → k < from → is_child parent name (get_or es k d) ≡ false
 child_not_before es parent name s from same point k d lt =
-    let less : rank (get_or es k d) < rank_of parent s = ltb-true (rank (get_or es k d)) (rank_of parent s) (point.0 k d (omega arith) lt) in
-    no_child (get_or es k d) parent name (omega (arith, less, same))
+    no_child (get_or es k d) parent name
+    (omega (arith, ltb-true (rank (get_or es k d)) (rank_of parent s) (point.0 k d (omega arith) lt), same))
 
 pub child_not_past : (es : List Entry) (parent : ℕ) (name : List ℕ) (s to i : ℕ) → s ≡ slot_of name → IsNonDecreasingBy rank es
     → to ≡ place es (rank_of parent s) → to ≤ i → ((k : ℕ) (d : Entry) → k < i → is_child parent name (get_or es k d) ≡ false) → (k : ℕ) (d : Entry)
@@ -85,9 +84,7 @@ pub child_not_past : (es : List Entry) (parent : ℕ) (name : List ℕ) (s to i 
 child_not_past es parent name s to i same up at past others k d lt =
     elim (cases_lt k i) [
       | inl h ↦ others k d h
-      | inr h ↦
-          let more : rank_of parent s < rank (get_or es k d) = after es (rank_of parent s) k d up (omega (arith, at, past, h)) lt in
-          no_child (get_or es k d) parent name (omega (arith, more, same))
+      | inr h ↦ no_child (get_or es k d) parent name (omega (arith, after es (rank_of parent s) k d up (omega (arith, at, past, h)) lt, same))
     ]
 
 none_before : (o : Option ℕ) → option_map (λ i. i + 1) o ≡ None → o ≡ None
@@ -97,15 +94,6 @@ none_before (Some i) h = cc
 -- where no child is found there is none
 pub none_is : (es : List Entry) (p : ℕ) (name : List ℕ) (k : ℕ) (d : Entry) → child es p name ≡ None → k < length es → is_child p name (get_or es k d) ≡ false
 none_is es p name k d h lt = fails_at_none (is_child p name) es (none_before (position (is_child p name) es) h) k d lt
-
-pub child_says : (p : ℕ) (name : List ℕ) (x : Entry) → is_child p name x ≡ true → (x.parent ≡ p) × (uppers x.name ≡ uppers name)
-child_says p name x h =
-    let both = and_parts (x.parent == p) (bytes_eq (uppers x.name) (uppers name)) h in
-    (eqb-true x.parent p both.0, (bytes_eq-Decides (uppers x.name) (uppers name)).0 both.1)
-
-pub is_child_from : (p : ℕ) (name : List ℕ) (x : Entry) → x.parent ≡ p → uppers x.name ≡ uppers name → is_child p name x ≡ true
-is_child_from p name x a b =
-    and_from (x.parent == p) (bytes_eq (uppers x.name) (uppers name)) (eq-eqb x.parent p a) ((bytes_eq-Decides (uppers x.name) (uppers name)).1 b)
 
 -- the child is the only one
 pub child_is : (es : List Entry) (p : ℕ) (name : List ℕ) (k : ℕ) (d : Entry) → IsTree es → k < length es → is_child p name (get_or es k d) ≡ true
@@ -136,17 +124,17 @@ is_child_moved n p name x = ap (λ b. b && bytes_eq (uppers x.name) (uppers name
 pub moved_past : (n p : ℕ) → moved n p ≢ n
 moved_past n p h = elim (cases_lt p n) [ inl lt ↦ absurd (omega (arith, moved_below n p lt, h)) | inr le ↦ absurd (omega (arith, moved_above n p le, h)) ]
 
+-- nothing stands in the new entry
+pub no_parent : (es : List Entry) (e : Entry) → IsTree es → IsDir es e.parent → All (λ x. x.parent ≢ place es (rank e) + 1) (added es e)
+no_parent es e t dir k d lt =
+    by_case es e d (λ _ x. x.parent ≢ place es (rank e) + 1) t (λ h. absurd (omega (arith, h, dir_before es e t dir)))
+    (λ m some le. moved_past (place es (rank e) + 1) (get_or es (m - 1) d).parent) k lt
+
 -- the new entry has no children
 pub child_of_new : (es : List Entry) (e : Entry) (name : List ℕ) → IsTree es → IsDir es e.parent → child (added es e) (place es (rank e) + 1) name ≡ None
 child_of_new es e name t dir =
-    let n : ℕ = place es (rank e) + 1 in
-    let early : e.parent ≤ place es (rank e) = dir_before es e t dir in
-    no_children (added es e) n name
-    (λ k d lt. by_case es e d (λ _ x. is_child n name x ≡ false) t
-    (false_from_ne_true (is_child n name e) (λ h. absurd (omega (arith, early, (child_says n name e h).0))))
-    (λ m some le. let x : Entry = get_or es (m - 1) d in
-    false_from_ne_true (is_child n name (renumbered n x)) (λ h. moved_past n x.parent (child_says n name (renumbered n x) h).0))
-    k lt)
+    no_children (added es e) (place es (rank e) + 1) name (λ k d lt. false_from_ne_true (is_child (place es (rank e) + 1) name (get_or (added es e) k d))
+    (λ h. no_parent es e t dir k d lt (child_says (place es (rank e) + 1) name (get_or (added es e) k d) h).0))
 
 pub parent_stays : (es : List Entry) (e : Entry) → IsTree es → IsDir es e.parent → moved (place es (rank e) + 1) e.parent ≡ e.parent
 parent_stays es e t dir = let early : e.parent ≤ place es (rank e) = dir_before es e t dir in moved_below (place es (rank e) + 1) e.parent (omega arith)
@@ -155,36 +143,25 @@ parent_stays es e t dir = let early : e.parent ≤ place es (rank e) = dir_befor
 pub child_new : (es : List Entry) (e : Entry) (name : List ℕ) → IsTree es → MayAdd es e → uppers e.name ≡ uppers name
     → child (added es e) e.parent name ≡ Some (place es (rank e) + 1)
 child_new es e name t may same =
-    let i : ℕ = place es (rank e) in
-    let le : i ≤ length es = place_le es (rank e) in
-    let long : length (added es e) ≡ length es + 1 = length_added es e t in
-    child_is (added es e) e.parent name i e (added_tree es e t may) (omega arith)
-    (ap (is_child e.parent name) (at_place es e e t) ∙ is_child_from e.parent name e refl same)
+    child_is (added es e) e.parent name (place es (rank e)) e (added_tree es e t may) (omega (arith, place_le es (rank e), length_added es e t))
+    (rw (at_place es e e t) (is_child_from e.parent name e refl same))
 
 -- all else is found as it was
-child_old : (es : List Entry) (e : Entry) (p : ℕ) (name : List ℕ) (o : Option ℕ) → IsTree es → MayAdd es e → (p ≡ e.parent → uppers e.name ≢ uppers name)
-    → child es p name ≡ o → child (added es e) (moved (place es (rank e) + 1) p) name ≡ option_map (moved (place es (rank e) + 1)) o
-child_old es e p name None t may other h =
-    let n : ℕ = place es (rank e) + 1 in
-    no_children (added es e) (moved n p) name
-    (λ k d lt. by_case es e d (λ _ x. is_child (moved n p) name x ≡ false) t
-    (false_from_ne_true (is_child (moved n p) name e) (λ g. let says =
-    child_says (moved n p) name e g in other (moved_same n p e.parent (sym says.0 ∙ sym (parent_stays es e t may.parent))) says.1))
-    (λ m some le. is_child_moved n p name (get_or es (m - 1) d) ∙ none_is es p name (m - 1) d h (omega arith))
-    k lt)
-child_old es e p name (Some m) t may other h =
-    let n : ℕ = place es (rank e) + 1 in
-    let found = found_is es p name m e h in
-    let long : length (added es e) ≡ length es + 1 = length_added es e t in
-    let some : 0 < m = found.0 in
-    let most : m ≤ length es = found.1 in
-    let up : m ≤ moved n m = moved_up n m in
-    let near : moved n m ≤ m + 1 = moved_near n m in
-    let number : moved n m - 1 + 1 ≡ moved n m = omega arith in
-    child_is (added es e) (moved n p) name (moved n m - 1) e (added_tree es e t may) (omega arith)
-    (ap (is_child (moved n p) name) (new_get es e m e t some most) ∙ (is_child_moved n p name (get_or es (m - 1) e) ∙ found.2))
-    ∙ ap Some number
-
 pub child_other : (es : List Entry) (e : Entry) (p : ℕ) (name : List ℕ) → IsTree es → MayAdd es e → (p ≡ e.parent → uppers e.name ≢ uppers name)
     → child (added es e) (moved (place es (rank e) + 1) p) name ≡ option_map (moved (place es (rank e) + 1)) (child es p name)
-child_other es e p name t may other = child_old es e p name (child es p name) t may other refl
+child_other es e p name t may other =
+    let n : ℕ = place es (rank e) + 1 in
+    (elim (child es p name) as (λ o. child es p name ≡ o → child (added es e) (moved n p) name ≡ option_map (moved n) o) [
+      | None ↦ λ h. no_children (added es e) (moved n p) name
+          (λ k d lt. by_case es e d (λ _ x. is_child (moved n p) name x ≡ false) t
+          (false_from_ne_true (is_child (moved n p) name e) (λ g. let says = child_says (moved n p) name e g in
+          other (moved_same n p e.parent (sym says.0 ∙ sym (parent_stays es e t may.parent))) says.1))
+          (λ m some le. is_child_moved n p name (get_or es (m - 1) d) ∙ none_is es p name (m - 1) d h (omega arith)) k lt)
+      | Some m ↦ λ h.
+          let found = found_is es p name m e h in
+          let number : moved n m - 1 + 1 ≡ moved n m = omega (arith, found.0, moved_up n m) in
+          child_is (added es e) (moved n p) name (moved n m - 1) e (added_tree es e t may)
+          (omega (arith, found.0, found.1, moved_up n m, moved_near n m, length_added es e t))
+          (rw (new_get es e m e t found.0 found.1) (is_child_moved n p name (get_or es (m - 1) e) ∙ found.2))
+          ∙ ap Some number
+    ]) refl

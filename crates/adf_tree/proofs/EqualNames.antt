@@ -7,9 +7,6 @@ use Rattle.adf_fields.specs.Hash.{upper_of}
 use Rattle.adf_tree.specs.Texts.{uppers}
 use Rattle.std.proofs.lemmas.Bool.{false_from_ne_true}
 
-get_or-uppers : (a : List ℕ) (k : ℕ) → k < length a → get_or (uppers a) k 0 ≡ upper_of (get_or a k 0)
-get_or-uppers a k h = get_or-map upper_of a k 0 0 h
-
 pub same_yes : (a b : List ℕ) → length a ≡ length b → ((k : ℕ) → k < length a → upper_of (get_or a k 0) ≡ upper_of (get_or b k 0))
     → bytes_eq (uppers a) (uppers b) ≡ true
 same_yes a b e h =
@@ -23,7 +20,7 @@ same_yes a b e h =
 pub same_no : (a b : List ℕ) (k : ℕ) → k < length a → k < length b → upper_of (get_or a k 0) ≢ upper_of (get_or b k 0) → bytes_eq (uppers a) (uppers b) ≡ false
 same_no a b k la lb ne =
     false_from_ne_true (bytes_eq (uppers a) (uppers b))
-    (λ t. ne (sym (get_or-uppers a k la) ∙ (ap (λ s. get_or s k 0) ((bytes_eq-Decides (uppers a) (uppers b)).0 t) ∙ get_or-uppers b k lb)))
+    (λ t. ne (rw (get_or-map upper_of a k 0 0 la, get_or-map upper_of b k 0 0 lb) at (ap (λ s. get_or s k 0) ((bytes_eq-Decides (uppers a) (uppers b)).0 t))))
 
 pub same_short : (a b : List ℕ) → length a ≢ length b → bytes_eq (uppers a) (uppers b) ≡ false
 same_short a b ne =

@@ -1,21 +1,20 @@
 -- The set of the names of a tree's last chain.
-use Rattle.std.proofs.Common.{◌≡◌, ℕ, ◌+◌, ◌-◌, List, [], ◌∷◌, ◌++◌, length, take, drop, map, get_or, Bool, true, false, Option, Some, None, Result, Ok, Err}
+use Rattle.std.proofs.Common.{◌≡◌, ℕ, ◌-◌, List, [], ◌∷◌, ◌++◌, length, get_or, Bool, true, false, Option, Some, None, Result, Ok, Err}
 use Rattle.std.proofs.Common.{arith, nat_lt, ◌==◌, ◌&&◌, ◌||◌, sym, refl, ◌∙◌, ap}
 use Rattle.std.specs.List.{list_any}
 use Rattle.std.specs.List.Sorted.{IsPartitionPoint}
 use Rattle.std.specs.Option.{is_some}
 use Rattle.std.specs.Result.{is_err, OnOk}
 use Rattle.std.specs.Str.{bytes_eq}
-use Rattle.std.proofs.lemmas.Bool.{and_parts, eq-eqb, eqb-true}
+use Rattle.std.proofs.lemmas.Bool.{and_parts, eq-eqb, eqb-true, le-ltb, ltb-true}
 use Rattle.std.proofs.lemmas.List.{take_all, drop_all}
-use Rattle.std.proofs.lemmas.Bool.Decides.{nat_tests}
 use Rattle.std.proofs.lemmas.List.Sums.{position_or_len_is}
 use Rattle.std.proofs.lemmas.List.Folds.{list_any-append, list_any_at, list_any_none}
 use Rattle.adf_fields.specs.Hash.{slot_of}
 use Rattle.adf_tree.specs.declared.entry.Entry.{Entry}
 use Rattle.adf_tree.specs.declared.last_chain.LastChain.{LastChain}
 use Rattle.adf_tree.specs.Texts.{uppers}
-use Rattle.adf_tree.specs.Tree.{place, rank, rank_of, renumbered, added, is_child, child}
+use Rattle.adf_tree.specs.Tree.{place, rank, rank_of, added, is_child, child}
 use Rattle.adf_tree.specs.NameSet.{has}
 use Rattle.adf_tree.specs.LastChain.{knows, IsOf, Puts}
 use Rattle.adf_tree.proofs.ChildLookup.{child_not_before, found_is, none_is}
@@ -43,16 +42,13 @@ any_child es p name = any_is es p name (child es p name) refl
 pub forgotten : (c : LastChain) (es : List Entry) → c.is_known ≡ false → IsOf c es
 forgotten c es h = record { names = λ name t s. cc }
 
-less_not : (a b : ℕ) → nat_lt a b ≡ true → nat_lt b a ≡ false
-less_not a b h = grind (arith, nat_tests)
-
 -- past all of lesser pairs
 pub place_past : (es : List Entry) (r from : ℕ) → IsPartitionPoint (λ e. nat_lt (rank e) r ≡ true) (λ e. nat_lt (rank e) r ≡ false) es from
     → from ≡ length es → place es r ≡ length es
 place_past [] r from parted all = refl
 place_past (e ∷ es) r from parted all =
     position_or_len_is (λ x. nat_lt r (rank x)) (e ∷ es) (length (e ∷ es)) e (omega arith)
-    (λ k lt. less_not (rank (get_or (e ∷ es) k e)) r (parted.0 k e (omega arith) (omega arith)))
+    (λ k lt. le-ltb r (rank (get_or (e ∷ es) k e)) (omega (arith, ltb-true (rank (get_or (e ∷ es) k e)) r (parted.0 k e (omega arith) (omega arith)))))
     (λ lt. absurd (omega arith))
 
 -- a chain that begins
@@ -61,10 +57,8 @@ pub begun : (c : LastChain) (es : List Entry) (parent s from : ℕ) → c.parent
     → IsOf c es
 begun c es parent s from p q none parted all = record {
   names = λ name t h.
-      none (uppers name)
-      ∙ sym
-      (ap (λ v. list_any (is_child v name) es) p
-      ∙ list_any_none (is_child parent name) es (λ k d lt. child_not_before es parent name s from (sym q ∙ sym h) parted k d (omega arith)));
+      rw (none (uppers name), p)
+      (sym (list_any_none (is_child parent name) es (λ k d lt. child_not_before es parent name s from (sym q ∙ sym h) parted k d (omega arith))));
 }
 
 or_swap : (a b : Bool) → (a || b) ≡ (b || (a || false))
@@ -74,13 +68,7 @@ or_swap false true = refl
 or_swap false false = refl
 
 added_end : (es : List Entry) (e : Entry) → place es (rank e) ≡ length es → added es e ≡ es ++ e ∷ []
-added_end es e at =
-    ap (λ i. take i es ++ e ∷ map (renumbered (i + 1)) (drop i es)) at
-    ∙ (ap (λ xs. xs ++ e ∷ map (renumbered (length es + 1)) (drop (length es) es)) (take_all (length es) es (omega arith))
-    ∙ ap (λ xs. es ++ e ∷ map (renumbered (length es + 1)) xs) (drop_all (length es) es (omega arith)))
-
-child_by_name : (e : Entry) (p : ℕ) (name : List ℕ) → e.parent ≡ p → is_child p name e ≡ bytes_eq (uppers e.name) (uppers name)
-child_by_name e p name h = ap (λ b. b && bytes_eq (uppers e.name) (uppers name)) (eq-eqb e.parent p h)
+added_end es e at = rw (at, take_all (length es) es (omega arith), drop_all (length es) es (omega arith))
 
 -- one entry more at the end of the chain
 pub one_more : (old new : LastChain) (es : List Entry) (e : Entry) (bytes : List ℕ) → IsOf old es → Puts old new bytes → bytes ≡ uppers e.name
@@ -88,18 +76,17 @@ pub one_more : (old new : LastChain) (es : List Entry) (e : Entry) (bytes : List
 one_more old new es e bytes of puts is parent at = record {
   names = λ name t h.
       let known : old.is_known ≡ true = puts.was_known t in
-      let b : Bool = bytes_eq (uppers e.name) (uppers name) in
-      let l : Bool = list_any (is_child old.parent name) es in
-      let left : has new.names (uppers name) ≡ (b || l) =
-      puts.names t (uppers name)
-      ∙ (ap (λ x. bytes_eq x (uppers name) || has old.names (uppers name)) is
-      ∙ ap (λ x. b || x) (of.names name known (h ∙ puts.slot))) in
-      let right : list_any (is_child new.parent name) (added es e) ≡ (l || (b || false)) =
-      ap (λ p. list_any (is_child p name) (added es e)) puts.parent
-      ∙ (ap (list_any (is_child old.parent name)) (added_end es e (at known))
-      ∙ (list_any-append (is_child old.parent name) es (e ∷ [])
-      ∙ ap (λ x. l || (x || false)) (child_by_name e old.parent name (sym (parent known))))) in
-      left ∙ (or_swap b l ∙ sym right);
+      let is_child_here = eq-eqb e.parent old.parent (sym (parent known)) in
+      rw (
+        puts.names t (uppers name),
+        is,
+        of.names name known (h ∙ puts.slot),
+        puts.parent,
+        added_end es e (at known),
+        list_any-append (is_child old.parent name) es (e ∷ []),
+        is_child_here,
+      )
+      (or_swap (bytes_eq (uppers e.name) (uppers name)) (list_any (is_child old.parent name) es));
 }
 
 -- what is known tells whether there is a child

@@ -1,6 +1,6 @@
 -- Additions have at most one tree.
-use Rattle.std.proofs.Common.{◌≡◌, ℕ, ◌+◌, ◌-◌, ◌<◌, ◌≤◌, inl, inr, List, [], ◌∷◌, ◌++◌, length, get_or, map, true, false, Bool, cond, Some, arith, sym, refl}
-use Rattle.std.proofs.Common.{◌∙◌, ap, subst, zero, suc}
+use Rattle.std.proofs.Common.{◌≡◌, ℕ, ◌-◌, ◌≤◌, inl, inr, List, [], ◌∷◌, ◌++◌, length, get_or, map, true, false, Bool, cond, arith, sym, refl}
+use Rattle.std.proofs.Common.{◌∙◌, ap, zero, suc}
 use Rattle.std.specs.List.{filter, All}
 use Rattle.std.specs.List.Sorted.{IsNonDecreasingBy}
 use Rattle.std.proofs.lemmas.Bool.{cases_Bool}
@@ -8,10 +8,9 @@ use Rattle.std.proofs.lemmas.List.{append_assoc, append_cancel_left, map-append,
 use Rattle.std.proofs.lemmas.List.Elements.{filter-append, filter_passes, All-filter}
 use Rattle.adf_tree.specs.declared.entry.Entry.{Entry}
 use Rattle.adf_fields.specs.Hash.{slot_of}
-use Rattle.adf_tree.specs.Texts.{uppers}
 use Rattle.adf_tree.specs.Chain.{chain, in_chain}
 use Rattle.adf_tree.specs.Paths.{content, path_in, path_of, Content}
-use Rattle.adf_tree.specs.Tree.{find, rank, rank_of, IsTree}
+use Rattle.adf_tree.specs.Tree.{rank, rank_of, IsTree}
 use Rattle.adf_tree.specs.Additions.{Addition, IsTreeOf}
 use Rattle.adf_tree.proofs.TreeInvariant.{slot_small}
 use Rattle.adf_tree.proofs.ChainOrder.{chain_rank}
@@ -26,16 +25,13 @@ pub path_in_front : (front rest : List Entry) (d : Entry) (f n : ℕ) → IsTree
 path_in_front front rest d zero n t le = refl
 path_in_front front rest d (suc f) zero t le = refl
 path_in_front front rest d (suc f) (suc m) t le =
-    let es : List Entry = front ++ rest in
     let n : ℕ = suc m in
-    let long : length es ≡ length front + length rest = length-append front rest in
-    let same : get_or es (n - 1) d ≡ get_or front (n - 1) d = get_or_append_left front rest d (n - 1) (omega arith) in
-    let up : (get_or es (n - 1) d).parent ≤ n - 1 = t.parents (n - 1) d (omega arith) in
-    let early : (get_or front (n - 1) d).parent ≤ n - 1 = omega (arith, up, ap (λ (x : Entry). x.parent) same) in
-    ap (path_past es f) (entry_at es n d (omega arith) (omega arith))
-    ∙ (ap (λ (x : Entry). path_in es f x.parent ++ uppers x.name ∷ []) same
-    ∙ (ap (λ zs. zs ++ uppers (get_or front (n - 1) d).name ∷ []) (path_in_front front rest d f (get_or front (n - 1) d).parent t (omega arith))
-    ∙ sym (ap (path_past front f) (entry_at front n d (omega arith) le))))
+    let long = length-append front rest in
+    let same = get_or_append_left front rest d (n - 1) (omega arith) in
+    let early = rw same at (t.parents (n - 1) d (omega arith)) in
+    ap (path_past (front ++ rest) f) (entry_at (front ++ rest) n d (omega arith) (omega arith))
+    ∙ (rw (same, path_in_front front rest d f (get_or front (n - 1) d).parent t (omega arith)) refl
+    ∙ sym (ap (path_past front f) (entry_at front n d (omega arith) le)))
 
 -- an entry is what it has and where
 rebuilt : (e f : Entry) → e.parent ≡ f.parent → content e ≡ content f → e ≡ f
@@ -51,10 +47,7 @@ pub record IsFirst (y : Entry) (p s : ℕ) (c : Content) : Type 0 where
 early_one : (y : Entry) (p s : ℕ) (l : List Entry) (c : Content) (cs : List Content) → All (λ w. rank y ≤ rank w) l → All (λ w. in_chain p s w ≡ true) l
     → c ∷ cs ≡ map content l → rank y ≤ rank_of p s
 early_one y p s [] c cs later in_it h = cc
-early_one y p s (w ∷ ws) c cs later in_it h =
-    let is : rank w ≡ rank_of p s = chain_rank p s w (in_it 0 w (omega arith)) in
-    let le : rank y ≤ rank w = later 0 w (omega arith) in
-    omega (arith, is, le)
+early_one y p s (w ∷ ws) c cs later in_it h = omega (arith, chain_rank p s w (in_it 0 w (omega arith)), later 0 w (omega arith))
 
 first_in : (y : Entry) (ys : List Entry) (p s : ℕ) (c : Content) (cs : List Content) → IsNonDecreasingBy rank (y ∷ ys)
     → c ∷ cs ≡ map content (filter (in_chain p s) (y ∷ ys)) → IsFirst y p s c
@@ -62,10 +55,10 @@ first_in y ys p s c cs up h =
     let q : Entry → Bool = in_chain p s in
     elim (cases_Bool (in_chain p s y)) [
       | inl t ↦
-          let g : c ∷ cs ≡ content y ∷ map content (filter q ys) = h ∙ ap (λ b. map content (cond b (y ∷ filter q ys) (filter q ys))) t in
+          let g = rw t at h in
           record { early = omega (arith, chain_rank p s y t); same = λ _. cc }
       | inr f ↦
-          let g : c ∷ cs ≡ map content (filter q ys) = h ∙ ap (λ b. map content (cond b (y ∷ filter q ys) (filter q ys))) f in
+          let g = rw f at h in
           let later : All (λ w. rank y ≤ rank w) ys = λ k d lt. up 0 (suc k) d (omega arith) (omega arith) in
           record {
             early = early_one y p s (filter q ys) c cs (All-filter q (λ w. rank y ≤ rank w) ys later) (filter_passes q ys) g;
@@ -75,7 +68,7 @@ first_in y ys p s c cs up h =
 
 back_sorted : (front back : List Entry) → IsNonDecreasingBy rank (front ++ back) → IsNonDecreasingBy rank back
 back_sorted front back up =
-    subst (λ xs. IsNonDecreasingBy rank xs) (drop_at front back (length front) refl) (IsNonDecreasingBy-drop rank (length front) (front ++ back) up)
+    rw (drop_at front back (length front) refl) at (IsNonDecreasingBy-drop rank (length front) (front ++ back) up)
 
 -- the chain of the next entry has the same contents in both trees
 same_chain : (front r other : List Entry) (e : Entry) (a : List Addition) → IsTreeOf (front ++ e ∷ r) a → IsTreeOf (front ++ other) a
@@ -86,15 +79,13 @@ same_chain front r other e a t u =
     let p : ℕ = e.parent in
     let s : ℕ = slot_of e.name in
     let q : Entry → Bool = in_chain p s in
-    let long : length es ≡ length front + length (e ∷ r) = length-append front (e ∷ r) in
-    let long_too : length os ≡ length front + length other = length-append front other in
-    let here : get_or es (length front) e ≡ e = get_or_at front e r e (length front) refl in
-    let small : (get_or es (length front) e).parent ≤ length front = t.tree.parents (length front) e (omega arith) in
-    let early : e.parent ≤ length front = omega (arith, small, ap (λ (x : Entry). x.parent) here) in
+    let long = length-append front (e ∷ r) in
+    let long_too = length-append front other in
+    let early : e.parent ≤ length front = rw (get_or_at front e r e (length front) refl) at (t.tree.parents (length front) e (omega arith)) in
     let dir : path_of os p ≡ path_of es p = path_in_front front other e p p u.tree early ∙ sym (path_in_front front (e ∷ r) e p p t.tree early) in
-    let leads : find es (path_of es p) ≡ Some p = path_found es p t.tree (omega arith) in
-    let leads_too : find os (path_of es p) ≡ Some p = ap (find os) (sym dir) ∙ path_found os p u.tree (omega arith) in
-    let both : map content (chain es p s) ≡ map content (chain os p s) = t.chains (path_of es p) p s leads ∙ sym (u.chains (path_of es p) p s leads_too) in
+    let leads_too = rw dir at (path_found os p u.tree (omega arith)) in
+    let both : map content (chain es p s) ≡ map content (chain os p s) =
+    t.chains (path_of es p) p s (path_found es p t.tree (omega arith)) ∙ sym (u.chains (path_of es p) p s leads_too) in
     let split : (back : List Entry) → map content (chain (front ++ back) p s) ≡ map content (filter q front) ++ map content (filter q back) =
     λ back. ap (map content) (filter-append q front back) ∙ map-append content (filter q front) (filter q back) in
     let mine : filter q (e ∷ r) ≡ e ∷ filter q r = ap (λ b. cond b (e ∷ filter q r) (filter q r)) (in_chain_from p s e refl refl) in
@@ -113,12 +104,10 @@ next_same : (front r ys : List Entry) (e y : Entry) (a : List Addition) → IsTr
 next_same front r ys e y a t u =
     let one = next_is front r ys e y a t u in
     let two = next_is front ys r y e a u t in
-    let less : rank y ≤ rank e = one.early in
-    let more : rank e ≤ rank y = two.early in
-    let small : slot_of e.name < 72 = slot_small e.name in
-    let small_too : slot_of y.name < 72 = slot_small y.name in
-    let p : y.parent ≡ e.parent = omega arith in
-    let s : slot_of y.name ≡ slot_of e.name = omega arith in
+    let small = slot_small e.name in
+    let small_too = slot_small y.name in
+    let p : y.parent ≡ e.parent = omega (arith, one.early, two.early) in
+    let s : slot_of y.name ≡ slot_of e.name = omega (arith, one.early, two.early) in
     rebuilt e y (sym p) (sym (one.same (in_chain_from e.parent (slot_of e.name) y p s)))
 
 none_left : (front r : List Entry) (e : Entry) (a : List Addition) → IsTreeOf (front ++ e ∷ r) a → IsTreeOf (front ++ []) a → ⊥
@@ -132,9 +121,8 @@ same_rest front [] (y ∷ ys) a t u = absurd (none_left front ys y a u t)
 same_rest front (e ∷ r) [] a t u = absurd (none_left front r e a t u)
 same_rest front (e ∷ r) (y ∷ ys) a t u =
     let one : e ≡ y = next_same front r ys e y a t u in
-    let v : IsTreeOf (front ++ e ∷ ys) a = subst (λ (x : Entry). IsTreeOf (front ++ x ∷ ys) a) (sym one) u in
-    let t_on : IsTreeOf ((front ++ e ∷ []) ++ r) a = subst (λ (xs : List Entry). IsTreeOf xs a) (sym (append_assoc front (e ∷ []) r)) t in
-    let u_on : IsTreeOf ((front ++ e ∷ []) ++ ys) a = subst (λ (xs : List Entry). IsTreeOf xs a) (sym (append_assoc front (e ∷ []) ys)) v in
+    let t_on = rw (← append_assoc front (e ∷ []) r) at t in
+    let u_on = rw (← one, ← append_assoc front (e ∷ []) ys) at u in
     ap (λ xs. e ∷ xs) (same_rest (front ++ e ∷ []) r ys a t_on u_on) ∙ ap (λ x. x ∷ ys) one
 
 -- two trees of the same additions are one

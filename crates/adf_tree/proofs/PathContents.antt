@@ -1,9 +1,8 @@
 -- What a tree tells under its paths, and what `add` promises of paths and chains.
 use Rattle.std.proofs.Common.{◌≡◌, ◌≢◌, ℕ, ◌+◌, ◌-◌, ◌<◌, ◌≤◌, inl, inr, List, [], ◌∷◌, ◌++◌, length, get_or, map, Option, Some, None, arith, sym, refl, ◌∙◌}
-use Rattle.std.proofs.Common.{ap, if◌then◌else◌, zero, suc, ◌==◌, ◌&&◌, Result, Ok, Err, subst}
+use Rattle.std.proofs.Common.{ap, if◌then◌else◌, zero, suc, ◌==◌, ◌&&◌, Result, Ok, Err}
 use Rattle.std.specs.Prelude.{option_map, position, OnOk, is_ok}
 use Rattle.std.specs.Option.{option_and_then}
-use Rattle.std.specs.List.{slice_get}
 use Rattle.std.specs.Str.{bytes_eq}
 use Rattle.std.proofs.lemmas.Bool.{cases_eq, ne_eqb, cases_lt}
 use Rattle.std.proofs.lemmas.List.{append-nil, append_assoc, map-append}
@@ -26,16 +25,14 @@ use Rattle.adf_tree.specs.declared.entry.Body.{Body}
 pub entry_says : (es : List Entry) (n : ℕ) (x : Entry) → entry es n ≡ Some x → (0 < n) × (n ≤ length es) × ((d : Entry) → get_or es (n - 1) d ≡ x)
 entry_says es n x h =
     elim (cases_eq n 0) [
-      | inl z ↦ let g : None ≡ Some x = sym (ap (entry es) z) ∙ h in cc
+      | inl z ↦ let g = rw z at h in cc
       | inr nz ↦
-          let g : slice_get es (n - 1) ≡ Some x = sym (ap (λ b. let o : Option Entry = if b then None else slice_get es (n - 1) in o) (ne_eqb n 0 nz)) ∙ h in
+          let g = rw (ne_eqb n 0 nz) at h in
           (omega arith, omega (arith, slice_get_within es (n - 1) x g), λ d. get_or_from_slice_get es (n - 1) x d g)
     ]
 
 pub entry_at : (es : List Entry) (n : ℕ) (d : Entry) → 0 < n → n ≤ length es → entry es n ≡ Some (get_or es (n - 1) d)
-entry_at es n d some most =
-    ap (λ b. let o : Option Entry = if b then None else slice_get es (n - 1) in o) (ne_eqb n 0 (λ z. absurd (omega arith)))
-    ∙ slice_get-get_or es (n - 1) d (omega arith)
+entry_at es n d some most = rw (ne_eqb n 0 (omega arith)) (slice_get-get_or es (n - 1) d (omega arith))
 
 -- paths of nodes
 
@@ -47,14 +44,13 @@ abbrev pub names_past : List Entry → ℕ → Option Entry → List (List ℕ)
 names_past es f o = elim o [ None ↦ [] | Some e ↦ names_in es f e.parent ++ e.name ∷ [] ]
 
 -- without case the names are the path
-raised_past : (es : List Entry) (f : ℕ) (o : Option Entry) → ((n : ℕ) → map uppers (names_in es f n) ≡ path_in es f n)
-    → map uppers (names_past es f o) ≡ path_past es f o
-raised_past es f None h = refl
-raised_past es f (Some e) h = map-append uppers (names_in es f e.parent) (e.name ∷ []) ∙ ap (λ path. path ++ uppers e.name ∷ []) (h e.parent)
-
 pub raised_names : (es : List Entry) (f n : ℕ) → map uppers (names_in es f n) ≡ path_in es f n
 raised_names es zero n = refl
-raised_names es (suc f) n = raised_past es f (entry es n) (raised_names es f)
+raised_names es (suc f) n =
+    elim (entry es n) as (λ o. map uppers (names_past es f o) ≡ path_past es f o) [
+      | None ↦ refl
+      | Some e ↦ rw (map-append uppers (names_in es f e.parent) (e.name ∷ []), raised_names es f e.parent)
+    ]
 
 -- the names do not hang on how many are asked for, where those are enough
 fuel_past : (es : List Entry) (f g : ℕ) (o : Option Entry)
@@ -68,9 +64,8 @@ names_fuel es zero (suc g) n t a b = let none : 0 ≡ n = omega arith in ap (λ 
 names_fuel es (suc f) zero n t a b = let none : n ≡ 0 = omega arith in ap (λ v. names_past es f (entry es v)) none
 names_fuel es (suc f) (suc g) n t a b = fuel_past es f g (entry es n) (λ e h.
     let says = entry_says es n e h in
-    let small : (get_or es (n - 1) e).parent ≤ n - 1 = t.parents (n - 1) e (omega (arith, says.0, says.1)) in
-    let same : (get_or es (n - 1) e).parent ≡ e.parent = ap (λ x. x.parent) (says.2 e) in
-    names_fuel es f g e.parent t (omega (arith, small, same, says.0)) (omega (arith, small, same, says.0)))
+    let small = rw (says.2 e) at (t.parents (n - 1) e (omega (arith, says.0, says.1))) in
+    names_fuel es f g e.parent t (omega (arith, small, says.0)) (omega (arith, small, says.0)))
 
 fuel : (es : List Entry) (f g n : ℕ) → IsTree es → n ≤ f → n ≤ g → path_in es f n ≡ path_in es g n
 fuel es f g n t a b = sym (raised_names es f n) ∙ (ap (map uppers) (names_fuel es f g n t a b) ∙ raised_names es g n)
@@ -78,37 +73,25 @@ fuel es f g n t a b = sym (raised_names es f n) ∙ (ap (map uppers) (names_fuel
 child_path : (es : List Entry) (p : ℕ) (x : List ℕ) (k : ℕ) (d : Entry) → IsTree es → child es p x ≡ Some k → path_of es k ≡ path_of es p ++ uppers x ∷ []
 child_path es p x k d t h =
     let found = found_is es p x k d h in
-    let some : 0 < k = found.0 in
-    let most : k ≤ length es = found.1 in
     let says = child_says p x (get_or es (k - 1) d) found.2 in
-    let small : (get_or es (k - 1) d).parent ≤ k - 1 = t.parents (k - 1) d (omega arith) in
-    let back : k ≡ suc (k - 1) = omega arith in
+    let small = t.parents (k - 1) d (omega (arith, found.0, found.1)) in
+    let back : k ≡ suc (k - 1) = omega (arith, found.0) in
     ap (λ v. path_in es v k) back
-    ∙ (ap (path_past es (k - 1)) (entry_at es k d some most)
-    ∙ (ap (λ q. path_in es (k - 1) q ++ uppers (get_or es (k - 1) d).name ∷ []) says.0
-    ∙ (ap (λ y. path_in es (k - 1) p ++ y ∷ []) says.1
-    ∙ ap (λ zs. zs ++ uppers x ∷ []) (fuel es (k - 1) p p t (omega (arith, small, says.0)) (omega arith)))))
+    ∙ (ap (path_past es (k - 1)) (entry_at es k d found.0 found.1)
+    ∙ rw (says.0, says.1, fuel es (k - 1) p p t (omega (arith, small, says.0)) (omega arith)) refl)
 
 -- a path leads to the node whose path it is
-led_past : (es : List Entry) (p m : ℕ) (x : List ℕ) (xs : List (List ℕ)) (d : Entry) (o : Option ℕ) → IsTree es → child es p x ≡ o
-    → then_find es xs o ≡ Some m → ((k : ℕ) → find_from es k xs ≡ Some m → path_of es m ≡ path_of es k ++ map uppers xs)
-    → path_of es m ≡ path_of es p ++ (uppers x ∷ map uppers xs)
-led_past es p m x xs d None t h g ih = cc
-led_past es p m x xs d (Some k) t h g ih =
-    ih k g ∙ (ap (λ zs. zs ++ map uppers xs) (child_path es p x k d t h) ∙ append_assoc (path_of es p) (uppers x ∷ []) (map uppers xs))
-
 pub led : (es : List Entry) (p m : ℕ) (q : List (List ℕ)) (d : Entry) → IsTree es → find_from es p q ≡ Some m → path_of es m ≡ path_of es p ++ map uppers q
-led es p m [] d t h = let same : m ≡ p = cc in ap (path_of es) same ∙ sym (append-nil (path_of es p))
-led es p m (x ∷ xs) d t h = led_past es p m x xs d (child es p x) t refl h (λ k g. led es k m xs d t g)
+led es p m [] d t h = let same : m ≡ p = cc in rw same (sym (append-nil (path_of es p)))
+led es p m (x ∷ xs) d t h =
+    (elim (child es p x) as (λ o. child es p x ≡ o → then_find es xs o ≡ Some m → path_of es m ≡ path_of es p ++ (uppers x ∷ map uppers xs)) [
+      | None ↦ λ _ g. cc
+      | Some k ↦ λ is g. rw (led es k m xs d t g, child_path es p x k d t is) (append_assoc (path_of es p) (uppers x ∷ []) (map uppers xs))
+    ]) refl h
 
 -- names count without their case
 child_uppers : (es : List Entry) (p : ℕ) (x y : List ℕ) → uppers x ≡ uppers y → child es p x ≡ child es p y
 child_uppers es p x y h = ap (λ u. option_map (λ i. i + 1) (position (λ e. (e.parent == p) && bytes_eq (uppers e.name) u) es)) h
-
-same_then : (es : List Entry) (xs ys : List (List ℕ)) (o : Option ℕ) → ((k : ℕ) → find_from es k xs ≡ find_from es k ys)
-    → then_find es xs o ≡ then_find es ys o
-same_then es xs ys None h = refl
-same_then es xs ys (Some k) h = h k
 
 pub find_uppers : (es : List Entry) (p : ℕ) (a b : List (List ℕ)) → map uppers a ≡ map uppers b → find_from es p a ≡ find_from es p b
 find_uppers es p [] [] h = refl
@@ -117,101 +100,84 @@ find_uppers es p (x ∷ xs) [] h = cc
 find_uppers es p (x ∷ xs) (y ∷ ys) h =
     let one : uppers x ≡ uppers y = cc in
     let rest : map uppers xs ≡ map uppers ys = cc in
-    ap (then_find es xs) (child_uppers es p x y one) ∙ same_then es xs ys (child es p y) (λ k. find_uppers es k xs ys rest)
-
-snoc_past : (es : List Entry) (m : ℕ) (ys : List (List ℕ)) (x : List ℕ) (o : Option ℕ) → then_find es ys o ≡ Some m
-    → ((k : ℕ) → find_from es k ys ≡ Some m → find_from es k (ys ++ x ∷ []) ≡ then_find es [] (child es m x))
-    → then_find es (ys ++ x ∷ []) o ≡ then_find es [] (child es m x)
-snoc_past es m ys x None h ih = cc
-snoc_past es m ys x (Some k) h ih = ih k h
+    ap (then_find es xs) (child_uppers es p x y one)
+    ∙ elim (child es p y) as (λ o. then_find es xs o ≡ then_find es ys o) [ None ↦ refl | Some k ↦ find_uppers es k xs ys rest ]
 
 pub find_snoc : (es : List Entry) (p m : ℕ) (a : List (List ℕ)) (x : List ℕ) → find_from es p a ≡ Some m
     → find_from es p (a ++ x ∷ []) ≡ then_find es [] (child es m x)
-find_snoc es p m [] x h = let same : p ≡ m = cc in ap (λ v. then_find es [] (child es v x)) same
-find_snoc es p m (y ∷ ys) x h = snoc_past es m ys x (child es p y) h (λ k g. find_snoc es k m ys x g)
-
--- the laws
-
--- the path of the new entry leads to it, in whatever case
-pub found_new : (es : List Entry) (e : Entry) (parents q : List (List ℕ)) → IsTree es → MayAdd es e → find es parents ≡ Some e.parent
-    → map uppers q ≡ map uppers (parents ++ e.name ∷ []) → find (added es e) q ≡ Some (place es (rank e) + 1)
-found_new es e parents q t may to same =
-    let n : ℕ = place es (rank e) + 1 in
-    let root : moved n 0 ≡ 0 = moved_below n 0 (omega arith) in
-    let there : find (added es e) parents ≡ Some e.parent =
-    ap (λ v. find_from (added es e) v parents) (sym root)
-    ∙ (elim (leads es e 0 parents t may) [
-      | inl h ↦ h ∙ (ap (option_map (moved n)) to ∙ ap Some (parent_stays es e t may.parent))
-      | inr g ↦ let no_way : None ≡ Some e.parent = sym g.old ∙ to in cc
-    ]) in
-    find_uppers (added es e) 0 q (parents ++ e.name ∷ []) same
-    ∙ (find_snoc (added es e) 0 e.parent parents e.name there ∙ ap (then_find (added es e) []) (child_new es e e.name t may refl))
-
-pub content_new : (es : List Entry) (e : Entry) (parents q : List (List ℕ)) → IsTree es → MayAdd es e → find es parents ≡ Some e.parent
-    → map uppers q ≡ map uppers (parents ++ e.name ∷ []) → content_at (added es e) q ≡ Some (content e)
-content_new es e parents q t may to same =
-    let n : ℕ = place es (rank e) + 1 in
-    let at : n - 1 ≡ place es (rank e) = omega arith in
-    ap (option_and_then (λ m. option_map content (entry (added es e) m))) (found_new es e parents q t may to same)
-    ∙ (ap (option_map content) (entry_at (added es e) n e (omega arith) (omega (arith, length_added es e t, place_le es (rank e))))
-    ∙ ap (λ x. Some (content x)) (ap (λ v. get_or (added es e) v e) at ∙ at_place es e e t))
-
-entry_none : (es : List Entry) (n : ℕ) → length es < n → entry es n ≡ None
-entry_none es n h =
-    ap (λ b. let o : Option Entry = if b then None else slice_get es (n - 1) in o) (ne_eqb n 0 (λ z. absurd (omega arith)))
-    ∙ slice_get_past es (n - 1) (omega arith)
+find_snoc es p m [] x h = let same : p ≡ m = cc in rw same
+find_snoc es p m (y ∷ ys) x h =
+    (elim (child es p y) as (λ o. then_find es ys o ≡ Some m → then_find es (ys ++ x ∷ []) o ≡ then_find es [] (child es m x)) [
+      | None ↦ λ g. cc
+      | Some k ↦ λ g. find_snoc es k m ys x g
+    ]) h
 
 -- an entry is told as before under its new number
+entry_none : (es : List Entry) (n : ℕ) → length es < n → entry es n ≡ None
+entry_none es n h = rw (ne_eqb n 0 (omega arith)) (slice_get_past es (n - 1) (omega arith))
+
 same_content : (es : List Entry) (e : Entry) (m : ℕ) → IsTree es
     → option_map content (entry (added es e) (moved (place es (rank e) + 1) m)) ≡ option_map content (entry es m)
 same_content es e m t =
     let n : ℕ = place es (rank e) + 1 in
-    let le : place es (rank e) ≤ length es = place_le es (rank e) in
-    let long : length (added es e) ≡ length es + 1 = length_added es e t in
-    let up : m ≤ moved n m = moved_up n m in
-    let near : moved n m ≤ m + 1 = moved_near n m in
+    let long = length_added es e t in
+    let near = moved_near n m in
     elim (cases_eq m 0) [
-      | inl z ↦
-          ap (λ v. option_map content (entry (added es e) (moved n v))) z
-          ∙ (ap (λ v. option_map content (entry (added es e) v)) (moved_below n 0 (omega arith)) ∙ sym (ap (λ v. option_map content (entry es v)) z))
+      | inl z ↦ rw (z, moved_below n 0 (omega arith))
       | inr nz ↦
           elim (cases_lt (length es) m) [
             | inl past ↦
-                ap (option_map content) (entry_none (added es e) (moved n m) (omega (arith, moved_above n m (omega arith))))
-                ∙ sym (ap (option_map content) (entry_none es m past))
+                let up = moved_above n m (omega (arith, place_le es (rank e))) in
+                rw (entry_none (added es e) (moved n m) (omega (arith, up)), entry_none es m past)
             | inr within ↦
-                ap (option_map content) (entry_at (added es e) (moved n m) e (omega arith) (omega arith))
-                ∙ (ap (λ x. Some (content x)) (new_get es e m e t (omega arith) within)
-                ∙ sym (ap (option_map content) (entry_at es m e (omega arith) within)))
+                rw (
+                  entry_at (added es e) (moved n m) e (omega (arith, moved_up n m)) (omega arith),
+                  new_get es e m e t (omega arith) within,
+                  entry_at es m e (omega arith) within,
+                )
           ]
     ]
 
-content_there : (es : List Entry) (e : Entry) (o : Option ℕ) → IsTree es
-    → option_and_then (λ m. option_map content (entry (added es e) m)) (option_map (moved (place es (rank e) + 1)) o)
-    ≡ option_and_then (λ m. option_map content (entry es m)) o
-content_there es e None t = refl
-content_there es e (Some m) t = same_content es e m t
+-- the laws
+module _ {es : List Entry} {e : Entry} (parents q : List (List ℕ)) (t : IsTree es) (may : MayAdd es e) (to : find es parents ≡ Some e.parent) where
+  -- the path of the new entry leads to it, in whatever case
+  found_new : map uppers q ≡ map uppers (parents ++ e.name ∷ []) → find (added es e) q ≡ Some (place es (rank e) + 1)
+  found_new same =
+      let n : ℕ = place es (rank e) + 1 in
+      let there : find (added es e) parents ≡ Some e.parent =
+      elim (leads es e 0 parents t may) [
+        | inl h ↦ rw (moved_below n 0 (omega arith), to, parent_stays es e t may.parent) at h
+        | inr g ↦ let no_way : None ≡ Some e.parent = sym g.old ∙ to in cc
+      ] in
+      rw (find_uppers (added es e) 0 q (parents ++ e.name ∷ []) same, find_snoc (added es e) 0 e.parent parents e.name there, child_new es e e.name t may refl)
+      refl
 
--- every other path tells what it told
-pub content_old : (es : List Entry) (e : Entry) (parents q : List (List ℕ)) → IsTree es → MayAdd es e → find es parents ≡ Some e.parent
-    → map uppers q ≢ map uppers (parents ++ e.name ∷ []) → content_at (added es e) q ≡ content_at es q
-content_old es e parents q t may to other =
-    let n : ℕ = place es (rank e) + 1 in
-    let root : moved n 0 ≡ 0 = moved_below n 0 (omega arith) in
-    elim (leads es e 0 q t may) [
-      | inl h ↦
-          ap (λ v. option_and_then (λ m. option_map content (entry (added es e) m)) (find_from (added es e) v q)) (sym root)
-          ∙ (ap (option_and_then (λ m. option_map content (entry (added es e) m))) h ∙ content_there es e (find es q) t)
-      | inr g ↦
-          let a : path_of es e.parent ≡ map uppers parents = led es 0 e.parent parents e t to in
-          let b : path_of es e.parent ≡ map uppers g.front = led es 0 e.parent g.front e t g.leads in
-          let same : map uppers q ≡ map uppers (parents ++ e.name ∷ []) =
-          ap (map uppers) g.is
-          ∙ (map-append uppers g.front (g.last ∷ [])
-          ∙ (ap (λ zs. zs ++ uppers g.last ∷ []) (sym b ∙ a)
-          ∙ (ap (λ y. map uppers parents ++ y ∷ []) (sym g.same) ∙ sym (map-append uppers parents (e.name ∷ []))))) in
-          absurd (other same)
-    ]
+  content_new : map uppers q ≡ map uppers (parents ++ e.name ∷ []) → content_at (added es e) q ≡ Some (content e)
+  content_new same =
+      let n : ℕ = place es (rank e) + 1 in
+      let at : n - 1 ≡ place es (rank e) = omega arith in
+      rw (found_new same, entry_at (added es e) n e (omega arith) (omega (arith, length_added es e t, place_le es (rank e))), at, at_place es e e t)
+
+  -- every other path tells what it told
+  content_old : map uppers q ≢ map uppers (parents ++ e.name ∷ []) → content_at (added es e) q ≡ content_at es q
+  content_old other =
+      let n : ℕ = place es (rank e) + 1 in
+      elim (leads es e 0 q t may) [
+        | inl h ↦
+            let leads_on = rw (moved_below n 0 (omega arith)) at h in
+            rw leads_on
+            (elim (find es q) as (λ o. option_and_then (λ m. option_map content (entry (added es e) m)) (option_map (moved n) o)
+            ≡ option_and_then (λ m. option_map content (entry es m)) o) [ None ↦ refl | Some m ↦ same_content es e m t ])
+        | inr g ↦
+            absurd (other (ap (map uppers) g.is
+            ∙ rw (
+              map-append uppers g.front (g.last ∷ []),
+              map-append uppers parents (e.name ∷ []),
+              g.same,
+              ← led es 0 e.parent g.front e t g.leads,
+              led es 0 e.parent parents e t to,
+            ) refl))
+      ]
 
 pub directory_found : (es : List Entry) (p : ℕ) (names : List (List ℕ)) (q : ℕ) → directory_from es p names ≡ Ok q → find_from es p names ≡ Some q
 directory_found es p [] q h = let same : p ≡ q = cc in ap Some same
@@ -225,14 +191,13 @@ adds_one es e parents path t room is =
     let may : MayAdd es e = room_may_add es e parents room in
     let to : find_from es 0 parents ≡ Some e.parent = directory_found es 0 parents e.parent (room_says es e (directory_from es 0 parents) room).0 in
     record {
-      there = λ q h. content_new es e parents q t may to (h ∙ ap (map uppers) is);
-      others = λ q h. content_old es e parents q t may to (λ g. h (g ∙ sym (ap (map uppers) is)));
+      there = λ q h. content_new parents q t may to (h ∙ ap (map uppers) is);
+      others = λ q h. content_old parents q t may to (λ g. h (g ∙ sym (ap (map uppers) is)));
       chains = λ p s. chain_added es e p s t may.parent;
     }
 
 pub added_paths : (r : Result (Unit {0}) AddFault) (es new : List Entry) (e : Entry) (path : List (List ℕ)) (meta : Meta) (body : Body) → IsTree es
     → IsNew es path meta body e → new ≡ (if is_ok r then added es e else es) → OnOk r (AddsOne es new (new_entry es path meta body) path)
 added_paths (Ok u) es new e path meta body t fresh h =
-    subst (λ (x : Entry). AddsOne es new x path) fresh.entry
-    (subst (λ xs. AddsOne es xs e path) (sym h) (adds_one es e (parents_of path) path t fresh.room fresh.is))
+    rw (h, ← fresh.entry) (adds_one es e (parents_of path) path t fresh.room fresh.is)
 added_paths (Err f) es new e path meta body t fresh h = tt

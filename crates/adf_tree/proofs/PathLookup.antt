@@ -13,9 +13,6 @@ use Rattle.adf_tree.proofs.ChildLookup.{child_new, child_of_new, child_other, ch
 abbrev pub then_find : List Entry → List (List ℕ) → Option ℕ → Option ℕ
 then_find es names o = elim o [ None ↦ None | Some n ↦ find_from es n names ]
 
-pub step : (es : List Entry) (p : ℕ) (x : List ℕ) (xs : List (List ℕ)) (o : Option ℕ) → child es p x ≡ o → find_from es p (x ∷ xs) ≡ then_find es xs o
-step es p x xs o h = ap (then_find es xs) h
-
 -- a path goes to the new entry: its names before the last lead to the parent, and the last one is its name
 pub record GoesToNew (es : List Entry) (e : Entry) (p : ℕ) (q : List (List ℕ)) : Type 0 where
   pub front : List (List ℕ)
@@ -40,9 +37,7 @@ nothing_yet es e p x may here same =
 
 new_there : (es : List Entry) (e : Entry) (p : ℕ) (x : List ℕ) → IsTree es → MayAdd es e → p ≡ e.parent → uppers e.name ≡ uppers x
     → child (added es e) (moved (place es (rank e) + 1) p) x ≡ Some (place es (rank e) + 1)
-new_there es e p x t may here same =
-    let n : ℕ = place es (rank e) + 1 in
-    ap (λ v. child (added es e) v x) (ap (moved n) here ∙ parent_stays es e t may.parent) ∙ child_new es e x t may same
+new_there es e p x t may here same = rw (here, parent_stays es e t may.parent) (child_new es e x t may same)
 
 at_new : (es : List Entry) (e : Entry) (p : ℕ) (x : List ℕ) (xs : List (List ℕ)) → IsTree es → MayAdd es e → p ≡ e.parent → uppers e.name ≡ uppers x
     → Leads es e p (x ∷ xs)
@@ -57,42 +52,33 @@ at_new es e p x [] t may here same =
       old = ap (then_find es []) (nothing_yet es e p x may here same);
     })
 at_new es e p x (y ∷ ys) t may here same =
-    let n : ℕ = place es (rank e) + 1 in
     inl
     (ap (then_find (added es e) (y ∷ ys)) (new_there es e p x t may here same)
     ∙ (ap (then_find (added es e) ys) (child_of_new es e y t may.parent)
-    ∙ sym (ap (λ o. option_map (moved n) (then_find es (y ∷ ys) o)) (nothing_yet es e p x may here same))))
-
--- past a name that is found as before
-past_old : (es : List Entry) (e : Entry) (p : ℕ) (x : List ℕ) (xs : List (List ℕ)) (o : Option ℕ) → child es p x ≡ o
-    → child (added es e) (moved (place es (rank e) + 1) p) x ≡ option_map (moved (place es (rank e) + 1)) o → ((m : ℕ) → Leads es e m xs)
-    → Leads es e p (x ∷ xs)
-past_old es e p x xs None was now ih =
-    let n : ℕ = place es (rank e) + 1 in
-    inl (step (added es e) (moved n p) x xs None now ∙ sym (ap (option_map (moved n)) (step es p x xs None was)))
-past_old es e p x xs (Some m) was now ih =
-    let n : ℕ = place es (rank e) + 1 in
-    let a : find_from (added es e) (moved n p) (x ∷ xs) ≡ find_from (added es e) (moved n m) xs = step (added es e) (moved n p) x xs (Some (moved n m)) now in
-    let b : find_from es p (x ∷ xs) ≡ find_from es m xs = step es p x xs (Some m) was in
-    elim (ih m) [
-      | inl h ↦ inl (a ∙ (h ∙ sym (ap (option_map (moved n)) b)))
-      | inr g ↦ inr (record {
-        front = x ∷ g.front;
-        last = g.last;
-        is = ap (λ zs. x ∷ zs) g.is;
-        leads = step es p x g.front (Some m) was ∙ g.leads;
-        same =
-            g.same;
-        new = a ∙ g.new;
-        old = b ∙ g.old;
-      })
-    ]
+    ∙ sym (ap (λ o. option_map (moved (place es (rank e) + 1)) (then_find es (y ∷ ys) o)) (nothing_yet es e p x may here same))))
 
 pub leads : (es : List Entry) (e : Entry) (p : ℕ) (q : List (List ℕ)) → IsTree es → MayAdd es e → Leads es e p q
 leads es e p [] t may = inl refl
 leads es e p (x ∷ xs) t may =
     let go : (p ≡ e.parent → uppers e.name ≢ uppers x) → Leads es e p (x ∷ xs) =
-    λ other. past_old es e p x xs (child es p x) refl (child_other es e p x t may other) (λ m. leads es e m xs t may) in
+    λ other.
+    let n : ℕ = place es (rank e) + 1 in
+    (elim (child es p x) as (λ o. child es p x ≡ o → child (added es e) (moved n p) x ≡ option_map (moved n) o → Leads es e p (x ∷ xs)) [
+      | None ↦ λ was at. inl (ap (then_find (added es e) xs) at ∙ sym (ap (λ o. option_map (moved n) (then_find es xs o)) was))
+      | Some m ↦ λ was at.
+          elim (leads es e m xs t may) [
+            | inl h ↦ inl (ap (then_find (added es e) xs) at ∙ (h ∙ sym (ap (λ o. option_map (moved n) (then_find es xs o)) was)))
+            | inr g ↦ inr (record {
+              front = x ∷ g.front;
+              last = g.last;
+              is = ap (λ zs. x ∷ zs) g.is;
+              leads = ap (then_find es g.front) was ∙ g.leads;
+              same = g.same;
+              new = ap (then_find (added es e) xs) at ∙ g.new;
+              old = ap (then_find es xs) was ∙ g.old;
+            })
+          ]
+    ]) refl (child_other es e p x t may other) in
     elim (cases_eq p e.parent) [
       | inr far ↦ go (λ h. absurd (far h))
       | inl here ↦

@@ -1,5 +1,5 @@
 -- A tree stays one when an entry is added: its numbers, its order, its directories and its names.
-use Rattle.std.proofs.Common.{◌≡◌, ℕ, ◌+◌, ◌-◌, ◌*◌, ◌<◌, ◌≤◌, inl, inr, List, ◌∷◌, ◌++◌, length, get_or, take, drop, map, arith, nat_lt, sym, ◌∙◌, ap, subst}
+use Rattle.std.proofs.Common.{◌≡◌, ℕ, ◌+◌, ◌-◌, ◌*◌, ◌<◌, ◌≤◌, inl, inr, List, length, get_or, take, map, arith, nat_lt, sym, ◌∙◌, ap}
 use Rattle.std.proofs.Common.{not}
 use Rattle.std.specs.List.{AllPairs, insert, drop-map}
 use Rattle.std.specs.List.Sorted.{IsNonDecreasingBy}
@@ -42,7 +42,7 @@ rank_rises : (n p q s t : ℕ) → s < 72 → t < 72 → 72 * p + s ≤ 72 * q +
 rank_rises n p q s t hs ht h = grind (arith, nat_tests)
 
 rank_grows : (n : ℕ) (e : Entry) → rank e ≤ rank (renumbered n e)
-rank_grows n e = let h = moved_up n e.parent in omega arith
+rank_grows n e = omega (arith, moved_up n e.parent)
 
 renumbered_rises : (n : ℕ) (e f : Entry) → rank e ≤ rank f → rank (renumbered n e) ≤ rank (renumbered n f)
 renumbered_rises n e f h = rank_rises n e.parent f.parent (slot_of e.name) (slot_of f.name) (slot_small e.name) (slot_small f.name) h
@@ -59,10 +59,8 @@ before es r k d lt = ltb-false r (rank (get_or es k d)) (fails_before_first (λ 
 -- the entries from the place on have a greater one
 pub after : (es : List Entry) (r k : ℕ) (d : Entry) → IsNonDecreasingBy rank es → place es r ≤ k → k < length es → r < rank (get_or es k d)
 after es r k d up le short =
-    let first : r < rank (get_or es (place es r) d) =
-    ltb-true r (rank (get_or es (place es r) d)) (passes_at_first (λ e. nat_lt r (rank e)) es d (omega arith)) in
-    let more : rank (get_or es (place es r) d) ≤ rank (get_or es k d) = up (place es r) k d le short in
-    omega (arith, first, more)
+    let first = ltb-true r (rank (get_or es (place es r) d)) (passes_at_first (λ e. nat_lt r (rank e)) es d (omega arith)) in
+    omega (arith, first, up (place es r) k d le short)
 
 -- a directory stands before the place of its children
 pub dir_before : (es : List Entry) (e : Entry) → IsTree es → IsDir es e.parent → e.parent ≤ place es (rank e)
@@ -70,81 +68,53 @@ dir_before es e t dir =
     elim (cases_lt (place es (rank e)) e.parent) [
       | inr le ↦ le
       | inl lt ↦
-          let p : e.parent ≤ length es = (dir (omega arith)).0 in
-          let late : rank e < rank (get_or es (e.parent - 1) e) = after es (rank e) (e.parent - 1) e t.order (omega arith) (omega arith) in
-          let early : (get_or es (e.parent - 1) e).parent ≤ e.parent - 1 = t.parents (e.parent - 1) e (omega arith) in
-          let small : slot_of (get_or es (e.parent - 1) e).name < 72 = slot_small (get_or es (e.parent - 1) e).name in
-          absurd (omega arith)
+          let p = (dir (omega arith)).0 in
+          let late = after es (rank e) (e.parent - 1) e t.order (omega arith) (omega arith) in
+          absurd (omega (arith, late, t.parents (e.parent - 1) e (omega arith), slot_small (get_or es (e.parent - 1) e).name))
     ]
 
 -- the entries before the place keep their parents
 pub fixed : (es : List Entry) (i k : ℕ) (d : Entry) → IsTree es → i ≤ length es → k < i → renumbered (i + 1) (get_or es k d) ≡ get_or es k d
-fixed es i k d t le lt =
-    let small : (get_or es k d).parent ≤ k = t.parents k d (omega arith) in
-    ap (λ p. let x : Entry = record (get_or es k d) { parent = p } in x) (moved_below (i + 1) (get_or es k d).parent (omega arith))
+fixed es i k d t le lt = rw (moved_below (i + 1) (get_or es k d).parent (omega (arith, t.parents k d (omega arith))))
 
 fixed_front : (es : List Entry) (i : ℕ) → IsTree es → i ≤ length es → map (renumbered (i + 1)) (take i es) ≡ take i es
 fixed_front es i t le =
-    let n : length (take i es) ≡ i = length-take-le i es le in
-    map_fixed (renumbered (i + 1)) (take i es)
-    (λ k d lt. subst (λ (x : Entry). renumbered (i + 1) x ≡ x) (sym (get_or-take i es k d (omega arith))) (fixed es i k d t le (omega arith)))
+    let n = length-take-le i es le in
+    map_fixed (renumbered (i + 1)) (take i es) (λ k d lt. rw (get_or-take i es k d (omega arith)) (fixed es i k d t le (omega arith)))
 
 -- so all may be renumbered
 pub added_is : (es : List Entry) (e : Entry) → IsTree es → added es e ≡ insert (map (renumbered (place es (rank e) + 1)) es) (place es (rank e)) e
 added_is es e t =
     let i : ℕ = place es (rank e) in
-    let f : Entry → Entry = renumbered (i + 1) in
-    let front : take i (map f es) ≡ take i es = take-map f i es ∙ fixed_front es i t (place_le es (rank e)) in
-    sym (ap (λ xs. xs ++ e ∷ drop i (map f es)) front ∙ ap (λ xs. take i es ++ e ∷ xs) (drop-map f i es))
+    rw (take-map (renumbered (i + 1)) i es, drop-map (renumbered (i + 1)) i es, fixed_front es i t (place_le es (rank e)))
 
 -- the new list
 
 pub length_added : (es : List Entry) (e : Entry) → IsTree es → length (added es e) ≡ length es + 1
 length_added es e t =
     let i : ℕ = place es (rank e) in
-    let f : Entry → Entry = renumbered (i + 1) in
-    let m : length (map f es) ≡ length es = length-map es f in
-    ap length (added_is es e t) ∙ (length-insert (map f es) i e (omega (arith, place_le es (rank e), m)) ∙ ap (λ n. n + 1) m)
-
-pub at_below : (es : List Entry) (e : Entry) (k : ℕ) (d : Entry) → IsTree es → k < place es (rank e) → get_or (added es e) k d ≡ get_or es k d
-at_below es e k d t lt =
-    let i : ℕ = place es (rank e) in
-    let f : Entry → Entry = renumbered (i + 1) in
-    let le : i ≤ length es = place_le es (rank e) in
-    let m : length (map f es) ≡ length es = length-map es f in
-    ap (λ xs. get_or xs k d) (added_is es e t)
-    ∙ (get_or-insert_below (map f es) i e d k lt (omega arith)
-    ∙ (get_or-map f es k d d (omega arith) ∙ fixed es i k d t le lt))
+    let m = length-map es (renumbered (i + 1)) in
+    rw (added_is es e t, length-insert (map (renumbered (i + 1)) es) i e (omega (arith, place_le es (rank e))), m)
 
 pub at_place : (es : List Entry) (e d : Entry) → IsTree es → get_or (added es e) (place es (rank e)) d ≡ e
 at_place es e d t =
-    let i : ℕ = place es (rank e) in
-    let f : Entry → Entry = renumbered (i + 1) in
-    let m : length (map f es) ≡ length es = length-map es f in
-    ap (λ xs. get_or xs i d) (added_is es e t) ∙ get_or-insert_at (map f es) i e d (omega (arith, place_le es (rank e), m))
-
-pub at_above : (es : List Entry) (e : Entry) (k : ℕ) (d : Entry) → IsTree es → place es (rank e) ≤ k → k < length es
-    → get_or (added es e) (k + 1) d ≡ renumbered (place es (rank e) + 1) (get_or es k d)
-at_above es e k d t le lt =
-    let i : ℕ = place es (rank e) in
-    let f : Entry → Entry = renumbered (i + 1) in
-    let m : length (map f es) ≡ length es = length-map es f in
-    ap (λ xs. get_or xs (k + 1) d) (added_is es e t)
-    ∙ (get_or-insert_above (map f es) i e d k le (omega (arith, place_le es (rank e), m))
-    ∙ get_or-map f es k d d lt)
+    let f : Entry → Entry = renumbered (place es (rank e) + 1) in
+    rw (added_is es e t) (get_or-insert_at (map f es) (place es (rank e)) e d (omega (arith, place_le es (rank e), length-map es f)))
 
 -- the old entries stand under their new numbers
 pub new_get : (es : List Entry) (e : Entry) (m : ℕ) (d : Entry) → IsTree es → 0 < m → m ≤ length es
     → get_or (added es e) (moved (place es (rank e) + 1) m - 1) d ≡ renumbered (place es (rank e) + 1) (get_or es (m - 1) d)
 new_get es e m d t some le =
     let i : ℕ = place es (rank e) in
+    let f : Entry → Entry = renumbered (i + 1) in
+    let short : i ≤ length (map f es) = omega (arith, place_le es (rank e), length-map es f) in
     elim (cases_lt (m - 1) i) [
       | inl below ↦
           let at : moved (i + 1) m - 1 ≡ m - 1 = omega (arith, moved_below (i + 1) m (omega arith)) in
-          ap (λ v. get_or (added es e) v d) at ∙ (at_below es e (m - 1) d t below ∙ sym (fixed es i (m - 1) d t (place_le es (rank e)) below))
+          rw (at, added_is es e t, get_or-insert_below (map f es) i e d (m - 1) below short) (get_or-map f es (m - 1) d d (omega arith))
       | inr past ↦
           let at : moved (i + 1) m - 1 ≡ m - 1 + 1 = omega (arith, moved_above (i + 1) m (omega arith)) in
-          ap (λ v. get_or (added es e) v d) at ∙ at_above es e (m - 1) d t past (omega arith)
+          rw (at, added_is es e t, get_or-insert_above (map f es) i e d (m - 1) past short) (get_or-map f es (m - 1) d d (omega arith))
     ]
 
 -- what an entry of the new list is: the new one, or an old one under its new number
@@ -153,13 +123,12 @@ pub by_case : (es : List Entry) (e : Entry) (d : Entry) (P : ℕ → Entry → T
     → (k : ℕ) → k < length (added es e) → P k (get_or (added es e) k d)
 by_case es e d P t new old k lt =
     let i : ℕ = place es (rank e) in
-    let le : i ≤ length es = place_le es (rank e) in
-    let long : length (added es e) ≡ length es + 1 = length_added es e t in
+    let le = place_le es (rank e) in
+    let long = length_added es e t in
     let here : (m : ℕ) → 0 < m → m ≤ length es → moved (i + 1) m - 1 ≡ k → P k (get_or (added es e) k d) =
-    λ m some most at. subst (λ j. P j (get_or (added es e) j d)) at
-    (subst (λ (x : Entry). P (moved (i + 1) m - 1) x) (sym (new_get es e m d t some most)) (old m some most)) in
+    λ m some most at. rw (← at, new_get es e m d t some most) (old m some most) in
     elim (cases_order k i) [
-      | inl same ↦ subst (λ j. P j (get_or (added es e) j d)) (sym same) (subst (λ (x : Entry). P i x) (sym (at_place es e d t)) new)
+      | inl same ↦ rw (same, at_place es e d t) new
       | inr (inl below) ↦ here (k + 1) (omega arith) (omega arith) (omega (arith, moved_below (i + 1) (k + 1) (omega arith)))
       | inr (inr past) ↦ here k (omega arith) (omega arith) (omega (arith, moved_above (i + 1) k (omega arith)))
     ]
@@ -168,22 +137,19 @@ by_case es e d P t new old k lt =
 dir_kept : (es : List Entry) (e : Entry) (p : ℕ) → IsTree es → IsDir es p → IsDir (added es e) (moved (place es (rank e) + 1) p)
 dir_kept es e p t dir some =
     let n : ℕ = place es (rank e) + 1 in
-    let long : length (added es e) ≡ length es + 1 = length_added es e t in
     let was : 0 < p = elim (cases_lt 0 p) [ inl lt ↦ lt | inr none ↦ absurd (omega (arith, moved_below n p (omega arith))) ] in
-    let at : p ≤ length es = (dir was).0 in
-    let near : moved n p ≤ p + 1 = moved_near n p in
-    (omega arith, λ d. ap (λ (x : Entry). x.body) (new_get es e p d t was at) ∙ (dir was).1 d)
+    let at = (dir was).0 in
+    (omega (arith, moved_near n p, length_added es e t), λ d. rw (new_get es e p d t was at) ((dir was).1 d))
 
 kept_parent : (es : List Entry) (e : Entry) (k : ℕ) (d : Entry) → IsTree es → IsDir es e.parent → k < length (added es e)
     → ((get_or (added es e) k d).parent ≤ k) × IsDir (added es e) (get_or (added es e) k d).parent
 kept_parent es e k d t dir lt =
     let n : ℕ = place es (rank e) + 1 in
-    let early : e.parent ≤ place es (rank e) = dir_before es e t dir in
+    let early = dir_before es e t dir in
     by_case es e d (λ j x. (x.parent ≤ j) × IsDir (added es e) x.parent) t
-    (early, subst (λ q. IsDir (added es e) q) (moved_below n e.parent (omega arith)) (dir_kept es e e.parent t dir))
+    (early, rw (moved_below n e.parent (omega arith)) at (dir_kept es e e.parent t dir))
     (λ m some le.
-    let small : (get_or es (m - 1) d).parent ≤ m - 1 = t.parents (m - 1) d (omega arith) in
-    let less : moved n (get_or es (m - 1) d).parent < moved n m = moved_less n (get_or es (m - 1) d).parent m (omega arith) in
+    let less = moved_less n (get_or es (m - 1) d).parent m (omega (arith, t.parents (m - 1) d (omega arith))) in
     (omega arith, dir_kept es e (get_or es (m - 1) d).parent t (t.dirs (m - 1) d (omega arith))))
     k lt
 
@@ -191,8 +157,8 @@ kept_order : (es : List Entry) (e : Entry) → IsTree es → IsNonDecreasingBy r
 kept_order es e t =
     let i : ℕ = place es (rank e) in
     let f : Entry → Entry = renumbered (i + 1) in
-    let le : i ≤ length es = place_le es (rank e) in
-    let m : length (map f es) ≡ length es = length-map es f in
+    let le = place_le es (rank e) in
+    let m = length-map es f in
     rw (added_is es e t) (IsNonDecreasingBy-insert rank (map f es) i e
     (λ a b d ab short.
     rw (get_or-map f es a d d (omega arith), get_or-map f es b d d (omega arith))
@@ -200,9 +166,7 @@ kept_order es e t =
     (omega arith)
     (λ k d lt. rw (get_or-map f es k d d (omega arith)) (omega (arith, ap rank (fixed es i k d t le lt), before es (rank e) k d lt)))
     (λ k d past short.
-    let more : rank e < rank (get_or es k d) = after es (rank e) k d t.order past (omega arith) in
-    let grows : rank (get_or es k d) ≤ rank (f (get_or es k d)) = rank_grows (i + 1) (get_or es k d) in
-    rw (get_or-map f es k d d (omega arith)) (omega (arith, more, grows))))
+    rw (get_or-map f es k d d (omega arith)) (omega (arith, after es (rank e) k d t.order past (omega arith), rank_grows (i + 1) (get_or es k d)))))
 
 earlier : (n m k : ℕ) → 0 < m → moved n m - 1 < moved n k - 1 → m - 1 < k - 1
 earlier n m k some h = grind (arith, nat_tests)
@@ -210,8 +174,7 @@ earlier n m k some h = grind (arith, nat_tests)
 kept_names : (es : List Entry) (e : Entry) → IsTree es → MayAdd es e → AllPairs AreApart (added es e)
 kept_names es e t may a b d lt short =
     let n : ℕ = place es (rank e) + 1 in
-    let early : e.parent ≤ place es (rank e) = dir_before es e t may.parent in
-    let stays : moved n e.parent ≡ e.parent = moved_below n e.parent (omega arith) in
+    let stays = moved_below n e.parent (omega (arith, dir_before es e t may.parent)) in
     let fresh : (m : ℕ) → 0 < m → m ≤ length es → AreApart (renumbered n (get_or es (m - 1) d)) e =
     λ m some le p u. may.fresh (m - 1) d (omega arith) (moved_same n (get_or es (m - 1) d).parent e.parent (p ∙ sym stays)) u in
     by_case es e d (λ j x. j < b → AreApart x (get_or (added es e) b d)) t
