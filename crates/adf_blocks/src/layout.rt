@@ -60,6 +60,9 @@ pub const PAGE_CHECKSUM: usize = 0;
 /// The first word of a bitmap page's bits.
 pub const PAGE_FIRST: usize = 1;
 
+/// The words of a bitmap page's bits.
+pub const PAGE_WORDS: usize = 127;
+
 /// The word of the root that has the number of its slots.
 pub const HASH_SIZE: usize = 3;
 

@@ -1,12 +1,12 @@
 // Pages of the bitmap, read and written.
 
 ghost use Rattle.std.specs.Prelude.{◌≡◌, ◌≤◌, ◌<◌, ◌+◌, ◌*◌, ◌-◌, ◌/◌, ◌%◌, ◌^◌, ◌↔◌, ℕ, List, length, slice_index, IsBitSet, IsTrue, None};
-ghost use Rattle.adf_fields.specs.Words.{block, with_block};
+ghost use Rattle.adf_fields.specs.Words.{block, with_block, word};
 ghost use Rattle.adf_blocks.specs.Forms.{ReadsForm, first_cause};
 ghost use Rattle.adf_blocks.specs.PageBlock.{IsFreeBit, page_block, page_form};
 
 use crate::cause::Cause;
-use crate::layout::{PAGE_BITS, PAGE_CHECKSUM, PAGE_FIRST};
+use crate::layout::{PAGE_BITS, PAGE_CHECKSUM, PAGE_FIRST, PAGE_WORDS};
 use adf_fields::{Block, put_block, put_words, seal_block};
 use std::marker::Model;
 
@@ -34,7 +34,22 @@ pub fn read_page<'a>(b: Block<'a>) -> Result<Page<'a>, Cause>
     Ok(Page { block: b })
 }
 
-impl Page<'_> {
+impl<'a> Page<'a> {
+    /// The page that a block of known form is.
+    pub fn over(block: Block<'a>) -> Page<'a>
+        ensures { result ≡ block.entry }
+    {
+        Page { block }
+    }
+
+    /// The bits of 32 blocks, the first block's lowest: words 1 to 127.
+    pub fn word(&self, i: usize) -> u32
+        requires { i < PAGE_WORDS }
+        ensures { result ≡ word self.now (PAGE_FIRST + i) }
+    {
+        self.block.word(PAGE_FIRST + i)
+    }
+
     /// Whether the block of a bit is free: bit `bit % 32`, the lowest first, of word `1 + bit / 32`.
     pub fn is_free(&self, bit: u32) -> bool
         requires { bit < PAGE_BITS }
