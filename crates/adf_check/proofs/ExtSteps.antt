@@ -1,8 +1,7 @@
 -- The steps along the extension blocks of a file.
 use Rattle.adf_check.specs.Claims.{InRange}
-use Rattle.std.proofs.Common.{◌≡◌, ◌≢◌, inl, inr, ℕ, zero, suc, List, [], ◌∷◌, ◌++◌, ◌^◌, ◌<◌, ◌≤◌, length, Bool, true, false, cond, refl, sym, ap}
+use Rattle.std.proofs.Common.{◌≡◌, ◌≢◌, inl, inr, ℕ, zero, suc, List, [], ◌∷◌, ◌++◌, ◌<◌, length, refl, sym, ap}
 use Rattle.std.proofs.Common.{subst, ◌∙◌, arith, Some, None}
-use Rattle.std.specs.Prelude.{◌==◌}
 use native.Mathlib.Decide.{dec_lt}
 use Rattle.adf_fields.specs.Words.{block, word}
 use Rattle.adf_blocks.specs.declared.cause.Cause.{Cause}
@@ -21,10 +20,8 @@ use Rattle.adf_volume.proofs.Walks.{file_is, one_block, one_head, count_own, ext
 use Rattle.adf_check.specs.Fault.{IsTrueFault, fault}
 use Rattle.adf_check.specs.Cursor.Cursor.{BeforeRole}
 use Rattle.adf_check.specs.Image.{IsBegun}
-use Rattle.adf_check.specs.Owners.{owned_count}
 use Rattle.adf_check.specs.Reading.{HasTable, IsInDatas, IsInExts, IsInNode, NextExt}
 use Rattle.adf_check.specs.Store.{Store, owner_at}
-use Rattle.adf_check.proofs.NumberBounds.{walk_short}
 use Rattle.adf_check.proofs.ClaimSteps.{IsNamed, IsStored, form_fault, read_one}
 use Rattle.adf_check.proofs.CursorMoves.{moved, enter_file, end_exts}
 
@@ -78,28 +75,6 @@ exts_end image store n h table a st = record {
       (exts_no image st.walk st.read.upto.walk n h st.extra a st.holds.file st.named));
   holds = st.holds;
 }
-
-at_most_one : (t : Bool) (m : ℕ) → cond t (suc m) m ≤ suc m
-at_most_one true m = omega arith
-at_most_one false m = omega arith
-
--- a file has no more extension blocks than the walk has members
-exts_within : (w : List (Role × ℕ)) (n : ℕ) → ext_count w n ≤ length w
-exts_within [] n = omega arith
-exts_within (x ∷ w) n = more x.0 refl (exts_within w n)
-  where
-    more : (r : Role) → x.0 ≡ r → ext_count w n ≤ length w → ext_count (x ∷ w) n ≤ suc (length w)
-    more (Ext m k) e within = subst (λ r. ext_count ((r, x.1) ∷ w) n ≤ suc (length w)) (sym e) (omega (arith, within, at_most_one (n == m) (ext_count w n)))
-    more _ e within = subst (λ r. ext_count ((r, x.1) ∷ w) n ≤ suc (length w)) (sym e) (omega (arith, within))
-
--- so the table of a file is short
-pub table_short : {image : List ℕ} {store : Store} {n h : ℕ} {table : List ℕ} {a b : ℕ} → IsBegun image → store.used ≡ owned_count store.owners
-    → IsInExts image store n h table a b → length table < 2 ^ 32
-table_short {image = image} {store = store} {n = n} {table = table} begun used st =
-    let e : length table ≡ suc (ext_count st.walk n) = st.holds.counted in
-    let within : ext_count st.walk n ≤ length st.walk = exts_within st.walk n in
-    let short = walk_short image store st.walk begun used st.read.tells in
-    omega arith
 
 -- a word of block a names block b next
 module _ {image : List ℕ} {store : Store} {n h : ℕ} {table : List ℕ} {a b : ℕ} (begun : IsBegun image) (st : IsInExts image store n h table a b)

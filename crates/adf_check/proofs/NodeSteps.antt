@@ -1,11 +1,11 @@
 -- The steps along the nodes: each is begun, and what its header names is read.
-use Rattle.std.proofs.Common.{◌≡◌, ◌≢◌, inl, inr, ℕ, zero, suc, List, [], ◌∷◌, ◌<◌, ◌≤◌, length, get_or, Some, refl, sym, ap, subst, ◌∙◌, arith}
+use Rattle.std.proofs.Common.{◌≡◌, ◌≢◌, inl, inr, ℕ, zero, suc, List, [], ◌∷◌, ◌<◌, ◌≤◌, length, get_or, refl, sym, ap, subst, ◌∙◌, arith}
 use Rattle.adf_blocks.specs.declared.layout.TheConstants.{ST_DIR}
 use Rattle.adf_blocks.specs.Sizes.{blocks}
 use Rattle.adf_volume.specs.Image.{kind_of, root_of, word_in}
 use Rattle.adf_volume.specs.Lists.{At}
-use Rattle.adf_volume.specs.Walk.{Role, Has, heads, DirAt, FileAt, IsWalk}
-use Rattle.adf_volume.specs.Walk.Role.{Root, Head, Ext, Data}
+use Rattle.adf_volume.specs.Walk.{Role, first, Has, heads, DirAt, FileAt, IsWalk}
+use Rattle.adf_volume.specs.Walk.Role.{Root, Head}
 use Rattle.adf_volume.proofs.FormDemands.{head_type}
 use Rattle.adf_volume.proofs.Lists.{at_below, at_fun, at_snoc, snoc_length}
 use Rattle.adf_volume.proofs.MemberFacts.{in_range, kept}
@@ -46,9 +46,9 @@ enter_node image store n st = record {
         | inr y ↦
             let e : n ≡ m = let z : length store.starts ≡ n = st.read.started in let z2 : m ≡ length store.starts = y.0 in omega arith in (
               ap (λ (x : Start). x.exts) (sym y.1) ∙ ap length st.read.tells.exts
-                  ∙ all_before image ext_file ext_tells st.walk n exts_low ∙ ap (blocks_before ext_file st.walk) e,
+                  ∙ all_before image ext_file ext_tells st.walk n low ∙ ap (blocks_before ext_file st.walk) e,
               ap (λ (x : Start). x.datas) (sym y.1) ∙ ap length st.read.tells.datas
-                  ∙ all_before image data_file data_tells st.walk n datas_low ∙ ap (blocks_before data_file st.walk) e,
+                  ∙ all_before image data_file data_tells st.walk n low ∙ ap (blocks_before data_file st.walk) e,
             )
       ]);
     };
@@ -57,13 +57,8 @@ enter_node image store n st = record {
   };
 }
   where
-    exts_low : (r : Role) (b m : ℕ) → Has st.walk r b → ext_file r ≡ Some m → m < n
-    exts_low (Ext q k) b m h e = let x = st.read.upto.below (Ext q k) b h in let z : q ≡ m = cc in grind (arith, x)
-    exts_low _ b m h e = cc
-
-    datas_low : (r : Role) (b m : ℕ) → Has st.walk r b → data_file r ≡ Some m → m < n
-    datas_low (Data q k) b m h e = let x = st.read.upto.below (Data q k) b h in let z : q ≡ m = cc in grind (arith, x)
-    datas_low _ b m h e = cc
+    low : (r : Role) (b : ℕ) → Has st.walk r b → first r ≤ n
+    low r b h = let x = st.read.upto.below r b h in grind (arith, x)
 
 -- the node of a row
 module _ (image : List ℕ) (store : Store) (w : List (Role × ℕ)) (t : StoreMatches image store w) (v : IsWalk image w) where

@@ -88,6 +88,5 @@ module _ (image : List ℕ) (store : Store) (st : StoreFits image store) where
     owners = owners_fit;
     rows = rows_fit;
     starts = starts_fit;
-    used =
-        st.read.tells.used ∙ sym (walk_length image st.walk st.read.is_walk);
+    used = st.read.tells.used ∙ sym (walk_length image st.walk st.read.is_walk st.read.whole);
   }

@@ -1,4 +1,4 @@
-use Rattle.std.proofs.Common.{◌≡◌, ◌+◌, ◌++◌, ◌∷◌, [], ◌<◌, ◌^◌, ℕ, suc, length, set, ap, refl, sym, ◌∙◌, arith, rules, true, false}
+use Rattle.std.proofs.Common.{◌≡◌, ◌+◌, ◌++◌, ◌∷◌, [], ℕ, suc, length, set, ap, refl, sym, ◌∙◌, arith, rules, true, false}
 use Rattle.std.proofs.lemmas.Bool.{not-false, not-true}
 use Rattle.adf_tree.specs.NameSet.{has}
 use Rattle.adf_tree.specs.Texts.{uppers}
@@ -28,10 +28,7 @@ returns-in-Ok-false-clause-fault c =
     claimed.free c.kind-kind.ensures.kind c.block.ensures.block c.in-Ok.ensures.0 c.in-Ok.ensures.1 c.name.ensures twice)
 
 pub kept_row-requires : goal.kept_row-requires
-kept_row-requires c =
-    let chain = c.args.chain.now in
-    parent_short c.args.image.now (store_of c.args.found.now) c.kind-kind.ensures.begun refl chain.parent chain.up chain.slot c.args.holder c.args.b
-    _ c.requires.state
+kept_row-requires c = parent_short c.kind-kind.ensures.begun refl c.requires.state
 
 pub returns-in-Ok-push-clause-state : goal.returns-in-Ok-push-clause-state
 returns-in-Ok-push-clause-state c =
@@ -57,9 +54,5 @@ returns-in-Ok-push-clause-state c =
 
 pub overflow_cast-owner : goal.overflow_cast-owner
 overflow_cast-owner c =
-    let chain = c.args.chain.now in
-    let store = store_of c.args.found.now in
-    let count : c.len.result ≡ length store.rows = search rules in
-    let short : length store.rows + 1 < 2 ^ 32 =
-    entry_short c.args.image.now store c.kind-kind.ensures.begun refl chain.parent chain.up chain.slot c.args.holder c.args.b _ c.requires.state in
-    omega arith
+    let count : c.len.result ≡ length c.args.found.now.rows.items = search rules in
+    omega (arith, entry_short c.kind-kind.ensures.begun refl c.requires.state)

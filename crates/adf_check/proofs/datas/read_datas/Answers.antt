@@ -5,7 +5,7 @@ use Rattle.adf_volume.specs.Walk.{data_count}
 use Rattle.adf_check.specs.Reading.{IsAtNode}
 use Rattle.adf_check.proofs.DataSteps.{datas_end, too_short}
 use Rattle.adf_check.specs.Found.{store_of}
-use Rattle.adf_check.proofs.NumberBounds.{file_in_datas}
+use Rattle.adf_check.proofs.NumberBounds.{file_short}
 use Rattle.adf_check.proofs.datas.read_datas.Goals as goal
 
 pub returns-then-tables-table-clause-fault : goal.returns-then-tables-table-clause-fault
@@ -18,8 +18,7 @@ returns-then-tables-table-clause-fault c =
     rw c.fault_at.ensures (too_short c.requires.begun c.requires.state refl short)
 
 pub number_of-requires : goal.number_of-requires
-number_of-requires c =
-    file_in_datas c.args.image.now (store_of c.args.found.now) c.requires.begun refl c.args.node c.args.head c.args.table.now 0 c.requires.state
+number_of-requires c = file_short c.requires.begun refl c.requires.state.read c.requires.state.holds
 
 pub returns-clause-state : goal.returns-clause-state
 returns-clause-state c =

@@ -1,9 +1,9 @@
-use Rattle.std.proofs.Common.{◌≡◌, ◌++◌, ◌∷◌, ◌<◌, ◌^◌, [], length, set, ap, refl, ◌∙◌, rules, arith}
+use Rattle.std.proofs.Common.{◌≡◌, ◌++◌, ◌∷◌, [], length, set, ap, refl, ◌∙◌, rules, arith}
 use Rattle.adf_volume.specs.declared.owner.Owner.TheVariants.{Ext as AnExt}
 use Rattle.adf_check.specs.Found.{store_of}
-use Rattle.adf_check.proofs.NumberBounds.{file_in_exts}
+use Rattle.adf_check.proofs.NumberBounds.{file_short, table_short}
 use Rattle.adf_check.proofs.ClaimSteps.{claim_refused}
-use Rattle.adf_check.proofs.ExtSteps.{ext_named, ext_fault, ext_done, table_short}
+use Rattle.adf_check.proofs.ExtSteps.{ext_named, ext_fault, ext_done}
 use Rattle.adf_check.proofs.exts.read_ext_block.Goals as goal
 
 pub returns-in_err-claim_named-clause-fault : goal.returns-in_err-claim_named-clause-fault
@@ -37,12 +37,8 @@ returns-clause-state c =
 
 pub overflow_cast-owner : goal.overflow_cast-owner
 overflow_cast-owner c =
-    let table = c.args.table.now.items in
-    let count : c.len.result ≡ length table = search rules in
-    let short : length table < 2 ^ 32 = table_short c.requires.begun refl c.requires.state in
-    omega arith
+    let count : c.len.result ≡ length c.args.table.now.items = search rules in
+    omega (arith, table_short c.requires.begun refl c.requires.state.read c.requires.state.holds)
 
 pub number_of-requires : goal.number_of-requires
-number_of-requires c =
-    file_in_exts c.args.image.now (store_of c.args.found.now) c.requires.begun refl c.args.node c.args.head c.args.table.now.items
-    c.args.holder c.args.b c.requires.state
+number_of-requires c = file_short c.requires.begun refl c.requires.state.read c.requires.state.holds
