@@ -1,8 +1,9 @@
 -- The steps along the headers of a chain.
 use Rattle.adf_check.specs.Claims.{InRange}
-use Rattle.std.proofs.Common.{◌≡◌, ◌≢◌, ◌⊎◌, inl, inr, ℕ, zero, suc, List, ◌∷◌, ◌+◌, ◌<◌, length, Bool, true, false, refl, sym, ap, subst, ◌∙◌, arith}
+use Rattle.std.proofs.Common.{◌≡◌, ◌≢◌, ◌⊎◌, inl, inr, ℕ, zero, suc, List, ◌∷◌, ◌+◌, ◌<◌, length, true, false, refl, sym, ap, subst, ◌∙◌, arith}
 use Rattle.std.proofs.Common.{Some, None}
-use Rattle.std.specs.Prelude.{◌↔◌, ◌||◌}
+use Rattle.std.specs.Prelude.{◌↔◌}
+use Rattle.std.proofs.lemmas.Bool.Decides.{Decides-or}
 use Rattle.std.specs.Str.{bytes_eq}
 use Rattle.std.proofs.lemmas.Slice.Eq.{bytes_eq-Decides}
 use Rattle.adf_fields.specs.Words.{block, word}
@@ -79,24 +80,8 @@ empty_chain image store p up s st none =
     subst (IsAtSlot image store p up) next (chain_ends image store p up s up seen (subst (λ b. IsInChain image store p up s up b seen) none begins))
 
 -- one name more is seen
-seen_more : (old new : Names) (name : List ℕ) → HasMore old new name → (x : List ℕ) → sees_of new x ↔ (sees_of old x ⊎ (name ≡ x))
-seen_more old new name h x = (to, from)
-  where
-    either : (a b : Bool) → (a || b) ≡ true → (b ≡ true) ⊎ (a ≡ true)
-    either true b e = inr refl
-    either false b e = inl e
-
-    joined : (a b : Bool) → (b ≡ true) ⊎ (a ≡ true) → (a || b) ≡ true
-    joined true b e = refl
-    joined false b (inl e) = e
-    joined false b (inr e) = cc
-
-    to : sees_of new x → sees_of old x ⊎ (name ≡ x)
-    to s = elim (either (bytes_eq name x) (has old x) (sym (h x) ∙ s)) [ inl y ↦ inl y | inr y ↦ inr ((bytes_eq-Decides name x).0 y) ]
-
-    from : sees_of old x ⊎ (name ≡ x) → sees_of new x
-    from (inl y) = h x ∙ joined (bytes_eq name x) (has old x) (inl y)
-    from (inr y) = h x ∙ joined (bytes_eq name x) (has old x) (inr ((bytes_eq-Decides name x).1 y))
+seen_more : (old new : Names) (name : List ℕ) → HasMore old new name → (x : List ℕ) → sees_of new x ↔ ((name ≡ x) ⊎ sees_of old x)
+seen_more old new name h x = rw (h x) (Decides-or (bytes_eq name x) (has old x) (bytes_eq-Decides name x) ((λ s. s), (λ s. s)))
 
 -- a word of block a names block b next in the chain of slot s of directory p
 module _ {image : List ℕ} {store : Store} {p up s a b : ℕ} {seen : List ℕ → Type 0} (lt : s < 72) (begun : IsBegun image)
@@ -111,16 +96,16 @@ module _ {image : List ℕ} {store : Store} {p up s a b : ℕ} {seen : List ℕ 
       subst (λ u. P (head_demands image (kind_of image) b u s))
       (sym (node_is image st.walk p up st.read.upto.walk (dir_is_node image st.walk p up st.dir)))
 
-  sees_more : (seen' : List ℕ → Type 0) → ((x : List ℕ) → seen' x ↔ (seen x ⊎ (uppers (name_of image b) ≡ x)))
+  sees_more : (seen' : List ℕ → Type 0) → ((x : List ℕ) → seen' x ↔ ((uppers (name_of image b) ≡ x) ⊎ seen x))
       → Sees image ((next_head st.walk p s st.place, b) ∷ st.walk) p s seen'
   sees_more seen' g = record {
     all = (λ m k c h. elim h [
-      | inl y ↦ (g (uppers (name_of image c))).1 (inr (ap (λ b. uppers (name_of image b)) y.1))
-      | inr y ↦ (g (uppers (name_of image c))).1 (inl (st.sees.all m k c y))
+      | inl y ↦ (g (uppers (name_of image c))).1 (inl (ap (λ b. uppers (name_of image b)) y.1))
+      | inr y ↦ (g (uppers (name_of image c))).1 (inr (st.sees.all m k c y))
     ]);
     only = (λ x h. elim ((g x).0 h) [
-      | inl y ↦ let z = st.sees.only x y in (z.0, z.1, z.2, inr z.3, z.4)
-      | inr y ↦ (suc (heads st.walk), st.place, b, inl (refl, refl), y)
+      | inl y ↦ (suc (heads st.walk), st.place, b, inl (refl, refl), y)
+      | inr y ↦ let z = st.sees.only x y in (z.0, z.1, z.2, inr z.3, z.4)
     ]);
   }
 
@@ -128,7 +113,7 @@ module _ {image : List ℕ} {store : Store} {p up s a b : ℕ} {seen : List ℕ 
   module _ (range : InRange (length store.owners) b) (free : owner_at store.owners b ≡ Free) where
     -- and holds a header, whose name was not seen
     pub next_chain : AllHold (head_demands image (kind_of image) b up s) → (seen (uppers (name_of image b)) → ⊥) → (seen' : List ℕ → Type 0)
-        → ((x : List ℕ) → seen' x ↔ (seen x ⊎ (uppers (name_of image b) ≡ x))) → {new : Store} → IsStored store new (next_head st.walk p s st.place) b
+        → ((x : List ℕ) → seen' x ↔ ((uppers (name_of image b) ≡ x) ⊎ seen x)) → {new : Store} → IsStored store new (next_head st.walk p s st.place) b
         → IsInChain image new p up s b (word_in image b 124) seen'
     next_chain form fresh seen' g stored =
         let r : Role = next_head st.walk p s st.place in

@@ -1,6 +1,6 @@
 -- The place of a reader moves on: over a role that is read, and over what is not asked for.
-use Rattle.std.proofs.Common.{◌≡◌, ℕ, zero, suc, List, [], ◌∷◌, ◌⊎◌, inl, inr, ◌+◌, ◌/◌, ◌<◌, ◌≤◌, refl, sym, ap, subst, ◌∙◌, arith}
-use native.Mathlib.Decide.{dec_le, dec_lt, ℕ_discrete}
+use Rattle.std.proofs.Common.{◌≡◌, ℕ, zero, suc, List, [], ◌∷◌, inl, inr, ◌+◌, ◌/◌, ◌<◌, ◌≤◌, refl, sym, ap, subst, ◌∙◌, arith}
+use native.Mathlib.Decide.{dec_lt, ℕ_discrete}
 use Rattle.adf_blocks.specs.declared.layout.TheConstants.{ST_DIR, ST_FILE}
 use Rattle.adf_volume.specs.Image.{word_in, root_of}
 use Rattle.adf_blocks.specs.Sizes.{blocks, pages_needed}
@@ -18,22 +18,6 @@ use Rattle.adf_check.specs.Store.{Store}
 pub moved : {image : List ℕ} {store : Store} {w : List (Role × ℕ)} {old new : Cursor} → HasRead image store w old → nodes_begun old ≡ nodes_begun new
     → IsUpTo image w (first_of new) (second_of new) (third_of new) → HasRead image store w new
 moved read same upto = record { tells = read.tells; started = read.started ∙ same; upto = upto }
-
-below_or : (r : Role) (x y z : ℕ) → (IsBelow r x y z → ⊥) → (x < first r) ⊎ ((first r ≡ x) × ((y < second r) ⊎ ((second r ≡ y) × (z ≤ third r))))
-below_or r x y z h =
-    elim (dec_lt x (first r)) [
-      | yes a ↦ inl a
-      | no a ↦ elim (dec_lt (first r) x) [
-        | yes b ↦ absurd (h (omega arith))
-        | no b ↦ elim (dec_lt y (second r)) [
-          | yes c ↦ inr (omega arith, inl c)
-          | no c ↦ elim (dec_lt (second r) y) [
-            | yes d ↦ absurd (h (omega arith))
-            | no d ↦ elim (dec_le z (third r)) [ yes e ↦ inr (omega arith, inr (omega arith, e)) | no e ↦ absurd (h (omega arith)) ]
-          ]
-        ]
-      ]
-    ]
 
 module _ (image : List ℕ) (w : List (Role × ℕ)) where
   -- what is asked for at the place is due
@@ -94,18 +78,16 @@ module _ (image : List ℕ) (w : List (Role × ℕ)) where
 
       none : (r : Role) (a i : ℕ) → Asks image w r a i → (IsBelow r (suc p) (suc (suc s)) j → ⊥) → IsBelow r (suc p) (suc (suc (suc s))) 0 → ⊥
       none (Head n q t m) a i h k b =
-          elim (below_or (Head n q t m) (suc p) (suc (suc s)) j k) [
-            | inl x ↦ omega arith
-            | inr x ↦ elim x.1 [
-              | inl y ↦ omega (arith, x.0)
-              | inr y ↦
-                  let qp : q ≡ p = omega (arith, x.0) in
-                  let ts : t ≡ s = omega (arith, y.0) in
+          elim (ℕ_discrete q p) [
+            | no ne ↦ k (omega arith)
+            | yes e ↦ elim (ℕ_discrete t s) [
+              | no ne ↦ k (grind (arith, ne))
+              | yes f ↦
                   let here : Asks image w (Head n p s m) a i =
-                  subst (λ q. Asks image w (Head n q s m) a i) qp (subst (λ t. Asks image w (Head n q t m) a i) ts h) in
+                  subst (λ q. Asks image w (Head n q s m) a i) e (subst (λ t. Asks image w (Head n q t m) a i) f h) in
                   elim (ℕ_discrete m j) [
-                    | yes e ↦ ends n a i (subst (λ m. Asks image w (Head n p s m) a i) e here)
-                    | no ne ↦ past n m a i here (omega (arith, y.1))
+                    | yes g ↦ ends n a i (subst (λ m. Asks image w (Head n p s m) a i) g here)
+                    | no ne ↦ elim (dec_lt m j) [ yes l ↦ k (omega arith) | no l ↦ past n m a i here (omega arith) ]
                   ]
             ]
           ]
@@ -121,8 +103,11 @@ module _ (image : List ℕ) (w : List (Role × ℕ)) where
   data_file_of n zero a i h = absurd h
   data_file_of n (suc m) a i h = (h.0.0, h.0.1)
 
+  file_number : IsWalk image w → (n : ℕ) → (h : ℕ) × FileAt image w n h → (1 ≤ n) × (n ≤ heads w)
+  file_number v n f = number_of image v n f.1.0.0 f.1.0.1 f.1.0.2 f.0 f.1.0.3
+
   dir_no_file : IsWalk image w → (n a b : ℕ) → DirAt image w n a → FileAt image w n b → ⊥
-  dir_no_file v zero a b d f = let x : (1 ≤ 0) × (0 ≤ heads w) = number_of image v 0 f.0.0 f.0.1 f.0.2 b f.0.3 in omega arith
+  dir_no_file v zero a b d f = omega (arith, (file_number v 0 (b, f)).0)
   dir_no_file v (suc i) a b d f =
       let e : a ≡ b = one_node image v (suc i) a b d.0 f.0 in
       let z : ST_DIR ≡ ST_FILE = sym d.1 ∙ ap (λ a. word_in image a 127) e ∙ f.1 in omega arith
@@ -205,29 +190,23 @@ module _ (image : List ℕ) (w : List (Role × ℕ)) where
   pub end_all_pages : IsUpTo image w 0 1 (pages_needed (blocks image) + (pages_needed (blocks image) + 101) / 127) → IsUpTo image w 1 0 0
   end_all_pages u = skip 0 1 (pages_needed (blocks image) + (pages_needed (blocks image) + 101) / 127) 1 0 0 u (λ r h. omega arith) none
     where
-      no_file : (q : ℕ) → (h : ℕ) × FileAt image w q h → 1 ≤ q
-      no_file q f = (number_of image u.walk q f.1.0.0 f.1.0.1 f.1.0.2 f.0 f.1.0.3).0
-
       none : (r : Role) (a i : ℕ) → Asks image w r a i → (IsBelow r 0 1 (pages_needed (blocks image) + (pages_needed (blocks image) + 101) / 127) → ⊥)
           → IsBelow r 1 0 0 → ⊥
       none Root a i h k b = h
       none (Page m) a i h k b = k (omega (arith, h.0))
       none (MapExt zero) a i h k b = k (omega (arith, h.0))
       none (MapExt (suc m)) a i h k b = k (omega (arith, h.0))
-      none (Ext q m) a i h k b = let low = no_file q (due_file image w q m a i u.walk h) in omega (arith, low)
-      none (Data q m) a i h k b = let low = no_file q (data_file_of q m a i h) in omega (arith, low)
+      none (Ext q m) a i h k b = omega (arith, (file_number u.walk q (due_file image w q m a i u.walk h)).0)
+      none (Data q m) a i h k b = omega (arith, (file_number u.walk q (data_file_of q m a i h)).0)
       none (Head m q s i') a i h k b = grind arith
 
   -- behind the last node nothing is asked for
   pub end_all : (n : ℕ) → heads w < n → IsUpTo image w (suc n) 0 0 → IsWhole image w
   end_all n lt u r a i h l = u.all r a i h l (low r a i h)
     where
-      file_low : (q : ℕ) → (h : ℕ) × FileAt image w q h → q < n
-      file_low q f = let x = number_of image u.walk q f.1.0.0 f.1.0.1 f.1.0.2 f.0 f.1.0.3 in omega (arith, x.1)
-
       low : (r : Role) (a i : ℕ) → Asks image w r a i → IsBelow r (suc n) 0 0
-      low (Ext q m) a i h = let x = file_low q (due_file image w q m a i u.walk h) in omega (arith, x)
-      low (Data q m) a i h = let x = file_low q (data_file_of q m a i h) in omega (arith, x)
+      low (Ext q m) a i h = omega (arith, (file_number u.walk q (due_file image w q m a i u.walk h)).1)
+      low (Data q m) a i h = omega (arith, (file_number u.walk q (data_file_of q m a i h)).1)
       low (Head m q s j) a i h =
           let d = slot_low u.walk m q s j a i h in
           let x : q ≤ heads w = dir_number image w q d.1.0 u.walk d.1.1 in

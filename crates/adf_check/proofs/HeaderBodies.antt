@@ -1,6 +1,6 @@
 -- What the body of a header tells of its words.
-use Rattle.std.proofs.Common.{◌≡◌, ◌≢◌, ◌==◌, ℕ, List, Bool, true, false, refl, sym, ap, ◌∙◌, if◌then◌else◌}
-use Rattle.std.proofs.lemmas.Bool.{eqb-true, eqb-false, eq-eqb}
+use Rattle.std.proofs.Common.{◌≡◌, ◌≢◌, ◌==◌, ℕ, List, Bool, true, false, refl, sym, ◌∙◌, if◌then◌else◌}
+use Rattle.std.proofs.lemmas.Bool.{eqb-true, eqb-false}
 use Rattle.adf_blocks.specs.declared.layout.TheConstants.{ST_DIR}
 use Rattle.adf_fields.specs.Words.{block}
 use Rattle.adf_blocks.specs.HeadBlock.{body_at}
@@ -26,7 +26,3 @@ pub file_words : (image : List ℕ) (b size ext : ℕ) (body : HeadBody) → bod
 file_words image b size ext body is h =
     let r = pick_file (word_in image b 127 == 2) (word_in image b 81) (word_in image b 126) size ext (sym is ∙ h) in
     (eqb-false (word_in image b 127) 2 r.0, r.1, r.2)
-
--- what is no directory has another type
-pub not_dir : (image : List ℕ) (b : ℕ) (body : HeadBody) → body ≡ body_at (block image b) → body ≢ Dir → word_in image b 127 ≢ ST_DIR
-not_dir image b body is h e = h (is ∙ ap (λ t. if t then Dir else File (word_in image b 81) (word_in image b 126)) (eq-eqb (word_in image b 127) 2 e))

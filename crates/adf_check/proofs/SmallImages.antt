@@ -1,8 +1,10 @@
 -- The states of a reader in a small image: one page, the root first.
-use Rattle.std.proofs.Common.{◌≡◌, ℕ, zero, suc, List, [], ◌∷◌, ◌+◌, ◌-◌, ◌/◌, ◌%◌, ◌<◌, ◌≤◌, ◌≢◌, length, refl, sym, ap, subst, ◌∙◌, arith, Bool}
-use Rattle.std.proofs.Common.{true, false, eq-eqb}
-use Rattle.std.specs.Prelude.{◌==◌, ◌&&◌, not, bit_and, ◌^◌, IsTrue, ◌↔◌, slice_index}
+use Rattle.std.proofs.Common.{◌≡◌, ◌≢◌, ℕ, zero, suc, List, [], ◌∷◌, ◌+◌, ◌-◌, ◌/◌, ◌%◌, ◌<◌, ◌≤◌, length, refl, sym, ap, subst, ◌∙◌, arith}
+use Rattle.std.proofs.Common.{Bool, true, false}
+use Rattle.std.specs.Prelude.{◌==◌, not, bit_and, ◌^◌, IsTrue, ◌↔◌, slice_index}
 use Rattle.std.proofs.lemmas.Bool.{and_parts, eqb-true}
+use Rattle.std.proofs.lemmas.Bool.Decides.{Decides-eqb, Decides-not}
+use Rattle.adf_blocks.specs.declared.layout.TheConstants.{FIRST_PAGE, FIRST_SLOT, PAGE_BITS}
 use Rattle.adf_fields.specs.Words.{block}
 use Rattle.adf_blocks.specs.PageBlock.{page_form}
 use Rattle.adf_blocks.specs.Sizes.{blocks, pages_needed}
@@ -13,110 +15,111 @@ use Rattle.adf_volume.specs.Image.{word_in, root_of}
 use Rattle.adf_volume.specs.Demands.{AllHold, page_demands}
 use Rattle.adf_volume.specs.Lists.{At}
 use Rattle.adf_volume.specs.Walk.{FirstFault}
-use Rattle.adf_volume.specs.Walk.Role.{Page as APage}
+use Rattle.adf_volume.specs.Walk.Role.{Page}
 use Rattle.adf_volume.proofs.FormDemands.{none_demanded}
+use Rattle.adf_volume.proofs.Zeros.{all_zero}
 use Rattle.adf_check.specs.Image.{IsBegun}
 use Rattle.adf_check.specs.Store.{Store, owner_at, stored, entered}
-use Rattle.adf_check.specs.Reading.{IsBeforePage, IsAtNode, IsAtSlot, IsListed, IsMapped, block_of_page}
+use Rattle.adf_check.specs.Reading.{IsBeforePage, IsAtSlot, IsListed, IsMapped, IsRead, block_of_page}
 use Rattle.adf_check.proofs.RootRead.{first_store, owners_free, owners_of, root_read}
-use Rattle.adf_check.proofs.BitmapSteps.{agrees, clash, lost}
+use Rattle.adf_check.proofs.BitmapSteps.{agrees, lost, map_begins}
 use Rattle.adf_check.proofs.ChainSteps.{empty_chain}
 use Rattle.adf_check.proofs.ClaimSteps.{is_stored}
 use Rattle.adf_check.proofs.NodeSteps.{enter_node, root_begins}
 use Rattle.adf_check.proofs.PageSteps.{page_done, pages_end, same_holder}
 
--- the root and the one page were read
-pub page_then : (image : List ℕ) (m root page : ℕ) → blocks image ≡ 2 + m → root_of image ≡ root → 2 ≤ root → root < 2 + m → IsBegun image
-    → pages_needed (blocks image) ≡ 1 → word_in image root 79 ≡ page → 2 ≤ page → page < 2 + m → page ≢ root → AllHold (page_demands image page)
-    → IsAtNode image (stored (first_store (owners_of m root)) (APage 0) page) 0
-page_then image m root page size root_is low high begun one named lo hi ne form =
-    let store : Store = first_store (owners_of m root) in
-    let next = same_holder image store 0 (root_of image) (root_read image m root size root_is low high) (λ h. absurd (omega arith)) in
-    let is_named : page ≡ word_in image (root_of image) 79 = sym named ∙ ap (λ a. word_in image a 79) (sym root_is) in
-    let long : length (owners_of m root) ≡ blocks image = next.read.tells.owns.size in
-    pages_end image (stored store (APage 0) page) (root_of image)
-    (subst (λ k. IsBeforePage image (stored store (APage 0) page) k (root_of image)) (sym one)
-    (page_done begun (omega arith) next is_named (lo, omega arith) (owners_free m root page lo hi ne) refl
-    (none_demanded page (page_form (block image page)) form)
-    (is_stored store (APage 0) page)))
-
 -- n slots are empty from slot s on
-pub empty_slots : (image : List ℕ) (store : Store) (p up s n : ℕ) → ((i : ℕ) → s ≤ i → i < s + n → word_in image up (6 + i) ≡ 0)
+pub empty_slots : (image : List ℕ) (store : Store) (p up s n : ℕ) → all_zero (λ i. word_in image up (FIRST_SLOT + (s + i))) n ≡ true
     → IsAtSlot image store p up s → IsAtSlot image store p up (s + n)
 empty_slots image store p up s zero none st = let z : s ≡ s + 0 = omega arith in subst (IsAtSlot image store p up) z st
 empty_slots image store p up s (suc n) none st =
-    let z : s + 1 + n ≡ s + suc n = omega arith in
-    let next = empty_chain image store p up s st (none s (omega arith) (omega arith)) in
-    subst (IsAtSlot image store p up) z (empty_slots image store p up (s + 1) n (λ i l h. none i (omega arith) (omega arith)) next)
-
--- the root is entered
-pub enter_root : (image : List ℕ) (store : Store) (root : ℕ) → root_of image ≡ root → IsAtNode image store 0 → IsAtSlot image (entered store) 0 root 0
-enter_root image store root e st =
-    root_begins image (entered store) 0 root refl (sym e) (enter_node image store 0 st)
+    let z : s + n + 1 ≡ s + suc n = omega arith in
+    let x = and_parts (word_in image up (FIRST_SLOT + (s + n)) == 0) (all_zero (λ i. word_in image up (FIRST_SLOT + (s + i))) n) none in
+    subst (IsAtSlot image store p up) z (empty_chain image store p up (s + n) (empty_slots image store p up s n x.1 st) (eqb-true _ 0 x.0))
 
 -- the bit of block b in a page
-abbrev pub bit_is : List ℕ → ℕ → ℕ → Bool
-bit_is image page b = not (bit_and (word_in image page (1 + ((b - 2) % 4064) / 32)) (2 ^ (((b - 2) % 4064) % 32)) == 0)
+abbrev bit_is : List ℕ → ℕ → ℕ → Bool
+bit_is image page b = not (bit_and (word_in image page (1 + ((b - 2) % PAGE_BITS) / 32)) (2 ^ (((b - 2) % PAGE_BITS) % 32)) == 0)
 
-abbrev pub is_free : Owner → Bool
+abbrev is_free : Owner → Bool
 is_free Free = true
 is_free _ = false
 
-free_owner : (o : Owner) → is_free o ≡ true → o ≡ Free
-free_owner Free h = refl
-free_owner _ h = cc
+free_owner : (o : Owner) → IsTrue (is_free o) ↔ (o ≡ Free)
+free_owner Free = ((λ _. refl), (λ _. refl))
+free_owner o = ((λ h. cc), (λ e. ap is_free e))
 
-taken_owner : (o : Owner) → is_free o ≡ false → o ≢ Free
-taken_owner o h e = clash (ap is_free e) h
+-- the bitmap and the owners agree on the first n blocks behind the boot blocks
+abbrev pub Agree : List ℕ → List Owner → ℕ → ℕ → Type 0
+Agree image owners page zero = Unit {0}
+Agree image owners page (suc n) = (bit_is image page (2 + n) ≡ is_free (owner_at owners (2 + n))) × Agree image owners page n
 
-not_zero : (n : ℕ) → IsTrue (not (n == 0)) ↔ (n ≢ 0)
-not_zero n = go (n == 0) refl
-  where
-    go : (t : Bool) → (n == 0) ≡ t → IsTrue (not t) ↔ (n ≢ 0)
-    go true z = ((λ h. absurd (let y : false ≡ true = h in cc)), (λ h. absurd (h (eqb-true n 0 z))))
-    go false z = ((λ h e. let x : (n == 0) ≡ true = eq-eqb n 0 e in let y : true ≡ false = sym x ∙ z in cc), (λ h. refl))
+-- and then comes a lost block
+abbrev pub Loses : List ℕ → List Owner → ℕ → ℕ → Type 0
+Loses image owners page n = Agree image owners page n × (bit_is image page (2 + n) ≡ false) × (is_free (owner_at owners (2 + n)) ≡ true)
 
-abbrev same : Bool → Bool → Bool
-same true b = b
-same false b = not b
+-- an image that begins as a volume of 2 + m blocks, with the root and the one page at these blocks
+pub record IsSmall (image : List ℕ) (m root page : ℕ) : Type 0 where
+  pub begun : IsBegun image
+  pub size : blocks image ≡ 2 + m
+  pub at_root : root_of image ≡ root
+  pub one : pages_needed (blocks image) ≡ 1
+  pub named : word_in image root FIRST_PAGE ≡ page
+  pub form : AllHold (page_demands image page)
+  pub root_within : (2 ≤ root) × (root < 2 + m)
+  pub page_within : (2 ≤ page) × (page < 2 + m) × (page ≢ root)
 
--- the bitmap and the owners agree on n blocks from b on
-abbrev pub agree : List ℕ → List Owner → ℕ → ℕ → ℕ → Bool
-agree image owners page b zero = true
-agree image owners page b (suc n) = same (bit_is image page b) (is_free (owner_at owners b)) && agree image owners page (suc b) n
+module _ {image : List ℕ} {m root page : ℕ} (is : IsSmall image m root page) where
+  abbrev pub page_store : Store
+  page_store = stored (first_store (owners_of m root)) (Page 0) page
 
-module _ (image : List ℕ) (store : Store) (page : ℕ) (one : pages_needed (blocks image) ≡ 1) (named : word_in image (root_of image) 79 ≡ page) where
+  page_is : page ≡ word_in image (root_of image) FIRST_PAGE
+  page_is = sym is.named ∙ ap (λ a. word_in image a FIRST_PAGE) (sym is.at_root)
+
+  -- the root and the page were read, and the root was entered
+  pub small_begins : IsAtSlot image (entered page_store) 0 root 0
+  small_begins =
+      let next = same_holder image _ 0 (root_of image) (root_read image m root is.size is.at_root is.root_within.0 is.root_within.1)
+      (λ h. absurd (omega arith)) in
+      let one = is.one in
+      let size = is.size in
+      let long : length (owners_of m root) ≡ blocks image = next.read.tells.owns.size in
+      let within = is.page_within in
+      root_begins image (entered page_store) 0 root refl (sym is.at_root) (enter_node image page_store 0 (pages_end image page_store (root_of image)
+      (subst (λ k. IsBeforePage image page_store k (root_of image)) (sym is.one)
+      (page_done is.begun (omega arith) next page_is (within.0, omega arith) (owners_free m root page within.0 within.1 within.2) refl
+      (none_demanded page (page_form (block image page)) is.form) (is_stored _ (Page 0) page)))))
+
   listed : IsListed image (page ∷ []) (pages_needed (blocks image))
-  listed = record { size = sym one; pages = at }
+  listed = record { size = sym is.one; pages = at }
     where
       at : (i b : ℕ) → At (page ∷ []) i b → block_of_page image i ≡ b
-      at zero b h = named ∙ h
+      at zero b h = sym page_is ∙ h
       at (suc i) b h = absurd h
 
-  page_at : (q : ℕ) → q ≡ 0 → page ≡ slice_index (page ∷ []) q
-  page_at q e = ap (slice_index (page ∷ [])) (sym e)
+  module _ (b : ℕ) (few : b < 2 + m) where
+    inside : b < blocks image
+    inside = subst (λ n. b < n) (sym is.size) few
 
-  agree_one : (b : ℕ) → b < blocks image → (f o : Bool) → bit_is image page b ≡ f → is_free (owner_at store.owners b) ≡ o → same f o ≡ true
-      → IsMapped image store b → IsMapped image store (suc b)
-  agree_one b hi true true ef eo h st =
-      agrees (bit_is image page b) hi listed (page_at ((b - 2) / 4064) (omega arith)) (not_zero _) st
-      ((λ _. free_owner (owner_at store.owners b) eo), (λ _. ef))
-  agree_one b hi false false ef eo h st =
-      agrees (bit_is image page b) hi listed (page_at ((b - 2) / 4064) (omega arith)) (not_zero _) st
-      ((λ t. absurd (clash t ef)), (λ o. absurd (taken_owner (owner_at store.owners b) eo o)))
-  agree_one b hi true false ef eo h st = absurd (let z : false ≡ true = h in cc)
-  agree_one b hi false true ef eo h st = absurd (let z : false ≡ true = h in cc)
+    page_at : pages_needed (blocks image) ≡ 1 → page ≡ slice_index (page ∷ []) ((b - 2) / PAGE_BITS)
+    page_at one = let z : 0 ≡ (b - 2) / PAGE_BITS = omega (arith, inside) in ap (slice_index (page ∷ [])) z
 
-  pub agreeing : (b n : ℕ) → b + n ≤ blocks image → agree image store.owners page b n ≡ true → IsMapped image store b → IsMapped image store (b + n)
-  agreeing b zero hi h st = let z : b ≡ b + 0 = omega arith in subst (IsMapped image store) z st
-  agreeing b (suc n) hi h st =
-      let z : suc b + n ≡ b + suc n = omega arith in
-      let x = and_parts (same (bit_is image page b) (is_free (owner_at store.owners b))) (agree image store.owners page (suc b) n) h in
-      subst (IsMapped image store) z (agreeing (suc b) n (omega arith) x.1
-      (agree_one b (omega arith) (bit_is image page b) (is_free (owner_at store.owners b)) refl refl x.0 st))
+    bit_free : IsTrue (bit_is image page b) ↔ (bit_and (word_in image page (1 + ((b - 2) % PAGE_BITS) / 32)) (2 ^ (((b - 2) % PAGE_BITS) % 32)) ≢ 0)
+    bit_free = Decides-not _ (Decides-eqb _ 0)
 
-  pub lost_at : (b : ℕ) → IsBegun image → b < blocks image → bit_is image page b ≡ false
-      → is_free (owner_at store.owners b) ≡ true → IsMapped image store b → FirstFault image b LostBlock
-  lost_at b sound hi ef eo st =
-      lost (bit_is image page b) hi listed (page_at ((b - 2) / 4064) (omega arith)) (not_zero _) st sound ef
-      (free_owner (owner_at store.owners b) eo)
+    block_agrees : {store : Store} → bit_is image page b ≡ is_free (owner_at store.owners b) → IsMapped image store b → IsMapped image store (suc b)
+    block_agrees {store = store} e st =
+        agrees (bit_is image page b) inside listed (page_at is.one) bit_free st
+        (subst (λ t. IsTrue t ↔ (owner_at store.owners b ≡ Free)) (sym e) (free_owner (owner_at store.owners b)))
+
+    block_lost : {store : Store} → bit_is image page b ≡ false → is_free (owner_at store.owners b) ≡ true → IsMapped image store b → FirstFault image b LostBlock
+    block_lost {store = store} e f st = lost (bit_is image page b) inside listed (page_at is.one) bit_free st is.begun e ((free_owner (owner_at store.owners b)).0 f)
+
+  agreeing : {store : Store} (n : ℕ) → n ≤ m → Agree image store.owners page n → IsRead image store → IsMapped image store (2 + n)
+  agreeing {store = store} zero few h st = map_begins image store st
+  agreeing {store = store} (suc n) few h st =
+      let z : suc (2 + n) ≡ 2 + suc n = omega arith in
+      subst (IsMapped image store) z (block_agrees (2 + n) (omega arith) h.0 (agreeing n (omega arith) h.1 st))
+
+  pub small_lost : {store : Store} (n : ℕ) → n < m → Loses image store.owners page n → IsRead image store → FirstFault image (2 + n) LostBlock
+  small_lost n few h st = block_lost (2 + n) (omega arith) h.1 h.2 (agreeing n (omega arith) h.0 st)

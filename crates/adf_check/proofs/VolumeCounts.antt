@@ -1,7 +1,8 @@
 -- The numbers of a volume are those of its tree and layout.
-use Rattle.std.proofs.Common.{◌≡◌, ℕ, suc, List, [], ◌∷◌, ◌+◌, ◌-◌, ◌<◌, length, get_or, count_by, cond, Bool, true, false, refl, sym, ap, subst, ◌∙◌, arith}
+use Rattle.std.proofs.Common.{◌≡◌, ℕ, suc, List, [], ◌∷◌, ◌+◌, ◌-◌, ◌<◌, length, get_or, count_by, cond, Bool, refl, sym, ap, subst, ◌∙◌, arith}
 use Rattle.std.specs.Prelude.{◌==◌, not}
-use Rattle.std.proofs.lemmas.List.Sums.{sum_by-cons}
+use Rattle.std.proofs.lemmas.List.Filters.{length-filter_both}
+use Rattle.std.proofs.lemmas.List.Sums.{length-filter, sum_by-cons}
 use Rattle.adf_blocks.specs.declared.layout.TheConstants.{ST_DIR}
 use Rattle.adf_tree.specs.declared.entry.Entry.{Entry}
 use Rattle.adf_tree.specs.declared.entry.Kind.{Kind}
@@ -45,22 +46,11 @@ same_count f g (x ∷ xs) (y ∷ ys) e h =
     ∙ ap (λ n. cond (g y) 1 0 + n) (same_count f g xs ys (omega arith) (λ i a b p q. h (suc i) a b p q))
     ∙ sym (sum_by-cons (λ y. cond (g y) 1 0) y ys)
 
-one_of_two : (t : Bool) → cond t 1 0 + cond (not t) 1 0 ≡ 1
-one_of_two true = refl
-one_of_two false = refl
-
--- those that are and those that are not are all
-both_counts : {X : Type 0} (f : X → Bool) (xs : List X) → count_by f xs + count_by (λ x. not (f x)) xs ≡ length xs
-both_counts f [] = refl
-both_counts f (x ∷ xs) =
-    let a = sum_by-cons (λ x. cond (f x) 1 0) x xs in
-    let b = sum_by-cons (λ x. cond (not (f x)) 1 0) x xs in
-    let one = one_of_two (f x) in
-    let ih = both_counts f xs in
-    omega arith
-
+-- those that are directories and those that are not are all
 pub others : (es : List Entry) (all dirs : ℕ) → all ≡ length es → dirs ≡ count_by is_directory es → all - dirs ≡ count_by (λ e. not (is_directory e)) es
-others es all dirs a d = let both = both_counts is_directory es in omega arith
+others es all dirs a d =
+    let file : Entry → Bool = λ e. not (is_directory e) in
+    omega (arith, length-filter_both is_directory file (λ _. refl) es, length-filter is_directory es, length-filter file es)
 
 -- the directories of the rows are those of the tree
 pub dirs_are : (image : List ℕ) (store : Store) (t : Tree) (l : Layout) → StoreStandsFor image store t l
