@@ -1,6 +1,6 @@
 -- The steps along the bitmap, and what the reader knows at its end.
 use Rattle.adf_check.specs.Fault.{IsTrueFault}
-use Rattle.std.proofs.Common.{◌≡◌, ◌≢◌, ◌⊎◌, inl, inr, ℕ, zero, suc, List, ◌+◌, ◌-◌, ◌*◌, ◌/◌, ◌%◌, ◌<◌, ◌≤◌, length, refl, sym, subst, ◌∙◌, arith}
+use Rattle.std.proofs.Common.{◌≡◌, ◌≢◌, inl, inr, ℕ, zero, suc, List, ◌++◌, ◌+◌, ◌-◌, ◌*◌, ◌/◌, ◌%◌, ◌<◌, ◌≤◌, length, refl, sym, ap, subst, ◌∙◌, arith}
 use Rattle.std.proofs.Common.{Bool, true, false}
 use Rattle.std.specs.Prelude.{IfErr, Result, Ok, Err, slice_index, IsTrue, ◌↔◌, IsBitSet}
 use Rattle.adf_blocks.specs.declared.cause.Cause.{Cause}
@@ -14,7 +14,7 @@ use Rattle.adf_volume.specs.Walk.Role.{Page}
 use Rattle.adf_volume.specs.Walk.FirstFault.{at_bitmap}
 use Rattle.adf_volume.specs.Made.{tree_in, layout_in}
 use Rattle.adf_volume.proofs.Images.{page_in}
-use Rattle.adf_volume.proofs.Lists.{all_split}
+use Rattle.adf_volume.proofs.Lists.{all_append, all_split, fails_right}
 use Rattle.adf_volume.proofs.OneTree.{one_tree}
 use Rattle.adf_volume.proofs.WalkFits.{fits}
 use Rattle.adf_volume.proofs.Walks.{one_block, asked_block, page_word}
@@ -29,40 +29,20 @@ use Rattle.adf_check.proofs.DataSteps.{at_get}
 use Rattle.adf_check.proofs.PageSteps.{page_is}
 use Rattle.adf_check.proofs.StoreSteps.{free_absent, taken_present}
 
-pub clash : {t : Bool} → t ≡ true → t ≡ false → ⊥
+clash : {t : Bool} → t ≡ true → t ≡ false → ⊥
 clash a b = let e : true ≡ false = sym a ∙ b in cc
 
--- the bitmap, one block more
-bitmap_more : (image : List ℕ) (w : List (Role × ℕ)) (b n : ℕ) → AllHold (bitmap_demands image w b n) → (IsAbsent w (b + n) → IsFreeIn image w (b + n))
-    → (IsFreeIn image w (b + n) → IsAbsent w (b + n)) → AllHold (bitmap_demands image w b (suc n))
-bitmap_more image w b zero h f g =
-    let e : b + 0 ≡ b = omega arith in
-    (subst (λ b. IsAbsent w b → IsFreeIn image w b) e f, (subst (λ b. IsFreeIn image w b → IsAbsent w b) e g, tt))
-bitmap_more image w b (suc n) h f g =
-    let e : b + suc n ≡ suc b + n = omega arith in (
-      h.0,
-      (
-        h.1.0,
-        bitmap_more image w (suc b) n h.1.1 (subst (λ b. IsAbsent w b → IsFreeIn image w b) e f)
-            (subst (λ b. IsFreeIn image w b → IsAbsent w b) e g),
-      ),
-    )
-
-bitmap_fails : (image : List ℕ) (w : List (Role × ℕ)) (b n m x : ℕ) (c : Cause) → AllHold (bitmap_demands image w b n) → x ≡ b + n → n < m →
-    (((IsAbsent w x → IsFreeIn image w x) → ⊥) × (c ≡ LostBlock))
-    ⊎ ((IsAbsent w x → IsFreeIn image w x) × (((IsFreeIn image w x → IsAbsent w x) → ⊥) × (c ≡ OwnedFree))) → FirstFails (bitmap_demands image w b m) x c
-bitmap_fails image w b n zero x c h e lt f = absurd (omega arith)
-bitmap_fails image w b zero (suc m) x c h e lt f =
-    let z : x ≡ b = omega arith in
-    elim f [
-      | inl y ↦ inl (subst (λ x. (IsAbsent w x → IsFreeIn image w x) → ⊥) z y.0, sym z, sym y.1)
-      | inr y ↦ inr (
-        subst (λ x. IsAbsent w x → IsFreeIn image w x) z y.0,
-        inl
-            (subst (λ x. (IsFreeIn image w x → IsAbsent w x) → ⊥) z y.1.0, sym z, sym y.1.1),
-      )
-    ]
-bitmap_fails image w b (suc n) (suc m) x c h e lt f = inr (h.0, inr (h.1.0, bitmap_fails image w (suc b) n m x c h.1.1 (omega arith) (omega arith) f))
+-- the demands of n blocks, and then those of the blocks behind them
+bitmap_split : (image : List ℕ) (w : List (Role × ℕ)) (b n m : ℕ)
+    → bitmap_demands image w b (n + m) ≡ bitmap_demands image w b n ++ bitmap_demands image w (b + n) m
+bitmap_split image w b zero m =
+    let e : b ≡ b + 0 = omega arith in
+    let z : 0 + m ≡ m = omega arith in
+    ap (bitmap_demands image w b) z ∙ ap (λ b. bitmap_demands image w b m) e
+bitmap_split image w b (suc n) m =
+    let e : suc b + n ≡ b + suc n = omega arith in
+    let z : suc n + m ≡ suc (n + m) = omega arith in
+    rw (z, bitmap_split image w (suc b) n m, e) refl
 
 -- what the reader sees of block b: its page, the bit there and the table
 module _ (free : Bool) {image : List ℕ} {store : Store} {b page : ℕ} {list : List ℕ} (hi : b < blocks image)
@@ -98,33 +78,33 @@ module _ (free : Bool) {image : List ℕ} {store : Store} {b page : ℕ} {list :
   length_of : 2 + (b - 2) ≡ b
   length_of = let lo : 2 ≤ b = st.low in omega arith
 
+  -- the demands of the blocks up to b, and then those of m blocks from b on
+  split : (m : ℕ) → bitmap_demands image st.walk 2 (b - 2 + m) ≡ bitmap_demands image st.walk 2 (b - 2) ++ bitmap_demands image st.walk b m
+  split m = bitmap_split image st.walk 2 (b - 2) m ∙ ap (λ c. bitmap_demands image st.walk 2 (b - 2) ++ bitmap_demands image st.walk c m) length_of
+
+  fails : IsBegun image → (c : Cause) → FirstFails (bitmap_demands image st.walk b (suc (blocks image - suc b))) b c → FirstFault image b c
+  fails sound c f =
+      let lo : 2 ≤ b = st.low in
+      let z : b - 2 + suc (blocks image - suc b) ≡ blocks image - 2 = omega arith in
+      at_bitmap sound st.walk st.read.is_walk st.read.whole (subst (λ m. FirstFails (bitmap_demands image st.walk 2 m) b c) z
+      (rw (split (suc (blocks image - suc b))) (fails_right (bitmap_demands image st.walk 2 (b - 2)) _ b c st.agrees f)))
+
   pub lost : IsBegun image → free ≡ false → owner_at store.owners b ≡ Free → FirstFault image b LostBlock
-  lost sound f h =
-      let lo : 2 ≤ b = st.low in
-      at_bitmap sound st.walk st.read.is_walk st.read.whole
-      (bitmap_fails image st.walk 2 (b - 2) (blocks image - 2) b LostBlock st.agrees (sym length_of) (omega arith)
-      (inl ((λ k. clash (then_free (k (absent_then h))) f), refl)))
+  lost sound f h = fails sound LostBlock (inl ((λ k. clash (then_free (k (absent_then h))) f), refl, refl))
 
-  pub owned_free : IsBegun image → free ≡ true → owner_at store.owners b ≢ Free
-      → FirstFault image b OwnedFree
-  owned_free sound f h =
-      let lo : 2 ≤ b = st.low in
-      at_bitmap sound st.walk st.read.is_walk st.read.whole
-      (bitmap_fails image st.walk 2 (b - 2) (blocks image - 2) b OwnedFree st.agrees (sym length_of) (omega arith)
-      (inr ((λ a. absurd (then_absent a h)), ((λ k. then_absent (k (free_then f)) h), refl))))
+  pub owned_free : IsBegun image → free ≡ true → owner_at store.owners b ≢ Free → FirstFault image b OwnedFree
+  owned_free sound f h = fails sound OwnedFree (inr ((λ a. absurd (then_absent a h)), inl ((λ k. then_absent (k (free_then f)) h), refl, refl)))
 
-  mapped : (IsAbsent st.walk b → IsFreeIn image st.walk b) → (IsFreeIn image st.walk b → IsAbsent st.walk b)
-      → IsMapped image store (suc b)
+  mapped : (IsAbsent st.walk b → IsFreeIn image st.walk b) → (IsFreeIn image st.walk b → IsAbsent st.walk b) → IsMapped image store (suc b)
   mapped f g =
       let lo : 2 ≤ b = st.low in
-      let e : suc (b - 2) ≡ suc b - 2 = omega arith in
+      let e : b - 2 + 1 ≡ suc b - 2 = omega arith in
       record {
         walk = st.walk;
         read = st.read;
         low = omega arith;
         agrees = subst (λ n. AllHold (bitmap_demands image st.walk 2 n)) e
-            (bitmap_more image st.walk 2 (b - 2) st.agrees (subst (λ b. IsAbsent st.walk b → IsFreeIn image st.walk b) (sym length_of) f)
-            (subst (λ b. IsFreeIn image st.walk b → IsAbsent st.walk b) (sym length_of) g));
+            (rw (split 1) (all_append (bitmap_demands image st.walk 2 (b - 2)) (bitmap_demands image st.walk b 1) st.agrees (f, (g, tt))));
       }
 
   agrees_by : (t : Bool) → free ≡ t → IsTrue free ↔ (owner_at store.owners b ≡ Free) → IsMapped image store (suc b)

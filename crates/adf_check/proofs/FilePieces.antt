@@ -1,5 +1,5 @@
 -- The pieces of a file, joined, are its bytes.
-use Rattle.std.proofs.Common.{◌≡◌, ◌≢◌, inr, ℕ, zero, suc, List, ◌∷◌, ◌+◌, ◌-◌, ◌*◌, ◌^◌, ◌<◌, ◌≤◌, length, take, drop, get_or, refl, sym, ap, subst}
+use Rattle.std.proofs.Common.{◌≡◌, ◌≢◌, ℕ, suc, List, ◌∷◌, ◌+◌, ◌-◌, ◌*◌, ◌^◌, ◌<◌, ◌≤◌, length, take, drop, get_or, refl, sym, ap, subst}
 use Rattle.std.proofs.Common.{◌∙◌, arith, Option, Some, None, length-take, length-drop}
 use Rattle.std.specs.Prelude.{slice_range}
 use Rattle.std.specs.List.{All, concat}
@@ -13,15 +13,14 @@ use Rattle.adf_tree.specs.declared.entry.Kind.{Kind}
 use Rattle.adf_tree.specs.declared.entry.Kind.TheVariants.{Ofs, Ffs}
 use Rattle.adf_tree.specs.Tree.{Tree, entry}
 use Rattle.adf_blocks.specs.Sizes.{blocks, chunk, count}
-use Rattle.adf_volume.specs.declared.owner.Owner.{Owner}
-use Rattle.adf_volume.specs.declared.owner.Owner.TheVariants.{Data, Page, MapExt}
+use Rattle.adf_volume.specs.Walk.Role.{Data}
 use Rattle.adf_volume.specs.Fits.{BodyFits}
 use Rattle.adf_volume.specs.Image.{area, content, held, kind_of, piece, pieces, word_in}
-use Rattle.adf_volume.specs.Layout.{EntryAt, Layout, at_node, datas_of, owned_from}
-use Rattle.adf_volume.specs.Lists.{At, In, numbered}
+use Rattle.adf_volume.specs.Layout.{EntryAt, Layout, at_node, datas_of}
+use Rattle.adf_volume.specs.Lists.{At}
 use Rattle.adf_volume.proofs.Images.{area_length}
-use Rattle.adf_volume.proofs.Lists.{at_index_or, at_some, in_right}
-use Rattle.adf_volume.proofs.LayoutRoles.{owned_data}
+use Rattle.adf_volume.proofs.Lists.{at_index_or, at_some}
+use Rattle.adf_volume.proofs.LayoutRoles.{part_range}
 use Rattle.adf_volume.proofs.Pieces.{held_some, piece_at, pieces_joined, pieces_length}
 use Rattle.adf_volume.proofs.Chains.{entry_is_at, entry_some}
 use Rattle.adf_check.specs.declared.kept.Start.{Start}
@@ -77,14 +76,7 @@ body_other image kind l n h (File bytes) f w = (bytes, refl)
 
 module _ {image : List ℕ} {store : Store} {t : Tree} {l : Layout} (k : StoreStandsFor image store t l) where
   data_range : (n i b : ℕ) → At (datas_of l n) i b → b < blocks image
-  data_range zero i b h = absurd h
-  data_range (suc n) i b h =
-      let one : 1 + n ≡ suc n = omega arith in
-      let here : Owner × ℕ = (Data (suc n) (suc i), b) in
-      let x : In (owned_from 1 l.places) (Data (suc n) (suc i), b) =
-      subst (λ m. In (owned_from 1 l.places) (Data m (suc i), b)) one (owned_data 1 l.places n i b h) in
-      (k.fits.range (Data (suc n) (suc i)) b (inr (in_right (numbered Page 0 l.pages) _ here
-      (in_right (numbered MapExt 0 l.map_exts) (owned_from 1 l.places) here x)))).1
+  data_range n i b h = (part_range image t l k.fits (Data n (suc i)) b h).1
 
   whole : length image ≡ 512 * blocks image
   whole = k.fits.boots.0.0
