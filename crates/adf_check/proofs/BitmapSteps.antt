@@ -25,7 +25,7 @@ use Rattle.adf_check.specs.Pages.{AreListed, IsBitFault}
 use Rattle.adf_check.specs.Reading.{block_of_page, IsListed, IsRead, IsMapped, StoreFits}
 use Rattle.adf_check.specs.Store.{Store, owner_at}
 use Rattle.adf_check.proofs.ClaimSteps.{first_fault}
-use Rattle.adf_check.proofs.DataSteps.{at_get}
+use Rattle.adf_check.proofs.NodeSteps.{at_or}
 use Rattle.adf_check.proofs.PageSteps.{page_is}
 use Rattle.adf_check.proofs.StoreSteps.{free_absent, taken_present}
 
@@ -57,7 +57,7 @@ module _ (free : Bool) {image : List ℕ} {store : Store} {b page : ℕ} {list :
       let m = page_word image st.walk q lt (λ j y. all_map_exts image st.walk st.read.whole j (omega arith)) in
       let x = asked_block image st.walk st.read.whole (Page q) m.0 m.1 m.2 (omega arith) in
       let k : block_of_page image q ≡ x.0 = page_is image st.walk q x.0 st.read.is_walk x.1 in
-      let l : block_of_page image q ≡ slice_index list q = listed.pages q (slice_index list q) (at_get list q (omega arith)) in
+      let l : block_of_page image q ≡ slice_index list q = listed.pages q (slice_index list q) (at_or list q 0 (omega arith)) in
       subst (Has st.walk (Page q)) (sym k ∙ l ∙ sym page_is_at) x.1
 
   only_page : (c : ℕ) → Has st.walk (Page ((b - 2) / 4064)) c → c ≡ page

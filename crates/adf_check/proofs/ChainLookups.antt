@@ -65,20 +65,20 @@ abbrev next_in : List ℕ → ℕ → ℕ
 next_in image b = word_in image b NEXT_IN_CHAIN
 
 -- the nodes of the chain of a name, and the blocks of their headers
-abbrev nodes_of : Tree → ℕ → List ℕ → List ℕ
-nodes_of t p name = chain_nodes t p (slot_of name)
+abbrev nodes_named : Tree → ℕ → List ℕ → List ℕ
+nodes_named t p name = chain_nodes t p (slot_of name)
 
-abbrev heads_of : List ℕ → Tree → Layout → ℕ → List ℕ → List ℕ
-heads_of image t l p name = map (at_node image l) (nodes_of t p name)
+abbrev heads_named : List ℕ → Tree → Layout → ℕ → List ℕ → List ℕ
+heads_named image t l p name = map (at_node image l) (nodes_named t p name)
 
 -- block b, or 0 for none, stands at this place of the chain of a name, and no entry before it has the name
 pub record OnChain (image : List ℕ) (t : Tree) (l : Layout) (p : ℕ) (name : List ℕ) (b : ℕ) : Type 0 where
   pub first : ℕ
-  pub spelled : Spelled (next_in image) first (heads_of image t l p name)
+  pub spelled : Spelled (next_in image) first (heads_named image t l p name)
   pub place : ℕ
-  pub here : b ≢ 0 → At (heads_of image t l p name) place b
-  pub ended : b ≡ 0 → length (nodes_of t p name) ≤ place
-  pub passed : (j n : ℕ) (e : Entry) → j < place → At (nodes_of t p name) j n → EntryAt t n e → uppers e.name ≢ uppers name
+  pub here : b ≢ 0 → At (heads_named image t l p name) place b
+  pub ended : b ≡ 0 → length (nodes_named t p name) ≤ place
+  pub passed : (j n : ℕ) (e : Entry) → j < place → At (nodes_named t p name) j n → EntryAt t n e → uppers e.name ≢ uppers name
 
 module _ {image : List ℕ} {store : Store} {t : Tree} {l : Layout} (k : StoreStandsFor image store t l) where
   pub body_dir : (n h : ℕ) (body : Body) → BodyFits image t.kind l n h body → word_in image h SECONDARY_TYPE ≡ ST_DIR → body ≡ Dir
@@ -123,19 +123,19 @@ module _ {image : List ℕ} {store : Store} {t : Tree} {l : Layout} (k : StoreSt
 
   module _ (p : ℕ) (name : List ℕ) where
     -- a place of the chain at which no block but 0 could stand is behind its end
-    ends_by : (j : ℕ) → ((b : ℕ) → At (heads_of image t l p name) j b → 0 ≡ b) → length (nodes_of t p name) ≤ j
+    ends_by : (j : ℕ) → ((b : ℕ) → At (heads_named image t l p name) j b → 0 ≡ b) → length (nodes_named t p name) ≤ j
     ends_by j zero_at =
-        elim (dec_lt j (length (nodes_of t p name))) [
+        elim (dec_lt j (length (nodes_named t p name))) [
           | yes lt ↦
-              let x = at_some (nodes_of t p name) j lt in
-              let z = zero_at (at_node image l x.0) (at_map (at_node image l) (nodes_of t p name) j x.0 x.1) in
+              let x = at_some (nodes_named t p name) j lt in
+              let z = zero_at (at_node image l x.0) (at_map (at_node image l) (nodes_named t p name) j x.0 x.1) in
               let low = (part_range image t l k.fits (Head x.0 p (slot_of name) j) (at_node image l x.0) (x.1, refl)).0 in
               absurd (omega arith)
           | no ge ↦ omega arith
         ]
 
     -- the owner of a header, and the nodes from it on
-    left_at : (j n : ℕ) → At (nodes_of t p name) j n → {b : ℕ} → at_node image l n ≡ b
+    left_at : (j n : ℕ) → At (nodes_named t p name) j n → {b : ℕ} → at_node image l n ≡ b
         → (owner_at store.owners b ≡ AHead n) × (chain_left store b ≡ suc (length store.rows) - n) × (n ≤ length store.rows)
     left_at j n a {b = b} is =
         let x = entry_at t p (slot_of name) j n a in
@@ -143,24 +143,24 @@ module _ {image : List ℕ} {store : Store} {t : Tree} {l : Layout} (k : StoreSt
         (o, ap (node_left (length store.rows)) o, omega (arith, entry_below t n x.0 x.1, k.rows.count))
 
   module _ {p : ℕ} {name : List ℕ} where
-    pub chain_begins : (b : ℕ) → Spelled (next_in image) b (heads_of image t l p name) → OnChain image t l p name b
+    pub chain_begins : (b : ℕ) → Spelled (next_in image) b (heads_named image t l p name) → OnChain image t l p name b
     chain_begins b h = record {
       first = b;
       spelled = h;
       place = 0;
-      here = spelled_first (next_in image) b (heads_of image t l p name) h;
-      ended = (λ z. ends_by p name 0 (λ c a. sym z ∙ spelled_word (next_in image) b (heads_of image t l p name) c h a));
+      here = spelled_first (next_in image) b (heads_named image t l p name) h;
+      ended = (λ z. ends_by p name 0 (λ c a. sym z ∙ spelled_word (next_in image) b (heads_named image t l p name) c h a));
       passed = (λ j n e lt. absurd (omega arith));
     }
 
     -- no header is left
     pub chain_ended : OnChain image t l p name 0 → child t.entries p name ≡ None
-    chain_ended c = chain_no t p name (λ j n e a. c.passed j n e (omega (arith, at_below (nodes_of t p name) j n a, c.ended refl)) a)
+    chain_ended c = chain_no t p name (λ j n e a. c.passed j n e (omega (arith, at_below (nodes_named t p name) j n a, c.ended refl)) a)
 
     module _ {b : ℕ} (c : OnChain image t l p name b) (ne : b ≢ 0) where
       -- the node of the header
-      at : (n : ℕ) × At (nodes_of t p name) c.place n × (at_node image l n ≡ b)
-      at = at_unmap (at_node image l) (nodes_of t p name) c.place b (c.here ne)
+      at : (n : ℕ) × At (nodes_named t p name) c.place n × (at_node image l n ≡ b)
+      at = at_unmap (at_node image l) (nodes_named t p name) c.place b (c.here ne)
 
       node_entry : (e : Entry) × EntryAt t at.0 e × (e.parent ≡ p) × (slot_of e.name ≡ slot_of name) × (1 ≤ at.0)
       node_entry = entry_at t p (slot_of name) c.place at.0 at.1
@@ -183,8 +183,8 @@ module _ {image : List ℕ} {store : Store} {t : Tree} {l : Layout} (k : StoreSt
           ap headed (left_at p name c.place at.0 at.1 at.2).0
           ∙ sym (chain_yes t p (slot_of name) name c.place at.0 x.0 k.fits.tree at.1 x.1 (ap uppers (entry_fits x.0 x.1).name ∙ u))
 
-      next_here : next_in image b ≢ 0 → At (heads_of image t l p name) (suc c.place) (next_in image b)
-      next_here = spelled_next (next_in image) c.first (heads_of image t l p name) c.place b c.spelled (c.here ne)
+      next_here : next_in image b ≢ 0 → At (heads_named image t l p name) (suc c.place) (next_in image b)
+      next_here = spelled_next (next_in image) c.first (heads_named image t l p name) c.place b c.spelled (c.here ne)
 
       -- or it is passed
       pub chain_next : uppers (name_of image b) ≢ uppers name → OnChain image t l p name (next_in image b)
@@ -194,10 +194,10 @@ module _ {image : List ℕ} {store : Store} {t : Tree} {l : Layout} (k : StoreSt
         place = suc c.place;
         here = next_here;
         ended = (λ z. ends_by p name (suc c.place)
-            (λ d a. sym z ∙ spelled_link (next_in image) c.first (heads_of image t l p name) c.place b d c.spelled (c.here ne) a));
+            (λ d a. sym z ∙ spelled_link (next_in image) c.first (heads_named image t l p name) c.place b d c.spelled (c.here ne) a));
         passed = (λ j n e lt a v. elim (ℕ_discrete j c.place) [
           | yes z ↦
-              let same : n ≡ at.0 = at_fun (nodes_of t p name) c.place n at.0 (subst (λ j. At (nodes_of t p name) j n) z a) at.1 in
+              let same : n ≡ at.0 = at_fun (nodes_named t p name) c.place n at.0 (subst (λ j. At (nodes_named t p name) j n) z a) at.1 in
               λ u. other (ap uppers (sym (entry_fits e (subst (λ m. EntryAt t m e) same v)).name) ∙ u)
           | no earlier ↦ c.passed j n e (omega arith) a v
         ]);
@@ -213,7 +213,7 @@ module _ {image : List ℕ} {store : Store} {t : Tree} {l : Layout} (k : StoreSt
                 let none : chain_left store (next_in image b) ≡ 0 = ap (node_left (length store.rows)) boot in
                 omega (arith, left.1, left.2)
             | no more ↦
-                let x = at_unmap (at_node image l) (nodes_of t p name) (suc c.place) (next_in image b) (next_here more) in
+                let x = at_unmap (at_node image l) (nodes_named t p name) (suc c.place) (next_in image b) (next_here more) in
                 let up = chain_rises 1 t.entries p (slot_of name) c.place (suc c.place) at.0 x.0 at.1 x.1 (omega arith) in
                 omega (arith, left.1, left.2, (left_at p name (suc c.place) x.0 x.1 x.2).1)
           ]

@@ -13,7 +13,7 @@ use Rattle.adf_volume.specs.Image.{held, kind_of, table_word, word_in}
 use Rattle.adf_volume.specs.Lists.{At}
 use Rattle.adf_volume.specs.Walk.{Enough, FileAt, IsWalk, MemberAt, Role, data_count, ext_count, form_demands, member_block, next_data, node_block}
 use Rattle.adf_volume.specs.Walk.Role.{Data, Ext, Head}
-use Rattle.adf_volume.proofs.Lists.{at_index, at_some}
+use Rattle.adf_volume.proofs.Lists.{at_some}
 use Rattle.adf_volume.proofs.MemberFacts.{file_up, in_range, member_up}
 use Rattle.adf_volume.proofs.Walks.{file_is, member_is, one_head}
 use Rattle.adf_check.specs.Fault.{IsTrueFault, fault}
@@ -22,12 +22,10 @@ use Rattle.adf_check.specs.Datas.{next_of}
 use Rattle.adf_check.specs.Image.{IsBegun}
 use Rattle.adf_check.specs.Reading.{IsAtNode, IsInDatas}
 use Rattle.adf_check.specs.Store.{Store, owner_at}
+use Rattle.adf_check.proofs.NodeSteps.{at_or}
 use Rattle.adf_check.proofs.NumberBounds.{many_blocks}
 use Rattle.adf_check.proofs.ClaimSteps.{IsNamed, IsStored, form_fault, read_one, short_fault}
 use Rattle.adf_check.proofs.CursorMoves.{moved, end_datas}
-
-pub at_get : (xs : List ℕ) (i : ℕ) → i < length xs → At xs i (slice_index xs i)
-at_get xs i h = let e = at_some xs i h in subst (At xs i) (sym (at_index xs i e.0 e.1)) e.1
 
 member_inside : (image : List ℕ) (w : List (Role × ℕ)) → IsBegun image → IsWalk image w → (n m c : ℕ) → MemberAt image w n m c → c < blocks image
 member_inside image w begun v n zero c h = (in_range image v (many_blocks image begun) (Head n h.0.0 h.0.1 h.0.2) c h.0.3).1
@@ -37,7 +35,7 @@ member_inside image w begun v n (suc m) c h = (in_range image v (many_blocks ima
 pub table_inside : {image : List ℕ} {store : Store} {n h : ℕ} {table : List ℕ} {k : ℕ} → IsBegun image → IsInDatas image store n h table k → (i : ℕ)
     → i < length table → slice_index table i < blocks image
 table_inside {image = image} {n = n} {table = table} begun st i lt =
-    member_inside image st.walk begun st.read.upto.walk n i (slice_index table i) (st.holds.members i (slice_index table i) (at_get table i lt))
+    member_inside image st.walk begun st.read.upto.walk n i (slice_index table i) (st.holds.members i (slice_index table i) (at_or table i 0 lt))
 
 -- behind the last data block
 pub datas_end : (image : List ℕ) (store : Store) (n h : ℕ) (table : List ℕ) (k : ℕ) → IsInDatas image store n h table k → data_count image h ≤ k
@@ -77,7 +75,7 @@ module _ {image : List ℕ} {store : Store} {n h : ℕ} {table : List ℕ} {k : 
   module _ (enough : data_count image h ≤ 72 * length table) (lt : k < data_count image h) {b : ℕ}
       (e : b ≡ word_in image (slice_index table (k / 72)) (77 - k % 72)) where
     pub data_named : IsNamed image store st.walk (Data n (suc k)) (slice_index table (k / 72)) b
-    data_named = named_by lt (slice_index table (k / 72)) b (at_get table (k / 72) (omega arith)) e
+    data_named = named_by lt (slice_index table (k / 72)) b (at_or table (k / 72) 0 (omega arith)) e
 
     pub data_enough : Enough image st.walk (Data n (suc k))
     data_enough _ a f =
@@ -91,7 +89,7 @@ module _ {image : List ℕ} {store : Store} {n h : ℕ} {table : List ℕ} {k : 
     next_here false z = refl
     next_here true z =
         let more : suc k < data_count image h = ltb-true (suc k) (data_count image h) z in
-        let x = at_get table (suc k / 72) (omega arith) in
+        let x = at_or table (suc k / 72) 0 (omega arith) in
         ap (λ b. word_in image b (table_word (suc k))) (member_is image st.walk n (suc k / 72) (slice_index table (suc k / 72)) st.read.upto.walk
         (st.holds.members (suc k / 72) (slice_index table (suc k / 72)) x))
 

@@ -19,7 +19,7 @@ use Rattle.adf_volume.specs.Image.{area, content, held, kind_of, piece, pieces, 
 use Rattle.adf_volume.specs.Layout.{EntryAt, Layout, at_node, datas_of}
 use Rattle.adf_volume.specs.Lists.{At}
 use Rattle.adf_volume.proofs.Images.{area_length}
-use Rattle.adf_volume.proofs.Lists.{at_index_or, at_some}
+use Rattle.adf_volume.proofs.Lists.{at_index_or}
 use Rattle.adf_volume.proofs.LayoutRoles.{part_range}
 use Rattle.adf_volume.proofs.Pieces.{held_some, piece_at, pieces_joined, pieces_length}
 use Rattle.adf_volume.proofs.Chains.{entry_is_at, entry_some}
@@ -27,6 +27,7 @@ use Rattle.adf_check.specs.declared.kept.Start.{Start}
 use Rattle.adf_check.specs.StoredVolume.{StoreStandsFor}
 use Rattle.adf_check.specs.Store.{Store}
 use Rattle.adf_check.proofs.ChainLookups.{body_dir}
+use Rattle.adf_check.proofs.NodeSteps.{at_or}
 use Rattle.adf_check.proofs.StoredVolume.{keeps}
 use Rattle.adf_check.specs.Reading.{StoreFits}
 use Rattle.adf_check.specs.Pieces.{AreInside, bytes_in, bytes_of}
@@ -60,9 +61,6 @@ part_inside ds ys x c e n ne =
     let a = sym (length-take (length ys) (drop x ds)) ∙ ap length e in
     let b = length-drop x ds in
     omega arith
-
-at_or : {X : Type 0} (xs : List X) (i : ℕ) (d : X) → i < length xs → At xs i (get_or xs i d)
-at_or xs i d lt = let x = at_some xs i lt in subst (At xs i) (sym (at_index_or xs i x.0 d x.1)) x.1
 
 count_small : (kind : Kind) (size : ℕ) → size < 2 ^ 32 → 1 + count kind size < 2 ^ 32
 unfolding count chunk

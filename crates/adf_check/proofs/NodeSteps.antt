@@ -1,5 +1,5 @@
 -- The steps along the nodes: each is begun, and what its header names is read.
-use Rattle.std.proofs.Common.{◌≡◌, ◌≢◌, inl, inr, ℕ, zero, suc, List, [], ◌∷◌, ◌<◌, ◌≤◌, length, get_or, refl, sym, ap, subst, ◌∙◌, arith}
+use Rattle.std.proofs.Common.{◌≡◌, ◌≢◌, inl, inr, ℕ, suc, ◌-◌, List, [], ◌∷◌, ◌<◌, ◌≤◌, length, get_or, refl, sym, ap, subst, ◌∙◌, arith}
 use Rattle.adf_blocks.specs.declared.layout.TheConstants.{ST_DIR}
 use Rattle.adf_blocks.specs.Sizes.{blocks}
 use Rattle.adf_volume.specs.Image.{kind_of, root_of, word_in}
@@ -7,7 +7,7 @@ use Rattle.adf_volume.specs.Lists.{At}
 use Rattle.adf_volume.specs.Walk.{Role, first, Has, heads, DirAt, FileAt, IsWalk}
 use Rattle.adf_volume.specs.Walk.Role.{Root, Head}
 use Rattle.adf_volume.proofs.FormDemands.{head_type}
-use Rattle.adf_volume.proofs.Lists.{at_below, at_fun, at_snoc, snoc_length}
+use Rattle.adf_volume.proofs.Lists.{at_below, at_fun, at_index_or, at_snoc, at_some, snoc_length}
 use Rattle.adf_volume.proofs.MemberFacts.{in_range, kept}
 use Rattle.adf_volume.proofs.Walks.{numbered, root_in}
 use Rattle.adf_check.specs.declared.kept.KeptHeader.{KeptHeader}
@@ -20,15 +20,13 @@ use Rattle.adf_check.proofs.CursorMoves.{moved, enter_dir, end_dir, end_all}
 use Rattle.adf_check.proofs.ExtSteps.{enter_exts}
 use Rattle.adf_check.proofs.FileBlocks.{all_before, data_tells, ext_tells}
 
--- the row at a place
-pub row_at : (rows : List KeptHeader) (i : ℕ) (d : KeptHeader) → i < length rows → At rows i (get_or rows i d)
-row_at [] i d lt = absurd (omega arith)
-row_at (r ∷ rows) zero d lt = refl
-row_at (r ∷ rows) (suc i) d lt = row_at rows i d (omega arith)
+-- the member at a place
+pub at_or : {X : Type 0} (xs : List X) (i : ℕ) (d : X) → i < length xs → At xs i (get_or xs i d)
+at_or xs i d lt = let x = at_some xs i lt in subst (At xs i) (sym (at_index_or xs i x.0 d x.1)) x.1
 
--- the same of a list that is the rows
+-- the row at a place of a list that is the rows
 pub row_here : (rows : List KeptHeader) (i : ℕ) (r : KeptHeader) {xs : List KeptHeader} → xs ≡ rows → i < length xs → r ≡ get_or xs i r → At rows i r
-row_here rows i r {xs = xs} e lt is = subst (λ xs. At xs i r) e (subst (At xs i) (sym is) (row_at xs i r lt))
+row_here rows i r {xs = xs} e lt is = subst (λ xs. At xs i r) e (subst (At xs i) (sym is) (at_or xs i r lt))
 
 -- the next node is begun
 pub enter_node : (image : List ℕ) (store : Store) (n : ℕ) → IsAtNode image store n → IsInNode image (entered store) n
@@ -97,26 +95,29 @@ pub root_begins : (image : List ℕ) (store : Store) (n a : ℕ) → n ≡ 0 →
 root_begins image store n a z e st =
     enter_directory image store n a st (subst (λ n. DirAt image st.walk n a) (sym z) (subst (Has st.walk Root) (sym e) (root_in image st.read.upto.walk)))
 
--- the next node is n, of row i
-module _ {image : List ℕ} {store : Store} {n i : ℕ} {row : KeptHeader} (begun : IsBegun image) (node : n ≡ suc i) (within : n ≤ length store.rows)
-    (row_is : row ≡ get_or store.rows i row) (st : IsInNode image store n) where
-  here : At store.rows i row
-  here = row_here store.rows i row refl (omega arith) row_is
+-- the next node is n, and its row is known
+module _ {image : List ℕ} {store : Store} {m n : ℕ} {row : KeptHeader} (begun : IsBegun image) (view : m ≡ n) (ne : m ≢ 0)
+    (within : n ≤ length store.rows) (row_is : row ≡ get_or store.rows (m - 1) row) (st : IsInNode image store n) where
+  here : At store.rows (m - 1) row
+  here = row_here store.rows (m - 1) row refl (omega arith) row_is
+
+  node : suc (m - 1) ≡ n
+  node = omega arith
 
   pub head_inside : row.head < blocks image
   head_inside =
-      let x = node_here image store st.walk st.read.tells st.read.upto.walk i row here in
-      (in_range image st.read.upto.walk (many_blocks image begun) (Head (suc i) x.0 x.1 x.2) row.head x.3).1
+      let x = node_here image store st.walk st.read.tells st.read.upto.walk (m - 1) row here in
+      (in_range image st.read.upto.walk (many_blocks image begun) (Head (suc (m - 1)) x.0 x.1 x.2) row.head x.3).1
 
   pub directory_begins : word_in image row.head 127 ≡ ST_DIR → IsAtSlot image store n row.head 0
   directory_begins e =
-      enter_directory image store n row.head st (subst (λ n. DirAt image st.walk n row.head) (sym node)
-      (node_here image store st.walk st.read.tells st.read.upto.walk i row here, e))
+      enter_directory image store n row.head st (subst (λ n. DirAt image st.walk n row.head) node
+      (node_here image store st.walk st.read.tells st.read.upto.walk (m - 1) row here, e))
 
   pub file_begins : word_in image row.head 127 ≢ ST_DIR → IsInExts image store n row.head (row.head ∷ []) row.head (word_in image row.head 126)
   file_begins e =
-      enter_exts image store n row.head st (subst (λ n. FileAt image st.walk n row.head) (sym node)
-      (file_here image store st.walk st.read.tells st.read.upto.walk i row here e))
+      enter_exts image store n row.head st (subst (λ n. FileAt image st.walk n row.head) node
+      (file_here image store st.walk st.read.tells st.read.upto.walk (m - 1) row here e))
 
 -- behind the last node all is read
 pub all_read : (image : List ℕ) (store : Store) (n : ℕ) → n ≡ suc (length store.rows) → IsAtNode image store n → IsRead image store

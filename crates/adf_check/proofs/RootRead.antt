@@ -1,20 +1,18 @@
 -- The state of a reader that has read the root alone.
-use Rattle.std.proofs.Common.{◌≡◌, ◌≢◌, inl, inr, ℕ, zero, suc, List, [], ◌∷◌, ◌+◌, ◌-◌, ◌<◌, ◌≤◌, length, set, length-set, get_or-set_same}
+use Rattle.std.proofs.Common.{◌≡◌, ◌≢◌, ℕ, zero, suc, List, [], ◌∷◌, ◌+◌, ◌-◌, ◌<◌, ◌≤◌, length, set}
 use Rattle.std.proofs.Common.{get_or-set_other, refl, sym, ap, subst, ◌∙◌, arith}
 use Rattle.std.specs.Prelude.{replicate}
 use Rattle.std.proofs.lemmas.List.{length-replicate, get_or-replicate}
-use native.Mathlib.Decide.{ℕ_discrete}
 use Rattle.adf_blocks.specs.Sizes.{blocks}
 use Rattle.adf_volume.specs.declared.owner.Owner.{Owner}
 use Rattle.adf_volume.specs.declared.owner.Owner.TheVariants.{Free, Boot, Root}
 use Rattle.adf_volume.specs.Image.{root_of}
-use Rattle.adf_volume.specs.LayoutRoles.{owner_of}
-use Rattle.adf_volume.specs.Walk.{second}
-use Rattle.adf_volume.specs.Walk.Role.{Head, Root as TheRoot}
+use Rattle.adf_volume.specs.Walk.Role.{Root as TheRoot}
 use Rattle.adf_check.specs.Image.{IsBegun}
 use Rattle.adf_check.specs.Owners.{owned_count}
 use Rattle.adf_check.specs.Reading.{IsBeforePage}
-use Rattle.adf_check.specs.Store.{Store, owner_at}
+use Rattle.adf_check.specs.Store.{Store, StoreMatches, owner_at}
+use Rattle.adf_check.proofs.StoreSteps.{tells_more}
 use Rattle.adf_check.proofs.NumberBounds.{many_blocks}
 use Rattle.adf_check.proofs.CursorMoves.{begin}
 
@@ -46,48 +44,37 @@ new_free m (suc (suc b)) l h = get_or-replicate m b Free Free (omega arith)
 pub owners_free : (m root b : ℕ) → 2 ≤ b → b < 2 + m → b ≢ root → owner_at (owners_of m root) b ≡ Free
 owners_free m root b l h ne = get_or-set_other (new_owners m) root b Root Free ne ∙ new_free m b l h
 
+-- nothing is read and nothing is claimed
+new_tells : (image : List ℕ) (m : ℕ) → blocks image ≡ 2 + m
+    → StoreMatches image (record { owners = new_owners m; rows = []; starts = []; exts = []; datas = []; used = 0 }) []
+new_tells image m size = record {
+  owns = record {
+    size = new_length m ∙ sym size;
+    boot = (λ b l h. new_boot m b l);
+    assigned = (λ q b h. absurd h);
+    owned = (λ b lo hi h. absurd (h (new_free m b lo (omega arith))));
+  };
+  lists = record { count = refl; row = (λ i p s j b h. absurd h) };
+  exts = refl;
+  datas = refl;
+  used = refl;
+  starts = (λ n x a. absurd a);
+}
+
 -- the root alone is claimed
 pub root_read : (image : List ℕ) (m root : ℕ) → blocks image ≡ 2 + m → root_of image ≡ root → 2 ≤ root → root < 2 + m
     → IsBeforePage image (first_store (owners_of m root)) 0 (root_of image)
 root_read image m root size root_is low high = record {
   walk = (TheRoot, root_of image) ∷ [];
   read = record {
-    tells = record {
-      owns = record {
-        size = length-set (new_owners m) root Root ∙ new_length m ∙ sym size;
-        boot = (λ b l h. get_or-set_other (new_owners m) root b Root Free (λ e. omega arith) ∙ new_boot m b l);
-        assigned = (λ q b k. elim k [
-          | inl e ↦ ap (owner_at (owners_of m root)) (sym e.1) ∙ (here ∙ ap owner_of e.0)
-          | inr f ↦ absurd f
-        ]);
-        owned = (λ b lo hi h. elim (ℕ_discrete b (root_of image)) [
-          | yes e ↦ (TheRoot, inl (refl, sym e), ap (owner_at (owners_of m root)) e ∙ here)
-          | no n ↦ absurd (h (owners_free m root b lo (omega arith) (λ e. n (e ∙ sym root_is))))
-        ]);
-      };
-      lists = record {
-        count = refl;
-        row = (λ i p s j b h. elim h [
-          | inl e ↦ let x : second TheRoot ≡ second (Head (suc i) p s j) = ap second e.0 in absurd (omega arith)
-          | inr f ↦ absurd f
-        ]);
-      };
-      exts = refl;
-      datas = refl;
-      used = refl;
-      starts = (λ m x a. absurd a);
-    };
+    tells = subst (λ b. StoreMatches image (first_store (owners_of m root)) ((TheRoot, b) ∷ [])) (sym root_is)
+        (tells_more image _ [] TheRoot root (λ n p s j e. cc) (omega arith) (new_tells image m size) low (omega arith) (new_free m root low high));
     started = refl;
     upto = begin image;
   };
   at_root = (λ _. refl);
   at_ext = (λ j l h. absurd (omega arith));
 }
-  where
-    here : owner_at (owners_of m root) (root_of image) ≡ Root
-    here =
-        let long : length (new_owners m) ≡ 2 + m = new_length m in
-        ap (owner_at (owners_of m root)) root_is ∙ get_or-set_same (new_owners m) root Root Free (omega arith)
 
 none_owned : (m : ℕ) → owned_count (replicate m Free) ≡ 0
 none_owned zero = refl

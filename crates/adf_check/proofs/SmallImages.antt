@@ -112,11 +112,12 @@ module _ {image : List ℕ} {m root page : ℕ} (is : IsSmall image m root page)
         agrees (bit_is image page b) inside listed (page_at is.one) bit_free st
         (subst (λ t. IsTrue t ↔ (owner_at store.owners b ≡ Free)) (sym e) (free_owner (owner_at store.owners b)))
 
-    block_lost : {store : Store} → bit_is image page b ≡ false → is_free (owner_at store.owners b) ≡ true → IsMapped image store b → FirstFault image b LostBlock
-    block_lost {store = store} e f st = lost (bit_is image page b) inside listed (page_at is.one) bit_free st is.begun e ((free_owner (owner_at store.owners b)).0 f)
+    block_lost : {store : Store} → bit_is image page b ≡ false → is_free (owner_at store.owners b) ≡ true → IsMapped image store b
+        → FirstFault image b LostBlock
+    block_lost {store = store} e f st =
+        lost (bit_is image page b) inside listed (page_at is.one) bit_free st is.begun e ((free_owner (owner_at store.owners b)).0 f)
 
-  agreeing : {store : Store} (n : ℕ) → n ≤ m
-      → Agree image store.owners page n → IsRead image store → IsMapped image store (2 + n)
+  agreeing : {store : Store} (n : ℕ) → n ≤ m → Agree image store.owners page n → IsRead image store → IsMapped image store (2 + n)
   agreeing {store = store} zero few h st = map_begins image store st
   agreeing {store = store} (suc n) few h st =
       let z : suc (2 + n) ≡ 2 + suc n = omega arith in

@@ -20,7 +20,7 @@ use Rattle.adf_check.specs.Store.{Store}
 use Rattle.adf_check.proofs.NodeSteps.{node_here}
 use Rattle.adf_check.proofs.NumberBounds.{many_blocks}
 use Rattle.adf_check.proofs.RowLaws.{tells_begun, type_told}
-use Rattle.adf_check.proofs.NodeSteps.{row_at}
+use Rattle.adf_check.proofs.NodeSteps.{at_or}
 use Rattle.adf_check.specs.Volumes.{counts_of, is_dir_at, is_directory}
 use Rattle.adf_check.specs.declared.checked.Counts.{Counts}
 
@@ -32,7 +32,7 @@ row_inside {image = image} {store = store} st i r at =
 
 pub rows_inside : (image : List ℕ) (store : Store) → StoreFits image store → (i : ℕ) (d : KeptHeader) → i < length store.rows
     → (get_or store.rows i d).head < blocks image
-rows_inside image store st i d lt = row_inside st i (get_or store.rows i d) (row_at store.rows i d lt)
+rows_inside image store st i d lt = row_inside st i (get_or store.rows i d) (at_or store.rows i d lt)
 
 -- two lists of one length whose members agree have one count
 same_count : {X Y : Type 0} (f : X → Bool) (g : Y → Bool) (xs : List X) (ys : List Y) → length xs ≡ length ys

@@ -1,4 +1,4 @@
-use Rattle.std.proofs.Common.{◌≡◌, ◌-◌, ◌∷◌, [], ℕ, suc, subst, sym, ◌∙◌, arith}
+use Rattle.std.proofs.Common.{◌∷◌, [], ℕ, subst, sym, ◌∙◌}
 use Rattle.adf_check.specs.Reading.{IsInExts}
 use Rattle.adf_check.specs.Found.{store_of}
 use Rattle.adf_check.proofs.HeaderBodies.{dir_type, file_words}
@@ -12,18 +12,15 @@ read_directory-requires-clause-state c =
 
 pub body-requires : goal.body-requires
 body-requires c =
-    let node : c.args.node ≡ suc (c.node.inside.0 - 1) = omega (arith, c.node.view_is, c.if-node-eq0.false) in
-    head_inside c.root-root.ensures.begun node c.requires.inside c.index.ensures c.requires.state
+    head_inside c.root-root.ensures.begun c.node.view_is c.if-node-eq0.false c.requires.inside c.index.ensures c.requires.state
 
 pub read_directory-requires-in-Dir-clause-inside : goal.read_directory-requires-in-Dir-clause-inside
 read_directory-requires-in-Dir-clause-inside c =
-    let node : c.args.node ≡ suc (c.node.inside.0 - 1) = omega (arith, c.node.view_is, c.if-node-eq0.false) in
-    head_inside c.root-root.ensures.begun node c.requires.inside c.index.ensures c.requires.state
+    head_inside c.root-root.ensures.begun c.node.view_is c.if-node-eq0.false c.requires.inside c.index.ensures c.requires.state
 
 pub read_directory-requires-in-Dir-clause-state : goal.read_directory-requires-in-Dir-clause-state
 read_directory-requires-in-Dir-clause-state c =
-    let node : c.args.node ≡ suc (c.node.inside.0 - 1) = omega (arith, c.node.view_is, c.if-node-eq0.false) in
-    directory_begins c.root-root.ensures.begun node c.requires.inside c.index.ensures c.requires.state
+    directory_begins c.root-root.ensures.begun c.node.view_is c.if-node-eq0.false c.requires.inside c.index.ensures c.requires.state
     (dir_type c.args.image.now c.index.result.now.head c.body.result c.body.ensures.body c.in-Dir.is)
 
 pub read_file-requires-clause-size : goal.read_file-requires-clause-size
@@ -34,7 +31,6 @@ pub read_file-requires-clause-state : goal.read_file-requires-clause-state
 read_file-requires-clause-state c =
     let image = c.args.image.now in
     let h : ℕ = c.index.result.now.head in
-    let node : c.args.node ≡ suc (c.node.inside.0 - 1) = omega (arith, c.node.view_is, c.if-node-eq0.false) in
     let told = file_words image h c.in-File.size c.in-File.ext c.body.result c.body.ensures.body c.in-File.is in
     subst (IsInExts image (store_of c.args.found.now) c.args.node h (h ∷ []) h) (sym told.2)
-    (file_begins c.root-root.ensures.begun node c.requires.inside c.index.ensures c.requires.state told.0)
+    (file_begins c.root-root.ensures.begun c.node.view_is c.if-node-eq0.false c.requires.inside c.index.ensures c.requires.state told.0)
