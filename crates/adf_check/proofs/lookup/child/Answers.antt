@@ -3,7 +3,9 @@ use Rattle.adf_fields.specs.Hash.{slot_of}
 use Rattle.adf_fields.specs.Words.{word}
 use Rattle.adf_blocks.specs.HeadBlock.{IsHead}
 use Rattle.adf_volume.specs.Image.{word_in}
-use Rattle.adf_volume.specs.Layout.{at_node, chain_nodes}
+use Rattle.adf_tree.specs.Tree.{Tree}
+use Rattle.adf_volume.specs.Layout.{Layout, at_node, chain_nodes}
+use Rattle.adf_check.specs.StoredVolume.{StoreStandsFor}
 use Rattle.adf_volume.specs.Lists.{Spelled}
 use Rattle.adf_check.specs.Found.{store_of}
 use Rattle.adf_check.proofs.ChainLookups.{OnChain, chain_begins, chain_ended, chain_found, chain_left, chain_next, child_within, on_head, on_inside}
@@ -28,16 +30,12 @@ pub node_at-requires : goal.node_at-requires
 node_at-requires c =
     subst (λ n. c.loop-b.b < n) (sym c.requires.tells.read.tells.owns.size) (on_inside c.requires.tells c.loop-b.invariant c.loop-b-test.true)
 
-pub returns-then-same-clause-found : goal.returns-then-same-clause-found
-returns-then-same-clause-found c = λ t l k.
+pub returns-then-same : goal.returns-then-same
+returns-then-same c =
     let same = same_name c.args.image.now c.loop-b.b c.args.name.now c.name.ensures c.over-head.ensures c.block.ensures.block c.same.ensures c.if-same.true in
-    c.node_at.ensures ∙ chain_found k (c.loop-b.invariant t l k) c.loop-b-test.true same
-
-pub returns-then-same-clause-node : goal.returns-then-same-clause-node
-returns-then-same-clause-node c =
-    let same = same_name c.args.image.now c.loop-b.b c.args.name.now c.name.ensures c.over-head.ensures c.block.ensures.block c.same.ensures c.if-same.true in
-    child_within c.requires.tells c.args.parent c.args.name.now c.node_at.result
-    (λ t l k. c.node_at.ensures ∙ chain_found k (c.loop-b.invariant t l k) c.loop-b-test.true same)
+    let found = λ (t : Tree) (l : Layout) (k : StoreStandsFor c.args.image.now (store_of c.args.found.now) t l).
+    c.node_at.ensures ∙ chain_found k (c.loop-b.invariant t l k) c.loop-b-test.true same in
+    record { found = found; node = child_within c.requires.tells c.args.parent c.args.name.now c.node_at.result found }
 
 pub loop-b-smaller : goal.loop-b-smaller
 loop-b-smaller c =

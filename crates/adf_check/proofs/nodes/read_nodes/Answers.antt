@@ -6,11 +6,10 @@ use Rattle.adf_check.proofs.NodeSteps.{all_read}
 use Rattle.adf_check.proofs.NumberBounds.{lists_short}
 use Rattle.adf_check.proofs.nodes.read_nodes.Goals as goal
 
-pub enter-requires-clause-exts : goal.enter-requires-clause-exts
-enter-requires-clause-exts c = (lists_short c.requires.begun refl c.loop-node.invariant.state).0
-
-pub enter-requires-clause-datas : goal.enter-requires-clause-datas
-enter-requires-clause-datas c = (lists_short c.requires.begun refl c.loop-node.invariant.state).1
+pub enter-requires : goal.enter-requires
+enter-requires c =
+    let short = lists_short c.requires.begun refl c.loop-node.invariant.state in
+    record { exts = short.0; datas = short.1 }
 
 pub read_node-requires-clause-state : goal.read_node-requires-clause-state
 read_node-requires-clause-state c =

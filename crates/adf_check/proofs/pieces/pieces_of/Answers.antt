@@ -33,21 +33,13 @@ new-requires c =
     file.0 c.bytes.ensures.bytes c.kind.ensures.kind file.1
     c.datas_of-datas.ensures (omega arith)
 
-pub returns-clause-joined : goal.returns-clause-joined
-returns-clause-joined c = λ t l k.
+pub returns : goal.returns
+returns c =
     let file = file_words c.args.image.now c.block_of-head.result c.in-File.size c.in-File.ext c.body.result c.body.ensures.body c.in-File.is in
-    made_joined (is_entry c.block_of-head.ensures.block c.n.view_is c.if-n-eq0.false (omega (arith, c.n.view_is, c.if-len-n.false, c.len.ensures))) c.requires
-    file.0 c.bytes.ensures.bytes c.kind.ensures.kind file.1
-    c.datas_of-datas.ensures t l k c.new.ensures
-
-pub returns-clause-one_each : goal.returns-clause-one_each
-returns-clause-one_each c = λ t l k.
-    ap length c.new.ensures ∙ pieces_length c.bytes.result.now c.kind.result c.in-File.size 1 c.datas_of-datas.result.now
-    ∙ ap length (c.datas_of-datas.ensures t l k)
-
-pub returns-clause-some : goal.returns-clause-some
-returns-clause-some c =
-    let file = file_words c.args.image.now c.block_of-head.result c.in-File.size c.in-File.ext c.body.result c.body.ensures.body c.in-File.is in
-    made_some (is_entry c.block_of-head.ensures.block c.n.view_is c.if-n-eq0.false (omega (arith, c.n.view_is, c.if-len-n.false, c.len.ensures))) c.requires
-    file.0 c.bytes.ensures.bytes c.kind.ensures.kind file.1
-    c.datas_of-datas.ensures c.new.ensures
+    let entry = is_entry c.block_of-head.ensures.block c.n.view_is c.if-n-eq0.false (omega (arith, c.n.view_is, c.if-len-n.false, c.len.ensures)) in
+    record {
+      joined = (λ t l k. made_joined entry c.requires file.0 c.bytes.ensures.bytes c.kind.ensures.kind file.1 c.datas_of-datas.ensures t l k c.new.ensures);
+      one_each = (λ t l k. ap length c.new.ensures ∙ pieces_length c.bytes.result.now c.kind.result c.in-File.size 1 c.datas_of-datas.result.now
+          ∙ ap length (c.datas_of-datas.ensures t l k));
+      some = made_some entry c.requires file.0 c.bytes.ensures.bytes c.kind.ensures.kind file.1 c.datas_of-datas.ensures c.new.ensures;
+    }

@@ -10,17 +10,12 @@ unwrap-entry-requires c =
     let lt : c.loop-i.i < length t.entries = subst (λ n. c.loop-i.i < n) (c.len-i-end.ensures.count t s.1 s.2) c.loop-i-test.true in
     some_entry t (c.loop-i.i + 1) c.loop-i.i c.in_ok-entry_of.field-0 (omega arith) lt (c.in_ok-entry_of.ensures t s.1 s.2)
 
-pub add_last-requires-clause-may : goal.add_last-requires-clause-may
-add_last-requires-clause-may c =
+pub add_last-requires : goal.add_last-requires
+add_last-requires c =
     let s = c.len-i-end.ensures.stands in
-    (may_follow s.2.fits.tree (c.loop-i.invariant s.0 s.1 s.2) (c.len-i-end.ensures.count s.0 s.1 s.2) c.loop-i-test.true
-    (c.in_ok-entry_of.ensures s.0 s.1 s.2) c.unwrap-entry.ensures).0
-
-pub add_last-requires-clause-last : goal.add_last-requires-clause-last
-add_last-requires-clause-last c =
-    let s = c.len-i-end.ensures.stands in
-    (may_follow s.2.fits.tree (c.loop-i.invariant s.0 s.1 s.2) (c.len-i-end.ensures.count s.0 s.1 s.2) c.loop-i-test.true
-    (c.in_ok-entry_of.ensures s.0 s.1 s.2) c.unwrap-entry.ensures).1
+    let follows = may_follow s.2.fits.tree (c.loop-i.invariant s.0 s.1 s.2) (c.len-i-end.ensures.count s.0 s.1 s.2) c.loop-i-test.true
+    (c.in_ok-entry_of.ensures s.0 s.1 s.2) c.unwrap-entry.ensures in
+    record { may = follows.0; last = follows.1 }
 
 pub loop-i-preserved : goal.loop-i-preserved
 loop-i-preserved c = λ t l st.
