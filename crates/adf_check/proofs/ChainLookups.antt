@@ -34,14 +34,15 @@ use Rattle.adf_check.specs.Lookup.{headed}
 use Rattle.adf_check.specs.Reading.{StoreFits}
 use Rattle.adf_check.specs.Store.{Store, owner_at}
 use Rattle.adf_check.specs.StoredVolume.{StoreStandsFor}
-use Rattle.adf_check.proofs.RowLaws.{head_facts, name_here}
+use Rattle.adf_check.proofs.RowLaws.{head_facts}
 use Rattle.adf_check.proofs.StoredVolume.{keeps}
 
 -- the name of a header, as it is read and compared
 module _ (image : List ℕ) (b : ℕ) (name : List ℕ) {told head bytes : List ℕ} {t : Bool} (is_told : told ≡ text_at head NAME) (over : head ≡ bytes)
     (is_block : bytes ≡ block image b) (compared : t ≡ bytes_eq (uppers told) (uppers name)) where
   told_is : uppers told ≡ uppers (name_of image b)
-  told_is = ap uppers (is_told ∙ ap (λ x. text_at x NAME) (over ∙ is_block) ∙ name_here image b)
+  unfolding name_of
+  told_is = ap uppers (is_told ∙ ap (λ x. text_at x NAME) (over ∙ is_block))
 
   pub same_name : t ≡ true → uppers (name_of image b) ≡ uppers name
   same_name e = sym told_is ∙ (bytes_eq-Decides (uppers told) (uppers name)).0 (sym compared ∙ e)

@@ -1,12 +1,12 @@
 -- One step of a reader: the role that comes next is claimed and kept, or it is refused, and that is the first fault.
 use Rattle.adf_check.specs.Claims.{InRange, IsClaimFault}
-use Rattle.std.proofs.Common.{◌≡◌, ℕ, suc, List, [], ◌∷◌, ◌+◌, ◌<◌, length, set, inl, inr, refl, sym, ap, subst, ◌∙◌, arith, Result, Ok, Err}
+use Rattle.std.proofs.Common.{◌≡◌, ℕ, suc, List, [], ◌∷◌, ◌++◌, ◌+◌, ◌<◌, length, set, inl, inr, refl, sym, ap, subst, ◌∙◌, arith, Result, Ok, Err}
 use Rattle.std.specs.Prelude.{IfErr, IsOk, OnOk}
 use Rattle.adf_blocks.specs.declared.cause.Cause.{Cause}
 use Rattle.adf_blocks.specs.declared.cause.Cause.TheVariants.{OutOfRange, Taken, SameName, ShortFile}
 use Rattle.adf_blocks.specs.Sizes.{blocks}
 use Rattle.adf_volume.specs.declared.owner.Owner.TheVariants.{Free}
-use Rattle.adf_volume.specs.Demands.{demand, AllHold, FirstFails}
+use Rattle.adf_volume.specs.Demands.{Demand, demand, AllHold, FirstFails}
 use Rattle.adf_volume.specs.Image.{word_in}
 use Rattle.adf_volume.specs.LayoutRoles.{owner_of}
 use Rattle.adf_volume.specs.Walk.{Role, first, second, third, heads, Asks, Enough, NewName, form_demands, demands, FirstFault}
@@ -92,16 +92,12 @@ module _ {image : List ℕ} {store : Store} {w : List (Role × ℕ)} {r : Role} 
     -- the block is not claimed
     claim_fault : (f : Fault) → IsClaimFault store.owners a b f → IsTrueFault image f
     claim_fault f (inl out) =
-        subst (IsTrueFault image) (sym out.1) (is_fault a OutOfRange (inr (
-          enough,
-          inl ((λ k. out.0 (subst (λ n. InRange n b) (sym st.read.tells.owns.size) k)), refl, refl),
-        )))
+        subst (IsTrueFault image) (sym out.1)
+        (is_fault a OutOfRange (inr (enough, inl ((λ k. out.0 (subst (λ n. InRange n b) (sym st.read.tells.owns.size) k)), refl, refl))))
     claim_fault f (inr taken) =
         let within = in_image taken.0 in
-        subst (IsTrueFault image) (sym taken.2) (is_fault b Taken (inr (
-          enough,
-          inr (within, inl (taken_present image store.owners w st.read.tells.owns b within.0 within.1 taken.1, refl, refl)),
-        )))
+        let present = taken_present image store.owners w st.read.tells.owns b within.0 within.1 taken.1 in
+        subst (IsTrueFault image) (sym taken.2) (is_fault b Taken (inr (enough, inr (within, inl (present, refl, refl)))))
 
     pub claim_refused : {T : Type 0} (x : Result T Fault) → IfErr x (IsClaimFault store.owners a b) → IfErr x (IsTrueFault image)
     claim_refused (Ok y) h = tt
@@ -111,50 +107,29 @@ module _ {image : List ℕ} {store : Store} {w : List (Role × ℕ)} {r : Role} 
       pub inside : b < blocks image
       inside = (in_image range).1
 
+      abbrev late_demands : List Demand
+      late_demands = form_demands image w r b ++ demand SameName b (NewName image w r b) ∷ []
+
+      late_fault : (c : Cause) → FirstFails late_demands b c → IsTrueFault image (fault b c)
+      late_fault c h = is_fault b c (inr (enough, inr (in_image range, inr (free_absent image store.owners w st.read.tells.owns b free, h))))
+
       -- it has not the form of the role
       pub form_fault : (c : Cause) → FirstFails (form_demands image w r b) b c → IsTrueFault image (fault b c)
-      form_fault c h =
-          is_fault b c (inr (
-            enough,
-            inr (
-              in_image range,
-              inr (
-                free_absent image store.owners w st.read.tells.owns b free,
-                fails_left (form_demands image w r b) (demand SameName b (NewName image w r b) ∷ []) b c h,
-              ),
-            ),
-          ))
+      form_fault c h = late_fault c (fails_left (form_demands image w r b) (demand SameName b (NewName image w r b) ∷ []) b c h)
 
       module _ (form : AllHold (form_demands image w r b)) where
         -- an earlier header of the chain has the name
         pub name_fault : (NewName image w r b → ⊥) → IsTrueFault image (fault b SameName)
-        name_fault h =
-            is_fault b SameName (inr (
-              enough,
-              inr (
-                in_image range,
-                inr (
-                  free_absent image store.owners w st.read.tells.owns b free,
-                  fails_right (form_demands image w r b) (demand SameName b (NewName image w r b) ∷ []) b SameName form (inl (h, refl, refl)),
-                ),
-              ),
-            ))
+        name_fault h = late_fault SameName (fails_right (form_demands image w r b) _ b SameName form (inl (h, refl, refl)))
 
         -- it is claimed and kept: the reader has read one role more
         pub read_one : NewName image w r b → {new : Store} → IsStored store new r b → (at : Cursor) → IsBehind r at → HasRead image new ((r, b) ∷ w) at
         read_one fresh {new = new} s at e =
             let within = in_image range in
             let begun : length store.starts ≡ first r = st.read.started in
-            let upto : IsUpTo image ((r, b) ∷ w) (first r) (second r) (suc (third r)) = take_it image w r a st.index b st.read.upto st.asked st.names (
-              enough,
-              (
-                within,
-                (
-                  free_absent image store.owners w st.read.tells.owns b free,
-                  all_append (form_demands image w r b) (demand SameName b (NewName image w r b) ∷ []) form (fresh, tt),
-                ),
-              ),
-            ) in
+            let late : AllHold late_demands = all_append (form_demands image w r b) (demand SameName b (NewName image w r b) ∷ []) form (fresh, tt) in
+            let upto : IsUpTo image ((r, b) ∷ w) (first r) (second r) (suc (third r)) = take_it image w r a st.index b st.read.upto st.asked st.names
+            (enough, (within, (free_absent image store.owners w st.read.tells.owns b free, late))) in
             let number : (n p s j : ℕ) → r ≡ Head n p s j → n ≡ suc (heads w) =
             λ n p s j z. asks_number image w n p s j a st.index (subst (λ r. Asks image w r a st.index) z st.asked) in
             record {

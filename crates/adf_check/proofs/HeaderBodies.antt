@@ -1,7 +1,7 @@
 -- What the body of a header tells of its words.
 use Rattle.std.proofs.Common.{◌≡◌, ◌≢◌, ◌==◌, ℕ, List, Bool, true, false, refl, sym, ◌∙◌, if◌then◌else◌}
 use Rattle.std.proofs.lemmas.Bool.{eqb-true, eqb-false}
-use Rattle.adf_blocks.specs.declared.layout.TheConstants.{ST_DIR}
+use Rattle.adf_blocks.specs.declared.layout.TheConstants.{EXTENSION, SECONDARY_TYPE, SIZE, ST_DIR}
 use Rattle.adf_fields.specs.Words.{block}
 use Rattle.adf_blocks.specs.HeadBlock.{body_at}
 use Rattle.adf_blocks.specs.declared.head.HeadBody.{HeadBody}
@@ -16,13 +16,14 @@ pick_file : (t : Bool) (s e x y : ℕ) → (if t then Dir else File s e) ≡ Fil
 pick_file true s e x y h = cc
 pick_file false s e x y h = (refl, cc, cc)
 
--- a directory has the type of one
-pub dir_type : (image : List ℕ) (b : ℕ) (body : HeadBody) → body ≡ body_at (block image b) → body ≡ Dir → word_in image b 127 ≡ ST_DIR
-dir_type image b body is h = eqb-true (word_in image b 127) 2 (pick_dir _ (word_in image b 81) (word_in image b 126) (sym is ∙ h))
+module _ (image : List ℕ) (b : ℕ) {body : HeadBody} (is : body ≡ body_at (block image b)) where
+  -- a directory has the type of one
+  pub dir_type : body ≡ Dir → word_in image b SECONDARY_TYPE ≡ ST_DIR
+  dir_type h = eqb-true (word_in image b SECONDARY_TYPE) ST_DIR (pick_dir _ (word_in image b SIZE) (word_in image b EXTENSION) (sym is ∙ h))
 
--- a file has not, and its size and its first extension block
-pub file_words : (image : List ℕ) (b size ext : ℕ) (body : HeadBody) → body ≡ body_at (block image b) → body ≡ File size ext
-    → (word_in image b 127 ≢ ST_DIR) × (size ≡ word_in image b 81) × (ext ≡ word_in image b 126)
-file_words image b size ext body is h =
-    let r = pick_file (word_in image b 127 == 2) (word_in image b 81) (word_in image b 126) size ext (sym is ∙ h) in
-    (eqb-false (word_in image b 127) 2 r.0, r.1, r.2)
+  -- a file has not, and its size and its first extension block
+  pub file_words : {size ext : ℕ} → body ≡ File size ext
+      → (word_in image b SECONDARY_TYPE ≢ ST_DIR) × (size ≡ word_in image b SIZE) × (ext ≡ word_in image b EXTENSION)
+  file_words {size = size} {ext = ext} h =
+      let r = pick_file (word_in image b SECONDARY_TYPE == ST_DIR) (word_in image b SIZE) (word_in image b EXTENSION) size ext (sym is ∙ h) in
+      (eqb-false (word_in image b SECONDARY_TYPE) ST_DIR r.0, r.1, r.2)

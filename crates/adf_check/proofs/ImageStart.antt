@@ -3,11 +3,10 @@ use Rattle.std.proofs.Common.{◌≡◌, ℕ, List, ◌∷◌, Bool, true, false
 use Rattle.std.proofs.lemmas.Bool.Decides.{nat_tests}
 use Rattle.adf_fields.specs.Words.{block}
 use Rattle.adf_blocks.specs.declared.cause.Cause.TheVariants.{BadSize}
-use Rattle.adf_tree.specs.declared.entry.Stamps.{Stamps}
-use Rattle.adf_blocks.specs.Forms.{first_cause, text_at}
-use Rattle.adf_blocks.specs.RootBlock.{root_form, stamps_at}
+use Rattle.adf_blocks.specs.Forms.{first_cause}
+use Rattle.adf_blocks.specs.RootBlock.{root_form}
 use Rattle.adf_volume.specs.Demands.{AllHold, IsSize, boot_demands, boot_form, root_demands}
-use Rattle.adf_volume.specs.Image.{label_of, root_of, stamps_of}
+use Rattle.adf_volume.specs.Image.{root_of}
 use Rattle.adf_volume.proofs.Lists.{all_append}
 use Rattle.adf_volume.proofs.FormDemands.{all_demanded}
 use Rattle.adf_check.specs.Image.{IsBegun}
@@ -29,12 +28,3 @@ boots image h = none_by_size image (is_image_len (length image)) refl h
 pub begins : (image : List ℕ) → first_cause (start_form image) ≡ None → first_cause (root_form (block image (root_of image))) ≡ None → IsBegun image
 begins image h r = all_append (boot_demands image) (root_demands image (root_of image)) (boots image h)
     (all_demanded (root_of image) (root_form (block image (root_of image))) r)
-
--- the label and the dates that a root tells
-pub label_in : (image : List ℕ) (b : ℕ) (name : List ℕ) → name ≡ text_at (block image b) 432 → name ≡ label_of image b
-unfolding label_of
-label_in image b name h = h
-
-pub stamps_in : (image : List ℕ) (b : ℕ) (dates : Stamps) → dates ≡ stamps_at (block image b) → dates ≡ stamps_of image b
-unfolding stamps_of
-stamps_in image b dates h = h

@@ -1,5 +1,5 @@
 -- A row tells what the tree has of its entry.
-use Rattle.std.proofs.Common.{true, false, ◌≡◌, ℕ, suc, List, ◌<◌, length, refl, sym, ap, subst, ◌∙◌, arith, Some}
+use Rattle.std.proofs.Common.{true, false, ◌≡◌, ℕ, suc, List, ◌<◌, length, sym, ap, subst, ◌∙◌, arith, Some}
 use Rattle.std.specs.Prelude.{nat_le, ◌==◌}
 use Rattle.std.proofs.lemmas.Bool.{and_parts}
 use Rattle.std.proofs.lemmas.Bool.Decides.{nat_tests}
@@ -11,7 +11,7 @@ use Rattle.adf_tree.specs.declared.entry.Body.TheVariants.{Dir, File}
 use Rattle.adf_tree.specs.declared.entry.Kind.{Kind}
 use Rattle.adf_tree.specs.Tree.{Tree, entry, is_dir_body}
 use Rattle.adf_blocks.specs.Forms.{text_at}
-use Rattle.adf_blocks.specs.HeadBlock.{IsHead, body_at, head_form, meta_at}
+use Rattle.adf_blocks.specs.HeadBlock.{IsHead, body_at, head_form}
 use Rattle.adf_volume.specs.Demands.{AllHold, boot_demands, root_demands, demands_at}
 use Rattle.adf_volume.specs.Fits.{BodyFits, EntryFits}
 use Rattle.adf_volume.specs.Image.{kind_of, meta_of, name_of, root_of, word_in}
@@ -50,14 +50,6 @@ row_is_head {image = image} {store = store} st i r at =
 pub tells_begun : (image : List ℕ) (store : Store) → StoreFits image store → IsBegun image
 tells_begun image store st = all_append (boot_demands image) (root_demands image (root_of image)) st.fits.boots st.fits.root
 
-pub name_here : (image : List ℕ) (b : ℕ) → text_at (block image b) 432 ≡ name_of image b
-unfolding name_of
-name_here image b = refl
-
-meta_here : (image : List ℕ) (b : ℕ) → meta_at (block image b) ≡ meta_of image b
-unfolding meta_of
-meta_here image b = refl
-
 -- the secondary type of a header tells whether its entry is a directory, and its words the size of a file
 pub type_told : (image : List ℕ) (t : Tree) (l : Layout) (n h : ℕ) (body : Body) → BodyFits image t.kind l n h body
     → ((word_in image h 127 == ST_DIR) ≡ is_dir_body body) × BodyMatches (row_body (body_at (block image h))) body
@@ -73,6 +65,7 @@ type_told image t l n h (File bytes) f =
 -- what a row's header tells is what the tree has
 pub entry_told : (image : List ℕ) (store : Store) (t : Tree) (l : Layout) → StoreStandsFor image store t l → (n i : ℕ) (r : Kept) (told : Row) → n ≡ suc i
     → At store.rows i r → told ≡ row_in r.parent (block image r.head) → RowMatches (Some told) (entry t.entries n)
+unfolding name_of meta_of
 entry_told image store t l k n i r told e at_row is =
     let lt : i < length store.rows = at_below store.rows i r at_row in
     let count : length store.rows ≡ length t.entries = k.rows.count in
@@ -82,8 +75,8 @@ entry_told image store t l k n i r told e at_row is =
     let fits : EntryFits image t l (suc i) r.head at.0 = subst (λ b. EntryFits image t l (suc i) b at.0) h (k.fits.entries (suc i) at.0 at.1) in
     let tells : EntryMatches (row_in r.parent (block image r.head)) at.0 = record {
       parent = sym (k.rows.parent i r at.0 at_row at.1);
-      name = name_here image r.head ∙ sym fits.name;
-      meta = meta_here image r.head ∙ sym fits.meta;
+      name = sym fits.name;
+      meta = sym fits.meta;
       body = (type_told image t l (suc i) r.head at.0.body fits.body).1;
     } in
     subst (RowMatches (Some told)) (sym entry_is) (subst (λ r. EntryMatches r at.0) (sym is) tells)

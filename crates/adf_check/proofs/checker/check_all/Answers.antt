@@ -1,26 +1,27 @@
 use Rattle.std.proofs.Common.{◌≡◌, ap, subst, sym, ◌∙◌}
+use Rattle.adf_blocks.specs.declared.layout.TheConstants.{NAME}
 use Rattle.adf_fields.specs.Words.{block}
 use Rattle.adf_tree.specs.Tree.{Tree}
 use Rattle.adf_blocks.specs.Forms.{text_at}
 use Rattle.adf_blocks.specs.RootBlock.{stamps_at}
-use Rattle.adf_volume.specs.Image.{root_of}
+use Rattle.adf_volume.specs.Image.{label_of, root_of, stamps_of}
 use Rattle.adf_volume.specs.Layout.{Layout}
 use Rattle.adf_volume.specs.Made.{layout_in, tree_in}
 use Rattle.adf_check.specs.Found.{store_of}
 use Rattle.adf_check.specs.Volumes.{StandsFor, Volume}
 use Rattle.adf_check.proofs.StoredVolume.{keeps}
-use Rattle.adf_check.proofs.ImageStart.{label_in, stamps_in}
 use Rattle.adf_check.proofs.checker.check_all.Goals as goal
 
 pub new-requires : goal.new-requires
+unfolding label_of stamps_of
 new-requires c =
     let image = c.in_ok-opened.opened.image in
     let root : c.in_ok-opened.opened.root ≡ block image (root_of image) =
     c.in_ok-opened.ensures.root ∙ ap (λ i. block i (root_of i)) (sym c.in_ok-opened.ensures.image) in
     record {
       tells = c.in_ok-check_bitmap.ensures.fits;
-      label = label_in image (root_of image) c.label.result (c.label.ensures ∙ ap (λ b. text_at b 432) root);
-      stamps = stamps_in image (root_of image) c.stamps.result (c.stamps.ensures ∙ ap stamps_at root);
+      label = c.label.ensures ∙ ap (λ b. text_at b NAME) root;
+      stamps = c.stamps.ensures ∙ ap stamps_at root;
     }
 
 pub returns-clause-fits : goal.returns-clause-fits

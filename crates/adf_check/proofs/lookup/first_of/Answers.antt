@@ -13,7 +13,7 @@ pub returns-in-File : goal.returns-in-File
 returns-in-File c = λ t l k.
     let image = c.args.image.now in
     let up : c.block_of-up.result ≡ at_node image l c.args.parent = c.block_of-up.ensures.block t l k in
-    let told = file_words image c.block_of-up.result c.in-File.size c.in-File.ext c.body.result c.body.ensures.body c.in-File.is in
+    let told = file_words c.args.image.now c.block_of-up.result c.body.ensures.body c.in-File.is in
     file_chain k c.args.parent c.args.slot (λ z. c.if-parent-ne0.true (c.parent.view_is ∙ z)) (subst (λ b. word_in image b 127 ≢ ST_DIR) up told.0)
 
 pub returns-in_default : goal.returns-in_default
@@ -23,7 +23,7 @@ returns-in_default c = λ t l k.
     let type : c.args.parent ≢ 0 → word_in image (at_node image l c.args.parent) 127 ≡ ST_DIR = λ ne. elim c.in_default.branch [
       | in_default-via-in-File+else-parent-ne0 w ↦ absurd (ne (sym c.parent.view_is ∙ w.if-parent-ne0.false))
       | in_default-via-in_default w ↦ subst (λ b. word_in image b 127 ≡ ST_DIR) up
-          (dir_type image c.block_of-up.result c.body.result c.body.ensures.body w.in_default.is)
+          (dir_type c.args.image.now c.block_of-up.result c.body.ensures.body w.in_default.is)
     ] in
     let slot : c.slot.result ≡ word_in image (at_node image l c.args.parent) (6 + c.args.slot) =
     c.slot.ensures ∙ ap (λ b. word b (6 + c.args.slot)) c.directory.ensures ∙ ap (λ b. word_in image b (6 + c.args.slot)) up in

@@ -21,16 +21,16 @@ read_directory-requires-in-Dir-clause-inside c =
 pub read_directory-requires-in-Dir-clause-state : goal.read_directory-requires-in-Dir-clause-state
 read_directory-requires-in-Dir-clause-state c =
     directory_begins c.root-root.ensures.begun c.node.view_is c.if-node-eq0.false c.requires.inside c.index.ensures c.requires.state
-    (dir_type c.args.image.now c.index.result.now.head c.body.result c.body.ensures.body c.in-Dir.is)
+    (dir_type c.args.image.now c.index.result.now.head c.body.ensures.body c.in-Dir.is)
 
 pub read_file-requires-clause-size : goal.read_file-requires-clause-size
 read_file-requires-clause-size c =
-    (file_words c.args.image.now c.index.result.now.head c.in-File.size c.in-File.ext c.body.result c.body.ensures.body c.in-File.is).1
+    (file_words c.args.image.now c.index.result.now.head c.body.ensures.body c.in-File.is).1
 
 pub read_file-requires-clause-state : goal.read_file-requires-clause-state
 read_file-requires-clause-state c =
     let image = c.args.image.now in
     let h : ℕ = c.index.result.now.head in
-    let told = file_words image h c.in-File.size c.in-File.ext c.body.result c.body.ensures.body c.in-File.is in
+    let told = file_words c.args.image.now c.index.result.now.head c.body.ensures.body c.in-File.is in
     subst (IsInExts image (store_of c.args.found.now) c.args.node h (h ∷ []) h) (sym told.2)
     (file_begins c.root-root.ensures.begun c.node.view_is c.if-node-eq0.false c.requires.inside c.index.ensures c.requires.state told.0)

@@ -18,24 +18,24 @@ is_entry block view ne le = record { some = (λ z. ne (view ∙ z)); within = le
 pub returns-in_default-clause-joined : goal.returns-in_default-clause-joined
 returns-in_default-clause-joined c = λ t l k.
     dir_bytes (is_entry c.block_of-head.ensures.block c.n.view_is c.if-n-eq0.false (omega (arith, c.n.view_is, c.if-len-n.false, c.len.ensures))) t l k
-    (dir_type c.args.image.now c.block_of-head.result c.body.result c.body.ensures.body c.in_default.is)
+    (dir_type c.args.image.now c.block_of-head.result c.body.ensures.body c.in_default.is)
 
 pub datas_of-datas-requires-clause-size : goal.datas_of-datas-requires-clause-size
 datas_of-datas-requires-clause-size c = λ t l k.
-    let file = file_words c.args.image.now c.block_of-head.result c.in-File.size c.in-File.ext c.body.result c.body.ensures.body c.in-File.is in
+    let file = file_words c.args.image.now c.block_of-head.result c.body.ensures.body c.in-File.is in
     data_count_is (is_entry c.block_of-head.ensures.block c.n.view_is c.if-n-eq0.false (omega (arith, c.n.view_is, c.if-len-n.false, c.len.ensures))) t l k
     file.0 ∙ ap (count (kind_of c.args.image.now)) (sym file.1)
 
 pub new-requires : goal.new-requires
 new-requires c =
-    let file = file_words c.args.image.now c.block_of-head.result c.in-File.size c.in-File.ext c.body.result c.body.ensures.body c.in-File.is in
+    let file = file_words c.args.image.now c.block_of-head.result c.body.ensures.body c.in-File.is in
     made_inside (is_entry c.block_of-head.ensures.block c.n.view_is c.if-n-eq0.false (omega (arith, c.n.view_is, c.if-len-n.false, c.len.ensures))) c.requires
     file.0 c.bytes.ensures.bytes c.kind.ensures.kind file.1
     c.datas_of-datas.ensures (omega arith)
 
 pub returns : goal.returns
 returns c =
-    let file = file_words c.args.image.now c.block_of-head.result c.in-File.size c.in-File.ext c.body.result c.body.ensures.body c.in-File.is in
+    let file = file_words c.args.image.now c.block_of-head.result c.body.ensures.body c.in-File.is in
     let entry = is_entry c.block_of-head.ensures.block c.n.view_is c.if-n-eq0.false (omega (arith, c.n.view_is, c.if-len-n.false, c.len.ensures)) in
     record {
       joined = (λ t l k. made_joined entry c.requires file.0 c.bytes.ensures.bytes c.kind.ensures.kind file.1 c.datas_of-datas.ensures t l k c.new.ensures);
