@@ -1,9 +1,10 @@
 -- The steps along the data blocks of a file.
 use Rattle.adf_check.specs.Claims.{InRange}
-use Rattle.std.proofs.Common.{◌≡◌, ℕ, zero, suc, List, ◌∷◌, ◌+◌, ◌-◌, ◌*◌, ◌/◌, ◌%◌, ◌<◌, ◌≤◌, length, Bool, true, false, cond, refl, sym, ap, subst}
-use Rattle.std.proofs.Common.{◌∙◌, arith}
+use Rattle.std.proofs.Common.{◌≡◌, ℕ, zero, suc, List, ◌∷◌, ◌+◌, ◌*◌, ◌/◌, ◌<◌, ◌≤◌, length, Bool, true, false, cond, refl, sym, ap, subst}
+use Rattle.std.proofs.Common.{arith}
 use Rattle.std.specs.Prelude.{nat_lt, slice_index}
 use Rattle.std.proofs.lemmas.Bool.{ltb-true}
+use Rattle.adf_blocks.specs.declared.layout.TheConstants.{POINTERS, SIZE}
 use Rattle.adf_blocks.specs.declared.cause.Cause.{Cause}
 use Rattle.adf_blocks.specs.declared.cause.Cause.TheVariants.{ShortFile}
 use Rattle.adf_blocks.specs.Sizes.{blocks}
@@ -11,7 +12,7 @@ use Rattle.adf_volume.specs.declared.owner.Owner.TheVariants.{Free}
 use Rattle.adf_volume.specs.Demands.{Demand, AllHold, FirstFails, data_demands}
 use Rattle.adf_volume.specs.Image.{held, kind_of, table_word, word_in}
 use Rattle.adf_volume.specs.Lists.{At}
-use Rattle.adf_volume.specs.Walk.{Enough, FileAt, IsWalk, MemberAt, Role, data_count, ext_count, form_demands, member_block, next_data, node_block}
+use Rattle.adf_volume.specs.Walk.{Enough, FileAt, IsWalk, MemberAt, Role, data_count, ext_count, form_demands, member_block, node_block}
 use Rattle.adf_volume.specs.Walk.Role.{Data, Ext, Head}
 use Rattle.adf_volume.proofs.Lists.{at_some}
 use Rattle.adf_volume.proofs.MemberFacts.{file_up, in_range, member_up}
@@ -51,80 +52,74 @@ module _ {image : List ℕ} {store : Store} {n h : ℕ} {table : List ℕ} {k : 
       let g = st.holds.file in
       (one_head image st.read.upto.walk n g.0.0 g.0.1 g.0.2 h f.0.0 f.0.1 f.0.2 a g.0.3 f.0.3).1
 
-  named_by : k < data_count image h → (c b : ℕ) → At table (k / 72) c → b ≡ word_in image c (table_word k) → IsNamed image store st.walk (Data n (suc k)) c b
+  named_by : k < data_count image h → (c b : ℕ) → At table (k / POINTERS) c → b ≡ word_in image c (table_word k) → IsNamed image store st.walk (Data n (suc k)) c b
   named_by lt c b x e = record {
     begun = begun;
     read = st.read;
     index = table_word k;
-    asked = ((h, st.holds.file, lt), st.holds.members (k / 72) c x, refl);
+    asked = ((h, st.holds.file, lt), st.holds.members (k / POINTERS) c x, refl);
     names = sym e;
   }
 
   -- the table names too few data blocks
-  pub too_short : k ≡ 0 → 72 * length table < data_count image h → IsTrueFault image (fault h ShortFile)
+  pub too_short : k ≡ 0 → POINTERS * length table < data_count image h → IsTrueFault image (fault h ShortFile)
   too_short z lt =
       let c : length table ≡ suc (ext_count st.walk n) = st.holds.counted in
       let e = at_some table 0 (omega arith) in
-      let here : At table (k / 72) e.0 = subst (λ k. At table (k / 72) e.0) (sym z) e.1 in
+      let here : At table (k / POINTERS) e.0 = subst (λ k. At table (k / POINTERS) e.0) (sym z) e.1 in
       let lacks : Enough image st.walk (Data n (suc k)) → ⊥ =
-      λ en. let x : data_count image h ≤ 72 * suc (ext_count st.walk n) = en (ap suc z) h st.holds.file in omega arith in
+      λ en. let x : data_count image h ≤ POINTERS * suc (ext_count st.walk n) = en (ap suc z) h st.holds.file in omega arith in
       subst (λ a. IsTrueFault image (fault a ShortFile)) (sym (one_file e.0 (st.holds.members 0 e.0 e.1)))
       (short_fault (named_by (omega arith) e.0 (word_in image e.0 (table_word k)) here refl) lacks)
 
-  -- the table names block b as data block k + 1
-  module _ (enough : data_count image h ≤ 72 * length table) (lt : k < data_count image h) {b : ℕ}
-      (e : b ≡ word_in image (slice_index table (k / 72)) (77 - k % 72)) where
-    pub data_named : IsNamed image store st.walk (Data n (suc k)) (slice_index table (k / 72)) b
-    data_named = named_by lt (slice_index table (k / 72)) b (at_or table (k / 72) 0 (omega arith)) e
+  -- it names enough, and block b as data block k + 1, by the number of a file's data blocks and its size
+  module _ {count size : ℕ} (is_count : count ≡ data_count image h) (is_size : size ≡ word_in image h SIZE) (enough : count ≤ POINTERS * length table)
+      (lt : k < count) {b holder : ℕ} (holds_it : holder ≡ slice_index table (k / POINTERS)) (e : b ≡ word_in image (slice_index table (k / POINTERS)) (table_word k))
+    where
+      pub data_named : IsNamed image store st.walk (Data n (suc k)) holder b
+      data_named = subst (λ c. IsNamed image store st.walk (Data n (suc k)) c b) (sym holds_it)
+          (named_by (omega arith) (slice_index table (k / POINTERS)) b (at_or table (k / POINTERS) 0 (omega arith)) e)
 
-    pub data_enough : Enough image st.walk (Data n (suc k))
-    data_enough _ a f =
-        let c : length table ≡ suc (ext_count st.walk n) = st.holds.counted in
-        let x : data_count image a ≤ 72 * length table = subst (λ a. data_count image a ≤ 72 * length table) (one_file a f) enough in
-        omega arith
+      pub data_enough : Enough image st.walk (Data n (suc k))
+      data_enough _ a f =
+          let c : length table ≡ suc (ext_count st.walk n) = st.holds.counted in
+          let x : data_count image a ≤ POINTERS * length table = subst (λ a. data_count image a ≤ POINTERS * length table) (one_file a f) (omega arith) in
+          omega arith
 
-    next_here : (t : Bool) → nat_lt (suc k) (data_count image h) ≡ t
-        → cond t (word_in image (member_block st.walk n (suc k / 72)) (table_word (suc k))) 0
-        ≡ cond t (word_in image (slice_index table (suc k / 72)) (table_word (suc k))) 0
-    next_here false z = refl
-    next_here true z =
-        let more : suc k < data_count image h = ltb-true (suc k) (data_count image h) z in
-        let x = at_or table (suc k / 72) 0 (omega arith) in
-        ap (λ b. word_in image b (table_word (suc k))) (member_is image st.walk n (suc k / 72) (slice_index table (suc k / 72)) st.read.upto.walk
-        (st.holds.members (suc k / 72) (slice_index table (suc k / 72)) x))
+      next_here : (t : Bool) → nat_lt (suc k) (data_count image h) ≡ t
+          → cond t (word_in image (member_block st.walk n (suc k / POINTERS)) (table_word (suc k))) 0
+          ≡ cond t (word_in image (slice_index table (suc k / POINTERS)) (table_word (suc k))) 0
+      next_here false z = refl
+      next_here true z =
+          let more : suc k < data_count image h = ltb-true (suc k) (data_count image h) z in
+          let x = at_or table (suc k / POINTERS) 0 (omega arith) in
+          ap (λ b. word_in image b (table_word (suc k))) (member_is image st.walk n (suc k / POINTERS) (slice_index table (suc k / POINTERS)) st.read.upto.walk
+          (st.holds.members (suc k / POINTERS) (slice_index table (suc k / POINTERS)) x))
 
-    -- the demands of a data block, by its number and the next one
-    abbrev pub demands_of : ℕ → ℕ → List Demand
-    demands_of number next = data_demands image (kind_of image) b h number (held (kind_of image) (word_in image h 81) number) next
+      abbrev pub demands_here : List Demand
+      demands_here = data_demands image (kind_of image) b h (k + 1) (held (kind_of image) size (k + 1)) (next_of image table count (k + 1))
 
-    form_at : (P : List Demand → Type 0) → P (demands_of (k + 1) (next_of image table (data_count image h) (k + 1)))
-        → P (form_demands image st.walk (Data n (suc k)) b)
-    form_at P p =
-        let one : k + 1 ≡ suc k = omega arith in
-        let head : node_block st.walk n ≡ h = file_is image st.walk n h st.read.upto.walk st.holds.file in
-        subst (λ h. P (data_demands image (kind_of image) b h (suc k) (held (kind_of image) (word_in image h 81) (suc k))
-        (next_data image st.walk n (suc k)))) (sym head)
-        (subst (λ y. P (demands_of (suc k) y))
-        (sym (ap (λ h. cond (nat_lt (suc k) (data_count image h)) (word_in image (member_block st.walk n (suc k / 72)) (table_word (suc k))) 0) head
-        ∙ next_here (nat_lt (suc k) (data_count image h)) refl))
-        (subst (λ m. P (demands_of m (next_of image table (data_count image h) m))) one p))
-
-    module _ (range : InRange (length store.owners) b) (free : owner_at store.owners b ≡ Free) where
-      pub data_fault : (c : Cause) → FirstFails (demands_of (k + 1) (next_of image table (data_count image h) (k + 1))) b c → IsTrueFault image (fault b c)
-      data_fault c f = form_fault data_named data_enough range free c (form_at (λ ds. FirstFails ds b c) f)
-
-      pub data_done : AllHold (demands_of (k + 1) (next_of image table (data_count image h) (k + 1))) → {new : Store} → IsStored store new (Data n (k + 1)) b
-          → IsInDatas image new n h table (k + 1)
-      data_done f {new = new} stored =
-          let r : Role = Data n (suc k) in
+      form_is : demands_here ≡ form_demands image st.walk (Data n (suc k)) b
+      form_is =
           let one : k + 1 ≡ suc k = omega arith in
-          record {
-            walk = (r, b) ∷ st.walk;
-            read = read_one data_named data_enough range free (form_at AllHold f) tt (subst (λ m. IsStored store new (Data n m) b) one stored)
-                (BeforeRole (Data n (suc (k + 1)))) (refl, refl, refl, omega arith);
-            holds = record {
-              file = file_up image st.walk (r, b) n h st.holds.file;
-              members = (λ m c x. member_up image st.walk (r, b) n m c (st.holds.members m c x));
-              counted = st.holds.counted;
-            };
-          }
+          let head : node_block st.walk n ≡ h = file_is image st.walk n h st.read.upto.walk st.holds.file in
+          rw (is_count, is_size, one, head, next_here (nat_lt (suc k) (data_count image h)) refl) refl
+
+      module _ (range : InRange (length store.owners) b) (free : owner_at store.owners b ≡ Free) where
+        pub data_fault : (c : Cause) → FirstFails demands_here b c → IsTrueFault image (fault b c)
+        data_fault c f = form_fault data_named data_enough range free c (subst (λ ds. FirstFails ds b c) form_is f)
+
+        pub data_done : AllHold demands_here → {new : Store} → IsStored store new (Data n (k + 1)) b → IsInDatas image new n h table (k + 1)
+        data_done f {new = new} stored =
+            let r : Role = Data n (suc k) in
+            let one : k + 1 ≡ suc k = omega arith in
+            record {
+              walk = (r, b) ∷ st.walk;
+              read = read_one data_named data_enough range free (subst AllHold form_is f) tt (subst (λ m. IsStored store new (Data n m) b) one stored)
+                  (BeforeRole (Data n (suc (k + 1)))) (refl, refl, refl, omega arith);
+              holds = record {
+                file = file_up image st.walk (r, b) n h st.holds.file;
+                members = (λ m c x. member_up image st.walk (r, b) n m c (st.holds.members m c x));
+                counted = st.holds.counted;
+              };
+            }
