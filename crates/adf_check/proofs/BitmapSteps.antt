@@ -1,6 +1,6 @@
 -- The steps along the bitmap, and what the reader knows at its end.
 use Rattle.adf_check.specs.Fault.{IsTrueFault}
-use Rattle.std.proofs.Common.{◌≡◌, ◌≢◌, inl, inr, ℕ, zero, suc, List, ◌++◌, ◌+◌, ◌-◌, ◌*◌, ◌/◌, ◌%◌, ◌<◌, ◌≤◌, length, refl, sym, ap, subst, ◌∙◌, arith}
+use Rattle.std.proofs.Common.{◌≡◌, ◌≢◌, inl, inr, ℕ, zero, suc, List, ◌++◌, ◌+◌, ◌-◌, ◌*◌, ◌/◌, ◌%◌, ◌<◌, ◌≤◌, refl, sym, ap, subst, ◌∙◌, arith}
 use Rattle.std.proofs.Common.{Bool, true, false}
 use Rattle.std.specs.Prelude.{IfErr, Result, Ok, Err, slice_index, IsTrue, ◌↔◌, IsBitSet}
 use Rattle.adf_blocks.specs.declared.cause.Cause.{Cause}
@@ -53,7 +53,6 @@ module _ (free : Bool) {image : List ℕ} {store : Store} {b page : ℕ} {list :
       let lo : 2 ≤ b = st.low in
       let q : ℕ = (b - 2) / 4064 in
       let lt : q < pages_needed (blocks image) = page_in (blocks image) b lo hi in
-      let n : length list ≡ pages_needed (blocks image) = listed.size in
       let m = page_word image st.walk q lt (λ j y. all_map_exts image st.walk st.read.whole j (omega arith)) in
       let x = asked_block image st.walk st.read.whole (Page q) m.0 m.1 m.2 (omega arith) in
       let k : block_of_page image q ≡ x.0 = page_is image st.walk q x.0 st.read.is_walk x.1 in
@@ -84,7 +83,6 @@ module _ (free : Bool) {image : List ℕ} {store : Store} {b page : ℕ} {list :
 
   fails : IsBegun image → (c : Cause) → FirstFails (bitmap_demands image st.walk b (suc (blocks image - suc b))) b c → FirstFault image b c
   fails sound c f =
-      let lo : 2 ≤ b = st.low in
       let z : b - 2 + suc (blocks image - suc b) ≡ blocks image - 2 = omega arith in
       at_bitmap sound st.walk st.read.is_walk st.read.whole (subst (λ m. FirstFails (bitmap_demands image st.walk 2 m) b c) z
       (rw (split (suc (blocks image - suc b))) (fails_right (bitmap_demands image st.walk 2 (b - 2)) _ b c st.agrees f)))
@@ -97,7 +95,6 @@ module _ (free : Bool) {image : List ℕ} {store : Store} {b page : ℕ} {list :
 
   mapped : (IsAbsent st.walk b → IsFreeIn image st.walk b) → (IsFreeIn image st.walk b → IsAbsent st.walk b) → IsMapped image store (suc b)
   mapped f g =
-      let lo : 2 ≤ b = st.low in
       let e : b - 2 + 1 ≡ suc b - 2 = omega arith in
       record {
         walk = st.walk;

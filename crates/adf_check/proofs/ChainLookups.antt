@@ -50,7 +50,6 @@ module _ (image : List ℕ) (b : ℕ) (name : List ℕ) {told head bytes : List 
   pub other_name : t ≡ false → uppers (name_of image b) ≢ uppers name
   other_name e same =
       let yes : bytes_eq (uppers told) (uppers name) ≡ true = (bytes_eq-Decides (uppers told) (uppers name)).1 (told_is ∙ same) in
-      let no : true ≡ false = sym yes ∙ sym compared ∙ e in
       cc
 
 -- the nodes from that of the header at a block on, by its owner
@@ -93,7 +92,6 @@ module _ {image : List ℕ} {store : Store} {t : Tree} {l : Layout} (k : StoreSt
   dir_of : (p : ℕ) → p ≤ length store.rows → (p ≢ 0 → word_in image (at_node image l p) SECONDARY_TYPE ≡ ST_DIR) → DirNode t p
   dir_of zero le h = tt
   dir_of (suc i) le h =
-      let c : length store.rows ≡ length t.entries = k.rows.count in
       let x = at_some t.entries i (omega arith) in
       let fits : EntryFits image t l (suc i) (at_node image l (suc i)) x.0 = k.fits.entries (suc i) x.0 x.1 in
       (x.0, x.1, body_dir (suc i) (at_node image l (suc i)) x.0.body fits.body (h (λ z. omega arith)))

@@ -73,7 +73,6 @@ module _ (image : List ℕ) (w : List (Role × ℕ)) where
       past n zero a i h l = omega arith
       past n (suc m) a i h l =
           let x = u.below (Head h.1.0 p s m) a h.1.1 in
-          let y : m < j = x.2 refl refl in
           omega arith
 
       none : (r : Role) (a i : ℕ) → Asks image w r a i → (IsBelow r (suc p) (suc (suc s)) j → ⊥) → IsBelow r (suc p) (suc (suc (suc s))) 0 → ⊥
@@ -149,7 +148,6 @@ module _ (image : List ℕ) (w : List (Role × ℕ)) where
       past (suc zero) a i h l = omega arith
       past (suc (suc m)) a i h l =
           let x = u.below (Ext n (suc m)) a h.0 in
-          let y : suc m < j = x.2 refl refl in
           omega arith
 
       none : (r : Role) (a i : ℕ) → Asks image w r a i → (IsBelow r (suc n) 0 j → ⊥) → IsBelow r (suc n) 1 1 → ⊥

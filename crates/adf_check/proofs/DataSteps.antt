@@ -52,7 +52,8 @@ module _ {image : List ℕ} {store : Store} {n h : ℕ} {table : List ℕ} {k : 
       let g = st.holds.file in
       (one_head image st.read.upto.walk n g.0.0 g.0.1 g.0.2 h f.0.0 f.0.1 f.0.2 a g.0.3 f.0.3).1
 
-  named_by : k < data_count image h → (c b : ℕ) → At table (k / POINTERS) c → b ≡ word_in image c (table_word k) → IsNamed image store st.walk (Data n (suc k)) c b
+  named_by : k < data_count image h → (c b : ℕ) → At table (k / POINTERS) c → b ≡ word_in image c (table_word k)
+      → IsNamed image store st.walk (Data n (suc k)) c b
   named_by lt c b x e = record {
     begun = begun;
     read = st.read;
@@ -64,7 +65,6 @@ module _ {image : List ℕ} {store : Store} {n h : ℕ} {table : List ℕ} {k : 
   -- the table names too few data blocks
   pub too_short : k ≡ 0 → POINTERS * length table < data_count image h → IsTrueFault image (fault h ShortFile)
   too_short z lt =
-      let c : length table ≡ suc (ext_count st.walk n) = st.holds.counted in
       let e = at_some table 0 (omega arith) in
       let here : At table (k / POINTERS) e.0 = subst (λ k. At table (k / POINTERS) e.0) (sym z) e.1 in
       let lacks : Enough image st.walk (Data n (suc k)) → ⊥ =
@@ -74,7 +74,8 @@ module _ {image : List ℕ} {store : Store} {n h : ℕ} {table : List ℕ} {k : 
 
   -- it names enough, and block b as data block k + 1, by the number of a file's data blocks and its size
   module _ {count size : ℕ} (is_count : count ≡ data_count image h) (is_size : size ≡ word_in image h SIZE) (enough : count ≤ POINTERS * length table)
-      (lt : k < count) {b holder : ℕ} (holds_it : holder ≡ slice_index table (k / POINTERS)) (e : b ≡ word_in image (slice_index table (k / POINTERS)) (table_word k))
+      (lt : k < count) {b holder : ℕ} (holds_it : holder ≡ slice_index table (k / POINTERS))
+      (e : b ≡ word_in image (slice_index table (k / POINTERS)) (table_word k))
     where
       pub data_named : IsNamed image store st.walk (Data n (suc k)) holder b
       data_named = subst (λ c. IsNamed image store st.walk (Data n (suc k)) c b) (sym holds_it)

@@ -1,6 +1,6 @@
 -- The steps along the extension blocks of a file.
 use Rattle.adf_check.specs.Claims.{InRange}
-use Rattle.std.proofs.Common.{◌≡◌, ◌≢◌, inl, inr, ℕ, zero, suc, List, [], ◌∷◌, ◌++◌, ◌<◌, length, refl, sym, ap}
+use Rattle.std.proofs.Common.{◌≡◌, ◌≢◌, inl, inr, ℕ, zero, suc, List, [], ◌∷◌, ◌++◌, length, refl, sym, ap}
 use Rattle.std.proofs.Common.{subst, ◌∙◌, arith, Some, None}
 use native.Mathlib.Decide.{dec_lt}
 use Rattle.adf_fields.specs.Words.{block, word}
@@ -48,7 +48,6 @@ enter_exts image store n h st file =
           | yes u ↦
               let x = ext_counted image st.read.upto.walk n 0 u in
               let y = st.read.upto.below (Ext n 1) x.0 x.1 in
-              let z : 1 < 0 = y.2 refl refl in
               absurd (omega arith)
           | no u ↦ omega arith
         ]

@@ -126,7 +126,8 @@ unfolding at_end at_file at_head at_slots
 behind_datas =
     let two = file.two in
     let first : IsInDatas file_lost (stored at_file (Data 1 1) 3) 1 2 (2 ∷ []) 1 =
-    data_done small.begun before_datas refl refl (omega arith) (omega arith) refl file.first (omega arith) refl file.first_form (is_stored at_file (Data 1 1) 3) in
+    data_done small.begun before_datas refl refl (omega arith) (omega arith) refl file.first (omega arith) refl file.first_form
+    (is_stored at_file (Data 1 1) 3) in
     data_done small.begun first refl refl (omega arith) (omega arith) refl file.second (omega arith) refl file.second_form
     (is_stored (stored at_file (Data 1 1) 3) (Data 1 2) 4)
 

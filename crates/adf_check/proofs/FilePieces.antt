@@ -83,7 +83,6 @@ module _ {image : List ℕ} {store : Store} {t : Tree} {l : Layout} (k : StoreSt
   pub datas_here : (n : ℕ) (x : Start) → n ≤ length store.rows → x ≡ get_or store.starts n x
       → take (length (datas_of l n)) (drop x.datas store.datas) ≡ datas_of l n
   datas_here n x le e =
-      let c : length store.starts ≡ suc (length store.rows) = k.starts.count in
       k.starts.datas n x (subst (At store.starts n) (sym e) (at_or store.starts n x (omega arith)))
 
 -- node n is a file, or a directory, with its header at block h
@@ -96,9 +95,6 @@ module _ {image : List ℕ} {store : Store} {n h : ℕ} (is : IsEntry image stor
   module _ (t : Tree) (l : Layout) (k : StoreStandsFor image store t l) where
     here : (x : Entry) × EntryAt t n x
     here =
-        let c : length store.rows ≡ length t.entries = k.rows.count in
-        let some = is.some in
-        let within = is.within in
         entry_some t n (omega arith) (omega arith)
 
     body_fits : BodyFits image t.kind l n h here.0.body

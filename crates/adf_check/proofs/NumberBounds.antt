@@ -1,11 +1,11 @@
 -- The numbers of blocks, nodes and parts have 32 bits.
-use Rattle.std.proofs.Common.{◌≡◌, ℕ, suc, List, ◌+◌, ◌^◌, ◌<◌, ◌≤◌, length, ap, arith}
+use Rattle.std.proofs.Common.{◌≡◌, ℕ, List, ◌+◌, ◌^◌, ◌<◌, ◌≤◌, length, ap, arith}
 use Rattle.std.specs.Prelude.{is_some}
 use Rattle.std.proofs.lemmas.List.Sums.{count_by-le-length}
 use Rattle.adf_blocks.specs.declared.layout.TheConstants.{MOST_BLOCKS}
 use Rattle.adf_blocks.specs.Sizes.{blocks}
 use Rattle.adf_volume.specs.Made.{is_ext_of}
-use Rattle.adf_volume.specs.Walk.{Role, ext_count, heads}
+use Rattle.adf_volume.specs.Walk.{Role, heads}
 use Rattle.adf_volume.proofs.Sizes.{size_high, size_low}
 use Rattle.adf_volume.proofs.WalkMembers.{exts_length}
 use Rattle.adf_volume.proofs.WalkOrder.{dir_number}
@@ -60,5 +60,4 @@ module _ {image : List ℕ} {store : Store} (begun : IsBegun image) (used : stor
     -- and so is its table
     pub table_short : length table < 2 ^ 32
     table_short =
-        let counted : length table ≡ suc (ext_count w n) = holds.counted in
         omega (arith, walk_short read.tells, exts_length image w n, picked_within (is_ext_of n) w)

@@ -77,8 +77,6 @@ names_is : (image : List ℕ) (w : List (Role × ℕ)) (k b a i : ℕ) → IsWal
 names_is image w k b a i v (inl x) e =
     cond-true (nat_lt k 25) _ _ (lt-ltb k 25 x.0) ∙ ap (word_in image (root_of image)) (sym x.2) ∙ ap (λ a. word_in image a i) (sym x.1) ∙ e
 names_is image w k b a i v (inr x) e =
-    let y : k ≡ 25 + 127 * x.0 + i = x.3 in
-    let l : i < 127 = x.2 in
     let ej : (k - 25) / 127 ≡ x.0 = omega arith in
     let ei : (k - 25) % 127 ≡ i = omega arith in
     cond-false (nat_lt k 25) _ _ (le-ltb k 25 (omega arith))
@@ -128,8 +126,6 @@ module _ {image : List ℕ} {store : Store} {i a b : ℕ} (begun : IsBegun image
         at_ext : (n : ℕ) → NamesPage image st.walk i a n → (j : ℕ) → 25 + 127 * j < suc i → suc i ≤ 25 + 127 * suc j → Has st.walk (MapExt j) a
         at_ext n (inl x) j l h = let y : i < 25 = x.0 in absurd (omega arith)
         at_ext n (inr x) j l h =
-            let y : i ≡ 25 + 127 * x.0 + n = x.3 in
-            let u : n < 127 = x.2 in
             let e : x.0 ≡ j = omega arith in
             subst (λ j. Has st.walk (MapExt j) a) e x.1
 
@@ -144,7 +140,6 @@ module _ {image : List ℕ} {store : Store} {i a b : ℕ} (begun : IsBegun image
       let here : index_of_map_ext i ≡ 104 = grind (arith, nat_tests) in
       (104, (omega arith, st.at_root (omega arith), refl), ap (word_in image a) (sym here) ∙ sym named)
   asks (suc j) z =
-      let other : i ≡ 25 → ⊥ = λ e. omega arith in
       let here : index_of_map_ext i ≡ 127 = grind (arith, nat_tests) in
       (127, (omega arith, st.at_ext j (omega arith) (omega arith), refl), ap (word_in image a) (sym here) ∙ sym named)
 

@@ -3,7 +3,7 @@ use Rattle.std.proofs.Common.{true, false, ◌≡◌, ℕ, suc, List, ◌<◌, l
 use Rattle.std.specs.Prelude.{nat_le, ◌==◌}
 use Rattle.std.proofs.lemmas.Bool.{and_parts}
 use Rattle.std.proofs.lemmas.Bool.Decides.{nat_tests}
-use Rattle.adf_blocks.specs.declared.layout.TheConstants.{ST_DIR, ST_FILE}
+use Rattle.adf_blocks.specs.declared.layout.TheConstants.{ST_DIR}
 use Rattle.adf_fields.specs.Words.{block}
 use Rattle.adf_tree.specs.Texts.{is_name}
 use Rattle.adf_tree.specs.declared.entry.Body.{Body}
@@ -54,11 +54,9 @@ tells_begun image store st = all_append (boot_demands image) (root_demands image
 pub type_told : (image : List ℕ) (t : Tree) (l : Layout) (n h : ℕ) (body : Body) → BodyFits image t.kind l n h body
     → ((word_in image h 127 == ST_DIR) ≡ is_dir_body body) × BodyMatches (row_body (body_at (block image h))) body
 type_told image t l n h Dir f =
-    let e : word_in image h 127 ≡ ST_DIR = f.0 in
     let is : (word_in image h 127 == ST_DIR) ≡ true = grind (arith, nat_tests) in
     (is, rw is tt)
 type_told image t l n h (File bytes) f =
-    let e : word_in image h 127 ≡ ST_FILE = f.0 in
     let is : (word_in image h 127 == ST_DIR) ≡ false = grind (arith, nat_tests) in
     (is, rw is (sym f.2))
 

@@ -1,5 +1,5 @@
 -- The states of a reader in a small image: one page, the root first.
-use Rattle.std.proofs.Common.{◌≡◌, ◌≢◌, ℕ, zero, suc, List, [], ◌∷◌, ◌+◌, ◌-◌, ◌/◌, ◌%◌, ◌<◌, ◌≤◌, length, refl, sym, ap, subst, ◌∙◌, arith}
+use Rattle.std.proofs.Common.{◌≡◌, ◌≢◌, ℕ, zero, suc, List, [], ◌∷◌, ◌+◌, ◌-◌, ◌/◌, ◌%◌, ◌<◌, ◌≤◌, refl, sym, ap, subst, ◌∙◌, arith}
 use Rattle.std.proofs.Common.{Bool, true, false}
 use Rattle.std.specs.Prelude.{◌==◌, not, bit_and, ◌^◌, IsTrue, ◌↔◌, slice_index}
 use Rattle.std.proofs.lemmas.Bool.{and_parts, eqb-true}
@@ -81,9 +81,6 @@ module _ {image : List ℕ} {m root page : ℕ} (is : IsSmall image m root page)
   small_begins =
       let next = same_holder image _ 0 (root_of image) (root_read image m root is.size is.at_root is.root_within.0 is.root_within.1)
       (λ h. absurd (omega arith)) in
-      let one = is.one in
-      let size = is.size in
-      let long : length (owners_of m root) ≡ blocks image = next.read.tells.owns.size in
       let within = is.page_within in
       root_begins image (entered page_store) 0 root refl (sym is.at_root) (enter_node image page_store 0 (pages_end image page_store (root_of image)
       (subst (λ k. IsBeforePage image page_store k (root_of image)) (sym is.one)

@@ -54,5 +54,4 @@ returns-in-Ok-push-clause-state c =
 
 pub overflow_cast-owner : goal.overflow_cast-owner
 overflow_cast-owner c =
-    let count : c.len.result ≡ length c.args.found.now.rows.items = search rules in
     omega (arith, entry_short c.kind-kind.ensures.begun refl c.requires.state)

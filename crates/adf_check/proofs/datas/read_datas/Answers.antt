@@ -13,7 +13,6 @@ returns-then-tables-table-clause-fault c =
     let image = c.args.image.now in
     let e : c.count_of-count.result ≡ data_count image c.args.head =
     c.count_of-count.ensures ∙ ap (λ k. count k c.args.size) c.kind.ensures.kind ∙ ap (count (kind_of image)) c.requires.size in
-    let more = c.if-tables-table.true in
     let short : 72 * length c.args.table.now < data_count image c.args.head = omega arith in
     rw c.fault_at.ensures (too_short c.requires.begun c.requires.state refl short)
 

@@ -37,7 +37,6 @@ returns-clause-state c =
 
 pub overflow_cast-owner : goal.overflow_cast-owner
 overflow_cast-owner c =
-    let count : c.len.result ≡ length c.args.table.now.items = search rules in
     omega (arith, table_short c.requires.begun refl c.requires.state.read c.requires.state.holds)
 
 pub number_of-requires : goal.number_of-requires

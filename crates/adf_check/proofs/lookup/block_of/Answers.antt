@@ -13,6 +13,5 @@ returns-clause-block c = λ t l k.
 
 pub returns-clause-inside : goal.returns-clause-inside
 returns-clause-inside c =
-    let node : c.args.node ≡ suc (c.node.inside.0 - 1) = omega (arith, c.node.view_is, c.if-node-eq0.false) in
     let at = row_here c.args.found.now.rows.items (c.node.inside.0 - 1) c.index.result.now refl (omega (arith, c.requires.node)) c.index.ensures in
     row_inside c.requires.tells (c.node.inside.0 - 1) c.index.result.now at

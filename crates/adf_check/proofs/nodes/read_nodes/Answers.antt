@@ -1,4 +1,4 @@
-use Rattle.std.proofs.Common.{◌≡◌, ◌<◌, suc, length, subst, sym, refl, arith, rules}
+use Rattle.std.proofs.Common.{◌≡◌, suc, length, subst, sym, refl, arith}
 use Rattle.adf_check.specs.Reading.{IsInNode}
 use Rattle.adf_check.specs.Found.{store_of}
 use Rattle.adf_check.proofs.NodeSteps.{enter_node}
@@ -19,7 +19,5 @@ read_node-requires-clause-state c =
 pub returns-clause-state : goal.returns-clause-state
 returns-clause-state c =
     let rows = c.loop-node.found.rows.items in
-    let count : c.len.result ≡ length rows = search rules in
-    let past : length rows < c.loop-node.node = omega (arith, c.loop-node-test.false) in
     let end : c.loop-node.node ≡ suc (length rows) = omega (arith, c.loop-node.invariant.within) in
     all_read c.args.image.now (store_of c.loop-node.found) c.loop-node.node end c.loop-node.invariant.state

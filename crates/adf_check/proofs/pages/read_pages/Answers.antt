@@ -1,4 +1,4 @@
-use Rattle.std.proofs.Common.{◌≡◌, ◌∷◌, ◌++◌, [], ◌+◌, List, ℕ, ap, subst, sym, ◌∙◌, arith, rules}
+use Rattle.std.proofs.Common.{◌≡◌, ◌∷◌, ◌++◌, [], ◌+◌, List, ℕ, subst, sym, arith, rules}
 use Rattle.adf_blocks.specs.Sizes.{blocks, pages_needed}
 use Rattle.adf_check.specs.Reading.{IsBeforePage}
 use Rattle.adf_check.specs.Found.{store_of}
@@ -23,7 +23,6 @@ loop-i-preserved c =
 pub returns-clause-state : goal.returns-clause-state
 returns-clause-state c =
     let image = c.args.image.now in
-    let count : c.page_count-i-end.result ≡ pages_needed (blocks image) = c.page_count-i-end.ensures.exact ∙ ap pages_needed c.blocks-2.ensures.blocks in
     let end : c.loop-i.i ≡ pages_needed (blocks image) = omega arith in
     let store = store_of c.loop-i.found in
     pages_end image store c.loop-i.holder (subst (λ k. IsBeforePage image store k c.loop-i.holder) end c.loop-i.invariant.state)

@@ -25,7 +25,6 @@ part-requires c =
 
 pub returns : goal.returns
 returns c = λ t l k.
-    let image = c.args.image.now in
     let store = store_of c.args.found.now in
     let x = c.index.result.now in
     let n : ℕ = c.args.n in
