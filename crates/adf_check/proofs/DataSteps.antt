@@ -83,7 +83,6 @@ module _ {image : List ℕ} {store : Store} {n h : ℕ} {table : List ℕ} {k : 
 
       pub data_enough : Enough image st.walk (Data n (suc k))
       data_enough _ a f =
-          let c : length table ≡ suc (ext_count st.walk n) = st.holds.counted in
           let x : data_count image a ≤ POINTERS * length table = subst (λ a. data_count image a ≤ POINTERS * length table) (one_file a f) (omega arith) in
           omega arith
 

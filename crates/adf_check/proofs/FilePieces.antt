@@ -127,7 +127,6 @@ module _ {image : List ℕ} {store : Store} {n h : ℕ} (is : IsEntry image stor
       file_inside small =
           let c = data_count_is in
           let s = count_small (kind_of image) (word_in image h 81) small in
-          let size : length image ≡ 512 * blocks image = whole k in
           record {
             inside = (λ i d lt. let b : get_or (datas_of l n) i d < blocks image =
                 data_range k n i (get_or (datas_of l n) i d) (at_or (datas_of l n) i d lt) in omega arith);

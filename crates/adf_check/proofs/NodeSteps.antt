@@ -62,7 +62,6 @@ enter_node image store n st = record {
 module _ (image : List ℕ) (store : Store) (w : List (Role × ℕ)) (t : StoreMatches image store w) (v : IsWalk image w) where
   pub node_here : (i : ℕ) (r : KeptHeader) → At store.rows i r → (p s j : ℕ) × Has w (Head (suc i) p s j) r.head
   node_here i r h =
-      let c : length store.rows ≡ heads w = t.lists.count in
       let u : i < length store.rows = at_below store.rows i r h in
       let k = numbered image v (suc i) (omega arith) (omega arith) in
       let z : r ≡ record { parent = k.0; head = k.3 } = at_fun store.rows i r (record { parent = k.0; head = k.3 }) h (t.lists.row i k.0 k.1 k.2 k.3 k.4) in

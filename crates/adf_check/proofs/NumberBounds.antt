@@ -25,9 +25,7 @@ module _ {image : List ℕ} {store : Store} (begun : IsBegun image) (used : stor
   -- a walk has no more members than there are blocks
   walk_short : {w : List (Role × ℕ)} → StoreMatches image store w → length w ≤ MOST_BLOCKS
   walk_short {w = w} tells =
-      let walked : store.used ≡ length w = tells.used in
       let owned : owned_count store.owners ≤ length store.owners = count_by-le-length is_part store.owners in
-      let size : length store.owners ≡ blocks image = tells.owns.size in
       let high = size_high (blocks image) begun.0.1 in
       omega arith
 

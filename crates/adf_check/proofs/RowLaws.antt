@@ -66,7 +66,6 @@ pub entry_told : (image : List ℕ) (store : Store) (t : Tree) (l : Layout) → 
 unfolding name_of meta_of
 entry_told image store t l k n i r told e at_row is =
     let lt : i < length store.rows = at_below store.rows i r at_row in
-    let count : length store.rows ≡ length t.entries = k.rows.count in
     let at = at_some t.entries i (omega arith) in
     let entry_is : entry t.entries n ≡ Some at.0 = ap (entry t.entries) e ∙ (entry_is_at t (suc i) at.0).0 at.1 in
     let h : at_node image l (suc i) ≡ r.head = k.rows.head i r at_row in

@@ -72,11 +72,9 @@ module _ (rows : List KeptHeader) (w : List (Role × ℕ)) (t : Rows rows w) whe
     count = snoc_length rows (record { parent = p; head = b }) ∙ ap suc t.count;
     row = (λ i p' s' j' b' h. elim h [
       | inl y ↦
-          let same : Head n p s j ≡ Head (suc i) p' s' j' = y.0 in
           let m : n ≡ suc i = cc in
           let q : p ≡ p' = cc in
           let e : n ≡ suc (heads w) = f n p s j refl in
-          let c : length rows ≡ heads w = t.count in
           let z : record { parent = p; head = b } ≡ record { parent = p'; head = b' } = row_same p b p' b' q y.1 in
           subst (At (rows ++ record { parent = p; head = b } ∷ []) i) z (at_new rows (record { parent = p; head = b }) i (omega arith))
       | inr y ↦ at_old rows (record { parent = p; head = b } ∷ []) i (record { parent = p'; head = b' }) (t.row i p' s' j' b' y)
