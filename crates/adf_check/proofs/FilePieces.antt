@@ -55,13 +55,6 @@ piece_ffs size k n b e le =
     let z : 0 + n - 0 ≡ n = omega arith in
     ap (λ m. take m (drop 0 b)) z ∙ sym (take-take n 512 (drop 0 b) le) ∙ ap (λ m. take m (take 512 (drop 0 b))) e
 
--- a part of a list with so many members lies in it
-pub part_inside : (ds ys : List ℕ) (x c : ℕ) → take (length ys) (drop x ds) ≡ ys → length ys ≡ c → c ≢ 0 → x + c ≤ length ds
-part_inside ds ys x c e n ne =
-    let a = sym (length-take (length ys) (drop x ds)) ∙ ap length e in
-    let b = length-drop x ds in
-    omega arith
-
 count_small : (kind : Kind) (size : ℕ) → size < 2 ^ 32 → 1 + count kind size < 2 ^ 32
 unfolding count chunk
 count_small Ofs size h = omega arith
@@ -79,11 +72,19 @@ module _ {image : List ℕ} {store : Store} {t : Tree} {l : Layout} (k : StoreSt
   whole : length image ≡ 512 * blocks image
   whole = k.fits.boots.0.0
 
-  -- the data blocks of a node stand in the list of all, from its start on
-  pub datas_here : (n : ℕ) (x : Start) → n ≤ length store.rows → x ≡ get_or store.starts n x
-      → take (length (datas_of l n)) (drop x.datas store.datas) ≡ datas_of l n
-  datas_here n x le e =
-      k.starts.datas n x (subst (At store.starts n) (sym e) (at_or store.starts n x (omega arith)))
+  -- the data blocks of a node stand in the list of all, from its start on, by their count
+  module _ (size : ℕ) {n m c : ℕ} {kind : Kind} {x : Start} (within : n ≤ length store.rows) (view : m ≡ n) (start : x ≡ get_or store.starts m x)
+      (long : length (datas_of l n) ≡ count (kind_of image) size) (is_kind : kind ≡ kind_of image) (is_count : c ≡ count kind size) where
+    many : length (datas_of l n) ≡ c
+    many = long ∙ ap (λ k. count k size) (sym is_kind) ∙ sym is_count
+
+    pub part_is : take c (drop x.datas store.datas) ≡ datas_of l n
+    part_is =
+        let here : At store.starts m x = subst (At store.starts m) (sym start) (at_or store.starts m x (omega (arith, k.starts.count))) in
+        subst (λ c. take c (drop x.datas store.datas) ≡ datas_of l n) many (k.starts.datas n x (subst (λ m. At store.starts m x) view here))
+
+    pub part_inside : c ≢ 0 → x.datas + c ≤ length store.datas
+    part_inside ne = omega (arith, many, length-take c (drop x.datas store.datas), ap length part_is, length-drop x.datas store.datas)
 
 -- node n is a file, or a directory, with its header at block h
 pub record IsEntry (image : List ℕ) (store : Store) (n h : ℕ) : Type 0 where

@@ -1,6 +1,4 @@
-use Rattle.std.proofs.Common.{◌≡◌, ◌+◌, ◌*◌, ◌<◌, ℕ, suc, length, min, ap, refl, subst, ◌∙◌, arith}
-use Rattle.adf_blocks.specs.Sizes.{count}
-use Rattle.adf_volume.specs.Image.{kind_of}
+use Rattle.std.proofs.Common.{◌≡◌, ◌+◌, ◌*◌, ◌<◌, ℕ, suc, length, min, refl, subst, arith}
 use Rattle.adf_volume.specs.Walk.{data_count}
 use Rattle.adf_check.specs.Reading.{IsAtNode}
 use Rattle.adf_check.proofs.DataSteps.{datas_end, too_short}
@@ -11,8 +9,7 @@ use Rattle.adf_check.proofs.datas.read_datas.Goals as goal
 pub returns-then-tables-table-clause-fault : goal.returns-then-tables-table-clause-fault
 returns-then-tables-table-clause-fault c =
     let image = c.args.image.now in
-    let e : c.count_of-count.result ≡ data_count image c.args.head =
-    c.count_of-count.ensures ∙ ap (λ k. count k c.args.size) c.kind.ensures.kind ∙ ap (count (kind_of image)) c.requires.size in
+    let e : c.count_of-count.result ≡ data_count image c.args.head = cc (c.count_of-count.ensures, c.kind.ensures.kind, c.requires.size) in
     let short : 72 * length c.args.table.now < data_count image c.args.head = omega arith in
     rw c.fault_at.ensures (too_short c.requires.begun c.requires.state refl short)
 
@@ -22,8 +19,7 @@ number_of-requires c = file_short c.requires.begun refl c.requires.state.read c.
 pub returns-clause-state : goal.returns-clause-state
 returns-clause-state c =
     let image = c.args.image.now in
-    let e : c.count_of-count.result ≡ data_count image c.args.head =
-    c.count_of-count.ensures ∙ ap (λ k. count k c.args.size) c.kind.ensures.kind ∙ ap (count (kind_of image)) c.requires.size in
+    let e : c.count_of-count.result ≡ data_count image c.args.head = cc (c.count_of-count.ensures, c.kind.ensures.kind, c.requires.size) in
     let one : suc c.args.node ≡ c.args.node + 1 = omega arith in
     let last : ℕ = min (72 * c.loop-m.m) c.count_of-count.result in
     subst (IsAtNode image (store_of c.loop-m.found)) one
