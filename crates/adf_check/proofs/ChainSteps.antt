@@ -6,6 +6,7 @@ use Rattle.std.specs.Prelude.{◌↔◌}
 use Rattle.std.proofs.lemmas.Bool.Decides.{Decides-or}
 use Rattle.std.specs.Str.{bytes_eq}
 use Rattle.std.proofs.lemmas.Slice.Eq.{bytes_eq-Decides}
+use Rattle.adf_blocks.specs.declared.layout.TheConstants.{FIRST_SLOT, NAME, NEXT_IN_CHAIN, SLOTS}
 use Rattle.adf_fields.specs.Words.{block, word}
 use Rattle.adf_tree.specs.Texts.{uppers}
 use Rattle.adf_tree.specs.NameSet.{has, HasMore, Names}
@@ -31,7 +32,7 @@ use Rattle.adf_check.specs.Store.{Store, owner_at}
 use Rattle.adf_check.proofs.ClaimSteps.{IsNamed, IsStored, form_fault, name_fault, read_one}
 use Rattle.adf_check.proofs.CursorMoves.{moved, end_chain}
 
-next_asks : (image : List ℕ) (w : List (Role × ℕ)) (p s j a b : ℕ) → s < 72 → b ≢ 0 → Next image w p s j a b
+next_asks : (image : List ℕ) (w : List (Role × ℕ)) (p s j a b : ℕ) → s < SLOTS → b ≢ 0 → Next image w p s j a b
     → (i : ℕ) × Asks image w (next_head w p s j) a i × (word_in image a i ≡ b)
 next_asks image w p s zero a b lt ne h = (6 + s, (refl, lt, h.0, refl, (λ z. ne (sym h.1 ∙ z))), h.1)
 next_asks image w p s (suc j) a b lt ne h = (124, (refl, h.0, refl, (λ z. ne (sym h.1 ∙ z))), h.1)
@@ -40,11 +41,11 @@ next_ends : (image : List ℕ) (w : List (Role × ℕ)) → IsWalk image w → (
     → ⊥
 next_ends image w v p s zero a h n c i k =
     let e : c ≡ a = one_node image v p c a (dir_is_node image w p c k.2) (dir_is_node image w p a h.0) in
-    k.4 (ap (word_in image c) k.3 ∙ ap (λ a. word_in image a (6 + s)) e ∙ h.1)
+    k.4 (ap (word_in image c) k.3 ∙ ap (λ a. word_in image a (FIRST_SLOT + s)) e ∙ h.1)
 next_ends image w v p s (suc j) a h n c i k =
     let m = k.1 in
     let e : c ≡ a = (one_block image v (Head m.0 p s j) (Head h.0.0 p s j) c a m.1 h.0.1 (refl, refl, refl)).1 in
-    k.3 (ap (word_in image c) k.2 ∙ ap (λ a. word_in image a 124) e ∙ h.1)
+    k.3 (ap (word_in image c) k.2 ∙ ap (λ a. word_in image a NEXT_IN_CHAIN) e ∙ h.1)
 
 -- a chain that ends leaves its slot
 pub chain_ends : (image : List ℕ) (store : Store) (p up s a : ℕ) (seen : List ℕ → Type 0) → IsInChain image store p up s a 0 seen
@@ -57,7 +58,7 @@ chain_ends image store p up s a seen st = record {
 
 -- a slot's chain begins at the directory, and nothing of it was seen
 pub chain_begins : (image : List ℕ) (store : Store) (p up s : ℕ) (seen : List ℕ → Type 0) → ((x : List ℕ) → seen x → ⊥) → IsAtSlot image store p up s
-    → IsInChain image store p up s up (word_in image up (6 + s)) seen
+    → IsInChain image store p up s up (word_in image up (FIRST_SLOT + s)) seen
 chain_begins image store p up s seen none st = record {
   walk = st.walk;
   place = 0;
@@ -71,12 +72,12 @@ chain_begins image store p up s seen none st = record {
 }
 
 -- a slot whose word is 0 has no chain
-pub empty_chain : (image : List ℕ) (store : Store) (p up s : ℕ) → IsAtSlot image store p up s → word_in image up (6 + s) ≡ 0
+pub empty_chain : (image : List ℕ) (store : Store) (p up s : ℕ) → IsAtSlot image store p up s → word_in image up (FIRST_SLOT + s) ≡ 0
     → IsAtSlot image store p up (s + 1)
 empty_chain image store p up s st none =
     let seen : List ℕ → Type 0 = λ x. ⊥ in
     let next : suc s ≡ s + 1 = omega arith in
-    let begins : IsInChain image store p up s up (word_in image up (6 + s)) seen = chain_begins image store p up s seen (λ x h. h) st in
+    let begins : IsInChain image store p up s up (word_in image up (FIRST_SLOT + s)) seen = chain_begins image store p up s seen (λ x h. h) st in
     subst (IsAtSlot image store p up) next (chain_ends image store p up s up seen (subst (λ b. IsInChain image store p up s up b seen) none begins))
 
 -- one name more is seen
@@ -84,7 +85,7 @@ seen_more : (old new : Names) (name : List ℕ) → HasMore old new name → (x 
 seen_more old new name h x = rw (h x) (Decides-or (bytes_eq name x) (has old x) (bytes_eq-Decides name x) ((λ s. s), (λ s. s)))
 
 -- a word of block a names block b next in the chain of slot s of directory p
-module _ {image : List ℕ} {store : Store} {p up s a b : ℕ} {seen : List ℕ → Type 0} (lt : s < 72) (begun : IsBegun image)
+module _ {image : List ℕ} {store : Store} {p up s a b : ℕ} {seen : List ℕ → Type 0} (lt : s < SLOTS) (begun : IsBegun image)
     (st : IsInChain image store p up s a b seen) (ne : b ≢ 0) where
   pub head_named : IsNamed image store st.walk (next_head st.walk p s st.place) a b
   head_named =
@@ -114,7 +115,7 @@ module _ {image : List ℕ} {store : Store} {p up s a b : ℕ} {seen : List ℕ 
     -- and holds a header, whose name was not seen
     pub next_chain : AllHold (head_demands image (kind_of image) b up s) → (seen (uppers (name_of image b)) → ⊥) → (seen' : List ℕ → Type 0)
         → ((x : List ℕ) → seen' x ↔ ((uppers (name_of image b) ≡ x) ⊎ seen x)) → {new : Store} → IsStored store new (next_head st.walk p s st.place) b
-        → IsInChain image new p up s b (word_in image b 124) seen'
+        → IsInChain image new p up s b (word_in image b NEXT_IN_CHAIN) seen'
     next_chain form fresh seen' g stored =
         let r : Role = next_head st.walk p s st.place in
         record {
@@ -128,7 +129,7 @@ module _ {image : List ℕ} {store : Store} {p up s a b : ℕ} {seen : List ℕ 
         }
 
 -- what was read of it
-module _ {image : List ℕ} {store : Store} {p up s a b : ℕ} (names : Names) (lt : s < 72) (begun : IsBegun image)
+module _ {image : List ℕ} {store : Store} {p up s a b : ℕ} (names : Names) (lt : s < SLOTS) (begun : IsBegun image)
     (st : IsInChain image store p up s a b (sees_of names)) (ne : b ≢ 0) (range : InRange (length store.owners) b) (free : owner_at store.owners b ≡ Free)
     {kind : Kind} {bytes : List ℕ} (is_kind : kind ≡ kind_of image) (is_block : bytes ≡ block image b) where
   cause_is : first_cause (head_form kind b up s bytes) ≡ first_cause (head_form (kind_of image) b up s (block image b))
@@ -141,21 +142,21 @@ module _ {image : List ℕ} {store : Store} {p up s a b : ℕ} (names : Names) (
 
   -- it is one, with this name
   module _ (none : first_cause (head_form kind b up s bytes) ≡ None) {head : List ℕ} (same : head ≡ bytes) {name : List ℕ}
-      (told : name ≡ text_at head 432) where
+      (told : name ≡ text_at head NAME) where
     form : AllHold (head_demands image (kind_of image) b up s)
     form = all_demanded b (head_form (kind_of image) b up s (block image b)) (sym cause_is ∙ none)
 
     name_is : uppers name ≡ uppers (name_of image b)
     unfolding name_of
-    name_is = ap uppers (told ∙ ap (λ x. text_at x 432) (same ∙ is_block))
+    name_is = ap uppers (told ∙ ap (λ x. text_at x NAME) (same ∙ is_block))
 
     pub twice_fault : has names (uppers name) ≡ true → IsTrueFault image (fault b SameName)
     twice_fault h = name_fault (head_named lt begun st ne) tt range free (form_at lt begun st ne AllHold form)
         (λ k. let x = st.sees.only (uppers (name_of image b)) (ap (has names) (sym name_is) ∙ h) in k x.0 x.1 x.2 x.3 x.4)
 
-    pub head_done : has names (uppers name) ≡ false → (more : Names) → HasMore names more (uppers name) → {next : ℕ} → next ≡ word head 124 → {new : Store}
-        → IsStored store new (next_head st.walk p s st.place) b → IsInChain image new p up s b next (sees_of more)
+    pub head_done : has names (uppers name) ≡ false → (more : Names) → HasMore names more (uppers name) → {next : ℕ} → next ≡ word head NEXT_IN_CHAIN
+        → {new : Store} → IsStored store new (next_head st.walk p s st.place) b → IsInChain image new p up s b next (sees_of more)
     head_done fresh more grows next_is {new = new} stored =
-        subst (λ n. IsInChain image new p up s b n (sees_of more)) (ap (λ x. word x 124) (sym (same ∙ is_block)) ∙ sym next_is)
+        subst (λ n. IsInChain image new p up s b n (sees_of more)) (ap (λ x. word x NEXT_IN_CHAIN) (sym (same ∙ is_block)) ∙ sym next_is)
         (next_chain lt begun st ne range free form (λ h. let e : true ≡ false = sym h ∙ ap (has names) (sym name_is) ∙ fresh in cc) (sees_of more)
         (seen_more names more (uppers (name_of image b)) (subst (HasMore names more) name_is grows)) stored)

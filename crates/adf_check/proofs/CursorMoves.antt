@@ -1,7 +1,7 @@
 -- The place of a reader moves on: over a role that is read, and over what is not asked for.
 use Rattle.std.proofs.Common.{◌≡◌, ℕ, zero, suc, List, [], ◌∷◌, inl, inr, ◌+◌, ◌/◌, ◌<◌, ◌≤◌, refl, sym, ap, subst, ◌∙◌, arith}
 use native.Mathlib.Decide.{dec_lt, ℕ_discrete}
-use Rattle.adf_blocks.specs.declared.layout.TheConstants.{ST_DIR, ST_FILE}
+use Rattle.adf_blocks.specs.declared.layout.TheConstants.{SECONDARY_TYPE, SLOTS, ST_DIR, ST_FILE}
 use Rattle.adf_volume.specs.Image.{word_in, root_of}
 use Rattle.adf_blocks.specs.Sizes.{blocks, pages_needed}
 use Rattle.adf_volume.specs.Walk.{Role, first, second, third, Before, Same, heads, DirAt, FileAt, data_count, Asks, Lacks, IsDue, NoCause, IsWalk, IsWhole}
@@ -93,7 +93,7 @@ module _ (image : List ℕ) (w : List (Role × ℕ)) where
       none _ a i h k b = k (omega arith)
 
   -- what is asked for in a directory lies in its slots
-  slot_low : (v : IsWalk image w) (n p s j a i : ℕ) → Asks image w (Head n p s j) a i → (s < 72) × ((c : ℕ) × DirAt image w p c)
+  slot_low : (v : IsWalk image w) (n p s j a i : ℕ) → Asks image w (Head n p s j) a i → (s < SLOTS) × ((c : ℕ) × DirAt image w p c)
   slot_low v n p s zero a i h = (h.1, (a, h.2))
   slot_low v n p s (suc j) a i h = let k = kept image v (Head h.1.0 p s j) a h.1.1 in (k.0, (k.2.0, k.2.1))
 
@@ -109,7 +109,7 @@ module _ (image : List ℕ) (w : List (Role × ℕ)) where
   dir_no_file v zero a b d f = omega (arith, (file_number v 0 (b, f)).0)
   dir_no_file v (suc i) a b d f =
       let e : a ≡ b = one_node image v (suc i) a b d.0 f.0 in
-      let z : ST_DIR ≡ ST_FILE = sym d.1 ∙ ap (λ a. word_in image a 127) e ∙ f.1 in omega arith
+      let z : ST_DIR ≡ ST_FILE = sym d.1 ∙ ap (λ a. word_in image a SECONDARY_TYPE) e ∙ f.1 in omega arith
 
   -- behind the last slot of a directory
   pub end_dir : (p : ℕ) → IsUpTo image w (suc p) 74 0 → IsUpTo image w (suc (suc p)) 0 0

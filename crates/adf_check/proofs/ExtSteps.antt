@@ -2,6 +2,7 @@
 use Rattle.adf_check.specs.Claims.{InRange}
 use Rattle.std.proofs.Common.{◌≡◌, ◌≢◌, inl, inr, ℕ, zero, suc, List, [], ◌∷◌, ◌++◌, length, refl, sym, ap}
 use Rattle.std.proofs.Common.{subst, ◌∙◌, arith, Some, None}
+use Rattle.adf_blocks.specs.declared.layout.TheConstants.{EXTENSION}
 use native.Mathlib.Decide.{dec_lt}
 use Rattle.adf_fields.specs.Words.{block, word}
 use Rattle.adf_blocks.specs.declared.cause.Cause.{Cause}
@@ -27,7 +28,7 @@ use Rattle.adf_check.proofs.CursorMoves.{moved, enter_file, end_exts}
 
 -- a file's table begins with its header
 pub enter_exts : (image : List ℕ) (store : Store) (n h : ℕ) (st : IsInNode image store n) → FileAt image st.walk n h
-    → IsInExts image store n h (h ∷ []) h (word_in image h 126)
+    → IsInExts image store n h (h ∷ []) h (word_in image h EXTENSION)
 enter_exts image store n h st file =
     record {
       walk = st.walk;
@@ -61,10 +62,10 @@ exts_no : (image : List ℕ) (w : List (Role × ℕ)) → IsWalk image w → (n 
     → Asks image w (Ext n (suc j)) c i → ⊥
 exts_no image w v n h zero a f x c i k =
     let e : c ≡ h = (one_head image v n k.0.0.0 k.0.0.1 k.0.0.2 c f.0.0 f.0.1 f.0.2 h k.0.0.3 f.0.3).1 in
-    k.2 (ap (word_in image c) k.1 ∙ ap (λ a. word_in image a 126) (e ∙ sym x.0) ∙ x.1)
+    k.2 (ap (word_in image c) k.1 ∙ ap (λ a. word_in image a EXTENSION) (e ∙ sym x.0) ∙ x.1)
 exts_no image w v n h (suc j) a f x c i k =
     let e : c ≡ a = (one_block image v (Ext n (suc j)) (Ext n (suc j)) c a k.0 x.0 (refl, refl, refl)).1 in
-    k.2 (ap (word_in image c) k.1 ∙ ap (λ a. word_in image a 126) e ∙ x.1)
+    k.2 (ap (word_in image c) k.1 ∙ ap (λ a. word_in image a EXTENSION) e ∙ x.1)
 
 -- no extension block follows
 pub exts_end : (image : List ℕ) (store : Store) (n h : ℕ) (table : List ℕ) (a : ℕ) → IsInExts image store n h table a 0 → IsInDatas image store n h table 0
@@ -92,7 +93,7 @@ module _ {image : List ℕ} {store : Store} {n h : ℕ} {table : List ℕ} {a b 
     ext_fault c f = form_fault ext_named tt range free c (form_at (λ ds. FirstFails ds b c)
         (first_demanded b (ext_form b h (block image b)) c (ap (λ x. first_cause (ext_form b h x)) (sym is_block) ∙ f)))
 
-    pub ext_done : first_cause (ext_form b h bytes) ≡ None → {ext : List ℕ} → ext ≡ bytes → {next : ℕ} → next ≡ word ext 126 → {longer : List ℕ}
+    pub ext_done : first_cause (ext_form b h bytes) ≡ None → {ext : List ℕ} → ext ≡ bytes → {next : ℕ} → next ≡ word ext EXTENSION → {longer : List ℕ}
         → longer ≡ table ++ b ∷ [] → {new : Store} → IsStored store new (Ext n (length table)) b → IsInExts image new n h longer b next
     ext_done f same next_is longer_is {new = new} stored =
         let r : Role = Ext n (suc st.extra) in
@@ -113,5 +114,5 @@ module _ {image : List ℕ} {store : Store} {n h : ℕ} {table : List ℕ} {a b 
             counted = snoc_length table b ∙ ap suc (st.holds.counted ∙ sym one);
           });
           counted = one ∙ ap suc st.counted;
-          named = (inl (refl, refl), ap (λ x. word x 126) (sym (same ∙ is_block)) ∙ sym next_is);
+          named = (inl (refl, refl), ap (λ x. word x EXTENSION) (sym (same ∙ is_block)) ∙ sym next_is);
         }

@@ -4,7 +4,7 @@ use Rattle.std.proofs.Common.{◌∙◌, arith, Option, Some, None, length-take,
 use Rattle.std.specs.Prelude.{slice_range}
 use Rattle.std.specs.List.{All, concat}
 use Rattle.std.proofs.lemmas.List.{take-take}
-use Rattle.adf_blocks.specs.declared.layout.TheConstants.{ST_DIR}
+use Rattle.adf_blocks.specs.declared.layout.TheConstants.{SECONDARY_TYPE, SIZE, ST_DIR}
 use Rattle.adf_fields.specs.Words.{block}
 use Rattle.adf_tree.specs.declared.entry.Body.{Body}
 use Rattle.adf_tree.specs.declared.entry.Body.TheVariants.{Dir, File}
@@ -60,7 +60,7 @@ unfolding count chunk
 count_small Ofs size h = omega arith
 count_small Ffs size h = omega arith
 
-body_other : (image : List ℕ) (kind : Kind) (l : Layout) (n h : ℕ) (body : Body) → BodyFits image kind l n h body → word_in image h 127 ≢ ST_DIR
+body_other : (image : List ℕ) (kind : Kind) (l : Layout) (n h : ℕ) (body : Body) → BodyFits image kind l n h body → word_in image h SECONDARY_TYPE ≢ ST_DIR
     → (bytes : List ℕ) × (body ≡ File bytes)
 body_other image kind l n h Dir f w = absurd (w f.0)
 body_other image kind l n h (File bytes) f w = (bytes, refl)
@@ -104,30 +104,30 @@ module _ {image : List ℕ} {store : Store} {n h : ℕ} (is : IsEntry image stor
     told : bytes_of (entry t.entries n) ≡ bytes_in here.0.body
     told = ap bytes_of ((entry_is_at t n here.0).0 here.1)
 
-    pub dir_bytes : word_in image h 127 ≡ ST_DIR → ◌≡◌ {A = Option (List ℕ)} None (bytes_of (entry t.entries n))
+    pub dir_bytes : word_in image h SECONDARY_TYPE ≡ ST_DIR → ◌≡◌ {A = Option (List ℕ)} None (bytes_of (entry t.entries n))
     dir_bytes w = sym (told ∙ ap bytes_in (body_dir k n h here.0.body body_fits w))
 
-    module _ (w : word_in image h 127 ≢ ST_DIR) where
+    module _ (w : word_in image h SECONDARY_TYPE ≢ ST_DIR) where
       file : (bytes : List ℕ) × (here.0.body ≡ File bytes)
       file = body_other image t.kind l n h here.0.body body_fits w
 
       file_fits : BodyFits image t.kind l n h (File file.0)
       file_fits = subst (BodyFits image t.kind l n h) file.1 body_fits
 
-      pub data_count_is : length (datas_of l n) ≡ count (kind_of image) (word_in image h 81)
+      pub data_count_is : length (datas_of l n) ≡ count (kind_of image) (word_in image h SIZE)
       data_count_is = (k.fits.files n here.0 file.0 here.1 file.1).datas ∙ ap (count t.kind) file_fits.2
-          ∙ ap (λ kind. count kind (word_in image h 81)) k.fits.kind
+          ∙ ap (λ kind. count kind (word_in image h SIZE)) k.fits.kind
 
-      file_bytes : Some (concat (pieces image (kind_of image) (word_in image h 81) 1 (datas_of l n))) ≡ bytes_of (entry t.entries n)
+      file_bytes : Some (concat (pieces image (kind_of image) (word_in image h SIZE) 1 (datas_of l n))) ≡ bytes_of (entry t.entries n)
       file_bytes =
           ap Some (pieces_joined image (kind_of image) h (datas_of l n) (whole k) (data_range k n)
           ∙ ap (λ kind. content image kind h (datas_of l n)) (sym k.fits.kind) ∙ sym file_fits.1)
           ∙ sym (told ∙ ap bytes_in file.1)
 
-      file_inside : word_in image h 81 < 2 ^ 32 → AreInside image (datas_of l n) 1
+      file_inside : word_in image h SIZE < 2 ^ 32 → AreInside image (datas_of l n) 1
       file_inside small =
           let c = data_count_is in
-          let s = count_small (kind_of image) (word_in image h 81) small in
+          let s = count_small (kind_of image) (word_in image h SIZE) small in
           record {
             inside = (λ i d lt. let b : get_or (datas_of l n) i d < blocks image =
                 data_range k n i (get_or (datas_of l n) i d) (at_or (datas_of l n) i d lt) in omega arith);
@@ -136,10 +136,10 @@ module _ {image : List ℕ} {store : Store} {n h : ℕ} (is : IsEntry image stor
           }
 
       -- no piece is empty
-      file_some : All (λ p. 0 < length p) (pieces image (kind_of image) (word_in image h 81) 1 (datas_of l n))
+      file_some : All (λ p. 0 < length p) (pieces image (kind_of image) (word_in image h SIZE) 1 (datas_of l n))
       file_some i d lt =
           let ds = datas_of l n in
-          let size : ℕ = word_in image h 81 in
+          let size : ℕ = word_in image h SIZE in
           let many = data_count_is in
           let long = pieces_length image (kind_of image) size 1 ds in
           let b : ℕ = get_or ds i 0 in
@@ -154,11 +154,11 @@ module _ {image : List ℕ} {store : Store} {n h : ℕ} (is : IsEntry image stor
           subst (λ p. 0 < length p) (sym piece_is) (omega (arith, held_here.0, held_here.1, area_is, taken))
 
   -- what is made of the data blocks of a file
-  module _ (tells : StoreFits image store) (w : word_in image h 127 ≢ ST_DIR) {xs ds : List ℕ} {kind : Kind} {size : ℕ} (is_image : xs ≡ image)
-      (is_kind : kind ≡ kind_of image) (is_size : size ≡ word_in image h 81)
+  module _ (tells : StoreFits image store) (w : word_in image h SECONDARY_TYPE ≢ ST_DIR) {xs ds : List ℕ} {kind : Kind} {size : ℕ} (is_image : xs ≡ image)
+      (is_kind : kind ≡ kind_of image) (is_size : size ≡ word_in image h SIZE)
       (are : (t : Tree) (l : Layout) → StoreStandsFor image store t l → ds ≡ datas_of l n) where
     pieces_are : (t : Tree) (l : Layout) → StoreStandsFor image store t l
-        → pieces xs kind size 1 ds ≡ pieces image (kind_of image) (word_in image h 81) 1 (datas_of l n)
+        → pieces xs kind size 1 ds ≡ pieces image (kind_of image) (word_in image h SIZE) 1 (datas_of l n)
     pieces_are t l k = λ i. pieces (is_image i) (is_kind i) (is_size i) 1 (are t l k i)
 
     pub made_inside : size < 2 ^ 32 → AreInside xs ds 1

@@ -1,6 +1,6 @@
 -- The steps along the nodes: each is begun, and what its header names is read.
 use Rattle.std.proofs.Common.{◌≡◌, ◌≢◌, inl, inr, ℕ, suc, ◌-◌, List, [], ◌∷◌, ◌<◌, ◌≤◌, length, get_or, refl, sym, ap, subst, ◌∙◌, arith}
-use Rattle.adf_blocks.specs.declared.layout.TheConstants.{ST_DIR}
+use Rattle.adf_blocks.specs.declared.layout.TheConstants.{EXTENSION, SECONDARY_TYPE, ST_DIR}
 use Rattle.adf_blocks.specs.Sizes.{blocks}
 use Rattle.adf_volume.specs.Image.{kind_of, root_of, word_in}
 use Rattle.adf_volume.specs.Lists.{At}
@@ -67,7 +67,7 @@ module _ (image : List ℕ) (store : Store) (w : List (Role × ℕ)) (t : StoreM
       let z : r ≡ record { parent = k.0; head = k.3 } = at_fun store.rows i r (record { parent = k.0; head = k.3 }) h (t.lists.row i k.0 k.1 k.2 k.3 k.4) in
       (k.0, k.1, k.2, subst (Has w (Head (suc i) k.0 k.1 k.2)) (ap (λ (x : KeptHeader). x.head) (sym z)) k.4)
 
-  pub file_here : (i : ℕ) (r : KeptHeader) → At store.rows i r → word_in image r.head 127 ≢ ST_DIR → FileAt image w (suc i) r.head
+  pub file_here : (i : ℕ) (r : KeptHeader) → At store.rows i r → word_in image r.head SECONDARY_TYPE ≢ ST_DIR → FileAt image w (suc i) r.head
   file_here i r h d =
       let x = node_here i r h in
       let k = (kept image v (Head (suc i) x.0 x.1 x.2) r.head x.3).2 in (
@@ -108,12 +108,12 @@ module _ {image : List ℕ} {store : Store} {m n : ℕ} {row : KeptHeader} (begu
       let x = node_here image store st.walk st.read.tells st.read.upto.walk (m - 1) row here in
       (in_range image st.read.upto.walk (many_blocks image begun) (Head (suc (m - 1)) x.0 x.1 x.2) row.head x.3).1
 
-  pub directory_begins : word_in image row.head 127 ≡ ST_DIR → IsAtSlot image store n row.head 0
+  pub directory_begins : word_in image row.head SECONDARY_TYPE ≡ ST_DIR → IsAtSlot image store n row.head 0
   directory_begins e =
       enter_directory image store n row.head st (subst (λ n. DirAt image st.walk n row.head) node
       (node_here image store st.walk st.read.tells st.read.upto.walk (m - 1) row here, e))
 
-  pub file_begins : word_in image row.head 127 ≢ ST_DIR → IsInExts image store n row.head (row.head ∷ []) row.head (word_in image row.head 126)
+  pub file_begins : word_in image row.head SECONDARY_TYPE ≢ ST_DIR → IsInExts image store n row.head (row.head ∷ []) row.head (word_in image row.head EXTENSION)
   file_begins e =
       enter_exts image store n row.head st (subst (λ n. FileAt image st.walk n row.head) node
       (file_here image store st.walk st.read.tells st.read.upto.walk (m - 1) row here e))

@@ -3,7 +3,7 @@ use Rattle.std.proofs.Common.{true, false, ◌≡◌, ℕ, suc, List, ◌<◌, l
 use Rattle.std.specs.Prelude.{nat_le, ◌==◌}
 use Rattle.std.proofs.lemmas.Bool.{and_parts}
 use Rattle.std.proofs.lemmas.Bool.Decides.{nat_tests}
-use Rattle.adf_blocks.specs.declared.layout.TheConstants.{ST_DIR}
+use Rattle.adf_blocks.specs.declared.layout.TheConstants.{NAME, SECONDARY_TYPE, ST_DIR}
 use Rattle.adf_fields.specs.Words.{block}
 use Rattle.adf_tree.specs.Texts.{is_name}
 use Rattle.adf_tree.specs.declared.entry.Body.{Body}
@@ -33,7 +33,7 @@ use Rattle.adf_check.specs.declared.row.Row.{Row}
 -- a block with the form of a header is one
 pub head_facts : (kind : Kind) (b own parent slot : ℕ) (bytes : List ℕ) → AllHold (demands_at b (head_form kind own parent slot bytes)) → IsHead bytes
 head_facts kind b own parent slot bytes h =
-    let named = and_parts (nat_le _ 30) (is_name (text_at bytes 432)) h.1.1.1.1.1.0 in
+    let named = and_parts (nat_le _ 30) (is_name (text_at bytes NAME)) h.1.1.1.1.1.0 in
     record {
       name_len = grind (arith, nat_tests, named.0);
       name = named.1;
@@ -52,12 +52,12 @@ tells_begun image store st = all_append (boot_demands image) (root_demands image
 
 -- the secondary type of a header tells whether its entry is a directory, and its words the size of a file
 pub type_told : (image : List ℕ) (t : Tree) (l : Layout) (n h : ℕ) (body : Body) → BodyFits image t.kind l n h body
-    → ((word_in image h 127 == ST_DIR) ≡ is_dir_body body) × BodyMatches (row_body (body_at (block image h))) body
+    → ((word_in image h SECONDARY_TYPE == ST_DIR) ≡ is_dir_body body) × BodyMatches (row_body (body_at (block image h))) body
 type_told image t l n h Dir f =
-    let is : (word_in image h 127 == ST_DIR) ≡ true = grind (arith, nat_tests) in
+    let is : (word_in image h SECONDARY_TYPE == ST_DIR) ≡ true = grind (arith, nat_tests) in
     (is, rw is tt)
 type_told image t l n h (File bytes) f =
-    let is : (word_in image h 127 == ST_DIR) ≡ false = grind (arith, nat_tests) in
+    let is : (word_in image h SECONDARY_TYPE == ST_DIR) ≡ false = grind (arith, nat_tests) in
     (is, rw is (sym f.2))
 
 -- what a row's header tells is what the tree has

@@ -3,7 +3,7 @@ use Rattle.std.proofs.Common.{◌≡◌, ℕ, suc, List, [], ◌∷◌, ◌+◌,
 use Rattle.std.specs.Prelude.{◌==◌, not}
 use Rattle.std.proofs.lemmas.List.Filters.{length-filter_both}
 use Rattle.std.proofs.lemmas.List.Sums.{length-filter, sum_by-cons}
-use Rattle.adf_blocks.specs.declared.layout.TheConstants.{ST_DIR}
+use Rattle.adf_blocks.specs.declared.layout.TheConstants.{SECONDARY_TYPE, ST_DIR}
 use Rattle.adf_tree.specs.declared.entry.Entry.{Entry}
 use Rattle.adf_tree.specs.declared.entry.Kind.{Kind}
 use Rattle.adf_tree.specs.Tree.{Tree}
@@ -57,7 +57,7 @@ pub dirs_are : (image : List ℕ) (store : Store) (t : Tree) (l : Layout) → St
     → count_by (is_dir_at image) store.rows ≡ count_by is_directory t.entries
 dirs_are image store t l k = same_count (is_dir_at image) is_directory store.rows t.entries k.rows.count (λ i r e at_row at_entry.
     let h : at_node image l (suc i) ≡ r.head = k.rows.head i r at_row in
-    subst (λ b. (word_in image b 127 == ST_DIR)
+    subst (λ b. (word_in image b SECONDARY_TYPE == ST_DIR)
     ≡ is_directory e) h (type_told image t l (suc i) (at_node image l (suc i)) e.body (k.fits.entries (suc i) e at_entry).body).0)
 
 -- the numbers of a volume are those of the tree and the layout that it stands for

@@ -1,4 +1,5 @@
 use Rattle.std.proofs.Common.{◌≡◌, ◌<◌, map, ap, subst, sym, ◌∙◌}
+use Rattle.adf_blocks.specs.declared.layout.TheConstants.{NEXT_IN_CHAIN}
 use Rattle.adf_fields.specs.Hash.{slot_of}
 use Rattle.adf_fields.specs.Words.{word}
 use Rattle.adf_blocks.specs.HeadBlock.{IsHead}
@@ -17,7 +18,7 @@ loop-b-init c = λ t l k.
     let image = c.args.image.now in
     let slot : c.slot.result ≡ slot_of c.args.name.now = c.slot.ensures.exact ∙ ap slot_of c.bytes.ensures.bytes in
     chain_begins k c.first_of-b.result
-    (subst (λ s. Spelled (λ b. word_in image b 124) c.first_of-b.result (map (at_node image l) (chain_nodes t c.args.parent s))) slot
+    (subst (λ s. Spelled (λ b. word_in image b NEXT_IN_CHAIN) c.first_of-b.result (map (at_node image l) (chain_nodes t c.args.parent s))) slot
     (c.first_of-b.ensures t l k))
 
 pub block-requires : goal.block-requires
@@ -40,15 +41,16 @@ returns-then-same c =
 pub loop-b-smaller : goal.loop-b-smaller
 loop-b-smaller c =
     let store = store_of c.args.found.now in
-    let next : c.next-b.result ≡ word_in c.args.image.now c.loop-b.b 124 =
-    c.next-b.ensures ∙ ap (λ x. word x 124) (c.over-head.ensures ∙ c.block.ensures.block) in
+    let next : c.next-b.result ≡ word_in c.args.image.now c.loop-b.b NEXT_IN_CHAIN =
+    c.next-b.ensures ∙ ap (λ x. word x NEXT_IN_CHAIN) (c.over-head.ensures ∙ c.block.ensures.block) in
     subst (λ d. chain_left store d < chain_left store c.loop-b.b) (sym next) (on_smaller c.requires.tells c.loop-b.invariant c.loop-b-test.true)
 
 pub loop-b-preserved : goal.loop-b-preserved
 loop-b-preserved c = λ t l k.
     let image = c.args.image.now in
     let name = c.args.name.now in
-    let next : c.next-b.result ≡ word_in image c.loop-b.b 124 = c.next-b.ensures ∙ ap (λ x. word x 124) (c.over-head.ensures ∙ c.block.ensures.block) in
+    let next : c.next-b.result ≡ word_in image c.loop-b.b NEXT_IN_CHAIN =
+    c.next-b.ensures ∙ ap (λ x. word x NEXT_IN_CHAIN) (c.over-head.ensures ∙ c.block.ensures.block) in
     let other = other_name image c.loop-b.b name c.name.ensures c.over-head.ensures c.block.ensures.block c.same.ensures c.if-same.false in
     subst (OnChain image t l c.args.parent name) (sym next) (chain_next k (c.loop-b.invariant t l k) c.loop-b-test.true other)
 
