@@ -23,10 +23,6 @@ read_directory-requires-in-Dir-clause-state c =
     directory_begins c.root-root.ensures.begun c.node.view_is c.if-node-eq0.false c.requires.inside c.index.ensures c.requires.state
     (dir_type c.args.image.now c.index.result.now.head c.body.ensures.body c.in-Dir.is)
 
-pub read_file-requires-clause-size : goal.read_file-requires-clause-size
-read_file-requires-clause-size c =
-    (file_words c.args.image.now c.index.result.now.head c.body.ensures.body c.in-File.is).1
-
 pub read_file-requires-clause-state : goal.read_file-requires-clause-state
 read_file-requires-clause-state c =
     let image = c.args.image.now in
