@@ -3,6 +3,7 @@ use Rattle.adf_check.specs.Claims.{InRange}
 use Rattle.std.proofs.Common.{◌≡◌, inl, inr, ℕ, zero, suc, List, [], ◌∷◌, ◌++◌, ◌+◌, ◌-◌, ◌*◌, ◌/◌, ◌%◌, ◌<◌, ◌≤◌, length, refl, sym, ap, subst, ◌∙◌}
 use Rattle.std.proofs.Common.{arith, Some, None}
 use Rattle.std.specs.Prelude.{nat_lt, slice_index}
+use Rattle.std.proofs.lemmas.Grind.{common_steps}
 use Rattle.std.proofs.lemmas.Bool.{cond-true, cond-false, le-ltb, lt-ltb}
 use Rattle.std.proofs.lemmas.Bool.Decides.{nat_tests}
 use native.Mathlib.Decide.{dec_lt}
@@ -163,10 +164,7 @@ module _ {image : List ℕ} {store : Store} {i a b : ℕ} (begun : IsBegun image
   }
 
 all_below : (xs : List ℕ) (b n j : ℕ) → ((i : ℕ) → i < length xs → slice_index xs i < n) → b < n → j < length (xs ++ b ∷ []) → slice_index (xs ++ b ∷ []) j < n
-all_below [] b n zero h lt below = lt
-all_below [] b n (suc j) h lt below = absurd (omega arith)
-all_below (x ∷ xs) b n zero h lt below = h 0 (omega arith)
-all_below (x ∷ xs) b n (suc j) h lt below = all_below xs b n j (λ i inside. h (suc i) (omega arith)) lt (omega arith)
+all_below xs b n j h lt below = grind (arith, common_steps, h)
 
 -- one page more is listed
 pub list_done : (image pages : List ℕ) (b i : ℕ) → AreListed image pages i → b ≡ block_of_page image i → b < blocks image

@@ -2,7 +2,8 @@
 use Rattle.std.proofs.Common.{◌≡◌, ◌≢◌, ℕ, zero, suc, List, [], ◌∷◌, ◌+◌, ◌-◌, ◌<◌, ◌≤◌, length, set}
 use Rattle.std.proofs.Common.{get_or-set_other, refl, sym, ap, subst, ◌∙◌, arith}
 use Rattle.std.specs.Prelude.{replicate}
-use Rattle.std.proofs.lemmas.List.{length-replicate, get_or-replicate}
+use Rattle.std.proofs.lemmas.Grind.{common_steps}
+use Rattle.std.proofs.lemmas.List.{length-replicate}
 use Rattle.adf_blocks.specs.Sizes.{blocks}
 use Rattle.adf_volume.specs.declared.owner.Owner.{Owner}
 use Rattle.adf_volume.specs.declared.owner.Owner.TheVariants.{Free, Boot, Root}
@@ -32,14 +33,10 @@ new_length : (m : ℕ) → length (new_owners m) ≡ 2 + m
 new_length m = let z : length {A = Owner} (replicate m Free) ≡ m = length-replicate m Free in omega arith
 
 new_boot : (m b : ℕ) → b < 2 → owner_at (new_owners m) b ≡ Boot
-new_boot m zero h = refl
-new_boot m (suc zero) h = refl
-new_boot m (suc (suc b)) h = absurd (omega arith)
+new_boot m b h = grind (arith, common_steps)
 
 new_free : (m b : ℕ) → 2 ≤ b → b < 2 + m → owner_at (new_owners m) b ≡ Free
-new_free m zero l h = absurd (omega arith)
-new_free m (suc zero) l h = absurd (omega arith)
-new_free m (suc (suc b)) l h = get_or-replicate m b Free Free (omega arith)
+new_free m b l h = grind (arith, common_steps)
 
 pub owners_free : (m root b : ℕ) → 2 ≤ b → b < 2 + m → b ≢ root → owner_at (owners_of m root) b ≡ Free
 owners_free m root b l h ne = get_or-set_other (new_owners m) root b Root Free ne ∙ new_free m b l h
