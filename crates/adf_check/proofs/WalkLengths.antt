@@ -1,5 +1,6 @@
 -- A walk is as long as the list of what its layout owns, and no list of its blocks is longer.
 use Rattle.std.proofs.Common.{◌≡◌, ◌≢◌, ℕ, suc, List, [], ◌∷◌, ◌++◌, inl, inr, ◌≤◌, length, Bool, true, false, cond, refl, sym, ap, subst, ◌∙◌, arith}
+use Rattle.std.proofs.lemmas.Grind.{common_steps}
 use Rattle.adf_volume.specs.Layout.{owned}
 use Rattle.adf_volume.specs.LayoutRoles.{owner_of}
 use Rattle.adf_volume.specs.Lists.{In, NoBlockTwice}
@@ -61,8 +62,4 @@ heads_within (x ∷ w) = omega (arith, heads_within w, one_more x.0 (heads w))
 
 pub picked_within : (f : Role → Bool) (w : List (Role × ℕ)) → length (picked f w) ≤ length w
 picked_within f [] = omega arith
-picked_within f (x ∷ w) = one_more (f x.0) (picked_within f w)
-  where
-    one_more : (t : Bool) → length (picked f w) ≤ length w → length (cond t (picked f w ++ x.1 ∷ []) (picked f w)) ≤ suc (length w)
-    one_more true h = omega (arith, h, snoc_length (picked f w) x.1)
-    one_more false h = omega (arith, h)
+picked_within f (x ∷ w) = grind (arith, common_steps, picked_within f w, snoc_length (picked f w) x.1)
