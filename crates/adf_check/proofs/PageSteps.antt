@@ -32,8 +32,8 @@ use Rattle.adf_check.proofs.CursorMoves.{moved, end_all_pages}
 
 -- the word that names a page
 index_is : (image : List ℕ) (w : List (Role × ℕ)) (k a n : ℕ) → NamesPage image w k a n → index_of_page k ≡ n
-index_is image w k a n (inl x) = let y : k < 25 = x.0 in let z : n ≡ 79 + k = x.2 in grind (arith, nat_tests)
-index_is image w k a n (inr x) = let y : k ≡ 25 + 127 * x.0 + n = x.3 in let l : n < 127 = x.2 in grind (arith, nat_tests)
+index_is image w k a n (inl x) = grind (arith, nat_tests)
+index_is image w k a n (inr x) = grind (arith, nat_tests)
 
 -- where no bitmap extension block comes before page k
 no_ext_names : (image : List ℕ) (w : List (Role × ℕ)) (k a : ℕ) → (k ≤ 25 → a ≡ root_of image)

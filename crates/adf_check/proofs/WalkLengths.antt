@@ -1,5 +1,5 @@
 -- A walk is as long as the list of what its layout owns, and no list of its blocks is longer.
-use Rattle.std.proofs.Common.{◌≡◌, ◌≢◌, ℕ, suc, List, [], ◌∷◌, ◌++◌, inl, inr, ◌≤◌, length, Bool, true, false, cond, refl, sym, ap, subst, ◌∙◌, arith}
+use Rattle.std.proofs.Common.{◌≡◌, ◌≢◌, ℕ, suc, List, [], ◌∷◌, inl, inr, ◌≤◌, length, Bool, refl, sym, ap, subst, ◌∙◌, arith}
 use Rattle.std.proofs.lemmas.Grind.{common_steps}
 use Rattle.adf_volume.specs.Layout.{owned}
 use Rattle.adf_volume.specs.LayoutRoles.{owner_of}
