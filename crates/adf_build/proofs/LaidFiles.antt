@@ -17,7 +17,7 @@ use Rattle.adf_blocks.specs.DataBlock.{data_form}
 use Rattle.adf_blocks.proofs.ExtLaws.{ext_block-form, ext_block-next, ext_block-pointer}
 use Rattle.adf_blocks.proofs.DataLaws.{data_block-form, data_block-bytes}
 use Rattle.adf_volume.specs.Lists.{At, Spelled}
-use Rattle.adf_blocks.specs.Sizes.{chunk, count}
+use Rattle.adf_blocks.specs.Sizes.{chunk}
 use Rattle.adf_volume.specs.Image.{word_in, held, area, joined}
 use Rattle.adf_volume.specs.Demands.{AllHold, ext_demands, data_demands}
 use Rattle.adf_volume.proofs.FormDemands.{all_demanded}

@@ -22,6 +22,7 @@ fn are_together(entry: &Entry, after: &Entry) -> bool
 }
 
 /// The block of the directory of the entry at place `i`.
+#[tactic(auto, using(crate::proofs::Order::parent_below))]
 pub fn parent_block(tree: &Tree, nodes: &[u32], i: usize, entry: &Entry) -> u32
     requires here { drop i tree.now.entries ≡ entry.now ∷ drop (i + 1) tree.now.entries }
     requires place { i < length tree.now.entries }

@@ -49,6 +49,7 @@ fn write_dir(image: &mut [u8], blocks: u32, spot: Spot, slots: [u32; 72], entry:
 }
 
 // Writes the header of a file of so many bytes in so many data blocks.
+#[tactic(auto, using(crate::proofs::FreeBlocks::free_fits))]
 fn write_file_head(
     image: &mut [u8],
     blocks: u32,

@@ -14,6 +14,7 @@ ghost use Rattle.adf_build.specs.Writes.{numbers_of};
 ghost use Rattle.adf_build.specs.Laid.{IsLaid, IsSound, writes, volume};
 
 /// The planned layout owns as many blocks as the tree needs, none twice, and all in range where there is room.
+#[tactic(auto, using(crate::proofs::Planned::planned_count, crate::proofs::Planned::planned_once, crate::proofs::Planned::planned_range))]
 pub fn planned_blocks()
     ensures count { (image : List ℕ) (t : Tree) → length (owned image (planned t (blocks image))) ≡ blocks_needed t (blocks image) }
     ensures once { (image : List ℕ) (t : Tree) → NoBlockTwice (owned image (planned t (blocks image))) }
@@ -27,12 +28,14 @@ pub fn laid_fits()
 {}
 
 /// A tree whose fields are within their limits is laid in every allowed size that has room for it.
+#[tactic(auto, using(crate::proofs::WholeVolume::volume_laid, crate::proofs::LaidWrites::volume_blocks))]
 pub fn volumes_are_laid()
     ensures laid { (t : Tree) (n : ℕ) → IsSound t → is_allowed n ≡ true → blocks_needed t n ≤ n - 2 → IsLaid (volume t n) t }
     ensures size { (t : Tree) (n : ℕ) → IsSound t → is_allowed n ≡ true → blocks_needed t n ≤ n - 2 → blocks (volume t n) ≡ n }
 {}
 
 /// A file has as few extension blocks as name its data blocks, of which its header and each of them name up to 72.
+#[tactic(auto, unfolding(crate::specs::Plan::exts_needed))]
 pub fn extensions_are_few()
     ensures { (count exts : ℕ) → (count ≤ POINTERS * (1 + exts)) ↔ (exts_needed count ≤ exts) }
 {}
@@ -43,12 +46,14 @@ pub fn one_laid()
 {}
 
 /// A laid image has room for as many blocks as its tree needs, beside the two boot blocks.
+#[tactic(auto, using(crate::proofs::Planned::planned_count))]
 pub fn laid_room()
     ensures needed { (image : List ℕ) (t : Tree) → IsLaid image t → blocks_needed t (blocks image) ≤ blocks image - 2 }
     ensures owned { (image : List ℕ) (t : Tree) → IsLaid image t → length (owned image (planned t (blocks image))) ≤ blocks image - 2 }
 {}
 
 /// Each part of a laid image stands in its block, and all else is zeros.
+#[tactic(auto, using(crate::proofs::LaidOrder::rest_zero))]
 pub fn laid_bytes()
     ensures part { (image : List ℕ) (t : Tree) → IsSound t → IsLaid image t → (b : ℕ) (bytes : List ℕ) → In (writes t (blocks image)) (b, bytes) → block image b ≡ bytes }
     ensures rest { (image : List ℕ) (t : Tree) → IsSound t → IsLaid image t → (b : ℕ) → b < blocks image → (In (numbers_of (writes t (blocks image))) b → ⊥)
@@ -56,6 +61,7 @@ pub fn laid_bytes()
 {}
 
 /// The blocks that are free for entries rise, and every block from 2 up to a free one is owned.
+#[tactic(auto, using(crate::proofs::AllocatedBlocks::free_rises))]
 pub fn laid_in_order()
     ensures rise { (n i j : ℕ) → i < j → nth_free n i < nth_free n j }
     ensures no_gap { (image : List ℕ) (t : Tree) (k b : ℕ) → 4 ≤ blocks image → k < entries_blocks t.kind t.entries → 2 ≤ b → b ≤ nth_free (blocks image) k

@@ -1,23 +1,10 @@
-use Rattle.std.proofs.Common.{◌≡◌, ◌+◌, ◌*◌, ◌∙◌, ℕ, List, drop, length, arith, rules}
+use Rattle.std.proofs.Common.{◌≡◌, ◌*◌, ◌∙◌, ℕ, List, drop, length, rules}
 use Rattle.std.proofs.lemmas.List.{take_at}
 use Rattle.std.specs.Prelude.{replicate}
 use Rattle.adf_build.specs.Laid.{writes}
 use Rattle.adf_build.specs.Writes.{with_blocks}
-use Rattle.adf_build.specs.Plan.{entries_blocks, reserved}
-use Rattle.adf_build.proofs.WholeVolume.{is_laid, laid_as_planned, laid_bytes, total_is}
+use Rattle.adf_build.proofs.WholeVolume.{is_laid, laid_as_planned, laid_bytes}
 use Rattle.adf_build.proofs.builder.build.Goals as goal
-
-pub overflow_sub-total-2 : goal.overflow_sub-total-2
-overflow_sub-total-2 c =
-    let total : c.in-Some.need ≡ 1 + reserved c.args.blocks + entries_blocks c.args.tree.now.kind c.args.tree.now.entries =
-    total_is c.args.tree.now c.args.blocks c.in-Some.need c.in-Some.ensures.0 c.in-Some.ensures.1 (omega arith) in
-    omega (arith, c.reserved_count.ensures.exact)
-
-pub write_volume-requires-clause-total : goal.write_volume-requires-clause-total
-write_volume-requires-clause-total c =
-    let total : c.in-Some.need ≡ 1 + reserved c.args.blocks + entries_blocks c.args.tree.now.kind c.args.tree.now.entries =
-    total_is c.args.tree.now c.args.blocks c.in-Some.need c.in-Some.ensures.0 c.in-Some.ensures.1 (omega arith) in
-    omega (arith, c.reserved_count.ensures.exact)
 
 pub returns-clause-bytes : goal.returns-clause-bytes
 returns-clause-bytes c =

@@ -1,10 +1,7 @@
 use Rattle.std.proofs.Common.{◌<◌, ◌+◌, ◌/◌, refl, sym, ◌∙◌, arith}
-use Rattle.adf_build.proofs.WholeWords.{all_free, none_free, past_the_end}
+use Rattle.adf_build.proofs.WholeWords.{all_free, none_free}
 use Rattle.adf_build.proofs.pages.whole_word.Goals as goal
 use Rattle.adf_build.proofs.pages.whole_word.Goals.{else-first-blocks-via-then-first-blocks+else-blocks-last, else-first-blocks-via-else-first-blocks}
-
-pub returns-then-blocks-first : goal.returns-then-blocks-first
-returns-then-blocks-first c = past_the_end c.args.blocks c.args.total c.args.q (omega arith)
 
 pub returns-then-is_used_block : goal.returns-then-is_used_block
 returns-then-is_used_block c =
