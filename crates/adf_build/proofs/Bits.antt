@@ -155,6 +155,6 @@ pub pages_step : (image old all bytes : List ℕ) (n total j b m : ℕ) → b �
     → with_blocks image (page_writes n total (j + 1) (m - (j + 1))) ≡ all
 pages_step image old all bytes n total j b m at lt e inv w =
     let split : m - j ≡ suc (m - (j + 1)) = omega arith in
-    ap (λ i. with_blocks image (page_writes n total i (m - (j + 1)))) (add-one j)
-    ∙ ap (λ im. with_blocks im (page_writes n total (suc j) (m - (j + 1)))) (w ∙ ap (λ b. with_block old b bytes) at ∙ ap (with_block old (middle n + 1 + j)) e)
-    ∙ sym (ap (λ k. with_blocks old (page_writes n total j k)) split) ∙ inv
+    let here = rw split at inv in
+    let up = add-one j in
+    cc

@@ -1,6 +1,6 @@
 -- Steps of a count of blocks over the entries of a tree.
-use Rattle.std.proofs.Common.{◌≡◌, ◌≤◌, ◌<◌, ℕ, zero, suc, ◌+◌, ◌-◌, ◌^◌, List, [], ◌∷◌, length, drop, min, refl, sym, ap, ◌∙◌, arith, Option, Bor, IsSome}
-use Rattle.std.proofs.Common.{option_copied, Some, None, add-one, false}
+use Rattle.std.proofs.Common.{◌≡◌, ◌≤◌, ◌<◌, ℕ, zero, suc, ◌+◌, ◌-◌, ◌^◌, List, [], ◌∷◌, length, drop, min, refl, sym, ap, ◌∙◌, arith}
+use Rattle.std.proofs.Common.{Some, None, add-one, false}
 use Rattle.std.specs.Prelude.{if◌then◌else◌, ◌==◌}
 use Rattle.std.specs.List.{slice_get}
 use Rattle.std.proofs.lemmas.Bool.Decides.{nat_tests}
@@ -35,11 +35,6 @@ none_left kind (e ∷ es) (suc i) h = none_left kind es i (omega arith)
 -- there is an entry to count
 pub count_goes_on : (es : List Entry) (i : ℕ) → None ≡ entry es (i + 1) → i < length es → ⊥
 count_goes_on es i h lt = none_past es i (sym (h ∙ entry-next es i)) lt
-
--- an entry is there
-pub some_entry : (es : List Entry) (i : ℕ) (r : Option (Bor Entry)) → option_copied r ≡ entry es (i + 1) → i < length es → IsSome r
-some_entry es i None h lt = absurd (count_goes_on es i h lt)
-some_entry es i (Some e) h lt = refl
 
 -- what is left from an entry on
 pub entry_left : (es : List Entry) (i : ℕ) (e : Entry) → Some e ≡ entry es (i + 1) → drop i es ≡ e ∷ drop (i + 1) es

@@ -160,8 +160,7 @@ module _ (t : Tree) (n : ℕ) (sound : IsSound t) (allowed : is_allowed n ≡ tr
     named_laid zero j b a z at ta =
         let x : ℕ = exts_needed (count t.kind (length bytes)) in
         let c : ℕ = count t.kind (length bytes) in
-        let l0 : j < length (allocated n (suc here.k + x) c) = at_below (allocated n (suc here.k + x) c) j b at in
-        let l1 : length (allocated n (suc here.k + x) c) ≡ c = length_allocated n (suc here.k + x) c in
+        let place = allocated_at n (suc here.k + x) c j b at in
         let m : j % POINTERS ≡ j = omega arith in
         let lt : j < POINTERS = omega arith in
         let fb = file_blocks in
@@ -176,21 +175,19 @@ module _ (t : Tree) (n : ℕ) (sound : IsSound t) (allowed : is_allowed n ≡ tr
         ∙ (head_block-pointer fields (length bytes) (allocated n (suc here.k + x) (min POINTERS c)) (nth_free_or_none n (suc here.k) x) j
         (head_fits t n sound allowed room i e h) body_is lt
         ∙ (long_number (slice_index (allocated n (suc here.k + x) (min POINTERS c)) j) (omega arith)
-        ∙ (idx ∙ sym (allocated_at n (suc here.k + x) c j b at))))))
+        ∙ (idx ∙ sym place.1)))))
     named_laid (suc q) j b a z at ta =
         let x : ℕ = exts_needed (count t.kind (length bytes)) in
         let c : ℕ = count t.kind (length bytes) in
-        let l0 : j < length (allocated n (suc here.k + x) c) = at_below (allocated n (suc here.k + x) c) j b at in
-        let l1 : length (allocated n (suc here.k + x) c) ≡ c = length_allocated n (suc here.k + x) c in
+        let place = allocated_at n (suc here.k + x) c j b at in
         let ax : At (allocated n (suc here.k) x) q a = subst (λ xs. At xs q a) exts_are ta in
-        let lx0 : q < length (allocated n (suc here.k) x) = at_below (allocated n (suc here.k) x) q a ax in
-        let lx1 : length (allocated n (suc here.k) x) ≡ x = length_allocated n (suc here.k) x in
+        let table = allocated_at n (suc here.k) x q a ax in
         let more : POINTERS < c = exts_some c q (omega arith) in
         let fb = file_blocks in
         let y : suc here.k + x + POINTERS + POINTERS * q + j % POINTERS ≡ suc here.k + x + j = omega arith in
         exts_point (volume t n) n (entries_blocks t.kind t.entries) small few (below t n sound allowed room) (nth_free n here.k) lies (suc here.k)
         (suc here.k + x + POINTERS) (c - POINTERS) x (omega arith) (omega arith) exts_hold q a (j % POINTERS) ax (omega arith) (omega arith)
-        ∙ (ap (nth_free n) y ∙ sym (allocated_at n (suc here.k + x) c j b at))
+        ∙ (ap (nth_free n) y ∙ sym place.1)
 
     formed_laid : (kind : Kind) → t.kind ≡ kind → (j b : ℕ)
         → At (allocated n (suc here.k + exts_needed (count t.kind (length bytes))) (count t.kind (length bytes))) j b
@@ -200,8 +197,7 @@ module _ (t : Tree) (n : ℕ) (sound : IsSound t) (allowed : is_allowed n ≡ tr
     formed_laid Ofs z j b at =
         let x : ℕ = exts_needed (count t.kind (length bytes)) in
         let c : ℕ = count t.kind (length bytes) in
-        let l0 : j < length (allocated n (suc here.k + x) c) = at_below (allocated n (suc here.k + x) c) j b at in
-        let l1 : length (allocated n (suc here.k + x) c) ≡ c = length_allocated n (suc here.k + x) c in
+        let place = allocated_at n (suc here.k + x) c j b at in
         let co : c ≡ count Ofs (length bytes) = ap (λ k. count k (length bytes)) z in
         let fb = file_blocks in
         let f = few in

@@ -4,7 +4,7 @@ use Rattle.std.proofs.Common.{◌∙◌, arith, Bool, true, false, cond, take_al
 use Rattle.std.specs.Prelude.{nat_lt, slice_index, None, replicate}
 use Rattle.std.proofs.lemmas.Bool.{cases_lt}
 use Rattle.std.proofs.lemmas.Bool.Decides.{nat_tests}
-use Rattle.std.proofs.lemmas.List.{take-append-le, take-append-drop}
+use Rattle.std.proofs.lemmas.List.{drop-drop, take-append-le, take-append-drop, take-take}
 use Rattle.std.proofs.Math.Seq.{take-append-add}
 use Rattle.adf_fields.specs.Words.{block, word}
 use Rattle.adf_fields.proofs.WordLaws.{range-with_bytes_same}
@@ -21,6 +21,8 @@ use Rattle.adf_blocks.specs.Sizes.{chunk}
 use Rattle.adf_volume.specs.Image.{word_in, held, area, joined}
 use Rattle.adf_volume.specs.Demands.{AllHold, ext_demands, data_demands}
 use Rattle.adf_volume.proofs.FormDemands.{all_demanded}
+use Rattle.adf_volume.proofs.Lists.{at_below, at_index}
+use Rattle.adf_build.proofs.AllocatedBlocks.{length_allocated}
 use Rattle.adf_build.specs.Plan.{nth_free, allocated}
 use Rattle.adf_build.specs.Writes.{Holds}
 use Rattle.adf_build.specs.Laid.{nth_free_or_none, data_bytes, data_writes, planned_ext, ext_writes}
@@ -30,20 +32,16 @@ some_free : (n k m : ℕ) → nth_free_or_none n k (suc m) ≡ nth_free n k
 some_free n k m = let t : nat_lt 0 (suc m) ≡ true = grind (arith, nat_tests) in ap (λ t. cond t (nth_free n k) 0) t
 
 -- block j of a run
-pub allocated_at : (n k m j b : ℕ) → At (allocated n k m) j b → b ≡ nth_free n (k + j)
-allocated_at n k zero j b h = absurd h
-allocated_at n k (suc m) zero b h = let z : k ≡ k + 0 = omega arith in sym h ∙ ap (nth_free n) z
-allocated_at n k (suc m) (suc j) b h = let z : suc k + j ≡ k + suc j = omega arith in allocated_at n (suc k) m j b h ∙ ap (nth_free n) z
-
 pub allocated_index : (n k m j : ℕ) → j < m → slice_index (allocated n k m) j ≡ nth_free n (k + j)
 allocated_index n k zero j h = absurd (omega arith)
 allocated_index n k (suc m) zero h = let z : k ≡ k + 0 = omega arith in ap (nth_free n) z
 allocated_index n k (suc m) (suc j) h = let z : suc k + j ≡ k + suc j = omega arith in allocated_index n (suc k) m j (omega arith) ∙ ap (nth_free n) z
 
-pub allocated_past : (n k m j : ℕ) → m ≤ j → slice_index (allocated n k m) j ≡ 0
-allocated_past n k zero j h = refl
-allocated_past n k (suc m) zero h = absurd (omega arith)
-allocated_past n k (suc m) (suc j) h = allocated_past n (suc k) m j (omega arith)
+pub allocated_at : (n k m j b : ℕ) → At (allocated n k m) j b → (j < m) × (b ≡ nth_free n (k + j))
+allocated_at n k m j b h =
+    let l : j < length (allocated n k m) = at_below (allocated n k m) j b h in
+    let below : j < m = rw (length_allocated n k m) at l in
+    (below, sym (at_index (allocated n k m) j b h) ∙ allocated_index n k m j below)
 
 module _ (v : List ℕ) (n total : ℕ) (small : n < 2 ^ 32) (few : total < 2 ^ 32) (below : (k : ℕ) → k < total → nth_free n k < n) (head : ℕ) (lies : head < n)
   where
@@ -86,14 +84,6 @@ module _ (v : List ℕ) (n total : ℕ) (small : n < 2 ^ 32) (few : total < 2 ^ 
         let z : d + POINTERS + POINTERS * j + q ≡ d + POINTERS * suc j + q = omega arith in
         exts_point (suc k) (d + POINTERS) (c - POINTERS) m (omega arith) (omega arith) h.1 j b q a lt (omega arith) ∙ ap (nth_free n) z
 
-    take_take : (a b : ℕ) (xs : List ℕ) → a ≤ b → take a (take b xs) ≡ take a xs
-    take_take zero zero xs h = refl
-    take_take zero (suc b) [] h = refl
-    take_take zero (suc b) (x ∷ xs) h = refl
-    take_take (suc a) zero xs h = absurd (omega arith)
-    take_take (suc a) (suc b) [] h = refl
-    take_take (suc a) (suc b) (x ∷ xs) h = ap (λ ys. x ∷ ys) (take_take a b xs (omega arith))
-
     area_long : (kind : Kind) (bs : List ℕ) → length bs ≡ 512 → length (area kind bs) ≡ chunk kind
     unfolding area chunk
     area_long Ofs bs h = simp (length-take, length-drop) (omega arith)
@@ -110,7 +100,7 @@ module _ (v : List ℕ) (n total : ℕ) (small : n < 2 ^ 32) (few : total < 2 ^ 
         let c = chunk_ofs in
         let z : 24 + length xs - 24 ≡ length xs = omega arith in
         let bs : List ℕ = data_bytes Ofs head number (nth_free_or_none n (suc k) m) xs in
-        take_take (length xs) DATA_ROOM (drop DATA_BYTES bs) (omega arith)
+        take-take (length xs) DATA_ROOM (drop DATA_BYTES bs) (omega arith)
         ∙ (ap (λ m. take m (drop DATA_BYTES bs)) (sym z)
         ∙ data_block-bytes (record { head = head; number = number; next = nth_free_or_none n (suc k) m; bytes = xs })
         (fits_data n total small few below head k number m bytes lies l s))
@@ -120,7 +110,7 @@ module _ (v : List ℕ) (n total : ℕ) (small : n < 2 ^ 32) (few : total < 2 ^ 
         let c = chunk_small Ffs in
         let z : length xs - 0 ≡ length xs = omega arith in
         let bs : List ℕ = data_bytes Ffs head number (nth_free_or_none n (suc k) m) xs in
-        take_take (length xs) 512 (drop 0 bs) (omega arith)
+        take-take (length xs) 512 (drop 0 bs) (omega arith)
         ∙ (ap (λ m. take m (drop 0 bs)) (sym z) ∙ range-with_bytes_same (replicate 512 0) 0 xs (length xs) (omega arith) (omega arith))
 
     no_bytes : (bytes : List ℕ) → length bytes ≤ 0 → take (length bytes) [] ≡ bytes
@@ -159,17 +149,6 @@ module _ (v : List ℕ) (n total : ℕ) (small : n < 2 ^ 32) (few : total < 2 ^ 
               ∙ (ap (λ l. take l first) (sym n-held) ∙ (part ∙ all))
         ]
 
-    drop_drop : (a b : ℕ) (xs : List ℕ) → drop a (drop b xs) ≡ drop (b + a) xs
-    drop_drop a zero xs = let z : a ≡ 0 + a = omega arith in ap (λ m. drop m xs) z
-    drop_drop a (suc b) [] = empty a (suc b + a)
-      where
-        empty : (a b : ℕ) → drop a [] ≡ drop {A = ℕ} b []
-        empty zero zero = refl
-        empty zero (suc b) = refl
-        empty (suc a) zero = refl
-        empty (suc a) (suc b) = refl
-    drop_drop a (suc b) (x ∷ xs) = let z : suc (b + a) ≡ suc b + a = omega arith in drop_drop a b xs ∙ ap (λ m. drop m (x ∷ xs)) z
-
     next_is : (k m : ℕ) → nth_free_or_none n k m ≡ slice_index (allocated n k m) 0
     next_is k zero = refl
     next_is k (suc m) = some_free n k m
@@ -198,7 +177,7 @@ module _ (v : List ℕ) (n total : ℕ) (small : n < 2 ^ 32) (few : total < 2 ^ 
         let z : suc number + j ≡ number + suc j = omega arith in
         let y : chunk Ofs + chunk Ofs * j ≡ chunk Ofs * suc j = omega arith in
         let d : drop (chunk Ofs * j) (drop (chunk Ofs) bytes) ≡ drop (chunk Ofs * suc j) bytes =
-        drop_drop (chunk Ofs * j) (chunk Ofs) bytes ∙ ap (λ q. drop q bytes) y in
+        drop-drop (chunk Ofs * j) (chunk Ofs) bytes ∙ ap (λ q. drop q bytes) y in
         subst (λ u. AllHold (data_demands v Ofs b head (number + suc j) (length (take (chunk Ofs) u)) (slice_index (allocated n (suc k) m) (suc j)))) d
         (subst (λ u. AllHold (data_demands v Ofs b head u (length (take (chunk Ofs) (drop (chunk Ofs * j) (drop (chunk Ofs) bytes))))
         (slice_index (allocated n (suc k) m) (suc j)))) z

@@ -2,12 +2,12 @@
 use Rattle.std.proofs.Common.{◌≡◌, ℕ, zero, suc, List, [], ◌∷◌, ◌++◌, ◌+◌, ◌-◌, ◌*◌, ◌/◌, ◌%◌, ◌^◌, ◌<◌, ◌≤◌, length, map, refl, sym, ap, subst, ◌∙◌, arith}
 use Rattle.std.specs.List.{range_with_len}
 use Rattle.std.proofs.Common.{Bool, true, false, cond}
-use Rattle.std.specs.Prelude.{min, slice_index, None, ◌↔◌, ◌==◌, ◌&&◌, not, nat_lt, IsBitSet}
+use Rattle.std.specs.Prelude.{min, slice_index, None, ◌↔◌, ◌==◌, IsBitSet}
 use Rattle.std.proofs.lemmas.Bool.Decides.{nat_tests}
 use lib.Bits.{bit_and}
 use Rattle.std.proofs.lemmas.Nat.{bit_set_by_shift, and_mask}
 use Rattle.adf_tree.specs.declared.entry.Body.TheVariants.{File}
-use Rattle.std.proofs.lemmas.List.FromFn.{get_or-map-range_with_len, length-map-range_with_len, length-range_with_len}
+use Rattle.std.proofs.lemmas.List.FromFn.{get_or-map-range_with_len, get_or-range_with_len, length-map-range_with_len, length-range_with_len}
 use Rattle.adf_fields.specs.Words.{block, word, with_bytes}
 use Rattle.adf_tree.specs.declared.entry.Kind.{Kind}
 use Rattle.adf_tree.specs.declared.entry.Kind.TheVariants.{Ofs, Ffs}
@@ -58,10 +58,11 @@ unfolding with_bytes
 boot_kind Ofs = refl
 boot_kind Ffs = refl
 
-range_at : (b m j c : ℕ) → At (range_with_len b m) j c → c ≡ b + j
-range_at b zero j c h = absurd h
-range_at b (suc m) zero c h = let e : b ≡ c = h in omega arith
-range_at b (suc m) (suc j) c h = let e = range_at (b + 1) m j c h in omega arith
+range_at : (b m j c : ℕ) → At (range_with_len b m) j c → (j < m) × (c ≡ b + j)
+range_at b m j c h =
+    let l : j < length (range_with_len b m) = at_below (range_with_len b m) j c h in
+    let below : j < m = rw (length-range_with_len b m) at l in
+    (below, sym (at_index (range_with_len b m) j c h) ∙ get_or-range_with_len b m j 0 below)
 
 at_range : (b m j : ℕ) → j < m → At (range_with_len b m) j (b + j)
 at_range b zero j h = absurd (omega arith)
@@ -75,41 +76,26 @@ places_long n kind k (e ∷ es) = ap suc (places_long n kind (k + entry_blocks k
 page_holds : (v : List ℕ) (n total j m q : ℕ) → Holds v (page_writes n total j m) → q < m
     → block v (middle n + 1 + (j + q)) ≡ page_block (page_words n total (j + q))
 page_holds v n total j zero q h l = absurd (omega arith)
-page_holds v n total j (suc m) zero h l = let z : j ≡ j + 0 = omega arith in subst (λ j. block v (middle n + 1 + j) ≡ page_block (page_words n total j)) z h.0
-page_holds v n total j (suc m) (suc q) h l =
-    let z : suc j + q ≡ j + suc q = omega arith in
-    subst (λ j. block v (middle n + 1 + j) ≡ page_block (page_words n total j)) z (page_holds v n total (suc j) m q h.1 (omega arith))
+page_holds v n total j (suc m) zero h l = let z : j + 0 ≡ j = omega arith in rw z h.0
+page_holds v n total j (suc m) (suc q) h l = let z : j + suc q ≡ suc j + q = omega arith in rw z (page_holds v n total (suc j) m q h.1 (omega arith))
 
 -- what stands in bitmap extension block j + q of m from number j on
 map_ext_holds : (v : List ℕ) (n j m q : ℕ) → Holds v (map_ext_writes n j m) → q < m
     → block v (middle n + 1 + pages_needed n + (j + q)) ≡ map_ext_block (listed_pages n (j + q)) (map_ext_or_none n (suc (j + q)) (m - suc q))
 map_ext_holds v n j zero q h l = absurd (omega arith)
-map_ext_holds v n j (suc m) zero h l =
-    let z : j ≡ j + 0 = omega arith in
-    let y : m ≡ suc m - 1 = omega arith in
-    subst (λ k. block v (middle n + 1 + pages_needed n + (j + 0)) ≡ map_ext_block (listed_pages n (j + 0)) (map_ext_or_none n (suc (j + 0)) k)) y
-    (subst (λ j. block v (middle n + 1 + pages_needed n + j) ≡ map_ext_block (listed_pages n j) (map_ext_or_none n (suc j) m)) z h.0)
+map_ext_holds v n j (suc m) zero h l = let z : j + 0 ≡ j = omega arith in let y : suc m - 1 ≡ m = omega arith in rw (z, y) h.0
 map_ext_holds v n j (suc m) (suc q) h l =
-    let z : suc j + q ≡ j + suc q = omega arith in
-    let y : m - suc q ≡ suc m - suc (suc q) = omega arith in
-    subst (λ k. block v (middle n + 1 + pages_needed n + (j + suc q)) ≡ map_ext_block (listed_pages n (j + suc q)) (map_ext_or_none n (suc (j + suc q)) k)) y
-    (subst (λ j. block v (middle n + 1 + pages_needed n + j) ≡ map_ext_block (listed_pages n j) (map_ext_or_none n (suc j) (m - suc q))) z
-    (map_ext_holds v n (suc j) m q h.1 (omega arith)))
+    let z : j + suc q ≡ suc j + q = omega arith in
+    let y : suc m - suc (suc q) ≡ m - suc q = omega arith in
+    rw (z, y) (map_ext_holds v n (suc j) m q h.1 (omega arith))
 
 -- what names a bitmap extension block that is there
 map_ext_some : (n j m : ℕ) → 0 < m → map_ext_or_none n j m ≡ middle n + 1 + pages_needed n + j
-map_ext_some n j m h = let s : nat_lt 0 m ≡ true = grind (arith, nat_tests) in ap (λ s. cond s (middle n + 1 + pages_needed n + j) 0) s
+map_ext_some n j m h = grind (arith, nat_tests)
 
 -- and it is a word, as the block lies in the volume
 map_ext_small : (n j m : ℕ) → middle n + 1 + pages_needed n + j < 2 ^ 32 → map_ext_or_none n j m < 2 ^ 32
-map_ext_small n j m h = go (nat_lt 0 m)
-  where
-    go : (s : Bool) → cond s (middle n + 1 + pages_needed n + j) 0 < 2 ^ 32
-    go true = h
-    go false = omega arith
-
-range_index : (b m j : ℕ) → j < m → slice_index (range_with_len b m) j ≡ b + j
-range_index b m j h = at_index (range_with_len b m) j (b + j) (at_range b m j h)
+map_ext_small n j m h = grind (arith, nat_tests)
 
 set_bit : (x k : ℕ) → IsBitSet x k ↔ (x / 2 ^ k % 2 ≡ 1)
 set_bit x k =
@@ -151,18 +137,10 @@ bit_tells n total q r h =
     )
 
 free_unused : (n total r b : ℕ) → 2 + r ≡ b → is_free_bit n total r ≡ true → is_used n total b ≡ false
-free_unused n total r b e h = go (nat_lt (2 + r) n) (is_used n total (2 + r)) refl h
-  where
-    go : (s t : Bool) → is_used n total (2 + r) ≡ t → (s && not t) ≡ true → is_used n total b ≡ false
-    go true true z k = cc
-    go true false z k = ap (is_used n total) (sym e) ∙ z
-    go false t z k = cc
+free_unused n total r b e h = grind (arith, nat_tests)
 
 unused_free : (n total r b : ℕ) → 2 + r ≡ b → b < n → is_used n total b ≡ false → is_free_bit n total r ≡ true
-unused_free n total r b e l h =
-    let s : nat_lt (2 + r) n ≡ true = grind (arith, nat_tests) in
-    let u : is_used n total (2 + r) ≡ false = ap (is_used n total) e ∙ h in
-    ap (λ s. s && not (is_used n total (2 + r))) s ∙ ap not u
+unused_free n total r b e l h = grind (arith, nat_tests)
 
 module _ (t : Tree) (n : ℕ) (sound : IsSound t) (allowed : is_allowed n ≡ true) (room : blocks_needed t n ≤ n - 2) where
   size : blocks (volume t n) ≡ n
@@ -196,11 +174,9 @@ module _ (t : Tree) (n : ℕ) (sound : IsSound t) (allowed : is_allowed n ≡ tr
 
   page_word : (k b : ℕ) → k < ROOT_PAGES → At (range_with_len (middle n + 1) (pages_needed n)) k b → word_in (volume t n) (middle n) (FIRST_PAGE + k) ≡ b
   page_word k b l h =
-      let a : b ≡ middle n + 1 + k = range_at (middle n + 1) (pages_needed n) k b h in
-      let l0 : k < length (range_with_len (middle n + 1) (pages_needed n)) = at_below (range_with_len (middle n + 1) (pages_needed n)) k b h in
-      let l1 = length-range_with_len (middle n + 1) (pages_needed n) in
+      let at = range_at (middle n + 1) (pages_needed n) k b h in
       let e : slice_index (range_with_len (middle n + 1) (min ROOT_PAGES (pages_needed n))) k ≡ b =
-      range_index (middle n + 1) (min ROOT_PAGES (pages_needed n)) k (omega arith) ∙ sym a in
+      get_or-range_with_len (middle n + 1) (min ROOT_PAGES (pages_needed n)) k 0 (omega arith) ∙ sym at.1 in
       let high = size_high n allowed in
       ap (λ bs. word bs (FIRST_PAGE + k)) (holds_root t n sound allowed room)
       ∙ (root_block-page (planned_root t n) k (fits_root t n sound allowed room) l (omega arith) ∙ e)
@@ -213,12 +189,10 @@ module _ (t : Tree) (n : ℕ) (sound : IsSound t) (allowed : is_allowed n ≡ tr
 
   page_formed : (k b : ℕ) → At (range_with_len (middle n + 1) (pages_needed n)) k b → AllHold (page_demands (volume t n) b)
   page_formed k b h =
-      let e : b ≡ middle n + 1 + k = range_at (middle n + 1) (pages_needed n) k b h in
-      let l0 : k < length (range_with_len (middle n + 1) (pages_needed n)) = at_below (range_with_len (middle n + 1) (pages_needed n)) k b h in
-      let l1 = length-range_with_len (middle n + 1) (pages_needed n) in
-      subst (λ b. AllHold (page_demands (volume t n) b)) (sym e)
+      let at = range_at (middle n + 1) (pages_needed n) k b h in
+      subst (λ b. AllHold (page_demands (volume t n) b)) (sym at.1)
       (all_demanded (middle n + 1 + k) (page_form (block (volume t n) (middle n + 1 + k)))
-      (subst (λ bs. first_cause (page_form bs) ≡ None) (sym (page_at k (omega arith)))
+      (subst (λ bs. first_cause (page_form bs) ≡ None) (sym (page_at k at.0))
       (page_block-form (page_words n (entries_blocks t.kind t.entries) k)
       (length-map-range_with_len (λ w. bits_from (is_free_bit n (entries_blocks t.kind t.entries)) (PAGE_BITS * k + 32 * w) 32) 0 127))))
 
@@ -243,9 +217,9 @@ module _ (t : Tree) (n : ℕ) (sound : IsSound t) (allowed : is_allowed n ≡ tr
   free_laid b lo hi f o i =
       let q : ℕ = (b - 2) / PAGE_BITS in
       let r : ℕ = (b - 2) % PAGE_BITS in
-      let e : f.0 ≡ middle n + 1 + q = range_at (middle n + 1) (pages_needed n) q f.0 f.1 in
+      let at = range_at (middle n + 1) (pages_needed n) q f.0 f.1 in
       let lt : q < pages_needed n = page_in n b lo hi in
-      let g : IsFreeBit (block (volume t n) (middle n + 1 + q)) r = subst (λ p. IsFreeBit (block (volume t n) p) r) e f.2 in
+      let g : IsFreeBit (block (volume t n) (middle n + 1 + q)) r = subst (λ p. IsFreeBit (block (volume t n) p) r) at.1 f.2 in
       let x : is_free_bit n (entries_blocks t.kind t.entries) (PAGE_BITS * q + r) ≡ true =
       (bit_tells n (entries_blocks t.kind t.entries) q r (omega arith)).0 (subst (λ bs. IsFreeBit bs r) (page_at q lt) g) in
       let y : is_used n (entries_blocks t.kind t.entries) b ≡ false = free_unused n (entries_blocks t.kind t.entries) (PAGE_BITS * q + r) b (omega arith) x in
@@ -269,15 +243,7 @@ module _ (t : Tree) (n : ℕ) (sound : IsSound t) (allowed : is_allowed n ≡ tr
       (bit_tells n (entries_blocks t.kind t.entries) q r (omega arith)).1 x in
       (middle n + 1 + q, at_range (middle n + 1) (pages_needed n) q lt, subst (λ bs. IsFreeBit bs r) (sym (page_at q lt)) g)
 
-  -- a bitmap extension block of the plan: its place, and what it holds
-  map_ext_at : (j b : ℕ) → At (range_with_len (middle n + 1 + pages_needed n) (map_exts_needed (pages_needed n))) j b
-      → (j < map_exts_needed (pages_needed n)) × (b ≡ middle n + 1 + pages_needed n + j)
-  map_ext_at j b h =
-      let l0 : j < length (range_with_len (middle n + 1 + pages_needed n) (map_exts_needed (pages_needed n))) =
-      at_below (range_with_len (middle n + 1 + pages_needed n) (map_exts_needed (pages_needed n))) j b h in
-      let l1 = length-range_with_len (middle n + 1 + pages_needed n) (map_exts_needed (pages_needed n)) in
-      (omega arith, range_at (middle n + 1 + pages_needed n) (map_exts_needed (pages_needed n)) j b h)
-
+  -- what stands in a bitmap extension block
   map_ext_is : (j : ℕ) → j < map_exts_needed (pages_needed n)
       → block (volume t n) (middle n + 1 + pages_needed n + j)
       ≡ map_ext_block (listed_pages n j) (map_ext_or_none n (suc j) (map_exts_needed (pages_needed n) - suc j))
@@ -299,7 +265,7 @@ module _ (t : Tree) (n : ℕ) (sound : IsSound t) (allowed : is_allowed n ≡ tr
   map_first_laid : (b : ℕ) → At (range_with_len (middle n + 1 + pages_needed n) (map_exts_needed (pages_needed n))) 0 b
       → word_in (volume t n) (middle n) FIRST_MAP_EXT ≡ b
   map_first_laid b h =
-      let x = map_ext_at 0 b h in
+      let x = range_at (middle n + 1 + pages_needed n) (map_exts_needed (pages_needed n)) 0 b h in
       let e : b ≡ middle n + 1 + pages_needed n + 0 = x.1 in
       let small : map_ext_or_none n 0 (map_exts_needed (pages_needed n)) < 2 ^ 32 =
       map_ext_small n 0 (map_exts_needed (pages_needed n)) (map_ext_near 0 (omega arith)) in
@@ -310,8 +276,8 @@ module _ (t : Tree) (n : ℕ) (sound : IsSound t) (allowed : is_allowed n ≡ tr
       → At (range_with_len (middle n + 1 + pages_needed n) (map_exts_needed (pages_needed n))) (suc j) b
       → word_in (volume t n) a MAP_EXT_NEXT ≡ b
   map_next_laid j a b g h =
-      let x = map_ext_at j a g in
-      let y = map_ext_at (suc j) b h in
+      let x = range_at (middle n + 1 + pages_needed n) (map_exts_needed (pages_needed n)) j a g in
+      let y = range_at (middle n + 1 + pages_needed n) (map_exts_needed (pages_needed n)) (suc j) b h in
       let u : suc j < map_exts_needed (pages_needed n) = y.0 in
       let e : b ≡ middle n + 1 + pages_needed n + suc j = y.1 in
       let m : ℕ = map_exts_needed (pages_needed n) - suc j in
@@ -324,16 +290,14 @@ module _ (t : Tree) (n : ℕ) (sound : IsSound t) (allowed : is_allowed n ≡ tr
       → At (range_with_len (middle n + 1) (pages_needed n)) (ROOT_PAGES + MAP_EXT_PAGES * j + i) b
       → word_in (volume t n) a i ≡ b
   page_listed_laid j i a b l g h =
-      let x = map_ext_at j a g in
+      let x = range_at (middle n + 1 + pages_needed n) (map_exts_needed (pages_needed n)) j a g in
       let u : j < map_exts_needed (pages_needed n) = x.0 in
       let m : ℕ = map_exts_needed (pages_needed n) - suc j in
-      let e : b ≡ middle n + 1 + (ROOT_PAGES + MAP_EXT_PAGES * j + i) = range_at (middle n + 1) (pages_needed n) (ROOT_PAGES + MAP_EXT_PAGES * j + i) b h in
-      let l0 : ROOT_PAGES + MAP_EXT_PAGES * j + i < length (range_with_len (middle n + 1) (pages_needed n)) =
-      at_below (range_with_len (middle n + 1) (pages_needed n)) (ROOT_PAGES + MAP_EXT_PAGES * j + i) b h in
-      let l1 = length-range_with_len (middle n + 1) (pages_needed n) in
+      let y = range_at (middle n + 1) (pages_needed n) (ROOT_PAGES + MAP_EXT_PAGES * j + i) b h in
       let near = map_ext_near 0 (omega arith) in
       let s : slice_index (listed_pages n j) i ≡ b =
-      range_index (middle n + 1 + (ROOT_PAGES + MAP_EXT_PAGES * j)) (min MAP_EXT_PAGES (pages_needed n - (ROOT_PAGES + MAP_EXT_PAGES * j))) i (omega arith)
+      get_or-range_with_len (middle n + 1 + (ROOT_PAGES + MAP_EXT_PAGES * j)) (min MAP_EXT_PAGES (pages_needed n - (ROOT_PAGES + MAP_EXT_PAGES * j))) i 0
+      (omega arith)
       ∙ omega arith in
       ap (λ a. word_in (volume t n) a i) x.1
       ∙ (ap (λ bs. word bs i) (map_ext_is j u) ∙ (map_ext_block-page (listed_pages n j) (map_ext_or_none n (suc j) m) i (listed_few n j) l (omega arith) ∙ s))

@@ -1,8 +1,9 @@
 -- The order of a laid volume: each part in its place, ascending without a gap, and zeros elsewhere.
-use Rattle.std.proofs.Common.{◌≡◌, ℕ, zero, suc, List, ◌∷◌, ◌++◌, ◌⊎◌, inl, inr, ◌+◌, ◌-◌, ◌*◌, ◌<◌, ◌≤◌, take, drop, refl, sym, ap, subst, ◌∙◌, arith}
+use Rattle.std.proofs.Common.{◌≡◌, ℕ, List, ◌∷◌, ◌++◌, ◌⊎◌, inl, inr, ◌+◌, ◌-◌, ◌*◌, ◌<◌, ◌≤◌, refl, sym, ap, subst, ◌∙◌, arith}
 use Rattle.std.specs.List.{range_with_len}
 use Rattle.std.specs.Prelude.{replicate}
 use Rattle.std.proofs.lemmas.Bool.{cases_lt}
+use Rattle.std.proofs.lemmas.List.{drop-replicate, take-replicate}
 use Rattle.adf_fields.specs.Words.{block}
 use Rattle.adf_tree.specs.Tree.{Tree}
 use Rattle.adf_blocks.specs.Sizes.{blocks, middle}
@@ -20,9 +21,6 @@ use Rattle.adf_build.proofs.Planned.{owned_blocks}
 use Rattle.adf_build.proofs.BlockWrites.{with_blocks_same, with_blocks_other}
 use Rattle.adf_build.proofs.WrittenBlocks.{number_in}
 use Rattle.adf_build.proofs.LaidWrites.{writes_are, writes_once, zeros_long}
-
-pub one_laid : (image other : List ℕ) (t : Tree) → IsLaid image t → IsLaid other t → blocks image ≡ blocks other → image ≡ other
-one_laid image other t l m e = l.bytes ∙ (ap (volume t) e ∙ sym m.bytes)
 
 -- the free block that is b
 free_is : (n k b : ℕ) → 4 ≤ n → 2 ≤ b → b ≤ nth_free n k → (b < middle n) ⊎ (middle n + reserved n < b) → (i : ℕ) × (i ≤ k) × (nth_free n i ≡ b)
@@ -78,23 +76,11 @@ write_held image t sound l b bytes h = ap (λ v. block v b) l.bytes ∙ held
         (writes_once t (blocks image) sound l.size l.room) (zeros_long t (blocks image) sound l.size l.room) h
 
 -- a block of zeros
-drop_zeros : (a m : ℕ) → drop a (replicate m 0) ≡ replicate {A = ℕ} (m - a) 0
-drop_zeros zero m = let z : m ≡ m - 0 = omega arith in ap (λ k. replicate k 0) z
-drop_zeros (suc a) zero = let z : 0 ≡ 0 - suc a = omega arith in ap (λ k. replicate k 0) z
-drop_zeros (suc a) (suc m) = let z : m - a ≡ suc m - suc a = omega arith in drop_zeros a m ∙ ap (λ k. replicate k 0) z
-
-take_zeros : (a m : ℕ) → a ≤ m → take a (replicate m 0) ≡ replicate {A = ℕ} a 0
-take_zeros zero zero l = refl
-take_zeros zero (suc m) l = refl
-take_zeros (suc a) zero l = absurd (omega arith)
-take_zeros (suc a) (suc m) l = ap (λ xs. 0 ∷ xs) (take_zeros a m (omega arith))
-
 zeros : (n b : ℕ) → b < n → block (replicate (n * 512) 0) b ≡ replicate 512 0
 unfolding block
 zeros n b lt =
     let z : b * 512 + 512 - b * 512 ≡ 512 = omega arith in
-    ap (λ m. take m (drop (b * 512) (replicate (n * 512) 0))) z
-    ∙ (ap (take 512) (drop_zeros (b * 512) (n * 512)) ∙ take_zeros 512 (n * 512 - b * 512) (omega arith))
+    rw (z, drop-replicate {X = ℕ} (b * 512) (n * 512) 0) (take-replicate {X = ℕ} 512 (n * 512 - b * 512) 0 (omega arith))
 
 -- and a block in which no part stands holds zeros
 pub rest_zero : (image : List ℕ) (t : Tree) → IsSound t → IsLaid image t → (b : ℕ) → b < blocks image → (In (numbers_of (writes t (blocks image))) b → ⊥)

@@ -151,27 +151,13 @@ module _ (t : Tree) (n : ℕ) (sound : IsSound t) (allowed : is_allowed n ≡ tr
   writes_numbers : numbers_of (writes t n) ≡ allocated n 0 (entries_blocks t.kind t.entries)
       ++ (range_with_len (middle n + 1) (reserved n) ++ middle n ∷ 0 ∷ [])
   writes_numbers =
-      let p : ℕ = pages_needed n in
-      let x : ℕ = map_exts_needed (pages_needed n) in
       let z : middle n + 1 + 0 ≡ middle n + 1 = omega arith in
-      let y : middle n + 1 + p + 0 ≡ middle n + 1 + p = omega arith in
-      let last : List ℕ = middle n ∷ 0 ∷ [] in
-      let pages : numbers_of (pages_of t n) ≡ range_with_len (middle n + 1) p = page_numbers n (entries_blocks t.kind t.entries) 0 p
-      ∙ ap (λ b. range_with_len b p) z in
-      let exts : numbers_of (map_exts_of n) ≡ range_with_len (middle n + 1 + p) x = map_ext_numbers n 0 x ∙ ap (λ b. range_with_len b x) y in
-      let back : numbers_of (map_exts_of n ++ ends_of t n) ≡ range_with_len (middle n + 1 + p) x ++ last =
-      numbers_of-append (map_exts_of n) (ends_of t n) ∙ ap (λ l. l ++ last) exts in
-      let both : range_with_len (middle n + 1) p ++ range_with_len (middle n + 1 + p) x ≡ range_with_len (middle n + 1) (reserved n) =
-      range_with_len-append (middle n + 1) p x ∙ ap (range_with_len (middle n + 1)) (reserved_parts n) in
-      numbers_of-append (entries_writes n t.kind (node_blocks t n) t.entries 1 0 t.entries) (pages_of t n ++ (map_exts_of n ++ ends_of t n))
-      ∙ ap (λ l. l ++ numbers_of (pages_of t n ++ (map_exts_of n ++ ends_of t n))) (entries_numbers n t.kind (node_blocks t n) t.entries 1 0 t.entries)
-      ∙ ap (λ l. allocated n 0 (entries_blocks t.kind t.entries) ++ l) (
-      numbers_of-append (pages_of t n) (map_exts_of n ++ ends_of t n)
-      ∙ ap (λ l. l ++ numbers_of (map_exts_of n ++ ends_of t n)) pages
-      ∙ ap (λ l. range_with_len (middle n + 1) p ++ l) back
-      ∙ sym (append_assoc (range_with_len (middle n + 1) p) (range_with_len (middle n + 1 + p) x) last)
-      ∙ ap (λ l. l ++ last) both
-      )
+      let y : middle n + 1 + pages_needed n + 0 ≡ middle n + 1 + pages_needed n = omega arith in
+      let both = range_with_len-append (middle n + 1) (pages_needed n) (map_exts_needed (pages_needed n)) in
+      let parts = reserved_parts n in
+      let joined = append_assoc (range_with_len (middle n + 1) (pages_needed n)) (range_with_len (middle n + 1 + pages_needed n)
+      (map_exts_needed (pages_needed n))) (middle n ∷ 0 ∷ []) in
+      simp (numbers_of-append, entries_numbers, page_numbers, map_ext_numbers) (cc)
 
   pub writes_once : NoneTwice (writes t n)
   writes_once =

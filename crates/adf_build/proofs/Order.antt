@@ -1,14 +1,14 @@
 -- The order of entries, and the chains that it makes.
-use Rattle.std.proofs.Common.{◌≡◌, ◌≤◌, ◌<◌, ◌≢◌, ◌+◌, ◌*◌, ℕ, zero, suc, List, [], ◌∷◌, refl, sym, ap, subst, ◌∙◌, arith, false, cond, length, drop, map}
+use Rattle.std.proofs.Common.{◌≡◌, ◌≤◌, ◌<◌, ◌≢◌, ◌+◌, ◌*◌, ℕ, zero, suc, List, [], ◌∷◌, refl, sym, ap, subst, ◌∙◌, arith, false, cond, length, drop}
 use Rattle.std.proofs.Common.{◌⊎◌, inl, inr, get_or-set_other, get_or-set_same}
 use Rattle.std.specs.Prelude.{◌==◌, ◌&&◌, slice_index, slice_index_or, replicate}
-use Rattle.std.specs.List.{AllWithin, range_with_len}
+use Rattle.std.specs.List.{AllWithin}
 use Rattle.std.specs.List.Sorted.{IsNonDecreasingBy}
 use Rattle.std.proofs.Math.ListN.{set}
 use Rattle.std.proofs.lemmas.Bool.{cases_lt}
 use Rattle.std.proofs.lemmas.Bool.Decides.{nat_tests}
 use Rattle.std.proofs.lemmas.List.{get_or-replicate}
-use Rattle.std.proofs.lemmas.List.FromFn.{get_or-map-range_with_len, length-map-range_with_len}
+use Rattle.std.proofs.lemmas.List.FromFn.{fill_by_all}
 use Rattle.adf_fields.specs.Hash.{slot_of}
 use Rattle.adf_tree.specs.declared.entry.Entry.{Entry}
 use Rattle.adf_tree.specs.Chain.{in_chain}
@@ -148,19 +148,7 @@ slots_step slots at n m p t v e left rest split up h slot here long f s lt =
         ap (slice_index (set slots t v)) z ∙ get_or-set_same slots t v 0 w ∙ here
         ∙ sym (ap (first_block at) (taken n e rest p s h (slot ∙ sym z))) ∙ sym open_left
 
-same_members : (xs ys : List ℕ) → length xs ≡ length ys → ((s : ℕ) → s < length xs → slice_index xs s ≡ slice_index ys s) → xs ≡ ys
-same_members [] [] e h = refl
-same_members [] (y ∷ ys) e h = absurd (omega arith)
-same_members (x ∷ xs) [] e h = absurd (omega arith)
-same_members (x ∷ xs) (y ∷ ys) e h =
-    let a : x ≡ y = h 0 (omega arith) in
-    let b : xs ≡ ys = same_members xs ys (omega arith) (λ s l. h (suc s) (omega arith)) in
-    λ i. a i ∷ b i
-
 -- the slots of a node, each of which is known
 pub slots_are : (slots nodes : List ℕ) (es : List Entry) (p : ℕ) → length slots ≡ 72
     → ((s : ℕ) → s < 72 → slice_index slots s ≡ first_block (slice_index nodes) (nodes_from 1 es p s)) → slots ≡ slots_of nodes es p
-slots_are slots nodes es p len h =
-    let f : ℕ → ℕ = λ s. first_block (slice_index nodes) (nodes_from 1 es p s) in
-    same_members slots (map f (range_with_len 0 72)) (len ∙ sym (length-map-range_with_len f 0 72))
-    (λ s lt. h s (omega arith) ∙ sym (get_or-map-range_with_len f 0 72 s s 0 (omega arith) (omega arith)))
+slots_are slots nodes es p len h = fill_by_all (λ s. first_block (slice_index nodes) (nodes_from 1 es p s)) slots 72 0 len h

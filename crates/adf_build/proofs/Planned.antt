@@ -3,7 +3,7 @@ use Rattle.std.proofs.Common.{◌≡◌, ℕ, suc, List, [], ◌∷◌, ◌++◌
 use Rattle.std.proofs.lemmas.List.FromFn.{length-range_with_len}
 use Rattle.std.specs.List.{range_with_len}
 use Rattle.std.proofs.Common.{length-append}
-use Rattle.adf_volume.specs.Lists.{In, numbered, NoBlockTwice}
+use Rattle.adf_volume.specs.Lists.{In, NoBlockTwice}
 use Rattle.adf_tree.specs.declared.entry.Kind.{Kind}
 use Rattle.adf_tree.specs.declared.entry.Entry.{Entry}
 use Rattle.adf_tree.specs.Tree.{Tree}
@@ -11,7 +11,6 @@ use Rattle.adf_blocks.specs.Sizes.{blocks, middle, pages_needed}
 use Rattle.adf_volume.specs.Image.{map_exts_needed}
 use Rattle.adf_volume.specs.Layout.{owned_from, owned}
 use Rattle.adf_volume.specs.declared.owner.Owner.{Owner}
-use Rattle.adf_volume.specs.declared.owner.Owner.TheVariants.{Page as APage, MapExt as AMapExt, Ext as AnExt, Data as AData}
 use Rattle.adf_volume.proofs.DistinctBlocks.{blocks_of, blocks_of-append, blocks_of-numbered, block_in, Distinct, distinct_blocks, distinct-append}
 use Rattle.adf_volume.proofs.Lists.{in_cases}
 use Rattle.adf_build.specs.Plan.{reserved, nth_free, allocated, exts_needed, data_blocks, entries_blocks, blocks_needed, places_from, planned}
@@ -27,39 +26,23 @@ blocks_of_places n kind i k (e ∷ es) =
     let c : ℕ = data_blocks kind e.body in
     let x : ℕ = exts_needed c in
     let r : ℕ = entries_blocks kind es in
-    let exts : List (Owner × ℕ) = numbered (AnExt i) 1 (allocated n (suc k) x) in
-    let datas : List (Owner × ℕ) = numbered (AData i) 1 (allocated n (suc k + x) c) in
-    let rest : List (Owner × ℕ) = owned_from (suc i) (places_from n kind (k + (1 + x + c)) es) in
-    let at : k + (1 + x + c) ≡ suc k + (x + c) = omega arith in
+    let behind : suc k + x + c ≡ k + (1 + x + c) = omega arith in
+    let at : suc k + x + c ≡ suc k + (x + c) = omega arith in
     let all : (1 + x + c) + r ≡ suc ((x + c) + r) = omega arith in
-    let writes : blocks_of ((exts ++ datas) ++ rest) ≡ allocated n (suc k) ((x + c) + r) =
-    blocks_of-append (exts ++ datas) rest
-    ∙ ap (λ l. l ++ blocks_of rest) (blocks_of-append exts datas
-    ∙ ap (λ l. l ++ blocks_of datas) (blocks_of-numbered (AnExt i) 1 (allocated n (suc k) x))
-    ∙ ap (λ l. allocated n (suc k) x ++ l) (blocks_of-numbered (AData i) 1 (allocated n (suc k + x) c))
-    ∙ sym (allocated-append n (suc k) x c))
-    ∙ ap (λ l. allocated n (suc k) (x + c) ++ l) (blocks_of_places n kind (suc i) (k + (1 + x + c)) es ∙ ap (λ j. allocated n j r) at)
-    ∙ sym (allocated-append n (suc k) (x + c) r) in
-    ap (λ l. nth_free n k ∷ l) writes ∙ ap (allocated n k) (sym all)
+    let later = blocks_of_places n kind (suc i) (k + (1 + x + c)) es in
+    let parts = allocated-append n (suc k) x c in
+    let whole = allocated-append n (suc k) (x + c) r in
+    simp (blocks_of-append, blocks_of-numbered) (cc)
 
 pub owned_blocks : (image : List ℕ) (t : Tree) (n : ℕ) → blocks image ≡ n
     → blocks_of (owned image (planned t n)) ≡ middle n ∷ (range_with_len (middle n + 1) (reserved n) ++ allocated n 0 (entries_blocks t.kind t.entries))
 unfolding reserved
 owned_blocks image t n e =
-    let p : ℕ = pages_needed n in
-    let x : ℕ = map_exts_needed (pages_needed n) in
-    let pages : List (Owner × ℕ) = numbered APage 0 (range_with_len (middle n + 1) p) in
-    let map_exts : List (Owner × ℕ) = numbered AMapExt 0 (range_with_len (middle n + 1 + p) x) in
-    let rest : List (Owner × ℕ) = owned_from 1 (places_from n t.kind 0 t.entries) in
-    let total : ℕ = entries_blocks t.kind t.entries in
-    ap (λ b. b ∷ blocks_of (pages ++ (map_exts ++ rest))) (ap middle e)
-    ∙ ap (λ l. middle n ∷ l) (blocks_of-append pages (map_exts ++ rest)
-    ∙ ap (λ l. l ++ blocks_of (map_exts ++ rest)) (blocks_of-numbered APage 0 (range_with_len (middle n + 1) p))
-    ∙ ap (λ l. range_with_len (middle n + 1) p ++ l) (blocks_of-append map_exts rest
-    ∙ ap (λ l. l ++ blocks_of rest) (blocks_of-numbered AMapExt 0 (range_with_len (middle n + 1 + p) x))
-    ∙ ap (λ l. range_with_len (middle n + 1 + p) x ++ l) (blocks_of_places n t.kind 1 0 t.entries))
-    ∙ sym (append_assoc (range_with_len (middle n + 1) p) (range_with_len (middle n + 1 + p) x) (allocated n 0 total))
-    ∙ ap (λ l. l ++ allocated n 0 total) (range_with_len-append (middle n + 1) p x))
+    let places = blocks_of_places n t.kind 1 0 t.entries in
+    let both = range_with_len-append (middle n + 1) (pages_needed n) (map_exts_needed (pages_needed n)) in
+    let joined = append_assoc (range_with_len (middle n + 1) (pages_needed n)) (range_with_len (middle n + 1 + pages_needed n)
+    (map_exts_needed (pages_needed n))) (allocated n 0 (entries_blocks t.kind t.entries)) in
+    simp (blocks_of-append, blocks_of-numbered) (cc)
 
 -- no block twice
 pub planned_once : (image : List ℕ) (t : Tree) (n : ℕ) → blocks image ≡ n → NoBlockTwice (owned image (planned t n))
@@ -102,15 +85,8 @@ planned_range image t n o b size h fits i =
 -- as many blocks as are needed
 pub planned_count : (image : List ℕ) (t : Tree) (n : ℕ) → blocks image ≡ n → length (owned image (planned t n)) ≡ blocks_needed t n
 planned_count image t n size =
-    length_blocks (owned image (planned t n))
-    ∙ (ap length (owned_blocks image t n size)
-    ∙ (let a : length (range_with_len (middle n + 1) (reserved n)) ≡ reserved n = length-range_with_len (middle n + 1) (reserved n) in
-    let b : length (allocated n 0 (entries_blocks t.kind t.entries)) ≡ entries_blocks t.kind t.entries =
-    length_allocated n 0 (entries_blocks t.kind t.entries) in
-    let c : length (range_with_len (middle n + 1) (reserved n) ++ allocated n 0 (entries_blocks t.kind t.entries))
-    ≡ length (range_with_len (middle n + 1) (reserved n)) + length (allocated n 0 (entries_blocks t.kind t.entries)) =
-    length-append (range_with_len (middle n + 1) (reserved n)) (allocated n 0 (entries_blocks t.kind t.entries)) in
-    omega arith))
+    length_blocks (owned image (planned t n)) ∙ ap length (owned_blocks image t n size)
+    ∙ simp (length-append, length-range_with_len, length_allocated) (omega arith)
   where
     length_blocks : (xs : List (Owner × ℕ)) → length xs ≡ length (blocks_of xs)
     length_blocks [] = refl

@@ -1,22 +1,15 @@
 -- What is laid for a tree as a whole.
-use Rattle.std.proofs.Common.{◌≡◌, ◌≤◌, ◌+◌, ◌-◌, ◌*◌, ℕ, List, refl, sym, ap, subst, arith, true}
+use Rattle.std.proofs.Common.{◌≡◌, ◌≤◌, ◌-◌, ◌*◌, ℕ, List, refl, sym, ap, subst, true}
 use Rattle.std.specs.Prelude.{replicate}
 use Rattle.adf_tree.specs.Tree.{Tree}
 use Rattle.adf_blocks.specs.Sizes.{blocks, is_allowed}
 use Rattle.adf_volume.specs.Fits.{Fits}
-use Rattle.adf_volume.proofs.Sizes.{size_high}
 use Rattle.adf_build.specs.Laid.{IsLaid, IsSound, writes, volume}
 use Rattle.adf_build.specs.Writes.{with_blocks}
-use Rattle.adf_build.specs.Plan.{blocks_needed, entries_blocks, planned, reserved}
-use Rattle.adf_build.specs.Building.{HasRoom, need_of}
+use Rattle.adf_build.specs.Plan.{blocks_needed, planned}
+use Rattle.adf_build.specs.Building.{HasRoom}
 use Rattle.adf_build.proofs.LaidFits.{laid_fits}
 use Rattle.adf_build.proofs.LaidWrites.{volume_blocks}
-
--- the blocks that are left for entries, where there is room
-pub total_is : (t : Tree) (n need : ℕ) → is_allowed n ≡ true → need ≡ need_of t n → need ≤ n - 2 → need ≡ 1 + reserved n + entries_blocks t.kind t.entries
-total_is t n need a e h =
-    let high = size_high n a in
-    omega arith
 
 pub laid_bytes : (t : Tree) (n : ℕ) → with_blocks (replicate (n * 512) 0) (writes t n) ≡ volume t n
 unfolding volume

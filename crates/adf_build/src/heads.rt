@@ -84,6 +84,7 @@ fn write_file_head(
 }
 
 // Writes the blocks of a file.
+#[tactic(auto, using(crate::proofs::FreeBlocks::size_small, adf_volume::proofs::Sizes::size_high))]
 fn write_file(image: &mut [u8], blocks: u32, kind: Kind, spot: Spot, entry: &Entry, bytes: &[u8])
     requires body { entry.now.body ≡ TheFile bytes.now }
     requires size { is_allowed blocks ≡ true }

@@ -24,7 +24,7 @@ fn is_used_block(blocks: u32, total: u32, b: u32) -> bool
 
 // The word of the bits of 32 blocks, of which the first is `2 + q`, where all of them are in use or all are free: on each
 // side of the root the blocks in use come first.
-
+#[tactic(auto, using(crate::proofs::WholeWords::all_free))]
 fn whole_word(blocks: u32, total: u32, q: u32) -> Option<u32>
     requires size { is_allowed blocks ≡ true }
     requires far { q < 2 ^ 30 }

@@ -67,6 +67,7 @@ fn write_the_root(image: &mut [u8], blocks: u32, tree: &Tree, slots: [u32; 72])
 
 /// Writes every part of a volume whose nodes lie at these blocks and whose entries take `total` blocks. The fields of
 /// the tree are such as blocks have room for.
+#[tactic(auto, using(crate::proofs::Order::tree_rises, crate::proofs::WriteSteps::nodes_length))]
 pub fn write_volume(image: &mut [u8], blocks: u32, tree: &Tree, nodes: &[u32], total: u32)
     requires room { HasRoom tree.now blocks }
     requires whole { length image.old ≡ blocks * 512 }
