@@ -12,15 +12,15 @@ use Rattle.adf_volume.proofs.Sizes.{size_high, size_low}
 use Rattle.adf_build.specs.Bits.{is_used}
 use Rattle.adf_build.specs.Plan.{nth_free, reserved, allocated}
 use Rattle.adf_build.proofs.AllocatedBlocks.{free_below, allocated-append}
-use Rattle.adf_build.proofs.LaidWrites.{reserved_parts}
 
 -- the pages and the bitmap extension blocks stand behind the root
-pub reserved_is : (n : ℕ) → reserved n ≡ pages_needed n + map_exts_needed (pages_needed n)
-reserved_is n = sym (reserved_parts n)
+pub reserved_is : (n p m : ℕ) → p ≡ pages_needed n → m ≡ map_exts_needed (pages_needed n) → p + m ≡ reserved n
+unfolding reserved
+reserved_is n p m e f = omega arith
 
-pub reserved_few : (n : ℕ) → is_allowed n ≡ true → reserved n < 2 ^ 16
-unfolding reserved map_exts_needed
-reserved_few n a = let high = size_high n a in omega arith
+pub reserved_few : (n p m : ℕ) → is_allowed n ≡ true → p ≡ pages_needed n → m ≡ map_exts_needed (pages_needed n) → p + m < 2 ^ 16
+unfolding map_exts_needed
+reserved_few n p m a e f = let high = size_high n a in omega arith
 
 -- a block that is used, below the root
 pub used_low : (n total b : ℕ) → b < n / 2 → is_used n total b ≡ nat_lt (b - 2) total

@@ -1,6 +1,6 @@
 -- The entries of a tree fit the volume that was laid.
 use Rattle.std.proofs.Common.{◌≡◌, ℕ, zero, suc, List, ◌+◌, ◌-◌, ◌*◌, ◌/◌, ◌%◌, ◌^◌, ◌<◌, ◌≤◌, length, take, drop, min, refl, sym, ap, subst, ◌∙◌, arith, true}
-use Rattle.std.specs.Prelude.{slice_index, None}
+use Rattle.std.specs.Prelude.{slice_index}
 use Rattle.adf_fields.specs.Hash.{slot_of}
 use Rattle.adf_fields.specs.Words.{block, word}
 use Rattle.adf_tree.specs.declared.entry.Kind.{Kind}
@@ -11,7 +11,7 @@ use Rattle.adf_tree.specs.declared.entry.Entry.{Entry}
 use Rattle.adf_tree.specs.Tree.{Tree}
 use Rattle.adf_blocks.specs.Sizes.{chunk, count, is_allowed}
 use Rattle.adf_blocks.specs.declared.layout.TheConstants.{EXTENSION, FIRST_POINTER, NAME, POINTERS, SECONDARY_TYPE, SIZE}
-use Rattle.adf_blocks.specs.Forms.{first_cause, text_at}
+use Rattle.adf_blocks.specs.Forms.{text_at}
 use Rattle.adf_blocks.specs.HeadBlock.{HeadFields, FitsMeta, meta_at, secondary_of, size_of, ext_of, head_form}
 use Rattle.adf_blocks.specs.HeadBlock.BodyFields.{FileFields}
 use Rattle.adf_blocks.proofs.HeadLaws.{head_block-form, head_block-name, head_block-meta, head_block-secondary, head_block-size, head_block-ext}
@@ -67,12 +67,9 @@ module _ (t : Tree) (n : ℕ) (sound : IsSound t) (allowed : is_allowed n ≡ tr
 
   form_laid : AllHold (head_demands (volume t n) t.kind (nth_free n here.k) (at_node (volume t n) (planned t n) e.parent) (slot_of e.name))
   form_laid =
-      let f = head_block-form t.kind fields (head_fits t n sound allowed room i e h) in
       all_demanded (nth_free n here.k) (head_form t.kind (nth_free n here.k) (at_node (volume t n) (planned t n) e.parent) (slot_of e.name)
       (block (volume t n) (nth_free n here.k)))
-      (subst (λ up. first_cause (head_form t.kind (nth_free n here.k) up (slot_of e.name) (block (volume t n) (nth_free n here.k))) ≡ None)
-      (nodes_at t n sound allowed room e.parent)
-      (subst (λ bs. first_cause (head_form t.kind (nth_free n here.k) (slice_index (node_blocks t n) e.parent) (slot_of e.name) bs) ≡ None) (sym here.head) f))
+      (rw (here.head, ← nodes_at t n sound allowed room e.parent) (head_block-form t.kind fields (head_fits t n sound allowed room i e h)))
 
   name_laid : e.name ≡ name_of (volume t n) (nth_free n here.k)
   unfolding name_of

@@ -160,28 +160,17 @@ module _ (v : List ℕ) (n total : ℕ) (small : n < 2 ^ 32) (few : total < 2 ^ 
     datas_formed k number bytes zero l s h j b a = absurd a
     datas_formed k number bytes (suc m) l s h zero b a =
         let f = fits_data n total small few below head k number m bytes lies l (omega arith) in
-        let z : number ≡ number + 0 = omega arith in
+        let z : number + 0 ≡ number = omega arith in
         let y : chunk Ofs * 0 ≡ 0 = omega arith in
-        let d : bytes ≡ drop (chunk Ofs * 0) bytes = ap (λ q. drop q bytes) (sym y) in
         let w : first_cause (data_form head number (length (take (chunk Ofs) bytes)) (nth_free_or_none n (suc k) m) (block v (nth_free n k))) ≡ None =
-        subst (λ bs. first_cause (data_form head number (length (take (chunk Ofs) bytes)) (nth_free_or_none n (suc k) m) bs) ≡ None) (sym h.0)
-        (data_block-form (record { head = head; number = number; next = nth_free_or_none n (suc k) m; bytes = take (chunk Ofs) bytes }) f) in
-        subst (λ b. AllHold (data_demands v Ofs b head (number + 0) (length (take (chunk Ofs) (drop (chunk Ofs * 0) bytes)))
-        (slice_index (allocated n (suc k) m) 0))) a
-        (subst (λ u. AllHold (data_demands v Ofs (nth_free n k) head (number + 0) (length (take (chunk Ofs) (drop (chunk Ofs * 0) bytes))) u))
-        (next_is (suc k) m)
-        (subst (λ u. AllHold (data_demands v Ofs (nth_free n k) head (number + 0) (length (take (chunk Ofs) u)) (nth_free_or_none n (suc k) m))) d
-        (subst (λ u. AllHold (data_demands v Ofs (nth_free n k) head u (length (take (chunk Ofs) bytes)) (nth_free_or_none n (suc k) m))) z
-        (all_demanded (nth_free n k) (data_form head number (length (take (chunk Ofs) bytes)) (nth_free_or_none n (suc k) m) (block v (nth_free n k))) w))))
+        rw h.0 (data_block-form (record { head = head; number = number; next = nth_free_or_none n (suc k) m; bytes = take (chunk Ofs) bytes }) f) in
+        rw (← a, z, y, ← next_is (suc k) m)
+        (all_demanded (nth_free n k) (data_form head number (length (take (chunk Ofs) bytes)) (nth_free_or_none n (suc k) m) (block v (nth_free n k))) w)
     datas_formed k number bytes (suc m) l s h (suc j) b a =
-        let z : suc number + j ≡ number + suc j = omega arith in
-        let y : chunk Ofs + chunk Ofs * j ≡ chunk Ofs * suc j = omega arith in
-        let d : drop (chunk Ofs * j) (drop (chunk Ofs) bytes) ≡ drop (chunk Ofs * suc j) bytes =
-        drop-drop (chunk Ofs * j) (chunk Ofs) bytes ∙ ap (λ q. drop q bytes) y in
-        subst (λ u. AllHold (data_demands v Ofs b head (number + suc j) (length (take (chunk Ofs) u)) (slice_index (allocated n (suc k) m) (suc j)))) d
-        (subst (λ u. AllHold (data_demands v Ofs b head u (length (take (chunk Ofs) (drop (chunk Ofs * j) (drop (chunk Ofs) bytes))))
-        (slice_index (allocated n (suc k) m) (suc j)))) z
-        (datas_formed (suc k) (suc number) (drop (chunk Ofs) bytes) m (omega arith) (omega arith) h.1 j b a))
+        let z : number + suc j ≡ suc number + j = omega arith in
+        let y : chunk Ofs * suc j ≡ chunk Ofs + chunk Ofs * j = omega arith in
+        rw (z, y, ← drop-drop (chunk Ofs * j) (chunk Ofs) bytes)
+        (datas_formed (suc k) (suc number) (drop (chunk Ofs) bytes) m (omega arith) (omega arith) h.1 j b a)
 
 -- what data block j holds of the bytes
 pub held_long : (bytes : List ℕ) (j : ℕ) → length (take (chunk Ofs) (drop (chunk Ofs * j) bytes)) ≡ held Ofs (length bytes) (suc j)

@@ -1,5 +1,5 @@
 -- What is laid fits.
-use Rattle.std.proofs.Common.{◌≡◌, ℕ, zero, suc, List, [], ◌∷◌, ◌++◌, ◌+◌, ◌-◌, ◌*◌, ◌/◌, ◌%◌, ◌^◌, ◌<◌, ◌≤◌, length, map, refl, sym, ap, subst, ◌∙◌, arith}
+use Rattle.std.proofs.Common.{inl, inr, ◌≡◌, ℕ, zero, suc, List, [], ◌∷◌, ◌+◌, ◌-◌, ◌*◌, ◌/◌, ◌%◌, ◌^◌, ◌<◌, ◌≤◌, length, map, refl, sym, ap, subst, ◌∙◌, arith}
 use Rattle.std.specs.List.{range_with_len}
 use Rattle.std.proofs.Common.{Bool, true, false, cond}
 use Rattle.std.specs.Prelude.{min, slice_index, None, ◌↔◌, ◌==◌, IsBitSet}
@@ -34,9 +34,9 @@ use Rattle.adf_volume.proofs.FormDemands.{all_demanded}
 use Rattle.adf_volume.proofs.Lists.{at_below, at_index}
 use Rattle.adf_volume.proofs.Images.{page_in}
 use Rattle.adf_volume.proofs.TreeOrder.{dir_node}
-use Rattle.adf_volume.proofs.DistinctBlocks.{block_in, in_block, blocks_of}
+use Rattle.adf_volume.proofs.DistinctBlocks.{block_in, in_block}
 use Rattle.adf_volume.proofs.Sizes.{size_low, size_high}
-use Rattle.adf_build.specs.Plan.{reserved, entry_blocks, entries_blocks, blocks_needed, allocated, places_from, planned}
+use Rattle.adf_build.specs.Plan.{entry_blocks, entries_blocks, blocks_needed, places_from, planned}
 use Rattle.adf_build.specs.Bits.{is_used, is_free_bit, bits_from, page_words}
 use Rattle.adf_build.specs.Writes.{Holds}
 use Rattle.adf_build.specs.Laid.{boot_bytes, page_writes, listed_pages, map_ext_or_none, map_ext_writes, planned_root, volume, IsLaid, IsSound}
@@ -46,7 +46,7 @@ use Rattle.adf_build.proofs.Bits.{bit_of, bits_small, owned_used, used_owned}
 use Rattle.adf_build.proofs.LaidWrites.{fits_root, volume_long, volume_blocks, holds_map_exts, holds_pages, holds_root, holds_boot, listed_few, reserved_parts}
 use Rattle.adf_build.proofs.EntryBlocks.{spot, chain_laid, root_slot, dir_slot}
 use Rattle.adf_build.proofs.LaidEntries.{entry_laid, file_laid}
-use Rattle.std.proofs.lemmas.Bool.{false_from_ne_true}
+use Rattle.std.proofs.lemmas.Bool.{cases_lt, false_from_ne_true, true≢false}
 
 boot_holds : (kind : Kind) → first_cause (boot_form (block_of_fields ((0, boot_bytes kind) ∷ []))) ≡ None
 unfolding with_bytes
@@ -73,21 +73,22 @@ places_long : (n : ℕ) (kind : Kind) (k : ℕ) (es : List Entry) → length (pl
 places_long n kind k [] = refl
 places_long n kind k (e ∷ es) = ap suc (places_long n kind (k + entry_blocks kind e) es)
 
-page_holds : (v : List ℕ) (n total j m q : ℕ) → Holds v (page_writes n total j m) → q < m
-    → block v (middle n + 1 + (j + q)) ≡ page_block (page_words n total (j + q))
-page_holds v n total j zero q h l = absurd (omega arith)
-page_holds v n total j (suc m) zero h l = let z : j + 0 ≡ j = omega arith in rw z h.0
-page_holds v n total j (suc m) (suc q) h l = let z : j + suc q ≡ suc j + q = omega arith in rw z (page_holds v n total (suc j) m q h.1 (omega arith))
+-- what stands in page p and in bitmap extension block p, of those from number j up to an end
+page_holds : (v : List ℕ) (n total j m p : ℕ) → Holds v (page_writes n total j m) → j ≤ p → p < j + m
+    → block v (middle n + 1 + p) ≡ page_block (page_words n total p)
+page_holds v n total j zero p h a b = absurd (omega arith)
+page_holds v n total j (suc m) p h a b = elim (cases_lt j p) [
+  | inl l ↦ page_holds v n total (suc j) m p h.1 l (omega arith)
+  | inr l ↦ let z : p ≡ j = omega arith in rw z h.0
+]
 
--- what stands in bitmap extension block j + q of m from number j on
-map_ext_holds : (v : List ℕ) (n j m q : ℕ) → Holds v (map_ext_writes n j m) → q < m
-    → block v (middle n + 1 + pages_needed n + (j + q)) ≡ map_ext_block (listed_pages n (j + q)) (map_ext_or_none n (suc (j + q)) (m - suc q))
-map_ext_holds v n j zero q h l = absurd (omega arith)
-map_ext_holds v n j (suc m) zero h l = let z : j + 0 ≡ j = omega arith in let y : suc m - 1 ≡ m = omega arith in rw (z, y) h.0
-map_ext_holds v n j (suc m) (suc q) h l =
-    let z : j + suc q ≡ suc j + q = omega arith in
-    let y : suc m - suc (suc q) ≡ m - suc q = omega arith in
-    rw (z, y) (map_ext_holds v n (suc j) m q h.1 (omega arith))
+map_ext_holds : (v : List ℕ) (n j m end p : ℕ) → Holds v (map_ext_writes n j m) → end ≡ j + m → j ≤ p → p < end
+    → block v (middle n + 1 + pages_needed n + p) ≡ map_ext_block (listed_pages n p) (map_ext_or_none n (suc p) (end - suc p))
+map_ext_holds v n j zero end p h e a b = absurd (omega arith)
+map_ext_holds v n j (suc m) end p h e a b = elim (cases_lt j p) [
+  | inl l ↦ map_ext_holds v n (suc j) m end p h.1 (omega arith) l b
+  | inr l ↦ let z : p ≡ j = omega arith in let y : end - suc j ≡ m = omega arith in rw (z, y) h.0
+]
 
 -- what names a bitmap extension block that is there
 map_ext_some : (n j m : ℕ) → 0 < m → map_ext_or_none n j m ≡ middle n + 1 + pages_needed n + j
@@ -113,27 +114,16 @@ flag_one false h = cc
 -- a bit of a page tells whether its block is free
 bit_tells : (n total q r : ℕ) → r < PAGE_BITS → IsFreeBit (page_block (page_words n total q)) r ↔ (is_free_bit n total (PAGE_BITS * q + r) ≡ true)
 bit_tells n total q r h =
-    let f : ℕ → ℕ = λ w. bits_from (is_free_bit n total) (PAGE_BITS * q + 32 * w) 32 in
-    let z : 0 + r / 32 ≡ r / 32 = omega arith in
-    let lt : r / 32 < 127 = omega arith in
-    let w : slice_index (page_words n total q) (r / 32) ≡ bits_from (is_free_bit n total) (PAGE_BITS * q + 32 * (r / 32)) 32 =
-    get_or-map-range_with_len f 0 127 (r / 32) (r / 32) 0 lt z in
-    let s : bits_from (is_free_bit n total) (PAGE_BITS * q + 32 * (r / 32)) 32 < 2 ^ 32 = bits_small (is_free_bit n total) (PAGE_BITS * q + 32 * (r / 32)) 32 in
-    let b : bits_from (is_free_bit n total) (PAGE_BITS * q + 32 * (r / 32)) 32 / 2 ^ (r % 32) % 2
-    ≡ cond (is_free_bit n total (PAGE_BITS * q + 32 * (r / 32) + r % 32)) 1 0 =
-    bit_of (is_free_bit n total) (PAGE_BITS * q + 32 * (r / 32)) 32 (r % 32) (omega arith) in
-    let y : PAGE_BITS * q + 32 * (r / 32) + r % 32 ≡ PAGE_BITS * q + r = omega arith in
-    let long : length (page_words n total q) ≡ 127 = length-map-range_with_len f 0 127 in
-    let p = page_block-bit (page_words n total q) r long h (subst (λ x. x < 2 ^ 32) (sym w) s) in (
-      (λ free.
-          let x : IsBitSet (bits_from (is_free_bit n total) (PAGE_BITS * q + 32 * (r / 32)) 32) (r % 32) = subst (λ x. IsBitSet x (r % 32)) w (p.0 free) in
-          ap (is_free_bit n total) (sym y)
-          ∙ flag_true (is_free_bit n total (PAGE_BITS * q + 32 * (r / 32) + r % 32))
-          (sym b ∙ (set_bit (bits_from (is_free_bit n total) (PAGE_BITS * q + 32 * (r / 32)) 32) (r % 32)).0 x)),
-      (λ e.
-          let x = (set_bit (bits_from (is_free_bit n total) (PAGE_BITS * q + 32 * (r / 32)) 32) (r % 32)).1
-          (b ∙ flag_one (is_free_bit n total (PAGE_BITS * q + 32 * (r / 32) + r % 32)) (ap (is_free_bit n total) y ∙ e)) in
-          p.1 (subst (λ x. IsBitSet x (r % 32)) (sym w) x)),
+    let f : ℕ → Bool = is_free_bit n total in
+    let at : ℕ = PAGE_BITS * q + 32 * (r / 32) in
+    let y : at + r % 32 ≡ PAGE_BITS * q + r = omega arith in
+    let words : ℕ → ℕ = λ w. bits_from f (PAGE_BITS * q + 32 * w) 32 in
+    let w : slice_index (page_words n total q) (r / 32) ≡ bits_from f at 32 = get_or-map-range_with_len words 0 127 (r / 32) (r / 32) 0 (omega arith) (omega arith) in
+    let b : bits_from f at 32 / 2 ^ (r % 32) % 2 ≡ cond (f (PAGE_BITS * q + r)) 1 0 =
+    bit_of f at 32 (r % 32) (omega arith) ∙ ap (λ j. cond (f j) 1 0) y in
+    let p = page_block-bit (page_words n total q) r (length-map-range_with_len words 0 127) h (rw w (bits_small f at 32)) in (
+      (λ free. flag_true (f (PAGE_BITS * q + r)) (sym b ∙ (set_bit (bits_from f at 32) (r % 32)).0 (subst (λ x. IsBitSet x (r % 32)) w (p.0 free)))),
+      (λ e. p.1 (subst (λ x. IsBitSet x (r % 32)) (sym w) ((set_bit (bits_from f at 32) (r % 32)).1 (b ∙ flag_one (f (PAGE_BITS * q + r)) e)))),
     )
 
 free_unused : (n total r b : ℕ) → 2 + r ≡ b → is_free_bit n total r ≡ true → is_used n total b ≡ false
@@ -182,10 +172,7 @@ module _ (t : Tree) (n : ℕ) (sound : IsSound t) (allowed : is_allowed n ≡ tr
       ∙ (root_block-page (planned_root t n) k (fits_root t n sound allowed room) l (omega arith) ∙ e)
 
   page_at : (q : ℕ) → q < pages_needed n → block (volume t n) (middle n + 1 + q) ≡ page_block (page_words n (entries_blocks t.kind t.entries) q)
-  page_at q l =
-      let z : 0 + q ≡ q = omega arith in
-      subst (λ j. block (volume t n) (middle n + 1 + j) ≡ page_block (page_words n (entries_blocks t.kind t.entries) j)) z
-      (page_holds (volume t n) n (entries_blocks t.kind t.entries) 0 (pages_needed n) q (holds_pages t n sound allowed room) l)
+  page_at q l = page_holds (volume t n) n (entries_blocks t.kind t.entries) 0 (pages_needed n) q (holds_pages t n sound allowed room) (omega arith) (omega arith)
 
   page_formed : (k b : ℕ) → At (range_with_len (middle n + 1) (pages_needed n)) k b → AllHold (page_demands (volume t n) b)
   page_formed k b h =
@@ -207,11 +194,6 @@ module _ (t : Tree) (n : ℕ) (sound : IsSound t) (allowed : is_allowed n ≡ tr
       chain_laid t n sound allowed room (suc i) s (word_in (volume t n) (at_node (volume t n) (planned t n) (suc i)) (FIRST_SLOT + s))
       (ap (λ b. word_in (volume t n) b (FIRST_SLOT + s)) (spot t n sound allowed room i x.0 x.1).at ∙ dir_slot t n sound allowed room i s x.0 x.1 x.2 l)
 
-  owned_is : (b : ℕ)
-      → In (blocks_of (owned (volume t n) (planned t n))) b ↔ In (middle n ∷
-      (range_with_len (middle n + 1) (reserved n) ++ allocated n 0 (entries_blocks t.kind t.entries))) b
-  owned_is b = let e = owned_blocks (volume t n) t n size in ((λ h. subst (λ l. In l b) e h), (λ h. subst (λ l. In l b) (sym e) h))
-
   free_laid : (b : ℕ) → 2 ≤ b → b < n → IsFree (volume t n) (range_with_len (middle n + 1) (pages_needed n)) b → (o : Owner)
       → In (owned (volume t n) (planned t n)) (o, b) → ⊥
   free_laid b lo hi f o i =
@@ -220,13 +202,11 @@ module _ (t : Tree) (n : ℕ) (sound : IsSound t) (allowed : is_allowed n ≡ tr
       let at = range_at (middle n + 1) (pages_needed n) q f.0 f.1 in
       let lt : q < pages_needed n = page_in n b lo hi in
       let g : IsFreeBit (block (volume t n) (middle n + 1 + q)) r = subst (λ p. IsFreeBit (block (volume t n) p) r) at.1 f.2 in
-      let x : is_free_bit n (entries_blocks t.kind t.entries) (PAGE_BITS * q + r) ≡ true =
-      (bit_tells n (entries_blocks t.kind t.entries) q r (omega arith)).0 (subst (λ bs. IsFreeBit bs r) (page_at q lt) g) in
-      let y : is_used n (entries_blocks t.kind t.entries) b ≡ false = free_unused n (entries_blocks t.kind t.entries) (PAGE_BITS * q + r) b (omega arith) x in
-      let u : is_used n (entries_blocks t.kind t.entries) b ≡ true =
-      owned_used n (entries_blocks t.kind t.entries) b ((owned_is b).0 (block_in (owned (volume t n) (planned t n)) o b i)) in
-      let w : true ≡ false = sym u ∙ y in
-      cc
+      let x = (bit_tells n (entries_blocks t.kind t.entries) q r (omega arith)).0 (subst (λ bs. IsFreeBit bs r) (page_at q lt) g) in
+      let y = free_unused n (entries_blocks t.kind t.entries) (PAGE_BITS * q + r) b (omega arith) x in
+      let u = owned_used n (entries_blocks t.kind t.entries) b
+      (subst (λ l. In l b) (owned_blocks (volume t n) t n size) (block_in (owned (volume t n) (planned t n)) o b i)) in
+      true≢false (sym u ∙ y)
 
   unowned_laid : (b : ℕ) → 2 ≤ b → b < n → ((o : Owner) → In (owned (volume t n) (planned t n)) (o, b) → ⊥)
       → IsFree (volume t n) (range_with_len (middle n + 1) (pages_needed n)) b
@@ -235,23 +215,18 @@ module _ (t : Tree) (n : ℕ) (sound : IsSound t) (allowed : is_allowed n ≡ tr
       let r : ℕ = (b - 2) % PAGE_BITS in
       let four = size_low n allowed in
       let lt : q < pages_needed n = page_in n b lo hi in
-      let y : is_used n (entries_blocks t.kind t.entries) b ≡ false = false_from_ne_true (is_used n (entries_blocks t.kind t.entries) b)
-      (λ u. let x = in_block (owned (volume t n) (planned t n)) b ((owned_is b).1 (used_owned n (entries_blocks t.kind t.entries) b four lo u)) in
-      f x.0 x.1) in
+      let y = false_from_ne_true (is_used n (entries_blocks t.kind t.entries) b) (λ u. let x = in_block (owned (volume t n) (planned t n)) b
+      (subst (λ l. In l b) (sym (owned_blocks (volume t n) t n size)) (used_owned n (entries_blocks t.kind t.entries) b four lo u)) in f x.0 x.1) in
       let x = unused_free n (entries_blocks t.kind t.entries) (PAGE_BITS * q + r) b (omega arith) hi y in
-      let g : IsFreeBit (page_block (page_words n (entries_blocks t.kind t.entries) q)) r =
-      (bit_tells n (entries_blocks t.kind t.entries) q r (omega arith)).1 x in
+      let g = (bit_tells n (entries_blocks t.kind t.entries) q r (omega arith)).1 x in
       (middle n + 1 + q, at_range (middle n + 1) (pages_needed n) q lt, subst (λ bs. IsFreeBit bs r) (sym (page_at q lt)) g)
 
   -- what stands in a bitmap extension block
   map_ext_is : (j : ℕ) → j < map_exts_needed (pages_needed n)
       → block (volume t n) (middle n + 1 + pages_needed n + j)
       ≡ map_ext_block (listed_pages n j) (map_ext_or_none n (suc j) (map_exts_needed (pages_needed n) - suc j))
-  map_ext_is j l =
-      let z : 0 + j ≡ j = omega arith in
-      subst (λ k. block (volume t n) (middle n + 1 + pages_needed n + k)
-      ≡ map_ext_block (listed_pages n k) (map_ext_or_none n (suc k) (map_exts_needed (pages_needed n) - suc j))) z
-      (map_ext_holds (volume t n) n 0 (map_exts_needed (pages_needed n)) j (holds_map_exts t n sound allowed room) l)
+  map_ext_is j l = map_ext_holds (volume t n) n 0 (map_exts_needed (pages_needed n)) (map_exts_needed (pages_needed n)) j (holds_map_exts t n sound allowed room)
+      (omega arith) (omega arith) l
 
   -- a bitmap extension block lies in the volume
   map_ext_near : (j : ℕ) → j ≤ map_exts_needed (pages_needed n) → middle n + 1 + pages_needed n + j < 2 ^ 32

@@ -1,11 +1,11 @@
 -- The order of entries, and the chains that it makes.
 use Rattle.std.proofs.Common.{◌≡◌, ◌≤◌, ◌<◌, ◌≢◌, ◌+◌, ◌*◌, ℕ, zero, suc, List, [], ◌∷◌, refl, sym, ap, subst, ◌∙◌, arith, false, cond, length, drop}
-use Rattle.std.proofs.Common.{◌⊎◌, inl, inr, get_or-set_other, get_or-set_same}
+use Rattle.std.proofs.Common.{inl, inr, get_or-set_other, get_or-set_same}
 use Rattle.std.specs.Prelude.{◌==◌, ◌&&◌, slice_index, slice_index_or, replicate}
 use Rattle.std.specs.List.{AllWithin}
 use Rattle.std.specs.List.Sorted.{IsNonDecreasingBy}
 use Rattle.std.proofs.Math.ListN.{set}
-use Rattle.std.proofs.lemmas.Bool.{cases_lt}
+use Rattle.std.proofs.lemmas.Bool.{cases_eq, cases_lt}
 use Rattle.std.proofs.lemmas.Bool.Decides.{nat_tests}
 use Rattle.std.proofs.lemmas.List.{get_or-replicate}
 use Rattle.std.proofs.lemmas.List.FromFn.{fill_by_all}
@@ -127,26 +127,17 @@ pub slots_step : (slots : List ℕ) (at : ℕ → ℕ) (n m p t v : ℕ) (e : En
     → slot_of e.name ≡ t → v ≡ at n → length slots ≡ 72
     → ((s : ℕ) → s < 72 → slice_index slots s ≡ first_block at (nodes_from m rest p s))
     → (s : ℕ) → s < 72 → slice_index (set slots t v) s ≡ first_block at (nodes_from n left p s)
-slots_step slots at n m p t v e left rest split up h slot here long f s lt =
-    put (cases_lt s t) (cases_lt t s)
-  where
-    open_left : first_block at (nodes_from n left p s) ≡ first_block at (nodes_from n (e ∷ rest) p s)
-    open_left = ap (λ l. first_block at (nodes_from n l p s)) split
-
-    other : s ≢ t → slice_index (set slots t v) s ≡ first_block at (nodes_from n left p s)
-    other ne =
-        get_or-set_other slots t s v 0 ne
-        ∙ f s lt ∙ ap (λ m. first_block at (nodes_from m rest p s)) up
-        ∙ sym (ap (first_block at) (passed n e rest p s (λ a b. ne (sym b ∙ slot)))) ∙ sym open_left
-
-    put : (s < t) ⊎ (t ≤ s) → (t < s) ⊎ (s ≤ t) → slice_index (set slots t v) s ≡ first_block at (nodes_from n left p s)
-    put (inl l) c = other (λ z. omega arith)
-    put (inr l) (inl k) = other (λ z. omega arith)
-    put (inr l) (inr k) =
-        let z : s ≡ t = omega arith in
-        let w : t < length slots = omega arith in
-        ap (slice_index (set slots t v)) z ∙ get_or-set_same slots t v 0 w ∙ here
-        ∙ sym (ap (first_block at) (taken n e rest p s h (slot ∙ sym z))) ∙ sym open_left
+slots_step slots at n m p t v e left rest split up h slot here long f s lt = elim (cases_eq s t) [
+  | inl z ↦
+      let set = get_or-set_same slots t v 0 (omega arith) in
+      let mine = taken n e rest p s h (slot ∙ sym z) in
+      cc
+  | inr ne ↦
+      let kept = get_or-set_other slots t s v 0 ne in
+      let others = passed n e rest p s (λ a b. ne (sym b ∙ slot)) in
+      let old = f s lt in
+      cc
+]
 
 -- the slots of a node, each of which is known
 pub slots_are : (slots nodes : List ℕ) (es : List Entry) (p : ℕ) → length slots ≡ 72

@@ -1,5 +1,5 @@
 -- What a laid image holds: each part that was written.
-use Rattle.std.proofs.Common.{◌≡◌, ℕ, zero, suc, List, [], ◌∷◌, ◌++◌, inl, inr, ◌+◌, ◌-◌, ◌*◌, length, refl, sym, ap, subst, ◌∙◌, arith}
+use Rattle.std.proofs.Common.{◌≡◌, ℕ, zero, suc, List, [], ◌∷◌, ◌++◌, inl, inr, ◌+◌, ◌-◌, ◌*◌, length, refl, sym, ap, subst, arith}
 use Rattle.adf_tree.specs.declared.entry.Kind.{Kind}
 use Rattle.adf_tree.specs.declared.entry.Body.{Body}
 use Rattle.adf_tree.specs.declared.entry.Body.TheVariants.{Dir, File}
@@ -60,13 +60,8 @@ unfolding exts_needed
 body_numbers n kind k Dir = refl
 body_numbers n kind k (File bytes) =
     let c : ℕ = count kind (length bytes) in
-    let x : ℕ = exts_needed c in
-    let exts : List (ℕ × List ℕ) = ext_writes n (nth_free n k) (suc k) (suc k + x + POINTERS) (c - POINTERS) x in
-    let datas : List (ℕ × List ℕ) = data_writes n kind (nth_free n k) (suc k + x) 1 bytes c in
-    numbers_of-append exts datas
-    ∙ ap (λ l. l ++ numbers_of datas) (ext_numbers n (nth_free n k) (suc k) (suc k + x + POINTERS) (c - POINTERS) x)
-    ∙ ap (λ l. allocated n (suc k) x ++ l) (data_numbers n kind (nth_free n k) (suc k + x) 1 bytes c)
-    ∙ sym (allocated-append n (suc k) x c)
+    let parts = allocated-append n (suc k) (exts_needed c) c in
+    simp (numbers_of-append, ext_numbers, data_numbers) (sym parts)
 
 -- the blocks of entries that are written are a run of free blocks: those of the layout
 pub entries_numbers : (n : ℕ) (kind : Kind) (nodes : List ℕ) (all : List Entry) (i k : ℕ) (es : List Entry)
@@ -75,12 +70,7 @@ entries_numbers n kind nodes all i k [] = refl
 entries_numbers n kind nodes all i k (e ∷ es) =
     let b : ℕ = exts_needed (data_blocks kind e.body) + data_blocks kind e.body in
     let r : ℕ = entries_blocks kind es in
-    let one : entry_blocks kind e ≡ suc b = omega arith in
     let at : k + entry_blocks kind e ≡ suc k + b = omega arith in
     let sum : entry_blocks kind e + r ≡ suc (b + r) = omega arith in
-    ap (λ l. nth_free n k ∷ l)
-    (numbers_of-append (body_writes n kind k e.body) (entries_writes n kind nodes all (suc i) (k + entry_blocks kind e) es)
-    ∙ ap (λ l. l ++ numbers_of (entries_writes n kind nodes all (suc i) (k + entry_blocks kind e) es)) (body_numbers n kind k e.body)
-    ∙ ap (λ l. allocated n (suc k) b ++ l) (entries_numbers n kind nodes all (suc i) (k + entry_blocks kind e) es ∙ ap (λ j. allocated n j r) at)
-    ∙ sym (allocated-append n (suc k) b r))
-    ∙ ap (allocated n k) (sym sum)
+    let parts = allocated-append n (suc k) b r in
+    simp (numbers_of-append, body_numbers, entries_numbers n kind nodes all (suc i) (k + entry_blocks kind e) es) (cc)

@@ -68,6 +68,7 @@ pub fn children_end(tree: &Tree, p: usize, from: usize) -> usize
 
 /// The slots of node `p`, whose children stand at the places `from` to `end`: the block of the first header of each
 /// chain, or 0. The first of a chain is written last.
+#[tactic(auto, using(crate::proofs::Order::slots_start))]
 pub fn slots_between(tree: &Tree, nodes: &[u32], p: usize, from: usize, end: usize) -> [u32; 72]
     requires start { from ≤ end }
     requires within { end ≤ length tree.now.entries }

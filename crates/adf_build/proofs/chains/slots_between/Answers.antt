@@ -2,16 +2,8 @@ use Rattle.std.proofs.Common.{◌≡◌, ◌<◌, ◌∷◌, ◌+◌, ◌-◌, �
 use Rattle.std.specs.Prelude.{slice_index}
 use Rattle.adf_fields.specs.Hash.{slot_of}
 use Rattle.adf_tree.specs.declared.entry.Entry.{Entry}
-use Rattle.adf_build.proofs.Order.{place_is, slots_start, slots_step}
+use Rattle.adf_build.proofs.Order.{place_is, slots_step}
 use Rattle.adf_build.proofs.chains.slots_between.Goals as goal
-
-pub loop-at-init : goal.loop-at-init
-loop-at-init c = record {
-  start = c.requires.start;
-  within = omega arith;
-  whole = refl;
-  filled = λ s h. slots_start (slice_index c.args.nodes.now) (c.args.end + 1) c.args.p s (drop c.args.end c.args.tree.now.entries) c.requires.past h;
-}
 
 pub loop-at-preserved : goal.loop-at-preserved
 loop-at-preserved c =
