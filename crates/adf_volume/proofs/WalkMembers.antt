@@ -3,7 +3,6 @@ use Rattle.std.proofs.Common.{◌≡◌, ℕ, zero, suc, List, [], ◌∷◌, �
 use Rattle.std.proofs.Common.{false, cond, eq-eqb, append-nil}
 use Rattle.std.specs.Prelude.{◌==◌, ◌&&◌}
 use Rattle.std.proofs.lemmas.Bool.{eqb-true}
-use native.Mathlib.Decide.{dec_lt}
 use Rattle.adf_blocks.specs.declared.layout.TheConstants.{MAP_EXT_PAGES, POINTERS, ROOT_PAGES}
 use Rattle.adf_volume.specs.Lists.{At}
 use Rattle.adf_blocks.specs.Sizes.{blocks, pages_needed}
@@ -11,7 +10,7 @@ use Rattle.adf_volume.specs.Image.{kind_of, table_word, name_of, root_of}
 use Rattle.adf_fields.specs.Hash.{slot_of}
 use Rattle.adf_tree.specs.declared.entry.Entry.{Entry}
 use Rattle.adf_volume.specs.Layout.{nodes_from}
-use Rattle.adf_volume.specs.Walk.{Role, second, Has, head_count, heads, data_count, NamesPage, Asks, IsDue, ext_count_of, ext_count, NoCause, IsWalk}
+use Rattle.adf_volume.specs.Walk.{Role, second, Has, head_count, heads, data_count, NamesPage, Asks, IsDue, Lacks, ext_count_of, ext_count, NoCause, IsWalk}
 use Rattle.adf_volume.specs.Walk.Role.{Root, Page, MapExt, Head, Ext, Data}
 use Rattle.adf_volume.specs.Walk.IsWalk.{start, step}
 use Rattle.adf_volume.specs.Made.{picked, is_page, pages_in, is_map_ext, map_exts_in, is_ext_of, exts_in, push_ext, is_data_of, datas_in, entry_in, place_in}
@@ -27,6 +26,12 @@ use Rattle.adf_volume.proofs.Comparisons.{both_equal, equal_both}
 record Lists (f : Role → Bool) (role : ℕ → Role) (w : List (Role × ℕ)) : Type 0 where
   to : (k b : ℕ) → Has w (role k) b → At (picked f w) k b
   from : (k b : ℕ) → At (picked f w) k b → Has w (role k) b
+
+-- a role that is lacked has no place yet
+not_yet : {f : Role → Bool} {role : ℕ → Role} {w : List (Role × ℕ)} → Lists f role w → (k : ℕ) → Lacks w (role k) → length (picked f w) ≤ k
+not_yet {f = f} {role = role} {w = w} old k lacks =
+    let low : k < length (picked f w) → ⊥ = (λ u. let x = at_some (picked f w) k u in lacks (role k) x.0 (old.from k x.0 x.1) (refl, refl, refl)) in
+    omega arith
 
 module _ (f : Role → Bool) (role : ℕ → Role) (own : (k : ℕ) → f (role k) ≡ true) where
   -- the root alone has none
@@ -140,24 +145,18 @@ module _ (image : List ℕ) where
   next_data_block : (w : List (Role × ℕ)) → (n : ℕ) → IsWalk image w → Lists (is_data_of n) (λ k. Data n (suc k)) w → (k a i b : ℕ)
       → IsDue image w (Data n (suc k)) a i → NoCause image w (Data n (suc k)) a b → k ≡ length (datas_in w n)
   next_data_block w n v ih k a i b d g =
-      elim (dec_lt k (length (datas_in w n))) [
-        | yes u ↦
-            let x = at_some (datas_in w n) k u in
-            absurd (d.lacks (Data n (suc k)) x.0 (ih.from k x.0 x.1) (refl, refl, refl))
-        | no u ↦ elim (dec_lt (length (datas_in w n)) k) [
-          | no l ↦ omega arith
-          | yes l ↦
-              let m : ℕ = length (datas_in w n) in
-              let f = d.asked.0 in
-              let f2 : k < data_count image f.0 = f.2 in
-              let en : data_count image f.0 ≤ POINTERS * suc (ext_count w n) = enough image w v (λ r b h. kept image v r b h) n k a i b f.0 d g f.1 f.2 in
-              let t = there image w v (λ r b h. kept image v r b h) n (m / POINTERS) f.0 f.1 (omega arith) in
-              let x = is_there image w (Data n (suc m)) (Data n (suc k)) a i t.0 (table_word m) d ((f.0, f.1, omega arith), t.1, refl)
-              (omega arith, (λ z. omega arith), (λ z y. omega arith)) (omega arith) in
-              let y : m < length (datas_in w n) = at_below (datas_in w n) m x.0 (ih.to m x.0 x.1) in
-              absurd (omega arith)
-        ]
-      ]
+      let low = not_yet ih k d.lacks in
+      let m : ℕ = length (datas_in w n) in
+      let f = d.asked.0 in
+      let high : m < k → ⊥ = (λ l.
+      let f2 : k < data_count image f.0 = f.2 in
+      let en = enough image w v (λ r b h. kept image v r b h) n k a i b f.0 d g f.1 f.2 in
+      let t = there image w v (λ r b h. kept image v r b h) n (m / POINTERS) f.0 f.1 (omega arith) in
+      let x = is_there image w (Data n (suc m)) (Data n (suc k)) a i t.0 (table_word m) d ((f.0, f.1, omega arith), t.1, refl)
+      (omega arith, (λ z. omega arith), (λ z y. omega arith)) (omega arith) in
+      let y = at_below (datas_in w n) m x.0 (ih.to m x.0 x.1) in
+      omega arith) in
+      omega arith
 
   data_only : (n : ℕ) (q : Role) → is_data_of n q ≡ true → (k : ℕ) × (q ≡ Data n k)
   data_only n (Data m k) t = (k, ap (λ m. Data m k) (sym (eqb-true n m t)))
@@ -192,21 +191,15 @@ module _ (image : List ℕ) where
 
   next_page : (w : List (Role × ℕ)) → IsWalk image w → Lists is_page Page w → (k a i : ℕ) → IsDue image w (Page k) a i → k ≡ length (pages_in w)
   next_page w v ih k a i d =
-      elim (dec_lt k (length (pages_in w))) [
-        | yes u ↦
-            let x = at_some (pages_in w) k u in
-            absurd (d.lacks (Page k) x.0 (ih.from k x.0 x.1) (refl, refl, refl))
-        | no u ↦ elim (dec_lt (length (pages_in w)) k) [
-          | no l ↦ omega arith
-          | yes l ↦
-              let m : ℕ = length (pages_in w) in
-              let f : k < pages_needed (blocks image) = d.asked.0 in
-              let p = page_word image w m (omega arith) (λ j u. before_page w v k m j a i l u d.asked.1) in
-              let x = is_there image w (Page m) (Page k) a i p.0 p.1 d p.2 (omega arith, (λ z. omega arith), (λ z y. omega arith)) (omega arith) in
-              let y : m < length (pages_in w) = at_below (pages_in w) m x.0 (ih.to m x.0 x.1) in
-              absurd (omega arith)
-        ]
-      ]
+      let low = not_yet ih k d.lacks in
+      let m : ℕ = length (pages_in w) in
+      let f : k < pages_needed (blocks image) = d.asked.0 in
+      let high : m < k → ⊥ = (λ l.
+      let p = page_word image w m (omega arith) (λ j u. before_page w v k m j a i l u d.asked.1) in
+      let x = is_there image w (Page m) (Page k) a i p.0 p.1 d p.2 (omega arith, (λ z. omega arith), (λ z y. omega arith)) (omega arith) in
+      let y = at_below (pages_in w) m x.0 (ih.to m x.0 x.1) in
+      omega arith) in
+      omega arith
 
   page_only : (q : Role) → is_page q ≡ true → (k : ℕ) × (q ≡ Page k)
   page_only (Page k) t = (k, refl)
@@ -226,16 +219,11 @@ module _ (image : List ℕ) where
 
   -- the bitmap extension blocks
   next_map_ext : (w : List (Role × ℕ)) → IsWalk image w → Lists is_map_ext MapExt w → (j a i : ℕ) → IsDue image w (MapExt j) a i → j ≡ length (map_exts_in w)
-  next_map_ext w v ih zero a i d =
-      elim (dec_lt 0 (length (map_exts_in w))) [
-        | yes u ↦ let x = at_some (map_exts_in w) 0 u in absurd (d.lacks (MapExt 0) x.0 (ih.from 0 x.0 x.1) (refl, refl, refl))
-        | no u ↦ omega arith
-      ]
+  next_map_ext w v ih zero a i d = let low = not_yet ih 0 d.lacks in omega arith
   next_map_ext w v ih (suc j) a i d =
-      elim (dec_lt (suc j) (length (map_exts_in w))) [
-        | yes u ↦ let x = at_some (map_exts_in w) (suc j) u in absurd (d.lacks (MapExt (suc j)) x.0 (ih.from (suc j) x.0 x.1) (refl, refl, refl))
-        | no u ↦ let y : j < length (map_exts_in w) = at_below (map_exts_in w) j a (ih.to j a d.asked.1) in omega arith
-      ]
+      let low = not_yet ih (suc j) d.lacks in
+      let y = at_below (map_exts_in w) j a (ih.to j a d.asked.1) in
+      omega arith
 
   map_ext_only : (q : Role) → is_map_ext q ≡ true → (k : ℕ) × (q ≡ MapExt k)
   map_ext_only (MapExt k) t = (k, refl)
@@ -266,25 +254,19 @@ module _ (image : List ℕ) where
       to : (n p s j b : ℕ) → Has w (Head n p s j) b → At (chain_in w p s) j n
       from : (n p s j : ℕ) → At (chain_in w p s) j n → (b : ℕ) × Has w (Head n p s j) b
 
+    none_yet : (w : List (Role × ℕ)) → Chains w → (n p s j : ℕ) → Lacks w (Head n p s j) → length (chain_in w p s) ≤ j
+    none_yet w ih n p s j lacks =
+        let low : j < length (chain_in w p s) → ⊥ = (λ u. let x = at_some (chain_in w p s) j u in let y = ih.from x.0 p s j x.1 in
+        lacks (Head x.0 p s j) y.0 y.1 (refl, refl, refl)) in
+        omega arith
+
     next_place : (w : List (Role × ℕ)) → Chains w → (n p s j a i : ℕ) → IsDue image w (Head n p s j) a i → j ≡ length (chain_in w p s)
-    next_place w ih n p s zero a i d =
-        elim (dec_lt 0 (length (chain_in w p s))) [
-          | yes u ↦
-              let x = at_some (chain_in w p s) 0 u in
-              let y = ih.from x.0 p s 0 x.1 in
-              absurd (d.lacks (Head x.0 p s 0) y.0 y.1 (refl, refl, refl))
-          | no u ↦ omega arith
-        ]
+    next_place w ih n p s zero a i d = let low = none_yet w ih n p s 0 d.lacks in omega arith
     next_place w ih n p s (suc j) a i d =
         let h = d.asked.1 in
-        let lo : j < length (chain_in w p s) = at_below (chain_in w p s) j h.0 (ih.to h.0 p s j a h.1) in
-        elim (dec_lt (suc j) (length (chain_in w p s))) [
-          | yes u ↦
-              let x = at_some (chain_in w p s) (suc j) u in
-              let y = ih.from x.0 p s (suc j) x.1 in
-              absurd (d.lacks (Head x.0 p s (suc j)) y.0 y.1 (refl, refl, refl))
-          | no u ↦ omega arith
-        ]
+        let low = none_yet w ih n p s (suc j) d.lacks in
+        let before = at_below (chain_in w p s) j h.0 (ih.to h.0 p s j a h.1) in
+        omega arith
 
     -- the chains with one more header
     chain_head : (w : List (Role × ℕ)) (n p s j c q u : ℕ) → n ≡ suc (heads w) →

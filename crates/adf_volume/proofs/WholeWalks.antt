@@ -3,7 +3,7 @@ use Rattle.std.proofs.Common.{◌≡◌, ℕ, zero, suc, List, inl, inr, ◌+◌
 use Rattle.std.proofs.Common.{map, eq-eqb}
 use Rattle.std.specs.Prelude.{◌==◌, slice_index}
 use Rattle.std.proofs.lemmas.Bool.{eqb-true}
-use native.Mathlib.Decide.{dec_lt, ℕ_discrete}
+use native.Mathlib.Decide.{dec_lt}
 use Rattle.adf_blocks.specs.declared.layout.TheConstants.{EXTENSION, FIRST_MAP_EXT, FIRST_PAGE, FIRST_SLOT, MAP_EXT_NEXT, MAP_EXT_PAGES, NEXT_IN_CHAIN}
 use Rattle.adf_blocks.specs.declared.layout.TheConstants.{POINTERS, ROOT_PAGES, SECONDARY_TYPE, SIZE, SLOTS, ST_DIR, ST_FILE}
 use Rattle.adf_volume.specs.Lists.{At, Spelled}
@@ -121,41 +121,29 @@ module _ (image : List ℕ) (w : List (Role × ℕ)) (v : IsWalk image w) (whole
 
   pub pages_length : length (pages_in w) ≡ pages_needed (blocks image)
   pages_length =
-      elim (dec_lt (length (pages_in w)) (pages_needed (blocks image))) [
-        | yes u ↦
-            let m = page_word image w (length (pages_in w)) u (λ j y. all_map_exts image w whole j (omega arith)) in
-            let x = asked_block image w whole (Page (length (pages_in w))) m.0 m.1 m.2 (omega arith) in
-            let y : length (pages_in w) < length (pages_in w) =
-            at_below (pages_in w) (length (pages_in w)) x.0 (page_has image w v (length (pages_in w)) x.0 x.1) in
-            omega arith
-        | no u ↦ elim (dec_lt (pages_needed (blocks image)) (length (pages_in w))) [
-          | no l ↦ omega arith
-          | yes l ↦
-              let x = at_some (pages_in w) (pages_needed (blocks image)) l in
-              let y : pages_needed (blocks image) < pages_needed (blocks image) =
-              (kept image v (Page (pages_needed (blocks image))) x.0 (has_page image w v (pages_needed (blocks image)) x.0 x.1)).0 in
-              omega arith
-        ]
-      ]
+      let enough : length (pages_in w) < pages_needed (blocks image) → ⊥ = (λ u.
+      let m = page_word image w (length (pages_in w)) u (λ j y. all_map_exts image w whole j (omega arith)) in
+      let x = asked_block image w whole (Page (length (pages_in w))) m.0 m.1 m.2 (omega arith) in
+      let y = at_below (pages_in w) (length (pages_in w)) x.0 (page_has image w v (length (pages_in w)) x.0 x.1) in
+      omega arith) in
+      let few : pages_needed (blocks image) < length (pages_in w) → ⊥ = (λ l.
+      let x = at_some (pages_in w) (pages_needed (blocks image)) l in
+      let y = (kept image v (Page (pages_needed (blocks image))) x.0 (has_page image w v (pages_needed (blocks image)) x.0 x.1)).0 in
+      omega arith) in
+      omega arith
 
   pub map_exts_length : length (map_exts_in w) ≡ map_exts_needed (pages_needed (blocks image))
   map_exts_length =
-      elim (dec_lt (length (map_exts_in w)) (map_exts_needed (pages_needed (blocks image)))) [
-        | yes u ↦
-            let x = all_map_exts image w whole (length (map_exts_in w)) (map_exts_low (pages_needed (blocks image)) (length (map_exts_in w)) u) in
-            let y : length (map_exts_in w) < length (map_exts_in w) =
-            at_below (map_exts_in w) (length (map_exts_in w)) x.0 (map_ext_has image w v (length (map_exts_in w)) x.0 x.1) in
-            omega arith
-        | no u ↦ elim (dec_lt (map_exts_needed (pages_needed (blocks image))) (length (map_exts_in w))) [
-          | no l ↦ omega arith
-          | yes l ↦
-              let m : ℕ = map_exts_needed (pages_needed (blocks image)) in
-              let x = at_some (map_exts_in w) m l in
-              let y : m < map_exts_needed (pages_needed (blocks image)) =
-              map_exts_high (pages_needed (blocks image)) m (map_ext_low image w m x.0 v (has_map_ext image w v m x.0 x.1)) in
-              absurd (omega arith)
-        ]
-      ]
+      let m : ℕ = map_exts_needed (pages_needed (blocks image)) in
+      let enough : length (map_exts_in w) < m → ⊥ = (λ u.
+      let x = all_map_exts image w whole (length (map_exts_in w)) (map_exts_low (pages_needed (blocks image)) (length (map_exts_in w)) u) in
+      let y = at_below (map_exts_in w) (length (map_exts_in w)) x.0 (map_ext_has image w v (length (map_exts_in w)) x.0 x.1) in
+      omega arith) in
+      let few : m < length (map_exts_in w) → ⊥ = (λ l.
+      let x = at_some (map_exts_in w) m l in
+      let y = map_exts_high (pages_needed (blocks image)) m (map_ext_low image w m x.0 v (has_map_ext image w v m x.0 x.1)) in
+      omega arith) in
+      omega arith
 
   pub map_ext_next : (j a b : ℕ) → At (map_exts_in w) j a → At (map_exts_in w) (suc j) b → word_in image a MAP_EXT_NEXT ≡ b
   map_ext_next j a b h k =
@@ -204,14 +192,12 @@ module _ (image : List ℕ) (w : List (Role × ℕ)) (v : IsWalk image w) (whole
       let x = has_chain image w w v u.0 p s 0 u.1 in
       let k = (kept image v (Head u.0 p s 0) x.0 x.1).1 in
       ap (λ a. word_in image a (FIRST_SLOT + s)) (dir_at p k.0 k.1) ∙ k.2 ∙ sym (head_is u.0 p s 0 x.0 x.1).0 ∙ u.2)
-      (λ h. elim (ℕ_discrete (word_in image a (FIRST_SLOT + s)) 0) [
-        | yes z ↦ z
-        | no ne ↦
-            let x = asked_header image w whole (suc (heads w)) p s 0 a (FIRST_SLOT + s) (refl, lt, da, refl, ne) in
-            let y : 0 < length c = at_below c 0 x.0 (chain_has image w w v x.0 p s 0 x.1 x.2) in
-            let l : length (map (at_node image (layout_in w)) c) ≡ length c = length-map c (at_node image (layout_in w)) in
-            absurd (omega arith)
-      ])
+      (λ h.
+      let none : 0 < word_in image a (FIRST_SLOT + s) → ⊥ = (λ some.
+      let x = asked_header image w whole (suc (heads w)) p s 0 a (FIRST_SLOT + s) (refl, lt, da, refl, (λ z. omega arith)) in
+      let y = at_below c 0 x.0 (chain_has image w w v x.0 p s 0 x.1 x.2) in
+      omega (arith, length-map c (at_node image (layout_in w)))) in
+      omega arith)
       (λ j b b2 h h2.
       let u = at_unmap (at_node image (layout_in w)) c j b h in
       let u2 = at_unmap (at_node image (layout_in w)) c (suc j) b2 h2 in
@@ -225,15 +211,12 @@ module _ (image : List ℕ) (w : List (Role × ℕ)) (v : IsWalk image w) (whole
       let u = at_unmap (at_node image (layout_in w)) c j b h in
       let x = has_chain image w w v u.0 p s j u.1 in
       let y : x.0 ≡ b = sym (head_is u.0 p s j x.0 x.1).0 ∙ u.2 in
-      elim (ℕ_discrete (word_in image b NEXT_IN_CHAIN) 0) [
-        | yes z ↦ z
-        | no ne ↦
-            let x' : Has w (Head u.0 p s j) b = subst (Has w (Head u.0 p s j)) y x.1 in
-            let q = asked_header image w whole (suc (heads w)) p s (suc j) b NEXT_IN_CHAIN (refl, (u.0, x'), refl, ne) in
-            let r : suc j < length c = at_below c (suc j) q.0 (chain_has image w w v q.0 p s (suc j) q.1 q.2) in
-            let l : length (map (at_node image (layout_in w)) c) ≡ length c = length-map c (at_node image (layout_in w)) in
-            absurd (omega arith)
-      ])
+      let none : 0 < word_in image b NEXT_IN_CHAIN → ⊥ = (λ some.
+      let x' : Has w (Head u.0 p s j) b = subst (Has w (Head u.0 p s j)) y x.1 in
+      let q = asked_header image w whole (suc (heads w)) p s (suc j) b NEXT_IN_CHAIN (refl, (u.0, x'), refl, (λ z. omega arith)) in
+      let r = at_below c (suc j) q.0 (chain_has image w w v q.0 p s (suc j) q.1 q.2) in
+      omega (arith, length-map c (at_node image (layout_in w)))) in
+      omega arith)
 
   -- a file of the tree is one of the walk
   pub file_at : (n : ℕ) (e : Entry) (bytes : List ℕ) → EntryAt (tree_in image w) n e → e.body ≡ File bytes
@@ -254,35 +237,28 @@ module _ (image : List ℕ) (w : List (Role × ℕ)) (v : IsWalk image w) (whole
 
   enough_now : (n h : ℕ) → FileAt image w n h → data_count image h ≤ POINTERS * suc (ext_count w n)
   enough_now n h f =
-      elim (dec_lt 0 (data_count image h)) [
-        | yes u ↦
-            let x = asked_block image w whole (Data n 1) h (table_word 0) ((h, f, u), f, refl) (omega arith) in
-            let k = kept image v (Data n 1) x.0 x.1 in
-            let z : k.0 ≡ h = one_file n k.0 h k.1 f in
-            subst (λ h. data_count image h ≤ POINTERS * suc (ext_count w n)) z k.3
-        | no u ↦ omega arith
-      ]
+      let few : POINTERS * suc (ext_count w n) < data_count image h → ⊥ = (λ u.
+      let x = asked_block image w whole (Data n 1) h (table_word 0) ((h, f, omega arith), f, refl) (omega arith) in
+      let k = kept image v (Data n 1) x.0 x.1 in
+      let y = subst (λ h. data_count image h ≤ POINTERS * suc (ext_count w n)) (one_file n k.0 h k.1 f) k.3 in
+      omega arith) in
+      omega arith
 
   datas_length : (n h : ℕ) → FileAt image w n h → length (datas_in w n) ≡ data_count image h
   datas_length n h f =
-      elim (dec_lt (length (datas_in w n)) (data_count image h)) [
-        | yes u ↦
-            let m : ℕ = length (datas_in w n) in
-            let en = enough_now n h f in
-            let t = there image w v (λ r b h. kept image v r b h) n (m / POINTERS) h f (omega arith) in
-            let x = asked_block image w whole (Data n (suc m)) t.0 (table_word m) ((h, f, u), t.1, refl) (omega arith) in
-            let y : m < length (datas_in w n) = at_below (datas_in w n) m x.0 (data_has image w v n m x.0 x.1) in
-            absurd (omega arith)
-        | no u ↦ elim (dec_lt (data_count image h) (length (datas_in w n))) [
-          | no l ↦ omega arith
-          | yes l ↦
-              let x = at_some (datas_in w n) (data_count image h) l in
-              let k = kept image v (Data n (suc (data_count image h))) x.0 (has_data image w v n (data_count image h) x.0 x.1) in
-              let z : k.0 ≡ h = one_file n k.0 h k.1 f in
-              let y : data_count image h < data_count image h = subst (λ g. data_count image h < data_count image g) z k.2 in
-              absurd (omega arith)
-        ]
-      ]
+      let m : ℕ = length (datas_in w n) in
+      let all : m < data_count image h → ⊥ = (λ u.
+      let en = enough_now n h f in
+      let t = there image w v (λ r b h. kept image v r b h) n (m / POINTERS) h f (omega arith) in
+      let x = asked_block image w whole (Data n (suc m)) t.0 (table_word m) ((h, f, u), t.1, refl) (omega arith) in
+      let y = at_below (datas_in w n) m x.0 (data_has image w v n m x.0 x.1) in
+      omega arith) in
+      let few : data_count image h < m → ⊥ = (λ l.
+      let x = at_some (datas_in w n) (data_count image h) l in
+      let k = kept image v (Data n (suc (data_count image h))) x.0 (has_data image w v n (data_count image h) x.0 x.1) in
+      let y = subst (λ g. data_count image h < data_count image g) (one_file n k.0 h k.1 f) k.2 in
+      omega arith) in
+      omega arith
 
   exts_spelled : (n h : ℕ) → FileAt image w n h → Spelled (λ b. word_in image b EXTENSION) (word_in image h EXTENSION) (exts_in w n)
   exts_spelled n h f =
@@ -290,24 +266,22 @@ module _ (image : List ℕ) (w : List (Role × ℕ)) (v : IsWalk image w) (whole
       (λ b x.
       let k = (kept image v (Ext n 1) b (has_ext image w v n 0 b x)).0 in
       ap (λ h. word_in image h EXTENSION) (one_file n h k.0 f k.1) ∙ k.2)
-      (λ z. elim (ℕ_discrete (word_in image h EXTENSION) 0) [
-        | yes y ↦ y
-        | no ne ↦
-            let x = asked_block image w whole (Ext n 1) h EXTENSION (f, refl, ne) (omega arith) in
-            let y : 0 < length (exts_in w n) = at_below (exts_in w n) 0 x.0 (ext_has image v n 0 x.0 x.1) in
-            absurd (omega arith)
-      ])
+      (λ z.
+      let none : 0 < word_in image h EXTENSION → ⊥ = (λ some.
+      let x = asked_block image w whole (Ext n 1) h EXTENSION (f, refl, (λ z. omega arith)) (omega arith) in
+      let y = at_below (exts_in w n) 0 x.0 (ext_has image v n 0 x.0 x.1) in
+      omega arith) in
+      omega arith)
       (λ j b c x y.
       let k = (kept image v (Ext n (suc (suc j))) c (has_ext image w v n (suc j) c y)).0 in
       let e : b ≡ k.0 = at_fun (exts_in w n) j b k.0 x (ext_has image v n j k.0 k.1) in
       ap (λ b. word_in image b EXTENSION) e ∙ k.2)
-      (λ j b x e. elim (ℕ_discrete (word_in image b EXTENSION) 0) [
-        | yes y ↦ y
-        | no ne ↦
-            let q = asked_block image w whole (Ext n (suc (suc j))) b EXTENSION (has_ext image w v n j b x, refl, ne) (omega arith) in
-            let y : suc j < length (exts_in w n) = at_below (exts_in w n) (suc j) q.0 (ext_has image v n (suc j) q.0 q.1) in
-            absurd (omega arith)
-      ])
+      (λ j b x e.
+      let none : 0 < word_in image b EXTENSION → ⊥ = (λ some.
+      let q = asked_block image w whole (Ext n (suc (suc j))) b EXTENSION (has_ext image w v n j b x, refl, (λ z. omega arith)) (omega arith) in
+      let y = at_below (exts_in w n) (suc j) q.0 (ext_has image v n (suc j) q.0 q.1) in
+      omega arith) in
+      omega arith)
 
   -- a member of the table is one member
   table_is : (n h m a c : ℕ) → FileAt image w n h → TableAt image (layout_in w) n m a → MemberAt image w n m c → a ≡ c

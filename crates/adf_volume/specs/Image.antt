@@ -6,7 +6,7 @@ use Rattle.adf_tree.specs.declared.entry.Kind.{Kind}
 use Rattle.adf_tree.specs.declared.entry.Kind.TheVariants.{Ofs, Ffs}
 use Rattle.adf_tree.specs.declared.entry.Meta.{Meta}
 use Rattle.adf_tree.specs.declared.entry.Stamps.{Stamps}
-use Rattle.adf_blocks.specs.declared.layout.TheConstants.{COMMENT, DATA_BYTES, DATA_ROOM, DATE, FIRST_POINTER, MAP_EXT_PAGES, NAME, POINTERS, PROTECTION}
+use Rattle.adf_blocks.specs.declared.layout.TheConstants.{COMMENT, DATA_BYTES, DATE, FIRST_POINTER, MAP_EXT_PAGES, NAME, POINTERS, PROTECTION}
 use Rattle.adf_blocks.specs.declared.layout.TheConstants.{ROOT_PAGES, SIZE}
 use Rattle.adf_blocks.specs.Forms.{text_at, stamp_at}
 use Rattle.adf_blocks.specs.PageBlock.{IsFreeBit}
