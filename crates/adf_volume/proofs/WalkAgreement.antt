@@ -1,14 +1,13 @@
 -- Agreement: where a tree and a layout fit, each walk goes along them.
 use Rattle.std.proofs.Common.{◌≡◌, ℕ, zero, suc, List, inl, inr, ◌+◌, ◌*◌, ◌/◌, ◌<◌, ◌≤◌, ◌≢◌, length, refl, sym, ap, subst, ◌∙◌, arith, map, Bool, true}
 use Rattle.std.proofs.Common.{false, cond}
-use native.Mathlib.Decide.{dec_le}
 use Rattle.adf_blocks.specs.declared.layout.TheConstants.{EXTENSION, FIRST_SLOT, NEXT_IN_CHAIN, POINTERS, SECONDARY_TYPE, SIZE, SLOTS, ST_DIR, ST_FILE}
 use Rattle.adf_volume.specs.Lists.{At}
 use Rattle.adf_blocks.specs.Sizes.{blocks, count, pages_needed}
-use Rattle.adf_volume.specs.Image.{root_of, name_of, word_in, map_exts_needed, kind_of, held, table_word}
+use Rattle.adf_volume.specs.Image.{root_of, name_of, word_in, map_exts_needed, kind_of, table_word}
 use Rattle.adf_fields.specs.Hash.{slot_of}
 use Rattle.adf_tree.specs.Texts.{uppers}
-use Rattle.adf_volume.specs.Demands.{AllHold, head_demands, ext_demands, data_demands}
+use Rattle.adf_volume.specs.Demands.{AllHold, ext_demands}
 use Rattle.std.specs.Prelude.{slice_index, nat_lt}
 use Rattle.adf_tree.specs.declared.entry.Body.{Body}
 use Rattle.adf_tree.specs.declared.entry.Entry.{Entry}
@@ -102,35 +101,31 @@ module _ (image : List ℕ) (t : Tree) (l : Layout) (fit : Fits image t l) where
           dir_word (suc i) d.0 d.0.body refl (fit.entries (suc i) d.0 d.1).body d.2,
         )
 
+    -- the chain in which a node stands is a directory's before it, and its slot is one of the table
+    chain_of : (p s j n : ℕ) → At (chain_nodes t p s) j n → DirNode t p × (p < n) × (s < SLOTS)
+    chain_of p s j n h =
+        let e = entry_at t p s j n h in
+        let up = (ordered t fit.tree).parents n e.0 e.1 in
+        (subst (DirNode t) e.2 up.1, subst (λ p. p < n) e.2 up.0, subst (λ s. s < SLOTS) e.3 (slot_small e.0.name))
+
     -- the next node of the tree is asked for
     pub asks_next : (p s j n : ℕ) → At (chain_nodes t p s) j n → n ≡ suc (heads w) → (a i : ℕ) × Asks image w (Head n p s j) a i
     asks_next p s zero n h u =
-        let e = entry_at t p s 0 n h in
-        let up = (ordered t fit.tree).parents n e.0 e.1 in
-        let x : e.0.parent ≡ p = e.2 in
-        let y : slot_of e.0.name ≡ s = e.3 in
-        let u1 : e.0.parent < n = up.0 in
-        let d : DirNode t p = subst (λ p. DirNode t p) x up.1 in
-        let below : slot_of e.0.name < SLOTS = slot_small e.0.name in
-        let s1 : s < SLOTS = omega arith in
-        let sp = fit.chains p s (is_dir t p d) s1 in
+        let g = chain_of p s 0 n h in
+        let u1 : p < n = g.1 in
+        let sp = fit.chains p s (is_dir t p g.0) g.2 in
         let named : word_in image (at_node image l p) (FIRST_SLOT + s) ≡ at_node image l n =
         spelled_word (λ b. word_in image b NEXT_IN_CHAIN) (word_in image (at_node image l p) (FIRST_SLOT + s))
         (map (at_node image l) (chain_nodes t p s)) (at_node image l n)
         sp (at_map (at_node image l) (chain_nodes t p s) 0 n h) in
         let r = part_range image t l fit (Head n p s 0) (at_node image l n) (h, refl) in
         let r1 : 2 ≤ at_node image l n = r.0 in
-        (at_node image l p, 6 + s, (u, s1, has_dir p (omega arith) d, refl, (λ z. let k : at_node image l n ≡ 0 = sym named ∙ z in omega arith)))
+        (at_node image l p, 6 + s, (u, g.2, has_dir p (omega arith) g.0, refl, (λ z. let k : at_node image l n ≡ 0 = sym named ∙ z in omega arith)))
     asks_next p s (suc j) n h u =
         let b = at_before (chain_nodes t p s) j n h in
         let m : ℕ = b.0 in
-        let e = entry_at t p s (suc j) n h in
-        let up = (ordered t fit.tree).parents n e.0 e.1 in
-        let d : DirNode t p = subst (λ p. DirNode t p) e.2 up.1 in
-        let below : slot_of e.0.name < SLOTS = slot_small e.0.name in
-        let y : slot_of e.0.name ≡ s = e.3 in
-        let s1 : s < SLOTS = omega arith in
-        let sp = fit.chains p s (is_dir t p d) s1 in
+        let g = chain_of p s (suc j) n h in
+        let sp = fit.chains p s (is_dir t p g.0) g.2 in
         let less : m < n = chain_rises 1 t.entries p s j (suc j) m n b.1 h (omega arith) in
         let k = has_node p s j m b.1 (omega arith) in
         let z : at_node image l m ≡ k.0 = (ag (Head m p s j) k.0 k.1).1 in
@@ -152,34 +147,30 @@ module _ (image : List ℕ) (t : Tree) (l : Layout) (fit : Fits image t l) where
           ),
         )
 
+    -- and the walk lacks it
+    pub next_lacks : (p s j n : ℕ) → At (chain_nodes t p s) j n → n ≡ suc (heads w) → Lacks w (Head n p s j)
+    next_lacks p s j n h u r b has same =
+        let z = head_key n p s j r same in
+        let has' : Has w (Head z.0 p s j) b = subst (λ r. Has w r b) z.1 has in
+        let f = at_fun (chain_nodes t p s) j z.0 n (ag (Head z.0 p s j) b has').0 h in
+        let g = number_of image v z.0 p s j b has' in
+        omega arith
+
     -- what is due in a chain is the tree's next node
     number_agrees : (p s j n m a i : ℕ) → IsDue image w (Head n p s j) a i → n ≡ suc (heads w) → At (chain_nodes t p s) j m → m ≡ n
     number_agrees p s j n m a i d u h =
-        elim (dec_le m (heads w)) [
-          | yes k ↦
-              let x = has_node p s j m h k in
-              absurd (d.lacks (Head m p s j) x.0 x.1 (refl, refl, refl))
-          | no k ↦ elim (dec_le m n) [
-            | yes y ↦ omega arith
-            | no y ↦
-                let top = entry_at t p s j m h in
-                let lim : m ≤ length t.entries = entry_below t m top.0 top.1 in
-                let e = entry_some t n (omega arith) (omega arith) in
-                let q = place_at t n e.0 e.1 in
-                let ask = asks_next e.0.parent (slot_of e.0.name) q.0 n q.1 u in
-                let lack : Lacks w (Head n e.0.parent (slot_of e.0.name) q.0) =
-                (λ r b has same.
-                let z = head_key n e.0.parent (slot_of e.0.name) q.0 r same in
-                let has' : Has w (Head z.0 e.0.parent (slot_of e.0.name) q.0) b = subst (λ r. Has w r b) z.1 has in
-                let pt = ag (Head z.0 e.0.parent (slot_of e.0.name) q.0) b has' in
-                let f : z.0 ≡ n = at_fun (chain_nodes t e.0.parent (slot_of e.0.name)) q.0 z.0 n pt.0 q.1 in
-                let g : (1 ≤ z.0) × (z.0 ≤ heads w) = number_of image v z.0 e.0.parent (slot_of e.0.name) q.0 b has' in
-                omega arith) in
-                let bef : Before (Head n e.0.parent (slot_of e.0.name) q.0) (Head n p s j) =
-                sorted_places t (ordered t fit.tree) e.0.parent (slot_of e.0.name) q.0 p s j n m n n q.1 h (omega arith) in
-                absurd (d.least (Head n e.0.parent (slot_of e.0.name) q.0) ask.0 ask.1 ask.2 lack bef)
-          ]
-        ]
+        let above : m ≤ heads w → ⊥ = (λ k. let x = has_node p s j m h k in d.lacks (Head m p s j) x.0 x.1 (refl, refl, refl)) in
+        let below : n < m → ⊥ = (λ y.
+        let top = entry_at t p s j m h in
+        let lim : m ≤ length t.entries = entry_below t m top.0 top.1 in
+        let e = entry_some t n (omega arith) (omega arith) in
+        let q = place_at t n e.0 e.1 in
+        let ask = asks_next e.0.parent (slot_of e.0.name) q.0 n q.1 u in
+        let lack = next_lacks e.0.parent (slot_of e.0.name) q.0 n q.1 u in
+        let bef : Before (Head n e.0.parent (slot_of e.0.name) q.0) (Head n p s j) =
+        sorted_places t (ordered t fit.tree) e.0.parent (slot_of e.0.name) q.0 p s j n m n n q.1 h (omega arith) in
+        d.least (Head n e.0.parent (slot_of e.0.name) q.0) ask.0 ask.1 ask.2 lack bef) in
+        omega arith
 
     -- the members of a file's table agree
     pub member_agrees : (n m a : ℕ) → MemberAt image w n m a → TableAt image l n m a
@@ -242,11 +233,8 @@ module _ (image : List ℕ) (t : Tree) (l : Layout) (fit : Fits image t l) where
         let q = d.asked in
         let y = q.1 in
         let pt = ag (Head y.0 p s j) a y.1 in
-        let e = entry_at t p s j y.0 pt.0 in
-        let dir : DirNode t p = subst (DirNode t) e.2 ((ordered t fit.tree).parents y.0 e.0 e.1).1 in
-        let below : slot_of e.0.name < SLOTS = slot_small e.0.name in
-        let s0 : slot_of e.0.name ≡ s = e.3 in
-        let sp = fit.chains p s (is_dir t p dir) (omega arith) in
+        let g = chain_of p s j y.0 pt.0 in
+        let sp = fit.chains p s (is_dir t p g.0) g.2 in
         let z : word_in image (at_node image l y.0) NEXT_IN_CHAIN ≡ word_in image a i =
         ap (λ a. word_in image a NEXT_IN_CHAIN) pt.1 ∙ ap (word_in image a) (sym q.2) in
         let x : At (map (at_node image l) (chain_nodes t p s)) (suc j) (word_in image (at_node image l y.0) NEXT_IN_CHAIN) =
@@ -323,13 +311,11 @@ module _ (image : List ℕ) (t : Tree) (l : Layout) (fit : Fits image t l) where
         let ff = fit.files n g.0 g.1 g.2 g.3 in
         let c : count t.kind (length g.1) ≡ data_count image h = count_agrees n h g.1 g.4 in
         let en : count t.kind (length g.1) ≤ POINTERS * suc (length (exts_of l n)) = ff.enough in
-        elim (dec_le (length (exts_of l n)) (ext_count w n)) [
-          | yes y ↦ omega arith
-          | no y ↦
-              let x = has_exts n 0 a i h d' f (ext_count w n) (omega arith) in
-              let z : ext_count w n < ext_count w n = ext_below image v n (ext_count w n) x.0 x.1 in
-              omega arith
-        ]
+        let all : ext_count w n < length (exts_of l n) → ⊥ = (λ y.
+        let x = has_exts n 0 a i h d' f (ext_count w n) (omega arith) in
+        let z = ext_below image v n (ext_count w n) x.0 x.1 in
+        omega arith) in
+        omega arith
     enough_due _ a i d = tt
 
     table_there : (n d0 a i h m : ℕ) → IsDue image w (Data n (suc d0)) a i → FileAt image w n h → m ≤ length (exts_of l n) → (c : ℕ) × MemberAt image w n m c
@@ -366,10 +352,7 @@ module _ (image : List ℕ) (t : Tree) (l : Layout) (fit : Fits image t l) where
         let z : at_node image l e.0.parent ≡ node_block w p =
         sym (node_is image w e.0.parent (at_node image l e.0.parent) v (dir_is_node image w e.0.parent (at_node image l e.0.parent) dir))
         ∙ ap (node_block w) e.2 in
-        subst (λ k. AllHold (head_demands image k b (node_block w p) s)) fit.kind
-        (subst (λ b. AllHold (head_demands image t.kind b (node_block w p) s)) h.1
-        (subst (λ c. AllHold (head_demands image t.kind (at_node image l n) c s)) z
-        (subst (λ s. AllHold (head_demands image t.kind (at_node image l n) (at_node image l e.0.parent) s)) e.3 ef.form)))
+        rw (← fit.kind, ← h.1, ← e.3, ← z) ef.form
 
     ext_form : (n k a i b : ℕ) → IsDue image w (Ext n (suc k)) a i → At (exts_of l n) k b → AllHold (ext_demands image b (node_block w n))
     ext_form n k a i b d h =
@@ -390,13 +373,7 @@ module _ (image : List ℕ) (t : Tree) (l : Layout) (fit : Fits image t l) where
         let size : length g.1 ≡ word_in image (node_block w n) SIZE = g.4 ∙ ap (λ h. word_in image h SIZE) z0 in
         let next : next_data image w n (suc k) ≡ slice_index (datas_of l n) (suc k) =
         next_agrees n k a i f.0 g.1 d f.1 ff c (nat_lt (suc k) (data_count image (node_block w n))) refl (at_below (datas_of l n) k b h) in
-        let y = ff.data_form k b h in
-        subst (λ x. AllHold (data_demands image (kind_of image) b (node_block w n) (suc k)
-        (held (kind_of image) (word_in image (node_block w n) SIZE) (suc k)) x)) (sym next)
-        (subst (λ z. AllHold (data_demands image (kind_of image) b (node_block w n) (suc k) (held (kind_of image) z (suc k))
-        (slice_index (datas_of l n) (suc k)))) size
-        (subst (λ y. AllHold (data_demands image y b (node_block w n) (suc k) (held y (length g.1) (suc k)) (slice_index (datas_of l n) (suc k)))) fit.kind
-        (subst (λ h. AllHold (data_demands image t.kind b h (suc k) (held t.kind (length g.1) (suc k)) (slice_index (datas_of l n) (suc k)))) z y)))
+        rw (next, ← size, ← fit.kind, ← z) (ff.data_form k b h)
 
     form_due : (r : Role) (a i b : ℕ) → IsDue image w r a i → LayoutHas image t l r b → AllHold (form_demands image w r b)
     form_due Root a i b d h = tt

@@ -1,6 +1,5 @@
 -- Completeness: where a tree and a layout fit, a walk that asks for nothing more has all their parts.
 use Rattle.std.proofs.Common.{◌≡◌, ℕ, zero, suc, List, ◌+◌, ◌*◌, ◌/◌, ◌<◌, ◌≤◌, length, refl, sym, ap, subst, ◌∙◌, arith}
-use native.Mathlib.Decide.{dec_le}
 use Rattle.adf_blocks.specs.declared.layout.TheConstants.{EXTENSION, FIRST_MAP_EXT, MAP_EXT_NEXT, MAP_EXT_PAGES, POINTERS, ROOT_PAGES, SECONDARY_TYPE}
 use Rattle.adf_blocks.specs.declared.layout.TheConstants.{ST_FILE}
 use Rattle.adf_volume.specs.Lists.{At}
@@ -10,18 +9,18 @@ use Rattle.adf_fields.specs.Hash.{slot_of}
 use Rattle.adf_tree.specs.declared.entry.Body.{Body}
 use Rattle.adf_tree.specs.declared.entry.Entry.{Entry}
 use Rattle.adf_tree.specs.Tree.{Tree}
-use Rattle.adf_volume.specs.Layout.{EntryAt, chain_nodes, Layout, at_node, exts_of, datas_of}
+use Rattle.adf_volume.specs.Layout.{EntryAt, Layout, at_node, exts_of, datas_of}
 use Rattle.adf_tree.specs.declared.entry.Body.TheVariants.{Dir, File}
 use Rattle.adf_volume.specs.Fits.{Fits, BodyFits}
-use Rattle.adf_volume.specs.Walk.{Role, Has, heads, FileAt, MemberAt, data_count, Lacks, IsWalk, IsWhole}
+use Rattle.adf_volume.specs.Walk.{Role, Has, heads, FileAt, MemberAt, data_count, IsWalk, IsWhole}
 use Rattle.adf_volume.specs.Walk.Role.{Root, Page, MapExt, Head, Ext, Data}
 use Rattle.adf_volume.specs.LayoutRoles.{LayoutHas}
 use Rattle.adf_volume.proofs.Lists.{at_fun, at_below, at_some, at_before, spelled_word, spelled_link}
 use Rattle.adf_volume.proofs.Chains.{entry_at, entry_fun, entry_below, entry_some, place_at}
-use Rattle.adf_volume.proofs.Walks.{root_in, number_of, numbered, page_word, asked_block, head_key}
+use Rattle.adf_volume.proofs.Walks.{root_in, numbered, page_word, asked_block}
 use Rattle.adf_volume.proofs.Images.{map_exts_high, map_exts_low}
 use Rattle.adf_volume.proofs.LayoutRoles.{part_range}
-use Rattle.adf_volume.proofs.WalkAgreement.{agreement, file_agrees, count_agrees, has_node, asks_next, is_file}
+use Rattle.adf_volume.proofs.WalkAgreement.{next_lacks, agreement, file_agrees, count_agrees, has_node, asks_next, is_file}
 use Rattle.adf_volume.proofs.Places.{datas_below}
 
 file_word : (image : List ℕ) (t : Tree) (l : Layout) (n : ℕ) (e : Entry) (b : Body) (bytes : List ℕ) → b ≡ e.body
@@ -41,23 +40,14 @@ module _ (image : List ℕ) (t : Tree) (l : Layout) (fit : Fits image t l) (w : 
   -- the walk has as many headers as the tree has entries
   all_heads : length t.entries ≤ heads w
   all_heads =
-      elim (dec_le (length t.entries) (heads w)) [
-        | yes y ↦ y
-        | no y ↦
-            let n : ℕ = suc (heads w) in
-            let e = entry_some t n (omega arith) (omega arith) in
-            let q = place_at t n e.0 e.1 in
-            let ask = asks_next image t l fit w v ag e.0.parent (slot_of e.0.name) q.0 n q.1 refl in
-            let lack : Lacks w (Head n e.0.parent (slot_of e.0.name) q.0) =
-            (λ r b has same.
-            let z = head_key n e.0.parent (slot_of e.0.name) q.0 r same in
-            let has' : Has w (Head z.0 e.0.parent (slot_of e.0.name) q.0) b = subst (λ r. Has w r b) z.1 has in
-            let pt = ag (Head z.0 e.0.parent (slot_of e.0.name) q.0) b has' in
-            let f : z.0 ≡ n = at_fun (chain_nodes t e.0.parent (slot_of e.0.name)) q.0 z.0 n pt.0 q.1 in
-            let g : (1 ≤ z.0) × (z.0 ≤ heads w) = number_of image v z.0 e.0.parent (slot_of e.0.name) q.0 b has' in
-            omega arith) in
-            absurd (whole (Head n e.0.parent (slot_of e.0.name) q.0) ask.0 ask.1 ask.2 lack)
-      ]
+      let n : ℕ = suc (heads w) in
+      let more : heads w < length t.entries → ⊥ = (λ y.
+      let e = entry_some t n (omega arith) (omega arith) in
+      let q = place_at t n e.0 e.1 in
+      let ask = asks_next image t l fit w v ag e.0.parent (slot_of e.0.name) q.0 n q.1 refl in
+      whole (Head n e.0.parent (slot_of e.0.name) q.0) ask.0 ask.1 ask.2
+      (next_lacks image t l fit w v ag e.0.parent (slot_of e.0.name) q.0 n q.1 refl)) in
+      omega arith
 
   has_file : (n : ℕ) (e : Entry) (bytes : List ℕ) → EntryAt t n e → e.body ≡ File bytes → FileAt image w n (at_node image l n)
   has_file n e bytes h f =
@@ -129,12 +119,8 @@ module _ (image : List ℕ) (t : Tree) (l : Layout) (fit : Fits image t l) (w : 
       let u : suc j < length l.map_exts = at_below l.map_exts (suc j) b h in
       let p : length l.map_exts ≡ map_exts_needed (pages_needed (blocks image)) = fit.map_exts in
       let c = at_before l.map_exts j b h in
-      let x = asked_block image w whole (MapExt (suc j)) c.0 MAP_EXT_NEXT (
-        map_exts_low (pages_needed (blocks image)) (suc j) (omega arith),
-        all_map_exts j c.0
-            c.1,
-        refl,
-      ) (omega arith) in
+      let x = asked_block image w whole (MapExt (suc j)) c.0 MAP_EXT_NEXT
+      (map_exts_low (pages_needed (blocks image)) (suc j) (omega arith), all_map_exts j c.0 c.1, refl) (omega arith) in
       subst (Has w (MapExt (suc j))) (at_fun l.map_exts (suc j) x.0 b (ag (MapExt (suc j)) x.0 x.1) h) x.1
 
   some_map_ext : (j : ℕ) → ROOT_PAGES + MAP_EXT_PAGES * j < pages_needed (blocks image) → (a : ℕ) × Has w (MapExt j) a

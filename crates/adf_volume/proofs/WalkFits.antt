@@ -12,7 +12,7 @@ use Rattle.adf_volume.specs.Walk.Role.{Page, MapExt}
 use Rattle.adf_volume.specs.Made.{tree_in, layout_in}
 use Rattle.adf_volume.specs.LayoutRoles.{owner_of}
 use Rattle.adf_volume.proofs.MemberFacts.{kept, in_range}
-use Rattle.adf_volume.proofs.WalkMembers.{entries_length, places_length, page_has, has_page, has_map_ext}
+use Rattle.adf_volume.proofs.WalkMembers.{entries_length, places_length, pages, map_exts}
 use Rattle.adf_volume.proofs.WholeWalks.{chains_spelled, content_long, entry_fits, ext_names, file_at, file_fits, is_tree, map_ext_next, map_exts_length}
 use Rattle.adf_volume.proofs.WholeWalks.{pages_length, root_names}
 use Rattle.adf_volume.proofs.WalkOwners.{is_owned, owned_has, once}
@@ -39,13 +39,13 @@ module _ (image : List ℕ) (w : List (Role × ℕ)) (v : IsWalk image w) (whole
     places = places_length image w w ∙ sym (entries_length image w w);
     pages = pages_length image w v whole;
     map_exts = map_exts_length image w v whole;
-    map_first = (λ b h. (kept image v (MapExt 0) b (has_map_ext image w v 0 b h)).1);
+    map_first = (λ b h. (kept image v (MapExt 0) b ((map_exts image v).from 0 b h)).1);
     map_next = map_ext_next image w v whole;
-    page_named = (λ k b lt h. let x = (kept image v (Page k) b (has_page image w v k b h)).1 in root_names image w v whole k b x.0 x.1 lt x.2 x.3);
+    page_named = (λ k b lt h. let x = (kept image v (Page k) b ((pages image v).from k b h)).1 in root_names image w v whole k b x.0 x.1 lt x.2 x.3);
     page_listed = (λ j i a b lt h k.
-        let x = (kept image v (Page (ROOT_PAGES + MAP_EXT_PAGES * j + i)) b (has_page image w v (ROOT_PAGES + MAP_EXT_PAGES * j + i) b k)).1 in
+        let x = (kept image v (Page (ROOT_PAGES + MAP_EXT_PAGES * j + i)) b ((pages image v).from (ROOT_PAGES + MAP_EXT_PAGES * j + i) b k)).1 in
         (ext_names image w v whole) j i a b x.0 x.1 lt h x.2 x.3);
-    page_form = (λ k b h. (kept image v (Page k) b (has_page image w v k b h)).2);
+    page_form = (λ k b h. (kept image v (Page k) b ((pages image v).from k b h)).2);
     entries = entry_fits image w v whole boots;
     chains = (λ p s d lt. (chains_spelled image w v whole) p s (dir_node (tree_in image w) p d) lt);
     files = (λ n e bytes h f.
@@ -57,7 +57,7 @@ module _ (image : List ℕ) (w : List (Role × ℕ)) (v : IsWalk image w) (whole
     bitmap = (λ b lo hi.
         let s2 : 4 ≤ blocks image = (size_low (blocks image) boots.0.1) in
         let x = bitmap_at 2 (blocks image - 2) b bits lo (omega arith) in (
-          (λ f o i. let r = owned_has image w v whole o b i in x.1 (f.0, has_page image w v ((b - 2) / PAGE_BITS) f.0 f.1, f.2) r.0 r.1),
-          (λ f. let y = x.0 (λ q h. f (owner_of q) (is_owned image w v whole q b h)) in (y.0, page_has image w v ((b - 2) / PAGE_BITS) y.0 y.1, y.2)),
+          (λ f o i. let r = owned_has image w v whole o b i in x.1 (f.0, (pages image v).from ((b - 2) / PAGE_BITS) f.0 f.1, f.2) r.0 r.1),
+          (λ f. let y = x.0 (λ q h. f (owner_of q) (is_owned image w v whole q b h)) in (y.0, (pages image v).to ((b - 2) / PAGE_BITS) y.0 y.1, y.2)),
         ));
   }

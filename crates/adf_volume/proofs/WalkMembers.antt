@@ -23,9 +23,9 @@ use Rattle.adf_volume.proofs.MemberFacts.{kept, there, enough, map_ext_down}
 use Rattle.adf_volume.proofs.Comparisons.{both_equal, equal_both}
 
 -- the blocks that a test picks are those of one kind of role, by their numbers
-record Lists (f : Role → Bool) (role : ℕ → Role) (w : List (Role × ℕ)) : Type 0 where
-  to : (k b : ℕ) → Has w (role k) b → At (picked f w) k b
-  from : (k b : ℕ) → At (picked f w) k b → Has w (role k) b
+pub record Lists (f : Role → Bool) (role : ℕ → Role) (w : List (Role × ℕ)) : Type 0 where
+  pub to : (k b : ℕ) → Has w (role k) b → At (picked f w) k b
+  pub from : (k b : ℕ) → At (picked f w) k b → Has w (role k) b
 
 -- a role that is lacked has no place yet
 not_yet : {f : Role → Bool} {role : ℕ → Role} {w : List (Role × ℕ)} → Lists f role w → (k : ℕ) → Lacks w (role k) → length (picked f w) ≤ k
@@ -205,17 +205,11 @@ module _ (image : List ℕ) where
   page_only (Page k) t = (k, refl)
   page_only _ t = cc
 
-  pages : {w : List (Role × ℕ)} → IsWalk image w → Lists is_page Page w
+  pub pages : {w : List (Role × ℕ)} → IsWalk image w → Lists is_page Page w
   pages start = none_listed is_page Page (λ k. refl) (root_of image) refl
   pages (step {w = w} {r = q} {b = c} {a = a} {i = i} v d e g) =
       one_more is_page Page (λ k. refl) w q c (λ k m z. cc) (pages v)
       (λ t. let x = page_only q t in x.1 ∙ ap Page (next_page w v (pages v) x.0 a i (subst (λ r. IsDue image w r a i) x.1 d)))
-
-  pub page_has : (w : List (Role × ℕ)) → IsWalk image w → (k b : ℕ) → Has w (Page k) b → At (pages_in w) k b
-  page_has w v k b h = (pages v).to k b h
-
-  pub has_page : (w : List (Role × ℕ)) → IsWalk image w → (k b : ℕ) → At (pages_in w) k b → Has w (Page k) b
-  has_page w v k b h = (pages v).from k b h
 
   -- the bitmap extension blocks
   next_map_ext : (w : List (Role × ℕ)) → IsWalk image w → Lists is_map_ext MapExt w → (j a i : ℕ) → IsDue image w (MapExt j) a i → j ≡ length (map_exts_in w)
@@ -229,17 +223,11 @@ module _ (image : List ℕ) where
   map_ext_only (MapExt k) t = (k, refl)
   map_ext_only _ t = cc
 
-  map_exts : {w : List (Role × ℕ)} → IsWalk image w → Lists is_map_ext MapExt w
+  pub map_exts : {w : List (Role × ℕ)} → IsWalk image w → Lists is_map_ext MapExt w
   map_exts start = none_listed is_map_ext MapExt (λ k. refl) (root_of image) refl
   map_exts (step {w = w} {r = q} {b = c} {a = a} {i = i} v d e g) =
       one_more is_map_ext MapExt (λ k. refl) w q c (λ k m z. cc) (map_exts v)
       (λ t. let x = map_ext_only q t in x.1 ∙ ap MapExt (next_map_ext w v (map_exts v) x.0 a i (subst (λ r. IsDue image w r a i) x.1 d)))
-
-  pub map_ext_has : (w : List (Role × ℕ)) → IsWalk image w → (j b : ℕ) → Has w (MapExt j) b → At (map_exts_in w) j b
-  map_ext_has w v j b h = (map_exts v).to j b h
-
-  pub has_map_ext : (w : List (Role × ℕ)) → IsWalk image w → (j b : ℕ) → At (map_exts_in w) j b → Has w (MapExt j) b
-  has_map_ext w v j b h = (map_exts v).from j b h
 
   -- the slot of a header's name
   pub slot_is : (w : List (Role × ℕ)) → IsWalk image w → (n p s j b : ℕ) → Has w (Head n p s j) b → slot_of (name_of image b) ≡ s
@@ -250,9 +238,9 @@ module _ (image : List ℕ) where
     abbrev chain_in : List (Role × ℕ) → ℕ → ℕ → List ℕ
     chain_in w p s = nodes_from 1 (entries_in image full w) p s
 
-    record Chains (w : List (Role × ℕ)) : Type 0 where
-      to : (n p s j b : ℕ) → Has w (Head n p s j) b → At (chain_in w p s) j n
-      from : (n p s j : ℕ) → At (chain_in w p s) j n → (b : ℕ) × Has w (Head n p s j) b
+    pub record Chains (w : List (Role × ℕ)) : Type 0 where
+      pub to : (n p s j b : ℕ) → Has w (Head n p s j) b → At (chain_in w p s) j n
+      pub from : (n p s j : ℕ) → At (chain_in w p s) j n → (b : ℕ) × Has w (Head n p s j) b
 
     none_yet : (w : List (Role × ℕ)) → Chains w → (n p s j : ℕ) → Lacks w (Head n p s j) → length (chain_in w p s) ≤ j
     none_yet w ih n p s j lacks =
@@ -315,7 +303,7 @@ module _ (image : List ℕ) where
         go false z y = old (subst (λ xs. At xs j n) (append-nil (chain_in w p s)) y)
     chain_split w _ c n p s j num ih h = let x = ih n p s j h in (x.0, inr x.1)
 
-    chains : {w : List (Role × ℕ)} → IsWalk image w → Chains w
+    pub chains : {w : List (Role × ℕ)} → IsWalk image w → Chains w
     chains start = record {
       to = (λ n p s j b h. elim h [ inl e ↦ let x : second Root ≡ second (Head n p s j) = ap second e.0 in absurd (omega arith) | inr f ↦ absurd f ]);
       from = (λ n p s j h. absurd h);
@@ -341,10 +329,3 @@ module _ (image : List ℕ) where
           ]);
           from = (λ n p s j h. chain_split w r c n p s j num ih.from h);
         }
-
-    pub chain_has : (w : List (Role × ℕ)) → IsWalk image w → (n p s j b : ℕ) → Has w (Head n p s j) b → At (nodes_from 1 (entries_in image full w) p s) j n
-    chain_has w v n p s j b h = (chains v).to n p s j b h
-
-    pub has_chain : (w : List (Role × ℕ)) → IsWalk image w → (n p s j : ℕ) → At (nodes_from 1 (entries_in image full w) p s) j n
-        → (b : ℕ) × Has w (Head n p s j) b
-    has_chain w v n p s j h = (chains v).from n p s j h

@@ -15,7 +15,7 @@ use Rattle.adf_volume.proofs.LayoutRoles.{Stands, owned_stands, owned_head, owne
 use Rattle.adf_volume.proofs.LayoutRoles.Stands.{in_head, in_ext, in_data}
 use Rattle.adf_volume.proofs.Owners.{once_owned, blocks_once}
 use Rattle.adf_volume.proofs.MemberFacts.{kept}
-use Rattle.adf_volume.proofs.WalkMembers.{places_length, ext_has, has_ext, data_has, has_data, page_has, has_page, map_ext_has, has_map_ext}
+use Rattle.adf_volume.proofs.WalkMembers.{places_length, ext_has, has_ext, data_has, has_data, pages, map_exts}
 use Rattle.adf_volume.proofs.WholeWalks.{file_parts, head_is}
 use Rattle.adf_volume.proofs.Places.{exts_below, datas_below}
 
@@ -30,12 +30,12 @@ module _ (image : List ℕ) (w : List (Role × ℕ)) (v : IsWalk image w) (whole
   is_owned (Page k) b h =
       let z : 0 + k ≡ k = omega arith in
       inr (in_left (numbered APage 0 (pages_in w)) (numbered AMapExt 0 (map_exts_in w) ++ owned_from 1 (places_in w w)) (APage k, b)
-      (subst (λ k. In (numbered APage 0 (pages_in w)) (APage k, b)) z (in_numbered APage 0 (pages_in w) k b (page_has image w v k b h))))
+      (subst (λ k. In (numbered APage 0 (pages_in w)) (APage k, b)) z (in_numbered APage 0 (pages_in w) k b ((pages image v).to k b h))))
   is_owned (MapExt k) b h =
       let z : 0 + k ≡ k = omega arith in
       inr (in_right (numbered APage 0 (pages_in w)) (numbered AMapExt 0 (map_exts_in w) ++ owned_from 1 (places_in w w)) (AMapExt k, b)
       (in_left (numbered AMapExt 0 (map_exts_in w)) (owned_from 1 (places_in w w)) (AMapExt k, b)
-      (subst (λ k. In (numbered AMapExt 0 (map_exts_in w)) (AMapExt k, b)) z (in_numbered AMapExt 0 (map_exts_in w) k b (map_ext_has image w v k b h)))))
+      (subst (λ k. In (numbered AMapExt 0 (map_exts_in w)) (AMapExt k, b)) z (in_numbered AMapExt 0 (map_exts_in w) k b ((map_exts image v).to k b h)))))
   is_owned (Head zero p s j) b h = let u : (1 ≤ 0) × (0 ≤ heads w) = number_of image v 0 p s j b h in absurd (omega arith)
   is_owned (Head (suc i) p s j) b h =
       let l : length (places_in w w) ≡ heads w = places_length image w w in
@@ -96,11 +96,11 @@ module _ (image : List ℕ) (w : List (Role × ℕ)) (v : IsWalk image w) (whole
   owned_has o b (inr h) =
       elim (in_cases (numbered APage 0 (pages_in w)) (numbered AMapExt 0 (map_exts_in w) ++ owned_from 1 (places_in w w)) (o, b) h) [
         | inl g ↦
-            let r = numbered_at APage 0 (pages_in w) o b g in let y : 0 + r.0 ≡ r.0 = omega arith in (Page r.0, has_page image w v r.0 b r.1, r.2 ∙ ap APage y)
+            let r = numbered_at APage 0 (pages_in w) o b g in let y : 0 + r.0 ≡ r.0 = omega arith in (Page r.0, (pages image v).from r.0 b r.1, r.2 ∙ ap APage y)
         | inr g ↦ elim (in_cases (numbered AMapExt 0 (map_exts_in w)) (owned_from 1 (places_in w w)) (o, b) g) [
           | inl f ↦
               let r = numbered_at AMapExt 0 (map_exts_in w) o b f in
-              let y : 0 + r.0 ≡ r.0 = omega arith in (MapExt r.0, has_map_ext image w v r.0 b r.1, r.2 ∙ ap AMapExt y)
+              let y : 0 + r.0 ≡ r.0 = omega arith in (MapExt r.0, (map_exts image v).from r.0 b r.1, r.2 ∙ ap AMapExt y)
           | inr f ↦ stands_has o b (owned_stands 1 (places_in w w) o b f)
         ]
       ]

@@ -174,16 +174,12 @@ module _ (image : List ℕ) where
       → ((k : ℕ) → k < ext_count w n → (b : ℕ) × Has w (Ext n (suc k)) b) → k ≡ suc (ext_count w n)
   next_ext w v n zero a i d ih = absurd d.asked
   next_ext w v n (suc zero) a i d ih =
-      elim (dec_lt 0 (ext_count w n)) [
-        | yes k ↦ let x = ih 0 k in absurd (d.lacks (Ext n 1) x.0 x.1 (refl, refl, refl))
-        | no k ↦ omega arith
-      ]
+      let none : 0 < ext_count w n → ⊥ = (λ k. let x = ih 0 k in d.lacks (Ext n 1) x.0 x.1 (refl, refl, refl)) in
+      omega arith
   next_ext w v n (suc (suc k)) a i d ih =
-      let lo : k < ext_count w n = ext_below v n k a d.asked.0 in
-      elim (dec_lt (suc k) (ext_count w n)) [
-        | yes u ↦ let x = ih (suc k) u in absurd (d.lacks (Ext n (suc (suc k))) x.0 x.1 (refl, refl, refl))
-        | no u ↦ omega arith
-      ]
+      let lo = ext_below v n k a d.asked.0 in
+      let none : suc k < ext_count w n → ⊥ = (λ u. let x = ih (suc k) u in d.lacks (Ext n (suc (suc k))) x.0 x.1 (refl, refl, refl)) in
+      omega arith
 
   counted_step : {w : List (Role × ℕ)} {r : Role} {b a i : ℕ} → IsWalk image w → IsDue image w r a i → (n k : ℕ)
       → ((k : ℕ) → k < ext_count w n → (b : ℕ) × Has w (Ext n (suc k)) b) → (q : Role) → r ≡ q → k < ext_count_of n q (ext_count w n)
@@ -194,12 +190,12 @@ module _ (image : List ℕ) where
             elim (dec_lt k (ext_count w n)) [
               | yes l ↦ let x = ih k l in (x.0, inr x.1)
               | no l ↦
-                  let d' : IsDue image w (Ext n j) a i = subst (λ r. IsDue image w r a i) (e ∙ ap (λ m. Ext m j) (sym y.1)) d in
-                  let z : j ≡ suc (ext_count w n) = next_ext w v n j a i d' ih in
+                  let nm : m ≡ n = sym y.1 in
+                  let z = next_ext w v n j a i (subst (λ r. IsDue image w r a i) (e ∙ ap (λ m. Ext m j) nm) d) ih in
                   let h' : k < suc (ext_count w n) = rw y.0 at h in
                   let same : j ≡ suc k = omega arith in
-                  let nm : m ≡ n = sym y.1 in
-                  (b, inl (e ∙ ap (λ m. Ext m j) nm ∙ ap (Ext n) same, refl))
+                  let role : r ≡ Ext n (suc k) = cc in
+                  (b, inl (role, refl))
             ]
         | inr y ↦ let h' : k < ext_count w n = rw y.0 at h in let x = ih k h' in (x.0, inr x.1)
       ]

@@ -26,8 +26,8 @@ use Rattle.adf_volume.proofs.Lists.{at_fun, at_below, at_some, at_unmap, spelled
 use Rattle.adf_volume.proofs.Walks.{root_is, root_in, number_of, one_head, one_block, ext_file, asked_block, asked_header, page_word}
 use Rattle.adf_volume.proofs.WalkOrder.{parent_below, in_order}
 use Rattle.adf_volume.proofs.MemberFacts.{kept, there, IsNext, new_names, in_range, map_ext_low}
-use Rattle.adf_volume.proofs.WalkMembers.{entry_has, place_has, has_entry, exts_length, ext_has, has_ext, data_has, has_data, page_has, has_page, map_ext_has}
-use Rattle.adf_volume.proofs.WalkMembers.{has_map_ext, slot_is, chain_has, has_chain}
+use Rattle.adf_volume.proofs.WalkMembers.{entry_has, place_has, has_entry, exts_length, ext_has, has_ext, data_has, has_data, pages}
+use Rattle.adf_volume.proofs.WalkMembers.{map_exts, slot_is, chains}
 use Rattle.adf_volume.proofs.Places.{place_parts}
 use Rattle.std.proofs.lemmas.List.{length-map}
 use Rattle.adf_volume.proofs.Sizes.{size_low}
@@ -114,8 +114,7 @@ module _ (image : List ℕ) (w : List (Role × ℕ)) (v : IsWalk image w) (whole
         sym (ap (λ (z : Entry). uppers z.name) x.5) ∙ u ∙ ap (λ (z : Entry). uppers z.name) y.5 in
         let s1 : x.1 ≡ y.1 = sym (slot_is image w v n x.0 x.1 x.2 x.3 x.4) ∙ same_slot (name_of image x.3) (name_of image y.3) nm
         ∙ slot_is image w v m y.0 y.1 y.2 y.3 y.4 in
-        let y4 : Has w (Head m x.0 x.1 y.2) y.3 =
-        subst (λ p. Has w (Head m p x.1 y.2) y.3) (sym p1) (subst (λ s. Has w (Head m y.0 s y.2) y.3) (sym s1) y.4) in
+        let y4 : Has w (Head m x.0 x.1 y.2) y.3 = rw (p1, s1) y.4 in
         new_names image v n m x.0 x.1 x.2 y.2 x.3 y.3 x.4 y4 ne nm);
   }
 
@@ -124,11 +123,11 @@ module _ (image : List ℕ) (w : List (Role × ℕ)) (v : IsWalk image w) (whole
       let enough : length (pages_in w) < pages_needed (blocks image) → ⊥ = (λ u.
       let m = page_word image w (length (pages_in w)) u (λ j y. all_map_exts image w whole j (omega arith)) in
       let x = asked_block image w whole (Page (length (pages_in w))) m.0 m.1 m.2 (omega arith) in
-      let y = at_below (pages_in w) (length (pages_in w)) x.0 (page_has image w v (length (pages_in w)) x.0 x.1) in
+      let y = at_below (pages_in w) (length (pages_in w)) x.0 ((pages image v).to (length (pages_in w)) x.0 x.1) in
       omega arith) in
       let few : pages_needed (blocks image) < length (pages_in w) → ⊥ = (λ l.
       let x = at_some (pages_in w) (pages_needed (blocks image)) l in
-      let y = (kept image v (Page (pages_needed (blocks image))) x.0 (has_page image w v (pages_needed (blocks image)) x.0 x.1)).0 in
+      let y = (kept image v (Page (pages_needed (blocks image))) x.0 ((pages image v).from (pages_needed (blocks image)) x.0 x.1)).0 in
       omega arith) in
       omega arith
 
@@ -137,18 +136,18 @@ module _ (image : List ℕ) (w : List (Role × ℕ)) (v : IsWalk image w) (whole
       let m : ℕ = map_exts_needed (pages_needed (blocks image)) in
       let enough : length (map_exts_in w) < m → ⊥ = (λ u.
       let x = all_map_exts image w whole (length (map_exts_in w)) (map_exts_low (pages_needed (blocks image)) (length (map_exts_in w)) u) in
-      let y = at_below (map_exts_in w) (length (map_exts_in w)) x.0 (map_ext_has image w v (length (map_exts_in w)) x.0 x.1) in
+      let y = at_below (map_exts_in w) (length (map_exts_in w)) x.0 ((map_exts image v).to (length (map_exts_in w)) x.0 x.1) in
       omega arith) in
       let few : m < length (map_exts_in w) → ⊥ = (λ l.
       let x = at_some (map_exts_in w) m l in
-      let y = map_exts_high (pages_needed (blocks image)) m (map_ext_low image w m x.0 v (has_map_ext image w v m x.0 x.1)) in
+      let y = map_exts_high (pages_needed (blocks image)) m (map_ext_low image w m x.0 v ((map_exts image v).from m x.0 x.1)) in
       omega arith) in
       omega arith
 
   pub map_ext_next : (j a b : ℕ) → At (map_exts_in w) j a → At (map_exts_in w) (suc j) b → word_in image a MAP_EXT_NEXT ≡ b
   map_ext_next j a b h k =
-      let y = (kept image v (MapExt (suc j)) b (has_map_ext image w v (suc j) b k)).1 in
-      let e : a ≡ y.0 = at_fun (map_exts_in w) j a y.0 h (map_ext_has image w v j y.0 y.1) in
+      let y = (kept image v (MapExt (suc j)) b ((map_exts image v).from (suc j) b k)).1 in
+      let e : a ≡ y.0 = at_fun (map_exts_in w) j a y.0 h ((map_exts image v).to j y.0 y.1) in
       ap (λ a. word_in image a MAP_EXT_NEXT) e ∙ y.2
 
   pub root_names : (k b a i : ℕ) → k < ROOT_PAGES → NamesPage image w k a i → word_in image a i ≡ b → word_in image (root_of image) (FIRST_PAGE + k) ≡ b
@@ -164,7 +163,7 @@ module _ (image : List ℕ) (w : List (Role × ℕ)) (v : IsWalk image w) (whole
       let z : ROOT_PAGES + MAP_EXT_PAGES * j + i ≡ ROOT_PAGES + MAP_EXT_PAGES * x.0 + m = x.3 in
       let ej : x.0 ≡ j = omega arith in
       let ei : i ≡ m = omega arith in
-      let ea : c ≡ a = at_fun (map_exts_in w) j c a h (subst (λ j. At (map_exts_in w) j a) ej (map_ext_has image w v x.0 a x.1)) in
+      let ea : c ≡ a = at_fun (map_exts_in w) j c a h (subst (λ j. At (map_exts_in w) j a) ej ((map_exts image v).to x.0 a x.1)) in
       ap (word_in image c) ei ∙ ap (λ c. word_in image c m) ea ∙ e
 
   is_dir_at : (p : ℕ) → DirNode (tree_in image w) p → DirAt image w p (at_node image (layout_in w) p)
@@ -189,32 +188,32 @@ module _ (image : List ℕ) (w : List (Role × ℕ)) (v : IsWalk image w) (whole
       spelled_from (λ b. word_in image b NEXT_IN_CHAIN) (word_in image a (FIRST_SLOT + s)) (map (at_node image (layout_in w)) c)
       (λ b h.
       let u = at_unmap (at_node image (layout_in w)) c 0 b h in
-      let x = has_chain image w w v u.0 p s 0 u.1 in
+      let x = (chains image w v).from u.0 p s 0 u.1 in
       let k = (kept image v (Head u.0 p s 0) x.0 x.1).1 in
       ap (λ a. word_in image a (FIRST_SLOT + s)) (dir_at p k.0 k.1) ∙ k.2 ∙ sym (head_is u.0 p s 0 x.0 x.1).0 ∙ u.2)
       (λ h.
       let none : 0 < word_in image a (FIRST_SLOT + s) → ⊥ = (λ some.
       let x = asked_header image w whole (suc (heads w)) p s 0 a (FIRST_SLOT + s) (refl, lt, da, refl, (λ z. omega arith)) in
-      let y = at_below c 0 x.0 (chain_has image w w v x.0 p s 0 x.1 x.2) in
+      let y = at_below c 0 x.0 ((chains image w v).to x.0 p s 0 x.1 x.2) in
       omega (arith, length-map c (at_node image (layout_in w)))) in
       omega arith)
       (λ j b b2 h h2.
       let u = at_unmap (at_node image (layout_in w)) c j b h in
       let u2 = at_unmap (at_node image (layout_in w)) c (suc j) b2 h2 in
-      let x = has_chain image w w v u.0 p s j u.1 in
-      let x2 = has_chain image w w v u2.0 p s (suc j) u2.1 in
+      let x = (chains image w v).from u.0 p s j u.1 in
+      let x2 = (chains image w v).from u2.0 p s (suc j) u2.1 in
       let k = (kept image v (Head u2.0 p s (suc j)) x2.0 x2.1).1 in
       let z : k.1 ≡ x.0 = (one_block image v (Head k.0 p s j) (Head u.0 p s j) k.1 x.0 k.2 x.1 (refl, refl, refl)).1 in
       let y : b ≡ k.1 = sym u.2 ∙ (head_is u.0 p s j x.0 x.1).0 ∙ sym z in
       ap (λ b. word_in image b NEXT_IN_CHAIN) y ∙ k.3 ∙ sym (head_is u2.0 p s (suc j) x2.0 x2.1).0 ∙ u2.2)
       (λ j b h e.
       let u = at_unmap (at_node image (layout_in w)) c j b h in
-      let x = has_chain image w w v u.0 p s j u.1 in
+      let x = (chains image w v).from u.0 p s j u.1 in
       let y : x.0 ≡ b = sym (head_is u.0 p s j x.0 x.1).0 ∙ u.2 in
       let none : 0 < word_in image b NEXT_IN_CHAIN → ⊥ = (λ some.
       let x' : Has w (Head u.0 p s j) b = subst (Has w (Head u.0 p s j)) y x.1 in
       let q = asked_header image w whole (suc (heads w)) p s (suc j) b NEXT_IN_CHAIN (refl, (u.0, x'), refl, (λ z. omega arith)) in
-      let r = at_below c (suc j) q.0 (chain_has image w w v q.0 p s (suc j) q.1 q.2) in
+      let r = at_below c (suc j) q.0 ((chains image w v).to q.0 p s (suc j) q.1 q.2) in
       omega (arith, length-map c (at_node image (layout_in w)))) in
       omega arith)
 
@@ -315,8 +314,7 @@ module _ (image : List ℕ) (w : List (Role × ℕ)) (v : IsWalk image w) (whole
       let y = kept image v (Data n (suc k)) b (has_data image w v n k b x) in
       let z : y.0 ≡ h = one_file n y.0 h y.1 f in
       let e : y.5.0 ≡ slice_index (datas_in w n) (suc k) = data_next n h (suc k) y.5.0 f (subst (λ h. IsNext image w n (suc k) h y.5.0) z y.5.1) in
-      subst (λ x. AllHold (data_demands image (kind_of image) b h (suc k) (held (kind_of image) (word_in image h SIZE) (suc k)) x)) e
-      (subst (λ h. AllHold (data_demands image (kind_of image) b h (suc k) (held (kind_of image) (word_in image h SIZE) (suc k)) y.5.0)) z y.5.2)
+      rw (← e, ← z) y.5.2
 
   pub file_fits : (n h : ℕ) (bytes : List ℕ) → FileAt image w n h → length bytes ≡ word_in image h SIZE
       → FileFits image (tree_in image w) (layout_in w) n h bytes
@@ -337,11 +335,7 @@ module _ (image : List ℕ) (w : List (Role × ℕ)) (v : IsWalk image w) (whole
         datas = ap length da ∙ datas_length n h f ∙ sym ct;
         named = (λ k b a x y. data_named n h k b a f (subst (λ xs. At xs k b) da x) y);
         data_form = (λ k b x.
-            subst (λ xs. AllHold (data_demands image (kind_of image) b h (suc k) (held (kind_of image) (length bytes) (suc k)) (slice_index xs (suc k))))
-            (sym da)
-            (subst (λ z. AllHold (data_demands image (kind_of image) b h (suc k) (held (kind_of image) z (suc k)) (slice_index (datas_in w n) (suc k))))
-            (sym z)
-            (data_formed n h k b f (subst (λ xs. At xs k b) da x))));
+            rw (da, z) (data_formed n h k b f (subst (λ xs. At xs k b) da x)));
       }
 
   module _ (boots : AllHold (boot_demands image)) where
@@ -362,14 +356,12 @@ module _ (image : List ℕ) (w : List (Role × ℕ)) (v : IsWalk image w) (whole
         (λ a f. let e : a ≡ b =
         (one_head image v n f.0.0 f.0.1 f.0.2 a p s j b f.0.3 h).1 in dir_not_file image b d (subst (λ a. word_in image a SECONDARY_TYPE ≡ ST_FILE) e f.1)) in (
           d,
-          hp.1 ∙ no_length (exts_in w n) (elim (dec_lt 0 (length (exts_in w n))) [
-            | yes u ↦ let x = at_some (exts_in w n) 0 u in let f = ext_file image v n 1 x.0 (has_ext image w v n 0 x.0 x.1) in absurd (no_file f.0 f.1)
-            | no u ↦ omega arith
-          ]),
-          hp.2 ∙ no_length (datas_in w n) (elim (dec_lt 0 (length (datas_in w n))) [
-            | yes u ↦ let x = at_some (datas_in w n) 0 u in let f = kept image v (Data n 1) x.0 (has_data image w v n 0 x.0 x.1) in absurd (no_file f.0 f.1)
-            | no u ↦ omega arith
-          ]),
+          hp.1 ∙ no_length (exts_in w n) (let none : 0 < length (exts_in w n) → ⊥ = (λ u.
+              let x = at_some (exts_in w n) 0 u in
+              let f = ext_file image v n 1 x.0 (has_ext image w v n 0 x.0 x.1) in no_file f.0 f.1) in omega arith),
+          hp.2 ∙ no_length (datas_in w n) (let none : 0 < length (datas_in w n) → ⊥ = (λ u.
+              let x = at_some (datas_in w n) 0 u in
+              let f = kept image v (Data n 1) x.0 (has_data image w v n 0 x.0 x.1) in no_file f.0 f.1) in omega arith),
         )
     body_fits n p s j b c h k false z =
         let f : FileAt image w n b = ((p, s, j, h), head_kind image b c s k z) in
@@ -387,8 +379,7 @@ module _ (image : List ℕ) (w : List (Role × ℕ)) (v : IsWalk image w) (whole
         subst (λ e. EntryFits image (tree_in image w) (layout_in w) n (at_node image (layout_in w) n) e) (sym x.5)
         (subst (λ h. EntryFits image (tree_in image w) (layout_in w) n h (entry_in image w n x.0 b)) (sym hb)
         (record {
-          form = subst (λ c. AllHold (head_demands image (kind_of image) b c (slot_of (name_of image b)))) (sym pb)
-              (subst (λ s. AllHold (head_demands image (kind_of image) b k.2.0 s)) (sym sl) k.2.2);
+          form = rw (pb, sl) k.2.2;
           name = refl;
           meta = refl;
           body = body_fits n x.0 x.1 x.2 b k.2.0 x.4 k.2.2 (word_in image b SECONDARY_TYPE == ST_DIR) refl;
