@@ -111,7 +111,7 @@ one_place t p s i q u j n a b =
     let z : e.0 ≡ f.0 = entry_fun t n e.0 f.0 e.1 f.1 in
     let x : p ≡ q = sym e.2 ∙ ap (λ (x : Entry). x.parent) z ∙ f.2 in
     let y : s ≡ u = sym e.3 ∙ ap (λ (x : Entry). slot_of x.name) z ∙ f.3 in
-    (x, y, place_fun t p s i j n a (subst (λ q. At (chain_nodes t q s) j n) (sym x) (subst (λ u. At (chain_nodes t q u) j n) (sym y) b)))
+    (x, y, place_fun t p s i j n a (rw (x, y) b))
 
 -- a node that comes later stands later
 pub sorted_places : (t : Tree) → Ordered t → (p s i q u j n m a b : ℕ) → At (chain_nodes t p s) i n → At (chain_nodes t q u) j m → n < m
@@ -120,16 +120,16 @@ sorted_places t v p s i q u j n m a' b' a b l =
     let e = entry_at t p s i n a in
     let f = entry_at t q u j m b in
     let o = v.order n m e.0 f.0 e.1 f.1 l in
-    let h1 : p ≤ q = let k : e.0.parent ≤ f.0.parent = o.0 in let x : e.0.parent ≡ p = e.2 in let y : f.0.parent ≡ q = f.2 in omega arith in
-    let h2 : p ≡ q → s ≤ u =
-    (λ z. let k : slot_of e.0.name ≤ slot_of f.0.name = o.1 (e.2 ∙ z ∙ sym f.2) in let x : slot_of e.0.name ≡ s = e.3 in let y : slot_of f.0.name ≡ u =
-    f.3 in omega arith) in
-    let h3 : p ≡ q → s ≡ u → i < j =
-    (λ z y. let b'' : At (chain_nodes t p s) j m = subst (λ q. At (chain_nodes t q s) j m) (sym z) (subst (λ u. At (chain_nodes t q u) j m) (sym y) b) in
-    let r : j < i → ⊥ = (λ l2. let k : m < n = chain_rises 1 t.entries p s j i m n b'' a l2 in omega arith) in
-    let w : i ≡ j → ⊥ = (λ x. let k : n ≡ m = at_fun (chain_nodes t p s) i n m a (subst (λ j. At (chain_nodes t p s) j m) (sym x) b'') in omega arith) in
+    let x : e.0.parent ≡ p = e.2 in
+    let y : f.0.parent ≡ q = f.2 in
+    let x1 : slot_of e.0.name ≡ s = e.3 in
+    let y1 : slot_of f.0.name ≡ u = f.3 in
+    let later : p ≡ q → s ≡ u → i < j =
+    (λ z y. let b'' : At (chain_nodes t p s) j m = rw (z, y) b in
+    let r : j < i → ⊥ = (λ l2. let k = chain_rises 1 t.entries p s j i m n b'' a l2 in omega arith) in
+    let w : i ≡ j → ⊥ = (λ x. let k = at_fun (chain_nodes t p s) i n m a (subst (λ j. At (chain_nodes t p s) j m) (sym x) b'') in omega arith) in
     omega arith) in
-    ((omega arith), (λ z. let k : s ≤ u = h2 (omega arith) in omega arith), (λ z y. h3 (omega arith) (omega arith)))
+    (omega arith, (λ z. let k = o.1 (omega arith) in omega arith), (λ z y. later (omega arith) (omega arith)))
 
 -- one more entry
 pub chain_snoc : (k : ℕ) (es : List Entry) (e : Entry) (p s : ℕ)

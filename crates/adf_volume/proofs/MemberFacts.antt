@@ -81,19 +81,9 @@ module _ (image : List ℕ) where
   kept_up w x (Data n zero) b h = absurd h
   kept_up w x (Data n (suc k)) b h =
       let u : ext_count w n ≤ ext_count_of n x.0 (ext_count w n) = count_up n x.0 (ext_count w n) in
-      let y : data_count image h.0 ≤ POINTERS * suc (ext_count w n) = h.3 in (
-        h.0,
-        file_up w x n h.0 h.1,
-        h.2,
-        omega arith,
-        (h.4.0, member_up w x n (k / POINTERS) h.4.0 h.4.1, h.4.2),
-        (
-          h.5.0,
-          next_up w x n (suc k) h.0 h.5.0
-              h.5.1,
-          h.5.2,
-        ),
-      )
+      let y : data_count image h.0 ≤ POINTERS * suc (ext_count w n) = h.3 in
+      let next = next_up w x n (suc k) h.0 h.5.0 h.5.1 in
+      (h.0, file_up w x n h.0 h.1, h.2, omega arith, (h.4.0, member_up w x n (k / POINTERS) h.4.0 h.4.1, h.4.2), (h.5.0, next, h.5.2))
 
   -- a header that is asked for has its directory
   asks_dir : {w : List (Role × ℕ)} → ((r : Role) (b : ℕ) → Has w r b → Kept image w r b) → (n p s j a i : ℕ) → Asks image w (Head n p s j) a i
@@ -156,16 +146,9 @@ module _ (image : List ℕ) where
     kept_new (Head n p s j) a i b d e g =
         let ad = asks_dir old n p s j a i d.asked in
         let c = ad.1 in
-        let z : node_block w p ≡ c.0 = node_is image w p c.0 v (dir_is_node image w p c.0 c.1) in (
-          ad.0,
-          head_named n p s j a i b d.asked e,
-          (
-            c.0,
-            c.1,
-            subst (λ c. AllHold (head_demands image (kind_of image) b c s)) z
-                (form_of (Head n p s j) a b g),
-          ),
-        )
+        let z : node_block w p ≡ c.0 = node_is image w p c.0 v (dir_is_node image w p c.0 c.1) in
+        let form = subst (λ c. AllHold (head_demands image (kind_of image) b c s)) z (form_of (Head n p s j) a b g) in
+        (ad.0, head_named n p s j a i b d.asked e, (c.0, c.1, form))
     kept_new (Ext n zero) a i b d e g = absurd d.asked
     kept_new (Ext n (suc k)) a i b d e g =
         let f = due_file image w n (suc k) a i v d.asked in
@@ -175,19 +158,11 @@ module _ (image : List ℕ) where
     kept_new (Data n (suc k)) a i b d e g =
         let f = d.asked.0 in
         let z : node_block w n ≡ f.0 = file_is image w n f.0 v f.1 in
-        let en = enough n k a i b f.0 d g f.1 f.2 in (
-          f.0,
-          f.1,
-          f.2,
-          en,
-          (a, d.asked.1, ap (word_in image a) (sym d.asked.2) ∙ e),
-          (
-            next_data image w n (suc k),
-            next_is n (suc k) f.0 f.1 z en,
-            subst (λ h. AllHold (data_demands image (kind_of image) b h (suc k) (held (kind_of image) (word_in image h SIZE) (suc k))
-                (next_data image w n (suc k)))) z (form_of (Data n (suc k)) a b g),
-          ),
-        )
+        let en = enough n k a i b f.0 d g f.1 f.2 in
+        let form = subst (λ h. AllHold (data_demands image (kind_of image) b h (suc k) (held (kind_of image) (word_in image h SIZE) (suc k))
+        (next_data image w n (suc k)))) z (form_of (Data n (suc k)) a b g) in
+        let next = next_is n (suc k) f.0 f.1 z en in
+        (f.0, f.1, f.2, en, (a, d.asked.1, ap (word_in image a) (sym d.asked.2) ∙ e), (next_data image w n (suc k), next, form))
 
   pub kept : {w : List (Role × ℕ)} → IsWalk image w → (r : Role) (b : ℕ) → Has w r b → Kept image w r b
   kept start r b (inl e) = subst (λ r. Kept image ((Root, root_of image) ∷ []) r b) e.0 tt

@@ -127,56 +127,37 @@ module _ (image : List ℕ) where
   no_step w x r a i b c v d f s =
       let z = due_one w v r s.role a i s.at s.index d s.due in
       fails_not_all (demands image w s.role s.at (word_in image s.at s.index)) b c
-      (subst (λ r. FirstFails (demands image w r s.at (word_in image s.at s.index)) b c) z.0
-      (subst (λ i. FirstFails (demands image w r s.at (word_in image s.at i)) b c) z.2
-      (subst (λ a. FirstFails (demands image w r a (word_in image a i)) b c) z.1 f))) s.fine
+      (subst (λ (x : Role × (ℕ × ℕ)). FirstFails (demands image w x.0 x.1.0 (word_in image x.1.0 x.1.1)) b c) (λ t. (z.0 t, (z.1 t, z.2 t))) f) s.fine
 
   whole_step : (w x : List (Role × ℕ)) → IsWhole image w → Step w x → ⊥
   whole_step w x h s = h s.role s.at s.index s.due.asked s.due.lacks
+
+  -- two walks from which no step leads on are one
+  one_walk : (w u : List (Role × ℕ)) → IsWalk image w → IsWalk image u → ((x : List (Role × ℕ)) → Step w x → ⊥) → ((x : List (Role × ℕ)) → Step u x → ⊥) → w ≡ u
+  one_walk w u v v' f g =
+      let short : length w < length u → ⊥ = (λ l. let s = goes_on v' w v l in f s.0 s.1) in
+      let long : length u < length w → ⊥ = (λ l. let s = goes_on v u v' l in g s.0 s.1) in
+      same_walks v v' (omega arith)
 
   two_due : (w u : List (Role × ℕ)) (r q : Role) (a i a' i' b : ℕ) (c : Cause) (b' : ℕ) (c' : Cause) → IsWalk image w → IsWalk image u → IsDue image w r a i
       → IsDue image u q a' i' →
       FirstFails (demands image w r a (word_in image a i)) b c → FirstFails (demands image u q a' (word_in image a' i')) b' c' → (b ≡ b') × (c ≡ c')
   two_due w u r q a i a' i' b c b' c' v v' d d' f f' =
-      elim (dec_lt (length w) (length u)) [
-        | yes l ↦ let s = goes_on v' w v l in absurd (no_step w s.0 r a i b c v d f s.1)
-        | no l ↦ elim (dec_lt (length u) (length w)) [
-          | yes k ↦ let s = goes_on v u v' k in absurd (no_step u s.0 q a' i' b' c' v' d' f' s.1)
-          | no k ↦
-              let z : w ≡ u = same_walks v v' (omega arith) in
-              let d2 : IsDue image u r a i = subst (λ w. IsDue image w r a i) z d in
-              let x = due_one u v' r q a i a' i' d2 d' in
-              fails_one (demands image u q a' (word_in image a' i')) b c b' c'
-              (subst (λ r. FirstFails (demands image u r a' (word_in image a' i')) b c) x.0
-              (subst (λ i. FirstFails (demands image u r a' (word_in image a' i)) b c) x.2
-              (subst (λ a. FirstFails (demands image u r a (word_in image a i)) b c) x.1
-              (subst (λ w. FirstFails (demands image w r a (word_in image a i)) b c) z f)))) f'
-        ]
-      ]
+      let z = one_walk w u v v' (λ x. no_step w x r a i b c v d f) (λ x. no_step u x q a' i' b' c' v' d' f') in
+      let x = due_one u v' r q a i a' i' (subst (λ w. IsDue image w r a i) z d) d' in
+      let g = subst (λ w. FirstFails (demands image w r a (word_in image a i)) b c) z f in
+      fails_one (demands image u q a' (word_in image a' i')) b c b' c'
+      (subst (λ (x : Role × (ℕ × ℕ)). FirstFails (demands image u x.0 x.1.0 (word_in image x.1.0 x.1.1)) b c) (λ t. (x.0 t, (x.1 t, x.2 t))) g) f'
 
   due_and_whole : (w u : List (Role × ℕ)) (r : Role) (a i b : ℕ) (c : Cause) → IsWalk image w → IsWalk image u → IsDue image w r a i
       → FirstFails (demands image w r a (word_in image a i)) b c → IsWhole image u → ⊥
   due_and_whole w u r a i b c v v' d f h =
-      elim (dec_lt (length w) (length u)) [
-        | yes l ↦ let s = goes_on v' w v l in no_step w s.0 r a i b c v d f s.1
-        | no l ↦ elim (dec_lt (length u) (length w)) [
-          | yes k ↦ let s = goes_on v u v' k in whole_step u s.0 h s.1
-          | no k ↦
-              let z : w ≡ u = same_walks v v' (omega arith) in
-              let d2 : IsDue image u r a i = subst (λ w. IsDue image w r a i) z d in
-              h r a i d2.asked d2.lacks
-        ]
-      ]
+      let z = one_walk w u v v' (λ x. no_step w x r a i b c v d f) (λ x. whole_step u x h) in
+      let d2 = subst (λ w. IsDue image w r a i) z d in
+      h r a i d2.asked d2.lacks
 
   two_whole : (w u : List (Role × ℕ)) → IsWalk image w → IsWalk image u → IsWhole image w → IsWhole image u → w ≡ u
-  two_whole w u v v' h k =
-      elim (dec_lt (length w) (length u)) [
-        | yes l ↦ let s = goes_on v' w v l in absurd (whole_step w s.0 h s.1)
-        | no l ↦ elim (dec_lt (length u) (length w)) [
-          | yes m ↦ let s = goes_on v u v' m in absurd (whole_step u s.0 k s.1)
-          | no m ↦ same_walks v v' (omega arith)
-        ]
-      ]
+  two_whole w u v v' h k = one_walk w u v v' (λ x. whole_step w x h) (λ x. whole_step u x k)
 
   pub one_fault : (b : ℕ) (c : Cause) (b' : ℕ) (c' : Cause) → FirstFault image b c → FirstFault image b' c' → (b ≡ b') × (c ≡ c')
   one_fault b c b' c' (at_boot f) (at_boot g) = fails_one (boot_demands image ++ root_demands image (root_of image)) b c b' c' f g

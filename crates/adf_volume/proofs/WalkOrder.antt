@@ -1,25 +1,14 @@
 -- A walk rises: what is due comes after all that is there.
 use Rattle.std.proofs.Common.{◌≡◌, ℕ, zero, suc, List, [], ◌∷◌, ◌⊎◌, inl, inr, ◌+◌, ◌*◌, ◌/◌, ◌<◌, ◌≤◌, refl, sym, ap, subst, ◌∙◌, arith}
-use native.Mathlib.Decide.{dec_lt}
 use Rattle.adf_blocks.specs.declared.layout.TheConstants.{MAP_EXT_PAGES, POINTERS, ROOT_PAGES}
 use Rattle.adf_volume.specs.Image.{root_of}
-use Rattle.adf_volume.specs.Walk.{Role, first, second, third, Before, Same, Has, heads, DirAt, FileAt, MemberAt, NamesPage, Asks, Lacks, IsDue, IsWalk}
+use Rattle.adf_volume.specs.Walk.{Role, first, second, third, Before, Same, Has, heads, DirAt, FileAt, MemberAt, Asks, Lacks, IsDue, IsWalk}
 use Rattle.adf_volume.specs.Walk.Role.{Root, Page, MapExt, Head, Ext, Data}
 use Rattle.adf_volume.specs.Walk.IsWalk.{start, step}
 use Rattle.adf_volume.proofs.Walks.{number_of, asks_number, same_refl}
 
 pub before_trans : (x y z : Role) → Before x y → Before y z → Before x z
-before_trans x y z h k =
-    let a1 : first x ≤ first y = h.0 in
-    let a2 : first y ≤ first z = k.0 in (
-      omega arith,
-      (λ e. let e1 : first x ≡ first y = omega arith in let e2 : first y ≡ first z = omega arith in
-          let b1 : second x ≤ second y = h.1 e1 in let b2 : second y ≤ second z = k.1 e2 in omega arith),
-      (λ e f. let e1 : first x ≡ first y = omega arith in let e2 : first y ≡ first z = omega arith in
-          let b1 : second x ≤ second y = h.1 e1 in let b2 : second y ≤ second z = k.1 e2 in
-          let f1 : second x ≡ second y = omega arith in let f2 : second y ≡ second z = omega arith in
-          let c1 : third x < third y = h.2 e1 f1 in let c2 : third y < third z = k.2 e2 f2 in omega arith),
-    )
+before_trans x y z h k = (omega arith, (λ e. omega arith), (λ e f. omega arith))
 
 pub before_same : (x y z : Role) → Before x y → Same y z → Before x z
 before_same x y z h s = (
@@ -30,25 +19,11 @@ before_same x y z h s = (
 
 pub before_total : (x y : Role) → (Before y x → ⊥) → (Same x y → ⊥) → Before x y
 before_total x y nb ns =
-    elim (dec_lt (first x) (first y)) [
-      | yes l ↦ (omega arith, (λ e. absurd (omega arith)), (λ e f. absurd (omega arith)))
-      | no l ↦ elim (dec_lt (first y) (first x)) [
-        | yes g ↦ absurd (nb (omega arith, (λ e. absurd (omega arith)), (λ e f. absurd (omega arith))))
-        | no g ↦ elim (dec_lt (second x) (second y)) [
-          | yes l2 ↦ (omega arith, (λ e. omega arith), (λ e f. absurd (omega arith)))
-          | no l2 ↦ elim (dec_lt (second y) (second x)) [
-            | yes g2 ↦ absurd (nb (omega arith, (λ e. omega arith), (λ e f. absurd (omega arith))))
-            | no g2 ↦ elim (dec_lt (third x) (third y)) [
-              | yes l3 ↦ (omega arith, (λ e. omega arith), (λ e f. l3))
-              | no l3 ↦ elim (dec_lt (third y) (third x)) [
-                | yes g3 ↦ absurd (nb (omega arith, (λ e. omega arith), (λ e f. g3)))
-                | no g3 ↦ absurd (ns (omega arith))
-              ]
-            ]
-          ]
-        ]
-      ]
-    ]
+    let one : first y < first x → ⊥ = (λ l. nb (omega arith, (λ e. omega arith), (λ e f. omega arith))) in
+    let two : first x ≡ first y → second y < second x → ⊥ = (λ e l. nb (omega arith, (λ e. omega arith), (λ e f. omega arith))) in
+    let three : first x ≡ first y → second x ≡ second y → third y < third x → ⊥ = (λ e f l. nb (omega arith, (λ e. omega arith), (λ e f. l))) in
+    let apart : first x ≡ first y → second x ≡ second y → third x ≡ third y → ⊥ = (λ e f g. ns (e, f, g)) in
+    (omega arith, (λ e. let l = two e in omega arith), (λ e f. let l = three e f in let g = apart e f in omega arith))
 
 last : (w : List (Role × ℕ)) (z : Role) (c : ℕ) (q : Role) (b : ℕ) (r : Role) → Has ((z, c) ∷ w) q b → Before z r → (Has w q b → Before q r) → Before q r
 last w z c q b r (inl y) n o = subst (λ q. Before q r) y.0 n
@@ -88,58 +63,51 @@ module _ (image : List ℕ) where
     not_root e = subst (λ q. Asks image w q a0 i0) e d.asked
 
     file_back : (n a : ℕ) (r : Role) → n < first r → FileAt image ((q, c) ∷ w) n a → FileAt image w n a ⊎ Before q r
-    file_back n a r u h = go h.0.0 h.0.1 h.0.2 h.0.3
-      where
-        go : (p s j : ℕ) → Has ((q, c) ∷ w) (Head n p s j) a → FileAt image w n a ⊎ Before q r
-        go p s j (inl e) = inr (head_before n p s j r e.0 u)
-        go p s j (inr k) = inl ((p, s, j, k), h.1)
+    file_back n a r u h = let x = h.0 in elim x.3 [
+      | inl e ↦ inr (head_before n x.0 x.1 x.2 r e.0 u)
+      | inr k ↦ inl ((x.0, x.1, x.2, k), h.1)
+    ]
 
     -- what the longer walk asks for was asked for before, or comes after the new member
     pub asks_back : (r : Role) (a i : ℕ) → Asks image ((q, c) ∷ w) r a i → ((r' : Role) × Asks image w r' a i × Same r' r) ⊎ Before q r
     asks_back Root a i h = absurd h
-    asks_back (Page k) a i h = go h.1
-      where
-        past : (j : ℕ) → Has ((q, c) ∷ w) (MapExt j) a → i < MAP_EXT_PAGES → k ≡ ROOT_PAGES + MAP_EXT_PAGES * j + i
-            → ((r' : Role) × Asks image w r' a i × Same r' (Page k)) ⊎ Before q (Page k)
-        past j (inl e) l z = inr (subst (λ q. Before q (Page k)) (sym e.0) (omega arith))
-        past j (inr y) l z = inl (Page k, (h.0, inr (j, y, l, z)), (refl, refl, refl))
-
-        go : NamesPage image ((q, c) ∷ w) k a i → ((r' : Role) × Asks image w r' a i × Same r' (Page k)) ⊎ Before q (Page k)
-        go (inl e) = inl (Page k, (h.0, inl e), (refl, refl, refl))
-        go (inr x) = past x.0 x.1 x.2 x.3
+    asks_back (Page k) a i h = elim h.1 [
+      | inl e ↦ inl (Page k, (h.0, inl e), (refl, refl, refl))
+      | inr x ↦ elim x.1 [
+        | inl e ↦
+            let l : i < MAP_EXT_PAGES = x.2 in
+            let z : k ≡ ROOT_PAGES + MAP_EXT_PAGES * x.0 + i = x.3 in
+            inr (subst (λ q. Before q (Page k)) (sym e.0) (omega arith))
+        | inr y ↦ inl (Page k, (h.0, inr (x.0, y, x.2, x.3)), (refl, refl, refl))
+      ]
+    ]
     asks_back (MapExt zero) a i h = inl (MapExt zero, h, same_refl (MapExt zero))
-    asks_back (MapExt (suc j)) a i h = go h.1
-      where
-        go : Has ((q, c) ∷ w) (MapExt j) a → ((r' : Role) × Asks image w r' a i × Same r' (MapExt (suc j))) ⊎ Before q (MapExt (suc j))
-        go (inl e) = inr (subst (λ q. Before q (MapExt (suc j))) (sym e.0) (omega arith))
-        go (inr x) = inl (MapExt (suc j), (h.0, x, h.2), (refl, refl, refl))
-    asks_back (Head n zero s zero) a i h = go h.2
-      where
-        go : DirAt image ((q, c) ∷ w) zero a → ((r' : Role) × Asks image w r' a i × Same r' (Head n zero s zero)) ⊎ Before q (Head n zero s zero)
-        go (inl e) = absurd (not_root e.0)
-        go (inr k) = inl (Head (suc (heads w)) zero s zero, (refl, h.1, k, h.3, h.4), (refl, refl, refl))
-    asks_back (Head n (suc p) s zero) a i h = go h.2.0.0 h.2.0.1 h.2.0.2 h.2.0.3
-      where
-        go : (p' s' j' : ℕ) → Has ((q, c) ∷ w) (Head (suc p) p' s' j') a
-            → ((r' : Role) × Asks image w r' a i × Same r' (Head n (suc p) s zero)) ⊎ Before q (Head n (suc p) s zero)
-        go p' s' j' (inl e) = inr (head_before (suc p) p' s' j' (Head n (suc p) s zero) e.0 (omega arith))
-        go p' s' j' (inr k) = inl (Head (suc (heads w)) (suc p) s zero, (refl, h.1, ((p', s', j', k), h.2.1), h.3, h.4), (refl, refl, refl))
-    asks_back (Head n p s (suc j)) a i h = go h.1.0 h.1.1
-      where
-        go : (m : ℕ) → Has ((q, c) ∷ w) (Head m p s j) a → ((r' : Role) × Asks image w r' a i × Same r' (Head n p s (suc j))) ⊎ Before q (Head n p s (suc j))
-        go m (inl e) = inr (subst (λ q. Before q (Head n p s (suc j))) (sym e.0) (omega arith))
-        go m (inr k) = inl (Head (suc (heads w)) p s (suc j), (refl, (m, k), h.2, h.3), (refl, refl, refl))
+    asks_back (MapExt (suc j)) a i h = elim h.1 [
+      | inl e ↦ inr (subst (λ q. Before q (MapExt (suc j))) (sym e.0) (omega arith))
+      | inr x ↦ inl (MapExt (suc j), (h.0, x, h.2), (refl, refl, refl))
+    ]
+    asks_back (Head n zero s zero) a i h = elim h.2 [
+      | inl e ↦ absurd (not_root e.0)
+      | inr k ↦ inl (Head (suc (heads w)) zero s zero, (refl, h.1, k, h.3, h.4), (refl, refl, refl))
+    ]
+    asks_back (Head n (suc p) s zero) a i h = let x = h.2.0 in elim x.3 [
+      | inl e ↦ inr (head_before (suc p) x.0 x.1 x.2 (Head n (suc p) s zero) e.0 (omega arith))
+      | inr k ↦ inl (Head (suc (heads w)) (suc p) s zero, (refl, h.1, ((x.0, x.1, x.2, k), h.2.1), h.3, h.4), (refl, refl, refl))
+    ]
+    asks_back (Head n p s (suc j)) a i h = elim h.1.1 [
+      | inl e ↦ inr (subst (λ q. Before q (Head n p s (suc j))) (sym e.0) (omega arith))
+      | inr k ↦ inl (Head (suc (heads w)) p s (suc j), (refl, (h.1.0, k), h.2, h.3), (refl, refl, refl))
+    ]
     asks_back (Ext n zero) a i h = absurd h
     asks_back (Ext n (suc zero)) a i h =
         elim (file_back n a (Ext n 1) (omega arith) h.0) [
           | inl f ↦ inl (Ext n 1, (f, h.1, h.2), (refl, refl, refl))
           | inr b ↦ inr b
         ]
-    asks_back (Ext n (suc (suc k))) a i h = go h.0
-      where
-        go : Has ((q, c) ∷ w) (Ext n (suc k)) a → ((r' : Role) × Asks image w r' a i × Same r' (Ext n (suc (suc k)))) ⊎ Before q (Ext n (suc (suc k)))
-        go (inl e) = inr (subst (λ q. Before q (Ext n (suc (suc k)))) (sym e.0) (omega arith))
-        go (inr x) = inl (Ext n (suc (suc k)), (x, h.1, h.2), (refl, refl, refl))
+    asks_back (Ext n (suc (suc k))) a i h = elim h.0 [
+      | inl e ↦ inr (subst (λ q. Before q (Ext n (suc (suc k)))) (sym e.0) (omega arith))
+      | inr x ↦ inl (Ext n (suc (suc k)), (x, h.1, h.2), (refl, refl, refl))
+    ]
     asks_back (Data n zero) a i h = absurd h
     asks_back (Data n (suc k)) a i h =
         elim (file_back n h.0.0 (Data n (suc k)) (omega arith) h.0.1) [
