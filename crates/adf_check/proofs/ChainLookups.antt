@@ -138,7 +138,7 @@ module _ {image : List ℕ} {store : Store} {t : Tree} {l : Layout} (k : StoreSt
         → (owner_at store.owners b ≡ AHead n) × (chain_left store b ≡ suc (length store.rows) - n) × (n ≤ length store.rows)
     left_at j n a {b = b} is =
         let x = entry_at t p (slot_of name) j n a in
-        let o : owner_at store.owners b ≡ AHead n = k.owners.part (AHead n) b (part_owned image t l k.fits (Head n p (slot_of name) j) b (a, is)) in
+        let o : owner_at store.owners b ≡ AHead n = k.owners.part (AHead n) b (part_owned image t l k.fits.places (Head n p (slot_of name) j) b (a, is)) in
         (o, ap (node_left (length store.rows)) o, omega (arith, entry_below t n x.0 x.1, k.rows.count))
 
   module _ {p : ℕ} {name : List ℕ} where

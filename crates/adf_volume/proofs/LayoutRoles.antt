@@ -80,7 +80,8 @@ owned_stands n (q ∷ qs) o b (inr h) =
       | inr g ↦ later n q qs o b (owned_stands (suc n) qs o b g)
     ]
 
-module _ (image : List ℕ) (t : Tree) (l : Layout) (fit : Fits image t l) where
+-- each entry has its place
+module _ (image : List ℕ) (t : Tree) (l : Layout) (long : length l.places ≡ length t.entries) where
   places_owned : (o : Owner) (b : ℕ) → In (owned_from 1 l.places) (o, b) → In (owned image l) (o, b)
   places_owned o b h = inr (in_right (numbered APage 0 l.pages) (numbered AMapExt 0 l.map_exts ++ owned_from 1 l.places) (o, b)
       (in_right (numbered AMapExt 0 l.map_exts) (owned_from 1 l.places) (o, b) h))
@@ -100,7 +101,6 @@ module _ (image : List ℕ) (t : Tree) (l : Layout) (fit : Fits image t l) where
   part_owned (Head (suc i) p s j) b h =
       let e = entry_at t p s j (suc i) h.0 in
       let k : suc i ≤ length t.entries = entry_below t (suc i) e.0 e.1 in
-      let f : length l.places ≡ length t.entries = fit.places in
       let z : 1 + i ≡ suc i = omega arith in
       places_owned (AHead (suc i)) b (subst (λ b. In (owned_from 1 l.places) (AHead (suc i), b)) h.1
       (subst (λ m. In (owned_from 1 l.places) (AHead m, head_at l.places i)) z (owned_head 1 l.places i (omega arith))))
@@ -115,8 +115,30 @@ module _ (image : List ℕ) (t : Tree) (l : Layout) (fit : Fits image t l) where
       let z : 1 + i ≡ suc i = omega arith in
       places_owned (AData (suc i) (suc k)) b (subst (λ m. In (owned_from 1 l.places) (AData m (suc k), b)) z (owned_data 1 l.places i k b h))
 
+  -- each member is a part
+  pub owned_part : (o : Owner) (b : ℕ) → In (owned image l) (o, b) → (r : Role) × LayoutHas image t l r b × (o ≡ owner_of r)
+  owned_part o b (inl e) = (Root, ap (λ p. p.1) e, sym (ap (λ p. p.0) e))
+  owned_part o b (inr h) =
+      elim (in_cases (numbered APage 0 l.pages) (numbered AMapExt 0 l.map_exts ++ owned_from 1 l.places) (o, b) h) [
+        | inl g ↦ let r = numbered_at APage 0 l.pages o b g in let y : 0 + r.0 ≡ r.0 = omega arith in (Page r.0, r.1, r.2 ∙ ap APage y)
+        | inr g ↦ elim (in_cases (numbered AMapExt 0 l.map_exts) (owned_from 1 l.places) (o, b) g) [
+          | inl f ↦ let r = numbered_at AMapExt 0 l.map_exts o b f in let y : 0 + r.0 ≡ r.0 = omega arith in (MapExt r.0, r.1, r.2 ∙ ap AMapExt y)
+          | inr f ↦ stands (owned_stands 1 l.places o b f)
+        ]
+      ]
+    where
+      stands : Stands 1 l.places o b → (r : Role) × LayoutHas image t l r b × (o ≡ owner_of r)
+      stands (in_head i u e z) =
+          let x = entry_some t (suc i) (omega arith) (omega arith) in
+          let q = place_at t (suc i) x.0 x.1 in
+          let y : 1 + i ≡ suc i = omega arith in
+          (Head (suc i) x.0.parent (slot_of x.0.name) q.0, (q.1, e), z ∙ ap AHead y)
+      stands (in_ext i k e z) = let y : 1 + i ≡ suc i = omega arith in (Ext (suc i) (suc k), e, z ∙ ap (λ m. AnExt m (suc k)) y)
+      stands (in_data i k e z) = let y : 1 + i ≡ suc i = omega arith in (Data (suc i) (suc k), e, z ∙ ap (λ m. AData m (suc k)) y)
+
+module _ (image : List ℕ) (t : Tree) (l : Layout) (fit : Fits image t l) where
   pub part_range : (r : Role) (b : ℕ) → LayoutHas image t l r b → (2 ≤ b) × (b < blocks image)
-  part_range r b h = fit.range (owner_of r) b (part_owned r b h)
+  part_range r b h = fit.range (owner_of r) b (part_owned image t l fit.places r b h)
 
   same_owner : (r q : Role) (b c : ℕ) → owner_of r ≡ owner_of q → LayoutHas image t l r b → LayoutHas image t l q c → r ≡ q
   same_owner Root Root b c e h k = refl
@@ -135,26 +157,5 @@ module _ (image : List ℕ) (t : Tree) (l : Layout) (fit : Fits image t l) where
 
   -- a block is one part
   pub one_part : (r q : Role) (b : ℕ) → LayoutHas image t l r b → LayoutHas image t l q b → r ≡ q
-  one_part r q b h k = same_owner r q b b (one_member (owned image l) (owner_of r) (owner_of q) b fit.once (part_owned r b h) (part_owned q b k)) h k
-
-  -- each member is a part
-  pub owned_part : (o : Owner) (b : ℕ) → In (owned image l) (o, b) → (r : Role) × LayoutHas image t l r b × (o ≡ owner_of r)
-  owned_part o b (inl e) = (Root, ap (λ p. p.1) e, sym (ap (λ p. p.0) e))
-  owned_part o b (inr h) =
-      elim (in_cases (numbered APage 0 l.pages) (numbered AMapExt 0 l.map_exts ++ owned_from 1 l.places) (o, b) h) [
-        | inl g ↦ let r = numbered_at APage 0 l.pages o b g in let y : 0 + r.0 ≡ r.0 = omega arith in (Page r.0, r.1, r.2 ∙ ap APage y)
-        | inr g ↦ elim (in_cases (numbered AMapExt 0 l.map_exts) (owned_from 1 l.places) (o, b) g) [
-          | inl f ↦ let r = numbered_at AMapExt 0 l.map_exts o b f in let y : 0 + r.0 ≡ r.0 = omega arith in (MapExt r.0, r.1, r.2 ∙ ap AMapExt y)
-          | inr f ↦ stands (owned_stands 1 l.places o b f)
-        ]
-      ]
-    where
-      stands : Stands 1 l.places o b → (r : Role) × LayoutHas image t l r b × (o ≡ owner_of r)
-      stands (in_head i u e z) =
-          let f : length l.places ≡ length t.entries = fit.places in
-          let x = entry_some t (suc i) (omega arith) (omega arith) in
-          let q = place_at t (suc i) x.0 x.1 in
-          let y : 1 + i ≡ suc i = omega arith in
-          (Head (suc i) x.0.parent (slot_of x.0.name) q.0, (q.1, e), z ∙ ap AHead y)
-      stands (in_ext i k e z) = let y : 1 + i ≡ suc i = omega arith in (Ext (suc i) (suc k), e, z ∙ ap (λ m. AnExt m (suc k)) y)
-      stands (in_data i k e z) = let y : 1 + i ≡ suc i = omega arith in (Data (suc i) (suc k), e, z ∙ ap (λ m. AData m (suc k)) y)
+  one_part r q b h k = same_owner r q b b (one_member (owned image l) (owner_of r) (owner_of q) b fit.once (part_owned image t l fit.places r b h)
+      (part_owned image t l fit.places q b k)) h k

@@ -22,10 +22,10 @@ use Rattle.adf_volume.proofs.Sizes.{size_low}
 
 module _ (image : List ℕ) (t : Tree) (l : Layout) (fit : Fits image t l) (w : List (Role × ℕ)) (v : IsWalk image w) (whole : IsWhole image w) where
   absent_of : (b : ℕ) → ((o : Owner) → In (owned image l) (o, b) → ⊥) → IsAbsent w b
-  absent_of b h q k = h (owner_of q) (part_owned image t l fit q b (agreement image t l fit w q b v k))
+  absent_of b h q k = h (owner_of q) (part_owned image t l fit.places q b (agreement image t l fit w q b v k))
 
   unowned_of : (b : ℕ) → IsAbsent w b → (o : Owner) → In (owned image l) (o, b) → ⊥
-  unowned_of b h o k = let r = owned_part image t l fit o b k in h r.0 (part_walked image t l fit w v whole r.0 b r.1)
+  unowned_of b h o k = let r = owned_part image t l fit.places o b k in h r.0 (part_walked image t l fit w v whole r.0 b r.1)
 
   free_of : (b : ℕ) → IsFree image l.pages b → IsFreeIn image w b
   free_of b h = (h.0, part_walked image t l fit w v whole (Page ((b - 2) / PAGE_BITS)) h.0 h.1, h.2)

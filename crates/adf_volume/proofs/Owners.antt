@@ -1,5 +1,5 @@
 -- The owners of a layout are all different.
-use Rattle.std.proofs.Common.{◌≡◌, ℕ, suc, List, [], ◌∷◌, ◌++◌, inl, inr, ◌+◌, refl, sym, ◌∙◌, arith}
+use Rattle.std.proofs.Common.{◌≡◌, ℕ, suc, List, [], ◌∷◌, ◌++◌, inl, inr, ◌+◌, refl, sym, ap, ◌∙◌, ◌<◌, ◌≤◌, arith}
 use Rattle.adf_volume.specs.Lists.{In, numbered, NoBlockTwice}
 use Rattle.adf_volume.specs.Layout.{Place, Layout, owned_from, owned}
 use Rattle.adf_volume.specs.declared.owner.Owner.{Owner}
@@ -27,32 +27,21 @@ once_numbered f k (b ∷ bs) inj = (
   once_numbered f (suc k) bs inj,
 )
 
-page_inj : (a b : ℕ) → APage a ≡ APage b → a ≡ b
-page_inj a b h = cc
+-- the number of an owner's node, 0 where it has none
+abbrev owner_node : Owner → ℕ
+owner_node (AHead n) = n
+owner_node (AnExt n k) = n
+owner_node (AData n k) = n
+owner_node _ = 0
 
-map_ext_inj : (a b : ℕ) → AMapExt a ≡ AMapExt b → a ≡ b
-map_ext_inj a b h = cc
+-- what stands in the places from number n on is no owner of a lower number
+stands_node : (n : ℕ) (qs : List Place) (y : Owner) (b : ℕ) → Stands n qs y b → n ≤ owner_node y
+stands_node n qs y b (in_head i u e z) = let f = ap owner_node z in omega arith
+stands_node n qs y b (in_ext i k e z) = let f = ap owner_node z in omega arith
+stands_node n qs y b (in_data i k e z) = let f = ap owner_node z in omega arith
 
-ext_inj : (n a b : ℕ) → AnExt n a ≡ AnExt n b → a ≡ b
-ext_inj n a b h = cc
-
-data_inj : (n a b : ℕ) → AData n a ≡ AData n b → a ≡ b
-data_inj n a b h = cc
-
-head_later : (n : ℕ) (qs : List Place) (y : Owner) (b : ℕ) → Stands (suc n) qs y b → AHead n ≡ y → ⊥
-head_later n qs y b (in_head i u e z) h = let f : AHead n ≡ AHead (suc n + i) = h ∙ z in let g : n ≡ suc n + i = cc in omega arith
-head_later n qs y b (in_ext i k e z) h = let f : AHead n ≡ AnExt (suc n + i) (suc k) = h ∙ z in cc
-head_later n qs y b (in_data i k e z) h = let f : AHead n ≡ AData (suc n + i) (suc k) = h ∙ z in cc
-
-ext_later : (n m : ℕ) (qs : List Place) (y : Owner) (b : ℕ) → Stands (suc n) qs y b → AnExt n m ≡ y → ⊥
-ext_later n m qs y b (in_head i u e z) h = let f : AnExt n m ≡ AHead (suc n + i) = h ∙ z in cc
-ext_later n m qs y b (in_ext i k e z) h = let f : AnExt n m ≡ AnExt (suc n + i) (suc k) = h ∙ z in let g : n ≡ suc n + i = cc in omega arith
-ext_later n m qs y b (in_data i k e z) h = let f : AnExt n m ≡ AData (suc n + i) (suc k) = h ∙ z in cc
-
-data_later : (n m : ℕ) (qs : List Place) (y : Owner) (b : ℕ) → Stands (suc n) qs y b → AData n m ≡ y → ⊥
-data_later n m qs y b (in_head i u e z) h = let f : AData n m ≡ AHead (suc n + i) = h ∙ z in cc
-data_later n m qs y b (in_ext i k e z) h = let f : AData n m ≡ AnExt (suc n + i) (suc k) = h ∙ z in cc
-data_later n m qs y b (in_data i k e z) h = let f : AData n m ≡ AData (suc n + i) (suc k) = h ∙ z in let g : n ≡ suc n + i = cc in omega arith
+not_later : (n : ℕ) (qs : List Place) (x y : Owner) (b : ℕ) → Stands n qs y b → owner_node x < n → x ≡ y → ⊥
+not_later n qs x y b s l e = let f = ap owner_node e in let g = stands_node n qs y b s in omega arith
 
 once_places : (n : ℕ) (qs : List Place) → Once (owned_from n qs)
 once_places n [] = tt
@@ -65,35 +54,20 @@ once_places n (q ∷ qs) =
           | inl k ↦ let r = numbered_at (AnExt n) 1 q.exts y b k in let f : AHead n ≡ AnExt n (1 + r.0) = e ∙ r.2 in cc
           | inr k ↦ let r = numbered_at (AData n) 1 q.datas y b k in let f : AHead n ≡ AData n (1 + r.0) = e ∙ r.2 in cc
         ]
-        | inr j ↦ head_later n qs y b (owned_stands (suc n) qs y b j) e
+        | inr j ↦ not_later (suc n) qs (AHead n) y b (owned_stands (suc n) qs y b j) (omega arith) e
       ]),
       once_append (exts ++ datas) rest
-          (once_append exts datas (once_numbered (AnExt n) 1 q.exts (ext_inj n)) (once_numbered (AData n) 1 q.datas (data_inj n))
+          (once_append exts datas (once_numbered (AnExt n) 1 q.exts (λ a b h. cc)) (once_numbered (AData n) 1 q.datas (λ a b h. cc))
           (λ x y b c i j e.
           let r = numbered_at (AnExt n) 1 q.exts x b i in
           let s = numbered_at (AData n) 1 q.datas y c j in
           let f : AnExt n (1 + r.0) ≡ AData n (1 + s.0) = sym r.2 ∙ e ∙ s.2 in cc))
           (once_places (suc n) qs)
           (λ x y b c i j e. elim (in_cases exts datas (x, b) i) [
-            | inl k ↦ let r = numbered_at (AnExt n) 1 q.exts x b k in ext_later n (1 + r.0) qs y c (owned_stands (suc n) qs y c j) (sym r.2 ∙ e)
-            | inr k ↦ let r = numbered_at (AData n) 1 q.datas x b k in data_later n (1 + r.0) qs y c (owned_stands (suc n) qs y c j) (sym r.2 ∙ e)
+            | inl k ↦ let r = numbered_at (AnExt n) 1 q.exts x b k in not_later (suc n) qs (AnExt n (1 + r.0)) y c (owned_stands (suc n) qs y c j) (omega arith) (sym r.2 ∙ e)
+            | inr k ↦ let r = numbered_at (AData n) 1 q.datas x b k in not_later (suc n) qs (AData n (1 + r.0)) y c (owned_stands (suc n) qs y c j) (omega arith) (sym r.2 ∙ e)
           ]),
     )
-
-stands_no_page : (n k : ℕ) (qs : List Place) (y : Owner) (b : ℕ) → Stands n qs y b → APage k ≡ y → ⊥
-stands_no_page n k qs y b (in_head i u e z) h = let f : APage k ≡ AHead (n + i) = h ∙ z in cc
-stands_no_page n k qs y b (in_ext i j e z) h = let f : APage k ≡ AnExt (n + i) (suc j) = h ∙ z in cc
-stands_no_page n k qs y b (in_data i j e z) h = let f : APage k ≡ AData (n + i) (suc j) = h ∙ z in cc
-
-stands_no_map_ext : (n k : ℕ) (qs : List Place) (y : Owner) (b : ℕ) → Stands n qs y b → AMapExt k ≡ y → ⊥
-stands_no_map_ext n k qs y b (in_head i u e z) h = let f : AMapExt k ≡ AHead (n + i) = h ∙ z in cc
-stands_no_map_ext n k qs y b (in_ext i j e z) h = let f : AMapExt k ≡ AnExt (n + i) (suc j) = h ∙ z in cc
-stands_no_map_ext n k qs y b (in_data i j e z) h = let f : AMapExt k ≡ AData (n + i) (suc j) = h ∙ z in cc
-
-stands_no_root : (n : ℕ) (qs : List Place) (y : Owner) (b : ℕ) → Stands n qs y b → TheRoot ≡ y → ⊥
-stands_no_root n qs y b (in_head i u e z) h = let f : TheRoot ≡ AHead (n + i) = h ∙ z in cc
-stands_no_root n qs y b (in_ext i j e z) h = let f : TheRoot ≡ AnExt (n + i) (suc j) = h ∙ z in cc
-stands_no_root n qs y b (in_data i j e z) h = let f : TheRoot ≡ AData (n + i) (suc j) = h ∙ z in cc
 
 pub once_owned : (image : List ℕ) (l : Layout) → Once (owned image l)
 once_owned image l =
@@ -103,18 +77,18 @@ once_owned image l =
         | inl k ↦ let r = numbered_at APage 0 l.pages y b k in let f : TheRoot ≡ APage (0 + r.0) = e ∙ r.2 in cc
         | inr k ↦ elim (in_cases maps rest (y, b) k) [
           | inl m ↦ let r = numbered_at AMapExt 0 l.map_exts y b m in let f : TheRoot ≡ AMapExt (0 + r.0) = e ∙ r.2 in cc
-          | inr m ↦ stands_no_root 1 l.places y b (owned_stands 1 l.places y b m) e
+          | inr m ↦ not_later 1 l.places TheRoot y b (owned_stands 1 l.places y b m) (omega arith) e
         ]
       ]),
-      once_append (numbered APage 0 l.pages) (maps ++ rest) (once_numbered APage 0 l.pages page_inj)
-          (once_append maps rest (once_numbered AMapExt 0 l.map_exts map_ext_inj) (once_places 1 l.places)
+      once_append (numbered APage 0 l.pages) (maps ++ rest) (once_numbered APage 0 l.pages (λ a b h. cc))
+          (once_append maps rest (once_numbered AMapExt 0 l.map_exts (λ a b h. cc)) (once_places 1 l.places)
           (λ x y b c i j e. let r =
-          numbered_at AMapExt 0 l.map_exts x b i in stands_no_map_ext 1 (0 + r.0) l.places y c (owned_stands 1 l.places y c j) (sym r.2 ∙ e)))
+          numbered_at AMapExt 0 l.map_exts x b i in not_later 1 l.places (AMapExt (0 + r.0)) y c (owned_stands 1 l.places y c j) (omega arith) (sym r.2 ∙ e)))
           (λ x y b c i j e.
           let r = numbered_at APage 0 l.pages x b i in
           elim (in_cases maps rest (y, c) j) [
             | inl m ↦ let s = numbered_at AMapExt 0 l.map_exts y c m in let f : APage (0 + r.0) ≡ AMapExt (0 + s.0) = sym r.2 ∙ e ∙ s.2 in cc
-            | inr m ↦ stands_no_page 1 (0 + r.0) l.places y c (owned_stands 1 l.places y c m) (sym r.2 ∙ e)
+            | inr m ↦ not_later 1 l.places (APage (0 + r.0)) y c (owned_stands 1 l.places y c m) (omega arith) (sym r.2 ∙ e)
           ]),
     )
 
