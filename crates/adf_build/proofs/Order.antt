@@ -7,7 +7,7 @@ use Rattle.std.specs.List.Sorted.{IsNonDecreasingBy}
 use Rattle.std.proofs.Math.ListN.{set}
 use Rattle.std.proofs.lemmas.Bool.{cases_eq, cases_lt}
 use Rattle.std.proofs.lemmas.Bool.Decides.{nat_tests}
-use Rattle.std.proofs.lemmas.List.{get_or-replicate}
+use Rattle.std.proofs.lemmas.List.{drop_all, get_or-replicate}
 use Rattle.std.proofs.lemmas.List.FromFn.{fill_by_all}
 use Rattle.adf_fields.specs.Hash.{slot_of}
 use Rattle.adf_tree.specs.declared.entry.Entry.{Entry}
@@ -61,30 +61,6 @@ none_below n r (e ∷ es) p s o h =
 not_both : (a b c d : ℕ) → ((a == b) && (c == d)) ≡ false → a ≡ b → c ≡ d → ⊥
 not_both a b c d t e f = grind (arith, nat_tests)
 
--- the next of a chain is none, where the next entry stands elsewhere or there is none
-pub next_none : (at : ℕ → ℕ) (n : ℕ) (e f : Entry) (left rest : List Entry) → left ≡ f ∷ rest → RisesFrom (rank e) left
-    → in_chain e.parent (slot_of e.name) f ≡ false
-    → first_block at (nodes_from n left e.parent (slot_of e.name)) ≡ 0
-next_none at n e f left rest split o t =
-    let h : f.parent ≡ e.parent → slot_of f.name ≡ slot_of e.name → ⊥ = not_both f.parent e.parent (slot_of f.name) (slot_of e.name) t in
-    let p : RisesFrom (rank e) (f ∷ rest) = subst (RisesFrom (rank e)) split o in
-    let l : 72 * e.parent + slot_of e.name ≤ 72 * f.parent + slot_of f.name = p.0 in
-    let s = slot_small e.name in
-    let u = slot_small f.name in
-    let up : 72 * e.parent + slot_of e.name < rank f = further e.parent f.parent (slot_of e.name) (slot_of f.name) l s u h in
-    ap (λ l. first_block at (nodes_from n l e.parent (slot_of e.name))) split
-    ∙ ap (first_block at) (passed n f rest e.parent (slot_of e.name) h ∙ none_below (suc n) (rank f) rest e.parent (slot_of e.name) p.1 up)
-  where
-    further : (p q s u : ℕ) → 72 * p + s ≤ 72 * q + u → s < 72 → u < 72 → (q ≡ p → u ≡ s → ⊥) → 72 * p + s < 72 * q + u
-    further p q s u l a b h = elim (cases_lt p q) [
-      | inl k ↦ omega arith
-      | inr k ↦ let e : q ≡ p = omega arith in let ne : u ≡ s → ⊥ = h e in omega arith
-    ]
-
-pub next_end : (at : ℕ → ℕ) (n p s : ℕ) (left : List Entry) → length left ≡ 0 → first_block at (nodes_from n left p s) ≡ 0
-next_end at n p s [] h = refl
-next_end at n p s (e ∷ es) h = absurd (omega arith)
-
 -- the entry at a place, by what is left from there on
 pub place_is : (es rest : List Entry) (i : ℕ) (e d : Entry) → drop i es ≡ e ∷ rest → slice_index_or es i d ≡ e
 place_is [] rest zero e d h = cc
@@ -95,6 +71,27 @@ place_is (x ∷ es) rest (suc i) e d h = place_is es rest i e d h
 -- the entries behind one of a tree rise from it
 pub rises_behind : (es rest : List Entry) (i : ℕ) (e : Entry) → IsTree es → drop i es ≡ e ∷ rest → RisesFrom (rank e) rest
 rises_behind es rest i e t split = let p : RisesFrom 0 (e ∷ rest) = subst (RisesFrom 0) split (rises_drop 0 i es (tree_rises es t)) in p.1
+
+-- the next of a chain is none, where the next entry stands elsewhere or there is none
+pub next_none : (at : ℕ → ℕ) (n i : ℕ) (es rest : List Entry) (e f : Entry) → IsTree es → drop i es ≡ e ∷ drop (i + 1) es → drop (i + 1) es ≡ f ∷ rest
+    → in_chain e.parent (slot_of e.name) f ≡ false
+    → first_block at (nodes_from n (drop (i + 1) es) e.parent (slot_of e.name)) ≡ 0
+next_none at n i es rest e f tree here split t =
+    let h : f.parent ≡ e.parent → slot_of f.name ≡ slot_of e.name → ⊥ = not_both f.parent e.parent (slot_of f.name) (slot_of e.name) t in
+    let p : RisesFrom (rank e) (f ∷ rest) = subst (RisesFrom (rank e)) split (rises_behind es (drop (i + 1) es) i e tree here) in
+    let l : 72 * e.parent + slot_of e.name ≤ 72 * f.parent + slot_of f.name = p.0 in
+    let up : 72 * e.parent + slot_of e.name < rank f =
+    further e.parent f.parent (slot_of e.name) (slot_of f.name) l (slot_small e.name) (slot_small f.name) h in
+    rw (split, passed n f rest e.parent (slot_of e.name) h) (ap (first_block at) (none_below (suc n) (rank f) rest e.parent (slot_of e.name) p.1 up))
+  where
+    further : (p q s u : ℕ) → 72 * p + s ≤ 72 * q + u → s < 72 → u < 72 → (q ≡ p → u ≡ s → ⊥) → 72 * p + s < 72 * q + u
+    further p q s u l a b h = elim (cases_lt p q) [
+      | inl k ↦ omega arith
+      | inr k ↦ let e : q ≡ p = omega arith in let ne : u ≡ s → ⊥ = h e in omega arith
+    ]
+
+pub next_end : (at : ℕ → ℕ) (n i p s : ℕ) (es : List Entry) → length es ≤ i → first_block at (nodes_from n (drop i es) p s) ≡ 0
+next_end at n i p s es h = rw (drop_all i es h)
 
 -- the parent of an entry stands before it
 pub parent_below : (es rest : List Entry) (i : ℕ) (e : Entry) → IsTree es → drop i es ≡ e ∷ rest → i < length es → e.parent ≤ i

@@ -36,6 +36,7 @@ pub fn parent_block(tree: &Tree, nodes: &[u32], i: usize, entry: &Entry) -> u32
 }
 
 /// The block of the next header in the chain of the entry at place `i`, or 0: that of the next entry or none.
+#[tactic(auto, using(crate::proofs::Order::next_none, crate::proofs::Order::next_end))]
 pub fn next_of(tree: &Tree, nodes: &[u32], i: usize, entry: &Entry) -> u32
     requires here { drop i tree.now.entries ≡ entry.now ∷ drop (i + 1) tree.now.entries }
     requires place { i < length tree.now.entries }

@@ -39,6 +39,7 @@ fn add_entry(sum: u64, kind: Kind, entry: &Entry) -> u64
 }
 
 // The blocks that the tree needs in a volume of so many blocks, or the greatest number.
+#[tactic(auto, using(crate::proofs::CountSteps::count_step, crate::proofs::CountSteps::count_goes_on))]
 fn count_blocks(tree: &Tree, blocks: u32) -> u64
     requires { is_allowed blocks ≡ true }
     ensures { result ≡ need_of tree.now blocks }
