@@ -98,21 +98,22 @@ pub parent_below : (es rest : List Entry) (i : ℕ) (e : Entry) → IsTree es �
 parent_below es rest i e t split l = subst (λ (x : Entry). x.parent ≤ i) (place_is es rest i e e split) (t.parents i e l)
 
 -- one child more
-pub mine_step : (es rest : List Entry) (p from end : ℕ) (e : Entry) → drop end es ≡ e ∷ rest → e.parent ≡ p
+pub mine_step : (es : List Entry) (p from end : ℕ) (e : Entry) → drop end es ≡ e ∷ drop (end + 1) es → e.parent ≡ p
     → AllWithin (λ (e : Entry). e.parent ≡ p) es from end → AllWithin (λ (e : Entry). e.parent ≡ p) es from (end + 1)
-mine_step es rest p from end e split h w = λ k d lo hi. elim (cases_lt k end) [
+mine_step es p from end e here h w = λ k d lo hi. elim (cases_lt k end) [
   | inl l ↦ w k d lo l
-  | inr l ↦ let z : k ≡ end = omega arith in ap (λ k. (slice_index_or es k d).parent) z ∙ ap (λ (x : Entry). x.parent) (place_is es rest end e d split) ∙ h
+  | inr l ↦ let z : k ≡ end = omega arith in rw (z, place_is es (drop (end + 1) es) end e d here) h
 ]
 
-pub low_step : (left rest : List Entry) (r : ℕ) (e : Entry) → left ≡ e ∷ rest → RisesFrom r left → RisesFrom r rest
-low_step left rest r e split o = let p : RisesFrom r (e ∷ rest) = subst (RisesFrom r) split o in rises_low r (rank e) rest p.0 p.1
+pub low_step : (es : List Entry) (r end : ℕ) (e : Entry) → drop end es ≡ e ∷ drop (end + 1) es → RisesFrom r (drop end es) → RisesFrom r (drop (end + 1) es)
+low_step es r end e here o = let p = rw here at o in rises_low r (rank e) (drop (end + 1) es) p.0 p.1
 
 -- the chains of other nodes begin behind a child
-pub others_step : (left rest : List Entry) (n m p : ℕ) (e : Entry) (q s : ℕ) → left ≡ e ∷ rest → m ≡ suc n → e.parent ≡ p → q ≢ p
-    → nodes_from n left q s ≡ nodes_from m rest q s
-others_step left rest n m p e q s split up h ne =
-    ap (λ l. nodes_from n l q s) split ∙ passed n e rest q s (λ a b. ne (sym a ∙ h)) ∙ ap (λ m. nodes_from m rest q s) (sym up)
+pub others_step : (es : List Entry) (end p : ℕ) (e : Entry) (q s : ℕ) → drop end es ≡ e ∷ drop (end + 1) es → e.parent ≡ p → q ≢ p
+    → nodes_from (end + 1) (drop end es) q s ≡ nodes_from (end + 1 + 1) (drop (end + 1) es) q s
+others_step es end p e q s here h ne =
+    let up : end + 1 + 1 ≡ suc (end + 1) = omega arith in
+    rw (here, up) (passed (end + 1) e (drop (end + 1) es) q s (λ a b. ne (sym a ∙ h)))
 
 -- no slot is filled behind the children
 pub slots_start : (at : ℕ → ℕ) (n p s : ℕ) (left : List Entry) → RisesFrom (72 * (p + 1)) left → s < 72
@@ -120,21 +121,25 @@ pub slots_start : (at : ℕ → ℕ) (n p s : ℕ) (left : List Entry) → Rises
 slots_start at n p s left o h = get_or-replicate 72 s 0 0 h ∙ sym (ap (first_block at) (none_below n (72 * (p + 1)) left p s o (omega arith)))
 
 -- one child more, before the others
-pub slots_step : (slots : List ℕ) (at : ℕ → ℕ) (n m p t v : ℕ) (e : Entry) (left rest : List Entry) → left ≡ e ∷ rest → m ≡ suc n → e.parent ≡ p
-    → slot_of e.name ≡ t → v ≡ at n → length slots ≡ 72
-    → ((s : ℕ) → s < 72 → slice_index slots s ≡ first_block at (nodes_from m rest p s))
-    → (s : ℕ) → s < 72 → slice_index (set slots t v) s ≡ first_block at (nodes_from n left p s)
-slots_step slots at n m p t v e left rest split up h slot here long f s lt = elim (cases_eq s t) [
+pub slots_step : (slots : List ℕ) (at : ℕ → ℕ) (es : List Entry) (k m p from end t : ℕ) (e : Entry) → k + 1 ≡ m → drop k es ≡ e ∷ drop (k + 1) es
+    → AllWithin (λ (e : Entry). e.parent ≡ p) es from end → from ≤ k → k < end → t ≡ slot_of e.name → length slots ≡ 72
+    → ((s : ℕ) → s < 72 → slice_index slots s ≡ first_block at (nodes_from (m + 1) (drop m es) p s))
+    → (s : ℕ) → s < 72 → slice_index (set slots t (at (k + 1))) s ≡ first_block at (nodes_from (k + 1) (drop k es) p s)
+slots_step slots at es k m p from end t e up here mine lo hi slot long f s lt = elim (cases_eq s t) [
   | inl z ↦
-      let set = get_or-set_same slots t v 0 (omega arith) in
-      let mine = taken n e rest p s h (slot ∙ sym z) in
+      let set = get_or-set_same slots t (at (k + 1)) 0 (omega arith) in
+      let first = taken (k + 1) e (drop (k + 1) es) p s child (sym slot ∙ sym z) in
       cc
   | inr ne ↦
-      let kept = get_or-set_other slots t s v 0 ne in
-      let others = passed n e rest p s (λ a b. ne (sym b ∙ slot)) in
+      let next : m + 1 ≡ suc (k + 1) = omega arith in
+      let kept = get_or-set_other slots t s (at (k + 1)) 0 ne in
+      let others = passed (k + 1) e (drop (k + 1) es) p s (λ a b. ne (sym b ∙ sym slot)) in
       let old = f s lt in
       cc
 ]
+  where
+    child : e.parent ≡ p
+    child = ap (λ (x : Entry). x.parent) (sym (place_is es (drop (k + 1) es) k e e here)) ∙ mine k e lo hi
 
 -- the slots of a node, each of which is known
 pub slots_are : (slots nodes : List ℕ) (es : List Entry) (p : ℕ) → length slots ≡ 72
