@@ -1,5 +1,5 @@
 -- Steps of a count of blocks over the entries of a tree.
-use Rattle.std.proofs.Common.{◌≡◌, ◌≤◌, ◌<◌, ℕ, zero, suc, ◌+◌, ◌-◌, ◌^◌, List, [], ◌∷◌, length, drop, min, refl, sym, ap, ◌∙◌, arith}
+use Rattle.std.proofs.Common.{◌≡◌, ◌<◌, ℕ, zero, suc, ◌+◌, ◌-◌, ◌^◌, List, [], ◌∷◌, length, drop, min, sym, ap, ◌∙◌, arith}
 use Rattle.std.proofs.Common.{Some, None, add-one, false}
 use Rattle.std.specs.Prelude.{if◌then◌else◌, ◌==◌}
 use Rattle.std.specs.List.{slice_get}
@@ -25,12 +25,6 @@ none_past : (es : List Entry) (i : ℕ) → slice_get es i ≡ None → i < leng
 none_past [] i h lt = omega arith
 none_past (x ∷ xs) zero h lt = cc
 none_past (x ∷ xs) (suc i) h lt = none_past xs i h (omega arith)
-
-pub none_left : (kind : Kind) (es : List Entry) (i : ℕ) → length es ≤ i → entries_blocks kind (drop i es) ≡ 0
-none_left kind [] zero h = refl
-none_left kind [] (suc i) h = refl
-none_left kind (e ∷ es) zero h = absurd (omega arith)
-none_left kind (e ∷ es) (suc i) h = none_left kind es i (omega arith)
 
 -- there is an entry to count
 pub count_goes_on : (es : List Entry) (i : ℕ) → None ≡ entry es (i + 1) → i < length es → ⊥

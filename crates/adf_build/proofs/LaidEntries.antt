@@ -1,5 +1,5 @@
 -- The entries of a tree fit the volume that was laid.
-use Rattle.std.proofs.Common.{◌≡◌, ℕ, zero, suc, List, ◌+◌, ◌-◌, ◌*◌, ◌/◌, ◌%◌, ◌^◌, ◌<◌, ◌≤◌, length, take, drop, min, refl, sym, ap, subst, ◌∙◌, arith, true}
+use Rattle.std.proofs.Common.{◌≡◌, ℕ, zero, suc, List, ◌+◌, ◌-◌, ◌*◌, ◌/◌, ◌%◌, ◌^◌, ◌<◌, ◌≤◌, length, take, min, refl, sym, ap, subst, ◌∙◌, arith, true}
 use Rattle.std.specs.Prelude.{slice_index}
 use Rattle.adf_fields.specs.Hash.{slot_of}
 use Rattle.adf_fields.specs.Words.{block, word}
@@ -97,7 +97,27 @@ module _ (t : Tree) (n : ℕ) (sound : IsSound t) (allowed : is_allowed n ≡ tr
   small = let high = size_high n allowed in omega arith
 
   module _ (bytes : List ℕ) (is : e.body ≡ File bytes) where
-    file_blocks : here.k + (1 + exts_needed (count t.kind (length bytes)) + count t.kind (length bytes)) ≤ entries_blocks t.kind t.entries
+    -- how many data blocks and extension blocks the file has
+    abbrev file_datas : ℕ
+    file_datas = count t.kind (length bytes)
+
+    abbrev file_exts : ℕ
+    file_exts = exts_needed file_datas
+
+    -- where they lie, and what is written there
+    abbrev ext_run : List ℕ
+    ext_run = allocated n (suc here.k) file_exts
+
+    abbrev data_run : List ℕ
+    data_run = allocated n (suc here.k + file_exts) file_datas
+
+    abbrev ext_parts : List (ℕ × List ℕ)
+    ext_parts = ext_writes n (nth_free n here.k) (suc here.k) (suc here.k + file_exts + POINTERS) (file_datas - POINTERS) file_exts
+
+    abbrev data_parts : List (ℕ × List ℕ)
+    data_parts = data_writes n t.kind (nth_free n here.k) (suc here.k + file_exts) 1 bytes file_datas
+
+    file_blocks : here.k + (1 + file_exts + file_datas) ≤ entries_blocks t.kind t.entries
     file_blocks = subst (λ b. here.k + (1 + exts_needed (data_blocks t.kind b) + data_blocks t.kind b) ≤ entries_blocks t.kind t.entries) is kept_blocks
 
     size_word : length bytes < 2 ^ 32
@@ -109,29 +129,22 @@ module _ (t : Tree) (n : ℕ) (sound : IsSound t) (allowed : is_allowed n ≡ tr
         omega arith
 
     body_is : body_of n here.k t.kind (slots_of (node_blocks t n) t.entries (suc i)) e.body
-        ≡ FileFields (length bytes) (allocated n (suc here.k + exts_needed (count t.kind (length bytes))) (min POINTERS (count t.kind (length bytes))))
-        (nth_free_or_none n (suc here.k) (exts_needed (count t.kind (length bytes))))
+        ≡ FileFields (length bytes) (allocated n (suc here.k + file_exts) (min POINTERS file_datas)) (nth_free_or_none n (suc here.k) file_exts)
     body_is = ap (body_of n here.k t.kind (slots_of (node_blocks t n) t.entries (suc i))) is
 
     writes_hold : Holds (volume t n) (body_writes n t.kind here.k (File bytes))
     writes_hold = subst (λ b. Holds (volume t n) (body_writes n t.kind here.k b)) is here.body
 
-    exts_hold : Holds (volume t n) (ext_writes n (nth_free n here.k) (suc here.k) (suc here.k + exts_needed (count t.kind (length bytes)) + POINTERS)
-        (count t.kind (length bytes) - POINTERS) (exts_needed (count t.kind (length bytes))))
-    exts_hold = holds_left (volume t n) (ext_writes n (nth_free n here.k) (suc here.k) (suc here.k + exts_needed (count t.kind (length bytes)) + POINTERS)
-        (count t.kind (length bytes) - POINTERS) (exts_needed (count t.kind (length bytes))))
-        (data_writes n t.kind (nth_free n here.k) (suc here.k + exts_needed (count t.kind (length bytes))) 1 bytes (count t.kind (length bytes))) writes_hold
+    exts_hold : Holds (volume t n) ext_parts
+    exts_hold = holds_left (volume t n) ext_parts data_parts writes_hold
 
-    datas_hold : Holds (volume t n) (data_writes n t.kind (nth_free n here.k) (suc here.k + exts_needed (count t.kind (length bytes))) 1 bytes
-        (count t.kind (length bytes)))
-    datas_hold = holds_right (volume t n) (ext_writes n (nth_free n here.k) (suc here.k) (suc here.k + exts_needed (count t.kind (length bytes)) + POINTERS)
-        (count t.kind (length bytes) - POINTERS) (exts_needed (count t.kind (length bytes))))
-        (data_writes n t.kind (nth_free n here.k) (suc here.k + exts_needed (count t.kind (length bytes))) 1 bytes (count t.kind (length bytes))) writes_hold
+    datas_hold : Holds (volume t n) data_parts
+    datas_hold = holds_right (volume t n) ext_parts data_parts writes_hold
 
-    exts_are : exts_of (planned t n) (suc i) ≡ allocated n (suc here.k) (exts_needed (count t.kind (length bytes)))
+    exts_are : exts_of (planned t n) (suc i) ≡ ext_run
     exts_are = here.exts ∙ ap (λ b. allocated n (suc here.k) (exts_needed (data_blocks t.kind b))) is
 
-    datas_are : datas_of (planned t n) (suc i) ≡ allocated n (suc here.k + exts_needed (count t.kind (length bytes))) (count t.kind (length bytes))
+    datas_are : datas_of (planned t n) (suc i) ≡ data_run
     datas_are = here.datas ∙ ap (λ b. allocated n (suc here.k + exts_needed (data_blocks t.kind b)) (data_blocks t.kind b)) is
 
     size_laid : word_in (volume t n) (nth_free n here.k) SIZE ≡ length bytes
@@ -139,95 +152,79 @@ module _ (t : Tree) (n : ℕ) (sound : IsSound t) (allowed : is_allowed n ≡ tr
         let w : size_of fields.body ≡ length bytes = ap size_of body_is in
         ap (λ bs. word bs SIZE) here.head ∙ (head_block-size fields (head_fits t n sound allowed room i e h) (let s = size_word in omega arith) ∙ w)
 
-    content_laid : bytes ≡ content (volume t n) t.kind (nth_free n here.k)
-        (allocated n (suc here.k + exts_needed (count t.kind (length bytes))) (count t.kind (length bytes)))
+    content_laid : bytes ≡ content (volume t n) t.kind (nth_free n here.k) data_run
     unfolding content
     content_laid =
         let b = file_blocks in
         let f = few in
-        sym (ap (λ m. take m (joined (volume t n) t.kind (allocated n (suc here.k + exts_needed (count t.kind (length bytes))) (count t.kind (length bytes)))))
-        size_laid
+        sym (ap (λ m. take m (joined (volume t n) t.kind data_run)) size_laid
         ∙ bytes_held (volume t n) n (entries_blocks t.kind t.entries) small few (below t n sound allowed room) (nth_free n here.k) lies t.kind
-        (suc here.k + exts_needed (count t.kind (length bytes))) 1 bytes (count t.kind (length bytes)) (omega arith) (omega arith) datas_hold
-        (chunks_cover t.kind (length bytes)))
+        (suc here.k + file_exts) 1 bytes file_datas (omega arith) (omega arith) datas_hold (chunks_cover t.kind (length bytes)))
 
     -- the header or the extension block that names data block j
-    named_laid : (q j b a : ℕ) → j / POINTERS ≡ q → At (allocated n (suc here.k + exts_needed (count t.kind (length bytes))) (count t.kind (length bytes))) j b
+    named_laid : (q j b a : ℕ) → j / POINTERS ≡ q → At data_run j b
         → TableAt (volume t n) (planned t n) (suc i) q a → word_in (volume t n) a (table_word j) ≡ b
     named_laid zero j b a z at ta =
-        let x : ℕ = exts_needed (count t.kind (length bytes)) in
-        let c : ℕ = count t.kind (length bytes) in
-        let place = allocated_at n (suc here.k + x) c j b at in
+        let place = allocated_at n (suc here.k + file_exts) file_datas j b at in
         let m : j % POINTERS ≡ j = omega arith in
         let lt : j < POINTERS = omega arith in
         let fb = file_blocks in
-        let idx : slice_index (allocated n (suc here.k + x) (min POINTERS c)) j ≡ nth_free n (suc here.k + x + j) =
-        allocated_index n (suc here.k + x) (min POINTERS c) j (omega arith) in
-        let s = below t n sound allowed room (suc here.k + x + j) (omega arith) in
+        let idx : slice_index (allocated n (suc here.k + file_exts) (min POINTERS file_datas)) j ≡ nth_free n (suc here.k + file_exts + j) =
+        allocated_index n (suc here.k + file_exts) (min POINTERS file_datas) j (omega arith) in
+        let s = below t n sound allowed room (suc here.k + file_exts + j) (omega arith) in
         let sm = small in
         let at_head : nth_free n here.k ≡ a = sym here.at ∙ ta in
         ap (λ a. word_in (volume t n) a (FIRST_POINTER - j % POINTERS)) (sym at_head)
         ∙ (ap (λ m. word_in (volume t n) (nth_free n here.k) (FIRST_POINTER - m)) m
         ∙ (ap (λ bs. word bs (FIRST_POINTER - j)) here.head
-        ∙ (head_block-pointer fields (length bytes) (allocated n (suc here.k + x) (min POINTERS c)) (nth_free_or_none n (suc here.k) x) j
+        ∙ (head_block-pointer fields (length bytes) (allocated n (suc here.k + file_exts) (min POINTERS file_datas)) (nth_free_or_none n (suc here.k) file_exts) j
         (head_fits t n sound allowed room i e h) body_is lt
-        ∙ (long_number (slice_index (allocated n (suc here.k + x) (min POINTERS c)) j) (omega arith)
+        ∙ (long_number (slice_index (allocated n (suc here.k + file_exts) (min POINTERS file_datas)) j) (omega arith)
         ∙ (idx ∙ sym place.1)))))
     named_laid (suc q) j b a z at ta =
-        let x : ℕ = exts_needed (count t.kind (length bytes)) in
-        let c : ℕ = count t.kind (length bytes) in
-        let place = allocated_at n (suc here.k + x) c j b at in
-        let ax : At (allocated n (suc here.k) x) q a = subst (λ xs. At xs q a) exts_are ta in
-        let table = allocated_at n (suc here.k) x q a ax in
-        let more : POINTERS < c = exts_some c q (omega arith) in
+        let place = allocated_at n (suc here.k + file_exts) file_datas j b at in
+        let ax : At ext_run q a = subst (λ xs. At xs q a) exts_are ta in
+        let table = allocated_at n (suc here.k) file_exts q a ax in
+        let more : POINTERS < file_datas = exts_some file_datas q (omega arith) in
         let fb = file_blocks in
-        let y : suc here.k + x + POINTERS + POINTERS * q + j % POINTERS ≡ suc here.k + x + j = omega arith in
+        let y : suc here.k + file_exts + POINTERS + POINTERS * q + j % POINTERS ≡ suc here.k + file_exts + j = omega arith in
         exts_point (volume t n) n (entries_blocks t.kind t.entries) small few (below t n sound allowed room) (nth_free n here.k) lies (suc here.k)
-        (suc here.k + x + POINTERS) (c - POINTERS) x (omega arith) (omega arith) exts_hold q a (j % POINTERS) ax (omega arith) (omega arith)
+        (suc here.k + file_exts + POINTERS) (file_datas - POINTERS) file_exts (omega arith) (omega arith) exts_hold q a (j % POINTERS) ax (omega arith) (omega arith)
         ∙ (ap (nth_free n) y ∙ sym place.1)
 
-    formed_laid : (kind : Kind) → t.kind ≡ kind → (j b : ℕ)
-        → At (allocated n (suc here.k + exts_needed (count t.kind (length bytes))) (count t.kind (length bytes))) j b
-        → AllHold (data_demands (volume t n) kind b (nth_free n here.k) (suc j) (held kind (length bytes) (suc j))
-        (slice_index (allocated n (suc here.k + exts_needed (count t.kind (length bytes))) (count t.kind (length bytes))) (suc j)))
+    formed_laid : (kind : Kind) → t.kind ≡ kind → (j b : ℕ) → At data_run j b
+        → AllHold (data_demands (volume t n) kind b (nth_free n here.k) (suc j) (held kind (length bytes) (suc j)) (slice_index data_run (suc j)))
     formed_laid Ffs z j b at = tt
     formed_laid Ofs z j b at =
-        let x : ℕ = exts_needed (count t.kind (length bytes)) in
-        let c : ℕ = count t.kind (length bytes) in
-        let place = allocated_at n (suc here.k + x) c j b at in
-        let co : c ≡ count Ofs (length bytes) = ap (λ k. count k (length bytes)) z in
+        let place = allocated_at n (suc here.k + file_exts) file_datas j b at in
+        let co : file_datas ≡ count Ofs (length bytes) = ap (λ k. count k (length bytes)) z in
         let fb = file_blocks in
         let f = few in
         let y : 1 + j ≡ suc j = omega arith in
-        let ho : Holds (volume t n) (data_writes n Ofs (nth_free n here.k) (suc here.k + x) 1 bytes c) =
-        subst (λ k. Holds (volume t n) (data_writes n k (nth_free n here.k) (suc here.k + x) 1 bytes c)) z datas_hold in
-        subst (λ m. AllHold (data_demands (volume t n) Ofs b (nth_free n here.k) (suc j) m (slice_index (allocated n (suc here.k + x) c) (suc j))))
-        (held_long bytes j)
-        (subst (λ m. AllHold (data_demands (volume t n) Ofs b (nth_free n here.k) m (length (take (chunk Ofs) (drop (chunk Ofs * j) bytes)))
-        (slice_index (allocated n (suc here.k + x) c) (suc j)))) y
-        (datas_formed (volume t n) n (entries_blocks t.kind t.entries) small few (below t n sound allowed room) (nth_free n here.k) lies (suc here.k + x) 1
-        bytes c (omega arith) (omega arith) ho j b at))
+        let ho : Holds (volume t n) (data_writes n Ofs (nth_free n here.k) (suc here.k + file_exts) 1 bytes file_datas) =
+        subst (λ k. Holds (volume t n) (data_writes n k (nth_free n here.k) (suc here.k + file_exts) 1 bytes file_datas)) z datas_hold in
+        subst (λ m. AllHold (data_demands (volume t n) Ofs b (nth_free n here.k) m (held Ofs (length bytes) (suc j)) (slice_index data_run (suc j)))) y
+        (rw (← held_long bytes j) (datas_formed (volume t n) n (entries_blocks t.kind t.entries) small few (below t n sound allowed room) (nth_free n here.k)
+        lies (suc here.k + file_exts) 1 bytes file_datas (omega arith) (omega arith) ho j b at))
 
     file_at : FileFits (volume t n) t (planned t n) (suc i) (nth_free n here.k) bytes
     file_at =
-        let x : ℕ = exts_needed (count t.kind (length bytes)) in
-        let c : ℕ = count t.kind (length bytes) in
         let fb = file_blocks in
-        let first : word_in (volume t n) (nth_free n here.k) EXTENSION ≡ nth_free_or_none n (suc here.k) x =
+        let first : word_in (volume t n) (nth_free n here.k) EXTENSION ≡ nth_free_or_none n (suc here.k) file_exts =
         ap (λ bs. word bs EXTENSION) here.head
         ∙ (head_block-ext fields (head_fits t n sound allowed room i e h)
         (subst (λ b. ext_of b < 2 ^ 32) (sym body_is) (next_small n (entries_blocks t.kind t.entries) small few (below t n sound allowed room)
-        (suc here.k) x (omega arith))) ∙ ap ext_of body_is) in
+        (suc here.k) file_exts (omega arith))) ∙ ap ext_of body_is) in
         record {
           exts = subst (λ xs. Spelled (λ b. word_in (volume t n) b EXTENSION) (word_in (volume t n) (nth_free n here.k) EXTENSION) xs) (sym exts_are)
-              (subst (λ w. Spelled (λ b. word_in (volume t n) b EXTENSION) w (allocated n (suc here.k) x)) (sym first)
+              (subst (λ w. Spelled (λ b. word_in (volume t n) b EXTENSION) w ext_run) (sym first)
               (exts_linked (volume t n) n (entries_blocks t.kind t.entries) small few (below t n sound allowed room) (nth_free n here.k) lies (suc here.k)
-              (suc here.k + x + POINTERS) (c - POINTERS) x (omega arith) exts_hold));
+              (suc here.k + file_exts + POINTERS) (file_datas - POINTERS) file_exts (omega arith) exts_hold));
           ext_form = (λ k b a. exts_formed (volume t n) n (entries_blocks t.kind t.entries) small few (below t n sound allowed room) (nth_free n here.k) lies
-              (suc here.k) (suc here.k + x + POINTERS) (c - POINTERS) x (omega arith) exts_hold k b (subst (λ xs. At xs k b) exts_are a));
-          enough = (let a = exts_enough c in let l : length (exts_of (planned t n) (suc i)) ≡ x =
-              ap length exts_are ∙ length_allocated n (suc here.k) x in omega arith);
-          datas = ap length datas_are ∙ length_allocated n (suc here.k + x) c;
+              (suc here.k) (suc here.k + file_exts + POINTERS) (file_datas - POINTERS) file_exts (omega arith) exts_hold k b (subst (λ xs. At xs k b) exts_are a));
+          enough = (let a = exts_enough file_datas in let l : length (exts_of (planned t n) (suc i)) ≡ file_exts =
+              ap length exts_are ∙ length_allocated n (suc here.k) file_exts in omega arith);
+          datas = ap length datas_are ∙ length_allocated n (suc here.k + file_exts) file_datas;
           named = (λ k b a at ta. named_laid (k / POINTERS) k b a refl (subst (λ xs. At xs k b) datas_are at) ta);
           data_form = (λ k b at. subst (λ xs. AllHold (data_demands (volume t n) t.kind b (nth_free n here.k) (suc k) (held t.kind (length bytes) (suc k))
               (slice_index xs (suc k)))) (sym datas_are) (formed_laid t.kind refl k b (subst (λ xs. At xs k b) datas_are at)));
