@@ -177,8 +177,8 @@ module _ (t : Tree) (n : ℕ) (sound : IsSound t) (allowed : is_allowed n ≡ tr
         ap (λ a. word_in (volume t n) a (FIRST_POINTER - j % POINTERS)) (sym at_head)
         ∙ (ap (λ m. word_in (volume t n) (nth_free n here.k) (FIRST_POINTER - m)) m
         ∙ (ap (λ bs. word bs (FIRST_POINTER - j)) here.head
-        ∙ (head_block-pointer fields (length bytes) (allocated n (suc here.k + file_exts) (min POINTERS file_datas)) (nth_free_or_none n (suc here.k) file_exts) j
-        (head_fits t n sound allowed room i e h) body_is lt
+        ∙ (head_block-pointer fields (length bytes) (allocated n (suc here.k + file_exts) (min POINTERS file_datas)) (nth_free_or_none n (suc here.k) file_exts)
+        j (head_fits t n sound allowed room i e h) body_is lt
         ∙ (long_number (slice_index (allocated n (suc here.k + file_exts) (min POINTERS file_datas)) j) (omega arith)
         ∙ (idx ∙ sym place.1)))))
     named_laid (suc q) j b a z at ta =
@@ -189,7 +189,8 @@ module _ (t : Tree) (n : ℕ) (sound : IsSound t) (allowed : is_allowed n ≡ tr
         let fb = file_blocks in
         let y : suc here.k + file_exts + POINTERS + POINTERS * q + j % POINTERS ≡ suc here.k + file_exts + j = omega arith in
         exts_point (volume t n) n (entries_blocks t.kind t.entries) small few (below t n sound allowed room) (nth_free n here.k) lies (suc here.k)
-        (suc here.k + file_exts + POINTERS) (file_datas - POINTERS) file_exts (omega arith) (omega arith) exts_hold q a (j % POINTERS) ax (omega arith) (omega arith)
+        (suc here.k + file_exts + POINTERS) (file_datas - POINTERS) file_exts (omega arith) (omega arith) exts_hold q a (j % POINTERS) ax (omega arith)
+        (omega arith)
         ∙ (ap (nth_free n) y ∙ sym place.1)
 
     formed_laid : (kind : Kind) → t.kind ≡ kind → (j b : ℕ) → At data_run j b
@@ -221,7 +222,8 @@ module _ (t : Tree) (n : ℕ) (sound : IsSound t) (allowed : is_allowed n ≡ tr
               (exts_linked (volume t n) n (entries_blocks t.kind t.entries) small few (below t n sound allowed room) (nth_free n here.k) lies (suc here.k)
               (suc here.k + file_exts + POINTERS) (file_datas - POINTERS) file_exts (omega arith) exts_hold));
           ext_form = (λ k b a. exts_formed (volume t n) n (entries_blocks t.kind t.entries) small few (below t n sound allowed room) (nth_free n here.k) lies
-              (suc here.k) (suc here.k + file_exts + POINTERS) (file_datas - POINTERS) file_exts (omega arith) exts_hold k b (subst (λ xs. At xs k b) exts_are a));
+              (suc here.k) (suc here.k + file_exts + POINTERS) (file_datas - POINTERS) file_exts (omega arith) exts_hold k b
+              (subst (λ xs. At xs k b) exts_are a));
           enough = (let a = exts_enough file_datas in let l : length (exts_of (planned t n) (suc i)) ≡ file_exts =
               ap length exts_are ∙ length_allocated n (suc here.k) file_exts in omega arith);
           datas = ap length datas_are ∙ length_allocated n (suc here.k + file_exts) file_datas;

@@ -118,7 +118,8 @@ bit_tells n total q r h =
     let at : ℕ = PAGE_BITS * q + 32 * (r / 32) in
     let y : at + r % 32 ≡ PAGE_BITS * q + r = omega arith in
     let words : ℕ → ℕ = λ w. bits_from f (PAGE_BITS * q + 32 * w) 32 in
-    let w : slice_index (page_words n total q) (r / 32) ≡ bits_from f at 32 = get_or-map-range_with_len words 0 127 (r / 32) (r / 32) 0 (omega arith) (omega arith) in
+    let w : slice_index (page_words n total q) (r / 32) ≡ bits_from f at 32 =
+    get_or-map-range_with_len words 0 127 (r / 32) (r / 32) 0 (omega arith) (omega arith) in
     let b : bits_from f at 32 / 2 ^ (r % 32) % 2 ≡ cond (f (PAGE_BITS * q + r)) 1 0 =
     bit_of f at 32 (r % 32) (omega arith) ∙ ap (λ j. cond (f j) 1 0) y in
     let p = page_block-bit (page_words n total q) r (length-map-range_with_len words 0 127) h (rw w (bits_small f at 32)) in (
@@ -172,7 +173,8 @@ module _ (t : Tree) (n : ℕ) (sound : IsSound t) (allowed : is_allowed n ≡ tr
       ∙ (root_block-page (planned_root t n) k (fits_root t n sound allowed room) l (omega arith) ∙ e)
 
   page_at : (q : ℕ) → q < pages_needed n → block (volume t n) (middle n + 1 + q) ≡ page_block (page_words n (entries_blocks t.kind t.entries) q)
-  page_at q l = page_holds (volume t n) n (entries_blocks t.kind t.entries) 0 (pages_needed n) q (holds_pages t n sound allowed room) (omega arith) (omega arith)
+  page_at q l =
+      page_holds (volume t n) n (entries_blocks t.kind t.entries) 0 (pages_needed n) q (holds_pages t n sound allowed room) (omega arith) (omega arith)
 
   page_formed : (k b : ℕ) → At (range_with_len (middle n + 1) (pages_needed n)) k b → AllHold (page_demands (volume t n) b)
   page_formed k b h =
@@ -225,8 +227,8 @@ module _ (t : Tree) (n : ℕ) (sound : IsSound t) (allowed : is_allowed n ≡ tr
   map_ext_is : (j : ℕ) → j < map_exts_needed (pages_needed n)
       → block (volume t n) (middle n + 1 + pages_needed n + j)
       ≡ map_ext_block (listed_pages n j) (map_ext_or_none n (suc j) (map_exts_needed (pages_needed n) - suc j))
-  map_ext_is j l = map_ext_holds (volume t n) n 0 (map_exts_needed (pages_needed n)) (map_exts_needed (pages_needed n)) j (holds_map_exts t n sound allowed room)
-      (omega arith) (omega arith) l
+  map_ext_is j l = map_ext_holds (volume t n) n 0 (map_exts_needed (pages_needed n)) (map_exts_needed (pages_needed n)) j
+      (holds_map_exts t n sound allowed room) (omega arith) (omega arith) l
 
   -- a bitmap extension block lies in the volume
   map_ext_near : (j : ℕ) → j ≤ map_exts_needed (pages_needed n) → middle n + 1 + pages_needed n + j < 2 ^ 32

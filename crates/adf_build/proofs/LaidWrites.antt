@@ -80,7 +80,10 @@ are_map_exts n j (suc m) h = (
       (omega arith),
 )
 
--- the parts behind the entries: the pages, the bitmap extension blocks, the root and the boot block
+-- the parts: the entries, and behind them the pages, the bitmap extension blocks, the root and the boot block
+abbrev entries_of : Tree → ℕ → List (ℕ × List ℕ)
+entries_of t n = entries_writes n t.kind (node_blocks t n) t.entries 1 0 t.entries
+
 abbrev pages_of : Tree → ℕ → List (ℕ × List ℕ)
 pages_of t n = page_writes n (entries_blocks t.kind t.entries) 0 (pages_needed n)
 
@@ -89,6 +92,9 @@ map_exts_of n = map_ext_writes n 0 (map_exts_needed (pages_needed n))
 
 abbrev ends_of : Tree → ℕ → List (ℕ × List ℕ)
 ends_of t n = (middle n, root_block (planned_root t n)) ∷ (0, block_of_fields ((0, boot_bytes t.kind) ∷ [])) ∷ []
+
+abbrev rest_of : Tree → ℕ → List (ℕ × List ℕ)
+rest_of t n = pages_of t n ++ (map_exts_of n ++ ends_of t n)
 
 module _ (t : Tree) (n : ℕ) (sound : IsSound t) (allowed : is_allowed n ≡ true) (room : blocks_needed t n ≤ n - 2) where
   total : ℕ
@@ -131,22 +137,13 @@ module _ (t : Tree) (n : ℕ) (sound : IsSound t) (allowed : is_allowed n ≡ tr
       let p = reserved_parts n in
       let r = reserved_below n four in
       let b = boot_short t.kind in
-      are-append n (entries_writes n t.kind (node_blocks t n) t.entries 1 0 t.entries) (pages_of t n ++ (map_exts_of n ++ ends_of t n))
+      let boot = length-block_of_fields 512 ((0, boot_bytes t.kind) ∷ []) (omega arith) (omega arith, tt) in
+      are-append n (entries_of t n) (rest_of t n)
       (are_entries n (entries_blocks t.kind t.entries) (omega arith) (omega arith) below t.kind (node_blocks t n) t.entries 1 0 t.entries near (omega arith)
       entry_sound)
-      (are-append n (pages_of t n) (map_exts_of n ++ ends_of t n)
-      (are_pages n (entries_blocks t.kind t.entries) 0 (pages_needed n) (omega arith))
-      (are-append n (map_exts_of n) (ends_of t n)
-      (are_map_exts n 0 (map_exts_needed (pages_needed n)) (omega arith)) (
-        omega arith,
-        length_root_block (planned_root t n) fits_root,
-        (
-          omega arith,
-          length-block_of_fields 512 ((0, boot_bytes t.kind) ∷ []) (omega arith)
-              (omega arith, tt),
-          tt,
-        ),
-      )))
+      (are-append n (pages_of t n) (map_exts_of n ++ ends_of t n) (are_pages n (entries_blocks t.kind t.entries) 0 (pages_needed n) (omega arith))
+      (are-append n (map_exts_of n) (ends_of t n) (are_map_exts n 0 (map_exts_needed (pages_needed n)) (omega arith))
+      (omega arith, length_root_block (planned_root t n) fits_root, (omega arith, boot, tt))))
 
   writes_numbers : numbers_of (writes t n) ≡ allocated n 0 (entries_blocks t.kind t.entries)
       ++ (range_with_len (middle n + 1) (reserved n) ++ middle n ∷ 0 ∷ [])
@@ -191,13 +188,11 @@ module _ (t : Tree) (n : ℕ) (sound : IsSound t) (allowed : is_allowed n ≡ tr
   unfolding volume
   holds_all = laid_holds n (replicate (n * 512) 0) (writes t n) (writes t n) writes_are writes_once zeros_long (λ q h. h)
 
-  pub holds_entries : Holds (volume t n) (entries_writes n t.kind (node_blocks t n) t.entries 1 0 t.entries)
-  holds_entries = holds_left (volume t n) (entries_writes n t.kind (node_blocks t n) t.entries 1 0 t.entries)
-      (pages_of t n ++ (map_exts_of n ++ ends_of t n)) holds_all
+  pub holds_entries : Holds (volume t n) (entries_of t n)
+  holds_entries = holds_left (volume t n) (entries_of t n) (rest_of t n) holds_all
 
-  holds_rest : Holds (volume t n) (pages_of t n ++ (map_exts_of n ++ ends_of t n))
-  holds_rest = holds_right (volume t n) (entries_writes n t.kind (node_blocks t n) t.entries 1 0 t.entries) (pages_of t n ++ (map_exts_of n ++ ends_of t n))
-      holds_all
+  holds_rest : Holds (volume t n) (rest_of t n)
+  holds_rest = holds_right (volume t n) (entries_of t n) (rest_of t n) holds_all
 
   pub holds_pages : Holds (volume t n) (page_writes n (entries_blocks t.kind t.entries) 0 (pages_needed n))
   holds_pages = holds_left (volume t n) (pages_of t n) (map_exts_of n ++ ends_of t n) holds_rest

@@ -19,8 +19,8 @@ use Rattle.adf_build.specs.Writes.{with_blocks}
 use Rattle.adf_tree.specs.declared.entry.Body.TheVariants.{File}
 use Rattle.adf_blocks.specs.HeadBlock.{head_block}
 use Rattle.adf_blocks.specs.declared.layout.TheConstants.{POINTERS, ROOT_PAGES}
-use Rattle.adf_build.specs.Laid.{boot_bytes, data_bytes, data_writes, entries_writes, ext_writes, first_block, heads_from, map_ext_writes, node_blocks, nth_free_or_none, page_writes}
-use Rattle.adf_build.specs.Laid.{map_ext_or_none, planned_root, slots_of, writes}
+use Rattle.adf_build.specs.Laid.{boot_bytes, data_bytes, data_writes, entries_writes, ext_writes, first_block, heads_from, map_ext_writes}
+use Rattle.adf_build.specs.Laid.{map_ext_or_none, node_blocks, nth_free_or_none, page_writes, planned_root, slots_of, writes}
 use Rattle.adf_build.specs.Plan.{data_blocks, entries_blocks, entry_blocks, exts_needed, nth_free}
 use Rattle.adf_build.specs.Building.{IsSoundEntry, entry_writes, file_header}
 use Rattle.adf_build.specs.declared.heads.Spot.{Spot}

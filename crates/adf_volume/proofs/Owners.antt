@@ -64,8 +64,12 @@ once_places n (q ∷ qs) =
           let f : AnExt n (1 + r.0) ≡ AData n (1 + s.0) = sym r.2 ∙ e ∙ s.2 in cc))
           (once_places (suc n) qs)
           (λ x y b c i j e. elim (in_cases exts datas (x, b) i) [
-            | inl k ↦ let r = numbered_at (AnExt n) 1 q.exts x b k in not_later (suc n) qs (AnExt n (1 + r.0)) y c (owned_stands (suc n) qs y c j) (omega arith) (sym r.2 ∙ e)
-            | inr k ↦ let r = numbered_at (AData n) 1 q.datas x b k in not_later (suc n) qs (AData n (1 + r.0)) y c (owned_stands (suc n) qs y c j) (omega arith) (sym r.2 ∙ e)
+            | inl k ↦
+                let r = numbered_at (AnExt n) 1 q.exts x b k in
+                not_later (suc n) qs (AnExt n (1 + r.0)) y c (owned_stands (suc n) qs y c j) (omega arith) (sym r.2 ∙ e)
+            | inr k ↦
+                let r = numbered_at (AData n) 1 q.datas x b k in
+                not_later (suc n) qs (AData n (1 + r.0)) y c (owned_stands (suc n) qs y c j) (omega arith) (sym r.2 ∙ e)
           ]),
     )
 
