@@ -35,8 +35,8 @@ module _ (image : List ℕ) (w : List (Role × ℕ)) (v : IsWalk image w) (whole
       subst (λ xs. At xs k b) (sym (file_parts image w v whole n f.0 f.1).2) (data_has image w v n k b h)
 
   -- the blocks of a place are those of its file
-  lists : (i : ℕ) → i < length (places_in w w) → (exts_at (places_in w w) i ≡ exts_in w (suc i)) × (datas_at (places_in w w) i ≡ datas_in w (suc i))
-  lists i u =
+  place_lists : (i : ℕ) → i < length (places_in w w) → (exts_at (places_in w w) i ≡ exts_in w (suc i)) × (datas_at (places_in w w) i ≡ datas_in w (suc i))
+  place_lists i u =
       let l = places_length image w w in
       let x = numbers image v (suc i) (omega arith) (omega arith) in
       let y = head_is image w v whole (suc i) x.0 x.1 x.2 x.3 x.4 in
@@ -53,11 +53,11 @@ module _ (image : List ℕ) (w : List (Role × ℕ)) (v : IsWalk image w) (whole
   part_has (Ext n zero) b h = absurd h
   part_has (Ext zero (suc k)) b h = absurd h
   part_has (Ext (suc i) (suc k)) b h =
-      has_ext image w v (suc i) k b (subst (λ xs. At xs k b) (lists i (exts_below (places_in w w) i k b h)).0 h)
+      has_ext image w v (suc i) k b (subst (λ xs. At xs k b) (place_lists i (exts_below (places_in w w) i k b h)).0 h)
   part_has (Data n zero) b h = absurd h
   part_has (Data zero (suc k)) b h = absurd h
   part_has (Data (suc i) (suc k)) b h =
-      has_data image w v (suc i) k b (subst (λ xs. At xs k b) (lists i (datas_below (places_in w w) i k b h)).1 h)
+      has_data image w v (suc i) k b (subst (λ xs. At xs k b) (place_lists i (datas_below (places_in w w) i k b h)).1 h)
 
   -- each member of the walk is owned, and each owned block is a member
   pub is_owned : (r : Role) (b : ℕ) → Has w r b → In (owned image (layout_in w)) (owner_of r, b)
