@@ -175,9 +175,6 @@ HeadFault h r l = IfErr r (λ k. Stops (bare h) (line_value l) k)
 abbrev pub EntriesLines : Reading → Reading → Result (Unit {0}) ManifestKind → Line → Type 0
 EntriesLines old new r l = (m : Manifest) (e : Entries) → IsWell m → IsReading old m e → IfOk r (λ _. GoesOn (state.Entries new) m (line_text (line_value l)))
 
-abbrev pub EntriesFault : Reading → Result (Unit {0}) ManifestKind → Line → Type 0
-EntriesFault q r l = (m : Manifest) (e : Entries) → IsWell m → IsReading q m e → IfErr r (λ k. Stops m (line_value l) k)
-
 -- a fault is told in the manifest's words
 pub first_fault_explains : (kind : ManifestKind) (number : ℕ) (bytes : List ℕ) → length bytes ≤ most_bytes → ExplainsLines kind number (lines bytes)
     → ExplainsKind kind number bytes

@@ -6,6 +6,7 @@ ghost use Rattle.adf_manifest.specs.Texts.{hex_word};
 ghost use Rattle.adf_texts.specs.VolumeLines.{right_in_ten};
 
 use adf_tree::hex_digit;
+use itoa::write_digits;
 use std::alloc::AllocError;
 
 /// Appends eight hexadecimal digits and the byte behind them.
@@ -38,15 +39,7 @@ fn decimal_digits(value: u32, end: u8) -> ([u8; 11], usize)
 {
     let mut digits = [b' '; 11];
     digits[10] = end;
-    let mut rest = value;
-    let mut at = 10usize;
-    while rest >= 10 {
-        at -= 1;
-        digits[at] = b'0' + (rest % 10) as u8;
-        rest /= 10;
-    }
-    at -= 1;
-    digits[at] = b'0' + rest as u8;
+    let at = write_digits(u64::from(value), &mut digits, 10);
     (digits, at)
 }
 
