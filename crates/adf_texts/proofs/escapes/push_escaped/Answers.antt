@@ -1,8 +1,7 @@
-use Rattle.std.proofs.Common.{◌≡◌, ◌∙◌, ◌++◌, ℕ, List, [], ◌∷◌, true, refl, sym, ap}
+use Rattle.std.proofs.Common.{◌≡◌, ◌∙◌, ℕ, List, [], ◌∷◌, true, refl, rules, sym}
 use Rattle.std.specs.List.{list_all}
 use Rattle.std.proofs.lemmas.Bool.{and_parts}
 use Rattle.adf_tree.specs.Escapes.{escaped, is_plain}
-use Rattle.adf_texts.proofs.Appends.{appended_as, appends_if}
 use Rattle.adf_tree.proofs.Spellings.{spelled_plain}
 use Rattle.adf_texts.proofs.escapes.push_escaped.Goals as goal
 
@@ -11,13 +10,7 @@ plain_escaped : (bytes : List ℕ) → list_all is_plain bytes ≡ true → esca
 plain_escaped [] h = refl
 plain_escaped (c ∷ cs) h =
     let parts = and_parts (is_plain c) (list_all is_plain cs) h in
-    ap (λ t. t ++ escaped cs) (spelled_plain c parts.0) ∙ ap (λ t. c ∷ t) (plain_escaped cs parts.1)
+    rw (spelled_plain c parts.0, plain_escaped cs parts.1)
 
 pub returns-then-are_plain : goal.returns-then-are_plain
-returns-then-are_plain c =
-    let old = c.args.text.now.items in
-    let bytes = c.args.bytes.now in
-    let new = c.extend_from_slice.new.self.items in
-    let plain : escaped bytes ≡ bytes = plain_escaped bytes (sym c.are_plain.ensures ∙ c.if-are_plain.true) in
-    appended_as c.extend_from_slice.result old new bytes (escaped bytes) (sym plain)
-    (appends_if c.extend_from_slice.result old new bytes c.extend_from_slice.ensures.items)
+returns-then-are_plain c = rw (plain_escaped c.args.bytes.now (sym c.are_plain.ensures ∙ c.if-are_plain.true)) (search rules)
