@@ -1,7 +1,7 @@
 -- From outcomes to answers.
 use Rattle.std.proofs.Common.{◌≡◌, ◌≢◌, ◌∙◌, inl, inr, ℕ, Bool, false, List, [], Option, Some, None, IfSome, refl, sym, ap, subst, arith}
-use Rattle.std.specs.Prelude.{codes, option_map, string_bytes}
-use Rattle.adf_fields.specs.declared.dates.Stamp.{Stamp}
+use Rattle.std.specs.Prelude.{codes, string_bytes}
+use Rattle.adf_fields.proofs.DateTexts.{date_of, date_of_is}
 use Rattle.adf_tree.specs.PathTexts.{IsPathText}
 use Rattle.adf_tree.specs.Tree.{Tree, entry, find, with_kind}
 use Rattle.adf_tree.specs.declared.entry.Kind.{Kind}
@@ -20,15 +20,11 @@ use Rattle.adf_manifest.specs.Manifest.{ExplainsFault, IsManifest}
 use Rattle.adf_cmd.specs.Outcomes.{CopyWorks, IsFaultOutcome, IsRefusal, IsRefusedImage, TellsFault, TreeWorks, Works, is_read_fault, line_of, status_of}
 use Rattle.adf_cmd.specs.Streams.{AppendsPart, Says}
 use Rattle.adf_texts.specs.Lines.{fault_line, ok_line}
-use Rattle.adf_texts.specs.VolumeLines.{AreDates, volume_lines}
+use Rattle.adf_texts.specs.VolumeLines.{volume_lines}
 use Rattle.adf_manifest.specs.declared.manifest.ManifestFault.{ManifestFault}
 use Rattle.adf_cmd.specs.declared.outcome.Outcome.{Outcome}
 use Rattle.adf_cmd.specs.declared.outcome.Outcome.TheVariants.{Done, FaultWritten, Refused, NoSuchPath, NotAFile, ReadFault, WriteFault, NoMemory}
 use Rattle.adf_cmd.proofs.PendingText.{appends_nil}
-
-pub if_some_weaker : {T : Type 0} {P Q : T → Type 0} (o : Option T) → ((x : T) → P x → Q x) → IfSome o P → IfSome o Q
-if_some_weaker None f p = tt
-if_some_weaker (Some x) f p = f x p
 
 -- the numbers are those of a tree and a layout that fit
 abbrev CountsOf : List ℕ → Counts → Type 0
@@ -55,25 +51,15 @@ refused_image NoMemory image f first h = tt
 refused_image _ image f first h = absurd h
 
 -- what is said of a refused image answers a request that is refused with it
-refused_image_works : (w : Outcome) (r : Request) (image : List ℕ) (o : Option (List ℕ))
+pub refused_image_works : (w : Outcome) (r : Request) (image : List ℕ) (o : Option (List ℕ))
     → ((err : List ℕ) → RefusesImage image 1 [] err → Answer r image 1 [] err) → IsRefusedImage image w → Works w r image o o
 refused_image_works (Refused line) r image o f h = ([], f (string_bytes line) (h.0, h.1, refl, refl, h.2), appends_nil o)
 refused_image_works NoMemory r image o f h = inl (appends_nil o)
 refused_image_works _ r image o f h = absurd h
 
-pub list_refused : (w : Outcome) (image : List ℕ) (o : Option (List ℕ)) → IsRefusedImage image w → Works w list image o o
-list_refused w image o h = refused_image_works w list image o (λ err refuses. inr refuses) h
-
-pub cat_refused : (w : Outcome) (path image : List ℕ) (o : Option (List ℕ)) → IsRefusedImage image w → Works w (cat path) image o o
-cat_refused w path image o h = refused_image_works w (cat path) image o (λ err refuses. inr (inr refuses)) h
-
-pub convert_refused : (w : Outcome) (kind : Kind) (image : List ℕ) (o : Option (List ℕ)) → IsRefusedImage image w → Works w (convert kind) image o o
-convert_refused w kind image o h = refused_image_works w (convert kind) image o (λ err refuses. inr refuses) h
-
 -- the lines of a volume answer `list`
-pub listed : (image : List ℕ) (t : Tree) (l : Layout) (date : Stamp → List ℕ) → Fits image t l → AreDates date
-    → Answer list image 0 (volume_lines date t (blocks image)) []
-listed image t l date fits dates = inl (t, l, fits, date, dates, refl, refl, refl)
+pub listed : (image : List ℕ) (t : Tree) (l : Layout) → Fits image t l → Answer list image 0 (volume_lines date_of t (blocks image)) []
+listed image t l fits = inl (t, l, fits, date_of, date_of_is, refl, refl, refl)
 
 -- what is said of a refused manifest answers it
 pub fault_works : (w : Outcome) (lines : Bool) (input : List ℕ) (f : ManifestFault) (o : Option (List ℕ)) → ExplainsFault f input → IsFaultOutcome f w
@@ -111,8 +97,7 @@ convert_works w kind image t l n o o' fits e h =
 pub file_at : (t : Tree) (names : List (List ℕ)) (node : ℕ) (bytes : List ℕ) → Some node ≡ find t.entries names → Some bytes ≡ bytes_of (entry t.entries node)
     → contents_at t names ≡ Some (Some bytes)
 file_at t names node bytes e f =
-    let lead : Option ℕ → Option (Option (List ℕ)) = option_map (λ n. bytes_of (entry t.entries n)) in
-    ap lead (sym e) ∙ ap Some (sym f)
+    rw (← e, f)
 
 -- what was copied of what a path leads to answers the request for it
 copies : (found : Option (Option (List ℕ))) (path : List ℕ) (names : List (List ℕ)) (image : List ℕ) (t : Tree) (l : Layout) (s : ℕ) (out err : List ℕ)
@@ -135,36 +120,35 @@ copy_works NoMemory path names image t l o o' text fits (bytes, e, h) =
 copy_works _ path names image t l o o' text fits h = absurd h
 
 -- an outcome at a status other than 3 is an answer
-outcome_answers : (w : Outcome) (words : List (List ℕ)) (r : Request) (input : List ℕ) (o o' e e' : Option (List ℕ)) (failed : Bool) (status : ℕ)
-    → Asks words r
-    → status ≡ status_of w → ¬ (status ≡ 3) → Works w r input o o' → Says failed e e' (line_of w) → Answers words input status o o' failed e e'
-outcome_answers ReadFault words r input o o' e e' failed status asks s ne h said = absurd (ne s)
-outcome_answers WriteFault words r input o o' e e' failed status asks s ne h said = absurd (ne s)
-outcome_answers NoMemory words r input o o' e e' failed status asks s ne h said = absurd (ne s)
-outcome_answers w words r input o o' e e' failed status asks s ne h said =
-    (r, asks, h.0, line_of w, subst (λ k. Answer r input k h.0 (line_of w)) (sym s) h.1, h.2, said)
+outcome_answers : (w : Outcome) (words : List (List ℕ)) (r : Request) (input : List ℕ) (o o' e e' : Option (List ℕ)) (failed : Bool) → Asks words r
+    → ¬ (status_of w ≡ 3) → Works w r input o o' → Says failed e e' (line_of w) → Answers words input (status_of w) o o' failed e e'
+outcome_answers ReadFault words r input o o' e e' failed asks ne h said = absurd (ne refl)
+outcome_answers WriteFault words r input o o' e e' failed asks ne h said = absurd (ne refl)
+outcome_answers NoMemory words r input o o' e e' failed asks ne h said = absurd (ne refl)
+outcome_answers w words r input o o' e e' failed asks ne h said = (r, asks, h.0, line_of w, h.1, h.2, said)
 
 -- and so for what is left of an input, where that is known
 pub left_answers : (w : Outcome) (words : List (List ℕ)) (r : Request) (left o o' e e' : Option (List ℕ)) (failed : Bool) (status : ℕ) → Asks words r
     → status ≡ status_of w → ¬ (status ≡ 3) → IfSome left (λ input. Works w r input o o') → Says failed e e' (line_of w)
     → IfSome left (λ input. Answers words input status o o' failed e e')
-left_answers w words r left o o' e e' failed status asks s ne h said =
-    if_some_weaker left (λ input works. outcome_answers w words r input o o' e e' failed status asks s ne works said) h
+left_answers w words r None o o' e e' failed status asks s ne h said = tt
+left_answers w words r (Some input) o o' e e' failed status asks s ne h said =
+    rw s (outcome_answers w words r input o o' e e' failed asks (λ three. ne (s ∙ three)) h said)
 
 -- an outcome at status 3 leaves a front part of an answer
-outcome_part : (w : Outcome) (words : List (List ℕ)) (r : Request) (input : List ℕ) (o o' : Option (List ℕ)) (failed : Bool) (status : ℕ) → Asks words r
-    → status ≡ status_of w → failed ≡ is_read_fault w → status ≡ 3 → Works w r input o o' → AnswersPart words failed input o o'
-outcome_part ReadFault words r input o o' failed status asks s f three h = subst (λ b. AnswersPart words b input o o') (sym f) h
-outcome_part WriteFault words r input o o' failed status asks s f three h = subst (λ b. AnswersPart words b input o o') (sym f) (inr (r, asks, h))
-outcome_part NoMemory words r input o o' failed status asks s f three (inl h) = subst (λ b. AnswersPart words b input o o') (sym f) (inl h)
-outcome_part NoMemory words r input o o' failed status asks s f three (inr h) = subst (λ b. AnswersPart words b input o o') (sym f) (inr (r, asks, h))
-outcome_part _ words r input o o' failed status asks s f three h = absurd (omega arith)
+outcome_part : (w : Outcome) (words : List (List ℕ)) (r : Request) (input : List ℕ) (o o' : Option (List ℕ)) → Asks words r → status_of w ≡ 3
+    → Works w r input o o' → AnswersPart words (is_read_fault w) input o o'
+outcome_part ReadFault words r input o o' asks three h = h
+outcome_part WriteFault words r input o o' asks three h = inr (r, asks, h)
+outcome_part NoMemory words r input o o' asks three (inl h) = inl h
+outcome_part NoMemory words r input o o' asks three (inr h) = inr (r, asks, h)
+outcome_part _ words r input o o' asks three h = absurd (omega arith)
 
 pub left_part : (w : Outcome) (words : List (List ℕ)) (r : Request) (left o o' : Option (List ℕ)) (failed : Bool) (status : ℕ) → Asks words r
     → status ≡ status_of w → failed ≡ is_read_fault w → status ≡ 3 → IfSome left (λ input. Works w r input o o')
     → IfSome left (λ input. AnswersPart words failed input o o')
-left_part w words r left o o' failed status asks s f three h =
-    if_some_weaker left (λ input works. outcome_part w words r input o o' failed status asks s f three works) h
+left_part w words r None o o' failed status asks s f three h = tt
+left_part w words r (Some input) o o' failed status asks s f three h = rw f (outcome_part w words r input o o' asks (sym s ∙ three) h)
 
 -- a path that is not read is answered so
 pub bad_path_answers : (words : List (List ℕ)) (path : List ℕ) (left o e e' : Option (List ℕ)) (failed : Bool) (status : ℕ) → Asks words (cat path)

@@ -1,10 +1,9 @@
 -- The lines of the first entries of a tree, behind a text.
-use Rattle.std.proofs.Common.{◌≡◌, ◌≤◌, ◌∙◌, ◌+◌, ◌++◌, ℕ, List, sym, ap, append_assoc, append-nil, length}
-use Rattle.std.proofs.lemmas.List.{append_cancel_left}
+use Rattle.std.proofs.Common.{◌≡◌, ◌≤◌, ◌+◌, ◌++◌, ℕ, List, append_assoc, append-nil, length}
 use Rattle.adf_fields.specs.declared.dates.Stamp.{Stamp}
 use Rattle.adf_tree.specs.declared.entry.Entry.{Entry}
 use Rattle.adf_tree.specs.Tree.{Tree}
-use Rattle.adf_texts.specs.VolumeLines.{lines_of_entries, lines_of_entry, opening_lines}
+use Rattle.adf_texts.specs.VolumeLines.{lines_of_entries, lines_of_entry}
 use Rattle.adf_texts.proofs.VolumeTexts.{lines_front, lines_of_more, lines_of_none}
 
 pub entries_none : (date : Stamp → List ℕ) (es : List Entry) (text : List ℕ) → text ++ lines_of_entries date es 0 ≡ text

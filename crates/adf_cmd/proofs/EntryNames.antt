@@ -34,12 +34,7 @@ pub gathered_more : (es : List Entry) (names path : List (List ℕ)) (n : ℕ) (
     → names ≡ names_of es n ++ reverse path → names ≡ names_of es r.parent ++ reverse (path ++ r.name ∷ [])
 gathered_more es names path n r t h e =
     let told = told_entry r (entry es n) h in
-    let x = told.0 in
-    let parents = names_of es r.parent in
-    let own : names_of es n ≡ parents ++ r.name ∷ [] =
-    names_next es n x t told.1 ∙ ap (λ p. names_of es p ++ x.name ∷ []) (sym told.2.parent) ∙ ap (λ name. parents ++ name ∷ []) (sym told.2.name) in
-    e ∙ ap (λ l. l ++ reverse path) own ∙ append_assoc parents (r.name ∷ []) (reverse path)
-    ∙ ap (λ l. parents ++ l) (sym (reverse-append path (r.name ∷ [])))
+    rw (e, names_next es n told.0 t told.1, ← told.2.parent, ← told.2.name, append_assoc, reverse-append)
 
 -- what is no entry has no names
 names_none : (es : List Entry) (n : ℕ) → entry es n ≡ None → names_of es n ≡ []
@@ -48,4 +43,4 @@ names_none es (suc m) h = ap (names_past es m) h
 
 pub gathered_all : (es : List Entry) (names path : List (List ℕ)) (n : ℕ) → RowMatches None (entry es n) → names ≡ names_of es n ++ reverse path
     → reverse path ≡ names
-gathered_all es names path n h e = sym (e ∙ ap (λ l. l ++ reverse path) (names_none es n (told_none (entry es n) h)))
+gathered_all es names path n h e = rw (e, names_none es n (told_none (entry es n) h))

@@ -1,6 +1,6 @@
 -- Laws of known bytes.
-use Rattle.std.proofs.Common.{◌≡◌, ◌+◌, ◌-◌, ◌++◌, length-drop, ◌∙◌, ℕ, List, Option, Some, None, [], sym, ap, length, take, drop, arith}
-use Rattle.std.proofs.Common.{append_assoc, append-nil}
+use Rattle.std.proofs.Common.{◌≡◌, ◌+◌, ◌-◌, ◌++◌, length-drop, ◌∙◌, ℕ, List, Option, Some, None, length, take, drop, arith}
+use Rattle.std.proofs.Common.{append_assoc}
 use Rattle.std.specs.Io.KnownBytes.{Appends, Consumes, Keeps}
 use Rattle.std.proofs.Math.Seq.{take-add}
 use Rattle.std.proofs.lemmas.List.{take_all}
@@ -9,30 +9,25 @@ use Rattle.std.proofs.lemmas.List.{take_all}
 pub rest_is : (at : ℕ) (bytes : List ℕ) → take (length bytes - at) (drop at bytes) ≡ drop at bytes
 rest_is at bytes = take_all (length bytes - at) (drop at bytes) (omega (arith, length-drop at bytes))
 
+pub appends_two : (a b c : Option (List ℕ)) (bs cs all : List ℕ) → all ≡ bs ++ cs → Appends a b bs → Appends b c cs → Appends a c all
+appends_two None b c bs cs all e p q = tt
+appends_two (Some x) None c bs cs all e p q = absurd p
+appends_two (Some x) (Some y) None bs cs all e p q = absurd q
+appends_two (Some x) (Some y) (Some z) bs cs all e p q = rw (e, q, p, append_assoc)
+
 -- a write of the rest adds to the prefix that was written
 pub appends_more : (a b c : Option (List ℕ)) (at n : ℕ) (bytes part : List ℕ) → part ≡ drop at bytes → Appends a b (take at bytes) → Appends b c (take n part)
     → Appends a c (take (at + n) bytes)
-appends_more None b c at n bytes part e p q = tt
-appends_more (Some x) None c at n bytes part e p q = absurd p
-appends_more (Some x) (Some y) None at n bytes part e p q = absurd q
-appends_more (Some x) (Some y) (Some z) at n bytes part e p q =
-    q ∙ ap (λ l. l ++ take n part) p ∙ append_assoc x (take at bytes) (take n part)
-    ∙ ap (λ l. x ++ l) (ap (λ l. take at bytes ++ take n l) e ∙ sym (take-add at n bytes))
+appends_more a b c at n bytes part e p q = appends_two a b c _ _ _ (rw e (take-add at n bytes)) p q
 
 pub consumes_more : (a b c : Option (List ℕ)) (bs cs all : List ℕ) → all ≡ bs ++ cs → Consumes a b bs → Consumes b c cs → Consumes a c all
 consumes_more None b c bs cs all e p q = tt
 consumes_more (Some x) None c bs cs all e p q = absurd p
 consumes_more (Some x) (Some y) None bs cs all e p q = absurd q
-consumes_more (Some x) (Some y) (Some z) bs cs all e p q = p ∙ ap (λ l. bs ++ l) q ∙ sym (append_assoc bs cs z) ∙ ap (λ l. l ++ z) (sym e)
+consumes_more (Some x) (Some y) (Some z) bs cs all e p q = rw (p, q, e, append_assoc)
 
 pub appends_kept : (a b c : Option (List ℕ)) (bs : List ℕ) → Appends a b bs → Keeps b c → Appends a c bs
 appends_kept None b c bs p q = tt
 appends_kept (Some x) None c bs p q = absurd p
 appends_kept (Some x) (Some y) None bs p q = absurd q
 appends_kept (Some x) (Some y) (Some z) bs p q = q ∙ p
-
-pub appends_none : (a b c : Option (List ℕ)) (bs : List ℕ) → Appends a b bs → Appends b c [] → Appends a c bs
-appends_none None b c bs p q = tt
-appends_none (Some x) None c bs p q = absurd p
-appends_none (Some x) (Some y) None bs p q = absurd q
-appends_none (Some x) (Some y) (Some z) bs p q = q ∙ append-nil y ∙ p

@@ -1,4 +1,4 @@
--- bytes, lines and words
+-- bytes and lines
 pub mod KnownBytes
 pub mod PendingText
 pub mod Lines

@@ -1,6 +1,6 @@
 -- Laws of the lines of words and blocks.
-use Rattle.std.proofs.Common.{◌≡◌, ◌≤◌, ◌+◌, ◌-◌, ◌/◌, ◌++◌, ◌∙◌, ℕ, zero, suc, List, [], refl, sym, ap, arith, append_assoc, append-nil, add-suc, add-zero}
-use Rattle.std.proofs.Common.{add-one, length}
+use Rattle.std.proofs.Common.{◌≡◌, ◌≤◌, ◌+◌, ◌/◌, ◌++◌, ℕ, List, [], refl, sym, ap, arith}
+use Rattle.std.proofs.Common.{length}
 use Rattle.adf_fields.specs.Words.{block}
 use Rattle.adf_texts.proofs.Ranges.{flat_map_front, flat_map_next}
 use Rattle.adf_cmd.specs.Listing.{line_of, lines_of, lines_of_blocks, listing}

@@ -1,5 +1,6 @@
 -- What is answered to the front of an input that is longer than the limit is answered to the whole of it.
-use Rattle.std.proofs.Common.{◌≡◌, ◌≢◌, ◌<◌, ◌≤◌, ◌+◌, ◌*◌, ◌∙◌, inl, inr, ℕ, List, Option, Some, refl, sym, subst, arith, length, take, length-take}
+use Rattle.std.proofs.Common.{◌≡◌, ◌≢◌, ◌<◌, ◌≤◌, ◌+◌, ◌*◌, ◌∙◌, inl, inr, ℕ, List, Option, Some, None, IfSome, refl, sym, subst, arith}
+use Rattle.std.proofs.Common.{length, take, length-take}
 use Rattle.std.proofs.lemmas.Bool.{cases_lt}
 use Rattle.std.proofs.lemmas.List.{take_all}
 use Rattle.adf_blocks.specs.declared.layout.TheConstants.{MOST_BLOCKS}
@@ -70,10 +71,11 @@ long_answers (build lines) image bytes a b s out err (inr h) = inr (h.0, long_ki
 long_answers (convert kind) image bytes a b s out err (inl (t, l, fits, builds)) = absurd (too_large image a fits.boots.0)
 long_answers (convert kind) image bytes a b s out err (inr h) = inr (h.0, long_fault image bytes h.0 a b h.1, h.2, h.3, h.4)
 
--- what is done with the bytes that are read is done with the whole input
-pub read_works : (w : Outcome) (r : Request) (image bytes : List ℕ) (o o' : Option (List ℕ)) → image ≡ take (limit_of (Some r) + 1) bytes
-    → Works w r image o o' → Works w r bytes o o'
-read_works w r image bytes o o' e h = elim (cases_lt (limit_of (Some r)) (length bytes)) [
+-- what is done with the bytes that are read is done with the whole input, where that is known
+pub read_works : (w : Outcome) (r : Request) (image : List ℕ) (left o o' : Option (List ℕ)) → IfSome left (λ bytes. image ≡ take (limit_of (Some r) + 1) bytes)
+    → Works w r image o o' → IfSome left (λ bytes. Works w r bytes o o')
+read_works w r image None o o' e h = tt
+read_works w r image (Some bytes) o o' e h = elim (cases_lt (limit_of (Some r)) (length bytes)) [
   | inr short ↦ subst (λ l. Works w r l o o') (e ∙ take_all (limit_of (Some r) + 1) bytes (omega arith)) h
   | inl long ↦
       let cut : limit_of (Some r) < length image = rw e (omega (arith, length-take {A = ℕ})) in

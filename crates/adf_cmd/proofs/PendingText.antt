@@ -2,28 +2,18 @@
 use Rattle.std.proofs.Common.{◌≡◌, ◌++◌, ◌∙◌, ℕ, List, Option, Some, None, Result, Ok, Err, OnErr, [], refl, sym, ap, append_assoc, append-nil}
 use Rattle.std.specs.Io.KnownBytes.{Appends}
 use Rattle.adf_cmd.specs.Streams.{AppendsPart, KeepsPending, Pending}
+use Rattle.adf_cmd.proofs.KnownBytes.{appends_two}
 
 pub appends_nil : (a : Option (List ℕ)) → Appends a a []
 appends_nil None = tt
 appends_nil (Some x) = sym (append-nil x)
 
-appends_two : (a b c : Option (List ℕ)) (bs cs all : List ℕ) → all ≡ bs ++ cs → Appends a b bs → Appends b c cs → Appends a c all
-appends_two None b c bs cs all e p q = tt
-appends_two (Some x) None c bs cs all e p q = absurd p
-appends_two (Some x) (Some y) None bs cs all e p q = absurd q
-appends_two (Some x) (Some y) (Some z) bs cs all e p q = q ∙ ap (λ l. l ++ cs) p ∙ append_assoc x bs cs ∙ ap (λ l. x ++ l) (sym e)
-
-pub pending_none : (a : Option (List ℕ)) (text done : List ℕ) → text ≡ [] → done ≡ [] → Pending a a text done
-pending_none a text done e f = ([], appends_nil a, f ∙ sym e)
-
 -- what waits before anything is written
 pub pending_begun : (a : Option (List ℕ)) (text done : List ℕ) → done ≡ text → Pending a a text done
 pending_begun a text done e = ([], appends_nil a, e)
 
-pub pending_more : (a b : Option (List ℕ)) (text done more text' done' : List ℕ) → text' ≡ text ++ more → done' ≡ done ++ more → Pending a b text done
-    → Pending a b text' done'
-pending_more a b text done more text' done' e f p =
-    (p.0, p.1, f ∙ ap (λ l. l ++ more) p.2 ∙ append_assoc p.0 text more ∙ ap (λ l. p.0 ++ l) (sym e))
+pub pending_more : (a b : Option (List ℕ)) (text done more done' : List ℕ) → done' ≡ done ++ more → Pending a b text done → Pending a b (text ++ more) done'
+pending_more a b text done more done' e p = (p.0, p.1, rw (e, p.2, append_assoc))
 
 pub pending_end : (a b c : Option (List ℕ)) (text done : List ℕ) → Pending a b text done → Appends b c text → Appends a c done
 pending_end a b c text done p q = appends_two a b c p.0 text done p.2 p.1 q
@@ -33,7 +23,7 @@ pub pending_fails : (a b c : Option (List ℕ)) (text done rest whole : List ℕ
 pending_fails a b c text done rest whole e p q = (
   p.0 ++ q.0,
   q.1 ++ rest,
-  e ∙ ap (λ l. l ++ rest) (p.2 ∙ ap (λ l. p.0 ++ l) q.2 ∙ sym (append_assoc p.0 q.0 q.1)) ∙ append_assoc (p.0 ++ q.0) q.1 rest,
+  rw (e, p.2, q.2) (simp append_assoc),
   appends_two a b c p.0 q.0 (p.0 ++ q.0) refl p.1 q.3,
 )
 

@@ -33,6 +33,7 @@ unfolding lines_of_entries
 lines_of_more date es k = flat_map_next (lines_of_entry date es) 1 k (k + 1) (omega arith)
 
 -- the lines of fewer entries stand in front
-pub lines_front : (date : Stamp → List ℕ) (es : List Entry) (k n : ℕ) → k ≤ n → (rest : List ℕ) × (lines_of_entries date es n ≡ lines_of_entries date es k ++ rest)
+pub lines_front : (date : Stamp → List ℕ) (es : List Entry) (k n : ℕ) → k ≤ n
+    → (rest : List ℕ) × (lines_of_entries date es n ≡ lines_of_entries date es k ++ rest)
 unfolding lines_of_entries
 lines_front date es k n h = flat_map_front (lines_of_entry date es) 1 k n h

@@ -3,10 +3,7 @@ use Rattle.adf_cmd.proofs.building.build_manifest.Goals as goal
 
 pub returns-in-Ok-clause-works : goal.returns-in-Ok-clause-works
 returns-in-Ok-clause-works g c =
-    let o = g.W.Sink.held c.args.output.now in
-    let o' = g.W.Sink.held c.build_tree.new.output in
-    let w = c.build_tree.result in
-    build_works w c.args.lines c.args.bytes.now c.in-Ok.tree c.in-Ok.blocks o o' c.in-Ok.ensures.manifest c.build_tree.ensures.works
+    build_works _ c.args.lines _ _ _ _ _ c.in-Ok.ensures.manifest c.build_tree.ensures.works
 
 pub returns-in-Err-clause-works : goal.returns-in-Err-clause-works
 returns-in-Err-clause-works g c =

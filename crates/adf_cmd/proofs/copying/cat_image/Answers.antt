@@ -1,20 +1,13 @@
-use Rattle.std.proofs.Common.{List, ℕ, subst}
+use Rattle.std.proofs.Common.{inr}
 use Rattle.adf_cmd.specs.CommandLine.{cat}
-use Rattle.adf_cmd.specs.Outcomes.{Works}
-use Rattle.adf_cmd.proofs.AnswerLaws.{cat_refused, copy_works}
+use Rattle.adf_cmd.proofs.AnswerLaws.{copy_works, refused_image_works}
 use Rattle.adf_cmd.proofs.copying.cat_image.Goals as goal
 
 pub returns-in-Ok-clause-works : goal.returns-in-Ok-clause-works
 returns-in-Ok-clause-works g c = λ path text.
-    let o = g.W.Sink.held c.args.output.now in
-    let o' = g.W.Sink.held c.copy_file.new.output in
-    let w = c.copy_file.result in
-    let works : List ℕ → Type 0 = λ image. Works w (cat path) image o o' in
-    let t = c.in-Ok.ensures.fits.0 in
-    let l = c.in-Ok.ensures.fits.1 in
-    let stands = c.in-Ok.ensures.fits.2 in
-    subst works c.in-Ok.ensures.image (copy_works w path c.args.names.now c.in-Ok.volume.image t l o o' text stands.fits
-    (c.copy_file.ensures.works t l stands))
+    let (t, l, stands) = c.in-Ok.ensures.fits in
+    rw c.in-Ok.ensures.image at (copy_works _ path _ _ t l _ _ text stands.fits (c.copy_file.ensures.works t l stands))
 
 pub returns-in-Err-clause-works : goal.returns-in-Err-clause-works
-returns-in-Err-clause-works g c = λ path text. cat_refused c.in-Err.outcome path c.args.image.now (g.W.Sink.held c.args.output.now) c.in-Err.ensures.refused
+returns-in-Err-clause-works g c = λ path text.
+    refused_image_works c.in-Err.outcome (cat path) _ _ (λ err refuses. inr (inr refuses)) c.in-Err.ensures.refused

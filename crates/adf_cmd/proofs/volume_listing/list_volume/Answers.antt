@@ -5,29 +5,15 @@ use Rattle.adf_cmd.proofs.volume_listing.list_volume.Goals as goal
 
 pub returns-in-Ok-clause-works : goal.returns-in-Ok-clause-works
 returns-in-Ok-clause-works g c =
-    let stands = c.requires.stands in (
-      _,
-      listed c.args.volume.now.image stands.0 stands.1 date_of stands.2.fits date_of_is,
-      c.in-Ok.ensures.ok date_of stands.0 stands.1 date_of_is stands.2,
-    )
+    let (t, l, stands) = c.requires.stands in
+    (_, listed _ t l stands.fits, c.in-Ok.ensures.ok date_of t l date_of_is stands)
 
 pub returns-in-Err-Device-clause-works : goal.returns-in-Err-Device-clause-works
 returns-in-Err-Device-clause-works g c =
-    let stands = c.requires.stands in (
-      0,
-      _,
-      [],
-      listed c.args.volume.now.image stands.0 stands.1 date_of stands.2.fits date_of_is,
-      c.in-Err-Device.ensures.err date_of stands.0 stands.1 date_of_is stands.2,
-    )
+    let (t, l, stands) = c.requires.stands in
+    (0, _, [], listed _ t l stands.fits, c.in-Err-Device.ensures.err date_of t l date_of_is stands)
 
 pub returns-in-Err-NoMemory-clause-works : goal.returns-in-Err-NoMemory-clause-works
 returns-in-Err-NoMemory-clause-works g c =
-    let stands = c.requires.stands in
-    inr (
-      0,
-      _,
-      [],
-      listed c.args.volume.now.image stands.0 stands.1 date_of stands.2.fits date_of_is,
-      c.in-Err-NoMemory.ensures.err date_of stands.0 stands.1 date_of_is stands.2,
-    )
+    let (t, l, stands) = c.requires.stands in
+    inr (0, _, [], listed _ t l stands.fits, c.in-Err-NoMemory.ensures.err date_of t l date_of_is stands)
