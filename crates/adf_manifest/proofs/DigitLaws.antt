@@ -25,7 +25,7 @@ byte_digits b h = omega (arith, digit_hex (b / 16) (omega arith), digit_hex (b %
 pub unpaired_pairs : (bytes : List ℕ) → All (λ b. b < 256) bytes → unpaired (pairs bytes) ≡ bytes
 unpaired_pairs [] h = refl
 unpaired_pairs (b ∷ bs) h =
-    ap (λ x. x ∷ unpaired (pairs bs)) (byte_digits b (All-head (λ k. k < 256) b bs h)) ∙ ap (λ xs. b ∷ xs) (unpaired_pairs bs (All-tail (λ k. k < 256) b bs h))
+    rw (byte_digits b (All-head (λ k. k < 256) b bs h), unpaired_pairs bs (All-tail (λ k. k < 256) b bs h))
 
 pub pairs_more : (done : List ℕ) (b : ℕ) (text rest after : List ℕ) → text ≡ pairs done ++ rest → rest ≡ pair b ++ after
     → text ≡ pairs (done ++ b ∷ []) ++ after
@@ -56,7 +56,7 @@ all_pairs text done rest a e none =
 
 -- a text with a byte more than bytes
 pub put_more : (old now left bytes more : List ℕ) (b : ℕ) → now ++ left ≡ old ++ bytes → left ≡ b ∷ more → (now ++ b ∷ []) ++ more ≡ old ++ bytes
-put_more old now left bytes more b e g = append_assoc now (b ∷ []) more ∙ ap (λ l. now ++ l) (sym g) ∙ e
+put_more old now left bytes more b e g = rw (← e, g, append_assoc)
 
 abbrev four : ℕ → ℕ → ℕ → ℕ → List ℕ
 four a b c d = pair a ++ (pair b ++ (pair c ++ pair d))
@@ -69,8 +69,7 @@ word_is text a b c d w ha hb hc hd s e =
     let q : b ≡ w / 65536 % 256 = omega arith in
     let r : c ≡ w / 256 % 256 = omega arith in
     let t : d ≡ w % 256 = omega arith in
-    e ∙ ap (λ x. four x b c d) p ∙ ap (λ x. four (w / 16777216 % 256) x c d) q ∙ ap (λ x. four (w / 16777216 % 256) (w / 65536 % 256) x d) r
-    ∙ ap (λ x. four (w / 16777216 % 256) (w / 65536 % 256) (w / 256 % 256) x) t
+    rw (e, p, q, r, t)
 
 no_space : (d : ℕ) → d < 16 → (hex_digit d == 32) ≡ false
 no_space d h = grind (arith, nat_tests)

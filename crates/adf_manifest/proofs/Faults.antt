@@ -45,27 +45,40 @@ room_good m n (EntryLine sort stamp protect text) a g f =
     ok_err (room_for (manifest_tree m).entries f.0) a (subst (λ p. IsOk (room_for (manifest_tree m).entries p)) same g.2) f.2
 room_good m n line a g f = f
 
-fault_good : (m n : Manifest) (line : LineValue) (kind : ManifestKind) → Adds m line n → IsFaultOf (manifest_tree m) line kind → ⊥
-fault_good m n line BadText g f = text_good m n line g f
-fault_good m n line NoParent g f = room_good m n line add.NoParent g f
-fault_good m n line ParentIsFile g f = room_good m n line add.ParentIsFile g f
-fault_good m n line Exists g f = room_good m n line add.Exists g f
-fault_good m n line kind g f = f
+-- the kinds of a later fault
+kind_of : AddFault → ManifestKind
+kind_of add.NoParent = NoParent
+kind_of add.ParentIsFile = ParentIsFile
+kind_of add.Exists = Exists
+kind_of add.NoMemory = NoMemory
+kind_of add.EmptyPath = NoMemory
 
-of_good : (m n : Manifest) (line : LineValue) (text : List ℕ) (kind : ManifestKind) → Adds m line n → IsLine line → text ≡ line_text line
-    → HasFaultOf m text kind → ⊥
-of_good m n line text kind g is e f =
-    let same = line_same f.0 line f.1 is (sym f.3 ∙ e) in
-    fault_good m n line kind g (subst (λ l. IsFaultOf (manifest_tree m) l kind) same f.4)
+abbrev OfLine : Tree → LineValue → ManifestKind → Type 0
+OfLine tree line kind = ((kind ≡ BadText) × HasBadText line) ⊎ ((a : AddFault) × (kind ≡ kind_of a) × HasNoRoom tree line a)
+
+abbrev Later : Manifest → List ℕ → ManifestKind → Type 0
+Later m text kind = ((kind ≡ BadLine) × (¬ MayFollow m text))
+    ⊎ ((line : LineValue) × IsLine line × MayStand m line × (text ≡ line_text line) × OfLine (manifest_tree m) line kind)
+
+later_kind : (m : Manifest) (text : List ℕ) (kind : ManifestKind) → IsLaterFault m text kind → Later m text kind
+unfolding kind_of
+later_kind m text BadLine f = inl (refl, f)
+later_kind m text BadText f = inr (f.0, f.1, f.2, f.3, inl (refl, f.4))
+later_kind m text NoParent f = inr (f.0, f.1, f.2, f.3, inr (add.NoParent, refl, f.4))
+later_kind m text ParentIsFile f = inr (f.0, f.1, f.2, f.3, inr (add.ParentIsFile, refl, f.4))
+later_kind m text Exists f = inr (f.0, f.1, f.2, f.3, inr (add.Exists, refl, f.4))
+later_kind m text kind f = absurd f
+
+of_good : (m n : Manifest) (line : LineValue) (kind : ManifestKind) → Adds m line n → OfLine (manifest_tree m) line kind → ⊥
+of_good m n line kind g (inl f) = text_good m n line g f.1
+of_good m n line kind g (inr f) = room_good m n line f.0 g f.2
 
 line_good : (m n : Manifest) (line : LineValue) (text : List ℕ) (kind : ManifestKind) → Adds m line n → IsLine line → text ≡ line_text line
-    → IsLaterFault m text kind → ⊥
-line_good m n line text BadLine g is e f = f (line, is, may_stand m n line g, e)
-line_good m n line text BadText g is e f = of_good m n line text BadText g is e f
-line_good m n line text NoParent g is e f = of_good m n line text NoParent g is e f
-line_good m n line text ParentIsFile g is e f = of_good m n line text ParentIsFile g is e f
-line_good m n line text Exists g is e f = of_good m n line text Exists g is e f
-line_good m n line text kind g is e f = f
+    → Later m text kind → ⊥
+line_good m n line text kind g is e (inl f) = f.1 (line, is, may_stand m n line g, e)
+line_good m n line text kind g is e (inr f) =
+    let same = line_same f.0 line f.1 is (sym f.3 ∙ e) in
+    of_good m n line kind g (subst (λ l. OfLine (manifest_tree m) l kind) same f.4)
 
 -- behind lines of a manifest, a line that adds
 abbrev IsInner : List (List ℕ) → List ℕ → Type 0
@@ -99,7 +112,7 @@ pub later_good : (m n : Manifest) (text : List ℕ) (rest : List (List ℕ)) (ki
 later_good m n text rest kind w v e f =
     let i = inner (length (manifest_lines n)) n (manifest_lines m) rest text (omega arith) v e (some_lines m) in
     let same = one_told i.0 m i.3 w i.6 in
-    line_good i.0 i.1 i.2 text kind i.4 i.5 i.7 (subst (λ (x : Manifest). IsLaterFault x text kind) (sym same) f)
+    line_good i.0 i.1 i.2 text kind i.4 i.5 i.7 (later_kind i.0 text kind (subst (λ (x : Manifest). IsLaterFault x text kind) (sym same) f))
 
 -- a first line of an allowed size has no fault
 first_good : (kind' : Kind) (n' : ℕ) (line : List ℕ) (kind : ManifestKind) → is_allowed n' ≡ true → line ≡ volume_line kind' n' → IsFirstFault line kind → ⊥
@@ -129,30 +142,7 @@ faultless m all number kind w e (inl f) =
     first_good m.head.kind m.head.blocks f.0 kind w.head.size (heads f.0 (volume_line m.head.kind m.head.blocks) f.1 first.0 (sym f.2 ∙ e)) f.4
 faultless m all number kind w e (inr f) = later_good f.0 m f.1 f.2 kind f.3 w (sym e ∙ f.4) f.6
 
--- the kinds of a later fault
-kind_of : AddFault → ManifestKind
-kind_of add.NoParent = NoParent
-kind_of add.ParentIsFile = ParentIsFile
-kind_of add.Exists = Exists
-kind_of add.NoMemory = NoMemory
-kind_of add.EmptyPath = NoMemory
-
-abbrev NoRoomAt : Manifest → List ℕ → AddFault → Type 0
-NoRoomAt m text a = (line : LineValue) × IsLine line × MayStand m line × (text ≡ line_text line) × HasNoRoom (manifest_tree m) line a
-
-abbrev Later : Manifest → List ℕ → ManifestKind → Type 0
-Later m text kind = ((kind ≡ BadLine) × (¬ MayFollow m text))
-    ⊎ (((kind ≡ BadText) × HasFaultOf m text BadText) ⊎ ((a : AddFault) × (kind ≡ kind_of a) × NoRoomAt m text a))
-
-later_kind : (m : Manifest) (text : List ℕ) (kind : ManifestKind) → IsLaterFault m text kind → Later m text kind
-unfolding kind_of
-later_kind m text BadLine f = inl (refl, f)
-later_kind m text BadText f = inr (inl (refl, f))
-later_kind m text NoParent f = inr (inr (add.NoParent, refl, f))
-later_kind m text ParentIsFile f = inr (inr (add.ParentIsFile, refl, f))
-later_kind m text Exists f = inr (inr (add.Exists, refl, f))
-later_kind m text kind f = absurd f
-
+-- a line has not both a bad text and no room
 text_or_room : (tree : Tree) (line : LineValue) (a : AddFault) → HasBadText line → HasNoRoom tree line a → ⊥
 text_or_room tree (EntryLine sort stamp protect text) a f g = f g.0 g.1
 text_or_room tree line a f g = g
@@ -165,42 +155,28 @@ one_room tree (EntryLine sort stamp protect text) a b f g =
     one_err (room_for tree.entries g.0) a b (ap (λ p. room_for tree.entries p) (sym (one_path text f.0 g.0 f.1 g.1)) ∙ f.2) g.2
 one_room tree line a b f g = absurd f
 
--- a text has not both a bad part and no room
-text_not_room : (m : Manifest) (text : List ℕ) (a : AddFault) → HasFaultOf m text BadText → NoRoomAt m text a → ⊥
-text_not_room m text a f g =
-    let same = line_same f.0 g.0 f.1 g.1 (sym f.3 ∙ g.3) in
-    text_or_room (manifest_tree m) g.0 a (subst HasBadText same f.4) g.4
-
-rooms : (m : Manifest) (text : List ℕ) (a b : AddFault) → NoRoomAt m text a → NoRoomAt m text b → a ≡ b
-rooms m text a b f g =
-    let same = line_same f.0 g.0 f.1 g.1 (sym f.3 ∙ g.3) in
-    one_room (manifest_tree m) g.0 a b (subst (λ l. HasNoRoom (manifest_tree m) l a) same f.4) g.4
+one_of_line : (tree : Tree) (line : LineValue) (k k' : ManifestKind) → OfLine tree line k → OfLine tree line k' → k ≡ k'
+one_of_line tree line k k' (inl p) (inl q) = p.0 ∙ sym q.0
+one_of_line tree line k k' (inl p) (inr q) = absurd (text_or_room tree line q.0 p.1 q.2)
+one_of_line tree line k k' (inr p) (inl q) = absurd (text_or_room tree line p.0 q.1 p.2)
+one_of_line tree line k k' (inr p) (inr q) = p.1 ∙ ap kind_of (one_room tree line p.0 q.0 p.2 q.2) ∙ sym q.1
 
 one_later_kind : (m : Manifest) (text : List ℕ) (k k' : ManifestKind) → Later m text k → Later m text k' → k ≡ k'
 one_later_kind m text k k' (inl p) (inl q) = p.0 ∙ sym q.0
-one_later_kind m text k k' (inl p) (inr (inl q)) = absurd (p.1 (q.1.0, q.1.1, q.1.2, q.1.3))
-one_later_kind m text k k' (inl p) (inr (inr q)) = absurd (p.1 (q.2.0, q.2.1, q.2.2, q.2.3))
-one_later_kind m text k k' (inr (inl p)) (inl q) = absurd (q.1 (p.1.0, p.1.1, p.1.2, p.1.3))
-one_later_kind m text k k' (inr (inl p)) (inr (inl q)) = p.0 ∙ sym q.0
-one_later_kind m text k k' (inr (inl p)) (inr (inr q)) = absurd (text_not_room m text q.0 p.1 q.2)
-one_later_kind m text k k' (inr (inr p)) (inl q) = absurd (q.1 (p.2.0, p.2.1, p.2.2, p.2.3))
-one_later_kind m text k k' (inr (inr p)) (inr (inl q)) = absurd (text_not_room m text p.0 q.1 p.2)
-one_later_kind m text k k' (inr (inr p)) (inr (inr q)) = p.1 ∙ ap kind_of (rooms m text p.0 q.0 p.2 q.2) ∙ sym q.1
+one_later_kind m text k k' (inl p) (inr q) = absurd (p.1 (q.0, q.1, q.2, q.3))
+one_later_kind m text k k' (inr p) (inl q) = absurd (q.1 (p.0, p.1, p.2, p.3))
+one_later_kind m text k k' (inr p) (inr q) =
+    let same = line_same p.0 q.0 p.1 q.1 (sym p.3 ∙ q.3) in
+    one_of_line (manifest_tree m) q.0 k k' (subst (λ l. OfLine (manifest_tree m) l k) same p.4) q.4
 
--- the kinds of a first fault
-abbrev First : List ℕ → ManifestKind → Type 0
-First text kind = ((kind ≡ BadLine) × (¬ IsVolumeLine text)) ⊎ ((kind ≡ BadSize) × IsVolumeLine text)
-
-first_kind : (text : List ℕ) (kind : ManifestKind) → IsFirstFault text kind → First text kind
-first_kind text BadLine f = inl (refl, f)
-first_kind text BadSize f = inr (refl, (f.0, f.1, f.2, f.3))
-first_kind text kind f = absurd f
-
-one_first_kind : (text : List ℕ) (k k' : ManifestKind) → First text k → First text k' → k ≡ k'
-one_first_kind text k k' (inl p) (inl q) = p.0 ∙ sym q.0
-one_first_kind text k k' (inl p) (inr q) = absurd (p.1 q.1)
-one_first_kind text k k' (inr p) (inl q) = absurd (q.1 p.1)
-one_first_kind text k k' (inr p) (inr q) = p.0 ∙ sym q.0
+one_first_kind : (text : List ℕ) (k k' : ManifestKind) → IsFirstFault text k → IsFirstFault text k' → k ≡ k'
+one_first_kind text BadLine BadLine f g = refl
+one_first_kind text BadLine BadSize f g = absurd (f (g.0, g.1, g.2, g.3))
+one_first_kind text BadLine _ f g = absurd g
+one_first_kind text BadSize BadLine f g = absurd (g (f.0, f.1, f.2, f.3))
+one_first_kind text BadSize BadSize f g = refl
+one_first_kind text BadSize _ f g = absurd g
+one_first_kind text _ _ f g = absurd f
 
 -- one of two fronts of a list goes on with what follows the other
 inside : (xs ys r r' : List (List ℕ)) (a : List ℕ) → xs ++ a ∷ r ≡ ys ++ r' → length xs < length ys → (s : List (List ℕ)) × (ys ≡ xs ++ a ∷ s)
@@ -222,7 +198,7 @@ fronts xs ys r r' e h = (
 pub one_fault : (all : List (List ℕ)) (n n' : ℕ) (k k' : ManifestKind) → HasFault all n k → HasFault all n' k' → (n ≡ n') × (k ≡ k')
 one_fault all n n' k k' (inl f) (inl g) =
     let same = heads f.0 g.0 f.1 g.1 (sym f.2 ∙ g.2) in
-    (f.3 ∙ sym g.3, one_first_kind g.0 k k' (first_kind g.0 k (subst (λ l. IsFirstFault l k) same f.4)) (first_kind g.0 k' g.4))
+    (f.3 ∙ sym g.3, one_first_kind g.0 k k' (subst (λ l. IsFirstFault l k) same f.4) g.4)
 one_fault all n n' k k' (inl f) (inr g) = absurd (mixed all f.0 f.1 k g.0 (g.1 ∷ g.2) f.2 f.4 g.3 g.4)
 one_fault all n n' k k' (inr f) (inl g) = absurd (mixed all g.0 g.1 k' f.0 (f.1 ∷ f.2) g.2 g.4 f.3 f.4)
 one_fault all n n' k k' (inr f) (inr g) =

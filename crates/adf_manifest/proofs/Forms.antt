@@ -17,40 +17,35 @@ use Rattle.adf_manifest.proofs.DigitLaws.{one_pair, one_word, unpaired_pairs, wo
 use Rattle.adf_manifest.proofs.LineLaws.{fields_parts, fill_parts}
 use Rattle.adf_manifest.proofs.TokenLaws.{colon_lacks, space_lacks, stamp_lacks, stamp_parts, stamps_parts}
 
+of_three : {A B C D : Type 0} (f : A → B → C → D) {a a' : A} {b b' : B} {c c' : C} → a ≡ a' → b ≡ b' → c ≡ c' → f a b c ≡ f a' b' c'
+of_three f e g h = cc
+
 stamp_same : (s t : Stamp) → s.days ≡ t.days → s.mins ≡ t.mins → s.ticks ≡ t.ticks → s ≡ t
-stamp_same s t d m k =
-    let by_days : ℕ → Stamp = λ x. record { days = x; mins = s.mins; ticks = s.ticks } in
-    let by_mins : ℕ → Stamp = λ x. record { days = t.days; mins = x; ticks = s.ticks } in
-    let by_ticks : ℕ → Stamp = λ x. record { days = t.days; mins = t.mins; ticks = x } in
-    ap by_days d ∙ ap by_mins m ∙ ap by_ticks k
+stamp_same s t d m k = of_three (λ d m k. record { days = d; mins = m; ticks = k }) d m k
 
 pub one_stamp : (s t : Stamp) → IsStamp s → IsStamp t → plain_text s ≡ plain_text t → s ≡ t
 one_stamp s t g h e =
-    let parts = stamp_parts (plain_text s) (decimal s.days) (decimal s.mins) (decimal s.ticks) t (colon_lacks s.days g.0) (colon_lacks s.mins g.1) refl h e in
+    let parts = stamp_parts (plain_text s) (decimal s.days) (decimal s.mins) (decimal s.ticks) t (refl, colon_lacks s.days g.0, colon_lacks s.mins g.1) h e in
     let same : (a b : ℕ) → a < 2 ^ 32 → b < 2 ^ 32 → decimal a ≡ decimal b → a ≡ b = λ a b x y q. decimal_injective a b (omega arith) (omega arith) q in
     stamp_same s t (same s.days t.days g.0 h.0 parts.0) (same s.mins t.mins g.1 h.1 parts.1) (same s.ticks t.ticks g.2 h.2 parts.2)
 
 stamps_same : (s t : Stamps) → s.root ≡ t.root → s.altered ≡ t.altered → s.created ≡ t.created → s ≡ t
-stamps_same s t r a k =
-    let by_root : Stamp → Stamps = λ x. record { root = x; altered = s.altered; created = s.created } in
-    let by_altered : Stamp → Stamps = λ x. record { root = t.root; altered = x; created = s.created } in
-    let by_created : Stamp → Stamps = λ x. record { root = t.root; altered = t.altered; created = x } in
-    ap by_root r ∙ ap by_altered a ∙ ap by_created k
+stamps_same s t r a k = of_three (λ r a k. record { root = r; altered = a; created = k }) r a k
 
 pub one_stamps : (s t : Stamps) → AreStamps s → AreStamps t → stamps_line s ≡ stamps_line t → s ≡ t
 one_stamps s t g h e =
     let texts = append_cancel_left (codes "stamps ") (stamps_text s) (stamps_text t) e in
-    let parts = stamps_parts (stamps_text s) (plain_text s.root) (plain_text s.altered) (plain_text s.created) t (stamp_lacks s.root g.0)
-    (stamp_lacks s.altered g.1) refl h texts in
+    let parts = stamps_parts (stamps_text s) (plain_text s.root) (plain_text s.altered) (plain_text s.created) t
+    (refl, stamp_lacks s.root g.0, stamp_lacks s.altered g.1) h texts in
     stamps_same s t (one_stamp s.root t.root g.0 h.0 parts.0) (one_stamp s.altered t.altered g.1 h.1 parts.1) (one_stamp s.created t.created g.2 h.2 parts.2)
 
 same_fields : (sort : Sort) (s t : Stamp) (p q : ℕ) (x y : List ℕ) → s ≡ t → p ≡ q → x ≡ y → EntryLine sort s p x ≡ EntryLine sort t q y
-same_fields sort s t p q x y e f g = ap (λ a. EntryLine sort a p x) e ∙ ap (λ a. EntryLine sort t a x) f ∙ ap (λ a. EntryLine sort t q a) g
+same_fields sort s t p q x y e f g = cc
 
 one_entry : (sort : Sort) (s t : Stamp) (p q : ℕ) (x y : List ℕ) → IsStamp s → IsStamp t → p < 2 ^ 32 → q < 2 ^ 32 → fields_text s p x ≡ fields_text t q y
     → EntryLine sort s p x ≡ EntryLine sort t q y
 one_entry sort s t p q x y hs ht hp hq e =
-    let parts = fields_parts (fields_text s p x) (plain_text s) (hex_word p) x t q y (stamp_lacks s hs) (word_lacks p) refl ht e in
+    let parts = fields_parts (fields_text s p x) (plain_text s) (hex_word p) x t q y (refl, stamp_lacks s hs, word_lacks p) ht e in
     same_fields sort s t p q x y (one_stamp s t hs ht parts.0) (one_word p q hp hq parts.1) parts.2
 
 one_run : (a b : List ℕ) → IsRun (DataRun a) → IsRun (DataRun b) → pairs a ≡ pairs b → a ≡ b
@@ -58,11 +53,11 @@ one_run a b g h e = sym (unpaired_pairs a g.1) ∙ ap unpaired e ∙ unpaired_pa
 
 one_fill : (n m a b : ℕ) → IsRun (FillRun n a) → IsRun (FillRun m b) → fill_line n a ≡ fill_line m b → FillRun n a ≡ FillRun m b
 one_fill n m a b g h e =
-    let parts = fill_parts (fill_line n a) (decimal n ++ 32 ∷ pair a) (decimal n) (pair a) m b refl refl (space_lacks n (let small = g.1 in omega arith))
-    h.1 e in
+    let parts = fill_parts (fill_line n a) (decimal n ++ 32 ∷ pair a) (decimal n) (pair a) m b refl
+    (refl, space_lacks n (let small = g.1 in omega arith)) h.1 e in
     let count : n ≡ m = decimal_injective n m (let small = g.1 in omega arith) (let small = h.1 in omega arith) parts.0 in
     let byte = (one_pair a b [] [] g.2 h.2 parts.1).0 in
-    ap (λ x. FillRun x a) count ∙ ap (λ x. FillRun m x) byte
+    cc
 
 -- by its first and fourth bytes a text has one form at most
 abbrev key : List ℕ → ℕ

@@ -1,16 +1,15 @@
 -- How a manifest grows by a line.
-use Rattle.std.proofs.Common.{◌≡◌, ◌++◌, ◌∙◌, ℕ, List, [], ◌∷◌, Option, Some, None, refl, sym, ap, subst, map}
-use Rattle.std.specs.Prelude.{IsOk}
+use Rattle.std.proofs.Common.{◌≡◌, ◌++◌, ◌∙◌, ℕ, List, [], ◌∷◌, Option, Some, None, refl, sym, subst}
+use Rattle.std.specs.Prelude.{IfSome, IsOk}
 use Rattle.std.specs.List.{All, flat_map}
 use Rattle.std.proofs.lemmas.List.{append_assoc, append-nil, map-append}
 use Rattle.std.proofs.lemmas.List.Elements.{All-push}
 use Rattle.std.proofs.lemmas.Grind.{flat_map-append}
 use Rattle.adf_tree.specs.Escapes.{escaped}
-use Rattle.adf_tree.specs.PathTexts.{path_text}
 use Rattle.adf_tree.specs.Tree.{Tree, room_for}
 use Rattle.adf_fields.specs.declared.dates.Stamp.{Stamp}
-use Rattle.adf_manifest.specs.Lines.{IsRun, RunValue, entry_line, note_line, run_line}
-use Rattle.adf_manifest.specs.Items.{HaveRoom, IsGivenNote, IsItem, Item, file_bytes, item_lines, items_tree, note_lines, run_bytes, with_item}
+use Rattle.adf_manifest.specs.Lines.{IsRun, RunValue, note_line, run_line}
+use Rattle.adf_manifest.specs.Items.{HaveRoom, IsGivenNote, IsItem, Item, file_bytes, item_lines, items_tree, run_bytes, with_item}
 use Rattle.adf_manifest.specs.Manifest.{Entries, IsWell, Manifest, head_lines, head_tree, items_of, manifest_lines, manifest_tree}
 use Rattle.adf_manifest.specs.declared.lines.Sort.{Sort}
 use Rattle.adf_manifest.specs.declared.lines.Sort.TheVariants.{Dir, File}
@@ -61,12 +60,10 @@ abbrev pub with_last : Manifest → Entries → Item → Manifest
 with_last m e i = record { head = m.head; entries = Some (record { before = e.before; last = i }) }
 
 lines_push : (items : List Item) (i : Item) → flat_map item_lines (items ++ i ∷ []) ≡ flat_map item_lines items ++ item_lines i
-lines_push items i = flat_map-append item_lines items (i ∷ []) ∙ ap (λ l. flat_map item_lines items ++ l) (append-nil (item_lines i))
+lines_push items i = simp (flat_map-append, append-nil)
 
 pub new_lines : (m : Manifest) (i : Item) → manifest_lines (with_new m i) ≡ manifest_lines m ++ item_lines i
-new_lines m i =
-    ap (λ l. head_lines m.head ++ l) (lines_push (items_of m.entries) i)
-    ∙ sym (append_assoc (head_lines m.head) (flat_map item_lines (items_of m.entries)) (item_lines i))
+new_lines m i = rw lines_push (sym (append_assoc (head_lines m.head) (flat_map item_lines (items_of m.entries)) (item_lines i)))
 
 pub new_well : (m : Manifest) (i : Item) → IsWell m → IsItem i → IsOk (room_for (manifest_tree m).entries i.path) → IsWell (with_new m i)
 new_well m i w g room = record {
@@ -75,58 +72,43 @@ new_well m i w g room = record {
   room = room_more (head_tree m.head) (items_of m.entries) i w.room room;
 }
 
-last_split : (h l : List (List ℕ)) (before : List Item) (last last' : Item) (text : List ℕ) → item_lines last' ≡ item_lines last ++ text ∷ []
+last_split : (h : List (List ℕ)) (before : List Item) (last last' : Item) (text : List ℕ) → item_lines last' ≡ item_lines last ++ text ∷ []
     → h ++ flat_map item_lines (before ++ last' ∷ []) ≡ (h ++ flat_map item_lines (before ++ last ∷ [])) ++ text ∷ []
-last_split h l before last last' text e =
-    let front = flat_map item_lines before in
-    ap (λ x. h ++ x) (lines_push before last' ∙ ap (λ x. front ++ x) e ∙ sym (append_assoc front (item_lines last) (text ∷ []))
-    ∙ ap (λ x. x ++ text ∷ []) (sym (lines_push before last)))
-    ∙ sym (append_assoc h (flat_map item_lines (before ++ last ∷ [])) (text ∷ []))
+last_split h before last last' text e = rw (lines_push before last', lines_push before last, e) (simp append_assoc)
 
 pub last_lines : (m : Manifest) (e : Entries) (i : Item) (text : List ℕ) → m.entries ≡ Some e → item_lines i ≡ item_lines e.last ++ text ∷ []
     → manifest_lines (with_last m e i) ≡ manifest_lines m ++ text ∷ []
-last_lines m e i text is g =
-    last_split (head_lines m.head) [] e.before e.last i text g
-    ∙ ap (λ x. (head_lines m.head ++ flat_map item_lines (items_of x)) ++ text ∷ []) (sym is)
+last_lines m e i text is g = rw is (last_split (head_lines m.head) e.before e.last i text g)
 
 -- the entries before the last, and the last
 pub well_before : (m : Manifest) (e : Entries) → IsWell m → m.entries ≡ Some e
     → All IsItem (e.before ++ e.last ∷ []) × HaveRoom (head_tree m.head) (e.before ++ e.last ∷ [])
 well_before m e w is = (subst (λ x. All IsItem (items_of x)) is w.items, subst (λ x. HaveRoom (head_tree m.head) (items_of x)) is w.room)
 
-bare_lines : (text : Option (List ℕ)) (runs : List RunValue) → text ≡ None → runs ≡ [] → note_lines text ++ map run_line runs ≡ []
-bare_lines text runs e g = ap (λ n. note_lines n ++ map run_line runs) e ∙ ap (map run_line) g
+-- an entry with other lines behind its own
+pub item_with : (i : Item) (comment : Option (List ℕ)) (runs : List RunValue) → IsItem i → IfSome comment IsGivenNote → All IsRun runs
+    → (i.sort ≡ Dir → runs ≡ [])
+    → IsItem (record i { note = comment; runs = runs })
+item_with i comment runs g h r p = record { stamp = g.stamp; protect = g.protect; filled = g.filled; names = g.names; note = h; runs = r; plain = p }
 
 -- an entry with a note: its lines, and its limits
 pub noted_lines : (i : Item) (note : List ℕ) → i.note ≡ None → i.runs ≡ [] → item_lines (noted i note) ≡ item_lines i ++ note_line (escaped note) ∷ []
 noted_lines i note e g =
-    let top = entry_line i.sort i.stamp i.protect (path_text i.path) in
-    let mine : List (List ℕ) = note_line (escaped note) ∷ [] in
-    ap (λ r. top ∷ (mine ++ map run_line r)) g ∙ ap (λ l. top ∷ (l ++ mine)) (sym (bare_lines i.note i.runs e g))
+    rw (e, g)
 
 pub noted_is : (i : Item) (note : List ℕ) → IsItem i → IsGivenNote note → IsItem (noted i note)
-noted_is i note g h = record { stamp = g.stamp; protect = g.protect; filled = g.filled; names = g.names; note = h; runs = g.runs; plain = g.plain }
+noted_is i note g h = item_with i (Some note) i.runs g h g.runs g.plain
 
 -- an entry with a line of bytes more
 pub with_run_lines : (i : Item) (run : RunValue) → item_lines (with_run i run) ≡ item_lines i ++ run_line run ∷ []
-with_run_lines i run =
-    let top = entry_line i.sort i.stamp i.protect (path_text i.path) in
-    ap (λ l. top ∷ (note_lines i.note ++ l)) (map-append run_line i.runs (run ∷ []))
-    ∙ ap (λ l. top ∷ l) (sym (append_assoc (note_lines i.note) (map run_line i.runs) (run_line run ∷ [])))
+with_run_lines i run = simp (map-append, append_assoc)
 
 pub with_run_is : (i : Item) (run : RunValue) → IsItem i → i.sort ≡ File → IsRun run → IsItem (with_run i run)
-with_run_is i run g e h = record {
-  stamp = g.stamp;
-  protect = g.protect;
-  filled = g.filled;
-  names = g.names;
-  note = g.note;
-  runs = All-push IsRun i.runs run g.runs h;
-  plain = λ d. let clash : File ≡ Dir = sym e ∙ d in cc;
-}
+with_run_is i run g e h =
+    item_with i i.note (i.runs ++ run ∷ []) g g.note (All-push IsRun i.runs run g.runs h) (λ d. let clash : File ≡ Dir = sym e ∙ d in cc)
 
 pub with_run_bytes : (i : Item) (run : RunValue) → file_bytes (with_run i run).runs ≡ file_bytes i.runs ++ run_bytes run
-with_run_bytes i run = flat_map-append run_bytes i.runs (run ∷ []) ∙ ap (λ l. file_bytes i.runs ++ l) (append-nil (run_bytes run))
+with_run_bytes i run = simp (flat_map-append, append-nil)
 
 -- a manifest with another last entry of the same path
 pub last_well : (m : Manifest) (e : Entries) (i : Item) → IsWell m → m.entries ≡ Some e → IsItem i → i.path ≡ e.last.path → IsWell (with_last m e i)

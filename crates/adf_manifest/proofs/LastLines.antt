@@ -11,9 +11,9 @@ use Rattle.adf_tree.specs.declared.entry.Stamps.{Stamps}
 use Rattle.adf_tree.proofs.Spellings.{spelling_some}
 use Rattle.adf_tree.proofs.PathParts.{empty_path}
 use Rattle.adf_manifest.specs.Lines.{IsLine, IsRun, LineValue, LabelLine, StampsLine, EntryLine, NoteLine, RunLine, RunValue, line_text, run_line}
-use Rattle.adf_manifest.specs.Lines.{volume_line, stamps_line, note_line}
+use Rattle.adf_manifest.specs.Lines.{stamps_line, note_line}
 use Rattle.adf_manifest.specs.Items.{HaveRoom, IsGivenNote, IsItem, Item, items_tree}
-use Rattle.adf_manifest.specs.Manifest.{Entries, IsHead, IsWell, Manifest, head_lines, head_tree, label_lines, stamps_lines, items_of, manifest_lines}
+use Rattle.adf_manifest.specs.Manifest.{Entries, IsHead, IsWell, Manifest, head_lines, head_tree, label_lines, items_of, manifest_lines}
 use Rattle.adf_manifest.specs.Manifest.{manifest_tree}
 use Rattle.adf_manifest.specs.Reader.{bare}
 use Rattle.adf_manifest.specs.declared.lines.Sort.{Sort}
@@ -21,7 +21,7 @@ use Rattle.adf_manifest.specs.declared.lines.Sort.TheVariants.{Dir, File}
 use Rattle.adf_manifest.specs.declared.reader.Head.{Head}
 use Rattle.adf_manifest.proofs.Growth.{with_run, with_run_lines, last_lines, new_item, new_lines, noted, noted_lines, room_less, well_before, with_last}
 use Rattle.adf_manifest.proofs.Growth.{with_new}
-use Rattle.adf_manifest.proofs.Growth.{last_is, last_well}
+use Rattle.adf_manifest.proofs.Growth.{item_with, last_is, last_well}
 use Rattle.adf_manifest.proofs.StateLaws.{bare_lines, bare_well}
 use Rattle.adf_tree.proofs.Lists.{last_off}
 
@@ -69,10 +69,7 @@ filled (c ∷ cs) h = filled_list (escaped (c ∷ cs)) (spelling_some c (escaped
 
 stamps_behind : (h : Head) (stamps : Stamps) → h.stamps ≡ None → head_lines (with_stamps h stamps) ≡ head_lines h ++ stamps_line stamps ∷ []
 stamps_behind h stamps e =
-    let top = volume_line h.kind h.blocks in
-    let mine : List (List ℕ) = stamps_line stamps ∷ [] in
-    ap (λ l. top ∷ (l ++ mine)) (sym (append-nil (label_lines h.label)))
-    ∙ ap (λ x. (top ∷ (label_lines h.label ++ stamps_lines x)) ++ mine) (sym e)
+    rw (e, append-nil (label_lines h.label))
 
 pub last_of_head : (kind : Kind) (blocks : ℕ) (label : Option (List ℕ)) (stamps : Option Stamps) → let h : Head =
     record { kind = kind; blocks = blocks; label = label; stamps = stamps } in IsHead h → IsFirst (bare h) ⊎ IsNext (bare h)
@@ -110,18 +107,8 @@ not_dir i run runs g e Dir is = absurd (no_end runs run (sym e ∙ g.plain is))
 less_is : (i : Item) (run : RunValue) (runs : List RunValue) → IsItem i → i.runs ≡ runs ++ run ∷ [] → i.sort ≡ File → let j : Item =
     record i { runs = runs } in IsItem j × IsRun run
 less_is i run runs g e f =
-    let all = last_off IsRun runs run (subst (All IsRun) e g.runs) in (
-      record {
-        stamp = g.stamp;
-        protect = g.protect;
-        filled = g.filled;
-        names = g.names;
-        note = g.note;
-        runs = all.0;
-        plain = λ d. let clash : File ≡ Dir = sym f ∙ d in cc;
-      },
-      all.1,
-    )
+    let all = last_off IsRun runs run (subst (All IsRun) e g.runs) in
+    (item_with i i.note runs g g.note all.0 (λ d. let clash : File ≡ Dir = sym f ∙ d in cc), all.1)
 
 -- the last line of a manifest with entries
 last_run : (m : Manifest) (e : Entries) (runs : List RunValue) (run : RunValue) → IsWell m → m.entries ≡ Some e → e.last.runs ≡ runs ++ run ∷ [] → IsNext m
@@ -152,8 +139,7 @@ last_note m e note w is r n =
     let g : IsItem e.last = last_is m e w is in
     let mine : IsGivenNote note = given_note e.last.note note n g.note in
     let i : Item = record e.last { note = None } in
-    let bare : IsItem i =
-    record { stamp = g.stamp; protect = g.protect; filled = g.filled; names = g.names; note = tt; runs = g.runs; plain = g.plain } in
+    let bare : IsItem i = item_with e.last None e.last.runs g tt g.runs g.plain in
     let before : Entries = record { before = e.before; last = i } in
     let k : Manifest = record { head = m.head; entries = Some before } in
     let same : m ≡ with_last k before (noted i note) = let by : Option (List ℕ) → Manifest =

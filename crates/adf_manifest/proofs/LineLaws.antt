@@ -7,7 +7,7 @@ use Rattle.adf_fields.specs.declared.dates.Stamp.{Stamp}
 use Rattle.adf_manifest.specs.Tokens.{IsStamp, Lacks}
 use Rattle.adf_manifest.specs.Texts.{hex_word, pair}
 use Rattle.adf_manifest.specs.Lines.{fields_text, fill_line, most_fill}
-use Rattle.adf_manifest.proofs.TokenLaws.{one_cut, one_cut_twice, space_lacks, stamp_lacks}
+use Rattle.adf_manifest.proofs.TokenLaws.{CutTwice, one_cut, one_cut_twice, space_lacks, stamp_lacks}
 use Rattle.adf_manifest.proofs.DigitLaws.{word_lacks}
 
 -- what stands behind the word of a fill line
@@ -15,13 +15,12 @@ pub fill_text : (line text : List ℕ) (count byte : ℕ) → line ≡ codes "fi
 fill_text line text count byte e g = append_cancel_left (codes "fill ") text (decimal count ++ 32 ∷ pair byte) (sym e ∙ g)
 
 -- the parts of a fill line
-pub fill_parts : (line text a b : List ℕ) (count byte : ℕ) → line ≡ codes "fill " ++ text → text ≡ a ++ 32 ∷ b → Lacks 32 a → count ≤ most_fill
+pub fill_parts : (line text a b : List ℕ) (count byte : ℕ) → line ≡ codes "fill " ++ text → (text ≡ a ++ 32 ∷ b) × Lacks 32 a → count ≤ most_fill
     → line ≡ fill_line count byte → (a ≡ decimal count) × (b ≡ pair byte)
-fill_parts line text a b count byte e cut lacks h g =
-    one_cut 32 a b (decimal count) (pair byte) lacks (space_lacks count (omega arith)) (sym cut ∙ fill_text line text count byte e g)
+fill_parts line text a b count byte e cut h g =
+    one_cut 32 a b (decimal count) (pair byte) cut.1 (space_lacks count (omega arith)) (sym cut.0 ∙ fill_text line text count byte e g)
 
 -- the parts of the fields of an entry line
-pub fields_parts : (text x y z : List ℕ) (s : Stamp) (p : ℕ) (path : List ℕ) → Lacks 32 x → Lacks 32 y → text ≡ x ++ 32 ∷ (y ++ 32 ∷ z) → IsStamp s
-    → text ≡ fields_text s p path
+pub fields_parts : (text x y z : List ℕ) (s : Stamp) (p : ℕ) (path : List ℕ) → CutTwice 32 text x y z → IsStamp s → text ≡ fields_text s p path
     → (x ≡ plain_text s) × (y ≡ hex_word p) × (z ≡ path)
-fields_parts text x y z s p path hx hy e h g = one_cut_twice 32 x y z (plain_text s) (hex_word p) path hx hy (stamp_lacks s h) (word_lacks p) (sym e ∙ g)
+fields_parts text x y z s p path cut h e = one_cut_twice 32 text x y z (plain_text s) (hex_word p) path cut (e, stamp_lacks s h, word_lacks p)

@@ -12,7 +12,7 @@ use Rattle.adf_tree.specs.Tree.{Tree, room_for, with_entry}
 use Rattle.adf_tree.specs.declared.entry.Body.{Body}
 use Rattle.adf_tree.specs.declared.entry.Meta.{Meta}
 use Rattle.adf_manifest.specs.Lines.{EntryLine, IsLine, IsRun, RunValue, DataRun, FillRun, entry_line, line_text, line_value, note_line, run_line, LineValue}
-use Rattle.adf_manifest.specs.Items.{IsItem, Item, body_of, file_bytes, items_tree, run_bytes, with_item}
+use Rattle.adf_manifest.specs.Items.{IsItem, Item, body_of, file_bytes, run_bytes, with_item}
 use Rattle.adf_manifest.specs.Manifest.{Entries, IsHead, IsWell, Manifest, MayStand, head_lines, head_tree, items_of, manifest_lines}
 use Rattle.adf_manifest.specs.Manifest.{manifest_tree, ExplainsKind, lines, most_bytes}
 use Rattle.adf_manifest.specs.Reader.{GoesOn, IsOpen, IsReading, Stops, StopsIn, bare, ExplainsLines}
@@ -89,7 +89,7 @@ entry_step m blocks tree last sort stamp protect text w b t l p room e1 e2 e3 e4
       with_new m item,
       new_well m item w is (subst (λ (x : Tree). IsOk (room_for x.entries path)) t room),
       (entries, record { entries = refl; blocks = b; tree = t; last = same }),
-      new_lines m item ∙ ap (λ x. manifest_lines m ++ entry_line sort stamp protect x ∷ []) (sym p.spells),
+      rw p.spells (new_lines m item),
     )
 
 reading_with : (r : Reading) (last : Open) (m : Manifest) (e : Entries) (i : Item) → IsReading r m e → IsOpen last i
@@ -130,8 +130,7 @@ run_step r last m e run w g f h o =
 -- the tree with the last entry
 pub closed_tree : (r : Reading) (m : Manifest) (e : Entries) (tree : Tree) → IsReading r m e → tree ≡ with_item r.tree e.last → tree ≡ manifest_tree m
 closed_tree r m e tree g h =
-    h ∙ ap (λ t. with_item t e.last) g.tree ∙ sym (tree_more (head_tree m.head) e.before e.last)
-    ∙ ap (λ x. items_tree (head_tree m.head) (items_of x)) (sym g.entries)
+    rw (h, g.tree, g.entries, tree_more)
 
 pub bare_tree : (h : Head) (tree : Tree) → tree ≡ head_tree h → tree ≡ manifest_tree (bare h)
 bare_tree h tree e = e ∙ sym (tree_none (head_tree h))
@@ -150,15 +149,7 @@ pub closed_is : (t : Tree) (o : Open) (i : Item) (path : List (List ℕ)) (comme
     → comment ≡ unwrap_or o.note [] → body ≡ body_of o.sort o.bytes.items
     → let meta : Meta = record { comment = comment; protect = o.protect; stamp = o.stamp } in with_entry t path meta body ≡ with_item t i
 closed_is t o i path comment body g e1 e2 e3 =
-    let added : List (List ℕ) → List ℕ → ℕ → Stamp → Body → Tree = λ p c k s b. with_entry t p (record { comment = c; protect = k; stamp = s }) b in
-    let is_path : path ≡ i.path = e1 ∙ g.path in
-    let is_comment : comment ≡ unwrap_or i.note [] = e2 ∙ ap (λ n. unwrap_or n []) g.note in
-    let is_body : body ≡ body_of i.sort (file_bytes i.runs) = e3 ∙ ap (λ s. body_of s o.bytes.items) g.sort ∙ ap (body_of i.sort) g.bytes in
-    ap (λ p. added p comment o.protect o.stamp body) is_path
-    ∙ ap (λ c. added i.path c o.protect o.stamp body) is_comment
-    ∙ ap (λ k. added i.path (unwrap_or i.note []) k o.stamp body) g.protect
-    ∙ ap (λ s. added i.path (unwrap_or i.note []) i.protect s body) g.stamp
-    ∙ ap (λ b. added i.path (unwrap_or i.note []) i.protect i.stamp b) is_body
+    rw (e1, g.path, e2, g.note, g.protect, g.stamp, e3, g.sort, g.bytes)
 
 pub stopped : {T : Type 0} (r : Result T ManifestKind) (m : Manifest) (line : LineValue) (tree : Tree) → tree ≡ manifest_tree m → MayStand m line
     → IfErr r (λ k. StopsIn tree line k) → IfErr r (λ k. Stops m line k)

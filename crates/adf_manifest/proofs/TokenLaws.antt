@@ -47,11 +47,14 @@ not_cut c t a b h e =
     let bad : true ≡ false = sym same ∙ ap (λ x. x == c) (sym at) ∙ other in
     absurd cc
 
--- nor at two of the byte
-pub one_cut_twice : (c : ℕ) (x y z a b d : List ℕ) → Lacks c x → Lacks c y → Lacks c a → Lacks c b → x ++ c ∷ (y ++ c ∷ z) ≡ a ++ c ∷ (b ++ c ∷ d)
-    → (x ≡ a) × (y ≡ b) × (z ≡ d)
-one_cut_twice c x y z a b d hx hy ha hb e =
-    let first = one_cut c x (y ++ c ∷ z) a (b ++ c ∷ d) hx ha e in
+-- the text is cut at the first two of a byte
+abbrev pub CutTwice : ℕ → List ℕ → List ℕ → List ℕ → List ℕ → Type 0
+CutTwice c text x y z = (text ≡ x ++ c ∷ (y ++ c ∷ z)) × Lacks c x × Lacks c y
+
+-- and so in one way
+pub one_cut_twice : (c : ℕ) (text x y z a b d : List ℕ) → CutTwice c text x y z → CutTwice c text a b d → (x ≡ a) × (y ≡ b) × (z ≡ d)
+one_cut_twice c text x y z a b d (e, hx, hy) (g, ha, hb) =
+    let first = one_cut c x (y ++ c ∷ z) a (b ++ c ∷ d) hx ha (sym e ∙ g) in
     let second = one_cut c y z b d hy hb first.1 in
     (first.0, second.0, second.1)
 
@@ -74,17 +77,14 @@ stamp_lacks s h =
     (All-cons P 58 _ refl (All-append P (decimal s.mins) _ (space_lacks s.mins h.1) (All-cons P 58 _ refl (space_lacks s.ticks h.2))))
 
 -- the parts of a stamp
-pub stamp_parts : (text x y z : List ℕ) (s : Stamp) → Lacks 58 x → Lacks 58 y → text ≡ x ++ 58 ∷ (y ++ 58 ∷ z) → IsStamp s → text ≡ plain_text s
+pub stamp_parts : (text x y z : List ℕ) (s : Stamp) → CutTwice 58 text x y z → IsStamp s → text ≡ plain_text s
     → (x ≡ decimal s.days) × (y ≡ decimal s.mins) × (z ≡ decimal s.ticks)
-stamp_parts text x y z s hx hy e h g =
-    one_cut_twice 58 x y z (decimal s.days) (decimal s.mins) (decimal s.ticks) hx hy (colon_lacks s.days h.0) (colon_lacks s.mins h.1) (sym e ∙ g)
+stamp_parts text x y z s cut h e = one_cut_twice 58 text x y z _ _ _ cut (e, colon_lacks s.days h.0, colon_lacks s.mins h.1)
 
 -- the parts of three stamps
-pub stamps_parts : (text x y z : List ℕ) (s : Stamps) → Lacks 32 x → Lacks 32 y → text ≡ x ++ 32 ∷ (y ++ 32 ∷ z) → AreStamps s → text ≡ stamps_text s
+pub stamps_parts : (text x y z : List ℕ) (s : Stamps) → CutTwice 32 text x y z → AreStamps s → text ≡ stamps_text s
     → (x ≡ plain_text s.root) × (y ≡ plain_text s.altered) × (z ≡ plain_text s.created)
-stamps_parts text x y z s hx hy e h g =
-    one_cut_twice 32 x y z (plain_text s.root) (plain_text s.altered) (plain_text s.created) hx hy (stamp_lacks s.root h.0) (stamp_lacks s.altered h.1)
-    (sym e ∙ g)
+stamps_parts text x y z s cut h e = one_cut_twice 32 text x y z _ _ (plain_text s.created) cut (e, stamp_lacks s.root h.0, stamp_lacks s.altered h.1)
 
 own : IsNumeralModel (AllDigits 10) (digits_value 10)
 own = numerals_by_value (AllDigits 10) tells_digits

@@ -1,5 +1,5 @@
 -- A manifest has one verdict: one tree and number of blocks, or one first fault.
-use Rattle.std.proofs.Common.{◌≡◌, ◌<◌, ◌≤◌, ◌^◌, ◌++◌, ◌∙◌, inl, inr, ℕ, zero, suc, true, List, [], ◌∷◌, Option, Some, None, refl, sym, ap, subst, arith}
+use Rattle.std.proofs.Common.{◌≡◌, ◌<◌, ◌≤◌, ◌^◌, ◌∙◌, inl, inr, ℕ, zero, suc, true, List, [], ◌∷◌, Option, Some, None, refl, sym, ap, subst, arith}
 use Rattle.std.proofs.Common.{length, length-append, codes, slice_index}
 use Rattle.std.specs.Fmt.{decimal}
 use Rattle.std.proofs.lemmas.Bool.Decides.{nat_tests}
@@ -13,14 +13,11 @@ use Rattle.adf_tree.proofs.Spellings.{only_spelled}
 use Rattle.adf_tree.proofs.PathParts.{one_path}
 use Rattle.adf_blocks.specs.Sizes.{is_allowed}
 use Rattle.adf_manifest.specs.Lines.{LineValue, LabelLine, StampsLine, EntryLine, NoteLine, RunLine, line_text, volume_line}
-use Rattle.adf_manifest.specs.Manifest.{Entries, IsWell, Manifest, items_of, manifest_lines, label_lines, stamps_lines}
-use Rattle.adf_manifest.specs.Items.{item_lines}
-use Rattle.std.specs.List.{flat_map}
+use Rattle.adf_manifest.specs.Manifest.{Entries, IsWell, Manifest, manifest_lines}
 use Rattle.adf_manifest.specs.Reader.{bare}
 use Rattle.adf_manifest.specs.declared.reader.Head.{Head}
 use Rattle.adf_manifest.proofs.Forms.{line_same}
-use Rattle.adf_manifest.proofs.Growth.{with_run, new_item, noted, with_last, with_new}
-use Rattle.adf_manifest.proofs.LastLines.{Adds, IsFirst, IsNext, last_line, with_label}
+use Rattle.adf_manifest.proofs.LastLines.{Adds, IsFirst, IsNext, last_line}
 
 pub heads : (a b : List ℕ) (x y : List (List ℕ)) → a ∷ x ≡ b ∷ y → a ≡ b
 heads a b x y e = cc
@@ -50,23 +47,21 @@ spelled_once most text a b g h = only_spelled a b g.are_bytes h.are_bytes (sym g
 one_adds : (m n n' : Manifest) (line : LineValue) → Adds m line n → Adds m line n' → n ≡ n'
 one_adds m n n' (LabelLine text) g h =
     let same = spelled_once 30 text g.3.0 h.3.0 g.3.1 h.3.1 in
-    g.3.2 ∙ ap (λ l. bare (with_label m.head l)) same ∙ sym h.3.2
+    rw (g.3.2, same, h.3.2)
 one_adds m n n' (StampsLine stamps) g h = g.2 ∙ sym h.2
 one_adds m n n' (EntryLine sort stamp protect text) g h =
     let same = one_path text g.0 h.0 g.1 h.1 in
-    g.3 ∙ ap (λ p. with_new m (new_item sort stamp protect p)) same ∙ sym h.3
+    rw (g.3, same, h.3)
 one_adds m n n' (NoteLine text) g h =
     let same = spelled_once 79 text g.4.0 h.4.0 g.4.1 h.4.1 in
     let entries = one_entries m.entries g.0 h.0 g.1 h.1 in
-    g.4.2 ∙ ap (λ e. with_last m e (noted e.last g.4.0)) entries ∙ ap (λ t. with_last m h.0 (noted h.0.last t)) same ∙ sym h.4.2
-one_adds m n n' (RunLine run) g h = g.3 ∙ ap (λ e. with_last m e (with_run e.last run)) (one_entries m.entries g.0 h.0 g.1 h.1) ∙ sym h.3
+    rw (g.4.2, entries, same, h.4.2)
+one_adds m n n' (RunLine run) g h = rw (g.3, one_entries m.entries g.0 h.0 g.1 h.1, h.3)
 
 -- a manifest of one line
 pub first_lines : (n : Manifest) → IsFirst n → manifest_lines n ≡ volume_line n.head.kind n.head.blocks ∷ []
 first_lines n f =
-    let top = volume_line n.head.kind n.head.blocks in
-    ap (λ o. top ∷ ((label_lines n.head.label ++ stamps_lines n.head.stamps) ++ flat_map item_lines (items_of o))) f.0
-    ∙ ap (λ o. top ∷ ((label_lines o ++ stamps_lines n.head.stamps) ++ [])) f.1 ∙ ap (λ o. top ∷ (stamps_lines o ++ [])) f.2
+    rw (f.0, f.1, f.2)
 
 first_is : (n : Manifest) → IsFirst n → let h : Head = record { kind = n.head.kind; blocks = n.head.blocks; label = None; stamps = None } in n ≡ bare h
 first_is n f =

@@ -1,14 +1,9 @@
-use Rattle.std.proofs.Common.{subst}
-use Rattle.adf_tree.specs.Tree.{Tree}
-use Rattle.adf_manifest.specs.Lines.{entry_value}
-use Rattle.adf_manifest.specs.Reader.{StopsIn}
 use Rattle.adf_manifest.proofs.StateLaws.{closed_tree, entry_step}
 use Rattle.adf_manifest.proofs.reader.next_entry.Goals as goal
 
 pub returns-in-Err-clause-fault : goal.returns-in-Err-clause-fault
 returns-in-Err-clause-fault c = λ m e g.
-    let is = closed_tree c.args.reading.now m e c.close.new.tree g (c.in_ok-close.ensures.tree e.last g.last) in
-    subst (λ (t : Tree). StopsIn t (entry_value c.args.line) c.in-Err.kind) is c.in-Err.ensures.fault
+    rw (closed_tree c.args.reading.now m e _ g (c.in_ok-close.ensures.tree e.last g.last)) at c.in-Err.ensures.fault
 
 pub returns-in-Ok-clause-lines : goal.returns-in-Ok-clause-lines
 returns-in-Ok-clause-lines c = λ m e w g.

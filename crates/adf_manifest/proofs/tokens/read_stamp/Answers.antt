@@ -7,19 +7,13 @@ returns-in_err-days-clause-none c = if_none c.from_residual.result (λ s h e.
     c.in_err-days.ensures.none (decimal s.days) (decimal s.mins) (decimal s.ticks) (colon_lacks s.days h.0) (colon_lacks s.mins h.1) e)
 
 pub returns-in_err-days-2-clause-none : goal.returns-in_err-days-2-clause-none
-returns-in_err-days-2-clause-none c =
-    let cut = c.in_ok-days.ensures.some in
-    if_none c.from_residual-in_err-days-2.result (λ s h e.
-    c.in_err-days-2.ensures.none s.days h.0 (stamp_parts _ _ _ _ s cut.1 cut.2 cut.0 h e).0)
+returns-in_err-days-2-clause-none c = if_none c.from_residual-in_err-days-2.result (λ s h e.
+    c.in_err-days-2.ensures.none s.days h.0 (stamp_parts _ _ _ _ s c.in_ok-days.ensures.some h e).0)
 
 pub returns-in_err-mins-clause-none : goal.returns-in_err-mins-clause-none
-returns-in_err-mins-clause-none c =
-    let cut = c.in_ok-days.ensures.some in
-    if_none c.from_residual-in_err-mins.result (λ s h e.
-    c.in_err-mins.ensures.none s.mins h.1 (stamp_parts _ _ _ _ s cut.1 cut.2 cut.0 h e).1)
+returns-in_err-mins-clause-none c = if_none c.from_residual-in_err-mins.result (λ s h e.
+    c.in_err-mins.ensures.none s.mins h.1 (stamp_parts _ _ _ _ s c.in_ok-days.ensures.some h e).1)
 
 pub returns-in_err-ticks-clause-none : goal.returns-in_err-ticks-clause-none
-returns-in_err-ticks-clause-none c =
-    let cut = c.in_ok-days.ensures.some in
-    if_none c.from_residual-in_err-ticks.result (λ s h e.
-    c.in_err-ticks.ensures.none s.ticks h.2 (stamp_parts _ _ _ _ s cut.1 cut.2 cut.0 h e).2)
+returns-in_err-ticks-clause-none c = if_none c.from_residual-in_err-ticks.result (λ s h e.
+    c.in_err-ticks.ensures.none s.ticks h.2 (stamp_parts _ _ _ _ s c.in_ok-days.ensures.some h e).2)

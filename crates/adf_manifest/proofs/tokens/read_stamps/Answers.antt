@@ -7,19 +7,13 @@ returns-in_err-root-clause-none c = if_none c.from_residual.result (λ s h e.
     c.in_err-root.ensures.none (plain_text s.root) (plain_text s.altered) (plain_text s.created) (stamp_lacks s.root h.0) (stamp_lacks s.altered h.1) e)
 
 pub returns-in_err-root-2-clause-none : goal.returns-in_err-root-2-clause-none
-returns-in_err-root-2-clause-none c =
-    let cut = c.in_ok-root.ensures.some in
-    if_none c.from_residual-in_err-root-2.result (λ s h e.
-    c.in_err-root-2.ensures.none s.root h.0 (stamps_parts _ _ _ _ s cut.1 cut.2 cut.0 h e).0)
+returns-in_err-root-2-clause-none c = if_none c.from_residual-in_err-root-2.result (λ s h e.
+    c.in_err-root-2.ensures.none s.root h.0 (stamps_parts _ _ _ _ s c.in_ok-root.ensures.some h e).0)
 
 pub returns-in_err-altered-clause-none : goal.returns-in_err-altered-clause-none
-returns-in_err-altered-clause-none c =
-    let cut = c.in_ok-root.ensures.some in
-    if_none c.from_residual-in_err-altered.result (λ s h e.
-    c.in_err-altered.ensures.none s.altered h.1 (stamps_parts _ _ _ _ s cut.1 cut.2 cut.0 h e).1)
+returns-in_err-altered-clause-none c = if_none c.from_residual-in_err-altered.result (λ s h e.
+    c.in_err-altered.ensures.none s.altered h.1 (stamps_parts _ _ _ _ s c.in_ok-root.ensures.some h e).1)
 
 pub returns-in_err-created-clause-none : goal.returns-in_err-created-clause-none
-returns-in_err-created-clause-none c =
-    let cut = c.in_ok-root.ensures.some in
-    if_none c.from_residual-in_err-created.result (λ s h e.
-    c.in_err-created.ensures.none s.created h.2 (stamps_parts _ _ _ _ s cut.1 cut.2 cut.0 h e).2)
+returns-in_err-created-clause-none c = if_none c.from_residual-in_err-created.result (λ s h e.
+    c.in_err-created.ensures.none s.created h.2 (stamps_parts _ _ _ _ s c.in_ok-root.ensures.some h e).2)
