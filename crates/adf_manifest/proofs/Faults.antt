@@ -10,10 +10,10 @@ use Rattle.adf_tree.specs.declared.tree.AddFault.{AddFault}
 use Rattle.adf_tree.specs.declared.tree.AddFault.TheVariants as add
 use Rattle.adf_tree.proofs.PathParts.{one_path}
 use Rattle.adf_blocks.specs.Sizes.{is_allowed}
-use Rattle.adf_manifest.specs.Lines.{IsLine, IsVolumeLine, LineValue, LabelLine, StampsLine, EntryLine, NoteLine, RunLine, line_text, volume_line}
+use Rattle.adf_manifest.specs.Lines.{IsLine, LineValue, LabelLine, StampsLine, EntryLine, NoteLine, RunLine, line_text, volume_line}
 use Rattle.adf_manifest.specs.Items.{item_lines}
 use Rattle.std.specs.List.{flat_map}
-use Rattle.adf_manifest.specs.Manifest.{EndsInFile, HasBadText, HasFault, HasFaultOf, HasNoRoom, IsBare, IsFaultOf, IsFirstFault, IsLaterFault, IsWell}
+use Rattle.adf_manifest.specs.Manifest.{EndsInFile, HasBadText, HasFault, HasNoRoom, IsBare, IsFirstFault, IsLaterFault, IsWell}
 use Rattle.adf_manifest.specs.Manifest.{Manifest, MayFollow, MayStand, items_of, label_lines, manifest_lines, manifest_tree, stamps_lines}
 use Rattle.adf_manifest.specs.declared.manifest.ManifestKind.{ManifestKind}
 use Rattle.adf_manifest.specs.declared.manifest.ManifestKind.TheVariants.{BadLine, BadSize, BadText, NoParent, ParentIsFile, Exists, NoMemory}

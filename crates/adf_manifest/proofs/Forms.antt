@@ -17,7 +17,7 @@ use Rattle.adf_manifest.proofs.DigitLaws.{one_pair, one_word, unpaired_pairs, wo
 use Rattle.adf_manifest.proofs.LineLaws.{fields_parts, fill_parts}
 use Rattle.adf_manifest.proofs.TokenLaws.{colon_lacks, space_lacks, stamp_lacks, stamp_parts, stamps_parts}
 
-of_three : {A B C D : Type 0} (f : A → B → C → D) {a a' : A} {b b' : B} {c c' : C} → a ≡ a' → b ≡ b' → c ≡ c' → f a b c ≡ f a' b' c'
+pub of_three : {A B C D : Type 0} (f : A → B → C → D) {a a' : A} {b b' : B} {c c' : C} → a ≡ a' → b ≡ b' → c ≡ c' → f a b c ≡ f a' b' c'
 of_three f e g h = cc
 
 stamp_same : (s t : Stamp) → s.days ≡ t.days → s.mins ≡ t.mins → s.ticks ≡ t.ticks → s ≡ t

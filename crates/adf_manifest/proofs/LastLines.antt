@@ -19,6 +19,7 @@ use Rattle.adf_manifest.specs.Reader.{bare}
 use Rattle.adf_manifest.specs.declared.lines.Sort.{Sort}
 use Rattle.adf_manifest.specs.declared.lines.Sort.TheVariants.{Dir, File}
 use Rattle.adf_manifest.specs.declared.reader.Head.{Head}
+use Rattle.adf_manifest.proofs.Forms.{of_three}
 use Rattle.adf_manifest.proofs.Growth.{with_run, with_run_lines, last_lines, new_item, new_lines, noted, noted_lines, room_less, well_before, with_last}
 use Rattle.adf_manifest.proofs.Growth.{with_new}
 use Rattle.adf_manifest.proofs.Growth.{item_with, last_is, last_well}
@@ -96,8 +97,15 @@ no_end : (runs : List RunValue) (run : RunValue) → runs ++ run ∷ [] ≡ [] �
 no_end [] run e = cc
 no_end (x ∷ xs) run e = cc
 
-entries_same : (m : Manifest) (e : Entries) → m.entries ≡ Some e → let n : Manifest = record { head = m.head; entries = Some e } in m ≡ n
-entries_same m e is = let by : Option Entries → Manifest = λ x. record { head = m.head; entries = x } in ap by is
+-- a manifest by the parts of its entries
+entries_are : (m : Manifest) (e : Entries) (before : List Item) (comment : Option (List ℕ)) (runs : List RunValue) → m.entries ≡ Some e → e.before ≡ before
+    → e.last.note ≡ comment → e.last.runs ≡ runs
+    → let n : Manifest = record { head = m.head; entries = Some (record { before = before; last = record e.last { note = comment; runs = runs } }) } in m ≡ n
+entries_are m e before comment runs is b n r =
+    let by_entries : Option Entries → Manifest = λ x. record { head = m.head; entries = x } in
+    let by_parts : List Item → Option (List ℕ) → List RunValue → Manifest =
+    λ b n r. by_entries (Some (record { before = b; last = record e.last { note = n; runs = r } })) in
+    ap by_entries is ∙ of_three by_parts b n r
 
 not_dir : (i : Item) (run : RunValue) (runs : List RunValue) → IsItem i → i.runs ≡ runs ++ run ∷ [] → (s : Sort) → i.sort ≡ s → s ≡ File
 not_dir i run runs g e File is = refl
@@ -119,8 +127,7 @@ last_run m e runs run w is r =
     let i : Item = record e.last { runs = runs } in
     let before : Entries = record { before = e.before; last = i } in
     let k : Manifest = record { head = m.head; entries = Some before } in
-    let same : m ≡ with_last k before (with_run i run) = let by : List RunValue → Manifest =
-    λ rs. with_last m e (record e.last { runs = rs }) in entries_same m e is ∙ ap by r in (
+    let same : m ≡ with_last k before (with_run i run) = entries_are m e e.before e.last.note (runs ++ run ∷ []) is refl refl r in (
       k,
       RunLine run,
       last_well m e i w is less.0 refl,
@@ -142,8 +149,7 @@ last_note m e note w is r n =
     let bare : IsItem i = item_with e.last None e.last.runs g tt g.runs g.plain in
     let before : Entries = record { before = e.before; last = i } in
     let k : Manifest = record { head = m.head; entries = Some before } in
-    let same : m ≡ with_last k before (noted i note) = let by : Option (List ℕ) → Manifest =
-    λ o. with_last m e (record e.last { note = o }) in entries_same m e is ∙ ap by n in (
+    let same : m ≡ with_last k before (noted i note) = entries_are m e e.before (Some note) e.last.runs is refl n refl in (
       k,
       NoteLine (escaped note),
       last_well m e i w is bare refl,
@@ -172,12 +178,7 @@ last_entry m e es b w is r n =
     } in
     let path : List (List ℕ) = e.last.path in
     let i : Item = new_item e.last.sort e.last.stamp e.last.protect path in
-    let by_before : List Item → Manifest = λ xs. record { head = m.head; entries = Some (record { before = xs; last = e.last }) } in
-    let by_note : Option (List ℕ) → Manifest =
-    λ o. record { head = m.head; entries = Some (record { before = items_of es; last = record e.last { note = o } }) } in
-    let by_runs : List RunValue → Manifest =
-    λ rs. record { head = m.head; entries = Some (record { before = items_of es; last = record e.last { note = None; runs = rs } }) } in
-    let same : m ≡ with_new k i = entries_same m e is ∙ ap by_before b ∙ ap by_note n ∙ ap by_runs r in
+    let same : m ≡ with_new k i = entries_are m e (items_of es) None [] is b n r in
     let place : IsOk (room_for (manifest_tree k).entries path) = subst (λ xs. IsOk (room_for (items_tree t xs).entries path)) b room.1 in
     let text : IsPathText (path_text path) path = record { spells = refl; names = item.names } in (
       k,

@@ -11,7 +11,7 @@ use Rattle.std.specs.Option.{unwrap_or}
 use Rattle.adf_tree.specs.Tree.{Tree, room_for, with_entry}
 use Rattle.adf_tree.specs.declared.entry.Body.{Body}
 use Rattle.adf_tree.specs.declared.entry.Meta.{Meta}
-use Rattle.adf_manifest.specs.Lines.{EntryLine, IsLine, IsRun, RunValue, DataRun, FillRun, entry_line, line_text, line_value, note_line, run_line, LineValue}
+use Rattle.adf_manifest.specs.Lines.{EntryLine, IsLine, IsRun, RunValue, DataRun, FillRun, entry_line, note_line, run_line, LineValue}
 use Rattle.adf_manifest.specs.Items.{IsItem, Item, body_of, file_bytes, run_bytes, with_item}
 use Rattle.adf_manifest.specs.Manifest.{Entries, IsHead, IsWell, Manifest, MayStand, head_lines, head_tree, items_of, manifest_lines}
 use Rattle.adf_manifest.specs.Manifest.{manifest_tree, ExplainsKind, lines, most_bytes}
@@ -21,8 +21,6 @@ use Rattle.adf_manifest.specs.declared.lines.Sort.TheVariants.{File}
 use Rattle.adf_manifest.specs.declared.reader.Head.{Head}
 use Rattle.adf_manifest.specs.declared.reader.Open.{Open}
 use Rattle.adf_manifest.specs.declared.reader.Reading.{Reading}
-use Rattle.adf_manifest.specs.declared.lines.Line.{Line}
-use Rattle.adf_manifest.specs.declared.reader.State.{State}
 use Rattle.adf_manifest.specs.declared.reader.State.TheVariants as state
 use Rattle.adf_manifest.specs.declared.manifest.ManifestKind.{ManifestKind}
 use Rattle.adf_manifest.specs.declared.manifest.ManifestKind.TheVariants.{BadLine, NoMemory, TooLong}
@@ -155,16 +153,6 @@ pub stopped : {T : Type 0} (r : Result T ManifestKind) (m : Manifest) (line : Li
     → IfErr r (λ k. StopsIn tree line k) → IfErr r (λ k. Stops m line k)
 stopped (Ok x) m line tree e may f = tt
 stopped (Err k) m line tree e may f = stops m line k may (subst (λ t. StopsIn t line k) e f)
-
--- what a line of a form does behind a head, and behind entries
-abbrev pub HeadLines : Head → Result State ManifestKind → Line → Type 0
-HeadLines h r l = IsWell (bare h) → IfOk r (λ s. GoesOn s (bare h) (line_text (line_value l)))
-
-abbrev pub HeadFault : Head → Result State ManifestKind → Line → Type 0
-HeadFault h r l = IfErr r (λ k. Stops (bare h) (line_value l) k)
-
-abbrev pub EntriesLines : Reading → Reading → Result (Unit {0}) ManifestKind → Line → Type 0
-EntriesLines old new r l = (m : Manifest) (e : Entries) → IsWell m → IsReading old m e → IfOk r (λ _. GoesOn (state.Entries new) m (line_text (line_value l)))
 
 -- a fault is told in the manifest's words
 pub first_fault_explains : (kind : ManifestKind) (number : ℕ) (bytes : List ℕ) → length bytes ≤ most_bytes → ExplainsLines kind number (lines bytes)

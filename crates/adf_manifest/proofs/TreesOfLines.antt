@@ -39,4 +39,4 @@ one_tree_of m t u g h = of_parts t u (g.head ∙ sym h.head) (one_tree t.entries
 
 -- what is read as the tree that adding gives is the tree of the manifest
 pub added_tree : (m : Manifest) (t : Tree) → IsWell m → t ≡ manifest_tree m → IsTreeOfManifest t m
-added_tree m t w e = subst (λ (t : Tree). IsTreeOfManifest t m) (sym e) (adding_lines m w)
+added_tree m t w e = rw e (adding_lines m w)

@@ -1,5 +1,5 @@
-use Rattle.std.proofs.Common.{◌∙◌, sym, ap, subst}
-use Rattle.adf_manifest.specs.Manifest.{IsTreeOfManifest, Manifest, lines}
+use Rattle.std.proofs.Common.{◌∙◌, sym}
+use Rattle.adf_manifest.specs.Manifest.{lines}
 use Rattle.adf_manifest.proofs.Faults.{faultless, one_fault}
 use Rattle.adf_manifest.proofs.TreesOfLines.{adding_lines, one_tree_of}
 use Rattle.adf_manifest.proofs.Verdicts.{one_told}
@@ -8,9 +8,8 @@ use Rattle.adf_manifest.proofs.manifest.one_verdict.Goals as goal
 pub returns-clause-one_tree : goal.returns-clause-one_tree
 returns-clause-one_tree c = λ bytes tree tree' n n' m w.
     let one = one_told m.1.0 w.1.0 m.1.1 w.1.1 (sym m.1.2 ∙ w.1.2) in (
-      one_tree_of w.1.0 tree tree' (subst (λ (x : Manifest). IsTreeOfManifest tree x) one m.1.3) w.1.3,
-      m.1.4 ∙ ap (λ (x : Manifest). x.head.blocks) one
-          ∙ sym w.1.4,
+      one_tree_of w.1.0 tree tree' (rw one at m.1.3) w.1.3,
+      rw (m.1.4, one, w.1.4),
     )
 
 pub returns-clause-faultless : goal.returns-clause-faultless

@@ -1,15 +1,12 @@
-use Rattle.std.proofs.Common.{List, arith, ap, subst, sym, ℕ, ◌∙◌}
+use Rattle.std.proofs.Common.{arith, ap, sym, ◌∙◌}
 use Rattle.adf_manifest.specs.Manifest.{between_feeds}
-use Rattle.adf_manifest.specs.Reader.{ExplainsLines}
 use Rattle.adf_manifest.proofs.StateLaws.{first_fault_explains}
 use Rattle.adf_manifest.proofs.TreesOfLines.{added_tree}
 use Rattle.adf_manifest.proofs.manifest.read_manifest.Goals as goal
 
 pub returns-in-Err-clause-fault : goal.returns-in-Err-clause-fault
 returns-in-Err-clause-fault c =
-    let fault = c.in-Err.fault in
-    let has : List ℕ → Type 0 = λ t. ExplainsLines fault.kind fault.line (between_feeds t) in
-    first_fault_explains fault.kind fault.line c.args.bytes.now (omega arith) (subst has c.without_last_feed.ensures c.in-Err.ensures.fault)
+    first_fault_explains c.in-Err.fault.kind _ _ (omega arith) (rw c.without_last_feed.ensures at c.in-Err.ensures.fault)
 
 pub returns-in-Ok-finish-clause-manifest : goal.returns-in-Ok-finish-clause-manifest
 returns-in-Ok-finish-clause-manifest c =

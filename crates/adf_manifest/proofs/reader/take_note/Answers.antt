@@ -1,6 +1,5 @@
-use Rattle.std.proofs.Common.{◌≡◌, refl, sym, ap, subst, arith, length, ◌∙◌}
+use Rattle.std.proofs.Common.{◌≡◌, refl, sym, ap, arith, length, ◌∙◌}
 use Rattle.std.proofs.lemmas.Bool.Decides.{nat_tests}
-use Rattle.adf_manifest.specs.Manifest.{IsBare}
 use Rattle.adf_manifest.proofs.StateLaws.{is_none, no_runs, note_step}
 use Rattle.adf_manifest.proofs.Growth.{last_is}
 use Rattle.adf_manifest.proofs.reader.take_note.Goals as goal
@@ -17,4 +16,4 @@ returns-in-None-clause-fault c = λ m e w g.
     let empty : length c.args.reading.now.last.bytes.items ≡ 0 = grind (arith, nat_tests) in
     let none = is_none c.args.reading.now.last.note (sym c.is_some.ensures ∙ c.if-is_some.false) in
     let is = last_is m e w g.entries in
-    (subst IsBare (sym g.entries) (sym g.last.note ∙ none, no_runs e.last.runs is.runs (ap length (sym g.last.bytes) ∙ empty)), c.in-None.ensures.none)
+    (rw g.entries (sym g.last.note ∙ none, no_runs e.last.runs is.runs (ap length (sym g.last.bytes) ∙ empty)), c.in-None.ensures.none)
