@@ -14,10 +14,7 @@ use crate::fault::{Fault, fault_at};
 use crate::found::Found;
 use crate::image::Image;
 use crate::owner_table::OwnerTable;
-use adf_blocks::{Cause, PAGE_BITS};
-
-/// Words of bits in a page.
-const PAGE_WORDS: u32 = PAGE_BITS / 32;
+use adf_blocks::{Cause, PAGE_WORDS};
 
 // Whether a bit of a word is set.
 fn is_set(word: u32, bit: u32) -> bool
@@ -56,8 +53,8 @@ fn check_word(image: &Image<'_>, found: &Found, pages: &[u32], i: u32) -> Result
     ensures fault { IfErr result (λ f. IsTrueFault image.now f) }
 {
     let blocks = image.blocks();
-    let page = pages[(i / PAGE_WORDS) as usize];
-    let word = image.word(page, 1 + (i % PAGE_WORDS) as usize);
+    let page = image.page(pages[i as usize / PAGE_WORDS]);
+    let word = page.word(i as usize % PAGE_WORDS);
     let first = 2 + 32 * i;
     let len = (blocks - first).min(32);
     if word == 0 && !found.owners.has_free(first, first + len) {

@@ -4,10 +4,10 @@ ghost use Rattle.std.specs.Prelude.{◌≡◌, ◌<◌, ◌≤◌, ◌^◌};
 ghost use Rattle.adf_fields.specs.Words.{block};
 ghost use Rattle.adf_blocks.specs.HeadBlock.{body_at};
 ghost use Rattle.adf_blocks.specs.Sizes.{blocks};
-ghost use Rattle.adf_volume.specs.Image.{kind_of, root_of, word_in};
+ghost use Rattle.adf_volume.specs.Image.{kind_of, root_of};
 ghost use Rattle.adf_check.specs.Image.{IsBegun, IsImage};
 
-use adf_blocks::{Directory, HeadBody, Table};
+use adf_blocks::{Directory, HeadBody, Page, Table};
 use adf_fields::Block;
 use adf_tree::Kind;
 use std::marker::Model;
@@ -89,16 +89,6 @@ impl<'a> Image<'a> {
         Block::at(self.bytes, b).unwrap()
     }
 
-    // A word of a block.
-    pub fn word(&self, b: u32, i: usize) -> u32
-        requires block { b < blocks self.now }
-        requires word { i < 128 }
-        ensures word { result ≡ word_in self.now b i }
-        ensures begun { IsBegun self.now }
-    {
-        self.block(b).word(i)
-    }
-
     // Whether the header at a block is that of a directory, or of a file, with its size and its first extension block.
     pub fn body(&self, b: u32) -> HeadBody
         requires { b < blocks self.now }
@@ -122,5 +112,13 @@ impl<'a> Image<'a> {
         ensures { result ≡ block self.now b }
     {
         Table::over(self.block(b))
+    }
+
+    // The page of the bitmap at a block.
+    pub fn page(&self, b: u32) -> Page<'a>
+        requires { b < blocks self.now }
+        ensures { result ≡ block self.now b }
+    {
+        Page::over(self.block(b))
     }
 }
