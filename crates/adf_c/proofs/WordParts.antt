@@ -1,5 +1,5 @@
 -- The parts of memory between zero bytes.
-use Rattle.std.proofs.Common.{◌≡◌, map, Bor, ℕ, ◌<◌, List, [], ◌∷◌, ◌++◌, length, get_or, arith, sym, ◌∙◌, ap, subst}
+use Rattle.std.proofs.Common.{◌≡◌, Bor, ℕ, ◌<◌, List, [], ◌∷◌, ◌++◌, length, get_or, arith, sym, ◌∙◌, ap, subst}
 use Rattle.std.specs.List.{All}
 use Rattle.std.specs.Str.{IsUtf8}
 use Rattle.std.proofs.Math.Seq.{get_or-append_seam}
@@ -7,6 +7,7 @@ use Rattle.std.proofs.lemmas.List.{append_assoc, append_cancel_right, get_or_app
 use Rattle.std.proofs.lemmas.List.Elements.{All-push}
 use Rattle.std.proofs.lemmas.List.Splits.{length-slice_split}
 use Rattle.adf_c.specs.Words.{AreWords, is_zero, between_zeros}
+use Rattle.adf_cmd.proofs.AnswerLaws.{texts_of}
 
 -- memory holds one list of words at most
 pub one_list : (bytes : List ℕ) (words others : List (List ℕ)) → AreWords bytes words → AreWords bytes others → words ≡ others
@@ -24,10 +25,6 @@ no_text bytes rest word after done split cut bad words h =
     sym (get_or_append_left words ([] ∷ []) word (length done) within)
     ∙ (ap (λ zs. get_or zs (length done) word) whole ∙ get_or-append_seam done word (between_zeros after) word) in
     bad (subst IsUtf8 same (h.texts (length done) word within))
-
--- the texts of words
-abbrev pub texts_of : List (Bor (List ℕ)) → List (List ℕ)
-texts_of items = map (λ w. w.now) items
 
 -- words that were read, as a slice has them
 pub read_as : (bytes : List ℕ) (slice items : List (Bor (List ℕ))) → slice ≡ items → AreWords bytes (texts_of items) → AreWords bytes (texts_of slice)

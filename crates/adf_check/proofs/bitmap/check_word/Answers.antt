@@ -27,5 +27,5 @@ returns-then-not-has_free-clause-state c =
     let owned : (b : ℕ) → 2 + 32 * c.args.i ≤ b → b < 2 + 32 * c.args.i + len → owner_at store.owners b ≢ Free = c.has_free.ensures.none unowned in
     let end : 2 + 32 * c.args.i + len ≡ min (2 + 32 * (c.args.i + 1)) (blocks c.args.image.now) = omega arith in
     subst (IsMapped c.args.image.now store) end
-    (owned_run c.args.i len (omega arith) (omega arith) c.requires.begun c.requires.pages (sym c.if-word-eq0.true ∙ rw c.page-page.ensures at c.word-word.ensures) owned
-    c.requires.state)
+    (owned_run c.args.i len (omega arith) (omega arith) c.requires.begun c.requires.pages
+    (sym c.if-word-eq0.true ∙ rw c.page-page.ensures at c.word-word.ensures) owned c.requires.state)
