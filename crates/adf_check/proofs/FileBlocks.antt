@@ -37,13 +37,13 @@ abbrev is_later : ℕ → Option ℕ → Bool
 is_later n None = false
 is_later n (Some m) = not (nat_lt m n)
 
-abbrev IsOf : Role → Option ℕ → Type 0
-IsOf r None = Unit {0}
-IsOf r (Some n) = first r ≡ suc n
+abbrev ComesAt : Role → Option ℕ → Type 0
+ComesAt r None = Unit {0}
+ComesAt r (Some n) = first r ≡ suc n
 
 -- a role that is told to be of a file comes at the file's node
 abbrev pub TellsFile : (Role → Option ℕ) → Type 0
-TellsFile file = (r : Role) → IsOf r (file r)
+TellsFile file = (r : Role) → ComesAt r (file r)
 
 pub ext_tells : TellsFile ext_file
 ext_tells (Ext n k) = refl
@@ -58,7 +58,7 @@ module _ (image : List ℕ) (file : Role → Option ℕ) (tells : TellsFile file
   pub not_below : (m : ℕ) (r : Role) → m < first r → is_below m (file r) ≡ false
   not_below m r h = go (file r) (tells r)
     where
-      go : (o : Option ℕ) → IsOf r o → is_below m o ≡ false
+      go : (o : Option ℕ) → ComesAt r o → is_below m o ≡ false
       go None t = refl
       go (Some n) t = le-ltb n m (omega arith)
 
@@ -66,7 +66,7 @@ module _ (image : List ℕ) (file : Role → Option ℕ) (tells : TellsFile file
   pub all_before : (w : List (Role × ℕ)) (n : ℕ) → ((r : Role) (b : ℕ) → Has w r b → first r ≤ n) → length (file_blocks file w) ≡ blocks_before file w n
   all_before w n h = ap length (picked_same (λ r. is_some (file r)) (λ r. is_below n (file r)) w (λ r b y. same r (h r b y) (file r) (tells r)))
     where
-      same : (r : Role) → first r ≤ n → (o : Option ℕ) → IsOf r o → is_some o ≡ is_below n o
+      same : (r : Role) → first r ≤ n → (o : Option ℕ) → ComesAt r o → is_some o ≡ is_below n o
       same r le None t = refl
       same r le (Some m) t = sym (lt-ltb m n (omega arith))
 
@@ -111,11 +111,11 @@ module _ (image : List ℕ) (file : Role → Option ℕ) (tells : TellsFile file
         go true = refl
         go false = refl
 
-    from_file : (r : Role) (o : Option ℕ) → IsOf r o → is_file n o ≡ true → n < first r
+    from_file : (r : Role) (o : Option ℕ) → ComesAt r o → is_file n o ≡ true → n < first r
     from_file r None t e = cc
     from_file r (Some m) t e = let z : n ≡ m = eqb-true n m e in omega arith
 
-    from_later : (r : Role) (o : Option ℕ) → IsOf r o → is_later (suc n) o ≡ true → suc n < first r
+    from_later : (r : Role) (o : Option ℕ) → ComesAt r o → is_later (suc n) o ≡ true → suc n < first r
     from_later r None t e = cc
     from_later r (Some m) t e = omega (arith, ltb-false m (suc n) (not-true (nat_lt m (suc n)) e))
 

@@ -37,11 +37,11 @@ small = record {
 }
 
 -- what is asked of block b as data block `number` of the file
-abbrev IsData : ℕ → ℕ → ℕ → Type 0
-IsData b number next = AllHold (data_demands file_lost (kind_of file_lost) b 2 number (held (kind_of file_lost) (word_in file_lost 2 SIZE) number) next)
+abbrev HasDataForm : ℕ → ℕ → ℕ → Type 0
+HasDataForm b number next = AllHold (data_demands file_lost (kind_of file_lost) b 2 number (held (kind_of file_lost) (word_in file_lost 2 SIZE) number) next)
 
 -- the root's slots, the header at block 2, and what its table names
-record IsFile : Type 0 where
+record IsSampleFile : Type 0 where
   low : all_zero (λ i. word_in file_lost 8 (FIRST_SLOT + (0 + i))) 6 ≡ true
   slot : word_in file_lost 8 (FIRST_SLOT + 6) ≡ 2
   high : all_zero (λ i. word_in file_lost 8 (FIRST_SLOT + (7 + i))) 65 ≡ true
@@ -52,10 +52,10 @@ record IsFile : Type 0 where
   two : data_count file_lost 2 ≡ 2
   first : 3 ≡ word_in file_lost 2 (table_word 0)
   second : 4 ≡ word_in file_lost 2 (table_word 1)
-  first_form : IsData 3 1 (next_of file_lost (2 ∷ []) (data_count file_lost 2) 1)
-  second_form : IsData 4 2 (next_of file_lost (2 ∷ []) (data_count file_lost 2) 2)
+  first_form : HasDataForm 3 1 (next_of file_lost (2 ∷ []) (data_count file_lost 2) 1)
+  second_form : HasDataForm 4 2 (next_of file_lost (2 ∷ []) (data_count file_lost 2) 2)
 
-file : IsFile
+file : IsSampleFile
 unfolding file_lost block word words with_bytes kind_of count held chunk
 file = record {
   low = refl;

@@ -30,25 +30,25 @@ no_longer (x ∷ xs) ys once h =
     let ih = no_longer xs r.0 once.1 (λ z b i. let u = h z b (inr i) in (u.0, r.2 (u.0, b) u.1 (λ e. once.0 (z, b) i (sym e)))) in
     omega (arith, r.1)
 
-has_in : (w : List (Role × ℕ)) (r : Role) (b : ℕ) → Has w r b → In w (r, b)
-has_in [] r b h = h
-has_in (x ∷ w) r b (inl e) = inl (λ i. (e.0 i, e.1 i))
-has_in (x ∷ w) r b (inr h) = inr (has_in w r b h)
+walk_in : (w : List (Role × ℕ)) (r : Role) (b : ℕ) → Has w r b → In w (r, b)
+walk_in [] r b h = h
+walk_in (x ∷ w) r b (inl e) = inl (λ i. (e.0 i, e.1 i))
+walk_in (x ∷ w) r b (inr h) = inr (walk_in w r b h)
 
-in_has : (w : List (Role × ℕ)) (r : Role) (b : ℕ) → In w (r, b) → Has w r b
-in_has [] r b h = h
-in_has (x ∷ w) r b (inl e) = inl (ap (λ p. p.0) e, ap (λ p. p.1) e)
-in_has (x ∷ w) r b (inr h) = inr (in_has w r b h)
+in_walk : (w : List (Role × ℕ)) (r : Role) (b : ℕ) → In w (r, b) → Has w r b
+in_walk [] r b h = h
+in_walk (x ∷ w) r b (inl e) = inl (ap (λ p. p.0) e, ap (λ p. p.1) e)
+in_walk (x ∷ w) r b (inr h) = inr (in_walk w r b h)
 
 walked_once : {image : List ℕ} {w : List (Role × ℕ)} → IsWalk image w → NoBlockTwice w
 walked_once start = (λ y i e. i, tt)
-walked_once (step {w = w} v d e n) = (λ y i z. n.1.1.0 y.0 (subst (Has w y.0) (sym z) (in_has w y.0 y.1 i)), walked_once v)
+walked_once (step {w = w} v d e n) = (λ y i z. n.1.1.0 y.0 (subst (Has w y.0) (sym z) (in_walk w y.0 y.1 i)), walked_once v)
 
 pub walk_length : (image : List ℕ) (w : List (Role × ℕ)) → IsWalk image w → IsWhole image w → length (owned image (layout_in w)) ≡ length w
 walk_length image w v whole =
-    let all = no_longer w (owned image (layout_in w)) (walked_once v) (λ r b i. (owner_of r, is_owned image w v whole r b (in_has w r b i))) in
+    let all = no_longer w (owned image (layout_in w)) (walked_once v) (λ r b i. (owner_of r, is_owned image w v whole r b (in_walk w r b i))) in
     let only = no_longer (owned image (layout_in w)) w (once image w v whole)
-    (λ o b i. let x = owned_has image w v whole o b i in (x.0, has_in w x.0 b x.1)) in
+    (λ o b i. let x = owned_has image w v whole o b i in (x.0, walk_in w x.0 b x.1)) in
     omega arith
 
 -- a walk has no more headers than members, and no more blocks that a test picks

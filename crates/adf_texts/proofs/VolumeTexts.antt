@@ -13,15 +13,15 @@ use Rattle.adf_texts.proofs.Ranges.{flat_map_front, flat_map_next}
 use Rattle.adf_texts.specs.RowTexts.{row_size, row_word}
 use Rattle.adf_texts.specs.VolumeLines.{body_word, entry_lines, lines_of_entries, lines_of_entry, lines_with, size_text}
 
-body_told : (told : RowBody) (body : Body) → BodyMatches told body → (row_word told ≡ body_word body) × (row_size told ≡ size_text body)
-body_told Dir ADir h = (refl, refl)
-body_told (File size) (AFile bytes) h = (refl, ap decimal h)
-body_told told body h = absurd h
+body_words : (told : RowBody) (body : Body) → BodyMatches told body → (row_word told ≡ body_word body) × (row_size told ≡ size_text body)
+body_words Dir ADir h = (refl, refl)
+body_words (File size) (AFile bytes) h = (refl, ap decimal h)
+body_words told body h = absurd h
 
 -- the lines of a row are those of the entry of which it tells
 pub row_lines_told : (date : Stamp → List ℕ) (names : List (List ℕ)) (r : Row) (e : Entry) → EntryMatches r e
     → lines_with date names (row_word r.body) (row_size r.body) r.meta ≡ entry_lines date names e
-row_lines_told date names r e told = let same = body_told r.body e.body told.body in rw (told.meta, same.0, same.1)
+row_lines_told date names r e told = let same = body_words r.body e.body told.body in rw (told.meta, same.0, same.1)
 
 pub lines_of_none : (date : Stamp → List ℕ) (es : List Entry) → lines_of_entries date es 0 ≡ []
 unfolding lines_of_entries
