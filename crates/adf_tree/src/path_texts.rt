@@ -1,6 +1,6 @@
 // The texts of paths.
 
-ghost use Rattle.std.specs.Prelude.{◌≡◌, ◌==◌, position, ◌≢◌, ◌↔◌, ◌<◌, ◌∷◌, [], ℕ, List, Err, IfOk, IfErr, IfSome, IfNone, length};
+ghost use Rattle.std.specs.Prelude.{IsOk, ◌≡◌, ◌==◌, position, ◌≢◌, ◌↔◌, ◌<◌, ◌∷◌, [], ℕ, List, Err, IfOk, IfErr, IfSome, IfNone, length};
 ghost use Rattle.std.specs.Bool.{OnTrue, OnFalse};
 ghost use Rattle.std.specs.String.{string_bytes};
 ghost use Rattle.adf_tree.specs.Escapes.{escaped};
@@ -102,9 +102,10 @@ fn names_of(alloc: Global, text: &[u8]) -> Result<Vec<Name>, PathFault>
 }
 
 /// The names of a path, of which this is the text. `BadText` where it is the text of no list of
-/// names, whether there is memory or not; `NoMemory` where a growth was refused.
+/// names, whether there is memory or not; `NoMemory` where a growth was refused, never for the empty text.
 pub fn read_path(alloc: Global, text: &[u8]) -> Result<Vec<Name>, PathFault>
     ensures ok { IfOk result (λ path. IsPathText text.now path.items) }
+    ensures empty { text.now ≡ [] → IsOk result }
     ensures bad_text { (result ≡ Err PathFault.BadText) ↔ ((path : List (List ℕ)) → ¬ IsPathText text.now path) }
 {
     if text.is_empty() {
@@ -128,7 +129,8 @@ fn push_name(text: &mut String, name: &Name, is_first: bool) -> Result<(), Alloc
 
 // The text of a path.
 fn joined(alloc: Global, path: &[Name]) -> Result<String, AllocError>
-    ensures { IfOk result (λ text. string_bytes text ≡ path_text path.now) }
+    ensures ok { IfOk result (λ text. string_bytes text ≡ path_text path.now) }
+    ensures empty { path.now ≡ [] → IsOk result }
 {
     let mut text = String::new(alloc);
     for (i, name) in path.iter().enumerate() {
@@ -137,9 +139,10 @@ fn joined(alloc: Global, path: &[Name]) -> Result<String, AllocError>
     Ok(text)
 }
 
-/// The text of a path: its escaped names, joined by `/`.
+/// The text of a path: its escaped names, joined by `/`. That of the empty path takes no memory.
 pub fn write_path(alloc: Global, path: &[Name]) -> Result<String, NoMemory>
     ensures ok { IfOk result (λ text. string_bytes text ≡ path_text path.now) }
+    ensures empty { path.now ≡ [] → IsOk result }
 {
     joined(alloc, path).map_err(|_| NoMemory)
 }
