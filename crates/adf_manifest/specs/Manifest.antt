@@ -190,10 +190,10 @@ HasFault all number kind =
     ⊎ ((m : Manifest) × (text : List ℕ) × (rest : List (List ℕ)) × IsWell m × (all ≡ manifest_lines m ++ text ∷ rest)
     × (number ≡ length (manifest_lines m) + 1) × IsLaterFault m text kind)
 
--- what a fault says of the bytes
+-- what a fault says of the bytes: `TooLong` comes exactly where they are more than a manifest may have
 abbrev pub ExplainsKind : ManifestKind → ℕ → List ℕ → Type 0
 ExplainsKind TooLong number bytes = (number ≡ 0) × (most_bytes < length bytes)
-ExplainsKind NoMemory number bytes = number ≡ 0
+ExplainsKind NoMemory number bytes = (number ≡ 0) × (length bytes ≤ most_bytes)
 ExplainsKind kind number bytes = (length bytes ≤ most_bytes) × HasFault (lines bytes) number kind
 
 abbrev pub ExplainsFault : ManifestFault → List ℕ → Type 0
