@@ -1,5 +1,5 @@
 -- The pieces of a file, joined, are its bytes.
-use Rattle.std.proofs.Common.{◌≡◌, ◌≢◌, ℕ, suc, List, ◌∷◌, ◌+◌, ◌-◌, ◌*◌, ◌^◌, ◌<◌, ◌≤◌, length, take, drop, get_or, refl, sym, ap, subst}
+use Rattle.std.proofs.Common.{◌≡◌, ◌≢◌, ℕ, suc, List, [], ◌∷◌, length-append, ◌+◌, ◌-◌, ◌*◌, ◌^◌, ◌<◌, ◌≤◌, length, take, drop, get_or, refl, sym, ap, subst}
 use Rattle.std.proofs.Common.{◌∙◌, arith, Option, Some, None, length-take, length-drop}
 use Rattle.std.specs.Prelude.{slice_range}
 use Rattle.std.specs.List.{All, concat}
@@ -30,7 +30,17 @@ use Rattle.adf_check.proofs.ChainLookups.{body_dir}
 use Rattle.adf_check.proofs.NodeSteps.{at_or}
 use Rattle.adf_check.proofs.StoredVolume.{keeps}
 use Rattle.adf_check.specs.Reading.{StoreFits}
-use Rattle.adf_check.specs.Pieces.{AreInside, bytes_in, bytes_of}
+use Rattle.adf_check.specs.Pieces.{AreInside, bytes_in, bytes_of, pieces_at, pieces_in, pieces_of}
+
+-- where there are data blocks, there are pieces
+pub some_pieces : (bytes : List ℕ) (kind : Kind) (size k : ℕ) (ds : List ℕ) → pieces bytes kind size k ds ≡ [] → ds ≡ []
+some_pieces bytes kind size k [] e = refl
+some_pieces bytes kind size k (d ∷ ds) e = cc
+
+-- pieces of which none is empty are none where they join to nothing
+pub no_pieces : (ps : List (List ℕ)) → All (λ p. 0 < length p) ps → concat ps ≡ [] → ps ≡ []
+no_pieces [] some e = refl
+no_pieces (p ∷ ps) some e = absurd (omega (arith, some 0 [] (omega arith), ap length e, length-append p (concat ps)))
 
 -- one data block less
 pub inside_next : (image ds others : List ℕ) (x k : ℕ) → ds ≡ x ∷ others → AreInside image ds k → AreInside image others (k + 1)
@@ -104,6 +114,12 @@ module _ {image : List ℕ} {store : Store} {n h : ℕ} (is : IsEntry image stor
     told : bytes_of (entry t.entries n) ≡ bytes_in here.0.body
     told = ap bytes_of ((entry_is_at t n here.0).0 here.1)
 
+    laid : pieces_at image t l n ≡ pieces_in image t.kind (datas_of l n) here.0.body
+    laid = ap (pieces_of image t.kind (datas_of l n)) ((entry_is_at t n here.0).0 here.1)
+
+    pub dir_pieces : word_in image h SECONDARY_TYPE ≡ ST_DIR → ◌≡◌ {A = Option (List (List ℕ))} None (pieces_at image t l n)
+    dir_pieces w = sym (laid ∙ ap (pieces_in image t.kind (datas_of l n)) (body_dir k n h here.0.body body_fits w))
+
     pub dir_bytes : word_in image h SECONDARY_TYPE ≡ ST_DIR → ◌≡◌ {A = Option (List ℕ)} None (bytes_of (entry t.entries n))
     dir_bytes w = sym (told ∙ ap bytes_in (body_dir k n h here.0.body body_fits w))
 
@@ -134,6 +150,12 @@ module _ {image : List ℕ} {store : Store} {n h : ℕ} (is : IsEntry image stor
             from = omega arith;
             few = omega arith;
           }
+
+      file_pieces : Some (pieces image (kind_of image) (word_in image h SIZE) 1 (datas_of l n)) ≡ pieces_at image t l n
+      file_pieces =
+          ap (λ kind. Some (pieces image kind (word_in image h SIZE) 1 (datas_of l n))) (sym k.fits.kind)
+          ∙ ap (λ size. Some (pieces image t.kind size 1 (datas_of l n))) (sym file_fits.2)
+          ∙ sym (laid ∙ ap (pieces_in image t.kind (datas_of l n)) file.1)
 
       -- no piece is empty
       file_some : All (λ p. 0 < length p) (pieces image (kind_of image) (word_in image h SIZE) 1 (datas_of l n))
@@ -166,6 +188,10 @@ module _ {image : List ℕ} {store : Store} {n h : ℕ} (is : IsEntry image stor
         let k = keeps image store tells in
         let inside = file_inside _ _ k w (subst (λ s. s < 2 ^ 32) is_size small) in
         subst (λ xs. AreInside xs ds 1) (sym is_image) (subst (λ ds. AreInside image ds 1) (sym (are _ _ k)) inside)
+
+    pub made_exact : (t : Tree) (l : Layout) → StoreStandsFor image store t l → {ps : List (List ℕ)} → ps ≡ pieces xs kind size 1 ds
+        → Some ps ≡ pieces_at image t l n
+    made_exact t l k made = ap Some (made ∙ pieces_are t l k) ∙ file_pieces t l k w
 
     pub made_joined : (t : Tree) (l : Layout) → StoreStandsFor image store t l → {ps : List (List ℕ)} → ps ≡ pieces xs kind size 1 ds
         → Some (concat ps) ≡ bytes_of (entry t.entries n)

@@ -3,12 +3,30 @@ use Rattle.std.specs.Prelude.{ℕ, List, ◌+◌, ◌*◌, ◌^◌, ◌≤◌, �
 use Rattle.adf_tree.specs.declared.entry.Body.{Body}
 use Rattle.adf_tree.specs.declared.entry.Body.TheVariants.{Dir, File}
 use Rattle.adf_tree.specs.declared.entry.Entry.{Entry}
+use Rattle.adf_tree.specs.declared.entry.Kind.{Kind}
+use Rattle.adf_tree.specs.Tree.{Tree, entry}
+use Rattle.adf_volume.specs.Image.{pieces}
+use Rattle.adf_volume.specs.Layout.{Layout, datas_of}
 
 -- the image has the data blocks, numbered from k on
 pub record AreInside (image datas : List ℕ) (k : ℕ) : Type 0 where
   pub inside : (i d : ℕ) → i < length datas → get_or datas i d * 512 + 512 ≤ length image
   pub from : 1 ≤ k
   pub few : k + length datas < 2 ^ 32
+
+-- the pieces of a file whose data blocks are these, one of each; none of a directory
+abbrev pub pieces_in : List ℕ → Kind → List ℕ → Body → Option (List (List ℕ))
+pieces_in image kind datas Dir = None
+pieces_in image kind datas (File bytes) = Some (pieces image kind (length bytes) 1 datas)
+
+-- the pieces of an entry that is a file
+abbrev pub pieces_of : List ℕ → Kind → List ℕ → Option Entry → Option (List (List ℕ))
+pieces_of image kind datas None = None
+pieces_of image kind datas (Some e) = pieces_in image kind datas e.body
+
+-- the pieces of node n in a tree and a layout
+abbrev pub pieces_at : List ℕ → Tree → Layout → ℕ → Option (List (List ℕ))
+pieces_at image t l n = pieces_of image t.kind (datas_of l n) (entry t.entries n)
 
 -- the bytes of a file, none of a directory
 abbrev pub bytes_in : Body → Option (List ℕ)

@@ -1,6 +1,7 @@
 // Volumes that were checked.
 
-ghost use Rattle.std.specs.Prelude.{◌≡◌, ◌≤◌, ◌<◌, ◌↔◌, ℕ, count_by, get_or, length, IsSome, Some, IfOk, IfSome, option_map};
+ghost use Rattle.std.specs.Prelude.{◌≡◌, ◌+◌, ◌≤◌, ◌<◌, ◌↔◌, ℕ, [], count_by, get_or, length, IsOk, IsSome, Some, IfOk, IfSome, option_map};
+ghost use Rattle.std.specs.Option.{unwrap_or};
 ghost use Rattle.std.specs.List.{All, concat};
 ghost use Rattle.adf_tree.specs.Tree.{Tree, entry, find};
 ghost use Rattle.adf_blocks.specs.Sizes.{blocks};
@@ -8,7 +9,7 @@ ghost use Rattle.adf_volume.specs.declared.owner.Owner.{Owner};
 ghost use Rattle.adf_volume.specs.Layout.{Layout, datas_of, owned};
 ghost use Rattle.adf_volume.specs.Lists.{In};
 ghost use Rattle.adf_check.specs.Found.{store_of};
-ghost use Rattle.adf_check.specs.Pieces.{bytes_of};
+ghost use Rattle.adf_check.specs.Pieces.{bytes_of, pieces_at};
 ghost use Rattle.adf_check.specs.Rows.{RowMatches};
 ghost use Rattle.adf_check.specs.Volumes.{IsChecked, StandsFor, counts_of, is_dir_at};
 
@@ -137,6 +138,7 @@ impl Checked<'_> {
     /// The bytes of a file as slices of the image, one for each data block; none of the root, a directory and what is past the
     /// last entry.
     pub fn pieces(&self, n: Node) -> Option<Pieces<'_>>
+        ensures exact { (t : Tree) (l : Layout) → StandsFor self.now t l → result ≡ pieces_at self.now.image t l n }
         ensures joined { (t : Tree) (l : Layout) → StandsFor self.now t l → option_map concat result ≡ bytes_of (entry t.entries n) }
         ensures one_each { (t : Tree) (l : Layout) → StandsFor self.now t l → IfSome result (λ ps. length ps ≡ length (datas_of l n)) }
         ensures some { IfSome result (λ ps. All (λ p. 0 < length p) ps) }
@@ -144,9 +146,10 @@ impl Checked<'_> {
         pieces_of(&self.image, &self.found, n)
     }
 
-    /// The bytes of a file; none of the root, a directory and what is past the last entry.
+    /// The bytes of a file; none of the root, a directory and what is past the last entry. Where there are no bytes, no memory is taken.
     pub fn read(&self, alloc: Global, n: Node) -> Result<Option<Vec<u8>>, NoMemory>
-        ensures { (t : Tree) (l : Layout) → StandsFor self.now t l → IfOk result (λ r. option_map (λ v. v.items) r ≡ bytes_of (entry t.entries n)) }
+        ensures bytes { (t : Tree) (l : Layout) → StandsFor self.now t l → IfOk result (λ r. option_map (λ v. v.items) r ≡ bytes_of (entry t.entries n)) }
+        ensures empty { (t : Tree) (l : Layout) → StandsFor self.now t l → unwrap_or (bytes_of (entry t.entries n)) [] ≡ [] → IsOk result }
     {
         match self.pieces(n) {
             None => Ok(None),
@@ -154,16 +157,18 @@ impl Checked<'_> {
         }
     }
 
-    /// The tree of the volume.
+    /// The tree of the volume. Where it has no entries, no memory is taken.
     pub fn to_tree(&self, alloc: Global) -> Result<adf_tree::Tree, NoMemory>
-        ensures { (t : Tree) (l : Layout) → StandsFor self.now t l → IfOk result (λ u. u ≡ t) }
+        ensures tree { (t : Tree) (l : Layout) → StandsFor self.now t l → IfOk result (λ u. u ≡ t) }
+        ensures empty { (t : Tree) (l : Layout) → StandsFor self.now t l → t.entries ≡ [] → IsOk result }
     {
         tree_of(self, alloc)
     }
 
     /// The numbers of the volume.
     pub fn counts(&self) -> Counts
-        ensures { (t : Tree) (l : Layout) → StandsFor self.now t l → result ≡ counts_of self.now.image t l }
+        ensures exact { (t : Tree) (l : Layout) → StandsFor self.now t l → result ≡ counts_of self.now.image t l }
+        ensures all { result.used + result.free + 2 ≡ result.blocks }
     {
         let blocks = self.image.blocks();
         let used = self.found.owners.used();

@@ -6,6 +6,7 @@ ghost use Rattle.adf_tree.specs.Tree.{Tree};
 ghost use Rattle.adf_volume.specs.Fits.{Fits};
 ghost use Rattle.adf_volume.specs.Layout.{Layout};
 ghost use Rattle.adf_volume.specs.Walk.{FirstFault};
+ghost use Rattle.adf_check.specs.Image.{IsBegun};
 ghost use Rattle.adf_check.specs.Volumes.{StandsFor};
 
 use crate::bitmap::check_bitmap;
@@ -23,7 +24,7 @@ use std::alloc::Global;
 /// The parts are tried in this order: the size and the first four bytes, the root, the bitmap pages by number, with each
 /// bitmap extension block before the pages that it names, the nodes by number (of a directory each slot's chain of headers,
 /// of a file its extension blocks, their number and its data blocks), the bitmap by ascending block. `NoMemory` at block 0
-/// where a growth was refused; then nothing is said of the image.
+/// where a growth was refused, which needs a sound root; then nothing more is said of the image.
 pub fn check<'a>(alloc: Global, image: &'a [u8]) -> Result<Checked<'a>, Fault>
     ensures image { IfOk result (λ v. v.image ≡ image.now) }
 
@@ -34,8 +35,9 @@ pub fn check<'a>(alloc: Global, image: &'a [u8]) -> Result<Checked<'a>, Fault>
     ensures first { IfErr result (λ f. f.cause ≢ Cause.NoMemory → FirstFault image.now f.block f.cause) }
     ensures none { IfErr result (λ f. f.cause ≢ Cause.NoMemory → (t : Tree) (l : Layout) → Fits image.now t l → ⊥) }
 
-    // Want of memory names block 0.
+    // Want of memory names block 0, and comes only where the size, the boot bytes and the root are sound.
     ensures memory { IfErr result (λ f. f.cause ≡ Cause.NoMemory → f.block ≡ 0) }
+    ensures begun { IfErr result (λ f. f.cause ≡ Cause.NoMemory → IsBegun image.now) }
 {
     check_all(alloc, image)
 }
@@ -45,6 +47,7 @@ fn check_all<'a>(alloc: Global, image: &'a [u8]) -> Result<Checked<'a>, Fault>
     ensures image { IfOk result (λ v. v.image ≡ image.now) }
     ensures fits { IfOk result (λ v. (t : Tree) × (l : Layout) × StandsFor v t l) }
     ensures fault { IfErr result (λ f. IsTrueFault image.now f) }
+    ensures begun { IfErr result (λ f. f.cause ≡ Cause.NoMemory → IsBegun image.now) }
 {
     let opened = open(image)?;
     let Ok(mut found) = Found::begin(alloc, &opened.image) else {

@@ -1,6 +1,6 @@
 // The bytes of files, piece by piece.
 
-ghost use Rattle.std.specs.Prelude.{List, ◌≡◌, ◌≢◌, ◌≤◌, ◌<◌, ◌+◌, ◌++◌, ℕ, length, option_map, take, drop, IfOk, IfSome};
+ghost use Rattle.std.specs.Prelude.{List, [], IsOk, ◌≡◌, ◌≢◌, ◌≤◌, ◌<◌, ◌+◌, ◌++◌, ℕ, length, option_map, take, drop, IfOk, IfSome};
 ghost use Rattle.std.specs.Iterator.{YieldsFirstRef, item_count};
 ghost use Rattle.std.specs.List.{All, concat};
 ghost use Rattle.adf_tree.specs.Tree.{Tree, entry};
@@ -11,7 +11,7 @@ ghost use Rattle.adf_volume.specs.Layout.{Layout, at_node, datas_of};
 ghost use Rattle.adf_check.specs.StoredVolume.{StoreStandsFor};
 ghost use Rattle.adf_check.specs.Reading.{StoreFits};
 ghost use Rattle.adf_check.specs.Found.{store_of};
-ghost use Rattle.adf_check.specs.Pieces.{AreInside, bytes_of};
+ghost use Rattle.adf_check.specs.Pieces.{AreInside, bytes_of, pieces_at};
 
 use crate::datas::{count_of, held_in};
 use crate::found::Found;
@@ -34,7 +34,7 @@ pub struct Pieces<'a> {
 }
 
 impl<'a> Model for Pieces<'a> {
-    ghost use Rattle.std.specs.Prelude.{List, ℕ};
+    ghost use Rattle.std.specs.Prelude.{List, [], IsOk, ℕ};
     ghost use Rattle.adf_volume.specs.Image.{pieces};
     ghost use Rattle.adf_check.specs.Pieces.{AreInside};
 
@@ -130,6 +130,7 @@ fn datas_of<'a>(image: &Image<'_>, found: &'a Found, n: Node, size: u32) -> &'a 
 /// The pieces of a file; none of the root, a directory and what is past the last entry.
 pub fn pieces_of<'a>(image: &Image<'a>, found: &'a Found, n: Node) -> Option<Pieces<'a>>
     requires { StoreFits image.now (store_of found.now) }
+    ensures exact { (t : Tree) (l : Layout) → StoreStandsFor image.now (store_of found.now) t l → result ≡ pieces_at image.now t l n }
     ensures joined { (t : Tree) (l : Layout) → StoreStandsFor image.now (store_of found.now) t l → option_map concat result ≡ bytes_of (entry t.entries n) }
     ensures one_each { (t : Tree) (l : Layout) → StoreStandsFor image.now (store_of found.now) t l → IfSome result (λ ps. length ps ≡ length (datas_of l n)) }
     ensures some { IfSome result (λ ps. All (λ p. 0 < length p) ps) }
@@ -146,9 +147,14 @@ pub fn pieces_of<'a>(image: &Image<'a>, found: &'a Found, n: Node) -> Option<Pie
 }
 
 /// The pieces of a file, one after the other, in room made once.
+#[tactic(auto, using(crate::proofs::FilePieces::some_pieces))]
 pub fn joined(alloc: Global, pieces: Pieces<'_>) -> Result<Vec<u8>, NoMemory>
-    ensures { IfOk result (λ v. v.items ≡ concat pieces.entry) }
+    ensures bytes { IfOk result (λ v. v.items ≡ concat pieces.entry) }
+    ensures none { pieces.entry ≡ [] → IsOk result }
 {
+    if pieces.datas.is_empty() {
+        return Ok(Vec::new(alloc));
+    }
     let Ok(mut bytes) = Vec::with_capacity(alloc, pieces.size as usize) else {
         return Err(NoMemory);
     };

@@ -1,6 +1,6 @@
 // The tree of a checked volume, built again.
 
-ghost use Rattle.std.specs.Prelude.{◌≡◌, ◌≢◌, ◌≤◌, ◌<◌, ◌+◌, length, option_map, IfOk, IfSome, IsSome};
+ghost use Rattle.std.specs.Prelude.{[], IsOk, ◌≡◌, ◌≢◌, ◌≤◌, ◌<◌, ◌+◌, length, option_map, IfOk, IfSome, IsSome};
 ghost use Rattle.adf_tree.specs.declared.entry.Body.{Body};
 ghost use Rattle.adf_tree.specs.Tree.{Tree, entry};
 ghost use Rattle.adf_volume.specs.Layout.{Layout};
@@ -47,7 +47,8 @@ fn label_of(label: &Label) -> Label
 
 /// The tree of a volume, entry by entry.
 pub fn tree_of(volume: &Checked<'_>, alloc: Global) -> Result<adf_tree::Tree, NoMemory>
-    ensures { (t : Tree) (l : Layout) → StandsFor volume.now t l → IfOk result (λ u. u ≡ t) }
+    ensures tree { (t : Tree) (l : Layout) → StandsFor volume.now t l → IfOk result (λ u. u ≡ t) }
+    ensures empty { (t : Tree) (l : Layout) → StandsFor volume.now t l → t.entries ≡ [] → IsOk result }
 {
     let kind = volume.counts().kind;
     let label = label_of(volume.label());

@@ -1,9 +1,9 @@
 // The size of an image and its first four bytes.
 
-ghost use Rattle.adf_check.specs.Fault.{IsTrueFault};
 ghost use Rattle.std.specs.Prelude.{◌≡◌, ◌≤◌, length, slice_index, ◌==◌, ◌&&◌, nat_le, IfOk, IfErr};
 ghost use Rattle.adf_fields.specs.Words.{block};
 ghost use Rattle.adf_volume.specs.Image.{kind_of, root_of};
+ghost use Rattle.adf_volume.specs.Walk.{FirstFault};
 ghost use Rattle.adf_check.specs.Image.{IsBegun};
 ghost use Rattle.adf_check.specs.Start.{is_image_len, start_form};
 ghost use Rattle.adf_blocks.specs.Forms.{ReadsForm};
@@ -96,7 +96,7 @@ pub fn open<'a>(bytes: &'a [u8]) -> Result<Opened<'a>, Fault>
     ensures image { IfOk result (λ o. o.image ≡ bytes.now) }
     ensures begun { IfOk result (λ o. IsBegun o.image) }
     ensures root { IfOk result (λ o. o.root ≡ block bytes.now (root_of bytes.now)) }
-    ensures fault { IfErr result (λ f. IsTrueFault bytes.now f) }
+    ensures fault { IfErr result (λ f. FirstFault bytes.now f.block f.cause) }
 {
     let start = match read_start(bytes) {
         Ok(start) => start,

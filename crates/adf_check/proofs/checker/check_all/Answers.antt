@@ -1,4 +1,4 @@
-use Rattle.std.proofs.Common.{◌≡◌, ap, subst, sym, ◌∙◌}
+use Rattle.std.proofs.Common.{◌≡◌, ap, subst, sym, ◌∙◌, rules}
 use Rattle.adf_blocks.specs.declared.layout.TheConstants.{NAME}
 use Rattle.adf_fields.specs.Words.{block}
 use Rattle.adf_tree.specs.Tree.{Tree}
@@ -9,6 +9,9 @@ use Rattle.adf_volume.specs.Layout.{Layout}
 use Rattle.adf_volume.specs.Made.{layout_in, tree_in}
 use Rattle.adf_check.specs.Found.{store_of}
 use Rattle.adf_check.specs.Volumes.{StandsFor, Volume}
+use Rattle.adf_volume.specs.Walk.{FirstFault}
+use Rattle.adf_check.specs.Fault.{IsTrueFault}
+use Rattle.adf_check.proofs.ClaimSteps.{first_fault, if_err}
 use Rattle.adf_check.proofs.StoredVolume.{keeps}
 use Rattle.adf_check.proofs.checker.check_all.Goals as goal
 
@@ -31,3 +34,9 @@ returns-clause-fits c =
     let tells = c.in_ok-check_bitmap.ensures.fits in
     let stands : Volume → Type 0 = λ v. (t : Tree) × (l : Layout) × StandsFor v t l in
     subst stands (sym c.new.ensures) (tree_in image tells.walk, layout_in tells.walk, keeps image store tells)
+
+pub returns-in_err-opened-clause-fault : goal.returns-in_err-opened-clause-fault
+returns-in_err-opened-clause-fault c =
+    let image = c.args.image.now in
+    if_err c.from_residual.result (λ f. FirstFault image f.block f.cause) (λ f. IsTrueFault image f) (search rules)
+    (λ f h. first_fault image f.block f.cause h)

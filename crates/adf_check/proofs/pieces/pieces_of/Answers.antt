@@ -7,7 +7,7 @@ use Rattle.adf_check.proofs.HeaderBodies.{dir_type, file_words}
 use Rattle.adf_tree.specs.Tree.{Tree}
 use Rattle.adf_check.specs.StoredVolume.{StoreStandsFor}
 use Rattle.adf_check.specs.Store.{Store}
-use Rattle.adf_check.proofs.FilePieces.{IsEntry, data_count_is, dir_bytes, made_inside, made_joined, made_some}
+use Rattle.adf_check.proofs.FilePieces.{IsEntry, data_count_is, dir_bytes, dir_pieces, made_exact, made_inside, made_joined, made_some}
 use Rattle.adf_check.proofs.pieces.pieces_of.Goals as goal
 
 -- the node is an entry, by its number and the number of rows
@@ -18,6 +18,11 @@ is_entry block view ne le = record { some = (λ z. ne (view ∙ z)); within = le
 pub returns-in_default-clause-joined : goal.returns-in_default-clause-joined
 returns-in_default-clause-joined c = λ t l k.
     dir_bytes (is_entry c.block_of-head.ensures.block c.n.view_is c.if-n-eq0.false (omega (arith, c.n.view_is, c.if-len-n.false, c.len.ensures))) t l k
+    (dir_type c.args.image.now c.block_of-head.result c.body.ensures.body c.in_default.is)
+
+pub returns-in_default-clause-exact : goal.returns-in_default-clause-exact
+returns-in_default-clause-exact c = λ t l k.
+    dir_pieces (is_entry c.block_of-head.ensures.block c.n.view_is c.if-n-eq0.false (omega (arith, c.n.view_is, c.if-len-n.false, c.len.ensures))) t l k
     (dir_type c.args.image.now c.block_of-head.result c.body.ensures.body c.in_default.is)
 
 pub datas_of-datas-requires-clause-size : goal.datas_of-datas-requires-clause-size
@@ -38,6 +43,7 @@ returns c =
     let file = file_words c.args.image.now c.block_of-head.result c.body.ensures.body c.in-File.is in
     let entry = is_entry c.block_of-head.ensures.block c.n.view_is c.if-n-eq0.false (omega (arith, c.n.view_is, c.if-len-n.false, c.len.ensures)) in
     record {
+      exact = (λ t l k. made_exact entry c.requires file.0 c.bytes.ensures.bytes c.kind.ensures.kind file.1 c.datas_of-datas.ensures t l k c.new.ensures);
       joined = (λ t l k. made_joined entry c.requires file.0 c.bytes.ensures.bytes c.kind.ensures.kind file.1 c.datas_of-datas.ensures t l k c.new.ensures);
       one_each = (λ t l k. ap length c.new.ensures ∙ pieces_length c.bytes.result.now c.kind.result c.in-File.size 1 c.datas_of-datas.result.now
           ∙ ap length (c.datas_of-datas.ensures t l k));

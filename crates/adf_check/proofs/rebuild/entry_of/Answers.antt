@@ -7,4 +7,4 @@ use Rattle.adf_check.proofs.rebuild.entry_of.Goals as goal
 pub returns : goal.returns
 returns c = λ t l st.
     entry_back c.in-Some.row c.body_of-body.result (entry t.entries c.args.n) (c.in-Some.ensures t l st)
-    (c.body_of-body.ensures ∙ ap body_of (c.in_ok-read.ensures t l st))
+    (c.body_of-body.ensures ∙ ap body_of (c.in_ok-read.ensures.bytes t l st))

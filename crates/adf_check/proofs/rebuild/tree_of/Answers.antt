@@ -25,7 +25,7 @@ loop-i-preserved c = λ t l st.
     let new : c.add_last.new.self ≡ with_last c.loop-i.tree x = search rules in
     new ∙ ap (λ (u : Tree). with_last u x) (c.loop-i.invariant t l st) ∙ tree_more t c.loop-i.i x lt is
 
-pub returns : goal.returns
-returns c = λ t l st.
+pub returns-clause-tree : goal.returns-clause-tree
+returns-clause-tree c = λ t l st.
     let ge : length t.entries ≤ c.loop-i.i = subst (λ n. n ≤ c.loop-i.i) (c.len-i-end.ensures.count t l st) c.loop-i-test.false in
     c.loop-i.invariant t l st ∙ tree_whole t c.loop-i.i ge

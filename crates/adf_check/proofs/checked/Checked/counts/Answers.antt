@@ -9,8 +9,8 @@ count_dirs-dirs-requires c =
     let image = c.self.inside.image in
     rw c.deref.ensures.value (rows_inside image (store_of c.self.inside.found) c.self.invariant.tells)
 
-pub returns : goal.returns
-returns c = λ t l st.
+pub returns-clause-exact : goal.returns-clause-exact
+returns-clause-exact c = λ t l st.
     let image = c.self.inside.image in
     let store = store_of c.self.inside.found in
     let dirs : c.count_dirs-dirs.result ≡ count_by (is_dir_at image) store.rows =
