@@ -317,5 +317,5 @@ module _ (t : Tree) (n : ℕ) (sound : IsSound t) (allowed : is_allowed n ≡ tr
       }
 
 -- a laid image fits its tree as it was planned
-pub laid_fits : (image : List ℕ) (t : Tree) → IsSound t → IsLaid image t → Fits image t (planned t (blocks image))
-laid_fits image t sound l = subst (λ v. Fits v t (planned t (blocks image))) (sym l.bytes) (volume_fits t (blocks image) sound l.size l.room)
+pub laid_fits : (image : List ℕ) (t : Tree) → IsLaid image t → Fits image t (planned t (blocks image))
+laid_fits image t l = subst (λ v. Fits v t (planned t (blocks image))) (sym l.bytes) (volume_fits t (blocks image) l.sound l.size l.room)

@@ -1,25 +1,36 @@
 -- The order of a laid volume: each part in its place, ascending without a gap, and zeros elsewhere.
-use Rattle.std.proofs.Common.{◌≡◌, ℕ, List, ◌∷◌, ◌++◌, ◌⊎◌, inl, inr, ◌+◌, ◌-◌, ◌*◌, ◌<◌, ◌≤◌, refl, sym, ap, subst, ◌∙◌, arith}
+use Rattle.std.proofs.Common.{◌≡◌, ℕ, zero, suc, List, [], length, ◌∷◌, ◌++◌, ◌⊎◌, inl, inr, ◌+◌, ◌-◌, ◌*◌, ◌<◌, ◌≤◌, refl, sym, ap, subst, ◌∙◌, arith}
 use Rattle.std.specs.List.{range_with_len}
 use Rattle.std.specs.Prelude.{replicate}
 use Rattle.std.proofs.lemmas.Bool.{cases_lt}
+use Rattle.std.proofs.lemmas.List.FromFn.{length-range_with_len}
 use Rattle.std.proofs.lemmas.List.{drop-replicate, take-replicate}
 use Rattle.adf_fields.specs.Words.{block}
 use Rattle.adf_tree.specs.Tree.{Tree}
-use Rattle.adf_blocks.specs.Sizes.{blocks, middle}
+use Rattle.adf_tree.specs.declared.entry.Body.TheVariants.{File}
+use Rattle.adf_tree.specs.declared.entry.Entry.{Entry}
+use Rattle.adf_tree.specs.declared.entry.Kind.{Kind}
+use Rattle.adf_blocks.specs.declared.layout.TheConstants.{POINTERS}
+use Rattle.adf_blocks.specs.Sizes.{blocks, count, middle, pages_needed}
 use Rattle.adf_volume.specs.declared.owner.Owner.{Owner}
-use Rattle.adf_volume.specs.Lists.{In}
-use Rattle.adf_volume.specs.Layout.{owned}
+use Rattle.adf_volume.specs.Lists.{At, In}
+use Rattle.adf_volume.specs.Fits.{Fits}
+use Rattle.adf_volume.specs.Image.{map_exts_needed}
+use Rattle.adf_volume.specs.Layout.{EntryAt, Layout, exts_at, exts_of, owned}
+use Rattle.adf_volume.proofs.Sizes.{size_low}
 use Rattle.adf_volume.proofs.Lists.{in_left, in_right}
 use Rattle.adf_volume.proofs.DistinctBlocks.{in_block}
-use Rattle.adf_build.specs.Plan.{reserved, entries_blocks, nth_free, allocated, planned}
+use Rattle.adf_build.specs.InOrder.{IsInOrder, blocks_in_order}
+use Rattle.adf_build.specs.Plan.{allocated, data_blocks, entries_blocks, exts_needed, nth_free, places_from, planned, reserved}
 use Rattle.adf_build.specs.Writes.{numbers_of}
-use Rattle.adf_build.specs.Laid.{writes, volume, IsLaid, IsSound}
-use Rattle.adf_build.proofs.AllocatedBlocks.{stretch, free_rises, allocated_in, range_in}
+use Rattle.adf_build.specs.Laid.{writes, volume, IsLaid}
+use Rattle.adf_build.proofs.AllocatedBlocks.{stretch, allocated-append, allocated_in, free_rises, in_allocated, length_allocated, range_in}
 use Rattle.adf_build.proofs.AllocatedBlocks.Stretch.{low, high}
 use Rattle.adf_build.proofs.Planned.{owned_blocks}
 use Rattle.adf_build.proofs.BlockWrites.{with_blocks_same, with_blocks_other}
 use Rattle.adf_build.proofs.WrittenBlocks.{number_in}
+use Rattle.adf_build.proofs.LaidFiles.{allocated_at}
+use Rattle.adf_build.proofs.LaidFits.{laid_fits}
 use Rattle.adf_build.proofs.LaidWrites.{writes_are, writes_once, zeros_long}
 
 -- the free block that is b
@@ -39,7 +50,7 @@ free_is n k b four lo h (inr u) = elim (stretch n (b - 3 - reserved n)) [
 ]
 
 -- every block from 2 up to a free one is owned
-pub no_gap : (image : List ℕ) (t : Tree) (k b : ℕ) → 4 ≤ blocks image → k < entries_blocks t.kind t.entries → 2 ≤ b → b ≤ nth_free (blocks image) k
+no_gap : (image : List ℕ) (t : Tree) (k b : ℕ) → 4 ≤ blocks image → k < entries_blocks t.kind t.entries → 2 ≤ b → b ≤ nth_free (blocks image) k
     → (o : Owner) × In (owned image (planned t (blocks image))) (o, b)
 no_gap image t k b four lt lo h =
     let n : ℕ = blocks image in
@@ -65,15 +76,15 @@ no_gap image t k b four lt lo h =
     ]
 
 -- a part that is laid stands in its block
-pub write_held : (image : List ℕ) (t : Tree) → IsSound t → IsLaid image t → (b : ℕ) (bytes : List ℕ) → In (writes t (blocks image)) (b, bytes)
+pub write_held : (image : List ℕ) (t : Tree) → IsLaid image t → (b : ℕ) (bytes : List ℕ) → In (writes t (blocks image)) (b, bytes)
     → block image b ≡ bytes
 unfolding volume
-write_held image t sound l b bytes h = ap (λ v. block v b) l.bytes ∙ held
+write_held image t l b bytes h = ap (λ v. block v b) l.bytes ∙ held
   where
     held : block (volume t (blocks image)) b ≡ bytes
     held = with_blocks_same (blocks image) (replicate (blocks image * 512) 0) (writes t (blocks image)) b bytes
-        (writes_are t (blocks image) sound l.size l.room)
-        (writes_once t (blocks image) sound l.size l.room) (zeros_long t (blocks image) sound l.size l.room) h
+        (writes_are t (blocks image) l.sound l.size l.room)
+        (writes_once t (blocks image) l.sound l.size l.room) (zeros_long t (blocks image) l.sound l.size l.room) h
 
 -- a block of zeros
 zeros : (n b : ℕ) → b < n → block (replicate (n * 512) 0) b ≡ replicate 512 0
@@ -83,12 +94,73 @@ zeros n b lt =
     rw (z, drop-replicate {X = ℕ} (b * 512) (n * 512) 0) (take-replicate {X = ℕ} 512 (n * 512 - b * 512) 0 (omega arith))
 
 -- and a block in which no part stands holds zeros
-pub rest_zero : (image : List ℕ) (t : Tree) → IsSound t → IsLaid image t → (b : ℕ) → b < blocks image → (In (numbers_of (writes t (blocks image))) b → ⊥)
+pub rest_zero : (image : List ℕ) (t : Tree) → IsLaid image t → (b : ℕ) → b < blocks image → (In (numbers_of (writes t (blocks image))) b → ⊥)
     → block image b ≡ replicate 512 0
 unfolding volume
-rest_zero image t sound l b lt h = ap (λ v. block v b) l.bytes ∙ (other ∙ zeros (blocks image) b lt)
+rest_zero image t l b lt h = ap (λ v. block v b) l.bytes ∙ (other ∙ zeros (blocks image) b lt)
   where
     other : block (volume t (blocks image)) b ≡ block (replicate (blocks image * 512) 0) b
-    other = with_blocks_other (blocks image) (replicate (blocks image * 512) 0) (writes t (blocks image)) b (writes_are t (blocks image) sound l.size l.room)
-        (zeros_long t (blocks image) sound l.size l.room)
+    other = with_blocks_other (blocks image) (replicate (blocks image * 512) 0) (writes t (blocks image)) b (writes_are t (blocks image) l.sound l.size l.room)
+        (zeros_long t (blocks image) l.sound l.size l.room)
         (λ q i e. h (subst (In (numbers_of (writes t (blocks image)))) e (number_in (writes t (blocks image)) q i)))
+
+-- the blocks of entries are a run of free blocks
+in_a_row : (n : ℕ) (kind : Kind) (k : ℕ) (es : List Entry) → blocks_in_order (places_from n kind k es) ≡ allocated n k (entries_blocks kind es)
+in_a_row n kind k [] = refl
+in_a_row n kind k (e ∷ es) =
+    let c : ℕ = data_blocks kind e.body in
+    let x : ℕ = exts_needed c in
+    let r : ℕ = entries_blocks kind es in
+    let behind : suc k + (x + c) ≡ k + (1 + x + c) = omega arith in
+    let all : (1 + x + c) + r ≡ suc ((x + c) + r) = omega arith in
+    let later = in_a_row n kind (k + (1 + x + c)) es in
+    let parts = allocated-append n (suc k) x c in
+    let whole = allocated-append n (suc k) (x + c) r in
+    cc
+
+-- a member of a range is known by its place
+range_at : (a m k b : ℕ) → At (range_with_len a m) k b → b ≡ a + k
+range_at a zero k b h = absurd h
+range_at a (suc m) zero b h = omega (arith, h)
+range_at a (suc m) (suc k) b h = omega (arith, range_at (a + 1) m k b h)
+
+-- the extension blocks of a planned entry
+exts_planned : (n : ℕ) (kind : Kind) (k : ℕ) (es : List Entry) (i : ℕ) (e : Entry) → At es i e
+    → length (exts_at (places_from n kind k es) i) ≡ exts_needed (data_blocks kind e.body)
+exts_planned n kind k [] i e h = absurd h
+exts_planned n kind k (x ∷ es) zero e h =
+    length_allocated n (suc k) (exts_needed (data_blocks kind x.body)) ∙ ap (λ (y : Entry). exts_needed (data_blocks kind y.body)) h
+exts_planned n kind k (x ∷ es) (suc i) e h = exts_planned n kind (k + (1 + exts_needed (data_blocks kind x.body) + data_blocks kind x.body)) es i e h
+
+few_needed : (c m : ℕ) → c ≤ POINTERS * (1 + m) → exts_needed c ≤ m
+unfolding exts_needed
+few_needed c m h = omega arith
+
+few : (t : Tree) (n i m : ℕ) (e : Entry) (bytes : List ℕ) → EntryAt t i e → e.body ≡ File bytes → count t.kind (length bytes) ≤ POINTERS * (1 + m)
+    → length (exts_of (planned t n) i) ≤ m
+few t n zero m e bytes h is enough = absurd h
+few t n (suc i) m e bytes h is enough =
+    subst (λ x. x ≤ m) (sym (exts_planned n t.kind 0 t.entries i e h ∙ ap (λ b. exts_needed (data_blocks t.kind b)) is)) (few_needed _ m enough)
+
+planned_in_order : (image : List ℕ) (t : Tree) → IsLaid image t → IsInOrder image t (planned t (blocks image))
+planned_in_order image t laid =
+    let n : ℕ = blocks image in
+    let row = in_a_row n t.kind 0 t.entries in
+    record {
+      pages = range_at (middle n + 1) (pages_needed n);
+      map_exts = (λ j b h.
+          let there = range_at (middle n + 1 + pages_needed n) (map_exts_needed (pages_needed n)) j b h in
+          omega (arith, there, length-range_with_len (middle n + 1) (pages_needed n)));
+      few = few t n;
+      rise = (λ i j a b lt at_a at_b.
+          let first = allocated_at n 0 (entries_blocks t.kind t.entries) i a (subst (λ bs. At bs i a) row at_a) in
+          let second = allocated_at n 0 (entries_blocks t.kind t.entries) j b (subst (λ bs. At bs j b) row at_b) in
+          omega (arith, first.1, second.1, free_rises n (0 + i) (0 + j) (omega arith)));
+      no_gap = (λ b last is_in lo hi.
+          let x = in_allocated n 0 (entries_blocks t.kind t.entries) last (subst (λ bs. In bs last) row is_in) in
+          no_gap image t x.0 b (size_low n laid.size) (omega (arith, x.2)) lo (omega (arith, x.3)));
+    }
+
+-- a laid image lies in order
+pub in_order : (image : List ℕ) (t : Tree) → IsLaid image t → (l : Layout) × Fits image t l × IsInOrder image t l
+in_order image t laid = (planned t (blocks image), laid_fits image t laid, planned_in_order image t laid)

@@ -20,6 +20,7 @@ pub volume_laid : (t : Tree) (n : ℕ) → IsSound t → is_allowed n ≡ true �
 volume_laid t n sound allowed room =
     let size = sym (volume_blocks t n sound allowed room) in
     record {
+      sound = sound;
       size = subst (λ (m : ℕ). is_allowed m ≡ true) size allowed;
       room = subst (λ (m : ℕ). blocks_needed t m ≤ m - 2) size room;
       bytes = ap (volume t) size;
@@ -33,4 +34,4 @@ pub laid_as_planned : {image : List ℕ} (t : Tree) (n : ℕ) → image ≡ volu
 laid_as_planned t n e sound room =
     let size : blocks (volume t n) ≡ n = volume_blocks t n sound room.allowed room.room in
     subst (λ im. Fits im t (planned t n)) (sym e)
-    (subst (λ m. Fits (volume t n) t (planned t m)) size (laid_fits (volume t n) t sound (volume_laid t n sound room.allowed room.room)))
+    (subst (λ m. Fits (volume t n) t (planned t m)) size (laid_fits (volume t n) t (volume_laid t n sound room.allowed room.room)))

@@ -153,12 +153,6 @@ writes t n =
 unfoldable pub volume : Tree → ℕ → List ℕ
 volume t n = with_blocks (replicate (n * 512) 0) (writes t n)
 
--- the image is what the builder lays for the tree, in a volume of an allowed size that has room for it
-pub record IsLaid (image : List ℕ) (t : Tree) : Type 0 where
-  pub size : is_allowed (blocks image) ≡ true
-  pub room : blocks_needed t (blocks image) ≤ blocks image - 2
-  pub bytes : image ≡ volume t (blocks image)
-
 -- what holds of the fields of every tree: they fit the fields of blocks
 pub record IsSound (t : Tree) : Type 0 where
   pub tree : IsTree t.entries
@@ -167,3 +161,10 @@ pub record IsSound (t : Tree) : Type 0 where
   pub names : All (λ e. is_name e.name ≡ true) t.entries
   pub comments : All (λ e. length e.meta.comment ≤ 79) t.entries
   pub metas : All (λ e. FitsMeta e.meta) t.entries
+
+-- the image is what the builder lays for the tree, whose fields fit, in a volume of an allowed size that has room for it
+pub record IsLaid (image : List ℕ) (t : Tree) : Type 0 where
+  pub sound : IsSound t
+  pub size : is_allowed (blocks image) ≡ true
+  pub room : blocks_needed t (blocks image) ≤ blocks image - 2
+  pub bytes : image ≡ volume t (blocks image)

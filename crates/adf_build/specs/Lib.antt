@@ -4,3 +4,4 @@ pub mod Bits
 pub mod Laid
 pub mod Building
 pub mod Order
+pub mod InOrder

@@ -7,9 +7,10 @@ ghost use Rattle.adf_blocks.specs.declared.layout.TheConstants.{POINTERS};
 ghost use Rattle.adf_blocks.specs.Sizes.{blocks, is_allowed};
 ghost use Rattle.adf_volume.specs.declared.owner.Owner.{Owner};
 ghost use Rattle.adf_volume.specs.Lists.{In, NoBlockTwice};
-ghost use Rattle.adf_volume.specs.Layout.{owned};
+ghost use Rattle.adf_volume.specs.Layout.{Layout, owned};
 ghost use Rattle.adf_volume.specs.Fits.{Fits};
-ghost use Rattle.adf_build.specs.Plan.{blocks_needed, entries_blocks, exts_needed, nth_free, planned};
+ghost use Rattle.adf_build.specs.InOrder.{IsInOrder};
+ghost use Rattle.adf_build.specs.Plan.{blocks_needed, exts_needed, planned};
 ghost use Rattle.adf_build.specs.Writes.{numbers_of};
 ghost use Rattle.adf_build.specs.Laid.{IsLaid, IsSound, writes, volume};
 
@@ -24,7 +25,7 @@ pub fn planned_blocks()
 
 /// What is laid for a tree fits it, as it was planned.
 pub fn laid_fits()
-    ensures { (image : List ℕ) (t : Tree) → IsSound t → IsLaid image t → Fits image t (planned t (blocks image)) }
+    ensures { (image : List ℕ) (t : Tree) → IsLaid image t → Fits image t (planned t (blocks image)) }
 {}
 
 /// A tree whose fields are within their limits is laid in every allowed size that has room for it.
@@ -55,15 +56,15 @@ pub fn laid_room()
 /// Each part of a laid image stands in its block, and all else is zeros.
 #[tactic(auto, using(crate::proofs::LaidOrder::rest_zero))]
 pub fn laid_bytes()
-    ensures part { (image : List ℕ) (t : Tree) → IsSound t → IsLaid image t → (b : ℕ) (bytes : List ℕ) → In (writes t (blocks image)) (b, bytes) → block image b ≡ bytes }
-    ensures rest { (image : List ℕ) (t : Tree) → IsSound t → IsLaid image t → (b : ℕ) → b < blocks image → (In (numbers_of (writes t (blocks image))) b → ⊥)
+    ensures part { (image : List ℕ) (t : Tree) → IsLaid image t → (b : ℕ) (bytes : List ℕ) → In (writes t (blocks image)) (b, bytes) → block image b ≡ bytes }
+    ensures rest { (image : List ℕ) (t : Tree) → IsLaid image t → (b : ℕ) → b < blocks image → (In (numbers_of (writes t (blocks image))) b → ⊥)
         → block image b ≡ replicate 512 0 }
 {}
 
-/// The blocks that are free for entries rise, and every block from 2 up to a free one is owned.
-#[tactic(auto, using(crate::proofs::AllocatedBlocks::free_rises))]
+/// A laid image lies in order: the pages ascend by one from the block behind the root, the bitmap extension blocks stand directly
+/// behind them, each file has as few extension blocks as its table needs, the blocks of the entries ascend in walk order, and every
+/// block from 2 up to the last of them is owned.
+#[tactic(auto, using(crate::proofs::LaidOrder::in_order))]
 pub fn laid_in_order()
-    ensures rise { (n i j : ℕ) → i < j → nth_free n i < nth_free n j }
-    ensures no_gap { (image : List ℕ) (t : Tree) (k b : ℕ) → 4 ≤ blocks image → k < entries_blocks t.kind t.entries → 2 ≤ b → b ≤ nth_free (blocks image) k
-        → (o : Owner) × In (owned image (planned t (blocks image))) (o, b) }
+    ensures { (image : List ℕ) (t : Tree) → IsLaid image t → (l : Layout) × Fits image t l × IsInOrder image t l }
 {}

@@ -1,0 +1,25 @@
+-- How the parts of a laid volume stand: ascending, and with no gap.
+use Rattle.std.specs.Prelude.{◌≡◌, ◌+◌, ◌*◌, ◌<◌, ◌≤◌, ℕ, List, [], ◌∷◌, ◌++◌, length}
+use Rattle.adf_tree.specs.declared.entry.Body.TheVariants.{File}
+use Rattle.adf_tree.specs.declared.entry.Entry.{Entry}
+use Rattle.adf_tree.specs.Tree.{Tree}
+use Rattle.adf_blocks.specs.Sizes.{blocks, count, middle}
+use Rattle.adf_blocks.specs.declared.layout.TheConstants.{POINTERS}
+use Rattle.adf_volume.specs.declared.owner.Owner.{Owner}
+use Rattle.adf_volume.specs.Lists.{At, In}
+use Rattle.adf_volume.specs.Layout.{EntryAt, Layout, Place, exts_of, owned}
+
+-- the blocks of entries in order: of each its header, its extension blocks and its data blocks
+abbrev pub blocks_in_order : List Place → List ℕ
+blocks_in_order [] = []
+blocks_in_order (q ∷ qs) = q.head ∷ ((q.exts ++ q.datas) ++ blocks_in_order qs)
+
+-- The pages ascend by one from the block behind the root, the bitmap extension blocks stand directly behind them, each file has as few
+-- extension blocks as its table needs, the blocks of the entries ascend, and every block from 2 up to the last of them is owned.
+pub record IsInOrder (image : List ℕ) (t : Tree) (l : Layout) : Type 0 where
+  pub pages : (k b : ℕ) → At l.pages k b → b ≡ middle (blocks image) + 1 + k
+  pub map_exts : (j b : ℕ) → At l.map_exts j b → b ≡ middle (blocks image) + 1 + length l.pages + j
+  pub few : (n m : ℕ) (e : Entry) (bytes : List ℕ) → EntryAt t n e → e.body ≡ File bytes → count t.kind (length bytes) ≤ POINTERS * (1 + m)
+      → length (exts_of l n) ≤ m
+  pub rise : (i j a b : ℕ) → i < j → At (blocks_in_order l.places) i a → At (blocks_in_order l.places) j b → a < b
+  pub no_gap : (b last : ℕ) → In (blocks_in_order l.places) last → 2 ≤ b → b ≤ last → (o : Owner) × In (owned image l) (o, b)
