@@ -60,7 +60,7 @@ enum adf_cause {
     ADF_BAD_DATA = 20,      /* An OFS data block has another header, number, length or successor. */
     ADF_LOST_BLOCK = 21,    /* A block is in use and no part of the volume owns it. */
     ADF_OWNED_FREE = 22,    /* A block is owned and marked free. */
-    ADF_NO_MEMORY = 23      /* Memory was refused; nothing is said of the image. */
+    ADF_NO_MEMORY = 23      /* Memory was refused; nothing is said of the image but that it begins as a volume. */
 };
 
 enum adf_kind { ADF_OFS = 0, ADF_FFS = 1 };
@@ -79,7 +79,7 @@ struct adf_verdict {
  *
  * 0: the image is that of one volume, whose numbers the verdict has; `block` is 0.
  * 1 to 22: no volume has this image. This is its first fault, and `block` is where it stands; the other fields are 0.
- * 23: memory was refused; all fields are 0.
+ * 23: memory was refused; the size, the boot bytes and the root are sound, and no more is said of the image. All fields are 0.
  */
 uint8_t adf_check(const uint8_t *image, size_t length, struct adf_verdict *verdict);
 
@@ -119,9 +119,10 @@ struct adf_moved {
  *
  * 0: output has the answer, and errors nothing.
  * 1: the input is refused, or the path leads to no file. `check` says so on output, the others on errors.
- * 2: the words are refused, or are no such texts, or the path is none. Nothing was read, and output has nothing.
+ * 2: the words are refused, or are no such texts, or the path is none. Nothing was read, and output has nothing. Errors have
+ *    the line of the usage, or of a path that is none `bad path`.
  * 3: output had too little room (output_full), or memory was refused. Errors say which, and output has a front part of an
- *    answer, or nothing. With more room, call again: nothing was kept.
+ *    answer, or nothing, as where the words are no such texts. With more room, call again: nothing was kept.
  *
  * Nothing is said of the bytes of a room behind those that `moved` counts.
  */

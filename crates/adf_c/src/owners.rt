@@ -8,6 +8,7 @@ ghost use Rattle.adf_blocks.specs.declared.cause.Cause.{Cause};
 ghost use Rattle.adf_volume.specs.Fits.{Fits};
 ghost use Rattle.adf_volume.specs.Layout.{Layout};
 ghost use Rattle.adf_volume.specs.Walk.{FirstFault};
+ghost use Rattle.adf_check.specs.Image.{IsBegun};
 ghost use Rattle.adf_check.specs.Volumes.{StandsFor};
 ghost use Rattle.adf_c.specs.Roles.{IsRole, role_number};
 
@@ -68,6 +69,9 @@ pub extern "C" fn adf_owners(alloc: Global, image: &[u8], roles: &mut [u8]) -> u
     ensures first { ¬ (result ≡ 0) → ¬ (result ≡ 23) → (b : ℕ) × (c : Cause) × (cause_number c ≡ result) × FirstFault image.now b c }
     ensures none { ¬ (result ≡ 0) → ¬ (result ≡ 23) → (t : Tree) (l : Layout) → Fits image.now t l → ⊥ }
     ensures unchanged { ¬ (result ≡ 0) → roles.new ≡ roles.old }
+
+    // Want of memory comes only where the size, the boot bytes and the root are sound.
+    ensures begun { result ≡ 23 → IsBegun image.now }
 {
     match check(alloc, image) {
         Ok(volume) => {

@@ -1,14 +1,14 @@
 // The whole command over memory.
 
 ghost use Rattle.std.specs.Prelude.{◌≡◌, ◌≤◌, ◌+◌, [], ℕ, List, true, false, codes, Some, IfSome, length, take};
-ghost use Rattle.adf_cmd.specs.Answers.{Answers, AnswersPart, AsksBadPath, IsUnanswered, failure_line, limit_of};
+ghost use Rattle.adf_cmd.specs.Answers.{Answers, AnswersPart, AsksBadPath, IsUnanswered, failure_line, limit_of, usage_line};
 ghost use Rattle.adf_cmd.specs.CommandLine.{IsRefused, request_of};
 ghost use Rattle.adf_cmd.specs.Streams.{Says, TakesAtMost};
 ghost use Rattle.adf_c.specs.Words.{AreWords};
 
 use crate::memory::{Given, Room};
 use crate::words::words_in;
-use adf_cmd::{Sink, Source, WordsFault, run, say};
+use adf_cmd::{Sink, Source, WordsFault, refuse_words, run, say};
 use std::alloc::Global;
 
 /// How much of the caller's memory a run has moved.
@@ -45,6 +45,9 @@ fn run_words<R: Source, W: Sink, E: Sink>(
     ensures usage { result ≡ 2 → (ws : List (List ℕ)) → AreWords words.now ws → IsUnanswered ws }
     ensures bad_path { result ≡ 2 → (ws : List (List ℕ)) → AreWords words.now ws → AsksBadPath ws
         → Says (E.has_failed errors.new) (E.held errors.old) (E.held errors.new) (codes "bad path\n") }
+    ensures refused { result ≡ 2 → ((ws : List (List ℕ)) → AreWords words.now ws → IsRefused ws)
+        → Says (E.has_failed errors.new) (E.held errors.old) (E.held errors.new) usage_line }
+    ensures no_words { ((ws : List (List ℕ)) → ¬ AreWords words.now ws) → (input.new ≡ input.old) × (output.new ≡ output.old) }
     ensures untouched { result ≡ 2 → (input.new ≡ input.old) × (output.new ≡ output.old) }
     ensures read_failed { R.has_failed input.new ≡ true → result ≡ 3 }
     ensures write_failed { W.has_failed output.new ≡ true → result ≡ 3 }
@@ -57,7 +60,7 @@ fn run_words<R: Source, W: Sink, E: Sink>(
 {
     match words_in(alloc, words) {
         Ok(texts) => run(alloc, &texts, input, output, errors),
-        Err(WordsFault::Usage) => 2,
+        Err(WordsFault::Usage) => refuse_words(errors),
         Err(WordsFault::NoMemory) => {
             say(errors, "no memory\n");
             3
@@ -70,7 +73,7 @@ fn run_words<R: Source, W: Sink, E: Sink>(
 ///
 /// - 0 where the answer is written to output;
 /// - 1 where the input is refused: `check` says so on output, the others on errors;
-/// - 2 where the words are not accepted, or the path is not read; nothing is read, and output is empty;
+/// - 2 where the words are not accepted, or the path is not read, which errors tell; nothing is read, and output is empty;
 /// - 3 where output has too little room or memory was refused, which errors tell.
 #[unsafe(no_mangle)]
 pub extern "C" fn adf_run(
@@ -96,7 +99,10 @@ pub extern "C" fn adf_run(
     ensures usage { result ≡ 2 → (ws : List (List ℕ)) → AreWords words.now ws → IsUnanswered ws }
     ensures bad_path { result ≡ 2 → (ws : List (List ℕ)) → AreWords words.now ws → AsksBadPath ws
         → Says moved.new.errors_full (Some []) (Some (take moved.new.errors errors.new)) (codes "bad path\n") }
+    ensures refused { result ≡ 2 → ((ws : List (List ℕ)) → AreWords words.now ws → IsRefused ws)
+        → Says moved.new.errors_full (Some []) (Some (take moved.new.errors errors.new)) usage_line }
     ensures untouched { result ≡ 2 → (moved.new.input ≡ 0) × (moved.new.output ≡ 0) × (output.new ≡ output.old) }
+    ensures no_words { ((ws : List (List ℕ)) → ¬ AreWords words.now ws) → (moved.new.input ≡ 0) × (moved.new.output ≡ 0) × (output.new ≡ output.old) }
 
     // At status 3 errors tell what failed, and output has a front part of an answer.
     ensures write_failed { moved.new.output_full ≡ true → result ≡ 3 }

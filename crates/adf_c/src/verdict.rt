@@ -7,6 +7,7 @@ ghost use Rattle.adf_blocks.specs.declared.cause.Cause.{Cause};
 ghost use Rattle.adf_volume.specs.Fits.{Fits};
 ghost use Rattle.adf_volume.specs.Layout.{Layout};
 ghost use Rattle.adf_volume.specs.Walk.{FirstFault};
+ghost use Rattle.adf_check.specs.Image.{IsBegun};
 ghost use Rattle.adf_check.specs.Volumes.{counts_of};
 ghost use Rattle.adf_c.specs.Verdicts.{accepted, kind_number, refused};
 
@@ -86,8 +87,9 @@ pub extern "C" fn adf_check(alloc: Global, image: &[u8], verdict: &mut Verdict) 
     ensures first { ¬ (result ≡ 0) → ¬ (result ≡ 23) → (c : Cause) × (cause_number c ≡ result) × FirstFault image.now verdict.new.block c }
     ensures none { ¬ (result ≡ 0) → ¬ (result ≡ 23) → (t : Tree) (l : Layout) → Fits image.now t l → ⊥ }
 
-    // Want of memory names block 0.
+    // Want of memory names block 0, and comes only where the size, the boot bytes and the root are sound.
     ensures memory { result ≡ 23 → verdict.new.block ≡ 0 }
+    ensures begun { result ≡ 23 → IsBegun image.now }
 {
     match check(alloc, image) {
         Ok(volume) => {

@@ -9,3 +9,4 @@ pub mod EntryLines
 pub mod Refusals
 pub mod LongInputs
 pub mod AnswerLaws
+pub mod OneAnswer

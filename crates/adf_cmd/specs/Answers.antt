@@ -25,9 +25,14 @@ use Rattle.adf_texts.specs.VolumeLines.{AreDates, volume_lines}
 use Rattle.adf_manifest.specs.declared.manifest.ManifestFault.{ManifestFault}
 use Rattle.adf_manifest.specs.declared.manifest.ManifestKind.TheVariants.{NoMemory as ManifestNoMemory}
 
--- `check` at status 0 tells the numbers of a tree and a layout that fit the image, at status 1 its first fault
+-- the tree and the layout fit the image, and no others do
+pub record FitAlone (image : List ℕ) (t : Tree) (l : Layout) : Type 0 where
+  pub fits : Fits image t l
+  pub only : (u : Tree) (m : Layout) → Fits image u m → (u ≡ t) × (m ≡ l)
+
+-- `check` at status 0 tells the numbers of the tree and the layout that fit the image, at status 1 its first fault
 abbrev pub Accepts : List ℕ → ℕ → List ℕ → List ℕ → Type 0
-Accepts input status output errors = (t : Tree) × (l : Layout) × Fits input t l × (status ≡ 0) × (output ≡ ok_line (counts_of input t l)) × (errors ≡ [])
+Accepts input status output errors = (t : Tree) × (l : Layout) × FitAlone input t l × (status ≡ 0) × (output ≡ ok_line (counts_of input t l)) × (errors ≡ [])
 
 abbrev pub Refuses : List ℕ → ℕ → List ℕ → List ℕ → Type 0
 Refuses input status output errors = (f : Fault) × FirstFault input f.block f.cause × (status ≡ 1) × (output ≡ fault_line f) × (errors ≡ [])
@@ -65,9 +70,9 @@ RefusesManifest input status output errors =
 abbrev pub RefusesImage : List ℕ → ℕ → List ℕ → List ℕ → Type 0
 RefusesImage input status output errors = (f : Fault) × FirstFault input f.block f.cause × (status ≡ 1) × (output ≡ []) × (errors ≡ fault_line f)
 
--- `list` writes the lines of a tree and a layout that fit the image, in which each date has its text
+-- `list` writes the lines of the tree and the layout that fit the image, in which each date has its text
 abbrev pub Lists : List ℕ → ℕ → List ℕ → List ℕ → Type 0
-Lists input status output errors = (t : Tree) × (l : Layout) × Fits input t l × (date : Stamp → List ℕ) × AreDates date × (status ≡ 0)
+Lists input status output errors = (t : Tree) × (l : Layout) × FitAlone input t l × (date : Stamp → List ℕ) × AreDates date × (status ≡ 0)
     × (output ≡ volume_lines date t (blocks input)) × (errors ≡ [])
 
 -- the text is that of no list of names
@@ -88,15 +93,19 @@ Copies None status output errors = (status ≡ 1) × (output ≡ []) × (errors 
 Copies (Some None) status output errors = (status ≡ 1) × (output ≡ []) × (errors ≡ codes "not a file\n")
 Copies (Some (Some bytes)) status output errors = (status ≡ 0) × (output ≡ bytes) × (errors ≡ [])
 
--- `cat` of a path in a tree and a layout that fit the image
+-- `cat` of a path in the tree and the layout that fit the image
 abbrev pub CopiesFrom : List ℕ → List ℕ → ℕ → List ℕ → List ℕ → Type 0
 CopiesFrom path input status output errors =
-    (names : List (List ℕ)) × IsPathText path names × (t : Tree) × (l : Layout) × Fits input t l × Copies (contents_at t names) status output errors
+    (names : List (List ℕ)) × IsPathText path names × (t : Tree) × (l : Layout) × FitAlone input t l × Copies (contents_at t names) status output errors
 
--- `convert` builds a tree that fits the image again, as one of this kind and in as many blocks
+-- `cat` of a path that is read, in an image that is refused
+abbrev pub RefusesToCopy : List ℕ → List ℕ → ℕ → List ℕ → List ℕ → Type 0
+RefusesToCopy path input status output errors = ((names : List (List ℕ)) × IsPathText path names) × RefusesImage input status output errors
+
+-- `convert` builds the tree that fits the image again, as one of this kind and in as many blocks
 abbrev pub Converts : Kind → List ℕ → ℕ → List ℕ → List ℕ → Type 0
 Converts kind input status output errors =
-    (t : Tree) × (l : Layout) × Fits input t l × BuildsOrIsFull false (with_kind t kind) (blocks input) status output errors
+    (t : Tree) × (l : Layout) × FitAlone input t l × BuildsOrIsFull false (with_kind t kind) (blocks input) status output errors
 
 -- the answer to a request: its status, and what is written to output and errors
 abbrev pub Answer : Request → List ℕ → ℕ → List ℕ → List ℕ → Type 0
@@ -104,8 +113,17 @@ Answer check input status output errors = Accepts input status output errors ⊎
 Answer (build lines) input status output errors = BuildsManifest lines input status output errors ⊎ RefusesManifest input status output errors
 Answer list input status output errors = Lists input status output errors ⊎ RefusesImage input status output errors
 Answer (cat path) input status output errors =
-    RefusesPath path status output errors ⊎ (CopiesFrom path input status output errors ⊎ RefusesImage input status output errors)
+    RefusesPath path status output errors ⊎ (CopiesFrom path input status output errors ⊎ RefusesToCopy path input status output errors)
 Answer (convert kind) input status output errors = Converts kind input status output errors ⊎ RefusesImage input status output errors
+
+-- words ask for one request at most
+abbrev pub WordsAskForOneRequest : Type 0
+WordsAskForOneRequest = (words : List (List ℕ)) (r r' : Request) → Asks words r → Asks words r' → r ≡ r'
+
+-- a request and an input have one answer at most
+abbrev pub RequestsHaveOneAnswer : Type 0
+RequestsHaveOneAnswer = (r : Request) (input : List ℕ) (s s' : ℕ) (o o' e e' : List ℕ) → Answer r input s o e → Answer r input s' o' e'
+    → (s ≡ s') × (o ≡ o') × (e ≡ e')
 
 -- the most bytes of the input that belong to an answer: those of the largest image or manifest
 abbrev pub limit_of : Option Request → ℕ
@@ -134,6 +152,10 @@ abbrev pub failure_line : Bool → Bool → List ℕ
 failure_line true _ = codes "read fault\n"
 failure_line false true = codes "write fault\n"
 failure_line false false = codes "no memory\n"
+
+-- what errors get where the words are refused
+abbrev pub usage_line : List ℕ
+usage_line = codes "usage: adf check | list | cat PATH | build [--list] | convert ofs|ffs\n"
 
 -- the words ask for the bytes under a path that is not read
 abbrev pub AsksBadPath : List (List ℕ) → Type 0

@@ -116,6 +116,7 @@ pub fn build_input<R: Source, W: Sink>(
     ensures works { IfSome (R.left input.old) (λ bytes. Works result (build lines) bytes (W.held output.old) (W.held output.new)) }
     ensures read { R.has_failed input.new ≡ is_read_fault result }
     ensures written { W.has_failed output.new ≡ is_write_fault result }
+    ensures unwritten { is_read_fault result ≡ true → output.new ≡ output.old }
     ensures at_most { TakesAtMost (limit_of (Some (build lines)) + 1) (R.left input.old) (R.left input.new) }
 {
     match read_all(alloc, input, MOST_BYTES) {

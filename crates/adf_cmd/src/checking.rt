@@ -1,6 +1,6 @@
 // The command `check`.
 
-ghost use Rattle.std.specs.Prelude.{◌≡◌, ◌++◌, ◌+◌, false, OnOk, IfOk, IfSome, Some, string_bytes};
+ghost use Rattle.std.specs.Prelude.{◌≡◌, ◌++◌, ◌+◌, false, OnOk, IfOk, IfSome, Some, string_bytes, true};
 ghost use Rattle.adf_tree.specs.Tree.{Tree};
 ghost use Rattle.adf_volume.specs.Layout.{Layout};
 ghost use Rattle.adf_check.specs.Volumes.{StandsFor};
@@ -29,7 +29,7 @@ fn accepted_line(alloc: Global, counts: &Counts) -> Result<String, AllocError>
 }
 
 // Writes the line of an accepted image.
-#[tactic(auto, using(crate::proofs::AnswerLaws::accepted_part))]
+#[tactic(auto, using(crate::proofs::AnswerLaws::accepted_part, crate::proofs::AnswerLaws::stands_alone))]
 fn tell_accepted<W: Sink>(alloc: Global, volume: &Checked<'_>, output: &mut W) -> Outcome
     requires works { W.has_failed output.old ≡ false }
     requires stands { (t : Tree) × (l : Layout) × StandsFor volume.now t l }
@@ -86,6 +86,7 @@ pub fn check_input<R: Source, W: Sink>(alloc: Global, input: &mut R, output: &mu
     ensures works { IfSome (R.left input.old) (λ bytes. Works result check bytes (W.held output.old) (W.held output.new)) }
     ensures read { R.has_failed input.new ≡ is_read_fault result }
     ensures written { W.has_failed output.new ≡ is_write_fault result }
+    ensures unwritten { is_read_fault result ≡ true → output.new ≡ output.old }
     ensures at_most { TakesAtMost (limit_of (Some check) + 1) (R.left input.old) (R.left input.new) }
 {
     match read_all(alloc, input, MOST_IMAGE_BYTES) {

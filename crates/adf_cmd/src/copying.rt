@@ -1,6 +1,6 @@
 // The command `cat`.
 
-ghost use Rattle.std.specs.Prelude.{◌≡◌, ◌++◌, ◌+◌, ℕ, List, false, OnOk, OnErr, IfSome};
+ghost use Rattle.std.specs.Prelude.{◌≡◌, ◌++◌, ◌+◌, ℕ, List, false, OnOk, OnErr, IfSome, true};
 ghost use Rattle.std.specs.Io.KnownBytes.{Appends};
 ghost use Rattle.std.specs.List.{concat};
 ghost use Rattle.adf_tree.specs.PathTexts.{IsPathText};
@@ -108,6 +108,7 @@ pub fn cat_input<R: Source, W: Sink>(
         → IfSome (R.left input.old) (λ bytes. Works result (cat path) bytes (W.held output.old) (W.held output.new)) }
     ensures read { R.has_failed input.new ≡ is_read_fault result }
     ensures written { W.has_failed output.new ≡ is_write_fault result }
+    ensures unwritten { is_read_fault result ≡ true → output.new ≡ output.old }
     ensures at_most { TakesAtMost (MOST_IMAGE_BYTES + 1) (R.left input.old) (R.left input.new) }
 {
     match read_all(alloc, input, MOST_IMAGE_BYTES) {

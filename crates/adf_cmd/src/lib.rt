@@ -20,5 +20,6 @@ pub use crate::devices::{Device, Failed, Sink, Source};
 pub use crate::images::MOST_IMAGE_BYTES;
 pub use crate::listing::write_listing;
 pub use crate::round_trip::build_and_read;
-pub use crate::runner::run;
+pub use crate::runner::{one_answer, refuse_words, run};
 pub use crate::streams::{StreamFault, read_all, say, write_all};
+pub use adf_manifest::{ManifestFault, ManifestKind, read_manifest};

@@ -1,7 +1,7 @@
 // The whole command.
 
 ghost use Rattle.std.specs.Prelude.{◌≡◌, ◌≤◌, ◌+◌, true, false, codes, map, Some, IfSome};
-ghost use Rattle.adf_cmd.specs.Answers.{Answers, AnswersPart, AsksBadPath, IsUnanswered, failure_line, limit_of};
+ghost use Rattle.adf_cmd.specs.Answers.{Answers, AnswersPart, AsksBadPath, IsUnanswered, RequestsHaveOneAnswer, WordsAskForOneRequest, failure_line, limit_of, usage_line};
 ghost use Rattle.adf_cmd.specs.CommandLine.{Asks, IsRefused, asked, request_of};
 ghost use Rattle.adf_cmd.specs.Outcomes.{line_of, status_of};
 ghost use Rattle.adf_cmd.specs.Streams.{Says, TakesAtMost};
@@ -42,11 +42,20 @@ fn refuse<E: Sink>(errors: &mut E, text: &str) -> u8
     2
 }
 
+/// Says on errors which words are taken, and answers the status of others, 2.
+pub fn refuse_words<E: Sink>(errors: &mut E) -> u8
+    requires { E.has_failed errors.old ≡ false }
+    ensures status { result ≡ 2 }
+    ensures said { Says (E.has_failed errors.new) (E.held errors.old) (E.held errors.new) usage_line }
+{
+    refuse(errors, USAGE)
+}
+
 /// Runs the command that the words name, of which the first is the program's name, and answers its status:
 ///
 /// - 0 where the answer is written to output;
 /// - 1 where the input is refused: `check` says so on output, the others on errors;
-/// - 2 where the words are not accepted, or the path is not read; nothing is read, and output is empty;
+/// - 2 where the words are not accepted, or the path is not read, which errors tell; nothing is read, and output is empty;
 /// - 3 where a device failed or memory was refused, which errors tell.
 pub fn run<R: Source, W: Sink, E: Sink>(
     alloc: Global,
@@ -69,11 +78,15 @@ pub fn run<R: Source, W: Sink, E: Sink>(
     ensures usage { result ≡ 2 → IsUnanswered (map (λ w. w.now) words.now) }
     ensures bad_path { result ≡ 2 → AsksBadPath (map (λ w. w.now) words.now)
         → Says (E.has_failed errors.new) (E.held errors.old) (E.held errors.new) (codes "bad path\n") }
+    ensures refused { result ≡ 2 → IsRefused (map (λ w. w.now) words.now)
+        → Says (E.has_failed errors.new) (E.held errors.old) (E.held errors.new) usage_line }
     ensures untouched { result ≡ 2 → (input.new ≡ input.old) × (output.new ≡ output.old) }
 
-    // At status 3 errors tell what failed, and output has a front part of an answer.
+    // At status 3 errors tell what failed, and output has a front part of an answer: nothing where input failed, so that output has not.
     ensures read_failed { R.has_failed input.new ≡ true → result ≡ 3 }
     ensures write_failed { W.has_failed output.new ≡ true → result ≡ 3 }
+    ensures one_failed { W.has_failed output.new ≡ true → R.has_failed input.new ≡ false }
+    ensures unwritten { R.has_failed input.new ≡ true → output.new ≡ output.old }
     ensures failure { result ≡ 3 → Says (E.has_failed errors.new) (E.held errors.old) (E.held errors.new) (failure_line (R.has_failed input.new) (W.has_failed output.new)) }
     ensures part { result ≡ 3 → IfSome (R.left input.old) (λ bytes. AnswersPart (map (λ w. w.now) words.now) (R.has_failed input.new) bytes (W.held output.old) (W.held output.new)) }
 
@@ -89,7 +102,14 @@ pub fn run<R: Source, W: Sink, E: Sink>(
         },
         Ok(Order::Build { list }) => finish(&build_input(alloc, list, input, output), errors),
         Ok(Order::Convert(kind)) => finish(&convert_input(alloc, kind, input, output), errors),
-        Err(WordsFault::Usage) => refuse(errors, USAGE),
+        Err(WordsFault::Usage) => refuse_words(errors),
         Err(WordsFault::NoMemory) => finish(&Outcome::NoMemory, errors),
     }
 }
+
+/// Words ask for one request, and a request and an input have one answer: one status, one output and one text on errors.
+#[tactic(auto, using(crate::proofs::OneAnswer::one_answer, crate::proofs::OneAnswer::one_request))]
+pub fn one_answer()
+    ensures request { WordsAskForOneRequest }
+    ensures answer { RequestsHaveOneAnswer }
+{}

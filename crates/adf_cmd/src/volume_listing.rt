@@ -1,6 +1,6 @@
 // The command `list`.
 
-ghost use Rattle.std.specs.Prelude.{◌≡◌, ◌++◌, ◌+◌, ℕ, List, false, IfOk, IfSome, OnOk, OnErr, length};
+ghost use Rattle.std.specs.Prelude.{◌≡◌, ◌++◌, ◌+◌, ℕ, List, false, IfOk, IfSome, OnOk, OnErr, length, true};
 ghost use Rattle.std.specs.Io.KnownBytes.{Appends};
 ghost use Rattle.adf_fields.specs.declared.dates.Stamp.{Stamp};
 ghost use Rattle.adf_tree.specs.Paths.{names_of};
@@ -175,6 +175,7 @@ pub fn list_input<R: Source, W: Sink>(alloc: Global, input: &mut R, output: &mut
     ensures works { IfSome (R.left input.old) (λ bytes. Works result list bytes (W.held output.old) (W.held output.new)) }
     ensures read { R.has_failed input.new ≡ is_read_fault result }
     ensures written { W.has_failed output.new ≡ is_write_fault result }
+    ensures unwritten { is_read_fault result ≡ true → output.new ≡ output.old }
     ensures at_most { TakesAtMost (MOST_IMAGE_BYTES + 1) (R.left input.old) (R.left input.new) }
 {
     match read_all(alloc, input, MOST_IMAGE_BYTES) {

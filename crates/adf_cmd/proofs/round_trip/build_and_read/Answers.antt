@@ -12,4 +12,4 @@ returns-in-Ok-to_tree-clause-same c =
     let tree = c.args.tree.now in
     let stands = c.in-Ok.ensures.fits in
     let fits = rw (← c.deref.ensures.value, ← c.in-Ok.ensures.image) at c.in_ok-image.ensures.fits in
-    c.in-Ok-to_tree.ensures stands.0 stands.1 stands.2 ∙ sym (stands.2.only tree (planned tree c.args.blocks) fits).0
+    c.in-Ok-to_tree.ensures.tree stands.0 stands.1 stands.2 ∙ sym (stands.2.only tree (planned tree c.args.blocks) fits).0
