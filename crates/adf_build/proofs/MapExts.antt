@@ -1,8 +1,8 @@
 -- The bitmap extension blocks of a volume.
-use Rattle.std.proofs.Common.{take, min, ◌≡◌, ◌≤◌, ◌<◌, ◌+◌, ◌-◌, ◌*◌, ◌/◌, ◌^◌, ℕ, suc, List, arith, true, add-one}
+use Rattle.std.proofs.Common.{take, min, ◌≡◌, ◌≤◌, ◌<◌, ◌+◌, ◌-◌, ◌*◌, ◌^◌, ℕ, suc, List, arith, true, add-one}
 use Rattle.adf_fields.specs.Words.{with_block}
 use Rattle.adf_blocks.specs.MapExtBlock.{map_ext_block}
-use Rattle.adf_blocks.specs.Sizes.{is_allowed, pages_needed}
+use Rattle.adf_blocks.specs.Sizes.{is_allowed, middle, pages_needed}
 use Rattle.adf_blocks.specs.declared.layout.TheConstants.{MAP_EXT_PAGES, ROOT_PAGES}
 use Rattle.std.specs.List.{range_with_len}
 use Rattle.adf_volume.specs.Image.{map_exts_needed}
@@ -13,9 +13,9 @@ use Rattle.adf_build.proofs.AllocatedBlocks.{reserved_below}
 use Rattle.adf_build.proofs.LaidWrites.{reserved_parts}
 
 -- a bitmap extension block lies whole in the image
-pub map_ext_fits : (n p j l : ℕ) → is_allowed n ≡ true → p ≡ pages_needed n → j < map_exts_needed (pages_needed n) → l ≡ n * 512
-    → (n / 2 + 1 + p + j) * 512 + 512 ≤ l
-map_ext_fits n p j l a g h e =
+pub map_ext_fits : (n b j l : ℕ) → is_allowed n ≡ true → b ≡ middle n + 1 + pages_needed n + j → j < map_exts_needed (pages_needed n) → l ≡ n * 512
+    → b * 512 + 512 ≤ l
+map_ext_fits n b j l a g h e =
     let four = size_low n a in
     let r = reserved_below n four in
     let parts = reserved_parts n in
@@ -27,12 +27,12 @@ unfolding map_exts_needed
 map_exts_few n a = let high = size_high n a in omega arith
 
 -- one bitmap extension block more
-pub map_exts_step : (image old all table : List ℕ) (n p j m few next : ℕ) → p ≡ pages_needed n → j < m
+pub map_exts_step : (image old all table : List ℕ) (n b first j m few next : ℕ) → b ≡ middle n + 1 + pages_needed n + j → j < m
     → few ≡ min MAP_EXT_PAGES (pages_needed n - (ROOT_PAGES + MAP_EXT_PAGES * j))
-    → take few table ≡ range_with_len (n / 2 + 1 + (ROOT_PAGES + MAP_EXT_PAGES * j)) few → next ≡ map_ext_or_none n (j + 1) (m - (j + 1))
-    → with_blocks old (map_ext_writes n j (m - j)) ≡ all → image ≡ with_block old (n / 2 + 1 + p + j) (map_ext_block (take few table) next)
+    → first ≡ middle n + 1 + (ROOT_PAGES + MAP_EXT_PAGES * j) → take few table ≡ range_with_len first few → next ≡ map_ext_or_none n (j + 1) (m - (j + 1))
+    → with_blocks old (map_ext_writes n j (m - j)) ≡ all → image ≡ with_block old b (map_ext_block (take few table) next)
     → with_blocks image (map_ext_writes n (j + 1) (m - (j + 1))) ≡ all
-map_exts_step image old all table n p j m few next e lt f g h inv w =
+map_exts_step image old all table n b first j m few next e lt f i g h inv w =
     let split : m - j ≡ suc (m - (j + 1)) = omega arith in
     let here = rw split at inv in
     let up = add-one j in

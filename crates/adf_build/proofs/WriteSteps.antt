@@ -1,7 +1,6 @@
 -- The steps of the loops that write blocks: what is left to write, by its first block.
-use Rattle.std.proofs.Common.{◌≡◌, ◌<◌, ◌+◌, ◌-◌, ◌/◌, ℕ, suc, List, [], ◌∷◌, refl, sym, ap, subst, ◌∙◌, arith, length, take, drop, min, inl, inr}
-use Rattle.std.specs.Prelude.{slice_index, slice_index_or}
-use Rattle.std.proofs.lemmas.Bool.{cases_lt}
+use Rattle.std.proofs.Common.{◌≡◌, ◌<◌, ◌+◌, ◌-◌, ℕ, suc, List, [], ◌∷◌, refl, ap, ◌∙◌, arith, length, take, drop, min}
+use Rattle.std.specs.Prelude.{slice_index}
 use Rattle.std.proofs.lemmas.List.{drop_min, take_min}
 use Rattle.adf_fields.specs.Hash.{slot_of}
 use Rattle.adf_fields.specs.Words.{with_block}
@@ -22,10 +21,9 @@ use Rattle.adf_blocks.specs.declared.layout.TheConstants.{POINTERS, ROOT_PAGES}
 use Rattle.adf_build.specs.Laid.{boot_bytes, data_bytes, data_writes, entries_writes, ext_writes, first_block, heads_from, map_ext_writes}
 use Rattle.adf_build.specs.Laid.{map_ext_or_none, node_blocks, nth_free_or_none, page_writes, planned_root, slots_of, writes}
 use Rattle.adf_build.specs.Plan.{data_blocks, entries_blocks, entry_blocks, exts_needed, nth_free}
-use Rattle.adf_build.specs.Building.{IsSoundEntry, entry_writes, file_header}
+use Rattle.adf_build.specs.Building.{entry_writes, file_header}
 use Rattle.adf_build.specs.declared.heads.Spot.{Spot}
 use Rattle.adf_build.proofs.BlockWrites.{with_blocks-append}
-use Rattle.adf_build.proofs.Order.{place_is}
 
 -- one data block more
 pub datas_step : (image old all : List ℕ) (n : ℕ) (kind : Kind) (head k j count b next m : ℕ) (left held rest : List ℕ) → j < count
@@ -76,16 +74,6 @@ entry_step image old all n kind other nodes slots es left rest i k next p e here
     let both = with_blocks-append old (entry_writes n kind here slots e) (entries_writes n kind nodes es (suc i) (k + entry_blocks kind e) rest) in
     cc
 
--- one entry more is sound
-pub sound_step : (es rest : List Entry) (i : ℕ) (e : Entry) → drop i es ≡ e ∷ rest → IsSoundEntry e
-    → ((j : ℕ) (d : Entry) → j < i → IsSoundEntry (slice_index_or es j d)) → (j : ℕ) (d : Entry) → j < i + 1 → IsSoundEntry (slice_index_or es j d)
-sound_step es rest i e split s f j d lt = elim (cases_lt j i) [
-  | inl l ↦ f j d l
-  | inr l ↦
-      let z : i ≡ j = omega arith in
-      subst (λ j. IsSoundEntry (slice_index_or es j d)) z (subst (λ (x : Entry). IsSoundEntry x) (sym (place_is es rest i e d split)) s)
-]
-
 -- the blocks of a file: its header, its extension blocks and its data blocks
 pub file_step : (image old head mid bytes slots : List ℕ) (n : ℕ) (kind : Kind) (here : Spot) (e : Entry) (own datas exts left : ℕ)
     → e.body ≡ File bytes → own ≡ nth_free n here.k → datas ≡ data_blocks kind e.body → exts ≡ exts_needed datas → left ≡ datas - POINTERS
@@ -102,13 +90,13 @@ file_step image old head mid bytes slots n kind here e own datas exts left b o d
     rw b (cc)
 
 -- the root, with what it names
-pub root_step : (image old slots numbers : List ℕ) (label : List ℕ) (stamps : Stamps) (t : Tree) (n few exts next : ℕ)
-    → slots ≡ slots_of (node_blocks t n) t.entries 0
-    → few ≡ min ROOT_PAGES (pages_needed n) → take (min ROOT_PAGES (pages_needed n)) numbers ≡ range_with_len (n / 2 + 1) (min ROOT_PAGES (pages_needed n))
+pub root_step : (image old slots numbers : List ℕ) (label : List ℕ) (stamps : Stamps) (t : Tree) (n root first few exts next : ℕ)
+    → root ≡ middle n → first ≡ middle n + 1 → slots ≡ slots_of (node_blocks t n) t.entries 0
+    → few ≡ min ROOT_PAGES (pages_needed n) → take few numbers ≡ range_with_len first few
     → exts ≡ map_exts_needed (pages_needed n) → next ≡ map_ext_or_none n 0 exts → label ≡ t.label → stamps ≡ t.stamps
-    → image ≡ with_block old (n / 2) (root_block (record { slots = slots; pages = take few numbers; map_ext = next; label = label; stamps = stamps }))
+    → image ≡ with_block old root (root_block (record { slots = slots; pages = take few numbers; map_ext = next; label = label; stamps = stamps }))
     → image ≡ with_block old (middle n) (root_block (planned_root t n))
-root_step image old slots numbers label stamps t n few exts next a b d e f g h i = cc
+root_step image old slots numbers label stamps t n root first few exts next r j a b d e f g h i = cc
 
 -- the blocks of a volume: those of the entries, the pages, the bitmap extension blocks, the root and the boot block
 pub volume_step : (image old a b d r boot nodes : List ℕ) (t : Tree) (n total : ℕ) (kind : Kind) → nodes ≡ node_blocks t n

@@ -1,12 +1,11 @@
 -- What building answers.
-use Rattle.std.specs.Prelude.{◌≡◌, ◌≤◌, ◌<◌, ◌+◌, ◌-◌, ◌^◌, ℕ, List, ◌∷◌, length, true, false, min}
+use Rattle.std.specs.Prelude.{◌≡◌, ◌≤◌, ◌<◌, ◌+◌, ◌-◌, ◌^◌, ℕ, List, ◌∷◌, true, false, min}
 use Rattle.std.proofs.Common.{suc}
-use Rattle.adf_tree.specs.Texts.{is_name}
 use Rattle.adf_tree.specs.Tree.{Tree}
 use Rattle.adf_tree.specs.declared.entry.Entry.{Entry}
 use Rattle.adf_tree.specs.declared.entry.Kind.{Kind}
 use Rattle.adf_blocks.specs.declared.layout.TheConstants.{POINTERS}
-use Rattle.adf_blocks.specs.HeadBlock.{FitsMeta, HeadFields, head_block}
+use Rattle.adf_blocks.specs.HeadBlock.{HeadFields, head_block}
 use Rattle.adf_blocks.specs.HeadBlock.BodyFields.{FileFields}
 use Rattle.adf_blocks.specs.Sizes.{is_allowed}
 use Rattle.adf_build.specs.Plan.{blocks_needed, exts_needed, nth_free, allocated}
@@ -35,12 +34,6 @@ abbrev pub IsBuildFault : Tree → ℕ → BuildFault → Type 0
 IsBuildFault tree n BadSize = is_allowed n ≡ false
 IsBuildFault tree n (Full need have) = (is_allowed n ≡ true) × (need ≡ need_of tree n) × (have ≡ n - 2) × (have < need)
 IsBuildFault tree n NoMemory = HasRoom tree n
-
--- what a block has room for: the name, the comment and the numbers of an entry
-pub record IsSoundEntry (e : Entry) : Type 0 where
-  pub name : is_name e.name ≡ true
-  pub comment : length e.meta.comment ≤ 79
-  pub meta : FitsMeta e.meta
 
 -- the fields of the header of an entry with these slots, in a volume of n blocks
 abbrev pub header : ℕ → Kind → Spot → List ℕ → Entry → HeadFields

@@ -1,6 +1,6 @@
 -- Where the builder lays the parts of a tree, in a volume of n blocks: the root in the middle, behind it the pages and the bitmap
 -- extension blocks. The other blocks from 2 on are free for the entries, ascending in order: the k-th of them is `nth_free n k`.
-use Rattle.std.specs.Prelude.{ℕ, List, [], ◌∷◌, ◌+◌, ◌-◌, ◌/◌, nat_lt, cond, length}
+use Rattle.std.specs.Prelude.{ℕ, List, [], ◌∷◌, ◌≤◌, ◌+◌, ◌-◌, ◌/◌, nat_lt, cond, length}
 use Rattle.std.specs.List.{range_with_len}
 use Rattle.std.proofs.Common.{zero, suc}
 use Rattle.adf_tree.specs.declared.entry.Kind.{Kind}
@@ -38,6 +38,10 @@ reserved n = pages_needed n + map_exts_needed (pages_needed n)
 -- the blocks that a tree needs in a volume of n blocks: the root, the reserved ones, and those of its entries
 abbrev pub blocks_needed : Tree → ℕ → ℕ
 blocks_needed t n = 1 + reserved n + entries_blocks t.kind t.entries
+
+-- a volume of n blocks has k free blocks
+abbrev pub HasFree : ℕ → ℕ → Type 0
+HasFree n k = 1 + reserved n + k ≤ n - 2
 
 -- the k-th block that is free for entries
 unfoldable pub nth_free : ℕ → ℕ → ℕ

@@ -2,13 +2,13 @@
 
 ghost use Rattle.std.specs.Prelude.{◌≡◌, ◌*◌, IfOk, IfErr, OnOk, vec_len};
 ghost use Rattle.adf_volume.specs.Fits.{Fits};
-ghost use Rattle.adf_build.specs.Laid.{IsLaid, volume};
+ghost use Rattle.adf_build.specs.Laid.{IsLaid, IsSound, volume};
 ghost use Rattle.adf_build.specs.Plan.{planned};
 ghost use Rattle.adf_build.specs.Building.{HasRoom, IsBuildFault, build_fault_number};
 
-use crate::allocation::reserved_count;
-use crate::counting::need;
+use crate::counting::count_entries;
 use crate::nodes::nodes_of;
+use crate::plan::Plan;
 use crate::volume::write_volume;
 use adf_fields::BLOCK_LEN;
 use adf_tree::Tree;
@@ -38,6 +38,15 @@ impl BuildFault {
     }
 }
 
+// The fields of a tree fit the fields of blocks.
+#[tactic(auto, using(crate::proofs::WholeVolume::sound_tree))]
+fn fields_fit(tree: &Tree)
+    ensures { IsSound tree.now }
+{
+    tree.bounds();
+    let _count = tree.len();
+}
+
 /// The image of a tree in a volume of so many blocks: the root in the middle, the bitmap pages and bitmap extension blocks behind it,
 /// the entries in order in the blocks that are left, and 0 in every byte that is not asked for.
 pub fn build(alloc: Global, tree: &Tree, blocks: u32) -> Result<Vec<u8>, BuildFault>
@@ -48,20 +57,22 @@ pub fn build(alloc: Global, tree: &Tree, blocks: u32) -> Result<Vec<u8>, BuildFa
     ensures room { OnOk result (HasRoom tree.now blocks) }
     ensures fault { IfErr result (IsBuildFault tree.now blocks) }
 {
-    let Some(need) = need(tree, blocks) else {
+    let Some(plan) = Plan::new(blocks) else {
         return Err(BuildFault::BadSize);
     };
+    let total = count_entries(tree);
+    let need = plan.need(total);
     let have = u64::from(blocks - 2);
     if need > have {
         return Err(BuildFault::Full { need, have });
     }
-    let Ok(nodes) = nodes_of(alloc, tree, blocks) else {
+    let Ok(nodes) = nodes_of(alloc, tree, plan) else {
         return Err(BuildFault::NoMemory);
     };
     let Ok(mut image) = vec![in alloc; 0u8; blocks as usize * BLOCK_LEN] else {
         return Err(BuildFault::NoMemory);
     };
-    let total = (need - 1) as u32 - reserved_count(blocks);
-    write_volume(&mut image, blocks, tree, &nodes, total);
+    write_volume(&mut image, plan, tree, &nodes, total as u32);
+    fields_fit(tree);
     Ok(image)
 }

@@ -1,13 +1,13 @@
 // The blocks that a tree needs.
 
-ghost use Rattle.std.specs.Prelude.{◌≡◌, ◌≤◌, ◌+◌, ◌-◌, ◌^◌, true, length, min};
+ghost use Rattle.std.specs.Prelude.{◌≡◌, ◌+◌, ◌-◌, ◌^◌, true, min};
 ghost use Rattle.std.specs.Option.{SomeIff};
 ghost use Rattle.adf_blocks.specs.Sizes.{is_allowed};
-ghost use Rattle.adf_build.specs.Plan.{data_blocks, entry_blocks, exts_needed};
+ghost use Rattle.adf_build.specs.Plan.{data_blocks, entries_blocks, entry_blocks, exts_needed};
 ghost use Rattle.adf_build.specs.Building.{need_of};
 
-use crate::allocation::reserved_count;
-use adf_blocks::{POINTERS, data_count, is_allowed_size};
+use crate::plan::Plan;
+use adf_blocks::{POINTERS, data_count};
 use adf_tree::{Body, Entry, Kind, Node, Tree};
 
 /// The data blocks of a body.
@@ -38,13 +38,12 @@ fn add_entry(sum: u64, kind: Kind, entry: &Entry) -> u64
         .saturating_add(datas as u64)
 }
 
-// The blocks that the tree needs in a volume of so many blocks, or the greatest number.
+/// The blocks of all entries, or the greatest number.
 #[tactic(auto, using(crate::proofs::CountSteps::count_step, crate::proofs::CountSteps::count_goes_on))]
-fn count_blocks(tree: &Tree, blocks: u32) -> u64
-    requires { is_allowed blocks ≡ true }
-    ensures { result ≡ need_of tree.now blocks }
+pub fn count_entries(tree: &Tree) -> u64
+    ensures { result ≡ min (entries_blocks tree.now.kind tree.now.entries) (2 ^ 64 - 1) }
 {
-    let mut sum = 1 + u64::from(reserved_count(blocks));
+    let mut sum = 0;
     for i in 0..tree.len() {
         if let Some(entry) = tree.entry(Node(i + 1)) {
             sum = add_entry(sum, tree.kind(), entry);
@@ -58,9 +57,6 @@ fn count_blocks(tree: &Tree, blocks: u32) -> u64
 pub fn need(tree: &Tree, blocks: u32) -> Option<u64>
     ensures { SomeIff result (is_allowed blocks ≡ true) (need_of tree.now blocks) }
 {
-    if is_allowed_size(blocks) {
-        Some(count_blocks(tree, blocks))
-    } else {
-        None
-    }
+    let plan = Plan::new(blocks)?;
+    Some(plan.need(count_entries(tree)))
 }

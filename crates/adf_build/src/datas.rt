@@ -1,14 +1,14 @@
 // The data blocks of a file.
 
-ghost use Rattle.std.specs.Prelude.{◌≡◌, ◌≤◌, ◌<◌, ◌+◌, ◌-◌, ◌*◌, [], ◌∷◌, true, length};
+ghost use Rattle.std.specs.Prelude.{◌≡◌, ◌≤◌, ◌+◌, ◌*◌, [], ◌∷◌, length};
 ghost use Rattle.adf_fields.specs.Words.{with_block};
 ghost use Rattle.adf_blocks.specs.Fields.{block_of_fields};
-ghost use Rattle.adf_blocks.specs.Sizes.{chunk, is_allowed};
+ghost use Rattle.adf_blocks.specs.Sizes.{chunk};
 ghost use Rattle.adf_build.specs.Laid.{data_bytes, data_writes};
 ghost use Rattle.adf_build.specs.Writes.{with_blocks};
-ghost use Rattle.adf_build.specs.Plan.{nth_free, reserved};
+ghost use Rattle.adf_build.specs.Plan.{HasFree};
 
-use crate::allocation::{nth_free, nth_free_or_none};
+use crate::plan::Plan;
 use adf_blocks::{DataOut, chunk_len, write_data};
 use adf_fields::{put_block, put_bytes};
 use adf_tree::Kind;
@@ -40,17 +40,16 @@ fn write_one(image: &mut [u8], b: u32, kind: Kind, data: &DataOut<'_>)
 #[tactic(auto, using(crate::proofs::FreeBlocks::free_fits))]
 pub fn write_datas(
     image: &mut [u8],
-    blocks: u32,
+    plan: Plan,
     kind: Kind,
     head: u32,
     k: u32,
     bytes: &[u8],
     count: u32,
 )
-    requires size { is_allowed blocks ≡ true }
-    requires whole { length image.old ≡ blocks * 512 }
-    requires room { 1 + reserved blocks + (k + count) ≤ blocks - 2 }
-    ensures { image.new ≡ with_blocks image.old (data_writes blocks kind head k 1 bytes.now count) }
+    requires whole { length image.old ≡ plan.blocks * 512 }
+    requires room { HasFree plan.blocks (k + count) }
+    ensures { image.new ≡ with_blocks image.old (data_writes plan.blocks kind head k 1 bytes.now count) }
 {
     let mut left = bytes;
     for j in 0..count {
@@ -58,10 +57,10 @@ pub fn write_datas(
         let data = DataOut {
             head,
             number: 1 + j,
-            next: nth_free_or_none(blocks, k + j + 1, count - (j + 1)),
+            next: plan.nth_free_or_none(k + j + 1, count - (j + 1)),
             bytes: held,
         };
-        write_one(image, nth_free(blocks, k + j), kind, &data);
+        write_one(image, plan.nth_free(k + j), kind, &data);
         left = rest;
     }
 }

@@ -1,31 +1,27 @@
 // The blocks of all entries.
 
 ghost use Rattle.std.specs.Prelude.{◌≡◌, ◌≤◌, ◌+◌, ◌*◌, ℕ, length, drop};
-ghost use Rattle.std.specs.List.{All};
-ghost use Rattle.adf_tree.specs.declared.entry.Entry.{Entry};
-ghost use Rattle.adf_tree.specs.Tree.{IsTree};
 ghost use Rattle.adf_build.specs.Laid.{entries_writes};
 ghost use Rattle.adf_build.specs.Writes.{with_blocks};
-ghost use Rattle.adf_build.specs.Building.{HasRoom, IsSoundEntry};
+ghost use Rattle.adf_build.specs.Building.{HasRoom};
 ghost use Rattle.adf_build.specs.Order.{RisesFrom};
 ghost use Rattle.adf_volume.specs.Layout.{nodes_from};
 
 use crate::chains::{children_end, next_of, parent_block, slots_between};
 use crate::heads::{Spot, write_entry};
 use crate::nodes::{entry_at, next_free};
+use crate::plan::Plan;
 use adf_tree::Tree;
 
 /// Writes the blocks of all entries; the children of the root stand before place `first`.
-pub fn write_entries(image: &mut [u8], tree: &Tree, blocks: u32, nodes: &[u32], first: usize)
-    requires room { HasRoom tree.now blocks }
-    requires whole { length image.old ≡ blocks * 512 }
+pub fn write_entries(image: &mut [u8], tree: &Tree, plan: Plan, nodes: &[u32], first: usize)
+    requires room { HasRoom tree.now plan.blocks }
+    requires whole { length image.old ≡ plan.blocks * 512 }
     requires nodes { length nodes.now ≡ 1 + length tree.now.entries }
     requires within { first ≤ length tree.now.entries }
     requires low { RisesFrom 72 (drop first tree.now.entries) }
     requires chains { (q s : ℕ) → 1 ≤ q → nodes_from 1 tree.now.entries q s ≡ nodes_from (first + 1) (drop first tree.now.entries) q s }
-    ensures exact { image.new ≡ with_blocks image.old (entries_writes blocks tree.now.kind nodes.now tree.now.entries 1 0 tree.now.entries) }
-    ensures sound { All (λ (e : Entry). IsSoundEntry e) tree.now.entries }
-    ensures tree { IsTree tree.now.entries }
+    ensures { image.new ≡ with_blocks image.old (entries_writes plan.blocks tree.now.kind nodes.now tree.now.entries 1 0 tree.now.entries) }
 {
     let mut k = 0;
     let mut child = first;
@@ -38,7 +34,7 @@ pub fn write_entries(image: &mut [u8], tree: &Tree, blocks: u32, nodes: &[u32], 
             parent: parent_block(tree, nodes, i, entry),
             next: next_of(tree, nodes, i, entry),
         };
-        write_entry(image, blocks, tree.kind(), spot, slots, entry);
+        write_entry(image, plan, tree.kind(), spot, slots, entry);
         k = next_free(k, tree.kind(), &entry.body);
         child = end;
     }

@@ -1,19 +1,18 @@
 // The blocks of an entry.
 
-ghost use Rattle.std.specs.Prelude.{◌≡◌, ◌≤◌, ◌+◌, ◌-◌, ◌*◌, ℕ, List, true, length};
+ghost use Rattle.std.specs.Prelude.{◌≡◌, ◌+◌, ◌*◌, ℕ, List, length};
 ghost use Rattle.adf_tree.specs.declared.entry.Body.TheVariants.{Dir as TheDir, File as TheFile};
 ghost use Rattle.adf_fields.specs.Words.{with_block};
 ghost use Rattle.adf_blocks.specs.HeadBlock.{head_block};
-ghost use Rattle.adf_blocks.specs.Sizes.{is_allowed};
 ghost use Rattle.adf_build.specs.Writes.{with_blocks};
-ghost use Rattle.adf_build.specs.Plan.{entry_blocks, exts_needed, nth_free, reserved};
-ghost use Rattle.adf_build.specs.Building.{IsSoundEntry, entry_writes, file_header};
+ghost use Rattle.adf_build.specs.Plan.{HasFree, entry_blocks, exts_needed, nth_free};
+ghost use Rattle.adf_build.specs.Building.{entry_writes, file_header};
 ghost use Rattle.adf_tree.specs.declared.entry.Kind.{Kind};
 
-use crate::allocation::{nth_free, nth_free_or_none, table_of};
 use crate::counting::{data_blocks, ext_count};
 use crate::datas::write_datas;
 use crate::exts::write_exts;
+use crate::plan::Plan;
 use adf_blocks::{HeadOut, HeadOutBody, POINTERS, write_head};
 use adf_tree::{Body, Entry, Kind};
 
@@ -28,15 +27,13 @@ pub struct Spot {
 
 // Writes the header of a directory.
 #[tactic(auto, using(crate::proofs::FreeBlocks::free_fits))]
-fn write_dir(image: &mut [u8], blocks: u32, spot: Spot, slots: [u32; 72], entry: &Entry)
+fn write_dir(image: &mut [u8], plan: Plan, spot: Spot, slots: [u32; 72], entry: &Entry)
     requires body { entry.now.body ≡ TheDir }
-    requires size { is_allowed blocks ≡ true }
-    requires whole { length image.old ≡ blocks * 512 }
-    requires room { 1 + reserved blocks + (spot.k + 1) ≤ blocks - 2 }
-    ensures exact { (kind : Kind) → image.new ≡ with_blocks image.old (entry_writes blocks kind spot slots entry.now) }
-    ensures sound { IsSoundEntry entry.now }
+    requires whole { length image.old ≡ plan.blocks * 512 }
+    requires room { HasFree plan.blocks (spot.k + 1) }
+    ensures { (kind : Kind) → image.new ≡ with_blocks image.old (entry_writes plan.blocks kind spot slots entry.now) }
 {
-    let own = nth_free(blocks, spot.k);
+    let own = plan.nth_free(spot.k);
     let head = HeadOut {
         own,
         parent: spot.parent,
@@ -50,24 +47,15 @@ fn write_dir(image: &mut [u8], blocks: u32, spot: Spot, slots: [u32; 72], entry:
 
 // Writes the header of a file of so many bytes in so many data blocks.
 #[tactic(auto, using(crate::proofs::FreeBlocks::free_fits))]
-fn write_file_head(
-    image: &mut [u8],
-    blocks: u32,
-    spot: Spot,
-    size: u32,
-    datas: usize,
-    entry: &Entry,
-)
-    requires size { is_allowed blocks ≡ true }
-    requires whole { length image.old ≡ blocks * 512 }
-    requires room { 1 + reserved blocks + (spot.k + (1 + exts_needed datas + datas)) ≤ blocks - 2 }
-    ensures exact { image.new ≡ with_block image.old (nth_free blocks spot.k) (head_block (file_header blocks spot size datas entry.now)) }
-    ensures sound { IsSoundEntry entry.now }
+fn write_file_head(image: &mut [u8], plan: Plan, spot: Spot, size: u32, datas: usize, entry: &Entry)
+    requires whole { length image.old ≡ plan.blocks * 512 }
+    requires room { HasFree plan.blocks (spot.k + (1 + exts_needed datas + datas)) }
+    ensures { image.new ≡ with_block image.old (nth_free plan.blocks spot.k) (head_block (file_header plan.blocks spot size datas entry.now)) }
 {
-    let own = nth_free(blocks, spot.k);
+    let own = plan.nth_free(spot.k);
     let exts = ext_count(datas) as u32;
     let short = datas.min(POINTERS);
-    let table = table_of(blocks, spot.k + 1 + exts, short);
+    let table = plan.table_of(spot.k + 1 + exts, short);
     let head = HeadOut {
         own,
         parent: spot.parent,
@@ -77,7 +65,7 @@ fn write_file_head(
         body: HeadOutBody::File {
             size,
             table: &table[..short],
-            ext: nth_free_or_none(blocks, spot.k + 1, exts),
+            ext: plan.nth_free_or_none(spot.k + 1, exts),
         },
     };
     write_head(image, own, &head);
@@ -85,48 +73,44 @@ fn write_file_head(
 
 // Writes the blocks of a file.
 #[tactic(auto, using(crate::proofs::FreeBlocks::size_small, adf_volume::proofs::Sizes::size_high))]
-fn write_file(image: &mut [u8], blocks: u32, kind: Kind, spot: Spot, entry: &Entry, bytes: &[u8])
+fn write_file(image: &mut [u8], plan: Plan, kind: Kind, spot: Spot, entry: &Entry, bytes: &[u8])
     requires body { entry.now.body ≡ TheFile bytes.now }
-    requires size { is_allowed blocks ≡ true }
-    requires whole { length image.old ≡ blocks * 512 }
-    requires room { 1 + reserved blocks + (spot.k + entry_blocks kind entry.now) ≤ blocks - 2 }
-    ensures exact { (slots : List ℕ) → image.new ≡ with_blocks image.old (entry_writes blocks kind spot slots entry.now) }
-    ensures sound { IsSoundEntry entry.now }
+    requires whole { length image.old ≡ plan.blocks * 512 }
+    requires room { HasFree plan.blocks (spot.k + entry_blocks kind entry.now) }
+    ensures { (slots : List ℕ) → image.new ≡ with_blocks image.old (entry_writes plan.blocks kind spot slots entry.now) }
 {
     let datas = data_blocks(kind, &entry.body);
     let exts = ext_count(datas) as u32;
-    let own = nth_free(blocks, spot.k);
+    let own = plan.nth_free(spot.k);
     let first = spot.k + 1 + exts;
-    write_file_head(image, blocks, spot, bytes.len() as u32, datas, entry);
+    write_file_head(image, plan, spot, bytes.len() as u32, datas, entry);
     write_exts(
         image,
-        blocks,
+        plan,
         own,
         spot.k + 1,
         first + POINTERS as u32,
         datas.saturating_sub(POINTERS),
         exts,
     );
-    write_datas(image, blocks, kind, own, first, bytes, datas as u32);
+    write_datas(image, plan, kind, own, first, bytes, datas as u32);
 }
 
 /// Writes the blocks of an entry.
 pub fn write_entry(
     image: &mut [u8],
-    blocks: u32,
+    plan: Plan,
     kind: Kind,
     spot: Spot,
     slots: [u32; 72],
     entry: &Entry,
 )
-    requires size { is_allowed blocks ≡ true }
-    requires whole { length image.old ≡ blocks * 512 }
-    requires room { 1 + reserved blocks + (spot.k + entry_blocks kind entry.now) ≤ blocks - 2 }
-    ensures exact { image.new ≡ with_blocks image.old (entry_writes blocks kind spot slots entry.now) }
-    ensures sound { IsSoundEntry entry.now }
+    requires whole { length image.old ≡ plan.blocks * 512 }
+    requires room { HasFree plan.blocks (spot.k + entry_blocks kind entry.now) }
+    ensures { image.new ≡ with_blocks image.old (entry_writes plan.blocks kind spot slots entry.now) }
 {
     match &entry.body {
-        Body::Dir => write_dir(image, blocks, spot, slots, entry),
-        Body::File(file) => write_file(image, blocks, kind, spot, entry, file.bytes()),
+        Body::Dir => write_dir(image, plan, spot, slots, entry),
+        Body::File(file) => write_file(image, plan, kind, spot, entry, file.bytes()),
     }
 }

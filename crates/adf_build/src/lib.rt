@@ -1,7 +1,6 @@
 //! Builds the image of an Amiga volume from a tree; the laws of what is laid.
 #![tactic(auto)]
 
-mod allocation;
 mod builder;
 mod chains;
 mod counting;
@@ -13,6 +12,7 @@ mod laid;
 mod map_exts;
 mod nodes;
 mod pages;
+mod plan;
 mod volume;
 
 pub use crate::builder::{BuildFault, build};

@@ -1,12 +1,12 @@
 // The nodes of a tree and the blocks of their headers.
 
-ghost use Rattle.std.specs.Prelude.{◌≡◌, ◌≤◌, ◌<◌, ◌+◌, ◌^◌, ◌∷◌, length, drop, IfOk};
+ghost use Rattle.std.specs.Prelude.{◌≡◌, ◌<◌, ◌+◌, ◌^◌, ◌∷◌, length, drop, IfOk};
 ghost use Rattle.adf_build.specs.Laid.{node_blocks};
 ghost use Rattle.adf_build.specs.Plan.{data_blocks, exts_needed};
 ghost use Rattle.adf_build.specs.Building.{HasRoom};
 
-use crate::allocation::nth_free;
 use crate::counting::{data_blocks, ext_count};
+use crate::plan::Plan;
 use adf_tree::{Body, Entry, Kind, Node, Tree};
 use std::alloc::{AllocError, Global};
 
@@ -38,15 +38,15 @@ pub fn next_free(k: u32, kind: Kind, body: &Body) -> u32
 }
 
 /// The blocks of the root and of all headers.
-pub fn nodes_of(alloc: Global, tree: &Tree, blocks: u32) -> Result<Vec<u32>, AllocError>
-    requires { HasRoom tree.now blocks }
-    ensures { IfOk result (λ nodes. nodes.items ≡ node_blocks tree.now blocks) }
+pub fn nodes_of(alloc: Global, tree: &Tree, plan: Plan) -> Result<Vec<u32>, AllocError>
+    requires { HasRoom tree.now plan.blocks }
+    ensures { IfOk result (λ nodes. nodes.items ≡ node_blocks tree.now plan.blocks) }
 {
     let mut nodes = Vec::new(alloc);
-    nodes.push(blocks / 2)?;
+    nodes.push(plan.root())?;
     let mut k = 0;
     for i in 0..tree.len() {
-        nodes.push(nth_free(blocks, k))?;
+        nodes.push(plan.nth_free(k))?;
         k = next_free(k, tree.kind(), &entry_at(tree, i).body);
     }
     Ok(nodes)

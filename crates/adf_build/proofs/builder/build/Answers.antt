@@ -1,4 +1,4 @@
-use Rattle.std.proofs.Common.{◌≡◌, ◌*◌, ◌∙◌, ℕ, List, drop, length, rules}
+use Rattle.std.proofs.Common.{◌≡◌, ◌*◌, ◌∙◌, ℕ, List, ap, drop, length, rules}
 use Rattle.std.proofs.lemmas.List.{take_at}
 use Rattle.std.specs.Prelude.{replicate}
 use Rattle.adf_build.specs.Laid.{writes}
@@ -12,11 +12,13 @@ returns-clause-bytes c =
     let n : ℕ = c.args.blocks in
     let image : List ℕ = c.write_volume.new.image in
     let full : length image ≡ c.in-Ok-vec.image.len = search rules in
-    let written : image ≡ with_blocks (replicate (n * 512) 0) (writes tree n) = search rules in
+    let zeros : List ℕ = replicate (n * 512) 0 in
+    let planned : image ≡ with_blocks zeros (writes tree c.in-Some.plan.blocks) = search rules in
+    let written : image ≡ with_blocks zeros (writes tree n) = planned ∙ ap (λ m. with_blocks zeros (writes tree m)) c.in-Some.ensures.some in
     take_at image (drop (length image) c.in-Ok-vec.image.items) c.in-Ok-vec.image.len full ∙ written ∙ laid_bytes tree n
 
 pub returns-clause-laid : goal.returns-clause-laid
-returns-clause-laid c = is_laid c.args.tree.now c.args.blocks (returns-clause-bytes c) c.write_volume.ensures.sound (search rules)
+returns-clause-laid c = is_laid c.args.tree.now c.args.blocks (returns-clause-bytes c) c.fields_fit.ensures (search rules)
 
 pub returns-clause-fits : goal.returns-clause-fits
-returns-clause-fits c = laid_as_planned c.args.tree.now c.args.blocks (returns-clause-bytes c) c.write_volume.ensures.sound (search rules)
+returns-clause-fits c = laid_as_planned c.args.tree.now c.args.blocks (returns-clause-bytes c) c.fields_fit.ensures (search rules)

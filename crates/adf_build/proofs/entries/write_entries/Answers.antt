@@ -4,7 +4,7 @@ use Rattle.adf_tree.specs.declared.entry.Entry.{Entry}
 use Rattle.adf_build.specs.Laid.{first_block}
 use Rattle.adf_build.specs.Plan.{entry_blocks}
 use Rattle.adf_build.proofs.Order.{slots_are}
-use Rattle.adf_build.proofs.WriteSteps.{entry_step, room_step, sound_step}
+use Rattle.adf_build.proofs.WriteSteps.{entry_step, room_step}
 use Rattle.adf_build.proofs.entries.write_entries.Goals as goal
 
 pub loop-i-preserved : goal.loop-i-preserved
@@ -20,12 +20,11 @@ loop-i-preserved c =
     let slots = slots_are c.slots_between-slots.result nodes es (i + 1) (search rules) (λ s h. c.slots_between-slots.ensures s h
     ∙ ap (first_block (slice_index nodes)) (sym (c.loop-i.invariant.chains (i + 1) s (omega arith)))) in
     record {
-      work = entry_step c.write_entry.new.image c.loop-i.image _ c.args.blocks kind c.kind.result nodes c.slots_between-slots.result es (drop i es)
+      work = entry_step c.write_entry.new.image c.loop-i.image _ c.args.plan.blocks kind c.kind.result nodes c.slots_between-slots.result es (drop i es)
           (drop (i + 1) es) (i + 1) k c.next_free-k.result (i + 2) e (record { k = k; parent = c.parent_block.result; next = c.next_of.result })
-          split c.kind.ensures (omega arith) skip refl c.parent_block.ensures c.next_of.ensures slots c.loop-i.invariant.work c.write_entry.ensures.exact;
+          split c.kind.ensures (omega arith) skip refl c.parent_block.ensures c.next_of.ensures slots c.loop-i.invariant.work c.write_entry.ensures;
       room = room_step kind k c.next_free-k.result _ (drop i es) (drop (i + 1) es) e split skip c.loop-i.invariant.room;
       within = c.children_end-end.ensures.within;
       low = c.children_end-end.ensures.past;
       chains = λ q s h. c.loop-i.invariant.chains q s (omega arith) ∙ c.children_end-end.ensures.others q s (λ z. omega arith);
-      sound = sound_step es (drop (i + 1) es) i e split c.write_entry.ensures.sound c.loop-i.invariant.sound;
     }

@@ -1,21 +1,17 @@
-use Rattle.std.proofs.Common.{◌≡◌, ◌≤◌, ◌<◌, ◌+◌, ◌*◌, ℕ, length, drop}
-use Rattle.std.specs.Prelude.{slice_index_or}
-use Rattle.adf_tree.specs.declared.entry.Entry.{Entry}
+use Rattle.std.proofs.Common.{◌≡◌, ◌≤◌, ◌+◌, ◌*◌, ℕ, length, drop}
 use Rattle.adf_volume.specs.Layout.{nodes_from}
 use Rattle.adf_build.specs.Laid.{entries_writes}
 use Rattle.adf_build.specs.Writes.{with_blocks}
 use Rattle.adf_build.specs.Plan.{entries_blocks}
-use Rattle.adf_build.specs.Building.{IsSoundEntry}
 use Rattle.adf_build.specs.Order.{RisesFrom}
 use Rattle.adf_build.proofs.entries.write_entries.Given as goal
 
 abbrev pub invariant-loop-i : goal.invariant-loop-i
 invariant-loop-i l = record {
-  work : with_blocks l.image (entries_writes l.blocks l.tree.kind l.nodes l.tree.entries (l.i + 1) l.k (drop l.i l.tree.entries))
-      ≡ with_blocks l.initial.image (entries_writes l.blocks l.tree.kind l.nodes l.tree.entries 1 0 l.tree.entries);
+  work : with_blocks l.image (entries_writes l.plan.blocks l.tree.kind l.nodes l.tree.entries (l.i + 1) l.k (drop l.i l.tree.entries))
+      ≡ with_blocks l.initial.image (entries_writes l.plan.blocks l.tree.kind l.nodes l.tree.entries 1 0 l.tree.entries);
   room : l.k + entries_blocks l.tree.kind (drop l.i l.tree.entries) ≡ entries_blocks l.tree.kind l.tree.entries;
   within : l.child ≤ length l.tree.entries;
   low : RisesFrom (72 * (l.i + 1)) (drop l.child l.tree.entries);
   chains : (q s : ℕ) → l.i + 1 ≤ q → nodes_from 1 l.tree.entries q s ≡ nodes_from (l.child + 1) (drop l.child l.tree.entries) q s;
-  sound : (j : ℕ) (d : Entry) → j < l.i → IsSoundEntry (slice_index_or l.tree.entries j d);
 }

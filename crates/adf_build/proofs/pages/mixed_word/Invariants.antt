@@ -5,7 +5,7 @@ use Rattle.adf_build.proofs.pages.mixed_word.Given as goal
 abbrev pub invariant-loop-i : goal.invariant-loop-i
 invariant-loop-i l = record {
   within : l.i ≤ 32;
-  work : l.word ≡ bits_from (is_free_bit l.blocks l.total) (l.q + l.i) (32 - l.i);
+  work : l.word ≡ bits_from (is_free_bit l.plan.blocks l.total) (l.q + l.i) (32 - l.i);
 }
 
 abbrev pub decreases-loop-i : goal.decreases-loop-i

@@ -6,7 +6,7 @@ use Rattle.adf_build.proofs.pages.words_of_page.Goals as goal
 pub loop-w-preserved : goal.loop-w-preserved
 loop-w-preserved c = record {
   whole = search rules;
-  work = words_step c.loop-w.words c.args.blocks c.args.total c.args.j c.loop-w.w c.page_word.result (omega (arith, c.loop-w.invariant.whole))
+  work = words_step c.loop-w.words c.args.plan.blocks c.args.total c.args.j c.loop-w.w c.page_word.result (omega (arith, c.loop-w.invariant.whole))
       c.loop-w.invariant.work c.page_word.ensures;
 }
 

@@ -7,5 +7,5 @@ use Rattle.adf_build.proofs.pages.words_of_page.Given as goal
 abbrev pub invariant-loop-w : goal.invariant-loop-w
 invariant-loop-w l = record {
   whole : length l.words ≡ 127;
-  work : take l.w l.words ≡ map (λ w. bits_from (is_free_bit l.blocks l.total) (PAGE_BITS * l.j + 32 * w) 32) (range_with_len 0 l.w);
+  work : take l.w l.words ≡ map (λ w. bits_from (is_free_bit l.plan.blocks l.total) (PAGE_BITS * l.j + 32 * w) 32) (range_with_len 0 l.w);
 }

@@ -5,5 +5,5 @@ use Rattle.adf_build.specs.Writes.{with_blocks}
 use Rattle.adf_build.proofs.pages.write_pages.Given as goal
 
 abbrev pub invariant-loop-j : goal.invariant-loop-j
-invariant-loop-j l = with_blocks l.image (page_writes l.blocks l.total l.j (pages_needed l.blocks - l.j))
-    ≡ with_blocks l.initial.image (page_writes l.blocks l.total 0 (pages_needed l.blocks))
+invariant-loop-j l = with_blocks l.image (page_writes l.plan.blocks l.total l.j (pages_needed l.plan.blocks - l.j))
+    ≡ with_blocks l.initial.image (page_writes l.plan.blocks l.total 0 (pages_needed l.plan.blocks))

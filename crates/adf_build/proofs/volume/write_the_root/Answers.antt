@@ -2,8 +2,9 @@ use Rattle.std.proofs.Common.{arith}
 use Rattle.adf_build.proofs.WriteSteps.{root_step}
 use Rattle.adf_build.proofs.volume.write_the_root.Goals as goal
 
-pub returns-clause-exact : goal.returns-clause-exact
-returns-clause-exact c =
-    root_step c.write_root.new.image c.args.image.now c.args.slots c.page_numbers-numbers.result c.label.result.now c.stamps.result c.args.tree.now
-    c.args.blocks c.min.result c.map_ext_count.result c.map_ext_or_none.result c.requires.slots (omega (arith, c.page_count.ensures.exact))
-    c.page_numbers-numbers.ensures c.map_ext_count.ensures c.map_ext_or_none.ensures c.label.ensures c.stamps.ensures c.write_root.ensures.exact
+pub returns : goal.returns
+returns c =
+    root_step c.write_root.new.image c.args.image.now c.args.slots c.page_table-table.result c.label.result.now c.stamps.result c.args.tree.now
+    c.args.plan.blocks c.root.result _ c.min-count.result c.map_exts.result c.map_ext_or_none.result c.root.ensures (omega arith) c.requires.slots
+    (omega (arith, c.pages.ensures.exact)) c.page_table-table.ensures c.map_exts.ensures c.map_ext_or_none.ensures c.label.ensures c.stamps.ensures
+    c.write_root.ensures.exact

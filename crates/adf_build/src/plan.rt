@@ -1,0 +1,146 @@
+// Where the parts of a volume lie.
+
+ghost use Rattle.std.specs.Prelude.{◌≡◌, ◌≤◌, ◌<◌, ◌+◌, ◌-◌, ◌^◌, false, true, min, take, IfSome, IfNone};
+ghost use Rattle.std.specs.List.{range_with_len};
+ghost use Rattle.adf_blocks.specs.Sizes.{is_allowed, middle, pages_needed};
+ghost use Rattle.adf_volume.specs.Image.{map_exts_needed};
+ghost use Rattle.adf_build.specs.Laid.{map_ext_or_none, nth_free_or_none};
+ghost use Rattle.adf_build.specs.Plan.{nth_free, reserved, allocated};
+
+use adf_blocks::{MAP_EXT_PAGES, POINTERS, ROOT_PAGES, is_allowed_size, page_count};
+
+/// A volume of so many blocks: its root in the middle, the bitmap pages behind it, behind them the bitmap extension blocks; the
+/// other blocks from 2 on are free for entries.
+#[derive(Clone, Copy)]
+pub struct Plan {
+    pub blocks: u32,
+    ghost allowed: { is_allowed blocks ≡ true },
+}
+
+impl Plan {
+    /// The plan of a volume of so many blocks. None where no volume has so many.
+    pub fn new(blocks: u32) -> Option<Plan>
+        ensures some { IfSome result (λ plan. plan.blocks ≡ blocks) }
+        ensures none { IfNone result (is_allowed blocks ≡ false) }
+    {
+        if is_allowed_size(blocks) {
+            Some(Plan { blocks })
+        } else {
+            None
+        }
+    }
+
+    /// The block of the root.
+    pub fn root(self) -> u32
+        ensures { result ≡ middle self.blocks }
+    {
+        self.blocks / 2
+    }
+
+    /// The bitmap pages of the volume, 1 to 259.
+    pub fn pages(self) -> u32
+        ensures exact { result ≡ pages_needed self.blocks }
+        ensures few { result ≤ 259 }
+    {
+        page_count(self.blocks)
+    }
+
+    /// The block of bitmap page `j`.
+    pub fn page(self, j: u32) -> u32
+        requires { j < 2 ^ 30 }
+        ensures { result ≡ middle self.blocks + 1 + j }
+    {
+        self.root() + 1 + j
+    }
+
+    /// A table that begins with the blocks of `m` bitmap pages, from page `j` on.
+    #[tactic(auto, using(crate::proofs::Ranges::range_step))]
+    pub fn page_table<const N: usize>(self, j: u32, m: usize) -> [u32; N]
+        requires short { m ≤ N }
+        requires near { j + m < 2 ^ 30 }
+        ensures { take m result ≡ range_with_len (middle self.blocks + 1 + j) m }
+    {
+        let mut table = [0u32; N];
+        for i in 0..m {
+            table[i] = self.page(j + i as u32);
+        }
+        table
+    }
+
+    /// The bitmap extension blocks of the volume: the root names 25 pages, each of these 127 more.
+    #[tactic(auto, unfolding(adf_volume::specs::Image::map_exts_needed))]
+    pub fn map_exts(self) -> u32
+        ensures { result ≡ map_exts_needed (pages_needed self.blocks) }
+    {
+        self.pages()
+            .saturating_sub(ROOT_PAGES as u32)
+            .div_ceil(MAP_EXT_PAGES as u32)
+    }
+
+    /// The block of bitmap extension block `j`.
+    pub fn map_ext(self, j: u32) -> u32
+        requires { j < 2 ^ 30 }
+        ensures { result ≡ middle self.blocks + 1 + pages_needed self.blocks + j }
+    {
+        self.page(self.pages()) + j
+    }
+
+    /// The block of bitmap extension block `j` where blocks are left, 0 where none is.
+    pub fn map_ext_or_none(self, j: u32, left: u32) -> u32
+        requires { j < 2 ^ 30 }
+        ensures { result ≡ map_ext_or_none self.blocks j left }
+    {
+        if left > 0 { self.map_ext(j) } else { 0 }
+    }
+
+    /// The blocks behind the root: the bitmap pages and the bitmap extension blocks.
+    #[tactic(auto, using(crate::proofs::FreeBlocks::reserved_is, crate::proofs::FreeBlocks::reserved_few))]
+    pub fn reserved(self) -> u32
+        ensures exact { result ≡ reserved self.blocks }
+        ensures few { result < 2 ^ 16 }
+    {
+        self.pages() + self.map_exts()
+    }
+
+    /// The blocks of the root, of what is reserved behind it and of so many for entries, or the greatest number.
+    pub fn need(self, entries: u64) -> u64
+        ensures { result ≡ min (1 + reserved self.blocks + entries) (2 ^ 64 - 1) }
+    {
+        entries.saturating_add(1 + u64::from(self.reserved()))
+    }
+
+    /// The `k`-th block that is free for entries.
+    #[tactic(auto, using(crate::proofs::AllocatedBlocks::free_low, crate::proofs::AllocatedBlocks::free_high))]
+    pub fn nth_free(self, k: u32) -> u32
+        requires { k < 2 ^ 30 }
+        ensures { result ≡ nth_free self.blocks k }
+    {
+        if 2 + k < self.root() {
+            2 + k
+        } else {
+            3 + k + self.reserved()
+        }
+    }
+
+    /// The `k`-th free block where blocks are left, 0 where none is.
+    pub fn nth_free_or_none(self, k: u32, left: u32) -> u32
+        requires { k < 2 ^ 30 }
+        ensures { result ≡ nth_free_or_none self.blocks k left }
+    {
+        if left > 0 { self.nth_free(k) } else { 0 }
+    }
+
+    /// A table that begins with `m` free blocks, from the `k`-th on.
+    #[tactic(auto, using(crate::proofs::FreeBlocks::allocated_step))]
+    pub fn table_of(self, k: u32, m: usize) -> [u32; POINTERS]
+        requires room { k < 2 ^ 29 }
+        requires short { m ≤ POINTERS }
+        ensures { take m result ≡ allocated self.blocks k m }
+    {
+        let mut table = [0u32; POINTERS];
+        for j in 0..m {
+            table[j] = self.nth_free(k + j as u32);
+        }
+        table
+    }
+}
