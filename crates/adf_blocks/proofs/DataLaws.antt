@@ -1,5 +1,5 @@
 -- What the block of an OFS data block holds.
-use Rattle.std.proofs.Common.{◌≡◌, ◌≤◌, ℕ, ◌+◌, ◌*◌, List, length, refl, arith}
+use Rattle.std.proofs.Common.{◌≡◌, ◌≤◌, ℕ, ◌+◌, ◌*◌, List, length, arith, rules}
 use Rattle.std.specs.Prelude.{None, slice_range}
 use Rattle.std.specs.Cmp.Derive.{both_true}
 use Rattle.std.proofs.lemmas.Bool.{eq-eqb}
@@ -28,28 +28,28 @@ data_block-sum d fits = sum_of_fields (data_table d) (data_descends d fits)
 
 pub data_block-type : (d : DataFields) → FitsData d → word (data_block d) TYPE ≡ T_DATA
 unfolding data_block
-data_block-type d fits = word_of_field (data_table d) 5 TYPE T_DATA (data_descends d fits) (omega arith) refl (omega arith) (omega arith)
+data_block-type d fits = word_of_field (data_table d) TYPE T_DATA (data_descends d fits) (search rules) (omega arith) (omega arith)
 
 pub data_block-head : (d : DataFields) → FitsData d → word (data_block d) DATA_HEAD ≡ d.head
 unfolding data_block
-data_block-head d fits = word_of_field (data_table d) 4 DATA_HEAD d.head (data_descends d fits) (omega arith) refl (omega arith) fits.head
+data_block-head d fits = word_of_field (data_table d) DATA_HEAD d.head (data_descends d fits) (search rules) (omega arith) fits.head
 
 pub data_block-number : (d : DataFields) → FitsData d → word (data_block d) DATA_NUMBER ≡ d.number
 unfolding data_block
-data_block-number d fits = word_of_field (data_table d) 3 DATA_NUMBER d.number (data_descends d fits) (omega arith) refl (omega arith) fits.number
+data_block-number d fits = word_of_field (data_table d) DATA_NUMBER d.number (data_descends d fits) (search rules) (omega arith) fits.number
 
 pub data_block-held : (d : DataFields) → FitsData d → word (data_block d) DATA_HELD ≡ length d.bytes
 unfolding data_block
 data_block-held d fits =
-    word_of_field (data_table d) 2 DATA_HELD (length d.bytes) (data_descends d fits) (omega arith) refl (omega arith) (omega (arith, fits.bytes))
+    word_of_field (data_table d) DATA_HELD (length d.bytes) (data_descends d fits) (search rules) (omega arith) (omega (arith, fits.bytes))
 
 pub data_block-next : (d : DataFields) → FitsData d → word (data_block d) DATA_NEXT ≡ d.next
 unfolding data_block
-data_block-next d fits = word_of_field (data_table d) 1 DATA_NEXT d.next (data_descends d fits) (omega arith) refl (omega arith) fits.next
+data_block-next d fits = word_of_field (data_table d) DATA_NEXT d.next (data_descends d fits) (search rules) (omega arith) fits.next
 
 pub data_block-bytes : (d : DataFields) → FitsData d → slice_range (data_block d) DATA_BYTES (DATA_BYTES + length d.bytes) ≡ d.bytes
 unfolding data_block
-data_block-bytes d fits = bytes_of_field (data_table d) 0 DATA_BYTES d.bytes (data_descends d fits) (omega arith) refl (omega arith)
+data_block-bytes d fits = bytes_of_field (data_table d) DATA_BYTES d.bytes (data_descends d fits) (search rules) (omega arith)
 
 -- a data block that was written is read
 pub data_block-form : (d : DataFields) → FitsData d → first_cause (data_form d.head d.number (length d.bytes) d.next (data_block d)) ≡ None

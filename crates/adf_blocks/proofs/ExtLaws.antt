@@ -1,5 +1,5 @@
 -- What the block of an extension block holds.
-use Rattle.std.proofs.Common.{◌≡◌, ◌≤◌, ◌<◌, ℕ, ◌+◌, ◌-◌, ◌*◌, ◌^◌, List, length, refl, ◌∙◌, arith}
+use Rattle.std.proofs.Common.{◌≡◌, ◌≤◌, ◌<◌, ℕ, ◌+◌, ◌-◌, ◌*◌, ◌^◌, List, length, ◌∙◌, arith, rules}
 use Rattle.std.specs.Prelude.{None, reverse, slice_index}
 use Rattle.std.specs.Cmp.Derive.{both_true}
 use Rattle.std.proofs.lemmas.Bool.{eq-eqb}
@@ -7,8 +7,9 @@ use Rattle.std.proofs.lemmas.List.{length-reverse}
 use Rattle.adf_fields.specs.Words.{block, word, with_block, long_sum}
 use Rattle.adf_fields.proofs.WordLaws.{length_longs, block_written}
 use Rattle.adf_blocks.specs.Forms.{first_cause}
-use Rattle.adf_blocks.specs.declared.layout.TheConstants.{EXTENSION, FIRST_POINTER, OWN_KEY, PARENT, POINTERS, SECONDARY_TYPE, ST_FILE, TYPE, T_LIST}
-use Rattle.adf_blocks.specs.Fields.{Descends}
+use Rattle.adf_blocks.specs.declared.layout.TheConstants.{EXTENSION, FIRST_POINTER, OWN_KEY, PARENT, POINTERS, POINTER_COUNT}
+use Rattle.adf_blocks.specs.declared.layout.TheConstants.{SECONDARY_TYPE, ST_FILE, TYPE, T_LIST}
+use Rattle.adf_blocks.specs.Fields.{Descends, long}
 use Rattle.adf_blocks.specs.ExtBlock.{ExtFields, FitsExt, ext_block, ext_form, ext_table}
 use Rattle.adf_blocks.proofs.ClauseLaws.{no_cause}
 use Rattle.adf_blocks.proofs.FieldLaws.{length_sealed_fields, long_number, pointer_number, sum_of_fields, word_of_field}
@@ -32,31 +33,31 @@ ext_block-sum e fits = sum_of_fields (ext_table e) (ext_descends e fits)
 
 pub ext_block-type : (e : ExtFields) → FitsExt e → word (ext_block e) TYPE ≡ T_LIST
 unfolding ext_block
-ext_block-type e fits = word_of_field (ext_table e) 6 TYPE T_LIST (ext_descends e fits) (omega arith) refl (omega arith) (omega arith)
+ext_block-type e fits = word_of_field (ext_table e) TYPE T_LIST (ext_descends e fits) (search rules) (omega arith) (omega arith)
 
 pub ext_block-own : (e : ExtFields) → FitsExt e → word (ext_block e) OWN_KEY ≡ e.own
 unfolding ext_block
-ext_block-own e fits = word_of_field (ext_table e) 5 OWN_KEY e.own (ext_descends e fits) (omega arith) refl (omega arith) fits.own
+ext_block-own e fits = word_of_field (ext_table e) OWN_KEY e.own (ext_descends e fits) (search rules) (omega arith) fits.own
 
 pub ext_block-head : (e : ExtFields) → FitsExt e → word (ext_block e) PARENT ≡ e.head
 unfolding ext_block
-ext_block-head e fits = word_of_field (ext_table e) 2 PARENT e.head (ext_descends e fits) (omega arith) refl (omega arith) fits.head
+ext_block-head e fits = word_of_field (ext_table e) PARENT e.head (ext_descends e fits) (search rules) (omega arith) fits.head
 
 pub ext_block-next : (e : ExtFields) → FitsExt e → e.next < 2 ^ 32 → word (ext_block e) EXTENSION ≡ e.next
 unfolding ext_block
-ext_block-next e fits small = word_of_field (ext_table e) 1 EXTENSION e.next (ext_descends e fits) (omega arith) refl (omega arith) small
+ext_block-next e fits small = word_of_field (ext_table e) EXTENSION e.next (ext_descends e fits) (search rules) (omega arith) small
 
 pub ext_block-secondary : (e : ExtFields) → FitsExt e → word (ext_block e) SECONDARY_TYPE ≡ ST_FILE
 unfolding ext_block
-ext_block-secondary e fits = word_of_field (ext_table e) 0 SECONDARY_TYPE ST_FILE (ext_descends e fits) (omega arith) refl (omega arith) (omega arith)
+ext_block-secondary e fits = word_of_field (ext_table e) SECONDARY_TYPE ST_FILE (ext_descends e fits) (search rules) (omega arith) (omega arith)
 
 -- a pointer of an extension block, or 0 past the last
 pub ext_block-pointer : (e : ExtFields) (j : ℕ) → FitsExt e → j < POINTERS → slice_index e.table j < 2 ^ 32
     → word (ext_block e) (FIRST_POINTER - j) ≡ slice_index e.table j
 unfolding ext_block
 ext_block-pointer e j fits lt small =
-    pointer_number (ext_table e) 3 FIRST_POINTER j e.table (ext_descends e fits) (omega arith) refl (omega (arith, fits.table)) (omega arith) (omega arith)
-    (omega arith)
+    pointer_number (ext_table e) FIRST_POINTER j e.table (4 * POINTER_COUNT, long (length e.table)) (ext_descends e fits) (search rules)
+    (omega (arith, fits.table)) (omega arith) (omega arith) (omega arith)
     ∙ long_number (slice_index e.table j) small
 
 -- an extension block that was written is read

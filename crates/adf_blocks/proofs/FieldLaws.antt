@@ -1,6 +1,6 @@
 -- What a block that was laid out of fields holds.
 use Rattle.std.proofs.Common.{◌≡◌, ◌≢◌, ◌≤◌, ◌<◌, ℕ, zero, suc, ◌+◌, ◌-◌, ◌*◌, ◌^◌, ◌⊎◌, List, ◌++◌, [], ◌∷◌}
-use Rattle.std.proofs.Common.{length, get_or, take, drop, refl, sym, ap, ◌∙◌, arith, add-zero, append-nil, inl, inr}
+use Rattle.std.proofs.Common.{length, get_or, take, drop, refl, sym, ap, subst, ◌∙◌, arith, add-zero, append-nil, inl, inr}
 use Rattle.std.proofs.lemmas.Bool.{cases_lt}
 use Rattle.std.proofs.lemmas.List.{length-replicate, length-reverse, drop-take, drop-drop, take-take, take_at, take_all, drop-replicate, take-replicate}
 use Rattle.std.proofs.lemmas.List.{get_or-drop, get_or-take, get_or-reverse, get_or_past}
@@ -23,26 +23,44 @@ length-block_of_fields top (f ∷ fs) le d =
     let ih = length-block_of_fields f.0 fs (omega (arith, d.0)) d.1 in
     length-with_bytes (block_of_fields fs) f.0 f.1 (omega (arith, d.0)) ∙ ih
 
+-- the field is one of these
+abbrev pub HasField : List Field → Field → Type 0
+HasField [] e = ⊥
+HasField (f ∷ fs) e = (f ≡ e) ⊎ HasField fs e
+
+-- the first field is one of these, and the second stands right behind it in the list
+abbrev pub HasNeighbours : List Field → Field → Field → Type 0
+HasNeighbours [] e g = ⊥
+HasNeighbours (f ∷ []) e g = ⊥
+HasNeighbours (f ∷ h ∷ fs) e g = ((f ≡ e) × (h ≡ g)) ⊎ HasNeighbours (h ∷ fs) e g
+
+first_of_neighbours : (fs : List Field) (e g : Field) → HasNeighbours fs e g → HasField fs e
+first_of_neighbours [] e g h = absurd h
+first_of_neighbours (f ∷ []) e g h = absurd h
+first_of_neighbours (f ∷ k ∷ fs) e g (inl h) = inl h.0
+first_of_neighbours (f ∷ k ∷ fs) e g (inr h) = inr (first_of_neighbours (k ∷ fs) e g h)
+
 -- each field lies below the top
-field_below : (top : ℕ) (fs : List Field) (k : ℕ) (e : Field) → Descends top fs → k < length fs → (get_or fs k e).0 + length (get_or fs k e).1 ≤ top
-field_below top [] k e d lt = absurd (omega arith)
-field_below top (f ∷ fs) zero e d lt = d.0
-field_below top (f ∷ fs) (suc k) e d lt =
-    let ih = field_below f.0 fs k e d.1 (omega arith) in
+field_below : (top : ℕ) (fs : List Field) (e : Field) → Descends top fs → HasField fs e → e.0 + length e.1 ≤ top
+field_below top [] e d h = absurd h
+field_below top (f ∷ fs) e d (inl x) = subst (λ (g : Field). g.0 + length g.1 ≤ top) x d.0
+field_below top (f ∷ fs) e d (inr h) =
+    let ih = field_below f.0 fs e d.1 h in
     omega (arith, d.0)
 
 -- a field stands where it was put
-pub nth_field : (top : ℕ) (fs : List Field) (k : ℕ) (e : Field) → top ≤ 512 → Descends top fs → k < length fs
-    → slice_range (block_of_fields fs) (get_or fs k e).0 ((get_or fs k e).0 + length (get_or fs k e).1) ≡ (get_or fs k e).1
-nth_field top [] k e le d lt = absurd (omega arith)
-nth_field top (f ∷ fs) zero e le d lt =
+pub field_there : (top : ℕ) (fs : List Field) (e : Field) → top ≤ 512 → Descends top fs → HasField fs e
+    → slice_range (block_of_fields fs) e.0 (e.0 + length e.1) ≡ e.1
+field_there top [] e le d h = absurd h
+field_there top (f ∷ fs) e le d (inl x) =
     let n = length-block_of_fields f.0 fs (omega (arith, d.0)) d.1 in
-    range-with_bytes_same (block_of_fields fs) f.0 f.1 (f.0 + length f.1) (omega (arith, d.0)) refl
-nth_field top (f ∷ fs) (suc k) e le d lt =
+    subst (λ (g : Field). slice_range (block_of_fields (f ∷ fs)) g.0 (g.0 + length g.1) ≡ g.1) x
+    (range-with_bytes_same (block_of_fields fs) f.0 f.1 (f.0 + length f.1) (omega (arith, d.0)) refl)
+field_there top (f ∷ fs) e le d (inr h) =
     let n = length-block_of_fields f.0 fs (omega (arith, d.0)) d.1 in
-    let below = field_below f.0 fs k e d.1 (omega arith) in
-    range-with_bytes_below (block_of_fields fs) f.0 f.1 (get_or fs k e).0 ((get_or fs k e).0 + length (get_or fs k e).1) (omega (arith, d.0)) below
-    ∙ nth_field f.0 fs k e (omega (arith, d.0)) d.1 (omega arith)
+    let below = field_below f.0 fs e d.1 h in
+    range-with_bytes_below (block_of_fields fs) f.0 f.1 e.0 (e.0 + length e.1) (omega (arith, d.0)) below
+    ∙ field_there f.0 fs e (omega (arith, d.0)) d.1 h
 
 -- the number of a word's bytes
 pub long_number : (w : ℕ) → w < 2 ^ 32 → big_number 4 (long w) ≡ w
@@ -54,27 +72,24 @@ unfolding word
 number_there bs i w h = ap (big_number 4) h
 
 -- the number in a word that was put down, where nothing is sealed
-pub fields_long : (fs : List Field) (k i w : ℕ) → Descends 512 fs → k < length fs → get_or fs k (0, []) ≡ (4 * i, long w)
-    → word (block_of_fields fs) i ≡ big_number 4 (long w)
-fields_long fs k i w d lt e =
+pub fields_long : (fs : List Field) (i w : ℕ) → Descends 512 fs → HasField fs (4 * i, long w) → word (block_of_fields fs) i ≡ big_number 4 (long w)
+fields_long fs i w d h =
     let n = length-big_bytes 4 w in
     let z : 4 * i + length (long w) ≡ 4 * i + 4 = omega arith in
-    let there : slice_range (block_of_fields fs) (4 * i) (4 * i + length (long w)) ≡ long w = rw e at (nth_field 512 fs k (0, []) (omega arith) d lt) in
-    number_there (block_of_fields fs) i w (ap (slice_range (block_of_fields fs) (4 * i)) (sym z) ∙ there)
+    number_there (block_of_fields fs) i w
+    (ap (slice_range (block_of_fields fs) (4 * i)) (sym z) ∙ field_there 512 fs (4 * i, long w) (omega arith) d h)
 
 -- the number in a word that was put down
-pub number_of_field : (fs : List Field) (k i w : ℕ) → Descends 512 fs → k < length fs → get_or fs k (0, []) ≡ (4 * i, long w) → i ≢ CHECKSUM
+pub number_of_field : (fs : List Field) (i w : ℕ) → Descends 512 fs → HasField fs (4 * i, long w) → i ≢ CHECKSUM
     → word (sealed CHECKSUM (block_of_fields fs)) i ≡ big_number 4 (long w)
-number_of_field fs k i w d lt e other =
+number_of_field fs i w d h other =
     let n = length-block_of_fields 512 fs (omega arith) d in
-    let there = nth_field 512 fs k (0, []) (omega arith) d lt in
-    word-with_word_other (block_of_fields fs) CHECKSUM (checksum CHECKSUM (block_of_fields fs)) i (omega arith) other
-    ∙ number_there (block_of_fields fs) i w (rw e at there)
+    word-with_word_other (block_of_fields fs) CHECKSUM (checksum CHECKSUM (block_of_fields fs)) i (omega arith) other ∙ fields_long fs i w d h
 
 -- a word that was put down
-pub word_of_field : (fs : List Field) (k i w : ℕ) → Descends 512 fs → k < length fs → get_or fs k (0, []) ≡ (4 * i, long w) → i ≢ CHECKSUM → w < 2 ^ 32
+pub word_of_field : (fs : List Field) (i w : ℕ) → Descends 512 fs → HasField fs (4 * i, long w) → i ≢ CHECKSUM → w < 2 ^ 32
     → word (sealed CHECKSUM (block_of_fields fs)) i ≡ w
-word_of_field fs k i w d lt e other small = number_of_field fs k i w d lt e other ∙ long_number w small
+word_of_field fs i w d h other small = number_of_field fs i w d h other ∙ long_number w small
 
 -- the sum of what was sealed
 pub sum_of_fields : (fs : List Field) → Descends 512 fs → long_sum (sealed CHECKSUM (block_of_fields fs)) ≡ 0
@@ -101,11 +116,11 @@ longs_at (w ∷ ws) (suc s) lt =
     ap (take (4 * suc s + 4 - 4 * suc s)) skip ∙ ap (λ k. take k (drop (4 * s) (longs ws))) n ∙ longs_at ws s (omega arith)
 
 -- the number in a word of words that were put down, where nothing is sealed
-pub fields_longs : (fs : List Field) (k i s : ℕ) (ws : List ℕ) → Descends 512 fs → k < length fs → get_or fs k (0, []) ≡ (4 * i, longs ws) → s < length ws
+pub fields_longs : (fs : List Field) (i s : ℕ) (ws : List ℕ) → Descends 512 fs → HasField fs (4 * i, longs ws) → s < length ws
     → word (block_of_fields fs) (i + s) ≡ big_number 4 (long (slice_index ws s))
-fields_longs fs k i s ws d lt e in_words =
+fields_longs fs i s ws d h in_words =
     let n = length-block_of_fields 512 fs (omega arith) d in
-    let there : slice_range (block_of_fields fs) (4 * i) (4 * i + length (longs ws)) ≡ longs ws = rw e at (nth_field 512 fs k (0, []) (omega arith) d lt) in
+    let there = field_there 512 fs (4 * i, longs ws) (omega arith) d h in
     let m = length_longs ws in
     let a : 4 * (i + s) ≡ 4 * i + 4 * s = omega arith in
     let b : 4 * (i + s) + 4 ≡ 4 * i + (4 * s + 4) = omega arith in
@@ -118,20 +133,19 @@ fields_longs fs k i s ws d lt e in_words =
     number_there (block_of_fields fs) (i + s) (slice_index ws s) part
 
 -- the number in a word of words that were put down
-pub numbers_of_field : (c : ℕ) (fs : List Field) (k i s : ℕ) (ws : List ℕ) → c < 128 → Descends 512 fs → k < length fs
-    → get_or fs k (0, []) ≡ (4 * i, longs ws) → s < length ws → i + s ≢ c
+pub numbers_of_field : (c : ℕ) (fs : List Field) (i s : ℕ) (ws : List ℕ) → c < 128 → Descends 512 fs → HasField fs (4 * i, longs ws) → s < length ws → i + s ≢ c
     → word (sealed c (block_of_fields fs)) (i + s) ≡ big_number 4 (long (slice_index ws s))
-numbers_of_field c fs k i s ws in_block d lt e in_words other =
+numbers_of_field c fs i s ws in_block d h in_words other =
     let n = length-block_of_fields 512 fs (omega arith) d in
-    word-with_word_other (block_of_fields fs) c (checksum c (block_of_fields fs)) (i + s) (omega arith) other ∙ fields_longs fs k i s ws d lt e in_words
+    word-with_word_other (block_of_fields fs) c (checksum c (block_of_fields fs)) (i + s) (omega arith) other ∙ fields_longs fs i s ws d h in_words
 
 -- a date that was put down
-pub stamp_of_field : (fs : List Field) (k i : ℕ) (s : Stamp) → Descends 512 fs → k < length fs → get_or fs k (0, []) ≡ (4 * i, stamp s)
+pub stamp_of_field : (fs : List Field) (i : ℕ) (s : Stamp) → Descends 512 fs → HasField fs (4 * i, stamp s)
     → CHECKSUM < i → FitsStamp s → stamp_at (sealed CHECKSUM (block_of_fields fs)) i ≡ s
-stamp_of_field fs k i s d lt e above fits =
+stamp_of_field fs i s d h above fits =
     let ws : List ℕ = s.days ∷ s.mins ∷ s.ticks ∷ [] in
     let there : (j : ℕ) → j < 3 → slice_index ws j < 2 ^ 32 → word (sealed CHECKSUM (block_of_fields fs)) (i + j) ≡ slice_index ws j =
-    λ j in_date small. numbers_of_field CHECKSUM fs k i j ws (omega arith) d lt e (omega arith) (omega arith) ∙ long_number (slice_index ws j) small in
+    λ j in_date small. numbers_of_field CHECKSUM fs i j ws (omega arith) d h (omega arith) (omega arith) ∙ long_number (slice_index ws j) small in
     let days : word (sealed CHECKSUM (block_of_fields fs)) i ≡ s.days = ap (word (sealed CHECKSUM (block_of_fields fs))) (sym (add-zero i))
     ∙ there 0 (omega arith) fits.days in
     rw (days, there 1 (omega arith) fits.mins, there 2 (omega arith) fits.ticks) refl
@@ -146,15 +160,17 @@ apart_below : (top a b : ℕ) (fs : List Field) → Descends top fs → top ≤ 
 apart_below top a b [] d le = tt
 apart_below top a b (f ∷ fs) d le = (inr (omega (arith, d.0)), apart_below f.0 a b fs d.1 (omega (arith, d.0)))
 
--- what lies between field k + 1 and field k is apart from all fields
-pub apart_between : (top a b k : ℕ) (fs : List Field) (e : Field) → Descends top fs → suc k < length fs → b ≤ (get_or fs k e).0
-    → (get_or fs (suc k) e).0 + length (get_or fs (suc k) e).1 ≤ a → Apart a b fs
-apart_between top a b k [] e d lt lo hi = absurd (omega arith)
-apart_between top a b zero (f ∷ []) e d lt lo hi = absurd (omega arith)
-apart_between top a b zero (f ∷ (g ∷ fs)) e d lt lo hi = (inl lo, (inr hi, apart_below g.0 a b fs d.1.1 (omega (arith, hi))))
-apart_between top a b (suc k) (f ∷ fs) e d lt lo hi =
-    let below = field_below f.0 fs k e d.1 (omega arith) in
-    (inl (omega (arith, lo)), apart_between f.0 a b k fs e d.1 (omega arith) lo hi)
+-- what lies between a field and the one behind it is apart from all fields
+pub apart_between : (top a b : ℕ) (fs : List Field) (e g : Field) → Descends top fs → HasNeighbours fs e g → b ≤ e.0 → g.0 + length g.1 ≤ a → Apart a b fs
+apart_between top a b [] e g d h lo hi = absurd h
+apart_between top a b (f ∷ []) e g d h lo hi = absurd h
+apart_between top a b (f ∷ k ∷ fs) e g d (inl h) lo hi =
+    let above : b ≤ f.0 = subst (λ (x : Field). b ≤ x.0) (sym h.0) lo in
+    let below : k.0 + length k.1 ≤ a = subst (λ (x : Field). x.0 + length x.1 ≤ a) (sym h.1) hi in
+    (inl above, (inr below, apart_below k.0 a b fs d.1.1 (omega (arith, below))))
+apart_between top a b (f ∷ k ∷ fs) e g d (inr h) lo hi =
+    let below = field_below f.0 (k ∷ fs) e d.1 (first_of_neighbours (k ∷ fs) e g h) in
+    (inl (omega (arith, lo)), apart_between f.0 a b (k ∷ fs) e g d.1 h lo hi)
 
 -- bytes that no field is put over
 range_between : (top a b : ℕ) (fs : List Field) → top ≤ 512 → Descends top fs → Apart a b fs
@@ -188,22 +204,22 @@ word_between fs i d lt apart other =
     word-with_word_other (block_of_fields fs) CHECKSUM (checksum CHECKSUM (block_of_fields fs)) i (omega arith) other ∙ fields_between fs i d lt apart
 
 -- the number in word i - j where words were put down from word i on, downwards: word j of these, or 0 past the last
-pub pointer_number : (fs : List Field) (k i j : ℕ) (ws : List ℕ) → Descends 512 fs → suc k < length fs → get_or fs k (0, []) ≡ downwards i ws
-    → length ws + CHECKSUM ≤ i → j + CHECKSUM < i → i < 128
-    → (get_or fs (suc k) (0, [])).0 + length (get_or fs (suc k) (0, [])).1 ≤ 4 * (i - j)
+pub pointer_number : (fs : List Field) (i j : ℕ) (ws : List ℕ) (behind : Field) → Descends 512 fs → HasNeighbours fs (downwards i ws) behind
+    → length ws + CHECKSUM ≤ i → j + CHECKSUM < i → i < 128 → behind.0 + length behind.1 ≤ 4 * (i - j)
     → word (sealed CHECKSUM (block_of_fields fs)) (i - j) ≡ big_number 4 (long (slice_index ws j))
-pointer_number fs k i j ws d lt e room above in_block next = elim (cases_lt j (length ws)) [
+pointer_number fs i j ws behind d h room above in_block next = elim (cases_lt j (length ws)) [
   | inl in_words ↦
       let n : length (reverse ws) ≡ length ws = length-reverse ws in
       let at : i - j ≡ (i + 1 - length ws) + (length ws - 1 - j) = omega arith in
       let back : length ws - 1 - (length ws - 1 - j) ≡ j = omega arith in
       ap (word (sealed CHECKSUM (block_of_fields fs))) at
-      ∙ numbers_of_field CHECKSUM fs k (i + 1 - length ws) (length ws - 1 - j) (reverse ws) (omega arith) d (omega arith) e (omega arith) (omega arith)
+      ∙ numbers_of_field CHECKSUM fs (i + 1 - length ws) (length ws - 1 - j) (reverse ws) (omega arith) d
+      (first_of_neighbours fs (downwards i ws) behind h) (omega arith) (omega arith)
       ∙ ap (λ w. big_number 4 (long w)) (get_or-reverse ws (length ws - 1 - j) 0 (omega arith) ∙ ap (slice_index ws) back)
   | inr beyond ↦
       let zero_there : slice_index ws j ≡ 0 = get_or_past ws j 0 beyond in
-      let from : (get_or fs k (0, [])).0 ≡ 4 * (i + 1 - length ws) = ap (λ (f : Field). f.0) e in
-      word_between fs (i - j) d (omega arith) (apart_between 512 (4 * (i - j)) (4 * (i - j) + 4) k fs (0, []) d lt (omega arith) next) (omega arith)
+      word_between fs (i - j) d (omega arith)
+      (apart_between 512 (4 * (i - j)) (4 * (i - j) + 4) fs (downwards i ws) behind d h (omega arith) next) (omega arith)
       ∙ ap (λ w. big_number 4 (long w)) (sym zero_there)
 ]
 
@@ -215,11 +231,11 @@ length_sealed_fields fs d =
     (omega (arith, length-big_bytes 4 (checksum CHECKSUM (block_of_fields fs)))) ∙ len
 
 -- bytes that were put down above word 5
-pub bytes_of_field : (fs : List Field) (k from : ℕ) (xs : List ℕ) → Descends 512 fs → k < length fs → get_or fs k (0, []) ≡ (from, xs) → 4 * CHECKSUM + 4 ≤ from
+pub bytes_of_field : (fs : List Field) (from : ℕ) (xs : List ℕ) → Descends 512 fs → HasField fs (from, xs) → 4 * CHECKSUM + 4 ≤ from
     → slice_range (sealed CHECKSUM (block_of_fields fs)) from (from + length xs) ≡ xs
-bytes_of_field fs k from xs d lt e above =
+bytes_of_field fs from xs d h above =
     let n = length-block_of_fields 512 fs (omega arith) d in
-    let there : slice_range (block_of_fields fs) from (from + length xs) ≡ xs = rw e at (nth_field 512 fs k (0, []) (omega arith) d lt) in
+    let there = field_there 512 fs (from, xs) (omega arith) d h in
     range-with_bytes_above (block_of_fields fs) (4 * CHECKSUM) (long (checksum CHECKSUM (block_of_fields fs))) from (from + length xs) (omega arith)
     (omega (arith, length-big_bytes 4 (checksum CHECKSUM (block_of_fields fs)))) ∙ there
 
@@ -238,6 +254,6 @@ text_reads bs xs at h =
     (first, ap (λ k. slice_range xs (at + 1) (at + 1 + k)) first ∙ rest)
 
 -- a length and a text that were put down above word 5
-pub text_of_field : (fs : List Field) (k at : ℕ) (bs : List ℕ) → Descends 512 fs → k < length fs → get_or fs k (0, []) ≡ (at, text bs) → 4 * CHECKSUM + 4 ≤ at
+pub text_of_field : (fs : List Field) (at : ℕ) (bs : List ℕ) → Descends 512 fs → HasField fs (at, text bs) → 4 * CHECKSUM + 4 ≤ at
     → (slice_index (sealed CHECKSUM (block_of_fields fs)) at ≡ length bs) × (text_at (sealed CHECKSUM (block_of_fields fs)) at ≡ bs)
-text_of_field fs k at bs d lt e above = text_reads bs (sealed CHECKSUM (block_of_fields fs)) at (bytes_of_field fs k at (text bs) d lt e above)
+text_of_field fs at bs d h above = text_reads bs (sealed CHECKSUM (block_of_fields fs)) at (bytes_of_field fs at (text bs) d h above)

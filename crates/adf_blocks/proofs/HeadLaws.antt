@@ -1,5 +1,5 @@
 -- What the block of a header holds.
-use Rattle.std.proofs.Common.{◌≡◌, ◌≤◌, ◌<◌, ℕ, ◌+◌, ◌-◌, ◌*◌, ◌^◌, List, length, refl, sym, ap, ◌∙◌, arith, true}
+use Rattle.std.proofs.Common.{◌≡◌, ◌≤◌, ◌<◌, ℕ, ◌+◌, ◌-◌, ◌*◌, ◌^◌, List, length, refl, sym, ap, ◌∙◌, arith, rules, true}
 use Rattle.std.specs.Prelude.{None, not, reverse, slice_index}
 use Rattle.std.specs.Cmp.Derive.{both_true}
 use Rattle.std.proofs.lemmas.Bool.{eq-eqb, le-leb}
@@ -57,44 +57,44 @@ head_block-sum h fits = sum_of_fields (head_table h) (head_descends h fits)
 
 pub head_block-type : (h : HeadFields) → FitsHead h → word (head_block h) TYPE ≡ T_SHORT
 unfolding head_block
-head_block-type h fits = word_of_field (head_table h) 13 TYPE T_SHORT (head_descends h fits) (omega arith) refl (omega arith) (omega arith)
+head_block-type h fits = word_of_field (head_table h) TYPE T_SHORT (head_descends h fits) (search rules) (omega arith) (omega arith)
 
 pub head_block-own : (h : HeadFields) → FitsHead h → word (head_block h) OWN_KEY ≡ h.own
 unfolding head_block
-head_block-own h fits = word_of_field (head_table h) 12 OWN_KEY h.own (head_descends h fits) (omega arith) refl (omega arith) fits.own
+head_block-own h fits = word_of_field (head_table h) OWN_KEY h.own (head_descends h fits) (search rules) (omega arith) fits.own
 
 pub head_block-protect : (h : HeadFields) → FitsHead h → h.meta.protect < 2 ^ 32 → word (head_block h) PROTECTION ≡ h.meta.protect
 unfolding head_block
-head_block-protect h fits small = word_of_field (head_table h) 8 PROTECTION h.meta.protect (head_descends h fits) (omega arith) refl (omega arith) small
+head_block-protect h fits small = word_of_field (head_table h) PROTECTION h.meta.protect (head_descends h fits) (search rules) (omega arith) small
 
 pub head_block-size : (h : HeadFields) → FitsHead h → size_of h.body < 2 ^ 32 → word (head_block h) SIZE ≡ size_of h.body
 unfolding head_block
-head_block-size h fits small = word_of_field (head_table h) 7 SIZE (size_of h.body) (head_descends h fits) (omega arith) refl (omega arith) small
+head_block-size h fits small = word_of_field (head_table h) SIZE (size_of h.body) (head_descends h fits) (search rules) (omega arith) small
 
 pub head_block-comment : (h : HeadFields) → FitsHead h
     → (slice_index (head_block h) COMMENT ≡ length h.meta.comment) × (text_at (head_block h) COMMENT ≡ h.meta.comment)
 unfolding head_block
-head_block-comment h fits = text_of_field (head_table h) 6 COMMENT h.meta.comment (head_descends h fits) (omega arith) refl (omega arith)
+head_block-comment h fits = text_of_field (head_table h) COMMENT h.meta.comment (head_descends h fits) (search rules) (omega arith)
 
 pub head_block-stamp : (h : HeadFields) → FitsHead h → FitsStamp h.meta.stamp → stamp_at (head_block h) DATE ≡ h.meta.stamp
 unfolding head_block
-head_block-stamp h fits small = stamp_of_field (head_table h) 5 DATE h.meta.stamp (head_descends h fits) (omega arith) refl (omega arith) small
+head_block-stamp h fits small = stamp_of_field (head_table h) DATE h.meta.stamp (head_descends h fits) (search rules) (omega arith) small
 
 pub head_block-name : (h : HeadFields) → FitsHead h → (slice_index (head_block h) NAME ≡ length h.name) × (text_at (head_block h) NAME ≡ h.name)
 unfolding head_block
-head_block-name h fits = text_of_field (head_table h) 4 NAME h.name (head_descends h fits) (omega arith) refl (omega arith)
+head_block-name h fits = text_of_field (head_table h) NAME h.name (head_descends h fits) (search rules) (omega arith)
 
 pub head_block-next : (h : HeadFields) → FitsHead h → h.next < 2 ^ 32 → word (head_block h) NEXT_IN_CHAIN ≡ h.next
 unfolding head_block
-head_block-next h fits small = word_of_field (head_table h) 3 NEXT_IN_CHAIN h.next (head_descends h fits) (omega arith) refl (omega arith) small
+head_block-next h fits small = word_of_field (head_table h) NEXT_IN_CHAIN h.next (head_descends h fits) (search rules) (omega arith) small
 
 pub head_block-parent : (h : HeadFields) → FitsHead h → word (head_block h) PARENT ≡ h.parent
 unfolding head_block
-head_block-parent h fits = word_of_field (head_table h) 2 PARENT h.parent (head_descends h fits) (omega arith) refl (omega arith) fits.parent
+head_block-parent h fits = word_of_field (head_table h) PARENT h.parent (head_descends h fits) (search rules) (omega arith) fits.parent
 
 pub head_block-ext : (h : HeadFields) → FitsHead h → ext_of h.body < 2 ^ 32 → word (head_block h) EXTENSION ≡ ext_of h.body
 unfolding head_block
-head_block-ext h fits small = word_of_field (head_table h) 1 EXTENSION (ext_of h.body) (head_descends h fits) (omega arith) refl (omega arith) small
+head_block-ext h fits small = word_of_field (head_table h) EXTENSION (ext_of h.body) (head_descends h fits) (search rules) (omega arith) small
 
 secondary_small : (b : BodyFields) → secondary_of b < 2 ^ 32
 secondary_small (DirFields slots) = omega arith
@@ -103,7 +103,7 @@ secondary_small (FileFields size table ext) = omega arith
 pub head_block-secondary : (h : HeadFields) → FitsHead h → word (head_block h) SECONDARY_TYPE ≡ secondary_of h.body
 unfolding head_block
 head_block-secondary h fits =
-    word_of_field (head_table h) 0 SECONDARY_TYPE (secondary_of h.body) (head_descends h fits) (omega arith) refl (omega arith) (secondary_small h.body)
+    word_of_field (head_table h) SECONDARY_TYPE (secondary_of h.body) (head_descends h fits) (search rules) (omega arith) (secondary_small h.body)
 
 -- what the header's meta, body, slots and pointers read as
 pub head_block-meta : (h : HeadFields) → FitsHead h → FitsMeta h.meta → meta_at (head_block h) ≡ h.meta
@@ -127,7 +127,7 @@ pub head_block-slot : (h : HeadFields) (slots : List ℕ) (s : ℕ) → FitsHead
 unfolding head_block
 head_block-slot h slots s fits e lt small =
     let n : length slots ≡ SLOTS = rw e at fits.body in
-    numbers_of_field CHECKSUM (head_table h) 9 FIRST_SLOT s slots (omega arith) (head_descends h fits) (omega arith) (ap table_of e) (omega arith) (omega arith)
+    numbers_of_field CHECKSUM (head_table h) FIRST_SLOT s slots (omega arith) (head_descends h fits) (search (rules, ap table_of e)) (omega arith) (omega arith)
     ∙ long_number (slice_index slots s) small
 
 -- the number in pointer j of a file, or 0 past the last
@@ -136,13 +136,13 @@ pub head_block-pointer : (h : HeadFields) (size : ℕ) (table : List ℕ) (ext j
 unfolding head_block
 head_block-pointer h size table ext j fits e lt =
     let n : length table ≤ POINTERS = rw e at fits.body in
-    pointer_number (head_table h) 9 FIRST_POINTER j table (head_descends h fits) (omega arith) (ap table_of e) (omega arith) (omega arith) (omega arith)
-    (omega arith)
+    pointer_number (head_table h) FIRST_POINTER j table (4 * FIRST_DATA, long (first_of h.body)) (head_descends h fits) (search (rules, ap table_of e))
+    (omega arith) (omega arith) (omega arith) (omega arith)
 
 -- the first data block is named twice
 first_there : (h : HeadFields) → FitsHead h → word (head_block h) FIRST_DATA ≡ big_number 4 (long (first_of h.body))
 unfolding head_block
-first_there h fits = number_of_field (head_table h) 10 FIRST_DATA (first_of h.body) (head_descends h fits) (omega arith) refl (omega arith)
+first_there h fits = number_of_field (head_table h) FIRST_DATA (first_of h.body) (head_descends h fits) (search rules) (omega arith)
 
 first_of_file : (h : HeadFields) (size : ℕ) (table : List ℕ) (ext : ℕ) → FitsHead h → h.body ≡ FileFields size table ext
     → word (head_block h) FIRST_DATA ≡ word (head_block h) FIRST_POINTER

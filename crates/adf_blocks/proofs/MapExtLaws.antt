@@ -1,5 +1,5 @@
 -- What a bitmap extension block holds.
-use Rattle.std.proofs.Common.{◌≡◌, ◌≤◌, ◌<◌, ℕ, ◌+◌, ◌^◌, List, length, refl, sym, ap, ◌∙◌, arith, inl, inr}
+use Rattle.std.proofs.Common.{◌≡◌, ◌≤◌, ◌<◌, ℕ, ◌+◌, ◌^◌, List, length, sym, ap, ◌∙◌, arith, rules, inl, inr}
 use Rattle.std.specs.Prelude.{slice_index}
 use Rattle.std.proofs.lemmas.Bool.{cases_lt}
 use Rattle.std.proofs.lemmas.List.{get_or_past}
@@ -29,7 +29,7 @@ map_ext_block-page pages next j few lt small = elim (cases_lt j (length pages)) 
   | inl in_pages ↦
       let z : j ≡ MAP_EXT_FIRST + j = omega arith in
       ap (word (block_of_fields (map_ext_table pages next))) z
-      ∙ fields_longs (map_ext_table pages next) 1 MAP_EXT_FIRST j pages (map_ext_descends pages next few) (omega arith) refl in_pages
+      ∙ fields_longs (map_ext_table pages next) MAP_EXT_FIRST j pages (map_ext_descends pages next few) (search rules) in_pages
       ∙ long_number (slice_index pages j) small
   | inr past ↦
       let m = length_longs pages in
@@ -41,4 +41,4 @@ map_ext_block-page pages next j few lt small = elim (cases_lt j (length pages)) 
 pub map_ext_block-next : (pages : List ℕ) (next : ℕ) → length pages ≤ MAP_EXT_PAGES → next < 2 ^ 32 → word (map_ext_block pages next) MAP_EXT_NEXT ≡ next
 unfolding map_ext_block
 map_ext_block-next pages next few small =
-    fields_long (map_ext_table pages next) 0 MAP_EXT_NEXT next (map_ext_descends pages next few) (omega arith) refl ∙ long_number next small
+    fields_long (map_ext_table pages next) MAP_EXT_NEXT next (map_ext_descends pages next few) (search rules) ∙ long_number next small

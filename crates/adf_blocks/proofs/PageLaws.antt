@@ -1,5 +1,5 @@
 -- What the block of a bitmap page holds.
-use Rattle.std.proofs.Common.{◌≡◌, ◌≤◌, ◌<◌, ℕ, ◌+◌, ◌*◌, ◌^◌, List, length, refl, arith, ◌∙◌}
+use Rattle.std.proofs.Common.{◌≡◌, ◌≤◌, ◌<◌, ℕ, ◌+◌, ◌*◌, ◌^◌, List, length, refl, arith, rules, ◌∙◌}
 use Rattle.std.specs.Prelude.{None, slice_index, IsBitSet, ◌/◌, ◌%◌, ◌↔◌}
 use Rattle.adf_fields.specs.Words.{block, word, with_block, long_sum, checksum}
 use Rattle.adf_fields.proofs.WordLaws.{block_written, length-with_bytes, length_longs, long_sum-sealed, length-big_bytes}
@@ -35,7 +35,7 @@ pub page_block-word : (bits : List ℕ) (i : ℕ) → length bits ≡ 127 → i 
     → word (page_block bits) (PAGE_FIRST + i) ≡ slice_index bits i
 unfolding page_block
 page_block-word bits i n lt small =
-    numbers_of_field PAGE_CHECKSUM (page_table bits) 0 PAGE_FIRST i bits (omega arith) (page_descends bits n) (omega arith) refl (omega arith) (omega arith)
+    numbers_of_field PAGE_CHECKSUM (page_table bits) PAGE_FIRST i bits (omega arith) (page_descends bits n) (search rules) (omega arith) (omega arith)
     ∙ long_number (slice_index bits i) small
 
 -- a bit of a page

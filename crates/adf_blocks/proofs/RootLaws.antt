@@ -1,5 +1,5 @@
 -- What the block of a root holds.
-use Rattle.std.proofs.Common.{◌≡◌, ◌≤◌, ◌<◌, ℕ, ◌+◌, ◌*◌, ◌^◌, List, [], length, refl, sym, ◌∙◌, arith, inl, inr}
+use Rattle.std.proofs.Common.{◌≡◌, ◌≤◌, ◌<◌, ℕ, ◌+◌, ◌*◌, ◌^◌, List, length, refl, sym, ◌∙◌, arith, rules, inl, inr}
 use Rattle.std.specs.Prelude.{None, true, nat_le, slice_index}
 use Rattle.std.proofs.lemmas.Bool.{le-leb, cases_lt}
 use Rattle.std.proofs.lemmas.List.{get_or_past}
@@ -8,7 +8,7 @@ use Rattle.adf_fields.proofs.WordLaws.{length_longs, block_written}
 use Rattle.adf_blocks.specs.declared.layout.TheConstants.{ALTERED, BITMAP_FLAG, CHECKSUM, CREATED, DATE, FIRST_MAP_EXT, FIRST_PAGE, FIRST_SLOT, HASH_SIZE}
 use Rattle.adf_blocks.specs.declared.layout.TheConstants.{NAME, ROOT_PAGES, SECONDARY_TYPE, SLOTS, ST_ROOT, TYPE, T_SHORT, VALID}
 use Rattle.adf_blocks.specs.Forms.{first_cause, text_at}
-use Rattle.adf_blocks.specs.Fields.{Descends}
+use Rattle.adf_blocks.specs.Fields.{Descends, long, longs}
 use Rattle.adf_blocks.specs.RootBlock.{FitsRoot, FitsStamps, RootFields, root_block, root_form, root_table, stamps_at}
 use Rattle.adf_blocks.proofs.FieldLaws.{apart_between, length_sealed_fields, long_number, numbers_of_field, stamp_of_field}
 use Rattle.adf_blocks.proofs.FieldLaws.{sum_of_fields, text_of_field, word_between, word_of_field}
@@ -27,31 +27,31 @@ root_block-sum r h = sum_of_fields (root_table r) (root_descends r h)
 
 pub root_block-type : (r : RootFields) → FitsRoot r → word (root_block r) TYPE ≡ T_SHORT
 unfolding root_block
-root_block-type r h = word_of_field (root_table r) 10 TYPE T_SHORT (root_descends r h) (omega arith) refl (omega arith) (omega arith)
+root_block-type r h = word_of_field (root_table r) TYPE T_SHORT (root_descends r h) (search rules) (omega arith) (omega arith)
 
 pub root_block-secondary : (r : RootFields) → FitsRoot r → word (root_block r) SECONDARY_TYPE ≡ ST_ROOT
 unfolding root_block
-root_block-secondary r h = word_of_field (root_table r) 0 SECONDARY_TYPE ST_ROOT (root_descends r h) (omega arith) refl (omega arith) (omega arith)
+root_block-secondary r h = word_of_field (root_table r) SECONDARY_TYPE ST_ROOT (root_descends r h) (search rules) (omega arith) (omega arith)
 
 pub root_block-valid : (r : RootFields) → FitsRoot r → word (root_block r) BITMAP_FLAG ≡ VALID
 unfolding root_block
-root_block-valid r h = word_of_field (root_table r) 7 BITMAP_FLAG VALID (root_descends r h) (omega arith) refl (omega arith) (omega arith)
+root_block-valid r h = word_of_field (root_table r) BITMAP_FLAG VALID (root_descends r h) (search rules) (omega arith) (omega arith)
 
 -- a slot of a root
 pub root_block-slot : (r : RootFields) (s : ℕ) → FitsRoot r → s < SLOTS → slice_index r.slots s < 2 ^ 32
     → word (root_block r) (FIRST_SLOT + s) ≡ slice_index r.slots s
 unfolding root_block
 root_block-slot r s h lt small =
-    numbers_of_field CHECKSUM (root_table r) 8 FIRST_SLOT s r.slots (omega arith) (root_descends r h) (omega arith) refl (omega (arith, h.slots)) (omega arith)
+    numbers_of_field CHECKSUM (root_table r) FIRST_SLOT s r.slots (omega arith) (root_descends r h) (search rules) (omega (arith, h.slots)) (omega arith)
     ∙ long_number (slice_index r.slots s) small
 
 pub root_block-hash_size : (r : RootFields) → FitsRoot r → word (root_block r) HASH_SIZE ≡ SLOTS
 unfolding root_block
-root_block-hash_size r h = word_of_field (root_table r) 9 HASH_SIZE SLOTS (root_descends r h) (omega arith) refl (omega arith) (omega arith)
+root_block-hash_size r h = word_of_field (root_table r) HASH_SIZE SLOTS (root_descends r h) (search rules) (omega arith) (omega arith)
 
 pub root_block-label : (r : RootFields) → FitsRoot r → (slice_index (root_block r) NAME ≡ length r.label) × (text_at (root_block r) NAME ≡ r.label)
 unfolding root_block
-root_block-label r h = text_of_field (root_table r) 3 NAME r.label (root_descends r h) (omega arith) refl (omega arith)
+root_block-label r h = text_of_field (root_table r) NAME r.label (root_descends r h) (search rules) (omega arith)
 
 -- the text of a root's label
 pub root_block-text : (r : RootFields) → FitsRoot r → text_at (root_block r) NAME ≡ r.label
@@ -63,13 +63,13 @@ pub root_block-page : (r : RootFields) (i : ℕ) → FitsRoot r → i < ROOT_PAG
 unfolding root_block
 root_block-page r i h lt small = elim (cases_lt i (length r.pages)) [
   | inl in_pages ↦
-      numbers_of_field CHECKSUM (root_table r) 6 FIRST_PAGE i r.pages (omega arith) (root_descends r h) (omega arith) refl in_pages (omega arith)
+      numbers_of_field CHECKSUM (root_table r) FIRST_PAGE i r.pages (omega arith) (root_descends r h) (search rules) in_pages (omega arith)
       ∙ long_number (slice_index r.pages i) small
   | inr past ↦
       let pages = length_longs r.pages in
       word_between (root_table r) (FIRST_PAGE + i) (root_descends r h) (omega arith)
-      (apart_between 512 (4 * (FIRST_PAGE + i)) (4 * (FIRST_PAGE + i) + 4) 5 (root_table r) (0, []) (root_descends r h) (omega arith) (omega arith)
-      (omega arith))
+      (apart_between 512 (4 * (FIRST_PAGE + i)) (4 * (FIRST_PAGE + i) + 4) (root_table r) (4 * FIRST_MAP_EXT, long r.map_ext) (4 * FIRST_PAGE, longs r.pages)
+      (root_descends r h) (search rules) (omega arith) (omega arith))
       (omega arith)
       ∙ sym (get_or_past r.pages i 0 past)
 ]
@@ -77,15 +77,15 @@ root_block-page r i h lt small = elim (cases_lt i (length r.pages)) [
 -- the first bitmap extension block of a root
 pub root_block-map_ext : (r : RootFields) → FitsRoot r → r.map_ext < 2 ^ 32 → word (root_block r) FIRST_MAP_EXT ≡ r.map_ext
 unfolding root_block
-root_block-map_ext r h small = word_of_field (root_table r) 5 FIRST_MAP_EXT r.map_ext (root_descends r h) (omega arith) refl (omega arith) small
+root_block-map_ext r h small = word_of_field (root_table r) FIRST_MAP_EXT r.map_ext (root_descends r h) (search rules) (omega arith) small
 
 -- the dates of a root
 pub root_block-stamps : (r : RootFields) → FitsRoot r → FitsStamps r.stamps → stamps_at (root_block r) ≡ r.stamps
 unfolding root_block
 root_block-stamps r h fits =
-    let root = stamp_of_field (root_table r) 4 DATE r.stamps.root (root_descends r h) (omega arith) refl (omega arith) fits.root in
-    let altered = stamp_of_field (root_table r) 2 ALTERED r.stamps.altered (root_descends r h) (omega arith) refl (omega arith) fits.altered in
-    let created = stamp_of_field (root_table r) 1 CREATED r.stamps.created (root_descends r h) (omega arith) refl (omega arith) fits.created in
+    let root = stamp_of_field (root_table r) DATE r.stamps.root (root_descends r h) (search rules) (omega arith) fits.root in
+    let altered = stamp_of_field (root_table r) ALTERED r.stamps.altered (root_descends r h) (search rules) (omega arith) fits.altered in
+    let created = stamp_of_field (root_table r) CREATED r.stamps.created (root_descends r h) (search rules) (omega arith) fits.created in
     rw (root, altered, created) refl
 
 -- a root that was written is read

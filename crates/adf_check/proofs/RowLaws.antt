@@ -1,9 +1,10 @@
 -- A row tells what the tree has of its entry.
-use Rattle.std.proofs.Common.{true, false, ◌≡◌, ℕ, suc, List, ◌<◌, length, sym, ap, subst, ◌∙◌, arith, Some}
-use Rattle.std.specs.Prelude.{nat_le, ◌==◌}
+use Rattle.std.proofs.Common.{true, false, ◌≡◌, ℕ, suc, List, ◌<◌, length, sym, ap, subst, ◌∙◌, arith, rules, Some}
+use Rattle.std.specs.Prelude.{nat_le, slice_index, ◌==◌}
 use Rattle.std.proofs.lemmas.Bool.{and_parts}
 use Rattle.std.proofs.lemmas.Bool.Decides.{nat_tests}
-use Rattle.adf_blocks.specs.declared.layout.TheConstants.{NAME, SECONDARY_TYPE, ST_DIR}
+use Rattle.adf_blocks.specs.declared.layout.TheConstants.{COMMENT, NAME, SECONDARY_TYPE, ST_DIR}
+use Rattle.adf_blocks.specs.declared.cause.Cause.TheVariants.{BadComment, BadName}
 use Rattle.adf_fields.specs.Words.{block}
 use Rattle.adf_tree.specs.Texts.{is_name}
 use Rattle.adf_tree.specs.declared.entry.Body.{Body}
@@ -11,7 +12,7 @@ use Rattle.adf_tree.specs.declared.entry.Body.TheVariants.{Dir, File}
 use Rattle.adf_tree.specs.declared.entry.Kind.{Kind}
 use Rattle.adf_tree.specs.Tree.{Tree, entry, is_dir_body}
 use Rattle.adf_blocks.specs.Forms.{text_at}
-use Rattle.adf_blocks.specs.HeadBlock.{IsHead, body_at, head_form}
+use Rattle.adf_blocks.specs.HeadBlock.{IsHead, body_at, head_form, is_name_at}
 use Rattle.adf_volume.specs.Demands.{AllHold, boot_demands, root_demands, demands_at}
 use Rattle.adf_volume.specs.Fits.{BodyFits, EntryFits}
 use Rattle.adf_volume.specs.Image.{kind_of, meta_of, name_of, root_of, word_in}
@@ -19,6 +20,7 @@ use Rattle.adf_volume.specs.Layout.{Layout, at_node}
 use Rattle.adf_volume.specs.Lists.{At}
 use Rattle.adf_volume.specs.Walk.Role.{Head}
 use Rattle.adf_volume.proofs.MemberFacts.{kept}
+use Rattle.adf_volume.proofs.FormDemands.{demanded}
 use Rattle.adf_volume.proofs.Lists.{all_append, at_below, at_some}
 use Rattle.adf_volume.proofs.Chains.{entry_is_at}
 use Rattle.adf_check.specs.declared.kept.KeptHeader.{KeptHeader as Kept}
@@ -33,11 +35,13 @@ use Rattle.adf_check.specs.declared.row.Row.{Row}
 -- a block with the form of a header is one
 pub head_facts : (kind : Kind) (b own parent slot : ℕ) (bytes : List ℕ) → AllHold (demands_at b (head_form kind own parent slot bytes)) → IsHead bytes
 head_facts kind b own parent slot bytes h =
-    let named = and_parts (nat_le _ 30) (is_name (text_at bytes NAME)) h.1.1.1.1.1.0 in
+    let form = head_form kind own parent slot bytes in
+    let named = and_parts (nat_le _ 30) (is_name (text_at bytes NAME)) (demanded b form (is_name_at bytes NAME) BadName h (search rules)) in
+    let comment_short = demanded b form (nat_le (slice_index bytes COMMENT) 79) BadComment h (search rules) in
     record {
       name_len = grind (arith, nat_tests, named.0);
       name = named.1;
-      comment_len = grind (arith, nat_tests, h.1.1.1.1.1.1.0);
+      comment_len = grind (arith, nat_tests, comment_short);
     }
 
 -- the block of a row holds a header
