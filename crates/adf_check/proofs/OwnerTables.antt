@@ -30,26 +30,27 @@ owner_is xs b x lt e =
     get_or-map wide xs b x Free inside ∙ ap wide (sym e)
 
 -- what holds of the table that is kept when a block was claimed
-pub record IsClaimed (old : List Owner) (items : List NarrowOwner) (blocks used b : ℕ) (o : NarrowOwner) : Type 0 where
+pub record IsClaimed (old : List Owner) (items : List NarrowOwner) (blocks used b : ℕ) (o : Owner) : Type 0 where
   pub table : IsTable (map wide items) blocks (used + 1)
-  pub view : map wide items ≡ set old b (wide o)
+  pub view : map wide items ≡ set old b o
   pub count : owned_count (map wide items) ≡ owned_count old + 1
   pub bound : owned_count (map wide items) + 2 ≤ length (map wide items)
 
 -- a free block is claimed in the table that is kept
-pub claim_kept : (items : List NarrowOwner) (o : NarrowOwner) {old : List Owner} {blocks used b : ℕ} {x : NarrowOwner} → map wide items ≡ old
-    → IsTable (map wide items) blocks used → 2 ≤ b → b < length old → is_part (wide o) ≡ true → x ≡ get_or items b x → x ≡ NarrowFree
-    → IsClaimed old (set items b o) blocks used b o
-claim_kept items o {old = old} {blocks = blocks} {used = used} {b = b} {x = x} view table lo hi part here free =
+pub claim_kept : (items : List NarrowOwner) (kept : NarrowOwner) {old : List Owner} {blocks used b : ℕ} {x : NarrowOwner} {o : Owner}
+    → wide kept ≡ o → map wide items ≡ old → IsTable (map wide items) blocks used → 2 ≤ b → b < length old → is_part o ≡ true → x ≡ get_or items b x
+    → x ≡ NarrowFree → IsClaimed old (set items b kept) blocks used b o
+claim_kept items kept {old = old} {blocks = blocks} {used = used} {b = b} {x = x} {o = o} same view table lo hi part here free =
     let below : b < length (map wide items) = subst (λ t. b < length t) (sym view) hi in
     let was_free : owner_at (map wide items) b ≡ Free = owner_is items b x below here ∙ ap wide free in
-    let after : IsTable (map wide (set items b o)) blocks (used + 1) =
-    subst (λ t. IsTable t blocks (used + 1)) (sym (map-set wide items b o)) (claimed (map wide items) blocks used b (wide o) table lo below part was_free) in
+    let written : map wide (set items b kept) ≡ set (map wide items) b o = map-set wide items b kept ∙ ap (set (map wide items) b) same in
+    let after : IsTable (map wide (set items b kept)) blocks (used + 1) =
+    subst (λ t. IsTable t blocks (used + 1)) (sym written) (claimed (map wide items) blocks used b o table lo below part was_free) in
     record {
       table = after;
-      view = map-set wide items b o ∙ ap (λ t. set t b (wide o)) view;
-      count = ap owned_count (map-set wide items b o) ∙ counted (map wide items) b (wide o) below part was_free ∙ ap (λ t. owned_count t + 1) view;
-      bound = bounded (map wide (set items b o)) blocks (used + 1) after;
+      view = written ∙ ap (λ t. set t b o) view;
+      count = ap owned_count written ∙ counted (map wide items) b o below part was_free ∙ ap (λ t. owned_count t + 1) view;
+      bound = bounded (map wide (set items b kept)) blocks (used + 1) after;
     }
 
 free_is : (m : ℕ) → map wide (replicate m NarrowFree) ≡ replicate m Free

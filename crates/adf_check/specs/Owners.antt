@@ -1,13 +1,20 @@
 -- Who owns each block.
-use Rattle.std.specs.Prelude.{◌≡◌, ℕ, Bool, true, false, List, [], ◌∷◌, length, take, count_by}
+use Rattle.std.specs.Prelude.{◌≡◌, ◌<◌, ◌^◌, ℕ, Bool, true, false, List, [], ◌∷◌, length, take, count_by}
 use Rattle.adf_volume.specs.declared.owner.Owner.{Owner}
-use Rattle.adf_volume.specs.declared.owner.Owner.TheVariants.{Free, Boot}
+use Rattle.adf_volume.specs.declared.owner.Owner.TheVariants.{Free, Boot, Head, Ext, Data}
 
 -- a part of the volume owns the block
 abbrev pub is_part : Owner → Bool
 is_part Free = false
 is_part Boot = false
 is_part _ = true
+
+-- the numbers of nodes are words, as those of pages, extension and data blocks are
+abbrev pub HasWords : Owner → Type 0
+HasWords (Head n) = n < 2 ^ 32
+HasWords (Ext n k) = n < 2 ^ 32
+HasWords (Data n k) = n < 2 ^ 32
+HasWords _ = Unit {0}
 
 -- how many blocks are owned by parts of the volume
 abbrev pub owned_count : List Owner → ℕ

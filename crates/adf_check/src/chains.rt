@@ -1,9 +1,8 @@
 // Directories: the headers of each slot's chain.
 
 ghost use Rattle.adf_check.specs.Fault.{IsTrueFault};
-ghost use Rattle.std.specs.Prelude.{◌≡◌, ◌≢◌, ◌≤◌, ◌<◌, ◌+◌, ◌^◌, OnOk, IfOk, IfErr};
+ghost use Rattle.std.specs.Prelude.{◌≡◌, ◌≢◌, ◌<◌, ◌+◌, ◌^◌, OnOk, IfOk, IfErr};
 ghost use Rattle.adf_blocks.specs.Sizes.{blocks};
-ghost use Rattle.adf_volume.specs.Image.{word_in};
 ghost use Rattle.adf_check.specs.Reading.{IsAtNode, IsAtSlot, IsInChain};
 ghost use Rattle.adf_check.specs.Found.{IsFurther, left, sees_of, store_of};
 
@@ -12,9 +11,9 @@ use crate::fault::{Fault, fault_at, no_memory};
 use crate::found::Found;
 use crate::image::Image;
 use crate::kept::KeptHeader;
-use crate::narrow_owner::NarrowOwner;
 use adf_blocks::{Cause, read_head};
 use adf_tree::{NameSet, Node};
+use adf_volume::Owner;
 
 /// The chain of a slot of a directory, whose block is `up`.
 #[derive(Drop)]
@@ -54,7 +53,7 @@ fn read_header(
     ensures fault { IfErr result (λ f. IsTrueFault image.now f) }
 {
     let kind = image.kind();
-    let owner = NarrowOwner::Head((found.rows.len() + 1) as u32);
+    let owner = Owner::Head(Node(found.rows.len() + 1));
     claim_named(&mut found.owners, holder, b, owner)?;
     let head = match read_head(image.block(b), kind, b, chain.up, chain.slot) {
         Ok(head) => head,

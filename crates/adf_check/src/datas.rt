@@ -2,7 +2,7 @@
 
 ghost use Rattle.adf_blocks.specs.declared.layout.TheConstants.{SIZE};
 ghost use Rattle.adf_check.specs.Fault.{IsTrueFault};
-ghost use Rattle.std.specs.Prelude.{◌≡◌, ◌≤◌, ◌<◌, ◌+◌, ◌-◌, ◌*◌, ◌/◌, ◌%◌, cond, nat_lt, min, OnOk, IfErr, length, slice_index, ℕ};
+ghost use Rattle.std.specs.Prelude.{◌≡◌, ◌≤◌, ◌<◌, ◌+◌, ◌*◌, ◌/◌, min, OnOk, IfErr, length, slice_index, ℕ};
 ghost use Rattle.adf_tree.specs.declared.entry.Kind.TheVariants.{Ofs};
 ghost use Rattle.adf_blocks.specs.Sizes.{blocks, count};
 ghost use Rattle.adf_volume.specs.Demands.{AllHold, FirstFails, data_demands};
@@ -17,14 +17,14 @@ use crate::claims::claim_named;
 use crate::fault::{Fault, fault_at, no_memory};
 use crate::found::Found;
 use crate::image::Image;
-use crate::narrow_owner::{NarrowOwner, number_of};
 use adf_blocks::{Cause, data_count, read_data};
 use adf_tree::{Kind, Node};
+use adf_volume::Owner;
 
 /// A file whose data blocks are read: its node, the block of its header, its size in bytes, and the count of its data blocks.
 #[derive(Drop)]
 struct File {
-    node: u32,
+    node: Node,
     head: u32,
     size: u32,
     count: u32,
@@ -87,8 +87,8 @@ fn check_data(image: &Image<'_>, table: &[u32], file: &File, b: u32, k: u32) -> 
     match image.kind() {
         Kind::Ffs => Ok(()),
         Kind::Ofs => {
-            let held = held_in(file.size, k + 1);
             let next = next_pointer(image, table, file.count, k + 1);
+            let held = held_in(file.size, k + 1);
             match read_data(image.block(b), file.head, k + 1, held, next) {
                 Ok(_) => Ok(()),
                 Err(cause) => Err(cause),
@@ -120,12 +120,7 @@ fn read_data_block(
     ensures fewer { OnOk result (IsFurther found.old found.new) }
     ensures fault { IfErr result (λ f. IsTrueFault image.now f) }
 {
-    claim_named(
-        &mut found.owners,
-        holder,
-        b,
-        NarrowOwner::Data(file.node, k + 1),
-    )?;
+    claim_named(&mut found.owners, holder, b, Owner::Data(file.node, k + 1))?;
     if let Err(cause) = check_data(image, table, file, b, k) {
         return Err(fault_at(b, cause));
     }
@@ -188,7 +183,7 @@ pub fn read_datas(
         return Err(fault_at(head, Cause::ShortFile));
     }
     let file = File {
-        node: number_of(node),
+        node,
         head,
         size,
         count,

@@ -1,9 +1,8 @@
 // The extension blocks of files.
 
 ghost use Rattle.adf_check.specs.Fault.{IsTrueFault};
-ghost use Rattle.std.specs.Prelude.{◌≡◌, ◌≢◌, ◌≤◌, ◌<◌, OnOk, IfOk, IfErr};
+ghost use Rattle.std.specs.Prelude.{◌≢◌, ◌<◌, OnOk, IfOk, IfErr};
 ghost use Rattle.adf_blocks.specs.Sizes.{blocks};
-ghost use Rattle.adf_volume.specs.Image.{word_in};
 ghost use Rattle.adf_check.specs.Reading.{IsInDatas, IsInExts};
 ghost use Rattle.adf_check.specs.Found.{IsFurther, left, store_of};
 ghost use Rattle.adf_check.specs.Image.{IsBegun};
@@ -12,9 +11,9 @@ use crate::claims::claim_named;
 use crate::fault::{Fault, fault_at, no_memory};
 use crate::found::Found;
 use crate::image::Image;
-use crate::narrow_owner::{NarrowOwner, number_of};
 use adf_blocks::read_ext;
 use adf_tree::Node;
+use adf_volume::Owner;
 
 // Claims and reads the extension block at block `b`, which a word of block `holder` names, of the file `node` with its header at block
 // `head`: the next one, or 0. The table has the header and the extension blocks before.
@@ -35,7 +34,7 @@ fn read_ext_block(
     ensures less { OnOk result (left found.new < left found.old) }
     ensures fault { IfErr result (λ f. IsTrueFault image.now f) }
 {
-    let owner = NarrowOwner::Ext(number_of(node), table.len() as u32);
+    let owner = Owner::Ext(node, table.len() as u32);
     claim_named(&mut found.owners, holder, b, owner)?;
     let ext = match read_ext(image.block(b), b, head) {
         Ok(ext) => ext,

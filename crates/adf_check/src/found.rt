@@ -7,9 +7,9 @@ ghost use Rattle.adf_check.specs.Found.{store_of};
 
 use crate::image::Image;
 use crate::kept::{KeptHeader, Start};
-use crate::narrow_owner::NarrowOwner;
 use crate::owner_table::OwnerTable;
 use adf_fields::NoMemory;
+use adf_volume::Owner;
 use std::alloc::Global;
 
 /// What the checker has read so far: the owner of each block, a row for each entry, and for each node, the root among
@@ -29,7 +29,7 @@ impl Found {
         ensures { IfOk result (λ f. IsBeforePage image.now (store_of f) 0 (root_of image.now)) }
     {
         let mut owners = OwnerTable::new(alloc, image.blocks())?;
-        owners.claim(image.root(), NarrowOwner::Root).unwrap();
+        owners.claim(image.root(), Owner::Root).unwrap();
         Ok(Found {
             owners,
             rows: Vec::new(alloc),

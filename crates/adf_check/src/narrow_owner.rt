@@ -1,7 +1,8 @@
 // Owners in numbers of 32 bits.
 
-ghost use Rattle.std.specs.Prelude.{◌≡◌, ◌<◌, ◌^◌};
+ghost use Rattle.std.specs.Prelude.{◌≡◌};
 ghost use Rattle.adf_check.specs.NarrowOwner.{wide};
+ghost use Rattle.adf_check.specs.Owners.{HasWords};
 
 use adf_tree::Node;
 use adf_volume::Owner;
@@ -19,12 +20,21 @@ pub enum NarrowOwner {
     Data(u32, u32),
 }
 
-// The number of a node.
-pub fn number_of(node: Node) -> u32
-    requires { node < 2 ^ 32 }
-    ensures { result ≡ node }
+// The owner in numbers of 32 bits.
+pub fn narrow(owner: Owner) -> NarrowOwner
+    requires { HasWords owner }
+    ensures { wide result ≡ owner }
 {
-    node.0 as u32
+    match owner {
+        Owner::Free => NarrowOwner::Free,
+        Owner::Boot => NarrowOwner::Boot,
+        Owner::Root => NarrowOwner::Root,
+        Owner::Page(k) => NarrowOwner::Page(k),
+        Owner::MapExt(k) => NarrowOwner::MapExt(k),
+        Owner::Head(n) => NarrowOwner::Head(n.0 as u32),
+        Owner::Ext(n, k) => NarrowOwner::Ext(n.0 as u32, k),
+        Owner::Data(n, k) => NarrowOwner::Data(n.0 as u32, k),
+    }
 }
 
 // The owner that is meant.

@@ -1,11 +1,10 @@
 // Who owns each block of the image that is checked.
 
-ghost use Rattle.std.specs.Prelude.{◌≡◌, ◌≢◌, ◌≤◌, ◌<◌, ◌+◌, ◌-◌, ◌∷◌, ◌++◌, ◌↔◌, [], length, replicate, ℕ, true, false, IsTrue, IsOk, IfOk, IfErr, OnOk, OnErr, slice_set};
+ghost use Rattle.std.specs.Prelude.{◌≡◌, ◌≢◌, ◌≤◌, ◌<◌, ◌+◌, ◌-◌, ◌∷◌, ◌↔◌, length, replicate, ℕ, true, false, IsTrue, IsOk, IfOk, IfErr, OnOk, OnErr, slice_set};
 ghost use Rattle.adf_check.specs.Store.{owner_at};
-ghost use Rattle.adf_check.specs.NarrowOwner.{wide};
-ghost use Rattle.adf_check.specs.Owners.{is_part, owned_count};
+ghost use Rattle.adf_check.specs.Owners.{HasWords, is_part, owned_count};
 
-use crate::narrow_owner::{NarrowOwner, wide};
+use crate::narrow_owner::{NarrowOwner, narrow, wide};
 use adf_blocks::Cause;
 use adf_fields::NoMemory;
 use adf_volume::Owner;
@@ -52,12 +51,13 @@ impl OwnerTable {
     }
 
     // Makes `o` the owner of a free block; `Taken` where the block has an owner, and then nothing is changed.
-    pub fn claim(&mut self, b: u32, o: NarrowOwner) -> Result<(), Cause>
+    pub fn claim(&mut self, b: u32, o: Owner) -> Result<(), Cause>
         requires from { 2 ≤ b }
         requires below { b < length self.old }
-        requires part { is_part (wide o) ≡ true }
+        requires part { is_part o ≡ true }
+        requires words { HasWords o }
         ensures free { IsOk result ↔ (owner_at self.old b ≡ Owner.Free) }
-        ensures ok { OnOk result (self.new ≡ slice_set self.old b (wide o)) }
+        ensures ok { OnOk result (self.new ≡ slice_set self.old b o) }
         ensures taken { IfErr result (λ c. c ≡ Cause.Taken) }
         ensures unchanged { OnErr result (self.new ≡ self.old) }
         ensures count { OnOk result (owned_count self.new ≡ owned_count self.old + 1) }
@@ -65,7 +65,7 @@ impl OwnerTable {
     {
         match self.owners[b as usize] {
             NarrowOwner::Free => {
-                self.owners[b as usize] = o;
+                self.owners[b as usize] = narrow(o);
                 self.used += 1;
                 Ok(())
             }

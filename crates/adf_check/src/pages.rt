@@ -14,8 +14,8 @@ use crate::claims::claim_named;
 use crate::fault::{Fault, fault_at, no_memory};
 use crate::found::Found;
 use crate::image::Image;
-use crate::narrow_owner::NarrowOwner;
 use adf_blocks::{MAP_EXT_PAGES, ROOT_PAGES, Root, page_count, read_map_ext, read_page};
+use adf_volume::Owner;
 use std::alloc::Global;
 
 // Whether page `i` is the first one of a bitmap extension block.
@@ -76,7 +76,7 @@ fn claim_map_ext(
 {
     let b = map_ext_named(image, root, holder, i);
     let j = (i - ROOT_PAGES as u32) / MAP_EXT_PAGES as u32;
-    claim_named(&mut found.owners, holder, b, NarrowOwner::MapExt(j))?;
+    claim_named(&mut found.owners, holder, b, Owner::MapExt(j))?;
     Ok(b)
 }
 
@@ -123,7 +123,7 @@ fn read_page_at(
     ensures fault { IfErr result (λ f. IsTrueFault image.now f) }
 {
     let b = page_named(image, root, holder, i);
-    claim_named(&mut found.owners, holder, b, NarrowOwner::Page(i))?;
+    claim_named(&mut found.owners, holder, b, Owner::Page(i))?;
     match read_page(image.block(b)) {
         Ok(_) => Ok(b),
         Err(cause) => Err(fault_at(b, cause)),

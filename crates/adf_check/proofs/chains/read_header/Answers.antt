@@ -52,6 +52,6 @@ returns-in-Ok-push-clause-state c =
     number : {n m k : ℕ} → n ≡ m → k ≡ n → k + 1 ≡ suc m
     number a b = omega arith
 
-pub overflow_cast-owner : goal.overflow_cast-owner
-overflow_cast-owner c =
+pub claim_named-requires-clause-words : goal.claim_named-requires-clause-words
+claim_named-requires-clause-words c =
     omega (arith, entry_short c.kind-kind.ensures.begun refl c.requires.state)

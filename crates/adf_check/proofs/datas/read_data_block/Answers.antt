@@ -1,10 +1,14 @@
 use Rattle.std.proofs.Common.{◌≡◌, ◌++◌, ◌∷◌, [], refl, rules}
 use Rattle.adf_check.proofs.ClaimSteps.{claim_refused}
+use Rattle.adf_check.proofs.NumberBounds.{file_short}
 use Rattle.adf_check.proofs.DataSteps.{data_done, data_enough, data_fault, data_named, table_inside}
 use Rattle.adf_check.proofs.datas.read_data_block.Goals as goal
 
 pub check_data-requires-clause-blocks : goal.check_data-requires-clause-blocks
 check_data-requires-clause-blocks c = table_inside c.requires.begun c.requires.state
+
+pub claim_named-requires-clause-words : goal.claim_named-requires-clause-words
+claim_named-requires-clause-words c = file_short c.requires.begun refl c.requires.state.read c.requires.state.holds
 
 pub returns-in_err-claim_named-clause-fault : goal.returns-in_err-claim_named-clause-fault
 returns-in_err-claim_named-clause-fault c =

@@ -3,7 +3,6 @@ use Rattle.adf_volume.specs.Walk.{data_count}
 use Rattle.adf_check.specs.Reading.{IsAtNode}
 use Rattle.adf_check.proofs.DataSteps.{datas_end, too_short}
 use Rattle.adf_check.specs.Found.{store_of}
-use Rattle.adf_check.proofs.NumberBounds.{file_short}
 use Rattle.adf_check.proofs.datas.read_datas.Goals as goal
 
 pub returns-then-tables-table-clause-fault : goal.returns-then-tables-table-clause-fault
@@ -12,9 +11,6 @@ returns-then-tables-table-clause-fault c =
     let e : c.count_of-count.result ≡ data_count image c.args.head = cc (c.count_of-count.ensures, c.kind.ensures.kind, c.requires.size) in
     let short : 72 * length c.args.table.now < data_count image c.args.head = omega arith in
     rw c.fault_at.ensures (too_short c.requires.begun c.requires.state refl short)
-
-pub number_of-requires : goal.number_of-requires
-number_of-requires c = file_short c.requires.begun refl c.requires.state.read c.requires.state.holds
 
 pub returns-clause-state : goal.returns-clause-state
 returns-clause-state c =

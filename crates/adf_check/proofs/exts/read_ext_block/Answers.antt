@@ -26,8 +26,7 @@ returns-clause-state c =
     let kept : c.push-else-is_err.new.self.items ≡ store.exts ++ b ∷ [] = search rules in
     ext_done c.requires.begun c.requires.state c.requires.some claimed.range claimed.free c.block.ensures.block c.in-Ok.ensures.0 c.in-Ok.ensures.1
     c.next.ensures pushed (record {
-      owners = claimed.ok ∙ ap (λ m. set store.owners b (AnExt m c.len.result)) c.number_of.ensures
-          ∙ ap (λ k. set store.owners b (AnExt c.args.node k)) count;
+      owners = claimed.ok ∙ ap (λ k. set store.owners b (AnExt c.args.node k)) count;
       rows = refl;
       starts = refl;
       exts = kept;
@@ -39,5 +38,5 @@ pub overflow_cast-owner : goal.overflow_cast-owner
 overflow_cast-owner c =
     omega (arith, table_short c.requires.begun refl c.requires.state.read c.requires.state.holds)
 
-pub number_of-requires : goal.number_of-requires
-number_of-requires c = file_short c.requires.begun refl c.requires.state.read c.requires.state.holds
+pub claim_named-requires-clause-words : goal.claim_named-requires-clause-words
+claim_named-requires-clause-words c = file_short c.requires.begun refl c.requires.state.read c.requires.state.holds
