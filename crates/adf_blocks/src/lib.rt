@@ -21,7 +21,8 @@ pub use crate::ext::{Ext, ExtOut, read_ext, write_ext, written_exts_are_read};
 pub use crate::head::{Head, HeadBody, read_head};
 pub use crate::head_out::{HeadOut, HeadOutBody, write_head, written_heads_are_read};
 pub use crate::layout::{
-    DATA_ROOM, MAP_EXT_PAGES, MOST_BLOCKS, PAGE_BITS, PAGE_WORDS, POINTERS, ROOT_PAGES,
+    DATA_BYTES, DATA_ROOM, MAP_EXT_PAGES, MOST_BLOCKS, PAGE_BITS, PAGE_WORDS, POINTERS, ROOT_PAGES,
+    SLOTS,
 };
 pub use crate::links::{Directory, Table};
 pub use crate::map_ext::{MapExt, read_map_ext, write_map_ext, written_map_exts_are_read};

@@ -1,8 +1,9 @@
 -- The pieces of a file, joined, are its bytes.
-use Rattle.std.proofs.Common.{◌≡◌, ◌≢◌, ℕ, suc, List, [], ◌∷◌, length-append, ◌+◌, ◌-◌, ◌*◌, ◌^◌, ◌<◌, ◌≤◌, length, take, drop, get_or, refl, sym, ap, subst}
+use Rattle.std.proofs.Common.{◌≡◌, ◌≢◌, ℕ, suc, List, [], ◌∷◌, length-append, ◌+◌, ◌-◌, ◌*◌, ◌^◌, ◌<◌, ◌≤◌, length, take, drop, min, get_or, refl, sym, ap, subst}
 use Rattle.std.proofs.Common.{◌∙◌, arith, Option, Some, None, length-take, length-drop}
 use Rattle.std.specs.Prelude.{slice_range}
 use Rattle.std.specs.List.{All, concat}
+use Rattle.std.proofs.lemmas.Bool.Decides.{nat_tests}
 use Rattle.std.proofs.lemmas.List.{take-take}
 use Rattle.adf_blocks.specs.declared.layout.TheConstants.{SECONDARY_TYPE, SIZE, ST_DIR}
 use Rattle.adf_fields.specs.Words.{block}
@@ -52,15 +53,22 @@ inside_next image ds others x k e h =
       few = omega (arith, h.few);
     }
 
+-- the bytes behind those that the data blocks before hold, and no more than there is room for
+pub held_is : (kind : Kind) (size k n : ℕ) → 1 ≤ k → size < 2 ^ 32 → n ≡ min (size - min (chunk kind * (k - 1)) (2 ^ 64 - 1)) (chunk kind)
+    → n ≡ held kind size k
+unfolding held chunk
+held_is Ofs size k n one small e = grind (arith, nat_tests)
+held_is Ffs size k n one small e = grind (arith, nat_tests)
+
 -- what a data block holds is the first part of its data area
-pub piece_ofs : (size k n : ℕ) (b : List ℕ) → n ≡ held Ofs size k → n ≤ 488 → slice_range b 24 (24 + n) ≡ piece Ofs size k b
-unfolding area
+pub piece_ofs : (size k n : ℕ) (b : List ℕ) → n ≡ held Ofs size k → n ≤ chunk Ofs → slice_range b 24 (24 + n) ≡ piece Ofs size k b
+unfolding area chunk
 piece_ofs size k n b e le =
     let z : 24 + n - 24 ≡ n = omega arith in
     ap (λ m. take m (drop 24 b)) z ∙ sym (take-take n 488 (drop 24 b) le) ∙ ap (λ m. take m (take 488 (drop 24 b))) e
 
-pub piece_ffs : (size k n : ℕ) (b : List ℕ) → n ≡ held Ffs size k → n ≤ 512 → slice_range b 0 (0 + n) ≡ piece Ffs size k b
-unfolding area
+pub piece_ffs : (size k n : ℕ) (b : List ℕ) → n ≡ held Ffs size k → n ≤ chunk Ffs → slice_range b 0 (0 + n) ≡ piece Ffs size k b
+unfolding area chunk
 piece_ffs size k n b e le =
     let z : 0 + n - 0 ≡ n = omega arith in
     ap (λ m. take m (drop 0 b)) z ∙ sym (take-take n 512 (drop 0 b) le) ∙ ap (λ m. take m (take 512 (drop 0 b))) e

@@ -1,5 +1,6 @@
 // Directories: the headers of each slot's chain.
 
+ghost use Rattle.adf_blocks.specs.declared.layout.TheConstants.{SLOTS};
 ghost use Rattle.adf_check.specs.Fault.{IsTrueFault};
 ghost use Rattle.std.specs.Prelude.{◌≡◌, ◌≢◌, ◌<◌, ◌+◌, ◌^◌, OnOk, IfOk, IfErr};
 ghost use Rattle.adf_blocks.specs.Sizes.{blocks};
@@ -11,7 +12,7 @@ use crate::fault::{Fault, fault_at, no_memory};
 use crate::found::Found;
 use crate::image::Image;
 use crate::kept::KeptHeader;
-use adf_blocks::{Cause, read_head};
+use adf_blocks::{Cause, SLOTS, read_head};
 use adf_tree::{NameSet, Node};
 use adf_volume::Owner;
 
@@ -43,7 +44,7 @@ fn read_header(
     holder: u32,
     b: u32,
 ) -> Result<u32, Fault>
-    requires slot { chain.now.slot < 72 }
+    requires slot { chain.now.slot < SLOTS }
     requires some { b ≢ 0 }
     requires state { IsInChain image.now (store_of found.old) chain.now.parent chain.now.up chain.now.slot holder b (sees_of seen.old) }
     ensures state { IfOk result (λ next. IsInChain image.now (store_of found.new) chain.now.parent chain.now.up chain.now.slot b next (sees_of seen.new)) }
@@ -77,7 +78,7 @@ fn read_chain(
     seen: &mut NameSet,
     chain: &Chain,
 ) -> Result<(), Fault>
-    requires slot { chain.now.slot < 72 }
+    requires slot { chain.now.slot < SLOTS }
     requires inside { chain.now.up < blocks image.now }
     requires state { IsAtSlot image.now (store_of found.old) chain.now.parent chain.now.up chain.now.slot }
     ensures state { OnOk result (IsAtSlot image.now (store_of found.new) chain.now.parent chain.now.up (chain.now.slot + 1)) }
@@ -110,7 +111,7 @@ pub fn read_directory(
     ensures fault { IfErr result (λ f. IsTrueFault image.now f) }
 {
     let directory = image.directory(up);
-    for slot in 0..72u8 {
+    for slot in 0..SLOTS as u8 {
         if directory.slot(slot) == 0 {
             continue;
         }

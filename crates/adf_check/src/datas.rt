@@ -1,10 +1,9 @@
 // The data blocks of files.
 
-ghost use Rattle.adf_blocks.specs.declared.layout.TheConstants.{SIZE};
+ghost use Rattle.adf_blocks.specs.declared.layout.TheConstants.{POINTERS, SIZE};
 ghost use Rattle.adf_check.specs.Fault.{IsTrueFault};
 ghost use Rattle.std.specs.Prelude.{◌≡◌, ◌≤◌, ◌<◌, ◌+◌, ◌*◌, ◌/◌, min, OnOk, IfErr, length, slice_index, ℕ};
-ghost use Rattle.adf_tree.specs.declared.entry.Kind.TheVariants.{Ofs};
-ghost use Rattle.adf_blocks.specs.Sizes.{blocks, count};
+ghost use Rattle.adf_blocks.specs.Sizes.{blocks, chunk, count};
 ghost use Rattle.adf_volume.specs.Demands.{AllHold, FirstFails, data_demands};
 ghost use Rattle.adf_volume.specs.Image.{held, kind_of, table_word, word_in};
 ghost use Rattle.adf_volume.specs.Walk.{data_count};
@@ -17,7 +16,7 @@ use crate::claims::claim_named;
 use crate::fault::{Fault, fault_at, no_memory};
 use crate::found::Found;
 use crate::image::Image;
-use adf_blocks::{Cause, data_count, read_data};
+use adf_blocks::{Cause, POINTERS, chunk_len, data_count, read_data};
 use adf_tree::{Kind, Node};
 use adf_volume::Owner;
 
@@ -37,34 +36,32 @@ pub(crate) fn count_of(kind: Kind, size: u32) -> u32
     data_count(kind, size as usize) as u32
 }
 
-// The bytes that data block `number`, from 1 on, of an OFS file of so many bytes holds.
-#[tactic(auto, unfolding(adf_volume::specs::Image::held, adf_blocks::specs::Sizes::chunk))]
-pub(crate) fn held_in(size: u32, number: u32) -> u32
+// The bytes that data block `number`, from 1 on, of a file of so many bytes holds.
+#[tactic(auto, using(crate::proofs::FilePieces::held_is))]
+pub(crate) fn held_in(kind: Kind, size: u32, number: u32) -> u32
     requires { 1 ≤ number }
-    ensures exact { result ≡ held Ofs size number }
-    ensures small { result ≤ 488 }
+    ensures exact { result ≡ held kind size number }
+    ensures small { result ≤ chunk kind }
 {
-    let end = 488 * u64::from(number);
-    let size = u64::from(size);
-    if end < size {
-        488
-    } else {
-        size.saturating_sub(end - 488) as u32
-    }
+    let chunk = chunk_len(kind);
+    let before = chunk.saturating_mul(number as usize - 1);
+    (size as usize).saturating_sub(before).min(chunk) as u32
 }
 
 // The block that the table names for data block `k + 1`.
 fn pointer(image: &Image<'_>, table: &[u32], k: u32) -> u32
-    requires inside { k < 72 * length table.now }
+    requires inside { k < POINTERS * length table.now }
     requires blocks { (i : ℕ) → i < length table.now → slice_index table.now i < blocks image.now }
-    ensures { result ≡ word_in image.now (slice_index table.now (k / 72)) (table_word k) }
+    ensures { result ≡ word_in image.now (slice_index table.now (k / POINTERS)) (table_word k) }
 {
-    image.table(table[k as usize / 72]).pointer(k as usize % 72)
+    image
+        .table(table[k as usize / POINTERS])
+        .pointer(k as usize % POINTERS)
 }
 
 // The block that the table names for data block `k + 1`, or 0 past the last.
 fn next_pointer(image: &Image<'_>, table: &[u32], count: u32, k: u32) -> u32
-    requires enough { count ≤ 72 * length table.now }
+    requires enough { count ≤ POINTERS * length table.now }
     requires blocks { (i : ℕ) → i < length table.now → slice_index table.now i < blocks image.now }
     ensures { result ≡ next_of image.now table.now count k }
 {
@@ -76,10 +73,11 @@ fn next_pointer(image: &Image<'_>, table: &[u32], count: u32, k: u32) -> u32
 }
 
 // What is wrong with block `b` as data block `k + 1` of the file: nothing is asked of one of FFS.
+#[tactic(auto, unfolding(adf_blocks::specs::Sizes::chunk))]
 fn check_data(image: &Image<'_>, table: &[u32], file: &File, b: u32, k: u32) -> Result<(), Cause>
     requires inside { b < blocks image.now }
     requires count { k < file.now.count }
-    requires enough { file.now.count ≤ 72 * length table.now }
+    requires enough { file.now.count ≤ POINTERS * length table.now }
     requires blocks { (i : ℕ) → i < length table.now → slice_index table.now i < blocks image.now }
     ensures ok { OnOk result (AllHold (data_demands image.now (kind_of image.now) b file.now.head (k + 1) (held (kind_of image.now) file.now.size (k + 1)) (next_of image.now table.now file.now.count (k + 1)))) }
     ensures fault { IfErr result (λ c. FirstFails (data_demands image.now (kind_of image.now) b file.now.head (k + 1) (held (kind_of image.now) file.now.size (k + 1)) (next_of image.now table.now file.now.count (k + 1))) b c) }
@@ -88,7 +86,7 @@ fn check_data(image: &Image<'_>, table: &[u32], file: &File, b: u32, k: u32) -> 
         Kind::Ffs => Ok(()),
         Kind::Ofs => {
             let next = next_pointer(image, table, file.count, k + 1);
-            let held = held_in(file.size, k + 1);
+            let held = held_in(Kind::Ofs, file.size, k + 1);
             match read_data(image.block(b), file.head, k + 1, held, next) {
                 Ok(_) => Ok(()),
                 Err(cause) => Err(cause),
@@ -111,10 +109,10 @@ fn read_data_block(
     requires begun { IsBegun image.now }
     requires size { file.now.size ≡ word_in image.now file.now.head SIZE }
     requires count { file.now.count ≡ data_count image.now file.now.head }
-    requires enough { file.now.count ≤ 72 * length table.now }
+    requires enough { file.now.count ≤ POINTERS * length table.now }
     requires inside { k < file.now.count }
-    requires holder { holder ≡ slice_index table.now (k / 72) }
-    requires named { b ≡ word_in image.now (slice_index table.now (k / 72)) (table_word k) }
+    requires holder { holder ≡ slice_index table.now (k / POINTERS) }
+    requires named { b ≡ word_in image.now (slice_index table.now (k / POINTERS)) (table_word k) }
     requires state { IsInDatas image.now (store_of found.old) file.now.node file.now.head table.now k }
     ensures state { OnOk result (IsInDatas image.now (store_of found.new) file.now.node file.now.head table.now (k + 1)) }
     ensures fewer { OnOk result (IsFurther found.old found.new) }
@@ -141,18 +139,18 @@ fn read_named(
     requires begun { IsBegun image.now }
     requires size { file.now.size ≡ word_in image.now file.now.head SIZE }
     requires count { file.now.count ≡ data_count image.now file.now.head }
-    requires enough { file.now.count ≤ 72 * length table.now }
-    requires inside { 72 * m < file.now.count }
-    requires state { IsInDatas image.now (store_of found.old) file.now.node file.now.head table.now (72 * m) }
-    ensures state { OnOk result (IsInDatas image.now (store_of found.new) file.now.node file.now.head table.now (min (72 * (m + 1)) file.now.count)) }
+    requires enough { file.now.count ≤ POINTERS * length table.now }
+    requires inside { POINTERS * m < file.now.count }
+    requires state { IsInDatas image.now (store_of found.old) file.now.node file.now.head table.now (POINTERS * m) }
+    ensures state { OnOk result (IsInDatas image.now (store_of found.new) file.now.node file.now.head table.now (min (POINTERS * (m + 1)) file.now.count)) }
     ensures fewer { OnOk result (IsFurther found.old found.new) }
     ensures fault { IfErr result (λ f. IsTrueFault image.now f) }
 {
     let count = file.count;
     let holder = table[m as usize];
     let names = image.table(holder);
-    let first = 72 * m;
-    let len = (count - first).min(72);
+    let first = POINTERS as u32 * m;
+    let len = (count - first).min(POINTERS as u32);
     for k in first..first + len {
         let b = names.pointer((k - first) as usize);
         read_data_block(image, found, table, file, holder, b, k)?;
@@ -178,7 +176,7 @@ pub fn read_datas(
     ensures fault { IfErr result (λ f. IsTrueFault image.now f) }
 {
     let count = count_of(image.kind(), size);
-    let tables = count.div_ceil(72);
+    let tables = count.div_ceil(POINTERS as u32);
     if tables as usize > table.len() {
         return Err(fault_at(head, Cause::ShortFile));
     }

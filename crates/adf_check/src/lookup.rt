@@ -1,7 +1,7 @@
 // Look-up along the chains of an image.
 
 ghost use Rattle.std.specs.Prelude.{◌≡◌, ◌≢◌, ◌≤◌, ◌<◌, ◌+◌, length, map, IfSome};
-ghost use Rattle.adf_blocks.specs.declared.layout.TheConstants.{NEXT_IN_CHAIN};
+ghost use Rattle.adf_blocks.specs.declared.layout.TheConstants.{NEXT_IN_CHAIN, SLOTS};
 ghost use Rattle.adf_tree.specs.Tree.{Tree, child, find_from};
 ghost use Rattle.adf_blocks.specs.Sizes.{blocks};
 ghost use Rattle.adf_volume.specs.Image.{word_in};
@@ -49,7 +49,7 @@ fn node_at(owners: &OwnerTable, b: u32) -> Option<Node>
 fn first_of(image: &Image<'_>, found: &Found, parent: Node, slot: u8) -> u32
     requires tells { StoreFits image.now (store_of found.now) }
     requires node { parent ≤ length found.now.rows.items }
-    requires slot { slot < 72 }
+    requires slot { slot < SLOTS }
     ensures { (t : Tree) (l : Layout) → StoreStandsFor image.now (store_of found.now) t l
         → Spelled (λ b. word_in image.now b NEXT_IN_CHAIN) result (map (at_node image.now l) (chain_nodes t parent slot)) }
 {

@@ -1,13 +1,12 @@
 // The bytes of files, piece by piece.
 
-ghost use Rattle.std.specs.Prelude.{List, [], IsOk, ◌≡◌, ◌≢◌, ◌≤◌, ◌<◌, ◌+◌, ◌++◌, ℕ, length, option_map, take, drop, IfOk, IfSome};
+ghost use Rattle.std.specs.Prelude.{List, [], IsOk, ◌≡◌, ◌≤◌, ◌<◌, ◌+◌, ℕ, length, option_map, take, drop, IfOk, IfSome};
 ghost use Rattle.std.specs.Iterator.{YieldsFirstRef, item_count};
 ghost use Rattle.std.specs.List.{All, concat};
 ghost use Rattle.adf_tree.specs.Tree.{Tree, entry};
-ghost use Rattle.adf_tree.specs.declared.entry.Kind.TheVariants.{Ffs};
 ghost use Rattle.adf_blocks.specs.Sizes.{blocks, count};
-ghost use Rattle.adf_volume.specs.Image.{held, kind_of, piece, pieces, word_in};
-ghost use Rattle.adf_volume.specs.Layout.{Layout, at_node, datas_of};
+ghost use Rattle.adf_volume.specs.Image.{kind_of, piece, pieces};
+ghost use Rattle.adf_volume.specs.Layout.{Layout, datas_of};
 ghost use Rattle.adf_check.specs.StoredVolume.{StoreStandsFor};
 ghost use Rattle.adf_check.specs.Reading.{StoreFits};
 ghost use Rattle.adf_check.specs.Found.{store_of};
@@ -17,7 +16,7 @@ use crate::datas::{count_of, held_in};
 use crate::found::Found;
 use crate::image::Image;
 use crate::lookup::block_of;
-use adf_blocks::HeadBody;
+use adf_blocks::{DATA_BYTES, HeadBody};
 use adf_fields::{Block, NoMemory};
 use adf_tree::{Kind, Node};
 use std::alloc::Global;
@@ -45,30 +44,16 @@ impl<'a> Model for Pieces<'a> {
     ghost invariant = { λ p. AreInside p.bytes.now p.datas.now p.number };
 }
 
-// The bytes that data block `number`, from 1 on, of an FFS file of so many bytes holds.
-#[tactic(auto, unfolding(adf_volume::specs::Image::held, adf_blocks::specs::Sizes::chunk))]
-fn held_in_ffs(size: u32, number: u32) -> u32
-    requires { 1 ≤ number }
-    ensures exact { result ≡ held Ffs size number }
-    ensures small { result ≤ 512 }
-{
-    let end = 512 * u64::from(number);
-    let size = u64::from(size);
-    if end < size {
-        512
-    } else {
-        size.saturating_sub(end - 512) as u32
-    }
-}
-
 // What data block `number`, from 1 on, of a file of so many bytes holds of it.
+#[tactic(auto, unfolding(adf_blocks::specs::Sizes::chunk))]
 fn piece_of<'a>(b: Block<'a>, kind: Kind, size: u32, number: u32) -> &'a [u8]
     requires { 1 ≤ number }
     ensures { result.now ≡ piece kind size number b.entry }
 {
+    let held = held_in(kind, size, number) as usize;
     match kind {
-        Kind::Ofs => b.bytes(24, held_in(size, number) as usize),
-        Kind::Ffs => b.bytes(0, held_in_ffs(size, number) as usize),
+        Kind::Ofs => b.bytes(DATA_BYTES, held),
+        Kind::Ffs => b.bytes(0, held),
     }
 }
 
