@@ -18,7 +18,8 @@ use Rattle.adf_check.specs.declared.fault.Fault.{Fault}
 use Rattle.adf_cmd.specs.Answers.{Answer, Answers, AnswersPart, BuildsOrIsFull, Copies, FitAlone, IsBadPath, IsPart, RefusesImage, contents_at}
 use Rattle.adf_cmd.specs.CommandLine.{Asks, Request, build, cat, check, convert, list}
 use Rattle.adf_manifest.specs.Manifest.{ExplainsFault, IsManifest}
-use Rattle.adf_cmd.specs.Outcomes.{CopyWorks, IsFaultOutcome, IsRefusal, IsRefusedImage, TellsFault, TreeWorks, Works, is_read_fault, line_of, status_of}
+use Rattle.adf_cmd.specs.Outcomes.{CopyWorks, IsFaultOutcome, IsRefusal, IsRefusedImage, IsUnread, TellsFault, TreeWorks, Works}
+use Rattle.adf_cmd.specs.Outcomes.{is_read_fault, line_of, status_of}
 use Rattle.adf_cmd.specs.Streams.{AppendsPart, Says}
 use Rattle.adf_texts.specs.Lines.{fault_line, ok_line}
 use Rattle.adf_texts.specs.VolumeLines.{volume_lines}
@@ -43,6 +44,16 @@ CountsOf image counts = (t : Tree) × (l : Layout) × FitAlone image t l × (cou
 pub accepted_part : (image line : List ℕ) (counts : Counts) (o o' : Option (List ℕ)) → CountsOf image counts → line ≡ ok_line counts → AppendsPart o o' line
     → IsPart check image o o'
 accepted_part image line counts o o' (t, l, fits, numbers) e part = (0, line, [], inl (t, l, fits, refl, e ∙ ap ok_line numbers, refl), part)
+
+-- an input that did not come is not answered
+unread : (w : Outcome) (r : Request) (input : List ℕ) (o : Option (List ℕ)) → IsUnread w → Works w r input o o
+unread ReadFault r input o h = appends_nil o
+unread NoMemory r input o h = inl (appends_nil o)
+unread _ r input o h = absurd h
+
+pub unread_works : (w : Outcome) (r : Request) (left : Option (List ℕ)) (o : Option (List ℕ)) → IsUnread w → IfSome left (λ bytes. Works w r bytes o o)
+unread_works w r (Some bytes) o h = unread w r bytes o h
+unread_works w r None o h = tt
 
 -- what is told of a fault answers the refused image
 pub refused_works : (w : Outcome) (image : List ℕ) (f : Fault) (o o' : Option (List ℕ)) → f.cause ≢ CauseNoMemory

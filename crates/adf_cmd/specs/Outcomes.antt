@@ -45,6 +45,12 @@ abbrev pub is_write_fault : Outcome → Bool
 is_write_fault WriteFault = true
 is_write_fault _ = false
 
+-- the input did not come: its device failed, or memory was refused
+abbrev pub IsUnread : Outcome → Type 0
+IsUnread ReadFault = Unit {0}
+IsUnread NoMemory = Unit {0}
+IsUnread _ = ⊥
+
 -- output got an answer at this status that says this on errors
 abbrev pub Writes : Request → List ℕ → ℕ → List ℕ → Option (List ℕ) → Option (List ℕ) → Type 0
 Writes r input status errors o o' = (output : List ℕ) × Answer r input status output errors × Appends o o' output

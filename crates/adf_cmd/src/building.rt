@@ -1,6 +1,6 @@
 // The command `build`.
 
-ghost use Rattle.std.specs.Prelude.{◌≡◌, ◌<◌, ◌^◌, ◌++◌, ◌+◌, true, false, length, OnOk, OnErr, IfOk, IfSome, Some, if◌then◌else◌};
+ghost use Rattle.std.specs.Prelude.{◌≡◌, ◌<◌, ◌^◌, ◌+◌, true, false, length, OnOk, OnErr, IfSome, Some, if◌then◌else◌};
 ghost use Rattle.std.specs.Io.KnownBytes.{Appends};
 ghost use Rattle.adf_blocks.specs.Sizes.{is_allowed};
 ghost use Rattle.adf_cmd.specs.Answers.{limit_of};
@@ -10,9 +10,10 @@ ghost use Rattle.adf_cmd.specs.Outcomes.{IsFaultOutcome, IsFullOutcome, TreeWork
 ghost use Rattle.adf_cmd.specs.Streams.{AppendsPart, TakesAtMost, is_device};
 
 use crate::devices::{Sink, Source};
+use crate::inputs::read_input;
 use crate::listing::write_listing;
 use crate::outcome::Outcome;
-use crate::streams::{StreamFault, read_all, write_all};
+use crate::streams::{StreamFault, write_all};
 use adf_build::{BuildFault, build};
 use adf_manifest::{MOST_BYTES, ManifestFault, ManifestKind, read_manifest};
 use adf_texts::{push_full, push_manifest_fault};
@@ -35,10 +36,8 @@ fn write_image<W: Sink>(
     if lines {
         return write_listing(alloc, image, output);
     }
-    match write_all(output, image) {
-        Ok(()) => Ok(()),
-        Err(_) => Err(StreamFault::Device),
-    }
+    write_all(output, image)?;
+    Ok(())
 }
 
 // Says that a tree does not fit in.
@@ -105,6 +104,7 @@ fn build_manifest<W: Sink>(alloc: Global, bytes: &[u8], lines: bool, output: &mu
 }
 
 /// Reads a manifest, builds its tree and writes the image, or the lines of the image's words.
+#[tactic(auto, using(crate::proofs::AnswerLaws::unread_works))]
 pub fn build_input<R: Source, W: Sink>(
     alloc: Global,
     lines: bool,
@@ -119,9 +119,8 @@ pub fn build_input<R: Source, W: Sink>(
     ensures unwritten { is_read_fault result ≡ true → output.new ≡ output.old }
     ensures at_most { TakesAtMost (limit_of (Some (build lines)) + 1) (R.left input.old) (R.left input.new) }
 {
-    match read_all(alloc, input, MOST_BYTES) {
+    match read_input(alloc, input, MOST_BYTES) {
         Ok(bytes) => build_manifest(alloc, &bytes, lines, output),
-        Err(StreamFault::Device) => Outcome::ReadFault,
-        Err(StreamFault::NoMemory) => Outcome::NoMemory,
+        Err(outcome) => outcome,
     }
 }

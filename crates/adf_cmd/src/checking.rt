@@ -1,6 +1,6 @@
 // The command `check`.
 
-ghost use Rattle.std.specs.Prelude.{◌≡◌, ◌++◌, ◌+◌, false, OnOk, IfOk, IfSome, Some, string_bytes, true};
+ghost use Rattle.std.specs.Prelude.{◌≡◌, ◌+◌, false, IfOk, IfSome, Some, string_bytes, true};
 ghost use Rattle.adf_tree.specs.Tree.{Tree};
 ghost use Rattle.adf_volume.specs.Layout.{Layout};
 ghost use Rattle.adf_check.specs.Volumes.{StandsFor};
@@ -8,12 +8,13 @@ ghost use Rattle.adf_cmd.specs.Answers.{limit_of};
 ghost use Rattle.adf_cmd.specs.CommandLine.{check};
 ghost use Rattle.adf_cmd.specs.Outcomes.{TellsFault, Works, is_read_fault, is_write_fault};
 ghost use Rattle.adf_cmd.specs.Streams.{TakesAtMost};
-ghost use Rattle.adf_texts.specs.Lines.{fault_line, ok_line};
+ghost use Rattle.adf_texts.specs.Lines.{ok_line};
 
 use crate::devices::{Sink, Source};
 use crate::images::{MOST_IMAGE_BYTES, refused_line};
+use crate::inputs::read_input;
 use crate::outcome::Outcome;
-use crate::streams::{StreamFault, read_all, write_all};
+use crate::streams::write_all;
 use adf_blocks::Cause;
 use adf_check::{Checked, Counts, Fault, check};
 use adf_texts::push_counts;
@@ -80,6 +81,7 @@ fn check_image<W: Sink>(alloc: Global, image: &[u8], output: &mut W) -> Outcome
 }
 
 /// Reads an image, checks it and writes the verdict.
+#[tactic(auto, using(crate::proofs::AnswerLaws::unread_works))]
 pub fn check_input<R: Source, W: Sink>(alloc: Global, input: &mut R, output: &mut W) -> Outcome
     requires reads { R.has_failed input.old ≡ false }
     requires writes { W.has_failed output.old ≡ false }
@@ -89,9 +91,8 @@ pub fn check_input<R: Source, W: Sink>(alloc: Global, input: &mut R, output: &mu
     ensures unwritten { is_read_fault result ≡ true → output.new ≡ output.old }
     ensures at_most { TakesAtMost (limit_of (Some check) + 1) (R.left input.old) (R.left input.new) }
 {
-    match read_all(alloc, input, MOST_IMAGE_BYTES) {
+    match read_input(alloc, input, MOST_IMAGE_BYTES) {
         Ok(image) => check_image(alloc, &image, output),
-        Err(StreamFault::Device) => Outcome::ReadFault,
-        Err(StreamFault::NoMemory) => Outcome::NoMemory,
+        Err(outcome) => outcome,
     }
 }

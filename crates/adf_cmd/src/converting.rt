@@ -12,8 +12,8 @@ ghost use Rattle.adf_cmd.specs.Streams.{TakesAtMost};
 use crate::building::build_tree;
 use crate::devices::{Sink, Source};
 use crate::images::{MOST_IMAGE_BYTES, volume_of};
+use crate::inputs::read_input;
 use crate::outcome::Outcome;
-use crate::streams::{StreamFault, read_all};
 use adf_tree::{Kind, Tree};
 use std::alloc::Global;
 
@@ -66,6 +66,7 @@ fn convert_image<W: Sink>(alloc: Global, image: Vec<u8>, kind: Kind, output: &mu
 }
 
 /// Reads an image, checks it and writes the image of its tree as one of another kind, in as many blocks.
+#[tactic(auto, using(crate::proofs::AnswerLaws::unread_works))]
 pub fn convert_input<R: Source, W: Sink>(
     alloc: Global,
     kind: Kind,
@@ -80,9 +81,8 @@ pub fn convert_input<R: Source, W: Sink>(
     ensures unwritten { is_read_fault result ≡ true → output.new ≡ output.old }
     ensures at_most { TakesAtMost (MOST_IMAGE_BYTES + 1) (R.left input.old) (R.left input.new) }
 {
-    match read_all(alloc, input, MOST_IMAGE_BYTES) {
+    match read_input(alloc, input, MOST_IMAGE_BYTES) {
         Ok(image) => convert_image(alloc, image, kind, output),
-        Err(StreamFault::Device) => Outcome::ReadFault,
-        Err(StreamFault::NoMemory) => Outcome::NoMemory,
+        Err(outcome) => outcome,
     }
 }

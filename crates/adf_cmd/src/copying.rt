@@ -14,8 +14,9 @@ ghost use Rattle.adf_cmd.specs.Streams.{AppendsPart, KeepsPending, TakesAtMost, 
 
 use crate::devices::{Sink, Source};
 use crate::images::{MOST_IMAGE_BYTES, volume_of};
+use crate::inputs::read_input;
 use crate::outcome::Outcome;
-use crate::streams::{StreamFault, flush_long, read_all, write_all};
+use crate::streams::{StreamFault, flush_long, write_all};
 use adf_check::{Checked, Pieces};
 use adf_tree::Name;
 use std::alloc::Global;
@@ -27,13 +28,9 @@ fn copy_piece<W: Sink>(piece: &[u8], text: &mut Vec<u8>, output: &mut W) -> Resu
     ensures err { OnErr result (AppendsPart (W.held output.old) (W.held output.new) (text.old.items ++ piece.now)) }
     ensures failed { W.has_failed output.new ≡ is_device result }
 {
-    match text.extend_from_slice(piece) {
-        Ok(()) => match flush_long(output, text) {
-            Ok(()) => Ok(()),
-            Err(_) => Err(StreamFault::Device),
-        },
-        Err(_) => Err(StreamFault::NoMemory),
-    }
+    text.extend_from_slice(piece)?;
+    flush_long(output, text)?;
+    Ok(())
 }
 
 // Writes the pieces of a file, one after the other.
@@ -51,10 +48,8 @@ fn write_pieces<W: Sink>(
     for piece in pieces {
         copy_piece(piece, &mut text, output)?;
     }
-    match write_all(output, &text) {
-        Ok(()) => Ok(()),
-        Err(_) => Err(StreamFault::Device),
-    }
+    write_all(output, &text)?;
+    Ok(())
 }
 
 // Writes the bytes of the file under a path.
@@ -96,6 +91,7 @@ fn cat_image<W: Sink>(alloc: Global, image: &[u8], names: &[Name], output: &mut 
 }
 
 /// Reads an image, checks it and writes the bytes of the file under a path.
+#[tactic(auto, using(crate::proofs::AnswerLaws::unread_works))]
 pub fn cat_input<R: Source, W: Sink>(
     alloc: Global,
     names: &[Name],
@@ -111,9 +107,8 @@ pub fn cat_input<R: Source, W: Sink>(
     ensures unwritten { is_read_fault result ≡ true → output.new ≡ output.old }
     ensures at_most { TakesAtMost (MOST_IMAGE_BYTES + 1) (R.left input.old) (R.left input.new) }
 {
-    match read_all(alloc, input, MOST_IMAGE_BYTES) {
+    match read_input(alloc, input, MOST_IMAGE_BYTES) {
         Ok(image) => cat_image(alloc, &image, names, output),
-        Err(StreamFault::Device) => Outcome::ReadFault,
-        Err(StreamFault::NoMemory) => Outcome::NoMemory,
+        Err(outcome) => outcome,
     }
 }

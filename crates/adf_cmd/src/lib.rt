@@ -8,6 +8,7 @@ mod converting;
 mod copying;
 mod devices;
 mod images;
+mod inputs;
 mod listing;
 mod outcome;
 mod round_trip;

@@ -48,13 +48,9 @@ fn list_block<W: Sink>(
     ensures failed { W.has_failed output.new ≡ is_device result }
 {
     let block = Block::at(image, b).unwrap();
-    match push_lines(text, b, &block) {
-        Ok(()) => match flush_long(output, text) {
-            Ok(()) => Ok(()),
-            Err(_) => Err(StreamFault::Device),
-        },
-        Err(_) => Err(StreamFault::NoMemory),
-    }
+    push_lines(text, b, &block)?;
+    flush_long(output, text)?;
+    Ok(())
 }
 
 /// Writes the lines of an image's words that are not 0. `Device` where the writer failed, `NoMemory`
@@ -74,8 +70,6 @@ pub fn write_listing<W: Sink>(
     for b in 0..image.len() / BLOCK_LEN {
         list_block(image, b as u32, &mut text, output)?;
     }
-    match write_all(output, &text) {
-        Ok(()) => Ok(()),
-        Err(_) => Err(StreamFault::Device),
-    }
+    write_all(output, &text)?;
+    Ok(())
 }

@@ -1,6 +1,6 @@
 // Whole reads and writes over devices.
 
-ghost use Rattle.std.specs.Prelude.{◌≡◌, [], ◌+◌, ◌-◌, ◌<◌, ◌≤◌, ◌^◌, false, is_err, IfOk, OnOk, OnErr, IfSome, length, take, vec_len};
+ghost use Rattle.std.specs.Prelude.{◌≡◌, [], ◌+◌, ◌<◌, ◌^◌, false, is_err, IfOk, OnOk, OnErr, IfSome, length, take, vec_len};
 ghost use Rattle.std.specs.Io.KnownBytes.{Appends};
 ghost use Rattle.adf_cmd.specs.Streams.{AppendsPart, KeepsPending, Says, TakesAtMost, is_device};
 
@@ -14,6 +14,26 @@ pub enum StreamFault {
     Device,
     /// Memory was refused.
     NoMemory,
+}
+
+impl From<Failed> for StreamFault {
+    ghost use Rattle.adf_cmd.specs.declared.streams.StreamFault.TheVariants.{Device};
+
+    ghost from_gives = { λ _ e. e ≡ Device };
+
+    fn from(_e: Failed) -> StreamFault {
+        StreamFault::Device
+    }
+}
+
+impl From<AllocError> for StreamFault {
+    ghost use Rattle.adf_cmd.specs.declared.streams.StreamFault.TheVariants.{NoMemory};
+
+    ghost from_gives = { λ _ e. e ≡ NoMemory };
+
+    fn from(_e: AllocError) -> StreamFault {
+        StreamFault::NoMemory
+    }
 }
 
 /// Bytes of the buffer that is read through, and of the text that waits to be written.
@@ -56,17 +76,11 @@ fn read_through<R: Source>(
     let mut all = room_for_input(alloc);
     while all.len() <= limit {
         let room = (limit + 1 - all.len()).min(buffer.len());
-        match input.read(&mut buffer[..room]) {
-            Ok(count) => {
-                if count == 0 {
-                    return Ok(all);
-                }
-                if all.extend_from_slice(&buffer[..count]).is_err() {
-                    return Err(StreamFault::NoMemory);
-                }
-            }
-            Err(_) => return Err(StreamFault::Device),
+        let count = input.read(&mut buffer[..room])?;
+        if count == 0 {
+            return Ok(all);
         }
+        all.extend_from_slice(&buffer[..count])?;
     }
     Ok(all)
 }
@@ -84,10 +98,8 @@ pub fn read_all<R: Source>(
     ensures at_most { TakesAtMost (limit + 1) (R.left input.old) (R.left input.new) }
     ensures failed { R.has_failed input.new ≡ is_device result }
 {
-    match new_buffer(alloc, CHUNK) {
-        Ok(mut buffer) => read_through(alloc, input, limit, &mut buffer),
-        Err(_) => Err(StreamFault::NoMemory),
-    }
+    let mut buffer = new_buffer(alloc, CHUNK)?;
+    read_through(alloc, input, limit, &mut buffer)
 }
 
 /// Writes all the bytes. `Failed` where the writer failed or took 0 of some bytes; then a front part

@@ -15,8 +15,9 @@ ghost use Rattle.adf_cmd.specs.Streams.{AppendsPart, KeepsPending, TakesAtMost, 
 
 use crate::devices::{Sink, Source};
 use crate::images::{MOST_IMAGE_BYTES, volume_of};
+use crate::inputs::read_input;
 use crate::outcome::Outcome;
-use crate::streams::{StreamFault, flush_long, read_all, write_all};
+use crate::streams::{StreamFault, flush_long, write_all};
 use adf_check::Checked;
 use adf_texts::{push_entry_lines, push_opening_lines};
 use adf_tree::{Name, Node};
@@ -86,13 +87,9 @@ fn list_entry<W: Sink>(
         → OnErr result (AppendsPart (W.held output.old) (W.held output.new) (text.old.items ++ lines_of_entry date t.entries n)) }
     ensures failed { W.has_failed output.new ≡ is_device result }
 {
-    match push_entry(alloc, volume, n, text) {
-        Ok(()) => match flush_long(output, text) {
-            Ok(()) => Ok(()),
-            Err(_) => Err(StreamFault::Device),
-        },
-        Err(_) => Err(StreamFault::NoMemory),
-    }
+    push_entry(alloc, volume, n, text)?;
+    flush_long(output, text)?;
+    Ok(())
 }
 
 // Writes the text that waits, and the lines of the entries behind it.
@@ -113,10 +110,8 @@ fn write_entries<W: Sink>(
     for i in 0..volume.len() {
         list_entry(alloc, volume, Node(i + 1), &mut text, output)?;
     }
-    match write_all(output, &text) {
-        Ok(()) => Ok(()),
-        Err(_) => Err(StreamFault::Device),
-    }
+    write_all(output, &text)?;
+    Ok(())
 }
 
 // Writes the lines of a volume.
@@ -134,10 +129,8 @@ fn write_volume<W: Sink>(
     ensures failed { W.has_failed output.new ≡ is_device result }
 {
     let mut text = Vec::new(alloc);
-    match push_opening(volume, &mut text) {
-        Ok(()) => write_entries(alloc, volume, text, output),
-        Err(_) => Err(StreamFault::NoMemory),
-    }
+    push_opening(volume, &mut text)?;
+    write_entries(alloc, volume, text, output)
 }
 
 // Writes the lines of a volume, and tells how that went.
@@ -169,6 +162,7 @@ fn list_image<W: Sink>(alloc: Global, image: &[u8], output: &mut W) -> Outcome
 }
 
 /// Reads an image, checks it and writes the lines of its volume.
+#[tactic(auto, using(crate::proofs::AnswerLaws::unread_works))]
 pub fn list_input<R: Source, W: Sink>(alloc: Global, input: &mut R, output: &mut W) -> Outcome
     requires reads { R.has_failed input.old ≡ false }
     requires writes { W.has_failed output.old ≡ false }
@@ -178,9 +172,8 @@ pub fn list_input<R: Source, W: Sink>(alloc: Global, input: &mut R, output: &mut
     ensures unwritten { is_read_fault result ≡ true → output.new ≡ output.old }
     ensures at_most { TakesAtMost (MOST_IMAGE_BYTES + 1) (R.left input.old) (R.left input.new) }
 {
-    match read_all(alloc, input, MOST_IMAGE_BYTES) {
+    match read_input(alloc, input, MOST_IMAGE_BYTES) {
         Ok(image) => list_image(alloc, &image, output),
-        Err(StreamFault::Device) => Outcome::ReadFault,
-        Err(StreamFault::NoMemory) => Outcome::NoMemory,
+        Err(outcome) => outcome,
     }
 }

@@ -27,7 +27,7 @@ returns-in_err-copy_piece-clause-err g c =
     let whole = piece_done _ _ _ _ _ step so_far.2 in
     on_err c.from_residual.result (pending_fails _ _ _ _ _ _ _ whole (pending_more _ _ _ _ _ _ refl so_far.1) c.in_err-copy_piece.ensures.err)
 
-pub returns-clause-err : goal.returns-clause-err
-returns-clause-err g c =
+pub returns-in_err-write_all-clause-err : goal.returns-in_err-write_all-clause-err
+returns-in_err-write_all-clause-err g c =
     let so_far = c.loop-piece.invariant.so_far in
-    pending_fails _ _ _ _ _ _ _ so_far.2 so_far.1 (rw c.deref.ensures.value at c.in-Err.ensures.err)
+    on_err c.from_residual-in_err-write_all.result (pending_fails _ _ _ _ _ _ _ so_far.2 so_far.1 (rw c.deref.ensures.value at c.in_err-write_all.ensures.err))

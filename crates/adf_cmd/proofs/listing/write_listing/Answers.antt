@@ -21,11 +21,12 @@ returns-in_err-list_block-clause-err g c =
     let front = listing_front c.args.image.now (c.loop-b.b + 1) (omega arith) in
     on_err c.from_residual.result (pending_fails _ _ _ _ _ front.0 _ front.1 more c.in_err-list_block.ensures.err)
 
-pub returns-in-Ok-clause-ok : goal.returns-in-Ok-clause-ok
-returns-in-Ok-clause-ok g c = rw (listing_whole c.args.image.now c.loop-b.b (omega arith))
-    (pending_end _ _ _ _ _ c.loop-b.invariant.so_far (rw c.deref.ensures.value at c.in-Ok.ensures.ok))
+pub returns-clause-ok : goal.returns-clause-ok
+returns-clause-ok g c = rw (listing_whole c.args.image.now c.loop-b.b (omega arith))
+    (pending_end _ _ _ _ _ c.loop-b.invariant.so_far (rw c.deref.ensures.value at c.in_ok-write_all.ensures.ok))
 
-pub returns-clause-err : goal.returns-clause-err
-returns-clause-err g c =
+pub returns-in_err-write_all-clause-err : goal.returns-in_err-write_all-clause-err
+returns-in_err-write_all-clause-err g c =
     let front = listing_front c.args.image.now c.loop-b.b (omega arith) in
-    pending_fails _ _ _ _ _ front.0 _ front.1 c.loop-b.invariant.so_far (rw c.deref.ensures.value at c.in-Err.ensures.err)
+    on_err c.from_residual-in_err-write_all.result (pending_fails _ _ _ _ _ front.0 _ front.1 c.loop-b.invariant.so_far
+    (rw c.deref.ensures.value at c.in_err-write_all.ensures.err))
