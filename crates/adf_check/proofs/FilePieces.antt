@@ -1,5 +1,5 @@
 -- The pieces of a file, joined, are its bytes.
-use Rattle.std.proofs.Common.{◌≡◌, ◌≢◌, ℕ, suc, List, [], ◌∷◌, length-append, ◌+◌, ◌-◌, ◌*◌, ◌^◌, ◌<◌, ◌≤◌, length, take, drop, min, get_or, refl, sym, ap, subst}
+use Rattle.std.proofs.Common.{◌≡◌, ◌≢◌, ℕ, zero, suc, List, [], ◌∷◌, length-append, ◌+◌, ◌-◌, ◌*◌, ◌^◌, ◌<◌, ◌≤◌, length, take, drop, min, get_or, refl, sym, ap, subst}
 use Rattle.std.proofs.Common.{◌∙◌, arith, Option, Some, None, length-take, length-drop}
 use Rattle.std.specs.Prelude.{slice_range}
 use Rattle.std.specs.List.{All, concat}
@@ -17,7 +17,7 @@ use Rattle.adf_blocks.specs.Sizes.{blocks, chunk, count}
 use Rattle.adf_volume.specs.Walk.Role.{Data}
 use Rattle.adf_volume.specs.Fits.{BodyFits}
 use Rattle.adf_volume.specs.Image.{area, content, held, kind_of, piece, pieces, word_in}
-use Rattle.adf_volume.specs.Layout.{EntryAt, Layout, at_node, datas_of}
+use Rattle.adf_volume.specs.Layout.{EntryAt, Layout, Place, at_node, datas_at, datas_of}
 use Rattle.adf_volume.specs.Lists.{At}
 use Rattle.adf_volume.proofs.Images.{area_length}
 use Rattle.adf_volume.proofs.Lists.{at_index_or}
@@ -110,6 +110,26 @@ pub record IsEntry (image : List ℕ) (store : Store) (n h : ℕ) : Type 0 where
   pub within : n ≤ length store.rows
   pub block : (t : Tree) (l : Layout) → StoreStandsFor image store t l → h ≡ at_node image l n
 
+-- the node is an entry, by its number and the number of rows
+pub is_entry : {image : List ℕ} {store : Store} {n m h : ℕ} → ((t : Tree) (l : Layout) → StoreStandsFor image store t l → h ≡ at_node image l n) → m ≡ n → m ≢ 0
+    → n ≤ length store.rows → IsEntry image store n h
+is_entry block view ne le = record { some = (λ z. ne (view ∙ z)); within = le; block = block }
+
+past : (qs : List Place) (i : ℕ) → length qs ≤ i → ◌≡◌ {A = List ℕ} [] (datas_at qs i)
+past [] i h = refl
+past (q ∷ qs) zero h = absurd (omega arith)
+past (q ∷ qs) (suc i) h = past qs i (omega arith)
+
+-- the root has no data blocks, and nothing past the last entry has
+pub root_datas : (l : Layout) (n m : ℕ) → m ≡ n → m ≡ 0 → ◌≡◌ {A = List ℕ} [] (datas_of l n)
+root_datas l zero m view e = refl
+root_datas l (suc i) m view e = absurd (omega arith)
+
+pub past_datas : {image : List ℕ} {store : Store} {t : Tree} {l : Layout} → StoreStandsFor image store t l → (n : ℕ) → length store.rows < n
+    → ◌≡◌ {A = List ℕ} [] (datas_of l n)
+past_datas k zero lt = absurd (omega arith)
+past_datas {l = l} k (suc i) lt = past l.places i (omega (arith, k.rows.count, k.fits.places))
+
 module _ {image : List ℕ} {store : Store} {n h : ℕ} (is : IsEntry image store n h) where
   module _ (t : Tree) (l : Layout) (k : StoreStandsFor image store t l) where
     here : (x : Entry) × EntryAt t n x
@@ -130,6 +150,9 @@ module _ {image : List ℕ} {store : Store} {n h : ℕ} (is : IsEntry image stor
 
     pub dir_bytes : word_in image h SECONDARY_TYPE ≡ ST_DIR → ◌≡◌ {A = Option (List ℕ)} None (bytes_of (entry t.entries n))
     dir_bytes w = sym (told ∙ ap bytes_in (body_dir k n h here.0.body body_fits w))
+
+    pub dir_datas : word_in image h SECONDARY_TYPE ≡ ST_DIR → ◌≡◌ {A = List ℕ} [] (datas_of l n)
+    dir_datas w = sym (subst (BodyFits image t.kind l n h) (body_dir k n h here.0.body body_fits w) body_fits).2
 
     module _ (w : word_in image h SECONDARY_TYPE ≢ ST_DIR) where
       file : (bytes : List ℕ) × (here.0.body ≡ File bytes)

@@ -6,7 +6,7 @@ ghost use Rattle.std.specs.List.{All, concat};
 ghost use Rattle.adf_tree.specs.Tree.{Tree, entry, find};
 ghost use Rattle.adf_blocks.specs.Sizes.{blocks};
 ghost use Rattle.adf_volume.specs.declared.owner.Owner.{Owner};
-ghost use Rattle.adf_volume.specs.Layout.{Layout, datas_of, owned};
+ghost use Rattle.adf_volume.specs.Layout.{Layout, at_node, datas_of, owned};
 ghost use Rattle.adf_volume.specs.Lists.{In};
 ghost use Rattle.adf_check.specs.Found.{store_of};
 ghost use Rattle.adf_check.specs.Pieces.{bytes_of, pieces_at};
@@ -16,8 +16,8 @@ ghost use Rattle.adf_check.specs.Volumes.{IsChecked, StandsFor, counts_of, is_di
 use crate::found::Found;
 use crate::image::Image;
 use crate::kept::KeptHeader;
-use crate::lookup::find;
-use crate::pieces::{Pieces, joined, pieces_of};
+use crate::lookup::{block_of, find};
+use crate::pieces::{Pieces, blocks_of, joined, pieces_of};
 use crate::rebuild::tree_of;
 use crate::row::{Row, row_of};
 use adf_blocks::{Head, HeadBody};
@@ -133,6 +133,24 @@ impl Checked<'_> {
         ensures { (t : Tree) (l : Layout) → StandsFor self.now t l → result ≡ find t.entries path.now }
     {
         find(&self.image, &self.found, path)
+    }
+
+    /// The block of the root, or of an entry's header; none past the last entry.
+    pub fn block_of(&self, n: Node) -> Option<u32>
+        ensures some { (t : Tree) (l : Layout) → StandsFor self.now t l → IsSome result ↔ (n ≤ length t.entries) }
+        ensures block { (t : Tree) (l : Layout) → StandsFor self.now t l → IfSome result (λ b. b ≡ at_node self.now.image l n) }
+    {
+        if self.found.rows.len() < n.0 {
+            return None;
+        }
+        Some(block_of(&self.image, &self.found, n))
+    }
+
+    /// The data blocks of a file, in the order of its bytes; none of the root, a directory and what is past the last entry.
+    pub fn blocks_of(&self, n: Node) -> &[u32]
+        ensures { (t : Tree) (l : Layout) → StandsFor self.now t l → result.now ≡ datas_of l n }
+    {
+        blocks_of(&self.image, &self.found, n)
     }
 
     /// The bytes of a file as slices of the image, one for each data block; none of the root, a directory and what is past the

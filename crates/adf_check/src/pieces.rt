@@ -112,6 +112,23 @@ fn datas_of<'a>(image: &Image<'_>, found: &'a Found, n: Node, size: u32) -> &'a 
     part(&found.datas, found.starts[n.0].datas as usize, count)
 }
 
+/// The data blocks of a file; none of the root, a directory and what is past the last entry.
+pub fn blocks_of<'a>(image: &Image<'_>, found: &'a Found, n: Node) -> &'a [u32]
+    requires { StoreFits image.now (store_of found.now) }
+    ensures { (t : Tree) (l : Layout) → StoreStandsFor image.now (store_of found.now) t l → result.now ≡ datas_of l n }
+{
+    if n.0 == 0 {
+        return &[];
+    }
+    if found.rows.len() < n.0 {
+        return &[];
+    }
+    match image.body(block_of(image, found, n)) {
+        HeadBody::Dir => &[],
+        HeadBody::File { size, .. } => datas_of(image, found, n, size),
+    }
+}
+
 /// The pieces of a file; none of the root, a directory and what is past the last entry.
 pub fn pieces_of<'a>(image: &Image<'a>, found: &'a Found, n: Node) -> Option<Pieces<'a>>
     requires { StoreFits image.now (store_of found.now) }

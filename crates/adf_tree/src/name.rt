@@ -74,7 +74,14 @@ impl Name {
     pub fn same(&self, other: &Name) -> bool
         ensures { result ≡ bytes_eq (uppers self.now) (uppers other.now) }
     {
-        are_same(self.bytes(), other.bytes())
+        other.matches(self.bytes())
+    }
+
+    /// Whether the bytes are equal to the name without the case of `a` to `z`.
+    pub fn matches(&self, bytes: &[u8]) -> bool
+        ensures { result ≡ bytes_eq (uppers bytes.now) (uppers self.now) }
+    {
+        are_same(bytes, self.bytes())
     }
 
     /// The bytes of the name.

@@ -21,7 +21,7 @@ unfolding area chunk
 area_length image Ofs b h l = let z = block_length image b h l in simp (length-take, length-drop) (omega arith)
 area_length image Ffs b h l = let z = block_length image b h l in simp (length-take, length-drop) (omega arith)
 
-joined_length : (image : List ℕ) (k : Kind) (bs : List ℕ) → length image ≡ 512 * blocks image → AreIn image bs
+pub joined_length : (image : List ℕ) (k : Kind) (bs : List ℕ) → length image ≡ 512 * blocks image → AreIn image bs
     → length (joined image k bs) ≡ chunk k * length bs
 joined_length image k [] h l = omega arith
 joined_length image k (b ∷ bs) h l =
@@ -29,7 +29,7 @@ joined_length image k (b ∷ bs) h l =
     let a : length (area k (block image b)) ≡ chunk k = area_length image k b h (l 0 b refl) in
     length-append (area k (block image b)) (joined image k bs) ∙ (omega arith)
 
-enough_bytes : (k : Kind) (size n : ℕ) → count k size ≡ n → size ≤ chunk k * n
+pub enough_bytes : (k : Kind) (size n : ℕ) → count k size ≡ n → size ≤ chunk k * n
 unfolding count chunk
 enough_bytes Ofs size n h = omega arith
 enough_bytes Ffs size n h = omega arith

@@ -1,19 +1,13 @@
-use Rattle.std.proofs.Common.{◌≡◌, ◌≢◌, ◌≤◌, ℕ, List, length, ap, sym, ◌∙◌, arith}
+use Rattle.std.proofs.Common.{length, ap, sym, ◌∙◌, arith}
 use Rattle.adf_blocks.specs.Sizes.{count}
 use Rattle.adf_volume.specs.Image.{kind_of}
-use Rattle.adf_volume.specs.Layout.{Layout, at_node}
 use Rattle.adf_volume.proofs.Pieces.{pieces_length}
 use Rattle.adf_check.proofs.HeaderBodies.{dir_type, file_words}
 use Rattle.adf_tree.specs.Tree.{Tree}
 use Rattle.adf_check.specs.StoredVolume.{StoreStandsFor}
 use Rattle.adf_check.specs.Store.{Store}
-use Rattle.adf_check.proofs.FilePieces.{IsEntry, data_count_is, dir_bytes, dir_pieces, made_exact, made_inside, made_joined, made_some}
+use Rattle.adf_check.proofs.FilePieces.{data_count_is, dir_bytes, dir_pieces, is_entry, made_exact, made_inside, made_joined, made_some}
 use Rattle.adf_check.proofs.pieces.pieces_of.Goals as goal
-
--- the node is an entry, by its number and the number of rows
-is_entry : {image : List ℕ} {store : Store} {n m h : ℕ} → ((t : Tree) (l : Layout) → StoreStandsFor image store t l → h ≡ at_node image l n) → m ≡ n → m ≢ 0
-    → n ≤ length store.rows → IsEntry image store n h
-is_entry block view ne le = record { some = (λ z. ne (view ∙ z)); within = le; block = block }
 
 pub returns-in_default-clause-joined : goal.returns-in_default-clause-joined
 returns-in_default-clause-joined c = λ t l k.
