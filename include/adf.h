@@ -1,4 +1,5 @@
-/* adf for C: checks an image of an Amiga volume, tells whose each block is, and runs the whole command over memory.
+/* adf for C: checks an image of an Amiga volume, tells whose each block is, makes tables by which
+ * its files are found and read, and runs the whole command over memory.
  *
  * The library is libadf_c.a, which `rt lib` in crates/adf_c leaves in crates/adf_c/out. Link it with liblibc_c.a of the
  * Rattle toolchain, which takes memory by malloc, realloc and free of the program:
@@ -35,7 +36,7 @@
 extern "C" {
 #endif
 
-/* Why an image is refused, as `adf_check` and `adf_owners` answer it. Within one block the causes are tried in this order. */
+/* Why an image is refused, as `adf_check`, `adf_owners` and `adf_index` answer it. Within one block the causes are tried in this order. */
 enum adf_cause {
     ADF_ACCEPTED = 0,
     ADF_BAD_SIZE = 1,       /* The length is no multiple of 512, or no allowed number of blocks. */
@@ -102,6 +103,88 @@ enum adf_role {
  * 1 to 23: as of adf_check, and the room stays as it was.
  */
 uint8_t adf_owners(const uint8_t *image, size_t length, uint8_t *roles, size_t room);
+
+/* Tables of a volume
+ *
+ * A program that shows a volume, as an emulator or a file system does, has it checked once by adf_index, which makes two tables
+ * of it in memory that the program gives, and then uses the tables as it likes: to list, by themselves; to look a path up,
+ * adf_find; to read a file, adf_read. adf_find takes memory for the names of the path, and adf_read none.
+ *
+ * The entries of a volume, its directories and files, are numbered from 1 on, and the root has the number 0. A directory comes
+ * before what is in it, and what is in one directory stands together, in the order of the slots and chains of the disk.
+ */
+
+/* A date of the file system, of no time zone. What a volume has may be no civil date. */
+struct adf_date {
+    uint32_t days;  /* since 1978-01-01 */
+    uint32_t mins;  /* of the day: 0 to 1439 */
+    uint32_t ticks; /* of 1/50 second, in the minute: 0 to 2999 */
+};
+
+/* An entry. Entry n stands at place n - 1 of the table. */
+struct adf_entry {
+    uint32_t parent;         /* the number of its directory, 0 for the root */
+    uint32_t header;         /* the block of its header */
+    uint32_t size;           /* bytes of a file, 0 of a directory */
+    uint32_t first;          /* the place of its first data block in the table of blocks */
+    uint32_t protection;     /* the protection word; a set bit of 0 to 3 forbids */
+    struct adf_date date;
+    uint8_t is_file;         /* 1 for a file, 0 for a directory */
+    uint8_t name_length;     /* 1 to 30 */
+    uint8_t name[30];        /* bytes but `/` and `:`, of no encoding, with zeros behind */
+    uint8_t comment_length;  /* 0 to 79 */
+    uint8_t comment[79];     /* with zeros behind */
+};
+
+/* What a volume has beside its entries. */
+struct adf_contents {
+    uint32_t kind;        /* an adf_kind */
+    uint32_t blocks;      /* all blocks, the two boot blocks among them */
+    uint32_t used;        /* blocks that parts of the volume own, so not the two boot blocks */
+    uint32_t free;        /* blocks from 2 on that no part owns */
+    size_t entries;       /* directories and files, the root not among them */
+    size_t data_blocks;   /* data blocks of all files */
+    uint32_t block;       /* of a refused image the block where the fault stands, else 0 */
+    struct adf_date root; /* the three dates of the root block: its own, that of the last change, that of the creation */
+    struct adf_date altered;
+    struct adf_date created;
+    uint8_t label_length; /* 1 to 30 */
+    uint8_t label[30];    /* with zeros behind */
+};
+
+/* Checks an image of so many bytes, and fills two tables, each as far as there is room: of its entries, and of the data blocks
+ * of its files, file after file in the order of the entries. Answers an adf_cause.
+ *
+ * 0: the image is that of one volume, and the tables and contents are its own. contents->entries and contents->data_blocks tell
+ *    how many there are of each, whatever the rooms: where a room is less, the table is only a front part, and a second call
+ *    with rooms of these sizes gives all. Both are below the number of blocks, length / 512. What is behind in a room stays.
+ * 1 to 22: no volume has this image. This is its first fault, and contents->block is where it stands; the other fields are 0,
+ *    and the tables stay as they were.
+ * 23: memory was refused; all fields are 0, and the tables stay as they were.
+ */
+uint8_t adf_index(const uint8_t *image, size_t length, struct adf_entry *entries, size_t entries_room,
+                  uint32_t *blocks, size_t blocks_room, struct adf_contents *contents);
+
+/* Looks a path up in a whole table of entries. It is written as `adf cat` takes it: names with `/` between them, in
+ * escape form, where a byte outside 32 to 126 and the backslash stand as \xHH. The case of a to z does not count. For each name
+ * it looks at some log(count) entries, and at those of the chain that the name would stand in.
+ *
+ * 0: node has the number of the entry, 0 for the empty path.
+ * 1: there is none, and node stays.
+ * 2: the text is that of no path, and node stays.
+ * 23: memory was refused, and node stays.
+ *
+ * In a table that adf_index did not make, or that has been changed, the answer is any, but the call is safe all the same.
+ */
+uint8_t adf_find(const struct adf_entry *entries, size_t count, const uint8_t *path, size_t path_length, size_t *node);
+
+/* Puts the bytes of file `node` from byte `offset` on into the room, as many as there are and fit, and answers how many: 0 for
+ * the root, a directory, a node past the last entry, and an offset past the end. What is behind them in the room stays. The
+ * work is by the bytes that are put. The image and the tables are those of one call of adf_index, whole and unchanged; with
+ * any others the bytes are any of the image, but the call is safe all the same.
+ */
+size_t adf_read(const uint8_t *image, size_t length, const struct adf_entry *entries, size_t entries_count,
+                const uint32_t *blocks, size_t blocks_count, size_t node, size_t offset, uint8_t *room, size_t room_length);
 
 struct adf_moved {
     size_t input;      /* bytes that were read */

@@ -3,3 +3,7 @@ pub mod Rooms
 pub mod WordParts
 -- what is told of a volume
 pub mod CheckedVolumes
+-- the tables of a volume
+pub mod TableLaws
+pub mod Readings
+pub mod TableNames

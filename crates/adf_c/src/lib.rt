@@ -1,8 +1,12 @@
 //! What a C program calls: include/adf.h.
 #![tactic(auto)]
 
+mod index;
+mod lookup;
 mod memory;
 mod owners;
+mod reading;
 mod running;
+mod tables;
 mod verdict;
 mod words;

@@ -33,7 +33,7 @@ pub struct Verdict {
     pub block: u32,
 }
 
-fn kind_number(kind: Kind) -> u32
+pub fn kind_number(kind: Kind) -> u32
     ensures { result ≡ kind_number kind }
 {
     match kind {

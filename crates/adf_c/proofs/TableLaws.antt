@@ -1,0 +1,248 @@
+-- The tables of a volume: how a room is filled, and what stands at each place.
+use Rattle.std.specs.Prelude.{◌≡◌, ◌+◌, ◌^◌, ◌≤◌, ◌<◌, ℕ, List, [], ◌∷◌, ◌++◌, Option, Some, None, IsSome, IfSome, get_or, length, take, drop, set}
+use Rattle.std.proofs.Common.{zero, suc, refl, sym, ap, subst, ◌∙◌, arith, append_assoc, length-append, take_all}
+use Rattle.std.proofs.lemmas.List.{append-nil, take-append-drop, take_more}
+use Rattle.adf_tree.specs.declared.entry.Entry.{Entry}
+use Rattle.adf_tree.specs.Tree.{Tree, IsTree, entry}
+use Rattle.adf_volume.specs.declared.owner.Owner.TheVariants.{Data, Ext, MapExt, Page}
+use Rattle.adf_volume.specs.Fits.{Fits}
+use Rattle.adf_volume.specs.Layout.{EntryAt, Layout, Place, datas_at, head_at, owned, owned_from}
+use Rattle.adf_volume.specs.Lists.{At, numbered}
+use Rattle.adf_volume.proofs.Chains.{entry_is_at, entry_some}
+use Rattle.adf_volume.proofs.Lists.{at_below, at_index_or, at_some}
+use Rattle.adf_check.specs.Rows.{EntryMatches, RowMatches}
+use Rattle.adf_check.specs.declared.row.Row.{Row}
+use Rattle.adf_c.specs.declared.tables.Contents.{Contents}
+use Rattle.adf_c.specs.declared.tables.TableEntry.{TableEntry}
+use Rattle.adf_c.specs.Tables.{all_datas, block_table, contents_of, entry_table, filled, told, told_from}
+
+take_none : {X : Type 0} (n : ℕ) → ◌≡◌ {A = List X} (take n []) []
+take_none zero = refl
+take_none (suc n) = refl
+
+pub take_zero : {X : Type 0} (xs : List X) → take 0 xs ≡ []
+take_zero [] = refl
+take_zero (x ∷ xs) = refl
+
+pub drop_zero : {X : Type 0} (xs : List X) → drop 0 xs ≡ xs
+drop_zero [] = refl
+drop_zero (x ∷ xs) = refl
+
+-- a room into which nothing is put
+pub filled_none : {X : Type 0} (room : List X) → filled [] room ≡ room
+filled_none room = ap (λ xs. xs ++ drop 0 room) (take_none (length room)) ∙ drop_zero room
+
+-- no room
+no_room : {X : Type 0} (xs : List X) → filled xs [] ≡ []
+no_room [] = refl
+no_room (x ∷ xs) = refl
+
+pub length_filled : {X : Type 0} (xs room : List X) → length (filled xs room) ≡ length room
+length_filled xs [] = ap length (no_room xs)
+length_filled [] (r ∷ rs) = ap length (filled_none (r ∷ rs))
+length_filled (x ∷ xs) (r ∷ rs) = ap suc (length_filled xs rs)
+
+-- one more is put behind those that are there
+pub filled_more : {X : Type 0} (xs room : List X) (i : ℕ) (x : X) → i ≡ length xs → i < length room
+    → set (filled xs room) i x ≡ filled (xs ++ x ∷ []) room
+filled_more xs [] i x e lt = absurd (omega arith)
+filled_more [] (r ∷ rs) zero x e lt = ap (λ ys. x ∷ ys) (drop_zero rs ∙ sym (filled_none rs))
+filled_more [] (r ∷ rs) (suc i) x e lt = absurd (omega arith)
+filled_more (y ∷ ys) (r ∷ rs) zero x e lt = absurd (omega arith)
+filled_more (y ∷ ys) (r ∷ rs) (suc i) x e lt = ap (λ zs. y ∷ zs) (filled_more ys rs i x (omega arith) (omega arith))
+
+-- what there is no room for changes nothing
+pub filled_full : {X : Type 0} (xs ys room : List X) → length room ≤ length xs → filled (xs ++ ys) room ≡ filled xs room
+filled_full xs ys [] le = no_room (xs ++ ys) ∙ sym (no_room xs)
+filled_full [] ys (r ∷ rs) le = absurd (omega arith)
+filled_full (x ∷ xs) ys (r ∷ rs) le = ap (λ zs. x ∷ zs) (filled_full xs ys rs (omega arith))
+
+length_taken : {X : Type 0} (xs : List X) (i : ℕ) → i ≤ length xs → length (take i xs) ≡ i
+length_taken [] zero le = refl
+length_taken [] (suc i) le = absurd (omega arith)
+length_taken (x ∷ xs) zero le = refl
+length_taken (x ∷ xs) (suc i) le = ap suc (length_taken xs i (omega arith))
+
+-- the first i + 1 are the first i and the one at place i
+taken_more : {X : Type 0} (xs : List X) (i : ℕ) (x : X) → At xs i x → take (i + 1) xs ≡ take i xs ++ x ∷ []
+taken_more xs i x at = take_more xs i x (at_below xs i x at) ∙ ap (λ y. take i xs ++ y ∷ []) (at_index_or xs i x x at)
+
+-- where one is put behind the first entries of a table, one more stands there
+pub entries_more : {X : Type 0} (xs room now next : List X) (i : ℕ) (x : X) → At xs i x
+    → ((ys zs : List X) → i ≡ length ys → now ≡ filled ys zs → next ≡ filled (ys ++ x ∷ []) zs)
+    → now ≡ filled (take i xs) room → next ≡ filled (take (i + 1) xs) room
+entries_more xs room now next i x at put e =
+    let below : i < length xs = at_below xs i x at in
+    put (take i xs) room (sym (length_taken xs i (omega arith))) e ∙ ap (λ ys. filled ys room) (sym (taken_more xs i x at))
+
+-- the entry at a place of the table
+told_at : (k : ℕ) (es : List Entry) (qs : List Place) (i : ℕ) (e : Entry) → At es i e → length qs ≡ length es
+    → At (told_from k es qs) i (told (head_at qs i) (k + length (all_datas (take i qs))) e)
+told_at k [] qs i e at z = absurd at
+told_at k (f ∷ es) [] i e at z = absurd (omega arith)
+told_at k (f ∷ es) (q ∷ qs) zero e at z = let same : k ≡ k + 0 = omega arith in λ i. told q.head (same i) (at i)
+told_at k (f ∷ es) (q ∷ qs) (suc i) e at z =
+    let all : k + length q.datas + length (all_datas (take i qs)) ≡ k + length (q.datas ++ all_datas (take i qs)) =
+    omega (arith, length-append q.datas (all_datas (take i qs))) in
+    subst (λ n. At (told_from (k + length q.datas) es qs) i (told (head_at qs i) n e)) all
+    (told_at (k + length q.datas) es qs i e at (omega arith))
+
+pub told_here : (t : Tree) (l : Layout) (i k : ℕ) (e : Entry) → At t.entries i e → length l.places ≡ length t.entries
+    → k ≡ length (all_datas (take i l.places)) → At (entry_table t l) i (told (head_at l.places i) k e)
+told_here t l i k e at z same =
+    let zero_more : 0 + length (all_datas (take i l.places)) ≡ k = omega arith in
+    subst (λ n. At (entry_table t l) i (told (head_at l.places i) n e)) zero_more (told_at 0 t.entries l.places i e at z)
+
+pub told_length : (k : ℕ) (es : List Entry) (qs : List Place) → length qs ≡ length es → length (told_from k es qs) ≡ length es
+told_length k [] qs z = refl
+told_length k (e ∷ es) [] z = absurd (omega arith)
+told_length k (e ∷ es) (q ∷ qs) z = ap suc (told_length (k + length q.datas) es qs (omega arith))
+
+-- the data blocks of one file more
+pub datas_more : (qs : List Place) (i : ℕ) → i < length qs → all_datas (take (suc i) qs) ≡ all_datas (take i qs) ++ datas_at qs i
+datas_more [] i lt = absurd (omega arith)
+datas_more (q ∷ qs) zero lt = ap (λ ps. q.datas ++ all_datas ps) (take_zero qs) ∙ append-nil q.datas
+datas_more (q ∷ qs) (suc i) lt = ap (λ bs. q.datas ++ bs) (datas_more qs i (omega arith)) ∙ sym (append_assoc q.datas (all_datas (take i qs)) (datas_at qs i))
+
+-- no more than of all files
+pub datas_within : (qs : List Place) (i : ℕ) → length (all_datas (take i qs)) ≤ length (all_datas qs)
+datas_within [] i = subst (λ ps. length (all_datas ps) ≤ 0) (sym (take_none i)) (omega arith)
+datas_within (q ∷ qs) zero = omega arith
+datas_within (q ∷ qs) (suc i) =
+    omega (arith, datas_within qs i, length-append q.datas (all_datas (take i qs)), length-append q.datas (all_datas qs))
+
+length_numbered : {X : Type 0} (f : ℕ → X) (k : ℕ) (bs : List ℕ) → length (numbered f k bs) ≡ length bs
+length_numbered f k [] = refl
+length_numbered f k (b ∷ bs) = ap suc (length_numbered f (suc k) bs)
+
+-- each header and each data block is a part of the volume
+parts_many : (n : ℕ) (qs : List Place) → length qs + length (all_datas qs) ≤ length (owned_from n qs)
+parts_many n [] = omega arith
+parts_many n (q ∷ qs) =
+    let exts = numbered (Ext n) 1 q.exts in
+    let datas = numbered (Data n) 1 q.datas in
+    let rest = owned_from (suc n) qs in
+    omega (
+      arith,
+      parts_many (suc n) qs,
+      length-append q.datas (all_datas qs),
+      length-append (exts ++ datas) rest,
+      length-append exts datas,
+      length_numbered (Data n) 1 q.datas,
+    )
+
+pub tables_small : (image : List ℕ) (l : Layout) → length l.places + length (block_table l) < length (owned image l)
+tables_small image l =
+    let pages = numbered Page 0 l.pages in
+    let exts = numbered MapExt 0 l.map_exts in
+    let rest = owned_from 1 l.places in
+    omega (arith, parts_many 1 l.places, length-append pages (exts ++ rest), length-append exts rest)
+
+-- the entry with a number that there is
+pub entry_there : (t : Tree) (n : ℕ) → 0 < n → n ≤ length t.entries → (e : Entry) × (entry t.entries n ≡ Some e)
+entry_there t n some le = let x = entry_some t n (omega arith) le in (x.0, (entry_is_at t n x.0).0 x.1)
+
+row_some : (r : Option Row) (e : Entry) → RowMatches r (Some e) → IsSome r
+row_some None e h = absurd h
+row_some (Some r) e h = refl
+
+pub row_there : (r : Option Row) (t : Tree) (n : ℕ) → 0 < n → n ≤ length t.entries → RowMatches r (entry t.entries n) → IsSome r
+row_there r t n some le h = let x = entry_there t n some le in row_some r x.0 (subst (RowMatches r) x.1 h)
+
+-- the row of an entry
+pub row_matches : (got : Option Row) (r : Row) (x : Option Entry) (e : Entry) → got ≡ Some r → x ≡ Some e → RowMatches got x → EntryMatches r e
+row_matches got r x e is at h = subst (RowMatches (Some r)) at (subst (λ g. RowMatches g x) is h)
+
+-- its directory has a number below its own
+parent_below : (t : Tree) (n : ℕ) (e : Entry) → IsTree t.entries → EntryAt t n e → e.parent < n
+parent_below t zero e tree at = absurd at
+parent_below t (suc i) e tree at =
+    let le = tree.parents i e (at_below t.entries i e at) in
+    let same = at_index_or t.entries i e e at in
+    omega (arith, subst (λ (x : Entry). x.parent ≤ i) same le)
+
+pub parent_small : (got : Option Row) (r : Row) (image : List ℕ) (t : Tree) (l : Layout) (n : ℕ) → got ≡ Some r → Fits image t l
+    → length (owned image l) < 2 ^ 32 → 0 < n → n ≤ length t.entries → RowMatches got (entry t.entries n) → r.parent < 2 ^ 32
+parent_small got r image t l n is fits few some le h =
+    let x = entry_some t n (omega arith) le in
+    let e : entry t.entries n ≡ Some x.0 = (entry_is_at t n x.0).0 x.1 in
+    omega (arith, (row_matches got r (entry t.entries n) x.0 is e h).parent, parent_below t n x.0 fits.tree x.1, tables_small image l, fits.places)
+
+-- the block that is told
+pub block_told : (got : Option ℕ) (b h : ℕ) → got ≡ Some b → IfSome got (λ c. c ≡ h) → b ≡ h
+block_told got b h is told_so = subst (λ g. IfSome g (λ c. c ≡ h)) is told_so
+
+-- data blocks that are put behind others, one by one
+pub blocks_more : (xs ds room now : List ℕ) (a i : ℕ) → a ≡ length xs → now ≡ filled (xs ++ take i ds) room → i < length ds → a + i < length now
+    → set now (a + i) (get_or ds i 0) ≡ filled (xs ++ take (i + 1) ds) room
+blocks_more xs ds room now a i at e lt fits =
+    let long : length now ≡ length room = ap length e ∙ length_filled (xs ++ take i ds) room in
+    let many : a + i ≡ length (xs ++ take i ds) = omega (arith, length-append xs (take i ds), length_taken ds i (omega arith)) in
+    let all : (xs ++ take i ds) ++ get_or ds i 0 ∷ [] ≡ xs ++ take (i + 1) ds =
+    append_assoc xs (take i ds) (get_or ds i 0 ∷ []) ∙ ap (λ ys. xs ++ ys) (sym (take_more ds i 0 lt)) in
+    ap (λ ys. set ys (a + i) (get_or ds i 0)) e ∙ filled_more (xs ++ take i ds) room (a + i) (get_or ds i 0) many (omega arith)
+    ∙ ap (λ ys. filled ys room) all
+
+-- and where there is no more room
+pub blocks_full : (xs ds room now : List ℕ) (a i : ℕ) → a ≡ length xs → now ≡ filled (xs ++ take i ds) room → i ≤ length ds → length now ≤ a + i
+    → now ≡ filled (xs ++ ds) room
+blocks_full xs ds room now a i at e le full =
+    let long : length now ≡ length room = ap length e ∙ length_filled (xs ++ take i ds) room in
+    let all : (xs ++ take i ds) ++ drop i ds ≡ xs ++ ds =
+    append_assoc xs (take i ds) (drop i ds) ∙ ap (λ ys. xs ++ ys) (take-append-drop i ds) in
+    e ∙ sym (filled_full (xs ++ take i ds) (drop i ds) room (omega (arith, length-append xs (take i ds), length_taken ds i le)))
+    ∙ ap (λ ys. filled ys room) all
+
+pub entry_put : {X : Type 0} (xs room now : List X) (i : ℕ) (x : X) → i ≡ length xs → now ≡ filled xs room → i < length now
+    → set now i x ≡ filled (xs ++ x ∷ []) room
+entry_put xs room now i x at e lt =
+    let long : length now ≡ length room = ap length e ∙ length_filled xs room in
+    ap (λ ys. set ys i x) e ∙ filled_more xs room i x at (omega arith)
+
+pub entry_left : {X : Type 0} (xs room now : List X) (i : ℕ) (x : X) → i ≡ length xs → now ≡ filled xs room → length now ≤ i
+    → now ≡ filled (xs ++ x ∷ []) room
+entry_left xs room now i x at e le =
+    let long : length now ≡ length room = ap length e ∙ length_filled xs room in
+    e ∙ sym (filled_full xs (x ∷ []) room (omega arith))
+
+-- how many data blocks there are fits a word, also with those of the next file
+pub blocks_small : (image : List ℕ) (t : Tree) (l : Layout) (i first : ℕ) → Fits image t l → length (owned image l) < 2 ^ 32 → i < length t.entries
+    → first ≡ length (all_datas (take i l.places)) → first + length (datas_at l.places i) < 2 ^ 32
+blocks_small image t l i first fits few lt is =
+    let more = datas_more l.places i (omega (arith, fits.places)) in
+    omega (arith, ap length more, length-append (all_datas (take i l.places)) (datas_at l.places i), datas_within l.places (suc i), tables_small image l)
+
+-- and with those of the next file
+pub count_more : (l : Layout) (i first more : ℕ) → i < length l.places → first ≡ length (all_datas (take i l.places)) → more ≡ length (datas_at l.places i)
+    → first + more ≡ length (all_datas (take (i + 1) l.places))
+count_more l i first more lt is next =
+    let one : i + 1 ≡ suc i = omega arith in
+    rw one (omega (arith, ap length (datas_more l.places i lt), length-append (all_datas (take i l.places)) (datas_at l.places i)))
+
+pub next_blocks : (l : Layout) (i : ℕ) (ds room next : List ℕ) → i < length l.places → ds ≡ datas_at l.places i
+    → next ≡ filled (all_datas (take i l.places) ++ ds) room → next ≡ filled (all_datas (take (i + 1) l.places)) room
+next_blocks l i ds room next lt is e =
+    let one : i + 1 ≡ suc i = omega arith in
+    e ∙ ap (λ xs. filled (all_datas (take i l.places) ++ xs) room) is ∙ ap (λ xs. filled xs room) (sym (datas_more l.places i lt))
+    ∙ ap (λ n. filled (all_datas (take n l.places)) room) (sym one)
+
+-- all of them
+pub whole_blocks : (l : Layout) (i : ℕ) → length l.places ≤ i → all_datas (take i l.places) ≡ block_table l
+whole_blocks l i le = ap all_datas (take_all i l.places le)
+
+pub whole_entries : (t : Tree) (l : Layout) (i : ℕ) → length l.places ≡ length t.entries → length t.entries ≤ i → take i (entry_table t l) ≡ entry_table t l
+whole_entries t l i z le = take_all i (entry_table t l) (omega (arith, told_length 0 t.entries l.places z))
+
+-- the next entry of the table
+pub next_entry : (t : Tree) (l : Layout) (i k : ℕ) (x : TableEntry) → length l.places ≡ length t.entries → i < length t.entries
+    → k ≡ length (all_datas (take i l.places))
+    → ((e : Entry) → entry t.entries (i + 1) ≡ Some e → x ≡ told (head_at l.places i) k e) → At (entry_table t l) i x
+next_entry t l i k x z lt is tells =
+    let at = at_some t.entries i lt in
+    let one : i + 1 ≡ suc i = omega arith in
+    let there : entry t.entries (i + 1) ≡ Some at.0 = ap (entry t.entries) one ∙ (entry_is_at t (suc i) at.0).0 at.1 in
+    subst (At (entry_table t l) i) (sym (tells at.0 there)) (told_here t l i k at.0 at.1 z is)
+
+-- there are fewer entries and data blocks than blocks in use
+pub contents_small : (image : List ℕ) (t : Tree) (l : Layout) (x : Contents) → Fits image t l → x ≡ contents_of image t l → x.entries + x.data_blocks < x.used
+contents_small image t l x fits is = subst (λ (y : Contents). y.entries + y.data_blocks < y.used) (sym is) (omega (arith, tables_small image l, fits.places))

@@ -1,0 +1,58 @@
+// The tables of an image.
+
+ghost use Rattle.std.specs.Prelude.{◌≡◌, ◌≤◌, ◌<◌, ◌+◌};
+ghost use Rattle.adf_tree.specs.Tree.{Tree};
+ghost use Rattle.adf_blocks.specs.Causes.{cause_number};
+ghost use Rattle.adf_blocks.specs.declared.cause.Cause.{Cause};
+ghost use Rattle.adf_volume.specs.Fits.{Fits};
+ghost use Rattle.adf_volume.specs.Layout.{Layout};
+ghost use Rattle.adf_volume.specs.Walk.{FirstFault};
+ghost use Rattle.adf_c.specs.Tables.{block_table, contents_of, entry_table, filled, refused_at};
+
+use crate::tables::{Contents, TableEntry, contents_of, put_tables, refused_at};
+use adf_check::check;
+use std::alloc::Global;
+
+/// Checks an image, and fills the tables of its entries and of the data blocks of its files, each as far as there is room: 0
+/// where it is accepted, else the number of the cause, of which 23 is want of memory.
+#[unsafe(no_mangle)]
+pub extern "C" fn adf_index(
+    alloc: Global,
+    image: &[u8],
+    entries: &mut [TableEntry],
+    blocks: &mut [u32],
+    contents: &mut Contents,
+) -> u8
+    ensures number { result ≤ 23 }
+
+    // One tree and one layout fit an accepted image, and the tables and the contents are theirs.
+    ensures fits { result ≡ 0 → (t : Tree) × (l : Layout) × Fits image.now t l }
+    ensures entries { result ≡ 0 → (t : Tree) (l : Layout) → Fits image.now t l → entries.new ≡ filled (entry_table t l) entries.old }
+    ensures blocks { result ≡ 0 → (t : Tree) (l : Layout) → Fits image.now t l → blocks.new ≡ filled (block_table l) blocks.old }
+    ensures contents { result ≡ 0 → (t : Tree) (l : Layout) → Fits image.now t l → contents.new ≡ contents_of image.now t l }
+
+    // There are fewer entries and data blocks than blocks in use.
+    ensures few { result ≡ 0 → contents.new.entries + contents.new.data_blocks < contents.new.used }
+
+    // A fault is the first one, nothing fits the image, and the tables stay as they were.
+    ensures refused { ¬ (result ≡ 0) → contents.new ≡ refused_at contents.new.block }
+    ensures first { ¬ (result ≡ 0) → ¬ (result ≡ 23) → (c : Cause) × (cause_number c ≡ result) × FirstFault image.now contents.new.block c }
+    ensures none { ¬ (result ≡ 0) → ¬ (result ≡ 23) → (t : Tree) (l : Layout) → Fits image.now t l → ⊥ }
+    ensures unchanged { ¬ (result ≡ 0) → (entries.new ≡ entries.old) × (blocks.new ≡ blocks.old) }
+
+    // Want of memory names block 0.
+    ensures memory { result ≡ 23 → contents.new.block ≡ 0 }
+{
+    match check(alloc, image) {
+        Ok(volume) => {
+            let counts = volume.counts();
+            let data_blocks = put_tables(&volume, entries, blocks);
+            *contents = contents_of(&volume, &counts, data_blocks);
+            0
+        }
+        Err(fault) => {
+            *contents = refused_at(fault.block);
+            fault.cause.number()
+        }
+    }
+}

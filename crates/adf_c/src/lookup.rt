@@ -1,0 +1,130 @@
+// Paths, looked up in the table of entries.
+
+ghost use Rattle.std.specs.Prelude.{◌≡◌, ◌≤◌, ◌<◌, ◌↔◌, ℕ, List, Some, None, length, nat_le, nat_lt, true, false};
+ghost use Rattle.std.specs.List.Sorted.{IsNonDecreasingBy, IsPartitionPoint};
+ghost use Rattle.adf_tree.specs.declared.entry.Entry.{Entry};
+ghost use Rattle.adf_tree.specs.PathTexts.{IsPathText};
+ghost use Rattle.adf_tree.specs.Tree.{Tree, child, find, rank_of};
+ghost use Rattle.adf_volume.specs.Fits.{Fits};
+ghost use Rattle.adf_volume.specs.Layout.{Layout};
+ghost use Rattle.adf_c.specs.Tables.{entry_table};
+ghost use Rattle.adf_c.specs.TableNames.{HasNamesOf, is_child_in, name_in, rank_in};
+
+use crate::tables::TableEntry;
+use adf_tree::{Name, PathFault, read_path, slot};
+use std::alloc::Global;
+
+// The name of an entry of the table.
+fn name_in(entry: &TableEntry) -> &[u8]
+    ensures name { result.now ≡ name_in entry.now }
+    ensures short { length result.now ≤ 30 }
+{
+    let length = usize::from(entry.name_length).min(30);
+    &entry.name[..length]
+}
+
+// Whether the entry's pair of directory and slot is less than this one.
+fn is_less(entry: &TableEntry, parent: usize, slot_wanted: u8) -> bool
+    requires { slot_wanted < 72 }
+    ensures { result ≡ nat_lt (rank_in entry.now) (rank_of parent slot_wanted) }
+{
+    let own = entry.parent as usize;
+    own < parent || own == parent && slot(name_in(entry)) < slot_wanted
+}
+
+// Whether the entry's pair of directory and slot is at most this one.
+fn is_at_most(entry: &TableEntry, parent: usize, slot_wanted: u8) -> bool
+    requires { slot_wanted < 72 }
+    ensures { result ≡ nat_le (rank_in entry.now) (rank_of parent slot_wanted) }
+{
+    let own = entry.parent as usize;
+    own < parent || own == parent && slot(name_in(entry)) <= slot_wanted
+}
+
+// Whether the entry has this directory and this name, whatever the case.
+fn is_child(entry: &TableEntry, parent: usize, name: &Name) -> bool
+    ensures { result ≡ is_child_in parent name.now entry.now }
+{
+    entry.parent as usize == parent && name.matches(name_in(entry))
+}
+
+// The entries before the first one of this pair or a greater one.
+fn start_of(entries: &[TableEntry], parent: usize, slot: u8) -> usize
+    requires { slot < 72 }
+    ensures within { result ≤ length entries.now }
+    ensures parted { IsNonDecreasingBy rank_in entries.now
+        → IsPartitionPoint (λ x. nat_lt (rank_in x) (rank_of parent slot) ≡ true) (λ x. nat_lt (rank_in x) (rank_of parent slot) ≡ false) entries.now result }
+{
+    entries.partition_point(|entry| is_less(entry, parent, slot))
+}
+
+// The entries before the first one of a greater pair.
+fn end_of(entries: &[TableEntry], parent: usize, slot: u8) -> usize
+    requires { slot < 72 }
+    ensures within { result ≤ length entries.now }
+    ensures parted { IsNonDecreasingBy rank_in entries.now
+        → IsPartitionPoint (λ x. nat_le (rank_in x) (rank_of parent slot) ≡ true) (λ x. nat_le (rank_in x) (rank_of parent slot) ≡ false) entries.now result }
+{
+    entries.partition_point(|entry| is_at_most(entry, parent, slot))
+}
+
+// The number of the entry with this directory and this name.
+fn child(entries: &[TableEntry], parent: usize, name: &Name) -> Option<usize>
+    ensures { (es : List Entry) → HasNamesOf entries.now es → result ≡ child es parent name.now }
+{
+    let slot = slot(name.bytes());
+    let start = start_of(entries, parent, slot);
+    let end = end_of(entries, parent, slot);
+    for i in start..end {
+        if is_child(&entries[i], parent, name) {
+            return Some(i + 1);
+        }
+    }
+    None
+}
+
+// The number of the entry that the path leads to, 0 for the root.
+fn find(entries: &[TableEntry], path: &[Name]) -> Option<usize>
+    ensures { (es : List Entry) → HasNamesOf entries.now es → result ≡ find es path.now }
+{
+    let mut node = 0;
+    for name in path {
+        match child(entries, node, name) {
+            None => return None,
+            Some(n) => node = n,
+        }
+    }
+    Some(node)
+}
+
+/// Looks a path, in escape form, up in the table of a volume's entries: 0 where there is such an entry, whose number is put
+/// into the node, 1 where there is none, 2 where the text is that of no path, 23 where memory was refused.
+#[unsafe(no_mangle)]
+pub extern "C" fn adf_find(
+    alloc: Global,
+    entries: &[TableEntry],
+    path: &[u8],
+    node: &mut usize,
+) -> u8
+    ensures number { result ≤ 23 }
+
+    // In the table of a volume the node is the one that the path leads to.
+    ensures found { result ≡ 0 → (image : List ℕ) (t : Tree) (l : Layout) (names : List (List ℕ)) → Fits image t l → entries.now ≡ entry_table t l
+        → IsPathText path.now names → find t.entries names ≡ Some node.new }
+    ensures none { result ≡ 1 → (image : List ℕ) (t : Tree) (l : Layout) (names : List (List ℕ)) → Fits image t l → entries.now ≡ entry_table t l
+        → IsPathText path.now names → find t.entries names ≡ None }
+    ensures bad_path { (result ≡ 2) ↔ ((names : List (List ℕ)) → ¬ IsPathText path.now names) }
+    ensures unchanged { ¬ (result ≡ 0) → node.new ≡ node.old }
+{
+    match read_path(alloc, path) {
+        Ok(names) => match find(entries, &names) {
+            Some(found) => {
+                *node = found;
+                0
+            }
+            None => 1,
+        },
+        Err(PathFault::BadText) => 2,
+        Err(PathFault::NoMemory) => 23,
+    }
+}
