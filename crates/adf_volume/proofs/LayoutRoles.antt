@@ -140,7 +140,7 @@ module _ (image : List ℕ) (t : Tree) (l : Layout) (fit : Fits image t l) where
   pub part_range : (r : Role) (b : ℕ) → LayoutHas image t l r b → (2 ≤ b) × (b < blocks image)
   part_range r b h = fit.range (owner_of r) b (part_owned image t l fit.places r b h)
 
-  same_owner : (r q : Role) (b c : ℕ) → owner_of r ≡ owner_of q → LayoutHas image t l r b → LayoutHas image t l q c → r ≡ q
+  pub same_owner : (r q : Role) (b c : ℕ) → owner_of r ≡ owner_of q → LayoutHas image t l r b → LayoutHas image t l q c → r ≡ q
   same_owner Root Root b c e h k = refl
   same_owner (Page i) (Page j) b c e h k = cc
   same_owner (MapExt i) (MapExt j) b c e h k = cc

@@ -15,6 +15,7 @@ pub mod Pieces
 pub mod Places
 pub mod TreeOrder
 -- walks
+pub mod DecidedAsks
 pub mod MemberFacts
 pub mod WalkMembers
 pub mod WalkOrder
@@ -22,6 +23,7 @@ pub mod WalkOwners
 pub mod Walks
 pub mod WholeWalks
 -- the laws
+pub mod FitWalks
 pub mod Memory
 pub mod NoneFits
 pub mod OneFault

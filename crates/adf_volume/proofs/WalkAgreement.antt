@@ -25,7 +25,7 @@ use Rattle.adf_volume.proofs.Images.{map_exts_high}
 use Rattle.adf_volume.proofs.Lists.{at_fun, at_below, at_some, at_before, at_map, at_unmap, spelled_first, spelled_next, spelled_word, spelled_link}
 use Rattle.adf_volume.proofs.Lists.{all_append, at_index, index_past}
 use Rattle.adf_volume.proofs.Chains.{entry_at, entry_below, entry_some, place_at, one_place, sorted_places, chain_rises}
-use Rattle.adf_volume.proofs.Walks.{root_is, root_in, number_of, numbered, same_of, ext_below, asks_number, due_file, node_is, member_is, file_is}
+use Rattle.adf_volume.proofs.Walks.{root_is, root_in, number_of, numbered, renumbered, same_of, ext_below, asks_number, due_file, node_is, member_is, file_is}
 use Rattle.adf_volume.proofs.Walks.{dir_is_node, head_key, is_there}
 use Rattle.adf_volume.proofs.LayoutRoles.{part_range, one_part}
 use Rattle.std.proofs.lemmas.Bool.{ltb-false, ltb-true}
@@ -199,26 +199,23 @@ module _ (image : List ℕ) (t : Tree) (l : Layout) (fit : Fits image t l) where
         let z : word_in image a i ≡ b.0 = fit.page_listed x.0 i a b.0 x.2 (ag (MapExt x.0) a x.1) (subst (λ k. At l.pages k b.0) x.3 b.1) in
         subst (At l.pages k) (sym z) b.1
 
-    -- agreement, one step: what is due is a part
-    due_part : (r : Role) (a i : ℕ) → IsDue image w r a i → LayoutHas image t l r (word_in image a i)
-    due_part Root a i d = absurd d.asked
-    due_part (Page k) a i d = page_part k a i d.asked.0 d.asked.1
-    due_part (MapExt zero) a i d =
-        let q = d.asked in
+    -- what is asked for is a part, by its number in the tree
+    pub asked_part : (r : Role) (a i : ℕ) → Asks image w r a i → (m : ℕ) × LayoutHas image t l (renumbered m r) (word_in image a i)
+    asked_part Root a i q = absurd q
+    asked_part (Page k) a i q = (0, page_part k a i q.0 q.1)
+    asked_part (MapExt zero) a i q =
         let p : length l.map_exts ≡ map_exts_needed (pages_needed (blocks image)) = fit.map_exts in
         let u : 0 < map_exts_needed (pages_needed (blocks image)) = map_exts_high (pages_needed (blocks image)) 0 q.0 in
         let b = at_some l.map_exts 0 (omega arith) in
         let z : word_in image a i ≡ b.0 = ap (λ a. word_in image a i) q.1 ∙ ap (word_in image (root_of image)) q.2 ∙ fit.map_first b.0 b.1 in
-        subst (At l.map_exts 0) (sym z) b.1
-    due_part (MapExt (suc j)) a i d =
-        let q = d.asked in
+        (0, subst (At l.map_exts 0) (sym z) b.1)
+    asked_part (MapExt (suc j)) a i q =
         let p : length l.map_exts ≡ map_exts_needed (pages_needed (blocks image)) = fit.map_exts in
         let u : suc j < map_exts_needed (pages_needed (blocks image)) = map_exts_high (pages_needed (blocks image)) (suc j) q.0 in
         let b = at_some l.map_exts (suc j) (omega arith) in
         let z : word_in image a i ≡ b.0 = ap (word_in image a) q.2 ∙ fit.map_next j a b.0 (ag (MapExt j) a q.1) b.1 in
-        subst (At l.map_exts (suc j)) (sym z) b.1
-    due_part (Head n p s zero) a i d =
-        let q = d.asked in
+        (0, subst (At l.map_exts (suc j)) (sym z) b.1)
+    asked_part (Head n p s zero) a i q =
         let g = dir_agrees p a q.2 in
         let z : word_in image (at_node image l p) (FIRST_SLOT + s) ≡ word_in image a i =
         ap (λ a. word_in image a (FIRST_SLOT + s)) g.1 ∙ ap (word_in image a) (sym q.3) in
@@ -227,10 +224,8 @@ module _ (image : List ℕ) (t : Tree) (l : Layout) (fit : Fits image t l) where
         spelled_first (λ b. word_in image b NEXT_IN_CHAIN) (word_in image (at_node image l p) (FIRST_SLOT + s)) (map (at_node image l) (chain_nodes t p s)) sp
         (λ y. q.4 (sym z ∙ y)) in
         let m = at_unmap (at_node image l) (chain_nodes t p s) 0 (word_in image (at_node image l p) (FIRST_SLOT + s)) x in
-        let e : m.0 ≡ n = number_agrees p s 0 n m.0 a i d q.0 m.1 in
-        (subst (At (chain_nodes t p s) 0) e m.1, ap (at_node image l) (sym e) ∙ m.2 ∙ z)
-    due_part (Head n p s (suc j)) a i d =
-        let q = d.asked in
+        (m.0, (m.1, m.2 ∙ z))
+    asked_part (Head n p s (suc j)) a i q =
         let y = q.1 in
         let pt = ag (Head y.0 p s j) a y.1 in
         let g = chain_of p s j y.0 pt.0 in
@@ -242,28 +237,25 @@ module _ (image : List ℕ) (t : Tree) (l : Layout) (fit : Fits image t l) where
         (at_node image l y.0) sp
         (at_map (at_node image l) (chain_nodes t p s) j y.0 pt.0) (λ k. q.3 (sym z ∙ k)) in
         let m = at_unmap (at_node image l) (chain_nodes t p s) (suc j) (word_in image (at_node image l y.0) NEXT_IN_CHAIN) x in
-        let f : m.0 ≡ n = number_agrees p s (suc j) n m.0 a i d q.0 m.1 in
-        (subst (At (chain_nodes t p s) (suc j)) f m.1, ap (at_node image l) (sym f) ∙ m.2 ∙ z)
-    due_part (Ext n zero) a i d = absurd d.asked
-    due_part (Ext n (suc zero)) a i d =
-        let q = d.asked in
+        (m.0, (m.1, m.2 ∙ z))
+    asked_part (Ext n zero) a i q = absurd q
+    asked_part (Ext n (suc zero)) a i q =
         let f = file_agrees n a q.0 in
         let ff = fit.files n f.0 f.1 f.2 f.3 in
         let z : word_in image (at_node image l n) EXTENSION ≡ word_in image a i = ap (λ a. word_in image a EXTENSION) f.5 ∙ ap (word_in image a) (sym q.1) in
-        subst (At (exts_of l n) 0) z (spelled_first (λ b. word_in image b EXTENSION) (word_in image (at_node image l n) EXTENSION) (exts_of l n) ff.exts
-        (λ k. q.2 (sym z ∙ k)))
-    due_part (Ext n (suc (suc k))) a i d =
-        let q = d.asked in
+        let x : At (exts_of l n) 0 (word_in image (at_node image l n) EXTENSION) =
+        spelled_first (λ b. word_in image b EXTENSION) (word_in image (at_node image l n) EXTENSION) (exts_of l n) ff.exts (λ k. q.2 (sym z ∙ k)) in
+        (0, subst (At (exts_of l n) 0) z x)
+    asked_part (Ext n (suc (suc k))) a i q =
         let h : At (exts_of l n) k a = ag (Ext n (suc k)) a q.0 in
         let f = is_file n k a h in
         let ff = fit.files n f.0 f.1 f.2 f.3 in
         let z : word_in image a EXTENSION ≡ word_in image a i = ap (word_in image a) (sym q.1) in
-        subst (At (exts_of l n) (suc k)) z
-        (spelled_next (λ b. word_in image b EXTENSION) (word_in image (at_node image l n) EXTENSION) (exts_of l n) k a ff.exts h
-        (λ y. q.2 (sym z ∙ y)))
-    due_part (Data n zero) a i d = absurd d.asked
-    due_part (Data n (suc k)) a i d =
-        let q = d.asked in
+        let x : At (exts_of l n) (suc k) (word_in image a EXTENSION) =
+        spelled_next (λ b. word_in image b EXTENSION) (word_in image (at_node image l n) EXTENSION) (exts_of l n) k a ff.exts h (λ y. q.2 (sym z ∙ y)) in
+        (0, subst (At (exts_of l n) (suc k)) z x)
+    asked_part (Data n zero) a i q = absurd q
+    asked_part (Data n (suc k)) a i q =
         let h = q.0 in
         let f = file_agrees n h.0 h.1 in
         let ff = fit.files n f.0 f.1 f.2 f.3 in
@@ -272,7 +264,15 @@ module _ (image : List ℕ) (t : Tree) (l : Layout) (fit : Fits image t l) where
         let h2 : k < data_count image h.0 = h.2 in
         let b = at_some (datas_of l n) k (omega arith) in
         let z : word_in image a i ≡ b.0 = ap (word_in image a) q.2 ∙ ff.named k b.0 a b.1 (member_agrees n (k / POINTERS) a q.1) in
-        subst (At (datas_of l n) k) (sym z) b.1
+        (0, subst (At (datas_of l n) k) (sym z) b.1)
+
+    -- agreement, one step: what is due is a part
+    due_part : (r : Role) (a i : ℕ) → IsDue image w r a i → LayoutHas image t l r (word_in image a i)
+    due_part (Head n p s j) a i d =
+        let x = asked_part (Head n p s j) a i d.asked in
+        let e : x.0 ≡ n = number_agrees p s j n x.0 a i d (asks_number image w n p s j a i d.asked) x.1.0 in
+        (subst (At (chain_nodes t p s) j) e x.1.0, ap (at_node image l) (sym e) ∙ x.1.1)
+    due_part r a i d = (asked_part r a i d.asked).1
 
     pub file_block : (n h a : ℕ) → FileAt image w n h → at_node image l n ≡ h
     file_block n h a f = (file_agrees n h f).5

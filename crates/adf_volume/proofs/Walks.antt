@@ -41,6 +41,15 @@ same_refl r = (refl, refl, refl)
 pub same_of : (r q : Role) → r ≡ q → Same r q
 same_of r q e = (ap first e, ap second e, ap third e)
 
+-- the role, with this number if it is a header's
+abbrev pub renumbered : ℕ → Role → Role
+renumbered m (Head n p s j) = Head m p s j
+renumbered m r = r
+
+pub renumbered_same : (m : ℕ) (r : Role) → Same (renumbered m r) r
+renumbered_same m (Head n p s j) = (refl, refl, refl)
+renumbered_same m _ = (refl, refl, refl)
+
 pub heads_up : (r : Role) (m : ℕ) → m ≤ head_count r m
 heads_up Root m = omega arith
 heads_up _ m = omega arith
@@ -48,6 +57,12 @@ heads_up _ m = omega arith
 pub asks_number : (image : List ℕ) (w : List (Role × ℕ)) (n p s j a i : ℕ) → Asks image w (Head n p s j) a i → n ≡ suc (heads w)
 asks_number image w n p s zero a i h = h.0
 asks_number image w n p s (suc j) a i h = h.0
+
+-- what is asked for has the next number
+pub asks_next_number : (image : List ℕ) (w : List (Role × ℕ)) (m : ℕ) (r : Role) (a i : ℕ) → Asks image w r a i
+    → r ≡ renumbered (suc (heads w)) (renumbered m r)
+asks_next_number image w m (Head n p s j) a i h = ap (λ n. Head n p s j) (asks_number image w n p s j a i h)
+asks_next_number image w m _ a i h = refl
 
 -- a directory of a walk is a node of it
 pub dir_is_node : (image : List ℕ) (w : List (Role × ℕ)) (p a : ℕ) → DirAt image w p a → NodeAt w p a

@@ -45,6 +45,18 @@ pub fn none_fits()
     ensures { (image : List ℕ) (b : ℕ) (c : Cause) → FirstFault image b c → (t : Tree) (l : Layout) → Fits image t l → ⊥ }
 {}
 
+/// Where a tree and a layout fit, there is a whole walk.
+#[tactic(auto, using(crate::proofs::FitWalks::whole_walk))]
+pub fn whole_walk()
+    ensures { (image : List ℕ) (t : Tree) (l : Layout) → Fits image t l → (w : List (Role × ℕ)) × IsWalk image w × IsWhole image w }
+{}
+
+/// Two trees that fit an image are one, and so are their layouts.
+#[tactic(auto, using(crate::proofs::FitWalks::one_fit))]
+pub fn one_fit()
+    ensures { (image : List ℕ) (t u : Tree) (l m : Layout) → Fits image t l → Fits image u m → (t ≡ u) × (l ≡ m) }
+{}
+
 /// Two trees that fit an image with a whole walk are one, and so are their layouts.
 #[tactic(auto, using(crate::proofs::OneTree::one_tree))]
 pub fn one_tree()
