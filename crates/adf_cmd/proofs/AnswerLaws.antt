@@ -7,15 +7,14 @@ use Rattle.adf_tree.specs.Tree.{Tree, entry, find, with_kind}
 use Rattle.adf_tree.specs.declared.entry.Kind.{Kind}
 use Rattle.adf_blocks.specs.declared.cause.Cause.TheVariants.{NoMemory as CauseNoMemory}
 use Rattle.adf_blocks.specs.Sizes.{blocks}
+use Rattle.adf_volume.specs.Fits.{Fits}
 use Rattle.adf_volume.specs.Layout.{Layout}
 use Rattle.adf_volume.specs.Walk.{FirstFault}
 use Rattle.adf_check.specs.Pieces.{bytes_of}
-use Rattle.adf_check.specs.Store.{Store}
-use Rattle.adf_check.specs.StoredVolume.{StoreStandsFor}
 use Rattle.adf_check.specs.Volumes.{counts_of}
 use Rattle.adf_check.specs.declared.checked.Counts.{Counts}
 use Rattle.adf_check.specs.declared.fault.Fault.{Fault}
-use Rattle.adf_cmd.specs.Answers.{Answer, Answers, AnswersPart, BuildsOrIsFull, Copies, FitAlone, IsBadPath, IsPart, RefusesImage, contents_at}
+use Rattle.adf_cmd.specs.Answers.{Answer, Answers, AnswersPart, BuildsOrIsFull, Copies, IsBadPath, IsPart, RefusesImage, contents_at}
 use Rattle.adf_cmd.specs.CommandLine.{Asks, Request, build, cat, check, convert, list}
 use Rattle.adf_manifest.specs.Manifest.{ExplainsFault, IsManifest}
 use Rattle.adf_cmd.specs.Outcomes.{CopyWorks, IsFaultOutcome, IsRefusal, IsRefusedImage, IsUnread, TellsFault, TreeWorks, Works}
@@ -32,13 +31,9 @@ use Rattle.adf_cmd.proofs.PendingText.{appends_nil}
 abbrev pub texts_of : List (Bor (List ℕ)) → List (List ℕ)
 texts_of words = map (λ w. w.now) words
 
--- a checked volume stands for the one tree and layout that fit its image
-pub stands_alone : {image : List ℕ} {store : Store} {t : Tree} {l : Layout} → StoreStandsFor image store t l → FitAlone image t l
-stands_alone stands = record { fits = stands.fits; only = stands.only }
-
 -- the numbers are those of the tree and the layout that fit
 abbrev CountsOf : List ℕ → Counts → Type 0
-CountsOf image counts = (t : Tree) × (l : Layout) × FitAlone image t l × (counts ≡ counts_of image t l)
+CountsOf image counts = (t : Tree) × (l : Layout) × Fits image t l × (counts ≡ counts_of image t l)
 
 -- a front part of the line of an accepted image
 pub accepted_part : (image line : List ℕ) (counts : Counts) (o o' : Option (List ℕ)) → CountsOf image counts → line ≡ ok_line counts → AppendsPart o o' line
@@ -78,7 +73,7 @@ refused_image_works NoMemory r image o f h = inl (appends_nil o)
 refused_image_works _ r image o f h = absurd h
 
 -- the lines of a volume answer `list`
-pub listed : (image : List ℕ) (t : Tree) (l : Layout) → FitAlone image t l → Answer list image 0 (volume_lines date_of t (blocks image)) []
+pub listed : (image : List ℕ) (t : Tree) (l : Layout) → Fits image t l → Answer list image 0 (volume_lines date_of t (blocks image)) []
 listed image t l fits = inl (t, l, fits, date_of, date_of_is, refl, refl, refl)
 
 -- what is said of a refused manifest answers it
@@ -107,7 +102,7 @@ pub build_works : (w : Outcome) (lines : Bool) (input : List ℕ) (tree : Tree) 
 build_works w lines input tree n o o' m h = tree_works w (build lines) lines input tree n o o' (λ s out err builds. inl (tree, n, m, builds)) h
 
 pub convert_works : (w : Outcome) (kind : Kind) (image : List ℕ) (t : Tree) (l : Layout) (n : ℕ) (o o' : Option (List ℕ))
-    → FitAlone image t l → n ≡ blocks image
+    → Fits image t l → n ≡ blocks image
     → TreeWorks w false (with_kind t kind) n o o' → Works w (convert kind) image o o'
 convert_works w kind image t l n o o' fits e h =
     let u = with_kind t kind in
@@ -122,12 +117,12 @@ file_at t names node bytes e f =
 
 -- what was copied of what a path leads to answers the request for it
 copies : (found : Option (Option (List ℕ))) (path : List ℕ) (names : List (List ℕ)) (image : List ℕ) (t : Tree) (l : Layout) (s : ℕ) (out err : List ℕ)
-    → IsPathText path names → FitAlone image t l → contents_at t names ≡ found → Copies found s out err → Answer (cat path) image s out err
+    → IsPathText path names → Fits image t l → contents_at t names ≡ found → Copies found s out err → Answer (cat path) image s out err
 copies found path names image t l s out err text fits e h = inr (inl (names, text, t, l, fits, subst (λ x. Copies x s out err) (sym e) h))
 
 pub copy_works : (w : Outcome) (path : List ℕ) (names : List (List ℕ)) (image : List ℕ) (t : Tree) (l : Layout) (o o' : Option (List ℕ))
     → IsPathText path names
-    → FitAlone image t l → CopyWorks w (contents_at t names) o o' → Works w (cat path) image o o'
+    → Fits image t l → CopyWorks w (contents_at t names) o o' → Works w (cat path) image o o'
 copy_works Done path names image t l o o' text fits (bytes, e, h) =
     (bytes, copies (Some (Some bytes)) path names image t l 0 bytes [] text fits e (refl, refl, refl), h)
 copy_works NoSuchPath path names image t l o o' text fits (e, h) =

@@ -59,16 +59,16 @@ long_kind TooLong line image bytes a b ne h = (h.0, b)
 long_kind _ line image bytes a b ne h = absurd (omega (arith, h.0))
 
 long_answers : (r : Request) (image bytes : List ℕ) → limit_of (Some r) < length image → limit_of (Some r) < length bytes → AnswersBoth r image bytes
-long_answers check image bytes a b s out err (inl (t, l, fits, status, output, errors)) = absurd (too_large image a fits.fits.boots.0)
+long_answers check image bytes a b s out err (inl (t, l, fits, status, output, errors)) = absurd (too_large image a fits.boots.0)
 long_answers check image bytes a b s out err (inr h) = inr (h.0, long_fault image bytes h.0 a b h.1, h.2, h.3, h.4)
-long_answers list image bytes a b s out err (inl (t, l, fits, date, dates, status, output, errors)) = absurd (too_large image a fits.fits.boots.0)
+long_answers list image bytes a b s out err (inl (t, l, fits, date, dates, status, output, errors)) = absurd (too_large image a fits.boots.0)
 long_answers list image bytes a b s out err (inr h) = inr (h.0, long_fault image bytes h.0 a b h.1, h.2, h.3, h.4)
 long_answers (cat path) image bytes a b s out err (inl bad) = inl bad
-long_answers (cat path) image bytes a b s out err (inr (inl (names, text, t, l, fits, copies))) = absurd (too_large image a fits.fits.boots.0)
+long_answers (cat path) image bytes a b s out err (inr (inl (names, text, t, l, fits, copies))) = absurd (too_large image a fits.boots.0)
 long_answers (cat path) image bytes a b s out err (inr (inr (read, h))) = inr (inr (read, (h.0, long_fault image bytes h.0 a b h.1, h.2, h.3, h.4)))
 long_answers (build lines) image bytes a b s out err (inl (tree, n, manifest, builds)) = absurd (omega (arith, manifest.0))
 long_answers (build lines) image bytes a b s out err (inr h) = inr (h.0, long_kind h.0.kind h.0.line image bytes a b h.2 h.1, h.2, h.3, h.4, h.5)
-long_answers (convert kind) image bytes a b s out err (inl (t, l, fits, builds)) = absurd (too_large image a fits.fits.boots.0)
+long_answers (convert kind) image bytes a b s out err (inl (t, l, fits, builds)) = absurd (too_large image a fits.boots.0)
 long_answers (convert kind) image bytes a b s out err (inr h) = inr (h.0, long_fault image bytes h.0 a b h.1, h.2, h.3, h.4)
 
 -- what is done with the bytes that are read is done with the whole input, where that is known

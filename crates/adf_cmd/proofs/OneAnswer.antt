@@ -8,8 +8,10 @@ use Rattle.adf_tree.specs.declared.entry.Kind.{Kind}
 use Rattle.adf_tree.proofs.PathParts.{one_path}
 use Rattle.adf_blocks.specs.Sizes.{blocks}
 use Rattle.adf_blocks.specs.declared.cause.Cause.{Cause}
+use Rattle.adf_volume.specs.Fits.{Fits}
 use Rattle.adf_volume.specs.Layout.{Layout}
 use Rattle.adf_volume.specs.Walk.{FirstFault}
+use Rattle.adf_volume.proofs.FitWalks.{one_fit}
 use Rattle.adf_volume.proofs.NoneFits.{none_fits}
 use Rattle.adf_volume.proofs.OneFault.{one_fault}
 use Rattle.adf_check.specs.Volumes.{counts_of}
@@ -22,7 +24,7 @@ use Rattle.adf_manifest.proofs.TreesOfLines.{one_tree_of}
 use Rattle.adf_manifest.proofs.Verdicts.{one_told}
 use Rattle.adf_texts.specs.Lines.{manifest_fault_line, fault_line, ok_line}
 use Rattle.adf_texts.specs.VolumeLines.{AreDates, volume_lines}
-use Rattle.adf_cmd.specs.Answers.{Accepts, Answer, BuildsManifest, BuildsOrIsFull, Converts, Copies, CopiesFrom, FitAlone, Lists, RefusesImage, RefusesManifest}
+use Rattle.adf_cmd.specs.Answers.{Accepts, Answer, BuildsManifest, BuildsOrIsFull, Converts, Copies, CopiesFrom, Lists, RefusesImage, RefusesManifest}
 use Rattle.adf_cmd.specs.Answers.{contents_at}
 use Rattle.adf_cmd.specs.CommandLine.{Asks, Request, request_of, build, cat, check, convert, list}
 
@@ -44,23 +46,23 @@ one_line input f g p q =
     ap (λ b. by b f.cause) same.0 ∙ ap (λ c. by g.block c) same.1
 
 -- an image is not refused where a tree fits
-not_both : (input : List ℕ) (f : Fault) (t : Tree) (l : Layout) → FirstFault input f.block f.cause → FitAlone input t l → ⊥
-not_both input f t l first alone = none_fits input f.block f.cause t l first alone.fits
+not_both : (input : List ℕ) (f : Fault) (t : Tree) (l : Layout) → FirstFault input f.block f.cause → Fits input t l → ⊥
+not_both input f t l first fits = none_fits input f.block f.cause t l first fits
 
 refused_once : (input : List ℕ) (s s' : ℕ) (o o' e e' : List ℕ) → RefusesImage input s o e → RefusesImage input s' o' e' → Same s s' o o' e e'
 refused_once input s s' o o' e e' (f, first, a, b, c) (g, also, x, y, z) = (a ∙ sym x, b ∙ sym y, c ∙ one_line input f g first also ∙ sym z)
 
 accepted_once : (input : List ℕ) (s s' : ℕ) (o o' e e' : List ℕ) → Accepts input s o e → Accepts input s' o' e' → Same s s' o o' e e'
-accepted_once input s s' o o' e e' (t, l, alone, a, b, c) (u, m, also, x, y, z) =
-    let same = also.only t l alone.fits in
+accepted_once input s s' o o' e e' (t, l, fits, a, b, c) (u, m, also, x, y, z) =
+    let same = one_fit input t u l m fits also in
     (a ∙ sym x, b ∙ ap (λ v. ok_line (counts_of input v l)) same.0 ∙ ap (λ n. ok_line (counts_of input u n)) same.1 ∙ sym y, c ∙ sym z)
 
 one_dates : (date other : Stamp → List ℕ) → AreDates date → AreDates other → date ≡ other
 one_dates date other p q = fun_ext (λ s. one_text s (date s) (other s) (p s) (q s))
 
 listed_once : (input : List ℕ) (s s' : ℕ) (o o' e e' : List ℕ) → Lists input s o e → Lists input s' o' e' → Same s s' o o' e e'
-listed_once input s s' o o' e e' (t, l, alone, date, dates, a, b, c) (u, m, also, other, others, x, y, z) =
-    let same = also.only t l alone.fits in (
+listed_once input s s' o o' e e' (t, l, fits, date, dates, a, b, c) (u, m, also, other, others, x, y, z) =
+    let same = one_fit input t u l m fits also in (
       a ∙ sym x,
       b ∙ ap (λ v. volume_lines date v (blocks input)) same.0 ∙ ap (λ d. volume_lines d u (blocks input)) (one_dates date other dates others) ∙ sym y,
       c ∙ sym z,
@@ -113,16 +115,16 @@ copied_once (Some (Some bytes)) s s' o o' e e' (a, b, c) (x, y, z) = (a ∙ sym 
 
 copied_from_once : (path input : List ℕ) (s s' : ℕ) (o o' e e' : List ℕ) → CopiesFrom path input s o e → CopiesFrom path input s' o' e'
     → Same s s' o o' e e'
-copied_from_once path input s s' o o' e e' (names, text, t, l, alone, h) (others, also, u, m, only, g) =
-    let same = only.only t l alone.fits in
+copied_from_once path input s s' o o' e e' (names, text, t, l, fits, h) (others, also, u, m, only, g) =
+    let same = one_fit input t u l m fits only in
     let found : contents_at t names ≡ contents_at u others =
     ap (λ v. contents_at v names) same.0 ∙ ap (λ (ns : List (List ℕ)). contents_at u ns) (one_path path names others text also) in
     copied_once (contents_at u others) s s' o o' e e' (subst (λ x. Copies x s o e) found h) g
 
 converted_once : (kind : Kind) (input : List ℕ) (s s' : ℕ) (o o' e e' : List ℕ) → Converts kind input s o e → Converts kind input s' o' e'
     → Same s s' o o' e e'
-converted_once kind input s s' o o' e e' (t, l, alone, h) (u, m, also, g) =
-    let same = also.only t l alone.fits in
+converted_once kind input s s' o o' e e' (t, l, fits, h) (u, m, also, g) =
+    let same = one_fit input t u l m fits also in
     let moved = subst (λ (v : Tree). BuildsOrIsFull false (with_kind v kind) (blocks input) s o e) same.0 h in
     built_once false (with_kind u kind) (blocks input) s s' o o' e e' moved g
 

@@ -25,14 +25,9 @@ use Rattle.adf_texts.specs.VolumeLines.{AreDates, volume_lines}
 use Rattle.adf_manifest.specs.declared.manifest.ManifestFault.{ManifestFault}
 use Rattle.adf_manifest.specs.declared.manifest.ManifestKind.TheVariants.{NoMemory as ManifestNoMemory}
 
--- the tree and the layout fit the image, and no others do
-pub record FitAlone (image : List ℕ) (t : Tree) (l : Layout) : Type 0 where
-  pub fits : Fits image t l
-  pub only : (u : Tree) (m : Layout) → Fits image u m → (u ≡ t) × (m ≡ l)
-
 -- `check` at status 0 tells the numbers of the tree and the layout that fit the image, at status 1 its first fault
 abbrev pub Accepts : List ℕ → ℕ → List ℕ → List ℕ → Type 0
-Accepts input status output errors = (t : Tree) × (l : Layout) × FitAlone input t l × (status ≡ 0) × (output ≡ ok_line (counts_of input t l)) × (errors ≡ [])
+Accepts input status output errors = (t : Tree) × (l : Layout) × Fits input t l × (status ≡ 0) × (output ≡ ok_line (counts_of input t l)) × (errors ≡ [])
 
 abbrev pub Refuses : List ℕ → ℕ → List ℕ → List ℕ → Type 0
 Refuses input status output errors = (f : Fault) × FirstFault input f.block f.cause × (status ≡ 1) × (output ≡ fault_line f) × (errors ≡ [])
@@ -72,7 +67,7 @@ RefusesImage input status output errors = (f : Fault) × FirstFault input f.bloc
 
 -- `list` writes the lines of the tree and the layout that fit the image, in which each date has its text
 abbrev pub Lists : List ℕ → ℕ → List ℕ → List ℕ → Type 0
-Lists input status output errors = (t : Tree) × (l : Layout) × FitAlone input t l × (date : Stamp → List ℕ) × AreDates date × (status ≡ 0)
+Lists input status output errors = (t : Tree) × (l : Layout) × Fits input t l × (date : Stamp → List ℕ) × AreDates date × (status ≡ 0)
     × (output ≡ volume_lines date t (blocks input)) × (errors ≡ [])
 
 -- the text is that of no list of names
@@ -96,7 +91,7 @@ Copies (Some (Some bytes)) status output errors = (status ≡ 0) × (output ≡ 
 -- `cat` of a path in the tree and the layout that fit the image
 abbrev pub CopiesFrom : List ℕ → List ℕ → ℕ → List ℕ → List ℕ → Type 0
 CopiesFrom path input status output errors =
-    (names : List (List ℕ)) × IsPathText path names × (t : Tree) × (l : Layout) × FitAlone input t l × Copies (contents_at t names) status output errors
+    (names : List (List ℕ)) × IsPathText path names × (t : Tree) × (l : Layout) × Fits input t l × Copies (contents_at t names) status output errors
 
 -- `cat` of a path that is read, in an image that is refused
 abbrev pub RefusesToCopy : List ℕ → List ℕ → ℕ → List ℕ → List ℕ → Type 0
@@ -105,7 +100,7 @@ RefusesToCopy path input status output errors = ((names : List (List ℕ)) × Is
 -- `convert` builds the tree that fits the image again, as one of this kind and in as many blocks
 abbrev pub Converts : Kind → List ℕ → ℕ → List ℕ → List ℕ → Type 0
 Converts kind input status output errors =
-    (t : Tree) × (l : Layout) × FitAlone input t l × BuildsOrIsFull false (with_kind t kind) (blocks input) status output errors
+    (t : Tree) × (l : Layout) × Fits input t l × BuildsOrIsFull false (with_kind t kind) (blocks input) status output errors
 
 -- the answer to a request: its status, and what is written to output and errors
 abbrev pub Answer : Request → List ℕ → ℕ → List ℕ → List ℕ → Type 0

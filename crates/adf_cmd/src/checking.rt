@@ -30,7 +30,7 @@ fn accepted_line(alloc: Global, counts: &Counts) -> Result<String, AllocError>
 }
 
 // Writes the line of an accepted image.
-#[tactic(auto, using(crate::proofs::AnswerLaws::accepted_part, crate::proofs::AnswerLaws::stands_alone))]
+#[tactic(auto, using(crate::proofs::AnswerLaws::accepted_part))]
 fn tell_accepted<W: Sink>(alloc: Global, volume: &Checked<'_>, output: &mut W) -> Outcome
     requires works { W.has_failed output.old ≡ false }
     requires stands { (t : Tree) × (l : Layout) × StandsFor volume.now t l }

@@ -3,8 +3,8 @@
 ghost use Rattle.std.specs.Prelude.{◌≡◌, ◌+◌, true, false, IfErr, IfOk, IfSome};
 ghost use Rattle.adf_tree.specs.Tree.{with_kind};
 ghost use Rattle.adf_blocks.specs.Sizes.{blocks, is_allowed};
+ghost use Rattle.adf_volume.specs.Fits.{Fits};
 ghost use Rattle.adf_volume.specs.Layout.{Layout};
-ghost use Rattle.adf_cmd.specs.Answers.{FitAlone};
 ghost use Rattle.adf_cmd.specs.CommandLine.{convert};
 ghost use Rattle.adf_cmd.specs.Outcomes.{IsRefusedImage, TreeWorks, Works, is_read_fault, is_write_fault};
 ghost use Rattle.adf_cmd.specs.Streams.{TakesAtMost};
@@ -17,10 +17,9 @@ use crate::outcome::Outcome;
 use adf_tree::{Kind, Tree};
 use std::alloc::Global;
 
-#[tactic(auto, using(crate::proofs::AnswerLaws::stands_alone))]
 // The tree of an image and the number of its blocks; of a refused image, how the work ends. The image is dropped.
 fn tree_of(alloc: Global, image: Vec<u8>) -> Result<(Tree, u32), Outcome>
-    ensures tree { IfOk result (λ r. (l : Layout) × FitAlone image.items r.0 l) }
+    ensures tree { IfOk result (λ r. (l : Layout) × Fits image.items r.0 l) }
     ensures size { IfOk result (λ r. r.1 ≡ blocks image.items) }
     ensures refused { IfErr result (IsRefusedImage image.items) }
     ensures read { IfErr result (λ w. is_read_fault w ≡ false) }

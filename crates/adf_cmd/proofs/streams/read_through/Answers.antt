@@ -12,6 +12,12 @@ returns-in_err-extend_from_slice-clause-at_most g c =
     let items = c.loop-all.all.items in
     let part = take c.in_ok-count.count c.read.new.buf in
     let few : length (items ++ part) ≤ c.args.limit + 1 =
-    simp length-append (omega (arith, c.in_ok-count.ensures.count.0, c.in_ok-count.ensures.count.1,
-    c.loop-all.all.ok.0, c.read.auto.buf, length-take {A = ℕ})) in
+    simp length-append (omega (
+      arith,
+      c.in_ok-count.ensures.count.0,
+      c.in_ok-count.ensures.count.1,
+      c.loop-all.all.ok.0,
+      c.read.auto.buf,
+      length-take {A = ℕ},
+    )) in
     (items ++ part, few, consumes_more _ _ _ items part _ refl c.loop-all.invariant.taken c.in_ok-count.ensures.bytes.0)
