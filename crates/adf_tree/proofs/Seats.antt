@@ -4,7 +4,6 @@ use Rattle.std.proofs.Common.{false, Option, Some, None, arith, sym, refl, zero,
 use Rattle.std.specs.Option.{is_some}
 use Rattle.std.specs.Ordering.{is_eq}
 use Rattle.std.specs.List.{slice_get}
-use Rattle.std.specs.BTreeSet.{BTreeSet, Updates}
 use Rattle.std.specs.Cmp.{both_ways}
 use Rattle.std.proofs.lemmas.Bool.{cases_Bool, eq-eqb, eqb-true, false_from_ne_true}
 use Rattle.std.proofs.lemmas.List.{length-set}
@@ -62,15 +61,23 @@ pub own_holder : (names : Names) (seats : List ℕ) (i : ℕ) (k : NameKey) → 
     → holder_of names seats (seat_in (length seats) k) ≡ Some k
 own_holder names seats i k own at = rw (own i k at, at, eq-eqb (seat_in (length seats) k) (seat_in (length seats) k) refl)
 
--- a name whose seat none has is not in the set
-not_found : (names : Names) (seats : List ℕ) (rest : Names) (k : NameKey) → AreSeated names seats rest
+-- a name whose seat none has is not among the names
+unseated : (names : Names) (seats : List ℕ) (k : NameKey) → HaveSeats names seats → holder_of names seats (seat_in (length seats) k) ≡ None
+    → is_among names k ≡ false
+unseated names seats k own none =
+    false_from_ne_true (is_among names k) (λ t. let r = among_at names k t in cc (sym none ∙ own_holder names seats r.0 k own r.1))
+
+-- so it is among the rest, if anywhere
+found_in_rest : (names : Names) (seats : List ℕ) (rest : Names) (k : NameKey) → AreSeated names seats rest
+    → holder_of names seats (seat_in (length seats) k) ≡ None → is_among (names ++ rest) k ≡ is_among rest k
+found_in_rest names seats rest k s none = rw (list_any-append (λ n. is_eq (by_words k n)) names rest, unseated names seats k s.own none)
+
+-- and where numbers are left, it is not in the set
+not_found : (names : Names) (seats : List ℕ) (rest : Names) (k : NameKey) → AreSeated names seats rest → length names < 2 ^ 32
     → holder_of names seats (seat_in (length seats) k) ≡ None → is_among (names ++ rest) k ≡ false
-not_found names seats rest k s none =
-    rw (
-      list_any-append (λ n. is_eq (by_words k n)) names rest,
-      false_from_ne_true (is_among names k) (λ t. let r = among_at names k t in cc (sym none ∙ own_holder names seats r.0 k s.own r.1)),
-      false_from_ne_true (is_among rest k) (λ t. cc (sym (ap is_some none) ∙ s.taken k t)),
-    )
+not_found names seats rest k s few none =
+    rw (found_in_rest names seats rest k s none)
+    (false_from_ne_true (is_among rest k) (λ t. elim (s.taken k t) [ inl held ↦ cc (sym (ap is_some none) ∙ held) | inr full ↦ absurd (omega arith) ]))
 
 -- a name whose seat another has is among the rest, if anywhere
 found : (names : Names) (seats : List ℕ) (rest : Names) (k h : NameKey) → AreSeated names seats rest
@@ -110,24 +117,39 @@ seated_new names seats rest seat name s few inside is free =
             | inr new ↦ rw (← new.1, ← is, get_or-set_same seats seat (length names) 0 inside) (sym new.0)
           ]);
       taken = λ k among.
-          let held = s.taken k among in
-          rw (long, get_or-set_other seats seat (seat_in (length seats) k) (length names) 0 (apart k held))
-          (held_more (length seats) (seat_in (length seats) k) names (name ∷ []) (get_or seats (seat_in (length seats) k) 0)
-          (slice_get names (get_or seats (seat_in (length seats) k) 0)) refl held);
+          elim (s.taken k among) [
+            | inl held ↦
+                inl (rw (long, get_or-set_other seats seat (seat_in (length seats) k) (length names) 0 (apart k held))
+                (held_more (length seats) (seat_in (length seats) k) names (name ∷ []) (get_or seats (seat_in (length seats) k) 0)
+                (slice_get names (get_or seats (seat_in (length seats) k) 0)) refl held))
+            | inr full ↦ absurd (omega arith)
+          ];
     }
 
--- a name more among the rest, where its seat is taken
-pub seated_rest : (names : Names) (seats : List ℕ) (old new : BTreeSet NameKey) (name h : NameKey) → AreSeated names seats old.keys
-    → holder_of names seats (seat_in (length seats) name) ≡ Some h → Updates by_words old new name true → AreSeated names seats new.keys
-seated_rest names seats old new name h s some up = record {
+-- a name more among the rest, where its seat is taken or no number is left
+pub seated_rest : (names : Names) (seats : List ℕ) (old new : Names) (name : NameKey) → AreSeated names seats old
+    → (is_some (holder_of names seats (seat_in (length seats) name)) ≡ true) ⊎ (2 ^ 32 ≤ length names) → IsWith old new name → AreSeated names seats new
+seated_rest names seats old new name s why with = record {
   few = s.few;
   own = s.own;
   taken = λ k among.
       elim (cases_Bool (is_eq (by_words name k))) [
-        | inl t ↦ rw (← one_key name k t, some)
-        | inr f ↦ s.taken k (sym (rw f at (up.0 k)) ∙ among)
+        | inl t ↦ rw (← one_key name k t) why
+        | inr f ↦ s.taken k (sym (rw f at (with k)) ∙ among)
       ];
 }
+
+or_either : (a b c : Bool) → (a || (b || c)) ≡ (b || (a || c))
+or_either true true c = refl
+or_either true false c = refl
+or_either false true c = refl
+or_either false false c = refl
+
+-- with a name more among the rest the set has that name more
+pub with_rest : (names old new : Names) (name : NameKey) → IsWith old new name → IsWith (names ++ old) (names ++ new) name
+with_rest names old new name with = λ k.
+    rw (list_any-append (λ n. is_eq (by_words k n)) names new, list_any-append (λ n. is_eq (by_words k n)) names old, with k)
+    (or_either (is_among names k) (is_eq (by_words name k)) (is_among old k))
 
 or_swap : (a b c : Bool) → ((a || (b || false)) || c) ≡ (b || (a || c))
 or_swap true true c = refl
@@ -177,8 +199,11 @@ module _ {names read rest : Names} {seats : List ℕ} {seat : ℕ} (name : NameK
   pub held_by : {p : Option NameKey} → o ≡ p → holder_of names seats (seat_in (length seats) name) ≡ p
   held_by e = rw (← is, ← same, ← held) e
 
-  pub held_by_none : o ≡ None → is_among (names ++ rest) name ≡ false
-  held_by_none e = not_found names seats rest name s (held_by e)
+  pub held_by_none : length names < 2 ^ 32 → o ≡ None → is_among (names ++ rest) name ≡ false
+  held_by_none few e = not_found names seats rest name s few (held_by e)
+
+  pub held_by_rest : o ≡ None → is_among (names ++ rest) name ≡ is_among rest name
+  held_by_rest e = found_in_rest names seats rest name s (held_by e)
 
   -- equal words are those of one name
   pub held_by_some : {h : NameKey} {words answer : Bool} → o ≡ Some h

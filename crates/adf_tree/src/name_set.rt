@@ -1,6 +1,6 @@
 // Sets of names, of which equal ones without the case of `a` to `z` are one.
 
-ghost use Rattle.std.specs.Prelude.{◌≡◌, ◌<◌, ◌≤◌, ◌^◌, ◌++◌, [], ◌∷◌, ℕ, List, None, length, false, not, IfOk, OnOk};
+ghost use Rattle.std.specs.Prelude.{◌≡◌, ◌<◌, ◌≤◌, ◌^◌, ◌++◌, [], ◌∷◌, ℕ, List, None, length, false, not, IfOk, OnErr, OnOk};
 ghost use Rattle.adf_tree.specs.Texts.{uppers};
 ghost use Rattle.adf_tree.specs.NameSet.{has, is_among, HasMore, IsUnion, IsWith, Names};
 ghost use Rattle.adf_tree.specs.declared.name_key.NameKey.{NameKey};
@@ -16,8 +16,11 @@ use std::mem;
 
 const FIRST_SEATS: usize = 64;
 
+/// Names that have numbers to be seated by.
+const MOST_SEATED: usize = 1 << 32;
+
 /// A set of names, of which equal ones without the case of `a` to `z` are one. Each name has a seat by its number; those
-/// that find their seat taken stand in order.
+/// that find their seat taken, or no number left, stand in order.
 #[derive(Drop)]
 pub struct NameSet {
     seated: Vec<NameKey>,
@@ -66,7 +69,8 @@ fn is_in(names: &[NameKey], seats: &[u32], rest: &BTreeSet<NameKey>, name: NameK
 {
     match holder(names, seats, seat_of(name, seats.len())) {
         Some(held) => held == name || rest.contains(&name),
-        None => false,
+        None if names.len() < MOST_SEATED => false,
+        None => rest.contains(&name),
     }
 }
 
@@ -106,20 +110,31 @@ fn seat_new(
     seat: usize,
     name: NameKey,
 ) -> Result<(), NoMemory>
+    requires few { length names.old.items < 2 ^ 32 }
     requires inside { seat < length seats.old }
     requires seat { seat ≡ seat_in (length seats.old) name }
     requires free { holder_of names.old.items seats.old seat ≡ None }
     ensures seated { (rest : Names) → AreSeated names.old.items seats.old rest → AreSeated names.new.items seats.new rest }
     ensures more { OnOk result (names.new.items ≡ names.old.items ++ name ∷ []) }
 {
-    let Ok(place) = u32::try_from(names.len()) else {
-        return Err(NoMemory);
-    };
+    let place = names.len() as u32;
     if names.push(name).is_err() {
         return Err(NoMemory);
     }
     seats[seat] = place;
     Ok(())
+}
+
+// Puts a name among the rest, and tells whether it is new there.
+fn put_in_rest(rest: &mut BTreeSet<NameKey>, name: NameKey) -> Result<bool, NoMemory>
+    ensures new { IfOk result (λ is_new. is_new ≡ not (is_among rest.old.keys name)) }
+    ensures more { OnOk result (IsWith rest.old.keys rest.new.keys name) }
+    ensures same { OnErr result (rest.new.keys ≡ rest.old.keys) }
+{
+    match rest.insert(name) {
+        Ok(is_new) => Ok(is_new),
+        Err(_) => Err(NoMemory),
+    }
 }
 
 // Puts a name in, and tells whether it is new there.
@@ -137,18 +152,16 @@ fn place(
 {
     let seat = seat_of(name, seats.len());
     match holder(names, seats, seat) {
-        None => {
+        None if names.len() < MOST_SEATED => {
             seat_new(names, seats, seat, name)?;
             Ok(true)
         }
+        None => put_in_rest(rest, name),
         Some(held) => {
             if held == name {
                 return Ok(false);
             }
-            match rest.insert(name) {
-                Ok(is_new) => Ok(is_new),
-                Err(_) => Err(NoMemory),
-            }
+            put_in_rest(rest, name)
         }
     }
 }
