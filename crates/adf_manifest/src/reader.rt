@@ -188,7 +188,8 @@ fn opened(alloc: Global, tree: &Draft, line: EntryText) -> Result<Open, Manifest
         Err(AddFault::NoParent) => Err(ManifestKind::NoParent),
         Err(AddFault::ParentIsFile) => Err(ManifestKind::ParentIsFile),
         Err(AddFault::Exists) => Err(ManifestKind::Exists),
-        Err(AddFault::NoMemory | AddFault::EmptyPath) => Err(ManifestKind::NoMemory),
+        Err(AddFault::EmptyPath) => unreachable!(),
+        Err(AddFault::NoMemory) => unreachable!(),
     }
 }
 
@@ -281,10 +282,7 @@ fn push_copies(bytes: &mut Vec<u8>, count: u32, byte: u8) -> Result<(), Manifest
     ensures bytes { IfOk result (λ _. bytes.new.items ≡ bytes.old.items ++ replicate count byte) }
     ensures err { IfErr result (λ kind. kind ≡ ManifestKind.NoMemory) }
 {
-    let Some(total) = bytes.len().checked_add(count as usize) else {
-        return Err(ManifestKind::NoMemory);
-    };
-    match bytes.resize(total, byte) {
+    match bytes.resize(bytes.len() + count as usize, byte) {
         Ok(()) => Ok(()),
         Err(_) => Err(ManifestKind::NoMemory),
     }

@@ -1,6 +1,6 @@
 -- Whether there is room for a path, and what may be added there.
 use Rattle.std.proofs.Common.{◌≡◌, ℕ, ◌-◌, ◌<◌, inl, inr, List, [], ◌∷◌, length, get_or, true, false, Bool, Option, Some, None, Result, Ok, Err, arith, ◌==◌}
-use Rattle.std.proofs.Common.{sym, refl, ◌∙◌, ap, if◌then◌else◌, zero, suc, take, ◌++◌, ◌+◌}
+use Rattle.std.proofs.Common.{sym, refl, ◌∙◌, ap, subst, if◌then◌else◌, zero, suc, take, ◌++◌, ◌+◌}
 use Rattle.std.specs.Prelude.{option_map}
 use Rattle.std.specs.Option.{unwrap_or}
 use Rattle.std.specs.List.{slice_get}
@@ -13,7 +13,7 @@ use Rattle.adf_tree.specs.declared.entry.Meta.{Meta}
 use Rattle.adf_tree.specs.declared.entry.Body.{Body}
 use Rattle.adf_tree.specs.declared.entry.Body.TheVariants.{Dir, File}
 use Rattle.adf_tree.specs.declared.tree.AddFault.{AddFault}
-use Rattle.adf_tree.specs.declared.tree.AddFault.TheVariants.{NoParent, ParentIsFile}
+use Rattle.adf_tree.specs.declared.tree.AddFault.TheVariants.{NoParent, ParentIsFile, Exists, NoMemory, EmptyPath}
 use Rattle.adf_tree.specs.Texts.{uppers}
 use Rattle.adf_tree.specs.Tree.{is_child, child, is_dir, is_dir_body, directory_from, room_at, free_in, added, IsDir, IsTree, AreApart, MayAdd, Tree}
 use Rattle.adf_tree.specs.Tree.{new_entry, with_entry, last_of, parents_of, room_for}
@@ -116,3 +116,41 @@ pub tree_left : (t : Tree) (entries : List Entry) (e : Entry) (b : Bool) (path :
     → (let u : Tree = record t { entries = entries } in u ≡ (if b then with_entry t path meta body else t))
 tree_left t entries e true path meta body h same = rw (h, same)
 tree_left t entries e false path meta body h same = rw h
+
+-- why a path with a name has no room: its parent is none, or it exists
+abbrev pub SaysNoRoom : AddFault → Type 0
+SaysNoRoom NoMemory = ⊥
+SaysNoRoom EmptyPath = ⊥
+SaysNoRoom _ = Unit {0}
+
+next_says : (es : List Entry) (names : List (List ℕ)) (f : AddFault) (o : Option ℕ)
+    → ((n : ℕ) → directory_from es n names ≡ Err f → SaysNoRoom f)
+    → (let r : Result ℕ AddFault =
+    elim o [ None ↦ Err NoParent | Some n ↦ if is_dir es n then directory_from es n names else Err ParentIsFile ] in r ≡ Err f) → SaysNoRoom f
+next_says es names f None more h = let same : NoParent ≡ f = cc in subst SaysNoRoom same tt
+next_says es names f (Some n) more h =
+    elim (cases_Bool (is_dir es n)) [
+      | inl t ↦ more n (rw t at h)
+      | inr file ↦
+          let g : (let r : Result ℕ AddFault = Err ParentIsFile in r ≡ Err f) = rw file at h in
+          let same : ParentIsFile ≡ f = cc in
+          subst SaysNoRoom same tt
+    ]
+
+directory_says : (es : List Entry) (names : List (List ℕ)) (f : AddFault) (p : ℕ) → directory_from es p names ≡ Err f → SaysNoRoom f
+directory_says es [] f p h = cc
+directory_says es (name ∷ names) f p h = next_says es names f (child es p name) (directory_says es names f) h
+
+taken_says : (p : ℕ) (o : Option ℕ) (f : AddFault) → free_in p o ≡ Err f → SaysNoRoom f
+taken_says p None f h = cc
+taken_says p (Some n) f h = let same : Exists ≡ f = cc in subst SaysNoRoom same tt
+
+room_says_why : (es : List Entry) (name : List ℕ) (f : AddFault) (r : Result ℕ AddFault) → ((g : AddFault) → r ≡ Err g → SaysNoRoom g)
+    → room_at es name r ≡ Err f → SaysNoRoom f
+room_says_why es name f (Err g) why h = let same : g ≡ f = cc in subst SaysNoRoom same (why g refl)
+room_says_why es name f (Ok p) why h =
+    taken_says p (child es p name) f h
+
+pub no_room : (es : List Entry) (path : List (List ℕ)) (f : AddFault) → 0 < length path → room_for es path ≡ Err f → SaysNoRoom f
+no_room es path f some h =
+    room_says_why es (last_of path) f (directory_from es 0 (parents_of path)) (λ g. directory_says es (parents_of path) g 0) (rw (ne_eqb (length path) 0 (omega arith)) at h)
