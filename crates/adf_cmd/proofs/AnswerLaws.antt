@@ -1,5 +1,5 @@
 -- From outcomes to answers.
-use Rattle.std.proofs.Common.{◌≡◌, ◌≢◌, ◌∙◌, inl, inr, ℕ, Bool, Bor, false, List, [], map, Option, Some, None, IfSome, refl, sym, ap, subst, arith}
+use Rattle.std.proofs.Common.{◌≡◌, ◌≢◌, ◌∙◌, inl, inr, ℕ, Bool, Bor, false, List, [], map, Option, Some, None, IfSome, refl, sym, subst, arith}
 use Rattle.std.specs.Prelude.{codes, string_bytes}
 use Rattle.adf_fields.proofs.DateTexts.{date_of, date_of_is}
 use Rattle.adf_tree.specs.PathTexts.{IsPathText}
@@ -11,34 +11,23 @@ use Rattle.adf_volume.specs.Fits.{Fits}
 use Rattle.adf_volume.specs.Layout.{Layout}
 use Rattle.adf_volume.specs.Walk.{FirstFault}
 use Rattle.adf_check.specs.Pieces.{bytes_of}
-use Rattle.adf_check.specs.Volumes.{counts_of}
-use Rattle.adf_check.specs.declared.checked.Counts.{Counts}
 use Rattle.adf_check.specs.declared.fault.Fault.{Fault}
-use Rattle.adf_cmd.specs.Answers.{Answer, Answers, AnswersPart, BuildsOrIsFull, Copies, IsBadPath, IsPart, RefusesImage, contents_at}
+use Rattle.adf_cmd.specs.Answers.{Answer, Answers, AnswersPart, BuildsOrIsFull, Copies, IsBadPath, RefusesImage, contents_at}
 use Rattle.adf_cmd.specs.CommandLine.{Asks, Request, build, cat, check, convert, list}
 use Rattle.adf_manifest.specs.Manifest.{ExplainsFault, IsManifest}
-use Rattle.adf_cmd.specs.Outcomes.{CopyWorks, IsFaultOutcome, IsRefusal, IsRefusedImage, IsUnread, TellsFault, TreeWorks, Works}
+use Rattle.adf_cmd.specs.Outcomes.{CopyWorks, IsFaultOutcome, IsRefusal, IsRefusedImage, IsUnread, TreeWorks, Works}
 use Rattle.adf_cmd.specs.Outcomes.{is_read_fault, line_of, status_of}
-use Rattle.adf_cmd.specs.Streams.{AppendsPart, Says}
-use Rattle.adf_texts.specs.Lines.{fault_line, ok_line}
+use Rattle.adf_cmd.specs.Streams.{Says}
+use Rattle.adf_texts.specs.Lines.{fault_line}
 use Rattle.adf_texts.specs.VolumeLines.{volume_lines}
 use Rattle.adf_manifest.specs.declared.manifest.ManifestFault.{ManifestFault}
 use Rattle.adf_cmd.specs.declared.outcome.Outcome.{Outcome}
-use Rattle.adf_cmd.specs.declared.outcome.Outcome.TheVariants.{Done, FaultWritten, Refused, NoSuchPath, NotAFile, ReadFault, WriteFault, NoMemory}
+use Rattle.adf_cmd.specs.declared.outcome.Outcome.TheVariants.{Done, Refused, NoSuchPath, NotAFile, ReadFault, WriteFault, NoMemory}
 use Rattle.adf_cmd.proofs.PendingText.{appends_nil}
 
 -- the texts of words
 abbrev pub texts_of : List (Bor (List ℕ)) → List (List ℕ)
 texts_of words = map (λ w. w.now) words
-
--- the numbers are those of the tree and the layout that fit
-abbrev CountsOf : List ℕ → Counts → Type 0
-CountsOf image counts = (t : Tree) × (l : Layout) × Fits image t l × (counts ≡ counts_of image t l)
-
--- a front part of the line of an accepted image
-pub accepted_part : (image line : List ℕ) (counts : Counts) (o o' : Option (List ℕ)) → CountsOf image counts → line ≡ ok_line counts → AppendsPart o o' line
-    → IsPart check image o o'
-accepted_part image line counts o o' (t, l, fits, numbers) e part = (0, line, [], inl (t, l, fits, refl, e ∙ ap ok_line numbers, refl), part)
 
 -- an input that did not come is not answered
 unread : (w : Outcome) (r : Request) (input : List ℕ) (o : Option (List ℕ)) → IsUnread w → Works w r input o o
@@ -50,13 +39,9 @@ pub unread_works : (w : Outcome) (r : Request) (left : Option (List ℕ)) (o : O
 unread_works w r (Some bytes) o h = unread w r bytes o h
 unread_works w r None o h = tt
 
--- what is told of a fault answers the refused image
-pub refused_works : (w : Outcome) (image : List ℕ) (f : Fault) (o o' : Option (List ℕ)) → f.cause ≢ CauseNoMemory
-    → (f.cause ≢ CauseNoMemory → FirstFault image f.block f.cause) → TellsFault w f o o' → Works w check image o o'
-refused_works FaultWritten image f o o' cause first h = (fault_line f, inr (f, first cause, refl, refl, refl), h)
-refused_works WriteFault image f o o' cause first h = (1, fault_line f, [], inr (f, first cause, refl, refl, refl), h)
-refused_works NoMemory image f o o' cause first h = inl h
-refused_works _ image f o o' cause first h = absurd h
+-- the line of the first fault of an image answers `check`
+pub refused_answer : (image line : List ℕ) (f : Fault) → FirstFault image f.block f.cause → line ≡ fault_line f → Answer check image 1 line []
+refused_answer image line f first e = inr (f, first, refl, e, refl)
 
 -- what is said of a fault is said of the image that has it first
 pub refused_image : (w : Outcome) (image : List ℕ) (f : Fault) → (f.cause ≢ CauseNoMemory → FirstFault image f.block f.cause) → IsRefusal f w

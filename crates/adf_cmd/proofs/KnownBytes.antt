@@ -1,9 +1,9 @@
 -- Laws of known bytes.
-use Rattle.std.proofs.Common.{◌≡◌, ◌+◌, ◌-◌, ◌++◌, length-drop, ◌∙◌, ℕ, List, Option, Some, None, length, take, drop, arith}
+use Rattle.std.proofs.Common.{◌≡◌, ◌≤◌, ◌+◌, ◌-◌, ◌++◌, ap, length-drop, ◌∙◌, ℕ, List, Option, Some, None, length, take, drop, arith}
 use Rattle.std.proofs.Common.{append_assoc}
 use Rattle.std.specs.Io.KnownBytes.{Appends, Consumes, Keeps}
-use Rattle.std.proofs.Math.Seq.{take-add}
-use Rattle.std.proofs.lemmas.List.{take_all}
+use Rattle.std.proofs.Math.Seq.{take-add, take-append-add}
+use Rattle.std.proofs.lemmas.List.{take_all, take-append-le}
 
 -- what is left past `at`, as a slice says it
 pub rest_is : (at : ℕ) (bytes : List ℕ) → take (length bytes - at) (drop at bytes) ≡ drop at bytes
@@ -31,3 +31,10 @@ appends_kept None b c bs p q = tt
 appends_kept (Some x) None c bs p q = absurd p
 appends_kept (Some x) (Some y) None bs p q = absurd q
 appends_kept (Some x) (Some y) (Some z) bs p q = q ∙ p
+
+-- what was read before, and then what a read put behind it
+pub read_front : (filled n : ℕ) (before part rest : List ℕ) → filled ≡ length before → n ≤ length part
+    → take (filled + n) (before ++ (part ++ rest)) ≡ before ++ take n part
+read_front filled n before part rest e h =
+    ap (λ k. take (k + n) (before ++ (part ++ rest))) e ∙ take-append-add before (part ++ rest) n
+    ∙ ap (λ l. before ++ l) (take-append-le n part rest h)

@@ -17,7 +17,8 @@ use Rattle.adf_manifest.specs.declared.manifest.ManifestKind.{ManifestKind}
 use Rattle.adf_manifest.specs.declared.manifest.ManifestKind.TheVariants.{NoMemory as ManifestNoMemory, TooLong}
 use Rattle.adf_cmd.specs.Answers.{Answer, limit_of}
 use Rattle.adf_cmd.specs.CommandLine.{Request, build, cat, check, convert, list}
-use Rattle.adf_cmd.specs.Outcomes.{Works, line_of, status_of}
+use Rattle.adf_cmd.specs.declared.checking.CheckAnswer.{CheckAnswer}
+use Rattle.adf_cmd.specs.Outcomes.{IsCheckAnswer, IsCheckAnswerTo, Works, line_of, status_of}
 use Rattle.adf_cmd.specs.declared.outcome.Outcome.{Outcome}
 use Rattle.adf_cmd.specs.declared.outcome.Outcome.TheVariants.{ReadFault, WriteFault, NoMemory}
 
@@ -81,3 +82,18 @@ read_works w r image (Some bytes) o o' e h = elim (cases_lt (limit_of (Some r)) 
       let cut : limit_of (Some r) < length image = rw e (omega (arith, length-take {A = ℕ})) in
       works_both r image bytes o o' (long_answers r image bytes cut long) w h
 ]
+
+-- the answer to the bytes that are read is that to the whole input, where that is known
+pub read_answer : (a : CheckAnswer) (image : List ℕ) (left : Option (List ℕ)) → IfSome left (λ bytes. image ≡ take (limit_of (Some check) + 1) bytes)
+    → IsCheckAnswer image a → IsCheckAnswerTo left a
+read_answer a image None e h = (image, tt, h)
+read_answer a image (Some bytes) e h = (
+  bytes,
+  refl,
+  elim (cases_lt (limit_of (Some check)) (length bytes)) [
+    | inr short ↦ subst (λ l. IsCheckAnswer l a) (e ∙ take_all (limit_of (Some check) + 1) bytes (omega arith)) h
+    | inl long ↦
+        let cut : limit_of (Some check) < length image = rw e (omega (arith, length-take {A = ℕ})) in
+        long_answers check image bytes cut long _ _ _ h
+  ],
+)

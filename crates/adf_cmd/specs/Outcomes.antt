@@ -1,5 +1,5 @@
 -- How the work of a command went.
-use Rattle.std.specs.Prelude.{◌≡◌, ◌≢◌, ◌<◌, ◌-◌, ◌⊎◌, ℕ, Bool, true, false, List, [], codes, Option, None, Some, string_bytes}
+use Rattle.std.specs.Prelude.{◌≡◌, ◌≢◌, ◌<◌, ◌-◌, ◌⊎◌, ℕ, Bool, true, false, List, [], codes, Option, None, Some, IfSome, if◌then◌else◌, string_bytes}
 use Rattle.std.specs.Io.KnownBytes.{Appends}
 use Rattle.adf_tree.specs.Tree.{Tree}
 use Rattle.adf_blocks.specs.declared.cause.Cause.TheVariants.{NoMemory as CauseNoMemory}
@@ -8,11 +8,12 @@ use Rattle.adf_build.specs.Plan.{blocks_needed}
 use Rattle.adf_build.specs.Building.{need_of}
 use Rattle.adf_check.specs.declared.fault.Fault.{Fault}
 use Rattle.adf_cmd.specs.Answers.{Answer, IsBuilt, IsPart, built}
-use Rattle.adf_cmd.specs.CommandLine.{Request}
+use Rattle.adf_cmd.specs.CommandLine.{Request, check}
 use Rattle.adf_cmd.specs.Streams.{AppendsPart}
 use Rattle.adf_texts.specs.Lines.{fault_line, full_line, manifest_fault_line}
 use Rattle.adf_manifest.specs.declared.manifest.ManifestFault.{ManifestFault}
 use Rattle.adf_manifest.specs.declared.manifest.ManifestKind.TheVariants.{NoMemory as ManifestNoMemory}
+use Rattle.adf_cmd.specs.declared.checking.CheckAnswer.{CheckAnswer}
 use Rattle.adf_cmd.specs.declared.outcome.Outcome.{Outcome}
 use Rattle.adf_cmd.specs.declared.outcome.Outcome.TheVariants.{Done, FaultWritten, Refused, NoSuchPath, NotAFile, ReadFault, WriteFault, NoMemory}
 
@@ -82,12 +83,13 @@ IsFaultOutcome f (Refused line) = (f.kind ≢ ManifestNoMemory) × (string_bytes
 IsFaultOutcome f NoMemory = Unit {0}
 IsFaultOutcome f _ = ⊥
 
--- telling a fault: its line is written, or a front part of it, or nothing for want of memory
-abbrev pub TellsFault : Outcome → Fault → Option (List ℕ) → Option (List ℕ) → Type 0
-TellsFault FaultWritten f o o' = Appends o o' (fault_line f)
-TellsFault WriteFault f o o' = AppendsPart o o' (fault_line f)
-TellsFault NoMemory f o o' = Appends o o' []
-TellsFault _ f o o' = ⊥
+-- the answer of `check` to an image: at status 0 where it is sound, at status 1 where it is refused
+abbrev pub IsCheckAnswer : List ℕ → CheckAnswer → Type 0
+IsCheckAnswer image a = Answer check image (if a.sound then 0 else 1) (string_bytes a.line) []
+
+-- the answer of `check` to bytes, to the known ones where some are
+abbrev pub IsCheckAnswerTo : Option (List ℕ) → CheckAnswer → Type 0
+IsCheckAnswerTo known a = (bytes : List ℕ) × IfSome known (λ all. all ≡ bytes) × IsCheckAnswer bytes a
 
 -- saying on errors why an image is refused
 abbrev pub IsRefusal : Fault → Outcome → Type 0

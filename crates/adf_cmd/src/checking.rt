@@ -1,20 +1,21 @@
 // The command `check`.
 
-ghost use Rattle.std.specs.Prelude.{◌≡◌, ◌+◌, false, IfOk, IfSome, Some, string_bytes, true};
+ghost use Rattle.std.specs.Prelude.{◌≡◌, ◌+◌, false, IfOk, IfSome, List, Some, string_bytes, true, ℕ};
 ghost use Rattle.adf_tree.specs.Tree.{Tree};
 ghost use Rattle.adf_volume.specs.Layout.{Layout};
+ghost use Rattle.adf_volume.specs.Walk.{FirstFault};
 ghost use Rattle.adf_check.specs.Volumes.{StandsFor};
 ghost use Rattle.adf_cmd.specs.Answers.{limit_of};
 ghost use Rattle.adf_cmd.specs.CommandLine.{check};
-ghost use Rattle.adf_cmd.specs.Outcomes.{TellsFault, Works, is_read_fault, is_write_fault};
-ghost use Rattle.adf_cmd.specs.Streams.{TakesAtMost};
+ghost use Rattle.adf_cmd.specs.Outcomes.{IsCheckAnswer, IsCheckAnswerTo, Works, is_read_fault, is_write_fault};
+ghost use Rattle.adf_cmd.specs.Streams.{TakesAtMost, is_device};
 ghost use Rattle.adf_texts.specs.Lines.{ok_line};
 
 use crate::devices::{Sink, Source};
 use crate::images::{MOST_IMAGE_BYTES, refused_line};
 use crate::inputs::read_input;
 use crate::outcome::Outcome;
-use crate::streams::write_all;
+use crate::streams::{StreamFault, read_into, write_all};
 use adf_blocks::Cause;
 use adf_check::{Checked, Counts, Fault, check};
 use adf_texts::push_counts;
@@ -29,54 +30,77 @@ fn accepted_line(alloc: Global, counts: &Counts) -> Result<String, AllocError>
     Ok(line)
 }
 
-// Writes the line of an accepted image.
-#[tactic(auto, using(crate::proofs::AnswerLaws::accepted_part))]
-fn tell_accepted<W: Sink>(alloc: Global, volume: &Checked<'_>, output: &mut W) -> Outcome
-    requires works { W.has_failed output.old ≡ false }
+/// What `check` answers to an image.
+#[derive(Drop)]
+pub struct CheckAnswer {
+    /// Whether the image is accepted.
+    pub sound: bool,
+    /// The line that `check` writes, with its line feed.
+    pub line: String,
+}
+
+// The answer to an accepted image.
+fn acceptance(alloc: Global, volume: &Checked<'_>) -> Result<CheckAnswer, AllocError>
     requires stands { (t : Tree) × (l : Layout) × StandsFor volume.now t l }
-    ensures works { Works result check volume.now.image (W.held output.old) (W.held output.new) }
-    ensures written { W.has_failed output.new ≡ is_write_fault result }
-    ensures read { is_read_fault result ≡ false }
+    ensures { IfOk result (IsCheckAnswer volume.now.image) }
 {
-    let Ok(line) = accepted_line(alloc, &volume.counts()) else {
-        return Outcome::NoMemory;
-    };
-    match write_all(output, line.as_bytes()) {
-        Ok(()) => Outcome::Done,
-        Err(_) => Outcome::WriteFault,
+    let line = accepted_line(alloc, &volume.counts())?;
+    Ok(CheckAnswer { sound: true, line })
+}
+
+// The answer to an image with this first fault.
+fn refusal(alloc: Global, fault: Fault) -> Result<CheckAnswer, AllocError>
+    ensures { (image : List ℕ) → FirstFault image fault.block fault.cause → IfOk result (IsCheckAnswer image) }
+{
+    let line = refused_line(alloc, fault)?;
+    Ok(CheckAnswer { sound: false, line })
+}
+
+/// Checks an image. `AllocError` where memory was refused, which says nothing of the image.
+pub fn answer_to_image(alloc: Global, image: &[u8]) -> Result<CheckAnswer, AllocError>
+    ensures { IfOk result (IsCheckAnswer image.now) }
+{
+    match check(alloc, image) {
+        Ok(volume) => acceptance(alloc, &volume),
+        Err(fault) => match fault.cause {
+            Cause::NoMemory => Err(AllocError),
+            _ => refusal(alloc, fault),
+        },
     }
 }
 
-// Writes the line of a refused image.
-fn tell_refused<W: Sink>(alloc: Global, fault: Fault, output: &mut W) -> Outcome
-    requires { W.has_failed output.old ≡ false }
-    ensures told { TellsFault result fault (W.held output.old) (W.held output.new) }
-    ensures written { W.has_failed output.new ≡ is_write_fault result }
-    ensures read { is_read_fault result ≡ false }
+/// Reads an image into a buffer, which may be that of an earlier image, and checks it. `Device` where
+/// the reader failed, `NoMemory` where memory was refused.
+pub fn answer_to_input<R: Source>(
+    alloc: Global,
+    input: &mut R,
+    buffer: &mut Vec<u8>,
+) -> Result<CheckAnswer, StreamFault>
+    requires { R.has_failed input.old ≡ false }
+    ensures answer { IfOk result (IsCheckAnswerTo (R.left input.old)) }
+    ensures failed { R.has_failed input.new ≡ is_device result }
+    ensures reliable { R.may_fail input.old ≡ false → R.has_failed input.new ≡ false }
+    ensures at_most { TakesAtMost (limit_of (Some check) + 1) (R.left input.old) (R.left input.new) }
 {
-    let Ok(line) = refused_line(alloc, fault) else {
-        return Outcome::NoMemory;
-    };
-    match write_all(output, line.as_bytes()) {
-        Ok(()) => Outcome::FaultWritten,
-        Err(_) => Outcome::WriteFault,
-    }
+    let count = read_into(input, MOST_IMAGE_BYTES, buffer)?;
+    let answer = answer_to_image(alloc, &buffer[..count])?;
+    Ok(answer)
 }
 
 // Checks an image, and writes the verdict.
-#[tactic(auto, using(crate::proofs::AnswerLaws::refused_works))]
 fn check_image<W: Sink>(alloc: Global, image: &[u8], output: &mut W) -> Outcome
     requires { W.has_failed output.old ≡ false }
     ensures works { Works result check image.now (W.held output.old) (W.held output.new) }
     ensures written { W.has_failed output.new ≡ is_write_fault result }
     ensures read { is_read_fault result ≡ false }
 {
-    match check(alloc, image) {
-        Ok(volume) => tell_accepted(alloc, &volume, output),
-        Err(fault) => match fault.cause {
-            Cause::NoMemory => Outcome::NoMemory,
-            _ => tell_refused(alloc, fault, output),
-        },
+    let Ok(answer) = answer_to_image(alloc, image) else {
+        return Outcome::NoMemory;
+    };
+    match write_all(output, answer.line.as_bytes()) {
+        Ok(()) if answer.sound => Outcome::Done,
+        Ok(()) => Outcome::FaultWritten,
+        Err(_) => Outcome::WriteFault,
     }
 }
 

@@ -1,6 +1,6 @@
 // Devices that give and take bytes, and know whether they have failed.
 
-ghost use Rattle.std.specs.Prelude.{◌≡◌, ℕ, Bool, false, is_err, List, Option};
+ghost use Rattle.std.specs.Prelude.{◌≡◌, ℕ, Bool, false, is_err, List, Option, true};
 ghost use Rattle.std.specs.Io.{ReadsAtMost, WritesAtMost};
 ghost use Rattle.std.specs.Io.KnownBytes.{ReadConsumes, WriteAppends};
 ghost use Rattle.adf_cmd.specs.Devices.{write_fails};
@@ -19,13 +19,17 @@ pub trait Source {
     /// Whether it has failed.
     ghost has_failed: { Self → Bool };
 
+    /// Whether a read of it may fail, now or later.
+    ghost may_fail: { Self → Bool } = { λ _. true };
+
     /// Fills the front of `buf` and answers the number of bytes, at most the length of `buf`;
     /// 0 with room in `buf` means the end. `Failed` where the device answers an error.
     fn read(&mut self, buf: &mut [u8]) -> Result<usize, Failed>
         requires { has_failed self.old ≡ false }
         ensures count { ReadsAtMost result buf.new }
         ensures bytes { ReadConsumes (left self.old) (left self.new) result buf.new }
-        ensures failed { has_failed self.new ≡ is_err result };
+        ensures failed { has_failed self.new ≡ is_err result }
+        ensures reliable { may_fail self.old ≡ false → (may_fail self.new ≡ false) × (is_err result ≡ false) };
 
     /// Whether a read answered `Failed`.
     fn failed(&self) -> bool

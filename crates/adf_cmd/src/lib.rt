@@ -16,11 +16,12 @@ mod runner;
 mod streams;
 mod volume_listing;
 
+pub use crate::checking::{CheckAnswer, answer_to_image, answer_to_input};
 pub use crate::command_line::{Order, WordsFault, parse, words_as_documented};
 pub use crate::devices::{Device, Failed, Sink, Source};
 pub use crate::images::MOST_IMAGE_BYTES;
 pub use crate::listing::write_listing;
 pub use crate::round_trip::build_and_read;
 pub use crate::runner::{one_answer, refuse_words, run};
-pub use crate::streams::{StreamFault, read_all, say, write_all};
+pub use crate::streams::{StreamFault, read_all, read_into, say, write_all};
 pub use adf_manifest::{ManifestFault, ManifestKind, read_manifest};

@@ -1,7 +1,7 @@
 // Whole reads and writes over devices.
 
-ghost use Rattle.std.specs.Prelude.{◌≡◌, [], ◌+◌, ◌<◌, ◌^◌, false, is_err, IfOk, OnOk, OnErr, IfSome, length, take, vec_len};
-ghost use Rattle.std.specs.Io.KnownBytes.{Appends};
+ghost use Rattle.std.specs.Prelude.{◌≡◌, [], ◌+◌, ◌<◌, ◌≤◌, ◌^◌, false, is_err, IfOk, List, OnOk, OnErr, Option, IfSome, length, take, vec_len, ℕ};
+ghost use Rattle.std.specs.Io.KnownBytes.{Appends, Consumes, IsAtEnd, Keeps};
 ghost use Rattle.adf_cmd.specs.Streams.{AppendsPart, KeepsPending, Says, TakesAtMost, is_device};
 
 use crate::devices::{Failed, Sink, Source};
@@ -36,18 +36,11 @@ impl From<AllocError> for StreamFault {
     }
 }
 
-/// Bytes of the buffer that is read through, and of the text that waits to be written.
+/// Bytes that a buffer grows by, and of the text that waits to be written.
 const CHUNK: usize = 65536;
 
 /// Bytes that an input has room for from the start, a floppy's and more; what is not filled costs nothing.
 const FIRST_ROOM: usize = 1 << 20;
-
-// Room for a read.
-fn new_buffer(alloc: Global, size: usize) -> Result<Vec<u8>, AllocError>
-    ensures { IfOk result (λ buffer. vec_len buffer ≡ size) }
-{
-    vec![in alloc; 0u8; size]
-}
 
 // Room for an input; where that is refused, the input makes its own as it comes.
 fn room_for_input(alloc: Global) -> Vec<u8>
@@ -59,30 +52,71 @@ fn room_for_input(alloc: Global) -> Vec<u8>
     }
 }
 
-// Reads to the end through a buffer, and at most one byte more than the limit.
-fn read_through<R: Source>(
-    alloc: Global,
+// Grows a buffer that has no room behind its first bytes.
+fn make_room(buffer: &mut Vec<u8>, filled: usize) -> Result<(), AllocError>
+    requires { filled ≤ vec_len buffer.old }
+    ensures kept { take filled buffer.new.items ≡ take filled buffer.old.items }
+    ensures within { filled ≤ vec_len buffer.new }
+    ensures room { OnOk result (filled < vec_len buffer.new) }
+{
+    if filled < buffer.len() {
+        return Ok(());
+    }
+    buffer.resize(filled + CHUNK, 0)
+}
+
+// Reads once into a part of a buffer, behind what was read before.
+fn read_behind<R: Source>(
+    input: &mut R,
+    filled: usize,
+    end: usize,
+    buffer: &mut [u8],
+) -> Result<usize, Failed>
+    requires room { filled < end }
+    requires inside { end ≤ length buffer.old }
+    requires works { R.has_failed input.old ≡ false }
+    ensures bytes { IfOk result (λ n. (start : Option (List ℕ)) → Consumes start (R.left input.old) (take filled buffer.old)
+        → Consumes start (R.left input.new) (take (filled + n) buffer.new)) }
+    ensures within { IfOk result (λ n. filled + n ≤ end) }
+    ensures end { IfOk result (λ n. n ≡ 0 → IsAtEnd (R.left input.new)) }
+    ensures kept { OnErr result (Keeps (R.left input.old) (R.left input.new)) }
+    ensures len { length buffer.new ≡ length buffer.old }
+    ensures failed { R.has_failed input.new ≡ is_err result }
+    ensures reliable { R.may_fail input.old ≡ false → (R.may_fail input.new ≡ false) × (is_err result ≡ false) }
+{
+    match input.read(&mut buffer[filled..end]) {
+        Ok(count) => Ok(count),
+        Err(e) => Err(e),
+    }
+}
+
+/// Reads to the end into the front of a buffer, and at most one byte more than the limit, so that a
+/// longer input is seen to be longer; answers how many bytes. The buffer grows where it is full, and
+/// never shrinks. `Device` where the reader failed, `NoMemory` where memory was refused.
+pub fn read_into<R: Source>(
     input: &mut R,
     limit: usize,
-    buffer: &mut [u8],
-) -> Result<Vec<u8>, StreamFault>
+    buffer: &mut Vec<u8>,
+) -> Result<usize, StreamFault>
     requires limited { limit < 2 ^ 63 }
-    requires room { 0 < length buffer.old }
     requires works { R.has_failed input.old ≡ false }
-    ensures all { IfOk result (λ all. IfSome (R.left input.old) (λ bytes. all.items ≡ take (limit + 1) bytes)) }
+    ensures all { IfOk result (λ n. IfSome (R.left input.old) (λ bytes. take n buffer.new.items ≡ take (limit + 1) bytes)) }
+    ensures within { IfOk result (λ n. n ≤ vec_len buffer.new) }
     ensures at_most { TakesAtMost (limit + 1) (R.left input.old) (R.left input.new) }
     ensures failed { R.has_failed input.new ≡ is_device result }
+    ensures reliable { R.may_fail input.old ≡ false → R.has_failed input.new ≡ false }
 {
-    let mut all = room_for_input(alloc);
-    while all.len() <= limit {
-        let room = (limit + 1 - all.len()).min(buffer.len());
-        let count = input.read(&mut buffer[..room])?;
+    let mut filled = 0usize;
+    while filled <= limit {
+        make_room(buffer, filled)?;
+        let end = buffer.len().min(limit + 1);
+        let count = read_behind(input, filled, end, buffer)?;
         if count == 0 {
-            return Ok(all);
+            return Ok(filled);
         }
-        all.extend_from_slice(&buffer[..count])?;
+        filled += count;
     }
-    Ok(all)
+    Ok(filled)
 }
 
 /// Reads to the end, and at most one byte more than the limit, so that a longer input is seen to be
@@ -98,8 +132,10 @@ pub fn read_all<R: Source>(
     ensures at_most { TakesAtMost (limit + 1) (R.left input.old) (R.left input.new) }
     ensures failed { R.has_failed input.new ≡ is_device result }
 {
-    let mut buffer = new_buffer(alloc, CHUNK)?;
-    read_through(alloc, input, limit, &mut buffer)
+    let mut all = room_for_input(alloc);
+    let count = read_into(input, limit, &mut all)?;
+    all.truncate(count);
+    Ok(all)
 }
 
 /// Writes all the bytes. `Failed` where the writer failed or took 0 of some bytes; then a front part

@@ -6,6 +6,7 @@ mod escapes;
 mod lines;
 mod volume_lines;
 
+pub use crate::escapes::push_escaped;
 pub use crate::lines::{
     kind_text, manifest_kind_text, push_counts, push_fault, push_full, push_manifest_fault,
     push_word_line,
