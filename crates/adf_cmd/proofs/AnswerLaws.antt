@@ -13,11 +13,14 @@ use Rattle.adf_volume.specs.Walk.{FirstFault}
 use Rattle.adf_check.specs.Pieces.{bytes_of}
 use Rattle.adf_check.specs.declared.fault.Fault.{Fault}
 use Rattle.adf_cmd.specs.Answers.{Answer, Answers, AnswersPart, BuildsOrIsFull, Copies, IsBadPath, RefusesImage, contents_at}
-use Rattle.adf_cmd.specs.CommandLine.{Asks, Request, build, cat, check, convert, list}
+use Rattle.adf_cmd.specs.CommandLine.{Asks, IsRefused, Request, build, cat, check, convert, list}
 use Rattle.adf_manifest.specs.Manifest.{ExplainsFault, IsManifest}
 use Rattle.adf_cmd.specs.Outcomes.{CopyWorks, IsFaultOutcome, IsRefusal, IsRefusedImage, IsUnread, TreeWorks, Works}
 use Rattle.adf_cmd.specs.Outcomes.{is_read_fault, line_of, status_of}
 use Rattle.adf_cmd.specs.Streams.{Says}
+use Rattle.adf_cmd.specs.Work.{IsNoWork, refusal_line, refusal_status}
+use Rattle.adf_cmd.specs.declared.work.WorkFault.{WorkFault}
+use Rattle.adf_cmd.specs.declared.work.WorkFault.TheVariants.{BadPath, NoMemory as WorkNoMemory, Usage}
 use Rattle.adf_texts.specs.Lines.{fault_line}
 use Rattle.adf_texts.specs.VolumeLines.{volume_lines}
 use Rattle.adf_manifest.specs.declared.manifest.ManifestFault.{ManifestFault}
@@ -116,8 +119,6 @@ copy_works NotAFile path names image t l o o' text fits (e, h) =
     ([], copies (Some None) path names image t l 1 [] (line_of NotAFile) text fits e (refl, refl, refl), h)
 copy_works WriteFault path names image t l o o' text fits (bytes, e, h) =
     (0, bytes, [], copies (Some (Some bytes)) path names image t l 0 bytes [] text fits e (refl, refl, refl), h)
-copy_works NoMemory path names image t l o o' text fits (bytes, e, h) =
-    inr (0, bytes, [], copies (Some (Some bytes)) path names image t l 0 bytes [] text fits e (refl, refl, refl), h)
 copy_works _ path names image t l o o' text fits h = absurd h
 
 -- an outcome at a status other than 3 is an answer
@@ -157,3 +158,12 @@ pub bad_path_answers : (words : List (List ℕ)) (path : List ℕ) (left o e e' 
 bad_path_answers words path None o e e' failed status asks bad s said = tt
 bad_path_answers words path (Some input) o e e' failed status asks bad s said =
     (cat path, asks, [], codes "bad path\n", inl (bad, s, refl, refl), appends_nil o, said)
+
+-- words that no work is begun for are answered so, unless they are refused or memory is
+pub no_work_answers : (f : WorkFault) (words : List (List ℕ)) (left o e e' : Option (List ℕ)) (failed : Bool) (status : ℕ) → IsNoWork f words
+    → status ≡ refusal_status f → ¬ IsRefused words → ¬ (status ≡ 3) → Says failed e e' (refusal_line f)
+    → IfSome left (λ input. Answers words input status o o failed e e')
+no_work_answers Usage words left o e e' failed status why s taken ne said = absurd (taken why)
+no_work_answers BadPath words left o e e' failed status (path, asks, bad) s taken ne said =
+    bad_path_answers words path left o e e' failed status asks bad s said
+no_work_answers WorkNoMemory words left o e e' failed status why s taken ne said = absurd (ne s)

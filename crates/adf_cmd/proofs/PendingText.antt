@@ -30,7 +30,25 @@ pending_fails a b c text done rest whole e p q = (
 pub pending_cleared : (b c : Option (List ℕ)) (text text' : List ℕ) → text' ≡ [] → Appends b c text → KeepsPending b text c text'
 pending_cleared b c text text' e q = λ a done p. (done, pending_end a b c text done p q, sym (ap (λ l. done ++ l) e ∙ append-nil done))
 
+-- the text that waits is written, and more waits in its place
+pub pending_flushed : (b c : Option (List ℕ)) (text more text' : List ℕ) → text' ≡ more → Appends b c text → KeepsPending b (text ++ more) c text'
+pending_flushed b c text more text' e q = λ a done p.
+    (p.0 ++ text, appends_two a b c p.0 text (p.0 ++ text) refl p.1 q, rw (e, p.2) (sym (append_assoc p.0 text more)))
+
+-- a front part of a text is one of a longer text
+pub part_of_more : (b c : Option (List ℕ)) (text more : List ℕ) → AppendsPart b c text → AppendsPart b c (text ++ more)
+part_of_more b c text more q = pending_fails b b c text text more (text ++ more) refl (pending_begun b text text refl) q
+
+-- the text that waits is written, and a front part of more
+pub part_behind : (b c d : Option (List ℕ)) (text more : List ℕ) → Appends b c text → AppendsPart c d more → AppendsPart b d (text ++ more)
+part_behind b c d text more p q = pending_fails b c d more (text ++ more) [] (text ++ more) (sym (append-nil (text ++ more))) (text, p, refl) q
+
 -- what holds whatever a result is holds where it is an error
 pub on_err : {T E P : Type 0} (r : Result T E) → P → OnErr r P
 on_err (Ok x) p = tt
 on_err (Err e) p = p
+
+-- what follows of what holds of an error
+pub err_more : {T E P Q : Type 0} (r : Result T E) → (P → Q) → OnErr r P → OnErr r Q
+err_more (Ok x) f p = tt
+err_more (Err e) f p = f p

@@ -2,5 +2,6 @@ pub mod CommandLine
 pub mod Devices
 pub mod Listing
 pub mod Streams
+pub mod Work
 pub mod Answers
 pub mod Outcomes

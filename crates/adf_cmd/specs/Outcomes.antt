@@ -109,5 +109,4 @@ CopyWorks Done found o o' = (bytes : List ℕ) × (found ≡ Some (Some bytes)) 
 CopyWorks NoSuchPath found o o' = (found ≡ None) × Appends o o' []
 CopyWorks NotAFile found o o' = (found ≡ Some None) × Appends o o' []
 CopyWorks WriteFault found o o' = (bytes : List ℕ) × (found ≡ Some (Some bytes)) × AppendsPart o o' bytes
-CopyWorks NoMemory found o o' = (bytes : List ℕ) × (found ≡ Some (Some bytes)) × AppendsPart o o' bytes
 CopyWorks _ found o o' = ⊥

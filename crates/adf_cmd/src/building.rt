@@ -90,8 +90,8 @@ fn refuse_manifest(alloc: Global, fault: ManifestFault) -> Outcome
     }
 }
 
-// Reads a manifest, builds its tree and writes the image or its words.
-fn build_manifest<W: Sink>(alloc: Global, bytes: &[u8], lines: bool, output: &mut W) -> Outcome
+/// Builds the tree of a manifest, and writes the image or the lines of its words.
+pub fn build_manifest<W: Sink>(alloc: Global, bytes: &[u8], lines: bool, output: &mut W) -> Outcome
     requires { W.has_failed output.old ≡ false }
     ensures works { Works result (build lines) bytes.now (W.held output.old) (W.held output.new) }
     ensures written { W.has_failed output.new ≡ is_write_fault result }
@@ -100,27 +100,5 @@ fn build_manifest<W: Sink>(alloc: Global, bytes: &[u8], lines: bool, output: &mu
     match read_manifest(alloc, bytes) {
         Ok((tree, blocks)) => build_tree(alloc, &tree, blocks, lines, output),
         Err(fault) => refuse_manifest(alloc, fault),
-    }
-}
-
-/// Reads a manifest, builds its tree and writes the image, or the lines of the image's words.
-#[tactic(auto, using(crate::proofs::AnswerLaws::unread_works))]
-pub fn build_input<R: Source, W: Sink>(
-    alloc: Global,
-    lines: bool,
-    input: &mut R,
-    output: &mut W,
-) -> Outcome
-    requires reads { R.has_failed input.old ≡ false }
-    requires writes { W.has_failed output.old ≡ false }
-    ensures works { IfSome (R.left input.old) (λ bytes. Works result (build lines) bytes (W.held output.old) (W.held output.new)) }
-    ensures read { R.has_failed input.new ≡ is_read_fault result }
-    ensures written { W.has_failed output.new ≡ is_write_fault result }
-    ensures unwritten { is_read_fault result ≡ true → output.new ≡ output.old }
-    ensures at_most { TakesAtMost (limit_of (Some (build lines)) + 1) (R.left input.old) (R.left input.new) }
-{
-    match read_input(alloc, input, MOST_BYTES) {
-        Ok(bytes) => build_manifest(alloc, &bytes, lines, output),
-        Err(outcome) => outcome,
     }
 }

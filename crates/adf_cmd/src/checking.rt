@@ -87,8 +87,8 @@ pub fn answer_to_input<R: Source>(
     Ok(answer)
 }
 
-// Checks an image, and writes the verdict.
-fn check_image<W: Sink>(alloc: Global, image: &[u8], output: &mut W) -> Outcome
+/// Checks an image, and writes the verdict.
+pub fn check_image<W: Sink>(alloc: Global, image: &[u8], output: &mut W) -> Outcome
     requires { W.has_failed output.old ≡ false }
     ensures works { Works result check image.now (W.held output.old) (W.held output.new) }
     ensures written { W.has_failed output.new ≡ is_write_fault result }
@@ -101,22 +101,5 @@ fn check_image<W: Sink>(alloc: Global, image: &[u8], output: &mut W) -> Outcome
         Ok(()) if answer.sound => Outcome::Done,
         Ok(()) => Outcome::FaultWritten,
         Err(_) => Outcome::WriteFault,
-    }
-}
-
-/// Reads an image, checks it and writes the verdict.
-#[tactic(auto, using(crate::proofs::AnswerLaws::unread_works))]
-pub fn check_input<R: Source, W: Sink>(alloc: Global, input: &mut R, output: &mut W) -> Outcome
-    requires reads { R.has_failed input.old ≡ false }
-    requires writes { W.has_failed output.old ≡ false }
-    ensures works { IfSome (R.left input.old) (λ bytes. Works result check bytes (W.held output.old) (W.held output.new)) }
-    ensures read { R.has_failed input.new ≡ is_read_fault result }
-    ensures written { W.has_failed output.new ≡ is_write_fault result }
-    ensures unwritten { is_read_fault result ≡ true → output.new ≡ output.old }
-    ensures at_most { TakesAtMost (limit_of (Some check) + 1) (R.left input.old) (R.left input.new) }
-{
-    match read_input(alloc, input, MOST_IMAGE_BYTES) {
-        Ok(image) => check_image(alloc, &image, output),
-        Err(outcome) => outcome,
     }
 }

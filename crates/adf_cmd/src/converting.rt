@@ -17,20 +17,31 @@ use crate::outcome::Outcome;
 use adf_tree::{Kind, Tree};
 use std::alloc::Global;
 
-// The tree of an image and the number of its blocks; of a refused image, how the work ends. The image is dropped.
-fn tree_of(alloc: Global, image: Vec<u8>) -> Result<(Tree, u32), Outcome>
+// The tree of an image and the number of its blocks; of a refused image, how the work ends.
+fn tree_of(alloc: Global, image: &[u8]) -> Result<(Tree, u32), Outcome>
+    ensures tree { IfOk result (λ r. (l : Layout) × Fits image.now r.0 l) }
+    ensures size { IfOk result (λ r. r.1 ≡ blocks image.now) }
+    ensures refused { IfErr result (IsRefusedImage image.now) }
+    ensures read { IfErr result (λ w. is_read_fault w ≡ false) }
+    ensures written { IfErr result (λ w. is_write_fault w ≡ false) }
+{
+    let volume = volume_of(alloc, image)?;
+    let count = volume.counts().blocks;
+    match volume.to_tree(alloc) {
+        Ok(tree) => Ok((tree, count)),
+        Err(_) => Err(Outcome::NoMemory),
+    }
+}
+
+// The same, and the image is let go.
+fn tree_in(alloc: Global, image: Vec<u8>) -> Result<(Tree, u32), Outcome>
     ensures tree { IfOk result (λ r. (l : Layout) × Fits image.items r.0 l) }
     ensures size { IfOk result (λ r. r.1 ≡ blocks image.items) }
     ensures refused { IfErr result (IsRefusedImage image.items) }
     ensures read { IfErr result (λ w. is_read_fault w ≡ false) }
     ensures written { IfErr result (λ w. is_write_fault w ≡ false) }
 {
-    let volume = volume_of(alloc, &image)?;
-    let count = volume.counts().blocks;
-    match volume.to_tree(alloc) {
-        Ok(tree) => Ok((tree, count)),
-        Err(_) => Err(Outcome::NoMemory),
-    }
+    tree_of(alloc, &image)
 }
 
 // Builds a tree again, as one of another kind.
@@ -51,10 +62,10 @@ fn convert_tree<W: Sink>(
     build_tree(alloc, &tree, blocks, false, output)
 }
 
-// Checks an image, and builds its tree again, as one of another kind.
-fn convert_image<W: Sink>(alloc: Global, image: Vec<u8>, kind: Kind, output: &mut W) -> Outcome
+/// Checks an image, and builds its tree again, as one of another kind.
+pub fn convert_image<W: Sink>(alloc: Global, image: &[u8], kind: Kind, output: &mut W) -> Outcome
     requires { W.has_failed output.old ≡ false }
-    ensures works { Works result (convert kind) image.items (W.held output.old) (W.held output.new) }
+    ensures works { Works result (convert kind) image.now (W.held output.old) (W.held output.new) }
     ensures read { is_read_fault result ≡ false }
     ensures written { W.has_failed output.new ≡ is_write_fault result }
 {
@@ -64,24 +75,15 @@ fn convert_image<W: Sink>(alloc: Global, image: Vec<u8>, kind: Kind, output: &mu
     }
 }
 
-/// Reads an image, checks it and writes the image of its tree as one of another kind, in as many blocks.
-#[tactic(auto, using(crate::proofs::AnswerLaws::unread_works))]
-pub fn convert_input<R: Source, W: Sink>(
-    alloc: Global,
-    kind: Kind,
-    input: &mut R,
-    output: &mut W,
-) -> Outcome
-    requires reads { R.has_failed input.old ≡ false }
-    requires writes { W.has_failed output.old ≡ false }
-    ensures works { IfSome (R.left input.old) (λ bytes. Works result (convert kind) bytes (W.held output.old) (W.held output.new)) }
-    ensures read { R.has_failed input.new ≡ is_read_fault result }
+/// Does so too, and lets the image go before the new one is built.
+pub fn convert_read<W: Sink>(alloc: Global, image: Vec<u8>, kind: Kind, output: &mut W) -> Outcome
+    requires { W.has_failed output.old ≡ false }
+    ensures works { Works result (convert kind) image.items (W.held output.old) (W.held output.new) }
+    ensures read { is_read_fault result ≡ false }
     ensures written { W.has_failed output.new ≡ is_write_fault result }
-    ensures unwritten { is_read_fault result ≡ true → output.new ≡ output.old }
-    ensures at_most { TakesAtMost (MOST_IMAGE_BYTES + 1) (R.left input.old) (R.left input.new) }
 {
-    match read_input(alloc, input, MOST_IMAGE_BYTES) {
-        Ok(image) => convert_image(alloc, image, kind, output),
+    match tree_in(alloc, image) {
+        Ok((tree, blocks)) => convert_tree(alloc, tree, blocks, kind, output),
         Err(outcome) => outcome,
     }
 }

@@ -1,6 +1,6 @@
 // The command `cat`.
 
-ghost use Rattle.std.specs.Prelude.{◌≡◌, ◌++◌, ◌+◌, ℕ, List, false, OnOk, OnErr, IfSome, true};
+ghost use Rattle.std.specs.Prelude.{◌≡◌, ◌≤◌, ◌<◌, ◌+◌, ◌^◌, ◌++◌, ℕ, List, false, is_err, length, take, IfOk, OnOk, OnErr};
 ghost use Rattle.std.specs.Io.KnownBytes.{Appends};
 ghost use Rattle.std.specs.List.{concat};
 ghost use Rattle.adf_tree.specs.PathTexts.{IsPathText};
@@ -10,55 +10,83 @@ ghost use Rattle.adf_check.specs.Volumes.{StandsFor};
 ghost use Rattle.adf_cmd.specs.Answers.{contents_at};
 ghost use Rattle.adf_cmd.specs.CommandLine.{cat};
 ghost use Rattle.adf_cmd.specs.Outcomes.{CopyWorks, Works, is_read_fault, is_write_fault};
-ghost use Rattle.adf_cmd.specs.Streams.{AppendsPart, KeepsPending, TakesAtMost, is_device};
+ghost use Rattle.adf_cmd.specs.Streams.{AppendsPart, KeepsPending};
 
-use crate::devices::{Sink, Source};
-use crate::images::{MOST_IMAGE_BYTES, volume_of};
-use crate::inputs::read_input;
+use crate::devices::{Failed, Sink};
+use crate::images::volume_of;
 use crate::outcome::Outcome;
-use crate::streams::{StreamFault, flush_long, write_all};
+use crate::streams::write_all;
 use adf_check::{Checked, Pieces};
 use adf_tree::Name;
 use std::alloc::Global;
 
-// Appends a piece, and writes what is long.
-fn copy_piece<W: Sink>(piece: &[u8], text: &mut Vec<u8>, output: &mut W) -> Result<(), StreamFault>
-    requires { W.has_failed output.old ≡ false }
-    ensures ok { OnOk result (KeepsPending (W.held output.old) (text.old.items ++ piece.now) (W.held output.new) text.new.items) }
-    ensures err { OnErr result (AppendsPart (W.held output.old) (W.held output.new) (text.old.items ++ piece.now)) }
-    ensures failed { W.has_failed output.new ≡ is_device result }
+/// Bytes of the room in which pieces wait to be written together.
+const ROOM: usize = 32768;
+
+// Puts a piece into the room behind what waits there, and answers how many bytes wait then.
+fn put_piece(piece: &[u8], room: &mut [u8], waiting: usize) -> usize
+    requires { waiting + length piece.now ≤ length room.old }
+    ensures text { take result room.new ≡ take waiting room.old ++ piece.now }
+    ensures within { result ≤ length room.new }
 {
-    text.extend_from_slice(piece)?;
-    flush_long(output, text)?;
-    Ok(())
+    let end = waiting + piece.len();
+    room[waiting..end].copy_from_slice(piece);
+    end
 }
 
-// Writes the pieces of a file, one after the other.
-fn write_pieces<W: Sink>(
-    alloc: Global,
-    pieces: Pieces<'_>,
+// Puts a piece behind what waits, which is written first where the room is too small for both; answers how many bytes wait then.
+fn copy_piece<W: Sink>(
+    piece: &[u8],
+    room: &mut [u8],
+    waiting: usize,
     output: &mut W,
-) -> Result<(), StreamFault>
+) -> Result<usize, Failed>
+    requires works { W.has_failed output.old ≡ false }
+    requires within { waiting ≤ length room.old }
+    ensures ok { IfOk result (λ n. KeepsPending (W.held output.old) (take waiting room.old ++ piece.now) (W.held output.new) (take n room.new)) }
+    ensures within { IfOk result (λ n. n ≤ length room.new) }
+    ensures err { OnErr result (AppendsPart (W.held output.old) (W.held output.new) (take waiting room.old ++ piece.now)) }
+    ensures failed { W.has_failed output.new ≡ is_err result }
+{
+    if piece.len() <= room.len() - waiting {
+        return Ok(put_piece(piece, room, waiting));
+    }
+    write_all(output, &room[..waiting])?;
+    if piece.len() <= room.len() {
+        return Ok(put_piece(piece, room, 0));
+    }
+    write_all(output, piece)?;
+    Ok(0)
+}
+
+// Writes the pieces of a file, one after the other, through a room.
+fn write_pieces<W: Sink>(pieces: Pieces<'_>, room: &mut [u8], output: &mut W) -> Result<(), Failed>
     requires { W.has_failed output.old ≡ false }
     ensures ok { OnOk result (Appends (W.held output.old) (W.held output.new) (concat pieces.entry)) }
     ensures err { OnErr result (AppendsPart (W.held output.old) (W.held output.new) (concat pieces.entry)) }
-    ensures failed { W.has_failed output.new ≡ is_device result }
+    ensures failed { W.has_failed output.new ≡ is_err result }
 {
-    let mut text = Vec::new(alloc);
+    let mut waiting = 0;
     for piece in pieces {
-        copy_piece(piece, &mut text, output)?;
+        waiting = copy_piece(piece, room, waiting, output)?;
     }
-    write_all(output, &text)?;
-    Ok(())
+    write_all(output, &room[..waiting])
+}
+
+// Writes the pieces of a file through a room of so many bytes.
+fn write_through<const N: usize, W: Sink>(pieces: Pieces<'_>, output: &mut W) -> Result<(), Failed>
+    requires small { N < 2 ^ 32 }
+    requires works { W.has_failed output.old ≡ false }
+    ensures ok { OnOk result (Appends (W.held output.old) (W.held output.new) (concat pieces.entry)) }
+    ensures err { OnErr result (AppendsPart (W.held output.old) (W.held output.new) (concat pieces.entry)) }
+    ensures failed { W.has_failed output.new ≡ is_err result }
+{
+    let mut room = [0; N];
+    write_pieces(pieces, &mut room, output)
 }
 
 // Writes the bytes of the file under a path.
-fn copy_file<W: Sink>(
-    alloc: Global,
-    volume: &Checked<'_>,
-    names: &[Name],
-    output: &mut W,
-) -> Outcome
+fn copy_file<W: Sink>(volume: &Checked<'_>, names: &[Name], output: &mut W) -> Outcome
     requires { W.has_failed output.old ≡ false }
     ensures works { (t : Tree) (l : Layout) → StandsFor volume.now t l → CopyWorks result (contents_at t names.now) (W.held output.old) (W.held output.new) }
     ensures read { is_read_fault result ≡ false }
@@ -70,45 +98,21 @@ fn copy_file<W: Sink>(
     let Some(pieces) = volume.pieces(node) else {
         return Outcome::NotAFile;
     };
-    match write_pieces(alloc, pieces, output) {
+    match write_through::<ROOM, W>(pieces, output) {
         Ok(()) => Outcome::Done,
-        Err(StreamFault::Device) => Outcome::WriteFault,
-        Err(StreamFault::NoMemory) => Outcome::NoMemory,
+        Err(_) => Outcome::WriteFault,
     }
 }
 
-// Checks an image, and writes the bytes of the file under a path.
-fn cat_image<W: Sink>(alloc: Global, image: &[u8], names: &[Name], output: &mut W) -> Outcome
+/// Checks an image, and writes the bytes of the file under a path.
+pub fn cat_image<W: Sink>(alloc: Global, image: &[u8], names: &[Name], output: &mut W) -> Outcome
     requires { W.has_failed output.old ≡ false }
     ensures works { (path : List ℕ) → IsPathText path names.now → Works result (cat path) image.now (W.held output.old) (W.held output.new) }
     ensures read { is_read_fault result ≡ false }
     ensures written { W.has_failed output.new ≡ is_write_fault result }
 {
     match volume_of(alloc, image) {
-        Ok(volume) => copy_file(alloc, &volume, names, output),
-        Err(outcome) => outcome,
-    }
-}
-
-/// Reads an image, checks it and writes the bytes of the file under a path.
-#[tactic(auto, using(crate::proofs::AnswerLaws::unread_works))]
-pub fn cat_input<R: Source, W: Sink>(
-    alloc: Global,
-    names: &[Name],
-    input: &mut R,
-    output: &mut W,
-) -> Outcome
-    requires reads { R.has_failed input.old ≡ false }
-    requires writes { W.has_failed output.old ≡ false }
-    ensures works { (path : List ℕ) → IsPathText path names.now
-        → IfSome (R.left input.old) (λ bytes. Works result (cat path) bytes (W.held output.old) (W.held output.new)) }
-    ensures read { R.has_failed input.new ≡ is_read_fault result }
-    ensures written { W.has_failed output.new ≡ is_write_fault result }
-    ensures unwritten { is_read_fault result ≡ true → output.new ≡ output.old }
-    ensures at_most { TakesAtMost (MOST_IMAGE_BYTES + 1) (R.left input.old) (R.left input.new) }
-{
-    match read_input(alloc, input, MOST_IMAGE_BYTES) {
-        Ok(image) => cat_image(alloc, &image, names, output),
+        Ok(volume) => copy_file(&volume, names, output),
         Err(outcome) => outcome,
     }
 }

@@ -15,6 +15,7 @@ mod round_trip;
 mod runner;
 mod streams;
 mod volume_listing;
+mod work;
 
 pub use crate::checking::{CheckAnswer, answer_to_image, answer_to_input};
 pub use crate::command_line::{Order, WordsFault, parse, words_as_documented};
@@ -22,6 +23,6 @@ pub use crate::devices::{Device, Failed, Sink, Source};
 pub use crate::images::MOST_IMAGE_BYTES;
 pub use crate::listing::write_listing;
 pub use crate::round_trip::build_and_read;
-pub use crate::runner::{one_answer, refuse_words, run};
+pub use crate::runner::{Ran, one_answer, refuse_words, run, run_on};
 pub use crate::streams::{StreamFault, read_all, read_into, say, write_all};
 pub use adf_manifest::{ManifestFault, ManifestKind, read_manifest};

@@ -1,26 +1,17 @@
 // The whole command.
 
-ghost use Rattle.std.specs.Prelude.{◌≡◌, ◌≤◌, ◌+◌, true, false, codes, map, Some, IfSome};
+ghost use Rattle.std.specs.Prelude.{◌≡◌, ◌≤◌, ◌+◌, true, false, codes, length, map, IfSome};
 ghost use Rattle.adf_cmd.specs.Answers.{Answers, AnswersPart, AsksBadPath, IsUnanswered, RequestsHaveOneAnswer, WordsAskForOneRequest, failure_line, limit_of, usage_line};
-ghost use Rattle.adf_cmd.specs.CommandLine.{Asks, IsRefused, asked, request_of};
+ghost use Rattle.adf_cmd.specs.CommandLine.{IsRefused, request_of};
 ghost use Rattle.adf_cmd.specs.Outcomes.{line_of, status_of};
 ghost use Rattle.adf_cmd.specs.Streams.{Says, TakesAtMost};
+ghost use Rattle.adf_cmd.specs.Work.{refusal_line, refusal_status};
 
-use crate::building::build_input;
-use crate::checking::check_input;
-use crate::command_line::{Order, WordsFault, parse};
-use crate::converting::convert_input;
-use crate::copying::cat_input;
 use crate::devices::{Sink, Source};
 use crate::outcome::Outcome;
 use crate::streams::say;
-use crate::volume_listing::list_input;
-use adf_tree::{PathFault, read_path};
+use crate::work::{WorkFault, work_of};
 use std::alloc::Global;
-
-const USAGE: &str = "usage: adf check | list | cat PATH | build [--list] | convert ofs|ffs\n";
-
-const BAD_PATH: &str = "bad path\n";
 
 // Says on errors how the work went, and answers the status.
 fn finish<E: Sink>(outcome: &Outcome, errors: &mut E) -> u8
@@ -32,14 +23,14 @@ fn finish<E: Sink>(outcome: &Outcome, errors: &mut E) -> u8
     outcome.status()
 }
 
-// Says on errors why nothing is read, and answers the status.
-fn refuse<E: Sink>(errors: &mut E, text: &str) -> u8
+// Says on errors why no work is begun, and answers the status.
+fn refuse<E: Sink>(fault: WorkFault, errors: &mut E) -> u8
     requires { E.has_failed errors.old ≡ false }
-    ensures status { result ≡ 2 }
-    ensures said { Says (E.has_failed errors.new) (E.held errors.old) (E.held errors.new) text.now }
+    ensures status { result ≡ refusal_status fault }
+    ensures said { Says (E.has_failed errors.new) (E.held errors.old) (E.held errors.new) (refusal_line fault) }
 {
-    say(errors, text);
-    2
+    say(errors, fault.line());
+    fault.status()
 }
 
 /// Says on errors which words are taken, and answers the status of others, 2.
@@ -48,7 +39,7 @@ pub fn refuse_words<E: Sink>(errors: &mut E) -> u8
     ensures status { result ≡ 2 }
     ensures said { Says (E.has_failed errors.new) (E.held errors.old) (E.held errors.new) usage_line }
 {
-    refuse(errors, USAGE)
+    refuse(WorkFault::Usage, errors)
 }
 
 /// Runs the command that the words name, of which the first is the program's name, and answers its status:
@@ -85,25 +76,70 @@ pub fn run<R: Source, W: Sink, E: Sink>(
     // At status 3 errors tell what failed, and output has a front part of an answer: nothing where input failed, so that output has not.
     ensures read_failed { R.has_failed input.new ≡ true → result ≡ 3 }
     ensures write_failed { W.has_failed output.new ≡ true → result ≡ 3 }
-    ensures one_failed { W.has_failed output.new ≡ true → R.has_failed input.new ≡ false }
     ensures unwritten { R.has_failed input.new ≡ true → output.new ≡ output.old }
     ensures failure { result ≡ 3 → Says (E.has_failed errors.new) (E.held errors.old) (E.held errors.new) (failure_line (R.has_failed input.new) (W.has_failed output.new)) }
     ensures part { result ≡ 3 → IfSome (R.left input.old) (λ bytes. AnswersPart (map (λ w. w.now) words.now) (R.has_failed input.new) bytes (W.held output.old) (W.held output.new)) }
 
     ensures at_most { TakesAtMost (limit_of (request_of (map (λ w. w.now) words.now)) + 1) (R.left input.old) (R.left input.new) }
 {
-    match parse(alloc, words) {
-        Ok(Order::Check) => finish(&check_input(alloc, input, output), errors),
-        Ok(Order::List) => finish(&list_input(alloc, input, output), errors),
-        Ok(Order::Cat(path)) => match read_path(alloc, path.as_bytes()) {
-            Ok(names) => finish(&cat_input(alloc, &names, input, output), errors),
-            Err(PathFault::BadText) => refuse(errors, BAD_PATH),
-            Err(PathFault::NoMemory) => finish(&Outcome::NoMemory, errors),
+    match work_of(alloc, words) {
+        Ok(work) => finish(&work.on_input(alloc, input, output), errors),
+        Err(fault) => refuse(fault, errors),
+    }
+}
+
+/// How a run over bytes in memory ended.
+#[derive(Clone, Copy, Debug, PartialEq, Eq)]
+pub struct Ran {
+    /// The status, as of `run`.
+    pub status: u8,
+    /// How many bytes of the input were looked at, from the front: none where no work was begun.
+    pub taken: usize,
+}
+
+/// Runs the command that the words name, as `run` does, over bytes that are in memory, where they lie.
+pub fn run_on<W: Sink, E: Sink>(
+    alloc: Global,
+    words: &[&str],
+    input: &[u8],
+    output: &mut W,
+    errors: &mut E,
+) -> Ran
+    requires writes { W.has_failed output.old ≡ false }
+    requires tells { E.has_failed errors.old ≡ false }
+    ensures status { result.status ≤ 3 }
+    ensures within { result.taken ≤ length input.now }
+
+    // Where the words are taken, at a status other than 3 the answer is the defined one.
+    ensures answer { ¬ IsRefused (map (λ w. w.now) words.now) → ¬ (result.status ≡ 3) → Answers (map (λ w. w.now) words.now) input.now
+        result.status (W.held output.old) (W.held output.new) (E.has_failed errors.new) (E.held errors.old) (E.held errors.new) }
+    ensures words { ¬ (result.status ≡ 2) → ¬ (result.status ≡ 3) → ¬ IsUnanswered (map (λ w. w.now) words.now) }
+
+    // At status 2 the words are refused or their path is not read, and nothing was looked at or written.
+    ensures usage { result.status ≡ 2 → IsUnanswered (map (λ w. w.now) words.now) }
+    ensures bad_path { result.status ≡ 2 → AsksBadPath (map (λ w. w.now) words.now)
+        → Says (E.has_failed errors.new) (E.held errors.old) (E.held errors.new) (codes "bad path\n") }
+    ensures refused { result.status ≡ 2 → IsRefused (map (λ w. w.now) words.now)
+        → Says (E.has_failed errors.new) (E.held errors.old) (E.held errors.new) usage_line }
+    ensures untouched { result.status ≡ 2 → (result.taken ≡ 0) × (output.new ≡ output.old) }
+
+    // At status 3 errors tell what failed, and output has a front part of an answer.
+    ensures write_failed { W.has_failed output.new ≡ true → result.status ≡ 3 }
+    ensures failure { result.status ≡ 3
+        → Says (E.has_failed errors.new) (E.held errors.old) (E.held errors.new) (failure_line false (W.has_failed output.new)) }
+    ensures part { result.status ≡ 3 → AnswersPart (map (λ w. w.now) words.now) false input.now (W.held output.old) (W.held output.new) }
+
+    ensures at_most { result.taken ≤ limit_of (request_of (map (λ w. w.now) words.now)) + 1 }
+{
+    match work_of(alloc, words) {
+        Ok(work) => Ran {
+            status: finish(&work.on(alloc, input, output), errors),
+            taken: input.len().min(work.limit() + 1),
         },
-        Ok(Order::Build { list }) => finish(&build_input(alloc, list, input, output), errors),
-        Ok(Order::Convert(kind)) => finish(&convert_input(alloc, kind, input, output), errors),
-        Err(WordsFault::Usage) => refuse_words(errors),
-        Err(WordsFault::NoMemory) => finish(&Outcome::NoMemory, errors),
+        Err(fault) => Ran {
+            status: refuse(fault, errors),
+            taken: 0,
+        },
     }
 }
 

@@ -148,8 +148,8 @@ fn list_volume<W: Sink>(alloc: Global, volume: &Checked<'_>, output: &mut W) -> 
     }
 }
 
-// Checks an image, and writes the lines of its volume.
-fn list_image<W: Sink>(alloc: Global, image: &[u8], output: &mut W) -> Outcome
+/// Checks an image, and writes the lines of its volume.
+pub fn list_image<W: Sink>(alloc: Global, image: &[u8], output: &mut W) -> Outcome
     requires { W.has_failed output.old ≡ false }
     ensures works { Works result list image.now (W.held output.old) (W.held output.new) }
     ensures read { is_read_fault result ≡ false }
@@ -157,23 +157,6 @@ fn list_image<W: Sink>(alloc: Global, image: &[u8], output: &mut W) -> Outcome
 {
     match volume_of(alloc, image) {
         Ok(volume) => list_volume(alloc, &volume, output),
-        Err(outcome) => outcome,
-    }
-}
-
-/// Reads an image, checks it and writes the lines of its volume.
-#[tactic(auto, using(crate::proofs::AnswerLaws::unread_works))]
-pub fn list_input<R: Source, W: Sink>(alloc: Global, input: &mut R, output: &mut W) -> Outcome
-    requires reads { R.has_failed input.old ≡ false }
-    requires writes { W.has_failed output.old ≡ false }
-    ensures works { IfSome (R.left input.old) (λ bytes. Works result list bytes (W.held output.old) (W.held output.new)) }
-    ensures read { R.has_failed input.new ≡ is_read_fault result }
-    ensures written { W.has_failed output.new ≡ is_write_fault result }
-    ensures unwritten { is_read_fault result ≡ true → output.new ≡ output.old }
-    ensures at_most { TakesAtMost (MOST_IMAGE_BYTES + 1) (R.left input.old) (R.left input.new) }
-{
-    match read_input(alloc, input, MOST_IMAGE_BYTES) {
-        Ok(image) => list_image(alloc, &image, output),
         Err(outcome) => outcome,
     }
 }

@@ -1,6 +1,6 @@
 use Rattle.std.proofs.Common.{◌≡◌, ◌++◌, ℕ, List, refl, rules, append_assoc}
 use Rattle.std.specs.List.{concat}
-use Rattle.adf_cmd.proofs.PendingText.{on_err, pending_fails, pending_more}
+use Rattle.adf_cmd.proofs.PendingText.{err_more, on_err, pending_fails, pending_more}
 use Rattle.adf_cmd.proofs.copying.write_pieces.Goals as goal
 
 -- one piece more is done
@@ -13,21 +13,22 @@ loop-piece-preserved g c =
     let step : concat c.loop-piece.piece-iterator ≡ c.in-Some.piece.now ++ concat c.next.new.self = search rules in
     record {
       works = search rules;
+      within = c.in_ok-waiting.ensures.within;
       so_far = (
         so_far.0 ++ c.in-Some.piece.now,
-        c.in_ok-copy_piece.ensures.ok _ _ (pending_more _ _ _ _ _ _ refl so_far.1),
+        c.in_ok-waiting.ensures.ok _ _ (pending_more _ _ _ _ _ _ refl so_far.1),
         piece_done _ _ _ _ _ step so_far.2,
       );
     }
 
-pub returns-in_err-copy_piece-clause-err : goal.returns-in_err-copy_piece-clause-err
-returns-in_err-copy_piece-clause-err g c =
+pub returns-in_err-waiting-clause-err : goal.returns-in_err-waiting-clause-err
+returns-in_err-waiting-clause-err g c =
     let so_far = c.loop-piece.invariant.so_far in
     let step : concat c.loop-piece.piece-iterator ≡ c.in-Some.piece.now ++ concat c.next.new.self = search rules in
     let whole = piece_done _ _ _ _ _ step so_far.2 in
-    on_err c.from_residual.result (pending_fails _ _ _ _ _ _ _ whole (pending_more _ _ _ _ _ _ refl so_far.1) c.in_err-copy_piece.ensures.err)
+    on_err c.from_residual.result (pending_fails _ _ _ _ _ _ _ whole (pending_more _ _ _ _ _ _ refl so_far.1) c.in_err-waiting.ensures.err)
 
-pub returns-in_err-write_all-clause-err : goal.returns-in_err-write_all-clause-err
-returns-in_err-write_all-clause-err g c =
+pub returns-clause-err : goal.returns-clause-err
+returns-clause-err g c =
     let so_far = c.loop-piece.invariant.so_far in
-    on_err c.from_residual-in_err-write_all.result (pending_fails _ _ _ _ _ _ _ so_far.2 so_far.1 (rw c.deref.ensures.value at c.in_err-write_all.ensures.err))
+    err_more c.write_all.result (pending_fails _ _ _ _ _ _ _ so_far.2 so_far.1) c.write_all.ensures.err

@@ -1,4 +1,4 @@
-use Rattle.std.proofs.Common.{◌≡◌, ◌++◌, ℕ, List, false}
+use Rattle.std.proofs.Common.{◌≡◌, ◌≤◌, ◌++◌, ℕ, List, false, length, take}
 use Rattle.std.specs.List.{concat}
 use Rattle.adf_cmd.specs.Streams.{Pending}
 use Rattle.adf_cmd.proofs.copying.write_pieces.Given as goal
@@ -6,6 +6,7 @@ use Rattle.adf_cmd.proofs.copying.write_pieces.Given as goal
 abbrev pub invariant-loop-piece : goal.invariant-loop-piece
 invariant-loop-piece g l = record {
   works : g.W.Sink.has_failed l.output ≡ false;
-  so_far : (done : List ℕ) × Pending (g.W.Sink.held l.fn.output) (g.W.Sink.held l.output) l.text.items done
+  within : l.waiting ≤ length l.room;
+  so_far : (done : List ℕ) × Pending (g.W.Sink.held l.fn.output) (g.W.Sink.held l.output) (take l.waiting l.room) done
       × (concat l.fn.pieces ≡ done ++ concat l.piece-iterator);
 }

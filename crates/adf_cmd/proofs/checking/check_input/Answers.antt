@@ -1,6 +1,0 @@
-use Rattle.adf_cmd.specs.CommandLine.{check}
-use Rattle.adf_cmd.proofs.LongInputs.{read_works}
-use Rattle.adf_cmd.proofs.checking.check_input.Goals as goal
-
-pub returns-in-Ok-clause-works : goal.returns-in-Ok-clause-works
-returns-in-Ok-clause-works g c = read_works _ check _ _ _ _ c.in-Ok.ensures.all (rw c.deref.ensures.value at c.check_image.ensures.works)
