@@ -32,6 +32,9 @@
 #include <stddef.h>
 #include <stdint.h>
 
+/* The version of the library and of the program. */
+#define ADF_VERSION "1.0"
+
 #ifdef __cplusplus
 extern "C" {
 #endif
@@ -63,6 +66,12 @@ enum adf_cause {
     ADF_OWNED_FREE = 22,    /* A block is owned and marked free. */
     ADF_NO_MEMORY = 23      /* Memory was refused; nothing is said of the image but that it begins as a volume. */
 };
+
+/* Puts the text of the cause with this number at the front of the room, as far as it fits, such as `bad sum`, of lower-case
+ * letters and spaces with no zero behind it, and answers how many bytes the whole text has: at most 15. Where no cause has the
+ * number, as 0 and 24, it answers 0, and the room stays as it was.
+ */
+size_t adf_cause_text(uint8_t cause, uint8_t *room, size_t room_length);
 
 enum adf_kind { ADF_OFS = 0, ADF_FFS = 1 };
 

@@ -1,4 +1,5 @@
 -- memory that C gives: rooms and words
+pub mod Filled
 pub mod Rooms
 pub mod WordParts
 -- what is told of a volume

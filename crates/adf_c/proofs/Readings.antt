@@ -1,9 +1,7 @@
 -- The bytes of files, by the tables.
 use Rattle.std.specs.Prelude.{◌≡◌, ◌+◌, ◌-◌, ◌*◌, ◌/◌, ◌%◌, ◌≤◌, ◌<◌, ℕ, List, [], ◌∷◌, ◌++◌, Some, None, min, get_or, length, take, drop}
-use Rattle.std.proofs.Common.{zero, suc, refl, sym, ap, subst, ◌∙◌, arith, length-append, length-drop, length-take, take_all, inl, inr, Option}
+use Rattle.std.proofs.Common.{zero, suc, refl, sym, ap, subst, ◌∙◌, arith, length-append, length-drop, length-take, Option}
 use Rattle.std.proofs.Math.Seq.{drop-append-add, drop-nil, take-add, take-append_seam}
-use Rattle.std.proofs.Math.ListN.{drop_of_length-le}
-use Rattle.std.proofs.lemmas.Bool.{cases_lt}
 use Rattle.std.proofs.lemmas.List.{drop-append-le, drop-drop, drop-take, get_or-take, take-append-drop, take-take, take_rest}
 use Rattle.adf_fields.specs.Words.{block}
 use Rattle.adf_tree.specs.declared.entry.Body.{Body}
@@ -24,8 +22,10 @@ use Rattle.adf_volume.proofs.LayoutRoles.{part_range}
 use Rattle.adf_volume.proofs.Lists.{at_below, at_index_or, at_some}
 use Rattle.adf_c.specs.declared.tables.TableEntry.{TableEntry}
 use Rattle.adf_c.specs.Areas.{AreBlocksOf}
-use Rattle.adf_c.specs.Tables.{all_datas, block_table, bytes_at, bytes_in, bytes_told, entry_table, filled, told}
-use Rattle.adf_c.proofs.TableLaws.{drop_zero, take_zero, told_here, told_length}
+use Rattle.adf_c.specs.Rooms.{filled}
+use Rattle.adf_c.specs.Tables.{all_datas, block_table, bytes_at, bytes_in, bytes_told, entry_table, told}
+use Rattle.adf_c.proofs.Filled.{drop_zero, filled_part, take_zero}
+use Rattle.adf_c.proofs.TableLaws.{told_here, told_length}
 
 are_in : {image table ds : List ℕ} → AreBlocksOf image table ds → AreIn image ds
 are_in {image = image} {ds = ds} is i b at = subst (λ x. x < blocks image) (at_index_or ds i b 0 at) (is.inside i (at_below ds i b at))
@@ -108,24 +108,6 @@ some_blocks : (n m size : ℕ) → 0 < size → size ≤ n * m → 0 < m
 some_blocks n zero size some le = absurd (omega arith)
 some_blocks n (suc m) size some le = omega arith
 
--- so many bytes from a place on, as far as there is room
-taken_in : (q m : ℕ) (xs room : List ℕ) → m ≡ min (length room) q → q ≤ length xs
-    → take m xs ++ drop m room ≡ filled (take q xs) room
-taken_in q m xs room is le =
-    let long : length (take q xs) ≡ q = simp length-take (omega arith) in
-    elim (cases_lt (length room) q) [
-      | inl lt ↦
-          let all : m ≡ length room = omega arith in
-          let none : drop m room ≡ [] = drop_of_length-le room (omega arith) in
-          let past : drop (length (take q xs)) room ≡ [] = drop_of_length-le room (omega arith) in
-          ap (λ ys. take m xs ++ ys) (none ∙ sym past)
-          ∙ ap (λ ys. ys ++ drop (length (take q xs)) room) (ap (λ n. take n xs) all ∙ sym (take-take (length room) q xs (omega arith)))
-      | inr ge ↦
-          let all : m ≡ q = omega arith in
-          let same : take (length room) (take q xs) ≡ take m xs = take_all (length room) (take q xs) (omega arith) ∙ ap (λ n. take n xs) (sym all) in
-          ap (λ ys. ys ++ drop m room) (sym same) ∙ ap (λ n. take (length room) (take q xs) ++ drop n room) (all ∙ sym long)
-    ]
-
 module _ (image table ds room : List ℕ) (kind : Kind) (first size o m : ℕ) (is : AreBlocksOf image (drop first table) ds)
     (enough : size ≤ chunk (kind_of image) * length ds) (lt : o < size) (kind_is : 512 ≤ length image → kind ≡ kind_of image)
     (m_is : m ≡ min (length room) (size - o)) where
@@ -165,7 +147,7 @@ module _ (image table ds room : List ℕ) (kind : Kind) (first size o m : ℕ) (
   bytes_told_here bytes =
       ap (λ xs. xs ++ drop m room)
       (bytes ds behind_first fits ∙ ap (λ n. take n (drop o (joined image kind ds))) long_room ∙ ap (λ k. take m (drop o (joined image k ds))) here)
-      ∙ taken_in (size - o) m (drop o all) room m_is (let l : size ≤ length all = long in simp length-drop (omega arith))
+      ∙ filled_part (size - o) m (drop o all) room m_is (let l : size ≤ length all = long in simp length-drop (omega arith))
       ∙ ap (λ xs. filled xs room) (sym rest_is)
 
 -- the blocks of a file stand in the table of blocks from its first on

@@ -1,7 +1,8 @@
--- The tables of a volume: how a room is filled, and what stands at each place.
-use Rattle.std.specs.Prelude.{◌≡◌, ◌+◌, ◌^◌, ◌≤◌, ◌<◌, ℕ, List, [], ◌∷◌, ◌++◌, Option, Some, None, IsSome, IfSome, get_or, length, take, drop, set}
+-- The tables of a volume: what stands at each place.
+use Rattle.std.specs.Prelude.{◌≡◌, ◌+◌, ◌^◌, ◌≤◌, ◌<◌, ℕ, List, [], ◌∷◌, ◌++◌, Option, Some, None, IsSome, IfSome, length, take}
 use Rattle.std.proofs.Common.{zero, suc, refl, sym, ap, subst, ◌∙◌, arith, append_assoc, length-append, take_all}
-use Rattle.std.proofs.lemmas.List.{append-nil, take-append-drop, take_more}
+use Rattle.std.proofs.Math.Seq.{take-nil}
+use Rattle.std.proofs.lemmas.List.{append-nil, length-take-le, take_more}
 use Rattle.adf_tree.specs.declared.entry.Entry.{Entry}
 use Rattle.adf_tree.specs.Tree.{Tree, IsTree, entry}
 use Rattle.adf_volume.specs.declared.owner.Owner.TheVariants.{Data, Ext, MapExt, Page}
@@ -14,54 +15,9 @@ use Rattle.adf_check.specs.Rows.{EntryMatches, RowMatches}
 use Rattle.adf_check.specs.declared.row.Row.{Row}
 use Rattle.adf_c.specs.declared.tables.Contents.{Contents}
 use Rattle.adf_c.specs.declared.tables.TableEntry.{TableEntry}
-use Rattle.adf_c.specs.Tables.{all_datas, block_table, contents_of, entry_table, filled, told, told_from}
-
-take_none : {X : Type 0} (n : ℕ) → ◌≡◌ {A = List X} (take n []) []
-take_none zero = refl
-take_none (suc n) = refl
-
-pub take_zero : {X : Type 0} (xs : List X) → take 0 xs ≡ []
-take_zero [] = refl
-take_zero (x ∷ xs) = refl
-
-pub drop_zero : {X : Type 0} (xs : List X) → drop 0 xs ≡ xs
-drop_zero [] = refl
-drop_zero (x ∷ xs) = refl
-
--- a room into which nothing is put
-pub filled_none : {X : Type 0} (room : List X) → filled [] room ≡ room
-filled_none room = ap (λ xs. xs ++ drop 0 room) (take_none (length room)) ∙ drop_zero room
-
--- no room
-no_room : {X : Type 0} (xs : List X) → filled xs [] ≡ []
-no_room [] = refl
-no_room (x ∷ xs) = refl
-
-pub length_filled : {X : Type 0} (xs room : List X) → length (filled xs room) ≡ length room
-length_filled xs [] = ap length (no_room xs)
-length_filled [] (r ∷ rs) = ap length (filled_none (r ∷ rs))
-length_filled (x ∷ xs) (r ∷ rs) = ap suc (length_filled xs rs)
-
--- one more is put behind those that are there
-pub filled_more : {X : Type 0} (xs room : List X) (i : ℕ) (x : X) → i ≡ length xs → i < length room
-    → set (filled xs room) i x ≡ filled (xs ++ x ∷ []) room
-filled_more xs [] i x e lt = absurd (omega arith)
-filled_more [] (r ∷ rs) zero x e lt = ap (λ ys. x ∷ ys) (drop_zero rs ∙ sym (filled_none rs))
-filled_more [] (r ∷ rs) (suc i) x e lt = absurd (omega arith)
-filled_more (y ∷ ys) (r ∷ rs) zero x e lt = absurd (omega arith)
-filled_more (y ∷ ys) (r ∷ rs) (suc i) x e lt = ap (λ zs. y ∷ zs) (filled_more ys rs i x (omega arith) (omega arith))
-
--- what there is no room for changes nothing
-pub filled_full : {X : Type 0} (xs ys room : List X) → length room ≤ length xs → filled (xs ++ ys) room ≡ filled xs room
-filled_full xs ys [] le = no_room (xs ++ ys) ∙ sym (no_room xs)
-filled_full [] ys (r ∷ rs) le = absurd (omega arith)
-filled_full (x ∷ xs) ys (r ∷ rs) le = ap (λ zs. x ∷ zs) (filled_full xs ys rs (omega arith))
-
-length_taken : {X : Type 0} (xs : List X) (i : ℕ) → i ≤ length xs → length (take i xs) ≡ i
-length_taken [] zero le = refl
-length_taken [] (suc i) le = absurd (omega arith)
-length_taken (x ∷ xs) zero le = refl
-length_taken (x ∷ xs) (suc i) le = ap suc (length_taken xs i (omega arith))
+use Rattle.adf_c.specs.Rooms.{filled}
+use Rattle.adf_c.specs.Tables.{all_datas, block_table, contents_of, entry_table, told, told_from}
+use Rattle.adf_c.proofs.Filled.{take_zero}
 
 -- the first i + 1 are the first i and the one at place i
 taken_more : {X : Type 0} (xs : List X) (i : ℕ) (x : X) → At xs i x → take (i + 1) xs ≡ take i xs ++ x ∷ []
@@ -73,7 +29,7 @@ pub entries_more : {X : Type 0} (xs room now next : List X) (i : ℕ) (x : X) �
     → now ≡ filled (take i xs) room → next ≡ filled (take (i + 1) xs) room
 entries_more xs room now next i x at put e =
     let below : i < length xs = at_below xs i x at in
-    put (take i xs) room (sym (length_taken xs i (omega arith))) e ∙ ap (λ ys. filled ys room) (sym (taken_more xs i x at))
+    put (take i xs) room (sym (length-take-le i xs (omega arith))) e ∙ ap (λ ys. filled ys room) (sym (taken_more xs i x at))
 
 -- the entry at a place of the table
 told_at : (k : ℕ) (es : List Entry) (qs : List Place) (i : ℕ) (e : Entry) → At es i e → length qs ≡ length es
@@ -106,7 +62,7 @@ datas_more (q ∷ qs) (suc i) lt = ap (λ bs. q.datas ++ bs) (datas_more qs i (o
 
 -- no more than of all files
 pub datas_within : (qs : List Place) (i : ℕ) → length (all_datas (take i qs)) ≤ length (all_datas qs)
-datas_within [] i = subst (λ ps. length (all_datas ps) ≤ 0) (sym (take_none i)) (omega arith)
+datas_within [] i = subst (λ ps. length (all_datas ps) ≤ 0) (sym (take-nil i)) (omega arith)
 datas_within (q ∷ qs) zero = omega arith
 datas_within (q ∷ qs) (suc i) =
     omega (arith, datas_within qs i, length-append q.datas (all_datas (take i qs)), length-append q.datas (all_datas qs))
@@ -171,39 +127,6 @@ parent_small got r image t l n is fits few some le h =
 -- the block that is told
 pub block_told : (got : Option ℕ) (b h : ℕ) → got ≡ Some b → IfSome got (λ c. c ≡ h) → b ≡ h
 block_told got b h is told_so = subst (λ g. IfSome g (λ c. c ≡ h)) is told_so
-
--- data blocks that are put behind others, one by one
-pub blocks_more : (xs ds room now : List ℕ) (a i : ℕ) → a ≡ length xs → now ≡ filled (xs ++ take i ds) room → i < length ds → a + i < length now
-    → set now (a + i) (get_or ds i 0) ≡ filled (xs ++ take (i + 1) ds) room
-blocks_more xs ds room now a i at e lt fits =
-    let long : length now ≡ length room = ap length e ∙ length_filled (xs ++ take i ds) room in
-    let many : a + i ≡ length (xs ++ take i ds) = omega (arith, length-append xs (take i ds), length_taken ds i (omega arith)) in
-    let all : (xs ++ take i ds) ++ get_or ds i 0 ∷ [] ≡ xs ++ take (i + 1) ds =
-    append_assoc xs (take i ds) (get_or ds i 0 ∷ []) ∙ ap (λ ys. xs ++ ys) (sym (take_more ds i 0 lt)) in
-    ap (λ ys. set ys (a + i) (get_or ds i 0)) e ∙ filled_more (xs ++ take i ds) room (a + i) (get_or ds i 0) many (omega arith)
-    ∙ ap (λ ys. filled ys room) all
-
--- and where there is no more room
-pub blocks_full : (xs ds room now : List ℕ) (a i : ℕ) → a ≡ length xs → now ≡ filled (xs ++ take i ds) room → i ≤ length ds → length now ≤ a + i
-    → now ≡ filled (xs ++ ds) room
-blocks_full xs ds room now a i at e le full =
-    let long : length now ≡ length room = ap length e ∙ length_filled (xs ++ take i ds) room in
-    let all : (xs ++ take i ds) ++ drop i ds ≡ xs ++ ds =
-    append_assoc xs (take i ds) (drop i ds) ∙ ap (λ ys. xs ++ ys) (take-append-drop i ds) in
-    e ∙ sym (filled_full (xs ++ take i ds) (drop i ds) room (omega (arith, length-append xs (take i ds), length_taken ds i le)))
-    ∙ ap (λ ys. filled ys room) all
-
-pub entry_put : {X : Type 0} (xs room now : List X) (i : ℕ) (x : X) → i ≡ length xs → now ≡ filled xs room → i < length now
-    → set now i x ≡ filled (xs ++ x ∷ []) room
-entry_put xs room now i x at e lt =
-    let long : length now ≡ length room = ap length e ∙ length_filled xs room in
-    ap (λ ys. set ys i x) e ∙ filled_more xs room i x at (omega arith)
-
-pub entry_left : {X : Type 0} (xs room now : List X) (i : ℕ) (x : X) → i ≡ length xs → now ≡ filled xs room → length now ≤ i
-    → now ≡ filled (xs ++ x ∷ []) room
-entry_left xs room now i x at e le =
-    let long : length now ≡ length room = ap length e ∙ length_filled xs room in
-    e ∙ sym (filled_full xs (x ∷ []) room (omega arith))
 
 -- how many data blocks there are fits a word, also with those of the next file
 pub blocks_small : (image : List ℕ) (t : Tree) (l : Layout) (i first : ℕ) → Fits image t l → length (owned image l) < 2 ^ 32 → i < length t.entries

@@ -25,7 +25,8 @@ use Rattle.adf_volume.specs.Image.{name_of}
 use Rattle.adf_volume.specs.Layout.{Layout, at_node, head_at}
 use Rattle.adf_volume.specs.Lists.{At}
 use Rattle.adf_check.proofs.RowLaws.{head_facts}
-use Rattle.adf_c.specs.Tables.{all_datas, entry_table, filled, told}
+use Rattle.adf_c.specs.Rooms.{filled}
+use Rattle.adf_c.specs.Tables.{all_datas, entry_table, told}
 use Rattle.adf_c.proofs.TableLaws.{told_here, told_length}
 use Rattle.adf_c.specs.declared.tables.TableEntry.{TableEntry}
 use Rattle.adf_c.specs.TableNames.{HasNamesOf, is_child_in, name_in, rank_in}

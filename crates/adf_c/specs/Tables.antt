@@ -1,6 +1,6 @@
 -- The tables of a volume, as C has them: an entry for each entry of its tree, and the data blocks of its files.
 -- Letters: t a tree; l its layout; e an entry, and es entries; h the block of a header; q the place of an entry, and qs places; k a count of data blocks.
-use Rattle.std.specs.Prelude.{ℕ, List, [], ◌∷◌, ◌++◌, ◌+◌, ◌-◌, Option, Some, None, length, take, drop, replicate}
+use Rattle.std.specs.Prelude.{ℕ, List, [], ◌∷◌, ◌++◌, ◌+◌, ◌-◌, Option, Some, None, length, replicate}
 use Rattle.adf_fields.specs.declared.dates.Stamp.{Stamp}
 use Rattle.adf_tree.specs.declared.entry.Body.{Body}
 use Rattle.adf_tree.specs.declared.entry.Body.TheVariants.{Dir, File}
@@ -11,11 +11,8 @@ use Rattle.adf_volume.specs.Layout.{Layout, Place, owned}
 use Rattle.adf_c.specs.declared.tables.Contents.{Contents}
 use Rattle.adf_c.specs.declared.tables.Date.{Date}
 use Rattle.adf_c.specs.declared.tables.TableEntry.{TableEntry}
+use Rattle.adf_c.specs.Rooms.{filled}
 use Rattle.adf_c.specs.Verdicts.{kind_number}
-
--- a room with these at its front, as many as there is room for, and behind them as it was
-abbrev pub filled : {X : Type 0} → List X → List X → List X
-filled xs room = take (length room) xs ++ drop (length xs) room
 
 -- a text in a field of so many bytes, with zeros behind it
 abbrev pub field : ℕ → List ℕ → List ℕ

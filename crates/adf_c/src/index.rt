@@ -7,7 +7,8 @@ ghost use Rattle.adf_blocks.specs.declared.cause.Cause.{Cause};
 ghost use Rattle.adf_volume.specs.Fits.{Fits};
 ghost use Rattle.adf_volume.specs.Layout.{Layout};
 ghost use Rattle.adf_volume.specs.Walk.{FirstFault};
-ghost use Rattle.adf_c.specs.Tables.{block_table, contents_of, entry_table, filled, refused_at};
+ghost use Rattle.adf_c.specs.Rooms.{filled};
+ghost use Rattle.adf_c.specs.Tables.{block_table, contents_of, entry_table, refused_at};
 
 use crate::tables::{Contents, TableEntry, contents_of, put_tables, refused_at};
 use adf_check::check;

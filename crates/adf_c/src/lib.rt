@@ -1,6 +1,7 @@
 //! What a C program calls: include/adf.h.
 #![tactic(auto)]
 
+mod causes;
 mod index;
 mod lookup;
 mod memory;

@@ -7,7 +7,8 @@ ghost use Rattle.adf_blocks.specs.Sizes.{chunk};
 ghost use Rattle.adf_volume.specs.Fits.{Fits};
 ghost use Rattle.adf_volume.specs.Image.{area, joined, kind_of};
 ghost use Rattle.adf_volume.specs.Layout.{Layout};
-ghost use Rattle.adf_c.specs.Tables.{block_table, bytes_at, entry_table, filled};
+ghost use Rattle.adf_c.specs.Rooms.{filled};
+ghost use Rattle.adf_c.specs.Tables.{block_table, bytes_at, entry_table};
 ghost use Rattle.adf_c.specs.Areas.{AreBlocksOf};
 
 use crate::tables::TableEntry;

@@ -7,7 +7,8 @@ ghost use Rattle.adf_tree.specs.Tree.{Tree, entry};
 ghost use Rattle.adf_volume.specs.Layout.{Layout, at_node, owned};
 ghost use Rattle.adf_check.specs.Rows.{BodyMatches, EntryMatches};
 ghost use Rattle.adf_check.specs.Volumes.{StandsFor, counts_of};
-ghost use Rattle.adf_c.specs.Tables.{block_table, bytes_in, contents_of, date_of, entry_table, field, file_number, filled, refused_at, told};
+ghost use Rattle.adf_c.specs.Rooms.{filled};
+ghost use Rattle.adf_c.specs.Tables.{block_table, bytes_in, contents_of, date_of, entry_table, field, file_number, refused_at, told};
 
 use crate::verdict::kind_number;
 use adf_check::{Checked, Counts, Row, RowBody};

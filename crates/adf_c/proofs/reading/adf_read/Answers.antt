@@ -1,8 +1,8 @@
 use Rattle.std.proofs.Common.{ap, sym, ◌∙◌, ◌≡◌, ℕ, [], arith, length, min, drop}
 use Rattle.adf_volume.specs.Layout.{datas_of}
-use Rattle.adf_c.specs.Tables.{filled}
+use Rattle.adf_c.specs.Rooms.{filled}
+use Rattle.adf_c.proofs.Filled.{filled_none}
 use Rattle.adf_c.proofs.Readings.{entry_read, nothing_past}
-use Rattle.adf_c.proofs.TableLaws.{filled_none}
 use Rattle.adf_c.proofs.reading.adf_read.Goals as goal
 
 pub returns-then-entries-node-clause-count : goal.returns-then-entries-node-clause-count

@@ -1,5 +1,5 @@
 use Rattle.std.proofs.Common.{arith}
-use Rattle.adf_c.proofs.TableLaws.{blocks_full, blocks_more}
+use Rattle.adf_c.proofs.Filled.{blocks_full, blocks_more}
 use Rattle.adf_c.proofs.tables.put_blocks.Goals as goal
 
 pub returns-then-first-i : goal.returns-then-first-i

@@ -1,5 +1,5 @@
 use Rattle.std.proofs.Common.{◌≡◌, ◌++◌, ℕ, List, length, take}
-use Rattle.adf_c.specs.Tables.{filled}
+use Rattle.adf_c.specs.Rooms.{filled}
 use Rattle.adf_c.proofs.tables.put_blocks.Given as goal
 
 abbrev pub invariant-loop-i : goal.invariant-loop-i

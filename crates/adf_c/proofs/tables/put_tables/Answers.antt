@@ -1,6 +1,7 @@
 use Rattle.std.proofs.Common.{◌≡◌, ◌+◌, ◌<◌, ◌≤◌, ◌∙◌, ℕ, suc, ap, arith, length, take}
 use Rattle.adf_volume.specs.Layout.{at_node, datas_at, datas_of}
-use Rattle.adf_c.specs.Tables.{all_datas, entry_table, filled, told}
+use Rattle.adf_c.specs.Rooms.{filled}
+use Rattle.adf_c.specs.Tables.{all_datas, entry_table, told}
 use Rattle.adf_c.proofs.TableLaws.{blocks_small, count_more, entries_more, next_blocks, next_entry, whole_blocks, whole_entries}
 use Rattle.adf_c.proofs.tables.put_tables.Goals as goal
 

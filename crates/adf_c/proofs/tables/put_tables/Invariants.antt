@@ -2,7 +2,8 @@ use Rattle.std.proofs.Common.{◌≡◌, length, take}
 use Rattle.adf_tree.specs.Tree.{Tree}
 use Rattle.adf_volume.specs.Layout.{Layout}
 use Rattle.adf_check.specs.Volumes.{StandsFor}
-use Rattle.adf_c.specs.Tables.{all_datas, entry_table, filled}
+use Rattle.adf_c.specs.Rooms.{filled}
+use Rattle.adf_c.specs.Tables.{all_datas, entry_table}
 use Rattle.adf_c.proofs.tables.put_tables.Given as goal
 
 abbrev pub invariant-loop-i : goal.invariant-loop-i
