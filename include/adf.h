@@ -175,15 +175,18 @@ uint8_t adf_index(const uint8_t *image, size_t length, struct adf_entry *entries
                   uint32_t *blocks, size_t blocks_room, struct adf_contents *contents);
 
 /* Looks a path up in a whole table of entries. It is written as `adf cat` takes it: names with `/` between them, in
- * escape form, where a byte outside 32 to 126 and the backslash stand as \xHH. The case of a to z does not count. For each name
- * it looks at some log(count) entries, and at those of the chain that the name would stand in.
+ * escape form, where a byte outside 32 to 126 and the backslash stand as \xHH. The case of a to z does not count.
  *
  * 0: node has the number of the entry, 0 for the empty path.
  * 1: there is none, and node stays.
  * 2: the text is that of no path, and node stays.
  * 23: memory was refused, and node stays.
  *
- * In a table that adf_index did not make, or that has been changed, the answer is any, but the call is safe all the same.
+ * In a table that adf_index did not make, or that has been changed, the answer is one of these four, and a node that is found is
+ * at most count; 2 is answered for the same texts.
+ *
+ * The work, whatever the table is: for each name of the path twice log2(count) entries, and beside that each entry once at most,
+ * since every step goes to a greater number. In the table of a volume these are the entries of the chains along the path.
  */
 uint8_t adf_find(const struct adf_entry *entries, size_t count, const uint8_t *path, size_t path_length, size_t *node);
 

@@ -1,8 +1,8 @@
 -- A table of entries has their directories and names, and look-up in it finds what look-up in the tree finds.
-use Rattle.std.specs.Prelude.{◌≡◌, ◌+◌, ◌≤◌, ◌<◌, ℕ, List, ◌++◌, Bool, true, false, Some, None, get_or, length, take, nat_le, nat_lt, replicate}
+use Rattle.std.specs.Prelude.{◌≡◌, ◌+◌, ◌≤◌, ◌<◌, ℕ, List, ◌++◌, Bool, true, false, Some, None, get_or, length, max, take, nat_le, nat_lt, replicate}
 use Rattle.std.proofs.Common.{suc, refl, sym, ap, subst, ◌∙◌, arith, inl, inr}
 use Rattle.std.specs.List.Sorted.{IsNonDecreasingBy, IsPartitionPoint}
-use Rattle.std.proofs.lemmas.Bool.{cases_lt}
+use Rattle.std.proofs.lemmas.Bool.{cases_lt, false_from_ne_true}
 use Rattle.std.specs.Prelude.{drop}
 use Rattle.std.proofs.Common.{take_all}
 use Rattle.std.proofs.Math.Seq.{take-append_seam}
@@ -14,7 +14,7 @@ use Rattle.std.specs.Str.{bytes_eq}
 use Rattle.adf_tree.specs.Texts.{is_name, uppers}
 use Rattle.adf_tree.specs.declared.entry.Entry.{Entry}
 use Rattle.adf_tree.specs.Tree.{Tree, child, is_child, place, rank, rank_of}
-use Rattle.adf_tree.proofs.ChildLookup.{child_found, child_not_before, child_not_past, no_children}
+use Rattle.adf_tree.proofs.ChildLookup.{child_found, child_not_before, child_not_past, child_says, no_children}
 use Rattle.adf_tree.proofs.Lists.{some_in}
 use Rattle.adf_tree.proofs.PathParts.{one_path}
 use Rattle.adf_tree.proofs.WalkOrder.{place_is}
@@ -65,10 +65,26 @@ module _ {xs : List TableEntry} {es : List Entry} (has : HasNamesOf xs es) where
   )
 
   module _ (p : ℕ) (name : List ℕ) (s : ℕ) (slot : s ≡ slot_of name) where
-    pub before_start : (from : ℕ) → from ≤ length xs
+    -- an entry before its directory is none of its children
+    before_parent : (k : ℕ) (d : Entry) → k < p → k < length es → is_child p name (get_or es k d) ≡ false
+    before_parent k d low short =
+        false_from_ne_true (is_child p name (get_or es k d))
+        (λ is. absurd (omega (arith, (child_says p name (get_or es k d) is).0, has.below k d short)))
+
+    before_start : (from : ℕ) → from ≤ length xs
         → (IsNonDecreasingBy rank_in xs → IsPartitionPoint (λ x. nat_lt (rank_in x) (rank_of p s) ≡ true) (λ x. nat_lt (rank_in x) (rank_of p s) ≡ false) xs from)
         → (k : ℕ) (d : Entry) → k < from → is_child p name (get_or es k d) ≡ false
     before_start from within point = child_not_before es p name s from slot (parted (λ r. nat_lt r (rank_of p s)) from within (point in_order))
+
+    -- what stands before the chain, or before the directory
+    pub before_both : (from at : ℕ) → from ≤ length xs → p ≤ length xs → at ≡ max from p
+        → (IsNonDecreasingBy rank_in xs → IsPartitionPoint (λ x. nat_lt (rank_in x) (rank_of p s) ≡ true) (λ x. nat_lt (rank_in x) (rank_of p s) ≡ false) xs from)
+        → (k : ℕ) (d : Entry) → k < at → is_child p name (get_or es k d) ≡ false
+    before_both from at within inside is point k d low =
+        elim (cases_lt k from) [
+          | inl less ↦ before_start from within point k d less
+          | inr more ↦ before_parent k d (omega arith) (omega (arith, has.count))
+        ]
 
     pub past_end : (to i : ℕ) → to ≤ length xs
         → (IsNonDecreasingBy rank_in xs → IsPartitionPoint (λ x. nat_le (rank_in x) (rank_of p s) ≡ true) (λ x. nat_le (rank_in x) (rank_of p s) ≡ false) xs to)
@@ -122,6 +138,7 @@ pub table_names : (image : List ℕ) (t : Tree) (l : Layout) (xs : List TableEnt
 table_names image t l xs fits is = record {
   count = ap length is ∙ told_length 0 t.entries l.places fits.places;
   order = fits.tree.order;
+  below = fits.tree.parents;
   parents = (λ i x e lt. let h = here i x e lt in ap (λ (y : TableEntry). y.parent) h.2 ∙ ap (λ (f : Entry). f.parent) (sym h.1));
   names = (λ i x e lt. let h = here i x e lt in
       ap name_in h.2 ∙ name_told image t l i (head_at l.places i) (length (all_datas (take i l.places))) h.0.0 fits h.0.1 ∙ ap (λ (f : Entry). f.name) (sym h.1));

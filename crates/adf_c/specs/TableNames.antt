@@ -1,6 +1,6 @@
 -- What a table of entries tells of directories and names.
 -- Letters: x an entry of the table, and xs entries of it; es entries of a tree; p a directory's number.
-use Rattle.std.specs.Prelude.{◌≡◌, ◌<◌, ◌==◌, ◌&&◌, ℕ, Bool, List, length, take, slice_index_or}
+use Rattle.std.specs.Prelude.{◌≡◌, ◌<◌, ◌≤◌, ◌==◌, ◌&&◌, ℕ, Bool, List, length, take, slice_index_or}
 use Rattle.std.specs.List.Sorted.{IsNonDecreasingBy}
 use Rattle.std.specs.Str.{bytes_eq}
 use Rattle.adf_fields.specs.Hash.{slot_of}
@@ -21,9 +21,10 @@ rank_in x = rank_of x.parent (slot_of (name_in x))
 abbrev pub is_child_in : ℕ → List ℕ → TableEntry → Bool
 is_child_in p name x = (x.parent == p) && bytes_eq (uppers (name_in x)) (uppers name)
 
--- the table has the directories and names of these entries, which are in walk order
+-- the table has the directories and names of these entries, which are in walk order, each behind its directory
 pub record HasNamesOf (xs : List TableEntry) (es : List Entry) : Type 0 where
   pub count : length xs ≡ length es
   pub order : IsNonDecreasingBy rank es
+  pub below : (i : ℕ) (e : Entry) → i < length es → (slice_index_or es i e).parent ≤ i
   pub parents : (i : ℕ) (x : TableEntry) (e : Entry) → i < length es → (slice_index_or xs i x).parent ≡ (slice_index_or es i e).parent
   pub names : (i : ℕ) (x : TableEntry) (e : Entry) → i < length es → name_in (slice_index_or xs i x) ≡ (slice_index_or es i e).name

@@ -1,6 +1,6 @@
 // Paths, looked up in the table of entries.
 
-ghost use Rattle.std.specs.Prelude.{◌≡◌, ◌≤◌, ◌<◌, ◌↔◌, ℕ, List, Some, None, length, nat_le, nat_lt, true, false};
+ghost use Rattle.std.specs.Prelude.{◌≡◌, ◌≤◌, ◌<◌, ◌↔◌, ◌⊎◌, ℕ, List, Some, None, IfSome, length, nat_le, nat_lt, true, false};
 ghost use Rattle.std.specs.List.Sorted.{IsNonDecreasingBy, IsPartitionPoint};
 ghost use Rattle.adf_tree.specs.declared.entry.Entry.{Entry};
 ghost use Rattle.adf_tree.specs.PathTexts.{IsPathText};
@@ -68,12 +68,15 @@ fn end_of(entries: &[TableEntry], parent: usize, slot: u8) -> usize
     entries.partition_point(|entry| is_at_most(entry, parent, slot))
 }
 
-// The number of the entry with this directory and this name.
+// The number of the entry with this directory and this name, among those with greater numbers than the directory's.
 fn child(entries: &[TableEntry], parent: usize, name: &Name) -> Option<usize>
-    ensures { (es : List Entry) → HasNamesOf entries.now es → result ≡ child es parent name.now }
+    requires { parent ≤ length entries.now }
+    ensures found { (es : List Entry) → HasNamesOf entries.now es → result ≡ child es parent name.now }
+    ensures above { IfSome result (λ n. parent < n) }
+    ensures inside { IfSome result (λ n. n ≤ length entries.now) }
 {
     let slot = slot(name.bytes());
-    let start = start_of(entries, parent, slot);
+    let start = start_of(entries, parent, slot).max(parent);
     let end = end_of(entries, parent, slot);
     for i in start..end {
         if is_child(&entries[i], parent, name) {
@@ -85,7 +88,8 @@ fn child(entries: &[TableEntry], parent: usize, name: &Name) -> Option<usize>
 
 // The number of the entry that the path leads to, 0 for the root.
 fn find(entries: &[TableEntry], path: &[Name]) -> Option<usize>
-    ensures { (es : List Entry) → HasNamesOf entries.now es → result ≡ find es path.now }
+    ensures found { (es : List Entry) → HasNamesOf entries.now es → result ≡ find es path.now }
+    ensures inside { IfSome result (λ n. n ≤ length entries.now) }
 {
     let mut node = 0;
     for name in path {
@@ -106,7 +110,10 @@ pub extern "C" fn adf_find(
     path: &[u8],
     node: &mut usize,
 ) -> u8
-    ensures number { result ≤ 23 }
+    // Whatever the table is, the answer is one of these, and a node that is found is the root or one of the entries.
+    ensures number { (result ≡ 0) ⊎ (result ≡ 1) ⊎ (result ≡ 2) ⊎ (result ≡ 23) }
+    ensures inside { result ≡ 0 → node.new ≤ length entries.now }
+    ensures unchanged { ¬ (result ≡ 0) → node.new ≡ node.old }
 
     // In the table of a volume the node is the one that the path leads to.
     ensures found { result ≡ 0 → (image : List ℕ) (t : Tree) (l : Layout) (names : List (List ℕ)) → Fits image t l → entries.now ≡ entry_table t l
@@ -114,7 +121,6 @@ pub extern "C" fn adf_find(
     ensures none { result ≡ 1 → (image : List ℕ) (t : Tree) (l : Layout) (names : List (List ℕ)) → Fits image t l → entries.now ≡ entry_table t l
         → IsPathText path.now names → find t.entries names ≡ None }
     ensures bad_path { (result ≡ 2) ↔ ((names : List (List ℕ)) → ¬ IsPathText path.now names) }
-    ensures unchanged { ¬ (result ≡ 0) → node.new ≡ node.old }
 {
     match read_path(alloc, path) {
         Ok(names) => match find(entries, &names) {

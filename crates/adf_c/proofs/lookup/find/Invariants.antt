@@ -1,8 +1,11 @@
-use Rattle.std.proofs.Common.{◌≡◌, List, drop}
+use Rattle.std.proofs.Common.{◌≡◌, ◌≤◌, List, drop, length}
 use Rattle.adf_tree.specs.Tree.{find, find_from}
 use Rattle.adf_tree.specs.declared.entry.Entry.{Entry}
 use Rattle.adf_c.specs.TableNames.{HasNamesOf}
 use Rattle.adf_c.proofs.lookup.find.Given as goal
 
 abbrev pub invariant-loop-name : goal.invariant-loop-name
-invariant-loop-name l = (es : List Entry) → HasNamesOf l.entries es → find es l.path ≡ find_from es l.node (drop l.name-index l.path)
+invariant-loop-name l = record {
+  found : (es : List Entry) → HasNamesOf l.entries es → find es l.path ≡ find_from es l.node (drop l.name-index l.path);
+  inside : l.node ≤ length l.entries;
+}
