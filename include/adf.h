@@ -1,5 +1,5 @@
-/* adf for C: checks an image of an Amiga volume, tells whose each block is, makes tables by which
- * its files are found and read, and runs the whole command over memory.
+/* adf for C: checks an image of an Amiga volume, tells whose each block is, makes tables by which its files are found and read,
+ * and runs the whole command over memory.
  *
  * The library is libadf_c.a, which `rt lib` in crates/adf_c leaves in crates/adf_c/out. Link it with liblibc_c.a of the
  * Rattle toolchain, which takes memory by malloc, realloc and free of the program:
@@ -17,6 +17,7 @@
  * - A room may hold anything before the call, and so may a struct, but for its bools, which are true or false: `= {0}` will do.
  * - Nothing else writes what is read here (const) while a call runs. What is written here (not const) overlaps nothing else
  *   that is passed, and nobody else reads or writes it while the call runs.
+ * - malloc, realloc and free belong together, and align as C asks: for any object that fits the size.
  * - A call is not made from a signal handler, nor in the forked child of a process that had threads.
  *
  * What the caller gets
@@ -39,7 +40,8 @@
 extern "C" {
 #endif
 
-/* Why an image is refused, as `adf_check`, `adf_owners` and `adf_index` answer it. Within one block the causes are tried in this order. */
+/* Why an image is refused, as adf_check, adf_owners and adf_index answer it. Within one block the causes are tried in this
+ * order. */
 enum adf_cause {
     ADF_ACCEPTED = 0,
     ADF_BAD_SIZE = 1,       /* The length is no multiple of 512, or no allowed number of blocks. */
@@ -157,8 +159,8 @@ struct adf_contents {
     struct adf_date root; /* the three dates of the root block: its own, that of the last change, that of the creation */
     struct adf_date altered;
     struct adf_date created;
-    uint8_t label_length; /* 1 to 30 */
-    uint8_t label[30];    /* with zeros behind */
+    uint8_t label_length; /* 0 to 30 */
+    uint8_t label[30];    /* bytes of no encoding, with zeros behind */
 };
 
 /* Checks an image of so many bytes, and fills two tables, each as far as there is room: of its entries, and of the data blocks
@@ -166,10 +168,12 @@ struct adf_contents {
  *
  * 0: the image is that of one volume, and the tables and contents are its own. contents->entries and contents->data_blocks tell
  *    how many there are of each, whatever the rooms: where a room is less, the table is only a front part, and a second call
- *    with rooms of these sizes gives all. Both are below the number of blocks, length / 512. What is behind in a room stays.
+ *    with rooms of these sizes gives all. Together they are fewer than the blocks in use, so than length / 512. What is behind
+ *    in a room stays.
  * 1 to 22: no volume has this image. This is its first fault, and contents->block is where it stands; the other fields are 0,
  *    and the tables stay as they were.
- * 23: memory was refused; all fields are 0, and the tables stay as they were.
+ * 23: memory was refused; the size, the boot bytes and the root are sound, and no more is said of the image. All fields are 0,
+ *    and the tables stay as they were.
  */
 uint8_t adf_index(const uint8_t *image, size_t length, struct adf_entry *entries, size_t entries_room,
                   uint32_t *blocks, size_t blocks_room, struct adf_contents *contents);
@@ -193,7 +197,7 @@ uint8_t adf_find(const struct adf_entry *entries, size_t count, const uint8_t *p
 /* Puts the bytes of file `node` from byte `offset` on into the room, as many as there are and fit, and answers how many: 0 for
  * the root, a directory, a node past the last entry, and an offset past the end. What is behind them in the room stays. The
  * work is by the bytes that are put. The image and the tables are those of one call of adf_index, whole and unchanged; with
- * any others the bytes are any of the image, but the call is safe all the same.
+ * any others the answer is at most room_length, and what is behind so many bytes stays all the same.
  */
 size_t adf_read(const uint8_t *image, size_t length, const struct adf_entry *entries, size_t entries_count,
                 const uint32_t *blocks, size_t blocks_count, size_t node, size_t offset, uint8_t *room, size_t room_length);

@@ -12,6 +12,8 @@ use Rattle.adf_volume.specs.Lists.{At, numbered}
 use Rattle.adf_volume.proofs.Chains.{entry_is_at, entry_some}
 use Rattle.adf_volume.proofs.Lists.{at_below, at_index_or, at_some}
 use Rattle.adf_check.specs.Rows.{EntryMatches, RowMatches}
+use Rattle.adf_check.specs.Volumes.{counts_of}
+use Rattle.adf_check.specs.declared.checked.Counts.{Counts}
 use Rattle.adf_check.specs.declared.row.Row.{Row}
 use Rattle.adf_c.specs.declared.tables.Contents.{Contents}
 use Rattle.adf_c.specs.declared.tables.TableEntry.{TableEntry}
@@ -165,6 +167,14 @@ next_entry t l i k x z lt is tells =
     let one : i + 1 ≡ suc i = omega arith in
     let there : entry t.entries (i + 1) ≡ Some at.0 = ap (entry t.entries) one ∙ (entry_is_at t (suc i) at.0).0 at.1 in
     subst (At (entry_table t l) i) (sym (tells at.0 there)) (told_here t l i k at.0 at.1 z is)
+
+-- there are fewer blocks in use than blocks, since two are boot blocks
+pub used_small : (image : List ℕ) (t : Tree) (l : Layout) (n : Counts) (x : Contents) → n ≡ counts_of image t l → n.used + n.free + 2 ≡ n.blocks
+    → x ≡ contents_of image t l → x.used < x.blocks
+used_small image t l n x counts all is =
+    let used : x.used ≡ n.used = ap (λ (y : Contents). y.used) is ∙ sym (ap (λ (m : Counts). m.used) counts) in
+    let blocks : x.blocks ≡ n.blocks = ap (λ (y : Contents). y.blocks) is ∙ sym (ap (λ (m : Counts). m.blocks) counts) in
+    omega arith
 
 -- there are fewer entries and data blocks than blocks in use
 pub contents_small : (image : List ℕ) (t : Tree) (l : Layout) (x : Contents) → Fits image t l → x ≡ contents_of image t l → x.entries + x.data_blocks < x.used

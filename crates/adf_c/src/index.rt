@@ -7,6 +7,7 @@ ghost use Rattle.adf_blocks.specs.declared.cause.Cause.{Cause};
 ghost use Rattle.adf_volume.specs.Fits.{Fits};
 ghost use Rattle.adf_volume.specs.Layout.{Layout};
 ghost use Rattle.adf_volume.specs.Walk.{FirstFault};
+ghost use Rattle.adf_check.specs.Image.{IsBegun};
 ghost use Rattle.adf_c.specs.Rooms.{filled};
 ghost use Rattle.adf_c.specs.Tables.{block_table, contents_of, entry_table, refused_at};
 
@@ -32,8 +33,9 @@ pub extern "C" fn adf_index(
     ensures blocks { result ≡ 0 → (t : Tree) (l : Layout) → Fits image.now t l → blocks.new ≡ filled (block_table l) blocks.old }
     ensures contents { result ≡ 0 → (t : Tree) (l : Layout) → Fits image.now t l → contents.new ≡ contents_of image.now t l }
 
-    // There are fewer entries and data blocks than blocks in use.
+    // There are fewer entries and data blocks than blocks in use, and of these fewer than blocks.
     ensures few { result ≡ 0 → contents.new.entries + contents.new.data_blocks < contents.new.used }
+    ensures used { result ≡ 0 → contents.new.used < contents.new.blocks }
 
     // A fault is the first one, nothing fits the image, and the tables stay as they were.
     ensures refused { ¬ (result ≡ 0) → contents.new ≡ refused_at contents.new.block }
@@ -41,8 +43,9 @@ pub extern "C" fn adf_index(
     ensures none { ¬ (result ≡ 0) → ¬ (result ≡ 23) → (t : Tree) (l : Layout) → Fits image.now t l → ⊥ }
     ensures unchanged { ¬ (result ≡ 0) → (entries.new ≡ entries.old) × (blocks.new ≡ blocks.old) }
 
-    // Want of memory names block 0.
+    // Want of memory names block 0, and comes only where the size, the boot bytes and the root are sound.
     ensures memory { result ≡ 23 → contents.new.block ≡ 0 }
+    ensures begun { result ≡ 23 → IsBegun image.now }
 {
     match check(alloc, image) {
         Ok(volume) => {
