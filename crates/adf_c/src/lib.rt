@@ -9,5 +9,7 @@ mod owners;
 mod reading;
 mod running;
 mod tables;
+#[cfg(test)]
+mod tests;
 mod verdict;
 mod words;
