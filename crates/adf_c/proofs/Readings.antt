@@ -21,7 +21,7 @@ use Rattle.adf_volume.proofs.Images.{AreIn, area_length, enough_bytes, joined_le
 use Rattle.adf_volume.proofs.LayoutRoles.{part_range}
 use Rattle.adf_volume.proofs.Lists.{at_below, at_index_or, at_some}
 use Rattle.adf_c.specs.declared.tables.TableEntry.{TableEntry}
-use Rattle.adf_c.specs.Areas.{AreBlocksOf}
+use Rattle.adf_c.specs.Areas.{AreBlocksOf, AreDatasOf, file_bytes}
 use Rattle.adf_c.specs.Rooms.{filled}
 use Rattle.adf_c.specs.Tables.{all_datas, block_table, bytes_at, bytes_in, bytes_told, entry_table, told}
 use Rattle.adf_c.proofs.Filled.{drop_zero, filled_part, take_zero}
@@ -47,7 +47,8 @@ joined_from image kind (b ∷ bs) (suc i) r whole inside lt le =
     ∙ drop-append-add (area kind (block image b)) (joined image kind bs) (chunk kind * i + r)
     ∙ joined_from image kind bs i r whole (λ j c at. inside (suc j) c at) (omega arith) le
 
-place_in : (kind : Kind) (at n : ℕ) → at < chunk kind * n → (at / chunk kind < n) × (chunk kind * (at / chunk kind) + at % chunk kind ≡ at) × (at % chunk kind ≤ chunk kind)
+place_in : (kind : Kind) (at n : ℕ) → at < chunk kind * n
+    → (at / chunk kind < n) × (chunk kind * (at / chunk kind) + at % chunk kind ≡ at) × (at % chunk kind ≤ chunk kind)
 unfolding chunk
 place_in Ofs at n lt = (omega arith, omega arith, omega arith)
 place_in Ffs at n lt = (omega arith, omega arith, omega arith)
@@ -171,9 +172,8 @@ body_read image t l n e fits at (File bytes) is f = (
 
 -- what an entry of the table tells of a file
 pub record IsRead (image table : List ℕ) (t : Tree) (l : Layout) (n : ℕ) (x : TableEntry) : Type 0 where
-  pub datas : AreBlocksOf image (drop x.first table) (datas_of l n)
-  pub enough : x.size ≤ chunk (kind_of image) * length (datas_of l n)
-  pub bytes : take x.size (joined image (kind_of image) (datas_of l n)) ≡ bytes_at t n
+  pub datas : AreDatasOf image x table (datas_of l n)
+  pub bytes : file_bytes image x (datas_of l n) ≡ bytes_at t n
 
 told_read : (image : List ℕ) (t : Tree) (l : Layout) (i : ℕ) (e : Entry) → Fits image t l → At t.entries i e
     → IsRead image (block_table l) t l (suc i) (told (head_at l.places i) (length (all_datas (take i l.places))) e)
@@ -183,13 +183,15 @@ told_read image t l i e fits at =
     let told_bytes : bytes_in e.body ≡ bytes_at t (suc i) = sym (ap bytes_told ((entry_is_at t (suc i) e).0 at)) in
     record {
       datas = record {
-        whole = fits.boots.0.0;
-        front = datas_front l.places i below;
-        inside = (λ j lt. let b = at_some (datas_of l (suc i)) j lt in
-            subst (λ x. x < blocks image) (sym (at_index_or (datas_of l (suc i)) j b.0 0 b.1))
-            (part_range image t l fits (Data (suc i) (suc j)) b.0 b.1).1);
+        listed = record {
+          whole = fits.boots.0.0;
+          front = datas_front l.places i below;
+          inside = (λ j lt. let b = at_some (datas_of l (suc i)) j lt in
+              subst (λ x. x < blocks image) (sym (at_index_or (datas_of l (suc i)) j b.0 0 b.1))
+              (part_range image t l fits (Data (suc i) (suc j)) b.0 b.1).1);
+        };
+        enough = subst (λ k. length (bytes_in e.body) ≤ chunk k * length (datas_of l (suc i))) fits.kind body.0;
       };
-      enough = subst (λ k. length (bytes_in e.body) ≤ chunk k * length (datas_of l (suc i))) fits.kind body.0;
       bytes = ap (λ k. take (length (bytes_in e.body)) (joined image k (datas_of l (suc i)))) (sym fits.kind) ∙ body.1 ∙ told_bytes;
     }
 

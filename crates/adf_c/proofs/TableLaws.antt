@@ -7,7 +7,7 @@ use Rattle.adf_tree.specs.declared.entry.Entry.{Entry}
 use Rattle.adf_tree.specs.Tree.{Tree, IsTree, entry}
 use Rattle.adf_volume.specs.declared.owner.Owner.TheVariants.{Data, Ext, MapExt, Page}
 use Rattle.adf_volume.specs.Fits.{Fits}
-use Rattle.adf_volume.specs.Layout.{EntryAt, Layout, Place, datas_at, head_at, owned, owned_from}
+use Rattle.adf_volume.specs.Layout.{EntryAt, Layout, Place, datas_at, datas_of, head_at, owned, owned_from}
 use Rattle.adf_volume.specs.Lists.{At, numbered}
 use Rattle.adf_volume.proofs.Chains.{entry_is_at, entry_some}
 use Rattle.adf_volume.proofs.Lists.{at_below, at_index_or, at_some}
@@ -136,6 +136,13 @@ pub blocks_small : (image : List ℕ) (t : Tree) (l : Layout) (i first : ℕ) �
 blocks_small image t l i first fits few lt is =
     let more = datas_more l.places i (omega (arith, fits.places)) in
     omega (arith, ap length more, length-append (all_datas (take i l.places)) (datas_at l.places i), datas_within l.places (suc i), tables_small image l)
+
+-- also where they are given as a list
+pub next_small : (image : List ℕ) (t : Tree) (l : Layout) (i first : ℕ) (ds : List ℕ) → Fits image t l → length (owned image l) < 2 ^ 32
+    → i < length t.entries → first ≡ length (all_datas (take i l.places)) → ds ≡ datas_of l (i + 1) → first + length ds < 2 ^ 32
+next_small image t l i first ds fits few lt is next =
+    let one : i + 1 ≡ suc i = omega arith in
+    omega (arith, ap length (next ∙ ap (datas_of l) one), blocks_small image t l i first fits few lt is)
 
 -- and with those of the next file
 pub count_more : (l : Layout) (i first more : ℕ) → i < length l.places → first ≡ length (all_datas (take i l.places)) → more ≡ length (datas_at l.places i)

@@ -29,7 +29,7 @@ use Rattle.adf_c.specs.Rooms.{filled}
 use Rattle.adf_c.specs.Tables.{all_datas, entry_table, told}
 use Rattle.adf_c.proofs.TableLaws.{told_here, told_length}
 use Rattle.adf_c.specs.declared.tables.TableEntry.{TableEntry}
-use Rattle.adf_c.specs.TableNames.{HasNamesOf, is_child_in, name_in, rank_in}
+use Rattle.adf_c.specs.TableNames.{HasNamesOf, IsEnd, IsStart, is_child_in, name_in, rank_in}
 
 module _ {xs : List TableEntry} {es : List Entry} (has : HasNamesOf xs es) where
   same_rank : (i : ℕ) (x : TableEntry) (e : Entry) → i < length es → rank_in (get_or xs i x) ≡ rank (get_or es i e)
@@ -71,14 +71,12 @@ module _ {xs : List TableEntry} {es : List Entry} (has : HasNamesOf xs es) where
         false_from_ne_true (is_child p name (get_or es k d))
         (λ is. absurd (omega (arith, (child_says p name (get_or es k d) is).0, has.below k d short)))
 
-    before_start : (from : ℕ) → from ≤ length xs
-        → (IsNonDecreasingBy rank_in xs → IsPartitionPoint (λ x. nat_lt (rank_in x) (rank_of p s) ≡ true) (λ x. nat_lt (rank_in x) (rank_of p s) ≡ false) xs from)
+    before_start : (from : ℕ) → from ≤ length xs → (IsNonDecreasingBy rank_in xs → IsStart xs (rank_of p s) from)
         → (k : ℕ) (d : Entry) → k < from → is_child p name (get_or es k d) ≡ false
     before_start from within point = child_not_before es p name s from slot (parted (λ r. nat_lt r (rank_of p s)) from within (point in_order))
 
     -- what stands before the chain, or before the directory
-    pub before_both : (from at : ℕ) → from ≤ length xs → p ≤ length xs → at ≡ max from p
-        → (IsNonDecreasingBy rank_in xs → IsPartitionPoint (λ x. nat_lt (rank_in x) (rank_of p s) ≡ true) (λ x. nat_lt (rank_in x) (rank_of p s) ≡ false) xs from)
+    pub before_both : (from at : ℕ) → from ≤ length xs → p ≤ length xs → at ≡ max from p → (IsNonDecreasingBy rank_in xs → IsStart xs (rank_of p s) from)
         → (k : ℕ) (d : Entry) → k < at → is_child p name (get_or es k d) ≡ false
     before_both from at within inside is point k d low =
         elim (cases_lt k from) [
@@ -86,8 +84,8 @@ module _ {xs : List TableEntry} {es : List Entry} (has : HasNamesOf xs es) where
           | inr more ↦ before_parent k d (omega arith) (omega (arith, has.count))
         ]
 
-    pub past_end : (to i : ℕ) → to ≤ length xs
-        → (IsNonDecreasingBy rank_in xs → IsPartitionPoint (λ x. nat_le (rank_in x) (rank_of p s) ≡ true) (λ x. nat_le (rank_in x) (rank_of p s) ≡ false) xs to)
+    -- where no entry up to the end of the chain is the child, there is none
+    pub past_end : (to i : ℕ) → to ≤ length xs → (IsNonDecreasingBy rank_in xs → IsEnd xs (rank_of p s) to)
         → to ≤ i → ((k : ℕ) (d : Entry) → k < i → is_child p name (get_or es k d) ≡ false) → None ≡ child es p name
     past_end to i within point past others =
         let at : to ≡ place es (rank_of p s) =
@@ -141,7 +139,8 @@ table_names image t l xs fits is = record {
   below = fits.tree.parents;
   parents = (λ i x e lt. let h = here i x e lt in ap (λ (y : TableEntry). y.parent) h.2 ∙ ap (λ (f : Entry). f.parent) (sym h.1));
   names = (λ i x e lt. let h = here i x e lt in
-      ap name_in h.2 ∙ name_told image t l i (head_at l.places i) (length (all_datas (take i l.places))) h.0.0 fits h.0.1 ∙ ap (λ (f : Entry). f.name) (sym h.1));
+      ap name_in h.2 ∙ name_told image t l i (head_at l.places i) (length (all_datas (take i l.places))) h.0.0 fits h.0.1
+      ∙ ap (λ (f : Entry). f.name) (sym h.1));
 }
   where
     here : (i : ℕ) (x : TableEntry) (e : Entry) → i < length t.entries
@@ -153,5 +152,6 @@ table_names image t l xs fits is = record {
         (f, at_index_or t.entries i f.0 e f.1, ap (λ ys. get_or ys i x) is ∙ at_index_or (entry_table t l) i _ x at)
 
 -- a text has one path, so what holds of the path that was read holds of each
-pub for_each_path : (text : List ℕ) (read names : List (List ℕ)) → IsPathText text read → IsPathText text names → (P : List (List ℕ) → Type 0) → P read → P names
+pub for_each_path : (text : List ℕ) (read names : List (List ℕ)) → IsPathText text read → IsPathText text names
+    → (P : List (List ℕ) → Type 0) → P read → P names
 for_each_path text read names a b P h = subst P (one_path text read names a b) h

@@ -1,12 +1,13 @@
 -- The tables of a volume, as C has them: an entry for each entry of its tree, and the data blocks of its files.
--- Letters: t a tree; l its layout; e an entry, and es entries; h the block of a header; q the place of an entry, and qs places; k a count of data blocks.
-use Rattle.std.specs.Prelude.{ℕ, List, [], ◌∷◌, ◌++◌, ◌+◌, ◌-◌, Option, Some, None, length, replicate}
+-- Letters: t a tree; l its layout; e an entry, and es entries; xs a table of entries; h the block of a header; q the place of an entry, and qs places; k a count of data blocks.
+use Rattle.std.specs.Prelude.{◌≡◌, ℕ, List, [], ◌∷◌, ◌++◌, ◌+◌, ◌-◌, Option, Some, None, length, replicate}
 use Rattle.adf_fields.specs.declared.dates.Stamp.{Stamp}
 use Rattle.adf_tree.specs.declared.entry.Body.{Body}
 use Rattle.adf_tree.specs.declared.entry.Body.TheVariants.{Dir, File}
 use Rattle.adf_tree.specs.declared.entry.Entry.{Entry}
 use Rattle.adf_tree.specs.Tree.{Tree, entry}
 use Rattle.adf_blocks.specs.Sizes.{blocks}
+use Rattle.adf_volume.specs.Fits.{Fits}
 use Rattle.adf_volume.specs.Layout.{Layout, Place, owned}
 use Rattle.adf_c.specs.declared.tables.Contents.{Contents}
 use Rattle.adf_c.specs.declared.tables.Date.{Date}
@@ -18,6 +19,7 @@ use Rattle.adf_c.specs.Verdicts.{kind_number}
 abbrev pub field : ℕ → List ℕ → List ℕ
 field n text = filled text (replicate n 0)
 
+-- a date
 abbrev pub date_of : Stamp → Date
 date_of s = record { days = s.days; mins = s.mins; ticks = s.ticks }
 
@@ -56,6 +58,10 @@ told_from k (e ∷ es) (q ∷ qs) = told q.head k e ∷ told_from (k + length q.
 -- the table of all entries
 abbrev pub entry_table : Tree → Layout → List TableEntry
 entry_table t l = told_from 0 t.entries l.places
+
+-- the table is that of a volume of this tree, wherever its parts lie
+abbrev pub IsTableOf : List TableEntry → Tree → Type 0
+IsTableOf xs t = (image : List ℕ) × (l : Layout) × Fits image t l × (xs ≡ entry_table t l)
 
 -- the data blocks of files, one file after the other
 abbrev pub all_datas : List Place → List ℕ
@@ -100,10 +106,11 @@ refused_at b = record {
   label = field 30 [];
 }
 
--- the bytes of the file with this number; none of the root, a directory and what is past the last entry
+-- the bytes of what may be an entry
 abbrev pub bytes_told : Option Entry → List ℕ
 bytes_told None = []
 bytes_told (Some e) = bytes_in e.body
 
+-- the bytes of the file with this number; none of the root, a directory and what is past the last entry
 abbrev pub bytes_at : Tree → ℕ → List ℕ
 bytes_at t n = bytes_told (entry t.entries n)

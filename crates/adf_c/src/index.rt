@@ -2,14 +2,12 @@
 
 ghost use Rattle.std.specs.Prelude.{◌≡◌, ◌≤◌, ◌<◌, ◌+◌};
 ghost use Rattle.adf_tree.specs.Tree.{Tree};
-ghost use Rattle.adf_blocks.specs.Causes.{cause_number};
-ghost use Rattle.adf_blocks.specs.declared.cause.Cause.{Cause};
 ghost use Rattle.adf_volume.specs.Fits.{Fits};
 ghost use Rattle.adf_volume.specs.Layout.{Layout};
-ghost use Rattle.adf_volume.specs.Walk.{FirstFault};
 ghost use Rattle.adf_check.specs.Image.{IsBegun};
 ghost use Rattle.adf_c.specs.Rooms.{filled};
 ghost use Rattle.adf_c.specs.Tables.{block_table, contents_of, entry_table, refused_at};
+ghost use Rattle.adf_c.specs.Verdicts.{IsFirstCause};
 
 use crate::tables::{Contents, TableEntry, contents_of, put_tables, refused_at};
 use adf_check::check;
@@ -29,8 +27,10 @@ pub extern "C" fn adf_index(
 
     // One tree and one layout fit an accepted image, and the tables and the contents are theirs.
     ensures fits { result ≡ 0 → (t : Tree) × (l : Layout) × Fits image.now t l }
-    ensures entries { result ≡ 0 → (t : Tree) (l : Layout) → Fits image.now t l → entries.new ≡ filled (entry_table t l) entries.old }
-    ensures blocks { result ≡ 0 → (t : Tree) (l : Layout) → Fits image.now t l → blocks.new ≡ filled (block_table l) blocks.old }
+    ensures entries { result ≡ 0 → (t : Tree) (l : Layout) → Fits image.now t l
+        → entries.new ≡ filled (entry_table t l) entries.old }
+    ensures blocks { result ≡ 0 → (t : Tree) (l : Layout) → Fits image.now t l
+        → blocks.new ≡ filled (block_table l) blocks.old }
     ensures contents { result ≡ 0 → (t : Tree) (l : Layout) → Fits image.now t l → contents.new ≡ contents_of image.now t l }
 
     // There are fewer entries and data blocks than blocks in use, and of these fewer than blocks.
@@ -39,7 +39,7 @@ pub extern "C" fn adf_index(
 
     // A fault is the first one, nothing fits the image, and the tables stay as they were.
     ensures refused { ¬ (result ≡ 0) → contents.new ≡ refused_at contents.new.block }
-    ensures first { ¬ (result ≡ 0) → ¬ (result ≡ 23) → (c : Cause) × (cause_number c ≡ result) × FirstFault image.now contents.new.block c }
+    ensures first { ¬ (result ≡ 0) → ¬ (result ≡ 23) → IsFirstCause image.now contents.new.block result }
     ensures none { ¬ (result ≡ 0) → ¬ (result ≡ 23) → (t : Tree) (l : Layout) → Fits image.now t l → ⊥ }
     ensures unchanged { ¬ (result ≡ 0) → (entries.new ≡ entries.old) × (blocks.new ≡ blocks.old) }
 

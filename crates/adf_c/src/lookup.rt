@@ -1,14 +1,12 @@
 // Paths, looked up in the table of entries.
 
-ghost use Rattle.std.specs.Prelude.{◌≡◌, ◌≤◌, ◌<◌, ◌↔◌, ◌⊎◌, ℕ, List, Some, None, IfSome, length, nat_le, nat_lt, true, false};
-ghost use Rattle.std.specs.List.Sorted.{IsNonDecreasingBy, IsPartitionPoint};
+ghost use Rattle.std.specs.Prelude.{◌≡◌, ◌≤◌, ◌<◌, ◌↔◌, ◌⊎◌, ℕ, List, Some, None, IfSome, length, nat_le, nat_lt};
+ghost use Rattle.std.specs.List.Sorted.{IsNonDecreasingBy};
 ghost use Rattle.adf_tree.specs.declared.entry.Entry.{Entry};
 ghost use Rattle.adf_tree.specs.PathTexts.{IsPathText};
 ghost use Rattle.adf_tree.specs.Tree.{Tree, child, find, rank_of};
-ghost use Rattle.adf_volume.specs.Fits.{Fits};
-ghost use Rattle.adf_volume.specs.Layout.{Layout};
-ghost use Rattle.adf_c.specs.Tables.{entry_table};
-ghost use Rattle.adf_c.specs.TableNames.{HasNamesOf, is_child_in, name_in, rank_in};
+ghost use Rattle.adf_c.specs.Tables.{IsTableOf};
+ghost use Rattle.adf_c.specs.TableNames.{HasNamesOf, IsEnd, IsStart, is_child_in, name_in, rank_in};
 
 use crate::tables::TableEntry;
 use adf_tree::{Name, PathFault, read_path, slot};
@@ -52,8 +50,7 @@ fn is_child(entry: &TableEntry, parent: usize, name: &Name) -> bool
 fn start_of(entries: &[TableEntry], parent: usize, slot: u8) -> usize
     requires { slot < 72 }
     ensures within { result ≤ length entries.now }
-    ensures parted { IsNonDecreasingBy rank_in entries.now
-        → IsPartitionPoint (λ x. nat_lt (rank_in x) (rank_of parent slot) ≡ true) (λ x. nat_lt (rank_in x) (rank_of parent slot) ≡ false) entries.now result }
+    ensures parted { IsNonDecreasingBy rank_in entries.now → IsStart entries.now (rank_of parent slot) result }
 {
     entries.partition_point(|entry| is_less(entry, parent, slot))
 }
@@ -62,8 +59,7 @@ fn start_of(entries: &[TableEntry], parent: usize, slot: u8) -> usize
 fn end_of(entries: &[TableEntry], parent: usize, slot: u8) -> usize
     requires { slot < 72 }
     ensures within { result ≤ length entries.now }
-    ensures parted { IsNonDecreasingBy rank_in entries.now
-        → IsPartitionPoint (λ x. nat_le (rank_in x) (rank_of parent slot) ≡ true) (λ x. nat_le (rank_in x) (rank_of parent slot) ≡ false) entries.now result }
+    ensures parted { IsNonDecreasingBy rank_in entries.now → IsEnd entries.now (rank_of parent slot) result }
 {
     entries.partition_point(|entry| is_at_most(entry, parent, slot))
 }
@@ -116,10 +112,10 @@ pub extern "C" fn adf_find(
     ensures unchanged { ¬ (result ≡ 0) → node.new ≡ node.old }
 
     // In the table of a volume the node is the one that the path leads to.
-    ensures found { result ≡ 0 → (image : List ℕ) (t : Tree) (l : Layout) (names : List (List ℕ)) → Fits image t l → entries.now ≡ entry_table t l
-        → IsPathText path.now names → find t.entries names ≡ Some node.new }
-    ensures none { result ≡ 1 → (image : List ℕ) (t : Tree) (l : Layout) (names : List (List ℕ)) → Fits image t l → entries.now ≡ entry_table t l
-        → IsPathText path.now names → find t.entries names ≡ None }
+    ensures found { result ≡ 0 → (t : Tree) (names : List (List ℕ)) → IsTableOf entries.now t → IsPathText path.now names
+        → find t.entries names ≡ Some node.new }
+    ensures none { result ≡ 1 → (t : Tree) (names : List (List ℕ)) → IsTableOf entries.now t → IsPathText path.now names
+        → find t.entries names ≡ None }
     ensures bad_path { (result ≡ 2) ↔ ((names : List (List ℕ)) → ¬ IsPathText path.now names) }
 {
     match read_path(alloc, path) {

@@ -2,19 +2,18 @@
 
 ghost use Rattle.std.specs.Prelude.{◌≡◌, ◌≤◌, ◌<◌, ℕ, length, slice_index};
 ghost use Rattle.adf_tree.specs.Tree.{Tree};
-ghost use Rattle.adf_blocks.specs.Causes.{cause_number};
 ghost use Rattle.adf_blocks.specs.Sizes.{blocks};
-ghost use Rattle.adf_blocks.specs.declared.cause.Cause.{Cause};
 ghost use Rattle.adf_volume.specs.Fits.{Fits};
 ghost use Rattle.adf_volume.specs.Layout.{Layout};
-ghost use Rattle.adf_volume.specs.Walk.{FirstFault};
 ghost use Rattle.adf_check.specs.Image.{IsBegun};
 ghost use Rattle.adf_check.specs.Volumes.{StandsFor};
 ghost use Rattle.adf_c.specs.Roles.{IsRole, role_number};
+ghost use Rattle.adf_c.specs.Verdicts.{IsFirstCause};
 
 use adf_check::{Checked, Owner, check};
 use std::alloc::Global;
 
+// The number of an owner's role, as C has it.
 fn role_number(owner: Owner) -> u8
     ensures { result ≡ role_number owner }
 {
@@ -42,7 +41,8 @@ fn role_of(volume: &Checked<'_>, b: u32) -> u8
 // Puts the roles of the first blocks into the room, as many as there is room for.
 fn put_roles(volume: &Checked<'_>, roles: &mut [u8])
     requires { (t : Tree) × (l : Layout) × StandsFor volume.now t l }
-    ensures roles { (b : ℕ) → b < length roles.new → b < blocks volume.now.image → IsRole volume.now.image b (slice_index roles.new b) }
+    ensures roles { (b : ℕ) → b < length roles.new → b < blocks volume.now.image
+        → IsRole volume.now.image b (slice_index roles.new b) }
     ensures behind { (b : ℕ) → blocks volume.now.image ≤ b → slice_index roles.new b ≡ slice_index roles.old b }
 {
     for b in 0..volume.counts().blocks {
@@ -62,11 +62,12 @@ pub extern "C" fn adf_owners(alloc: Global, image: &[u8], roles: &mut [u8]) -> u
 
     // One tree and one layout fit an accepted image, and the roles are those of its parts.
     ensures fits { result ≡ 0 → (t : Tree) × (l : Layout) × Fits image.now t l }
-    ensures roles { result ≡ 0 → (b : ℕ) → b < length roles.new → b < blocks image.now → IsRole image.now b (slice_index roles.new b) }
+    ensures roles { result ≡ 0 → (b : ℕ) → b < length roles.new → b < blocks image.now
+        → IsRole image.now b (slice_index roles.new b) }
     ensures behind { (b : ℕ) → blocks image.now ≤ b → slice_index roles.new b ≡ slice_index roles.old b }
 
     // The cause is that of the first fault, nothing fits the image, and nothing is put into the room.
-    ensures first { ¬ (result ≡ 0) → ¬ (result ≡ 23) → (b : ℕ) × (c : Cause) × (cause_number c ≡ result) × FirstFault image.now b c }
+    ensures first { ¬ (result ≡ 0) → ¬ (result ≡ 23) → (b : ℕ) × IsFirstCause image.now b result }
     ensures none { ¬ (result ≡ 0) → ¬ (result ≡ 23) → (t : Tree) (l : Layout) → Fits image.now t l → ⊥ }
     ensures unchanged { ¬ (result ≡ 0) → roles.new ≡ roles.old }
 

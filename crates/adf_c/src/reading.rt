@@ -9,7 +9,7 @@ ghost use Rattle.adf_volume.specs.Image.{area, joined, kind_of};
 ghost use Rattle.adf_volume.specs.Layout.{Layout};
 ghost use Rattle.adf_c.specs.Rooms.{filled};
 ghost use Rattle.adf_c.specs.Tables.{block_table, bytes_at, entry_table};
-ghost use Rattle.adf_c.specs.Areas.{AreBlocksOf};
+ghost use Rattle.adf_c.specs.Areas.{AreBlocksOf, AreDatasOf, file_bytes};
 
 use crate::tables::TableEntry;
 use adf_blocks::chunk_len;
@@ -74,7 +74,8 @@ fn put_part(room: &mut [u8], put: usize, part: &[u8]) -> usize
 fn put_bytes(image: &[u8], kind: Kind, datas: &[u32], from: usize, room: &mut [u8]) -> usize
     requires { from + length room.old < 2 ^ 64 }
     ensures within { result ≤ length room.new }
-    ensures all { (ds : List ℕ) → AreBlocksOf image.now datas.now ds → from + length room.old ≤ chunk kind * length ds → result ≡ length room.old }
+    ensures all { (ds : List ℕ) → AreBlocksOf image.now datas.now ds → from + length room.old ≤ chunk kind * length ds
+        → result ≡ length room.old }
     ensures bytes { (ds : List ℕ) → AreBlocksOf image.now datas.now ds → from + length room.old ≤ chunk kind * length ds
         → room.new ≡ take (length room.old) (drop from (joined image.now kind ds)) }
     ensures behind { drop result room.new ≡ drop result room.old }
@@ -98,10 +99,10 @@ fn read_file(
     room: &mut [u8],
 ) -> usize
     ensures within { result ≤ length room.new }
-    ensures count { (ds : List ℕ) → AreBlocksOf image.now (drop file.now.first blocks.now) ds → file.now.size ≤ chunk (kind_of image.now) * length ds
-        → result ≡ min (length room.old) (length (drop offset (take file.now.size (joined image.now (kind_of image.now) ds)))) }
-    ensures bytes { (ds : List ℕ) → AreBlocksOf image.now (drop file.now.first blocks.now) ds → file.now.size ≤ chunk (kind_of image.now) * length ds
-        → room.new ≡ filled (drop offset (take file.now.size (joined image.now (kind_of image.now) ds))) room.old }
+    ensures count { (ds : List ℕ) → AreDatasOf image.now file.now blocks.now ds
+        → result ≡ min (length room.old) (length (drop offset (file_bytes image.now file.now ds))) }
+    ensures bytes { (ds : List ℕ) → AreDatasOf image.now file.now blocks.now ds
+        → room.new ≡ filled (drop offset (file_bytes image.now file.now ds)) room.old }
     ensures behind { drop result room.new ≡ drop result room.old }
 {
     let size = file.size as usize;

@@ -8,7 +8,8 @@ ghost use Rattle.adf_volume.specs.Layout.{Layout, at_node, owned};
 ghost use Rattle.adf_check.specs.Rows.{BodyMatches, EntryMatches};
 ghost use Rattle.adf_check.specs.Volumes.{StandsFor, counts_of};
 ghost use Rattle.adf_c.specs.Rooms.{filled};
-ghost use Rattle.adf_c.specs.Tables.{block_table, bytes_in, contents_of, date_of, entry_table, field, file_number, refused_at, told};
+ghost use Rattle.adf_c.specs.Tables.{block_table, bytes_in, contents_of, date_of, entry_table, field};
+ghost use Rattle.adf_c.specs.Tables.{file_number, refused_at, told};
 
 use crate::verdict::kind_number;
 use adf_check::{Checked, Counts, Row, RowBody};
@@ -79,6 +80,7 @@ pub struct Contents {
     pub label: [u8; 30],
 }
 
+// A date, as C has it.
 fn date_of(stamp: Stamp) -> Date
     ensures { result ≡ date_of stamp }
 {
@@ -156,7 +158,8 @@ fn table_entry(volume: &Checked<'_>, node: Node, first: u32) -> TableEntry
 
 // Puts an entry behind those that stand in the table of entries, where there is room.
 fn put_entry(table: &mut [TableEntry], at: usize, entry: TableEntry)
-    ensures { (xs room : List TableEntry) → at ≡ length xs → table.old ≡ filled xs room → table.new ≡ filled (xs ++ entry ∷ []) room }
+    ensures { (xs room : List TableEntry) → at ≡ length xs → table.old ≡ filled xs room
+        → table.new ≡ filled (xs ++ entry ∷ []) room }
 {
     if at < table.len() {
         table[at] = entry;
@@ -166,7 +169,8 @@ fn put_entry(table: &mut [TableEntry], at: usize, entry: TableEntry)
 // Puts data blocks behind those that stand in the table of blocks, as far as there is room.
 fn put_blocks(table: &mut [u32], first: usize, datas: &[u32])
     requires { first + length datas.now < 2 ^ 64 }
-    ensures { (xs room : List ℕ) → first ≡ length xs → table.old ≡ filled xs room → table.new ≡ filled (xs ++ datas.now) room }
+    ensures { (xs room : List ℕ) → first ≡ length xs → table.old ≡ filled xs room
+        → table.new ≡ filled (xs ++ datas.now) room }
 {
     for i in 0..datas.len() {
         if first + i >= table.len() {
@@ -196,8 +200,8 @@ pub fn put_tables(volume: &Checked<'_>, entries: &mut [TableEntry], blocks: &mut
 
 /// What is told of an accepted image beside the tables.
 pub fn contents_of(volume: &Checked<'_>, counts: &Counts, data_blocks: usize) -> Contents
-    ensures { (t : Tree) (l : Layout) → StandsFor volume.now t l → counts.now ≡ counts_of volume.now.image t l → data_blocks ≡ length (block_table l)
-        → result ≡ contents_of volume.now.image t l }
+    ensures { (t : Tree) (l : Layout) → StandsFor volume.now t l → counts.now ≡ counts_of volume.now.image t l
+        → data_blocks ≡ length (block_table l) → result ≡ contents_of volume.now.image t l }
 {
     let label = volume.label().bytes();
     let stamps = volume.stamps();

@@ -2,14 +2,11 @@
 
 ghost use Rattle.std.specs.Prelude.{◌≡◌, ◌≤◌};
 ghost use Rattle.adf_tree.specs.Tree.{Tree};
-ghost use Rattle.adf_blocks.specs.Causes.{cause_number};
-ghost use Rattle.adf_blocks.specs.declared.cause.Cause.{Cause};
 ghost use Rattle.adf_volume.specs.Fits.{Fits};
 ghost use Rattle.adf_volume.specs.Layout.{Layout};
-ghost use Rattle.adf_volume.specs.Walk.{FirstFault};
 ghost use Rattle.adf_check.specs.Image.{IsBegun};
 ghost use Rattle.adf_check.specs.Volumes.{counts_of};
-ghost use Rattle.adf_c.specs.Verdicts.{accepted, kind_number, refused};
+ghost use Rattle.adf_c.specs.Verdicts.{IsFirstCause, accepted, kind_number, refused};
 
 use adf_check::{Counts, check};
 use adf_tree::Kind;
@@ -33,6 +30,7 @@ pub struct Verdict {
     pub block: u32,
 }
 
+/// 0 for OFS, 1 for FFS.
 pub fn kind_number(kind: Kind) -> u32
     ensures { result ≡ kind_number kind }
 {
@@ -80,11 +78,12 @@ pub extern "C" fn adf_check(alloc: Global, image: &[u8], verdict: &mut Verdict) 
 
     // One tree and one layout fit an accepted image, and the numbers are theirs.
     ensures fits { result ≡ 0 → (t : Tree) × (l : Layout) × Fits image.now t l }
-    ensures counts { result ≡ 0 → (t : Tree) (l : Layout) → Fits image.now t l → verdict.new ≡ accepted (counts_of image.now t l) }
+    ensures counts { result ≡ 0 → (t : Tree) (l : Layout) → Fits image.now t l
+        → verdict.new ≡ accepted (counts_of image.now t l) }
 
     // A fault is the first one, and nothing fits the image.
     ensures refused { ¬ (result ≡ 0) → verdict.new ≡ refused verdict.new.block }
-    ensures first { ¬ (result ≡ 0) → ¬ (result ≡ 23) → (c : Cause) × (cause_number c ≡ result) × FirstFault image.now verdict.new.block c }
+    ensures first { ¬ (result ≡ 0) → ¬ (result ≡ 23) → IsFirstCause image.now verdict.new.block result }
     ensures none { ¬ (result ≡ 0) → ¬ (result ≡ 23) → (t : Tree) (l : Layout) → Fits image.now t l → ⊥ }
 
     // Want of memory names block 0, and comes only where the size, the boot bytes and the root are sound.

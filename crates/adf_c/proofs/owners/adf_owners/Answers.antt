@@ -7,4 +7,4 @@ pub returns-in-Err-clause-first : goal.returns-in-Err-clause-first
 returns-in-Err-clause-first c _ other =
     let f = c.in-Err.fault in
     let known : f.cause ≢ NoMemory = λ is. other (c.number.ensures ∙ ap cause_number is) in
-    (f.block, f.cause, sym c.number.ensures, c.in-Err.ensures.first known)
+    (f.block, (f.cause, sym c.number.ensures, c.in-Err.ensures.first known))

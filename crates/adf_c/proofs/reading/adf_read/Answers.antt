@@ -19,11 +19,11 @@ returns-then-entries-node-clause-bytes c = λ t l fits is tables.
 pub returns-clause-count : goal.returns-clause-count
 returns-clause-count c = λ t l fits is tables.
     let read = entry_read c.args.image.now c.args.blocks.now t l c.args.entries.now c.args.node _ fits is tables (omega arith) (omega arith) in
-    c.read_file.ensures.count (datas_of l c.args.node) read.datas read.enough
+    c.read_file.ensures.count (datas_of l c.args.node) read.datas
     ∙ ap (λ xs. min (length c.args.room.now) (length (drop c.args.offset xs))) read.bytes
 
 pub returns-clause-bytes : goal.returns-clause-bytes
 returns-clause-bytes c = λ t l fits is tables.
     let read = entry_read c.args.image.now c.args.blocks.now t l c.args.entries.now c.args.node _ fits is tables (omega arith) (omega arith) in
-    c.read_file.ensures.bytes (datas_of l c.args.node) read.datas read.enough
+    c.read_file.ensures.bytes (datas_of l c.args.node) read.datas
     ∙ ap (λ xs. filled (drop c.args.offset xs) c.args.room.now) read.bytes

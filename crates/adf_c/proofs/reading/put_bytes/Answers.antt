@@ -6,12 +6,12 @@ use Rattle.adf_c.proofs.reading.put_bytes.Goals as goal
 pub loop-put-preserved : goal.loop-put-preserved
 loop-put-preserved c = record {
   within = omega (arith, c.put_part-put.ensures.count, c.put_part-put.auto.room);
-  bytes = (λ ds is le. bytes_more (joined c.args.image.now c.args.kind ds) c.loop-put.room c.put_part-put.new.room c.in-Some.part.now c.loop-put.put c.args.from
-      (min (length c.in-Some.part.now) (length c.loop-put.room - c.loop-put.put)) c.put_part-put.result
+  bytes = (λ ds is le. bytes_more (joined c.args.image.now c.args.kind ds) c.loop-put.room c.put_part-put.new.room c.in-Some.part.now
+      c.loop-put.put c.args.from (min (length c.in-Some.part.now) (length c.loop-put.room - c.loop-put.put)) c.put_part-put.result
       c.put_part-put.ensures.front c.put_part-put.ensures.count (c.loop-put.invariant.bytes ds is le)
       (c.in-Some.ensures.part ds is (omega arith)) (omega arith));
-  behind = c.put_part-put.ensures.behind ∙ behind_more c.loop-put.room c.args.room.now c.loop-put.put c.put_part-put.result (omega (arith, c.put_part-put.ensures.count))
-      c.loop-put.invariant.behind;
+  behind = c.put_part-put.ensures.behind ∙ behind_more c.loop-put.room c.args.room.now c.loop-put.put c.put_part-put.result
+      (omega (arith, c.put_part-put.ensures.count)) c.loop-put.invariant.behind;
 }
 
 pub returns-clause-bytes : goal.returns-clause-bytes

@@ -3,14 +3,16 @@ use Rattle.adf_c.proofs.Readings.{behind_kept, bytes_told_here, count_told}
 use Rattle.adf_c.proofs.reading.read_file.Goals as goal
 
 pub returns-clause-count : goal.returns-clause-count
-returns-clause-count c = λ ds is le.
-    count_told c.args.image.now c.args.blocks.now ds c.args.room.now c.kind_of.result c.args.file.now.first c.args.file.now.size c.args.offset c.min-count.result is le
-    (omega arith) c.kind_of.ensures c.min-count.ensures c.put_bytes.ensures.all
+returns-clause-count c = λ ds is.
+    let file = c.args.file.now in
+    count_told c.args.image.now c.args.blocks.now ds c.args.room.now c.kind_of.result file.first file.size c.args.offset c.min-count.result
+    is.listed is.enough (omega arith) c.kind_of.ensures c.min-count.ensures c.put_bytes.ensures.all
 
 pub returns-clause-bytes : goal.returns-clause-bytes
-returns-clause-bytes c = λ ds is le.
-    bytes_told_here c.args.image.now c.args.blocks.now ds c.args.room.now c.kind_of.result c.args.file.now.first c.args.file.now.size c.args.offset c.min-count.result is le
-    (omega arith) c.kind_of.ensures c.min-count.ensures c.put_bytes.ensures.bytes
+returns-clause-bytes c = λ ds is.
+    let file = c.args.file.now in
+    bytes_told_here c.args.image.now c.args.blocks.now ds c.args.room.now c.kind_of.result file.first file.size c.args.offset c.min-count.result
+    is.listed is.enough (omega arith) c.kind_of.ensures c.min-count.ensures c.put_bytes.ensures.bytes
 
 pub returns-clause-behind : goal.returns-clause-behind
 returns-clause-behind c =

@@ -1,8 +1,8 @@
 use Rattle.std.proofs.Common.{◌≡◌, ◌+◌, ◌<◌, ◌≤◌, ◌∙◌, ℕ, suc, ap, arith, length, take}
-use Rattle.adf_volume.specs.Layout.{at_node, datas_at, datas_of}
+use Rattle.adf_volume.specs.Layout.{at_node, datas_of}
 use Rattle.adf_c.specs.Rooms.{filled}
 use Rattle.adf_c.specs.Tables.{all_datas, entry_table, told}
-use Rattle.adf_c.proofs.TableLaws.{blocks_small, count_more, entries_more, next_blocks, next_entry, whole_blocks, whole_entries}
+use Rattle.adf_c.proofs.TableLaws.{blocks_small, count_more, entries_more, next_blocks, next_entry, next_small, whole_blocks, whole_entries}
 use Rattle.adf_c.proofs.tables.put_tables.Goals as goal
 
 pub overflow_cast-first : goal.overflow_cast-first
@@ -15,22 +15,22 @@ overflow_cast-first c =
 pub put_blocks-requires : goal.put_blocks-requires
 put_blocks-requires c =
     let s = c.len-i-end.ensures.stands in
-    let image = c.args.volume.now.image in
     let lt : c.loop-i.i < length (s.0).entries = omega (arith, c.len-i-end.ensures.count s.0 s.1 s.2) in
-    let one : c.loop-i.i + 1 ≡ suc c.loop-i.i = omega arith in
-    let same : length c.blocks_of-datas.result.now ≡ length (datas_at (s.1).places c.loop-i.i) =
-    ap length (c.blocks_of-datas.ensures s.0 s.1 s.2 ∙ ap (datas_of s.1) one) in
-    omega (arith, same, blocks_small image s.0 s.1 c.loop-i.i c.loop-i.first s.2.fits (c.requires.few s.0 s.1 s.2) lt (c.loop-i.invariant.first s.0 s.1 s.2))
+    omega (
+      arith,
+      next_small c.args.volume.now.image s.0 s.1 c.loop-i.i c.loop-i.first c.blocks_of-datas.result.now s.2.fits (c.requires.few s.0 s.1 s.2) lt
+          (c.loop-i.invariant.first s.0 s.1 s.2) (c.blocks_of-datas.ensures s.0 s.1 s.2),
+    )
 
 pub overflow_add-first : goal.overflow_add-first
 overflow_add-first c =
     let s = c.len-i-end.ensures.stands in
-    let image = c.args.volume.now.image in
     let lt : c.loop-i.i < length (s.0).entries = omega (arith, c.len-i-end.ensures.count s.0 s.1 s.2) in
-    let one : c.loop-i.i + 1 ≡ suc c.loop-i.i = omega arith in
-    let same : length c.blocks_of-datas.result.now ≡ length (datas_at (s.1).places c.loop-i.i) =
-    ap length (c.blocks_of-datas.ensures s.0 s.1 s.2 ∙ ap (datas_of s.1) one) in
-    omega (arith, same, blocks_small image s.0 s.1 c.loop-i.i c.loop-i.first s.2.fits (c.requires.few s.0 s.1 s.2) lt (c.loop-i.invariant.first s.0 s.1 s.2))
+    omega (
+      arith,
+      next_small c.args.volume.now.image s.0 s.1 c.loop-i.i c.loop-i.first c.blocks_of-datas.result.now s.2.fits (c.requires.few s.0 s.1 s.2) lt
+          (c.loop-i.invariant.first s.0 s.1 s.2) (c.blocks_of-datas.ensures s.0 s.1 s.2),
+    )
 
 pub loop-i-preserved : goal.loop-i-preserved
 loop-i-preserved c =
