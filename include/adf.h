@@ -197,7 +197,7 @@ uint8_t adf_find(const struct adf_entry *entries, size_t count, const uint8_t *p
 /* Puts the bytes of file `node` from byte `offset` on into the room, as many as there are and fit, and answers how many: 0 for
  * the root, a directory, a node past the last entry, and an offset past the end. What is behind them in the room stays. The
  * work is by the bytes that are put. The image and the tables are those of one call of adf_index, whole and unchanged; with
- * any others the answer is at most room_length, and what is behind so many bytes stays all the same.
+ * any others the answer is at most room_length, the bytes are some of the image's, and what is behind them stays all the same.
  */
 size_t adf_read(const uint8_t *image, size_t length, const struct adf_entry *entries, size_t entries_count,
                 const uint32_t *blocks, size_t blocks_count, size_t node, size_t offset, uint8_t *room, size_t room_length);

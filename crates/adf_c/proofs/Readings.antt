@@ -1,8 +1,9 @@
 -- The bytes of files, by the tables.
-use Rattle.std.specs.Prelude.{◌≡◌, ◌+◌, ◌-◌, ◌*◌, ◌/◌, ◌%◌, ◌≤◌, ◌<◌, ℕ, List, [], ◌∷◌, ◌++◌, Some, None, min, get_or, length, take, drop}
+use Rattle.std.specs.Prelude.{◌≡◌, ◌+◌, ◌-◌, ◌*◌, ◌/◌, ◌%◌, ◌≤◌, ◌<◌, ℕ, List, [], ◌∷◌, ◌++◌, Some, None, All, Contains, min, get_or, length, slice_range, take, drop}
 use Rattle.std.proofs.Common.{zero, suc, refl, sym, ap, subst, ◌∙◌, arith, length-append, length-drop, length-take, Option}
 use Rattle.std.proofs.Math.Seq.{drop-append-add, drop-nil, take-add, take-append_seam}
-use Rattle.std.proofs.lemmas.List.{drop-append-le, drop-drop, drop-take, get_or-take, take-append-drop, take-take, take_rest}
+use Rattle.std.proofs.lemmas.List.{drop-append-le, drop-drop, drop-take, get_or-take, take-append-drop, take-append-le, take-take, take_rest}
+use Rattle.std.proofs.lemmas.List.Elements.{All-append, All-drop, All-nil, All-take, Contains-get_or}
 use Rattle.adf_fields.specs.Words.{block}
 use Rattle.adf_tree.specs.declared.entry.Body.{Body}
 use Rattle.adf_tree.specs.declared.entry.Body.TheVariants.{Dir, File}
@@ -11,6 +12,7 @@ use Rattle.adf_tree.specs.declared.entry.Kind.{Kind}
 use Rattle.adf_tree.specs.declared.entry.Kind.TheVariants.{Ofs, Ffs}
 use Rattle.adf_tree.specs.Tree.{Tree, entry}
 use Rattle.adf_blocks.specs.Sizes.{blocks, chunk}
+use Rattle.adf_blocks.specs.declared.layout.TheConstants.{DATA_BYTES}
 use Rattle.adf_volume.specs.Walk.Role.{Data}
 use Rattle.adf_volume.specs.Fits.{BodyFits, Fits}
 use Rattle.adf_volume.specs.Image.{area, content, joined, kind_of}
@@ -21,7 +23,7 @@ use Rattle.adf_volume.proofs.Images.{AreIn, area_length, enough_bytes, joined_le
 use Rattle.adf_volume.proofs.LayoutRoles.{part_range}
 use Rattle.adf_volume.proofs.Lists.{at_below, at_index_or, at_some}
 use Rattle.adf_c.specs.declared.tables.TableEntry.{TableEntry}
-use Rattle.adf_c.specs.Areas.{AreBlocksOf, AreDatasOf, file_bytes}
+use Rattle.adf_c.specs.Areas.{AreBlocksOf, AreBytesOf, AreDatasOf, file_bytes}
 use Rattle.adf_c.specs.Rooms.{filled}
 use Rattle.adf_c.specs.Tables.{all_datas, block_table, bytes_at, bytes_in, bytes_told, entry_table, told}
 use Rattle.adf_c.proofs.Filled.{drop_zero, filled_part, take_zero}
@@ -97,6 +99,40 @@ pub chunk_some : (kind : Kind) → 0 < chunk kind
 unfolding chunk
 chunk_some Ofs = omega arith
 chunk_some Ffs = omega arith
+
+-- a list has its own members
+own : (xs : List ℕ) → All (Contains xs) xs
+own xs = λ k d lt. Contains-get_or xs k d lt
+
+-- a part of bytes of the image has such bytes
+range_known : (image xs : List ℕ) (i j : ℕ) → AreBytesOf image xs → AreBytesOf image (slice_range xs i j)
+range_known image xs i j all = All-take (Contains image) (j - i) (drop i xs) (All-drop (Contains image) i xs all)
+
+-- and so has the data area of a block
+area_known : (image : List ℕ) (kind : Kind) (b : ℕ) → AreBytesOf image (area kind (block image b))
+unfolding area block
+area_known image Ofs b = range_known image (block image b) DATA_BYTES 512 (range_known image image (b * 512) (b * 512 + 512) (own image))
+area_known image Ffs b = range_known image (block image b) 0 512 (range_known image image (b * 512) (b * 512 + 512) (own image))
+
+-- and from a place on
+pub part_known : (image held here : List ℕ) (kind : Kind) (b m r : ℕ) → held ≡ area kind here → here ≡ block image b → AreBytesOf image (take m (drop r held))
+part_known image held here kind b m r e is =
+    subst (λ bs. AreBytesOf image (take m (drop r bs))) (sym (e ∙ ap (area kind) is))
+    (All-take (Contains image) m (drop r (area kind (block image b))) (All-drop (Contains image) r (area kind (block image b)) (area_known image kind b)))
+
+-- where nothing is put, no byte is another's
+pub none_known : (image room : List ℕ) → AreBytesOf image (take 0 room)
+none_known image room = subst (AreBytesOf image) (sym (take_zero room)) (All-nil (Contains image))
+
+-- one part more
+pub more_known : (image room new part : List ℕ) (put m next : ℕ) → take next new ≡ take put room ++ take m part → AreBytesOf image (take put room)
+    → AreBytesOf image part → AreBytesOf image (take next new)
+more_known image room new part put m next e before here =
+    subst (AreBytesOf image) (sym e) (All-append (Contains image) (take put room) (take m part) before (All-take (Contains image) m part here))
+
+-- a part of a room that was filled, before the room behind it
+pub front_known : (image new rest : List ℕ) (n : ℕ) → n ≤ length new → AreBytesOf image (take n new) → AreBytesOf image (take n (new ++ rest))
+front_known image new rest n le here = subst (AreBytesOf image) (sym (take-append-le n new rest le)) here
 
 -- a part of a room that was filled, and the room behind it
 pub behind_kept : (r m : ℕ) (new room : List ℕ) → r ≤ length new → m ≤ length room → length new ≡ m → drop r new ≡ drop r (take m room)

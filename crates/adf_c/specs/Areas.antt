@@ -1,5 +1,5 @@
--- Blocks that a table names, and the bytes of files in them.
-use Rattle.std.specs.Prelude.{◌≡◌, ◌<◌, ◌≤◌, ◌*◌, ℕ, List, length, take, drop, get_or}
+-- Blocks that a table names, and bytes of an image.
+use Rattle.std.specs.Prelude.{◌≡◌, ◌<◌, ◌≤◌, ◌*◌, ℕ, List, All, Contains, length, take, drop, get_or}
 use Rattle.adf_blocks.specs.Sizes.{blocks, chunk}
 use Rattle.adf_volume.specs.Image.{joined, kind_of}
 use Rattle.adf_c.specs.declared.tables.TableEntry.{TableEntry}
@@ -18,3 +18,7 @@ pub record AreDatasOf (image : List ℕ) (file : TableEntry) (table ds : List �
 -- the bytes of a file whose data blocks are ds
 abbrev pub file_bytes : List ℕ → TableEntry → List ℕ → List ℕ
 file_bytes image file ds = take file.size (joined image (kind_of image) ds)
+
+-- each of these bytes stands somewhere in the image
+abbrev pub AreBytesOf : List ℕ → List ℕ → Type 0
+AreBytesOf image bytes = All (Contains image) bytes

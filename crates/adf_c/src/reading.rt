@@ -9,7 +9,7 @@ ghost use Rattle.adf_volume.specs.Image.{area, joined, kind_of};
 ghost use Rattle.adf_volume.specs.Layout.{Layout};
 ghost use Rattle.adf_c.specs.Rooms.{filled};
 ghost use Rattle.adf_c.specs.Tables.{block_table, bytes_at, entry_table};
-ghost use Rattle.adf_c.specs.Areas.{AreBlocksOf, AreDatasOf, file_bytes};
+ghost use Rattle.adf_c.specs.Areas.{AreBlocksOf, AreBytesOf, AreDatasOf, file_bytes};
 
 use crate::tables::TableEntry;
 use adf_blocks::chunk_len;
@@ -48,6 +48,7 @@ fn part_at<'a>(image: &'a [u8], kind: Kind, datas: &[u32], at: usize) -> Option<
     ensures there { (ds : List ℕ) → AreBlocksOf image.entry.now datas.now ds → at < chunk kind * length ds → IsSome result }
     ensures part { IfSome result (λ part. (ds : List ℕ) → AreBlocksOf image.entry.now datas.now ds → at < chunk kind * length ds
         → part.now ≡ take (length part.now) (drop at (joined image.entry.now kind ds))) }
+    ensures image { IfSome result (λ part. AreBytesOf image.entry.now part.now) }
 {
     let size = chunk_len(kind);
     let place = at / size;
@@ -78,6 +79,7 @@ fn put_bytes(image: &[u8], kind: Kind, datas: &[u32], from: usize, room: &mut [u
         → result ≡ length room.old }
     ensures bytes { (ds : List ℕ) → AreBlocksOf image.now datas.now ds → from + length room.old ≤ chunk kind * length ds
         → room.new ≡ take (length room.old) (drop from (joined image.now kind ds)) }
+    ensures image { AreBytesOf image.now (take result room.new) }
     ensures behind { drop result room.new ≡ drop result room.old }
 {
     let mut put = 0;
@@ -103,6 +105,7 @@ fn read_file(
         → result ≡ min (length room.old) (length (drop offset (file_bytes image.now file.now ds))) }
     ensures bytes { (ds : List ℕ) → AreDatasOf image.now file.now blocks.now ds
         → room.new ≡ filled (drop offset (file_bytes image.now file.now ds)) room.old }
+    ensures image { AreBytesOf image.now (take result room.new) }
     ensures behind { drop result room.new ≡ drop result room.old }
 {
     let size = file.size as usize;
@@ -142,7 +145,8 @@ pub extern "C" fn adf_read(
     ensures bytes { (t : Tree) (l : Layout) → Fits image.now t l → entries.now ≡ entry_table t l → blocks.now ≡ block_table l
         → room.new ≡ filled (drop offset (bytes_at t node)) room.old }
 
-    // Whatever the tables are, nothing behind is changed.
+    // Whatever the tables are, the bytes are some of the image's, and nothing behind them is changed.
+    ensures image { AreBytesOf image.now (take result room.new) }
     ensures behind { drop result room.new ≡ drop result room.old }
 {
     if node == 0 {

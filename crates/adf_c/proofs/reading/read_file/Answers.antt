@@ -1,5 +1,5 @@
 use Rattle.std.proofs.Common.{◌∙◌, arith, length-take}
-use Rattle.adf_c.proofs.Readings.{behind_kept, bytes_told_here, count_told}
+use Rattle.adf_c.proofs.Readings.{behind_kept, bytes_told_here, count_told, front_known}
 use Rattle.adf_c.proofs.reading.read_file.Goals as goal
 
 pub returns-clause-count : goal.returns-clause-count
@@ -18,3 +18,6 @@ pub returns-clause-behind : goal.returns-clause-behind
 returns-clause-behind c =
     behind_kept c.put_bytes.result c.min-count.result c.put_bytes.new.room c.args.room.now c.put_bytes.ensures.within (omega (arith, c.min-count.ensures))
     (c.put_bytes.auto.room ∙ simp length-take (omega (arith, c.min-count.ensures))) c.put_bytes.ensures.behind
+
+pub returns-clause-image : goal.returns-clause-image
+returns-clause-image c = front_known c.args.image.now c.put_bytes.new.room _ c.put_bytes.result c.put_bytes.ensures.within c.put_bytes.ensures.image
