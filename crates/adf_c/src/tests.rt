@@ -8,6 +8,7 @@ use crate::reading::adf_read;
 use crate::running::{Moved, adf_run};
 use crate::tables::{Contents, Date, TableEntry, refused_at};
 use crate::verdict::{Verdict, adf_check};
+use std::mem::size_of;
 use std::process::Abort;
 
 const MANIFEST: &[u8] =
@@ -171,4 +172,13 @@ fn tables_of_no_volume_are_safe(rt: HostRuntime) {
     assert_eq!(rt; read(&tables, 0), (0, [9; 4]));
     tables.entries[1].parent = 2;
     assert_eq!(rt; found(&rt, &tables.entries, b"c/long"), (1, 9));
+}
+
+#[test]
+fn structs_are_as_long_as_in_c(rt: HostRuntime) {
+    assert_eq!(rt;
+        (size_of::<TableEntry>(), size_of::<Contents>()),
+        (144, 104)
+    );
+    assert_eq!(rt; (size_of::<Verdict>(), size_of::<Moved>()), (40, 32));
 }
