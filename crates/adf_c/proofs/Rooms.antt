@@ -4,7 +4,7 @@ use Rattle.std.proofs.Common.{refl, sym, subst, arith, inl, inr, ◌∙◌, ap}
 use Rattle.std.proofs.lemmas.List.{get_or-set_same, get_or-set_other, length-set}
 use borrow.Author.Count.{below_more}
 use Rattle.std.specs.Io.KnownBytes.{Appends}
-use Rattle.adf_cmd.specs.Answers.{Answer, Answers, AnswersPart}
+use Rattle.adf_cmd.specs.Answers.{Answers, AnswersPart}
 use Rattle.adf_cmd.specs.Streams.{Says}
 
 -- what holds of each byte before place i, and of the one that is put there, holds of each byte up to it
@@ -45,22 +45,20 @@ told failed failed' m m' l e e' text none says room same =
     subst (λ (b : Bool). Says b (Some []) (Some e') text) same kept
 
 -- and of a front part of an answer
-pub part_told : (ws : List (List ℕ)) (input given : List ℕ) (n n' : ℕ) (k o o' : List ℕ) → given ≡ input → k ≡ []
-    → AnswersPart ws false given (Some (n ∷ k)) (Some (n' ∷ o)) → (n' ≡ n → o ≡ o') → AnswersPart ws false input (Some []) (Some o')
-part_told ws input given n n' k o o' all none (inl nothing) room =
+pub part_told : (ws : List (List ℕ)) (input : List ℕ) (n n' : ℕ) (k o o' : List ℕ) → k ≡ []
+    → AnswersPart ws false input (Some (n ∷ k)) (Some (n' ∷ o)) → (n' ≡ n → o ≡ o') → AnswersPart ws false input (Some []) (Some o')
+part_told ws input n n' k o o' none (inl nothing) room =
     let there = appended n n' k o [] none nothing in
     inl (sym (room there.0) ∙ there.1)
-part_told ws input given n n' k o o' all none (inr (r, asks, (status, output, errors, answer, put))) room =
-    let answers : Answer r input status output errors = subst (λ (x : List ℕ). Answer r x status output errors) all answer in
-    inr (r, asks, (status, output, errors, answers, told true true n n' k o o' output none put room refl))
+part_told ws input n n' k o o' none (inr (r, asks, (status, output, errors, answer, put))) room =
+    inr (r, asks, (status, output, errors, answer, told true true n n' k o o' output none put room refl))
 
 -- and of an answer
-pub answered : (ws : List (List ℕ)) (input given : List ℕ) (status n n' m m' : ℕ) (k l o o' e e' : List ℕ) (failed failed' : Bool)
-    → given ≡ input → k ≡ [] → l ≡ []
-    → Answers ws given status (Some (n ∷ k)) (Some (n' ∷ o)) failed (Some (m ∷ l)) (Some (m' ∷ e))
+pub answered : (ws : List (List ℕ)) (input : List ℕ) (status n n' m m' : ℕ) (k l o o' e e' : List ℕ) (failed failed' : Bool)
+    → k ≡ [] → l ≡ []
+    → Answers ws input status (Some (n ∷ k)) (Some (n' ∷ o)) failed (Some (m ∷ l)) (Some (m' ∷ e))
     → (n' ≡ n → o ≡ o') → (m' ≡ m → e ≡ e') → failed ≡ failed'
     → Answers ws input status (Some []) (Some o') failed' (Some []) (Some e')
-answered ws input given status n n' m m' k l o o' e e' failed failed' all none_o none_e (r, asks, output, errors, answer, put, says) room_o room_e same =
+answered ws input status n n' m m' k l o o' e e' failed failed' none_o none_e (r, asks, output, errors, answer, put, says) room_o room_e same =
     let there = appended n n' k o output none_o put in
-    let answers : Answer r input status output errors = subst (λ (x : List ℕ). Answer r x status output errors) all answer in
-    (r, asks, output, errors, answers, sym (room_o there.0) ∙ there.1, told failed failed' m m' l e e' errors none_e says room_e same)
+    (r, asks, output, errors, answer, sym (room_o there.0) ∙ there.1, told failed failed' m m' l e e' errors none_e says room_e same)

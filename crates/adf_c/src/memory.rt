@@ -1,46 +1,8 @@
-// A source and sinks in the caller's memory.
+// Sinks in the caller's memory.
 
 ghost use Rattle.std.specs.Prelude.{◌≡◌, ◌≤◌, ◌∷◌, Some, false, length, min, take};
 
-use adf_cmd::{Failed, Sink, Source};
-
-/// Bytes that are given from the front.
-#[derive(Drop)]
-pub struct Given<'a> {
-    left: &'a [u8],
-}
-
-impl<'a> Given<'a> {
-    pub fn new(bytes: &'a [u8]) -> Given<'a>
-        ensures { result.left.now ≡ bytes.entry.now }
-    {
-        Given { left: bytes }
-    }
-
-    /// How many bytes are left.
-    pub fn len(&self) -> usize
-        ensures { result ≡ length self.now.left.now }
-    {
-        self.left.len()
-    }
-}
-
-impl Source for Given<'_> {
-    ghost left = { λ g. Some g.left.now };
-
-    ghost has_failed = { λ _. false };
-
-    fn read(&mut self, buf: &mut [u8]) -> Result<usize, Failed> {
-        let count = buf.len().min(self.left.len());
-        buf[..count].copy_from_slice(&self.left[..count]);
-        self.left = &self.left[count..];
-        Ok(count)
-    }
-
-    fn failed(&self) -> bool {
-        false
-    }
-}
+use adf_cmd::{Failed, Sink};
 
 /// Room that is filled from the front. Where no room is left for a byte, it has failed.
 #[derive(Drop)]

@@ -3,12 +3,12 @@
 ghost use Rattle.std.specs.Prelude.{◌≡◌, ◌≤◌, ◌+◌, [], ℕ, List, true, false, codes, Some, IfSome, length, take};
 ghost use Rattle.adf_cmd.specs.Answers.{Answers, AnswersPart, AsksBadPath, IsUnanswered, failure_line, limit_of, usage_line};
 ghost use Rattle.adf_cmd.specs.CommandLine.{IsRefused, request_of};
-ghost use Rattle.adf_cmd.specs.Streams.{Says, TakesAtMost};
+ghost use Rattle.adf_cmd.specs.Streams.{Says};
 ghost use Rattle.adf_c.specs.Words.{AreWords};
 
-use crate::memory::{Given, Room};
+use crate::memory::Room;
 use crate::words::words_in;
-use adf_cmd::{Sink, Source, WordsFault, refuse_words, run, say};
+use adf_cmd::{Ran, Sink, WordsFault, refuse_words, run_on, say};
 use std::alloc::Global;
 
 /// How much of the caller's memory a run has moved.
@@ -27,43 +27,47 @@ pub struct Moved {
     pub errors_full: bool,
 }
 
-// Runs the command that the words in memory name.
-fn run_words<R: Source, W: Sink, E: Sink>(
+// Runs the command that the words in memory name, over bytes where they lie.
+fn run_words<W: Sink, E: Sink>(
     alloc: Global,
     words: &[u8],
-    input: &mut R,
+    input: &[u8],
     output: &mut W,
     errors: &mut E,
-) -> u8
-    requires reads { R.has_failed input.old ≡ false }
+) -> Ran
     requires writes { W.has_failed output.old ≡ false }
     requires tells { E.has_failed errors.old ≡ false }
-    ensures status { result ≤ 3 }
-    ensures answer { (ws : List (List ℕ)) → AreWords words.now ws → ¬ IsRefused ws → ¬ (result ≡ 3) → IfSome (R.left input.old) (λ bytes.
-        Answers ws bytes result (W.held output.old) (W.held output.new) (E.has_failed errors.new) (E.held errors.old) (E.held errors.new)) }
-    ensures words { ¬ (result ≡ 2) → ¬ (result ≡ 3) → (ws : List (List ℕ)) × AreWords words.now ws × (¬ IsUnanswered ws) }
-    ensures usage { result ≡ 2 → (ws : List (List ℕ)) → AreWords words.now ws → IsUnanswered ws }
-    ensures bad_path { result ≡ 2 → (ws : List (List ℕ)) → AreWords words.now ws → AsksBadPath ws
+    ensures status { result.status ≤ 3 }
+    ensures within { result.taken ≤ length input.now }
+    ensures answer { (ws : List (List ℕ)) → AreWords words.now ws → ¬ IsRefused ws → ¬ (result.status ≡ 3) → Answers ws input.now
+        result.status (W.held output.old) (W.held output.new) (E.has_failed errors.new) (E.held errors.old) (E.held errors.new) }
+    ensures words { ¬ (result.status ≡ 2) → ¬ (result.status ≡ 3) → (ws : List (List ℕ)) × AreWords words.now ws × (¬ IsUnanswered ws) }
+    ensures usage { result.status ≡ 2 → (ws : List (List ℕ)) → AreWords words.now ws → IsUnanswered ws }
+    ensures bad_path { result.status ≡ 2 → (ws : List (List ℕ)) → AreWords words.now ws → AsksBadPath ws
         → Says (E.has_failed errors.new) (E.held errors.old) (E.held errors.new) (codes "bad path\n") }
-    ensures refused { result ≡ 2 → ((ws : List (List ℕ)) → AreWords words.now ws → IsRefused ws)
+    ensures refused { result.status ≡ 2 → ((ws : List (List ℕ)) → AreWords words.now ws → IsRefused ws)
         → Says (E.has_failed errors.new) (E.held errors.old) (E.held errors.new) usage_line }
-    ensures no_words { ((ws : List (List ℕ)) → ¬ AreWords words.now ws) → (input.new ≡ input.old) × (output.new ≡ output.old) }
-    ensures untouched { result ≡ 2 → (input.new ≡ input.old) × (output.new ≡ output.old) }
-    ensures read_failed { R.has_failed input.new ≡ true → result ≡ 3 }
-    ensures write_failed { W.has_failed output.new ≡ true → result ≡ 3 }
-    ensures failure { result ≡ 3
-        → Says (E.has_failed errors.new) (E.held errors.old) (E.held errors.new) (failure_line (R.has_failed input.new) (W.has_failed output.new)) }
-    ensures part { result ≡ 3 → (ws : List (List ℕ)) → AreWords words.now ws → IfSome (R.left input.old) (λ bytes.
-        AnswersPart ws (R.has_failed input.new) bytes (W.held output.old) (W.held output.new)) }
-    ensures at_most { (ws : List (List ℕ)) → AreWords words.now ws → TakesAtMost (limit_of (request_of ws) + 1) (R.left input.old) (R.left input.new) }
-    ensures taken { (n : ℕ) × TakesAtMost n (R.left input.old) (R.left input.new) }
+    ensures no_words { ((ws : List (List ℕ)) → ¬ AreWords words.now ws) → (result.taken ≡ 0) × (output.new ≡ output.old) }
+    ensures untouched { result.status ≡ 2 → (result.taken ≡ 0) × (output.new ≡ output.old) }
+    ensures write_failed { W.has_failed output.new ≡ true → result.status ≡ 3 }
+    ensures failure { result.status ≡ 3
+        → Says (E.has_failed errors.new) (E.held errors.old) (E.held errors.new) (failure_line false (W.has_failed output.new)) }
+    ensures part { result.status ≡ 3 → (ws : List (List ℕ)) → AreWords words.now ws
+        → AnswersPart ws false input.now (W.held output.old) (W.held output.new) }
+    ensures at_most { (ws : List (List ℕ)) → AreWords words.now ws → result.taken ≤ limit_of (request_of ws) + 1 }
 {
     match words_in(alloc, words) {
-        Ok(texts) => run(alloc, &texts, input, output, errors),
-        Err(WordsFault::Usage) => refuse_words(errors),
+        Ok(texts) => run_on(alloc, &texts, input, output, errors),
+        Err(WordsFault::Usage) => Ran {
+            status: refuse_words(errors),
+            taken: 0,
+        },
         Err(WordsFault::NoMemory) => {
             say(errors, "no memory\n");
-            3
+            Ran {
+                status: 3,
+                taken: 0,
+            }
         }
     }
 }
@@ -115,16 +119,15 @@ pub extern "C" fn adf_run(
 {
     let most_output = output.len();
     let most_errors = errors.len();
-    let mut given = Given::new(input);
     let mut output_room = Room::new(output);
     let mut errors_room = Room::new(errors);
-    let status = run_words(alloc, words, &mut given, &mut output_room, &mut errors_room);
+    let ran = run_words(alloc, words, input, &mut output_room, &mut errors_room);
     *moved = Moved {
-        input: input.len() - given.len(),
+        input: ran.taken,
         output: output_room.taken(most_output),
         errors: errors_room.taken(most_errors),
         output_full: output_room.is_full(),
         errors_full: errors_room.is_full(),
     };
-    status
+    ran.status
 }

@@ -5,29 +5,29 @@ use Rattle.adf_c.proofs.running.adf_run.Goals as goal
 pub returns-clause-answer : goal.returns-clause-answer
 returns-clause-answer c ws are fine other =
     let old = c.new-output_room.result in
-    let new = c.run_words-status.new.output in
+    let new = c.run_words-ran.new.output in
     let old_e = c.new-errors_room.result in
-    let new_e = c.run_words-status.new.errors in
-    answered ws c.args.input.now c.new-given.result.left.now c.run_words-status.result
+    let new_e = c.run_words-ran.new.errors in
+    answered ws c.args.input.now c.run_words-ran.result.status
     old.room.ghost_name new.room.ghost_name old_e.room.ghost_name new_e.room.ghost_name
     (take old.taken old.room.now) (take old_e.taken old_e.room.now) (take new.taken new.room.now) _ (take new_e.taken new_e.room.now) _
     new_e.full c.is_full-2.result
-    c.new-given.ensures (ap (λ i. take i old.room.now) c.new-output_room.ensures.taken) (ap (λ i. take i old_e.room.now) c.new-errors_room.ensures.taken)
-    (c.run_words-status.ensures.answer ws are fine other)
+    (ap (λ i. take i old.room.now) c.new-output_room.ensures.taken) (ap (λ i. take i old_e.room.now) c.new-errors_room.ensures.taken)
+    (c.run_words-ran.ensures.answer ws are fine other)
     (λ same. search rules) (λ same. search rules) (sym c.is_full-2.ensures)
 
 pub returns-clause-bad_path : goal.returns-clause-bad_path
 returns-clause-bad_path c is ws are asks =
     let old = c.new-errors_room.result in
-    let new = c.run_words-status.new.errors in
+    let new = c.run_words-ran.new.errors in
     told new.full c.is_full-2.result old.room.ghost_name new.room.ghost_name (take old.taken old.room.now) (take new.taken new.room.now) _ _
-    (ap (λ i. take i old.room.now) c.new-errors_room.ensures.taken) (c.run_words-status.ensures.bad_path is ws are asks)
+    (ap (λ i. take i old.room.now) c.new-errors_room.ensures.taken) (c.run_words-ran.ensures.bad_path is ws are asks)
     (λ same. search rules) (sym c.is_full-2.ensures)
 
 pub returns-clause-part : goal.returns-clause-part
 returns-clause-part c is ws are =
     let old = c.new-output_room.result in
-    let new = c.run_words-status.new.output in
-    part_told ws c.args.input.now c.new-given.result.left.now old.room.ghost_name new.room.ghost_name
+    let new = c.run_words-ran.new.output in
+    part_told ws c.args.input.now old.room.ghost_name new.room.ghost_name
     (take old.taken old.room.now) (take new.taken new.room.now) _
-    c.new-given.ensures (ap (λ i. take i old.room.now) c.new-output_room.ensures.taken) (c.run_words-status.ensures.part is ws are) (λ same. search rules)
+    (ap (λ i. take i old.room.now) c.new-output_room.ensures.taken) (c.run_words-ran.ensures.part is ws are) (λ same. search rules)
