@@ -1,0 +1,254 @@
+"""Tests of the module adf. The images are built by the command adf of the library itself.
+
+    ADF_LIBRARY=../../libadf.so python3 -m unittest
+"""
+
+import datetime
+import io
+import os
+import struct
+import tempfile
+import threading
+import unittest
+
+import adf
+
+NAME_BYTES = [byte for byte in range(256) if byte not in b"/:"]
+MANIFEST = """volume {kind} 1760
+label B\\xfccher
+stamps 1:2:3 4:5:6 4000000:1:1
+dir 8035:61:151 00000000 c
+file 8035:0:0 0000000f c/readme
+note ein <\\xdcbel>
+data 48656c6c6f0a
+dir 0:0:0 00000000 empty
+file 0:0:0 00000000 none
+file 9000:1:2 00000000 large
+""".format
+
+
+def built(manifest):
+    status, image, errors = adf.run(["build"], manifest.encode())
+    assert status == 0, errors
+    return image
+
+
+def image_of(kind="ofs"):
+    large = "".join(f"data {bytes((n * 7 + n // 251) % 256 for n in range(at, at + 100)).hex()}\n" for at in range(0, 60000, 100))
+    return built(MANIFEST(kind=kind) + large)
+
+
+def large_of():
+    return bytes((n * 7 + n // 251) % 256 for n in range(60000))
+
+
+def changed(image, block, byte, bits):
+    """The image with bits of one byte turned and no sum set."""
+    image = bytearray(image)
+    image[512 * block + byte] ^= bits
+    return bytes(image)
+
+
+class Volumes(unittest.TestCase):
+    def test_tells_the_numbers_of_a_volume(self):
+        for kind in adf.KINDS:
+            volume = adf.Volume(image_of(kind))
+            status, line, _ = adf.run(["check"], volume.image)
+            verdict = adf.check(volume.image)
+            self.assertEqual((volume.kind, volume.blocks, volume.used, volume.free), verdict[:4])
+            self.assertEqual(
+                line.decode(), "ok {} blocks {} used {} free {} dirs {} files {}\n".format(*verdict)
+            )
+            self.assertEqual((volume.label, volume.raw_label), ("Bücher", b"B\xfccher"))
+            self.assertEqual((volume.date, volume.altered, volume.created), ((1, 2, 3), (4, 5, 6), (4000000, 1, 1)))
+
+    def test_tells_the_entries(self):
+        volume = adf.Volume(image_of())
+        self.assertEqual(set(volume), {"c", "c/readme", "empty", "none", "large"})
+        self.assertEqual([entry.number for entry in volume.entries], [1, 2, 3, 4, 5])
+        readme = volume["c/readme"]
+        self.assertEqual((readme.name, readme.size, readme.protection, readme.is_file), ("readme", 6, 15, True))
+        self.assertEqual((readme.comment, readme.raw_comment), ("ein <Übel>", b"ein <\xdcbel>"))
+        self.assertEqual(volume.entries[readme.parent - 1].path, "c")
+        self.assertEqual((volume["c"].parent, volume["c"].size, volume["c"].is_file), (0, 0, False))
+        self.assertEqual(volume["c"].date, (8035, 61, 151))
+
+    def test_finds_paths(self):
+        volume = adf.Volume(image_of())
+        for path in ("c/readme", "C/README", b"c/readme"):
+            self.assertEqual(volume[path].path, "c/readme")
+            self.assertIn(path, volume)
+        for path in ("", "nix", "c/", "/c", "c//readme", "c/readme/x", "c:readme", "\u20ac", "\\x63", b"\xff", "c\0"):
+            self.assertNotIn(path, volume)
+            with self.assertRaises(KeyError):
+                volume[path]
+
+    def test_walks(self):
+        lines = "".join(f"dir 0:0:0 00000000 {path}\n" for path in ("a", "b", "a/c", "a/c/d"))
+        volume = adf.Volume(built("volume ffs 60\n" + lines))
+        self.assertEqual([step[0] for step in volume.walk()], ["", "a", "a/c", "a/c/d", "b"])
+        self.assertEqual([path for path, _, _ in volume.walk(b"a")], [b"a", b"a/c", b"a/c/d"])
+        seen = []
+        for path, directories, _ in volume.walk():
+            seen.append(path)
+            if path == "a":
+                directories.clear()
+        self.assertEqual(seen, ["", "a", "b"])
+        with self.assertRaises(KeyError):
+            next(adf.Volume(image_of()).walk("large"))
+
+    def test_tells_owners(self):
+        volume = adf.Volume(image_of())
+        roles = volume.owners()
+        self.assertEqual((len(roles), adf.ROLES[roles[0]], adf.ROLES[roles[880]]), (1760, "boot", "root"))
+        self.assertEqual(roles.count(0), volume.free)
+        self.assertTrue(all(adf.ROLES[roles[entry.header]] == "header" for entry in volume.entries))
+
+    def test_tells_dates(self):
+        for date, text, civil in (
+            ((0, 0, 0), "1978-01-01 00:00:00.00", datetime.datetime(1978, 1, 1)),
+            ((8035, 61, 151), "2000-01-01 01:01:03.01", datetime.datetime(2000, 1, 1, 1, 1, 3, 20000)),
+            ((2929974, 1439, 2999), "9999-12-31 23:59:59.49", datetime.datetime(9999, 12, 31, 23, 59, 59, 980000)),
+            ((2929975, 0, 0), "2929975:0:0", None),
+            ((0, 1440, 0), "0:1440:0", None),
+            ((0, 0, 3000), "0:0:3000", None),
+            ((2**32 - 1,) * 3, "4294967295:4294967295:4294967295", None),
+        ):
+            self.assertEqual((str(adf.Date(*date)), adf.Date(*date).civil), (text, civil))
+            image = built(f"volume ofs 4\nstamps {adf.Date(*date).stamp} 0:0:0 0:0:0\n")
+            self.assertIn(f"root {text}\n".encode(), adf.run(["list"], image)[1])
+
+    def test_has_names_of_every_byte(self):
+        names = [bytes([byte]) for byte in NAME_BYTES if not 97 <= byte <= 122]
+        names += [bytes(NAME_BYTES[at : at + 30]) for at in range(0, 240, 30)]
+        lines = ((adf.escape(name), name.hex()) for name in names)
+        manifest = "".join(f"file 0:0:0 00000000 {text}\nnote {text}\ndata {digits}\n" for text, digits in lines)
+        volume = adf.Volume(built("volume ofs 1760\n" + manifest))
+        self.assertEqual(sorted(entry.raw_name for entry in volume.entries), sorted(names))
+        for name in names:
+            for path in (name, name.decode("latin-1")):
+                self.assertEqual((volume[path].raw_comment, volume[path].read()), (name, name))
+
+    def test_has_no_label_and_no_entry(self):
+        volume = adf.Volume(built("volume ffs 4\n"))
+        self.assertEqual((volume.label, list(volume.entries), list(volume.walk())), ("", [], [("", [], [])]))
+
+    def test_has_more_entries_than_a_floppy(self):
+        names = [f"{number:05}" for number in range(5000)]
+        volume = adf.Volume(built("volume ofs 12000\n" + "".join(f"file 0:0:0 00000000 {name}\ndata 41\n" for name in names)))
+        self.assertEqual(sorted(volume), names)
+        self.assertEqual({entry.read() for entry in volume.entries}, {b"A"})
+
+    def test_keeps_its_own_bytes(self):
+        buffer = bytearray(image_of())
+        volume = adf.Volume(buffer)
+        buffer[:] = bytes(len(buffer))
+        self.assertEqual(volume["c/readme"].read(), b"Hello\n")
+        self.assertEqual(adf.Volume(memoryview(volume.image)).label, "Bücher")
+        for wrong in (7, "text", None):
+            with self.assertRaises(TypeError):
+                adf.Volume(wrong)
+
+
+class Refusals(unittest.TestCase):
+    def test_refuses_as_the_command_does(self):
+        sound = image_of()
+        (page,) = struct.unpack_from(">I", sound, 512 * 880 + 4 * 79)
+        images = [b"", bytes(511), bytes(1760 * 512), sound[:-1], changed(sound, 0, 0, 0x50), changed(sound, 0, 3, 2)]
+        images += [changed(sound, 880, 440, 1), changed(sound, page, 7, 9), bytes(adf.MOST_BYTES + 512)]
+        for image in images:
+            status, line, _ = adf.run(["check"], image)
+            for call in (adf.Volume, adf.check):
+                with self.assertRaises(adf.Refused) as raised:
+                    call(image)
+                self.assertEqual((status, line.decode()), (1, f"{raised.exception}\n"))
+        self.assertEqual((raised.exception.cause, raised.exception.block), ("bad size", 0))
+
+    def test_opens_files(self):
+        with tempfile.TemporaryDirectory() as folder:
+            path = os.path.join(folder, "disk.adf")
+            with self.assertRaises(FileNotFoundError):
+                adf.open(path)
+            with self.assertRaises(IsADirectoryError):
+                adf.open(folder)
+            with open(path, "wb") as file:
+                file.write(image_of())
+            self.assertEqual(adf.open(path).label, "Bücher")
+            self.assertEqual(adf.open(os.fsencode(path)).label, "Bücher")
+
+    def test_runs_commands(self):
+        self.assertEqual(adf.run(["cat", "nix"], image_of())[::2], (1, b"no such path\n"))
+        self.assertEqual(adf.run(["frob"])[0], 2)
+        self.assertEqual(adf.run(["cat", "large"], image_of()), (0, large_of(), b""))
+        self.assertEqual(len(adf.run(["build"], b"volume ffs 20000\n")[1]), 20000 * 512)
+        with self.assertRaises(ValueError):
+            adf.run(["cat", "a\0b"], image_of())
+
+    def test_says_that_there_is_no_library(self):
+        for path in ("/nix/libadf.so", adf.__file__):
+            with self.assertRaisesRegex(ImportError, "no shared library of adf"):
+                adf.load(path)
+
+
+class Files(unittest.TestCase):
+    def setUp(self):
+        self.volumes = [adf.Volume(image_of(kind)) for kind in adf.KINDS]
+
+    def test_reads_parts(self):
+        large = large_of()
+        for volume in self.volumes:
+            entry = volume["large"]
+            self.assertEqual(entry.read(), large)
+            for offset in (0, 1, 487, 488, 489, 511, 512, 513, 36863, 36864, 59999, 60000, 60001, 2**70):
+                for count in (0, 1, 24, 488, 512, 1000, 70000):
+                    self.assertEqual(entry.read(offset, count), large[offset : offset + count])
+            room = bytearray(b"?" * 10)
+            self.assertEqual((entry.read_into(memoryview(room)[2:5], 100), bytes(room)), (3, b"??" + large[100:103] + b"?" * 5))
+            self.assertEqual((volume["none"].read(), volume["none"].read(5), volume["none"].read_into(room)), (b"", b"", 0))
+
+    def test_refuses_what_is_no_part(self):
+        entry = self.volumes[0]["large"]
+        with self.assertRaises(ValueError):
+            entry.read(-1)
+        with self.assertRaises((TypeError, BufferError)):
+            entry.read_into(bytes(5))
+        for call in (self.volumes[0]["c"].read, self.volumes[0]["c"].open):
+            with self.assertRaises(IsADirectoryError):
+                call()
+
+    def test_is_a_file_that_seeks(self):
+        wanted = io.BytesIO(large_of())
+        for volume in self.volumes:
+            with volume["large"].open() as file:
+                steps = (0, 0, 10), (500, 1, 700), (-7, 2, 20), (3, 2, 5), (70000, 0, 1), (100, 0, -1), (0, 0, 9000)
+                for offset, whence, count in steps:
+                    self.assertEqual(file.seek(offset, whence), wanted.seek(offset, whence))
+                    self.assertEqual((file.read(count), file.tell()), (wanted.read(count), wanted.tell()))
+                with self.assertRaises(OSError):
+                    file.seek(-1)
+                with self.assertRaises(io.UnsupportedOperation):
+                    file.write(b"x")
+            with self.assertRaises(ValueError):
+                file.read()
+            with volume["none"].open() as file:
+                self.assertEqual((file.read(), file.seek(0, 2)), (b"", 0))
+            self.assertEqual(list(io.TextIOWrapper(volume["c/readme"].open(), "latin-1")), ["Hello\n"])
+
+    def test_is_read_by_many_threads(self):
+        large, came = large_of(), []
+
+        def work(volume, first):
+            for offset in range(first, 60000, 997):
+                came.append(volume["LARGE"].read(offset, 1500) == large[offset : offset + 1500])
+            came.append(len(volume.entries) == 5 and adf.Volume(volume.image).owners() == volume.owners())
+
+        crowd = [threading.Thread(target=work, args=(self.volumes[n % 2], n)) for n in range(8)]
+        for thread in crowd:
+            thread.start()
+        for thread in crowd:
+            thread.join()
+        self.assertEqual((set(came), len(came)), ({True}, 8 * 62))
+
+
+if __name__ == "__main__":
+    unittest.main()
