@@ -1,0 +1,77 @@
+"""A picture of a volume as SVG: a square for each block, coloured by what the block is."""
+
+import re
+from xml.sax.saxutils import escape
+
+from shared import adf
+
+CYLINDER = 22
+STEP, SIDE, MARGIN = 10, 9, 12
+LINE, LEGEND = 20, 17
+UNTOLD = len(adf.ROLES)
+NAMES = (*adf.ROLES, "not told")
+COLOURS = ("#e8e8e8", "#333333", "#d62728", "#9467bd", "#c5b0d5", "#ff7f0e", "#bcbd22", "#1f77b4", "#bbbbbb")
+FAULT = "#d62728"
+RUN = re.compile(rb"(.)\1*", re.DOTALL)
+
+
+def untold(image):
+    """The roles of a refused image, which nobody knows."""
+    return bytes([UNTOLD]) * (len(image) // adf.BLOCK)
+
+
+def width_of(count):
+    """The blocks of a row: a cylinder of a floppy, 22, or 44 of one of high density; of larger volumes 88, 176 and so on."""
+    width = CYLINDER
+    while count > 4 * width * width:
+        width *= 2
+    return width
+
+
+def lines_of(roles, width):
+    """For each role the path of its blocks: a line for each run in a row, which is dashed into squares."""
+    found = {}
+    for top in range(0, len(roles), width):
+        y = top // width * STEP + SIDE / 2
+        for run in RUN.finditer(roles[top : top + width]):
+            found.setdefault(run[1][0], []).append(f"M{run.start() * STEP} {y}h{len(run[0]) * STEP}")
+    return {role: "".join(found[role]) for role in sorted(found)}
+
+
+def mark(x, y):
+    """A frame round the block of a fault, and a cross over it."""
+    frame = f"M{x - 3} {y - 3}h{SIDE + 6}v{SIDE + 6}h-{SIDE + 6}z"
+    return f'<path d="{frame}M{x} {y}l{SIDE} {SIDE}M{x + SIDE} {y}l-{SIDE} {SIDE}" fill="none" stroke="{FAULT}" stroke-width="2"/>'
+
+
+def legend(parts, top):
+    """A line for each part: what is drawn, and its text."""
+    lines = []
+    for i, (drawn, text) in enumerate(parts):
+        y = top + i * LEGEND
+        lines.append(f'<g transform="translate(0 {y})">{drawn}</g><text x="{LINE}" y="{y + SIDE}">{escape(text)}</text>')
+    return lines
+
+
+def picture(title, roles, refused=None):
+    """The picture of these roles, a byte for each block; of a refused image the block of its fault is marked, and says why."""
+    width = width_of(len(roles))
+    rows, paths = -(-len(roles) // width), lines_of(roles, width)
+    parts = [(f'<rect width="{SIDE}" height="{SIDE}" fill="{COLOURS[r]}"/>', f"{NAMES[r]}: {roles.count(r)}") for r in paths]
+    if refused is not None:
+        parts.insert(0, (mark(0, 0), str(refused)))
+    top = MARGIN + LINE if title else MARGIN
+    high = top + rows * STEP + LINE + len(parts) * LEGEND + MARGIN
+    wide = 2 * MARGIN + max(width * STEP, *(8 * len(text) for text in (title, *(text for _, text in parts))))
+    font = 'font-family="sans-serif" font-size="11"'
+    lines = [f'<svg xmlns="http://www.w3.org/2000/svg" width="{wide}" height="{high}" viewBox="0 0 {wide} {high}" {font}>']
+    if title:
+        lines.append(f'<title>{escape(title)}</title><text x="{MARGIN}" y="{LINE}">{escape(title)}</text>')
+    lines.append(f'<g transform="translate({MARGIN} {top})">')
+    lines.append(f'<g fill="none" stroke-width="{SIDE}" stroke-dasharray="{SIDE} {STEP - SIDE}">')
+    lines += (f'<path stroke="{COLOURS[role]}" d="{path}"><title>{NAMES[role]}</title></path>' for role, path in paths.items())
+    lines.append("</g>")
+    if refused is not None and refused.block < len(roles):
+        lines.append(mark(refused.block % width * STEP, refused.block // width * STEP))
+    lines += legend(parts, rows * STEP + LINE)
+    return "\n".join(lines) + "\n</g>\n</svg>\n"
