@@ -1,4 +1,4 @@
-"""A picture of a volume as SVG: a square for each block, coloured by what the block is."""
+"""A picture of a volume as SVG: a square for each block, coloured by what the block is; map and catalogue draw it."""
 
 import re
 from xml.sax.saxutils import escape
