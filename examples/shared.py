@@ -45,6 +45,8 @@ def begin(main):
         stop(REFUSED, refused)
     except ImportError as error:
         stop(FAILED, error)
+    except KeyboardInterrupt:
+        stop(FAILED, "interrupted")
     except MemoryError:
         stop(FAILED, "no memory")
     except OSError as error:
