@@ -16,7 +16,8 @@ pub struct Bench {
     /// What the last run wrote to output.
     output: Vec<u8>,
     row: Option<Trial>,
-    rows: usize,
+    /// Whether a row was begun.
+    has_rows: bool,
 }
 
 /// An image with its name.
@@ -43,13 +44,13 @@ impl Bench {
             image: Vec::new(alloc),
             output: Vec::new(alloc),
             row: None,
-            rows: 0,
+            has_rows: false,
         }
     }
 
-    /// The number of rows that were begun.
-    pub fn rows(&self) -> usize {
-        self.rows
+    /// Whether a row was begun.
+    pub fn has_rows(&self) -> bool {
+        self.has_rows
     }
 
     /// Does what a line says.
@@ -69,7 +70,7 @@ impl Bench {
     }
 
     fn begin(&mut self, line: usize) {
-        self.rows = self.rows.saturating_add(1);
+        self.has_rows = true;
         self.row = Some(Trial {
             line,
             came: None,
@@ -100,7 +101,7 @@ impl Bench {
             Line::Run(command) => self.run(command),
             Line::Want(want) => self.want(want),
             Line::Table(table) => {
-                self.rows = self.rows.saturating_add(1);
+                self.has_rows = true;
                 table.run(self.alloc, &self.image)
             }
         }

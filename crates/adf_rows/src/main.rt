@@ -5,8 +5,11 @@ mod answer;
 mod bench;
 mod changes;
 mod devices;
+mod failing;
 mod line;
+mod questions;
 mod tables;
+mod trees;
 mod wants;
 mod words;
 mod wrong;
@@ -18,23 +21,17 @@ use std::rt::{Env, Files};
 use std::{fs, io};
 use wrong::{Difference, Failure, Wrong};
 
-/// How many rows there were, and how many failures.
-#[derive(Clone, Copy)]
-struct Count {
-    rows: usize,
-    failed: usize,
-}
-
+// Says what is wrong with a row, and counts it.
 fn tell(
     rt: &impl Print,
     name: &str,
-    count: &mut Count,
+    failed: &mut usize,
     outcome: Result<(), Failure>,
 ) -> io::Result<()> {
     let Err(Failure { line, wrong }) = outcome else {
         return Ok(());
     };
-    count.failed = count.failed.saturating_add(1);
+    *failed = failed.saturating_add(1);
     match wrong {
         Wrong::Other(
             Difference {
@@ -48,14 +45,11 @@ fn tell(
     }
 }
 
-// Runs the rows of a file.
-fn run_file(
-    rt: &(impl Files + Print + AllocGlobal),
-    name: &str,
-    count: &mut Count,
-) -> io::Result<()> {
+// Runs the rows of a file, of which there is one at least, and answers how many failed.
+fn run_file(rt: &(impl Files + Print + AllocGlobal), name: &str) -> io::Result<usize> {
     let text = fs::read_to_string(rt, name)?;
     let mut bench = Bench::new(rt.alloc());
+    let mut failed = 0;
     for (i, line) in text.as_str().lines().enumerate() {
         let number = i.saturating_add(1);
         let outcome = match Line::read(line) {
@@ -65,23 +59,26 @@ fn run_file(
                 wrong: Wrong::Unread,
             }),
         };
-        tell(rt, name, count, outcome)?;
+        tell(rt, name, &mut failed, outcome)?;
     }
-    tell(rt, name, count, bench.finish())?;
-    count.rows = count.rows.saturating_add(bench.rows());
-    Ok(())
+    tell(rt, name, &mut failed, bench.finish())?;
+    if !bench.has_rows() {
+        println!(rt; "{name}: no row")?;
+        failed = failed.saturating_add(1);
+    }
+    Ok(failed)
 }
 
-fn run_files(rt: &(impl Env + Files + Print + AllocGlobal)) -> io::Result<Count> {
-    let mut count = Count { rows: 0, failed: 0 };
+fn run_files(rt: &(impl Env + Files + Print + AllocGlobal)) -> io::Result<usize> {
+    let mut failed = 0usize;
     for name in std::env::args(rt)?.skip(1) {
-        run_file(rt, name.as_str(), &mut count)?;
+        failed = failed.saturating_add(run_file(rt, name.as_str())?);
     }
-    println!(rt; "{} rows, {} failed", count.rows, count.failed)?;
-    Ok(count)
+    println!(rt; "{failed} failed")?;
+    Ok(failed)
 }
 
 fn main(rt: HostRuntime) -> io::Result<ExitCode> {
-    let count = run_files(&rt)?;
-    Ok(ExitCode::from(if count.failed == 0 { 0 } else { 1 }))
+    let failed = run_files(&rt)?;
+    Ok(ExitCode::from(if failed == 0 { 0 } else { 1 }))
 }

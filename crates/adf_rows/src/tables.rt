@@ -2,12 +2,17 @@
 
 use crate::answer::{answer_of, built, manifest_text};
 use crate::changes::put_items;
-use crate::wants::{Wanted, push_line};
-use crate::words::rising;
+use crate::failing::{Failing, is_refused_in_the_end};
+use crate::questions::Question;
+use crate::trees::{is_not_laid, is_tree, needs, tree_of_image, tree_of_lines};
+use crate::wants::{Wanted, is_same, push_line};
+use crate::words::{number, rising};
 use crate::wrong::Wrong;
+use adf_check::check;
+use adf_tree::Tree;
 use std::alloc::Global;
 
-/// A row of one line, with the line that is wanted behind ` -> `.
+/// A row of one line, with what is wanted behind ` -> `.
 #[derive(Clone, Copy)]
 pub struct Table<'a> {
     kind: TableKind<'a>,
@@ -26,12 +31,58 @@ enum TableKind<'a> {
     Refused(&'a str),
     /// `sound LINE | LINE ..`: `check` on what `build` makes of these lines.
     Sound(&'a str),
+    /// `tree LINE | LINE ..`: the image has the tree of these lines.
+    Tree(&'a str),
+    /// A call on the volume of the image.
+    Question(Question<'a>),
+    /// `need BLOCKS LINE | LINE ..`: what the tree of these lines needs in so many blocks.
+    Need(u32, &'a str),
+    /// `unlaid BLOCKS LINE | LINE ..`: why it is not built in so many blocks.
+    Unlaid(u32, &'a str),
+    /// `failing READ WRITE WORDS`: the command over the image, each call of its devices failing in turn.
+    Failing(Failing<'a>),
+    /// `endless COUNT`: `build` on line feeds without end.
+    Endless(usize),
 }
 
 impl<'a> Table<'a> {
     pub fn read(word: &str, rest: &'a str) -> Option<Table<'a>> {
-        let (what, line) = rest.split_once(" -> ")?;
-        let kind = match word {
+        let (what, line) = match word {
+            "tree" | "failing" => (rest, ""),
+            _ => rest.split_once(" -> ")?,
+        };
+        let kind = TableKind::read(word, what)?;
+        Some(Table { kind, line })
+    }
+
+    /// Runs the row over an image.
+    pub fn run(&self, alloc: Global, image: &[u8]) -> Result<(), Wrong> {
+        let line = self.line;
+        match self.kind {
+            TableKind::Patch(items) => is_patched(alloc, image, items, line),
+            TableKind::Flips(from, to) => are_flipped(alloc, image, (from, to), line),
+            TableKind::Cuts(from, to) => are_cut(alloc, image, (from, to), line),
+            TableKind::Refused(lines) => is_refused(alloc, lines, line),
+            TableKind::Sound(lines) => is_told(alloc, &built(alloc, lines)?, line),
+            TableKind::Tree(lines) => {
+                let wanted = tree_of_lines(alloc, lines)?;
+                is_tree(alloc, &wanted, &tree_of_image(alloc, image)?)
+            }
+            TableKind::Question(question) => {
+                let text = question.answer(alloc, image)?;
+                is_same(alloc, "answer", line.as_bytes(), text.as_bytes())
+            }
+            TableKind::Need(blocks, lines) => needs(alloc, blocks, lines, line),
+            TableKind::Unlaid(blocks, lines) => is_not_laid(alloc, blocks, lines, line),
+            TableKind::Failing(failing) => failing.run(alloc, image),
+            TableKind::Endless(count) => is_refused_in_the_end(alloc, count, line),
+        }
+    }
+}
+
+impl<'a> TableKind<'a> {
+    fn read(word: &str, what: &'a str) -> Option<TableKind<'a>> {
+        Some(match word {
             "patch" => TableKind::Patch(what),
             "flips" => {
                 let (from, to) = rising(what)?;
@@ -43,30 +94,37 @@ impl<'a> Table<'a> {
             }
             "refused" => TableKind::Refused(what),
             "sound" => TableKind::Sound(what),
-            _ => return None,
-        };
-        Some(Table { kind, line })
-    }
-
-    /// Runs the row over an image.
-    pub fn run(&self, alloc: Global, image: &[u8]) -> Result<(), Wrong> {
-        match self.kind {
-            TableKind::Patch(items) => {
-                let mut patched = Vec::from_slice(alloc, image)?;
-                put_items(&mut patched, items)?;
-                is_told(alloc, &patched, self.line)
+            "tree" => TableKind::Tree(what),
+            "need" => {
+                let (blocks, lines) = sized(what)?;
+                TableKind::Need(blocks, lines)
             }
-            TableKind::Flips(from, to) => are_flipped(alloc, image, (from, to), self.line),
-            TableKind::Cuts(from, to) => are_cut(alloc, image, (from, to), self.line),
-            TableKind::Refused(lines) => is_refused(alloc, lines, self.line),
-            TableKind::Sound(lines) => is_told(alloc, &built(alloc, lines)?, self.line),
-        }
+            "unlaid" => {
+                let (blocks, lines) = sized(what)?;
+                TableKind::Unlaid(blocks, lines)
+            }
+            "failing" => TableKind::Failing(Failing::read(what)?),
+            "endless" => TableKind::Endless(number(what)?),
+            _ => TableKind::Question(Question::read(word, what)?),
+        })
     }
+}
+
+// `BLOCKS LINES`
+fn sized(text: &str) -> Option<(u32, &str)> {
+    let (blocks, lines) = text.split_once(' ')?;
+    Some((blocks.parse::<u32>().ok()?, lines))
 }
 
 // `check` on an image answers a line.
 fn is_told(alloc: Global, image: &[u8], line: &str) -> Result<(), Wrong> {
     Wanted::verdict(alloc, line)?.compare(alloc, &answer_of(alloc, "check", image)?)
+}
+
+fn is_patched(alloc: Global, image: &[u8], items: &str, line: &str) -> Result<(), Wrong> {
+    let mut patched = Vec::from_slice(alloc, image)?;
+    put_items(&mut patched, items)?;
+    is_told(alloc, &patched, line)
 }
 
 fn are_flipped(
@@ -75,13 +133,27 @@ fn are_flipped(
     places: (usize, usize),
     line: &str,
 ) -> Result<(), Wrong> {
+    let tree = tree_of_image(alloc, image)?;
     let mut flipped = Vec::from_slice(alloc, image)?;
     for at in places.0..=places.1 {
         flip(&mut flipped, at)?;
-        is_told(alloc, &flipped, line).map_err(|wrong| wrong.of_case(at))?;
+        is_told(alloc, &flipped, line)
+            .and_then(|_| keeps_tree(alloc, &tree, &flipped))
+            .map_err(|wrong| wrong.of_case(at))?;
         flip(&mut flipped, at)?;
     }
     Ok(())
+}
+
+// An image that is accepted has this tree.
+fn keeps_tree(alloc: Global, tree: &Tree, image: &[u8]) -> Result<(), Wrong> {
+    match check(alloc, image) {
+        Ok(volume) => {
+            let came = volume.to_tree(alloc).map_err(|_| Wrong::NoMemory)?;
+            is_tree(alloc, tree, &came)
+        }
+        Err(_) => Ok(()),
+    }
 }
 
 fn flip(image: &mut [u8], at: usize) -> Result<(), Wrong> {

@@ -101,11 +101,21 @@ impl Wanted {
 
 /// Says that a status is not as wanted.
 pub fn is_status(alloc: Global, wanted: u8, came: u8) -> Result<(), Wrong> {
+    is_number(alloc, "status", wanted as usize, came as usize)
+}
+
+/// Says that a number is not as wanted.
+pub fn is_number(
+    alloc: Global,
+    part: &'static str,
+    wanted: usize,
+    came: usize,
+) -> Result<(), Wrong> {
     if wanted == came {
         return Ok(());
     }
     Err(Wrong::Other(Difference {
-        part: "status",
+        part,
         case: 0,
         wanted: format!(in alloc; "{wanted}")?,
         came: format!(in alloc; "{came}")?,
@@ -119,7 +129,8 @@ pub fn push_line(text: &mut Vec<u8>, line: &str) -> Result<(), AllocError> {
     Ok(())
 }
 
-fn is_same(alloc: Global, part: &'static str, wanted: &[u8], came: &[u8]) -> Result<(), Wrong> {
+/// Says that a text is not as wanted.
+pub fn is_same(alloc: Global, part: &'static str, wanted: &[u8], came: &[u8]) -> Result<(), Wrong> {
     if wanted == came {
         return Ok(());
     }

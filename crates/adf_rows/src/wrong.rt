@@ -21,6 +21,10 @@ pub enum Wrong {
     NoPlace,
     /// The row has no run, or no status.
     NoRun,
+    /// A device failed, however many of its calls did not.
+    NoEnd,
+    /// The image, or the manifest, is refused.
+    Refused,
     /// What came is not what is wanted.
     Other(Difference),
     NoMemory,
@@ -45,6 +49,8 @@ impl Wrong {
             Wrong::NoImage => "no image of this name",
             Wrong::NoPlace => "no such place in the image",
             Wrong::NoRun => "no run or no status",
+            Wrong::NoEnd => "a device that always fails",
+            Wrong::Refused => "an image or a manifest that is refused",
             Wrong::Other(_) => "another answer",
             Wrong::NoMemory => "no memory",
         }
