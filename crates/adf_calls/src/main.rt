@@ -1,7 +1,9 @@
-//! Calls each library function that grows something, once, and says how it went. `bench/refusals` refuses each growth in turn.
+//! Calls each library function that takes memory, once, and says how it went. `bench/refusals` refuses each growth in turn.
 #![tactic(auto)]
 
 mod answers;
+mod commands;
+mod lines;
 mod texts;
 mod trees;
 mod volumes;
@@ -13,12 +15,14 @@ use std::process::ExitCode;
 use std::rt::Env;
 
 /// The calls, by the names that the command line may give.
-const CALLS: [&str; 13] = [
+const CALLS: [&str; 24] = [
     "stamp_text",
+    "push_stamp",
     "label_write",
     "comment_write",
     "read_path",
     "write_path",
+    "name_set",
     "tree_add",
     "draft_add",
     "owners_new",
@@ -27,16 +31,27 @@ const CALLS: [&str; 13] = [
     "to_tree",
     "build",
     "read_manifest",
+    "push_counts",
+    "push_fault",
+    "push_full",
+    "push_manifest_fault",
+    "push_word_line",
+    "push_opening_lines",
+    "push_entry_lines",
+    "parse",
+    "build_and_read",
 ];
 
 // None where what the call needs could not be made.
 fn went(alloc: Global, call: &str) -> Option<Went> {
     match call {
         "stamp_text" => texts::stamp_text_went(alloc),
+        "push_stamp" => lines::push_stamp_went(alloc),
         "label_write" => texts::label_write_went(alloc),
         "comment_write" => texts::comment_write_went(alloc),
         "read_path" => trees::read_path_went(alloc),
         "write_path" => trees::write_path_went(alloc),
+        "name_set" => trees::name_set_went(alloc),
         "tree_add" => trees::tree_add_went(alloc),
         "draft_add" => trees::draft_add_went(alloc),
         "owners_new" => volumes::owners_new_went(alloc),
@@ -45,6 +60,15 @@ fn went(alloc: Global, call: &str) -> Option<Went> {
         "to_tree" => volumes::to_tree_went(alloc),
         "build" => volumes::build_went(alloc),
         "read_manifest" => volumes::read_manifest_went(alloc),
+        "push_counts" => lines::push_counts_went(alloc),
+        "push_fault" => lines::push_fault_went(alloc),
+        "push_full" => lines::push_full_went(alloc),
+        "push_manifest_fault" => lines::push_manifest_fault_went(alloc),
+        "push_word_line" => lines::push_word_line_went(alloc),
+        "push_opening_lines" => lines::push_opening_lines_went(alloc),
+        "push_entry_lines" => lines::push_entry_lines_went(alloc),
+        "parse" => commands::parse_went(alloc),
+        "build_and_read" => commands::build_and_read_went(alloc),
         _ => None,
     }
 }

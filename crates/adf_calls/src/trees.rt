@@ -1,10 +1,10 @@
-// Calls on paths and trees.
+// Calls on names, paths and trees.
 
 use crate::answers::Went;
 use adf_fields::Stamp;
 use adf_tree::{
-    AddFault, Body, Comment, Draft, Kind, Label, Meta, Name, Node, PathFault, Stamps, Tree,
-    read_path, write_path,
+    AddFault, Body, Bytes, Comment, Draft, Kind, Label, Meta, Name, NameSet, Node, PathFault,
+    Stamps, Tree, read_path, write_path,
 };
 use std::alloc::Global;
 
@@ -16,7 +16,8 @@ fn day(days: u32) -> Stamp {
     }
 }
 
-fn stamps() -> Stamps {
+/// The days 1, 2 and 3.
+pub fn stamps() -> Stamps {
     Stamps {
         root: day(1),
         altered: day(2),
@@ -24,7 +25,8 @@ fn stamps() -> Stamps {
     }
 }
 
-fn meta() -> Option<Meta> {
+/// A note, all four lower bits of protection, and day 4.
+pub fn meta() -> Option<Meta> {
     Some(Meta {
         comment: Comment::new(b"note")?,
         protect: 15,
@@ -56,20 +58,73 @@ pub fn write_path_went(alloc: Global) -> Option<Went> {
     })
 }
 
-/// One entry more in a tree whose entries fill the room that was made for them.
-pub fn tree_add_went(alloc: Global) -> Option<Went> {
-    let mut tree = Tree::new(alloc, Kind::Ofs, Label::new(b"Work")?, stamps());
-    for name in [b"a", b"b", b"c", b"d"] {
-        tree.add(&[Name::new(name)?], meta()?, Body::Dir).ok()?;
+// Whether a tree has entries of these names, in this order, and no others.
+fn has_names(tree: &Tree, names: &[&[u8]]) -> bool {
+    let mut has_all = tree.len() == names.len();
+    for (i, name) in names.iter().enumerate() {
+        has_all = has_all && has_name(tree, i.saturating_add(1), name);
     }
-    let res = tree.add(&[Name::new(b"e")?], meta()?, Body::Dir);
-    let keeps_last = has_name(&tree, 4, b"d");
+    has_all
+}
+
+// A directory `a` with an empty file `b`, and a directory `3`, whose slot is behind that of `a`.
+fn worked_tree(alloc: Global) -> Option<Tree> {
+    let mut tree = Tree::new(alloc, Kind::Ofs, Label::new(b"Work")?, stamps());
+    let path = [Name::new(b"a")?, Name::new(b"b")?];
+    tree.add(&path[..1], meta()?, Body::Dir).ok()?;
+    let no_bytes = Body::File(Bytes::new(Vec::new(alloc)));
+    tree.add(&path, meta()?, no_bytes).ok()?;
+    tree.add(&[Name::new(b"3")?], meta()?, Body::Dir).ok()?;
+    Some(tree)
+}
+
+// Whether an entry is refused so, and the worked tree stays.
+fn is_refused(alloc: Global, tree: &mut Tree, text: &[u8], fault: AddFault) -> Option<bool> {
+    let path = read_path(alloc, text).ok()?;
+    let res = tree.add(&path, meta()?, Body::Dir);
+    Some(res == Err(fault) && has_names(tree, &[b"a", b"3", b"b"]))
+}
+
+// Whether entries that have no place in the worked tree are refused.
+fn refuses_others(alloc: Global, tree: &mut Tree) -> Option<bool> {
+    Some(
+        is_refused(alloc, tree, b"x/y", AddFault::NoParent)?
+            && is_refused(alloc, tree, b"a/b/z", AddFault::ParentIsFile)?
+            && is_refused(alloc, tree, b"A", AddFault::Exists)?
+            && is_refused(alloc, tree, b"", AddFault::EmptyPath)?,
+    )
+}
+
+/// The second of two entries of one chain, where the entries fill the room that was made for them.
+pub fn tree_add_went(alloc: Global) -> Option<Went> {
+    let mut tree = worked_tree(alloc)?;
+    let refuses = refuses_others(alloc, &mut tree)?;
+    tree.add(&[Name::new(b"BA")?], meta()?, Body::Dir).ok()?;
+    let res = tree.add(&[Name::new(b"AN")?], meta()?, Body::Dir);
     Some(match res {
-        Ok(()) => Went::done_if(keeps_last && tree.len() == 5 && has_name(&tree, 5, b"e")),
-        Err(fault) => {
-            Went::refused_if(keeps_last && tree.len() == 4 && fault == AddFault::NoMemory)
-        }
+        Ok(()) => Went::done_if(refuses && has_names(&tree, &[b"a", b"BA", b"AN", b"3", b"b"])),
+        Err(fault) => Went::refused_if(
+            fault == AddFault::NoMemory && has_names(&tree, &[b"a", b"BA", b"3", b"b"]),
+        ),
     })
+}
+
+/// Two spellings of a name, and another name, in a set.
+pub fn name_set_went(alloc: Global) -> Option<Went> {
+    let mut set = NameSet::new(alloc);
+    let names = [
+        Name::new(b"Readme")?,
+        Name::new(b"README")?,
+        Name::new(b"a")?,
+    ];
+    let mut news = [false; 3];
+    for (i, name) in names.iter().enumerate() {
+        let Ok(is_new) = set.put(name) else {
+            return Some(Went::NoMemory);
+        };
+        news[i] = is_new;
+    }
+    Some(Went::done_if(news == [true, false, true] && set.has(&Name::new(b"A")?)))
 }
 
 /// A second entry in a draft, which is then finished.

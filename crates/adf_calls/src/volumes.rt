@@ -11,7 +11,8 @@ use std::alloc::Global;
 /// A volume of 16 blocks with one file of two data blocks.
 const MANIFEST: &[u8] = b"volume ofs 16\nfile 0:0:0 00000000 a\nfill 489 41\n";
 
-fn tree(alloc: Global) -> Option<Tree> {
+/// The tree of the manifest.
+pub fn tree(alloc: Global) -> Option<Tree> {
     let (tree, _) = read_manifest(alloc, MANIFEST).ok()?;
     Some(tree)
 }
@@ -20,10 +21,39 @@ fn image(alloc: Global) -> Option<Vec<u8>> {
     build(alloc, &tree(alloc)?, 16).ok()
 }
 
-/// The owners of 16 blocks.
+fn has_owner(owners: &Owners, b: u32, owner: Owner) -> bool {
+    b < owners.len() && owners.get(b) == owner
+}
+
+// What a claim of a block answers; none where the block cannot be claimed.
+fn claimed(owners: &mut Owners, b: u32, owner: Owner) -> Option<Result<(), Cause>> {
+    if b < 2 || b >= owners.len() || owner == Owner::Free || owner == Owner::Boot {
+        return None;
+    }
+    Some(owners.claim(b, owner))
+}
+
+// Whether block 2 is claimed once.
+fn claims_once(owners: &mut Owners) -> bool {
+    claimed(owners, 2, Owner::Root) == Some(Ok(()))
+        && claimed(owners, 2, Owner::Page(0)) == Some(Err(Cause::Taken))
+        && has_owner(owners, 2, Owner::Root)
+}
+
+// Whether blocks 0 and 1 are those of the boot block, and the others free.
+fn are_new(owners: &Owners) -> bool {
+    let mut are_all = owners.len() == 16;
+    for b in 0..16u32 {
+        let owner = if b < 2 { Owner::Boot } else { Owner::Free };
+        are_all = are_all && has_owner(owners, b, owner);
+    }
+    are_all
+}
+
+/// The owners of 16 blocks, of which one is claimed twice.
 pub fn owners_new_went(alloc: Global) -> Option<Went> {
     Some(match Owners::new(alloc, 16) {
-        Ok(owners) => Went::done_if(owners.len() == 16 && owners.get(2) == Owner::Free),
+        Ok(mut owners) => Went::done_if(are_new(&owners) && claims_once(&mut owners)),
         Err(_) => Went::NoMemory,
     })
 }
