@@ -1,121 +1,15 @@
-// Devices in memory.
+// Devices over readers and writers of std.
 
-ghost use Rattle.std.specs.Prelude.{◌≡◌, IfOk, None, false};
-ghost use Rattle.std.specs.Io.{WritesAtMost};
-ghost use Rattle.adf_cmd.specs.Devices.{write_fails};
+ghost use Rattle.std.specs.Prelude.{◌≡◌, IfOk};
 
-use adf_cmd::{Failed, Sink, Source};
+use adf_cmd::{Device, Sink, Source};
 use std::io;
 use std::io::{Read, Write};
 
-/// Gives bytes, at most so many at each call, and fails once so many calls were made.
-#[derive(Drop)]
-pub struct Given<'a> {
-    pub bytes: &'a [u8],
-    pub at_most: usize,
-    pub calls_left: usize,
-    pub failed: bool,
-}
-
-impl Source for Given<'_> {
-    ghost left = { λ _. None };
-
-    ghost has_failed = { λ s. s.failed };
-
-    fn read(&mut self, buf: &mut [u8]) -> Result<usize, Failed> {
-        if self.calls_left == 0 {
-            self.failed = true;
-            return Err(Failed);
-        }
-        self.calls_left -= 1;
-        let count = buf.len().min(self.bytes.len()).min(self.at_most);
-        buf[..count].copy_from_slice(&self.bytes[..count]);
-        self.bytes = &self.bytes[count..];
-        Ok(count)
-    }
-
-    fn failed(&self) -> bool {
-        self.failed
-    }
-}
-
-/// How a writer fails.
-#[derive(Clone, Copy, PartialEq, Eq)]
-pub enum Failure {
-    /// By an error.
-    Error,
-    /// By taking no bytes.
-    TakesNone,
-}
-
-/// Keeps the bytes, at most so many at each call, and fails once so many calls were made.
-#[derive(Drop)]
-pub struct Kept {
-    pub bytes: Vec<u8>,
-    pub at_most: usize,
-    pub calls_left: usize,
-    pub failure: Failure,
-    pub failed: bool,
-}
-
-impl Kept {
-    // What it answers where it fails.
-    fn fail(&mut self, bytes: &[u8]) -> Result<usize, Failed>
-        ensures count { WritesAtMost result bytes.now }
-        ensures failed { self.new.failed ≡ write_fails result bytes.now }
-    {
-        if self.failure == Failure::TakesNone {
-            self.failed = !bytes.is_empty();
-            return Ok(0);
-        }
-        self.failed = true;
-        Err(Failed)
-    }
-}
-
-impl Sink for Kept {
-    ghost held = { λ _. None };
-
-    ghost has_failed = { λ s. s.failed };
-
-    fn write(&mut self, bytes: &[u8]) -> Result<usize, Failed> {
-        let count = bytes.len().min(self.at_most);
-        if self.calls_left == 0 || self.bytes.extend_from_slice(&bytes[..count]).is_err() {
-            return self.fail(bytes);
-        }
-        self.calls_left -= 1;
-        self.failed = count == 0 && !bytes.is_empty();
-        Ok(count)
-    }
-
-    fn failed(&self) -> bool {
-        self.failed
-    }
-}
-
-/// Gives the byte of a line's end for ever.
-#[derive(Drop)]
-pub struct Endless;
-
-impl Source for Endless {
-    ghost left = { λ _. None };
-
-    ghost has_failed = { λ _. false };
-
-    fn read(&mut self, buf: &mut [u8]) -> Result<usize, Failed> {
-        buf.fill(b'\n');
-        Ok(buf.len())
-    }
-
-    fn failed(&self) -> bool {
-        false
-    }
-}
-
 /// A reader and writer of std that counts its calls; the first moves nothing, and the others fail.
 #[derive(Drop)]
-pub struct Counted<'a> {
-    pub calls: &'a mut u32,
+struct Counted<'a> {
+    calls: &'a mut u32,
 }
 
 impl Counted<'_> {
@@ -145,4 +39,27 @@ impl Write for Counted<'_> {
     fn flush(&mut self) -> io::Result<()> {
         Ok(())
     }
+}
+
+// A device passes each call on once, failing ones too, and knows that one has failed. No clause says so: it can name only what
+// std's readers and writers tell of themselves, and they tell nothing of failing. So a body that calls nothing and always fails
+// keeps every clause, and fails here.
+#[test]
+fn devices_pass_calls_on_once(rt: HostRuntime) {
+    let mut calls = 0;
+    let mut reader = Device::new(Counted { calls: &mut calls });
+    let mut room = [0u8; 4];
+    if reader.read(&mut room).is_ok() {
+        assert!(rt; !Source::failed(&reader));
+        assert!(rt; reader.read(&mut room).is_err());
+        assert!(rt; Source::failed(&reader));
+    }
+    assert_eq!(rt; calls, 2);
+    let mut calls = 0;
+    let mut writer = Device::new(Counted { calls: &mut calls });
+    if writer.write(b"").is_ok() {
+        assert!(rt; writer.write(b"a").is_err());
+        assert!(rt; Sink::failed(&writer));
+    }
+    assert_eq!(rt; calls, 2);
 }

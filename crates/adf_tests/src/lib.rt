@@ -1,23 +1,7 @@
-//! Tests of calls that no command shows, on examples of the format.
+//! Tests of what no row and no call in a program shows.
 #![tactic(auto)]
 
 #[cfg(test)]
-mod blocks;
-#[cfg(test)]
-mod building;
-#[cfg(test)]
-mod checking;
+mod causes;
 #[cfg(test)]
 mod devices;
-#[cfg(test)]
-mod failing;
-#[cfg(test)]
-mod fields;
-#[cfg(test)]
-mod names_and_trees;
-#[cfg(test)]
-mod texts;
-#[cfg(test)]
-mod trees;
-#[cfg(test)]
-mod words;
