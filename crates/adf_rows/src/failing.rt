@@ -24,11 +24,16 @@ enum Side {
     Errors,
 }
 
-/// The words of a command, and its answer where no device fails.
+/// The runs of a command over an image.
 #[derive(Drop)]
-struct Whole<'a> {
+struct Runs<'a> {
+    alloc: Global,
     words: Vec<&'a str>,
-    answer: Answer,
+    image: &'a [u8],
+    /// How the devices move bytes where none fails.
+    paces: Paces,
+    /// The answer where none fails.
+    whole: Answer,
 }
 
 impl<'a> Failing<'a> {
@@ -47,38 +52,35 @@ impl<'a> Failing<'a> {
     pub fn run(&self, alloc: Global, image: &[u8]) -> Result<(), Wrong> {
         let words = words_of(alloc, self.command)?;
         let paces = Paces::steady(self.read, self.write);
-        let (answer, _) = run_by(alloc, &words, image, paces);
-        let whole = Whole { words, answer };
-        self.fail_each(alloc, image, &whole, Side::Input, WriteFailure::Error)?;
+        let (whole, _) = run_by(alloc, &words, image, paces);
+        let runs = Runs {
+            alloc,
+            words,
+            image,
+            paces,
+            whole,
+        };
+        runs.fail_each(Side::Input, WriteFailure::Error)?;
         for failure in [WriteFailure::Error, WriteFailure::TakesNone] {
-            self.fail_each(alloc, image, &whole, Side::Output, failure)?;
-            self.fail_each(alloc, image, &whole, Side::Errors, failure)?;
+            runs.fail_each(Side::Output, failure)?;
+            runs.fail_each(Side::Errors, failure)?;
         }
         Ok(())
     }
+}
 
+impl Runs<'_> {
     // Lets each call of one side fail in turn, until no call fails: then the answer is the whole one.
-    fn fail_each(
-        &self,
-        alloc: Global,
-        image: &[u8],
-        whole: &Whole<'_>,
-        side: Side,
-        failure: WriteFailure,
-    ) -> Result<(), Wrong> {
-        let most = image
-            .len()
-            .saturating_add(whole.answer.output.len())
-            .saturating_add(whole.answer.errors.len());
-        for calls in 0..=most.saturating_add(1) {
-            let paces = self.paces(side, failure, calls);
-            let (came, failed) = run_by(alloc, &whole.words, image, paces);
-            let outcome = if failed {
-                self.is_cut(alloc, &whole.answer, side, calls, &came)
+    fn fail_each(&self, side: Side, failure: WriteFailure) -> Result<(), Wrong> {
+        for calls in 0..=self.most_calls() {
+            let paces = self.paces_to(side, failure, calls);
+            let (came, failed) = run_by(self.alloc, &self.words, self.image, paces);
+            let wanted = if failed {
+                self.part(side, calls)
             } else {
-                is_answer(alloc, &whole.answer, &came)
+                self.entire()
             };
-            outcome.map_err(|wrong| wrong.of_case(calls))?;
+            is_answer(self.alloc, wanted, &came).map_err(|wrong| wrong.of_case(calls))?;
             if !failed {
                 return Ok(());
             }
@@ -86,71 +88,57 @@ impl<'a> Failing<'a> {
         Err(Wrong::NoEnd)
     }
 
-    // The paces of which those of one side fail after so many calls.
-    fn paces(&self, side: Side, failure: WriteFailure, calls: usize) -> Paces {
-        let paces = Paces::steady(self.read, self.write);
-        let Paces {
-            input,
-            output,
-            errors,
-            ..
-        } = paces;
-        match side {
-            Side::Input => Paces {
-                input: Pace { calls, ..input },
-                ..paces
-            },
-            Side::Output => Paces {
-                output: Pace { calls, ..output },
-                failure,
-                ..paces
-            },
-            Side::Errors => Paces {
-                errors: Pace { calls, ..errors },
-                failure,
-                ..paces
-            },
-        }
+    // No run has so many calls of one side.
+    fn most_calls(&self) -> usize {
+        self.image
+            .len()
+            .saturating_add(self.whole.output.len())
+            .saturating_add(self.whole.errors.len())
+            .saturating_add(1)
     }
 
-    // After so many calls of input nothing is written, of output and errors a front part of the answer, and a failure of errors
-    // changes no status.
-    fn is_cut(
-        &self,
-        alloc: Global,
-        whole: &Answer,
-        side: Side,
-        calls: usize,
-        came: &Answer,
-    ) -> Result<(), Wrong> {
-        let written = calls.saturating_mul(self.write);
-        let (status, output, errors) = match side {
-            Side::Input => (3, b"".as_slice(), b"read fault\n".as_slice()),
-            Side::Output => (
-                3,
-                front(&whole.output, written),
-                b"write fault\n".as_slice(),
-            ),
-            Side::Errors => (
-                whole.status,
-                whole.output.as_slice(),
-                front(&whole.errors, written),
-            ),
-        };
-        is_same(alloc, "output", output, &came.output)?;
-        is_same(alloc, "errors", errors, &came.errors)?;
-        is_status(alloc, status, came.status)
+    // The paces of which that of one side fails after so many calls.
+    fn paces_to(&self, side: Side, failure: WriteFailure, calls: usize) -> Paces {
+        let mut paces = self.paces;
+        paces.failure = failure;
+        match side {
+            Side::Input => paces.input.calls = calls,
+            Side::Output => paces.output.calls = calls,
+            Side::Errors => paces.errors.calls = calls,
+        }
+        paces
     }
+
+    // The status, output and errors where none fails.
+    fn entire(&self) -> (u8, &[u8], &[u8]) {
+        (self.whole.status, &self.whole.output, &self.whole.errors)
+    }
+
+    // The status, output and errors where one side fails after so many calls. A failure of errors leaves the others as they are.
+    fn part(&self, side: Side, calls: usize) -> (u8, &[u8], &[u8]) {
+        let written = calls.saturating_mul(self.paces.output.at_most);
+        match side {
+            Side::Input => (3, b"", b"read fault\n"),
+            Side::Output => (3, front(&self.whole.output, written), b"write fault\n"),
+            Side::Errors => (
+                self.whole.status,
+                &self.whole.output,
+                front(&self.whole.errors, written),
+            ),
+        }
+    }
+}
+
+// Says that a status, output and errors are not as wanted.
+fn is_answer(alloc: Global, wanted: (u8, &[u8], &[u8]), came: &Answer) -> Result<(), Wrong> {
+    let (status, output, errors) = wanted;
+    is_same(alloc, "output", output, &came.output)?;
+    is_same(alloc, "errors", errors, &came.errors)?;
+    is_status(alloc, status, came.status)
 }
 
 fn front(bytes: &[u8], len: usize) -> &[u8] {
     &bytes[..len.min(bytes.len())]
-}
-
-fn is_answer(alloc: Global, wanted: &Answer, came: &Answer) -> Result<(), Wrong> {
-    is_same(alloc, "output", &wanted.output, &came.output)?;
-    is_same(alloc, "errors", &wanted.errors, &came.errors)?;
-    is_status(alloc, wanted.status, came.status)
 }
 
 /// `build` on line feeds without end takes so many of them, and says the line on errors.

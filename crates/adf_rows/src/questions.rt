@@ -35,7 +35,7 @@ impl<'a> Question<'a> {
 
     /// The text of the call's answer: `nothing` for none.
     pub fn answer(&self, alloc: Global, image: &[u8]) -> Result<String, Wrong> {
-        let volume = check(alloc, image).map_err(|_| Wrong::Refused)?;
+        let volume = check(alloc, image)?;
         let told = match *self {
             Question::Find(path) => found(alloc, &volume, path)?,
             Question::Entry(n) => name_of(alloc, &volume, Node(n))?,
@@ -57,7 +57,7 @@ impl<'a> Question<'a> {
 }
 
 fn found(alloc: Global, volume: &Checked<'_>, path: &str) -> Result<Option<String>, Wrong> {
-    let names = read_path(alloc, path.as_bytes()).map_err(|_| Wrong::Unread)?;
+    let names = read_path(alloc, path.as_bytes())?;
     match volume.find(&names) {
         Some(Node(n)) => Ok(Some(format!(in alloc; "{n}")?)),
         None => Ok(None),
@@ -66,10 +66,7 @@ fn found(alloc: Global, volume: &Checked<'_>, path: &str) -> Result<Option<Strin
 
 fn name_of(alloc: Global, volume: &Checked<'_>, n: Node) -> Result<Option<String>, Wrong> {
     match volume.row(n) {
-        Some(row) => match write_path(alloc, &[row.name]) {
-            Ok(text) => Ok(Some(text)),
-            Err(_) => Err(Wrong::NoMemory),
-        },
+        Some(row) => Ok(Some(write_path(alloc, &[row.name])?)),
         None => Ok(None),
     }
 }
@@ -118,12 +115,11 @@ fn push_run(text: &mut String, run: (usize, usize)) -> Result<(), AllocError> {
 }
 
 fn count_read(alloc: Global, volume: &Checked<'_>, n: Node) -> Result<Option<String>, Wrong> {
-    match volume.read(alloc, n) {
-        Ok(Some(bytes)) => {
+    match volume.read(alloc, n)? {
+        Some(bytes) => {
             let count = bytes.len();
             Ok(Some(format!(in alloc; "{count}")?))
         }
-        Ok(None) => Ok(None),
-        Err(_) => Err(Wrong::NoMemory),
+        None => Ok(None),
     }
 }

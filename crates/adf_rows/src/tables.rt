@@ -137,21 +137,17 @@ fn are_flipped(
     let mut flipped = Vec::from_slice(alloc, image)?;
     for at in places.0..=places.1 {
         flip(&mut flipped, at)?;
-        is_told(alloc, &flipped, line)
-            .and_then(|_| keeps_tree(alloc, &tree, &flipped))
-            .map_err(|wrong| wrong.of_case(at))?;
+        is_flipped(alloc, &tree, &flipped, line).map_err(|wrong| wrong.of_case(at))?;
         flip(&mut flipped, at)?;
     }
     Ok(())
 }
 
-// An image that is accepted has this tree.
-fn keeps_tree(alloc: Global, tree: &Tree, image: &[u8]) -> Result<(), Wrong> {
+// `check` on an image answers a line, and an image that is accepted has this tree.
+fn is_flipped(alloc: Global, tree: &Tree, image: &[u8], line: &str) -> Result<(), Wrong> {
+    is_told(alloc, image, line)?;
     match check(alloc, image) {
-        Ok(volume) => {
-            let came = volume.to_tree(alloc).map_err(|_| Wrong::NoMemory)?;
-            is_tree(alloc, tree, &came)
-        }
+        Ok(volume) => is_tree(alloc, tree, &volume.to_tree(alloc)?),
         Err(_) => Ok(()),
     }
 }

@@ -12,14 +12,14 @@ use std::alloc::Global;
 /// The tree of the lines of a manifest, told with ` | ` between them.
 pub fn tree_of_lines(alloc: Global, lines: &str) -> Result<Tree, Wrong> {
     let text = manifest_text(alloc, lines)?;
-    let (tree, _) = read_manifest(alloc, &text).map_err(|_| Wrong::Refused)?;
+    let (tree, _) = read_manifest(alloc, &text)?;
     Ok(tree)
 }
 
 /// The tree of an image.
 pub fn tree_of_image(alloc: Global, image: &[u8]) -> Result<Tree, Wrong> {
-    let volume = check(alloc, image).map_err(|_| Wrong::Refused)?;
-    volume.to_tree(alloc).map_err(|_| Wrong::NoMemory)
+    let volume = check(alloc, image)?;
+    Ok(volume.to_tree(alloc)?)
 }
 
 /// Says that a tree is not the one that is wanted, and of which entry; 0 is the root.

@@ -1,5 +1,9 @@
 // What can be wrong with a row.
 
+use adf_check::Fault;
+use adf_cmd::ManifestFault;
+use adf_fields::NoMemory;
+use adf_tree::PathFault;
 use std::alloc::{AllocError, AllocFailed};
 
 /// What is wrong with a row, and where its file tells it.
@@ -62,6 +66,30 @@ impl Wrong {
             Wrong::Other(other) => Wrong::Other(Difference { case, ..other }),
             wrong => wrong,
         }
+    }
+}
+
+impl From<Fault> for Wrong {
+    fn from(_e: Fault) -> Wrong {
+        Wrong::Refused
+    }
+}
+
+impl From<ManifestFault> for Wrong {
+    fn from(_e: ManifestFault) -> Wrong {
+        Wrong::Refused
+    }
+}
+
+impl From<PathFault> for Wrong {
+    fn from(_e: PathFault) -> Wrong {
+        Wrong::Unread
+    }
+}
+
+impl From<NoMemory> for Wrong {
+    fn from(_e: NoMemory) -> Wrong {
+        Wrong::NoMemory
     }
 }
 
