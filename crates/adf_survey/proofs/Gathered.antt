@@ -1,0 +1,103 @@
+-- What holds of every list of parts of which each was asked for, and lacking, when it came, whatever its block holds.
+use Rattle.std.proofs.Common.{◌≡◌, ℕ, zero, suc, List, [], ◌∷◌, inl, inr, ◌+◌, ◌*◌, ◌/◌, ◌<◌, ◌≤◌, refl, sym, ap, subst, ◌∙◌, arith}
+use Rattle.adf_blocks.specs.declared.layout.TheConstants.{MAP_EXT_PAGES, POINTERS, ROOT_PAGES}
+use Rattle.adf_volume.specs.Image.{root_of}
+use Rattle.adf_volume.specs.Walk.{Role, second, Same, Has, head_count, heads, NodeAt, DirAt, FileAt, MemberAt, NamesPage, Asks, Lacks}
+use Rattle.adf_volume.specs.Walk.Role.{Root, Page, MapExt, Head, Ext, Data}
+use Rattle.adf_volume.proofs.Walks.{asks_number, dir_is_node, heads_up, same_of}
+
+pub data IsGathered (image : List ℕ) : List (Role × ℕ) → Type 0 where
+  start : IsGathered image ((Root, root_of image) ∷ [])
+  step : {w : List (Role × ℕ)} {r : Role} (a i b : ℕ) → IsGathered image w → Asks image w r a i → Lacks w r → IsGathered image ((r, b) ∷ w)
+
+module _ (image : List ℕ) where
+  pub root_is : {w : List (Role × ℕ)} → IsGathered image w → (b : ℕ) → Has w Root b → root_of image ≡ b
+  root_is start b (inl e) = e.1
+  root_is start b (inr f) = absurd f
+  root_is (step {w = w} {r = r} a i b' v d l) b (inl e) = absurd (subst (λ r. Asks image w r a i) e.0 d)
+  root_is (step a i b' v d l) b (inr h) = root_is v b h
+
+  pub root_in : {w : List (Role × ℕ)} → IsGathered image w → Has w Root (root_of image)
+  root_in start = inl (refl, refl)
+  root_in (step a i b v d l) = inr (root_in v)
+
+  -- headers are numbered from 1
+  pub number_of : {w : List (Role × ℕ)} → IsGathered image w → (n p s j b : ℕ) → Has w (Head n p s j) b → (1 ≤ n) × (n ≤ heads w)
+  number_of start n p s j b (inl e) = let h : second Root ≡ second (Head n p s j) = ap second e.0 in absurd (omega arith)
+  number_of start n p s j b (inr f) = absurd f
+  number_of (step {w = w} {r = r} a i b' v d l) n p s j b (inl e) =
+      let k : n ≡ suc (heads w) = asks_number image w n p s j a i (subst (λ r. Asks image w r a i) e.0 d) in
+      subst (λ q. (1 ≤ n) × (n ≤ head_count q (heads w))) (sym e.0) (omega arith)
+  number_of (step {w = w} {r = r} a i b' v d l) n p s j b (inr h) =
+      let ih : (1 ≤ n) × (n ≤ heads w) = number_of v n p s j b h in
+      let up : heads w ≤ head_count r (heads w) = heads_up r (heads w) in
+      omega arith
+
+  -- a role has one block
+  pub one_block : {w : List (Role × ℕ)} → IsGathered image w → (r q : Role) (b c : ℕ) → Has w r b → Has w q c → Same r q → (r ≡ q) × (b ≡ c)
+  one_block start r q b c (inl e) (inl f) s = (sym e.0 ∙ f.0, sym e.1 ∙ f.1)
+  one_block start r q b c (inl e) (inr f) s = absurd f
+  one_block start r q b c (inr e) f s = absurd e
+  one_block (step a i b' v d l) r q b c (inl e) (inl f) s = (sym e.0 ∙ f.0, sym e.1 ∙ f.1)
+  one_block (step {r = z} a i b' v d l) r q b c (inl e) (inr f) s = let t : Same r z = same_of r z (sym e.0) in absurd (l q c f (omega arith))
+  one_block (step {r = z} a i b' v d l) r q b c (inr e) (inl f) s = let t : Same q z = same_of q z (sym f.0) in absurd (l r b e (omega arith))
+  one_block (step a i b' v d l) r q b c (inr e) (inr f) s = one_block v r q b c e f s
+
+  -- a number has one header
+  pub one_head : {w : List (Role × ℕ)} → IsGathered image w → (n p s j b p' s' j' b' : ℕ) → Has w (Head n p s j) b → Has w (Head n p' s' j') b' → b ≡ b'
+  one_head start n p s j b p' s' j' b' (inl e) f = let h : second Root ≡ second (Head n p s j) = ap second e.0 in absurd (omega arith)
+  one_head start n p s j b p' s' j' b' (inr e) f = absurd e
+  one_head (step a i c v d l) n p s j b p' s' j' b' (inl e) (inl f) = sym e.1 ∙ f.1
+  one_head (step {w = w} {r = r} a i c v d l) n p s j b p' s' j' b' (inl e) (inr f) =
+      let k : n ≡ suc (heads w) = asks_number image w n p s j a i (subst (λ r. Asks image w r a i) e.0 d) in
+      let h : (1 ≤ n) × (n ≤ heads w) = number_of v n p' s' j' b' f in
+      absurd (omega arith)
+  one_head (step {w = w} {r = r} a i c v d l) n p s j b p' s' j' b' (inr e) (inl f) =
+      let k : n ≡ suc (heads w) = asks_number image w n p' s' j' a i (subst (λ r. Asks image w r a i) f.0 d) in
+      let h : (1 ≤ n) × (n ≤ heads w) = number_of v n p s j b e in
+      absurd (omega arith)
+  one_head (step a i c v d l) n p s j b p' s' j' b' (inr e) (inr f) = one_head v n p s j b p' s' j' b' e f
+
+  module _ {w : List (Role × ℕ)} (v : IsGathered image w) where
+    node_one : (p a b : ℕ) → NodeAt w p a → NodeAt w p b → a ≡ b
+    node_one zero a b h k = sym (root_is v a h) ∙ root_is v b k
+    node_one (suc i) a b h k = one_head v (suc i) h.0 h.1 h.2 a k.0 k.1 k.2 b h.3 k.3
+
+    dir_one : (p a b : ℕ) → DirAt image w p a → DirAt image w p b → a ≡ b
+    dir_one p a b h k = node_one p a b (dir_is_node image w p a h) (dir_is_node image w p b k)
+
+    file_one : (n a b : ℕ) → FileAt image w n a → FileAt image w n b → a ≡ b
+    file_one n a b f g = one_head v n f.0.0 f.0.1 f.0.2 a g.0.0 g.0.1 g.0.2 b f.0.3 g.0.3
+
+    member_one : (n m a b : ℕ) → MemberAt image w n m a → MemberAt image w n m b → a ≡ b
+    member_one n zero a b h k = file_one n a b h k
+    member_one n (suc m) a b h k = (one_block v (Ext n (suc m)) (Ext n (suc m)) a b h k (refl, refl, refl)).1
+
+    names_one : (n a i b j : ℕ) → NamesPage image w n a i → NamesPage image w n b j → (a ≡ b) × (i ≡ j)
+    names_one n a i b j (inl h) (inl k) = (h.1 ∙ sym k.1, h.2 ∙ sym k.2)
+    names_one n a i b j (inl h) (inr k) = let x : n < ROOT_PAGES = h.0 in let y : n ≡ ROOT_PAGES + MAP_EXT_PAGES * k.0 + j = k.3 in absurd (omega arith)
+    names_one n a i b j (inr h) (inl k) = let x : n < ROOT_PAGES = k.0 in let y : n ≡ ROOT_PAGES + MAP_EXT_PAGES * h.0 + i = h.3 in absurd (omega arith)
+    names_one n a i b j (inr h) (inr k) =
+        let x : n ≡ ROOT_PAGES + MAP_EXT_PAGES * h.0 + i = h.3 in
+        let y : n ≡ ROOT_PAGES + MAP_EXT_PAGES * k.0 + j = k.3 in
+        let li : i < MAP_EXT_PAGES = h.2 in
+        let lj : j < MAP_EXT_PAGES = k.2 in
+        let e : h.0 ≡ k.0 = omega arith in
+        let f : i ≡ j = omega arith in
+        let k1 : Has w (MapExt h.0) b = subst (λ x. Has w (MapExt x) b) (sym e) k.1 in
+        ((one_block v (MapExt h.0) (MapExt h.0) a b h.1 k1 (refl, refl, refl)).1, f)
+
+    -- a role is asked for by one word
+    pub asks_one : (r : Role) (a i b j : ℕ) → Asks image w r a i → Asks image w r b j → (a ≡ b) × (i ≡ j)
+    asks_one Root a i b j h k = absurd h
+    asks_one (Page n) a i b j h k = names_one n a i b j h.1 k.1
+    asks_one (MapExt zero) a i b j h k = (h.1 ∙ sym k.1, h.2 ∙ sym k.2)
+    asks_one (MapExt (suc x)) a i b j h k = ((one_block v (MapExt x) (MapExt x) a b h.1 k.1 (refl, refl, refl)).1, h.2 ∙ sym k.2)
+    asks_one (Head n p s zero) a i b j h k = (dir_one p a b h.2 k.2, h.3 ∙ sym k.3)
+    asks_one (Head n p s (suc x)) a i b j h k =
+        ((one_block v (Head h.1.0 p s x) (Head k.1.0 p s x) a b h.1.1 k.1.1 (refl, refl, refl)).1, h.2 ∙ sym k.2)
+    asks_one (Ext n zero) a i b j h k = absurd h
+    asks_one (Ext n (suc zero)) a i b j h k = (file_one n a b h.0 k.0, h.1 ∙ sym k.1)
+    asks_one (Ext n (suc (suc x))) a i b j h k = ((one_block v (Ext n (suc x)) (Ext n (suc x)) a b h.0 k.0 (refl, refl, refl)).1, h.1 ∙ sym k.1)
+    asks_one (Data n zero) a i b j h k = absurd h
+    asks_one (Data n (suc x)) a i b j h k = (member_one n (x / POINTERS) a b h.1 k.1, h.2 ∙ sym k.2)

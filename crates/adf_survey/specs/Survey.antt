@@ -1,0 +1,106 @@
+-- Surveys of an image: a walk that goes on where a part has a cause, and all that has one.
+-- Letters: s a course; r, q roles; b the block of a role; a, i (d, k) the block and the word that name one; at, c the block and the cause that are noted;
+-- j a judgement; fs findings; n how many blocks.
+use Rattle.std.specs.Prelude.{◌≡◌, ℕ, Bool, true, false, List, [], ◌∷◌, ◌++◌, ◌-◌, ◌/◌, Option, Some, None}
+use Rattle.std.proofs.Common.{suc}
+use Rattle.adf_blocks.specs.declared.cause.Cause.{Cause}
+use Rattle.adf_blocks.specs.declared.cause.Cause.TheVariants.{BadSum, Link, BadName, BadComment, WrongSlot, BadFirst, SameName, ShortFile}
+use Rattle.adf_blocks.specs.declared.layout.TheConstants.{PAGE_BITS}
+use Rattle.adf_blocks.specs.Sizes.{blocks}
+use Rattle.adf_volume.specs.Image.{word_in, root_of}
+use Rattle.adf_volume.specs.Demands.{Demand, AllHold, FirstFails, boot_demands, root_demands}
+use Rattle.adf_volume.specs.Walk.{Role, Before, Has, Asks, Lacks, IsAbsent, demands, bitmap_demands}
+use Rattle.adf_volume.specs.Walk.Role.{Root, Page}
+
+-- What is wrong: the part that it concerns, where it concerns one; the block that is named; the cause.
+pub record Finding : Type 0 where
+  pub part : Option Role
+  pub block : ℕ
+  pub cause : Cause
+
+-- a finding of these three
+abbrev pub finding : Option Role → ℕ → Cause → Finding
+finding r at c = record { part = r; block = at; cause = c }
+
+-- the cause says nothing against the block being the part
+abbrev pub is_slight : Cause → Bool
+is_slight ShortFile = true
+is_slight BadSum = true
+is_slight Link = true
+is_slight BadName = true
+is_slight BadComment = true
+is_slight WrongSlot = true
+is_slight BadFirst = true
+is_slight SameName = true
+is_slight _ = false
+
+-- a part with this cause is taken all the same; but not a page, of which nothing tells beside its sum
+abbrev pub is_kept : Role → Cause → Bool
+is_kept (Page i) c = false
+is_kept _ c = is_slight c
+
+-- the block is in range, no one else's, and says of itself that it is the part: each demand holds but those of slight causes
+abbrev pub IsItself : Role → List Demand → Type 0
+IsItself r [] = Unit {0}
+IsItself r (x ∷ xs) = (is_kept r x.cause ≡ false → x.holds) × IsItself r xs
+
+-- How a part is judged that is next: it has no cause; it has one, which is noted, and is taken all the same; it has one and is passed over.
+pub data Judgement : Type 0 where
+  clean : Judgement
+  noted : (at : ℕ) (c : Cause) → Judgement
+  passed : (at : ℕ) (c : Cause) → Judgement
+
+-- the demands of the part lead to this judgement
+abbrev pub Judged : Role → List Demand → Judgement → Type 0
+Judged r xs clean = AllHold xs
+Judged r xs (noted at c) = FirstFails xs at c × IsItself r xs
+Judged r xs (passed at c) = FirstFails xs at c × (IsItself r xs → ⊥)
+
+-- How far a survey is: its walk, and the parts that were passed over with their blocks, the newest first; what was found, in order.
+pub record Course : Type 0 where
+  pub walk : List (Role × ℕ)
+  pub passed_over : List (Role × ℕ)
+  pub findings : List Finding
+
+-- the part that was next, at block b, is taken or passed over, and its cause is noted
+abbrev pub after : Course → Role → ℕ → Judgement → Course
+after s r b clean = record { walk = (r, b) ∷ s.walk; passed_over = s.passed_over; findings = s.findings }
+after s r b (noted at c) = record { walk = (r, b) ∷ s.walk; passed_over = s.passed_over; findings = s.findings ++ finding (Some r) at c ∷ [] }
+after s r b (passed at c) = record { walk = s.walk; passed_over = (r, b) ∷ s.passed_over; findings = s.findings ++ finding (Some r) at c ∷ [] }
+
+-- the least role that the walk asks for and that is neither in the walk nor passed over
+pub record IsNext (image : List ℕ) (s : Course) (r : Role) (a i : ℕ) : Type 0 where
+  pub asked : Asks image s.walk r a i
+  pub lacks : Lacks s.walk r
+  pub unpassed : Lacks s.passed_over r
+  pub least : (q : Role) (d k : ℕ) → Asks image s.walk q d k → Lacks s.walk q → Lacks s.passed_over q → Before q r → ⊥
+
+-- a course begins with the root, and each part that is next in turn is judged by its demands
+pub data IsCourse (image : List ℕ) : Course → Type 0 where
+  start : IsCourse image (record { walk = (Root, root_of image) ∷ []; passed_over = []; findings = [] })
+  step : {s : Course} {r : Role} {a i : ℕ} (j : Judgement) → IsCourse image s → IsNext image s r a i
+      → Judged r (demands image s.walk r a (word_in image a i)) j → IsCourse image (after s r (word_in image a i) j)
+
+-- nothing is next
+abbrev pub IsDone : List ℕ → Course → Type 0
+IsDone image s = (r : Role) (a i : ℕ) → Asks image s.walk r a i → Lacks s.walk r → Lacks s.passed_over r → ⊥
+
+-- the bit of block b is compared: its page is in the walk, and the block is, or was not passed over
+abbrev pub IsCompared : Course → ℕ → Type 0
+IsCompared s b = ((page : ℕ) × Has s.walk (Page ((b - 2) / PAGE_BITS)) page) × (IsAbsent s.walk b → IsAbsent s.passed_over b)
+
+-- what the bits of n blocks tell, from b on: a finding for each that is compared and disagrees with the walk
+pub data BitsTell (image : List ℕ) (s : Course) : ℕ → ℕ → List Finding → Type 0 where
+  ends : {b : ℕ} → BitsTell image s b 0 []
+  agrees : {b n : ℕ} {fs : List Finding} → (IsCompared s b → AllHold (bitmap_demands image s.walk b 1)) → BitsTell image s (suc b) n fs
+      → BitsTell image s b (suc n) fs
+  differs : {b n at : ℕ} {c : Cause} {fs : List Finding} → IsCompared s b → FirstFails (bitmap_demands image s.walk b 1) at c
+      → BitsTell image s (suc b) n fs → BitsTell image s b (suc n) (finding None at c ∷ fs)
+
+-- The walk and the findings of an image. A cause of size, boot bytes or root is the only finding; else the parts are gone through until
+-- nothing is next, and then the bits are compared.
+pub data IsSurvey (image : List ℕ) : List (Role × ℕ) → List Finding → Type 0 where
+  unread : {at : ℕ} {c : Cause} → FirstFails (boot_demands image ++ root_demands image (root_of image)) at c
+      → IsSurvey image [] (finding None at c ∷ [])
+  read : {s : Course} {bits : List Finding} → AllHold (boot_demands image ++ root_demands image (root_of image)) → IsCourse image s → IsDone image s
+      → BitsTell image s 2 (blocks image - 2) bits → IsSurvey image s.walk (s.findings ++ bits)

@@ -1,0 +1,25 @@
+// The laws of surveys. Each is the contract of a function that does nothing.
+
+ghost use Rattle.std.specs.Prelude.{◌≡◌, ℕ, List, [], ◌∷◌};
+ghost use Rattle.adf_tree.specs.Tree.{Tree};
+ghost use Rattle.adf_volume.specs.Fits.{Fits};
+ghost use Rattle.adf_volume.specs.Layout.{Layout};
+ghost use Rattle.adf_volume.specs.Made.{layout_in, tree_in};
+ghost use Rattle.adf_volume.specs.Walk.{FirstFault, Role};
+ghost use Rattle.adf_survey.specs.Survey.{Finding, IsSurvey};
+
+/// An image has one survey at most.
+pub fn one_survey()
+    ensures { (image : List ℕ) (w u : List (Role × ℕ)) (fs gs : List Finding) → IsSurvey image w fs → IsSurvey image u gs → (w ≡ u) × (fs ≡ gs) }
+{}
+
+/// The first finding of an image is its first fault.
+pub fn first_finding()
+    ensures { (image : List ℕ) (w : List (Role × ℕ)) (f : Finding) (fs : List Finding) → IsSurvey image w (f ∷ fs) → FirstFault image f.block f.cause }
+{}
+
+/// An image without findings is a volume, of the tree and the layout that the walk tells; and no volume has a finding.
+pub fn no_finding()
+    ensures fits { (image : List ℕ) (w : List (Role × ℕ)) → IsSurvey image w [] → Fits image (tree_in image w) (layout_in w) }
+    ensures none { (image : List ℕ) (t : Tree) (l : Layout) (w : List (Role × ℕ)) (fs : List Finding) → Fits image t l → IsSurvey image w fs → fs ≡ [] }
+{}
