@@ -10,11 +10,11 @@ use Rattle.adf_volume.specs.Walk.Role.{Root, Page, MapExt, Head, Ext, Data}
 use Rattle.adf_volume.proofs.Walks.{renumbered, same_refl, dir_is_node, root_in, number_of, numbered, one_block, one_node, file_is, dec_has, has_role, head_key}
 
 -- whether what is unique passes a test
-dec_where : (A T : ℕ → Type 0) → ((a b : ℕ) → A a → A b → a ≡ b) → ((a : ℕ) → Dec (T a)) → Dec ((a : ℕ) × A a) → Dec ((a : ℕ) × A a × T a)
+pub dec_where : (A T : ℕ → Type 0) → ((a b : ℕ) → A a → A b → a ≡ b) → ((a : ℕ) → Dec (T a)) → Dec ((a : ℕ) × A a) → Dec ((a : ℕ) × A a × T a)
 dec_where A T one test (no n) = no (λ x. n (x.0, x.1))
 dec_where A T one test (yes x) = elim (test x.0) [ yes y ↦ yes (x.0, x.1, y) | no n ↦ no (λ y. n (subst T (one y.0 x.0 y.1 x.1) y.2)) ]
 
-dec_not_zero : (x : ℕ) → Dec (x ≢ 0)
+pub dec_not_zero : (x : ℕ) → Dec (x ≢ 0)
 dec_not_zero x = elim (ℕ_discrete x 0) [ yes e ↦ no (λ n. n e) | no n ↦ yes n ]
 
 -- the walk asks for the role by some word, with the next number if it is a header's

@@ -41,7 +41,7 @@ not_before_self : (r : Role) → Before r r → ⊥
 not_before_self r b = let l : third r < third r = b.2 refl refl in omega arith
 
 -- the first of the roles that pass a test
-least : (P : Role → Type 0) → ((r : Role) → Dec (P r)) → (rs : List Role)
+pub least : (P : Role → Type 0) → ((r : Role) → Dec (P r)) → (rs : List Role)
     → ((r : Role) → In rs r → P r → ⊥) ⊎ ((r : Role) × In rs r × P r × ((q : Role) → In rs q → P q → Before q r → ⊥))
 least P test [] = inl (λ r i p. i)
 least P test (z ∷ rs) =
@@ -68,17 +68,17 @@ least P test (z ∷ rs) =
     ]
 
 -- a list without one member
-without : (rs : List Role) (r : Role) → In rs r → (rest : List Role) × (length rs ≡ suc (length rest)) × ((q : Role) → In rs q → (q ≡ r → ⊥) → In rest q)
+pub without : {X : Type 0} (rs : List X) (r : X) → In rs r → (rest : List X) × (length rs ≡ suc (length rest)) × ((q : X) → In rs q → (q ≡ r → ⊥) → In rest q)
 without [] r i = absurd i
 without (z ∷ rs) r (inl e) = (rs, refl, (λ q i n. elim i [ inl f ↦ absurd (n (sym f ∙ e)) | inr j ↦ j ]))
 without (z ∷ rs) r (inr i) =
     let x = without rs r i in
     (z ∷ x.0, ap suc x.1, (λ q j n. elim j [ inl f ↦ inl f | inr k ↦ inr (x.2 q k n) ]))
 
-lacks_same : (w : List (Role × ℕ)) (r q : Role) → Same q r → Lacks w r → Lacks w q
+pub lacks_same : (w : List (Role × ℕ)) (r q : Role) → Same q r → Lacks w r → Lacks w q
 lacks_same w r q s l y b h k = l y b h (omega arith)
 
-dec_lacks : (w : List (Role × ℕ)) (r : Role) → Dec (Lacks w r)
+pub dec_lacks : (w : List (Role × ℕ)) (r : Role) → Dec (Lacks w r)
 dec_lacks w r = elim (dec_has w r) [ inl l ↦ yes l | inr y ↦ no (λ l. l y.0 y.1 y.2 y.3) ]
 
 module _ (image : List ℕ) (t : Tree) (l : Layout) (fit : Fits image t l) where

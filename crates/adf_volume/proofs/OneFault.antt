@@ -15,7 +15,7 @@ use Rattle.adf_volume.proofs.Lists.{fails_not_all}
 use Rattle.adf_volume.proofs.Walks.{same_role, asks_number, one_block, one_node, one_head, dec_same}
 use Rattle.adf_volume.proofs.WalkOrder.{before_total}
 
-fails_one : (xs : List Demand) (b : ℕ) (c : Cause) (b' : ℕ) (c' : Cause) → FirstFails xs b c → FirstFails xs b' c' → (b ≡ b') × (c ≡ c')
+pub fails_one : (xs : List Demand) (b : ℕ) (c : Cause) (b' : ℕ) (c' : Cause) → FirstFails xs b c → FirstFails xs b' c' → (b ≡ b') × (c ≡ c')
 fails_one [] b c b' c' h k = absurd h
 fails_one (x ∷ xs) b c b' c' (inl h) (inl k) = (sym h.1 ∙ k.1, sym h.2 ∙ k.2)
 fails_one (x ∷ xs) b c b' c' (inl h) (inr k) = absurd (h.0 k.0)
