@@ -1,5 +1,6 @@
 -- What holds of every list of parts of which each was asked for, and lacking, when it came, whatever its block holds.
 use Rattle.std.proofs.Common.{◌≡◌, ℕ, zero, suc, List, [], ◌∷◌, inl, inr, ◌+◌, ◌*◌, ◌/◌, ◌<◌, ◌≤◌, refl, sym, ap, subst, ◌∙◌, arith}
+use native.Mathlib.Decide.{dec_le}
 use Rattle.adf_blocks.specs.declared.layout.TheConstants.{MAP_EXT_PAGES, POINTERS, ROOT_PAGES}
 use Rattle.adf_volume.specs.Image.{root_of}
 use Rattle.adf_volume.specs.Walk.{Role, second, Same, Has, head_count, heads, NodeAt, DirAt, FileAt, MemberAt, NamesPage, Asks, Lacks}
@@ -33,6 +34,24 @@ module _ (image : List ℕ) where
       let up : heads w ≤ head_count r (heads w) = heads_up r (heads w) in
       omega arith
 
+  -- each number up to the count is a header's
+  pub numbered : {w : List (Role × ℕ)} → IsGathered image w → (n : ℕ) → 1 ≤ n → n ≤ heads w → (p s j b : ℕ) × Has w (Head n p s j) b
+  numbered start n l u = absurd (omega arith)
+  numbered (step {w = w} {r = r} a i b v d e) n l u = numbered_step r refl (numbered v n l)
+    where
+      older : ((p s j b : ℕ) × Has w (Head n p s j) b) → (p s j b' : ℕ) × Has ((r, b) ∷ w) (Head n p s j) b'
+      older h = (h.0, h.1, h.2, h.3, inr h.4)
+
+      numbered_step : (q : Role) → r ≡ q → (n ≤ heads w → (p s j b : ℕ) × Has w (Head n p s j) b) → (p s j b' : ℕ) × Has ((r, b) ∷ w) (Head n p s j) b'
+      numbered_step (Head m p s j) z ih =
+          let u' : n ≤ suc (heads w) = subst (λ q. n ≤ head_count q (heads w)) z u in
+          let e : m ≡ suc (heads w) = asks_number image w m p s j a i (subst (λ r. Asks image w r a i) z d) in
+          elim (dec_le n (heads w)) [
+            | yes k ↦ older (ih k)
+            | no k ↦ let y : m ≡ n = omega arith in (p, s, j, b, inl (z ∙ ap (λ m. Head m p s j) y, refl))
+          ]
+      numbered_step _ z ih = older (ih (subst (λ q. n ≤ head_count q (heads w)) z u))
+
   -- a role has one block
   pub one_block : {w : List (Role × ℕ)} → IsGathered image w → (r q : Role) (b c : ℕ) → Has w r b → Has w q c → Same r q → (r ≡ q) × (b ≡ c)
   one_block start r q b c (inl e) (inl f) s = (sym e.0 ∙ f.0, sym e.1 ∙ f.1)
@@ -59,14 +78,14 @@ module _ (image : List ℕ) where
   one_head (step a i c v d l) n p s j b p' s' j' b' (inr e) (inr f) = one_head v n p s j b p' s' j' b' e f
 
   module _ {w : List (Role × ℕ)} (v : IsGathered image w) where
-    node_one : (p a b : ℕ) → NodeAt w p a → NodeAt w p b → a ≡ b
+    pub node_one : (p a b : ℕ) → NodeAt w p a → NodeAt w p b → a ≡ b
     node_one zero a b h k = sym (root_is v a h) ∙ root_is v b k
     node_one (suc i) a b h k = one_head v (suc i) h.0 h.1 h.2 a k.0 k.1 k.2 b h.3 k.3
 
-    dir_one : (p a b : ℕ) → DirAt image w p a → DirAt image w p b → a ≡ b
+    pub dir_one : (p a b : ℕ) → DirAt image w p a → DirAt image w p b → a ≡ b
     dir_one p a b h k = node_one p a b (dir_is_node image w p a h) (dir_is_node image w p b k)
 
-    file_one : (n a b : ℕ) → FileAt image w n a → FileAt image w n b → a ≡ b
+    pub file_one : (n a b : ℕ) → FileAt image w n a → FileAt image w n b → a ≡ b
     file_one n a b f g = one_head v n f.0.0 f.0.1 f.0.2 a g.0.0 g.0.1 g.0.2 b f.0.3 g.0.3
 
     member_one : (n m a b : ℕ) → MemberAt image w n m a → MemberAt image w n m b → a ≡ b

@@ -1,5 +1,10 @@
--- parts that were asked for in turn
+-- parts that were asked for in turn, and what they ask for
 pub mod Gathered
--- the first finding, and surveys without one; one survey at most
+pub mod Asking
+-- how a part is judged
+pub mod Judging
+-- the first finding, and surveys without one
 pub mod FirstFindings
+-- an image has one survey, and has one
 pub mod OneSurvey
+pub mod SomeSurvey

@@ -1,14 +1,14 @@
 -- An image has one survey at most.
 use Rattle.std.specs.Prelude.{None}
-use Rattle.std.proofs.Common.{◌≡◌, ℕ, suc, List, [], ◌∷◌, ◌++◌, inl, inr, ◌+◌, ◌-◌, ◌<◌, length, refl, sym, subst, ◌∙◌, arith}
+use Rattle.std.proofs.Common.{◌≡◌, ℕ, suc, List, [], ◌∷◌, ◌++◌, ◌+◌, ◌-◌, ◌<◌, length, refl, sym, subst, ◌∙◌, arith}
 use native.Mathlib.Decide.{dec_lt}
-use Rattle.adf_blocks.specs.declared.cause.Cause.{Cause}
 use Rattle.adf_blocks.specs.Sizes.{blocks}
 use Rattle.adf_volume.specs.Image.{word_in, root_of}
-use Rattle.adf_volume.specs.Demands.{Demand, FirstFails, boot_demands, root_demands}
+use Rattle.adf_volume.specs.Demands.{Demand, boot_demands, root_demands}
 use Rattle.adf_volume.specs.Walk.{Role, Before, Same, heads, Asks, demands, bitmap_demands}
 use Rattle.adf_volume.specs.Walk.Role.{Head}
 use Rattle.adf_volume.proofs.Lists.{fails_not_all}
+use Rattle.adf_volume.proofs.OneFault.{fails_one}
 use Rattle.adf_volume.proofs.Walks.{asks_number, dec_same, same_role}
 use Rattle.adf_volume.proofs.WalkOrder.{before_total}
 use Rattle.adf_survey.specs.Survey.{Finding, finding, Judgement, Judged, Course, after, IsNext, IsCourse, IsDone, BitsTell, IsSurvey}
@@ -18,13 +18,6 @@ use Rattle.adf_survey.specs.Survey.BitsTell.{ends, agrees, differs}
 use Rattle.adf_survey.specs.Survey.IsSurvey.{unread, read}
 use Rattle.adf_survey.proofs.Gathered.{IsGathered, asks_one}
 use Rattle.adf_survey.proofs.Gathered.IsGathered.{start as gathered_start, step as gathered_step}
-
-fails_one : (xs : List Demand) (b : ℕ) (c : Cause) (b' : ℕ) (c' : Cause) → FirstFails xs b c → FirstFails xs b' c' → (b ≡ b') × (c ≡ c')
-fails_one [] b c b' c' h k = absurd h
-fails_one (x ∷ xs) b c b' c' (inl h) (inl k) = (sym h.1 ∙ k.1, sym h.2 ∙ k.2)
-fails_one (x ∷ xs) b c b' c' (inl h) (inr k) = absurd (h.0 k.0)
-fails_one (x ∷ xs) b c b' c' (inr h) (inl k) = absurd (k.0 h.0)
-fails_one (x ∷ xs) b c b' c' (inr h) (inr k) = fails_one xs b c b' c' h.1 k.1
 
 -- a part is judged in one way
 judged_one : (r : Role) (xs : List Demand) (j k : Judgement) → Judged r xs j → Judged r xs k → j ≡ k

@@ -8,6 +8,12 @@ ghost use Rattle.adf_volume.specs.Made.{layout_in, tree_in};
 ghost use Rattle.adf_volume.specs.Walk.{FirstFault, Role};
 ghost use Rattle.adf_survey.specs.Survey.{Finding, IsSurvey};
 
+/// Each image has a survey.
+#[tactic(auto, using(crate::proofs::SomeSurvey::some_survey))]
+pub fn some_survey()
+    ensures { (image : List ℕ) → (w : List (Role × ℕ)) × (fs : List Finding) × IsSurvey image w fs }
+{}
+
 /// An image has one survey at most.
 pub fn one_survey()
     ensures { (image : List ℕ) (w u : List (Role × ℕ)) (fs gs : List Finding) → IsSurvey image w fs → IsSurvey image u gs → (w ≡ u) × (fs ≡ gs) }

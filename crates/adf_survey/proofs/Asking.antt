@@ -1,0 +1,152 @@
+-- Whether a list of parts that were asked for in turn asks for a role.
+use Rattle.std.proofs.Common.{◌≡◌, ℕ, zero, suc, List, inl, inr, ◌+◌, ◌-◌, ◌*◌, ◌/◌, ◌%◌, ◌<◌, ◌≤◌, ◌≢◌, refl, ap, subst, ◌∙◌, arith}
+use native.Mathlib.Decide.{dec_le, dec_lt, map_dec, ℕ_discrete}
+use Rattle.adf_blocks.specs.declared.layout.TheConstants.{EXTENSION, FIRST_MAP_EXT, FIRST_PAGE, FIRST_SLOT, MAP_EXT_NEXT, MAP_EXT_PAGES, NEXT_IN_CHAIN}
+use Rattle.adf_blocks.specs.declared.layout.TheConstants.{POINTERS, ROOT_PAGES, SECONDARY_TYPE, SLOTS, ST_DIR, ST_FILE}
+use Rattle.adf_blocks.specs.Sizes.{blocks, pages_needed}
+use Rattle.adf_volume.specs.Image.{root_of, word_in, table_word}
+use Rattle.adf_volume.specs.Walk.{Role, second, Has, heads, DirAt, FileAt, MemberAt, data_count}
+use Rattle.adf_volume.specs.Walk.Role.{Root, Page, MapExt, Head, Ext, Data}
+use Rattle.adf_volume.proofs.DecidedAsks.{Asked, dec_where, dec_not_zero}
+use Rattle.adf_volume.proofs.Walks.{same_refl, dec_has, has_role, head_key}
+use Rattle.adf_survey.proofs.Gathered.{IsGathered, root_in, number_of, numbered, one_block, node_one, dir_one, file_one}
+
+module _ (image : List ℕ) (w : List (Role × ℕ)) (v : IsGathered image w) where
+  -- whether the walk has a role that is no header's
+  pub dec_low : (r : Role) → second r < 2 → Dec ((b : ℕ) × Has w r b)
+  dec_low r low =
+      elim (dec_has w r) [
+        | inl l ↦ no (λ x. l r x.0 x.1 (same_refl r))
+        | inr y ↦ yes (y.1, has_role image w r (λ n p s j z. let x : second r ≡ second (Head n p s j) = ap second z in omega arith) y.0 y.1 y.2 y.3)
+      ]
+
+  pub one_low : (r : Role) (a b : ℕ) → Has w r a → Has w r b → a ≡ b
+  one_low r a b h k = (one_block image v r r a b h k (same_refl r)).1
+
+  abbrev InChain : ℕ → ℕ → ℕ → ℕ → Type 0
+  InChain p s j a = (m : ℕ) × Has w (Head m p s j) a
+
+  -- whether the walk has a header at a place
+  dec_chain : (p s j : ℕ) → Dec ((a : ℕ) × InChain p s j a)
+  dec_chain p s j =
+      elim (dec_has w (Head 0 p s j)) [
+        | inl l ↦ no (λ x. l (Head x.1.0 p s j) x.0 x.1.1 (refl, refl, refl))
+        | inr y ↦ let z = head_key 0 p s j y.0 y.3 in yes (y.1, (z.0, subst (λ r. Has w r y.1) z.1 y.2))
+      ]
+
+  one_chain : (p s j a b : ℕ) → InChain p s j a → InChain p s j b → a ≡ b
+  one_chain p s j a b h k = (one_block image v (Head h.0 p s j) (Head k.0 p s j) a b h.1 k.1 (refl, refl, refl)).1
+
+  -- whether the walk has a header of a number
+  abbrev HeadAt : ℕ → ℕ → Type 0
+  HeadAt n a = (p s j : ℕ) × Has w (Head n p s j) a
+
+  dec_head : (n : ℕ) → Dec ((a : ℕ) × HeadAt n a)
+  dec_head n =
+      let known : (x : (a : ℕ) × HeadAt n a) → (1 ≤ n) × (n ≤ heads w) = (λ x. number_of image v n x.1.0 x.1.1 x.1.2 x.0 x.1.3) in
+      elim (dec_le 1 n) [
+        | no l ↦ no (λ x. l (known x).0)
+        | yes l ↦ elim (dec_le n (heads w)) [
+          | no u ↦ no (λ x. u (known x).1)
+          | yes u ↦ let k = numbered image v n l u in yes (k.3, (k.0, k.1, k.2, k.4))
+        ]
+      ]
+
+  one_head_block : (n a b : ℕ) → HeadAt n a → HeadAt n b → a ≡ b
+  one_head_block zero a b h k = absurd (let x : (1 ≤ 0) × (0 ≤ heads w) = number_of image v 0 h.0 h.1 h.2 a h.3 in omega arith)
+  one_head_block (suc i) a b h k = node_one image v (suc i) a b h k
+
+  -- whether a node is a directory
+  dec_dir : (p : ℕ) → Dec ((a : ℕ) × DirAt image w p a)
+  dec_dir zero = yes (root_of image, root_in image v)
+  dec_dir (suc i) =
+      map_dec (λ x. (x.0, (x.1, x.2))) (λ x. (x.0, x.1.0, x.1.1))
+      (dec_where (HeadAt (suc i)) (λ a. word_in image a SECONDARY_TYPE ≡ ST_DIR) (one_head_block (suc i))
+      (λ a. ℕ_discrete (word_in image a SECONDARY_TYPE) ST_DIR) (dec_head (suc i)))
+
+  -- whether a node is a file
+  pub dec_file : (n : ℕ) → Dec ((a : ℕ) × FileAt image w n a)
+  dec_file n =
+      map_dec (λ x. (x.0, (x.1, x.2))) (λ x. (x.0, x.1.0, x.1.1))
+      (dec_where (HeadAt n) (λ a. word_in image a SECONDARY_TYPE ≡ ST_FILE) (one_head_block n)
+      (λ a. ℕ_discrete (word_in image a SECONDARY_TYPE) ST_FILE) (dec_head n))
+
+  dec_member : (n m : ℕ) → Dec ((a : ℕ) × MemberAt image w n m a)
+  dec_member n zero = dec_file n
+  dec_member n (suc m) = dec_low (Ext n (suc m)) (omega arith)
+
+  dec_page : (k : ℕ) → Dec (Asked image w (Page k))
+  dec_page k =
+      let j : ℕ = (k - ROOT_PAGES) / MAP_EXT_PAGES in
+      elim (dec_lt k (pages_needed (blocks image))) [
+        | no n ↦ no (λ x. n x.2.0)
+        | yes lt ↦ elim (dec_lt k ROOT_PAGES) [
+          | yes l ↦ yes (root_of image, FIRST_PAGE + k, (lt, inl (l, refl, refl)))
+          | no l ↦ elim (dec_low (MapExt j) (omega arith)) [
+            | yes m ↦ yes (m.0, (k - ROOT_PAGES) % MAP_EXT_PAGES, (lt, inr (j, m.1, omega arith, omega arith)))
+            | no n ↦ no (λ x. elim x.2.1 [
+              | inl e ↦ l e.0
+              | inr y ↦
+                  let u : x.1 < MAP_EXT_PAGES = y.2 in
+                  let z : k ≡ ROOT_PAGES + MAP_EXT_PAGES * y.0 + x.1 = y.3 in
+                  let e : y.0 ≡ j = omega arith in
+                  n (x.0, subst (λ j. Has w (MapExt j) x.0) e y.1)
+            ])
+          ]
+        ]
+      ]
+
+  -- whether the walk asks for a role
+  pub dec_asked : (r : Role) → Dec (Asked image w r)
+  dec_asked Root = no (λ x. x.2)
+  dec_asked (Page k) = dec_page k
+  dec_asked (MapExt zero) =
+      elim (dec_lt ROOT_PAGES (pages_needed (blocks image))) [
+        | yes l ↦ yes (root_of image, FIRST_MAP_EXT, (l, refl, refl))
+        | no n ↦ no (λ x. n x.2.0)
+      ]
+  dec_asked (MapExt (suc j)) =
+      elim (dec_lt (ROOT_PAGES + MAP_EXT_PAGES * suc j) (pages_needed (blocks image))) [
+        | yes l ↦ elim (dec_low (MapExt j) (omega arith)) [
+          | yes m ↦ yes (m.0, MAP_EXT_NEXT, (l, m.1, refl))
+          | no n ↦ no (λ x. n (x.0, x.2.1))
+        ]
+        | no n ↦ no (λ x. n x.2.0)
+      ]
+  dec_asked (Head n p s zero) =
+      elim (dec_lt s SLOTS) [
+        | yes l ↦ elim (dec_where (DirAt image w p) (λ a. word_in image a (FIRST_SLOT + s) ≢ 0) (dir_one image v p)
+            (λ a. dec_not_zero (word_in image a (FIRST_SLOT + s))) (dec_dir p)) [
+              | yes y ↦ yes (y.0, FIRST_SLOT + s, (refl, l, y.1, refl, y.2))
+              | no m ↦ no (λ x. m (x.0, x.2.2, (λ z. x.2.4 (ap (word_in image x.0) x.2.3 ∙ z))))
+            ]
+        | no m ↦ no (λ x. m x.2.1)
+      ]
+  dec_asked (Head n p s (suc j)) =
+      elim (dec_where (InChain p s j) (λ a. word_in image a NEXT_IN_CHAIN ≢ 0) (one_chain p s j)
+      (λ a. dec_not_zero (word_in image a NEXT_IN_CHAIN)) (dec_chain p s j)) [
+        | yes y ↦ yes (y.0, NEXT_IN_CHAIN, (refl, y.1, refl, y.2))
+        | no m ↦ no (λ x. m (x.0, x.2.1, (λ z. x.2.3 (ap (word_in image x.0) x.2.2 ∙ z))))
+      ]
+  dec_asked (Ext n zero) = no (λ x. x.2)
+  dec_asked (Ext n (suc zero)) =
+      elim (dec_where (FileAt image w n) (λ a. word_in image a EXTENSION ≢ 0) (file_one image v n)
+      (λ a. dec_not_zero (word_in image a EXTENSION)) (dec_file n)) [
+        | yes y ↦ yes (y.0, EXTENSION, (y.1, refl, y.2))
+        | no m ↦ no (λ x. m (x.0, x.2.0, (λ z. x.2.2 (ap (word_in image x.0) x.2.1 ∙ z))))
+      ]
+  dec_asked (Ext n (suc (suc k))) =
+      elim (dec_where (Has w (Ext n (suc k))) (λ a. word_in image a EXTENSION ≢ 0) (one_low (Ext n (suc k)))
+      (λ a. dec_not_zero (word_in image a EXTENSION)) (dec_low (Ext n (suc k)) (omega arith))) [
+        | yes y ↦ yes (y.0, EXTENSION, (y.1, refl, y.2))
+        | no m ↦ no (λ x. m (x.0, x.2.0, (λ z. x.2.2 (ap (word_in image x.0) x.2.1 ∙ z))))
+      ]
+  dec_asked (Data n zero) = no (λ x. x.2)
+  dec_asked (Data n (suc k)) =
+      elim (dec_where (FileAt image w n) (λ h. k < data_count image h) (file_one image v n) (λ h. dec_lt k (data_count image h)) (dec_file n)) [
+        | yes h ↦ elim (dec_member n (k / POINTERS)) [
+          | yes m ↦ yes (m.0, table_word k, ((h.0, h.1, h.2), m.1, refl))
+          | no m ↦ no (λ x. m (x.0, x.2.1))
+        ]
+        | no h ↦ no (λ x. h (x.2.0.0, x.2.0.1, x.2.0.2))
+      ]
