@@ -1,0 +1,267 @@
+#!/usr/bin/env python3
+"""The survey of an image by its definition (crates/adf_survey): every part that has a cause, and what is found all the same.
+
+    bench/survey.py < IMAGE      a line for each finding with the path that it concerns, then a line for each entry, sound or damaged
+
+What is next is the least role that the walk asks for and that is neither in the walk nor passed over; no order of reading is followed.
+A role is its key (first, second, third), its name, and its numbers.
+"""
+
+import sys
+from struct import unpack_from
+
+SLOTS, POINTERS, ROOT_PAGES, MAP_PAGES, PAGE_BITS = 72, 72, 25, 127, 4064
+DIR, FILE, LINKS = 2, 2**32 - 3, (3, 4, 2**32 - 4)
+SLIGHT = {"short file", "bad sum", "link", "bad name", "bad comment", "wrong slot", "bad first", "same name"}
+
+
+def upper(name):
+    return bytes(c - 32 if 97 <= c <= 122 else c for c in name)
+
+
+def slot(name):
+    h = len(name)
+    for c in upper(name):
+        h = (h * 13 + c) % 2048
+    return h % SLOTS
+
+
+def page(i):
+    return (0, 1, i + (i + MAP_PAGES - ROOT_PAGES) // MAP_PAGES), "page", i
+
+
+def map_ext(j):
+    return (0, 1, ROOT_PAGES + (1 + MAP_PAGES) * j), "map", j
+
+
+def head(p, s, j):
+    return (p + 1, s + 2, j), "head", p, s, j
+
+
+def ext(n, k):
+    return (n + 1, 0, k), "ext", n, k
+
+
+def data(n, k):
+    return (n + 1, 1, k), "data", n, k
+
+
+class Survey:
+    def __init__(self, image):
+        self.image, self.blocks = image, len(image) // 512
+        self.walk, self.owner, self.nodes, self.passed_over, self.findings = {}, {}, [], {}, []
+        self.asked = {}  # by key: the role, and the block and the word that name its block
+        self.names = {}  # how many words that ask for a part name a block
+        self.root = self.blocks // 2
+        for cause, at, holds in self.opening():
+            if not holds():
+                self.findings.append((None, at, cause))
+                return
+        self.offset, self.chunk = (24, 488) if image[3] == 0 else (0, 512)
+        self.pages = -(-(self.blocks - 2) // PAGE_BITS)
+        self.take(((0, 0, 0), "root"), self.root)
+        while wanted := [key for key in self.asked if key not in self.walk and key not in self.passed_over]:
+            self.judge(*self.asked[min(wanted)])
+        self.compare()
+
+    def word(self, b, i):
+        return unpack_from(">I", self.image, 512 * b + 4 * i)[0]
+
+    def byte(self, b, at):
+        return self.image[512 * b + at]
+
+    def text(self, b, at):
+        return self.image[512 * b + at + 1 : 512 * b + at + 1 + self.byte(b, at)]
+
+    def sealed(self, b):
+        return sum(unpack_from(">128I", self.image, 512 * b)) % 2**32 == 0
+
+    def opening(self):
+        size, b = len(self.image), self.root
+        yield "bad size", 0, lambda: size % 1024 == 0 and 4 <= self.blocks <= 1048576
+        yield "not dos", 0, lambda: self.image[:3] == b"DOS" and self.image[3] <= 5
+        yield "international", 0, lambda: self.image[3] not in (2, 3)
+        yield "directory cache", 0, lambda: self.image[3] not in (4, 5)
+        yield "bad sum", b, lambda: self.sealed(b)
+        yield "bad type", b, lambda: self.word(b, 0) == 2 and self.word(b, 127) == 1
+        yield "bad name", b, lambda: self.byte(b, 432) <= 30
+        yield "bad hash size", b, lambda: self.word(b, 3) == SLOTS
+        yield "not validated", b, lambda: self.word(b, 78) == 2**32 - 1
+
+    def ask(self, role, a, i):
+        self.asked[role[0]] = role, a, i
+        self.names[self.word(a, i)] = self.names.get(self.word(a, i), 0) + 1
+
+    def take(self, role, b):
+        """The role at block b is a member of the walk, and asks for what its words name."""
+        key, name, *at = role
+        self.walk[key], self.owner[b] = b, role
+        if name in ("root", "head"):
+            node = len(self.nodes)
+            self.nodes.append(role)
+            self.asks_of_node(node, b)
+        if name == "head" and self.word(b, 124):
+            self.ask(head(at[0], at[1], at[2] + 1), b, 124)
+        if name == "ext":
+            self.asks_of_table(at[0], at[1], b)
+        if name == "root":
+            for k in range(min(self.pages, ROOT_PAGES)):
+                self.ask(page(k), b, 79 + k)
+            if self.pages > ROOT_PAGES:
+                self.ask(map_ext(0), b, 104)
+        if name == "map":
+            first = ROOT_PAGES + MAP_PAGES * at[0]
+            for k in range(first, min(self.pages, first + MAP_PAGES)):
+                self.ask(page(k), b, k - first)
+            if self.pages > first + MAP_PAGES:
+                self.ask(map_ext(at[0] + 1), b, 127)
+
+    def asks_of_node(self, n, b):
+        if n == 0 or self.word(b, 127) == DIR:
+            for s in range(SLOTS):
+                if self.word(b, 6 + s):
+                    self.ask(head(n, s, 0), b, 6 + s)
+        elif self.word(b, 127) == FILE:
+            self.asks_of_table(n, 0, b)
+
+    def asks_of_table(self, n, m, b):
+        """Member m of the header of file n and its extension blocks asks for the next one and for its data blocks."""
+        if self.word(b, 126):
+            self.ask(ext(n, m + 1), b, 126)
+        for k in range(POINTERS * m, min(self.data_count(n), POINTERS * (m + 1))):
+            self.ask(data(n, k + 1), b, 77 - k % POINTERS)
+
+    def block_of(self, n):
+        return self.walk[self.nodes[n][0]]
+
+    def size(self, n):
+        return self.word(self.block_of(n), 81)
+
+    def data_count(self, n):
+        return -(-self.size(n) // self.chunk)
+
+    def ext_count(self, n):
+        return sum(role[1] == "ext" and role[2] == n for role in self.owner.values())
+
+    def next_data(self, n, k):
+        if k >= self.data_count(n):
+            return 0
+        m = k // POINTERS
+        b = self.block_of(n) if m == 0 else self.walk.get(ext(n, m)[0], 0)
+        return self.word(b, 77 - k % POINTERS)
+
+    def demands(self, role, a, b):
+        """What must hold of the role at block b, named by block a, in order: the cause, the block then named, and a test."""
+        name, at = role[1], role[2:]
+        if name == "data" and at[1] == 1:
+            yield "short file", a, lambda: self.data_count(at[0]) <= POINTERS * (1 + self.ext_count(at[0]))
+        yield "out of range", a, lambda: 2 <= b < self.blocks
+        yield "taken", b, lambda: b not in self.owner
+        if name == "page" or name in ("head", "ext") or name == "data" and self.offset:
+            yield "bad sum", b, lambda: self.sealed(b)
+        if name == "head":
+            yield from self.head_demands(*at, b)
+        if name == "ext":
+            yield "bad type", b, lambda: self.word(b, 0) == 16 and self.word(b, 127) == FILE
+            yield "bad own key", b, lambda: self.word(b, 1) == b
+            yield "bad parent", b, lambda: self.word(b, 125) == self.block_of(at[0])
+        if name == "data" and self.offset:
+            n, k = at
+            held = min(self.chunk, self.size(n) - self.chunk * (k - 1))
+            yield "bad type", b, lambda: self.word(b, 0) == 8
+            yield "bad data", b, lambda: unpack_from(">4I", self.image, 512 * b + 4) == (self.block_of(n), k, held, self.next_data(n, k))
+
+    def head_demands(self, p, s, j, b):
+        earlier = [self.walk[key] for key in [(p + 1, s + 2, k) for k in range(j)] if key in self.walk]
+        kind, name = lambda: self.word(b, 127), lambda: self.text(b, 432)
+        first = lambda: self.offset == 0 or kind() != FILE or self.word(b, 81) == 0 or self.word(b, 4) == self.word(b, 77)
+        yield "bad type", b, lambda: self.word(b, 0) == 2 and kind() in (DIR, FILE, *LINKS)
+        yield "link", b, lambda: kind() not in LINKS
+        yield "bad own key", b, lambda: self.word(b, 1) == b
+        yield "bad parent", b, lambda: self.word(b, 125) == self.block_of(p)
+        yield "bad name", b, lambda: 1 <= self.byte(b, 432) <= 30 and not {47, 58} & set(name())
+        yield "bad comment", b, lambda: self.byte(b, 328) <= 79
+        yield "wrong slot", b, lambda: slot(name()) == s
+        yield "bad first", b, first
+        yield "same name", b, lambda: upper(name()) not in [upper(self.text(c, 432)) for c in earlier]
+
+    def judge(self, role, a, i):
+        """The role is taken, where its block is in range, no one else's and says of itself that it is the part; its first cause is noted."""
+        b = self.word(a, i)
+        first, itself = None, True
+        for cause, at, holds in self.demands(role, a, b):
+            if not holds():
+                first = first or (role, at, cause)
+                if role[1] == "page" or cause not in SLIGHT:
+                    itself = False
+                    break
+        if first:
+            self.findings.append(first)
+        if itself:
+            self.take(role, b)
+        else:
+            self.passed_over[role[0]] = b
+
+    def compare(self):
+        """Each block whose page is in the walk and that was not passed over is in use where it has an owner, and only there."""
+        passed = set(self.passed_over.values())
+        for b in range(2, self.blocks):
+            bit = (b - 2) % PAGE_BITS
+            at = self.walk.get(page((b - 2) // PAGE_BITS)[0])
+            if at is None or b not in self.owner and b in passed:
+                continue
+            free = self.word(at, 1 + bit // 32) >> bit % 32 & 1
+            if free != (b not in self.owner):
+                self.findings.append((None, b, "owned free" if free else "lost block"))
+
+    def node_of(self, role, b):
+        """The node that a finding concerns, as a path; a header that was passed over stands with its name, where it may be one."""
+        if role is None:
+            role = self.owner.get(b)
+        if role is None or role[1] in ("root", "page", "map"):
+            return None
+        if role[1] in ("ext", "data"):
+            return self.path(role[2])
+        b = self.walk.get(role[0], self.passed_over.get(role[0]))
+        typed = b is not None and 2 <= b < self.blocks and self.word(b, 0) == 2 and 1 <= self.byte(b, 432) <= 30
+        return self.path(role[2]) + [self.text(b, 432) if typed and self.owner.get(b, role)[0] == role[0] else None]
+
+    def path(self, n):
+        return [] if n == 0 else self.path(self.nodes[n][2]) + [self.text(self.block_of(n), 432)[:30]]
+
+    def is_sound(self, n):
+        """Nothing of the entry is noted, and no other word names an FFS data block of it, which does not say whose it is."""
+        parts = {key: b for key, b in self.walk.items() if key == self.nodes[n][0] or key[0] == n + 1 and key[1] < 2}
+        noted = {role[0] for role, _, _ in self.findings if role}
+        headed = any(key[0] == n + 1 and key[1] < 2 for key in noted)
+        return not headed and not noted & set(parts) and all(self.offset or key[1] != 1 or self.names[b] == 1 for key, b in parts.items())
+
+    def lines(self):
+        """A line for each run of findings with one cause and one path, at one block or at neighbouring ones; then the entries."""
+        runs = []
+        for role, at, cause in self.findings:
+            path = self.node_of(role, at)
+            if runs and runs[-1][2:] == [cause, path] and (runs[-1][1] == at - 1 or runs[-1][:2] == [at, at]):
+                runs[-1][1] = at
+            else:
+                runs.append([at, at, cause, path])
+        for first, last, cause, path in runs:
+            where = f"block {first}" if first == last else f"blocks {first} to {last}"
+            yield f"{where}: {cause}" + ("" if path is None else " " + spelled(path))
+        for n in range(1, len(self.nodes)):
+            yield f"{'sound' if self.is_sound(n) else 'damaged'} {spelled(self.path(n))}"
+
+
+def spelled(path):
+    return "/".join("?" if name is None else "".join(chr(c) if 32 <= c <= 126 and c != 92 else f"\\x{c:02x}" for c in name) for name in path)
+
+
+def main():
+    if len(sys.argv) > 1:
+        sys.exit(__doc__)
+    for line in Survey(sys.stdin.buffer.read()).lines():
+        print(line)
+
+
+if __name__ == "__main__":
+    main()
