@@ -1,11 +1,13 @@
 -- What holds of every list of parts of which each was asked for, and lacking, when it came, whatever its block holds.
 use Rattle.std.proofs.Common.{◌≡◌, ℕ, zero, suc, List, [], ◌∷◌, inl, inr, ◌+◌, ◌*◌, ◌/◌, ◌<◌, ◌≤◌, refl, sym, ap, subst, ◌∙◌, arith}
-use native.Mathlib.Decide.{dec_le}
+use native.Mathlib.Decide.{dec_le, dec_lt}
 use Rattle.adf_blocks.specs.declared.layout.TheConstants.{MAP_EXT_PAGES, POINTERS, ROOT_PAGES}
 use Rattle.adf_volume.specs.Image.{root_of}
+use Rattle.std.proofs.lemmas.Bool.Decides.{eqb_tells}
+use Rattle.adf_volume.specs.Walk.{first, ext_count, ext_count_of}
 use Rattle.adf_volume.specs.Walk.{Role, second, Same, Has, head_count, heads, NodeAt, DirAt, FileAt, MemberAt, NamesPage, Asks, Lacks}
 use Rattle.adf_volume.specs.Walk.Role.{Root, Page, MapExt, Head, Ext, Data}
-use Rattle.adf_volume.proofs.Walks.{asks_number, dir_is_node, heads_up, same_of}
+use Rattle.adf_volume.proofs.Walks.{count_own, count_up, asks_number, dir_is_node, heads_up, same_of}
 
 pub data IsGathered (image : List ℕ) : List (Role × ℕ) → Type 0 where
   start : IsGathered image ((Root, root_of image) ∷ [])
@@ -120,3 +122,53 @@ module _ (image : List ℕ) where
     asks_one (Ext n (suc (suc x))) a i b j h k = ((one_block v (Ext n (suc x)) (Ext n (suc x)) a b h.0 k.0 (refl, refl, refl)).1, h.1 ∙ sym k.1)
     asks_one (Data n zero) a i b j h k = absurd h
     asks_one (Data n (suc x)) a i b j h k = (member_one n (x / POINTERS) a b h.1 k.1, h.2 ∙ sym k.2)
+
+  ext_below : {w : List (Role × ℕ)} → IsGathered image w → (n k b : ℕ) → Has w (Ext n (suc k)) b → k < ext_count w n
+  ext_below start n k b (inl e) = let h : first Root ≡ first (Ext n (suc k)) = ap first e.0 in absurd (omega arith)
+  ext_below start n k b (inr f) = absurd f
+  ext_below (step {w = w} {r = r} a i c v d l) n zero b (inl h) =
+      subst (λ r. 0 < ext_count_of n r (ext_count w n)) (sym h.0) (rw (count_own n 1 (ext_count w n)) (omega arith))
+  ext_below (step {w = w} {r = r} a i c v d l) n (suc k) b (inl h) =
+      let q = subst (λ r. Asks image w r a i) h.0 d in
+      let ih : k < ext_count w n = ext_below v n k a q.0 in
+      subst (λ r. suc k < ext_count_of n r (ext_count w n)) (sym h.0) (rw (count_own n (suc (suc k)) (ext_count w n)) (omega arith))
+  ext_below (step {w = w} {r = r} a i c v d l) n k b (inr h) =
+      let ih : k < ext_count w n = ext_below v n k b h in
+      let up : ext_count w n ≤ ext_count_of n r (ext_count w n) = count_up n r (ext_count w n) in
+      omega arith
+
+  -- an extension block that comes is the next one
+  next_ext : (w : List (Role × ℕ)) → IsGathered image w → (n k a i : ℕ) → Asks image w (Ext n k) a i → Lacks w (Ext n k)
+      → ((k : ℕ) → k < ext_count w n → (b : ℕ) × Has w (Ext n (suc k)) b) → k ≡ suc (ext_count w n)
+  next_ext w v n zero a i d l ih = absurd d
+  next_ext w v n (suc zero) a i d l ih =
+      let none : 0 < ext_count w n → ⊥ = (λ k. let x = ih 0 k in l (Ext n 1) x.0 x.1 (refl, refl, refl)) in
+      omega arith
+  next_ext w v n (suc (suc k)) a i d l ih =
+      let lo = ext_below v n k a d.0 in
+      let none : suc k < ext_count w n → ⊥ = (λ u. let x = ih (suc k) u in l (Ext n (suc (suc k))) x.0 x.1 (refl, refl, refl)) in
+      omega arith
+
+  counted_step : {w : List (Role × ℕ)} (r : Role) (a i b : ℕ) → IsGathered image w → Asks image w r a i → Lacks w r → (n k : ℕ)
+      → ((k : ℕ) → k < ext_count w n → (b : ℕ) × Has w (Ext n (suc k)) b) → k < ext_count_of n r (ext_count w n)
+      → (c : ℕ) × Has ((r, b) ∷ w) (Ext n (suc k)) c
+  counted_step {w = w} (Ext m j) a i b v d l n k ih h =
+      elim (eqb_tells n m) [
+        | inl y ↦
+            elim (dec_lt k (ext_count w n)) [
+              | yes u ↦ let x = ih k u in (x.0, inr x.1)
+              | no u ↦
+                  let e : Ext m j ≡ Ext n j = ap (λ m. Ext m j) (sym y.1) in
+                  let z = next_ext w v n j a i (subst (λ r. Asks image w r a i) e d) (subst (Lacks w) e l) ih in
+                  let h' : k < suc (ext_count w n) = rw y.0 at h in
+                  let same : j ≡ suc k = omega arith in
+                  (b, inl (e ∙ ap (Ext n) same, refl))
+            ]
+        | inr y ↦ let h' : k < ext_count w n = rw y.0 at h in let x = ih k h' in (x.0, inr x.1)
+      ]
+  counted_step r a i b v d l n k ih h = let x = ih k h in (x.0, inr x.1)
+
+  -- extension blocks are numbered from 1
+  pub ext_counted : {w : List (Role × ℕ)} → IsGathered image w → (n k : ℕ) → k < ext_count w n → (b : ℕ) × Has w (Ext n (suc k)) b
+  ext_counted start n k h = absurd (omega arith)
+  ext_counted (step {r = r} a i b v d l) n k h = counted_step r a i b v d l n k (ext_counted v n) h

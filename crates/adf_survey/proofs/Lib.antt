@@ -8,3 +8,5 @@ pub mod FirstFindings
 -- an image has one survey, and has one
 pub mod OneSurvey
 pub mod SomeSurvey
+-- the blocks of sound entries
+pub mod SoundEntries

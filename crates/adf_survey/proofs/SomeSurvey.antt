@@ -123,11 +123,11 @@ module _ (image : List ℕ) where
   abbrev Covers : List Role → Course → Type 0
   Covers rs s = (r : Role) (a i : ℕ) → Asks image s.walk r a i → Lacks s.walk r → Lacks s.passed_over r → Listed s.walk rs r
 
-  keeps_range : (r : Role) → is_kept r OutOfRange ≡ false
+  pub keeps_range : (r : Role) → is_kept r OutOfRange ≡ false
   keeps_range (Page i) = refl
   keeps_range _ = refl
 
-  keeps_taken : (r : Role) → is_kept r Taken ≡ false
+  pub keeps_taken : (r : Role) → is_kept r Taken ≡ false
   keeps_taken (Page i) = refl
   keeps_taken _ = refl
 

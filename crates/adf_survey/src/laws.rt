@@ -1,12 +1,17 @@
 // The laws of surveys. Each is the contract of a function that does nothing.
 
-ghost use Rattle.std.specs.Prelude.{◌≡◌, ℕ, List, [], ◌∷◌};
+ghost use Rattle.std.specs.Prelude.{◌≡◌, ◌<◌, ◌/◌, ℕ, List, [], ◌∷◌};
+ghost use Rattle.std.proofs.Common.{suc};
 ghost use Rattle.adf_tree.specs.Tree.{Tree};
 ghost use Rattle.adf_volume.specs.Fits.{Fits};
 ghost use Rattle.adf_volume.specs.Layout.{Layout};
 ghost use Rattle.adf_volume.specs.Made.{layout_in, tree_in};
-ghost use Rattle.adf_volume.specs.Walk.{FirstFault, Role};
+ghost use Rattle.adf_volume.specs.Image.{table_word, word_in};
+ghost use Rattle.adf_volume.specs.Walk.{FileAt, FirstFault, Has, MemberAt, Role, data_count};
+ghost use Rattle.adf_volume.specs.Walk.Role.{Data};
+ghost use Rattle.adf_blocks.specs.declared.layout.TheConstants.{POINTERS};
 ghost use Rattle.adf_survey.specs.Survey.{Finding, IsSurvey};
+ghost use Rattle.adf_survey.specs.Sound.{IsSound};
 
 /// Each image has a survey.
 #[tactic(auto, using(crate::proofs::SomeSurvey::some_survey))]
@@ -28,4 +33,16 @@ pub fn first_finding()
 pub fn no_finding()
     ensures fits { (image : List ℕ) (w : List (Role × ℕ)) → IsSurvey image w [] → Fits image (tree_in image w) (layout_in w) }
     ensures none { (image : List ℕ) (t : Tree) (l : Layout) (w : List (Role × ℕ)) (fs : List Finding) → Fits image t l → IsSurvey image w fs → fs ≡ [] }
+{}
+
+/// A block of a survey's walk is one part.
+pub fn one_part()
+    ensures { (image : List ℕ) (w : List (Role × ℕ)) (fs : List Finding) → IsSurvey image w fs → (r q : Role) (b : ℕ) → Has w r b → Has w q b → r ≡ q }
+{}
+
+/// Each data block that the size of a sound file asks for is in the walk, at the block that the file's table names.
+pub fn sound_files()
+    ensures { (image : List ℕ) (w : List (Role × ℕ)) (fs : List Finding) (n h : ℕ) → IsSurvey image w fs → IsSound image w fs n h → FileAt image w n h
+        → (k : ℕ) → k < data_count image h
+        → (a b : ℕ) × MemberAt image w n (k / POINTERS) a × (word_in image a (table_word k) ≡ b) × Has w (Data n (suc k)) b }
 {}

@@ -3,4 +3,4 @@
 
 mod laws;
 
-pub use crate::laws::{first_finding, no_finding, one_survey, some_survey};
+pub use crate::laws::{first_finding, no_finding, one_part, one_survey, some_survey, sound_files};

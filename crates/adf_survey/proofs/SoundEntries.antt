@@ -1,0 +1,220 @@
+-- The blocks of a sound entry.
+use Rattle.std.specs.Prelude.{Some}
+use Rattle.std.proofs.Common.{◌≡◌, ℕ, zero, suc, List, [], ◌∷◌, ◌++◌, ◌⊎◌, inl, inr, ◌*◌, ◌/◌, ◌<◌, ◌≤◌, refl, sym, ap, subst, ◌∙◌, arith}
+use native.Mathlib.Decide.{dec_lt}
+use Rattle.adf_blocks.specs.declared.layout.TheConstants.{POINTERS}
+use Rattle.adf_volume.specs.Image.{word_in, table_word}
+use Rattle.adf_volume.specs.Lists.{In}
+use Rattle.adf_volume.specs.Demands.{AllHold}
+use Rattle.adf_volume.specs.Walk.{Role, second, Has, FileAt, MemberAt, data_count, Asks, IsAbsent, ext_count, demands}
+use Rattle.adf_volume.specs.Walk.Role.{Root, Head, Ext, Data}
+use Rattle.adf_volume.proofs.Lists.{in_left, in_right}
+use Rattle.adf_volume.proofs.Walks.{count_up, dec_has, has_role, same_refl}
+use Rattle.adf_survey.specs.Survey.{Finding, finding, Course, IsNext, IsCourse, IsDone, IsSurvey}
+use Rattle.adf_survey.specs.Survey.Judgement.{clean, noted, passed}
+use Rattle.adf_survey.specs.Survey.IsCourse.{start, step}
+use Rattle.adf_survey.specs.Survey.IsSurvey.{unread, read}
+use Rattle.adf_survey.specs.Sound.{IsUnnoted, IsSound}
+use Rattle.adf_survey.proofs.Gathered.{asks_one, ext_counted, file_one}
+use Rattle.adf_survey.proofs.OneSurvey.{gathered}
+use Rattle.adf_survey.proofs.SomeSurvey.{keeps_taken}
+
+module _ (image : List ℕ) where
+  -- a finding concerns the part
+  abbrev Noted : List Finding → Role → Type 0
+  Noted fs r = (f : Finding) × In fs f × (f.part ≡ Some r)
+
+  noted_more : (fs gs : List Finding) (r : Role) → Noted fs r → Noted (fs ++ gs) r
+  noted_more fs gs r x = (x.0, in_left fs gs x.0 x.1, x.2)
+
+  noted_now : (fs : List Finding) (r : Role) (f : Finding) → f.part ≡ Some r → Noted (fs ++ f ∷ []) r
+  noted_now fs r f e = (f, in_right fs (f ∷ []) f (inl refl), e)
+
+  -- what was passed over is noted
+  pub passed_noted : {s : Course} → IsCourse image s → (r : Role) (b : ℕ) → Has s.passed_over r b → Noted s.findings r
+  passed_noted start r b h = absurd h
+  passed_noted (step {s = s} {r = q} {a = a} {i = i} clean v n g) r b h = passed_noted v r b h
+  passed_noted (step {s = s} {r = q} {a = a} {i = i} (noted at c) v n g) r b h = noted_more s.findings (finding (Some q) at c ∷ []) r (passed_noted v r b h)
+  passed_noted (step {s = s} {r = q} {a = a} {i = i} (passed at c) v n g) r b (inl e) = noted_now s.findings r (finding (Some q) at c) (ap Some e.0)
+  passed_noted (step {s = s} {r = q} {a = a} {i = i} (passed at c) v n g) r b (inr h) =
+      noted_more s.findings (finding (Some q) at c ∷ []) r (passed_noted v r b h)
+
+  -- how a member came into a walk
+  record Came (w : List (Role × ℕ)) (fs : List Finding) (r : Role) (b : ℕ) : Type 0 where
+    before : List (Role × ℕ)
+    at : ℕ
+    index : ℕ
+    asked : Asks image before r at index
+    named : word_in image at index ≡ b
+    judged : AllHold (demands image before r at b) ⊎ Noted fs r
+    older : (q : Role) (c : ℕ) → Has before q c → Has w q c
+    counted : (n : ℕ) → ext_count before n ≤ ext_count w n
+
+  came_later : (w : List (Role × ℕ)) (fs : List Finding) (r : Role) (b : ℕ) (x : Role × ℕ) → Came w fs r b → Came (x ∷ w) fs r b
+  came_later w fs r b x y = record {
+    before = y.before;
+    at = y.at;
+    index = y.index;
+    asked = y.asked;
+    named = y.named;
+    judged = y.judged;
+    older = (λ q c h. inr (y.older q c h));
+    counted = (λ n. let k = y.counted n in let u = count_up n x.0 (ext_count w n) in omega arith);
+  }
+
+  came_noted : (w : List (Role × ℕ)) (fs gs : List Finding) (r : Role) (b : ℕ) → Came w fs r b → Came w (fs ++ gs) r b
+  came_noted w fs gs r b y = record {
+    before = y.before;
+    at = y.at;
+    index = y.index;
+    asked = y.asked;
+    named = y.named;
+    judged = elim (y.judged) [ inl h ↦ inl h | inr n ↦ inr (noted_more fs gs r n) ];
+    older = y.older;
+    counted = y.counted;
+  }
+
+  came_new : (s : Course) (r : Role) (a i : ℕ) (w : List (Role × ℕ)) (fs : List Finding) (x : Role × ℕ) → w ≡ x ∷ s.walk → IsNext image s r a i
+      → AllHold (demands image s.walk r a (word_in image a i)) ⊎ Noted fs r → Came w fs r (word_in image a i)
+  came_new s r a i w fs x e n j = record {
+    before = s.walk;
+    at = a;
+    index = i;
+    asked = n.asked;
+    named = refl;
+    judged = j;
+    older = (λ q c h. subst (λ w. Has w q c) (sym e) (inr h));
+    counted = (λ n. subst (λ w. ext_count s.walk n ≤ ext_count w n) (sym e) (count_up n x.0 (ext_count s.walk n)));
+  }
+
+  -- each member but the root came by a word, and has no cause or is noted
+  came : {s : Course} → IsCourse image s → (r : Role) (b : ℕ) → Has s.walk r b → (Root ≡ r) ⊎ Came s.walk s.findings r b
+  came start r b (inl e) = inl e.0
+  came start r b (inr h) = absurd h
+  came (step {s = s} {r = q} {a = a} {i = i} clean v n g) r b (inl e) =
+      let w : List (Role × ℕ) = (q, word_in image a i) ∷ s.walk in
+      inr (subst (Came w s.findings r) e.1 (subst (λ r. Came w s.findings r (word_in image a i)) e.0
+      (came_new s q a i w s.findings (q, word_in image a i) refl n (inl g))))
+  came (step {s = s} {r = q} {a = a} {i = i} clean v n g) r b (inr h) =
+      elim (came v r b h) [
+        | inl e ↦ inl e
+        | inr y ↦ inr (came_later s.walk s.findings r b (q, word_in image a i) y)
+      ]
+  came (step {s = s} {r = q} {a = a} {i = i} (noted at c) v n g) r b (inl e) =
+      let w : List (Role × ℕ) = (q, word_in image a i) ∷ s.walk in
+      let fs : List Finding = s.findings ++ finding (Some q) at c ∷ [] in
+      inr (subst (Came w fs r) e.1 (subst (λ r. Came w fs r (word_in image a i)) e.0
+      (came_new s q a i w fs (q, word_in image a i) refl n (inr (noted_now s.findings q (finding (Some q) at c) refl)))))
+  came (step {s = s} {r = q} {a = a} {i = i} (noted at c) v n g) r b (inr h) =
+      elim (came v r b h) [
+        | inl e ↦ inl e
+        | inr y ↦
+            inr (came_later s.walk (s.findings ++ finding (Some q) at c ∷ []) r b (q, word_in image a i)
+            (came_noted s.walk s.findings (finding (Some q) at c ∷ []) r b y))
+      ]
+  came (step {s = s} {r = q} {a = a} {i = i} (passed at c) v n g) r b h =
+      elim (came v r b h) [
+        | inl e ↦ inl e
+        | inr y ↦ inr (came_noted s.walk s.findings (finding (Some q) at c ∷ []) r b y)
+      ]
+
+  same_word : (a a' i i' b : ℕ) → a ≡ a' → i ≡ i' → word_in image a i ≡ b → word_in image a' i' ≡ b
+  same_word a a' i i' b e f h = (λ t. word_in image (sym e t) (sym f t)) ∙ h
+
+  module _ {s : Course} (v : IsCourse image s) (done : IsDone image s) where
+    -- what is asked for and has no finding is in the walk
+    in_walk : (r : Role) (a i : ℕ) → Asks image s.walk r a i → IsUnnoted s.findings r → second r < 2 → (b : ℕ) × Has s.walk r b
+    in_walk r a i ask clear low =
+        elim (dec_has s.walk r) [
+          | inr y ↦ (y.1, has_role image s.walk r (λ n p t j z. let x : second r ≡ second (Head n p t j) = ap second z in omega arith) y.0 y.1 y.2 y.3)
+          | inl lack ↦ elim (dec_has s.passed_over r) [
+            | inl l ↦ absurd (done r a i ask lack l)
+            | inr y ↦ let x = passed_noted v y.0 y.1 y.2 in absurd (clear x.0 y.0 x.1 x.2 y.3)
+          ]
+        ]
+
+    module _ (n h : ℕ) (file : FileAt image s.walk n h) (clear : (k : ℕ) → IsUnnoted s.findings (Data n k)) where
+      -- a file that was there before has the same header
+      file_before : (w : List (Role × ℕ)) (a : ℕ) → ((q : Role) (c : ℕ) → Has w q c → Has s.walk q c) → FileAt image w n a → FileAt image s.walk n a
+      file_before w a older f = ((f.0.0, f.0.1, f.0.2, older (Head n f.0.0 f.0.1 f.0.2) a f.0.3), f.1)
+
+      member_before : (w : List (Role × ℕ)) (m a : ℕ) → ((q : Role) (c : ℕ) → Has w q c → Has s.walk q c) → MemberAt image w n m a
+          → MemberAt image s.walk n m a
+      member_before w zero a older f = file_before w a older f
+      member_before w (suc m) a older f = older (Ext n (suc m)) a f
+
+      -- a data block that nothing is said against came without a cause
+      came_clean : (k b : ℕ) → Has s.walk (Data n k) b → (y : Came s.walk s.findings (Data n k) b) × AllHold (demands image y.before (Data n k) y.at b)
+      came_clean k b g =
+          elim (came v (Data n k) b g) [
+            | inl e ↦ absurd (let x : second Root ≡ second (Data n k) = ap second e in omega arith)
+            | inr y ↦ elim (y.judged) [ inl h ↦ (y, h) | inr x ↦ absurd (clear k x.0 (Data n k) x.1 x.2 (same_refl (Data n k))) ]
+          ]
+
+      enough : data_count image h ≤ POINTERS * suc (ext_count s.walk n)
+      enough =
+          elim (dec_lt 0 (data_count image h)) [
+            | no m ↦ omega arith
+            | yes lt ↦
+                let x = in_walk (Data n 1) h (table_word 0) ((h, file, lt), file, refl) (clear 1) (omega arith) in
+                let y = came_clean 1 x.0 x.1 in
+                let first = y.0.asked.0 in
+                let e : first.0 ≡ h = file_one image (gathered image v) n first.0 h (file_before y.0.before first.0 y.0.older first.1) file in
+                let l : data_count image first.0 ≤ POINTERS * suc (ext_count y.0.before n) = y.1.0 refl first.0 first.1 in
+                let l' : data_count image h ≤ POINTERS * suc (ext_count y.0.before n) =
+                subst (λ h. data_count image h ≤ POINTERS * suc (ext_count y.0.before n)) e l in
+                let u = y.0.counted n in
+                omega arith
+          ]
+
+      member_at : (m : ℕ) → m ≤ ext_count s.walk n → (a : ℕ) × MemberAt image s.walk n m a
+      member_at zero u = (h, file)
+      member_at (suc m) u = ext_counted image (gathered image v) n m (omega arith)
+
+      -- each data block that the size asks for is in the walk, at the block that the table names
+      data_named : (k : ℕ) → k < data_count image h
+          → (a b : ℕ) × MemberAt image s.walk n (k / POINTERS) a × (word_in image a (table_word k) ≡ b) × Has s.walk (Data n (suc k)) b
+      data_named k lt =
+          let l = enough in
+          let m = member_at (k / POINTERS) (omega arith) in
+          let ask : Asks image s.walk (Data n (suc k)) m.0 (table_word k) = ((h, file, lt), m.1, refl) in
+          let x = in_walk (Data n (suc k)) m.0 (table_word k) ask (clear (suc k)) (omega arith) in
+          let y = (came_clean (suc k) x.0 x.1).0 in
+          let was : Asks image s.walk (Data n (suc k)) y.at y.index = (
+            (y.asked.0.0, file_before y.before y.asked.0.0 y.older y.asked.0.1, y.asked.0.2),
+            member_before y.before (k / POINTERS) y.at y.older y.asked.1,
+            y.asked.2,
+          ) in
+          let z = asks_one image (gathered image v) (Data n (suc k)) y.at y.index m.0 (table_word k) was ask in
+          (m.0, x.0, m.1, same_word y.at m.0 y.index (table_word k) x.0 z.0 z.1 y.named, x.1)
+
+  absent_new : (w : List (Role × ℕ)) (z r q : Role) (c b : ℕ) → IsAbsent w c → (Has w r b → Has w q b → r ≡ q) → Has ((z, c) ∷ w) r b
+      → Has ((z, c) ∷ w) q b → r ≡ q
+  absent_new w z r q c b h k (inl e) (inl f) = sym e.0 ∙ f.0
+  absent_new w z r q c b h k (inl e) (inr g) = absurd (h q (subst (λ b. Has w q b) (sym e.1) g))
+  absent_new w z r q c b h k (inr e) (inl f) = absurd (h r (subst (λ b. Has w r b) (sym f.1) e))
+  absent_new w z r q c b h k (inr e) (inr f) = k e f
+
+  one_role : {s : Course} → IsCourse image s → (r q : Role) (b : ℕ) → Has s.walk r b → Has s.walk q b → r ≡ q
+  one_role start r q b (inl e) (inl f) = sym e.0 ∙ f.0
+  one_role start r q b (inl e) (inr f) = absurd f
+  one_role start r q b (inr e) f = absurd e
+  one_role (step {s = s} {r = z} {a = a} {i = i} clean v n g) r q b h k =
+      absent_new s.walk z r q (word_in image a i) b g.1.1.0 (one_role v r q b) h k
+  one_role (step {s = s} {r = z} {a = a} {i = i} (noted at c) v n g) r q b h k =
+      absent_new s.walk z r q (word_in image a i) b (g.1.1.1.0 (keeps_taken image z)) (one_role v r q b) h k
+  one_role (step (passed at c) v n g) r q b h k = one_role v r q b h k
+
+  pub one_part : (w : List (Role × ℕ)) (fs : List Finding) → IsSurvey image w fs → (r q : Role) (b : ℕ) → Has w r b → Has w q b → r ≡ q
+  one_part w fs (unread f) r q b h k = absurd h
+  one_part w fs (read begun v d t) r q b h k = one_role v r q b h k
+
+  unnoted_less : (fs gs : List Finding) (r : Role) → IsUnnoted (fs ++ gs) r → IsUnnoted fs r
+  unnoted_less fs gs r h f q i = h f q (in_left fs gs f i)
+
+  pub sound_files : (w : List (Role × ℕ)) (fs : List Finding) (n h : ℕ) → IsSurvey image w fs → IsSound image w fs n h → FileAt image w n h
+      → (k : ℕ) → k < data_count image h
+      → (a b : ℕ) × MemberAt image w n (k / POINTERS) a × (word_in image a (table_word k) ≡ b) × Has w (Data n (suc k)) b
+  sound_files w fs n h (unread f) sound file k lt = absurd file.0.3
+  sound_files w fs n h (read {s = s} {bits = bits} begun v d t) sound file k lt =
+      data_named v d n h file (λ k. unnoted_less s.findings bits (Data n k) (sound.datas k)) k lt
