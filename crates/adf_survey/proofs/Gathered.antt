@@ -1,10 +1,10 @@
 -- What holds of every list of parts of which each was asked for, and lacking, when it came, whatever its block holds.
-use Rattle.std.proofs.Common.{◌≡◌, ℕ, zero, suc, List, [], ◌∷◌, inl, inr, ◌+◌, ◌*◌, ◌/◌, ◌<◌, ◌≤◌, refl, sym, ap, subst, ◌∙◌, arith}
+use Rattle.std.proofs.Common.{eq-eqb, ◌≡◌, ℕ, zero, suc, List, [], ◌∷◌, inl, inr, ◌+◌, ◌*◌, ◌/◌, ◌<◌, ◌≤◌, refl, sym, ap, subst, ◌∙◌, arith}
 use native.Mathlib.Decide.{dec_le, dec_lt}
 use Rattle.adf_blocks.specs.declared.layout.TheConstants.{MAP_EXT_PAGES, POINTERS, ROOT_PAGES}
 use Rattle.adf_volume.specs.Image.{root_of}
 use Rattle.std.proofs.lemmas.Bool.Decides.{eqb_tells}
-use Rattle.adf_volume.specs.Walk.{first, ext_count, ext_count_of}
+use Rattle.adf_volume.specs.Walk.{first, ext_count, ext_count_of, node_block, node_block_of}
 use Rattle.adf_volume.specs.Walk.{Role, second, Same, Has, head_count, heads, NodeAt, DirAt, FileAt, MemberAt, NamesPage, Asks, Lacks}
 use Rattle.adf_volume.specs.Walk.Role.{Root, Page, MapExt, Head, Ext, Data}
 use Rattle.adf_volume.proofs.Walks.{count_own, count_up, asks_number, dir_is_node, heads_up, same_of}
@@ -172,3 +172,69 @@ module _ (image : List ℕ) where
   pub ext_counted : {w : List (Role × ℕ)} → IsGathered image w → (n k : ℕ) → k < ext_count w n → (b : ℕ) × Has w (Ext n (suc k)) b
   ext_counted start n k h = absurd (omega arith)
   ext_counted (step {r = r} a i b v d l) n k h = counted_step r a i b v d l n k (ext_counted v n) h
+
+  -- the block of a node, as a function, is not changed by what is no header of that number
+  other_node : (w : List (Role × ℕ)) (n : ℕ) (r : Role) (a i b c : ℕ) → Asks image w r a i → n ≤ heads w → node_block_of n r b c ≡ c
+  other_node w n Root a i b c d u = absurd d
+  other_node w n (Head m p s j) a i b c d u =
+      let k : m ≡ suc (heads w) = asks_number image w m p s j a i d in
+      elim (eqb_tells n m) [ inl y ↦ let e : n ≡ m = y.1 in absurd (omega arith) | inr y ↦ rw y.0 refl ]
+  other_node w n _ a i b c d u = refl
+
+  pub head_block : {w : List (Role × ℕ)} → IsGathered image w → (n p s j b : ℕ) → Has w (Head n p s j) b → node_block w n ≡ b
+  head_block start n p s j b (inl e) = let h : second Root ≡ second (Head n p s j) = ap second e.0 in absurd (omega arith)
+  head_block start n p s j b (inr f) = absurd f
+  head_block (step {w = w} {r = r} a i c v d l) n p s j b (inl e) =
+      subst (λ r. node_block_of n r c (node_block w n) ≡ b) (sym e.0) (rw (eq-eqb n n refl) e.1)
+  head_block (step {w = w} {r = r} a i c v d l) n p s j b (inr h) =
+      let u : (1 ≤ n) × (n ≤ heads w) = number_of v n p s j b h in
+      other_node w n r a i c (node_block w n) d (omega arith) ∙ head_block v n p s j b h
+
+  root_block : {w : List (Role × ℕ)} → IsGathered image w → node_block w 0 ≡ root_of image
+  root_block start = refl
+  root_block (step {w = w} {r = r} a i c v d l) = other_node w 0 r a i c (node_block w 0) d (omega arith) ∙ root_block v
+
+  pub node_is : {w : List (Role × ℕ)} → IsGathered image w → (n b : ℕ) → NodeAt w n b → node_block w n ≡ b
+  node_is v zero b h = root_block v ∙ root_is v b h
+  node_is v (suc n) b h = head_block v (suc n) h.0 h.1 h.2 b h.3
+
+  -- a header stands in a directory that came before
+  head_dir_of : (w : List (Role × ℕ)) (n p s j a i : ℕ) → Asks image w (Head n p s j) a i
+      → ((m k b : ℕ) → Has w (Head m p s k) b → (d : ℕ) × DirAt image w p d) → (d : ℕ) × DirAt image w p d
+  head_dir_of w n p s zero a i h f = (a, h.2)
+  head_dir_of w n p s (suc j) a i h f = f h.1.0 j a h.1.1
+
+  dir_more : (w : List (Role × ℕ)) (x : Role × ℕ) (p d : ℕ) → DirAt image w p d → DirAt image (x ∷ w) p d
+  dir_more w x zero d h = inr h
+  dir_more w x (suc p) d h = ((h.0.0, h.0.1, h.0.2, inr h.0.3), h.1)
+
+  head_dir : {w : List (Role × ℕ)} → IsGathered image w → (n p s j b : ℕ) → Has w (Head n p s j) b → (d : ℕ) × DirAt image w p d
+  head_dir start n p s j b (inl e) = let h : second Root ≡ second (Head n p s j) = ap second e.0 in absurd (omega arith)
+  head_dir start n p s j b (inr f) = absurd f
+  head_dir (step {w = w} {r = r} a i c v d l) n p s j b (inl e) =
+      let x = head_dir_of w n p s j a i (subst (λ r. Asks image w r a i) e.0 d) (λ m k b h. head_dir v m p s k b h) in
+      (x.0, dir_more w (r, c) p x.0 x.1)
+  head_dir (step {w = w} {r = r} a i c v d l) n p s j b (inr h) = let x = head_dir v n p s j b h in (x.0, dir_more w (r, c) p x.0 x.1)
+
+  pub asked_dir : {w : List (Role × ℕ)} → IsGathered image w → (n p s j a i : ℕ) → Asks image w (Head n p s j) a i → (d : ℕ) × DirAt image w p d
+  asked_dir {w = w} v n p s j a i h = head_dir_of w n p s j a i h (λ m k b h. head_dir v m p s k b h)
+
+  -- an extension block is one of a file that came before
+  ext_file_of : (w : List (Role × ℕ)) (n k a i : ℕ) → Asks image w (Ext n k) a i → ((j b : ℕ) → Has w (Ext n j) b → (h : ℕ) × FileAt image w n h)
+      → (h : ℕ) × FileAt image w n h
+  ext_file_of w n zero a i h f = absurd h
+  ext_file_of w n (suc zero) a i h f = (a, h.0)
+  ext_file_of w n (suc (suc k)) a i h f = f (suc k) a h.0
+
+  file_more : (w : List (Role × ℕ)) (x : Role × ℕ) (n h : ℕ) → FileAt image w n h → FileAt image (x ∷ w) n h
+  file_more w x n h f = ((f.0.0, f.0.1, f.0.2, inr f.0.3), f.1)
+
+  ext_file : {w : List (Role × ℕ)} → IsGathered image w → (n k b : ℕ) → Has w (Ext n k) b → (h : ℕ) × FileAt image w n h
+  ext_file start n k b (inl e) = let h : first Root ≡ first (Ext n k) = ap first e.0 in absurd (omega arith)
+  ext_file start n k b (inr f) = absurd f
+  ext_file (step {w = w} {r = r} a i c v d l) n k b (inl e) =
+      let x = ext_file_of w n k a i (subst (λ r. Asks image w r a i) e.0 d) (ext_file v n) in (x.0, file_more w (r, c) n x.0 x.1)
+  ext_file (step {w = w} {r = r} a i c v d l) n k b (inr h) = let x = ext_file v n k b h in (x.0, file_more w (r, c) n x.0 x.1)
+
+  pub asked_file : {w : List (Role × ℕ)} → IsGathered image w → (n k a i : ℕ) → Asks image w (Ext n k) a i → (h : ℕ) × FileAt image w n h
+  asked_file {w = w} v n k a i h = ext_file_of w n k a i h (ext_file v n)

@@ -2,20 +2,22 @@
 use Rattle.std.specs.Prelude.{Some}
 use Rattle.std.proofs.Common.{◌≡◌, ℕ, zero, suc, List, [], ◌∷◌, ◌++◌, ◌⊎◌, inl, inr, ◌*◌, ◌/◌, ◌<◌, ◌≤◌, refl, sym, ap, subst, ◌∙◌, arith}
 use native.Mathlib.Decide.{dec_lt}
-use Rattle.adf_blocks.specs.declared.layout.TheConstants.{POINTERS}
-use Rattle.adf_volume.specs.Image.{word_in, table_word}
+use Rattle.adf_blocks.specs.declared.layout.TheConstants.{POINTERS, SIZE}
+use Rattle.adf_volume.specs.Image.{held, kind_of, word_in, table_word}
 use Rattle.adf_volume.specs.Lists.{In}
-use Rattle.adf_volume.specs.Demands.{AllHold}
+use Rattle.adf_volume.specs.Demands.{AllHold, data_demands, demand, ext_demands, head_demands}
+use Rattle.adf_blocks.specs.declared.cause.Cause.TheVariants.{SameName}
+use Rattle.adf_volume.specs.Walk.{first, NodeAt, NewName, form_demands, next_data, node_block}
 use Rattle.adf_volume.specs.Walk.{Role, second, Has, FileAt, MemberAt, data_count, Asks, IsAbsent, ext_count, demands}
 use Rattle.adf_volume.specs.Walk.Role.{Root, Head, Ext, Data}
-use Rattle.adf_volume.proofs.Lists.{in_left, in_right}
-use Rattle.adf_volume.proofs.Walks.{count_up, dec_has, has_role, same_refl}
+use Rattle.adf_volume.proofs.Lists.{all_split, in_left, in_right}
+use Rattle.adf_volume.proofs.Walks.{count_up, dir_is_node, dec_has, has_role, same_refl}
 use Rattle.adf_survey.specs.Survey.{Finding, finding, Course, IsNext, IsCourse, IsDone, IsSurvey}
 use Rattle.adf_survey.specs.Survey.Judgement.{clean, noted, passed}
 use Rattle.adf_survey.specs.Survey.IsCourse.{start, step}
 use Rattle.adf_survey.specs.Survey.IsSurvey.{unread, read}
-use Rattle.adf_survey.specs.Sound.{IsUnnoted, IsSound}
-use Rattle.adf_survey.proofs.Gathered.{asks_one, ext_counted, file_one}
+use Rattle.adf_survey.specs.Sound.{FileHolds, HeaderHolds, IsSound, IsUnnoted}
+use Rattle.adf_survey.proofs.Gathered.{IsGathered, asked_dir, asked_file, asks_one, ext_counted, file_one, head_block, node_is, node_one}
 use Rattle.adf_survey.proofs.OneSurvey.{gathered}
 use Rattle.adf_survey.proofs.SomeSurvey.{keeps_taken}
 
@@ -42,6 +44,7 @@ module _ (image : List ℕ) where
   -- how a member came into a walk
   record Came (w : List (Role × ℕ)) (fs : List Finding) (r : Role) (b : ℕ) : Type 0 where
     before : List (Role × ℕ)
+    came_before : IsGathered image before
     at : ℕ
     index : ℕ
     asked : Asks image before r at index
@@ -53,6 +56,7 @@ module _ (image : List ℕ) where
   came_later : (w : List (Role × ℕ)) (fs : List Finding) (r : Role) (b : ℕ) (x : Role × ℕ) → Came w fs r b → Came (x ∷ w) fs r b
   came_later w fs r b x y = record {
     before = y.before;
+    came_before = y.came_before;
     at = y.at;
     index = y.index;
     asked = y.asked;
@@ -65,6 +69,7 @@ module _ (image : List ℕ) where
   came_noted : (w : List (Role × ℕ)) (fs gs : List Finding) (r : Role) (b : ℕ) → Came w fs r b → Came w (fs ++ gs) r b
   came_noted w fs gs r b y = record {
     before = y.before;
+    came_before = y.came_before;
     at = y.at;
     index = y.index;
     asked = y.asked;
@@ -74,10 +79,12 @@ module _ (image : List ℕ) where
     counted = y.counted;
   }
 
-  came_new : (s : Course) (r : Role) (a i : ℕ) (w : List (Role × ℕ)) (fs : List Finding) (x : Role × ℕ) → w ≡ x ∷ s.walk → IsNext image s r a i
+  came_new : (s : Course) (r : Role) (a i : ℕ) (w : List (Role × ℕ)) (fs : List Finding) (x : Role × ℕ) → w ≡ x ∷ s.walk → IsCourse image s
+      → IsNext image s r a i
       → AllHold (demands image s.walk r a (word_in image a i)) ⊎ Noted fs r → Came w fs r (word_in image a i)
-  came_new s r a i w fs x e n j = record {
+  came_new s r a i w fs x e v n j = record {
     before = s.walk;
+    came_before = gathered image v;
     at = a;
     index = i;
     asked = n.asked;
@@ -94,7 +101,7 @@ module _ (image : List ℕ) where
   came (step {s = s} {r = q} {a = a} {i = i} clean v n g) r b (inl e) =
       let w : List (Role × ℕ) = (q, word_in image a i) ∷ s.walk in
       inr (subst (Came w s.findings r) e.1 (subst (λ r. Came w s.findings r (word_in image a i)) e.0
-      (came_new s q a i w s.findings (q, word_in image a i) refl n (inl g))))
+      (came_new s q a i w s.findings (q, word_in image a i) refl v n (inl g))))
   came (step {s = s} {r = q} {a = a} {i = i} clean v n g) r b (inr h) =
       elim (came v r b h) [
         | inl e ↦ inl e
@@ -104,7 +111,7 @@ module _ (image : List ℕ) where
       let w : List (Role × ℕ) = (q, word_in image a i) ∷ s.walk in
       let fs : List Finding = s.findings ++ finding (Some q) at c ∷ [] in
       inr (subst (Came w fs r) e.1 (subst (λ r. Came w fs r (word_in image a i)) e.0
-      (came_new s q a i w fs (q, word_in image a i) refl n (inr (noted_now s.findings q (finding (Some q) at c) refl)))))
+      (came_new s q a i w fs (q, word_in image a i) refl v n (inr (noted_now s.findings q (finding (Some q) at c) refl)))))
   came (step {s = s} {r = q} {a = a} {i = i} (noted at c) v n g) r b (inr h) =
       elim (came v r b h) [
         | inl e ↦ inl e
@@ -122,6 +129,62 @@ module _ (image : List ℕ) where
   same_word a a' i i' b e f h = (λ t. word_in image (sym e t) (sym f t)) ∙ h
 
   module _ {s : Course} (v : IsCourse image s) (done : IsDone image s) where
+    -- a member that nothing is said against came without a cause
+    came_clean : (r : Role) (b : ℕ) → Has s.walk r b → (Root ≡ r → ⊥) → IsUnnoted s.findings r
+        → (y : Came s.walk s.findings r b) × AllHold (demands image y.before r y.at b)
+    came_clean r b g other clear =
+        elim (came v r b g) [
+          | inl e ↦ absurd (other e)
+          | inr y ↦ elim (y.judged) [ inl h ↦ (y, h) | inr x ↦ absurd (clear x.0 r x.1 x.2 (same_refl r)) ]
+        ]
+
+    came_formed : (r : Role) (b : ℕ) → Has s.walk r b → (Root ≡ r → ⊥) → IsUnnoted s.findings r
+        → (y : Came s.walk s.findings r b) × AllHold (form_demands image y.before r b)
+    came_formed r b g other clear =
+        let x = came_clean r b g other clear in
+        (x.0, (all_split (form_demands image x.0.before r b) (demand SameName b (NewName image x.0.before r b) ∷ []) x.1.1.1.1).0)
+
+    node_before : (w : List (Role × ℕ)) (p a : ℕ) → ((q : Role) (c : ℕ) → Has w q c → Has s.walk q c) → NodeAt w p a → NodeAt s.walk p a
+    node_before w zero a older f = older Root a f
+    node_before w (suc p) a older f = (f.0, f.1, f.2, older (Head (suc p) f.0 f.1 f.2) a f.3)
+
+    -- a header has its form
+    head_formed : (n p t j h up : ℕ) → Has s.walk (Head n p t j) h → IsUnnoted s.findings (Head n p t j) → NodeAt s.walk p up
+        → AllHold (head_demands image (kind_of image) h up t)
+    head_formed n p t j h up g clear node =
+        let x = came_formed (Head n p t j) h g (λ e. let x : second Root ≡ second (Head n p t j) = ap second e in omega arith) clear in
+        let w : List (Role × ℕ) = x.0.before in
+        let d = asked_dir image x.0.came_before n p t j x.0.at x.0.index x.0.asked in
+        let f : NodeAt w p d.0 = dir_is_node image w p d.0 d.1 in
+        let e : node_block w p ≡ up =
+        node_is image x.0.came_before p d.0 f ∙ node_one image (gathered image v) p d.0 up (node_before w p d.0 x.0.older f) node in
+        subst (λ up. AllHold (head_demands image (kind_of image) h up t)) e x.1
+
+    -- the file of a part is that of the walk
+    file_was : (w : List (Role × ℕ)) (n a h : ℕ) → IsGathered image w → ((q : Role) (c : ℕ) → Has w q c → Has s.walk q c) → FileAt image w n a
+        → FileAt image s.walk n h → node_block w n ≡ h
+    file_was w n a h g older f file =
+        head_block image g n f.0.0 f.0.1 f.0.2 a f.0.3
+        ∙ file_one image (gathered image v) n a h ((f.0.0, f.0.1, f.0.2, older (Head n f.0.0 f.0.1 f.0.2) a f.0.3), f.1) file
+
+    ext_formed : (n k b h : ℕ) → Has s.walk (Ext n k) b → IsUnnoted s.findings (Ext n k) → FileAt image s.walk n h → AllHold (ext_demands image b h)
+    ext_formed n k b h g clear file =
+        let x = came_formed (Ext n k) b g (λ e. let x : first Root ≡ first (Ext n k) = ap first e in omega arith) clear in
+        let d = asked_file image x.0.came_before n k x.0.at x.0.index x.0.asked in
+        let e : node_block x.0.before n ≡ h = file_was x.0.before n d.0 h x.0.came_before x.0.older d.1 file in
+        subst (λ h. AllHold (ext_demands image b h)) e x.1
+
+    data_formed : (n k b h : ℕ) → Has s.walk (Data n (suc k)) b → IsUnnoted s.findings (Data n (suc k)) → FileAt image s.walk n h
+        → (next : ℕ) × AllHold (data_demands image (kind_of image) b h (suc k) (held (kind_of image) (word_in image h SIZE) (suc k)) next)
+    data_formed n k b h g clear file =
+        let x = came_formed (Data n (suc k)) b g (λ e. let x : second Root ≡ second (Data n (suc k)) = ap second e in omega arith) clear in
+        let d = x.0.asked.0 in
+        let e : node_block x.0.before n ≡ h = file_was x.0.before n d.0 h x.0.came_before x.0.older d.1 file in
+        let next : ℕ = next_data image x.0.before n (suc k) in (
+          next,
+          subst (λ h. AllHold (data_demands image (kind_of image) b h (suc k) (held (kind_of image) (word_in image h SIZE) (suc k)) next)) e x.1,
+        )
+
     -- what is asked for and has no finding is in the walk
     in_walk : (r : Role) (a i : ℕ) → Asks image s.walk r a i → IsUnnoted s.findings r → second r < 2 → (b : ℕ) × Has s.walk r b
     in_walk r a i ask clear low =
@@ -143,13 +206,8 @@ module _ (image : List ℕ) where
       member_before w zero a older f = file_before w a older f
       member_before w (suc m) a older f = older (Ext n (suc m)) a f
 
-      -- a data block that nothing is said against came without a cause
-      came_clean : (k b : ℕ) → Has s.walk (Data n k) b → (y : Came s.walk s.findings (Data n k) b) × AllHold (demands image y.before (Data n k) y.at b)
-      came_clean k b g =
-          elim (came v (Data n k) b g) [
-            | inl e ↦ absurd (let x : second Root ≡ second (Data n k) = ap second e in omega arith)
-            | inr y ↦ elim (y.judged) [ inl h ↦ (y, h) | inr x ↦ absurd (clear k x.0 (Data n k) x.1 x.2 (same_refl (Data n k))) ]
-          ]
+      data_clean : (k b : ℕ) → Has s.walk (Data n k) b → (y : Came s.walk s.findings (Data n k) b) × AllHold (demands image y.before (Data n k) y.at b)
+      data_clean k b g = came_clean (Data n k) b g (λ e. let x : second Root ≡ second (Data n k) = ap second e in omega arith) (clear k)
 
       enough : data_count image h ≤ POINTERS * suc (ext_count s.walk n)
       enough =
@@ -157,7 +215,7 @@ module _ (image : List ℕ) where
             | no m ↦ omega arith
             | yes lt ↦
                 let x = in_walk (Data n 1) h (table_word 0) ((h, file, lt), file, refl) (clear 1) (omega arith) in
-                let y = came_clean 1 x.0 x.1 in
+                let y = data_clean 1 x.0 x.1 in
                 let first = y.0.asked.0 in
                 let e : first.0 ≡ h = file_one image (gathered image v) n first.0 h (file_before y.0.before first.0 y.0.older first.1) file in
                 let l : data_count image first.0 ≤ POINTERS * suc (ext_count y.0.before n) = y.1.0 refl first.0 first.1 in
@@ -179,7 +237,7 @@ module _ (image : List ℕ) where
           let m = member_at (k / POINTERS) (omega arith) in
           let ask : Asks image s.walk (Data n (suc k)) m.0 (table_word k) = ((h, file, lt), m.1, refl) in
           let x = in_walk (Data n (suc k)) m.0 (table_word k) ask (clear (suc k)) (omega arith) in
-          let y = (came_clean (suc k) x.0 x.1).0 in
+          let y = (data_clean (suc k) x.0 x.1).0 in
           let was : Asks image s.walk (Data n (suc k)) y.at y.index = (
             (y.asked.0.0, file_before y.before y.asked.0.0 y.older y.asked.0.1, y.asked.0.2),
             member_before y.before (k / POINTERS) y.at y.older y.asked.1,
@@ -212,9 +270,18 @@ module _ (image : List ℕ) where
   unnoted_less : (fs gs : List Finding) (r : Role) → IsUnnoted (fs ++ gs) r → IsUnnoted fs r
   unnoted_less fs gs r h f q i = h f q (in_left fs gs f i)
 
-  pub sound_files : (w : List (Role × ℕ)) (fs : List Finding) (n h : ℕ) → IsSurvey image w fs → IsSound image w fs n h → FileAt image w n h
-      → (k : ℕ) → k < data_count image h
-      → (a b : ℕ) × MemberAt image w n (k / POINTERS) a × (word_in image a (table_word k) ≡ b) × Has w (Data n (suc k)) b
-  sound_files w fs n h (unread f) sound file k lt = absurd file.0.3
-  sound_files w fs n h (read {s = s} {bits = bits} begun v d t) sound file k lt =
-      data_named v d n h file (λ k. unnoted_less s.findings bits (Data n k) (sound.datas k)) k lt
+  pub sound_header : (w : List (Role × ℕ)) (fs : List Finding) (n h : ℕ) → IsSurvey image w fs → IsSound image w fs n h → HeaderHolds image w n h
+  sound_header w fs n h (unread f) sound p t j up g node = absurd g
+  sound_header w fs n h (read {s = s} {bits = bits} begun v d told) sound p t j up g node =
+      let x = sound.header in
+      let e : Head n x.0 x.1 x.2 ≡ Head n p t j = one_role v (Head n x.0 x.1 x.2) (Head n p t j) h x.3 g in
+      head_formed v d n p t j h up g (subst (IsUnnoted s.findings) e (unnoted_less s.findings bits (Head n x.0 x.1 x.2) x.4)) node
+
+  pub sound_file : (w : List (Role × ℕ)) (fs : List Finding) (n h : ℕ) → IsSurvey image w fs → IsSound image w fs n h → FileAt image w n h
+      → FileHolds image w n h
+  sound_file w fs n h (unread f) sound file = absurd file.0.3
+  sound_file w fs n h (read {s = s} {bits = bits} begun v d told) sound file = record {
+    named = data_named v d n h file (λ k. unnoted_less s.findings bits (Data n k) (sound.datas k));
+    exts = (λ k b g. ext_formed v d n k b h g (unnoted_less s.findings bits (Ext n k) (sound.exts k)) file);
+    datas = (λ k b g. data_formed v d n k b h g (unnoted_less s.findings bits (Data n (suc k)) (sound.datas (suc k))) file);
+  }

@@ -1,11 +1,14 @@
 -- Entries that nothing is said against.
--- Letters: w the walk of a survey, fs its findings; n an entry's node, h the block of its header; b, c blocks; q, r roles; a, i the block and the word
--- that name one; k the number of a data block.
-use Rattle.std.specs.Prelude.{◌≡◌, ℕ, List, Some}
+-- Letters: w the walk of a survey, fs its findings; n an entry's node, h the block of its header; p, s, j, up the node of its directory, its slot, its
+-- place in the chain and the directory's block; q, r roles; b the block of one; a, i the block and the word that name one; k a number of a part.
+use Rattle.std.specs.Prelude.{◌≡◌, ◌<◌, ◌/◌, ℕ, List, Some}
+use Rattle.std.proofs.Common.{suc}
+use Rattle.adf_blocks.specs.declared.layout.TheConstants.{POINTERS, SIZE}
+use Rattle.adf_volume.specs.Demands.{AllHold, data_demands, ext_demands, head_demands}
 use Rattle.adf_tree.specs.declared.entry.Kind.TheVariants.{Ffs}
 use Rattle.adf_volume.specs.Lists.{In}
-use Rattle.adf_volume.specs.Image.{kind_of, word_in}
-use Rattle.adf_volume.specs.Walk.{Role, Same, Has, Asks}
+use Rattle.adf_volume.specs.Image.{held, kind_of, table_word, word_in}
+use Rattle.adf_volume.specs.Walk.{Role, Same, Has, NodeAt, MemberAt, data_count, Asks}
 use Rattle.adf_volume.specs.Walk.Role.{Head, Ext, Data}
 use Rattle.adf_survey.specs.Survey.{Finding}
 
@@ -20,3 +23,16 @@ pub record IsSound (image : List ℕ) (w : List (Role × ℕ)) (fs : List Findin
   pub exts : (k : ℕ) → IsUnnoted fs (Ext n k)
   pub datas : (k : ℕ) → IsUnnoted fs (Data n k)
   pub alone : kind_of image ≡ Ffs → (k b : ℕ) → Has w (Data n k) b → (q : Role) (a i : ℕ) → Asks image w q a i → word_in image a i ≡ b → Same q (Data n k)
+
+-- the header of the entry, at block h, has its form in the chain in which it stands
+abbrev pub HeaderHolds : List ℕ → List (Role × ℕ) → ℕ → ℕ → Type 0
+HeaderHolds image w n h = (p s j up : ℕ) → Has w (Head n p s j) h → NodeAt w p up → AllHold (head_demands image (kind_of image) h up s)
+
+-- Each data block that the size of the file asks for is in the walk, at the block that the table names; its extension blocks and data blocks have
+-- their forms, the latter for some next data block.
+pub record FileHolds (image : List ℕ) (w : List (Role × ℕ)) (n h : ℕ) : Type 0 where
+  pub named : (k : ℕ) → k < data_count image h
+      → (a b : ℕ) × MemberAt image w n (k / POINTERS) a × (word_in image a (table_word k) ≡ b) × Has w (Data n (suc k)) b
+  pub exts : (k b : ℕ) → Has w (Ext n k) b → AllHold (ext_demands image b h)
+  pub datas : (k b : ℕ) → Has w (Data n (suc k)) b
+      → (next : ℕ) × AllHold (data_demands image (kind_of image) b h (suc k) (held (kind_of image) (word_in image h SIZE) (suc k)) next)

@@ -1,17 +1,13 @@
 // The laws of surveys. Each is the contract of a function that does nothing.
 
-ghost use Rattle.std.specs.Prelude.{◌≡◌, ◌<◌, ◌/◌, ℕ, List, [], ◌∷◌};
-ghost use Rattle.std.proofs.Common.{suc};
+ghost use Rattle.std.specs.Prelude.{◌≡◌, ℕ, List, [], ◌∷◌};
 ghost use Rattle.adf_tree.specs.Tree.{Tree};
 ghost use Rattle.adf_volume.specs.Fits.{Fits};
 ghost use Rattle.adf_volume.specs.Layout.{Layout};
 ghost use Rattle.adf_volume.specs.Made.{layout_in, tree_in};
-ghost use Rattle.adf_volume.specs.Image.{table_word, word_in};
-ghost use Rattle.adf_volume.specs.Walk.{FileAt, FirstFault, Has, MemberAt, Role, data_count};
-ghost use Rattle.adf_volume.specs.Walk.Role.{Data};
-ghost use Rattle.adf_blocks.specs.declared.layout.TheConstants.{POINTERS};
+ghost use Rattle.adf_volume.specs.Walk.{FileAt, FirstFault, Has, Role};
 ghost use Rattle.adf_survey.specs.Survey.{Finding, IsSurvey};
-ghost use Rattle.adf_survey.specs.Sound.{IsSound};
+ghost use Rattle.adf_survey.specs.Sound.{FileHolds, HeaderHolds, IsSound};
 
 /// Each image has a survey.
 #[tactic(auto, using(crate::proofs::SomeSurvey::some_survey))]
@@ -21,28 +17,34 @@ pub fn some_survey()
 
 /// An image has one survey at most.
 pub fn one_survey()
-    ensures { (image : List ℕ) (w u : List (Role × ℕ)) (fs gs : List Finding) → IsSurvey image w fs → IsSurvey image u gs → (w ≡ u) × (fs ≡ gs) }
+    ensures { (image : List ℕ) (w u : List (Role × ℕ)) (fs gs : List Finding) → IsSurvey image w fs → IsSurvey image u gs
+        → (w ≡ u) × (fs ≡ gs) }
 {}
 
 /// The first finding of an image is its first fault.
 pub fn first_finding()
-    ensures { (image : List ℕ) (w : List (Role × ℕ)) (f : Finding) (fs : List Finding) → IsSurvey image w (f ∷ fs) → FirstFault image f.block f.cause }
+    ensures { (image : List ℕ) (w : List (Role × ℕ)) (f : Finding) (fs : List Finding) → IsSurvey image w (f ∷ fs)
+        → FirstFault image f.block f.cause }
 {}
 
 /// An image without findings is a volume, of the tree and the layout that the walk tells; and no volume has a finding.
 pub fn no_finding()
     ensures fits { (image : List ℕ) (w : List (Role × ℕ)) → IsSurvey image w [] → Fits image (tree_in image w) (layout_in w) }
-    ensures none { (image : List ℕ) (t : Tree) (l : Layout) (w : List (Role × ℕ)) (fs : List Finding) → Fits image t l → IsSurvey image w fs → fs ≡ [] }
+    ensures none { (image : List ℕ) (t : Tree) (l : Layout) (w : List (Role × ℕ)) (fs : List Finding) → Fits image t l
+        → IsSurvey image w fs → fs ≡ [] }
 {}
 
 /// A block of a survey's walk is one part.
 pub fn one_part()
-    ensures { (image : List ℕ) (w : List (Role × ℕ)) (fs : List Finding) → IsSurvey image w fs → (r q : Role) (b : ℕ) → Has w r b → Has w q b → r ≡ q }
+    ensures { (image : List ℕ) (w : List (Role × ℕ)) (fs : List Finding) → IsSurvey image w fs
+        → (r q : Role) (b : ℕ) → Has w r b → Has w q b → r ≡ q }
 {}
 
-/// Each data block that the size of a sound file asks for is in the walk, at the block that the file's table names.
-pub fn sound_files()
-    ensures { (image : List ℕ) (w : List (Role × ℕ)) (fs : List Finding) (n h : ℕ) → IsSurvey image w fs → IsSound image w fs n h → FileAt image w n h
-        → (k : ℕ) → k < data_count image h
-        → (a b : ℕ) × MemberAt image w n (k / POINTERS) a × (word_in image a (table_word k) ≡ b) × Has w (Data n (suc k)) b }
+/// The header of a sound entry has its form. Each data block that the size of a sound file asks for is in the walk, at the block that the
+/// file's table names, and all of its blocks have their forms.
+pub fn sound_entries()
+    ensures header { (image : List ℕ) (w : List (Role × ℕ)) (fs : List Finding) (n h : ℕ) → IsSurvey image w fs
+        → IsSound image w fs n h → HeaderHolds image w n h }
+    ensures file { (image : List ℕ) (w : List (Role × ℕ)) (fs : List Finding) (n h : ℕ) → IsSurvey image w fs
+        → IsSound image w fs n h → FileAt image w n h → FileHolds image w n h }
 {}

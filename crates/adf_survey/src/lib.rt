@@ -3,4 +3,6 @@
 
 mod laws;
 
-pub use crate::laws::{first_finding, no_finding, one_part, one_survey, some_survey, sound_files};
+pub use crate::laws::{
+    first_finding, no_finding, one_part, one_survey, some_survey, sound_entries,
+};

@@ -1,0 +1,8 @@
+use Rattle.adf_survey.proofs.SoundEntries as laws
+use Rattle.adf_survey.proofs.laws.sound_entries.Goals as goal
+
+pub returns-clause-header : goal.returns-clause-header
+returns-clause-header c = λ image w fs n h v s. laws.sound_header image w fs n h v s
+
+pub returns-clause-file : goal.returns-clause-file
+returns-clause-file c = λ image w fs n h v s f. laws.sound_file image w fs n h v s f
