@@ -40,8 +40,8 @@ pub fn one_part()
         → (r q : Role) (b : ℕ) → Has w r b → Has w q b → r ≡ q }
 {}
 
-/// The header of a sound entry has its form. Each data block that the size of a sound file asks for is in the walk, at the block that the
-/// file's table names, and all of its blocks have their forms.
+/// The header of a sound entry has its form. Each data block that the size of a sound file asks for is in the walk, at the block
+/// that the file's table names, and all of its blocks have their forms.
 pub fn sound_entries()
     ensures header { (image : List ℕ) (w : List (Role × ℕ)) (fs : List Finding) (n h : ℕ) → IsSurvey image w fs
         → IsSound image w fs n h → HeaderHolds image w n h }
