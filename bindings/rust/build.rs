@@ -1,0 +1,70 @@
+//! Finds the C library, in this order:
+//!
+//! - `ADF_LIBRARY`, the path of `libadf.a` or `libadf.so` as `install` leaves them, or of `libadf_c.a` with `ADF_LIBC`, the path
+//!   of the toolchain's `liblibc_c.a`;
+//! - in a clone: `crates/adf_c/out/libadf_c.a`, and the `liblibc_c.a` of the kit that `rt doc` names;
+//! - the library that pkg-config finds as `adf`.
+
+use std::env;
+use std::path::{Path, PathBuf};
+use std::process::Command;
+
+fn main() {
+    println!("cargo:rerun-if-env-changed=ADF_LIBRARY");
+    println!("cargo:rerun-if-env-changed=ADF_LIBC");
+    if let Some(archive) = env::var_os("ADF_LIBRARY") {
+        link(Path::new(&archive));
+        if let Some(libc) = env::var_os("ADF_LIBC") {
+            link(Path::new(&libc));
+        }
+        return;
+    }
+    let root = Path::new(env!("CARGO_MANIFEST_DIR")).join("../..");
+    match (root.join("crates/adf_c/out/libadf_c.a"), kit()) {
+        (archive, Some(kit)) if archive.exists() => {
+            link(&archive);
+            link(&kit.join("c/liblibc_c.a"));
+        }
+        _ => link_installed(),
+    }
+}
+
+/// Links `FOLDER/libNAME.a`, or `FOLDER/libNAME.so`.
+fn link(library: &Path) {
+    let name = library.file_stem().and_then(|stem| stem.to_str()).and_then(|stem| stem.strip_prefix("lib"));
+    let (Some(folder), Some(name)) = (library.parent(), name) else {
+        panic!("{}: not the path of a library libNAME.a or libNAME.so", library.display());
+    };
+    let kind = if library.extension().is_some_and(|extension| extension == "so") { "dylib" } else { "static" };
+    println!("cargo:rerun-if-changed={}", library.display());
+    println!("cargo:rustc-link-search=native={}", folder.display());
+    println!("cargo:rustc-link-lib={kind}={name}");
+}
+
+/// What a command writes on one line, where it succeeds.
+fn answer(command: &mut Command) -> Option<String> {
+    let output = command.output().ok().filter(|output| output.status.success())?;
+    String::from_utf8(output.stdout).ok().map(|text| text.trim().to_owned())
+}
+
+/// The folder of the toolchain.
+fn kit() -> Option<PathBuf> {
+    answer(Command::new("rt").arg("doc")).and_then(|page| Some(Path::new(&page).parent()?.to_owned()))
+}
+
+/// Links what pkg-config says of the installed library.
+fn link_installed() {
+    let Some(flags) = answer(Command::new("pkg-config").args(["--libs", "adf"])) else {
+        panic!(
+            "no libadf: set ADF_LIBRARY to the path of libadf.a, run `rt lib` in crates/adf_c of a clone, \
+             or have pkg-config find adf.pc (PKG_CONFIG_PATH)"
+        );
+    };
+    for flag in flags.split_whitespace() {
+        match flag.split_at(flag.len().min(2)) {
+            ("-L", folder) => println!("cargo:rustc-link-search=native={folder}"),
+            ("-l", name) => println!("cargo:rustc-link-lib={name}"),
+            _ => println!("cargo:rustc-link-arg={flag}"),
+        }
+    }
+}

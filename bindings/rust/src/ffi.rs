@@ -1,0 +1,260 @@
+//! The calls of include/adf.h over slices. All that is `unsafe` in this crate stands here; above each block is the sentence of
+//! the header that allows it.
+//!
+//! Of what the header asks, a slice has by itself: its pointer is not null, leads to as many bytes as it says, and its length is
+//! at most PTRDIFF_MAX; nobody writes what is borrowed here, and what is borrowed mutably overlaps nothing.
+
+use crate::cause::{Cause, NotFound, Refused};
+
+/// `struct adf_date`.
+#[repr(C)]
+#[derive(Clone, Copy, Debug, Default, PartialEq, Eq, PartialOrd, Ord, Hash)]
+pub struct Date {
+    /// Days since 1978-01-01.
+    pub days: u32,
+    /// Minutes of the day.
+    pub mins: u32,
+    /// Fiftieths of a second in the minute.
+    pub ticks: u32,
+}
+
+/// `struct adf_entry`.
+#[repr(C)]
+#[derive(Clone, Copy)]
+pub(crate) struct Record {
+    pub parent: u32,
+    pub header: u32,
+    pub size: u32,
+    pub first: u32,
+    pub protection: u32,
+    pub date: Date,
+    pub is_file: u8,
+    pub name_length: u8,
+    pub name: [u8; 30],
+    pub comment_length: u8,
+    pub comment: [u8; 79],
+}
+
+/// `struct adf_contents`.
+#[repr(C)]
+#[derive(Clone, Copy, Default)]
+pub(crate) struct Contents {
+    pub kind: u32,
+    pub blocks: u32,
+    pub used: u32,
+    pub free: u32,
+    pub entries: usize,
+    pub data_blocks: usize,
+    pub block: u32,
+    pub root: Date,
+    pub altered: Date,
+    pub created: Date,
+    pub label_length: u8,
+    pub label: [u8; 30],
+}
+
+/// `struct adf_moved`.
+#[repr(C)]
+#[derive(Clone, Copy, Default)]
+pub(crate) struct Moved {
+    pub input: usize,
+    pub output: usize,
+    pub errors: usize,
+    pub output_full: bool,
+    pub errors_full: bool,
+}
+
+extern "C" {
+    fn adf_index(
+        image: *const u8,
+        length: usize,
+        entries: *mut Record,
+        entries_room: usize,
+        blocks: *mut u32,
+        blocks_room: usize,
+        contents: *mut Contents,
+    ) -> u8;
+    fn adf_find(entries: *const Record, count: usize, path: *const u8, path_length: usize, node: *mut usize) -> u8;
+    fn adf_read(
+        image: *const u8,
+        length: usize,
+        entries: *const Record,
+        entries_count: usize,
+        blocks: *const u32,
+        blocks_count: usize,
+        node: usize,
+        offset: usize,
+        room: *mut u8,
+        room_length: usize,
+    ) -> usize;
+    fn adf_cause_text(cause: u8, room: *mut u8, room_length: usize) -> usize;
+    fn adf_run(
+        words: *const u8,
+        words_length: usize,
+        input: *const u8,
+        input_length: usize,
+        output: *mut u8,
+        output_room: usize,
+        errors: *mut u8,
+        errors_room: usize,
+        moved: *mut Moved,
+    ) -> u8;
+}
+
+/// The tables of a volume, as `adf_index` makes them.
+pub(crate) struct Tables {
+    pub contents: Contents,
+    pub entries: Vec<Record>,
+    pub blocks: Vec<u32>,
+}
+
+/// A vector with room for so many, if there is memory.
+fn with_room<T>(count: usize) -> Result<Vec<T>, Refused> {
+    let mut room = Vec::new();
+    match room.try_reserve_exact(count) {
+        Ok(()) => Ok(room),
+        Err(_) => Err(Refused { cause: Cause::NoMemory, block: 0 }),
+    }
+}
+
+/// Checks an image and makes its tables.
+pub(crate) fn index(image: &[u8]) -> Result<Tables, Refused> {
+    let most = image.len() / 512;
+    let (mut entries, mut blocks) = (with_room::<Record>(most)?, with_room::<u32>(most)?);
+    let (entries_room, blocks_room) = (entries.capacity(), blocks.capacity());
+    let mut contents = Contents::default();
+    // "A pointer to bytes leads to as many as its length or room says", and "a room may hold anything before the call".
+    let answer = unsafe {
+        adf_index(
+            image.as_ptr(),
+            image.len(),
+            entries.as_mut_ptr(),
+            entries_room,
+            blocks.as_mut_ptr(),
+            blocks_room,
+            &mut contents,
+        )
+    };
+    if let Some(cause) = Cause::from_number(answer) {
+        return Err(Refused { cause, block: contents.block });
+    }
+    // "fills two tables, each as far as there is room"; "contents->entries and contents->data_blocks tell how many there are of
+    // each": so many were written, and no more than there is room for.
+    unsafe {
+        entries.set_len(contents.entries.min(entries_room));
+        blocks.set_len(contents.data_blocks.min(blocks_room));
+    }
+    entries.shrink_to_fit();
+    blocks.shrink_to_fit();
+    Ok(Tables { contents, entries, blocks })
+}
+
+/// The number of the entry under a path in escape form, 0 for the root.
+pub(crate) fn find(entries: &[Record], path: &[u8]) -> Result<usize, NotFound> {
+    let mut node = 0;
+    // "In a table that adf_index did not make, or that has been changed, the answer is any, but the call is safe all the same."
+    let answer = unsafe { adf_find(entries.as_ptr(), entries.len(), path.as_ptr(), path.len(), &mut node) };
+    match answer {
+        0 => Ok(node),
+        1 => Err(NotFound::Nothing),
+        2 => Err(NotFound::NoPath),
+        _ => Err(NotFound::NoMemory),
+    }
+}
+
+/// Puts bytes of a file from an offset on into the room, and answers how many.
+pub(crate) fn read(image: &[u8], tables: &Tables, node: usize, offset: usize, room: &mut [u8]) -> usize {
+    let (entries, blocks) = (&tables.entries, &tables.blocks);
+    // "with any others the bytes are any of the image, but the call is safe all the same".
+    unsafe {
+        adf_read(
+            image.as_ptr(),
+            image.len(),
+            entries.as_ptr(),
+            entries.len(),
+            blocks.as_ptr(),
+            blocks.len(),
+            node,
+            offset,
+            room.as_mut_ptr(),
+            room.len(),
+        )
+    }
+}
+
+/// The text of a cause, empty where no cause has the number.
+pub(crate) fn cause_text(cause: u8) -> String {
+    let mut room = [0; 64];
+    // "A pointer to bytes leads to as many as its length or room says".
+    let length = unsafe { adf_cause_text(cause, room.as_mut_ptr(), room.len()) };
+    String::from_utf8_lossy(&room[..length.min(room.len())]).into_owned()
+}
+
+/// Runs the command over memory: its status, and how many bytes moved.
+pub(crate) fn run(words: &[u8], input: &[u8], output: &mut [u8], errors: &mut [u8]) -> (u8, Moved) {
+    let mut moved = Moved::default();
+    // "What is written here (not const) overlaps nothing else that is passed"; "a room may hold anything before the call, and so
+    // may a struct, but for its bools, which are true or false".
+    let status = unsafe {
+        adf_run(
+            words.as_ptr(),
+            words.len(),
+            input.as_ptr(),
+            input.len(),
+            output.as_mut_ptr(),
+            output.len(),
+            errors.as_mut_ptr(),
+            errors.len(),
+            &mut moved,
+        )
+    };
+    (status, moved)
+}
+
+#[cfg(test)]
+mod tests {
+    use super::*;
+    use std::mem::{offset_of, size_of};
+    use std::path::Path;
+    use std::process::Command;
+
+    /// The size of a struct and the places of its fields, with the expressions of C that stand for them.
+    macro_rules! layout {
+        ($type:ty, $struct:literal: $($field:ident)*) => {
+            [
+                (concat!("sizeof(struct ", $struct, ")").to_owned(), size_of::<$type>()),
+                $((concat!("offsetof(struct ", $struct, ", ", stringify!($field), ")").to_owned(), offset_of!($type, $field)),)*
+            ]
+        };
+    }
+
+    fn layouts() -> Vec<(String, usize)> {
+        let mut all = Vec::new();
+        all.extend(layout!(Date, "adf_date": days mins ticks));
+        all.extend(layout!(Record, "adf_entry": parent header size first protection date is_file name_length name
+            comment_length comment));
+        all.extend(layout!(Contents, "adf_contents": kind blocks used free entries data_blocks block root altered created
+            label_length label));
+        all.extend(layout!(Moved, "adf_moved": input output errors output_full errors_full));
+        all
+    }
+
+    #[test]
+    fn structs_are_those_of_the_header() {
+        let include = Path::new(env!("CARGO_MANIFEST_DIR")).join("../../include");
+        let folder = std::env::temp_dir().join(format!("adf-layout-{}", std::process::id()));
+        std::fs::create_dir(&folder).unwrap();
+        let asserts: Vec<String> =
+            layouts().iter().map(|(what, value)| format!("_Static_assert({what} == {value}, \"{what}\");")).collect();
+        let text = format!("#include \"adf.h\"\n{}\n", asserts.join("\n"));
+        std::fs::write(folder.join("layout.c"), text).unwrap();
+        let compiled = Command::new("cc")
+            .args(["-std=c11", "-fsyntax-only", "-I"])
+            .arg(include)
+            .arg(folder.join("layout.c"))
+            .output()
+            .expect("cc is needed");
+        std::fs::remove_dir_all(&folder).unwrap();
+        assert!(compiled.status.success(), "{}", String::from_utf8_lossy(&compiled.stderr));
+    }
+}

@@ -1,0 +1,219 @@
+//! Volumes of Amiga disks (OFS and FFS): an image is checked once, and then listed, searched and read.
+//!
+//! ```
+//! let manifest = b"volume ffs 1760\nlabel Games\ndir 0:0:0 00000000 c\nfile 0:0:0 00000000 c/readme\ndata 48656c6c6f0a\n";
+//! let image = adf::run(&["build"], manifest).output; // or std::fs::read("games.adf")?
+//!
+//! let volume = adf::Volume::check(&image)?;
+//! assert_eq!(volume.label().to_string(), "Games");
+//! assert_eq!(volume.find("C/ReadMe")?.read(), b"Hello\n");
+//! for entry in volume.entries() {
+//!     println!("{} {}", entry.size(), entry.path());
+//! }
+//! # Ok::<(), Box<dyn std::error::Error>>(())
+//! ```
+//!
+//! The crate is thin: each call is one of the C library, which is proved; include/adf.h has what each of them keeps.
+
+mod cause;
+mod command;
+mod ffi;
+mod text;
+
+pub use cause::{Cause, NotFound, Refused};
+pub use command::{run, Answer};
+pub use ffi::Date;
+pub use text::Text;
+
+use std::fmt;
+use std::time::{Duration, SystemTime};
+
+impl Date {
+    /// The moment, where the date is read as UTC; none where it has more minutes than a day, or more ticks than a minute.
+    pub fn to_system_time(self) -> Option<SystemTime> {
+        const DAYS_TO_1978: u64 = 2922;
+        let is_date = self.mins < 24 * 60 && self.ticks < 60 * 50;
+        let seconds = (u64::from(self.days) + DAYS_TO_1978) * 86_400 + u64::from(self.mins) * 60;
+        let moment = Duration::from_secs(seconds) + Duration::from_millis(20 * u64::from(self.ticks));
+        is_date.then(|| SystemTime::UNIX_EPOCH + moment)
+    }
+}
+
+/// How the data blocks of a volume are written.
+#[derive(Clone, Copy, Debug, PartialEq, Eq, Hash)]
+pub enum Kind {
+    Ofs,
+    Ffs,
+}
+
+/// A sound volume: an image that was checked, and the tables of its entries.
+pub struct Volume<'image> {
+    image: &'image [u8],
+    tables: ffi::Tables,
+}
+
+impl<'image> Volume<'image> {
+    /// Checks an image. Of one that is no volume the first fault is told; `Cause::NoMemory` says nothing of the image.
+    pub fn check(image: &'image [u8]) -> Result<Volume<'image>, Refused> {
+        Ok(Volume { image, tables: ffi::index(image)? })
+    }
+
+    pub fn kind(&self) -> Kind {
+        match self.tables.contents.kind {
+            0 => Kind::Ofs,
+            _ => Kind::Ffs,
+        }
+    }
+
+    /// All blocks of 512 bytes, the two boot blocks among them.
+    pub fn blocks(&self) -> u32 {
+        self.tables.contents.blocks
+    }
+
+    /// Blocks that parts of the volume own, so not the two boot blocks.
+    pub fn used(&self) -> u32 {
+        self.tables.contents.used
+    }
+
+    /// Blocks from 2 on that no part owns.
+    pub fn free(&self) -> u32 {
+        self.tables.contents.free
+    }
+
+    pub fn label(&self) -> Text<'_> {
+        let contents = &self.tables.contents;
+        Text::of(&contents.label, contents.label_length)
+    }
+
+    /// The date of the root directory.
+    pub fn date(&self) -> Date {
+        self.tables.contents.root
+    }
+
+    /// The date of the last change of the volume.
+    pub fn altered(&self) -> Date {
+        self.tables.contents.altered
+    }
+
+    /// The date of the volume's creation.
+    pub fn created(&self) -> Date {
+        self.tables.contents.created
+    }
+
+    /// The root directory.
+    pub fn root(&self) -> Entry<'_> {
+        Entry { volume: self, number: 0 }
+    }
+
+    /// All directories and files but the root. A directory comes before what is in it, and what is in one directory stands
+    /// together, in the order of the slots and chains of the disk.
+    pub fn entries(&self) -> impl ExactSizeIterator<Item = Entry<'_>> + DoubleEndedIterator {
+        (0..self.tables.entries.len()).map(|place| Entry { volume: self, number: place + 1 })
+    }
+
+    /// The entry under a path: names with `/` between them, in the escape form of `adf list`, where a byte outside 32 to 126 and
+    /// the backslash stand as `\xHH`. The case of a to z does not count. The empty path is the root's.
+    pub fn find(&self, path: impl AsRef<[u8]>) -> Result<Entry<'_>, NotFound> {
+        let number = ffi::find(&self.tables.entries, path.as_ref())?;
+        Ok(Entry { volume: self, number })
+    }
+}
+
+impl fmt::Debug for Volume<'_> {
+    fn fmt(&self, f: &mut fmt::Formatter<'_>) -> fmt::Result {
+        let (kind, blocks, entries) = (self.kind(), self.blocks(), self.tables.entries.len());
+        f.debug_struct("Volume").field("kind", &kind).field("blocks", &blocks).field("entries", &entries).finish_non_exhaustive()
+    }
+}
+
+/// A directory or a file of a volume. The root is one too, which has no name, comment and protection.
+#[derive(Clone, Copy)]
+pub struct Entry<'volume> {
+    volume: &'volume Volume<'volume>,
+    number: usize,
+}
+
+impl<'volume> Entry<'volume> {
+    fn record(&self) -> Option<&'volume ffi::Record> {
+        self.volume.tables.entries.get(self.number.checked_sub(1)?)
+    }
+
+    /// The number of the entry, 0 for the root, then as they come in `Volume::entries`.
+    pub fn number(&self) -> usize {
+        self.number
+    }
+
+    pub fn is_file(&self) -> bool {
+        self.record().is_some_and(|record| record.is_file == 1)
+    }
+
+    pub fn name(&self) -> Text<'volume> {
+        self.record().map(|record| Text::of(&record.name, record.name_length)).unwrap_or_default()
+    }
+
+    /// The comment, which may be empty.
+    pub fn comment(&self) -> Text<'volume> {
+        self.record().map(|record| Text::of(&record.comment, record.comment_length)).unwrap_or_default()
+    }
+
+    /// Bytes of a file, 0 of a directory.
+    pub fn size(&self) -> u32 {
+        self.record().map_or(0, |record| record.size)
+    }
+
+    /// The protection word; a set bit of 0 to 3 forbids.
+    pub fn protection(&self) -> u32 {
+        self.record().map_or(0, |record| record.protection)
+    }
+
+    pub fn date(&self) -> Date {
+        self.record().map_or(self.volume.date(), |record| record.date)
+    }
+
+    /// The number of the header's block, of the root that of the root block.
+    pub fn header(&self) -> u32 {
+        self.record().map_or(self.volume.blocks() / 2, |record| record.header)
+    }
+
+    /// The directory that the entry is in; none of the root.
+    pub fn parent(&self) -> Option<Entry<'volume>> {
+        self.record().map(|record| Entry { volume: self.volume, number: record.parent as usize })
+    }
+
+    /// What is in a directory; nothing of a file.
+    pub fn children(&self) -> impl ExactSizeIterator<Item = Entry<'volume>> + DoubleEndedIterator {
+        let Entry { volume, number } = *self;
+        let entries = &volume.tables.entries;
+        let first = entries.partition_point(|record| (record.parent as usize) < number);
+        let behind = entries.partition_point(|record| (record.parent as usize) <= number);
+        (first..behind).map(move |place| Entry { volume, number: place + 1 })
+    }
+
+    /// The path in the escape form, as `adf list` writes it and `Volume::find` takes it; empty of the root.
+    pub fn path(&self) -> String {
+        let named = |entry: &Entry<'volume>| entry.parent().filter(|parent| parent.number != 0);
+        let mut names: Vec<String> = std::iter::successors(Some(*self), named).map(|entry| entry.name().escaped()).collect();
+        names.reverse();
+        names.join("/")
+    }
+
+    /// Puts bytes of a file from an offset on into the room, as many as there are and fit, and answers how many: 0 of a
+    /// directory, and past the end.
+    pub fn read_at(&self, room: &mut [u8], offset: usize) -> usize {
+        ffi::read(self.volume.image, &self.volume.tables, self.number, offset, room)
+    }
+
+    /// The bytes of a file; none of a directory.
+    pub fn read(&self) -> Vec<u8> {
+        let mut bytes = vec![0; self.size() as usize];
+        let length = self.read_at(&mut bytes, 0);
+        bytes.truncate(length);
+        bytes
+    }
+}
+
+impl fmt::Debug for Entry<'_> {
+    fn fmt(&self, f: &mut fmt::Formatter<'_>) -> fmt::Result {
+        f.debug_struct("Entry").field("path", &self.path()).field("size", &self.size()).finish_non_exhaustive()
+    }
+}

@@ -1,0 +1,192 @@
+//! Small volumes, built by the library itself.
+
+use adf::{run, Cause, Date, Kind, NotFound, Refused, Volume};
+use std::time::{Duration, SystemTime};
+
+const MANIFEST: &str = r"volume ofs 1760
+label Tr\xfc
+stamps 8035:0:0 9000:1439:2999 1:2:3
+dir 8035:0:0 00000000 c
+file 8035:754:2999 0000000f c/readme
+note s\xe4mtlich
+data 48656c6c6f0a
+dir 0:0:0 00000000 empty
+file 0:0:0 00000000 none
+file 9000:1:2 00000000 large
+fill 70000 41
+data 42434445
+fill 9996 46
+file 1:9999:0 00000000 B\xfccher
+dir 0:0:0 00000000 a\x5cb
+dir 0:0:0 00000000 a\x5cb/deep
+file 0:0:0 00000000 a\x5cb/deep/er
+";
+
+fn built(manifest: &str) -> Vec<u8> {
+    let answer = run(&["build"], manifest.as_bytes());
+    assert_eq!((answer.status, answer.errors), (0, vec![]));
+    answer.output
+}
+
+/// The image in this kind.
+fn image(kind: &str) -> Vec<u8> {
+    built(&MANIFEST.replace("ofs", kind))
+}
+
+/// What stands behind the date in the lines of entries of `adf list`.
+fn listed(image: &[u8]) -> Vec<String> {
+    let lines = String::from_utf8(run(&["list"], image).output).unwrap();
+    let entry = |line: &str| line.starts_with("dir  ") || line.starts_with("file ");
+    lines.lines().filter(|line| entry(line)).map(|line| line.rsplit(' ').next().unwrap().to_owned()).collect()
+}
+
+#[test]
+fn a_volume_has_its_numbers() {
+    for (name, kind) in [("ofs", Kind::Ofs), ("ffs", Kind::Ffs)] {
+        let image = image(name);
+        let volume = Volume::check(&image).unwrap();
+        let checked = String::from_utf8(run(&["check"], &image).output).unwrap();
+        let numbers =
+            format!("ok {name} blocks {} used {} free {} dirs 4 files 5\n", volume.blocks(), volume.used(), volume.free());
+        assert_eq!((checked, volume.kind()), (numbers, kind));
+        assert_eq!(volume.label().to_string(), "Trü");
+        assert_eq!(volume.date(), Date { days: 8035, mins: 0, ticks: 0 });
+        assert_eq!(volume.altered(), Date { days: 9000, mins: 1439, ticks: 2999 });
+        assert_eq!(volume.created(), Date { days: 1, mins: 2, ticks: 3 });
+    }
+}
+
+#[test]
+fn entries_are_those_of_the_list() {
+    let image = image("ffs");
+    let volume = Volume::check(&image).unwrap();
+    let paths: Vec<String> = volume.entries().map(|entry| entry.path()).collect();
+    assert_eq!((volume.entries().len(), &paths), (9, &listed(&image)));
+    for entry in volume.entries() {
+        assert_eq!(volume.find(entry.path()).unwrap().number(), entry.number());
+        assert!(entry.parent().unwrap().children().any(|child| child.number() == entry.number()));
+    }
+    assert_eq!(volume.root().children().len(), 6);
+    assert!(volume.find("c/readme").unwrap().children().next().is_none());
+    assert!(volume.find("empty").unwrap().children().next().is_none());
+}
+
+#[test]
+fn an_entry_tells_its_fields() {
+    let image = image("ofs");
+    let volume = Volume::check(&image).unwrap();
+    let readme = volume.find("C/ReadMe").unwrap();
+    assert_eq!((readme.is_file(), readme.size(), readme.protection()), (true, 6, 15));
+    assert_eq!((readme.name().as_bytes(), readme.comment().to_string()), (&b"readme"[..], "sämtlich".to_owned()));
+    let moment = SystemTime::UNIX_EPOCH + Duration::new(946_684_800 + 754 * 60 + 59, 980_000_000);
+    assert_eq!(readme.date().to_system_time(), Some(moment));
+    let books = volume.find(r"B\xfccher").unwrap();
+    assert_eq!(
+        (books.name().to_string(), books.path(), books.date().to_system_time()),
+        ("Bücher".into(), r"B\xfccher".into(), None)
+    );
+    let root = volume.root();
+    assert_eq!((root.is_file(), root.path(), root.header(), root.parent().is_none()), (false, String::new(), 880, true));
+    assert_eq!(volume.find("").unwrap().number(), 0);
+}
+
+#[test]
+fn files_are_read_from_any_place() {
+    for kind in ["ofs", "ffs"] {
+        let image = image(kind);
+        let volume = Volume::check(&image).unwrap();
+        let large = volume.find("large").unwrap();
+        let wanted = [vec![b'A'; 70_000], b"BCDE".to_vec(), vec![b'F'; 9_996]].concat();
+        assert_eq!(large.read(), wanted);
+        assert_eq!(run(&["cat", "large"], &image).output, wanted);
+        let mut room = [b'?'; 8];
+        assert_eq!((large.read_at(&mut room, 69_998), room), (8, *b"AABCDEFF"));
+        room.fill(b'?');
+        assert_eq!((large.read_at(&mut room, 79_997), room), (3, *b"FFF?????"));
+        for offset in [80_000, 80_001, usize::MAX] {
+            assert_eq!(large.read_at(&mut room, offset), 0);
+        }
+        assert_eq!(large.read_at(&mut [], 0), 0);
+        assert_eq!((volume.find("c").unwrap().read(), volume.root().read()), (vec![], vec![]));
+    }
+}
+
+#[test]
+fn paths_that_lead_nowhere_are_told() {
+    let image = image("ofs");
+    let volume = Volume::check(&image).unwrap();
+    for path in ["nix", "c/readme/more", "c/nix"] {
+        assert_eq!(volume.find(path).unwrap_err(), NotFound::Nothing, "{path}");
+    }
+    for path in ["a//b", "B\u{fc}cher", r"\x41", "/c", "c/"] {
+        assert_eq!(volume.find(path).unwrap_err(), NotFound::NoPath, "{path}");
+    }
+}
+
+#[test]
+fn an_image_is_refused_with_its_first_fault() {
+    let sound = image("ofs");
+    let mut bad_sum = sound.clone();
+    bad_sum[880 * 512 + 440] ^= 1;
+    let mut link = sound.clone();
+    link[3] = 4;
+    let bad: [(&[u8], Cause, u32); 5] = [
+        (&[], Cause::BadSize, 0),
+        (&sound[1..], Cause::BadSize, 0),
+        (&[0; 2048], Cause::NotDos, 0),
+        (&bad_sum, Cause::BadSum, 880),
+        (&link, Cause::DirCache, 0),
+    ];
+    for (image, cause, block) in bad {
+        let refused = Volume::check(image).unwrap_err();
+        assert_eq!(refused, Refused { cause, block });
+        assert_eq!(format!("{refused}\n").as_bytes(), run(&["check"], image).output);
+    }
+}
+
+#[test]
+fn causes_are_those_of_the_header() {
+    let header = include_str!("../../../include/adf.h");
+    let causes = &header[header.find("enum adf_cause {").unwrap()..];
+    let causes = &causes[..causes.find("};").unwrap()];
+    for cause in Cause::ALL {
+        let name: String =
+            format!("{cause:?}").chars().flat_map(|c| [c.is_uppercase().then_some('_'), Some(c)]).flatten().collect();
+        let line = format!("ADF{} = {}", name.to_uppercase(), cause.number());
+        assert!(causes.contains(&line), "{line}");
+        assert_eq!(Cause::from_number(cause.number()), Some(cause));
+        assert!(!cause.to_string().is_empty());
+    }
+    assert_eq!((Cause::from_number(0), Cause::from_number(24)), (None, None));
+    assert_eq!(causes.matches(" = ").count(), 24);
+}
+
+#[test]
+fn the_version_is_that_of_the_header() {
+    let line = format!("#define ADF_VERSION \"{}\"", env!("CARGO_PKG_VERSION").strip_suffix(".0").unwrap());
+    assert!(include_str!("../../../include/adf.h").contains(&line), "{line}");
+}
+
+#[test]
+fn threads_share_a_volume() {
+    let image = image("ffs");
+    let volume = Volume::check(&image).unwrap();
+    std::thread::scope(|scope| {
+        for _ in 0..8 {
+            scope.spawn(|| {
+                for _ in 0..50 {
+                    assert_eq!(volume.find("large").unwrap().read().len(), 80_000);
+                }
+            });
+        }
+    });
+}
+
+#[test]
+fn the_command_runs_over_memory() {
+    let image = built("volume ffs 120000\nlabel Large\n");
+    assert_eq!(image.len(), 120_000 * 512);
+    assert_eq!(run(&["frob"], b"").status, 2);
+    let answer = run(&["cat", "nix"], &image);
+    assert_eq!((answer.status, &answer.output[..], &answer.errors[..]), (1, &b""[..], &b"no such path\n"[..]));
+}
