@@ -1,13 +1,12 @@
-/* Shows the volume of a disk image as a folder of the host, to read only.
+/* adf-mount: shows the volume of a disk image as a folder of the host, to read only (docs/adf-mount.1).
  *
- *     mount IMAGE FOLDER [-f] [FUSE OPTION ..]     until fusermount3 -u FOLDER
- *
- * The image is read into memory and checked once, before anything is mounted; then all is answered by the tables of the volume.
- * Names are in the escape form of `adf list`; `.` and `..` are written \x2e and \x2e\x2e. Dates are read as UTC. Status 0;
- * 1 where the image is refused, which standard error says; 2 where the words are none of these; 3 where a file or memory failed.
+ * The image is read into memory and checked once, before anything is mounted; then all is answered from the tables of the volume.
+ * Only whole tables are used, and nothing changes once it is mounted, so the threads of libfuse share them. include/adf.h says
+ * what each call keeps and what is owed to it.
  *
  *     kit=$(dirname "$(rt doc)")
- *     cc -o mount mount.c $(pkg-config --cflags --libs fuse3) -I../include ../crates/adf_c/out/libadf_c.a "$kit/c/liblibc_c.a"
+ *     cc -o adf-mount mount.c -I../../include ../../crates/adf_c/out/libadf_c.a "$kit/c/liblibc_c.a" \
+ *         $(pkg-config --cflags --libs fuse3)
  */
 #define _GNU_SOURCE
 #define FUSE_USE_VERSION 31
@@ -16,18 +15,20 @@
 #include <errno.h>
 #include <fcntl.h>
 #include <fuse.h>
+#include <stddef.h>
 #include <stdio.h>
 #include <stdlib.h>
 #include <string.h>
 #include <sys/stat.h>
 #include <sys/statvfs.h>
+#include <unistd.h>
 
 enum { NAME_TEXT = 4 * 30 + 1, DAYS_TO_1978 = 2922, LAST_DAY = 2929974, SECONDS = 86400 };
+enum { SOUND = 0, REFUSED = 1, USAGE = 2, FAILED = 3 };
 
 /* One byte more than the largest image, so that a longer one is seen to be longer. */
 static const size_t MOST_BYTES = (size_t)512 * 1048576 + 1;
 
-/* The image and its tables, which nothing changes once it is mounted. */
 static struct volume {
     uint8_t *image;
     size_t length;
@@ -36,18 +37,20 @@ static struct volume {
     struct adf_contents contents;
 } volume;
 
-/* The name of an entry as the host sees it. */
+/* The name of an entry as the host sees it: the escape form, where a name of one or two dots is escaped whole. */
 static void show_name(const struct adf_entry *entry, char text[NAME_TEXT]) {
-    size_t dots = strspn((const char *)entry->name, ".");
-    bool is_special = dots == entry->name_length && dots <= 2;
-    for (size_t i = 0; i < entry->name_length; i++) {
-        uint8_t c = entry->name[i];
-        bool is_plain = 32 <= c && c <= 126 && c != '\\' && !is_special;
-        text += sprintf(text, is_plain ? "%c" : "\\x%02x", c);
+    size_t length = entry->name_length, dots = 0;
+    while (dots < length && entry->name[dots] == '.')
+        dots++;
+    bool is_special = dots == length && dots <= 2;
+    for (size_t i = 0; i < length; i++) {
+        uint8_t byte = entry->name[i];
+        bool is_plain = 32 <= byte && byte <= 126 && byte != '\\' && !is_special;
+        text += sprintf(text, is_plain ? "%c" : "\\x%02x", byte);
     }
 }
 
-/* The path of the host in escape form, where a name of dots stands for itself. */
+/* A path of the host in the escape form, where a name of dots stands for itself. */
 static void escape_path(const char *path, char *escaped) {
     while (*path != '\0') {
         size_t length = strcspn(path, "/");
@@ -75,6 +78,7 @@ static int find(const char *path, size_t *node) {
     return answer == 0 ? 0 : answer == ADF_NO_MEMORY ? -ENOMEM : -ENOENT;
 }
 
+/* A date read as UTC; 1970-01-01 where it is none of the years up to 9999. */
 static struct timespec time_of(const struct adf_date *date) {
     struct timespec time = {0};
     if (date->days <= LAST_DAY && date->mins < 1440 && date->ticks < 3000) {
@@ -84,13 +88,15 @@ static struct timespec time_of(const struct adf_date *date) {
     return time;
 }
 
+/* A directory has one link, by which programs that count them know that its directories are not counted. */
 static void describe(size_t node, struct stat *status) {
     const struct adf_entry *entry = node == 0 ? NULL : &volume.entries[node - 1];
-    bool is_file = entry != NULL && entry->is_file;
     *status = (struct stat){0};
     status->st_ino = entry == NULL ? volume.contents.blocks / 2 : entry->header;
-    status->st_mode = is_file ? S_IFREG | 0444 : S_IFDIR | 0555;
-    status->st_nlink = is_file ? 1 : 2;
+    status->st_mode = entry != NULL && entry->is_file ? S_IFREG | 0444 : S_IFDIR | 0555;
+    status->st_nlink = 1;
+    status->st_uid = getuid();
+    status->st_gid = getgid();
     status->st_size = entry == NULL ? 0 : entry->size;
     status->st_blksize = 512;
     status->st_blocks = (status->st_size + 511) / 512;
@@ -124,7 +130,8 @@ static int read_directory(const char *path, void *list, fuse_fill_dir_t fill, of
     size_t node = 0;
     char name[NAME_TEXT];
     struct stat status;
-    (void)offset, (void)file, (void)flags;
+    enum fuse_fill_dir_flags plus = flags & FUSE_READDIR_PLUS ? FUSE_FILL_DIR_PLUS : 0;
+    (void)offset, (void)file;
     int error = find(path, &node);
     if (error != 0)
         return error;
@@ -135,7 +142,7 @@ static int read_directory(const char *path, void *list, fuse_fill_dir_t fill, of
     for (size_t i = first_in(node); i < volume.contents.entries && volume.entries[i].parent == node; i++) {
         show_name(&volume.entries[i], name);
         describe(i + 1, &status);
-        if (fill(list, name, &status, 0, 0))
+        if (fill(list, name, &status, 0, plus))
             return -ENOMEM;
     }
     return 0;
@@ -158,16 +165,16 @@ static int read_file(const char *path, char *room, size_t size, off_t offset, st
 }
 
 static int get_space(const char *path, struct statvfs *space) {
+    const struct adf_contents *contents = &volume.contents;
     (void)path;
-    *space = (struct statvfs){.f_bsize = 512, .f_frsize = 512, .f_blocks = volume.contents.blocks, .f_bfree = volume.contents.free,
-                              .f_bavail = volume.contents.free, .f_files = volume.contents.entries, .f_namemax = NAME_TEXT - 1};
+    *space = (struct statvfs){.f_bsize = 512, .f_frsize = 512, .f_blocks = contents->blocks, .f_bfree = contents->free,
+                              .f_bavail = contents->free, .f_files = contents->entries, .f_namemax = NAME_TEXT - 1};
     return 0;
 }
 
 static void *begin(struct fuse_conn_info *connection, struct fuse_config *config) {
     (void)connection;
     config->use_ino = 1;
-    config->kernel_cache = 1;
     return NULL;
 }
 
@@ -179,34 +186,31 @@ static const struct fuse_operations OPERATIONS = {
 static bool load(const char *name) {
     FILE *file = fopen(name, "rb");
     size_t room = 1 << 20;
-    bool whole = file != NULL && (volume.image = malloc(room)) != NULL;
-    while (whole && !feof(file) && volume.length < MOST_BYTES) {
+    bool is_read = file != NULL && (volume.image = malloc(room)) != NULL;
+    while (is_read && !feof(file) && volume.length < MOST_BYTES) {
         if (volume.length == room) {
             uint8_t *more = realloc(volume.image, room *= 2);
-            whole = more != NULL;
-            volume.image = whole ? more : volume.image;
+            is_read = more != NULL;
+            volume.image = is_read ? more : volume.image;
         } else {
             volume.length += fread(volume.image + volume.length, 1, room - volume.length, file);
-            whole = !ferror(file);
+            is_read = !ferror(file);
         }
     }
-    if (!whole)
-        perror(name);
+    if (!is_read)
+        fprintf(stderr, "adf-mount: %s: %s\n", name, strerror(errno));
     if (file != NULL)
         fclose(file);
-    return whole;
+    return is_read;
 }
 
-/* Says why the image is refused, as `adf check` does. */
-static void say_cause(const char *name, uint8_t cause) {
-    uint8_t output[256], errors[256];
-    struct adf_moved moved = {0};
-    adf_run((const uint8_t *)"adf\0check", 10, volume.image, volume.length, output, sizeof output, errors, sizeof errors, &moved);
-    fprintf(stderr, "%s: refused, cause %d at block %lu: %.*s", name, cause, (unsigned long)volume.contents.block, (int)moved.output,
-            (const char *)output);
+/* A table with no more room than it needs, or as it is where that cannot be had. */
+static void *shrunk(void *table, size_t size) {
+    void *less = realloc(table, size);
+    return less == NULL ? table : less;
 }
 
-/* Makes the tables, with the most room that they may take; what is not used is given back. */
+/* Checks the image and makes the tables, with the most room that they may take; what is not used is given back. */
 static uint8_t make_tables(void) {
     size_t most = volume.length / 512 + 1;
     volume.entries = malloc(most * sizeof *volume.entries);
@@ -214,35 +218,82 @@ static uint8_t make_tables(void) {
     if (volume.entries == NULL || volume.blocks == NULL)
         return ADF_NO_MEMORY;
     uint8_t cause = adf_index(volume.image, volume.length, volume.entries, most, volume.blocks, most, &volume.contents);
-    struct adf_entry *entries = realloc(volume.entries, (volume.contents.entries + 1) * sizeof *entries);
-    volume.entries = entries == NULL ? volume.entries : entries;
-    uint32_t *blocks = realloc(volume.blocks, (volume.contents.data_blocks + 1) * sizeof *blocks);
-    volume.blocks = blocks == NULL ? volume.blocks : blocks;
+    volume.entries = shrunk(volume.entries, (volume.contents.entries + 1) * sizeof *volume.entries);
+    volume.blocks = shrunk(volume.blocks, (volume.contents.data_blocks + 1) * sizeof *volume.blocks);
     return cause;
 }
 
-int main(int count, char **words) {
-    if (count < 3) {
-        fputs("usage: mount IMAGE FOLDER [FUSE OPTION ..]\n", stderr);
-        return 2;
-    }
-    if (!load(words[1]))
-        return 3;
+/* Loads and checks the image: SOUND, or the status to end with, and why stands on standard error. */
+static int open_volume(const char *name) {
+    uint8_t text[64];
+    if (!load(name))
+        return FAILED;
     uint8_t cause = make_tables();
+    if (cause == ADF_ACCEPTED)
+        return SOUND;
+    int length = (int)adf_cause_text(cause, text, sizeof text);
     if (cause == ADF_NO_MEMORY) {
-        fprintf(stderr, "%s: no memory\n", words[1]);
-        return 3;
+        fprintf(stderr, "adf-mount: %s: %.*s\n", name, length, (const char *)text);
+        return FAILED;
     }
-    if (cause != ADF_ACCEPTED) {
-        say_cause(words[1], cause);
+    fprintf(stderr, "adf-mount: %s: block %lu: %.*s\n", name, (unsigned long)volume.contents.block, length, (const char *)text);
+    return REFUSED;
+}
+
+/* The words of the command line: the first that is no option is the image, and all others are libfuse's. */
+struct words {
+    char *image;
+    int others;
+    int help;
+    int version;
+};
+
+static const struct fuse_opt OPTIONS[] = {
+    {"-h", offsetof(struct words, help), 1},    {"--help", offsetof(struct words, help), 1},
+    {"-V", offsetof(struct words, version), 1}, {"--version", offsetof(struct words, version), 1},
+    FUSE_OPT_END,
+};
+
+static int take_word(void *data, const char *word, int key, struct fuse_args *arguments) {
+    struct words *words = data;
+    (void)arguments;
+    if (key != FUSE_OPT_KEY_NONOPT)
         return 1;
+    if (words->image != NULL)
+        return ++words->others == 1 ? 1 : -1;
+    words->image = strdup(word);
+    return words->image == NULL ? -1 : 0;
+}
+
+/* Mounts until the folder is unmounted. The volume never changes, so the host may keep what it was told for a day. */
+static int mount_volume(struct fuse_args *arguments) {
+    if (fuse_opt_insert_arg(arguments, 1, "-oentry_timeout=86400,attr_timeout=86400,negative_timeout=86400") != 0 ||
+        fuse_opt_add_arg(arguments, "-oro,default_permissions,fsname=adf,subtype=adf") != 0)
+        return FAILED;
+    int answer = fuse_main(arguments->argc, arguments->argv, &OPERATIONS, NULL);
+    return answer == 0 ? SOUND : answer <= 2 ? USAGE : FAILED;
+}
+
+/* Does what the words ask for, and answers the status. */
+static int run(const struct words *words, bool is_parsed, struct fuse_args *arguments) {
+    if (is_parsed && words->version) {
+        printf("adf-mount %s, libfuse %s\n", ADF_VERSION, fuse_pkgversion());
+        return SOUND;
     }
-    struct fuse_args arguments = FUSE_ARGS_INIT(0, NULL);
-    fuse_opt_add_arg(&arguments, words[0]);
-    for (int i = 2; i < count; i++)
-        fuse_opt_add_arg(&arguments, words[i]);
-    fuse_opt_add_arg(&arguments, "-oro,default_permissions,fsname=adf,subtype=adf");
-    int status = fuse_main(arguments.argc, arguments.argv, &OPERATIONS, NULL) == 0 ? 0 : 3;
+    if (!is_parsed || words->help || words->image == NULL || words->others != 1) {
+        fputs("usage: adf-mount IMAGE FOLDER [-f] [-o OPTION,..]    (man adf-mount)\n", words->help ? stdout : stderr);
+        return words->help ? SOUND : USAGE;
+    }
+    int status = open_volume(words->image);
+    return status == SOUND ? mount_volume(arguments) : status;
+}
+
+int main(int count, char **given) {
+    struct fuse_args arguments = FUSE_ARGS_INIT(count, given);
+    struct words words = {0};
+    bool is_parsed = fuse_opt_parse(&arguments, &words, OPTIONS, take_word) == 0;
+    int status = run(&words, is_parsed, &arguments);
     fuse_opt_free_args(&arguments);
+    free(words.image);
     return status;
 }
