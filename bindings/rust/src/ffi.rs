@@ -74,6 +74,7 @@ extern "C" {
         blocks_room: usize,
         contents: *mut Contents,
     ) -> u8;
+    fn adf_owners(image: *const u8, length: usize, roles: *mut u8, room: usize) -> u8;
     fn adf_find(entries: *const Record, count: usize, path: *const u8, path_length: usize, node: *mut usize) -> u8;
     fn adf_read(
         image: *const u8,
@@ -147,6 +148,18 @@ pub(crate) fn index(image: &[u8]) -> Result<Tables, Refused> {
     entries.shrink_to_fit();
     blocks.shrink_to_fit();
     Ok(Tables { contents, entries, blocks })
+}
+
+/// The number of the role of each block of an image.
+pub(crate) fn owners(image: &[u8]) -> Result<Vec<u8>, Refused> {
+    let mut roles = with_room(image.len() / 512)?;
+    roles.resize(image.len() / 512, 0);
+    // "A pointer to bytes leads to as many as its length or room says".
+    let answer = unsafe { adf_owners(image.as_ptr(), image.len(), roles.as_mut_ptr(), roles.len()) };
+    match Cause::from_number(answer) {
+        None => Ok(roles),
+        Some(cause) => Err(Refused { cause, block: 0 }),
+    }
 }
 
 /// The number of the entry under a path in escape form, 0 for the root.

@@ -1,28 +1,15 @@
-//! Volumes of Amiga disks (OFS and FFS): an image is checked once, and then listed, searched and read.
-//!
-//! ```
-//! let manifest = b"volume ffs 1760\nlabel Games\ndir 0:0:0 00000000 c\nfile 0:0:0 00000000 c/readme\ndata 48656c6c6f0a\n";
-//! let image = adf::run(&["build"], manifest).output; // or std::fs::read("games.adf")?
-//!
-//! let volume = adf::Volume::check(&image)?;
-//! assert_eq!(volume.label().to_string(), "Games");
-//! assert_eq!(volume.find("C/ReadMe")?.read(), b"Hello\n");
-//! for entry in volume.entries() {
-//!     println!("{} {}", entry.size(), entry.path());
-//! }
-//! # Ok::<(), Box<dyn std::error::Error>>(())
-//! ```
-//!
-//! The crate is thin: each call is one of the C library, which is proved; include/adf.h has what each of them keeps.
+#![doc = include_str!("../README.md")]
 
 mod cause;
 mod command;
 mod ffi;
+mod role;
 mod text;
 
 pub use cause::{Cause, NotFound, Refused};
 pub use command::{run, Answer};
 pub use ffi::Date;
+pub use role::Role;
 pub use text::Text;
 
 use std::fmt;
@@ -109,6 +96,12 @@ impl<'image> Volume<'image> {
     /// together, in the order of the slots and chains of the disk.
     pub fn entries(&self) -> impl ExactSizeIterator<Item = Entry<'_>> + DoubleEndedIterator {
         (0..self.tables.entries.len()).map(|place| Entry { volume: self, number: place + 1 })
+    }
+
+    /// The role of each block. The image is checked once more for it, so memory may be refused.
+    pub fn owners(&self) -> Result<Vec<Role>, Refused> {
+        let roles = ffi::owners(self.image)?;
+        Ok(roles.into_iter().map(Role::from_number).collect())
     }
 
     /// The entry under a path: names with `/` between them, in the escape form of `adf list`, where a byte outside 32 to 126 and

@@ -1,6 +1,6 @@
 //! Small volumes, built by the library itself.
 
-use adf::{run, Cause, Date, Kind, NotFound, Refused, Volume};
+use adf::{run, Cause, Date, Kind, NotFound, Refused, Role, Volume};
 use std::time::{Duration, SystemTime};
 
 const MANIFEST: &str = r"volume ofs 1760
@@ -142,6 +142,18 @@ fn an_image_is_refused_with_its_first_fault() {
         assert_eq!(refused, Refused { cause, block });
         assert_eq!(format!("{refused}\n").as_bytes(), run(&["check"], image).output);
     }
+}
+
+#[test]
+fn blocks_have_their_roles() {
+    let image = image("ofs");
+    let volume = Volume::check(&image).unwrap();
+    let owners = volume.owners().unwrap();
+    let count = |role| owners.iter().filter(|owner| **owner == role).count();
+    assert_eq!((owners.len(), owners[0], owners[880]), (1760, Role::Boot, Role::Root));
+    assert_eq!((count(Role::Boot), count(Role::Page), count(Role::MapExt), count(Role::Head)), (2, 1, 0, 9));
+    // Files of 80,000 and 6 bytes: 488 bytes in a data block of OFS, and 72 data blocks in a header or extension block.
+    assert_eq!((count(Role::Data), count(Role::Ext), count(Role::Free)), (165, 2, volume.free() as usize));
 }
 
 #[test]
