@@ -1,0 +1,18 @@
+use Rattle.std.proofs.Common.{◌≡◌, [], rules, refl, subst, sym}
+use Rattle.adf_cmd.proofs.PendingText.{appends_nil}
+use Rattle.adf_shelf_cmd.specs.Lines.{IsReport, report_status, report_text, shelf_line}
+use Rattle.adf_shelf_cmd.proofs.shelf.write_line.Goals as goal
+
+pub returns-then-is_err-clause-err : goal.returns-then-is_err-clause-err
+returns-then-is_err-clause-err g c =
+    let report = c.check_file-report.result in
+    (report_status report, report_text report, c.check_file-report.ensures, ([], shelf_line c.args.name.now (report_text report), refl, appends_nil _))
+
+pub returns-in-Ok-clause-ok : goal.returns-in-Ok-clause-ok
+returns-in-Ok-clause-ok g c =
+    let report = c.check_file-report.result in
+    let known = g.F.Files.bytes_of c.args.files.now c.args.name.now in
+    let may_fail = g.F.Files.may_fail c.args.files.now c.args.name.now in
+    let is_report = subst (λ s. IsReport known may_fail s (report_text report)) (sym c.status.ensures.value) c.check_file-report.ensures in
+    let text : c.deref.result.now ≡ shelf_line c.args.name.now (report_text report) = search rules in
+    (report_text report, is_report, rw text at c.in-Ok.ensures.ok)

@@ -1,0 +1,24 @@
+-- The names of images.
+use Rattle.std.specs.Prelude.{◌≡◌, ℕ, zero, suc, Bool, true, false, List, [], ◌∷◌, ◌++◌, length, Option, None, Some, IfSome}
+use Rattle.std.specs.Io.BufRead.{drop_through, first_piece}
+
+-- of the known names, these were given
+abbrev pub AreGiven : Option (List (List ℕ)) → Option (List (List ℕ)) → List (List ℕ) → Type 0
+AreGiven None new names = Unit {0}
+AreGiven (Some xs) None names = ⊥
+AreGiven (Some xs) (Some ys) names = xs ≡ names ++ ys
+
+-- a name is given, or none is left
+abbrev pub GivesName : Bool → Option (List (List ℕ)) → Option (List (List ℕ)) → List ℕ → Type 0
+GivesName true old new name = AreGiven old new (name ∷ [])
+GivesName false old new name = IfSome old (λ names. names ≡ [])
+
+-- the first names in bytes, at most so many, each ended by `end` but perhaps the last
+unfoldable pub first_names : ℕ → ℕ → List ℕ → List (List ℕ)
+first_names zero end bytes = []
+first_names (suc most) end [] = []
+first_names (suc most) end (b ∷ bytes) = first_piece end (b ∷ bytes) ∷ first_names most end (drop_through end (b ∷ bytes))
+
+-- the names in bytes
+abbrev pub names_in : ℕ → List ℕ → List (List ℕ)
+names_in end bytes = first_names (length bytes) end bytes

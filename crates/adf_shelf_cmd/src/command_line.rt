@@ -1,0 +1,116 @@
+// The words of the command line, by clap.
+
+ghost use Rattle.std.specs.Prelude.{◌≡◌, ◌==◌, IfOk, IfErr, ℕ, List, [], ◌∷◌, codes, false, map, option_map, true, unwrap_or};
+ghost use Rattle.clap.specs.Words.{all_of, app_of, first_of, found_of, rows_of};
+ghost use Rattle.adf_shelf_cmd.specs.CommandLine.{Asks, Explains, IsRefused, asked, is_true, order_in, shelf_app};
+
+use adf_cmd::WordsFault;
+use clap::error::ErrorKind;
+use clap::{Arg, ArgAction, ArgMatches, Command};
+use std::alloc::{AllocError, Global};
+
+/// What a command line asks for.
+#[derive(Drop)]
+pub struct Order<'a> {
+    /// Whether names that are read end in zero bytes.
+    pub null: bool,
+    /// The names; where there is none, they are read.
+    pub files: Vec<&'a str>,
+}
+
+// The command line. Words of help are refused as any others are, so that clap lays out no text for them.
+fn command<'a>(alloc: Global) -> Result<Command<'a>, AllocError>
+    ensures { IfOk result (λ c. app_of c ≡ shelf_app) }
+{
+    let null = Arg::new(alloc, "null")
+        .long("null")
+        .action(ArgAction::SetTrue);
+    let files = Arg::new(alloc, "files").action(ArgAction::Append);
+    let bare = Command::new(alloc, "adf-shelf").disable_help_flag(true);
+    bare.arg(null)?.arg(files)
+}
+
+// The first value of an argument.
+fn first_text<'a>(found: &ArgMatches<'a>, id: &str) -> Option<&'a str>
+    ensures { option_map (λ s. s.now) result ≡ first_of id.now (rows_of (found_of found.now)) }
+{
+    found.get_str(id)
+}
+
+// The values of an argument.
+fn all_texts<'m, 'a>(found: &'m ArgMatches<'a>, id: &str) -> Option<&'m [&'a str]>
+    ensures { option_map (λ s. map (λ v. v.now) s.now) result ≡ all_of id.now (rows_of (found_of found.entry.now)) }
+{
+    found.get_raw(id)
+}
+
+// Whether the flag was given.
+fn has_null(found: &ArgMatches<'_>) -> bool
+    ensures { result ≡ is_true (first_of (codes "null") (rows_of (found_of found.now))) }
+{
+    match first_text(found, "null") {
+        Some(text) => text == "true",
+        None => false,
+    }
+}
+
+// The names.
+fn names_in<'a>(alloc: Global, found: &ArgMatches<'a>) -> Result<Vec<&'a str>, AllocError>
+    ensures { IfOk result (λ names. map (λ n. n.now) names.items
+        ≡ unwrap_or (all_of (codes "files") (rows_of (found_of found.now))) []) }
+{
+    match all_texts(found, "files") {
+        Some(names) => Vec::from_slice(alloc, names),
+        None => Ok(Vec::new(alloc)),
+    }
+}
+
+// The order that the matches are.
+fn order_in<'a>(alloc: Global, found: &ArgMatches<'a>) -> Result<Order<'a>, AllocError>
+    ensures { IfOk result (λ order. asked order ≡ order_in (rows_of (found_of found.now))) }
+{
+    let files = names_in(alloc, found)?;
+    let null = has_null(found);
+    Ok(Order { null, files })
+}
+
+/// Reads the words, of which the first is the program's name. `Usage` exactly where clap refuses them,
+/// `NoMemory` where memory was refused.
+pub fn parse<'a>(alloc: Global, words: &'a [&str]) -> Result<Order<'a>, WordsFault>
+    ensures ok { IfOk result (λ order. Asks (map (λ w. w.now) words.entry.now) (asked order)) }
+    ensures refused { IfErr result (λ fault. Explains fault (map (λ w. w.now) words.entry.now)) }
+{
+    let Ok(shelf) = command(alloc) else {
+        return Err(WordsFault::NoMemory);
+    };
+    match shelf.try_get_matches_from(words) {
+        Ok(matches) => match order_in(alloc, &matches) {
+            Ok(order) => Ok(order),
+            Err(_) => Err(WordsFault::NoMemory),
+        },
+        Err(error) => match error.kind() {
+            ErrorKind::OutOfMemory => Err(WordsFault::NoMemory),
+            _ => Err(WordsFault::Usage),
+        },
+    }
+}
+
+/// The words of the documentation are taken with the order that they are, and other words are refused,
+/// calls for help among them.
+#[tactic(auto, unfolding(clap::proofs::OnLiterals::clap_on_literals))]
+pub fn words_as_documented()
+    ensures none { Asks (codes "adf-shelf" ∷ []) (false, []) }
+    ensures null { Asks (codes "adf-shelf" ∷ codes "--null" ∷ []) (true, []) }
+    ensures file { (first : ℕ) (rest : List ℕ) → (first == 45) ≡ false
+        → Asks (codes "adf-shelf" ∷ (first ∷ rest) ∷ []) (false, (first ∷ rest) ∷ []) }
+    ensures files { (first : ℕ) (rest : List ℕ) → (first == 45) ≡ false
+        → Asks (codes "adf-shelf" ∷ codes "a.adf" ∷ (first ∷ rest) ∷ []) (false, codes "a.adf" ∷ (first ∷ rest) ∷ []) }
+    ensures null_file { Asks (codes "adf-shelf" ∷ codes "--null" ∷ codes "a.adf" ∷ []) (true, codes "a.adf" ∷ []) }
+    ensures any_files { (one two : List ℕ) → Asks (codes "adf-shelf" ∷ codes "--" ∷ one ∷ two ∷ []) (false, one ∷ two ∷ []) }
+    ensures no_words { Asks [] (false, []) }
+    ensures dash { IsRefused (codes "adf-shelf" ∷ codes "-x" ∷ []) }
+    ensures null_twice { IsRefused (codes "adf-shelf" ∷ codes "--null" ∷ codes "--null" ∷ []) }
+    ensures help { IsRefused (codes "adf-shelf" ∷ codes "--help" ∷ []) }
+    ensures help_letter { IsRefused (codes "adf-shelf" ∷ codes "-h" ∷ []) }
+    ensures version { IsRefused (codes "adf-shelf" ∷ codes "--version" ∷ []) }
+{}

@@ -1,0 +1,115 @@
+// The names of images, one after another.
+
+ghost use Rattle.std.specs.Prelude.{◌≡◌, ◌<◌, ℕ, IfOk, List, Ok, Option, Some, length, map, option_map, true};
+ghost use Rattle.std.specs.Io.BufRead.{strip_last};
+ghost use Rattle.adf_shelf_cmd.specs.Names.{GivesName, names_in};
+
+use adf_cmd::StreamFault;
+use std::io::{BufRead, ErrorKind};
+
+/// Names, one after another.
+pub trait Names {
+    /// The names that it will give, where they are known.
+    ghost left: { Self → Option (List (List ℕ)) };
+
+    /// It gives at most so many.
+    ghost most: { Self → ℕ };
+
+    /// Puts the next name in place of another one, and answers whether there was one. `Device` where the
+    /// names cannot be had, `NoMemory` where memory was refused.
+    fn next(&mut self, name: &mut Vec<u8>) -> Result<bool, StreamFault>
+        ensures gives { IfOk result (λ more. GivesName more (left self.old) (left self.new) name.new.items) }
+        ensures fewer { result ≡ Ok true → most self.new < most self.old };
+}
+
+/// Names that are words of a command line.
+#[derive(Drop)]
+pub struct WordNames<'a> {
+    words: &'a [&'a str],
+}
+
+impl<'a> WordNames<'a> {
+    /// These words.
+    pub fn new(words: &'a [&'a str]) -> WordNames<'a>
+        ensures { result.words.now ≡ words.entry.now }
+    {
+        WordNames { words }
+    }
+}
+
+impl Names for WordNames<'_> {
+    ghost left = { λ n. Some (map (λ w. w.now) n.words.now) };
+
+    ghost most = { λ n. length n.words.now };
+
+    fn next(&mut self, name: &mut Vec<u8>) -> Result<bool, StreamFault> {
+        if self.words.is_empty() {
+            return Ok(false);
+        }
+        name.clear();
+        name.extend_from_slice(self.words[0].as_bytes())?;
+        self.words = &self.words[1..];
+        Ok(true)
+    }
+}
+
+/// The names in a text, each ended by the same byte but perhaps the last.
+#[derive(Drop)]
+pub struct TextNames<B> {
+    pub text: B,
+    /// The byte that ends a name.
+    pub end: u8,
+    // no run uses them up
+    turns: u64,
+}
+
+impl<B> TextNames<B> {
+    /// The names in a text.
+    pub fn new(text: B, end: u8) -> TextNames<B>
+        ensures text { result.text ≡ text }
+        ensures end { result.end ≡ end }
+    {
+        TextNames {
+            text,
+            end,
+            turns: u64::MAX,
+        }
+    }
+}
+
+// Takes the byte that ends a name off it.
+fn strip_end(name: &mut Vec<u8>, end: u8)
+    ensures { name.new.items ≡ strip_last end name.old.items }
+{
+    let len = name.len();
+    if len > 0 && name[len - 1] == end {
+        name.truncate(len - 1);
+    }
+}
+
+impl<B: BufRead> Names for TextNames<B> {
+    ghost left = { λ l. option_map (names_in l.end) (B.remaining l.text) };
+
+    ghost most = { λ l. l.turns };
+
+    fn next(&mut self, name: &mut Vec<u8>) -> Result<bool, StreamFault> {
+        if self.turns == 0 {
+            return Err(StreamFault::Device);
+        }
+        self.turns -= 1;
+        name.clear();
+        match self.text.read_until(self.end, name) {
+            Ok(count) => {
+                if count == 0 {
+                    return Ok(false);
+                }
+                strip_end(name, self.end);
+                Ok(true)
+            }
+            Err(error) => match error.kind() {
+                ErrorKind::OutOfMemory => Err(StreamFault::NoMemory),
+                _ => Err(StreamFault::Device),
+            },
+        }
+    }
+}

@@ -1,0 +1,79 @@
+// What is reported of a file, and the line of its name.
+
+ghost use Rattle.std.specs.Prelude.{◌≡◌, ◌++◌, false, OnOk};
+ghost use Rattle.adf_shelf_cmd.specs.Lines.{IsReport, IsRunStatus, report_status, report_text, shelf_line};
+
+use crate::files::Files;
+use adf_cmd::{CheckAnswer, Source, StreamFault, answer_to_input};
+use adf_texts::push_escaped;
+use std::alloc::{AllocError, Global};
+
+/// What is reported of a file.
+#[derive(Drop)]
+pub enum Report {
+    Checked(CheckAnswer),
+    /// It could not be opened or read.
+    ReadFault,
+    /// Memory was refused.
+    NoMemory,
+}
+
+impl Report {
+    /// The status of a run of this file alone: 0 where it is sound, 1 where it is refused, 3 else.
+    pub fn status(&self) -> u8
+        ensures value { result ≡ report_status self.now }
+        ensures run { IsRunStatus result }
+    {
+        match self {
+            Report::Checked(answer) if answer.sound => 0,
+            Report::Checked(_) => 1,
+            Report::ReadFault => 3,
+            Report::NoMemory => 3,
+        }
+    }
+
+    /// What stands behind the name, with its line feed.
+    pub fn text(&self) -> &str
+        ensures { result.now ≡ report_text self.now }
+    {
+        match self {
+            Report::Checked(answer) => answer.line.as_str(),
+            Report::ReadFault => "read fault\n",
+            Report::NoMemory => "no memory\n",
+        }
+    }
+}
+
+// Reads an image into the buffer and checks it.
+fn check_source<S: Source>(alloc: Global, source: &mut S, buffer: &mut Vec<u8>) -> Report
+    requires { S.has_failed source.old ≡ false }
+    ensures { IsReport (S.left source.old) (S.may_fail source.old) (report_status result) (report_text result) }
+{
+    match answer_to_input(alloc, source, buffer) {
+        Ok(answer) => Report::Checked(answer),
+        Err(StreamFault::Device) => Report::ReadFault,
+        Err(StreamFault::NoMemory) => Report::NoMemory,
+    }
+}
+
+/// Reads the file of a name into the buffer, which may be that of an earlier file, and checks it:
+/// at most one byte more than the largest image is read of it.
+#[tactic(auto, using(crate::proofs::Progress::report_known))]
+pub fn check_file<F: Files>(alloc: Global, files: &F, name: &[u8], buffer: &mut Vec<u8>) -> Report
+    ensures { IsReport (F.bytes_of files.now name.now) (F.may_fail files.now name.now)
+        (report_status result) (report_text result) }
+{
+    match files.open(name) {
+        Ok(mut source) => check_source(alloc, &mut source, buffer),
+        Err(_) => Report::ReadFault,
+    }
+}
+
+/// Appends the line of a name: its escape form, a tab, and what is reported of its file.
+pub fn push_line(text: &mut Vec<u8>, name: &[u8], report: &Report) -> Result<(), AllocError>
+    ensures { OnOk result (text.new.items ≡ text.old.items ++ shelf_line name.now (report_text report.now)) }
+{
+    push_escaped(text, name)?;
+    text.push(b'\t')?;
+    text.extend_from_slice(report.text().as_bytes())
+}

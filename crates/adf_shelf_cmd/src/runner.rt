@@ -1,0 +1,112 @@
+// The whole command.
+
+ghost use Rattle.std.specs.Prelude.{◌≡◌, ◌≢◌, ◌≤◌, Bool, List, ℕ, [], codes, false, map};
+ghost use Rattle.adf_cmd.specs.Streams.{Says};
+ghost use Rattle.adf_shelf_cmd.specs.CommandLine.{Asks, IsRefused, asked, names_asked};
+ghost use Rattle.adf_shelf_cmd.specs.Lines.{Ends, IsReportOf, IsRunStatus};
+
+use crate::command_line::{Order, parse};
+use crate::files::Files;
+use crate::names::{Names, TextNames, WordNames};
+use crate::shelf::{Stop, write_verdicts};
+use adf_cmd::{Sink, WordsFault, say};
+use std::alloc::Global;
+use std::io::BufRead;
+
+const USAGE: &str = "usage: adf-shelf [--null] [FILE..]\n";
+
+// Writes the lines of names, says on errors why it stopped, and answers the status.
+fn run_names<N: Names, F: Files, W: Sink, E: Sink>(
+    alloc: Global,
+    names: &mut N,
+    files: &F,
+    output: &mut W,
+    errors: &mut E,
+) -> u8
+    requires writes { W.has_failed output.old ≡ false }
+    requires tells { E.has_failed errors.old ≡ false }
+    ensures ends { Ends (IsReportOf (F.bytes_of files.now) (F.may_fail files.now)) (N.left names.old) result
+        (W.has_failed output.new) (W.held output.old) (W.held output.new)
+        (E.has_failed errors.new) (E.held errors.old) (E.held errors.new) }
+    ensures status { IsRunStatus result }
+{
+    match write_verdicts(alloc, names, files, output) {
+        Ok(status) => status,
+        Err(stop) => {
+            say(errors, stop.line());
+            3
+        }
+    }
+}
+
+// Writes the lines of the names of an order, or where it has none of those in the input.
+fn run_order<B: BufRead, F: Files, W: Sink, E: Sink>(
+    alloc: Global,
+    order: &Order<'_>,
+    input: &mut TextNames<B>,
+    files: &F,
+    output: &mut W,
+    errors: &mut E,
+) -> u8
+    requires writes { W.has_failed output.old ≡ false }
+    requires tells { E.has_failed errors.old ≡ false }
+    ensures ends { Ends (IsReportOf (F.bytes_of files.now) (F.may_fail files.now))
+        (names_asked (asked order.now) (B.remaining input.old.text)) result
+        (W.has_failed output.new) (W.held output.old) (W.held output.new)
+        (E.has_failed errors.new) (E.held errors.old) (E.held errors.new) }
+    ensures status { IsRunStatus result }
+    ensures unread { order.now.files.items ≢ [] → input.new ≡ input.old }
+{
+    if order.files.is_empty() {
+        input.end = if order.null { 0 } else { b'\n' };
+        return run_names(alloc, input, files, output, errors);
+    }
+    let mut named = WordNames::new(&order.files);
+    run_names(alloc, &mut named, files, output, errors)
+}
+
+/// Writes the verdict on each image that the words name, or else the input, in order; the first word is
+/// the program's name. Answers the status:
+///
+/// - 0 where all are sound;
+/// - 1 where one is refused, and all were read;
+/// - 2 where the words are not accepted, which errors tell; nothing is read or written;
+/// - 3 where an image could not be read, which its line tells, or where the names, a device or memory
+///   failed, which errors tell.
+pub fn run<B: BufRead, F: Files, W: Sink, E: Sink>(
+    alloc: Global,
+    words: &[&str],
+    input: &mut TextNames<B>,
+    files: &F,
+    output: &mut W,
+    errors: &mut E,
+) -> u8
+    requires writes { W.has_failed output.old ≡ false }
+    requires tells { E.has_failed errors.old ≡ false }
+    ensures most { result ≤ 3 }
+
+    // Where the words are taken, output has the lines of the names, or the work stopped.
+    ensures ends { (order : Bool × List (List ℕ)) → Asks (map (λ w. w.now) words.now) order
+        → Ends (IsReportOf (F.bytes_of files.now) (F.may_fail files.now)) (names_asked order (B.remaining input.old.text)) result
+        (W.has_failed output.new) (W.held output.old) (W.held output.new)
+        (E.has_failed errors.new) (E.held errors.old) (E.held errors.new) }
+
+    // At status 2 the words are refused; where they are, nothing was read or written.
+    ensures usage { result ≡ 2 → IsRefused (map (λ w. w.now) words.now) }
+    ensures refused { IsRefused (map (λ w. w.now) words.now) → ¬ (result ≡ 3) → result ≡ 2 }
+    ensures untouched { IsRefused (map (λ w. w.now) words.now) → (input.new ≡ input.old) × (output.new ≡ output.old) }
+    ensures said { result ≡ 2
+        → Says (E.has_failed errors.new) (E.held errors.old) (E.held errors.new) (codes "usage: adf-shelf [--null] [FILE..]\n") }
+{
+    match parse(alloc, words) {
+        Ok(order) => run_order(alloc, &order, input, files, output, errors),
+        Err(WordsFault::Usage) => {
+            say(errors, USAGE);
+            2
+        }
+        Err(WordsFault::NoMemory) => {
+            say(errors, Stop::NoMemory.line());
+            3
+        }
+    }
+}
