@@ -1,5 +1,5 @@
 -- What the command answers to its words and its input.
-use Rattle.std.specs.Prelude.{◌≡◌, ◌≢◌, ◌<◌, ◌-◌, ◌*◌, ◌⊎◌, ℕ, Bool, true, false, List, [], codes, Option, None, Some, option_map, if◌then◌else◌}
+use Rattle.std.specs.Prelude.{◌≡◌, ◌≢◌, ◌++◌, ◌<◌, ◌-◌, ◌*◌, ◌⊎◌, ℕ, Bool, true, false, List, [], codes, Option, None, Some, option_map, if◌then◌else◌}
 use Rattle.std.specs.Io.KnownBytes.{Appends}
 use Rattle.adf_blocks.specs.declared.layout.TheConstants.{MOST_BLOCKS}
 use Rattle.adf_fields.specs.declared.dates.Stamp.{Stamp}
@@ -150,7 +150,9 @@ failure_line false false = codes "no memory\n"
 
 -- what errors get where the words are refused
 abbrev pub usage_line : List ℕ
-usage_line = codes "usage: adf check | list | cat PATH | build [--list] | convert ofs|ffs\n"
+usage_line =
+    codes "usage: adf check < IMAGE\n       adf list < IMAGE\n       adf cat PATH < IMAGE\n       adf build [--list] < MANIFEST\n"
+    ++ codes "       adf convert ofs|ffs < IMAGE\nan image or a manifest comes on standard input; man adf tells more\n"
 
 -- the words ask for the bytes under a path that is not read
 abbrev pub AsksBadPath : List (List ℕ) → Type 0

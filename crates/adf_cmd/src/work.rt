@@ -43,7 +43,9 @@ pub enum WorkFault {
     NoMemory,
 }
 
-const USAGE: &str = "usage: adf check | list | cat PATH | build [--list] | convert ofs|ffs\n";
+const USAGE: &str =
+    "usage: adf check < IMAGE\n       adf list < IMAGE\n       adf cat PATH < IMAGE\n       adf build [--list] < MANIFEST\n\
+    \x20      adf convert ofs|ffs < IMAGE\nan image or a manifest comes on standard input; man adf tells more\n";
 
 impl WorkFault {
     /// The status that the run ends with.
