@@ -21,9 +21,11 @@ stands_for v (u, m, k) t l fits =
     let same = k.only t l fits in
     subst (λ (n : Layout). StandsFor v t n) (sym same.1) (subst (λ (s : Tree). StandsFor v s m) (sym same.0) k)
 
+-- an owner that is told is one
 some_same : (got : Option Owner) (q o : Owner) → got ≡ Some q → got ≡ Some o → q ≡ o
 some_same got q o a b = cc
 
+-- the number of the role that is told of a block is that of its role
 pub role_told : (v : Volume) (b r : ℕ) (got : Option Owner) (q : Owner) → Stands v → got ≡ Some q → r ≡ role_number q
     → ((t : Tree) (l : Layout) (o : Owner) → StandsFor v t l → In (owned v.image l) (o, b) → got ≡ Some o)
     → (b < 2 → got ≡ Some Boot)

@@ -7,11 +7,12 @@ use Rattle.std.proofs.lemmas.Bool.{cases_lt}
 use Rattle.std.proofs.lemmas.List.{length-take-le, take-append-drop, take-take, take_more}
 use Rattle.adf_c.specs.Rooms.{filled}
 
--- no members, and all members
+-- the first members where there are none to take
 pub take_zero : {X : Type 0} (xs : List X) → take 0 xs ≡ []
 take_zero [] = refl
 take_zero (x ∷ xs) = refl
 
+-- and where there are none to leave
 pub drop_zero : {X : Type 0} (xs : List X) → drop 0 xs ≡ xs
 drop_zero [] = refl
 drop_zero (x ∷ xs) = refl

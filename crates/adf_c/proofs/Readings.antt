@@ -3,7 +3,7 @@ use Rattle.std.specs.Prelude.{◌≡◌, ◌+◌, ◌-◌, ◌*◌, ◌/◌, ◌
 use Rattle.std.proofs.Common.{zero, suc, refl, sym, ap, subst, ◌∙◌, arith, length-append, length-drop, length-take, Option}
 use Rattle.std.proofs.Math.Seq.{drop-append-add, drop-nil, take-add, take-append_seam}
 use Rattle.std.proofs.lemmas.List.{drop-append-le, drop-drop, drop-take, get_or-take, take-append-drop, take-append-le, take-take, take_rest}
-use Rattle.std.proofs.lemmas.List.Elements.{All-append, All-drop, All-nil, All-take, Contains-get_or}
+use Rattle.std.proofs.lemmas.List.Elements.{All-append, All-drop, All-take, Contains-get_or}
 use Rattle.adf_fields.specs.Words.{block}
 use Rattle.adf_tree.specs.declared.entry.Body.{Body}
 use Rattle.adf_tree.specs.declared.entry.Body.TheVariants.{Dir, File}
@@ -29,6 +29,7 @@ use Rattle.adf_c.specs.Tables.{all_datas, block_table, bytes_at, bytes_in, bytes
 use Rattle.adf_c.proofs.Filled.{drop_zero, filled_part, take_zero}
 use Rattle.adf_c.proofs.TableLaws.{told_here, told_length}
 
+-- the image has these blocks
 are_in : {image table ds : List ℕ} → AreBlocksOf image table ds → AreIn image ds
 are_in {image = image} {ds = ds} is i b at = subst (λ x. x < blocks image) (at_index_or ds i b 0 at) (is.inside i (at_below ds i b at))
 
@@ -49,6 +50,7 @@ joined_from image kind (b ∷ bs) (suc i) r whole inside lt le =
     ∙ drop-append-add (area kind (block image b)) (joined image kind bs) (chunk kind * i + r)
     ∙ joined_from image kind bs i r whole (λ j c at. inside (suc j) c at) (omega arith) le
 
+-- a place in so many data areas: in which of them it lies, and where there
 place_in : (kind : Kind) (at n : ℕ) → at < chunk kind * n
     → (at / chunk kind < n) × (chunk kind * (at / chunk kind) + at % chunk kind ≡ at) × (at % chunk kind ≤ chunk kind)
 unfolding chunk
@@ -86,19 +88,16 @@ bytes_more all room new part put from m next e is before here le =
     e ∙ ap (λ xs. xs ++ take m part) before ∙ ap (λ xs. take put (drop from all) ++ xs) more
     ∙ sym (take-add put m (drop from all)) ∙ ap (λ n. take n (drop from all)) (sym is)
 
+-- a data area is as long as the kind has it
 pub area_long : (image : List ℕ) (kind : Kind) (b : ℕ) → b * 512 + 512 ≤ length image → length (area kind (block image b)) ≡ chunk kind
 unfolding area chunk block
 area_long image Ofs b le = simp (length-take, length-drop) (omega arith)
 area_long image Ffs b le = simp (length-take, length-drop) (omega arith)
 
+-- also where it was read
 pub area_size : (image held here : List ℕ) (kind : Kind) (b size : ℕ) → held ≡ area kind here → here ≡ block image b → b * 512 + 512 ≤ length image
     → size ≡ chunk kind → length held ≡ size
 area_size image held here kind b size e is le same = ap length (e ∙ ap (area kind) is) ∙ area_long image kind b le ∙ sym same
-
-pub chunk_some : (kind : Kind) → 0 < chunk kind
-unfolding chunk
-chunk_some Ofs = omega arith
-chunk_some Ffs = omega arith
 
 -- a list has its own members
 own : (xs : List ℕ) → All (Contains xs) xs
@@ -120,10 +119,6 @@ part_known image held here kind b m r e is =
     subst (λ bs. AreBytesOf image (take m (drop r bs))) (sym (e ∙ ap (area kind) is))
     (All-take (Contains image) m (drop r (area kind (block image b))) (All-drop (Contains image) r (area kind (block image b)) (area_known image kind b)))
 
--- where nothing is put, no byte is another's
-pub none_known : (image room : List ℕ) → AreBytesOf image (take 0 room)
-none_known image room = subst (AreBytesOf image) (sym (take_zero room)) (All-nil (Contains image))
-
 -- one part more
 pub more_known : (image room new part : List ℕ) (put m next : ℕ) → take next new ≡ take put room ++ take m part → AreBytesOf image (take put room)
     → AreBytesOf image part → AreBytesOf image (take next new)
@@ -141,6 +136,7 @@ behind_kept r m new room le within long e =
     drop-append-le r new (drop m room) le ∙ ap (λ xs. xs ++ drop m room) e
     ∙ sym (drop-append-le r (take m room) (drop m room) (omega (arith, length-take m room))) ∙ ap (drop r) (take-append-drop m room)
 
+-- a number of blocks that hold something is not 0
 some_blocks : (n m size : ℕ) → 0 < size → size ≤ n * m → 0 < m
 some_blocks n zero size some le = absurd (omega arith)
 some_blocks n (suc m) size some le = omega arith
@@ -196,6 +192,7 @@ datas_front (q ∷ qs) (suc i) lt =
     ap (λ n. take (length (datas_at qs i)) (drop n (q.datas ++ all_datas qs))) (length-append q.datas (all_datas (take i qs)))
     ∙ ap (take (length (datas_at qs i))) (drop-append-add q.datas (all_datas qs) (length (all_datas (take i qs)))) ∙ datas_front qs i (omega arith)
 
+-- the data blocks of an entry hold its bytes
 body_read : (image : List ℕ) (t : Tree) (l : Layout) (n : ℕ) (e : Entry) → Fits image t l → EntryAt t n e → (b : Body) → e.body ≡ b
     → BodyFits image t.kind l n (at_node image l n) b
     → (length (bytes_in b) ≤ chunk t.kind * length (datas_of l n)) × (take (length (bytes_in b)) (joined image t.kind (datas_of l n)) ≡ bytes_in b)
@@ -211,6 +208,7 @@ pub record IsRead (image table : List ℕ) (t : Tree) (l : Layout) (n : ℕ) (x 
   pub datas : AreDatasOf image x table (datas_of l n)
   pub bytes : file_bytes image x (datas_of l n) ≡ bytes_at t n
 
+-- what is told of an entry tells of its bytes
 told_read : (image : List ℕ) (t : Tree) (l : Layout) (i : ℕ) (e : Entry) → Fits image t l → At t.entries i e
     → IsRead image (block_table l) t l (suc i) (told (head_at l.places i) (length (all_datas (take i l.places))) e)
 told_read image t l i e fits at =
@@ -231,6 +229,7 @@ told_read image t l i e fits at =
       bytes = ap (λ k. take (length (bytes_in e.body)) (joined image k (datas_of l (suc i)))) (sym fits.kind) ∙ body.1 ∙ told_bytes;
     }
 
+-- and so does what stands in the table of a volume
 pub entry_read : (image table : List ℕ) (t : Tree) (l : Layout) (xs : List TableEntry) (n : ℕ) (d : TableEntry) → Fits image t l → xs ≡ entry_table t l
     → table ≡ block_table l → 0 < n → n ≤ length xs → IsRead image table t l n (get_or xs (n - 1) d)
 entry_read image table t l xs zero d fits is tables some le = absurd (omega arith)
@@ -256,6 +255,7 @@ entry_none t n lt = go (entry t.entries n) refl
     go None e = e
     go (Some x) e = absurd (past n x lt ((entry_is_at t n x).1 e))
 
+-- nor has a node past the end of the table bytes
 pub nothing_past : (t : Tree) (l : Layout) (xs : List TableEntry) (n o : ℕ) → length l.places ≡ length t.entries → xs ≡ entry_table t l → length xs < n
     → drop o (bytes_at t n) ≡ []
 nothing_past t l xs n o z is lt =

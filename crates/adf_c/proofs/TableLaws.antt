@@ -45,12 +45,14 @@ told_at k (f ∷ es) (q ∷ qs) (suc i) e at z =
     subst (λ n. At (told_from (k + length q.datas) es qs) i (told (head_at qs i) n e)) all
     (told_at (k + length q.datas) es qs i e at (omega arith))
 
+-- the same in the table of a volume
 pub told_here : (t : Tree) (l : Layout) (i k : ℕ) (e : Entry) → At t.entries i e → length l.places ≡ length t.entries
     → k ≡ length (all_datas (take i l.places)) → At (entry_table t l) i (told (head_at l.places i) k e)
 told_here t l i k e at z same =
     let zero_more : 0 + length (all_datas (take i l.places)) ≡ k = omega arith in
     subst (λ n. At (entry_table t l) i (told (head_at l.places i) n e)) zero_more (told_at 0 t.entries l.places i e at z)
 
+-- a table has an entry for each entry
 pub told_length : (k : ℕ) (es : List Entry) (qs : List Place) → length qs ≡ length es → length (told_from k es qs) ≡ length es
 told_length k [] qs z = refl
 told_length k (e ∷ es) [] z = absurd (omega arith)
@@ -69,6 +71,7 @@ datas_within (q ∷ qs) zero = omega arith
 datas_within (q ∷ qs) (suc i) =
     omega (arith, datas_within qs i, length-append q.datas (all_datas (take i qs)), length-append q.datas (all_datas qs))
 
+-- numbering keeps the length
 length_numbered : {X : Type 0} (f : ℕ → X) (k : ℕ) (bs : List ℕ) → length (numbered f k bs) ≡ length bs
 length_numbered f k [] = refl
 length_numbered f k (b ∷ bs) = ap suc (length_numbered f (suc k) bs)
@@ -89,6 +92,7 @@ parts_many n (q ∷ qs) =
       length_numbered (Data n) 1 q.datas,
     )
 
+-- so there are fewer entries and data blocks than blocks in use, of which the root is one
 pub tables_small : (image : List ℕ) (l : Layout) → length l.places + length (block_table l) < length (owned image l)
 tables_small image l =
     let pages = numbered Page 0 l.pages in
@@ -100,10 +104,12 @@ tables_small image l =
 pub entry_there : (t : Tree) (n : ℕ) → 0 < n → n ≤ length t.entries → (e : Entry) × (entry t.entries n ≡ Some e)
 entry_there t n some le = let x = entry_some t n (omega arith) le in (x.0, (entry_is_at t n x.0).0 x.1)
 
+-- an entry has a row
 row_some : (r : Option Row) (e : Entry) → RowMatches r (Some e) → IsSome r
 row_some None e h = absurd h
 row_some (Some r) e h = refl
 
+-- each number of an entry has a row
 pub row_there : (r : Option Row) (t : Tree) (n : ℕ) → 0 < n → n ≤ length t.entries → RowMatches r (entry t.entries n) → IsSome r
 row_there r t n some le h = let x = entry_there t n some le in row_some r x.0 (subst (RowMatches r) x.1 h)
 
@@ -119,6 +125,7 @@ parent_below t (suc i) e tree at =
     let same = at_index_or t.entries i e e at in
     omega (arith, subst (λ (x : Entry). x.parent ≤ i) same le)
 
+-- and fits a word
 pub parent_small : (got : Option Row) (r : Row) (image : List ℕ) (t : Tree) (l : Layout) (n : ℕ) → got ≡ Some r → Fits image t l
     → length (owned image l) < 2 ^ 32 → 0 < n → n ≤ length t.entries → RowMatches got (entry t.entries n) → r.parent < 2 ^ 32
 parent_small got r image t l n is fits few some le h =
@@ -151,6 +158,7 @@ count_more l i first more lt is next =
     let one : i + 1 ≡ suc i = omega arith in
     rw one (omega (arith, ap length (datas_more l.places i lt), length-append (all_datas (take i l.places)) (datas_at l.places i)))
 
+-- where the data blocks of the next file are put behind those before them, those of one file more stand there
 pub next_blocks : (l : Layout) (i : ℕ) (ds room next : List ℕ) → i < length l.places → ds ≡ datas_at l.places i
     → next ≡ filled (all_datas (take i l.places) ++ ds) room → next ≡ filled (all_datas (take (i + 1) l.places)) room
 next_blocks l i ds room next lt is e =
@@ -162,6 +170,7 @@ next_blocks l i ds room next lt is e =
 pub whole_blocks : (l : Layout) (i : ℕ) → length l.places ≤ i → all_datas (take i l.places) ≡ block_table l
 whole_blocks l i le = ap all_datas (take_all i l.places le)
 
+-- and all entries
 pub whole_entries : (t : Tree) (l : Layout) (i : ℕ) → length l.places ≡ length t.entries → length t.entries ≤ i → take i (entry_table t l) ≡ entry_table t l
 whole_entries t l i z le = take_all i (entry_table t l) (omega (arith, told_length 0 t.entries l.places z))
 

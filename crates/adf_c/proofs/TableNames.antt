@@ -112,6 +112,7 @@ module _ {xs : List TableEntry} {es : List Entry} (has : HasNamesOf xs es) where
       child_found es p name i e.0 short (sym here)
       (ap (is_child p name) (sym here) ∙ sym (same_child i x e.0 p name short) ∙ sym told ∙ same) others
 
+-- a name has at most 30 bytes
 name_short : (bs : List ℕ) → is_name bs ≡ true → length bs ≤ 30
 name_short bs h = grind (arith, nat_tests)
 
@@ -128,6 +129,7 @@ text_there : (text room : List ℕ) → length text ≤ length room → take (le
 text_there text room le =
     ap (λ xs. take (length text) (xs ++ drop (length text) room)) (take_all (length room) text le) ∙ take-append_seam text (drop (length text) room)
 
+-- the name that is told of an entry is its own
 pub name_told : (image : List ℕ) (t : Tree) (l : Layout) (i h k : ℕ) (e : Entry) → Fits image t l → At t.entries i e → name_in (told h k e) ≡ e.name
 name_told image t l i h k e fits at = text_there e.name (replicate 30 0) (short_name image t l i e fits at)
 

@@ -7,6 +7,7 @@ use Rattle.adf_volume.specs.Fits.{Fits}
 use Rattle.adf_volume.specs.Layout.{Layout, owned}
 use Rattle.adf_volume.specs.Lists.{In}
 
+-- the number of an owner's role
 abbrev pub role_number : Owner → ℕ
 role_number Free = 0
 role_number Boot = 1
