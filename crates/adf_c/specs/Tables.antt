@@ -1,5 +1,6 @@
 -- The tables of a volume, as C has them: an entry for each entry of its tree, and the data blocks of its files.
--- Letters: t a tree; l its layout; e an entry, and es entries; xs a table of entries; h the block of a header; q the place of an entry, and qs places; k a count of data blocks.
+-- Letters: t a tree; l its layout; e an entry, and es entries; xs a table of entries; h the block of a header; q the place of an entry, and qs places;
+-- k a count of data blocks.
 use Rattle.std.specs.Prelude.{◌≡◌, ℕ, List, [], ◌∷◌, ◌++◌, ◌+◌, ◌-◌, Option, Some, None, length, replicate}
 use Rattle.adf_fields.specs.declared.dates.Stamp.{Stamp}
 use Rattle.adf_tree.specs.declared.entry.Body.{Body}
