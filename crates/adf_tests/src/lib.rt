@@ -5,3 +5,7 @@
 mod causes;
 #[cfg(test)]
 mod devices;
+#[cfg(test)]
+mod memory;
+#[cfg(test)]
+mod shelf;
