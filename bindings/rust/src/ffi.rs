@@ -165,7 +165,7 @@ pub(crate) fn owners(image: &[u8]) -> Result<Vec<u8>, Refused> {
 /// The number of the entry under a path in escape form, 0 for the root.
 pub(crate) fn find(entries: &[Record], path: &[u8]) -> Result<usize, NotFound> {
     let mut node = 0;
-    // "In a table that adf_index did not make, or that has been changed, the answer is any, but the call is safe all the same."
+    // "A pointer to bytes leads to as many as its length or room says"; "a node that is found is at most count".
     let answer = unsafe { adf_find(entries.as_ptr(), entries.len(), path.as_ptr(), path.len(), &mut node) };
     match answer {
         0 => Ok(node),
@@ -178,7 +178,7 @@ pub(crate) fn find(entries: &[Record], path: &[u8]) -> Result<usize, NotFound> {
 /// Puts bytes of a file from an offset on into the room, and answers how many.
 pub(crate) fn read(image: &[u8], tables: &Tables, node: usize, offset: usize, room: &mut [u8]) -> usize {
     let (entries, blocks) = (&tables.entries, &tables.blocks);
-    // "with any others the bytes are any of the image, but the call is safe all the same".
+    // "What is written here (not const) overlaps nothing else that is passed"; "the answer is at most room_length".
     unsafe {
         adf_read(
             image.as_ptr(),
@@ -250,6 +250,24 @@ mod tests {
             label_length label));
         all.extend(layout!(Moved, "adf_moved": input output errors output_full errors_full));
         all
+    }
+
+    /// A text of several lines as one line, with no marks of comments.
+    fn on_one_line(text: &str) -> String {
+        let bare = |line: &'_ str| line.trim().trim_start_matches(['*', '/']).trim().to_lowercase();
+        text.lines().map(bare).collect::<Vec<_>>().join(" ")
+    }
+
+    #[test]
+    fn citations_stand_in_the_header() {
+        let header = on_one_line(include_str!("../../../include/adf.h"));
+        let comments: Vec<&str> = include_str!("ffi.rs").lines().filter(|line| line.trim().starts_with("// ")).collect();
+        let comments = on_one_line(&comments.join("\n"));
+        let citations: Vec<&str> = comments.split('"').skip(1).step_by(2).collect();
+        assert!(citations.len() >= 6);
+        for citation in citations {
+            assert!(header.contains(citation), "{citation}");
+        }
     }
 
     #[test]
