@@ -79,26 +79,28 @@ fn worked_tree(alloc: Global) -> Option<Tree> {
 }
 
 // Whether an entry is refused so, and the worked tree stays.
-fn is_refused(alloc: Global, tree: &mut Tree, text: &[u8], fault: AddFault) -> Option<bool> {
-    let path = read_path(alloc, text).ok()?;
-    let res = tree.add(&path, meta()?, Body::Dir);
+fn is_refused(tree: &mut Tree, path: &[Name], fault: AddFault) -> Option<bool> {
+    let res = tree.add(path, meta()?, Body::Dir);
     Some(res == Err(fault) && has_names(tree, &[b"a", b"3", b"b"]))
 }
 
 // Whether entries that have no place in the worked tree are refused.
-fn refuses_others(alloc: Global, tree: &mut Tree) -> Option<bool> {
+fn refuses_others(tree: &mut Tree) -> Option<bool> {
+    let below_none = [Name::new(b"x")?, Name::new(b"y")?];
+    let below_file = [Name::new(b"a")?, Name::new(b"b")?, Name::new(b"z")?];
+    let same = [Name::new(b"A")?];
     Some(
-        is_refused(alloc, tree, b"x/y", AddFault::NoParent)?
-            && is_refused(alloc, tree, b"a/b/z", AddFault::ParentIsFile)?
-            && is_refused(alloc, tree, b"A", AddFault::Exists)?
-            && is_refused(alloc, tree, b"", AddFault::EmptyPath)?,
+        is_refused(tree, &below_none, AddFault::NoParent)?
+            && is_refused(tree, &below_file, AddFault::ParentIsFile)?
+            && is_refused(tree, &same, AddFault::Exists)?
+            && is_refused(tree, &[], AddFault::EmptyPath)?,
     )
 }
 
 /// The second of two entries of one chain, where the entries fill the room that was made for them.
 pub fn tree_add_went(alloc: Global) -> Option<Went> {
     let mut tree = worked_tree(alloc)?;
-    let refuses = refuses_others(alloc, &mut tree)?;
+    let refuses = refuses_others(&mut tree)?;
     tree.add(&[Name::new(b"BA")?], meta()?, Body::Dir).ok()?;
     let res = tree.add(&[Name::new(b"AN")?], meta()?, Body::Dir);
     Some(match res {
