@@ -22,9 +22,9 @@ use Rattle.adf_volume.specs.Walk.Role.{Root, Page, MapExt, Head, Ext, Data}
 use Rattle.adf_survey.specs.Survey.{Finding, Judgement, Judged, IsItself, is_kept, Course, IsCompared, BitsTell}
 use Rattle.adf_survey.specs.Survey.Judgement.{clean, noted, passed}
 use Rattle.adf_survey.specs.Survey.BitsTell.{ends, agrees, differs}
-use Rattle.adf_survey.proofs.Gathered.{IsGathered, file_one}
+use Rattle.adf_volume.proofs.Gathered.{IsGathered, file_one}
 use Rattle.adf_volume.proofs.DecidedAsks.{dec_where, dec_not_zero}
-use Rattle.adf_survey.proofs.Asking.{dec_low, one_low, dec_file}
+use Rattle.adf_volume.proofs.DecidedAsks.{dec_low, one_low, dec_file}
 
 -- each demand is decided
 abbrev pub Decided : List Demand → Type 0

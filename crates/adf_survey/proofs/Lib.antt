@@ -1,6 +1,3 @@
--- parts that were asked for in turn, and what they ask for
-pub mod Gathered
-pub mod Asking
 -- how a part is judged
 pub mod Judging
 -- the first finding, and surveys without one

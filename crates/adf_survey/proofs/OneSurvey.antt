@@ -5,19 +5,17 @@ use native.Mathlib.Decide.{dec_lt}
 use Rattle.adf_blocks.specs.Sizes.{blocks}
 use Rattle.adf_volume.specs.Image.{word_in, root_of}
 use Rattle.adf_volume.specs.Demands.{Demand, boot_demands, root_demands}
-use Rattle.adf_volume.specs.Walk.{Role, Before, Same, heads, Asks, demands, bitmap_demands}
-use Rattle.adf_volume.specs.Walk.Role.{Head}
+use Rattle.adf_volume.specs.Walk.{Role, Same, Asks, demands, bitmap_demands}
 use Rattle.adf_volume.proofs.Lists.{fails_not_all}
-use Rattle.adf_volume.proofs.OneFault.{fails_one}
-use Rattle.adf_volume.proofs.Walks.{asks_number, dec_same, same_role}
-use Rattle.adf_volume.proofs.WalkOrder.{before_total}
+use Rattle.adf_volume.proofs.OneFault.{fails_one, neither_before, number_is}
+use Rattle.adf_volume.proofs.Walks.{same_role}
 use Rattle.adf_survey.specs.Survey.{Finding, finding, Judgement, Judged, Course, after, IsNext, IsCourse, IsDone, BitsTell, IsSurvey}
 use Rattle.adf_survey.specs.Survey.Judgement.{clean, noted, passed}
 use Rattle.adf_survey.specs.Survey.IsCourse.{start, step}
 use Rattle.adf_survey.specs.Survey.BitsTell.{ends, agrees, differs}
 use Rattle.adf_survey.specs.Survey.IsSurvey.{unread, read}
-use Rattle.adf_survey.proofs.Gathered.{IsGathered, asks_one}
-use Rattle.adf_survey.proofs.Gathered.IsGathered.{start as gathered_start, step as gathered_step}
+use Rattle.adf_volume.proofs.Gathered.{IsGathered, asks_one}
+use Rattle.adf_volume.proofs.Gathered.IsGathered.{start as gathered_start, step as gathered_step}
 
 -- a part is judged in one way
 judged_one : (r : Role) (xs : List Demand) (j k : Judgement) → Judged r xs j → Judged r xs k → j ≡ k
@@ -43,19 +41,14 @@ module _ (image : List ℕ) where
   gathered start = gathered_start
   gathered (step {s = s} {r = r} {a = a} {i = i} j v n h) = came s r a i j (gathered v) n
 
-  number_is : (w : List (Role × ℕ)) (r : Role) (a i n p s j : ℕ) → Asks image w r a i → r ≡ Head n p s j → n ≡ suc (heads w)
-  number_is w r a i n p s j h e = asks_number image w n p s j a i (subst (λ r. Asks image w r a i) e h)
-
   -- one part is next, by one word
   next_one : (s : Course) → IsCourse image s → (r q : Role) (a i b j : ℕ) → IsNext image s r a i → IsNext image s q b j → (r ≡ q) × (a ≡ b) × (i ≡ j)
   next_one s v r q a i b j d e =
-      let same : Same r q = total r q (e.least r a i d.asked d.lacks d.unpassed) (d.least q b j e.asked e.lacks e.unpassed) in
-      let z : r ≡ q = same_role r q same (λ n m p t k f g. number_is s.walk r a i n p t k d.asked f ∙ sym (number_is s.walk q b j m p t k e.asked g)) in
+      let same : Same r q = neither_before r q (e.least r a i d.asked d.lacks d.unpassed) (d.least q b j e.asked e.lacks e.unpassed) in
+      let z : r ≡ q =
+      same_role r q same (λ n m p t k f g. number_is image s.walk r a i n p t k d.asked f ∙ sym (number_is image s.walk q b j m p t k e.asked g)) in
       let x = asks_one image (gathered v) q a i b j (subst (λ r. Asks image s.walk r a i) z d.asked) e.asked in
       (z, x.0, x.1)
-    where
-      total : (r q : Role) → (Before r q → ⊥) → (Before q r → ⊥) → Same r q
-      total r q x y = elim (dec_same r q) [ yes s ↦ s | no s ↦ absurd (x (before_total r q y s)) ]
 
   -- how many parts a course has judged, the root among them
   abbrev steps : Course → ℕ

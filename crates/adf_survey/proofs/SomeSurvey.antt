@@ -21,8 +21,8 @@ use Rattle.adf_survey.specs.Survey.{Finding, finding, Judgement, Judged, is_kept
 use Rattle.adf_survey.specs.Survey.Judgement.{clean, noted, passed}
 use Rattle.adf_survey.specs.Survey.IsCourse.{start, step}
 use Rattle.adf_survey.specs.Survey.IsSurvey.{unread, read}
-use Rattle.adf_survey.proofs.Asking.{dec_asked}
-use Rattle.adf_survey.proofs.Gathered.{IsGathered, root_in}
+use Rattle.adf_volume.proofs.DecidedAsks.{dec_asked}
+use Rattle.adf_volume.proofs.Gathered.{IsGathered, root_in}
 use Rattle.adf_survey.proofs.Judging.{decided, decided_append, decided_form, dec_true, first_failing, judged, bits_told}
 use Rattle.adf_survey.proofs.OneSurvey.{gathered}
 

@@ -17,7 +17,7 @@ use Rattle.adf_survey.specs.Survey.Judgement.{clean, noted, passed}
 use Rattle.adf_survey.specs.Survey.IsCourse.{start, step}
 use Rattle.adf_survey.specs.Survey.IsSurvey.{unread, read}
 use Rattle.adf_survey.specs.Sound.{FileHolds, HeaderHolds, IsSound, IsUnnoted}
-use Rattle.adf_survey.proofs.Gathered.{IsGathered, asked_dir, asked_file, asks_one, ext_counted, file_one, head_block, node_is, node_one}
+use Rattle.adf_volume.proofs.Gathered.{IsGathered, asked_dir, asked_file, asks_one, ext_counted, file_one, head_block, node_is, node_one}
 use Rattle.adf_survey.proofs.OneSurvey.{gathered}
 use Rattle.adf_survey.proofs.SomeSurvey.{keeps_taken}
 

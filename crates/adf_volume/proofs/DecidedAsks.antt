@@ -1,13 +1,14 @@
--- Whether a walk asks for a role.
-use Rattle.std.proofs.Common.{◌≡◌, ℕ, zero, suc, List, inl, inr, ◌+◌, ◌-◌, ◌*◌, ◌/◌, ◌%◌, ◌<◌, ◌≤◌, ◌≢◌, refl, sym, ap, subst, ◌∙◌, arith}
+-- Whether a list of parts that were asked for in turn asks for a role.
+use Rattle.std.proofs.Common.{◌≡◌, ℕ, zero, suc, List, inl, inr, ◌+◌, ◌-◌, ◌*◌, ◌/◌, ◌%◌, ◌<◌, ◌≤◌, ◌≢◌, refl, ap, subst, ◌∙◌, arith}
 use native.Mathlib.Decide.{dec_le, dec_lt, map_dec, ℕ_discrete}
 use Rattle.adf_blocks.specs.declared.layout.TheConstants.{EXTENSION, FIRST_MAP_EXT, FIRST_PAGE, FIRST_SLOT, MAP_EXT_NEXT, MAP_EXT_PAGES, NEXT_IN_CHAIN}
 use Rattle.adf_blocks.specs.declared.layout.TheConstants.{POINTERS, ROOT_PAGES, SECONDARY_TYPE, SLOTS, ST_DIR, ST_FILE}
 use Rattle.adf_blocks.specs.Sizes.{blocks, pages_needed}
 use Rattle.adf_volume.specs.Image.{root_of, word_in, table_word}
-use Rattle.adf_volume.specs.Walk.{Role, second, Has, heads, DirAt, FileAt, MemberAt, data_count, Asks, IsWalk}
+use Rattle.adf_volume.specs.Walk.{Asks, Role, second, Has, heads, DirAt, FileAt, MemberAt, data_count}
 use Rattle.adf_volume.specs.Walk.Role.{Root, Page, MapExt, Head, Ext, Data}
-use Rattle.adf_volume.proofs.Walks.{renumbered, same_refl, dir_is_node, root_in, number_of, numbered, one_block, one_node, file_is, dec_has, has_role, head_key}
+use Rattle.adf_volume.proofs.Walks.{renumbered, same_refl, dec_has, has_role, head_key}
+use Rattle.adf_volume.proofs.Gathered.{IsGathered, root_in, number_of, numbered, one_block, node_one, dir_one, file_one}
 
 -- whether what is unique passes a test
 pub dec_where : (A T : ℕ → Type 0) → ((a b : ℕ) → A a → A b → a ≡ b) → ((a : ℕ) → Dec (T a)) → Dec ((a : ℕ) × A a) → Dec ((a : ℕ) × A a × T a)
@@ -21,16 +22,16 @@ dec_not_zero x = elim (ℕ_discrete x 0) [ yes e ↦ no (λ n. n e) | no n ↦ y
 abbrev pub Asked : List ℕ → List (Role × ℕ) → Role → Type 0
 Asked image w r = (a i : ℕ) × Asks image w (renumbered (suc (heads w)) r) a i
 
-module _ (image : List ℕ) (w : List (Role × ℕ)) (v : IsWalk image w) where
+module _ (image : List ℕ) (w : List (Role × ℕ)) (v : IsGathered image w) where
   -- whether the walk has a role that is no header's
-  dec_low : (r : Role) → second r < 2 → Dec ((b : ℕ) × Has w r b)
+  pub dec_low : (r : Role) → second r < 2 → Dec ((b : ℕ) × Has w r b)
   dec_low r low =
       elim (dec_has w r) [
         | inl l ↦ no (λ x. l r x.0 x.1 (same_refl r))
         | inr y ↦ yes (y.1, has_role image w r (λ n p s j z. let x : second r ≡ second (Head n p s j) = ap second z in omega arith) y.0 y.1 y.2 y.3)
       ]
 
-  one_low : (r : Role) (a b : ℕ) → Has w r a → Has w r b → a ≡ b
+  pub one_low : (r : Role) (a b : ℕ) → Has w r a → Has w r b → a ≡ b
   one_low r a b h k = (one_block image v r r a b h k (same_refl r)).1
 
   abbrev InChain : ℕ → ℕ → ℕ → ℕ → Type 0
@@ -64,28 +65,22 @@ module _ (image : List ℕ) (w : List (Role × ℕ)) (v : IsWalk image w) where
 
   one_head_block : (n a b : ℕ) → HeadAt n a → HeadAt n b → a ≡ b
   one_head_block zero a b h k = absurd (let x : (1 ≤ 0) × (0 ≤ heads w) = number_of image v 0 h.0 h.1 h.2 a h.3 in omega arith)
-  one_head_block (suc i) a b h k = one_node image v (suc i) a b h k
+  one_head_block (suc i) a b h k = node_one image v (suc i) a b h k
 
   -- whether a node is a directory
   dec_dir : (p : ℕ) → Dec ((a : ℕ) × DirAt image w p a)
   dec_dir zero = yes (root_of image, root_in image v)
   dec_dir (suc i) =
       map_dec (λ x. (x.0, (x.1, x.2))) (λ x. (x.0, x.1.0, x.1.1))
-      (dec_where (HeadAt (suc i)) (λ a. word_in image a SECONDARY_TYPE ≡ ST_DIR) (one_head_block (suc i)) (λ a. ℕ_discrete (word_in image a SECONDARY_TYPE) ST_DIR)
-      (dec_head (suc i)))
-
-  one_dir : (p a b : ℕ) → DirAt image w p a → DirAt image w p b → a ≡ b
-  one_dir p a b h k = one_node image v p a b (dir_is_node image w p a h) (dir_is_node image w p b k)
+      (dec_where (HeadAt (suc i)) (λ a. word_in image a SECONDARY_TYPE ≡ ST_DIR) (one_head_block (suc i))
+      (λ a. ℕ_discrete (word_in image a SECONDARY_TYPE) ST_DIR) (dec_head (suc i)))
 
   -- whether a node is a file
-  dec_file : (n : ℕ) → Dec ((a : ℕ) × FileAt image w n a)
+  pub dec_file : (n : ℕ) → Dec ((a : ℕ) × FileAt image w n a)
   dec_file n =
       map_dec (λ x. (x.0, (x.1, x.2))) (λ x. (x.0, x.1.0, x.1.1))
-      (dec_where (HeadAt n) (λ a. word_in image a SECONDARY_TYPE ≡ ST_FILE) (one_head_block n) (λ a. ℕ_discrete (word_in image a SECONDARY_TYPE) ST_FILE)
-      (dec_head n))
-
-  one_file : (n a b : ℕ) → FileAt image w n a → FileAt image w n b → a ≡ b
-  one_file n a b h k = sym (file_is image w n a v h) ∙ file_is image w n b v k
+      (dec_where (HeadAt n) (λ a. word_in image a SECONDARY_TYPE ≡ ST_FILE) (one_head_block n)
+      (λ a. ℕ_discrete (word_in image a SECONDARY_TYPE) ST_FILE) (dec_head n))
 
   dec_member : (n m : ℕ) → Dec ((a : ℕ) × MemberAt image w n m a)
   dec_member n zero = dec_file n
@@ -131,7 +126,7 @@ module _ (image : List ℕ) (w : List (Role × ℕ)) (v : IsWalk image w) where
       ]
   dec_asked (Head n p s zero) =
       elim (dec_lt s SLOTS) [
-        | yes l ↦ elim (dec_where (DirAt image w p) (λ a. word_in image a (FIRST_SLOT + s) ≢ 0) (one_dir p)
+        | yes l ↦ elim (dec_where (DirAt image w p) (λ a. word_in image a (FIRST_SLOT + s) ≢ 0) (dir_one image v p)
             (λ a. dec_not_zero (word_in image a (FIRST_SLOT + s))) (dec_dir p)) [
               | yes y ↦ yes (y.0, FIRST_SLOT + s, (refl, l, y.1, refl, y.2))
               | no m ↦ no (λ x. m (x.0, x.2.2, (λ z. x.2.4 (ap (word_in image x.0) x.2.3 ∙ z))))
@@ -146,7 +141,7 @@ module _ (image : List ℕ) (w : List (Role × ℕ)) (v : IsWalk image w) where
       ]
   dec_asked (Ext n zero) = no (λ x. x.2)
   dec_asked (Ext n (suc zero)) =
-      elim (dec_where (FileAt image w n) (λ a. word_in image a EXTENSION ≢ 0) (one_file n)
+      elim (dec_where (FileAt image w n) (λ a. word_in image a EXTENSION ≢ 0) (file_one image v n)
       (λ a. dec_not_zero (word_in image a EXTENSION)) (dec_file n)) [
         | yes y ↦ yes (y.0, EXTENSION, (y.1, refl, y.2))
         | no m ↦ no (λ x. m (x.0, x.2.0, (λ z. x.2.2 (ap (word_in image x.0) x.2.1 ∙ z))))
@@ -159,7 +154,7 @@ module _ (image : List ℕ) (w : List (Role × ℕ)) (v : IsWalk image w) where
       ]
   dec_asked (Data n zero) = no (λ x. x.2)
   dec_asked (Data n (suc k)) =
-      elim (dec_where (FileAt image w n) (λ h. k < data_count image h) (one_file n) (λ h. dec_lt k (data_count image h)) (dec_file n)) [
+      elim (dec_where (FileAt image w n) (λ h. k < data_count image h) (file_one image v n) (λ h. dec_lt k (data_count image h)) (dec_file n)) [
         | yes h ↦ elim (dec_member n (k / POINTERS)) [
           | yes m ↦ yes (m.0, table_word k, ((h.0, h.1, h.2), m.1, refl))
           | no m ↦ no (λ x. m (x.0, x.2.1))

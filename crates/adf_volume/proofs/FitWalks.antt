@@ -12,6 +12,7 @@ use Rattle.adf_volume.specs.Walk.Role.{Root}
 use Rattle.adf_volume.specs.Walk.IsWalk.{start, step}
 use Rattle.adf_volume.specs.declared.owner.Owner.{Owner}
 use Rattle.adf_volume.proofs.DecidedAsks.{Asked, dec_asked}
+use Rattle.adf_volume.proofs.Gathered.{of_walk}
 use Rattle.adf_volume.proofs.LayoutRoles.{owned_part, part_owned, same_owner}
 use Rattle.adf_volume.proofs.OneTree.{one_tree}
 use Rattle.adf_volume.proofs.WalkAgreement.{agreement, asked_part, due_is_part}
@@ -104,7 +105,7 @@ module _ (image : List ℕ) (t : Tree) (l : Layout) (fit : Fits image t l) where
     Wanted r = Asked image w r × Lacks w r
 
     dec_wanted : (r : Role) → Dec (Wanted r)
-    dec_wanted r = elim (dec_asked image w v r) [
+    dec_wanted r = elim (dec_asked image w (of_walk image v) r) [
       | no n ↦ no (λ x. n x.0)
       | yes a ↦ elim (dec_lacks w r) [ yes k ↦ yes (a, k) | no n ↦ no (λ x. n x.1) ]
     ]

@@ -16,6 +16,7 @@ pub mod Places
 pub mod TreeOrder
 -- walks
 pub mod DecidedAsks
+pub mod Gathered
 pub mod MemberFacts
 pub mod WalkMembers
 pub mod WalkOrder

@@ -1,18 +1,18 @@
 -- There is one first fault.
-use Rattle.std.proofs.Common.{◌≡◌, ℕ, zero, suc, List, [], ◌∷◌, ◌++◌, inl, inr, ◌+◌, ◌-◌, ◌*◌, ◌/◌, ◌<◌, length, refl, sym, ap, subst, ◌∙◌, arith}
+use Rattle.std.proofs.Common.{◌≡◌, ℕ, suc, List, [], ◌∷◌, ◌++◌, inl, inr, ◌-◌, ◌<◌, length, refl, sym, ap, subst, ◌∙◌, arith}
 use native.Mathlib.Decide.{dec_lt}
-use Rattle.adf_blocks.specs.declared.layout.TheConstants.{MAP_EXT_PAGES, POINTERS, ROOT_PAGES}
 use Rattle.adf_blocks.specs.declared.cause.Cause.{Cause}
 use Rattle.adf_volume.specs.Image.{word_in, root_of}
 use Rattle.adf_blocks.specs.Sizes.{blocks}
 use Rattle.adf_volume.specs.Demands.{Demand, FirstFails, boot_demands, root_demands}
-use Rattle.adf_volume.specs.Walk.{Role, Before, Same, Has, heads, DirAt, FileAt, MemberAt, NamesPage, Asks, IsDue, NoCause, demands, bitmap_demands, IsWalk}
+use Rattle.adf_volume.specs.Walk.{Role, Before, Same, heads, Asks, IsDue, NoCause, demands, bitmap_demands, IsWalk}
 use Rattle.adf_volume.specs.Walk.{IsWhole, FirstFault}
-use Rattle.adf_volume.specs.Walk.Role.{Root, Page, MapExt, Head, Ext, Data}
+use Rattle.adf_volume.specs.Walk.Role.{Head}
 use Rattle.adf_volume.specs.Walk.IsWalk.{start, step}
 use Rattle.adf_volume.specs.Walk.FirstFault.{at_boot, at_due, at_bitmap}
+use Rattle.adf_volume.proofs.Gathered.{asks_one, of_walk}
 use Rattle.adf_volume.proofs.Lists.{fails_not_all}
-use Rattle.adf_volume.proofs.Walks.{same_role, asks_number, one_block, one_node, one_head, dec_same}
+use Rattle.adf_volume.proofs.Walks.{same_role, asks_number, dec_same}
 use Rattle.adf_volume.proofs.WalkOrder.{before_total}
 
 pub fails_one : (xs : List Demand) (b : ℕ) (c : Cause) (b' : ℕ) (c' : Cause) → FirstFails xs b c → FirstFails xs b' c' → (b ≡ b') × (c ≡ c')
@@ -22,59 +22,21 @@ fails_one (x ∷ xs) b c b' c' (inl h) (inr k) = absurd (h.0 k.0)
 fails_one (x ∷ xs) b c b' c' (inr h) (inl k) = absurd (k.0 h.0)
 fails_one (x ∷ xs) b c b' c' (inr h) (inr k) = fails_one xs b c b' c' h.1 k.1
 
+-- roles of which neither comes before the other have one key
+pub neither_before : (r q : Role) → (Before r q → ⊥) → (Before q r → ⊥) → Same r q
+neither_before r q x y = elim (dec_same r q) [ yes s ↦ s | no s ↦ absurd (x (before_total r q y s)) ]
+
 module _ (image : List ℕ) where
-  file_one : (w : List (Role × ℕ)) → IsWalk image w → (n a b : ℕ) → FileAt image w n a → FileAt image w n b → a ≡ b
-  file_one w v n a b f g = (one_head image v n f.0.0 f.0.1 f.0.2 a g.0.0 g.0.1 g.0.2 b f.0.3 g.0.3).1
-
-  dir_one : (w : List (Role × ℕ)) → IsWalk image w → (p a b : ℕ) → DirAt image w p a → DirAt image w p b → a ≡ b
-  dir_one w v zero a b h k = one_node image v 0 a b h k
-  dir_one w v (suc i) a b h k = one_node image v (suc i) a b h.0 k.0
-
-  member_one : (w : List (Role × ℕ)) → IsWalk image w → (n m a b : ℕ) → MemberAt image w n m a → MemberAt image w n m b → a ≡ b
-  member_one w v n zero a b h k = file_one w v n a b h k
-  member_one w v n (suc m) a b h k = (one_block image v (Ext n (suc m)) (Ext n (suc m)) a b h k (refl, refl, refl)).1
-
-  names_one : (w : List (Role × ℕ)) → IsWalk image w → (n a i b j : ℕ) → NamesPage image w n a i → NamesPage image w n b j → (a ≡ b) × (i ≡ j)
-  names_one w v n a i b j (inl h) (inl k) = (h.1 ∙ sym k.1, h.2 ∙ sym k.2)
-  names_one w v n a i b j (inl h) (inr k) = let x : n < ROOT_PAGES = h.0 in let y : n ≡ ROOT_PAGES + MAP_EXT_PAGES * k.0 + j = k.3 in absurd (omega arith)
-  names_one w v n a i b j (inr h) (inl k) = let x : n < ROOT_PAGES = k.0 in let y : n ≡ ROOT_PAGES + MAP_EXT_PAGES * h.0 + i = h.3 in absurd (omega arith)
-  names_one w v n a i b j (inr h) (inr k) =
-      let x : n ≡ ROOT_PAGES + MAP_EXT_PAGES * h.0 + i = h.3 in
-      let y : n ≡ ROOT_PAGES + MAP_EXT_PAGES * k.0 + j = k.3 in
-      let li : i < MAP_EXT_PAGES = h.2 in
-      let lj : j < MAP_EXT_PAGES = k.2 in
-      let e : h.0 ≡ k.0 = omega arith in
-      let f : i ≡ j = omega arith in
-      let k1 : Has w (MapExt h.0) b = subst (λ x. Has w (MapExt x) b) (sym e) k.1 in
-      ((one_block image v (MapExt h.0) (MapExt h.0) a b h.1 k1 (refl, refl, refl)).1, f)
-
-  asks_one : (w : List (Role × ℕ)) → IsWalk image w → (r : Role) (a i b j : ℕ) → Asks image w r a i → Asks image w r b j → (a ≡ b) × (i ≡ j)
-  asks_one w v Root a i b j h k = absurd h
-  asks_one w v (Page n) a i b j h k = names_one w v n a i b j h.1 k.1
-  asks_one w v (MapExt zero) a i b j h k = (h.1 ∙ sym k.1, h.2 ∙ sym k.2)
-  asks_one w v (MapExt (suc x)) a i b j h k = ((one_block image v (MapExt x) (MapExt x) a b h.1 k.1 (refl, refl, refl)).1, h.2 ∙ sym k.2)
-  asks_one w v (Head n p s zero) a i b j h k = (dir_one w v p a b h.2 k.2, h.3 ∙ sym k.3)
-  asks_one w v (Head n p s (suc x)) a i b j h k =
-      ((one_block image v (Head h.1.0 p s x) (Head k.1.0 p s x) a b h.1.1 k.1.1 (refl, refl, refl)).1, h.2 ∙ sym k.2)
-  asks_one w v (Ext n zero) a i b j h k = absurd h
-  asks_one w v (Ext n (suc zero)) a i b j h k = (file_one w v n a b h.0 k.0, h.1 ∙ sym k.1)
-  asks_one w v (Ext n (suc (suc x))) a i b j h k = ((one_block image v (Ext n (suc x)) (Ext n (suc x)) a b h.0 k.0 (refl, refl, refl)).1, h.1 ∙ sym k.1)
-  asks_one w v (Data n zero) a i b j h k = absurd h
-  asks_one w v (Data n (suc x)) a i b j h k = (member_one w v n (x / POINTERS) a b h.1 k.1, h.2 ∙ sym k.2)
-
-  number_is : (w : List (Role × ℕ)) (r : Role) (a i n p s j : ℕ) → Asks image w r a i → r ≡ Head n p s j → n ≡ suc (heads w)
+  pub number_is : (w : List (Role × ℕ)) (r : Role) (a i n p s j : ℕ) → Asks image w r a i → r ≡ Head n p s j → n ≡ suc (heads w)
   number_is w r a i n p s j h e = asks_number image w n p s j a i (subst (λ r. Asks image w r a i) e h)
 
   -- one role is due, by one word
   due_one : (w : List (Role × ℕ)) → IsWalk image w → (r q : Role) (a i b j : ℕ) → IsDue image w r a i → IsDue image w q b j → (r ≡ q) × (a ≡ b) × (i ≡ j)
   due_one w v r q a i b j d e =
-      let same : Same r q = total r q (e.least r a i d.asked d.lacks) (d.least q b j e.asked e.lacks) in
+      let same : Same r q = neither_before r q (e.least r a i d.asked d.lacks) (d.least q b j e.asked e.lacks) in
       let z : r ≡ q = same_role r q same (λ n m p s k f g. number_is w r a i n p s k d.asked f ∙ sym (number_is w q b j m p s k e.asked g)) in
-      let x = asks_one w v q a i b j (subst (λ r. Asks image w r a i) z d.asked) e.asked in
+      let x = asks_one image (of_walk image v) q a i b j (subst (λ r. Asks image w r a i) z d.asked) e.asked in
       (z, x.0, x.1)
-    where
-      total : (r q : Role) → (Before r q → ⊥) → (Before q r → ⊥) → Same r q
-      total r q x y = elim (dec_same r q) [ yes s ↦ s | no s ↦ absurd (x (before_total r q y s)) ]
 
   -- the last step of a walk
   record Step (w w' : List (Role × ℕ)) : Type 0 where

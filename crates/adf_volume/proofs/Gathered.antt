@@ -4,8 +4,9 @@ use native.Mathlib.Decide.{dec_le, dec_lt}
 use Rattle.adf_blocks.specs.declared.layout.TheConstants.{MAP_EXT_PAGES, POINTERS, ROOT_PAGES}
 use Rattle.adf_volume.specs.Image.{root_of}
 use Rattle.std.proofs.lemmas.Bool.Decides.{eqb_tells}
-use Rattle.adf_volume.specs.Walk.{first, ext_count, ext_count_of, node_block, node_block_of}
+use Rattle.adf_volume.specs.Walk.{IsWalk, first, ext_count, ext_count_of, node_block, node_block_of}
 use Rattle.adf_volume.specs.Walk.{Role, second, Same, Has, head_count, heads, NodeAt, DirAt, FileAt, MemberAt, NamesPage, Asks, Lacks}
+use Rattle.adf_volume.specs.Walk.IsWalk.{start as walk_start, step as walk_step}
 use Rattle.adf_volume.specs.Walk.Role.{Root, Page, MapExt, Head, Ext, Data}
 use Rattle.adf_volume.proofs.Walks.{count_own, count_up, asks_number, dir_is_node, heads_up, same_of}
 
@@ -14,6 +15,11 @@ pub data IsGathered (image : List ℕ) : List (Role × ℕ) → Type 0 where
   step : {w : List (Role × ℕ)} {r : Role} (a i b : ℕ) → IsGathered image w → Asks image w r a i → Lacks w r → IsGathered image ((r, b) ∷ w)
 
 module _ (image : List ℕ) where
+  -- a walk was gathered
+  pub of_walk : {w : List (Role × ℕ)} → IsWalk image w → IsGathered image w
+  of_walk walk_start = start
+  of_walk (walk_step {b = b} {a = a} {i = i} v d e n) = step a i b (of_walk v) d.asked d.lacks
+
   pub root_is : {w : List (Role × ℕ)} → IsGathered image w → (b : ℕ) → Has w Root b → root_of image ≡ b
   root_is start b (inl e) = e.1
   root_is start b (inr f) = absurd f
