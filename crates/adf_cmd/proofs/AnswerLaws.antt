@@ -32,16 +32,6 @@ use Rattle.adf_cmd.proofs.PendingText.{appends_nil}
 abbrev pub texts_of : List (Bor (List ℕ)) → List (List ℕ)
 texts_of words = map (λ w. w.now) words
 
--- an input that did not come is not answered
-unread : (w : Outcome) (r : Request) (input : List ℕ) (o : Option (List ℕ)) → IsUnread w → Works w r input o o
-unread ReadFault r input o h = appends_nil o
-unread NoMemory r input o h = inl (appends_nil o)
-unread _ r input o h = absurd h
-
-pub unread_works : (w : Outcome) (r : Request) (left : Option (List ℕ)) (o : Option (List ℕ)) → IsUnread w → IfSome left (λ bytes. Works w r bytes o o)
-unread_works w r (Some bytes) o h = unread w r bytes o h
-unread_works w r None o h = tt
-
 -- the line of the first fault of an image answers `check`
 pub refused_answer : (image line : List ℕ) (f : Fault) → FirstFault image f.block f.cause → line ≡ fault_line f → Answer check image 1 line []
 refused_answer image line f first e = inr (f, first, refl, e, refl)

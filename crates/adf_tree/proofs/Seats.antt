@@ -126,31 +126,6 @@ seated_new names seats rest seat name s few inside is free =
           ];
     }
 
--- a name more among the rest, where its seat is taken or no number is left
-pub seated_rest : (names : Names) (seats : List ℕ) (old new : Names) (name : NameKey) → AreSeated names seats old
-    → (is_some (holder_of names seats (seat_in (length seats) name)) ≡ true) ⊎ (2 ^ 32 ≤ length names) → IsWith old new name → AreSeated names seats new
-seated_rest names seats old new name s why with = record {
-  few = s.few;
-  own = s.own;
-  taken = λ k among.
-      elim (cases_Bool (is_eq (by_words name k))) [
-        | inl t ↦ rw (← one_key name k t) why
-        | inr f ↦ s.taken k (sym (rw f at (with k)) ∙ among)
-      ];
-}
-
-or_either : (a b c : Bool) → (a || (b || c)) ≡ (b || (a || c))
-or_either true true c = refl
-or_either true false c = refl
-or_either false true c = refl
-or_either false false c = refl
-
--- with a name more among the rest the set has that name more
-pub with_rest : (names old new : Names) (name : NameKey) → IsWith old new name → IsWith (names ++ old) (names ++ new) name
-with_rest names old new name with = λ k.
-    rw (list_any-append (λ n. is_eq (by_words k n)) names new, list_any-append (λ n. is_eq (by_words k n)) names old, with k)
-    (or_either (is_among names k) (is_eq (by_words name k)) (is_among old k))
-
 or_swap : (a b c : Bool) → ((a || (b || false)) || c) ≡ (b || (a || c))
 or_swap true true c = refl
 or_swap true false c = refl
