@@ -34,6 +34,7 @@ has_type b = (word b TYPE == T_SHORT) && (is_entry (word b SECONDARY_TYPE) || is
 abbrev pub is_name_at : List ℕ → ℕ → Bool
 is_name_at b at = nat_le (slice_index b at) 30 && is_name (text_at b at)
 
+-- whether a kind is OFS
 abbrev pub is_ofs : Kind → Bool
 is_ofs Ofs = true
 is_ofs Ffs = false
@@ -92,6 +93,7 @@ abbrev pub body_fields : HeadOutBody → BodyFields
 body_fields (DirOut slots) = DirFields slots
 body_fields (FileOut size table ext) = FileFields size table.now ext
 
+-- the fields of a header that is to be written
 abbrev pub head_fields : HeadOut → HeadFields
 head_fields h = record { own = h.own; parent = h.parent; next = h.next; name = h.name.now; meta = h.meta.now; body = body_fields h.body }
 
@@ -110,6 +112,7 @@ abbrev pub table_of : BodyFields → Field
 table_of (DirFields slots) = (4 * FIRST_SLOT, longs slots)
 table_of (FileFields size table ext) = downwards FIRST_POINTER table
 
+-- the size that a header's body tells, 0 of a directory
 abbrev pub size_of : BodyFields → ℕ
 size_of (DirFields slots) = 0
 size_of (FileFields size table ext) = size

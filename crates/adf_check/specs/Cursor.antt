@@ -18,12 +18,14 @@ first_of (BeforeNode n) = suc n
 first_of (InNode n) = suc n
 first_of (BeforeRole r) = first r
 
+-- the second number of a reader's place in the order of roles
 abbrev pub second_of : Cursor → ℕ
 second_of (BeforePage k) = 1
 second_of (BeforeNode n) = 0
 second_of (InNode n) = 0
 second_of (BeforeRole r) = second r
 
+-- the third number of it
 abbrev pub third_of : Cursor → ℕ
 third_of (BeforePage k) = k + (k + 101) / 127
 third_of (BeforeNode n) = 0

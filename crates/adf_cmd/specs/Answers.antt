@@ -29,6 +29,7 @@ use Rattle.adf_manifest.specs.declared.manifest.ManifestKind.TheVariants.{NoMemo
 abbrev pub Accepts : List ℕ → ℕ → List ℕ → List ℕ → Type 0
 Accepts input status output errors = (t : Tree) × (l : Layout) × Fits input t l × (status ≡ 0) × (output ≡ ok_line (counts_of input t l)) × (errors ≡ [])
 
+-- the first fault of the image is told on output, with status 1
 abbrev pub Refuses : List ℕ → ℕ → List ℕ → List ℕ → Type 0
 Refuses input status output errors = (f : Fault) × FirstFault input f.block f.cause × (status ≡ 1) × (output ≡ fault_line f) × (errors ≡ [])
 
@@ -50,6 +51,7 @@ Builds lines tree n status output errors = IsBuilt tree n × (status ≡ 0) × (
 abbrev pub IsFull : Tree → ℕ → ℕ → List ℕ → List ℕ → Type 0
 IsFull tree n status output errors = (n - 2 < blocks_needed tree n) × (status ≡ 1) × (output ≡ []) × (errors ≡ full_line (need_of tree n) (n - 2))
 
+-- a tree is built in n blocks, or refused since they are too few
 abbrev pub BuildsOrIsFull : Bool → Tree → ℕ → ℕ → List ℕ → List ℕ → Type 0
 BuildsOrIsFull lines tree n status output errors = Builds lines tree n status output errors ⊎ IsFull tree n status output errors
 
@@ -57,6 +59,7 @@ BuildsOrIsFull lines tree n status output errors = Builds lines tree n status ou
 abbrev pub BuildsManifest : Bool → List ℕ → ℕ → List ℕ → List ℕ → Type 0
 BuildsManifest lines input status output errors = (tree : Tree) × (n : ℕ) × IsManifest input tree n × BuildsOrIsFull lines tree n status output errors
 
+-- the fault of the manifest is told on errors, with status 1
 abbrev pub RefusesManifest : List ℕ → ℕ → List ℕ → List ℕ → Type 0
 RefusesManifest input status output errors =
     (f : ManifestFault) × ExplainsFault f input × (f.kind ≢ ManifestNoMemory) × (status ≡ 1) × (output ≡ []) × (errors ≡ manifest_fault_line f)
@@ -138,6 +141,7 @@ Answers words input status o o' failed e e' =
 abbrev pub IsPart : Request → List ℕ → Option (List ℕ) → Option (List ℕ) → Type 0
 IsPart r input o o' = (status : ℕ) × (output errors : List ℕ) × Answer r input status output errors × AppendsPart o o' output
 
+-- what output has got where a device failed: nothing where the input failed, else nothing or a front part of an answer to the request
 abbrev pub AnswersPart : List (List ℕ) → Bool → List ℕ → Option (List ℕ) → Option (List ℕ) → Type 0
 AnswersPart words true input o o' = Appends o o' []
 AnswersPart words false input o o' = Appends o o' [] ⊎ ((r : Request) × Asks words r × IsPart r input o o')

@@ -10,28 +10,35 @@ use Rattle.adf_cmd.specs.declared.command_line.Order.TheVariants.{Check, List as
 use Rattle.adf_cmd.specs.declared.command_line.WordsFault.{WordsFault}
 use Rattle.adf_cmd.specs.declared.command_line.WordsFault.TheVariants.{NoMemory, Usage}
 
+-- the argument PATH
 abbrev pub path_rule : Rule
 path_rule = record (new_rule (codes "path")) { required = true }
 
+-- the flag --list
 abbrev pub list_rule : Rule
 list_rule = record (new_rule (codes "list")) { long = Some (codes "list"); action = Some SetTrue }
 
+-- the argument KIND
 abbrev pub kind_rule : Rule
 kind_rule = record (new_rule (codes "kind")) { required = true }
 
+-- cat PATH
 abbrev pub cat_app : App
 cat_app = with_rule (new_app (codes "cat")) path_rule
 
+-- build [--list]
 abbrev pub build_app : App
 build_app = with_rule (new_app (codes "build")) list_rule
 
+-- convert KIND
 abbrev pub convert_app : App
 convert_app = with_rule (new_app (codes "convert")) kind_rule
 
--- with no flag and no subcommand for help
+-- adf, with no flag and no subcommand for help
 abbrev pub bare_app : App
 bare_app = record (new_app (codes "adf")) { top = record (new_app (codes "adf")).top { disable_help_flag = true; disable_help_subcommand = true } }
 
+-- adf with the two commands that have no argument
 abbrev pub plain_app : App
 plain_app = with_subcommand (with_subcommand bare_app (new_app (codes "check")).top) (new_app (codes "list")).top
 

@@ -17,6 +17,7 @@ use Rattle.adf_cmd.specs.declared.checking.CheckAnswer.{CheckAnswer}
 use Rattle.adf_cmd.specs.declared.outcome.Outcome.{Outcome}
 use Rattle.adf_cmd.specs.declared.outcome.Outcome.TheVariants.{Done, FaultWritten, Refused, NoSuchPath, NotAFile, ReadFault, WriteFault, NoMemory}
 
+-- the exit status of an outcome
 abbrev pub status_of : Outcome → ℕ
 status_of Done = 0
 status_of FaultWritten = 1
@@ -38,10 +39,12 @@ line_of ReadFault = codes "read fault\n"
 line_of WriteFault = codes "write fault\n"
 line_of NoMemory = codes "no memory\n"
 
+-- whether an outcome is that input failed
 abbrev pub is_read_fault : Outcome → Bool
 is_read_fault ReadFault = true
 is_read_fault _ = false
 
+-- whether an outcome is that output failed
 abbrev pub is_write_fault : Outcome → Bool
 is_write_fault WriteFault = true
 is_write_fault _ = false

@@ -28,6 +28,7 @@ IsNoWork Usage words = IsRefused words
 IsNoWork BadPath words = AsksBadPath words
 IsNoWork NoMemory words = Unit {0}
 
+-- the exit status where no work comes of the words
 abbrev pub refusal_status : WorkFault → ℕ
 refusal_status Usage = 2
 refusal_status BadPath = 2

@@ -52,6 +52,7 @@ abbrev pub run_bytes : RunValue → List ℕ
 run_bytes (DataRun bytes) = bytes
 run_bytes (FillRun count byte) = replicate count byte
 
+-- the bytes of a file: those of its runs in order
 abbrev pub file_bytes : List RunValue → List ℕ
 file_bytes runs = flat_map run_bytes runs
 
@@ -60,9 +61,11 @@ abbrev pub body_of : Sort → List ℕ → Body
 body_of Dir bytes = body.Dir
 body_of File bytes = body.File bytes
 
+-- the comment, protection bits and date of an entry
 abbrev pub item_meta : Item → Meta
 item_meta i = record { comment = unwrap_or i.note []; protect = i.protect; stamp = i.stamp }
 
+-- what an entry is: a directory, or a file of its runs' bytes
 abbrev pub item_body : Item → Body
 item_body i = body_of i.sort (file_bytes i.runs)
 

@@ -28,15 +28,19 @@ pub data LineValue : Type 0 where
   NoteLine : (text : List ℕ) → LineValue
   RunLine : (run : RunValue) → LineValue
 
+-- volume KIND BLOCKS
 abbrev pub volume_line : Kind → ℕ → List ℕ
 volume_line kind n = codes "volume " ++ (kind_text kind ++ (codes " " ++ decimal n))
 
+-- label TEXT
 abbrev pub label_line : List ℕ → List ℕ
 label_line text = codes "label " ++ text
 
+-- stamps ROOT ALTERED CREATED
 abbrev pub stamps_line : Stamps → List ℕ
 stamps_line s = codes "stamps " ++ stamps_text s
 
+-- the first word of an entry's line
 abbrev pub sort_text : Sort → List ℕ
 sort_text Dir = codes "dir "
 sort_text File = codes "file "
@@ -45,18 +49,23 @@ sort_text File = codes "file "
 abbrev pub fields_text : Stamp → ℕ → List ℕ → List ℕ
 fields_text stamp protect path = plain_text stamp ++ (codes " " ++ (hex_word protect ++ (codes " " ++ path)))
 
+-- dir or file, then DATE PROTECT PATH
 abbrev pub entry_line : Sort → Stamp → ℕ → List ℕ → List ℕ
 entry_line sort stamp protect path = sort_text sort ++ fields_text stamp protect path
 
+-- note TEXT
 abbrev pub note_line : List ℕ → List ℕ
 note_line text = codes "note " ++ text
 
+-- data HEX
 abbrev pub data_line : List ℕ → List ℕ
 data_line bytes = codes "data " ++ pairs bytes
 
+-- fill COUNT BYTE
 abbrev pub fill_line : ℕ → ℕ → List ℕ
 fill_line count byte = codes "fill " ++ (decimal count ++ (codes " " ++ pair byte))
 
+-- the line of a run: data or fill
 abbrev pub run_line : RunValue → List ℕ
 run_line (DataRun bytes) = data_line bytes
 run_line (FillRun count byte) = fill_line count byte
@@ -73,6 +82,7 @@ line_text (RunLine run) = run_line run
 abbrev pub most_fill : ℕ
 most_fill = 536870912
 
+-- a run holds something: bytes, or a count of one byte within the largest
 abbrev pub IsRun : RunValue → Type 0
 IsRun (DataRun bytes) = (0 < length bytes) × All (λ b. b < 256) bytes
 IsRun (FillRun count byte) = (0 < count) × (count ≤ most_fill) × (byte < 256)
@@ -98,9 +108,11 @@ abbrev pub run_value : Run → RunValue
 run_value (run.Data digits) = DataRun (unpaired digits.now)
 run_value (run.Fill count byte) = FillRun count byte
 
+-- what an entry's line says
 abbrev pub entry_value : EntryText → LineValue
 entry_value e = EntryLine e.sort e.stamp e.protect e.path.now
 
+-- what a line says
 abbrev pub line_value : Line → LineValue
 line_value (line.Label text) = LabelLine text.now
 line_value (line.Stamps stamps) = StampsLine stamps
@@ -113,6 +125,7 @@ abbrev pub IsRunOfDigits : Run → Type 0
 IsRunOfDigits (run.Data digits) = digits.now ≡ pairs (unpaired digits.now)
 IsRunOfDigits (run.Fill count byte) = Unit {0}
 
+-- the hex digits of a line of data are digits
 abbrev pub HasDigits : Line → Type 0
 HasDigits (line.Run run) = IsRunOfDigits run
 HasDigits (line.Label text) = Unit {0}

@@ -48,6 +48,7 @@ abbrev pub label_lines : Option (List ℕ) → List (List ℕ)
 label_lines None = []
 label_lines (Some label) = label_line (escaped label) ∷ []
 
+-- the line of stamps, where there is one
 abbrev pub stamps_lines : Option Stamps → List (List ℕ)
 stamps_lines None = []
 stamps_lines (Some stamps) = stamps_line stamps ∷ []
@@ -88,6 +89,7 @@ pub record Manifest : Type 0 where
   pub head : Head
   pub entries : Option Entries
 
+-- all entries, the last one among them
 abbrev pub items_of : Option Entries → List Item
 items_of None = []
 items_of (Some e) = e.before ++ e.last ∷ []
@@ -122,6 +124,7 @@ abbrev pub IsBare : Option Entries → Type 0
 IsBare None = ⊥
 IsBare (Some e) = (e.last.note ≡ None) × (e.last.runs ≡ [])
 
+-- the last entry is a file
 abbrev pub EndsInFile : Option Entries → Type 0
 EndsInFile None = ⊥
 EndsInFile (Some e) = e.last.sort ≡ File
@@ -196,6 +199,7 @@ ExplainsKind TooLong number bytes = (number ≡ 0) × (most_bytes < length bytes
 ExplainsKind NoMemory number bytes = (number ≡ 0) × (length bytes ≤ most_bytes)
 ExplainsKind kind number bytes = (length bytes ≤ most_bytes) × HasFault (lines bytes) number kind
 
+-- the fault is that of the text: its kind, and the line where it stands
 abbrev pub ExplainsFault : ManifestFault → List ℕ → Type 0
 ExplainsFault f bytes = ExplainsKind f.kind f.line bytes
 

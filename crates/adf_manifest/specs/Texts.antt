@@ -5,6 +5,7 @@ use Rattle.adf_tree.specs.Escapes.{hex_digit}
 use Rattle.adf_tree.specs.declared.entry.Kind.{Kind}
 use Rattle.adf_tree.specs.declared.entry.Kind.TheVariants.{Ofs, Ffs}
 
+-- the word for a kind
 abbrev pub kind_text : Kind → List ℕ
 kind_text Ofs = codes "ofs"
 kind_text Ffs = codes "ffs"

@@ -17,6 +17,7 @@ has_number_front text = nat_lt 0 (length text) && (not (slice_index text 0 == 43
 abbrev pub IsStamp : Stamp → Type 0
 IsStamp s = (s.days < 2 ^ 32) × (s.mins < 2 ^ 32) × (s.ticks < 2 ^ 32)
 
+-- three dates that a manifest can tell
 abbrev pub AreStamps : Stamps → Type 0
 AreStamps s = IsStamp s.root × IsStamp s.altered × IsStamp s.created
 

@@ -8,9 +8,11 @@ use Rattle.adf_shelf_cmd.specs.declared.command_line.Order.{Order}
 use Rattle.adf_cmd.specs.declared.command_line.WordsFault.{WordsFault}
 use Rattle.adf_cmd.specs.declared.command_line.WordsFault.TheVariants.{NoMemory, Usage}
 
+-- the flag --null
 abbrev pub null_rule : Rule
 null_rule = record (new_rule (codes "null")) { long = Some (codes "null"); action = Some SetTrue }
 
+-- the arguments FILE ..
 abbrev pub files_rule : Rule
 files_rule = record (new_rule (codes "files")) { action = Some Append }
 

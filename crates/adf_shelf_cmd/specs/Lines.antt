@@ -64,16 +64,19 @@ abbrev pub WritesPart : Reports → Option (List (List ℕ)) → Option (List �
 WritesPart may known o o' = (names : List (List ℕ)) × IfSome known (λ all. (rest : List (List ℕ)) × (all ≡ names ++ rest))
     × (status : ℕ) × (output : List ℕ) × AreShelfLines may names status output × AppendsPart o o' output
 
+-- the exit status that a file's report asks for
 abbrev pub report_status : Report → ℕ
 report_status (Checked a) = if a.sound then 0 else 1
 report_status ReadFault = 3
 report_status NoMemory = 3
 
+-- what is written behind the name of a file
 abbrev pub report_text : Report → List ℕ
 report_text (Checked a) = string_bytes a.line
 report_text ReadFault = codes "read fault\n"
 report_text NoMemory = codes "no memory\n"
 
+-- whether a run stopped since output failed
 abbrev pub is_write_fault : Stop → Bool
 is_write_fault WriteFault = true
 is_write_fault _ = false

@@ -23,6 +23,7 @@ fault_line f = codes "block " ++ (decimal f.block ++ (codes ": " ++ (cause_text 
 abbrev pub full_line : ℕ → ℕ → List ℕ
 full_line need have = codes "full: need " ++ (decimal need ++ (codes ", have " ++ (decimal have ++ codes "\n")))
 
+-- the text of a manifest's fault
 abbrev pub manifest_kind_text : ManifestKind → List ℕ
 manifest_kind_text BadLine = codes "bad line"
 manifest_kind_text BadSize = codes "bad size"

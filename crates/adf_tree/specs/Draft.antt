@@ -28,6 +28,7 @@ place_in w d = place w.entries (rank (in_tree w.nodes d)) + 1
 abbrev pub walk_more : Walk → Entry → Walk
 walk_more w d = record { entries = added w.entries (in_tree w.nodes d); nodes = map (moved (place_in w d)) w.nodes ++ place_in w d ∷ [] }
 
+-- entries put in one after the other, and their nodes
 abbrev pub walk : List Entry → Walk
 walk drafts = fold walk_more (record { entries = []; nodes = [] }) drafts
 

@@ -12,6 +12,7 @@ use Rattle.adf_tree.specs.Additions.{built, with_addition, Addition, AllHaveRoom
 abbrev pub IsIn : List Entry → ℕ → ℕ → Entry → Type 0
 IsIn es p s e = Contains (chain es p s) e ↔ ((p ≡ e.parent) × (s ≡ slot_of e.name))
 
+-- each entry stands in the chain of its directory and slot, and in no other
 abbrev pub EntriesStandInOneChain : Type 0
 EntriesStandInOneChain = (es : List Entry) (e : Entry) → Contains es e → (p s : ℕ) → IsIn es p s e
 
@@ -50,6 +51,7 @@ pub record IsNext (es : List Entry) (n : ℕ) (e : Entry) : Type 0 where
   pub last : IsLast (take n es) e
   pub added : added (take n es) e ≡ take (n + 1) es
 
+-- in a tree each entry is one that may come next behind those before it
 abbrev pub TreesGrowInOrder : Type 0
 TreesGrowInOrder = (es : List Entry) (n : ℕ) (d : Entry) → IsTree es → n < length es → IsNext es n (slice_index_or es n d)
 

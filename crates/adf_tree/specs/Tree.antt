@@ -107,6 +107,7 @@ directory_from es p (name ∷ names) =
 abbrev pub parents_of : List (List ℕ) → List (List ℕ)
 parents_of path = take (length path - 1) path
 
+-- the last name of a path
 abbrev pub last_of : List (List ℕ) → List ℕ
 last_of path = slice_index_or path (length path - 1) []
 
@@ -129,6 +130,7 @@ abbrev pub in_directory : Result ℕ AddFault → ℕ
 in_directory (Ok p) = p
 in_directory (Err _) = 0
 
+-- the entry that a path leads to, in the directory that the names before the last lead to
 abbrev pub new_entry : List Entry → List (List ℕ) → Meta → Body → Entry
 new_entry es path meta body = record { parent = in_directory (room_for es path); name = last_of path; meta = meta; body = body }
 

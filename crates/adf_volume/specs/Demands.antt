@@ -19,6 +19,7 @@ pub record Demand : Type 1 where
   pub at : ℕ
   pub holds : Type 0
 
+-- a demand of these three
 abbrev pub demand : Cause → ℕ → Type 0 → Demand
 demand c b p = record { cause = c; at = b; holds = p }
 

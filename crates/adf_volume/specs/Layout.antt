@@ -40,16 +40,19 @@ pub record Layout : Type 0 where
   pub map_exts : List ℕ
   pub places : List Place
 
+-- the block of the header at place i, 0 past the last
 abbrev pub head_at : List Place → ℕ → ℕ
 head_at [] i = 0
 head_at (q ∷ qs) zero = q.head
 head_at (q ∷ qs) (suc i) = head_at qs i
 
+-- the extension blocks at place i, none past the last
 abbrev pub exts_at : List Place → ℕ → List ℕ
 exts_at [] i = []
 exts_at (q ∷ qs) zero = q.exts
 exts_at (q ∷ qs) (suc i) = exts_at qs i
 
+-- the data blocks at place i, none past the last
 abbrev pub datas_at : List Place → ℕ → List ℕ
 datas_at [] i = []
 datas_at (q ∷ qs) zero = q.datas

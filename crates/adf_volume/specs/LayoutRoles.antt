@@ -10,6 +10,7 @@ use Rattle.adf_volume.specs.declared.owner.Owner.TheVariants.{Root as TheRoot, P
 use Rattle.adf_volume.specs.Walk.{Role}
 use Rattle.adf_volume.specs.Walk.Role.{Root, Page, MapExt, Head, Ext, Data}
 
+-- whose a block of this role is
 abbrev pub owner_of : Role → Owner
 owner_of Root = TheRoot
 owner_of (Page i) = APage i

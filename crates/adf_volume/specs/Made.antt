@@ -15,18 +15,22 @@ abbrev pub picked : (Role → Bool) → List (Role × ℕ) → List ℕ
 picked f [] = []
 picked f (x ∷ w) = cond (f x.0) (picked f w ++ x.1 ∷ []) (picked f w)
 
+-- whether a role is a page
 abbrev pub is_page : Role → Bool
 is_page (Page i) = true
 is_page _ = false
 
+-- whether a role is a bitmap extension block
 abbrev pub is_map_ext : Role → Bool
 is_map_ext (MapExt j) = true
 is_map_ext _ = false
 
+-- whether a role is an extension block of file n
 abbrev pub is_ext_of : ℕ → Role → Bool
 is_ext_of n (Ext m k) = n == m
 is_ext_of n _ = false
 
+-- whether a role is a data block of file n
 abbrev pub is_data_of : ℕ → Role → Bool
 is_data_of n (Data m k) = n == m
 is_data_of n _ = false
@@ -43,6 +47,7 @@ map_exts_in w = picked is_map_ext w
 abbrev pub exts_in : List (Role × ℕ) → ℕ → List ℕ
 exts_in w n = picked (is_ext_of n) w
 
+-- the block at the end, where it is an extension block of file n
 abbrev pub push_ext : ℕ → Role → ℕ → List ℕ → List ℕ
 push_ext n r b bs = cond (is_ext_of n r) (bs ++ b ∷ []) bs
 
@@ -50,6 +55,7 @@ push_ext n r b bs = cond (is_ext_of n r) (bs ++ b ∷ []) bs
 abbrev pub datas_in : List (Role × ℕ) → ℕ → List ℕ
 datas_in w n = picked (is_data_of n) w
 
+-- the block at the end, where it is a data block of file n
 abbrev pub push_data : ℕ → Role → ℕ → List ℕ → List ℕ
 push_data n r b bs = cond (is_data_of n r) (bs ++ b ∷ []) bs
 
@@ -57,9 +63,11 @@ push_data n r b bs = cond (is_data_of n r) (bs ++ b ∷ []) bs
 abbrev pub body_in : List ℕ → List (Role × ℕ) → ℕ → ℕ → Body
 body_in image w n b = cond (word_in image b SECONDARY_TYPE == ST_DIR) Dir (File (content image (kind_of image) b (datas_in w n)))
 
+-- the entry of node n in directory p, with its header at block b
 abbrev pub entry_in : List ℕ → List (Role × ℕ) → ℕ → ℕ → ℕ → Entry
 entry_in image w n p b = record { parent = p; name = name_of image b; meta = meta_of image b; body = body_in image w n b }
 
+-- the blocks of node n, with its header at block b
 abbrev pub place_in : List (Role × ℕ) → ℕ → ℕ → Place
 place_in w n b = record { head = b; exts = exts_in w n; datas = datas_in w n }
 
@@ -68,16 +76,20 @@ abbrev pub push_head : {X : Type 0} → (ℕ → ℕ → ℕ → X) → Role →
 push_head f (Head n p s j) b xs = xs ++ f n p b ∷ []
 push_head f _ b xs = xs
 
+-- a list of what each header of a walk makes, in the order in which they came
 abbrev pub of_heads : {X : Type 0} → (ℕ → ℕ → ℕ → X) → List (Role × ℕ) → List X
 of_heads f [] = []
 of_heads f (x ∷ w) = push_head f x.0 x.1 (of_heads f w)
 
+-- the entries of the headers of w, of which the whole walk is full
 abbrev pub entries_in : List ℕ → List (Role × ℕ) → List (Role × ℕ) → List Entry
 entries_in image full w = of_heads (entry_in image full) w
 
+-- the blocks of each header of w, of which the whole walk is full
 abbrev pub places_in : List (Role × ℕ) → List (Role × ℕ) → List Place
 places_in full w = of_heads (λ n p b. place_in full n b) w
 
+-- the tree that a whole walk tells
 abbrev pub tree_in : List ℕ → List (Role × ℕ) → Tree
 tree_in image w = record {
   kind = kind_of image;
@@ -87,5 +99,6 @@ tree_in image w = record {
       entries_in image w w;
 }
 
+-- the layout that a whole walk tells
 abbrev pub layout_in : List (Role × ℕ) → Layout
 layout_in w = record { pages = pages_in w; map_exts = map_exts_in w; places = places_in w w }

@@ -28,6 +28,7 @@ no_stamp = record { days = 0; mins = 0; ticks = 0 }
 abbrev pub tiny_tree : Tree
 tiny_tree = record { kind = Ffs; label = []; stamps = record { root = no_stamp; altered = no_stamp; created = no_stamp }; entries = [] }
 
+-- the blocks of the smallest volume
 abbrev pub tiny_layout : Layout
 tiny_layout = record { pages = 3 ∷ []; map_exts = []; places = [] }
 
@@ -78,8 +79,10 @@ file_a = record {
   body = File (replicate 489 0x41);
 }
 
+-- a volume with one file
 abbrev pub one_file_tree : Tree
 one_file_tree = record { kind = Ofs; label = []; stamps = record { root = no_stamp; altered = no_stamp; created = no_stamp }; entries = file_a ∷ [] }
 
+-- the blocks of the volume with one file
 abbrev pub one_file_layout : Layout
 one_file_layout = record { pages = 9 ∷ []; map_exts = []; places = record { head = 2; exts = []; datas = 3 ∷ 4 ∷ [] } ∷ [] }

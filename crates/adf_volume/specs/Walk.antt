@@ -32,6 +32,7 @@ first (Head n p s j) = suc p
 first (Ext n k) = suc n
 first (Data n k) = suc n
 
+-- the second of the three numbers: by it the extension blocks of a file come before its data blocks, and the chains of a directory slot by slot
 abbrev pub second : Role → ℕ
 second Root = 0
 second (Page i) = 1
@@ -40,6 +41,7 @@ second (Head n p s j) = suc (suc s)
 second (Ext n k) = 0
 second (Data n k) = 1
 
+-- the third of them: a number among blocks of one kind, or a place in a chain
 abbrev pub third : Role → ℕ
 third Root = 0
 third (Page i) = i + (i + (MAP_EXT_PAGES - ROOT_PAGES)) / MAP_EXT_PAGES
@@ -48,9 +50,11 @@ third (Head n p s j) = j
 third (Ext n k) = k
 third (Data n k) = k
 
+-- a role comes before another in this order
 abbrev pub Before : Role → Role → Type 0
 Before r q = (first r ≤ first q) × (first r ≡ first q → second r ≤ second q) × (first r ≡ first q → second r ≡ second q → third r < third q)
 
+-- two roles have the same place in this order, as headers have that differ in the node alone
 abbrev pub Same : Role → Role → Type 0
 Same r q = (first r ≡ first q) × (second r ≡ second q) × (third r ≡ third q)
 
@@ -59,6 +63,7 @@ abbrev pub Has : List (Role × ℕ) → Role → ℕ → Type 0
 Has [] r b = ⊥
 Has (x ∷ w) r b = ((x.0 ≡ r) × (x.1 ≡ b)) ⊎ Has w r b
 
+-- one more where the role is a header
 abbrev pub head_count : Role → ℕ → ℕ
 head_count (Head n p s j) m = suc m
 head_count _ m = m
@@ -73,10 +78,12 @@ abbrev pub NodeAt : List (Role × ℕ) → ℕ → ℕ → Type 0
 NodeAt w zero a = Has w Root a
 NodeAt w (suc i) a = (p s j : ℕ) × Has w (Head (suc i) p s j) a
 
+-- directory p has its block at a
 abbrev pub DirAt : List ℕ → List (Role × ℕ) → ℕ → ℕ → Type 0
 DirAt image w zero a = Has w Root a
 DirAt image w (suc i) a = NodeAt w (suc i) a × (word_in image a SECONDARY_TYPE ≡ ST_DIR)
 
+-- file n has its header at block a
 abbrev pub FileAt : List ℕ → List (Role × ℕ) → ℕ → ℕ → Type 0
 FileAt image w n a = ((p s j : ℕ) × Has w (Head n p s j) a) × (word_in image a SECONDARY_TYPE ≡ ST_FILE)
 
@@ -85,6 +92,7 @@ abbrev pub MemberAt : List ℕ → List (Role × ℕ) → ℕ → ℕ → ℕ �
 MemberAt image w n zero a = FileAt image w n a
 MemberAt image w n (suc m) a = Has w (Ext n (suc m)) a
 
+-- how many data blocks the size in header h asks for
 abbrev pub data_count : List ℕ → ℕ → ℕ
 data_count image h = count (kind_of image) (word_in image h SIZE)
 
@@ -112,6 +120,7 @@ Asks image w (Data n zero) a i = ⊥
 Asks image w (Data n (suc k)) a i =
     ((h : ℕ) × FileAt image w n h × (k < data_count image h)) × MemberAt image w n (k / POINTERS) a × (i ≡ table_word k)
 
+-- no member of the walk has the place of the role
 abbrev pub Lacks : List (Role × ℕ) → Role → Type 0
 Lacks w r = (q : Role) (b : ℕ) → Has w q b → Same q r → ⊥
 
@@ -121,6 +130,7 @@ pub record IsDue (image : List ℕ) (w : List (Role × ℕ)) (r : Role) (a i : �
   pub lacks : Lacks w r
   pub least : (q : Role) (c k : ℕ) → Asks image w q c k → Lacks w q → Before q r → ⊥
 
+-- one more where the role is an extension block of file n
 abbrev pub ext_count_of : ℕ → Role → ℕ → ℕ
 ext_count_of n (Ext m k) c = cond (n == m) (suc c) c
 ext_count_of n _ c = c
@@ -135,6 +145,7 @@ abbrev pub Enough : List ℕ → List (Role × ℕ) → Role → Type 0
 Enough image w (Data n k) = k ≡ 1 → (h : ℕ) → FileAt image w n h → data_count image h ≤ POINTERS * suc (ext_count w n)
 Enough image w _ = Unit {0}
 
+-- b where the role is that of node n, else c
 abbrev pub node_block_of : ℕ → Role → ℕ → ℕ → ℕ
 node_block_of n Root b c = cond (n == 0) b c
 node_block_of n (Head m p s j) b c = cond (n == m) b c
@@ -145,6 +156,7 @@ abbrev pub node_block : List (Role × ℕ) → ℕ → ℕ
 node_block [] n = 0
 node_block (x ∷ w) n = node_block_of n x.0 x.1 (node_block w n)
 
+-- b where the role is extension block k of file n, else c
 abbrev pub ext_block_of : ℕ → ℕ → Role → ℕ → ℕ → ℕ
 ext_block_of n k (Ext m i) b c = cond (n == m) (cond (k == i) b c) c
 ext_block_of n k _ b c = c
@@ -191,9 +203,11 @@ demands image w r a b =
     ∷ demand Taken b (IsAbsent w b)
     ∷ form_demands image w r b ++ demand SameName b (NewName image w r b) ∷ []
 
+-- each demand of the role holds
 abbrev pub NoCause : List ℕ → List (Role × ℕ) → Role → ℕ → ℕ → Type 0
 NoCause image w r a b = AllHold (demands image w r a b)
 
+-- a walk begins with the root, and each member is what was due, and has no cause
 pub data IsWalk (image : List ℕ) : List (Role × ℕ) → Type 0 where
   start : IsWalk image ((Root, root_of image) ∷ [])
   step : {w : List (Role × ℕ)} {r : Role} {b a i : ℕ} → IsWalk image w → IsDue image w r a i → word_in image a i ≡ b → NoCause image w r a b
