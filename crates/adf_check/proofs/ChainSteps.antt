@@ -21,8 +21,9 @@ use Rattle.adf_volume.specs.Image.{kind_of, name_of, word_in}
 use Rattle.adf_volume.specs.Walk.{Role, heads, Asks, form_demands, IsWalk}
 use Rattle.adf_volume.specs.Walk.Role.{Head}
 use Rattle.adf_volume.proofs.FormDemands.{all_demanded, first_demanded}
-use Rattle.adf_volume.proofs.MemberFacts.{dir_up}
-use Rattle.adf_volume.proofs.Walks.{dir_is_node, node_is, one_block, one_node}
+use Rattle.adf_volume.proofs.Roles.{dir_up}
+use Rattle.adf_volume.proofs.Roles.{dir_is_node}
+use Rattle.adf_volume.proofs.Walks.{node_is, one_block, one_node}
 use Rattle.adf_check.specs.Fault.{IsTrueFault, fault}
 use Rattle.adf_check.specs.Cursor.Cursor.{BeforeRole}
 use Rattle.adf_check.specs.Found.{sees_of}

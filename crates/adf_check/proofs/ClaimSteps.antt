@@ -14,7 +14,7 @@ use Rattle.adf_volume.specs.Walk.Role.{Head}
 use Rattle.adf_volume.specs.Walk.FirstFault.{at_due}
 use Rattle.adf_volume.proofs.Lists.{fails_left, fails_right, all_append}
 use Rattle.adf_volume.proofs.Memory.{fault_of_image}
-use Rattle.adf_volume.proofs.Walks.{asks_number}
+use Rattle.adf_volume.proofs.Roles.{asks_number}
 use Rattle.adf_check.specs.declared.fault.Fault.{Fault}
 use Rattle.adf_check.specs.Fault.{IsTrueFault, fault}
 use Rattle.adf_check.specs.Cursor.{Cursor, first_of, second_of, third_of, nodes_begun, IsUpTo}

@@ -7,7 +7,8 @@ use Rattle.adf_blocks.specs.Sizes.{blocks, pages_needed}
 use Rattle.adf_volume.specs.Walk.{Role, first, second, third, Before, Same, heads, DirAt, FileAt, data_count, Asks, Lacks, IsDue, NoCause, IsWalk, IsWhole}
 use Rattle.adf_volume.specs.Walk.Role.{Root, Page, MapExt, Head, Ext, Data}
 use Rattle.adf_volume.specs.Walk.IsWalk.{start, step}
-use Rattle.adf_volume.proofs.Walks.{number_of, one_head, one_node, same_refl, due_file}
+use Rattle.adf_volume.proofs.Roles.{same_refl}
+use Rattle.adf_volume.proofs.Walks.{number_of, one_head, one_node, due_file}
 use Rattle.adf_volume.proofs.WalkOrder.{dir_number, asks_back, before_total}
 use Rattle.adf_volume.proofs.MemberFacts.{kept}
 use Rattle.adf_check.specs.Cursor.{Cursor, first_of, second_of, third_of, nodes_begun, IsBelow, IsUpTo}

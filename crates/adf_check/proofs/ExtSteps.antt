@@ -16,8 +16,9 @@ use Rattle.adf_volume.specs.Walk.{Role, Asks, FileAt, MemberAt, form_demands, ex
 use Rattle.adf_volume.specs.Walk.Role.{Ext}
 use Rattle.adf_volume.proofs.FormDemands.{all_demanded, first_demanded}
 use Rattle.adf_volume.proofs.Lists.{at_snoc, snoc_length}
-use Rattle.adf_volume.proofs.MemberFacts.{file_up, member_up}
-use Rattle.adf_volume.proofs.Walks.{file_is, one_block, one_head, count_own, ext_counted}
+use Rattle.adf_volume.proofs.Roles.{file_up, member_up}
+use Rattle.adf_volume.proofs.Roles.{count_own}
+use Rattle.adf_volume.proofs.Walks.{file_is, one_block, one_head, ext_counted}
 use Rattle.adf_check.specs.Fault.{IsTrueFault, fault}
 use Rattle.adf_check.specs.Cursor.Cursor.{BeforeRole}
 use Rattle.adf_check.specs.Image.{IsBegun}

@@ -8,7 +8,7 @@ use Rattle.adf_volume.specs.Demands.{Demand, boot_demands, root_demands}
 use Rattle.adf_volume.specs.Walk.{Role, Same, Asks, demands, bitmap_demands}
 use Rattle.adf_volume.proofs.Lists.{fails_not_all}
 use Rattle.adf_volume.proofs.OneFault.{fails_one, neither_before, number_is}
-use Rattle.adf_volume.proofs.Walks.{same_role}
+use Rattle.adf_volume.proofs.Roles.{same_role}
 use Rattle.adf_survey.specs.Survey.{Finding, finding, Judgement, Judged, Course, after, IsNext, IsCourse, IsDone, BitsTell, IsSurvey}
 use Rattle.adf_survey.specs.Survey.Judgement.{clean, noted, passed}
 use Rattle.adf_survey.specs.Survey.IsCourse.{start, step}

@@ -16,7 +16,7 @@ use Rattle.adf_volume.specs.Walk.Role.{Root, Page, MapExt, Head, Ext, Data}
 use Rattle.adf_volume.proofs.DecidedAsks.{Asked}
 use Rattle.adf_volume.proofs.FitWalks.{dec_lacks, lacks_same, least, without}
 use Rattle.adf_volume.proofs.Lists.{in_left, in_right}
-use Rattle.adf_volume.proofs.Walks.{renumbered, renumbered_same, same_of}
+use Rattle.adf_volume.proofs.Roles.{renumbered, renumbered_same, same_of}
 use Rattle.adf_survey.specs.Survey.{Finding, finding, Judgement, Judged, is_kept, Course, after, IsNext, IsCourse, IsDone, IsSurvey}
 use Rattle.adf_survey.specs.Survey.Judgement.{clean, noted, passed}
 use Rattle.adf_survey.specs.Survey.IsCourse.{start, step}

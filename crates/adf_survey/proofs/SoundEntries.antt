@@ -11,7 +11,7 @@ use Rattle.adf_volume.specs.Walk.{first, NodeAt, NewName, form_demands, next_dat
 use Rattle.adf_volume.specs.Walk.{Role, second, Has, FileAt, MemberAt, data_count, Asks, IsAbsent, ext_count, demands}
 use Rattle.adf_volume.specs.Walk.Role.{Root, Head, Ext, Data}
 use Rattle.adf_volume.proofs.Lists.{all_split, in_left, in_right}
-use Rattle.adf_volume.proofs.Walks.{count_up, dir_is_node, dec_has, has_role, same_refl}
+use Rattle.adf_volume.proofs.Roles.{count_up, dec_has, dir_is_node, has_role, same_refl}
 use Rattle.adf_survey.specs.Survey.{Finding, finding, Course, IsNext, IsCourse, IsDone, IsSurvey}
 use Rattle.adf_survey.specs.Survey.Judgement.{clean, noted, passed}
 use Rattle.adf_survey.specs.Survey.IsCourse.{start, step}

@@ -12,12 +12,12 @@ use Rattle.adf_volume.specs.Walk.Role.{Root}
 use Rattle.adf_volume.specs.Walk.IsWalk.{start, step}
 use Rattle.adf_volume.specs.declared.owner.Owner.{Owner}
 use Rattle.adf_volume.proofs.DecidedAsks.{Asked, dec_asked}
-use Rattle.adf_volume.proofs.Gathered.{of_walk}
+use Rattle.adf_volume.proofs.Walks.{of_walk}
 use Rattle.adf_volume.proofs.LayoutRoles.{owned_part, part_owned, same_owner}
 use Rattle.adf_volume.proofs.OneTree.{one_tree}
 use Rattle.adf_volume.proofs.WalkAgreement.{agreement, asked_part, due_is_part}
 use Rattle.adf_volume.proofs.WalkOrder.{before_trans}
-use Rattle.adf_volume.proofs.Walks.{asks_next_number, dec_has, renumbered, renumbered_same}
+use Rattle.adf_volume.proofs.Roles.{asks_next_number, dec_has, renumbered, renumbered_same}
 
 dec_before : (r q : Role) → Dec (Before r q)
 dec_before r q =

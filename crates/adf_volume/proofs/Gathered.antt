@@ -1,25 +1,21 @@
 -- What holds of every list of parts of which each was asked for, and lacking, when it came, whatever its block holds.
-use Rattle.std.proofs.Common.{eq-eqb, ◌≡◌, ℕ, zero, suc, List, [], ◌∷◌, inl, inr, ◌+◌, ◌*◌, ◌/◌, ◌<◌, ◌≤◌, refl, sym, ap, subst, ◌∙◌, arith}
+use Rattle.std.proofs.lemmas.Bool.{eqb-true}
+use Rattle.std.specs.Prelude.{◌==◌}
+use Rattle.std.proofs.Common.{Bool, true, false, cond, eq-eqb, ◌≡◌, ℕ, zero, suc, List, [], ◌∷◌, inl, inr, ◌+◌, ◌*◌, ◌/◌, ◌<◌, ◌≤◌, refl, sym, ap, subst, ◌∙◌, arith}
 use native.Mathlib.Decide.{dec_le, dec_lt}
 use Rattle.adf_blocks.specs.declared.layout.TheConstants.{MAP_EXT_PAGES, POINTERS, ROOT_PAGES}
 use Rattle.adf_volume.specs.Image.{root_of}
 use Rattle.std.proofs.lemmas.Bool.Decides.{eqb_tells}
-use Rattle.adf_volume.specs.Walk.{IsWalk, first, ext_count, ext_count_of, node_block, node_block_of}
+use Rattle.adf_volume.specs.Walk.{first, ext_block, ext_block_of, ext_count, ext_count_of, member_block, node_block, node_block_of}
 use Rattle.adf_volume.specs.Walk.{Role, second, Same, Has, head_count, heads, NodeAt, DirAt, FileAt, MemberAt, NamesPage, Asks, Lacks}
-use Rattle.adf_volume.specs.Walk.IsWalk.{start as walk_start, step as walk_step}
 use Rattle.adf_volume.specs.Walk.Role.{Root, Page, MapExt, Head, Ext, Data}
-use Rattle.adf_volume.proofs.Walks.{count_own, count_up, asks_number, dir_is_node, heads_up, same_of}
+use Rattle.adf_volume.proofs.Roles.{asks_number, count_own, count_up, dir_is_node, dir_up, file_up, heads_up, same_of}
 
 pub data IsGathered (image : List ℕ) : List (Role × ℕ) → Type 0 where
   start : IsGathered image ((Root, root_of image) ∷ [])
   step : {w : List (Role × ℕ)} {r : Role} (a i b : ℕ) → IsGathered image w → Asks image w r a i → Lacks w r → IsGathered image ((r, b) ∷ w)
 
 module _ (image : List ℕ) where
-  -- a walk was gathered
-  pub of_walk : {w : List (Role × ℕ)} → IsWalk image w → IsGathered image w
-  of_walk walk_start = start
-  of_walk (walk_step {b = b} {a = a} {i = i} v d e n) = step a i b (of_walk v) d.asked d.lacks
-
   pub root_is : {w : List (Role × ℕ)} → IsGathered image w → (b : ℕ) → Has w Root b → root_of image ≡ b
   root_is start b (inl e) = e.1
   root_is start b (inr f) = absurd f
@@ -71,10 +67,11 @@ module _ (image : List ℕ) where
   one_block (step a i b' v d l) r q b c (inr e) (inr f) s = one_block v r q b c e f s
 
   -- a number has one header
-  pub one_head : {w : List (Role × ℕ)} → IsGathered image w → (n p s j b p' s' j' b' : ℕ) → Has w (Head n p s j) b → Has w (Head n p' s' j') b' → b ≡ b'
+  pub one_head : {w : List (Role × ℕ)} → IsGathered image w → (n p s j b p' s' j' b' : ℕ) → Has w (Head n p s j) b → Has w (Head n p' s' j') b'
+      → (Head n p s j ≡ Head n p' s' j') × (b ≡ b')
   one_head start n p s j b p' s' j' b' (inl e) f = let h : second Root ≡ second (Head n p s j) = ap second e.0 in absurd (omega arith)
   one_head start n p s j b p' s' j' b' (inr e) f = absurd e
-  one_head (step a i c v d l) n p s j b p' s' j' b' (inl e) (inl f) = sym e.1 ∙ f.1
+  one_head (step a i c v d l) n p s j b p' s' j' b' (inl e) (inl f) = (sym e.0 ∙ f.0, sym e.1 ∙ f.1)
   one_head (step {w = w} {r = r} a i c v d l) n p s j b p' s' j' b' (inl e) (inr f) =
       let k : n ≡ suc (heads w) = asks_number image w n p s j a i (subst (λ r. Asks image w r a i) e.0 d) in
       let h : (1 ≤ n) × (n ≤ heads w) = number_of v n p' s' j' b' f in
@@ -88,13 +85,13 @@ module _ (image : List ℕ) where
   module _ {w : List (Role × ℕ)} (v : IsGathered image w) where
     pub node_one : (p a b : ℕ) → NodeAt w p a → NodeAt w p b → a ≡ b
     node_one zero a b h k = sym (root_is v a h) ∙ root_is v b k
-    node_one (suc i) a b h k = one_head v (suc i) h.0 h.1 h.2 a k.0 k.1 k.2 b h.3 k.3
+    node_one (suc i) a b h k = (one_head v (suc i) h.0 h.1 h.2 a k.0 k.1 k.2 b h.3 k.3).1
 
     pub dir_one : (p a b : ℕ) → DirAt image w p a → DirAt image w p b → a ≡ b
     dir_one p a b h k = node_one p a b (dir_is_node image w p a h) (dir_is_node image w p b k)
 
     pub file_one : (n a b : ℕ) → FileAt image w n a → FileAt image w n b → a ≡ b
-    file_one n a b f g = one_head v n f.0.0 f.0.1 f.0.2 a g.0.0 g.0.1 g.0.2 b f.0.3 g.0.3
+    file_one n a b f g = (one_head v n f.0.0 f.0.1 f.0.2 a g.0.0 g.0.1 g.0.2 b f.0.3 g.0.3).1
 
     member_one : (n m a b : ℕ) → MemberAt image w n m a → MemberAt image w n m b → a ≡ b
     member_one n zero a b h k = file_one n a b h k
@@ -129,7 +126,7 @@ module _ (image : List ℕ) where
     asks_one (Data n zero) a i b j h k = absurd h
     asks_one (Data n (suc x)) a i b j h k = (member_one n (x / POINTERS) a b h.1 k.1, h.2 ∙ sym k.2)
 
-  ext_below : {w : List (Role × ℕ)} → IsGathered image w → (n k b : ℕ) → Has w (Ext n (suc k)) b → k < ext_count w n
+  pub ext_below : {w : List (Role × ℕ)} → IsGathered image w → (n k b : ℕ) → Has w (Ext n (suc k)) b → k < ext_count w n
   ext_below start n k b (inl e) = let h : first Root ≡ first (Ext n (suc k)) = ap first e.0 in absurd (omega arith)
   ext_below start n k b (inr f) = absurd f
   ext_below (step {w = w} {r = r} a i c v d l) n zero b (inl h) =
@@ -144,7 +141,7 @@ module _ (image : List ℕ) where
       omega arith
 
   -- an extension block that comes is the next one
-  next_ext : (w : List (Role × ℕ)) → IsGathered image w → (n k a i : ℕ) → Asks image w (Ext n k) a i → Lacks w (Ext n k)
+  pub next_ext : (w : List (Role × ℕ)) → IsGathered image w → (n k a i : ℕ) → Asks image w (Ext n k) a i → Lacks w (Ext n k)
       → ((k : ℕ) → k < ext_count w n → (b : ℕ) × Has w (Ext n (suc k)) b) → k ≡ suc (ext_count w n)
   next_ext w v n zero a i d l ih = absurd d
   next_ext w v n (suc zero) a i d l ih =
@@ -204,23 +201,46 @@ module _ (image : List ℕ) where
   node_is v zero b h = root_block v ∙ root_is v b h
   node_is v (suc n) b h = head_block v (suc n) h.0 h.1 h.2 b h.3
 
+  -- extension block k of a file, as a function
+  ext_block_new : (n k : ℕ) (r : Role) (b c : ℕ) → r ≡ Ext n k → ext_block_of n k r b c ≡ b
+  ext_block_new n k r b c e =
+      ap (λ r. ext_block_of n k r b c) e ∙ ap (λ t. cond t (cond (k == k) b c) c) (eq-eqb n n refl) ∙ ap (λ t. cond t b c) (eq-eqb k k refl)
+
+  cond_both : (t u : Bool) (b c a : ℕ) → (t ≡ true → u ≡ true → ⊥) → c ≡ a → cond t (cond u b c) c ≡ a
+  cond_both true true b c a h z = absurd (h refl refl)
+  cond_both true false b c a h z = z
+  cond_both false u b c a h z = z
+
+  ext_block_old : (n k : ℕ) (r : Role) (b c a : ℕ) → (r ≡ Ext n k → ⊥) → c ≡ a → ext_block_of n k r b c ≡ a
+  ext_block_old n k (Ext m i) b c a h z =
+      cond_both (n == m) (k == i) b c a (λ t u. h (ap (λ m. Ext m i) (sym (eqb-true n m t)) ∙ ap (Ext n) (sym (eqb-true k i u)))) z
+  ext_block_old n k _ b c a h z = z
+
+  ext_is_block : {w : List (Role × ℕ)} → IsGathered image w → (n k b : ℕ) → Has w (Ext n k) b → ext_block w n k ≡ b
+  ext_is_block start n k b (inl e) =
+      let h : second Root ≡ second (Ext n k) = ap second e.0 in let g : first Root ≡ first (Ext n k) = ap first e.0 in absurd (omega arith)
+  ext_is_block start n k b (inr f) = absurd f
+  ext_is_block (step {w = w} {r = r} a i b' v d l) n k b (inl e) = ext_block_new n k r b' (ext_block w n k) e.0 ∙ e.1
+  ext_is_block (step {w = w} {r = r} a i b' v d l) n k b (inr h) =
+      ext_block_old n k r b' (ext_block w n k) b (λ e. l (Ext n k) b h (same_of (Ext n k) r (sym e))) (ext_is_block v n k b h)
+
+  pub member_is : {w : List (Role × ℕ)} → IsGathered image w → (n m a : ℕ) → MemberAt image w n m a → member_block w n m ≡ a
+  member_is v n zero a h = head_block v n h.0.0 h.0.1 h.0.2 a h.0.3
+  member_is v n (suc m) a h = ext_is_block v n (suc m) a h
+
   -- a header stands in a directory that came before
   head_dir_of : (w : List (Role × ℕ)) (n p s j a i : ℕ) → Asks image w (Head n p s j) a i
       → ((m k b : ℕ) → Has w (Head m p s k) b → (d : ℕ) × DirAt image w p d) → (d : ℕ) × DirAt image w p d
   head_dir_of w n p s zero a i h f = (a, h.2)
   head_dir_of w n p s (suc j) a i h f = f h.1.0 j a h.1.1
 
-  dir_more : (w : List (Role × ℕ)) (x : Role × ℕ) (p d : ℕ) → DirAt image w p d → DirAt image (x ∷ w) p d
-  dir_more w x zero d h = inr h
-  dir_more w x (suc p) d h = ((h.0.0, h.0.1, h.0.2, inr h.0.3), h.1)
-
   head_dir : {w : List (Role × ℕ)} → IsGathered image w → (n p s j b : ℕ) → Has w (Head n p s j) b → (d : ℕ) × DirAt image w p d
   head_dir start n p s j b (inl e) = let h : second Root ≡ second (Head n p s j) = ap second e.0 in absurd (omega arith)
   head_dir start n p s j b (inr f) = absurd f
   head_dir (step {w = w} {r = r} a i c v d l) n p s j b (inl e) =
       let x = head_dir_of w n p s j a i (subst (λ r. Asks image w r a i) e.0 d) (λ m k b h. head_dir v m p s k b h) in
-      (x.0, dir_more w (r, c) p x.0 x.1)
-  head_dir (step {w = w} {r = r} a i c v d l) n p s j b (inr h) = let x = head_dir v n p s j b h in (x.0, dir_more w (r, c) p x.0 x.1)
+      (x.0, dir_up image w (r, c) p x.0 x.1)
+  head_dir (step {w = w} {r = r} a i c v d l) n p s j b (inr h) = let x = head_dir v n p s j b h in (x.0, dir_up image w (r, c) p x.0 x.1)
 
   pub asked_dir : {w : List (Role × ℕ)} → IsGathered image w → (n p s j a i : ℕ) → Asks image w (Head n p s j) a i → (d : ℕ) × DirAt image w p d
   asked_dir {w = w} v n p s j a i h = head_dir_of w n p s j a i h (λ m k b h. head_dir v m p s k b h)
@@ -232,15 +252,12 @@ module _ (image : List ℕ) where
   ext_file_of w n (suc zero) a i h f = (a, h.0)
   ext_file_of w n (suc (suc k)) a i h f = f (suc k) a h.0
 
-  file_more : (w : List (Role × ℕ)) (x : Role × ℕ) (n h : ℕ) → FileAt image w n h → FileAt image (x ∷ w) n h
-  file_more w x n h f = ((f.0.0, f.0.1, f.0.2, inr f.0.3), f.1)
-
-  ext_file : {w : List (Role × ℕ)} → IsGathered image w → (n k b : ℕ) → Has w (Ext n k) b → (h : ℕ) × FileAt image w n h
+  pub ext_file : {w : List (Role × ℕ)} → IsGathered image w → (n k b : ℕ) → Has w (Ext n k) b → (h : ℕ) × FileAt image w n h
   ext_file start n k b (inl e) = let h : first Root ≡ first (Ext n k) = ap first e.0 in absurd (omega arith)
   ext_file start n k b (inr f) = absurd f
   ext_file (step {w = w} {r = r} a i c v d l) n k b (inl e) =
-      let x = ext_file_of w n k a i (subst (λ r. Asks image w r a i) e.0 d) (ext_file v n) in (x.0, file_more w (r, c) n x.0 x.1)
-  ext_file (step {w = w} {r = r} a i c v d l) n k b (inr h) = let x = ext_file v n k b h in (x.0, file_more w (r, c) n x.0 x.1)
+      let x = ext_file_of w n k a i (subst (λ r. Asks image w r a i) e.0 d) (ext_file v n) in (x.0, file_up image w (r, c) n x.0 x.1)
+  ext_file (step {w = w} {r = r} a i c v d l) n k b (inr h) = let x = ext_file v n k b h in (x.0, file_up image w (r, c) n x.0 x.1)
 
   pub asked_file : {w : List (Role × ℕ)} → IsGathered image w → (n k a i : ℕ) → Asks image w (Ext n k) a i → (h : ℕ) × FileAt image w n h
   asked_file {w = w} v n k a i h = ext_file_of w n k a i h (ext_file v n)

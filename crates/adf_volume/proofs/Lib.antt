@@ -18,6 +18,7 @@ pub mod TreeOrder
 pub mod DecidedAsks
 pub mod Gathered
 pub mod MemberFacts
+pub mod Roles
 pub mod WalkMembers
 pub mod WalkOrder
 pub mod WalkOwners

@@ -14,7 +14,8 @@ use Rattle.adf_volume.specs.Walk.{member_block, next_data, form_demands, NewName
 use Rattle.adf_volume.specs.Walk.Role.{Root, Page, MapExt, Head, Ext, Data}
 use Rattle.adf_volume.specs.Walk.IsWalk.{start, step}
 use Rattle.adf_volume.proofs.Lists.{all_split}
-use Rattle.adf_volume.proofs.Walks.{node_is, member_is, file_is, due_file, ext_counted, count_up, dir_is_node, is_there}
+use Rattle.adf_volume.proofs.Roles.{count_up, dir_is_node, dir_up, file_up, member_up}
+use Rattle.adf_volume.proofs.Walks.{node_is, member_is, file_is, due_file, ext_counted, is_there}
 use Rattle.std.proofs.lemmas.Bool.{cond-true, cond-false, le-ltb, lt-ltb}
 
 -- the word that names a header
@@ -50,40 +51,29 @@ same_number : (n m p s i j : ℕ) → Head n p s i ≡ Head m p s j → n ≡ m
 same_number n m p s i j h = cc
 
 module _ (image : List ℕ) where
-  pub dir_up : (w : List (Role × ℕ)) (x : Role × ℕ) (p a : ℕ) → DirAt image w p a → DirAt image (x ∷ w) p a
-  dir_up w x zero a h = inr h
-  dir_up w x (suc i) a h = ((h.0.0, h.0.1, h.0.2, inr h.0.3), h.1)
-
-  pub file_up : (w : List (Role × ℕ)) (x : Role × ℕ) (p a : ℕ) → FileAt image w p a → FileAt image (x ∷ w) p a
-  file_up w x p a h = ((h.0.0, h.0.1, h.0.2, inr h.0.3), h.1)
-
-  pub member_up : (w : List (Role × ℕ)) (x : Role × ℕ) (n m a : ℕ) → MemberAt image w n m a → MemberAt image (x ∷ w) n m a
-  member_up w x n zero a h = file_up w x n a h
-  member_up w x n (suc m) a h = inr h
-
   pub names_up : (w : List (Role × ℕ)) (x : Role × ℕ) (k a i : ℕ) → NamesPage image w k a i → NamesPage image (x ∷ w) k a i
   names_up w x k a i (inl h) = inl h
   names_up w x k a i (inr h) = inr (h.0, inr h.1, h.2, h.3)
 
   next_up : (w : List (Role × ℕ)) (x : Role × ℕ) (n k h y : ℕ) → IsNext image w n k h y → IsNext image (x ∷ w) n k h y
-  next_up w x n k h y z = record { inner = (λ u. let r = z.inner u in (r.0, member_up w x n (k / POINTERS) r.0 r.1, r.2)); last = z.last }
+  next_up w x n k h y z = record { inner = (λ u. let r = z.inner u in (r.0, member_up image w x n (k / POINTERS) r.0 r.1, r.2)); last = z.last }
 
   kept_up : (w : List (Role × ℕ)) (x : Role × ℕ) (r : Role) (b : ℕ) → Kept image w r b → Kept image (x ∷ w) r b
   kept_up w x Root b h = tt
   kept_up w x (Page k) b h = (h.0, (h.1.0, h.1.1, names_up w x k h.1.0 h.1.1 h.1.2, h.1.3), h.2)
   kept_up w x (MapExt zero) b h = h
   kept_up w x (MapExt (suc j)) b h = (h.0, (h.1.0, inr h.1.1, h.1.2))
-  kept_up w x (Head n p s zero) b h = (h.0, (h.1.0, dir_up w x p h.1.0 h.1.1, h.1.2), (h.2.0, dir_up w x p h.2.0 h.2.1, h.2.2))
-  kept_up w x (Head n p s (suc j)) b h = (h.0, (h.1.0, h.1.1, inr h.1.2, h.1.3), (h.2.0, dir_up w x p h.2.0 h.2.1, h.2.2))
+  kept_up w x (Head n p s zero) b h = (h.0, (h.1.0, dir_up image w x p h.1.0 h.1.1, h.1.2), (h.2.0, dir_up image w x p h.2.0 h.2.1, h.2.2))
+  kept_up w x (Head n p s (suc j)) b h = (h.0, (h.1.0, h.1.1, inr h.1.2, h.1.3), (h.2.0, dir_up image w x p h.2.0 h.2.1, h.2.2))
   kept_up w x (Ext n zero) b h = absurd h
-  kept_up w x (Ext n (suc zero)) b h = ((h.0.0, file_up w x n h.0.0 h.0.1, h.0.2), (h.1.0, file_up w x n h.1.0 h.1.1, h.1.2))
-  kept_up w x (Ext n (suc (suc k))) b h = ((h.0.0, inr h.0.1, h.0.2), (h.1.0, file_up w x n h.1.0 h.1.1, h.1.2))
+  kept_up w x (Ext n (suc zero)) b h = ((h.0.0, file_up image w x n h.0.0 h.0.1, h.0.2), (h.1.0, file_up image w x n h.1.0 h.1.1, h.1.2))
+  kept_up w x (Ext n (suc (suc k))) b h = ((h.0.0, inr h.0.1, h.0.2), (h.1.0, file_up image w x n h.1.0 h.1.1, h.1.2))
   kept_up w x (Data n zero) b h = absurd h
   kept_up w x (Data n (suc k)) b h =
       let u : ext_count w n ≤ ext_count_of n x.0 (ext_count w n) = count_up n x.0 (ext_count w n) in
       let y : data_count image h.0 ≤ POINTERS * suc (ext_count w n) = h.3 in
       let next = next_up w x n (suc k) h.0 h.5.0 h.5.1 in
-      (h.0, file_up w x n h.0 h.1, h.2, omega arith, (h.4.0, member_up w x n (k / POINTERS) h.4.0 h.4.1, h.4.2), (h.5.0, next, h.5.2))
+      (h.0, file_up image w x n h.0 h.1, h.2, omega arith, (h.4.0, member_up image w x n (k / POINTERS) h.4.0 h.4.1, h.4.2), (h.5.0, next, h.5.2))
 
   -- a header that is asked for has its directory
   asks_dir : {w : List (Role × ℕ)} → ((r : Role) (b : ℕ) → Has w r b → Kept image w r b) → (n p s j a i : ℕ) → Asks image w (Head n p s j) a i

@@ -10,9 +10,10 @@ use Rattle.adf_volume.specs.Walk.{IsWhole, FirstFault}
 use Rattle.adf_volume.specs.Walk.Role.{Head}
 use Rattle.adf_volume.specs.Walk.IsWalk.{start, step}
 use Rattle.adf_volume.specs.Walk.FirstFault.{at_boot, at_due, at_bitmap}
-use Rattle.adf_volume.proofs.Gathered.{asks_one, of_walk}
+use Rattle.adf_volume.proofs.Gathered.{asks_one}
+use Rattle.adf_volume.proofs.Walks.{of_walk}
 use Rattle.adf_volume.proofs.Lists.{fails_not_all}
-use Rattle.adf_volume.proofs.Walks.{same_role, asks_number, dec_same}
+use Rattle.adf_volume.proofs.Roles.{asks_number, dec_same, same_role}
 use Rattle.adf_volume.proofs.WalkOrder.{before_total}
 
 pub fails_one : (xs : List Demand) (b : ℕ) (c : Cause) (b' : ℕ) (c' : Cause) → FirstFails xs b c → FirstFails xs b' c' → (b ≡ b') × (c ≡ c')

@@ -25,8 +25,10 @@ use Rattle.adf_volume.proofs.Images.{map_exts_high}
 use Rattle.adf_volume.proofs.Lists.{at_fun, at_below, at_some, at_before, at_map, at_unmap, spelled_first, spelled_next, spelled_word, spelled_link}
 use Rattle.adf_volume.proofs.Lists.{all_append, at_index, index_past}
 use Rattle.adf_volume.proofs.Chains.{entry_at, entry_below, entry_some, place_at, one_place, sorted_places, chain_rises}
-use Rattle.adf_volume.proofs.Walks.{root_is, root_in, number_of, numbered, renumbered, same_of, ext_below, asks_number, due_file, node_is, member_is, file_is}
-use Rattle.adf_volume.proofs.Walks.{dir_is_node, head_key, is_there}
+use Rattle.adf_volume.proofs.Roles.{asks_number, renumbered, same_of}
+use Rattle.adf_volume.proofs.Walks.{root_is, root_in, number_of, numbered, ext_below, due_file, node_is, member_is, file_is}
+use Rattle.adf_volume.proofs.Roles.{dir_is_node, head_key}
+use Rattle.adf_volume.proofs.Walks.{is_there}
 use Rattle.adf_volume.proofs.LayoutRoles.{part_range, one_part}
 use Rattle.std.proofs.lemmas.Bool.{ltb-false, ltb-true}
 use Rattle.adf_volume.proofs.Places.{exts_below}

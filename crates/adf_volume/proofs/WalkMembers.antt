@@ -18,7 +18,8 @@ use Rattle.adf_volume.specs.Made.{push_head, of_heads, entries_in, places_in}
 use Rattle.adf_volume.proofs.FormDemands.{head_slot_is}
 use Rattle.adf_volume.proofs.Lists.{at_fun, at_below, at_some, at_old, at_new, at_snoc, snoc_length}
 use Rattle.adf_volume.proofs.Chains.{chain_snoc}
-use Rattle.adf_volume.proofs.Walks.{numbered, asks_number, ext_counted, next_ext, page_word, is_there}
+use Rattle.adf_volume.proofs.Roles.{asks_number}
+use Rattle.adf_volume.proofs.Walks.{numbered, ext_counted, next_ext, page_word, is_there}
 use Rattle.adf_volume.proofs.MemberFacts.{kept, there, enough, map_ext_down}
 use Rattle.adf_volume.proofs.Comparisons.{both_equal, equal_both}
 

@@ -5,7 +5,8 @@ use Rattle.adf_volume.specs.Image.{root_of}
 use Rattle.adf_volume.specs.Walk.{Role, first, second, third, Before, Same, Has, heads, DirAt, FileAt, MemberAt, Asks, Lacks, IsDue, IsWalk}
 use Rattle.adf_volume.specs.Walk.Role.{Root, Page, MapExt, Head, Ext, Data}
 use Rattle.adf_volume.specs.Walk.IsWalk.{start, step}
-use Rattle.adf_volume.proofs.Walks.{number_of, asks_number, same_refl}
+use Rattle.adf_volume.proofs.Roles.{asks_number, same_refl}
+use Rattle.adf_volume.proofs.Walks.{number_of}
 
 pub before_trans : (x y z : Role) → Before x y → Before y z → Before x z
 before_trans x y z h k = (omega arith, (λ e. omega arith), (λ e f. omega arith))

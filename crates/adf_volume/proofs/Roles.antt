@@ -1,0 +1,123 @@
+-- Roles, and lists of them with blocks, whatever the blocks hold.
+use Rattle.std.proofs.Common.{◌≡◌, ℕ, zero, suc, List, [], ◌∷◌, ◌⊎◌, inl, inr, ◌≤◌, refl, sym, ap, subst, arith}
+use Rattle.std.proofs.Common.{Bool, true, false, cond, eq-eqb}
+use Rattle.std.specs.Prelude.{◌==◌}
+use native.Mathlib.Decide.{ℕ_discrete}
+use Rattle.adf_volume.specs.Walk.{Role, first, second, third, Same, Has, head_count, heads, NodeAt, DirAt, FileAt, MemberAt, Asks, Lacks, ext_count_of}
+use Rattle.adf_volume.specs.Walk.Role.{Root, Page, MapExt, Head, Ext, Data}
+
+-- two roles of one key, of which headers have one number, are one role
+pub same_role : (r q : Role) → Same r q → ((n m p s j : ℕ) → r ≡ Head n p s j → q ≡ Head m p s j → n ≡ m) → r ≡ q
+same_role Root Root h k = refl
+same_role (Page i) (Page j) h k = let e : i ≡ j = omega arith in ap Page e
+same_role (MapExt i) (MapExt j) h k = let e : i ≡ j = omega arith in ap MapExt e
+same_role (Head n p s j) (Head m q t i) h k =
+    let e1 : p ≡ q = omega arith in
+    let e2 : s ≡ t = omega arith in
+    let e3 : j ≡ i = omega arith in
+    let eq : Head m q t i ≡ Head m p s j = cc in
+    let e4 : n ≡ m = k n m p s j refl eq in
+    cc
+same_role (Ext n j) (Ext m i) h k =
+    let e1 : n ≡ m = omega arith in
+    let e3 : j ≡ i = omega arith in
+    cc
+same_role (Data n j) (Data m i) h k =
+    let e1 : n ≡ m = omega arith in
+    let e3 : j ≡ i = omega arith in
+    cc
+same_role _ _ h k = absurd (omega arith)
+
+pub same_refl : (r : Role) → Same r r
+same_refl r = (refl, refl, refl)
+
+pub same_of : (r q : Role) → r ≡ q → Same r q
+same_of r q e = (ap first e, ap second e, ap third e)
+
+-- the role, with this number if it is a header's
+abbrev pub renumbered : ℕ → Role → Role
+renumbered m (Head n p s j) = Head m p s j
+renumbered m r = r
+
+pub renumbered_same : (m : ℕ) (r : Role) → Same (renumbered m r) r
+renumbered_same m (Head n p s j) = (refl, refl, refl)
+renumbered_same m _ = (refl, refl, refl)
+
+pub heads_up : (r : Role) (m : ℕ) → m ≤ head_count r m
+heads_up Root m = omega arith
+heads_up _ m = omega arith
+
+pub asks_number : (image : List ℕ) (w : List (Role × ℕ)) (n p s j a i : ℕ) → Asks image w (Head n p s j) a i → n ≡ suc (heads w)
+asks_number image w n p s zero a i h = h.0
+asks_number image w n p s (suc j) a i h = h.0
+
+-- what is asked for has the next number
+pub asks_next_number : (image : List ℕ) (w : List (Role × ℕ)) (m : ℕ) (r : Role) (a i : ℕ) → Asks image w r a i
+    → r ≡ renumbered (suc (heads w)) (renumbered m r)
+asks_next_number image w m (Head n p s j) a i h = ap (λ n. Head n p s j) (asks_number image w n p s j a i h)
+asks_next_number image w m _ a i h = refl
+
+-- a directory of a walk is a node of it
+pub dir_is_node : (image : List ℕ) (w : List (Role × ℕ)) (p a : ℕ) → DirAt image w p a → NodeAt w p a
+dir_is_node image w zero a h = h
+dir_is_node image w (suc i) a h = h.0
+
+-- extension blocks are counted
+pub count_up : (n : ℕ) (r : Role) (c : ℕ) → c ≤ ext_count_of n r c
+count_up n (Ext m k) c = up (n == m)
+  where
+    up : (t : Bool) → c ≤ cond t (suc c) c
+    up true = omega arith
+    up false = omega arith
+count_up n _ c = omega arith
+
+pub count_own : (n k c : ℕ) → ext_count_of n (Ext n k) c ≡ suc c
+count_own n k c = rw (eq-eqb n n refl)
+
+-- whether two roles have one key
+pub dec_same : (r q : Role) → Dec (Same r q)
+dec_same r q =
+    elim (ℕ_discrete (first r) (first q)) [
+      | no n ↦ no (λ s. n s.0)
+      | yes e ↦ elim (ℕ_discrete (second r) (second q)) [
+        | no n ↦ no (λ s. n s.1)
+        | yes f ↦ elim (ℕ_discrete (third r) (third q)) [ no n ↦ no (λ s. n s.2) | yes g ↦ yes (e, f, g) ]
+      ]
+    ]
+
+-- whether a walk has a role
+pub dec_has : (w : List (Role × ℕ)) (r : Role) → Lacks w r ⊎ ((q : Role) × (b : ℕ) × Has w q b × Same q r)
+dec_has [] r = inl (λ q b h s. h)
+dec_has (x ∷ w) r =
+    elim (dec_same x.0 r) [
+      | yes s ↦ inr (x.0, x.1, inl (refl, refl), s)
+      | no s ↦ elim (dec_has w r) [
+        | inl l ↦ inl (λ q b h k. elim h [ inl e ↦ s (subst (λ z. Same z r) (sym e.0) k) | inr g ↦ l q b g k ])
+        | inr h ↦ inr (h.0, h.1, inr h.2, h.3)
+      ]
+    ]
+
+pub has_role : (image : List ℕ) (w : List (Role × ℕ)) (r : Role) → ((n p s j : ℕ) → r ≡ Head n p s j → ⊥) → (q : Role) (b : ℕ) → Has w q b → Same q r
+    → Has w r b
+has_role image w r nohead q b h s = subst (λ z. Has w z b) (same_role q r s (λ n m p t j e f. absurd (nohead m p t j f))) h
+
+-- only a header has a header's key
+pub head_key : (n p s j : ℕ) (q : Role) → Same q (Head n p s j) → (m : ℕ) × (q ≡ Head m p s j)
+head_key n p s j (Head x y z k) h =
+    let a : y ≡ p = omega arith in let b : z ≡ s = omega arith in let c : k ≡ j = omega arith in
+    let e : Head x y z k ≡ Head x p s j = cc in
+    (x, e)
+head_key n p s j _ h = absurd (omega arith)
+
+module _ (image : List ℕ) where
+  -- a list with one part more has what it had
+  pub dir_up : (w : List (Role × ℕ)) (x : Role × ℕ) (p a : ℕ) → DirAt image w p a → DirAt image (x ∷ w) p a
+  dir_up w x zero a h = inr h
+  dir_up w x (suc i) a h = ((h.0.0, h.0.1, h.0.2, inr h.0.3), h.1)
+
+  pub file_up : (w : List (Role × ℕ)) (x : Role × ℕ) (p a : ℕ) → FileAt image w p a → FileAt image (x ∷ w) p a
+  file_up w x p a h = ((h.0.0, h.0.1, h.0.2, inr h.0.3), h.1)
+
+  pub member_up : (w : List (Role × ℕ)) (x : Role × ℕ) (n m a : ℕ) → MemberAt image w n m a → MemberAt image (x ∷ w) n m a
+  member_up w x n zero a h = file_up w x n a h
+  member_up w x n (suc m) a h = inr h
