@@ -60,6 +60,10 @@ module _ (image : List ℕ) (t : Tree) (l : Layout) (fit : Fits image t l) (w : 
         file_word image t l n e e.body bytes refl (fit.entries n e h).body f,
       )
 
+  -- what the walk has at a place of a list of the layout is what the layout has there
+  at_its_block : (r : Role) (xs : List ℕ) (k c b : ℕ) → Has w r c → At xs k c → At xs k b → Has w r b
+  at_its_block r xs k c b h there here = subst (Has w r) (at_fun xs k c b there here) h
+
   all_exts : (n k b : ℕ) → At (exts_of l n) k b → Has w (Ext n (suc k)) b
   all_exts n zero b h =
       let g = is_file image t l fit w v ag n 0 b h in
@@ -69,7 +73,7 @@ module _ (image : List ℕ) (t : Tree) (l : Layout) (fit : Fits image t l) (w : 
       spelled_word (λ b. word_in image b EXTENSION) (word_in image (at_node image l n) EXTENSION) (exts_of l n) b ff.exts h in
       let x = asked_block image w whole (Ext n 1) (at_node image l n) EXTENSION
       (has_file n g.0 g.1 g.2 g.3, refl, (λ z. let o : b ≡ 0 = sym y ∙ z in omega arith)) (omega arith) in
-      subst (Has w (Ext n 1)) (at_fun (exts_of l n) 0 x.0 b (ag (Ext n 1) x.0 x.1) h) x.1
+      at_its_block (Ext n 1) (exts_of l n) 0 x.0 b x.1 (ag (Ext n 1) x.0 x.1) h
   all_exts n (suc k) b h =
       let c = at_before (exts_of l n) k b h in
       let hc : Has w (Ext n (suc k)) c.0 = all_exts n k c.0 c.1 in
@@ -102,7 +106,7 @@ module _ (image : List ℕ) (t : Tree) (l : Layout) (fit : Fits image t l) (w : 
       let en : count t.kind (length g.0) ≤ POINTERS * suc (length (exts_of l n)) = ff.enough in
       let m = table (k / POINTERS) (omega arith) fl in
       let x = asked_block image w whole (Data n (suc k)) m.0 (table_word k) ((at_node image l n, fl, (omega arith)), m.1, refl) (omega arith) in
-      subst (Has w (Data n (suc k))) (at_fun (datas_of l n) k x.0 b (ag (Data n (suc k)) x.0 x.1) h) x.1
+      at_its_block (Data n (suc k)) (datas_of l n) k x.0 b x.1 (ag (Data n (suc k)) x.0 x.1) h
     where
       table : (m : ℕ) → m ≤ length (exts_of l (suc i)) → FileAt image w (suc i) (at_node image l (suc i)) → (a : ℕ) × MemberAt image w (suc i) m a
       table zero u f = (at_node image l (suc i), f)
@@ -114,14 +118,14 @@ module _ (image : List ℕ) (t : Tree) (l : Layout) (fit : Fits image t l) (w : 
       let p : length l.map_exts ≡ map_exts_needed (pages_needed (blocks image)) = fit.map_exts in
       let x = asked_block image w whole (MapExt 0) (root_of image) FIRST_MAP_EXT (map_exts_low (pages_needed (blocks image)) 0 (omega arith), refl, refl)
       (omega arith) in
-      subst (Has w (MapExt 0)) (at_fun l.map_exts 0 x.0 b (ag (MapExt 0) x.0 x.1) h) x.1
+      at_its_block (MapExt 0) l.map_exts 0 x.0 b x.1 (ag (MapExt 0) x.0 x.1) h
   all_map_exts (suc j) b h =
       let u : suc j < length l.map_exts = at_below l.map_exts (suc j) b h in
       let p : length l.map_exts ≡ map_exts_needed (pages_needed (blocks image)) = fit.map_exts in
       let c = at_before l.map_exts j b h in
       let x = asked_block image w whole (MapExt (suc j)) c.0 MAP_EXT_NEXT
       (map_exts_low (pages_needed (blocks image)) (suc j) (omega arith), all_map_exts j c.0 c.1, refl) (omega arith) in
-      subst (Has w (MapExt (suc j))) (at_fun l.map_exts (suc j) x.0 b (ag (MapExt (suc j)) x.0 x.1) h) x.1
+      at_its_block (MapExt (suc j)) l.map_exts (suc j) x.0 b x.1 (ag (MapExt (suc j)) x.0 x.1) h
 
   some_map_ext : (j : ℕ) → ROOT_PAGES + MAP_EXT_PAGES * j < pages_needed (blocks image) → (a : ℕ) × Has w (MapExt j) a
   some_map_ext j lt =
@@ -138,7 +142,7 @@ module _ (image : List ℕ) (t : Tree) (l : Layout) (fit : Fits image t l) (w : 
       let p : length l.pages ≡ pages_needed (blocks image) = fit.pages in
       let m = page_word image w k (omega arith) (λ j y. some_map_ext j (omega arith)) in
       let x = asked_block image w whole (Page k) m.0 m.1 m.2 (omega arith) in
-      subst (Has w (Page k)) (at_fun l.pages k x.0 b (ag (Page k) x.0 x.1) h) x.1
+      at_its_block (Page k) l.pages k x.0 b x.1 (ag (Page k) x.0 x.1) h
   part_walked (MapExt j) b h = all_map_exts j b h
   part_walked (Head n p s j) b h =
       let e = entry_at t p s j n h.0 in
