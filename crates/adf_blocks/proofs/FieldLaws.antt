@@ -14,7 +14,8 @@ use Rattle.adf_fields.proofs.WordLaws.{length-with_bytes, range-with_bytes_same,
 use Rattle.adf_fields.proofs.WordLaws.{length_longs, long_sum-sealed, length-big_bytes}
 use Rattle.adf_blocks.specs.declared.layout.TheConstants.{CHECKSUM}
 use Rattle.adf_blocks.specs.Forms.{stamp_at, text_at}
-use Rattle.adf_blocks.specs.Fields.{Field, FitsStamp, block_of_fields, Descends, downwards, long, longs, stamp, text}
+use Rattle.adf_blocks.specs.Fields.{Field, block_of_fields, Descends, downwards, long, longs, stamp, text}
+use Rattle.adf_fields.specs.Dates.{IsStamp}
 
 -- a block that is laid is whole
 pub length-block_of_fields : (top : ℕ) (fs : List Field) → top ≤ 512 → Descends top fs → length (block_of_fields fs) ≡ 512
@@ -141,7 +142,7 @@ numbers_of_field c fs i s ws in_block d h in_words other =
 
 -- a date that was put down
 pub stamp_of_field : (fs : List Field) (i : ℕ) (s : Stamp) → Descends 512 fs → HasField fs (4 * i, stamp s)
-    → CHECKSUM < i → FitsStamp s → stamp_at (sealed CHECKSUM (block_of_fields fs)) i ≡ s
+    → CHECKSUM < i → IsStamp s → stamp_at (sealed CHECKSUM (block_of_fields fs)) i ≡ s
 stamp_of_field fs i s d h above fits =
     let ws : List ℕ = s.days ∷ s.mins ∷ s.ticks ∷ [] in
     let there : (j : ℕ) → j < 3 → slice_index ws j < 2 ^ 32 → word (sealed CHECKSUM (block_of_fields fs)) (i + j) ≡ slice_index ws j =

@@ -16,7 +16,8 @@ use Rattle.adf_tree.specs.declared.entry.Kind.TheVariants.{Ofs, Ffs}
 use Rattle.adf_blocks.specs.Forms.{first_cause, stamp_at, text_at}
 use Rattle.adf_blocks.specs.declared.layout.TheConstants.{CHECKSUM, COMMENT, DATE, EXTENSION, FIRST_DATA, FIRST_POINTER, FIRST_SLOT, NAME, NEXT_IN_CHAIN}
 use Rattle.adf_blocks.specs.declared.layout.TheConstants.{OWN_KEY, PARENT, POINTERS, PROTECTION, SECONDARY_TYPE, SIZE, SLOTS, ST_DIR, TYPE, T_SHORT}
-use Rattle.adf_blocks.specs.Fields.{Descends, FitsStamp, long}
+use Rattle.adf_blocks.specs.Fields.{Descends, long}
+use Rattle.adf_fields.specs.Dates.{IsStamp}
 use Rattle.adf_blocks.specs.HeadBlock.{BodyFields, FitsBody, FitsBodyWords, FitsHead, FitsMeta, HeadFields, head_block, head_form, head_table}
 use Rattle.adf_blocks.specs.HeadBlock.{body_at, body_told, ext_of, first_of, has_first, has_type, is_link, is_name_at, meta_at, secondary_of, size_of, table_of}
 use Rattle.adf_blocks.specs.HeadBlock.BodyFields.{DirFields, FileFields}
@@ -76,7 +77,7 @@ pub head_block-comment : (h : HeadFields) → FitsHead h
 unfolding head_block
 head_block-comment h fits = text_of_field (head_table h) COMMENT h.meta.comment (head_descends h fits) (search rules) (omega arith)
 
-pub head_block-stamp : (h : HeadFields) → FitsHead h → FitsStamp h.meta.stamp → stamp_at (head_block h) DATE ≡ h.meta.stamp
+pub head_block-stamp : (h : HeadFields) → FitsHead h → IsStamp h.meta.stamp → stamp_at (head_block h) DATE ≡ h.meta.stamp
 unfolding head_block
 head_block-stamp h fits small = stamp_of_field (head_table h) DATE h.meta.stamp (head_descends h fits) (search rules) (omega arith) small
 

@@ -9,7 +9,8 @@ use Rattle.adf_blocks.specs.declared.layout.TheConstants.{ALTERED, BITMAP_FLAG, 
 use Rattle.adf_blocks.specs.declared.layout.TheConstants.{NAME, ROOT_PAGES, SECONDARY_TYPE, SLOTS, ST_ROOT, TYPE, T_SHORT, VALID}
 use Rattle.adf_blocks.specs.Forms.{first_cause, text_at}
 use Rattle.adf_blocks.specs.Fields.{Descends, long, longs}
-use Rattle.adf_blocks.specs.RootBlock.{FitsRoot, FitsStamps, RootFields, root_block, root_form, root_table, stamps_at}
+use Rattle.adf_blocks.specs.RootBlock.{FitsRoot, RootFields, root_block, root_form, root_table, stamps_at}
+use Rattle.adf_tree.specs.Bounds.{AreStamps}
 use Rattle.adf_blocks.proofs.FieldLaws.{apart_between, length_sealed_fields, long_number, numbers_of_field, stamp_of_field}
 use Rattle.adf_blocks.proofs.FieldLaws.{sum_of_fields, text_of_field, word_between, word_of_field}
 
@@ -80,7 +81,7 @@ unfolding root_block
 root_block-map_ext r h small = word_of_field (root_table r) FIRST_MAP_EXT r.map_ext (root_descends r h) (search rules) (omega arith) small
 
 -- the dates of a root
-pub root_block-stamps : (r : RootFields) → FitsRoot r → FitsStamps r.stamps → stamps_at (root_block r) ≡ r.stamps
+pub root_block-stamps : (r : RootFields) → FitsRoot r → AreStamps r.stamps → stamps_at (root_block r) ≡ r.stamps
 unfolding root_block
 root_block-stamps r h fits =
     let root = stamp_of_field (root_table r) DATE r.stamps.root (root_descends r h) (search rules) (omega arith) fits.root in

@@ -1,5 +1,5 @@
 -- The bytes of fields, and blocks that are laid out of fields.
-use Rattle.std.specs.Prelude.{◌≤◌, ◌<◌, ◌+◌, ◌*◌, ◌-◌, ◌^◌, ℕ, List, [], ◌∷◌, length, replicate, reverse}
+use Rattle.std.specs.Prelude.{◌≤◌, ◌+◌, ◌*◌, ◌-◌, ℕ, List, [], ◌∷◌, length, replicate, reverse}
 use Rattle.std.specs.List.{flat_map}
 use Rattle.byteorder.specs.Endian.{big_bytes}
 use Rattle.adf_fields.specs.Words.{with_bytes}
@@ -38,9 +38,3 @@ Descends top (f ∷ fs) = (f.0 + length f.1 ≤ top) × Descends f.0 fs
 -- words that go down from word `i`
 abbrev pub downwards : ℕ → List ℕ → Field
 downwards i ws = (4 * (i + 1 - length ws), longs (reverse ws))
-
--- the three numbers of a date are words
-pub record FitsStamp (s : Stamp) : Type 0 where
-  pub days : s.days < 2 ^ 32
-  pub mins : s.mins < 2 ^ 32
-  pub ticks : s.ticks < 2 ^ 32

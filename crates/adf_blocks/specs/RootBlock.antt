@@ -7,7 +7,7 @@ use Rattle.adf_blocks.specs.declared.root_out.RootOut.{RootOut}
 use Rattle.adf_blocks.specs.declared.layout.TheConstants.{ALTERED, BITMAP_FLAG, CHECKSUM, CREATED, DATE, FIRST_MAP_EXT, FIRST_PAGE, FIRST_SLOT, HASH_SIZE}
 use Rattle.adf_blocks.specs.declared.layout.TheConstants.{NAME, ROOT_PAGES, SECONDARY_TYPE, SLOTS, ST_ROOT, TYPE, T_SHORT, VALID}
 use Rattle.adf_blocks.specs.Forms.{Clause, stamp_at}
-use Rattle.adf_blocks.specs.Fields.{Field, FitsStamp, block_of_fields, long, longs, stamp, text}
+use Rattle.adf_blocks.specs.Fields.{Field, block_of_fields, long, longs, stamp, text}
 
 -- what a root holds
 abbrev pub root_form : List ℕ → List Clause
@@ -60,9 +60,3 @@ pub record FitsRoot (r : RootFields) : Type 0 where
   pub slots : length r.slots ≡ SLOTS
   pub pages : length r.pages ≤ ROOT_PAGES
   pub label : length r.label ≤ 30
-
--- the numbers of the three dates are words
-pub record FitsStamps (s : Stamps) : Type 0 where
-  pub root : FitsStamp s.root
-  pub altered : FitsStamp s.altered
-  pub created : FitsStamp s.created

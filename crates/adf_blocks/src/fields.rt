@@ -2,7 +2,8 @@
 
 ghost use Rattle.std.specs.Prelude.{◌≡◌, ◌≤◌, ◌<◌, ◌+◌, ◌*◌, length};
 ghost use Rattle.adf_fields.specs.Words.{with_bytes};
-ghost use Rattle.adf_blocks.specs.Fields.{FitsStamp, stamp, text};
+ghost use Rattle.adf_blocks.specs.Fields.{stamp, text};
+ghost use Rattle.adf_fields.specs.Dates.{IsStamp};
 ghost use Rattle.adf_blocks.specs.Forms.{stamp_at};
 
 use adf_fields::{Block, Stamp, put_bytes, put_words};
@@ -23,7 +24,7 @@ pub fn stamp_in(b: &Block<'_>, i: usize) -> Stamp
 pub fn put_stamp(block: &mut [u8], i: usize, s: Stamp)
     requires { 4 * i + 12 ≤ length block.old }
     ensures exact { block.new ≡ with_bytes block.old (4 * i) (stamp s) }
-    ensures fits { FitsStamp s }
+    ensures fits { IsStamp s }
 {
     put_words(block, i, &[s.days, s.mins, s.ticks]);
 }

@@ -4,7 +4,7 @@ ghost use Rattle.std.specs.Prelude.{◌≡◌, ◌≤◌, ◌<◌, ◌+◌, ◌-
 ghost use Rattle.adf_fields.specs.Hash.{slot_of};
 ghost use Rattle.adf_fields.specs.Words.{block, with_block, with_bytes, word};
 ghost use Rattle.adf_tree.specs.declared.entry.Kind.{Kind};
-ghost use Rattle.adf_blocks.specs.Fields.{FitsStamp};
+ghost use Rattle.adf_fields.specs.Dates.{IsStamp};
 ghost use Rattle.adf_blocks.specs.Forms.{first_cause, stamp_at, text_at};
 ghost use Rattle.adf_blocks.specs.HeadBlock.BodyFields.{DirFields, FileFields};
 ghost use Rattle.adf_blocks.specs.HeadBlock.{FitsBody, FitsBodyWords, FitsHead, FitsMeta, FitsTable, HeadFields, body_at, body_fields, body_told, count_of, ext_of, first_of, head_block, head_fields, head_form, meta_at, secondary_of, size_of, table_of};
@@ -165,7 +165,7 @@ pub fn written_heads_are_read()
     ensures comment { (h : HeadFields) → FitsHead h → text_at (head_block h) COMMENT ≡ h.meta.comment }
     ensures protection { (h : HeadFields) → FitsHead h → h.meta.protect < 2 ^ 32
         → word (head_block h) PROTECTION ≡ h.meta.protect }
-    ensures date { (h : HeadFields) → FitsHead h → FitsStamp h.meta.stamp
+    ensures date { (h : HeadFields) → FitsHead h → IsStamp h.meta.stamp
         → stamp_at (head_block h) DATE ≡ h.meta.stamp }
     ensures meta { (h : HeadFields) → FitsHead h → FitsMeta h.meta → meta_at (head_block h) ≡ h.meta }
     ensures next { (h : HeadFields) → FitsHead h → h.next < 2 ^ 32 → word (head_block h) NEXT_IN_CHAIN ≡ h.next }

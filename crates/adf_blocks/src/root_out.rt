@@ -3,7 +3,8 @@
 ghost use Rattle.std.specs.Prelude.{◌≡◌, ◌≤◌, ◌<◌, ◌+◌, ◌*◌, ◌^◌, ℕ, length, slice_index, None};
 ghost use Rattle.adf_fields.specs.Words.{block, with_block, word};
 ghost use Rattle.adf_blocks.specs.Forms.{first_cause, text_at};
-ghost use Rattle.adf_blocks.specs.RootBlock.{FitsRoot, FitsStamps, RootFields, root_block, root_fields, root_form, stamps_at};
+ghost use Rattle.adf_blocks.specs.RootBlock.{FitsRoot, RootFields, root_block, root_fields, root_form, stamps_at};
+ghost use Rattle.adf_tree.specs.Bounds.{AreStamps};
 
 use crate::fields::{put_stamp, put_text};
 use crate::layout::{
@@ -32,7 +33,7 @@ fn root_bytes(r: &RootOut<'_, '_>) -> [u8; 512]
     requires { length r.now.pages.now ≤ ROOT_PAGES }
     ensures exact { result ≡ root_block (root_fields r.now) }
     ensures fits { FitsRoot (root_fields r.now) }
-    ensures stamps { FitsStamps r.now.stamps }
+    ensures stamps { AreStamps r.now.stamps }
 {
     let mut block = [0u8; 512];
     put_word(&mut block, TYPE, T_SHORT);
@@ -58,7 +59,7 @@ pub fn write_root(image: &mut [u8], b: u32, r: &RootOut<'_, '_>)
     ensures exact { image.new ≡ with_block image.old b (root_block (root_fields r.now)) }
     ensures form { first_cause (root_form (block image.new b)) ≡ None }
     ensures fits { FitsRoot (root_fields r.now) }
-    ensures stamps { FitsStamps r.now.stamps }
+    ensures stamps { AreStamps r.now.stamps }
 {
     put_block(image, b, &root_bytes(r));
 }
@@ -74,5 +75,5 @@ pub fn written_roots_are_read()
         → word (root_block r) (FIRST_PAGE + i) ≡ slice_index r.pages i }
     ensures map_ext { (r : RootFields) → FitsRoot r → r.map_ext < 2 ^ 32 → word (root_block r) FIRST_MAP_EXT ≡ r.map_ext }
     ensures label { (r : RootFields) → FitsRoot r → text_at (root_block r) NAME ≡ r.label }
-    ensures stamps { (r : RootFields) → FitsRoot r → FitsStamps r.stamps → stamps_at (root_block r) ≡ r.stamps }
+    ensures stamps { (r : RootFields) → FitsRoot r → AreStamps r.stamps → stamps_at (root_block r) ≡ r.stamps }
 {}

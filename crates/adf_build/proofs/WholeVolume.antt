@@ -2,9 +2,9 @@
 use Rattle.std.proofs.Common.{◌≡◌, ◌≤◌, ◌-◌, ◌*◌, ℕ, List, refl, sym, ap, subst, true}
 use Rattle.std.specs.Prelude.{replicate}
 use Rattle.adf_fields.specs.declared.dates.Stamp.{Stamp}
-use Rattle.adf_tree.specs.Bounds.{IsBounded, IsBoundedEntry, IsDate}
+use Rattle.adf_tree.specs.Bounds.{IsBounded, IsBoundedEntry}
+use Rattle.adf_fields.specs.Dates.{IsStamp}
 use Rattle.adf_tree.specs.Tree.{IsTree, Tree}
-use Rattle.adf_blocks.specs.Fields.{FitsStamp}
 use Rattle.adf_blocks.specs.Sizes.{blocks, is_allowed}
 use Rattle.adf_volume.specs.Fits.{Fits}
 use Rattle.adf_build.specs.Laid.{IsLaid, IsSound, writes, volume}
@@ -13,9 +13,6 @@ use Rattle.adf_build.specs.Plan.{blocks_needed, planned}
 use Rattle.adf_build.specs.Building.{HasRoom}
 use Rattle.adf_build.proofs.LaidFits.{laid_fits}
 use Rattle.adf_build.proofs.LaidWrites.{volume_blocks}
-
-fits_stamp : {s : Stamp} → IsDate s → FitsStamp s
-fits_stamp d = record { days = d.days; mins = d.mins; ticks = d.ticks }
 
 pub laid_bytes : (t : Tree) (n : ℕ) → with_blocks (replicate (n * 512) 0) (writes t n) ≡ volume t n
 unfolding volume
@@ -26,10 +23,10 @@ pub sound_tree : (t : Tree) → IsBounded t → IsTree t.entries → IsSound t
 sound_tree t b tree = record {
   tree = tree;
   label = b.label;
-  stamps = record { root = fits_stamp b.root; altered = fits_stamp b.altered; created = fits_stamp b.created };
+  stamps = b.stamps;
   names = λ j d l. IsBoundedEntry.name (b.entries j d l);
   comments = λ j d l. IsBoundedEntry.comment (b.entries j d l);
-  metas = λ j d l. let e = b.entries j d l in record { protect = e.protect; stamp = fits_stamp e.stamp };
+  metas = λ j d l. let e = b.entries j d l in record { protect = e.protect; stamp = e.stamp };
 }
 
 -- the volume of a tree is laid for it

@@ -14,7 +14,8 @@ use Rattle.adf_tree.specs.Tree.{Tree, IsTree}
 use Rattle.adf_blocks.specs.Sizes.{blocks, chunk, count, is_allowed, middle, pages_needed}
 use Rattle.adf_blocks.specs.declared.layout.TheConstants.{MAP_EXT_PAGES, POINTERS, ROOT_PAGES, SLOTS}
 use Rattle.adf_blocks.specs.Fields.{block_of_fields}
-use Rattle.adf_blocks.specs.RootBlock.{RootFields, root_block, FitsStamps}
+use Rattle.adf_blocks.specs.RootBlock.{RootFields, root_block}
+use Rattle.adf_tree.specs.Bounds.{AreStamps}
 use Rattle.adf_blocks.specs.PageBlock.{page_block}
 use Rattle.adf_blocks.specs.MapExtBlock.{map_ext_block}
 use Rattle.adf_blocks.specs.HeadBlock.{BodyFields, FitsMeta, HeadFields, head_block}
@@ -157,7 +158,7 @@ volume t n = with_blocks (replicate (n * 512) 0) (writes t n)
 pub record IsSound (t : Tree) : Type 0 where
   pub tree : IsTree t.entries
   pub label : length t.label ≤ 30
-  pub stamps : FitsStamps t.stamps
+  pub stamps : AreStamps t.stamps
   pub names : All (λ e. is_name e.name ≡ true) t.entries
   pub comments : All (λ e. length e.meta.comment ≤ 79) t.entries
   pub metas : All (λ e. FitsMeta e.meta) t.entries

@@ -4,7 +4,7 @@ use Rattle.std.specs.Str.{bytes_eq}
 use Rattle.clap.specs.Words.{App, Row, Rule, Text, fault_of, first_of, new_app, new_rule, subcommand_of, with_rule, with_subcommand}
 use Rattle.clap.specs.declared.builder.action.ArgAction.TheVariants.{SetTrue}
 use Rattle.adf_tree.specs.declared.entry.Kind.{Kind}
-use Rattle.adf_tree.specs.declared.entry.Kind.TheVariants.{Ofs, Ffs}
+use Rattle.adf_tree.specs.Kinds.{kind_named}
 use Rattle.adf_cmd.specs.declared.command_line.Order.{Order}
 use Rattle.adf_cmd.specs.declared.command_line.Order.TheVariants.{Check, List as ListAll, Cat, Build, Convert}
 use Rattle.adf_cmd.specs.declared.command_line.WordsFault.{WordsFault}
@@ -59,10 +59,6 @@ abbrev pub is_text : Text → Option Text → Bool
 is_text t None = false
 is_text t (Some s) = bytes_eq s t
 
--- the kind that a text names
-abbrev pub kind_of : Text → Option Kind
-kind_of t = if bytes_eq t (codes "ofs") then Some Ofs else (if bytes_eq t (codes "ffs") then Some Ffs else None)
-
 -- the request that a subcommand's name and matches are
 abbrev pub named : Text → List Row → Option Request
 named name rows =
@@ -70,7 +66,7 @@ named name rows =
     else (if bytes_eq name (codes "list") then Some list
     else (if bytes_eq name (codes "cat") then option_map cat (first_of (codes "path") rows)
     else (if bytes_eq name (codes "build") then Some (build (is_text (codes "true") (first_of (codes "list") rows)))
-    else (if bytes_eq name (codes "convert") then option_map convert (option_and_then kind_of (first_of (codes "kind") rows))
+    else (if bytes_eq name (codes "convert") then option_map convert (option_and_then kind_named (first_of (codes "kind") rows))
     else None))))
 
 -- what the matches ask for

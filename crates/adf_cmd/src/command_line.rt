@@ -3,7 +3,7 @@
 ghost use Rattle.std.specs.Prelude.{◌≡◌, IfOk, IfErr, false, true, ℕ, ◌==◌, List, [], ◌∷◌, codes, map, option_map};
 ghost use Rattle.clap.specs.Words.{app_of, first_of, found_of, rows_of, subcommand_rows_of};
 ghost use Rattle.clap.specs.declared.builder.command.Command.TheViews.{out-Command};
-ghost use Rattle.adf_cmd.specs.CommandLine.{Asks, Explains, IsRefused, adf_app, asked, build, build_app, cat, cat_app, check, convert, convert_app, kind_of, list, met, named};
+ghost use Rattle.adf_cmd.specs.CommandLine.{Asks, Explains, IsRefused, adf_app, asked, build, build_app, cat, cat_app, check, convert, convert_app, list, met, named};
 
 use adf_tree::Kind;
 use clap::error::ErrorKind;
@@ -79,19 +79,6 @@ fn first_text<'a>(found: &ArgMatches<'a>, id: &str) -> Option<&'a str>
     found.get_str(id)
 }
 
-// The kind that a text names.
-fn kind_of(text: &str) -> Option<Kind>
-    ensures { result ≡ kind_of text.now }
-{
-    if text == "ofs" {
-        Some(Kind::Ofs)
-    } else if text == "ffs" {
-        Some(Kind::Ffs)
-    } else {
-        None
-    }
-}
-
 // The order that a subcommand's name and matches are.
 fn order_named<'a>(name: &str, found: &ArgMatches<'a>) -> Option<Order<'a>>
     ensures { option_map asked result ≡ named name.now (rows_of (found_of found.now)) }
@@ -113,7 +100,7 @@ fn order_named<'a>(name: &str, found: &ArgMatches<'a>) -> Option<Order<'a>>
         Some(Order::Build { list })
     } else if name == "convert" {
         match first_text(found, "kind") {
-            Some(text) => match kind_of(text) {
+            Some(text) => match Kind::named(text) {
                 Some(kind) => Some(Order::Convert(kind)),
                 None => None,
             },

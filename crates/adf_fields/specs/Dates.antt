@@ -1,8 +1,14 @@
 -- Dates as texts: the civil date and time where there is one, else the three numbers.
-use Rattle.std.specs.Prelude.{◌≡◌, ℕ, pos, ◌+◌, ◌/◌, ◌%◌, ◌&&◌, Bool, nat_lt, List, [], ◌∷◌, ◌++◌, decimal, codes, MatchBool}
+use Rattle.std.specs.Prelude.{◌≡◌, ℕ, pos, ◌+◌, ◌/◌, ◌%◌, ◌<◌, ◌^◌, ◌&&◌, Bool, nat_lt, List, [], ◌∷◌, ◌++◌, decimal, codes, MatchBool}
 use Rattle.jiff.specs.Words.{epoch_day, date_text}
 use Rattle.jiff.specs.Types.{Date}
 use Rattle.adf_fields.specs.declared.dates.Stamp.{Stamp}
+
+-- the three numbers of a date have 32 bits
+pub record IsStamp (s : Stamp) : Type 0 where
+  pub days : s.days < 2 ^ 32
+  pub mins : s.mins < 2 ^ 32
+  pub ticks : s.ticks < 2 ^ 32
 
 -- two digits of a number below 100
 abbrev pub two_digits : ℕ → List ℕ

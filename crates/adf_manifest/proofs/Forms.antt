@@ -4,10 +4,11 @@ use Rattle.std.specs.Fmt.{decimal}
 use Rattle.std.proofs.lemmas.Fmt.{decimal_injective}
 use Rattle.std.proofs.lemmas.Bool.Decides.{nat_tests}
 use Rattle.std.proofs.lemmas.List.{append_cancel_left}
-use Rattle.adf_fields.specs.Dates.{plain_text}
+use Rattle.adf_fields.specs.Dates.{plain_text, IsStamp}
 use Rattle.adf_fields.specs.declared.dates.Stamp.{Stamp}
 use Rattle.adf_tree.specs.declared.entry.Stamps.{Stamps}
-use Rattle.adf_manifest.specs.Tokens.{AreStamps, IsStamp, stamps_text}
+use Rattle.adf_manifest.specs.Tokens.{stamps_text}
+use Rattle.adf_tree.specs.Bounds.{AreStamps}
 use Rattle.adf_manifest.specs.Texts.{hex_word, pair, pairs, unpaired}
 use Rattle.adf_manifest.specs.Lines.{IsLine, IsRun, LineValue, LabelLine, StampsLine, EntryLine, NoteLine, RunLine, DataRun, FillRun, fields_text, fill_line}
 use Rattle.adf_manifest.specs.Lines.{line_text, stamps_line}
@@ -25,9 +26,9 @@ stamp_same s t d m k = of_three (λ d m k. record { days = d; mins = m; ticks = 
 
 pub one_stamp : (s t : Stamp) → IsStamp s → IsStamp t → plain_text s ≡ plain_text t → s ≡ t
 one_stamp s t g h e =
-    let parts = stamp_parts (plain_text s) (decimal s.days) (decimal s.mins) (decimal s.ticks) t (refl, colon_lacks s.days g.0, colon_lacks s.mins g.1) h e in
+    let parts = stamp_parts (plain_text s) (decimal s.days) (decimal s.mins) (decimal s.ticks) t (refl, colon_lacks s.days g.days, colon_lacks s.mins g.mins) h e in
     let same : (a b : ℕ) → a < 2 ^ 32 → b < 2 ^ 32 → decimal a ≡ decimal b → a ≡ b = λ a b x y q. decimal_injective a b (omega arith) (omega arith) q in
-    stamp_same s t (same s.days t.days g.0 h.0 parts.0) (same s.mins t.mins g.1 h.1 parts.1) (same s.ticks t.ticks g.2 h.2 parts.2)
+    stamp_same s t (same s.days t.days g.days h.days parts.0) (same s.mins t.mins g.mins h.mins parts.1) (same s.ticks t.ticks g.ticks h.ticks parts.2)
 
 stamps_same : (s t : Stamps) → s.root ≡ t.root → s.altered ≡ t.altered → s.created ≡ t.created → s ≡ t
 stamps_same s t r a k = of_three (λ r a k. record { root = r; altered = a; created = k }) r a k
@@ -36,8 +37,9 @@ pub one_stamps : (s t : Stamps) → AreStamps s → AreStamps t → stamps_line 
 one_stamps s t g h e =
     let texts = append_cancel_left (codes "stamps ") (stamps_text s) (stamps_text t) e in
     let parts = stamps_parts (stamps_text s) (plain_text s.root) (plain_text s.altered) (plain_text s.created) t
-    (refl, stamp_lacks s.root g.0, stamp_lacks s.altered g.1) h texts in
-    stamps_same s t (one_stamp s.root t.root g.0 h.0 parts.0) (one_stamp s.altered t.altered g.1 h.1 parts.1) (one_stamp s.created t.created g.2 h.2 parts.2)
+    (refl, stamp_lacks s.root g.root, stamp_lacks s.altered g.altered) h texts in
+    stamps_same s t (one_stamp s.root t.root g.root h.root parts.0) (one_stamp s.altered t.altered g.altered h.altered parts.1)
+    (one_stamp s.created t.created g.created h.created parts.2)
 
 same_fields : (sort : Sort) (s t : Stamp) (p q : ℕ) (x y : List ℕ) → s ≡ t → p ≡ q → x ≡ y → EntryLine sort s p x ≡ EntryLine sort t q y
 same_fields sort s t p q x y e f g = cc

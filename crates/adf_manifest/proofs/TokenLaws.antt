@@ -17,10 +17,11 @@ use Rattle.std.proofs.lemmas.List.Elements.{All-append, All-cons, All-from_get_o
 use Rattle.std.proofs.lemmas.List.Splits.{slice_split_at}
 use Rattle.std.proofs.lemmas.Str.{IsUtf8-from_ascii}
 use Rattle.std.proofs.lemmas.Str.Parse.{IsNumeralModel, digit_at, numerals_by_value, parse_plain, tells_digits}
-use Rattle.adf_fields.specs.Dates.{plain_text}
+use Rattle.adf_fields.specs.Dates.{plain_text, IsStamp}
 use Rattle.adf_fields.specs.declared.dates.Stamp.{Stamp}
 use Rattle.adf_tree.specs.declared.entry.Stamps.{Stamps}
-use Rattle.adf_manifest.specs.Tokens.{AreStamps, IsStamp, Lacks, has_number_front, stamps_text}
+use Rattle.adf_manifest.specs.Tokens.{Lacks, has_number_front, stamps_text}
+use Rattle.adf_tree.specs.Bounds.{AreStamps}
 
 pub if_none : {T P : Type 0} (o : Option T) → P → IfNone o P
 if_none None p = p
@@ -73,18 +74,18 @@ space_lacks n h = decimal_lacks 32 n (λ d low high. grind (arith, nat_tests)) h
 pub stamp_lacks : (s : Stamp) → IsStamp s → Lacks 32 (plain_text s)
 stamp_lacks s h =
     let P : ℕ → Type 0 = λ x. (x == 32) ≡ false in
-    All-append P (decimal s.days) _ (space_lacks s.days h.0)
-    (All-cons P 58 _ refl (All-append P (decimal s.mins) _ (space_lacks s.mins h.1) (All-cons P 58 _ refl (space_lacks s.ticks h.2))))
+    All-append P (decimal s.days) _ (space_lacks s.days h.days)
+    (All-cons P 58 _ refl (All-append P (decimal s.mins) _ (space_lacks s.mins h.mins) (All-cons P 58 _ refl (space_lacks s.ticks h.ticks))))
 
 -- the parts of a stamp
 pub stamp_parts : (text x y z : List ℕ) (s : Stamp) → CutTwice 58 text x y z → IsStamp s → text ≡ plain_text s
     → (x ≡ decimal s.days) × (y ≡ decimal s.mins) × (z ≡ decimal s.ticks)
-stamp_parts text x y z s cut h e = one_cut_twice 58 text x y z _ _ _ cut (e, colon_lacks s.days h.0, colon_lacks s.mins h.1)
+stamp_parts text x y z s cut h e = one_cut_twice 58 text x y z _ _ _ cut (e, colon_lacks s.days h.days, colon_lacks s.mins h.mins)
 
 -- the parts of three stamps
 pub stamps_parts : (text x y z : List ℕ) (s : Stamps) → CutTwice 32 text x y z → AreStamps s → text ≡ stamps_text s
     → (x ≡ plain_text s.root) × (y ≡ plain_text s.altered) × (z ≡ plain_text s.created)
-stamps_parts text x y z s cut h e = one_cut_twice 32 text x y z _ _ (plain_text s.created) cut (e, stamp_lacks s.root h.0, stamp_lacks s.altered h.1)
+stamps_parts text x y z s cut h e = one_cut_twice 32 text x y z _ _ (plain_text s.created) cut (e, stamp_lacks s.root h.root, stamp_lacks s.altered h.altered)
 
 own : IsNumeralModel (AllDigits 10) (digits_value 10)
 own = numerals_by_value (AllDigits 10) tells_digits

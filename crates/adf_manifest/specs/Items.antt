@@ -10,7 +10,7 @@ use Rattle.adf_tree.specs.Tree.{Tree, room_for, with_entry}
 use Rattle.adf_tree.specs.declared.entry.Body.{Body}
 use Rattle.adf_tree.specs.declared.entry.Body.TheVariants as body
 use Rattle.adf_tree.specs.declared.entry.Meta.{Meta}
-use Rattle.adf_manifest.specs.Tokens.{IsStamp}
+use Rattle.adf_fields.specs.Dates.{IsStamp}
 use Rattle.adf_manifest.specs.Lines.{IsRun, RunValue, DataRun, FillRun, entry_line, note_line, run_line}
 use Rattle.adf_manifest.specs.declared.lines.Sort.{Sort}
 use Rattle.adf_manifest.specs.declared.lines.Sort.TheVariants.{Dir, File}

@@ -1,12 +1,14 @@
 -- The lines of a manifest and what they tell, each alone.
 use Rattle.std.specs.Prelude.{◌≡◌, ◌<◌, ◌≤◌, ◌^◌, ℕ, List, ◌++◌, codes, length, All}
 use Rattle.std.specs.Fmt.{decimal}
-use Rattle.adf_fields.specs.Dates.{plain_text}
+use Rattle.adf_fields.specs.Dates.{plain_text, IsStamp}
 use Rattle.adf_fields.specs.declared.dates.Stamp.{Stamp}
 use Rattle.adf_tree.specs.declared.entry.Kind.{Kind}
 use Rattle.adf_tree.specs.declared.entry.Stamps.{Stamps}
-use Rattle.adf_manifest.specs.Tokens.{AreStamps, IsStamp, stamps_text}
-use Rattle.adf_manifest.specs.Texts.{hex_word, kind_text, pair, pairs, unpaired}
+use Rattle.adf_manifest.specs.Tokens.{stamps_text}
+use Rattle.adf_tree.specs.Bounds.{AreStamps}
+use Rattle.adf_tree.specs.Kinds.{kind_text}
+use Rattle.adf_manifest.specs.Texts.{hex_word, pair, pairs, unpaired}
 use Rattle.adf_manifest.specs.declared.lines.Sort.{Sort}
 use Rattle.adf_manifest.specs.declared.lines.Sort.TheVariants.{Dir, File}
 use Rattle.adf_manifest.specs.declared.lines.EntryText.{EntryText}

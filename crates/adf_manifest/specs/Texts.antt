@@ -1,14 +1,7 @@
--- The texts of kinds, bytes and words.
-use Rattle.std.specs.Prelude.{◌/◌, ◌%◌, ◌^◌, ◌+◌, ◌-◌, ◌*◌, nat_lt, ℕ, List, [], ◌∷◌, ◌++◌, codes, if◌then◌else◌}
+-- The texts of bytes and words.
+use Rattle.std.specs.Prelude.{◌/◌, ◌%◌, ◌^◌, ◌+◌, ◌-◌, ◌*◌, nat_lt, ℕ, List, [], ◌∷◌, ◌++◌, if◌then◌else◌}
 use Rattle.std.specs.List.{flat_map}
 use Rattle.adf_tree.specs.Escapes.{hex_digit}
-use Rattle.adf_tree.specs.declared.entry.Kind.{Kind}
-use Rattle.adf_tree.specs.declared.entry.Kind.TheVariants.{Ofs, Ffs}
-
--- the word for a kind
-abbrev pub kind_text : Kind → List ℕ
-kind_text Ofs = codes "ofs"
-kind_text Ffs = codes "ffs"
 
 -- the two hexadecimal digits of a byte
 abbrev pub pair : ℕ → List ℕ

@@ -1,8 +1,7 @@
 -- Tokens of a line.
-use Rattle.std.specs.Prelude.{◌≡◌, ◌<◌, ◌^◌, ◌==◌, ◌&&◌, ◌||◌, not, nat_lt, ℕ, Bool, false, List, ◌++◌, codes, length, slice_index}
+use Rattle.std.specs.Prelude.{◌≡◌, ◌==◌, ◌&&◌, ◌||◌, not, nat_lt, ℕ, Bool, false, List, ◌++◌, codes, length, slice_index}
 use Rattle.std.specs.List.{All}
 use Rattle.adf_fields.specs.Dates.{plain_text}
-use Rattle.adf_fields.specs.declared.dates.Stamp.{Stamp}
 use Rattle.adf_tree.specs.declared.entry.Stamps.{Stamps}
 
 -- the byte does not stand in the text
@@ -12,14 +11,6 @@ Lacks byte text = All (λ c. (c == byte) ≡ false) text
 -- the text is not empty and begins with neither `+` nor a leading zero
 abbrev pub has_number_front : List ℕ → Bool
 has_number_front text = nat_lt 0 (length text) && (not (slice_index text 0 == 43) && (not (slice_index text 0 == 48) || (length text == 1)))
-
--- the numbers of a stamp have 32 bits
-abbrev pub IsStamp : Stamp → Type 0
-IsStamp s = (s.days < 2 ^ 32) × (s.mins < 2 ^ 32) × (s.ticks < 2 ^ 32)
-
--- three dates that a manifest can tell
-abbrev pub AreStamps : Stamps → Type 0
-AreStamps s = IsStamp s.root × IsStamp s.altered × IsStamp s.created
 
 -- the root's date, the last change and the creation, joined by spaces
 abbrev pub stamps_text : Stamps → List ℕ

@@ -4,7 +4,8 @@ ghost use Rattle.std.specs.Prelude.{◌≡◌, ◌≢◌, ◌<◌, ◌≤◌, �
 ghost use Rattle.adf_fields.specs.declared.dates.Stamp.{Stamp as StampValue};
 ghost use Rattle.adf_tree.specs.declared.entry.Stamps.{Stamps as StampsValue};
 ghost use Rattle.adf_manifest.specs.declared.lines.Sort.{Sort as SortValue};
-ghost use Rattle.adf_manifest.specs.Tokens.{AreStamps, IsStamp};
+ghost use Rattle.adf_fields.specs.Dates.{IsStamp};
+ghost use Rattle.adf_tree.specs.Bounds.{AreStamps};
 ghost use Rattle.adf_manifest.specs.Texts.{pairs, unpaired};
 ghost use Rattle.adf_manifest.specs.Lines.{DataRun, FillRun, HasDigits, HasForm, IsLine, IsRun, IsRunOfDigits, LineValue, RunValue, data_line, entry_line, fields_text, fill_line, label_line, line_text, line_value, note_line, run_line, run_value, sort_text, stamps_line};
 

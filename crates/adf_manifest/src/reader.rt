@@ -4,7 +4,7 @@ ghost use Rattle.std.specs.Prelude.{◌≡◌, ◌<◌, ◌++◌, ◌∷◌, [],
 ghost use Rattle.std.specs.Option.{unwrap_or};
 ghost use Rattle.adf_tree.specs.PathTexts.{IsPathText};
 ghost use Rattle.adf_tree.specs.Tree.{room_for};
-ghost use Rattle.adf_manifest.specs.Tokens.{AreStamps};
+ghost use Rattle.adf_tree.specs.Bounds.{AreStamps};
 ghost use Rattle.adf_manifest.specs.Lines.{IsLine, IsRun, IsVolumeLine, LabelLine, NoteLine, RunLine, StampsLine, entry_value, label_line, line_text, line_value, run_value, IsRunOfDigits, HasDigits, stamps_line, volume_line};
 ghost use Rattle.adf_manifest.specs.Items.{Item, body_of, run_bytes, with_item};
 ghost use Rattle.adf_manifest.specs.Manifest.{Entries, HasBadText, IsFirstFault, IsHead, IsLaterFault, IsWell, Manifest, head_lines, head_tree, manifest_lines, manifest_tree};

@@ -2,10 +2,11 @@
 
 ghost use Rattle.std.specs.Prelude.{◌≡◌, ◌≢◌, ◌<◌, ◌^◌, ◌++◌, ◌∷◌, ℕ, List, IfSome, IfNone, length};
 ghost use Rattle.std.specs.Fmt.{decimal};
-ghost use Rattle.adf_fields.specs.Dates.{plain_text};
+ghost use Rattle.adf_fields.specs.Dates.{plain_text, IsStamp};
 ghost use Rattle.adf_fields.specs.declared.dates.Stamp.{Stamp as StampValue};
 ghost use Rattle.adf_tree.specs.declared.entry.Stamps.{Stamps as StampsValue};
-ghost use Rattle.adf_manifest.specs.Tokens.{AreStamps, IsStamp, Lacks, has_number_front, stamps_text};
+ghost use Rattle.adf_manifest.specs.Tokens.{Lacks, has_number_front, stamps_text};
+ghost use Rattle.adf_tree.specs.Bounds.{AreStamps};
 
 use adf_fields::Stamp;
 use adf_tree::Stamps;

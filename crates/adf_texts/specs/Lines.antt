@@ -1,7 +1,8 @@
 -- The lines that commands answer with.
 use Rattle.std.specs.Prelude.{ℕ, List, [], ◌∷◌, ◌++◌, codes}
 use Rattle.std.specs.Fmt.{decimal}
-use Rattle.adf_manifest.specs.Texts.{hex_word, kind_text}
+use Rattle.adf_tree.specs.Kinds.{kind_text}
+use Rattle.adf_manifest.specs.Texts.{hex_word}
 use Rattle.adf_manifest.specs.declared.manifest.ManifestFault.{ManifestFault}
 use Rattle.adf_manifest.specs.declared.manifest.ManifestKind.{ManifestKind}
 use Rattle.adf_manifest.specs.declared.manifest.ManifestKind.TheVariants.{BadLine, BadSize, BadText, NoParent, ParentIsFile, Exists, NoMemory, TooLong}

@@ -14,7 +14,8 @@ use Rattle.adf_tree.specs.declared.entry.Entry.{Entry}
 use Rattle.adf_tree.specs.declared.entry.Kind.{Kind}
 use Rattle.adf_tree.specs.declared.entry.Meta.{Meta}
 use Rattle.adf_tree.specs.declared.entry.Stamps.{Stamps}
-use Rattle.adf_manifest.specs.Texts.{hex_word, kind_text}
+use Rattle.adf_tree.specs.Kinds.{kind_text}
+use Rattle.adf_manifest.specs.Texts.{hex_word}
 
 -- each date has its text
 abbrev pub AreDates : (Stamp → List ℕ) → Type 0

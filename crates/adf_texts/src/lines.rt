@@ -1,31 +1,19 @@
 // The lines that commands answer with.
 
 ghost use Rattle.std.specs.Prelude.{◌≡◌, ◌++◌, OnOk, string_bytes};
-ghost use Rattle.adf_manifest.specs.Texts.{kind_text};
 ghost use Rattle.adf_texts.specs.Lines.{fault_line, full_line, manifest_fault_line, manifest_kind_text, ok_line, word_line};
 
 use crate::digits::{push_hex, push_number};
 use adf_check::{Counts, Fault};
 use adf_manifest::{ManifestFault, ManifestKind};
-use adf_tree::Kind;
 use std::alloc::AllocError;
 use std::fmt;
-
-/// `ofs` or `ffs`.
-pub fn kind_text(kind: Kind) -> &'static str
-    ensures { result.now ≡ kind_text kind }
-{
-    match kind {
-        Kind::Ofs => "ofs",
-        Kind::Ffs => "ffs",
-    }
-}
 
 /// Appends the line of `check`.
 pub fn push_counts(text: &mut String, counts: &Counts) -> Result<(), AllocError>
     ensures { OnOk result (string_bytes text.new ≡ string_bytes text.old ++ ok_line counts.now) }
 {
-    let kind = kind_text(counts.kind);
+    let kind = counts.kind.text();
     let blocks = counts.blocks;
     let used = counts.used;
     let free = counts.free;

@@ -8,7 +8,6 @@ ghost use Rattle.adf_texts.specs.VolumeLines.{AreDates, blocks_line, entry_lines
 
 use crate::digits::{push_hex, push_number, push_right};
 use crate::escapes::{push_escaped, push_path};
-use crate::lines::kind_text;
 use adf_check::{Row, RowBody};
 use adf_fields::{Stamp, push_stamp};
 use adf_tree::{Kind, Label, Name, Stamps};
@@ -78,7 +77,7 @@ fn push_blocks_line(text: &mut Vec<u8>, kind: Kind, blocks: u32) -> Result<(), A
     ensures { OnOk result (text.new.items ≡ text.old.items ++ blocks_line kind blocks) }
 {
     text.extend_from_slice(b"volume ")?;
-    text.extend_from_slice(kind_text(kind).as_bytes())?;
+    text.extend_from_slice(kind.text().as_bytes())?;
     text.extend_from_slice(b" blocks ")?;
     push_number(text, blocks, b'\n')
 }

@@ -1,18 +1,19 @@
 -- The bounds of the fields of a tree.
 use Rattle.std.specs.Prelude.{◌≡◌, ◌<◌, ◌≤◌, ◌^◌, length, true}
 use Rattle.std.specs.List.{All}
-use Rattle.adf_fields.specs.declared.dates.Stamp.{Stamp}
+use Rattle.adf_fields.specs.Dates.{IsStamp}
 use Rattle.adf_tree.specs.declared.entry.Body.{Body}
 use Rattle.adf_tree.specs.declared.entry.Body.TheVariants.{Dir, File}
 use Rattle.adf_tree.specs.declared.entry.Entry.{Entry}
+use Rattle.adf_tree.specs.declared.entry.Stamps.{Stamps}
 use Rattle.adf_tree.specs.Texts.{is_name}
 use Rattle.adf_tree.specs.Tree.{Tree}
 
--- the numbers of a date have 32 bits
-pub record IsDate (s : Stamp) : Type 0 where
-  pub days : s.days < 2 ^ 32
-  pub mins : s.mins < 2 ^ 32
-  pub ticks : s.ticks < 2 ^ 32
+-- the three dates of a volume have numbers of 32 bits
+pub record AreStamps (s : Stamps) : Type 0 where
+  pub root : IsStamp s.root
+  pub altered : IsStamp s.altered
+  pub created : IsStamp s.created
 
 -- the bytes of a file are fewer than memory can have
 abbrev pub IsData : Body → Type 0
@@ -24,13 +25,11 @@ pub record IsBoundedEntry (e : Entry) : Type 0 where
   pub name : is_name e.name ≡ true
   pub comment : length e.meta.comment ≤ 79
   pub protect : e.meta.protect < 2 ^ 32
-  pub stamp : IsDate e.meta.stamp
+  pub stamp : IsStamp e.meta.stamp
   pub body : IsData e.body
 
 -- the fields of a tree are within their bounds
 pub record IsBounded (t : Tree) : Type 0 where
   pub label : length t.label ≤ 30
-  pub root : IsDate t.stamps.root
-  pub altered : IsDate t.stamps.altered
-  pub created : IsDate t.stamps.created
+  pub stamps : AreStamps t.stamps
   pub entries : All IsBoundedEntry t.entries

@@ -1,4 +1,5 @@
 pub mod Texts
+pub mod Kinds
 pub mod Tree
 pub mod Bounds
 pub mod Faults

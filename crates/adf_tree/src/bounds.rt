@@ -1,13 +1,14 @@
 // The bounds of the fields of a tree.
 
-ghost use Rattle.adf_tree.specs.Bounds.{IsBoundedEntry, IsData, IsDate};
+ghost use Rattle.adf_fields.specs.Dates.{IsStamp};
+ghost use Rattle.adf_tree.specs.Bounds.{IsBoundedEntry, IsData};
 
 use crate::entry::{Body, Entry};
 use adf_fields::Stamp;
 
 /// A date's numbers have 32 bits.
 pub fn date_bounds(stamp: &Stamp)
-    ensures { IsDate stamp.now }
+    ensures { IsStamp stamp.now }
 {
     let _days = stamp.days;
     let _mins = stamp.mins;

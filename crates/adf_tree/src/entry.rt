@@ -1,6 +1,7 @@
 // Entries of a tree.
 
 ghost use Rattle.std.specs.Prelude.{◌≡◌};
+ghost use Rattle.adf_tree.specs.Kinds.{kind_named, kind_text};
 
 use crate::comment::Comment;
 use crate::name::Name;
@@ -14,6 +15,31 @@ pub enum Kind {
     Ofs,
     /// The fast file system, with 512.
     Ffs,
+}
+
+impl Kind {
+    /// `ofs` or `ffs`.
+    pub fn text(self) -> &'static str
+        ensures { result.now ≡ kind_text self }
+    {
+        match self {
+            Kind::Ofs => "ofs",
+            Kind::Ffs => "ffs",
+        }
+    }
+
+    /// The kind that `ofs` or `ffs` names; none of other texts.
+    pub fn named(text: &str) -> Option<Kind>
+        ensures { result ≡ kind_named text.now }
+    {
+        if text == "ofs" {
+            Some(Kind::Ofs)
+        } else if text == "ffs" {
+            Some(Kind::Ffs)
+        } else {
+            None
+        }
+    }
 }
 
 /// The number of an entry, from 1 on, or 0 for the root.

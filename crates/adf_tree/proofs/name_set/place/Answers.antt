@@ -1,4 +1,4 @@
-use Rattle.std.proofs.Common.{◌≡◌, ◌<◌, ◌^◌, ◌++◌, length, sym, ap, arith}
+use Rattle.std.proofs.Common.{◌<◌, ◌^◌, ◌++◌, length, sym, ap, arith}
 use Rattle.std.specs.Prelude.{not}
 use Rattle.adf_tree.proofs.Seats.{held_by_none, held_by_rest, held_by_some, with_same}
 use Rattle.adf_tree.proofs.name_set.place.Goals as goal

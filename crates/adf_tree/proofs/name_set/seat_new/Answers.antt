@@ -1,4 +1,4 @@
-use Rattle.std.proofs.Common.{arith, ◌∷◌, ◌++◌, [], ◌<◌, ◌≡◌, length, sym, refl, ◌∙◌, cond, false, ◌^◌, Result, Ok, Err}
+use Rattle.std.proofs.Common.{arith, ◌∷◌, ◌++◌, [], ◌≡◌, length, sym, refl, ◌∙◌, cond, false, Result, Ok, Err}
 use Rattle.std.specs.Result.{is_err, is_ok}
 use Rattle.adf_tree.proofs.Seats.{seated_new}
 use Rattle.adf_tree.proofs.name_set.seat_new.Goals as goal
