@@ -18,7 +18,7 @@ use Rattle.adf_check.specs.Volumes.{counts_of}
 use Rattle.adf_check.specs.declared.fault.Fault.{Fault}
 use Rattle.adf_cmd.specs.CommandLine.{Asks, IsRefused, Request, build, cat, check, convert, list}
 use Rattle.adf_cmd.specs.Listing.{listing}
-use Rattle.adf_manifest.specs.Manifest.{ExplainsFault, IsManifest}
+use Rattle.adf_manifest.specs.Manifest.{ExplainsFault, IsManifest, most_bytes}
 use Rattle.adf_cmd.specs.Streams.{AppendsPart, Says}
 use Rattle.adf_texts.specs.Lines.{fault_line, full_line, manifest_fault_line, ok_line}
 use Rattle.adf_texts.specs.VolumeLines.{AreDates, volume_lines}
@@ -128,7 +128,7 @@ abbrev pub limit_of : Option Request → ℕ
 limit_of (Some check) = 512 * MOST_BLOCKS
 limit_of (Some list) = 512 * MOST_BLOCKS
 limit_of (Some (cat path)) = 512 * MOST_BLOCKS
-limit_of (Some (build lines)) = 16777216
+limit_of (Some (build lines)) = most_bytes
 limit_of (Some (convert kind)) = 512 * MOST_BLOCKS
 limit_of None = 0
 
