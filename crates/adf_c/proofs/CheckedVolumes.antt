@@ -8,6 +8,7 @@ use Rattle.adf_volume.specs.declared.owner.Owner.TheVariants.{Free, Boot}
 use Rattle.adf_volume.specs.Fits.{Fits}
 use Rattle.adf_volume.specs.Layout.{Layout, owned}
 use Rattle.adf_volume.specs.Lists.{In}
+use Rattle.adf_volume.proofs.FitWalks.{one_fit}
 use Rattle.adf_check.specs.Volumes.{StandsFor, Volume}
 use Rattle.adf_c.specs.Roles.{IsRole, role_number}
 
@@ -18,8 +19,8 @@ Stands v = (t : Tree) × (l : Layout) × StandsFor v t l
 -- it stands for whatever fits its image
 pub stands_for : (v : Volume) → Stands v → (t : Tree) (l : Layout) → Fits v.image t l → StandsFor v t l
 stands_for v (u, m, k) t l fits =
-    let same = k.only t l fits in
-    subst (λ (n : Layout). StandsFor v t n) (sym same.1) (subst (λ (s : Tree). StandsFor v s m) (sym same.0) k)
+    let same = one_fit v.image u t m l k.fits fits in
+    subst (λ (n : Layout). StandsFor v t n) same.1 (subst (λ (s : Tree). StandsFor v s m) same.0 k)
 
 -- an owner that is told is one
 some_same : (got : Option Owner) (q o : Owner) → got ≡ Some q → got ≡ Some o → q ≡ o

@@ -12,10 +12,8 @@ use Rattle.adf_volume.specs.Demands.{AllHold, FirstFails, boot_demands, root_dem
 use Rattle.adf_volume.specs.Walk.{Role, Has, IsAbsent, IsFreeIn, bitmap_demands, FirstFault}
 use Rattle.adf_volume.specs.Walk.Role.{Page}
 use Rattle.adf_volume.specs.Walk.FirstFault.{at_bitmap}
-use Rattle.adf_volume.specs.Made.{tree_in, layout_in}
 use Rattle.adf_volume.proofs.Images.{page_in}
 use Rattle.adf_volume.proofs.Lists.{all_append, all_split, fails_right}
-use Rattle.adf_volume.proofs.OneTree.{one_tree}
 use Rattle.adf_volume.proofs.WalkFits.{fits}
 use Rattle.adf_volume.proofs.Walks.{one_block, asked_block, page_word}
 use Rattle.adf_volume.proofs.WholeWalks.{all_map_exts}
@@ -119,12 +117,10 @@ map_begins image store st = record { walk = st.walk; read = st.read; low = omega
 pub fits_alone : (image : List ℕ) (store : Store) (b : ℕ) → IsBegun image → b ≡ blocks image → IsMapped image store b → StoreFits image store
 fits_alone image store b begun e st =
     let s = all_split (boot_demands image) (root_demands image (root_of image)) begun in
-    let f = fits image st.walk st.read.is_walk st.read.whole s.0 s.1 (subst (λ n. AllHold (bitmap_demands image st.walk 2 (n - 2))) e st.agrees) in
     record {
       walk = st.walk;
       read = st.read;
-      fits = f;
-      only = (λ t l g. one_tree image st.walk t (tree_in image st.walk) l (layout_in st.walk) st.read.is_walk st.read.whole g f);
+      fits = fits image st.walk st.read.is_walk st.read.whole s.0 s.1 (subst (λ n. AllHold (bitmap_demands image st.walk 2 (n - 2))) e st.agrees);
     }
 
 -- where bit `bit` of word i stands

@@ -84,7 +84,6 @@ module _ (image : List ℕ) (store : Store) (st : StoreFits image store) where
   pub keeps : StoreStandsFor image store (tree_in image st.walk) (layout_in st.walk)
   keeps = record {
     fits = st.fits;
-    only = st.only;
     owners = owners_fit;
     rows = rows_fit;
     starts = starts_fit;

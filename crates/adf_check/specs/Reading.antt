@@ -6,13 +6,11 @@ use Rattle.std.proofs.Common.{zero, suc}
 use Rattle.adf_blocks.specs.declared.layout.TheConstants.{EXTENSION, FIRST_MAP_EXT, FIRST_PAGE, FIRST_SLOT, MAP_EXT_NEXT, MAP_EXT_PAGES, NEXT_IN_CHAIN}
 use Rattle.adf_blocks.specs.declared.layout.TheConstants.{ROOT_PAGES}
 use Rattle.adf_tree.specs.Texts.{uppers}
-use Rattle.adf_tree.specs.Tree.{Tree}
 use Rattle.adf_volume.specs.Lists.{At}
 use Rattle.adf_volume.specs.Image.{word_in, root_of, name_of}
 use Rattle.adf_volume.specs.Demands.{AllHold}
 use Rattle.adf_volume.specs.Walk.{Role, Has, heads, DirAt, FileAt, MemberAt, NamesPage, ext_count, IsWalk, IsWhole, bitmap_demands}
 use Rattle.adf_volume.specs.Walk.Role.{Page, MapExt, Head, Ext, Data}
-use Rattle.adf_volume.specs.Layout.{Layout}
 use Rattle.adf_volume.specs.Fits.{Fits}
 use Rattle.adf_volume.specs.Made.{tree_in, layout_in}
 use Rattle.adf_check.specs.Store.{Store, StoreMatches}
@@ -142,9 +140,8 @@ pub record IsMapped (image : List ℕ) (store : Store) (b : ℕ) : Type 0 where
   pub low : 2 ≤ b
   pub agrees : AllHold (bitmap_demands image walk 2 (b - 2))
 
--- what is kept tells of a whole walk whose tree and layout fit, and no others do
+-- what is kept tells of a whole walk whose tree and layout fit
 pub record StoreFits (image : List ℕ) (store : Store) : Type 0 where
   pub walk : List (Role × ℕ)
   pub read : HasReadAll image store walk
   pub fits : Fits image (tree_in image walk) (layout_in walk)
-  pub only : (t : Tree) (l : Layout) → Fits image t l → (t ≡ tree_in image walk) × (l ≡ layout_in walk)

@@ -32,10 +32,9 @@ pub record StartsFit (l : Layout) (store : Store) : Type 0 where
   pub exts : (n : ℕ) (x : Start) → At store.starts n x → take (length (exts_of l n)) (drop x.exts store.exts) ≡ exts_of l n
   pub datas : (n : ℕ) (x : Start) → At store.starts n x → take (length (datas_of l n)) (drop x.datas store.datas) ≡ datas_of l n
 
--- what is kept tells of this tree and layout, which fit the image, and no others do
+-- what is kept tells of this tree and layout, which fit the image
 pub record StoreStandsFor (image : List ℕ) (store : Store) (t : Tree) (l : Layout) : Type 0 where
   pub fits : Fits image t l
-  pub only : (u : Tree) (m : Layout) → Fits image u m → (u ≡ t) × (m ≡ l)
   pub owners : OwnersFit image l store.owners
   pub rows : RowsFit image t l store.rows
   pub starts : StartsFit l store

@@ -18,7 +18,7 @@ pub record Volume : Type 0 where
   pub image : List ℕ
   pub store : Store
 
--- the volume stands for this tree and layout: they fit its image and no others do, and what was read tells of them
+-- the volume stands for this tree and layout: they fit its image, and what was read tells of them
 abbrev pub StandsFor : Volume → Tree → Layout → Type 0
 StandsFor v t l = StoreStandsFor v.image v.store t l
 

@@ -28,7 +28,7 @@ use std::alloc::Global;
 pub fn check<'a>(alloc: Global, image: &'a [u8]) -> Result<Checked<'a>, Fault>
     ensures image { IfOk result (λ v. v.image ≡ image.now) }
 
-    // One tree and one layout fit the image, and the answer stands for them.
+    // A tree and a layout fit the image, and the answer stands for them: no others fit, by `one_fit` of adf_volume.
     ensures fits { IfOk result (λ v. (t : Tree) × (l : Layout) × StandsFor v t l) }
 
     // A fault is the first one, and nothing fits the image.

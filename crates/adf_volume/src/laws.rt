@@ -57,13 +57,6 @@ pub fn one_fit()
     ensures { (image : List ℕ) (t u : Tree) (l m : Layout) → Fits image t l → Fits image u m → (t ≡ u) × (l ≡ m) }
 {}
 
-/// Two trees that fit an image with a whole walk are one, and so are their layouts.
-#[tactic(auto, using(crate::proofs::OneTree::one_tree))]
-pub fn one_tree()
-    ensures { (image : List ℕ) (w : List (Role × ℕ)) → IsWalk image w → IsWhole image w
-        → (t u : Tree) (l m : Layout) → Fits image t l → Fits image u m → (t ≡ u) × (l ≡ m) }
-{}
-
 /// What a whole walk tells of an image whose boot bytes, root and bitmap are sound, fits it.
 pub fn layout_of_walk_fits()
     ensures { (image : List ℕ) (w : List (Role × ℕ)) → AllHold (boot_demands image) → AllHold (root_demands image (root_of image))

@@ -7,7 +7,7 @@ mod samples;
 
 pub use crate::laws::{
     agreement, chains_of_numbers, completeness, demanded_form, layout_of_walk_fits, none_fits,
-    one_fault, one_fit, one_tree, pieces_are_content, whole_walk,
+    one_fault, one_fit, pieces_are_content, whole_walk,
 };
 pub use crate::owner::Owner;
 pub use crate::samples::{file_volume_fits, freed_page_fits_nothing, tiny_volume_fits};

@@ -1,0 +1,22 @@
+use Rattle.std.proofs.Common.{◌≡◌, ◌++◌, ◌∙◌, ℕ, List, Option, None, Some, [], OnOk}
+use Rattle.adf_tree.specs.declared.entry.Entry.{Entry}
+use Rattle.adf_tree.specs.Paths.{names_of}
+use Rattle.adf_tree.specs.Tree.{entry}
+use Rattle.adf_check.specs.declared.row.Row.{Row}
+use Rattle.adf_check.specs.Rows.{EntryMatches, RowMatches}
+use Rattle.adf_texts.specs.VolumeLines.{entry_lines}
+use Rattle.adf_cmd.proofs.volume_listing.push_entry.Goals as goal
+
+-- what holds of the lines of any entry that matches the row holds of those of the entry that it is of
+of_row : (x : Option Entry) (row : Row) (holds : List ℕ → Type 0) (lines : Entry → List ℕ) → RowMatches (Some row) x
+    → ((e : Entry) → EntryMatches row e → holds (lines e)) → holds (elim x [ None ↦ [] | Some e ↦ lines e ])
+of_row None row holds lines same told = absurd same
+of_row (Some e) row holds lines same told = told e same
+
+pub returns : goal.returns
+returns c = λ date t l dates stands.
+    let named : c.deref.result.now ≡ names_of t.entries c.args.n = c.deref.ensures.value ∙ c.in_ok-path.ensures t l stands in
+    of_row (entry t.entries c.args.n) c.in-Some.row
+    (λ (lines : List ℕ). OnOk c.push_entry_lines.result (c.push_entry_lines.new.text.items ≡ c.args.text.now.items ++ lines))
+    (entry_lines date (names_of t.entries c.args.n)) (c.in-Some.ensures t l stands)
+    (λ e same. rw named at c.push_entry_lines.ensures date e dates same)
