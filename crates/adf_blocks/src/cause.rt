@@ -3,6 +3,9 @@
 ghost use Rattle.std.specs.Prelude.{◌≡◌};
 ghost use Rattle.adf_blocks.specs.Causes.{cause_number, cause_text};
 
+use std::error::Error;
+use std::fmt;
+
 /// What is wrong with an image, or that memory was refused.
 ///
 /// Within one block causes are tried in ascending number.
@@ -95,3 +98,16 @@ impl Cause {
         }
     }
 }
+
+impl fmt::Display for Cause {
+    ghost use Rattle.std.specs.Prelude.{Some};
+    ghost use Rattle.adf_blocks.specs.Causes.{cause_text};
+
+    ghost output = { λ x. Some (cause_text x) };
+
+    fn fmt<W: fmt::Write>(&self, f: &mut fmt::Formatter<W>) -> fmt::Result {
+        f.write_str(self.text())
+    }
+}
+
+impl Error for Cause {}

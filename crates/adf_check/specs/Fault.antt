@@ -1,5 +1,7 @@
 -- Faults.
-use Rattle.std.specs.Prelude.{◌≡◌, ◌≢◌, ℕ, List}
+use Rattle.std.specs.Prelude.{◌≡◌, ◌≢◌, ◌++◌, ℕ, List, codes}
+use Rattle.std.specs.Fmt.{decimal}
+use Rattle.adf_blocks.specs.Causes.{cause_text}
 use Rattle.adf_blocks.specs.declared.cause.Cause.{Cause}
 use Rattle.adf_blocks.specs.declared.cause.Cause.TheVariants.{NoMemory}
 use Rattle.adf_volume.specs.Walk.{FirstFault}
@@ -8,6 +10,10 @@ use Rattle.adf_check.specs.declared.fault.Fault.{Fault}
 -- a fault at a block
 abbrev pub fault : ℕ → Cause → Fault
 fault b c = record { block = b; cause = c }
+
+-- the block and the cause, as a text
+abbrev pub fault_text : Fault → List ℕ
+fault_text f = codes "block " ++ (decimal f.block ++ (codes ": " ++ cause_text f.cause))
 
 -- the fault is the first one of the image, or memory was refused, and then it names block 0
 pub record IsTrueFault (image : List ℕ) (f : Fault) : Type 0 where

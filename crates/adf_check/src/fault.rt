@@ -4,6 +4,8 @@ ghost use Rattle.std.specs.Prelude.{◌≡◌};
 ghost use Rattle.adf_check.specs.Fault.{fault};
 
 use adf_blocks::Cause;
+use std::error::Error;
+use std::fmt;
 
 /// Why an image is refused, and the block where it stands.
 #[derive(Clone, Copy, Debug, PartialEq, Eq)]
@@ -11,6 +13,21 @@ pub struct Fault {
     pub block: u32,
     pub cause: Cause,
 }
+
+impl fmt::Display for Fault {
+    ghost use Rattle.std.specs.Prelude.{Some};
+    ghost use Rattle.adf_check.specs.Fault.{fault_text};
+
+    ghost output = { λ f. Some (fault_text f) };
+
+    fn fmt<W: fmt::Write>(&self, f: &mut fmt::Formatter<W>) -> fmt::Result {
+        let block = self.block;
+        let cause = self.cause;
+        write!(f, "block {block}: {cause}")
+    }
+}
+
+impl Error for Fault {}
 
 // A fault at a block.
 pub fn fault_at(block: u32, cause: Cause) -> Fault

@@ -12,7 +12,21 @@ pub use crate::dates::{Stamp, dates_have_one_text, push_stamp, stamp_text};
 pub use crate::hash::{slot, upper};
 pub use crate::images::{put_block, seal, set_bytes, set_word};
 pub use crate::puts::{put_bytes, put_word, put_words, put_words_down, seal_block};
+use std::error::Error;
+use std::fmt;
 
 /// No memory was to be had.
 #[derive(Clone, Copy, Debug, PartialEq, Eq)]
 pub struct NoMemory;
+
+impl fmt::Display for NoMemory {
+    ghost use Rattle.std.specs.Prelude.{Some, codes};
+
+    ghost output = { λ _. Some (codes "no memory") };
+
+    fn fmt<W: fmt::Write>(&self, f: &mut fmt::Formatter<W>) -> fmt::Result {
+        f.write_str("no memory")
+    }
+}
+
+impl Error for NoMemory {}

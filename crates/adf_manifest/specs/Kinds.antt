@@ -1,5 +1,7 @@
--- The numbers of the kinds of faults.
-use Rattle.std.specs.Prelude.{ℕ}
+-- The numbers and texts of faults.
+use Rattle.std.specs.Prelude.{◌++◌, ℕ, List, codes}
+use Rattle.std.specs.Fmt.{decimal}
+use Rattle.adf_manifest.specs.declared.manifest.ManifestFault.{ManifestFault}
 use Rattle.adf_manifest.specs.declared.manifest.ManifestKind.{ManifestKind}
 use Rattle.adf_manifest.specs.declared.manifest.ManifestKind.TheVariants.{BadLine, BadSize, BadText, NoParent, ParentIsFile, Exists, NoMemory, TooLong}
 
@@ -13,3 +15,18 @@ kind_number ParentIsFile = 5
 kind_number Exists = 6
 kind_number NoMemory = 7
 kind_number TooLong = 8
+
+-- what a kind of fault is called
+abbrev pub manifest_kind_text : ManifestKind → List ℕ
+manifest_kind_text BadLine = codes "bad line"
+manifest_kind_text BadSize = codes "bad size"
+manifest_kind_text BadText = codes "bad text"
+manifest_kind_text NoParent = codes "no parent"
+manifest_kind_text ParentIsFile = codes "parent is file"
+manifest_kind_text Exists = codes "exists"
+manifest_kind_text NoMemory = codes "no memory"
+manifest_kind_text TooLong = codes "too long"
+
+-- the line and the kind, as a text
+abbrev pub manifest_fault_text : ManifestFault → List ℕ
+manifest_fault_text f = codes "line " ++ (decimal f.line ++ (codes ": " ++ manifest_kind_text f.kind))

@@ -1,7 +1,7 @@
 // Manifests.
 
 ghost use Rattle.std.specs.Prelude.{◌≡◌, ◌≤◌, ◌++◌, ◌∷◌, IfOk, IfErr, length, option_map};
-ghost use Rattle.adf_manifest.specs.Kinds.{kind_number};
+ghost use Rattle.adf_manifest.specs.Kinds.{kind_number, manifest_kind_text};
 ghost use Rattle.adf_manifest.specs.Manifest.{AddingLinesGivesTheTree, ExplainsFault, IsManifest, IsWell, LinesHaveOneFault, Manifest, ManifestsAreFaultless, ManifestsAreOfOneTree, manifest_lines, manifest_tree, most_bytes, between_feeds, lines_behind, without_last_feed};
 ghost use Rattle.adf_manifest.specs.Reader.{ExplainsLines, StateMatches, line_of_fault};
 
@@ -9,6 +9,8 @@ use crate::reader::{State, finish, first_state, next_state};
 use crate::tokens::cut_at;
 use adf_tree::Tree;
 use std::alloc::Global;
+use std::error::Error;
+use std::fmt;
 
 /// The most bytes of a manifest.
 pub const MOST_BYTES: usize = 16_777_216;
@@ -41,6 +43,33 @@ impl ManifestKind {
     {
         self as u8
     }
+
+    /// What the kind is called.
+    pub fn text(self) -> &'static str
+        ensures { result.now ≡ manifest_kind_text self }
+    {
+        match self {
+            ManifestKind::BadLine => "bad line",
+            ManifestKind::BadSize => "bad size",
+            ManifestKind::BadText => "bad text",
+            ManifestKind::NoParent => "no parent",
+            ManifestKind::ParentIsFile => "parent is file",
+            ManifestKind::Exists => "exists",
+            ManifestKind::NoMemory => "no memory",
+            ManifestKind::TooLong => "too long",
+        }
+    }
+}
+
+impl fmt::Display for ManifestKind {
+    ghost use Rattle.std.specs.Prelude.{Some};
+    ghost use Rattle.adf_manifest.specs.Kinds.{manifest_kind_text};
+
+    ghost output = { λ k. Some (manifest_kind_text k) };
+
+    fn fmt<W: fmt::Write>(&self, f: &mut fmt::Formatter<W>) -> fmt::Result {
+        f.write_str(self.text())
+    }
 }
 
 /// The first line with a fault, and the first kind there.
@@ -50,6 +79,21 @@ pub struct ManifestFault {
     pub line: usize,
     pub kind: ManifestKind,
 }
+
+impl fmt::Display for ManifestFault {
+    ghost use Rattle.std.specs.Prelude.{Some};
+    ghost use Rattle.adf_manifest.specs.Kinds.{manifest_fault_text};
+
+    ghost output = { λ f. Some (manifest_fault_text f) };
+
+    fn fmt<W: fmt::Write>(&self, f: &mut fmt::Formatter<W>) -> fmt::Result {
+        let line = self.line;
+        let kind = self.kind;
+        write!(f, "line {line}: {kind}")
+    }
+}
+
+impl Error for ManifestFault {}
 
 // The first line of a text, and what stands behind its line feed.
 fn next_line(text: &[u8]) -> (&[u8], Option<&[u8]>)

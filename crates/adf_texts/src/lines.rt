@@ -1,11 +1,11 @@
 // The lines that commands answer with.
 
 ghost use Rattle.std.specs.Prelude.{◌≡◌, ◌++◌, OnOk, string_bytes};
-ghost use Rattle.adf_texts.specs.Lines.{fault_line, full_line, manifest_fault_line, manifest_kind_text, ok_line, word_line};
+ghost use Rattle.adf_texts.specs.Lines.{fault_line, full_line, manifest_fault_line, ok_line, word_line};
 
 use crate::digits::{push_hex, push_number};
 use adf_check::{Counts, Fault};
-use adf_manifest::{ManifestFault, ManifestKind};
+use adf_manifest::ManifestFault;
 use std::alloc::AllocError;
 use std::fmt;
 
@@ -13,7 +13,7 @@ use std::fmt;
 pub fn push_counts(text: &mut String, counts: &Counts) -> Result<(), AllocError>
     ensures { OnOk result (string_bytes text.new ≡ string_bytes text.old ++ ok_line counts.now) }
 {
-    let kind = counts.kind.text();
+    let kind = counts.kind;
     let blocks = counts.blocks;
     let used = counts.used;
     let free = counts.free;
@@ -29,9 +29,7 @@ pub fn push_counts(text: &mut String, counts: &Counts) -> Result<(), AllocError>
 pub fn push_fault(text: &mut String, fault: Fault) -> Result<(), AllocError>
     ensures { OnOk result (string_bytes text.new ≡ string_bytes text.old ++ fault_line fault) }
 {
-    let block = fault.block;
-    let cause = fault.cause.text();
-    write!(text, "block {block}: {cause}\n")
+    write!(text, "{fault}\n")
 }
 
 /// Appends the line of a tree that needs more blocks than there are.
@@ -41,29 +39,11 @@ pub fn push_full(text: &mut String, need: u64, have: u64) -> Result<(), AllocErr
     write!(text, "full: need {need}, have {have}\n")
 }
 
-/// What a kind of fault is called.
-pub fn manifest_kind_text(kind: ManifestKind) -> &'static str
-    ensures { result.now ≡ manifest_kind_text kind }
-{
-    match kind {
-        ManifestKind::BadLine => "bad line",
-        ManifestKind::BadSize => "bad size",
-        ManifestKind::BadText => "bad text",
-        ManifestKind::NoParent => "no parent",
-        ManifestKind::ParentIsFile => "parent is file",
-        ManifestKind::Exists => "exists",
-        ManifestKind::NoMemory => "no memory",
-        ManifestKind::TooLong => "too long",
-    }
-}
-
 /// Appends the line of a manifest's fault.
 pub fn push_manifest_fault(text: &mut String, fault: ManifestFault) -> Result<(), AllocError>
     ensures { OnOk result (string_bytes text.new ≡ string_bytes text.old ++ manifest_fault_line fault) }
 {
-    let number = fault.line;
-    let kind = manifest_kind_text(fault.kind);
-    write!(text, "line {number}: {kind}\n")
+    write!(text, "{fault}\n")
 }
 
 /// Appends the line of a word: the block, the word's number and the word.

@@ -1,5 +1,5 @@
--- The numbers of refusals.
-use Rattle.std.specs.Prelude.{ℕ}
+-- The numbers and texts of refusals.
+use Rattle.std.specs.Prelude.{ℕ, List, codes}
 use Rattle.adf_tree.specs.declared.tree.AddFault.{AddFault}
 use Rattle.adf_tree.specs.declared.tree.AddFault.TheVariants as add
 use Rattle.adf_tree.specs.declared.path_texts.PathFault.{PathFault}
@@ -17,3 +17,16 @@ add_fault_number add.EmptyPath = 5
 abbrev pub path_fault_number : PathFault → ℕ
 path_fault_number path.BadText = 1
 path_fault_number path.NoMemory = 2
+
+-- the text of a reason why an entry is not added
+abbrev pub add_fault_text : AddFault → List ℕ
+add_fault_text add.NoParent = codes "no parent"
+add_fault_text add.ParentIsFile = codes "parent is file"
+add_fault_text add.Exists = codes "exists"
+add_fault_text add.NoMemory = codes "no memory"
+add_fault_text add.EmptyPath = codes "no name"
+
+-- the text of a reason why a text is not read as a path
+abbrev pub path_fault_text : PathFault → List ℕ
+path_fault_text path.BadText = codes "bad path"
+path_fault_text path.NoMemory = codes "no memory"

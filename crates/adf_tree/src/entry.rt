@@ -6,6 +6,7 @@ ghost use Rattle.adf_tree.specs.Kinds.{kind_named, kind_text};
 use crate::comment::Comment;
 use crate::name::Name;
 use adf_fields::Stamp;
+use std::fmt;
 use std::marker::Model;
 
 /// The kind of a volume.
@@ -39,6 +40,17 @@ impl Kind {
         } else {
             None
         }
+    }
+}
+
+impl fmt::Display for Kind {
+    ghost use Rattle.std.specs.Prelude.{Some};
+    ghost use Rattle.adf_tree.specs.Kinds.{kind_text};
+
+    ghost output = { λ x. Some (kind_text x) };
+
+    fn fmt<W: fmt::Write>(&self, f: &mut fmt::Formatter<W>) -> fmt::Result {
+        f.write_str(self.text())
     }
 }
 

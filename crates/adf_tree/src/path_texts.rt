@@ -11,6 +11,8 @@ use crate::escapes::{push_escaped, read_escaped};
 use crate::name::Name;
 use adf_fields::NoMemory;
 use std::alloc::{AllocError, Global};
+use std::error::Error;
+use std::fmt;
 
 /// Why a text is not read as a path.
 #[derive(Clone, Copy, Debug, PartialEq, Eq)]
@@ -29,6 +31,22 @@ impl PathFault {
         self as u8
     }
 }
+
+impl fmt::Display for PathFault {
+    ghost use Rattle.std.specs.Prelude.{Some};
+    ghost use Rattle.adf_tree.specs.Faults.{path_fault_text};
+
+    ghost output = { λ x. Some (path_fault_text x) };
+
+    fn fmt<W: fmt::Write>(&self, f: &mut fmt::Formatter<W>) -> fmt::Result {
+        f.write_str(match self {
+            PathFault::BadText => "bad path",
+            PathFault::NoMemory => "no memory",
+        })
+    }
+}
+
+impl Error for PathFault {}
 
 // The name whose escape form the text is.
 fn read_name(text: &[u8]) -> Option<Name>

@@ -15,6 +15,8 @@ use crate::lookup::{entry, find, room_for};
 use crate::name::Name;
 use adf_fields::NoMemory;
 use std::alloc::Global;
+use std::error::Error;
+use std::fmt;
 use std::marker::Model;
 
 /// A tree of directories and files.
@@ -62,6 +64,25 @@ impl AddFault {
         self as u8
     }
 }
+
+impl fmt::Display for AddFault {
+    ghost use Rattle.std.specs.Prelude.{Some};
+    ghost use Rattle.adf_tree.specs.Faults.{add_fault_text};
+
+    ghost output = { λ x. Some (add_fault_text x) };
+
+    fn fmt<W: fmt::Write>(&self, f: &mut fmt::Formatter<W>) -> fmt::Result {
+        f.write_str(match self {
+            AddFault::NoParent => "no parent",
+            AddFault::ParentIsFile => "parent is file",
+            AddFault::Exists => "exists",
+            AddFault::NoMemory => "no memory",
+            AddFault::EmptyPath => "no name",
+        })
+    }
+}
+
+impl Error for AddFault {}
 
 impl Tree {
     /// A tree with no entry.
