@@ -1,5 +1,6 @@
 -- What building answers.
-use Rattle.std.specs.Prelude.{◌≡◌, ◌≤◌, ◌<◌, ◌+◌, ◌-◌, ◌^◌, ℕ, List, ◌∷◌, true, false, min}
+use Rattle.std.specs.Prelude.{◌≡◌, ◌≤◌, ◌<◌, ◌+◌, ◌-◌, ◌^◌, ◌++◌, ℕ, List, ◌∷◌, true, false, min, codes}
+use Rattle.std.specs.Fmt.{decimal}
 use Rattle.std.proofs.Common.{suc}
 use Rattle.adf_tree.specs.Tree.{Tree}
 use Rattle.adf_tree.specs.declared.entry.Entry.{Entry}
@@ -28,6 +29,16 @@ abbrev pub build_fault_number : BuildFault → ℕ
 build_fault_number BadSize = 1
 build_fault_number (Full need have) = 2
 build_fault_number NoMemory = 3
+
+-- the blocks that a tree needs, and those that there are
+abbrev pub full_text : ℕ → ℕ → List ℕ
+full_text need have = codes "full: need " ++ (decimal need ++ (codes ", have " ++ decimal have))
+
+-- the text of a reason why no image is built
+abbrev pub build_fault_text : BuildFault → List ℕ
+build_fault_text BadSize = codes "bad size"
+build_fault_text (Full need have) = full_text need have
+build_fault_text NoMemory = codes "no memory"
 
 -- why no image is built of the tree in n blocks: the size is not allowed; else it does not fit in, with both numbers; else memory was refused
 abbrev pub IsBuildFault : Tree → ℕ → BuildFault → Type 0

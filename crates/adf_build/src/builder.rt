@@ -13,6 +13,8 @@ use crate::volume::write_volume;
 use adf_fields::BLOCK_LEN;
 use adf_tree::Tree;
 use std::alloc::Global;
+use std::error::Error;
+use std::fmt;
 
 /// Why no image is built.
 #[derive(Clone, Copy, Debug, PartialEq, Eq)]
@@ -37,6 +39,23 @@ impl BuildFault {
         }
     }
 }
+
+impl fmt::Display for BuildFault {
+    ghost use Rattle.std.specs.Prelude.{Some};
+    ghost use Rattle.adf_build.specs.Building.{build_fault_text};
+
+    ghost output = { λ f. Some (build_fault_text f) };
+
+    fn fmt<W: fmt::Write>(&self, f: &mut fmt::Formatter<W>) -> fmt::Result {
+        match *self {
+            BuildFault::BadSize => f.write_str("bad size"),
+            BuildFault::Full { need, have } => write!(f, "full: need {need}, have {have}"),
+            BuildFault::NoMemory => f.write_str("no memory"),
+        }
+    }
+}
+
+impl Error for BuildFault {}
 
 // The fields of a tree fit the fields of blocks.
 #[tactic(auto, using(crate::proofs::WholeVolume::sound_tree))]

@@ -6,6 +6,7 @@ use Rattle.adf_manifest.specs.Kinds.{manifest_fault_text}
 use Rattle.adf_manifest.specs.Texts.{hex_word}
 use Rattle.adf_manifest.specs.declared.manifest.ManifestFault.{ManifestFault}
 use Rattle.adf_check.specs.declared.checked.Counts.{Counts}
+use Rattle.adf_build.specs.Building.{full_text}
 use Rattle.adf_check.specs.Fault.{fault_text}
 use Rattle.adf_check.specs.declared.fault.Fault.{Fault}
 
@@ -21,7 +22,7 @@ fault_line f = fault_text f ++ codes "\n"
 
 -- the line of a tree that needs more blocks than there are
 abbrev pub full_line : ℕ → ℕ → List ℕ
-full_line need have = codes "full: need " ++ (decimal need ++ (codes ", have " ++ (decimal have ++ codes "\n")))
+full_line need have = full_text need have ++ codes "\n"
 
 -- the line of a manifest's fault
 abbrev pub manifest_fault_line : ManifestFault → List ℕ

@@ -4,6 +4,7 @@ ghost use Rattle.std.specs.Prelude.{◌≡◌, ◌++◌, OnOk, string_bytes};
 ghost use Rattle.adf_texts.specs.Lines.{fault_line, full_line, manifest_fault_line, ok_line, word_line};
 
 use crate::digits::{push_hex, push_number};
+use adf_build::BuildFault;
 use adf_check::{Counts, Fault};
 use adf_manifest::ManifestFault;
 use std::alloc::AllocError;
@@ -36,7 +37,8 @@ pub fn push_fault(text: &mut String, fault: Fault) -> Result<(), AllocError>
 pub fn push_full(text: &mut String, need: u64, have: u64) -> Result<(), AllocError>
     ensures { OnOk result (string_bytes text.new ≡ string_bytes text.old ++ full_line need have) }
 {
-    write!(text, "full: need {need}, have {have}\n")
+    let fault = BuildFault::Full { need, have };
+    write!(text, "{fault}\n")
 }
 
 /// Appends the line of a manifest's fault.
