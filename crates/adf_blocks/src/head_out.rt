@@ -37,7 +37,7 @@ pub struct HeadOut<'n, 'm, 't> {
 pub enum HeadOutBody<'t> {
     /// A directory: the first header of each slot's chain, or 0.
     Dir {
-        slots: [u32; 72],
+        slots: [u32; SLOTS as usize],
     },
     /// A file: its size in bytes, its first data blocks, at most 72, and its first extension block or 0.
     File {

@@ -71,7 +71,7 @@ pub fn place_of(b: u32) -> (u32, u32)
 
 // The 512 bytes of a page.
 #[tactic(auto, unfolding(crate::specs::PageBlock::page_block))]
-fn page_bytes(bits: &[u32; 127]) -> [u8; 512]
+fn page_bytes(bits: &[u32; PAGE_WORDS]) -> [u8; 512]
     ensures { result ≡ page_block bits.now }
 {
     let mut block = [0u8; 512];
@@ -82,7 +82,7 @@ fn page_bytes(bits: &[u32; 127]) -> [u8; 512]
 
 /// Writes a bitmap page with these words of bits over all of block `b` of an image.
 #[tactic(auto, using(crate::proofs::PageLaws::written_page_form))]
-pub fn write_page(image: &mut [u8], b: u32, bits: &[u32; 127])
+pub fn write_page(image: &mut [u8], b: u32, bits: &[u32; PAGE_WORDS])
     requires { b * 512 + 512 ≤ length image.old }
     ensures exact { image.new ≡ with_block image.old b (page_block bits.now) }
     ensures form { first_cause (page_form (block image.new b)) ≡ None }
@@ -92,9 +92,9 @@ pub fn write_page(image: &mut [u8], b: u32, bits: &[u32; 127])
 
 /// A page tells the bits that it was written with: the law of its reader and its writer.
 pub fn written_pages_are_read()
-    ensures whole { (bits : List ℕ) → length bits ≡ 127 → length (page_block bits) ≡ 512 }
-    ensures form { (bits : List ℕ) → length bits ≡ 127 → first_cause (page_form (page_block bits)) ≡ None }
-    ensures bits { (bits : List ℕ) (bit : ℕ) → length bits ≡ 127 → bit < PAGE_BITS
+    ensures whole { (bits : List ℕ) → length bits ≡ PAGE_WORDS → length (page_block bits) ≡ 512 }
+    ensures form { (bits : List ℕ) → length bits ≡ PAGE_WORDS → first_cause (page_form (page_block bits)) ≡ None }
+    ensures bits { (bits : List ℕ) (bit : ℕ) → length bits ≡ PAGE_WORDS → bit < PAGE_BITS
         → slice_index bits (bit / 32) < 2 ^ 32
         → IsFreeBit (page_block bits) bit ↔ IsBitSet (slice_index bits (bit / 32)) (bit % 32) }
 {}

@@ -18,7 +18,7 @@ use adf_tree::{Label, Stamps};
 #[derive(Drop)]
 pub struct RootOut<'p, 'l> {
     /// The first header of each slot's chain, or 0.
-    pub slots: [u32; 72],
+    pub slots: [u32; SLOTS as usize],
     /// The bitmap pages, at most 25.
     pub pages: &'p [u32],
     /// The first bitmap extension block, or 0.

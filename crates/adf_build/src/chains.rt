@@ -11,6 +11,7 @@ ghost use Rattle.adf_build.specs.Order.{RisesFrom};
 ghost use Rattle.adf_volume.specs.Layout.{nodes_from};
 
 use crate::nodes::{entry_at, parent_of};
+use adf_blocks::SLOTS;
 use adf_fields::slot;
 use adf_tree::{Entry, Tree};
 
@@ -70,7 +71,13 @@ pub fn children_end(tree: &Tree, p: usize, from: usize) -> usize
 /// The slots of node `p`, whose children stand at the places `from` to `end`: the block of the first header of each
 /// chain, or 0. The first of a chain is written last.
 #[tactic(auto, using(crate::proofs::Order::slots_start))]
-pub fn slots_between(tree: &Tree, nodes: &[u32], p: usize, from: usize, end: usize) -> [u32; 72]
+pub fn slots_between(
+    tree: &Tree,
+    nodes: &[u32],
+    p: usize,
+    from: usize,
+    end: usize,
+) -> [u32; SLOTS as usize]
     requires start { from ≤ end }
     requires within { end ≤ length tree.now.entries }
     requires nodes { length nodes.now ≡ 1 + length tree.now.entries }
@@ -78,7 +85,7 @@ pub fn slots_between(tree: &Tree, nodes: &[u32], p: usize, from: usize, end: usi
     requires past { RisesFrom (72 * (p + 1)) (drop end tree.now.entries) }
     ensures { (s : ℕ) → s < SLOTS → slice_index result s ≡ first_block (slice_index nodes.now) (nodes_from (from + 1) (drop from tree.now.entries) p s) }
 {
-    let mut slots = [0u32; 72];
+    let mut slots = [0u32; SLOTS as usize];
     let mut at = end;
     while at > from {
         at -= 1;

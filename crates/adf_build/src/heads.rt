@@ -13,7 +13,7 @@ use crate::counting::{data_blocks, ext_count};
 use crate::datas::write_datas;
 use crate::exts::write_exts;
 use crate::plan::Plan;
-use adf_blocks::{HeadOut, HeadOutBody, POINTERS, write_head};
+use adf_blocks::{HeadOut, HeadOutBody, POINTERS, SLOTS, write_head};
 use adf_tree::{Body, Entry, Kind};
 
 /// Where the header of an entry is written and what it names: its place among the free blocks, the block of its
@@ -27,7 +27,7 @@ pub struct Spot {
 
 // Writes the header of a directory.
 #[tactic(auto, using(crate::proofs::FreeBlocks::free_fits))]
-fn write_dir(image: &mut [u8], plan: Plan, spot: Spot, slots: [u32; 72], entry: &Entry)
+fn write_dir(image: &mut [u8], plan: Plan, spot: Spot, slots: [u32; SLOTS as usize], entry: &Entry)
     requires body { entry.now.body ≡ TheDir }
     requires whole { length image.old ≡ plan.blocks * 512 }
     requires room { HasFree plan.blocks (spot.k + 1) }
@@ -102,7 +102,7 @@ pub fn write_entry(
     plan: Plan,
     kind: Kind,
     spot: Spot,
-    slots: [u32; 72],
+    slots: [u32; SLOTS as usize],
     entry: &Entry,
 )
     requires whole { length image.old ≡ plan.blocks * 512 }

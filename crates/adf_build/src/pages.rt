@@ -7,7 +7,7 @@ ghost use Rattle.adf_build.specs.Laid.{page_writes};
 ghost use Rattle.adf_build.specs.Writes.{with_blocks};
 
 use crate::plan::Plan;
-use adf_blocks::{PAGE_BITS, write_page};
+use adf_blocks::{PAGE_BITS, PAGE_WORDS, write_page};
 
 // Whether block `b` is the root, a reserved block behind it or one of the first `total` free blocks.
 #[tactic(auto, using(crate::proofs::FreeBlocks::used_low, crate::proofs::FreeBlocks::used_high))]
@@ -75,11 +75,11 @@ fn page_word(plan: Plan, total: u32, q: u32) -> u32
 
 // Words 1 to 127 of page `j`.
 #[tactic(auto, using(crate::proofs::Bits::words_step))]
-fn words_of_page(plan: Plan, total: u32, j: u32) -> [u32; 127]
+fn words_of_page(plan: Plan, total: u32, j: u32) -> [u32; PAGE_WORDS]
     requires { j < 2 ^ 16 }
     ensures { result ≡ page_words plan.blocks total j }
 {
-    let mut words = [0u32; 127];
+    let mut words = [0u32; PAGE_WORDS];
     for w in 0..127usize {
         words[w] = page_word(plan, total, PAGE_BITS * j + 32 * w as u32);
     }

@@ -15,7 +15,7 @@ use crate::entries::write_entries;
 use crate::map_exts::write_map_exts;
 use crate::pages::write_pages;
 use crate::plan::Plan;
-use adf_blocks::{ROOT_PAGES, RootOut, write_root};
+use adf_blocks::{ROOT_PAGES, RootOut, SLOTS, write_root};
 use adf_fields::{put_block, put_bytes};
 use adf_tree::{Kind, Tree};
 
@@ -32,7 +32,7 @@ fn boot_block(kind: Kind) -> [u8; 512]
 }
 
 // Writes the root.
-fn write_the_root(image: &mut [u8], plan: Plan, tree: &Tree, slots: [u32; 72])
+fn write_the_root(image: &mut [u8], plan: Plan, tree: &Tree, slots: [u32; SLOTS as usize])
     requires whole { length image.old ≡ plan.blocks * 512 }
     requires slots { slots ≡ slots_of (node_blocks tree.now plan.blocks) tree.now.entries 0 }
     ensures { image.new ≡ with_block image.old (middle plan.blocks) (root_block (planned_root tree.now plan.blocks)) }
