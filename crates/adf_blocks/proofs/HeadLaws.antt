@@ -26,7 +26,7 @@ use Rattle.adf_blocks.proofs.FieldLaws.{length_sealed_fields, long_number, numbe
 use Rattle.adf_blocks.proofs.FieldLaws.{sum_of_fields, text_of_field, word_of_field}
 
 -- a name has at most 30 bytes
-name_short : (bs : List ℕ) → is_name bs ≡ true → length bs ≤ 30
+pub name_short : (bs : List ℕ) → is_name bs ≡ true → length bs ≤ 30
 name_short bs h = grind (arith, nat_tests)
 
 -- the slots or pointers lie between the other fields

@@ -18,6 +18,7 @@ use Rattle.adf_tree.proofs.ChildLookup.{child_found, child_not_before, child_not
 use Rattle.adf_tree.proofs.Lists.{some_in}
 use Rattle.adf_tree.proofs.PathParts.{one_path}
 use Rattle.adf_tree.proofs.WalkOrder.{place_is}
+use Rattle.adf_blocks.proofs.HeadLaws.{name_short}
 use Rattle.adf_volume.proofs.Lists.{at_index_or, at_some}
 use Rattle.adf_tree.specs.PathTexts.{IsPathText}
 use Rattle.adf_volume.specs.Fits.{Fits}
@@ -111,10 +112,6 @@ module _ {xs : List TableEntry} {es : List Entry} (has : HasNamesOf xs es) where
       let here : get_or es i e.0 ≡ e.0 = at_index_or es i e.0 e.0 e.1 in
       child_found es p name i e.0 short (sym here)
       (ap (is_child p name) (sym here) ∙ sym (same_child i x e.0 p name short) ∙ sym told ∙ same) others
-
--- a name has at most 30 bytes
-name_short : (bs : List ℕ) → is_name bs ≡ true → length bs ≤ 30
-name_short bs h = grind (arith, nat_tests)
 
 -- the name of an entry that fits is short
 short_name : (image : List ℕ) (t : Tree) (l : Layout) (i : ℕ) (e : Entry) → Fits image t l → At t.entries i e → length e.name ≤ 30

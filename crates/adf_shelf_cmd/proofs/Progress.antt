@@ -101,11 +101,6 @@ report_known (Some bytes) left true n s text e fails (inr (inl h)) = inr (inl (r
 report_known (Some bytes) left false n s text e fails (inr (inl h)) = let no = fails refl in absurd (cc)
 report_known (Some bytes) left m n s text e fails (inr (inr h)) = inr (inr h)
 
--- what fails is what may fail
-pub failed_may : (m n : Bool) → n ≡ true → (m ≡ false → n ≡ false) → m ≡ true
-failed_may true n e h = refl
-failed_may false n e h = let no = h refl in cc
-
 -- the greater of two statuses
 pub max_status : (s t u : ℕ) → u ≡ max s t → IsRunStatus s → IsRunStatus t → IsRunStatus u
 max_status s t u e h i = (omega (arith, e, h.0, i.0), λ two. omega (arith, e, h.1, i.1, two))
