@@ -16,6 +16,7 @@ use std::alloc::Global;
 /// Checks an image, and fills the tables of its entries and of the data blocks of its files, each as far as there is room: 0
 /// where it is accepted, else the number of the cause, of which 23 is want of memory.
 #[unsafe(no_mangle)]
+#[tactic(auto, using(crate::proofs::CheckedVolumes::stands_for))]
 pub extern "C" fn adf_index(
     alloc: Global,
     image: &[u8],

@@ -73,6 +73,7 @@ fn refused(block: u32) -> Verdict
 /// Checks an image: 0 where it is accepted, else the number of the cause, of which 23 is want of memory; then nothing is
 /// said of the image.
 #[unsafe(no_mangle)]
+#[tactic(auto, using(crate::proofs::CheckedVolumes::stands_for))]
 pub extern "C" fn adf_check(alloc: Global, image: &[u8], verdict: &mut Verdict) -> u8
     ensures number { result ≤ 23 }
 
