@@ -1,7 +1,7 @@
 // The bitmap against the owners.
 
 ghost use Rattle.adf_check.specs.Fault.{IsTrueFault};
-ghost use Rattle.std.specs.Prelude.{◌≡◌, ◌<◌, ◌+◌, ◌*◌, ◌↔◌, IsBitSet, IsTrue, length, min, OnOk, IfErr};
+ghost use Rattle.std.specs.Prelude.{◌≡◌, ◌<◌, ◌≤◌, ◌+◌, ◌*◌, ◌↔◌, IsBitSet, IsTrue, length, min, OnOk, IfErr};
 ghost use Rattle.adf_blocks.specs.Sizes.{blocks, pages_needed};
 ghost use Rattle.adf_volume.specs.declared.owner.Owner.TheVariants.{Free};
 ghost use Rattle.adf_check.specs.Reading.{IsMapped, IsRead, StoreFits};
@@ -13,8 +13,10 @@ ghost use Rattle.adf_check.specs.Pages.{AreListed, IsBitFault};
 use crate::fault::{Fault, fault_at};
 use crate::found::Found;
 use crate::image::Image;
+use crate::looks::Looks;
 use crate::owner_table::OwnerTable;
-use adf_blocks::{Cause, PAGE_WORDS};
+use adf_blocks::{Cause, PAGE_WORDS, Page};
+use std::sync::ledger::Ledger;
 
 // Whether a bit of a word is set.
 fn is_set(word: u32, bit: u32) -> bool
@@ -44,16 +46,24 @@ fn check_block(owners: &OwnerTable, b: u32, is_free: bool) -> Result<(), Fault>
 }
 
 // Compares word `i` of the bitmap with the owners of its blocks.
-fn check_word(image: &Image<'_>, found: &Found, pages: &[u32], i: u32) -> Result<(), Fault>
+fn check_word<L: Ledger>(
+    image: &Image<'_>,
+    found: &Found,
+    looks: &mut Looks<L>,
+    pages: &[u32],
+    i: u32,
+) -> Result<(), Fault>
+    requires paid { 0 < looks.old }
     requires begun { IsBegun image.now }
     requires inside { 2 + 32 * i < blocks image.now }
     requires pages { AreListed image.now pages.now (pages_needed (blocks image.now)) }
     requires state { IsMapped image.now (store_of found.now) (2 + 32 * i) }
+    ensures looks { looks.old ≡ looks.new + 1 }
     ensures state { OnOk result (IsMapped image.now (store_of found.now) (min (2 + 32 * (i + 1)) (blocks image.now))) }
     ensures fault { IfErr result (λ f. IsTrueFault image.now f) }
 {
     let blocks = image.blocks();
-    let page = image.page(pages[i as usize / PAGE_WORDS]);
+    let page = Page::over(image.look(pages[i as usize / PAGE_WORDS], looks));
     let word = page.word(i as usize % PAGE_WORDS);
     let first = 2 + 32 * i;
     let len = (blocks - first).min(32);
@@ -67,7 +77,13 @@ fn check_word(image: &Image<'_>, found: &Found, pages: &[u32], i: u32) -> Result
 }
 
 /// Compares the bitmap with the owners by ascending block.
-pub fn check_bitmap(image: &Image<'_>, found: &Found, pages: &[u32]) -> Result<(), Fault>
+pub fn check_bitmap<L: Ledger>(
+    image: &Image<'_>,
+    found: &Found,
+    looks: &mut Looks<L>,
+    pages: &[u32],
+) -> Result<(), Fault>
+    requires paid { blocks image.now ≤ looks.old }
     requires pages { AreListed image.now pages.now (pages_needed (blocks image.now)) }
     requires state { IsRead image.now (store_of found.now) }
     ensures fits { OnOk result (StoreFits image.now (store_of found.now)) }
@@ -75,7 +91,7 @@ pub fn check_bitmap(image: &Image<'_>, found: &Found, pages: &[u32]) -> Result<(
 {
     let words = (image.blocks() - 2).div_ceil(32);
     for i in 0..words {
-        check_word(image, found, pages, i)?;
+        check_word(image, found, looks, pages, i)?;
     }
     Ok(())
 }

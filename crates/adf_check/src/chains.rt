@@ -4,17 +4,21 @@ ghost use Rattle.adf_blocks.specs.declared.layout.TheConstants.{SLOTS};
 ghost use Rattle.adf_check.specs.Fault.{IsTrueFault};
 ghost use Rattle.std.specs.Prelude.{◌≡◌, ◌≢◌, ◌<◌, ◌+◌, ◌^◌, OnOk, IfOk, IfErr};
 ghost use Rattle.adf_blocks.specs.Sizes.{blocks};
+ghost use Rattle.adf_blocks.specs.declared.layout.TheConstants.{FIRST_SLOT};
+ghost use Rattle.adf_volume.specs.Image.{word_in};
 ghost use Rattle.adf_check.specs.Reading.{IsAtNode, IsAtSlot, IsInChain};
-ghost use Rattle.adf_check.specs.Found.{IsFurther, left, sees_of, store_of};
+ghost use Rattle.adf_check.specs.Found.{IsFurther, IsPaid, left, sees_of, store_of};
 
 use crate::claims::claim_named;
 use crate::fault::{Fault, fault_at, no_memory};
 use crate::found::Found;
 use crate::image::Image;
 use crate::kept::KeptHeader;
-use adf_blocks::{Cause, SLOTS, read_head};
+use crate::looks::Looks;
+use adf_blocks::{Cause, Directory, SLOTS, read_head};
 use adf_tree::{NameSet, Node};
 use adf_volume::Owner;
+use std::sync::ledger::Ledger;
 
 /// The chain of a slot of a directory, whose block is `up`.
 #[derive(Drop)]
@@ -36,9 +40,10 @@ fn kept_row(parent: Node, head: u32) -> KeptHeader
 }
 
 // Claims and reads the header at block `b`, which a word of block `holder` names: the next one of its chain, or 0.
-fn read_header(
+fn read_header<L: Ledger>(
     image: &Image<'_>,
     found: &mut Found,
+    looks: &mut Looks<L>,
     seen: &mut NameSet,
     chain: &Chain,
     holder: u32,
@@ -47,7 +52,9 @@ fn read_header(
     requires slot { chain.now.slot < SLOTS }
     requires some { b ≢ 0 }
     requires state { IsInChain image.now (store_of found.old) chain.now.parent chain.now.up chain.now.slot holder b (sees_of seen.old) }
+    requires paid { IsPaid found.old looks.old 0 }
     ensures state { IfOk result (λ next. IsInChain image.now (store_of found.new) chain.now.parent chain.now.up chain.now.slot b next (sees_of seen.new)) }
+    ensures paid { OnOk result (IsPaid found.new looks.new 0) }
     ensures fewer { OnOk result (IsFurther found.old found.new) }
     ensures less { OnOk result (left found.new < left found.old) }
     ensures inside { OnOk result (b < blocks image.now) }
@@ -56,7 +63,7 @@ fn read_header(
     let kind = image.kind();
     let owner = Owner::Head(Node(found.rows.len() + 1));
     claim_named(&mut found.owners, holder, b, owner)?;
-    let head = match read_head(image.block(b), kind, b, chain.up, chain.slot) {
+    let head = match read_head(image.look(b, looks), kind, b, chain.up, chain.slot) {
         Ok(head) => head,
         Err(cause) => return Err(fault_at(b, cause)),
     };
@@ -72,24 +79,29 @@ fn read_header(
 }
 
 // Reads a chain to its end.
-fn read_chain(
+fn read_chain<L: Ledger>(
     image: &Image<'_>,
     found: &mut Found,
+    looks: &mut Looks<L>,
     seen: &mut NameSet,
     chain: &Chain,
+    first: u32,
 ) -> Result<(), Fault>
     requires slot { chain.now.slot < SLOTS }
     requires inside { chain.now.up < blocks image.now }
     requires state { IsAtSlot image.now (store_of found.old) chain.now.parent chain.now.up chain.now.slot }
+    requires named { first ≡ word_in image.now chain.now.up (FIRST_SLOT + chain.now.slot) }
+    requires paid { IsPaid found.old looks.old 0 }
     ensures state { OnOk result (IsAtSlot image.now (store_of found.new) chain.now.parent chain.now.up (chain.now.slot + 1)) }
+    ensures paid { OnOk result (IsPaid found.new looks.new 0) }
     ensures fewer { OnOk result (IsFurther found.old found.new) }
     ensures fault { IfErr result (λ f. IsTrueFault image.now f) }
 {
     seen.clear();
     let mut holder = chain.up;
-    let mut b = image.directory(holder).slot(chain.slot);
+    let mut b = first;
     while b != 0 {
-        let next = read_header(image, found, seen, chain, holder, b)?;
+        let next = read_header(image, found, looks, seen, chain, holder, b)?;
         holder = b;
         b = next;
     }
@@ -97,25 +109,36 @@ fn read_chain(
 }
 
 /// Reads the slots of a directory, whose block is `up`.
-pub fn read_directory(
+pub fn read_directory<L: Ledger>(
     image: &Image<'_>,
     found: &mut Found,
+    looks: &mut Looks<L>,
     seen: &mut NameSet,
     parent: Node,
     up: u32,
 ) -> Result<(), Fault>
     requires inside { up < blocks image.now }
     requires state { IsAtSlot image.now (store_of found.old) parent up 0 }
+    requires paid { IsPaid found.old looks.old 1 }
     ensures state { OnOk result (IsAtNode image.now (store_of found.new) (parent + 1)) }
+    ensures paid { OnOk result (IsPaid found.new looks.new 0) }
     ensures fewer { OnOk result (IsFurther found.old found.new) }
     ensures fault { IfErr result (λ f. IsTrueFault image.now f) }
 {
-    let directory = image.directory(up);
+    let directory = Directory::over(image.look(up, looks));
     for slot in 0..SLOTS as u8 {
-        if directory.slot(slot) == 0 {
+        let first = directory.slot(slot);
+        if first == 0 {
             continue;
         }
-        read_chain(image, found, seen, &Chain { parent, up, slot })?;
+        read_chain(
+            image,
+            found,
+            looks,
+            seen,
+            &Chain { parent, up, slot },
+            first,
+        )?;
     }
     Ok(())
 }

@@ -1,7 +1,8 @@
 // The whole check.
 
 ghost use Rattle.adf_check.specs.Fault.{IsTrueFault};
-ghost use Rattle.std.specs.Prelude.{◌≡◌, ◌≢◌, IfOk, IfErr};
+ghost use Rattle.std.specs.Prelude.{◌≡◌, ◌≢◌, ◌≤◌, ◌*◌, IfOk, IfErr};
+ghost use Rattle.adf_blocks.specs.Sizes.{blocks};
 ghost use Rattle.adf_tree.specs.Tree.{Tree};
 ghost use Rattle.adf_volume.specs.Fits.{Fits};
 ghost use Rattle.adf_volume.specs.Layout.{Layout};
@@ -13,11 +14,15 @@ use crate::bitmap::check_bitmap;
 use crate::checked::Checked;
 use crate::fault::{Fault, no_memory};
 use crate::found::Found;
+use crate::looks::Looks;
 use crate::nodes::read_nodes;
 use crate::pages::read_pages;
 use crate::start::open;
 use adf_blocks::Cause;
+use adf_fields::BLOCK_LEN;
 use std::alloc::Global;
+use std::marker::Brand;
+use std::sync::ledger::{Blank, Ledger};
 
 /// Checks an image: the volume that it is the image of, or the first fault and the block where it stands.
 ///
@@ -39,11 +44,35 @@ pub fn check<'a>(alloc: Global, image: &'a [u8]) -> Result<Checked<'a>, Fault>
     ensures memory { IfErr result (λ f. f.cause ≡ Cause.NoMemory → f.block ≡ 0) }
     ensures begun { IfErr result (λ f. f.cause ≡ Cause.NoMemory → IsBegun image.now) }
 {
-    check_all(alloc, image)
+    check_all::<Brand>(alloc, image, Blank::new(2))
 }
 
-// Checks an image part by part.
-fn check_all<'a>(alloc: Global, image: &'a [u8]) -> Result<Checked<'a>, Fault>
+// Checks an image, with six looks for each of its blocks.
+fn check_all<'a, L: Ledger>(
+    alloc: Global,
+    image: &'a [u8],
+    blank: Blank,
+) -> Result<Checked<'a>, Fault>
+    requires name { blank.name ≡ L.name }
+    requires parts { blank.parts ≡ L.parts }
+    requires two { 2 ≤ blank.parts }
+    ensures image { IfOk result (λ v. v.image ≡ image.now) }
+    ensures fits { IfOk result (λ v. (t : Tree) × (l : Layout) × StandsFor v t l) }
+    ensures fault { IfErr result (λ f. IsTrueFault image.now f) }
+    ensures begun { IfErr result (λ f. f.cause ≡ Cause.NoMemory → IsBegun image.now) }
+{
+    let mut looks: Looks<L> = Looks::new(blank, 6 * (image.len() / BLOCK_LEN) as u64);
+    check_within(alloc, image, &mut looks)
+}
+
+/// Checks an image part by part, as `check` does, where each look at a block but block 0 and the root takes one of the looks
+/// that are given: six for each block of the image are enough, whatever it holds.
+pub fn check_within<'a, L: Ledger>(
+    alloc: Global,
+    image: &'a [u8],
+    looks: &mut Looks<L>,
+) -> Result<Checked<'a>, Fault>
+    requires enough { 6 * blocks image.now ≤ looks.old }
     ensures image { IfOk result (λ v. v.image ≡ image.now) }
     ensures fits { IfOk result (λ v. (t : Tree) × (l : Layout) × StandsFor v t l) }
     ensures fault { IfErr result (λ f. IsTrueFault image.now f) }
@@ -53,9 +82,9 @@ fn check_all<'a>(alloc: Global, image: &'a [u8]) -> Result<Checked<'a>, Fault>
     let Ok(mut found) = Found::begin(alloc, &opened.image) else {
         return Err(no_memory());
     };
-    let pages = read_pages(alloc, &opened.image, &opened.root, &mut found)?;
-    read_nodes(alloc, &opened.image, &mut found)?;
-    check_bitmap(&opened.image, &found, &pages)?;
+    let pages = read_pages(alloc, &opened.image, &opened.root, &mut found, looks)?;
+    read_nodes(alloc, &opened.image, &mut found, looks)?;
+    check_bitmap(&opened.image, &found, looks, &pages)?;
     Ok(Checked::new(
         opened.image,
         found,

@@ -8,7 +8,7 @@ ghost use Rattle.adf_volume.specs.Demands.{AllHold, FirstFails, data_demands};
 ghost use Rattle.adf_volume.specs.Image.{held, kind_of, table_word, word_in};
 ghost use Rattle.adf_volume.specs.Walk.{data_count};
 ghost use Rattle.adf_check.specs.Reading.{IsAtNode, IsInDatas};
-ghost use Rattle.adf_check.specs.Found.{IsFurther, store_of};
+ghost use Rattle.adf_check.specs.Found.{IsFurther, IsPaid, store_of};
 ghost use Rattle.adf_check.specs.Datas.{next_of};
 ghost use Rattle.adf_check.specs.Image.{IsBegun};
 
@@ -16,9 +16,11 @@ use crate::claims::claim_named;
 use crate::fault::{Fault, fault_at, no_memory};
 use crate::found::Found;
 use crate::image::Image;
-use adf_blocks::{Cause, POINTERS, chunk_len, data_count, read_data};
+use crate::looks::Looks;
+use adf_blocks::{Cause, POINTERS, Table, chunk_len, data_count, read_data};
 use adf_tree::{Kind, Node};
 use adf_volume::Owner;
+use std::sync::ledger::Ledger;
 
 /// A file whose data blocks are read: its node, the block of its header, its size in bytes, and the count of its data blocks.
 #[derive(Drop)]
@@ -49,24 +51,32 @@ pub(crate) fn held_in(kind: Kind, size: u32, number: u32) -> u32
 }
 
 // The block that the table names for data block `k + 1`.
-fn pointer(image: &Image<'_>, table: &[u32], k: u32) -> u32
+fn pointer<L: Ledger>(image: &Image<'_>, looks: &mut Looks<L>, table: &[u32], k: u32) -> u32
+    requires paid { 0 < looks.old }
     requires inside { k < POINTERS * length table.now }
     requires blocks { (i : ℕ) → i < length table.now → slice_index table.now i < blocks image.now }
-    ensures { result ≡ word_in image.now (slice_index table.now (k / POINTERS)) (table_word k) }
+    ensures exact { result ≡ word_in image.now (slice_index table.now (k / POINTERS)) (table_word k) }
+    ensures looks { looks.old ≡ looks.new + 1 }
 {
-    image
-        .table(table[k as usize / POINTERS])
-        .pointer(k as usize % POINTERS)
+    Table::over(image.look(table[k as usize / POINTERS], looks)).pointer(k as usize % POINTERS)
 }
 
 // The block that the table names for data block `k + 1`, or 0 past the last.
-fn next_pointer(image: &Image<'_>, table: &[u32], count: u32, k: u32) -> u32
+fn next_pointer<L: Ledger>(
+    image: &Image<'_>,
+    looks: &mut Looks<L>,
+    table: &[u32],
+    count: u32,
+    k: u32,
+) -> u32
+    requires paid { 0 < looks.old }
     requires enough { count ≤ POINTERS * length table.now }
     requires blocks { (i : ℕ) → i < length table.now → slice_index table.now i < blocks image.now }
-    ensures { result ≡ next_of image.now table.now count k }
+    ensures exact { result ≡ next_of image.now table.now count k }
+    ensures looks { looks.old ≤ looks.new + 1 }
 {
     if k < count {
-        pointer(image, table, k)
+        pointer(image, looks, table, k)
     } else {
         0
     }
@@ -74,20 +84,29 @@ fn next_pointer(image: &Image<'_>, table: &[u32], count: u32, k: u32) -> u32
 
 // What is wrong with block `b` as data block `k + 1` of the file: nothing is asked of one of FFS.
 #[tactic(auto, unfolding(adf_blocks::specs::Sizes::chunk))]
-fn check_data(image: &Image<'_>, table: &[u32], file: &File, b: u32, k: u32) -> Result<(), Cause>
+fn check_data<L: Ledger>(
+    image: &Image<'_>,
+    looks: &mut Looks<L>,
+    table: &[u32],
+    file: &File,
+    b: u32,
+    k: u32,
+) -> Result<(), Cause>
+    requires paid { 2 ≤ looks.old }
     requires inside { b < blocks image.now }
     requires count { k < file.now.count }
     requires enough { file.now.count ≤ POINTERS * length table.now }
     requires blocks { (i : ℕ) → i < length table.now → slice_index table.now i < blocks image.now }
+    ensures looks { looks.old ≤ looks.new + 2 }
     ensures ok { OnOk result (AllHold (data_demands image.now (kind_of image.now) b file.now.head (k + 1) (held (kind_of image.now) file.now.size (k + 1)) (next_of image.now table.now file.now.count (k + 1)))) }
     ensures fault { IfErr result (λ c. FirstFails (data_demands image.now (kind_of image.now) b file.now.head (k + 1) (held (kind_of image.now) file.now.size (k + 1)) (next_of image.now table.now file.now.count (k + 1))) b c) }
 {
     match image.kind() {
         Kind::Ffs => Ok(()),
         Kind::Ofs => {
-            let next = next_pointer(image, table, file.count, k + 1);
+            let next = next_pointer(image, looks, table, file.count, k + 1);
             let held = held_in(Kind::Ofs, file.size, k + 1);
-            match read_data(image.block(b), file.head, k + 1, held, next) {
+            match read_data(image.look(b, looks), file.head, k + 1, held, next) {
                 Ok(_) => Ok(()),
                 Err(cause) => Err(cause),
             }
@@ -97,9 +116,10 @@ fn check_data(image: &Image<'_>, table: &[u32], file: &File, b: u32, k: u32) -> 
 
 // Claims and checks block `b` as data block `k + 1` of a file, as block `holder` of its table names it. The table has the header and
 // the extension blocks.
-fn read_data_block(
+fn read_data_block<L: Ledger>(
     image: &Image<'_>,
     found: &mut Found,
+    looks: &mut Looks<L>,
     table: &[u32],
     file: &File,
     holder: u32,
@@ -114,12 +134,14 @@ fn read_data_block(
     requires holder { holder ≡ slice_index table.now (k / POINTERS) }
     requires named { b ≡ word_in image.now (slice_index table.now (k / POINTERS)) (table_word k) }
     requires state { IsInDatas image.now (store_of found.old) file.now.node file.now.head table.now k }
+    requires paid { IsPaid found.old looks.old 0 }
     ensures state { OnOk result (IsInDatas image.now (store_of found.new) file.now.node file.now.head table.now (k + 1)) }
+    ensures paid { OnOk result (IsPaid found.new looks.new 1) }
     ensures fewer { OnOk result (IsFurther found.old found.new) }
     ensures fault { IfErr result (λ f. IsTrueFault image.now f) }
 {
     claim_named(&mut found.owners, holder, b, Owner::Data(file.node, k + 1))?;
-    if let Err(cause) = check_data(image, table, file, b, k) {
+    if let Err(cause) = check_data(image, looks, table, file, b, k) {
         return Err(fault_at(b, cause));
     }
     match found.datas.push(b) {
@@ -129,9 +151,10 @@ fn read_data_block(
 }
 
 // Reads the data blocks that block `m` of the table names.
-fn read_named(
+fn read_named<L: Ledger>(
     image: &Image<'_>,
     found: &mut Found,
+    looks: &mut Looks<L>,
     table: &[u32],
     file: &File,
     m: u32,
@@ -142,27 +165,30 @@ fn read_named(
     requires enough { file.now.count ≤ POINTERS * length table.now }
     requires inside { POINTERS * m < file.now.count }
     requires state { IsInDatas image.now (store_of found.old) file.now.node file.now.head table.now (POINTERS * m) }
+    requires paid { IsPaid found.old looks.old 1 }
     ensures state { OnOk result (IsInDatas image.now (store_of found.new) file.now.node file.now.head table.now (min (POINTERS * (m + 1)) file.now.count)) }
+    ensures paid { OnOk result (IsPaid found.new looks.new 1) }
     ensures fewer { OnOk result (IsFurther found.old found.new) }
     ensures fault { IfErr result (λ f. IsTrueFault image.now f) }
 {
     let count = file.count;
     let holder = table[m as usize];
-    let names = image.table(holder);
+    let names = Table::over(image.look(holder, looks));
     let first = POINTERS as u32 * m;
     let len = (count - first).min(POINTERS as u32);
     for k in first..first + len {
         let b = names.pointer((k - first) as usize);
-        read_data_block(image, found, table, file, holder, b, k)?;
+        read_data_block(image, found, looks, table, file, holder, b, k)?;
     }
     Ok(())
 }
 
 /// Reads the data blocks of the file `node` of so many bytes, with its header at block `head`. The table has the header and the
 /// extension blocks.
-pub fn read_datas(
+pub fn read_datas<L: Ledger>(
     image: &Image<'_>,
     found: &mut Found,
+    looks: &mut Looks<L>,
     table: &[u32],
     node: Node,
     head: u32,
@@ -171,7 +197,9 @@ pub fn read_datas(
     requires begun { IsBegun image.now }
     requires size { size ≡ word_in image.now head SIZE }
     requires state { IsInDatas image.now (store_of found.old) node head table.now 0 }
+    requires paid { IsPaid found.old looks.old 1 }
     ensures state { OnOk result (IsAtNode image.now (store_of found.new) (node + 1)) }
+    ensures paid { OnOk result (IsPaid found.new looks.new 1) }
     ensures fewer { OnOk result (IsFurther found.old found.new) }
     ensures fault { IfErr result (λ f. IsTrueFault image.now f) }
 {
@@ -187,7 +215,7 @@ pub fn read_datas(
         count,
     };
     for m in 0..tables {
-        read_named(image, found, table, &file, m)?;
+        read_named(image, found, looks, table, &file, m)?;
     }
     Ok(())
 }

@@ -4,22 +4,25 @@ ghost use Rattle.adf_check.specs.Fault.{IsTrueFault};
 ghost use Rattle.std.specs.Prelude.{◌≢◌, ◌<◌, OnOk, IfOk, IfErr};
 ghost use Rattle.adf_blocks.specs.Sizes.{blocks};
 ghost use Rattle.adf_check.specs.Reading.{IsInDatas, IsInExts};
-ghost use Rattle.adf_check.specs.Found.{IsFurther, left, store_of};
+ghost use Rattle.adf_check.specs.Found.{IsFurther, IsPaid, left, store_of};
 ghost use Rattle.adf_check.specs.Image.{IsBegun};
 
 use crate::claims::claim_named;
 use crate::fault::{Fault, fault_at, no_memory};
 use crate::found::Found;
 use crate::image::Image;
+use crate::looks::Looks;
 use adf_blocks::read_ext;
 use adf_tree::Node;
 use adf_volume::Owner;
+use std::sync::ledger::Ledger;
 
 // Claims and reads the extension block at block `b`, which a word of block `holder` names, of the file `node` with its header at block
 // `head`: the next one, or 0. The table has the header and the extension blocks before.
-fn read_ext_block(
+fn read_ext_block<L: Ledger>(
     image: &Image<'_>,
     found: &mut Found,
+    looks: &mut Looks<L>,
     table: &mut Vec<u32>,
     node: Node,
     head: u32,
@@ -29,14 +32,16 @@ fn read_ext_block(
     requires begun { IsBegun image.now }
     requires some { b ≢ 0 }
     requires state { IsInExts image.now (store_of found.old) node head table.old.items holder b }
+    requires paid { IsPaid found.old looks.old 1 }
     ensures state { IfOk result (λ next. IsInExts image.now (store_of found.new) node head table.new.items b next) }
+    ensures paid { OnOk result (IsPaid found.new looks.new 1) }
     ensures fewer { OnOk result (IsFurther found.old found.new) }
     ensures less { OnOk result (left found.new < left found.old) }
     ensures fault { IfErr result (λ f. IsTrueFault image.now f) }
 {
     let owner = Owner::Ext(node, table.len() as u32);
     claim_named(&mut found.owners, holder, b, owner)?;
-    let ext = match read_ext(image.block(b), b, head) {
+    let ext = match read_ext(image.look(b, looks), b, head) {
         Ok(ext) => ext,
         Err(cause) => return Err(fault_at(b, cause)),
     };
@@ -48,9 +53,10 @@ fn read_ext_block(
 
 /// Reads the extension blocks, from block `first` on or none where that is 0, of the file `node` with its header at block `head`. The
 /// table, which has the header, gets them.
-pub fn read_exts(
+pub fn read_exts<L: Ledger>(
     image: &Image<'_>,
     found: &mut Found,
+    looks: &mut Looks<L>,
     table: &mut Vec<u32>,
     node: Node,
     head: u32,
@@ -58,14 +64,16 @@ pub fn read_exts(
 ) -> Result<(), Fault>
     requires begun { IsBegun image.now }
     requires state { IsInExts image.now (store_of found.old) node head table.old.items head first }
+    requires paid { IsPaid found.old looks.old 1 }
     ensures state { OnOk result (IsInDatas image.now (store_of found.new) node head table.new.items 0) }
+    ensures paid { OnOk result (IsPaid found.new looks.new 1) }
     ensures fewer { OnOk result (IsFurther found.old found.new) }
     ensures fault { IfErr result (λ f. IsTrueFault image.now f) }
 {
     let mut holder = head;
     let mut b = first;
     while b != 0 {
-        let next = read_ext_block(image, found, table, node, head, holder, b)?;
+        let next = read_ext_block(image, found, looks, table, node, head, holder, b)?;
         holder = b;
         b = next;
     }

@@ -1,9 +1,10 @@
 // What the checker has read so far.
 
-ghost use Rattle.std.specs.Prelude.{IfOk};
+ghost use Rattle.std.specs.Prelude.{IfOk, ◌*◌};
+ghost use Rattle.adf_blocks.specs.Sizes.{blocks};
 ghost use Rattle.adf_volume.specs.Image.{root_of};
 ghost use Rattle.adf_check.specs.Reading.{IsBeforePage};
-ghost use Rattle.adf_check.specs.Found.{store_of};
+ghost use Rattle.adf_check.specs.Found.{IsPaid, store_of};
 
 use crate::image::Image;
 use crate::kept::{KeptHeader, Start};
@@ -26,7 +27,8 @@ pub struct Found {
 impl Found {
     // What is found before anything is read but the root.
     pub fn begin(alloc: Global, image: &Image<'_>) -> Result<Found, NoMemory>
-        ensures { IfOk result (λ f. IsBeforePage image.now (store_of f) 0 (root_of image.now)) }
+        ensures paid { IfOk result (λ f. IsPaid f (6 * blocks image.now) 1) }
+        ensures state { IfOk result (λ f. IsBeforePage image.now (store_of f) 0 (root_of image.now)) }
     {
         let mut owners = OwnerTable::new(alloc, image.blocks())?;
         owners.claim(image.root(), Owner::Root).unwrap();

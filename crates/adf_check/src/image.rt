@@ -1,16 +1,18 @@
 // An image that begins as a volume.
 
-ghost use Rattle.std.specs.Prelude.{◌≡◌, ◌<◌, ◌≤◌, ◌^◌};
+ghost use Rattle.std.specs.Prelude.{◌≡◌, ◌<◌, ◌≤◌, ◌+◌, ◌^◌};
 ghost use Rattle.adf_fields.specs.Words.{block};
 ghost use Rattle.adf_blocks.specs.HeadBlock.{body_at};
 ghost use Rattle.adf_blocks.specs.Sizes.{blocks};
 ghost use Rattle.adf_volume.specs.Image.{kind_of, root_of};
 ghost use Rattle.adf_check.specs.Image.{IsBegun, IsImage};
 
-use adf_blocks::{Directory, HeadBody, Page, Table};
+use crate::looks::Looks;
+use adf_blocks::{Directory, HeadBody};
 use adf_fields::Block;
 use adf_tree::Kind;
 use std::marker::Model;
+use std::sync::ledger::Ledger;
 
 /// An image whose size, boot bytes and root are those of a volume.
 #[derive(Drop)]
@@ -89,6 +91,18 @@ impl<'a> Image<'a> {
         Block::at(self.bytes, b).unwrap()
     }
 
+    // A block, for one look: how `check` sees the blocks behind the root.
+    pub fn look<L: Ledger>(&self, b: u32, looks: &mut Looks<L>) -> Block<'a>
+        requires inside { b < blocks self.now }
+        requires paid { 0 < looks.old }
+        ensures block { result ≡ block self.now b }
+        ensures begun { IsBegun self.now }
+        ensures looks { looks.old ≡ looks.new + 1 }
+    {
+        looks.take();
+        self.block(b)
+    }
+
     // Whether the header at a block is that of a directory, or of a file, with its size and its first extension block.
     pub fn body(&self, b: u32) -> HeadBody
         requires { b < blocks self.now }
@@ -104,21 +118,5 @@ impl<'a> Image<'a> {
         ensures { result ≡ block self.now b }
     {
         Directory::over(self.block(b))
-    }
-
-    // The table of a file's header or extension block.
-    pub fn table(&self, b: u32) -> Table<'a>
-        requires { b < blocks self.now }
-        ensures { result ≡ block self.now b }
-    {
-        Table::over(self.block(b))
-    }
-
-    // The page of the bitmap at a block.
-    pub fn page(&self, b: u32) -> Page<'a>
-        requires { b < blocks self.now }
-        ensures { result ≡ block self.now b }
-    {
-        Page::over(self.block(b))
     }
 }

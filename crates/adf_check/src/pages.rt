@@ -6,7 +6,7 @@ ghost use Rattle.adf_fields.specs.Words.{block};
 ghost use Rattle.adf_blocks.specs.Sizes.{blocks, pages_needed};
 ghost use Rattle.adf_volume.specs.Image.{root_of, word_in};
 ghost use Rattle.adf_check.specs.Reading.{IsAtNode, IsAtPage, IsBeforePage, block_of_page};
-ghost use Rattle.adf_check.specs.Found.{store_of};
+ghost use Rattle.adf_check.specs.Found.{IsPaid, store_of};
 ghost use Rattle.adf_check.specs.Image.{IsBegun};
 ghost use Rattle.adf_check.specs.Pages.{AreListed, index_of_map_ext, index_of_page};
 
@@ -14,9 +14,11 @@ use crate::claims::claim_named;
 use crate::fault::{Fault, fault_at, no_memory};
 use crate::found::Found;
 use crate::image::Image;
+use crate::looks::Looks;
 use adf_blocks::{MAP_EXT_PAGES, ROOT_PAGES, Root, page_count, read_map_ext, read_page};
 use adf_volume::Owner;
 use std::alloc::Global;
+use std::sync::ledger::Ledger;
 
 // Whether page `i` is the first one of a bitmap extension block.
 fn is_first_of_map_ext(i: u32) -> bool
@@ -27,39 +29,56 @@ fn is_first_of_map_ext(i: u32) -> bool
 }
 
 // The bitmap extension block that `holder` names, whose first page is page `i`.
-fn map_ext_named(image: &Image<'_>, root: &Root<'_>, holder: u32, i: u32) -> u32
+fn map_ext_named<L: Ledger>(
+    image: &Image<'_>,
+    looks: &mut Looks<L>,
+    root: &Root<'_>,
+    holder: u32,
+    i: u32,
+) -> u32
+    requires paid { 0 < looks.old }
     requires root { root.now ≡ block image.now (root_of image.now) }
     requires inside { holder < blocks image.now }
     requires at_root { i ≡ 25 → holder ≡ root_of image.now }
-    ensures { result ≡ word_in image.now holder (index_of_map_ext i) }
+    ensures exact { result ≡ word_in image.now holder (index_of_map_ext i) }
+    ensures looks { looks.old ≤ looks.new + 1 }
 {
     if i as usize == ROOT_PAGES {
         root.map_ext()
     } else {
-        read_map_ext(image.block(holder)).next()
+        read_map_ext(image.look(holder, looks)).next()
     }
 }
 
 // Page `i`, as `holder` names it.
-fn page_named(image: &Image<'_>, root: &Root<'_>, holder: u32, i: u32) -> u32
+fn page_named<L: Ledger>(
+    image: &Image<'_>,
+    looks: &mut Looks<L>,
+    root: &Root<'_>,
+    holder: u32,
+    i: u32,
+) -> u32
+    requires paid { 0 < looks.old }
     requires root { root.now ≡ block image.now (root_of image.now) }
     requires inside { holder < blocks image.now }
     requires at_root { i < 25 → holder ≡ root_of image.now }
-    ensures { result ≡ word_in image.now holder (index_of_page i) }
+    ensures exact { result ≡ word_in image.now holder (index_of_page i) }
+    ensures looks { looks.old ≤ looks.new + 1 }
 {
     let i = i as usize;
     if i < ROOT_PAGES {
         root.page(i)
     } else {
-        read_map_ext(image.block(holder)).page((i - ROOT_PAGES) % MAP_EXT_PAGES)
+        read_map_ext(image.look(holder, looks)).page((i - ROOT_PAGES) % MAP_EXT_PAGES)
     }
 }
 
 // Claims the bitmap extension block that `holder` names, whose first page is page `i`.
-fn claim_map_ext(
+fn claim_map_ext<L: Ledger>(
     image: &Image<'_>,
     root: &Root<'_>,
     found: &mut Found,
+    looks: &mut Looks<L>,
     holder: u32,
     i: u32,
 ) -> Result<u32, Fault>
@@ -70,21 +89,24 @@ fn claim_map_ext(
     requires first { (i - 25) % 127 ≡ 0 }
     requires inside { holder < blocks image.now }
     requires state { IsBeforePage image.now (store_of found.old) i holder }
+    requires paid { IsPaid found.old looks.old 1 }
     ensures state { IfOk result (λ b. IsAtPage image.now (store_of found.new) i b) }
     ensures inside { IfOk result (λ b. b < blocks image.now) }
+    ensures paid { OnOk result (IsPaid found.new looks.new 1) }
     ensures fault { IfErr result (λ f. IsTrueFault image.now f) }
 {
-    let b = map_ext_named(image, root, holder, i);
+    let b = map_ext_named(image, looks, root, holder, i);
     let j = (i - ROOT_PAGES as u32) / MAP_EXT_PAGES as u32;
     claim_named(&mut found.owners, holder, b, Owner::MapExt(j))?;
     Ok(b)
 }
 
 // The block that names page `i`, where `holder` named the page before or is the root: a bitmap extension block is claimed.
-fn holder_of_page(
+fn holder_of_page<L: Ledger>(
     image: &Image<'_>,
     root: &Root<'_>,
     found: &mut Found,
+    looks: &mut Looks<L>,
     holder: u32,
     i: u32,
 ) -> Result<u32, Fault>
@@ -93,22 +115,25 @@ fn holder_of_page(
     requires needed { i < pages_needed (blocks image.now) }
     requires inside { holder < blocks image.now }
     requires state { IsBeforePage image.now (store_of found.old) i holder }
+    requires paid { IsPaid found.old looks.old 1 }
     ensures state { IfOk result (λ b. IsAtPage image.now (store_of found.new) i b) }
     ensures inside { IfOk result (λ b. b < blocks image.now) }
+    ensures paid { OnOk result (IsPaid found.new looks.new 1) }
     ensures fault { IfErr result (λ f. IsTrueFault image.now f) }
 {
     if is_first_of_map_ext(i) {
-        claim_map_ext(image, root, found, holder, i)
+        claim_map_ext(image, root, found, looks, holder, i)
     } else {
         Ok(holder)
     }
 }
 
 // Claims and reads page `i`, which `holder` names.
-fn read_page_at(
+fn read_page_at<L: Ledger>(
     image: &Image<'_>,
     root: &Root<'_>,
     found: &mut Found,
+    looks: &mut Looks<L>,
     holder: u32,
     i: u32,
 ) -> Result<u32, Fault>
@@ -117,37 +142,42 @@ fn read_page_at(
     requires needed { i < pages_needed (blocks image.now) }
     requires inside { holder < blocks image.now }
     requires state { IsAtPage image.now (store_of found.old) i holder }
+    requires paid { IsPaid found.old looks.old 1 }
     ensures state { OnOk result (IsBeforePage image.now (store_of found.new) (i + 1) holder) }
     ensures page { IfOk result (λ b. b ≡ block_of_page image.now i) }
     ensures within { IfOk result (λ b. b < blocks image.now) }
+    ensures paid { OnOk result (IsPaid found.new looks.new 1) }
     ensures fault { IfErr result (λ f. IsTrueFault image.now f) }
 {
-    let b = page_named(image, root, holder, i);
+    let b = page_named(image, looks, root, holder, i);
     claim_named(&mut found.owners, holder, b, Owner::Page(i))?;
-    match read_page(image.block(b)) {
+    match read_page(image.look(b, looks)) {
         Ok(_) => Ok(b),
         Err(cause) => Err(fault_at(b, cause)),
     }
 }
 
 /// Claims and reads the bitmap pages, each bitmap extension block before its own: the blocks of the pages by number.
-pub fn read_pages(
+pub fn read_pages<L: Ledger>(
     alloc: Global,
     image: &Image<'_>,
     root: &Root<'_>,
     found: &mut Found,
+    looks: &mut Looks<L>,
 ) -> Result<Vec<u32>, Fault>
     requires root { root.now ≡ block image.now (root_of image.now) }
     requires state { IsBeforePage image.now (store_of found.old) 0 (root_of image.now) }
+    requires paid { IsPaid found.old looks.old 1 }
     ensures state { OnOk result (IsAtNode image.now (store_of found.new) 0) }
     ensures pages { IfOk result (λ p. AreListed image.now p.items (pages_needed (blocks image.now))) }
+    ensures paid { OnOk result (IsPaid found.new looks.new 1) }
     ensures fault { IfErr result (λ f. IsTrueFault image.now f) }
 {
     let mut pages = Vec::new(alloc);
     let mut holder = image.root();
     for i in 0..page_count(image.blocks()) {
-        holder = holder_of_page(image, root, found, holder, i)?;
-        let page = read_page_at(image, root, found, holder, i)?;
+        holder = holder_of_page(image, root, found, looks, holder, i)?;
+        let page = read_page_at(image, root, found, looks, holder, i)?;
         if pages.push(page).is_err() {
             return Err(no_memory());
         }

@@ -4,4 +4,4 @@ use Rattle.adf_check.specs.Found.{store_of}
 use Rattle.adf_check.proofs.bitmap.check_word.Given as goal
 
 abbrev pub invariant-loop-bit : goal.invariant-loop-bit
-invariant-loop-bit l = IsMapped l.image (store_of l.found) (l.first + l.bit)
+invariant-loop-bit g l = IsMapped l.image (store_of l.found) (l.first + l.bit)

@@ -5,12 +5,13 @@ use Rattle.adf_check.specs.Found.{store_of}
 use Rattle.adf_check.proofs.ChainSteps.{empty_chain}
 use Rattle.adf_check.proofs.chains.read_directory.Goals as goal
 
-pub loop-slot-preserved-then-slot-eq0 : goal.loop-slot-preserved-then-slot-eq0
-loop-slot-preserved-then-slot-eq0 c =
+pub loop-slot-preserved-then-first-eq0 : goal.loop-slot-preserved-then-first-eq0
+loop-slot-preserved-then-first-eq0 g c =
     let image = c.args.image.now in
     let none : word_in image c.args.up (6 + c.loop-slot.slot) ≡ 0 =
-    ap (λ b. word b (6 + c.loop-slot.slot)) (sym c.directory-directory.ensures) ∙ sym c.slot.ensures ∙ c.if-slot-eq0.true in
+    ap (λ b. word b (6 + c.loop-slot.slot)) (sym (c.over-directory.ensures ∙ c.look.ensures.block)) ∙ sym c.slot-first.ensures ∙ c.if-first-eq0.true in
     record {
       state = empty_chain image (store_of c.loop-slot.found) c.args.parent c.args.up c.loop-slot.slot c.loop-slot.invariant.state none;
+      paid = c.loop-slot.invariant.paid;
       fewer = c.loop-slot.invariant.fewer;
     }

@@ -10,28 +10,28 @@ use Rattle.adf_check.proofs.ClaimSteps.{claim_refused}
 use Rattle.adf_check.proofs.chains.read_header.Goals as goal
 
 pub returns-in_err-claim_named-clause-fault : goal.returns-in_err-claim_named-clause-fault
-returns-in_err-claim_named-clause-fault c =
+returns-in_err-claim_named-clause-fault g c =
     claim_refused (head_named c.requires.slot c.kind-kind.ensures.begun c.requires.state c.requires.some) tt c.from_residual.result (search rules)
 
 pub returns-in-Err-clause-fault : goal.returns-in-Err-clause-fault
-returns-in-Err-clause-fault c =
+returns-in-Err-clause-fault g c =
     let claimed = c.in_ok-claim_named.ensures in
     rw c.fault_at.ensures (head_fault c.args.seen.now c.requires.slot c.kind-kind.ensures.begun c.requires.state c.requires.some claimed.range claimed.free
-    c.kind-kind.ensures.kind c.block.ensures.block c.in-Err.cause c.in-Err.ensures)
+    c.kind-kind.ensures.kind c.look.ensures.block c.in-Err.cause c.in-Err.ensures)
 
 pub returns-in-Ok-false-clause-fault : goal.returns-in-Ok-false-clause-fault
-returns-in-Ok-false-clause-fault c =
+returns-in-Ok-false-clause-fault g c =
     let claimed = c.in_ok-claim_named.ensures in
     let twice : has c.args.seen.now (uppers c.name.result) ≡ true =
     not-false _ (sym c.in-Ok-false.ensures.new ∙ c.in-Ok-false.field-0-test) in
     rw c.fault_at-in-Ok-false.ensures (twice_fault c.args.seen.now c.requires.slot c.kind-kind.ensures.begun c.requires.state c.requires.some claimed.range
-    claimed.free c.kind-kind.ensures.kind c.block.ensures.block c.in-Ok.ensures.0 c.in-Ok.ensures.1 c.name.ensures twice)
+    claimed.free c.kind-kind.ensures.kind c.look.ensures.block c.in-Ok.ensures.0 c.in-Ok.ensures.1 c.name.ensures twice)
 
 pub kept_row-requires : goal.kept_row-requires
-kept_row-requires c = parent_short c.kind-kind.ensures.begun refl c.requires.state
+kept_row-requires g c = parent_short c.kind-kind.ensures.begun refl c.requires.state
 
 pub returns-in-Ok-push-clause-state : goal.returns-in-Ok-push-clause-state
-returns-in-Ok-push-clause-state c =
+returns-in-Ok-push-clause-state g c =
     let store = store_of c.args.found.now in
     let claimed = c.in_ok-claim_named.ensures in
     let fresh : has c.args.seen.now (uppers c.name.result) ≡ false =
@@ -39,7 +39,7 @@ returns-in-Ok-push-clause-state c =
     let count : c.len.result ≡ length store.rows = search rules in
     let pushed : c.push.new.self.items ≡ store.rows ++ record { parent = c.args.chain.now.parent; head = c.args.b } ∷ [] = search rules in
     head_done c.args.seen.now c.requires.slot c.kind-kind.ensures.begun c.requires.state c.requires.some claimed.range claimed.free
-    c.kind-kind.ensures.kind c.block.ensures.block c.in-Ok.ensures.0 c.in-Ok.ensures.1 c.name.ensures fresh _ c.in-Ok-true.ensures.more c.next.ensures
+    c.kind-kind.ensures.kind c.look.ensures.block c.in-Ok.ensures.0 c.in-Ok.ensures.1 c.name.ensures fresh _ c.in-Ok-true.ensures.more c.next.ensures
     (record {
       owners = claimed.ok ∙ ap (λ n. set store.owners c.args.b (AHead n)) (number c.requires.state.read.tells.lists.count count);
       rows = pushed;
@@ -53,5 +53,5 @@ returns-in-Ok-push-clause-state c =
     number a b = omega arith
 
 pub claim_named-requires-clause-words : goal.claim_named-requires-clause-words
-claim_named-requires-clause-words c =
+claim_named-requires-clause-words g c =
     omega (arith, entry_short c.kind-kind.ensures.begun refl c.requires.state)

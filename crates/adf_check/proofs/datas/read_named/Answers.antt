@@ -2,5 +2,5 @@ use Rattle.std.proofs.Common.{arith}
 use Rattle.adf_check.proofs.DataSteps.{table_inside}
 use Rattle.adf_check.proofs.datas.read_named.Goals as goal
 
-pub table-names-requires : goal.table-names-requires
-table-names-requires c = table_inside c.requires.begun c.requires.state c.args.m (omega arith)
+pub look-requires-clause-inside : goal.look-requires-clause-inside
+look-requires-clause-inside g c = table_inside c.requires.begun c.requires.state c.args.m (omega arith)

@@ -7,24 +7,24 @@ use Rattle.adf_check.proofs.ExtSteps.{ext_named, ext_fault, ext_done}
 use Rattle.adf_check.proofs.exts.read_ext_block.Goals as goal
 
 pub returns-in_err-claim_named-clause-fault : goal.returns-in_err-claim_named-clause-fault
-returns-in_err-claim_named-clause-fault c =
+returns-in_err-claim_named-clause-fault g c =
     claim_refused (ext_named c.requires.begun c.requires.state c.requires.some) tt c.from_residual.result (search rules)
 
 pub returns-in-Err-clause-fault : goal.returns-in-Err-clause-fault
-returns-in-Err-clause-fault c =
+returns-in-Err-clause-fault g c =
     let claimed = c.in_ok-claim_named.ensures in
-    rw c.fault_at.ensures (ext_fault c.requires.begun c.requires.state c.requires.some claimed.range claimed.free c.block.ensures.block c.in-Err.cause
+    rw c.fault_at.ensures (ext_fault c.requires.begun c.requires.state c.requires.some claimed.range claimed.free c.look.ensures.block c.in-Err.cause
     c.in-Err.ensures)
 
 pub returns-clause-state : goal.returns-clause-state
-returns-clause-state c =
+returns-clause-state g c =
     let store = store_of c.args.found.now in
     let b = c.args.b in
     let claimed = c.in_ok-claim_named.ensures in
     let count : c.len.result ≡ length c.args.table.now.items = search rules in
     let pushed : c.push.new.self.items ≡ c.args.table.now.items ++ b ∷ [] = search rules in
     let kept : c.push-else-is_err.new.self.items ≡ store.exts ++ b ∷ [] = search rules in
-    ext_done c.requires.begun c.requires.state c.requires.some claimed.range claimed.free c.block.ensures.block c.in-Ok.ensures.0 c.in-Ok.ensures.1
+    ext_done c.requires.begun c.requires.state c.requires.some claimed.range claimed.free c.look.ensures.block c.in-Ok.ensures.0 c.in-Ok.ensures.1
     c.next.ensures pushed (record {
       owners = claimed.ok ∙ ap (λ k. set store.owners b (AnExt c.args.node k)) count;
       rows = refl;
@@ -35,8 +35,14 @@ returns-clause-state c =
     })
 
 pub overflow_cast-owner : goal.overflow_cast-owner
-overflow_cast-owner c =
+overflow_cast-owner g c =
     omega (arith, table_short c.requires.begun refl c.requires.state.read c.requires.state.holds)
 
 pub claim_named-requires-clause-words : goal.claim_named-requires-clause-words
-claim_named-requires-clause-words c = file_short c.requires.begun refl c.requires.state.read c.requires.state.holds
+claim_named-requires-clause-words g c = file_short c.requires.begun refl c.requires.state.read c.requires.state.holds
+
+pub look-requires-clause-paid : goal.look-requires-clause-paid
+look-requires-clause-paid g c = omega (arith, c.requires.paid, c.in_ok-claim_named.ensures)
+
+pub returns-clause-paid : goal.returns-clause-paid
+returns-clause-paid g c = omega (arith, c.requires.paid, c.in_ok-claim_named.ensures, c.look.ensures.looks)

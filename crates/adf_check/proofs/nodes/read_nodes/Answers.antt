@@ -7,17 +7,22 @@ use Rattle.adf_check.proofs.NumberBounds.{lists_short}
 use Rattle.adf_check.proofs.nodes.read_nodes.Goals as goal
 
 pub enter-requires : goal.enter-requires
-enter-requires c =
+enter-requires g c =
     let short = lists_short c.requires.begun refl c.loop-node.invariant.state in
     record { exts = short.0; datas = short.1 }
 
 pub read_node-requires-clause-state : goal.read_node-requires-clause-state
-read_node-requires-clause-state c =
+read_node-requires-clause-state g c =
     subst (λ s. IsInNode c.args.image.now s c.loop-node.node) (sym c.in_ok-enter.ensures.entered)
     (enter_node c.args.image.now (store_of c.loop-node.found) c.loop-node.node c.loop-node.invariant.state)
 
 pub returns-clause-state : goal.returns-clause-state
-returns-clause-state c =
+returns-clause-state g c =
     let rows = c.loop-node.found.rows.items in
     let end : c.loop-node.node ≡ suc (length rows) = omega (arith, c.loop-node.invariant.within) in
     all_read c.args.image.now (store_of c.loop-node.found) c.loop-node.node end c.loop-node.invariant.state
+
+pub read_node-requires-clause-paid : goal.read_node-requires-clause-paid
+read_node-requires-clause-paid g c =
+    let begun : length c.loop-node.found.starts.items ≡ c.loop-node.node = c.loop-node.invariant.state.read.started in
+    c.in_ok-enter.ensures.paid c.loop-node.looks c.loop-node.invariant.paid (omega (arith, begun))

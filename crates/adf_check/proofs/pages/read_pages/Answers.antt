@@ -8,7 +8,7 @@ use Rattle.adf_check.proofs.PageSteps.{list_done}
 use Rattle.adf_check.proofs.pages.read_pages.Goals as goal
 
 pub loop-i-preserved : goal.loop-i-preserved
-loop-i-preserved c =
+loop-i-preserved g c =
     let image = c.args.image.now in
     let page : ℕ = c.in_ok-page.page in
     let pages = c.loop-i.pages.items in
@@ -17,11 +17,12 @@ loop-i-preserved c =
     record {
       inside = search rules;
       state = c.in_ok-page.ensures.state;
+      paid = c.in_ok-page.ensures.paid;
       pages = subst (λ (ps : List ℕ). AreListed image ps (c.loop-i.i + 1)) (sym pushed) more;
     }
 
 pub returns-clause-state : goal.returns-clause-state
-returns-clause-state c =
+returns-clause-state g c =
     let image = c.args.image.now in
     let end : c.loop-i.i ≡ pages_needed (blocks image) = omega arith in
     let store = store_of c.loop-i.found in

@@ -3,9 +3,6 @@ use Rattle.adf_blocks.specs.Sizes.{count}
 use Rattle.adf_volume.specs.Image.{kind_of}
 use Rattle.adf_volume.proofs.Pieces.{pieces_length}
 use Rattle.adf_check.proofs.HeaderBodies.{dir_type, file_words}
-use Rattle.adf_tree.specs.Tree.{Tree}
-use Rattle.adf_check.specs.StoredVolume.{StoreStandsFor}
-use Rattle.adf_check.specs.Store.{Store}
 use Rattle.adf_check.proofs.FilePieces.{data_count_is, dir_bytes, dir_pieces, is_entry, made_exact, made_inside, made_joined, made_some}
 use Rattle.adf_check.proofs.pieces.pieces_of.Goals as goal
 

@@ -8,8 +8,8 @@ use Rattle.adf_check.proofs.RootRead.{begun_with_root, root_is_free}
 use Rattle.adf_check.proofs.ClaimSteps.{on_ok}
 use Rattle.adf_check.proofs.found.Found.begin.Goals as goal
 
-pub returns : goal.returns
-returns c =
+pub returns-clause-state : goal.returns-clause-state
+returns-clause-state c =
     let image = c.args.image.now in
     let owners = c.in_ok-owners.owners in
     let free : owner_at owners c.root.result ≡ Free =

@@ -13,11 +13,11 @@ use Rattle.adf_volume.specs.Walk.{FirstFault}
 use Rattle.adf_check.specs.Fault.{IsTrueFault}
 use Rattle.adf_check.proofs.ClaimSteps.{first_fault, if_err}
 use Rattle.adf_check.proofs.StoredVolume.{keeps}
-use Rattle.adf_check.proofs.checker.check_all.Goals as goal
+use Rattle.adf_check.proofs.checker.check_within.Goals as goal
 
 pub new-requires : goal.new-requires
 unfolding label_of stamps_of
-new-requires c =
+new-requires g c =
     let image = c.in_ok-opened.opened.image in
     let root : c.in_ok-opened.opened.root ≡ block image (root_of image) =
     c.in_ok-opened.ensures.root ∙ ap (λ i. block i (root_of i)) (sym c.in_ok-opened.ensures.image) in
@@ -28,7 +28,7 @@ new-requires c =
     }
 
 pub returns-clause-fits : goal.returns-clause-fits
-returns-clause-fits c =
+returns-clause-fits g c =
     let image = c.in_ok-opened.opened.image in
     let store = store_of c.read_nodes.new.found in
     let tells = c.in_ok-check_bitmap.ensures.fits in
@@ -36,7 +36,7 @@ returns-clause-fits c =
     subst stands (sym c.new.ensures) (tree_in image tells.walk, layout_in tells.walk, keeps image store tells)
 
 pub returns-in_err-opened-clause-fault : goal.returns-in_err-opened-clause-fault
-returns-in_err-opened-clause-fault c =
+returns-in_err-opened-clause-fault g c =
     let image = c.args.image.now in
     if_err c.from_residual.result (λ f. FirstFault image f.block f.cause) (λ f. IsTrueFault image f) (search rules)
     (λ f h. first_fault image f.block f.cause h)

@@ -1,0 +1,46 @@
+// The looks at blocks that a check may still take.
+
+ghost use Rattle.std.specs.Prelude.{◌≡◌, ◌+◌, ◌<◌, ◌≤◌};
+
+use std::marker::Model;
+use std::sync::ledger::{Blank, Ledger, Share};
+
+/// How many looks at blocks may still be taken. It takes no bytes, and only `take` makes it less.
+#[derive(Drop)]
+pub struct Looks<L: Ledger> {
+    left: Share<L>,
+    taken: Share<L>,
+}
+
+impl<L: Ledger> Model for Looks<L> {
+    ghost use Rattle.std.specs.Prelude.{◌<◌, ℕ};
+
+    ghost Value = { ℕ };
+
+    ghost view = { λ l. l.left.amount };
+
+    ghost invariant = { λ l. (0 < l.left.parts) × (0 < l.taken.parts) };
+}
+
+impl<L: Ledger> Looks<L> {
+    /// So many looks, of a new ledger.
+    pub fn new(blank: Blank, most: u64) -> Looks<L>
+        requires name { blank.name ≡ L.name }
+        requires parts { blank.parts ≡ L.parts }
+        requires two { 2 ≤ blank.parts }
+        ensures { result ≡ most }
+    {
+        let (mut book, mut left) = blank.open::<L>();
+        book.add(&mut left, most);
+        let taken = left.split_off(1, 0);
+        Looks { left, taken }
+    }
+
+    // Takes one.
+    pub(crate) fn take(&mut self)
+        requires { 0 < self.old }
+        ensures { self.old ≡ self.new + 1 }
+    {
+        self.left.transfer(&mut self.taken, 1)
+    }
+}
