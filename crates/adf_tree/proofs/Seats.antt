@@ -1,30 +1,21 @@
 -- The seats of names.
-use Rattle.std.proofs.Common.{◌≡◌, ◌≢◌, ◌==◌, ◌&&◌, ◌||◌, ◌⊎◌, inl, inr, ℕ, ◌+◌, ◌*◌, ◌/◌, ◌^◌, ◌<◌, ◌≤◌, List, [], ◌∷◌, ◌++◌, length, get_or, set, Bool, true}
-use Rattle.std.proofs.Common.{false, Option, Some, None, arith, sym, refl, zero, suc, ◌∙◌, ap, length-append, get_or-set_same, get_or-set_other}
-use Rattle.std.specs.Option.{is_some}
+use Rattle.std.proofs.Common.{◌≡◌, ◌≢◌, ◌==◌, ◌&&◌, ◌||◌, ◌⊎◌, inl, inr, ℕ, ◌+◌, ◌-◌, ◌<◌, ◌≤◌, List, [], ◌∷◌, ◌++◌, length}
+use Rattle.std.proofs.Common.{get_or, set, take, Bool, true, false, Option, Some, None, arith, sym, refl, zero, suc, ◌∙◌, ap, get_or-set_same, get_or-set_other}
+use Rattle.std.specs.Prelude.{slice_index}
 use Rattle.std.specs.Ordering.{is_eq}
 use Rattle.std.specs.List.{slice_get}
-use Rattle.std.specs.Cmp.{both_ways}
-use Rattle.std.proofs.lemmas.Bool.{cases_Bool, eq-eqb, eqb-true, false_from_ne_true}
+use Rattle.std.proofs.Math.Seq.{take-suc}
+use Rattle.std.proofs.lemmas.Bool.{cases_Bool, false_from_ne_true}
 use Rattle.std.proofs.lemmas.List.{length-set}
-use Rattle.std.proofs.lemmas.Option.{get_or_from_slice_get, slice_get-get_or, slice_get_within}
-use Rattle.std.proofs.lemmas.List.Folds.{list_any-append, list_any_at, Any-from_list_any}
-use Rattle.std.proofs.Math.Nat.{div-div-eq-div-mul, mul-div_cancel}
+use Rattle.std.proofs.lemmas.Option.{get_or_from_slice_get, slice_get_within}
+use Rattle.std.proofs.lemmas.List.Folds.{list_any-append, list_any_at}
 use Rattle.adf_tree.specs.declared.name_key.NameKey.{NameKey}
-use Rattle.adf_tree.specs.NameKeys.{by_words, spread_of}
-use Rattle.adf_tree.specs.NameSet.{is_among, IsWith, Names}
-use Rattle.adf_tree.specs.Seats.{holder_of, if_seated, seat_in, AreSeated, HaveSeats}
+use Rattle.adf_tree.specs.declared.name_set.Seating.{Seating}
+use Rattle.adf_tree.specs.declared.name_set.Seating.TheVariants.{Seated, Vacant, Crowded}
+use Rattle.adf_tree.specs.NameKeys.{by_words}
+use Rattle.adf_tree.specs.NameSet.{is_among, IsUnion, IsWith, Names}
+use Rattle.adf_tree.specs.Seats.{holder_of, seat_in, seating_at, seating_from, seating_of, AreSeated}
 use Rattle.adf_tree.proofs.NameKeys.{one_key, same_either, same_itself, same_words}
-
--- twice as many seats split each in two
-half : (x n : ℕ) → x * (2 * n) / 2 ^ 64 / 2 ≡ x * n / 2 ^ 64
-half x n =
-    let twice : x * (2 * n) ≡ x * n * 2 = omega arith in
-    rw (twice, div-div-eq-div-mul (x * n * 2) (2 ^ 64) 2, ← div-div-eq-div-mul (x * n * 2) 2 (2 ^ 64), mul-div_cancel (x * n) {n = 2} (omega arith))
-
-pub split : (n : ℕ) (a b : NameKey) → seat_in (2 * n) a ≡ seat_in (2 * n) b → seat_in n a ≡ seat_in n b
-unfolding seat_in
-split n a b h = rw (← half (spread_of a) n, h) (half (spread_of b) n)
 
 -- names and their places
 at_more : (xs ys : Names) (i : ℕ) (k : NameKey) → slice_get xs i ≡ Some k → slice_get (xs ++ ys) i ≡ Some k
@@ -32,99 +23,155 @@ at_more [] ys i k h = cc
 at_more (x ∷ xs) ys zero k h = h
 at_more (x ∷ xs) ys (suc i) k h = at_more xs ys i k h
 
-at_last : (xs : Names) (y : NameKey) (i : ℕ) (k : NameKey) → slice_get (xs ++ y ∷ []) i ≡ Some k → (slice_get xs i ≡ Some k) ⊎ ((i ≡ length xs) × (y ≡ k))
-at_last [] y zero k h = inr (refl, cc)
-at_last [] y (suc i) k h = cc
-at_last (x ∷ xs) y zero k h = inl h
-at_last (x ∷ xs) y (suc i) k h = elim (at_last xs y i k h) [ inl p ↦ inl p | inr p ↦ inr (ap suc p.0, p.1) ]
+at_end : (xs : Names) (y : NameKey) → slice_get (xs ++ y ∷ []) (length xs) ≡ Some y
+at_end [] y = refl
+at_end (x ∷ xs) y = at_end xs y
 
 at_among : (xs : Names) (i : ℕ) (h k : NameKey) → slice_get xs i ≡ Some h → is_eq (by_words k h) ≡ true → is_among xs k ≡ true
 at_among xs i h k at same =
     list_any_at (λ n. is_eq (by_words k n)) xs i h (slice_get_within xs i h at) (rw (get_or_from_slice_get xs i h h at) same)
 
-among_at : (xs : Names) (k : NameKey) → is_among xs k ≡ true → (i : ℕ) × (slice_get xs i ≡ Some k)
-among_at xs k h =
-    let some = Any-from_list_any (λ n. is_eq (by_words k n)) xs h in
-    (some.0, slice_get-get_or xs some.0 some.1 some.2 ∙ ap Some (some.3 ∙ sym (one_key k some.1 some.4)))
+-- what the next seat tells
+pub next_seat : (names : Names) (seats : List ℕ) (k : NameKey) (seat end : ℕ) → seat < end → seating_from names seats k seat (end - seat)
+    ≡ seating_at seat k (holder_of names seats seat) (seating_from names seats k (seat + 1) (end - (seat + 1)))
+next_seat names seats k seat end lt =
+    let more : end - seat ≡ suc (end - (seat + 1)) = omega arith in
+    rw more refl
 
--- who has a seat
-seated_at : (n s : ℕ) (o : Option NameKey) (h : NameKey) → if_seated n s o ≡ Some h → o ≡ Some h
-seated_at n s None h e = cc
-seated_at n s (Some k) h e =
-    elim (cases_Bool (seat_in n k == s)) [
-      | inl t ↦ rw t at e
-      | inr f ↦ let clash = rw f at e in cc
+-- the seats of a name, one after the other
+pub seating_start : (names : Names) (seats : List ℕ) (k : NameKey) (first : ℕ) → first ≡ seat_in (length seats - 8) k
+    → seating_of names seats k ≡ seating_from names seats k first (first + 8 - first)
+unfolding seating_of
+seating_start names seats k first is =
+    let all : first + 8 - first ≡ 8 = omega arith in
+    rw (all, is) refl
+
+module _ (names : Names) (seats : List ℕ) (k : NameKey) (answer : Seating) (seat end : ℕ) (same : answer ≡ seating_from names seats k seat (end - seat)) where
+  pub seating_vacant : seat < end → holder_of names seats seat ≡ None → answer ≡ Vacant seat
+  seating_vacant lt none = same ∙ (next_seat names seats k seat end lt ∙ rw none refl)
+
+  pub seating_seated : (h : NameKey) → seat < end → holder_of names seats seat ≡ Some h → is_eq (by_words k h) ≡ true → answer ≡ Seated
+  seating_seated h lt at is = same ∙ (next_seat names seats k seat end lt ∙ rw (at, is) refl)
+
+  pub seating_next : (h : NameKey) → seat < end → holder_of names seats seat ≡ Some h → is_eq (by_words k h) ≡ false
+      → answer ≡ seating_from names seats k (seat + 1) (end - (seat + 1))
+  seating_next h lt at is = same ∙ (next_seat names seats k seat end lt ∙ rw (at, is) refl)
+
+  pub seating_end : end ≤ seat → answer ≡ Crowded
+  seating_end le =
+      let none : end - seat ≡ 0 = omega (arith, le) in
+      same ∙ ap (λ (n : ℕ). seating_from names seats k seat n) none
+
+-- equal words are those of one name
+pub same_name : (h k : NameKey) (words answer : Bool)
+    → words ≡ ((h.first == k.first) && ((h.second == k.second) && ((h.third == k.third) && (h.fourth == k.fourth)))) → words ≡ answer
+    → is_eq (by_words k h) ≡ answer
+same_name h k words answer are at = rw (← same_either h k, same_words h k, ← are) at
+
+-- a name with a seat is among the names
+seated_step : (names : Names) (i seat : ℕ) (k : NameKey) (o : Option NameKey) (further : Seating) → slice_get names i ≡ o
+    → (further ≡ Seated → is_among names k ≡ true) → seating_at seat k o further ≡ Seated → is_among names k ≡ true
+seated_step names i seat k None further at more e = cc
+seated_step names i seat k (Some h) further at more e =
+    elim (cases_Bool (is_eq (by_words k h))) [
+      | inl t ↦ at_among names i h k at t
+      | inr f ↦ more (rw f at e)
     ]
 
--- a name with a seat has it
-pub own_holder : (names : Names) (seats : List ℕ) (i : ℕ) (k : NameKey) → HaveSeats names seats → slice_get names i ≡ Some k
-    → holder_of names seats (seat_in (length seats) k) ≡ Some k
-own_holder names seats i k own at = rw (own i k at, at, eq-eqb (seat_in (length seats) k) (seat_in (length seats) k) refl)
+seated_from : (names : Names) (seats : List ℕ) (k : NameKey) (seat n : ℕ) → seating_from names seats k seat n ≡ Seated → is_among names k ≡ true
+seated_from names seats k seat zero e = cc
+seated_from names seats k seat (suc n) e =
+    seated_step names (slice_index seats seat) seat k (holder_of names seats seat) (seating_from names seats k (seat + 1) n) refl
+    (seated_from names seats k (seat + 1) n) e
 
--- a name whose seat none has is not among the names
-unseated : (names : Names) (seats : List ℕ) (k : NameKey) → HaveSeats names seats → holder_of names seats (seat_in (length seats) k) ≡ None
-    → is_among names k ≡ false
-unseated names seats k own none =
-    false_from_ne_true (is_among names k) (λ t. let r = among_at names k t in cc (sym none ∙ own_holder names seats r.0 k own r.1))
+pub seated_among : (names : Names) (seats : List ℕ) (rest : Names) (k : NameKey) → seating_of names seats k ≡ Seated → is_among (names ++ rest) k ≡ true
+unfolding seating_of
+seated_among names seats rest k e =
+    rw (list_any-append (λ n. is_eq (by_words k n)) names rest, seated_from names seats k (seat_in (length seats - 8) k) 8 e) refl
 
--- so it is among the rest, if anywhere
-found_in_rest : (names : Names) (seats : List ℕ) (rest : Names) (k : NameKey) → AreSeated names seats rest
-    → holder_of names seats (seat_in (length seats) k) ≡ None → is_among (names ++ rest) k ≡ is_among rest k
-found_in_rest names seats rest k s none = rw (list_any-append (λ n. is_eq (by_words k n)) names rest, unseated names seats k s.own none)
+-- a vacant seat is one of those that were looked at, and none has it
+record IsVacant (names : Names) (seats : List ℕ) (from n seat : ℕ) : Type 0 where
+  none : holder_of names seats seat ≡ None
+  after : from ≤ seat
+  before : seat < from + n
 
--- and where numbers are left, it is not in the set
-not_found : (names : Names) (seats : List ℕ) (rest : Names) (k : NameKey) → AreSeated names seats rest → length names < 2 ^ 32
-    → holder_of names seats (seat_in (length seats) k) ≡ None → is_among (names ++ rest) k ≡ false
-not_found names seats rest k s few none =
-    rw (found_in_rest names seats rest k s none)
-    (false_from_ne_true (is_among rest k) (λ t. elim (s.taken k t) [ inl held ↦ cc (sym (ap is_some none) ∙ held) | inr full ↦ absurd (omega arith) ]))
+vacant_step : (names : Names) (seats : List ℕ) (k : NameKey) (from n seat : ℕ) (o : Option NameKey) (further : Seating)
+    → holder_of names seats from ≡ o → (further ≡ Vacant seat → IsVacant names seats (from + 1) n seat)
+    → seating_at from k o further ≡ Vacant seat → IsVacant names seats from (suc n) seat
+vacant_step names seats k from n seat None further at more e =
+    let same : from ≡ seat = cc in
+    record { none = rw (← same) at; after = omega (arith, same); before = omega (arith, same) }
+vacant_step names seats k from n seat (Some h) further at more e =
+    elim (cases_Bool (is_eq (by_words k h))) [
+      | inl t ↦ let clash = rw t at e in cc
+      | inr f ↦ let v = more (rw f at e) in record { none = v.none; after = omega (arith, v.after); before = omega (arith, v.before) }
+    ]
 
--- a name whose seat another has is among the rest, if anywhere
-found : (names : Names) (seats : List ℕ) (rest : Names) (k h : NameKey) → AreSeated names seats rest
-    → holder_of names seats (seat_in (length seats) k) ≡ Some h → is_among (names ++ rest) k ≡ (is_eq (by_words k h) || is_among rest k)
-found names seats rest k h s some =
-    let at : slice_get names (get_or seats (seat_in (length seats) k) 0) ≡ Some h =
-    seated_at (length seats) (seat_in (length seats) k) (slice_get names (get_or seats (seat_in (length seats) k) 0)) h some in
-    let first : is_among names k ≡ is_eq (by_words k h) =
-    both_ways (is_among names k) (is_eq (by_words k h))
-    (λ t. let r = among_at names k t in
-    let e : Some k ≡ Some h = sym (own_holder names seats r.0 k s.own r.1) ∙ some in
-    let same : k ≡ h = cc in
-    rw same (same_itself h))
-    (λ t. at_among names (get_or seats (seat_in (length seats) k) 0) h k at t) in
-    rw (list_any-append (λ n. is_eq (by_words k n)) names rest, first)
+vacant_from : (names : Names) (seats : List ℕ) (k : NameKey) (from n seat : ℕ) → seating_from names seats k from n ≡ Vacant seat
+    → IsVacant names seats from n seat
+vacant_from names seats k from zero seat e = cc
+vacant_from names seats k from (suc n) seat e =
+    vacant_step names seats k from n seat (holder_of names seats from) (seating_from names seats k (from + 1) n) refl
+    (vacant_from names seats k (from + 1) n seat) e
 
--- a new name is given its seat
-held_more : (n s : ℕ) (names more : Names) (i : ℕ) (o : Option NameKey) → slice_get names i ≡ o → is_some (if_seated n s o) ≡ true
-    → is_some (if_seated n s (slice_get (names ++ more) i)) ≡ true
-held_more n s names more i None at h = cc
-held_more n s names more i (Some k) at h = ap (λ o. is_some (if_seated n s o)) (at_more names more i k at) ∙ h
+-- a vacant seat is given to a new name: who had a seat has it still
+had : (names : Names) (seats : List ℕ) (seat from : ℕ) (name h : NameKey) → holder_of names seats seat ≡ None
+    → holder_of names seats from ≡ Some h
+    → holder_of (names ++ name ∷ []) (set seats seat (length names)) from ≡ Some h
+had names seats seat from name h free at =
+    let other : from ≢ seat = λ e. cc (sym free ∙ (ap (λ (x : ℕ). holder_of names seats x) (sym e) ∙ at)) in
+    rw (get_or-set_other seats seat from (length names) 0 other) (at_more names (name ∷ []) (slice_index seats from) h at)
 
-pub seated_new : (names : Names) (seats : List ℕ) (rest : Names) (seat : ℕ) (name : NameKey) → AreSeated names seats rest → length names < 2 ^ 32
-    → seat < length seats → seat ≡ seat_in (length seats) name → holder_of names seats seat ≡ None
-    → AreSeated (names ++ name ∷ []) (set seats seat (length names)) rest
-seated_new names seats rest seat name s few inside is free =
-    let long : length (set seats seat (length names)) ≡ length seats = length-set seats seat (length names) in
-    let apart : (k : NameKey) → is_some (holder_of names seats (seat_in (length seats) k)) ≡ true → seat_in (length seats) k ≢ seat =
-    λ k some same. cc (sym (ap (λ (x : ℕ). is_some (holder_of names seats x)) same ∙ ap is_some free) ∙ some) in
-    record {
-      few = omega (arith, length-append names (name ∷ []));
-      own = λ i k at. rw long
-          (elim (at_last names name i k at) [
-            | inl old ↦
-                rw (get_or-set_other seats seat (seat_in (length seats) k) (length names) 0 (apart k (ap is_some (own_holder names seats i k s.own old))))
-                (s.own i k old)
-            | inr new ↦ rw (← new.1, ← is, get_or-set_same seats seat (length names) 0 inside) (sym new.0)
-          ]);
-      taken = λ k among.
-          elim (s.taken k among) [
-            | inl held ↦
-                inl (rw (long, get_or-set_other seats seat (seat_in (length seats) k) (length names) 0 (apart k held))
-                (held_more (length seats) (seat_in (length seats) k) names (name ∷ []) (get_or seats (seat_in (length seats) k) 0)
-                (slice_get names (get_or seats (seat_in (length seats) k) 0)) refl held))
-            | inr full ↦ absurd (omega arith)
-          ];
-    }
+-- what is found at seats of which none is vacant
+abbrev IsTaken : Seating → Type 0
+IsTaken Seated = Unit
+IsTaken (Vacant seat) = ⊥
+IsTaken Crowded = Unit
+
+stays_step : (seat : ℕ) (k : NameKey) (o p : Option NameKey) (old new answer : Seating) → ((h : NameKey) → o ≡ Some h → p ≡ Some h)
+    → (old ≡ answer → new ≡ answer) → IsTaken answer → seating_at seat k o old ≡ answer → seating_at seat k p new ≡ answer
+stays_step seat k None p old new Seated held more taken e = cc
+stays_step seat k None p old new (Vacant other) held more taken e = absurd taken
+stays_step seat k None p old new Crowded held more taken e = cc
+stays_step seat k (Some h) p old new answer held more taken e =
+    rw (held h refl)
+    (elim (cases_Bool (is_eq (by_words k h))) [
+      | inl t ↦ rw t (rw t at e)
+      | inr f ↦ rw f (more (rw f at e))
+    ])
+
+stays_from : (names : Names) (seats : List ℕ) (seat : ℕ) (name : NameKey) → holder_of names seats seat ≡ None
+    → (answer : Seating) → IsTaken answer → (k : NameKey) (from n : ℕ) → seating_from names seats k from n ≡ answer
+    → seating_from (names ++ name ∷ []) (set seats seat (length names)) k from n ≡ answer
+stays_from names seats seat name free answer taken k from zero e = e
+stays_from names seats seat name free answer taken k from (suc n) e =
+    stays_step from k (holder_of names seats from) (holder_of (names ++ name ∷ []) (set seats seat (length names)) from)
+    (seating_from names seats k (from + 1) n) (seating_from (names ++ name ∷ []) (set seats seat (length names)) k (from + 1) n) answer
+    (λ h at. had names seats seat from name h free at) (stays_from names seats seat name free answer taken k (from + 1) n) taken e
+
+-- and the new name has it
+gains_step : (names : Names) (seats : List ℕ) (seat from : ℕ) (name : NameKey) (o : Option NameKey) (old new : Seating)
+    → holder_of names seats from ≡ o → seat < length seats → holder_of names seats seat ≡ None
+    → (old ≡ Vacant seat → new ≡ Seated) → seating_at from name o old ≡ Vacant seat
+    → seating_at from name (holder_of (names ++ name ∷ []) (set seats seat (length names)) from) new ≡ Seated
+gains_step names seats seat from name None old new at inside free more e =
+    let same : from ≡ seat = cc in
+    rw (same, get_or-set_same seats seat (length names) 0 inside, at_end names name, same_itself name) refl
+gains_step names seats seat from name (Some h) old new at inside free more e =
+    rw (had names seats seat from name h free at)
+    (elim (cases_Bool (is_eq (by_words name h))) [
+      | inl t ↦ let clash = rw t at e in cc
+      | inr f ↦ rw f (more (rw f at e))
+    ])
+
+gains_from : (names : Names) (seats : List ℕ) (seat : ℕ) (name : NameKey) → seat < length seats → holder_of names seats seat ≡ None
+    → (from n : ℕ) → seating_from names seats name from n ≡ Vacant seat
+    → seating_from (names ++ name ∷ []) (set seats seat (length names)) name from n ≡ Seated
+gains_from names seats seat name inside free from zero e = cc
+gains_from names seats seat name inside free from (suc n) e =
+    gains_step names seats seat from name (holder_of names seats from) (seating_from names seats name (from + 1) n)
+    (seating_from (names ++ name ∷ []) (set seats seat (length names)) name (from + 1) n) refl inside free
+    (gains_from names seats seat name inside free (from + 1) n) e
 
 or_swap : (a b c : Bool) → ((a || (b || false)) || c) ≡ (b || (a || c))
 or_swap true true c = refl
@@ -149,59 +196,107 @@ with_same names name there = λ k.
       | inr f ↦ rw f
     ]
 
--- one name is seated anew
-pub reseated : (names : Names) (old seats : List ℕ) (i seat count : ℕ) (name : NameKey) → HaveSeats names old
-    → ((a b : NameKey) → seat_in count a ≡ seat_in count b → seat_in (length old) a ≡ seat_in (length old) b)
-    → slice_get names i ≡ Some name → seat ≡ seat_in count name → seat < length seats
-    → ((j : ℕ) (k : NameKey) → j < i → slice_get names j ≡ Some k → get_or seats (seat_in count k) 0 ≡ j)
-    → (j : ℕ) (k : NameKey) → j < i + 1 → slice_get names j ≡ Some k → get_or (set seats seat i) (seat_in count k) 0 ≡ j
-reseated names old seats i seat count name own parts at is inside before j k lt there =
-    elim (cases_Bool (j == i)) [
-      | inl t ↦
-          let same : j ≡ i = eqb-true j i t in
-          let one : Some k ≡ Some name = sym there ∙ (ap (slice_get names) same ∙ at) in
-          let key : k ≡ name = cc in
-          rw (key, ← is, same) (get_or-set_same seats seat i 0 inside)
-      | inr f ↦
-          let other : j ≢ i = λ e. cc (sym (eq-eqb j i e) ∙ f) in
-          let apart : seat_in count k ≢ seat = λ e. other (sym (own j k there) ∙ rw (parts k name (e ∙ is)) (own i name at)) in
-          rw (get_or-set_other seats seat (seat_in count k) i 0 apart) (before j k (omega (arith, other)) there)
-    ]
+-- what may be found
+told : (answer : Seating) → (answer ≡ Seated) ⊎ ((answer ≡ Crowded) ⊎ ((seat : ℕ) × (answer ≡ Vacant seat)))
+told Seated = inl refl
+told (Vacant seat) = inr (inr (seat, refl))
+told Crowded = inr (inl refl)
 
--- what was read is who has the seat
-module _ {names read rest : Names} {seats : List ℕ} {seat : ℕ} (name : NameKey) {o : Option NameKey} (s : AreSeated names seats rest) (same : read ≡ names)
-    (is : seat ≡ seat_in (length seats) name) (held : o ≡ holder_of read seats seat) where
-  pub held_by : {p : Option NameKey} → o ≡ p → holder_of names seats (seat_in (length seats) name) ≡ p
-  held_by e = rw (← is, ← same, ← held) e
+or_right : (a b : Bool) → (a || b) ≡ false → b ≡ false
+or_right true b h = cc
+or_right false b h = h
 
-  pub held_by_none : length names < 2 ^ 32 → o ≡ None → is_among (names ++ rest) name ≡ false
-  held_by_none few e = not_found names seats rest name s few (held_by e)
+module _ (names : Names) (seats : List ℕ) (rest : Names) (seat : ℕ) (name : NameKey) (s : AreSeated names seats rest) (inside : seat < length seats)
+    (found : seating_of names seats name ≡ Vacant seat) where
+  free : holder_of names seats seat ≡ None
+  unfolding seating_of
+  free = (vacant_from names seats name (seat_in (length seats - 8) name) 8 seat found).none
 
-  pub held_by_rest : o ≡ None → is_among (names ++ rest) name ≡ is_among rest name
-  held_by_rest e = found_in_rest names seats rest name s (held_by e)
+  -- seats that are not vacant tell the same
+  stays : (answer : Seating) → IsTaken answer → (k : NameKey) → seating_of names seats k ≡ answer
+      → seating_of (names ++ name ∷ []) (set seats seat (length names)) k ≡ answer
+  unfolding seating_of
+  stays answer taken k e =
+      rw (length-set seats seat (length names)) (stays_from names seats seat name free answer taken k (seat_in (length seats - 8) k) 8 e)
 
-  -- equal words are those of one name
-  pub held_by_some : {h : NameKey} {words answer : Bool} → o ≡ Some h
-      → words ≡ ((h.first == name.first) && ((h.second == name.second) && ((h.third == name.third) && (h.fourth == name.fourth)))) → words ≡ answer
-      → is_among (names ++ rest) name ≡ (answer || is_among rest name)
-  held_by_some {h = h} e are at = rw (← at, are, ← same_words h name, same_either h name) (found names seats rest name h s (held_by e))
+  gains : (k : NameKey) → is_eq (by_words name k) ≡ true → seating_of (names ++ name ∷ []) (set seats seat (length names)) k ≡ Seated
+  unfolding seating_of
+  gains k same =
+      rw (← one_key name k same, length-set seats seat (length names))
+      (gains_from names seats seat name inside free (seat_in (length seats - 8) name) 8 found)
 
--- the names of a set whose seats are told
-pub all_seated : (names : Names) (seats : List ℕ) (i count : ℕ) → length seats ≡ count → length names ≤ i
-    → ((j : ℕ) (k : NameKey) → j < i → slice_get names j ≡ Some k → get_or seats (seat_in count k) 0 ≡ j) → HaveSeats names seats
-all_seated names seats i count long past before = λ j k at.
-    rw long (before j k (omega (arith, slice_get_within names j k at)) at)
+  was_vacant : (k : NameKey) (other : ℕ) → seating_of (names ++ name ∷ []) (set seats seat (length names)) k ≡ Vacant other
+      → is_among (names ++ rest) k ≡ false
+  was_vacant k other e =
+      elim (told (seating_of names seats k)) [
+        | inl seated ↦ cc (sym (stays Seated tt k seated) ∙ e)
+        | inr further ↦
+            elim further [
+              | inl crowded ↦ cc (sym (stays Crowded tt k crowded) ∙ e)
+              | inr vacant ↦ s.vacant k vacant.0 vacant.1
+            ]
+      ]
 
--- of no seats, all names have one
-seat_none : (k : NameKey) → seat_in 0 k ≡ 0
-unfolding seat_in
-seat_none k = let none : spread_of k * 0 ≡ 0 = omega arith in ap (λ (m : ℕ). m / 2 ^ 64) none
+  was_crowded : (k : NameKey) → seating_of (names ++ name ∷ []) (set seats seat (length names)) k ≡ Crowded
+      → is_among (names ++ rest) k ≡ is_among rest k
+  was_crowded k e =
+      elim (told (seating_of names seats k)) [
+        | inl seated ↦ cc (sym (stays Seated tt k seated) ∙ e)
+        | inr further ↦
+            elim further [
+              | inl crowded ↦ s.crowded k crowded
+              | inr vacant ↦
+                  let none = s.vacant k vacant.0 vacant.1 in
+                  none ∙ sym (or_right (is_among names k) (is_among rest k) (sym (list_any-append (λ n. is_eq (by_words k n)) names rest) ∙ none))
+            ]
+      ]
 
--- seats are split, or there were none
-pub parted : (n count : ℕ) → (n ≡ 0) ⊎ (count ≡ 2 * n) → (a b : NameKey) → seat_in count a ≡ seat_in count b → seat_in n a ≡ seat_in n b
-parted n count (inl none) a b h = rw (none, seat_none a) (sym (seat_none b))
-parted n count (inr twice) a b h = split n a b (rw twice at h)
+  -- a name that has no seat then is not the new one
+  pub seated_new : AreSeated (names ++ name ∷ []) (set seats seat (length names)) rest
+  seated_new = record {
+    vacant = λ k other e.
+        let new : is_eq (by_words name k) ≡ false = false_from_ne_true _ (λ t. cc (sym (gains k t) ∙ e)) in
+        rw (with_new names rest name k, new) (was_vacant k other e);
+    crowded = λ k e.
+        let new : is_eq (by_words name k) ≡ false = false_from_ne_true _ (λ t. cc (sym (gains k t) ∙ e)) in
+        rw (with_new names rest name k, new) (was_crowded k e);
+  }
 
-pub some : (n : ℕ) → (n == 0) ≡ false → 0 < n
-some zero h = cc
-some (suc n) h = omega arith
+either_way : (a b c : Bool) → (a || c) ≡ c → (a || (b || c)) ≡ (b || c)
+either_way true true c h = refl
+either_way true false c h = h
+either_way false b c h = refl
+
+-- a name whose seats are crowded is put among the rest
+pub seated_rest : (names : Names) (seats : List ℕ) (old new : Names) (name : NameKey) → AreSeated names seats old
+    → seating_of names seats name ≡ Crowded → IsWith old new name → AreSeated names seats new
+seated_rest names seats old new name s full with = record {
+  vacant = λ k seat e.
+      let other : is_eq (by_words name k) ≡ false =
+      false_from_ne_true _ (λ t. let same : name ≡ k = one_key name k t in
+      cc (sym full ∙ (ap (λ (x : NameKey). seating_of names seats x) same ∙ e))) in
+      rw (list_any-append (λ n. is_eq (by_words k n)) names new, with k, other, ← list_any-append (λ n. is_eq (by_words k n)) names old)
+      (s.vacant k seat e);
+  crowded = λ k e.
+      rw (list_any-append (λ n. is_eq (by_words k n)) names new, with k)
+      (either_way (is_among names k) (is_eq (by_words name k)) (is_among old k)
+      (sym (list_any-append (λ n. is_eq (by_words k n)) names old) ∙ s.crowded k e));
+}
+
+-- no names have all their seats
+pub none_seated : (seats : List ℕ) → AreSeated [] seats []
+none_seated seats = record { vacant = λ k seat e. refl; crowded = λ k e. refl }
+
+-- one name more of many that are put in
+pub with_one : (old now new more : Names) (i : ℕ) (d : NameKey) → i < length more → IsUnion old (take i more) now → IsWith now new (get_or more i d)
+    → IsUnion old (take (i + 1) more) new
+with_one old now new more i d lt union with = λ k.
+    let one : i + 1 ≡ suc i = omega arith in
+    rw (
+      one,
+      take-suc more i d lt,
+      list_any-append (λ n. is_eq (by_words k n)) (take i more) (get_or more i d ∷ []),
+      with k,
+      union k,
+      same_either k (get_or more i d),
+    ) (sym (or_swap (is_among (take i more) k) (is_eq (by_words (get_or more i d) k)) (is_among old k)))

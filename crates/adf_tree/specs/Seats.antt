@@ -1,30 +1,36 @@
 -- The seats of names: where a name is looked for by a number of its own.
-use Rattle.std.specs.Prelude.{◌≡◌, ◌≤◌, ℕ, ◌*◌, ◌/◌, ◌^◌, ◌==◌, ◌⊎◌, true, List, length, Option, Some, None, if◌then◌else◌, slice_index}
+use Rattle.std.specs.Prelude.{◌≡◌, ℕ, ◌+◌, ◌-◌, ◌*◌, ◌/◌, ◌^◌, ◌++◌, zero, suc, false, List, length, Option, Some, None, if◌then◌else◌, slice_index}
 use Rattle.std.specs.List.{slice_get}
-use Rattle.std.specs.Option.{is_some}
+use Rattle.std.specs.Ordering.{is_eq}
 use Rattle.adf_tree.specs.declared.name_key.NameKey.{NameKey}
-use Rattle.adf_tree.specs.NameKeys.{spread_of}
+use Rattle.adf_tree.specs.declared.name_set.Seating.{Seating}
+use Rattle.adf_tree.specs.declared.name_set.Seating.TheVariants.{Seated, Vacant, Crowded}
+use Rattle.adf_tree.specs.NameKeys.{by_words, spread_of}
 use Rattle.adf_tree.specs.NameSet.{Names, is_among}
 
--- the seat of a name among so many
+-- the first seat of a name among so many
 unfoldable pub seat_in : ℕ → NameKey → ℕ
 seat_in count k = spread_of k * count / 2 ^ 64
 
--- a name, where this is its seat among so many
-abbrev pub if_seated : ℕ → ℕ → Option NameKey → Option NameKey
-if_seated count seat None = None
-if_seated count seat (Some k) = if seat_in count k == seat then Some k else None
-
 -- the name that has a seat
 abbrev pub holder_of : Names → List ℕ → ℕ → Option NameKey
-holder_of names seats seat = if_seated (length seats) seat (slice_get names (slice_index seats seat))
+holder_of names seats seat = slice_get names (slice_index seats seat)
 
--- each name has its seat
-abbrev pub HaveSeats : Names → List ℕ → Type 0
-HaveSeats names seats = (i : ℕ) (k : NameKey) → slice_get names i ≡ Some k → slice_index seats (seat_in (length seats) k) ≡ i
+-- what is found at a seat that this name has, where the further seats tell that
+abbrev pub seating_at : ℕ → NameKey → Option NameKey → Seating → Seating
+seating_at seat k None further = Vacant seat
+seating_at seat k (Some held) further = if is_eq (by_words k held) then Seated else further
 
--- each name has its seat, and the seats of the rest are taken, or no number is left to be seated by
+-- what is found at so many seats from one on
+abbrev pub seating_from : Names → List ℕ → NameKey → ℕ → ℕ → Seating
+seating_from names seats k seat zero = Crowded
+seating_from names seats k seat (suc n) = seating_at seat k (holder_of names seats seat) (seating_from names seats k (seat + 1) n)
+
+-- what is found at the seats of a name
+unfoldable pub seating_of : Names → List ℕ → NameKey → Seating
+seating_of names seats k = seating_from names seats k (seat_in (length seats - 8) k) 8
+
+-- where a seat of a name is vacant, it is not in the set; where they are crowded, it is among the rest, if anywhere
 pub record AreSeated (names : Names) (seats : List ℕ) (rest : Names) : Type 0 where
-  pub few : length names ≤ 2 ^ 32
-  pub own : HaveSeats names seats
-  pub taken : (k : NameKey) → is_among rest k ≡ true → (is_some (holder_of names seats (seat_in (length seats) k)) ≡ true) ⊎ (2 ^ 32 ≤ length names)
+  pub vacant : (k : NameKey) (seat : ℕ) → seating_of names seats k ≡ Vacant seat → is_among (names ++ rest) k ≡ false
+  pub crowded : (k : NameKey) → seating_of names seats k ≡ Crowded → is_among (names ++ rest) k ≡ is_among rest k

@@ -1,10 +1,11 @@
 // Sets of names, of which equal ones without the case of `a` to `z` are one.
 
-ghost use Rattle.std.specs.Prelude.{◌≡◌, ◌<◌, ◌≤◌, ◌^◌, ◌++◌, [], ◌∷◌, ℕ, List, None, length, false, not, IfOk, OnErr, OnOk};
+ghost use Rattle.std.specs.Prelude.{◌≡◌, ◌<◌, ◌≤◌, ◌++◌, [], ◌∷◌, ℕ, List, length, false, not, IfOk, OnErr, OnOk};
 ghost use Rattle.adf_tree.specs.Texts.{uppers};
 ghost use Rattle.adf_tree.specs.NameSet.{has, is_among, HasMore, IsUnion, IsWith, Names};
 ghost use Rattle.adf_tree.specs.declared.name_key.NameKey.{NameKey};
-ghost use Rattle.adf_tree.specs.Seats.{holder_of, seat_in, AreSeated, HaveSeats};
+ghost use Rattle.adf_tree.specs.Seats.{holder_of, seat_in, seating_of, AreSeated};
+ghost use Rattle.adf_tree.specs.declared.name_set.Seating.TheVariants.{Vacant};
 
 use crate::name::Name;
 use crate::name_key::NameKey;
@@ -16,11 +17,11 @@ use std::mem;
 
 const FIRST_SEATS: usize = 64;
 
-/// Names that have numbers to be seated by.
-const MOST_SEATED: usize = 1 << 32;
+/// Seats that a name may have, one behind the other.
+const CHOICE: usize = 8;
 
-/// A set of names, of which equal ones without the case of `a` to `z` are one. Each name has a seat by its number; those
-/// that find their seat taken, or no number left, stand in order.
+/// A set of names, of which equal ones without the case of `a` to `z` are one. Each name has the first seat by its
+/// number that none had, out of eight; those that find all eight taken stand in order.
 #[derive(Drop)]
 pub struct NameSet {
     seated: Vec<NameKey>,
@@ -40,26 +41,51 @@ impl Model for NameSet {
     ghost invariant = { λ s. AreSeated s.seated.items s.seats.items s.rest.keys };
 }
 
+/// How a name is seated.
+pub enum Seating {
+    /// The name has a seat.
+    Seated,
+    /// This is the first seat that none has.
+    Vacant(usize),
+    /// Others have all its seats.
+    Crowded,
+}
+
 #[tactic(auto, unfolding(crate::specs::Seats::seat_in))]
-// The seat of a name among so many.
+// The first seat of a name among so many.
 fn seat_of(name: NameKey, count: usize) -> usize
     ensures exact { result ≡ seat_in count name }
+    ensures within { result ≤ count }
     ensures below { 0 < count → result < count }
 {
     ((u128::from(name.spread()) * count as u128) >> 64) as usize
 }
 
-// The name that has a seat; of a seat that was given before the set was cleared the number may be that of another name.
+// The name that has a seat.
 fn holder(names: &[NameKey], seats: &[u32], seat: usize) -> Option<NameKey>
     ensures { result ≡ holder_of names.now seats.now seat }
 {
     let place = seats.get(seat).copied().unwrap_or(0);
-    let name = *names.get(place as usize)?;
-    if seat_of(name, seats.len()) == seat {
-        Some(name)
-    } else {
-        None
+    names.get(place as usize).copied()
+}
+
+// How a name is seated.
+fn seating_of(names: &[NameKey], seats: &[u32], name: NameKey) -> Seating
+    ensures exact { result ≡ seating_of names.now seats.now name }
+    ensures inside { 8 < length seats.now → (seat : ℕ) → result ≡ Vacant seat → seat < length seats.now }
+{
+    let first = seat_of(name, seats.len().saturating_sub(CHOICE));
+    for seat in first..first + CHOICE {
+        match holder(names, seats, seat) {
+            None => return Seating::Vacant(seat),
+            Some(held) => {
+                if held == name {
+                    return Seating::Seated;
+                }
+            }
+        }
     }
+    Seating::Crowded
 }
 
 // Whether a name is seated or among the rest.
@@ -67,40 +93,30 @@ fn is_in(names: &[NameKey], seats: &[u32], rest: &BTreeSet<NameKey>, name: NameK
     requires { AreSeated names.now seats.now rest.now.keys }
     ensures { result ≡ is_among (names.now ++ rest.now.keys) name }
 {
-    match holder(names, seats, seat_of(name, seats.len())) {
-        Some(held) => held == name || rest.contains(&name),
-        None if names.len() < MOST_SEATED => false,
-        None => rest.contains(&name),
+    match seating_of(names, seats, name) {
+        Seating::Seated => true,
+        Seating::Vacant(_) => false,
+        Seating::Crowded => rest.contains(&name),
     }
 }
 
-// Whether there are no seats, or more would help: a quarter is taken, and the rest are not most names.
+// Whether there are no seats, or more would help: a half is taken, and the rest are not most names.
 fn are_few(seats: usize, seated: usize, rest: usize) -> bool
-    ensures { result ≡ false → 0 < seats }
+    ensures { result ≡ false → 8 < seats }
 {
-    seats == 0 || (seats / 4 <= seated && rest / 4 <= seated)
+    seats <= CHOICE || (seats / 2 <= seated && rest / 4 <= seated)
 }
 
-// Makes twice as many seats, and seats the names anew.
-fn add_seats(names: &[NameKey], seats: &mut Vec<u32>) -> Result<(), NoMemory>
-    requires few { length names.now ≤ 2 ^ 32 }
-    requires seated { HaveSeats names.now seats.old.items }
-    ensures seated { HaveSeats names.now seats.new.items }
-    ensures some { OnOk result (0 < length seats.new.items) }
+// Makes twice as many seats, which none has.
+fn make_seats(seats: &mut Vec<u32>) -> Result<(), NoMemory>
+    ensures { OnOk result (8 < length seats.new.items) }
 {
-    let count = if seats.is_empty() {
-        FIRST_SEATS
-    } else {
-        2 * seats.len()
-    };
-    if seats.resize(count, u32::MAX).is_err() {
-        return Err(NoMemory);
+    let count = FIRST_SEATS.max(2 * seats.len());
+    seats.clear();
+    match seats.resize(count, u32::MAX) {
+        Ok(()) => Ok(()),
+        Err(_) => Err(NoMemory),
     }
-    for i in 0..names.len() {
-        let seat = seat_of(names[i], count);
-        seats[seat] = i as u32;
-    }
-    Ok(())
 }
 
 // Gives a new name its seat, which none has.
@@ -110,14 +126,14 @@ fn seat_new(
     seat: usize,
     name: NameKey,
 ) -> Result<(), NoMemory>
-    requires few { length names.old.items < 2 ^ 32 }
     requires inside { seat < length seats.old }
-    requires seat { seat ≡ seat_in (length seats.old) name }
-    requires free { holder_of names.old.items seats.old seat ≡ None }
+    requires vacant { seating_of names.old.items seats.old name ≡ Vacant seat }
     ensures seated { (rest : Names) → AreSeated names.old.items seats.old rest → AreSeated names.new.items seats.new rest }
     ensures more { OnOk result (names.new.items ≡ names.old.items ++ name ∷ []) }
 {
-    let place = names.len() as u32;
+    let Ok(place) = u32::try_from(names.len()) else {
+        return Err(NoMemory);
+    };
     if names.push(name).is_err() {
         return Err(NoMemory);
     }
@@ -144,25 +160,19 @@ fn place(
     rest: &mut BTreeSet<NameKey>,
     name: NameKey,
 ) -> Result<bool, NoMemory>
-    requires some { 0 < length seats.old }
+    requires some { 8 < length seats.old }
     requires seated { AreSeated names.old.items seats.old rest.old.keys }
     ensures seated { AreSeated names.new.items seats.new rest.new.keys }
     ensures new { IfOk result (λ is_new. is_new ≡ not (is_among (names.old.items ++ rest.old.keys) name)) }
     ensures more { OnOk result (IsWith (names.old.items ++ rest.old.keys) (names.new.items ++ rest.new.keys) name) }
 {
-    let seat = seat_of(name, seats.len());
-    match holder(names, seats, seat) {
-        None if names.len() < MOST_SEATED => {
+    match seating_of(names, seats, name) {
+        Seating::Seated => Ok(false),
+        Seating::Vacant(seat) => {
             seat_new(names, seats, seat, name)?;
             Ok(true)
         }
-        None => put_in_rest(rest, name),
-        Some(held) => {
-            if held == name {
-                return Ok(false);
-            }
-            put_in_rest(rest, name)
-        }
+        Seating::Crowded => put_in_rest(rest, name),
     }
 }
 
@@ -171,9 +181,27 @@ fn place_all(
     names: &mut Vec<NameKey>,
     seats: &mut [u32],
     rest: &mut BTreeSet<NameKey>,
+    more: &[NameKey],
+) -> Result<(), NoMemory>
+    requires some { 8 < length seats.old }
+    requires seated { AreSeated names.old.items seats.old rest.old.keys }
+    ensures seated { AreSeated names.new.items seats.new rest.new.keys }
+    ensures more { OnOk result (IsUnion (names.old.items ++ rest.old.keys) more.now (names.new.items ++ rest.new.keys)) }
+{
+    for i in 0..more.len() {
+        place(names, seats, rest, more[i])?;
+    }
+    Ok(())
+}
+
+// Puts names in that stand in order.
+fn place_rest(
+    names: &mut Vec<NameKey>,
+    seats: &mut [u32],
+    rest: &mut BTreeSet<NameKey>,
     mut more: BTreeSet<NameKey>,
 ) -> Result<(), NoMemory>
-    requires some { 0 < length seats.old }
+    requires some { 8 < length seats.old }
     requires seated { AreSeated names.old.items seats.old rest.old.keys }
     ensures seated { AreSeated names.new.items seats.new rest.new.keys }
     ensures more { OnOk result (IsUnion (names.old.items ++ rest.old.keys) more.keys (names.new.items ++ rest.new.keys)) }
@@ -184,7 +212,7 @@ fn place_all(
     Ok(())
 }
 
-// Makes more seats where they are too few, and gives them to the rest as far as they go.
+// Makes more seats where they are too few, and seats all names anew.
 fn make_room(
     names: &mut Vec<NameKey>,
     seats: &mut Vec<u32>,
@@ -192,15 +220,21 @@ fn make_room(
 ) -> Result<(), NoMemory>
     requires seated { AreSeated names.old.items seats.old.items rest.old.keys }
     ensures seated { AreSeated names.new.items seats.new.items rest.new.keys }
-    ensures some { OnOk result (0 < length seats.new.items) }
+    ensures some { OnOk result (8 < length seats.new.items) }
     ensures same { OnOk result ((k : NameKey) → is_among (names.new.items ++ rest.new.keys) k ≡ is_among (names.old.items ++ rest.old.keys) k) }
 {
     if !are_few(seats.len(), names.len(), rest.len()) {
         return Ok(());
     }
-    let more = mem::replace(rest, BTreeSet::new(*names.allocator()));
-    add_seats(names, seats)?;
-    place_all(names, seats, rest, more)
+    let alloc = *names.allocator();
+    let Ok(room) = Vec::with_capacity(alloc, seats.len()) else {
+        return Err(NoMemory);
+    };
+    let seated = mem::replace(names, room);
+    let crowded = mem::replace(rest, BTreeSet::new(alloc));
+    make_seats(seats)?;
+    place_all(names, seats, rest, &seated)?;
+    place_rest(names, seats, rest, crowded)
 }
 
 impl NameSet {
@@ -235,10 +269,12 @@ impl NameSet {
     }
 
     #[tactic(auto, unfolding(crate::specs::NameSet::has))]
-    /// Takes all names out.
+    /// Takes all names out. No more seats stay than the names had use for.
     pub fn clear(&mut self)
         ensures { (x : List ℕ) → has self.new x ≡ false }
     {
+        self.seats.truncate(FIRST_SEATS.max(4 * self.seated.len()));
+        self.seats.fill(u32::MAX);
         self.seated.clear();
         self.rest.clear();
     }

@@ -1,35 +1,33 @@
-use Rattle.std.proofs.Common.{◌<◌, ◌^◌, ◌++◌, length, sym, ap, arith}
-use Rattle.std.specs.Prelude.{not}
-use Rattle.adf_tree.proofs.Seats.{held_by_none, held_by_rest, held_by_some, with_same}
+use Rattle.std.proofs.Common.{◌≡◌, ◌++◌, sym, ap, ◌∙◌, Result, Ok, Err, true}
+use Rattle.std.specs.Prelude.{not, OnErr, OnOk}
+use Rattle.adf_tree.specs.NameSet.{is_among}
+use Rattle.adf_tree.proofs.Seats.{seated_among, seated_rest, with_same}
 use Rattle.adf_tree.proofs.name_set.place.Goals as goal
 
-pub returns-in_err-seat_new-in-None-clause-seated : goal.returns-in_err-seat_new-in-None-clause-seated
-returns-in_err-seat_new-in-None-clause-seated c = c.in_err-seat_new-in-None.ensures.seated c.args.rest.now.keys c.requires.seated
+pub seat_new-requires-clause-inside : goal.seat_new-requires-clause-inside
+seat_new-requires-clause-inside c = c.seating_of.ensures.inside c.requires.some c.in-Vacant.seat c.in-Vacant.is
 
-pub returns-in_ok-seat_new-in-None-clause-seated : goal.returns-in_ok-seat_new-in-None-clause-seated
-returns-in_ok-seat_new-in-None-clause-seated c = c.in_ok-seat_new-in-None.ensures.seated c.args.rest.now.keys c.requires.seated
+-- a name with a seat is in the set
+there : (c : goal.In-Seated) → is_among (c.args.names.now.items ++ c.args.rest.now.keys) c.args.name ≡ true
+there c =
+    rw (← c.deref.ensures.value)
+    (seated_among c.deref.result.now c.args.seats.now c.args.rest.now.keys c.args.name (sym c.seating_of.ensures.exact ∙ c.in-Seated.is))
 
-pub returns-in_ok-seat_new-in-None-clause-new : goal.returns-in_ok-seat_new-in-None-clause-new
-returns-in_ok-seat_new-in-None-clause-new c =
-    let few : length c.args.names.now.items < 2 ^ 32 = omega arith in
-    ap not (sym (held_by_none c.args.name c.requires.seated c.deref.ensures.value c.seat_of-seat.ensures.exact c.holder.ensures few c.in-None.is))
+pub returns-in-Seated-clause-new : goal.returns-in-Seated-clause-new
+returns-in-Seated-clause-new c = ap not (sym (there c))
 
-pub returns-in-None-2-clause-new : goal.returns-in-None-2-clause-new
-returns-in-None-2-clause-new c =
-    rw (held_by_rest c.args.name c.requires.seated c.deref.ensures.value c.seat_of-seat.ensures.exact c.holder.ensures c.in-None-2.is)
-    c.put_in_rest.ensures.new
+pub returns-in-Seated-clause-more : goal.returns-in-Seated-clause-more
+returns-in-Seated-clause-more c = with_same (c.args.names.now.items ++ c.args.rest.now.keys) c.args.name (there c)
 
-pub returns-then-eq-clause-new : goal.returns-then-eq-clause-new
-returns-then-eq-clause-new c =
-    ap not (sym (held_by_some c.args.name c.requires.seated c.deref.ensures.value c.seat_of-seat.ensures.exact c.holder.ensures c.in-Some.is
-    c.eq.ensures c.if-eq.true))
+-- what holds on both sides
+on_both : {X Y P Q R : Type 0} (r : Result X Y) → OnOk r P → OnErr r Q → (P → R) → (Q → R) → R
+on_both (Ok x) p q f g = f p
+on_both (Err e) p q f g = g q
 
-pub returns-then-eq-clause-more : goal.returns-then-eq-clause-more
-returns-then-eq-clause-more c =
-    with_same (c.args.names.now.items ++ c.args.rest.now.keys) c.args.name
-    (held_by_some c.args.name c.requires.seated c.deref.ensures.value c.seat_of-seat.ensures.exact c.holder.ensures c.in-Some.is c.eq.ensures c.if-eq.true)
-
-pub returns-else-eq-clause-new : goal.returns-else-eq-clause-new
-returns-else-eq-clause-new c =
-    rw (held_by_some c.args.name c.requires.seated c.deref.ensures.value c.seat_of-seat.ensures.exact c.holder.ensures c.in-Some.is
-    c.eq.ensures c.if-eq.false) c.put_in_rest-in-Some.ensures.new
+pub returns-in-Crowded-clause-seated : goal.returns-in-Crowded-clause-seated
+returns-in-Crowded-clause-seated c =
+    let names = c.args.names.now.items in
+    on_both c.put_in_rest.result c.put_in_rest.ensures.more c.put_in_rest.ensures.same
+    (λ more. seated_rest names c.args.seats.now c.args.rest.now.keys c.put_in_rest.new.rest.keys c.args.name c.requires.seated
+    (rw (← c.deref.ensures.value) (sym c.seating_of.ensures.exact ∙ c.in-Crowded.is)) more)
+    (λ same. rw same c.requires.seated)
