@@ -1,11 +1,11 @@
 -- The seats of names.
 use Rattle.std.proofs.Common.{◌≡◌, ◌≢◌, ◌==◌, ◌&&◌, ◌||◌, ◌⊎◌, inl, inr, ℕ, ◌+◌, ◌-◌, ◌<◌, ◌≤◌, List, [], ◌∷◌, ◌++◌, length}
 use Rattle.std.proofs.Common.{get_or, set, take, Bool, true, false, Option, Some, None, arith, sym, refl, zero, suc, ◌∙◌, ap, get_or-set_same, get_or-set_other}
-use Rattle.std.specs.Prelude.{slice_index}
+use Rattle.std.specs.Prelude.{◌^◌, nat_lt, slice_index}
 use Rattle.std.specs.Ordering.{is_eq}
 use Rattle.std.specs.List.{slice_get}
 use Rattle.std.proofs.Math.Seq.{take-suc}
-use Rattle.std.proofs.lemmas.Bool.{cases_Bool, false_from_ne_true}
+use Rattle.std.proofs.lemmas.Bool.{cases_Bool, false_from_ne_true, lt-ltb, ltb-true}
 use Rattle.std.proofs.lemmas.List.{length-set}
 use Rattle.std.proofs.lemmas.Option.{get_or_from_slice_get, slice_get_within}
 use Rattle.std.proofs.lemmas.List.Folds.{list_any-append, list_any_at}
@@ -14,7 +14,7 @@ use Rattle.adf_tree.specs.declared.name_set.Seating.{Seating}
 use Rattle.adf_tree.specs.declared.name_set.Seating.TheVariants.{Seated, Vacant, Crowded}
 use Rattle.adf_tree.specs.NameKeys.{by_words}
 use Rattle.adf_tree.specs.NameSet.{is_among, IsUnion, IsWith, Names}
-use Rattle.adf_tree.specs.Seats.{holder_of, seat_in, seating_at, seating_from, seating_of, AreSeated}
+use Rattle.adf_tree.specs.Seats.{holder_of, seat_in, seating_at, seating_from, seating_of, seats_tell, while_few, AreSeated}
 use Rattle.adf_tree.proofs.NameKeys.{one_key, same_either, same_itself, same_words}
 
 -- names and their places
@@ -40,8 +40,8 @@ next_seat names seats k seat end lt =
 
 -- the seats of a name, one after the other
 pub seating_start : (names : Names) (seats : List ℕ) (k : NameKey) (first : ℕ) → first ≡ seat_in (length seats - 8) k
-    → seating_of names seats k ≡ seating_from names seats k first (first + 8 - first)
-unfolding seating_of
+    → seats_tell names seats k ≡ seating_from names seats k first (first + 8 - first)
+unfolding seats_tell
 seating_start names seats k first is =
     let all : first + 8 - first ≡ 8 = omega arith in
     rw (all, is) refl
@@ -84,10 +84,33 @@ seated_from names seats k seat (suc n) e =
     seated_step names (slice_index seats seat) seat k (holder_of names seats seat) (seating_from names seats k (seat + 1) n) refl
     (seated_from names seats k (seat + 1) n) e
 
+-- where few names are seated, the seats tell all
+all_told : (count : ℕ) (s : Seating) → count < 2 ^ 32 → while_few count s ≡ s
+all_told count Seated few = refl
+all_told count (Vacant seat) few = rw (lt-ltb count (2 ^ 32) few) refl
+all_told count Crowded few = refl
+
+seated_told : (count : ℕ) (s : Seating) → while_few count s ≡ Seated → s ≡ Seated
+seated_told count Seated e = refl
+seated_told count (Vacant seat) e =
+    elim (cases_Bool (nat_lt count (2 ^ 32))) [ inl t ↦ let clash = rw t at e in cc | inr f ↦ let clash = rw f at e in cc ]
+seated_told count Crowded e = cc
+
+-- a seat is vacant only where few names are seated
+few_told : (count : ℕ) (s : Seating) (seat : ℕ) → while_few count s ≡ Vacant seat → count < 2 ^ 32
+few_told count Seated seat e = cc
+few_told count (Vacant other) seat e =
+    elim (cases_Bool (nat_lt count (2 ^ 32))) [ inl t ↦ ltb-true count (2 ^ 32) t | inr f ↦ let clash = rw f at e in cc ]
+few_told count Crowded seat e = cc
+
+pub few_seated : (names : Names) (seats : List ℕ) (k : NameKey) (seat : ℕ) → seating_of names seats k ≡ Vacant seat → length names < 2 ^ 32
+few_seated names seats k seat e = few_told (length names) (seats_tell names seats k) seat e
+
 pub seated_among : (names : Names) (seats : List ℕ) (rest : Names) (k : NameKey) → seating_of names seats k ≡ Seated → is_among (names ++ rest) k ≡ true
-unfolding seating_of
+unfolding seats_tell
 seated_among names seats rest k e =
-    rw (list_any-append (λ n. is_eq (by_words k n)) names rest, seated_from names seats k (seat_in (length seats - 8) k) 8 e) refl
+    let told : seats_tell names seats k ≡ Seated = seated_told (length names) (seats_tell names seats k) e in
+    rw (list_any-append (λ n. is_eq (by_words k n)) names rest, seated_from names seats k (seat_in (length seats - 8) k) 8 told) refl
 
 -- a vacant seat is one of those that were looked at, and none has it
 record IsVacant (names : Names) (seats : List ℕ) (from n seat : ℕ) : Type 0 where
@@ -208,22 +231,41 @@ or_right false b h = h
 
 module _ (names : Names) (seats : List ℕ) (rest : Names) (seat : ℕ) (name : NameKey) (s : AreSeated names seats rest) (inside : seat < length seats)
     (found : seating_of names seats name ≡ Vacant seat) where
+  taken_told : (answer : Seating) → IsTaken answer → while_few (length (names ++ name ∷ [])) answer ≡ answer
+  taken_told Seated taken = refl
+  taken_told (Vacant seat) taken = absurd taken
+  taken_told Crowded taken = refl
+
+  few : length names < 2 ^ 32
+  few = few_seated names seats name seat found
+
+  found_there : seats_tell names seats name ≡ Vacant seat
+  found_there = sym (all_told (length names) (seats_tell names seats name) few) ∙ found
+
   free : holder_of names seats seat ≡ None
-  unfolding seating_of
-  free = (vacant_from names seats name (seat_in (length seats - 8) name) 8 seat found).none
+  unfolding seats_tell
+  free = (vacant_from names seats name (seat_in (length seats - 8) name) 8 seat found_there).none
 
   -- seats that are not vacant tell the same
-  stays : (answer : Seating) → IsTaken answer → (k : NameKey) → seating_of names seats k ≡ answer
-      → seating_of (names ++ name ∷ []) (set seats seat (length names)) k ≡ answer
-  unfolding seating_of
-  stays answer taken k e =
+  stay_told : (answer : Seating) → IsTaken answer → (k : NameKey) → seats_tell names seats k ≡ answer
+      → seats_tell (names ++ name ∷ []) (set seats seat (length names)) k ≡ answer
+  unfolding seats_tell
+  stay_told answer taken k e =
       rw (length-set seats seat (length names)) (stays_from names seats seat name free answer taken k (seat_in (length seats - 8) k) 8 e)
 
-  gains : (k : NameKey) → is_eq (by_words name k) ≡ true → seating_of (names ++ name ∷ []) (set seats seat (length names)) k ≡ Seated
-  unfolding seating_of
-  gains k same =
+  stays : (answer : Seating) → IsTaken answer → (k : NameKey) → seating_of names seats k ≡ answer
+      → seating_of (names ++ name ∷ []) (set seats seat (length names)) k ≡ answer
+  stays answer taken k e =
+      rw (stay_told answer taken k (sym (all_told (length names) (seats_tell names seats k) few) ∙ e)) (taken_told answer taken)
+
+  gain_told : (k : NameKey) → is_eq (by_words name k) ≡ true → seats_tell (names ++ name ∷ []) (set seats seat (length names)) k ≡ Seated
+  unfolding seats_tell
+  gain_told k same =
       rw (← one_key name k same, length-set seats seat (length names))
-      (gains_from names seats seat name inside free (seat_in (length seats - 8) name) 8 found)
+      (gains_from names seats seat name inside free (seat_in (length seats - 8) name) 8 found_there)
+
+  gains : (k : NameKey) → is_eq (by_words name k) ≡ true → seating_of (names ++ name ∷ []) (set seats seat (length names)) k ≡ Seated
+  gains k same = rw (gain_told k same) refl
 
   was_vacant : (k : NameKey) (other : ℕ) → seating_of (names ++ name ∷ []) (set seats seat (length names)) k ≡ Vacant other
       → is_among (names ++ rest) k ≡ false

@@ -1,5 +1,5 @@
 -- The seats of names: where a name is looked for by a number of its own.
-use Rattle.std.specs.Prelude.{◌≡◌, ℕ, ◌+◌, ◌-◌, ◌*◌, ◌/◌, ◌^◌, ◌++◌, zero, suc, false, List, length, Option, Some, None, if◌then◌else◌, slice_index}
+use Rattle.std.specs.Prelude.{◌≡◌, ℕ, ◌+◌, ◌-◌, ◌*◌, ◌/◌, ◌^◌, ◌++◌, zero, suc, false, List, length, Option, Some, None, if◌then◌else◌, slice_index, nat_lt}
 use Rattle.std.specs.List.{slice_get}
 use Rattle.std.specs.Ordering.{is_eq}
 use Rattle.adf_tree.specs.declared.name_key.NameKey.{NameKey}
@@ -27,8 +27,18 @@ seating_from names seats k seat zero = Crowded
 seating_from names seats k seat (suc n) = seating_at seat k (holder_of names seats seat) (seating_from names seats k (seat + 1) n)
 
 -- what is found at the seats of a name
-unfoldable pub seating_of : Names → List ℕ → NameKey → Seating
-seating_of names seats k = seating_from names seats k (seat_in (length seats - 8) k) 8
+unfoldable pub seats_tell : Names → List ℕ → NameKey → Seating
+seats_tell names seats k = seating_from names seats k (seat_in (length seats - 8) k) 8
+
+-- no seat is vacant where so many names have one that there are no more numbers
+abbrev pub while_few : ℕ → Seating → Seating
+while_few count (Vacant seat) = if nat_lt count (2 ^ 32) then Vacant seat else Crowded
+while_few count Seated = Seated
+while_few count Crowded = Crowded
+
+-- how a name is seated
+abbrev pub seating_of : Names → List ℕ → NameKey → Seating
+seating_of names seats k = while_few (length names) (seats_tell names seats k)
 
 -- where a seat of a name is vacant, it is not in the set; where they are crowded, it is among the rest, if anywhere
 pub record AreSeated (names : Names) (seats : List ℕ) (rest : Names) : Type 0 where

@@ -1,10 +1,10 @@
 // Sets of names, of which equal ones without the case of `a` to `z` are one.
 
-ghost use Rattle.std.specs.Prelude.{◌≡◌, ◌<◌, ◌≤◌, ◌++◌, [], ◌∷◌, ℕ, List, length, false, not, IfOk, OnErr, OnOk};
+ghost use Rattle.std.specs.Prelude.{◌≡◌, ◌<◌, ◌≤◌, ◌^◌, ◌++◌, [], ◌∷◌, ℕ, List, length, false, not, IfOk, OnErr, OnOk};
 ghost use Rattle.adf_tree.specs.Texts.{uppers};
 ghost use Rattle.adf_tree.specs.NameSet.{has, is_among, HasMore, IsUnion, IsWith, Names};
 ghost use Rattle.adf_tree.specs.declared.name_key.NameKey.{NameKey};
-ghost use Rattle.adf_tree.specs.Seats.{holder_of, seat_in, seating_of, AreSeated};
+ghost use Rattle.adf_tree.specs.Seats.{holder_of, seat_in, seating_of, seats_tell, AreSeated};
 ghost use Rattle.adf_tree.specs.declared.name_set.Seating.TheVariants.{Vacant};
 
 use crate::name::Name;
@@ -16,6 +16,9 @@ use std::marker::Model;
 use std::mem;
 
 const FIRST_SEATS: usize = 64;
+
+/// The most names with seats, whose places are numbers of 32 bits.
+const MOST_SEATED: usize = 1 << 32;
 
 /// Seats that a name may have, one behind the other.
 const CHOICE: usize = 8;
@@ -69,9 +72,9 @@ fn holder(names: &[NameKey], seats: &[u32], seat: usize) -> Option<NameKey>
     names.get(place as usize).copied()
 }
 
-// How a name is seated.
-fn seating_of(names: &[NameKey], seats: &[u32], name: NameKey) -> Seating
-    ensures exact { result ≡ seating_of names.now seats.now name }
+// What the seats of a name tell.
+fn seats_tell(names: &[NameKey], seats: &[u32], name: NameKey) -> Seating
+    ensures exact { result ≡ seats_tell names.now seats.now name }
     ensures inside { 8 < length seats.now → (seat : ℕ) → result ≡ Vacant seat → seat < length seats.now }
 {
     let first = seat_of(name, seats.len().saturating_sub(CHOICE));
@@ -86,6 +89,24 @@ fn seating_of(names: &[NameKey], seats: &[u32], name: NameKey) -> Seating
         }
     }
     Seating::Crowded
+}
+
+// How a name is seated: no seat is vacant where there are as many names as there are numbers for them.
+fn seating_of(names: &[NameKey], seats: &[u32], name: NameKey) -> Seating
+    ensures exact { result ≡ seating_of names.now seats.now name }
+    ensures inside { 8 < length seats.now → (seat : ℕ) → result ≡ Vacant seat → seat < length seats.now }
+    ensures few { (seat : ℕ) → result ≡ Vacant seat → length names.now < 2 ^ 32 }
+{
+    match seats_tell(names, seats, name) {
+        Seating::Vacant(seat) => {
+            if names.len() < MOST_SEATED {
+                Seating::Vacant(seat)
+            } else {
+                Seating::Crowded
+            }
+        }
+        seating => seating,
+    }
 }
 
 // Whether a name is seated or among the rest.
@@ -126,14 +147,13 @@ fn seat_new(
     seat: usize,
     name: NameKey,
 ) -> Result<(), NoMemory>
+    requires few { length names.old.items < 2 ^ 32 }
     requires inside { seat < length seats.old }
     requires vacant { seating_of names.old.items seats.old name ≡ Vacant seat }
     ensures seated { (rest : Names) → AreSeated names.old.items seats.old rest → AreSeated names.new.items seats.new rest }
     ensures more { OnOk result (names.new.items ≡ names.old.items ++ name ∷ []) }
 {
-    let Ok(place) = u32::try_from(names.len()) else {
-        return Err(NoMemory);
-    };
+    let place = names.len() as u32;
     if names.push(name).is_err() {
         return Err(NoMemory);
     }

@@ -11,6 +11,6 @@ pushed (Err y) a b h = cc
 pub returns-clause-seated : goal.returns-clause-seated
 returns-clause-seated c = λ rest seated.
     let names = c.args.names.now.items in
-    let long : length names ≡ c.in-Ok.place = omega (arith, c.in-Ok.ensures, c.len.ensures, c.args.names.now.ok) in
+    let long : length names ≡ c.len-place.result = omega (arith, c.len-place.ensures, c.args.names.now.ok) in
     rw (c.push.ensures.items, pushed c.push.result (names ++ c.args.name ∷ []) names (sym c.is_err.ensures.value ∙ c.if-is_err.false), ← long)
     (seated_new names c.args.seats.now rest c.args.seat c.args.name seated c.requires.inside c.requires.vacant)

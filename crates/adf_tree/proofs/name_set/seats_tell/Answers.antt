@@ -1,6 +1,6 @@
 use Rattle.std.proofs.Common.{arith, ◌≡◌, ◌<◌, ◌+◌, ◌-◌, length, sym, refl, ◌∙◌}
 use Rattle.adf_tree.proofs.Seats.{same_name, seating_end, seating_next, seating_seated, seating_start, seating_vacant}
-use Rattle.adf_tree.proofs.name_set.seating_of.Goals as goal
+use Rattle.adf_tree.proofs.name_set.seats_tell.Goals as goal
 
 pub loop-seat-init : goal.loop-seat-init
 loop-seat-init c = record {
