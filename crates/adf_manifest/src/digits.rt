@@ -84,6 +84,7 @@ pub fn are_pairs(text: &[u8]) -> bool
 pub fn push_pairs(bytes: &mut Vec<u8>, text: &[u8]) -> Result<(), AllocError>
     ensures { IfOk result (λ _. (more : List ℕ) → All (λ b. b < 256) more → text.now ≡ pairs more → bytes.new.items ≡ bytes.old.items ++ more) }
 {
+    bytes.reserve(text.len() / 2)?;
     let mut rest = text;
     while let Some((byte, more)) = next_pair(rest) {
         bytes.push(byte)?;

@@ -5,7 +5,7 @@ use Rattle.adf_manifest.proofs.digits.push_pairs.Given as goal
 
 abbrev pub invariant-loop-byte : goal.invariant-loop-byte
 invariant-loop-byte l = (bytes : List ℕ) → All (λ b. b < 256) bytes → l.text ≡ pairs bytes
-    → (more : List ℕ) × All (λ b. b < 256) more × (l.rest ≡ pairs more) × (l.bytes.items ++ more ≡ l.initial.bytes.items ++ bytes)
+    → (more : List ℕ) × All (λ b. b < 256) more × (l.rest ≡ pairs more) × (l.bytes.items ++ more ≡ l.fn.bytes.items ++ bytes)
 
 abbrev pub decreases-loop-byte : goal.decreases-loop-byte
 decreases-loop-byte l = length l.rest
