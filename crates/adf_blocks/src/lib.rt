@@ -21,8 +21,11 @@ pub use crate::ext::{Ext, ExtOut, read_ext, write_ext, written_exts_are_read};
 pub use crate::head::{Head, HeadBody, read_head};
 pub use crate::head_out::{HeadOut, HeadOutBody, write_head, written_heads_are_read};
 pub use crate::layout::{
-    DATA_BYTES, DATA_ROOM, MAP_EXT_PAGES, MOST_BLOCKS, PAGE_BITS, PAGE_WORDS, POINTERS, ROOT_PAGES,
-    SLOTS,
+    DATA_BYTES, DATA_HEAD, DATA_HELD, DATA_NEXT, DATA_NUMBER, DATA_ROOM, EXTENSION, FIRST_MAP_EXT,
+    FIRST_PAGE, FIRST_POINTER, FIRST_SLOT, MAP_EXT_NEXT, MAP_EXT_PAGES, MOST_BLOCKS, NAME,
+    NEXT_IN_CHAIN, OWN_KEY, PAGE_BITS, PAGE_FIRST, PAGE_WORDS, PARENT, POINTERS, ROOT_PAGES,
+    SECONDARY_TYPE, SIZE, SLOTS, ST_DIR, ST_FILE, ST_LINK_DIR, ST_LINK_FILE, ST_SOFT_LINK, T_DATA,
+    T_LIST, T_SHORT, TYPE,
 };
 pub use crate::links::{Directory, Table};
 pub use crate::map_ext::{MapExt, read_map_ext, write_map_ext, written_map_exts_are_read};

@@ -15,7 +15,7 @@ use std::process::ExitCode;
 use std::rt::Env;
 
 /// The calls, by the names that the command line may give.
-const CALLS: [&str; 24] = [
+const CALLS: [&str; 25] = [
     "stamp_text",
     "push_stamp",
     "label_write",
@@ -29,6 +29,7 @@ const CALLS: [&str; 24] = [
     "check",
     "read",
     "to_tree",
+    "survey",
     "build",
     "read_manifest",
     "push_counts",
@@ -58,6 +59,7 @@ fn went(alloc: Global, call: &str) -> Option<Went> {
         "check" => volumes::check_went(alloc),
         "read" => volumes::read_went(alloc),
         "to_tree" => volumes::to_tree_went(alloc),
+        "survey" => volumes::survey_went(alloc),
         "build" => volumes::build_went(alloc),
         "read_manifest" => volumes::read_manifest_went(alloc),
         "push_counts" => lines::push_counts_went(alloc),

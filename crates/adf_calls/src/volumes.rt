@@ -5,6 +5,7 @@ use adf_blocks::Cause;
 use adf_build::{BuildFault, build};
 use adf_check::{Owner, Owners, check};
 use adf_manifest::{ManifestKind, read_manifest};
+use adf_survey::{Finding, survey};
 use adf_tree::{Node, Tree};
 use std::alloc::Global;
 
@@ -67,6 +68,25 @@ pub fn check_went(alloc: Global) -> Option<Went> {
             Went::done_if((counts.used, counts.free, counts.files) == (5, 9, 1))
         }
         Err(fault) => Went::refused_if(fault.cause == Cause::NoMemory && fault.block == 0),
+    })
+}
+
+fn is_bad_sum_alone(findings: &[Finding]) -> bool {
+    match findings.first() {
+        Some(finding) => {
+            findings.len() == 1 && finding.block == 2 && finding.cause == Cause::BadSum
+        }
+        None => false,
+    }
+}
+
+/// The survey of the volume with one protection bit of the file changed.
+pub fn survey_went(alloc: Global) -> Option<Went> {
+    let mut image = image(alloc)?;
+    *image.get_mut(2 * 512 + 320)? ^= 1;
+    Some(match survey(alloc, &image) {
+        Ok(survey) => Went::done_if(is_bad_sum_alone(&survey.findings)),
+        Err(_) => Went::NoMemory,
     })
 }
 

@@ -7,3 +7,15 @@ pub mod OneSurvey
 pub mod SomeSurvey
 -- the blocks of sound entries
 pub mod SoundEntries
+pub mod Judged
+pub mod Reading
+pub mod Names
+pub mod Taking
+pub mod Asking
+pub mod AsksSplit
+pub mod Known
+pub mod Outcomes
+pub mod CourseSteps
+pub mod ImageStart
+pub mod Begun
+pub mod BitSteps

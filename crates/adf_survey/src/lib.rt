@@ -1,8 +1,24 @@
 //! Surveys: every part of an image that has a cause, and what of the volume is found all the same.
 #![tactic(auto)]
 
+mod asked;
+mod bits;
+mod course;
+mod forms;
+mod found;
+mod image;
+mod judge;
 mod laws;
+mod part;
+mod start;
+mod surveyed;
+mod surveys;
+#[cfg(test)]
+mod tests;
 
 pub use crate::laws::{
     first_finding, no_finding, one_part, one_survey, some_survey, sound_entries,
 };
+pub use crate::part::{Finding, Part};
+pub use crate::surveyed::Survey;
+pub use crate::surveys::survey;

@@ -1,0 +1,157 @@
+-- What the bits tell.
+use Rattle.std.specs.Prelude.{Bool, true, false, cond, not, Some, None, IsTrue, ◌↔◌, map, Result, Ok, Err, IfOk, slice_index_or}
+use Rattle.std.proofs.Common.{◌≡◌, ℕ, zero, suc, length, List, [], ◌∷◌, ◌++◌, inl, inr, ◌+◌, ◌-◌, ◌/◌, ◌%◌, ◌<◌, ◌≤◌, refl, sym, subst, ap, ◌∙◌, arith}
+use Rattle.std.specs.Ordering.{is_eq}
+use Rattle.std.specs.BTreeMap.{get}
+use Rattle.std.proofs.lemmas.List.{append_assoc, append-nil}
+use Rattle.adf_blocks.specs.declared.cause.Cause.{Cause}
+use Rattle.adf_blocks.specs.declared.layout.TheConstants.{PAGE_BITS}
+use Rattle.adf_blocks.specs.Sizes.{blocks}
+use Rattle.adf_volume.specs.Image.{IsFreeAt, root_of}
+use Rattle.adf_volume.specs.Walk.{Role, second, Has, IsAbsent, IsFreeIn}
+use Rattle.adf_volume.specs.Walk.Role.{Page, Head}
+use Rattle.adf_volume.proofs.Gathered.{one_block}
+use Rattle.adf_volume.proofs.Roles.{has_role, same_refl}
+use Rattle.adf_survey.specs.declared.part.Key.{Key}
+use Rattle.adf_survey.specs.declared.found.Found.{Found}
+use Rattle.adf_survey.specs.Survey.{BitsTell, Course, Finding, IsCourse, IsSurvey, finding}
+use Rattle.adf_survey.specs.Survey.BitsTell.{agrees, differs, ends}
+use Rattle.adf_survey.specs.Survey.IsSurvey.{read, unread}
+use Rattle.adf_survey.specs.Images.{IsBegun}
+use Rattle.adf_volume.specs.Demands.{FirstFails, boot_demands, root_demands}
+use Rattle.adf_survey.specs.declared.part.Finding.{Finding as FoundFinding}
+use Rattle.adf_survey.specs.Forms.{Tells}
+use Rattle.adf_survey.specs.Parts.{by_key, key_of, part_role, told}
+use Rattle.adf_survey.specs.Found.{BitTells, IsBitOf, IsCompleted, IsFinished, IsNoted, IsToldOn, TellsOn, Stands, at_key, cause_told, owns}
+use Rattle.adf_survey.proofs.Asking.{one_key}
+use Rattle.adf_survey.proofs.CourseSteps.{lacks_at, same_of_key}
+use Rattle.adf_survey.proofs.Known.{tells_absent}
+use Rattle.adf_survey.proofs.Taking.{stands_noted}
+use Rattle.adf_survey.proofs.OneSurvey.{gathered}
+
+at_has : (w : List (Role × ℕ)) (k : Key) (b : ℕ) → at_key w k ≡ Some b → (q : Role) × Has w q b × (key_of q ≡ k)
+at_has [] k b e = cc
+at_has (x ∷ w) k b e = go (is_eq (by_key (key_of x.0) k)) refl e (at_has w k b)
+  where
+    go : (t : Bool) → is_eq (by_key (key_of x.0) k) ≡ t → cond t (Some x.1) (at_key w k) ≡ Some b
+        → (at_key w k ≡ Some b → (q : Role) × Has w q b × (key_of q ≡ k)) → (q : Role) × Has (x ∷ w) q b × (key_of q ≡ k)
+    go true f e again = let z : x.1 ≡ b = cc in (x.0, inl (refl, z), one_key (key_of x.0) k f)
+    go false f e again = let y = again e in (y.0, inr y.1, y.2)
+
+module _ (image : List ℕ) (f : Found) (s : Course) (v : IsCourse image s) (fs : List Finding)
+    (st : Stands image f (record { walk = s.walk; passed_over = s.passed_over; findings = fs })) (b : ℕ) where
+  abbrev page : ℕ
+  page = (b - 2) / PAGE_BITS
+
+  page_has : (at : ℕ) → get by_key f.taken (key_of (Page page)) ≡ Some at → Has s.walk (Page page) at
+  page_has at e =
+      let x = at_has s.walk (key_of (Page page)) at (sym (st.taken (key_of (Page page))) ∙ e) in
+      has_role image s.walk (Page page) (λ n p t j z. let y : second (Page page) ≡ second (Head n p t j) = ap second z in absurd (omega arith)) x.0 at x.1
+      (same_of_key x.0 (Page page) x.2)
+
+  -- without its page a bit is not compared
+  pub no_page : get by_key f.taken (key_of (Page page)) ≡ None → BitTells image s b None
+  no_page e c = absurd (lacks_at s.walk (Page page) (sym (st.taken (key_of (Page page))) ∙ e) (Page page) c.0.0 c.0.1 (same_refl (Page page)))
+
+  tells_free : (at : ℕ) (t : Bool) → Has s.walk (Page page) at → (IsTrue t ↔ IsFreeAt image at ((b - 2) % PAGE_BITS)) → Tells t (IsFreeIn image s.walk b)
+  tells_free at true h free = (at, h, free.0 refl)
+  tells_free at false h free = λ y.
+      let one : y.0 ≡ at = (one_block image (gathered image v) (Page page) (Page page) y.0 at y.1 h (same_refl (Page page))).1 in
+      let z : IsTrue false = free.1 (subst (λ a. IsFreeAt image a ((b - 2) % PAGE_BITS)) one y.2) in cc
+
+  tells_bit : (o a t : Bool) (at : ℕ) → Has s.walk (Page page) at → Tells (not o) (IsAbsent s.walk b) → Tells (not a) (IsAbsent s.passed_over b)
+      → Tells t (IsFreeIn image s.walk b) → BitTells image s b (cause_told o a t)
+  tells_bit false false false at h ow av fr = (((at, h), (λ x. av)), inl ((λ k. fr (k ow)), refl, refl))
+  tells_bit false true false at h ow av fr = λ c. absurd (av (c.1 ow))
+  tells_bit false false true at h ow av fr = λ c. ((λ x. fr), ((λ x. ow), tt))
+  tells_bit false true true at h ow av fr = λ c. ((λ x. fr), ((λ x. ow), tt))
+  tells_bit true false true at h ow av fr = (((at, h), (λ x. absurd (ow x))), inr ((λ x. fr), inl ((λ k. ow (k fr)), refl, refl)))
+  tells_bit true true true at h ow av fr = (((at, h), (λ x. absurd (ow x))), inr ((λ x. fr), inl ((λ k. ow (k fr)), refl, refl)))
+  tells_bit true false false at h ow av fr = λ c. ((λ x. absurd (ow x)), ((λ x. absurd (fr x)), tt))
+  tells_bit true true false at h ow av fr = λ c. ((λ x. absurd (ow x)), ((λ x. absurd (fr x)), tt))
+
+  -- with its page the bit tells by whose the block is
+  pub page_tells : (o a t : Bool) → o ≡ owns s.walk b → a ≡ owns s.passed_over b → IsBitOf image f page ((b - 2) % PAGE_BITS) (Some t)
+      → BitTells image s b (cause_told o a t)
+  page_tells o a t oe ae x =
+      let h = page_has x.0 x.1 in
+      tells_bit o a t x.0 h (subst (λ o. Tells (not o) (IsAbsent s.walk b)) (sym oe) (tells_absent s.walk b))
+      (subst (λ a. Tells (not a) (IsAbsent s.passed_over b)) (sym ae) (tells_absent s.passed_over b)) (tells_free x.0 t h x.2)
+
+pub tells_none : (image : List ℕ) (s : Course) (b : ℕ) (gs : List Finding) → 2 ≤ b → BitTells image s b None → TellsOn image s b gs → TellsOn image s (b + 1) gs
+tells_none image s b gs lo t on n fs h =
+    let one : b + 1 ≡ suc b = omega arith in
+    let more : b - 2 + suc n ≡ b + 1 - 2 + n = omega arith in
+    subst (λ m. BitsTell image s 2 m (gs ++ fs)) more (on (suc n) fs (agrees t (subst (λ c. BitsTell image s c n fs) one h)))
+
+pub tells_some : (image : List ℕ) (s : Course) (b : ℕ) (gs : List Finding) (c : Cause) → 2 ≤ b → BitTells image s b (Some c) → TellsOn image s b gs
+    → TellsOn image s (b + 1) (gs ++ finding None b c ∷ [])
+tells_some image s b gs c lo t on n fs h =
+    let one : b + 1 ≡ suc b = omega arith in
+    let more : b - 2 + suc n ≡ b + 1 - 2 + n = omega arith in
+    subst (λ m. BitsTell image s 2 m (gs ++ finding None b c ∷ [] ++ fs)) more
+    (subst (BitsTell image s 2 (b - 2 + suc n)) (sym (append_assoc gs (finding None b c ∷ []) fs))
+    (on (suc n) (finding None b c ∷ fs) (differs t.0 t.1 (subst (λ c. BitsTell image s c n fs) one h))))
+
+-- the survey of an image that does not begin as a volume
+pub unread_survey : (image : List ℕ) (x : FoundFinding) (items : List FoundFinding) → x.part ≡ None
+    → FirstFails (boot_demands image ++ root_demands image (root_of image)) x.block x.cause → items ≡ x ∷ []
+    → (w : List (Role × ℕ)) × IsSurvey image w (map told items)
+unread_survey image x items none fails e =
+    let one : finding None x.block x.cause ∷ [] ≡ map told items =
+    (λ i. record { part = part_role (sym none i); block = x.block; cause = x.cause } ∷ []) ∙ ap (map told) (sym e) in
+    ([], subst (IsSurvey image []) one (unread fails))
+
+-- the survey of an image whose course is done, with its bits compared
+pub read_survey : (image : List ℕ) (f : Found) → IsBegun image → IsCompleted image f → (w : List (Role × ℕ)) × IsSurvey image w (map told f.findings.items)
+read_survey image f begun c = (c.0.walk, subst (IsSurvey image c.0.walk) (sym c.5) (read begun c.2 c.3 c.4))
+
+-- the bits of no block are compared at first, and at last all are
+pub none_told : (image : List ℕ) (s : Course) → TellsOn image s 2 []
+none_told image s n fs h = let e : n ≡ 2 - 2 + n = omega arith in subst (λ n. BitsTell image s 2 n fs) e h
+
+pub all_told : (image : List ℕ) (s : Course) (b : ℕ) (gs : List Finding) → TellsOn image s b gs → BitsTell image s 2 (b - 2) gs
+all_told image s b gs on =
+    let e : b - 2 + 0 ≡ b - 2 = omega arith in
+    subst (λ n. BitsTell image s 2 n gs) e (subst (BitsTell image s 2 (b - 2 + 0)) (append-nil gs) (on 0 [] ends))
+
+-- a fact of what succeeds leads to another
+pub if_ok : {T E : Type 0} {P Q : T → Type 0} (r : Result T E) → ((v : T) → P v → Q v) → IfOk r P → IfOk r Q
+if_ok (Ok v) f h = f v h
+if_ok (Err e) f h = tt
+
+pub none_on : (image : List ℕ) (f : Found) (b : ℕ) → 2 ≤ b
+    → ((s : Course) (fs : List Finding) → IsCourse image s → Stands image f (record { walk = s.walk; passed_over = s.passed_over; findings = fs })
+    → BitTells image s b None) → IsToldOn image f b → IsToldOn image f (b + 1)
+none_on image f b lo tells t = (t.0, t.1, t.2, t.3, t.4, tells_none image t.0 b t.1 lo (tells t.0 (t.0.findings ++ t.1) t.2 t.4) t.5)
+
+pub some_on : (image : List ℕ) (f g : Found) (b : ℕ) (c : Cause) (x : FoundFinding) → 2 ≤ b → x ≡ record { part = None; block = b; cause = c }
+    → ((s : Course) (fs : List Finding) → IsCourse image s → Stands image f (record { walk = s.walk; passed_over = s.passed_over; findings = fs })
+    → BitTells image s b (Some c)) → IsNoted x f g → IsToldOn image f b → IsToldOn image g (b + 1)
+some_on image f g b c x lo is tells noted t =
+    let s : Course = t.0 in
+    let one : List Finding = finding None b c ∷ [] in
+    let n : IsNoted (record { part = None; block = b; cause = c }) f g = subst (λ x. IsNoted x f g) is noted in
+    let st = stands_noted image f g (record { walk = s.walk; passed_over = s.passed_over; findings = s.findings ++ t.1 }) b t.4
+    (record { part = None; block = b; cause = c }) n in (
+      s,
+      t.1 ++ one,
+      t.2,
+      t.3,
+      subst (λ fs. Stands image g (record { walk = s.walk; passed_over = s.passed_over; findings = fs })) (append_assoc s.findings t.1 one) st,
+      tells_some image s b t.1 c lo (tells s (s.findings ++ t.1) t.2 t.4) t.5,
+    )
+
+pub told_first : (image : List ℕ) (f : Found) → IsFinished image f → IsToldOn image f 2
+told_first image f h =
+    let s : Course = h.0 in
+    (s, [], h.1, h.2, subst (λ fs. Stands image f (record { walk = s.walk; passed_over = s.passed_over; findings = fs })) (sym (append-nil s.findings)) h.3, none_told image s)
+
+pub told_last : (image : List ℕ) (f : Found) (b : ℕ) → b ≡ blocks image → IsToldOn image f b → IsCompleted image f
+told_last image f b e t = (t.0, t.1, t.2, t.3, subst (λ b. BitsTell image t.0 2 (b - 2) t.1) e (all_told image t.0 b t.1 t.5), t.4.findings)
+
+-- inside a list the default does not count
+pub any_default : (xs : List Bool) (b : ℕ) (d : Bool) → b < length xs → slice_index_or xs b d ≡ slice_index_or xs b false
+any_default [] b d lt = absurd (omega arith)
+any_default (x ∷ xs) zero d lt = refl
+any_default (x ∷ xs) (suc b) d lt = any_default xs b d (omega arith)

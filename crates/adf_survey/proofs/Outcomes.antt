@@ -1,0 +1,89 @@
+-- What comes of a part that is next.
+use Rattle.std.specs.Prelude.{Some, None}
+use Rattle.std.proofs.Common.{◌≡◌, ℕ, List, [], ◌∷◌, ◌++◌, refl, sym, subst, ap, ◌∙◌}
+use Rattle.adf_blocks.specs.declared.cause.Cause.{Cause}
+use Rattle.adf_volume.specs.Walk.{Role, demands}
+use Rattle.adf_survey.specs.declared.part.Part.{Part}
+use Rattle.adf_survey.specs.declared.part.Finding.{Finding as FoundFinding}
+use Rattle.adf_survey.specs.declared.asked.Ask.{Ask}
+use Rattle.adf_survey.specs.declared.judge.Facts.{Facts}
+use Rattle.adf_survey.specs.declared.judge.Judgement.{Judgement as FoundJudgement}
+use Rattle.adf_survey.specs.declared.judge.Judgement.TheVariants.{Clean, Noted, Passed}
+use Rattle.adf_survey.specs.declared.found.Found.{Found}
+use Rattle.adf_survey.specs.Survey.{Course, Finding, IsCourse, Judged, Judgement, after, finding}
+use Rattle.adf_survey.specs.Survey.Judgement.{clean, noted, passed}
+use Rattle.adf_survey.specs.Survey.IsCourse.{step}
+use Rattle.adf_survey.specs.Forms.{Knows, first_failing, judged_by, keeps, meant}
+use Rattle.adf_survey.specs.Found.{IsNoted, IsPassed, Stands}
+use Rattle.adf_survey.specs.Parts.{role_of, told}
+use Rattle.adf_survey.specs.Courses.{IsNextAsk, IsOutcome, role_asked}
+use Rattle.adf_survey.proofs.Judged.{judged}
+use Rattle.adf_survey.proofs.Known.{no_owner}
+use Rattle.adf_survey.proofs.SomeSurvey.{keeps_range, keeps_taken}
+use Rattle.adf_survey.proofs.Taking.{stands_noted, stands_passed}
+
+module _ (image : List ℕ) (f : Found) (s : Course) (x : Ask) (v : IsCourse image s) (st : Stands image f s) (n : IsNextAsk image s x)
+    (part : Part) (is : role_of part ≡ role_asked s x) (facts : Facts) (k : Knows image s.walk part x.block facts) where
+  abbrev role : Role
+  role = role_asked s x
+
+  judgement : (j : FoundJudgement) → meant j ≡ judged_by (first_failing image part x.holder x.block facts) (keeps image part x.block facts)
+      → Judged role (demands image s.walk role x.holder x.block) (meant j)
+  judgement j e =
+      subst (λ r. Judged r (demands image s.walk r x.holder x.block) (meant j)) is
+      (subst (Judged (role_of part) (demands image s.walk (role_of part) x.holder x.block)) (sym e) (judged image s.walk part x.holder x.block facts k))
+
+  stepped : (j : Judgement) → Judged role (demands image s.walk role x.holder x.block) j → IsCourse image (after s role x.block j)
+  stepped j h =
+      subst (λ b. IsCourse image (after s role b j)) n.2
+      (step j v n.1 (subst (λ b. Judged role (demands image s.walk role x.holder b) j) (sym n.2) h))
+
+  pub clean_outcome : (j : FoundJudgement) → j ≡ Clean
+      → meant j ≡ judged_by (first_failing image part x.holder x.block facts) (keeps image part x.block facts) → IsOutcome image s x f f (Some part)
+  clean_outcome j is_clean e =
+      let h = judgement Clean (sym (ap meant is_clean) ∙ e) in
+      (s.findings, is, h.1.0.1, no_owner s.walk x.block h.1.1.0, stepped clean h, st, refl)
+
+  -- the finding of the part
+  told_is : (at : ℕ) (c : Cause) → s.findings ++ told (record { part = Some part; block = at; cause = c }) ∷ [] ≡ s.findings ++ finding (Some role) at c ∷ []
+  told_is at c = ap (λ r. s.findings ++ finding (Some r) at c ∷ []) is
+
+  noted_stands : (g : Found) (at : ℕ) (c : Cause) → IsNoted (record { part = Some part; block = at; cause = c }) f g
+      → Stands image g (record { walk = s.walk; passed_over = s.passed_over; findings = s.findings ++ finding (Some role) at c ∷ [] })
+  noted_stands g at c h =
+      subst (λ fs. Stands image g (record { walk = s.walk; passed_over = s.passed_over; findings = fs })) (told_is at c)
+      (stands_noted image f g s at st (record { part = Some part; block = at; cause = c }) h)
+
+  pub noted_outcome : (j : FoundJudgement) (g : Found) (at : ℕ) (c : Cause) (y : FoundFinding) → j ≡ Noted at c
+      → y ≡ record { part = Some part; block = at; cause = c }
+      → meant j ≡ judged_by (first_failing image part x.holder x.block facts) (keeps image part x.block facts) → IsNoted y f g
+      → IsOutcome image s x f g (Some part)
+  noted_outcome j g at c y is_noted one e h =
+      let k = subst (λ y. IsNoted y f g) one h in
+      let d = judgement (Noted at c) (sym (ap meant is_noted) ∙ e) in (
+        s.findings ++ finding (Some role) at c ∷ [],
+        is,
+        (d.1.1.0 (keeps_range image role)).1,
+        no_owner s.walk x.block (d.1.1.1.0 (keeps_taken image role)),
+        stepped (noted at c) d,
+        noted_stands g at c k,
+        k.3,
+      )
+
+  pub passed_outcome : (j : FoundJudgement) (g h : Found) (at : ℕ) (c : Cause) (y : FoundFinding) → j ≡ Passed at c
+      → y ≡ record { part = Some part; block = at; cause = c }
+      → meant j ≡ judged_by (first_failing image part x.holder x.block facts) (keeps image part x.block facts) → IsNoted y f g
+      → IsPassed part x.block g h → IsOutcome image s x f h None
+  passed_outcome j g h at c y is_passed one e made over =
+      let k = subst (λ y. IsNoted y f g) one made in
+      let d = judgement (Passed at c) (sym (ap meant is_passed) ∙ e) in
+      let fs : List Finding = s.findings ++ finding (Some role) at c ∷ [] in
+      let t : Course = record { walk = s.walk; passed_over = s.passed_over; findings = fs } in (
+        fs,
+        (
+          stepped (passed at c) d,
+          subst (λ r. Stands image h (record { walk = s.walk; passed_over = (r, x.block) ∷ s.passed_over; findings = fs })) is
+              (stands_passed image g h t x.block (noted_stands g at c k) part over),
+          over.4 ∙ k.3,
+        ),
+      )

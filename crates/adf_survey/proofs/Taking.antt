@@ -1,0 +1,194 @@
+-- What is found, as parts are taken and passed over.
+use Rattle.std.specs.Prelude.{Bool, true, false, cond, ◌==◌, Some, map, slice_index, slice_index_or}
+use Rattle.std.proofs.Common.{◌≡◌, ℕ, zero, suc, List, [], ◌∷◌, ◌++◌, length, set, inl, inr, ◌+◌, ◌<◌, ◌≤◌, refl, sym, subst, ap, ◌∙◌, arith, length-set}
+use Rattle.std.proofs.Common.{get_or-set_same, get_or-set_other}
+use Rattle.std.specs.Option.{unwrap_or}
+use Rattle.std.specs.Ordering.{is_eq, nat_cmp}
+use Rattle.std.specs.BTreeMap.{BTreeMap, Updates, get}
+use Rattle.std.proofs.lemmas.Bool.Decides.{eqb_tells, nat_tests}
+use Rattle.std.proofs.lemmas.List.{map-append}
+use Rattle.adf_blocks.specs.Sizes.{blocks}
+use Rattle.adf_volume.proofs.Lists.{snoc_length}
+use Rattle.adf_volume.specs.Walk.{Role, heads, head_count, node_block, node_block_of, ext_count, ext_count_of}
+use Rattle.adf_volume.specs.Walk.Role.{Root, Page, MapExt, Head, Ext, Data}
+use Rattle.adf_survey.specs.declared.part.Part.{Part}
+use Rattle.adf_survey.specs.declared.part.Part.TheVariants.{Root as RootPart, Page as PagePart, MapExt as MapExtPart, Head as HeadPart, Ext as ExtPart, Data as DataPart}
+use Rattle.adf_survey.specs.declared.part.Finding.{Finding as FoundFinding}
+use Rattle.adf_survey.specs.declared.part.Key.{Key}
+use Rattle.adf_survey.specs.declared.found.Found.{Found}
+use Rattle.adf_survey.specs.declared.found.ChainName.{ChainName}
+use Rattle.adf_survey.specs.Survey.{Course}
+use Rattle.adf_survey.specs.Parts.{by_key, key_of, role_of, told}
+use Rattle.adf_survey.specs.Found.{AreMarked, AreNamed, AreSame, IsKept, IsNoted, IsOwned, IsPassed, IsTaken, KeepsParts, Stands, at_key, by_name, exts_in}
+use Rattle.adf_survey.specs.Found.{is_named, owns, unowned}
+
+kept_more : (image : List ℕ) (part : Part) (b : ℕ) (f g h : Found) → IsKept image part b f g → AreSame g h → IsKept image part b f h
+kept_more image (HeadPart n p s j) b f g h k e = (ap (λ v. v.items) e.0 ∙ k.0, (λ q. ap (λ m. get by_name m q) e.1 ∙ k.1 q), e.2 ∙ k.2)
+kept_more image (ExtPart n i) b f g h k e = (e.0 ∙ k.0, e.1 ∙ k.1, subst (λ m. Updates nat_cmp f.exts m n (Some i)) (sym e.2) k.2)
+kept_more image RootPart b f g h k e = (e.0 ∙ k.0, e.1 ∙ k.1, e.2 ∙ k.2)
+kept_more image (PagePart i) b f g h k e = (e.0 ∙ k.0, e.1 ∙ k.1, e.2 ∙ k.2)
+kept_more image (MapExtPart j) b f g h k e = (e.0 ∙ k.0, e.1 ∙ k.1, e.2 ∙ k.2)
+kept_more image (DataPart n i) b f g h k e = (e.0 ∙ k.0, e.1 ∙ k.1, e.2 ∙ k.2)
+
+pub taken_last : (image : List ℕ) (part : Part) (b : ℕ) (f g h : Found) → IsKept image part b f g → KeepsParts f g → IsOwned part b g h → AreSame g h
+    → IsTaken image part b f h
+taken_last image part b f g h k p o e =
+    let owned : IsOwned part b f h = (
+      subst (λ m. Updates by_key m h.taken (key_of (role_of part)) (Some b)) p.0 o.0,
+      o.1 ∙ ap (λ v. set v.items b true) p.1,
+      o.2 ∙ p.2,
+      o.3 ∙ p.3,
+      o.4 ∙ p.4,
+      o.5 ∙ p.5,
+    ) in
+    (owned, kept_more image part b f g h k e)
+
+at_more : (m n : BTreeMap Key ℕ) (w : List (Role × ℕ)) (r : Role) (b : ℕ) → ((k : Key) → get by_key m k ≡ at_key w k)
+    → Updates by_key m n (key_of r) (Some b) → (k : Key) → get by_key n k ≡ at_key ((r, b) ∷ w) k
+at_more m n w r b h u k = u.0 k ∙ ap (λ o. cond (is_eq (by_key (key_of r) k)) (Some b) o) (h k)
+
+pub marked_more : (n : ℕ) (xs : List Bool) (w : List (Role × ℕ)) (r : Role) (b : ℕ) → AreMarked n xs w → AreMarked n (set xs b true) ((r, b) ∷ w)
+marked_more n xs w r b h = (
+  length-set xs b true ∙ h.0,
+  (λ c lt. elim (eqb_tells b c) [
+    | inl y ↦ rw (y.0, ← y.1) (get_or-set_same xs b true false (let l : length xs ≡ n = h.0 in let e : b ≡ c = y.1 in omega arith))
+    | inr y ↦ rw y.0 (get_or-set_other xs b c true false (λ e. y.1 (sym e)) ∙ h.1 c lt)
+  ]),
+)
+
+pub unowned_less : (xs : List Bool) (b : ℕ) → b < length xs → slice_index_or xs b false ≡ false → unowned xs ≡ suc (unowned (set xs b true))
+unowned_less [] b lt e = absurd (omega arith)
+unowned_less (true ∷ xs) zero lt e = cc
+unowned_less (false ∷ xs) zero lt e = refl
+unowned_less (true ∷ xs) (suc b) lt e = unowned_less xs b (omega arith) e
+unowned_less (false ∷ xs) (suc b) lt e = ap suc (unowned_less xs b (omega arith) e)
+
+node_here : (xs : List ℕ) (b : ℕ) → slice_index (xs ++ b ∷ []) (length xs) ≡ b
+node_here [] b = refl
+node_here (x ∷ xs) b = node_here xs b
+
+node_other : (xs : List ℕ) (b m : ℕ) → (m ≡ length xs → ⊥) → slice_index (xs ++ b ∷ []) m ≡ slice_index xs m
+node_other [] b zero ne = absurd (ne refl)
+node_other [] b (suc m) ne = refl
+node_other (x ∷ xs) b zero ne = refl
+node_other (x ∷ xs) b (suc m) ne = node_other xs b m (λ e. ne (ap suc e))
+
+node_snoc : (xs : List ℕ) (b m : ℕ) → slice_index (xs ++ b ∷ []) m ≡ cond (m == length xs) b (slice_index xs m)
+node_snoc xs b m = elim (eqb_tells m (length xs)) [
+  | inl y ↦ rw y.0 (ap (slice_index (xs ++ b ∷ [])) y.1 ∙ node_here xs b)
+  | inr y ↦ rw y.0 (node_other xs b m y.1)
+]
+
+-- a part that comes next has the next number of its kind
+abbrev pub IsNumbered : List (Role × ℕ) → Role → Type 0
+IsNumbered w (Head n p s j) = n ≡ suc (heads w)
+IsNumbered w (Ext n k) = k ≡ suc (ext_count w n)
+IsNumbered w Root = ⊥
+IsNumbered w _ = Unit {0}
+
+module _ (image : List ℕ) (f g : Found) (s : Course) (b : ℕ) (st : Stands image f s) where
+  -- what of the walk is kept for later
+  abbrev IsLater : List (Role × ℕ) → Type 0
+  IsLater w =
+      ((n : ℕ) → slice_index g.nodes.items n ≡ node_block w n) × (length g.nodes.items ≡ suc (heads w)) × (length g.nodes.items ≤ suc (length f.nodes.items))
+      × ((n : ℕ) → exts_in g n ≡ ext_count w n) × AreNamed image w g.names
+
+  same_later : (r : Role) → ((m c : ℕ) → node_block_of m r b c ≡ c) → head_count r (heads s.walk) ≡ heads s.walk → ((m c : ℕ) → ext_count_of m r c ≡ c)
+      → ((q : ChainName) → is_named image r b q.parent q.slot q.name.items ≡ false) → AreSame f g → IsLater ((r, b) ∷ s.walk)
+  same_later r node head ext name e = (
+    (λ n. ap (λ v. slice_index v.items n) e.0 ∙ (st.node n ∙ sym (node n (node_block s.walk n)))),
+    ap (λ v. length v.items) e.0 ∙ (st.count ∙ ap suc (sym head)),
+    (let l = ap (λ v. length v.items) e.0 in omega arith),
+    (λ n. ap (λ m. unwrap_or (get nat_cmp m n) 0) e.2 ∙ (st.ext n ∙ sym (ext n (ext_count s.walk n)))),
+    (λ q. ap (λ m. get by_name m q) e.1 ∙ (st.name q ∙ sym (rw (name q) refl))),
+  )
+
+  later : (part : Part) → IsNumbered s.walk (role_of part) → IsKept image part b f g → IsLater ((role_of part, b) ∷ s.walk)
+  later (HeadPart n p t j) fit k =
+      let c : length f.nodes.items ≡ suc (heads s.walk) = st.count in
+      let e : length f.nodes.items ≡ n = c ∙ sym fit in (
+        (λ m. ap (λ v. slice_index v m) k.0 ∙ (node_snoc f.nodes.items b m ∙ (λ t. cond (m == e t) b (st.node m t)))),
+        (let l = ap length k.0 in omega (arith, snoc_length f.nodes.items b)),
+        (let l = ap length k.0 in omega (arith, snoc_length f.nodes.items b)),
+        (λ m. ap (λ x. unwrap_or (get nat_cmp x m) 0) k.2 ∙ st.ext m),
+        (λ q. k.1 q ∙ ap (λ o. cond (is_named image (Head n p t j) b q.parent q.slot q.name.items) (Some b) o) (st.name q)),
+      )
+  later (ExtPart n i) fit k = (
+    (λ m. ap (λ v. slice_index v.items m) k.0 ∙ st.node m),
+    ap (λ v. length v.items) k.0 ∙ st.count,
+    (let l = ap (λ v. length v.items) k.0 in omega arith),
+    (λ m. elim (eqb_tells m n) [
+      | inl y ↦
+          let one : is_eq (nat_cmp n m) ≡ true = (let e : m ≡ n = y.1 in grind (arith, nat_tests)) in
+          ap (λ o. unwrap_or o 0) (k.2.0 m) ∙ rw (y.0, one) (fit ∙ ap (λ m. suc (ext_count s.walk m)) (sym y.1))
+      | inr y ↦
+          let one : is_eq (nat_cmp n m) ≡ false = (let e : m ≡ n → ⊥ = y.1 in grind (arith, nat_tests)) in
+          ap (λ o. unwrap_or o 0) (k.2.0 m) ∙ rw (y.0, one) (st.ext m)
+    ]),
+    (λ q. ap (λ m. get by_name m q) k.1 ∙ st.name q),
+  )
+  later RootPart fit k = absurd fit
+  later (PagePart i) fit k = same_later (Page i) (λ m c. refl) refl (λ m c. refl) (λ q. refl) k
+  later (MapExtPart j) fit k = same_later (MapExt j) (λ m c. refl) refl (λ m c. refl) (λ q. refl) k
+  later (DataPart n i) fit k = same_later (Data n i) (λ m c. refl) refl (λ m c. refl) (λ q. refl) k
+
+  -- a part is taken
+  pub stands_taken : (part : Part) → IsNumbered s.walk (role_of part) → b < blocks image → owns s.walk b ≡ false → IsTaken image part b f g
+      → Stands image g (record { walk = (role_of part, b) ∷ s.walk; passed_over = s.passed_over; findings = s.findings })
+  stands_taken part fit lt free t =
+      let o : IsOwned part b f g = t.0 in
+      let l = later part fit t.1 in
+      let less = unowned_less f.owned.items b (let e = st.owned.0 in omega arith) (st.owned.1 b lt ∙ free) in
+      let left : g.left ≡ unowned (set f.owned.items b true) = (let e : g.left + 1 ≡ f.left = o.2 in let d = st.left in omega arith) in
+      record {
+        taken = at_more f.taken g.taken s.walk (role_of part) b st.taken o.0;
+        passed = (λ k. ap (λ m. get by_key m k) o.3 ∙ st.passed k);
+        owned = subst (λ xs. AreMarked (blocks image) xs ((role_of part, b) ∷ s.walk)) (sym o.1)
+            (marked_more (blocks image) f.owned.items s.walk (role_of part) b st.owned);
+        avoided = subst (λ v. AreMarked (blocks image) v.items s.passed_over) (sym o.4) st.avoided;
+        left = left ∙ ap unowned (sym o.1);
+        node = l.0;
+        count = l.1;
+        few = (let e : g.left + 1 ≡ f.left = o.2 in let m : length g.nodes.items ≤ suc (length f.nodes.items) = l.2 in let d = st.few in omega arith);
+        ext = l.3;
+        name = l.4;
+        findings = ap (λ v. map told v.items) o.5 ∙ st.findings;
+      }
+
+  same_few : AreSame f g → g.left ≡ f.left → length g.nodes.items + g.left ≤ suc (blocks image)
+  same_few e l = let m = ap (λ v. length v.items) e.0 in let d = st.few in omega arith
+
+  -- a part is passed over
+  pub stands_passed : (part : Part) → IsPassed part b f g
+      → Stands image g (record { walk = s.walk; passed_over = (role_of part, b) ∷ s.passed_over; findings = s.findings })
+  stands_passed part t = record {
+    taken = (λ k. ap (λ m. get by_key m k) t.2 ∙ st.taken k);
+    passed = at_more f.passed g.passed s.passed_over (role_of part) b st.passed t.0;
+    owned = subst (λ v. AreMarked (blocks image) v.items s.walk) (sym t.3) st.owned;
+    avoided = subst (λ xs. AreMarked (blocks image) xs ((role_of part, b) ∷ s.passed_over)) (sym t.1)
+        (marked_more (blocks image) f.avoided.items s.passed_over (role_of part) b st.avoided);
+    left = t.4 ∙ (st.left ∙ ap (λ v. unowned v.items) (sym t.3));
+    node = (λ n. ap (λ v. slice_index v.items n) t.6.0 ∙ st.node n);
+    count = ap (λ v. length v.items) t.6.0 ∙ st.count;
+    few = same_few t.6 t.4;
+    ext = (λ n. ap (λ m. unwrap_or (get nat_cmp m n) 0) t.6.2 ∙ st.ext n);
+    name = (λ q. ap (λ m. get by_name m q) t.6.1 ∙ st.name q);
+    findings = ap (λ v. map told v.items) t.5 ∙ st.findings;
+  }
+
+  -- a finding is noted
+  pub stands_noted : (x : FoundFinding) → IsNoted x f g
+      → Stands image g (record { walk = s.walk; passed_over = s.passed_over; findings = s.findings ++ told x ∷ [] })
+  stands_noted x t = record {
+    taken = (λ k. ap (λ m. get by_key m k) t.1 ∙ st.taken k);
+    passed = (λ k. ap (λ m. get by_key m k) t.4 ∙ st.passed k);
+    owned = subst (λ v. AreMarked (blocks image) v.items s.walk) (sym t.2) st.owned;
+    avoided = subst (λ v. AreMarked (blocks image) v.items s.passed_over) (sym t.5) st.avoided;
+    left = t.3 ∙ (st.left ∙ ap (λ v. unowned v.items) (sym t.2));
+    node = (λ n. ap (λ v. slice_index v.items n) t.6.0 ∙ st.node n);
+    count = ap (λ v. length v.items) t.6.0 ∙ st.count;
+    few = same_few t.6 t.3;
+    ext = (λ n. ap (λ m. unwrap_or (get nat_cmp m n) 0) t.6.2 ∙ st.ext n);
+    name = (λ q. ap (λ m. get by_name m q) t.6.1 ∙ st.name q);
+    findings = ap (map told) t.0 ∙ (map-append told f.findings.items (x ∷ []) ∙ ap (λ fs. fs ++ told x ∷ []) st.findings);
+  }

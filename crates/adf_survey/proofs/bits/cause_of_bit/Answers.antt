@@ -1,0 +1,18 @@
+use Rattle.std.proofs.Common.{sym, subst, ◌∙◌, arith}
+use Rattle.adf_survey.specs.Found.{BitTells}
+use Rattle.adf_survey.proofs.BitSteps.{any_default, no_page, page_tells}
+use Rattle.adf_survey.proofs.bits.cause_of_bit.Goals as goal
+
+pub returns-in-Some : goal.returns-in-Some
+returns-in-Some c = λ s fs v st.
+    subst (BitTells c.args.image.now s c.args.b) (sym c.cause_told.ensures)
+    (page_tells c.args.image.now c.args.found.now s v fs st c.args.b _ _ c.in-Some.is_free
+    (c.index.ensures ∙ (any_default c.args.found.now.owned.items c.args.b _ (let l = c.requires.owned in let i = c.requires.inside in omega arith)
+    ∙ st.owned.1 c.args.b c.requires.inside))
+    (c.index-in-Some.ensures ∙ (any_default c.args.found.now.avoided.items c.args.b _ (let l = c.requires.avoided in let i = c.requires.inside in omega arith)
+    ∙ st.avoided.1 c.args.b c.requires.inside))
+    (rw (← c.place_of-page.ensures.page, ← c.place_of-page.ensures.bit) c.in-Some.ensures))
+
+pub returns-in-None : goal.returns-in-None
+returns-in-None c = λ s fs v st.
+    no_page c.args.image.now c.args.found.now s v fs st c.args.b (rw (← c.place_of-page.ensures.page) c.in-None.ensures)

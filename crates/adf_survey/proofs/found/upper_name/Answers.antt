@@ -1,0 +1,17 @@
+use Rattle.std.proofs.Common.{refl, arith}
+use Rattle.std.proofs.lemmas.List.{take_all}
+use Rattle.adf_survey.proofs.Names.{cut_name}
+use Rattle.adf_survey.proofs.found.upper_name.Goals as goal
+
+pub returns : goal.returns
+returns c =
+    let cut = cut_name c.args.image.now c.args.b c.block-block.ensures.begun.0.0 c.requires in
+    rw (
+      c.loop-c.invariant,
+      take_all c.loop-c.c-index c.bytes-c-items.result.now (omega (arith, c.loop-c-test.false)),
+      c.bytes-c-items.ensures,
+      c.min-len.ensures,
+      c.byte.ensures,
+      c.block-block.ensures.block,
+      cut,
+    ) refl

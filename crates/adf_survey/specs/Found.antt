@@ -1,0 +1,192 @@
+-- What is found so far, as a course.
+-- Letters: w a walk, s a course; r a role; b, c blocks; k a key; n, p nodes; q a name in a chain; f what is found.
+use Rattle.std.specs.Prelude.{◌≡◌, ◌≤◌, ◌<◌, ◌+◌, ◌-◌, ◌*◌, ◌/◌, ◌==◌, ◌||◌, ℕ, Bool, true, false, cond, not, nat_le, nat_lt, List, [], ◌∷◌, ◌++◌, length, set, map, slice_index, slice_index_or, Option, Some, None, is_some, IsTrue, ◌↔◌}
+use Rattle.std.proofs.Common.{suc}
+use Rattle.std.specs.Option.{unwrap_or}
+use Rattle.std.specs.Ordering.{is_eq, nat_cmp, ordering_then}
+use Rattle.std.specs.declared.cmp.Ordering.{Ordering}
+use Rattle.std.specs.Cmp.Lexicographic.{slice_cmp}
+use Rattle.std.specs.BTreeMap.{BTreeMap, Updates, get}
+use Rattle.adf_tree.specs.Texts.{uppers}
+use Rattle.adf_blocks.specs.declared.cause.Cause.{Cause}
+use Rattle.adf_blocks.specs.declared.cause.Cause.TheVariants.{LostBlock, OwnedFree}
+use Rattle.adf_volume.specs.Demands.{AllHold, FirstFails}
+use Rattle.adf_blocks.specs.declared.layout.TheConstants.{POINTERS}
+use Rattle.adf_blocks.specs.Sizes.{blocks}
+use Rattle.adf_volume.specs.Image.{IsFreeAt, name_of, root_of, table_word, word_in}
+use Rattle.adf_volume.specs.Walk.{Role, bitmap_demands, data_count, ext_count, heads, node_block}
+use Rattle.adf_volume.specs.Walk.Role.{Root, Page, Head, Ext}
+use Rattle.adf_survey.specs.declared.part.Part.{Part}
+use Rattle.adf_survey.specs.declared.part.Part.TheVariants.{Head as HeadPart, Ext as ExtPart, Data as DataPart}
+use Rattle.adf_survey.specs.declared.part.Key.{Key}
+use Rattle.adf_survey.specs.declared.part.Finding.{Finding as FoundFinding}
+use Rattle.adf_survey.specs.declared.forms.Around.{Around}
+use Rattle.adf_survey.specs.declared.found.Found.{Found}
+use Rattle.adf_survey.specs.declared.found.ChainName.{ChainName}
+use Rattle.adf_survey.specs.Survey.{BitsTell, Course, Finding, IsCompared, IsCourse, IsDone}
+use Rattle.adf_survey.specs.Parts.{by_key, key_of, role_of, told}
+
+-- the block of the member with this key
+abbrev pub at_key : List (Role × ℕ) → Key → Option ℕ
+at_key [] k = None
+at_key (x ∷ w) k = cond (is_eq (by_key (key_of x.0) k)) (Some x.1) (at_key w k)
+
+-- whether a block is a member's
+abbrev pub owns : List (Role × ℕ) → ℕ → Bool
+owns [] b = false
+owns (x ∷ w) b = (x.1 == b) || owns w b
+
+-- whether the role at block c is a header of the chain with the name
+abbrev pub is_named : List ℕ → Role → ℕ → ℕ → ℕ → List ℕ → Bool
+is_named image (Head n p s j) c parent slot name =
+    is_eq (ordering_then (nat_cmp p parent) (ordering_then (nat_cmp s slot) (slice_cmp nat_cmp (uppers (name_of image c)) name)))
+is_named image _ c parent slot name = false
+
+-- the block of a header of the chain with the name
+abbrev pub named : List ℕ → List (Role × ℕ) → ℕ → ℕ → List ℕ → Option ℕ
+named image [] parent slot name = None
+named image (x ∷ w) parent slot name = cond (is_named image x.0 x.1 parent slot name) (Some x.1) (named image w parent slot name)
+
+-- names in chains, in order
+abbrev pub by_name : ChainName → ChainName → Ordering
+by_name a b = ordering_then (nat_cmp a.parent b.parent) (ordering_then (nat_cmp a.slot b.slot) (slice_cmp nat_cmp a.name.items b.name.items))
+
+-- the map has the names of the walk's headers
+abbrev pub AreNamed : List ℕ → List (Role × ℕ) → BTreeMap ChainName ℕ → Type 0
+AreNamed image w names = (q : ChainName) → get by_name names q ≡ named image w q.parent q.slot q.name.items
+
+-- whether the part has a new name, where it is a header
+abbrev pub new_in : List ℕ → List (Role × ℕ) → Part → ℕ → Bool
+new_in image w (HeadPart n p s j) b = not (is_some (named image w p s (uppers (name_of image b))))
+new_in image w _ b = true
+
+-- how many blocks are no member's
+abbrev pub unowned : List Bool → ℕ
+unowned [] = 0
+unowned (true ∷ xs) = unowned xs
+unowned (false ∷ xs) = suc (unowned xs)
+
+-- the marks of n blocks say whether they are members'
+abbrev pub AreMarked : ℕ → List Bool → List (Role × ℕ) → Type 0
+AreMarked n marks w = (length marks ≡ n) × ((b : ℕ) → b < n → slice_index_or marks b false ≡ owns w b)
+
+-- how many extension blocks a file has
+abbrev pub exts_in : Found → ℕ → ℕ
+exts_in f n = unwrap_or (get nat_cmp f.exts n) 0
+
+-- the block of member m of the header of a file and its extension blocks
+abbrev pub member_in : Found → ℕ → ℕ → ℕ
+member_in f n m = cond (m == 0) (slice_index f.nodes.items n) (unwrap_or (get by_key f.taken (key_of (Ext n m))) 0)
+
+-- what the table of a file has for data block k + 1, or 0 past the last
+abbrev pub next_in : List ℕ → Found → ℕ → ℕ → ℕ
+next_in image f n k =
+    cond (nat_lt k (data_count image (slice_index f.nodes.items n))) (word_in image (member_in f n (k / POINTERS)) (table_word k)) 0
+
+-- what the form of the part depends on
+abbrev pub around_in : List ℕ → Found → Part → Around
+around_in image f (HeadPart n p s j) = record { up = slice_index f.nodes.items p; next = 0 }
+around_in image f (ExtPart n k) = record { up = slice_index f.nodes.items n; next = 0 }
+around_in image f (DataPart n k) = record { up = slice_index f.nodes.items n; next = next_in image f n k }
+around_in image f _ = record { up = 0; next = 0 }
+
+-- whether the file of a first data block has enough extension blocks
+abbrev pub enough_in : List ℕ → Found → Part → Bool
+enough_in image f (DataPart n k) = not (k == 1) || nat_le (data_count image (slice_index f.nodes.items n)) (POINTERS * suc (exts_in f n))
+enough_in image f _ = true
+
+-- the block is a part's
+abbrev pub IsOwned : Part → ℕ → Found → Found → Type 0
+IsOwned part b f g =
+    Updates by_key f.taken g.taken (key_of (role_of part)) (Some b) × (g.owned.items ≡ set f.owned.items b true) × (g.left + 1 ≡ f.left)
+    × (g.passed ≡ f.passed) × (g.avoided ≡ f.avoided) × (g.findings ≡ f.findings)
+
+-- nodes, names and counts of extension blocks are the same
+abbrev pub AreSame : Found → Found → Type 0
+AreSame f g = (g.nodes ≡ f.nodes) × (g.names ≡ f.names) × (g.exts ≡ f.exts)
+
+-- what is asked of headers and extension blocks later is kept of the part
+abbrev pub IsKept : List ℕ → Part → ℕ → Found → Found → Type 0
+IsKept image (HeadPart n p s j) b f g =
+    (g.nodes.items ≡ f.nodes.items ++ b ∷ [])
+    × ((q : ChainName) → get by_name g.names q
+    ≡ cond (is_named image (Head n p s j) b q.parent q.slot q.name.items) (Some b) (get by_name f.names q))
+    × (g.exts ≡ f.exts)
+IsKept image (ExtPart n k) b f g = (g.nodes ≡ f.nodes) × (g.names ≡ f.names) × Updates nat_cmp f.exts g.exts n (Some k)
+IsKept image _ b f g = AreSame f g
+
+-- marks, keys and findings are the same
+abbrev pub KeepsParts : Found → Found → Type 0
+KeepsParts f g = (g.taken ≡ f.taken) × (g.owned ≡ f.owned) × (g.left ≡ f.left) × (g.passed ≡ f.passed) × (g.avoided ≡ f.avoided) × (g.findings ≡ f.findings)
+
+-- the part is taken
+abbrev pub IsTaken : List ℕ → Part → ℕ → Found → Found → Type 0
+IsTaken image part b f g = IsOwned part b f g × IsKept image part b f g
+
+-- the part is passed over
+abbrev pub IsPassed : Part → ℕ → Found → Found → Type 0
+IsPassed part b f g =
+    Updates by_key f.passed g.passed (key_of (role_of part)) (Some b) × (g.avoided.items ≡ set f.avoided.items b true) × (g.taken ≡ f.taken)
+    × (g.owned ≡ f.owned) × (g.left ≡ f.left) × (g.findings ≡ f.findings) × AreSame f g
+
+-- the finding is noted
+abbrev pub IsNoted : FoundFinding → Found → Found → Type 0
+IsNoted x f g =
+    (g.findings.items ≡ f.findings.items ++ x ∷ []) × (g.taken ≡ f.taken) × (g.owned ≡ f.owned) × (g.left ≡ f.left) × (g.passed ≡ f.passed)
+    × (g.avoided ≡ f.avoided) × AreSame f g
+
+-- what is found is what a course has
+pub record Stands (image : List ℕ) (f : Found) (s : Course) : Type 0 where
+  pub taken : (k : Key) → get by_key f.taken k ≡ at_key s.walk k
+  pub passed : (k : Key) → get by_key f.passed k ≡ at_key s.passed_over k
+  pub owned : AreMarked (blocks image) f.owned.items s.walk
+  pub avoided : AreMarked (blocks image) f.avoided.items s.passed_over
+  pub left : f.left ≡ unowned f.owned.items
+  pub node : (n : ℕ) → slice_index f.nodes.items n ≡ node_block s.walk n
+  pub count : length f.nodes.items ≡ suc (heads s.walk)
+  pub few : length f.nodes.items + f.left ≤ suc (blocks image)
+  pub ext : (n : ℕ) → exts_in f n ≡ ext_count s.walk n
+  pub name : AreNamed image s.walk f.names
+  pub findings : map told f.findings.items ≡ s.findings
+
+-- the course that begins with the root
+abbrev pub begun : List ℕ → Course
+begun image = record { walk = (Root, root_of image) ∷ []; passed_over = []; findings = [] }
+
+-- what the bit of block b tells: nothing, where it is not compared or agrees; or the cause
+abbrev pub BitTells : List ℕ → Course → ℕ → Option Cause → Type 0
+BitTells image s b None = IsCompared s b → AllHold (bitmap_demands image s.walk b 1)
+BitTells image s b (Some c) = IsCompared s b × FirstFails (bitmap_demands image s.walk b 1) b c
+
+-- whether a page of the bitmap is taken, and its bit set
+abbrev pub IsBitOf : List ℕ → Found → ℕ → ℕ → Option Bool → Type 0
+IsBitOf image f page bit None = get by_key f.taken (key_of (Page page)) ≡ None
+IsBitOf image f page bit (Some t) = (at : ℕ) × (get by_key f.taken (key_of (Page page)) ≡ Some at) × (IsTrue t ↔ IsFreeAt image at bit)
+
+-- the cause that a bit tells: of a block in use without an owner that was not passed over, or of one that is owned and free
+abbrev pub cause_told : Bool → Bool → Bool → Option Cause
+cause_told false false false = Some LostBlock
+cause_told false true false = None
+cause_told false avoided true = None
+cause_told true avoided true = Some OwnedFree
+cause_told true avoided false = None
+
+-- a course is done
+abbrev pub IsFinished : List ℕ → Found → Type 0
+IsFinished image f = (s : Course) × IsCourse image s × IsDone image s × Stands image f s
+
+-- a course is done, and the bits are compared
+abbrev pub IsCompleted : List ℕ → Found → Type 0
+IsCompleted image f =
+    (s : Course) × (bits : List Finding) × IsCourse image s × IsDone image s × BitsTell image s 2 (blocks image - 2) bits
+    × (map told f.findings.items ≡ s.findings ++ bits)
+
+-- what the bits up to a block tell, and those from there on
+abbrev pub TellsOn : List ℕ → Course → ℕ → List Finding → Type 0
+TellsOn image s b gs = (n : ℕ) (fs : List Finding) → BitsTell image s b n fs → BitsTell image s 2 (b - 2 + n) (gs ++ fs)
+
+-- a course is done, and the bits up to a block are compared
+abbrev pub IsToldOn : List ℕ → Found → ℕ → Type 0
+IsToldOn image f b =
+    (s : Course) × (gs : List Finding) × IsCourse image s × IsDone image s
+    × Stands image f (record { walk = s.walk; passed_over = s.passed_over; findings = s.findings ++ gs }) × TellsOn image s b gs

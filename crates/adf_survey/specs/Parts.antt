@@ -1,0 +1,36 @@
+-- Parts as roles, their keys in order, and findings.
+use Rattle.std.specs.Prelude.{Option, Some, None}
+use Rattle.std.specs.Ordering.{nat_cmp, ordering_then}
+use Rattle.std.specs.declared.cmp.Ordering.{Ordering}
+use Rattle.adf_volume.specs.Walk.{Role, first, second, third}
+use Rattle.adf_volume.specs.Walk.Role.{Root, Page, MapExt, Head, Ext, Data}
+use Rattle.adf_survey.specs.declared.part.Part.{Part}
+use Rattle.adf_survey.specs.declared.part.Part.TheVariants.{Root as RootPart, Page as PagePart, MapExt as MapExtPart, Head as HeadPart, Ext as ExtPart, Data as DataPart}
+use Rattle.adf_survey.specs.declared.part.Key.{Key}
+use Rattle.adf_survey.specs.declared.part.Finding.{Finding as FoundFinding}
+use Rattle.adf_survey.specs.Survey.{Finding}
+
+-- the part as a role
+abbrev pub role_of : Part → Role
+role_of RootPart = Root
+role_of (PagePart i) = Page i
+role_of (MapExtPart j) = MapExt j
+role_of (HeadPart n p s j) = Head n p s j
+role_of (ExtPart n k) = Ext n k
+role_of (DataPart n k) = Data n k
+
+-- the numbers that a role is ordered by
+abbrev pub key_of : Role → Key
+key_of r = record { first = first r; second = second r; third = third r }
+
+-- keys in the order of their numbers
+abbrev pub by_key : Key → Key → Ordering
+by_key a b = ordering_then (nat_cmp a.first b.first) (ordering_then (nat_cmp a.second b.second) (nat_cmp a.third b.third))
+
+abbrev pub part_role : Option Part → Option Role
+part_role None = None
+part_role (Some p) = Some (role_of p)
+
+-- the finding that is meant
+abbrev pub told : FoundFinding → Finding
+told f = record { part = part_role f.part; block = f.block; cause = f.cause }

@@ -1,0 +1,93 @@
+// What the bits tell of the blocks.
+
+ghost use Rattle.std.specs.Prelude.{◌≡◌, ◌≤◌, ◌<◌, ◌+◌, ◌-◌, ◌/◌, ◌%◌, ◌↔◌, List, length, IsTrue, IsBitSet, OnOk};
+ghost use Rattle.adf_blocks.specs.declared.layout.TheConstants.{PAGE_BITS};
+ghost use Rattle.adf_blocks.specs.Sizes.{blocks};
+ghost use Rattle.adf_survey.specs.Survey.{Course, Finding as SpecFinding, IsCourse};
+ghost use Rattle.adf_survey.specs.Found.{BitTells, IsBitOf, IsCompleted, IsFinished, IsToldOn, Stands, cause_told};
+
+use crate::found::Found;
+use crate::image::Image;
+use crate::part::{Finding, Part};
+use adf_blocks::{Cause, PAGE_FIRST, place_of};
+use adf_fields::NoMemory;
+
+// Whether a bit of a word is set.
+fn is_set(word: u32, bit: u32) -> bool
+    requires { bit < 32 }
+    ensures { IsTrue result ↔ IsBitSet word bit }
+{
+    word & (1 << bit) != 0
+}
+
+// Whether a bit of a page is set; nothing where the page is not taken.
+fn bit_of(image: &Image<'_>, found: &Found, page: u32, bit: u32) -> Option<bool>
+    requires { bit < PAGE_BITS }
+    ensures { IsBitOf image.now found.now page bit result }
+{
+    let key = Part::Page(page).key();
+    match found.taken.get(&key) {
+        Some(at) => {
+            let word = image.word(*at, PAGE_FIRST + bit as usize / 32);
+            Some(is_set(word, bit % 32))
+        }
+        None => None,
+    }
+}
+
+// The cause that disagreeing tells: a block that is in use without an owner, or owned and free.
+fn cause_told(is_owned: bool, is_avoided: bool, is_free: bool) -> Option<Cause>
+    ensures { result ≡ cause_told is_owned is_avoided is_free }
+{
+    match (is_owned, is_free) {
+        (false, false) if !is_avoided => Some(Cause::LostBlock),
+        (true, true) => Some(Cause::OwnedFree),
+        _ => None,
+    }
+}
+
+// What the bit of block `b` tells against it.
+#[tactic(auto, using(crate::proofs::BitSteps::no_page, crate::proofs::BitSteps::page_tells))]
+fn cause_of_bit(image: &Image<'_>, found: &Found, b: u32) -> Option<Cause>
+    requires low { 2 ≤ b }
+    requires inside { b < blocks image.now }
+    requires owned { length found.now.owned.items ≡ blocks image.now }
+    requires avoided { length found.now.avoided.items ≡ blocks image.now }
+    ensures { (s : Course) (fs : List SpecFinding) → IsCourse image.now s
+        → Stands image.now found.now (record { walk = s.walk; passed_over = s.passed_over; findings = fs }) → BitTells image.now s b result }
+{
+    let (page, bit) = place_of(b);
+    match bit_of(image, found, page, bit) {
+        Some(is_free) => cause_told(found.owned[b as usize], found.avoided[b as usize], is_free),
+        None => None,
+    }
+}
+
+// Compares the bit of block `b`.
+fn compare_bit(image: &Image<'_>, found: &mut Found, b: u32) -> Result<(), NoMemory>
+    requires low { 2 ≤ b }
+    requires inside { b < blocks image.now }
+    requires told { IsToldOn image.now found.old b }
+    ensures { OnOk result (IsToldOn image.now found.new (b + 1)) }
+{
+    match cause_of_bit(image, found, b) {
+        Some(cause) => found.note(Finding {
+            part: None,
+            block: b,
+            cause,
+        }),
+        None => Ok(()),
+    }
+}
+
+/// Compares the bit of each block whose page is taken with its owner, but not those of blocks that were passed over.
+#[tactic(auto, using(crate::proofs::BitSteps::told_first, crate::proofs::BitSteps::told_last))]
+pub fn compare(image: &Image<'_>, found: &mut Found) -> Result<(), NoMemory>
+    requires { IsFinished image.now found.old }
+    ensures { OnOk result (IsCompleted image.now found.new) }
+{
+    for b in 2..image.blocks() {
+        compare_bit(image, found, b)?;
+    }
+    Ok(())
+}

@@ -1,0 +1,153 @@
+// The form of a part's block.
+
+ghost use Rattle.std.specs.Prelude.{◌≡◌, ◌<◌, ◌≤◌, ◌==◌, ◌&&◌};
+ghost use Rattle.adf_fields.specs.Words.{word};
+ghost use Rattle.adf_blocks.specs.declared.layout.TheConstants.{DATA_HEAD, DATA_HELD, DATA_NEXT, DATA_NUMBER, OWN_KEY, PARENT, SECONDARY_TYPE, ST_FILE, T_DATA, T_LIST, TYPE};
+ghost use Rattle.adf_blocks.specs.Forms.{first_cause};
+ghost use Rattle.adf_blocks.specs.HeadBlock.{has_type};
+ghost use Rattle.adf_blocks.specs.Sizes.{blocks, chunk};
+ghost use Rattle.adf_volume.specs.Image.{held};
+ghost use Rattle.adf_survey.specs.Forms.{form_of, itself_by};
+ghost use Rattle.adf_survey.specs.Parts.{role_of};
+
+use crate::image::Image;
+use crate::part::Part;
+use adf_blocks::{
+    Cause, DATA_HEAD, DATA_HELD, DATA_NEXT, DATA_NUMBER, OWN_KEY, PARENT, SECONDARY_TYPE, SIZE,
+    ST_DIR, ST_FILE, ST_LINK_DIR, ST_LINK_FILE, ST_SOFT_LINK, T_DATA, T_LIST, T_SHORT, TYPE,
+    chunk_len, read_data, read_ext, read_head, read_page,
+};
+use adf_fields::Block;
+use adf_tree::Kind;
+
+/// What the form of a part depends on beside its block: the block of its directory or its file's header, and the next data block.
+#[derive(Clone, Copy, PartialEq, Eq, Drop)]
+pub struct Around {
+    pub up: u32,
+    pub next: u32,
+}
+
+// The bytes that data block `number`, from 1 on, of a file of so many bytes holds.
+#[tactic(auto, unfolding(adf_volume::specs::Image::held, adf_blocks::specs::Sizes::chunk))]
+fn held_in(kind: Kind, size: u32, number: u32) -> u32
+    ensures exact { result ≡ held kind size number }
+    ensures small { result ≤ chunk kind }
+{
+    let chunk = chunk_len(kind) as u64;
+    let size = u64::from(size);
+    let number = u64::from(number);
+    if chunk * number < size {
+        chunk as u32
+    } else {
+        size.saturating_sub(chunk * number.saturating_sub(1)) as u32
+    }
+}
+
+// The first cause of block `b` as data block `number` of a file.
+#[tactic(auto, unfolding(adf_blocks::specs::Sizes::chunk))]
+fn cause_of_data(image: &Image<'_>, number: u32, b: u32, around: Around) -> Option<Cause>
+    requires { b < blocks image.now }
+    ensures { result ≡ first_cause (form_of image.now (Part.Data 0 number) b around) }
+{
+    match image.kind() {
+        Kind::Ffs => None,
+        Kind::Ofs => {
+            let held = held_in(Kind::Ofs, image.word(around.up, SIZE), number);
+            match read_data(image.block(b), around.up, number, held, around.next) {
+                Ok(_) => None,
+                Err(cause) => Some(cause),
+            }
+        }
+    }
+}
+
+/// The first cause of block `b` as the form of the part.
+pub fn first_cause(image: &Image<'_>, part: Part, b: u32, around: Around) -> Option<Cause>
+    requires { b < blocks image.now }
+    ensures { result ≡ first_cause (form_of image.now part b around) }
+{
+    let block = image.block(b);
+    match part {
+        Part::Root | Part::MapExt(_) => None,
+        Part::Page(_) => match read_page(block) {
+            Ok(_) => None,
+            Err(cause) => Some(cause),
+        },
+        Part::Head { slot, .. } => match read_head(block, image.kind(), b, around.up, slot) {
+            Ok(_) => None,
+            Err(cause) => Some(cause),
+        },
+        Part::Ext(_, _) => match read_ext(block, b, around.up) {
+            Ok(_) => None,
+            Err(cause) => Some(cause),
+        },
+        Part::Data(_, k) => cause_of_data(image, k, b, around),
+    }
+}
+
+// Whether the types are those of a header.
+fn is_head(b: &Block<'_>) -> bool
+    ensures { result ≡ has_type b.now }
+{
+    let secondary = b.word(SECONDARY_TYPE);
+    b.word(TYPE) == T_SHORT
+        && (secondary == ST_DIR
+            || secondary == ST_FILE
+            || secondary == ST_SOFT_LINK
+            || secondary == ST_LINK_DIR
+            || secondary == ST_LINK_FILE)
+}
+
+// Whether the types are those of an extension block.
+fn is_ext(b: &Block<'_>) -> bool
+    ensures { result ≡ ((word b.now TYPE == T_LIST) && (word b.now SECONDARY_TYPE == ST_FILE)) }
+{
+    b.word(TYPE) == T_LIST && b.word(SECONDARY_TYPE) == ST_FILE
+}
+
+// Whether the block says where it stands and in what.
+fn is_keyed(b: &Block<'_>, own: u32, up: u32) -> bool
+    ensures { result ≡ ((word b.now OWN_KEY == own) && (word b.now PARENT == up)) }
+{
+    b.word(OWN_KEY) == own && b.word(PARENT) == up
+}
+
+// Whether the block says that it is this data block.
+fn is_data(b: &Block<'_>, up: u32, number: u32, held: u32, next: u32) -> bool
+    ensures { result ≡ ((word b.now TYPE == T_DATA) && ((word b.now DATA_HEAD == up) && (word b.now DATA_NUMBER == number) && (word b.now DATA_HELD == held) && (word b.now DATA_NEXT == next))) }
+{
+    b.word(TYPE) == T_DATA
+        && (b.word(DATA_HEAD) == up
+            && b.word(DATA_NUMBER) == number
+            && b.word(DATA_HELD) == held
+            && b.word(DATA_NEXT) == next)
+}
+
+// Whether block `b` says of itself that it is data block `number` of a file.
+fn is_data_itself(image: &Image<'_>, number: u32, b: u32, around: Around) -> bool
+    requires { b < blocks image.now }
+    ensures { result ≡ itself_by (role_of (Part.Data 0 number)) (form_of image.now (Part.Data 0 number) b around) }
+{
+    match image.kind() {
+        Kind::Ffs => true,
+        Kind::Ofs => {
+            let held = held_in(Kind::Ofs, image.word(around.up, SIZE), number);
+            is_data(&image.block(b), around.up, number, held, around.next)
+        }
+    }
+}
+
+/// Whether block `b` says of itself that it is the part; of a page, whether it has its form.
+pub fn is_itself(image: &Image<'_>, part: Part, b: u32, around: Around) -> bool
+    requires { b < blocks image.now }
+    ensures { result ≡ itself_by (role_of part) (form_of image.now part b around) }
+{
+    let block = image.block(b);
+    match part {
+        Part::Root | Part::MapExt(_) => true,
+        Part::Page(_) => block.long_sum() == 0,
+        Part::Head { .. } => is_head(&block) && is_keyed(&block, b, around.up),
+        Part::Ext(_, _) => is_ext(&block) && is_keyed(&block, b, around.up),
+        Part::Data(_, k) => is_data_itself(image, k, b, around),
+    }
+}

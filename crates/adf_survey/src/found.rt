@@ -1,0 +1,302 @@
+// What is found so far.
+
+ghost use Rattle.std.specs.Prelude.{◌≡◌, ◌≤◌, ◌<◌, ◌+◌, ℕ, List, [], ◌∷◌, ◌++◌, IfOk, OnOk, Some, None, length, false, true, not, slice_index, slice_index_or, slice_set, map};
+ghost use Rattle.std.specs.Ordering.{nat_cmp};
+ghost use Rattle.std.specs.BTreeMap.{Updates};
+ghost use Rattle.adf_tree.specs.Texts.{uppers};
+ghost use Rattle.adf_blocks.specs.Sizes.{blocks};
+ghost use Rattle.adf_volume.specs.Image.{name_of, root_of, word_in};
+ghost use Rattle.adf_volume.specs.Walk.{Role, data_count};
+ghost use Rattle.adf_survey.specs.Images.{IsBegun};
+ghost use Rattle.adf_survey.specs.Parts.{by_key, key_of, role_of, told};
+ghost use Rattle.adf_survey.specs.Found.{AreNamed, AreSame, Stands, IsKept, IsNoted, IsOwned, IsPassed, IsTaken, KeepsParts, around_in, begun, by_name, enough_in, exts_in, member_in, new_in, next_in};
+
+use crate::asked::count_of;
+use crate::forms::Around;
+use crate::image::Image;
+use crate::judge::Facts;
+use crate::part::{Finding, Key, Part};
+use adf_blocks::{FIRST_POINTER, NAME, POINTERS, SIZE};
+use adf_fields::{NoMemory, upper};
+use std::alloc::Global;
+use std::collections::BTreeMap;
+
+/// A name without the case of `a` to `z`, in the chain of a slot of a directory.
+#[derive(PartialEq, Eq, PartialOrd, Ord, Drop)]
+pub struct ChainName {
+    pub parent: u32,
+    pub slot: u8,
+    pub name: Vec<u8>,
+}
+
+/// What is found so far: the blocks of the parts that are taken and of those that are passed over, by their keys; by block, whether
+/// it is taken, and whether it was passed over; how many blocks are not taken; the blocks of nodes by number; how many extension
+/// blocks of a file are taken; the headers by their names; and what is wrong.
+#[derive(Drop)]
+pub struct Found {
+    pub taken: BTreeMap<Key, u32>,
+    pub passed: BTreeMap<Key, u32>,
+    pub owned: Vec<bool>,
+    pub avoided: Vec<bool>,
+    pub left: u32,
+    pub nodes: Vec<u32>,
+    pub exts: BTreeMap<u32, u32>,
+    pub names: BTreeMap<ChainName, u32>,
+    pub findings: Vec<Finding>,
+}
+
+// The name of the header at block `b`, without the case of `a` to `z`.
+#[tactic(auto, using(crate::proofs::Names::cut_name))]
+fn upper_name(alloc: Global, image: &Image<'_>, b: u32) -> Result<Vec<u8>, NoMemory>
+    requires { b < blocks image.now }
+    ensures { IfOk result (λ v. v.items ≡ uppers (name_of image.now b)) }
+{
+    let block = image.block(b);
+    let len = (block.byte(NAME) as usize).min(79);
+    let mut name = Vec::new(alloc);
+    for c in block.bytes(NAME + 1, len) {
+        if name.push(upper(*c)).is_err() {
+            return Err(NoMemory);
+        }
+    }
+    Ok(name)
+}
+
+// A name in a chain, of the header at block `b`.
+fn chain_name(
+    alloc: Global,
+    image: &Image<'_>,
+    parent: u32,
+    slot: u8,
+    b: u32,
+) -> Result<ChainName, NoMemory>
+    requires { b < blocks image.now }
+    ensures parent { IfOk result (λ q. q.parent ≡ parent) }
+    ensures slot { IfOk result (λ q. q.slot ≡ slot) }
+    ensures name { IfOk result (λ q. q.name.items ≡ uppers (name_of image.now b)) }
+{
+    let name = upper_name(alloc, image, b)?;
+    Ok(ChainName { parent, slot, name })
+}
+
+// A map with one entry more.
+fn put(map: &mut BTreeMap<Key, u32>, key: Key, block: u32) -> Result<(), NoMemory>
+    ensures { OnOk result (Updates by_key map.old map.new key (Some block)) }
+{
+    match map.insert(key, block) {
+        Ok(_) => Ok(()),
+        Err(_) => Err(NoMemory),
+    }
+}
+
+impl Found {
+    /// Nothing is found but the root.
+    #[tactic(auto, using(crate::proofs::Begun::stands_begun))]
+    pub fn begin(alloc: Global, image: &Image<'_>) -> Result<Found, NoMemory>
+        ensures stands { IfOk result (λ f. Stands image.now f (begun image.now)) }
+        ensures few { blocks image.now ≤ 1048576 }
+        ensures begun { IsBegun image.now }
+        ensures left { IfOk result (λ f. f.left + 1 ≡ blocks image.now) }
+    {
+        let root = image.root();
+        let blocks = image.blocks();
+        let Ok(owned) = vec![in alloc; false; blocks as usize] else {
+            return Err(NoMemory);
+        };
+        let Ok(avoided) = vec![in alloc; false; blocks as usize] else {
+            return Err(NoMemory);
+        };
+        let mut found = Found {
+            taken: BTreeMap::new(alloc),
+            passed: BTreeMap::new(alloc),
+            owned,
+            avoided,
+            left: blocks,
+            nodes: Vec::new(alloc),
+            exts: BTreeMap::new(alloc),
+            names: BTreeMap::new(alloc),
+            findings: Vec::new(alloc),
+        };
+        found.own(Part::Root, root)?;
+        match found.nodes.push(root) {
+            Ok(()) => Ok(found),
+            Err(_) => Err(NoMemory),
+        }
+    }
+
+    // The block of a node, 0 where there is none.
+    pub fn node_block(&self, node: u32) -> u32
+        ensures { result ≡ slice_index self.now.nodes.items node }
+    {
+        self.nodes.get(node as usize).copied().unwrap_or(0)
+    }
+
+    // How many extension blocks of a file are taken.
+    fn ext_count(&self, node: u32) -> u32
+        ensures { result ≡ exts_in self.now node }
+    {
+        self.exts.get(&node).copied().unwrap_or(0)
+    }
+
+    // The block of member `m` of the header of a file and its extension blocks, 0 where there is none.
+    fn member_block(&self, node: u32, m: u32) -> u32
+        ensures { result ≡ member_in self.now node m }
+    {
+        if m == 0 {
+            return self.node_block(node);
+        }
+        let key = Part::Ext(node, m).key();
+        self.taken.get(&key).copied().unwrap_or(0)
+    }
+
+    // How many data blocks the file at block `head` has.
+    fn data_count(&self, image: &Image<'_>, head: u32) -> u32
+        ensures { result ≡ data_count image.now head }
+    {
+        count_of(image.kind(), image.word(head, SIZE))
+    }
+
+    // What the table of a file has for data block `k + 1`, 0 past the last.
+    fn next_data(&self, image: &Image<'_>, node: u32, k: u32) -> u32
+        ensures { result ≡ next_in image.now self.now node k }
+    {
+        if k >= self.data_count(image, self.node_block(node)) {
+            return 0;
+        }
+        let member = self.member_block(node, k / POINTERS as u32);
+        image.word(member, FIRST_POINTER - k as usize % POINTERS)
+    }
+
+    // What the form of the part depends on.
+    pub fn around(&self, image: &Image<'_>, part: Part) -> Around
+        ensures { result ≡ around_in image.now self.now part }
+    {
+        match part {
+            Part::Root | Part::Page(_) | Part::MapExt(_) => Around { up: 0, next: 0 },
+            Part::Head { parent, .. } => Around {
+                up: self.node_block(parent),
+                next: 0,
+            },
+            Part::Ext(node, _) => Around {
+                up: self.node_block(node),
+                next: 0,
+            },
+            Part::Data(node, k) => Around {
+                up: self.node_block(node),
+                next: self.next_data(image, node, k),
+            },
+        }
+    }
+
+    // Whether a file has enough extension blocks, where the part is its first data block.
+    fn is_enough(&self, image: &Image<'_>, part: Part) -> bool
+        ensures { result ≡ enough_in image.now self.now part }
+    {
+        match part {
+            Part::Data(node, 1) => {
+                let count = self.data_count(image, self.node_block(node));
+                u64::from(count) <= POINTERS as u64 * (1 + u64::from(self.ext_count(node)))
+            }
+            _ => true,
+        }
+    }
+
+    // Whether no header of the chain has the name of the one at block `b`, where the part is a header.
+    fn is_new(&self, image: &Image<'_>, part: Part, b: u32) -> Result<bool, NoMemory>
+        requires { b < blocks image.now }
+        ensures { IfOk result (λ t. (w : List (Role × ℕ)) → AreNamed image.now w self.now.names → t ≡ new_in image.now w part b) }
+    {
+        match part {
+            Part::Head { parent, slot, .. } => {
+                let name = chain_name(*self.nodes.allocator(), image, parent, slot, b)?;
+                Ok(!self.names.contains_key(&name))
+            }
+            _ => Ok(true),
+        }
+    }
+
+    /// What is known of a part in block `b`.
+    pub fn facts(&self, image: &Image<'_>, part: Part, b: u32) -> Result<Facts, NoMemory>
+        ensures enough { IfOk result (λ f. f.is_enough ≡ enough_in image.now self.now part) }
+        ensures absent { IfOk result (λ f. f.is_absent ≡ not (slice_index_or self.now.owned.items b false)) }
+        ensures new { IfOk result (λ f. b < blocks image.now → (w : List (Role × ℕ)) → AreNamed image.now w self.now.names → f.is_new ≡ new_in image.now w part b) }
+        ensures around { IfOk result (λ f. f.around ≡ around_in image.now self.now part) }
+    {
+        let is_new = b >= image.blocks() || self.is_new(image, part, b)?;
+        Ok(Facts {
+            is_enough: self.is_enough(image, part),
+            is_absent: !self.owned.get(b as usize).copied().unwrap_or(false),
+            is_new,
+            around: self.around(image, part),
+        })
+    }
+
+    // Makes block `b` that of a part.
+    fn own(&mut self, part: Part, b: u32) -> Result<(), NoMemory>
+        requires inside { b < length self.old.owned.items }
+        requires some { 1 ≤ self.old.left }
+        ensures owned { OnOk result (IsOwned part b self.old self.new) }
+        ensures rest { OnOk result (AreSame self.old self.new) }
+    {
+        put(&mut self.taken, part.key(), b)?;
+        self.owned[b as usize] = true;
+        self.left -= 1;
+        Ok(())
+    }
+
+    // Keeps what is asked of headers and extension blocks later.
+    fn keep(&mut self, image: &Image<'_>, part: Part, b: u32) -> Result<(), NoMemory>
+        requires { b < blocks image.now }
+        ensures kept { OnOk result (IsKept image.now part b self.old self.new) }
+        ensures rest { OnOk result (KeepsParts self.old self.new) }
+    {
+        match part {
+            Part::Head { parent, slot, .. } => {
+                let name = chain_name(*self.nodes.allocator(), image, parent, slot, b)?;
+                if self.nodes.push(b).is_err() || self.names.insert(name, b).is_err() {
+                    return Err(NoMemory);
+                }
+            }
+            Part::Ext(node, k) => {
+                if self.exts.insert(node, k).is_err() {
+                    return Err(NoMemory);
+                }
+            }
+            _ => (),
+        }
+        Ok(())
+    }
+
+    /// Takes a part, in block `b`.
+    #[tactic(auto, using(crate::proofs::Taking::taken_last))]
+    pub fn take(&mut self, image: &Image<'_>, part: Part, b: u32) -> Result<(), NoMemory>
+        requires inside { b < blocks image.now }
+        requires marks { length self.old.owned.items ≡ blocks image.now }
+        requires some { 1 ≤ self.old.left }
+        ensures { OnOk result (IsTaken image.now part b self.old self.new) }
+    {
+        self.keep(image, part, b)?;
+        self.own(part, b)
+    }
+
+    /// Passes a part over, in block `b`.
+    pub fn pass(&mut self, part: Part, b: u32) -> Result<(), NoMemory>
+        ensures { OnOk result (IsPassed part b self.old self.new) }
+    {
+        put(&mut self.passed, part.key(), b)?;
+        if (b as usize) < self.avoided.len() {
+            self.avoided[b as usize] = true;
+        }
+        Ok(())
+    }
+
+    /// Notes what is wrong.
+    pub fn note(&mut self, finding: Finding) -> Result<(), NoMemory>
+        ensures { OnOk result (IsNoted finding self.old self.new) }
+    {
+        if self.findings.push(finding).is_err() {
+            return Err(NoMemory);
+        }
+        Ok(())
+    }
+}

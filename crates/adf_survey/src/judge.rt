@@ -1,0 +1,79 @@
+// How a part is judged that is next.
+
+ghost use Rattle.std.specs.Prelude.{◌≡◌};
+ghost use Rattle.adf_survey.specs.Forms.{first_failing, judged_by, keeps, meant};
+
+use crate::forms::{Around, first_cause, is_itself};
+use crate::image::Image;
+use crate::part::Part;
+use adf_blocks::Cause;
+
+/// How a part is judged: it has no cause; it has one, at a block, and is taken all the same; it has one and is passed over.
+#[derive(Clone, Copy, PartialEq, Eq, Drop)]
+pub enum Judgement {
+    Clean,
+    Noted(u32, Cause),
+    Passed(u32, Cause),
+}
+
+/// What is known of a part that is next: whether its file has enough extension blocks, whether its block has no owner, whether
+/// its name is new in the chain, and what its form depends on.
+#[derive(Clone, Copy, PartialEq, Eq, Drop)]
+pub struct Facts {
+    pub is_enough: bool,
+    pub is_absent: bool,
+    pub is_new: bool,
+    pub around: Around,
+}
+
+// The first cause of a part in block `b`, which a word of block `holder` names, and the block where it stands.
+fn first_failing(
+    image: &Image<'_>,
+    part: Part,
+    holder: u32,
+    b: u32,
+    facts: &Facts,
+) -> Option<(u32, Cause)>
+    ensures { result ≡ first_failing image.now part holder b facts.now }
+{
+    if !facts.is_enough {
+        return Some((holder, Cause::ShortFile));
+    }
+    if b < 2 || b >= image.blocks() {
+        return Some((holder, Cause::OutOfRange));
+    }
+    if !facts.is_absent {
+        return Some((b, Cause::Taken));
+    }
+    if let Some(cause) = first_cause(image, part, b, facts.around) {
+        return Some((b, cause));
+    }
+    if facts.is_new {
+        None
+    } else {
+        Some((b, Cause::SameName))
+    }
+}
+
+// Whether block `b` is in range, no one else's, and says of itself that it is the part.
+fn is_kept(image: &Image<'_>, part: Part, b: u32, facts: &Facts) -> bool
+    ensures { result ≡ keeps image.now part b facts.now }
+{
+    b >= 2 && b < image.blocks() && facts.is_absent && is_itself(image, part, b, facts.around)
+}
+
+/// Judges a part in block `b`, which a word of block `holder` names.
+pub fn judge(image: &Image<'_>, part: Part, holder: u32, b: u32, facts: &Facts) -> Judgement
+    ensures { meant result ≡ judged_by (first_failing image.now part holder b facts.now) (keeps image.now part b facts.now) }
+{
+    match first_failing(image, part, holder, b, facts) {
+        None => Judgement::Clean,
+        Some((at, cause)) => {
+            if is_kept(image, part, b, facts) {
+                Judgement::Noted(at, cause)
+            } else {
+                Judgement::Passed(at, cause)
+            }
+        }
+    }
+}

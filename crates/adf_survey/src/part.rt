@@ -1,0 +1,107 @@
+// The parts of a volume, and what is found of them.
+
+ghost use Rattle.std.specs.Prelude.{◌≡◌};
+ghost use Rattle.adf_survey.specs.Parts.{key_of, role_of};
+ghost use Rattle.adf_volume.proofs.Roles.{renumbered};
+ghost use Rattle.adf_volume.specs.Walk.{third};
+ghost use Rattle.adf_volume.specs.Walk.Role.{Page};
+
+use adf_blocks::{Cause, MAP_EXT_PAGES, ROOT_PAGES};
+
+/// A part of a volume.
+///
+/// Pages and bitmap extension blocks are numbered from 0, a file's extension blocks and data blocks from 1.
+#[derive(Clone, Copy, Debug, PartialEq, Eq)]
+pub enum Part {
+    /// The root.
+    Root,
+    /// A page of the bitmap.
+    Page(u32),
+    /// A bitmap extension block.
+    MapExt(u32),
+    /// The header of a node, by its parent's number, its slot and its place in the chain.
+    Head {
+        node: u32,
+        parent: u32,
+        slot: u8,
+        place: u32,
+    },
+    /// An extension block of a file, by the file's node.
+    Ext(u32, u32),
+    /// A data block of a file, by the file's node.
+    Data(u32, u32),
+}
+
+/// What is wrong: the part that it concerns, where it concerns one, the block that is named, and the cause.
+#[derive(Clone, Copy, Debug, PartialEq, Eq)]
+pub struct Finding {
+    pub part: Option<Part>,
+    pub block: u32,
+    pub cause: Cause,
+}
+
+/// The numbers that parts are ordered by.
+#[derive(Clone, Copy, PartialEq, Eq, PartialOrd, Ord, Drop)]
+pub struct Key {
+    pub first: u64,
+    pub second: u64,
+    pub third: u64,
+}
+
+impl Part {
+    // The part, with this number where it is a header.
+    pub fn numbered(self, number: u32) -> Part
+        ensures { role_of result ≡ renumbered number (role_of self) }
+    {
+        match self {
+            Part::Head {
+                parent,
+                slot,
+                place,
+                ..
+            } => Part::Head {
+                node: number,
+                parent,
+                slot,
+                place,
+            },
+            _ => self,
+        }
+    }
+
+    // The numbers that the part is ordered by.
+    pub fn key(self) -> Key
+        ensures { result ≡ key_of (role_of self) }
+    {
+        let (first, second, third) = match self {
+            Part::Root => (0, 0, 0),
+            Part::Page(i) => (0, 1, place_of_page(i)),
+            Part::MapExt(j) => (
+                0,
+                1,
+                ROOT_PAGES as u64 + (1 + MAP_EXT_PAGES as u64) * u64::from(j),
+            ),
+            Part::Head {
+                parent,
+                slot,
+                place,
+                ..
+            } => (u64::from(parent) + 1, u64::from(slot) + 2, u64::from(place)),
+            Part::Ext(node, k) => (u64::from(node) + 1, 0, u64::from(k)),
+            Part::Data(node, k) => (u64::from(node) + 1, 1, u64::from(k)),
+        };
+        Key {
+            first,
+            second,
+            third,
+        }
+    }
+}
+
+// The place of a page among the pages and the bitmap extension blocks.
+fn place_of_page(i: u32) -> u64
+    ensures { result ≡ third (Page i) }
+{
+    let i = u64::from(i);
+    i + (i + (MAP_EXT_PAGES - ROOT_PAGES) as u64) / MAP_EXT_PAGES as u64
+}
