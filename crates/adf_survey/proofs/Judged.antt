@@ -17,7 +17,8 @@ use Rattle.adf_volume.specs.Image.{held, kind_of, word_in}
 use Rattle.adf_volume.specs.Walk.{Role, Enough, IsAbsent, NewName, demands, form_demands, next_data, node_block}
 use Rattle.adf_volume.specs.Walk.Role.{Root, Page, MapExt, Head, Ext, Data}
 use Rattle.adf_survey.specs.declared.part.Part.{Part}
-use Rattle.adf_survey.specs.declared.part.Part.TheVariants.{Root as RootPart, Page as PagePart, MapExt as MapExtPart, Head as HeadPart, Ext as ExtPart, Data as DataPart}
+use Rattle.adf_survey.specs.declared.part.Part.TheVariants.{Root as RootPart, Page as PagePart, MapExt as MapExtPart, Head as HeadPart}
+use Rattle.adf_survey.specs.declared.part.Part.TheVariants.{Ext as ExtPart, Data as DataPart}
 use Rattle.adf_survey.specs.declared.forms.Around.{Around}
 use Rattle.adf_survey.specs.declared.judge.Facts.{Facts}
 use Rattle.adf_survey.specs.Survey.{IsItself, Judged, is_kept}

@@ -1,6 +1,7 @@
 -- What is found so far, as a course.
 -- Letters: w a walk, s a course; r a role; b, c blocks; k a key; n, p nodes; q a name in a chain; f what is found.
-use Rattle.std.specs.Prelude.{◌≡◌, ◌≤◌, ◌<◌, ◌+◌, ◌-◌, ◌*◌, ◌/◌, ◌==◌, ◌||◌, ℕ, Bool, true, false, cond, not, nat_le, nat_lt, List, [], ◌∷◌, ◌++◌, length, set, map, slice_index, slice_index_or, Option, Some, None, is_some, IsTrue, ◌↔◌}
+use Rattle.std.specs.Prelude.{◌≡◌, ◌≤◌, ◌<◌, ◌+◌, ◌-◌, ◌*◌, ◌/◌, ◌==◌, ◌||◌, ℕ, Bool, true, false, cond, not, nat_le, nat_lt, List, []}
+use Rattle.std.specs.Prelude.{◌∷◌, ◌++◌, length, set, map, slice_index, slice_index_or, Option, Some, None, is_some, IsTrue, ◌↔◌}
 use Rattle.std.proofs.Common.{suc}
 use Rattle.std.specs.Option.{unwrap_or}
 use Rattle.std.specs.Ordering.{is_eq, nat_cmp, ordering_then}

@@ -2,13 +2,17 @@
 
 ghost use Rattle.std.specs.Prelude.{◌≡◌, ◌≢◌, ◌<◌, ◌≤◌, ◌+◌, ◌-◌, ◌*◌, ℕ, List, OnOk};
 ghost use Rattle.std.specs.BTreeMap.{IsEmpty};
-ghost use Rattle.adf_blocks.specs.declared.layout.TheConstants.{EXTENSION, FIRST_POINTER, FIRST_SLOT, MAP_EXT_PAGES, NEXT_IN_CHAIN, POINTERS, ROOT_PAGES, SECONDARY_TYPE, SLOTS, ST_DIR, ST_FILE};
+ghost use Rattle.adf_blocks.specs.declared.layout.TheConstants.{EXTENSION, FIRST_POINTER, FIRST_SLOT};
+ghost use Rattle.adf_blocks.specs.declared.layout.TheConstants.{MAP_EXT_PAGES, NEXT_IN_CHAIN, POINTERS};
+ghost use Rattle.adf_blocks.specs.declared.layout.TheConstants.{ROOT_PAGES, SECONDARY_TYPE, SLOTS, ST_DIR};
+ghost use Rattle.adf_blocks.specs.declared.layout.TheConstants.{ST_FILE};
 ghost use Rattle.adf_blocks.specs.Sizes.{blocks, count, pages_needed};
 ghost use Rattle.adf_volume.specs.Image.{root_of, word_in};
 ghost use Rattle.adf_volume.specs.Walk.{Asks, DirAt, FileAt, Has, Role, data_count, heads};
 ghost use Rattle.adf_volume.specs.Walk.Role.{Data, Ext, Head, MapExt, Page, Root};
 ghost use Rattle.adf_survey.specs.Parts.{key_of, role_of};
-ghost use Rattle.adf_survey.specs.Asked.{AddsAsked, AllAsked, Allows, CanAsk, HasKey, HasRoom, Keeps, MapAsk, NewAsk, NodeAsk, RootAsk, SlotAsk, TableAsk, reach};
+ghost use Rattle.adf_survey.specs.Asked.{AddsAsked, AllAsked, Allows, CanAsk, HasKey, HasRoom, Keeps};
+ghost use Rattle.adf_survey.specs.Asked.{MapAsk, NewAsk, NodeAsk, RootAsk, SlotAsk, TableAsk, reach};
 
 use crate::image::Image;
 use crate::part::{Key, Part};
@@ -59,7 +63,8 @@ impl Asked {
         requires { i < 128 }
         ensures keeps { OnOk result (Keeps self.old.parts self.new.parts) }
         ensures has { OnOk result (HasKey self.new.parts (key_of (role_of part))) }
-        ensures adds { OnOk result ((w : List (Role × ℕ)) (most : ℕ) → CanAsk image.now w most (role_of part) holder i → AddsAsked image.now w most self.old.parts self.new.parts) }
+        ensures adds { OnOk result ((w : List (Role × ℕ)) (most : ℕ) → CanAsk image.now w most (role_of part) holder i
+            → AddsAsked image.now w most self.old.parts self.new.parts) }
     {
         let ask = Ask {
             part,
@@ -83,7 +88,8 @@ impl Asked {
         requires { i < 128 }
         ensures keeps { OnOk result (Keeps self.old.parts self.new.parts) }
         ensures has { OnOk result (word_in image.now holder i ≢ 0 → HasKey self.new.parts (key_of (role_of part))) }
-        ensures adds { OnOk result ((w : List (Role × ℕ)) (most : ℕ) → (word_in image.now holder i ≢ 0 → CanAsk image.now w most (role_of part) holder i) → AddsAsked image.now w most self.old.parts self.new.parts) }
+        ensures adds { OnOk result ((w : List (Role × ℕ)) (most : ℕ) → (word_in image.now holder i ≢ 0
+            → CanAsk image.now w most (role_of part) holder i) → AddsAsked image.now w most self.old.parts self.new.parts) }
     {
         if image.word(holder, i) == 0 {
             return Ok(());
@@ -94,9 +100,12 @@ impl Asked {
     // Asks for the pages and the bitmap extension block that the root names.
     fn ask_pages(&mut self, image: &Image<'_>) -> Result<(), NoMemory>
         ensures keeps { OnOk result (Keeps self.old.parts self.new.parts) }
-        ensures pages { OnOk result ((i : ℕ) → i < ROOT_PAGES → i < pages_needed (blocks image.now) → HasKey self.new.parts (key_of (Page i))) }
-        ensures map { OnOk result (ROOT_PAGES < pages_needed (blocks image.now) → HasKey self.new.parts (key_of (MapExt 0))) }
-        ensures adds { OnOk result ((w : List (Role × ℕ)) (most : ℕ) → AddsAsked image.now w most self.old.parts self.new.parts) }
+        ensures pages { OnOk result ((i : ℕ) → i < ROOT_PAGES → i < pages_needed (blocks image.now)
+            → HasKey self.new.parts (key_of (Page i))) }
+        ensures map { OnOk result (ROOT_PAGES < pages_needed (blocks image.now)
+            → HasKey self.new.parts (key_of (MapExt 0))) }
+        ensures adds { OnOk result ((w : List (Role × ℕ)) (most : ℕ)
+            → AddsAsked image.now w most self.old.parts self.new.parts) }
     {
         let root = image.root();
         let pages = page_count(image.blocks());
@@ -113,10 +122,13 @@ impl Asked {
     fn ask_mapped(&mut self, image: &Image<'_>, j: u32, b: u32) -> Result<(), NoMemory>
         requires { ROOT_PAGES + MAP_EXT_PAGES * j < pages_needed (blocks image.now) }
         ensures keeps { OnOk result (Keeps self.old.parts self.new.parts) }
-        ensures pages { OnOk result ((i : ℕ) → i < MAP_EXT_PAGES → ROOT_PAGES + MAP_EXT_PAGES * j + i < pages_needed (blocks image.now)
+        ensures pages { OnOk result ((i : ℕ) → i < MAP_EXT_PAGES
+            → ROOT_PAGES + MAP_EXT_PAGES * j + i < pages_needed (blocks image.now)
             → HasKey self.new.parts (key_of (Page (ROOT_PAGES + MAP_EXT_PAGES * j + i)))) }
-        ensures next { OnOk result (ROOT_PAGES + MAP_EXT_PAGES * (j + 1) < pages_needed (blocks image.now) → HasKey self.new.parts (key_of (MapExt (j + 1)))) }
-        ensures adds { OnOk result ((w : List (Role × ℕ)) (most : ℕ) → Has w (MapExt j) b → AddsAsked image.now w most self.old.parts self.new.parts) }
+        ensures next { OnOk result (ROOT_PAGES + MAP_EXT_PAGES * (j + 1) < pages_needed (blocks image.now)
+            → HasKey self.new.parts (key_of (MapExt (j + 1)))) }
+        ensures adds { OnOk result ((w : List (Role × ℕ)) (most : ℕ) → Has w (MapExt j) b
+            → AddsAsked image.now w most self.old.parts self.new.parts) }
     {
         let pages = page_count(image.blocks());
         let first = ROOT_PAGES as u32 + MAP_EXT_PAGES as u32 * j;
@@ -132,8 +144,10 @@ impl Asked {
     // Asks for the first header of each slot of directory `node` at block `b`.
     fn ask_slots(&mut self, image: &Image<'_>, node: u32, b: u32) -> Result<(), NoMemory>
         ensures keeps { OnOk result (Keeps self.old.parts self.new.parts) }
-        ensures slots { OnOk result ((s : ℕ) → s < SLOTS → word_in image.now b (FIRST_SLOT + s) ≢ 0 → HasKey self.new.parts (key_of (Head 0 node s 0))) }
-        ensures adds { OnOk result ((w : List (Role × ℕ)) (most : ℕ) → DirAt image.now w node b → AddsAsked image.now w most self.old.parts self.new.parts) }
+        ensures slots { OnOk result ((s : ℕ) → s < SLOTS → word_in image.now b (FIRST_SLOT + s) ≢ 0
+            → HasKey self.new.parts (key_of (Head 0 node s 0))) }
+        ensures adds { OnOk result ((w : List (Role × ℕ)) (most : ℕ) → DirAt image.now w node b
+            → AddsAsked image.now w most self.old.parts self.new.parts) }
     {
         for slot in 0..SLOTS as u8 {
             let part = Part::Head {
@@ -158,11 +172,14 @@ impl Asked {
     ) -> Result<(), NoMemory>
         requires { m < 16777216 }
         ensures keeps { OnOk result (Keeps self.old.parts self.new.parts) }
-        ensures ext { OnOk result (word_in image.now b EXTENSION ≢ 0 → HasKey self.new.parts (key_of (Ext node (m + 1)))) }
-        ensures datas { OnOk result ((j : ℕ) → j < POINTERS → POINTERS * m + j < count → HasKey self.new.parts (key_of (Data node (POINTERS * m + j + 1)))) }
+        ensures ext { OnOk result (word_in image.now b EXTENSION ≢ 0
+            → HasKey self.new.parts (key_of (Ext node (m + 1)))) }
+        ensures datas { OnOk result ((j : ℕ) → j < POINTERS → POINTERS * m + j < count
+            → HasKey self.new.parts (key_of (Data node (POINTERS * m + j + 1)))) }
         ensures adds { OnOk result ((w : List (Role × ℕ)) (most : ℕ) → m + 1 ≤ most
             → (word_in image.now b EXTENSION ≢ 0 → Asks image.now w (Ext node (m + 1)) b EXTENSION)
-            → ((j : ℕ) → j < POINTERS → POINTERS * m + j < count → Asks image.now w (Data node (POINTERS * m + j + 1)) b (FIRST_POINTER - j))
+            → ((j : ℕ) → j < POINTERS → POINTERS * m + j < count
+            → Asks image.now w (Data node (POINTERS * m + j + 1)) b (FIRST_POINTER - j))
             → AddsAsked image.now w most self.old.parts self.new.parts) }
     {
         self.ask_named(image, Part::Ext(node, m + 1), b, EXTENSION)?;
@@ -180,7 +197,8 @@ impl Asked {
         ensures has { OnOk result ((k : Key) → NodeAsk image.now node b k → HasKey self.new.parts k) }
         ensures adds { OnOk result ((w : List (Role × ℕ)) (most : ℕ) → 1 ≤ most
             → (word_in image.now b SECONDARY_TYPE ≡ ST_DIR → DirAt image.now w node b)
-            → (word_in image.now b SECONDARY_TYPE ≡ ST_FILE → FileAt image.now w node b) → AddsAsked image.now w most self.old.parts self.new.parts) }
+            → (word_in image.now b SECONDARY_TYPE ≡ ST_FILE → FileAt image.now w node b)
+            → AddsAsked image.now w most self.old.parts self.new.parts) }
     {
         let told = image.word(b, SECONDARY_TYPE);
         if told == ST_DIR {
@@ -197,7 +215,8 @@ impl Asked {
     pub fn ask_of_root(&mut self, image: &Image<'_>) -> Result<(), NoMemory>
         ensures keeps { OnOk result (Keeps self.old.parts self.new.parts) }
         ensures has { OnOk result ((k : Key) → RootAsk image.now (root_of image.now) k → HasKey self.new.parts k) }
-        ensures adds { OnOk result ((w : List (Role × ℕ)) (most : ℕ) → Has w Root (root_of image.now) → AddsAsked image.now w most self.old.parts self.new.parts) }
+        ensures adds { OnOk result ((w : List (Role × ℕ)) (most : ℕ) → Has w Root (root_of image.now)
+            → AddsAsked image.now w most self.old.parts self.new.parts) }
     {
         self.ask_pages(image)?;
         self.ask_slots(image, 0, image.root())
@@ -208,7 +227,8 @@ impl Asked {
         requires { HasRoom image.now part }
         ensures keeps { OnOk result (Keeps self.old.parts self.new.parts) }
         ensures has { OnOk result ((k : Key) → NewAsk image.now (role_of part) b up k → HasKey self.new.parts k) }
-        ensures adds { OnOk result ((w : List (Role × ℕ)) (most : ℕ) → Allows image.now w most part b up → AddsAsked image.now w most self.old.parts self.new.parts) }
+        ensures adds { OnOk result ((w : List (Role × ℕ)) (most : ℕ) → Allows image.now w most part b up
+            → AddsAsked image.now w most self.old.parts self.new.parts) }
     {
         match part {
             Part::Root | Part::Page(_) | Part::Data(_, _) => Ok(()),

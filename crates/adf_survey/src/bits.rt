@@ -54,7 +54,8 @@ fn cause_of_bit(image: &Image<'_>, found: &Found, b: u32) -> Option<Cause>
     requires owned { length found.now.owned.items ≡ blocks image.now }
     requires avoided { length found.now.avoided.items ≡ blocks image.now }
     ensures { (s : Course) (fs : List SpecFinding) → IsCourse image.now s
-        → Stands image.now found.now (record { walk = s.walk; passed_over = s.passed_over; findings = fs }) → BitTells image.now s b result }
+        → Stands image.now found.now (record { walk = s.walk; passed_over = s.passed_over; findings = fs })
+        → BitTells image.now s b result }
 {
     let (page, bit) = place_of(b);
     match bit_of(image, found, page, bit) {

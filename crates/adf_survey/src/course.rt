@@ -32,7 +32,8 @@ fn of_part(part: Part, block: u32, cause: Cause) -> Finding
 // Judges a part that is next, and notes what is wrong: the part where it is to be taken; else it is passed over.
 fn judge_next(image: &Image<'_>, found: &mut Found, ask: &Ask) -> Result<Option<Part>, NoMemory>
     requires { length found.old.nodes.items < 2 ^ 32 }
-    ensures { IfOk result (λ o. (s : Course) → IsCourse image.now s → Stands image.now found.old s → IsNextAsk image.now s ask.now
+    ensures { IfOk result (λ o. (s : Course) → IsCourse image.now s → Stands image.now found.old s
+        → IsNextAsk image.now s ask.now
         → IsOutcome image.now s ask.now found.old found.new o) }
 {
     let b = ask.block;
@@ -73,8 +74,10 @@ fn take(
     requires room { HasRoom image.now part }
     ensures taken { OnOk result (IsTaken image.now part b found.old found.new) }
     ensures keeps { OnOk result (Keeps asked.old.parts asked.new.parts) }
-    ensures has { OnOk result ((k : Key) → NewAsk image.now (role_of part) b (around_in image.now found.old part).up k → HasKey asked.new.parts k) }
-    ensures adds { OnOk result ((w : List (Role × ℕ)) (most : ℕ) → Allows image.now w most part b (around_in image.now found.old part).up
+    ensures has { OnOk result ((k : Key) → NewAsk image.now (role_of part) b (around_in image.now found.old part).up k
+        → HasKey asked.new.parts k) }
+    ensures adds { OnOk result ((w : List (Role × ℕ)) (most : ℕ)
+        → Allows image.now w most part b (around_in image.now found.old part).up
         → AddsAsked image.now w most asked.old.parts asked.new.parts) }
 {
     let up = found.around(image, part).up;

@@ -2,7 +2,10 @@
 
 ghost use Rattle.std.specs.Prelude.{◌≡◌, ◌<◌, ◌≤◌, ◌==◌, ◌&&◌};
 ghost use Rattle.adf_fields.specs.Words.{word};
-ghost use Rattle.adf_blocks.specs.declared.layout.TheConstants.{DATA_HEAD, DATA_HELD, DATA_NEXT, DATA_NUMBER, OWN_KEY, PARENT, SECONDARY_TYPE, ST_FILE, T_DATA, T_LIST, TYPE};
+ghost use Rattle.adf_blocks.specs.declared.layout.TheConstants.{DATA_HEAD, DATA_HELD, DATA_NEXT};
+ghost use Rattle.adf_blocks.specs.declared.layout.TheConstants.{DATA_NUMBER, OWN_KEY, PARENT};
+ghost use Rattle.adf_blocks.specs.declared.layout.TheConstants.{SECONDARY_TYPE, ST_FILE, T_DATA, T_LIST};
+ghost use Rattle.adf_blocks.specs.declared.layout.TheConstants.{TYPE};
 ghost use Rattle.adf_blocks.specs.Forms.{first_cause};
 ghost use Rattle.adf_blocks.specs.HeadBlock.{has_type};
 ghost use Rattle.adf_blocks.specs.Sizes.{blocks, chunk};
@@ -114,7 +117,8 @@ fn is_keyed(b: &Block<'_>, own: u32, up: u32) -> bool
 
 // Whether the block says that it is this data block.
 fn is_data(b: &Block<'_>, up: u32, number: u32, held: u32, next: u32) -> bool
-    ensures { result ≡ ((word b.now TYPE == T_DATA) && ((word b.now DATA_HEAD == up) && (word b.now DATA_NUMBER == number) && (word b.now DATA_HELD == held) && (word b.now DATA_NEXT == next))) }
+    ensures { result ≡ ((word b.now TYPE == T_DATA) && ((word b.now DATA_HEAD == up)
+        && (word b.now DATA_NUMBER == number) && (word b.now DATA_HELD == held) && (word b.now DATA_NEXT == next))) }
 {
     b.word(TYPE) == T_DATA
         && (b.word(DATA_HEAD) == up

@@ -1,6 +1,7 @@
 // What is found so far.
 
-ghost use Rattle.std.specs.Prelude.{◌≡◌, ◌≤◌, ◌<◌, ◌+◌, ℕ, List, [], ◌∷◌, ◌++◌, IfOk, OnOk, Some, None, length, false, true, not, slice_index, slice_index_or, slice_set, map};
+ghost use Rattle.std.specs.Prelude.{◌≡◌, ◌≤◌, ◌<◌, ◌+◌, ℕ, List, [], ◌∷◌, ◌++◌, IfOk, OnOk, Some, None};
+ghost use Rattle.std.specs.Prelude.{length, false, true, not, slice_index, slice_index_or, slice_set, map};
 ghost use Rattle.std.specs.Ordering.{nat_cmp};
 ghost use Rattle.std.specs.BTreeMap.{Updates};
 ghost use Rattle.adf_tree.specs.Texts.{uppers};
@@ -9,7 +10,9 @@ ghost use Rattle.adf_volume.specs.Image.{name_of, root_of, word_in};
 ghost use Rattle.adf_volume.specs.Walk.{Role, data_count};
 ghost use Rattle.adf_survey.specs.Images.{IsBegun};
 ghost use Rattle.adf_survey.specs.Parts.{by_key, key_of, role_of, told};
-ghost use Rattle.adf_survey.specs.Found.{AreNamed, AreSame, Stands, IsKept, IsNoted, IsOwned, IsPassed, IsTaken, KeepsParts, around_in, begun, by_name, enough_in, exts_in, member_in, new_in, next_in};
+ghost use Rattle.adf_survey.specs.Found.{AreNamed, AreSame, Stands, IsKept, IsNoted, IsOwned, IsPassed};
+ghost use Rattle.adf_survey.specs.Found.{IsTaken, KeepsParts, around_in, begun, by_name, enough_in};
+ghost use Rattle.adf_survey.specs.Found.{exts_in, member_in, new_in, next_in};
 
 use crate::asked::count_of;
 use crate::forms::Around;
@@ -204,7 +207,8 @@ impl Found {
     // Whether no header of the chain has the name of the one at block `b`, where the part is a header.
     fn is_new(&self, image: &Image<'_>, part: Part, b: u32) -> Result<bool, NoMemory>
         requires { b < blocks image.now }
-        ensures { IfOk result (λ t. (w : List (Role × ℕ)) → AreNamed image.now w self.now.names → t ≡ new_in image.now w part b) }
+        ensures { IfOk result (λ t. (w : List (Role × ℕ)) → AreNamed image.now w self.now.names
+            → t ≡ new_in image.now w part b) }
     {
         match part {
             Part::Head { parent, slot, .. } => {
@@ -219,7 +223,8 @@ impl Found {
     pub fn facts(&self, image: &Image<'_>, part: Part, b: u32) -> Result<Facts, NoMemory>
         ensures enough { IfOk result (λ f. f.is_enough ≡ enough_in image.now self.now part) }
         ensures absent { IfOk result (λ f. f.is_absent ≡ not (slice_index_or self.now.owned.items b false)) }
-        ensures new { IfOk result (λ f. b < blocks image.now → (w : List (Role × ℕ)) → AreNamed image.now w self.now.names → f.is_new ≡ new_in image.now w part b) }
+        ensures new { IfOk result (λ f. b < blocks image.now → (w : List (Role × ℕ))
+            → AreNamed image.now w self.now.names → f.is_new ≡ new_in image.now w part b) }
         ensures around { IfOk result (λ f. f.around ≡ around_in image.now self.now part) }
     {
         let is_new = b >= image.blocks() || self.is_new(image, part, b)?;

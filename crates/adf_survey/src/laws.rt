@@ -29,7 +29,8 @@ pub fn first_finding()
 
 /// An image without findings is a volume, of the tree and the layout that the walk tells; and no volume has a finding.
 pub fn no_finding()
-    ensures fits { (image : List ℕ) (w : List (Role × ℕ)) → IsSurvey image w [] → Fits image (tree_in image w) (layout_in w) }
+    ensures fits { (image : List ℕ) (w : List (Role × ℕ)) → IsSurvey image w []
+        → Fits image (tree_in image w) (layout_in w) }
     ensures none { (image : List ℕ) (t : Tree) (l : Layout) (w : List (Role × ℕ)) (fs : List Finding) → Fits image t l
         → IsSurvey image w fs → fs ≡ [] }
 {}

@@ -41,7 +41,8 @@ fn boot_block<'a>(image: &'a [u8]) -> Block<'a>
 
 // Whether the boot block begins with `DOS` and a type up to 5.
 fn is_dos(boot: &Block<'_>) -> bool
-    ensures { result ≡ ((slice_index boot.now 0 == 0x44) && (slice_index boot.now 1 == 0x4F) && (slice_index boot.now 2 == 0x53) && nat_le (slice_index boot.now 3) 5) }
+    ensures { result ≡ ((slice_index boot.now 0 == 0x44) && (slice_index boot.now 1 == 0x4F)
+        && (slice_index boot.now 2 == 0x53) && nat_le (slice_index boot.now 3) 5) }
 {
     boot.byte(0) == b'D' && boot.byte(1) == b'O' && boot.byte(2) == b'S' && boot.byte(3) <= 5
 }
