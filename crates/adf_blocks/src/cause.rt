@@ -1,6 +1,6 @@
 // Why an image is refused.
 
-ghost use Rattle.std.specs.Prelude.{◌≡◌};
+ghost use Rattle.std.specs.Prelude.{◌≡◌, IfNone, IfSome};
 ghost use Rattle.adf_blocks.specs.Causes.{cause_number, cause_text};
 
 use std::error::Error;
@@ -65,6 +65,39 @@ impl Cause {
         ensures { result ≡ cause_number self }
     {
         self as u8
+    }
+
+    /// The cause with a number; `None` where none has it.
+    pub fn numbered(number: u8) -> Option<Cause>
+        ensures some { IfSome result (λ c. cause_number c ≡ number) }
+        ensures none { IfNone result ((c : Cause) → ¬ (cause_number c ≡ number)) }
+    {
+        match number {
+            1 => Some(Cause::BadSize),
+            2 => Some(Cause::NotDos),
+            3 => Some(Cause::International),
+            4 => Some(Cause::DirCache),
+            5 => Some(Cause::OutOfRange),
+            6 => Some(Cause::Taken),
+            7 => Some(Cause::BadSum),
+            8 => Some(Cause::BadType),
+            9 => Some(Cause::Link),
+            10 => Some(Cause::BadOwnKey),
+            11 => Some(Cause::BadParent),
+            12 => Some(Cause::BadName),
+            13 => Some(Cause::BadComment),
+            14 => Some(Cause::WrongSlot),
+            15 => Some(Cause::BadFirst),
+            16 => Some(Cause::SameName),
+            17 => Some(Cause::BadHashSize),
+            18 => Some(Cause::NotValidated),
+            19 => Some(Cause::ShortFile),
+            20 => Some(Cause::BadData),
+            21 => Some(Cause::LostBlock),
+            22 => Some(Cause::OwnedFree),
+            23 => Some(Cause::NoMemory),
+            _ => None,
+        }
     }
 
     /// What is printed of the cause, in lower case.

@@ -1,9 +1,10 @@
 -- The verdict on an image, as C has it.
-use Rattle.std.specs.Prelude.{◌≡◌, ℕ, List}
+use Rattle.std.specs.Prelude.{◌≡◌, ◌⊎◌, ℕ, List}
 use Rattle.adf_tree.specs.declared.entry.Kind.{Kind}
 use Rattle.adf_tree.specs.declared.entry.Kind.TheVariants.{Ofs, Ffs}
 use Rattle.adf_blocks.specs.Causes.{cause_number}
 use Rattle.adf_blocks.specs.declared.cause.Cause.{Cause}
+use Rattle.adf_blocks.specs.declared.cause.Cause.TheVariants.{NoMemory}
 use Rattle.adf_volume.specs.Walk.{FirstFault}
 use Rattle.adf_check.specs.declared.checked.Counts.{Counts}
 use Rattle.adf_c.specs.declared.verdict.Verdict.{Verdict}
@@ -20,6 +21,14 @@ accepted c = record { kind = kind_number c.kind; blocks = c.blocks; used = c.use
 -- a refused image: the block of its fault
 abbrev pub refused : ℕ → Verdict
 refused b = record { kind = 0; blocks = 0; used = 0; free = 0; dirs = 0; files = 0; block = b }
+
+-- 0 for an accepted image, or the number of a cause
+abbrev pub IsVerdictNumber : ℕ → Type 0
+IsVerdictNumber n = (n ≡ 0) ⊎ ((c : Cause) × (cause_number c ≡ n))
+
+-- the number of the cause of refused memory
+abbrev pub WantsMemory : ℕ → Type 0
+WantsMemory n = n ≡ cause_number NoMemory
 
 -- n is the number of the cause of the image's first fault, which stands at block b
 abbrev pub IsFirstCause : List ℕ → ℕ → ℕ → Type 0

@@ -7,14 +7,14 @@ ghost use Rattle.adf_volume.specs.Layout.{Layout};
 ghost use Rattle.adf_check.specs.Image.{IsBegun};
 ghost use Rattle.adf_c.specs.Rooms.{filled};
 ghost use Rattle.adf_c.specs.Tables.{block_table, contents_of, entry_table, refused_at};
-ghost use Rattle.adf_c.specs.Verdicts.{IsFirstCause};
+ghost use Rattle.adf_c.specs.Verdicts.{IsFirstCause, IsVerdictNumber, WantsMemory};
 
 use crate::tables::{Contents, TableEntry, contents_of, put_tables, refused_at};
 use adf_check::check;
 use std::alloc::Global;
 
 /// Checks an image, and fills the tables of its entries and of the data blocks of its files, each as far as there is room: 0
-/// where it is accepted, else the number of the cause, of which 23 is want of memory.
+/// where it is accepted, else the number of the cause, of which `NoMemory` is want of memory.
 #[unsafe(no_mangle)]
 #[tactic(auto, using(crate::proofs::CheckedVolumes::stands_for))]
 pub extern "C" fn adf_index(
@@ -24,7 +24,7 @@ pub extern "C" fn adf_index(
     blocks: &mut [u32],
     contents: &mut Contents,
 ) -> u8
-    ensures number { result ≤ 23 }
+    ensures number { IsVerdictNumber result }
 
     // One tree and one layout fit an accepted image, and the tables and the contents are theirs.
     ensures fits { result ≡ 0 → (t : Tree) × (l : Layout) × Fits image.now t l }
@@ -40,13 +40,13 @@ pub extern "C" fn adf_index(
 
     // A fault is the first one, nothing fits the image, and the tables stay as they were.
     ensures refused { ¬ (result ≡ 0) → contents.new ≡ refused_at contents.new.block }
-    ensures first { ¬ (result ≡ 0) → ¬ (result ≡ 23) → IsFirstCause image.now contents.new.block result }
-    ensures none { ¬ (result ≡ 0) → ¬ (result ≡ 23) → (t : Tree) (l : Layout) → Fits image.now t l → ⊥ }
+    ensures first { ¬ (result ≡ 0) → ¬ WantsMemory result → IsFirstCause image.now contents.new.block result }
+    ensures none { ¬ (result ≡ 0) → ¬ WantsMemory result → (t : Tree) (l : Layout) → Fits image.now t l → ⊥ }
     ensures unchanged { ¬ (result ≡ 0) → (entries.new ≡ entries.old) × (blocks.new ≡ blocks.old) }
 
     // Want of memory names block 0, and comes only where the size, the boot bytes and the root are sound.
-    ensures memory { result ≡ 23 → contents.new.block ≡ 0 }
-    ensures begun { result ≡ 23 → IsBegun image.now }
+    ensures memory { WantsMemory result → contents.new.block ≡ 0 }
+    ensures begun { WantsMemory result → IsBegun image.now }
 {
     match check(alloc, image) {
         Ok(volume) => {

@@ -7,8 +7,10 @@ ghost use Rattle.adf_tree.specs.PathTexts.{IsPathText};
 ghost use Rattle.adf_tree.specs.Tree.{Tree, child, find, rank_of};
 ghost use Rattle.adf_c.specs.Tables.{IsTableOf};
 ghost use Rattle.adf_c.specs.TableNames.{HasNamesOf, IsEnd, IsStart, is_child_in, name_in, rank_in};
+ghost use Rattle.adf_c.specs.Verdicts.{WantsMemory};
 
 use crate::tables::TableEntry;
+use adf_blocks::Cause;
 use adf_tree::{Name, PathFault, read_path, slot};
 use std::alloc::Global;
 
@@ -98,7 +100,7 @@ fn find(entries: &[TableEntry], path: &[Name]) -> Option<usize>
 }
 
 /// Looks a path, in escape form, up in the table of a volume's entries: 0 where there is such an entry, whose number is put
-/// into the node, 1 where there is none, 2 where the text is that of no path, 23 where memory was refused.
+/// into the node, 1 where there is none, 2 where the text is that of no path, the number of the cause `NoMemory` where memory was refused.
 #[unsafe(no_mangle)]
 pub extern "C" fn adf_find(
     alloc: Global,
@@ -107,7 +109,7 @@ pub extern "C" fn adf_find(
     node: &mut usize,
 ) -> u8
     // Whatever the table is, the answer is one of these, and a node that is found is the root or one of the entries.
-    ensures number { (result ≡ 0) ⊎ (result ≡ 1) ⊎ (result ≡ 2) ⊎ (result ≡ 23) }
+    ensures number { (result ≡ 0) ⊎ (result ≡ 1) ⊎ (result ≡ 2) ⊎ WantsMemory result }
     ensures inside { result ≡ 0 → node.new ≤ length entries.now }
     ensures unchanged { ¬ (result ≡ 0) → node.new ≡ node.old }
 
@@ -127,6 +129,6 @@ pub extern "C" fn adf_find(
             None => 1,
         },
         Err(PathFault::BadText) => 2,
-        Err(PathFault::NoMemory) => 23,
+        Err(PathFault::NoMemory) => Cause::NoMemory.number(),
     }
 }

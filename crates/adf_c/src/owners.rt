@@ -8,7 +8,7 @@ ghost use Rattle.adf_volume.specs.Layout.{Layout};
 ghost use Rattle.adf_check.specs.Image.{IsBegun};
 ghost use Rattle.adf_check.specs.Volumes.{StandsFor};
 ghost use Rattle.adf_c.specs.Roles.{IsRole, role_number};
-ghost use Rattle.adf_c.specs.Verdicts.{IsFirstCause};
+ghost use Rattle.adf_c.specs.Verdicts.{IsFirstCause, IsVerdictNumber, WantsMemory};
 
 use adf_check::{Checked, Owner, check};
 use std::alloc::Global;
@@ -55,10 +55,10 @@ fn put_roles(volume: &Checked<'_>, roles: &mut [u8])
 }
 
 /// Puts the role of each block's owner into the room, a byte for each block, as far as there is room: 0 where the image is
-/// accepted, else the number of the cause, of which 23 is want of memory.
+/// accepted, else the number of the cause, of which `NoMemory` is want of memory.
 #[unsafe(no_mangle)]
 pub extern "C" fn adf_owners(alloc: Global, image: &[u8], roles: &mut [u8]) -> u8
-    ensures number { result ≤ 23 }
+    ensures number { IsVerdictNumber result }
 
     // One tree and one layout fit an accepted image, and the roles are those of its parts.
     ensures fits { result ≡ 0 → (t : Tree) × (l : Layout) × Fits image.now t l }
@@ -67,12 +67,12 @@ pub extern "C" fn adf_owners(alloc: Global, image: &[u8], roles: &mut [u8]) -> u
     ensures behind { (b : ℕ) → blocks image.now ≤ b → slice_index roles.new b ≡ slice_index roles.old b }
 
     // The cause is that of the first fault, nothing fits the image, and nothing is put into the room.
-    ensures first { ¬ (result ≡ 0) → ¬ (result ≡ 23) → (b : ℕ) × IsFirstCause image.now b result }
-    ensures none { ¬ (result ≡ 0) → ¬ (result ≡ 23) → (t : Tree) (l : Layout) → Fits image.now t l → ⊥ }
+    ensures first { ¬ (result ≡ 0) → ¬ WantsMemory result → (b : ℕ) × IsFirstCause image.now b result }
+    ensures none { ¬ (result ≡ 0) → ¬ WantsMemory result → (t : Tree) (l : Layout) → Fits image.now t l → ⊥ }
     ensures unchanged { ¬ (result ≡ 0) → roles.new ≡ roles.old }
 
     // Want of memory comes only where the size, the boot bytes and the root are sound.
-    ensures begun { result ≡ 23 → IsBegun image.now }
+    ensures begun { WantsMemory result → IsBegun image.now }
 {
     match check(alloc, image) {
         Ok(volume) => {

@@ -6,7 +6,7 @@ ghost use Rattle.adf_volume.specs.Fits.{Fits};
 ghost use Rattle.adf_volume.specs.Layout.{Layout};
 ghost use Rattle.adf_check.specs.Image.{IsBegun};
 ghost use Rattle.adf_check.specs.Volumes.{counts_of};
-ghost use Rattle.adf_c.specs.Verdicts.{IsFirstCause, accepted, kind_number, refused};
+ghost use Rattle.adf_c.specs.Verdicts.{IsFirstCause, IsVerdictNumber, WantsMemory, accepted, kind_number, refused};
 
 use adf_check::{Counts, check};
 use adf_tree::Kind;
@@ -70,12 +70,12 @@ fn refused(block: u32) -> Verdict
     }
 }
 
-/// Checks an image: 0 where it is accepted, else the number of the cause, of which 23 is want of memory; then nothing is
+/// Checks an image: 0 where it is accepted, else the number of the cause, of which `NoMemory` is want of memory; then nothing is
 /// said of the image.
 #[unsafe(no_mangle)]
 #[tactic(auto, using(crate::proofs::CheckedVolumes::stands_for))]
 pub extern "C" fn adf_check(alloc: Global, image: &[u8], verdict: &mut Verdict) -> u8
-    ensures number { result ≤ 23 }
+    ensures number { IsVerdictNumber result }
 
     // One tree and one layout fit an accepted image, and the numbers are theirs.
     ensures fits { result ≡ 0 → (t : Tree) × (l : Layout) × Fits image.now t l }
@@ -84,12 +84,12 @@ pub extern "C" fn adf_check(alloc: Global, image: &[u8], verdict: &mut Verdict) 
 
     // A fault is the first one, and nothing fits the image.
     ensures refused { ¬ (result ≡ 0) → verdict.new ≡ refused verdict.new.block }
-    ensures first { ¬ (result ≡ 0) → ¬ (result ≡ 23) → IsFirstCause image.now verdict.new.block result }
-    ensures none { ¬ (result ≡ 0) → ¬ (result ≡ 23) → (t : Tree) (l : Layout) → Fits image.now t l → ⊥ }
+    ensures first { ¬ (result ≡ 0) → ¬ WantsMemory result → IsFirstCause image.now verdict.new.block result }
+    ensures none { ¬ (result ≡ 0) → ¬ WantsMemory result → (t : Tree) (l : Layout) → Fits image.now t l → ⊥ }
 
     // Want of memory names block 0, and comes only where the size, the boot bytes and the root are sound.
-    ensures memory { result ≡ 23 → verdict.new.block ≡ 0 }
-    ensures begun { result ≡ 23 → IsBegun image.now }
+    ensures memory { WantsMemory result → verdict.new.block ≡ 0 }
+    ensures begun { WantsMemory result → IsBegun image.now }
 {
     match check(alloc, image) {
         Ok(volume) => {

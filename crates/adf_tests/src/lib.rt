@@ -2,8 +2,6 @@
 #![tactic(auto)]
 
 #[cfg(test)]
-mod causes;
-#[cfg(test)]
 mod devices;
 #[cfg(test)]
 mod memory;

@@ -6,9 +6,10 @@ use Rattle.adf_tree.specs.declared.entry.Kind.{Kind}
 use Rattle.adf_tree.specs.declared.entry.Kind.TheVariants.{Ofs, Ffs}
 use Rattle.adf_tree.specs.declared.entry.Meta.{Meta}
 use Rattle.adf_tree.specs.declared.entry.Stamps.{Stamps}
-use Rattle.adf_blocks.specs.declared.layout.TheConstants.{COMMENT, DATA_BYTES, DATE, FIRST_POINTER, MAP_EXT_PAGES, NAME, POINTERS, PROTECTION}
+use Rattle.adf_blocks.specs.declared.layout.TheConstants.{DATA_BYTES, FIRST_POINTER, MAP_EXT_PAGES, NAME, POINTERS}
 use Rattle.adf_blocks.specs.declared.layout.TheConstants.{ROOT_PAGES, SIZE}
-use Rattle.adf_blocks.specs.Forms.{text_at, stamp_at}
+use Rattle.adf_blocks.specs.Forms.{text_at}
+use Rattle.adf_blocks.specs.HeadBlock.{meta_at}
 use Rattle.adf_blocks.specs.PageBlock.{IsFreeBit}
 use Rattle.adf_blocks.specs.RootBlock.{stamps_at}
 use Rattle.adf_blocks.specs.Sizes.{blocks, chunk, middle}
@@ -35,7 +36,7 @@ label_of image b = text_at (block image b) NAME
 
 -- comment, protection and date in a header
 unfoldable pub meta_of : List ℕ → ℕ → Meta
-meta_of image b = record { comment = text_at (block image b) COMMENT; protect = word_in image b PROTECTION; stamp = stamp_at (block image b) DATE }
+meta_of image b = meta_at (block image b)
 
 -- the three dates in a root
 unfoldable pub stamps_of : List ℕ → ℕ → Stamps

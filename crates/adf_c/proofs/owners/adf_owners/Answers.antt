@@ -1,7 +1,10 @@
-use Rattle.std.proofs.Common.{◌∙◌, ◌≢◌, ap, sym}
+use Rattle.std.proofs.Common.{◌∙◌, ◌≢◌, ap, sym, inr}
 use Rattle.adf_blocks.specs.Causes.{cause_number}
 use Rattle.adf_blocks.specs.declared.cause.Cause.TheVariants.{NoMemory}
 use Rattle.adf_c.proofs.owners.adf_owners.Goals as goal
+
+pub returns-in-Err-clause-number : goal.returns-in-Err-clause-number
+returns-in-Err-clause-number c = inr (c.in-Err.fault.cause, sym c.number.ensures)
 
 pub returns-in-Err-clause-first : goal.returns-in-Err-clause-first
 returns-in-Err-clause-first c _ other =
