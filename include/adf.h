@@ -71,7 +71,7 @@ enum adf_cause {
 
 /* Puts the text of the cause with this number at the front of the room, as far as it fits, such as `bad sum`, of lower-case
  * letters and spaces with no zero behind it, and answers how many bytes the whole text has: at most 15. Where no cause has the
- * number, as 0 and 24, it answers 0, and the room stays as it was.
+ * number, as 0, it answers 0, and the room stays as it was.
  */
 size_t adf_cause_text(uint8_t cause, uint8_t *room, size_t room_length);
 
@@ -90,8 +90,8 @@ struct adf_verdict {
 /* Checks an image of so many bytes. Answers an adf_cause, and fills the verdict.
  *
  * 0: the image is that of one volume, whose numbers the verdict has; `block` is 0.
- * 1 to 22: no volume has this image. This is its first fault, and `block` is where it stands; the other fields are 0.
- * 23: memory was refused; the size, the boot bytes and the root are sound, and no more is said of the image. All fields are 0.
+ * Another cause: no volume has this image. It is its first fault, and `block` is where it stands; the other fields are 0.
+ * ADF_NO_MEMORY: memory was refused; the size, the boot bytes and the root are sound, and no more is said of the image. All fields are 0.
  */
 uint8_t adf_check(const uint8_t *image, size_t length, struct adf_verdict *verdict);
 
@@ -111,7 +111,7 @@ enum adf_role {
  *
  * 0: byte b of the room is the adf_role of block b, for each block for which there is room. An image has a block for each 512
  *    bytes; bytes of the room behind the last block stay as they were.
- * 1 to 23: as of adf_check, and the room stays as it was.
+ * An adf_cause: as of adf_check, and the room stays as it was.
  */
 uint8_t adf_owners(const uint8_t *image, size_t length, uint8_t *roles, size_t room);
 
@@ -170,9 +170,9 @@ struct adf_contents {
  *    how many there are of each, whatever the rooms: where a room is less, the table is only a front part, and a second call
  *    with rooms of these sizes gives all. Together they are fewer than the blocks in use, so than length / 512. What is behind
  *    in a room stays.
- * 1 to 22: no volume has this image. This is its first fault, and contents->block is where it stands; the other fields are 0,
+ * Another cause: no volume has this image. It is its first fault, and contents->block is where it stands; the other fields are 0,
  *    and the tables stay as they were.
- * 23: memory was refused; the size, the boot bytes and the root are sound, and no more is said of the image. All fields are 0,
+ * ADF_NO_MEMORY: memory was refused; the size, the boot bytes and the root are sound, and no more is said of the image. All fields are 0,
  *    and the tables stay as they were.
  */
 uint8_t adf_index(const uint8_t *image, size_t length, struct adf_entry *entries, size_t entries_room,
@@ -184,7 +184,7 @@ uint8_t adf_index(const uint8_t *image, size_t length, struct adf_entry *entries
  * 0: node has the number of the entry, 0 for the empty path.
  * 1: there is none, and node stays.
  * 2: the text is that of no path, and node stays.
- * 23: memory was refused, and node stays.
+ * ADF_NO_MEMORY: memory was refused, and node stays.
  *
  * In a table that adf_index did not make, or that has been changed, the answer is one of these four, and a node that is found is
  * at most count; 2 is answered for the same texts.

@@ -1,0 +1,27 @@
+# What drafts and tree_add share: `measure NAME` makes a repository of its own in a temporary folder, with the program that
+# standard input gives over adf_tree, builds it and runs it.
+
+measure() {
+    top=$(cd "$(dirname "$0")/.." && pwd)
+    work=$(mktemp -d)
+    trap 'rm -rf "$work"' EXIT
+    mkdir -p "$work/crates/$1/src"
+    for crate in adf_fields adf_tree; do
+        mkdir "$work/crates/$crate"
+        for part in src specs proofs; do
+            cp -R "$top/crates/$crate/$part" "$work/crates/$crate/$part"
+        done
+        # the kept work of earlier checks, where there is any, saves a first check
+        if [ -d "$top/crates/$crate/out" ]; then
+            cp -R "$top/crates/$crate/out" "$work/crates/$crate/out"
+        fi
+    done
+    cat >"$work/crates/$1/src/main.rt"
+    {
+        grep -E '^adf_(fields|tree):' "$top/crates.txt"
+        echo "$1: adf_fields adf_tree"
+    } >"$work/crates.txt"
+    cp "$top/HANDLES" "$work/HANDLES"
+    cd "$work/crates/$1"
+    rt run
+}
