@@ -1,17 +1,12 @@
 -- Every date has one text.
-use Rattle.std.proofs.Common.{◌≡◌, ◌∙◌, ℕ, ◌+◌, ◌<◌, Bool, true, false, List, ◌++◌, Result, Ok, Err, OnOk, is_ok, if◌then◌else◌, arith, refl, sym, ap, codes}
+use Rattle.std.proofs.Common.{◌≡◌, ◌∙◌, ℕ, ◌+◌, ◌<◌, Bool, true, false, List, ◌++◌, Result, Ok, Err, OnOk, is_ok, if◌then◌else◌, arith, refl, sym}
 use Rattle.std.specs.Bool.{MatchBool}
 use Rattle.std.proofs.lemmas.Bool.{and_parts, ltb-true}
 use Rattle.jiff.specs.Types.{Date}
-use Rattle.jiff.specs.Words.{date_text}
 use Rattle.jiff.proofs.Family.{epoch_day_injective}
 use Rattle.adf_fields.specs.declared.dates.Stamp.{Stamp}
-use Rattle.adf_fields.specs.Dates.{AppendsStampText, IsCivilDay, IsStampText, clock_text, is_civil, plain_text}
+use Rattle.adf_fields.specs.Dates.{AppendsStampText, IsCivilDay, IsCivilText, IsStampText, civil_text, is_civil, plain_text}
 use Rattle.adf_fields.proofs.CivilDates.{civil_date}
-
--- t is the civil text of the date
-abbrev pub IsCivilText : Stamp → List ℕ → Type 0
-IsCivilText s t = (d : Date) × IsCivilDay (s.days + 2922) d × (t ≡ date_text d ++ (codes " " ++ clock_text s))
 
 few_days : (s : Stamp) → is_civil s ≡ true → s.days < 2929975
 few_days s e = ltb-true _ _ (and_parts _ _ (and_parts _ _ e).0).0
@@ -20,19 +15,19 @@ text_where : (s : Stamp) (b : Bool) → is_civil s ≡ b → (t : List ℕ) × M
 text_where s true e =
     let few = few_days s e in
     let day = civil_date (s.days + 2922) (omega arith) in
-    (date_text day.0 ++ (codes " " ++ clock_text s), (day.0, day.1, refl))
+    (civil_text day.0 s, (day.0, day.1, refl))
 text_where s false e = (plain_text s, refl)
 
 pub some_text : (s : Stamp) → (t : List ℕ) × IsStampText s t
 some_text s = text_where s (is_civil s) refl
 
-same_date_text : (a b : Date) (n : ℕ) → IsCivilDay n a → IsCivilDay n b → date_text a ≡ date_text b
-same_date_text a b n p q = let same = epoch_day_injective a b (p ∙ sym q) in rw (same.0, same.1, same.2) refl
+same_civil_text : (s : Stamp) (a b : Date) → IsCivilDay (s.days + 2922) a → IsCivilDay (s.days + 2922) b → civil_text a s ≡ civil_text b s
+same_civil_text s a b p q = let same = epoch_day_injective a b (p ∙ sym q) in rw (same.0, same.1, same.2) refl
 
 one_text_where : (s : Stamp) (b : Bool) (t u : List ℕ) → MatchBool b (IsCivilText s t) (t ≡ plain_text s)
     → MatchBool b (IsCivilText s u) (u ≡ plain_text s) → t ≡ u
 one_text_where s true t u (d, day, p) (e, other, q) =
-    p ∙ ap (λ date. date ++ (codes " " ++ clock_text s)) (same_date_text d e (s.days + 2922) day other) ∙ sym q
+    p ∙ same_civil_text s d e day other ∙ sym q
 one_text_where s false t u p q = p ∙ sym q
 
 pub one_text : (s : Stamp) (t u : List ℕ) → IsStampText s t → IsStampText s u → t ≡ u

@@ -1,5 +1,5 @@
 -- Numbers below 100 in two digits.
-use Rattle.std.proofs.Common.{◌≡◌, ℕ, ◌+◌, ◌-◌, ◌/◌, ◌%◌, ◌^◌, ◌<◌, List, [], ◌++◌, arith, refl, inl, inr, false, decimal}
+use Rattle.std.proofs.Common.{◌≡◌, ℕ, ◌+◌, ◌-◌, ◌/◌, ◌%◌, ◌^◌, ◌<◌, List, [], arith, refl, inl, inr, false, decimal}
 use Rattle.std.specs.Fmt.{padded_integral, char_count, format_spec}
 use Rattle.std.proofs.lemmas.Bool.{cases_lt}
 use Rattle.std.proofs.lemmas.Fmt.{decimal_digit, decimal_step}
@@ -8,11 +8,9 @@ use Rattle.jiff.specs.Types.{Date}
 use Rattle.jiff.specs.Words.{epoch_day, IsYmd}
 use Rattle.jiff.proofs.SpanFacts.{signed_arith}
 use Rattle.jiff.proofs.OnLiterals.{jiff_on_literals}
-use Rattle.std.proofs.Common.{codes}
 use Rattle.std.proofs.lemmas.Bool.{lt-ltb}
-use Rattle.jiff.specs.Words.{date_text}
 use Rattle.adf_fields.specs.declared.dates.Stamp.{Stamp}
-use Rattle.adf_fields.specs.Dates.{two_digits, IsCivilDay, IsStampText, clock_text}
+use Rattle.adf_fields.specs.Dates.{two_digits, IsCivilDay, IsStampText, civil_text}
 
 -- what `{:02}` writes of a number below 100
 pub two_places : (n : ℕ) → n < 100 → padded_integral (format_spec 32 0 4 2 (2 ^ 64 - 1)) false [] (decimal n) ≡ two_digits n
@@ -37,7 +35,7 @@ epoch_day_1970 d h =
 
 -- the text of a date that has a civil one
 pub civil_case : (s : Stamp) (d : Date) (t : List ℕ) → s.days < 2929975 → s.mins < 1440 → s.ticks < 3000
-    → IsCivilDay (s.days + 2922) d → t ≡ date_text d ++ (codes " " ++ clock_text s) → IsStampText s t
+    → IsCivilDay (s.days + 2922) d → t ≡ civil_text d s → IsStampText s t
 civil_case s d t days mins ticks day e =
     let a = lt-ltb s.days 2929975 days in
     let b = lt-ltb s.mins 1440 mins in

@@ -31,11 +31,17 @@ clock_text s = two_digits (s.mins / 60) ++ (codes ":" ++ (two_digits (s.mins % 6
 abbrev pub plain_text : Stamp → List ℕ
 plain_text s = decimal s.days ++ (codes ":" ++ (decimal s.mins ++ (codes ":" ++ decimal s.ticks)))
 
--- t is the text of the date: of day days + 2922 from 1970-01-01, or the three numbers
+-- a civil date, and behind it the time of the day
+abbrev pub civil_text : Date → Stamp → List ℕ
+civil_text day s = date_text day ++ (codes " " ++ clock_text s)
+
+-- t is the civil text of the date, whose day is days + 2922 from 1970-01-01
+abbrev pub IsCivilText : Stamp → List ℕ → Type 0
+IsCivilText s t = (day : Date) × IsCivilDay (s.days + 2922) day × (t ≡ civil_text day s)
+
+-- t is the text of the date: the civil one, or the three numbers
 abbrev pub IsStampText : Stamp → List ℕ → Type 0
-IsStampText s t = MatchBool (is_civil s)
-    ((d : Date) × IsCivilDay (s.days + 2922) d × (t ≡ date_text d ++ (codes " " ++ clock_text s)))
-    (t ≡ plain_text s)
+IsStampText s t = MatchBool (is_civil s) (IsCivilText s t) (t ≡ plain_text s)
 
 -- new is old with the text of the date at its end
 abbrev pub AppendsStampText : Stamp → List ℕ → List ℕ → Type 0

@@ -1,8 +1,7 @@
 // Dates: days since 1978-01-01, minutes of the day, ticks of the minute.
 
-ghost use Rattle.std.specs.Prelude.{◌≡◌, ◌<◌, ◌+◌, ◌/◌, ◌%◌, ◌++◌, ◌≤ℤ◌, pos, codes, OnOk, OnErr, IfOk, string_bytes};
-ghost use Rattle.jiff.specs.Words.{date_text};
-ghost use Rattle.adf_fields.specs.Dates.{IsCivilDay, IsStampText, AppendsStampText, DatesHaveOneText, clock_text, plain_text};
+ghost use Rattle.std.specs.Prelude.{◌≡◌, ◌<◌, ◌+◌, ◌/◌, ◌%◌, ◌≤ℤ◌, pos, OnOk, OnErr, IfOk, string_bytes};
+ghost use Rattle.adf_fields.specs.Dates.{IsCivilDay, IsStampText, AppendsStampText, DatesHaveOneText, civil_text, plain_text};
 
 use crate::NoMemory;
 use jiff::ToSpan;
@@ -33,7 +32,7 @@ fn civil_day(days: u32) -> Date
 fn civil_text(alloc: Global, s: Stamp, day: Date) -> Result<String, AllocError>
     requires mins { s.mins < 1440 }
     requires ticks { s.ticks < 3000 }
-    ensures { IfOk result (λ t. string_bytes t ≡ date_text day ++ (codes " " ++ clock_text s)) }
+    ensures { IfOk result (λ t. string_bytes t ≡ civil_text day s) }
 {
     let (hours, mins) = (s.mins / 60, s.mins % 60);
     let (seconds, ticks) = (s.ticks / 50, s.ticks % 50);
@@ -103,7 +102,7 @@ fn civil_digits(s: Stamp, day: Date) -> [u8; 22]
     requires year { pos 0 ≤ℤ day.year }
     requires mins { s.mins < 1440 }
     requires ticks { s.ticks < 3000 }
-    ensures { result ≡ date_text day ++ (codes " " ++ clock_text s) }
+    ensures { result ≡ civil_text day s }
 {
     let (year, month, date) = numbers_of(day);
     let (century, year) = (year / 100, year % 100);
