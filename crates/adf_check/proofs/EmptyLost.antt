@@ -9,12 +9,12 @@ use Rattle.adf_volume.proofs.Zeros.{all_zero}
 use Rattle.adf_check.specs.Samples.{empty_lost}
 use Rattle.adf_check.specs.Store.{Store, entered}
 use Rattle.adf_check.proofs.NodeSteps.{all_read, leave_directory}
-use Rattle.adf_check.proofs.SmallImages.{IsSmall, Loses, empty_slots, page_store, small_begins, small_lost}
+use Rattle.adf_check.proofs.SmallImages.{IsSmall, Loses, begins, empty_slots, page_store, small_begins, small_lost}
 
 small : IsSmall empty_lost 4 3 4
 unfolding empty_lost block word words with_bytes
 small = record {
-  begun = ((refl, refl), (refl, (refl, (refl, (refl, (refl, (refl, (refl, (refl, tt)))))))));
+  begun = begins empty_lost (refl, refl) refl refl;
   size = refl;
   at_root = refl;
   one = refl;

@@ -4,6 +4,8 @@ use Rattle.std.specs.Prelude.{◌↔◌}
 use Rattle.adf_blocks.specs.declared.layout.TheConstants.{EXTENSION, FIRST_SLOT, NEXT_IN_CHAIN, SECONDARY_TYPE, SIZE, ST_FILE}
 use Rattle.adf_fields.specs.Words.{block, word, words, with_bytes}
 use Rattle.adf_tree.specs.Texts.{uppers}
+use Rattle.adf_blocks.specs.DataBlock.{data_form}
+use Rattle.adf_blocks.specs.HeadBlock.{head_form}
 use Rattle.adf_blocks.specs.Sizes.{chunk, count}
 use Rattle.adf_blocks.specs.declared.cause.Cause.TheVariants.{LostBlock}
 use Rattle.adf_volume.specs.Image.{word_in, kind_of, name_of, held, table_word}
@@ -11,6 +13,7 @@ use Rattle.adf_volume.specs.Demands.{AllHold, head_demands, data_demands}
 use Rattle.adf_volume.specs.Walk.{FirstFault, data_count, heads}
 use Rattle.adf_volume.specs.declared.owner.Owner.TheVariants.{Head as AHead}
 use Rattle.adf_volume.specs.Walk.Role.{Head, Data}
+use Rattle.adf_volume.proofs.FormDemands.{all_demanded}
 use Rattle.adf_volume.proofs.Zeros.{all_zero}
 use Rattle.adf_check.specs.Samples.{file_lost}
 use Rattle.adf_check.specs.Store.{Store, stored, entered}
@@ -21,12 +24,12 @@ use Rattle.adf_check.proofs.ClaimSteps.{IsStored, is_stored}
 use Rattle.adf_check.proofs.DataSteps.{data_done, datas_end}
 use Rattle.adf_check.proofs.ExtSteps.{exts_end}
 use Rattle.adf_check.proofs.NodeSteps.{all_read, enter_node, file_begins, leave_directory}
-use Rattle.adf_check.proofs.SmallImages.{IsSmall, Loses, empty_slots, page_store, small_begins, small_lost}
+use Rattle.adf_check.proofs.SmallImages.{IsSmall, Loses, begins, empty_slots, page_store, small_begins, small_lost}
 
 small : IsSmall file_lost 14 8 9
 unfolding file_lost block word words with_bytes
 small = record {
-  begun = ((refl, refl), (refl, (refl, (refl, (refl, (refl, (refl, (refl, (refl, tt)))))))));
+  begun = begins file_lost (refl, refl) refl refl;
   size = refl;
   at_root = refl;
   one = refl;
@@ -61,15 +64,15 @@ file = record {
   low = refl;
   slot = refl;
   high = refl;
-  form = (refl, (refl, (refl, (refl, (refl, (refl, (refl, (refl, (refl, tt)))))))));
+  form = all_demanded 2 (head_form (kind_of file_lost) 2 8 6 (block file_lost 2)) refl;
   alone = refl;
   whole = refl;
   type = refl;
   two = refl;
   first = refl;
   second = refl;
-  first_form = (refl, (refl, (refl, tt)));
-  second_form = (refl, (refl, (refl, tt)));
+  first_form = all_demanded 3 (data_form 2 1 (held (kind_of file_lost) (word_in file_lost 2 SIZE) 1) 4 (block file_lost 3)) refl;
+  second_form = all_demanded 4 (data_form 2 2 (held (kind_of file_lost) (word_in file_lost 2 SIZE) 2) 0 (block file_lost 4)) refl;
 }
 
 -- what is kept when the root's slots are read, when the header was read, when its data blocks are read, and at the end

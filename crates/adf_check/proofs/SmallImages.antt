@@ -1,22 +1,25 @@
 -- The states of a reader in a small image: one page, the root first.
 use Rattle.std.proofs.Common.{◌≡◌, ◌≢◌, ℕ, zero, suc, List, [], ◌∷◌, ◌+◌, ◌-◌, ◌/◌, ◌%◌, ◌<◌, ◌≤◌, refl, sym, ap, subst, ◌∙◌, arith}
-use Rattle.std.proofs.Common.{Bool, true, false}
+use Rattle.std.proofs.Common.{Bool, true, false, None}
 use Rattle.std.specs.Prelude.{◌==◌, not, bit_and, ◌^◌, IsTrue, ◌↔◌, slice_index}
 use Rattle.std.proofs.lemmas.Bool.{and_parts, eqb-true}
 use Rattle.std.proofs.lemmas.Bool.Decides.{Decides-eqb, Decides-not}
 use Rattle.adf_blocks.specs.declared.layout.TheConstants.{FIRST_PAGE, FIRST_SLOT, PAGE_BITS}
 use Rattle.adf_fields.specs.Words.{block}
+use Rattle.adf_blocks.specs.Forms.{first_cause}
 use Rattle.adf_blocks.specs.PageBlock.{page_form}
+use Rattle.adf_blocks.specs.RootBlock.{root_form}
 use Rattle.adf_blocks.specs.Sizes.{blocks, pages_needed}
 use Rattle.adf_blocks.specs.declared.cause.Cause.TheVariants.{LostBlock}
 use Rattle.adf_volume.specs.declared.owner.Owner.{Owner}
 use Rattle.adf_volume.specs.declared.owner.Owner.TheVariants.{Free}
 use Rattle.adf_volume.specs.Image.{word_in, root_of}
-use Rattle.adf_volume.specs.Demands.{AllHold, page_demands}
+use Rattle.adf_volume.specs.Demands.{AllHold, IsSize, boot_demands, boot_form, page_demands, root_demands}
 use Rattle.adf_volume.specs.Lists.{At}
 use Rattle.adf_volume.specs.Walk.{FirstFault}
 use Rattle.adf_volume.specs.Walk.Role.{Page}
-use Rattle.adf_volume.proofs.FormDemands.{none_demanded}
+use Rattle.adf_volume.proofs.FormDemands.{all_demanded, none_demanded}
+use Rattle.adf_volume.proofs.Lists.{all_append}
 use Rattle.adf_volume.proofs.Zeros.{all_zero}
 use Rattle.adf_check.specs.Image.{IsBegun}
 use Rattle.adf_check.specs.Store.{Store, owner_at, stored, entered}
@@ -27,6 +30,13 @@ use Rattle.adf_check.proofs.ChainSteps.{empty_chain}
 use Rattle.adf_check.proofs.ClaimSteps.{is_stored}
 use Rattle.adf_check.proofs.NodeSteps.{enter_node, root_begins}
 use Rattle.adf_check.proofs.PageSteps.{page_done, pages_end, same_holder}
+
+-- an image that begins as a volume
+pub begins : (image : List ℕ) → IsSize image → first_cause (boot_form (block image 0)) ≡ None
+    → first_cause (root_form (block image (root_of image))) ≡ None → IsBegun image
+begins image size boot root =
+    all_append (boot_demands image) (root_demands image (root_of image)) (size, all_demanded 0 (boot_form (block image 0)) boot)
+    (all_demanded (root_of image) (root_form (block image (root_of image))) root)
 
 -- n slots are empty from slot s on
 pub empty_slots : (image : List ℕ) (store : Store) (p up s n : ℕ) → all_zero (λ i. word_in image up (FIRST_SLOT + (s + i))) n ≡ true

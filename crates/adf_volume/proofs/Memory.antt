@@ -1,5 +1,6 @@
 -- No first fault is want of memory.
-use Rattle.std.proofs.Common.{◌≢◌, ℕ, zero, suc, List, [], ◌∷◌, ◌++◌, inl, inr, subst}
+use Rattle.std.proofs.Common.{◌≡◌, ◌≢◌, ℕ, zero, suc, Bool, true, false, not, ◌&&◌, List, [], ◌∷◌, ◌++◌, inl, inr, refl, subst}
+use Rattle.std.proofs.lemmas.Bool.{and_parts}
 use Rattle.adf_tree.specs.declared.entry.Kind.{Kind}
 use Rattle.adf_tree.specs.declared.entry.Kind.TheVariants.{Ofs, Ffs}
 use Rattle.adf_blocks.specs.declared.cause.Cause.{Cause}
@@ -24,18 +25,36 @@ none_append : (c : Cause) (xs ys : List Demand) → NoneHas c xs → NoneHas c y
 none_append c [] ys h k = k
 none_append c (x ∷ xs) ys h k = (h.0, none_append c xs ys h.1 k)
 
+-- whether a cause is want of memory
+abbrev is_memory : Cause → Bool
+is_memory NoMemory = true
+is_memory _ = false
+
+-- whether no demand has it as its cause
+abbrev is_clear : List Demand → Bool
+is_clear [] = true
+is_clear (x ∷ xs) = not (is_memory x.cause) && is_clear xs
+
+other_cause : (c : Cause) → not (is_memory c) ≡ true → c ≢ NoMemory
+other_cause c e is = let none : false ≡ true = subst (λ (d : Cause). not (is_memory d) ≡ true) is e in cc
+
+none_of : (xs : List Demand) → is_clear xs ≡ true → NoneHas NoMemory xs
+none_of [] h = tt
+none_of (x ∷ xs) h =
+    let parts = and_parts (not (is_memory x.cause)) (is_clear xs) h in
+    (other_cause x.cause parts.0, none_of xs parts.1)
+
 of_data : (image : List ℕ) (kind : Kind) (b h k n next : ℕ) → NoneHas NoMemory (data_demands image kind b h k n next)
-of_data image Ofs b h k n next = ((λ e. cc), ((λ e. cc), ((λ e. cc), tt)))
+of_data image Ofs b h k n next = none_of (data_demands image Ofs b h k n next) refl
 of_data image Ffs b h k n next = tt
 
 of_form : (image : List ℕ) (w : List (Role × ℕ)) (r : Role) (b : ℕ) → NoneHas NoMemory (form_demands image w r b)
-of_form image w Root b = tt
-of_form image w (Page i) b = ((λ e. cc), tt)
-of_form image w (MapExt j) b = tt
-of_form image w (Head n p s j) b =
-    ((λ e. cc), ((λ e. cc), ((λ e. cc), ((λ e. cc), ((λ e. cc), ((λ e. cc), ((λ e. cc), ((λ e. cc), ((λ e. cc), tt)))))))))
-of_form image w (Ext n k) b = ((λ e. cc), ((λ e. cc), ((λ e. cc), ((λ e. cc), tt))))
 of_form image w (Data n k) b = of_data image _ b _ k _ _
+of_form image w Root b = tt
+of_form image w (Page i) b = none_of (form_demands image w (Page i) b) refl
+of_form image w (MapExt j) b = tt
+of_form image w (Head n p s j) b = none_of (form_demands image w (Head n p s j) b) refl
+of_form image w (Ext n k) b = none_of (form_demands image w (Ext n k) b) refl
 
 of_role : (image : List ℕ) (w : List (Role × ℕ)) (r : Role) (a b : ℕ) → NoneHas NoMemory (demands image w r a b)
 of_role image w r a b =
@@ -47,10 +66,7 @@ of_bitmap image w b zero = tt
 of_bitmap image w b (suc n) = ((λ e. cc), ((λ e. cc), of_bitmap image w (suc b) n))
 
 of_start : (image : List ℕ) → NoneHas NoMemory (boot_demands image ++ root_demands image (root_of image))
-of_start image =
-    none_append NoMemory (boot_demands image) (root_demands image (root_of image))
-    ((λ e. cc), ((λ e. cc), ((λ e. cc), ((λ e. cc), tt))))
-    ((λ e. cc), ((λ e. cc), ((λ e. cc), ((λ e. cc), ((λ e. cc), tt)))))
+of_start image = none_of (boot_demands image ++ root_demands image (root_of image)) refl
 
 no_memory : (image : List ℕ) (b : ℕ) → FirstFault image b NoMemory → ⊥
 no_memory image b (at_boot h) = none_fails (boot_demands image ++ root_demands image (root_of image)) b NoMemory (of_start image) h

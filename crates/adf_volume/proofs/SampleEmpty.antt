@@ -6,10 +6,13 @@ use Rattle.adf_tree.specs.Tree.{Tree, IsDir}
 use Rattle.adf_volume.specs.declared.owner.Owner.{Owner}
 use Rattle.adf_volume.specs.Lists.{At, In, NoBlockTwice}
 use Rattle.adf_volume.specs.Image.{word_in, root_of, kind_of, label_of, stamps_of, map_exts_needed, IsFreeAt}
-use Rattle.adf_volume.specs.Demands.{AllHold, boot_demands, root_demands, page_demands}
+use Rattle.adf_blocks.specs.PageBlock.{page_form}
+use Rattle.adf_blocks.specs.RootBlock.{root_form}
+use Rattle.adf_volume.specs.Demands.{AllHold, boot_demands, boot_form, root_demands, page_demands}
 use Rattle.adf_volume.specs.Layout.{Layout, EntryAt, at_node, owned}
 use Rattle.adf_volume.specs.Fits.{Fits, IsFree}
 use Rattle.adf_volume.specs.Samples.{tiny, tiny_root, tiny_tree, tiny_layout, tiny_freed}
+use Rattle.adf_volume.proofs.FormDemands.{all_demanded}
 use Rattle.adf_volume.proofs.Zeros.{zero_at}
 use Rattle.adf_volume.proofs.Lists.{at_some, in_left, in_numbered}
 use Rattle.adf_volume.specs.declared.owner.Owner.TheVariants.{Page}
@@ -24,15 +27,15 @@ page_at (suc k) b h = absurd h
 
 tiny_boots : AllHold (boot_demands tiny)
 unfolding tiny tiny_root block
-tiny_boots = ((refl, refl), (refl, (refl, (refl, tt))))
+tiny_boots = ((refl, refl), all_demanded 0 (boot_form (block tiny 0)) refl)
 
 tiny_is_root : AllHold (root_demands tiny 2)
 unfolding tiny tiny_root block word words
-tiny_is_root = (refl, (refl, (refl, (refl, (refl, tt)))))
+tiny_is_root = all_demanded 2 (root_form (block tiny 2)) refl
 
 tiny_is_page : AllHold (page_demands tiny 3)
 unfolding tiny tiny_root block word words
-tiny_is_page = (refl, tt)
+tiny_is_page = all_demanded 3 (page_form (block tiny 3)) refl
 
 no_dir : (p : ℕ) → IsDir tiny_tree.entries p → p ≡ 0
 no_dir zero h = refl

@@ -16,11 +16,16 @@ use Rattle.adf_volume.specs.Lists.{At, In, Spelled, NoBlockTwice}
 use Rattle.adf_blocks.specs.Sizes.{chunk, count}
 use Rattle.adf_volume.specs.Image.{word_in, root_of, kind_of, name_of, label_of, meta_of, stamps_of, content, area, held, table_word}
 use Rattle.adf_volume.specs.Image.{map_exts_needed, IsFreeAt}
-use Rattle.adf_volume.specs.Demands.{AllHold, boot_demands, root_demands, page_demands, head_demands, data_demands}
+use Rattle.adf_blocks.specs.DataBlock.{data_form}
+use Rattle.adf_blocks.specs.HeadBlock.{head_form}
+use Rattle.adf_blocks.specs.PageBlock.{page_form}
+use Rattle.adf_blocks.specs.RootBlock.{root_form}
+use Rattle.adf_volume.specs.Demands.{AllHold, boot_demands, boot_form, root_demands, page_demands, head_demands, data_demands}
 use Rattle.adf_volume.specs.Layout.{EntryAt, at_node, chain_nodes, owned}
 use Rattle.adf_volume.specs.Fits.{Fits, EntryFits, FileFits, IsFree, TableAt}
 use Rattle.adf_volume.specs.Samples.{one_file, one_file_tree, one_file_layout, file_a}
 use Rattle.adf_volume.proofs.DistinctBlocks.{Distinct, blocks_of, block_in, in_block, distinct_blocks}
+use Rattle.adf_volume.proofs.FormDemands.{all_demanded}
 use Rattle.adf_volume.proofs.Zeros.{zero_at}
 
 -- the block of a node
@@ -29,36 +34,37 @@ node_at n = at_node one_file one_file_layout n
 
 boots : AllHold (boot_demands one_file)
 unfolding one_file block with_bytes
-boots = ((refl, refl), (refl, (refl, (refl, tt))))
+boots = ((refl, refl), all_demanded 0 (boot_form (block one_file 0)) refl)
 
-root_form : AllHold (root_demands one_file (root_of one_file))
+root_holds : AllHold (root_demands one_file (root_of one_file))
 unfolding one_file block word words with_bytes
-root_form = (refl, (refl, (refl, (refl, (refl, tt)))))
+root_holds = all_demanded (root_of one_file) (root_form (block one_file (root_of one_file))) refl
 
-page_form : AllHold (page_demands one_file 9)
+page_holds : AllHold (page_demands one_file 9)
 unfolding one_file block word words with_bytes
-page_form = (refl, tt)
+page_holds = all_demanded 9 (page_form (block one_file 9)) refl
 
 page_named : word_in one_file (root_of one_file) 79 ≡ 9
 unfolding one_file block word with_bytes
 page_named = refl
 
-head_form : AllHold (head_demands one_file one_file_tree.kind 2 (root_of one_file) (slot_of file_a.name))
+header_holds : AllHold (head_demands one_file one_file_tree.kind 2 (root_of one_file) (slot_of file_a.name))
 unfolding one_file block word words with_bytes
-head_form = (refl, (refl, (refl, (refl, (refl, (refl, (refl, (refl, (refl, tt)))))))))
+header_holds =
+    all_demanded 2 (head_form one_file_tree.kind 2 (root_of one_file) (slot_of file_a.name) (block one_file 2)) refl
 
 -- the bytes of the file
 bytes_held : replicate 489 0x41 ≡ content one_file one_file_tree.kind 2 (3 ∷ 4 ∷ [])
 unfolding one_file block word with_bytes content area
 bytes_held = refl
 
-first_form : AllHold (data_demands one_file one_file_tree.kind 3 2 1 (held one_file_tree.kind 489 1) 4)
+first_holds : AllHold (data_demands one_file one_file_tree.kind 3 2 1 (held one_file_tree.kind 489 1) 4)
 unfolding one_file block word words with_bytes held chunk
-first_form = (refl, (refl, (refl, tt)))
+first_holds = all_demanded 3 (data_form 2 1 (held one_file_tree.kind 489 1) 4 (block one_file 3)) refl
 
-second_form : AllHold (data_demands one_file one_file_tree.kind 4 2 2 (held one_file_tree.kind 489 2) 0)
+second_holds : AllHold (data_demands one_file one_file_tree.kind 4 2 2 (held one_file_tree.kind 489 2) 0)
 unfolding one_file block word words with_bytes held chunk
-second_form = (refl, (refl, (refl, tt)))
+second_holds = all_demanded 4 (data_form 2 2 (held one_file_tree.kind 489 2) 0 (block one_file 4)) refl
 
 page_at : (k b : ℕ) → At one_file_layout.pages k b → (k ≡ 0) × (9 ≡ b)
 page_at zero b h = (refl, h)
@@ -78,7 +84,7 @@ entry_is (suc (suc n)) e h = absurd h
 
 entry_fits : EntryFits one_file one_file_tree one_file_layout 1 2 file_a
 unfolding one_file block word with_bytes name_of meta_of
-entry_fits = record { form = head_form; name = refl; meta = refl; body = (refl, bytes_held, refl) }
+entry_fits = record { form = header_holds; name = refl; meta = refl; body = (refl, bytes_held, refl) }
 
 entries_fit : (n : ℕ) (e : Entry) → EntryAt one_file_tree n e → EntryFits one_file one_file_tree one_file_layout n (node_at n) e
 entries_fit n e h =
@@ -161,8 +167,8 @@ datas_named (suc (suc k)) b a h g = absurd h
 
 datas_formed : (k b : ℕ) → At (3 ∷ 4 ∷ []) k b
     → AllHold (data_demands one_file one_file_tree.kind b 2 (suc k) (held one_file_tree.kind 489 (suc k)) (slice_index (3 ∷ 4 ∷ []) (suc k)))
-datas_formed zero b h = subst (λ b. AllHold (data_demands one_file one_file_tree.kind b 2 1 (held one_file_tree.kind 489 1) 4)) h first_form
-datas_formed (suc zero) b h = subst (λ b. AllHold (data_demands one_file one_file_tree.kind b 2 2 (held one_file_tree.kind 489 2) 0)) h second_form
+datas_formed zero b h = subst (λ b. AllHold (data_demands one_file one_file_tree.kind b 2 1 (held one_file_tree.kind 489 1) 4)) h first_holds
+datas_formed (suc zero) b h = subst (λ b. AllHold (data_demands one_file one_file_tree.kind b 2 2 (held one_file_tree.kind 489 2) 0)) h second_holds
 datas_formed (suc (suc k)) b h = absurd h
 
 two_datas : 2 ≡ count one_file_tree.kind 489
@@ -289,7 +295,7 @@ unfolding one_file block word with_bytes kind_of label_of stamps_of map_exts_nee
 one_file_fits = record {
   boots = boots;
   kind = refl;
-  root = root_form;
+  root = root_holds;
   label = refl;
   stamps = refl;
   tree = is_tree;
@@ -300,7 +306,7 @@ one_file_fits = record {
   map_next = (λ j a b h. absurd h);
   page_named = (λ k b l h. let x = page_at k b h in ap (λ k. word_in one_file (root_of one_file) (79 + k)) x.0 ∙ page_named ∙ x.1);
   page_listed = (λ j i a b l h. absurd h);
-  page_form = (λ k b h. let x = page_at k b h in subst (λ b. AllHold (page_demands one_file b)) x.1 page_form);
+  page_form = (λ k b h. let x = page_at k b h in subst (λ b. AllHold (page_demands one_file b)) x.1 page_holds);
   entries = entries_fit;
   chains = (λ p s d l. chains p s (no_dir p d) l);
   files = files_fit;
