@@ -3,8 +3,8 @@
 ghost use Rattle.std.specs.Prelude.{◌≡◌};
 ghost use Rattle.adf_tree.specs.Kinds.{kind_named, kind_text};
 
-use crate::comment::Comment;
 use crate::name::Name;
+use crate::short_text::Comment;
 use adf_fields::Stamp;
 use std::fmt;
 use std::marker::Model;

@@ -3,12 +3,10 @@
 
 mod bounds;
 mod child_map;
-mod comment;
 mod draft;
 mod entry;
 mod escapes;
 mod groups;
-mod label;
 mod last_chain;
 mod laws;
 mod lookup;
@@ -16,14 +14,13 @@ mod name;
 mod name_key;
 mod name_set;
 mod path_texts;
+mod short_text;
 mod tree;
 mod walk_order;
 
-pub use crate::comment::Comment;
 pub use crate::draft::Draft;
 pub use crate::entry::{Body, Bytes, Entry, Kind, Meta, Node, Stamps};
 pub use crate::escapes::{hex_digit, is_plain, spellings_decide};
-pub use crate::label::Label;
 pub use crate::laws::{
     adding_grows_the_tree, additions_are_built, additions_have_one_tree, case_keeps_paths,
     case_keeps_slots, children_are_found, entries_stand_in_one_chain, names_are_found,
@@ -32,5 +29,6 @@ pub use crate::laws::{
 pub use crate::name::Name;
 pub use crate::name_set::NameSet;
 pub use crate::path_texts::{PathFault, path_texts_decide, read_path, write_path};
+pub use crate::short_text::{Comment, Label, ShortText};
 pub use crate::tree::{AddFault, Tree};
 pub use adf_fields::{slot, upper};

@@ -9,10 +9,10 @@ ghost use Rattle.adf_tree.specs.Paths.{AddsOne};
 
 use crate::bounds::{date_bounds, entry_bounds};
 use crate::entry::{Body, Entry, Kind, Meta, Node, Stamps};
-use crate::label::Label;
 use crate::last_chain::{LastChain, add_entry};
 use crate::lookup::{entry, find, room_for};
 use crate::name::Name;
+use crate::short_text::Label;
 use adf_fields::NoMemory;
 use std::alloc::Global;
 use std::error::Error;
