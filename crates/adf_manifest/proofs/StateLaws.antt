@@ -8,6 +8,7 @@ use Rattle.adf_fields.specs.declared.dates.Stamp.{Stamp}
 use Rattle.adf_tree.specs.Escapes.{IsSpelling, escaped}
 use Rattle.adf_tree.specs.PathTexts.{IsPathText, path_text}
 use Rattle.std.specs.Option.{unwrap_or}
+use Rattle.adf_tree.specs.Draft.{DraftValue, IsRoomFor}
 use Rattle.adf_tree.specs.Tree.{Tree, room_for, with_entry}
 use Rattle.adf_tree.specs.declared.entry.Body.{Body}
 use Rattle.adf_tree.specs.declared.entry.Meta.{Meta}
@@ -64,13 +65,12 @@ no_runs [] h e = refl
 no_runs (r ∷ rs) h e = absurd (omega (arith, run_some r (All-head IsRun r rs h), length-append (run_bytes r) (file_bytes rs), e))
 
 -- behind an entry line
-pub entry_step : (m : Manifest) (blocks : ℕ) (tree : Tree) (last : Open) (sort : Sort) (stamp : Stamp) (protect : ℕ) (text : List ℕ)
-    → IsWell m → blocks ≡ m.head.blocks → tree ≡ manifest_tree m → IsLine (EntryLine sort stamp protect text)
-    → IsPathText text last.path.items → IsOk (room_for tree.entries last.path.items) → last.sort ≡ sort → last.stamp ≡ stamp → last.protect ≡ protect
+pub entry_step : (m : Manifest) (blocks : ℕ) (draft : DraftValue) (last : Open) (sort : Sort) (stamp : Stamp) (protect : ℕ) (text : List ℕ)
+    (path : List (List ℕ)) → IsWell m → blocks ≡ m.head.blocks → draft.tree ≡ manifest_tree m → IsLine (EntryLine sort stamp protect text)
+    → IsPathText text path → IsRoomFor draft path last.room → last.sort ≡ sort → last.stamp ≡ stamp → last.protect ≡ protect
     → last.note ≡ None → last.bytes.items ≡ []
-    → GoesOn (state.Entries (record { blocks = blocks; tree = tree; last = last })) m (entry_line sort stamp protect text)
-entry_step m blocks tree last sort stamp protect text w b t l p room e1 e2 e3 e4 e5 =
-    let path : List (List ℕ) = last.path.items in
+    → GoesOn (state.Entries (record { blocks = blocks; draft = draft; last = last })) m (entry_line sort stamp protect text)
+entry_step m blocks draft last sort stamp protect text path w b t l p room e1 e2 e3 e4 e5 =
     let item = new_item sort stamp protect path in
     let is : IsItem item = record {
       stamp = l.0;
@@ -78,29 +78,30 @@ entry_step m blocks tree last sort stamp protect text w b t l p room e1 e2 e3 e4
       filled = path_filled text path l.2 p;
       names = p.names;
       note = tt;
-      runs =
-          All-nil IsRun;
+      runs = All-nil IsRun;
       plain = λ d. refl;
     } in
-    let same : IsOpen last item = record { sort = e1; stamp = e2; protect = e3; path = refl; note = e4; bytes = e5 } in
+    let same : IsOpen last item = record { sort = e1; stamp = e2; protect = e3; note = e4; bytes = e5 } in
+    let some : IsOk (room_for draft.tree.entries path) = rw room.leads refl in
     let entries : Entries = record { before = items_of m.entries; last = item } in (
       with_new m item,
-      new_well m item w is (subst (λ (x : Tree). IsOk (room_for x.entries path)) t room),
-      (entries, record { entries = refl; blocks = b; tree = t; last = same }),
+      new_well m item w is (subst (λ (x : Tree). IsOk (room_for x.entries path)) t some),
+      (entries, record { entries = refl; blocks = b; tree = t; last = same; room = room }),
       rw p.spells (new_lines m item),
     )
 
-reading_with : (r : Reading) (last : Open) (m : Manifest) (e : Entries) (i : Item) → IsReading r m e → IsOpen last i
+reading_with : (r : Reading) (last : Open) (m : Manifest) (e : Entries) (i : Item) → IsReading r m e → IsOpen last i → last.room ≡ r.last.room
+    → i.path ≡ e.last.path
     → let n : Manifest = with_last m e i in let s : Entries = record { before = e.before; last = i } in let q : Reading =
-    record { blocks = r.blocks; tree = r.tree; last = last } in IsReading q n s
-reading_with r last m e i g o = record { entries = refl; blocks = g.blocks; tree = g.tree; last = o }
+    record { blocks = r.blocks; draft = r.draft; last = last } in IsReading q n s
+reading_with r last m e i g o at same = record { entries = refl; blocks = g.blocks; tree = g.tree; last = o; room = rw (at, same) g.room }
 
 -- behind a note line
 pub note_step : (r : Reading) (last : Open) (m : Manifest) (e : Entries) (text note : List ℕ) → IsWell m → IsReading r m e → r.last.note ≡ None
     → length r.last.bytes.items ≡ 0
-    → 0 < length text → IsSpelling 79 text note → IsOpen last (noted e.last note)
-    → GoesOn (state.Entries (record { blocks = r.blocks; tree = r.tree; last = last })) m (note_line text)
-note_step r last m e text note w g n b filled spelling o =
+    → 0 < length text → IsSpelling 79 text note → IsOpen last (noted e.last note) → last.room ≡ r.last.room
+    → GoesOn (state.Entries (record { blocks = r.blocks; draft = r.draft; last = last })) m (note_line text)
+note_step r last m e text note w g n b filled spelling o at =
     let is = last_is m e w g.entries in
     let runs = no_runs e.last.runs is.runs (ap length (sym g.last.bytes) ∙ b) in
     let mine = subst (λ t. IsSpelling 79 t note) spelling.spells spelling in
@@ -108,25 +109,25 @@ note_step r last m e text note w g n b filled spelling o =
     let item = noted e.last note in (
       with_last m e item,
       last_well m e item w g.entries (noted_is e.last note is (filled_list note some, mine)) refl,
-      (record { before = e.before; last = item }, reading_with r last m e item g o),
+      (record { before = e.before; last = item }, reading_with r last m e item g o at refl),
       last_lines m e item (note_line (escaped note)) g.entries (noted_lines e.last note (sym g.last.note ∙ n) runs)
           ∙ ap (λ t. manifest_lines m ++ note_line t ∷ []) (sym spelling.spells),
     )
 
 -- behind a line of bytes
 pub run_step : (r : Reading) (last : Open) (m : Manifest) (e : Entries) (run : RunValue) → IsWell m → IsReading r m e → r.last.sort ≡ File → IsRun run
-    → IsOpen last (with_run e.last run)
-    → GoesOn (state.Entries (record { blocks = r.blocks; tree = r.tree; last = last })) m (run_line run)
-run_step r last m e run w g f h o =
+    → IsOpen last (with_run e.last run) → last.room ≡ r.last.room
+    → GoesOn (state.Entries (record { blocks = r.blocks; draft = r.draft; last = last })) m (run_line run)
+run_step r last m e run w g f h o at =
     let item = with_run e.last run in (
       with_last m e item,
       last_well m e item w g.entries (with_run_is e.last run (last_is m e w g.entries) (sym g.last.sort ∙ f) h) refl,
-      (record { before = e.before; last = item }, reading_with r last m e item g o),
+      (record { before = e.before; last = item }, reading_with r last m e item g o at refl),
       last_lines m e item (run_line run) g.entries (with_run_lines e.last run),
     )
 
 -- the tree with the last entry
-pub closed_tree : (r : Reading) (m : Manifest) (e : Entries) (tree : Tree) → IsReading r m e → tree ≡ with_item r.tree e.last → tree ≡ manifest_tree m
+pub closed_tree : (r : Reading) (m : Manifest) (e : Entries) (tree : Tree) → IsReading r m e → tree ≡ with_item r.draft.tree e.last → tree ≡ manifest_tree m
 closed_tree r m e tree g h =
     rw (h, g.tree, g.entries, tree_more)
 
@@ -143,11 +144,11 @@ is_none None h = refl
 is_none (Some x) h = absurd cc
 
 -- an entry whose lines are all read is added as its item
-pub closed_is : (t : Tree) (o : Open) (i : Item) (path : List (List ℕ)) (comment : List ℕ) (body : Body) → IsOpen o i → path ≡ o.path.items
+pub closed_is : (t : Tree) (o : Open) (i : Item) (comment : List ℕ) (body : Body) → IsOpen o i
     → comment ≡ unwrap_or o.note [] → body ≡ body_of o.sort o.bytes.items
-    → let meta : Meta = record { comment = comment; protect = o.protect; stamp = o.stamp } in with_entry t path meta body ≡ with_item t i
-closed_is t o i path comment body g e1 e2 e3 =
-    rw (e1, g.path, e2, g.note, g.protect, g.stamp, e3, g.sort, g.bytes)
+    → let meta : Meta = record { comment = comment; protect = o.protect; stamp = o.stamp } in with_entry t i.path meta body ≡ with_item t i
+closed_is t o i comment body g e2 e3 =
+    rw (e2, g.note, g.protect, g.stamp, e3, g.sort, g.bytes)
 
 pub stopped : {T : Type 0} (r : Result T ManifestKind) (m : Manifest) (line : LineValue) (tree : Tree) → tree ≡ manifest_tree m → MayStand m line
     → IfErr r (λ k. StopsIn tree line k) → IfErr r (λ k. Stops m line k)

@@ -1,5 +1,6 @@
 -- What the reader of a manifest knows of the lines so far.
 use Rattle.std.specs.Prelude.{◌≡◌, ◌++◌, ◌∷◌, ℕ, List, [], Some, None}
+use Rattle.adf_tree.specs.Draft.{IsRoomFor}
 use Rattle.adf_tree.specs.Tree.{Tree}
 use Rattle.adf_manifest.specs.Lines.{LineValue}
 use Rattle.adf_manifest.specs.Items.{Item, file_bytes, items_tree}
@@ -17,16 +18,16 @@ pub record IsOpen (o : Open) (i : Item) : Type 0 where
   pub sort : o.sort ≡ i.sort
   pub stamp : o.stamp ≡ i.stamp
   pub protect : o.protect ≡ i.protect
-  pub path : o.path.items ≡ i.path
   pub note : o.note ≡ i.note
   pub bytes : o.bytes.items ≡ file_bytes i.runs
 
--- behind an entry line: the tree of the entries before the last, and the last
+-- behind an entry line: the tree of the entries before the last, and the last, which has room in it
 pub record IsReading (r : Reading) (m : Manifest) (e : Entries) : Type 0 where
   pub entries : m.entries ≡ Some e
   pub blocks : r.blocks ≡ m.head.blocks
-  pub tree : r.tree ≡ items_tree (head_tree m.head) e.before
+  pub tree : r.draft.tree ≡ items_tree (head_tree m.head) e.before
   pub last : IsOpen r.last e.last
+  pub room : IsRoomFor r.draft e.last.path r.last.room
 
 -- the manifest of a head alone
 abbrev pub bare : Head → Manifest

@@ -1,9 +1,9 @@
 // The state of the reader between two lines.
 
-ghost use Rattle.std.specs.Prelude.{◌≡◌, ◌<◌, ◌++◌, ◌∷◌, [], ℕ, List, IfSome, IfNone, IfOk, IfErr, IsOk, None, length, replicate};
+ghost use Rattle.std.specs.Prelude.{◌≡◌, ◌<◌, ◌++◌, ◌∷◌, [], ℕ, List, IfSome, IfNone, IfOk, IfErr, None, length, replicate};
 ghost use Rattle.std.specs.Option.{unwrap_or};
 ghost use Rattle.adf_tree.specs.PathTexts.{IsPathText};
-ghost use Rattle.adf_tree.specs.Tree.{room_for};
+ghost use Rattle.adf_tree.specs.Draft.{IsRoomFor};
 ghost use Rattle.adf_tree.specs.Bounds.{AreStamps};
 ghost use Rattle.adf_manifest.specs.Lines.{IsLine, IsRun, IsVolumeLine, LabelLine, NoteLine, RunLine, StampsLine, entry_value, label_line, line_text, line_value, run_value, IsRunOfDigits, HasDigits, stamps_line, volume_line};
 ghost use Rattle.adf_manifest.specs.Items.{Item, body_of, run_bytes, with_item};
@@ -15,9 +15,9 @@ use crate::lines::{EntryText, Line, Run, Sort, line_of};
 use crate::manifest::ManifestKind;
 use crate::tokens::{after, read_number};
 use adf_blocks::is_allowed_size;
-use adf_fields::Stamp;
+use adf_fields::{NoMemory, Stamp};
 use adf_tree::{
-    AddFault, Body, Bytes, Comment, Draft, Kind, Label, Meta, Name, PathFault, Stamps, Tree,
+    AddFault, Body, Bytes, Comment, Draft, Kind, Label, Meta, PathFault, Room, Stamps, Tree,
     read_path,
 };
 use std::alloc::Global;
@@ -45,13 +45,13 @@ const NO_HEAD: Head = Head {
     stamps: None,
 };
 
-/// What the lines of an entry tell so far.
+/// What the lines of an entry tell so far, with the room that its path has.
 #[derive(Drop)]
 pub struct Open {
     pub sort: Sort,
     pub stamp: Stamp,
     pub protect: u32,
-    pub path: Vec<Name>,
+    pub room: Room,
     pub note: Option<Comment>,
     pub bytes: Vec<u8>,
 }
@@ -60,7 +60,7 @@ pub struct Open {
 #[derive(Drop)]
 pub struct Reading {
     pub blocks: u32,
-    pub tree: Draft,
+    pub draft: Draft,
     pub last: Open,
 }
 
@@ -141,7 +141,7 @@ fn with_stamps(head: Head, stamps: Stamps) -> Head
 
 // The tree that a head tells.
 fn tree_of(alloc: Global, head: Head) -> Draft
-    ensures { result ≡ head_tree head }
+    ensures { result.tree ≡ head_tree head }
 {
     let Head {
         kind,
@@ -164,32 +164,31 @@ fn tree_of(alloc: Global, head: Head) -> Draft
 }
 
 // What is told of an entry by its own line alone, where the tree has room for it.
-fn opened(alloc: Global, tree: &Draft, line: EntryText) -> Result<Open, ManifestKind>
+fn opened(alloc: Global, draft: &Draft, line: EntryText) -> Result<Open, ManifestKind>
     requires form { IsLine (entry_value line) }
     ensures fields { IfOk result (λ o. (o.sort ≡ line.entry.sort) × (o.stamp ≡ line.entry.stamp) × (o.protect ≡ line.entry.protect) × (o.note ≡ None) × (o.bytes.items ≡ [])) }
-    ensures path { IfOk result (λ o. IsPathText line.entry.path.now o.path.items) }
-    ensures room { IfOk result (λ o. IsOk (room_for tree.now.entries o.path.items)) }
-    ensures fault { IfErr result (λ kind. StopsIn tree.now (entry_value line.entry) kind) }
+    ensures room { IfOk result (λ o. (path : List (List ℕ)) × IsPathText line.entry.path.now path × IsRoomFor draft.now path o.room) }
+    ensures fault { IfErr result (λ kind. StopsIn draft.now.tree (entry_value line.entry) kind) }
 {
     let path = match read_path(alloc, line.path) {
         Ok(path) => path,
         Err(PathFault::BadText) => return Err(ManifestKind::BadText),
         Err(PathFault::NoMemory) => return Err(ManifestKind::NoMemory),
     };
-    match tree.room(path.as_slice()) {
-        Ok(_) => Ok(Open {
+    match draft.room(path.as_slice()) {
+        Ok(room) => Ok(Open {
             sort: line.sort,
             stamp: line.stamp,
             protect: line.protect,
-            path,
+            room,
             note: None,
             bytes: Vec::new(alloc),
         }),
         Err(AddFault::NoParent) => Err(ManifestKind::NoParent),
         Err(AddFault::ParentIsFile) => Err(ManifestKind::ParentIsFile),
         Err(AddFault::Exists) => Err(ManifestKind::Exists),
-        Err(AddFault::EmptyPath) => unreachable!(),
-        Err(AddFault::NoMemory) => unreachable!(),
+        Err(AddFault::EmptyPath) => Err(ManifestKind::BadText),
+        Err(AddFault::NoMemory) => Err(ManifestKind::NoMemory),
     }
 }
 
@@ -213,9 +212,10 @@ fn note_or_none(note: Option<Comment>) -> Comment
     }
 }
 
-// Adds an entry whose lines are all read to the tree.
-fn close(alloc: Global, tree: &mut Draft, last: &mut Open) -> Result<(), ManifestKind>
-    ensures tree { IfOk result (λ _. (i : Item) → IsOpen last.old i → tree.new ≡ with_item tree.old i) }
+// Adds an entry whose lines are all read, in its room.
+fn close(alloc: Global, draft: &mut Draft, last: &mut Open) -> Result<(), ManifestKind>
+    requires room { (path : List (List ℕ)) × IsRoomFor draft.old path last.old.room }
+    ensures tree { IfOk result (λ _. (i : Item) → IsOpen last.old i → IsRoomFor draft.old i.path last.old.room → draft.new.tree ≡ with_item draft.old.tree i) }
     ensures err { IfErr result (λ kind. kind ≡ ManifestKind.NoMemory) }
 {
     let meta = Meta {
@@ -225,9 +225,9 @@ fn close(alloc: Global, tree: &mut Draft, last: &mut Open) -> Result<(), Manifes
     };
     let bytes = mem::replace(&mut last.bytes, Vec::new(alloc));
     let body = body_of(last.sort, bytes);
-    match tree.add(last.path.as_slice(), meta, body) {
+    match draft.put(&last.room, meta, body) {
         Ok(()) => Ok(()),
-        Err(_) => Err(ManifestKind::NoMemory),
+        Err(NoMemory) => Err(ManifestKind::NoMemory),
     }
 }
 
@@ -238,19 +238,24 @@ fn first_entry(alloc: Global, head: Head, line: EntryText) -> Result<State, Mani
     ensures fault { IfErr result (λ kind. StopsIn (head_tree head) (entry_value line.entry) kind) }
 {
     let blocks = head.blocks;
-    let tree = tree_of(alloc, head);
-    let last = opened(alloc, &tree, line)?;
-    Ok(State::Entries(Reading { blocks, tree, last }))
+    let draft = tree_of(alloc, head);
+    let last = opened(alloc, &draft, line)?;
+    Ok(State::Entries(Reading {
+        blocks,
+        draft,
+        last,
+    }))
 }
 
 // Reads a further entry line.
 fn next_entry(alloc: Global, reading: &mut Reading, line: EntryText) -> Result<(), ManifestKind>
     requires form { IsLine (entry_value line) }
+    requires told { (m : Manifest) × (e : Entries) × IsReading reading.old m e }
     ensures lines { (m : Manifest) (e : Entries) → IsWell m → IsReading reading.old m e → IfOk result (λ _. GoesOn (State.Entries reading.new) m (line_text (entry_value line.entry))) }
     ensures fault { (m : Manifest) (e : Entries) → IsReading reading.old m e → IfErr result (λ kind. StopsIn (manifest_tree m) (entry_value line.entry) kind) }
 {
-    close(alloc, &mut reading.tree, &mut reading.last)?;
-    match opened(alloc, &reading.tree, line) {
+    close(alloc, &mut reading.draft, &mut reading.last)?;
+    match opened(alloc, &reading.draft, line) {
         Ok(last) => {
             reading.last = last;
             Ok(())
@@ -344,6 +349,7 @@ fn line_in_head(alloc: Global, head: Head, line: Line) -> Result<State, Manifest
 // Reads a line of this form, where an entry line was.
 fn line_in_entries(alloc: Global, reading: &mut Reading, line: Line) -> Result<(), ManifestKind>
     requires form { IsLine (line_value line) }
+    requires told { (m : Manifest) × (e : Entries) × IsReading reading.old m e }
     requires digits { HasDigits line }
     ensures lines { (m : Manifest) (e : Entries) → IsWell m → IsReading reading.old m e → IfOk result (λ _. GoesOn (State.Entries reading.new) m (line_text (line_value line.entry))) }
     ensures fault { (m : Manifest) (e : Entries) → IsWell m → IsReading reading.old m e → IfErr result (λ kind. Stops m (line_value line.entry) kind) }
@@ -366,6 +372,7 @@ pub fn first_state(line: &[u8]) -> Result<State, ManifestKind>
 
 /// Reads a further line.
 pub fn next_state(alloc: Global, state: &mut State, line: &[u8]) -> Result<(), ManifestKind>
+    requires told { (m : Manifest) × StateMatches state.old m }
     ensures lines { (m : Manifest) → IsWell m → StateMatches state.old m → IfOk result (λ _. GoesOn state.new m line.now) }
     ensures fault { (m : Manifest) → IsWell m → StateMatches state.old m → IfErr result (λ kind. StopsAt m line.now kind) }
 {
@@ -384,7 +391,7 @@ pub fn next_state(alloc: Global, state: &mut State, line: &[u8]) -> Result<(), M
 
 // The tree of a draft, beside a number of blocks.
 fn finished(alloc: Global, draft: Draft, blocks: u32) -> Result<(Tree, u32), ManifestKind>
-    ensures told { IfOk result (λ r. (r.0 ≡ draft) × (r.1 ≡ blocks)) }
+    ensures told { IfOk result (λ r. (r.0 ≡ draft.tree) × (r.1 ≡ blocks)) }
     ensures err { IfErr result (λ kind. kind ≡ ManifestKind.NoMemory) }
 {
     match draft.finish(alloc) {
@@ -395,6 +402,7 @@ fn finished(alloc: Global, draft: Draft, blocks: u32) -> Result<(Tree, u32), Man
 
 /// The tree and the number of blocks that the lines tell.
 pub fn finish(alloc: Global, state: State) -> Result<(Tree, u32), ManifestKind>
+    requires told { (m : Manifest) × StateMatches state m }
     ensures told { (m : Manifest) → IsWell m → StateMatches state m → IfOk result (λ r. (r.0 ≡ manifest_tree m) × (r.1 ≡ m.head.blocks)) }
     ensures err { IfErr result (λ kind. kind ≡ ManifestKind.NoMemory) }
 {
@@ -405,8 +413,8 @@ pub fn finish(alloc: Global, state: State) -> Result<(Tree, u32), ManifestKind>
         }
         State::Entries(reading) => {
             let mut reading = reading;
-            close(alloc, &mut reading.tree, &mut reading.last)?;
-            finished(alloc, reading.tree, reading.blocks)
+            close(alloc, &mut reading.draft, &mut reading.last)?;
+            finished(alloc, reading.draft, reading.blocks)
         }
     }
 }

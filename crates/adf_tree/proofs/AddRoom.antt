@@ -96,19 +96,37 @@ pub record IsNew (es : List Entry) (path : List (List ℕ)) (meta : Meta) (body 
   pub room : room_at es e.name (directory_from es 0 (parents_of path)) ≡ Ok e.parent
   pub entry : e ≡ new_entry es path meta body
 
+-- the room of a path whose last name is found at its place
+pub room_is : (es : List Entry) (path : List (List ℕ)) (x name : List ℕ) (p : ℕ) → (length path == 0) ≡ false
+    → x ≡ get_or path (length path - 1) x → name ≡ x
+    → (let r : Result ℕ AddFault = Ok p in r ≡ room_at es name (directory_from es 0 (parents_of path)))
+    → (name ≡ last_of path) × (room_for es path ≡ Ok p)
+room_is es path x name p some at same ok =
+    let lt : length path - 1 < length path = omega (arith, eqb-false (length path) 0 some) in
+    let last : name ≡ last_of path = same ∙ (at ∙ get_or_default path (length path - 1) x [] lt) in
+    (last, rw (some, ← last) (sym ok))
+
+-- what is put in the room of a path is the path's entry
+pub new_in_room : (es : List Entry) (path : List (List ℕ)) (meta : Meta) (body : Body) (name : List ℕ) (p : ℕ) → name ≡ last_of path
+    → room_for es path ≡ Ok p → IsNew es path meta body (record { parent = p; name = name; meta = meta; body = body })
+new_in_room es path meta body name p last room =
+    elim (cases_Bool (length path == 0)) [
+      | inl none ↦ let bad : (let r : Result ℕ AddFault = Err EmptyPath in r ≡ Ok p) = rw none at room in absurd cc
+      | inr some ↦
+          record {
+            is = whole_path path [] some ∙ ap (λ y. parents_of path ++ y ∷ []) (sym last);
+            room = rw last (rw some at room);
+            entry = rw (room, last) refl;
+          }
+    ]
+
 pub is_new : (es : List Entry) (path : List (List ℕ)) (meta : Meta) (body : Body) (x name : List ℕ) (p : ℕ) → (length path == 0) ≡ false
     → x ≡ get_or path (length path - 1) x → name ≡ x
     → (let r : Result ℕ AddFault = Ok p in r ≡ room_at es name (directory_from es 0 (parents_of path)))
     → IsNew es path meta body (record { parent = p; name = name; meta = meta; body = body })
 is_new es path meta body x name p some at same ok =
-    let lt : length path - 1 < length path = omega (arith, eqb-false (length path) 0 some) in
-    let last : name ≡ last_of path = same ∙ (at ∙ get_or_default path (length path - 1) x [] lt) in
-    let room : (let r : Result ℕ AddFault = Ok p in room_for es path ≡ r) = rw (some, ← last) (sym ok) in
-    record {
-      is = whole_path path x some ∙ ap (λ y. parents_of path ++ y ∷ []) (sym at ∙ sym same);
-      room = sym ok;
-      entry = rw (room, last) refl;
-    }
+    let both = room_is es path x name p some at same ok in
+    new_in_room es path meta body name p both.0 both.1
 
 -- the tree that it leaves
 pub tree_left : (t : Tree) (entries : List Entry) (e : Entry) (b : Bool) (path : List (List ℕ)) (meta : Meta) (body : Body)

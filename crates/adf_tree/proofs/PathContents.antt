@@ -13,7 +13,6 @@ use Rattle.adf_tree.specs.Tree.{place, rank, moved, added, entry, child, find, f
 use Rattle.adf_tree.proofs.TreeInvariant.{moved_below, moved_above, moved_up, moved_near, length_added, at_place, place_le, new_get}
 use Rattle.adf_tree.proofs.ChildLookup.{child_new, found_is, child_says, parent_stays}
 use Rattle.adf_tree.proofs.PathLookup.{then_find, leads}
-use Rattle.adf_tree.specs.declared.tree.AddFault.{AddFault}
 use Rattle.adf_tree.proofs.AddRoom.{room_may_add, room_says, next_dir, IsNew}
 use Rattle.adf_tree.proofs.ChainOrder.{chain_added}
 use Rattle.std.proofs.lemmas.Option.{slice_get_within, get_or_from_slice_get, slice_get-get_or, slice_get_past}
@@ -196,7 +195,7 @@ adds_one es e parents path t room is =
       chains = λ p s. chain_added es e p s t may.parent;
     }
 
-pub added_paths : (r : Result (Unit {0}) AddFault) (es new : List Entry) (e : Entry) (path : List (List ℕ)) (meta : Meta) (body : Body) → IsTree es
+pub added_paths : {E : Type 0} (r : Result (Unit {0}) E) (es new : List Entry) (e : Entry) (path : List (List ℕ)) (meta : Meta) (body : Body) → IsTree es
     → IsNew es path meta body e → new ≡ (if is_ok r then added es e else es) → OnOk r (AddsOne es new (new_entry es path meta body) path)
 added_paths (Ok u) es new e path meta body t fresh h =
     rw (h, ← fresh.entry) (adds_one es e (parents_of path) path t fresh.room fresh.is)

@@ -3,7 +3,10 @@ use Rattle.std.specs.Prelude.{◌≡◌, ℕ, ◌+◌, ◌-◌, ◌<◌, ◌≤�
 use Rattle.adf_tree.specs.Texts.{uppers}
 use Rattle.adf_tree.specs.declared.entry.Entry.{Entry}
 use Rattle.adf_tree.specs.declared.tree.AddFault.{AddFault}
-use Rattle.adf_tree.specs.Tree.{added, child, moved, place, rank, IsTree}
+use Rattle.adf_tree.specs.declared.draft.Room.{Room}
+use Rattle.adf_tree.specs.declared.entry.Kind.{Kind}
+use Rattle.adf_tree.specs.declared.entry.Stamps.{Stamps}
+use Rattle.adf_tree.specs.Tree.{added, child, last_of, moved, place, rank, room_for, IsTree, Tree}
 use Rattle.adf_tree.specs.Chain.{chain}
 use Rattle.adf_tree.specs.ChildMap.{number_in, Numbers}
 
@@ -58,6 +61,24 @@ pub record AreNumbered (drafts : List Entry) (w : Walk) (numbers : Numbers) : Ty
 pub record IsDraft (drafts : List Entry) (numbers : Numbers) : Type 0 where
   pub gives : IsWalk drafts (walk drafts)
   pub found : AreNumbered drafts (walk drafts) numbers
+
+-- what a draft is seen as: the tree so far, and the number in it that each addition has
+pub record DraftValue : Type 0 where
+  pub tree : Tree
+  pub nodes : List ℕ
+
+-- the draft of a volume of this kind, label and dates, with what its additions give
+abbrev pub draft_value : Kind → List ℕ → Stamps → Walk → DraftValue
+draft_value kind label stamps w = record {
+  tree = record { kind = kind; label = label; stamps = stamps; entries = w.entries };
+  nodes = w.nodes;
+}
+
+-- the room that a path has in a draft: its last name, in the directory that the names before it lead to
+pub record IsRoomFor (d : DraftValue) (path : List (List ℕ)) (room : Room) : Type 0 where
+  pub within : room.parent ≤ length d.nodes
+  pub name : room.name ≡ last_of path
+  pub leads : room_for d.tree.entries path ≡ Ok (node_of d.nodes room.parent)
 
 -- a directory among the additions, as the tree numbers it
 abbrev pub room_in_tree : List ℕ → Result ℕ AddFault → Result ℕ AddFault

@@ -1,11 +1,11 @@
 // Trees in the making.
 
-ghost use Rattle.std.specs.Prelude.{◌≡◌, ◌≤◌, ◌+◌, ◌++◌, ◌∷◌, ℕ, List, [], length, is_ok, if◌then◌else◌, Err, IfOk, IfErr, IsOk, OnOk, OnErr};
+ghost use Rattle.std.specs.Prelude.{◌≡◌, ◌≤◌, ◌+◌, ◌++◌, ◌∷◌, ℕ, List, [], length, is_ok, if◌then◌else◌, Err, IfOk, IfErr, OnOk, OnErr};
 ghost use Rattle.adf_tree.specs.Tree.{directory_from, new_entry, room_at, room_for, with_entry, IsAnswer};
 ghost use Rattle.adf_tree.specs.Paths.{AddsOne};
 ghost use Rattle.adf_tree.specs.Texts.{uppers};
 ghost use Rattle.adf_tree.specs.ChildMap.{number_in, HasNumber};
-ghost use Rattle.adf_tree.specs.Draft.{room_in_tree, walk, IsDraft};
+ghost use Rattle.adf_tree.specs.Draft.{room_in_tree, walk, IsDraft, IsRoomFor};
 
 use crate::child_map::ChildMap;
 use crate::entry::{Body, Entry, Kind, Meta, Node, Stamps};
@@ -29,14 +29,20 @@ pub struct Draft {
 }
 
 impl Model for Draft {
-    ghost use Rattle.adf_tree.specs.Tree as specs;
-    ghost use Rattle.adf_tree.specs.Draft.{walk, IsDraft};
+    ghost use Rattle.adf_tree.specs.Draft.{draft_value, walk, DraftValue, IsDraft};
 
-    ghost Value = { specs.Tree };
+    ghost Value = { DraftValue };
 
-    ghost view = { λ d. record { kind = d.kind; label = d.label; stamps = d.stamps; entries = (walk d.entries.items).entries } };
+    ghost view = { λ d. draft_value d.kind d.label d.stamps (walk d.entries.items) };
 
     ghost invariant = { λ d. IsDraft d.entries.items d.children.buckets.items };
+}
+
+/// Where an entry comes in a draft: into this directory, by the number of its addition, under this name.
+#[derive(Drop)]
+pub struct Room {
+    pub parent: Node,
+    pub name: Name,
 }
 
 // The directory that the path leads to, by its number among the additions.
@@ -61,7 +67,7 @@ fn directory(entries: &[Entry], children: &ChildMap, path: &[Name]) -> Result<No
 }
 
 // The directory that the path leads to, where nothing in it has this name.
-fn room(
+fn free_directory(
     entries: &[Entry],
     children: &ChildMap,
     path: &[Name],
@@ -83,21 +89,20 @@ fn add_child(
     entries: &mut Vec<Entry>,
     children: &mut ChildMap,
     entry: Entry,
-) -> Result<(), AddFault>
+) -> Result<(), NoMemory>
     ensures entries { entries.new.items ≡ if is_ok result then entries.old.items ++ entry ∷ [] else entries.old.items }
     ensures more { OnOk result (HasNumber children.old.buckets.items children.new.buckets.items entry.parent (uppers entry.name) (length entries.old.items + 1)) }
     ensures same { OnErr result ((p : ℕ) (x : List ℕ) → number_in children.new.buckets.items p x ≡ number_in children.old.buckets.items p x) }
-    ensures refused { IfErr result (λ f. f ≡ AddFault.NoMemory) }
 {
     let parent = entry.parent;
     if entries.push(entry).is_err() {
-        return Err(AddFault::NoMemory);
+        return Err(NoMemory);
     }
     let number = entries.len();
     let name = &entries[number - 1].name;
     if children.put(parent, name, Node(number)).is_err() {
         entries.pop();
-        return Err(AddFault::NoMemory);
+        return Err(NoMemory);
     }
     Ok(())
 }
@@ -105,7 +110,8 @@ fn add_child(
 impl Draft {
     /// A tree in the making with no entry.
     pub fn new(alloc: Global, kind: Kind, label: Label, stamps: Stamps) -> Draft
-        ensures { result ≡ record { kind = kind; label = label; stamps = stamps; entries = [] } }
+        ensures tree { result.tree ≡ record { kind = kind; label = label; stamps = stamps; entries = [] } }
+        ensures nodes { result.nodes ≡ [] }
     {
         Draft {
             kind,
@@ -116,34 +122,28 @@ impl Draft {
         }
     }
 
-    /// Whether an entry under this path has room, or why it is not added.
-    pub fn room(&self, path: &[Name]) -> Result<(), AddFault>
-        ensures some { IfOk result (λ _. IsOk (room_for self.now.entries path.now)) }
-        ensures fault { IfErr result (λ f. room_for self.now.entries path.now ≡ Err f) }
-    {
-        if path.is_empty() {
-            Err(AddFault::EmptyPath)
-        } else {
-            let last = path.len() - 1;
-            match room(&self.entries, &self.children, &path[..last], &path[last]) {
-                Ok(_) => Ok(()),
-                Err(fault) => Err(fault),
-            }
-        }
-    }
-
-    /// Adds an entry, as `Tree::add` does.
-    pub fn add(&mut self, path: &[Name], meta: Meta, body: Body) -> Result<(), AddFault>
-        ensures answer { IsAnswer (room_for self.old.entries path.now) result }
-        ensures paths { OnOk result (AddsOne self.old.entries self.new.entries (new_entry self.old.entries path.now meta body) path.now) }
-        ensures tree { self.new ≡ if is_ok result then with_entry self.old path.now meta body else self.old }
+    /// The room that an entry under this path has, or why it has none.
+    pub fn room(&self, path: &[Name]) -> Result<Room, AddFault>
+        ensures some { IfOk result (λ r. IsRoomFor self.now path.now r) }
+        ensures fault { IfErr result (λ f. room_for self.now.tree.entries path.now ≡ Err f) }
     {
         if path.is_empty() {
             return Err(AddFault::EmptyPath);
         }
         let last = path.len() - 1;
         let name = path[last].copy();
-        let parent = room(&self.entries, &self.children, &path[..last], &name)?;
+        let parent = free_directory(&self.entries, &self.children, &path[..last], &name)?;
+        Ok(Room { parent, name })
+    }
+
+    /// Adds an entry in a room of this draft, with no further look-up. After `NoMemory` all is as it was.
+    pub fn put(&mut self, room: &Room, meta: Meta, body: Body) -> Result<(), NoMemory>
+        requires room { (path : List (List ℕ)) × IsRoomFor self.old path room.now }
+        ensures paths { (path : List (List ℕ)) → IsRoomFor self.old path room.now → OnOk result (AddsOne self.old.tree.entries self.new.tree.entries (new_entry self.old.tree.entries path meta body) path) }
+        ensures tree { (path : List (List ℕ)) → IsRoomFor self.old path room.now → self.new.tree ≡ if is_ok result then with_entry self.old.tree path meta body else self.old.tree }
+    {
+        let parent = room.parent;
+        let name = room.name.copy();
         add_child(
             &mut self.entries,
             &mut self.children,
@@ -156,9 +156,22 @@ impl Draft {
         )
     }
 
+    /// Adds an entry, as `Tree::add` does.
+    pub fn add(&mut self, path: &[Name], meta: Meta, body: Body) -> Result<(), AddFault>
+        ensures answer { IsAnswer (room_for self.old.tree.entries path.now) result }
+        ensures paths { OnOk result (AddsOne self.old.tree.entries self.new.tree.entries (new_entry self.old.tree.entries path.now meta body) path.now) }
+        ensures tree { self.new.tree ≡ if is_ok result then with_entry self.old.tree path.now meta body else self.old.tree }
+    {
+        let room = self.room(path)?;
+        match self.put(&room, meta, body) {
+            Ok(()) => Ok(()),
+            Err(NoMemory) => Err(AddFault::NoMemory),
+        }
+    }
+
     /// The tree.
     pub fn finish(self, alloc: Global) -> Result<Tree, NoMemory>
-        ensures { IfOk result (λ t. t ≡ self) }
+        ensures { IfOk result (λ t. t ≡ self.tree) }
     {
         let tree = Tree::new(alloc, self.kind, self.label, self.stamps);
         walked(alloc, tree, self.entries)

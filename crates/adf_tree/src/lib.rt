@@ -18,7 +18,7 @@ mod short_text;
 mod tree;
 mod walk_order;
 
-pub use crate::draft::Draft;
+pub use crate::draft::{Draft, Room};
 pub use crate::entry::{Body, Bytes, Entry, Kind, Meta, Node, Stamps};
 pub use crate::escapes::{hex_digit, is_plain, spellings_decide};
 pub use crate::laws::{

@@ -5,10 +5,10 @@ use Rattle.adf_manifest.proofs.reader.finish.Goals as goal
 pub returns-in-Head-clause-told : goal.returns-in-Head-clause-told
 returns-in-Head-clause-told c = λ m w t.
     let e = rw c.in-Head.is at t in
-    rw e (if_ok_weaker c.finished.result (λ r h. (h.0 ∙ bare_tree c.in-Head.head c.tree_of.result c.tree_of.ensures, h.1)) c.finished.ensures.told)
+    rw e (if_ok_weaker c.finished.result (λ r h. (h.0 ∙ bare_tree c.in-Head.head c.tree_of.result.tree c.tree_of.ensures, h.1)) c.finished.ensures.told)
 
 pub returns-in_ok-close-in-Entries-clause-told : goal.returns-in_ok-close-in-Entries-clause-told
 returns-in_ok-close-in-Entries-clause-told c = λ m w t.
     let g = rw c.in-Entries.is at t in
-    let is = closed_tree c.in-Entries.reading m g.0 c.close.new.tree g.1 (c.in_ok-close-in-Entries.ensures.tree g.0.last g.1.last) in
+    let is = closed_tree c.in-Entries.reading m g.0 c.close.new.draft.tree g.1 (c.in_ok-close-in-Entries.ensures.tree g.0.last g.1.last g.1.room) in
     if_ok_weaker c.finished-in-Entries.result (λ r h. (h.0 ∙ is, h.1 ∙ g.1.blocks)) c.finished-in-Entries.ensures.told

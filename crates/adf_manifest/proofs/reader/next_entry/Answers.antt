@@ -3,12 +3,13 @@ use Rattle.adf_manifest.proofs.reader.next_entry.Goals as goal
 
 pub returns-in-Err-clause-fault : goal.returns-in-Err-clause-fault
 returns-in-Err-clause-fault c = λ m e g.
-    rw (closed_tree c.args.reading.now m e _ g (c.in_ok-close.ensures.tree e.last g.last)) at c.in-Err.ensures.fault
+    rw (closed_tree c.args.reading.now m e _ g (c.in_ok-close.ensures.tree e.last g.last g.room)) at c.in-Err.ensures.fault
 
 pub returns-in-Ok-clause-lines : goal.returns-in-Ok-clause-lines
 returns-in-Ok-clause-lines c = λ m e w g.
     let line = c.args.line in
     let f = c.in-Ok.ensures.fields in
-    let is = closed_tree c.args.reading.now m e c.close.new.tree g (c.in_ok-close.ensures.tree e.last g.last) in
-    entry_step m c.args.reading.now.blocks c.close.new.tree c.in-Ok.last line.sort line.stamp line.protect line.path.now w g.blocks is c.requires.form
-    c.in-Ok.ensures.path c.in-Ok.ensures.room f.0 f.1 f.2 f.3 f.4
+    let is = closed_tree c.args.reading.now m e c.close.new.draft.tree g (c.in_ok-close.ensures.tree e.last g.last g.room) in
+    let room = c.in-Ok.ensures.room in
+    entry_step m c.args.reading.now.blocks c.close.new.draft c.in-Ok.last line.sort line.stamp line.protect line.path.now room.0 w g.blocks is
+    c.requires.form room.1 room.2 f.0 f.1 f.2 f.3 f.4

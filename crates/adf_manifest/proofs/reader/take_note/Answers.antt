@@ -9,7 +9,7 @@ returns-in-Some-clause-lines c = λ m e w g.
     let empty : length c.args.reading.now.last.bytes.items ≡ 0 = grind (arith, nat_tests) in
     note_step c.args.reading.now _ m e c.args.text.now c.in-Some.note w g
     (is_none c.args.reading.now.last.note (sym c.is_some.ensures ∙ c.if-is_some.false)) empty c.requires.form c.in-Some.ensures.some
-    (record { sort = g.last.sort; stamp = g.last.stamp; protect = g.last.protect; path = g.last.path; note = refl; bytes = g.last.bytes })
+    (record { sort = g.last.sort; stamp = g.last.stamp; protect = g.last.protect; note = refl; bytes = g.last.bytes }) refl
 
 pub returns-in-None-clause-fault : goal.returns-in-None-clause-fault
 returns-in-None-clause-fault c = λ m e w g.

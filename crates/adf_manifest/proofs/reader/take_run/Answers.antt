@@ -1,4 +1,4 @@
-use Rattle.std.proofs.Common.{◌++◌, ◌∙◌, sym, ap}
+use Rattle.std.proofs.Common.{◌++◌, ◌∙◌, sym, ap, refl}
 use Rattle.adf_manifest.specs.Lines.{run_value}
 use Rattle.adf_manifest.specs.Items.{run_bytes}
 use Rattle.adf_manifest.proofs.Growth.{with_run_bytes}
@@ -10,4 +10,4 @@ returns-in_ok-push_run-in-File-clause-lines c = λ m e w g.
     let run = run_value c.args.run in
     let bytes = c.in_ok-push_run-in-File.ensures.bytes ∙ ap (λ l. l ++ run_bytes run) g.last.bytes ∙ sym (with_run_bytes e.last run) in
     run_step c.args.reading.now _ m e run w g c.in-File.is c.requires.form
-    (record { sort = g.last.sort; stamp = g.last.stamp; protect = g.last.protect; path = g.last.path; note = g.last.note; bytes = bytes })
+    (record { sort = g.last.sort; stamp = g.last.stamp; protect = g.last.protect; note = g.last.note; bytes = bytes }) refl
