@@ -6,7 +6,7 @@ use Rattle.std.proofs.lemmas.List.{append_assoc, nil_from_length, append-nil}
 use Rattle.std.proofs.lemmas.List.Elements.{All-cons, All-head, All-nil, All-tail}
 use Rattle.adf_tree.specs.Escapes.{hex_digit}
 use Rattle.adf_manifest.specs.Tokens.{Lacks}
-use Rattle.adf_manifest.specs.Texts.{digit, hex_word, pair, pairs, unpaired}
+use Rattle.adf_manifest.specs.Texts.{digit, hex_word, pair, pairs, unpaired, AreDigits}
 use Rattle.adf_tree.proofs.Spellings.{same_digits}
 
 -- the digits of a byte at the head of a text are of one byte
@@ -48,11 +48,11 @@ none_left rest [] h a e = refl
 none_left rest (x ∷ xs) h a e = absurd (h x (pairs xs) (All-head (λ k. k < 256) x xs a) e)
 
 pub all_pairs : (text done rest : List ℕ) → All (λ b. b < 256) done → text ≡ pairs done ++ rest → length rest ≡ 0
-    → (text ≡ pairs (unpaired text)) × All (λ b. b < 256) (unpaired text)
+    → AreDigits text
 all_pairs text done rest a e none =
     let all : text ≡ pairs done = e ∙ ap (λ r. pairs done ++ r) (nil_from_length rest none) ∙ append-nil (pairs done) in
     let back : unpaired text ≡ done = ap unpaired all ∙ unpaired_pairs done a in
-    (all ∙ ap pairs (sym back), rw back a)
+    record { spells = all ∙ ap pairs (sym back); are_bytes = rw back a }
 
 -- a text with a byte more than bytes
 pub put_more : (old now left bytes more : List ℕ) (b : ℕ) → now ++ left ≡ old ++ bytes → left ≡ b ∷ more → (now ++ b ∷ []) ++ more ≡ old ++ bytes

@@ -8,7 +8,7 @@ use Rattle.adf_tree.specs.declared.entry.Stamps.{Stamps}
 use Rattle.adf_manifest.specs.Tokens.{stamps_text}
 use Rattle.adf_tree.specs.Bounds.{AreStamps}
 use Rattle.adf_tree.specs.Kinds.{kind_text}
-use Rattle.adf_manifest.specs.Texts.{hex_word, pair, pairs, unpaired}
+use Rattle.adf_manifest.specs.Texts.{hex_word, pair, pairs}
 use Rattle.adf_manifest.specs.declared.lines.Sort.{Sort}
 use Rattle.adf_manifest.specs.declared.lines.Sort.TheVariants.{Dir, File}
 use Rattle.adf_manifest.specs.declared.lines.EntryText.{EntryText}
@@ -107,7 +107,7 @@ IsVolumeLine line = (kind : Kind) × (n : ℕ) × (n < 2 ^ 32) × (line ≡ volu
 
 -- what was read of a line
 abbrev pub run_value : Run → RunValue
-run_value (run.Data digits) = DataRun (unpaired digits.now)
+run_value (run.Data bytes) = DataRun bytes
 run_value (run.Fill count byte) = FillRun count byte
 
 -- what an entry's line says
@@ -121,16 +121,3 @@ line_value (line.Stamps stamps) = StampsLine stamps
 line_value (line.Entry entry) = entry_value entry
 line_value (line.Note text) = NoteLine text.now
 line_value (line.Run run) = RunLine (run_value run)
-
--- what was read as digits of bytes is digits of bytes
-abbrev pub IsRunOfDigits : Run → Type 0
-IsRunOfDigits (run.Data digits) = digits.now ≡ pairs (unpaired digits.now)
-IsRunOfDigits (run.Fill count byte) = Unit {0}
-
--- the hex digits of a line of data are digits
-abbrev pub HasDigits : Line → Type 0
-HasDigits (line.Run run) = IsRunOfDigits run
-HasDigits (line.Label text) = Unit {0}
-HasDigits (line.Stamps stamps) = Unit {0}
-HasDigits (line.Entry entry) = Unit {0}
-HasDigits (line.Note text) = Unit {0}

@@ -1,5 +1,5 @@
 -- The texts of bytes and words.
-use Rattle.std.specs.Prelude.{◌/◌, ◌%◌, ◌^◌, ◌+◌, ◌-◌, ◌*◌, nat_lt, ℕ, List, [], ◌∷◌, ◌++◌, if◌then◌else◌}
+use Rattle.std.specs.Prelude.{◌≡◌, ◌<◌, All, ◌/◌, ◌%◌, ◌^◌, ◌+◌, ◌-◌, ◌*◌, nat_lt, ℕ, List, [], ◌∷◌, ◌++◌, if◌then◌else◌}
 use Rattle.std.specs.List.{flat_map}
 use Rattle.adf_tree.specs.Escapes.{hex_digit}
 
@@ -24,3 +24,8 @@ abbrev pub unpaired : List ℕ → List ℕ
 unpaired [] = []
 unpaired (high ∷ []) = []
 unpaired (high ∷ low ∷ rest) = (16 * digit high + digit low) ∷ unpaired rest
+
+-- a text is the digits of bytes
+pub record AreDigits (text : List ℕ) : Type 0 where
+  pub spells : text ≡ pairs (unpaired text)
+  pub are_bytes : All (λ b. b < 256) (unpaired text)

@@ -2,26 +2,53 @@
 
 ghost use Rattle.std.specs.Prelude.{◌≡◌, ◌≢◌, ◌<◌, ◌^◌, ◌++◌, ◌∷◌, [], ℕ, List, IfSome, IfNone, IfOk, All, length};
 ghost use Rattle.std.specs.Bool.{OnFalse, OnTrue};
-ghost use Rattle.adf_tree.specs.Escapes.{hex_digit};
-ghost use Rattle.adf_manifest.specs.Texts.{hex_word, pair, pairs, unpaired};
+ghost use Rattle.adf_manifest.specs.Texts.{hex_word, pair, pairs, unpaired, AreDigits};
 
+use adf_tree::digit_value;
 use std::alloc::AllocError;
+use std::marker::Model;
 
-// The number below 16 whose hexadecimal digit this is.
-fn digit_value(digit: u8) -> Option<u8>
-    ensures small { IfSome result (λ d. d < 16) }
-    ensures digit { IfSome result (λ d. hex_digit d ≡ digit) }
-    ensures none { IfNone result ((d : ℕ) → d < 16 → hex_digit d ≢ digit) }
-{
-    match digit {
-        b'0'..=b'9' => Some(digit - b'0'),
-        b'a'..=b'f' => Some(digit - b'a' + 10),
-        _ => None,
+/// The digits of bytes, as they stand in a text.
+#[derive(Drop)]
+pub struct Digits<'a> {
+    text: &'a [u8],
+}
+
+impl<'a> Model for Digits<'a> {
+    ghost use Rattle.std.specs.Prelude.{ℕ, List};
+    ghost use Rattle.adf_manifest.specs.Texts.{unpaired, AreDigits};
+
+    ghost Value = { List ℕ };
+
+    ghost view = { λ d. unpaired d.text.now };
+
+    ghost invariant = { λ d. AreDigits d.text.now };
+}
+
+impl<'a> Digits<'a> {
+    /// The digits that a text is.
+    pub fn read(text: &'a [u8]) -> Option<Digits<'a>>
+        ensures some { IfSome result (λ bytes. text.now ≡ pairs bytes) }
+        ensures bytes { IfSome result (All (λ b. b < 256)) }
+        ensures none { IfNone result ((bytes : List ℕ) → All (λ b. b < 256) bytes → text.now ≢ pairs bytes) }
+    {
+        if are_pairs(text) {
+            Some(Digits { text })
+        } else {
+            None
+        }
+    }
+
+    /// Appends the bytes whose digits these are; where memory is refused, a part of them may stand.
+    pub fn push_onto(self, bytes: &mut Vec<u8>) -> Result<(), AllocError>
+        ensures { IfOk result (λ _. bytes.new.items ≡ bytes.old.items ++ self.entry) }
+    {
+        push_pairs(bytes, self.text)
     }
 }
 
-/// The byte that has these two digits.
-pub fn read_pair(high: u8, low: u8) -> Option<u8>
+// The byte that has these two digits.
+fn read_pair(high: u8, low: u8) -> Option<u8>
     ensures some { IfSome result (λ b. pair b ≡ high ∷ low ∷ []) }
     ensures none { IfNone result ((b : ℕ) → b < 256 → pair b ≢ high ∷ low ∷ []) }
 {
@@ -64,10 +91,9 @@ pub fn read_word(text: &[u8]) -> Option<u32>
     Some(u32::from(a) * 16_777_216 + u32::from(b) * 65_536 + u32::from(c) * 256 + u32::from(d))
 }
 
-/// Whether a text is the digits of bytes.
-pub fn are_pairs(text: &[u8]) -> bool
-    ensures yes { OnTrue result (text.now ≡ pairs (unpaired text.now)) }
-    ensures bytes { OnTrue result (All (λ b. b < 256) (unpaired text.now)) }
+// Whether a text is the digits of bytes.
+fn are_pairs(text: &[u8]) -> bool
+    ensures yes { OnTrue result (AreDigits text.now) }
     ensures no { OnFalse result ((bytes : List ℕ) → All (λ b. b < 256) bytes → text.now ≢ pairs bytes) }
 {
     let mut rest = text;
@@ -80,9 +106,10 @@ pub fn are_pairs(text: &[u8]) -> bool
     true
 }
 
-/// Appends the bytes whose digits a text is; where memory is refused, a part of them may stand.
-pub fn push_pairs(bytes: &mut Vec<u8>, text: &[u8]) -> Result<(), AllocError>
-    ensures { IfOk result (λ _. (more : List ℕ) → All (λ b. b < 256) more → text.now ≡ pairs more → bytes.new.items ≡ bytes.old.items ++ more) }
+// Appends the bytes whose digits a text is; where memory is refused, a part of them may stand.
+fn push_pairs(bytes: &mut Vec<u8>, text: &[u8]) -> Result<(), AllocError>
+    requires { AreDigits text.now }
+    ensures { IfOk result (λ _. bytes.new.items ≡ bytes.old.items ++ unpaired text.now) }
 {
     bytes.reserve(text.len() / 2)?;
     let mut rest = text;

@@ -6,10 +6,9 @@ ghost use Rattle.adf_tree.specs.declared.entry.Stamps.{Stamps as StampsValue};
 ghost use Rattle.adf_manifest.specs.declared.lines.Sort.{Sort as SortValue};
 ghost use Rattle.adf_fields.specs.Dates.{IsStamp};
 ghost use Rattle.adf_tree.specs.Bounds.{AreStamps};
-ghost use Rattle.adf_manifest.specs.Texts.{pairs, unpaired};
-ghost use Rattle.adf_manifest.specs.Lines.{DataRun, FillRun, HasDigits, HasForm, IsLine, IsRun, IsRunOfDigits, LineValue, RunValue, data_line, entry_line, fields_text, fill_line, label_line, line_text, line_value, note_line, run_line, run_value, sort_text, stamps_line};
+ghost use Rattle.adf_manifest.specs.Lines.{DataRun, FillRun, HasForm, IsLine, IsRun, LineValue, RunValue, data_line, entry_line, fields_text, fill_line, label_line, line_text, line_value, note_line, run_line, run_value, sort_text, stamps_line};
 
-use crate::digits::{are_pairs, read_byte, read_word};
+use crate::digits::{Digits, read_byte, read_word};
 use crate::tokens::{after, cut_at, cut_twice, read_number, read_stamp, read_stamps};
 use adf_fields::Stamp;
 use adf_tree::Stamps;
@@ -36,7 +35,7 @@ pub struct EntryText<'a> {
 /// What a line gives to a file: bytes, by their digits, or one byte so many times.
 #[derive(Drop)]
 pub enum Run<'a> {
-    Data(&'a [u8]),
+    Data(Digits<'a>),
     Fill(u32, u8),
 }
 
@@ -123,16 +122,15 @@ fn entry_of(line: &[u8]) -> Option<EntryText<'_>>
 }
 
 // The digits of a data line.
-fn data_of(line: &[u8]) -> Option<&[u8]>
-    ensures some { IfSome result (λ digits. (line.now ≡ data_line (unpaired digits.now)) × IsRun (DataRun (unpaired digits.now)) × (digits.now ≡ pairs (unpaired digits.now))) }
+fn data_of(line: &[u8]) -> Option<Digits<'_>>
+    ensures some { IfSome result (λ bytes. (line.now ≡ data_line bytes) × IsRun (DataRun bytes)) }
     ensures none { IfNone result ((bytes : List ℕ) → IsRun (DataRun bytes) → line.now ≢ data_line bytes) }
 {
-    let digits = after(line, b"data ")?;
-    if !digits.is_empty() && are_pairs(digits) {
-        Some(digits)
-    } else {
-        None
+    let text = after(line, b"data ")?;
+    if text.is_empty() {
+        return None;
     }
+    Digits::read(text)
 }
 
 // The number and the byte of a fill line.
@@ -154,7 +152,6 @@ fn fill_of(line: &[u8]) -> Option<(u32, u8)>
 // What a line of bytes gives.
 fn run_of(line: &[u8]) -> Option<Run<'_>>
     ensures form { IfSome result (λ r. IsRun (run_value r)) }
-    ensures digits { IfSome result IsRunOfDigits }
     ensures some { IfSome result (λ r. line.now ≡ run_line (run_value r)) }
     ensures none { IfNone result ((run : RunValue) → IsRun run → line.now ≢ run_line run) }
 {
@@ -170,7 +167,6 @@ fn run_of(line: &[u8]) -> Option<Run<'_>>
 // What a line in a file or behind an entry tells.
 fn inner_line(line: &[u8]) -> Option<Line<'_>>
     ensures form { IfSome result (λ l. IsLine (line_value l)) }
-    ensures digits { IfSome result HasDigits }
     ensures some { IfSome result (λ l. line.now ≡ line_text (line_value l)) }
     ensures note { IfNone result ((text : List ℕ) → 0 < length text → line.now ≢ note_line text) }
     ensures run { IfNone result ((run : RunValue) → IsRun run → line.now ≢ run_line run) }
@@ -184,7 +180,6 @@ fn inner_line(line: &[u8]) -> Option<Line<'_>>
 /// What a line after the first tells, where it has a form.
 pub fn line_of(line: &[u8]) -> Option<Line<'_>>
     ensures form { IfSome result (λ l. IsLine (line_value l)) }
-    ensures digits { IfSome result HasDigits }
     ensures some { IfSome result (λ l. line.now ≡ line_text (line_value l)) }
     ensures none { IfNone result (¬ HasForm line.now) }
 {

@@ -5,12 +5,11 @@ ghost use Rattle.std.specs.Option.{unwrap_or};
 ghost use Rattle.adf_tree.specs.PathTexts.{IsPathText};
 ghost use Rattle.adf_tree.specs.Draft.{IsRoomFor};
 ghost use Rattle.adf_tree.specs.Bounds.{AreStamps};
-ghost use Rattle.adf_manifest.specs.Lines.{IsLine, IsRun, IsVolumeLine, LabelLine, NoteLine, RunLine, StampsLine, entry_value, label_line, line_text, line_value, run_value, IsRunOfDigits, HasDigits, stamps_line, volume_line};
+ghost use Rattle.adf_manifest.specs.Lines.{IsLine, IsRun, IsVolumeLine, LabelLine, NoteLine, RunLine, StampsLine, entry_value, label_line, line_text, line_value, run_value, stamps_line, volume_line};
 ghost use Rattle.adf_manifest.specs.Items.{Item, body_of, run_bytes, with_item};
 ghost use Rattle.adf_manifest.specs.Manifest.{Entries, HasBadText, IsFirstFault, IsHead, IsLaterFault, IsWell, Manifest, head_lines, head_tree, manifest_lines, manifest_tree};
 ghost use Rattle.adf_manifest.specs.Reader.{GoesOn, IsOpen, IsReading, StopsIn, Stops, StopsAt, StateMatches, bare};
 
-use crate::digits::push_pairs;
 use crate::lines::{EntryText, Line, Run, Sort, line_of};
 use crate::manifest::ManifestKind;
 use crate::tokens::{after, read_number};
@@ -296,12 +295,11 @@ fn push_copies(bytes: &mut Vec<u8>, count: u32, byte: u8) -> Result<(), Manifest
 // Appends what a line gives; where memory is refused, a part of it may stand.
 fn push_run(bytes: &mut Vec<u8>, run: Run) -> Result<(), ManifestKind>
     requires form { IsRun (run_value run) }
-    requires digits { IsRunOfDigits run }
     ensures bytes { IfOk result (λ _. bytes.new.items ≡ bytes.old.items ++ run_bytes (run_value run.entry)) }
     ensures err { IfErr result (λ kind. kind ≡ ManifestKind.NoMemory) }
 {
     match run {
-        Run::Data(digits) => push_pairs(bytes, digits).map_err(|_| ManifestKind::NoMemory),
+        Run::Data(digits) => digits.push_onto(bytes).map_err(|_| ManifestKind::NoMemory),
         Run::Fill(count, byte) => push_copies(bytes, count, byte),
     }
 }
@@ -309,7 +307,6 @@ fn push_run(bytes: &mut Vec<u8>, run: Run) -> Result<(), ManifestKind>
 // Reads a line of bytes.
 fn take_run(reading: &mut Reading, run: Run) -> Result<(), ManifestKind>
     requires form { IsRun (run_value run) }
-    requires digits { IsRunOfDigits run }
     ensures lines { (m : Manifest) (e : Entries) → IsWell m → IsReading reading.old m e → IfOk result (λ _. GoesOn (State.Entries reading.new) m (line_text (RunLine (run_value run.entry)))) }
     ensures fault { (m : Manifest) (e : Entries) → IsReading reading.old m e → IfErr result (λ kind. Stops m (RunLine (run_value run.entry)) kind) }
 {
@@ -350,7 +347,6 @@ fn line_in_head(alloc: Global, head: Head, line: Line) -> Result<State, Manifest
 fn line_in_entries(alloc: Global, reading: &mut Reading, line: Line) -> Result<(), ManifestKind>
     requires form { IsLine (line_value line) }
     requires told { (m : Manifest) × (e : Entries) × IsReading reading.old m e }
-    requires digits { HasDigits line }
     ensures lines { (m : Manifest) (e : Entries) → IsWell m → IsReading reading.old m e → IfOk result (λ _. GoesOn (State.Entries reading.new) m (line_text (line_value line.entry))) }
     ensures fault { (m : Manifest) (e : Entries) → IsWell m → IsReading reading.old m e → IfErr result (λ kind. Stops m (line_value line.entry) kind) }
 {

@@ -20,7 +20,7 @@ mod walk_order;
 
 pub use crate::draft::{Draft, Room};
 pub use crate::entry::{Body, Bytes, Entry, Kind, Meta, Node, Stamps};
-pub use crate::escapes::{hex_digit, is_plain, spellings_decide};
+pub use crate::escapes::{digit_value, hex_digit, is_plain, spellings_decide};
 pub use crate::laws::{
     adding_grows_the_tree, additions_are_built, additions_have_one_tree, case_keeps_paths,
     case_keeps_slots, children_are_found, entries_stand_in_one_chain, names_are_found,

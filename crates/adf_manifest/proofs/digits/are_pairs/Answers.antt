@@ -29,9 +29,4 @@ returns-in-None-clause-no c = λ bytes a e.
 pub returns-clause-yes : goal.returns-clause-yes
 returns-clause-yes c =
     let inv = c.loop-rest.invariant.read in
-    (all_pairs _ inv.0 c.loop-rest.rest.now inv.1 inv.2 (grind (arith, nat_tests))).0
-
-pub returns-clause-bytes : goal.returns-clause-bytes
-returns-clause-bytes c =
-    let inv = c.loop-rest.invariant.read in
-    (all_pairs _ inv.0 c.loop-rest.rest.now inv.1 inv.2 (grind (arith, nat_tests))).1
+    all_pairs _ inv.0 c.loop-rest.rest.now inv.1 inv.2 (grind (arith, nat_tests))
