@@ -1,12 +1,12 @@
 -- Laws of hexadecimal digits.
-use Rattle.std.proofs.Common.{◌≡◌, ◌≢◌, ◌<◌, ◌^◌, ◌+◌, ◌*◌, ◌/◌, ◌%◌, ◌==◌, ◌++◌, ◌∙◌, ℕ, false, List, [], ◌∷◌, refl, sym, ap, arith, length}
-use Rattle.std.specs.List.{All}
+use Rattle.std.proofs.Common.{◌&&◌, true, ◌≡◌, ◌<◌, ◌^◌, ◌+◌, ◌*◌, ◌/◌, ◌%◌, ◌==◌, ◌++◌, ◌∙◌, ℕ, false, List, [], ◌∷◌, refl, ap, arith, length}
+use Rattle.std.specs.List.{All, list_all}
+use Rattle.std.proofs.lemmas.Bool.{and_from, and_parts}
 use Rattle.std.proofs.lemmas.Bool.Decides.{nat_tests}
-use Rattle.std.proofs.lemmas.List.{append_assoc, nil_from_length, append-nil}
 use Rattle.std.proofs.lemmas.List.Elements.{All-cons, All-head, All-nil, All-tail}
 use Rattle.adf_tree.specs.Escapes.{hex_digit}
 use Rattle.adf_manifest.specs.Tokens.{Lacks}
-use Rattle.adf_manifest.specs.Texts.{digit, hex_word, pair, pairs, unpaired, AreDigits}
+use Rattle.adf_manifest.specs.Texts.{digit, hex_word, is_digit, pair, pairs, unpaired, AreDigits}
 use Rattle.adf_tree.proofs.Spellings.{same_digits}
 
 -- the digits of a byte at the head of a text are of one byte
@@ -27,36 +27,43 @@ unpaired_pairs [] h = refl
 unpaired_pairs (b ∷ bs) h =
     rw (byte_digits b (All-head (λ k. k < 256) b bs h), unpaired_pairs bs (All-tail (λ k. k < 256) b bs h))
 
-pub pairs_more : (done : List ℕ) (b : ℕ) (text rest after : List ℕ) → text ≡ pairs done ++ rest → rest ≡ pair b ++ after
-    → text ≡ pairs (done ++ b ∷ []) ++ after
-pairs_more [] b text rest after e g = e ∙ g
-pairs_more (d ∷ ds) b text rest after e g =
-    let more = pairs_more ds b (pairs ds ++ rest) rest after refl g in
-    e ∙ ap (λ xs. hex_digit (d / 16) ∷ hex_digit (d % 16) ∷ xs) more
+digit_back : (c : ℕ) → is_digit c ≡ true → (digit c < 16) × (hex_digit (digit c) ≡ c)
+digit_back c h = (grind (arith, nat_tests), grind (arith, nat_tests))
 
--- one pair fewer
-pub pairs_left : (b : ℕ) (rest after left : List ℕ) → rest ≡ pair b ++ after → b < 256 → All (λ k. k < 256) left → rest ≡ pairs left
-    → (more : List ℕ) × All (λ k. k < 256) more × (left ≡ b ∷ more) × (after ≡ pairs more)
-pairs_left b rest after [] g h a e = let bad : [] ≡ pair b ++ after = sym e ∙ g in absurd cc
-pairs_left b rest after (x ∷ xs) g h a e =
-    let both = one_pair x b (pairs xs) after (All-head (λ k. k < 256) x xs a) h (sym e ∙ g) in
-    (xs, All-tail (λ k. k < 256) x xs a, ap (λ k. k ∷ xs) both.0, sym both.1)
+hex_is_digit : (d : ℕ) → d < 16 → is_digit (hex_digit d) ≡ true
+hex_is_digit d h = grind (arith, nat_tests)
 
--- no pair is left where none begins a text
-pub none_left : (rest left : List ℕ) → ((b : ℕ) (more : List ℕ) → b < 256 → rest ≢ pair b ++ more) → All (λ k. k < 256) left → rest ≡ pairs left → left ≡ []
-none_left rest [] h a e = refl
-none_left rest (x ∷ xs) h a e = absurd (h x (pairs xs) (All-head (λ k. k < 256) x xs a) e)
+-- digits of an even number are those of bytes
+pub pairs_of_digits : (text : List ℕ) → length text % 2 ≡ 0 → list_all is_digit text ≡ true → AreDigits text
+pairs_of_digits [] even h = record { spells = refl; are_bytes = All-nil (λ b. b < 256) }
+pairs_of_digits (high ∷ []) even h = absurd (omega (arith, even))
+pairs_of_digits (high ∷ low ∷ rest) even h =
+    let first = and_parts (is_digit high) (is_digit low && list_all is_digit rest) h in
+    let second = and_parts (is_digit low) (list_all is_digit rest) first.1 in
+    let x = digit_back high first.0 in
+    let y = digit_back low second.0 in
+    let more = pairs_of_digits rest (omega (arith, even)) second.1 in
+    let b : ℕ = 16 * digit high + digit low in
+    let upper : b / 16 ≡ digit high = omega (arith, y.0) in
+    let lower : b % 16 ≡ digit low = omega (arith, y.0) in
+    record {
+      spells = rw (upper, lower, x.1, y.1) (ap (λ r. high ∷ low ∷ r) more.spells);
+      are_bytes = All-cons (λ b. b < 256) b (unpaired rest) (omega (arith, x.0, y.0)) more.are_bytes;
+    }
 
-pub all_pairs : (text done rest : List ℕ) → All (λ b. b < 256) done → text ≡ pairs done ++ rest → length rest ≡ 0
-    → AreDigits text
-all_pairs text done rest a e none =
-    let all : text ≡ pairs done = e ∙ ap (λ r. pairs done ++ r) (nil_from_length rest none) ∙ append-nil (pairs done) in
-    let back : unpaired text ≡ done = ap unpaired all ∙ unpaired_pairs done a in
-    record { spells = all ∙ ap pairs (sym back); are_bytes = rw back a }
+-- the digits of bytes are digits of an even number
+pub digits_of_pairs : (bytes : List ℕ) → All (λ b. b < 256) bytes → (length (pairs bytes) % 2 ≡ 0) × (list_all is_digit (pairs bytes) ≡ true)
+digits_of_pairs [] h = (refl, refl)
+digits_of_pairs (b ∷ bs) h =
+    let small : b < 256 = All-head (λ k. k < 256) b bs h in
+    let more = digits_of_pairs bs (All-tail (λ k. k < 256) b bs h) in
+    let low = and_from (is_digit (hex_digit (b % 16))) (list_all is_digit (pairs bs)) (hex_is_digit (b % 16) (omega arith)) more.1 in (
+      omega (arith, more.0),
+      and_from (is_digit (hex_digit (b / 16))) (is_digit (hex_digit (b % 16)) && list_all is_digit (pairs bs)) (hex_is_digit (b / 16) (omega arith)) low,
+    )
 
--- a text with a byte more than bytes
-pub put_more : (old now left bytes more : List ℕ) (b : ℕ) → now ++ left ≡ old ++ bytes → left ≡ b ∷ more → (now ++ b ∷ []) ++ more ≡ old ++ bytes
-put_more old now left bytes more b e g = rw (← e, g, append_assoc)
+pub all_digits : (text : List ℕ) → AreDigits text → list_all is_digit text ≡ true
+all_digits text h = ap (list_all is_digit) h.spells ∙ (digits_of_pairs (unpaired text) h.are_bytes).1
 
 abbrev four : ℕ → ℕ → ℕ → ℕ → List ℕ
 four a b c d = pair a ++ (pair b ++ (pair c ++ pair d))

@@ -1,5 +1,5 @@
 -- The texts of bytes and words.
-use Rattle.std.specs.Prelude.{◌≡◌, ◌<◌, All, ◌/◌, ◌%◌, ◌^◌, ◌+◌, ◌-◌, ◌*◌, nat_lt, ℕ, List, [], ◌∷◌, ◌++◌, if◌then◌else◌}
+use Rattle.std.specs.Prelude.{◌≡◌, ◌<◌, All, ◌/◌, ◌%◌, ◌^◌, ◌+◌, ◌-◌, ◌*◌, ◌&&◌, ◌||◌, nat_le, nat_lt, Bool, ℕ, List, [], ◌∷◌, ◌++◌, if◌then◌else◌}
 use Rattle.std.specs.List.{flat_map}
 use Rattle.adf_tree.specs.Escapes.{hex_digit}
 
@@ -18,6 +18,10 @@ hex_word w = pair (w / 2 ^ 24 % 256) ++ (pair (w / 2 ^ 16 % 256) ++ (pair (w / 2
 -- the value of a hexadecimal digit
 abbrev pub digit : ℕ → ℕ
 digit d = if nat_lt d 58 then d - 48 else d - 87
+
+-- whether a byte is a hexadecimal digit, in lower case
+abbrev pub is_digit : ℕ → Bool
+is_digit c = (nat_le 48 c && nat_le c 57) || (nat_le 97 c && nat_le c 102)
 
 -- the bytes of which these are the digits
 abbrev pub unpaired : List ℕ → List ℕ

@@ -1,8 +1,8 @@
 // Hexadecimal digits.
 
-ghost use Rattle.std.specs.Prelude.{◌≡◌, ◌≢◌, ◌<◌, ◌^◌, ◌++◌, ◌∷◌, [], ℕ, List, IfSome, IfNone, IfOk, All, length};
-ghost use Rattle.std.specs.Bool.{OnFalse, OnTrue};
-ghost use Rattle.adf_manifest.specs.Texts.{hex_word, pair, pairs, unpaired, AreDigits};
+ghost use Rattle.std.specs.Prelude.{◌≡◌, ◌≢◌, ◌<◌, ◌^◌, ◌++◌, ◌∷◌, [], ℕ, List, IfSome, IfNone, IfOk, All, length, true};
+ghost use Rattle.std.specs.List.{list_all};
+ghost use Rattle.adf_manifest.specs.Texts.{digit, hex_word, is_digit, pair, pairs, unpaired};
 
 use adf_tree::digit_value;
 use std::alloc::AllocError;
@@ -32,7 +32,7 @@ impl<'a> Digits<'a> {
         ensures bytes { IfSome result (All (λ b. b < 256)) }
         ensures none { IfNone result ((bytes : List ℕ) → All (λ b. b < 256) bytes → text.now ≢ pairs bytes) }
     {
-        if are_pairs(text) {
+        if text.len() % 2 == 0 && are_digits(text) {
             Some(Digits { text })
         } else {
             None
@@ -91,30 +91,38 @@ pub fn read_word(text: &[u8]) -> Option<u32>
     Some(u32::from(a) * 16_777_216 + u32::from(b) * 65_536 + u32::from(c) * 256 + u32::from(d))
 }
 
-// Whether a text is the digits of bytes.
-fn are_pairs(text: &[u8]) -> bool
-    ensures yes { OnTrue result (AreDigits text.now) }
-    ensures no { OnFalse result ((bytes : List ℕ) → All (λ b. b < 256) bytes → text.now ≢ pairs bytes) }
+// Whether a byte is a hexadecimal digit, in lower case.
+fn is_digit(c: u8) -> bool
+    ensures { result ≡ is_digit c }
 {
-    let mut rest = text;
-    while !rest.is_empty() {
-        match next_pair(rest) {
-            Some((_, more)) => rest = more,
-            None => return false,
-        }
-    }
-    true
+    b'0' <= c && c <= b'9' || b'a' <= c && c <= b'f'
+}
+
+// Whether all bytes are digits.
+fn are_digits(text: &[u8]) -> bool
+    ensures { result ≡ list_all is_digit text.now }
+{
+    text.iter().all(|c| is_digit(*c))
+}
+
+// The number below 16 that a digit stands for.
+fn digit(c: u8) -> u8
+    requires { is_digit c ≡ true }
+    ensures value { result ≡ digit c }
+    ensures below { result < 16 }
+{
+    if c <= b'9' { c - b'0' } else { c - b'a' + 10 }
 }
 
 // Appends the bytes whose digits a text is; where memory is refused, a part of them may stand.
 fn push_pairs(bytes: &mut Vec<u8>, text: &[u8]) -> Result<(), AllocError>
-    requires { AreDigits text.now }
+    requires { list_all is_digit text.now ≡ true }
     ensures { IfOk result (λ _. bytes.new.items ≡ bytes.old.items ++ unpaired text.now) }
 {
     bytes.reserve(text.len() / 2)?;
     let mut rest = text;
-    while let Some((byte, more)) = next_pair(rest) {
-        bytes.push(byte)?;
+    while let [high, low, more @ ..] = rest {
+        bytes.push(16 * digit(*high) + digit(*low))?;
         rest = more;
     }
     Ok(())

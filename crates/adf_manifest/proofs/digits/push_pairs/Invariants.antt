@@ -1,11 +1,13 @@
-use Rattle.std.proofs.Common.{◌≡◌, ◌++◌, ◌<◌, ℕ, List, length}
-use Rattle.std.specs.List.{All}
-use Rattle.adf_manifest.specs.Texts.{pairs, unpaired}
+use Rattle.std.proofs.Common.{◌≡◌, ◌++◌, true, length}
+use Rattle.std.specs.List.{list_all}
+use Rattle.adf_manifest.specs.Texts.{is_digit, unpaired}
 use Rattle.adf_manifest.proofs.digits.push_pairs.Given as goal
 
-abbrev pub invariant-loop-byte : goal.invariant-loop-byte
-invariant-loop-byte l =
-    (more : List ℕ) × All (λ b. b < 256) more × (l.rest ≡ pairs more) × (l.bytes.items ++ more ≡ l.fn.bytes.items ++ unpaired l.text)
+abbrev pub invariant-loop-rest : goal.invariant-loop-rest
+invariant-loop-rest l = record {
+  digits : list_all is_digit l.rest ≡ true;
+  left : l.bytes.items ++ unpaired l.rest ≡ l.fn.bytes.items ++ unpaired l.text;
+}
 
-abbrev pub decreases-loop-byte : goal.decreases-loop-byte
-decreases-loop-byte l = length l.rest
+abbrev pub decreases-loop-rest : goal.decreases-loop-rest
+decreases-loop-rest l = length l.rest
