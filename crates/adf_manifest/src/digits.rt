@@ -98,11 +98,15 @@ fn is_digit(c: u8) -> bool
     b'0' <= c && c <= b'9' || b'a' <= c && c <= b'f'
 }
 
-// Whether all bytes are digits.
+// Whether all bytes are digits; it looks at all of them, so that many are looked at in one step.
 fn are_digits(text: &[u8]) -> bool
     ensures { result ≡ list_all is_digit text.now }
 {
-    text.iter().all(|c| is_digit(*c))
+    let mut all = true;
+    for c in text {
+        all &= is_digit(*c);
+    }
+    all
 }
 
 // The number below 16 that a digit stands for.
