@@ -10,7 +10,7 @@ use Rattle.adf_tree.specs.declared.tree.AddFault.TheVariants.{NoParent, ParentIs
 use Rattle.adf_tree.specs.Texts.{uppers}
 use Rattle.adf_tree.specs.Tree.{directory_from, is_dir, is_dir_body}
 use Rattle.adf_tree.specs.ChildMap.{number_in, Numbers}
-use Rattle.adf_tree.specs.Draft.{node_of, walk, IsDraft, IsWalk, Walk}
+use Rattle.adf_tree.specs.Draft.{node_of, walk, IsDraft, IsNumberedTree, NumberedTree}
 use Rattle.adf_tree.proofs.DraftInvariant.{some_node}
 use Rattle.adf_tree.proofs.Lists.{some_in}
 use Rattle.adf_tree.proofs.PathContents.{entry_at}
@@ -19,7 +19,8 @@ use Rattle.adf_tree.proofs.PathContents.{entry_at}
 dir_at : (es : List Entry) (n : ℕ) (d : Entry) → 0 < n → n ≤ length es → is_dir es n ≡ is_dir_body (get_or es (n - 1) d).body
 dir_at es n d some le = rw (entry_at es n d some le, ne_eqb n 0 (omega arith))
 
-pub dir_same : (drafts : List Entry) (w : Walk) (m : ℕ) → IsWalk drafts w → m ≤ length drafts → is_dir w.entries (node_of w.nodes m) ≡ is_dir drafts m
+pub dir_same : (drafts : List Entry) (w : NumberedTree) (m : ℕ) → IsNumberedTree drafts w → m ≤ length drafts
+    → is_dir w.entries (node_of w.nodes m) ≡ is_dir drafts m
 dir_same drafts w m h le =
     elim (cases_eq m 0) [
       | inl z ↦ rw z

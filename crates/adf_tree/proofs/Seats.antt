@@ -325,10 +325,6 @@ seated_rest names seats old new name s full with = record {
       (sym (list_any-append (λ n. is_eq (by_words k n)) names old) ∙ s.crowded k e));
 }
 
--- no names have all their seats
-pub none_seated : (seats : List ℕ) → AreSeated [] seats []
-none_seated seats = record { vacant = λ k seat e. refl; crowded = λ k e. refl }
-
 -- one name more of many that are put in
 pub with_one : (old now new more : Names) (i : ℕ) (d : NameKey) → i < length more → IsUnion old (take i more) now → IsWith now new (get_or more i d)
     → IsUnion old (take (i + 1) more) new

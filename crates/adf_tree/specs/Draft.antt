@@ -11,7 +11,7 @@ use Rattle.adf_tree.specs.Chain.{chain}
 use Rattle.adf_tree.specs.ChildMap.{number_in, Numbers}
 
 -- the tree that additions give, and the number that each of them has in it
-pub record Walk : Type 0 where
+pub record NumberedTree : Type 0 where
   pub entries : List Entry
   pub nodes : List ℕ
 
@@ -24,15 +24,15 @@ abbrev pub in_tree : List ℕ → Entry → Entry
 in_tree nodes d = record d { parent = node_of nodes d.parent }
 
 -- where the entry of one addition more is put
-abbrev pub place_in : Walk → Entry → ℕ
-place_in w d = place w.entries (rank (in_tree w.nodes d)) + 1
+abbrev pub new_number : NumberedTree → Entry → ℕ
+new_number w d = place w.entries (rank (in_tree w.nodes d)) + 1
 
 -- one addition more
-abbrev pub walk_more : Walk → Entry → Walk
-walk_more w d = record { entries = added w.entries (in_tree w.nodes d); nodes = map (moved (place_in w d)) w.nodes ++ place_in w d ∷ [] }
+abbrev pub walk_more : NumberedTree → Entry → NumberedTree
+walk_more w d = record { entries = added w.entries (in_tree w.nodes d); nodes = map (moved (new_number w d)) w.nodes ++ new_number w d ∷ [] }
 
 -- entries put in one after the other, and their nodes
-abbrev pub walk : List Entry → Walk
+abbrev pub walk : List Entry → NumberedTree
 walk drafts = fold walk_more (record { entries = []; nodes = [] }) drafts
 
 -- the parent of each addition is the root or an earlier one
@@ -40,7 +40,7 @@ abbrev pub HasEarlyParents : List Entry → Type 0
 HasEarlyParents drafts = (i : ℕ) (d : Entry) → i < length drafts → (slice_index_or drafts i d).parent ≤ i
 
 -- what holds of additions and the tree that they give
-pub record IsWalk (drafts : List Entry) (w : Walk) : Type 0 where
+pub record IsNumberedTree (drafts : List Entry) (w : NumberedTree) : Type 0 where
   pub tree : IsTree w.entries
   pub count : length w.entries ≡ length drafts
   pub nodes : length w.nodes ≡ length drafts
@@ -52,14 +52,14 @@ pub record IsWalk (drafts : List Entry) (w : Walk) : Type 0 where
   pub chains : (m s : ℕ) → m ≤ length drafts → chain w.entries (node_of w.nodes m) s ≡ map (in_tree w.nodes) (chain drafts m s)
 
 -- the numbers of the additions are found by their parents and names
-pub record AreNumbered (drafts : List Entry) (w : Walk) (numbers : Numbers) : Type 0 where
+pub record AreNumbered (drafts : List Entry) (w : NumberedTree) (numbers : Numbers) : Type 0 where
   pub within : (m k : ℕ) (name : List ℕ) → number_in numbers m name ≡ Some k → (m ≤ length drafts) × (k ≤ length drafts)
   pub found : (m : ℕ) (name : List ℕ) → m ≤ length drafts
       → child w.entries (node_of w.nodes m) name ≡ option_map (node_of w.nodes) (number_in numbers m (uppers name))
 
 -- what holds of every tree in the making
 pub record IsDraft (drafts : List Entry) (numbers : Numbers) : Type 0 where
-  pub gives : IsWalk drafts (walk drafts)
+  pub gives : IsNumberedTree drafts (walk drafts)
   pub found : AreNumbered drafts (walk drafts) numbers
 
 -- what a draft is seen as: the tree so far, and the number in it that each addition has
@@ -68,7 +68,7 @@ pub record DraftValue : Type 0 where
   pub nodes : List ℕ
 
 -- the draft of a volume of this kind, label and dates, with what its additions give
-abbrev pub draft_value : Kind → List ℕ → Stamps → Walk → DraftValue
+abbrev pub draft_value : Kind → List ℕ → Stamps → NumberedTree → DraftValue
 draft_value kind label stamps w = record {
   tree = record { kind = kind; label = label; stamps = stamps; entries = w.entries };
   nodes = w.nodes;
