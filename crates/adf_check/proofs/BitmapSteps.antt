@@ -21,7 +21,7 @@ use Rattle.adf_check.specs.declared.fault.Fault.{Fault}
 use Rattle.adf_check.specs.Image.{IsBegun}
 use Rattle.adf_check.specs.Pages.{AreListed, IsBitFault}
 use Rattle.adf_check.specs.Reading.{block_of_page, IsListed, IsRead, IsMapped, StoreFits}
-use Rattle.adf_check.specs.Store.{Store, owner_at}
+use Rattle.adf_check.specs.Store.{StoreValue, owner_at}
 use Rattle.adf_check.proofs.ClaimSteps.{first_fault}
 use Rattle.adf_check.proofs.NodeSteps.{at_or}
 use Rattle.adf_check.proofs.PageSteps.{page_is}
@@ -43,7 +43,7 @@ bitmap_split image w b (suc n) m =
     rw (z, bitmap_split image w (suc b) n m, e) refl
 
 -- what the reader sees of block b: its page, the bit there and the table
-module _ (free : Bool) {image : List ℕ} {store : Store} {b page : ℕ} {list : List ℕ} (hi : b < blocks image)
+module _ (free : Bool) {image : List ℕ} {store : StoreValue} {b page : ℕ} {list : List ℕ} (hi : b < blocks image)
     (listed : IsListed image list (pages_needed (blocks image))) (page_is_at : page ≡ slice_index list ((b - 2) / 4064))
     (free_is : IsTrue free ↔ IsFreeAt image page ((b - 2) % 4064)) (st : IsMapped image store b) where
   has_page : Has st.walk (Page ((b - 2) / 4064)) page
@@ -111,10 +111,10 @@ module _ (free : Bool) {image : List ℕ} {store : Store} {b page : ℕ} {list :
   pub agrees : IsTrue free ↔ (owner_at store.owners b ≡ Free) → IsMapped image store (suc b)
   agrees h = agrees_by free refl h
 
-pub map_begins : (image : List ℕ) (store : Store) → IsRead image store → IsMapped image store 2
+pub map_begins : (image : List ℕ) (store : StoreValue) → IsRead image store → IsMapped image store 2
 map_begins image store st = record { walk = st.walk; read = st.read; low = omega arith; agrees = tt }
 
-pub fits_alone : (image : List ℕ) (store : Store) (b : ℕ) → IsBegun image → b ≡ blocks image → IsMapped image store b → StoreFits image store
+pub fits_alone : (image : List ℕ) (store : StoreValue) (b : ℕ) → IsBegun image → b ≡ blocks image → IsMapped image store b → StoreFits image store
 fits_alone image store b begun e st =
     let s = all_split (boot_demands image) (root_demands image (root_of image)) begun in
     record {
@@ -137,7 +137,7 @@ bit_at i bit h = omega arith
 abbrev block_of_bit : ℕ → ℕ → ℕ
 block_of_bit i bit = 2 + 32 * i + bit
 
-module _ (i bit : ℕ) {image : List ℕ} {store : Store} {pages : List ℕ} (within : bit < 32) (begun : IsBegun image) (hi : 2 + 32 * i + bit < blocks image)
+module _ (i bit : ℕ) {image : List ℕ} {store : StoreValue} {pages : List ℕ} (within : bit < 32) (begun : IsBegun image) (hi : 2 + 32 * i + bit < blocks image)
     (listed : AreListed image pages (pages_needed (blocks image))) (st : IsMapped image store (2 + 32 * i + bit)) {word : ℕ} {free : Bool}
     (word_is : word ≡ word_in image (slice_index pages (i / 127)) (1 + i % 127)) (told : IsTrue free ↔ IsBitSet word bit) where
   here : IsTrue free ↔ IsFreeAt image (slice_index pages ((block_of_bit i bit - 2) / 4064)) ((block_of_bit i bit - 2) % 4064)
@@ -165,7 +165,7 @@ no_bit : (bit : ℕ) → IsTrue false ↔ IsBitSet 0 bit
 no_bit bit = ((λ h. absurd (let x : false ≡ true = h in cc)), (λ h. absurd (h refl)))
 
 -- where a word is 0 and its first blocks are owned, the bitmap agrees on them
-pub owned_run : (i n : ℕ) {image : List ℕ} {store : Store} {pages : List ℕ} → n ≤ 32 → 2 + 32 * i + n ≤ blocks image → IsBegun image
+pub owned_run : (i n : ℕ) {image : List ℕ} {store : StoreValue} {pages : List ℕ} → n ≤ 32 → 2 + 32 * i + n ≤ blocks image → IsBegun image
     → AreListed image pages (pages_needed (blocks image)) → 0 ≡ word_in image (slice_index pages (i / 127)) (1 + i % 127)
     → ((b : ℕ) → 2 + 32 * i ≤ b → b < 2 + 32 * i + n → owner_at store.owners b ≢ Free) → IsMapped image store (2 + 32 * i)
     → IsMapped image store (2 + 32 * i + n)

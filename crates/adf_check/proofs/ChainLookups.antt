@@ -32,10 +32,10 @@ use Rattle.adf_volume.proofs.Lists.{at_below, at_fun, at_map, at_some, at_unmap,
 use Rattle.adf_volume.proofs.TreeOrder.{DirNode, is_dir, ordered}
 use Rattle.adf_check.specs.Lookup.{headed}
 use Rattle.adf_check.specs.Reading.{StoreFits}
-use Rattle.adf_check.specs.Store.{Store, owner_at}
-use Rattle.adf_check.specs.StoredVolume.{StoreStandsFor}
+use Rattle.adf_check.specs.Store.{StoreValue, owner_at}
+use Rattle.adf_check.specs.StoreStands.{StoreStandsFor}
 use Rattle.adf_check.proofs.RowLaws.{head_facts}
-use Rattle.adf_check.proofs.StoredVolume.{keeps}
+use Rattle.adf_check.proofs.StoreStands.{keeps}
 
 -- the name of a header, as it is read and compared
 module _ (image : List ℕ) (b : ℕ) (name : List ℕ) {told head bytes : List ℕ} {t : Bool} (is_told : told ≡ text_at head NAME) (over : head ≡ bytes)
@@ -54,11 +54,11 @@ module _ (image : List ℕ) (b : ℕ) (name : List ℕ) {told head bytes : List 
 
 -- the nodes from that of the header at a block on, by its owner
 abbrev node_left : ℕ → Owner → ℕ
-node_left rows (AHead n) = suc rows - n
-node_left rows _ = 0
+node_left headers (AHead n) = suc headers - n
+node_left headers _ = 0
 
-abbrev pub chain_left : Store → ℕ → ℕ
-chain_left store b = node_left (length store.rows) (owner_at store.owners b)
+abbrev pub chain_left : StoreValue → ℕ → ℕ
+chain_left store b = node_left (length store.headers) (owner_at store.owners b)
 
 -- the block that a header's word names next
 abbrev next_in : List ℕ → ℕ → ℕ
@@ -80,7 +80,7 @@ pub record OnChain (image : List ℕ) (t : Tree) (l : Layout) (p : ℕ) (name : 
   pub ended : b ≡ 0 → length (nodes_named t p name) ≤ place
   pub passed : (j n : ℕ) (e : Entry) → j < place → At (nodes_named t p name) j n → EntryAt t n e → uppers e.name ≢ uppers name
 
-module _ {image : List ℕ} {store : Store} {t : Tree} {l : Layout} (k : StoreStandsFor image store t l) where
+module _ {image : List ℕ} {store : StoreValue} {t : Tree} {l : Layout} (k : StoreStandsFor image store t l) where
   pub body_dir : (n h : ℕ) (body : Body) → BodyFits image t.kind l n h body → word_in image h SECONDARY_TYPE ≡ ST_DIR → body ≡ Dir
   body_dir n h Dir f w = refl
   body_dir n h (File bytes) f w = let e : word_in image h SECONDARY_TYPE ≡ ST_FILE = f.0 in absurd (omega arith)
@@ -89,7 +89,7 @@ module _ {image : List ℕ} {store : Store} {t : Tree} {l : Layout} (k : StoreSt
   body_file n h Dir f w = f.0
   body_file n h (File bytes) f w = cc
 
-  dir_of : (p : ℕ) → p ≤ length store.rows → (p ≢ 0 → word_in image (at_node image l p) SECONDARY_TYPE ≡ ST_DIR) → DirNode t p
+  dir_of : (p : ℕ) → p ≤ length store.headers → (p ≢ 0 → word_in image (at_node image l p) SECONDARY_TYPE ≡ ST_DIR) → DirNode t p
   dir_of zero le h = tt
   dir_of (suc i) le h =
       let x = at_some t.entries i (omega arith) in
@@ -103,7 +103,7 @@ module _ {image : List ℕ} {store : Store} {t : Tree} {l : Layout} (k : StoreSt
       body_file (suc i) (at_node image l (suc i)) d.0.body fits.body d.2
 
   -- the chain of a slot of a directory
-  pub directory_chain : (p s : ℕ) → s < SLOTS → p ≤ length store.rows → (p ≢ 0 → word_in image (at_node image l p) SECONDARY_TYPE ≡ ST_DIR)
+  pub directory_chain : (p s : ℕ) → s < SLOTS → p ≤ length store.headers → (p ≢ 0 → word_in image (at_node image l p) SECONDARY_TYPE ≡ ST_DIR)
       → Spelled (next_in image) (word_in image (at_node image l p) (FIRST_SLOT + s)) (map (at_node image l) (chain_nodes t p s))
   directory_chain p s lt le h = k.fits.chains p s (is_dir t p (dir_of p le h)) lt
 
@@ -135,11 +135,11 @@ module _ {image : List ℕ} {store : Store} {t : Tree} {l : Layout} (k : StoreSt
 
     -- the owner of a header, and the nodes from it on
     left_at : (j n : ℕ) → At (nodes_named t p name) j n → {b : ℕ} → at_node image l n ≡ b
-        → (owner_at store.owners b ≡ AHead n) × (chain_left store b ≡ suc (length store.rows) - n) × (n ≤ length store.rows)
+        → (owner_at store.owners b ≡ AHead n) × (chain_left store b ≡ suc (length store.headers) - n) × (n ≤ length store.headers)
     left_at j n a {b = b} is =
         let x = entry_at t p (slot_of name) j n a in
         let o : owner_at store.owners b ≡ AHead n = k.owners.part (AHead n) b (part_owned image t l k.fits.places (Head n p (slot_of name) j) b (a, is)) in
-        (o, ap (node_left (length store.rows)) o, omega (arith, entry_below t n x.0 x.1, k.rows.count))
+        (o, ap (node_left (length store.headers)) o, omega (arith, entry_below t n x.0 x.1, k.headers.count))
 
   module _ {p : ℕ} {name : List ℕ} where
     pub chain_begins : (b : ℕ) → Spelled (next_in image) b (heads_named image t l p name) → OnChain image t l p name b
@@ -209,7 +209,7 @@ module _ {image : List ℕ} {store : Store} {t : Tree} {l : Layout} (k : StoreSt
           elim (ℕ_discrete (next_in image b) 0) [
             | yes z ↦
                 let boot = ap (owner_at store.owners) z ∙ k.owners.boot 0 (omega arith) (omega (arith, here_inside)) in
-                let none : chain_left store (next_in image b) ≡ 0 = ap (node_left (length store.rows)) boot in
+                let none : chain_left store (next_in image b) ≡ 0 = ap (node_left (length store.headers)) boot in
                 omega (arith, left.1, left.2)
             | no more ↦
                 let x = at_unmap (at_node image l) (nodes_named t p name) (suc c.place) (next_in image b) (next_here more) in
@@ -223,13 +223,13 @@ child_below [] p name n h = cc
 child_below (e ∷ es) p name n h = (found_is (e ∷ es) p name n e h).1
 
 -- the same, of what is kept
-module _ {image : List ℕ} {store : Store} (tells : StoreFits image store) where
+module _ {image : List ℕ} {store : StoreValue} (tells : StoreFits image store) where
   pub child_within : (p : ℕ) (name : List ℕ) (r : Option ℕ) → ((t : Tree) (l : Layout) → StoreStandsFor image store t l → r ≡ child t.entries p name)
-      → IfSome r (λ n. n ≤ length store.rows)
+      → IfSome r (λ n. n ≤ length store.headers)
   child_within p name None h = tt
   child_within p name (Some n) h =
       let k = keeps image store tells in
-      omega (arith, child_below (tree_in image tells.walk).entries p name n (sym (h (tree_in image tells.walk) (layout_in tells.walk) k)), k.rows.count)
+      omega (arith, child_below (tree_in image tells.walk).entries p name n (sym (h (tree_in image tells.walk) (layout_in tells.walk) k)), k.headers.count)
 
   module _ {p : ℕ} {name : List ℕ} {b : ℕ} (c : (t : Tree) (l : Layout) → StoreStandsFor image store t l → OnChain image t l p name b) (ne : b ≢ 0) where
     abbrev known : OnChain image (tree_in image tells.walk) (layout_in tells.walk) p name b

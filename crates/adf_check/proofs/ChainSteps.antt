@@ -26,10 +26,9 @@ use Rattle.adf_volume.proofs.Roles.{dir_is_node}
 use Rattle.adf_volume.proofs.Walks.{node_is, one_block, one_node}
 use Rattle.adf_check.specs.Fault.{IsTrueFault, fault}
 use Rattle.adf_check.specs.Cursor.Cursor.{BeforeRole}
-use Rattle.adf_check.specs.Found.{sees_of}
 use Rattle.adf_check.specs.Image.{IsBegun}
-use Rattle.adf_check.specs.Reading.{Next, IsAtSlot, IsInChain, Sees, next_head}
-use Rattle.adf_check.specs.Store.{Store, owner_at}
+use Rattle.adf_check.specs.Reading.{IsAtSlot, IsInChain, Next, Sees, next_head, sees_of}
+use Rattle.adf_check.specs.Store.{StoreValue, owner_at}
 use Rattle.adf_check.proofs.ClaimSteps.{IsNamed, IsStored, form_fault, name_fault, read_one}
 use Rattle.adf_check.proofs.CursorMoves.{moved, end_chain}
 
@@ -49,7 +48,7 @@ next_ends image w v p s (suc j) a h n c i k =
     k.3 (ap (word_in image c) k.2 ∙ ap (λ a. word_in image a NEXT_IN_CHAIN) e ∙ h.1)
 
 -- a chain that ends leaves its slot
-pub chain_ends : (image : List ℕ) (store : Store) (p up s a : ℕ) (seen : List ℕ → Type 0) → IsInChain image store p up s a 0 seen
+pub chain_ends : (image : List ℕ) (store : StoreValue) (p up s a : ℕ) (seen : List ℕ → Type 0) → IsInChain image store p up s a 0 seen
     → IsAtSlot image store p up (suc s)
 chain_ends image store p up s a seen st = record {
   walk = st.walk;
@@ -58,7 +57,7 @@ chain_ends image store p up s a seen st = record {
 }
 
 -- a slot's chain begins at the directory, and nothing of it was seen
-pub chain_begins : (image : List ℕ) (store : Store) (p up s : ℕ) (seen : List ℕ → Type 0) → ((x : List ℕ) → seen x → ⊥) → IsAtSlot image store p up s
+pub chain_begins : (image : List ℕ) (store : StoreValue) (p up s : ℕ) (seen : List ℕ → Type 0) → ((x : List ℕ) → seen x → ⊥) → IsAtSlot image store p up s
     → IsInChain image store p up s up (word_in image up (FIRST_SLOT + s)) seen
 chain_begins image store p up s seen none st = record {
   walk = st.walk;
@@ -73,7 +72,7 @@ chain_begins image store p up s seen none st = record {
 }
 
 -- a slot whose word is 0 has no chain
-pub empty_chain : (image : List ℕ) (store : Store) (p up s : ℕ) → IsAtSlot image store p up s → word_in image up (FIRST_SLOT + s) ≡ 0
+pub empty_chain : (image : List ℕ) (store : StoreValue) (p up s : ℕ) → IsAtSlot image store p up s → word_in image up (FIRST_SLOT + s) ≡ 0
     → IsAtSlot image store p up (s + 1)
 empty_chain image store p up s st none =
     let seen : List ℕ → Type 0 = λ x. ⊥ in
@@ -86,7 +85,7 @@ seen_more : (old new : Names) (name : List ℕ) → HasMore old new name → (x 
 seen_more old new name h x = rw (h x) (Decides-or (bytes_eq name x) (has old x) (bytes_eq-Decides name x) ((λ s. s), (λ s. s)))
 
 -- a word of block a names block b next in the chain of slot s of directory p
-module _ {image : List ℕ} {store : Store} {p up s a b : ℕ} {seen : List ℕ → Type 0} (lt : s < SLOTS) (begun : IsBegun image)
+module _ {image : List ℕ} {store : StoreValue} {p up s a b : ℕ} {seen : List ℕ → Type 0} (lt : s < SLOTS) (begun : IsBegun image)
     (st : IsInChain image store p up s a b seen) (ne : b ≢ 0) where
   pub head_named : IsNamed image store st.walk (next_head st.walk p s st.place) a b
   head_named =
@@ -115,7 +114,7 @@ module _ {image : List ℕ} {store : Store} {p up s a b : ℕ} {seen : List ℕ 
   module _ (range : InRange (length store.owners) b) (free : owner_at store.owners b ≡ Free) where
     -- and holds a header, whose name was not seen
     pub next_chain : AllHold (head_demands image (kind_of image) b up s) → (seen (uppers (name_of image b)) → ⊥) → (seen' : List ℕ → Type 0)
-        → ((x : List ℕ) → seen' x ↔ ((uppers (name_of image b) ≡ x) ⊎ seen x)) → {new : Store} → IsStored store new (next_head st.walk p s st.place) b
+        → ((x : List ℕ) → seen' x ↔ ((uppers (name_of image b) ≡ x) ⊎ seen x)) → {new : StoreValue} → IsStored store new (next_head st.walk p s st.place) b
         → IsInChain image new p up s b (word_in image b NEXT_IN_CHAIN) seen'
     next_chain form fresh seen' g stored =
         let r : Role = next_head st.walk p s st.place in
@@ -130,7 +129,7 @@ module _ {image : List ℕ} {store : Store} {p up s a b : ℕ} {seen : List ℕ 
         }
 
 -- what was read of it
-module _ {image : List ℕ} {store : Store} {p up s a b : ℕ} (names : Names) (lt : s < SLOTS) (begun : IsBegun image)
+module _ {image : List ℕ} {store : StoreValue} {p up s a b : ℕ} (names : Names) (lt : s < SLOTS) (begun : IsBegun image)
     (st : IsInChain image store p up s a b (sees_of names)) (ne : b ≢ 0) (range : InRange (length store.owners) b) (free : owner_at store.owners b ≡ Free)
     {kind : Kind} {bytes : List ℕ} (is_kind : kind ≡ kind_of image) (is_block : bytes ≡ block image b) where
   cause_is : first_cause (head_form kind b up s bytes) ≡ first_cause (head_form (kind_of image) b up s (block image b))
@@ -156,7 +155,7 @@ module _ {image : List ℕ} {store : Store} {p up s a b : ℕ} (names : Names) (
         (λ k. let x = st.sees.only (uppers (name_of image b)) (ap (has names) (sym name_is) ∙ h) in k x.0 x.1 x.2 x.3 x.4)
 
     pub head_done : has names (uppers name) ≡ false → (more : Names) → HasMore names more (uppers name) → {next : ℕ} → next ≡ word head NEXT_IN_CHAIN
-        → {new : Store} → IsStored store new (next_head st.walk p s st.place) b → IsInChain image new p up s b next (sees_of more)
+        → {new : StoreValue} → IsStored store new (next_head st.walk p s st.place) b → IsInChain image new p up s b next (sees_of more)
     head_done fresh more grows next_is {new = new} stored =
         subst (λ n. IsInChain image new p up s b n (sees_of more)) (ap (λ x. word x NEXT_IN_CHAIN) (sym (same ∙ is_block)) ∙ sym next_is)
         (next_chain lt begun st ne range free form (λ h. let e : true ≡ false = sym h ∙ ap (has names) (sym name_is) ∙ fresh in cc) (sees_of more)

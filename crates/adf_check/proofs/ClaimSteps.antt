@@ -17,11 +17,11 @@ use Rattle.adf_volume.proofs.Memory.{fault_of_image}
 use Rattle.adf_volume.proofs.Roles.{asks_number}
 use Rattle.adf_check.specs.declared.fault.Fault.{Fault}
 use Rattle.adf_check.specs.Fault.{IsTrueFault, fault}
-use Rattle.adf_check.specs.Cursor.{Cursor, first_of, second_of, third_of, nodes_begun, IsUpTo}
+use Rattle.adf_check.specs.Cursor.{Cursor, first_number, second_number, third_number, nodes_begun, IsUpTo}
 use Rattle.adf_check.specs.Cursor.Cursor.{BeforeRole}
 use Rattle.adf_check.specs.Image.{IsBegun}
 use Rattle.adf_check.specs.Reading.{HasRead}
-use Rattle.adf_check.specs.Store.{Store, owner_at, push_row, push_block, ext_file, data_file, stored, StoreMatches}
+use Rattle.adf_check.specs.Store.{StoreValue, owner_at, push_header, push_block, ext_file, data_file, stored, StoreMatches}
 use Rattle.adf_check.proofs.CursorMoves.{is_due, take_it}
 use Rattle.adf_check.proofs.StoreSteps.{free_absent, taken_present, tells_more}
 
@@ -40,7 +40,7 @@ pub first_fault : (image : List ℕ) (b : ℕ) (c : Cause) → FirstFault image 
 first_fault image b c h = record { first = (λ _. h); memory = (λ e. absurd (fault_of_image image b c h e)) }
 
 -- the role comes next, and a word of block a names block b for it
-pub record IsNamed (image : List ℕ) (store : Store) (w : List (Role × ℕ)) (r : Role) (a b : ℕ) : Type 0 where
+pub record IsNamed (image : List ℕ) (store : StoreValue) (w : List (Role × ℕ)) (r : Role) (a b : ℕ) : Type 0 where
   pub begun : IsBegun image
   pub read : HasRead image store w (BeforeRole r)
   pub index : ℕ
@@ -48,23 +48,23 @@ pub record IsNamed (image : List ℕ) (store : Store) (w : List (Role × ℕ)) (
   pub names : word_in image a index ≡ b
 
 -- the new store is the old one with block b in this role, field by field
-pub record IsStored (old new : Store) (r : Role) (b : ℕ) : Type 0 where
+pub record IsStored (old new : StoreValue) (r : Role) (b : ℕ) : Type 0 where
   pub owners : new.owners ≡ set old.owners b (owner_of r)
-  pub rows : new.rows ≡ push_row r b old.rows
+  pub headers : new.headers ≡ push_header r b old.headers
   pub starts : new.starts ≡ old.starts
   pub exts : new.exts ≡ push_block ext_file r b old.exts
   pub datas : new.datas ≡ push_block data_file r b old.datas
   pub used : new.used ≡ old.used + 1
 
-pub is_stored : (old : Store) (r : Role) (b : ℕ) → IsStored old (stored old r b) r b
-is_stored old r b = record { owners = refl; rows = refl; starts = refl; exts = refl; datas = refl; used = omega arith }
+pub is_stored : (old : StoreValue) (r : Role) (b : ℕ) → IsStored old (stored old r b) r b
+is_stored old r b = record { owners = refl; headers = refl; starts = refl; exts = refl; datas = refl; used = omega arith }
 
-stored_is : (old new : Store) (r : Role) (b : ℕ) → IsStored old new r b → stored old r b ≡ new
+stored_is : (old new : StoreValue) (r : Role) (b : ℕ) → IsStored old new r b → stored old r b ≡ new
 stored_is old new r b s =
     let used : suc old.used ≡ new.used = omega (arith, s.used) in
     λ i. record {
       owners = (sym s.owners) i;
-      rows = (sym s.rows) i;
+      headers = (sym s.headers) i;
       starts = (sym s.starts) i;
       exts = (sym s.exts) i;
       datas = (sym s.datas) i;
@@ -73,9 +73,9 @@ stored_is old new r b s =
 
 -- the place is the one behind the role
 abbrev pub IsBehind : Role → Cursor → Type 0
-IsBehind r at = (nodes_begun at ≡ first r) × (first_of at ≡ first r) × (second_of at ≡ second r) × (third_of at ≡ suc (third r))
+IsBehind r at = (nodes_begun at ≡ first r) × (first_number at ≡ first r) × (second_number at ≡ second r) × (third_number at ≡ suc (third r))
 
-module _ {image : List ℕ} {store : Store} {w : List (Role × ℕ)} {r : Role} {a b : ℕ} (st : IsNamed image store w r a b) where
+module _ {image : List ℕ} {store : StoreValue} {w : List (Role × ℕ)} {r : Role} {a b : ℕ} (st : IsNamed image store w r a b) where
   is_fault : (x : ℕ) (c : Cause) → FirstFails (demands image w r a b) x c → IsTrueFault image (fault x c)
   is_fault x c h =
       first_fault image x c (at_due st.begun w r a st.index st.read.upto.walk (is_due image w r a st.index st.read.upto st.asked)
@@ -123,7 +123,7 @@ module _ {image : List ℕ} {store : Store} {w : List (Role × ℕ)} {r : Role} 
         name_fault h = late_fault SameName (fails_right (form_demands image w r b) _ b SameName form (inl (h, refl, refl)))
 
         -- it is claimed and kept: the reader has read one role more
-        pub read_one : NewName image w r b → {new : Store} → IsStored store new r b → (at : Cursor) → IsBehind r at → HasRead image new ((r, b) ∷ w) at
+        pub read_one : NewName image w r b → {new : StoreValue} → IsStored store new r b → (at : Cursor) → IsBehind r at → HasRead image new ((r, b) ∷ w) at
         read_one fresh {new = new} s at e =
             let within = in_image range in
             let begun : length store.starts ≡ first r = st.read.started in

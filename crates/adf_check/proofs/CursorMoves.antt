@@ -11,13 +11,13 @@ use Rattle.adf_volume.proofs.Roles.{same_refl}
 use Rattle.adf_volume.proofs.Walks.{number_of, one_head, one_node, due_file}
 use Rattle.adf_volume.proofs.WalkOrder.{dir_number, asks_back, before_total}
 use Rattle.adf_volume.proofs.MemberFacts.{kept}
-use Rattle.adf_check.specs.Cursor.{Cursor, first_of, second_of, third_of, nodes_begun, IsBelow, IsUpTo}
+use Rattle.adf_check.specs.Cursor.{Cursor, first_number, second_number, third_number, nodes_begun, IsBelow, IsUpTo}
 use Rattle.adf_check.specs.Reading.{HasRead}
-use Rattle.adf_check.specs.Store.{Store}
+use Rattle.adf_check.specs.Store.{StoreValue}
 
 -- a reader at one place is at another, where its walk has as much up to there
-pub moved : {image : List ℕ} {store : Store} {w : List (Role × ℕ)} {old new : Cursor} → HasRead image store w old → nodes_begun old ≡ nodes_begun new
-    → IsUpTo image w (first_of new) (second_of new) (third_of new) → HasRead image store w new
+pub moved : {image : List ℕ} {store : StoreValue} {w : List (Role × ℕ)} {old new : Cursor} → HasRead image store w old → nodes_begun old ≡ nodes_begun new
+    → IsUpTo image w (first_number new) (second_number new) (third_number new) → HasRead image store w new
 moved read same upto = record { tells = read.tells; started = read.started ∙ same; upto = upto }
 
 module _ (image : List ℕ) (w : List (Role × ℕ)) where

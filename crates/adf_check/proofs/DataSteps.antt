@@ -23,7 +23,7 @@ use Rattle.adf_check.specs.Cursor.Cursor.{BeforeRole}
 use Rattle.adf_check.specs.Datas.{next_of}
 use Rattle.adf_check.specs.Image.{IsBegun}
 use Rattle.adf_check.specs.Reading.{IsAtNode, IsInDatas}
-use Rattle.adf_check.specs.Store.{Store, owner_at}
+use Rattle.adf_check.specs.Store.{StoreValue, owner_at}
 use Rattle.adf_check.proofs.NodeSteps.{at_or}
 use Rattle.adf_check.proofs.NumberBounds.{many_blocks}
 use Rattle.adf_check.proofs.ClaimSteps.{IsNamed, IsStored, form_fault, read_one, short_fault}
@@ -34,20 +34,20 @@ member_inside image w begun v n zero c h = (in_range image v (many_blocks image 
 member_inside image w begun v n (suc m) c h = (in_range image v (many_blocks image begun) (Ext n (suc m)) c h).1
 
 -- the blocks of the table are those of the image
-pub table_inside : {image : List ℕ} {store : Store} {n h : ℕ} {table : List ℕ} {k : ℕ} → IsBegun image → IsInDatas image store n h table k → (i : ℕ)
+pub table_inside : {image : List ℕ} {store : StoreValue} {n h : ℕ} {table : List ℕ} {k : ℕ} → IsBegun image → IsInDatas image store n h table k → (i : ℕ)
     → i < length table → slice_index table i < blocks image
 table_inside {image = image} {n = n} {table = table} begun st i lt =
     member_inside image st.walk begun st.read.upto.walk n i (slice_index table i) (st.holds.members i (slice_index table i) (at_or table i 0 lt))
 
 -- behind the last data block
-pub datas_end : (image : List ℕ) (store : Store) (n h : ℕ) (table : List ℕ) (k : ℕ) → IsInDatas image store n h table k → data_count image h ≤ k
+pub datas_end : (image : List ℕ) (store : StoreValue) (n h : ℕ) (table : List ℕ) (k : ℕ) → IsInDatas image store n h table k → data_count image h ≤ k
     → IsAtNode image store (suc n)
 datas_end image store n h table k st le = record {
   walk = st.walk;
   read = moved st.read refl (end_datas image st.walk n (suc k) h st.holds.file (omega arith) st.read.upto);
 }
 
-module _ {image : List ℕ} {store : Store} {n h : ℕ} {table : List ℕ} {k : ℕ} (begun : IsBegun image) (st : IsInDatas image store n h table k) where
+module _ {image : List ℕ} {store : StoreValue} {n h : ℕ} {table : List ℕ} {k : ℕ} (begun : IsBegun image) (st : IsInDatas image store n h table k) where
   one_file : (a : ℕ) → FileAt image st.walk n a → h ≡ a
   one_file a f =
       let g = st.holds.file in
@@ -110,7 +110,7 @@ module _ {image : List ℕ} {store : Store} {n h : ℕ} {table : List ℕ} {k : 
         pub data_fault : (c : Cause) → FirstFails demands_here b c → IsTrueFault image (fault b c)
         data_fault c f = form_fault data_named data_enough range free c (subst (λ ds. FirstFails ds b c) form_is f)
 
-        pub data_done : AllHold demands_here → {new : Store} → IsStored store new (Data n (k + 1)) b → IsInDatas image new n h table (k + 1)
+        pub data_done : AllHold demands_here → {new : StoreValue} → IsStored store new (Data n (k + 1)) b → IsInDatas image new n h table (k + 1)
         data_done f {new = new} stored =
             let r : Role = Data n (suc k) in
             let one : k + 1 ≡ suc k = omega arith in

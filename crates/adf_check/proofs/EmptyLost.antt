@@ -7,7 +7,7 @@ use Rattle.adf_volume.specs.Image.{word_in}
 use Rattle.adf_volume.specs.Walk.{FirstFault}
 use Rattle.adf_volume.proofs.Zeros.{all_zero}
 use Rattle.adf_check.specs.Samples.{empty_lost}
-use Rattle.adf_check.specs.Store.{Store, entered}
+use Rattle.adf_check.specs.Store.{StoreValue, entered}
 use Rattle.adf_check.proofs.NodeSteps.{all_read, leave_directory}
 use Rattle.adf_check.proofs.SmallImages.{IsSmall, Loses, begins, empty_slots, page_store, small_begins, small_lost}
 
@@ -28,7 +28,7 @@ slots : all_zero (λ i. word_in empty_lost 3 (FIRST_SLOT + (0 + i))) SLOTS ≡ t
 unfolding empty_lost block word with_bytes
 slots = refl
 
-store : Store
+store : StoreValue
 store = entered (page_store small)
 
 loses : Loses empty_lost store.owners 4 3

@@ -23,12 +23,12 @@ use Rattle.adf_check.specs.Fault.{IsTrueFault, fault}
 use Rattle.adf_check.specs.Cursor.Cursor.{BeforeRole}
 use Rattle.adf_check.specs.Image.{IsBegun}
 use Rattle.adf_check.specs.Reading.{HasTable, IsInDatas, IsInExts, IsInNode, NextExt}
-use Rattle.adf_check.specs.Store.{Store, owner_at}
+use Rattle.adf_check.specs.Store.{StoreValue, owner_at}
 use Rattle.adf_check.proofs.ClaimSteps.{IsNamed, IsStored, form_fault, read_one}
 use Rattle.adf_check.proofs.CursorMoves.{moved, enter_file, end_exts}
 
 -- a file's table begins with its header
-pub enter_exts : (image : List ℕ) (store : Store) (n h : ℕ) (st : IsInNode image store n) → FileAt image st.walk n h
+pub enter_exts : (image : List ℕ) (store : StoreValue) (n h : ℕ) (st : IsInNode image store n) → FileAt image st.walk n h
     → IsInExts image store n h (h ∷ []) h (word_in image h EXTENSION)
 enter_exts image store n h st file =
     record {
@@ -69,7 +69,7 @@ exts_no image w v n h (suc j) a f x c i k =
     k.2 (ap (word_in image c) k.1 ∙ ap (λ a. word_in image a EXTENSION) e ∙ x.1)
 
 -- no extension block follows
-pub exts_end : (image : List ℕ) (store : Store) (n h : ℕ) (table : List ℕ) (a : ℕ) → IsInExts image store n h table a 0 → IsInDatas image store n h table 0
+pub exts_end : (image : List ℕ) (store : StoreValue) (n h : ℕ) (table : List ℕ) (a : ℕ) → IsInExts image store n h table a 0 → IsInDatas image store n h table 0
 exts_end image store n h table a st = record {
   walk = st.walk;
   read = moved st.read refl (end_exts image st.walk n (suc st.extra) (omega arith) st.read.upto
@@ -78,7 +78,7 @@ exts_end image store n h table a st = record {
 }
 
 -- a word of block a names block b next
-module _ {image : List ℕ} {store : Store} {n h : ℕ} {table : List ℕ} {a b : ℕ} (begun : IsBegun image) (st : IsInExts image store n h table a b)
+module _ {image : List ℕ} {store : StoreValue} {n h : ℕ} {table : List ℕ} {a b : ℕ} (begun : IsBegun image) (st : IsInExts image store n h table a b)
     (ne : b ≢ 0) where
   pub ext_named : IsNamed image store st.walk (Ext n (suc st.extra)) a b
   ext_named =
@@ -95,7 +95,7 @@ module _ {image : List ℕ} {store : Store} {n h : ℕ} {table : List ℕ} {a b 
         (first_demanded b (ext_form b h (block image b)) c (ap (λ x. first_cause (ext_form b h x)) (sym is_block) ∙ f)))
 
     pub ext_done : first_cause (ext_form b h bytes) ≡ None → {ext : List ℕ} → ext ≡ bytes → {next : ℕ} → next ≡ word ext EXTENSION → {longer : List ℕ}
-        → longer ≡ table ++ b ∷ [] → {new : Store} → IsStored store new (Ext n (length table)) b → IsInExts image new n h longer b next
+        → longer ≡ table ++ b ∷ [] → {new : StoreValue} → IsStored store new (Ext n (length table)) b → IsInExts image new n h longer b next
     ext_done f same next_is longer_is {new = new} stored =
         let r : Role = Ext n (suc st.extra) in
         let number : length table ≡ suc st.extra = st.holds.counted ∙ ap suc st.counted in

@@ -16,7 +16,7 @@ use Rattle.adf_volume.specs.Walk.Role.{Head, Data}
 use Rattle.adf_volume.proofs.FormDemands.{all_demanded}
 use Rattle.adf_volume.proofs.Zeros.{all_zero}
 use Rattle.adf_check.specs.Samples.{file_lost}
-use Rattle.adf_check.specs.Store.{Store, stored, entered}
+use Rattle.adf_check.specs.Store.{StoreValue, stored, entered}
 use Rattle.adf_check.specs.Reading.{next_head, IsInChain, IsInExts, IsInDatas}
 use Rattle.adf_check.specs.Datas.{next_of}
 use Rattle.adf_check.proofs.ChainSteps.{chain_begins, chain_ends, next_chain}
@@ -76,16 +76,16 @@ file = record {
 }
 
 -- what is kept when the root's slots are read, when the header was read, when its data blocks are read, and at the end
-at_slots : Store
+at_slots : StoreValue
 at_slots = entered (page_store small)
 
-at_head : Store
+at_head : StoreValue
 at_head = stored at_slots (Head 1 0 6 0) 2
 
-at_file : Store
+at_file : StoreValue
 at_file = entered at_head
 
-at_end : Store
+at_end : StoreValue
 at_end = stored (stored at_file (Data 1 1) 3) (Data 1 2) 4
 
 -- no name was seen
@@ -113,15 +113,15 @@ behind_head = subst (λ b. IsInChain file_lost at_head 0 8 6 2 b one_name) file.
   where
     stored_head : IsStored at_slots at_head (next_head at_chain.walk 0 6 at_chain.place) 2
     stored_head =
-        let first : 0 ≡ heads at_chain.walk = at_chain.read.tells.lists.count in
-        record { owners = ap (λ n. set at_slots.owners 2 (AHead (suc n))) first; rows = refl; starts = refl; exts = refl; datas = refl; used = omega arith }
+        let first : 0 ≡ heads at_chain.walk = at_chain.read.tells.headers.count in
+        record { owners = ap (λ n. set at_slots.owners 2 (AHead (suc n))) first; headers = refl; starts = refl; exts = refl; datas = refl; used = omega arith }
 
 before_datas : IsInDatas file_lost at_file 1 2 (2 ∷ []) 0
 unfolding at_file at_head at_slots
 before_datas =
     let slots = empty_slots file_lost at_head 0 8 7 65 file.high (chain_ends file_lost at_head 0 8 6 2 one_name behind_head) in
     let st = enter_node file_lost at_head 1 (leave_directory file_lost at_head 0 8 slots) in
-    let ex = file_begins {row = record { parent = 0; head = 2 }} small.begun refl (λ e. omega arith) (omega arith) refl st (λ e. omega (arith, file.type)) in
+    let ex = file_begins {header = record { parent = 0; head = 2 }} small.begun refl (λ e. omega arith) (omega arith) refl st (λ e. omega (arith, file.type)) in
     exts_end file_lost at_file 1 2 (2 ∷ []) 2 (subst (λ b. IsInExts file_lost at_file 1 2 (2 ∷ []) 2 b) file.whole ex)
 
 behind_datas : IsInDatas file_lost at_end 1 2 (2 ∷ []) 2

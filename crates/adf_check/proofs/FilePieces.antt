@@ -24,14 +24,14 @@ use Rattle.adf_volume.proofs.Lists.{at_index_or}
 use Rattle.adf_volume.proofs.LayoutRoles.{part_range}
 use Rattle.adf_volume.proofs.Pieces.{held_some, piece_at, pieces_joined, pieces_length}
 use Rattle.adf_volume.proofs.Chains.{entry_is_at, entry_some}
-use Rattle.adf_check.specs.declared.kept.Start.{Start}
-use Rattle.adf_check.specs.StoredVolume.{StoreStandsFor}
-use Rattle.adf_check.specs.Store.{Store}
+use Rattle.adf_check.specs.declared.store.NodeStart.{NodeStart}
+use Rattle.adf_check.specs.StoreStands.{StoreStandsFor}
+use Rattle.adf_check.specs.Store.{StoreValue}
 use Rattle.adf_check.proofs.ChainLookups.{body_dir}
 use Rattle.adf_check.proofs.NodeSteps.{at_or}
-use Rattle.adf_check.proofs.StoredVolume.{keeps}
+use Rattle.adf_check.proofs.StoreStands.{keeps}
 use Rattle.adf_check.specs.Reading.{StoreFits}
-use Rattle.adf_check.specs.Pieces.{AreInside, bytes_in, bytes_of, pieces_at, pieces_in, pieces_of}
+use Rattle.adf_check.specs.Pieces.{AreInside, body_bytes, bytes_of, pieces_at, pieces_in, pieces_of}
 
 -- where there are data blocks, there are pieces
 pub some_pieces : (bytes : List ℕ) (kind : Kind) (size k : ℕ) (ds : List ℕ) → pieces bytes kind size k ds ≡ [] → ds ≡ []
@@ -83,7 +83,7 @@ body_other : (image : List ℕ) (kind : Kind) (l : Layout) (n h : ℕ) (body : B
 body_other image kind l n h Dir f w = absurd (w f.0)
 body_other image kind l n h (File bytes) f w = (bytes, refl)
 
-module _ {image : List ℕ} {store : Store} {t : Tree} {l : Layout} (k : StoreStandsFor image store t l) where
+module _ {image : List ℕ} {store : StoreValue} {t : Tree} {l : Layout} (k : StoreStandsFor image store t l) where
   data_range : (n i b : ℕ) → At (datas_of l n) i b → b < blocks image
   data_range n i b h = (part_range image t l k.fits (Data n (suc i)) b h).1
 
@@ -91,7 +91,7 @@ module _ {image : List ℕ} {store : Store} {t : Tree} {l : Layout} (k : StoreSt
   whole = k.fits.boots.0.0
 
   -- the data blocks of a node stand in the list of all, from its start on, by their count
-  module _ (size : ℕ) {n m c : ℕ} {kind : Kind} {x : Start} (within : n ≤ length store.rows) (view : m ≡ n) (start : x ≡ get_or store.starts m x)
+  module _ (size : ℕ) {n m c : ℕ} {kind : Kind} {x : NodeStart} (within : n ≤ length store.headers) (view : m ≡ n) (start : x ≡ get_or store.starts m x)
       (long : length (datas_of l n) ≡ count (kind_of image) size) (is_kind : kind ≡ kind_of image) (is_count : c ≡ count kind size) where
     many : length (datas_of l n) ≡ c
     many = long ∙ ap (λ k. count k size) (sym is_kind) ∙ sym is_count
@@ -105,14 +105,14 @@ module _ {image : List ℕ} {store : Store} {t : Tree} {l : Layout} (k : StoreSt
     part_inside ne = omega (arith, many, length-take c (drop x.datas store.datas), ap length part_is, length-drop x.datas store.datas)
 
 -- node n is a file, or a directory, with its header at block h
-pub record IsEntry (image : List ℕ) (store : Store) (n h : ℕ) : Type 0 where
+pub record IsEntry (image : List ℕ) (store : StoreValue) (n h : ℕ) : Type 0 where
   pub some : n ≢ 0
-  pub within : n ≤ length store.rows
+  pub within : n ≤ length store.headers
   pub block : (t : Tree) (l : Layout) → StoreStandsFor image store t l → h ≡ at_node image l n
 
 -- the node is an entry, by its number and the number of rows
-pub is_entry : {image : List ℕ} {store : Store} {n m h : ℕ} → ((t : Tree) (l : Layout) → StoreStandsFor image store t l → h ≡ at_node image l n) → m ≡ n → m ≢ 0
-    → n ≤ length store.rows → IsEntry image store n h
+pub is_entry : {image : List ℕ} {store : StoreValue} {n m h : ℕ} → ((t : Tree) (l : Layout) → StoreStandsFor image store t l → h ≡ at_node image l n) → m ≡ n
+    → m ≢ 0 → n ≤ length store.headers → IsEntry image store n h
 is_entry block view ne le = record { some = (λ z. ne (view ∙ z)); within = le; block = block }
 
 past : (qs : List Place) (i : ℕ) → length qs ≤ i → ◌≡◌ {A = List ℕ} [] (datas_at qs i)
@@ -125,12 +125,12 @@ pub root_datas : (l : Layout) (n m : ℕ) → m ≡ n → m ≡ 0 → ◌≡◌ 
 root_datas l zero m view e = refl
 root_datas l (suc i) m view e = absurd (omega arith)
 
-pub past_datas : {image : List ℕ} {store : Store} {t : Tree} {l : Layout} → StoreStandsFor image store t l → (n : ℕ) → length store.rows < n
+pub past_datas : {image : List ℕ} {store : StoreValue} {t : Tree} {l : Layout} → StoreStandsFor image store t l → (n : ℕ) → length store.headers < n
     → ◌≡◌ {A = List ℕ} [] (datas_of l n)
 past_datas k zero lt = absurd (omega arith)
-past_datas {l = l} k (suc i) lt = past l.places i (omega (arith, k.rows.count, k.fits.places))
+past_datas {l = l} k (suc i) lt = past l.places i (omega (arith, k.headers.count, k.fits.places))
 
-module _ {image : List ℕ} {store : Store} {n h : ℕ} (is : IsEntry image store n h) where
+module _ {image : List ℕ} {store : StoreValue} {n h : ℕ} (is : IsEntry image store n h) where
   module _ (t : Tree) (l : Layout) (k : StoreStandsFor image store t l) where
     here : (x : Entry) × EntryAt t n x
     here =
@@ -139,7 +139,7 @@ module _ {image : List ℕ} {store : Store} {n h : ℕ} (is : IsEntry image stor
     body_fits : BodyFits image t.kind l n h here.0.body
     body_fits = subst (λ b. BodyFits image t.kind l n b here.0.body) (sym (is.block t l k)) (k.fits.entries n here.0 here.1).body
 
-    told : bytes_of (entry t.entries n) ≡ bytes_in here.0.body
+    told : bytes_of (entry t.entries n) ≡ body_bytes here.0.body
     told = ap bytes_of ((entry_is_at t n here.0).0 here.1)
 
     laid : pieces_at image t l n ≡ pieces_in image t.kind (datas_of l n) here.0.body
@@ -149,7 +149,7 @@ module _ {image : List ℕ} {store : Store} {n h : ℕ} (is : IsEntry image stor
     dir_pieces w = sym (laid ∙ ap (pieces_in image t.kind (datas_of l n)) (body_dir k n h here.0.body body_fits w))
 
     pub dir_bytes : word_in image h SECONDARY_TYPE ≡ ST_DIR → ◌≡◌ {A = Option (List ℕ)} None (bytes_of (entry t.entries n))
-    dir_bytes w = sym (told ∙ ap bytes_in (body_dir k n h here.0.body body_fits w))
+    dir_bytes w = sym (told ∙ ap body_bytes (body_dir k n h here.0.body body_fits w))
 
     pub dir_datas : word_in image h SECONDARY_TYPE ≡ ST_DIR → ◌≡◌ {A = List ℕ} [] (datas_of l n)
     dir_datas w = sym (subst (BodyFits image t.kind l n h) (body_dir k n h here.0.body body_fits w) body_fits).2
@@ -169,7 +169,7 @@ module _ {image : List ℕ} {store : Store} {n h : ℕ} (is : IsEntry image stor
       file_bytes =
           ap Some (pieces_joined image (kind_of image) h (datas_of l n) (whole k) (data_range k n)
           ∙ ap (λ kind. content image kind h (datas_of l n)) (sym k.fits.kind) ∙ sym file_fits.1)
-          ∙ sym (told ∙ ap bytes_in file.1)
+          ∙ sym (told ∙ ap body_bytes file.1)
 
       file_inside : word_in image h SIZE < 2 ^ 32 → AreInside image (datas_of l n) 1
       file_inside small =

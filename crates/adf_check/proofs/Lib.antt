@@ -18,7 +18,7 @@ pub mod BitmapSteps
 pub mod WalkLengths
 pub mod NumberBounds
 -- what is told of a checked volume
-pub mod StoredVolume
+pub mod StoreStands
 pub mod RowLaws
 pub mod VolumeCounts
 pub mod ChainLookups

@@ -10,11 +10,11 @@ use Rattle.adf_volume.proofs.FormDemands.{head_type}
 use Rattle.adf_volume.proofs.Lists.{at_below, at_fun, at_index_or, at_snoc, at_some, snoc_length}
 use Rattle.adf_volume.proofs.MemberFacts.{in_range, kept}
 use Rattle.adf_volume.proofs.Walks.{numbered, root_in}
-use Rattle.adf_check.specs.declared.kept.KeptHeader.{KeptHeader}
-use Rattle.adf_check.specs.declared.kept.Start.{Start}
+use Rattle.adf_check.specs.declared.store.KeptHeader.{KeptHeader}
+use Rattle.adf_check.specs.declared.store.NodeStart.{NodeStart}
 use Rattle.adf_check.specs.Image.{IsBegun}
 use Rattle.adf_check.specs.Reading.{IsAtNode, IsAtSlot, IsInExts, IsInNode, IsRead}
-use Rattle.adf_check.specs.Store.{Store, StoreMatches, blocks_before, data_file, entered, ext_file}
+use Rattle.adf_check.specs.Store.{StoreValue, StoreMatches, blocks_before, data_file, entered, ext_file}
 use Rattle.adf_check.proofs.NumberBounds.{many_blocks}
 use Rattle.adf_check.proofs.CursorMoves.{moved, enter_dir, end_dir, end_all}
 use Rattle.adf_check.proofs.ExtSteps.{enter_exts}
@@ -25,17 +25,18 @@ pub at_or : {X : Type 0} (xs : List X) (i : ℕ) (d : X) → i < length xs → A
 at_or xs i d lt = let x = at_some xs i lt in subst (At xs i) (sym (at_index_or xs i x.0 d x.1)) x.1
 
 -- the row at a place of a list that is the rows
-pub row_here : (rows : List KeptHeader) (i : ℕ) (r : KeptHeader) {xs : List KeptHeader} → xs ≡ rows → i < length xs → r ≡ get_or xs i r → At rows i r
-row_here rows i r {xs = xs} e lt is = subst (λ xs. At xs i r) e (subst (At xs i) (sym is) (at_or xs i r lt))
+pub header_here : (headers : List KeptHeader) (i : ℕ) (r : KeptHeader) {xs : List KeptHeader} → xs ≡ headers → i < length xs
+    → r ≡ get_or xs i r → At headers i r
+header_here headers i r {xs = xs} e lt is = subst (λ xs. At xs i r) e (subst (At xs i) (sym is) (at_or xs i r lt))
 
 -- the next node is begun
-pub enter_node : (image : List ℕ) (store : Store) (n : ℕ) → IsAtNode image store n → IsInNode image (entered store) n
+pub enter_node : (image : List ℕ) (store : StoreValue) (n : ℕ) → IsAtNode image store n → IsInNode image (entered store) n
 enter_node image store n st = record {
   walk = st.walk;
   read = record {
     tells = record {
       owns = st.read.tells.owns;
-      lists = st.read.tells.lists;
+      headers = st.read.tells.headers;
       exts = st.read.tells.exts;
       datas = st.read.tells.datas;
       used = st.read.tells.used;
@@ -43,9 +44,9 @@ enter_node image store n st = record {
         | inl y ↦ st.read.tells.starts m x y
         | inr y ↦
             let e : n ≡ m = let z : length store.starts ≡ n = st.read.started in let z2 : m ≡ length store.starts = y.0 in omega arith in (
-              ap (λ (x : Start). x.exts) (sym y.1) ∙ ap length st.read.tells.exts
+              ap (λ (x : NodeStart). x.exts) (sym y.1) ∙ ap length st.read.tells.exts
                   ∙ all_before image ext_file ext_tells st.walk n low ∙ ap (blocks_before ext_file st.walk) e,
-              ap (λ (x : Start). x.datas) (sym y.1) ∙ ap length st.read.tells.datas
+              ap (λ (x : NodeStart). x.datas) (sym y.1) ∙ ap length st.read.tells.datas
                   ∙ all_before image data_file data_tells st.walk n low ∙ ap (blocks_before data_file st.walk) e,
             )
       ]);
@@ -59,15 +60,16 @@ enter_node image store n st = record {
     low r b h = let x = st.read.upto.below r b h in grind (arith, x)
 
 -- the node of a row
-module _ (image : List ℕ) (store : Store) (w : List (Role × ℕ)) (t : StoreMatches image store w) (v : IsWalk image w) where
-  pub node_here : (i : ℕ) (r : KeptHeader) → At store.rows i r → (p s j : ℕ) × Has w (Head (suc i) p s j) r.head
+module _ (image : List ℕ) (store : StoreValue) (w : List (Role × ℕ)) (t : StoreMatches image store w) (v : IsWalk image w) where
+  pub node_here : (i : ℕ) (r : KeptHeader) → At store.headers i r → (p s j : ℕ) × Has w (Head (suc i) p s j) r.head
   node_here i r h =
-      let u : i < length store.rows = at_below store.rows i r h in
+      let u : i < length store.headers = at_below store.headers i r h in
       let k = numbered image v (suc i) (omega arith) (omega arith) in
-      let z : r ≡ record { parent = k.0; head = k.3 } = at_fun store.rows i r (record { parent = k.0; head = k.3 }) h (t.lists.row i k.0 k.1 k.2 k.3 k.4) in
+      let z : r ≡ record { parent = k.0; head = k.3 } =
+      at_fun store.headers i r (record { parent = k.0; head = k.3 }) h (t.headers.header i k.0 k.1 k.2 k.3 k.4) in
       (k.0, k.1, k.2, subst (Has w (Head (suc i) k.0 k.1 k.2)) (ap (λ (x : KeptHeader). x.head) (sym z)) k.4)
 
-  pub file_here : (i : ℕ) (r : KeptHeader) → At store.rows i r → word_in image r.head SECONDARY_TYPE ≢ ST_DIR → FileAt image w (suc i) r.head
+  pub file_here : (i : ℕ) (r : KeptHeader) → At store.headers i r → word_in image r.head SECONDARY_TYPE ≢ ST_DIR → FileAt image w (suc i) r.head
   file_here i r h d =
       let x = node_here i r h in
       let k = (kept image v (Head (suc i) x.0 x.1 x.2) r.head x.3).2 in (
@@ -76,7 +78,7 @@ module _ (image : List ℕ) (store : Store) (w : List (Role × ℕ)) (t : StoreM
       )
 
 -- a directory's slots are next
-pub enter_directory : (image : List ℕ) (store : Store) (n a : ℕ) (st : IsInNode image store n) → DirAt image st.walk n a → IsAtSlot image store n a 0
+pub enter_directory : (image : List ℕ) (store : StoreValue) (n a : ℕ) (st : IsInNode image store n) → DirAt image st.walk n a → IsAtSlot image store n a 0
 enter_directory image store n a st dir = record {
   walk = st.walk;
   read = moved st.read refl (enter_dir image st.walk n a dir st.read.upto);
@@ -84,48 +86,49 @@ enter_directory image store n a st dir = record {
 }
 
 -- they are read
-pub leave_directory : (image : List ℕ) (store : Store) (n a : ℕ) → IsAtSlot image store n a 72 → IsAtNode image store (suc n)
+pub leave_directory : (image : List ℕ) (store : StoreValue) (n a : ℕ) → IsAtSlot image store n a 72 → IsAtNode image store (suc n)
 leave_directory image store n a st = record {
   walk = st.walk;
   read = moved st.read refl (end_dir image st.walk n st.read.upto);
 }
 
-pub root_begins : (image : List ℕ) (store : Store) (n a : ℕ) → n ≡ 0 → a ≡ root_of image → IsInNode image store n → IsAtSlot image store n a 0
+pub root_begins : (image : List ℕ) (store : StoreValue) (n a : ℕ) → n ≡ 0 → a ≡ root_of image → IsInNode image store n → IsAtSlot image store n a 0
 root_begins image store n a z e st =
     enter_directory image store n a st (subst (λ n. DirAt image st.walk n a) (sym z) (subst (Has st.walk Root) (sym e) (root_in image st.read.upto.walk)))
 
 -- the next node is n, and its row is known
-module _ {image : List ℕ} {store : Store} {m n : ℕ} {row : KeptHeader} (begun : IsBegun image) (view : m ≡ n) (ne : m ≢ 0)
-    (within : n ≤ length store.rows) (row_is : row ≡ get_or store.rows (m - 1) row) (st : IsInNode image store n) where
-  here : At store.rows (m - 1) row
-  here = row_here store.rows (m - 1) row refl (omega arith) row_is
+module _ {image : List ℕ} {store : StoreValue} {m n : ℕ} {header : KeptHeader} (begun : IsBegun image) (view : m ≡ n) (ne : m ≢ 0)
+    (within : n ≤ length store.headers) (header_is : header ≡ get_or store.headers (m - 1) header) (st : IsInNode image store n) where
+  here : At store.headers (m - 1) header
+  here = header_here store.headers (m - 1) header refl (omega arith) header_is
 
   node : suc (m - 1) ≡ n
   node = omega arith
 
-  pub head_inside : row.head < blocks image
+  pub head_inside : header.head < blocks image
   head_inside =
-      let x = node_here image store st.walk st.read.tells st.read.upto.walk (m - 1) row here in
-      (in_range image st.read.upto.walk (many_blocks image begun) (Head (suc (m - 1)) x.0 x.1 x.2) row.head x.3).1
+      let x = node_here image store st.walk st.read.tells st.read.upto.walk (m - 1) header here in
+      (in_range image st.read.upto.walk (many_blocks image begun) (Head (suc (m - 1)) x.0 x.1 x.2) header.head x.3).1
 
-  pub directory_begins : word_in image row.head SECONDARY_TYPE ≡ ST_DIR → IsAtSlot image store n row.head 0
+  pub directory_begins : word_in image header.head SECONDARY_TYPE ≡ ST_DIR → IsAtSlot image store n header.head 0
   directory_begins e =
-      enter_directory image store n row.head st (subst (λ n. DirAt image st.walk n row.head) node
-      (node_here image store st.walk st.read.tells st.read.upto.walk (m - 1) row here, e))
+      enter_directory image store n header.head st (subst (λ n. DirAt image st.walk n header.head) node
+      (node_here image store st.walk st.read.tells st.read.upto.walk (m - 1) header here, e))
 
-  pub file_begins : word_in image row.head SECONDARY_TYPE ≢ ST_DIR → IsInExts image store n row.head (row.head ∷ []) row.head (word_in image row.head EXTENSION)
+  pub file_begins : word_in image header.head SECONDARY_TYPE ≢ ST_DIR
+      → IsInExts image store n header.head (header.head ∷ []) header.head (word_in image header.head EXTENSION)
   file_begins e =
-      enter_exts image store n row.head st (subst (λ n. FileAt image st.walk n row.head) node
-      (file_here image store st.walk st.read.tells st.read.upto.walk (m - 1) row here e))
+      enter_exts image store n header.head st (subst (λ n. FileAt image st.walk n header.head) node
+      (file_here image store st.walk st.read.tells st.read.upto.walk (m - 1) header here e))
 
 -- behind the last node all is read
-pub all_read : (image : List ℕ) (store : Store) (n : ℕ) → n ≡ suc (length store.rows) → IsAtNode image store n → IsRead image store
+pub all_read : (image : List ℕ) (store : StoreValue) (n : ℕ) → n ≡ suc (length store.headers) → IsAtNode image store n → IsRead image store
 all_read image store n e st = record {
   walk = st.walk;
   read = record {
     tells = st.read.tells;
     started = st.read.started ∙ e;
     is_walk = st.read.upto.walk;
-    whole = let c : length store.rows ≡ heads st.walk = st.read.tells.lists.count in end_all image st.walk n (omega arith) st.read.upto;
+    whole = let c : length store.headers ≡ heads st.walk = st.read.tells.headers.count in end_all image st.walk n (omega arith) st.read.upto;
   };
 }

@@ -12,7 +12,7 @@ use Rattle.adf_volume.proofs.WalkOrder.{dir_number}
 use Rattle.adf_volume.proofs.Walks.{number_of}
 use Rattle.adf_check.specs.Cursor.{Cursor}
 use Rattle.adf_check.specs.Reading.{HasRead, HasTable, IsAtNode, IsInChain}
-use Rattle.adf_check.specs.Store.{Store, StoreMatches, data_file, ext_file}
+use Rattle.adf_check.specs.Store.{StoreValue, StoreMatches, data_file, ext_file}
 use Rattle.adf_check.specs.Image.{IsBegun}
 use Rattle.adf_check.specs.Owners.{is_part, owned_count}
 use Rattle.adf_check.proofs.WalkLengths.{heads_within, picked_within}
@@ -21,7 +21,7 @@ use Rattle.adf_check.proofs.WalkLengths.{heads_within, picked_within}
 pub many_blocks : (image : List ℕ) → IsBegun image → 4 ≤ blocks image
 many_blocks image begun = size_low (blocks image) begun.0.1
 
-module _ {image : List ℕ} {store : Store} (begun : IsBegun image) (used : store.used ≡ owned_count store.owners) where
+module _ {image : List ℕ} {store : StoreValue} (begun : IsBegun image) (used : store.used ≡ owned_count store.owners) where
   -- a walk has no more members than there are blocks
   walk_short : {w : List (Role × ℕ)} → StoreMatches image store w → length w ≤ MOST_BLOCKS
   walk_short {w = w} tells =
@@ -45,8 +45,8 @@ module _ {image : List ℕ} {store : Store} (begun : IsBegun image) (used : stor
   parent_short {p = p} {up = up} st = omega (arith, heads_short st.read.tells, dir_number image st.walk p up st.read.upto.walk st.dir)
 
   -- the number of a header that is due is short
-  pub entry_short : {p up s a b : ℕ} {seen : List ℕ → Type 0} → IsInChain image store p up s a b seen → length store.rows + 1 < 2 ^ 32
-  entry_short st = omega (arith, heads_short st.read.tells, st.read.tells.lists.count)
+  pub entry_short : {p up s a b : ℕ} {seen : List ℕ → Type 0} → IsInChain image store p up s a b seen → length store.headers + 1 < 2 ^ 32
+  entry_short st = omega (arith, heads_short st.read.tells, st.read.tells.headers.count)
 
   module _ {w : List (Role × ℕ)} {at : Cursor} {n h : ℕ} {table : List ℕ} (read : HasRead image store w at) (holds : HasTable image w n h table) where
     -- the number of a file is short

@@ -25,8 +25,8 @@ use Rattle.adf_check.specs.Cursor.{IsUpTo}
 use Rattle.adf_check.specs.Cursor.Cursor.{BeforePage, BeforeRole}
 use Rattle.adf_check.specs.Image.{IsBegun}
 use Rattle.adf_check.specs.Pages.{AreListed, index_of_map_ext, index_of_page}
-use Rattle.adf_check.specs.Reading.{IsAtNode, IsAtPage, IsBeforePage, block_of_page, map_ext_block}
-use Rattle.adf_check.specs.Store.{Store, owner_at}
+use Rattle.adf_check.specs.Reading.{IsAtNode, IsAtPage, IsBeforePage, block_of_page, block_of_map_ext}
+use Rattle.adf_check.specs.Store.{StoreValue, owner_at}
 use Rattle.adf_check.proofs.ClaimSteps.{IsNamed, IsStored, form_fault, read_one}
 use Rattle.adf_check.proofs.CursorMoves.{moved, end_all_pages}
 
@@ -46,7 +46,7 @@ no_ext_names image w k a f g h =
           ((k - 25) % 127, inr ((k - 25) / 127, g ((k - 25) / 127) (omega arith) (omega arith), omega arith, omega arith))
     ]
 
-pub same_holder : (image : List ℕ) (store : Store) (k a : ℕ) → IsBeforePage image store k a → (25 ≤ k → 0 < (k - 25) % 127) → IsAtPage image store k a
+pub same_holder : (image : List ℕ) (store : StoreValue) (k a : ℕ) → IsBeforePage image store k a → (25 ≤ k → 0 < (k - 25) % 127) → IsAtPage image store k a
 same_holder image store k a st h =
     let x = no_ext_names image st.walk k a st.at_root st.at_ext h in
     let z : k + (k + 101) / 127 ≡ k + (k + 102) / 127 =
@@ -59,14 +59,14 @@ same_holder image store k a st h =
     }
 
 -- behind the last page
-pub pages_end : (image : List ℕ) (store : Store) (a : ℕ) → IsBeforePage image store (pages_needed (blocks image)) a → IsAtNode image store 0
+pub pages_end : (image : List ℕ) (store : StoreValue) (a : ℕ) → IsBeforePage image store (pages_needed (blocks image)) a → IsAtNode image store 0
 pages_end image store a st = record {
   walk = st.walk;
   read = moved st.read refl (end_all_pages image st.walk st.read.upto);
 }
 
 -- pages by the words alone
-map_ext_is : (image : List ℕ) (w : List (Role × ℕ)) (j a : ℕ) → IsWalk image w → Has w (MapExt j) a → map_ext_block image j ≡ a
+map_ext_is : (image : List ℕ) (w : List (Role × ℕ)) (j a : ℕ) → IsWalk image w → Has w (MapExt j) a → block_of_map_ext image j ≡ a
 map_ext_is image w zero a v h = (kept image v (MapExt 0) a h).1
 map_ext_is image w (suc j) a v h = let k = (kept image v (MapExt (suc j)) a h).1 in ap (λ a. word_in image a 127) (map_ext_is image w j k.0 v k.1) ∙ k.2
 
@@ -77,14 +77,14 @@ names_is image w k b a i v (inr x) e =
     let ej : (k - 25) / 127 ≡ x.0 = omega arith in
     let ei : (k - 25) % 127 ≡ i = omega arith in
     cond-false (nat_lt k 25) _ _ (le-ltb k 25 (omega arith))
-    ∙ ap (word_in image (map_ext_block image ((k - 25) / 127))) ei ∙ ap (λ j. word_in image (map_ext_block image j) i) ej
+    ∙ ap (word_in image (block_of_map_ext image ((k - 25) / 127))) ei ∙ ap (λ j. word_in image (block_of_map_ext image j) i) ej
     ∙ ap (λ a. word_in image a i) (map_ext_is image w x.0 a v x.1) ∙ e
 
 pub page_is : (image : List ℕ) (w : List (Role × ℕ)) (k b : ℕ) → IsWalk image w → Has w (Page k) b → block_of_page image k ≡ b
 page_is image w k b v h = let x = (kept image v (Page k) b h).1 in names_is image w k b x.0 x.1 v x.2 x.3
 
 -- page i comes next, and a word of block a names it as block b
-module _ {image : List ℕ} {store : Store} {i a b : ℕ} (begun : IsBegun image) (needed : i < pages_needed (blocks image)) (st : IsAtPage image store i a)
+module _ {image : List ℕ} {store : StoreValue} {i a b : ℕ} (begun : IsBegun image) (needed : i < pages_needed (blocks image)) (st : IsAtPage image store i a)
     (named : b ≡ word_in image a (index_of_page i)) where
   names : word_in image a st.index ≡ b
   names = ap (word_in image a) (sym (index_is image st.walk i a st.index st.named)) ∙ sym named
@@ -106,7 +106,7 @@ module _ {image : List ℕ} {store : Store} {i a b : ℕ} (begun : IsBegun image
     page_fault c f =
         form_fault page_named tt range free c (first_demanded b (page_form (block image b)) c (ap (λ x. first_cause (page_form x)) (sym is_block) ∙ f))
 
-    pub page_done : first_cause (page_form bytes) ≡ None → {new : Store} → IsStored store new (Page i) b → IsBeforePage image new (i + 1) a
+    pub page_done : first_cause (page_form bytes) ≡ None → {new : StoreValue} → IsStored store new (Page i) b → IsBeforePage image new (i + 1) a
     page_done f stored =
         let form : AllHold (page_demands image b) = all_demanded b (page_form (block image b)) (ap (λ x. first_cause (page_form x)) (sym is_block) ∙ f) in
         record {
@@ -127,7 +127,7 @@ module _ {image : List ℕ} {store : Store} {i a b : ℕ} (begun : IsBegun image
             subst (λ j. Has st.walk (MapExt j) a) e x.1
 
 -- the bitmap extension block whose first page is page i comes next, and a word of block a names it as block b
-module _ {image : List ℕ} {store : Store} {i a b : ℕ} (begun : IsBegun image) (needed : i < pages_needed (blocks image)) (past : 25 ≤ i)
+module _ {image : List ℕ} {store : StoreValue} {i a b : ℕ} (begun : IsBegun image) (needed : i < pages_needed (blocks image)) (past : 25 ≤ i)
     (begins : (i - 25) % 127 ≡ 0) (st : IsBeforePage image store i a) (named : b ≡ word_in image a (index_of_map_ext i)) where
   abbrev pub number : ℕ
   number = (i - 25) / 127
@@ -152,7 +152,7 @@ module _ {image : List ℕ} {store : Store} {i a b : ℕ} (begun : IsBegun image
         names = q.2;
       }
 
-  pub map_ext_done : InRange (length store.owners) b → owner_at store.owners b ≡ Free → {new : Store} → IsStored store new (MapExt number) b
+  pub map_ext_done : InRange (length store.owners) b → owner_at store.owners b ≡ Free → {new : StoreValue} → IsStored store new (MapExt number) b
       → IsAtPage image new i b
   map_ext_done range free stored = record {
     walk = (MapExt number, b) ∷ st.walk;

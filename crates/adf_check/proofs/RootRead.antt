@@ -12,7 +12,7 @@ use Rattle.adf_volume.specs.Walk.Role.{Root as TheRoot}
 use Rattle.adf_check.specs.Image.{IsBegun}
 use Rattle.adf_check.specs.Owners.{owned_count}
 use Rattle.adf_check.specs.Reading.{IsBeforePage}
-use Rattle.adf_check.specs.Store.{Store, StoreMatches, owner_at}
+use Rattle.adf_check.specs.Store.{StoreValue, StoreMatches, owner_at}
 use Rattle.adf_check.proofs.StoreSteps.{tells_more}
 use Rattle.adf_check.proofs.NumberBounds.{many_blocks}
 use Rattle.adf_check.proofs.CursorMoves.{begin}
@@ -26,8 +26,8 @@ abbrev pub owners_of : ℕ → ℕ → List Owner
 owners_of m root = set (new_owners m) root Root
 
 -- what is kept when the root alone was read
-abbrev pub first_store : List Owner → Store
-first_store owners = record { owners = owners; rows = []; starts = []; exts = []; datas = []; used = 1 }
+abbrev pub first_store : List Owner → StoreValue
+first_store owners = record { owners = owners; headers = []; starts = []; exts = []; datas = []; used = 1 }
 
 new_length : (m : ℕ) → length (new_owners m) ≡ 2 + m
 new_length m = let z : length {A = Owner} (replicate m Free) ≡ m = length-replicate m Free in omega arith
@@ -43,7 +43,7 @@ owners_free m root b l h ne = get_or-set_other (new_owners m) root b Root Free n
 
 -- nothing is read and nothing is claimed
 new_tells : (image : List ℕ) (m : ℕ) → blocks image ≡ 2 + m
-    → StoreMatches image (record { owners = new_owners m; rows = []; starts = []; exts = []; datas = []; used = 0 }) []
+    → StoreMatches image (record { owners = new_owners m; headers = []; starts = []; exts = []; datas = []; used = 0 }) []
 new_tells image m size = record {
   owns = record {
     size = new_length m ∙ sym size;
@@ -51,7 +51,7 @@ new_tells image m size = record {
     assigned = (λ q b h. absurd h);
     owned = (λ b lo hi h. absurd (h (new_free m b lo (omega arith))));
   };
-  lists = record { count = refl; row = (λ i p s j b h. absurd h) };
+  headers = record { count = refl; header = (λ i p s j b h. absurd h) };
   exts = refl;
   datas = refl;
   used = refl;
@@ -79,14 +79,14 @@ none_owned (suc m) = none_owned m
 
 pub begun_with_root : (image : List ℕ) (n : ℕ) (owners new : List Owner) → IsBegun image → n ≡ blocks image → owners ≡ new_owners (n - 2)
     → new ≡ set owners (root_of image) Root → owned_count new ≡ owned_count owners + 1
-    → IsBeforePage image (record { owners = new; rows = []; starts = []; exts = []; datas = []; used = owned_count new }) 0 (root_of image)
+    → IsBeforePage image (record { owners = new; headers = []; starts = []; exts = []; datas = []; used = owned_count new }) 0 (root_of image)
 begun_with_root image n owners new begun size e f count =
     let many : 4 ≤ blocks image = many_blocks image begun in
     let claimed : new ≡ owners_of (n - 2) (root_of image) = f ∙ ap (λ os. set os (root_of image) Root) e in
     let one : owned_count new ≡ 1 = count ∙ ap (λ os. owned_count os + 1) e ∙ ap (λ m. m + 1) (none_owned (n - 2)) in
     let kept : first_store (owners_of (n - 2) (root_of image))
-    ≡ record { owners = new; rows = []; starts = []; exts = []; datas = []; used = owned_count new } =
-    λ i. record { owners = (sym claimed) i; rows = []; starts = []; exts = []; datas = []; used = (sym one) i } in
+    ≡ record { owners = new; headers = []; starts = []; exts = []; datas = []; used = owned_count new } =
+    λ i. record { owners = (sym claimed) i; headers = []; starts = []; exts = []; datas = []; used = (sym one) i } in
     subst (λ s. IsBeforePage image s 0 (root_of image)) kept (root_read image (n - 2) (root_of image) (omega arith) refl (omega arith) (omega arith))
 
 pub root_is_free : (image : List ℕ) (n : ℕ) (owners : List Owner) → IsBegun image → n ≡ blocks image → owners ≡ new_owners (n - 2)

@@ -23,10 +23,10 @@ use Rattle.adf_volume.proofs.MemberFacts.{kept}
 use Rattle.adf_volume.proofs.FormDemands.{demanded}
 use Rattle.adf_volume.proofs.Lists.{all_append, at_below, at_some}
 use Rattle.adf_volume.proofs.Chains.{entry_is_at}
-use Rattle.adf_check.specs.declared.kept.KeptHeader.{KeptHeader as Kept}
-use Rattle.adf_check.specs.StoredVolume.{StoreStandsFor}
+use Rattle.adf_check.specs.declared.store.KeptHeader.{KeptHeader as Kept}
+use Rattle.adf_check.specs.StoreStands.{StoreStandsFor}
 use Rattle.adf_check.specs.Reading.{StoreFits}
-use Rattle.adf_check.specs.Store.{Store}
+use Rattle.adf_check.specs.Store.{StoreValue}
 use Rattle.adf_check.proofs.NodeSteps.{node_here}
 use Rattle.adf_check.specs.Image.{IsBegun}
 use Rattle.adf_check.specs.Rows.{BodyMatches, EntryMatches, RowMatches, row_body, row_in}
@@ -45,13 +45,13 @@ head_facts kind b own parent slot bytes h =
     }
 
 -- the block of a row holds a header
-pub row_is_head : {image : List ℕ} {store : Store} → StoreFits image store → (i : ℕ) (r : Kept) → At store.rows i r → IsHead (block image r.head)
-row_is_head {image = image} {store = store} st i r at =
+pub header_is_head : {image : List ℕ} {store : StoreValue} → StoreFits image store → (i : ℕ) (r : Kept) → At store.headers i r → IsHead (block image r.head)
+header_is_head {image = image} {store = store} st i r at =
     let x = node_here image store st.walk st.read.tells st.read.is_walk i r at in
     let k = (kept image st.read.is_walk (Head (suc i) x.0 x.1 x.2) r.head x.3).2 in
     head_facts (kind_of image) r.head r.head k.0 x.1 (block image r.head) k.2
 
-pub tells_begun : (image : List ℕ) (store : Store) → StoreFits image store → IsBegun image
+pub tells_begun : (image : List ℕ) (store : StoreValue) → StoreFits image store → IsBegun image
 tells_begun image store st = all_append (boot_demands image) (root_demands image (root_of image)) st.fits.boots st.fits.root
 
 -- the secondary type of a header tells whether its entry is a directory, and its words the size of a file
@@ -65,17 +65,17 @@ type_told image t l n h (File bytes) f =
     (is, rw is (sym f.2))
 
 -- what a row's header tells is what the tree has
-pub entry_told : (image : List ℕ) (store : Store) (t : Tree) (l : Layout) → StoreStandsFor image store t l → (n i : ℕ) (r : Kept) (told : Row) → n ≡ suc i
-    → At store.rows i r → told ≡ row_in r.parent (block image r.head) → RowMatches (Some told) (entry t.entries n)
+pub entry_told : (image : List ℕ) (store : StoreValue) (t : Tree) (l : Layout) → StoreStandsFor image store t l → (n i : ℕ) (r : Kept) (told : Row) → n ≡ suc i
+    → At store.headers i r → told ≡ row_in r.parent (block image r.head) → RowMatches (Some told) (entry t.entries n)
 unfolding name_of meta_of
-entry_told image store t l k n i r told e at_row is =
-    let lt : i < length store.rows = at_below store.rows i r at_row in
+entry_told image store t l k n i r told e at_header is =
+    let lt : i < length store.headers = at_below store.headers i r at_header in
     let at = at_some t.entries i (omega arith) in
     let entry_is : entry t.entries n ≡ Some at.0 = ap (entry t.entries) e ∙ (entry_is_at t (suc i) at.0).0 at.1 in
-    let h : at_node image l (suc i) ≡ r.head = k.rows.head i r at_row in
+    let h : at_node image l (suc i) ≡ r.head = k.headers.head i r at_header in
     let fits : EntryFits image t l (suc i) r.head at.0 = subst (λ b. EntryFits image t l (suc i) b at.0) h (k.fits.entries (suc i) at.0 at.1) in
     let tells : EntryMatches (row_in r.parent (block image r.head)) at.0 = record {
-      parent = sym (k.rows.parent i r at.0 at_row at.1);
+      parent = sym (k.headers.parent i r at.0 at_header at.1);
       name = sym fits.name;
       meta = sym fits.meta;
       body = (type_told image t l (suc i) r.head at.0.body fits.body).1;

@@ -22,7 +22,7 @@ use Rattle.adf_volume.proofs.FormDemands.{all_demanded, none_demanded}
 use Rattle.adf_volume.proofs.Lists.{all_append}
 use Rattle.adf_volume.proofs.Zeros.{all_zero}
 use Rattle.adf_check.specs.Image.{IsBegun}
-use Rattle.adf_check.specs.Store.{Store, owner_at, stored, entered}
+use Rattle.adf_check.specs.Store.{StoreValue, owner_at, stored, entered}
 use Rattle.adf_check.specs.Reading.{IsBeforePage, IsAtSlot, IsListed, IsMapped, IsRead, block_of_page}
 use Rattle.adf_check.proofs.RootRead.{first_store, owners_free, owners_of, root_read}
 use Rattle.adf_check.proofs.BitmapSteps.{agrees, lost, map_begins}
@@ -39,7 +39,7 @@ begins image size boot root =
     (all_demanded (root_of image) (root_form (block image (root_of image))) root)
 
 -- n slots are empty from slot s on
-pub empty_slots : (image : List ℕ) (store : Store) (p up s n : ℕ) → all_zero (λ i. word_in image up (FIRST_SLOT + (s + i))) n ≡ true
+pub empty_slots : (image : List ℕ) (store : StoreValue) (p up s n : ℕ) → all_zero (λ i. word_in image up (FIRST_SLOT + (s + i))) n ≡ true
     → IsAtSlot image store p up s → IsAtSlot image store p up (s + n)
 empty_slots image store p up s zero none st = let z : s ≡ s + 0 = omega arith in subst (IsAtSlot image store p up) z st
 empty_slots image store p up s (suc n) none st =
@@ -80,7 +80,7 @@ pub record IsSmall (image : List ℕ) (m root page : ℕ) : Type 0 where
   pub page_within : (2 ≤ page) × (page < 2 + m) × (page ≢ root)
 
 module _ {image : List ℕ} {m root page : ℕ} (is : IsSmall image m root page) where
-  abbrev pub page_store : Store
+  abbrev pub page_store : StoreValue
   page_store = stored (first_store (owners_of m root)) (Page 0) page
 
   page_is : page ≡ word_in image (root_of image) FIRST_PAGE
@@ -114,21 +114,21 @@ module _ {image : List ℕ} {m root page : ℕ} (is : IsSmall image m root page)
     bit_free : IsTrue (bit_is image page b) ↔ (bit_and (word_in image page (1 + ((b - 2) % PAGE_BITS) / 32)) (2 ^ (((b - 2) % PAGE_BITS) % 32)) ≢ 0)
     bit_free = Decides-not _ (Decides-eqb _ 0)
 
-    block_agrees : {store : Store} → bit_is image page b ≡ is_free (owner_at store.owners b) → IsMapped image store b → IsMapped image store (suc b)
+    block_agrees : {store : StoreValue} → bit_is image page b ≡ is_free (owner_at store.owners b) → IsMapped image store b → IsMapped image store (suc b)
     block_agrees {store = store} e st =
         agrees (bit_is image page b) inside listed (page_at is.one) bit_free st
         (subst (λ t. IsTrue t ↔ (owner_at store.owners b ≡ Free)) (sym e) (free_owner (owner_at store.owners b)))
 
-    block_lost : {store : Store} → bit_is image page b ≡ false → is_free (owner_at store.owners b) ≡ true → IsMapped image store b
+    block_lost : {store : StoreValue} → bit_is image page b ≡ false → is_free (owner_at store.owners b) ≡ true → IsMapped image store b
         → FirstFault image b LostBlock
     block_lost {store = store} e f st =
         lost (bit_is image page b) inside listed (page_at is.one) bit_free st is.begun e ((free_owner (owner_at store.owners b)).0 f)
 
-  agreeing : {store : Store} (n : ℕ) → n ≤ m → Agree image store.owners page n → IsRead image store → IsMapped image store (2 + n)
+  agreeing : {store : StoreValue} (n : ℕ) → n ≤ m → Agree image store.owners page n → IsRead image store → IsMapped image store (2 + n)
   agreeing {store = store} zero few h st = map_begins image store st
   agreeing {store = store} (suc n) few h st =
       let z : suc (2 + n) ≡ 2 + suc n = omega arith in
       subst (IsMapped image store) z (block_agrees (2 + n) (omega arith) h.0 (agreeing n (omega arith) h.1 st))
 
-  pub small_lost : {store : Store} (n : ℕ) → n < m → Loses image store.owners page n → IsRead image store → FirstFault image (2 + n) LostBlock
+  pub small_lost : {store : StoreValue} (n : ℕ) → n < m → Loses image store.owners page n → IsRead image store → FirstFault image (2 + n) LostBlock
   small_lost n few h st = block_lost (2 + n) (omega arith) h.1 h.2 (agreeing n (omega arith) h.0 st)

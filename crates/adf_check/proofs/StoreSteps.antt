@@ -10,8 +10,9 @@ use Rattle.adf_volume.specs.Walk.{Role, first, second, Has, head_count, heads, I
 use Rattle.adf_volume.specs.Walk.Role.{Root, Head}
 use Rattle.adf_volume.specs.LayoutRoles.{owner_of}
 use Rattle.adf_volume.proofs.Lists.{at_new, at_old, at_below, snoc_length}
-use Rattle.adf_check.specs.declared.kept.KeptHeader.{KeptHeader}
-use Rattle.adf_check.specs.Store.{Store, owner_at, push_row, push_block, ext_file, data_file, is_below, blocks_before, stored, Owns, Rows, StoreMatches}
+use Rattle.adf_check.specs.declared.store.KeptHeader.{KeptHeader}
+use Rattle.adf_check.specs.Store.{StoreValue, Owns, KeepsHeaders, StoreMatches}
+use Rattle.adf_check.specs.Store.{owner_at, push_header, push_block, ext_file, data_file, is_below, blocks_before, stored}
 use Rattle.adf_volume.specs.Made.{picked}
 use Rattle.adf_check.proofs.FileBlocks.{TellsFile, data_tells, ext_tells, not_below}
 
@@ -57,38 +58,38 @@ module _ (image : List ℕ) (owners : List Owner) (w : List (Role × ℕ)) (t : 
       }
 
 -- the rows, one member of a walk more; a header has the next number
-module _ (rows : List KeptHeader) (w : List (Role × ℕ)) (t : Rows rows w) where
-  no_row : (r : Role) (b : ℕ) → ((n p s j : ℕ) → second r ≡ second (Head n p s j) → ⊥) → head_count r (heads w) ≡ heads w → Rows rows ((r, b) ∷ w)
-  no_row r b none c = record {
+module _ (headers : List KeptHeader) (w : List (Role × ℕ)) (t : KeepsHeaders headers w) where
+  no_header : (r : Role) (b : ℕ) → ((n p s j : ℕ) → second r ≡ second (Head n p s j) → ⊥) → head_count r (heads w) ≡ heads w → KeepsHeaders headers ((r, b) ∷ w)
+  no_header r b none c = record {
     count = t.count ∙ sym c;
-    row = (λ i p s j d h. elim h [
+    header = (λ i p s j d h. elim h [
       | inl y ↦ absurd (none (suc i) p s j (ap second y.0))
-      | inr y ↦ t.row i p s j d y
+      | inr y ↦ t.header i p s j d y
     ]);
   }
 
-  pub rows_more : (r : Role) (b : ℕ) → ((n p s j : ℕ) → r ≡ Head n p s j → n ≡ suc (heads w)) → Rows (push_row r b rows) ((r, b) ∷ w)
-  rows_more (Head n p s j) b f = record {
-    count = snoc_length rows (record { parent = p; head = b }) ∙ ap suc t.count;
-    row = (λ i p' s' j' b' h. elim h [
+  pub headers_more : (r : Role) (b : ℕ) → ((n p s j : ℕ) → r ≡ Head n p s j → n ≡ suc (heads w)) → KeepsHeaders (push_header r b headers) ((r, b) ∷ w)
+  headers_more (Head n p s j) b f = record {
+    count = snoc_length headers (record { parent = p; head = b }) ∙ ap suc t.count;
+    header = (λ i p' s' j' b' h. elim h [
       | inl y ↦
           let m : n ≡ suc i = cc in
           let q : p ≡ p' = cc in
           let e : n ≡ suc (heads w) = f n p s j refl in
           let z : record { parent = p; head = b } ≡ record { parent = p'; head = b' } = row_same p b p' b' q y.1 in
-          subst (At (rows ++ record { parent = p; head = b } ∷ []) i) z (at_new rows (record { parent = p; head = b }) i (omega arith))
-      | inr y ↦ at_old rows (record { parent = p; head = b } ∷ []) i (record { parent = p'; head = b' }) (t.row i p' s' j' b' y)
+          subst (At (headers ++ record { parent = p; head = b } ∷ []) i) z (at_new headers (record { parent = p; head = b }) i (omega arith))
+      | inr y ↦ at_old headers (record { parent = p; head = b } ∷ []) i (record { parent = p'; head = b' }) (t.header i p' s' j' b' y)
     ]);
   }
-  rows_more r b f = no_row r b (λ n p s j e. omega (arith, e)) refl
+  headers_more r b f = no_header r b (λ n p s j e. omega (arith, e)) refl
 
 -- one member of a walk more
-pub tells_more : (image : List ℕ) (store : Store) (w : List (Role × ℕ)) (r : Role) (b : ℕ) → ((n p s j : ℕ) → r ≡ Head n p s j → n ≡ suc (heads w))
+pub tells_more : (image : List ℕ) (store : StoreValue) (w : List (Role × ℕ)) (r : Role) (b : ℕ) → ((n p s j : ℕ) → r ≡ Head n p s j → n ≡ suc (heads w))
     → length store.starts ≤ first r → StoreMatches image store w → 2 ≤ b → b < blocks image → owner_at store.owners b ≡ Free
     → StoreMatches image (stored store r b) ((r, b) ∷ w)
 tells_more image store w r b f l t lo hi h = record {
   owns = owns_more image store.owners w t.owns r b lo hi h;
-  lists = rows_more store.rows w t.lists r b f;
+  headers = headers_more store.headers w t.headers r b f;
   exts = ap (push_block ext_file r b) t.exts;
   datas = ap (push_block data_file r b) t.datas;
   used = ap suc t.used;

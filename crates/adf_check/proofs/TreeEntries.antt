@@ -10,17 +10,17 @@ use Rattle.adf_tree.specs.Tree.{IsTree, Tree, entry, with_last, IsLast, MayAdd}
 use Rattle.adf_tree.proofs.TreePrefixes.{is_next}
 use Rattle.adf_volume.proofs.Lists.{at_index_or, at_some}
 use Rattle.adf_volume.proofs.Chains.{entry_is_at}
-use Rattle.adf_check.specs.Pieces.{bytes_in, bytes_of}
-use Rattle.adf_check.specs.Rebuild.{body_of}
+use Rattle.adf_check.specs.Pieces.{body_bytes, bytes_of}
+use Rattle.adf_check.specs.Rebuild.{body_with}
 use Rattle.adf_check.specs.Rows.{RowMatches}
 use Rattle.adf_check.specs.declared.row.Row.{Row}
 
-body_back : (body : Body) → body_of (bytes_in body) ≡ body
+body_back : (body : Body) → body_with (body_bytes body) ≡ body
 body_back Dir = refl
 body_back (File bytes) = refl
 
 -- what is told of an entry, with its bytes, is the entry
-pub entry_back : (r : Row) (body : Body) (x : Option Entry) → RowMatches (Some r) x → body ≡ body_of (bytes_of x)
+pub entry_back : (r : Row) (body : Body) (x : Option Entry) → RowMatches (Some r) x → body ≡ body_with (bytes_of x)
     → ◌≡◌ {A = Option Entry} (Some (record { parent = r.parent; name = r.name; meta = r.meta; body = body })) x
 entry_back r body None h b = absurd h
 entry_back r body (Some e) h b =

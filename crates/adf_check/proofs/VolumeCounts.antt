@@ -13,10 +13,10 @@ use Rattle.adf_volume.specs.Layout.{Layout, at_node, owned}
 use Rattle.adf_volume.specs.Lists.{At}
 use Rattle.adf_volume.specs.Walk.Role.{Head}
 use Rattle.adf_volume.proofs.MemberFacts.{in_range}
-use Rattle.adf_check.specs.declared.kept.KeptHeader.{KeptHeader}
-use Rattle.adf_check.specs.StoredVolume.{StoreStandsFor}
+use Rattle.adf_check.specs.declared.store.KeptHeader.{KeptHeader}
+use Rattle.adf_check.specs.StoreStands.{StoreStandsFor}
 use Rattle.adf_check.specs.Reading.{StoreFits}
-use Rattle.adf_check.specs.Store.{Store}
+use Rattle.adf_check.specs.Store.{StoreValue}
 use Rattle.adf_check.proofs.NodeSteps.{node_here}
 use Rattle.adf_check.proofs.NumberBounds.{many_blocks}
 use Rattle.adf_check.proofs.RowLaws.{tells_begun, type_told}
@@ -25,14 +25,14 @@ use Rattle.adf_check.specs.Volumes.{counts_of, is_dir_at, is_directory}
 use Rattle.adf_check.specs.declared.checked.Counts.{Counts}
 
 -- the headers of rows are blocks of the image
-pub row_inside : {image : List ℕ} {store : Store} → StoreFits image store → (i : ℕ) (r : KeptHeader) → At store.rows i r → r.head < blocks image
-row_inside {image = image} {store = store} st i r at =
+pub header_inside : {image : List ℕ} {store : StoreValue} → StoreFits image store → (i : ℕ) (r : KeptHeader) → At store.headers i r → r.head < blocks image
+header_inside {image = image} {store = store} st i r at =
     let x = node_here image store st.walk st.read.tells st.read.is_walk i r at in
     (in_range image st.read.is_walk (many_blocks image (tells_begun image store st)) (Head (suc i) x.0 x.1 x.2) r.head x.3).1
 
-pub rows_inside : (image : List ℕ) (store : Store) → StoreFits image store → (i : ℕ) (d : KeptHeader) → i < length store.rows
-    → (get_or store.rows i d).head < blocks image
-rows_inside image store st i d lt = row_inside st i (get_or store.rows i d) (at_or store.rows i d lt)
+pub headers_inside : (image : List ℕ) (store : StoreValue) → StoreFits image store → (i : ℕ) (d : KeptHeader) → i < length store.headers
+    → (get_or store.headers i d).head < blocks image
+headers_inside image store st i d lt = header_inside st i (get_or store.headers i d) (at_or store.headers i d lt)
 
 -- two lists of one length whose members agree have one count
 same_count : {X Y : Type 0} (f : X → Bool) (g : Y → Bool) (xs : List X) (ys : List Y) → length xs ≡ length ys
@@ -53,23 +53,23 @@ others es all dirs a d =
     omega (arith, length-filter_both is_directory file (λ _. refl) es, length-filter is_directory es, length-filter file es)
 
 -- the directories of the rows are those of the tree
-pub dirs_are : (image : List ℕ) (store : Store) (t : Tree) (l : Layout) → StoreStandsFor image store t l
-    → count_by (is_dir_at image) store.rows ≡ count_by is_directory t.entries
-dirs_are image store t l k = same_count (is_dir_at image) is_directory store.rows t.entries k.rows.count (λ i r e at_row at_entry.
-    let h : at_node image l (suc i) ≡ r.head = k.rows.head i r at_row in
+pub dirs_are : (image : List ℕ) (store : StoreValue) (t : Tree) (l : Layout) → StoreStandsFor image store t l
+    → count_by (is_dir_at image) store.headers ≡ count_by is_directory t.entries
+dirs_are image store t l k = same_count (is_dir_at image) is_directory store.headers t.entries k.headers.count (λ i r e at_header at_entry.
+    let h : at_node image l (suc i) ≡ r.head = k.headers.head i r at_header in
     subst (λ b. (word_in image b SECONDARY_TYPE == ST_DIR)
     ≡ is_directory e) h (type_told image t l (suc i) (at_node image l (suc i)) e.body (k.fits.entries (suc i) e at_entry).body).0)
 
 -- the numbers of a volume are those of the tree and the layout that it stands for
-pub counts_are : (image : List ℕ) (store : Store) (t : Tree) (l : Layout) (kind : Kind) (n used dirs all : ℕ) → StoreStandsFor image store t l
+pub counts_are : (image : List ℕ) (store : StoreValue) (t : Tree) (l : Layout) (kind : Kind) (n used dirs all : ℕ) → StoreStandsFor image store t l
     → kind ≡ kind_of image
     → n ≡ blocks image → used ≡ store.used
-    → dirs ≡ count_by (is_dir_at image) store.rows → all ≡ length store.rows
+    → dirs ≡ count_by (is_dir_at image) store.headers → all ≡ length store.headers
     → ◌≡◌ {A = Counts} (record { kind = kind; blocks = n; used = used; free = n - 2 - used; dirs = dirs; files = all - dirs }) (counts_of image t l)
 counts_are image store t l kind n used dirs all k ek en eu ed ea =
     let e1 : kind ≡ t.kind = ek ∙ sym k.fits.kind in
     let e2 : used ≡ length (owned image l) = eu ∙ k.used in
     let e3 : n - 2 - used ≡ blocks image - 2 - length (owned image l) = omega arith in
     let e4 : dirs ≡ count_by is_directory t.entries = ed ∙ dirs_are image store t l k in
-    let e5 : all - dirs ≡ count_by (λ e. not (is_directory e)) t.entries = others t.entries all dirs (ea ∙ k.rows.count) e4 in
+    let e5 : all - dirs ≡ count_by (λ e. not (is_directory e)) t.entries = others t.entries all dirs (ea ∙ k.headers.count) e4 in
     λ i. record { kind = e1 i; blocks = en i; used = e2 i; free = e3 i; dirs = e4 i; files = e5 i }

@@ -1,7 +1,8 @@
 -- A place in the order of roles, up to which a walk has all that it asks for.
 -- Letters: w a walk; r a role; k the number of a page; n a node; x, y, z the three numbers of a place.
-use Rattle.std.specs.Prelude.{◌≡◌, ℕ, List, ◌+◌, ◌/◌, ◌<◌, ◌≤◌}
+use Rattle.std.specs.Prelude.{◌≡◌, ℕ, List, ◌+◌, ◌-◌, ◌/◌, ◌<◌, ◌≤◌}
 use Rattle.std.proofs.Common.{suc}
+use Rattle.adf_blocks.specs.declared.layout.TheConstants.{MAP_EXT_PAGES, ROOT_PAGES}
 use Rattle.adf_volume.specs.Walk.{Role, first, second, third, Has, Asks, Lacks, IsWalk}
 
 -- where a reader is: before page k and the bitmap extension block that it may begin, before node n, at the beginning of node n, or before a role
@@ -11,26 +12,26 @@ pub data Cursor : Type 0 where
   InNode : (n : ℕ) → Cursor
   BeforeRole : (r : Role) → Cursor
 
--- its three numbers
-abbrev pub first_of : Cursor → ℕ
-first_of (BeforePage k) = 0
-first_of (BeforeNode n) = suc n
-first_of (InNode n) = suc n
-first_of (BeforeRole r) = first r
+-- the first number of a reader's place in the order of roles
+abbrev pub first_number : Cursor → ℕ
+first_number (BeforePage k) = 0
+first_number (BeforeNode n) = suc n
+first_number (InNode n) = suc n
+first_number (BeforeRole r) = first r
 
--- the second number of a reader's place in the order of roles
-abbrev pub second_of : Cursor → ℕ
-second_of (BeforePage k) = 1
-second_of (BeforeNode n) = 0
-second_of (InNode n) = 0
-second_of (BeforeRole r) = second r
+-- the second number of it
+abbrev pub second_number : Cursor → ℕ
+second_number (BeforePage k) = 1
+second_number (BeforeNode n) = 0
+second_number (InNode n) = 0
+second_number (BeforeRole r) = second r
 
 -- the third number of it
-abbrev pub third_of : Cursor → ℕ
-third_of (BeforePage k) = k + (k + 101) / 127
-third_of (BeforeNode n) = 0
-third_of (InNode n) = 0
-third_of (BeforeRole r) = third r
+abbrev pub third_number : Cursor → ℕ
+third_number (BeforePage k) = k + (k + (MAP_EXT_PAGES - ROOT_PAGES - 1)) / MAP_EXT_PAGES
+third_number (BeforeNode n) = 0
+third_number (InNode n) = 0
+third_number (BeforeRole r) = third r
 
 -- how many nodes have been begun
 abbrev pub nodes_begun : Cursor → ℕ

@@ -2,8 +2,9 @@
 pub mod Store
 pub mod Cursor
 pub mod Reading
+pub mod Progress
 -- what its answer stands for
-pub mod StoredVolume
+pub mod StoreStands
 pub mod Volumes
 -- faults and claims
 pub mod Fault
@@ -13,7 +14,6 @@ pub mod Claims
 -- what is read
 pub mod Start
 pub mod Image
-pub mod Found
 pub mod Pages
 pub mod Datas
 -- what is told

@@ -29,11 +29,11 @@ abbrev pub pieces_at : List ℕ → Tree → Layout → ℕ → Option (List (Li
 pieces_at image t l n = pieces_of image t.kind (datas_of l n) (entry t.entries n)
 
 -- the bytes of a file, none of a directory
-abbrev pub bytes_in : Body → Option (List ℕ)
-bytes_in Dir = None
-bytes_in (File bytes) = Some bytes
+abbrev pub body_bytes : Body → Option (List ℕ)
+body_bytes Dir = None
+body_bytes (File bytes) = Some bytes
 
 -- the bytes of an entry that is a file
 abbrev pub bytes_of : Option Entry → Option (List ℕ)
 bytes_of None = None
-bytes_of (Some e) = bytes_in e.body
+bytes_of (Some e) = body_bytes e.body

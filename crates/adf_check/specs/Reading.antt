@@ -1,10 +1,11 @@
 -- The states of a reader that goes along the order of roles. Each says which walk the reader has done, and where in the order it is.
 -- Letters: w a walk; r a role; a a block whose word names block b next; n a node, h its header; p a directory's node, up its block; s a slot;
 -- j a place in a chain, or the number of a bitmap extension block; k the number of a page or of a data block.
-use Rattle.std.specs.Prelude.{◌≡◌, ℕ, List, ◌+◌, ◌-◌, ◌*◌, ◌/◌, ◌%◌, ◌<◌, ◌≤◌, cond, nat_lt, length}
+use Rattle.std.specs.Prelude.{◌≡◌, ℕ, List, ◌+◌, ◌-◌, ◌*◌, ◌/◌, ◌%◌, ◌<◌, ◌≤◌, cond, nat_lt, length, true}
 use Rattle.std.proofs.Common.{zero, suc}
 use Rattle.adf_blocks.specs.declared.layout.TheConstants.{EXTENSION, FIRST_MAP_EXT, FIRST_PAGE, FIRST_SLOT, MAP_EXT_NEXT, MAP_EXT_PAGES, NEXT_IN_CHAIN}
 use Rattle.adf_blocks.specs.declared.layout.TheConstants.{ROOT_PAGES}
+use Rattle.adf_tree.specs.NameSet.{has, Names}
 use Rattle.adf_tree.specs.Texts.{uppers}
 use Rattle.adf_volume.specs.Lists.{At}
 use Rattle.adf_volume.specs.Image.{word_in, root_of, name_of}
@@ -13,27 +14,27 @@ use Rattle.adf_volume.specs.Walk.{Role, Has, heads, DirAt, FileAt, MemberAt, Nam
 use Rattle.adf_volume.specs.Walk.Role.{Page, MapExt, Head, Ext, Data}
 use Rattle.adf_volume.specs.Fits.{Fits}
 use Rattle.adf_volume.specs.Made.{tree_in, layout_in}
-use Rattle.adf_check.specs.Store.{Store, StoreMatches}
-use Rattle.adf_check.specs.Cursor.{Cursor, first_of, second_of, third_of, nodes_begun, IsUpTo}
+use Rattle.adf_check.specs.Store.{StoreValue, StoreMatches}
+use Rattle.adf_check.specs.Cursor.{Cursor, first_number, second_number, third_number, nodes_begun, IsUpTo}
 use Rattle.adf_check.specs.Cursor.Cursor.{BeforePage, BeforeNode, InNode, BeforeRole}
 
 -- the walk has all that comes before the place and nothing behind it, and what is kept tells of it
-pub record HasRead (image : List ℕ) (store : Store) (w : List (Role × ℕ)) (at : Cursor) : Type 0 where
+pub record HasRead (image : List ℕ) (store : StoreValue) (w : List (Role × ℕ)) (at : Cursor) : Type 0 where
   pub tells : StoreMatches image store w
   pub started : length store.starts ≡ nodes_begun at
-  pub upto : IsUpTo image w (first_of at) (second_of at) (third_of at)
+  pub upto : IsUpTo image w (first_number at) (second_number at) (third_number at)
 
 -- the reader is at a place
-pub record IsAt (image : List ℕ) (store : Store) (at : Cursor) : Type 0 where
+pub record IsAt (image : List ℕ) (store : StoreValue) (at : Cursor) : Type 0 where
   pub walk : List (Role × ℕ)
   pub read : HasRead image store walk at
 
 -- the nodes below n have been read
-abbrev pub IsAtNode : List ℕ → Store → ℕ → Type 0
+abbrev pub IsAtNode : List ℕ → StoreValue → ℕ → Type 0
 IsAtNode image store n = IsAt image store (BeforeNode n)
 
 -- node n has been begun, and nothing of it has been read
-abbrev pub IsInNode : List ℕ → Store → ℕ → Type 0
+abbrev pub IsInNode : List ℕ → StoreValue → ℕ → Type 0
 IsInNode image store n = IsAt image store (InNode n)
 
 -- the next header, at place j of slot s of directory p
@@ -41,7 +42,7 @@ abbrev pub next_head : List (Role × ℕ) → ℕ → ℕ → ℕ → Role
 next_head w p s j = Head (suc (heads w)) p s j
 
 -- everything up to slot s of directory p, whose block is up, has been read
-pub record IsAtSlot (image : List ℕ) (store : Store) (p up s : ℕ) : Type 0 where
+pub record IsAtSlot (image : List ℕ) (store : StoreValue) (p up s : ℕ) : Type 0 where
   pub walk : List (Role × ℕ)
   pub read : HasRead image store walk (BeforeRole (next_head walk p s 0))
   pub dir : DirAt image walk p up
@@ -56,8 +57,12 @@ pub record Sees (image : List ℕ) (w : List (Role × ℕ)) (p s : ℕ) (seen : 
   pub all : (m k c : ℕ) → Has w (Head m p s k) c → seen (uppers (name_of image c))
   pub only : (x : List ℕ) → seen x → (m k c : ℕ) × Has w (Head m p s k) c × (uppers (name_of image c) ≡ x)
 
+-- the names in the set
+abbrev pub sees_of : Names → List ℕ → Type 0
+sees_of names x = has names x ≡ true
+
 -- in that slot's chain, a word of block a names block b next
-pub record IsInChain (image : List ℕ) (store : Store) (p up s a b : ℕ) (seen : List ℕ → Type 0) : Type 0 where
+pub record IsInChain (image : List ℕ) (store : StoreValue) (p up s a b : ℕ) (seen : List ℕ → Type 0) : Type 0 where
   pub walk : List (Role × ℕ)
   pub place : ℕ
   pub read : HasRead image store walk (BeforeRole (next_head walk p s place))
@@ -66,29 +71,29 @@ pub record IsInChain (image : List ℕ) (store : Store) (p up s a b : ℕ) (seen
   pub sees : Sees image walk p s seen
 
 -- the pages below k and the bitmap extension blocks that name them have been read; block a named the last of them, or is the root
-pub record IsBeforePage (image : List ℕ) (store : Store) (k a : ℕ) : Type 0 where
+pub record IsBeforePage (image : List ℕ) (store : StoreValue) (k a : ℕ) : Type 0 where
   pub walk : List (Role × ℕ)
   pub read : HasRead image store walk (BeforePage k)
   pub at_root : k ≤ ROOT_PAGES → a ≡ root_of image
   pub at_ext : (j : ℕ) → ROOT_PAGES + MAP_EXT_PAGES * j < k → k ≤ ROOT_PAGES + MAP_EXT_PAGES * suc j → Has walk (MapExt j) a
 
 -- everything up to page k has been read, and a word of block a names it
-pub record IsAtPage (image : List ℕ) (store : Store) (k a : ℕ) : Type 0 where
+pub record IsAtPage (image : List ℕ) (store : StoreValue) (k a : ℕ) : Type 0 where
   pub walk : List (Role × ℕ)
   pub read : HasRead image store walk (BeforeRole (Page k))
   pub index : ℕ
   pub named : NamesPage image walk k a index
 
 -- bitmap extension block j, by the words alone
-abbrev pub map_ext_block : List ℕ → ℕ → ℕ
-map_ext_block image zero = word_in image (root_of image) FIRST_MAP_EXT
-map_ext_block image (suc j) = word_in image (map_ext_block image j) MAP_EXT_NEXT
+abbrev pub block_of_map_ext : List ℕ → ℕ → ℕ
+block_of_map_ext image zero = word_in image (root_of image) FIRST_MAP_EXT
+block_of_map_ext image (suc j) = word_in image (block_of_map_ext image j) MAP_EXT_NEXT
 
 -- the block of page k, by the words alone
 abbrev pub block_of_page : List ℕ → ℕ → ℕ
 block_of_page image k =
     cond (nat_lt k ROOT_PAGES) (word_in image (root_of image) (FIRST_PAGE + k))
-    (word_in image (map_ext_block image ((k - ROOT_PAGES) / MAP_EXT_PAGES)) ((k - ROOT_PAGES) % MAP_EXT_PAGES))
+    (word_in image (block_of_map_ext image ((k - ROOT_PAGES) / MAP_EXT_PAGES)) ((k - ROOT_PAGES) % MAP_EXT_PAGES))
 
 -- the list has the blocks of pages 0 to k - 1
 pub record IsListed (image : List ℕ) (list : List ℕ) (k : ℕ) : Type 0 where
@@ -107,7 +112,7 @@ pub record HasTable (image : List ℕ) (w : List (Role × ℕ)) (n h : ℕ) (tab
   pub counted : length table ≡ suc (ext_count w n)
 
 -- the table has the extension blocks so far of file n, and a word of block a names block b next
-pub record IsInExts (image : List ℕ) (store : Store) (n h : ℕ) (table : List ℕ) (a b : ℕ) : Type 0 where
+pub record IsInExts (image : List ℕ) (store : StoreValue) (n h : ℕ) (table : List ℕ) (a b : ℕ) : Type 0 where
   pub walk : List (Role × ℕ)
   pub extra : ℕ
   pub read : HasRead image store walk (BeforeRole (Ext n (suc extra)))
@@ -116,32 +121,32 @@ pub record IsInExts (image : List ℕ) (store : Store) (n h : ℕ) (table : List
   pub named : NextExt image walk n h extra a b
 
 -- the table has all extension blocks of file n, of which k data blocks have been read
-pub record IsInDatas (image : List ℕ) (store : Store) (n h : ℕ) (table : List ℕ) (k : ℕ) : Type 0 where
+pub record IsInDatas (image : List ℕ) (store : StoreValue) (n h : ℕ) (table : List ℕ) (k : ℕ) : Type 0 where
   pub walk : List (Role × ℕ)
   pub read : HasRead image store walk (BeforeRole (Data n (suc k)))
   pub holds : HasTable image walk n h table
 
 -- nothing that the walk asks for is lacking, and what is kept tells of it
-pub record HasReadAll (image : List ℕ) (store : Store) (w : List (Role × ℕ)) : Type 0 where
+pub record HasReadAll (image : List ℕ) (store : StoreValue) (w : List (Role × ℕ)) : Type 0 where
   pub tells : StoreMatches image store w
-  pub started : length store.starts ≡ suc (length store.rows)
+  pub started : length store.starts ≡ suc (length store.headers)
   pub is_walk : IsWalk image w
   pub whole : IsWhole image w
 
 -- everything has been read
-pub record IsRead (image : List ℕ) (store : Store) : Type 0 where
+pub record IsRead (image : List ℕ) (store : StoreValue) : Type 0 where
   pub walk : List (Role × ℕ)
   pub read : HasReadAll image store walk
 
 -- everything has been read, and the bitmap agrees below block b
-pub record IsMapped (image : List ℕ) (store : Store) (b : ℕ) : Type 0 where
+pub record IsMapped (image : List ℕ) (store : StoreValue) (b : ℕ) : Type 0 where
   pub walk : List (Role × ℕ)
   pub read : HasReadAll image store walk
   pub low : 2 ≤ b
   pub agrees : AllHold (bitmap_demands image walk 2 (b - 2))
 
 -- what is kept tells of a whole walk whose tree and layout fit
-pub record StoreFits (image : List ℕ) (store : Store) : Type 0 where
+pub record StoreFits (image : List ℕ) (store : StoreValue) : Type 0 where
   pub walk : List (Role × ℕ)
   pub read : HasReadAll image store walk
   pub fits : Fits image (tree_in image walk) (layout_in walk)

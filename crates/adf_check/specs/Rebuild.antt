@@ -4,6 +4,6 @@ use Rattle.adf_tree.specs.declared.entry.Body.{Body}
 use Rattle.adf_tree.specs.declared.entry.Body.TheVariants.{Dir, File}
 
 -- the body with these bytes; a directory has none
-abbrev pub body_of : Option (List ℕ) → Body
-body_of None = Dir
-body_of (Some bytes) = File bytes
+abbrev pub body_with : Option (List ℕ) → Body
+body_with None = Dir
+body_with (Some bytes) = File bytes

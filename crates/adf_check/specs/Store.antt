@@ -1,4 +1,4 @@
--- What a reader keeps of what it has read: the owner of each block, a row for each header, and the blocks of files in two flat lists.
+-- What a reader keeps of what it has read: the owner of each block, a header for each entry, and the blocks of files in two flat lists.
 -- Letters: w a walk; r, q roles; b a block; n, m nodes; p a directory's node; s a slot; j a place in a chain; k the number of a page or of a part of a file.
 use Rattle.std.specs.Prelude.{◌≡◌, ◌≢◌, ℕ, Bool, false, Option, Some, None, List, [], ◌∷◌, ◌++◌, ◌<◌, ◌≤◌, cond, is_some, nat_lt, length, slice_index_or, set}
 use Rattle.std.proofs.Common.{suc}
@@ -10,26 +10,39 @@ use Rattle.adf_volume.specs.Walk.{Role, Has, heads}
 use Rattle.adf_volume.specs.Walk.Role.{Head, Ext, Data}
 use Rattle.adf_volume.specs.Made.{picked}
 use Rattle.adf_volume.specs.LayoutRoles.{owner_of}
-use Rattle.adf_check.specs.declared.kept.KeptHeader.{KeptHeader}
-use Rattle.adf_check.specs.declared.kept.Start.{Start}
+use Rattle.adf_check.specs.Owners.{owned_count}
+use Rattle.adf_check.specs.declared.store.KeptHeader.{KeptHeader}
+use Rattle.adf_check.specs.declared.store.NodeStart.{NodeStart}
+use Rattle.adf_check.specs.declared.store.Store.{Store}
 
--- the rows are of nodes 1, 2, .., the starts of nodes 0, 1, ..; so many blocks have an owner
-pub record Store : Type 0 where
+-- the value of a store: the headers are of nodes 1, 2, .., the starts of nodes 0, 1, ..; so many blocks have an owner
+pub record StoreValue : Type 0 where
   pub owners : List Owner
-  pub rows : List KeptHeader
-  pub starts : List Start
+  pub headers : List KeptHeader
+  pub starts : List NodeStart
   pub exts : List ℕ
   pub datas : List ℕ
   pub used : ℕ
+
+-- the value of a store as the code has it
+abbrev pub store_value : Store → StoreValue
+store_value s = record {
+  owners = s.owners;
+  headers = s.headers.items;
+  starts = s.starts.items;
+  exts = s.exts.items;
+  datas = s.datas.items;
+  used = owned_count s.owners;
+}
 
 -- the owner of block b
 abbrev pub owner_at : List Owner → ℕ → Owner
 owner_at owners b = slice_index_or owners b Free
 
--- the rows, one role more
-abbrev pub push_row : Role → ℕ → List KeptHeader → List KeptHeader
-push_row (Head n p s j) b rows = rows ++ record { parent = p; head = b } ∷ []
-push_row _ b rows = rows
+-- the headers, one role more
+abbrev pub push_header : Role → ℕ → List KeptHeader → List KeptHeader
+push_header (Head n p s j) b headers = headers ++ record { parent = p; head = b } ∷ []
+push_header _ b headers = headers
 
 -- the file that has the role as an extension block
 abbrev pub ext_file : Role → Option ℕ
@@ -59,10 +72,10 @@ abbrev pub blocks_before : (Role → Option ℕ) → List (Role × ℕ) → ℕ 
 blocks_before file w m = length (picked (λ r. is_below m (file r)) w)
 
 -- what is kept when block b was read in this role
-abbrev pub stored : Store → Role → ℕ → Store
+abbrev pub stored : StoreValue → Role → ℕ → StoreValue
 stored store r b = record {
   owners = set store.owners b (owner_of r);
-  rows = push_row r b store.rows;
+  headers = push_header r b store.headers;
   starts = store.starts;
   exts = push_block ext_file r b store.exts;
   datas = push_block data_file r b store.datas;
@@ -70,7 +83,7 @@ stored store r b = record {
 }
 
 -- what is kept when the next node is begun
-abbrev pub entered : Store → Store
+abbrev pub entered : StoreValue → StoreValue
 entered store = record store { starts = store.starts ++ record { exts = length store.exts; datas = length store.datas } ∷ [] }
 
 -- the table has the owner of each block of the walk, and no other
@@ -80,16 +93,16 @@ pub record Owns (image : List ℕ) (owners : List Owner) (w : List (Role × ℕ)
   pub assigned : (q : Role) (b : ℕ) → Has w q b → owner_at owners b ≡ owner_of q
   pub owned : (b : ℕ) → 2 ≤ b → b < blocks image → owner_at owners b ≢ Free → (q : Role) × Has w q b × (owner_at owners b ≡ owner_of q)
 
--- row i is the header of node i + 1
-pub record Rows (rows : List KeptHeader) (w : List (Role × ℕ)) : Type 0 where
-  pub count : length rows ≡ heads w
-  pub row : (i p s j b : ℕ) → Has w (Head (suc i) p s j) b → At rows i (record { parent = p; head = b })
+-- header i is that of node i + 1
+pub record KeepsHeaders (headers : List KeptHeader) (w : List (Role × ℕ)) : Type 0 where
+  pub count : length headers ≡ heads w
+  pub header : (i p s j b : ℕ) → Has w (Head (suc i) p s j) b → At headers i (record { parent = p; head = b })
 
 -- what is kept tells of the walk
-pub record StoreMatches (image : List ℕ) (store : Store) (w : List (Role × ℕ)) : Type 0 where
+pub record StoreMatches (image : List ℕ) (store : StoreValue) (w : List (Role × ℕ)) : Type 0 where
   pub owns : Owns image store.owners w
-  pub lists : Rows store.rows w
+  pub headers : KeepsHeaders store.headers w
   pub exts : store.exts ≡ file_blocks ext_file w
   pub datas : store.datas ≡ file_blocks data_file w
   pub used : store.used ≡ length w
-  pub starts : (m : ℕ) (x : Start) → At store.starts m x → (x.exts ≡ blocks_before ext_file w m) × (x.datas ≡ blocks_before data_file w m)
+  pub starts : (m : ℕ) (x : NodeStart) → At store.starts m x → (x.exts ≡ blocks_before ext_file w m) × (x.datas ≡ blocks_before data_file w m)

@@ -7,16 +7,16 @@ use Rattle.adf_tree.specs.Tree.{Tree, is_dir_body}
 use Rattle.adf_blocks.specs.Sizes.{blocks}
 use Rattle.adf_volume.specs.Image.{label_of, root_of, stamps_of, word_in}
 use Rattle.adf_volume.specs.Layout.{Layout, owned}
-use Rattle.adf_check.specs.declared.kept.KeptHeader.{KeptHeader}
-use Rattle.adf_check.specs.StoredVolume.{StoreStandsFor}
+use Rattle.adf_check.specs.declared.store.KeptHeader.{KeptHeader}
+use Rattle.adf_check.specs.StoreStands.{StoreStandsFor}
 use Rattle.adf_check.specs.Reading.{StoreFits}
-use Rattle.adf_check.specs.Store.{Store}
+use Rattle.adf_check.specs.Store.{StoreValue}
 use Rattle.adf_check.specs.declared.checked.Counts.{Counts}
 
 -- an image with what was read of it
 pub record Volume : Type 0 where
   pub image : List ℕ
-  pub store : Store
+  pub store : StoreValue
 
 -- the volume stands for this tree and layout: they fit its image, and what was read tells of them
 abbrev pub StandsFor : Volume → Tree → Layout → Type 0
@@ -43,6 +43,6 @@ counts_of image t l = record {
   files = count_by (λ e. not (is_directory e)) t.entries;
 }
 
--- whether the header at a row's block is that of a directory
+-- whether a kept header is that of a directory
 abbrev pub is_dir_at : List ℕ → KeptHeader → Bool
-is_dir_at image r = word_in image r.head SECONDARY_TYPE == ST_DIR
+is_dir_at image h = word_in image h.head SECONDARY_TYPE == ST_DIR

@@ -5,16 +5,14 @@ ghost use Rattle.std.specs.Prelude.{◌≡◌, ◌<◌, ◌≤◌, ◌+◌, ◌*
 ghost use Rattle.adf_blocks.specs.Sizes.{blocks, pages_needed};
 ghost use Rattle.adf_volume.specs.declared.owner.Owner.TheVariants.{Free};
 ghost use Rattle.adf_check.specs.Reading.{IsMapped, IsRead, StoreFits};
-ghost use Rattle.adf_check.specs.Store.{owner_at};
-ghost use Rattle.adf_check.specs.Found.{store_of};
-ghost use Rattle.adf_check.specs.Image.{IsBegun};
+ghost use Rattle.adf_check.specs.Store.{owner_at, store_value};
 ghost use Rattle.adf_check.specs.Pages.{AreListed, IsBitFault};
 
 use crate::fault::{Fault, fault_at};
-use crate::found::Found;
 use crate::image::Image;
 use crate::looks::Looks;
 use crate::owner_table::OwnerTable;
+use crate::store::Store;
 use adf_blocks::{Cause, PAGE_WORDS, Page};
 use std::sync::ledger::Ledger;
 
@@ -48,18 +46,17 @@ fn check_block(owners: &OwnerTable, b: u32, is_free: bool) -> Result<(), Fault>
 // Compares word `i` of the bitmap with the owners of its blocks.
 fn check_word<L: Ledger>(
     image: &Image<'_>,
-    found: &Found,
+    store: &Store,
     looks: &mut Looks<L>,
     pages: &[u32],
     i: u32,
 ) -> Result<(), Fault>
     requires paid { 0 < looks.old }
-    requires begun { IsBegun image.now }
     requires inside { 2 + 32 * i < blocks image.now }
     requires pages { AreListed image.now pages.now (pages_needed (blocks image.now)) }
-    requires state { IsMapped image.now (store_of found.now) (2 + 32 * i) }
+    requires state { IsMapped image.now (store_value store.now) (2 + 32 * i) }
     ensures looks { looks.old ≡ looks.new + 1 }
-    ensures state { OnOk result (IsMapped image.now (store_of found.now) (min (2 + 32 * (i + 1)) (blocks image.now))) }
+    ensures state { OnOk result (IsMapped image.now (store_value store.now) (min (2 + 32 * (i + 1)) (blocks image.now))) }
     ensures fault { IfErr result (λ f. IsTrueFault image.now f) }
 {
     let blocks = image.blocks();
@@ -67,11 +64,11 @@ fn check_word<L: Ledger>(
     let word = page.word(i as usize % PAGE_WORDS);
     let first = 2 + 32 * i;
     let len = (blocks - first).min(32);
-    if word == 0 && !found.owners.has_free(first, first + len) {
+    if word == 0 && !store.owners.has_free(first, first + len) {
         return Ok(());
     }
     for bit in 0..len {
-        check_block(&found.owners, first + bit, is_set(word, bit))?;
+        check_block(&store.owners, first + bit, is_set(word, bit))?;
     }
     Ok(())
 }
@@ -79,19 +76,19 @@ fn check_word<L: Ledger>(
 /// Compares the bitmap with the owners by ascending block.
 pub fn check_bitmap<L: Ledger>(
     image: &Image<'_>,
-    found: &Found,
+    store: &Store,
     looks: &mut Looks<L>,
     pages: &[u32],
 ) -> Result<(), Fault>
     requires paid { blocks image.now ≤ looks.old }
     requires pages { AreListed image.now pages.now (pages_needed (blocks image.now)) }
-    requires state { IsRead image.now (store_of found.now) }
-    ensures fits { OnOk result (StoreFits image.now (store_of found.now)) }
+    requires state { IsRead image.now (store_value store.now) }
+    ensures fits { OnOk result (StoreFits image.now (store_value store.now)) }
     ensures fault { IfErr result (λ f. IsTrueFault image.now f) }
 {
     let words = (image.blocks() - 2).div_ceil(32);
     for i in 0..words {
-        check_word(image, found, looks, pages, i)?;
+        check_word(image, store, looks, pages, i)?;
     }
     Ok(())
 }

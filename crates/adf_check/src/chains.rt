@@ -6,15 +6,15 @@ ghost use Rattle.std.specs.Prelude.{◌≡◌, ◌≢◌, ◌<◌, ◌+◌, ◌^
 ghost use Rattle.adf_blocks.specs.Sizes.{blocks};
 ghost use Rattle.adf_blocks.specs.declared.layout.TheConstants.{FIRST_SLOT};
 ghost use Rattle.adf_volume.specs.Image.{word_in};
-ghost use Rattle.adf_check.specs.Reading.{IsAtNode, IsAtSlot, IsInChain};
-ghost use Rattle.adf_check.specs.Found.{IsFurther, IsPaid, left, sees_of, store_of};
+ghost use Rattle.adf_check.specs.Reading.{IsAtNode, IsAtSlot, IsInChain, sees_of};
+ghost use Rattle.adf_check.specs.Progress.{IsFurther, IsPaid, left};
+ghost use Rattle.adf_check.specs.Store.{store_value};
 
 use crate::claims::claim_named;
 use crate::fault::{Fault, fault_at, no_memory};
-use crate::found::Found;
 use crate::image::Image;
-use crate::kept::KeptHeader;
 use crate::looks::Looks;
+use crate::store::{KeptHeader, Store};
 use adf_blocks::{Cause, Directory, SLOTS, read_head};
 use adf_tree::{NameSet, Node};
 use adf_volume::Owner;
@@ -29,7 +29,7 @@ struct Chain {
 }
 
 // What is kept of the header at block `head`, of an entry with this parent.
-fn kept_row(parent: Node, head: u32) -> KeptHeader
+fn kept_header(parent: Node, head: u32) -> KeptHeader
     requires { parent < 2 ^ 32 }
     ensures { result ≡ record { parent = parent; head = head } }
 {
@@ -42,7 +42,7 @@ fn kept_row(parent: Node, head: u32) -> KeptHeader
 // Claims and reads the header at block `b`, which a word of block `holder` names: the next one of its chain, or 0.
 fn read_header<L: Ledger>(
     image: &Image<'_>,
-    found: &mut Found,
+    store: &mut Store,
     looks: &mut Looks<L>,
     seen: &mut NameSet,
     chain: &Chain,
@@ -51,18 +51,18 @@ fn read_header<L: Ledger>(
 ) -> Result<u32, Fault>
     requires slot { chain.now.slot < SLOTS }
     requires some { b ≢ 0 }
-    requires state { IsInChain image.now (store_of found.old) chain.now.parent chain.now.up chain.now.slot holder b (sees_of seen.old) }
-    requires paid { IsPaid found.old looks.old 0 }
-    ensures state { IfOk result (λ next. IsInChain image.now (store_of found.new) chain.now.parent chain.now.up chain.now.slot b next (sees_of seen.new)) }
-    ensures paid { OnOk result (IsPaid found.new looks.new 0) }
-    ensures fewer { OnOk result (IsFurther found.old found.new) }
-    ensures less { OnOk result (left found.new < left found.old) }
+    requires state { IsInChain image.now (store_value store.old) chain.now.parent chain.now.up chain.now.slot holder b (sees_of seen.old) }
+    requires paid { IsPaid store.old looks.old 0 }
+    ensures state { IfOk result (λ next. IsInChain image.now (store_value store.new) chain.now.parent chain.now.up chain.now.slot b next (sees_of seen.new)) }
+    ensures paid { OnOk result (IsPaid store.new looks.new 0) }
+    ensures fewer { OnOk result (IsFurther store.old store.new) }
+    ensures less { OnOk result (left store.new < left store.old) }
     ensures inside { OnOk result (b < blocks image.now) }
     ensures fault { IfErr result (λ f. IsTrueFault image.now f) }
 {
     let kind = image.kind();
-    let owner = Owner::Head(Node(found.rows.len() + 1));
-    claim_named(&mut found.owners, holder, b, owner)?;
+    let owner = Owner::Head(Node(store.headers.len() + 1));
+    claim_named(&mut store.owners, holder, b, owner)?;
     let head = match read_head(image.look(b, looks), kind, b, chain.up, chain.slot) {
         Ok(head) => head,
         Err(cause) => return Err(fault_at(b, cause)),
@@ -72,7 +72,7 @@ fn read_header<L: Ledger>(
         Ok(false) => return Err(fault_at(b, Cause::SameName)),
         Err(_) => return Err(no_memory()),
     }
-    match found.rows.push(kept_row(chain.parent, b)) {
+    match store.headers.push(kept_header(chain.parent, b)) {
         Ok(()) => Ok(head.next()),
         Err(_) => Err(no_memory()),
     }
@@ -81,7 +81,7 @@ fn read_header<L: Ledger>(
 // Reads a chain to its end.
 fn read_chain<L: Ledger>(
     image: &Image<'_>,
-    found: &mut Found,
+    store: &mut Store,
     looks: &mut Looks<L>,
     seen: &mut NameSet,
     chain: &Chain,
@@ -89,19 +89,19 @@ fn read_chain<L: Ledger>(
 ) -> Result<(), Fault>
     requires slot { chain.now.slot < SLOTS }
     requires inside { chain.now.up < blocks image.now }
-    requires state { IsAtSlot image.now (store_of found.old) chain.now.parent chain.now.up chain.now.slot }
+    requires state { IsAtSlot image.now (store_value store.old) chain.now.parent chain.now.up chain.now.slot }
     requires named { first ≡ word_in image.now chain.now.up (FIRST_SLOT + chain.now.slot) }
-    requires paid { IsPaid found.old looks.old 0 }
-    ensures state { OnOk result (IsAtSlot image.now (store_of found.new) chain.now.parent chain.now.up (chain.now.slot + 1)) }
-    ensures paid { OnOk result (IsPaid found.new looks.new 0) }
-    ensures fewer { OnOk result (IsFurther found.old found.new) }
+    requires paid { IsPaid store.old looks.old 0 }
+    ensures state { OnOk result (IsAtSlot image.now (store_value store.new) chain.now.parent chain.now.up (chain.now.slot + 1)) }
+    ensures paid { OnOk result (IsPaid store.new looks.new 0) }
+    ensures fewer { OnOk result (IsFurther store.old store.new) }
     ensures fault { IfErr result (λ f. IsTrueFault image.now f) }
 {
     seen.clear();
     let mut holder = chain.up;
     let mut b = first;
     while b != 0 {
-        let next = read_header(image, found, looks, seen, chain, holder, b)?;
+        let next = read_header(image, store, looks, seen, chain, holder, b)?;
         holder = b;
         b = next;
     }
@@ -111,18 +111,18 @@ fn read_chain<L: Ledger>(
 /// Reads the slots of a directory, whose block is `up`.
 pub fn read_directory<L: Ledger>(
     image: &Image<'_>,
-    found: &mut Found,
+    store: &mut Store,
     looks: &mut Looks<L>,
     seen: &mut NameSet,
     parent: Node,
     up: u32,
 ) -> Result<(), Fault>
     requires inside { up < blocks image.now }
-    requires state { IsAtSlot image.now (store_of found.old) parent up 0 }
-    requires paid { IsPaid found.old looks.old 1 }
-    ensures state { OnOk result (IsAtNode image.now (store_of found.new) (parent + 1)) }
-    ensures paid { OnOk result (IsPaid found.new looks.new 0) }
-    ensures fewer { OnOk result (IsFurther found.old found.new) }
+    requires state { IsAtSlot image.now (store_value store.old) parent up 0 }
+    requires paid { IsPaid store.old looks.old 1 }
+    ensures state { OnOk result (IsAtNode image.now (store_value store.new) (parent + 1)) }
+    ensures paid { OnOk result (IsPaid store.new looks.new 0) }
+    ensures fewer { OnOk result (IsFurther store.old store.new) }
     ensures fault { IfErr result (λ f. IsTrueFault image.now f) }
 {
     let directory = Directory::over(image.look(up, looks));
@@ -133,7 +133,7 @@ pub fn read_directory<L: Ledger>(
         }
         read_chain(
             image,
-            found,
+            store,
             looks,
             seen,
             &Chain { parent, up, slot },

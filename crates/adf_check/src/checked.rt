@@ -8,18 +8,17 @@ ghost use Rattle.adf_blocks.specs.Sizes.{blocks};
 ghost use Rattle.adf_volume.specs.declared.owner.Owner.{Owner};
 ghost use Rattle.adf_volume.specs.Layout.{Layout, at_node, datas_of, owned};
 ghost use Rattle.adf_volume.specs.Lists.{In};
-ghost use Rattle.adf_check.specs.Found.{store_of};
+ghost use Rattle.adf_check.specs.Store.{store_value};
 ghost use Rattle.adf_check.specs.Pieces.{bytes_of, pieces_at};
 ghost use Rattle.adf_check.specs.Rows.{RowMatches};
 ghost use Rattle.adf_check.specs.Volumes.{IsChecked, StandsFor, counts_of, is_dir_at};
 
-use crate::found::Found;
 use crate::image::Image;
-use crate::kept::KeptHeader;
 use crate::lookup::{block_of, find};
 use crate::pieces::{Pieces, blocks_of, joined, pieces_of};
 use crate::rebuild::tree_of;
 use crate::row::{Row, row_of};
+use crate::store::{KeptHeader, Store};
 use adf_blocks::{Head, HeadBody};
 use adf_fields::NoMemory;
 use adf_tree::{Kind, Label, Name, Node, Stamps};
@@ -45,31 +44,31 @@ pub struct Counts {
 #[derive(Drop)]
 pub struct Checked<'a> {
     image: Image<'a>,
-    found: Found,
+    store: Store,
     label: Label,
     stamps: Stamps,
 }
 
 impl<'a> Model for Checked<'a> {
-    ghost use Rattle.adf_check.specs.Found.{store_of};
+    ghost use Rattle.adf_check.specs.Store.{store_value};
     ghost use Rattle.adf_check.specs.Volumes.{IsChecked, Volume};
 
     ghost Value = { Volume };
 
-    ghost view = { λ c. record { image = c.image; store = store_of c.found } };
+    ghost view = { λ c. record { image = c.image; store = store_value c.store } };
 
-    ghost invariant = { λ c. IsChecked (record { image = c.image; store = store_of c.found }) c.label c.stamps };
+    ghost invariant = { λ c. IsChecked (record { image = c.image; store = store_value c.store }) c.label c.stamps };
 }
 
 impl<'a> Checked<'a> {
-    // What was found of an image.
-    pub(crate) fn new(image: Image<'a>, found: Found, label: Label, stamps: Stamps) -> Checked<'a>
-        requires { IsChecked (record { image = image; store = store_of found }) label stamps }
-        ensures { result ≡ record { image = image.entry; store = store_of found } }
+    // What is kept of an image.
+    pub(crate) fn new(image: Image<'a>, store: Store, label: Label, stamps: Stamps) -> Checked<'a>
+        requires { IsChecked (record { image = image; store = store_value store }) label stamps }
+        ensures { result ≡ record { image = image.entry; store = store_value store } }
     {
         Checked {
             image,
-            found,
+            store,
             label,
             stamps,
         }
@@ -87,7 +86,7 @@ impl Checked<'_> {
             → ((o : Owner) → In (owned self.now.image l) (o, b) → ⊥) → result ≡ Some Owner.Free }
     {
         if b < self.image.blocks() {
-            Some(self.found.owners.get(b))
+            Some(self.store.owners.get(b))
         } else {
             None
         }
@@ -113,7 +112,7 @@ impl Checked<'_> {
         // There is a tree and a layout that the volume stands for.
         ensures stands { (t : Tree) × (l : Layout) × StandsFor self.now t l }
     {
-        self.found.rows.len()
+        self.store.headers.len()
     }
 
     /// What is told of an entry; None for the root and past the last entry.
@@ -123,7 +122,7 @@ impl Checked<'_> {
         if n.0 == 0 {
             return None;
         }
-        let kept = self.found.rows.get(n.0 - 1)?;
+        let kept = self.store.headers.get(n.0 - 1)?;
         let head = Head::over(self.image.block(kept.head));
         Some(row_of(Node(kept.parent as usize), &head))
     }
@@ -132,7 +131,7 @@ impl Checked<'_> {
     pub fn find(&self, path: &[Name]) -> Option<Node>
         ensures { (t : Tree) (l : Layout) → StandsFor self.now t l → result ≡ find t.entries path.now }
     {
-        find(&self.image, &self.found, path)
+        find(&self.image, &self.store, path)
     }
 
     /// The block of the root, or of an entry's header; none past the last entry.
@@ -140,17 +139,17 @@ impl Checked<'_> {
         ensures some { (t : Tree) (l : Layout) → StandsFor self.now t l → IsSome result ↔ (n ≤ length t.entries) }
         ensures block { (t : Tree) (l : Layout) → StandsFor self.now t l → IfSome result (λ b. b ≡ at_node self.now.image l n) }
     {
-        if self.found.rows.len() < n.0 {
+        if self.store.headers.len() < n.0 {
             return None;
         }
-        Some(block_of(&self.image, &self.found, n))
+        Some(block_of(&self.image, &self.store, n))
     }
 
     /// The data blocks of a file, in the order of its bytes; none of the root, a directory and what is past the last entry.
     pub fn blocks_of(&self, n: Node) -> &[u32]
         ensures { (t : Tree) (l : Layout) → StandsFor self.now t l → result.now ≡ datas_of l n }
     {
-        blocks_of(&self.image, &self.found, n)
+        blocks_of(&self.image, &self.store, n)
     }
 
     /// The bytes of a file as slices of the image, one for each data block; none of the root, a directory and what is past the
@@ -161,7 +160,7 @@ impl Checked<'_> {
         ensures one_each { (t : Tree) (l : Layout) → StandsFor self.now t l → IfSome result (λ ps. length ps ≡ length (datas_of l n)) }
         ensures some { IfSome result (λ ps. All (λ p. 0 < length p) ps) }
     {
-        pieces_of(&self.image, &self.found, n)
+        pieces_of(&self.image, &self.store, n)
     }
 
     /// The bytes of a file; none of the root, a directory and what is past the last entry. Where there are no bytes, no memory is taken.
@@ -189,29 +188,29 @@ impl Checked<'_> {
         ensures all { result.used + result.free + 2 ≡ result.blocks }
     {
         let blocks = self.image.blocks();
-        let used = self.found.owners.used();
-        let dirs = count_dirs(&self.image, &self.found.rows);
+        let used = self.store.owners.used();
+        let dirs = count_dirs(&self.image, &self.store.headers);
         Counts {
             kind: self.image.kind(),
             blocks,
             used,
             free: blocks - 2 - used,
             dirs,
-            files: self.found.rows.len() - dirs,
+            files: self.store.headers.len() - dirs,
         }
     }
 }
 
-// The directories among the entries of these rows.
+// The directories among the entries with these headers.
 #[tactic(auto, using(std::proofs::lemmas::List::Sums::count_by_more_yes, std::proofs::lemmas::List::Sums::count_by_more_no))]
-fn count_dirs(image: &Image<'_>, rows: &[KeptHeader]) -> usize
-    requires { (i : ℕ) (d : KeptHeader) → i < length rows.now → (get_or rows.now i d).head < blocks image.now }
-    ensures exact { result ≡ count_by (is_dir_at image.now) rows.now }
-    ensures within { result ≤ length rows.now }
+fn count_dirs(image: &Image<'_>, headers: &[KeptHeader]) -> usize
+    requires { (i : ℕ) (d : KeptHeader) → i < length headers.now → (get_or headers.now i d).head < blocks image.now }
+    ensures exact { result ≡ count_by (is_dir_at image.now) headers.now }
+    ensures within { result ≤ length headers.now }
 {
     let mut dirs = 0;
-    for row in rows {
-        if image.body(row.head) == HeadBody::Dir {
+    for header in headers {
+        if image.body(header.head) == HeadBody::Dir {
             dirs += 1;
         }
     }

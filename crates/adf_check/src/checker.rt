@@ -13,11 +13,11 @@ ghost use Rattle.adf_check.specs.Volumes.{StandsFor};
 use crate::bitmap::check_bitmap;
 use crate::checked::Checked;
 use crate::fault::{Fault, no_memory};
-use crate::found::Found;
 use crate::looks::Looks;
 use crate::nodes::read_nodes;
 use crate::pages::read_pages;
 use crate::start::open;
+use crate::store::Store;
 use adf_blocks::Cause;
 use adf_fields::BLOCK_LEN;
 use std::alloc::Global;
@@ -79,15 +79,15 @@ pub fn check_within<'a, L: Ledger>(
     ensures begun { IfErr result (λ f. f.cause ≡ Cause.NoMemory → IsBegun image.now) }
 {
     let opened = open(image)?;
-    let Ok(mut found) = Found::begin(alloc, &opened.image) else {
+    let Ok(mut store) = Store::begin(alloc, &opened.image) else {
         return Err(no_memory());
     };
-    let pages = read_pages(alloc, &opened.image, &opened.root, &mut found, looks)?;
-    read_nodes(alloc, &opened.image, &mut found, looks)?;
-    check_bitmap(&opened.image, &found, looks, &pages)?;
+    let pages = read_pages(alloc, &opened.image, &opened.root, &mut store, looks)?;
+    read_nodes(alloc, &opened.image, &mut store, looks)?;
+    check_bitmap(&opened.image, &store, looks, &pages)?;
     Ok(Checked::new(
         opened.image,
-        found,
+        store,
         opened.root.label(),
         opened.root.stamps(),
     ))

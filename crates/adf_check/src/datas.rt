@@ -8,15 +8,16 @@ ghost use Rattle.adf_volume.specs.Demands.{AllHold, FirstFails, data_demands};
 ghost use Rattle.adf_volume.specs.Image.{held, kind_of, table_word, word_in};
 ghost use Rattle.adf_volume.specs.Walk.{data_count};
 ghost use Rattle.adf_check.specs.Reading.{IsAtNode, IsInDatas};
-ghost use Rattle.adf_check.specs.Found.{IsFurther, IsPaid, store_of};
+ghost use Rattle.adf_check.specs.Progress.{IsFurther, IsPaid};
+ghost use Rattle.adf_check.specs.Store.{store_value};
 ghost use Rattle.adf_check.specs.Datas.{next_of};
 ghost use Rattle.adf_check.specs.Image.{IsBegun};
 
 use crate::claims::claim_named;
 use crate::fault::{Fault, fault_at, no_memory};
-use crate::found::Found;
 use crate::image::Image;
 use crate::looks::Looks;
+use crate::store::Store;
 use adf_blocks::{Cause, POINTERS, Table, chunk_len, data_count, read_data};
 use adf_tree::{Kind, Node};
 use adf_volume::Owner;
@@ -118,7 +119,7 @@ fn check_data<L: Ledger>(
 // the extension blocks.
 fn read_data_block<L: Ledger>(
     image: &Image<'_>,
-    found: &mut Found,
+    store: &mut Store,
     looks: &mut Looks<L>,
     table: &[u32],
     file: &File,
@@ -133,18 +134,18 @@ fn read_data_block<L: Ledger>(
     requires inside { k < file.now.count }
     requires holder { holder ≡ slice_index table.now (k / POINTERS) }
     requires named { b ≡ word_in image.now (slice_index table.now (k / POINTERS)) (table_word k) }
-    requires state { IsInDatas image.now (store_of found.old) file.now.node file.now.head table.now k }
-    requires paid { IsPaid found.old looks.old 0 }
-    ensures state { OnOk result (IsInDatas image.now (store_of found.new) file.now.node file.now.head table.now (k + 1)) }
-    ensures paid { OnOk result (IsPaid found.new looks.new 1) }
-    ensures fewer { OnOk result (IsFurther found.old found.new) }
+    requires state { IsInDatas image.now (store_value store.old) file.now.node file.now.head table.now k }
+    requires paid { IsPaid store.old looks.old 0 }
+    ensures state { OnOk result (IsInDatas image.now (store_value store.new) file.now.node file.now.head table.now (k + 1)) }
+    ensures paid { OnOk result (IsPaid store.new looks.new 1) }
+    ensures fewer { OnOk result (IsFurther store.old store.new) }
     ensures fault { IfErr result (λ f. IsTrueFault image.now f) }
 {
-    claim_named(&mut found.owners, holder, b, Owner::Data(file.node, k + 1))?;
+    claim_named(&mut store.owners, holder, b, Owner::Data(file.node, k + 1))?;
     if let Err(cause) = check_data(image, looks, table, file, b, k) {
         return Err(fault_at(b, cause));
     }
-    match found.datas.push(b) {
+    match store.datas.push(b) {
         Ok(()) => Ok(()),
         Err(_) => Err(no_memory()),
     }
@@ -153,7 +154,7 @@ fn read_data_block<L: Ledger>(
 // Reads the data blocks that block `m` of the table names.
 fn read_named<L: Ledger>(
     image: &Image<'_>,
-    found: &mut Found,
+    store: &mut Store,
     looks: &mut Looks<L>,
     table: &[u32],
     file: &File,
@@ -164,11 +165,11 @@ fn read_named<L: Ledger>(
     requires count { file.now.count ≡ data_count image.now file.now.head }
     requires enough { file.now.count ≤ POINTERS * length table.now }
     requires inside { POINTERS * m < file.now.count }
-    requires state { IsInDatas image.now (store_of found.old) file.now.node file.now.head table.now (POINTERS * m) }
-    requires paid { IsPaid found.old looks.old 1 }
-    ensures state { OnOk result (IsInDatas image.now (store_of found.new) file.now.node file.now.head table.now (min (POINTERS * (m + 1)) file.now.count)) }
-    ensures paid { OnOk result (IsPaid found.new looks.new 1) }
-    ensures fewer { OnOk result (IsFurther found.old found.new) }
+    requires state { IsInDatas image.now (store_value store.old) file.now.node file.now.head table.now (POINTERS * m) }
+    requires paid { IsPaid store.old looks.old 1 }
+    ensures state { OnOk result (IsInDatas image.now (store_value store.new) file.now.node file.now.head table.now (min (POINTERS * (m + 1)) file.now.count)) }
+    ensures paid { OnOk result (IsPaid store.new looks.new 1) }
+    ensures fewer { OnOk result (IsFurther store.old store.new) }
     ensures fault { IfErr result (λ f. IsTrueFault image.now f) }
 {
     let count = file.count;
@@ -178,7 +179,7 @@ fn read_named<L: Ledger>(
     let len = (count - first).min(POINTERS as u32);
     for k in first..first + len {
         let b = names.pointer((k - first) as usize);
-        read_data_block(image, found, looks, table, file, holder, b, k)?;
+        read_data_block(image, store, looks, table, file, holder, b, k)?;
     }
     Ok(())
 }
@@ -187,20 +188,19 @@ fn read_named<L: Ledger>(
 /// extension blocks.
 pub fn read_datas<L: Ledger>(
     image: &Image<'_>,
-    found: &mut Found,
+    store: &mut Store,
     looks: &mut Looks<L>,
     table: &[u32],
     node: Node,
     head: u32,
     size: u32,
 ) -> Result<(), Fault>
-    requires begun { IsBegun image.now }
     requires size { size ≡ word_in image.now head SIZE }
-    requires state { IsInDatas image.now (store_of found.old) node head table.now 0 }
-    requires paid { IsPaid found.old looks.old 1 }
-    ensures state { OnOk result (IsAtNode image.now (store_of found.new) (node + 1)) }
-    ensures paid { OnOk result (IsPaid found.new looks.new 1) }
-    ensures fewer { OnOk result (IsFurther found.old found.new) }
+    requires state { IsInDatas image.now (store_value store.old) node head table.now 0 }
+    requires paid { IsPaid store.old looks.old 1 }
+    ensures state { OnOk result (IsAtNode image.now (store_value store.new) (node + 1)) }
+    ensures paid { OnOk result (IsPaid store.new looks.new 1) }
+    ensures fewer { OnOk result (IsFurther store.old store.new) }
     ensures fault { IfErr result (λ f. IsTrueFault image.now f) }
 {
     let count = count_of(image.kind(), size);
@@ -215,7 +215,7 @@ pub fn read_datas<L: Ledger>(
         count,
     };
     for m in 0..tables {
-        read_named(image, found, looks, table, &file, m)?;
+        read_named(image, store, looks, table, &file, m)?;
     }
     Ok(())
 }

@@ -4,14 +4,15 @@ ghost use Rattle.adf_check.specs.Fault.{IsTrueFault};
 ghost use Rattle.std.specs.Prelude.{◌≢◌, ◌<◌, OnOk, IfOk, IfErr};
 ghost use Rattle.adf_blocks.specs.Sizes.{blocks};
 ghost use Rattle.adf_check.specs.Reading.{IsInDatas, IsInExts};
-ghost use Rattle.adf_check.specs.Found.{IsFurther, IsPaid, left, store_of};
+ghost use Rattle.adf_check.specs.Progress.{IsFurther, IsPaid, left};
+ghost use Rattle.adf_check.specs.Store.{store_value};
 ghost use Rattle.adf_check.specs.Image.{IsBegun};
 
 use crate::claims::claim_named;
 use crate::fault::{Fault, fault_at, no_memory};
-use crate::found::Found;
 use crate::image::Image;
 use crate::looks::Looks;
+use crate::store::Store;
 use adf_blocks::read_ext;
 use adf_tree::Node;
 use adf_volume::Owner;
@@ -21,7 +22,7 @@ use std::sync::ledger::Ledger;
 // `head`: the next one, or 0. The table has the header and the extension blocks before.
 fn read_ext_block<L: Ledger>(
     image: &Image<'_>,
-    found: &mut Found,
+    store: &mut Store,
     looks: &mut Looks<L>,
     table: &mut Vec<u32>,
     node: Node,
@@ -31,21 +32,21 @@ fn read_ext_block<L: Ledger>(
 ) -> Result<u32, Fault>
     requires begun { IsBegun image.now }
     requires some { b ≢ 0 }
-    requires state { IsInExts image.now (store_of found.old) node head table.old.items holder b }
-    requires paid { IsPaid found.old looks.old 1 }
-    ensures state { IfOk result (λ next. IsInExts image.now (store_of found.new) node head table.new.items b next) }
-    ensures paid { OnOk result (IsPaid found.new looks.new 1) }
-    ensures fewer { OnOk result (IsFurther found.old found.new) }
-    ensures less { OnOk result (left found.new < left found.old) }
+    requires state { IsInExts image.now (store_value store.old) node head table.old.items holder b }
+    requires paid { IsPaid store.old looks.old 1 }
+    ensures state { IfOk result (λ next. IsInExts image.now (store_value store.new) node head table.new.items b next) }
+    ensures paid { OnOk result (IsPaid store.new looks.new 1) }
+    ensures fewer { OnOk result (IsFurther store.old store.new) }
+    ensures less { OnOk result (left store.new < left store.old) }
     ensures fault { IfErr result (λ f. IsTrueFault image.now f) }
 {
     let owner = Owner::Ext(node, table.len() as u32);
-    claim_named(&mut found.owners, holder, b, owner)?;
+    claim_named(&mut store.owners, holder, b, owner)?;
     let ext = match read_ext(image.look(b, looks), b, head) {
         Ok(ext) => ext,
         Err(cause) => return Err(fault_at(b, cause)),
     };
-    if table.push(b).is_err() || found.exts.push(b).is_err() {
+    if table.push(b).is_err() || store.exts.push(b).is_err() {
         return Err(no_memory());
     }
     Ok(ext.next())
@@ -55,7 +56,7 @@ fn read_ext_block<L: Ledger>(
 /// table, which has the header, gets them.
 pub fn read_exts<L: Ledger>(
     image: &Image<'_>,
-    found: &mut Found,
+    store: &mut Store,
     looks: &mut Looks<L>,
     table: &mut Vec<u32>,
     node: Node,
@@ -63,17 +64,17 @@ pub fn read_exts<L: Ledger>(
     first: u32,
 ) -> Result<(), Fault>
     requires begun { IsBegun image.now }
-    requires state { IsInExts image.now (store_of found.old) node head table.old.items head first }
-    requires paid { IsPaid found.old looks.old 1 }
-    ensures state { OnOk result (IsInDatas image.now (store_of found.new) node head table.new.items 0) }
-    ensures paid { OnOk result (IsPaid found.new looks.new 1) }
-    ensures fewer { OnOk result (IsFurther found.old found.new) }
+    requires state { IsInExts image.now (store_value store.old) node head table.old.items head first }
+    requires paid { IsPaid store.old looks.old 1 }
+    ensures state { OnOk result (IsInDatas image.now (store_value store.new) node head table.new.items 0) }
+    ensures paid { OnOk result (IsPaid store.new looks.new 1) }
+    ensures fewer { OnOk result (IsFurther store.old store.new) }
     ensures fault { IfErr result (λ f. IsTrueFault image.now f) }
 {
     let mut holder = head;
     let mut b = first;
     while b != 0 {
-        let next = read_ext_block(image, found, looks, table, node, head, holder, b)?;
+        let next = read_ext_block(image, store, looks, table, node, head, holder, b)?;
         holder = b;
         b = next;
     }

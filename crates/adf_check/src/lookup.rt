@@ -7,31 +7,30 @@ ghost use Rattle.adf_blocks.specs.Sizes.{blocks};
 ghost use Rattle.adf_volume.specs.Image.{word_in};
 ghost use Rattle.adf_volume.specs.Layout.{Layout, at_node, chain_nodes};
 ghost use Rattle.adf_volume.specs.Lists.{Spelled};
-ghost use Rattle.adf_check.specs.StoredVolume.{StoreStandsFor};
+ghost use Rattle.adf_check.specs.StoreStands.{StoreStandsFor};
 ghost use Rattle.adf_check.specs.Reading.{StoreFits};
-ghost use Rattle.adf_check.specs.Store.{owner_at};
-ghost use Rattle.adf_check.specs.Found.{store_of};
+ghost use Rattle.adf_check.specs.Store.{owner_at, store_value};
 ghost use Rattle.adf_check.specs.Lookup.{headed};
 
-use crate::found::Found;
 use crate::image::Image;
 use crate::owner_table::OwnerTable;
+use crate::store::Store;
 use adf_blocks::{Head, HeadBody};
 use adf_fields::slot;
 use adf_tree::{Name, Node};
 use adf_volume::Owner;
 
 /// The block of a node.
-pub fn block_of(image: &Image<'_>, found: &Found, node: Node) -> u32
-    requires tells { StoreFits image.now (store_of found.now) }
-    requires node { node ≤ length found.now.rows.items }
-    ensures block { (t : Tree) (l : Layout) → StoreStandsFor image.now (store_of found.now) t l → result ≡ at_node image.now l node }
+pub fn block_of(image: &Image<'_>, store: &Store, node: Node) -> u32
+    requires tells { StoreFits image.now (store_value store.now) }
+    requires node { node ≤ length store.now.headers.items }
+    ensures block { (t : Tree) (l : Layout) → StoreStandsFor image.now (store_value store.now) t l → result ≡ at_node image.now l node }
     ensures inside { result < blocks image.now }
 {
     if node.0 == 0 {
         return image.root();
     }
-    found.rows[node.0 - 1].head
+    store.headers[node.0 - 1].head
 }
 
 // The node whose header is at a block.
@@ -46,14 +45,14 @@ fn node_at(owners: &OwnerTable, b: u32) -> Option<Node>
 }
 
 // The first header in the chain of a slot of a node, or 0: a file has no chain.
-fn first_of(image: &Image<'_>, found: &Found, parent: Node, slot: u8) -> u32
-    requires tells { StoreFits image.now (store_of found.now) }
-    requires node { parent ≤ length found.now.rows.items }
+fn first_of(image: &Image<'_>, store: &Store, parent: Node, slot: u8) -> u32
+    requires tells { StoreFits image.now (store_value store.now) }
+    requires node { parent ≤ length store.now.headers.items }
     requires slot { slot < SLOTS }
-    ensures { (t : Tree) (l : Layout) → StoreStandsFor image.now (store_of found.now) t l
+    ensures { (t : Tree) (l : Layout) → StoreStandsFor image.now (store_value store.now) t l
         → Spelled (λ b. word_in image.now b NEXT_IN_CHAIN) result (map (at_node image.now l) (chain_nodes t parent slot)) }
 {
-    let up = block_of(image, found, parent);
+    let up = block_of(image, store, parent);
     match image.body(up) {
         HeadBody::File { .. } if parent.0 != 0 => 0,
         _ => image.directory(up).slot(slot),
@@ -61,17 +60,17 @@ fn first_of(image: &Image<'_>, found: &Found, parent: Node, slot: u8) -> u32
 }
 
 /// The entry with this parent and this name, whatever the case.
-pub fn child(image: &Image<'_>, found: &Found, parent: Node, name: &Name) -> Option<Node>
-    requires tells { StoreFits image.now (store_of found.now) }
-    requires node { parent ≤ length found.now.rows.items }
-    ensures found { (t : Tree) (l : Layout) → StoreStandsFor image.now (store_of found.now) t l → result ≡ child t.entries parent name.now }
-    ensures node { IfSome result (λ n. n ≤ length found.now.rows.items) }
+pub fn child(image: &Image<'_>, store: &Store, parent: Node, name: &Name) -> Option<Node>
+    requires tells { StoreFits image.now (store_value store.now) }
+    requires node { parent ≤ length store.now.headers.items }
+    ensures found { (t : Tree) (l : Layout) → StoreStandsFor image.now (store_value store.now) t l → result ≡ child t.entries parent name.now }
+    ensures node { IfSome result (λ n. n ≤ length store.now.headers.items) }
 {
-    let mut b = first_of(image, found, parent, slot(name.bytes()));
+    let mut b = first_of(image, store, parent, slot(name.bytes()));
     while b != 0 {
         let head = Head::over(image.block(b));
         if head.name().same(name) {
-            return node_at(&found.owners, b);
+            return node_at(&store.owners, b);
         }
         b = head.next();
     }
@@ -79,13 +78,13 @@ pub fn child(image: &Image<'_>, found: &Found, parent: Node, name: &Name) -> Opt
 }
 
 /// The node that the path leads to.
-pub fn find(image: &Image<'_>, found: &Found, path: &[Name]) -> Option<Node>
-    requires { StoreFits image.now (store_of found.now) }
-    ensures { (t : Tree) (l : Layout) → StoreStandsFor image.now (store_of found.now) t l → result ≡ find_from t.entries 0 path.now }
+pub fn find(image: &Image<'_>, store: &Store, path: &[Name]) -> Option<Node>
+    requires { StoreFits image.now (store_value store.now) }
+    ensures { (t : Tree) (l : Layout) → StoreStandsFor image.now (store_value store.now) t l → result ≡ find_from t.entries 0 path.now }
 {
     let mut node = Node(0);
     for name in path {
-        match child(image, found, node, name) {
+        match child(image, store, node, name) {
             None => return None,
             Some(n) => node = n,
         }

@@ -1,43 +1,42 @@
-// The nodes of a volume, one after the other: the root, and each entry as its header was found.
+// The nodes of a volume, one after the other: the root, and each entry as its header was read.
 
 ghost use Rattle.std.specs.Prelude.{◌≡◌, ◌≤◌, ◌<◌, ◌+◌, ◌^◌, [], ◌∷◌, OnOk, IfErr, length, ℕ};
 ghost use Rattle.adf_blocks.specs.declared.layout.TheConstants.{SIZE};
 ghost use Rattle.adf_blocks.specs.Sizes.{blocks};
 ghost use Rattle.adf_volume.specs.Image.{word_in};
 ghost use Rattle.adf_check.specs.Reading.{IsAtNode, IsInExts, IsInNode, IsRead};
-ghost use Rattle.adf_check.specs.Store.{entered};
+ghost use Rattle.adf_check.specs.Store.{entered, store_value};
 ghost use Rattle.adf_check.specs.Fault.{IsTrueFault, fault};
-ghost use Rattle.adf_check.specs.Found.{IsFurther, IsPaid, store_of};
+ghost use Rattle.adf_check.specs.Progress.{IsFurther, IsPaid};
 ghost use Rattle.adf_check.specs.Image.{IsBegun};
 
 use crate::chains::read_directory;
 use crate::datas::read_datas;
 use crate::exts::read_exts;
 use crate::fault::{Fault, no_memory};
-use crate::found::Found;
 use crate::image::Image;
-use crate::kept::Start;
 use crate::looks::Looks;
+use crate::store::{NodeStart, Store};
 use adf_blocks::{Cause, HeadBody};
 use adf_tree::{NameSet, Node};
 use std::alloc::Global;
 use std::sync::ledger::Ledger;
 
-// Begins the next node: its blocks stand behind those that were found.
-fn enter(found: &mut Found) -> Result<(), Fault>
-    requires exts { length found.old.exts.items < 2 ^ 32 }
-    requires datas { length found.old.datas.items < 2 ^ 32 }
-    ensures entered { OnOk result (store_of found.new ≡ entered (store_of found.old)) }
-    ensures paid { (looks : ℕ) → IsPaid found.old looks 0 → length found.old.starts.items ≤ length found.old.rows.items
-        → OnOk result (IsPaid found.new looks 2) }
-    ensures fewer { OnOk result (IsFurther found.old found.new) }
+// Begins the next node: its blocks stand behind those that were read.
+fn enter(store: &mut Store) -> Result<(), Fault>
+    requires exts { length store.old.exts.items < 2 ^ 32 }
+    requires datas { length store.old.datas.items < 2 ^ 32 }
+    ensures entered { OnOk result (store_value store.new ≡ entered (store_value store.old)) }
+    ensures paid { (looks : ℕ) → IsPaid store.old looks 0 → length store.old.starts.items ≤ length store.old.headers.items
+        → OnOk result (IsPaid store.new looks 2) }
+    ensures fewer { OnOk result (IsFurther store.old store.new) }
     ensures fault { IfErr result (λ f. f ≡ fault 0 Cause.NoMemory) }
 {
-    let start = Start {
-        exts: found.exts.len() as u32,
-        datas: found.datas.len() as u32,
+    let start = NodeStart {
+        exts: store.exts.len() as u32,
+        datas: store.datas.len() as u32,
     };
-    match found.starts.push(start) {
+    match store.starts.push(start) {
         Ok(()) => Ok(()),
         Err(_) => Err(no_memory()),
     }
@@ -46,7 +45,7 @@ fn enter(found: &mut Found) -> Result<(), Fault>
 // Reads the blocks of the file `node` with its header at block `head`, of `size` bytes and with its first extension block at `ext`.
 fn read_file<L: Ledger>(
     image: &Image<'_>,
-    found: &mut Found,
+    store: &mut Store,
     looks: &mut Looks<L>,
     table: &mut Vec<u32>,
     node: Node,
@@ -56,71 +55,71 @@ fn read_file<L: Ledger>(
 ) -> Result<(), Fault>
     requires begun { IsBegun image.now }
     requires size { size ≡ word_in image.now head SIZE }
-    requires state { IsInExts image.now (store_of found.old) node head (head ∷ []) head ext }
-    requires paid { IsPaid found.old looks.old 1 }
-    ensures state { OnOk result (IsAtNode image.now (store_of found.new) (node + 1)) }
-    ensures paid { OnOk result (IsPaid found.new looks.new 0) }
-    ensures fewer { OnOk result (IsFurther found.old found.new) }
+    requires state { IsInExts image.now (store_value store.old) node head (head ∷ []) head ext }
+    requires paid { IsPaid store.old looks.old 1 }
+    ensures state { OnOk result (IsAtNode image.now (store_value store.new) (node + 1)) }
+    ensures paid { OnOk result (IsPaid store.new looks.new 0) }
+    ensures fewer { OnOk result (IsFurther store.old store.new) }
     ensures fault { IfErr result (λ f. IsTrueFault image.now f) }
 {
     table.clear();
     if table.push(head).is_err() {
         return Err(no_memory());
     }
-    read_exts(image, found, looks, table, node, head, ext)?;
-    read_datas(image, found, looks, table, node, head, size)
+    read_exts(image, store, looks, table, node, head, ext)?;
+    read_datas(image, store, looks, table, node, head, size)
 }
 
 // Reads what the node asks for: the chains of a directory, or the blocks of a file.
 fn read_node<L: Ledger>(
     image: &Image<'_>,
-    found: &mut Found,
+    store: &mut Store,
     looks: &mut Looks<L>,
     seen: &mut NameSet,
     table: &mut Vec<u32>,
     node: Node,
 ) -> Result<(), Fault>
-    requires inside { node ≤ length found.old.rows.items }
-    requires state { IsInNode image.now (store_of found.old) node }
-    requires paid { IsPaid found.old looks.old 2 }
-    ensures state { OnOk result (IsAtNode image.now (store_of found.new) (node + 1)) }
-    ensures paid { OnOk result (IsPaid found.new looks.new 0) }
-    ensures fewer { OnOk result (IsFurther found.old found.new) }
+    requires inside { node ≤ length store.old.headers.items }
+    requires state { IsInNode image.now (store_value store.old) node }
+    requires paid { IsPaid store.old looks.old 2 }
+    ensures state { OnOk result (IsAtNode image.now (store_value store.new) (node + 1)) }
+    ensures paid { OnOk result (IsPaid store.new looks.new 0) }
+    ensures fewer { OnOk result (IsFurther store.old store.new) }
     ensures fault { IfErr result (λ f. IsTrueFault image.now f) }
 {
     let root = image.root();
     if node.0 == 0 {
-        return read_directory(image, found, looks, seen, node, root);
+        return read_directory(image, store, looks, seen, node, root);
     }
-    let head = found.rows[node.0 - 1].head;
+    let head = store.headers[node.0 - 1].head;
     match HeadBody::of(&image.look(head, looks)) {
-        HeadBody::Dir => read_directory(image, found, looks, seen, node, head),
+        HeadBody::Dir => read_directory(image, store, looks, seen, node, head),
         HeadBody::File { size, ext } => {
-            read_file(image, found, looks, table, node, head, size, ext)
+            read_file(image, store, looks, table, node, head, size, ext)
         }
     }
 }
 
-/// Reads all nodes. Those that a directory names come behind those that were found.
+/// Reads all nodes. Those that a directory names come behind those that were read.
 pub fn read_nodes<L: Ledger>(
     alloc: Global,
     image: &Image<'_>,
-    found: &mut Found,
+    store: &mut Store,
     looks: &mut Looks<L>,
 ) -> Result<(), Fault>
     requires begun { IsBegun image.now }
-    requires state { IsAtNode image.now (store_of found.old) 0 }
-    requires paid { IsPaid found.old looks.old 0 }
-    ensures state { OnOk result (IsRead image.now (store_of found.new)) }
-    ensures paid { OnOk result (IsPaid found.new looks.new 0) }
+    requires state { IsAtNode image.now (store_value store.old) 0 }
+    requires paid { IsPaid store.old looks.old 0 }
+    ensures state { OnOk result (IsRead image.now (store_value store.new)) }
+    ensures paid { OnOk result (IsPaid store.new looks.new 0) }
     ensures fault { IfErr result (λ f. IsTrueFault image.now f) }
 {
     let mut seen = NameSet::new(alloc);
     let mut table = Vec::new(alloc);
     let mut node = 0usize;
-    while node <= found.rows.len() {
-        enter(found)?;
-        read_node(image, found, looks, &mut seen, &mut table, Node(node))?;
+    while node <= store.headers.len() {
+        enter(store)?;
+        read_node(image, store, looks, &mut seen, &mut table, Node(node))?;
         node += 1;
     }
     Ok(())

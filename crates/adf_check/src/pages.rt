@@ -3,18 +3,20 @@
 ghost use Rattle.adf_check.specs.Fault.{IsTrueFault};
 ghost use Rattle.std.specs.Prelude.{◌≡◌, ◌≤◌, ◌<◌, ◌+◌, ◌-◌, ◌%◌, ◌↔◌, IsTrue, OnOk, IfOk, IfErr};
 ghost use Rattle.adf_fields.specs.Words.{block};
+ghost use Rattle.adf_blocks.specs.declared.layout.TheConstants.{MAP_EXT_PAGES, ROOT_PAGES};
 ghost use Rattle.adf_blocks.specs.Sizes.{blocks, pages_needed};
 ghost use Rattle.adf_volume.specs.Image.{root_of, word_in};
 ghost use Rattle.adf_check.specs.Reading.{IsAtNode, IsAtPage, IsBeforePage, block_of_page};
-ghost use Rattle.adf_check.specs.Found.{IsPaid, store_of};
+ghost use Rattle.adf_check.specs.Progress.{IsPaid};
+ghost use Rattle.adf_check.specs.Store.{store_value};
 ghost use Rattle.adf_check.specs.Image.{IsBegun};
 ghost use Rattle.adf_check.specs.Pages.{AreListed, index_of_map_ext, index_of_page};
 
 use crate::claims::claim_named;
 use crate::fault::{Fault, fault_at, no_memory};
-use crate::found::Found;
 use crate::image::Image;
 use crate::looks::Looks;
+use crate::store::Store;
 use adf_blocks::{MAP_EXT_PAGES, ROOT_PAGES, Root, page_count, read_map_ext, read_page};
 use adf_volume::Owner;
 use std::alloc::Global;
@@ -22,7 +24,7 @@ use std::sync::ledger::Ledger;
 
 // Whether page `i` is the first one of a bitmap extension block.
 fn is_first_of_map_ext(i: u32) -> bool
-    ensures { IsTrue result ↔ ((25 ≤ i) × ((i - 25) % 127 ≡ 0)) }
+    ensures { IsTrue result ↔ ((ROOT_PAGES ≤ i) × ((i - ROOT_PAGES) % MAP_EXT_PAGES ≡ 0)) }
 {
     let i = i as usize;
     i >= ROOT_PAGES && (i - ROOT_PAGES) % MAP_EXT_PAGES == 0
@@ -39,7 +41,7 @@ fn map_ext_named<L: Ledger>(
     requires paid { 0 < looks.old }
     requires root { root.now ≡ block image.now (root_of image.now) }
     requires inside { holder < blocks image.now }
-    requires at_root { i ≡ 25 → holder ≡ root_of image.now }
+    requires at_root { i ≡ ROOT_PAGES → holder ≡ root_of image.now }
     ensures exact { result ≡ word_in image.now holder (index_of_map_ext i) }
     ensures looks { looks.old ≤ looks.new + 1 }
 {
@@ -61,7 +63,7 @@ fn page_named<L: Ledger>(
     requires paid { 0 < looks.old }
     requires root { root.now ≡ block image.now (root_of image.now) }
     requires inside { holder < blocks image.now }
-    requires at_root { i < 25 → holder ≡ root_of image.now }
+    requires at_root { i < ROOT_PAGES → holder ≡ root_of image.now }
     ensures exact { result ≡ word_in image.now holder (index_of_page i) }
     ensures looks { looks.old ≤ looks.new + 1 }
 {
@@ -77,7 +79,7 @@ fn page_named<L: Ledger>(
 fn claim_map_ext<L: Ledger>(
     image: &Image<'_>,
     root: &Root<'_>,
-    found: &mut Found,
+    store: &mut Store,
     looks: &mut Looks<L>,
     holder: u32,
     i: u32,
@@ -85,19 +87,19 @@ fn claim_map_ext<L: Ledger>(
     requires begun { IsBegun image.now }
     requires root { root.now ≡ block image.now (root_of image.now) }
     requires needed { i < pages_needed (blocks image.now) }
-    requires past { 25 ≤ i }
-    requires first { (i - 25) % 127 ≡ 0 }
+    requires past { ROOT_PAGES ≤ i }
+    requires first { (i - ROOT_PAGES) % MAP_EXT_PAGES ≡ 0 }
     requires inside { holder < blocks image.now }
-    requires state { IsBeforePage image.now (store_of found.old) i holder }
-    requires paid { IsPaid found.old looks.old 1 }
-    ensures state { IfOk result (λ b. IsAtPage image.now (store_of found.new) i b) }
+    requires state { IsBeforePage image.now (store_value store.old) i holder }
+    requires paid { IsPaid store.old looks.old 1 }
+    ensures state { IfOk result (λ b. IsAtPage image.now (store_value store.new) i b) }
     ensures inside { IfOk result (λ b. b < blocks image.now) }
-    ensures paid { OnOk result (IsPaid found.new looks.new 1) }
+    ensures paid { OnOk result (IsPaid store.new looks.new 1) }
     ensures fault { IfErr result (λ f. IsTrueFault image.now f) }
 {
     let b = map_ext_named(image, looks, root, holder, i);
     let j = (i - ROOT_PAGES as u32) / MAP_EXT_PAGES as u32;
-    claim_named(&mut found.owners, holder, b, Owner::MapExt(j))?;
+    claim_named(&mut store.owners, holder, b, Owner::MapExt(j))?;
     Ok(b)
 }
 
@@ -105,7 +107,7 @@ fn claim_map_ext<L: Ledger>(
 fn holder_of_page<L: Ledger>(
     image: &Image<'_>,
     root: &Root<'_>,
-    found: &mut Found,
+    store: &mut Store,
     looks: &mut Looks<L>,
     holder: u32,
     i: u32,
@@ -114,15 +116,15 @@ fn holder_of_page<L: Ledger>(
     requires root { root.now ≡ block image.now (root_of image.now) }
     requires needed { i < pages_needed (blocks image.now) }
     requires inside { holder < blocks image.now }
-    requires state { IsBeforePage image.now (store_of found.old) i holder }
-    requires paid { IsPaid found.old looks.old 1 }
-    ensures state { IfOk result (λ b. IsAtPage image.now (store_of found.new) i b) }
+    requires state { IsBeforePage image.now (store_value store.old) i holder }
+    requires paid { IsPaid store.old looks.old 1 }
+    ensures state { IfOk result (λ b. IsAtPage image.now (store_value store.new) i b) }
     ensures inside { IfOk result (λ b. b < blocks image.now) }
-    ensures paid { OnOk result (IsPaid found.new looks.new 1) }
+    ensures paid { OnOk result (IsPaid store.new looks.new 1) }
     ensures fault { IfErr result (λ f. IsTrueFault image.now f) }
 {
     if is_first_of_map_ext(i) {
-        claim_map_ext(image, root, found, looks, holder, i)
+        claim_map_ext(image, root, store, looks, holder, i)
     } else {
         Ok(holder)
     }
@@ -132,7 +134,7 @@ fn holder_of_page<L: Ledger>(
 fn read_page_at<L: Ledger>(
     image: &Image<'_>,
     root: &Root<'_>,
-    found: &mut Found,
+    store: &mut Store,
     looks: &mut Looks<L>,
     holder: u32,
     i: u32,
@@ -141,16 +143,16 @@ fn read_page_at<L: Ledger>(
     requires root { root.now ≡ block image.now (root_of image.now) }
     requires needed { i < pages_needed (blocks image.now) }
     requires inside { holder < blocks image.now }
-    requires state { IsAtPage image.now (store_of found.old) i holder }
-    requires paid { IsPaid found.old looks.old 1 }
-    ensures state { OnOk result (IsBeforePage image.now (store_of found.new) (i + 1) holder) }
+    requires state { IsAtPage image.now (store_value store.old) i holder }
+    requires paid { IsPaid store.old looks.old 1 }
+    ensures state { OnOk result (IsBeforePage image.now (store_value store.new) (i + 1) holder) }
     ensures page { IfOk result (λ b. b ≡ block_of_page image.now i) }
     ensures within { IfOk result (λ b. b < blocks image.now) }
-    ensures paid { OnOk result (IsPaid found.new looks.new 1) }
+    ensures paid { OnOk result (IsPaid store.new looks.new 1) }
     ensures fault { IfErr result (λ f. IsTrueFault image.now f) }
 {
     let b = page_named(image, looks, root, holder, i);
-    claim_named(&mut found.owners, holder, b, Owner::Page(i))?;
+    claim_named(&mut store.owners, holder, b, Owner::Page(i))?;
     match read_page(image.look(b, looks)) {
         Ok(_) => Ok(b),
         Err(cause) => Err(fault_at(b, cause)),
@@ -162,22 +164,22 @@ pub fn read_pages<L: Ledger>(
     alloc: Global,
     image: &Image<'_>,
     root: &Root<'_>,
-    found: &mut Found,
+    store: &mut Store,
     looks: &mut Looks<L>,
 ) -> Result<Vec<u32>, Fault>
     requires root { root.now ≡ block image.now (root_of image.now) }
-    requires state { IsBeforePage image.now (store_of found.old) 0 (root_of image.now) }
-    requires paid { IsPaid found.old looks.old 1 }
-    ensures state { OnOk result (IsAtNode image.now (store_of found.new) 0) }
+    requires state { IsBeforePage image.now (store_value store.old) 0 (root_of image.now) }
+    requires paid { IsPaid store.old looks.old 1 }
+    ensures state { OnOk result (IsAtNode image.now (store_value store.new) 0) }
     ensures pages { IfOk result (λ p. AreListed image.now p.items (pages_needed (blocks image.now))) }
-    ensures paid { OnOk result (IsPaid found.new looks.new 1) }
+    ensures paid { OnOk result (IsPaid store.new looks.new 1) }
     ensures fault { IfErr result (λ f. IsTrueFault image.now f) }
 {
     let mut pages = Vec::new(alloc);
     let mut holder = image.root();
     for i in 0..page_count(image.blocks()) {
-        holder = holder_of_page(image, root, found, looks, holder, i)?;
-        let page = read_page_at(image, root, found, looks, holder, i)?;
+        holder = holder_of_page(image, root, store, looks, holder, i)?;
+        let page = read_page_at(image, root, store, looks, holder, i)?;
         if pages.push(page).is_err() {
             return Err(no_memory());
         }

@@ -7,15 +7,15 @@ ghost use Rattle.adf_tree.specs.Tree.{Tree, entry};
 ghost use Rattle.adf_blocks.specs.Sizes.{blocks, count};
 ghost use Rattle.adf_volume.specs.Image.{kind_of, piece, pieces};
 ghost use Rattle.adf_volume.specs.Layout.{Layout, datas_of};
-ghost use Rattle.adf_check.specs.StoredVolume.{StoreStandsFor};
+ghost use Rattle.adf_check.specs.StoreStands.{StoreStandsFor};
 ghost use Rattle.adf_check.specs.Reading.{StoreFits};
-ghost use Rattle.adf_check.specs.Found.{store_of};
+ghost use Rattle.adf_check.specs.Store.{store_value};
 ghost use Rattle.adf_check.specs.Pieces.{AreInside, bytes_of, pieces_at};
 
 use crate::datas::{count_of, held_in};
-use crate::found::Found;
 use crate::image::Image;
 use crate::lookup::block_of;
+use crate::store::Store;
 use adf_blocks::{DATA_BYTES, HeadBody};
 use adf_fields::{Block, NoMemory};
 use adf_tree::{Kind, Node};
@@ -99,52 +99,52 @@ fn part(xs: &[u32], from: usize, len: usize) -> &[u32]
 }
 
 // The data blocks of file `n` of so many bytes.
-fn datas_of<'a>(image: &Image<'_>, found: &'a Found, n: Node, size: u32) -> &'a [u32]
-    requires tells { StoreFits image.now (store_of found.now) }
-    requires node { n ≤ length found.now.rows.items }
-    requires size { (t : Tree) (l : Layout) → StoreStandsFor image.now (store_of found.now) t l → length (datas_of l n) ≡ count (kind_of image.now) size }
-    ensures { (t : Tree) (l : Layout) → StoreStandsFor image.now (store_of found.now) t l → result.now ≡ datas_of l n }
+fn datas_of<'a>(image: &Image<'_>, store: &'a Store, n: Node, size: u32) -> &'a [u32]
+    requires tells { StoreFits image.now (store_value store.now) }
+    requires node { n ≤ length store.now.headers.items }
+    requires size { (t : Tree) (l : Layout) → StoreStandsFor image.now (store_value store.now) t l → length (datas_of l n) ≡ count (kind_of image.now) size }
+    ensures { (t : Tree) (l : Layout) → StoreStandsFor image.now (store_value store.now) t l → result.now ≡ datas_of l n }
 {
     let count = count_of(image.kind(), size) as usize;
     if count == 0 {
         return &[];
     }
-    part(&found.datas, found.starts[n.0].datas as usize, count)
+    part(&store.datas, store.starts[n.0].datas as usize, count)
 }
 
 /// The data blocks of a file; none of the root, a directory and what is past the last entry.
-pub fn blocks_of<'a>(image: &Image<'_>, found: &'a Found, n: Node) -> &'a [u32]
-    requires { StoreFits image.now (store_of found.now) }
-    ensures { (t : Tree) (l : Layout) → StoreStandsFor image.now (store_of found.now) t l → result.now ≡ datas_of l n }
+pub fn blocks_of<'a>(image: &Image<'_>, store: &'a Store, n: Node) -> &'a [u32]
+    requires { StoreFits image.now (store_value store.now) }
+    ensures { (t : Tree) (l : Layout) → StoreStandsFor image.now (store_value store.now) t l → result.now ≡ datas_of l n }
 {
     if n.0 == 0 {
         return &[];
     }
-    if found.rows.len() < n.0 {
+    if store.headers.len() < n.0 {
         return &[];
     }
-    match image.body(block_of(image, found, n)) {
+    match image.body(block_of(image, store, n)) {
         HeadBody::Dir => &[],
-        HeadBody::File { size, .. } => datas_of(image, found, n, size),
+        HeadBody::File { size, .. } => datas_of(image, store, n, size),
     }
 }
 
 /// The pieces of a file; none of the root, a directory and what is past the last entry.
-pub fn pieces_of<'a>(image: &Image<'a>, found: &'a Found, n: Node) -> Option<Pieces<'a>>
-    requires { StoreFits image.now (store_of found.now) }
-    ensures exact { (t : Tree) (l : Layout) → StoreStandsFor image.now (store_of found.now) t l → result ≡ pieces_at image.now t l n }
-    ensures joined { (t : Tree) (l : Layout) → StoreStandsFor image.now (store_of found.now) t l → option_map concat result ≡ bytes_of (entry t.entries n) }
-    ensures one_each { (t : Tree) (l : Layout) → StoreStandsFor image.now (store_of found.now) t l → IfSome result (λ ps. length ps ≡ length (datas_of l n)) }
+pub fn pieces_of<'a>(image: &Image<'a>, store: &'a Store, n: Node) -> Option<Pieces<'a>>
+    requires { StoreFits image.now (store_value store.now) }
+    ensures exact { (t : Tree) (l : Layout) → StoreStandsFor image.now (store_value store.now) t l → result ≡ pieces_at image.now t l n }
+    ensures joined { (t : Tree) (l : Layout) → StoreStandsFor image.now (store_value store.now) t l → option_map concat result ≡ bytes_of (entry t.entries n) }
+    ensures one_each { (t : Tree) (l : Layout) → StoreStandsFor image.now (store_value store.now) t l → IfSome result (λ ps. length ps ≡ length (datas_of l n)) }
     ensures some { IfSome result (λ ps. All (λ p. 0 < length p) ps) }
 {
-    if n.0 == 0 || found.rows.len() < n.0 {
+    if n.0 == 0 || store.headers.len() < n.0 {
         return None;
     }
-    let head = block_of(image, found, n);
+    let head = block_of(image, store, n);
     let HeadBody::File { size, .. } = image.body(head) else {
         return None;
     };
-    let datas = datas_of(image, found, n, size);
+    let datas = datas_of(image, store, n, size);
     Some(Pieces::new(image.bytes(), image.kind(), size, datas))
 }
 

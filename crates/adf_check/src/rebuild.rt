@@ -4,7 +4,7 @@ ghost use Rattle.std.specs.Prelude.{[], IsOk, ◌≡◌, ◌≢◌, ◌≤◌, �
 ghost use Rattle.adf_tree.specs.declared.entry.Body.{Body};
 ghost use Rattle.adf_tree.specs.Tree.{Tree, entry};
 ghost use Rattle.adf_volume.specs.Layout.{Layout};
-ghost use Rattle.adf_check.specs.Rebuild.{body_of};
+ghost use Rattle.adf_check.specs.Rebuild.{body_with};
 ghost use Rattle.adf_check.specs.Volumes.{StandsFor};
 
 use crate::checked::Checked;
@@ -13,8 +13,8 @@ use adf_tree::{Body, Bytes, Entry, Label, Node};
 use std::alloc::Global;
 
 // The body of a directory, or of a file with these bytes.
-fn body_of(bytes: Option<Vec<u8>>) -> Body
-    ensures { result ≡ body_of (option_map (λ v. v.items) bytes) }
+fn body_with(bytes: Option<Vec<u8>>) -> Body
+    ensures { result ≡ body_with (option_map (λ v. v.items) bytes) }
 {
     match bytes {
         None => Body::Dir,
@@ -29,7 +29,7 @@ fn entry_of(volume: &Checked<'_>, alloc: Global, n: Node) -> Result<Option<Entry
     let Some(row) = volume.row(n) else {
         return Ok(None);
     };
-    let body = body_of(volume.read(alloc, n)?);
+    let body = body_with(volume.read(alloc, n)?);
     Ok(Some(Entry {
         parent: row.parent,
         name: row.name,

@@ -1,7 +1,7 @@
 use Rattle.std.proofs.Common.{◌+◌}
 use Rattle.adf_check.specs.Reading.{IsMapped}
-use Rattle.adf_check.specs.Found.{store_of}
+use Rattle.adf_check.specs.Store.{store_value}
 use Rattle.adf_check.proofs.bitmap.check_word.Given as goal
 
 abbrev pub invariant-loop-bit : goal.invariant-loop-bit
-invariant-loop-bit g l = IsMapped l.image (store_of l.found) (l.first + l.bit)
+invariant-loop-bit g l = IsMapped l.image (store_value l.store) (l.first + l.bit)

@@ -1,6 +1,6 @@
 use Rattle.std.proofs.Common.{◌≡◌, ◌+◌, suc, subst, arith}
-use Rattle.adf_check.specs.Reading.{IsAtSlot, IsInChain}
-use Rattle.adf_check.specs.Found.{sees_of, store_of}
+use Rattle.adf_check.specs.Reading.{IsAtSlot, IsInChain, sees_of}
+use Rattle.adf_check.specs.Store.{store_value}
 use Rattle.adf_check.proofs.ChainSteps.{chain_ends}
 use Rattle.adf_check.proofs.chains.read_chain.Goals as goal
 
@@ -8,7 +8,7 @@ pub returns-clause-state : goal.returns-clause-state
 returns-clause-state g c =
     let image = c.args.image.now in
     let chain = c.args.chain.now in
-    let store = store_of c.loop-b.found in
+    let store = store_value c.loop-b.store in
     let seen = sees_of c.loop-b.seen in
     let next : suc chain.slot ≡ chain.slot + 1 = omega arith in
     subst (IsAtSlot image store chain.parent chain.up) next

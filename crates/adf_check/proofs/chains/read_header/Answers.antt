@@ -3,7 +3,7 @@ use Rattle.std.proofs.lemmas.Bool.{not-false, not-true}
 use Rattle.adf_tree.specs.NameSet.{has}
 use Rattle.adf_tree.specs.Texts.{uppers}
 use Rattle.adf_volume.specs.declared.owner.Owner.TheVariants.{Head as AHead}
-use Rattle.adf_check.specs.Found.{store_of}
+use Rattle.adf_check.specs.Store.{store_value}
 use Rattle.adf_check.proofs.NumberBounds.{entry_short, parent_short}
 use Rattle.adf_check.proofs.ChainSteps.{head_named, head_fault, twice_fault, head_done}
 use Rattle.adf_check.proofs.ClaimSteps.{claim_refused}
@@ -27,22 +27,22 @@ returns-in-Ok-false-clause-fault g c =
     rw c.fault_at-in-Ok-false.ensures (twice_fault c.args.seen.now c.requires.slot c.kind-kind.ensures.begun c.requires.state c.requires.some claimed.range
     claimed.free c.kind-kind.ensures.kind c.look.ensures.block c.in-Ok.ensures.0 c.in-Ok.ensures.1 c.name.ensures twice)
 
-pub kept_row-requires : goal.kept_row-requires
-kept_row-requires g c = parent_short c.kind-kind.ensures.begun refl c.requires.state
+pub kept_header-requires : goal.kept_header-requires
+kept_header-requires g c = parent_short c.kind-kind.ensures.begun refl c.requires.state
 
 pub returns-in-Ok-push-clause-state : goal.returns-in-Ok-push-clause-state
 returns-in-Ok-push-clause-state g c =
-    let store = store_of c.args.found.now in
+    let store = store_value c.args.store.now in
     let claimed = c.in_ok-claim_named.ensures in
     let fresh : has c.args.seen.now (uppers c.name.result) ≡ false =
     not-true _ (sym c.in-Ok-true.ensures.new ∙ c.in-Ok-true.field-0-test) in
-    let count : c.len.result ≡ length store.rows = search rules in
-    let pushed : c.push.new.self.items ≡ store.rows ++ record { parent = c.args.chain.now.parent; head = c.args.b } ∷ [] = search rules in
+    let count : c.len.result ≡ length store.headers = search rules in
+    let pushed : c.push.new.self.items ≡ store.headers ++ record { parent = c.args.chain.now.parent; head = c.args.b } ∷ [] = search rules in
     head_done c.args.seen.now c.requires.slot c.kind-kind.ensures.begun c.requires.state c.requires.some claimed.range claimed.free
     c.kind-kind.ensures.kind c.look.ensures.block c.in-Ok.ensures.0 c.in-Ok.ensures.1 c.name.ensures fresh _ c.in-Ok-true.ensures.more c.next.ensures
     (record {
-      owners = claimed.ok ∙ ap (λ n. set store.owners c.args.b (AHead n)) (number c.requires.state.read.tells.lists.count count);
-      rows = pushed;
+      owners = claimed.ok ∙ ap (λ n. set store.owners c.args.b (AHead n)) (number c.requires.state.read.tells.headers.count count);
+      headers = pushed;
       starts = refl;
       exts = refl;
       datas = refl;

@@ -7,12 +7,12 @@ use Rattle.adf_blocks.specs.RootBlock.{stamps_at}
 use Rattle.adf_volume.specs.Image.{label_of, root_of, stamps_of}
 use Rattle.adf_volume.specs.Layout.{Layout}
 use Rattle.adf_volume.specs.Made.{layout_in, tree_in}
-use Rattle.adf_check.specs.Found.{store_of}
+use Rattle.adf_check.specs.Store.{store_value}
 use Rattle.adf_check.specs.Volumes.{StandsFor, Volume}
 use Rattle.adf_volume.specs.Walk.{FirstFault}
 use Rattle.adf_check.specs.Fault.{IsTrueFault}
 use Rattle.adf_check.proofs.ClaimSteps.{first_fault, if_err}
-use Rattle.adf_check.proofs.StoredVolume.{keeps}
+use Rattle.adf_check.proofs.StoreStands.{keeps}
 use Rattle.adf_check.proofs.checker.check_within.Goals as goal
 
 pub new-requires : goal.new-requires
@@ -30,7 +30,7 @@ new-requires g c =
 pub returns-clause-fits : goal.returns-clause-fits
 returns-clause-fits g c =
     let image = c.in_ok-opened.opened.image in
-    let store = store_of c.read_nodes.new.found in
+    let store = store_value c.read_nodes.new.store in
     let tells = c.in_ok-check_bitmap.ensures.fits in
     let stands : Volume → Type 0 = λ v. (t : Tree) × (l : Layout) × StandsFor v t l in
     subst stands (sym c.new.ensures) (tree_in image tells.walk, layout_in tells.walk, keeps image store tells)

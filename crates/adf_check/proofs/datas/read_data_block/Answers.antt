@@ -27,6 +27,6 @@ pub returns-in-Ok-clause-state : goal.returns-in-Ok-clause-state
 returns-in-Ok-clause-state g c =
     let q = c.requires in
     let claimed = c.in_ok-claim_named.ensures in
-    let pushed : c.push.new.self.items ≡ c.args.found.now.datas.items ++ c.args.b ∷ [] = search rules in
+    let pushed : c.push.new.self.items ≡ c.args.store.now.datas.items ++ c.args.b ∷ [] = search rules in
     data_done q.begun q.state q.count q.size q.enough q.inside q.holder q.named claimed.range claimed.free (search rules)
-    (record { owners = claimed.ok; rows = refl; starts = refl; exts = refl; datas = pushed; used = claimed.count })
+    (record { owners = claimed.ok; headers = refl; starts = refl; exts = refl; datas = pushed; used = claimed.count })

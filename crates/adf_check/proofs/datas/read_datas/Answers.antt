@@ -2,7 +2,7 @@ use Rattle.std.proofs.Common.{◌≡◌, ◌+◌, ◌*◌, ◌<◌, ℕ, suc, le
 use Rattle.adf_volume.specs.Walk.{data_count}
 use Rattle.adf_check.specs.Reading.{IsAtNode}
 use Rattle.adf_check.proofs.DataSteps.{datas_end, too_short}
-use Rattle.adf_check.specs.Found.{store_of}
+use Rattle.adf_check.specs.Store.{store_value}
 use Rattle.adf_check.proofs.datas.read_datas.Goals as goal
 
 pub returns-then-tables-table-clause-fault : goal.returns-then-tables-table-clause-fault
@@ -10,7 +10,7 @@ returns-then-tables-table-clause-fault g c =
     let image = c.args.image.now in
     let e : c.count_of-count.result ≡ data_count image c.args.head = cc (c.count_of-count.ensures, c.kind.ensures.kind, c.requires.size) in
     let short : 72 * length c.args.table.now < data_count image c.args.head = omega arith in
-    rw c.fault_at.ensures (too_short c.requires.begun c.requires.state refl short)
+    rw c.fault_at.ensures (too_short c.kind.ensures.begun c.requires.state refl short)
 
 pub returns-clause-state : goal.returns-clause-state
 returns-clause-state g c =
@@ -18,5 +18,5 @@ returns-clause-state g c =
     let e : c.count_of-count.result ≡ data_count image c.args.head = cc (c.count_of-count.ensures, c.kind.ensures.kind, c.requires.size) in
     let one : suc c.args.node ≡ c.args.node + 1 = omega arith in
     let last : ℕ = min (72 * c.loop-m.m) c.count_of-count.result in
-    subst (IsAtNode image (store_of c.loop-m.found)) one
-    (datas_end image (store_of c.loop-m.found) c.args.node c.args.head c.args.table.now last c.loop-m.invariant.state (omega arith))
+    subst (IsAtNode image (store_value c.loop-m.store)) one
+    (datas_end image (store_value c.loop-m.store) c.args.node c.args.head c.args.table.now last c.loop-m.invariant.state (omega arith))

@@ -1,6 +1,6 @@
 use Rattle.std.proofs.Common.{◌≡◌, ◌++◌, ◌∷◌, [], length, set, ap, refl, ◌∙◌, rules, arith}
 use Rattle.adf_volume.specs.declared.owner.Owner.TheVariants.{Ext as AnExt}
-use Rattle.adf_check.specs.Found.{store_of}
+use Rattle.adf_check.specs.Store.{store_value}
 use Rattle.adf_check.proofs.NumberBounds.{file_short, table_short}
 use Rattle.adf_check.proofs.ClaimSteps.{claim_refused}
 use Rattle.adf_check.proofs.ExtSteps.{ext_named, ext_fault, ext_done}
@@ -18,7 +18,7 @@ returns-in-Err-clause-fault g c =
 
 pub returns-clause-state : goal.returns-clause-state
 returns-clause-state g c =
-    let store = store_of c.args.found.now in
+    let store = store_value c.args.store.now in
     let b = c.args.b in
     let claimed = c.in_ok-claim_named.ensures in
     let count : c.len.result ≡ length c.args.table.now.items = search rules in
@@ -27,7 +27,7 @@ returns-clause-state g c =
     ext_done c.requires.begun c.requires.state c.requires.some claimed.range claimed.free c.look.ensures.block c.in-Ok.ensures.0 c.in-Ok.ensures.1
     c.next.ensures pushed (record {
       owners = claimed.ok ∙ ap (λ k. set store.owners b (AnExt c.args.node k)) count;
-      rows = refl;
+      headers = refl;
       starts = refl;
       exts = kept;
       datas = refl;

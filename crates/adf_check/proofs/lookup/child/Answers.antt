@@ -6,9 +6,9 @@ use Rattle.adf_blocks.specs.HeadBlock.{IsHead}
 use Rattle.adf_volume.specs.Image.{word_in}
 use Rattle.adf_tree.specs.Tree.{Tree}
 use Rattle.adf_volume.specs.Layout.{Layout, at_node, chain_nodes}
-use Rattle.adf_check.specs.StoredVolume.{StoreStandsFor}
+use Rattle.adf_check.specs.StoreStands.{StoreStandsFor}
 use Rattle.adf_volume.specs.Lists.{Spelled}
-use Rattle.adf_check.specs.Found.{store_of}
+use Rattle.adf_check.specs.Store.{store_value}
 use Rattle.adf_check.proofs.ChainLookups.{OnChain, chain_begins, chain_ended, chain_found, chain_left, chain_next, child_within, on_head, on_inside}
 use Rattle.adf_check.proofs.ChainLookups.{on_smaller, other_name, same_name}
 use Rattle.adf_check.proofs.lookup.child.Goals as goal
@@ -34,13 +34,13 @@ node_at-requires c =
 pub returns-then-same : goal.returns-then-same
 returns-then-same c =
     let same = same_name c.args.image.now c.loop-b.b c.args.name.now c.name.ensures c.over-head.ensures c.block.ensures.block c.same.ensures c.if-same.true in
-    let found = λ (t : Tree) (l : Layout) (k : StoreStandsFor c.args.image.now (store_of c.args.found.now) t l).
+    let found = λ (t : Tree) (l : Layout) (k : StoreStandsFor c.args.image.now (store_value c.args.store.now) t l).
     c.node_at.ensures ∙ chain_found k (c.loop-b.invariant t l k) c.loop-b-test.true same in
     record { found = found; node = child_within c.requires.tells c.args.parent c.args.name.now c.node_at.result found }
 
 pub loop-b-smaller : goal.loop-b-smaller
 loop-b-smaller c =
-    let store = store_of c.args.found.now in
+    let store = store_value c.args.store.now in
     let next : c.next-b.result ≡ word_in c.args.image.now c.loop-b.b NEXT_IN_CHAIN =
     c.next-b.ensures ∙ ap (λ x. word x NEXT_IN_CHAIN) (c.over-head.ensures ∙ c.block.ensures.block) in
     subst (λ d. chain_left store d < chain_left store c.loop-b.b) (sym next) (on_smaller c.requires.tells c.loop-b.invariant c.loop-b-test.true)

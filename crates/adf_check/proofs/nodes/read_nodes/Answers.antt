@@ -1,6 +1,6 @@
 use Rattle.std.proofs.Common.{◌≡◌, suc, length, subst, sym, refl, arith}
 use Rattle.adf_check.specs.Reading.{IsInNode}
-use Rattle.adf_check.specs.Found.{store_of}
+use Rattle.adf_check.specs.Store.{store_value}
 use Rattle.adf_check.proofs.NodeSteps.{enter_node}
 use Rattle.adf_check.proofs.NodeSteps.{all_read}
 use Rattle.adf_check.proofs.NumberBounds.{lists_short}
@@ -14,15 +14,15 @@ enter-requires g c =
 pub read_node-requires-clause-state : goal.read_node-requires-clause-state
 read_node-requires-clause-state g c =
     subst (λ s. IsInNode c.args.image.now s c.loop-node.node) (sym c.in_ok-enter.ensures.entered)
-    (enter_node c.args.image.now (store_of c.loop-node.found) c.loop-node.node c.loop-node.invariant.state)
+    (enter_node c.args.image.now (store_value c.loop-node.store) c.loop-node.node c.loop-node.invariant.state)
 
 pub returns-clause-state : goal.returns-clause-state
 returns-clause-state g c =
-    let rows = c.loop-node.found.rows.items in
-    let end : c.loop-node.node ≡ suc (length rows) = omega (arith, c.loop-node.invariant.within) in
-    all_read c.args.image.now (store_of c.loop-node.found) c.loop-node.node end c.loop-node.invariant.state
+    let headers = c.loop-node.store.headers.items in
+    let end : c.loop-node.node ≡ suc (length headers) = omega (arith, c.loop-node.invariant.within) in
+    all_read c.args.image.now (store_value c.loop-node.store) c.loop-node.node end c.loop-node.invariant.state
 
 pub read_node-requires-clause-paid : goal.read_node-requires-clause-paid
 read_node-requires-clause-paid g c =
-    let begun : length c.loop-node.found.starts.items ≡ c.loop-node.node = c.loop-node.invariant.state.read.started in
+    let begun : length c.loop-node.store.starts.items ≡ c.loop-node.node = c.loop-node.invariant.state.read.started in
     c.in_ok-enter.ensures.paid c.loop-node.looks c.loop-node.invariant.paid (omega (arith, begun))

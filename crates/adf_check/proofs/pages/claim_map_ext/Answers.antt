@@ -13,4 +13,4 @@ returns-clause-state g c =
     let q = c.requires in
     let claimed = c.in_ok-claim_named.ensures in
     map_ext_done q.begun q.needed q.past q.first q.state c.map_ext_named-b.ensures.exact claimed.range claimed.free
-    (record { owners = claimed.ok; rows = refl; starts = refl; exts = refl; datas = refl; used = claimed.count })
+    (record { owners = claimed.ok; headers = refl; starts = refl; exts = refl; datas = refl; used = claimed.count })

@@ -1,10 +1,10 @@
 use Rattle.std.proofs.Common.{ap, ◌∙◌}
 use Rattle.adf_tree.specs.Tree.{entry}
-use Rattle.adf_check.specs.Rebuild.{body_of}
+use Rattle.adf_check.specs.Rebuild.{body_with}
 use Rattle.adf_check.proofs.TreeEntries.{entry_back}
 use Rattle.adf_check.proofs.rebuild.entry_of.Goals as goal
 
 pub returns : goal.returns
 returns c = λ t l st.
-    entry_back c.in-Some.row c.body_of-body.result (entry t.entries c.args.n) (c.in-Some.ensures t l st)
-    (c.body_of-body.ensures ∙ ap body_of (c.in_ok-read.ensures.bytes t l st))
+    entry_back c.in-Some.row c.body_with-body.result (entry t.entries c.args.n) (c.in-Some.ensures t l st)
+    (c.body_with-body.ensures ∙ ap body_with (c.in_ok-read.ensures.bytes t l st))

@@ -1,14 +1,14 @@
 use Rattle.std.proofs.Common.{subst}
 use Rattle.adf_volume.specs.Made.{layout_in, tree_in}
-use Rattle.adf_check.specs.Found.{store_of}
+use Rattle.adf_check.specs.Store.{store_value}
 use Rattle.adf_check.specs.Volumes.{StandsFor, Volume}
-use Rattle.adf_check.proofs.StoredVolume.{keeps}
+use Rattle.adf_check.proofs.StoreStands.{keeps}
 use Rattle.adf_check.proofs.checked.Checked.len.Goals as goal
 
 pub returns-clause-stands : goal.returns-clause-stands
 returns-clause-stands c =
     let image = c.self.inside.image in
-    let store = store_of c.self.inside.found in
+    let store = store_value c.self.inside.store in
     let tells = c.self.invariant.tells in
     let t = tree_in image tells.walk in
     let l = layout_in tells.walk in

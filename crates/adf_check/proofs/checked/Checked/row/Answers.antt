@@ -1,24 +1,24 @@
 use Rattle.std.proofs.Common.{◌≡◌, ◌-◌, ◌∙◌, suc, ap, subst, sym, arith}
 use Rattle.adf_fields.specs.Words.{block}
 use Rattle.adf_blocks.specs.HeadBlock.{IsHead}
-use Rattle.adf_check.specs.Found.{store_of}
+use Rattle.adf_check.specs.Store.{store_value}
 use Rattle.adf_check.specs.Rows.{row_in}
 use Rattle.adf_check.specs.Volumes.{StandsFor, Volume}
-use Rattle.adf_check.proofs.VolumeCounts.{row_inside}
-use Rattle.adf_check.proofs.NodeSteps.{row_here}
-use Rattle.adf_check.proofs.RowLaws.{entry_told, row_is_head}
+use Rattle.adf_check.proofs.VolumeCounts.{header_inside}
+use Rattle.adf_check.proofs.NodeSteps.{header_here}
+use Rattle.adf_check.proofs.RowLaws.{entry_told, header_is_head}
 use Rattle.adf_check.proofs.checked.Checked.row.Goals as goal
 
 pub block-requires : goal.block-requires
 block-requires c =
     let found = c.in_ok-kept.ensures.lookup in
-    row_inside c.self.invariant.tells (c.n.inside.0 - 1) c.in_ok-kept.kept.now (row_here _ _ _ c.deref.ensures.value found.3.0 found.1)
+    header_inside c.self.invariant.tells (c.n.inside.0 - 1) c.in_ok-kept.kept.now (header_here _ _ _ c.deref.ensures.value found.3.0 found.1)
 
 pub over-head-requires : goal.over-head-requires
 over-head-requires c =
     let found = c.in_ok-kept.ensures.lookup in
     subst IsHead (sym c.block.ensures.block)
-    (row_is_head c.self.invariant.tells (c.n.inside.0 - 1) c.in_ok-kept.kept.now (row_here _ _ _ c.deref.ensures.value found.3.0 found.1))
+    (header_is_head c.self.invariant.tells (c.n.inside.0 - 1) c.in_ok-kept.kept.now (header_here _ _ _ c.deref.ensures.value found.3.0 found.1))
 
 pub returns : goal.returns
 returns c = λ t l stands.
@@ -27,5 +27,5 @@ returns c = λ t l stands.
     let node : c.args.n ≡ suc (c.n.inside.0 - 1) = omega (arith, c.n.view_is, c.if-n-eq0.false) in
     let told : c.row_of.result ≡ row_in kept.parent (block c.self.inside.image kept.head) =
     c.row_of.ensures ∙ ap (row_in kept.parent) (c.over-head.ensures ∙ c.block.ensures.block) in
-    entry_told c.self.inside.image (store_of c.self.inside.found) t l (subst (λ (v : Volume). StandsFor v t l) (sym c.self.view_is) stands) c.args.n
-    (c.n.inside.0 - 1) kept c.row_of.result node (row_here _ _ _ c.deref.ensures.value found.3.0 found.1) told
+    entry_told c.self.inside.image (store_value c.self.inside.store) t l (subst (λ (v : Volume). StandsFor v t l) (sym c.self.view_is) stands) c.args.n
+    (c.n.inside.0 - 1) kept c.row_of.result node (header_here _ _ _ c.deref.ensures.value found.3.0 found.1) told

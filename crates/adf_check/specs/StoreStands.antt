@@ -9,9 +9,9 @@ use Rattle.adf_volume.specs.declared.owner.Owner.TheVariants.{Free, Boot}
 use Rattle.adf_volume.specs.Lists.{At, In}
 use Rattle.adf_volume.specs.Layout.{Layout, EntryAt, at_node, exts_of, datas_of, owned}
 use Rattle.adf_volume.specs.Fits.{Fits}
-use Rattle.adf_check.specs.declared.kept.KeptHeader.{KeptHeader}
-use Rattle.adf_check.specs.declared.kept.Start.{Start}
-use Rattle.adf_check.specs.Store.{Store, owner_at}
+use Rattle.adf_check.specs.declared.store.KeptHeader.{KeptHeader}
+use Rattle.adf_check.specs.declared.store.NodeStart.{NodeStart}
+use Rattle.adf_check.specs.Store.{StoreValue, owner_at}
 
 -- the table has each block's one owner
 pub record OwnersFit (image : List ℕ) (l : Layout) (owners : List Owner) : Type 0 where
@@ -20,22 +20,22 @@ pub record OwnersFit (image : List ℕ) (l : Layout) (owners : List Owner) : Typ
   pub part : (o : Owner) (b : ℕ) → In (owned image l) (o, b) → owner_at owners b ≡ o
   pub free : (b : ℕ) → 2 ≤ b → b < blocks image → ((o : Owner) → In (owned image l) (o, b) → ⊥) → owner_at owners b ≡ Free
 
--- row i has the parent and the header of entry i + 1
-pub record RowsFit (image : List ℕ) (t : Tree) (l : Layout) (rows : List KeptHeader) : Type 0 where
-  pub count : length rows ≡ length t.entries
-  pub head : (i : ℕ) (r : KeptHeader) → At rows i r → at_node image l (suc i) ≡ r.head
-  pub parent : (i : ℕ) (r : KeptHeader) (e : Entry) → At rows i r → EntryAt t (suc i) e → e.parent ≡ r.parent
+-- header i has the parent and the block of entry i + 1's header
+pub record HeadersFit (image : List ℕ) (t : Tree) (l : Layout) (headers : List KeptHeader) : Type 0 where
+  pub count : length headers ≡ length t.entries
+  pub head : (i : ℕ) (r : KeptHeader) → At headers i r → at_node image l (suc i) ≡ r.head
+  pub parent : (i : ℕ) (r : KeptHeader) (e : Entry) → At headers i r → EntryAt t (suc i) e → e.parent ≡ r.parent
 
 -- start n says where the extension blocks and the data blocks of node n stand in the flat lists
-pub record StartsFit (l : Layout) (store : Store) : Type 0 where
-  pub count : length store.starts ≡ suc (length store.rows)
-  pub exts : (n : ℕ) (x : Start) → At store.starts n x → take (length (exts_of l n)) (drop x.exts store.exts) ≡ exts_of l n
-  pub datas : (n : ℕ) (x : Start) → At store.starts n x → take (length (datas_of l n)) (drop x.datas store.datas) ≡ datas_of l n
+pub record StartsFit (l : Layout) (store : StoreValue) : Type 0 where
+  pub count : length store.starts ≡ suc (length store.headers)
+  pub exts : (n : ℕ) (x : NodeStart) → At store.starts n x → take (length (exts_of l n)) (drop x.exts store.exts) ≡ exts_of l n
+  pub datas : (n : ℕ) (x : NodeStart) → At store.starts n x → take (length (datas_of l n)) (drop x.datas store.datas) ≡ datas_of l n
 
 -- what is kept tells of this tree and layout, which fit the image
-pub record StoreStandsFor (image : List ℕ) (store : Store) (t : Tree) (l : Layout) : Type 0 where
+pub record StoreStandsFor (image : List ℕ) (store : StoreValue) (t : Tree) (l : Layout) : Type 0 where
   pub fits : Fits image t l
   pub owners : OwnersFit image l store.owners
-  pub rows : RowsFit image t l store.rows
+  pub headers : HeadersFit image t l store.headers
   pub starts : StartsFit l store
   pub used : store.used ≡ length (owned image l)

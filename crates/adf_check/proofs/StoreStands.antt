@@ -15,10 +15,10 @@ use Rattle.adf_volume.proofs.WalkCompleteness.{part_walked}
 use Rattle.adf_volume.proofs.WalkMembers.{entries_length, has_ext, ext_has, has_data, data_has}
 use Rattle.adf_volume.proofs.WholeWalks.{head_is, entry_is}
 use Rattle.adf_volume.proofs.WalkOwners.{owned_has, is_owned}
-use Rattle.adf_check.specs.declared.kept.KeptHeader.{KeptHeader}
-use Rattle.adf_check.specs.Store.{Store, owner_at}
+use Rattle.adf_check.specs.declared.store.KeptHeader.{KeptHeader}
+use Rattle.adf_check.specs.Store.{StoreValue, owner_at}
 use Rattle.adf_check.specs.Reading.{StoreFits}
-use Rattle.adf_check.specs.StoredVolume.{OwnersFit, RowsFit, StartsFit, StoreStandsFor}
+use Rattle.adf_check.specs.StoreStands.{OwnersFit, HeadersFit, StartsFit, StoreStandsFor}
 use Rattle.adf_check.proofs.NodeSteps.{node_here}
 use Rattle.adf_check.proofs.WalkLengths.{walk_length}
 use Rattle.adf_check.proofs.FileBlocks.{exts_stored, datas_stored}
@@ -27,7 +27,7 @@ is_free : (o : Owner) → (o ≡ Free) ⊎ (o ≢ Free)
 is_free Free = inl refl
 is_free _ = inr (λ e. cc)
 
-module _ (image : List ℕ) (store : Store) (st : StoreFits image store) where
+module _ (image : List ℕ) (store : StoreValue) (st : StoreFits image store) where
   owners_fit : OwnersFit image (layout_in st.walk) store.owners
   owners_fit = record {
     size = st.read.tells.owns.size;
@@ -39,16 +39,16 @@ module _ (image : List ℕ) (store : Store) (st : StoreFits image store) where
     ]);
   }
 
-  rows_fit : RowsFit image (tree_in image st.walk) (layout_in st.walk) store.rows
-  rows_fit = record {
-    count = st.read.tells.lists.count ∙ sym (entries_length image st.walk st.walk);
+  headers_fit : HeadersFit image (tree_in image st.walk) (layout_in st.walk) store.headers
+  headers_fit = record {
+    count = st.read.tells.headers.count ∙ sym (entries_length image st.walk st.walk);
     head = (λ i r h.
         let x = node_here image store st.walk st.read.tells st.read.is_walk i r h in
         (head_is image st.walk st.read.is_walk st.read.whole (suc i) x.0 x.1 x.2 r.head x.3).0);
     parent = (λ i r e h k.
         let x = entry_is image st.walk st.read.is_walk st.read.whole (suc i) e k in
         let z : r ≡ record { parent = x.0; head = x.3 } =
-        at_fun store.rows i r (record { parent = x.0; head = x.3 }) h (st.read.tells.lists.row i x.0 x.1 x.2 x.3 x.4) in
+        at_fun store.headers i r (record { parent = x.0; head = x.3 }) h (st.read.tells.headers.header i x.0 x.1 x.2 x.3 x.4) in
         ap (λ (y : Entry). y.parent) x.5 ∙ ap (λ (y : KeptHeader). y.parent) (sym z));
   }
 
@@ -85,7 +85,7 @@ module _ (image : List ℕ) (store : Store) (st : StoreFits image store) where
   keeps = record {
     fits = st.fits;
     owners = owners_fit;
-    rows = rows_fit;
+    headers = headers_fit;
     starts = starts_fit;
     used = st.read.tells.used ∙ sym (walk_length image st.walk st.read.is_walk st.read.whole);
   }

@@ -6,7 +6,7 @@ use Rattle.adf_check.specs.Store.{owner_at}
 use Rattle.adf_check.specs.Owners.{owned_count}
 use Rattle.adf_check.proofs.RootRead.{begun_with_root, root_is_free}
 use Rattle.adf_check.proofs.ClaimSteps.{on_ok}
-use Rattle.adf_check.proofs.found.Found.begin.Goals as goal
+use Rattle.adf_check.proofs.store.Store.begin.Goals as goal
 
 pub returns-clause-state : goal.returns-clause-state
 returns-clause-state c =

@@ -1,0 +1,65 @@
+// What a reader keeps of what it has read.
+
+ghost use Rattle.std.specs.Prelude.{ℕ, List, IfOk, ◌*◌};
+ghost use Rattle.adf_tree.specs.Tree.{Tree};
+ghost use Rattle.adf_blocks.specs.Sizes.{blocks};
+ghost use Rattle.adf_volume.specs.Image.{root_of};
+ghost use Rattle.adf_volume.specs.Layout.{Layout};
+ghost use Rattle.adf_check.specs.Progress.{IsPaid};
+ghost use Rattle.adf_check.specs.Reading.{IsBeforePage, StoreFits};
+ghost use Rattle.adf_check.specs.Store.{StoreValue, store_value};
+ghost use Rattle.adf_check.specs.StoreStands.{StoreStandsFor};
+
+use crate::image::Image;
+use crate::owner_table::OwnerTable;
+use adf_fields::NoMemory;
+use adf_volume::Owner;
+use std::alloc::Global;
+
+/// What is kept of a header: the number of its entry's parent, and its block.
+#[derive(Clone, Copy, Debug, PartialEq, Eq)]
+pub struct KeptHeader {
+    pub parent: u32,
+    pub head: u32,
+}
+
+/// Where the blocks of a node begin in the lists of all extension blocks and of all data blocks.
+#[derive(Clone, Copy, Debug, PartialEq, Eq)]
+pub struct NodeStart {
+    pub exts: u32,
+    pub datas: u32,
+}
+
+/// What a reader keeps: the owner of each block, the header of each entry, and for each node, the root among them, where
+/// its blocks begin in the lists of all extension blocks and of all data blocks.
+#[derive(Drop)]
+pub struct Store {
+    pub owners: OwnerTable,
+    pub headers: Vec<KeptHeader>,
+    pub starts: Vec<NodeStart>,
+    pub exts: Vec<u32>,
+    pub datas: Vec<u32>,
+}
+
+impl Store {
+    // What is kept before anything is read but the root.
+    pub fn begin(alloc: Global, image: &Image<'_>) -> Result<Store, NoMemory>
+        ensures paid { IfOk result (λ s. IsPaid s (6 * blocks image.now) 1) }
+        ensures state { IfOk result (λ s. IsBeforePage image.now (store_value s) 0 (root_of image.now)) }
+    {
+        let mut owners = OwnerTable::new(alloc, image.blocks())?;
+        owners.claim(image.root(), Owner::Root).unwrap();
+        Ok(Store {
+            owners,
+            headers: Vec::new(alloc),
+            starts: Vec::new(alloc),
+            exts: Vec::new(alloc),
+            datas: Vec::new(alloc),
+        })
+    }
+}
+
+/// What a reader keeps of a whole walk tells of the one tree and layout that fit.
+pub fn stores_stand_for_trees()
+    ensures { (image : List ℕ) (store : StoreValue) → StoreFits image store → (t : Tree) × (l : Layout) × StoreStandsFor image store t l }
+{}
