@@ -10,7 +10,7 @@ use Rattle.adf_volume.specs.Layout.{Layout, owned}
 use Rattle.adf_volume.specs.Lists.{In}
 use Rattle.adf_volume.proofs.FitWalks.{one_fit}
 use Rattle.adf_check.specs.Volumes.{StandsFor, Volume}
-use Rattle.adf_c.specs.Roles.{IsRole, role_number}
+use Rattle.adf_c.specs.OwnerNumbers.{IsOwnerNumber, owner_number}
 
 -- a checked volume stands for a tree and a layout
 abbrev pub Stands : Volume → Type 0
@@ -27,13 +27,13 @@ some_same : (got : Option Owner) (q o : Owner) → got ≡ Some q → got ≡ So
 some_same got q o a b = cc
 
 -- the number of the role that is told of a block is that of its role
-pub role_told : (v : Volume) (b r : ℕ) (got : Option Owner) (q : Owner) → Stands v → got ≡ Some q → r ≡ role_number q
+pub role_told : (v : Volume) (b r : ℕ) (got : Option Owner) (q : Owner) → Stands v → got ≡ Some q → r ≡ owner_number q
     → ((t : Tree) (l : Layout) (o : Owner) → StandsFor v t l → In (owned v.image l) (o, b) → got ≡ Some o)
     → (b < 2 → got ≡ Some Boot)
     → ((t : Tree) (l : Layout) → StandsFor v t l → 2 ≤ b → b < blocks v.image → ((o : Owner) → In (owned v.image l) (o, b) → ⊥) → got ≡ Some Free)
-    → b < blocks v.image → IsRole v.image b r
+    → b < blocks v.image → IsOwnerNumber v.image b r
 role_told v b r got q stands is number part boot free inside =
-    let told : (o : Owner) → got ≡ Some o → r ≡ role_number o = λ o e. number ∙ ap role_number (some_same got q o is e) in
+    let told : (o : Owner) → got ≡ Some o → r ≡ owner_number o = λ o e. number ∙ ap owner_number (some_same got q o is e) in
     record {
       part = λ t l o fits has. told o (part t l o (stands_for v stands t l fits) has);
       boot = λ low. told Boot (boot low);

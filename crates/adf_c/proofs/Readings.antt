@@ -24,9 +24,9 @@ use Rattle.adf_volume.proofs.Images.{AreIn, area_length, enough_bytes, joined_le
 use Rattle.adf_volume.proofs.LayoutRoles.{part_range}
 use Rattle.adf_volume.proofs.Lists.{at_below, at_index_or, at_some}
 use Rattle.adf_c.specs.declared.tables.TableEntry.{TableEntry}
-use Rattle.adf_c.specs.Areas.{AreBlocksOf, AreBytesOf, AreDatasOf, file_bytes}
+use Rattle.adf_c.specs.Areas.{AreBlocksOf, AreBytesOf, AreDatasOf, bytes_in_blocks}
 use Rattle.adf_c.specs.Rooms.{filled}
-use Rattle.adf_c.specs.Tables.{all_datas, block_table, bytes_at, bytes_in, bytes_told, entry_table, told}
+use Rattle.adf_c.specs.Tables.{all_datas, block_table, bytes_at, bytes_in, bytes_told, entry_table, table_entry}
 use Rattle.adf_c.proofs.Filled.{drop_zero, filled_part, take_zero}
 use Rattle.adf_c.proofs.TableLaws.{told_here, told_length}
 
@@ -207,11 +207,11 @@ body_read image t l n e fits at (File bytes) is f = (
 -- what an entry of the table tells of a file
 pub record IsRead (image table : List ℕ) (t : Tree) (l : Layout) (n : ℕ) (x : TableEntry) : Type 0 where
   pub datas : AreDatasOf image x table (datas_of l n)
-  pub bytes : file_bytes image x (datas_of l n) ≡ bytes_at t n
+  pub bytes : bytes_in_blocks image x (datas_of l n) ≡ bytes_at t n
 
 -- what is told of an entry tells of its bytes
 told_read : (image : List ℕ) (t : Tree) (l : Layout) (i : ℕ) (e : Entry) → Fits image t l → At t.entries i e
-    → IsRead image (block_table l) t l (suc i) (told (head_at l.places i) (length (all_datas (take i l.places))) e)
+    → IsRead image (block_table l) t l (suc i) (table_entry (head_at l.places i) (length (all_datas (take i l.places))) e)
 told_read image t l i e fits at =
     let below : i < length l.places = omega (arith, at_below t.entries i e at, fits.places) in
     let body = body_read image t l (suc i) e fits at e.body refl (fits.entries (suc i) e at).body in
@@ -239,7 +239,7 @@ entry_read image table t l xs (suc i) d fits is tables some le =
     let lt : i < length t.entries = omega (arith, ap length is, told_length 0 t.entries l.places fits.places) in
     let e = at_some t.entries i lt in
     let here = told_here t l i (length (all_datas (take i l.places))) e.0 e.1 fits.places refl in
-    let same : get_or xs (suc i - 1) d ≡ told (head_at l.places i) (length (all_datas (take i l.places))) e.0 =
+    let same : get_or xs (suc i - 1) d ≡ table_entry (head_at l.places i) (length (all_datas (take i l.places))) e.0 =
     ap (λ ys. get_or ys (suc i - 1) d) is ∙ ap (λ j. get_or (entry_table t l) j d) z ∙ at_index_or (entry_table t l) i _ d here in
     subst (λ bs. IsRead image bs t l (suc i) (get_or xs (suc i - 1) d)) (sym tables)
     (subst (IsRead image (block_table l) t l (suc i)) (sym same) (told_read image t l i e.0 fits e.1))

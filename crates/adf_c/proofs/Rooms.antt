@@ -50,8 +50,8 @@ pub part_told : (ws : List (List ℕ)) (input : List ℕ) (n n' : ℕ) (k o o' :
 part_told ws input n n' k o o' none (inl nothing) room =
     let there = appended n n' k o [] none nothing in
     inl (sym (room there.0) ∙ there.1)
-part_told ws input n n' k o o' none (inr (r, asks, (status, output, errors, answer, put))) room =
-    inr (r, asks, (status, output, errors, answer, told true true n n' k o o' output none put room refl))
+part_told ws input n n' k o o' none (inr (r, asks, (reply, answer, put))) room =
+    inr (r, asks, (reply, answer, told true true n n' k o o' reply.output none put room refl))
 
 -- and of an answer
 pub answered : (ws : List (List ℕ)) (input : List ℕ) (status n n' m m' : ℕ) (k l o o' e e' : List ℕ) (failed failed' : Bool)
@@ -59,6 +59,6 @@ pub answered : (ws : List (List ℕ)) (input : List ℕ) (status n n' m m' : ℕ
     → Answers ws input status (Some (n ∷ k)) (Some (n' ∷ o)) failed (Some (m ∷ l)) (Some (m' ∷ e))
     → (n' ≡ n → o ≡ o') → (m' ≡ m → e ≡ e') → failed ≡ failed'
     → Answers ws input status (Some []) (Some o') failed' (Some []) (Some e')
-answered ws input status n n' m m' k l o o' e e' failed failed' none_o none_e (r, asks, output, errors, answer, put, says) room_o room_e same =
-    let there = appended n n' k o output none_o put in
-    (r, asks, output, errors, answer, sym (room_o there.0) ∙ there.1, told failed failed' m m' l e e' errors none_e says room_e same)
+answered ws input status n n' m m' k l o o' e e' failed failed' none_o none_e (r, asks, reply, is, answer, put, says) room_o room_e same =
+    let there = appended n n' k o reply.output none_o put in
+    (r, asks, reply, is, answer, sym (room_o there.0) ∙ there.1, told failed failed' m m' l e e' reply.errors none_e says room_e same)

@@ -18,7 +18,7 @@ use Rattle.adf_check.specs.declared.row.Row.{Row}
 use Rattle.adf_c.specs.declared.tables.Contents.{Contents}
 use Rattle.adf_c.specs.declared.tables.TableEntry.{TableEntry}
 use Rattle.adf_c.specs.Rooms.{filled}
-use Rattle.adf_c.specs.Tables.{all_datas, block_table, contents_of, entry_table, told, told_from}
+use Rattle.adf_c.specs.Tables.{all_datas, block_table, contents_of, entry_table, table_entry, table_entries}
 use Rattle.adf_c.proofs.Filled.{take_zero}
 
 -- the first i + 1 are the first i and the one at place i
@@ -35,25 +35,25 @@ entries_more xs room now next i x at put e =
 
 -- the entry at a place of the table
 told_at : (k : ℕ) (es : List Entry) (qs : List Place) (i : ℕ) (e : Entry) → At es i e → length qs ≡ length es
-    → At (told_from k es qs) i (told (head_at qs i) (k + length (all_datas (take i qs))) e)
+    → At (table_entries k es qs) i (table_entry (head_at qs i) (k + length (all_datas (take i qs))) e)
 told_at k [] qs i e at z = absurd at
 told_at k (f ∷ es) [] i e at z = absurd (omega arith)
-told_at k (f ∷ es) (q ∷ qs) zero e at z = let same : k ≡ k + 0 = omega arith in λ i. told q.head (same i) (at i)
+told_at k (f ∷ es) (q ∷ qs) zero e at z = let same : k ≡ k + 0 = omega arith in λ i. table_entry q.head (same i) (at i)
 told_at k (f ∷ es) (q ∷ qs) (suc i) e at z =
     let all : k + length q.datas + length (all_datas (take i qs)) ≡ k + length (q.datas ++ all_datas (take i qs)) =
     omega (arith, length-append q.datas (all_datas (take i qs))) in
-    subst (λ n. At (told_from (k + length q.datas) es qs) i (told (head_at qs i) n e)) all
+    subst (λ n. At (table_entries (k + length q.datas) es qs) i (table_entry (head_at qs i) n e)) all
     (told_at (k + length q.datas) es qs i e at (omega arith))
 
 -- the same in the table of a volume
 pub told_here : (t : Tree) (l : Layout) (i k : ℕ) (e : Entry) → At t.entries i e → length l.places ≡ length t.entries
-    → k ≡ length (all_datas (take i l.places)) → At (entry_table t l) i (told (head_at l.places i) k e)
+    → k ≡ length (all_datas (take i l.places)) → At (entry_table t l) i (table_entry (head_at l.places i) k e)
 told_here t l i k e at z same =
     let zero_more : 0 + length (all_datas (take i l.places)) ≡ k = omega arith in
-    subst (λ n. At (entry_table t l) i (told (head_at l.places i) n e)) zero_more (told_at 0 t.entries l.places i e at z)
+    subst (λ n. At (entry_table t l) i (table_entry (head_at l.places i) n e)) zero_more (told_at 0 t.entries l.places i e at z)
 
 -- a table has an entry for each entry
-pub told_length : (k : ℕ) (es : List Entry) (qs : List Place) → length qs ≡ length es → length (told_from k es qs) ≡ length es
+pub told_length : (k : ℕ) (es : List Entry) (qs : List Place) → length qs ≡ length es → length (table_entries k es qs) ≡ length es
 told_length k [] qs z = refl
 told_length k (e ∷ es) [] z = absurd (omega arith)
 told_length k (e ∷ es) (q ∷ qs) z = ap suc (told_length (k + length q.datas) es qs (omega arith))
@@ -177,7 +177,7 @@ whole_entries t l i z le = take_all i (entry_table t l) (omega (arith, told_leng
 -- the next entry of the table
 pub next_entry : (t : Tree) (l : Layout) (i k : ℕ) (x : TableEntry) → length l.places ≡ length t.entries → i < length t.entries
     → k ≡ length (all_datas (take i l.places))
-    → ((e : Entry) → entry t.entries (i + 1) ≡ Some e → x ≡ told (head_at l.places i) k e) → At (entry_table t l) i x
+    → ((e : Entry) → entry t.entries (i + 1) ≡ Some e → x ≡ table_entry (head_at l.places i) k e) → At (entry_table t l) i x
 next_entry t l i k x z lt is tells =
     let at = at_some t.entries i lt in
     let one : i + 1 ≡ suc i = omega arith in

@@ -27,7 +27,7 @@ use Rattle.adf_volume.specs.Layout.{Layout, at_node, head_at}
 use Rattle.adf_volume.specs.Lists.{At}
 use Rattle.adf_check.proofs.RowLaws.{head_facts}
 use Rattle.adf_c.specs.Rooms.{filled}
-use Rattle.adf_c.specs.Tables.{all_datas, entry_table, told}
+use Rattle.adf_c.specs.Tables.{all_datas, entry_table, table_entry}
 use Rattle.adf_c.proofs.TableLaws.{told_here, told_length}
 use Rattle.adf_c.specs.declared.tables.TableEntry.{TableEntry}
 use Rattle.adf_c.specs.TableNames.{HasNamesOf, IsEnd, IsStart, is_child_in, name_in, rank_in}
@@ -127,7 +127,8 @@ text_there text room le =
     ap (λ xs. take (length text) (xs ++ drop (length text) room)) (take_all (length room) text le) ∙ take-append_seam text (drop (length text) room)
 
 -- the name that is told of an entry is its own
-pub name_told : (image : List ℕ) (t : Tree) (l : Layout) (i h k : ℕ) (e : Entry) → Fits image t l → At t.entries i e → name_in (told h k e) ≡ e.name
+pub name_told : (image : List ℕ) (t : Tree) (l : Layout) (i h k : ℕ) (e : Entry) → Fits image t l → At t.entries i e
+    → name_in (table_entry h k e) ≡ e.name
 name_told image t l i h k e fits at = text_there e.name (replicate 30 0) (short_name image t l i e fits at)
 
 -- the table of a volume has the directories and names of its entries
@@ -144,7 +145,7 @@ table_names image t l xs fits is = record {
   where
     here : (i : ℕ) (x : TableEntry) (e : Entry) → i < length t.entries
         → (f : (f : Entry) × At t.entries i f) × (get_or t.entries i e ≡ f.0)
-        × (get_or xs i x ≡ told (head_at l.places i) (length (all_datas (take i l.places))) f.0)
+        × (get_or xs i x ≡ table_entry (head_at l.places i) (length (all_datas (take i l.places))) f.0)
     here i x e lt =
         let f = at_some t.entries i lt in
         let at = told_here t l i (length (all_datas (take i l.places))) f.0 f.1 fits.places refl in

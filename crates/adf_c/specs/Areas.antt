@@ -16,8 +16,8 @@ pub record AreDatasOf (image : List ℕ) (file : TableEntry) (table ds : List �
   pub enough : file.size ≤ chunk (kind_of image) * length ds
 
 -- the bytes of a file whose data blocks are ds
-abbrev pub file_bytes : List ℕ → TableEntry → List ℕ → List ℕ
-file_bytes image file ds = take file.size (joined image (kind_of image) ds)
+abbrev pub bytes_in_blocks : List ℕ → TableEntry → List ℕ → List ℕ
+bytes_in_blocks image file ds = take file.size (joined image (kind_of image) ds)
 
 -- each of these bytes stands somewhere in the image
 abbrev pub AreBytesOf : List ℕ → List ℕ → Type 0

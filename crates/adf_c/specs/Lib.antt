@@ -1,5 +1,5 @@
 pub mod Areas
-pub mod Roles
+pub mod OwnerNumbers
 pub mod Rooms
 pub mod TableNames
 pub mod Tables

@@ -14,7 +14,7 @@ use Rattle.adf_c.specs.declared.tables.Contents.{Contents}
 use Rattle.adf_c.specs.declared.tables.Date.{Date}
 use Rattle.adf_c.specs.declared.tables.TableEntry.{TableEntry}
 use Rattle.adf_c.specs.Rooms.{filled}
-use Rattle.adf_c.specs.Verdicts.{kind_number}
+use Rattle.adf_c.specs.Verdicts.{kind_code}
 
 -- a text in a field of so many bytes, with zeros behind it
 abbrev pub field : ℕ → List ℕ → List ℕ
@@ -35,8 +35,8 @@ bytes_in Dir = []
 bytes_in (File bytes) = bytes
 
 -- entry e, whose header is block h, where k data blocks are of files before it
-abbrev pub told : ℕ → ℕ → Entry → TableEntry
-told h k e = record {
+abbrev pub table_entry : ℕ → ℕ → Entry → TableEntry
+table_entry h k e = record {
   parent = e.parent;
   header = h;
   size = length (bytes_in e.body);
@@ -51,14 +51,14 @@ told h k e = record {
 }
 
 -- entries and where they lie, where k data blocks are of files before them
-abbrev pub told_from : ℕ → List Entry → List Place → List TableEntry
-told_from k [] qs = []
-told_from k (e ∷ es) [] = []
-told_from k (e ∷ es) (q ∷ qs) = told q.head k e ∷ told_from (k + length q.datas) es qs
+abbrev pub table_entries : ℕ → List Entry → List Place → List TableEntry
+table_entries k [] qs = []
+table_entries k (e ∷ es) [] = []
+table_entries k (e ∷ es) (q ∷ qs) = table_entry q.head k e ∷ table_entries (k + length q.datas) es qs
 
 -- the table of all entries
 abbrev pub entry_table : Tree → Layout → List TableEntry
-entry_table t l = told_from 0 t.entries l.places
+entry_table t l = table_entries 0 t.entries l.places
 
 -- the table is that of a volume of this tree, wherever its parts lie
 abbrev pub IsTableOf : List TableEntry → Tree → Type 0
@@ -76,7 +76,7 @@ block_table l = all_datas l.places
 -- what is told of an accepted image beside the tables
 abbrev pub contents_of : List ℕ → Tree → Layout → Contents
 contents_of image t l = record {
-  kind = kind_number t.kind;
+  kind = kind_code t.kind;
   blocks = blocks image;
   used = length (owned image l);
   free = blocks image - 2 - length (owned image l);

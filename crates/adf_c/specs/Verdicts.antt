@@ -10,13 +10,13 @@ use Rattle.adf_check.specs.declared.checked.Counts.{Counts}
 use Rattle.adf_c.specs.declared.verdict.Verdict.{Verdict}
 
 -- 0 for OFS, 1 for FFS
-abbrev pub kind_number : Kind → ℕ
-kind_number Ofs = 0
-kind_number Ffs = 1
+abbrev pub kind_code : Kind → ℕ
+kind_code Ofs = 0
+kind_code Ffs = 1
 
 -- an accepted image: its numbers, and no block of a fault
 abbrev pub accepted : Counts → Verdict
-accepted c = record { kind = kind_number c.kind; blocks = c.blocks; used = c.used; free = c.free; dirs = c.dirs; files = c.files; block = 0 }
+accepted c = record { kind = kind_code c.kind; blocks = c.blocks; used = c.used; free = c.free; dirs = c.dirs; files = c.files; block = 0 }
 
 -- a refused image: the block of its fault
 abbrev pub refused : ℕ → Verdict

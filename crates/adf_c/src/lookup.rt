@@ -5,6 +5,7 @@ ghost use Rattle.std.specs.List.Sorted.{IsNonDecreasingBy};
 ghost use Rattle.adf_tree.specs.declared.entry.Entry.{Entry};
 ghost use Rattle.adf_tree.specs.PathTexts.{IsPathText};
 ghost use Rattle.adf_tree.specs.Tree.{Tree, child, find, rank_of};
+ghost use Rattle.adf_blocks.specs.declared.layout.TheConstants.{SLOTS};
 ghost use Rattle.adf_c.specs.Tables.{IsTableOf};
 ghost use Rattle.adf_c.specs.TableNames.{HasNamesOf, IsEnd, IsStart, is_child_in, name_in, rank_in};
 ghost use Rattle.adf_c.specs.Verdicts.{WantsMemory};
@@ -25,7 +26,7 @@ fn name_in(entry: &TableEntry) -> &[u8]
 
 // Whether the entry's pair of directory and slot is less than this one.
 fn is_less(entry: &TableEntry, parent: usize, slot_wanted: u8) -> bool
-    requires { slot_wanted < 72 }
+    requires { slot_wanted < SLOTS }
     ensures { result ≡ nat_lt (rank_in entry.now) (rank_of parent slot_wanted) }
 {
     let own = entry.parent as usize;
@@ -34,7 +35,7 @@ fn is_less(entry: &TableEntry, parent: usize, slot_wanted: u8) -> bool
 
 // Whether the entry's pair of directory and slot is at most this one.
 fn is_at_most(entry: &TableEntry, parent: usize, slot_wanted: u8) -> bool
-    requires { slot_wanted < 72 }
+    requires { slot_wanted < SLOTS }
     ensures { result ≡ nat_le (rank_in entry.now) (rank_of parent slot_wanted) }
 {
     let own = entry.parent as usize;
@@ -50,7 +51,7 @@ fn is_child(entry: &TableEntry, parent: usize, name: &Name) -> bool
 
 // The entries before the first one of this pair or a greater one.
 fn start_of(entries: &[TableEntry], parent: usize, slot: u8) -> usize
-    requires { slot < 72 }
+    requires { slot < SLOTS }
     ensures within { result ≤ length entries.now }
     ensures parted { IsNonDecreasingBy rank_in entries.now → IsStart entries.now (rank_of parent slot) result }
 {
@@ -59,7 +60,7 @@ fn start_of(entries: &[TableEntry], parent: usize, slot: u8) -> usize
 
 // The entries before the first one of a greater pair.
 fn end_of(entries: &[TableEntry], parent: usize, slot: u8) -> usize
-    requires { slot < 72 }
+    requires { slot < SLOTS }
     ensures within { result ≤ length entries.now }
     ensures parted { IsNonDecreasingBy rank_in entries.now → IsEnd entries.now (rank_of parent slot) result }
 {

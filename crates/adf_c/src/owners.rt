@@ -7,15 +7,15 @@ ghost use Rattle.adf_volume.specs.Fits.{Fits};
 ghost use Rattle.adf_volume.specs.Layout.{Layout};
 ghost use Rattle.adf_check.specs.Image.{IsBegun};
 ghost use Rattle.adf_check.specs.Volumes.{StandsFor};
-ghost use Rattle.adf_c.specs.Roles.{IsRole, role_number};
+ghost use Rattle.adf_c.specs.OwnerNumbers.{IsOwnerNumber, owner_number};
 ghost use Rattle.adf_c.specs.Verdicts.{IsFirstCause, IsVerdictNumber, WantsMemory};
 
 use adf_check::{Checked, Owner, check};
 use std::alloc::Global;
 
 // The number of an owner's role, as C has it.
-fn role_number(owner: Owner) -> u8
-    ensures { result ≡ role_number owner }
+fn owner_number(owner: Owner) -> u8
+    ensures { result ≡ owner_number owner }
 {
     match owner {
         Owner::Free => 0,
@@ -33,16 +33,16 @@ fn role_number(owner: Owner) -> u8
 fn role_of(volume: &Checked<'_>, b: u32) -> u8
     requires stands { (t : Tree) × (l : Layout) × StandsFor volume.now t l }
     requires inside { b < blocks volume.now.image }
-    ensures { IsRole volume.now.image b result }
+    ensures { IsOwnerNumber volume.now.image b result }
 {
-    role_number(volume.owner(b).unwrap())
+    owner_number(volume.owner(b).unwrap())
 }
 
 // Puts the roles of the first blocks into the room, as many as there is room for.
 fn put_roles(volume: &Checked<'_>, roles: &mut [u8])
     requires { (t : Tree) × (l : Layout) × StandsFor volume.now t l }
     ensures roles { (b : ℕ) → b < length roles.new → b < blocks volume.now.image
-        → IsRole volume.now.image b (slice_index roles.new b) }
+        → IsOwnerNumber volume.now.image b (slice_index roles.new b) }
     ensures behind { (b : ℕ) → blocks volume.now.image ≤ b → slice_index roles.new b ≡ slice_index roles.old b }
 {
     for b in 0..volume.counts().blocks {
@@ -63,7 +63,7 @@ pub extern "C" fn adf_owners(alloc: Global, image: &[u8], roles: &mut [u8]) -> u
     // One tree and one layout fit an accepted image, and the roles are those of its parts.
     ensures fits { result ≡ 0 → (t : Tree) × (l : Layout) × Fits image.now t l }
     ensures roles { result ≡ 0 → (b : ℕ) → b < length roles.new → b < blocks image.now
-        → IsRole image.now b (slice_index roles.new b) }
+        → IsOwnerNumber image.now b (slice_index roles.new b) }
     ensures behind { (b : ℕ) → blocks image.now ≤ b → slice_index roles.new b ≡ slice_index roles.old b }
 
     // The cause is that of the first fault, nothing fits the image, and nothing is put into the room.

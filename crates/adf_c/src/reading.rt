@@ -9,7 +9,7 @@ ghost use Rattle.adf_volume.specs.Image.{area, joined, kind_of};
 ghost use Rattle.adf_volume.specs.Layout.{Layout};
 ghost use Rattle.adf_c.specs.Rooms.{filled};
 ghost use Rattle.adf_c.specs.Tables.{block_table, bytes_at, entry_table};
-ghost use Rattle.adf_c.specs.Areas.{AreBlocksOf, AreBytesOf, AreDatasOf, file_bytes};
+ghost use Rattle.adf_c.specs.Areas.{AreBlocksOf, AreBytesOf, AreDatasOf, bytes_in_blocks};
 
 use crate::tables::TableEntry;
 use adf_blocks::chunk_len;
@@ -102,9 +102,9 @@ fn read_file(
 ) -> usize
     ensures within { result ≤ length room.new }
     ensures count { (ds : List ℕ) → AreDatasOf image.now file.now blocks.now ds
-        → result ≡ min (length room.old) (length (drop offset (file_bytes image.now file.now ds))) }
+        → result ≡ min (length room.old) (length (drop offset (bytes_in_blocks image.now file.now ds))) }
     ensures bytes { (ds : List ℕ) → AreDatasOf image.now file.now blocks.now ds
-        → room.new ≡ filled (drop offset (file_bytes image.now file.now ds)) room.old }
+        → room.new ≡ filled (drop offset (bytes_in_blocks image.now file.now ds)) room.old }
     ensures image { AreBytesOf image.now (take result room.new) }
     ensures behind { drop result room.new ≡ drop result room.old }
 {

@@ -2,7 +2,7 @@
 
 ghost use Rattle.std.specs.Prelude.{◌≡◌, ◌≤◌, ◌+◌, [], ℕ, List, true, false, codes, Some, IfSome, length, take};
 ghost use Rattle.adf_cmd.specs.Answers.{Answers, AnswersPart, AsksBadPath, IsUnanswered, failure_line, limit_of, usage_line};
-ghost use Rattle.adf_cmd.specs.CommandLine.{IsRefused, request_of};
+ghost use Rattle.adf_cmd.specs.CommandLine.{AreRefused, request_of};
 ghost use Rattle.adf_cmd.specs.Streams.{Says};
 ghost use Rattle.adf_c.specs.Words.{AreWords};
 
@@ -39,13 +39,13 @@ fn run_words<W: Sink, E: Sink>(
     requires tells { E.has_failed errors.old ≡ false }
     ensures status { result.status ≤ 3 }
     ensures within { result.taken ≤ length input.now }
-    ensures answer { (ws : List (List ℕ)) → AreWords words.now ws → ¬ IsRefused ws → ¬ (result.status ≡ 3) → Answers ws input.now
+    ensures answer { (ws : List (List ℕ)) → AreWords words.now ws → ¬ AreRefused ws → ¬ (result.status ≡ 3) → Answers ws input.now
         result.status (W.held output.old) (W.held output.new) (E.has_failed errors.new) (E.held errors.old) (E.held errors.new) }
     ensures words { ¬ (result.status ≡ 2) → ¬ (result.status ≡ 3) → (ws : List (List ℕ)) × AreWords words.now ws × (¬ IsUnanswered ws) }
     ensures usage { result.status ≡ 2 → (ws : List (List ℕ)) → AreWords words.now ws → IsUnanswered ws }
     ensures bad_path { result.status ≡ 2 → (ws : List (List ℕ)) → AreWords words.now ws → AsksBadPath ws
         → Says (E.has_failed errors.new) (E.held errors.old) (E.held errors.new) (codes "bad path\n") }
-    ensures refused { result.status ≡ 2 → ((ws : List (List ℕ)) → AreWords words.now ws → IsRefused ws)
+    ensures refused { result.status ≡ 2 → ((ws : List (List ℕ)) → AreWords words.now ws → AreRefused ws)
         → Says (E.has_failed errors.new) (E.held errors.old) (E.held errors.new) usage_line }
     ensures no_words { ((ws : List (List ℕ)) → ¬ AreWords words.now ws) → (result.taken ≡ 0) × (output.new ≡ output.old) }
     ensures untouched { result.status ≡ 2 → (result.taken ≡ 0) × (output.new ≡ output.old) }
@@ -94,7 +94,7 @@ pub extern "C" fn adf_run(
     ensures errors { moved.new.errors ≤ length errors.new }
 
     // Where the words are taken, at a status other than 3 the answer is the defined one.
-    ensures answer { (ws : List (List ℕ)) → AreWords words.now ws → ¬ IsRefused ws → ¬ (result ≡ 3)
+    ensures answer { (ws : List (List ℕ)) → AreWords words.now ws → ¬ AreRefused ws → ¬ (result ≡ 3)
         → Answers ws input.now result (Some []) (Some (take moved.new.output output.new))
         moved.new.errors_full (Some []) (Some (take moved.new.errors errors.new)) }
     ensures words { ¬ (result ≡ 2) → ¬ (result ≡ 3) → (ws : List (List ℕ)) × AreWords words.now ws × (¬ IsUnanswered ws) }
@@ -103,7 +103,7 @@ pub extern "C" fn adf_run(
     ensures usage { result ≡ 2 → (ws : List (List ℕ)) → AreWords words.now ws → IsUnanswered ws }
     ensures bad_path { result ≡ 2 → (ws : List (List ℕ)) → AreWords words.now ws → AsksBadPath ws
         → Says moved.new.errors_full (Some []) (Some (take moved.new.errors errors.new)) (codes "bad path\n") }
-    ensures refused { result ≡ 2 → ((ws : List (List ℕ)) → AreWords words.now ws → IsRefused ws)
+    ensures refused { result ≡ 2 → ((ws : List (List ℕ)) → AreWords words.now ws → AreRefused ws)
         → Says moved.new.errors_full (Some []) (Some (take moved.new.errors errors.new)) usage_line }
     ensures untouched { result ≡ 2 → (moved.new.input ≡ 0) × (moved.new.output ≡ 0) × (output.new ≡ output.old) }
     ensures no_words { ((ws : List (List ℕ)) → ¬ AreWords words.now ws) → (moved.new.input ≡ 0) × (moved.new.output ≡ 0) × (output.new ≡ output.old) }

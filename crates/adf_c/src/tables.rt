@@ -9,9 +9,9 @@ ghost use Rattle.adf_check.specs.Rows.{BodyMatches, EntryMatches};
 ghost use Rattle.adf_check.specs.Volumes.{StandsFor, counts_of};
 ghost use Rattle.adf_c.specs.Rooms.{filled};
 ghost use Rattle.adf_c.specs.Tables.{block_table, bytes_in, contents_of, date_of, entry_table, field};
-ghost use Rattle.adf_c.specs.Tables.{file_number, refused_at, told};
+ghost use Rattle.adf_c.specs.Tables.{file_number, refused_at, table_entry};
 
-use crate::verdict::kind_number;
+use crate::verdict::kind_code;
 use adf_check::{Checked, Counts, Row, RowBody};
 use adf_fields::Stamp;
 use adf_tree::Node;
@@ -124,7 +124,7 @@ fn size_of(body: RowBody) -> u32
 // The entry of a row, whose header is at a block, and before whose data blocks there are so many others.
 fn entry_of(row: &Row, header: u32, first: u32) -> TableEntry
     requires { row.now.parent < 2 ^ 32 }
-    ensures { (e : Entry) → EntryMatches row.now e → result ≡ told header first e }
+    ensures { (e : Entry) → EntryMatches row.now e → result ≡ table_entry header first e }
 {
     let name = row.name.bytes();
     let comment = row.meta.comment.bytes();
@@ -149,7 +149,7 @@ fn table_entry(volume: &Checked<'_>, node: Node, first: u32) -> TableEntry
     requires stands { (t : Tree) × (l : Layout) × StandsFor volume.now t l }
     requires some { (t : Tree) (l : Layout) → StandsFor volume.now t l → (0 < node) × (node ≤ length t.entries) }
     ensures { (t : Tree) (l : Layout) (e : Entry) → StandsFor volume.now t l → entry t.entries node ≡ Some e
-        → result ≡ told (at_node volume.now.image l node) first e }
+        → result ≡ table_entry (at_node volume.now.image l node) first e }
 {
     let row = volume.row(node).unwrap();
     let header = volume.block_of(node).unwrap();
@@ -206,7 +206,7 @@ pub fn contents_of(volume: &Checked<'_>, counts: &Counts, data_blocks: usize) ->
     let label = volume.label().bytes();
     let stamps = volume.stamps();
     Contents {
-        kind: kind_number(counts.kind),
+        kind: kind_code(counts.kind),
         blocks: counts.blocks,
         used: counts.used,
         free: counts.free,

@@ -6,7 +6,7 @@ ghost use Rattle.adf_volume.specs.Fits.{Fits};
 ghost use Rattle.adf_volume.specs.Layout.{Layout};
 ghost use Rattle.adf_check.specs.Image.{IsBegun};
 ghost use Rattle.adf_check.specs.Volumes.{counts_of};
-ghost use Rattle.adf_c.specs.Verdicts.{IsFirstCause, IsVerdictNumber, WantsMemory, accepted, kind_number, refused};
+ghost use Rattle.adf_c.specs.Verdicts.{IsFirstCause, IsVerdictNumber, WantsMemory, accepted, kind_code, refused};
 
 use adf_check::{Counts, check};
 use adf_tree::Kind;
@@ -31,8 +31,8 @@ pub struct Verdict {
 }
 
 /// 0 for OFS, 1 for FFS.
-pub fn kind_number(kind: Kind) -> u32
-    ensures { result ≡ kind_number kind }
+pub fn kind_code(kind: Kind) -> u32
+    ensures { result ≡ kind_code kind }
 {
     match kind {
         Kind::Ofs => 0,
@@ -45,7 +45,7 @@ fn accepted(counts: &Counts) -> Verdict
     ensures { result ≡ accepted counts.now }
 {
     Verdict {
-        kind: kind_number(counts.kind),
+        kind: kind_code(counts.kind),
         blocks: counts.blocks,
         used: counts.used,
         free: counts.free,

@@ -3,14 +3,14 @@
 use crate::answers::Went;
 use crate::volumes::tree;
 use adf_build::BuildFault;
-use adf_cmd::{Order, WordsFault, build_and_read, parse};
+use adf_cmd::{Request, WordsFault, build_and_read, parse};
 use adf_tree::Node;
 use std::alloc::Global;
 
 /// The words of `cat` with a path that looks like an option.
 pub fn parse_went(alloc: Global) -> Option<Went> {
     Some(match parse(alloc, &["adf", "cat", "--", "-x"]) {
-        Ok(order) => Went::done_if(matches!(order, Order::Cat(path) if path == "-x")),
+        Ok(request) => Went::done_if(matches!(request, Request::Cat(path) if path == "-x")),
         Err(fault) => Went::refused_if(fault == WordsFault::NoMemory),
     })
 }

@@ -3,15 +3,15 @@ use Rattle.std.proofs.Common.{◌≡◌, ◌≤◌, ◌+◌, ◌/◌, ◌++◌, 
 use Rattle.std.proofs.Common.{length}
 use Rattle.adf_fields.specs.Words.{block}
 use Rattle.adf_texts.proofs.Ranges.{flat_map_front, flat_map_next}
-use Rattle.adf_cmd.specs.Listing.{line_of, lines_of, lines_of_blocks, listing}
+use Rattle.adf_cmd.specs.Listing.{line_of_word, lines_of, lines_of_blocks, listing}
 
 pub lines_of_none : (b : ℕ) (bytes : List ℕ) → lines_of b bytes 0 ≡ []
 unfolding lines_of
 lines_of_none b bytes = refl
 
-pub lines_of_more : (b : ℕ) (bytes : List ℕ) (n : ℕ) → lines_of b bytes (n + 1) ≡ lines_of b bytes n ++ line_of b bytes n
+pub lines_of_more : (b : ℕ) (bytes : List ℕ) (n : ℕ) → lines_of b bytes (n + 1) ≡ lines_of b bytes n ++ line_of_word b bytes n
 unfolding lines_of
-lines_of_more b bytes n = flat_map_next (line_of b bytes) 0 n n (omega arith)
+lines_of_more b bytes n = flat_map_next (line_of_word b bytes) 0 n n (omega arith)
 
 pub blocks_none : (image : List ℕ) → lines_of_blocks image 0 ≡ []
 unfolding lines_of_blocks

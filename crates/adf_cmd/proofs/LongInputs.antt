@@ -15,24 +15,24 @@ use Rattle.adf_check.specs.declared.fault.Fault.{Fault}
 use Rattle.adf_manifest.specs.Manifest.{ExplainsKind}
 use Rattle.adf_manifest.specs.declared.manifest.ManifestKind.{ManifestKind}
 use Rattle.adf_manifest.specs.declared.manifest.ManifestKind.TheVariants.{NoMemory as ManifestNoMemory, TooLong}
-use Rattle.adf_cmd.specs.Answers.{Answer, limit_of}
-use Rattle.adf_cmd.specs.CommandLine.{Request, build, cat, check, convert, list}
+use Rattle.adf_cmd.specs.Answers.{Answer, Reply, limit_of}
+use Rattle.adf_cmd.specs.CommandLine.{RequestValue, build, cat, check, convert, list}
 use Rattle.adf_cmd.specs.declared.checking.CheckAnswer.{CheckAnswer}
-use Rattle.adf_cmd.specs.Outcomes.{IsCheckAnswer, IsCheckAnswerTo, Works, line_of, status_of}
+use Rattle.adf_cmd.specs.Outcomes.{IsCheckAnswer, IsCheckAnswerTo, Works, outcome_line, status_of}
 use Rattle.adf_cmd.specs.declared.outcome.Outcome.{Outcome}
 use Rattle.adf_cmd.specs.declared.outcome.Outcome.TheVariants.{ReadFault, WriteFault, NoMemory}
 
 -- each answer to one input is one to another
-abbrev AnswersBoth : Request → List ℕ → List ℕ → Type 0
-AnswersBoth r image bytes = (s : ℕ) (out err : List ℕ) → Answer r image s out err → Answer r bytes s out err
+abbrev AnswersBoth : RequestValue → List ℕ → List ℕ → Type 0
+AnswersBoth r image bytes = (reply : Reply) → Answer r image reply → Answer r bytes reply
 
-works_both : (r : Request) (image bytes : List ℕ) (o o' : Option (List ℕ)) → AnswersBoth r image bytes → (w : Outcome) → Works w r image o o'
+works_both : (r : RequestValue) (image bytes : List ℕ) (o o' : Option (List ℕ)) → AnswersBoth r image bytes → (w : Outcome) → Works w r image o o'
     → Works w r bytes o o'
 works_both r image bytes o o' f ReadFault h = h
-works_both r image bytes o o' f WriteFault h = (h.0, h.1, h.2, f h.0 h.1 h.2 h.3, h.4)
+works_both r image bytes o o' f WriteFault h = (h.0, f h.0 h.1, h.2)
 works_both r image bytes o o' f NoMemory (inl h) = inl h
-works_both r image bytes o o' f NoMemory (inr h) = inr (h.0, h.1, h.2, f h.0 h.1 h.2 h.3, h.4)
-works_both r image bytes o o' f w h = (h.0, f (status_of w) h.0 (line_of w) h.1, h.2)
+works_both r image bytes o o' f NoMemory (inr h) = inr (h.0, f h.0 h.1, h.2)
+works_both r image bytes o o' f w h = (h.0, f (record { status = status_of w; output = h.0; errors = outcome_line w }) h.1, h.2)
 
 -- a size above that of the largest volume is none
 too_large : (image : List ℕ) → 512 * MOST_BLOCKS < length image → IsSize image → ⊥
@@ -59,21 +59,21 @@ long_kind ManifestNoMemory line image bytes a b ne h = absurd (ne refl)
 long_kind TooLong line image bytes a b ne h = (h.0, b)
 long_kind _ line image bytes a b ne h = absurd (omega (arith, h.0))
 
-long_answers : (r : Request) (image bytes : List ℕ) → limit_of (Some r) < length image → limit_of (Some r) < length bytes → AnswersBoth r image bytes
-long_answers check image bytes a b s out err (inl (t, l, fits, status, output, errors)) = absurd (too_large image a fits.boots.0)
-long_answers check image bytes a b s out err (inr h) = inr (h.0, long_fault image bytes h.0 a b h.1, h.2, h.3, h.4)
-long_answers list image bytes a b s out err (inl (t, l, fits, date, dates, status, output, errors)) = absurd (too_large image a fits.boots.0)
-long_answers list image bytes a b s out err (inr h) = inr (h.0, long_fault image bytes h.0 a b h.1, h.2, h.3, h.4)
-long_answers (cat path) image bytes a b s out err (inl bad) = inl bad
-long_answers (cat path) image bytes a b s out err (inr (inl (names, text, t, l, fits, copies))) = absurd (too_large image a fits.boots.0)
-long_answers (cat path) image bytes a b s out err (inr (inr (read, h))) = inr (inr (read, (h.0, long_fault image bytes h.0 a b h.1, h.2, h.3, h.4)))
-long_answers (build lines) image bytes a b s out err (inl (tree, n, manifest, builds)) = absurd (omega (arith, manifest.0))
-long_answers (build lines) image bytes a b s out err (inr h) = inr (h.0, long_kind h.0.kind h.0.line image bytes a b h.2 h.1, h.2, h.3, h.4, h.5)
-long_answers (convert kind) image bytes a b s out err (inl (t, l, fits, builds)) = absurd (too_large image a fits.boots.0)
-long_answers (convert kind) image bytes a b s out err (inr h) = inr (h.0, long_fault image bytes h.0 a b h.1, h.2, h.3, h.4)
+long_answers : (r : RequestValue) (image bytes : List ℕ) → limit_of (Some r) < length image → limit_of (Some r) < length bytes → AnswersBoth r image bytes
+long_answers check image bytes a b reply (inl (t, l, fits, is)) = absurd (too_large image a fits.boots.0)
+long_answers check image bytes a b reply (inr h) = inr (h.0, long_fault image bytes h.0 a b h.1, h.2)
+long_answers list image bytes a b reply (inl (t, l, fits, date, dates, is)) = absurd (too_large image a fits.boots.0)
+long_answers list image bytes a b reply (inr h) = inr (h.0, long_fault image bytes h.0 a b h.1, h.2)
+long_answers (cat path) image bytes a b reply (inl bad) = inl bad
+long_answers (cat path) image bytes a b reply (inr (inl (names, text, t, l, fits, copies))) = absurd (too_large image a fits.boots.0)
+long_answers (cat path) image bytes a b reply (inr (inr (read, h))) = inr (inr (read, (h.0, long_fault image bytes h.0 a b h.1, h.2)))
+long_answers (build lines) image bytes a b reply (inl (tree, n, manifest, builds)) = absurd (omega (arith, manifest.0))
+long_answers (build lines) image bytes a b reply (inr h) = inr (h.0, long_kind h.0.kind h.0.line image bytes a b h.2 h.1, h.2, h.3)
+long_answers (convert kind) image bytes a b reply (inl (t, l, fits, builds)) = absurd (too_large image a fits.boots.0)
+long_answers (convert kind) image bytes a b reply (inr h) = inr (h.0, long_fault image bytes h.0 a b h.1, h.2)
 
 -- what is done with the bytes that are read is done with the whole input, where that is known
-pub read_works : (w : Outcome) (r : Request) (image : List ℕ) (left o o' : Option (List ℕ)) → IfSome left (λ bytes. image ≡ take (limit_of (Some r) + 1) bytes)
+pub read_works : (w : Outcome) (r : RequestValue) (image : List ℕ) (left o o' : Option (List ℕ)) → IfSome left (λ bytes. image ≡ take (limit_of (Some r) + 1) bytes)
     → Works w r image o o' → IfSome left (λ bytes. Works w r bytes o o')
 read_works w r image None o o' e h = tt
 read_works w r image (Some bytes) o o' e h = elim (cases_lt (limit_of (Some r)) (length bytes)) [
@@ -94,6 +94,6 @@ read_answer a image (Some bytes) e h = (
     | inr short ↦ subst (λ l. IsCheckAnswer l a) (e ∙ take_all (limit_of (Some check) + 1) bytes (omega arith)) h
     | inl long ↦
         let cut : limit_of (Some check) < length image = rw e (omega (arith, length-take {A = ℕ})) in
-        long_answers check image bytes cut long _ _ _ h
+        long_answers check image bytes cut long _ h
   ],
 )

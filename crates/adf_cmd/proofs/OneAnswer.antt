@@ -25,18 +25,14 @@ use Rattle.adf_manifest.proofs.Verdicts.{one_told}
 use Rattle.adf_texts.specs.Lines.{manifest_fault_line, fault_line, ok_line}
 use Rattle.adf_texts.specs.VolumeLines.{AreDates, volume_lines}
 use Rattle.adf_cmd.specs.Answers.{Accepts, Answer, BuildsManifest, BuildsOrIsFull, Converts, Copies, CopiesFrom, Lists, RefusesImage, RefusesManifest}
-use Rattle.adf_cmd.specs.Answers.{contents_at}
-use Rattle.adf_cmd.specs.CommandLine.{Asks, Request, request_of, build, cat, check, convert, list}
+use Rattle.adf_cmd.specs.Answers.{Reply, contents_at, on_errors, on_output}
+use Rattle.adf_cmd.specs.CommandLine.{AsksFor, RequestValue, request_of, build, cat, check, convert, list}
 
-pub one_request : (words : List (List ℕ)) (r r' : Request) → Asks words r → Asks words r' → r ≡ r'
+pub one_request : (words : List (List ℕ)) (r r' : RequestValue) → AsksFor words r → AsksFor words r' → r ≡ r'
 one_request words r r' a b = same (request_of words) r r' a.1 b.1
   where
-    same : (o : Option Request) (x y : Request) → o ≡ Some x → o ≡ Some y → x ≡ y
+    same : (o : Option RequestValue) (x y : RequestValue) → o ≡ Some x → o ≡ Some y → x ≡ y
     same o x y p q = cc
-
--- two answers are the same
-abbrev Same : ℕ → ℕ → List ℕ → List ℕ → List ℕ → List ℕ → Type 0
-Same s s' o o' e e' = (s ≡ s') × (o ≡ o') × (e ≡ e')
 
 -- the first fault of an image has one line
 one_line : (input : List ℕ) (f g : Fault) → FirstFault input f.block f.cause → FirstFault input g.block g.cause → fault_line f ≡ fault_line g
@@ -49,31 +45,29 @@ one_line input f g p q =
 not_both : (input : List ℕ) (f : Fault) (t : Tree) (l : Layout) → FirstFault input f.block f.cause → Fits input t l → ⊥
 not_both input f t l first fits = none_fits input f.block f.cause t l first fits
 
-refused_once : (input : List ℕ) (s s' : ℕ) (o o' e e' : List ℕ) → RefusesImage input s o e → RefusesImage input s' o' e' → Same s s' o o' e e'
-refused_once input s s' o o' e e' (f, first, a, b, c) (g, also, x, y, z) = (a ∙ sym x, b ∙ sym y, c ∙ one_line input f g first also ∙ sym z)
+refused_once : (input : List ℕ) (a b : Reply) → RefusesImage input a → RefusesImage input b → a ≡ b
+refused_once input a b (f, first, x) (g, also, y) = x ∙ ap (on_errors 1) (one_line input f g first also) ∙ sym y
 
-accepted_once : (input : List ℕ) (s s' : ℕ) (o o' e e' : List ℕ) → Accepts input s o e → Accepts input s' o' e' → Same s s' o o' e e'
-accepted_once input s s' o o' e e' (t, l, fits, a, b, c) (u, m, also, x, y, z) =
+accepted_once : (input : List ℕ) (a b : Reply) → Accepts input a → Accepts input b → a ≡ b
+accepted_once input a b (t, l, fits, x) (u, m, also, y) =
     let same = one_fit input t u l m fits also in
-    (a ∙ sym x, b ∙ ap (λ v. ok_line (counts_of input v l)) same.0 ∙ ap (λ n. ok_line (counts_of input u n)) same.1 ∙ sym y, c ∙ sym z)
+    x ∙ ap (λ v. on_output 0 (ok_line (counts_of input v l))) same.0 ∙ ap (λ n. on_output 0 (ok_line (counts_of input u n))) same.1 ∙ sym y
 
 one_dates : (date other : Stamp → List ℕ) → AreDates date → AreDates other → date ≡ other
 one_dates date other p q = fun_ext (λ s. one_text s (date s) (other s) (p s) (q s))
 
-listed_once : (input : List ℕ) (s s' : ℕ) (o o' e e' : List ℕ) → Lists input s o e → Lists input s' o' e' → Same s s' o o' e e'
-listed_once input s s' o o' e e' (t, l, fits, date, dates, a, b, c) (u, m, also, other, others, x, y, z) =
-    let same = one_fit input t u l m fits also in (
-      a ∙ sym x,
-      b ∙ ap (λ v. volume_lines date v (blocks input)) same.0 ∙ ap (λ d. volume_lines d u (blocks input)) (one_dates date other dates others) ∙ sym y,
-      c ∙ sym z,
-    )
+listed_once : (input : List ℕ) (a b : Reply) → Lists input a → Lists input b → a ≡ b
+listed_once input a b (t, l, fits, date, dates, x) (u, m, also, other, others, y) =
+    let same = one_fit input t u l m fits also in
+    x ∙ ap (λ v. on_output 0 (volume_lines date v (blocks input))) same.0
+    ∙ ap (λ d. on_output 0 (volume_lines d u (blocks input))) (one_dates date other dates others) ∙ sym y
 
-built_once : (written : Bool) (tree : Tree) (n s s' : ℕ) (o o' e e' : List ℕ) → BuildsOrIsFull written tree n s o e → BuildsOrIsFull written tree n s' o' e'
-    → Same s s' o o' e e'
-built_once written tree n s s' o o' e e' (inl (h, a, b, c)) (inl (k, x, y, z)) = (a ∙ sym x, b ∙ sym y, c ∙ sym z)
-built_once written tree n s s' o o' e e' (inr (h, a, b, c)) (inr (k, x, y, z)) = (a ∙ sym x, b ∙ sym y, c ∙ sym z)
-built_once written tree n s s' o o' e e' (inl h) (inr k) = absurd (omega (arith, h.0.room.room, k.0))
-built_once written tree n s s' o o' e e' (inr h) (inl k) = absurd (omega (arith, k.0.room.room, h.0))
+built_once : (written : Bool) (tree : Tree) (n : ℕ) (a b : Reply) → BuildsOrIsFull written tree n a → BuildsOrIsFull written tree n b
+    → a ≡ b
+built_once written tree n a b (inl (h, x)) (inl (k, y)) = x ∙ sym y
+built_once written tree n a b (inr (h, x)) (inr (k, y)) = x ∙ sym y
+built_once written tree n a b (inl h) (inr k) = absurd (omega (arith, h.0.room.room, k.0))
+built_once written tree n a b (inr h) (inl k) = absurd (omega (arith, k.0.room.room, h.0))
 
 -- a manifest has no fault
 no_fault : (kind : ManifestKind) (number : ℕ) (input : List ℕ) (tree : Tree) (n : ℕ) → kind ≢ NoMemory → ExplainsKind kind number input
@@ -92,66 +86,65 @@ one_kind TooLong k' n n' input ne ne' h h' = absurd (omega (arith, h.1, h'.0))
 one_kind k TooLong n n' input ne ne' h h' = absurd (omega (arith, h.0, h'.1))
 one_kind k k' n n' input ne ne' h h' = manifests.one_fault (lines input) n n' k k' h.1 h'.1
 
-manifest_built_once : (written : Bool) (input : List ℕ) (s s' : ℕ) (o o' e e' : List ℕ) → BuildsManifest written input s o e
-    → BuildsManifest written input s' o' e' → Same s s' o o' e e'
-manifest_built_once written input s s' o o' e e' (tree, n, m, h) (u, k, w, g) =
+manifest_built_once : (written : Bool) (input : List ℕ) (a b : Reply) → BuildsManifest written input a
+    → BuildsManifest written input b → a ≡ b
+manifest_built_once written input a b (tree, n, m, h) (u, k, w, g) =
     let one = one_told m.1.0 w.1.0 m.1.1 w.1.1 (sym m.1.2 ∙ w.1.2) in
     let trees : tree ≡ u = one_tree_of w.1.0 tree u (rw one at m.1.3) w.1.3 in
     let sizes : n ≡ k = rw (m.1.4, one, w.1.4) in
-    let moved : BuildsOrIsFull written u k s o e =
-    subst (λ i. BuildsOrIsFull written u i s o e) sizes (subst (λ (v : Tree). BuildsOrIsFull written v n s o e) trees h) in
-    built_once written u k s s' o o' e e' moved g
+    let moved : BuildsOrIsFull written u k a =
+    subst (λ i. BuildsOrIsFull written u i a) sizes (subst (λ (v : Tree). BuildsOrIsFull written v n a) trees h) in
+    built_once written u k a b moved g
 
-manifest_refused_once : (input : List ℕ) (s s' : ℕ) (o o' e e' : List ℕ) → RefusesManifest input s o e → RefusesManifest input s' o' e' → Same s s' o o' e e'
-manifest_refused_once input s s' o o' e e' (f, why, ne, a, b, c) (g, how, ne', x, y, z) =
+manifest_refused_once : (input : List ℕ) (a b : Reply) → RefusesManifest input a → RefusesManifest input b → a ≡ b
+manifest_refused_once input a b (f, why, ne, x) (g, how, ne', y) =
     let by : ℕ → ManifestKind → List ℕ = λ n k. manifest_fault_line (record { line = n; kind = k }) in
     let same = one_kind f.kind g.kind f.line g.line input ne ne' why how in
-    (a ∙ sym x, b ∙ sym y, c ∙ ap (λ n. by n f.kind) same.0 ∙ ap (λ k. by g.line k) same.1 ∙ sym z)
+    x ∙ ap (λ n. on_errors 1 (by n f.kind)) same.0 ∙ ap (λ k. on_errors 1 (by g.line k)) same.1 ∙ sym y
 
-copied_once : (found : Option (Option (List ℕ))) (s s' : ℕ) (o o' e e' : List ℕ) → Copies found s o e → Copies found s' o' e' → Same s s' o o' e e'
-copied_once None s s' o o' e e' (a, b, c) (x, y, z) = (a ∙ sym x, b ∙ sym y, c ∙ sym z)
-copied_once (Some None) s s' o o' e e' (a, b, c) (x, y, z) = (a ∙ sym x, b ∙ sym y, c ∙ sym z)
-copied_once (Some (Some bytes)) s s' o o' e e' (a, b, c) (x, y, z) = (a ∙ sym x, b ∙ sym y, c ∙ sym z)
+copied_once : (found : Option (Option (List ℕ))) (a b : Reply) → Copies found a → Copies found b → a ≡ b
+copied_once None a b x y = x ∙ sym y
+copied_once (Some None) a b x y = x ∙ sym y
+copied_once (Some (Some bytes)) a b x y = x ∙ sym y
 
-copied_from_once : (path input : List ℕ) (s s' : ℕ) (o o' e e' : List ℕ) → CopiesFrom path input s o e → CopiesFrom path input s' o' e'
-    → Same s s' o o' e e'
-copied_from_once path input s s' o o' e e' (names, text, t, l, fits, h) (others, also, u, m, only, g) =
+copied_from_once : (path input : List ℕ) (a b : Reply) → CopiesFrom path input a → CopiesFrom path input b
+    → a ≡ b
+copied_from_once path input a b (names, text, t, l, fits, h) (others, also, u, m, only, g) =
     let same = one_fit input t u l m fits only in
     let found : contents_at t names ≡ contents_at u others =
     ap (λ v. contents_at v names) same.0 ∙ ap (λ (ns : List (List ℕ)). contents_at u ns) (one_path path names others text also) in
-    copied_once (contents_at u others) s s' o o' e e' (subst (λ x. Copies x s o e) found h) g
+    copied_once (contents_at u others) a b (subst (λ x. Copies x a) found h) g
 
-converted_once : (kind : Kind) (input : List ℕ) (s s' : ℕ) (o o' e e' : List ℕ) → Converts kind input s o e → Converts kind input s' o' e'
-    → Same s s' o o' e e'
-converted_once kind input s s' o o' e e' (t, l, fits, h) (u, m, also, g) =
+converted_once : (kind : Kind) (input : List ℕ) (a b : Reply) → Converts kind input a → Converts kind input b
+    → a ≡ b
+converted_once kind input a b (t, l, fits, h) (u, m, also, g) =
     let same = one_fit input t u l m fits also in
-    let moved = subst (λ (v : Tree). BuildsOrIsFull false (with_kind v kind) (blocks input) s o e) same.0 h in
-    built_once false (with_kind u kind) (blocks input) s s' o o' e e' moved g
+    let moved = subst (λ (v : Tree). BuildsOrIsFull false (with_kind v kind) (blocks input) a) same.0 h in
+    built_once false (with_kind u kind) (blocks input) a b moved g
 
-pub one_answer : (r : Request) (input : List ℕ) (s s' : ℕ) (o o' e e' : List ℕ) → Answer r input s o e → Answer r input s' o' e' → Same s s' o o' e e'
-one_answer check input s s' o o' e e' (inl h) (inl g) = accepted_once input s s' o o' e e' h g
-one_answer check input s s' o o' e e' (inl h) (inr g) = absurd (not_both input g.0 h.0 h.1 g.1 h.2)
-one_answer check input s s' o o' e e' (inr h) (inl g) = absurd (not_both input h.0 g.0 g.1 h.1 g.2)
-one_answer check input s s' o o' e e' (inr (f, first, a, b, c)) (inr (g, also, x, y, z)) =
-    (a ∙ sym x, b ∙ one_line input f g first also ∙ sym y, c ∙ sym z)
-one_answer list input s s' o o' e e' (inl h) (inl g) = listed_once input s s' o o' e e' h g
-one_answer list input s s' o o' e e' (inl h) (inr g) = absurd (not_both input g.0 h.0 h.1 g.1 h.2)
-one_answer list input s s' o o' e e' (inr h) (inl g) = absurd (not_both input h.0 g.0 g.1 h.1 g.2)
-one_answer list input s s' o o' e e' (inr h) (inr g) = refused_once input s s' o o' e e' h g
-one_answer (build written) input s s' o o' e e' (inl h) (inl g) = manifest_built_once written input s s' o o' e e' h g
-one_answer (build written) input s s' o o' e e' (inl h) (inr g) = absurd (no_fault g.0.kind g.0.line input h.0 h.1 g.2 g.1 h.2)
-one_answer (build written) input s s' o o' e e' (inr g) (inl h) = absurd (no_fault g.0.kind g.0.line input h.0 h.1 g.2 g.1 h.2)
-one_answer (build written) input s s' o o' e e' (inr h) (inr g) = manifest_refused_once input s s' o o' e e' h g
-one_answer (cat path) input s s' o o' e e' (inl (bad, a, b, c)) (inl (worse, x, y, z)) = (a ∙ sym x, b ∙ sym y, c ∙ sym z)
-one_answer (cat path) input s s' o o' e e' (inl h) (inr (inl g)) = absurd (h.0 g.0 g.1)
-one_answer (cat path) input s s' o o' e e' (inl h) (inr (inr g)) = absurd (h.0 g.0.0 g.0.1)
-one_answer (cat path) input s s' o o' e e' (inr (inl g)) (inl h) = absurd (h.0 g.0 g.1)
-one_answer (cat path) input s s' o o' e e' (inr (inr g)) (inl h) = absurd (h.0 g.0.0 g.0.1)
-one_answer (cat path) input s s' o o' e e' (inr (inl h)) (inr (inl g)) = copied_from_once path input s s' o o' e e' h g
-one_answer (cat path) input s s' o o' e e' (inr (inl h)) (inr (inr (read, g))) = absurd (not_both input g.0 h.2 h.3 g.1 h.4)
-one_answer (cat path) input s s' o o' e e' (inr (inr (read, h))) (inr (inl g)) = absurd (not_both input h.0 g.2 g.3 h.1 g.4)
-one_answer (cat path) input s s' o o' e e' (inr (inr (read, h))) (inr (inr (also, g))) = refused_once input s s' o o' e e' h g
-one_answer (convert kind) input s s' o o' e e' (inl h) (inl g) = converted_once kind input s s' o o' e e' h g
-one_answer (convert kind) input s s' o o' e e' (inl h) (inr g) = absurd (not_both input g.0 h.0 h.1 g.1 h.2)
-one_answer (convert kind) input s s' o o' e e' (inr h) (inl g) = absurd (not_both input h.0 g.0 g.1 h.1 g.2)
-one_answer (convert kind) input s s' o o' e e' (inr h) (inr g) = refused_once input s s' o o' e e' h g
+pub one_answer : (r : RequestValue) (input : List ℕ) (a b : Reply) → Answer r input a → Answer r input b → a ≡ b
+one_answer check input a b (inl h) (inl g) = accepted_once input a b h g
+one_answer check input a b (inl h) (inr g) = absurd (not_both input g.0 h.0 h.1 g.1 h.2)
+one_answer check input a b (inr h) (inl g) = absurd (not_both input h.0 g.0 g.1 h.1 g.2)
+one_answer check input a b (inr (f, first, x)) (inr (g, also, y)) = x ∙ ap (on_output 1) (one_line input f g first also) ∙ sym y
+one_answer list input a b (inl h) (inl g) = listed_once input a b h g
+one_answer list input a b (inl h) (inr g) = absurd (not_both input g.0 h.0 h.1 g.1 h.2)
+one_answer list input a b (inr h) (inl g) = absurd (not_both input h.0 g.0 g.1 h.1 g.2)
+one_answer list input a b (inr h) (inr g) = refused_once input a b h g
+one_answer (build written) input a b (inl h) (inl g) = manifest_built_once written input a b h g
+one_answer (build written) input a b (inl h) (inr g) = absurd (no_fault g.0.kind g.0.line input h.0 h.1 g.2 g.1 h.2)
+one_answer (build written) input a b (inr g) (inl h) = absurd (no_fault g.0.kind g.0.line input h.0 h.1 g.2 g.1 h.2)
+one_answer (build written) input a b (inr h) (inr g) = manifest_refused_once input a b h g
+one_answer (cat path) input a b (inl (bad, x)) (inl (worse, y)) = x ∙ sym y
+one_answer (cat path) input a b (inl h) (inr (inl g)) = absurd (h.0 g.0 g.1)
+one_answer (cat path) input a b (inl h) (inr (inr g)) = absurd (h.0 g.0.0 g.0.1)
+one_answer (cat path) input a b (inr (inl g)) (inl h) = absurd (h.0 g.0 g.1)
+one_answer (cat path) input a b (inr (inr g)) (inl h) = absurd (h.0 g.0.0 g.0.1)
+one_answer (cat path) input a b (inr (inl h)) (inr (inl g)) = copied_from_once path input a b h g
+one_answer (cat path) input a b (inr (inl h)) (inr (inr (read, g))) = absurd (not_both input g.0 h.2 h.3 g.1 h.4)
+one_answer (cat path) input a b (inr (inr (read, h))) (inr (inl g)) = absurd (not_both input h.0 g.2 g.3 h.1 g.4)
+one_answer (cat path) input a b (inr (inr (read, h))) (inr (inr (also, g))) = refused_once input a b h g
+one_answer (convert kind) input a b (inl h) (inl g) = converted_once kind input a b h g
+one_answer (convert kind) input a b (inl h) (inr g) = absurd (not_both input g.0 h.0 h.1 g.1 h.2)
+one_answer (convert kind) input a b (inr h) (inl g) = absurd (not_both input h.0 g.0 g.1 h.1 g.2)
+one_answer (convert kind) input a b (inr h) (inr g) = refused_once input a b h g

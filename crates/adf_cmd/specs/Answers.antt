@@ -16,7 +16,7 @@ use Rattle.adf_build.specs.Building.{HasRoom, need_of}
 use Rattle.adf_check.specs.Pieces.{bytes_of}
 use Rattle.adf_check.specs.Volumes.{counts_of}
 use Rattle.adf_check.specs.declared.fault.Fault.{Fault}
-use Rattle.adf_cmd.specs.CommandLine.{Asks, IsRefused, Request, build, cat, check, convert, list}
+use Rattle.adf_cmd.specs.CommandLine.{AsksFor, AreRefused, RequestValue, build, cat, check, convert, list}
 use Rattle.adf_cmd.specs.Listing.{listing}
 use Rattle.adf_manifest.specs.Manifest.{ExplainsFault, IsManifest, most_bytes}
 use Rattle.adf_cmd.specs.Streams.{AppendsPart, Says}
@@ -25,17 +25,31 @@ use Rattle.adf_texts.specs.VolumeLines.{AreDates, volume_lines}
 use Rattle.adf_manifest.specs.declared.manifest.ManifestFault.{ManifestFault}
 use Rattle.adf_manifest.specs.declared.manifest.ManifestKind.TheVariants.{NoMemory as ManifestNoMemory}
 
+-- an answer: its status, and what is written to output and errors
+pub record Reply : Type 0 where
+  pub status : ℕ
+  pub output : List ℕ
+  pub errors : List ℕ
+
+-- a text on output, and nothing on errors
+abbrev pub on_output : ℕ → List ℕ → Reply
+on_output status text = record { status = status; output = text; errors = [] }
+
+-- a text on errors, and nothing on output
+abbrev pub on_errors : ℕ → List ℕ → Reply
+on_errors status text = record { status = status; output = []; errors = text }
+
 -- `check` at status 0 tells the numbers of the tree and the layout that fit the image, at status 1 its first fault
-abbrev pub Accepts : List ℕ → ℕ → List ℕ → List ℕ → Type 0
-Accepts input status output errors = (t : Tree) × (l : Layout) × Fits input t l × (status ≡ 0) × (output ≡ ok_line (counts_of input t l)) × (errors ≡ [])
+abbrev pub Accepts : List ℕ → Reply → Type 0
+Accepts input reply = (t : Tree) × (l : Layout) × Fits input t l × (reply ≡ on_output 0 (ok_line (counts_of input t l)))
 
 -- the first fault of the image is told on output, with status 1
-abbrev pub Refuses : List ℕ → ℕ → List ℕ → List ℕ → Type 0
-Refuses input status output errors = (f : Fault) × FirstFault input f.block f.cause × (status ≡ 1) × (output ≡ fault_line f) × (errors ≡ [])
+abbrev pub Refuses : List ℕ → Reply → Type 0
+Refuses input reply = (f : Fault) × FirstFault input f.block f.cause × (reply ≡ on_output 1 (fault_line f))
 
 -- the image that is laid of a tree in n blocks, or the lines of its words
-abbrev pub built : Bool → Tree → ℕ → List ℕ
-built lines tree n = if lines then listing (volume tree n) else volume tree n
+abbrev pub built_output : Bool → Tree → ℕ → List ℕ
+built_output lines tree n = if lines then listing (volume tree n) else volume tree n
 
 -- the tree has room in n blocks, and the image that is laid of it there is that of a sound volume of the tree
 pub record IsBuilt (tree : Tree) (n : ℕ) : Type 0 where
@@ -44,87 +58,86 @@ pub record IsBuilt (tree : Tree) (n : ℕ) : Type 0 where
   pub fits : Fits (volume tree n) tree (planned tree n)
 
 -- a tree is built in n blocks: at status 0 its image is written, or the lines of the image's words
-abbrev pub Builds : Bool → Tree → ℕ → ℕ → List ℕ → List ℕ → Type 0
-Builds lines tree n status output errors = IsBuilt tree n × (status ≡ 0) × (output ≡ built lines tree n) × (errors ≡ [])
+abbrev pub Builds : Bool → Tree → ℕ → Reply → Type 0
+Builds lines tree n reply = IsBuilt tree n × (reply ≡ on_output 0 (built_output lines tree n))
 
 -- at status 1 it needs more blocks than there are
-abbrev pub IsFull : Tree → ℕ → ℕ → List ℕ → List ℕ → Type 0
-IsFull tree n status output errors = (n - 2 < blocks_needed tree n) × (status ≡ 1) × (output ≡ []) × (errors ≡ full_line (need_of tree n) (n - 2))
+abbrev pub IsFull : Tree → ℕ → Reply → Type 0
+IsFull tree n reply = (n - 2 < blocks_needed tree n) × (reply ≡ on_errors 1 (full_line (need_of tree n) (n - 2)))
 
 -- a tree is built in n blocks, or refused since they are too few
-abbrev pub BuildsOrIsFull : Bool → Tree → ℕ → ℕ → List ℕ → List ℕ → Type 0
-BuildsOrIsFull lines tree n status output errors = Builds lines tree n status output errors ⊎ IsFull tree n status output errors
+abbrev pub BuildsOrIsFull : Bool → Tree → ℕ → Reply → Type 0
+BuildsOrIsFull lines tree n reply = Builds lines tree n reply ⊎ IsFull tree n reply
 
 -- `build` builds the tree that the manifest tells, or says at status 1 why the manifest is none
-abbrev pub BuildsManifest : Bool → List ℕ → ℕ → List ℕ → List ℕ → Type 0
-BuildsManifest lines input status output errors = (tree : Tree) × (n : ℕ) × IsManifest input tree n × BuildsOrIsFull lines tree n status output errors
+abbrev pub BuildsManifest : Bool → List ℕ → Reply → Type 0
+BuildsManifest lines input reply = (tree : Tree) × (n : ℕ) × IsManifest input tree n × BuildsOrIsFull lines tree n reply
 
 -- the fault of the manifest is told on errors, with status 1
-abbrev pub RefusesManifest : List ℕ → ℕ → List ℕ → List ℕ → Type 0
-RefusesManifest input status output errors =
-    (f : ManifestFault) × ExplainsFault f input × (f.kind ≢ ManifestNoMemory) × (status ≡ 1) × (output ≡ []) × (errors ≡ manifest_fault_line f)
+abbrev pub RefusesManifest : List ℕ → Reply → Type 0
+RefusesManifest input reply =
+    (f : ManifestFault) × ExplainsFault f input × (f.kind ≢ ManifestNoMemory) × (reply ≡ on_errors 1 (manifest_fault_line f))
 
 -- the commands other than `check` say at status 1 on errors that the image is refused
-abbrev pub RefusesImage : List ℕ → ℕ → List ℕ → List ℕ → Type 0
-RefusesImage input status output errors = (f : Fault) × FirstFault input f.block f.cause × (status ≡ 1) × (output ≡ []) × (errors ≡ fault_line f)
+abbrev pub RefusesImage : List ℕ → Reply → Type 0
+RefusesImage input reply = (f : Fault) × FirstFault input f.block f.cause × (reply ≡ on_errors 1 (fault_line f))
 
 -- `list` writes the lines of the tree and the layout that fit the image, in which each date has its text
-abbrev pub Lists : List ℕ → ℕ → List ℕ → List ℕ → Type 0
-Lists input status output errors = (t : Tree) × (l : Layout) × Fits input t l × (date : Stamp → List ℕ) × AreDates date × (status ≡ 0)
-    × (output ≡ volume_lines date t (blocks input)) × (errors ≡ [])
+abbrev pub Lists : List ℕ → Reply → Type 0
+Lists input reply = (t : Tree) × (l : Layout) × Fits input t l × (date : Stamp → List ℕ) × AreDates date
+    × (reply ≡ on_output 0 (volume_lines date t (blocks input)))
 
 -- the text is that of no list of names
 abbrev pub IsBadPath : List ℕ → Type 0
 IsBadPath path = (names : List (List ℕ)) → ¬ IsPathText path names
 
 -- `cat` at status 2: its path is not read
-abbrev pub RefusesPath : List ℕ → ℕ → List ℕ → List ℕ → Type 0
-RefusesPath path status output errors = IsBadPath path × (status ≡ 2) × (output ≡ []) × (errors ≡ codes "bad path\n")
+abbrev pub RefusesPath : List ℕ → Reply → Type 0
+RefusesPath path reply = IsBadPath path × (reply ≡ on_errors 2 (codes "bad path\n"))
 
 -- what a path leads to in a tree: nothing, or a node, of which a file has bytes
 abbrev pub contents_at : Tree → List (List ℕ) → Option (Option (List ℕ))
 contents_at t names = option_map (λ n. bytes_of (entry t.entries n)) (find t.entries names)
 
 -- `cat` of what its path leads to: of a file it writes the bytes, else it says at status 1 that nothing is there or that it is no file
-abbrev pub Copies : Option (Option (List ℕ)) → ℕ → List ℕ → List ℕ → Type 0
-Copies None status output errors = (status ≡ 1) × (output ≡ []) × (errors ≡ codes "no such path\n")
-Copies (Some None) status output errors = (status ≡ 1) × (output ≡ []) × (errors ≡ codes "not a file\n")
-Copies (Some (Some bytes)) status output errors = (status ≡ 0) × (output ≡ bytes) × (errors ≡ [])
+abbrev pub Copies : Option (Option (List ℕ)) → Reply → Type 0
+Copies None reply = reply ≡ on_errors 1 (codes "no such path\n")
+Copies (Some None) reply = reply ≡ on_errors 1 (codes "not a file\n")
+Copies (Some (Some bytes)) reply = reply ≡ on_output 0 bytes
 
 -- `cat` of a path in the tree and the layout that fit the image
-abbrev pub CopiesFrom : List ℕ → List ℕ → ℕ → List ℕ → List ℕ → Type 0
-CopiesFrom path input status output errors =
-    (names : List (List ℕ)) × IsPathText path names × (t : Tree) × (l : Layout) × Fits input t l × Copies (contents_at t names) status output errors
+abbrev pub CopiesFrom : List ℕ → List ℕ → Reply → Type 0
+CopiesFrom path input reply =
+    (names : List (List ℕ)) × IsPathText path names × (t : Tree) × (l : Layout) × Fits input t l × Copies (contents_at t names) reply
 
 -- `cat` of a path that is read, in an image that is refused
-abbrev pub RefusesToCopy : List ℕ → List ℕ → ℕ → List ℕ → List ℕ → Type 0
-RefusesToCopy path input status output errors = ((names : List (List ℕ)) × IsPathText path names) × RefusesImage input status output errors
+abbrev pub RefusesToCopy : List ℕ → List ℕ → Reply → Type 0
+RefusesToCopy path input reply = ((names : List (List ℕ)) × IsPathText path names) × RefusesImage input reply
 
 -- `convert` builds the tree that fits the image again, as one of this kind and in as many blocks
-abbrev pub Converts : Kind → List ℕ → ℕ → List ℕ → List ℕ → Type 0
-Converts kind input status output errors =
-    (t : Tree) × (l : Layout) × Fits input t l × BuildsOrIsFull false (with_kind t kind) (blocks input) status output errors
+abbrev pub Converts : Kind → List ℕ → Reply → Type 0
+Converts kind input reply =
+    (t : Tree) × (l : Layout) × Fits input t l × BuildsOrIsFull false (with_kind t kind) (blocks input) reply
 
--- the answer to a request: its status, and what is written to output and errors
-abbrev pub Answer : Request → List ℕ → ℕ → List ℕ → List ℕ → Type 0
-Answer check input status output errors = Accepts input status output errors ⊎ Refuses input status output errors
-Answer (build lines) input status output errors = BuildsManifest lines input status output errors ⊎ RefusesManifest input status output errors
-Answer list input status output errors = Lists input status output errors ⊎ RefusesImage input status output errors
-Answer (cat path) input status output errors =
-    RefusesPath path status output errors ⊎ (CopiesFrom path input status output errors ⊎ RefusesToCopy path input status output errors)
-Answer (convert kind) input status output errors = Converts kind input status output errors ⊎ RefusesImage input status output errors
+-- the answer to a request
+abbrev pub Answer : RequestValue → List ℕ → Reply → Type 0
+Answer check input reply = Accepts input reply ⊎ Refuses input reply
+Answer (build lines) input reply = BuildsManifest lines input reply ⊎ RefusesManifest input reply
+Answer list input reply = Lists input reply ⊎ RefusesImage input reply
+Answer (cat path) input reply =
+    RefusesPath path reply ⊎ (CopiesFrom path input reply ⊎ RefusesToCopy path input reply)
+Answer (convert kind) input reply = Converts kind input reply ⊎ RefusesImage input reply
 
 -- words ask for one request at most
 abbrev pub WordsAskForOneRequest : Type 0
-WordsAskForOneRequest = (words : List (List ℕ)) (r r' : Request) → Asks words r → Asks words r' → r ≡ r'
+WordsAskForOneRequest = (words : List (List ℕ)) (r r' : RequestValue) → AsksFor words r → AsksFor words r' → r ≡ r'
 
 -- a request and an input have one answer at most
 abbrev pub RequestsHaveOneAnswer : Type 0
-RequestsHaveOneAnswer = (r : Request) (input : List ℕ) (s s' : ℕ) (o o' e e' : List ℕ) → Answer r input s o e → Answer r input s' o' e'
-    → (s ≡ s') × (o ≡ o') × (e ≡ e')
+RequestsHaveOneAnswer = (r : RequestValue) (input : List ℕ) (a b : Reply) → Answer r input a → Answer r input b → a ≡ b
 
 -- the most bytes of the input that belong to an answer: those of the largest image or manifest
-abbrev pub limit_of : Option Request → ℕ
+abbrev pub limit_of : Option RequestValue → ℕ
 limit_of (Some check) = 512 * MOST_BLOCKS
 limit_of (Some list) = 512 * MOST_BLOCKS
 limit_of (Some (cat path)) = 512 * MOST_BLOCKS
@@ -135,16 +148,17 @@ limit_of None = 0
 -- at a status other than 3: the words ask for a request, output and errors got an answer to it, or where errors failed a front part of it
 abbrev pub Answers : List (List ℕ) → List ℕ → ℕ → Option (List ℕ) → Option (List ℕ) → Bool → Option (List ℕ) → Option (List ℕ) → Type 0
 Answers words input status o o' failed e e' =
-    (r : Request) × Asks words r × (output errors : List ℕ) × Answer r input status output errors × Appends o o' output × Says failed e e' errors
+    (r : RequestValue) × AsksFor words r × (reply : Reply) × (reply.status ≡ status) × Answer r input reply
+    × Appends o o' reply.output × Says failed e e' reply.errors
 
 -- at status 3: output got nothing, or where the input did not fail a front part of an answer
-abbrev pub IsPart : Request → List ℕ → Option (List ℕ) → Option (List ℕ) → Type 0
-IsPart r input o o' = (status : ℕ) × (output errors : List ℕ) × Answer r input status output errors × AppendsPart o o' output
+abbrev pub IsPart : RequestValue → List ℕ → Option (List ℕ) → Option (List ℕ) → Type 0
+IsPart r input o o' = (reply : Reply) × Answer r input reply × AppendsPart o o' reply.output
 
 -- what output has got where a device failed: nothing where the input failed, else nothing or a front part of an answer to the request
 abbrev pub AnswersPart : List (List ℕ) → Bool → List ℕ → Option (List ℕ) → Option (List ℕ) → Type 0
 AnswersPart words true input o o' = Appends o o' []
-AnswersPart words false input o o' = Appends o o' [] ⊎ ((r : Request) × Asks words r × IsPart r input o o')
+AnswersPart words false input o o' = Appends o o' [] ⊎ ((r : RequestValue) × AsksFor words r × IsPart r input o o')
 
 -- the line of status 3: whether the input failed, and whether output failed
 abbrev pub failure_line : Bool → Bool → List ℕ
@@ -160,8 +174,8 @@ usage_line =
 
 -- the words ask for the bytes under a path that is not read
 abbrev pub AsksBadPath : List (List ℕ) → Type 0
-AsksBadPath words = (path : List ℕ) × Asks words (cat path) × IsBadPath path
+AsksBadPath words = (path : List ℕ) × AsksFor words (cat path) × IsBadPath path
 
 -- the words are refused, or their path is not read
 abbrev pub IsUnanswered : List (List ℕ) → Type 0
-IsUnanswered words = IsRefused words ⊎ AsksBadPath words
+IsUnanswered words = AreRefused words ⊎ AsksBadPath words

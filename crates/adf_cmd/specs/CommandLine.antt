@@ -5,8 +5,8 @@ use Rattle.clap.specs.Words.{App, Row, Rule, Text, fault_of, first_of, new_app, 
 use Rattle.clap.specs.declared.builder.action.ArgAction.TheVariants.{SetTrue}
 use Rattle.adf_tree.specs.declared.entry.Kind.{Kind}
 use Rattle.adf_tree.specs.Kinds.{kind_named}
-use Rattle.adf_cmd.specs.declared.command_line.Order.{Order}
-use Rattle.adf_cmd.specs.declared.command_line.Order.TheVariants.{Check, List as ListAll, Cat, Build, Convert}
+use Rattle.adf_cmd.specs.declared.command_line.Request.{Request}
+use Rattle.adf_cmd.specs.declared.command_line.Request.TheVariants.{Check, List as ListAll, Cat, Build, Convert}
 use Rattle.adf_cmd.specs.declared.command_line.WordsFault.{WordsFault}
 use Rattle.adf_cmd.specs.declared.command_line.WordsFault.TheVariants.{NoMemory, Usage}
 
@@ -35,24 +35,24 @@ abbrev pub convert_app : App
 convert_app = with_rule (new_app (codes "convert")) kind_rule
 
 -- adf, with no flag and no subcommand for help
-abbrev pub bare_app : App
-bare_app = record (new_app (codes "adf")) { top = record (new_app (codes "adf")).top { disable_help_flag = true; disable_help_subcommand = true } }
+abbrev pub bare_adf : App
+bare_adf = record (new_app (codes "adf")) { top = record (new_app (codes "adf")).top { disable_help_flag = true; disable_help_subcommand = true } }
 
 -- adf with the two commands that have no argument
 abbrev pub plain_app : App
-plain_app = with_subcommand (with_subcommand bare_app (new_app (codes "check")).top) (new_app (codes "list")).top
+plain_app = with_subcommand (with_subcommand bare_adf (new_app (codes "check")).top) (new_app (codes "list")).top
 
 -- the command line: check, list, cat PATH, build [--list], convert KIND
 abbrev pub adf_app : App
 adf_app = with_subcommand (with_subcommand (with_subcommand plain_app cat_app.top) build_app.top) convert_app.top
 
 -- what a command line asks for
-pub data Request : Type 0 where
-  check : Request
-  list : Request
-  cat : Text → Request
-  build : Bool → Request
-  convert : Kind → Request
+pub data RequestValue : Type 0 where
+  check : RequestValue
+  list : RequestValue
+  cat : Text → RequestValue
+  build : Bool → RequestValue
+  convert : Kind → RequestValue
 
 -- the argument has this value
 abbrev pub is_text : Text → Option Text → Bool
@@ -60,8 +60,8 @@ is_text t None = false
 is_text t (Some s) = bytes_eq s t
 
 -- the request that a subcommand's name and matches are
-abbrev pub named : Text → List Row → Option Request
-named name rows =
+abbrev pub request_named : Text → List Row → Option RequestValue
+request_named name rows =
     if bytes_eq name (codes "check") then Some check
     else (if bytes_eq name (codes "list") then Some list
     else (if bytes_eq name (codes "cat") then option_map cat (first_of (codes "path") rows)
@@ -70,30 +70,30 @@ named name rows =
     else None))))
 
 -- what the matches ask for
-abbrev pub met : Option (Text × List Row) → Option Request
-met = option_and_then (λ p. named p.0 p.1)
+abbrev pub met : Option (Text × List Row) → Option RequestValue
+met = option_and_then (λ p. request_named p.0 p.1)
 
 -- the request of the words, where clap takes them
-abbrev pub request_of : List Text → Option Request
+abbrev pub request_of : List Text → Option RequestValue
 request_of words = met (subcommand_of adf_app words)
 
 -- clap takes the words, and its matches name the request
-abbrev pub Asks : List Text → Request → Type 0
-Asks words r = (fault_of adf_app words ≡ []) × (request_of words ≡ Some r)
+abbrev pub AsksFor : List Text → RequestValue → Type 0
+AsksFor words r = (fault_of adf_app words ≡ []) × (request_of words ≡ Some r)
 
 -- clap refuses the words, or its matches lack the command or its value
-abbrev pub IsRefused : List Text → Type 0
-IsRefused words = (¬ (fault_of adf_app words ≡ [])) ⊎ (request_of words ≡ None)
+abbrev pub AreRefused : List Text → Type 0
+AreRefused words = (¬ (fault_of adf_app words ≡ [])) ⊎ (request_of words ≡ None)
 
--- what an order asks for
-abbrev pub asked : Order → Request
-asked Check = check
-asked ListAll = list
-asked (Cat p) = cat p.now
-asked (Build b) = build b
-asked (Convert k) = convert k
+-- the value of a request as the code has it
+abbrev pub request_value : Request → RequestValue
+request_value Check = check
+request_value ListAll = list
+request_value (Cat p) = cat p.now
+request_value (Build b) = build b
+request_value (Convert k) = convert k
 
 -- what a fault of the words says of them
-abbrev pub Explains : WordsFault → List Text → Type 0
-Explains Usage words = IsRefused words
-Explains NoMemory words = Unit {0}
+abbrev pub ExplainsWords : WordsFault → List Text → Type 0
+ExplainsWords Usage words = AreRefused words
+ExplainsWords NoMemory words = Unit {0}

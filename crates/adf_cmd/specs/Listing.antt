@@ -5,12 +5,12 @@ use Rattle.adf_fields.specs.Words.{block, word}
 use Rattle.adf_texts.specs.Lines.{word_line}
 
 -- the line of word i of a block with the number b, where the word is not 0
-abbrev pub line_of : ℕ → List ℕ → ℕ → List ℕ
-line_of b bytes i = if word bytes i == 0 then [] else word_line b i (word bytes i)
+abbrev pub line_of_word : ℕ → List ℕ → ℕ → List ℕ
+line_of_word b bytes i = if word bytes i == 0 then [] else word_line b i (word bytes i)
 
 -- the lines of the first n words of a block with the number b
 unfoldable pub lines_of : ℕ → List ℕ → ℕ → List ℕ
-lines_of b bytes n = flat_map (line_of b bytes) (range_with_len 0 n)
+lines_of b bytes n = flat_map (line_of_word b bytes) (range_with_len 0 n)
 
 -- the lines of the first n blocks of an image
 unfoldable pub lines_of_blocks : List ℕ → ℕ → List ℕ

@@ -7,8 +7,8 @@ use Rattle.adf_volume.specs.Walk.{FirstFault}
 use Rattle.adf_build.specs.Plan.{blocks_needed}
 use Rattle.adf_build.specs.Building.{need_of}
 use Rattle.adf_check.specs.declared.fault.Fault.{Fault}
-use Rattle.adf_cmd.specs.Answers.{Answer, IsBuilt, IsPart, built}
-use Rattle.adf_cmd.specs.CommandLine.{Request, check}
+use Rattle.adf_cmd.specs.Answers.{Answer, IsBuilt, IsPart, built_output, on_output}
+use Rattle.adf_cmd.specs.CommandLine.{RequestValue, check}
 use Rattle.adf_cmd.specs.Streams.{AppendsPart}
 use Rattle.adf_texts.specs.Lines.{fault_line, full_line, manifest_fault_line}
 use Rattle.adf_manifest.specs.declared.manifest.ManifestFault.{ManifestFault}
@@ -29,15 +29,15 @@ status_of WriteFault = 3
 status_of NoMemory = 3
 
 -- what is said on errors
-abbrev pub line_of : Outcome → List ℕ
-line_of Done = []
-line_of FaultWritten = []
-line_of (Refused line) = string_bytes line
-line_of NoSuchPath = codes "no such path\n"
-line_of NotAFile = codes "not a file\n"
-line_of ReadFault = codes "read fault\n"
-line_of WriteFault = codes "write fault\n"
-line_of NoMemory = codes "no memory\n"
+abbrev pub outcome_line : Outcome → List ℕ
+outcome_line Done = []
+outcome_line FaultWritten = []
+outcome_line (Refused line) = string_bytes line
+outcome_line NoSuchPath = codes "no such path\n"
+outcome_line NotAFile = codes "not a file\n"
+outcome_line ReadFault = codes "read fault\n"
+outcome_line WriteFault = codes "write fault\n"
+outcome_line NoMemory = codes "no memory\n"
 
 -- whether an outcome is that input failed
 abbrev pub is_read_fault : Outcome → Bool
@@ -50,28 +50,29 @@ is_write_fault WriteFault = true
 is_write_fault _ = false
 
 -- the input did not come: its device failed, or memory was refused
-abbrev pub IsUnread : Outcome → Type 0
-IsUnread ReadFault = Unit {0}
-IsUnread NoMemory = Unit {0}
-IsUnread _ = ⊥
+abbrev pub LacksInput : Outcome → Type 0
+LacksInput ReadFault = Unit {0}
+LacksInput NoMemory = Unit {0}
+LacksInput _ = ⊥
 
 -- output got an answer at this status that says this on errors
-abbrev pub Writes : Request → List ℕ → ℕ → List ℕ → Option (List ℕ) → Option (List ℕ) → Type 0
-Writes r input status errors o o' = (output : List ℕ) × Answer r input status output errors × Appends o o' output
+abbrev pub Writes : RequestValue → List ℕ → ℕ → List ℕ → Option (List ℕ) → Option (List ℕ) → Type 0
+Writes r input status errors o o' =
+    (output : List ℕ) × Answer r input (record { status = status; output = output; errors = errors }) × Appends o o' output
 
 -- what an outcome says of the input and of what was added to output
-abbrev pub Works : Outcome → Request → List ℕ → Option (List ℕ) → Option (List ℕ) → Type 0
+abbrev pub Works : Outcome → RequestValue → List ℕ → Option (List ℕ) → Option (List ℕ) → Type 0
 Works ReadFault r input o o' = Appends o o' []
 Works WriteFault r input o o' = IsPart r input o o'
 Works NoMemory r input o o' = Appends o o' [] ⊎ IsPart r input o o'
-Works w r input o o' = Writes r input (status_of w) (line_of w) o o'
+Works w r input o o' = Writes r input (status_of w) (outcome_line w) o o'
 
 -- building a tree: its image is written, or it needs more blocks than there are, or a front part is written
 abbrev pub TreeWorks : Outcome → Bool → Tree → ℕ → Option (List ℕ) → Option (List ℕ) → Type 0
-TreeWorks Done lines tree n o o' = IsBuilt tree n × Appends o o' (built lines tree n)
+TreeWorks Done lines tree n o o' = IsBuilt tree n × Appends o o' (built_output lines tree n)
 TreeWorks (Refused line) lines tree n o o' = Appends o o' [] × (n - 2 < blocks_needed tree n) × (string_bytes line ≡ full_line (need_of tree n) (n - 2))
-TreeWorks WriteFault lines tree n o o' = IsBuilt tree n × AppendsPart o o' (built lines tree n)
-TreeWorks NoMemory lines tree n o o' = Appends o o' [] ⊎ (IsBuilt tree n × AppendsPart o o' (built lines tree n))
+TreeWorks WriteFault lines tree n o o' = IsBuilt tree n × AppendsPart o o' (built_output lines tree n)
+TreeWorks NoMemory lines tree n o o' = Appends o o' [] ⊎ (IsBuilt tree n × AppendsPart o o' (built_output lines tree n))
 TreeWorks _ lines tree n o o' = ⊥
 
 -- saying that a tree needs more blocks than there are
@@ -88,7 +89,7 @@ IsFaultOutcome f _ = ⊥
 
 -- the answer of `check` to an image: at status 0 where it is sound, at status 1 where it is refused
 abbrev pub IsCheckAnswer : List ℕ → CheckAnswer → Type 0
-IsCheckAnswer image a = Answer check image (if a.sound then 0 else 1) (string_bytes a.line) []
+IsCheckAnswer image a = Answer check image (on_output (if a.sound then 0 else 1) (string_bytes a.line))
 
 -- the answer of `check` to bytes, to the known ones where some are
 abbrev pub IsCheckAnswerTo : Option (List ℕ) → CheckAnswer → Type 0

@@ -3,7 +3,7 @@
 ghost use Rattle.std.specs.Prelude.{◌≡◌, IfOk, IfErr, false, true, ℕ, ◌==◌, List, [], ◌∷◌, codes, map, option_map};
 ghost use Rattle.clap.specs.Words.{app_of, first_of, found_of, rows_of, subcommand_rows_of};
 ghost use Rattle.clap.specs.declared.builder.command.Command.TheViews.{out-Command};
-ghost use Rattle.adf_cmd.specs.CommandLine.{Asks, Explains, IsRefused, adf_app, asked, build, build_app, cat, cat_app, check, convert, convert_app, list, met, named};
+ghost use Rattle.adf_cmd.specs.CommandLine.{AsksFor, ExplainsWords, AreRefused, adf_app, request_value, build, build_app, cat, cat_app, check, convert, convert_app, list, met, request_named};
 
 use adf_tree::Kind;
 use clap::error::ErrorKind;
@@ -12,7 +12,7 @@ use std::alloc::{AllocError, Global};
 
 /// What a command line asks for.
 #[derive(Clone, Copy, Debug)]
-pub enum Order<'a> {
+pub enum Request<'a> {
     Check,
     List,
     /// The text of the path.
@@ -21,7 +21,7 @@ pub enum Order<'a> {
     Convert(Kind),
 }
 
-/// Why the words give no order.
+/// Why the words give no request.
 #[derive(Clone, Copy, Debug, PartialEq, Eq)]
 pub enum WordsFault {
     /// The words are refused, or the command or its value is missing.
@@ -79,17 +79,17 @@ fn first_text<'a>(found: &ArgMatches<'a>, id: &str) -> Option<&'a str>
     found.get_str(id)
 }
 
-// The order that a subcommand's name and matches are.
-fn order_named<'a>(name: &str, found: &ArgMatches<'a>) -> Option<Order<'a>>
-    ensures { option_map asked result ≡ named name.now (rows_of (found_of found.now)) }
+// The request that a subcommand's name and matches are.
+fn request_named<'a>(name: &str, found: &ArgMatches<'a>) -> Option<Request<'a>>
+    ensures { option_map request_value result ≡ request_named name.now (rows_of (found_of found.now)) }
 {
     if name == "check" {
-        Some(Order::Check)
+        Some(Request::Check)
     } else if name == "list" {
-        Some(Order::List)
+        Some(Request::List)
     } else if name == "cat" {
         match first_text(found, "path") {
-            Some(path) => Some(Order::Cat(path)),
+            Some(path) => Some(Request::Cat(path)),
             None => None,
         }
     } else if name == "build" {
@@ -97,11 +97,11 @@ fn order_named<'a>(name: &str, found: &ArgMatches<'a>) -> Option<Order<'a>>
             Some(text) => text == "true",
             None => false,
         };
-        Some(Order::Build { list })
+        Some(Request::Build { list })
     } else if name == "convert" {
         match first_text(found, "kind") {
             Some(text) => match Kind::named(text) {
-                Some(kind) => Some(Order::Convert(kind)),
+                Some(kind) => Some(Request::Convert(kind)),
                 None => None,
             },
             None => None,
@@ -111,29 +111,29 @@ fn order_named<'a>(name: &str, found: &ArgMatches<'a>) -> Option<Order<'a>>
     }
 }
 
-// The order that the matches are.
-fn order_of<'a>(matches: &ArgMatches<'a>) -> Option<Order<'a>>
-    ensures { option_map asked result ≡ met (subcommand_rows_of matches.now) }
+// The request that the matches are.
+fn request_in<'a>(matches: &ArgMatches<'a>) -> Option<Request<'a>>
+    ensures { option_map request_value result ≡ met (subcommand_rows_of matches.now) }
 {
     match matches.subcommand() {
-        Some((name, found)) => order_named(name, found),
+        Some((name, found)) => request_named(name, found),
         None => None,
     }
 }
 
 /// Reads the words, of which the first is the program's name. `Usage` exactly where clap refuses them
 /// or its matches lack the command or its value, `NoMemory` where memory was refused.
-pub fn parse<'a>(alloc: Global, words: &'a [&str]) -> Result<Order<'a>, WordsFault>
-    ensures ok { IfOk result (λ order. Asks (map (λ w. w.now) words.entry.now) (asked order)) }
-    ensures refused { IfErr result (λ fault. Explains fault (map (λ w. w.now) words.entry.now)) }
+pub fn parse<'a>(alloc: Global, words: &'a [&str]) -> Result<Request<'a>, WordsFault>
+    ensures ok { IfOk result (λ request. AsksFor (map (λ w. w.now) words.entry.now) (request_value request)) }
+    ensures refused { IfErr result (λ fault. ExplainsWords fault (map (λ w. w.now) words.entry.now)) }
 {
     let adf = match command(alloc) {
         Ok(adf) => adf,
         Err(_) => return Err(WordsFault::NoMemory),
     };
     match adf.try_get_matches_from(words) {
-        Ok(matches) => match order_of(&matches) {
-            Some(order) => Ok(order),
+        Ok(matches) => match request_in(&matches) {
+            Some(request) => Ok(request),
             None => Err(WordsFault::Usage),
         },
         Err(error) => match error.kind() {
@@ -147,23 +147,23 @@ pub fn parse<'a>(alloc: Global, words: &'a [&str]) -> Result<Order<'a>, WordsFau
 /// refused, calls for help among them.
 #[tactic(auto, unfolding(clap::proofs::OnLiterals::clap_on_literals))]
 pub fn words_as_documented()
-    ensures check { Asks (codes "adf" ∷ codes "check" ∷ []) check }
-    ensures list { Asks (codes "adf" ∷ codes "list" ∷ []) list }
-    ensures build { Asks (codes "adf" ∷ codes "build" ∷ []) (build false) }
-    ensures build_list { Asks (codes "adf" ∷ codes "build" ∷ codes "--list" ∷ []) (build true) }
-    ensures convert_ofs { Asks (codes "adf" ∷ codes "convert" ∷ codes "ofs" ∷ []) (convert Kind.Ofs) }
-    ensures convert_ffs { Asks (codes "adf" ∷ codes "convert" ∷ codes "ffs" ∷ []) (convert Kind.Ffs) }
-    ensures cat { (first : ℕ) (rest : List ℕ) → (first == 45) ≡ false → Asks (codes "adf" ∷ codes "cat" ∷ (first ∷ rest) ∷ []) (cat (first ∷ rest)) }
-    ensures cat_any { (path : List ℕ) → Asks (codes "adf" ∷ codes "cat" ∷ codes "--" ∷ path ∷ []) (cat path) }
-    ensures no_words { IsRefused [] }
-    ensures no_command { IsRefused (codes "adf" ∷ []) }
-    ensures unknown { IsRefused (codes "adf" ∷ codes "frob" ∷ []) }
-    ensures no_path { IsRefused (codes "adf" ∷ codes "cat" ∷ []) }
-    ensures dash { IsRefused (codes "adf" ∷ codes "cat" ∷ codes "-x" ∷ []) }
-    ensures two_paths { IsRefused (codes "adf" ∷ codes "cat" ∷ codes "a" ∷ codes "b" ∷ []) }
-    ensures no_kind { IsRefused (codes "adf" ∷ codes "convert" ∷ []) }
-    ensures unknown_kind { IsRefused (codes "adf" ∷ codes "convert" ∷ codes "pfs" ∷ []) }
-    ensures help { IsRefused (codes "adf" ∷ codes "--help" ∷ []) }
-    ensures help_word { IsRefused (codes "adf" ∷ codes "help" ∷ []) }
-    ensures check_help { IsRefused (codes "adf" ∷ codes "check" ∷ codes "--help" ∷ []) }
+    ensures check { AsksFor (codes "adf" ∷ codes "check" ∷ []) check }
+    ensures list { AsksFor (codes "adf" ∷ codes "list" ∷ []) list }
+    ensures build { AsksFor (codes "adf" ∷ codes "build" ∷ []) (build false) }
+    ensures build_list { AsksFor (codes "adf" ∷ codes "build" ∷ codes "--list" ∷ []) (build true) }
+    ensures convert_ofs { AsksFor (codes "adf" ∷ codes "convert" ∷ codes "ofs" ∷ []) (convert Kind.Ofs) }
+    ensures convert_ffs { AsksFor (codes "adf" ∷ codes "convert" ∷ codes "ffs" ∷ []) (convert Kind.Ffs) }
+    ensures cat { (first : ℕ) (rest : List ℕ) → (first == 45) ≡ false → AsksFor (codes "adf" ∷ codes "cat" ∷ (first ∷ rest) ∷ []) (cat (first ∷ rest)) }
+    ensures cat_any { (path : List ℕ) → AsksFor (codes "adf" ∷ codes "cat" ∷ codes "--" ∷ path ∷ []) (cat path) }
+    ensures no_words { AreRefused [] }
+    ensures no_command { AreRefused (codes "adf" ∷ []) }
+    ensures unknown { AreRefused (codes "adf" ∷ codes "frob" ∷ []) }
+    ensures no_path { AreRefused (codes "adf" ∷ codes "cat" ∷ []) }
+    ensures dash { AreRefused (codes "adf" ∷ codes "cat" ∷ codes "-x" ∷ []) }
+    ensures two_paths { AreRefused (codes "adf" ∷ codes "cat" ∷ codes "a" ∷ codes "b" ∷ []) }
+    ensures no_kind { AreRefused (codes "adf" ∷ codes "convert" ∷ []) }
+    ensures unknown_kind { AreRefused (codes "adf" ∷ codes "convert" ∷ codes "pfs" ∷ []) }
+    ensures help { AreRefused (codes "adf" ∷ codes "--help" ∷ []) }
+    ensures help_word { AreRefused (codes "adf" ∷ codes "help" ∷ []) }
+    ensures check_help { AreRefused (codes "adf" ∷ codes "check" ∷ codes "--help" ∷ []) }
 {}

@@ -1,7 +1,7 @@
 // The input of a command.
 
 ghost use Rattle.std.specs.Prelude.{◌≡◌, ◌+◌, ◌<◌, ◌^◌, false, IfErr, IfOk, IfSome, OnOk, take};
-ghost use Rattle.adf_cmd.specs.Outcomes.{IsUnread, is_read_fault, is_write_fault};
+ghost use Rattle.adf_cmd.specs.Outcomes.{LacksInput, is_read_fault, is_write_fault};
 ghost use Rattle.adf_cmd.specs.Streams.{TakesAtMost};
 
 use crate::devices::Source;
@@ -16,7 +16,7 @@ pub fn read_input<R: Source>(alloc: Global, input: &mut R, limit: usize) -> Resu
     ensures all { IfOk result (λ all. IfSome (R.left input.old) (λ bytes. all.items ≡ take (limit + 1) bytes)) }
     ensures at_most { TakesAtMost (limit + 1) (R.left input.old) (R.left input.new) }
     ensures works { OnOk result (R.has_failed input.new ≡ false) }
-    ensures unread { IfErr result IsUnread }
+    ensures unread { IfErr result LacksInput }
     ensures failed { IfErr result (λ w. R.has_failed input.new ≡ is_read_fault w) }
     ensures written { IfErr result (λ w. is_write_fault w ≡ false) }
 {

@@ -3,7 +3,7 @@
 ghost use Rattle.std.specs.Prelude.{◌≡◌, ◌+◌, ◌*◌, ◌<◌, ◌≤◌, ◌^◌, ◌++◌, false, IfOk, OnOk, OnErr, length};
 ghost use Rattle.std.specs.Io.KnownBytes.{Appends};
 ghost use Rattle.adf_fields.specs.Words.{block};
-ghost use Rattle.adf_cmd.specs.Listing.{line_of, lines_of, listing};
+ghost use Rattle.adf_cmd.specs.Listing.{line_of_word, lines_of, listing};
 ghost use Rattle.adf_cmd.specs.Streams.{AppendsPart, KeepsPending, is_device};
 
 use crate::devices::Sink;
@@ -15,7 +15,7 @@ use std::alloc::{AllocError, Global};
 // Appends the line of a word, if that is not 0.
 fn push_line(text: &mut Vec<u8>, number: u32, block: &Block<'_>, i: usize) -> Result<(), AllocError>
     requires { i < 128 }
-    ensures { OnOk result (text.new.items ≡ text.old.items ++ line_of number block.now i) }
+    ensures { OnOk result (text.new.items ≡ text.old.items ++ line_of_word number block.now i) }
 {
     let word = block.word(i);
     if word == 0 {

@@ -1,7 +1,7 @@
 // How the work of a command went.
 
 ghost use Rattle.std.specs.Prelude.{◌≡◌};
-ghost use Rattle.adf_cmd.specs.Outcomes.{line_of, status_of};
+ghost use Rattle.adf_cmd.specs.Outcomes.{outcome_line, status_of};
 
 /// How the work of a command went.
 #[derive(Drop)]
@@ -40,7 +40,7 @@ impl Outcome {
 
     /// What is said on errors.
     pub fn line(&self) -> &str
-        ensures { result.now ≡ line_of self.now }
+        ensures { result.now ≡ outcome_line self.now }
     {
         match self {
             Outcome::Done => "",

@@ -2,8 +2,8 @@
 
 ghost use Rattle.std.specs.Prelude.{◌≡◌, ◌≤◌, ◌+◌, true, false, codes, length, map, IfSome};
 ghost use Rattle.adf_cmd.specs.Answers.{Answers, AnswersPart, AsksBadPath, IsUnanswered, RequestsHaveOneAnswer, WordsAskForOneRequest, failure_line, limit_of, usage_line};
-ghost use Rattle.adf_cmd.specs.CommandLine.{IsRefused, request_of};
-ghost use Rattle.adf_cmd.specs.Outcomes.{line_of, status_of};
+ghost use Rattle.adf_cmd.specs.CommandLine.{AreRefused, request_of};
+ghost use Rattle.adf_cmd.specs.Outcomes.{outcome_line, status_of};
 ghost use Rattle.adf_cmd.specs.Streams.{Says, TakesAtMost};
 ghost use Rattle.adf_cmd.specs.Work.{refusal_line, refusal_status};
 
@@ -17,7 +17,7 @@ use std::alloc::Global;
 fn finish<E: Sink>(outcome: &Outcome, errors: &mut E) -> u8
     requires { E.has_failed errors.old ≡ false }
     ensures status { result ≡ status_of outcome.now }
-    ensures said { Says (E.has_failed errors.new) (E.held errors.old) (E.held errors.new) (line_of outcome.now) }
+    ensures said { Says (E.has_failed errors.new) (E.held errors.old) (E.held errors.new) (outcome_line outcome.now) }
 {
     say(errors, outcome.line());
     outcome.status()
@@ -61,7 +61,7 @@ pub fn run<R: Source, W: Sink, E: Sink>(
     ensures status { result ≤ 3 }
 
     // Where the words are taken, at a status other than 3 the answer is the defined one.
-    ensures answer { ¬ IsRefused (map (λ w. w.now) words.now) → ¬ (result ≡ 3) → IfSome (R.left input.old) (λ bytes.
+    ensures answer { ¬ AreRefused (map (λ w. w.now) words.now) → ¬ (result ≡ 3) → IfSome (R.left input.old) (λ bytes.
         Answers (map (λ w. w.now) words.now) bytes result (W.held output.old) (W.held output.new) (E.has_failed errors.new) (E.held errors.old) (E.held errors.new)) }
     ensures words { ¬ (result ≡ 2) → ¬ (result ≡ 3) → ¬ IsUnanswered (map (λ w. w.now) words.now) }
 
@@ -69,7 +69,7 @@ pub fn run<R: Source, W: Sink, E: Sink>(
     ensures usage { result ≡ 2 → IsUnanswered (map (λ w. w.now) words.now) }
     ensures bad_path { result ≡ 2 → AsksBadPath (map (λ w. w.now) words.now)
         → Says (E.has_failed errors.new) (E.held errors.old) (E.held errors.new) (codes "bad path\n") }
-    ensures refused { result ≡ 2 → IsRefused (map (λ w. w.now) words.now)
+    ensures refused { result ≡ 2 → AreRefused (map (λ w. w.now) words.now)
         → Says (E.has_failed errors.new) (E.held errors.old) (E.held errors.new) usage_line }
     ensures untouched { result ≡ 2 → (input.new ≡ input.old) × (output.new ≡ output.old) }
 
@@ -111,7 +111,7 @@ pub fn run_on<W: Sink, E: Sink>(
     ensures within { result.taken ≤ length input.now }
 
     // Where the words are taken, at a status other than 3 the answer is the defined one.
-    ensures answer { ¬ IsRefused (map (λ w. w.now) words.now) → ¬ (result.status ≡ 3) → Answers (map (λ w. w.now) words.now) input.now
+    ensures answer { ¬ AreRefused (map (λ w. w.now) words.now) → ¬ (result.status ≡ 3) → Answers (map (λ w. w.now) words.now) input.now
         result.status (W.held output.old) (W.held output.new) (E.has_failed errors.new) (E.held errors.old) (E.held errors.new) }
     ensures words { ¬ (result.status ≡ 2) → ¬ (result.status ≡ 3) → ¬ IsUnanswered (map (λ w. w.now) words.now) }
 
@@ -119,7 +119,7 @@ pub fn run_on<W: Sink, E: Sink>(
     ensures usage { result.status ≡ 2 → IsUnanswered (map (λ w. w.now) words.now) }
     ensures bad_path { result.status ≡ 2 → AsksBadPath (map (λ w. w.now) words.now)
         → Says (E.has_failed errors.new) (E.held errors.old) (E.held errors.new) (codes "bad path\n") }
-    ensures refused { result.status ≡ 2 → IsRefused (map (λ w. w.now) words.now)
+    ensures refused { result.status ≡ 2 → AreRefused (map (λ w. w.now) words.now)
         → Says (E.has_failed errors.new) (E.held errors.old) (E.held errors.new) usage_line }
     ensures untouched { result.status ≡ 2 → (result.taken ≡ 0) × (output.new ≡ output.old) }
 

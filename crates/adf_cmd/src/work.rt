@@ -2,14 +2,14 @@
 
 ghost use Rattle.std.specs.Prelude.{◌≡◌, ◌+◌, ◌<◌, ◌^◌, false, IfErr, IfOk, IfSome, Some, map, true};
 ghost use Rattle.adf_cmd.specs.Answers.{limit_of};
-ghost use Rattle.adf_cmd.specs.CommandLine.{Asks, Request, asked};
+ghost use Rattle.adf_cmd.specs.CommandLine.{AsksFor, RequestValue, request_value};
 ghost use Rattle.adf_cmd.specs.Outcomes.{Works, is_read_fault, is_write_fault};
 ghost use Rattle.adf_cmd.specs.Streams.{TakesAtMost};
 ghost use Rattle.adf_cmd.specs.Work.{IsNoWork, IsNoWorkOf, Serves, refusal_line, refusal_status};
 
 use crate::building::build_manifest;
 use crate::checking::check_image;
-use crate::command_line::{Order, WordsFault, parse};
+use crate::command_line::{Request, WordsFault, parse};
 use crate::converting::{convert_image, convert_read};
 use crate::copying::cat_image;
 use crate::devices::{Sink, Source};
@@ -71,31 +71,31 @@ impl WorkFault {
     }
 }
 
-// The work that an order asks for.
-fn work_for(alloc: Global, order: Order<'_>) -> Result<Work, WorkFault>
-    ensures ok { IfOk result (λ work. Serves work (asked order.entry)) }
-    ensures fault { IfErr result (λ fault. IsNoWorkOf fault (asked order.entry)) }
+// The work that a request asks for.
+fn work_for(alloc: Global, request: Request<'_>) -> Result<Work, WorkFault>
+    ensures ok { IfOk result (λ work. Serves work (request_value request.entry)) }
+    ensures fault { IfErr result (λ fault. IsNoWorkOf fault (request_value request.entry)) }
 {
-    match order {
-        Order::Check => Ok(Work::Check),
-        Order::List => Ok(Work::List),
-        Order::Cat(path) => match read_path(alloc, path.as_bytes()) {
+    match request {
+        Request::Check => Ok(Work::Check),
+        Request::List => Ok(Work::List),
+        Request::Cat(path) => match read_path(alloc, path.as_bytes()) {
             Ok(names) => Ok(Work::Cat(names)),
             Err(PathFault::BadText) => Err(WorkFault::BadPath),
             Err(PathFault::NoMemory) => Err(WorkFault::NoMemory),
         },
-        Order::Build { list } => Ok(Work::Build { list }),
-        Order::Convert(kind) => Ok(Work::Convert(kind)),
+        Request::Build { list } => Ok(Work::Build { list }),
+        Request::Convert(kind) => Ok(Work::Convert(kind)),
     }
 }
 
 /// The work that words ask for, of which the first is the program's name.
 pub fn work_of(alloc: Global, words: &[&str]) -> Result<Work, WorkFault>
-    ensures ok { IfOk result (λ work. (r : Request) × Asks (map (λ w. w.now) words.now) r × Serves work r) }
+    ensures ok { IfOk result (λ work. (r : RequestValue) × AsksFor (map (λ w. w.now) words.now) r × Serves work r) }
     ensures fault { IfErr result (λ fault. IsNoWork fault (map (λ w. w.now) words.now)) }
 {
     match parse(alloc, words) {
-        Ok(order) => work_for(alloc, order),
+        Ok(request) => work_for(alloc, request),
         Err(WordsFault::Usage) => Err(WorkFault::Usage),
         Err(WordsFault::NoMemory) => Err(WorkFault::NoMemory),
     }
@@ -104,7 +104,7 @@ pub fn work_of(alloc: Global, words: &[&str]) -> Result<Work, WorkFault>
 impl Work {
     /// The most bytes of an input that belong to an answer.
     pub fn limit(&self) -> usize
-        ensures exact { (r : Request) → Serves self.now r → result ≡ limit_of (Some r) }
+        ensures exact { (r : RequestValue) → Serves self.now r → result ≡ limit_of (Some r) }
         ensures small { result < 2 ^ 63 }
     {
         match self {
@@ -116,7 +116,7 @@ impl Work {
     /// Does the work on the bytes of an input where they lie.
     pub fn on<W: Sink>(&self, alloc: Global, bytes: &[u8], output: &mut W) -> Outcome
         requires { W.has_failed output.old ≡ false }
-        ensures works { (r : Request) → Serves self.now r → Works result r bytes.now (W.held output.old) (W.held output.new) }
+        ensures works { (r : RequestValue) → Serves self.now r → Works result r bytes.now (W.held output.old) (W.held output.new) }
         ensures read { is_read_fault result ≡ false }
         ensures written { W.has_failed output.new ≡ is_write_fault result }
     {
@@ -132,7 +132,7 @@ impl Work {
     // Does the work on bytes that were read, and lets them go where they are no longer wanted.
     fn on_read<W: Sink>(&self, alloc: Global, bytes: Vec<u8>, output: &mut W) -> Outcome
         requires { W.has_failed output.old ≡ false }
-        ensures works { (r : Request) → Serves self.now r → Works result r bytes.items (W.held output.old) (W.held output.new) }
+        ensures works { (r : RequestValue) → Serves self.now r → Works result r bytes.items (W.held output.old) (W.held output.new) }
         ensures read { is_read_fault result ≡ false }
         ensures written { W.has_failed output.new ≡ is_write_fault result }
     {
@@ -151,12 +151,12 @@ impl Work {
     ) -> Outcome
         requires reads { R.has_failed input.old ≡ false }
         requires writes { W.has_failed output.old ≡ false }
-        ensures works { (r : Request) → Serves self.now r
+        ensures works { (r : RequestValue) → Serves self.now r
             → IfSome (R.left input.old) (λ bytes. Works result r bytes (W.held output.old) (W.held output.new)) }
         ensures read { R.has_failed input.new ≡ is_read_fault result }
         ensures written { W.has_failed output.new ≡ is_write_fault result }
         ensures unwritten { is_read_fault result ≡ true → output.new ≡ output.old }
-        ensures at_most { (r : Request) → Serves self.now r → TakesAtMost (limit_of (Some r) + 1) (R.left input.old) (R.left input.new) }
+        ensures at_most { (r : RequestValue) → Serves self.now r → TakesAtMost (limit_of (Some r) + 1) (R.left input.old) (R.left input.new) }
     {
         match read_input(alloc, input, self.limit()) {
             Ok(bytes) => self.on_read(alloc, bytes, output),

@@ -3,7 +3,7 @@ use Rattle.std.proofs.Common.{◌≡◌, ◌≤◌, ◌<◌, ◌==◌, ℕ, zero
 use Rattle.std.proofs.Common.{◌∙◌, length, if◌then◌else◌, Option, None, Some, IfSome, option_map, ap, refl, sym, subst, arith}
 use Rattle.std.specs.Io.BufRead.{DropsThrough, drop_through, first_piece, strip_last, take_through}
 use Rattle.std.specs.Io.KnownBytes.{IsAtEnd}
-use Rattle.adf_shelf_cmd.specs.Names.{AreGiven, first_names, names_in}
+use Rattle.adf_shelf_cmd.specs.Names.{AreGiven, first_names, listed_names}
 
 short_both : (c : Bool) (xs ys : List ℕ) (n : ℕ) → length xs ≤ n → length ys ≤ n → length (if c then xs else ys) ≤ n
 short_both true xs ys n h i = h
@@ -30,29 +30,29 @@ enough (suc k) (suc m) end (b ∷ bytes) h i =
     let few = rest_shorter end b bytes in
     ap (λ names. first_piece end (b ∷ bytes) ∷ names) (enough k m end (drop_through end (b ∷ bytes)) (omega arith) (omega arith))
 
-one_name : (end b : ℕ) (bytes : List ℕ) → names_in end (b ∷ bytes) ≡ first_piece end (b ∷ bytes) ∷ names_in end (drop_through end (b ∷ bytes))
+one_name : (end b : ℕ) (bytes : List ℕ) → listed_names end (b ∷ bytes) ≡ first_piece end (b ∷ bytes) ∷ listed_names end (drop_through end (b ∷ bytes))
 unfolding first_names
 one_name end b bytes =
     let few = rest_shorter end b bytes in
     ap (λ names. first_piece end (b ∷ bytes) ∷ names) (enough (length bytes) (length (drop_through end (b ∷ bytes))) end _ few (omega arith))
 
-no_name : (end : ℕ) → names_in end [] ≡ []
+no_name : (end : ℕ) → listed_names end [] ≡ []
 unfolding first_names
 no_name end = refl
 
 -- no name is in no byte
-pub none_left : (end : ℕ) (old : Option (List ℕ)) → IsAtEnd old → IfSome (option_map (names_in end) old) (λ names. names ≡ [])
+pub none_left : (end : ℕ) (old : Option (List ℕ)) → IsAtEnd old → IfSome (option_map (listed_names end) old) (λ names. names ≡ [])
 none_left end None at_end = tt
-none_left end (Some bytes) at_end = ap (names_in end) at_end ∙ no_name end
+none_left end (Some bytes) at_end = ap (listed_names end) at_end ∙ no_name end
 
 -- a text that ends at the first `end`, without that byte, is the first name
 pub gives_piece : (end : ℕ) (old new : Option (List ℕ)) (text name : List ℕ) → IfSome old (λ bytes. text ≡ take_through end bytes)
     → DropsThrough old new end → 0 < length text → name ≡ strip_last end text
-    → AreGiven (option_map (names_in end) old) (option_map (names_in end) new) (name ∷ [])
+    → AreGiven (option_map (listed_names end) old) (option_map (listed_names end) new) (name ∷ [])
 gives_piece end None new text name piece rest some e = tt
 gives_piece end (Some []) new text name piece rest some e = let none : length text ≡ 0 = ap length piece in absurd (omega arith)
 gives_piece end (Some (b ∷ bytes)) new text name piece rest some e =
-    let left = names_in end (drop_through end (b ∷ bytes)) in
-    let one : names_in end (b ∷ bytes) ≡ name ∷ left =
+    let left = listed_names end (drop_through end (b ∷ bytes)) in
+    let one : listed_names end (b ∷ bytes) ≡ name ∷ left =
     one_name end b bytes ∙ ap (λ first. first ∷ left) (sym (e ∙ ap (strip_last end) piece)) in
-    subst (λ k. AreGiven (Some (names_in end (b ∷ bytes))) (option_map (names_in end) k) (name ∷ [])) (sym rest) one
+    subst (λ k. AreGiven (Some (listed_names end (b ∷ bytes))) (option_map (listed_names end) k) (name ∷ [])) (sym rest) one

@@ -1,10 +1,9 @@
 -- The command line of `adf-shelf`, as clap reads it, and the order that its matches name: whether names end in zero bytes, and the names.
-use Rattle.std.specs.Prelude.{◌≡◌, ℕ, List, [], ◌∷◌, Bool, true, false, Option, Some, None, codes, map, option_map, unwrap_or, if◌then◌else◌}
+use Rattle.std.specs.Prelude.{◌≡◌, ℕ, List, [], ◌∷◌, Bool, true, false, Option, Some, None, codes, option_map, unwrap_or, if◌then◌else◌}
 use Rattle.std.specs.Str.{bytes_eq}
 use Rattle.clap.specs.Words.{App, Row, Rule, Text, all_of, fault_of, first_of, matches_of, new_app, new_rule, with_rule}
 use Rattle.clap.specs.declared.builder.action.ArgAction.TheVariants.{Append, SetTrue}
-use Rattle.adf_shelf_cmd.specs.Names.{names_in}
-use Rattle.adf_shelf_cmd.specs.declared.command_line.Order.{Order}
+use Rattle.adf_shelf_cmd.specs.Names.{listed_names}
 use Rattle.adf_cmd.specs.declared.command_line.WordsFault.{WordsFault}
 use Rattle.adf_cmd.specs.declared.command_line.WordsFault.TheVariants.{NoMemory, Usage}
 
@@ -17,12 +16,12 @@ abbrev pub files_rule : Rule
 files_rule = record (new_rule (codes "files")) { action = Some Append }
 
 -- with no flag for help
-abbrev pub bare_app : App
-bare_app = record (new_app (codes "adf-shelf")) { top = record (new_app (codes "adf-shelf")).top { disable_help_flag = true } }
+abbrev pub bare_shelf : App
+bare_shelf = record (new_app (codes "adf-shelf")) { top = record (new_app (codes "adf-shelf")).top { disable_help_flag = true } }
 
 -- the command line: [--null] [FILE..]
 abbrev pub shelf_app : App
-shelf_app = with_rule (with_rule bare_app null_rule) files_rule
+shelf_app = with_rule (with_rule bare_shelf null_rule) files_rule
 
 -- the flag was given
 abbrev pub is_true : Option Text → Bool
@@ -34,21 +33,17 @@ abbrev pub order_in : List Row → Bool × List Text
 order_in rows = (is_true (first_of (codes "null") rows), unwrap_or (all_of (codes "files") rows) [])
 
 -- clap takes the words, and its matches are the order
-abbrev pub Asks : List Text → Bool × List Text → Type 0
-Asks words order = (fault_of shelf_app words ≡ []) × (order_in (matches_of shelf_app words) ≡ order)
+abbrev pub AsksShelf : List Text → Bool × List Text → Type 0
+AsksShelf words order = (fault_of shelf_app words ≡ []) × (order_in (matches_of shelf_app words) ≡ order)
 
 -- clap refuses the words
-abbrev pub IsRefused : List Text → Type 0
-IsRefused words = ¬ (fault_of shelf_app words ≡ [])
-
--- what an order asks for
-abbrev pub asked : Order → Bool × List Text
-asked order = (order.null, map (λ f. f.now) order.files.items)
+abbrev pub AreRefusedByShelf : List Text → Type 0
+AreRefusedByShelf words = ¬ (fault_of shelf_app words ≡ [])
 
 -- what a fault of the words says of them
-abbrev pub Explains : WordsFault → List Text → Type 0
-Explains Usage words = IsRefused words
-Explains NoMemory words = Unit {0}
+abbrev pub ExplainsShelfWords : WordsFault → List Text → Type 0
+ExplainsShelfWords Usage words = AreRefusedByShelf words
+ExplainsShelfWords NoMemory words = Unit {0}
 
 -- the byte that ends a name
 abbrev pub end_of : Bool → ℕ
@@ -56,5 +51,5 @@ end_of null = if null then 0 else 10
 
 -- the names of an order, or where it has none those in the input
 abbrev pub names_asked : Bool × List Text → Option (List ℕ) → Option (List (List ℕ))
-names_asked (null, []) input = option_map (names_in (end_of null)) input
+names_asked (null, []) input = option_map (listed_names (end_of null)) input
 names_asked (null, name ∷ names) input = Some (name ∷ names)

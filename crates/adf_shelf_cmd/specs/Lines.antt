@@ -4,7 +4,7 @@ use Rattle.std.specs.Prelude.{◌≡◌, ◌≢◌, ◌≤◌, ◌⊎◌, ℕ, m
 use Rattle.std.specs.Prelude.{Option, IfSome, Result, Err, if◌then◌else◌, string_bytes}
 use Rattle.std.specs.Io.KnownBytes.{Appends}
 use Rattle.adf_tree.specs.Escapes.{escaped}
-use Rattle.adf_cmd.specs.Answers.{Answer}
+use Rattle.adf_cmd.specs.Answers.{Answer, on_output}
 use Rattle.adf_cmd.specs.CommandLine.{check}
 use Rattle.adf_cmd.specs.Streams.{AppendsPart, Says}
 use Rattle.adf_shelf_cmd.specs.declared.report.Report.{Report}
@@ -18,11 +18,11 @@ shelf_line name text = escaped name ++ (9 ∷ text)
 
 -- the answer of `check` to bytes, to the known ones where some are
 abbrev pub Checks : Option (List ℕ) → ℕ → List ℕ → Type 0
-Checks known status text = (bytes : List ℕ) × IfSome known (λ all. all ≡ bytes) × Answer check bytes status text []
+Checks known status text = (bytes : List ℕ) × IfSome known (λ all. all ≡ bytes) × Answer check bytes (on_output status text)
 
 -- a file that may fail was not read
-abbrev pub IsUnread : Bool → ℕ → List ℕ → Type 0
-IsUnread may_fail status text = (may_fail ≡ true) × (status ≡ 3) × (text ≡ codes "read fault\n")
+abbrev pub IsUnreadFile : Bool → ℕ → List ℕ → Type 0
+IsUnreadFile may_fail status text = (may_fail ≡ true) × (status ≡ 3) × (text ≡ codes "read fault\n")
 
 -- memory was refused
 abbrev pub LacksMemory : ℕ → List ℕ → Type 0
@@ -30,7 +30,7 @@ LacksMemory status text = (status ≡ 3) × (text ≡ codes "no memory\n")
 
 -- what may be reported of a file
 abbrev pub IsReport : Option (List ℕ) → Bool → ℕ → List ℕ → Type 0
-IsReport known may_fail status text = Checks known status text ⊎ (IsUnread may_fail status text ⊎ LacksMemory status text)
+IsReport known may_fail status text = Checks known status text ⊎ (IsUnreadFile may_fail status text ⊎ LacksMemory status text)
 
 -- what may be reported of the file of a name, by the bytes that are known of each file, and whether it may fail
 abbrev pub IsReportOf : (List ℕ → Option (List ℕ)) → (List ℕ → Bool) → List ℕ → ℕ → List ℕ → Type 0
@@ -77,9 +77,9 @@ report_text ReadFault = codes "read fault\n"
 report_text NoMemory = codes "no memory\n"
 
 -- whether a run stopped since output failed
-abbrev pub is_write_fault : Stop → Bool
-is_write_fault WriteFault = true
-is_write_fault _ = false
+abbrev pub is_output_fault : Stop → Bool
+is_output_fault WriteFault = true
+is_output_fault _ = false
 
 -- what is said on errors
 abbrev pub stop_line : Stop → List ℕ
@@ -91,9 +91,9 @@ stop_line StopNoMemory = codes "no memory\n"
 abbrev pub Ends : Reports → Option (List (List ℕ)) → ℕ → Bool → Option (List ℕ) → Option (List ℕ) → Bool → Option (List ℕ) → Option (List ℕ) → Type 0
 Ends may known status failed o o' errors_failed e e' =
     (WritesAll may known status o o' × (failed ≡ false) × Appends e e' [])
-    ⊎ ((stop : Stop) × (status ≡ 3) × (failed ≡ is_write_fault stop) × WritesPart may known o o' × Says errors_failed e e' (stop_line stop))
+    ⊎ ((stop : Stop) × (status ≡ 3) × (failed ≡ is_output_fault stop) × WritesPart may known o o' × Says errors_failed e e' (stop_line stop))
 
 -- output stopped the work
 abbrev pub is_write_stop : {T : Type 0} → Result T Stop → Bool
-is_write_stop (Err stop) = is_write_fault stop
+is_write_stop (Err stop) = is_output_fault stop
 is_write_stop _ = false

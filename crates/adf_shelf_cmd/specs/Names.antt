@@ -20,5 +20,5 @@ first_names (suc most) end [] = []
 first_names (suc most) end (b ∷ bytes) = first_piece end (b ∷ bytes) ∷ first_names most end (drop_through end (b ∷ bytes))
 
 -- the names in bytes
-abbrev pub names_in : ℕ → List ℕ → List (List ℕ)
-names_in end bytes = first_names (length bytes) end bytes
+abbrev pub listed_names : ℕ → List ℕ → List (List ℕ)
+listed_names end bytes = first_names (length bytes) end bytes

@@ -2,12 +2,13 @@
 
 ghost use Rattle.std.specs.Prelude.{◌≡◌, ◌==◌, IfOk, IfErr, ℕ, List, [], ◌∷◌, codes, false, map, option_map, true, unwrap_or};
 ghost use Rattle.clap.specs.Words.{all_of, app_of, first_of, found_of, rows_of};
-ghost use Rattle.adf_shelf_cmd.specs.CommandLine.{Asks, Explains, IsRefused, asked, is_true, order_in, shelf_app};
+ghost use Rattle.adf_shelf_cmd.specs.CommandLine.{AsksShelf, ExplainsShelfWords, AreRefusedByShelf, is_true, order_in, shelf_app};
 
 use adf_cmd::WordsFault;
 use clap::error::ErrorKind;
 use clap::{Arg, ArgAction, ArgMatches, Command};
 use std::alloc::{AllocError, Global};
+use std::marker::Model;
 
 /// What a command line asks for.
 #[derive(Drop)]
@@ -16,6 +17,14 @@ pub struct Order<'a> {
     pub null: bool,
     /// The names; where there is none, they are read.
     pub files: Vec<&'a str>,
+}
+
+impl<'a> Model for Order<'a> {
+    ghost use Rattle.std.specs.Prelude.{Bool, List, map, ℕ};
+
+    ghost Value = { Bool × List (List ℕ) };
+
+    ghost view = { λ o. (o.null, map (λ f. f.now) o.files.items) };
 }
 
 // The command line. Words of help are refused as any others are, so that clap lays out no text for them.
@@ -67,7 +76,7 @@ fn names_in<'a>(alloc: Global, found: &ArgMatches<'a>) -> Result<Vec<&'a str>, A
 
 // The order that the matches are.
 fn order_in<'a>(alloc: Global, found: &ArgMatches<'a>) -> Result<Order<'a>, AllocError>
-    ensures { IfOk result (λ order. asked order ≡ order_in (rows_of (found_of found.now))) }
+    ensures { IfOk result (λ order. order ≡ order_in (rows_of (found_of found.now))) }
 {
     let files = names_in(alloc, found)?;
     let null = has_null(found);
@@ -77,8 +86,8 @@ fn order_in<'a>(alloc: Global, found: &ArgMatches<'a>) -> Result<Order<'a>, Allo
 /// Reads the words, of which the first is the program's name. `Usage` exactly where clap refuses them,
 /// `NoMemory` where memory was refused.
 pub fn parse<'a>(alloc: Global, words: &'a [&str]) -> Result<Order<'a>, WordsFault>
-    ensures ok { IfOk result (λ order. Asks (map (λ w. w.now) words.entry.now) (asked order)) }
-    ensures refused { IfErr result (λ fault. Explains fault (map (λ w. w.now) words.entry.now)) }
+    ensures ok { IfOk result (λ order. AsksShelf (map (λ w. w.now) words.entry.now) order) }
+    ensures refused { IfErr result (λ fault. ExplainsShelfWords fault (map (λ w. w.now) words.entry.now)) }
 {
     let Ok(shelf) = command(alloc) else {
         return Err(WordsFault::NoMemory);
@@ -99,18 +108,18 @@ pub fn parse<'a>(alloc: Global, words: &'a [&str]) -> Result<Order<'a>, WordsFau
 /// calls for help among them.
 #[tactic(auto, unfolding(clap::proofs::OnLiterals::clap_on_literals))]
 pub fn words_as_documented()
-    ensures none { Asks (codes "adf-shelf" ∷ []) (false, []) }
-    ensures null { Asks (codes "adf-shelf" ∷ codes "--null" ∷ []) (true, []) }
+    ensures none { AsksShelf (codes "adf-shelf" ∷ []) (false, []) }
+    ensures null { AsksShelf (codes "adf-shelf" ∷ codes "--null" ∷ []) (true, []) }
     ensures file { (first : ℕ) (rest : List ℕ) → (first == 45) ≡ false
-        → Asks (codes "adf-shelf" ∷ (first ∷ rest) ∷ []) (false, (first ∷ rest) ∷ []) }
+        → AsksShelf (codes "adf-shelf" ∷ (first ∷ rest) ∷ []) (false, (first ∷ rest) ∷ []) }
     ensures files { (first : ℕ) (rest : List ℕ) → (first == 45) ≡ false
-        → Asks (codes "adf-shelf" ∷ codes "a.adf" ∷ (first ∷ rest) ∷ []) (false, codes "a.adf" ∷ (first ∷ rest) ∷ []) }
-    ensures null_file { Asks (codes "adf-shelf" ∷ codes "--null" ∷ codes "a.adf" ∷ []) (true, codes "a.adf" ∷ []) }
-    ensures any_files { (one two : List ℕ) → Asks (codes "adf-shelf" ∷ codes "--" ∷ one ∷ two ∷ []) (false, one ∷ two ∷ []) }
-    ensures no_words { Asks [] (false, []) }
-    ensures dash { IsRefused (codes "adf-shelf" ∷ codes "-x" ∷ []) }
-    ensures null_twice { IsRefused (codes "adf-shelf" ∷ codes "--null" ∷ codes "--null" ∷ []) }
-    ensures help { IsRefused (codes "adf-shelf" ∷ codes "--help" ∷ []) }
-    ensures help_letter { IsRefused (codes "adf-shelf" ∷ codes "-h" ∷ []) }
-    ensures version { IsRefused (codes "adf-shelf" ∷ codes "--version" ∷ []) }
+        → AsksShelf (codes "adf-shelf" ∷ codes "a.adf" ∷ (first ∷ rest) ∷ []) (false, codes "a.adf" ∷ (first ∷ rest) ∷ []) }
+    ensures null_file { AsksShelf (codes "adf-shelf" ∷ codes "--null" ∷ codes "a.adf" ∷ []) (true, codes "a.adf" ∷ []) }
+    ensures any_files { (one two : List ℕ) → AsksShelf (codes "adf-shelf" ∷ codes "--" ∷ one ∷ two ∷ []) (false, one ∷ two ∷ []) }
+    ensures no_words { AsksShelf [] (false, []) }
+    ensures dash { AreRefusedByShelf (codes "adf-shelf" ∷ codes "-x" ∷ []) }
+    ensures null_twice { AreRefusedByShelf (codes "adf-shelf" ∷ codes "--null" ∷ codes "--null" ∷ []) }
+    ensures help { AreRefusedByShelf (codes "adf-shelf" ∷ codes "--help" ∷ []) }
+    ensures help_letter { AreRefusedByShelf (codes "adf-shelf" ∷ codes "-h" ∷ []) }
+    ensures version { AreRefusedByShelf (codes "adf-shelf" ∷ codes "--version" ∷ []) }
 {}

@@ -2,7 +2,7 @@
 
 ghost use Rattle.std.specs.Prelude.{◌≡◌, ◌<◌, ℕ, IfOk, List, Ok, Option, Some, length, map, option_map, true};
 ghost use Rattle.std.specs.Io.BufRead.{strip_last};
-ghost use Rattle.adf_shelf_cmd.specs.Names.{GivesName, names_in};
+ghost use Rattle.adf_shelf_cmd.specs.Names.{GivesName, listed_names};
 
 use adf_cmd::StreamFault;
 use std::io::{BufRead, ErrorKind};
@@ -88,7 +88,7 @@ fn strip_end(name: &mut Vec<u8>, end: u8)
 }
 
 impl<B: BufRead> Names for TextNames<B> {
-    ghost left = { λ l. option_map (names_in l.end) (B.remaining l.text) };
+    ghost left = { λ l. option_map (listed_names l.end) (B.remaining l.text) };
 
     ghost most = { λ l. l.turns };
 

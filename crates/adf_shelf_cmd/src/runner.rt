@@ -2,7 +2,7 @@
 
 ghost use Rattle.std.specs.Prelude.{◌≡◌, ◌≢◌, ◌≤◌, Bool, List, ℕ, [], codes, false, map};
 ghost use Rattle.adf_cmd.specs.Streams.{Says};
-ghost use Rattle.adf_shelf_cmd.specs.CommandLine.{Asks, IsRefused, asked, names_asked};
+ghost use Rattle.adf_shelf_cmd.specs.CommandLine.{AsksShelf, AreRefusedByShelf, names_asked};
 ghost use Rattle.adf_shelf_cmd.specs.Lines.{Ends, IsReportOf, IsRunStatus};
 
 use crate::command_line::{Order, parse};
@@ -51,11 +51,11 @@ fn run_order<B: BufRead, F: Files, W: Sink, E: Sink>(
     requires writes { W.has_failed output.old ≡ false }
     requires tells { E.has_failed errors.old ≡ false }
     ensures ends { Ends (IsReportOf (F.bytes_of files.now) (F.may_fail files.now))
-        (names_asked (asked order.now) (B.remaining input.old.text)) result
+        (names_asked order.now (B.remaining input.old.text)) result
         (W.has_failed output.new) (W.held output.old) (W.held output.new)
         (E.has_failed errors.new) (E.held errors.old) (E.held errors.new) }
     ensures status { IsRunStatus result }
-    ensures unread { order.now.files.items ≢ [] → input.new ≡ input.old }
+    ensures unread { order.now.1 ≢ [] → input.new ≡ input.old }
 {
     if order.files.is_empty() {
         input.end = if order.null { 0 } else { b'\n' };
@@ -86,15 +86,15 @@ pub fn run<B: BufRead, F: Files, W: Sink, E: Sink>(
     ensures most { result ≤ 3 }
 
     // Where the words are taken, output has the lines of the names, or the work stopped.
-    ensures ends { (order : Bool × List (List ℕ)) → Asks (map (λ w. w.now) words.now) order
+    ensures ends { (order : Bool × List (List ℕ)) → AsksShelf (map (λ w. w.now) words.now) order
         → Ends (IsReportOf (F.bytes_of files.now) (F.may_fail files.now)) (names_asked order (B.remaining input.old.text)) result
         (W.has_failed output.new) (W.held output.old) (W.held output.new)
         (E.has_failed errors.new) (E.held errors.old) (E.held errors.new) }
 
     // At status 2 the words are refused; where they are, nothing was read or written.
-    ensures usage { result ≡ 2 → IsRefused (map (λ w. w.now) words.now) }
-    ensures refused { IsRefused (map (λ w. w.now) words.now) → ¬ (result ≡ 3) → result ≡ 2 }
-    ensures untouched { IsRefused (map (λ w. w.now) words.now) → (input.new ≡ input.old) × (output.new ≡ output.old) }
+    ensures usage { result ≡ 2 → AreRefusedByShelf (map (λ w. w.now) words.now) }
+    ensures refused { AreRefusedByShelf (map (λ w. w.now) words.now) → ¬ (result ≡ 3) → result ≡ 2 }
+    ensures untouched { AreRefusedByShelf (map (λ w. w.now) words.now) → (input.new ≡ input.old) × (output.new ≡ output.old) }
     ensures said { result ≡ 2
         → Says (E.has_failed errors.new) (E.held errors.old) (E.held errors.new) (codes "usage: adf-shelf [--null] [FILE..]\n") }
 {

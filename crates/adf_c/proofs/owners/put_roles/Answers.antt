@@ -1,5 +1,5 @@
 use Rattle.std.proofs.Common.{◌∙◌, arith}
-use Rattle.adf_c.specs.Roles.{IsRole}
+use Rattle.adf_c.specs.OwnerNumbers.{IsOwnerNumber}
 use Rattle.adf_c.proofs.Rooms.{put_more, put_keeps}
 use Rattle.adf_c.proofs.owners.put_roles.Goals as goal
 
@@ -9,6 +9,6 @@ loop-b-preserved c =
     let b = c.loop-b.b in
     let r = c.role_of.result in
     record {
-      roles = put_more (IsRole c.args.volume.now.image) roles b r c.if-at-roles.false c.role_of.ensures c.loop-b.invariant.roles;
+      roles = put_more (IsOwnerNumber c.args.volume.now.image) roles b r c.if-at-roles.false c.role_of.ensures c.loop-b.invariant.roles;
       behind = λ k far. put_keeps roles b r k far ∙ c.loop-b.invariant.behind k (omega arith);
     }

@@ -1,6 +1,6 @@
 use Rattle.std.proofs.Common.{◌≡◌, List, ℕ}
 use Rattle.adf_cmd.specs.Answers.{Answers, IsUnanswered}
-use Rattle.adf_cmd.specs.CommandLine.{IsRefused}
+use Rattle.adf_cmd.specs.CommandLine.{AreRefused}
 use Rattle.adf_c.specs.Words.{AreWords}
 use Rattle.adf_c.proofs.WordParts.{along, read_as}
 use Rattle.adf_cmd.proofs.AnswerLaws.{texts_of}
@@ -17,7 +17,7 @@ returns-in-Ok-clause-answer g c ws are =
     let e' = g.E.Sink.held c.run_on.new.errors in
     let failed = g.E.Sink.has_failed c.run_on.new.errors in
     let status : ℕ = c.run_on.result.status in
-    along words texts ws (λ x. (¬ IsRefused x) → (¬ (status ≡ 3)) → Answers x c.args.input.now status o o' failed e e')
+    along words texts ws (λ x. (¬ AreRefused x) → (¬ (status ≡ 3)) → Answers x c.args.input.now status o o' failed e e')
     read are c.run_on.ensures.answer
 
 pub returns-in-Ok-clause-words : goal.returns-in-Ok-clause-words

@@ -1,7 +1,7 @@
 use Rattle.std.proofs.Common.{◌≡◌, ◌+◌, ◌<◌, ◌≤◌, ◌∙◌, ℕ, suc, ap, arith, length, take}
 use Rattle.adf_volume.specs.Layout.{at_node, datas_of}
 use Rattle.adf_c.specs.Rooms.{filled}
-use Rattle.adf_c.specs.Tables.{all_datas, entry_table, told}
+use Rattle.adf_c.specs.Tables.{all_datas, entry_table, table_entry}
 use Rattle.adf_c.proofs.TableLaws.{blocks_small, count_more, entries_more, next_blocks, next_entry, next_small, whole_blocks, whole_entries}
 use Rattle.adf_c.proofs.tables.put_tables.Goals as goal
 
@@ -45,7 +45,7 @@ loop-i-preserved c =
           let lt : i < length t.entries = omega (arith, c.len-i-end.ensures.count t l st) in
           entries_more (entry_table t l) c.args.entries.now c.loop-i.entries c.put_entry.new.table i c.table_entry.result
           (next_entry t l i c.loop-i.first c.table_entry.result st.fits.places lt (c.loop-i.invariant.first t l st) (λ e at.
-          c.table_entry.ensures t l e st at ∙ ap (λ n. told (at_node c.args.volume.now.image l n) c.loop-i.first e) one))
+          c.table_entry.ensures t l e st at ∙ ap (λ n. table_entry (at_node c.args.volume.now.image l n) c.loop-i.first e) one))
           c.put_entry.ensures (c.loop-i.invariant.entries t l st));
       blocks = (λ t l st.
           let lt : i < length l.places = omega (arith, c.len-i-end.ensures.count t l st, st.fits.places) in

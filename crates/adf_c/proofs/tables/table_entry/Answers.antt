@@ -1,5 +1,5 @@
 use Rattle.std.proofs.Common.{◌∙◌, ap}
-use Rattle.adf_c.specs.Tables.{told}
+use Rattle.adf_c.specs.Tables.{table_entry}
 use Rattle.adf_c.proofs.TableLaws.{block_told, parent_small, row_matches, row_there}
 use Rattle.adf_c.proofs.tables.table_entry.Goals as goal
 
@@ -24,4 +24,4 @@ entry_of-requires c =
 pub returns : goal.returns
 returns c = λ t l e st at.
     c.entry_of.ensures e (row_matches c.row.result c.unwrap-row.result _ e c.unwrap-row.ensures at (c.row.ensures t l st))
-    ∙ ap (λ h. told h c.args.first e) (block_told c.block_of.result c.unwrap-header.result _ c.unwrap-header.ensures (c.block_of.ensures.block t l st))
+    ∙ ap (λ h. table_entry h c.args.first e) (block_told c.block_of.result c.unwrap-header.result _ c.unwrap-header.ensures (c.block_of.ensures.block t l st))

@@ -2,7 +2,7 @@ use Rattle.std.proofs.Common.{ap, ap₂, ◌≡◌, ◌∙◌, true}
 use Rattle.std.proofs.lemmas.Result.{IfOk-weaker}
 use Rattle.clap.specs.Simple.{app_of_fields}
 use Rattle.clap.specs.Words.{App, Shape, app_of, with_subcommand}
-use Rattle.adf_cmd.specs.CommandLine.{bare_app, plain_app}
+use Rattle.adf_cmd.specs.CommandLine.{bare_adf, plain_app}
 use Rattle.adf_cmd.proofs.command_line.command.Goals as goal
 
 pub returns : goal.returns
@@ -10,7 +10,7 @@ returns c =
     let top : App → Shape = λ a. a.top in
     let no_flag : App → App = λ a. record a { top = record a.top { disable_help_flag = true } } in
     let no_subcommand : App → App = λ a. record a { top = record a.top { disable_help_subcommand = true } } in
-    let bare_is : app_of c.disable_help_subcommand-bare.result ≡ bare_app =
+    let bare_is : app_of c.disable_help_subcommand-bare.result ≡ bare_adf =
     ap app_of_fields c.disable_help_subcommand-bare.ensures
     ∙ ap no_subcommand (ap app_of_fields c.disable_help_flag.ensures ∙ ap no_flag c.new.ensures.app) in
     let one_is = c.in_ok-subcommand.ensures.shape c.new-2.ensures.local ∙ ap₂ with_subcommand bare_is (ap top c.new-2.ensures.app) in
