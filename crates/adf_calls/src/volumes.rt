@@ -85,7 +85,7 @@ pub fn survey_went(alloc: Global) -> Option<Went> {
     let mut image = image(alloc)?;
     *image.get_mut(2 * 512 + 320)? ^= 1;
     Some(match survey(alloc, &image) {
-        Ok(survey) => Went::done_if(is_bad_sum_alone(&survey.findings)),
+        Ok(survey) => Went::done_if(is_bad_sum_alone(survey.findings())),
         Err(_) => Went::NoMemory,
     })
 }

@@ -1,5 +1,5 @@
 -- What the bits tell.
-use Rattle.std.specs.Prelude.{Bool, true, false, cond, not, Some, None, IsTrue, ◌↔◌, map, Result, Ok, Err, IfOk, slice_index_or}
+use Rattle.std.specs.Prelude.{Bool, true, false, cond, not, Some, None, IsTrue, ◌↔◌, map, slice_index_or}
 use Rattle.std.proofs.Common.{◌≡◌, ℕ, zero, suc, length, List, [], ◌∷◌, ◌++◌, inl, inr, ◌+◌, ◌-◌, ◌/◌, ◌%◌, ◌<◌, ◌≤◌, refl, sym, subst, ap, ◌∙◌, arith}
 use Rattle.std.specs.Ordering.{is_eq}
 use Rattle.std.specs.BTreeMap.{get}
@@ -16,8 +16,7 @@ use Rattle.adf_survey.specs.declared.part.Key.{Key}
 use Rattle.adf_survey.specs.declared.found.Found.{Found}
 use Rattle.adf_survey.specs.Survey.{BitsTell, Course, Finding, IsCourse, IsSurvey, finding}
 use Rattle.adf_survey.specs.Survey.BitsTell.{agrees, differs, ends}
-use Rattle.adf_survey.specs.Survey.IsSurvey.{read, unread}
-use Rattle.adf_survey.specs.Images.{IsBegun}
+use Rattle.adf_survey.specs.Survey.IsSurvey.{unread}
 use Rattle.adf_volume.specs.Demands.{FirstFails, boot_demands, root_demands}
 use Rattle.adf_survey.specs.declared.part.Finding.{Finding as FoundFinding}
 use Rattle.adf_survey.specs.Forms.{Tells}
@@ -29,7 +28,7 @@ use Rattle.adf_survey.proofs.Known.{tells_absent}
 use Rattle.adf_survey.proofs.Taking.{stands_noted}
 use Rattle.adf_survey.proofs.OneSurvey.{gathered}
 
-at_has : (w : List (Role × ℕ)) (k : Key) (b : ℕ) → at_key w k ≡ Some b → (q : Role) × Has w q b × (key_of q ≡ k)
+pub at_has : (w : List (Role × ℕ)) (k : Key) (b : ℕ) → at_key w k ≡ Some b → (q : Role) × Has w q b × (key_of q ≡ k)
 at_has [] k b e = cc
 at_has (x ∷ w) k b e = go (is_eq (by_key (key_of x.0) k)) refl e (at_has w k b)
   where
@@ -96,15 +95,11 @@ tells_some image s b gs c lo t on n fs h =
 -- the survey of an image that does not begin as a volume
 pub unread_survey : (image : List ℕ) (x : FoundFinding) (items : List FoundFinding) → x.part ≡ None
     → FirstFails (boot_demands image ++ root_demands image (root_of image)) x.block x.cause → items ≡ x ∷ []
-    → (w : List (Role × ℕ)) × IsSurvey image w (map told items)
+    → IsSurvey image [] (map told items)
 unread_survey image x items none fails e =
     let one : finding None x.block x.cause ∷ [] ≡ map told items =
     (λ i. record { part = part_role (sym none i); block = x.block; cause = x.cause } ∷ []) ∙ ap (map told) (sym e) in
-    ([], subst (IsSurvey image []) one (unread fails))
-
--- the survey of an image whose course is done, with its bits compared
-pub read_survey : (image : List ℕ) (f : Found) → IsBegun image → IsCompleted image f → (w : List (Role × ℕ)) × IsSurvey image w (map told f.findings.items)
-read_survey image f begun c = (c.0.walk, subst (IsSurvey image c.0.walk) (sym c.5) (read begun c.2 c.3 c.4))
+    subst (IsSurvey image []) one (unread fails)
 
 -- the bits of no block are compared at first, and at last all are
 pub none_told : (image : List ℕ) (s : Course) → TellsOn image s 2 []
@@ -114,11 +109,6 @@ pub all_told : (image : List ℕ) (s : Course) (b : ℕ) (gs : List Finding) →
 all_told image s b gs on =
     let e : b - 2 + 0 ≡ b - 2 = omega arith in
     subst (λ n. BitsTell image s 2 n gs) e (subst (BitsTell image s 2 (b - 2 + 0)) (append-nil gs) (on 0 [] ends))
-
--- a fact of what succeeds leads to another
-pub if_ok : {T E : Type 0} {P Q : T → Type 0} (r : Result T E) → ((v : T) → P v → Q v) → IfOk r P → IfOk r Q
-if_ok (Ok v) f h = f v h
-if_ok (Err e) f h = tt
 
 pub none_on : (image : List ℕ) (f : Found) (b : ℕ) → 2 ≤ b
     → ((s : Course) (fs : List Finding) → IsCourse image s → Stands image f (record { walk = s.walk; passed_over = s.passed_over; findings = fs })
@@ -148,7 +138,7 @@ told_first image f h =
     (s, [], h.1, h.2, subst (λ fs. Stands image f (record { walk = s.walk; passed_over = s.passed_over; findings = fs })) (sym (append-nil s.findings)) h.3, none_told image s)
 
 pub told_last : (image : List ℕ) (f : Found) (b : ℕ) → b ≡ blocks image → IsToldOn image f b → IsCompleted image f
-told_last image f b e t = (t.0, t.1, t.2, t.3, subst (λ b. BitsTell image t.0 2 (b - 2) t.1) e (all_told image t.0 b t.1 t.5), t.4.findings)
+told_last image f b e t = (t.0, t.1, t.2, t.3, subst (λ b. BitsTell image t.0 2 (b - 2) t.1) e (all_told image t.0 b t.1 t.5), t.4)
 
 -- inside a list the default does not count
 pub any_default : (xs : List Bool) (b : ℕ) (d : Bool) → b < length xs → slice_index_or xs b d ≡ slice_index_or xs b false

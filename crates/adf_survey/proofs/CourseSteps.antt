@@ -63,7 +63,7 @@ none_of None e = refl
 none_of (Some x) e = cc
 
 -- a part that comes next has the next number of its kind
-numbered : (image : List ℕ) (w : List (Role × ℕ)) → IsGathered image w → (r : Role) (a i : ℕ) → Asks image w r a i → Lacks w r → IsNumbered w r
+pub numbered : (image : List ℕ) (w : List (Role × ℕ)) → IsGathered image w → (r : Role) (a i : ℕ) → Asks image w r a i → Lacks w r → IsNumbered w r
 numbered image w v Root a i h l = absurd h
 numbered image w v (Page k) a i h l = tt
 numbered image w v (MapExt j) a i h l = tt

@@ -19,3 +19,5 @@ pub mod CourseSteps
 pub mod ImageStart
 pub mod Begun
 pub mod BitSteps
+pub mod SoundMarks
+pub mod Keeping

@@ -253,7 +253,7 @@ module _ (image : List ℕ) where
   absent_new w z r q c b h k (inr e) (inl f) = absurd (h r (subst (λ b. Has w r b) (sym f.1) e))
   absent_new w z r q c b h k (inr e) (inr f) = k e f
 
-  one_role : {s : Course} → IsCourse image s → (r q : Role) (b : ℕ) → Has s.walk r b → Has s.walk q b → r ≡ q
+  pub one_role : {s : Course} → IsCourse image s → (r q : Role) (b : ℕ) → Has s.walk r b → Has s.walk q b → r ≡ q
   one_role start r q b (inl e) (inl f) = sym e.0 ∙ f.0
   one_role start r q b (inl e) (inr f) = absurd f
   one_role start r q b (inr e) f = absurd e

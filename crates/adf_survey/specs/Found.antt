@@ -180,7 +180,7 @@ IsFinished image f = (s : Course) × IsCourse image s × IsDone image s × Stand
 abbrev pub IsCompleted : List ℕ → Found → Type 0
 IsCompleted image f =
     (s : Course) × (bits : List Finding) × IsCourse image s × IsDone image s × BitsTell image s 2 (blocks image - 2) bits
-    × (map told f.findings.items ≡ s.findings ++ bits)
+    × Stands image f (record { walk = s.walk; passed_over = s.passed_over; findings = s.findings ++ bits })
 
 -- what the bits up to a block tell, and those from there on
 abbrev pub TellsOn : List ℕ → Course → ℕ → List Finding → Type 0

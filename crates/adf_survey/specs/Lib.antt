@@ -6,3 +6,5 @@ pub mod Forms
 pub mod Found
 pub mod Asked
 pub mod Courses
+pub mod Marks
+pub mod Surveyed

@@ -42,6 +42,13 @@ impl<'a> Image<'a> {
         }
     }
 
+    // The bytes.
+    pub fn bytes(&self) -> &'a [u8]
+        ensures { result.now ≡ self.now }
+    {
+        self.bytes
+    }
+
     // The kind of the volume.
     pub fn kind(&self) -> Kind
         ensures kind { result ≡ kind_of self.now }

@@ -9,6 +9,7 @@ mod found;
 mod image;
 mod judge;
 mod laws;
+mod marks;
 mod part;
 mod start;
 mod surveyed;

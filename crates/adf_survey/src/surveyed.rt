@@ -1,9 +1,103 @@
 // What a survey tells.
 
-use crate::part::Finding;
+ghost use Rattle.std.specs.Prelude.{◌≡◌, ◌≤◌, ◌<◌, ◌↔◌, ℕ, List, map, slice_index, IsTrue, IsSome, IfSome};
+ghost use Rattle.adf_volume.specs.Walk.{Role, heads, node_block};
+ghost use Rattle.adf_survey.specs.Marks.{has_mark};
+ghost use Rattle.adf_survey.specs.Parts.{told};
+ghost use Rattle.adf_survey.specs.Sound.{IsSound};
+ghost use Rattle.adf_survey.specs.Survey.{Finding as SpecFinding, IsSurvey};
+ghost use Rattle.adf_survey.specs.Surveyed.{IsOfSurvey};
 
-/// What is found of an image.
+use crate::part::Finding;
+use adf_tree::Node;
+use std::marker::Model;
+
+/// What is found of an image: all that is wrong, and what stands all the same.
 #[derive(Drop)]
-pub struct Survey {
-    pub findings: Vec<Finding>,
+pub struct Survey<'i> {
+    image: &'i [u8],
+    findings: Vec<Finding>,
+    nodes: Vec<u32>,
+    sound: Vec<bool>,
+}
+
+impl<'i> Model for Survey<'i> {
+    ghost use Rattle.adf_survey.specs.Surveyed.{IsOfSurvey, Surveyed};
+
+    ghost Value = { Surveyed };
+
+    ghost view = { λ v. record { image = v.image.now; findings = v.findings.items; nodes = v.nodes.items; sound = v.sound.items } };
+
+    ghost invariant = { λ v. IsOfSurvey (record { image = v.image.now; findings = v.findings.items; nodes = v.nodes.items; sound = v.sound.items }) };
+}
+
+// Whether a node has a mark.
+fn has_mark(marks: &Vec<bool>, n: usize) -> bool
+    ensures { result ≡ has_mark marks.now.items n }
+{
+    marks.get(n).copied().unwrap_or(false)
+}
+
+// The block of a node, 0 where there is none.
+fn block_at(nodes: &Vec<u32>, n: usize) -> u32
+    ensures { result ≡ slice_index nodes.now.items n }
+{
+    nodes.get(n).copied().unwrap_or(0)
+}
+
+impl<'i> Survey<'i> {
+    // What is kept of an image.
+    pub(crate) fn new(
+        image: &'i [u8],
+        findings: Vec<Finding>,
+        nodes: Vec<u32>,
+        sound: Vec<bool>,
+    ) -> Survey<'i>
+        requires { IsOfSurvey (record { image = image.now; findings = findings.items; nodes = nodes.items; sound = sound.items }) }
+        ensures { result ≡ record { image = image.now; findings = findings.items; nodes = nodes.items; sound = sound.items } }
+    {
+        Survey {
+            image,
+            findings,
+            nodes,
+            sound,
+        }
+    }
+}
+
+impl Survey<'_> {
+    /// All that is wrong, in the order of the survey.
+    pub fn findings(&self) -> &[Finding]
+        ensures { (w : List (Role × ℕ)) (fs : List SpecFinding) → IsSurvey self.now.image w fs → map told result.now ≡ fs }
+    {
+        &self.findings
+    }
+
+    /// How many entries are found.
+    pub fn len(&self) -> usize
+        ensures { (w : List (Role × ℕ)) (fs : List SpecFinding) → IsSurvey self.now.image w fs → result ≡ heads w }
+    {
+        self.nodes.len().saturating_sub(1)
+    }
+
+    /// The block of the header of an entry that is found; none of the root and past the last entry.
+    pub fn block_of(&self, n: Node) -> Option<u32>
+        ensures some { (w : List (Role × ℕ)) (fs : List SpecFinding) → IsSurvey self.now.image w fs
+            → IsSome result ↔ ((1 ≤ n) × (n ≤ heads w)) }
+        ensures block { (w : List (Role × ℕ)) (fs : List SpecFinding) → IsSurvey self.now.image w fs
+            → IfSome result (λ b. b ≡ node_block w n) }
+    {
+        if n.0 == 0 || n.0 >= self.nodes.len() {
+            return None;
+        }
+        Some(block_at(&self.nodes, n.0))
+    }
+
+    /// Whether nothing is said against the parts of an entry that is found.
+    pub fn is_sound(&self, n: Node) -> bool
+        ensures { (w : List (Role × ℕ)) (fs : List SpecFinding) → IsSurvey self.now.image w fs
+            → IsTrue result ↔ IsSound self.now.image w fs n (node_block w n) }
+    {
+        n.0 != 0 && has_mark(&self.sound, n.0)
+    }
 }

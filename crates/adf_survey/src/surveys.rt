@@ -1,15 +1,18 @@
 // The survey of an image.
 
-ghost use Rattle.std.specs.Prelude.{◌≡◌, ℕ, List, [], ◌∷◌, IfOk, map, None};
+ghost use Rattle.std.specs.Prelude.{◌≡◌, ◌++◌, ℕ, List, IfOk, None, map};
+ghost use Rattle.adf_volume.specs.Demands.{FirstFails, boot_demands, root_demands};
+ghost use Rattle.adf_volume.specs.Image.{root_of};
 ghost use Rattle.adf_volume.specs.Walk.{Role};
-ghost use Rattle.adf_survey.specs.Survey.{IsSurvey};
 ghost use Rattle.adf_survey.specs.Parts.{told};
+ghost use Rattle.adf_survey.specs.Survey.{IsSurvey};
 
 use crate::asked::Asked;
 use crate::bits::compare;
 use crate::course::run;
 use crate::found::Found;
 use crate::image::Image;
+use crate::marks::clear_marks;
 use crate::part::Finding;
 use crate::start::open;
 use crate::surveyed::Survey;
@@ -17,38 +20,41 @@ use adf_fields::NoMemory;
 use std::alloc::Global;
 
 // The survey of an image of which this alone is said.
-fn only(alloc: Global, finding: Finding) -> Result<Survey, NoMemory>
-    ensures { IfOk result (λ v. v.findings.items ≡ finding ∷ []) }
+fn only<'i>(alloc: Global, image: &'i [u8], finding: Finding) -> Result<Survey<'i>, NoMemory>
+    requires part { finding.part ≡ None }
+    requires fails { FirstFails (boot_demands image.now ++ root_demands image.now (root_of image.now)) finding.block finding.cause }
+    ensures image { IfOk result (λ v. v.image ≡ image.now) }
+    ensures findings { IfOk result (λ v. (w : List (Role × ℕ)) × IsSurvey image.now w (map told v.findings)) }
 {
     let mut findings = Vec::new(alloc);
     match findings.push(finding) {
-        Ok(()) => Ok(Survey { findings }),
+        Ok(()) => Ok(Survey::new(image, findings, Vec::new(alloc), Vec::new(alloc))),
         Err(_) => Err(NoMemory),
     }
 }
 
 // The survey of an image that begins as a volume.
-fn go_through(alloc: Global, image: &Image<'_>) -> Result<Survey, NoMemory>
-    ensures { IfOk result (λ v. (w : List (Role × ℕ)) × IsSurvey image.now w (map told v.findings.items)) }
+fn go_through<'i>(alloc: Global, image: &Image<'i>) -> Result<Survey<'i>, NoMemory>
+    ensures image { IfOk result (λ v. v.image ≡ image.now) }
+    ensures findings { IfOk result (λ v. (w : List (Role × ℕ)) × IsSurvey image.now w (map told v.findings)) }
 {
     let mut found = Found::begin(alloc, image)?;
     let mut asked = Asked::new(alloc);
     asked.ask_of_root(image)?;
     run(image, &mut found, &mut asked)?;
     compare(image, &mut found)?;
-    Ok(Survey {
-        findings: found.findings,
-    })
+    let sound = clear_marks(alloc, image, &found)?;
+    Ok(Survey::new(image.bytes(), found.findings, found.nodes, sound))
 }
 
-/// Every part of an image that has a cause, and the bits that disagree: the findings of the image's survey; `NoMemory` where a
-/// growth was refused.
-#[tactic(auto, using(crate::proofs::BitSteps::unread_survey))]
-pub fn survey(alloc: Global, image: &[u8]) -> Result<Survey, NoMemory>
-    ensures { IfOk result (λ v. (w : List (Role × ℕ)) × IsSurvey image.now w (map told v.findings.items)) }
+/// The survey of the image: every part of it that has a cause, and the bits that disagree, and what is found all the same;
+/// `NoMemory` where a growth was refused.
+pub fn survey<'i>(alloc: Global, image: &'i [u8]) -> Result<Survey<'i>, NoMemory>
+    ensures image { IfOk result (λ v. v.image ≡ image.now) }
+    ensures findings { IfOk result (λ v. (w : List (Role × ℕ)) × IsSurvey image.now w (map told v.findings)) }
 {
     match open(image) {
         Ok(image) => go_through(alloc, &image),
-        Err(finding) => only(alloc, finding),
+        Err(finding) => only(alloc, image, finding),
     }
 }

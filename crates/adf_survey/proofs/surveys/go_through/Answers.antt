@@ -1,5 +1,8 @@
+use Rattle.std.proofs.Common.{sym, subst}
+use Rattle.adf_survey.specs.declared.found.Found.{Found}
+use Rattle.adf_survey.specs.Surveyed.{IsOfSurvey}
 use Rattle.adf_survey.proofs.Begun.{on_begun}
-use Rattle.adf_survey.proofs.BitSteps.{read_survey}
+use Rattle.adf_survey.proofs.Keeping.{read_kept}
 use Rattle.adf_survey.proofs.surveys.go_through.Goals as goal
 
 pub run-requires-clause-state : goal.run-requires-clause-state
@@ -7,5 +10,9 @@ run-requires-clause-state c =
     on_begun c.args.image.now c.in_ok-found.found c.new-asked.result.parts c.ask_of_root.new.self.parts c.in_ok-found.ensures.stands c.new-asked.ensures
     c.in_ok-ask_of_root.ensures.has c.in_ok-ask_of_root.ensures.adds
 
-pub returns : goal.returns
-returns c = read_survey c.args.image.now c.compare.new.found c.begin.ensures.begun c.in_ok-compare.ensures
+pub new-requires : goal.new-requires
+new-requires c =
+    let f : Found = c.compare.new.found in
+    subst (λ i. IsOfSurvey (record { image = i; findings = f.findings.items; nodes = f.nodes.items; sound = c.in_ok-sound.sound.items })) (sym c.bytes.ensures)
+    (read_kept c.args.image.now f c.in_ok-sound.sound.items c.begin.ensures.begun c.in_ok-compare.ensures c.in_ok-sound.ensures.entries
+    c.in_ok-sound.ensures.marks)

@@ -1,0 +1,518 @@
+-- The marks of a course that is done are those of its sound entries.
+use Rattle.std.specs.Prelude.{Bool, true, false, cond, not, ◌==◌, ◌||◌, ◌&&◌, is_some, nat_lt, map, Option, Some, None, slice_index_or, ◌↔◌}
+use Rattle.std.proofs.Common.{◌≡◌, ℕ, suc, List, [], ◌∷◌, ◌++◌, length, ◌⊎◌, inl, inr, ◌-◌, ◌<◌, ◌≤◌, refl, sym, ap, subst, ◌∙◌, arith}
+use Rattle.std.specs.List.{All}
+use Rattle.std.specs.Map.{lookup}
+use Rattle.std.specs.Ordering.{is_eq}
+use Rattle.std.specs.BTreeMap.{BTreeMap, get, is_at}
+use Rattle.std.proofs.lemmas.Bool.{and_parts, cases_Bool, eqb-true, eq-eqb}
+use Rattle.std.proofs.lemmas.Bool.Decides.{nat_tests}
+use Rattle.adf_tree.specs.declared.entry.Kind.{Kind}
+use Rattle.adf_tree.specs.declared.entry.Kind.TheVariants.{Ofs, Ffs}
+use Rattle.adf_blocks.specs.Sizes.{blocks}
+use Rattle.adf_volume.specs.Image.{kind_of, word_in}
+use Rattle.adf_volume.specs.Lists.{In}
+use Rattle.adf_volume.specs.Walk.{Role, first, second, Same, Has, Asks, Lacks, IsAbsent, heads, node_block}
+use Rattle.adf_volume.specs.Walk.Role.{Root, Page, MapExt, Head, Ext, Data}
+use Rattle.adf_volume.proofs.Gathered.{IsGathered, asks_one, head_block, number_of, numbered as has_number, one_block, one_head}
+use Rattle.adf_volume.proofs.Lists.{in_cases}
+use Rattle.adf_volume.proofs.OneFault.{number_is}
+use Rattle.adf_volume.proofs.Roles.{asks_number, dec_has, renumbered, renumbered_same, same_of, same_role}
+use Rattle.adf_survey.specs.declared.part.Part.{Part}
+use Rattle.adf_survey.specs.declared.part.Part.TheVariants.{Root as RootPart, Page as PagePart, MapExt as MapExtPart, Head as HeadPart}
+use Rattle.adf_survey.specs.declared.part.Part.TheVariants.{Ext as ExtPart, Data as DataPart}
+use Rattle.adf_survey.specs.declared.part.Finding.{Finding as FoundFinding}
+use Rattle.adf_survey.specs.declared.part.Key.{Key}
+use Rattle.adf_survey.specs.declared.found.Found.{Found}
+use Rattle.adf_survey.specs.Forms.{Tells}
+use Rattle.adf_survey.specs.Found.{Stands, at_key, owns}
+use Rattle.adf_survey.specs.Marks.{AreEntries, blamed, is_blamed, is_clear, is_doubtful, is_node, is_sharing, sharing}
+use Rattle.adf_survey.specs.Parts.{by_key, key_of, part_role, told}
+use Rattle.adf_survey.specs.Sound.{IsSound, IsUnnoted}
+use Rattle.adf_survey.specs.Survey.{BitsTell, Course, Finding, IsCourse, IsDone, IsNext, finding}
+use Rattle.adf_survey.specs.Survey.BitsTell.{agrees, differs, ends}
+use Rattle.adf_survey.specs.Survey.IsCourse.{start, step}
+use Rattle.adf_survey.specs.Survey.Judgement.{clean, noted, passed}
+use Rattle.adf_survey.proofs.Asking.{one_key}
+use Rattle.adf_survey.proofs.AsksSplit.{asks_more}
+use Rattle.adf_survey.proofs.BitSteps.{at_has}
+use Rattle.adf_survey.proofs.CourseSteps.{lacks_at, numbered, same_of_key}
+use Rattle.adf_survey.proofs.Known.{tells_absent}
+use Rattle.adf_survey.proofs.OneSurvey.{gathered}
+use Rattle.adf_survey.proofs.SomeSurvey.{keeps_range}
+use Rattle.adf_survey.proofs.SoundEntries.{one_role}
+
+module _ (image : List ℕ) where
+  -- the part was taken or passed over
+  abbrev Settled : Course → Role → Type 0
+  Settled s q = ((b : ℕ) × Has s.walk q b) ⊎ ((b : ℕ) × Has s.passed_over q b)
+
+  new_part : (r q : Role) (f g : Finding) → f.part ≡ Some r → In (f ∷ []) g → g.part ≡ Some q → r ≡ q
+  new_part r q f g e (inl x) p = let z : Some r ≡ Some q = sym e ∙ (ap (λ f. f.part) x ∙ p) in cc
+  new_part r q f g e (inr h) p = absurd h
+
+  settled_more : (s : Course) (r q : Role) (b : ℕ) (fs : List Finding) → Settled s q
+      → Settled (record { walk = (r, b) ∷ s.walk; passed_over = s.passed_over; findings = fs }) q
+  settled_more s r q b fs (inl h) = inl (h.0, inr h.1)
+  settled_more s r q b fs (inr h) = inr h
+
+  -- a part that a finding concerns was taken or passed over
+  noted_settled : {s : Course} → IsCourse image s → (f : Finding) (q : Role) → In s.findings f → f.part ≡ Some q → Settled s q
+  noted_settled start f q m e = absurd m
+  noted_settled (step {s = s} {r = r} {a = a} {i = i} clean v n g) f q m e =
+      settled_more s r q (word_in image a i) s.findings (noted_settled v f q m e)
+  noted_settled (step {s = s} {r = r} {a = a} {i = i} (noted at c) v n g) f q m e =
+      elim (in_cases s.findings (finding (Some r) at c ∷ []) f m) [
+        | inl k ↦ settled_more s r q (word_in image a i) s.findings (noted_settled v f q k e)
+        | inr k ↦ inl (word_in image a i, inl (new_part r q (finding (Some r) at c) f refl k e, refl))
+      ]
+  noted_settled (step {s = s} {r = r} {a = a} {i = i} (passed at c) v n g) f q m e =
+      elim (in_cases s.findings (finding (Some r) at c ∷ []) f m) [
+        | inl k ↦ elim (noted_settled v f q k e) [ inl h ↦ inl h | inr h ↦ inr (h.0, inr h.1) ]
+        | inr k ↦ inr (word_in image a i, inl (new_part r q (finding (Some r) at c) f refl k e, refl))
+      ]
+
+  -- the bits tell of no part
+  bits_none : {s : Course} {b n : ℕ} {fs : List Finding} → BitsTell image s b n fs → (f : Finding) → In fs f → f.part ≡ None
+  bits_none ends f m = absurd m
+  bits_none (agrees h t) f m = bits_none t f m
+  bits_none (differs h k t) f (inl e) = ap (λ f. f.part) (sym e)
+  bits_none (differs h k t) f (inr m) = bits_none t f m
+
+  new_apart : (w : List (Role × ℕ)) (z r q : Role) (c : ℕ) → Lacks w z → z ≡ r → Has w q c → Same r q → ⊥
+  new_apart w z r q c l e k same = let t : Same z r = same_of z r e in l q c k (omega arith)
+
+  -- what is taken was not passed over
+  apart : {s : Course} → IsCourse image s → (r q : Role) (b c : ℕ) → Has s.walk r b → Has s.passed_over q c → Same r q → ⊥
+  apart start r q b c h k same = k
+  apart (step {s = s} {r = z} clean v n g) r q b c (inl e) k same = new_apart s.passed_over z r q c n.unpassed e.0 k same
+  apart (step clean v n g) r q b c (inr h) k same = apart v r q b c h k same
+  apart (step {s = s} {r = z} (noted at d) v n g) r q b c (inl e) k same = new_apart s.passed_over z r q c n.unpassed e.0 k same
+  apart (step (noted at d) v n g) r q b c (inr h) k same = apart v r q b c h k same
+  apart (step {s = s} {r = z} (passed at d) v n g) r q b c h (inl e) same = new_apart s.walk z q r b n.lacks e.0 h (omega arith)
+  apart (step (passed at d) v n g) r q b c h (inr k) same = apart v r q b c h k same
+
+  -- the walk asks for the part, a header with the next number, in block b
+  abbrev Wanted : List (Role × ℕ) → Role → ℕ → Type 0
+  Wanted w r b = (a i : ℕ) × Asks image w (renumbered (suc (heads w)) r) a i × (word_in image a i ≡ b)
+
+  own_number : (w : List (Role × ℕ)) (r : Role) (a i : ℕ) → Asks image w r a i → r ≡ renumbered (suc (heads w)) r
+  own_number w (Head n p s j) a i h = ap (λ n. Head n p s j) (asks_number image w n p s j a i h)
+  own_number w _ a i h = refl
+
+  wanted_now : (w : List (Role × ℕ)) (r : Role) (a i : ℕ) → Asks image w r a i → Wanted w r (word_in image a i)
+  wanted_now w r a i h = (a, i, subst (λ r. Asks image w r a i) (own_number w r a i h) h, refl)
+
+  wanted_later : (s : Course) (z : Role) (a i c : ℕ) → IsCourse image s → IsNext image s z a i → (r : Role) (b : ℕ) → Wanted s.walk r b
+      → Wanted ((z, c) ∷ s.walk) r b
+  wanted_later s z a i c v n r b x =
+      let w : IsGathered image s.walk = gathered image v in
+      (x.0, x.1, asks_more image s.walk w z c (numbered image s.walk w z a i n.asked n.lacks) r x.0 x.1 x.2, x.3)
+
+  wanted_new : (s : Course) (z : Role) (a i : ℕ) → IsCourse image s → IsNext image s z a i → (r : Role) (b : ℕ)
+      → (Has s.walk r b → (Root ≡ r) ⊎ Wanted s.walk r b) → Has ((z, word_in image a i) ∷ s.walk) r b
+      → (Root ≡ r) ⊎ Wanted ((z, word_in image a i) ∷ s.walk) r b
+  wanted_new s z a i v n r b again (inl e) =
+      let w : List (Role × ℕ) = (z, word_in image a i) ∷ s.walk in
+      inr (subst (Wanted w r) e.1 (subst (λ r. Wanted w r (word_in image a i)) e.0
+      (wanted_later s z a i (word_in image a i) v n z (word_in image a i) (wanted_now s.walk z a i n.asked))))
+  wanted_new s z a i v n r b again (inr h) = elim (again h) [
+    | inl e ↦ inl e
+    | inr x ↦ inr (wanted_later s z a i (word_in image a i) v n r b x)
+  ]
+
+  -- what is taken is asked for in its block
+  taken_wanted : {s : Course} → IsCourse image s → (r : Role) (b : ℕ) → Has s.walk r b → (Root ≡ r) ⊎ Wanted s.walk r b
+  taken_wanted start r b (inl e) = inl e.0
+  taken_wanted start r b (inr h) = absurd h
+  taken_wanted (step {s = s} {r = z} {a = a} {i = i} clean v n g) r b h = wanted_new s z a i v n r b (taken_wanted v r b) h
+  taken_wanted (step {s = s} {r = z} {a = a} {i = i} (noted at c) v n g) r b h = wanted_new s z a i v n r b (taken_wanted v r b) h
+  taken_wanted (step (passed at c) v n g) r b h = taken_wanted v r b h
+
+  -- what was passed over is asked for in its block
+  passed_wanted : {s : Course} → IsCourse image s → (r : Role) (b : ℕ) → Has s.passed_over r b → Wanted s.walk r b
+  passed_wanted start r b h = absurd h
+  passed_wanted (step {s = s} {r = z} {a = a} {i = i} clean v n g) r b h =
+      wanted_later s z a i (word_in image a i) v n r b (passed_wanted v r b h)
+  passed_wanted (step {s = s} {r = z} {a = a} {i = i} (noted at c) v n g) r b h =
+      wanted_later s z a i (word_in image a i) v n r b (passed_wanted v r b h)
+  passed_wanted (step {s = s} {r = z} {a = a} {i = i} (passed at c) v n g) r b (inl e) =
+      subst (Wanted s.walk r) e.1 (subst (λ r. Wanted s.walk r (word_in image a i)) e.0 (wanted_now s.walk z a i n.asked))
+  passed_wanted (step (passed at c) v n g) r b (inr h) = passed_wanted v r b h
+
+  -- what is asked for in one place of the order is asked for in one block
+  one_wanted : (w : List (Role × ℕ)) → IsGathered image w → (r q : Role) (a i b : ℕ) → Wanted w r b → Asks image w q a i → Same r q
+      → b ≡ word_in image a i
+  one_wanted w v r q a i b x h same =
+      let own : Same (renumbered (suc (heads w)) r) r = renumbered_same (suc (heads w)) r in
+      let z : renumbered (suc (heads w)) r ≡ q =
+      same_role (renumbered (suc (heads w)) r) q (omega arith) (λ n m p t j e f.
+      number_is image w (renumbered (suc (heads w)) r) x.0 x.1 n p t j x.2 e ∙ sym (number_is image w q a i m p t j h f)) in
+      let y = asks_one image v q x.0 x.1 a i (subst (λ r. Asks image w r x.0 x.1) z x.2) h in
+      sym x.3 ∙ (λ t. word_in image (y.0 t) (y.1 t))
+
+  no_root : (w : List (Role × ℕ)) (q r : Role) (a i : ℕ) → Asks image w q a i → Root ≡ r → Same r q → ⊥
+  no_root w Root r a i h e s = h
+  no_root w (Page k) r a i h e s = let t : Same Root r = same_of Root r e in omega arith
+  no_root w (MapExt k) r a i h e s = let t : Same Root r = same_of Root r e in omega arith
+  no_root w (Head n p k j) r a i h e s = let t : Same Root r = same_of Root r e in omega arith
+  no_root w (Ext n k) r a i h e s = let t : Same Root r = same_of Root r e in omega arith
+  no_root w (Data n k) r a i h e s = let t : Same Root r = same_of Root r e in omega arith
+
+  owner_of : (w : List (Role × ℕ)) (b : ℕ) → owns w b ≡ true → (q : Role) × Has w q b
+  owner_of [] b e = cc
+  owner_of (x ∷ w) b e = go (x.1 == b) refl e (owner_of w b)
+    where
+      go : (t : Bool) → (x.1 == b) ≡ t → (t || owns w b) ≡ true → (owns w b ≡ true → (q : Role) × Has w q b) → (q : Role) × Has (x ∷ w) q b
+      go true f e again = (x.0, inl (refl, eqb-true x.1 b f))
+      go false f e again = let y = again e in (y.0, inr y.1)
+
+  no_owner_has : (w : List (Role × ℕ)) (q : Role) (b : ℕ) → owns w b ≡ false → Has w q b → ⊥
+  no_owner_has w q b e h =
+      let none : IsAbsent w b = subst (λ t. Tells (not t) (IsAbsent w b)) e (tells_absent w b) in
+      none q h
+
+  -- data blocks are inside of the image
+  inside : {s : Course} → IsCourse image s → (n k b : ℕ) → Has s.walk (Data n k) b → b < blocks image
+  inside start n k b (inl e) = let h : first Root ≡ first (Data n k) = ap first e.0 in absurd (omega arith)
+  inside start n k b (inr h) = absurd h
+  inside (step {s = s} {r = z} {a = a} {i = i} clean v d g) n k b (inl e) =
+      let lt : word_in image a i < blocks image = g.1.0.1 in subst (λ b. b < blocks image) e.1 lt
+  inside (step clean v d g) n k b (inr h) = inside v n k b h
+  inside (step {s = s} {r = z} {a = a} {i = i} (noted at c) v d g) n k b (inl e) =
+      let lt : word_in image a i < blocks image = (g.1.1.0 (keeps_range image z)).1 in subst (λ b. b < blocks image) e.1 lt
+  inside (step (noted at c) v d g) n k b (inr h) = inside v n k b h
+  inside (step (passed at c) v d g) n k b h = inside v n k b h
+
+  module _ {s : Course} (v : IsCourse image s) (done : IsDone image s) where
+    -- what is asked for at the end was taken or passed over, in the block that is asked for
+    settled_at : (q : Role) (a i b : ℕ) → Asks image s.walk q a i → word_in image a i ≡ b
+        → ((r : Role) × Has s.walk r b × Same r q) ⊎ ((r : Role) × Has s.passed_over r b × Same r q)
+    settled_at q a i b h e = elim (dec_has s.walk q) [
+      | inr x ↦ elim (taken_wanted v x.0 x.1 x.2) [
+        | inl root ↦ absurd (no_root s.walk q x.0 a i h root x.3)
+        | inr y ↦ inl (x.0, subst (Has s.walk x.0) (one_wanted s.walk (gathered image v) x.0 q a i x.1 y h x.3 ∙ e) x.2, x.3)
+      ]
+      | inl lacks ↦ elim (dec_has s.passed_over q) [
+        | inl over ↦ absurd (done q a i h lacks over)
+        | inr x ↦
+            let y = passed_wanted v x.0 x.1 x.2 in
+            inr (x.0, subst (Has s.passed_over x.0) (one_wanted s.walk (gathered image v) x.0 q a i x.1 y h x.3 ∙ e) x.2, x.3)
+      ]
+    ]
+
+    -- a data block at a block that was not passed over is alone there
+    is_alone : (n k b : ℕ) → Has s.walk (Data n k) b → owns s.passed_over b ≡ false → (q : Role) (a i : ℕ) → Asks image s.walk q a i
+        → word_in image a i ≡ b → Same q (Data n k)
+    is_alone n k b d free q a i h e = elim (settled_at q a i b h e) [
+      | inl x ↦
+          let z : Same x.0 (Data n k) = same_of x.0 (Data n k) (one_role image v x.0 (Data n k) b x.1 d) in
+          let y : Same x.0 q = x.2 in
+          omega arith
+      | inr x ↦ absurd (no_owner_has s.passed_over x.0 b free x.1)
+    ]
+
+    -- and only such a one
+    not_alone : (n k b : ℕ) → Has s.walk (Data n k) b → owns s.passed_over b ≡ true
+        → ((q : Role) (a i : ℕ) → Asks image s.walk q a i → word_in image a i ≡ b → Same q (Data n k)) → ⊥
+    not_alone n k b d over alone =
+        let x = owner_of s.passed_over b over in
+        let y = passed_wanted v x.0 b x.1 in
+        let q : Role = renumbered (suc (heads s.walk)) x.0 in
+        let same : Same q (Data n k) = alone q y.0 y.1 y.2 y.3 in
+        let own : Same q x.0 = renumbered_same (suc (heads s.walk)) x.0 in
+        apart v (Data n k) x.0 b b d x.1 (omega arith)
+
+node_is : (o : Option ℕ) (m : ℕ) → is_node o m ≡ true → o ≡ Some m
+node_is None m e = cc
+node_is (Some n) m e = ap Some (eqb-true n m e)
+
+node_yes : (o : Option ℕ) (m : ℕ) → o ≡ Some m → is_node o m ≡ true
+node_yes o m e = ap (λ o. is_node o m) e ∙ eq-eqb m m refl
+
+blamed_by : (taken : BTreeMap Key ℕ) (xs : List FoundFinding) (m : ℕ) → is_blamed taken xs m ≡ true
+    → (x : FoundFinding) × In xs x × (blamed taken x.part ≡ Some m)
+blamed_by taken [] m e = cc
+blamed_by taken (x ∷ xs) m e = go (is_node (blamed taken x.part) m) refl e (blamed_by taken xs m)
+  where
+    go : (t : Bool) → is_node (blamed taken x.part) m ≡ t → (t || is_blamed taken xs m) ≡ true
+        → (is_blamed taken xs m ≡ true → (y : FoundFinding) × In xs y × (blamed taken y.part ≡ Some m))
+        → (y : FoundFinding) × In (x ∷ xs) y × (blamed taken y.part ≡ Some m)
+    go true f e again = (x, inl refl, node_is (blamed taken x.part) m f)
+    go false f e again = let y = again e in (y.0, inr y.1, y.2)
+
+not_blamed : (taken : BTreeMap Key ℕ) (xs : List FoundFinding) (m : ℕ) (x : FoundFinding) → is_blamed taken xs m ≡ false → In xs x
+    → blamed taken x.part ≡ Some m → ⊥
+not_blamed taken [] m x e h b = h
+not_blamed taken (y ∷ xs) m x e (inl z) b =
+    let one : is_node (blamed taken y.part) m ≡ true = node_yes (blamed taken y.part) m (ap (λ y. blamed taken y.part) z ∙ b) in
+    let clash : true ≡ false = sym (ap (λ t. t || is_blamed taken xs m) one) ∙ e in cc
+not_blamed taken (y ∷ xs) m x e (inr h) b = go (is_node (blamed taken y.part) m) e (λ e. not_blamed taken xs m x e h b)
+  where
+    go : (t : Bool) → (t || is_blamed taken xs m) ≡ false → (is_blamed taken xs m ≡ false → ⊥) → ⊥
+    go true e again = cc
+    go false e again = again e
+
+sharing_by : (avoided : List Bool) (es : List (Key × ℕ)) (m : ℕ) → is_sharing avoided es m ≡ true
+    → (k : Key) × (b : ℕ) × In es (k, b) × (sharing avoided k b ≡ Some m)
+sharing_by avoided [] m e = cc
+sharing_by avoided (x ∷ xs) m e = go (is_node (sharing avoided x.0 x.1) m) refl e (sharing_by avoided xs m)
+  where
+    go : (t : Bool) → is_node (sharing avoided x.0 x.1) m ≡ t → (t || is_sharing avoided xs m) ≡ true
+        → (is_sharing avoided xs m ≡ true → (k : Key) × (b : ℕ) × In xs (k, b) × (sharing avoided k b ≡ Some m))
+        → (k : Key) × (b : ℕ) × In (x ∷ xs) (k, b) × (sharing avoided k b ≡ Some m)
+    go true f e again = (x.0, x.1, inl refl, node_is (sharing avoided x.0 x.1) m f)
+    go false f e again = let y = again e in (y.0, y.1, inr y.2, y.3)
+
+not_sharing : (avoided : List Bool) (es : List (Key × ℕ)) (m : ℕ) (k : Key) (b : ℕ) → is_sharing avoided es m ≡ false → In es (k, b)
+    → sharing avoided k b ≡ Some m → ⊥
+not_sharing avoided [] m k b e h s = h
+not_sharing avoided (x ∷ xs) m k b e (inl z) s =
+    let one : is_node (sharing avoided x.0 x.1) m ≡ true =
+    node_yes (sharing avoided x.0 x.1) m (ap (λ (x : Key × ℕ). sharing avoided x.0 x.1) z ∙ s) in
+    let clash : true ≡ false = sym (ap (λ t. t || is_sharing avoided xs m) one) ∙ e in cc
+not_sharing avoided (x ∷ xs) m k b e (inr h) s =
+    go (is_node (sharing avoided x.0 x.1) m) e (λ e. not_sharing avoided xs m k b e h s)
+  where
+    go : (t : Bool) → (t || is_sharing avoided xs m) ≡ false → (is_sharing avoided xs m ≡ false → ⊥) → ⊥
+    go true e again = cc
+    go false e again = again e
+
+-- what makes a file a sharing one
+sharing_is : (avoided : List Bool) (k : Key) (b m : ℕ) → sharing avoided k b ≡ Some m
+    → (k.first ≡ suc m) × (k.second ≡ 1) × (slice_index_or avoided b false ≡ true)
+sharing_is avoided k b m e = go (nat_lt 0 k.first && ((k.second == 1) && slice_index_or avoided b false)) refl e
+  where
+    go : (t : Bool) → (nat_lt 0 k.first && ((k.second == 1) && slice_index_or avoided b false)) ≡ t → cond t (Some (k.first - 1)) None ≡ Some m
+        → (k.first ≡ suc m) × (k.second ≡ 1) × (slice_index_or avoided b false ≡ true)
+    go true f e =
+        let x = and_parts (nat_lt 0 k.first) ((k.second == 1) && slice_index_or avoided b false) f in
+        let y = and_parts (k.second == 1) (slice_index_or avoided b false) x.1 in
+        let z : k.first - 1 ≡ m = cc in
+        let lt : 0 < k.first = grind (arith, nat_tests) in
+        (omega arith, eqb-true k.second 1 y.0, y.1)
+    go false f e = cc
+
+shares : (avoided : List Bool) (n k b : ℕ) → slice_index_or avoided b false ≡ true → sharing avoided (key_of (Data n k)) b ≡ Some n
+shares avoided n k b e =
+    let lt : nat_lt 0 (suc n) ≡ true = grind (arith, nat_tests) in
+    let one : (1 == 1) ≡ true = eq-eqb 1 1 refl in
+    let all : (nat_lt 0 (suc n) && ((1 == 1) && slice_index_or avoided b false)) ≡ true = rw (lt, one, e) refl in
+    let same : suc n - 1 ≡ n = omega arith in
+    ap (λ t. cond t (Some (suc n - 1)) None) all ∙ ap Some same
+
+looked_up : (k : Key) (es : List (Key × ℕ)) (b : ℕ) → lookup (is_at (by_key k)) es ≡ Some b → In es (k, b)
+looked_up k [] b e = cc
+looked_up k (x ∷ xs) b e = go (is_eq (by_key k x.0)) refl e (looked_up k xs b)
+  where
+    go : (t : Bool) → is_eq (by_key k x.0) ≡ t → cond t (Some x.1) (lookup (is_at (by_key k)) xs) ≡ Some b
+        → (lookup (is_at (by_key k)) xs ≡ Some b → In xs (k, b)) → In (x ∷ xs) (k, b)
+    go true f e again =
+        let y : x.1 ≡ b = cc in
+        let z : k ≡ x.0 = one_key k x.0 f in
+        inl (λ i. (sym z i, y i))
+    go false f e again = inr (again e)
+
+all_in : {X : Type 0} (P : X → Type 0) (xs : List X) (x : X) → All P xs → In xs x → P x
+all_in P [] x a h = absurd h
+all_in P (y ∷ ys) x a (inl e) = subst P e (a 0 x (omega arith))
+all_in P (y ∷ ys) x a (inr h) = all_in P ys x (λ k d lt. a (suc k) d (omega arith)) h
+
+in_told : (xs : List FoundFinding) (x : FoundFinding) → In xs x → In (map told xs) (told x)
+in_told [] x h = h
+in_told (y ∷ ys) x (inl e) = inl (ap told e)
+in_told (y ∷ ys) x (inr h) = inr (in_told ys x h)
+
+in_untold : (xs : List FoundFinding) (g : Finding) → In (map told xs) g → (x : FoundFinding) × In xs x × (told x ≡ g)
+in_untold [] g h = absurd h
+in_untold (y ∷ ys) g (inl e) = (y, inl refl, e)
+in_untold (y ∷ ys) g (inr h) = let x = in_untold ys g h in (x.0, inr x.1, x.2)
+
+head_part : (o : Option Part) (n p s j : ℕ) → part_role o ≡ Some (Head n p s j) → o ≡ Some (HeadPart n p s j)
+head_part (Some (HeadPart m q t i)) n p s j e = cc
+head_part (Some RootPart) n p s j e = cc
+head_part (Some (PagePart i)) n p s j e = cc
+head_part (Some (MapExtPart i)) n p s j e = cc
+head_part (Some (ExtPart m i)) n p s j e = cc
+head_part (Some (DataPart m i)) n p s j e = cc
+head_part None n p s j e = cc
+
+ext_part : (o : Option Part) (n k : ℕ) → part_role o ≡ Some (Ext n k) → o ≡ Some (ExtPart n k)
+ext_part (Some (ExtPart m i)) n k e = cc
+ext_part (Some RootPart) n k e = cc
+ext_part (Some (PagePart i)) n k e = cc
+ext_part (Some (MapExtPart i)) n k e = cc
+ext_part (Some (HeadPart m q t i)) n k e = cc
+ext_part (Some (DataPart m i)) n k e = cc
+ext_part None n k e = cc
+
+data_part : (o : Option Part) (n k : ℕ) → part_role o ≡ Some (Data n k) → o ≡ Some (DataPart n k)
+data_part (Some (DataPart m i)) n k e = cc
+data_part (Some RootPart) n k e = cc
+data_part (Some (PagePart i)) n k e = cc
+data_part (Some (MapExtPart i)) n k e = cc
+data_part (Some (HeadPart m q t i)) n k e = cc
+data_part (Some (ExtPart m i)) n k e = cc
+data_part None n k e = cc
+
+ext_of : (q : Role) (n k : ℕ) → Same q (Ext n k) → q ≡ Ext n k
+ext_of q n k same = same_role q (Ext n k) same (λ a m p s j e f. let x : second (Ext n k) ≡ second (Head m p s j) = ap second f in absurd (omega arith))
+
+data_of : (q : Role) (n k : ℕ) → Same q (Data n k) → q ≡ Data n k
+data_of q n k same = same_role q (Data n k) same (λ a m p s j e f. let x : second (Data n k) ≡ second (Head m p s j) = ap second f in absurd (omega arith))
+
+-- the key of a data block is one's
+data_key : (q : Role) (n : ℕ) → first q ≡ suc n → second q ≡ 1 → (k : ℕ) × (q ≡ Data n k)
+data_key (Data m k) n e f = let z : m ≡ n = omega arith in (k, ap (λ m. Data m k) z)
+data_key Root n e f = absurd (omega arith)
+data_key (Page i) n e f = absurd (omega arith)
+data_key (MapExt j) n e f = absurd (omega arith)
+data_key (Head m p s j) n e f = absurd (omega arith)
+data_key (Ext m k) n e f = absurd (omega arith)
+
+taken_at : (image : List ℕ) (w : List (Role × ℕ)) → IsGathered image w → (q : Role) (b : ℕ) → Has w q b → at_key w (key_of q) ≡ Some b
+taken_at image w v q b h = go (at_key w (key_of q)) refl
+  where
+    go : (o : Option ℕ) → at_key w (key_of q) ≡ o → o ≡ Some b
+    go None e = absurd (lacks_at w q e q b h (same_of q q refl))
+    go (Some c) e =
+        let x = at_has w (key_of q) c e in
+        ap Some (one_block image v x.0 q c b x.1 h (same_of_key x.0 q x.2)).1
+
+module _ (image : List ℕ) (f : Found) {s : Course} (v : IsCourse image s) (done : IsDone image s) (bits : List Finding) {b n : ℕ}
+    (tells : BitsTell image s b n bits)
+    (st : Stands image f (record { walk = s.walk; passed_over = s.passed_over; findings = s.findings ++ bits })) where
+  abbrev all : List Finding
+  all = s.findings ++ bits
+
+  settled : (g : Finding) (q : Role) → In all g → g.part ≡ Some q → Settled image s q
+  settled g q h e = elim (in_cases s.findings bits g h) [
+    | inl k ↦ noted_settled image v g q k e
+    | inr k ↦ let z : None ≡ Some q = sym (bits_none image tells g k) ∙ e in cc
+  ]
+
+  -- a finding that speaks against an entry concerns a part of it
+  speaks : (m h : ℕ) (g : Finding) (o : Option Part) → In all g → g.part ≡ part_role o → blamed f.taken o ≡ Some m → IsSound image s.walk all m h → ⊥
+  speaks m h g None i e z sound = cc
+  speaks m h g (Some RootPart) i e z sound = cc
+  speaks m h g (Some (PagePart k)) i e z sound = cc
+  speaks m h g (Some (MapExtPart k)) i e z sound = cc
+  speaks m h g (Some (ExtPart q k)) i e z sound =
+      let one : q ≡ m = cc in sound.exts k g (Ext q k) i e (same_of (Ext q k) (Ext m k) (ap (λ q. Ext q k) one))
+  speaks m h g (Some (DataPart q k)) i e z sound =
+      let one : q ≡ m = cc in sound.datas k g (Data q k) i e (same_of (Data q k) (Data m k) (ap (λ q. Data q k) one))
+  speaks m h g (Some (HeadPart q p t j)) i e z sound = go (get by_key f.taken (key_of (Head q p t j))) refl z
+    where
+      go : (o : Option ℕ) → get by_key f.taken (key_of (Head q p t j)) ≡ o → cond (is_some o) (Some q) None ≡ Some m → ⊥
+      go None is z = cc
+      go (Some c) is z =
+          let one : q ≡ m = cc in
+          let x = at_has s.walk (key_of (Head q p t j)) c (sym (st.taken (key_of (Head q p t j))) ∙ is) in
+          let head = sound.header in
+          elim (settled g (Head q p t j) i e) [
+            | inl y ↦
+                let here = subst (λ q. Has s.walk (Head q p t j) y.0) one y.1 in
+                let same = same_of (Head m head.0 head.1 head.2) (Head m p t j)
+                (one_head image (gathered image v) m head.0 head.1 head.2 h p t j y.0 head.3 here).0 in
+                head.4 g (Head q p t j) i e (sym same.0, sym same.1, sym same.2)
+            | inr y ↦ apart image v x.0 (Head q p t j) c y.0 x.1 y.1 (same_of_key x.0 (Head q p t j) x.2)
+          ]
+
+  not_noted : (m h : ℕ) → IsSound image s.walk all m h → is_blamed f.taken f.findings.items m ≡ false
+  not_noted m h sound = elim (cases_Bool (is_blamed f.taken f.findings.items m)) [
+    | inl t ↦
+        let x = blamed_by f.taken f.findings.items m t in
+        let i : In all (told x.0) = subst (λ fs. In fs (told x.0)) st.findings (in_told f.findings.items x.0 x.1) in
+        absurd (speaks m h (told x.0) x.0.part i refl x.2 sound)
+    | inr e ↦ e
+  ]
+
+  not_shared : (m h : ℕ) → AreEntries f.taken → kind_of image ≡ Ffs → IsSound image s.walk all m h → is_sharing f.avoided.items f.taken.entries m ≡ false
+  not_shared m h es ffs sound = elim (cases_Bool (is_sharing f.avoided.items f.taken.entries m)) [
+    | inl t ↦
+        let x = sharing_by f.avoided.items f.taken.entries m t in
+        let y = sharing_is f.avoided.items x.0 x.1 m x.3 in
+        let is : get by_key f.taken x.0 ≡ Some x.1 = all_in (λ e. get by_key f.taken e.0 ≡ Some e.1) f.taken.entries (x.0, x.1) es x.2 in
+        let q = at_has s.walk x.0 x.1 (sym (st.taken x.0) ∙ is) in
+        let d = data_key q.0 m (ap (λ k. k.first) q.2 ∙ y.0) (ap (λ k. k.second) q.2 ∙ y.1) in
+        let has : Has s.walk (Data m d.0) x.1 = subst (λ r. Has s.walk r x.1) d.1 q.1 in
+        let over : owns s.passed_over x.1 ≡ true = sym (st.avoided.1 x.1 (inside image v m d.0 x.1 has)) ∙ y.2 in
+        absurd (not_alone image v done m d.0 x.1 has over (sound.alone ffs d.0 x.1 has))
+    | inr e ↦ e
+  ]
+
+  not_doubtful : (m h : ℕ) → (kind_of image ≡ Ffs → AreEntries f.taken) → IsSound image s.walk all m h → is_doubtful (kind_of image) f m ≡ false
+  not_doubtful m h es sound = go (kind_of image) refl
+    where
+      go : (k : Kind) → kind_of image ≡ k → is_doubtful k f m ≡ false
+      go Ofs e = refl
+      go Ffs e = not_shared m h (es e) e sound
+
+  -- no finding of a part speaks against the entry
+  unspoken : (m : ℕ) → is_blamed f.taken f.findings.items m ≡ false → (g : Finding) (q : Role) → In all g → g.part ≡ Some q
+      → ((o : Option Part) → part_role o ≡ Some q → blamed f.taken o ≡ Some m) → ⊥
+  unspoken m e g q i is names =
+      let x = in_untold f.findings.items g (subst (λ fs. In fs g) (sym st.findings) i) in
+      not_blamed f.taken f.findings.items m x.0 e x.1 (names x.0.part (ap (λ g. g.part) x.2 ∙ is))
+
+  head_clear : (m p t j h : ℕ) → Has s.walk (Head m p t j) h → is_blamed f.taken f.findings.items m ≡ false → IsUnnoted all (Head m p t j)
+  head_clear m p t j h has e g q i is same = elim (settled g q i is) [
+    | inl y ↦
+        let one : q ≡ Head m p t j = (one_block image (gathered image v) q (Head m p t j) y.0 h y.1 has same).0 in
+        let there : get by_key f.taken (key_of (Head m p t j)) ≡ Some h =
+        st.taken (key_of (Head m p t j)) ∙ taken_at image s.walk (gathered image v) (Head m p t j) h has in
+        unspoken m e g q i is (λ o z.
+        let u : o ≡ Some (HeadPart m p t j) = head_part o m p t j (z ∙ ap Some one) in
+        ap (blamed f.taken) u ∙ ap (λ c. cond (is_some c) (Some m) None) there)
+    | inr y ↦ apart image v (Head m p t j) q h y.0 has y.1 (sym same.0, sym same.1, sym same.2)
+  ]
+
+  alone_clear : (m : ℕ) → is_doubtful (kind_of image) f m ≡ false → kind_of image ≡ Ffs → (k c : ℕ) → Has s.walk (Data m k) c
+      → (q : Role) (a i : ℕ) → Asks image s.walk q a i → word_in image a i ≡ c → Same q (Data m k)
+  alone_clear m e ffs k c has =
+      let none : is_sharing f.avoided.items f.taken.entries m ≡ false = subst (λ k. is_doubtful k f m ≡ false) ffs e in
+      let there : get by_key f.taken (key_of (Data m k)) ≡ Some c =
+      st.taken (key_of (Data m k)) ∙ taken_at image s.walk (gathered image v) (Data m k) c has in
+      let i : In f.taken.entries (key_of (Data m k), c) = looked_up (key_of (Data m k)) f.taken.entries c there in
+      let free : owns s.passed_over c ≡ false = elim (cases_Bool (owns s.passed_over c)) [
+        | inl t ↦
+            absurd (not_sharing f.avoided.items f.taken.entries m (key_of (Data m k)) c none i
+            (shares f.avoided.items m k c (st.avoided.1 c (inside image v m k c has) ∙ t)))
+        | inr t ↦ t
+      ] in
+      is_alone image v done m k c has free
+
+  clear_sound : (m : ℕ) → 1 ≤ m → m ≤ heads s.walk → is_blamed f.taken f.findings.items m ≡ false → is_doubtful (kind_of image) f m ≡ false
+      → IsSound image s.walk all m (node_block s.walk m)
+  clear_sound m lo hi clear free =
+      let x = has_number image (gathered image v) m lo hi in
+      let at : x.3 ≡ node_block s.walk m = sym (head_block image (gathered image v) m x.0 x.1 x.2 x.3 x.4) in
+      record {
+        header = (x.0, x.1, x.2, subst (Has s.walk (Head m x.0 x.1 x.2)) at x.4, head_clear m x.0 x.1 x.2 x.3 x.4 clear);
+        exts = (λ k g q i is same. unspoken m clear g q i is (λ o z. ap (blamed f.taken) (ext_part o m k (z ∙ ap Some (ext_of q m k same)))));
+        datas = (λ k g q i is same. unspoken m clear g q i is (λ o z. ap (blamed f.taken) (data_part o m k (z ∙ ap Some (data_of q m k same)))));
+        alone = alone_clear m free;
+      }
+
+  not_false : (t : Bool) → not t ≡ true → t ≡ false
+  not_false false e = refl
+  not_false true e = cc
+
+  -- the nodes that nothing is said against are the sound entries
+  pub clear_is_sound : (m : ℕ) → 1 ≤ m → (kind_of image ≡ Ffs → AreEntries f.taken)
+      → (is_clear image f m ≡ true) ↔ IsSound image s.walk all m (node_block s.walk m)
+  clear_is_sound m lo es = (
+    (λ t.
+        let x = and_parts (nat_lt m (length f.nodes.items)) (not (is_blamed f.taken f.findings.items m) && not (is_doubtful (kind_of image) f m)) t in
+        let y = and_parts (not (is_blamed f.taken f.findings.items m)) (not (is_doubtful (kind_of image) f m)) x.1 in
+        let count : length f.nodes.items ≡ suc (heads s.walk) = st.count in
+        let lt : m < length f.nodes.items = (let z = x.0 in grind (arith, nat_tests)) in
+        clear_sound m lo (omega arith) (not_false (is_blamed f.taken f.findings.items m) y.0) (not_false (is_doubtful (kind_of image) f m) y.1)),
+    (λ sound.
+        let head = sound.header in
+        let few = number_of image (gathered image v) m head.0 head.1 head.2 (node_block s.walk m) head.3 in
+        let count : length f.nodes.items ≡ suc (heads s.walk) = st.count in
+        let lt : m < length f.nodes.items = omega arith in
+        let one : nat_lt m (length f.nodes.items) ≡ true = grind (arith, nat_tests) in
+        rw (one, not_noted m (node_block s.walk m) sound, not_doubtful m (node_block s.walk m) es sound) refl),
+  )

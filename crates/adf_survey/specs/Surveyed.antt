@@ -1,0 +1,28 @@
+-- What a survey keeps.
+-- Letters: v what is kept; w, fs the walk and the findings of the survey; n a node.
+use Rattle.std.specs.Prelude.{◌≡◌, ◌≤◌, ◌-◌, ◌↔◌, ℕ, Bool, true, List, length, map, slice_index}
+use Rattle.adf_volume.specs.Walk.{Role, heads, node_block}
+use Rattle.adf_survey.specs.declared.part.Finding.{Finding as FoundFinding}
+use Rattle.adf_survey.specs.Marks.{has_mark}
+use Rattle.adf_survey.specs.Parts.{told}
+use Rattle.adf_survey.specs.Sound.{IsSound}
+use Rattle.adf_survey.specs.Survey.{Finding, IsSurvey}
+
+-- what is kept of an image: the findings, the blocks of the nodes, and which of them are sound
+pub record Surveyed : Type 0 where
+  pub image : List ℕ
+  pub findings : List FoundFinding
+  pub nodes : List ℕ
+  pub sound : List Bool
+
+-- what is kept tells of this walk and these findings of a survey
+pub record TellsOf (v : Surveyed) (w : List (Role × ℕ)) (fs : List Finding) : Type 0 where
+  pub survey : IsSurvey v.image w fs
+  pub findings : map told v.findings ≡ fs
+  pub node : (n : ℕ) → slice_index v.nodes n ≡ node_block w n
+  pub count : length v.nodes - 1 ≡ heads w
+  pub sound : (n : ℕ) → 1 ≤ n → (has_mark v.sound n ≡ true) ↔ IsSound v.image w fs n (node_block w n)
+
+-- what is kept tells of a survey
+abbrev pub IsOfSurvey : Surveyed → Type 0
+IsOfSurvey v = (w : List (Role × ℕ)) × (fs : List Finding) × TellsOf v w fs
