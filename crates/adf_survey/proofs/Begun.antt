@@ -34,6 +34,10 @@ all_free : (n : ℕ) → unowned (replicate n false) ≡ n
 all_free zero = refl
 all_free (suc n) = ap suc (all_free n)
 
+no_parent : (n : ℕ) → slice_index (0 ∷ []) n ≡ 0
+no_parent zero = refl
+no_parent (suc n) = refl
+
 one_node : (b n : ℕ) → slice_index (b ∷ []) n ≡ cond (n == 0) b 0
 one_node b zero = refl
 one_node b (suc n) = elim (eqb_tells (suc n) 0) [
@@ -44,9 +48,10 @@ one_node b (suc n) = elim (eqb_tells (suc n) 0) [
 -- nothing is found but the root
 pub stands_begun : (image : List ℕ) (f g h : Found) → IsEmpty f.taken → IsEmpty f.passed → f.owned.items ≡ replicate (blocks image) false
     → f.avoided.items ≡ replicate (blocks image) false → f.left ≡ blocks image → f.nodes.items ≡ [] → IsEmpty f.exts → IsEmpty f.names → f.findings.items ≡ []
+    → f.parents.items ≡ 0 ∷ []
     → IsOwned RootPart (root_of image) f g → AreSame f g → h ≡ record g { nodes = h.nodes } → h.nodes.items ≡ g.nodes.items ++ root_of image ∷ []
     → root_of image < blocks image → Stands image h (begun image)
-stands_begun image f g h taken passed owned avoided left nodes exts names findings o e same pushed lt =
+stands_begun image f g h taken passed owned avoided left nodes exts names findings parents o e same pushed lt =
     let n : ℕ = blocks image in
     let root : ℕ = root_of image in
     let items : h.nodes.items ≡ root ∷ [] = pushed ∙ ap (λ xs. xs ++ root ∷ []) (ap (λ v. v.items) e.0 ∙ nodes) in
@@ -71,6 +76,8 @@ stands_begun image f g h taken passed owned avoided left nodes exts names findin
           ∙ (ap (λ x. unwrap_or (get nat_cmp x m) 0) e.2 ∙ ap (λ c. unwrap_or c 0) (empty_get f.exts (is_at (nat_cmp m)) exts)));
       name = (λ q. ap (λ f. get by_name f.names q) same ∙ (ap (λ x. get by_name x q) e.1 ∙ empty_get f.names (is_at (by_name q)) names));
       findings = ap (λ f. map told f.findings.items) same ∙ (ap (λ v. map told v.items) o.5 ∙ ap (map told) findings);
+      parent = (λ m. ap (λ f. slice_index f.parents.items m) same ∙ (ap (λ v. slice_index v.items m) e.3 ∙ (ap (λ xs. slice_index xs m) parents ∙ no_parent m)));
+      parents = ap (λ f. length f.parents.items) same ∙ (ap (λ v. length v.items) e.3 ∙ ap length parents);
     }
 
 -- what the root alone asks for

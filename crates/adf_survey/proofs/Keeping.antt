@@ -1,10 +1,17 @@
 -- What is kept of an image tells of its survey.
 use Rattle.std.specs.Prelude.{Bool, None, map}
-use Rattle.std.proofs.Common.{◌≡◌, ℕ, List, [], ◌∷◌, ◌++◌, refl, sym, subst, ◌∙◌, arith}
+use Rattle.std.proofs.Common.{◌≡◌, ℕ, suc, List, [], ◌∷◌, ◌++◌, inl, inr, ◌≤◌, refl, sym, ap, subst, ◌∙◌, arith}
 use Rattle.adf_tree.specs.declared.entry.Kind.TheVariants.{Ffs}
 use Rattle.adf_volume.specs.Demands.{FirstFails, boot_demands, root_demands}
 use Rattle.adf_volume.specs.Image.{kind_of, root_of}
-use Rattle.adf_volume.specs.Walk.{Role}
+use Rattle.adf_volume.specs.Walk.{Role, second, Has, Asks, heads}
+use Rattle.adf_volume.specs.Walk.Role.{Root, Head}
+use Rattle.adf_volume.proofs.Gathered.{IsGathered}
+use Rattle.adf_volume.proofs.Gathered.IsGathered.{start, step}
+use Rattle.adf_volume.proofs.Roles.{asks_number}
+use Rattle.adf_survey.specs.Found.{parent_by, parent_in}
+use Rattle.std.proofs.lemmas.Bool.{eq-eqb}
+use Rattle.std.proofs.lemmas.Bool.Decides.{eqb_tells}
 use Rattle.adf_survey.specs.declared.part.Finding.{Finding as FoundFinding}
 use Rattle.adf_survey.specs.declared.found.Found.{Found}
 use Rattle.adf_survey.specs.Found.{IsCompleted}
@@ -23,7 +30,7 @@ use Rattle.adf_survey.proofs.SoundMarks.{clear_is_sound}
 -- of an image that does not begin as a volume the finding is kept alone
 pub unread_kept : (image : List ℕ) (x : FoundFinding) (items : List FoundFinding) → x.part ≡ None
     → FirstFails (boot_demands image ++ root_demands image (root_of image)) x.block x.cause → items ≡ x ∷ []
-    → IsOfSurvey (record { image = image; findings = items; nodes = []; sound = [] })
+    → IsOfSurvey (record { image = image; findings = items; nodes = []; parents = []; sound = [] })
 unread_kept image x items none fails e = (
   [],
   map told items,
@@ -31,6 +38,7 @@ unread_kept image x items none fails e = (
     survey = unread_survey image x items none fails e;
     findings = refl;
     node = (λ n. refl);
+    parent = (λ n. refl);
     count = omega arith;
     sound = (λ n lo. ((λ t. cc), (λ s. absurd s.header.3)));
   },
@@ -39,7 +47,7 @@ unread_kept image x items none fails e = (
 -- of an image whose course is done, with its bits compared
 pub read_kept : (image : List ℕ) (f : Found) (sound : List Bool) → IsBegun image → IsCompleted image f → (kind_of image ≡ Ffs → AreEntries f.taken)
     → ((m : ℕ) → has_mark sound m ≡ is_clear image f m)
-    → IsOfSurvey (record { image = image; findings = f.findings.items; nodes = f.nodes.items; sound = sound })
+    → IsOfSurvey (record { image = image; findings = f.findings.items; nodes = f.nodes.items; parents = f.parents.items; sound = sound })
 read_kept image f sound begun c es marks = (
   c.0.walk,
   c.0.findings ++ c.1,
@@ -47,6 +55,7 @@ read_kept image f sound begun c es marks = (
     survey = read begun c.2 c.3 c.4;
     findings = c.5.findings;
     node = c.5.node;
+    parent = c.5.parent;
     count = (let e = c.5.count in omega arith);
     sound = (λ m lo.
         let x = clear_is_sound image f c.2 c.3 c.1 c.4 c.5 m lo es in
@@ -65,3 +74,25 @@ pub root_no_entry : (image : List ℕ) (w : List (Role × ℕ)) (fs : List Findi
 root_no_entry image w fs h (unread f) s = s.header.3
 root_no_entry image w fs h (read begun v d t) s =
     let x = number_of image (gathered image v) 0 s.header.0 s.header.1 s.header.2 h s.header.3 in omega arith
+
+-- the parent of what comes later is that of no earlier node
+other_parent : (image : List ℕ) (w : List (Role × ℕ)) (n : ℕ) (r : Role) (a i c : ℕ) → Asks image w r a i → n ≤ heads w → parent_by n r c ≡ c
+other_parent image w n (Head m p s j) a i c d u =
+    let k : m ≡ suc (heads w) = asks_number image w m p s j a i d in
+    elim (eqb_tells n m) [ inl y ↦ let e : n ≡ m = y.1 in absurd (omega arith) | inr y ↦ rw y.0 refl ]
+other_parent image w n _ a i c d u = refl
+
+head_parent : (image : List ℕ) {w : List (Role × ℕ)} → IsGathered image w → (n p s j b : ℕ) → Has w (Head n p s j) b → parent_in w n ≡ p
+head_parent image start n p s j b (inl e) = let h : second Root ≡ second (Head n p s j) = ap second e.0 in absurd (omega arith)
+head_parent image start n p s j b (inr f) = absurd f
+head_parent image (step {w = w} {r = r} a i c v d l) n p s j b (inl e) =
+    subst (λ r. parent_by n r (parent_in w n) ≡ p) (sym e.0) (rw (eq-eqb n n refl) refl)
+head_parent image (step {w = w} {r = r} a i c v d l) n p s j b (inr h) =
+    let u : (1 ≤ n) × (n ≤ heads w) = number_of image v n p s j b h in
+    other_parent image w n r a i (parent_in w n) d (omega arith) ∙ head_parent image v n p s j b h
+
+-- the directory of an entry, as a function
+pub parent_is : (image : List ℕ) (w : List (Role × ℕ)) (fs : List Finding) → IsSurvey image w fs → (n p s j b : ℕ) → Has w (Head n p s j) b
+    → parent_in w n ≡ p
+parent_is image w fs (unread f) n p s j b h = absurd h
+parent_is image w fs (read begun v d t) n p s j b h = head_parent image (gathered image v) n p s j b h

@@ -21,15 +21,20 @@ use Rattle.adf_survey.specs.declared.found.ChainName.{ChainName}
 use Rattle.adf_survey.specs.Survey.{Course}
 use Rattle.adf_survey.specs.Parts.{by_key, key_of, role_of, told}
 use Rattle.adf_survey.specs.Found.{AreMarked, AreNamed, AreSame, IsKept, IsNoted, IsOwned, IsPassed, IsTaken, KeepsParts, Stands, at_key, by_name, exts_in}
-use Rattle.adf_survey.specs.Found.{is_named, owns, unowned}
+use Rattle.adf_survey.specs.Found.{is_named, owns, parent_by, parent_in, unowned}
 
 kept_more : (image : List ℕ) (part : Part) (b : ℕ) (f g h : Found) → IsKept image part b f g → AreSame g h → IsKept image part b f h
-kept_more image (HeadPart n p s j) b f g h k e = (ap (λ v. v.items) e.0 ∙ k.0, (λ q. ap (λ m. get by_name m q) e.1 ∙ k.1 q), e.2 ∙ k.2)
-kept_more image (ExtPart n i) b f g h k e = (e.0 ∙ k.0, e.1 ∙ k.1, subst (λ m. Updates nat_cmp f.exts m n (Some i)) (sym e.2) k.2)
-kept_more image RootPart b f g h k e = (e.0 ∙ k.0, e.1 ∙ k.1, e.2 ∙ k.2)
-kept_more image (PagePart i) b f g h k e = (e.0 ∙ k.0, e.1 ∙ k.1, e.2 ∙ k.2)
-kept_more image (MapExtPart j) b f g h k e = (e.0 ∙ k.0, e.1 ∙ k.1, e.2 ∙ k.2)
-kept_more image (DataPart n i) b f g h k e = (e.0 ∙ k.0, e.1 ∙ k.1, e.2 ∙ k.2)
+kept_more image (HeadPart n p s j) b f g h k e = (
+  ap (λ v. v.items) e.0 ∙ k.0,
+  (λ q. ap (λ m. get by_name m q) e.1 ∙ k.1 q),
+  e.2 ∙ k.2,
+  ap (λ v. v.items) e.3 ∙ k.3,
+)
+kept_more image (ExtPart n i) b f g h k e = (e.0 ∙ k.0, e.1 ∙ k.1, subst (λ m. Updates nat_cmp f.exts m n (Some i)) (sym e.2) k.2, e.3 ∙ k.3)
+kept_more image RootPart b f g h k e = (e.0 ∙ k.0, e.1 ∙ k.1, e.2 ∙ k.2, e.3 ∙ k.3)
+kept_more image (PagePart i) b f g h k e = (e.0 ∙ k.0, e.1 ∙ k.1, e.2 ∙ k.2, e.3 ∙ k.3)
+kept_more image (MapExtPart j) b f g h k e = (e.0 ∙ k.0, e.1 ∙ k.1, e.2 ∙ k.2, e.3 ∙ k.3)
+kept_more image (DataPart n i) b f g h k e = (e.0 ∙ k.0, e.1 ∙ k.1, e.2 ∙ k.2, e.3 ∙ k.3)
 
 pub taken_last : (image : List ℕ) (part : Part) (b : ℕ) (f g h : Found) → IsKept image part b f g → KeepsParts f g → IsOwned part b g h → AreSame g h
     → IsTaken image part b f h
@@ -92,27 +97,34 @@ module _ (image : List ℕ) (f g : Found) (s : Course) (b : ℕ) (st : Stands im
   abbrev IsLater : List (Role × ℕ) → Type 0
   IsLater w =
       ((n : ℕ) → slice_index g.nodes.items n ≡ node_block w n) × (length g.nodes.items ≡ suc (heads w)) × (length g.nodes.items ≤ suc (length f.nodes.items))
-      × ((n : ℕ) → exts_in g n ≡ ext_count w n) × AreNamed image w g.names
+      × ((n : ℕ) → exts_in g n ≡ ext_count w n) × AreNamed image w g.names × ((n : ℕ) → slice_index g.parents.items n ≡ parent_in w n)
+      × (length g.parents.items ≡ suc (heads w))
 
   same_later : (r : Role) → ((m c : ℕ) → node_block_of m r b c ≡ c) → head_count r (heads s.walk) ≡ heads s.walk → ((m c : ℕ) → ext_count_of m r c ≡ c)
-      → ((q : ChainName) → is_named image r b q.parent q.slot q.name.items ≡ false) → AreSame f g → IsLater ((r, b) ∷ s.walk)
-  same_later r node head ext name e = (
+      → ((q : ChainName) → is_named image r b q.parent q.slot q.name.items ≡ false) → ((m c : ℕ) → parent_by m r c ≡ c) → AreSame f g
+      → IsLater ((r, b) ∷ s.walk)
+  same_later r node head ext name parent e = (
     (λ n. ap (λ v. slice_index v.items n) e.0 ∙ (st.node n ∙ sym (node n (node_block s.walk n)))),
     ap (λ v. length v.items) e.0 ∙ (st.count ∙ ap suc (sym head)),
     (let l = ap (λ v. length v.items) e.0 in omega arith),
     (λ n. ap (λ m. unwrap_or (get nat_cmp m n) 0) e.2 ∙ (st.ext n ∙ sym (ext n (ext_count s.walk n)))),
     (λ q. ap (λ m. get by_name m q) e.1 ∙ (st.name q ∙ sym (rw (name q) refl))),
+    (λ n. ap (λ v. slice_index v.items n) e.3 ∙ (st.parent n ∙ sym (parent n (parent_in s.walk n)))),
+    ap (λ v. length v.items) e.3 ∙ (st.parents ∙ ap suc (sym head)),
   )
 
   later : (part : Part) → IsNumbered s.walk (role_of part) → IsKept image part b f g → IsLater ((role_of part, b) ∷ s.walk)
   later (HeadPart n p t j) fit k =
       let c : length f.nodes.items ≡ suc (heads s.walk) = st.count in
-      let e : length f.nodes.items ≡ n = c ∙ sym fit in (
+      let e : length f.nodes.items ≡ n = c ∙ sym fit in
+      let d : length f.parents.items ≡ n = st.parents ∙ sym fit in (
         (λ m. ap (λ v. slice_index v m) k.0 ∙ (node_snoc f.nodes.items b m ∙ (λ t. cond (m == e t) b (st.node m t)))),
         (let l = ap length k.0 in omega (arith, snoc_length f.nodes.items b)),
         (let l = ap length k.0 in omega (arith, snoc_length f.nodes.items b)),
         (λ m. ap (λ x. unwrap_or (get nat_cmp x m) 0) k.2 ∙ st.ext m),
         (λ q. k.1 q ∙ ap (λ o. cond (is_named image (Head n p t j) b q.parent q.slot q.name.items) (Some b) o) (st.name q)),
+        (λ m. ap (λ v. slice_index v m) k.3 ∙ (node_snoc f.parents.items p m ∙ (λ t. cond (m == d t) p (st.parent m t)))),
+        (let l = ap length k.3 in let g = fit in omega (arith, snoc_length f.parents.items p)),
       )
   later (ExtPart n i) fit k = (
     (λ m. ap (λ v. slice_index v.items m) k.0 ∙ st.node m),
@@ -127,11 +139,13 @@ module _ (image : List ℕ) (f g : Found) (s : Course) (b : ℕ) (st : Stands im
           ap (λ o. unwrap_or o 0) (k.2.0 m) ∙ rw (y.0, one) (st.ext m)
     ]),
     (λ q. ap (λ m. get by_name m q) k.1 ∙ st.name q),
+    (λ m. ap (λ v. slice_index v.items m) k.3 ∙ st.parent m),
+    ap (λ v. length v.items) k.3 ∙ st.parents,
   )
   later RootPart fit k = absurd fit
-  later (PagePart i) fit k = same_later (Page i) (λ m c. refl) refl (λ m c. refl) (λ q. refl) k
-  later (MapExtPart j) fit k = same_later (MapExt j) (λ m c. refl) refl (λ m c. refl) (λ q. refl) k
-  later (DataPart n i) fit k = same_later (Data n i) (λ m c. refl) refl (λ m c. refl) (λ q. refl) k
+  later (PagePart i) fit k = same_later (Page i) (λ m c. refl) refl (λ m c. refl) (λ q. refl) (λ m c. refl) k
+  later (MapExtPart j) fit k = same_later (MapExt j) (λ m c. refl) refl (λ m c. refl) (λ q. refl) (λ m c. refl) k
+  later (DataPart n i) fit k = same_later (Data n i) (λ m c. refl) refl (λ m c. refl) (λ q. refl) (λ m c. refl) k
 
   -- a part is taken
   pub stands_taken : (part : Part) → IsNumbered s.walk (role_of part) → b < blocks image → owns s.walk b ≡ false → IsTaken image part b f g
@@ -154,6 +168,8 @@ module _ (image : List ℕ) (f g : Found) (s : Course) (b : ℕ) (st : Stands im
         ext = l.3;
         name = l.4;
         findings = ap (λ v. map told v.items) o.5 ∙ st.findings;
+        parent = l.5;
+        parents = l.6;
       }
 
   same_few : AreSame f g → g.left ≡ f.left → length g.nodes.items + g.left ≤ suc (blocks image)
@@ -175,6 +191,8 @@ module _ (image : List ℕ) (f g : Found) (s : Course) (b : ℕ) (st : Stands im
     ext = (λ n. ap (λ m. unwrap_or (get nat_cmp m n) 0) t.6.2 ∙ st.ext n);
     name = (λ q. ap (λ m. get by_name m q) t.6.1 ∙ st.name q);
     findings = ap (λ v. map told v.items) t.5 ∙ st.findings;
+    parent = (λ n. ap (λ v. slice_index v.items n) t.6.3 ∙ st.parent n);
+    parents = ap (λ v. length v.items) t.6.3 ∙ st.parents;
   }
 
   -- a finding is noted
@@ -192,4 +210,6 @@ module _ (image : List ℕ) (f g : Found) (s : Course) (b : ℕ) (st : Stands im
     ext = (λ n. ap (λ m. unwrap_or (get nat_cmp m n) 0) t.6.2 ∙ st.ext n);
     name = (λ q. ap (λ m. get by_name m q) t.6.1 ∙ st.name q);
     findings = ap (map told) t.0 ∙ (map-append told f.findings.items (x ∷ []) ∙ ap (λ fs. fs ++ told x ∷ []) st.findings);
+    parent = (λ n. ap (λ v. slice_index v.items n) t.6.3 ∙ st.parent n);
+    parents = ap (λ v. length v.items) t.6.3 ∙ st.parents;
   }

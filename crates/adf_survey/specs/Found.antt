@@ -61,6 +61,16 @@ abbrev pub new_in : List ℕ → List (Role × ℕ) → Part → ℕ → Bool
 new_in image w (HeadPart n p s j) b = not (is_some (named image w p s (uppers (name_of image b))))
 new_in image w _ b = true
 
+-- p where the role is a header of node n in directory p, else c
+abbrev pub parent_by : ℕ → Role → ℕ → ℕ
+parent_by n (Head m p s j) c = cond (n == m) p c
+parent_by n _ c = c
+
+-- the node of the directory of node n, 0 where the walk has no such header
+abbrev pub parent_in : List (Role × ℕ) → ℕ → ℕ
+parent_in [] n = 0
+parent_in (x ∷ w) n = parent_by n x.0 (parent_in w n)
+
 -- how many blocks are no member's
 abbrev pub unowned : List Bool → ℕ
 unowned [] = 0
@@ -102,9 +112,9 @@ IsOwned part b f g =
     Updates by_key f.taken g.taken (key_of (role_of part)) (Some b) × (g.owned.items ≡ set f.owned.items b true) × (g.left + 1 ≡ f.left)
     × (g.passed ≡ f.passed) × (g.avoided ≡ f.avoided) × (g.findings ≡ f.findings)
 
--- nodes, names and counts of extension blocks are the same
+-- nodes, names, counts of extension blocks and parents are the same
 abbrev pub AreSame : Found → Found → Type 0
-AreSame f g = (g.nodes ≡ f.nodes) × (g.names ≡ f.names) × (g.exts ≡ f.exts)
+AreSame f g = (g.nodes ≡ f.nodes) × (g.names ≡ f.names) × (g.exts ≡ f.exts) × (g.parents ≡ f.parents)
 
 -- what is asked of headers and extension blocks later is kept of the part
 abbrev pub IsKept : List ℕ → Part → ℕ → Found → Found → Type 0
@@ -112,8 +122,9 @@ IsKept image (HeadPart n p s j) b f g =
     (g.nodes.items ≡ f.nodes.items ++ b ∷ [])
     × ((q : ChainName) → get by_name g.names q
     ≡ cond (is_named image (Head n p s j) b q.parent q.slot q.name.items) (Some b) (get by_name f.names q))
-    × (g.exts ≡ f.exts)
-IsKept image (ExtPart n k) b f g = (g.nodes ≡ f.nodes) × (g.names ≡ f.names) × Updates nat_cmp f.exts g.exts n (Some k)
+    × (g.exts ≡ f.exts) × (g.parents.items ≡ f.parents.items ++ p ∷ [])
+IsKept image (ExtPart n k) b f g =
+    (g.nodes ≡ f.nodes) × (g.names ≡ f.names) × Updates nat_cmp f.exts g.exts n (Some k) × (g.parents ≡ f.parents)
 IsKept image _ b f g = AreSame f g
 
 -- marks, keys and findings are the same
@@ -149,6 +160,8 @@ pub record Stands (image : List ℕ) (f : Found) (s : Course) : Type 0 where
   pub ext : (n : ℕ) → exts_in f n ≡ ext_count s.walk n
   pub name : AreNamed image s.walk f.names
   pub findings : map told f.findings.items ≡ s.findings
+  pub parent : (n : ℕ) → slice_index f.parents.items n ≡ parent_in s.walk n
+  pub parents : length f.parents.items ≡ suc (heads s.walk)
 
 -- the course that begins with the root
 abbrev pub begun : List ℕ → Course

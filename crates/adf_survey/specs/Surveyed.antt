@@ -3,16 +3,18 @@
 use Rattle.std.specs.Prelude.{◌≡◌, ◌≤◌, ◌-◌, ◌↔◌, ℕ, Bool, true, List, length, map, slice_index}
 use Rattle.adf_volume.specs.Walk.{Role, heads, node_block}
 use Rattle.adf_survey.specs.declared.part.Finding.{Finding as FoundFinding}
+use Rattle.adf_survey.specs.Found.{parent_in}
 use Rattle.adf_survey.specs.Marks.{has_mark}
 use Rattle.adf_survey.specs.Parts.{told}
 use Rattle.adf_survey.specs.Sound.{IsSound}
 use Rattle.adf_survey.specs.Survey.{Finding, IsSurvey}
 
--- what is kept of an image: the findings, the blocks of the nodes, and which of them are sound
+-- what is kept of an image: the findings; of the nodes their blocks, the nodes of their directories, and whether they are sound
 pub record Surveyed : Type 0 where
   pub image : List ℕ
   pub findings : List FoundFinding
   pub nodes : List ℕ
+  pub parents : List ℕ
   pub sound : List Bool
 
 -- what is kept tells of this walk and these findings of a survey
@@ -20,6 +22,7 @@ pub record TellsOf (v : Surveyed) (w : List (Role × ℕ)) (fs : List Finding) :
   pub survey : IsSurvey v.image w fs
   pub findings : map told v.findings ≡ fs
   pub node : (n : ℕ) → slice_index v.nodes n ≡ node_block w n
+  pub parent : (n : ℕ) → slice_index v.parents n ≡ parent_in w n
   pub count : length v.nodes - 1 ≡ heads w
   pub sound : (n : ℕ) → 1 ≤ n → (has_mark v.sound n ≡ true) ↔ IsSound v.image w fs n (node_block w n)
 

@@ -34,7 +34,7 @@ pub struct ChainName {
 
 /// What is found so far: the blocks of the parts that are taken and of those that are passed over, by their keys; by block, whether
 /// it is taken, and whether it was passed over; how many blocks are not taken; the blocks of nodes by number; how many extension
-/// blocks of a file are taken; the headers by their names; and what is wrong.
+/// blocks of a file are taken; the headers by their names; what is wrong; and the nodes of the directories of nodes.
 #[derive(Drop)]
 pub struct Found {
     pub taken: BTreeMap<Key, u32>,
@@ -46,6 +46,7 @@ pub struct Found {
     pub exts: BTreeMap<u32, u32>,
     pub names: BTreeMap<ChainName, u32>,
     pub findings: Vec<Finding>,
+    pub parents: Vec<u32>,
 }
 
 // The name of the header at block `b`, without the case of `a` to `z`.
@@ -109,6 +110,9 @@ impl Found {
         let Ok(avoided) = vec![in alloc; false; blocks as usize] else {
             return Err(NoMemory);
         };
+        let Ok(parents) = vec![in alloc; 0u32; 1] else {
+            return Err(NoMemory);
+        };
         let mut found = Found {
             taken: BTreeMap::new(alloc),
             passed: BTreeMap::new(alloc),
@@ -119,6 +123,7 @@ impl Found {
             exts: BTreeMap::new(alloc),
             names: BTreeMap::new(alloc),
             findings: Vec::new(alloc),
+            parents,
         };
         found.own(Part::Root, root)?;
         match found.nodes.push(root) {
@@ -258,7 +263,10 @@ impl Found {
         match part {
             Part::Head { parent, slot, .. } => {
                 let name = chain_name(*self.nodes.allocator(), image, parent, slot, b)?;
-                if self.nodes.push(b).is_err() || self.names.insert(name, b).is_err() {
+                if self.nodes.push(b).is_err()
+                    || self.parents.push(parent).is_err()
+                    || self.names.insert(name, b).is_err()
+                {
                     return Err(NoMemory);
                 }
             }

@@ -1,7 +1,8 @@
 // What a survey tells.
 
 ghost use Rattle.std.specs.Prelude.{◌≡◌, ◌≤◌, ◌<◌, ◌↔◌, ℕ, List, map, slice_index, IsTrue, IsSome, IfSome};
-ghost use Rattle.adf_volume.specs.Walk.{Role, heads, node_block};
+ghost use Rattle.adf_volume.specs.Walk.{Has, Role, heads, node_block};
+ghost use Rattle.adf_volume.specs.Walk.Role.{Head};
 ghost use Rattle.adf_survey.specs.Marks.{has_mark};
 ghost use Rattle.adf_survey.specs.Parts.{told};
 ghost use Rattle.adf_survey.specs.Sound.{IsSound};
@@ -18,6 +19,7 @@ pub struct Survey<'i> {
     image: &'i [u8],
     findings: Vec<Finding>,
     nodes: Vec<u32>,
+    parents: Vec<u32>,
     sound: Vec<bool>,
 }
 
@@ -26,9 +28,9 @@ impl<'i> Model for Survey<'i> {
 
     ghost Value = { Surveyed };
 
-    ghost view = { λ v. record { image = v.image.now; findings = v.findings.items; nodes = v.nodes.items; sound = v.sound.items } };
+    ghost view = { λ v. record { image = v.image.now; findings = v.findings.items; nodes = v.nodes.items; parents = v.parents.items; sound = v.sound.items } };
 
-    ghost invariant = { λ v. IsOfSurvey (record { image = v.image.now; findings = v.findings.items; nodes = v.nodes.items; sound = v.sound.items }) };
+    ghost invariant = { λ v. IsOfSurvey (record { image = v.image.now; findings = v.findings.items; nodes = v.nodes.items; parents = v.parents.items; sound = v.sound.items }) };
 }
 
 // Whether a node has a mark.
@@ -38,11 +40,11 @@ fn has_mark(marks: &Vec<bool>, n: usize) -> bool
     marks.get(n).copied().unwrap_or(false)
 }
 
-// The block of a node, 0 where there is none.
-fn block_at(nodes: &Vec<u32>, n: usize) -> u32
-    ensures { result ≡ slice_index nodes.now.items n }
+// The number of a node, 0 where there is none.
+fn number_at(numbers: &Vec<u32>, n: usize) -> u32
+    ensures { result ≡ slice_index numbers.now.items n }
 {
-    nodes.get(n).copied().unwrap_or(0)
+    numbers.get(n).copied().unwrap_or(0)
 }
 
 impl<'i> Survey<'i> {
@@ -51,15 +53,17 @@ impl<'i> Survey<'i> {
         image: &'i [u8],
         findings: Vec<Finding>,
         nodes: Vec<u32>,
+        parents: Vec<u32>,
         sound: Vec<bool>,
     ) -> Survey<'i>
-        requires { IsOfSurvey (record { image = image.now; findings = findings.items; nodes = nodes.items; sound = sound.items }) }
-        ensures { result ≡ record { image = image.now; findings = findings.items; nodes = nodes.items; sound = sound.items } }
+        requires { IsOfSurvey (record { image = image.now; findings = findings.items; nodes = nodes.items; parents = parents.items; sound = sound.items }) }
+        ensures { result ≡ record { image = image.now; findings = findings.items; nodes = nodes.items; parents = parents.items; sound = sound.items } }
     {
         Survey {
             image,
             findings,
             nodes,
+            parents,
             sound,
         }
     }
@@ -80,6 +84,14 @@ impl Survey<'_> {
         self.nodes.len().saturating_sub(1)
     }
 
+    // Whether an entry with this number is found.
+    fn has_entry(&self, n: Node) -> bool
+        ensures { (w : List (Role × ℕ)) (fs : List SpecFinding) → IsSurvey self.now.image w fs
+            → IsTrue result ↔ ((1 ≤ n) × (n ≤ heads w)) }
+    {
+        n.0 != 0 && n.0 <= self.len()
+    }
+
     /// The block of the header of an entry that is found; none of the root and past the last entry.
     pub fn block_of(&self, n: Node) -> Option<u32>
         ensures some { (w : List (Role × ℕ)) (fs : List SpecFinding) → IsSurvey self.now.image w fs
@@ -87,10 +99,23 @@ impl Survey<'_> {
         ensures block { (w : List (Role × ℕ)) (fs : List SpecFinding) → IsSurvey self.now.image w fs
             → IfSome result (λ b. b ≡ node_block w n) }
     {
-        if n.0 == 0 || n.0 >= self.nodes.len() {
+        if !self.has_entry(n) {
             return None;
         }
-        Some(block_at(&self.nodes, n.0))
+        Some(number_at(&self.nodes, n.0))
+    }
+
+    /// The node of the directory of an entry that is found, 0 of those in the root; none of the root and past the last entry.
+    pub fn parent_of(&self, n: Node) -> Option<Node>
+        ensures some { (w : List (Role × ℕ)) (fs : List SpecFinding) → IsSurvey self.now.image w fs
+            → IsSome result ↔ ((1 ≤ n) × (n ≤ heads w)) }
+        ensures parent { (w : List (Role × ℕ)) (fs : List SpecFinding) → IsSurvey self.now.image w fs
+            → IfSome result (λ m. (p s j b : ℕ) → Has w (Head n p s j) b → m ≡ p) }
+    {
+        if !self.has_entry(n) {
+            return None;
+        }
+        Some(Node(number_at(&self.parents, n.0) as usize))
     }
 
     /// Whether nothing is said against the parts of an entry that is found.

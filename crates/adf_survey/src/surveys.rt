@@ -28,7 +28,13 @@ fn only<'i>(alloc: Global, image: &'i [u8], finding: Finding) -> Result<Survey<'
 {
     let mut findings = Vec::new(alloc);
     match findings.push(finding) {
-        Ok(()) => Ok(Survey::new(image, findings, Vec::new(alloc), Vec::new(alloc))),
+        Ok(()) => Ok(Survey::new(
+            image,
+            findings,
+            Vec::new(alloc),
+            Vec::new(alloc),
+            Vec::new(alloc),
+        )),
         Err(_) => Err(NoMemory),
     }
 }
@@ -44,7 +50,13 @@ fn go_through<'i>(alloc: Global, image: &Image<'i>) -> Result<Survey<'i>, NoMemo
     run(image, &mut found, &mut asked)?;
     compare(image, &mut found)?;
     let sound = clear_marks(alloc, image, &found)?;
-    Ok(Survey::new(image.bytes(), found.findings, found.nodes, sound))
+    Ok(Survey::new(
+        image.bytes(),
+        found.findings,
+        found.nodes,
+        found.parents,
+        sound,
+    ))
 }
 
 /// The survey of the image: every part of it that has a cause, and the bits that disagree, and what is found all the same;

@@ -4,11 +4,12 @@ use Rattle.adf_survey.specs.Surveyed.{IsOfSurvey}
 use Rattle.adf_survey.proofs.Keeping.{unread_kept}
 use Rattle.adf_survey.proofs.surveys.only.Goals as goal
 
-pub new-requires-in-Ok-2 : goal.new-requires-in-Ok-2
-new-requires-in-Ok-2 c =
+pub new-requires-in-Ok-3 : goal.new-requires-in-Ok-3
+new-requires-in-Ok-3 c =
     let image : List ℕ = c.args.image.now in
     let items : c.push.new.self.items ≡ c.args.finding ∷ [] =
     c.in-Ok.ensures.items ∙ ap (λ xs. xs ++ c.args.finding ∷ []) c.new-findings.ensures.items in
-    subst (λ (x : List ℕ × List Bool). IsOfSurvey (record { image = image; findings = c.push.new.self.items; nodes = x.0; sound = x.1 }))
-    (λ t. (sym c.new.ensures.items t, sym c.new-in-Ok.ensures.items t))
+    subst (λ (x : List ℕ × List ℕ × List Bool).
+    IsOfSurvey (record { image = image; findings = c.push.new.self.items; nodes = x.0; parents = x.1; sound = x.2 }))
+    (λ t. (sym c.new.ensures.items t, sym c.new-in-Ok.ensures.items t, sym c.new-in-Ok-2.ensures.items t))
     (unread_kept image c.args.finding c.push.new.self.items c.requires.part c.requires.fails items)
