@@ -1,10 +1,12 @@
 -- What is kept of an image tells of its survey.
 use Rattle.std.specs.Prelude.{Bool, None, map}
-use Rattle.std.proofs.Common.{◌≡◌, ℕ, suc, List, [], ◌∷◌, ◌++◌, inl, inr, ◌≤◌, refl, sym, ap, subst, ◌∙◌, arith}
+use Rattle.std.proofs.Common.{◌≡◌, ℕ, suc, List, [], ◌∷◌, ◌++◌, inl, inr, ◌≤◌, refl, sym, ap, subst, ◌∙◌, arith, ◌*◌, ◌+◌, ◌<◌, length}
 use Rattle.adf_tree.specs.declared.entry.Kind.TheVariants.{Ffs}
 use Rattle.adf_volume.specs.Demands.{FirstFails, boot_demands, root_demands}
 use Rattle.adf_volume.specs.Image.{kind_of, root_of}
-use Rattle.adf_volume.specs.Walk.{Role, second, Has, Asks, heads}
+use Rattle.adf_blocks.specs.Sizes.{blocks}
+use Rattle.adf_volume.proofs.Gathered.{head_block, numbered as has_number}
+use Rattle.adf_volume.specs.Walk.{Role, second, Has, Asks, heads, node_block}
 use Rattle.adf_volume.specs.Walk.Role.{Root, Head}
 use Rattle.adf_volume.proofs.Gathered.{IsGathered}
 use Rattle.adf_volume.proofs.Gathered.IsGathered.{start, step}
@@ -25,7 +27,7 @@ use Rattle.adf_volume.proofs.Gathered.{number_of}
 use Rattle.adf_survey.specs.Surveyed.{IsOfSurvey, Surveyed, TellsOf}
 use Rattle.adf_survey.proofs.BitSteps.{unread_survey}
 use Rattle.adf_survey.proofs.OneSurvey.{gathered, one_survey}
-use Rattle.adf_survey.proofs.SoundMarks.{clear_is_sound}
+use Rattle.adf_survey.proofs.SoundMarks.{clear_is_sound, inside}
 
 -- of an image that does not begin as a volume the finding is kept alone
 pub unread_kept : (image : List ℕ) (x : FoundFinding) (items : List FoundFinding) → x.part ≡ None
@@ -96,3 +98,15 @@ pub parent_is : (image : List ℕ) (w : List (Role × ℕ)) (fs : List Finding) 
     → parent_in w n ≡ p
 parent_is image w fs (unread f) n p s j b h = absurd h
 parent_is image w fs (read begun v d t) n p s j b h = head_parent image (gathered image v) n p s j b h
+
+-- the header of an entry is inside of the image
+pub header_inside : (image : List ℕ) (w : List (Role × ℕ)) (fs : List Finding) → IsSurvey image w fs → (n : ℕ) → 1 ≤ n → n ≤ heads w
+    → node_block w n * 512 + 512 ≤ length image
+header_inside image w fs (unread f) n lo hi = absurd (omega arith)
+header_inside image w fs (read {s = s} begun v d t) n lo hi =
+    let x = has_number image (gathered image v) n lo hi in
+    let at : node_block s.walk n ≡ x.3 = head_block image (gathered image v) n x.0 x.1 x.2 x.3 x.4 in
+    let lt : x.3 < blocks image =
+    inside image v (Head n x.0 x.1 x.2) x.3 (λ e. let y : second Root ≡ second (Head n x.0 x.1 x.2) = ap second e in omega arith) x.4 in
+    let size : length image ≡ 512 * blocks image = begun.0.0 in
+    omega arith

@@ -172,17 +172,20 @@ module _ (image : List ℕ) where
       let none : IsAbsent w b = subst (λ t. Tells (not t) (IsAbsent w b)) e (tells_absent w b) in
       none q h
 
-  -- data blocks are inside of the image
-  inside : {s : Course} → IsCourse image s → (n k b : ℕ) → Has s.walk (Data n k) b → b < blocks image
-  inside start n k b (inl e) = let h : first Root ≡ first (Data n k) = ap first e.0 in absurd (omega arith)
-  inside start n k b (inr h) = absurd h
-  inside (step {s = s} {r = z} {a = a} {i = i} clean v d g) n k b (inl e) =
+  -- what is taken is inside of the image
+  pub inside : {s : Course} → IsCourse image s → (r : Role) (b : ℕ) → (Root ≡ r → ⊥) → Has s.walk r b → b < blocks image
+  inside start r b other (inl e) = absurd (other e.0)
+  inside start r b other (inr h) = absurd h
+  inside (step {s = s} {r = z} {a = a} {i = i} clean v d g) r b other (inl e) =
       let lt : word_in image a i < blocks image = g.1.0.1 in subst (λ b. b < blocks image) e.1 lt
-  inside (step clean v d g) n k b (inr h) = inside v n k b h
-  inside (step {s = s} {r = z} {a = a} {i = i} (noted at c) v d g) n k b (inl e) =
+  inside (step clean v d g) r b other (inr h) = inside v r b other h
+  inside (step {s = s} {r = z} {a = a} {i = i} (noted at c) v d g) r b other (inl e) =
       let lt : word_in image a i < blocks image = (g.1.1.0 (keeps_range image z)).1 in subst (λ b. b < blocks image) e.1 lt
-  inside (step (noted at c) v d g) n k b (inr h) = inside v n k b h
-  inside (step (passed at c) v d g) n k b h = inside v n k b h
+  inside (step (noted at c) v d g) r b other (inr h) = inside v r b other h
+  inside (step (passed at c) v d g) r b other h = inside v r b other h
+
+  data_inside : {s : Course} → IsCourse image s → (n k b : ℕ) → Has s.walk (Data n k) b → b < blocks image
+  data_inside v n k b h = inside v (Data n k) b (λ e. let x : first Root ≡ first (Data n k) = ap first e in omega arith) h
 
   module _ {s : Course} (v : IsCourse image s) (done : IsDone image s) where
     -- what is asked for at the end was taken or passed over, in the block that is asked for
@@ -436,7 +439,7 @@ module _ (image : List ℕ) (f : Found) {s : Course} (v : IsCourse image s) (don
         let q = at_has s.walk x.0 x.1 (sym (st.taken x.0) ∙ is) in
         let d = data_key q.0 m (ap (λ k. k.first) q.2 ∙ y.0) (ap (λ k. k.second) q.2 ∙ y.1) in
         let has : Has s.walk (Data m d.0) x.1 = subst (λ r. Has s.walk r x.1) d.1 q.1 in
-        let over : owns s.passed_over x.1 ≡ true = sym (st.avoided.1 x.1 (inside image v m d.0 x.1 has)) ∙ y.2 in
+        let over : owns s.passed_over x.1 ≡ true = sym (st.avoided.1 x.1 (data_inside image v m d.0 x.1 has)) ∙ y.2 in
         absurd (not_alone image v done m d.0 x.1 has over (sound.alone ffs d.0 x.1 has))
     | inr e ↦ e
   ]
@@ -477,7 +480,7 @@ module _ (image : List ℕ) (f : Found) {s : Course} (v : IsCourse image s) (don
       let free : owns s.passed_over c ≡ false = elim (cases_Bool (owns s.passed_over c)) [
         | inl t ↦
             absurd (not_sharing f.avoided.items f.taken.entries m (key_of (Data m k)) c none i
-            (shares f.avoided.items m k c (st.avoided.1 c (inside image v m k c has) ∙ t)))
+            (shares f.avoided.items m k c (st.avoided.1 c (data_inside image v m k c has) ∙ t)))
         | inr t ↦ t
       ] in
       is_alone image v done m k c has free

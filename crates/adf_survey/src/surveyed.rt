@@ -1,6 +1,7 @@
 // What a survey tells.
 
 ghost use Rattle.std.specs.Prelude.{◌≡◌, ◌≤◌, ◌<◌, ◌↔◌, ℕ, List, map, slice_index, IsTrue, IsSome, IfSome};
+ghost use Rattle.adf_fields.specs.Words.{block};
 ghost use Rattle.adf_volume.specs.Walk.{Has, Role, heads, node_block};
 ghost use Rattle.adf_volume.specs.Walk.Role.{Head};
 ghost use Rattle.adf_survey.specs.Marks.{has_mark};
@@ -10,6 +11,7 @@ ghost use Rattle.adf_survey.specs.Survey.{Finding as SpecFinding, IsSurvey};
 ghost use Rattle.adf_survey.specs.Surveyed.{IsOfSurvey};
 
 use crate::part::Finding;
+use adf_fields::Block;
 use adf_tree::Node;
 use std::marker::Model;
 
@@ -103,6 +105,19 @@ impl Survey<'_> {
             return None;
         }
         Some(number_at(&self.nodes, n.0))
+    }
+
+    /// The block with the header of an entry that is found; none of the root and past the last entry.
+    pub fn header(&self, n: Node) -> Option<Block<'_>>
+        ensures some { (w : List (Role × ℕ)) (fs : List SpecFinding) → IsSurvey self.now.image w fs
+            → IsSome result ↔ ((1 ≤ n) × (n ≤ heads w)) }
+        ensures block { (w : List (Role × ℕ)) (fs : List SpecFinding) → IsSurvey self.now.image w fs
+            → IfSome result (λ x. x ≡ block self.now.image (node_block w n)) }
+    {
+        match self.block_of(n) {
+            Some(b) => Block::at(self.image, b),
+            None => None,
+        }
     }
 
     /// The node of the directory of an entry that is found, 0 of those in the root; none of the root and past the last entry.
