@@ -5,7 +5,7 @@ use Rattle.std.proofs.lemmas.List.{take_more}
 use Rattle.adf_tree.specs.declared.entry.Body.{Body}
 use Rattle.adf_tree.specs.declared.entry.Body.TheVariants.{Dir, File}
 use Rattle.adf_tree.specs.declared.entry.Entry.{Entry}
-use Rattle.adf_tree.specs.Laws.{IsNext}
+use Rattle.adf_tree.specs.Laws.{IsNextEntry}
 use Rattle.adf_tree.specs.Tree.{IsTree, Tree, entry, with_last, IsLast, MayAdd}
 use Rattle.adf_tree.proofs.TreePrefixes.{is_next}
 use Rattle.adf_volume.proofs.Lists.{at_index_or, at_some}
@@ -44,7 +44,7 @@ pub may_follow : {t u : Tree} {i n : ℕ} {x : Entry} {r : Option Entry} → IsT
     → u ≡ record { kind = t.kind; label = t.label; stamps = t.stamps; entries = take i t.entries } → n ≡ length t.entries → i < n
     → r ≡ entry t.entries (i + 1) → r ≡ Some x → MayAdd u.entries x × IsLast u.entries x
 may_follow {t = t} {u = u} {i = i} {x = x} tree e count lt here is =
-    let next : IsNext t.entries i x = subst (IsNext t.entries i) (entry_here t i x (sym is ∙ here)) (is_next t.entries i x tree (omega arith)) in
+    let next : IsNextEntry t.entries i x = subst (IsNextEntry t.entries i) (entry_here t i x (sym is ∙ here)) (is_next t.entries i x tree (omega arith)) in
     subst (λ (u : Tree). MayAdd u.entries x × IsLast u.entries x) (sym e) (next.may, next.last)
 
 -- the first entries and the next one

@@ -5,7 +5,7 @@ use Rattle.std.proofs.lemmas.Bool.{and_from, and_parts}
 use Rattle.std.proofs.lemmas.Bool.Decides.{nat_tests}
 use Rattle.std.proofs.lemmas.List.Elements.{All-cons, All-head, All-nil, All-tail}
 use Rattle.adf_tree.specs.Escapes.{hex_digit}
-use Rattle.adf_manifest.specs.Tokens.{Lacks}
+use Rattle.adf_manifest.specs.Tokens.{LacksByte}
 use Rattle.adf_manifest.specs.Texts.{digit, hex_word, is_digit, pair, pairs, unpaired, AreDigits}
 use Rattle.adf_tree.proofs.Spellings.{same_digits}
 
@@ -81,13 +81,13 @@ word_is text a b c d w ha hb hc hd s e =
 no_space : (d : ℕ) → d < 16 → (hex_digit d == 32) ≡ false
 no_space d h = grind (arith, nat_tests)
 
-pub pair_lacks : (b : ℕ) (rest : List ℕ) → b < 256 → Lacks 32 rest → Lacks 32 (pair b ++ rest)
+pub pair_lacks : (b : ℕ) (rest : List ℕ) → b < 256 → LacksByte 32 rest → LacksByte 32 (pair b ++ rest)
 pair_lacks b rest h a =
     let P : ℕ → Type 0 = λ x. (x == 32) ≡ false in
     All-cons P (hex_digit (b / 16)) (hex_digit (b % 16) ∷ rest) (no_space (b / 16) (omega arith))
     (All-cons P (hex_digit (b % 16)) rest (no_space (b % 16) (omega arith)) a)
 
-pub word_lacks : (w : ℕ) → Lacks 32 (hex_word w)
+pub word_lacks : (w : ℕ) → LacksByte 32 (hex_word w)
 word_lacks w =
     let last = pair (w % 256) in
     let third = pair (w / 256 % 256) ++ last in

@@ -14,7 +14,7 @@ use Rattle.adf_manifest.specs.Lines.{IsLine, LineValue, LabelLine, StampsLine, E
 use Rattle.adf_manifest.specs.Items.{item_lines}
 use Rattle.std.specs.List.{flat_map}
 use Rattle.adf_manifest.specs.Manifest.{EndsInFile, HasBadText, HasFault, HasNoRoom, IsBare, IsFirstFault, IsLaterFault, IsWell}
-use Rattle.adf_manifest.specs.Manifest.{Manifest, MayFollow, MayStand, items_of, label_lines, manifest_lines, manifest_tree, stamps_lines}
+use Rattle.adf_manifest.specs.Manifest.{Manifest, MayStandNext, MayStand, items_of, label_lines, manifest_lines, manifest_tree, stamps_lines}
 use Rattle.adf_manifest.specs.declared.manifest.ManifestKind.{ManifestKind}
 use Rattle.adf_manifest.specs.declared.manifest.ManifestKind.TheVariants.{BadLine, BadSize, BadText, NoParent, ParentIsFile, Exists, NoMemory}
 use Rattle.adf_manifest.proofs.Forms.{line_same}
@@ -57,7 +57,7 @@ abbrev OfLine : Tree → LineValue → ManifestKind → Type 0
 OfLine tree line kind = ((kind ≡ BadText) × HasBadText line) ⊎ ((a : AddFault) × (kind ≡ kind_of a) × HasNoRoom tree line a)
 
 abbrev Later : Manifest → List ℕ → ManifestKind → Type 0
-Later m text kind = ((kind ≡ BadLine) × (¬ MayFollow m text))
+Later m text kind = ((kind ≡ BadLine) × (¬ MayStandNext m text))
     ⊎ ((line : LineValue) × IsLine line × MayStand m line × (text ≡ line_text line) × OfLine (manifest_tree m) line kind)
 
 later_kind : (m : Manifest) (text : List ℕ) (kind : ManifestKind) → IsLaterFault m text kind → Later m text kind

@@ -9,7 +9,7 @@ use Rattle.adf_tree.specs.Escapes.{escaped}
 use Rattle.adf_tree.specs.Tree.{Tree, room_for}
 use Rattle.adf_fields.specs.declared.dates.Stamp.{Stamp}
 use Rattle.adf_manifest.specs.Lines.{IsRun, RunValue, note_line, run_line}
-use Rattle.adf_manifest.specs.Items.{HaveRoom, IsGivenNote, IsItem, Item, file_bytes, item_lines, items_tree, run_bytes, with_item}
+use Rattle.adf_manifest.specs.Items.{HaveRoom, IsGivenNote, IsItem, Item, bytes_of_runs, item_lines, items_tree, run_bytes, with_item}
 use Rattle.adf_manifest.specs.Manifest.{Entries, IsWell, Manifest, head_lines, head_tree, items_of, manifest_lines, manifest_tree}
 use Rattle.adf_manifest.specs.declared.lines.Sort.{Sort}
 use Rattle.adf_manifest.specs.declared.lines.Sort.TheVariants.{Dir, File}
@@ -107,7 +107,7 @@ pub with_run_is : (i : Item) (run : RunValue) → IsItem i → i.sort ≡ File �
 with_run_is i run g e h =
     item_with i i.note (i.runs ++ run ∷ []) g g.note (All-push IsRun i.runs run g.runs h) (λ d. let clash : File ≡ Dir = sym e ∙ d in cc)
 
-pub with_run_bytes : (i : Item) (run : RunValue) → file_bytes (with_run i run).runs ≡ file_bytes i.runs ++ run_bytes run
+pub with_run_bytes : (i : Item) (run : RunValue) → bytes_of_runs (with_run i run).runs ≡ bytes_of_runs i.runs ++ run_bytes run
 with_run_bytes i run = simp (flat_map-append, append-nil)
 
 -- a manifest with another last entry of the same path

@@ -13,7 +13,7 @@ use Rattle.adf_tree.proofs.PathParts.{empty_path}
 use Rattle.adf_manifest.specs.Lines.{IsLine, IsRun, LineValue, LabelLine, StampsLine, EntryLine, NoteLine, RunLine, RunValue, line_text, run_line}
 use Rattle.adf_manifest.specs.Lines.{stamps_line, note_line}
 use Rattle.adf_manifest.specs.Items.{HaveRoom, IsGivenNote, IsItem, Item, items_tree}
-use Rattle.adf_manifest.specs.Manifest.{Entries, IsHead, IsWell, Manifest, head_lines, head_tree, label_lines, items_of, manifest_lines}
+use Rattle.adf_manifest.specs.Manifest.{Entries, IsManifestHead, IsWell, Manifest, head_lines, head_tree, label_lines, items_of, manifest_lines}
 use Rattle.adf_manifest.specs.Manifest.{manifest_tree}
 use Rattle.adf_manifest.specs.Reader.{bare}
 use Rattle.adf_manifest.specs.declared.lines.Sort.{Sort}
@@ -73,16 +73,16 @@ stamps_behind h stamps e =
     rw (e, append-nil (label_lines h.label))
 
 pub last_of_head : (kind : Kind) (blocks : ℕ) (label : Option (List ℕ)) (stamps : Option Stamps) → let h : Head =
-    record { kind = kind; blocks = blocks; label = label; stamps = stamps } in IsHead h → IsFirst (bare h) ⊎ IsNext (bare h)
+    record { kind = kind; blocks = blocks; label = label; stamps = stamps } in IsManifestHead h → IsFirst (bare h) ⊎ IsNext (bare h)
 last_of_head kind blocks None None g = inl (refl, refl, refl)
 last_of_head kind blocks (Some label) None g =
     let before : Head = record { kind = kind; blocks = blocks; label = None; stamps = None } in
-    let well : IsHead before = record { size = g.size; label = tt; stamps = tt } in
+    let well : IsManifestHead before = record { size = g.size; label = tt; stamps = tt } in
     inr (bare before, LabelLine (escaped label), bare_well before well, filled label g.label.0, (refl, refl, refl, (label, g.label.1, refl)), refl)
 last_of_head kind blocks label (Some stamps) g =
     let before : Head = record { kind = kind; blocks = blocks; label = label; stamps = None } in
     let now : Head = record { kind = kind; blocks = blocks; label = label; stamps = Some stamps } in
-    let well : IsHead before = record { size = g.size; label = g.label; stamps = tt } in
+    let well : IsManifestHead before = record { size = g.size; label = g.label; stamps = tt } in
     inr (
       bare before,
       StampsLine stamps,

@@ -4,7 +4,7 @@ use Rattle.std.specs.Fmt.{decimal}
 use Rattle.std.proofs.lemmas.List.{append_cancel_left}
 use Rattle.adf_fields.specs.Dates.{plain_text, IsStamp}
 use Rattle.adf_fields.specs.declared.dates.Stamp.{Stamp}
-use Rattle.adf_manifest.specs.Tokens.{Lacks}
+use Rattle.adf_manifest.specs.Tokens.{LacksByte}
 use Rattle.adf_manifest.specs.Texts.{hex_word, pair}
 use Rattle.adf_manifest.specs.Lines.{fields_text, fill_line, most_fill}
 use Rattle.adf_manifest.proofs.TokenLaws.{CutTwice, one_cut, one_cut_twice, space_lacks, stamp_lacks}
@@ -15,7 +15,7 @@ pub fill_text : (line text : List ℕ) (count byte : ℕ) → line ≡ codes "fi
 fill_text line text count byte e g = append_cancel_left (codes "fill ") text (decimal count ++ 32 ∷ pair byte) (sym e ∙ g)
 
 -- the parts of a fill line
-pub fill_parts : (line text a b : List ℕ) (count byte : ℕ) → line ≡ codes "fill " ++ text → (text ≡ a ++ 32 ∷ b) × Lacks 32 a → count ≤ most_fill
+pub fill_parts : (line text a b : List ℕ) (count byte : ℕ) → line ≡ codes "fill " ++ text → (text ≡ a ++ 32 ∷ b) × LacksByte 32 a → count ≤ most_fill
     → line ≡ fill_line count byte → (a ≡ decimal count) × (b ≡ pair byte)
 fill_parts line text a b count byte e cut h g =
     one_cut 32 a b (decimal count) (pair byte) cut.1 (space_lacks count (omega arith)) (sym cut.0 ∙ fill_text line text count byte e g)

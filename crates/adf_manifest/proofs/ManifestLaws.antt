@@ -2,13 +2,13 @@
 use Rattle.std.proofs.Common.{◌≡◌, ◌≤◌, ◌+◌, ◌==◌, ◌++◌, ◌∙◌, ℕ, List, [], ◌∷◌, refl, sym, ap, arith, length, append_assoc}
 use Rattle.std.proofs.lemmas.List.Sums.{count_by-le-length}
 use Rattle.std.proofs.lemmas.List.Splits.{length-slice_split, slice_split_at, slice_split_none}
-use Rattle.adf_manifest.specs.Tokens.{Lacks}
+use Rattle.adf_manifest.specs.Tokens.{LacksByte}
 use Rattle.adf_manifest.specs.Manifest.{between_feeds}
 
-pub parts_cut : (text line rest : List ℕ) → text ≡ line ++ 10 ∷ rest → Lacks 10 line → between_feeds text ≡ line ∷ between_feeds rest
+pub parts_cut : (text line rest : List ℕ) → text ≡ line ++ 10 ∷ rest → LacksByte 10 line → between_feeds text ≡ line ∷ between_feeds rest
 parts_cut text line rest e h = ap between_feeds e ∙ slice_split_at (λ c. c == 10) line 10 rest h refl
 
-pub parts_whole : (text : List ℕ) → Lacks 10 text → between_feeds text ≡ text ∷ []
+pub parts_whole : (text : List ℕ) → LacksByte 10 text → between_feeds text ≡ text ∷ []
 parts_whole text h = slice_split_none (λ c. c == 10) text h
 
 -- there are no more lines than bytes and one

@@ -13,8 +13,8 @@ use Rattle.adf_tree.specs.Tree.{Tree, room_for, with_entry}
 use Rattle.adf_tree.specs.declared.entry.Body.{Body}
 use Rattle.adf_tree.specs.declared.entry.Meta.{Meta}
 use Rattle.adf_manifest.specs.Lines.{EntryLine, IsLine, IsRun, RunValue, DataRun, FillRun, entry_line, note_line, run_line, LineValue}
-use Rattle.adf_manifest.specs.Items.{IsItem, Item, body_of, file_bytes, run_bytes, with_item}
-use Rattle.adf_manifest.specs.Manifest.{Entries, IsHead, IsWell, Manifest, MayStand, head_lines, head_tree, items_of, manifest_lines}
+use Rattle.adf_manifest.specs.Items.{IsItem, Item, body_of_sort, bytes_of_runs, run_bytes, with_item}
+use Rattle.adf_manifest.specs.Manifest.{Entries, IsManifestHead, IsWell, Manifest, MayStand, head_lines, head_tree, items_of, manifest_lines}
 use Rattle.adf_manifest.specs.Manifest.{manifest_tree, ExplainsKind, lines, most_bytes}
 use Rattle.adf_manifest.specs.Reader.{GoesOn, IsOpen, IsReading, Stops, StopsIn, bare, ExplainsLines}
 use Rattle.adf_manifest.specs.declared.lines.Sort.{Sort}
@@ -33,14 +33,14 @@ pub if_ok_weaker : {T E : Type 0} {P Q : T → Type 0} (r : Result T E) → ((x 
 if_ok_weaker (Ok x) f p = f x p
 if_ok_weaker (Err e) f p = tt
 
-pub bare_well : (h : Head) → IsHead h → IsWell (bare h)
+pub bare_well : (h : Head) → IsManifestHead h → IsWell (bare h)
 bare_well h g = record { head = g; items = All-nil IsItem; room = room_none (head_tree h) }
 
 pub bare_lines : (h : Head) → manifest_lines (bare h) ≡ head_lines h
 bare_lines h = append-nil (head_lines h)
 
 -- a head goes on with a line of its own
-pub head_step : (h h' : Head) (text : List ℕ) → IsHead h' → head_lines h' ≡ head_lines h ++ text ∷ [] → GoesOn (state.Head h') (bare h) text
+pub head_step : (h h' : Head) (text : List ℕ) → IsManifestHead h' → head_lines h' ≡ head_lines h ++ text ∷ [] → GoesOn (state.Head h') (bare h) text
 head_step h h' text g e = (bare h', bare_well h' g, refl, bare_lines h' ∙ e ∙ ap (λ l. l ++ text ∷ []) (sym (bare_lines h)))
 
 filled_list : (xs : List ℕ) → 0 < length (escaped xs) → 0 < length xs
@@ -60,9 +60,9 @@ run_some : (run : RunValue) → IsRun run → 0 < length (run_bytes run)
 run_some (DataRun bytes) h = h.0
 run_some (FillRun count byte) h = omega (arith, h.0, length-replicate count byte)
 
-pub no_runs : (runs : List RunValue) → All IsRun runs → length (file_bytes runs) ≡ 0 → runs ≡ []
+pub no_runs : (runs : List RunValue) → All IsRun runs → length (bytes_of_runs runs) ≡ 0 → runs ≡ []
 no_runs [] h e = refl
-no_runs (r ∷ rs) h e = absurd (omega (arith, run_some r (All-head IsRun r rs h), length-append (run_bytes r) (file_bytes rs), e))
+no_runs (r ∷ rs) h e = absurd (omega (arith, run_some r (All-head IsRun r rs h), length-append (run_bytes r) (bytes_of_runs rs), e))
 
 -- behind an entry line
 pub entry_step : (m : Manifest) (blocks : ℕ) (draft : DraftValue) (last : Open) (sort : Sort) (stamp : Stamp) (protect : ℕ) (text : List ℕ)
@@ -145,7 +145,7 @@ is_none (Some x) h = absurd cc
 
 -- an entry whose lines are all read is added as its item
 pub closed_is : (t : Tree) (o : Open) (i : Item) (comment : List ℕ) (body : Body) → IsOpen o i
-    → comment ≡ unwrap_or o.note [] → body ≡ body_of o.sort o.bytes.items
+    → comment ≡ unwrap_or o.note [] → body ≡ body_of_sort o.sort o.bytes.items
     → let meta : Meta = record { comment = comment; protect = o.protect; stamp = o.stamp } in with_entry t i.path meta body ≡ with_item t i
 closed_is t o i comment body g e2 e3 =
     rw (e2, g.note, g.protect, g.stamp, e3, g.sort, g.bytes)

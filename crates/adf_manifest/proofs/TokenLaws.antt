@@ -20,7 +20,7 @@ use Rattle.std.proofs.lemmas.Str.Parse.{IsNumeralModel, digit_at, numerals_by_va
 use Rattle.adf_fields.specs.Dates.{plain_text, IsStamp}
 use Rattle.adf_fields.specs.declared.dates.Stamp.{Stamp}
 use Rattle.adf_tree.specs.declared.entry.Stamps.{Stamps}
-use Rattle.adf_manifest.specs.Tokens.{Lacks, has_number_front, stamps_text}
+use Rattle.adf_manifest.specs.Tokens.{LacksByte, has_number_front, stamps_text}
 use Rattle.adf_tree.specs.Bounds.{AreStamps}
 
 pub if_none : {T P : Type 0} (o : Option T) → P → IfNone o P
@@ -28,7 +28,7 @@ if_none None p = p
 if_none (Some x) p = tt
 
 -- a text is cut in one way at the first of a byte
-pub one_cut : (c : ℕ) (a b a' b' : List ℕ) → Lacks c a → Lacks c a' → a ++ c ∷ b ≡ a' ++ c ∷ b' → (a ≡ a') × (b ≡ b')
+pub one_cut : (c : ℕ) (a b a' b' : List ℕ) → LacksByte c a → LacksByte c a' → a ++ c ∷ b ≡ a' ++ c ∷ b' → (a ≡ a') × (b ≡ b')
 one_cut c a b a' b' h h' e =
     let p : ℕ → Bool = λ x. x == c in
     let same : p c ≡ true = search rules in
@@ -39,7 +39,7 @@ one_cut c a b a' b' h h' e =
     (front, cc)
 
 -- a text with the byte does not lack it
-pub not_cut : (c : ℕ) (t a b : List ℕ) → Lacks c t → t ≡ a ++ c ∷ b → ⊥
+pub not_cut : (c : ℕ) (t a b : List ℕ) → LacksByte c t → t ≡ a ++ c ∷ b → ⊥
 not_cut c t a b h e =
     let at : slice_index_or t (length a) 0 ≡ c = rw e (get_or-append_seam a c b 0) in
     let within : length a < length t = rw e (omega (arith, length-append a (c ∷ b))) in
@@ -50,7 +50,7 @@ not_cut c t a b h e =
 
 -- the text is cut at the first two of a byte
 abbrev pub CutTwice : ℕ → List ℕ → List ℕ → List ℕ → List ℕ → Type 0
-CutTwice c text x y z = (text ≡ x ++ c ∷ (y ++ c ∷ z)) × Lacks c x × Lacks c y
+CutTwice c text x y z = (text ≡ x ++ c ∷ (y ++ c ∷ z)) × LacksByte c x × LacksByte c y
 
 -- and so in one way
 pub one_cut_twice : (c : ℕ) (text x y z a b d : List ℕ) → CutTwice c text x y z → CutTwice c text a b d → (x ≡ a) × (y ≡ b) × (z ≡ d)
@@ -60,18 +60,18 @@ one_cut_twice c text x y z a b d (e, hx, hy) (g, ha, hb) =
     (first.0, second.0, second.1)
 
 -- a number in decimal has no other byte than digits
-decimal_lacks : (c n : ℕ) → ((d : ℕ) → 48 ≤ d → d ≤ 57 → (d == c) ≡ false) → n < 2 ^ 32 → Lacks c (decimal n)
+decimal_lacks : (c n : ℕ) → ((d : ℕ) → 48 ≤ d → d ≤ 57 → (d == c) ≡ false) → n < 2 ^ 32 → LacksByte c (decimal n)
 decimal_lacks c n f h =
     let numeral = decimal_is_IsNumeral n (omega arith) in
     All-from_get_or (λ x. (x == c) ≡ false) (decimal n) 0 (λ i lt. let r = digit_at (decimal n) i numeral.0.1 lt in f (slice_index_or (decimal n) i 0) r.0 r.1)
 
-pub colon_lacks : (n : ℕ) → n < 2 ^ 32 → Lacks 58 (decimal n)
+pub colon_lacks : (n : ℕ) → n < 2 ^ 32 → LacksByte 58 (decimal n)
 colon_lacks n h = decimal_lacks 58 n (λ d low high. grind (arith, nat_tests)) h
 
-pub space_lacks : (n : ℕ) → n < 2 ^ 32 → Lacks 32 (decimal n)
+pub space_lacks : (n : ℕ) → n < 2 ^ 32 → LacksByte 32 (decimal n)
 space_lacks n h = decimal_lacks 32 n (λ d low high. grind (arith, nat_tests)) h
 
-pub stamp_lacks : (s : Stamp) → IsStamp s → Lacks 32 (plain_text s)
+pub stamp_lacks : (s : Stamp) → IsStamp s → LacksByte 32 (plain_text s)
 stamp_lacks s h =
     let P : ℕ → Type 0 = λ x. (x == 32) ≡ false in
     All-append P (decimal s.days) _ (space_lacks s.days h.days)

@@ -53,13 +53,13 @@ run_bytes (DataRun bytes) = bytes
 run_bytes (FillRun count byte) = replicate count byte
 
 -- the bytes of a file: those of its runs in order
-abbrev pub file_bytes : List RunValue → List ℕ
-file_bytes runs = flat_map run_bytes runs
+abbrev pub bytes_of_runs : List RunValue → List ℕ
+bytes_of_runs runs = flat_map run_bytes runs
 
 -- the entry that an item is
-abbrev pub body_of : Sort → List ℕ → Body
-body_of Dir bytes = body.Dir
-body_of File bytes = body.File bytes
+abbrev pub body_of_sort : Sort → List ℕ → Body
+body_of_sort Dir bytes = body.Dir
+body_of_sort File bytes = body.File bytes
 
 -- the comment, protection bits and date of an entry
 abbrev pub item_meta : Item → Meta
@@ -67,7 +67,7 @@ item_meta i = record { comment = unwrap_or i.note []; protect = i.protect; stamp
 
 -- what an entry is: a directory, or a file of its runs' bytes
 abbrev pub item_body : Item → Body
-item_body i = body_of i.sort (file_bytes i.runs)
+item_body i = body_of_sort i.sort (bytes_of_runs i.runs)
 
 -- the path of an item, and what it gets
 abbrev pub addition_of : Item → Addition

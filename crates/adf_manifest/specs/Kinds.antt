@@ -6,15 +6,15 @@ use Rattle.adf_manifest.specs.declared.manifest.ManifestKind.{ManifestKind}
 use Rattle.adf_manifest.specs.declared.manifest.ManifestKind.TheVariants.{BadLine, BadSize, BadText, NoParent, ParentIsFile, Exists, NoMemory, TooLong}
 
 -- the number of a kind of fault, 1 to 8
-abbrev pub kind_number : ManifestKind → ℕ
-kind_number BadLine = 1
-kind_number BadSize = 2
-kind_number BadText = 3
-kind_number NoParent = 4
-kind_number ParentIsFile = 5
-kind_number Exists = 6
-kind_number NoMemory = 7
-kind_number TooLong = 8
+abbrev pub manifest_kind_number : ManifestKind → ℕ
+manifest_kind_number BadLine = 1
+manifest_kind_number BadSize = 2
+manifest_kind_number BadText = 3
+manifest_kind_number NoParent = 4
+manifest_kind_number ParentIsFile = 5
+manifest_kind_number Exists = 6
+manifest_kind_number NoMemory = 7
+manifest_kind_number TooLong = 8
 
 -- what a kind of fault is called
 abbrev pub manifest_kind_text : ManifestKind → List ℕ

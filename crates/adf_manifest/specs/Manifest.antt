@@ -62,7 +62,7 @@ abbrev pub IsGivenLabel : List ℕ → Type 0
 IsGivenLabel label = (0 < length label) × IsSpelling 30 (escaped label) label
 
 -- what a head tells is within its limits
-pub record IsHead (h : Head) : Type 0 where
+pub record IsManifestHead (h : Head) : Type 0 where
   pub size : is_allowed h.blocks ≡ true
   pub label : IfSome h.label IsGivenLabel
   pub stamps : IfSome h.stamps AreStamps
@@ -104,7 +104,7 @@ manifest_tree m = items_tree (head_tree m.head) (items_of m.entries)
 
 -- what is told is within its limits, and each entry has room in the tree of those before it
 pub record IsWell (m : Manifest) : Type 0 where
-  pub head : IsHead m.head
+  pub head : IsManifestHead m.head
   pub items : All IsItem (items_of m.entries)
   pub room : HaveRoom (head_tree m.head) (items_of m.entries)
 
@@ -170,8 +170,8 @@ IsFirstFault text BadSize = (kind : Kind) × (n : ℕ) × (n < 2 ^ 32) × (text 
 IsFirstFault text _ = ⊥
 
 -- a text is that of a line that may stand behind the lines of a manifest
-abbrev pub MayFollow : Manifest → List ℕ → Type 0
-MayFollow m text = (line : LineValue) × IsLine line × MayStand m line × (text ≡ line_text line)
+abbrev pub MayStandNext : Manifest → List ℕ → Type 0
+MayStandNext m text = (line : LineValue) × IsLine line × MayStand m line × (text ≡ line_text line)
 
 -- a text is that of a line that may stand there, and has this fault
 abbrev pub HasFaultOf : Manifest → List ℕ → ManifestKind → Type 0
@@ -179,7 +179,7 @@ HasFaultOf m text kind = (line : LineValue) × IsLine line × MayStand m line ×
 
 -- the fault of a line behind those of a manifest
 abbrev pub IsLaterFault : Manifest → List ℕ → ManifestKind → Type 0
-IsLaterFault m text BadLine = ¬ MayFollow m text
+IsLaterFault m text BadLine = ¬ MayStandNext m text
 IsLaterFault m text BadText = HasFaultOf m text BadText
 IsLaterFault m text NoParent = HasFaultOf m text NoParent
 IsLaterFault m text ParentIsFile = HasFaultOf m text ParentIsFile

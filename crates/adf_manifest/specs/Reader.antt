@@ -3,7 +3,7 @@ use Rattle.std.specs.Prelude.{◌≡◌, ◌++◌, ◌∷◌, ℕ, List, [], Som
 use Rattle.adf_tree.specs.Draft.{IsRoomFor}
 use Rattle.adf_tree.specs.Tree.{Tree}
 use Rattle.adf_manifest.specs.Lines.{LineValue}
-use Rattle.adf_manifest.specs.Items.{Item, file_bytes, items_tree}
+use Rattle.adf_manifest.specs.Items.{Item, bytes_of_runs, items_tree}
 use Rattle.adf_manifest.specs.Manifest.{Entries, HasFault, IsFaultOf, IsLaterFault, IsWell, Manifest, MayStand, head_tree, manifest_lines, manifest_tree}
 use Rattle.adf_manifest.specs.declared.manifest.ManifestKind.{ManifestKind}
 use Rattle.adf_manifest.specs.declared.manifest.ManifestKind.TheVariants.{BadLine, NoMemory}
@@ -19,7 +19,7 @@ pub record IsOpen (o : Open) (i : Item) : Type 0 where
   pub stamp : o.stamp ≡ i.stamp
   pub protect : o.protect ≡ i.protect
   pub note : o.note ≡ i.note
-  pub bytes : o.bytes.items ≡ file_bytes i.runs
+  pub bytes : o.bytes.items ≡ bytes_of_runs i.runs
 
 -- behind an entry line: the tree of the entries before the last, and the last, which has room in it
 pub record IsReading (r : Reading) (m : Manifest) (e : Entries) : Type 0 where

@@ -5,8 +5,8 @@ use Rattle.adf_fields.specs.Dates.{plain_text}
 use Rattle.adf_tree.specs.declared.entry.Stamps.{Stamps}
 
 -- the byte does not stand in the text
-abbrev pub Lacks : ℕ → List ℕ → Type 0
-Lacks byte text = All (λ c. (c == byte) ≡ false) text
+abbrev pub LacksByte : ℕ → List ℕ → Type 0
+LacksByte byte text = All (λ c. (c == byte) ≡ false) text
 
 -- the text is not empty and begins with neither `+` nor a leading zero
 abbrev pub has_number_front : List ℕ → Bool

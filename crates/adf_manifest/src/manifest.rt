@@ -1,7 +1,7 @@
 // Manifests.
 
 ghost use Rattle.std.specs.Prelude.{◌≡◌, ◌≤◌, ◌++◌, ◌∷◌, IfOk, IfErr, length, option_map};
-ghost use Rattle.adf_manifest.specs.Kinds.{kind_number, manifest_kind_text};
+ghost use Rattle.adf_manifest.specs.Kinds.{manifest_kind_number, manifest_kind_text};
 ghost use Rattle.adf_manifest.specs.Manifest.{AddingLinesGivesTheTree, ExplainsFault, IsManifest, IsWell, LinesHaveOneFault, Manifest, ManifestsAreFaultless, ManifestsAreOfOneTree, manifest_lines, manifest_tree, most_bytes, between_feeds, lines_behind, without_last_feed};
 ghost use Rattle.adf_manifest.specs.Reader.{ExplainsLines, StateMatches, line_of_fault};
 
@@ -39,7 +39,7 @@ pub enum ManifestKind {
 impl ManifestKind {
     /// The number of the kind, 1 to 8.
     pub fn number(self) -> u8
-        ensures { result ≡ kind_number self }
+        ensures { result ≡ manifest_kind_number self }
     {
         self as u8
     }

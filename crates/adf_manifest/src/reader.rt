@@ -6,8 +6,8 @@ ghost use Rattle.adf_tree.specs.PathTexts.{IsPathText};
 ghost use Rattle.adf_tree.specs.Draft.{IsRoomFor};
 ghost use Rattle.adf_tree.specs.Bounds.{AreStamps};
 ghost use Rattle.adf_manifest.specs.Lines.{IsLine, IsRun, IsVolumeLine, LabelLine, NoteLine, RunLine, StampsLine, entry_value, label_line, line_text, line_value, run_value, stamps_line, volume_line};
-ghost use Rattle.adf_manifest.specs.Items.{Item, body_of, run_bytes, with_item};
-ghost use Rattle.adf_manifest.specs.Manifest.{Entries, HasBadText, IsFirstFault, IsHead, IsLaterFault, IsWell, Manifest, head_lines, head_tree, manifest_lines, manifest_tree};
+ghost use Rattle.adf_manifest.specs.Items.{Item, body_of_sort, run_bytes, with_item};
+ghost use Rattle.adf_manifest.specs.Manifest.{Entries, HasBadText, IsFirstFault, IsManifestHead, IsLaterFault, IsWell, Manifest, head_lines, head_tree, manifest_lines, manifest_tree};
 ghost use Rattle.adf_manifest.specs.Reader.{GoesOn, IsOpen, IsReading, StopsIn, Stops, StopsAt, StateMatches, bare};
 
 use crate::lines::{EntryText, Line, Run, Sort, line_of};
@@ -86,7 +86,7 @@ fn volume_of(line: &[u8]) -> Option<(Kind, u32)>
 
 // Reads the first line.
 fn read_volume(line: &[u8]) -> Result<Head, ManifestKind>
-    ensures head { IfOk result IsHead }
+    ensures head { IfOk result IsManifestHead }
     ensures lines { IfOk result (λ h. head_lines h ≡ line.now ∷ []) }
     ensures fault { IfErr result (λ kind. IsFirstFault line.now kind) }
 {
@@ -108,7 +108,7 @@ fn read_volume(line: &[u8]) -> Result<Head, ManifestKind>
 fn with_label(head: Head, text: &[u8]) -> Result<Head, ManifestKind>
     requires filled { 0 < length text.now }
     requires place { (head.label ≡ None) × (head.stamps ≡ None) }
-    ensures head { IsHead head → IfOk result IsHead }
+    ensures head { IsManifestHead head → IfOk result IsManifestHead }
     ensures lines { IfOk result (λ h. head_lines h ≡ head_lines head ++ label_line text.now ∷ []) }
     ensures fault { IfErr result (λ kind. (kind ≡ ManifestKind.BadText) × HasBadText (LabelLine text.now)) }
 {
@@ -127,7 +127,7 @@ fn with_label(head: Head, text: &[u8]) -> Result<Head, ManifestKind>
 fn with_stamps(head: Head, stamps: Stamps) -> Head
     requires numbers { AreStamps stamps }
     requires place { head.stamps ≡ None }
-    ensures head { IsHead head → IsHead result }
+    ensures head { IsManifestHead head → IsManifestHead result }
     ensures lines { head_lines result ≡ head_lines head ++ stamps_line stamps ∷ [] }
 {
     Head {
@@ -192,8 +192,8 @@ fn opened(alloc: Global, draft: &Draft, line: EntryText) -> Result<Open, Manifes
 }
 
 // The body of an entry with these bytes.
-fn body_of(sort: Sort, bytes: Vec<u8>) -> Body
-    ensures { result ≡ body_of sort bytes.items }
+fn body_of_sort(sort: Sort, bytes: Vec<u8>) -> Body
+    ensures { result ≡ body_of_sort sort bytes.items }
 {
     match sort {
         Sort::Dir => Body::Dir,
@@ -223,7 +223,7 @@ fn close(alloc: Global, draft: &mut Draft, last: &mut Open) -> Result<(), Manife
         stamp: last.stamp,
     };
     let bytes = mem::replace(&mut last.bytes, Vec::new(alloc));
-    let body = body_of(last.sort, bytes);
+    let body = body_of_sort(last.sort, bytes);
     match draft.put(&last.room, meta, body) {
         Ok(()) => Ok(()),
         Err(NoMemory) => Err(ManifestKind::NoMemory),

@@ -22,7 +22,7 @@ use Rattle.std.proofs.Math.Seq.{take-append_seam, take-suc}
 use Rattle.adf_fields.specs.Hash.{upper_of}
 use Rattle.adf_tree.specs.Texts.{uppers}
 use Rattle.adf_tree.specs.declared.name_key.NameKey.{NameKey}
-use Rattle.adf_tree.specs.NameKeys.{by_words, is_short, key_of, padded, word_in}
+use Rattle.adf_tree.specs.NameKeys.{by_words, is_short, key_of_name, padded, name_word}
 use Rattle.adf_tree.specs.NameSet.{has, is_among, IsWith, Names}
 
 upper_small : (c : ℕ) → c < 256 → nat_lt (upper_of c) 256 ≡ true
@@ -72,9 +72,9 @@ padded_long : (xs : List ℕ) → is_short xs ≡ true → length (padded xs) �
 padded_long xs h = omega (arith, few xs h, length-append xs (replicate (31 - length xs) 0), length-replicate {A = ℕ} (31 - length xs) 0)
 
 -- 8 bytes have one number
-bytes_of_word : (p : List ℕ) (i : ℕ) → AreBytes p → length p ≡ 32 → i ≤ 24 → to_be_bytes w64 (word_in p i) ≡ take 8 (drop i p)
+bytes_of_word : (p : List ℕ) (i : ℕ) → AreBytes p → length p ≡ 32 → i ≤ 24 → to_be_bytes w64 (name_word p i) ≡ take 8 (drop i p)
 bytes_of_word p i bytes long le =
-    be_bytes_8 (take 8 (drop i p)) (word_in p i) (length-take-le 8 (drop i p) (omega (arith, length-drop i p)))
+    be_bytes_8 (take 8 (drop i p)) (name_word p i) (length-take-le 8 (drop i p) (omega (arith, length-drop i p)))
     (λ k. elim (cases_lt k (length (take 8 (drop i p)))) [
       | inl lt ↦ All-take (λ c. c < 256) 8 (drop i p) (All-drop (λ c. c < 256) i p bytes) k 0 lt
       | inr past ↦ rw (get_or-eq_default (take 8 (drop i p)) 0 past) (omega arith)
@@ -93,10 +93,10 @@ in_parts t long =
     )
 
 -- a name has one key, and a key is of one name
-same_text : (p q : List ℕ) → AreBytes p → AreBytes q → length p ≡ 32 → length q ≡ 32 → word_in p 0 ≡ word_in q 0 → word_in p 8 ≡ word_in q 8
-    → word_in p 16 ≡ word_in q 16 → word_in p 24 ≡ word_in q 24 → p ≡ q
+same_text : (p q : List ℕ) → AreBytes p → AreBytes q → length p ≡ 32 → length q ≡ 32 → name_word p 0 ≡ name_word q 0 → name_word p 8 ≡ name_word q 8
+    → name_word p 16 ≡ name_word q 16 → name_word p 24 ≡ name_word q 24 → p ≡ q
 same_text p q bp bq lp lq a b c d =
-    let part : (i : ℕ) → i ≤ 24 → word_in p i ≡ word_in q i → take 8 (drop i p) ≡ take 8 (drop i q) =
+    let part : (i : ℕ) → i ≤ 24 → name_word p i ≡ name_word q i → take 8 (drop i p) ≡ take 8 (drop i q) =
     λ i le h. sym (bytes_of_word p i bp lp le) ∙ (ap (to_be_bytes w64) h ∙ bytes_of_word q i bq lq le) in
     sym (in_parts p lp) ∙ rw (part 0 (omega arith) a, part 8 (omega arith) b, part 16 (omega arith) c, part 24 (omega arith) d) (in_parts q lq)
 
@@ -129,15 +129,15 @@ equal_words a b h =
     let u = and_parts (a.third == b.third) (a.fourth == b.fourth) t.1 in
     (eqb-true a.first b.first s.0, eqb-true a.second b.second t.0, eqb-true a.third b.third u.0, eqb-true a.fourth b.fourth u.1)
 
-one_name : (x y : List ℕ) → is_short x ≡ true → is_short y ≡ true → is_eq (by_words (key_of x) (key_of y)) ≡ true → x ≡ y
+one_name : (x y : List ℕ) → is_short x ≡ true → is_short y ≡ true → is_eq (by_words (key_of_name x) (key_of_name y)) ≡ true → x ≡ y
 one_name x y sx sy h =
-    let w = equal_words (key_of x) (key_of y) h in
+    let w = equal_words (key_of_name x) (key_of_name y) h in
     unpadded x y (same_text (padded x) (padded y) (padded_bytes x sx) (padded_bytes y sy) (padded_long x sx) (padded_long y sy) w.0 w.1 w.2 w.3)
 
-pub same_names : (x y : List ℕ) → is_short x ≡ true → is_short y ≡ true → is_eq (by_words (key_of x) (key_of y)) ≡ bytes_eq x y
+pub same_names : (x y : List ℕ) → is_short x ≡ true → is_short y ≡ true → is_eq (by_words (key_of_name x) (key_of_name y)) ≡ bytes_eq x y
 same_names x y sx sy =
-    both_ways (is_eq (by_words (key_of x) (key_of y))) (bytes_eq x y) (λ t. (bytes_eq-Decides x y).1 (one_name x y sx sy t))
-    (λ t. rw ((bytes_eq-Decides x y).0 t) (same_itself (key_of y)))
+    both_ways (is_eq (by_words (key_of_name x) (key_of_name y))) (bytes_eq x y) (λ t. (bytes_eq-Decides x y).1 (one_name x y sx sy t))
+    (λ t. rw ((bytes_eq-Decides x y).0 t) (same_itself (key_of_name y)))
 
 -- a name is no text that is none
 pub not_short : (x y : List ℕ) → is_short x ≡ true → is_short y ≡ false → bytes_eq x y ≡ false
@@ -145,16 +145,16 @@ not_short x y sx ny =
     false_from_ne_true (bytes_eq x y) (λ t. let clash : true ≡ false = sym sx ∙ (ap is_short ((bytes_eq-Decides x y).0 t) ∙ ny) in cc)
 
 -- a name in a set
-pub has_key : (names : Names) (bytes : List ℕ) → is_short bytes ≡ true → has names bytes ≡ is_among names (key_of bytes)
+pub has_key : (names : Names) (bytes : List ℕ) → is_short bytes ≡ true → has names bytes ≡ is_among names (key_of_name bytes)
 unfolding has
 has_key names bytes short = rw short
 
 -- a set with one name more
-pub has_more : (old new : Names) (bytes x : List ℕ) → is_short bytes ≡ true → IsWith old new (key_of bytes) → has new x ≡ (bytes_eq bytes x || has old x)
+pub has_more : (old new : Names) (bytes x : List ℕ) → is_short bytes ≡ true → IsWith old new (key_of_name bytes) → has new x ≡ (bytes_eq bytes x || has old x)
 unfolding has
 has_more old new bytes x short more =
     elim (cases_Bool (is_short x)) [
-      | inl t ↦ rw (t, more (key_of x), same_names bytes x short t)
+      | inl t ↦ rw (t, more (key_of_name x), same_names bytes x short t)
       | inr f ↦ rw (f, not_short bytes x short f)
     ]
 

@@ -9,7 +9,7 @@ use Rattle.std.proofs.lemmas.List.Elements.{filter-append, filter_passes, All-fi
 use Rattle.adf_tree.specs.declared.entry.Entry.{Entry}
 use Rattle.adf_fields.specs.Hash.{slot_of}
 use Rattle.adf_tree.specs.Chain.{chain, in_chain}
-use Rattle.adf_tree.specs.Paths.{content, path_in, path_of, Content}
+use Rattle.adf_tree.specs.Paths.{entry_content, path_in, path_of, Content}
 use Rattle.adf_tree.specs.Tree.{rank, rank_of, IsTree}
 use Rattle.adf_tree.specs.Additions.{Addition, IsTreeOf}
 use Rattle.adf_tree.proofs.TreeInvariant.{slot_small}
@@ -34,23 +34,23 @@ path_in_front front rest d (suc f) (suc m) t le =
     ∙ sym (ap (path_past front f) (entry_at front n d (omega arith) le)))
 
 -- an entry is what it has and where
-rebuilt : (e f : Entry) → e.parent ≡ f.parent → content e ≡ content f → e ≡ f
+rebuilt : (e f : Entry) → e.parent ≡ f.parent → entry_content e ≡ entry_content f → e ≡ f
 rebuilt e f p c =
     let make : ℕ → Content → Entry = λ q x. record { parent = q; name = x.name; meta = x.meta; body = x.body } in
-    ap (λ q. make q (content e)) p ∙ ap (make f.parent) c
+    ap (λ q. make q (entry_content e)) p ∙ ap (make f.parent) c
 
 -- what is known of the first entry of a list, where a chain's first one is known
 pub record IsFirst (y : Entry) (p s : ℕ) (c : Content) : Type 0 where
   pub early : rank y ≤ rank_of p s
-  pub same : in_chain p s y ≡ true → content y ≡ c
+  pub same : in_chain p s y ≡ true → entry_content y ≡ c
 
 early_one : (y : Entry) (p s : ℕ) (l : List Entry) (c : Content) (cs : List Content) → All (λ w. rank y ≤ rank w) l → All (λ w. in_chain p s w ≡ true) l
-    → c ∷ cs ≡ map content l → rank y ≤ rank_of p s
+    → c ∷ cs ≡ map entry_content l → rank y ≤ rank_of p s
 early_one y p s [] c cs later in_it h = cc
 early_one y p s (w ∷ ws) c cs later in_it h = omega (arith, chain_rank p s w (in_it 0 w (omega arith)), later 0 w (omega arith))
 
 first_in : (y : Entry) (ys : List Entry) (p s : ℕ) (c : Content) (cs : List Content) → IsNonDecreasingBy rank (y ∷ ys)
-    → c ∷ cs ≡ map content (filter (in_chain p s) (y ∷ ys)) → IsFirst y p s c
+    → c ∷ cs ≡ map entry_content (filter (in_chain p s) (y ∷ ys)) → IsFirst y p s c
 first_in y ys p s c cs up h =
     let q : Entry → Bool = in_chain p s in
     elim (cases_Bool (in_chain p s y)) [
@@ -72,7 +72,8 @@ back_sorted front back up =
 
 -- the chain of the next entry has the same contents in both trees
 same_chain : (front r other : List Entry) (e : Entry) (a : List Addition) → IsTreeOf (front ++ e ∷ r) a → IsTreeOf (front ++ other) a
-    → content e ∷ map content (filter (in_chain e.parent (slot_of e.name)) r) ≡ map content (filter (in_chain e.parent (slot_of e.name)) other)
+    → entry_content e ∷ map entry_content (filter (in_chain e.parent (slot_of e.name)) r)
+    ≡ map entry_content (filter (in_chain e.parent (slot_of e.name)) other)
 same_chain front r other e a t u =
     let es : List Entry = front ++ e ∷ r in
     let os : List Entry = front ++ other in
@@ -84,19 +85,19 @@ same_chain front r other e a t u =
     let early : e.parent ≤ length front = rw (get_or_at front e r e (length front) refl) at (t.tree.parents (length front) e (omega arith)) in
     let dir : path_of os p ≡ path_of es p = path_in_front front other e p p u.tree early ∙ sym (path_in_front front (e ∷ r) e p p t.tree early) in
     let leads_too = rw dir at (path_found os p u.tree (omega arith)) in
-    let both : map content (chain es p s) ≡ map content (chain os p s) =
+    let both : map entry_content (chain es p s) ≡ map entry_content (chain os p s) =
     t.chains (path_of es p) p s (path_found es p t.tree (omega arith)) ∙ sym (u.chains (path_of es p) p s leads_too) in
-    let split : (back : List Entry) → map content (chain (front ++ back) p s) ≡ map content (filter q front) ++ map content (filter q back) =
-    λ back. ap (map content) (filter-append q front back) ∙ map-append content (filter q front) (filter q back) in
+    let split : (back : List Entry) → map entry_content (chain (front ++ back) p s) ≡ map entry_content (filter q front) ++ map entry_content (filter q back) =
+    λ back. ap (map entry_content) (filter-append q front back) ∙ map-append entry_content (filter q front) (filter q back) in
     let mine : filter q (e ∷ r) ≡ e ∷ filter q r = ap (λ b. cond b (e ∷ filter q r) (filter q r)) (in_chain_from p s e refl refl) in
-    ap (map content) (sym mine)
-    ∙ append_cancel_left (map content (filter q front)) (map content (filter q (e ∷ r))) (map content (filter q other))
+    ap (map entry_content) (sym mine)
+    ∙ append_cancel_left (map entry_content (filter q front)) (map entry_content (filter q (e ∷ r))) (map entry_content (filter q other))
     (sym (split (e ∷ r)) ∙ (both ∙ split other))
 
 next_is : (front r ys : List Entry) (e y : Entry) (a : List Addition) → IsTreeOf (front ++ e ∷ r) a → IsTreeOf (front ++ y ∷ ys) a
-    → IsFirst y e.parent (slot_of e.name) (content e)
+    → IsFirst y e.parent (slot_of e.name) (entry_content e)
 next_is front r ys e y a t u =
-    first_in y ys e.parent (slot_of e.name) (content e) (map content (filter (in_chain e.parent (slot_of e.name)) r))
+    first_in y ys e.parent (slot_of e.name) (entry_content e) (map entry_content (filter (in_chain e.parent (slot_of e.name)) r))
     (back_sorted front (y ∷ ys) u.tree.order) (same_chain front r (y ∷ ys) e a t u)
 
 -- so the next entries are one
@@ -112,7 +113,7 @@ next_same front r ys e y a t u =
 
 none_left : (front r : List Entry) (e : Entry) (a : List Addition) → IsTreeOf (front ++ e ∷ r) a → IsTreeOf (front ++ []) a → ⊥
 none_left front r e a t u =
-    let h : content e ∷ map content (filter (in_chain e.parent (slot_of e.name)) r) ≡ [] = same_chain front r [] e a t u in
+    let h : entry_content e ∷ map entry_content (filter (in_chain e.parent (slot_of e.name)) r) ≡ [] = same_chain front r [] e a t u in
     cc
 
 same_rest : (front r s : List Entry) (a : List Addition) → IsTreeOf (front ++ r) a → IsTreeOf (front ++ s) a → r ≡ s

@@ -8,7 +8,7 @@ use Rattle.std.proofs.lemmas.Bool.{cases_eq, ne_eqb, cases_lt}
 use Rattle.std.proofs.lemmas.List.{append-nil, append_assoc, map-append}
 use Rattle.adf_tree.specs.declared.entry.Entry.{Entry}
 use Rattle.adf_tree.specs.Texts.{uppers}
-use Rattle.adf_tree.specs.Paths.{content, content_at, path_in, path_of, AddsOne, names_in}
+use Rattle.adf_tree.specs.Paths.{entry_content, content_at, path_in, path_of, AddsOne, names_in}
 use Rattle.adf_tree.specs.Tree.{place, rank, moved, added, entry, child, find, find_from, IsTree, MayAdd, directory_from, room_at, new_entry, parents_of}
 use Rattle.adf_tree.proofs.TreeInvariant.{moved_below, moved_above, moved_up, moved_near, length_added, at_place, place_le, new_get}
 use Rattle.adf_tree.proofs.ChildLookup.{child_new, found_is, child_says, parent_stays}
@@ -116,7 +116,7 @@ entry_none : (es : List Entry) (n : ℕ) → length es < n → entry es n ≡ No
 entry_none es n h = rw (ne_eqb n 0 (omega arith)) (slice_get_past es (n - 1) (omega arith))
 
 same_content : (es : List Entry) (e : Entry) (m : ℕ) → IsTree es
-    → option_map content (entry (added es e) (moved (place es (rank e) + 1) m)) ≡ option_map content (entry es m)
+    → option_map entry_content (entry (added es e) (moved (place es (rank e) + 1) m)) ≡ option_map entry_content (entry es m)
 same_content es e m t =
     let n : ℕ = place es (rank e) + 1 in
     let long = length_added es e t in
@@ -151,7 +151,7 @@ module _ {es : List Entry} {e : Entry} (parents q : List (List ℕ)) (t : IsTree
       rw (find_uppers (added es e) 0 q (parents ++ e.name ∷ []) same, find_snoc (added es e) 0 e.parent parents e.name there, child_new es e e.name t may refl)
       refl
 
-  content_new : map uppers q ≡ map uppers (parents ++ e.name ∷ []) → content_at (added es e) q ≡ Some (content e)
+  content_new : map uppers q ≡ map uppers (parents ++ e.name ∷ []) → content_at (added es e) q ≡ Some (entry_content e)
   content_new same =
       let n : ℕ = place es (rank e) + 1 in
       let at : n - 1 ≡ place es (rank e) = omega arith in
@@ -165,8 +165,8 @@ module _ {es : List Entry} {e : Entry} (parents q : List (List ℕ)) (t : IsTree
         | inl h ↦
             let leads_on = rw (moved_below n 0 (omega arith)) at h in
             rw leads_on
-            (elim (find es q) as (λ o. option_and_then (λ m. option_map content (entry (added es e) m)) (option_map (moved n) o)
-            ≡ option_and_then (λ m. option_map content (entry es m)) o) [ None ↦ refl | Some m ↦ same_content es e m t ])
+            (elim (find es q) as (λ o. option_and_then (λ m. option_map entry_content (entry (added es e) m)) (option_map (moved n) o)
+            ≡ option_and_then (λ m. option_map entry_content (entry es m)) o) [ None ↦ refl | Some m ↦ same_content es e m t ])
         | inr g ↦
             absurd (other (ap (map uppers) g.is
             ∙ rw (

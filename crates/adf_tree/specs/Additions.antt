@@ -10,7 +10,7 @@ use Rattle.adf_tree.specs.declared.entry.Meta.{Meta}
 use Rattle.adf_tree.specs.declared.entry.Body.{Body}
 use Rattle.adf_tree.specs.Tree.{added, find, last_of, new_entry, parents_of, room_for, IsTree}
 use Rattle.adf_tree.specs.Chain.{chain}
-use Rattle.adf_tree.specs.Paths.{content, content_at, Content}
+use Rattle.adf_tree.specs.Paths.{entry_content, content_at, Content}
 
 -- a new path, and what it gets
 pub record Addition : Type 0 where
@@ -35,16 +35,17 @@ pub record IsTreeOf (es : List Entry) (additions : List Addition) : Type 0 where
   pub tree : IsTree es
   pub there : All (λ x. content_at es x.path ≡ Some (content_of x)) additions
   pub others : (q : List (List ℕ)) → All (λ x. map uppers q ≢ map uppers x.path) additions → content_at es q ≡ None
-  pub chains : (dir : List (List ℕ)) (p s : ℕ) → find es dir ≡ Some p → map content (chain es p s) ≡ map content_of (filter (comes_into dir s) additions)
+  pub chains : (dir : List (List ℕ)) (p s : ℕ) → find es dir ≡ Some p → map entry_content (chain es p s) ≡ map content_of (filter (comes_into dir s) additions)
 
 -- the entries with an addition more, as `add` leaves them
 abbrev pub with_addition : List Entry → Addition → List Entry
 with_addition es x = added es (new_entry es x.path x.meta x.body)
 
 -- the entries that `add` leaves, one addition after another
-abbrev pub built : List Addition → List Entry
-built additions = fold with_addition [] additions
+abbrev pub entries_of_additions : List Addition → List Entry
+entries_of_additions additions = fold with_addition [] additions
 
 -- each addition has room in the tree of those before it
 abbrev pub AllHaveRoom : List Addition → Type 0
-AllHaveRoom additions = (i : ℕ) (d : Addition) → i < length additions → IsOk (room_for (built (take i additions)) (slice_index_or additions i d).path)
+AllHaveRoom additions = (i : ℕ) (d : Addition) → i < length additions
+    → IsOk (room_for (entries_of_additions (take i additions)) (slice_index_or additions i d).path)

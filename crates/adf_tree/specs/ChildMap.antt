@@ -6,7 +6,7 @@ use Rattle.std.specs.declared.cmp.Ordering.{Ordering}
 use Rattle.std.specs.Str.{bytes_eq}
 use Rattle.std.specs.BTreeMap.{BTreeMap, get}
 use Rattle.adf_tree.specs.declared.child_map.ChildKey.{ChildKey}
-use Rattle.adf_tree.specs.NameKeys.{by_words, is_short, key_of}
+use Rattle.adf_tree.specs.NameKeys.{by_words, is_short, key_of_name}
 
 -- numbers by parents and names in upper case, in buckets
 abbrev pub Numbers : Type 0
@@ -14,7 +14,7 @@ Numbers = List (BTreeMap ChildKey ℕ)
 
 -- the key of a parent and a name
 abbrev pub child_key : ℕ → List ℕ → ChildKey
-child_key parent name = record { name = key_of name; parent = parent }
+child_key parent name = record { name = key_of_name name; parent = parent }
 
 -- the order of names, and of one name of the parents
 abbrev pub by_child : ChildKey → ChildKey → Ordering

@@ -6,7 +6,7 @@ use Rattle.adf_tree.specs.declared.entry.Entry.{Entry}
 use Rattle.adf_tree.specs.Tree.{added, child, entry, find, room_for, IsLast, IsTree, MayAdd}
 use Rattle.adf_tree.specs.Chain.{chain}
 use Rattle.adf_tree.specs.Paths.{names_of, path_of}
-use Rattle.adf_tree.specs.Additions.{built, with_addition, Addition, AllHaveRoom, IsTreeOf}
+use Rattle.adf_tree.specs.Additions.{entries_of_additions, with_addition, Addition, AllHaveRoom, IsTreeOf}
 
 -- an entry is in the chain of its parent and its name's slot, and in no other
 abbrev pub IsIn : List Entry → ℕ → ℕ → Entry → Type 0
@@ -45,7 +45,7 @@ abbrev pub NamesAreFound : Type 0
 NamesAreFound = (es : List Entry) (n : ℕ) → IsTree es → n ≤ length es → find es (names_of es n) ≡ Some n
 
 -- the first entries of a tree are a tree, and the next one may be added to it, last, which gives the first entries and that one
-pub record IsNext (es : List Entry) (n : ℕ) (e : Entry) : Type 0 where
+pub record IsNextEntry (es : List Entry) (n : ℕ) (e : Entry) : Type 0 where
   pub tree : IsTree (take n es)
   pub may : MayAdd (take n es) e
   pub last : IsLast (take n es) e
@@ -53,7 +53,7 @@ pub record IsNext (es : List Entry) (n : ℕ) (e : Entry) : Type 0 where
 
 -- in a tree each entry is one that may come next behind those before it
 abbrev pub TreesGrowInOrder : Type 0
-TreesGrowInOrder = (es : List Entry) (n : ℕ) (d : Entry) → IsTree es → n < length es → IsNext es n (slice_index_or es n d)
+TreesGrowInOrder = (es : List Entry) (n : ℕ) (d : Entry) → IsTree es → n < length es → IsNextEntry es n (slice_index_or es n d)
 
 -- additions have at most one tree
 abbrev pub AdditionsHaveOneTree : Type 0
@@ -66,4 +66,4 @@ AddingGrowsTheTree = (es : List Entry) (additions : List Addition) (x : Addition
 
 -- so additions that all have room have the tree that `add` makes of them
 abbrev pub AdditionsAreBuilt : Type 0
-AdditionsAreBuilt = (additions : List Addition) → AllHaveRoom additions → IsTreeOf (built additions) additions
+AdditionsAreBuilt = (additions : List Addition) → AllHaveRoom additions → IsTreeOf (entries_of_additions additions) additions

@@ -16,16 +16,16 @@ abbrev pub padded : List ℕ → List ℕ
 padded bytes = length bytes ∷ (bytes ++ replicate (31 - length bytes) 0)
 
 -- the number that the 8 bytes from a place on are
-abbrev pub word_in : List ℕ → ℕ → ℕ
-word_in text from = from_be_bytes w64 (take 8 (drop from text))
+abbrev pub name_word : List ℕ → ℕ → ℕ
+name_word text from = from_be_bytes w64 (take 8 (drop from text))
 
 -- the key of a text
 abbrev pub key_in : List ℕ → NameKey
-key_in text = record { first = word_in text 0; second = word_in text 8; third = word_in text 16; fourth = word_in text 24 }
+key_in text = record { first = name_word text 0; second = name_word text 8; third = name_word text 16; fourth = name_word text 24 }
 
 -- the key of a name
-abbrev pub key_of : List ℕ → NameKey
-key_of bytes = key_in (padded bytes)
+abbrev pub key_of_name : List ℕ → NameKey
+key_of_name bytes = key_in (padded bytes)
 
 -- keys in the order of their numbers
 abbrev pub by_words : NameKey → NameKey → Ordering

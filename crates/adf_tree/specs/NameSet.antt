@@ -4,7 +4,7 @@ use Rattle.std.specs.List.{list_any}
 use Rattle.std.specs.Ordering.{is_eq}
 use Rattle.std.specs.Str.{bytes_eq}
 use Rattle.adf_tree.specs.declared.name_key.NameKey.{NameKey}
-use Rattle.adf_tree.specs.NameKeys.{by_words, is_short, key_of}
+use Rattle.adf_tree.specs.NameKeys.{by_words, is_short, key_of_name}
 
 -- names as numbers
 abbrev pub Names : Type 0
@@ -16,7 +16,7 @@ is_among names k = list_any (λ n. is_eq (by_words k n)) names
 
 -- whether the set has these bytes
 unfoldable pub has : Names → List ℕ → Bool
-has names bytes = is_short bytes && is_among names (key_of bytes)
+has names bytes = is_short bytes && is_among names (key_of_name bytes)
 
 -- the new set has what the old one has, and these bytes
 abbrev pub HasMore : Names → Names → List ℕ → Type 0

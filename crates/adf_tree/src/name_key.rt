@@ -2,7 +2,7 @@
 
 ghost use Rattle.std.specs.Prelude.{◌≡◌, ◌≤◌, ◌+◌, length, true};
 ghost use Rattle.adf_tree.specs.Texts.{uppers};
-ghost use Rattle.adf_tree.specs.NameKeys.{is_short, key_of, padded, spread_of, stirred, word_in};
+ghost use Rattle.adf_tree.specs.NameKeys.{is_short, key_of_name, padded, spread_of, stirred, name_word};
 
 use crate::name::Name;
 use adf_fields::upper;
@@ -42,9 +42,9 @@ fn padded(name: &[u8]) -> [u8; 32]
 }
 
 // The number that the 8 bytes from a place on are.
-fn word_in(text: &[u8; 32], from: usize) -> u64
+fn name_word(text: &[u8; 32], from: usize) -> u64
     requires { from + 8 ≤ 32 }
-    ensures { result ≡ word_in text.now from }
+    ensures { result ≡ name_word text.now from }
 {
     let bytes: [u8; 8] = text[from..from + 8].try_into().unwrap();
     u64::from_be_bytes(bytes)
@@ -53,15 +53,15 @@ fn word_in(text: &[u8; 32], from: usize) -> u64
 impl NameKey {
     /// The key of a name.
     pub fn of(name: &Name) -> NameKey
-        ensures key { result ≡ key_of (uppers name.now) }
+        ensures key { result ≡ key_of_name (uppers name.now) }
         ensures short { is_short (uppers name.now) ≡ true }
     {
         let text = padded(name.bytes());
         NameKey {
-            first: word_in(&text, 0),
-            second: word_in(&text, 8),
-            third: word_in(&text, 16),
-            fourth: word_in(&text, 24),
+            first: name_word(&text, 0),
+            second: name_word(&text, 8),
+            third: name_word(&text, 16),
+            fourth: name_word(&text, 24),
         }
     }
 

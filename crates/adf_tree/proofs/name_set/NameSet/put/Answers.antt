@@ -1,7 +1,7 @@
 use Rattle.std.proofs.Common.{◌≡◌, ◌++◌, sym, Result, Ok, Err}
 use Rattle.std.specs.Prelude.{OnOk}
 use Rattle.adf_tree.specs.Texts.{uppers}
-use Rattle.adf_tree.specs.NameKeys.{key_of}
+use Rattle.adf_tree.specs.NameKeys.{key_of_name}
 use Rattle.adf_tree.specs.NameSet.{has, is_among, IsWith}
 use Rattle.adf_tree.proofs.NameKeys.{has_key, has_more}
 use Rattle.adf_tree.proofs.name_set.NameSet.put.Goals as goal
@@ -25,6 +25,6 @@ returns-clause-more c =
     let before = c.make_room.new.names.items ++ c.make_room.new.rest.keys in
     let new = c.place.new.names.items ++ c.place.new.rest.keys in
     let bytes = uppers c.args.name.now in
-    let with : IsWith before new c.of-key.result → IsWith old new (key_of bytes) =
+    let with : IsWith before new c.of-key.result → IsWith old new (key_of_name bytes) =
     λ more k. rw (more k, c.in_ok-make_room.ensures.same k, c.self.view_is, c.of-key.ensures.key) in
     ok_more c.place.result (λ more x. has_more old new bytes x c.of-key.ensures.short (with more)) c.place.ensures.more
