@@ -1,5 +1,5 @@
 -- The tables of a volume: what stands at each place.
-use Rattle.std.specs.Prelude.{◌≡◌, ◌+◌, ◌^◌, ◌≤◌, ◌<◌, ℕ, List, [], ◌∷◌, ◌++◌, Option, Some, None, IsSome, IfSome, length, take}
+use Rattle.std.specs.Prelude.{◌≡◌, ◌+◌, ◌^◌, ◌≤◌, ◌<◌, ℕ, List, [], ◌∷◌, ◌++◌, Option, Some, None, IsSome, IfSome, length, option_map, take}
 use Rattle.std.proofs.Common.{zero, suc, refl, sym, ap, subst, ◌∙◌, arith, append_assoc, length-append, take_all}
 use Rattle.std.proofs.Math.Seq.{take-nil}
 use Rattle.std.proofs.lemmas.List.{append-nil, length-take-le, take_more}
@@ -11,7 +11,7 @@ use Rattle.adf_volume.specs.Layout.{EntryAt, Layout, Place, datas_at, datas_of, 
 use Rattle.adf_volume.specs.Lists.{At, numbered}
 use Rattle.adf_volume.proofs.Chains.{entry_is_at, entry_some}
 use Rattle.adf_volume.proofs.Lists.{at_below, at_index_or, at_some}
-use Rattle.adf_check.specs.Rows.{EntryMatches, RowMatches}
+use Rattle.adf_check.specs.Rows.{row_of_entry}
 use Rattle.adf_check.specs.Volumes.{counts_of}
 use Rattle.adf_check.specs.declared.checked.Counts.{Counts}
 use Rattle.adf_check.specs.declared.row.Row.{Row}
@@ -105,17 +105,17 @@ pub entry_there : (t : Tree) (n : ℕ) → 0 < n → n ≤ length t.entries → 
 entry_there t n some le = let x = entry_some t n (omega arith) le in (x.0, (entry_is_at t n x.0).0 x.1)
 
 -- an entry has a row
-row_some : (r : Option Row) (e : Entry) → RowMatches r (Some e) → IsSome r
-row_some None e h = absurd h
+row_some : (r : Option Row) (e : Entry) → r ≡ Some (row_of_entry e) → IsSome r
+row_some None e h = cc
 row_some (Some r) e h = refl
 
 -- each number of an entry has a row
-pub row_there : (r : Option Row) (t : Tree) (n : ℕ) → 0 < n → n ≤ length t.entries → RowMatches r (entry t.entries n) → IsSome r
-row_there r t n some le h = let x = entry_there t n some le in row_some r x.0 (subst (RowMatches r) x.1 h)
+pub row_there : (r : Option Row) (t : Tree) (n : ℕ) → 0 < n → n ≤ length t.entries → r ≡ option_map row_of_entry (entry t.entries n) → IsSome r
+row_there r t n some le h = let x = entry_there t n some le in row_some r x.0 (h ∙ ap (option_map row_of_entry) x.1)
 
 -- the row of an entry
-pub row_matches : (got : Option Row) (r : Row) (x : Option Entry) (e : Entry) → got ≡ Some r → x ≡ Some e → RowMatches got x → EntryMatches r e
-row_matches got r x e is at h = subst (RowMatches (Some r)) at (subst (λ g. RowMatches g x) is h)
+pub row_matches : (got : Option Row) (r : Row) (x : Option Entry) (e : Entry) → got ≡ Some r → x ≡ Some e → got ≡ option_map row_of_entry x → r ≡ row_of_entry e
+row_matches got r x e is at h = let same : Some r ≡ Some (row_of_entry e) = sym is ∙ h ∙ ap (option_map row_of_entry) at in cc
 
 -- its directory has a number below its own
 parent_below : (t : Tree) (n : ℕ) (e : Entry) → IsTree t.entries → EntryAt t n e → e.parent < n
@@ -127,11 +127,12 @@ parent_below t (suc i) e tree at =
 
 -- and fits a word
 pub parent_small : (got : Option Row) (r : Row) (image : List ℕ) (t : Tree) (l : Layout) (n : ℕ) → got ≡ Some r → Fits image t l
-    → length (owned image l) < 2 ^ 32 → 0 < n → n ≤ length t.entries → RowMatches got (entry t.entries n) → r.parent < 2 ^ 32
+    → length (owned image l) < 2 ^ 32 → 0 < n → n ≤ length t.entries → got ≡ option_map row_of_entry (entry t.entries n)
+    → r.parent < 2 ^ 32
 parent_small got r image t l n is fits few some le h =
     let x = entry_some t n (omega arith) le in
     let e : entry t.entries n ≡ Some x.0 = (entry_is_at t n x.0).0 x.1 in
-    omega (arith, (row_matches got r (entry t.entries n) x.0 is e h).parent, parent_below t n x.0 fits.tree x.1, tables_small image l, fits.places)
+    omega (arith, ap (λ (y : Row). y.parent) (row_matches got r (entry t.entries n) x.0 is e h), parent_below t n x.0 fits.tree x.1, tables_small image l, fits.places)
 
 -- the block that is told
 pub block_told : (got : Option ℕ) (b h : ℕ) → got ≡ Some b → IfSome got (λ c. c ≡ h) → b ≡ h

@@ -5,7 +5,7 @@ ghost use Rattle.adf_tree.specs.declared.entry.Body.{Body};
 ghost use Rattle.adf_tree.specs.declared.entry.Entry.{Entry};
 ghost use Rattle.adf_tree.specs.Tree.{Tree, entry};
 ghost use Rattle.adf_volume.specs.Layout.{Layout, at_node, owned};
-ghost use Rattle.adf_check.specs.Rows.{BodyMatches, EntryMatches};
+ghost use Rattle.adf_check.specs.Rows.{row_of_body, row_of_entry};
 ghost use Rattle.adf_check.specs.Volumes.{StandsFor, counts_of};
 ghost use Rattle.adf_c.specs.Rooms.{filled};
 ghost use Rattle.adf_c.specs.Tables.{block_table, bytes_in, contents_of, date_of, entry_table, field};
@@ -103,7 +103,7 @@ fn field<const N: usize>(text: &[u8]) -> [u8; N]
 
 // 1 for a file, 0 for a directory.
 fn file_number(body: RowBody) -> u8
-    ensures { (b : Body) → BodyMatches body b → result ≡ file_number b }
+    ensures { (b : Body) → body ≡ row_of_body b → result ≡ file_number b }
 {
     match body {
         RowBody::Dir => 0,
@@ -113,7 +113,7 @@ fn file_number(body: RowBody) -> u8
 
 // The bytes of a file; 0 of a directory.
 fn size_of(body: RowBody) -> u32
-    ensures { (b : Body) → BodyMatches body b → result ≡ length (bytes_in b) }
+    ensures { (b : Body) → body ≡ row_of_body b → result ≡ length (bytes_in b) }
 {
     match body {
         RowBody::Dir => 0,
@@ -124,7 +124,7 @@ fn size_of(body: RowBody) -> u32
 // The entry of a row, whose header is at a block, and before whose data blocks there are so many others.
 fn entry_of(row: &Row, header: u32, first: u32) -> TableEntry
     requires { row.now.parent < 2 ^ 32 }
-    ensures { (e : Entry) → EntryMatches row.now e → result ≡ table_entry header first e }
+    ensures { (e : Entry) → row.now ≡ row_of_entry e → result ≡ table_entry header first e }
 {
     let name = row.name.bytes();
     let comment = row.meta.comment.bytes();

@@ -1,9 +1,9 @@
 -- A row tells what the tree has of its entry.
-use Rattle.std.proofs.Common.{true, false, ◌≡◌, ℕ, suc, List, ◌<◌, length, sym, ap, subst, ◌∙◌, arith, rules, Some}
-use Rattle.std.specs.Prelude.{nat_le, slice_index, ◌==◌}
+use Rattle.std.proofs.Common.{Bool, true, false, if◌then◌else◌, ◌≡◌, ℕ, suc, List, ◌<◌, length, refl, sym, ap, subst, ◌∙◌, arith, rules, Some}
+use Rattle.std.specs.Prelude.{nat_le, option_map, slice_index, ◌==◌}
 use Rattle.std.proofs.lemmas.Bool.{and_parts}
 use Rattle.std.proofs.lemmas.Bool.Decides.{nat_tests}
-use Rattle.adf_blocks.specs.declared.layout.TheConstants.{COMMENT, NAME, SECONDARY_TYPE, ST_DIR}
+use Rattle.adf_blocks.specs.declared.layout.TheConstants.{COMMENT, EXTENSION, NAME, SECONDARY_TYPE, SIZE, ST_DIR}
 use Rattle.adf_blocks.specs.declared.cause.Cause.TheVariants.{BadComment, BadName}
 use Rattle.adf_fields.specs.Words.{block}
 use Rattle.adf_tree.specs.Texts.{is_name}
@@ -13,6 +13,7 @@ use Rattle.adf_tree.specs.declared.entry.Kind.{Kind}
 use Rattle.adf_tree.specs.Tree.{Tree, entry, is_dir_body}
 use Rattle.adf_blocks.specs.Forms.{text_at}
 use Rattle.adf_blocks.specs.HeadBlock.{IsHead, body_at, head_form, is_name_at}
+use Rattle.adf_blocks.specs.declared.head.HeadBody.TheVariants.{Dir as HeadDir, File as HeadFile}
 use Rattle.adf_volume.specs.Demands.{AllHold, boot_demands, root_demands, demands_at}
 use Rattle.adf_volume.specs.Fits.{BodyFits, EntryFits}
 use Rattle.adf_volume.specs.Image.{kind_of, meta_of, name_of, root_of, word_in}
@@ -29,8 +30,9 @@ use Rattle.adf_check.specs.Reading.{StoreFits}
 use Rattle.adf_check.specs.Store.{StoreValue}
 use Rattle.adf_check.proofs.NodeSteps.{node_here}
 use Rattle.adf_check.specs.Image.{IsBegun}
-use Rattle.adf_check.specs.Rows.{BodyMatches, EntryMatches, RowMatches, row_body, row_in}
+use Rattle.adf_check.specs.Rows.{row_body, row_in, row_of_body, row_of_entry}
 use Rattle.adf_check.specs.declared.row.Row.{Row}
+use Rattle.adf_check.specs.declared.row.RowBody.TheVariants.{Dir as DirRow, File as FileRow}
 
 -- a block with the form of a header is one
 pub head_facts : (kind : Kind) (b own parent slot : ℕ) (bytes : List ℕ) → AllHold (demands_at b (head_form kind own parent slot bytes)) → IsHead bytes
@@ -54,19 +56,28 @@ header_is_head {image = image} {store = store} st i r at =
 pub tells_begun : (image : List ℕ) (store : StoreValue) → StoreFits image store → IsBegun image
 tells_begun image store st = all_append (boot_demands image) (root_demands image (root_of image)) st.fits.boots st.fits.root
 
+row_dir : (t : Bool) (size ext : ℕ) → t ≡ true → row_body (if t then HeadDir else HeadFile size ext) ≡ DirRow
+row_dir true size ext is = refl
+row_dir false size ext is = cc
+
+row_file : (t : Bool) (size ext : ℕ) → t ≡ false → row_body (if t then HeadDir else HeadFile size ext) ≡ FileRow size
+row_file true size ext is = cc
+row_file false size ext is = refl
+
 -- the secondary type of a header tells whether its entry is a directory, and its words the size of a file
 pub type_told : (image : List ℕ) (t : Tree) (l : Layout) (n h : ℕ) (body : Body) → BodyFits image t.kind l n h body
-    → ((word_in image h SECONDARY_TYPE == ST_DIR) ≡ is_dir_body body) × BodyMatches (row_body (body_at (block image h))) body
+    → ((word_in image h SECONDARY_TYPE == ST_DIR) ≡ is_dir_body body) × (row_body (body_at (block image h)) ≡ row_of_body body)
 type_told image t l n h Dir f =
     let is : (word_in image h SECONDARY_TYPE == ST_DIR) ≡ true = grind (arith, nat_tests) in
-    (is, rw is tt)
+    (is, row_dir _ (word_in image h SIZE) (word_in image h EXTENSION) is)
 type_told image t l n h (File bytes) f =
     let is : (word_in image h SECONDARY_TYPE == ST_DIR) ≡ false = grind (arith, nat_tests) in
-    (is, rw is (sym f.2))
+    (is, row_file _ (word_in image h SIZE) (word_in image h EXTENSION) is ∙ ap FileRow (sym f.2))
 
 -- what a row's header tells is what the tree has
 pub entry_told : (image : List ℕ) (store : StoreValue) (t : Tree) (l : Layout) → StoreStandsFor image store t l → (n i : ℕ) (r : Kept) (told : Row) → n ≡ suc i
-    → At store.headers i r → told ≡ row_in r.parent (block image r.head) → RowMatches (Some told) (entry t.entries n)
+    → At store.headers i r → told ≡ row_in r.parent (block image r.head)
+    → Some told ≡ option_map row_of_entry (entry t.entries n)
 unfolding name_of meta_of
 entry_told image store t l k n i r told e at_header is =
     let lt : i < length store.headers = at_below store.headers i r at_header in
@@ -74,10 +85,10 @@ entry_told image store t l k n i r told e at_header is =
     let entry_is : entry t.entries n ≡ Some at.0 = ap (entry t.entries) e ∙ (entry_is_at t (suc i) at.0).0 at.1 in
     let h : at_node image l (suc i) ≡ r.head = k.headers.head i r at_header in
     let fits : EntryFits image t l (suc i) r.head at.0 = subst (λ b. EntryFits image t l (suc i) b at.0) h (k.fits.entries (suc i) at.0 at.1) in
-    let tells : EntryMatches (row_in r.parent (block image r.head)) at.0 = record {
-      parent = sym (k.headers.parent i r at.0 at_header at.1);
-      name = sym fits.name;
-      meta = sym fits.meta;
-      body = (type_told image t l (suc i) r.head at.0.body fits.body).1;
+    let same : row_in r.parent (block image r.head) ≡ row_of_entry at.0 = λ j. record {
+      parent = (sym (k.headers.parent i r at.0 at_header at.1)) j;
+      name = (sym fits.name) j;
+      meta = (sym fits.meta) j;
+      body = (type_told image t l (suc i) r.head at.0.body fits.body).1 j;
     } in
-    subst (RowMatches (Some told)) (sym entry_is) (subst (λ r. EntryMatches r at.0) (sym is) tells)
+    ap Some (is ∙ same) ∙ ap (option_map row_of_entry) (sym entry_is)

@@ -1,6 +1,6 @@
 -- The entries of a tree, added one after the other, are the tree.
 use Rattle.std.proofs.Common.{◌≡◌, ℕ, suc, [], ◌∷◌, ◌++◌, ◌+◌, ◌<◌, ◌≤◌, length, take, take_all, get_or, refl, sym, ap, subst, ◌∙◌, arith, Option, Some, None}
-use Rattle.std.specs.Prelude.{IsSome}
+use Rattle.std.specs.Prelude.{IsSome, option_map}
 use Rattle.std.proofs.lemmas.List.{take_more}
 use Rattle.adf_tree.specs.declared.entry.Body.{Body}
 use Rattle.adf_tree.specs.declared.entry.Body.TheVariants.{Dir, File}
@@ -12,7 +12,7 @@ use Rattle.adf_volume.proofs.Lists.{at_index_or, at_some}
 use Rattle.adf_volume.proofs.Chains.{entry_is_at}
 use Rattle.adf_check.specs.Pieces.{body_bytes, bytes_of}
 use Rattle.adf_check.specs.Rebuild.{body_with}
-use Rattle.adf_check.specs.Rows.{RowMatches}
+use Rattle.adf_check.specs.Rows.{row_of_entry}
 use Rattle.adf_check.specs.declared.row.Row.{Row}
 
 body_back : (body : Body) → body_with (body_bytes body) ≡ body
@@ -20,12 +20,18 @@ body_back Dir = refl
 body_back (File bytes) = refl
 
 -- what is told of an entry, with its bytes, is the entry
-pub entry_back : (r : Row) (body : Body) (x : Option Entry) → RowMatches (Some r) x → body ≡ body_with (bytes_of x)
+pub entry_back : (r : Row) (body : Body) (x : Option Entry) → Some r ≡ option_map row_of_entry x → body ≡ body_with (bytes_of x)
     → ◌≡◌ {A = Option Entry} (Some (record { parent = r.parent; name = r.name; meta = r.meta; body = body })) x
-entry_back r body None h b = absurd h
+entry_back r body None h b = cc
 entry_back r body (Some e) h b =
     let same : body ≡ e.body = b ∙ body_back e.body in
-    λ i. Some (record { parent = h.parent i; name = h.name i; meta = h.meta i; body = same i })
+    let told : r ≡ row_of_entry e = cc in
+    λ i. Some (record { parent = (told i).parent; name = (told i).name; meta = (told i).meta; body = same i })
+
+-- of which no row tells is no entry
+pub entry_none : (x : Option Entry) → ◌≡◌ {A = Option Row} None (option_map row_of_entry x) → ◌≡◌ {A = Option Entry} None x
+entry_none None h = refl
+entry_none (Some e) h = cc
 
 -- there is an entry with each number up to the last
 pub some_entry : (t : Tree) (n i : ℕ) (x : Option Entry) → n ≡ i + 1 → i < length t.entries → x ≡ entry t.entries n → IsSome x

@@ -1,5 +1,5 @@
 -- What is told of entries.
-use Rattle.std.specs.Prelude.{◌≡◌, ℕ, List, length, Option, Some, None}
+use Rattle.std.specs.Prelude.{ℕ, List, length}
 use Rattle.adf_blocks.specs.declared.layout.TheConstants.{NAME}
 use Rattle.adf_tree.specs.declared.entry.Body.{Body}
 use Rattle.adf_tree.specs.declared.entry.Body.TheVariants.{Dir as ADir, File as AFile}
@@ -22,20 +22,10 @@ abbrev pub row_in : ℕ → List ℕ → Row
 row_in parent b = record { parent = parent; name = text_at b NAME; meta = meta_at b; body = row_body (body_at b) }
 
 -- a directory is told as one, and a file with the number of its bytes
-abbrev pub BodyMatches : RowBody → Body → Type 0
-BodyMatches Dir ADir = Unit {0}
-BodyMatches (File size) (AFile bytes) = size ≡ length bytes
-BodyMatches _ _ = ⊥
+abbrev pub row_of_body : Body → RowBody
+row_of_body ADir = Dir
+row_of_body (AFile bytes) = File (length bytes)
 
--- the row has the parent, name, comment, protection, date and kind of the entry
-pub record EntryMatches (r : Row) (e : Entry) : Type 0 where
-  pub parent : r.parent ≡ e.parent
-  pub name : r.name ≡ e.name
-  pub meta : r.meta ≡ e.meta
-  pub body : BodyMatches r.body e.body
-
--- a row for an entry, none for none
-abbrev pub RowMatches : Option Row → Option Entry → Type 0
-RowMatches None None = Unit {0}
-RowMatches (Some r) (Some e) = EntryMatches r e
-RowMatches _ _ = ⊥
+-- what is told of an entry: its parent, name, comment, protection, date and kind
+abbrev pub row_of_entry : Entry → Row
+row_of_entry e = record { parent = e.parent; name = e.name; meta = e.meta; body = row_of_body e.body }

@@ -51,9 +51,11 @@ fn read_header<L: Ledger>(
 ) -> Result<u32, Fault>
     requires slot { chain.now.slot < SLOTS }
     requires some { b ≢ 0 }
-    requires state { IsInChain image.now (store_value store.old) chain.now.parent chain.now.up chain.now.slot holder b (sees_of seen.old) }
+    requires state { IsInChain image.now (store_value store.old) chain.now.parent chain.now.up chain.now.slot
+        holder b (sees_of seen.old) }
     requires paid { IsPaid store.old looks.old 0 }
-    ensures state { IfOk result (λ next. IsInChain image.now (store_value store.new) chain.now.parent chain.now.up chain.now.slot b next (sees_of seen.new)) }
+    ensures state { IfOk result (λ next. IsInChain image.now (store_value store.new) chain.now.parent chain.now.up chain.now.slot
+        b next (sees_of seen.new)) }
     ensures paid { OnOk result (IsPaid store.new looks.new 0) }
     ensures fewer { OnOk result (IsFurther store.old store.new) }
     ensures less { OnOk result (left store.new < left store.old) }

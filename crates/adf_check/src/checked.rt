@@ -10,7 +10,7 @@ ghost use Rattle.adf_volume.specs.Layout.{Layout, at_node, datas_of, owned};
 ghost use Rattle.adf_volume.specs.Lists.{In};
 ghost use Rattle.adf_check.specs.Store.{store_value};
 ghost use Rattle.adf_check.specs.Pieces.{bytes_of, pieces_at};
-ghost use Rattle.adf_check.specs.Rows.{RowMatches};
+ghost use Rattle.adf_check.specs.Rows.{row_of_entry};
 ghost use Rattle.adf_check.specs.Volumes.{IsChecked, StandsFor, counts_of, is_dir_at};
 
 use crate::image::Image;
@@ -80,7 +80,8 @@ impl Checked<'_> {
     /// has it.
     pub fn owner(&self, b: u32) -> Option<Owner>
         ensures some { IsSome result ↔ (b < blocks self.now.image) }
-        ensures part { (t : Tree) (l : Layout) (o : Owner) → StandsFor self.now t l → In (owned self.now.image l) (o, b) → result ≡ Some o }
+        ensures part { (t : Tree) (l : Layout) (o : Owner) → StandsFor self.now t l
+            → In (owned self.now.image l) (o, b) → result ≡ Some o }
         ensures boot { b < 2 → result ≡ Some Owner.Boot }
         ensures free { (t : Tree) (l : Layout) → StandsFor self.now t l → 2 ≤ b → b < blocks self.now.image
             → ((o : Owner) → In (owned self.now.image l) (o, b) → ⊥) → result ≡ Some Owner.Free }
@@ -117,7 +118,7 @@ impl Checked<'_> {
 
     /// What is told of an entry; None for the root and past the last entry.
     pub fn row(&self, n: Node) -> Option<Row>
-        ensures { (t : Tree) (l : Layout) → StandsFor self.now t l → RowMatches result (entry t.entries n) }
+        ensures { (t : Tree) (l : Layout) → StandsFor self.now t l → result ≡ option_map row_of_entry (entry t.entries n) }
     {
         if n.0 == 0 {
             return None;
@@ -136,8 +137,10 @@ impl Checked<'_> {
 
     /// The block of the root, or of an entry's header; none past the last entry.
     pub fn block_of(&self, n: Node) -> Option<u32>
-        ensures some { (t : Tree) (l : Layout) → StandsFor self.now t l → IsSome result ↔ (n ≤ length t.entries) }
-        ensures block { (t : Tree) (l : Layout) → StandsFor self.now t l → IfSome result (λ b. b ≡ at_node self.now.image l n) }
+        ensures some { (t : Tree) (l : Layout) → StandsFor self.now t l
+            → IsSome result ↔ (n ≤ length t.entries) }
+        ensures block { (t : Tree) (l : Layout) → StandsFor self.now t l
+            → IfSome result (λ b. b ≡ at_node self.now.image l n) }
     {
         if self.store.headers.len() < n.0 {
             return None;
@@ -155,9 +158,12 @@ impl Checked<'_> {
     /// The bytes of a file as slices of the image, one for each data block; none of the root, a directory and what is past the
     /// last entry.
     pub fn pieces(&self, n: Node) -> Option<Pieces<'_>>
-        ensures exact { (t : Tree) (l : Layout) → StandsFor self.now t l → result ≡ pieces_at self.now.image t l n }
-        ensures joined { (t : Tree) (l : Layout) → StandsFor self.now t l → option_map concat result ≡ bytes_of (entry t.entries n) }
-        ensures one_each { (t : Tree) (l : Layout) → StandsFor self.now t l → IfSome result (λ ps. length ps ≡ length (datas_of l n)) }
+        ensures exact { (t : Tree) (l : Layout) → StandsFor self.now t l
+            → result ≡ pieces_at self.now.image t l n }
+        ensures joined { (t : Tree) (l : Layout) → StandsFor self.now t l
+            → option_map concat result ≡ bytes_of (entry t.entries n) }
+        ensures one_each { (t : Tree) (l : Layout) → StandsFor self.now t l
+            → IfSome result (λ ps. length ps ≡ length (datas_of l n)) }
         ensures some { IfSome result (λ ps. All (λ p. 0 < length p) ps) }
     {
         pieces_of(&self.image, &self.store, n)
@@ -165,8 +171,10 @@ impl Checked<'_> {
 
     /// The bytes of a file; none of the root, a directory and what is past the last entry. Where there are no bytes, no memory is taken.
     pub fn read(&self, alloc: Global, n: Node) -> Result<Option<Vec<u8>>, NoMemory>
-        ensures bytes { (t : Tree) (l : Layout) → StandsFor self.now t l → IfOk result (λ r. option_map (λ v. v.items) r ≡ bytes_of (entry t.entries n)) }
-        ensures empty { (t : Tree) (l : Layout) → StandsFor self.now t l → unwrap_or (bytes_of (entry t.entries n)) [] ≡ [] → IsOk result }
+        ensures bytes { (t : Tree) (l : Layout) → StandsFor self.now t l
+            → IfOk result (λ r. option_map (λ v. v.items) r ≡ bytes_of (entry t.entries n)) }
+        ensures empty { (t : Tree) (l : Layout) → StandsFor self.now t l
+            → unwrap_or (bytes_of (entry t.entries n)) [] ≡ [] → IsOk result }
     {
         match self.pieces(n) {
             None => Ok(None),
@@ -184,7 +192,8 @@ impl Checked<'_> {
 
     /// The numbers of the volume.
     pub fn counts(&self) -> Counts
-        ensures exact { (t : Tree) (l : Layout) → StandsFor self.now t l → result ≡ counts_of self.now.image t l }
+        ensures exact { (t : Tree) (l : Layout) → StandsFor self.now t l
+            → result ≡ counts_of self.now.image t l }
         ensures all { result.used + result.free + 2 ≡ result.blocks }
     {
         let blocks = self.image.blocks();

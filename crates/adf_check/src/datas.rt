@@ -4,13 +4,13 @@ ghost use Rattle.adf_blocks.specs.declared.layout.TheConstants.{POINTERS, SIZE};
 ghost use Rattle.adf_check.specs.Fault.{IsTrueFault};
 ghost use Rattle.std.specs.Prelude.{◌≡◌, ◌≤◌, ◌<◌, ◌+◌, ◌*◌, ◌/◌, min, OnOk, IfErr, length, slice_index, ℕ};
 ghost use Rattle.adf_blocks.specs.Sizes.{blocks, chunk, count};
-ghost use Rattle.adf_volume.specs.Demands.{AllHold, FirstFails, data_demands};
-ghost use Rattle.adf_volume.specs.Image.{held, kind_of, table_word, word_in};
+ghost use Rattle.adf_volume.specs.Demands.{AllHold, FirstFails};
+ghost use Rattle.adf_volume.specs.Image.{held, table_word, word_in};
 ghost use Rattle.adf_volume.specs.Walk.{data_count};
 ghost use Rattle.adf_check.specs.Reading.{IsAtNode, IsInDatas};
 ghost use Rattle.adf_check.specs.Progress.{IsFurther, IsPaid};
 ghost use Rattle.adf_check.specs.Store.{store_value};
-ghost use Rattle.adf_check.specs.Datas.{next_of};
+ghost use Rattle.adf_check.specs.Datas.{data_asked, next_of};
 ghost use Rattle.adf_check.specs.Image.{IsBegun};
 
 use crate::claims::claim_named;
@@ -99,8 +99,8 @@ fn check_data<L: Ledger>(
     requires enough { file.now.count ≤ POINTERS * length table.now }
     requires blocks { (i : ℕ) → i < length table.now → slice_index table.now i < blocks image.now }
     ensures looks { looks.old ≤ looks.new + 2 }
-    ensures ok { OnOk result (AllHold (data_demands image.now (kind_of image.now) b file.now.head (k + 1) (held (kind_of image.now) file.now.size (k + 1)) (next_of image.now table.now file.now.count (k + 1)))) }
-    ensures fault { IfErr result (λ c. FirstFails (data_demands image.now (kind_of image.now) b file.now.head (k + 1) (held (kind_of image.now) file.now.size (k + 1)) (next_of image.now table.now file.now.count (k + 1))) b c) }
+    ensures ok { OnOk result (AllHold (data_asked image.now file.now table.now b k)) }
+    ensures fault { IfErr result (λ c. FirstFails (data_asked image.now file.now table.now b k) b c) }
 {
     match image.kind() {
         Kind::Ffs => Ok(()),
@@ -167,7 +167,8 @@ fn read_named<L: Ledger>(
     requires inside { POINTERS * m < file.now.count }
     requires state { IsInDatas image.now (store_value store.old) file.now.node file.now.head table.now (POINTERS * m) }
     requires paid { IsPaid store.old looks.old 1 }
-    ensures state { OnOk result (IsInDatas image.now (store_value store.new) file.now.node file.now.head table.now (min (POINTERS * (m + 1)) file.now.count)) }
+    ensures state { OnOk result (IsInDatas image.now (store_value store.new) file.now.node file.now.head table.now
+        (min (POINTERS * (m + 1)) file.now.count)) }
     ensures paid { OnOk result (IsPaid store.new looks.new 1) }
     ensures fewer { OnOk result (IsFurther store.old store.new) }
     ensures fault { IfErr result (λ f. IsTrueFault image.now f) }

@@ -24,7 +24,8 @@ use adf_volume::Owner;
 pub fn block_of(image: &Image<'_>, store: &Store, node: Node) -> u32
     requires tells { StoreFits image.now (store_value store.now) }
     requires node { node ≤ length store.now.headers.items }
-    ensures block { (t : Tree) (l : Layout) → StoreStandsFor image.now (store_value store.now) t l → result ≡ at_node image.now l node }
+    ensures block { (t : Tree) (l : Layout) → StoreStandsFor image.now (store_value store.now) t l
+        → result ≡ at_node image.now l node }
     ensures inside { result < blocks image.now }
 {
     if node.0 == 0 {
@@ -63,7 +64,8 @@ fn first_of(image: &Image<'_>, store: &Store, parent: Node, slot: u8) -> u32
 pub fn child(image: &Image<'_>, store: &Store, parent: Node, name: &Name) -> Option<Node>
     requires tells { StoreFits image.now (store_value store.now) }
     requires node { parent ≤ length store.now.headers.items }
-    ensures found { (t : Tree) (l : Layout) → StoreStandsFor image.now (store_value store.now) t l → result ≡ child t.entries parent name.now }
+    ensures found { (t : Tree) (l : Layout) → StoreStandsFor image.now (store_value store.now) t l
+        → result ≡ child t.entries parent name.now }
     ensures node { IfSome result (λ n. n ≤ length store.now.headers.items) }
 {
     let mut b = first_of(image, store, parent, slot(name.bytes()));
@@ -80,7 +82,8 @@ pub fn child(image: &Image<'_>, store: &Store, parent: Node, name: &Name) -> Opt
 /// The node that the path leads to.
 pub fn find(image: &Image<'_>, store: &Store, path: &[Name]) -> Option<Node>
     requires { StoreFits image.now (store_value store.now) }
-    ensures { (t : Tree) (l : Layout) → StoreStandsFor image.now (store_value store.now) t l → result ≡ find_from t.entries 0 path.now }
+    ensures { (t : Tree) (l : Layout) → StoreStandsFor image.now (store_value store.now) t l
+        → result ≡ find_from t.entries 0 path.now }
 {
     let mut node = Node(0);
     for name in path {

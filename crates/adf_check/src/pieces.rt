@@ -102,8 +102,10 @@ fn part(xs: &[u32], from: usize, len: usize) -> &[u32]
 fn datas_of<'a>(image: &Image<'_>, store: &'a Store, n: Node, size: u32) -> &'a [u32]
     requires tells { StoreFits image.now (store_value store.now) }
     requires node { n ≤ length store.now.headers.items }
-    requires size { (t : Tree) (l : Layout) → StoreStandsFor image.now (store_value store.now) t l → length (datas_of l n) ≡ count (kind_of image.now) size }
-    ensures { (t : Tree) (l : Layout) → StoreStandsFor image.now (store_value store.now) t l → result.now ≡ datas_of l n }
+    requires size { (t : Tree) (l : Layout) → StoreStandsFor image.now (store_value store.now) t l
+        → length (datas_of l n) ≡ count (kind_of image.now) size }
+    ensures { (t : Tree) (l : Layout) → StoreStandsFor image.now (store_value store.now) t l
+        → result.now ≡ datas_of l n }
 {
     let count = count_of(image.kind(), size) as usize;
     if count == 0 {
@@ -115,7 +117,8 @@ fn datas_of<'a>(image: &Image<'_>, store: &'a Store, n: Node, size: u32) -> &'a 
 /// The data blocks of a file; none of the root, a directory and what is past the last entry.
 pub fn blocks_of<'a>(image: &Image<'_>, store: &'a Store, n: Node) -> &'a [u32]
     requires { StoreFits image.now (store_value store.now) }
-    ensures { (t : Tree) (l : Layout) → StoreStandsFor image.now (store_value store.now) t l → result.now ≡ datas_of l n }
+    ensures { (t : Tree) (l : Layout) → StoreStandsFor image.now (store_value store.now) t l
+        → result.now ≡ datas_of l n }
 {
     if n.0 == 0 {
         return &[];
@@ -132,9 +135,12 @@ pub fn blocks_of<'a>(image: &Image<'_>, store: &'a Store, n: Node) -> &'a [u32]
 /// The pieces of a file; none of the root, a directory and what is past the last entry.
 pub fn pieces_of<'a>(image: &Image<'a>, store: &'a Store, n: Node) -> Option<Pieces<'a>>
     requires { StoreFits image.now (store_value store.now) }
-    ensures exact { (t : Tree) (l : Layout) → StoreStandsFor image.now (store_value store.now) t l → result ≡ pieces_at image.now t l n }
-    ensures joined { (t : Tree) (l : Layout) → StoreStandsFor image.now (store_value store.now) t l → option_map concat result ≡ bytes_of (entry t.entries n) }
-    ensures one_each { (t : Tree) (l : Layout) → StoreStandsFor image.now (store_value store.now) t l → IfSome result (λ ps. length ps ≡ length (datas_of l n)) }
+    ensures exact { (t : Tree) (l : Layout) → StoreStandsFor image.now (store_value store.now) t l
+        → result ≡ pieces_at image.now t l n }
+    ensures joined { (t : Tree) (l : Layout) → StoreStandsFor image.now (store_value store.now) t l
+        → option_map concat result ≡ bytes_of (entry t.entries n) }
+    ensures one_each { (t : Tree) (l : Layout) → StoreStandsFor image.now (store_value store.now) t l
+        → IfSome result (λ ps. length ps ≡ length (datas_of l n)) }
     ensures some { IfSome result (λ ps. All (λ p. 0 < length p) ps) }
 {
     if n.0 == 0 || store.headers.len() < n.0 {

@@ -1,11 +1,11 @@
 // The size of an image and its first four bytes.
 
-ghost use Rattle.std.specs.Prelude.{◌≡◌, ◌≤◌, length, slice_index, ◌==◌, ◌&&◌, nat_le, IfOk, IfErr};
+ghost use Rattle.std.specs.Prelude.{◌≡◌, ◌≤◌, length, IfOk, IfErr};
 ghost use Rattle.adf_fields.specs.Words.{block};
 ghost use Rattle.adf_volume.specs.Image.{kind_of, root_of};
 ghost use Rattle.adf_volume.specs.Walk.{FirstFault};
 ghost use Rattle.adf_check.specs.Image.{IsBegun};
-ghost use Rattle.adf_check.specs.Start.{is_image_len, start_form};
+ghost use Rattle.adf_check.specs.Start.{is_dos, is_image_len, start_form};
 ghost use Rattle.adf_blocks.specs.Forms.{ReadsForm};
 ghost use Rattle.adf_blocks.specs.Sizes.{blocks, is_allowed};
 
@@ -49,7 +49,7 @@ fn boot_block<'a>(image: &'a [u8]) -> Block<'a>
 
 // Whether the boot block begins with `DOS` and a type up to 5.
 fn is_dos(boot: &Block<'_>) -> bool
-    ensures { result ≡ ((slice_index boot.now 0 == 0x44) && (slice_index boot.now 1 == 0x4F) && (slice_index boot.now 2 == 0x53) && nat_le (slice_index boot.now 3) 5) }
+    ensures { result ≡ is_dos boot.now }
 {
     boot.byte(0) == b'D' && boot.byte(1) == b'O' && boot.byte(2) == b'S' && boot.byte(3) <= 5
 }

@@ -73,7 +73,8 @@ long_answers (convert kind) image bytes a b reply (inl (t, l, fits, builds)) = a
 long_answers (convert kind) image bytes a b reply (inr h) = inr (h.0, long_fault image bytes h.0 a b h.1, h.2)
 
 -- what is done with the bytes that are read is done with the whole input, where that is known
-pub read_works : (w : Outcome) (r : RequestValue) (image : List ℕ) (left o o' : Option (List ℕ)) → IfSome left (λ bytes. image ≡ take (limit_of (Some r) + 1) bytes)
+pub read_works : (w : Outcome) (r : RequestValue) (image : List ℕ) (left o o' : Option (List ℕ))
+    → IfSome left (λ bytes. image ≡ take (limit_of (Some r) + 1) bytes)
     → Works w r image o o' → IfSome left (λ bytes. Works w r bytes o o')
 read_works w r image None o o' e h = tt
 read_works w r image (Some bytes) o o' e h = elim (cases_lt (limit_of (Some r)) (length bytes)) [

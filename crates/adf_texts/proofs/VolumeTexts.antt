@@ -1,27 +1,26 @@
 -- The lines of `list`: of a row, and of the first entries.
-use Rattle.std.proofs.Common.{◌≡◌, ◌≤◌, ◌+◌, ℕ, List, [], ◌++◌, refl, ap, arith}
-use Rattle.std.specs.Fmt.{decimal}
+use Rattle.std.proofs.Common.{◌≡◌, ◌≤◌, ◌+◌, ℕ, List, [], ◌++◌, refl, ap, ◌∙◌, arith}
 use Rattle.adf_fields.specs.declared.dates.Stamp.{Stamp}
 use Rattle.adf_tree.specs.declared.entry.Body.{Body}
-use Rattle.adf_tree.specs.declared.entry.Body.TheVariants.{Dir as ADir, File as AFile}
+use Rattle.adf_tree.specs.declared.entry.Body.TheVariants.{Dir, File}
 use Rattle.adf_tree.specs.declared.entry.Entry.{Entry}
-use Rattle.adf_check.specs.Rows.{BodyMatches, EntryMatches}
+use Rattle.adf_check.specs.Rows.{row_of_body, row_of_entry}
 use Rattle.adf_check.specs.declared.row.Row.{Row}
-use Rattle.adf_check.specs.declared.row.RowBody.{RowBody}
-use Rattle.adf_check.specs.declared.row.RowBody.TheVariants.{Dir, File}
 use Rattle.adf_texts.proofs.Ranges.{flat_map_front, flat_map_next}
 use Rattle.adf_texts.specs.RowTexts.{row_size, row_word}
 use Rattle.adf_texts.specs.VolumeLines.{body_word, entry_lines, lines_of_entries, lines_of_entry, lines_with, size_text}
 
-body_words : (told : RowBody) (body : Body) → BodyMatches told body → (row_word told ≡ body_word body) × (row_size told ≡ size_text body)
-body_words Dir ADir h = (refl, refl)
-body_words (File size) (AFile bytes) h = (refl, ap decimal h)
-body_words told body h = absurd h
+body_words : (body : Body) → (row_word (row_of_body body) ≡ body_word body) × (row_size (row_of_body body) ≡ size_text body)
+body_words Dir = (refl, refl)
+body_words (File bytes) = (refl, refl)
 
 -- the lines of a row are those of the entry of which it tells
-pub row_lines_told : (date : Stamp → List ℕ) (names : List (List ℕ)) (r : Row) (e : Entry) → EntryMatches r e
+pub row_lines_told : (date : Stamp → List ℕ) (names : List (List ℕ)) (r : Row) (e : Entry) → r ≡ row_of_entry e
     → lines_with date names (row_word r.body) (row_size r.body) r.meta ≡ entry_lines date names e
-row_lines_told date names r e told = let same = body_words r.body e.body told.body in rw (told.meta, same.0, same.1)
+row_lines_told date names r e told = let same = body_words e.body in
+    ap (λ (x : Row). lines_with date names (row_word x.body) (row_size x.body) x.meta) told
+    ∙ ap (λ w. lines_with date names w (row_size (row_of_body e.body)) e.meta) same.0
+    ∙ ap (λ s. lines_with date names (body_word e.body) s e.meta) same.1
 
 pub lines_of_none : (date : Stamp → List ℕ) (es : List Entry) → lines_of_entries date es 0 ≡ []
 unfolding lines_of_entries

@@ -2,7 +2,7 @@
 
 ghost use Rattle.std.specs.Prelude.{◌≡◌, ◌++◌, codes, ℕ, List, OnOk};
 ghost use Rattle.adf_tree.specs.declared.entry.Entry.{Entry};
-ghost use Rattle.adf_check.specs.Rows.{EntryMatches};
+ghost use Rattle.adf_check.specs.Rows.{row_of_entry};
 ghost use Rattle.adf_texts.specs.RowTexts.{row_size, row_word};
 ghost use Rattle.adf_texts.specs.VolumeLines.{AreDates, blocks_line, entry_lines, escaped_line, lines_with, opening_lines, right_in_ten, text_line};
 
@@ -32,7 +32,8 @@ pub fn push_opening_lines(
 
 /// Appends the line of an entry of which the row tells, and that of its note where it has one.
 pub fn push_entry_lines(text: &mut Vec<u8>, row: &Row, path: &[Name]) -> Result<(), AllocError>
-    ensures { (date : Stamp → List ℕ) (e : Entry) → AreDates date → EntryMatches row.now e → OnOk result (text.new.items ≡ text.old.items ++ entry_lines date path.now e) }
+    ensures { (date : Stamp → List ℕ) (e : Entry) → AreDates date → row.now ≡ row_of_entry e
+        → OnOk result (text.new.items ≡ text.old.items ++ entry_lines date path.now e) }
 {
     push_row_lines(text, row, path)
 }

@@ -10,7 +10,8 @@ returns-in_err-claim_named-clause-fault g c =
 pub returns-in-Ok-clause-state : goal.returns-in-Ok-clause-state
 returns-in-Ok-clause-state g c =
     let claimed = c.in_ok-claim_named.ensures in
-    page_done c.requires.begun c.requires.needed c.requires.state c.page_named-b.ensures.exact claimed.range claimed.free c.look.ensures.block c.in-Ok.ensures.0
+    page_done c.requires.begun c.requires.needed c.requires.state c.page_named-b.ensures.exact claimed.range claimed.free
+    c.look.ensures.block c.in-Ok.ensures.0
     (record { owners = claimed.ok; headers = refl; starts = refl; exts = refl; datas = refl; used = claimed.count })
 
 pub returns-in-Ok-clause-page : goal.returns-in-Ok-clause-page

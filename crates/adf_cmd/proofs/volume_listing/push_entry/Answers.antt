@@ -1,17 +1,23 @@
-use Rattle.std.proofs.Common.{◌≡◌, ◌++◌, ◌∙◌, ℕ, List, Option, None, Some, [], OnOk}
+use Rattle.std.proofs.Common.{◌≡◌, ◌++◌, ◌∙◌, ℕ, List, Option, None, Some, [], OnOk, append-nil, sym}
+use Rattle.std.specs.Prelude.{option_map}
 use Rattle.adf_tree.specs.declared.entry.Entry.{Entry}
 use Rattle.adf_tree.specs.Paths.{names_of}
 use Rattle.adf_tree.specs.Tree.{entry}
 use Rattle.adf_check.specs.declared.row.Row.{Row}
-use Rattle.adf_check.specs.Rows.{EntryMatches, RowMatches}
+use Rattle.adf_check.specs.Rows.{row_of_entry}
 use Rattle.adf_texts.specs.VolumeLines.{entry_lines}
 use Rattle.adf_cmd.proofs.volume_listing.push_entry.Goals as goal
 
--- what holds of the lines of any entry that matches the row holds of those of the entry that it is of
-of_row : (x : Option Entry) (row : Row) (holds : List ℕ → Type 0) (lines : Entry → List ℕ) → RowMatches (Some row) x
-    → ((e : Entry) → EntryMatches row e → holds (lines e)) → holds (elim x [ None ↦ [] | Some e ↦ lines e ])
-of_row None row holds lines same told = absurd same
-of_row (Some e) row holds lines same told = told e same
+-- what holds of the lines of any entry of which the row tells holds of those of the entry that it is of
+of_row : (x : Option Entry) (row : Row) (holds : List ℕ → Type 0) (lines : Entry → List ℕ) → Some row ≡ option_map row_of_entry x
+    → ((e : Entry) → row ≡ row_of_entry e → holds (lines e)) → holds (elim x [ None ↦ [] | Some e ↦ lines e ])
+of_row None row holds lines same told = cc
+of_row (Some e) row holds lines same told = told e cc
+
+no_row : (x : Option Entry) (text : List ℕ) (lines : Entry → List ℕ) → ◌≡◌ {A = Option Row} None (option_map row_of_entry x)
+    → text ≡ text ++ (elim x [ None ↦ [] | Some e ↦ lines e ])
+no_row None text lines h = sym (append-nil text)
+no_row (Some e) text lines h = cc
 
 pub returns : goal.returns
 returns c = λ date t l dates stands.
@@ -20,3 +26,7 @@ returns c = λ date t l dates stands.
     (λ (lines : List ℕ). OnOk c.push_entry_lines.result (c.push_entry_lines.new.text.items ≡ c.args.text.now.items ++ lines))
     (entry_lines date (names_of t.entries c.args.n)) (c.in-Some.ensures t l stands)
     (λ e same. rw named at c.push_entry_lines.ensures date e dates same)
+
+pub returns-in_default : goal.returns-in_default
+returns-in_default c = λ date t l dates stands.
+    no_row (entry t.entries c.args.n) c.args.text.now.items (entry_lines date (names_of t.entries c.args.n)) (c.in_default.ensures t l stands)
