@@ -1,6 +1,6 @@
 -- What is kept of an image tells of its survey.
 use Rattle.std.specs.Prelude.{Bool, None, map}
-use Rattle.std.proofs.Common.{◌≡◌, ℕ, suc, List, [], ◌∷◌, ◌++◌, inl, inr, ◌≤◌, refl, sym, ap, subst, ◌∙◌, arith, ◌*◌, ◌+◌, ◌<◌, length}
+use Rattle.std.proofs.Common.{◌≡◌, ℕ, suc, List, [], ◌∷◌, ◌++◌, inl, inr, ◌≤◌, refl, sym, ap, subst, ◌∙◌, arith, ◌*◌, ◌<◌, length}
 use Rattle.adf_tree.specs.declared.entry.Kind.TheVariants.{Ffs}
 use Rattle.adf_volume.specs.Demands.{FirstFails, boot_demands, root_demands}
 use Rattle.adf_volume.specs.Image.{kind_of, root_of}
@@ -101,12 +101,11 @@ parent_is image w fs (read begun v d t) n p s j b h = head_parent image (gathere
 
 -- the header of an entry is inside of the image
 pub header_inside : (image : List ℕ) (w : List (Role × ℕ)) (fs : List Finding) → IsSurvey image w fs → (n : ℕ) → 1 ≤ n → n ≤ heads w
-    → node_block w n * 512 + 512 ≤ length image
+    → (length image ≡ 512 * blocks image) × (node_block w n < blocks image)
 header_inside image w fs (unread f) n lo hi = absurd (omega arith)
 header_inside image w fs (read {s = s} begun v d t) n lo hi =
     let x = has_number image (gathered image v) n lo hi in
     let at : node_block s.walk n ≡ x.3 = head_block image (gathered image v) n x.0 x.1 x.2 x.3 x.4 in
     let lt : x.3 < blocks image =
     inside image v (Head n x.0 x.1 x.2) x.3 (λ e. let y : second Root ≡ second (Head n x.0 x.1 x.2) = ap second e in omega arith) x.4 in
-    let size : length image ≡ 512 * blocks image = begun.0.0 in
-    omega arith
+    (begun.0.0, omega arith)

@@ -1,7 +1,8 @@
 // What a survey tells.
 
-ghost use Rattle.std.specs.Prelude.{◌≡◌, ◌≤◌, ◌<◌, ◌↔◌, ℕ, List, map, slice_index, IsTrue, IsSome, IfSome};
+ghost use Rattle.std.specs.Prelude.{◌≡◌, ◌≤◌, ◌<◌, ◌↔◌, ℕ, List, ◌+◌, min, map, slice_index, slice_range, IsTrue, IsSome, IfSome};
 ghost use Rattle.adf_fields.specs.Words.{block};
+ghost use Rattle.adf_volume.specs.Image.{name_of};
 ghost use Rattle.adf_volume.specs.Walk.{Has, Role, heads, node_block};
 ghost use Rattle.adf_volume.specs.Walk.Role.{Head};
 ghost use Rattle.adf_survey.specs.Marks.{has_mark};
@@ -11,6 +12,7 @@ ghost use Rattle.adf_survey.specs.Survey.{Finding as SpecFinding, IsSurvey};
 ghost use Rattle.adf_survey.specs.Surveyed.{IsOfSurvey};
 
 use crate::part::Finding;
+use adf_blocks::NAME;
 use adf_fields::Block;
 use adf_tree::Node;
 use std::marker::Model;
@@ -40,6 +42,14 @@ fn has_mark(marks: &Vec<bool>, n: usize) -> bool
     ensures { result ≡ has_mark marks.now.items n }
 {
     marks.get(n).copied().unwrap_or(false)
+}
+
+// The name in a header, at most 79 bytes.
+fn name_in<'b>(head: &Block<'b>) -> &'b [u8]
+    ensures { result.now ≡ slice_range head.now 433 (433 + min (slice_index head.now 432) 79) }
+{
+    let len = (head.byte(NAME) as usize).min(79);
+    head.bytes(NAME + 1, len)
 }
 
 // The number of a node, 0 where there is none.
@@ -116,6 +126,20 @@ impl Survey<'_> {
     {
         match self.block_of(n) {
             Some(b) => Block::at(self.image, b),
+            None => None,
+        }
+    }
+
+    /// The name in the header of an entry that is found, at most 79 bytes, which may be none that is allowed; none of the root and
+    /// past the last entry.
+    pub fn name(&self, n: Node) -> Option<&[u8]>
+        ensures some { (w : List (Role × ℕ)) (fs : List SpecFinding) → IsSurvey self.now.image w fs
+            → IsSome result ↔ ((1 ≤ n) × (n ≤ heads w)) }
+        ensures name { (w : List (Role × ℕ)) (fs : List SpecFinding) → IsSurvey self.now.image w fs
+            → IfSome result (λ x. x.now ≡ name_of self.now.image (node_block w n)) }
+    {
+        match self.header(n) {
+            Some(head) => Some(name_in(&head)),
             None => None,
         }
     }
