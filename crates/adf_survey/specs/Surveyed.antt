@@ -17,6 +17,11 @@ pub record Surveyed : Type 0 where
   pub parents : List ℕ
   pub sound : List Bool
 
+-- what is kept of these
+abbrev pub kept_of : List ℕ → List FoundFinding → List ℕ → List ℕ → List Bool → Surveyed
+kept_of image findings nodes parents sound =
+    record { image = image; findings = findings; nodes = nodes; parents = parents; sound = sound }
+
 -- what is kept tells of this walk and these findings of a survey
 pub record TellsOf (v : Surveyed) (w : List (Role × ℕ)) (fs : List Finding) : Type 0 where
   pub survey : IsSurvey v.image w fs

@@ -9,7 +9,7 @@ ghost use Rattle.adf_survey.specs.Marks.{has_mark};
 ghost use Rattle.adf_survey.specs.Parts.{told};
 ghost use Rattle.adf_survey.specs.Sound.{IsSound};
 ghost use Rattle.adf_survey.specs.Survey.{Finding as SpecFinding, IsSurvey};
-ghost use Rattle.adf_survey.specs.Surveyed.{IsOfSurvey};
+ghost use Rattle.adf_survey.specs.Surveyed.{IsOfSurvey, kept_of};
 
 use crate::part::Finding;
 use adf_blocks::NAME;
@@ -28,13 +28,13 @@ pub struct Survey<'i> {
 }
 
 impl<'i> Model for Survey<'i> {
-    ghost use Rattle.adf_survey.specs.Surveyed.{IsOfSurvey, Surveyed};
+    ghost use Rattle.adf_survey.specs.Surveyed.{IsOfSurvey, Surveyed, kept_of};
 
     ghost Value = { Surveyed };
 
-    ghost view = { λ v. record { image = v.image.now; findings = v.findings.items; nodes = v.nodes.items; parents = v.parents.items; sound = v.sound.items } };
+    ghost view = { λ v. kept_of v.image.now v.findings.items v.nodes.items v.parents.items v.sound.items };
 
-    ghost invariant = { λ v. IsOfSurvey (record { image = v.image.now; findings = v.findings.items; nodes = v.nodes.items; parents = v.parents.items; sound = v.sound.items }) };
+    ghost invariant = { λ v. IsOfSurvey (kept_of v.image.now v.findings.items v.nodes.items v.parents.items v.sound.items) };
 }
 
 // Whether a node has a mark.
@@ -68,8 +68,8 @@ impl<'i> Survey<'i> {
         parents: Vec<u32>,
         sound: Vec<bool>,
     ) -> Survey<'i>
-        requires { IsOfSurvey (record { image = image.now; findings = findings.items; nodes = nodes.items; parents = parents.items; sound = sound.items }) }
-        ensures { result ≡ record { image = image.now; findings = findings.items; nodes = nodes.items; parents = parents.items; sound = sound.items } }
+        requires { IsOfSurvey (kept_of image.now findings.items nodes.items parents.items sound.items) }
+        ensures { result ≡ kept_of image.now findings.items nodes.items parents.items sound.items }
     {
         Survey {
             image,
@@ -130,8 +130,8 @@ impl Survey<'_> {
         }
     }
 
-    /// The name in the header of an entry that is found, at most 79 bytes, which may be none that is allowed; none of the root and
-    /// past the last entry.
+    /// The name in the header of an entry that is found, at most 79 bytes, which may be none that is allowed; none of the root
+    /// and past the last entry.
     pub fn name(&self, n: Node) -> Option<&[u8]>
         ensures some { (w : List (Role × ℕ)) (fs : List SpecFinding) → IsSurvey self.now.image w fs
             → IsSome result ↔ ((1 ≤ n) × (n ≤ heads w)) }
