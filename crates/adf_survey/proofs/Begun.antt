@@ -76,7 +76,8 @@ stands_begun image f g h taken passed owned avoided left nodes exts names findin
           ∙ (ap (λ x. unwrap_or (get nat_cmp x m) 0) e.2 ∙ ap (λ c. unwrap_or c 0) (empty_get f.exts (is_at (nat_cmp m)) exts)));
       name = (λ q. ap (λ f. get by_name f.names q) same ∙ (ap (λ x. get by_name x q) e.1 ∙ empty_get f.names (is_at (by_name q)) names));
       findings = ap (λ f. map told f.findings.items) same ∙ (ap (λ v. map told v.items) o.5 ∙ ap (map told) findings);
-      parent = (λ m. ap (λ f. slice_index f.parents.items m) same ∙ (ap (λ v. slice_index v.items m) e.3 ∙ (ap (λ xs. slice_index xs m) parents ∙ no_parent m)));
+      parent = (λ m. ap (λ f. slice_index f.parents.items m) same
+          ∙ (ap (λ v. slice_index v.items m) e.3 ∙ (ap (λ xs. slice_index xs m) parents ∙ no_parent m)));
       parents = ap (λ f. length f.parents.items) same ∙ (ap (λ v. length v.items) e.3 ∙ ap length parents);
     }
 

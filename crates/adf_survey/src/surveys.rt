@@ -22,7 +22,8 @@ use std::alloc::Global;
 // The survey of an image of which this alone is said.
 fn only<'i>(alloc: Global, image: &'i [u8], finding: Finding) -> Result<Survey<'i>, NoMemory>
     requires part { finding.part ≡ None }
-    requires fails { FirstFails (boot_demands image.now ++ root_demands image.now (root_of image.now)) finding.block finding.cause }
+    requires fails { FirstFails (boot_demands image.now ++ root_demands image.now (root_of image.now))
+        finding.block finding.cause }
     ensures image { IfOk result (λ v. v.image ≡ image.now) }
     ensures findings { IfOk result (λ v. (w : List (Role × ℕ)) × IsSurvey image.now w (map told v.findings)) }
 {

@@ -1,6 +1,6 @@
 use Rattle.std.proofs.Common.{sym, subst}
 use Rattle.adf_survey.specs.declared.found.Found.{Found}
-use Rattle.adf_survey.specs.Surveyed.{IsOfSurvey}
+use Rattle.adf_survey.specs.Surveyed.{IsOfSurvey, kept_of}
 use Rattle.adf_survey.proofs.Begun.{on_begun}
 use Rattle.adf_survey.proofs.Keeping.{read_kept}
 use Rattle.adf_survey.proofs.surveys.go_through.Goals as goal
@@ -13,6 +13,6 @@ run-requires-clause-state c =
 pub new-requires : goal.new-requires
 new-requires c =
     let f : Found = c.compare.new.found in
-    subst (λ i. IsOfSurvey (record { image = i; findings = f.findings.items; nodes = f.nodes.items; parents = f.parents.items; sound = c.in_ok-sound.sound.items })) (sym c.bytes.ensures)
+    subst (λ i. IsOfSurvey (kept_of i f.findings.items f.nodes.items f.parents.items c.in_ok-sound.sound.items)) (sym c.bytes.ensures)
     (read_kept c.args.image.now f c.in_ok-sound.sound.items c.begin.ensures.begun c.in_ok-compare.ensures c.in_ok-sound.ensures.entries
     c.in_ok-sound.ensures.marks)
