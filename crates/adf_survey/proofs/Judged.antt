@@ -103,20 +103,21 @@ same_slight image w (MapExt j) b e = tt
 same_slight image w (Ext n k) b e = tt
 same_slight image w (Data n k) b e = tt
 
-range_not : (r : Role) → is_kept r OutOfRange ≡ false
-range_not (Page i) = refl
-range_not _ = refl
+-- neither range nor an owner is slight
+pub keeps_range : (r : Role) → is_kept r OutOfRange ≡ false
+keeps_range (Page i) = refl
+keeps_range _ = refl
 
-taken_not : (r : Role) → is_kept r Taken ≡ false
-taken_not (Page i) = refl
-taken_not _ = refl
+pub keeps_taken : (r : Role) → is_kept r Taken ≡ false
+keeps_taken (Page i) = refl
+keeps_taken _ = refl
 
 itself_is : (role : Role) (a b : ℕ) (r t : Bool) (form : List Clause) (E R T N : Type 0) → (is_kept role ShortFile ≡ false → E) → Tells r R
     → (r ≡ true → Tells t T) → (is_kept role SameName ≡ false → N)
     → Tells (r && (t && itself_by role form))
     (IsItself role (demand ShortFile a E ∷ demand OutOfRange a R ∷ demand Taken b T ∷ demands_at b form ++ demand SameName b N ∷ []))
-itself_is role a b false t form E R T N he hr ht hn = λ h. hr (h.1.0 (range_not role))
-itself_is role a b true false form E R T N he hr ht hn = λ h. ht refl (h.1.1.0 (taken_not role))
+itself_is role a b false t form E R T N he hr ht hn = λ h. hr (h.1.0 (keeps_range role))
+itself_is role a b true false form E R T N he hr ht hn = λ h. ht refl (h.1.1.0 (keeps_taken role))
 itself_is role a b true true form E R T N he hr ht hn = go (itself_by role form) (itself_more role b form (demand SameName b N ∷ []) (hn, tt))
   where
     xs : List Demand

@@ -19,7 +19,7 @@ use Rattle.adf_survey.specs.Parts.{role_of, told}
 use Rattle.adf_survey.specs.Courses.{IsNextAsk, IsOutcome, role_asked}
 use Rattle.adf_survey.proofs.Judged.{judged}
 use Rattle.adf_survey.proofs.Known.{no_owner}
-use Rattle.adf_survey.proofs.SomeSurvey.{keeps_range, keeps_taken}
+use Rattle.adf_survey.proofs.Judged.{keeps_range, keeps_taken}
 use Rattle.adf_survey.proofs.Taking.{stands_noted, stands_passed}
 
 module _ (image : List ℕ) (f : Found) (s : Course) (x : Ask) (v : IsCourse image s) (st : Stands image f s) (n : IsNextAsk image s x)
@@ -63,8 +63,8 @@ module _ (image : List ℕ) (f : Found) (s : Course) (x : Ask) (v : IsCourse ima
       let d = judgement (Noted at c) (sym (ap meant is_noted) ∙ e) in (
         s.findings ++ finding (Some role) at c ∷ [],
         is,
-        (d.1.1.0 (keeps_range image role)).1,
-        no_owner s.walk x.block (d.1.1.1.0 (keeps_taken image role)),
+        (d.1.1.0 (keeps_range role)).1,
+        no_owner s.walk x.block (d.1.1.1.0 (keeps_taken role)),
         stepped (noted at c) d,
         noted_stands g at c k,
         k.3,

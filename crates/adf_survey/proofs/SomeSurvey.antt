@@ -1,10 +1,9 @@
 -- An image has a survey: parts are judged until nothing is next. Each that is taken leaves one free block less, and of each list of what
 -- the walk can ask for each that is passed over leaves one role less.
 use Rattle.std.specs.Prelude.{Some, None}
-use Rattle.std.proofs.Common.{◌≡◌, ℕ, zero, suc, List, [], ◌∷◌, ◌++◌, inl, inr, ◌+◌, ◌-◌, ◌*◌, ◌/◌, ◌%◌, ◌<◌, length, refl, sym, ap, subst, ◌∙◌, arith, false}
+use Rattle.std.proofs.Common.{◌≡◌, ℕ, zero, suc, List, [], ◌∷◌, ◌++◌, inl, inr, ◌+◌, ◌-◌, ◌*◌, ◌/◌, ◌%◌, ◌<◌, length, refl, sym, ap, subst, ◌∙◌, arith}
 use native.Mathlib.Decide.{ℕ_discrete}
 use Rattle.adf_blocks.specs.declared.layout.TheConstants.{POINTERS, SLOTS}
-use Rattle.adf_blocks.specs.declared.cause.Cause.TheVariants.{OutOfRange, Taken}
 use Rattle.adf_blocks.specs.Sizes.{blocks, is_allowed, pages_needed}
 use Rattle.adf_fields.specs.Words.{block}
 use Rattle.adf_blocks.specs.RootBlock.{root_form}
@@ -17,12 +16,13 @@ use Rattle.adf_volume.proofs.DecidedAsks.{Asked}
 use Rattle.adf_volume.proofs.FitWalks.{dec_lacks, lacks_same, least, without}
 use Rattle.adf_volume.proofs.Lists.{in_left, in_right}
 use Rattle.adf_volume.proofs.Roles.{renumbered, renumbered_same, same_of}
-use Rattle.adf_survey.specs.Survey.{Finding, finding, Judgement, Judged, is_kept, Course, after, IsNext, IsCourse, IsDone, IsSurvey}
+use Rattle.adf_survey.specs.Survey.{Finding, finding, Judgement, Judged, Course, after, IsNext, IsCourse, IsDone, IsSurvey}
 use Rattle.adf_survey.specs.Survey.Judgement.{clean, noted, passed}
 use Rattle.adf_survey.specs.Survey.IsCourse.{start, step}
 use Rattle.adf_survey.specs.Survey.IsSurvey.{unread, read}
 use Rattle.adf_volume.proofs.DecidedAsks.{dec_asked}
 use Rattle.adf_volume.proofs.Gathered.{IsGathered, root_in}
+use Rattle.adf_survey.proofs.Judged.{keeps_range, keeps_taken}
 use Rattle.adf_survey.proofs.Judging.{decided, decided_append, decided_form, dec_true, first_failing, judged, bits_told}
 use Rattle.adf_survey.proofs.OneSurvey.{gathered}
 
@@ -122,14 +122,6 @@ module _ (image : List ℕ) where
   -- what could be next is in the list
   abbrev Covers : List Role → Course → Type 0
   Covers rs s = (r : Role) (a i : ℕ) → Asks image s.walk r a i → Lacks s.walk r → Lacks s.passed_over r → Listed s.walk rs r
-
-  pub keeps_range : (r : Role) → is_kept r OutOfRange ≡ false
-  keeps_range (Page i) = refl
-  keeps_range _ = refl
-
-  pub keeps_taken : (r : Role) → is_kept r Taken ≡ false
-  keeps_taken (Page i) = refl
-  keeps_taken _ = refl
 
   module _ (free : List ℕ) (again : (rest : List ℕ) → length free ≡ suc (length rest) → (s : Course) → IsCourse image s → Frees rest s → Finished) where
     -- a part is taken, and its block is free no more

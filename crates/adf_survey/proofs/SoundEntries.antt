@@ -19,7 +19,7 @@ use Rattle.adf_survey.specs.Survey.IsSurvey.{unread, read}
 use Rattle.adf_survey.specs.Sound.{FileHolds, HeaderHolds, IsSound, IsUnnoted}
 use Rattle.adf_volume.proofs.Gathered.{IsGathered, asked_dir, asked_file, asks_one, ext_counted, file_one, head_block, node_is, node_one}
 use Rattle.adf_survey.proofs.OneSurvey.{gathered}
-use Rattle.adf_survey.proofs.SomeSurvey.{keeps_taken}
+use Rattle.adf_survey.proofs.Judged.{keeps_taken}
 
 module _ (image : List ℕ) where
   -- a finding concerns the part
@@ -260,7 +260,7 @@ module _ (image : List ℕ) where
   one_role (step {s = s} {r = z} {a = a} {i = i} clean v n g) r q b h k =
       absent_new s.walk z r q (word_in image a i) b g.1.1.0 (one_role v r q b) h k
   one_role (step {s = s} {r = z} {a = a} {i = i} (noted at c) v n g) r q b h k =
-      absent_new s.walk z r q (word_in image a i) b (g.1.1.1.0 (keeps_taken image z)) (one_role v r q b) h k
+      absent_new s.walk z r q (word_in image a i) b (g.1.1.1.0 (keeps_taken z)) (one_role v r q b) h k
   one_role (step (passed at c) v n g) r q b h k = one_role v r q b h k
 
   pub one_part : (w : List (Role × ℕ)) (fs : List Finding) → IsSurvey image w fs → (r q : Role) (b : ℕ) → Has w r b → Has w q b → r ≡ q

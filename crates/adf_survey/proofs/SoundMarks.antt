@@ -39,7 +39,7 @@ use Rattle.adf_survey.proofs.BitSteps.{at_has}
 use Rattle.adf_survey.proofs.CourseSteps.{lacks_at, numbered, same_of_key}
 use Rattle.adf_survey.proofs.Known.{tells_absent}
 use Rattle.adf_survey.proofs.OneSurvey.{gathered}
-use Rattle.adf_survey.proofs.SomeSurvey.{keeps_range}
+use Rattle.adf_survey.proofs.Judged.{keeps_range}
 use Rattle.adf_survey.proofs.SoundEntries.{one_role}
 
 module _ (image : List ℕ) where
@@ -180,7 +180,7 @@ module _ (image : List ℕ) where
       let lt : word_in image a i < blocks image = g.1.0.1 in subst (λ b. b < blocks image) e.1 lt
   inside (step clean v d g) r b other (inr h) = inside v r b other h
   inside (step {s = s} {r = z} {a = a} {i = i} (noted at c) v d g) r b other (inl e) =
-      let lt : word_in image a i < blocks image = (g.1.1.0 (keeps_range image z)).1 in subst (λ b. b < blocks image) e.1 lt
+      let lt : word_in image a i < blocks image = (g.1.1.0 (keeps_range z)).1 in subst (λ b. b < blocks image) e.1 lt
   inside (step (noted at c) v d g) r b other (inr h) = inside v r b other h
   inside (step (passed at c) v d g) r b other h = inside v r b other h
 
