@@ -1,9 +1,7 @@
 -- What is laid for a tree as a whole.
 use Rattle.std.proofs.Common.{◌≡◌, ◌≤◌, ◌-◌, ◌*◌, ℕ, List, refl, sym, ap, subst, true}
 use Rattle.std.specs.Prelude.{replicate}
-use Rattle.adf_fields.specs.declared.dates.Stamp.{Stamp}
 use Rattle.adf_tree.specs.Bounds.{IsBounded, IsBoundedEntry}
-use Rattle.adf_fields.specs.Dates.{IsStamp}
 use Rattle.adf_tree.specs.Tree.{IsTree, Tree}
 use Rattle.adf_blocks.specs.Sizes.{blocks, is_allowed}
 use Rattle.adf_volume.specs.Fits.{Fits}

@@ -122,7 +122,7 @@ before_datas =
     let slots = empty_slots file_lost at_head 0 8 7 65 file.high (chain_ends file_lost at_head 0 8 6 2 one_name behind_head) in
     let st = enter_node file_lost at_head 1 (leave_directory file_lost at_head 0 8 slots) in
     let ex =
-        file_begins {header = record { parent = 0; head = 2 }} small.begun refl (λ e. omega arith) (omega arith) refl st (λ e. omega (arith, file.type)) in
+    file_begins {header = record { parent = 0; head = 2 }} small.begun refl (λ e. omega arith) (omega arith) refl st (λ e. omega (arith, file.type)) in
     exts_end file_lost at_file 1 2 (2 ∷ []) 2 (subst (λ b. IsInExts file_lost at_file 1 2 (2 ∷ []) 2 b) file.whole ex)
 
 behind_datas : IsInDatas file_lost at_end 1 2 (2 ∷ []) 2

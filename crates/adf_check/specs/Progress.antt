@@ -1,5 +1,5 @@
 -- How far a reader is: what it may still claim, and the looks that are enough for that.
-use Rattle.std.specs.Prelude.{◌≡◌, ◌≤◌, ◌-◌, ◌+◌, ◌*◌, ℕ, length}
+use Rattle.std.specs.Prelude.{◌≤◌, ◌-◌, ◌+◌, ◌*◌, ℕ, length}
 use Rattle.adf_check.specs.Owners.{owned_count}
 use Rattle.adf_check.specs.declared.store.Store.{Store}
 
