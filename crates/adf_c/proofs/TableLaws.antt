@@ -132,7 +132,8 @@ pub parent_small : (got : Option Row) (r : Row) (image : List ℕ) (t : Tree) (l
 parent_small got r image t l n is fits few some le h =
     let x = entry_some t n (omega arith) le in
     let e : entry t.entries n ≡ Some x.0 = (entry_is_at t n x.0).0 x.1 in
-    omega (arith, ap (λ (y : Row). y.parent) (row_matches got r (entry t.entries n) x.0 is e h), parent_below t n x.0 fits.tree x.1, tables_small image l, fits.places)
+    let parent = ap (λ (y : Row). y.parent) (row_matches got r (entry t.entries n) x.0 is e h) in
+    omega (arith, parent, parent_below t n x.0 fits.tree x.1, tables_small image l, fits.places)
 
 -- the block that is told
 pub block_told : (got : Option ℕ) (b h : ℕ) → got ≡ Some b → IfSome got (λ c. c ≡ h) → b ≡ h

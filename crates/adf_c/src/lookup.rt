@@ -101,7 +101,8 @@ fn find(entries: &[TableEntry], path: &[Name]) -> Option<usize>
 }
 
 /// Looks a path, in escape form, up in the table of a volume's entries: 0 where there is such an entry, whose number is put
-/// into the node, 1 where there is none, 2 where the text is that of no path, the number of the cause `NoMemory` where memory was refused.
+/// into the node, 1 where there is none, 2 where the text is that of no path, the number of the cause `NoMemory` where memory
+/// was refused.
 #[unsafe(no_mangle)]
 pub extern "C" fn adf_find(
     alloc: Global,

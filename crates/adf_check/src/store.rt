@@ -61,5 +61,6 @@ impl Store {
 
 /// What a reader keeps of a whole walk tells of the one tree and layout that fit.
 pub fn stores_stand_for_trees()
-    ensures { (image : List ℕ) (store : StoreValue) → StoreFits image store → (t : Tree) × (l : Layout) × StoreStandsFor image store t l }
+    ensures { (image : List ℕ) (store : StoreValue) → StoreFits image store
+        → (t : Tree) × (l : Layout) × StoreStandsFor image store t l }
 {}

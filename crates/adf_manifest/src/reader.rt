@@ -166,7 +166,8 @@ fn tree_of(alloc: Global, head: Head) -> Draft
 fn opened(alloc: Global, draft: &Draft, line: EntryText) -> Result<Open, ManifestKind>
     requires form { IsLine (entry_value line) }
     ensures fields { IfOk result (λ o. (o.sort ≡ line.entry.sort) × (o.stamp ≡ line.entry.stamp) × (o.protect ≡ line.entry.protect) × (o.note ≡ None) × (o.bytes.items ≡ [])) }
-    ensures room { IfOk result (λ o. (path : List (List ℕ)) × IsPathText line.entry.path.now path × IsRoomFor draft.now path o.room) }
+    ensures room { IfOk result (λ o. (path : List (List ℕ)) × IsPathText line.entry.path.now path
+        × IsRoomFor draft.now path o.room) }
     ensures fault { IfErr result (λ kind. StopsIn draft.now.tree (entry_value line.entry) kind) }
 {
     let path = match read_path(alloc, line.path) {
@@ -214,7 +215,8 @@ fn note_or_none(note: Option<Comment>) -> Comment
 // Adds an entry whose lines are all read, in its room.
 fn close(alloc: Global, draft: &mut Draft, last: &mut Open) -> Result<(), ManifestKind>
     requires room { (path : List (List ℕ)) × IsRoomFor draft.old path last.old.room }
-    ensures tree { IfOk result (λ _. (i : Item) → IsOpen last.old i → IsRoomFor draft.old i.path last.old.room → draft.new.tree ≡ with_item draft.old.tree i) }
+    ensures tree { IfOk result (λ _. (i : Item) → IsOpen last.old i → IsRoomFor draft.old i.path last.old.room
+        → draft.new.tree ≡ with_item draft.old.tree i) }
     ensures err { IfErr result (λ kind. kind ≡ ManifestKind.NoMemory) }
 {
     let meta = Meta {

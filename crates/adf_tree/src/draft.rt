@@ -74,7 +74,8 @@ fn free_directory(
     name: &Name,
 ) -> Result<Node, AddFault>
     requires { IsDraft entries.now children.now.buckets.items }
-    ensures room { room_at (walk entries.now).entries name.now (directory_from (walk entries.now).entries 0 path.now) ≡ room_in_tree (walk entries.now).nodes result }
+    ensures room { room_at (walk entries.now).entries name.now (directory_from (walk entries.now).entries 0 path.now)
+        ≡ room_in_tree (walk entries.now).nodes result }
     ensures within { IfOk result (λ m. m ≤ length entries.now) }
 {
     let parent = directory(entries, children, path)?;
@@ -139,8 +140,10 @@ impl Draft {
     /// Adds an entry in a room of this draft, with no further look-up. After `NoMemory` all is as it was.
     pub fn put(&mut self, room: &Room, meta: Meta, body: Body) -> Result<(), NoMemory>
         requires room { (path : List (List ℕ)) × IsRoomFor self.old path room.now }
-        ensures paths { (path : List (List ℕ)) → IsRoomFor self.old path room.now → OnOk result (AddsOne self.old.tree.entries self.new.tree.entries (new_entry self.old.tree.entries path meta body) path) }
-        ensures tree { (path : List (List ℕ)) → IsRoomFor self.old path room.now → self.new.tree ≡ if is_ok result then with_entry self.old.tree path meta body else self.old.tree }
+        ensures paths { (path : List (List ℕ)) → IsRoomFor self.old path room.now → OnOk result
+            (AddsOne self.old.tree.entries self.new.tree.entries (new_entry self.old.tree.entries path meta body) path) }
+        ensures tree { (path : List (List ℕ)) → IsRoomFor self.old path room.now
+            → self.new.tree ≡ if is_ok result then with_entry self.old.tree path meta body else self.old.tree }
     {
         let parent = room.parent;
         let name = room.name.copy();
@@ -159,7 +162,8 @@ impl Draft {
     /// Adds an entry, as `Tree::add` does.
     pub fn add(&mut self, path: &[Name], meta: Meta, body: Body) -> Result<(), AddFault>
         ensures answer { IsAnswer (room_for self.old.tree.entries path.now) result }
-        ensures paths { OnOk result (AddsOne self.old.tree.entries self.new.tree.entries (new_entry self.old.tree.entries path.now meta body) path.now) }
+        ensures paths { OnOk result
+            (AddsOne self.old.tree.entries self.new.tree.entries (new_entry self.old.tree.entries path.now meta body) path.now) }
         ensures tree { self.new.tree ≡ if is_ok result then with_entry self.old.tree path.now meta body else self.old.tree }
     {
         let room = self.room(path)?;
