@@ -6,7 +6,6 @@ use Rattle.std.proofs.lemmas.Bool.{cases_lt, false_from_ne_true}
 use Rattle.std.specs.Prelude.{drop}
 use Rattle.std.proofs.Common.{take_all}
 use Rattle.std.proofs.Math.Seq.{take-append_seam}
-use Rattle.std.proofs.lemmas.Bool.Decides.{nat_tests}
 use Rattle.adf_fields.specs.Hash.{slot_of}
 use Rattle.adf_fields.specs.Words.{block}
 use Rattle.std.specs.Prelude.{◌==◌, ◌&&◌}

@@ -16,7 +16,7 @@ use Rattle.adf_cmd.specs.Answers.{Answer, Answers, AnswersPart, BuildsOrIsFull, 
 use Rattle.adf_cmd.specs.Answers.{built_output, contents_at, on_errors, on_output}
 use Rattle.adf_cmd.specs.CommandLine.{AsksFor, AreRefused, RequestValue, build, cat, check, convert, list}
 use Rattle.adf_manifest.specs.Manifest.{ExplainsFault, IsManifest}
-use Rattle.adf_cmd.specs.Outcomes.{CopyWorks, IsFaultOutcome, IsRefusal, IsRefusedImage, LacksInput, TreeWorks, Works}
+use Rattle.adf_cmd.specs.Outcomes.{CopyWorks, IsFaultOutcome, IsRefusal, IsRefusedImage, TreeWorks, Works}
 use Rattle.adf_cmd.specs.Outcomes.{is_read_fault, outcome_line, status_of}
 use Rattle.adf_cmd.specs.Streams.{Says}
 use Rattle.adf_cmd.specs.Work.{IsNoWork, refusal_line, refusal_status}

@@ -1,4 +1,4 @@
-use Rattle.std.proofs.Common.{◌≡◌, ◌++◌, List, ℕ, [], refl}
+use Rattle.std.proofs.Common.{[], refl}
 use Rattle.adf_cmd.proofs.KnownBytes.{appends_two}
 use Rattle.adf_cmd.proofs.PendingText.{on_err, part_behind, part_of_more, pending_cleared, pending_flushed}
 use Rattle.adf_cmd.proofs.copying.copy_piece.Goals as goal

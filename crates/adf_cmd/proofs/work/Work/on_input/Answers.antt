@@ -1,4 +1,3 @@
-use Rattle.std.proofs.Common.{ap, ◌+◌, take}
 use Rattle.adf_cmd.proofs.LongInputs.{read_works}
 use Rattle.adf_cmd.proofs.work.Work.on_input.Goals as goal
 
