@@ -10,6 +10,7 @@ use Rattle.byteorder.specs.Endian.{big_number}
 use Rattle.adf_fields.specs.Hash.{slot_of}
 use Rattle.adf_fields.specs.Words.{block, word, with_block, long_sum}
 use Rattle.adf_fields.proofs.WordLaws.{length_longs, block_written}
+use Rattle.adf_tree.specs.Meta.{IsBoundedMeta}
 use Rattle.adf_tree.specs.Texts.{is_name}
 use Rattle.adf_tree.specs.declared.entry.Kind.{Kind}
 use Rattle.adf_tree.specs.declared.entry.Kind.TheVariants.{Ofs, Ffs}
@@ -18,8 +19,9 @@ use Rattle.adf_blocks.specs.declared.layout.TheConstants.{CHECKSUM, COMMENT, DAT
 use Rattle.adf_blocks.specs.declared.layout.TheConstants.{OWN_KEY, PARENT, POINTERS, PROTECTION, SECONDARY_TYPE, SIZE, SLOTS, ST_DIR, TYPE, T_SHORT}
 use Rattle.adf_blocks.specs.Fields.{Descends, long}
 use Rattle.adf_fields.specs.Dates.{IsStamp}
-use Rattle.adf_blocks.specs.HeadBlock.{BodyFields, FitsBody, FitsBodyWords, FitsHead, FitsMeta, HeadFields, head_block, head_form, head_table}
-use Rattle.adf_blocks.specs.HeadBlock.{body_at, body_told, ext_of, first_of, has_first, has_type, is_link, is_name_at, meta_at, secondary_of, size_of, table_of}
+use Rattle.adf_blocks.specs.HeadBlock.{BodyFields, FitsBody, FitsBodyWords, FitsHead, HeadFields, head_block, head_form, head_table}
+use Rattle.adf_blocks.specs.HeadBlock.{body_at, body_told, ext_of, first_of, has_first, has_type, is_link, is_name_at, meta_at, secondary_of, size_of}
+use Rattle.adf_blocks.specs.HeadBlock.{table_of}
 use Rattle.adf_blocks.specs.HeadBlock.BodyFields.{DirFields, FileFields}
 use Rattle.adf_blocks.proofs.ClauseLaws.{no_cause}
 use Rattle.adf_blocks.proofs.FieldLaws.{length_sealed_fields, long_number, number_of_field, numbers_of_field, pointer_number, stamp_of_field}
@@ -107,7 +109,7 @@ head_block-secondary h fits =
     word_of_field (head_table h) SECONDARY_TYPE (secondary_of h.body) (head_descends h fits) (search rules) (omega arith) (secondary_small h.body)
 
 -- what the header's meta, body, slots and pointers read as
-pub head_block-meta : (h : HeadFields) → FitsHead h → FitsMeta h.meta → meta_at (head_block h) ≡ h.meta
+pub head_block-meta : (h : HeadFields) → FitsHead h → IsBoundedMeta h.meta → meta_at (head_block h) ≡ h.meta
 head_block-meta h fits small =
     let comment = (head_block-comment h fits).1 in
     let protect = head_block-protect h fits small.protect in

@@ -16,7 +16,6 @@ use Rattle.adf_blocks.specs.declared.layout.TheConstants.{CHECKSUM, COMMENT, DAT
 use Rattle.adf_blocks.specs.declared.layout.TheConstants.{OWN_KEY, PARENT, POINTERS, POINTER_COUNT, PROTECTION, SECONDARY_TYPE, SIZE, SLOTS, ST_DIR, ST_FILE}
 use Rattle.adf_blocks.specs.declared.layout.TheConstants.{ST_LINK_DIR, ST_LINK_FILE, ST_SOFT_LINK, TYPE, T_SHORT}
 use Rattle.adf_blocks.specs.Fields.{Field, downwards, block_of_fields, long, longs, stamp, text}
-use Rattle.adf_fields.specs.Dates.{IsStamp}
 use Rattle.adf_blocks.specs.Forms.{Clause, stamp_at, text_at}
 
 -- the secondary types of the three links: soft, hard to a directory, hard to a file
@@ -168,11 +167,6 @@ pub record FitsHead (h : HeadFields) : Type 0 where
   pub name : is_name h.name ≡ true
   pub comment : length h.meta.comment ≤ 79
   pub body : FitsBody h.body
-
--- the protection and the numbers of the date are words
-pub record FitsMeta (m : Meta) : Type 0 where
-  pub protect : m.protect < 2 ^ 32
-  pub stamp : IsStamp m.stamp
 
 -- the size and the first extension block are words
 pub record FitsBodyWords (b : BodyFields) : Type 0 where

@@ -92,5 +92,6 @@ pub fn written_data_are_read()
     ensures whole { (d : DataFields) → FitsData d → length (data_block d) ≡ 512 }
     ensures form { (d : DataFields) → FitsData d
         → first_cause (data_form d.head d.number (length d.bytes) d.next (data_block d)) ≡ None }
-    ensures bytes { (d : DataFields) → FitsData d → slice_range (data_block d) DATA_BYTES (DATA_BYTES + length d.bytes) ≡ d.bytes }
+    ensures bytes { (d : DataFields) → FitsData d
+        → slice_range (data_block d) DATA_BYTES (DATA_BYTES + length d.bytes) ≡ d.bytes }
 {}

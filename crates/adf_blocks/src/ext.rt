@@ -114,9 +114,12 @@ pub fn write_ext(image: &mut [u8], b: u32, e: &ExtOut<'_>)
 /// An extension block tells the fields that it was written with: the law of its reader and its writer.
 pub fn written_exts_are_read()
     ensures whole { (e : ExtFields) → FitsExt e → length (ext_block e) ≡ 512 }
-    ensures form { (e : ExtFields) → FitsExt e → first_cause (ext_form e.own e.head (ext_block e)) ≡ None }
+    ensures form { (e : ExtFields) → FitsExt e
+        → first_cause (ext_form e.own e.head (ext_block e)) ≡ None }
     // past the last pointer `slice_index` is 0
-    ensures pointers { (e : ExtFields) (j : ℕ) → FitsExt e → j < POINTERS → slice_index e.table j < 2 ^ 32
+    ensures pointers { (e : ExtFields) (j : ℕ) → FitsExt e → j < POINTERS
+        → slice_index e.table j < 2 ^ 32
         → word (ext_block e) (FIRST_POINTER - j) ≡ slice_index e.table j }
-    ensures next { (e : ExtFields) → FitsExt e → e.next < 2 ^ 32 → word (ext_block e) EXTENSION ≡ e.next }
+    ensures next { (e : ExtFields) → FitsExt e → e.next < 2 ^ 32
+        → word (ext_block e) EXTENSION ≡ e.next }
 {}

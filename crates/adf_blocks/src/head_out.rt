@@ -3,11 +3,12 @@
 ghost use Rattle.std.specs.Prelude.{◌≡◌, ◌≤◌, ◌<◌, ◌+◌, ◌-◌, ◌*◌, ◌^◌, ℕ, List, length, slice_index, None};
 ghost use Rattle.adf_fields.specs.Hash.{slot_of};
 ghost use Rattle.adf_fields.specs.Words.{block, with_block, with_bytes, word};
+ghost use Rattle.adf_tree.specs.Meta.{IsBoundedMeta};
 ghost use Rattle.adf_tree.specs.declared.entry.Kind.{Kind};
 ghost use Rattle.adf_fields.specs.Dates.{IsStamp};
 ghost use Rattle.adf_blocks.specs.Forms.{first_cause, stamp_at, text_at};
 ghost use Rattle.adf_blocks.specs.HeadBlock.BodyFields.{DirFields, FileFields};
-ghost use Rattle.adf_blocks.specs.HeadBlock.{FitsBody, FitsBodyWords, FitsHead, FitsMeta, FitsTable, HeadFields, body_at, body_fields, body_told, count_of, ext_of, first_of, head_block, head_fields, head_form, meta_at, secondary_of, size_of, table_of};
+ghost use Rattle.adf_blocks.specs.HeadBlock.{FitsBody, FitsBodyWords, FitsHead, FitsTable, HeadFields, body_at, body_fields, body_told, count_of, ext_of, first_of, head_block, head_fields, head_form, meta_at, secondary_of, size_of, table_of};
 
 use crate::fields::{put_stamp, put_text};
 use crate::layout::{
@@ -73,7 +74,8 @@ fn put_table(block: &mut [u8], body: &HeadOutBody<'_>)
     requires whole { length block.old ≡ 512 }
     requires table { FitsTable (body_fields body.now) }
     ensures fits { FitsBody (body_fields body.now) }
-    ensures exact { let table = table_of (body_fields body.now) in block.new ≡ with_bytes block.old table.0 table.1 }
+    ensures exact { let table = table_of (body_fields body.now) in block.new
+        ≡ with_bytes block.old table.0 table.1 }
 {
     match body {
         HeadOutBody::Dir { slots } => put_words(block, FIRST_SLOT, slots),
@@ -117,10 +119,11 @@ fn head_bytes(h: &HeadOut<'_, '_, '_>) -> [u8; 512]
     requires { FitsTable (body_fields h.now.body) }
     ensures exact { result ≡ head_block (head_fields h.now) }
     ensures fits { FitsHead (head_fields h.now) }
-    ensures meta { FitsMeta h.now.meta.now }
+    ensures meta { IsBoundedMeta h.now.meta.now }
     ensures words { FitsBodyWords (body_fields h.now.body) }
 {
     let (own, parent, protection) = (h.own, h.parent, h.meta.protect);
+    h.meta.bounds();
     let mut block = [0u8; 512];
     put_word(&mut block, TYPE, T_SHORT);
     put_word(&mut block, OWN_KEY, own);
@@ -150,7 +153,7 @@ pub fn write_head(image: &mut [u8], b: u32, h: &HeadOut<'_, '_, '_>)
     ensures form { (kind : Kind) → let slot = slot_of h.now.name.now in
         first_cause (head_form kind h.now.own h.now.parent slot (block image.new b)) ≡ None }
     ensures fits { FitsHead (head_fields h.now) }
-    ensures meta { FitsMeta h.now.meta.now }
+    ensures meta { IsBoundedMeta h.now.meta.now }
     ensures words { FitsBodyWords (body_fields h.now.body) }
 {
     put_block(image, b, &head_bytes(h));
@@ -162,17 +165,22 @@ pub fn written_heads_are_read()
     ensures form { (h : HeadFields) (kind : Kind) → FitsHead h
         → first_cause (head_form kind h.own h.parent (slot_of h.name) (head_block h)) ≡ None }
     ensures name { (h : HeadFields) → FitsHead h → text_at (head_block h) NAME ≡ h.name }
-    ensures comment { (h : HeadFields) → FitsHead h → text_at (head_block h) COMMENT ≡ h.meta.comment }
+    ensures comment { (h : HeadFields) → FitsHead h
+        → text_at (head_block h) COMMENT ≡ h.meta.comment }
     ensures protection { (h : HeadFields) → FitsHead h → h.meta.protect < 2 ^ 32
         → word (head_block h) PROTECTION ≡ h.meta.protect }
     ensures date { (h : HeadFields) → FitsHead h → IsStamp h.meta.stamp
         → stamp_at (head_block h) DATE ≡ h.meta.stamp }
-    ensures meta { (h : HeadFields) → FitsHead h → FitsMeta h.meta → meta_at (head_block h) ≡ h.meta }
-    ensures next { (h : HeadFields) → FitsHead h → h.next < 2 ^ 32 → word (head_block h) NEXT_IN_CHAIN ≡ h.next }
+    ensures meta { (h : HeadFields) → FitsHead h → IsBoundedMeta h.meta
+        → meta_at (head_block h) ≡ h.meta }
+    ensures next { (h : HeadFields) → FitsHead h → h.next < 2 ^ 32
+        → word (head_block h) NEXT_IN_CHAIN ≡ h.next }
     ensures body { (h : HeadFields) → FitsHead h → FitsBodyWords h.body
         → body_at (head_block h) ≡ body_told h.body }
-    ensures slots { (h : HeadFields) (slots : List ℕ) (s : ℕ) → FitsHead h → h.body ≡ DirFields slots → s < SLOTS
-        → slice_index slots s < 2 ^ 32 → word (head_block h) (FIRST_SLOT + s) ≡ slice_index slots s }
+    ensures slots { (h : HeadFields) (slots : List ℕ) (s : ℕ) → FitsHead h
+        → h.body ≡ DirFields slots → s < SLOTS
+        → slice_index slots s < 2 ^ 32
+        → word (head_block h) (FIRST_SLOT + s) ≡ slice_index slots s }
     // past the last pointer `slice_index` is 0
     ensures pointers { (h : HeadFields) (size : ℕ) (table : List ℕ) (ext j : ℕ) → FitsHead h
         → h.body ≡ FileFields size table ext → j < POINTERS → slice_index table j < 2 ^ 32

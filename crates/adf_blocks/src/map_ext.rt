@@ -70,9 +70,12 @@ pub fn write_map_ext(image: &mut [u8], b: u32, pages: &[u32], next: u32)
 
 /// A bitmap extension block tells the numbers that it was written with: the law of its reader and its writer.
 pub fn written_map_exts_are_read()
-    ensures whole { (pages : List ℕ) (next : ℕ) → length pages ≤ MAP_EXT_PAGES → length (map_ext_block pages next) ≡ 512 }
+    ensures whole { (pages : List ℕ) (next : ℕ) → length pages ≤ MAP_EXT_PAGES
+        → length (map_ext_block pages next) ≡ 512 }
     // past the last page `slice_index` is 0
-    ensures pages { (pages : List ℕ) (next j : ℕ) → length pages ≤ MAP_EXT_PAGES → j < MAP_EXT_PAGES → slice_index pages j < 2 ^ 32
+    ensures pages { (pages : List ℕ) (next j : ℕ) → length pages ≤ MAP_EXT_PAGES → j < MAP_EXT_PAGES
+        → slice_index pages j < 2 ^ 32
         → word (map_ext_block pages next) j ≡ slice_index pages j }
-    ensures next { (pages : List ℕ) (next : ℕ) → length pages ≤ MAP_EXT_PAGES → next < 2 ^ 32 → word (map_ext_block pages next) MAP_EXT_NEXT ≡ next }
+    ensures next { (pages : List ℕ) (next : ℕ) → length pages ≤ MAP_EXT_PAGES → next < 2 ^ 32
+        → word (map_ext_block pages next) MAP_EXT_NEXT ≡ next }
 {}

@@ -93,7 +93,8 @@ pub fn write_page(image: &mut [u8], b: u32, bits: &[u32; PAGE_WORDS])
 /// A page tells the bits that it was written with: the law of its reader and its writer.
 pub fn written_pages_are_read()
     ensures whole { (bits : List ℕ) → length bits ≡ PAGE_WORDS → length (page_block bits) ≡ 512 }
-    ensures form { (bits : List ℕ) → length bits ≡ PAGE_WORDS → first_cause (page_form (page_block bits)) ≡ None }
+    ensures form { (bits : List ℕ) → length bits ≡ PAGE_WORDS
+        → first_cause (page_form (page_block bits)) ≡ None }
     ensures bits { (bits : List ℕ) (bit : ℕ) → length bits ≡ PAGE_WORDS → bit < PAGE_BITS
         → slice_index bits (bit / 32) < 2 ^ 32
         → IsFreeBit (page_block bits) bit ↔ IsBitSet (slice_index bits (bit / 32)) (bit % 32) }

@@ -68,12 +68,16 @@ pub fn write_root(image: &mut [u8], b: u32, r: &RootOut<'_, '_>)
 pub fn written_roots_are_read()
     ensures whole { (r : RootFields) → FitsRoot r → length (root_block r) ≡ 512 }
     ensures form { (r : RootFields) → FitsRoot r → first_cause (root_form (root_block r)) ≡ None }
-    ensures slots { (r : RootFields) (s : ℕ) → FitsRoot r → s < SLOTS → slice_index r.slots s < 2 ^ 32
+    ensures slots { (r : RootFields) (s : ℕ) → FitsRoot r → s < SLOTS
+        → slice_index r.slots s < 2 ^ 32
         → word (root_block r) (FIRST_SLOT + s) ≡ slice_index r.slots s }
     // past the last page `slice_index` is 0
-    ensures pages { (r : RootFields) (i : ℕ) → FitsRoot r → i < ROOT_PAGES → slice_index r.pages i < 2 ^ 32
+    ensures pages { (r : RootFields) (i : ℕ) → FitsRoot r → i < ROOT_PAGES
+        → slice_index r.pages i < 2 ^ 32
         → word (root_block r) (FIRST_PAGE + i) ≡ slice_index r.pages i }
-    ensures map_ext { (r : RootFields) → FitsRoot r → r.map_ext < 2 ^ 32 → word (root_block r) FIRST_MAP_EXT ≡ r.map_ext }
+    ensures map_ext { (r : RootFields) → FitsRoot r → r.map_ext < 2 ^ 32
+        → word (root_block r) FIRST_MAP_EXT ≡ r.map_ext }
     ensures label { (r : RootFields) → FitsRoot r → text_at (root_block r) NAME ≡ r.label }
-    ensures stamps { (r : RootFields) → FitsRoot r → AreStamps r.stamps → stamps_at (root_block r) ≡ r.stamps }
+    ensures stamps { (r : RootFields) → FitsRoot r → AreStamps r.stamps
+        → stamps_at (root_block r) ≡ r.stamps }
 {}

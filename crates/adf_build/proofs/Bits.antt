@@ -1,6 +1,6 @@
 -- The bits of the pages tell which blocks are free.
 use Rattle.std.proofs.Common.{◌≡◌, ℕ, zero, suc, List, [], ◌∷◌, ◌++◌, inl, inr, ◌+◌, ◌-◌, ◌*◌, ◌/◌, ◌%◌, ◌^◌, ◌<◌, ◌≤◌, length, refl, sym, ap, subst, ◌∙◌}
-use Rattle.std.proofs.Common.{arith, Bool, true, false, cond, map, take, add-one}
+use Rattle.std.proofs.Common.{arith, Bool, true, false, cond, map, take}
 use Rattle.std.proofs.lemmas.Bool.{cases_lt}
 use Rattle.std.proofs.lemmas.Bool.Decides.{nat_tests}
 use Rattle.std.proofs.Math.Nat.{pow-succ', div-div-eq-div-mul}
@@ -11,13 +11,9 @@ use Rattle.std.proofs.Math.ListN.{set}
 use Rattle.std.specs.List.{range_with_len}
 use Rattle.std.proofs.lemmas.List.{take_more_set}
 use Rattle.std.proofs.lemmas.List.FromFn.{map-range_with_len_more}
-use Rattle.adf_fields.specs.Words.{with_block}
-use Rattle.adf_blocks.specs.PageBlock.{page_block}
 use Rattle.adf_volume.proofs.Lists.{in_left, in_right, in_cases}
 use Rattle.adf_build.specs.Plan.{reserved, nth_free, allocated}
-use Rattle.adf_build.specs.Writes.{with_blocks}
-use Rattle.adf_build.specs.Laid.{page_writes}
-use Rattle.adf_build.specs.Bits.{is_used, bits_from, is_free_bit, page_words}
+use Rattle.adf_build.specs.Bits.{is_used, bits_from, is_free_bit}
 use Rattle.adf_build.proofs.AllocatedBlocks.{stretch, in_allocated, allocated_in, in_range, range_in}
 use Rattle.adf_build.proofs.AllocatedBlocks.Stretch.{low, high}
 
@@ -148,13 +144,3 @@ words_step words n total j w v h e g =
     let f : ℕ → ℕ = λ w. bits_from (is_free_bit n total) (PAGE_BITS * j + 32 * w) 32 in
     take_more_set words w v h ∙ ap (λ l. l ++ v ∷ []) e ∙ ap (λ v. map f (range_with_len 0 w) ++ v ∷ []) g
     ∙ sym (map-range_with_len_more f 0 w w (omega arith))
-
--- one page more
-pub pages_step : (image old all bytes : List ℕ) (n total j b m : ℕ) → b ≡ middle n + 1 + j → j < m → bytes ≡ page_block (page_words n total j)
-    → with_blocks old (page_writes n total j (m - j)) ≡ all → image ≡ with_block old b bytes
-    → with_blocks image (page_writes n total (j + 1) (m - (j + 1))) ≡ all
-pages_step image old all bytes n total j b m at lt e inv w =
-    let split : m - j ≡ suc (m - (j + 1)) = omega arith in
-    let here = rw split at inv in
-    let up = add-one j in
-    cc

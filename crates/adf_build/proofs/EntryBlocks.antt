@@ -1,10 +1,10 @@
 -- Where each entry was laid, and that its header names the next one of its chain.
-use Rattle.std.proofs.Common.{◌≡◌, ℕ, zero, suc, List, [], ◌∷◌, ◌+◌, ◌-◌, ◌^◌, ◌<◌, ◌≤◌, length, map, refl, sym, ap, subst, ◌∙◌, arith, true}
+use Rattle.std.proofs.Common.{◌≡◌, ℕ, zero, suc, List, [], ◌∷◌, ◌+◌, ◌-◌, ◌^◌, ◌<◌, ◌≤◌, map, refl, sym, ap, subst, ◌∙◌, arith, true}
 use Rattle.std.specs.Prelude.{slice_index}
 use Rattle.std.proofs.lemmas.List.FromFn.{get_or-map-range_with_len}
 use Rattle.adf_fields.specs.Hash.{slot_of}
 use Rattle.adf_fields.specs.Words.{block, word}
-use Rattle.adf_tree.specs.Texts.{is_name}
+use Rattle.adf_tree.specs.Bounds.{IsBoundedEntry}
 use Rattle.adf_tree.specs.declared.entry.Kind.{Kind}
 use Rattle.adf_tree.specs.declared.entry.Entry.{Entry}
 use Rattle.adf_tree.specs.declared.entry.Body.TheVariants.{Dir}
@@ -20,49 +20,47 @@ use Rattle.adf_volume.specs.Image.{word_in}
 use Rattle.adf_volume.specs.Layout.{Place, nodes_from, chain_nodes, head_at, exts_at, datas_at, at_node}
 use Rattle.adf_volume.proofs.Sizes.{size_low, size_high}
 use Rattle.adf_build.specs.Plan.{exts_needed, data_blocks, entry_blocks, entries_blocks, blocks_needed, nth_free, allocated, places_from, planned}
-use Rattle.adf_build.specs.Writes.{Holds}
-use Rattle.adf_build.specs.Laid.{first_block, slots_of, body_of, body_writes, head_of, entries_writes, heads_from, node_blocks, planned_root, volume, IsSound}
+use Rattle.adf_build.specs.Writes.{HoldsBlocks}
+use Rattle.adf_build.specs.Laid.{IsWellFormed, body_writes, entries_writes, first_block, heads_from, node_blocks, planned_body, planned_root, slots_of, volume}
 use Rattle.adf_build.proofs.ChainLinks.{Links, spelled_chain}
-use Rattle.adf_build.proofs.WholeBlocks.{fits_head}
+use Rattle.adf_build.proofs.WholeBlocks.{fits_head, entry_head}
 use Rattle.adf_build.proofs.LaidWrites.{below, near, entry_sound, fits_root, volume_blocks, holds_entries, holds_root}
 use Rattle.adf_build.proofs.WrittenBlocks.{holds_left, holds_right}
 
 -- entry j of a list of places, which is entry i of the volume: from which free block on it lies, and what stands there
-pub record Spot (v : List ℕ) (n total : ℕ) (kind : Kind) (nodes : List ℕ) (all : List Entry) (qs : List Place) (j i : ℕ) (e : Entry) : Type 0 where
+pub record Standing (v : List ℕ) (n total : ℕ) (t : Tree) (qs : List Place) (j i : ℕ) (e : Entry) : Type 0 where
   pub k : ℕ
   pub rest : List Entry
-  pub room : k + entry_blocks kind e ≤ total
-  pub head : block v (nth_free n k) ≡ head_block (head_of n kind nodes all i k e rest)
-  pub body : Holds v (body_writes n kind k e.body)
+  pub room : k + entry_blocks t.kind e ≤ total
+  pub head : block v (nth_free n k) ≡ head_block (entry_head n t i k e rest)
+  pub body : HoldsBlocks v (body_writes n t.kind k e.body)
   pub at : head_at qs j ≡ nth_free n k
-  pub exts : exts_at qs j ≡ allocated n (suc k) (exts_needed (data_blocks kind e.body))
-  pub datas : datas_at qs j ≡ allocated n (suc k + exts_needed (data_blocks kind e.body)) (data_blocks kind e.body)
+  pub exts : exts_at qs j ≡ allocated n (suc k) (exts_needed (data_blocks t.kind e.body))
+  pub datas : datas_at qs j ≡ allocated n (suc k + exts_needed (data_blocks t.kind e.body)) (data_blocks t.kind e.body)
 
-spots : (v : List ℕ) (n total : ℕ) (kind : Kind) (nodes : List ℕ) (all : List Entry) (i k : ℕ) (es : List Entry)
-    → Holds v (entries_writes n kind nodes all i k es) → k + entries_blocks kind es ≤ total
-    → (j : ℕ) (e : Entry) → At es j e → Spot v n total kind nodes all (places_from n kind k es) j (i + j) e
-spots v n total kind nodes all i k [] h l j e a = absurd a
-spots v n total kind nodes all i k (x ∷ es) h l zero e a =
+all_stand : (v : List ℕ) (n total : ℕ) (t : Tree) (i k : ℕ) (es : List Entry)
+    → HoldsBlocks v (entries_writes n t i k es) → k + entries_blocks t.kind es ≤ total
+    → (j : ℕ) (e : Entry) → At es j e → Standing v n total t (places_from n t.kind k es) j (i + j) e
+all_stand v n total t i k [] h l j e a = absurd a
+all_stand v n total t i k (x ∷ es) h l zero e a =
     let z : i ≡ i + 0 = omega arith in
-    subst (λ m. Spot v n total kind nodes all (places_from n kind k (x ∷ es)) 0 m e) z
-    (subst (λ e. Spot v n total kind nodes all (places_from n kind k (x ∷ es)) 0 i e) a
+    subst (λ m. Standing v n total t (places_from n t.kind k (x ∷ es)) 0 m e) z
+    (subst (λ e. Standing v n total t (places_from n t.kind k (x ∷ es)) 0 i e) a
     (record {
       k = k;
       rest = es;
       room = omega arith;
       head = h.0;
-      body =
-          holds_left v (body_writes n kind k x.body) (entries_writes n kind nodes all (suc i) (k + entry_blocks kind x) es) h.1;
+      body = holds_left v (body_writes n t.kind k x.body) (entries_writes n t (suc i) (k + entry_blocks t.kind x) es) h.1;
       at = refl;
       exts = refl;
-      datas =
-          refl;
+      datas = refl;
     }))
-spots v n total kind nodes all i k (x ∷ es) h l (suc j) e a =
-    let s = spots v n total kind nodes all (suc i) (k + entry_blocks kind x) es
-    (holds_right v (body_writes n kind k x.body) (entries_writes n kind nodes all (suc i) (k + entry_blocks kind x) es) h.1) (omega arith) j e a in
+all_stand v n total t i k (x ∷ es) h l (suc j) e a =
+    let s = all_stand v n total t (suc i) (k + entry_blocks t.kind x) es
+    (holds_right v (body_writes n t.kind k x.body) (entries_writes n t (suc i) (k + entry_blocks t.kind x) es) h.1) (omega arith) j e a in
     let z : suc i + j ≡ i + suc j = omega arith in
-    subst (λ m. Spot v n total kind nodes all (places_from n kind k (x ∷ es)) (suc j) m e) z
+    subst (λ m. Standing v n total t (places_from n t.kind k (x ∷ es)) (suc j) m e) z
     (record { k = s.k; rest = s.rest; room = s.room; head = s.head; body = s.body; at = s.at; exts = s.exts; datas = s.datas })
 
 heads_places : (n : ℕ) (kind : Kind) (k : ℕ) (es : List Entry) (j : ℕ) → slice_index (heads_from n kind k es) j ≡ head_at (places_from n kind k es) j
@@ -74,36 +72,34 @@ first_near : (at : ℕ → ℕ) (ns : List ℕ) → ((j : ℕ) → at j < 2 ^ 32
 first_near at [] f = omega arith
 first_near at (m ∷ ms) f = f m
 
-module _ (t : Tree) (n : ℕ) (sound : IsSound t) (allowed : is_allowed n ≡ true) (room : blocks_needed t n ≤ n - 2) where
-  -- the spot of each entry
-  pub spot : (i : ℕ) (e : Entry) → At t.entries i e
-      → Spot (volume t n) n (entries_blocks t.kind t.entries) t.kind (node_blocks t n) t.entries (places_from n t.kind 0 t.entries) i (suc i) e
-  spot i e h =
+module _ (t : Tree) (n : ℕ) (sound : IsWellFormed t) (allowed : is_allowed n ≡ true) (room : blocks_needed t n ≤ n - 2) where
+  -- where each entry stands
+  pub standing : (i : ℕ) (e : Entry) → At t.entries i e
+      → Standing (volume t n) n (entries_blocks t.kind t.entries) t (places_from n t.kind 0 t.entries) i (suc i) e
+  standing i e h =
       let z : 1 + i ≡ suc i = omega arith in
-      subst (λ m. Spot (volume t n) n (entries_blocks t.kind t.entries) t.kind (node_blocks t n) t.entries (places_from n t.kind 0 t.entries) i m e) z
-      (spots (volume t n) n (entries_blocks t.kind t.entries) t.kind (node_blocks t n) t.entries 1 0 t.entries (holds_entries t n sound allowed room)
-      (omega arith) i e h)
+      subst (λ m. Standing (volume t n) n (entries_blocks t.kind t.entries) t (places_from n t.kind 0 t.entries) i m e) z
+      (all_stand (volume t n) n (entries_blocks t.kind t.entries) t 1 0 t.entries (holds_entries t n sound allowed room) (omega arith) i e h)
 
   pub nodes_at : (j : ℕ) → slice_index (node_blocks t n) j ≡ at_node (volume t n) (planned t n) j
   nodes_at zero = ap middle (sym (volume_blocks t n sound allowed room))
   nodes_at (suc j) = heads_places n t.kind 0 t.entries j
 
   -- the fields of each header are words
-  pub head_fits : (i : ℕ) (e : Entry) (h : At t.entries i e)
-      → FitsHead (head_of n t.kind (node_blocks t n) t.entries (suc i) (spot i e h).k e (spot i e h).rest)
+  pub head_fits : (i : ℕ) (e : Entry) (h : At t.entries i e) → FitsHead (entry_head n t (suc i) (standing i e h).k e (standing i e h).rest)
   head_fits i e h =
-      let s = spot i e h in
+      let s = standing i e h in
       let r : s.k + entry_blocks t.kind e ≤ entries_blocks t.kind t.entries = s.room in
       let high = size_high n allowed in
-      let g = entry_sound t n sound allowed room i e h in
+      let b = entry_sound t n sound allowed room i e h in
       let four = size_low n allowed in
-      fits_head n (entries_blocks t.kind t.entries) (omega arith) (omega arith) (below t n sound allowed room) t.kind (node_blocks t n) t.entries (suc i)
-      s.k e s.rest (near t n sound allowed room) (omega arith) g.0 g.1
+      fits_head n (entries_blocks t.kind t.entries) (omega arith) (omega arith) (below t n sound allowed room) t (suc i) s.k e s.rest
+      (near t n sound allowed room) (omega arith) b.name b.meta.comment
 
   links : (i k : ℕ) (es : List Entry) → ((j : ℕ) → slice_index (node_blocks t n) (i + j) ≡ slice_index (heads_from n t.kind k es) j)
-      → Holds (volume t n) (entries_writes n t.kind (node_blocks t n) t.entries i k es)
+      → HoldsBlocks (volume t n) (entries_writes n t i k es)
       → k + entries_blocks t.kind es ≤ entries_blocks t.kind t.entries
-      → ((j : ℕ) (e : Entry) → At es j e → (is_name e.name ≡ true) × (length e.meta.comment ≤ 79))
+      → ((j : ℕ) (e : Entry) → At es j e → IsBoundedEntry e)
       → Links (λ b. word_in (volume t n) b NEXT_IN_CHAIN) (slice_index (node_blocks t n)) i es
   links i k [] f h l g = tt
   links i k (e ∷ es) f h l g =
@@ -111,15 +107,15 @@ module _ (t : Tree) (n : ℕ) (sound : IsSound t) (allowed : is_allowed n ≡ tr
       let a : slice_index (node_blocks t n) i ≡ nth_free n k = ap (slice_index (node_blocks t n)) (sym z) ∙ f 0 in
       let high = size_high n allowed in
       let four = size_low n allowed in
-      let p = g 0 e refl in
-      let fh = fits_head n (entries_blocks t.kind t.entries) (omega arith) (omega arith) (below t n sound allowed room) t.kind (node_blocks t n) t.entries i
-      k e es (near t n sound allowed room) (omega arith) p.0 p.1 in
+      let b = g 0 e refl in
+      let fh = fits_head n (entries_blocks t.kind t.entries) (omega arith) (omega arith) (below t n sound allowed room) t i k e es
+      (near t n sound allowed room) (omega arith) b.name b.meta.comment in
       let nx = first_near (slice_index (node_blocks t n)) (nodes_from (suc i) es e.parent (slot_of e.name)) (near t n sound allowed room) in (
         ap (λ b. word_in (volume t n) b NEXT_IN_CHAIN) a
-            ∙ (ap (λ bs. word bs NEXT_IN_CHAIN) h.0 ∙ head_block-next (head_of n t.kind (node_blocks t n) t.entries i k e es) fh nx),
+            ∙ (ap (λ bs. word bs NEXT_IN_CHAIN) h.0 ∙ head_block-next (entry_head n t i k e es) fh nx),
         links (suc i) (k + entry_blocks t.kind e) es (λ j. let y : suc i + j ≡ i + suc j = omega arith in ap (slice_index (node_blocks t n)) y ∙ f (suc j))
-            (holds_right (volume t n) (body_writes n t.kind k e.body) (entries_writes n t.kind (node_blocks t n) t.entries (suc i) (k + entry_blocks t.kind e)
-            es) h.1) (omega arith) (λ j d q. g (suc j) d q),
+            (holds_right (volume t n) (body_writes n t.kind k e.body) (entries_writes n t (suc i) (k + entry_blocks t.kind e) es) h.1)
+            (omega arith) (λ j d q. g (suc j) d q),
       )
 
   all_links : Links (λ b. word_in (volume t n) b NEXT_IN_CHAIN) (slice_index (node_blocks t n)) 1 t.entries
@@ -150,14 +146,14 @@ module _ (t : Tree) (n : ℕ) (sound : IsSound t) (allowed : is_allowed n ≡ tr
       ∙ (root_block-slot (planned_root t n) s (fits_root t n sound allowed room) l small ∙ e)
 
   pub dir_slot : (i s : ℕ) (e : Entry) (h : At t.entries i e) → e.body ≡ Dir → s < SLOTS
-      → word_in (volume t n) (nth_free n (spot i e h).k) (FIRST_SLOT + s) ≡ first_block (slice_index (node_blocks t n)) (chain_nodes t (suc i) s)
+      → word_in (volume t n) (nth_free n (standing i e h).k) (FIRST_SLOT + s) ≡ first_block (slice_index (node_blocks t n)) (chain_nodes t (suc i) s)
   dir_slot i s e h d l =
-      let p = spot i e h in
+      let p = standing i e h in
       let y = slot_is (suc i) s l in
       let small : slice_index (slots_of (node_blocks t n) t.entries (suc i)) s < 2 ^ 32 =
       subst (λ m. m < 2 ^ 32) (sym y) (first_near (slice_index (node_blocks t n)) (chain_nodes t (suc i) s) (near t n sound allowed room)) in
-      let b : body_of n p.k t.kind (slots_of (node_blocks t n) t.entries (suc i)) e.body ≡ DirFields (slots_of (node_blocks t n) t.entries (suc i)) =
-      ap (body_of n p.k t.kind (slots_of (node_blocks t n) t.entries (suc i))) d in
+      let b : planned_body n p.k t.kind (slots_of (node_blocks t n) t.entries (suc i)) e.body ≡ DirFields (slots_of (node_blocks t n) t.entries (suc i)) =
+      ap (planned_body n p.k t.kind (slots_of (node_blocks t n) t.entries (suc i))) d in
       ap (λ bs. word bs (FIRST_SLOT + s)) p.head
-      ∙ (head_block-slot (head_of n t.kind (node_blocks t n) t.entries (suc i) p.k e p.rest) (slots_of (node_blocks t n) t.entries (suc i)) s
+      ∙ (head_block-slot (entry_head n t (suc i) p.k e p.rest) (slots_of (node_blocks t n) t.entries (suc i)) s
       (head_fits i e h) b l small ∙ y)

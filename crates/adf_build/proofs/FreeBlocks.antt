@@ -13,11 +13,7 @@ use Rattle.adf_build.specs.Bits.{is_used}
 use Rattle.adf_build.specs.Plan.{nth_free, reserved, allocated}
 use Rattle.adf_build.proofs.AllocatedBlocks.{free_below, allocated-append}
 
--- the pages and the bitmap extension blocks stand behind the root
-pub reserved_is : (n p m : ℕ) → p ≡ pages_needed n → m ≡ map_exts_needed (pages_needed n) → p + m ≡ reserved n
-unfolding reserved
-reserved_is n p m e f = omega arith
-
+-- the pages and the bitmap extension blocks are few
 pub reserved_few : (n p m : ℕ) → is_allowed n ≡ true → p ≡ pages_needed n → m ≡ map_exts_needed (pages_needed n) → p + m < 2 ^ 16
 unfolding map_exts_needed
 reserved_few n p m a e f = let high = size_high n a in omega arith

@@ -12,7 +12,7 @@ use Rattle.adf_tree.specs.Tree.{Tree}
 use Rattle.adf_blocks.specs.Sizes.{chunk, count, is_allowed}
 use Rattle.adf_blocks.specs.declared.layout.TheConstants.{EXTENSION, FIRST_POINTER, NAME, POINTERS, SECONDARY_TYPE, SIZE}
 use Rattle.adf_blocks.specs.Forms.{text_at}
-use Rattle.adf_blocks.specs.HeadBlock.{HeadFields, FitsMeta, meta_at, secondary_of, size_of, ext_of, head_form}
+use Rattle.adf_blocks.specs.HeadBlock.{HeadFields, meta_at, secondary_of, size_of, ext_of, head_form}
 use Rattle.adf_blocks.specs.HeadBlock.BodyFields.{FileFields}
 use Rattle.adf_blocks.proofs.HeadLaws.{head_block-form, head_block-name, head_block-meta, head_block-secondary, head_block-size, head_block-ext}
 use Rattle.adf_blocks.proofs.HeadLaws.{head_block-pointer}
@@ -23,16 +23,15 @@ use Rattle.adf_volume.specs.Demands.{AllHold, head_demands, data_demands}
 use Rattle.adf_volume.specs.Layout.{at_node, exts_of, datas_of}
 use Rattle.adf_volume.specs.Fits.{EntryFits, FileFits, BodyFits, TableAt}
 use Rattle.adf_volume.proofs.FormDemands.{all_demanded}
-use Rattle.adf_volume.proofs.Lists.{at_below, at_index_or}
 use Rattle.adf_volume.proofs.Sizes.{size_low, size_high}
 use Rattle.adf_build.specs.Plan.{exts_needed, data_blocks, entries_blocks, blocks_needed, nth_free, allocated, places_from, planned}
-use Rattle.adf_build.specs.Writes.{Holds}
-use Rattle.adf_build.specs.Laid.{nth_free_or_none, slots_of, body_of, body_writes, data_writes, ext_writes, head_of, node_blocks, volume, IsSound}
+use Rattle.adf_build.specs.Writes.{HoldsBlocks}
+use Rattle.adf_build.specs.Laid.{IsWellFormed, body_writes, data_writes, ext_writes, node_blocks, nth_free_or_none, planned_body, slots_of, volume}
 use Rattle.adf_build.proofs.AllocatedBlocks.{length_allocated}
-use Rattle.adf_build.proofs.WholeBlocks.{next_small}
-use Rattle.adf_build.proofs.LaidWrites.{below}
+use Rattle.adf_build.proofs.WholeBlocks.{next_small, entry_head}
+use Rattle.adf_build.proofs.LaidWrites.{below, entry_sound}
 use Rattle.adf_build.proofs.WrittenBlocks.{holds_left, holds_right}
-use Rattle.adf_build.proofs.EntryBlocks.{Spot, spot, nodes_at, head_fits}
+use Rattle.adf_build.proofs.EntryBlocks.{Standing, head_fits, nodes_at, standing}
 use Rattle.adf_build.proofs.LaidFiles.{allocated_at, allocated_index, exts_linked, exts_formed, exts_point, bytes_held, datas_formed, held_long}
 use Rattle.adf_build.proofs.FreeBlocks.{size_small}
 
@@ -49,21 +48,13 @@ exts_enough : (c : ℕ) → c ≤ POINTERS * suc (exts_needed c)
 unfolding exts_needed
 exts_enough c = omega arith
 
-exts_some : (c m : ℕ) → m < exts_needed c → POINTERS < c
-unfolding exts_needed
-exts_some c m h = omega arith
-
-module _ (t : Tree) (n : ℕ) (sound : IsSound t) (allowed : is_allowed n ≡ true) (room : blocks_needed t n ≤ n - 2) (i : ℕ) (e : Entry)
+module _ (t : Tree) (n : ℕ) (sound : IsWellFormed t) (allowed : is_allowed n ≡ true) (room : blocks_needed t n ≤ n - 2) (i : ℕ) (e : Entry)
     (h : At t.entries i e) where
-  abbrev here : Spot (volume t n) n (entries_blocks t.kind t.entries) t.kind (node_blocks t n) t.entries (places_from n t.kind 0 t.entries) i (suc i) e
-  here = spot t n sound allowed room i e h
+  abbrev here : Standing (volume t n) n (entries_blocks t.kind t.entries) t (places_from n t.kind 0 t.entries) i (suc i) e
+  here = standing t n sound allowed room i e h
 
   abbrev fields : HeadFields
-  fields = head_of n t.kind (node_blocks t n) t.entries (suc i) here.k e here.rest
-
-  meta_fits : FitsMeta e.meta
-  meta_fits =
-      let l : i < length t.entries = at_below t.entries i e h in subst (λ (x : Entry). FitsMeta x.meta) (at_index_or t.entries i e e h) (sound.metas i e l)
+  fields = entry_head n t (suc i) here.k e here.rest
 
   form_laid : AllHold (head_demands (volume t n) t.kind (nth_free n here.k) (at_node (volume t n) (planned t n) e.parent) (slot_of e.name))
   form_laid =
@@ -77,10 +68,11 @@ module _ (t : Tree) (n : ℕ) (sound : IsSound t) (allowed : is_allowed n ≡ tr
 
   meta_laid : e.meta ≡ meta_of (volume t n) (nth_free n here.k)
   unfolding meta_of
-  meta_laid = sym (ap meta_at here.head ∙ head_block-meta fields (head_fits t n sound allowed room i e h) meta_fits)
+  meta_laid = sym (ap meta_at here.head ∙ head_block-meta fields (head_fits t n sound allowed room i e h)
+      (entry_sound t n sound allowed room i e h).meta)
 
   type_laid : word_in (volume t n) (nth_free n here.k) SECONDARY_TYPE
-      ≡ secondary_of (body_of n here.k t.kind (slots_of (node_blocks t n) t.entries (suc i)) e.body)
+      ≡ secondary_of (planned_body n here.k t.kind (slots_of (node_blocks t n) t.entries (suc i)) e.body)
   type_laid = ap (λ bs. word bs SECONDARY_TYPE) here.head ∙ head_block-secondary fields (head_fits t n sound allowed room i e h)
 
   -- the blocks that the entry takes
@@ -89,9 +81,6 @@ module _ (t : Tree) (n : ℕ) (sound : IsSound t) (allowed : is_allowed n ≡ tr
 
   few : entries_blocks t.kind t.entries < 2 ^ 32
   few = let high = size_high n allowed in let four = size_low n allowed in omega arith
-
-  lies : nth_free n here.k < n
-  lies = let r = kept_blocks in below t n sound allowed room here.k (omega arith)
 
   small : n < 2 ^ 32
   small = let high = size_high n allowed in omega arith
@@ -112,10 +101,10 @@ module _ (t : Tree) (n : ℕ) (sound : IsSound t) (allowed : is_allowed n ≡ tr
     data_run = allocated n (suc here.k + file_exts) file_datas
 
     abbrev ext_parts : List (ℕ × List ℕ)
-    ext_parts = ext_writes n (nth_free n here.k) (suc here.k) (suc here.k + file_exts + POINTERS) (file_datas - POINTERS) file_exts
+    ext_parts = ext_writes n here.k file_datas
 
     abbrev data_parts : List (ℕ × List ℕ)
-    data_parts = data_writes n t.kind (nth_free n here.k) (suc here.k + file_exts) 1 bytes file_datas
+    data_parts = data_writes n t.kind here.k bytes
 
     file_blocks : here.k + (1 + file_exts + file_datas) ≤ entries_blocks t.kind t.entries
     file_blocks = subst (λ b. here.k + (1 + exts_needed (data_blocks t.kind b) + data_blocks t.kind b) ≤ entries_blocks t.kind t.entries) is kept_blocks
@@ -128,17 +117,17 @@ module _ (t : Tree) (n : ℕ) (sound : IsSound t) (allowed : is_allowed n ≡ tr
         let four = size_low n allowed in
         omega arith
 
-    body_is : body_of n here.k t.kind (slots_of (node_blocks t n) t.entries (suc i)) e.body
+    body_is : planned_body n here.k t.kind (slots_of (node_blocks t n) t.entries (suc i)) e.body
         ≡ FileFields (length bytes) (allocated n (suc here.k + file_exts) (min POINTERS file_datas)) (nth_free_or_none n (suc here.k) file_exts)
-    body_is = ap (body_of n here.k t.kind (slots_of (node_blocks t n) t.entries (suc i))) is
+    body_is = ap (planned_body n here.k t.kind (slots_of (node_blocks t n) t.entries (suc i))) is
 
-    writes_hold : Holds (volume t n) (body_writes n t.kind here.k (File bytes))
-    writes_hold = subst (λ b. Holds (volume t n) (body_writes n t.kind here.k b)) is here.body
+    writes_hold : HoldsBlocks (volume t n) (body_writes n t.kind here.k (File bytes))
+    writes_hold = subst (λ b. HoldsBlocks (volume t n) (body_writes n t.kind here.k b)) is here.body
 
-    exts_hold : Holds (volume t n) ext_parts
+    exts_hold : HoldsBlocks (volume t n) ext_parts
     exts_hold = holds_left (volume t n) ext_parts data_parts writes_hold
 
-    datas_hold : Holds (volume t n) data_parts
+    datas_hold : HoldsBlocks (volume t n) data_parts
     datas_hold = holds_right (volume t n) ext_parts data_parts writes_hold
 
     exts_are : exts_of (planned t n) (suc i) ≡ ext_run
@@ -155,11 +144,9 @@ module _ (t : Tree) (n : ℕ) (sound : IsSound t) (allowed : is_allowed n ≡ tr
     content_laid : bytes ≡ content (volume t n) t.kind (nth_free n here.k) data_run
     unfolding content
     content_laid =
-        let b = file_blocks in
-        let f = few in
         sym (ap (λ m. take m (joined (volume t n) t.kind data_run)) size_laid
-        ∙ bytes_held (volume t n) n (entries_blocks t.kind t.entries) small few (below t n sound allowed room) (nth_free n here.k) lies t.kind
-        (suc here.k + file_exts) 1 bytes file_datas (omega arith) (omega arith) datas_hold (chunks_cover t.kind (length bytes)))
+        ∙ bytes_held (volume t n) n (entries_blocks t.kind t.entries) small few (below t n sound allowed room) here.k t.kind bytes file_blocks datas_hold
+        (chunks_cover t.kind (length bytes)))
 
     -- the header or the extension block that names data block j
     named_laid : (q j b a : ℕ) → j / POINTERS ≡ q → At data_run j b
@@ -177,36 +164,30 @@ module _ (t : Tree) (n : ℕ) (sound : IsSound t) (allowed : is_allowed n ≡ tr
         ap (λ a. word_in (volume t n) a (FIRST_POINTER - j % POINTERS)) (sym at_head)
         ∙ (ap (λ m. word_in (volume t n) (nth_free n here.k) (FIRST_POINTER - m)) m
         ∙ (ap (λ bs. word bs (FIRST_POINTER - j)) here.head
-        ∙ (head_block-pointer fields (length bytes) (allocated n (suc here.k + file_exts) (min POINTERS file_datas)) (nth_free_or_none n (suc here.k) file_exts)
-        j (head_fits t n sound allowed room i e h) body_is lt
+        ∙ (head_block-pointer fields (length bytes) (allocated n (suc here.k + file_exts) (min POINTERS file_datas))
+        (nth_free_or_none n (suc here.k) file_exts) j (head_fits t n sound allowed room i e h) body_is lt
         ∙ (long_number (slice_index (allocated n (suc here.k + file_exts) (min POINTERS file_datas)) j) (omega arith)
         ∙ (idx ∙ sym place.1)))))
     named_laid (suc q) j b a z at ta =
         let place = allocated_at n (suc here.k + file_exts) file_datas j b at in
         let ax : At ext_run q a = subst (λ xs. At xs q a) exts_are ta in
-        let table = allocated_at n (suc here.k) file_exts q a ax in
-        let more : POINTERS < file_datas = exts_some file_datas q (omega arith) in
-        let fb = file_blocks in
-        let y : suc here.k + file_exts + POINTERS + POINTERS * q + j % POINTERS ≡ suc here.k + file_exts + j = omega arith in
-        exts_point (volume t n) n (entries_blocks t.kind t.entries) small few (below t n sound allowed room) (nth_free n here.k) lies (suc here.k)
-        (suc here.k + file_exts + POINTERS) (file_datas - POINTERS) file_exts (omega arith) (omega arith) exts_hold q a (j % POINTERS) ax (omega arith)
-        (omega arith)
+        let y : suc here.k + file_exts + (POINTERS * suc q + j % POINTERS) ≡ suc here.k + file_exts + j = omega arith in
+        exts_point (volume t n) n (entries_blocks t.kind t.entries) small few (below t n sound allowed room) here.k file_datas file_blocks exts_hold q a
+        (j % POINTERS) ax (omega arith) (omega arith)
         ∙ (ap (nth_free n) y ∙ sym place.1)
 
     formed_laid : (kind : Kind) → t.kind ≡ kind → (j b : ℕ) → At data_run j b
         → AllHold (data_demands (volume t n) kind b (nth_free n here.k) (suc j) (held kind (length bytes) (suc j)) (slice_index data_run (suc j)))
     formed_laid Ffs z j b at = tt
     formed_laid Ofs z j b at =
-        let place = allocated_at n (suc here.k + file_exts) file_datas j b at in
-        let co : file_datas ≡ count Ofs (length bytes) = ap (λ k. count k (length bytes)) z in
-        let fb = file_blocks in
-        let f = few in
-        let y : 1 + j ≡ suc j = omega arith in
-        let ho : Holds (volume t n) (data_writes n Ofs (nth_free n here.k) (suc here.k + file_exts) 1 bytes file_datas) =
-        subst (λ k. Holds (volume t n) (data_writes n k (nth_free n here.k) (suc here.k + file_exts) 1 bytes file_datas)) z datas_hold in
-        subst (λ m. AllHold (data_demands (volume t n) Ofs b (nth_free n here.k) m (held Ofs (length bytes) (suc j)) (slice_index data_run (suc j)))) y
-        (rw (← held_long bytes j) (datas_formed (volume t n) n (entries_blocks t.kind t.entries) small few (below t n sound allowed room) (nth_free n here.k)
-        lies (suc here.k + file_exts) 1 bytes file_datas (omega arith) (omega arith) ho j b at))
+        let e : ℕ = count Ofs (length bytes) in
+        let co : file_datas ≡ e = ap (λ k. count k (length bytes)) z in
+        let fb : here.k + (1 + exts_needed e + e) ≤ entries_blocks t.kind t.entries = rw co at file_blocks in
+        let ho : HoldsBlocks (volume t n) (data_writes n Ofs here.k bytes) =
+        subst (λ k. HoldsBlocks (volume t n) (data_writes n k here.k bytes)) z datas_hold in
+        let run : At (allocated n (suc here.k + exts_needed e) e) j b = rw co at at in
+        rw (co, ← held_long bytes j)
+        (datas_formed (volume t n) n (entries_blocks t.kind t.entries) small few (below t n sound allowed room) here.k bytes fb ho j b run)
 
     file_at : FileFits (volume t n) t (planned t n) (suc i) (nth_free n here.k) bytes
     file_at =
@@ -219,11 +200,9 @@ module _ (t : Tree) (n : ℕ) (sound : IsSound t) (allowed : is_allowed n ≡ tr
         record {
           exts = subst (λ xs. Spelled (λ b. word_in (volume t n) b EXTENSION) (word_in (volume t n) (nth_free n here.k) EXTENSION) xs) (sym exts_are)
               (subst (λ w. Spelled (λ b. word_in (volume t n) b EXTENSION) w ext_run) (sym first)
-              (exts_linked (volume t n) n (entries_blocks t.kind t.entries) small few (below t n sound allowed room) (nth_free n here.k) lies (suc here.k)
-              (suc here.k + file_exts + POINTERS) (file_datas - POINTERS) file_exts (omega arith) exts_hold));
-          ext_form = (λ k b a. exts_formed (volume t n) n (entries_blocks t.kind t.entries) small few (below t n sound allowed room) (nth_free n here.k) lies
-              (suc here.k) (suc here.k + file_exts + POINTERS) (file_datas - POINTERS) file_exts (omega arith) exts_hold k b
-              (subst (λ xs. At xs k b) exts_are a));
+              (exts_linked (volume t n) n (entries_blocks t.kind t.entries) small few (below t n sound allowed room) here.k file_datas file_blocks exts_hold));
+          ext_form = (λ k b a. exts_formed (volume t n) n (entries_blocks t.kind t.entries) small few (below t n sound allowed room) here.k file_datas
+              file_blocks exts_hold k b (subst (λ xs. At xs k b) exts_are a));
           enough = (let a = exts_enough file_datas in let l : length (exts_of (planned t n) (suc i)) ≡ file_exts =
               ap length exts_are ∙ length_allocated n (suc here.k) file_exts in omega arith);
           datas = ap length datas_are ∙ length_allocated n (suc here.k + file_exts) file_datas;
@@ -237,12 +216,12 @@ module _ (t : Tree) (n : ℕ) (sound : IsSound t) (allowed : is_allowed n ≡ tr
 
   body_laid : (b : Body) → e.body ≡ b → BodyFits (volume t n) t.kind (planned t n) (suc i) (nth_free n here.k) b
   body_laid Dir z = (
-    type_laid ∙ ap (λ b. secondary_of (body_of n here.k t.kind (slots_of (node_blocks t n) t.entries (suc i)) b)) z,
+    type_laid ∙ ap (λ b. secondary_of (planned_body n here.k t.kind (slots_of (node_blocks t n) t.entries (suc i)) b)) z,
     here.exts ∙ (ap (λ b. allocated n (suc here.k) (exts_needed (data_blocks t.kind b))) z ∙ ap (allocated n (suc here.k)) no_exts),
     here.datas ∙ ap (λ b. allocated n (suc here.k + exts_needed (data_blocks t.kind b)) (data_blocks t.kind b)) z,
   )
   body_laid (File bytes) z = (
-    type_laid ∙ ap (λ b. secondary_of (body_of n here.k t.kind (slots_of (node_blocks t n) t.entries (suc i)) b)) z,
+    type_laid ∙ ap (λ b. secondary_of (planned_body n here.k t.kind (slots_of (node_blocks t n) t.entries (suc i)) b)) z,
     content_laid bytes z ∙ ap (content (volume t n) t.kind (nth_free n here.k)) (sym (datas_are bytes z)),
     sym (size_laid bytes z),
   )

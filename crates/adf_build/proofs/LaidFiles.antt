@@ -12,24 +12,22 @@ use Rattle.adf_tree.specs.declared.entry.Kind.{Kind}
 use Rattle.adf_tree.specs.declared.entry.Kind.TheVariants.{Ofs, Ffs}
 use Rattle.adf_blocks.specs.declared.layout.TheConstants.{DATA_BYTES, DATA_ROOM, EXTENSION, FIRST_POINTER, POINTERS}
 use Rattle.adf_blocks.specs.Forms.{first_cause}
-use Rattle.adf_blocks.specs.ExtBlock.{ext_form}
+use Rattle.adf_blocks.specs.ExtBlock.{FitsExt, ext_block, ext_form}
 use Rattle.adf_blocks.specs.DataBlock.{data_form}
 use Rattle.adf_blocks.proofs.ExtLaws.{ext_block-form, ext_block-next, ext_block-pointer}
 use Rattle.adf_blocks.proofs.DataLaws.{data_block-form, data_block-bytes}
 use Rattle.adf_volume.specs.Lists.{At, Spelled}
-use Rattle.adf_blocks.specs.Sizes.{chunk}
+use Rattle.adf_blocks.specs.Sizes.{chunk, count}
 use Rattle.adf_volume.specs.Image.{word_in, held, area, joined}
 use Rattle.adf_volume.specs.Demands.{AllHold, ext_demands, data_demands}
 use Rattle.adf_volume.proofs.FormDemands.{all_demanded}
-use Rattle.adf_volume.proofs.Lists.{at_below, at_index}
+use Rattle.adf_volume.proofs.Lists.{at_below, at_index, index_past}
 use Rattle.adf_build.proofs.AllocatedBlocks.{length_allocated}
-use Rattle.adf_build.specs.Plan.{nth_free, allocated}
-use Rattle.adf_build.specs.Writes.{Holds}
-use Rattle.adf_build.specs.Laid.{nth_free_or_none, data_bytes, data_writes, planned_ext, ext_writes}
+use Rattle.adf_build.specs.Plan.{allocated, exts_needed, nth_free}
+use Rattle.adf_build.specs.Writes.{HoldsBlocks}
+use Rattle.adf_build.specs.Laid.{data_bytes, data_part, data_writes, ext_part, ext_writes, nth_free_or_none, planned_data, planned_ext}
+use Rattle.adf_build.proofs.Parts.{part_held}
 use Rattle.adf_build.proofs.WholeBlocks.{next_small, fits_ext, fits_data, data_long, chunk_small, chunk_ofs}
-
-some_free : (n k m : ℕ) → nth_free_or_none n k (suc m) ≡ nth_free n k
-some_free n k m = let t : nat_lt 0 (suc m) ≡ true = grind (arith, nat_tests) in ap (λ t. cond t (nth_free n k) 0) t
 
 -- block j of a run
 pub allocated_index : (n k m j : ℕ) → j < m → slice_index (allocated n k m) j ≡ nth_free n (k + j)
@@ -43,134 +41,169 @@ allocated_at n k m j b h =
     let below : j < m = rw (length_allocated n k m) at l in
     (below, sym (at_index (allocated n k m) j b h) ∙ allocated_index n k m j below)
 
-module _ (v : List ℕ) (n total : ℕ) (small : n < 2 ^ 32) (few : total < 2 ^ 32) (below : (k : ℕ) → k < total → nth_free n k < n) (head : ℕ) (lies : head < n)
-  where
+next_some : (n k m : ℕ) → 0 < m → nth_free_or_none n k m ≡ nth_free n k
+next_some n k m h = grind (arith, nat_tests)
+
+-- what names block j of a run
+run_named : (n k m j i d : ℕ) → i ≡ k + j → d ≡ m - j → nth_free_or_none n i d ≡ slice_index (allocated n k m) j
+run_named n k m j i d e f = elim (cases_lt j m) [
+  | inl l ↦ next_some n i d (omega arith) ∙ ap (nth_free n) e ∙ sym (allocated_index n k m j l)
+  | inr l ↦
+      let z : d ≡ 0 = omega arith in
+      rw z (sym (index_past (allocated n k m) j (omega (arith, length_allocated n k m))))
+]
+
+-- a list each of whose members names the next one, or 0 behind the last
+spelled_by : (link : ℕ → ℕ) (bs : List ℕ) → ((j b : ℕ) → At bs j b → link b ≡ slice_index bs (suc j)) → Spelled link (slice_index bs 0) bs
+spelled_by link [] f = refl
+spelled_by link (b ∷ bs) f = (refl, subst (λ w. Spelled link w bs) (sym (f 0 b refl)) (spelled_by link bs (λ j c h. f (suc j) c h)))
+
+area_long : (kind : Kind) (bs : List ℕ) → length bs ≡ 512 → length (area kind bs) ≡ chunk kind
+unfolding area chunk
+area_long Ofs bs h = simp (length-take, length-drop) (omega arith)
+area_long Ffs bs h = simp (length-take, length-drop) (omega arith)
+
+no_bytes : (bytes : List ℕ) → length bytes ≤ 0 → take (length bytes) [] ≡ bytes
+no_bytes [] h = refl
+no_bytes (b ∷ bs) h = absurd (omega arith)
+
+-- block j of a run holds its share of the bytes at the front of its area
+abbrev HoldsShare : List ℕ → Kind → List ℕ → ℕ → ℕ → Type 0
+HoldsShare v kind bytes b j =
+    let share = take (chunk kind) (drop (chunk kind * j) bytes) in
+    (length (block v b) ≡ 512) × (take (length share) (area kind (block v b)) ≡ share)
+
+-- the areas of the data blocks joined and cut are the bytes
+shares_joined : (v : List ℕ) (kind : Kind) (n k : ℕ) (bytes : List ℕ) (m : ℕ) → ((j : ℕ) → j < m → HoldsShare v kind bytes (nth_free n (k + j)) j)
+    → length bytes ≤ m * chunk kind → take (length bytes) (joined v kind (allocated n k m)) ≡ bytes
+shares_joined v kind n k bytes zero h f = no_bytes bytes (let e : 0 * chunk kind ≡ 0 = omega arith in omega arith)
+shares_joined v kind n k bytes (suc m) h f =
+    let held : List ℕ = take (chunk kind) bytes in
+    let first : List ℕ = area kind (block v (nth_free n k)) in
+    let rest : List ℕ = joined v kind (allocated n (suc k) m) in
+    let z : k + 0 ≡ k = omega arith in
+    let y : chunk kind * 0 ≡ 0 = omega arith in
+    let here : HoldsShare v kind bytes (nth_free n k) 0 = subst (λ i. HoldsShare v kind bytes (nth_free n i) 0) z (h 0 (omega arith)) in
+    let part : take (length held) first ≡ held = rw y at here.1 in
+    let n-first : length first ≡ chunk kind = area_long kind (block v (nth_free n k)) here.0 in
+    elim (cases_lt (chunk kind) (length bytes)) [
+      | inl more ↦
+          let n-held : length held ≡ chunk kind = length-take-le (chunk kind) bytes (omega arith) in
+          let same : first ≡ held = sym (take_all (length held) first (omega arith)) ∙ part in
+          let n-rest : length (drop (chunk kind) bytes) ≡ length bytes - chunk kind = length-drop (chunk kind) bytes in
+          let split : length bytes ≡ length held + length (drop (chunk kind) bytes) = omega arith in
+          let room : length (drop (chunk kind) bytes) ≤ m * chunk kind =
+          (let e : suc m * chunk kind ≡ chunk kind + m * chunk kind = omega arith in omega arith) in
+          let later : (j : ℕ) → j < m → HoldsShare v kind (drop (chunk kind) bytes) (nth_free n (suc k + j)) j =
+          (λ j l.
+          let u : k + suc j ≡ suc k + j = omega arith in
+          let w : chunk kind * suc j ≡ chunk kind + chunk kind * j = omega arith in
+          rw (drop-drop (chunk kind * j) (chunk kind) bytes, ← w, ← u) (h (suc j) (omega arith))) in
+          ap (λ l. take l (first ++ rest)) split
+          ∙ (ap (λ f. take (length held + length (drop (chunk kind) bytes)) (f ++ rest)) same
+          ∙ (take-append-add held rest (length (drop (chunk kind) bytes))
+          ∙ (ap (λ l. held ++ l) (shares_joined v kind n (suc k) (drop (chunk kind) bytes) m later room) ∙ take-append-drop (chunk kind) bytes)))
+      | inr last ↦
+          let all : held ≡ bytes = take_all (chunk kind) bytes last in
+          let n-held : length held ≡ length bytes = ap length all in
+          take-append-le (length bytes) first rest (omega arith) ∙ (ap (λ l. take l first) (sym n-held) ∙ (part ∙ all))
+    ]
+
+-- what a data block holds of its file
+area_holds : (n total : ℕ) → n < 2 ^ 32 → total < 2 ^ 32 → ((k : ℕ) → k < total → nth_free n k < n) → (kind : Kind) (k : ℕ) (bytes : List ℕ) (j : ℕ)
+    → let c = count kind (length bytes) in k + (1 + exts_needed c + c) ≤ total → j < c
+    → let d = planned_data n kind k bytes j in take (length d.bytes) (area kind (data_bytes kind d)) ≡ d.bytes
+unfolding area
+area_holds n total small few below Ofs k bytes j l lt =
+    let d = planned_data n Ofs k bytes j in
+    let t = length-take (chunk Ofs) (drop (chunk Ofs * j) bytes) in
+    let c = chunk_ofs in
+    let z : 24 + length d.bytes - 24 ≡ length d.bytes = omega arith in
+    let bs : List ℕ = data_bytes Ofs d in
+    take-take (length d.bytes) DATA_ROOM (drop DATA_BYTES bs) (omega (arith, t, c))
+    ∙ (ap (λ m. take m (drop DATA_BYTES bs)) (sym z) ∙ data_block-bytes d (fits_data n total small few below k bytes j l lt))
+area_holds n total small few below Ffs k bytes j l lt =
+    let xs : List ℕ = take (chunk Ffs) (drop (chunk Ffs * j) bytes) in
+    let t = length-take (chunk Ffs) (drop (chunk Ffs * j) bytes) in
+    let c = chunk_small Ffs in
+    let z : length xs - 0 ≡ length xs = omega arith in
+    let bs : List ℕ = data_bytes Ffs (planned_data n Ffs k bytes j) in
+    take-take (length xs) 512 (drop 0 bs) (omega (arith, t, c))
+    ∙ (ap (λ m. take m (drop 0 bs)) (sym z) ∙ range-with_bytes_same (replicate 512 0) 0 xs (length xs) (omega arith) (omega (arith, t, c)))
+
+-- a file of c data blocks whose header is the k-th free block, in an image that holds its parts
+module _ (v : List ℕ) (n total : ℕ) (small : n < 2 ^ 32) (few : total < 2 ^ 32) (below : (k : ℕ) → k < total → nth_free n k < n) (k : ℕ) where
+  module _ (c : ℕ) (room : k + (1 + exts_needed c + c) ≤ total) (hold : HoldsBlocks v (ext_writes n k c)) where
+    ext_held : (j : ℕ) → j < exts_needed c → block v (nth_free n (suc k + j)) ≡ ext_block (planned_ext n k c j)
+    ext_held j lt = part_held v (ext_part n k c) 0 (exts_needed c) j hold (omega arith) (omega arith)
+
+    ext_fits : (j : ℕ) → j < exts_needed c → FitsExt (planned_ext n k c j)
+    ext_fits j lt = fits_ext n total small few below k c j room lt
+
     -- the extension blocks are spelled
-    pub exts_linked : (k d c m : ℕ) → k + m ≤ total → Holds v (ext_writes n head k d c m)
-        → Spelled (λ b. word_in v b EXTENSION) (nth_free_or_none n k m) (allocated n k m)
-    exts_linked k d c zero l h = refl
-    exts_linked k d c (suc m) l h =
-        let f = fits_ext n total small few below head k d c m lies (omega arith) in
-        let w : word_in v (nth_free n k) EXTENSION ≡ nth_free_or_none n (suc k) m =
-        ap (λ bs. word bs EXTENSION) h.0 ∙ ext_block-next (planned_ext n head k d c m) f (next_small n total small few below (suc k) m (omega arith)) in (
-          some_free n k m,
-          subst (λ w. Spelled (λ b. word_in v b EXTENSION) w (allocated n (suc k) m)) (sym w)
-              (exts_linked (suc k) (d + POINTERS) (c - POINTERS) m (omega arith) h.1),
-        )
+    pub exts_linked : Spelled (λ b. word_in v b EXTENSION) (nth_free_or_none n (suc k) (exts_needed c)) (allocated n (suc k) (exts_needed c))
+    exts_linked =
+        let m : ℕ = exts_needed c in
+        subst (λ w. Spelled (λ b. word_in v b EXTENSION) w (allocated n (suc k) m)) (sym (run_named n (suc k) m 0 (suc k) m (omega arith) (omega arith)))
+        (spelled_by (λ b. word_in v b EXTENSION) (allocated n (suc k) m) (λ j b a.
+        let place = allocated_at n (suc k) m j b a in
+        rw place.1 (ap (λ bs. word bs EXTENSION) (ext_held j place.0)
+        ∙ ext_block-next (planned_ext n k c j) (ext_fits j place.0) (next_small n total small few below _ _ (omega arith))
+        ∙ run_named n (suc k) m (suc j) (suc k + suc j) (m - suc j) refl refl)))
 
     -- and have their form
-    pub exts_formed : (k d c m : ℕ) → k + m ≤ total → Holds v (ext_writes n head k d c m) → (j b : ℕ) → At (allocated n k m) j b
-        → AllHold (ext_demands v b head)
-    exts_formed k d c zero l h j b a = absurd a
-    exts_formed k d c (suc m) l h zero b a =
-        let f = fits_ext n total small few below head k d c m lies (omega arith) in
-        subst (λ b. AllHold (ext_demands v b head)) a
-        (all_demanded (nth_free n k) (ext_form (nth_free n k) head (block v (nth_free n k)))
-        (subst (λ bs. first_cause (ext_form (nth_free n k) head bs) ≡ None) (sym h.0) (ext_block-form (planned_ext n head k d c m) f)))
-    exts_formed k d c (suc m) l h (suc j) b a = exts_formed (suc k) (d + POINTERS) (c - POINTERS) m (omega arith) h.1 j b a
+    pub exts_formed : (j b : ℕ) → At (allocated n (suc k) (exts_needed c)) j b → AllHold (ext_demands v b (nth_free n k))
+    exts_formed j b a =
+        let place = allocated_at n (suc k) (exts_needed c) j b a in
+        rw place.1 (all_demanded (nth_free n (suc k + j)) (ext_form (nth_free n (suc k + j)) (nth_free n k) (block v (nth_free n (suc k + j))))
+        (rw (ext_held j place.0) (ext_block-form (planned_ext n k c j) (ext_fits j place.0))))
 
-    -- pointer q of extension block j names data block POINTERS * j + q of the c that they name
-    pub exts_point : (k d c m : ℕ) → k + m ≤ total → d + c ≤ total → Holds v (ext_writes n head k d c m) → (j b q : ℕ) → At (allocated n k m) j b → q < POINTERS
-        → POINTERS * j + q < c → word_in v b (FIRST_POINTER - q) ≡ nth_free n (d + POINTERS * j + q)
-    exts_point k d c zero l u h j b q a lt le = absurd a
-    exts_point k d c (suc m) l u h zero b q a lt le =
-        let f = fits_ext n total small few below head k d c m lies (omega arith) in
-        let i : slice_index (allocated n d (min POINTERS c)) q ≡ nth_free n (d + q) = allocated_index n d (min POINTERS c) q (omega arith) in
-        let s = below (d + q) (omega arith) in
-        let z : d + q ≡ d + POINTERS * 0 + q = omega arith in
-        ap (λ b. word_in v b (FIRST_POINTER - q)) (sym a)
-        ∙ (ap (λ bs. word bs (FIRST_POINTER - q)) h.0 ∙ (ext_block-pointer (planned_ext n head k d c m) q f lt (omega arith) ∙ (i ∙ ap (nth_free n) z)))
-    exts_point k d c (suc m) l u h (suc j) b q a lt le =
-        let z : d + POINTERS + POINTERS * j + q ≡ d + POINTERS * suc j + q = omega arith in
-        exts_point (suc k) (d + POINTERS) (c - POINTERS) m (omega arith) (omega arith) h.1 j b q a lt (omega arith) ∙ ap (nth_free n) z
+    -- pointer q of extension block j names a data block
+    pub exts_point : (j b q : ℕ) → At (allocated n (suc k) (exts_needed c)) j b → q < POINTERS → POINTERS * suc j + q < c
+        → word_in v b (FIRST_POINTER - q) ≡ nth_free n (suc k + exts_needed c + (POINTERS * suc j + q))
+    exts_point j b q a lt le =
+        let place = allocated_at n (suc k) (exts_needed c) j b a in
+        let first : ℕ = suc k + exts_needed c + POINTERS * suc j in
+        let m : ℕ = min POINTERS (c - POINTERS * suc j) in
+        let i : slice_index (allocated n first m) q ≡ nth_free n (first + q) = allocated_index n first m q (omega arith) in
+        let s = below (first + q) (omega arith) in
+        let z : first + q ≡ suc k + exts_needed c + (POINTERS * suc j + q) = omega arith in
+        rw place.1 (ap (λ bs. word bs (FIRST_POINTER - q)) (ext_held j place.0)
+        ∙ (ext_block-pointer (planned_ext n k c j) q (ext_fits j place.0) lt (omega (arith, i, s, small)) ∙ (i ∙ ap (nth_free n) z)))
 
-    area_long : (kind : Kind) (bs : List ℕ) → length bs ≡ 512 → length (area kind bs) ≡ chunk kind
-    unfolding area chunk
-    area_long Ofs bs h = simp (length-take, length-drop) (omega arith)
-    area_long Ffs bs h = simp (length-take, length-drop) (omega arith)
+  module _ (kind : Kind) (bytes : List ℕ) (room : k + (1 + exts_needed (count kind (length bytes)) + count kind (length bytes)) ≤ total)
+      (hold : HoldsBlocks v (data_writes n kind k bytes)) where
+    abbrev many : ℕ
+    many = count kind (length bytes)
 
-    -- what a data block holds
-    area_holds : (kind : Kind) (k number m : ℕ) (bytes : List ℕ) → k + suc m ≤ total → number < 2 ^ 32 →
-        take (length (take (chunk kind) bytes)) (area kind (data_bytes kind head number (nth_free_or_none n (suc k) m) (take (chunk kind) bytes)))
-        ≡ take (chunk kind) bytes
-    unfolding area
-    area_holds Ofs k number m bytes l s =
-        let xs : List ℕ = take (chunk Ofs) bytes in
-        let t : length xs ≡ min (chunk Ofs) (length bytes) = length-take (chunk Ofs) bytes in
-        let c = chunk_ofs in
-        let z : 24 + length xs - 24 ≡ length xs = omega arith in
-        let bs : List ℕ = data_bytes Ofs head number (nth_free_or_none n (suc k) m) xs in
-        take-take (length xs) DATA_ROOM (drop DATA_BYTES bs) (omega arith)
-        ∙ (ap (λ m. take m (drop DATA_BYTES bs)) (sym z)
-        ∙ data_block-bytes (record { head = head; number = number; next = nth_free_or_none n (suc k) m; bytes = xs })
-        (fits_data n total small few below head k number m bytes lies l s))
-    area_holds Ffs k number m bytes l s =
-        let xs : List ℕ = take (chunk Ffs) bytes in
-        let t : length xs ≡ min (chunk Ffs) (length bytes) = length-take (chunk Ffs) bytes in
-        let c = chunk_small Ffs in
-        let z : length xs - 0 ≡ length xs = omega arith in
-        let bs : List ℕ = data_bytes Ffs head number (nth_free_or_none n (suc k) m) xs in
-        take-take (length xs) 512 (drop 0 bs) (omega arith)
-        ∙ (ap (λ m. take m (drop 0 bs)) (sym z) ∙ range-with_bytes_same (replicate 512 0) 0 xs (length xs) (omega arith) (omega arith))
+    abbrev first_data : ℕ
+    first_data = suc k + exts_needed many
 
-    no_bytes : (bytes : List ℕ) → length bytes ≤ 0 → take (length bytes) [] ≡ bytes
-    no_bytes [] h = refl
-    no_bytes (b ∷ bs) h = absurd (omega arith)
+    data_held : (j : ℕ) → j < many → block v (nth_free n (first_data + j)) ≡ data_bytes kind (planned_data n kind k bytes j)
+    data_held j lt = part_held v (data_part n kind k bytes) 0 many j hold (omega arith) (omega arith)
 
-    -- the areas of the data blocks joined and cut are the bytes
-    pub bytes_held : (kind : Kind) (k number : ℕ) (bytes : List ℕ) (m : ℕ) → k + m ≤ total → number + m ≤ 2 ^ 32
-        → Holds v (data_writes n kind head k number bytes m) → length bytes ≤ m * chunk kind → take (length bytes) (joined v kind (allocated n k m)) ≡ bytes
-    bytes_held kind k number bytes zero l s h f = no_bytes bytes (let e : 0 * chunk kind ≡ 0 = omega arith in omega arith)
-    bytes_held kind k number bytes (suc m) l s h f =
-        let held : List ℕ = take (chunk kind) bytes in
-        let first : List ℕ = area kind (block v (nth_free n k)) in
-        let rest : List ℕ = joined v kind (allocated n (suc k) m) in
-        let whole : length (block v (nth_free n k)) ≡ 512 = ap length h.0 ∙ data_long n total small few below kind head k number m bytes lies l (omega arith) in
-        let n-first : length first ≡ chunk kind = area_long kind (block v (nth_free n k)) whole in
-        let part : take (length held) first ≡ held =
-        subst (λ bs. take (length held) (area kind bs) ≡ held) (sym h.0) (area_holds kind k number m bytes l (omega arith)) in
-        elim (cases_lt (chunk kind) (length bytes)) [
-          | inl more ↦
-              let n-held : length held ≡ chunk kind = length-take-le (chunk kind) bytes (omega arith) in
-              let same : first ≡ held = sym (take_all (length held) first (omega arith)) ∙ part in
-              let n-rest : length (drop (chunk kind) bytes) ≡ length bytes - chunk kind = length-drop (chunk kind) bytes in
-              let split : length bytes ≡ length held + length (drop (chunk kind) bytes) = omega arith in
-              let room : length (drop (chunk kind) bytes) ≤ m * chunk kind =
-              (let e : suc m * chunk kind ≡ chunk kind + m * chunk kind = omega arith in omega arith) in
-              ap (λ l. take l (first ++ rest)) split
-              ∙ (ap (λ f. take (length held + length (drop (chunk kind) bytes)) (f ++ rest)) same
-              ∙ (take-append-add held rest (length (drop (chunk kind) bytes))
-              ∙ (ap (λ l. held ++ l) (bytes_held kind (suc k) (suc number) (drop (chunk kind) bytes) m (omega arith) (omega arith) h.1 room)
-              ∙ take-append-drop (chunk kind) bytes)))
-          | inr last ↦
-              let all : held ≡ bytes = take_all (chunk kind) bytes last in
-              let n-held : length held ≡ length bytes = ap length all in
-              take-append-le (length bytes) first rest (omega arith)
-              ∙ (ap (λ l. take l first) (sym n-held) ∙ (part ∙ all))
-        ]
+    share_held : (j : ℕ) → j < many → HoldsShare v kind bytes (nth_free n (first_data + j)) j
+    share_held j lt = rw (data_held j lt) (data_long n total small few below kind k bytes j room lt, area_holds n total small few below kind k bytes j room lt)
 
-    next_is : (k m : ℕ) → nth_free_or_none n k m ≡ slice_index (allocated n k m) 0
-    next_is k zero = refl
-    next_is k (suc m) = some_free n k m
+    -- the content of the data blocks is the bytes
+    pub bytes_held : length bytes ≤ many * chunk kind → take (length bytes) (joined v kind (allocated n first_data many)) ≡ bytes
+    bytes_held enough = shares_joined v kind n first_data bytes many share_held enough
 
-    -- the data blocks of an OFS file have their form
-    pub datas_formed : (k number : ℕ) (bytes : List ℕ) (m : ℕ) → k + m ≤ total → number + m ≤ 2 ^ 32 → Holds v (data_writes n Ofs head k number bytes m)
-        → (j b : ℕ) → At (allocated n k m) j b
-        → AllHold (data_demands v Ofs b head (number + j) (length (take (chunk Ofs) (drop (chunk Ofs * j) bytes))) (slice_index (allocated n k m) (suc j)))
-    datas_formed k number bytes zero l s h j b a = absurd a
-    datas_formed k number bytes (suc m) l s h zero b a =
-        let f = fits_data n total small few below head k number m bytes lies l (omega arith) in
-        let z : number + 0 ≡ number = omega arith in
-        let y : chunk Ofs * 0 ≡ 0 = omega arith in
-        let w : first_cause (data_form head number (length (take (chunk Ofs) bytes)) (nth_free_or_none n (suc k) m) (block v (nth_free n k))) ≡ None =
-        rw h.0 (data_block-form (record { head = head; number = number; next = nth_free_or_none n (suc k) m; bytes = take (chunk Ofs) bytes }) f) in
-        rw (← a, z, y, ← next_is (suc k) m)
-        (all_demanded (nth_free n k) (data_form head number (length (take (chunk Ofs) bytes)) (nth_free_or_none n (suc k) m) (block v (nth_free n k))) w)
-    datas_formed k number bytes (suc m) l s h (suc j) b a =
-        let z : number + suc j ≡ suc number + j = omega arith in
-        let y : chunk Ofs * suc j ≡ chunk Ofs + chunk Ofs * j = omega arith in
-        rw (z, y, ← drop-drop (chunk Ofs * j) (chunk Ofs) bytes)
-        (datas_formed (suc k) (suc number) (drop (chunk Ofs) bytes) m (omega arith) (omega arith) h.1 j b a)
+-- the data blocks of an OFS file have their form
+pub datas_formed : (v : List ℕ) (n total : ℕ) → n < 2 ^ 32 → total < 2 ^ 32 → ((k : ℕ) → k < total → nth_free n k < n) → (k : ℕ) (bytes : List ℕ)
+    → let c = count Ofs (length bytes) in k + (1 + exts_needed c + c) ≤ total → HoldsBlocks v (data_writes n Ofs k bytes)
+    → (j b : ℕ) → let run = allocated n (suc k + exts_needed c) c in At run j b
+    → AllHold (data_demands v Ofs b (nth_free n k) (suc j) (length (take (chunk Ofs) (drop (chunk Ofs * j) bytes))) (slice_index run (suc j)))
+datas_formed v n total small few below k bytes room hold j b a =
+    let c : ℕ = count Ofs (length bytes) in
+    let first : ℕ = suc k + exts_needed c in
+    let place = allocated_at n first c j b a in
+    let d = planned_data n Ofs k bytes j in
+    let held = data_held v n total small few below k Ofs bytes room hold j place.0 in
+    let form : first_cause (data_form d.head d.number (length d.bytes) d.next (block v (nth_free n (first + j)))) ≡ None =
+    rw held (data_block-form d (fits_data n total small few below k bytes j room place.0)) in
+    rw (place.1, ← run_named n first c (suc j) (first + suc j) (c - suc j) refl refl) (all_demanded (nth_free n (first + j))
+    (data_form d.head d.number (length d.bytes) d.next (block v (nth_free n (first + j)))) form)
 
 -- what data block j holds of the bytes
 pub held_long : (bytes : List ℕ) (j : ℕ) → length (take (chunk Ofs) (drop (chunk Ofs * j) bytes)) ≡ held Ofs (length bytes) (suc j)

@@ -1,5 +1,5 @@
 -- What is laid fits.
-use Rattle.std.proofs.Common.{inl, inr, ◌≡◌, ℕ, zero, suc, List, [], ◌∷◌, ◌+◌, ◌-◌, ◌*◌, ◌/◌, ◌%◌, ◌^◌, ◌<◌, ◌≤◌, length, map, refl, sym, ap, subst, ◌∙◌, arith}
+use Rattle.std.proofs.Common.{◌≡◌, ℕ, zero, suc, List, [], ◌∷◌, ◌+◌, ◌-◌, ◌*◌, ◌/◌, ◌%◌, ◌^◌, ◌<◌, ◌≤◌, length, map, refl, sym, ap, subst, ◌∙◌, arith}
 use Rattle.std.specs.List.{range_with_len}
 use Rattle.std.proofs.Common.{Bool, true, false, cond}
 use Rattle.std.specs.Prelude.{min, slice_index, None, ◌↔◌, ◌==◌, IsBitSet}
@@ -38,15 +38,15 @@ use Rattle.adf_volume.proofs.DistinctBlocks.{block_in, in_block}
 use Rattle.adf_volume.proofs.Sizes.{size_low, size_high}
 use Rattle.adf_build.specs.Plan.{entry_blocks, entries_blocks, blocks_needed, places_from, planned}
 use Rattle.adf_build.specs.Bits.{is_used, is_free_bit, bits_from, page_words}
-use Rattle.adf_build.specs.Writes.{Holds}
-use Rattle.adf_build.specs.Laid.{boot_bytes, page_writes, listed_pages, map_ext_or_none, map_ext_writes, planned_root, volume, IsLaid, IsSound}
+use Rattle.adf_build.specs.Laid.{IsLaid, IsWellFormed, boot_bytes, listed_pages, map_ext_or_none, map_ext_part, page_part, planned_root, volume}
 use Rattle.adf_build.proofs.AllocatedBlocks.{reserved_below}
+use Rattle.adf_build.proofs.Parts.{part_held}
 use Rattle.adf_build.proofs.Planned.{owned_blocks, planned_once, planned_range}
 use Rattle.adf_build.proofs.Bits.{bit_of, bits_small, owned_used, used_owned}
 use Rattle.adf_build.proofs.LaidWrites.{fits_root, volume_long, volume_blocks, holds_map_exts, holds_pages, holds_root, holds_boot, listed_few, reserved_parts}
-use Rattle.adf_build.proofs.EntryBlocks.{spot, chain_laid, root_slot, dir_slot}
+use Rattle.adf_build.proofs.EntryBlocks.{standing, chain_laid, root_slot, dir_slot}
 use Rattle.adf_build.proofs.LaidEntries.{entry_laid, file_laid}
-use Rattle.std.proofs.lemmas.Bool.{cases_lt, false_from_ne_true, true≢false}
+use Rattle.std.proofs.lemmas.Bool.{false_from_ne_true, true≢false}
 
 boot_holds : (kind : Kind) → first_cause (boot_form (block_of_fields ((0, boot_bytes kind) ∷ []))) ≡ None
 unfolding with_bytes
@@ -58,7 +58,8 @@ unfolding with_bytes
 boot_kind Ofs = refl
 boot_kind Ffs = refl
 
-range_at : (b m j c : ℕ) → At (range_with_len b m) j c → (j < m) × (c ≡ b + j)
+-- a member of a range is known by its place
+pub range_at : (b m j c : ℕ) → At (range_with_len b m) j c → (j < m) × (c ≡ b + j)
 range_at b m j c h =
     let l : j < length (range_with_len b m) = at_below (range_with_len b m) j c h in
     let below : j < m = rw (length-range_with_len b m) at l in
@@ -73,30 +74,13 @@ places_long : (n : ℕ) (kind : Kind) (k : ℕ) (es : List Entry) → length (pl
 places_long n kind k [] = refl
 places_long n kind k (e ∷ es) = ap suc (places_long n kind (k + entry_blocks kind e) es)
 
--- what stands in page p and in bitmap extension block p, of those from number j up to an end
-page_holds : (v : List ℕ) (n total j m p : ℕ) → Holds v (page_writes n total j m) → j ≤ p → p < j + m
-    → block v (middle n + 1 + p) ≡ page_block (page_words n total p)
-page_holds v n total j zero p h a b = absurd (omega arith)
-page_holds v n total j (suc m) p h a b = elim (cases_lt j p) [
-  | inl l ↦ page_holds v n total (suc j) m p h.1 l (omega arith)
-  | inr l ↦ let z : p ≡ j = omega arith in rw z h.0
-]
-
-map_ext_holds : (v : List ℕ) (n j m end p : ℕ) → Holds v (map_ext_writes n j m) → end ≡ j + m → j ≤ p → p < end
-    → block v (middle n + 1 + pages_needed n + p) ≡ map_ext_block (listed_pages n p) (map_ext_or_none n (suc p) (end - suc p))
-map_ext_holds v n j zero end p h e a b = absurd (omega arith)
-map_ext_holds v n j (suc m) end p h e a b = elim (cases_lt j p) [
-  | inl l ↦ map_ext_holds v n (suc j) m end p h.1 (omega arith) l b
-  | inr l ↦ let z : p ≡ j = omega arith in let y : end - suc j ≡ m = omega arith in rw (z, y) h.0
-]
-
 -- what names a bitmap extension block that is there
-map_ext_some : (n j m : ℕ) → 0 < m → map_ext_or_none n j m ≡ middle n + 1 + pages_needed n + j
-map_ext_some n j m h = grind (arith, nat_tests)
+map_ext_some : (n j : ℕ) → j < map_exts_needed (pages_needed n) → map_ext_or_none n j ≡ middle n + 1 + pages_needed n + j
+map_ext_some n j h = grind (arith, nat_tests)
 
 -- and it is a word, as the block lies in the volume
-map_ext_small : (n j m : ℕ) → middle n + 1 + pages_needed n + j < 2 ^ 32 → map_ext_or_none n j m < 2 ^ 32
-map_ext_small n j m h = grind (arith, nat_tests)
+map_ext_small : (n j : ℕ) → middle n + 1 + pages_needed n + j < 2 ^ 32 → map_ext_or_none n j < 2 ^ 32
+map_ext_small n j h = grind (arith, nat_tests)
 
 set_bit : (x k : ℕ) → IsBitSet x k ↔ (x / 2 ^ k % 2 ≡ 1)
 set_bit x k =
@@ -133,7 +117,7 @@ free_unused n total r b e h = grind (arith, nat_tests)
 unused_free : (n total r b : ℕ) → 2 + r ≡ b → b < n → is_used n total b ≡ false → is_free_bit n total r ≡ true
 unused_free n total r b e l h = grind (arith, nat_tests)
 
-module _ (t : Tree) (n : ℕ) (sound : IsSound t) (allowed : is_allowed n ≡ true) (room : blocks_needed t n ≤ n - 2) where
+module _ (t : Tree) (n : ℕ) (sound : IsWellFormed t) (allowed : is_allowed n ≡ true) (room : blocks_needed t n ≤ n - 2) where
   size : blocks (volume t n) ≡ n
   size = volume_blocks t n sound allowed room
 
@@ -161,7 +145,8 @@ module _ (t : Tree) (n : ℕ) (sound : IsSound t) (allowed : is_allowed n ≡ tr
 
   stamps_laid : t.stamps ≡ stamps_of (volume t n) (middle n)
   unfolding stamps_of
-  stamps_laid = sym (ap stamps_at (holds_root t n sound allowed room) ∙ root_block-stamps (planned_root t n) (fits_root t n sound allowed room) sound.stamps)
+  stamps_laid =
+      sym (ap stamps_at (holds_root t n sound allowed room) ∙ root_block-stamps (planned_root t n) (fits_root t n sound allowed room) sound.bounds.stamps)
 
   page_word : (k b : ℕ) → k < ROOT_PAGES → At (range_with_len (middle n + 1) (pages_needed n)) k b → word_in (volume t n) (middle n) (FIRST_PAGE + k) ≡ b
   page_word k b l h =
@@ -174,7 +159,8 @@ module _ (t : Tree) (n : ℕ) (sound : IsSound t) (allowed : is_allowed n ≡ tr
 
   page_at : (q : ℕ) → q < pages_needed n → block (volume t n) (middle n + 1 + q) ≡ page_block (page_words n (entries_blocks t.kind t.entries) q)
   page_at q l =
-      page_holds (volume t n) n (entries_blocks t.kind t.entries) 0 (pages_needed n) q (holds_pages t n sound allowed room) (omega arith) (omega arith)
+      part_held (volume t n) (page_part n (entries_blocks t.kind t.entries)) 0 (pages_needed n) q (holds_pages t n sound allowed room)
+      (omega arith) (omega arith)
 
   page_formed : (k b : ℕ) → At (range_with_len (middle n + 1) (pages_needed n)) k b → AllHold (page_demands (volume t n) b)
   page_formed k b h =
@@ -194,7 +180,7 @@ module _ (t : Tree) (n : ℕ) (sound : IsSound t) (allowed : is_allowed n ≡ tr
   chains_laid (suc i) s d l =
       let x = dir_node t (suc i) d in
       chain_laid t n sound allowed room (suc i) s (word_in (volume t n) (at_node (volume t n) (planned t n) (suc i)) (FIRST_SLOT + s))
-      (ap (λ b. word_in (volume t n) b (FIRST_SLOT + s)) (spot t n sound allowed room i x.0 x.1).at ∙ dir_slot t n sound allowed room i s x.0 x.1 x.2 l)
+      (ap (λ b. word_in (volume t n) b (FIRST_SLOT + s)) (standing t n sound allowed room i x.0 x.1).at ∙ dir_slot t n sound allowed room i s x.0 x.1 x.2 l)
 
   free_laid : (b : ℕ) → 2 ≤ b → b < n → IsFree (volume t n) (range_with_len (middle n + 1) (pages_needed n)) b → (o : Owner)
       → In (owned (volume t n) (planned t n)) (o, b) → ⊥
@@ -226,9 +212,9 @@ module _ (t : Tree) (n : ℕ) (sound : IsSound t) (allowed : is_allowed n ≡ tr
   -- what stands in a bitmap extension block
   map_ext_is : (j : ℕ) → j < map_exts_needed (pages_needed n)
       → block (volume t n) (middle n + 1 + pages_needed n + j)
-      ≡ map_ext_block (listed_pages n j) (map_ext_or_none n (suc j) (map_exts_needed (pages_needed n) - suc j))
-  map_ext_is j l = map_ext_holds (volume t n) n 0 (map_exts_needed (pages_needed n)) (map_exts_needed (pages_needed n)) j
-      (holds_map_exts t n sound allowed room) (omega arith) (omega arith) l
+      ≡ map_ext_block (listed_pages n j) (map_ext_or_none n (suc j))
+  map_ext_is j l =
+      part_held (volume t n) (map_ext_part n) 0 (map_exts_needed (pages_needed n)) j (holds_map_exts t n sound allowed room) (omega arith) (omega arith)
 
   -- a bitmap extension block lies in the volume
   map_ext_near : (j : ℕ) → j ≤ map_exts_needed (pages_needed n) → middle n + 1 + pages_needed n + j < 2 ^ 32
@@ -244,10 +230,9 @@ module _ (t : Tree) (n : ℕ) (sound : IsSound t) (allowed : is_allowed n ≡ tr
   map_first_laid b h =
       let x = range_at (middle n + 1 + pages_needed n) (map_exts_needed (pages_needed n)) 0 b h in
       let e : b ≡ middle n + 1 + pages_needed n + 0 = x.1 in
-      let small : map_ext_or_none n 0 (map_exts_needed (pages_needed n)) < 2 ^ 32 =
-      map_ext_small n 0 (map_exts_needed (pages_needed n)) (map_ext_near 0 (omega arith)) in
+      let small = map_ext_small n 0 (map_ext_near 0 (omega arith)) in
       ap (λ bs. word bs FIRST_MAP_EXT) (holds_root t n sound allowed room)
-      ∙ (root_block-map_ext (planned_root t n) (fits_root t n sound allowed room) small ∙ (map_ext_some n 0 (map_exts_needed (pages_needed n)) x.0 ∙ sym e))
+      ∙ (root_block-map_ext (planned_root t n) (fits_root t n sound allowed room) small ∙ (map_ext_some n 0 x.0 ∙ sym e))
 
   map_next_laid : (j a b : ℕ) → At (range_with_len (middle n + 1 + pages_needed n) (map_exts_needed (pages_needed n))) j a
       → At (range_with_len (middle n + 1 + pages_needed n) (map_exts_needed (pages_needed n))) (suc j) b
@@ -257,11 +242,10 @@ module _ (t : Tree) (n : ℕ) (sound : IsSound t) (allowed : is_allowed n ≡ tr
       let y = range_at (middle n + 1 + pages_needed n) (map_exts_needed (pages_needed n)) (suc j) b h in
       let u : suc j < map_exts_needed (pages_needed n) = y.0 in
       let e : b ≡ middle n + 1 + pages_needed n + suc j = y.1 in
-      let m : ℕ = map_exts_needed (pages_needed n) - suc j in
-      let small : map_ext_or_none n (suc j) m < 2 ^ 32 = map_ext_small n (suc j) m (map_ext_near (suc j) (omega arith)) in
+      let small = map_ext_small n (suc j) (map_ext_near (suc j) (omega arith)) in
       ap (λ a. word_in (volume t n) a MAP_EXT_NEXT) x.1
       ∙ (ap (λ bs. word bs MAP_EXT_NEXT) (map_ext_is j x.0)
-      ∙ (map_ext_block-next (listed_pages n j) (map_ext_or_none n (suc j) m) (listed_few n j) small ∙ (map_ext_some n (suc j) m (omega arith) ∙ sym e)))
+      ∙ (map_ext_block-next (listed_pages n j) (map_ext_or_none n (suc j)) (listed_few n j) small ∙ (map_ext_some n (suc j) u ∙ sym e)))
 
   page_listed_laid : (j i a b : ℕ) → i < MAP_EXT_PAGES → At (range_with_len (middle n + 1 + pages_needed n) (map_exts_needed (pages_needed n))) j a
       → At (range_with_len (middle n + 1) (pages_needed n)) (ROOT_PAGES + MAP_EXT_PAGES * j + i) b
@@ -269,7 +253,6 @@ module _ (t : Tree) (n : ℕ) (sound : IsSound t) (allowed : is_allowed n ≡ tr
   page_listed_laid j i a b l g h =
       let x = range_at (middle n + 1 + pages_needed n) (map_exts_needed (pages_needed n)) j a g in
       let u : j < map_exts_needed (pages_needed n) = x.0 in
-      let m : ℕ = map_exts_needed (pages_needed n) - suc j in
       let y = range_at (middle n + 1) (pages_needed n) (ROOT_PAGES + MAP_EXT_PAGES * j + i) b h in
       let near = map_ext_near 0 (omega arith) in
       let s : slice_index (listed_pages n j) i ≡ b =
@@ -277,7 +260,7 @@ module _ (t : Tree) (n : ℕ) (sound : IsSound t) (allowed : is_allowed n ≡ tr
       (omega arith)
       ∙ omega arith in
       ap (λ a. word_in (volume t n) a i) x.1
-      ∙ (ap (λ bs. word bs i) (map_ext_is j u) ∙ (map_ext_block-page (listed_pages n j) (map_ext_or_none n (suc j) m) i (listed_few n j) l (omega arith) ∙ s))
+      ∙ (ap (λ bs. word bs i) (map_ext_is j u) ∙ (map_ext_block-page (listed_pages n j) (map_ext_or_none n (suc j)) i (listed_few n j) l (omega arith) ∙ s))
 
   entries_fit : (m : ℕ) (e : Entry) → EntryAt t m e → EntryFits (volume t n) t (planned t n) m (at_node (volume t n) (planned t n) m) e
   entries_fit zero e h = absurd h

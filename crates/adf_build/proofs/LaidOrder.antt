@@ -30,7 +30,7 @@ use Rattle.adf_build.proofs.Planned.{owned_blocks}
 use Rattle.adf_build.proofs.BlockWrites.{with_blocks_same, with_blocks_other}
 use Rattle.adf_build.proofs.WrittenBlocks.{number_in}
 use Rattle.adf_build.proofs.LaidFiles.{allocated_at}
-use Rattle.adf_build.proofs.LaidFits.{laid_fits}
+use Rattle.adf_build.proofs.LaidFits.{laid_fits, range_at}
 use Rattle.adf_build.proofs.LaidWrites.{writes_are, writes_once, zeros_long}
 
 -- the free block that is b
@@ -118,12 +118,6 @@ in_a_row n kind k (e ∷ es) =
     let whole = allocated-append n (suc k) (x + c) r in
     cc
 
--- a member of a range is known by its place
-range_at : (a m k b : ℕ) → At (range_with_len a m) k b → b ≡ a + k
-range_at a zero k b h = absurd h
-range_at a (suc m) zero b h = omega (arith, h)
-range_at a (suc m) (suc k) b h = omega (arith, range_at (a + 1) m k b h)
-
 -- the extension blocks of a planned entry
 exts_planned : (n : ℕ) (kind : Kind) (k : ℕ) (es : List Entry) (i : ℕ) (e : Entry) → At es i e
     → length (exts_at (places_from n kind k es) i) ≡ exts_needed (data_blocks kind e.body)
@@ -147,10 +141,10 @@ planned_in_order image t laid =
     let n : ℕ = blocks image in
     let row = in_a_row n t.kind 0 t.entries in
     record {
-      pages = range_at (middle n + 1) (pages_needed n);
+      pages = (λ k b h. (range_at (middle n + 1) (pages_needed n) k b h).1);
       map_exts = (λ j b h.
           let there = range_at (middle n + 1 + pages_needed n) (map_exts_needed (pages_needed n)) j b h in
-          omega (arith, there, length-range_with_len (middle n + 1) (pages_needed n)));
+          omega (arith, there.1, length-range_with_len (middle n + 1) (pages_needed n)));
       few = few t n;
       rise = (λ i j a b lt at_a at_b.
           let first = allocated_at n 0 (entries_blocks t.kind t.entries) i a (subst (λ bs. At bs i a) row at_a) in

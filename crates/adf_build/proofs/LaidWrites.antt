@@ -1,12 +1,12 @@
 -- A laid volume holds each of its parts.
-use Rattle.std.proofs.Common.{◌≡◌, ℕ, zero, suc, List, [], ◌∷◌, ◌++◌, inl, inr, ◌+◌, ◌-◌, ◌*◌, ◌^◌, ◌<◌, ◌≤◌, length, refl, sym, ap, subst, ◌∙◌, arith, true}
+use Rattle.std.proofs.Common.{◌≡◌, ℕ, zero, suc, List, [], ◌∷◌, ◌++◌, inl, inr, ◌+◌, ◌-◌, ◌*◌, ◌^◌, ◌<◌, ◌≤◌, length, refl, sym, subst, arith, true}
 use Rattle.std.specs.List.{range_with_len}
 use Rattle.std.proofs.Common.{append_assoc}
 use Rattle.std.specs.Prelude.{slice_index, replicate, min}
 use Rattle.std.proofs.lemmas.List.{length-replicate}
 use Rattle.std.proofs.lemmas.List.FromFn.{length-map-range_with_len, length-range_with_len}
 use Rattle.adf_fields.specs.Words.{block}
-use Rattle.adf_tree.specs.Texts.{is_name}
+use Rattle.adf_tree.specs.Bounds.{IsBoundedEntry}
 use Rattle.adf_tree.specs.declared.entry.Kind.{Kind}
 use Rattle.adf_tree.specs.declared.entry.Kind.TheVariants.{Ofs, Ffs}
 use Rattle.adf_tree.specs.declared.entry.Entry.{Entry}
@@ -27,12 +27,13 @@ use Rattle.adf_volume.proofs.Sizes.{size_low, size_high}
 use Rattle.adf_volume.proofs.DistinctBlocks.{Distinct, distinct-append}
 use Rattle.adf_build.specs.Plan.{reserved, entry_blocks, entries_blocks, blocks_needed, nth_free, allocated}
 use Rattle.adf_build.specs.Bits.{bits_from, is_free_bit, page_words}
-use Rattle.adf_build.specs.Writes.{AreBlocks, NoneTwice, Holds, numbers_of}
-use Rattle.adf_build.specs.Laid.{first_block, entries_writes, heads_from, node_blocks, page_writes, map_ext_writes, map_ext_or_none, listed_pages, boot_bytes}
-use Rattle.adf_build.specs.Laid.{planned_root, writes, volume, IsSound}
+use Rattle.adf_build.specs.Writes.{AreBlocks, NoneTwice, HoldsBlocks, numbers_of}
+use Rattle.adf_build.specs.Laid.{IsWellFormed, boot_bytes, entries_writes, first_block, heads_from, listed_pages, map_ext_or_none, map_ext_part}
+use Rattle.adf_build.specs.Laid.{map_ext_writes, node_blocks, page_part, page_writes, planned_root, volume, writes}
 use Rattle.adf_build.proofs.AllocatedBlocks.{free_from, free_below, free_apart, reserved_below, in_allocated, in_range, distinct_allocated, distinct_range}
 use Rattle.adf_build.proofs.AllocatedBlocks.{range_with_len-append}
 use Rattle.adf_build.proofs.BlockWrites.{length-with_blocks}
+use Rattle.adf_build.proofs.Parts.{are_parts, range_numbers}
 use Rattle.adf_build.proofs.WrittenBlocks.{none_twice, laid_holds, holds_left, holds_right, numbers_of-append, entries_numbers}
 use Rattle.adf_build.proofs.WholeBlocks.{are-append, are_entries}
 
@@ -45,18 +46,6 @@ boot_short : (kind : Kind) → length (boot_bytes kind) ≡ 4
 boot_short Ofs = refl
 boot_short Ffs = refl
 
-page_numbers : (n total j m : ℕ) → numbers_of (page_writes n total j m) ≡ range_with_len (middle n + 1 + j) m
-page_numbers n total j zero = refl
-page_numbers n total j (suc m) =
-    let e : middle n + 1 + suc j ≡ middle n + 1 + j + 1 = omega arith in
-    ap (λ l. (middle n + 1 + j) ∷ l) (page_numbers n total (suc j) m ∙ ap (λ b. range_with_len b m) e)
-
-map_ext_numbers : (n j m : ℕ) → numbers_of (map_ext_writes n j m) ≡ range_with_len (middle n + 1 + pages_needed n + j) m
-map_ext_numbers n j zero = refl
-map_ext_numbers n j (suc m) =
-    let e : middle n + 1 + pages_needed n + suc j ≡ middle n + 1 + pages_needed n + j + 1 = omega arith in
-    ap (λ l. (middle n + 1 + pages_needed n + j) ∷ l) (map_ext_numbers n (suc j) m ∙ ap (λ b. range_with_len b m) e)
-
 -- a bitmap extension block names at most MAP_EXT_PAGES pages
 pub listed_few : (n j : ℕ) → length (listed_pages n j) ≤ MAP_EXT_PAGES
 listed_few n j =
@@ -67,36 +56,20 @@ listed_few n j =
 page_long : (n total j : ℕ) → length (page_words n total j) ≡ 127
 page_long n total j = length-map-range_with_len (λ w. bits_from (is_free_bit n total) (PAGE_BITS * j + 32 * w) 32) 0 127
 
-are_pages : (n total j m : ℕ) → middle n + j + m < n → AreBlocks n (page_writes n total j m)
-are_pages n total j zero h = tt
-are_pages n total j (suc m) h = (omega arith, length_page_block (page_words n total j) (page_long n total j), are_pages n total (suc j) m (omega arith))
-
-are_map_exts : (n j m : ℕ) → middle n + pages_needed n + j + m < n → AreBlocks n (map_ext_writes n j m)
-are_map_exts n j zero h = tt
-are_map_exts n j (suc m) h = (
-  omega arith,
-  length_map_ext_block (listed_pages n j) (map_ext_or_none n (suc j) m) (listed_few n j),
-  are_map_exts n (suc j) m
-      (omega arith),
-)
-
 -- the parts: the entries, and behind them the pages, the bitmap extension blocks, the root and the boot block
 abbrev entries_of : Tree → ℕ → List (ℕ × List ℕ)
-entries_of t n = entries_writes n t.kind (node_blocks t n) t.entries 1 0 t.entries
+entries_of t n = entries_writes n t 1 0 t.entries
 
 abbrev pages_of : Tree → ℕ → List (ℕ × List ℕ)
-pages_of t n = page_writes n (entries_blocks t.kind t.entries) 0 (pages_needed n)
-
-abbrev map_exts_of : ℕ → List (ℕ × List ℕ)
-map_exts_of n = map_ext_writes n 0 (map_exts_needed (pages_needed n))
+pages_of t n = page_writes n (entries_blocks t.kind t.entries)
 
 abbrev ends_of : Tree → ℕ → List (ℕ × List ℕ)
 ends_of t n = (middle n, root_block (planned_root t n)) ∷ (0, block_of_fields ((0, boot_bytes t.kind) ∷ [])) ∷ []
 
 abbrev rest_of : Tree → ℕ → List (ℕ × List ℕ)
-rest_of t n = pages_of t n ++ (map_exts_of n ++ ends_of t n)
+rest_of t n = pages_of t n ++ (map_ext_writes n ++ ends_of t n)
 
-module _ (t : Tree) (n : ℕ) (sound : IsSound t) (allowed : is_allowed n ≡ true) (room : blocks_needed t n ≤ n - 2) where
+module _ (t : Tree) (n : ℕ) (sound : IsWellFormed t) (allowed : is_allowed n ≡ true) (room : blocks_needed t n ≤ n - 2) where
   total : ℕ
   total = entries_blocks t.kind t.entries
 
@@ -114,11 +87,10 @@ module _ (t : Tree) (n : ℕ) (sound : IsSound t) (allowed : is_allowed n ≡ tr
   near zero = let high = size_high n allowed in omega arith
   near (suc j) = heads_near 0 t.entries (omega arith) j
 
-  pub entry_sound : (j : ℕ) (e : Entry) → At t.entries j e → (is_name e.name ≡ true) × (length e.meta.comment ≤ 79)
+  pub entry_sound : (j : ℕ) (e : Entry) → At t.entries j e → IsBoundedEntry e
   entry_sound j e h =
       let l : j < length t.entries = at_below t.entries j e h in
-      let z = at_index_or t.entries j e e h in
-      (subst (λ (x : Entry). is_name x.name ≡ true) z (sound.names j e l), subst (λ (x : Entry). length x.meta.comment ≤ 79) z (sound.comments j e l))
+      subst IsBoundedEntry (at_index_or t.entries j e e h) (sound.bounds.entries j e l)
 
   pub fits_root : FitsRoot (planned_root t n)
   fits_root =
@@ -127,7 +99,7 @@ module _ (t : Tree) (n : ℕ) (sound : IsSound t) (allowed : is_allowed n ≡ tr
       record {
         slots = length-map-range_with_len (λ s. first_block (slice_index (node_blocks t n)) (nodes_from 1 t.entries 0 s)) 0 SLOTS;
         pages = omega arith;
-        label = sound.label;
+        label = sound.bounds.label;
       }
 
   pub writes_are : AreBlocks n (writes t n)
@@ -139,10 +111,14 @@ module _ (t : Tree) (n : ℕ) (sound : IsSound t) (allowed : is_allowed n ≡ tr
       let b = boot_short t.kind in
       let boot = length-block_of_fields 512 ((0, boot_bytes t.kind) ∷ []) (omega arith) (omega arith, tt) in
       are-append n (entries_of t n) (rest_of t n)
-      (are_entries n (entries_blocks t.kind t.entries) (omega arith) (omega arith) below t.kind (node_blocks t n) t.entries 1 0 t.entries near (omega arith)
-      entry_sound)
-      (are-append n (pages_of t n) (map_exts_of n ++ ends_of t n) (are_pages n (entries_blocks t.kind t.entries) 0 (pages_needed n) (omega arith))
-      (are-append n (map_exts_of n) (ends_of t n) (are_map_exts n 0 (map_exts_needed (pages_needed n)) (omega arith))
+      (are_entries n (entries_blocks t.kind t.entries) (omega arith) (omega arith) below t 1 0 t.entries near (omega arith)
+      (λ j e h. let b = entry_sound j e h in (b.name, b.meta.comment)))
+      (are-append n (pages_of t n) (map_ext_writes n ++ ends_of t n)
+      (are_parts n (page_part n (entries_blocks t.kind t.entries)) 0 (pages_needed n)
+      (λ j l. (omega arith, length_page_block (page_words n (entries_blocks t.kind t.entries) j) (page_long n (entries_blocks t.kind t.entries) j))))
+      (are-append n (map_ext_writes n) (ends_of t n)
+      (are_parts n (map_ext_part n) 0 (map_exts_needed (pages_needed n))
+      (λ j l. (omega arith, length_map_ext_block (listed_pages n j) (map_ext_or_none n (suc j)) (listed_few n j))))
       (omega arith, length_root_block (planned_root t n) fits_root, (omega arith, boot, tt))))
 
   writes_numbers : numbers_of (writes t n) ≡ allocated n 0 (entries_blocks t.kind t.entries)
@@ -154,7 +130,9 @@ module _ (t : Tree) (n : ℕ) (sound : IsSound t) (allowed : is_allowed n ≡ tr
       let parts = reserved_parts n in
       let joined = append_assoc (range_with_len (middle n + 1) (pages_needed n)) (range_with_len (middle n + 1 + pages_needed n)
       (map_exts_needed (pages_needed n))) (middle n ∷ 0 ∷ []) in
-      simp (numbers_of-append, entries_numbers, page_numbers, map_ext_numbers) (cc)
+      let pages = range_numbers (page_part n (entries_blocks t.kind t.entries)) (middle n + 1) 0 (pages_needed n) (λ j. refl) in
+      let exts = range_numbers (map_ext_part n) (middle n + 1 + pages_needed n) 0 (map_exts_needed (pages_needed n)) (λ j. refl) in
+      simp (numbers_of-append, entries_numbers) (cc)
 
   pub writes_once : NoneTwice (writes t n)
   writes_once =
@@ -184,27 +162,27 @@ module _ (t : Tree) (n : ℕ) (sound : IsSound t) (allowed : is_allowed n ≡ tr
   pub volume_blocks : blocks (volume t n) ≡ n
   volume_blocks = let l = volume_long in omega arith
 
-  holds_all : Holds (volume t n) (writes t n)
+  holds_all : HoldsBlocks (volume t n) (writes t n)
   unfolding volume
   holds_all = laid_holds n (replicate (n * 512) 0) (writes t n) (writes t n) writes_are writes_once zeros_long (λ q h. h)
 
-  pub holds_entries : Holds (volume t n) (entries_of t n)
+  pub holds_entries : HoldsBlocks (volume t n) (entries_of t n)
   holds_entries = holds_left (volume t n) (entries_of t n) (rest_of t n) holds_all
 
-  holds_rest : Holds (volume t n) (rest_of t n)
+  holds_rest : HoldsBlocks (volume t n) (rest_of t n)
   holds_rest = holds_right (volume t n) (entries_of t n) (rest_of t n) holds_all
 
-  pub holds_pages : Holds (volume t n) (page_writes n (entries_blocks t.kind t.entries) 0 (pages_needed n))
-  holds_pages = holds_left (volume t n) (pages_of t n) (map_exts_of n ++ ends_of t n) holds_rest
+  pub holds_pages : HoldsBlocks (volume t n) (pages_of t n)
+  holds_pages = holds_left (volume t n) (pages_of t n) (map_ext_writes n ++ ends_of t n) holds_rest
 
-  holds_back : Holds (volume t n) (map_exts_of n ++ ends_of t n)
-  holds_back = holds_right (volume t n) (pages_of t n) (map_exts_of n ++ ends_of t n) holds_rest
+  holds_back : HoldsBlocks (volume t n) (map_ext_writes n ++ ends_of t n)
+  holds_back = holds_right (volume t n) (pages_of t n) (map_ext_writes n ++ ends_of t n) holds_rest
 
-  pub holds_map_exts : Holds (volume t n) (map_ext_writes n 0 (map_exts_needed (pages_needed n)))
-  holds_map_exts = holds_left (volume t n) (map_exts_of n) (ends_of t n) holds_back
+  pub holds_map_exts : HoldsBlocks (volume t n) (map_ext_writes n)
+  holds_map_exts = holds_left (volume t n) (map_ext_writes n) (ends_of t n) holds_back
 
-  holds_ends : Holds (volume t n) (ends_of t n)
-  holds_ends = holds_right (volume t n) (map_exts_of n) (ends_of t n) holds_back
+  holds_ends : HoldsBlocks (volume t n) (ends_of t n)
+  holds_ends = holds_right (volume t n) (map_ext_writes n) (ends_of t n) holds_back
 
   pub holds_root : block (volume t n) (middle n) ≡ root_block (planned_root t n)
   holds_root = holds_ends.0

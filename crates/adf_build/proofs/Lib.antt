@@ -17,6 +17,7 @@ pub mod LaidEntries
 pub mod LaidFiles
 pub mod LaidWrites
 pub mod BlockWrites
+pub mod Parts
 pub mod WholeBlocks
 pub mod WriteSteps
 pub mod WrittenBlocks

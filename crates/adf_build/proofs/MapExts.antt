@@ -1,5 +1,5 @@
 -- The bitmap extension blocks of a volume.
-use Rattle.std.proofs.Common.{take, min, ◌≡◌, ◌≤◌, ◌<◌, ◌+◌, ◌-◌, ◌*◌, ◌^◌, ℕ, suc, List, arith, true, add-one}
+use Rattle.std.proofs.Common.{map, take, min, ◌≡◌, ◌≤◌, ◌<◌, ◌+◌, ◌-◌, ◌*◌, ◌^◌, ℕ, List, arith, true, add-one}
 use Rattle.adf_fields.specs.Words.{with_block}
 use Rattle.adf_blocks.specs.MapExtBlock.{map_ext_block}
 use Rattle.adf_blocks.specs.Sizes.{is_allowed, middle, pages_needed}
@@ -7,10 +7,11 @@ use Rattle.adf_blocks.specs.declared.layout.TheConstants.{MAP_EXT_PAGES, ROOT_PA
 use Rattle.std.specs.List.{range_with_len}
 use Rattle.adf_volume.specs.Image.{map_exts_needed}
 use Rattle.adf_volume.proofs.Sizes.{size_high, size_low}
-use Rattle.adf_build.specs.Laid.{map_ext_or_none, map_ext_writes}
+use Rattle.adf_build.specs.Laid.{map_ext_or_none, map_ext_part}
 use Rattle.adf_build.specs.Writes.{with_blocks}
 use Rattle.adf_build.proofs.AllocatedBlocks.{reserved_below}
 use Rattle.adf_build.proofs.LaidWrites.{reserved_parts}
+use Rattle.adf_build.proofs.Parts.{part_step}
 
 -- a bitmap extension block lies whole in the image
 pub map_ext_fits : (n b j l : ℕ) → is_allowed n ≡ true → b ≡ middle n + 1 + pages_needed n + j → j < map_exts_needed (pages_needed n) → l ≡ n * 512
@@ -29,11 +30,9 @@ map_exts_few n a = let high = size_high n a in omega arith
 -- one bitmap extension block more
 pub map_exts_step : (image old all table : List ℕ) (n b first j m few next : ℕ) → b ≡ middle n + 1 + pages_needed n + j → j < m
     → few ≡ min MAP_EXT_PAGES (pages_needed n - (ROOT_PAGES + MAP_EXT_PAGES * j))
-    → first ≡ middle n + 1 + (ROOT_PAGES + MAP_EXT_PAGES * j) → take few table ≡ range_with_len first few → next ≡ map_ext_or_none n (j + 1) (m - (j + 1))
-    → with_blocks old (map_ext_writes n j (m - j)) ≡ all → image ≡ with_block old b (map_ext_block (take few table) next)
-    → with_blocks image (map_ext_writes n (j + 1) (m - (j + 1))) ≡ all
+    → first ≡ middle n + 1 + (ROOT_PAGES + MAP_EXT_PAGES * j) → take few table ≡ range_with_len first few → next ≡ map_ext_or_none n (j + 1)
+    → with_blocks old (map (map_ext_part n) (range_with_len j (m - j))) ≡ all → image ≡ with_block old b (map_ext_block (take few table) next)
+    → with_blocks image (map (map_ext_part n) (range_with_len (j + 1) (m - (j + 1)))) ≡ all
 map_exts_step image old all table n b first j m few next e lt f i g h inv w =
-    let split : m - j ≡ suc (m - (j + 1)) = omega arith in
-    let here = rw split at inv in
     let up = add-one j in
-    cc
+    part_step image old all _ (map_ext_part n) j b m lt e (cc) inv w

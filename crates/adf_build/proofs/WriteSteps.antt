@@ -1,46 +1,71 @@
 -- The steps of the loops that write blocks: what is left to write, by its first block.
-use Rattle.std.proofs.Common.{◌≡◌, ◌<◌, ◌+◌, ◌-◌, ℕ, suc, List, [], ◌∷◌, refl, ap, ◌∙◌, arith, length, take, drop, min}
+use Rattle.std.proofs.Common.{◌≡◌, ◌<◌, ◌+◌, ◌-◌, ◌*◌, ℕ, suc, List, [], ◌∷◌, ◌++◌, refl, ap, ◌∙◌, arith, length, map, take, drop, min}
 use Rattle.std.specs.Prelude.{slice_index}
-use Rattle.std.proofs.lemmas.List.{drop_min, take_min}
+use Rattle.std.specs.List.{range_with_len}
+use Rattle.std.proofs.lemmas.List.{drop-drop, drop_min, take_min}
 use Rattle.adf_fields.specs.Hash.{slot_of}
 use Rattle.adf_fields.specs.Words.{with_block}
-use Rattle.adf_tree.specs.declared.entry.Kind.{Kind}
-use Rattle.std.specs.List.{range_with_len}
+use Rattle.adf_tree.specs.declared.entry.Body.TheVariants.{File}
 use Rattle.adf_tree.specs.declared.entry.Entry.{Entry}
+use Rattle.adf_tree.specs.declared.entry.Kind.{Kind}
 use Rattle.adf_tree.specs.declared.entry.Stamps.{Stamps}
 use Rattle.adf_tree.specs.Tree.{Tree}
+use Rattle.adf_blocks.specs.declared.layout.TheConstants.{POINTERS, ROOT_PAGES}
 use Rattle.adf_blocks.specs.Sizes.{chunk, count, middle, pages_needed}
+use Rattle.adf_blocks.specs.ExtBlock.{ext_block}
 use Rattle.adf_blocks.specs.Fields.{block_of_fields}
+use Rattle.adf_blocks.specs.HeadBlock.{head_block}
+use Rattle.adf_blocks.specs.HeadBlock.BodyFields.{FileFields}
 use Rattle.adf_blocks.specs.RootBlock.{root_block}
-use Rattle.adf_volume.specs.Image.{map_exts_needed}
 use Rattle.adf_volume.specs.Layout.{nodes_from}
 use Rattle.adf_build.specs.Writes.{with_blocks}
-use Rattle.adf_tree.specs.declared.entry.Body.TheVariants.{File}
-use Rattle.adf_blocks.specs.HeadBlock.{head_block}
-use Rattle.adf_blocks.specs.declared.layout.TheConstants.{POINTERS, ROOT_PAGES}
-use Rattle.adf_build.specs.Laid.{boot_bytes, data_bytes, data_writes, entries_writes, ext_writes, first_block, heads_from, map_ext_writes}
-use Rattle.adf_build.specs.Laid.{map_ext_or_none, node_blocks, nth_free_or_none, page_writes, planned_root, slots_of, writes}
-use Rattle.adf_build.specs.Plan.{data_blocks, entries_blocks, entry_blocks, exts_needed, nth_free}
-use Rattle.adf_build.specs.Building.{entry_writes, file_header}
+use Rattle.adf_build.specs.Laid.{boot_bytes, data_bytes, data_part, data_writes, entries_writes, entry_writes, ext_part, ext_writes, first_block, planned_head}
+use Rattle.adf_build.specs.Laid.{heads_from, map_ext_or_none, map_ext_writes, node_blocks, nth_free_or_none, page_writes, planned_root, planned_spot}
+use Rattle.adf_build.specs.Laid.{slots_of, writes}
+use Rattle.adf_build.specs.Plan.{allocated, data_blocks, entries_blocks, entry_blocks, exts_needed, nth_free}
 use Rattle.adf_build.specs.declared.heads.Spot.{Spot}
 use Rattle.adf_build.proofs.BlockWrites.{with_blocks-append}
+use Rattle.adf_build.proofs.Parts.{part_step}
 
 -- one data block more
-pub datas_step : (image old all : List ℕ) (n : ℕ) (kind : Kind) (head k j count b next m : ℕ) (left held rest : List ℕ) → j < count
-    → m ≡ min (chunk kind) (length left) → held ≡ take m left → rest ≡ drop m left
-    → b ≡ nth_free n (k + j) → next ≡ nth_free_or_none n (k + j + 1) (count - (j + 1))
-    → with_blocks old (data_writes n kind head (k + j) (1 + j) left (count - j)) ≡ all
-    → image ≡ with_block old b (data_bytes kind head (1 + j) next held)
-    → with_blocks image (data_writes n kind head (k + (j + 1)) (1 + (j + 1)) rest (count - (j + 1))) ≡ all
-datas_step image old all n kind head k j count b next m left held rest lt e f g x y inv w =
-    let split : count - j ≡ suc (count - (j + 1)) = omega arith in
-    let here = rw split at inv in
-    let at : k + (j + 1) ≡ suc (k + j) = omega arith in
-    let number : 1 + (j + 1) ≡ suc (1 + j) = omega arith in
-    let behind : k + j + 1 ≡ suc (k + j) = omega arith in
-    let front : held ≡ take (chunk kind) left = f ∙ ap (λ m. take m left) e ∙ take_min (chunk kind) left in
-    let back : rest ≡ drop (chunk kind) left = g ∙ ap (λ m. drop m left) e ∙ drop_min (chunk kind) left in
-    cc
+pub data_step : (image old all : List ℕ) (n : ℕ) (kind : Kind) (k j c exts first b head next m : ℕ) (bytes left held : List ℕ) → j < c
+    → c ≡ count kind (length bytes) → exts ≡ exts_needed c → first ≡ k + 1 + exts → left ≡ drop (chunk kind * j) bytes
+    → m ≡ min (chunk kind) (length left) → held ≡ take m left
+    → b ≡ nth_free n (first + j) → head ≡ nth_free n k → next ≡ nth_free_or_none n (first + j + 1) (c - (j + 1))
+    → with_blocks old (map (data_part n kind k bytes) (range_with_len j (c - j))) ≡ all
+    → image ≡ with_block old b (data_bytes kind (record { head = head; number = 1 + j; next = next; bytes = held }))
+    → with_blocks image (map (data_part n kind k bytes) (range_with_len (j + 1) (c - (j + 1)))) ≡ all
+data_step image old all n kind k j c exts first b head next m bytes left held lt many x f l e g at h after inv w =
+    let here : first + j ≡ suc k + exts_needed c + j = omega (arith, x) in
+    let behind : first + j + 1 ≡ suc k + exts_needed c + suc j = omega (arith, x) in
+    let number : 1 + j ≡ suc j = omega arith in
+    let last : c - (j + 1) ≡ c - suc j = omega arith in
+    let share : held ≡ take (chunk kind) (drop (chunk kind * j) bytes) =
+    g ∙ ap (λ m. take m left) e ∙ take_min (chunk kind) left ∙ ap (take (chunk kind)) l in
+    part_step image old all _ (data_part n kind k bytes) j b c lt (cc) (cc) inv w
+
+-- the bytes that are left behind a data block
+pub left_step : (kind : Kind) (j m : ℕ) (bytes left rest : List ℕ) → left ≡ drop (chunk kind * j) bytes → m ≡ min (chunk kind) (length left)
+    → rest ≡ drop m left → rest ≡ drop (chunk kind * (j + 1)) bytes
+left_step kind j m bytes left rest l e g =
+    let z : chunk kind * j + chunk kind ≡ chunk kind * (j + 1) = omega arith in
+    g ∙ ap (λ m. drop m left) e ∙ drop_min (chunk kind) left ∙ ap (drop (chunk kind)) l ∙ drop-drop (chunk kind) (chunk kind * j) bytes
+    ∙ ap (λ i. drop i bytes) z
+
+-- one extension block more
+pub ext_step : (image old all table : List ℕ) (n k j c exts b head before m next : ℕ) → j < exts → exts ≡ exts_needed c → before ≡ POINTERS * (1 + j)
+    → m ≡ min POINTERS (c - before) → table ≡ allocated n (k + 1 + exts + before) m
+    → b ≡ nth_free n (k + 1 + j) → head ≡ nth_free n k → next ≡ nth_free_or_none n (k + 1 + (j + 1)) (exts - (j + 1))
+    → with_blocks old (map (ext_part n k c) (range_with_len j (exts - j))) ≡ all
+    → image ≡ with_block old b (ext_block (record { own = b; head = head; table = table; next = next }))
+    → with_blocks image (map (ext_part n k c) (range_with_len (j + 1) (exts - (j + 1)))) ≡ all
+ext_step image old all table n k j c exts b head before m next lt x p f t at h after inv w =
+    let here : k + 1 + j ≡ suc k + j = omega arith in
+    let behind : k + 1 + (j + 1) ≡ suc k + suc j = omega arith in
+    let last : exts - (j + 1) ≡ exts - suc j = omega arith in
+    let past : before ≡ POINTERS * suc j = omega (arith, p) in
+    let first : k + 1 + exts + before ≡ suc k + exts + POINTERS * suc j = omega (arith, p) in
+    part_step image old all _ (ext_part n k c) j b exts lt (cc) (cc) inv w
 
 heads_length : (n : ℕ) (kind : Kind) (k : ℕ) (es : List Entry) → length (heads_from n kind k es) ≡ length es
 heads_length n kind k [] = refl
@@ -58,53 +83,66 @@ room_step kind k j total left rest e split skip inv =
     let s : entries_blocks kind left ≡ entry_blocks kind e + entries_blocks kind rest = ap (entries_blocks kind) split in
     omega arith
 
+one_spot : (a b : Spot) → a.k ≡ b.k → a.parent ≡ b.parent → a.next ≡ b.next → a ≡ b
+one_spot a b e f g = λ i. record { k = e i; parent = f i; next = g i }
+
+run_step : (image old all : List ℕ) (ps left rest : List (ℕ × List ℕ)) → image ≡ with_blocks old ps → left ≡ rest → with_blocks old (ps ++ rest) ≡ all
+    → with_blocks image left ≡ all
+run_step image old all ps left rest e f inv = let both = with_blocks-append old ps rest in cc
+
 -- one entry more
-pub entry_step : (image old all : List ℕ) (n : ℕ) (kind other : Kind) (nodes slots : List ℕ) (es left rest : List Entry) (i k next p : ℕ) (e : Entry)
-    (here : Spot)
-    → left ≡ e ∷ rest → other ≡ kind → p ≡ i + 1 → next ≡ k + entry_blocks kind e
+pub entry_step : (image old all nodes slots : List ℕ) (n : ℕ) (t : Tree) (kind : Kind) (left rest : List Entry) (i k next p : ℕ) (e : Entry) (here : Spot)
+    → left ≡ e ∷ rest → kind ≡ t.kind → p ≡ i + 1 → next ≡ k + entry_blocks t.kind e → nodes ≡ node_blocks t n
     → here.k ≡ k → here.parent ≡ slice_index nodes e.parent
     → here.next ≡ first_block (slice_index nodes) (nodes_from p rest e.parent (slot_of e.name))
-    → slots ≡ slots_of nodes es i
-    → with_blocks old (entries_writes n kind nodes es i k left) ≡ all
-    → image ≡ with_blocks old (entry_writes n other here slots e)
-    → with_blocks image (entries_writes n kind nodes es (i + 1) next rest) ≡ all
-entry_step image old all n kind other nodes slots es left rest i k next p e here split same place skip at parent follow slot inv written =
+    → slots ≡ slots_of nodes t.entries i
+    → with_blocks old (entries_writes n t i k left) ≡ all
+    → image ≡ with_blocks old (entry_writes n kind here slots e)
+    → with_blocks image (entries_writes n t (i + 1) next rest) ≡ all
+entry_step image old all nodes slots n t kind left rest i k next p e here split same place skip known at parent follow slot inv written =
     let up : i + 1 ≡ suc i = omega arith in
-    let before = rw split at inv in
-    let both = with_blocks-append old (entry_writes n kind here slots e) (entries_writes n kind nodes es (suc i) (k + entry_blocks kind e) rest) in
-    cc
+    let spot : here ≡ planned_spot n t i k e rest =
+    one_spot here (planned_spot n t i k e rest) at (parent ∙ ap (λ ns. slice_index ns e.parent) known)
+    (follow ∙ ap (λ ns. first_block (slice_index ns) (nodes_from p rest e.parent (slot_of e.name))) known
+    ∙ ap (λ p. first_block (slice_index (node_blocks t n)) (nodes_from p rest e.parent (slot_of e.name))) (place ∙ up)) in
+    let mine : image ≡ with_blocks old (entry_writes n t.kind (planned_spot n t i k e rest) (slots_of (node_blocks t n) t.entries i) e) =
+    written ∙ ap (λ kind. with_blocks old (entry_writes n kind here slots e)) same ∙ ap (λ here. with_blocks old (entry_writes n t.kind here slots e)) spot
+    ∙ ap (λ ls. with_blocks old (entry_writes n t.kind (planned_spot n t i k e rest) ls e)) (slot ∙ ap (λ ns. slots_of ns t.entries i) known) in
+    run_step image old all (entry_writes n t.kind (planned_spot n t i k e rest) (slots_of (node_blocks t n) t.entries i) e)
+    (entries_writes n t (i + 1) next rest) (entries_writes n t (suc i) (k + entry_blocks t.kind e) rest) mine
+    (ap (λ i. entries_writes n t i next rest) up ∙ ap (λ k. entries_writes n t (suc i) k rest) skip) (rw split at inv)
 
 -- the blocks of a file: its header, its extension blocks and its data blocks
-pub file_step : (image old head mid bytes slots : List ℕ) (n : ℕ) (kind : Kind) (here : Spot) (e : Entry) (own datas exts left : ℕ)
-    → e.body ≡ File bytes → own ≡ nth_free n here.k → datas ≡ data_blocks kind e.body → exts ≡ exts_needed datas → left ≡ datas - POINTERS
-    → head ≡ with_block old (nth_free n here.k) (head_block (file_header n here (length bytes) datas e))
-    → mid ≡ with_blocks head (ext_writes n own (here.k + 1) (here.k + 1 + exts + POINTERS) left exts)
-    → image ≡ with_blocks mid (data_writes n kind own (here.k + 1 + exts) 1 bytes datas)
+pub file_step : (image old head mid bytes slots table : List ℕ) (n : ℕ) (kind : Kind) (here : Spot) (e : Entry) (size c exts m next : ℕ)
+    → e.body ≡ File bytes → c ≡ data_blocks kind e.body → exts ≡ exts_needed c → m ≡ min POINTERS c → size ≡ length bytes
+    → table ≡ allocated n (here.k + 1 + exts) m → next ≡ nth_free_or_none n (here.k + 1) exts
+    → head ≡ with_block old (nth_free n here.k) (head_block (planned_head n here (FileFields size table next) e))
+    → mid ≡ with_blocks head (ext_writes n here.k c)
+    → image ≡ with_blocks mid (data_writes n kind here.k bytes)
     → image ≡ with_blocks old (entry_writes n kind here slots e)
-file_step image old head mid bytes slots n kind here e own datas exts left b o d x l h m i =
-    let many : datas ≡ count kind (length bytes) = d ∙ ap (data_blocks kind) b in
-    let next : here.k + 1 ≡ suc here.k = omega arith in
+file_step image old head mid bytes slots table n kind here e size c exts m next b d x f s t a h w i =
+    let many : c ≡ count kind (length bytes) = d ∙ ap (data_blocks kind) b in
+    let one : here.k + 1 ≡ suc here.k = omega arith in
     let first : here.k + 1 + exts ≡ suc here.k + exts = omega arith in
-    let all = with_blocks-append head (ext_writes n own (suc here.k) (suc here.k + exts + POINTERS) left exts)
-    (data_writes n kind own (suc here.k + exts) 1 bytes datas) in
+    let all = with_blocks-append head (ext_writes n here.k (count kind (length bytes))) (data_writes n kind here.k bytes) in
     rw b (cc)
 
 -- the root, with what it names
-pub root_step : (image old slots numbers : List ℕ) (label : List ℕ) (stamps : Stamps) (t : Tree) (n root first few exts next : ℕ)
+pub root_step : (image old slots numbers : List ℕ) (label : List ℕ) (stamps : Stamps) (t : Tree) (n root first few next : ℕ)
     → root ≡ middle n → first ≡ middle n + 1 → slots ≡ slots_of (node_blocks t n) t.entries 0
     → few ≡ min ROOT_PAGES (pages_needed n) → take few numbers ≡ range_with_len first few
-    → exts ≡ map_exts_needed (pages_needed n) → next ≡ map_ext_or_none n 0 exts → label ≡ t.label → stamps ≡ t.stamps
+    → next ≡ map_ext_or_none n 0 → label ≡ t.label → stamps ≡ t.stamps
     → image ≡ with_block old root (root_block (record { slots = slots; pages = take few numbers; map_ext = next; label = label; stamps = stamps }))
     → image ≡ with_block old (middle n) (root_block (planned_root t n))
-root_step image old slots numbers label stamps t n root first few exts next r j a b d e f g h i = cc
+root_step image old slots numbers label stamps t n root first few next r j a b d f g h i = cc
 
 -- the blocks of a volume: those of the entries, the pages, the bitmap extension blocks, the root and the boot block
-pub volume_step : (image old a b d r boot nodes : List ℕ) (t : Tree) (n total : ℕ) (kind : Kind) → nodes ≡ node_blocks t n
+pub volume_step : (image old a b d r boot : List ℕ) (t : Tree) (n total : ℕ) (kind : Kind)
     → total ≡ entries_blocks t.kind t.entries → kind ≡ t.kind → boot ≡ block_of_fields ((0, boot_bytes kind) ∷ [])
-    → a ≡ with_blocks old (entries_writes n t.kind nodes t.entries 1 0 t.entries)
-    → b ≡ with_blocks a (page_writes n total 0 (pages_needed n))
-    → d ≡ with_blocks b (map_ext_writes n 0 (map_exts_needed (pages_needed n)))
+    → a ≡ with_blocks old (entries_writes n t 1 0 t.entries)
+    → b ≡ with_blocks a (page_writes n total)
+    → d ≡ with_blocks b (map_ext_writes n)
     → r ≡ with_block d (middle n) (root_block (planned_root t n))
     → image ≡ with_block r 0 boot
     → image ≡ with_blocks old (writes t n)
-volume_step image old a b d r boot nodes t n total kind e f k o p q x y z = simp with_blocks-append (cc)
+volume_step image old a b d r boot t n total kind f k o p q x y z = simp with_blocks-append (cc)

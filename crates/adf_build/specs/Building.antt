@@ -1,17 +1,9 @@
 -- What building answers.
-use Rattle.std.specs.Prelude.{◌≡◌, ◌≤◌, ◌<◌, ◌+◌, ◌-◌, ◌^◌, ◌++◌, ℕ, List, ◌∷◌, true, false, min, codes}
+use Rattle.std.specs.Prelude.{◌≡◌, ◌≤◌, ◌<◌, ◌-◌, ◌^◌, ◌++◌, ℕ, List, true, false, min, codes}
 use Rattle.std.specs.Fmt.{decimal}
-use Rattle.std.proofs.Common.{suc}
 use Rattle.adf_tree.specs.Tree.{Tree}
-use Rattle.adf_tree.specs.declared.entry.Entry.{Entry}
-use Rattle.adf_tree.specs.declared.entry.Kind.{Kind}
-use Rattle.adf_blocks.specs.declared.layout.TheConstants.{POINTERS}
-use Rattle.adf_blocks.specs.HeadBlock.{HeadFields, head_block}
-use Rattle.adf_blocks.specs.HeadBlock.BodyFields.{FileFields}
 use Rattle.adf_blocks.specs.Sizes.{is_allowed}
-use Rattle.adf_build.specs.Plan.{blocks_needed, exts_needed, nth_free, allocated}
-use Rattle.adf_build.specs.Laid.{body_of, body_writes, nth_free_or_none}
-use Rattle.adf_build.specs.declared.heads.Spot.{Spot}
+use Rattle.adf_build.specs.Plan.{blocks_needed}
 use Rattle.adf_build.specs.declared.builder.BuildFault.{BuildFault}
 use Rattle.adf_build.specs.declared.builder.BuildFault.TheVariants.{BadSize, Full, NoMemory}
 
@@ -20,7 +12,7 @@ abbrev pub need_of : Tree → ℕ → ℕ
 need_of tree n = min (blocks_needed tree n) (2 ^ 64 - 1)
 
 -- the tree has room in a volume of n blocks, of which the two boot blocks are none of its own
-pub record HasRoom (tree : Tree) (n : ℕ) : Type 0 where
+pub record IsBuildable (tree : Tree) (n : ℕ) : Type 0 where
   pub allowed : is_allowed n ≡ true
   pub room : blocks_needed tree n ≤ n - 2
 
@@ -44,30 +36,4 @@ build_fault_text NoMemory = codes "no memory"
 abbrev pub IsBuildFault : Tree → ℕ → BuildFault → Type 0
 IsBuildFault tree n BadSize = is_allowed n ≡ false
 IsBuildFault tree n (Full need have) = (is_allowed n ≡ true) × (need ≡ need_of tree n) × (have ≡ n - 2) × (have < need)
-IsBuildFault tree n NoMemory = HasRoom tree n
-
--- the fields of the header of an entry with these slots, in a volume of n blocks
-abbrev pub header : ℕ → Kind → Spot → List ℕ → Entry → HeadFields
-header n kind spot slots e = record {
-  own = nth_free n spot.k;
-  parent = spot.parent;
-  next = spot.next;
-  name = e.name;
-  meta = e.meta;
-  body = body_of n spot.k kind slots e.body;
-}
-
--- the fields of the header of a file of so many bytes in so many data blocks
-abbrev pub file_header : ℕ → Spot → ℕ → ℕ → Entry → HeadFields
-file_header n spot size datas e = record {
-  own = nth_free n spot.k;
-  parent = spot.parent;
-  next = spot.next;
-  name = e.name;
-  meta = e.meta;
-  body = FileFields size (allocated n (suc spot.k + exts_needed datas) (min POINTERS datas)) (nth_free_or_none n (suc spot.k) (exts_needed datas));
-}
-
--- the blocks of an entry with these slots, in a volume of n blocks
-abbrev pub entry_writes : ℕ → Kind → Spot → List ℕ → Entry → List (ℕ × List ℕ)
-entry_writes n kind spot slots e = (nth_free n spot.k, head_block (header n kind spot slots e)) ∷ body_writes n kind spot.k e.body
+IsBuildFault tree n NoMemory = IsBuildable tree n

@@ -19,9 +19,9 @@ NoneTwice [] = Unit {0}
 NoneTwice (p ∷ ps) = ((q : ℕ × List ℕ) → In ps q → p.0 ≢ q.0) × NoneTwice ps
 
 -- the image holds each of these blocks
-abbrev pub Holds : List ℕ → List (ℕ × List ℕ) → Type 0
-Holds image [] = Unit {0}
-Holds image (p ∷ ps) = (block image p.0 ≡ p.1) × Holds image ps
+abbrev pub HoldsBlocks : List ℕ → List (ℕ × List ℕ) → Type 0
+HoldsBlocks image [] = Unit {0}
+HoldsBlocks image (p ∷ ps) = (block image p.0 ≡ p.1) × HoldsBlocks image ps
 
 -- the numbers of blocks that are written
 abbrev pub numbers_of : List (ℕ × List ℕ) → List ℕ

@@ -2,9 +2,9 @@
 
 ghost use Rattle.std.specs.Prelude.{◌≡◌, ◌*◌, IfOk, IfErr, OnOk, vec_len};
 ghost use Rattle.adf_volume.specs.Fits.{Fits};
-ghost use Rattle.adf_build.specs.Laid.{IsLaid, IsSound, volume};
+ghost use Rattle.adf_build.specs.Laid.{IsLaid, IsWellFormed, volume};
 ghost use Rattle.adf_build.specs.Plan.{planned};
-ghost use Rattle.adf_build.specs.Building.{HasRoom, IsBuildFault, build_fault_number};
+ghost use Rattle.adf_build.specs.Building.{IsBuildable, IsBuildFault, build_fault_number};
 
 use crate::counting::count_entries;
 use crate::nodes::nodes_of;
@@ -58,9 +58,9 @@ impl fmt::Display for BuildFault {
 impl Error for BuildFault {}
 
 // The fields of a tree fit the fields of blocks.
-#[tactic(auto, using(crate::proofs::WholeVolume::sound_tree))]
+#[tactic(auto, using(crate::proofs::WholeVolume::well_formed))]
 fn fields_fit(tree: &Tree)
-    ensures { IsSound tree.now }
+    ensures { IsWellFormed tree.now }
 {
     tree.bounds();
     let _count = tree.len();
@@ -73,7 +73,7 @@ pub fn build(alloc: Global, tree: &Tree, blocks: u32) -> Result<Vec<u8>, BuildFa
     ensures fits { IfOk result (λ image. Fits image.items tree.now (planned tree.now blocks)) }
     ensures bytes { IfOk result (λ image. image.items ≡ volume tree.now blocks) }
     ensures len { IfOk result (λ image. vec_len image ≡ blocks * 512) }
-    ensures room { OnOk result (HasRoom tree.now blocks) }
+    ensures room { OnOk result (IsBuildable tree.now blocks) }
     ensures fault { IfErr result (IsBuildFault tree.now blocks) }
 {
     let Some(plan) = Plan::new(blocks) else {

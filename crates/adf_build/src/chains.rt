@@ -42,7 +42,10 @@ pub fn next_of(tree: &Tree, nodes: &[u32], i: usize, entry: &Entry) -> u32
     requires here { drop i tree.now.entries ≡ entry.now ∷ drop (i + 1) tree.now.entries }
     requires place { i < length tree.now.entries }
     requires nodes { length nodes.now ≡ 1 + length tree.now.entries }
-    ensures { result ≡ first_block (slice_index nodes.now) (nodes_from (i + 2) (drop (i + 1) tree.now.entries) entry.now.parent (slot_of entry.now.name)) }
+    ensures { result
+        ≡ first_block (slice_index nodes.now)
+        (nodes_from (i + 2) (drop (i + 1) tree.now.entries) entry.now.parent
+        (slot_of entry.now.name)) }
 {
     if i + 1 < tree.len() && are_together(entry, entry_at(tree, i + 1)) {
         nodes[i + 2]
@@ -59,7 +62,9 @@ pub fn children_end(tree: &Tree, p: usize, from: usize) -> usize
     ensures within { result ≤ length tree.now.entries }
     ensures mine { AllWithin (λ (e : Entry). e.parent ≡ p) tree.now.entries from result }
     ensures past { RisesFrom (72 * (p + 1)) (drop result tree.now.entries) }
-    ensures others { (q s : ℕ) → q ≢ p → nodes_from (from + 1) (drop from tree.now.entries) q s ≡ nodes_from (result + 1) (drop result tree.now.entries) q s }
+    ensures others { (q s : ℕ) → q ≢ p
+        → nodes_from (from + 1) (drop from tree.now.entries) q s
+        ≡ nodes_from (result + 1) (drop result tree.now.entries) q s }
 {
     let mut end = from;
     while end < tree.len() && parent_of(entry_at(tree, end)) == p {
@@ -83,7 +88,10 @@ pub fn slots_between(
     requires nodes { length nodes.now ≡ 1 + length tree.now.entries }
     requires mine { AllWithin (λ (e : Entry). e.parent ≡ p) tree.now.entries from end }
     requires past { RisesFrom (72 * (p + 1)) (drop end tree.now.entries) }
-    ensures { (s : ℕ) → s < SLOTS → slice_index result s ≡ first_block (slice_index nodes.now) (nodes_from (from + 1) (drop from tree.now.entries) p s) }
+    ensures { (s : ℕ) → s < SLOTS
+        → slice_index result s
+        ≡ first_block (slice_index nodes.now)
+        (nodes_from (from + 1) (drop from tree.now.entries) p s) }
 {
     let mut slots = [0u32; SLOTS as usize];
     let mut at = end;

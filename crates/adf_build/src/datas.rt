@@ -3,13 +3,15 @@
 ghost use Rattle.std.specs.Prelude.{◌≡◌, ◌≤◌, ◌+◌, ◌*◌, [], ◌∷◌, length};
 ghost use Rattle.adf_fields.specs.Words.{with_block};
 ghost use Rattle.adf_blocks.specs.Fields.{block_of_fields};
-ghost use Rattle.adf_blocks.specs.Sizes.{chunk};
+ghost use Rattle.adf_blocks.specs.DataBlock.{data_fields};
+ghost use Rattle.adf_blocks.specs.Sizes.{chunk, count};
 ghost use Rattle.adf_build.specs.Laid.{data_bytes, data_writes};
 ghost use Rattle.adf_build.specs.Writes.{with_blocks};
-ghost use Rattle.adf_build.specs.Plan.{HasFree};
+ghost use Rattle.adf_build.specs.Plan.{HasFree, exts_needed};
 
+use crate::counting::ext_count;
 use crate::plan::Plan;
-use adf_blocks::{DataOut, chunk_len, write_data};
+use adf_blocks::{DataOut, chunk_len, data_count, write_data};
 use adf_fields::{put_block, put_bytes};
 use adf_tree::Kind;
 
@@ -28,7 +30,7 @@ fn bare_block(held: &[u8]) -> [u8; 512]
 fn write_one(image: &mut [u8], b: u32, kind: Kind, data: &DataOut<'_>)
     requires whole { b * 512 + 512 ≤ length image.old }
     requires held { length data.now.bytes.now ≤ chunk kind }
-    ensures { image.new ≡ with_block image.old b (data_bytes kind data.now.head data.now.number data.now.next data.now.bytes.now) }
+    ensures { image.new ≡ with_block image.old b (data_bytes kind (data_fields data.now)) }
 {
     match kind {
         Kind::Ofs => write_data(image, b, data),
@@ -36,31 +38,27 @@ fn write_one(image: &mut [u8], b: u32, kind: Kind, data: &DataOut<'_>)
     }
 }
 
-/// Writes bytes into `count` data blocks, from the `k`-th free block on, of the file whose header is block `head`.
+/// Writes the data blocks of a file whose header is the `k`-th free block, behind its extension blocks.
 #[tactic(auto, using(crate::proofs::FreeBlocks::free_fits))]
-pub fn write_datas(
-    image: &mut [u8],
-    plan: Plan,
-    kind: Kind,
-    head: u32,
-    k: u32,
-    bytes: &[u8],
-    count: u32,
-)
+pub fn write_datas(image: &mut [u8], plan: Plan, kind: Kind, k: u32, bytes: &[u8])
     requires whole { length image.old ≡ plan.blocks * 512 }
-    requires room { HasFree plan.blocks (k + count) }
-    ensures { image.new ≡ with_blocks image.old (data_writes plan.blocks kind head k 1 bytes.now count) }
+    requires room { let c = count kind (length bytes.now) in HasFree plan.blocks
+        (k + (1 + exts_needed c + c)) }
+    ensures { image.new ≡ with_blocks image.old (data_writes plan.blocks kind k bytes.now) }
 {
+    let datas = data_count(kind, bytes.len());
+    let first = k + 1 + ext_count(datas) as u32;
+    let count = datas as u32;
     let mut left = bytes;
     for j in 0..count {
         let (held, rest) = left.split_at(left.len().min(chunk_len(kind)));
         let data = DataOut {
-            head,
+            head: plan.nth_free(k),
             number: 1 + j,
-            next: plan.nth_free_or_none(k + j + 1, count - (j + 1)),
+            next: plan.nth_free_or_none(first + j + 1, count - (j + 1)),
             bytes: held,
         };
-        write_one(image, plan.nth_free(k + j), kind, &data);
+        write_one(image, plan.nth_free(first + j), kind, &data);
         left = rest;
     }
 }

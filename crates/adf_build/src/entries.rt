@@ -1,9 +1,9 @@
 // The blocks of all entries.
 
 ghost use Rattle.std.specs.Prelude.{◌≡◌, ◌≤◌, ◌+◌, ◌*◌, ℕ, length, drop};
-ghost use Rattle.adf_build.specs.Laid.{entries_writes};
+ghost use Rattle.adf_build.specs.Laid.{entries_writes, node_blocks};
 ghost use Rattle.adf_build.specs.Writes.{with_blocks};
-ghost use Rattle.adf_build.specs.Building.{HasRoom};
+ghost use Rattle.adf_build.specs.Building.{IsBuildable};
 ghost use Rattle.adf_build.specs.Order.{RisesFrom};
 ghost use Rattle.adf_volume.specs.Layout.{nodes_from};
 
@@ -14,14 +14,18 @@ use crate::plan::Plan;
 use adf_tree::Tree;
 
 /// Writes the blocks of all entries; the children of the root stand before place `first`.
+#[tactic(auto, using(crate::proofs::WriteSteps::nodes_length))]
 pub fn write_entries(image: &mut [u8], tree: &Tree, plan: Plan, nodes: &[u32], first: usize)
-    requires room { HasRoom tree.now plan.blocks }
+    requires room { IsBuildable tree.now plan.blocks }
     requires whole { length image.old ≡ plan.blocks * 512 }
-    requires nodes { length nodes.now ≡ 1 + length tree.now.entries }
+    requires nodes { nodes.now ≡ node_blocks tree.now plan.blocks }
     requires within { first ≤ length tree.now.entries }
     requires low { RisesFrom 72 (drop first tree.now.entries) }
-    requires chains { (q s : ℕ) → 1 ≤ q → nodes_from 1 tree.now.entries q s ≡ nodes_from (first + 1) (drop first tree.now.entries) q s }
-    ensures { image.new ≡ with_blocks image.old (entries_writes plan.blocks tree.now.kind nodes.now tree.now.entries 1 0 tree.now.entries) }
+    requires chains { (q s : ℕ) → 1 ≤ q
+        → nodes_from 1 tree.now.entries q s
+        ≡ nodes_from (first + 1) (drop first tree.now.entries) q s }
+    ensures { image.new
+        ≡ with_blocks image.old (entries_writes plan.blocks tree.now 1 0 tree.now.entries) }
 {
     let mut k = 0;
     let mut child = first;
@@ -35,7 +39,7 @@ pub fn write_entries(image: &mut [u8], tree: &Tree, plan: Plan, nodes: &[u32], f
             next: next_of(tree, nodes, i, entry),
         };
         write_entry(image, plan, tree.kind(), spot, slots, entry);
-        k = next_free(k, tree.kind(), &entry.body);
+        k = next_free(k, tree.kind(), entry);
         child = end;
     }
 }

@@ -1,35 +1,33 @@
 // The extension blocks of a file.
 
-ghost use Rattle.std.specs.Prelude.{◌≡◌, ◌<◌, ◌+◌, ◌*◌, ◌^◌, length};
+ghost use Rattle.std.specs.Prelude.{◌≡◌, ◌+◌, ◌*◌, length};
 ghost use Rattle.adf_build.specs.Laid.{ext_writes};
 ghost use Rattle.adf_build.specs.Writes.{with_blocks};
-ghost use Rattle.adf_build.specs.Plan.{HasFree};
+ghost use Rattle.adf_build.specs.Plan.{HasFree, exts_needed};
 
+use crate::counting::ext_count;
 use crate::plan::Plan;
 use adf_blocks::{ExtOut, POINTERS, write_ext};
 
-/// Writes `count` extension blocks, from the `k`-th free block on, of the file whose header is block `head`: they name
-/// `datas` data blocks, from the `d`-th free block on.
+/// Writes the extension blocks of a file of so many data blocks whose header is the `k`-th free block: they stand behind
+/// the header, and name the data blocks that it does not.
 #[tactic(auto, using(crate::proofs::FreeBlocks::free_fits))]
-pub fn write_exts(image: &mut [u8], plan: Plan, head: u32, k: u32, d: u32, datas: usize, count: u32)
+pub fn write_exts(image: &mut [u8], plan: Plan, k: u32, datas: usize)
     requires whole { length image.old ≡ plan.blocks * 512 }
-    requires room { HasFree plan.blocks (k + count) }
-    requires near { d + POINTERS * count < 2 ^ 29 }
-    ensures { image.new ≡ with_blocks image.old (ext_writes plan.blocks head k d datas count) }
+    requires room { HasFree plan.blocks (k + (1 + exts_needed datas + datas)) }
+    ensures { image.new ≡ with_blocks image.old (ext_writes plan.blocks k datas) }
 {
-    let mut left = datas;
-    let mut next = d;
+    let count = ext_count(datas) as u32;
     for j in 0..count {
-        let short = left.min(POINTERS);
-        let own = plan.nth_free(k + j);
+        let before = POINTERS * (1 + j as usize);
+        let short = datas.saturating_sub(before).min(POINTERS);
+        let own = plan.nth_free(k + 1 + j);
         let ext = ExtOut {
             own,
-            head,
-            table: &plan.table_of(next, short)[..short],
-            next: plan.nth_free_or_none(k + j + 1, count - (j + 1)),
+            head: plan.nth_free(k),
+            table: &plan.table_of(k + 1 + count + before as u32, short)[..short],
+            next: plan.nth_free_or_none(k + 1 + (j + 1), count - (j + 1)),
         };
         write_ext(image, own, &ext);
-        left = left.saturating_sub(POINTERS);
-        next += POINTERS as u32;
     }
 }

@@ -1,13 +1,12 @@
 // The blocks of an entry.
 
 ghost use Rattle.std.specs.Prelude.{◌≡◌, ◌+◌, ◌*◌, ℕ, List, length};
-ghost use Rattle.adf_tree.specs.declared.entry.Body.TheVariants.{Dir as TheDir, File as TheFile};
+ghost use Rattle.adf_tree.specs.declared.entry.Body.TheVariants.{File as TheFile};
 ghost use Rattle.adf_fields.specs.Words.{with_block};
-ghost use Rattle.adf_blocks.specs.HeadBlock.{head_block};
+ghost use Rattle.adf_blocks.specs.HeadBlock.{FitsTable, body_fields, head_block};
 ghost use Rattle.adf_build.specs.Writes.{with_blocks};
-ghost use Rattle.adf_build.specs.Plan.{HasFree, entry_blocks, exts_needed, nth_free};
-ghost use Rattle.adf_build.specs.Building.{entry_writes, file_header};
-ghost use Rattle.adf_tree.specs.declared.entry.Kind.{Kind};
+ghost use Rattle.adf_build.specs.Laid.{entry_writes, planned_head};
+ghost use Rattle.adf_build.specs.Plan.{HasFree, entry_blocks, nth_free};
 
 use crate::counting::{data_blocks, ext_count};
 use crate::datas::write_datas;
@@ -25,13 +24,14 @@ pub struct Spot {
     pub next: u32,
 }
 
-// Writes the header of a directory.
+// Writes the header of an entry, with this body.
 #[tactic(auto, using(crate::proofs::FreeBlocks::free_fits))]
-fn write_dir(image: &mut [u8], plan: Plan, spot: Spot, slots: [u32; SLOTS as usize], entry: &Entry)
-    requires body { entry.now.body ≡ TheDir }
+fn write_header(image: &mut [u8], plan: Plan, spot: Spot, entry: &Entry, body: HeadOutBody<'_>)
     requires whole { length image.old ≡ plan.blocks * 512 }
     requires room { HasFree plan.blocks (spot.k + 1) }
-    ensures { (kind : Kind) → image.new ≡ with_blocks image.old (entry_writes plan.blocks kind spot slots entry.now) }
+    requires table { FitsTable (body_fields body) }
+    ensures { let h = planned_head plan.blocks spot (body_fields body.entry) entry.now in
+        image.new ≡ with_block image.old (nth_free plan.blocks spot.k) (head_block h) }
 {
     let own = plan.nth_free(spot.k);
     let head = HeadOut {
@@ -40,33 +40,7 @@ fn write_dir(image: &mut [u8], plan: Plan, spot: Spot, slots: [u32; SLOTS as usi
         next: spot.next,
         name: &entry.name,
         meta: &entry.meta,
-        body: HeadOutBody::Dir { slots },
-    };
-    write_head(image, own, &head);
-}
-
-// Writes the header of a file of so many bytes in so many data blocks.
-#[tactic(auto, using(crate::proofs::FreeBlocks::free_fits))]
-fn write_file_head(image: &mut [u8], plan: Plan, spot: Spot, size: u32, datas: usize, entry: &Entry)
-    requires whole { length image.old ≡ plan.blocks * 512 }
-    requires room { HasFree plan.blocks (spot.k + (1 + exts_needed datas + datas)) }
-    ensures { image.new ≡ with_block image.old (nth_free plan.blocks spot.k) (head_block (file_header plan.blocks spot size datas entry.now)) }
-{
-    let own = plan.nth_free(spot.k);
-    let exts = ext_count(datas) as u32;
-    let short = datas.min(POINTERS);
-    let table = plan.table_of(spot.k + 1 + exts, short);
-    let head = HeadOut {
-        own,
-        parent: spot.parent,
-        next: spot.next,
-        name: &entry.name,
-        meta: &entry.meta,
-        body: HeadOutBody::File {
-            size,
-            table: &table[..short],
-            ext: plan.nth_free_or_none(spot.k + 1, exts),
-        },
+        body,
     };
     write_head(image, own, &head);
 }
@@ -77,23 +51,20 @@ fn write_file(image: &mut [u8], plan: Plan, kind: Kind, spot: Spot, entry: &Entr
     requires body { entry.now.body ≡ TheFile bytes.now }
     requires whole { length image.old ≡ plan.blocks * 512 }
     requires room { HasFree plan.blocks (spot.k + entry_blocks kind entry.now) }
-    ensures { (slots : List ℕ) → image.new ≡ with_blocks image.old (entry_writes plan.blocks kind spot slots entry.now) }
+    ensures { (slots : List ℕ)
+        → image.new ≡ with_blocks image.old (entry_writes plan.blocks kind spot slots entry.now) }
 {
     let datas = data_blocks(kind, &entry.body);
     let exts = ext_count(datas) as u32;
-    let own = plan.nth_free(spot.k);
-    let first = spot.k + 1 + exts;
-    write_file_head(image, plan, spot, bytes.len() as u32, datas, entry);
-    write_exts(
-        image,
-        plan,
-        own,
-        spot.k + 1,
-        first + POINTERS as u32,
-        datas.saturating_sub(POINTERS),
-        exts,
-    );
-    write_datas(image, plan, kind, own, first, bytes, datas as u32);
+    let short = datas.min(POINTERS);
+    let body = HeadOutBody::File {
+        size: bytes.len() as u32,
+        table: &plan.table_of(spot.k + 1 + exts, short)[..short],
+        ext: plan.nth_free_or_none(spot.k + 1, exts),
+    };
+    write_header(image, plan, spot, entry, body);
+    write_exts(image, plan, spot.k, datas);
+    write_datas(image, plan, kind, spot.k, bytes);
 }
 
 /// Writes the blocks of an entry.
@@ -107,10 +78,11 @@ pub fn write_entry(
 )
     requires whole { length image.old ≡ plan.blocks * 512 }
     requires room { HasFree plan.blocks (spot.k + entry_blocks kind entry.now) }
-    ensures { image.new ≡ with_blocks image.old (entry_writes plan.blocks kind spot slots entry.now) }
+    ensures { image.new
+        ≡ with_blocks image.old (entry_writes plan.blocks kind spot slots entry.now) }
 {
     match &entry.body {
-        Body::Dir => write_dir(image, plan, spot, slots, entry),
+        Body::Dir => write_header(image, plan, spot, entry, HeadOutBody::Dir { slots }),
         Body::File(file) => write_file(image, plan, kind, spot, entry, file.bytes()),
     }
 }

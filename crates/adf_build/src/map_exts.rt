@@ -1,8 +1,6 @@
 // The bitmap extension blocks of a volume.
 
 ghost use Rattle.std.specs.Prelude.{◌≡◌, ◌*◌, length};
-ghost use Rattle.adf_blocks.specs.Sizes.{pages_needed};
-ghost use Rattle.adf_volume.specs.Image.{map_exts_needed};
 ghost use Rattle.adf_build.specs.Laid.{map_ext_writes};
 ghost use Rattle.adf_build.specs.Writes.{with_blocks};
 
@@ -13,14 +11,14 @@ use adf_blocks::{MAP_EXT_PAGES, ROOT_PAGES, write_map_ext};
 #[tactic(auto, using(crate::proofs::MapExts::map_exts_few))]
 pub fn write_map_exts(image: &mut [u8], plan: Plan)
     requires { length image.old ≡ plan.blocks * 512 }
-    ensures { image.new ≡ with_blocks image.old (map_ext_writes plan.blocks 0 (map_exts_needed (pages_needed plan.blocks))) }
+    ensures { image.new ≡ with_blocks image.old (map_ext_writes plan.blocks) }
 {
     let count = plan.map_exts();
     for j in 0..count {
         let first = ROOT_PAGES as u32 + MAP_EXT_PAGES as u32 * j;
         let len = plan.pages().saturating_sub(first).min(MAP_EXT_PAGES as u32) as usize;
         let table: [u32; MAP_EXT_PAGES] = plan.page_table(first, len);
-        let next = plan.map_ext_or_none(j + 1, count - (j + 1));
+        let next = plan.map_ext_or_none(j + 1);
         write_map_ext(image, plan.map_ext(j), &table[..len], next);
     }
 }

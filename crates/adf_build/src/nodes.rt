@@ -2,12 +2,12 @@
 
 ghost use Rattle.std.specs.Prelude.{◌≡◌, ◌<◌, ◌+◌, ◌^◌, ◌∷◌, length, drop, IfOk};
 ghost use Rattle.adf_build.specs.Laid.{node_blocks};
-ghost use Rattle.adf_build.specs.Plan.{data_blocks, exts_needed};
-ghost use Rattle.adf_build.specs.Building.{HasRoom};
+ghost use Rattle.adf_build.specs.Plan.{entry_blocks};
+ghost use Rattle.adf_build.specs.Building.{IsBuildable};
 
 use crate::counting::{data_blocks, ext_count};
 use crate::plan::Plan;
-use adf_tree::{Body, Entry, Kind, Node, Tree};
+use adf_tree::{Entry, Kind, Node, Tree};
 use std::alloc::{AllocError, Global};
 
 /// The entry at place `i`, which is node `i + 1`.
@@ -29,17 +29,17 @@ pub fn parent_of(entry: &Entry) -> usize
 }
 
 /// The number of the free block behind those of an entry whose header is the `k`-th one.
-pub fn next_free(k: u32, kind: Kind, body: &Body) -> u32
-    requires { k + (1 + exts_needed (data_blocks kind body.now) + data_blocks kind body.now) < 2 ^ 30 }
-    ensures { result ≡ k + (1 + exts_needed (data_blocks kind body.now) + data_blocks kind body.now) }
+pub fn next_free(k: u32, kind: Kind, entry: &Entry) -> u32
+    requires { k + entry_blocks kind entry.now < 2 ^ 30 }
+    ensures { result ≡ k + entry_blocks kind entry.now }
 {
-    let datas = data_blocks(kind, body);
+    let datas = data_blocks(kind, &entry.body);
     k + (1 + ext_count(datas) + datas) as u32
 }
 
 /// The blocks of the root and of all headers.
 pub fn nodes_of(alloc: Global, tree: &Tree, plan: Plan) -> Result<Vec<u32>, AllocError>
-    requires { HasRoom tree.now plan.blocks }
+    requires { IsBuildable tree.now plan.blocks }
     ensures { IfOk result (λ nodes. nodes.items ≡ node_blocks tree.now plan.blocks) }
 {
     let mut nodes = Vec::new(alloc);
@@ -47,7 +47,7 @@ pub fn nodes_of(alloc: Global, tree: &Tree, plan: Plan) -> Result<Vec<u32>, Allo
     let mut k = 0;
     for i in 0..tree.len() {
         nodes.push(plan.nth_free(k))?;
-        k = next_free(k, tree.kind(), &entry_at(tree, i).body);
+        k = next_free(k, tree.kind(), entry_at(tree, i));
     }
     Ok(nodes)
 }

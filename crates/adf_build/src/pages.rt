@@ -1,7 +1,6 @@
 // The bitmap pages of a volume.
 
 ghost use Rattle.std.specs.Prelude.{◌≡◌, ◌<◌, ◌*◌, ◌^◌, length, IfSome};
-ghost use Rattle.adf_blocks.specs.Sizes.{pages_needed};
 ghost use Rattle.adf_build.specs.Bits.{bits_from, is_free_bit, is_used, page_words};
 ghost use Rattle.adf_build.specs.Laid.{page_writes};
 ghost use Rattle.adf_build.specs.Writes.{with_blocks};
@@ -89,7 +88,7 @@ fn words_of_page(plan: Plan, total: u32, j: u32) -> [u32; PAGE_WORDS]
 /// Writes the bitmap pages behind the root of a volume that gives its first `total` blocks to entries.
 pub fn write_pages(image: &mut [u8], plan: Plan, total: u32)
     requires { length image.old ≡ plan.blocks * 512 }
-    ensures { image.new ≡ with_blocks image.old (page_writes plan.blocks total 0 (pages_needed plan.blocks)) }
+    ensures { image.new ≡ with_blocks image.old (page_writes plan.blocks total) }
 {
     for j in 0..plan.pages() {
         write_page(image, plan.page(j), &words_of_page(plan, total, j));

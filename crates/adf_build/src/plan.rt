@@ -85,16 +85,20 @@ impl Plan {
         self.page(self.pages()) + j
     }
 
-    /// The block of bitmap extension block `j` where blocks are left, 0 where none is.
-    pub fn map_ext_or_none(self, j: u32, left: u32) -> u32
+    /// The block of bitmap extension block `j`, 0 where there is none.
+    pub fn map_ext_or_none(self, j: u32) -> u32
         requires { j < 2 ^ 30 }
-        ensures { result ≡ map_ext_or_none self.blocks j left }
+        ensures { result ≡ map_ext_or_none self.blocks j }
     {
-        if left > 0 { self.map_ext(j) } else { 0 }
+        if j < self.map_exts() {
+            self.map_ext(j)
+        } else {
+            0
+        }
     }
 
     /// The blocks behind the root: the bitmap pages and the bitmap extension blocks.
-    #[tactic(auto, using(crate::proofs::FreeBlocks::reserved_is, crate::proofs::FreeBlocks::reserved_few))]
+    #[tactic(auto, unfolding(crate::specs::Plan::reserved), using(crate::proofs::FreeBlocks::reserved_few))]
     pub fn reserved(self) -> u32
         ensures exact { result ≡ reserved self.blocks }
         ensures few { result < 2 ^ 16 }

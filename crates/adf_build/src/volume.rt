@@ -8,7 +8,7 @@ ghost use Rattle.adf_blocks.specs.Sizes.{middle};
 ghost use Rattle.adf_build.specs.Laid.{boot_bytes, node_blocks, writes, planned_root, slots_of};
 ghost use Rattle.adf_build.specs.Writes.{with_blocks};
 ghost use Rattle.adf_build.specs.Plan.{entries_blocks};
-ghost use Rattle.adf_build.specs.Building.{HasRoom};
+ghost use Rattle.adf_build.specs.Building.{IsBuildable};
 
 use crate::chains::{children_end, slots_between};
 use crate::entries::write_entries;
@@ -35,14 +35,16 @@ fn boot_block(kind: Kind) -> [u8; 512]
 fn write_the_root(image: &mut [u8], plan: Plan, tree: &Tree, slots: [u32; SLOTS as usize])
     requires whole { length image.old ≡ plan.blocks * 512 }
     requires slots { slots ≡ slots_of (node_blocks tree.now plan.blocks) tree.now.entries 0 }
-    ensures { image.new ≡ with_block image.old (middle plan.blocks) (root_block (planned_root tree.now plan.blocks)) }
+    ensures { image.new
+        ≡ with_block image.old (middle plan.blocks)
+        (root_block (planned_root tree.now plan.blocks)) }
 {
     let count = ROOT_PAGES.min(plan.pages() as usize);
     let table: [u32; ROOT_PAGES] = plan.page_table(0, count);
     let root = RootOut {
         slots,
         pages: &table[..count],
-        map_ext: plan.map_ext_or_none(0, plan.map_exts()),
+        map_ext: plan.map_ext_or_none(0),
         label: tree.label(),
         stamps: tree.stamps(),
     };
@@ -52,7 +54,7 @@ fn write_the_root(image: &mut [u8], plan: Plan, tree: &Tree, slots: [u32; SLOTS 
 /// Writes every part of a volume whose nodes lie at these blocks and whose entries take `total` blocks.
 #[tactic(auto, using(crate::proofs::Order::tree_rises, crate::proofs::WriteSteps::nodes_length))]
 pub fn write_volume(image: &mut [u8], plan: Plan, tree: &Tree, nodes: &[u32], total: u32)
-    requires room { HasRoom tree.now plan.blocks }
+    requires room { IsBuildable tree.now plan.blocks }
     requires whole { length image.old ≡ plan.blocks * 512 }
     requires nodes { nodes.now ≡ node_blocks tree.now plan.blocks }
     requires total { total ≡ entries_blocks tree.now.kind tree.now.entries }

@@ -30,6 +30,10 @@ IsVerdictNumber n = (n ≡ 0) ⊎ ((c : Cause) × (cause_number c ≡ n))
 abbrev pub WantsMemory : ℕ → Type 0
 WantsMemory n = n ≡ cause_number NoMemory
 
+-- it holds where n is the number of a cause that is not refused memory
+abbrev pub OnFault : ℕ → Type 0 → Type 0
+OnFault n holds = ¬ (n ≡ 0) → ¬ WantsMemory n → holds
+
 -- n is the number of the cause of the image's first fault, which stands at block b
 abbrev pub IsFirstCause : List ℕ → ℕ → ℕ → Type 0
 IsFirstCause image b n = (c : Cause) × (cause_number c ≡ n) × FirstFault image b c

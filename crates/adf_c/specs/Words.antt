@@ -15,3 +15,11 @@ between_zeros bytes = slice_split is_zero bytes
 pub record AreWords (bytes : List ℕ) (words : List (List ℕ)) : Type 0 where
   pub ended : between_zeros bytes ≡ words ++ [] ∷ []
   pub texts : All IsUtf8 words
+
+-- it holds of the words that the bytes are, where they are some
+abbrev pub ForWords : List ℕ → (List (List ℕ) → Type 0) → Type 0
+ForWords bytes holds = (words : List (List ℕ)) → AreWords bytes words → holds words
+
+-- the bytes are no words
+abbrev pub AreNoWords : List ℕ → Type 0
+AreNoWords bytes = (words : List (List ℕ)) → ¬ AreWords bytes words

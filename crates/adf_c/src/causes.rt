@@ -21,7 +21,8 @@ fn put_text(room: &mut [u8], text: &str)
 #[unsafe(no_mangle)]
 pub extern "C" fn adf_cause_text(cause: u8, room: &mut [u8]) -> usize
     ensures length { (c : Cause) → cause_number c ≡ cause → result ≡ length (cause_text c) }
-    ensures text { (c : Cause) → cause_number c ≡ cause → room.new ≡ filled (cause_text c) room.old }
+    ensures text { (c : Cause) → cause_number c ≡ cause
+        → room.new ≡ filled (cause_text c) room.old }
 
     // Of a number that no cause has nothing is told.
     ensures none { ((c : Cause) → ¬ (cause_number c ≡ cause)) → result ≡ 0 }

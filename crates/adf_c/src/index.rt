@@ -1,13 +1,13 @@
 // The tables of an image.
 
-ghost use Rattle.std.specs.Prelude.{◌≡◌, ◌≤◌, ◌<◌, ◌+◌};
+ghost use Rattle.std.specs.Prelude.{◌≡◌, ◌<◌, ◌+◌};
 ghost use Rattle.adf_tree.specs.Tree.{Tree};
 ghost use Rattle.adf_volume.specs.Fits.{Fits};
 ghost use Rattle.adf_volume.specs.Layout.{Layout};
-ghost use Rattle.adf_check.specs.Image.{IsBegun};
+ghost use Rattle.adf_volume.specs.Start.{IsBegun};
 ghost use Rattle.adf_c.specs.Rooms.{filled};
 ghost use Rattle.adf_c.specs.Tables.{block_table, contents_of, entry_table, refused_at};
-ghost use Rattle.adf_c.specs.Verdicts.{IsFirstCause, IsVerdictNumber, WantsMemory};
+ghost use Rattle.adf_c.specs.Verdicts.{IsFirstCause, IsVerdictNumber, OnFault, WantsMemory};
 
 use crate::tables::{Contents, TableEntry, contents_of, put_tables, refused_at};
 use adf_check::check;
@@ -32,7 +32,8 @@ pub extern "C" fn adf_index(
         → entries.new ≡ filled (entry_table t l) entries.old }
     ensures blocks { result ≡ 0 → (t : Tree) (l : Layout) → Fits image.now t l
         → blocks.new ≡ filled (block_table l) blocks.old }
-    ensures contents { result ≡ 0 → (t : Tree) (l : Layout) → Fits image.now t l → contents.new ≡ contents_of image.now t l }
+    ensures contents { result ≡ 0 → (t : Tree) (l : Layout) → Fits image.now t l
+        → contents.new ≡ contents_of image.now t l }
 
     // There are fewer entries and data blocks than blocks in use, and of these fewer than blocks.
     ensures few { result ≡ 0 → contents.new.entries + contents.new.data_blocks < contents.new.used }
@@ -40,8 +41,8 @@ pub extern "C" fn adf_index(
 
     // A fault is the first one, nothing fits the image, and the tables stay as they were.
     ensures refused { ¬ (result ≡ 0) → contents.new ≡ refused_at contents.new.block }
-    ensures first { ¬ (result ≡ 0) → ¬ WantsMemory result → IsFirstCause image.now contents.new.block result }
-    ensures none { ¬ (result ≡ 0) → ¬ WantsMemory result → (t : Tree) (l : Layout) → Fits image.now t l → ⊥ }
+    ensures first { OnFault result (IsFirstCause image.now contents.new.block result) }
+    ensures none { OnFault result ((t : Tree) (l : Layout) → Fits image.now t l → ⊥) }
     ensures unchanged { ¬ (result ≡ 0) → (entries.new ≡ entries.old) × (blocks.new ≡ blocks.old) }
 
     // Want of memory names block 0, and comes only where the size, the boot bytes and the root are sound.

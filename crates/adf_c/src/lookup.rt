@@ -53,7 +53,8 @@ fn is_child(entry: &TableEntry, parent: usize, name: &Name) -> bool
 fn start_of(entries: &[TableEntry], parent: usize, slot: u8) -> usize
     requires { slot < SLOTS }
     ensures within { result ≤ length entries.now }
-    ensures parted { IsNonDecreasingBy rank_in entries.now → IsStart entries.now (rank_of parent slot) result }
+    ensures parted { IsNonDecreasingBy rank_in entries.now
+        → IsStart entries.now (rank_of parent slot) result }
 {
     entries.partition_point(|entry| is_less(entry, parent, slot))
 }
@@ -62,7 +63,8 @@ fn start_of(entries: &[TableEntry], parent: usize, slot: u8) -> usize
 fn end_of(entries: &[TableEntry], parent: usize, slot: u8) -> usize
     requires { slot < SLOTS }
     ensures within { result ≤ length entries.now }
-    ensures parted { IsNonDecreasingBy rank_in entries.now → IsEnd entries.now (rank_of parent slot) result }
+    ensures parted { IsNonDecreasingBy rank_in entries.now
+        → IsEnd entries.now (rank_of parent slot) result }
 {
     entries.partition_point(|entry| is_at_most(entry, parent, slot))
 }
@@ -70,7 +72,8 @@ fn end_of(entries: &[TableEntry], parent: usize, slot: u8) -> usize
 // The number of the entry with this directory and this name, among those with greater numbers than the directory's.
 fn child(entries: &[TableEntry], parent: usize, name: &Name) -> Option<usize>
     requires { parent ≤ length entries.now }
-    ensures found { (es : List Entry) → HasNamesOf entries.now es → result ≡ child es parent name.now }
+    ensures found { (es : List Entry) → HasNamesOf entries.now es
+        → result ≡ child es parent name.now }
     ensures above { IfSome result (λ n. parent < n) }
     ensures inside { IfSome result (λ n. n ≤ length entries.now) }
 {
@@ -116,9 +119,11 @@ pub extern "C" fn adf_find(
     ensures unchanged { ¬ (result ≡ 0) → node.new ≡ node.old }
 
     // In the table of a volume the node is the one that the path leads to.
-    ensures found { result ≡ 0 → (t : Tree) (names : List (List ℕ)) → IsTableOf entries.now t → IsPathText path.now names
+    ensures found { result ≡ 0 → (t : Tree) (names : List (List ℕ))
+        → IsTableOf entries.now t → IsPathText path.now names
         → find t.entries names ≡ Some node.new }
-    ensures none { result ≡ 1 → (t : Tree) (names : List (List ℕ)) → IsTableOf entries.now t → IsPathText path.now names
+    ensures none { result ≡ 1 → (t : Tree) (names : List (List ℕ))
+        → IsTableOf entries.now t → IsPathText path.now names
         → find t.entries names ≡ None }
     ensures bad_path { (result ≡ 2) ↔ ((names : List (List ℕ)) → ¬ IsPathText path.now names) }
 {

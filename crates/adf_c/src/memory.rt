@@ -4,23 +4,23 @@ ghost use Rattle.std.specs.Prelude.{◌≡◌, ◌≤◌, ◌∷◌, Some, false
 
 use adf_cmd::{Failed, Sink};
 
-/// Room that is filled from the front. Where no room is left for a byte, it has failed.
+/// Memory of the caller that is filled from the front. Where no room is left for a byte, it has failed.
 #[derive(Drop)]
-pub struct Room<'a> {
+pub struct CallerMemory<'a> {
     room: &'a mut [u8],
     taken: usize,
     full: bool,
     ghost within: { taken ≤ length room.now },
 }
 
-impl<'a> Room<'a> {
-    pub fn new(room: &'a mut [u8]) -> Room<'a>
+impl<'a> CallerMemory<'a> {
+    pub fn new(room: &'a mut [u8]) -> CallerMemory<'a>
         ensures same { result.room.ghost_name ≡ room.entry.ghost_name }
         ensures room { result.room.now ≡ room.old }
         ensures taken { result.taken ≡ 0 }
         ensures full { result.full ≡ false }
     {
-        Room {
+        CallerMemory {
             room,
             taken: 0,
             full: false,
@@ -41,7 +41,7 @@ impl<'a> Room<'a> {
     }
 }
 
-impl Sink for Room<'_> {
+impl Sink for CallerMemory<'_> {
     // Before the bytes stands the name of the room, so that whoever appends to them keeps to this room.
     ghost held = { λ r. Some (r.room.ghost_name ∷ take r.taken r.room.now) };
 

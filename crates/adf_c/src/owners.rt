@@ -5,10 +5,10 @@ ghost use Rattle.adf_tree.specs.Tree.{Tree};
 ghost use Rattle.adf_blocks.specs.Sizes.{blocks};
 ghost use Rattle.adf_volume.specs.Fits.{Fits};
 ghost use Rattle.adf_volume.specs.Layout.{Layout};
-ghost use Rattle.adf_check.specs.Image.{IsBegun};
+ghost use Rattle.adf_volume.specs.Start.{IsBegun};
 ghost use Rattle.adf_check.specs.Volumes.{StandsFor};
 ghost use Rattle.adf_c.specs.OwnerNumbers.{IsOwnerNumber, owner_number};
-ghost use Rattle.adf_c.specs.Verdicts.{IsFirstCause, IsVerdictNumber, WantsMemory};
+ghost use Rattle.adf_c.specs.Verdicts.{IsFirstCause, IsVerdictNumber, OnFault, WantsMemory};
 
 use adf_check::{Checked, Owner, check};
 use std::alloc::Global;
@@ -43,7 +43,8 @@ fn put_roles(volume: &Checked<'_>, roles: &mut [u8])
     requires { (t : Tree) × (l : Layout) × StandsFor volume.now t l }
     ensures roles { (b : ℕ) → b < length roles.new → b < blocks volume.now.image
         → IsOwnerNumber volume.now.image b (slice_index roles.new b) }
-    ensures behind { (b : ℕ) → blocks volume.now.image ≤ b → slice_index roles.new b ≡ slice_index roles.old b }
+    ensures behind { (b : ℕ) → blocks volume.now.image ≤ b
+        → slice_index roles.new b ≡ slice_index roles.old b }
 {
     for b in 0..volume.counts().blocks {
         let at = b as usize;
@@ -64,11 +65,12 @@ pub extern "C" fn adf_owners(alloc: Global, image: &[u8], roles: &mut [u8]) -> u
     ensures fits { result ≡ 0 → (t : Tree) × (l : Layout) × Fits image.now t l }
     ensures roles { result ≡ 0 → (b : ℕ) → b < length roles.new → b < blocks image.now
         → IsOwnerNumber image.now b (slice_index roles.new b) }
-    ensures behind { (b : ℕ) → blocks image.now ≤ b → slice_index roles.new b ≡ slice_index roles.old b }
+    ensures behind { (b : ℕ) → blocks image.now ≤ b
+        → slice_index roles.new b ≡ slice_index roles.old b }
 
     // The cause is that of the first fault, nothing fits the image, and nothing is put into the room.
-    ensures first { ¬ (result ≡ 0) → ¬ WantsMemory result → (b : ℕ) × IsFirstCause image.now b result }
-    ensures none { ¬ (result ≡ 0) → ¬ WantsMemory result → (t : Tree) (l : Layout) → Fits image.now t l → ⊥ }
+    ensures first { OnFault result ((b : ℕ) × IsFirstCause image.now b result) }
+    ensures none { OnFault result ((t : Tree) (l : Layout) → Fits image.now t l → ⊥) }
     ensures unchanged { ¬ (result ≡ 0) → roles.new ≡ roles.old }
 
     // Want of memory comes only where the size, the boot bytes and the root are sound.

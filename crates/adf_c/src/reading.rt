@@ -45,8 +45,10 @@ fn area<'a>(block: Block<'a>, kind: Kind) -> &'a [u8]
 // What these data blocks hold from a place on, up to the end of the data area where it lies.
 fn part_at<'a>(image: &'a [u8], kind: Kind, datas: &[u32], at: usize) -> Option<&'a [u8]>
     ensures some { IfSome result (λ part. 0 < length part.now) }
-    ensures there { (ds : List ℕ) → AreBlocksOf image.entry.now datas.now ds → at < chunk kind * length ds → IsSome result }
-    ensures part { IfSome result (λ part. (ds : List ℕ) → AreBlocksOf image.entry.now datas.now ds → at < chunk kind * length ds
+    ensures there { (ds : List ℕ) → AreBlocksOf image.entry.now datas.now ds
+        → at < chunk kind * length ds → IsSome result }
+    ensures part { IfSome result (λ part. (ds : List ℕ)
+        → AreBlocksOf image.entry.now datas.now ds → at < chunk kind * length ds
         → part.now ≡ take (length part.now) (drop at (joined image.entry.now kind ds))) }
     ensures image { IfSome result (λ part. AreBytesOf image.entry.now part.now) }
 {
@@ -63,7 +65,8 @@ fn part_at<'a>(image: &'a [u8], kind: Kind, datas: &[u32], at: usize) -> Option<
 fn put_part(room: &mut [u8], put: usize, part: &[u8]) -> usize
     requires { put ≤ length room.old }
     ensures count { result ≡ put + min (length part.now) (length room.old - put) }
-    ensures front { take result room.new ≡ take put room.old ++ take (min (length part.now) (length room.old - put)) part.now }
+    ensures front { take result room.new ≡ take put room.old
+        ++ take (min (length part.now) (length room.old - put)) part.now }
     ensures behind { drop result room.new ≡ drop result room.old }
 {
     let count = part.len().min(room.len() - put);
@@ -75,9 +78,11 @@ fn put_part(room: &mut [u8], put: usize, part: &[u8]) -> usize
 fn put_bytes(image: &[u8], kind: Kind, datas: &[u32], from: usize, room: &mut [u8]) -> usize
     requires { from + length room.old < 2 ^ 64 }
     ensures within { result ≤ length room.new }
-    ensures all { (ds : List ℕ) → AreBlocksOf image.now datas.now ds → from + length room.old ≤ chunk kind * length ds
+    ensures all { (ds : List ℕ) → AreBlocksOf image.now datas.now ds
+        → from + length room.old ≤ chunk kind * length ds
         → result ≡ length room.old }
-    ensures bytes { (ds : List ℕ) → AreBlocksOf image.now datas.now ds → from + length room.old ≤ chunk kind * length ds
+    ensures bytes { (ds : List ℕ) → AreBlocksOf image.now datas.now ds
+        → from + length room.old ≤ chunk kind * length ds
         → room.new ≡ take (length room.old) (drop from (joined image.now kind ds)) }
     ensures image { AreBytesOf image.now (take result room.new) }
     ensures behind { drop result room.new ≡ drop result room.old }
@@ -102,7 +107,8 @@ fn read_file(
 ) -> usize
     ensures within { result ≤ length room.new }
     ensures count { (ds : List ℕ) → AreDatasOf image.now file.now blocks.now ds
-        → result ≡ min (length room.old) (length (drop offset (bytes_in_blocks image.now file.now ds))) }
+        → result ≡ min (length room.old)
+        (length (drop offset (bytes_in_blocks image.now file.now ds))) }
     ensures bytes { (ds : List ℕ) → AreDatasOf image.now file.now blocks.now ds
         → room.new ≡ filled (drop offset (bytes_in_blocks image.now file.now ds)) room.old }
     ensures image { AreBytesOf image.now (take result room.new) }
@@ -140,9 +146,11 @@ pub extern "C" fn adf_read(
     ensures within { result ≤ length room.new }
 
     // Where the tables are those of the image's volume, the bytes are those of the file.
-    ensures count { (t : Tree) (l : Layout) → Fits image.now t l → entries.now ≡ entry_table t l → blocks.now ≡ block_table l
+    ensures count { (t : Tree) (l : Layout) → Fits image.now t l
+        → entries.now ≡ entry_table t l → blocks.now ≡ block_table l
         → result ≡ min (length room.old) (length (drop offset (bytes_at t node))) }
-    ensures bytes { (t : Tree) (l : Layout) → Fits image.now t l → entries.now ≡ entry_table t l → blocks.now ≡ block_table l
+    ensures bytes { (t : Tree) (l : Layout) → Fits image.now t l
+        → entries.now ≡ entry_table t l → blocks.now ≡ block_table l
         → room.new ≡ filled (drop offset (bytes_at t node)) room.old }
 
     // Whatever the tables are, the bytes are some of the image's, and nothing behind them is changed.

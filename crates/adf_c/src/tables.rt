@@ -145,10 +145,13 @@ fn entry_of(row: &Row, header: u32, first: u32) -> TableEntry
 
 // The entry with a number, before whose data blocks there are so many others.
 fn table_entry(volume: &Checked<'_>, node: Node, first: u32) -> TableEntry
-    requires few { (t : Tree) (l : Layout) → StandsFor volume.now t l → length (owned volume.now.image l) < 2 ^ 32 }
+    requires few { (t : Tree) (l : Layout) → StandsFor volume.now t l
+        → length (owned volume.now.image l) < 2 ^ 32 }
     requires stands { (t : Tree) × (l : Layout) × StandsFor volume.now t l }
-    requires some { (t : Tree) (l : Layout) → StandsFor volume.now t l → (0 < node) × (node ≤ length t.entries) }
-    ensures { (t : Tree) (l : Layout) (e : Entry) → StandsFor volume.now t l → entry t.entries node ≡ Some e
+    requires some { (t : Tree) (l : Layout) → StandsFor volume.now t l
+        → (0 < node) × (node ≤ length t.entries) }
+    ensures { (t : Tree) (l : Layout) (e : Entry)
+        → StandsFor volume.now t l → entry t.entries node ≡ Some e
         → result ≡ table_entry (at_node volume.now.image l node) first e }
 {
     let row = volume.row(node).unwrap();
@@ -182,10 +185,14 @@ fn put_blocks(table: &mut [u32], first: usize, datas: &[u32])
 
 /// Fills the tables as far as there is room, and answers how many data blocks there are.
 pub fn put_tables(volume: &Checked<'_>, entries: &mut [TableEntry], blocks: &mut [u32]) -> usize
-    requires few { (t : Tree) (l : Layout) → StandsFor volume.now t l → length (owned volume.now.image l) < 2 ^ 32 }
-    ensures count { (t : Tree) (l : Layout) → StandsFor volume.now t l → result ≡ length (block_table l) }
-    ensures entries { (t : Tree) (l : Layout) → StandsFor volume.now t l → entries.new ≡ filled (entry_table t l) entries.old }
-    ensures blocks { (t : Tree) (l : Layout) → StandsFor volume.now t l → blocks.new ≡ filled (block_table l) blocks.old }
+    requires few { (t : Tree) (l : Layout) → StandsFor volume.now t l
+        → length (owned volume.now.image l) < 2 ^ 32 }
+    ensures count { (t : Tree) (l : Layout) → StandsFor volume.now t l
+        → result ≡ length (block_table l) }
+    ensures entries { (t : Tree) (l : Layout) → StandsFor volume.now t l
+        → entries.new ≡ filled (entry_table t l) entries.old }
+    ensures blocks { (t : Tree) (l : Layout) → StandsFor volume.now t l
+        → blocks.new ≡ filled (block_table l) blocks.old }
 {
     let mut first = 0;
     for i in 0..volume.len() {
@@ -200,7 +207,8 @@ pub fn put_tables(volume: &Checked<'_>, entries: &mut [TableEntry], blocks: &mut
 
 /// What is told of an accepted image beside the tables.
 pub fn contents_of(volume: &Checked<'_>, counts: &Counts, data_blocks: usize) -> Contents
-    ensures { (t : Tree) (l : Layout) → StandsFor volume.now t l → counts.now ≡ counts_of volume.now.image t l
+    ensures { (t : Tree) (l : Layout)
+        → StandsFor volume.now t l → counts.now ≡ counts_of volume.now.image t l
         → data_blocks ≡ length (block_table l) → result ≡ contents_of volume.now.image t l }
 {
     let label = volume.label().bytes();

@@ -1,12 +1,12 @@
 // The verdict on an image.
 
-ghost use Rattle.std.specs.Prelude.{◌≡◌, ◌≤◌};
+ghost use Rattle.std.specs.Prelude.{◌≡◌};
 ghost use Rattle.adf_tree.specs.Tree.{Tree};
 ghost use Rattle.adf_volume.specs.Fits.{Fits};
 ghost use Rattle.adf_volume.specs.Layout.{Layout};
-ghost use Rattle.adf_check.specs.Image.{IsBegun};
+ghost use Rattle.adf_volume.specs.Start.{IsBegun};
 ghost use Rattle.adf_check.specs.Volumes.{counts_of};
-ghost use Rattle.adf_c.specs.Verdicts.{IsFirstCause, IsVerdictNumber, WantsMemory, accepted, kind_code, refused};
+ghost use Rattle.adf_c.specs.Verdicts.{IsFirstCause, IsVerdictNumber, OnFault, WantsMemory, accepted, kind_code, refused};
 
 use adf_check::{Counts, check};
 use adf_tree::Kind;
@@ -84,8 +84,8 @@ pub extern "C" fn adf_check(alloc: Global, image: &[u8], verdict: &mut Verdict) 
 
     // A fault is the first one, and nothing fits the image.
     ensures refused { ¬ (result ≡ 0) → verdict.new ≡ refused verdict.new.block }
-    ensures first { ¬ (result ≡ 0) → ¬ WantsMemory result → IsFirstCause image.now verdict.new.block result }
-    ensures none { ¬ (result ≡ 0) → ¬ WantsMemory result → (t : Tree) (l : Layout) → Fits image.now t l → ⊥ }
+    ensures first { OnFault result (IsFirstCause image.now verdict.new.block result) }
+    ensures none { OnFault result ((t : Tree) (l : Layout) → Fits image.now t l → ⊥) }
 
     // Want of memory names block 0, and comes only where the size, the boot bytes and the root are sound.
     ensures memory { WantsMemory result → verdict.new.block ≡ 0 }

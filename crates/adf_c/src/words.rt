@@ -1,7 +1,8 @@
 // The words of a command line in memory.
 
-ghost use Rattle.std.specs.Prelude.{◌≡◌, ◌<◌, ◌∷◌, [], ℕ, List, IfOk, IfErr, IfSome, IfNone, length, map, position};
-ghost use Rattle.adf_c.specs.Words.{AreWords, is_zero, between_zeros};
+ghost use Rattle.std.specs.Prelude.{◌≡◌, ◌<◌, ◌∷◌, [], IfOk, IfErr, IfSome, IfNone, length, position};
+ghost use Rattle.adf_cmd.specs.CommandLine.{texts_of};
+ghost use Rattle.adf_c.specs.Words.{AreNoWords, AreWords, is_zero, between_zeros};
 
 use adf_cmd::WordsFault;
 use std::alloc::Global;
@@ -28,8 +29,8 @@ fn cut(bytes: &[u8]) -> Option<(&[u8], &[u8])>
 
 /// The words, each ended by a zero byte; `Usage` where one is not ended or is no text, `NoMemory` where a growth was refused.
 pub fn words_in<'a>(alloc: Global, bytes: &'a [u8]) -> Result<Vec<&'a str>, WordsFault>
-    ensures ok { IfOk result (λ words. AreWords bytes.entry.now (map (λ w. w.now) words.items)) }
-    ensures err { IfErr result (λ fault. fault ≡ WordsFault.Usage → (words : List (List ℕ)) → ¬ AreWords bytes.entry.now words) }
+    ensures ok { IfOk result (λ words. AreWords bytes.entry.now (texts_of words.items)) }
+    ensures err { IfErr result (λ fault. fault ≡ WordsFault.Usage → AreNoWords bytes.entry.now) }
 {
     let mut words = Vec::new(alloc);
     let mut rest = bytes;

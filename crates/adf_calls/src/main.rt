@@ -15,7 +15,7 @@ use std::process::ExitCode;
 use std::rt::Env;
 
 /// The calls, by the names that the command line may give.
-const CALLS: [&str; 25] = [
+const CALLS: [&str; 27] = [
     "stamp_text",
     "push_stamp",
     "label_write",
@@ -30,6 +30,8 @@ const CALLS: [&str; 25] = [
     "read",
     "to_tree",
     "survey",
+    "sound_file",
+    "read_sound_file",
     "build",
     "read_manifest",
     "push_counts",
@@ -60,6 +62,8 @@ fn went(alloc: Global, call: &str) -> Option<Went> {
         "read" => volumes::read_went(alloc),
         "to_tree" => volumes::to_tree_went(alloc),
         "survey" => volumes::survey_went(alloc),
+        "sound_file" => volumes::sound_file_went(alloc),
+        "read_sound_file" => volumes::read_sound_file_went(alloc),
         "build" => volumes::build_went(alloc),
         "read_manifest" => volumes::read_manifest_went(alloc),
         "push_counts" => lines::push_counts_went(alloc),

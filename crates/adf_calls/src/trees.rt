@@ -27,11 +27,7 @@ pub fn stamps() -> Stamps {
 
 /// A note, all four lower bits of protection, and day 4.
 pub fn meta() -> Option<Meta> {
-    Some(Meta {
-        comment: Comment::new(b"note")?,
-        protect: 15,
-        stamp: day(4),
-    })
+    Some(Meta::new(Comment::new(b"note")?, 15, day(4)))
 }
 
 fn has_name(tree: &Tree, n: usize, name: &[u8]) -> bool {

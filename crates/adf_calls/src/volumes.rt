@@ -1,12 +1,12 @@
 // Calls on volumes and their manifests.
 
 use crate::answers::Went;
-use adf_blocks::Cause;
+use adf_blocks::{Cause, HeadBody};
 use adf_build::{BuildFault, build};
 use adf_check::{Owner, Owners, check};
 use adf_manifest::{ManifestKind, read_manifest};
-use adf_survey::{Finding, survey};
-use adf_tree::{Node, Tree};
+use adf_survey::{Finding, Survey, survey};
+use adf_tree::{Name, Node, Tree};
 use std::alloc::Global;
 
 /// A volume of 16 blocks with one file of two data blocks.
@@ -87,6 +87,43 @@ pub fn survey_went(alloc: Global) -> Option<Went> {
     Some(match survey(alloc, &image) {
         Ok(survey) => Went::done_if(is_bad_sum_alone(survey.findings())),
         Err(_) => Went::NoMemory,
+    })
+}
+
+// Where one name leads in what is found.
+fn found_under(survey: &Survey<'_>, name: &[u8]) -> Option<Node> {
+    survey.find(&[Name::new(name)?])
+}
+
+// Whether a survey of the volume tells that its entry `a` is a file of 489 bytes, and no other one is there.
+fn tells_file(survey: &Survey<'_>) -> bool {
+    survey.len() == 1
+        && found_under(survey, b"A") == Some(Node(1))
+        && found_under(survey, b"b").is_none()
+        && survey.body(Node(1)) == Some(HeadBody::File { size: 489, ext: 0 })
+}
+
+/// The data blocks of its file, by its survey.
+pub fn sound_file_went(alloc: Global) -> Option<Went> {
+    let image = image(alloc)?;
+    let survey = survey(alloc, &image).ok()?;
+    Some(match survey.file(alloc, Node(1)) {
+        Ok(Some(file)) => Went::done_if(
+            tells_file(&survey) && file.size() == 489 && file.blocks() == [3, 4].as_slice(),
+        ),
+        Ok(None) => Went::Wrong,
+        Err(_) => Went::refused_if(tells_file(&survey)),
+    })
+}
+
+/// The bytes of its file, by its survey.
+pub fn read_sound_file_went(alloc: Global) -> Option<Went> {
+    let image = image(alloc)?;
+    let survey = survey(alloc, &image).ok()?;
+    let file = survey.file(alloc, Node(1)).ok()??;
+    Some(match file.read(alloc) {
+        Ok(bytes) => Went::done_if(bytes.as_slice() == [0x41u8; 489].as_slice()),
+        Err(_) => Went::refused_if(file.size() == 489),
     })
 }
 

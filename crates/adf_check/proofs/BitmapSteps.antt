@@ -18,7 +18,7 @@ use Rattle.adf_volume.proofs.WalkFits.{fits}
 use Rattle.adf_volume.proofs.Walks.{one_block, asked_block, page_word}
 use Rattle.adf_volume.proofs.WholeWalks.{all_map_exts}
 use Rattle.adf_check.specs.declared.fault.Fault.{Fault}
-use Rattle.adf_check.specs.Image.{IsBegun}
+use Rattle.adf_volume.specs.Start.{IsBegun}
 use Rattle.adf_check.specs.Pages.{AreListed, IsBitFault}
 use Rattle.adf_check.specs.Reading.{block_of_page, IsListed, IsRead, IsMapped, StoreFits}
 use Rattle.adf_check.specs.Store.{StoreValue, owner_at}

@@ -26,7 +26,7 @@ use Rattle.adf_volume.proofs.Roles.{dir_is_node}
 use Rattle.adf_volume.proofs.Walks.{node_is, one_block, one_node}
 use Rattle.adf_check.specs.Fault.{IsTrueFault, fault}
 use Rattle.adf_check.specs.Cursor.Cursor.{BeforeRole}
-use Rattle.adf_check.specs.Image.{IsBegun}
+use Rattle.adf_volume.specs.Start.{IsBegun}
 use Rattle.adf_check.specs.Reading.{IsAtSlot, IsInChain, Next, Sees, next_head, sees_of}
 use Rattle.adf_check.specs.Store.{StoreValue, owner_at}
 use Rattle.adf_check.proofs.ClaimSteps.{IsNamed, IsStored, form_fault, name_fault, read_one}

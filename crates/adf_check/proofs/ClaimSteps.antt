@@ -19,7 +19,7 @@ use Rattle.adf_check.specs.declared.fault.Fault.{Fault}
 use Rattle.adf_check.specs.Fault.{IsTrueFault, fault}
 use Rattle.adf_check.specs.Cursor.{Cursor, first_number, second_number, third_number, nodes_begun, IsUpTo}
 use Rattle.adf_check.specs.Cursor.Cursor.{BeforeRole}
-use Rattle.adf_check.specs.Image.{IsBegun}
+use Rattle.adf_volume.specs.Start.{IsBegun}
 use Rattle.adf_check.specs.Reading.{HasRead}
 use Rattle.adf_check.specs.Store.{StoreValue, owner_at, push_header, push_block, ext_file, data_file, stored, StoreMatches}
 use Rattle.adf_check.proofs.CursorMoves.{is_due, take_it}

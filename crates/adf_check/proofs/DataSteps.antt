@@ -21,7 +21,7 @@ use Rattle.adf_volume.proofs.Walks.{file_is, member_is, one_head}
 use Rattle.adf_check.specs.Fault.{IsTrueFault, fault}
 use Rattle.adf_check.specs.Cursor.Cursor.{BeforeRole}
 use Rattle.adf_check.specs.Datas.{next_of}
-use Rattle.adf_check.specs.Image.{IsBegun}
+use Rattle.adf_volume.specs.Start.{IsBegun}
 use Rattle.adf_check.specs.Reading.{IsAtNode, IsInDatas}
 use Rattle.adf_check.specs.Store.{StoreValue, owner_at}
 use Rattle.adf_check.proofs.NodeSteps.{at_or}

@@ -21,7 +21,7 @@ use Rattle.adf_volume.proofs.Roles.{count_own}
 use Rattle.adf_volume.proofs.Walks.{file_is, one_block, one_head, ext_counted}
 use Rattle.adf_check.specs.Fault.{IsTrueFault, fault}
 use Rattle.adf_check.specs.Cursor.Cursor.{BeforeRole}
-use Rattle.adf_check.specs.Image.{IsBegun}
+use Rattle.adf_volume.specs.Start.{IsBegun}
 use Rattle.adf_check.specs.Reading.{HasTable, IsInDatas, IsInExts, IsInNode, NextExt}
 use Rattle.adf_check.specs.Store.{StoreValue, owner_at}
 use Rattle.adf_check.proofs.ClaimSteps.{IsNamed, IsStored, form_fault, read_one}

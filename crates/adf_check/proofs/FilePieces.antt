@@ -1,10 +1,7 @@
 -- The pieces of a file, joined, are its bytes.
-use Rattle.std.proofs.Common.{◌≡◌, ◌≢◌, ℕ, zero, suc, List, [], ◌∷◌, length-append, ◌+◌, ◌-◌, ◌*◌, ◌^◌, ◌<◌, ◌≤◌, length, take, drop, min, get_or, refl, sym, ap, subst}
+use Rattle.std.proofs.Common.{◌≡◌, ◌≢◌, ℕ, zero, suc, List, [], ◌∷◌, length-append, ◌+◌, ◌*◌, ◌^◌, ◌<◌, ◌≤◌, length, take, drop, get_or, refl, sym, ap, subst}
 use Rattle.std.proofs.Common.{◌∙◌, arith, Option, Some, None, length-take, length-drop}
-use Rattle.std.specs.Prelude.{slice_range}
 use Rattle.std.specs.List.{All, concat}
-use Rattle.std.proofs.lemmas.Bool.Decides.{nat_tests}
-use Rattle.std.proofs.lemmas.List.{take-take}
 use Rattle.adf_blocks.specs.declared.layout.TheConstants.{SECONDARY_TYPE, SIZE, ST_DIR}
 use Rattle.adf_fields.specs.Words.{block}
 use Rattle.adf_tree.specs.declared.entry.Body.{Body}
@@ -19,10 +16,11 @@ use Rattle.adf_volume.specs.Fits.{BodyFits}
 use Rattle.adf_volume.specs.Image.{area, content, held, kind_of, piece, pieces, word_in}
 use Rattle.adf_volume.specs.Layout.{EntryAt, Layout, Place, at_node, datas_at, datas_of}
 use Rattle.adf_volume.specs.Lists.{At}
+use Rattle.adf_volume.specs.Pieces.{AreInside}
 use Rattle.adf_volume.proofs.Images.{area_length}
 use Rattle.adf_volume.proofs.Lists.{at_index_or}
 use Rattle.adf_volume.proofs.LayoutRoles.{part_range}
-use Rattle.adf_volume.proofs.Pieces.{held_some, piece_at, pieces_joined, pieces_length}
+use Rattle.adf_volume.proofs.PieceBytes.{held_some, piece_at, pieces_joined, pieces_length}
 use Rattle.adf_volume.proofs.Chains.{entry_is_at, entry_some}
 use Rattle.adf_check.specs.declared.store.NodeStart.{NodeStart}
 use Rattle.adf_check.specs.StoreStands.{StoreStandsFor}
@@ -31,47 +29,12 @@ use Rattle.adf_check.proofs.ChainLookups.{body_dir}
 use Rattle.adf_check.proofs.NodeSteps.{at_or}
 use Rattle.adf_check.proofs.StoreStands.{keeps}
 use Rattle.adf_check.specs.Reading.{StoreFits}
-use Rattle.adf_check.specs.Pieces.{AreInside, body_bytes, bytes_of, pieces_at, pieces_in, pieces_of}
-
--- where there are data blocks, there are pieces
-pub some_pieces : (bytes : List ℕ) (kind : Kind) (size k : ℕ) (ds : List ℕ) → pieces bytes kind size k ds ≡ [] → ds ≡ []
-some_pieces bytes kind size k [] e = refl
-some_pieces bytes kind size k (d ∷ ds) e = cc
+use Rattle.adf_check.specs.Pieces.{body_bytes, bytes_of, pieces_at, pieces_in, pieces_of}
 
 -- pieces of which none is empty are none where they join to nothing
 pub no_pieces : (ps : List (List ℕ)) → All (λ p. 0 < length p) ps → concat ps ≡ [] → ps ≡ []
 no_pieces [] some e = refl
 no_pieces (p ∷ ps) some e = absurd (omega (arith, some 0 [] (omega arith), ap length e, length-append p (concat ps)))
-
--- one data block less
-pub inside_next : (image ds others : List ℕ) (x k : ℕ) → ds ≡ x ∷ others → AreInside image ds k → AreInside image others (k + 1)
-inside_next image ds others x k e h =
-    let n : length ds ≡ suc (length others) = ap length e in
-    record {
-      inside = (λ i d lt. subst (λ xs. get_or xs (suc i) d * 512 + 512 ≤ length image) e (h.inside (suc i) d (omega arith)));
-      from = omega arith;
-      few = omega (arith, h.few);
-    }
-
--- the bytes behind those that the data blocks before hold, and no more than there is room for
-pub held_is : (kind : Kind) (size k n : ℕ) → 1 ≤ k → size < 2 ^ 32 → n ≡ min (size - min (chunk kind * (k - 1)) (2 ^ 64 - 1)) (chunk kind)
-    → n ≡ held kind size k
-unfolding held chunk
-held_is Ofs size k n one small e = grind (arith, nat_tests)
-held_is Ffs size k n one small e = grind (arith, nat_tests)
-
--- what a data block holds is the first part of its data area
-pub piece_ofs : (size k n : ℕ) (b : List ℕ) → n ≡ held Ofs size k → n ≤ chunk Ofs → slice_range b 24 (24 + n) ≡ piece Ofs size k b
-unfolding area chunk
-piece_ofs size k n b e le =
-    let z : 24 + n - 24 ≡ n = omega arith in
-    ap (λ m. take m (drop 24 b)) z ∙ sym (take-take n 488 (drop 24 b) le) ∙ ap (λ m. take m (take 488 (drop 24 b))) e
-
-pub piece_ffs : (size k n : ℕ) (b : List ℕ) → n ≡ held Ffs size k → n ≤ chunk Ffs → slice_range b 0 (0 + n) ≡ piece Ffs size k b
-unfolding area chunk
-piece_ffs size k n b e le =
-    let z : 0 + n - 0 ≡ n = omega arith in
-    ap (λ m. take m (drop 0 b)) z ∙ sym (take-take n 512 (drop 0 b) le) ∙ ap (λ m. take m (take 512 (drop 0 b))) e
 
 count_small : (kind : Kind) (size : ℕ) → size < 2 ^ 32 → 1 + count kind size < 2 ^ 32
 unfolding count chunk

@@ -6,7 +6,6 @@ pub mod StoreSteps
 pub mod OwnerTables
 -- the steps from state to state
 pub mod ClaimSteps
-pub mod ImageStart
 pub mod RootRead
 pub mod PageSteps
 pub mod NodeSteps

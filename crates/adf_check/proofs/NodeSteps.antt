@@ -12,7 +12,7 @@ use Rattle.adf_volume.proofs.MemberFacts.{in_range, kept}
 use Rattle.adf_volume.proofs.Walks.{numbered, root_in}
 use Rattle.adf_check.specs.declared.store.KeptHeader.{KeptHeader}
 use Rattle.adf_check.specs.declared.store.NodeStart.{NodeStart}
-use Rattle.adf_check.specs.Image.{IsBegun}
+use Rattle.adf_volume.specs.Start.{IsBegun}
 use Rattle.adf_check.specs.Reading.{IsAtNode, IsAtSlot, IsInExts, IsInNode, IsRead}
 use Rattle.adf_check.specs.Store.{StoreValue, StoreMatches, blocks_before, data_file, entered, ext_file}
 use Rattle.adf_check.proofs.NumberBounds.{many_blocks}

@@ -13,7 +13,7 @@ use Rattle.adf_volume.proofs.Walks.{number_of}
 use Rattle.adf_check.specs.Cursor.{Cursor}
 use Rattle.adf_check.specs.Reading.{HasRead, HasTable, IsAtNode, IsInChain}
 use Rattle.adf_check.specs.Store.{StoreValue, StoreMatches, data_file, ext_file}
-use Rattle.adf_check.specs.Image.{IsBegun}
+use Rattle.adf_volume.specs.Start.{IsBegun}
 use Rattle.adf_check.specs.Owners.{is_part, owned_count}
 use Rattle.adf_check.proofs.WalkLengths.{heads_within, picked_within}
 

@@ -23,7 +23,7 @@ use Rattle.adf_volume.proofs.MemberFacts.{kept}
 use Rattle.adf_check.specs.Fault.{IsTrueFault, fault}
 use Rattle.adf_check.specs.Cursor.{IsUpTo}
 use Rattle.adf_check.specs.Cursor.Cursor.{BeforePage, BeforeRole}
-use Rattle.adf_check.specs.Image.{IsBegun}
+use Rattle.adf_volume.specs.Start.{IsBegun}
 use Rattle.adf_check.specs.Pages.{AreListed, index_of_map_ext, index_of_page}
 use Rattle.adf_check.specs.Reading.{IsAtNode, IsAtPage, IsBeforePage, block_of_page, block_of_map_ext}
 use Rattle.adf_check.specs.Store.{StoreValue, owner_at}

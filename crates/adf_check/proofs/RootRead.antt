@@ -9,7 +9,7 @@ use Rattle.adf_volume.specs.declared.owner.Owner.{Owner}
 use Rattle.adf_volume.specs.declared.owner.Owner.TheVariants.{Free, Boot, Root}
 use Rattle.adf_volume.specs.Image.{root_of}
 use Rattle.adf_volume.specs.Walk.Role.{Root as TheRoot}
-use Rattle.adf_check.specs.Image.{IsBegun}
+use Rattle.adf_volume.specs.Start.{IsBegun}
 use Rattle.adf_check.specs.Owners.{owned_count}
 use Rattle.adf_check.specs.Reading.{IsBeforePage}
 use Rattle.adf_check.specs.Store.{StoreValue, StoreMatches, owner_at}

@@ -29,7 +29,7 @@ use Rattle.adf_check.specs.StoreStands.{StoreStandsFor}
 use Rattle.adf_check.specs.Reading.{StoreFits}
 use Rattle.adf_check.specs.Store.{StoreValue}
 use Rattle.adf_check.proofs.NodeSteps.{node_here}
-use Rattle.adf_check.specs.Image.{IsBegun}
+use Rattle.adf_volume.specs.Start.{IsBegun}
 use Rattle.adf_check.specs.Rows.{row_body, row_in, row_of_body, row_of_entry}
 use Rattle.adf_check.specs.declared.row.Row.{Row}
 use Rattle.adf_check.specs.declared.row.RowBody.TheVariants.{Dir as DirRow, File as FileRow}

@@ -21,7 +21,7 @@ use Rattle.adf_volume.specs.Walk.Role.{Page}
 use Rattle.adf_volume.proofs.FormDemands.{all_demanded, none_demanded}
 use Rattle.adf_volume.proofs.Lists.{all_append}
 use Rattle.adf_volume.proofs.Zeros.{all_zero}
-use Rattle.adf_check.specs.Image.{IsBegun}
+use Rattle.adf_volume.specs.Start.{IsBegun}
 use Rattle.adf_check.specs.Store.{StoreValue, owner_at, stored, entered}
 use Rattle.adf_check.specs.Reading.{IsBeforePage, IsAtSlot, IsListed, IsMapped, IsRead, block_of_page}
 use Rattle.adf_check.proofs.RootRead.{first_store, owners_free, owners_of, root_read}

@@ -12,8 +12,6 @@ pub mod Owners
 pub mod NarrowOwner
 pub mod Claims
 -- what is read
-pub mod Start
-pub mod Image
 pub mod Pages
 pub mod Datas
 -- what is told

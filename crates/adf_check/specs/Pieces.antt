@@ -1,5 +1,5 @@
 -- The bytes of files.
-use Rattle.std.specs.Prelude.{ℕ, List, ◌+◌, ◌*◌, ◌^◌, ◌≤◌, ◌<◌, length, get_or, Option, Some, None}
+use Rattle.std.specs.Prelude.{ℕ, List, length, Option, Some, None}
 use Rattle.adf_tree.specs.declared.entry.Body.{Body}
 use Rattle.adf_tree.specs.declared.entry.Body.TheVariants.{Dir, File}
 use Rattle.adf_tree.specs.declared.entry.Entry.{Entry}
@@ -7,12 +7,6 @@ use Rattle.adf_tree.specs.declared.entry.Kind.{Kind}
 use Rattle.adf_tree.specs.Tree.{Tree, entry}
 use Rattle.adf_volume.specs.Image.{pieces}
 use Rattle.adf_volume.specs.Layout.{Layout, datas_of}
-
--- the image has the data blocks, numbered from k on
-pub record AreInside (image datas : List ℕ) (k : ℕ) : Type 0 where
-  pub inside : (i d : ℕ) → i < length datas → get_or datas i d * 512 + 512 ≤ length image
-  pub from : 1 ≤ k
-  pub few : k + length datas < 2 ^ 32
 
 -- the pieces of a file whose data blocks are these, one of each; none of a directory
 abbrev pub pieces_in : List ℕ → Kind → List ℕ → Body → Option (List (List ℕ))

@@ -9,11 +9,11 @@ ghost use Rattle.adf_check.specs.Store.{owner_at, store_value};
 ghost use Rattle.adf_check.specs.Pages.{AreListed, IsBitFault};
 
 use crate::fault::{Fault, fault_at};
-use crate::image::Image;
-use crate::looks::Looks;
+use crate::looks::{Looks, look};
 use crate::owner_table::OwnerTable;
 use crate::store::Store;
 use adf_blocks::{Cause, PAGE_WORDS, Page};
+use adf_volume::Image;
 use std::sync::ledger::Ledger;
 
 // Whether a bit of a word is set.
@@ -56,11 +56,12 @@ fn check_word<L: Ledger>(
     requires pages { AreListed image.now pages.now (pages_needed (blocks image.now)) }
     requires state { IsMapped image.now (store_value store.now) (2 + 32 * i) }
     ensures looks { looks.old ≡ looks.new + 1 }
-    ensures state { OnOk result (IsMapped image.now (store_value store.now) (min (2 + 32 * (i + 1)) (blocks image.now))) }
+    ensures state { OnOk result
+        (IsMapped image.now (store_value store.now) (min (2 + 32 * (i + 1)) (blocks image.now))) }
     ensures fault { IfErr result (λ f. IsTrueFault image.now f) }
 {
     let blocks = image.blocks();
-    let page = Page::over(image.look(pages[i as usize / PAGE_WORDS], looks));
+    let page = Page::over(look(image, pages[i as usize / PAGE_WORDS], looks));
     let word = page.word(i as usize % PAGE_WORDS);
     let first = 2 + 32 * i;
     let len = (blocks - first).min(32);

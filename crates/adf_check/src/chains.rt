@@ -12,12 +12,11 @@ ghost use Rattle.adf_check.specs.Store.{store_value};
 
 use crate::claims::claim_named;
 use crate::fault::{Fault, fault_at, no_memory};
-use crate::image::Image;
-use crate::looks::Looks;
+use crate::looks::{Looks, look};
 use crate::store::{KeptHeader, Store};
 use adf_blocks::{Cause, Directory, SLOTS, read_head};
 use adf_tree::{NameSet, Node};
-use adf_volume::Owner;
+use adf_volume::{Image, Owner};
 use std::sync::ledger::Ledger;
 
 /// The chain of a slot of a directory, whose block is `up`.
@@ -51,10 +50,12 @@ fn read_header<L: Ledger>(
 ) -> Result<u32, Fault>
     requires slot { chain.now.slot < SLOTS }
     requires some { b ≢ 0 }
-    requires state { IsInChain image.now (store_value store.old) chain.now.parent chain.now.up chain.now.slot
+    requires state { IsInChain image.now
+        (store_value store.old) chain.now.parent chain.now.up chain.now.slot
         holder b (sees_of seen.old) }
     requires paid { IsPaid store.old looks.old 0 }
-    ensures state { IfOk result (λ next. IsInChain image.now (store_value store.new) chain.now.parent chain.now.up chain.now.slot
+    ensures state { IfOk result (λ next.
+        IsInChain image.now (store_value store.new) chain.now.parent chain.now.up chain.now.slot
         b next (sees_of seen.new)) }
     ensures paid { OnOk result (IsPaid store.new looks.new 0) }
     ensures fewer { OnOk result (IsFurther store.old store.new) }
@@ -65,7 +66,7 @@ fn read_header<L: Ledger>(
     let kind = image.kind();
     let owner = Owner::Head(Node(store.headers.len() + 1));
     claim_named(&mut store.owners, holder, b, owner)?;
-    let head = match read_head(image.look(b, looks), kind, b, chain.up, chain.slot) {
+    let head = match read_head(look(image, b, looks), kind, b, chain.up, chain.slot) {
         Ok(head) => head,
         Err(cause) => return Err(fault_at(b, cause)),
     };
@@ -91,10 +92,13 @@ fn read_chain<L: Ledger>(
 ) -> Result<(), Fault>
     requires slot { chain.now.slot < SLOTS }
     requires inside { chain.now.up < blocks image.now }
-    requires state { IsAtSlot image.now (store_value store.old) chain.now.parent chain.now.up chain.now.slot }
+    requires state { IsAtSlot image.now
+        (store_value store.old) chain.now.parent chain.now.up chain.now.slot }
     requires named { first ≡ word_in image.now chain.now.up (FIRST_SLOT + chain.now.slot) }
     requires paid { IsPaid store.old looks.old 0 }
-    ensures state { OnOk result (IsAtSlot image.now (store_value store.new) chain.now.parent chain.now.up (chain.now.slot + 1)) }
+    ensures state { OnOk result
+        (IsAtSlot image.now (store_value store.new) chain.now.parent chain.now.up
+        (chain.now.slot + 1)) }
     ensures paid { OnOk result (IsPaid store.new looks.new 0) }
     ensures fewer { OnOk result (IsFurther store.old store.new) }
     ensures fault { IfErr result (λ f. IsTrueFault image.now f) }
@@ -127,7 +131,7 @@ pub fn read_directory<L: Ledger>(
     ensures fewer { OnOk result (IsFurther store.old store.new) }
     ensures fault { IfErr result (λ f. IsTrueFault image.now f) }
 {
-    let directory = Directory::over(image.look(up, looks));
+    let directory = Directory::over(look(image, up, looks));
     for slot in 0..SLOTS as u8 {
         let first = directory.slot(slot);
         if first == 0 {

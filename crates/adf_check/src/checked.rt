@@ -13,16 +13,15 @@ ghost use Rattle.adf_check.specs.Pieces.{bytes_of, pieces_at};
 ghost use Rattle.adf_check.specs.Rows.{row_of_entry};
 ghost use Rattle.adf_check.specs.Volumes.{IsChecked, StandsFor, counts_of, is_dir_at};
 
-use crate::image::Image;
 use crate::lookup::{block_of, find};
-use crate::pieces::{Pieces, blocks_of, joined, pieces_of};
+use crate::pieces::{blocks_of, pieces_of};
 use crate::rebuild::tree_of;
 use crate::row::{Row, row_of};
 use crate::store::{KeptHeader, Store};
 use adf_blocks::{Head, HeadBody};
 use adf_fields::NoMemory;
 use adf_tree::{Kind, Label, Name, Node, Stamps};
-use adf_volume::Owner;
+use adf_volume::{Image, Owner, Pieces, joined};
 use std::alloc::Global;
 use std::marker::Model;
 
@@ -83,7 +82,8 @@ impl Checked<'_> {
         ensures part { (t : Tree) (l : Layout) (o : Owner) → StandsFor self.now t l
             → In (owned self.now.image l) (o, b) → result ≡ Some o }
         ensures boot { b < 2 → result ≡ Some Owner.Boot }
-        ensures free { (t : Tree) (l : Layout) → StandsFor self.now t l → 2 ≤ b → b < blocks self.now.image
+        ensures free { (t : Tree) (l : Layout) → StandsFor self.now t l → 2 ≤ b
+            → b < blocks self.now.image
             → ((o : Owner) → In (owned self.now.image l) (o, b) → ⊥) → result ≡ Some Owner.Free }
     {
         if b < self.image.blocks() {
@@ -109,7 +109,8 @@ impl Checked<'_> {
 
     /// The number of entries, the root not among them.
     pub fn len(&self) -> usize
-        ensures count { (t : Tree) (l : Layout) → StandsFor self.now t l → result ≡ length t.entries }
+        ensures count { (t : Tree) (l : Layout) → StandsFor self.now t l
+            → result ≡ length t.entries }
         // There is a tree and a layout that the volume stands for.
         ensures stands { (t : Tree) × (l : Layout) × StandsFor self.now t l }
     {
@@ -118,7 +119,8 @@ impl Checked<'_> {
 
     /// What is told of an entry; None for the root and past the last entry.
     pub fn row(&self, n: Node) -> Option<Row>
-        ensures { (t : Tree) (l : Layout) → StandsFor self.now t l → result ≡ option_map row_of_entry (entry t.entries n) }
+        ensures { (t : Tree) (l : Layout) → StandsFor self.now t l
+            → result ≡ option_map row_of_entry (entry t.entries n) }
     {
         if n.0 == 0 {
             return None;
@@ -130,7 +132,8 @@ impl Checked<'_> {
 
     /// The node that the path leads to, whatever the case of its names; 0 for the empty path.
     pub fn find(&self, path: &[Name]) -> Option<Node>
-        ensures { (t : Tree) (l : Layout) → StandsFor self.now t l → result ≡ find t.entries path.now }
+        ensures { (t : Tree) (l : Layout) → StandsFor self.now t l
+            → result ≡ find t.entries path.now }
     {
         find(&self.image, &self.store, path)
     }
@@ -185,7 +188,8 @@ impl Checked<'_> {
     /// The tree of the volume. Where it has no entries, no memory is taken.
     pub fn to_tree(&self, alloc: Global) -> Result<adf_tree::Tree, NoMemory>
         ensures tree { (t : Tree) (l : Layout) → StandsFor self.now t l → IfOk result (λ u. u ≡ t) }
-        ensures empty { (t : Tree) (l : Layout) → StandsFor self.now t l → t.entries ≡ [] → IsOk result }
+        ensures empty { (t : Tree) (l : Layout) → StandsFor self.now t l → t.entries ≡ []
+            → IsOk result }
     {
         tree_of(self, alloc)
     }
@@ -213,7 +217,8 @@ impl Checked<'_> {
 // The directories among the entries with these headers.
 #[tactic(auto, using(std::proofs::lemmas::List::Sums::count_by_more_yes, std::proofs::lemmas::List::Sums::count_by_more_no))]
 fn count_dirs(image: &Image<'_>, headers: &[KeptHeader]) -> usize
-    requires { (i : ℕ) (d : KeptHeader) → i < length headers.now → (get_or headers.now i d).head < blocks image.now }
+    requires { (i : ℕ) (d : KeptHeader) → i < length headers.now
+        → (get_or headers.now i d).head < blocks image.now }
     ensures exact { result ≡ count_by (is_dir_at image.now) headers.now }
     ensures within { result ≤ length headers.now }
 {

@@ -4,22 +4,24 @@ ghost use Rattle.adf_check.specs.Fault.{IsTrueFault};
 ghost use Rattle.std.specs.Prelude.{◌≡◌, ◌≢◌, ◌≤◌, ◌*◌, IfOk, IfErr};
 ghost use Rattle.adf_blocks.specs.Sizes.{blocks};
 ghost use Rattle.adf_tree.specs.Tree.{Tree};
+ghost use Rattle.adf_fields.specs.Words.{block};
 ghost use Rattle.adf_volume.specs.Fits.{Fits};
+ghost use Rattle.adf_volume.specs.Image.{root_of};
 ghost use Rattle.adf_volume.specs.Layout.{Layout};
 ghost use Rattle.adf_volume.specs.Walk.{FirstFault};
-ghost use Rattle.adf_check.specs.Image.{IsBegun};
+ghost use Rattle.adf_volume.specs.Start.{IsBegun};
 ghost use Rattle.adf_check.specs.Volumes.{StandsFor};
 
 use crate::bitmap::check_bitmap;
 use crate::checked::Checked;
-use crate::fault::{Fault, no_memory};
+use crate::fault::{Fault, fault_at, no_memory};
 use crate::looks::Looks;
 use crate::nodes::read_nodes;
 use crate::pages::read_pages;
-use crate::start::open;
 use crate::store::Store;
 use adf_blocks::Cause;
 use adf_fields::BLOCK_LEN;
+use adf_volume::{Opened, open};
 use std::alloc::Global;
 use std::marker::Brand;
 use std::sync::ledger::{Blank, Ledger};
@@ -37,14 +39,28 @@ pub fn check<'a>(alloc: Global, image: &'a [u8]) -> Result<Checked<'a>, Fault>
     ensures fits { IfOk result (λ v. (t : Tree) × (l : Layout) × StandsFor v t l) }
 
     // A fault is the first one, and nothing fits the image.
-    ensures first { IfErr result (λ f. f.cause ≢ Cause.NoMemory → FirstFault image.now f.block f.cause) }
-    ensures none { IfErr result (λ f. f.cause ≢ Cause.NoMemory → (t : Tree) (l : Layout) → Fits image.now t l → ⊥) }
+    ensures first { IfErr result (λ f. f.cause ≢ Cause.NoMemory
+        → FirstFault image.now f.block f.cause) }
+    ensures none { IfErr result (λ f. f.cause ≢ Cause.NoMemory → (t : Tree) (l : Layout)
+        → Fits image.now t l → ⊥) }
 
     // Want of memory names block 0, and comes only where the size, the boot bytes and the root are sound.
     ensures memory { IfErr result (λ f. f.cause ≡ Cause.NoMemory → f.block ≡ 0) }
     ensures begun { IfErr result (λ f. f.cause ≡ Cause.NoMemory → IsBegun image.now) }
 {
     check_all::<Brand>(alloc, image, Blank::new(2))
+}
+
+// Reads the size, the first four bytes and the root; what is none of a volume there is the first fault.
+fn open_volume<'a>(image: &'a [u8]) -> Result<Opened<'a>, Fault>
+    ensures image { IfOk result (λ o. o.image ≡ image.now) }
+    ensures root { IfOk result (λ o. o.root ≡ block image.now (root_of image.now)) }
+    ensures fault { IfErr result (λ f. FirstFault image.now f.block f.cause) }
+{
+    match open(image) {
+        Ok(opened) => Ok(opened),
+        Err(unopened) => Err(fault_at(unopened.block, unopened.cause)),
+    }
 }
 
 // Checks an image, with six looks for each of its blocks.
@@ -78,7 +94,7 @@ pub fn check_within<'a, L: Ledger>(
     ensures fault { IfErr result (λ f. IsTrueFault image.now f) }
     ensures begun { IfErr result (λ f. f.cause ≡ Cause.NoMemory → IsBegun image.now) }
 {
-    let opened = open(image)?;
+    let opened = open_volume(image)?;
     let Ok(mut store) = Store::begin(alloc, &opened.image) else {
         return Err(no_memory());
     };

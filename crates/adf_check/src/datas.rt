@@ -11,16 +11,15 @@ ghost use Rattle.adf_check.specs.Reading.{IsAtNode, IsInDatas};
 ghost use Rattle.adf_check.specs.Progress.{IsFurther, IsPaid};
 ghost use Rattle.adf_check.specs.Store.{store_value};
 ghost use Rattle.adf_check.specs.Datas.{data_asked, next_of};
-ghost use Rattle.adf_check.specs.Image.{IsBegun};
+ghost use Rattle.adf_volume.specs.Start.{IsBegun};
 
 use crate::claims::claim_named;
 use crate::fault::{Fault, fault_at, no_memory};
-use crate::image::Image;
-use crate::looks::Looks;
+use crate::looks::{Looks, look};
 use crate::store::Store;
 use adf_blocks::{Cause, POINTERS, Table, chunk_len, data_count, read_data};
 use adf_tree::{Kind, Node};
-use adf_volume::Owner;
+use adf_volume::{Image, Owner, held_in};
 use std::sync::ledger::Ledger;
 
 /// A file whose data blocks are read: its node, the block of its header, its size in bytes, and the count of its data blocks.
@@ -39,27 +38,16 @@ pub(crate) fn count_of(kind: Kind, size: u32) -> u32
     data_count(kind, size as usize) as u32
 }
 
-// The bytes that data block `number`, from 1 on, of a file of so many bytes holds.
-#[tactic(auto, using(crate::proofs::FilePieces::held_is))]
-pub(crate) fn held_in(kind: Kind, size: u32, number: u32) -> u32
-    requires { 1 ≤ number }
-    ensures exact { result ≡ held kind size number }
-    ensures small { result ≤ chunk kind }
-{
-    let chunk = chunk_len(kind);
-    let before = chunk.saturating_mul(number as usize - 1);
-    (size as usize).saturating_sub(before).min(chunk) as u32
-}
-
 // The block that the table names for data block `k + 1`.
 fn pointer<L: Ledger>(image: &Image<'_>, looks: &mut Looks<L>, table: &[u32], k: u32) -> u32
     requires paid { 0 < looks.old }
     requires inside { k < POINTERS * length table.now }
     requires blocks { (i : ℕ) → i < length table.now → slice_index table.now i < blocks image.now }
-    ensures exact { result ≡ word_in image.now (slice_index table.now (k / POINTERS)) (table_word k) }
+    ensures exact { result
+        ≡ word_in image.now (slice_index table.now (k / POINTERS)) (table_word k) }
     ensures looks { looks.old ≡ looks.new + 1 }
 {
-    Table::over(image.look(table[k as usize / POINTERS], looks)).pointer(k as usize % POINTERS)
+    Table::over(look(image, table[k as usize / POINTERS], looks)).pointer(k as usize % POINTERS)
 }
 
 // The block that the table names for data block `k + 1`, or 0 past the last.
@@ -100,14 +88,15 @@ fn check_data<L: Ledger>(
     requires blocks { (i : ℕ) → i < length table.now → slice_index table.now i < blocks image.now }
     ensures looks { looks.old ≤ looks.new + 2 }
     ensures ok { OnOk result (AllHold (data_asked image.now file.now table.now b k)) }
-    ensures fault { IfErr result (λ c. FirstFails (data_asked image.now file.now table.now b k) b c) }
+    ensures fault { IfErr result (λ c.
+        FirstFails (data_asked image.now file.now table.now b k) b c) }
 {
     match image.kind() {
         Kind::Ffs => Ok(()),
         Kind::Ofs => {
             let next = next_pointer(image, looks, table, file.count, k + 1);
             let held = held_in(Kind::Ofs, file.size, k + 1);
-            match read_data(image.look(b, looks), file.head, k + 1, held, next) {
+            match read_data(look(image, b, looks), file.head, k + 1, held, next) {
                 Ok(_) => Ok(()),
                 Err(cause) => Err(cause),
             }
@@ -127,20 +116,23 @@ fn read_data_block<L: Ledger>(
     b: u32,
     k: u32,
 ) -> Result<(), Fault>
-    requires begun { IsBegun image.now }
     requires size { file.now.size ≡ word_in image.now file.now.head SIZE }
     requires count { file.now.count ≡ data_count image.now file.now.head }
     requires enough { file.now.count ≤ POINTERS * length table.now }
     requires inside { k < file.now.count }
     requires holder { holder ≡ slice_index table.now (k / POINTERS) }
     requires named { b ≡ word_in image.now (slice_index table.now (k / POINTERS)) (table_word k) }
-    requires state { IsInDatas image.now (store_value store.old) file.now.node file.now.head table.now k }
+    requires state { IsInDatas image.now
+        (store_value store.old) file.now.node file.now.head table.now k }
     requires paid { IsPaid store.old looks.old 0 }
-    ensures state { OnOk result (IsInDatas image.now (store_value store.new) file.now.node file.now.head table.now (k + 1)) }
+    ensures state { OnOk result
+        (IsInDatas image.now (store_value store.new) file.now.node file.now.head table.now
+        (k + 1)) }
     ensures paid { OnOk result (IsPaid store.new looks.new 1) }
     ensures fewer { OnOk result (IsFurther store.old store.new) }
     ensures fault { IfErr result (λ f. IsTrueFault image.now f) }
 {
+    image.begun();
     claim_named(&mut store.owners, holder, b, Owner::Data(file.node, k + 1))?;
     if let Err(cause) = check_data(image, looks, table, file, b, k) {
         return Err(fault_at(b, cause));
@@ -160,22 +152,24 @@ fn read_named<L: Ledger>(
     file: &File,
     m: u32,
 ) -> Result<(), Fault>
-    requires begun { IsBegun image.now }
     requires size { file.now.size ≡ word_in image.now file.now.head SIZE }
     requires count { file.now.count ≡ data_count image.now file.now.head }
     requires enough { file.now.count ≤ POINTERS * length table.now }
     requires inside { POINTERS * m < file.now.count }
-    requires state { IsInDatas image.now (store_value store.old) file.now.node file.now.head table.now (POINTERS * m) }
+    requires state { IsInDatas image.now
+        (store_value store.old) file.now.node file.now.head table.now (POINTERS * m) }
     requires paid { IsPaid store.old looks.old 1 }
-    ensures state { OnOk result (IsInDatas image.now (store_value store.new) file.now.node file.now.head table.now
+    ensures state { OnOk result
+        (IsInDatas image.now (store_value store.new) file.now.node file.now.head table.now
         (min (POINTERS * (m + 1)) file.now.count)) }
     ensures paid { OnOk result (IsPaid store.new looks.new 1) }
     ensures fewer { OnOk result (IsFurther store.old store.new) }
     ensures fault { IfErr result (λ f. IsTrueFault image.now f) }
 {
+    image.begun();
     let count = file.count;
     let holder = table[m as usize];
-    let names = Table::over(image.look(holder, looks));
+    let names = Table::over(look(image, holder, looks));
     let first = POINTERS as u32 * m;
     let len = (count - first).min(POINTERS as u32);
     for k in first..first + len {

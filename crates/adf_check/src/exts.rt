@@ -6,16 +6,15 @@ ghost use Rattle.adf_blocks.specs.Sizes.{blocks};
 ghost use Rattle.adf_check.specs.Reading.{IsInDatas, IsInExts};
 ghost use Rattle.adf_check.specs.Progress.{IsFurther, IsPaid, left};
 ghost use Rattle.adf_check.specs.Store.{store_value};
-ghost use Rattle.adf_check.specs.Image.{IsBegun};
+ghost use Rattle.adf_volume.specs.Start.{IsBegun};
 
 use crate::claims::claim_named;
 use crate::fault::{Fault, fault_at, no_memory};
-use crate::image::Image;
-use crate::looks::Looks;
+use crate::looks::{Looks, look};
 use crate::store::Store;
 use adf_blocks::read_ext;
 use adf_tree::Node;
-use adf_volume::Owner;
+use adf_volume::{Image, Owner};
 use std::sync::ledger::Ledger;
 
 // Claims and reads the extension block at block `b`, which a word of block `holder` names, of the file `node` with its header at block
@@ -30,19 +29,20 @@ fn read_ext_block<L: Ledger>(
     holder: u32,
     b: u32,
 ) -> Result<u32, Fault>
-    requires begun { IsBegun image.now }
     requires some { b ≢ 0 }
     requires state { IsInExts image.now (store_value store.old) node head table.old.items holder b }
     requires paid { IsPaid store.old looks.old 1 }
-    ensures state { IfOk result (λ next. IsInExts image.now (store_value store.new) node head table.new.items b next) }
+    ensures state { IfOk result (λ next.
+        IsInExts image.now (store_value store.new) node head table.new.items b next) }
     ensures paid { OnOk result (IsPaid store.new looks.new 1) }
     ensures fewer { OnOk result (IsFurther store.old store.new) }
     ensures less { OnOk result (left store.new < left store.old) }
     ensures fault { IfErr result (λ f. IsTrueFault image.now f) }
 {
+    image.begun();
     let owner = Owner::Ext(node, table.len() as u32);
     claim_named(&mut store.owners, holder, b, owner)?;
-    let ext = match read_ext(image.look(b, looks), b, head) {
+    let ext = match read_ext(look(image, b, looks), b, head) {
         Ok(ext) => ext,
         Err(cause) => return Err(fault_at(b, cause)),
     };
@@ -63,14 +63,16 @@ pub fn read_exts<L: Ledger>(
     head: u32,
     first: u32,
 ) -> Result<(), Fault>
-    requires begun { IsBegun image.now }
-    requires state { IsInExts image.now (store_value store.old) node head table.old.items head first }
+    requires state { IsInExts image.now
+        (store_value store.old) node head table.old.items head first }
     requires paid { IsPaid store.old looks.old 1 }
-    ensures state { OnOk result (IsInDatas image.now (store_value store.new) node head table.new.items 0) }
+    ensures state { OnOk result
+        (IsInDatas image.now (store_value store.new) node head table.new.items 0) }
     ensures paid { OnOk result (IsPaid store.new looks.new 1) }
     ensures fewer { OnOk result (IsFurther store.old store.new) }
     ensures fault { IfErr result (λ f. IsTrueFault image.now f) }
 {
+    image.begun();
     let mut holder = head;
     let mut b = first;
     while b != 0 {

@@ -1,7 +1,12 @@
 // The looks at blocks that a check may still take.
 
 ghost use Rattle.std.specs.Prelude.{◌≡◌, ◌+◌, ◌<◌, ◌≤◌};
+ghost use Rattle.adf_fields.specs.Words.{block};
+ghost use Rattle.adf_blocks.specs.Sizes.{blocks};
+ghost use Rattle.adf_volume.specs.Start.{IsBegun};
 
+use adf_fields::Block;
+use adf_volume::Image;
 use std::marker::Model;
 use std::sync::ledger::{Blank, Ledger, Share};
 
@@ -43,4 +48,16 @@ impl<L: Ledger> Looks<L> {
     {
         self.left.transfer(&mut self.taken, 1)
     }
+}
+
+/// A block, for one look: how `check` sees the blocks behind the root.
+pub(crate) fn look<'a, L: Ledger>(image: &Image<'a>, b: u32, looks: &mut Looks<L>) -> Block<'a>
+    requires inside { b < blocks image.now }
+    requires paid { 0 < looks.old }
+    ensures block { result ≡ block image.now b }
+    ensures begun { IsBegun image.now }
+    ensures looks { looks.old ≡ looks.new + 1 }
+{
+    looks.take();
+    image.block(b)
 }

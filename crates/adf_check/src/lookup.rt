@@ -12,13 +12,12 @@ ghost use Rattle.adf_check.specs.Reading.{StoreFits};
 ghost use Rattle.adf_check.specs.Store.{owner_at, store_value};
 ghost use Rattle.adf_check.specs.Lookup.{headed};
 
-use crate::image::Image;
 use crate::owner_table::OwnerTable;
 use crate::store::Store;
 use adf_blocks::{Head, HeadBody};
 use adf_fields::slot;
 use adf_tree::{Name, Node};
-use adf_volume::Owner;
+use adf_volume::{Image, Owner};
 
 /// The block of a node.
 pub fn block_of(image: &Image<'_>, store: &Store, node: Node) -> u32
@@ -51,7 +50,9 @@ fn first_of(image: &Image<'_>, store: &Store, parent: Node, slot: u8) -> u32
     requires node { parent ≤ length store.now.headers.items }
     requires slot { slot < SLOTS }
     ensures { (t : Tree) (l : Layout) → StoreStandsFor image.now (store_value store.now) t l
-        → Spelled (λ b. word_in image.now b NEXT_IN_CHAIN) result (map (at_node image.now l) (chain_nodes t parent slot)) }
+        → Spelled (λ b.
+        word_in image.now b NEXT_IN_CHAIN) result
+        (map (at_node image.now l) (chain_nodes t parent slot)) }
 {
     let up = block_of(image, store, parent);
     match image.body(up) {

@@ -8,17 +8,17 @@ ghost use Rattle.adf_check.specs.Reading.{IsAtNode, IsInExts, IsInNode, IsRead};
 ghost use Rattle.adf_check.specs.Store.{entered, store_value};
 ghost use Rattle.adf_check.specs.Fault.{IsTrueFault, fault};
 ghost use Rattle.adf_check.specs.Progress.{IsFurther, IsPaid};
-ghost use Rattle.adf_check.specs.Image.{IsBegun};
+ghost use Rattle.adf_volume.specs.Start.{IsBegun};
 
 use crate::chains::read_directory;
 use crate::datas::read_datas;
 use crate::exts::read_exts;
 use crate::fault::{Fault, no_memory};
-use crate::image::Image;
-use crate::looks::Looks;
+use crate::looks::{Looks, look};
 use crate::store::{NodeStart, Store};
 use adf_blocks::{Cause, HeadBody};
 use adf_tree::{NameSet, Node};
+use adf_volume::Image;
 use std::alloc::Global;
 use std::sync::ledger::Ledger;
 
@@ -27,7 +27,8 @@ fn enter(store: &mut Store) -> Result<(), Fault>
     requires exts { length store.old.exts.items < 2 ^ 32 }
     requires datas { length store.old.datas.items < 2 ^ 32 }
     ensures entered { OnOk result (store_value store.new ≡ entered (store_value store.old)) }
-    ensures paid { (looks : ℕ) → IsPaid store.old looks 0 → length store.old.starts.items ≤ length store.old.headers.items
+    ensures paid { (looks : ℕ) → IsPaid store.old looks 0
+        → length store.old.starts.items ≤ length store.old.headers.items
         → OnOk result (IsPaid store.new looks 2) }
     ensures fewer { OnOk result (IsFurther store.old store.new) }
     ensures fault { IfErr result (λ f. f ≡ fault 0 Cause.NoMemory) }
@@ -53,7 +54,6 @@ fn read_file<L: Ledger>(
     size: u32,
     ext: u32,
 ) -> Result<(), Fault>
-    requires begun { IsBegun image.now }
     requires size { size ≡ word_in image.now head SIZE }
     requires state { IsInExts image.now (store_value store.old) node head (head ∷ []) head ext }
     requires paid { IsPaid store.old looks.old 1 }
@@ -62,6 +62,7 @@ fn read_file<L: Ledger>(
     ensures fewer { OnOk result (IsFurther store.old store.new) }
     ensures fault { IfErr result (λ f. IsTrueFault image.now f) }
 {
+    image.begun();
     table.clear();
     if table.push(head).is_err() {
         return Err(no_memory());
@@ -92,7 +93,7 @@ fn read_node<L: Ledger>(
         return read_directory(image, store, looks, seen, node, root);
     }
     let head = store.headers[node.0 - 1].head;
-    match HeadBody::of(&image.look(head, looks)) {
+    match HeadBody::of(&look(image, head, looks)) {
         HeadBody::Dir => read_directory(image, store, looks, seen, node, head),
         HeadBody::File { size, ext } => {
             read_file(image, store, looks, table, node, head, size, ext)
@@ -107,13 +108,13 @@ pub fn read_nodes<L: Ledger>(
     store: &mut Store,
     looks: &mut Looks<L>,
 ) -> Result<(), Fault>
-    requires begun { IsBegun image.now }
     requires state { IsAtNode image.now (store_value store.old) 0 }
     requires paid { IsPaid store.old looks.old 0 }
     ensures state { OnOk result (IsRead image.now (store_value store.new)) }
     ensures paid { OnOk result (IsPaid store.new looks.new 0) }
     ensures fault { IfErr result (λ f. IsTrueFault image.now f) }
 {
+    image.begun();
     let mut seen = NameSet::new(alloc);
     let mut table = Vec::new(alloc);
     let mut node = 0usize;

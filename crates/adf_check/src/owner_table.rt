@@ -36,7 +36,8 @@ impl OwnerTable {
     // The table of so many blocks: `Boot` for blocks 0 and 1, `Free` for all others.
     pub fn new(alloc: Global, blocks: u32) -> Result<OwnerTable, NoMemory>
         requires { 2 ≤ blocks }
-        ensures { IfOk result (λ t. t ≡ Owner.Boot ∷ Owner.Boot ∷ replicate (blocks - 2) Owner.Free) }
+        ensures { IfOk result (λ t.
+            t ≡ Owner.Boot ∷ Owner.Boot ∷ replicate (blocks - 2) Owner.Free) }
     {
         let Ok(mut owners) = vec![in alloc; NarrowOwner::Free; blocks as usize] else {
             return Err(NoMemory);
@@ -102,8 +103,10 @@ impl OwnerTable {
     // Whether no part of the volume owns one of the blocks from `first` up to `end`.
     pub fn has_free(&self, first: u32, end: u32) -> bool
         requires { end ≤ length self.now }
-        ensures none { result ≡ false → (b : ℕ) → first ≤ b → b < end → owner_at self.now b ≢ Owner.Free }
-        ensures some { result ≡ true → (b : ℕ) × ((first ≤ b) × (b < end) × (owner_at self.now b ≡ Owner.Free)) }
+        ensures none { result ≡ false → (b : ℕ) → first ≤ b → b < end
+            → owner_at self.now b ≢ Owner.Free }
+        ensures some { result ≡ true
+            → (b : ℕ) × ((first ≤ b) × (b < end) × (owner_at self.now b ≡ Owner.Free)) }
     {
         for b in first..end {
             if self.is_free(b) {

@@ -34,7 +34,8 @@ impl Owners {
     /// The table of so many blocks: `Boot` for blocks 0 and 1, `Free` for all others.
     pub fn new(alloc: Global, blocks: u32) -> Result<Owners, NoMemory>
         requires { 2 ≤ blocks }
-        ensures { IfOk result (λ t. t ≡ Owner.Boot ∷ Owner.Boot ∷ replicate (blocks - 2) Owner.Free) }
+        ensures { IfOk result (λ t.
+            t ≡ Owner.Boot ∷ Owner.Boot ∷ replicate (blocks - 2) Owner.Free) }
     {
         let Ok(mut owners) = vec![in alloc; Owner::Free; blocks as usize] else {
             return Err(NoMemory);

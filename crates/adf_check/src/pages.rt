@@ -9,16 +9,15 @@ ghost use Rattle.adf_volume.specs.Image.{root_of, word_in};
 ghost use Rattle.adf_check.specs.Reading.{IsAtNode, IsAtPage, IsBeforePage, block_of_page};
 ghost use Rattle.adf_check.specs.Progress.{IsPaid};
 ghost use Rattle.adf_check.specs.Store.{store_value};
-ghost use Rattle.adf_check.specs.Image.{IsBegun};
+ghost use Rattle.adf_volume.specs.Start.{IsBegun};
 ghost use Rattle.adf_check.specs.Pages.{AreListed, index_of_map_ext, index_of_page};
 
 use crate::claims::claim_named;
 use crate::fault::{Fault, fault_at, no_memory};
-use crate::image::Image;
-use crate::looks::Looks;
+use crate::looks::{Looks, look};
 use crate::store::Store;
 use adf_blocks::{MAP_EXT_PAGES, ROOT_PAGES, Root, page_count, read_map_ext, read_page};
-use adf_volume::Owner;
+use adf_volume::{Image, Owner};
 use std::alloc::Global;
 use std::sync::ledger::Ledger;
 
@@ -48,7 +47,7 @@ fn map_ext_named<L: Ledger>(
     if i as usize == ROOT_PAGES {
         root.map_ext()
     } else {
-        read_map_ext(image.look(holder, looks)).next()
+        read_map_ext(look(image, holder, looks)).next()
     }
 }
 
@@ -71,7 +70,7 @@ fn page_named<L: Ledger>(
     if i < ROOT_PAGES {
         root.page(i)
     } else {
-        read_map_ext(image.look(holder, looks)).page((i - ROOT_PAGES) % MAP_EXT_PAGES)
+        read_map_ext(look(image, holder, looks)).page((i - ROOT_PAGES) % MAP_EXT_PAGES)
     }
 }
 
@@ -84,7 +83,6 @@ fn claim_map_ext<L: Ledger>(
     holder: u32,
     i: u32,
 ) -> Result<u32, Fault>
-    requires begun { IsBegun image.now }
     requires root { root.now ≡ block image.now (root_of image.now) }
     requires needed { i < pages_needed (blocks image.now) }
     requires past { ROOT_PAGES ≤ i }
@@ -97,6 +95,7 @@ fn claim_map_ext<L: Ledger>(
     ensures paid { OnOk result (IsPaid store.new looks.new 1) }
     ensures fault { IfErr result (λ f. IsTrueFault image.now f) }
 {
+    image.begun();
     let b = map_ext_named(image, looks, root, holder, i);
     let j = (i - ROOT_PAGES as u32) / MAP_EXT_PAGES as u32;
     claim_named(&mut store.owners, holder, b, Owner::MapExt(j))?;
@@ -112,7 +111,6 @@ fn holder_of_page<L: Ledger>(
     holder: u32,
     i: u32,
 ) -> Result<u32, Fault>
-    requires begun { IsBegun image.now }
     requires root { root.now ≡ block image.now (root_of image.now) }
     requires needed { i < pages_needed (blocks image.now) }
     requires inside { holder < blocks image.now }
@@ -123,6 +121,7 @@ fn holder_of_page<L: Ledger>(
     ensures paid { OnOk result (IsPaid store.new looks.new 1) }
     ensures fault { IfErr result (λ f. IsTrueFault image.now f) }
 {
+    image.begun();
     if is_first_of_map_ext(i) {
         claim_map_ext(image, root, store, looks, holder, i)
     } else {
@@ -139,7 +138,6 @@ fn read_page_at<L: Ledger>(
     holder: u32,
     i: u32,
 ) -> Result<u32, Fault>
-    requires begun { IsBegun image.now }
     requires root { root.now ≡ block image.now (root_of image.now) }
     requires needed { i < pages_needed (blocks image.now) }
     requires inside { holder < blocks image.now }
@@ -151,9 +149,10 @@ fn read_page_at<L: Ledger>(
     ensures paid { OnOk result (IsPaid store.new looks.new 1) }
     ensures fault { IfErr result (λ f. IsTrueFault image.now f) }
 {
+    image.begun();
     let b = page_named(image, looks, root, holder, i);
     claim_named(&mut store.owners, holder, b, Owner::Page(i))?;
-    match read_page(image.look(b, looks)) {
+    match read_page(look(image, b, looks)) {
         Ok(_) => Ok(b),
         Err(cause) => Err(fault_at(b, cause)),
     }
@@ -171,7 +170,8 @@ pub fn read_pages<L: Ledger>(
     requires state { IsBeforePage image.now (store_value store.old) 0 (root_of image.now) }
     requires paid { IsPaid store.old looks.old 1 }
     ensures state { OnOk result (IsAtNode image.now (store_value store.new) 0) }
-    ensures pages { IfOk result (λ p. AreListed image.now p.items (pages_needed (blocks image.now))) }
+    ensures pages { IfOk result (λ p.
+        AreListed image.now p.items (pages_needed (blocks image.now))) }
     ensures paid { OnOk result (IsPaid store.new looks.new 1) }
     ensures fault { IfErr result (λ f. IsTrueFault image.now f) }
 {

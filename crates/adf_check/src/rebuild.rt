@@ -24,7 +24,8 @@ fn body_with(bytes: Option<Vec<u8>>) -> Body
 
 // An entry with its bytes; none of the root and past the last entry.
 fn entry_of(volume: &Checked<'_>, alloc: Global, n: Node) -> Result<Option<Entry>, NoMemory>
-    ensures { (t : Tree) (l : Layout) → StandsFor volume.now t l → IfOk result (λ e. e ≡ entry t.entries n) }
+    ensures { (t : Tree) (l : Layout) → StandsFor volume.now t l
+        → IfOk result (λ e. e ≡ entry t.entries n) }
 {
     let Some(row) = volume.row(n) else {
         return Ok(None);
@@ -48,7 +49,8 @@ fn label_of(label: &Label) -> Label
 /// The tree of a volume, entry by entry.
 pub fn tree_of(volume: &Checked<'_>, alloc: Global) -> Result<adf_tree::Tree, NoMemory>
     ensures tree { (t : Tree) (l : Layout) → StandsFor volume.now t l → IfOk result (λ u. u ≡ t) }
-    ensures empty { (t : Tree) (l : Layout) → StandsFor volume.now t l → t.entries ≡ [] → IsOk result }
+    ensures empty { (t : Tree) (l : Layout) → StandsFor volume.now t l → t.entries ≡ []
+        → IsOk result }
 {
     let kind = volume.counts().kind;
     let label = label_of(volume.label());

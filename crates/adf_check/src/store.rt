@@ -10,10 +10,9 @@ ghost use Rattle.adf_check.specs.Reading.{IsBeforePage, StoreFits};
 ghost use Rattle.adf_check.specs.Store.{StoreValue, store_value};
 ghost use Rattle.adf_check.specs.StoreStands.{StoreStandsFor};
 
-use crate::image::Image;
 use crate::owner_table::OwnerTable;
 use adf_fields::NoMemory;
-use adf_volume::Owner;
+use adf_volume::{Image, Owner};
 use std::alloc::Global;
 
 /// What is kept of a header: the number of its entry's parent, and its block.
@@ -45,7 +44,8 @@ impl Store {
     // What is kept before anything is read but the root.
     pub fn begin(alloc: Global, image: &Image<'_>) -> Result<Store, NoMemory>
         ensures paid { IfOk result (λ s. IsPaid s (6 * blocks image.now) 1) }
-        ensures state { IfOk result (λ s. IsBeforePage image.now (store_value s) 0 (root_of image.now)) }
+        ensures state { IfOk result (λ s.
+            IsBeforePage image.now (store_value s) 0 (root_of image.now)) }
     {
         let mut owners = OwnerTable::new(alloc, image.blocks())?;
         owners.claim(image.root(), Owner::Root).unwrap();

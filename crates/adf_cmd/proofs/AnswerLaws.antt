@@ -1,5 +1,5 @@
 -- From outcomes to answers.
-use Rattle.std.proofs.Common.{◌≡◌, ◌≢◌, ◌∙◌, ap, inl, inr, ℕ, Bool, Bor, false, List, [], map, Option, Some, None, IfSome, refl, sym, subst, arith}
+use Rattle.std.proofs.Common.{◌≡◌, ◌≢◌, ◌∙◌, ap, inl, inr, ℕ, Bool, false, List, [], Option, Some, None, IfSome, refl, sym, subst, arith}
 use Rattle.std.specs.Prelude.{codes, string_bytes}
 use Rattle.adf_fields.proofs.DateTexts.{date_of, date_of_is}
 use Rattle.adf_tree.specs.PathTexts.{IsPathText}
@@ -28,10 +28,6 @@ use Rattle.adf_manifest.specs.declared.manifest.ManifestFault.{ManifestFault}
 use Rattle.adf_cmd.specs.declared.outcome.Outcome.{Outcome}
 use Rattle.adf_cmd.specs.declared.outcome.Outcome.TheVariants.{Done, Refused, NoSuchPath, NotAFile, ReadFault, WriteFault, NoMemory}
 use Rattle.adf_cmd.proofs.PendingText.{appends_nil}
-
--- the texts of words
-abbrev pub texts_of : List (Bor (List ℕ)) → List (List ℕ)
-texts_of words = map (λ w. w.now) words
 
 -- the line of the first fault of an image answers `check`
 pub refused_answer : (image line : List ℕ) (f : Fault) → FirstFault image f.block f.cause → line ≡ fault_line f

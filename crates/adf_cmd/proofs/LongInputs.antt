@@ -16,7 +16,7 @@ use Rattle.adf_manifest.specs.Manifest.{ExplainsKind}
 use Rattle.adf_manifest.specs.declared.manifest.ManifestKind.{ManifestKind}
 use Rattle.adf_manifest.specs.declared.manifest.ManifestKind.TheVariants.{NoMemory as ManifestNoMemory, TooLong}
 use Rattle.adf_cmd.specs.Answers.{Answer, Reply, limit_of}
-use Rattle.adf_cmd.specs.CommandLine.{RequestValue, build, cat, check, convert, list}
+use Rattle.adf_cmd.specs.CommandLine.{RequestValue, build, cat, check}
 use Rattle.adf_cmd.specs.declared.checking.CheckAnswer.{CheckAnswer}
 use Rattle.adf_cmd.specs.Outcomes.{IsCheckAnswer, IsCheckAnswerTo, Works, outcome_line, status_of}
 use Rattle.adf_cmd.specs.declared.outcome.Outcome.{Outcome}
@@ -60,17 +60,15 @@ long_kind TooLong line image bytes a b ne h = (h.0, b)
 long_kind _ line image bytes a b ne h = absurd (omega (arith, h.0))
 
 long_answers : (r : RequestValue) (image bytes : List ℕ) → limit_of (Some r) < length image → limit_of (Some r) < length bytes → AnswersBoth r image bytes
-long_answers check image bytes a b reply (inl (t, l, fits, is)) = absurd (too_large image a fits.boots.0)
-long_answers check image bytes a b reply (inr h) = inr (h.0, long_fault image bytes h.0 a b h.1, h.2)
-long_answers list image bytes a b reply (inl (t, l, fits, date, dates, is)) = absurd (too_large image a fits.boots.0)
-long_answers list image bytes a b reply (inr h) = inr (h.0, long_fault image bytes h.0 a b h.1, h.2)
 long_answers (cat path) image bytes a b reply (inl bad) = inl bad
 long_answers (cat path) image bytes a b reply (inr (inl (names, text, t, l, fits, copies))) = absurd (too_large image a fits.boots.0)
 long_answers (cat path) image bytes a b reply (inr (inr (read, h))) = inr (inr (read, (h.0, long_fault image bytes h.0 a b h.1, h.2)))
 long_answers (build lines) image bytes a b reply (inl (tree, n, manifest, builds)) = absurd (omega (arith, manifest.0))
 long_answers (build lines) image bytes a b reply (inr h) = inr (h.0, long_kind h.0.kind h.0.line image bytes a b h.2 h.1, h.2, h.3)
-long_answers (convert kind) image bytes a b reply (inl (t, l, fits, builds)) = absurd (too_large image a fits.boots.0)
-long_answers (convert kind) image bytes a b reply (inr h) = inr (h.0, long_fault image bytes h.0 a b h.1, h.2)
+long_answers _ image bytes a b reply h = elim h [
+  | inl told ↦ absurd (too_large image a told.2.boots.0)
+  | inr refused ↦ inr (refused.0, long_fault image bytes refused.0 a b refused.1, refused.2)
+]
 
 -- what is done with the bytes that are read is done with the whole input, where that is known
 pub read_works : (w : Outcome) (r : RequestValue) (image : List ℕ) (left o o' : Option (List ℕ))

@@ -1,5 +1,5 @@
 -- A request and an input have one answer.
-use Rattle.std.proofs.Common.{◌≡◌, ◌≢◌, ◌∙◌, inl, inr, ℕ, Bool, false, List, Option, Some, None, refl, sym, ap, subst, arith}
+use Rattle.std.proofs.Common.{◌≡◌, ◌≢◌, ◌∙◌, ◌⊎◌, inl, inr, ℕ, Bool, false, List, Option, Some, None, refl, sym, ap, subst, arith}
 use mathlib.Core.Path.{fun_ext}
 use Rattle.adf_fields.proofs.DateTexts.{one_text}
 use Rattle.adf_fields.specs.declared.dates.Stamp.{Stamp}
@@ -122,15 +122,20 @@ converted_once kind input a b (t, l, fits, h) (u, m, also, g) =
     let moved = subst (λ (v : Tree). BuildsOrIsFull false (with_kind v kind) (blocks input) a) same.0 h in
     built_once false (with_kind u kind) (blocks input) a b moved g
 
+-- what one command tells of a tree that fits an image, or that the image is refused
+image_once : (input : List ℕ) (a b : Reply) (tells : Reply → Type 0) → ((reply : Reply) → tells reply → (t : Tree) × (l : Layout) × Fits input t l)
+    → (tells a → tells b → a ≡ b) → tells a ⊎ RefusesImage input a → tells b ⊎ RefusesImage input b → a ≡ b
+image_once input a b tells fits once (inl h) (inl g) = once h g
+image_once input a b tells fits once (inl h) (inr g) = let (t, l, fit) = fits a h in absurd (not_both input g.0 t l g.1 fit)
+image_once input a b tells fits once (inr h) (inl g) = let (t, l, fit) = fits b g in absurd (not_both input h.0 t l h.1 fit)
+image_once input a b tells fits once (inr h) (inr g) = refused_once input a b h g
+
 pub one_answer : (r : RequestValue) (input : List ℕ) (a b : Reply) → Answer r input a → Answer r input b → a ≡ b
 one_answer check input a b (inl h) (inl g) = accepted_once input a b h g
 one_answer check input a b (inl h) (inr g) = absurd (not_both input g.0 h.0 h.1 g.1 h.2)
 one_answer check input a b (inr h) (inl g) = absurd (not_both input h.0 g.0 g.1 h.1 g.2)
 one_answer check input a b (inr (f, first, x)) (inr (g, also, y)) = x ∙ ap (on_output 1) (one_line input f g first also) ∙ sym y
-one_answer list input a b (inl h) (inl g) = listed_once input a b h g
-one_answer list input a b (inl h) (inr g) = absurd (not_both input g.0 h.0 h.1 g.1 h.2)
-one_answer list input a b (inr h) (inl g) = absurd (not_both input h.0 g.0 g.1 h.1 g.2)
-one_answer list input a b (inr h) (inr g) = refused_once input a b h g
+one_answer list input a b h g = image_once input a b (Lists input) (λ reply x. (x.0, x.1, x.2)) (listed_once input a b) h g
 one_answer (build written) input a b (inl h) (inl g) = manifest_built_once written input a b h g
 one_answer (build written) input a b (inl h) (inr g) = absurd (no_fault g.0.kind g.0.line input h.0 h.1 g.2 g.1 h.2)
 one_answer (build written) input a b (inr g) (inl h) = absurd (no_fault g.0.kind g.0.line input h.0 h.1 g.2 g.1 h.2)
@@ -144,7 +149,5 @@ one_answer (cat path) input a b (inr (inl h)) (inr (inl g)) = copied_from_once p
 one_answer (cat path) input a b (inr (inl h)) (inr (inr (read, g))) = absurd (not_both input g.0 h.2 h.3 g.1 h.4)
 one_answer (cat path) input a b (inr (inr (read, h))) (inr (inl g)) = absurd (not_both input h.0 g.2 g.3 h.1 g.4)
 one_answer (cat path) input a b (inr (inr (read, h))) (inr (inr (also, g))) = refused_once input a b h g
-one_answer (convert kind) input a b (inl h) (inl g) = converted_once kind input a b h g
-one_answer (convert kind) input a b (inl h) (inr g) = absurd (not_both input g.0 h.0 h.1 g.1 h.2)
-one_answer (convert kind) input a b (inr h) (inl g) = absurd (not_both input h.0 g.0 g.1 h.1 g.2)
-one_answer (convert kind) input a b (inr h) (inr g) = refused_once input a b h g
+one_answer (convert kind) input a b h g =
+    image_once input a b (Converts kind input) (λ reply x. (x.0, x.1, x.2)) (converted_once kind input a b) h g

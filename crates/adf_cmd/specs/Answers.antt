@@ -1,5 +1,5 @@
 -- What the command answers to its words and its input.
-use Rattle.std.specs.Prelude.{◌≡◌, ◌≢◌, ◌++◌, ◌<◌, ◌-◌, ◌*◌, ◌⊎◌, ℕ, Bool, true, false, List, [], codes, Option, None, Some, option_map, if◌then◌else◌}
+use Rattle.std.specs.Prelude.{◌≡◌, ◌≢◌, ◌++◌, ◌<◌, ◌-◌, ◌*◌, ◌⊎◌, ℕ, Bool, true, false, List, [], codes, Option, None, Some, option_map}
 use Rattle.std.specs.Io.KnownBytes.{Appends}
 use Rattle.adf_blocks.specs.declared.layout.TheConstants.{MOST_BLOCKS}
 use Rattle.adf_fields.specs.declared.dates.Stamp.{Stamp}
@@ -12,12 +12,12 @@ use Rattle.adf_volume.specs.Layout.{Layout}
 use Rattle.adf_volume.specs.Walk.{FirstFault}
 use Rattle.adf_build.specs.Laid.{IsLaid, volume}
 use Rattle.adf_build.specs.Plan.{blocks_needed, planned}
-use Rattle.adf_build.specs.Building.{HasRoom, need_of}
+use Rattle.adf_build.specs.Building.{IsBuildable, need_of}
 use Rattle.adf_check.specs.Pieces.{bytes_of}
 use Rattle.adf_check.specs.Volumes.{counts_of}
 use Rattle.adf_check.specs.declared.fault.Fault.{Fault}
 use Rattle.adf_cmd.specs.CommandLine.{AsksFor, AreRefused, RequestValue, build, cat, check, convert, list}
-use Rattle.adf_cmd.specs.Listing.{listing}
+use Rattle.adf_cmd.specs.Listing.{image_or_lines}
 use Rattle.adf_manifest.specs.Manifest.{ExplainsFault, IsManifest, most_bytes}
 use Rattle.adf_cmd.specs.Streams.{AppendsPart, Says}
 use Rattle.adf_texts.specs.Lines.{fault_line, full_line, manifest_fault_line, ok_line}
@@ -49,11 +49,11 @@ Refuses input reply = (f : Fault) × FirstFault input f.block f.cause × (reply 
 
 -- the image that is laid of a tree in n blocks, or the lines of its words
 abbrev pub built_output : Bool → Tree → ℕ → List ℕ
-built_output lines tree n = if lines then listing (volume tree n) else volume tree n
+built_output lines tree n = image_or_lines lines (volume tree n)
 
 -- the tree has room in n blocks, and the image that is laid of it there is that of a sound volume of the tree
 pub record IsBuilt (tree : Tree) (n : ℕ) : Type 0 where
-  pub room : HasRoom tree n
+  pub room : IsBuildable tree n
   pub laid : IsLaid (volume tree n) tree
   pub fits : Fits (volume tree n) tree (planned tree n)
 
@@ -138,12 +138,9 @@ RequestsHaveOneAnswer = (r : RequestValue) (input : List ℕ) (a b : Reply) → 
 
 -- the most bytes of the input that belong to an answer: those of the largest image or manifest
 abbrev pub limit_of : Option RequestValue → ℕ
-limit_of (Some check) = 512 * MOST_BLOCKS
-limit_of (Some list) = 512 * MOST_BLOCKS
-limit_of (Some (cat path)) = 512 * MOST_BLOCKS
-limit_of (Some (build lines)) = most_bytes
-limit_of (Some (convert kind)) = 512 * MOST_BLOCKS
 limit_of None = 0
+limit_of (Some (build lines)) = most_bytes
+limit_of (Some _) = 512 * MOST_BLOCKS
 
 -- at a status other than 3: the words ask for a request, output and errors got an answer to it, or where errors failed a front part of it
 abbrev pub Answers : List (List ℕ) → List ℕ → ℕ → Option (List ℕ) → Option (List ℕ) → Bool → Option (List ℕ) → Option (List ℕ) → Type 0

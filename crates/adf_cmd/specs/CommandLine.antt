@@ -1,5 +1,6 @@
 -- The command line of `adf`, as clap reads it, and the request that its matches name.
-use Rattle.std.specs.Prelude.{◌≡◌, ◌⊎◌, List, [], Bool, true, false, Option, Some, None, codes, option_map, option_and_then, if◌then◌else◌}
+use Rattle.std.specs.Prelude.{◌≡◌, ◌⊎◌, ℕ, List, [], Bool, true, false, Option, Some, None, codes, map, option_map, option_and_then, if◌then◌else◌}
+use Rattle.std.specs.Borrow.{Bor}
 use Rattle.std.specs.Str.{bytes_eq}
 use Rattle.clap.specs.Words.{App, Row, Rule, Text, fault_of, first_of, new_app, new_rule, subcommand_of, with_rule, with_subcommand}
 use Rattle.clap.specs.declared.builder.action.ArgAction.TheVariants.{SetTrue}
@@ -76,6 +77,10 @@ met = option_and_then (λ p. request_named p.0 p.1)
 -- the request of the words, where clap takes them
 abbrev pub request_of : List Text → Option RequestValue
 request_of words = met (subcommand_of adf_app words)
+
+-- the texts of words
+abbrev pub texts_of : List (Bor (List ℕ)) → List Text
+texts_of words = map (λ w. w.now) words
 
 -- clap takes the words, and its matches name the request
 abbrev pub AsksFor : List Text → RequestValue → Type 0

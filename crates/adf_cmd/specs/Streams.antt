@@ -1,5 +1,5 @@
 -- What whole reads and writes take and add.
-use Rattle.std.specs.Prelude.{◌≡◌, ℕ, ◌≤◌, Bool, true, false, List, ◌++◌, length, Option, Result, Err}
+use Rattle.std.specs.Prelude.{◌≡◌, ℕ, ◌≤◌, Bool, true, false, List, ◌++◌, length, take, Option, IfSome, Result, Err}
 use Rattle.std.specs.Io.KnownBytes.{Appends, Consumes}
 use Rattle.adf_cmd.specs.declared.streams.StreamFault.{StreamFault}
 use Rattle.adf_cmd.specs.declared.streams.StreamFault.TheVariants.{Device}
@@ -7,6 +7,10 @@ use Rattle.adf_cmd.specs.declared.streams.StreamFault.TheVariants.{Device}
 -- at most n of the known bytes were taken
 abbrev pub TakesAtMost : ℕ → Option (List ℕ) → Option (List ℕ) → Type 0
 TakesAtMost n old new = (bs : List ℕ) × (length bs ≤ n) × Consumes old new bs
+
+-- the bytes are the first n of the known ones, or all where there are fewer
+abbrev pub AreFirst : ℕ → Option (List ℕ) → List ℕ → Type 0
+AreFirst n known bytes = IfSome known (λ all. bytes ≡ take n all)
 
 -- a front part of `whole` was added to the known bytes
 abbrev pub AppendsPart : Option (List ℕ) → Option (List ℕ) → List ℕ → Type 0

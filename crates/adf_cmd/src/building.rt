@@ -1,21 +1,19 @@
 // The command `build`.
 
-ghost use Rattle.std.specs.Prelude.{◌≡◌, ◌<◌, ◌^◌, ◌+◌, true, false, length, OnOk, OnErr, IfSome, Some, if◌then◌else◌};
+ghost use Rattle.std.specs.Prelude.{◌≡◌, ◌<◌, ◌^◌, true, false, length, OnOk, OnErr};
 ghost use Rattle.std.specs.Io.KnownBytes.{Appends};
 ghost use Rattle.adf_blocks.specs.Sizes.{is_allowed};
-ghost use Rattle.adf_cmd.specs.Answers.{limit_of};
 ghost use Rattle.adf_cmd.specs.CommandLine.{build};
-ghost use Rattle.adf_cmd.specs.Listing.{listing};
+ghost use Rattle.adf_cmd.specs.Listing.{image_or_lines};
 ghost use Rattle.adf_cmd.specs.Outcomes.{IsFaultOutcome, IsFullOutcome, TreeWorks, Works, is_read_fault, is_write_fault};
-ghost use Rattle.adf_cmd.specs.Streams.{AppendsPart, TakesAtMost, is_device};
+ghost use Rattle.adf_cmd.specs.Streams.{AppendsPart, is_device};
 
-use crate::devices::{Sink, Source};
-use crate::inputs::read_input;
+use crate::devices::Sink;
 use crate::listing::write_listing;
 use crate::outcome::Outcome;
 use crate::streams::{StreamFault, write_all};
 use adf_build::{BuildFault, build};
-use adf_manifest::{MOST_BYTES, ManifestFault, ManifestKind, read_manifest};
+use adf_manifest::{ManifestFault, ManifestKind, read_manifest};
 use adf_texts::{push_full, push_manifest_fault};
 use adf_tree::Tree;
 use std::alloc::Global;
@@ -29,8 +27,10 @@ fn write_image<W: Sink>(
 ) -> Result<(), StreamFault>
     requires works { W.has_failed output.old ≡ false }
     requires small { length image.now < 2 ^ 41 }
-    ensures ok { OnOk result (Appends (W.held output.old) (W.held output.new) (if lines then listing image.now else image.now)) }
-    ensures err { OnErr result (AppendsPart (W.held output.old) (W.held output.new) (if lines then listing image.now else image.now)) }
+    ensures ok { OnOk result
+        (Appends (W.held output.old) (W.held output.new) (image_or_lines lines image.now)) }
+    ensures err { OnErr result
+        (AppendsPart (W.held output.old) (W.held output.new) (image_or_lines lines image.now)) }
     ensures failed { W.has_failed output.new ≡ is_device result }
 {
     if lines {

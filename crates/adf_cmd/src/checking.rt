@@ -1,6 +1,6 @@
 // The command `check`.
 
-ghost use Rattle.std.specs.Prelude.{◌≡◌, ◌+◌, false, IfOk, IfSome, List, Some, string_bytes, true, ℕ};
+ghost use Rattle.std.specs.Prelude.{◌≡◌, ◌+◌, false, IfOk, List, Some, string_bytes, true, ℕ};
 ghost use Rattle.adf_tree.specs.Tree.{Tree};
 ghost use Rattle.adf_volume.specs.Layout.{Layout};
 ghost use Rattle.adf_volume.specs.Walk.{FirstFault};
@@ -13,7 +13,6 @@ ghost use Rattle.adf_texts.specs.Lines.{ok_line};
 
 use crate::devices::{Sink, Source};
 use crate::images::{MOST_IMAGE_BYTES, refused_line};
-use crate::inputs::read_input;
 use crate::outcome::Outcome;
 use crate::streams::{StreamFault, read_into, write_all};
 use adf_blocks::Cause;
@@ -50,7 +49,8 @@ fn acceptance(alloc: Global, volume: &Checked<'_>) -> Result<CheckAnswer, AllocE
 
 // The answer to an image with this first fault.
 fn refusal(alloc: Global, fault: Fault) -> Result<CheckAnswer, AllocError>
-    ensures { (image : List ℕ) → FirstFault image fault.block fault.cause → IfOk result (IsCheckAnswer image) }
+    ensures { (image : List ℕ) → FirstFault image fault.block fault.cause
+        → IfOk result (IsCheckAnswer image) }
 {
     let line = refused_line(alloc, fault)?;
     Ok(CheckAnswer { sound: false, line })
@@ -80,7 +80,8 @@ pub fn answer_to_input<R: Source>(
     ensures answer { IfOk result (IsCheckAnswerTo (R.left input.old)) }
     ensures failed { R.has_failed input.new ≡ is_device result }
     ensures reliable { R.may_fail input.old ≡ false → R.has_failed input.new ≡ false }
-    ensures at_most { TakesAtMost (limit_of (Some check) + 1) (R.left input.old) (R.left input.new) }
+    ensures at_most { TakesAtMost (limit_of (Some check) + 1)
+        (R.left input.old) (R.left input.new) }
 {
     let count = read_into(input, MOST_IMAGE_BYTES, buffer)?;
     let answer = answer_to_image(alloc, &buffer[..count])?;

@@ -1,9 +1,9 @@
 // The words of the command line, by clap.
 
-ghost use Rattle.std.specs.Prelude.{◌≡◌, IfOk, IfErr, false, true, ℕ, ◌==◌, List, [], ◌∷◌, codes, map, option_map};
+ghost use Rattle.std.specs.Prelude.{◌≡◌, IfOk, IfErr, false, true, ℕ, ◌==◌, List, [], ◌∷◌, codes, option_map};
 ghost use Rattle.clap.specs.Words.{app_of, first_of, found_of, rows_of, subcommand_rows_of};
 ghost use Rattle.clap.specs.declared.builder.command.Command.TheViews.{out-Command};
-ghost use Rattle.adf_cmd.specs.CommandLine.{AsksFor, ExplainsWords, AreRefused, adf_app, request_value, build, build_app, cat, cat_app, check, convert, convert_app, list, met, request_named};
+ghost use Rattle.adf_cmd.specs.CommandLine.{AsksFor, ExplainsWords, AreRefused, adf_app, request_value, build, build_app, cat, cat_app, check, convert, convert_app, list, met, request_named, texts_of};
 
 use adf_tree::Kind;
 use clap::error::ErrorKind;
@@ -81,7 +81,8 @@ fn first_text<'a>(found: &ArgMatches<'a>, id: &str) -> Option<&'a str>
 
 // The request that a subcommand's name and matches are.
 fn request_named<'a>(name: &str, found: &ArgMatches<'a>) -> Option<Request<'a>>
-    ensures { option_map request_value result ≡ request_named name.now (rows_of (found_of found.now)) }
+    ensures { option_map request_value result
+        ≡ request_named name.now (rows_of (found_of found.now)) }
 {
     if name == "check" {
         Some(Request::Check)
@@ -124,8 +125,9 @@ fn request_in<'a>(matches: &ArgMatches<'a>) -> Option<Request<'a>>
 /// Reads the words, of which the first is the program's name. `Usage` exactly where clap refuses them
 /// or its matches lack the command or its value, `NoMemory` where memory was refused.
 pub fn parse<'a>(alloc: Global, words: &'a [&str]) -> Result<Request<'a>, WordsFault>
-    ensures ok { IfOk result (λ request. AsksFor (map (λ w. w.now) words.entry.now) (request_value request)) }
-    ensures refused { IfErr result (λ fault. ExplainsWords fault (map (λ w. w.now) words.entry.now)) }
+    ensures ok { IfOk result (λ request.
+        AsksFor (texts_of words.entry.now) (request_value request)) }
+    ensures refused { IfErr result (λ fault. ExplainsWords fault (texts_of words.entry.now)) }
 {
     let adf = match command(alloc) {
         Ok(adf) => adf,
@@ -151,10 +153,14 @@ pub fn words_as_documented()
     ensures list { AsksFor (codes "adf" ∷ codes "list" ∷ []) list }
     ensures build { AsksFor (codes "adf" ∷ codes "build" ∷ []) (build false) }
     ensures build_list { AsksFor (codes "adf" ∷ codes "build" ∷ codes "--list" ∷ []) (build true) }
-    ensures convert_ofs { AsksFor (codes "adf" ∷ codes "convert" ∷ codes "ofs" ∷ []) (convert Kind.Ofs) }
-    ensures convert_ffs { AsksFor (codes "adf" ∷ codes "convert" ∷ codes "ffs" ∷ []) (convert Kind.Ffs) }
-    ensures cat { (first : ℕ) (rest : List ℕ) → (first == 45) ≡ false → AsksFor (codes "adf" ∷ codes "cat" ∷ (first ∷ rest) ∷ []) (cat (first ∷ rest)) }
-    ensures cat_any { (path : List ℕ) → AsksFor (codes "adf" ∷ codes "cat" ∷ codes "--" ∷ path ∷ []) (cat path) }
+    ensures convert_ofs { AsksFor (codes "adf" ∷ codes "convert" ∷ codes "ofs" ∷ [])
+        (convert Kind.Ofs) }
+    ensures convert_ffs { AsksFor (codes "adf" ∷ codes "convert" ∷ codes "ffs" ∷ [])
+        (convert Kind.Ffs) }
+    ensures cat { (first : ℕ) (rest : List ℕ) → (first == 45) ≡ false
+        → AsksFor (codes "adf" ∷ codes "cat" ∷ (first ∷ rest) ∷ []) (cat (first ∷ rest)) }
+    ensures cat_any { (path : List ℕ)
+        → AsksFor (codes "adf" ∷ codes "cat" ∷ codes "--" ∷ path ∷ []) (cat path) }
     ensures no_words { AreRefused [] }
     ensures no_command { AreRefused (codes "adf" ∷ []) }
     ensures unknown { AreRefused (codes "adf" ∷ codes "frob" ∷ []) }

@@ -1,18 +1,16 @@
 // The command `convert`.
 
-ghost use Rattle.std.specs.Prelude.{◌≡◌, ◌+◌, true, false, IfErr, IfOk, IfSome};
+ghost use Rattle.std.specs.Prelude.{◌≡◌, true, false, IfErr, IfOk};
 ghost use Rattle.adf_tree.specs.Tree.{with_kind};
 ghost use Rattle.adf_blocks.specs.Sizes.{blocks, is_allowed};
 ghost use Rattle.adf_volume.specs.Fits.{Fits};
 ghost use Rattle.adf_volume.specs.Layout.{Layout};
 ghost use Rattle.adf_cmd.specs.CommandLine.{convert};
 ghost use Rattle.adf_cmd.specs.Outcomes.{IsRefusedImage, TreeWorks, Works, is_read_fault, is_write_fault};
-ghost use Rattle.adf_cmd.specs.Streams.{TakesAtMost};
 
 use crate::building::build_tree;
-use crate::devices::{Sink, Source};
-use crate::images::{MOST_IMAGE_BYTES, volume_of};
-use crate::inputs::read_input;
+use crate::devices::Sink;
+use crate::images::volume_of;
 use crate::outcome::Outcome;
 use adf_tree::{Kind, Tree};
 use std::alloc::Global;
@@ -54,7 +52,8 @@ fn convert_tree<W: Sink>(
 ) -> Outcome
     requires works { W.has_failed output.old ≡ false }
     requires size { is_allowed blocks ≡ true }
-    ensures works { TreeWorks result false (with_kind tree kind) blocks (W.held output.old) (W.held output.new) }
+    ensures works { TreeWorks result false (with_kind tree kind) blocks
+        (W.held output.old) (W.held output.new) }
     ensures read { is_read_fault result ≡ false }
     ensures written { W.has_failed output.new ≡ is_write_fault result }
 {
@@ -78,7 +77,8 @@ pub fn convert_image<W: Sink>(alloc: Global, image: &[u8], kind: Kind, output: &
 /// Does so too, and lets the image go before the new one is built.
 pub fn convert_read<W: Sink>(alloc: Global, image: Vec<u8>, kind: Kind, output: &mut W) -> Outcome
     requires { W.has_failed output.old ≡ false }
-    ensures works { Works result (convert kind) image.items (W.held output.old) (W.held output.new) }
+    ensures works { Works result (convert kind) image.items
+        (W.held output.old) (W.held output.new) }
     ensures read { is_read_fault result ≡ false }
     ensures written { W.has_failed output.new ≡ is_write_fault result }
 {

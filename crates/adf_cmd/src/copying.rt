@@ -43,9 +43,12 @@ fn copy_piece<W: Sink>(
 ) -> Result<usize, Failed>
     requires works { W.has_failed output.old ≡ false }
     requires within { waiting ≤ length room.old }
-    ensures ok { IfOk result (λ n. KeepsPending (W.held output.old) (take waiting room.old ++ piece.now) (W.held output.new) (take n room.new)) }
+    ensures ok { IfOk result (λ n. KeepsPending
+        (W.held output.old) (take waiting room.old ++ piece.now)
+        (W.held output.new) (take n room.new)) }
     ensures within { IfOk result (λ n. n ≤ length room.new) }
-    ensures err { OnErr result (AppendsPart (W.held output.old) (W.held output.new) (take waiting room.old ++ piece.now)) }
+    ensures err { OnErr result (AppendsPart
+        (W.held output.old) (W.held output.new) (take waiting room.old ++ piece.now)) }
     ensures failed { W.has_failed output.new ≡ is_err result }
 {
     if piece.len() <= room.len() - waiting {
@@ -62,8 +65,10 @@ fn copy_piece<W: Sink>(
 // Writes the pieces of a file, one after the other, through a room.
 fn write_pieces<W: Sink>(pieces: Pieces<'_>, room: &mut [u8], output: &mut W) -> Result<(), Failed>
     requires { W.has_failed output.old ≡ false }
-    ensures ok { OnOk result (Appends (W.held output.old) (W.held output.new) (concat pieces.entry)) }
-    ensures err { OnErr result (AppendsPart (W.held output.old) (W.held output.new) (concat pieces.entry)) }
+    ensures ok { OnOk result
+        (Appends (W.held output.old) (W.held output.new) (concat pieces.entry)) }
+    ensures err { OnErr result
+        (AppendsPart (W.held output.old) (W.held output.new) (concat pieces.entry)) }
     ensures failed { W.has_failed output.new ≡ is_err result }
 {
     let mut waiting = 0;
@@ -77,8 +82,10 @@ fn write_pieces<W: Sink>(pieces: Pieces<'_>, room: &mut [u8], output: &mut W) ->
 fn write_through<const N: usize, W: Sink>(pieces: Pieces<'_>, output: &mut W) -> Result<(), Failed>
     requires small { N < 2 ^ 32 }
     requires works { W.has_failed output.old ≡ false }
-    ensures ok { OnOk result (Appends (W.held output.old) (W.held output.new) (concat pieces.entry)) }
-    ensures err { OnErr result (AppendsPart (W.held output.old) (W.held output.new) (concat pieces.entry)) }
+    ensures ok { OnOk result
+        (Appends (W.held output.old) (W.held output.new) (concat pieces.entry)) }
+    ensures err { OnErr result
+        (AppendsPart (W.held output.old) (W.held output.new) (concat pieces.entry)) }
     ensures failed { W.has_failed output.new ≡ is_err result }
 {
     let mut room = [0; N];
@@ -88,7 +95,8 @@ fn write_through<const N: usize, W: Sink>(pieces: Pieces<'_>, output: &mut W) ->
 // Writes the bytes of the file under a path.
 fn copy_file<W: Sink>(volume: &Checked<'_>, names: &[Name], output: &mut W) -> Outcome
     requires { W.has_failed output.old ≡ false }
-    ensures works { (t : Tree) (l : Layout) → StandsFor volume.now t l → CopyWorks result (contents_at t names.now) (W.held output.old) (W.held output.new) }
+    ensures works { (t : Tree) (l : Layout) → StandsFor volume.now t l
+        → CopyWorks result (contents_at t names.now) (W.held output.old) (W.held output.new) }
     ensures read { is_read_fault result ≡ false }
     ensures written { W.has_failed output.new ≡ is_write_fault result }
 {
@@ -107,7 +115,8 @@ fn copy_file<W: Sink>(volume: &Checked<'_>, names: &[Name], output: &mut W) -> O
 /// Checks an image, and writes the bytes of the file under a path.
 pub fn cat_image<W: Sink>(alloc: Global, image: &[u8], names: &[Name], output: &mut W) -> Outcome
     requires { W.has_failed output.old ≡ false }
-    ensures works { (path : List ℕ) → IsPathText path names.now → Works result (cat path) image.now (W.held output.old) (W.held output.new) }
+    ensures works { (path : List ℕ) → IsPathText path names.now
+        → Works result (cat path) image.now (W.held output.old) (W.held output.new) }
     ensures read { is_read_fault result ≡ false }
     ensures written { W.has_failed output.new ≡ is_write_fault result }
 {

@@ -29,7 +29,8 @@ pub trait Source {
         ensures count { ReadsAtMost result buf.new }
         ensures bytes { ReadConsumes (left self.old) (left self.new) result buf.new }
         ensures failed { has_failed self.new ≡ is_err result }
-        ensures reliable { may_fail self.old ≡ false → (may_fail self.new ≡ false) × (is_err result ≡ false) };
+        ensures reliable { may_fail self.old ≡ false
+            → (may_fail self.new ≡ false) × (is_err result ≡ false) };
 
     /// Whether a read answered `Failed`.
     fn failed(&self) -> bool

@@ -1,8 +1,8 @@
 // The input of a command.
 
-ghost use Rattle.std.specs.Prelude.{◌≡◌, ◌+◌, ◌<◌, ◌^◌, false, IfErr, IfOk, IfSome, OnOk, take};
+ghost use Rattle.std.specs.Prelude.{◌≡◌, ◌+◌, ◌<◌, ◌^◌, false, IfErr, IfOk, OnOk};
 ghost use Rattle.adf_cmd.specs.Outcomes.{LacksInput, is_read_fault, is_write_fault};
-ghost use Rattle.adf_cmd.specs.Streams.{TakesAtMost};
+ghost use Rattle.adf_cmd.specs.Streams.{AreFirst, TakesAtMost};
 
 use crate::devices::Source;
 use crate::outcome::Outcome;
@@ -13,7 +13,7 @@ use std::alloc::Global;
 pub fn read_input<R: Source>(alloc: Global, input: &mut R, limit: usize) -> Result<Vec<u8>, Outcome>
     requires limited { limit < 2 ^ 63 }
     requires works { R.has_failed input.old ≡ false }
-    ensures all { IfOk result (λ all. IfSome (R.left input.old) (λ bytes. all.items ≡ take (limit + 1) bytes)) }
+    ensures all { IfOk result (λ all. AreFirst (limit + 1) (R.left input.old) all.items) }
     ensures at_most { TakesAtMost (limit + 1) (R.left input.old) (R.left input.new) }
     ensures works { OnOk result (R.has_failed input.new ≡ false) }
     ensures unread { IfErr result LacksInput }

@@ -3,7 +3,7 @@
 ghost use Rattle.std.specs.Prelude.{◌≡◌, ◌+◌, ◌*◌, ◌<◌, ◌≤◌, ◌^◌, ◌++◌, false, IfOk, OnOk, OnErr, length};
 ghost use Rattle.std.specs.Io.KnownBytes.{Appends};
 ghost use Rattle.adf_fields.specs.Words.{block};
-ghost use Rattle.adf_cmd.specs.Listing.{line_of_word, lines_of, listing};
+ghost use Rattle.adf_cmd.specs.Listing.{line_of_word, lines_of, lines_of_block, listing};
 ghost use Rattle.adf_cmd.specs.Streams.{AppendsPart, KeepsPending, is_device};
 
 use crate::devices::Sink;
@@ -43,8 +43,11 @@ fn list_block<W: Sink>(
 ) -> Result<(), StreamFault>
     requires works { W.has_failed output.old ≡ false }
     requires whole { b * 512 + 512 ≤ length image.now }
-    ensures ok { OnOk result (KeepsPending (W.held output.old) (text.old.items ++ lines_of b (block image.now b) 128) (W.held output.new) text.new.items) }
-    ensures err { OnErr result (AppendsPart (W.held output.old) (W.held output.new) (text.old.items ++ lines_of b (block image.now b) 128)) }
+    ensures ok { OnOk result (KeepsPending
+        (W.held output.old) (text.old.items ++ lines_of_block image.now b)
+        (W.held output.new) text.new.items) }
+    ensures err { OnErr result (AppendsPart
+        (W.held output.old) (W.held output.new) (text.old.items ++ lines_of_block image.now b)) }
     ensures failed { W.has_failed output.new ≡ is_device result }
 {
     let block = Block::at(image, b).unwrap();
@@ -63,7 +66,8 @@ pub fn write_listing<W: Sink>(
     requires works { W.has_failed output.old ≡ false }
     requires small { length image.now < 2 ^ 41 }
     ensures ok { OnOk result (Appends (W.held output.old) (W.held output.new) (listing image.now)) }
-    ensures err { OnErr result (AppendsPart (W.held output.old) (W.held output.new) (listing image.now)) }
+    ensures err { OnErr result
+        (AppendsPart (W.held output.old) (W.held output.new) (listing image.now)) }
     ensures failed { W.has_failed output.new ≡ is_device result }
 {
     let mut text = Vec::new(alloc);

@@ -9,7 +9,8 @@ use adf_check::check;
 use adf_tree::Tree;
 use std::alloc::Global;
 
-/// Builds a tree in a volume of so many blocks, checks the image, and answers the tree of the checked volume: it is the tree given.
+/// Builds a tree in a volume of so many blocks, checks the image, and answers the tree of the checked volume: it is the
+/// tree given.
 /// The image that was built is never refused but for want of memory.
 pub fn build_and_read(alloc: Global, tree: &Tree, blocks: u32) -> Result<Tree, BuildFault>
     ensures same { IfOk result (λ t. t ≡ tree.now) }

@@ -1,8 +1,8 @@
 // The whole command.
 
-ghost use Rattle.std.specs.Prelude.{◌≡◌, ◌≤◌, ◌+◌, true, false, codes, length, map, IfSome};
+ghost use Rattle.std.specs.Prelude.{◌≡◌, ◌≤◌, ◌+◌, true, false, codes, length, IfSome};
 ghost use Rattle.adf_cmd.specs.Answers.{Answers, AnswersPart, AsksBadPath, IsUnanswered, RequestsHaveOneAnswer, WordsAskForOneRequest, failure_line, limit_of, usage_line};
-ghost use Rattle.adf_cmd.specs.CommandLine.{AreRefused, request_of};
+ghost use Rattle.adf_cmd.specs.CommandLine.{AreRefused, request_of, texts_of};
 ghost use Rattle.adf_cmd.specs.Outcomes.{outcome_line, status_of};
 ghost use Rattle.adf_cmd.specs.Streams.{Says, TakesAtMost};
 ghost use Rattle.adf_cmd.specs.Work.{refusal_line, refusal_status};
@@ -17,7 +17,8 @@ use std::alloc::Global;
 fn finish<E: Sink>(outcome: &Outcome, errors: &mut E) -> u8
     requires { E.has_failed errors.old ≡ false }
     ensures status { result ≡ status_of outcome.now }
-    ensures said { Says (E.has_failed errors.new) (E.held errors.old) (E.held errors.new) (outcome_line outcome.now) }
+    ensures said { Says (E.has_failed errors.new) (E.held errors.old) (E.held errors.new)
+        (outcome_line outcome.now) }
 {
     say(errors, outcome.line());
     outcome.status()
@@ -27,7 +28,8 @@ fn finish<E: Sink>(outcome: &Outcome, errors: &mut E) -> u8
 fn refuse<E: Sink>(fault: WorkFault, errors: &mut E) -> u8
     requires { E.has_failed errors.old ≡ false }
     ensures status { result ≡ refusal_status fault }
-    ensures said { Says (E.has_failed errors.new) (E.held errors.old) (E.held errors.new) (refusal_line fault) }
+    ensures said { Says (E.has_failed errors.new) (E.held errors.old) (E.held errors.new)
+        (refusal_line fault) }
 {
     say(errors, fault.line());
     fault.status()
@@ -37,7 +39,8 @@ fn refuse<E: Sink>(fault: WorkFault, errors: &mut E) -> u8
 pub fn refuse_words<E: Sink>(errors: &mut E) -> u8
     requires { E.has_failed errors.old ≡ false }
     ensures status { result ≡ 2 }
-    ensures said { Says (E.has_failed errors.new) (E.held errors.old) (E.held errors.new) usage_line }
+    ensures said { Says (E.has_failed errors.new) (E.held errors.old) (E.held errors.new)
+        usage_line }
 {
     refuse(WorkFault::Usage, errors)
 }
@@ -61,26 +64,35 @@ pub fn run<R: Source, W: Sink, E: Sink>(
     ensures status { result ≤ 3 }
 
     // Where the words are taken, at a status other than 3 the answer is the defined one.
-    ensures answer { ¬ AreRefused (map (λ w. w.now) words.now) → ¬ (result ≡ 3) → IfSome (R.left input.old) (λ bytes.
-        Answers (map (λ w. w.now) words.now) bytes result (W.held output.old) (W.held output.new) (E.has_failed errors.new) (E.held errors.old) (E.held errors.new)) }
-    ensures words { ¬ (result ≡ 2) → ¬ (result ≡ 3) → ¬ IsUnanswered (map (λ w. w.now) words.now) }
+    ensures answer { ¬ AreRefused (texts_of words.now) → ¬ (result ≡ 3)
+        → IfSome (R.left input.old) (λ bytes. Answers (texts_of words.now) bytes result
+        (W.held output.old) (W.held output.new)
+        (E.has_failed errors.new) (E.held errors.old) (E.held errors.new)) }
+    ensures words { ¬ (result ≡ 2) → ¬ (result ≡ 3) → ¬ IsUnanswered (texts_of words.now) }
 
     // At status 2 the words are refused or their path is not read, and nothing was read or written.
-    ensures usage { result ≡ 2 → IsUnanswered (map (λ w. w.now) words.now) }
-    ensures bad_path { result ≡ 2 → AsksBadPath (map (λ w. w.now) words.now)
-        → Says (E.has_failed errors.new) (E.held errors.old) (E.held errors.new) (codes "bad path\n") }
-    ensures refused { result ≡ 2 → AreRefused (map (λ w. w.now) words.now)
+    ensures usage { result ≡ 2 → IsUnanswered (texts_of words.now) }
+    ensures bad_path { result ≡ 2 → AsksBadPath (texts_of words.now)
+        → Says (E.has_failed errors.new) (E.held errors.old) (E.held errors.new)
+        (codes "bad path\n") }
+    ensures refused { result ≡ 2 → AreRefused (texts_of words.now)
         → Says (E.has_failed errors.new) (E.held errors.old) (E.held errors.new) usage_line }
     ensures untouched { result ≡ 2 → (input.new ≡ input.old) × (output.new ≡ output.old) }
 
-    // At status 3 errors tell what failed, and output has a front part of an answer: nothing where input failed, so that output has not.
+    // At status 3 errors tell what failed, and output has a front part of an answer: nothing where input failed, so that
+    // output has not.
     ensures read_failed { R.has_failed input.new ≡ true → result ≡ 3 }
     ensures write_failed { W.has_failed output.new ≡ true → result ≡ 3 }
     ensures unwritten { R.has_failed input.new ≡ true → output.new ≡ output.old }
-    ensures failure { result ≡ 3 → Says (E.has_failed errors.new) (E.held errors.old) (E.held errors.new) (failure_line (R.has_failed input.new) (W.has_failed output.new)) }
-    ensures part { result ≡ 3 → IfSome (R.left input.old) (λ bytes. AnswersPart (map (λ w. w.now) words.now) (R.has_failed input.new) bytes (W.held output.old) (W.held output.new)) }
+    ensures failure { result ≡ 3
+        → Says (E.has_failed errors.new) (E.held errors.old) (E.held errors.new)
+        (failure_line (R.has_failed input.new) (W.has_failed output.new)) }
+    ensures part { result ≡ 3 → IfSome (R.left input.old) (λ bytes.
+        AnswersPart (texts_of words.now) (R.has_failed input.new) bytes
+        (W.held output.old) (W.held output.new)) }
 
-    ensures at_most { TakesAtMost (limit_of (request_of (map (λ w. w.now) words.now)) + 1) (R.left input.old) (R.left input.new) }
+    ensures at_most { TakesAtMost (limit_of (request_of (texts_of words.now)) + 1)
+        (R.left input.old) (R.left input.new) }
 {
     match work_of(alloc, words) {
         Ok(work) => finish(&work.on_input(alloc, input, output), errors),
@@ -111,25 +123,31 @@ pub fn run_on<W: Sink, E: Sink>(
     ensures within { result.taken ≤ length input.now }
 
     // Where the words are taken, at a status other than 3 the answer is the defined one.
-    ensures answer { ¬ AreRefused (map (λ w. w.now) words.now) → ¬ (result.status ≡ 3) → Answers (map (λ w. w.now) words.now) input.now
-        result.status (W.held output.old) (W.held output.new) (E.has_failed errors.new) (E.held errors.old) (E.held errors.new) }
-    ensures words { ¬ (result.status ≡ 2) → ¬ (result.status ≡ 3) → ¬ IsUnanswered (map (λ w. w.now) words.now) }
+    ensures answer { ¬ AreRefused (texts_of words.now) → ¬ (result.status ≡ 3)
+        → Answers (texts_of words.now) input.now result.status
+        (W.held output.old) (W.held output.new)
+        (E.has_failed errors.new) (E.held errors.old) (E.held errors.new) }
+    ensures words { ¬ (result.status ≡ 2) → ¬ (result.status ≡ 3)
+        → ¬ IsUnanswered (texts_of words.now) }
 
     // At status 2 the words are refused or their path is not read, and nothing was looked at or written.
-    ensures usage { result.status ≡ 2 → IsUnanswered (map (λ w. w.now) words.now) }
-    ensures bad_path { result.status ≡ 2 → AsksBadPath (map (λ w. w.now) words.now)
-        → Says (E.has_failed errors.new) (E.held errors.old) (E.held errors.new) (codes "bad path\n") }
-    ensures refused { result.status ≡ 2 → AreRefused (map (λ w. w.now) words.now)
+    ensures usage { result.status ≡ 2 → IsUnanswered (texts_of words.now) }
+    ensures bad_path { result.status ≡ 2 → AsksBadPath (texts_of words.now)
+        → Says (E.has_failed errors.new) (E.held errors.old) (E.held errors.new)
+        (codes "bad path\n") }
+    ensures refused { result.status ≡ 2 → AreRefused (texts_of words.now)
         → Says (E.has_failed errors.new) (E.held errors.old) (E.held errors.new) usage_line }
     ensures untouched { result.status ≡ 2 → (result.taken ≡ 0) × (output.new ≡ output.old) }
 
     // At status 3 errors tell what failed, and output has a front part of an answer.
     ensures write_failed { W.has_failed output.new ≡ true → result.status ≡ 3 }
     ensures failure { result.status ≡ 3
-        → Says (E.has_failed errors.new) (E.held errors.old) (E.held errors.new) (failure_line false (W.has_failed output.new)) }
-    ensures part { result.status ≡ 3 → AnswersPart (map (λ w. w.now) words.now) false input.now (W.held output.old) (W.held output.new) }
+        → Says (E.has_failed errors.new) (E.held errors.old) (E.held errors.new)
+        (failure_line false (W.has_failed output.new)) }
+    ensures part { result.status ≡ 3
+        → AnswersPart (texts_of words.now) false input.now (W.held output.old) (W.held output.new) }
 
-    ensures at_most { result.taken ≤ limit_of (request_of (map (λ w. w.now) words.now)) + 1 }
+    ensures at_most { result.taken ≤ limit_of (request_of (texts_of words.now)) + 1 }
 {
     match work_of(alloc, words) {
         Ok(work) => Ran {

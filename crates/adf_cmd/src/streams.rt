@@ -1,8 +1,8 @@
 // Whole reads and writes over devices.
 
-ghost use Rattle.std.specs.Prelude.{◌≡◌, [], ◌+◌, ◌<◌, ◌≤◌, ◌^◌, false, is_err, IfOk, List, OnOk, OnErr, Option, IfSome, length, take, vec_len, ℕ};
+ghost use Rattle.std.specs.Prelude.{◌≡◌, [], ◌+◌, ◌<◌, ◌≤◌, ◌^◌, false, is_err, IfOk, List, OnOk, OnErr, Option, length, take, vec_len, ℕ};
 ghost use Rattle.std.specs.Io.KnownBytes.{Appends, Consumes, IsAtEnd, Keeps};
-ghost use Rattle.adf_cmd.specs.Streams.{AppendsPart, KeepsPending, Says, TakesAtMost, is_device};
+ghost use Rattle.adf_cmd.specs.Streams.{AppendsPart, AreFirst, KeepsPending, Says, TakesAtMost, is_device};
 
 use crate::devices::{Failed, Sink, Source};
 use std::alloc::{AllocError, Global};
@@ -75,14 +75,16 @@ fn read_behind<R: Source>(
     requires room { filled < end }
     requires inside { end ≤ length buffer.old }
     requires works { R.has_failed input.old ≡ false }
-    ensures bytes { IfOk result (λ n. (start : Option (List ℕ)) → Consumes start (R.left input.old) (take filled buffer.old)
+    ensures bytes { IfOk result (λ n. (start : Option (List ℕ))
+        → Consumes start (R.left input.old) (take filled buffer.old)
         → Consumes start (R.left input.new) (take (filled + n) buffer.new)) }
     ensures within { IfOk result (λ n. filled + n ≤ end) }
     ensures end { IfOk result (λ n. n ≡ 0 → IsAtEnd (R.left input.new)) }
     ensures kept { OnErr result (Keeps (R.left input.old) (R.left input.new)) }
     ensures len { length buffer.new ≡ length buffer.old }
     ensures failed { R.has_failed input.new ≡ is_err result }
-    ensures reliable { R.may_fail input.old ≡ false → (R.may_fail input.new ≡ false) × (is_err result ≡ false) }
+    ensures reliable { R.may_fail input.old ≡ false
+        → (R.may_fail input.new ≡ false) × (is_err result ≡ false) }
 {
     match input.read(&mut buffer[filled..end]) {
         Ok(count) => Ok(count),
@@ -100,7 +102,8 @@ pub fn read_into<R: Source>(
 ) -> Result<usize, StreamFault>
     requires limited { limit < 2 ^ 63 }
     requires works { R.has_failed input.old ≡ false }
-    ensures all { IfOk result (λ n. IfSome (R.left input.old) (λ bytes. take n buffer.new.items ≡ take (limit + 1) bytes)) }
+    ensures all { IfOk result (λ n.
+        AreFirst (limit + 1) (R.left input.old) (take n buffer.new.items)) }
     ensures within { IfOk result (λ n. n ≤ vec_len buffer.new) }
     ensures at_most { TakesAtMost (limit + 1) (R.left input.old) (R.left input.new) }
     ensures failed { R.has_failed input.new ≡ is_device result }
@@ -128,7 +131,7 @@ pub fn read_all<R: Source>(
 ) -> Result<Vec<u8>, StreamFault>
     requires limited { limit < 2 ^ 63 }
     requires works { R.has_failed input.old ≡ false }
-    ensures all { IfOk result (λ all. IfSome (R.left input.old) (λ bytes. all.items ≡ take (limit + 1) bytes)) }
+    ensures all { IfOk result (λ all. AreFirst (limit + 1) (R.left input.old) all.items) }
     ensures at_most { TakesAtMost (limit + 1) (R.left input.old) (R.left input.new) }
     ensures failed { R.has_failed input.new ≡ is_device result }
 {
@@ -172,8 +175,10 @@ pub fn say<E: Sink>(errors: &mut E, text: &str)
 /// Writes the text that waits once it is long; then none waits.
 pub(crate) fn flush_long<W: Sink>(output: &mut W, text: &mut Vec<u8>) -> Result<(), Failed>
     requires { W.has_failed output.old ≡ false }
-    ensures ok { OnOk result (KeepsPending (W.held output.old) text.old.items (W.held output.new) text.new.items) }
-    ensures err { OnErr result (AppendsPart (W.held output.old) (W.held output.new) text.old.items) }
+    ensures ok { OnOk result (KeepsPending
+        (W.held output.old) text.old.items (W.held output.new) text.new.items) }
+    ensures err { OnErr result
+        (AppendsPart (W.held output.old) (W.held output.new) text.old.items) }
     ensures failed { W.has_failed output.new ≡ is_err result }
 {
     if text.len() < CHUNK {

@@ -1,21 +1,20 @@
 // The command `list`.
 
-ghost use Rattle.std.specs.Prelude.{◌≡◌, ◌++◌, ◌+◌, ℕ, List, false, IfOk, IfSome, OnOk, OnErr, length, true};
+ghost use Rattle.std.specs.Prelude.{◌≡◌, ◌++◌, ◌+◌, false, IfOk, OnOk, OnErr, length};
 ghost use Rattle.std.specs.Io.KnownBytes.{Appends};
-ghost use Rattle.adf_fields.specs.declared.dates.Stamp.{Stamp};
 ghost use Rattle.adf_tree.specs.Paths.{names_of};
 ghost use Rattle.adf_tree.specs.Tree.{Tree};
 ghost use Rattle.adf_blocks.specs.Sizes.{blocks};
 ghost use Rattle.adf_volume.specs.Layout.{Layout};
 ghost use Rattle.adf_check.specs.Volumes.{StandsFor};
-ghost use Rattle.adf_texts.specs.VolumeLines.{AreDates, lines_of_entries, lines_of_entry, opening_lines, volume_lines};
+ghost use Rattle.adf_texts.specs.VolumeLines.{lines_of_entries, lines_of_entry, opening_lines, volume_lines};
 ghost use Rattle.adf_cmd.specs.CommandLine.{list};
 ghost use Rattle.adf_cmd.specs.Outcomes.{Works, is_read_fault, is_write_fault};
-ghost use Rattle.adf_cmd.specs.Streams.{AppendsPart, KeepsPending, TakesAtMost, is_device};
+ghost use Rattle.adf_cmd.specs.Streams.{AppendsPart, KeepsPending, is_device};
+ghost use Rattle.adf_cmd.specs.VolumeListing.{InAnyDates};
 
-use crate::devices::{Sink, Source};
-use crate::images::{MOST_IMAGE_BYTES, volume_of};
-use crate::inputs::read_input;
+use crate::devices::Sink;
+use crate::images::volume_of;
 use crate::outcome::Outcome;
 use crate::streams::{StreamFault, flush_long, write_all};
 use adf_check::Checked;
@@ -26,7 +25,8 @@ use std::alloc::{AllocError, Global};
 // The names of a node from the root on.
 fn path_of(alloc: Global, volume: &Checked<'_>, n: Node) -> Result<Vec<Name>, AllocError>
     requires { (t : Tree) × (l : Layout) × StandsFor volume.now t l }
-    ensures { (t : Tree) (l : Layout) → StandsFor volume.now t l → IfOk result (λ path. path.items ≡ names_of t.entries n) }
+    ensures { (t : Tree) (l : Layout) → StandsFor volume.now t l
+        → IfOk result (λ path. path.items ≡ names_of t.entries n) }
 {
     let mut path = Vec::new(alloc);
     let mut node = n;
@@ -40,8 +40,8 @@ fn path_of(alloc: Global, volume: &Checked<'_>, n: Node) -> Result<Vec<Name>, Al
 
 // Appends the lines before those of the entries.
 fn push_opening(volume: &Checked<'_>, text: &mut Vec<u8>) -> Result<(), AllocError>
-    ensures { (date : Stamp → List ℕ) (t : Tree) (l : Layout) → AreDates date → StandsFor volume.now t l
-        → OnOk result (text.new.items ≡ text.old.items ++ opening_lines date t.kind t.label t.stamps (blocks volume.now.image)) }
+    ensures { InAnyDates volume.now (λ date t. OnOk result (text.new.items ≡ text.old.items
+        ++ opening_lines date t.kind t.label t.stamps (blocks volume.now.image))) }
 {
     let counts = volume.counts();
     push_opening_lines(
@@ -61,8 +61,8 @@ fn push_entry(
     text: &mut Vec<u8>,
 ) -> Result<(), AllocError>
     requires { (t : Tree) × (l : Layout) × StandsFor volume.now t l }
-    ensures { (date : Stamp → List ℕ) (t : Tree) (l : Layout) → AreDates date → StandsFor volume.now t l
-        → OnOk result (text.new.items ≡ text.old.items ++ lines_of_entry date t.entries n) }
+    ensures { InAnyDates volume.now (λ date t. OnOk result
+        (text.new.items ≡ text.old.items ++ lines_of_entry date t.entries n)) }
 {
     let Some(row) = volume.row(n) else {
         return Ok(());
@@ -81,10 +81,12 @@ fn list_entry<W: Sink>(
 ) -> Result<(), StreamFault>
     requires works { W.has_failed output.old ≡ false }
     requires stands { (t : Tree) × (l : Layout) × StandsFor volume.now t l }
-    ensures ok { (date : Stamp → List ℕ) (t : Tree) (l : Layout) → AreDates date → StandsFor volume.now t l
-        → OnOk result (KeepsPending (W.held output.old) (text.old.items ++ lines_of_entry date t.entries n) (W.held output.new) text.new.items) }
-    ensures err { (date : Stamp → List ℕ) (t : Tree) (l : Layout) → AreDates date → StandsFor volume.now t l
-        → OnErr result (AppendsPart (W.held output.old) (W.held output.new) (text.old.items ++ lines_of_entry date t.entries n)) }
+    ensures ok { InAnyDates volume.now (λ date t. OnOk result (KeepsPending
+        (W.held output.old) (text.old.items ++ lines_of_entry date t.entries n)
+        (W.held output.new) text.new.items)) }
+    ensures err { InAnyDates volume.now (λ date t. OnErr result (AppendsPart
+        (W.held output.old) (W.held output.new)
+        (text.old.items ++ lines_of_entry date t.entries n))) }
     ensures failed { W.has_failed output.new ≡ is_device result }
 {
     push_entry(alloc, volume, n, text)?;
@@ -101,10 +103,12 @@ fn write_entries<W: Sink>(
 ) -> Result<(), StreamFault>
     requires works { W.has_failed output.old ≡ false }
     requires stands { (t : Tree) × (l : Layout) × StandsFor volume.now t l }
-    ensures ok { (date : Stamp → List ℕ) (t : Tree) (l : Layout) → AreDates date → StandsFor volume.now t l
-        → OnOk result (Appends (W.held output.old) (W.held output.new) (text.items ++ lines_of_entries date t.entries (length t.entries))) }
-    ensures err { (date : Stamp → List ℕ) (t : Tree) (l : Layout) → AreDates date → StandsFor volume.now t l
-        → OnErr result (AppendsPart (W.held output.old) (W.held output.new) (text.items ++ lines_of_entries date t.entries (length t.entries))) }
+    ensures ok { InAnyDates volume.now (λ date t. OnOk result (Appends
+        (W.held output.old) (W.held output.new)
+        (text.items ++ lines_of_entries date t.entries (length t.entries)))) }
+    ensures err { InAnyDates volume.now (λ date t. OnErr result (AppendsPart
+        (W.held output.old) (W.held output.new)
+        (text.items ++ lines_of_entries date t.entries (length t.entries)))) }
     ensures failed { W.has_failed output.new ≡ is_device result }
 {
     for i in 0..volume.len() {
@@ -122,10 +126,10 @@ fn write_volume<W: Sink>(
 ) -> Result<(), StreamFault>
     requires works { W.has_failed output.old ≡ false }
     requires stands { (t : Tree) × (l : Layout) × StandsFor volume.now t l }
-    ensures ok { (date : Stamp → List ℕ) (t : Tree) (l : Layout) → AreDates date → StandsFor volume.now t l
-        → OnOk result (Appends (W.held output.old) (W.held output.new) (volume_lines date t (blocks volume.now.image))) }
-    ensures err { (date : Stamp → List ℕ) (t : Tree) (l : Layout) → AreDates date → StandsFor volume.now t l
-        → OnErr result (AppendsPart (W.held output.old) (W.held output.new) (volume_lines date t (blocks volume.now.image))) }
+    ensures ok { InAnyDates volume.now (λ date t. OnOk result (Appends
+        (W.held output.old) (W.held output.new) (volume_lines date t (blocks volume.now.image)))) }
+    ensures err { InAnyDates volume.now (λ date t. OnErr result (AppendsPart
+        (W.held output.old) (W.held output.new) (volume_lines date t (blocks volume.now.image)))) }
     ensures failed { W.has_failed output.new ≡ is_device result }
 {
     let mut text = Vec::new(alloc);

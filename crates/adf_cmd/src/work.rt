@@ -1,8 +1,8 @@
 // What a command does, once its words and its path are read.
 
-ghost use Rattle.std.specs.Prelude.{◌≡◌, ◌+◌, ◌<◌, ◌^◌, false, IfErr, IfOk, IfSome, Some, map, true};
+ghost use Rattle.std.specs.Prelude.{◌≡◌, ◌+◌, ◌<◌, ◌^◌, false, IfErr, IfOk, IfSome, Some, true};
 ghost use Rattle.adf_cmd.specs.Answers.{limit_of};
-ghost use Rattle.adf_cmd.specs.CommandLine.{AsksFor, RequestValue, request_value};
+ghost use Rattle.adf_cmd.specs.CommandLine.{AsksFor, RequestValue, request_value, texts_of};
 ghost use Rattle.adf_cmd.specs.Outcomes.{Works, is_read_fault, is_write_fault};
 ghost use Rattle.adf_cmd.specs.Streams.{TakesAtMost};
 ghost use Rattle.adf_cmd.specs.Work.{IsNoWork, IsNoWorkOf, Serves, refusal_line, refusal_status};
@@ -91,8 +91,9 @@ fn work_for(alloc: Global, request: Request<'_>) -> Result<Work, WorkFault>
 
 /// The work that words ask for, of which the first is the program's name.
 pub fn work_of(alloc: Global, words: &[&str]) -> Result<Work, WorkFault>
-    ensures ok { IfOk result (λ work. (r : RequestValue) × AsksFor (map (λ w. w.now) words.now) r × Serves work r) }
-    ensures fault { IfErr result (λ fault. IsNoWork fault (map (λ w. w.now) words.now)) }
+    ensures ok { IfOk result (λ work. (r : RequestValue)
+        × AsksFor (texts_of words.now) r × Serves work r) }
+    ensures fault { IfErr result (λ fault. IsNoWork fault (texts_of words.now)) }
 {
     match parse(alloc, words) {
         Ok(request) => work_for(alloc, request),
@@ -116,7 +117,8 @@ impl Work {
     /// Does the work on the bytes of an input where they lie.
     pub fn on<W: Sink>(&self, alloc: Global, bytes: &[u8], output: &mut W) -> Outcome
         requires { W.has_failed output.old ≡ false }
-        ensures works { (r : RequestValue) → Serves self.now r → Works result r bytes.now (W.held output.old) (W.held output.new) }
+        ensures works { (r : RequestValue) → Serves self.now r
+            → Works result r bytes.now (W.held output.old) (W.held output.new) }
         ensures read { is_read_fault result ≡ false }
         ensures written { W.has_failed output.new ≡ is_write_fault result }
     {
@@ -132,7 +134,8 @@ impl Work {
     // Does the work on bytes that were read, and lets them go where they are no longer wanted.
     fn on_read<W: Sink>(&self, alloc: Global, bytes: Vec<u8>, output: &mut W) -> Outcome
         requires { W.has_failed output.old ≡ false }
-        ensures works { (r : RequestValue) → Serves self.now r → Works result r bytes.items (W.held output.old) (W.held output.new) }
+        ensures works { (r : RequestValue) → Serves self.now r
+            → Works result r bytes.items (W.held output.old) (W.held output.new) }
         ensures read { is_read_fault result ≡ false }
         ensures written { W.has_failed output.new ≡ is_write_fault result }
     {
@@ -152,11 +155,13 @@ impl Work {
         requires reads { R.has_failed input.old ≡ false }
         requires writes { W.has_failed output.old ≡ false }
         ensures works { (r : RequestValue) → Serves self.now r
-            → IfSome (R.left input.old) (λ bytes. Works result r bytes (W.held output.old) (W.held output.new)) }
+            → IfSome (R.left input.old) (λ bytes.
+            Works result r bytes (W.held output.old) (W.held output.new)) }
         ensures read { R.has_failed input.new ≡ is_read_fault result }
         ensures written { W.has_failed output.new ≡ is_write_fault result }
         ensures unwritten { is_read_fault result ≡ true → output.new ≡ output.old }
-        ensures at_most { (r : RequestValue) → Serves self.now r → TakesAtMost (limit_of (Some r) + 1) (R.left input.old) (R.left input.new) }
+        ensures at_most { (r : RequestValue) → Serves self.now r
+            → TakesAtMost (limit_of (Some r) + 1) (R.left input.old) (R.left input.new) }
     {
         match read_input(alloc, input, self.limit()) {
             Ok(bytes) => self.on_read(alloc, bytes, output),

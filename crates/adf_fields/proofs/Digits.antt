@@ -1,5 +1,5 @@
 -- Numbers below 100 in two digits.
-use Rattle.std.proofs.Common.{◌≡◌, ℕ, ◌+◌, ◌-◌, ◌/◌, ◌%◌, ◌^◌, ◌<◌, List, [], arith, refl, inl, inr, false, decimal}
+use Rattle.std.proofs.Common.{◌≡◌, ℕ, ◌+◌, ◌-◌, ◌/◌, ◌%◌, ◌^◌, ◌<◌, List, [], arith, refl, inl, inr, false, true, sym, decimal}
 use Rattle.std.specs.Fmt.{padded_integral, char_count, format_spec}
 use Rattle.std.proofs.lemmas.Bool.{cases_lt}
 use Rattle.std.proofs.lemmas.Fmt.{decimal_digit, decimal_step}
@@ -8,9 +8,8 @@ use Rattle.jiff.specs.Types.{Date}
 use Rattle.jiff.specs.Words.{epoch_day, IsYmd}
 use Rattle.jiff.proofs.SpanFacts.{signed_arith}
 use Rattle.jiff.proofs.OnLiterals.{jiff_on_literals}
-use Rattle.std.proofs.lemmas.Bool.{lt-ltb}
 use Rattle.adf_fields.specs.declared.dates.Stamp.{Stamp}
-use Rattle.adf_fields.specs.Dates.{two_digits, IsCivilDay, IsStampText, civil_text}
+use Rattle.adf_fields.specs.Dates.{two_digits, IsCivilDay, IsStampText, civil_text, is_civil}
 
 -- what `{:02}` writes of a number below 100
 pub two_places : (n : ℕ) → n < 100 → padded_integral (format_spec 32 0 4 2 (2 ^ 64 - 1)) false [] (decimal n) ≡ two_digits n
@@ -34,10 +33,5 @@ epoch_day_1970 d h =
     rw (h.0, month, day) refl
 
 -- the text of a date that has a civil one
-pub civil_case : (s : Stamp) (d : Date) (t : List ℕ) → s.days < 2929975 → s.mins < 1440 → s.ticks < 3000
-    → IsCivilDay (s.days + 2922) d → t ≡ civil_text d s → IsStampText s t
-civil_case s d t days mins ticks day e =
-    let a = lt-ltb s.days 2929975 days in
-    let b = lt-ltb s.mins 1440 mins in
-    let c = lt-ltb s.ticks 3000 ticks in
-    rw (a, b, c) (d, day, e)
+pub civil_case : (s : Stamp) (d : Date) (t : List ℕ) → true ≡ is_civil s → IsCivilDay (s.days + 2922) d → t ≡ civil_text d s → IsStampText s t
+civil_case s d t civil day e = rw (sym civil) (d, day, e)

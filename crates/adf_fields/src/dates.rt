@@ -1,7 +1,7 @@
 // Dates: days since 1978-01-01, minutes of the day, ticks of the minute.
 
 ghost use Rattle.std.specs.Prelude.{◌≡◌, ◌<◌, ◌+◌, ◌/◌, ◌%◌, ◌≤ℤ◌, pos, OnOk, OnErr, IfOk, string_bytes};
-ghost use Rattle.adf_fields.specs.Dates.{IsCivilDay, IsStampText, AppendsStampText, DatesHaveOneText, civil_text, plain_text};
+ghost use Rattle.adf_fields.specs.Dates.{IsCivilDay, IsStampText, AppendsStampText, DatesHaveOneText, civil_text, is_civil, plain_text};
 
 use crate::NoMemory;
 use jiff::ToSpan;
@@ -17,6 +17,13 @@ pub struct Stamp {
     pub mins: u32,
     /// Fiftieths of a second in the minute, 0 to 2999 where the date is a civil one.
     pub ticks: u32,
+}
+
+// Whether a date has a civil text: at most 9999-12-31, a minute of the day and a tick of the minute.
+fn is_civil(s: Stamp) -> bool
+    ensures { result ≡ is_civil s }
+{
+    s.days < 2_929_975 && s.mins < 1440 && s.ticks < 3000
 }
 
 // The civil date of a day since 1978-01-01, up to 9999-12-31.
@@ -50,7 +57,7 @@ fn plain(alloc: Global, s: Stamp) -> Result<String, AllocError>
 fn text_of(alloc: Global, s: Stamp) -> Result<String, AllocError>
     ensures { IfOk result (λ t. IsStampText s (string_bytes t)) }
 {
-    if s.days < 2_929_975 && s.mins < 1440 && s.ticks < 3000 {
+    if is_civil(s) {
         civil_text(alloc, s, civil_day(s.days))
     } else {
         plain(alloc, s)
@@ -138,7 +145,7 @@ fn civil_digits(s: Stamp, day: Date) -> [u8; 22]
 pub fn push_stamp(text: &mut Vec<u8>, s: Stamp) -> Result<(), AllocError>
     ensures { OnOk result (AppendsStampText s text.old.items text.new.items) }
 {
-    if s.days < 2_929_975 && s.mins < 1440 && s.ticks < 3000 {
+    if is_civil(s) {
         text.extend_from_slice(&civil_digits(s, civil_day(s.days)))
     } else {
         let plain = plain(*text.allocator(), s)?;

@@ -42,7 +42,9 @@ pub fn put_words(block: &mut [u8], i: usize, words: &[u32])
 pub fn put_words_down(block: &mut [u8], i: usize, words: &[u32])
     requires room { 4 * i + 4 ≤ length block.old }
     requires short { length words.now ≤ i + 1 }
-    ensures { block.new ≡ with_bytes block.old (4 * (i + 1 - length words.now)) (flat_map (big_bytes 4) (reverse words.now)) }
+    ensures { block.new
+        ≡ with_bytes block.old (4 * (i + 1 - length words.now))
+        (flat_map (big_bytes 4) (reverse words.now)) }
 {
     for (k, word) in words.iter().enumerate() {
         put_word(block, i - k, *word);

@@ -1,5 +1,6 @@
 -- Laws of hexadecimal digits.
 use Rattle.std.proofs.Common.{◌&&◌, true, ◌≡◌, ◌<◌, ◌^◌, ◌+◌, ◌*◌, ◌/◌, ◌%◌, ◌==◌, ◌++◌, ◌∙◌, ℕ, false, List, [], ◌∷◌, refl, ap, arith, length}
+use Rattle.std.proofs.Common.{get_or, zero, suc}
 use Rattle.std.specs.List.{All, list_all}
 use Rattle.std.proofs.lemmas.Bool.{and_from, and_parts}
 use Rattle.std.proofs.lemmas.Bool.Decides.{nat_tests}
@@ -104,3 +105,22 @@ one_word v w h g e =
     let c = one_pair (v / 256 % 256) (w / 256 % 256) _ _ (omega arith) (omega arith) b.1 in
     let d = one_pair (v % 256) (w % 256) [] [] (omega arith) (omega arith) c.1 in
     omega (arith, a.0, b.0, c.0, d.0)
+
+-- the bytes of digits, one by one
+pub unpaired_length : (text : List ℕ) → length (unpaired text) ≡ length text / 2
+unpaired_length [] = refl
+unpaired_length (high ∷ []) = refl
+unpaired_length (high ∷ low ∷ rest) = omega (arith, unpaired_length rest)
+
+pub unpaired_at : (text : List ℕ) (i a b : ℕ) → a ≡ 2 * i → b ≡ 2 * i + 1 → i < length text / 2
+    → get_or (unpaired text) i 0 ≡ 16 * digit (get_or text a 0) + digit (get_or text b 0)
+unpaired_at [] i a b even odd lt = absurd (omega (arith, lt))
+unpaired_at (high ∷ []) i a b even odd lt = absurd (omega (arith, lt))
+unpaired_at (high ∷ low ∷ rest) zero a b even odd lt =
+    let x : a ≡ 0 = omega (arith, even) in
+    let y : b ≡ 1 = omega (arith, odd) in
+    rw (x, y) refl
+unpaired_at (high ∷ low ∷ rest) (suc i) a b even odd lt =
+    let x : a ≡ suc (suc (2 * i)) = omega (arith, even) in
+    let y : b ≡ suc (suc (2 * i + 1)) = omega (arith, odd) in
+    rw (x, y) (unpaired_at rest i (2 * i) (2 * i + 1) refl refl (omega (arith, lt)))

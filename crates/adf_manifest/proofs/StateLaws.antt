@@ -9,9 +9,9 @@ use Rattle.adf_tree.specs.Escapes.{IsSpelling, escaped}
 use Rattle.adf_tree.specs.PathTexts.{IsPathText, path_text}
 use Rattle.std.specs.Option.{unwrap_or}
 use Rattle.adf_tree.specs.Draft.{DraftValue, IsRoomFor}
+use Rattle.adf_tree.specs.Meta.{new_meta}
 use Rattle.adf_tree.specs.Tree.{Tree, room_for, with_entry}
 use Rattle.adf_tree.specs.declared.entry.Body.{Body}
-use Rattle.adf_tree.specs.declared.entry.Meta.{Meta}
 use Rattle.adf_manifest.specs.Lines.{EntryLine, IsLine, IsRun, RunValue, DataRun, FillRun, entry_line, note_line, run_line, LineValue}
 use Rattle.adf_manifest.specs.Items.{IsItem, Item, body_of_sort, bytes_of_runs, run_bytes, with_item}
 use Rattle.adf_manifest.specs.Manifest.{Entries, IsManifestHead, IsWell, Manifest, MayStand, head_lines, head_tree, items_of, manifest_lines}
@@ -146,7 +146,7 @@ is_none (Some x) h = absurd cc
 -- an entry whose lines are all read is added as its item
 pub closed_is : (t : Tree) (o : Open) (i : Item) (comment : List ℕ) (body : Body) → IsOpen o i
     → comment ≡ unwrap_or o.note [] → body ≡ body_of_sort o.sort o.bytes.items
-    → let meta : Meta = record { comment = comment; protect = o.protect; stamp = o.stamp } in with_entry t i.path meta body ≡ with_item t i
+    → with_entry t i.path (new_meta comment o.protect o.stamp) body ≡ with_item t i
 closed_is t o i comment body g e2 e3 =
     rw (e2, g.note, g.protect, g.stamp, e3, g.sort, g.bytes)
 

@@ -6,6 +6,7 @@ use Rattle.adf_fields.specs.declared.dates.Stamp.{Stamp}
 use Rattle.adf_tree.specs.Escapes.{IsSpelling, escaped}
 use Rattle.adf_tree.specs.PathTexts.{IsName, path_text}
 use Rattle.adf_tree.specs.Additions.{Addition}
+use Rattle.adf_tree.specs.Meta.{new_meta}
 use Rattle.adf_tree.specs.Tree.{Tree, room_for, with_entry}
 use Rattle.adf_tree.specs.declared.entry.Body.{Body}
 use Rattle.adf_tree.specs.declared.entry.Body.TheVariants as body
@@ -63,7 +64,7 @@ body_of_sort File bytes = body.File bytes
 
 -- the comment, protection bits and date of an entry
 abbrev pub item_meta : Item → Meta
-item_meta i = record { comment = unwrap_or i.note []; protect = i.protect; stamp = i.stamp }
+item_meta i = new_meta (unwrap_or i.note []) i.protect i.stamp
 
 -- what an entry is: a directory, or a file of its runs' bytes
 abbrev pub item_body : Item → Body

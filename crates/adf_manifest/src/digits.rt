@@ -1,6 +1,6 @@
 // Hexadecimal digits.
 
-ghost use Rattle.std.specs.Prelude.{◌≡◌, ◌≢◌, ◌<◌, ◌^◌, ◌++◌, ◌∷◌, [], ℕ, List, IfSome, IfNone, IfOk, All, length, true};
+ghost use Rattle.std.specs.Prelude.{◌≡◌, ◌≢◌, ◌<◌, ◌^◌, ◌/◌, ◌++◌, ◌∷◌, [], ℕ, List, IfSome, IfNone, IfOk, All, length, true};
 ghost use Rattle.std.specs.List.{list_all};
 ghost use Rattle.adf_manifest.specs.Texts.{digit, hex_word, is_digit, pair, pairs, unpaired};
 
@@ -30,7 +30,8 @@ impl<'a> Digits<'a> {
     pub fn read(text: &'a [u8]) -> Option<Digits<'a>>
         ensures some { IfSome result (λ bytes. text.now ≡ pairs bytes) }
         ensures bytes { IfSome result (All (λ b. b < 256)) }
-        ensures none { IfNone result ((bytes : List ℕ) → All (λ b. b < 256) bytes → text.now ≢ pairs bytes) }
+        ensures none { IfNone result ((bytes : List ℕ) → All (λ b. b < 256) bytes
+            → text.now ≢ pairs bytes) }
     {
         if text.len() % 2 == 0 && are_digits(text) {
             Some(Digits { text })
@@ -118,16 +119,25 @@ fn digit(c: u8) -> u8
     if c <= b'9' { c - b'0' } else { c - b'a' + 10 }
 }
 
-// Appends the bytes whose digits a text is; where memory is refused, a part of them may stand.
+// Writes the bytes whose digits a text is.
+fn write_pairs(bytes: &mut [u8], text: &[u8])
+    requires digits { list_all is_digit text.now ≡ true }
+    requires length { length bytes.old ≡ length text.now / 2 }
+    ensures { bytes.new ≡ unpaired text.now }
+{
+    for i in 0..bytes.len() {
+        bytes[i] = 16 * digit(text[2 * i]) + digit(text[2 * i + 1]);
+    }
+}
+
+// Appends the bytes whose digits a text is; where memory is refused, the bytes stay.
 fn push_pairs(bytes: &mut Vec<u8>, text: &[u8]) -> Result<(), AllocError>
     requires { list_all is_digit text.now ≡ true }
     ensures { IfOk result (λ _. bytes.new.items ≡ bytes.old.items ++ unpaired text.now) }
 {
-    bytes.reserve(text.len() / 2)?;
-    let mut rest = text;
-    while let [high, low, more @ ..] = rest {
-        bytes.push(16 * digit(*high) + digit(*low))?;
-        rest = more;
-    }
+    let start = bytes.len();
+    let end = start + text.len() / 2;
+    bytes.resize(end, 0)?;
+    write_pairs(&mut bytes[start..end], text);
     Ok(())
 }

@@ -51,7 +51,8 @@ pub enum Line<'a> {
 
 // The text of a label line.
 fn label_text(line: &[u8]) -> Option<&[u8]>
-    ensures some { IfSome result (λ text. (0 < length text.now) × (line.now ≡ label_line text.now)) }
+    ensures some { IfSome result (λ text. (0 < length text.now)
+        × (line.now ≡ label_line text.now)) }
     ensures none { IfNone result ((text : List ℕ) → 0 < length text → line.now ≢ label_line text) }
 {
     let text = after(line, b"label ")?;
@@ -70,7 +71,8 @@ fn note_text(line: &[u8]) -> Option<&[u8]>
 // The stamps of a stamps line.
 fn stamps_of(line: &[u8]) -> Option<Stamps>
     ensures some { IfSome result (λ stamps. AreStamps stamps × (line.now ≡ stamps_line stamps)) }
-    ensures none { IfNone result ((stamps : StampsValue) → AreStamps stamps → line.now ≢ stamps_line stamps) }
+    ensures none { IfNone result ((stamps : StampsValue) → AreStamps stamps
+        → line.now ≢ stamps_line stamps) }
 {
     let text = after(line, b"stamps ")?;
     read_stamps(text)
@@ -79,7 +81,8 @@ fn stamps_of(line: &[u8]) -> Option<Stamps>
 // The word that an entry line begins with, and the rest of the line.
 fn sort_of(line: &[u8]) -> Option<(Sort, &[u8])>
     ensures some { IfSome result (λ r. line.now ≡ sort_text r.0 ++ r.1.now) }
-    ensures none { IfNone result ((sort : SortValue) (rest : List ℕ) → line.now ≢ sort_text sort ++ rest) }
+    ensures none { IfNone result ((sort : SortValue) (rest : List ℕ)
+        → line.now ≢ sort_text sort ++ rest) }
 {
     match after(line, b"dir ") {
         Some(rest) => Some((Sort::Dir, rest)),
@@ -93,9 +96,11 @@ fn sort_of(line: &[u8]) -> Option<(Sort, &[u8])>
 // What stands behind the word of an entry line.
 fn fields_of(sort: Sort, text: &[u8]) -> Option<EntryText<'_>>
     ensures sort { IfSome result (λ e. e.sort ≡ sort) }
-    ensures form { IfSome result (λ e. IsStamp e.stamp × (e.protect < 2 ^ 32) × (0 < length e.path.now)) }
+    ensures form { IfSome result (λ e. IsStamp e.stamp × (e.protect < 2 ^ 32)
+        × (0 < length e.path.now)) }
     ensures some { IfSome result (λ e. text.now ≡ fields_text e.stamp e.protect e.path.now) }
-    ensures none { IfNone result ((stamp : StampValue) (protect : ℕ) (path : List ℕ) → IsStamp stamp → protect < 2 ^ 32 → 0 < length path → text.now ≢ fields_text stamp protect path) }
+    ensures none { IfNone result ((stamp : StampValue) (protect : ℕ) (path : List ℕ) → IsStamp stamp
+        → protect < 2 ^ 32 → 0 < length path → text.now ≢ fields_text stamp protect path) }
 {
     let (stamp, protect, path) = cut_twice(text, b' ')?;
     let stamp = read_stamp(stamp)?;
@@ -113,9 +118,12 @@ fn fields_of(sort: Sort, text: &[u8]) -> Option<EntryText<'_>>
 
 // What an entry line tells.
 fn entry_of(line: &[u8]) -> Option<EntryText<'_>>
-    ensures form { IfSome result (λ e. IsStamp e.stamp × (e.protect < 2 ^ 32) × (0 < length e.path.now)) }
+    ensures form { IfSome result (λ e. IsStamp e.stamp × (e.protect < 2 ^ 32)
+        × (0 < length e.path.now)) }
     ensures some { IfSome result (λ e. line.now ≡ entry_line e.sort e.stamp e.protect e.path.now) }
-    ensures none { IfNone result ((sort : SortValue) (stamp : StampValue) (protect : ℕ) (path : List ℕ) → IsStamp stamp → protect < 2 ^ 32 → 0 < length path → line.now ≢ entry_line sort stamp protect path) }
+    ensures none { IfNone result
+        ((sort : SortValue) (stamp : StampValue) (protect : ℕ) (path : List ℕ) → IsStamp stamp
+        → protect < 2 ^ 32 → 0 < length path → line.now ≢ entry_line sort stamp protect path) }
 {
     let (sort, rest) = sort_of(line)?;
     fields_of(sort, rest)
@@ -124,7 +132,8 @@ fn entry_of(line: &[u8]) -> Option<EntryText<'_>>
 // The digits of a data line.
 fn data_of(line: &[u8]) -> Option<Digits<'_>>
     ensures some { IfSome result (λ bytes. (line.now ≡ data_line bytes) × IsRun (DataRun bytes)) }
-    ensures none { IfNone result ((bytes : List ℕ) → IsRun (DataRun bytes) → line.now ≢ data_line bytes) }
+    ensures none { IfNone result ((bytes : List ℕ) → IsRun (DataRun bytes)
+        → line.now ≢ data_line bytes) }
 {
     let text = after(line, b"data ")?;
     if text.is_empty() {
@@ -136,7 +145,8 @@ fn data_of(line: &[u8]) -> Option<Digits<'_>>
 // The number and the byte of a fill line.
 fn fill_of(line: &[u8]) -> Option<(u32, u8)>
     ensures some { IfSome result (λ r. (line.now ≡ fill_line r.0 r.1) × IsRun (FillRun r.0 r.1)) }
-    ensures none { IfNone result ((count byte : ℕ) → IsRun (FillRun count byte) → line.now ≢ fill_line count byte) }
+    ensures none { IfNone result ((count byte : ℕ) → IsRun (FillRun count byte)
+        → line.now ≢ fill_line count byte) }
 {
     let text = after(line, b"fill ")?;
     let (count, byte) = cut_at(text, b' ')?;

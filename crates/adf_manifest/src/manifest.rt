@@ -97,7 +97,8 @@ impl Error for ManifestFault {}
 
 // The first line of a text, and what stands behind its line feed.
 fn next_line(text: &[u8]) -> (&[u8], Option<&[u8]>)
-    ensures { between_feeds text.now ≡ result.0.now ∷ lines_behind (option_map (λ rest. rest.now) result.1) }
+    ensures { between_feeds text.now
+        ≡ result.0.now ∷ lines_behind (option_map (λ rest. rest.now) result.1) }
 {
     match cut_at(text, b'\n') {
         Some((line, rest)) => (line, Some(rest)),
@@ -120,7 +121,8 @@ fn fault_at(number: usize, kind: ManifestKind) -> ManifestFault
 // Reads the lines of a text, whose last line has no line feed.
 fn read_lines(alloc: Global, text: &[u8]) -> Result<State, ManifestFault>
     requires { length text.now ≤ most_bytes }
-    ensures lines { IfOk result (λ s. (m : Manifest) × IsWell m × StateMatches s m × (between_feeds text.now ≡ manifest_lines m)) }
+    ensures lines { IfOk result (λ s. (m : Manifest) × IsWell m × StateMatches s m
+        × (between_feeds text.now ≡ manifest_lines m)) }
     ensures fault { IfErr result (λ f. ExplainsLines f.kind f.line (between_feeds text.now)) }
 {
     let (line, mut left) = next_line(text);

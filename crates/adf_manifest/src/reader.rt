@@ -110,7 +110,8 @@ fn with_label(head: Head, text: &[u8]) -> Result<Head, ManifestKind>
     requires place { (head.label ≡ None) × (head.stamps ≡ None) }
     ensures head { IsManifestHead head → IfOk result IsManifestHead }
     ensures lines { IfOk result (λ h. head_lines h ≡ head_lines head ++ label_line text.now ∷ []) }
-    ensures fault { IfErr result (λ kind. (kind ≡ ManifestKind.BadText) × HasBadText (LabelLine text.now)) }
+    ensures fault { IfErr result (λ kind. (kind ≡ ManifestKind.BadText)
+        × HasBadText (LabelLine text.now)) }
 {
     match Label::read(text) {
         Some(label) => Ok(Head {
@@ -165,7 +166,8 @@ fn tree_of(alloc: Global, head: Head) -> Draft
 // What is told of an entry by its own line alone, where the tree has room for it.
 fn opened(alloc: Global, draft: &Draft, line: EntryText) -> Result<Open, ManifestKind>
     requires form { IsLine (entry_value line) }
-    ensures fields { IfOk result (λ o. (o.sort ≡ line.entry.sort) × (o.stamp ≡ line.entry.stamp) × (o.protect ≡ line.entry.protect) × (o.note ≡ None) × (o.bytes.items ≡ [])) }
+    ensures fields { IfOk result (λ o. (o.sort ≡ line.entry.sort) × (o.stamp ≡ line.entry.stamp)
+        × (o.protect ≡ line.entry.protect) × (o.note ≡ None) × (o.bytes.items ≡ [])) }
     ensures room { IfOk result (λ o. (path : List (List ℕ)) × IsPathText line.entry.path.now path
         × IsRoomFor draft.now path o.room) }
     ensures fault { IfErr result (λ kind. StopsIn draft.now.tree (entry_value line.entry) kind) }
@@ -215,15 +217,12 @@ fn note_or_none(note: Option<Comment>) -> Comment
 // Adds an entry whose lines are all read, in its room.
 fn close(alloc: Global, draft: &mut Draft, last: &mut Open) -> Result<(), ManifestKind>
     requires room { (path : List (List ℕ)) × IsRoomFor draft.old path last.old.room }
-    ensures tree { IfOk result (λ _. (i : Item) → IsOpen last.old i → IsRoomFor draft.old i.path last.old.room
+    ensures tree { IfOk result (λ _. (i : Item) → IsOpen last.old i
+        → IsRoomFor draft.old i.path last.old.room
         → draft.new.tree ≡ with_item draft.old.tree i) }
     ensures err { IfErr result (λ kind. kind ≡ ManifestKind.NoMemory) }
 {
-    let meta = Meta {
-        comment: note_or_none(last.note.take()),
-        protect: last.protect,
-        stamp: last.stamp,
-    };
+    let meta = Meta::new(note_or_none(last.note.take()), last.protect, last.stamp);
     let bytes = mem::replace(&mut last.bytes, Vec::new(alloc));
     let body = body_of_sort(last.sort, bytes);
     match draft.put(&last.room, meta, body) {
@@ -235,7 +234,8 @@ fn close(alloc: Global, draft: &mut Draft, last: &mut Open) -> Result<(), Manife
 // The state behind the first entry line.
 fn first_entry(alloc: Global, head: Head, line: EntryText) -> Result<State, ManifestKind>
     requires form { IsLine (entry_value line) }
-    ensures lines { IsWell (bare head) → IfOk result (λ s. GoesOn s (bare head) (line_text (entry_value line.entry))) }
+    ensures lines { IsWell (bare head)
+        → IfOk result (λ s. GoesOn s (bare head) (line_text (entry_value line.entry))) }
     ensures fault { IfErr result (λ kind. StopsIn (head_tree head) (entry_value line.entry) kind) }
 {
     let blocks = head.blocks;
@@ -252,8 +252,11 @@ fn first_entry(alloc: Global, head: Head, line: EntryText) -> Result<State, Mani
 fn next_entry(alloc: Global, reading: &mut Reading, line: EntryText) -> Result<(), ManifestKind>
     requires form { IsLine (entry_value line) }
     requires told { (m : Manifest) × (e : Entries) × IsReading reading.old m e }
-    ensures lines { (m : Manifest) (e : Entries) → IsWell m → IsReading reading.old m e → IfOk result (λ _. GoesOn (State.Entries reading.new) m (line_text (entry_value line.entry))) }
-    ensures fault { (m : Manifest) (e : Entries) → IsReading reading.old m e → IfErr result (λ kind. StopsIn (manifest_tree m) (entry_value line.entry) kind) }
+    ensures lines { (m : Manifest) (e : Entries) → IsWell m → IsReading reading.old m e
+        → IfOk result (λ _.
+        GoesOn (State.Entries reading.new) m (line_text (entry_value line.entry))) }
+    ensures fault { (m : Manifest) (e : Entries) → IsReading reading.old m e
+        → IfErr result (λ kind. StopsIn (manifest_tree m) (entry_value line.entry) kind) }
 {
     close(alloc, &mut reading.draft, &mut reading.last)?;
     match opened(alloc, &reading.draft, line) {
@@ -268,8 +271,10 @@ fn next_entry(alloc: Global, reading: &mut Reading, line: EntryText) -> Result<(
 // Reads a note line.
 fn take_note(reading: &mut Reading, text: &[u8]) -> Result<(), ManifestKind>
     requires form { 0 < length text.now }
-    ensures lines { (m : Manifest) (e : Entries) → IsWell m → IsReading reading.old m e → IfOk result (λ _. GoesOn (State.Entries reading.new) m (line_text (NoteLine text.now))) }
-    ensures fault { (m : Manifest) (e : Entries) → IsWell m → IsReading reading.old m e → IfErr result (λ kind. Stops m (NoteLine text.now) kind) }
+    ensures lines { (m : Manifest) (e : Entries) → IsWell m → IsReading reading.old m e
+        → IfOk result (λ _. GoesOn (State.Entries reading.new) m (line_text (NoteLine text.now))) }
+    ensures fault { (m : Manifest) (e : Entries) → IsWell m → IsReading reading.old m e
+        → IfErr result (λ kind. Stops m (NoteLine text.now) kind) }
 {
     if reading.last.note.is_some() || !reading.last.bytes.is_empty() {
         return Err(ManifestKind::BadLine);
@@ -297,7 +302,8 @@ fn push_copies(bytes: &mut Vec<u8>, count: u32, byte: u8) -> Result<(), Manifest
 // Appends what a line gives; where memory is refused, a part of it may stand.
 fn push_run(bytes: &mut Vec<u8>, run: Run) -> Result<(), ManifestKind>
     requires form { IsRun (run_value run) }
-    ensures bytes { IfOk result (λ _. bytes.new.items ≡ bytes.old.items ++ run_bytes (run_value run.entry)) }
+    ensures bytes { IfOk result (λ _.
+        bytes.new.items ≡ bytes.old.items ++ run_bytes (run_value run.entry)) }
     ensures err { IfErr result (λ kind. kind ≡ ManifestKind.NoMemory) }
 {
     match run {
@@ -309,8 +315,11 @@ fn push_run(bytes: &mut Vec<u8>, run: Run) -> Result<(), ManifestKind>
 // Reads a line of bytes.
 fn take_run(reading: &mut Reading, run: Run) -> Result<(), ManifestKind>
     requires form { IsRun (run_value run) }
-    ensures lines { (m : Manifest) (e : Entries) → IsWell m → IsReading reading.old m e → IfOk result (λ _. GoesOn (State.Entries reading.new) m (line_text (RunLine (run_value run.entry)))) }
-    ensures fault { (m : Manifest) (e : Entries) → IsReading reading.old m e → IfErr result (λ kind. Stops m (RunLine (run_value run.entry)) kind) }
+    ensures lines { (m : Manifest) (e : Entries) → IsWell m → IsReading reading.old m e
+        → IfOk result (λ _.
+        GoesOn (State.Entries reading.new) m (line_text (RunLine (run_value run.entry)))) }
+    ensures fault { (m : Manifest) (e : Entries) → IsReading reading.old m e
+        → IfErr result (λ kind. Stops m (RunLine (run_value run.entry)) kind) }
 {
     match reading.last.sort {
         Sort::Dir => Err(ManifestKind::BadLine),
@@ -324,7 +333,8 @@ fn take_run(reading: &mut Reading, run: Run) -> Result<(), ManifestKind>
 // The state behind a line of this form, where no entry line was.
 fn line_in_head(alloc: Global, head: Head, line: Line) -> Result<State, ManifestKind>
     requires form { IsLine (line_value line) }
-    ensures lines { IsWell (bare head) → IfOk result (λ s. GoesOn s (bare head) (line_text (line_value line.entry))) }
+    ensures lines { IsWell (bare head)
+        → IfOk result (λ s. GoesOn s (bare head) (line_text (line_value line.entry))) }
     ensures fault { IfErr result (λ kind. Stops (bare head) (line_value line.entry) kind) }
 {
     match line {
@@ -349,8 +359,11 @@ fn line_in_head(alloc: Global, head: Head, line: Line) -> Result<State, Manifest
 fn line_in_entries(alloc: Global, reading: &mut Reading, line: Line) -> Result<(), ManifestKind>
     requires form { IsLine (line_value line) }
     requires told { (m : Manifest) × (e : Entries) × IsReading reading.old m e }
-    ensures lines { (m : Manifest) (e : Entries) → IsWell m → IsReading reading.old m e → IfOk result (λ _. GoesOn (State.Entries reading.new) m (line_text (line_value line.entry))) }
-    ensures fault { (m : Manifest) (e : Entries) → IsWell m → IsReading reading.old m e → IfErr result (λ kind. Stops m (line_value line.entry) kind) }
+    ensures lines { (m : Manifest) (e : Entries) → IsWell m → IsReading reading.old m e
+        → IfOk result (λ _.
+        GoesOn (State.Entries reading.new) m (line_text (line_value line.entry))) }
+    ensures fault { (m : Manifest) (e : Entries) → IsWell m → IsReading reading.old m e
+        → IfErr result (λ kind. Stops m (line_value line.entry) kind) }
 {
     match line {
         Line::Entry(entry) => next_entry(alloc, reading, entry),
@@ -362,7 +375,8 @@ fn line_in_entries(alloc: Global, reading: &mut Reading, line: Line) -> Result<(
 
 /// The state behind the first line.
 pub fn first_state(line: &[u8]) -> Result<State, ManifestKind>
-    ensures lines { IfOk result (λ s. (m : Manifest) × IsWell m × StateMatches s m × (manifest_lines m ≡ line.now ∷ [])) }
+    ensures lines { IfOk result (λ s. (m : Manifest) × IsWell m × StateMatches s m
+        × (manifest_lines m ≡ line.now ∷ [])) }
     ensures fault { IfErr result (λ kind. IsFirstFault line.now kind) }
 {
     Ok(State::Head(read_volume(line)?))
@@ -371,8 +385,10 @@ pub fn first_state(line: &[u8]) -> Result<State, ManifestKind>
 /// Reads a further line.
 pub fn next_state(alloc: Global, state: &mut State, line: &[u8]) -> Result<(), ManifestKind>
     requires told { (m : Manifest) × StateMatches state.old m }
-    ensures lines { (m : Manifest) → IsWell m → StateMatches state.old m → IfOk result (λ _. GoesOn state.new m line.now) }
-    ensures fault { (m : Manifest) → IsWell m → StateMatches state.old m → IfErr result (λ kind. StopsAt m line.now kind) }
+    ensures lines { (m : Manifest) → IsWell m → StateMatches state.old m
+        → IfOk result (λ _. GoesOn state.new m line.now) }
+    ensures fault { (m : Manifest) → IsWell m → StateMatches state.old m
+        → IfErr result (λ kind. StopsAt m line.now kind) }
 {
     let Some(line) = line_of(line) else {
         return Err(ManifestKind::BadLine);
@@ -401,7 +417,8 @@ fn finished(alloc: Global, draft: Draft, blocks: u32) -> Result<(Tree, u32), Man
 /// The tree and the number of blocks that the lines tell.
 pub fn finish(alloc: Global, state: State) -> Result<(Tree, u32), ManifestKind>
     requires told { (m : Manifest) × StateMatches state m }
-    ensures told { (m : Manifest) → IsWell m → StateMatches state m → IfOk result (λ r. (r.0 ≡ manifest_tree m) × (r.1 ≡ m.head.blocks)) }
+    ensures told { (m : Manifest) → IsWell m → StateMatches state m
+        → IfOk result (λ r. (r.0 ≡ manifest_tree m) × (r.1 ≡ m.head.blocks)) }
     ensures err { IfErr result (λ kind. kind ≡ ManifestKind.NoMemory) }
 {
     match state {

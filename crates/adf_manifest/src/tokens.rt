@@ -21,7 +21,8 @@ pub fn after<'a>(text: &'a [u8], prefix: &[u8]) -> Option<&'a [u8]>
 
 /// What stands before and after the first of these bytes.
 pub fn cut_at<'a>(text: &'a [u8], byte: u8) -> Option<(&'a [u8], &'a [u8])>
-    ensures some { IfSome result (λ r. (text.now ≡ r.0.now ++ byte ∷ r.1.now) × LacksByte byte r.0.now) }
+    ensures some { IfSome result (λ r. (text.now ≡ r.0.now ++ byte ∷ r.1.now)
+        × LacksByte byte r.0.now) }
     ensures none { IfNone result (LacksByte byte text.now) }
 {
     let at = text.iter().position(|c| *c == byte)?;
@@ -30,8 +31,10 @@ pub fn cut_at<'a>(text: &'a [u8], byte: u8) -> Option<(&'a [u8], &'a [u8])>
 
 /// The three parts around the first two of these bytes.
 pub fn cut_twice<'a>(text: &'a [u8], byte: u8) -> Option<(&'a [u8], &'a [u8], &'a [u8])>
-    ensures some { IfSome result (λ r. (text.now ≡ r.0.now ++ byte ∷ (r.1.now ++ byte ∷ r.2.now)) × LacksByte byte r.0.now × LacksByte byte r.1.now) }
-    ensures none { IfNone result ((a b c : List ℕ) → LacksByte byte a → LacksByte byte b → text.now ≢ a ++ byte ∷ (b ++ byte ∷ c)) }
+    ensures some { IfSome result (λ r. (text.now ≡ r.0.now ++ byte ∷ (r.1.now ++ byte ∷ r.2.now))
+        × LacksByte byte r.0.now × LacksByte byte r.1.now) }
+    ensures none { IfNone result ((a b c : List ℕ) → LacksByte byte a → LacksByte byte b
+        → text.now ≢ a ++ byte ∷ (b ++ byte ∷ c)) }
 {
     let (first, rest) = cut_at(text, byte)?;
     let (second, third) = cut_at(rest, byte)?;

@@ -1,7 +1,8 @@
 // The words of the command line, by clap.
 
-ghost use Rattle.std.specs.Prelude.{◌≡◌, ◌==◌, IfOk, IfErr, ℕ, List, [], ◌∷◌, codes, false, map, option_map, true, unwrap_or};
+ghost use Rattle.std.specs.Prelude.{◌≡◌, ◌==◌, IfOk, IfErr, ℕ, List, [], ◌∷◌, codes, false, option_map, true, unwrap_or};
 ghost use Rattle.clap.specs.Words.{all_of, app_of, first_of, found_of, rows_of};
+ghost use Rattle.adf_cmd.specs.CommandLine.{texts_of};
 ghost use Rattle.adf_shelf_cmd.specs.CommandLine.{AsksShelf, ExplainsShelfWords, AreRefusedByShelf, is_true, order_in, shelf_app};
 
 use adf_cmd::WordsFault;
@@ -20,11 +21,12 @@ pub struct Order<'a> {
 }
 
 impl<'a> Model for Order<'a> {
-    ghost use Rattle.std.specs.Prelude.{Bool, List, map, ℕ};
+    ghost use Rattle.std.specs.Prelude.{Bool, List, ℕ};
+    ghost use Rattle.adf_cmd.specs.CommandLine.{texts_of};
 
     ghost Value = { Bool × List (List ℕ) };
 
-    ghost view = { λ o. (o.null, map (λ f. f.now) o.files.items) };
+    ghost view = { λ o. (o.null, texts_of o.files.items) };
 }
 
 // The command line. Words of help are refused as any others are, so that clap lays out no text for them.
@@ -48,7 +50,8 @@ fn first_text<'a>(found: &ArgMatches<'a>, id: &str) -> Option<&'a str>
 
 // The values of an argument.
 fn all_texts<'m, 'a>(found: &'m ArgMatches<'a>, id: &str) -> Option<&'m [&'a str]>
-    ensures { option_map (λ s. map (λ v. v.now) s.now) result ≡ all_of id.now (rows_of (found_of found.entry.now)) }
+    ensures { option_map (λ s. texts_of s.now) result
+        ≡ all_of id.now (rows_of (found_of found.entry.now)) }
 {
     found.get_raw(id)
 }
@@ -65,7 +68,7 @@ fn has_null(found: &ArgMatches<'_>) -> bool
 
 // The names.
 fn names_in<'a>(alloc: Global, found: &ArgMatches<'a>) -> Result<Vec<&'a str>, AllocError>
-    ensures { IfOk result (λ names. map (λ n. n.now) names.items
+    ensures { IfOk result (λ names. texts_of names.items
         ≡ unwrap_or (all_of (codes "files") (rows_of (found_of found.now))) []) }
 {
     match all_texts(found, "files") {
@@ -86,8 +89,8 @@ fn order_in<'a>(alloc: Global, found: &ArgMatches<'a>) -> Result<Order<'a>, Allo
 /// Reads the words, of which the first is the program's name. `Usage` exactly where clap refuses them,
 /// `NoMemory` where memory was refused.
 pub fn parse<'a>(alloc: Global, words: &'a [&str]) -> Result<Order<'a>, WordsFault>
-    ensures ok { IfOk result (λ order. AsksShelf (map (λ w. w.now) words.entry.now) order) }
-    ensures refused { IfErr result (λ fault. ExplainsShelfWords fault (map (λ w. w.now) words.entry.now)) }
+    ensures ok { IfOk result (λ order. AsksShelf (texts_of words.entry.now) order) }
+    ensures refused { IfErr result (λ fault. ExplainsShelfWords fault (texts_of words.entry.now)) }
 {
     let Ok(shelf) = command(alloc) else {
         return Err(WordsFault::NoMemory);
@@ -113,12 +116,16 @@ pub fn words_as_documented()
     ensures file { (first : ℕ) (rest : List ℕ) → (first == 45) ≡ false
         → AsksShelf (codes "adf-shelf" ∷ (first ∷ rest) ∷ []) (false, (first ∷ rest) ∷ []) }
     ensures files { (first : ℕ) (rest : List ℕ) → (first == 45) ≡ false
-        → AsksShelf (codes "adf-shelf" ∷ codes "a.adf" ∷ (first ∷ rest) ∷ []) (false, codes "a.adf" ∷ (first ∷ rest) ∷ []) }
-    ensures null_file { AsksShelf (codes "adf-shelf" ∷ codes "--null" ∷ codes "a.adf" ∷ []) (true, codes "a.adf" ∷ []) }
-    ensures any_files { (one two : List ℕ) → AsksShelf (codes "adf-shelf" ∷ codes "--" ∷ one ∷ two ∷ []) (false, one ∷ two ∷ []) }
+        → AsksShelf (codes "adf-shelf" ∷ codes "a.adf" ∷ (first ∷ rest) ∷ [])
+        (false, codes "a.adf" ∷ (first ∷ rest) ∷ []) }
+    ensures null_file { AsksShelf (codes "adf-shelf" ∷ codes "--null" ∷ codes "a.adf" ∷ [])
+        (true, codes "a.adf" ∷ []) }
+    ensures any_files { (one two : List ℕ)
+        → AsksShelf (codes "adf-shelf" ∷ codes "--" ∷ one ∷ two ∷ []) (false, one ∷ two ∷ []) }
     ensures no_words { AsksShelf [] (false, []) }
     ensures dash { AreRefusedByShelf (codes "adf-shelf" ∷ codes "-x" ∷ []) }
-    ensures null_twice { AreRefusedByShelf (codes "adf-shelf" ∷ codes "--null" ∷ codes "--null" ∷ []) }
+    ensures null_twice { AreRefusedByShelf
+        (codes "adf-shelf" ∷ codes "--null" ∷ codes "--null" ∷ []) }
     ensures help { AreRefusedByShelf (codes "adf-shelf" ∷ codes "--help" ∷ []) }
     ensures help_letter { AreRefusedByShelf (codes "adf-shelf" ∷ codes "-h" ∷ []) }
     ensures version { AreRefusedByShelf (codes "adf-shelf" ∷ codes "--version" ∷ []) }

@@ -21,7 +21,8 @@ pub trait Files {
         ensures works { IfOk result (λ source. Self.Opened.has_failed source ≡ false) }
         ensures bytes { IfOk result (λ source. IfSome (bytes_of self.now name.now)
             (λ bytes. Self.Opened.left source ≡ Some bytes)) }
-        ensures reads { IfOk result (λ source. may_fail self.now name.now ≡ false → Self.Opened.may_fail source ≡ false) }
+        ensures reads { IfOk result (λ source.
+            may_fail self.now name.now ≡ false → Self.Opened.may_fail source ≡ false) }
         ensures opens { OnErr result (may_fail self.now name.now ≡ true) };
 }
 

@@ -1,7 +1,8 @@
 // The names of images, one after another.
 
-ghost use Rattle.std.specs.Prelude.{◌≡◌, ◌<◌, ℕ, IfOk, List, Ok, Option, Some, length, map, option_map, true};
+ghost use Rattle.std.specs.Prelude.{◌≡◌, ◌<◌, ℕ, IfOk, List, Ok, Option, Some, length, option_map, true};
 ghost use Rattle.std.specs.Io.BufRead.{strip_last};
+ghost use Rattle.adf_cmd.specs.CommandLine.{texts_of};
 ghost use Rattle.adf_shelf_cmd.specs.Names.{GivesName, listed_names};
 
 use adf_cmd::StreamFault;
@@ -18,7 +19,8 @@ pub trait Names {
     /// Puts the next name in place of another one, and answers whether there was one. `Device` where the
     /// names cannot be had, `NoMemory` where memory was refused.
     fn next(&mut self, name: &mut Vec<u8>) -> Result<bool, StreamFault>
-        ensures gives { IfOk result (λ more. GivesName more (left self.old) (left self.new) name.new.items) }
+        ensures gives { IfOk result (λ more.
+            GivesName more (left self.old) (left self.new) name.new.items) }
         ensures fewer { result ≡ Ok true → most self.new < most self.old };
 }
 
@@ -38,7 +40,7 @@ impl<'a> WordNames<'a> {
 }
 
 impl Names for WordNames<'_> {
-    ghost left = { λ n. Some (map (λ w. w.now) n.words.now) };
+    ghost left = { λ n. Some (texts_of n.words.now) };
 
     ghost most = { λ n. length n.words.now };
 

@@ -47,7 +47,8 @@ impl Report {
 // Reads an image into the buffer and checks it.
 fn check_source<S: Source>(alloc: Global, source: &mut S, buffer: &mut Vec<u8>) -> Report
     requires { S.has_failed source.old ≡ false }
-    ensures { IsReport (S.left source.old) (S.may_fail source.old) (report_status result) (report_text result) }
+    ensures { IsReport (S.left source.old) (S.may_fail source.old)
+        (report_status result) (report_text result) }
 {
     match answer_to_input(alloc, source, buffer) {
         Ok(answer) => Report::Checked(answer),
@@ -71,7 +72,8 @@ pub fn check_file<F: Files>(alloc: Global, files: &F, name: &[u8], buffer: &mut 
 
 /// Appends the line of a name: its escape form, a tab, and what is reported of its file.
 pub fn push_line(text: &mut Vec<u8>, name: &[u8], report: &Report) -> Result<(), AllocError>
-    ensures { OnOk result (text.new.items ≡ text.old.items ++ shelf_line name.now (report_text report.now)) }
+    ensures { OnOk result
+        (text.new.items ≡ text.old.items ++ shelf_line name.now (report_text report.now)) }
 {
     push_escaped(text, name)?;
     text.push(b'\t')?;

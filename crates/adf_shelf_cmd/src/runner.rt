@@ -1,6 +1,7 @@
 // The whole command.
 
-ghost use Rattle.std.specs.Prelude.{◌≡◌, ◌≢◌, ◌≤◌, Bool, List, ℕ, [], codes, false, map};
+ghost use Rattle.std.specs.Prelude.{◌≡◌, ◌≢◌, ◌≤◌, Bool, List, ℕ, [], codes, false};
+ghost use Rattle.adf_cmd.specs.CommandLine.{texts_of};
 ghost use Rattle.adf_cmd.specs.Streams.{Says};
 ghost use Rattle.adf_shelf_cmd.specs.CommandLine.{AsksShelf, AreRefusedByShelf, names_asked};
 ghost use Rattle.adf_shelf_cmd.specs.Lines.{Ends, IsReportOf, IsRunStatus};
@@ -25,7 +26,8 @@ fn run_names<N: Names, F: Files, W: Sink, E: Sink>(
 ) -> u8
     requires writes { W.has_failed output.old ≡ false }
     requires tells { E.has_failed errors.old ≡ false }
-    ensures ends { Ends (IsReportOf (F.bytes_of files.now) (F.may_fail files.now)) (N.left names.old) result
+    ensures ends { Ends (IsReportOf (F.bytes_of files.now) (F.may_fail files.now))
+        (N.left names.old) result
         (W.has_failed output.new) (W.held output.old) (W.held output.new)
         (E.has_failed errors.new) (E.held errors.old) (E.held errors.new) }
     ensures status { IsRunStatus result }
@@ -86,17 +88,20 @@ pub fn run<B: BufRead, F: Files, W: Sink, E: Sink>(
     ensures most { result ≤ 3 }
 
     // Where the words are taken, output has the lines of the names, or the work stopped.
-    ensures ends { (order : Bool × List (List ℕ)) → AsksShelf (map (λ w. w.now) words.now) order
-        → Ends (IsReportOf (F.bytes_of files.now) (F.may_fail files.now)) (names_asked order (B.remaining input.old.text)) result
+    ensures ends { (order : Bool × List (List ℕ)) → AsksShelf (texts_of words.now) order
+        → Ends (IsReportOf (F.bytes_of files.now) (F.may_fail files.now))
+        (names_asked order (B.remaining input.old.text)) result
         (W.has_failed output.new) (W.held output.old) (W.held output.new)
         (E.has_failed errors.new) (E.held errors.old) (E.held errors.new) }
 
     // At status 2 the words are refused; where they are, nothing was read or written.
-    ensures usage { result ≡ 2 → AreRefusedByShelf (map (λ w. w.now) words.now) }
-    ensures refused { AreRefusedByShelf (map (λ w. w.now) words.now) → ¬ (result ≡ 3) → result ≡ 2 }
-    ensures untouched { AreRefusedByShelf (map (λ w. w.now) words.now) → (input.new ≡ input.old) × (output.new ≡ output.old) }
+    ensures usage { result ≡ 2 → AreRefusedByShelf (texts_of words.now) }
+    ensures refused { AreRefusedByShelf (texts_of words.now) → ¬ (result ≡ 3) → result ≡ 2 }
+    ensures untouched { AreRefusedByShelf (texts_of words.now)
+        → (input.new ≡ input.old) × (output.new ≡ output.old) }
     ensures said { result ≡ 2
-        → Says (E.has_failed errors.new) (E.held errors.old) (E.held errors.new) (codes "usage: adf-shelf [--null] [FILE..]\n") }
+        → Says (E.has_failed errors.new) (E.held errors.old) (E.held errors.new)
+        (codes "usage: adf-shelf [--null] [FILE..]\n") }
 {
     match parse(alloc, words) {
         Ok(order) => run_order(alloc, &order, input, files, output, errors),

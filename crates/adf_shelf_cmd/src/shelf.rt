@@ -35,9 +35,9 @@ impl Stop {
     }
 }
 
-/// What is used again for each name.
+/// Buffers that are used again for each name.
 #[derive(Drop)]
-struct Room {
+struct Buffers {
     image: Vec<u8>,
     line: Vec<u8>,
 }
@@ -47,7 +47,7 @@ fn write_line<F: Files, W: Sink>(
     alloc: Global,
     files: &F,
     name: &[u8],
-    room: &mut Room,
+    buffers: &mut Buffers,
     output: &mut W,
 ) -> Result<u8, Stop>
     requires { W.has_failed output.old ≡ false }
@@ -60,12 +60,12 @@ fn write_line<F: Files, W: Sink>(
     ensures status { IfOk result IsRunStatus }
     ensures failed { W.has_failed output.new ≡ is_write_stop result }
 {
-    let report = check_file(alloc, files, name, &mut room.image);
-    room.line.clear();
-    if push_line(&mut room.line, name, &report).is_err() {
+    let report = check_file(alloc, files, name, &mut buffers.image);
+    buffers.line.clear();
+    if push_line(&mut buffers.line, name, &report).is_err() {
         return Err(Stop::NoMemory);
     }
-    match write_all(output, &room.line) {
+    match write_all(output, &buffers.line) {
         Ok(()) => Ok(report.status()),
         Err(_) => Err(Stop::WriteFault),
     }
@@ -81,14 +81,16 @@ pub fn write_verdicts<N: Names, F: Files, W: Sink>(
     output: &mut W,
 ) -> Result<u8, Stop>
     requires { W.has_failed output.old ≡ false }
-    ensures all { IfOk result (λ s. WritesAll (IsReportOf (F.bytes_of files.now) (F.may_fail files.now))
+    ensures all { IfOk result (λ s.
+        WritesAll (IsReportOf (F.bytes_of files.now) (F.may_fail files.now))
         (N.left names.old) s (W.held output.old) (W.held output.new)) }
-    ensures part { OnErr result (WritesPart (IsReportOf (F.bytes_of files.now) (F.may_fail files.now))
+    ensures part { OnErr result
+        (WritesPart (IsReportOf (F.bytes_of files.now) (F.may_fail files.now))
         (N.left names.old) (W.held output.old) (W.held output.new)) }
     ensures status { IfOk result IsRunStatus }
     ensures failed { W.has_failed output.new ≡ is_write_stop result }
 {
-    let mut room = Room {
+    let mut buffers = Buffers {
         image: Vec::new(alloc),
         line: Vec::new(alloc),
     };
@@ -96,7 +98,7 @@ pub fn write_verdicts<N: Names, F: Files, W: Sink>(
     let mut status = 0u8;
     loop {
         match names.next(&mut name) {
-            Ok(true) => match write_line(alloc, files, &name, &mut room, output) {
+            Ok(true) => match write_line(alloc, files, &name, &mut buffers, output) {
                 Ok(one) => status = status.max(one),
                 Err(stop) => return Err(stop),
             },

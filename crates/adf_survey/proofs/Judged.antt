@@ -22,7 +22,7 @@ use Rattle.adf_survey.specs.declared.part.Part.TheVariants.{Ext as ExtPart, Data
 use Rattle.adf_survey.specs.declared.forms.Around.{Around}
 use Rattle.adf_survey.specs.declared.judge.Facts.{Facts}
 use Rattle.adf_survey.specs.Survey.{IsItself, Judged, is_kept}
-use Rattle.adf_survey.specs.Forms.{IsAround, Knows, Tells, data_clauses, first_failing, first_of, form_of, in_range, itself_by, judged_by, keeps, of_form}
+use Rattle.adf_survey.specs.Forms.{IsAround, Knows, Tells, data_clauses, first_failing, first_of_five, form_of, in_range, itself_by, judged_by, keeps, of_form}
 use Rattle.adf_survey.specs.Parts.{role_of}
 
 -- what fails first of the demands, or nothing
@@ -58,7 +58,7 @@ first_new b false N h = inl (h, refl, refl)
 
 first_is : (a b : ℕ) (e r t n : Bool) (form : List Clause) (E R T N : Type 0) → Tells e E → Tells r R → (r ≡ true → Tells t T) → (r ≡ true → Tells n N)
     → FirstIs (demand ShortFile a E ∷ demand OutOfRange a R ∷ demand Taken b T ∷ demands_at b form ++ demand SameName b N ∷ [])
-    (first_of a b e r t (first_cause form) n)
+    (first_of_five a b e r t (first_cause form) n)
 first_is a b false r t n form E R T N he hr ht hn = inl (he, refl, refl)
 first_is a b true false t n form E R T N he hr ht hn = inr (he, inl (hr, refl, refl))
 first_is a b true true false n form E R T N he hr ht hn = inr (he, inr (hr, inl (ht refl, refl, refl)))

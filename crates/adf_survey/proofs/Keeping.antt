@@ -17,7 +17,7 @@ use Rattle.std.proofs.lemmas.Bool.Decides.{eqb_tells}
 use Rattle.adf_survey.specs.declared.part.Finding.{Finding as FoundFinding}
 use Rattle.adf_survey.specs.declared.found.Found.{Found}
 use Rattle.adf_survey.specs.Found.{IsCompleted}
-use Rattle.adf_survey.specs.Images.{IsBegun}
+use Rattle.adf_volume.specs.Start.{IsBegun}
 use Rattle.adf_survey.specs.Marks.{AreEntries, has_mark, is_clear}
 use Rattle.adf_survey.specs.Parts.{told}
 use Rattle.adf_survey.specs.Survey.{Finding, IsSurvey}

@@ -12,7 +12,7 @@ use Rattle.adf_tree.proofs.NameKeys.{same_number, then_is}
 use Rattle.adf_blocks.specs.declared.layout.TheConstants.{POINTERS}
 use Rattle.adf_blocks.specs.Sizes.{blocks}
 use Rattle.adf_volume.specs.Image.{name_of, table_word, word_in}
-use Rattle.adf_volume.specs.Walk.{Role, Asks, Enough, FileAt, Has, IsAbsent, NewName, data_count, ext_block, ext_count, member_block, next_data, node_block}
+use Rattle.adf_volume.specs.Walk.{Role, Asks, Enough, FileAt, Has, IsAbsent, NewName, data_count, ext_block_in, ext_count, member_block, next_data, node_block}
 use Rattle.adf_volume.specs.Walk.Role.{Root, Page, MapExt, Head, Ext, Data}
 use Rattle.adf_volume.proofs.Gathered.{IsGathered, head_block}
 use Rattle.adf_survey.specs.declared.part.Part.{Part}
@@ -99,13 +99,13 @@ tells_new image (x ∷ w) p s name = go (is_named image x.0 x.1 p s name) (named
     ]
 
 -- the block of an extension block, by its key
-at_ext : (w : List (Role × ℕ)) (n m : ℕ) → unwrap_or (at_key w (key_of (Ext n m))) 0 ≡ ext_block w n m
+at_ext : (w : List (Role × ℕ)) (n m : ℕ) → unwrap_or (at_key w (key_of (Ext n m))) 0 ≡ ext_block_in w n m
 at_ext [] n m = refl
 at_ext ((Ext q k, b) ∷ w) n m = go (n == q) (m == k) refl refl (at_ext w n m)
   where
-    go : (s t : Bool) → (n == q) ≡ s → (m == k) ≡ t → unwrap_or (at_key w (key_of (Ext n m))) 0 ≡ ext_block w n m
+    go : (s t : Bool) → (n == q) ≡ s → (m == k) ≡ t → unwrap_or (at_key w (key_of (Ext n m))) 0 ≡ ext_block_in w n m
         → unwrap_or (cond (is_eq (by_key (key_of (Ext q k)) (key_of (Ext n m)))) (Some b) (at_key w (key_of (Ext n m)))) 0
-        ≡ cond (n == q) (cond (m == k) b (ext_block w n m)) (ext_block w n m)
+        ≡ cond (n == q) (cond (m == k) b (ext_block_in w n m)) (ext_block_in w n m)
     go true true e f h =
         let x : n ≡ q = eqb-true n q e in
         let y : m ≡ k = eqb-true m k f in
@@ -138,7 +138,7 @@ at_ext ((Data q k, b) ∷ w) n m =
     rw none (at_ext w n m)
 
 module _ (image : List ℕ) (f : Found) (s : Course) (st : Stands image f s) where
-  member_key : (n m : ℕ) → unwrap_or (get by_key f.taken (key_of (Ext n (suc m)))) 0 ≡ ext_block s.walk n (suc m)
+  member_key : (n m : ℕ) → unwrap_or (get by_key f.taken (key_of (Ext n (suc m)))) 0 ≡ ext_block_in s.walk n (suc m)
   member_key n m = ap (λ o. unwrap_or o 0) (st.taken (key_of (Ext n (suc m)))) ∙ at_ext s.walk n (suc m)
 
   member_is : (n m : ℕ) → member_in f n m ≡ member_block s.walk n m

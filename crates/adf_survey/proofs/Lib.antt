@@ -5,10 +5,14 @@ pub mod FirstFindings
 -- an image has one survey, and has one
 pub mod OneSurvey
 pub mod SomeSurvey
+-- the blocks of files
+mod FileBlocks
+mod SoundFiles
+-- where paths lead
+mod Lookups
 -- the blocks of sound entries
 pub mod SoundEntries
 pub mod Judged
-pub mod Reading
 pub mod Names
 pub mod Taking
 pub mod Asking
@@ -16,7 +20,6 @@ pub mod AsksSplit
 pub mod Known
 pub mod Outcomes
 pub mod CourseSteps
-pub mod ImageStart
 pub mod Begun
 pub mod BitSteps
 pub mod SoundMarks

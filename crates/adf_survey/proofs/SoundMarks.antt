@@ -93,7 +93,7 @@ module _ (image : List ℕ) where
   apart (step (passed at d) v n g) r q b c h (inr k) same = apart v r q b c h k same
 
   -- the walk asks for the part, a header with the next number, in block b
-  abbrev Wanted : List (Role × ℕ) → Role → ℕ → Type 0
+  abbrev pub Wanted : List (Role × ℕ) → Role → ℕ → Type 0
   Wanted w r b = (a i : ℕ) × Asks image w (renumbered (suc (heads w)) r) a i × (word_in image a i ≡ b)
 
   own_number : (w : List (Role × ℕ)) (r : Role) (a i : ℕ) → Asks image w r a i → r ≡ renumbered (suc (heads w)) r
@@ -122,7 +122,7 @@ module _ (image : List ℕ) where
   ]
 
   -- what is taken is asked for in its block
-  taken_wanted : {s : Course} → IsCourse image s → (r : Role) (b : ℕ) → Has s.walk r b → (Root ≡ r) ⊎ Wanted s.walk r b
+  pub taken_wanted : {s : Course} → IsCourse image s → (r : Role) (b : ℕ) → Has s.walk r b → (Root ≡ r) ⊎ Wanted s.walk r b
   taken_wanted start r b (inl e) = inl e.0
   taken_wanted start r b (inr h) = absurd h
   taken_wanted (step {s = s} {r = z} {a = a} {i = i} clean v n g) r b h = wanted_new s z a i v n r b (taken_wanted v r b) h

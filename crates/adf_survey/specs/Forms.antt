@@ -56,16 +56,16 @@ of_form b None rest = rest
 of_form b (Some c) rest = Some (b, c)
 
 -- the first that fails of five tests: enough extension blocks, in range, no one else's, the form, a new name
-abbrev pub first_of : ℕ → ℕ → Bool → Bool → Bool → Option Cause → Bool → Option (ℕ × Cause)
-first_of a b false ranges absent form new = Some (a, ShortFile)
-first_of a b true false absent form new = Some (a, OutOfRange)
-first_of a b true true false form new = Some (b, Taken)
-first_of a b true true true form new = of_form b form (cond new None (Some (b, SameName)))
+abbrev pub first_of_five : ℕ → ℕ → Bool → Bool → Bool → Option Cause → Bool → Option (ℕ × Cause)
+first_of_five a b false ranges absent form new = Some (a, ShortFile)
+first_of_five a b true false absent form new = Some (a, OutOfRange)
+first_of_five a b true true false form new = Some (b, Taken)
+first_of_five a b true true true form new = of_form b form (cond new None (Some (b, SameName)))
 
 -- the first that fails of a part, and where
 abbrev pub first_failing : List ℕ → Part → ℕ → ℕ → Facts → Option (ℕ × Cause)
 first_failing image part a b f =
-    first_of a b f.is_enough (in_range image b) f.is_absent (first_cause (form_of image part b f.around)) f.is_new
+    first_of_five a b f.is_enough (in_range image b) f.is_absent (first_cause (form_of image part b f.around)) f.is_new
 
 -- the part is taken, whatever of it is slight
 abbrev pub keeps : List ℕ → Part → ℕ → Facts → Bool

@@ -82,8 +82,8 @@ abbrev pub AreMarked : ℕ → List Bool → List (Role × ℕ) → Type 0
 AreMarked n marks w = (length marks ≡ n) × ((b : ℕ) → b < n → slice_index_or marks b false ≡ owns w b)
 
 -- how many extension blocks a file has
-abbrev pub exts_in : Found → ℕ → ℕ
-exts_in f n = unwrap_or (get nat_cmp f.exts n) 0
+abbrev pub exts_found : Found → ℕ → ℕ
+exts_found f n = unwrap_or (get nat_cmp f.exts n) 0
 
 -- the block of member m of the header of a file and its extension blocks
 abbrev pub member_in : Found → ℕ → ℕ → ℕ
@@ -103,7 +103,7 @@ around_in image f _ = record { up = 0; next = 0 }
 
 -- whether the file of a first data block has enough extension blocks
 abbrev pub enough_in : List ℕ → Found → Part → Bool
-enough_in image f (DataPart n k) = not (k == 1) || nat_le (data_count image (slice_index f.nodes.items n)) (POINTERS * suc (exts_in f n))
+enough_in image f (DataPart n k) = not (k == 1) || nat_le (data_count image (slice_index f.nodes.items n)) (POINTERS * suc (exts_found f n))
 enough_in image f _ = true
 
 -- the block is a part's
@@ -157,7 +157,7 @@ pub record Stands (image : List ℕ) (f : Found) (s : Course) : Type 0 where
   pub node : (n : ℕ) → slice_index f.nodes.items n ≡ node_block s.walk n
   pub count : length f.nodes.items ≡ suc (heads s.walk)
   pub few : length f.nodes.items + f.left ≤ suc (blocks image)
-  pub ext : (n : ℕ) → exts_in f n ≡ ext_count s.walk n
+  pub ext : (n : ℕ) → exts_found f n ≡ ext_count s.walk n
   pub name : AreNamed image s.walk f.names
   pub findings : map told f.findings.items ≡ s.findings
   pub parent : (n : ℕ) → slice_index f.parents.items n ≡ parent_in s.walk n

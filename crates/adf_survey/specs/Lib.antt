@@ -1,10 +1,11 @@
 pub mod Survey
 pub mod Sound
-pub mod Images
 pub mod Parts
 pub mod Forms
 pub mod Found
 pub mod Asked
 pub mod Courses
 pub mod Marks
+pub mod Files
 pub mod Surveyed
+pub mod Lookup

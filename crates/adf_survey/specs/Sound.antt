@@ -1,12 +1,13 @@
 -- Entries that nothing is said against.
 -- Letters: w the walk of a survey, fs its findings; n an entry's node, h the block of its header; p, s, j, up the node of its directory, its slot, its
 -- place in the chain and the directory's block; q, r roles; b the block of one; a, i the block and the word that name one; k a number of a part.
-use Rattle.std.specs.Prelude.{◌≡◌, ◌<◌, ◌/◌, ℕ, List, Some}
+use Rattle.std.specs.Prelude.{◌≡◌, ◌<◌, ◌/◌, ◌↔◌, ℕ, List, Some}
 use Rattle.std.proofs.Common.{suc}
 use Rattle.adf_blocks.specs.declared.layout.TheConstants.{POINTERS, SIZE}
 use Rattle.adf_volume.specs.Demands.{AllHold, data_demands, ext_demands, head_demands}
 use Rattle.adf_tree.specs.declared.entry.Kind.TheVariants.{Ffs}
-use Rattle.adf_volume.specs.Lists.{In}
+use Rattle.adf_volume.specs.Lists.{At, In}
+use Rattle.adf_volume.specs.Made.{datas_in}
 use Rattle.adf_volume.specs.Image.{held, kind_of, table_word, word_in}
 use Rattle.adf_volume.specs.Walk.{Role, Same, Has, NodeAt, MemberAt, data_count, Asks}
 use Rattle.adf_volume.specs.Walk.Role.{Head, Ext, Data}
@@ -36,3 +37,7 @@ pub record FileHolds (image : List ℕ) (w : List (Role × ℕ)) (n h : ℕ) : T
   pub exts : (k b : ℕ) → Has w (Ext n k) b → AllHold (ext_demands image b h)
   pub datas : (k b : ℕ) → Has w (Data n (suc k)) b
       → (next : ℕ) × AllHold (data_demands image (kind_of image) b h (suc k) (held (kind_of image) (word_in image h SIZE) (suc k)) next)
+
+-- data block k + 1 of the file, numbered from 1, is the one at place k of those that the walk has
+abbrev pub DatasInOrder : List (Role × ℕ) → ℕ → Type 0
+DatasInOrder w n = (k b : ℕ) → At (datas_in w n) k b ↔ Has w (Data n (suc k)) b

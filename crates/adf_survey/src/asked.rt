@@ -14,7 +14,6 @@ ghost use Rattle.adf_survey.specs.Parts.{key_of, role_of};
 ghost use Rattle.adf_survey.specs.Asked.{AddsAsked, AllAsked, Allows, CanAsk, HasKey, HasRoom, Keeps};
 ghost use Rattle.adf_survey.specs.Asked.{MapAsk, NewAsk, NodeAsk, RootAsk, SlotAsk, TableAsk, reach};
 
-use crate::image::Image;
 use crate::part::{Key, Part};
 use adf_blocks::{
     EXTENSION, FIRST_MAP_EXT, FIRST_PAGE, FIRST_POINTER, FIRST_SLOT, MAP_EXT_NEXT, MAP_EXT_PAGES,
@@ -23,6 +22,7 @@ use adf_blocks::{
 };
 use adf_fields::NoMemory;
 use adf_tree::Kind;
+use adf_volume::Image;
 use std::alloc::Global;
 use std::collections::BTreeMap;
 
@@ -63,7 +63,8 @@ impl Asked {
         requires { i < 128 }
         ensures keeps { OnOk result (Keeps self.old.parts self.new.parts) }
         ensures has { OnOk result (HasKey self.new.parts (key_of (role_of part))) }
-        ensures adds { OnOk result ((w : List (Role × ℕ)) (most : ℕ) → CanAsk image.now w most (role_of part) holder i
+        ensures adds { OnOk result ((w : List (Role × ℕ)) (most : ℕ)
+            → CanAsk image.now w most (role_of part) holder i
             → AddsAsked image.now w most self.old.parts self.new.parts) }
     {
         let ask = Ask {
@@ -87,9 +88,12 @@ impl Asked {
     ) -> Result<(), NoMemory>
         requires { i < 128 }
         ensures keeps { OnOk result (Keeps self.old.parts self.new.parts) }
-        ensures has { OnOk result (word_in image.now holder i ≢ 0 → HasKey self.new.parts (key_of (role_of part))) }
-        ensures adds { OnOk result ((w : List (Role × ℕ)) (most : ℕ) → (word_in image.now holder i ≢ 0
-            → CanAsk image.now w most (role_of part) holder i) → AddsAsked image.now w most self.old.parts self.new.parts) }
+        ensures has { OnOk result (word_in image.now holder i ≢ 0
+            → HasKey self.new.parts (key_of (role_of part))) }
+        ensures adds { OnOk result ((w : List (Role × ℕ)) (most : ℕ)
+            → (word_in image.now holder i ≢ 0
+            → CanAsk image.now w most (role_of part) holder i)
+            → AddsAsked image.now w most self.old.parts self.new.parts) }
     {
         if image.word(holder, i) == 0 {
             return Ok(());
@@ -125,7 +129,8 @@ impl Asked {
         ensures pages { OnOk result ((i : ℕ) → i < MAP_EXT_PAGES
             → ROOT_PAGES + MAP_EXT_PAGES * j + i < pages_needed (blocks image.now)
             → HasKey self.new.parts (key_of (Page (ROOT_PAGES + MAP_EXT_PAGES * j + i)))) }
-        ensures next { OnOk result (ROOT_PAGES + MAP_EXT_PAGES * (j + 1) < pages_needed (blocks image.now)
+        ensures next { OnOk result
+            (ROOT_PAGES + MAP_EXT_PAGES * (j + 1) < pages_needed (blocks image.now)
             → HasKey self.new.parts (key_of (MapExt (j + 1)))) }
         ensures adds { OnOk result ((w : List (Role × ℕ)) (most : ℕ) → Has w (MapExt j) b
             → AddsAsked image.now w most self.old.parts self.new.parts) }
@@ -194,7 +199,8 @@ impl Asked {
     // Asks for what node `node`, with its header at block `b`, has: the chains of a directory, or the blocks of a file.
     fn ask_node(&mut self, image: &Image<'_>, node: u32, b: u32) -> Result<(), NoMemory>
         ensures keeps { OnOk result (Keeps self.old.parts self.new.parts) }
-        ensures has { OnOk result ((k : Key) → NodeAsk image.now node b k → HasKey self.new.parts k) }
+        ensures has { OnOk result ((k : Key) → NodeAsk image.now node b k
+            → HasKey self.new.parts k) }
         ensures adds { OnOk result ((w : List (Role × ℕ)) (most : ℕ) → 1 ≤ most
             → (word_in image.now b SECONDARY_TYPE ≡ ST_DIR → DirAt image.now w node b)
             → (word_in image.now b SECONDARY_TYPE ≡ ST_FILE → FileAt image.now w node b)
@@ -214,8 +220,10 @@ impl Asked {
     /// Asks for what the root asks for.
     pub fn ask_of_root(&mut self, image: &Image<'_>) -> Result<(), NoMemory>
         ensures keeps { OnOk result (Keeps self.old.parts self.new.parts) }
-        ensures has { OnOk result ((k : Key) → RootAsk image.now (root_of image.now) k → HasKey self.new.parts k) }
-        ensures adds { OnOk result ((w : List (Role × ℕ)) (most : ℕ) → Has w Root (root_of image.now)
+        ensures has { OnOk result ((k : Key) → RootAsk image.now (root_of image.now) k
+            → HasKey self.new.parts k) }
+        ensures adds { OnOk result ((w : List (Role × ℕ)) (most : ℕ)
+            → Has w Root (root_of image.now)
             → AddsAsked image.now w most self.old.parts self.new.parts) }
     {
         self.ask_pages(image)?;
@@ -226,8 +234,10 @@ impl Asked {
     pub fn ask_of(&mut self, image: &Image<'_>, part: Part, b: u32, up: u32) -> Result<(), NoMemory>
         requires { HasRoom image.now part }
         ensures keeps { OnOk result (Keeps self.old.parts self.new.parts) }
-        ensures has { OnOk result ((k : Key) → NewAsk image.now (role_of part) b up k → HasKey self.new.parts k) }
-        ensures adds { OnOk result ((w : List (Role × ℕ)) (most : ℕ) → Allows image.now w most part b up
+        ensures has { OnOk result ((k : Key) → NewAsk image.now (role_of part) b up k
+            → HasKey self.new.parts k) }
+        ensures adds { OnOk result ((w : List (Role × ℕ)) (most : ℕ)
+            → Allows image.now w most part b up
             → AddsAsked image.now w most self.old.parts self.new.parts) }
     {
         match part {

@@ -7,10 +7,10 @@ ghost use Rattle.adf_survey.specs.Survey.{Course, Finding as SpecFinding, IsCour
 ghost use Rattle.adf_survey.specs.Found.{BitTells, IsBitOf, IsCompleted, IsFinished, IsToldOn, Stands, cause_told};
 
 use crate::found::Found;
-use crate::image::Image;
 use crate::part::{Finding, Part};
 use adf_blocks::{Cause, PAGE_FIRST, place_of};
 use adf_fields::NoMemory;
+use adf_volume::Image;
 
 // Whether a bit of a word is set.
 fn is_set(word: u32, bit: u32) -> bool
@@ -54,7 +54,8 @@ fn cause_of_bit(image: &Image<'_>, found: &Found, b: u32) -> Option<Cause>
     requires owned { length found.now.owned.items ≡ blocks image.now }
     requires avoided { length found.now.avoided.items ≡ blocks image.now }
     ensures { (s : Course) (fs : List SpecFinding) → IsCourse image.now s
-        → Stands image.now found.now (record { walk = s.walk; passed_over = s.passed_over; findings = fs })
+        → Stands image.now found.now
+        (record { walk = s.walk; passed_over = s.passed_over; findings = fs })
         → BitTells image.now s b result }
 {
     let (page, bit) = place_of(b);

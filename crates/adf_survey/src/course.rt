@@ -12,11 +12,11 @@ ghost use Rattle.adf_survey.specs.Courses.{IsNextAsk, IsOnCourse, IsOutcome};
 
 use crate::asked::{Ask, Asked};
 use crate::found::Found;
-use crate::image::Image;
 use crate::judge::{Judgement, judge};
 use crate::part::{Finding, Key, Part};
 use adf_blocks::Cause;
 use adf_fields::NoMemory;
+use adf_volume::Image;
 
 // A finding of a part.
 fn of_part(part: Part, block: u32, cause: Cause) -> Finding
@@ -55,7 +55,8 @@ fn judge_next(image: &Image<'_>, found: &mut Found, ask: &Ask) -> Result<Option<
 
 // Whether a part of this key is taken or passed over.
 fn is_settled(found: &Found, key: Key) -> bool
-    ensures { result ≡ (is_some (get by_key found.now.taken key) || is_some (get by_key found.now.passed key)) }
+    ensures { result
+        ≡ (is_some (get by_key found.now.taken key) || is_some (get by_key found.now.passed key)) }
 {
     found.taken.contains_key(&key) || found.passed.contains_key(&key)
 }
@@ -74,7 +75,8 @@ fn take(
     requires room { HasRoom image.now part }
     ensures taken { OnOk result (IsTaken image.now part b found.old found.new) }
     ensures keeps { OnOk result (Keeps asked.old.parts asked.new.parts) }
-    ensures has { OnOk result ((k : Key) → NewAsk image.now (role_of part) b (around_in image.now found.old part).up k
+    ensures has { OnOk result ((k : Key)
+        → NewAsk image.now (role_of part) b (around_in image.now found.old part).up k
         → HasKey asked.new.parts k) }
     ensures adds { OnOk result ((w : List (Role × ℕ)) (most : ℕ)
         → Allows image.now w most part b (around_in image.now found.old part).up

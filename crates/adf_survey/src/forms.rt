@@ -13,7 +13,6 @@ ghost use Rattle.adf_volume.specs.Image.{held};
 ghost use Rattle.adf_survey.specs.Forms.{form_of, itself_by};
 ghost use Rattle.adf_survey.specs.Parts.{role_of};
 
-use crate::image::Image;
 use crate::part::Part;
 use adf_blocks::{
     Cause, DATA_HEAD, DATA_HELD, DATA_NEXT, DATA_NUMBER, OWN_KEY, PARENT, SECONDARY_TYPE, SIZE,
@@ -22,28 +21,13 @@ use adf_blocks::{
 };
 use adf_fields::Block;
 use adf_tree::Kind;
+use adf_volume::{Image, held_in};
 
 /// What the form of a part depends on beside its block: the block of its directory or its file's header, and the next data block.
 #[derive(Clone, Copy, PartialEq, Eq, Drop)]
 pub struct Around {
     pub up: u32,
     pub next: u32,
-}
-
-// The bytes that data block `number`, from 1 on, of a file of so many bytes holds.
-#[tactic(auto, unfolding(adf_volume::specs::Image::held, adf_blocks::specs::Sizes::chunk))]
-fn held_in(kind: Kind, size: u32, number: u32) -> u32
-    ensures exact { result ≡ held kind size number }
-    ensures small { result ≤ chunk kind }
-{
-    let chunk = chunk_len(kind) as u64;
-    let size = u64::from(size);
-    let number = u64::from(number);
-    if chunk * number < size {
-        chunk as u32
-    } else {
-        size.saturating_sub(chunk * number.saturating_sub(1)) as u32
-    }
 }
 
 // The first cause of block `b` as data block `number` of a file.
@@ -130,7 +114,9 @@ fn is_data(b: &Block<'_>, up: u32, number: u32, held: u32, next: u32) -> bool
 // Whether block `b` says of itself that it is data block `number` of a file.
 fn is_data_itself(image: &Image<'_>, number: u32, b: u32, around: Around) -> bool
     requires { b < blocks image.now }
-    ensures { result ≡ itself_by (role_of (Part.Data 0 number)) (form_of image.now (Part.Data 0 number) b around) }
+    ensures { result
+        ≡ itself_by (role_of (Part.Data 0 number))
+        (form_of image.now (Part.Data 0 number) b around) }
 {
     match image.kind() {
         Kind::Ffs => true,

@@ -8,19 +8,19 @@ ghost use Rattle.adf_tree.specs.Texts.{uppers};
 ghost use Rattle.adf_blocks.specs.Sizes.{blocks};
 ghost use Rattle.adf_volume.specs.Image.{name_of, root_of, word_in};
 ghost use Rattle.adf_volume.specs.Walk.{Role, data_count};
-ghost use Rattle.adf_survey.specs.Images.{IsBegun};
+ghost use Rattle.adf_volume.specs.Start.{IsBegun};
 ghost use Rattle.adf_survey.specs.Parts.{by_key, key_of, role_of, told};
 ghost use Rattle.adf_survey.specs.Found.{AreNamed, AreSame, Stands, IsKept, IsNoted, IsOwned, IsPassed};
 ghost use Rattle.adf_survey.specs.Found.{IsTaken, KeepsParts, around_in, begun, by_name, enough_in};
-ghost use Rattle.adf_survey.specs.Found.{exts_in, member_in, new_in, next_in};
+ghost use Rattle.adf_survey.specs.Found.{exts_found, member_in, new_in, next_in};
 
 use crate::asked::count_of;
 use crate::forms::Around;
-use crate::image::Image;
 use crate::judge::Facts;
 use crate::part::{Finding, Key, Part};
 use adf_blocks::{FIRST_POINTER, NAME, POINTERS, SIZE};
 use adf_fields::{NoMemory, upper};
+use adf_volume::Image;
 use std::alloc::Global;
 use std::collections::BTreeMap;
 
@@ -141,7 +141,7 @@ impl Found {
 
     // How many extension blocks of a file are taken.
     fn ext_count(&self, node: u32) -> u32
-        ensures { result ≡ exts_in self.now node }
+        ensures { result ≡ exts_found self.now node }
     {
         self.exts.get(&node).copied().unwrap_or(0)
     }
@@ -227,7 +227,8 @@ impl Found {
     /// What is known of a part in block `b`.
     pub fn facts(&self, image: &Image<'_>, part: Part, b: u32) -> Result<Facts, NoMemory>
         ensures enough { IfOk result (λ f. f.is_enough ≡ enough_in image.now self.now part) }
-        ensures absent { IfOk result (λ f. f.is_absent ≡ not (slice_index_or self.now.owned.items b false)) }
+        ensures absent { IfOk result (λ f.
+            f.is_absent ≡ not (slice_index_or self.now.owned.items b false)) }
         ensures new { IfOk result (λ f. b < blocks image.now → (w : List (Role × ℕ))
             → AreNamed image.now w self.now.names → f.is_new ≡ new_in image.now w part b) }
         ensures around { IfOk result (λ f. f.around ≡ around_in image.now self.now part) }

@@ -4,9 +4,9 @@ ghost use Rattle.std.specs.Prelude.{◌≡◌};
 ghost use Rattle.adf_survey.specs.Forms.{first_failing, judged_by, keeps, meant};
 
 use crate::forms::{Around, first_cause, is_itself};
-use crate::image::Image;
 use crate::part::Part;
 use adf_blocks::Cause;
+use adf_volume::Image;
 
 /// How a part is judged: it has no cause; it has one, at a block, and is taken all the same; it has one and is passed over.
 #[derive(Clone, Copy, PartialEq, Eq, Drop)]
@@ -64,7 +64,9 @@ fn is_kept(image: &Image<'_>, part: Part, b: u32, facts: &Facts) -> bool
 
 /// Judges a part in block `b`, which a word of block `holder` names.
 pub fn judge(image: &Image<'_>, part: Part, holder: u32, b: u32, facts: &Facts) -> Judgement
-    ensures { meant result ≡ judged_by (first_failing image.now part holder b facts.now) (keeps image.now part b facts.now) }
+    ensures { meant result
+        ≡ judged_by (first_failing image.now part holder b facts.now)
+        (keeps image.now part b facts.now) }
 {
     match first_failing(image, part, holder, b, facts) {
         None => Judgement::Clean,

@@ -7,7 +7,7 @@ ghost use Rattle.adf_volume.specs.Layout.{Layout};
 ghost use Rattle.adf_volume.specs.Made.{layout_in, tree_in};
 ghost use Rattle.adf_volume.specs.Walk.{FileAt, FirstFault, Has, Role};
 ghost use Rattle.adf_survey.specs.Survey.{Finding, IsSurvey};
-ghost use Rattle.adf_survey.specs.Sound.{FileHolds, HeaderHolds, IsSound};
+ghost use Rattle.adf_survey.specs.Sound.{DatasInOrder, FileHolds, HeaderHolds, IsSound};
 
 /// Each image has a survey.
 #[tactic(auto, using(crate::proofs::SomeSurvey::some_survey))]
@@ -17,13 +17,15 @@ pub fn some_survey()
 
 /// An image has one survey at most.
 pub fn one_survey()
-    ensures { (image : List ℕ) (w u : List (Role × ℕ)) (fs gs : List Finding) → IsSurvey image w fs → IsSurvey image u gs
+    ensures { (image : List ℕ) (w u : List (Role × ℕ)) (fs gs : List Finding) → IsSurvey image w fs
+        → IsSurvey image u gs
         → (w ≡ u) × (fs ≡ gs) }
 {}
 
 /// The first finding of an image is its first fault.
 pub fn first_finding()
-    ensures { (image : List ℕ) (w : List (Role × ℕ)) (f : Finding) (fs : List Finding) → IsSurvey image w (f ∷ fs)
+    ensures { (image : List ℕ) (w : List (Role × ℕ)) (f : Finding) (fs : List Finding)
+        → IsSurvey image w (f ∷ fs)
         → FirstFault image f.block f.cause }
 {}
 
@@ -31,7 +33,8 @@ pub fn first_finding()
 pub fn no_finding()
     ensures fits { (image : List ℕ) (w : List (Role × ℕ)) → IsSurvey image w []
         → Fits image (tree_in image w) (layout_in w) }
-    ensures none { (image : List ℕ) (t : Tree) (l : Layout) (w : List (Role × ℕ)) (fs : List Finding) → Fits image t l
+    ensures none { (image : List ℕ) (t : Tree) (l : Layout) (w : List (Role
+        × ℕ)) (fs : List Finding) → Fits image t l
         → IsSurvey image w fs → fs ≡ [] }
 {}
 
@@ -42,10 +45,15 @@ pub fn one_part()
 {}
 
 /// The header of a sound entry has its form. Each data block that the size of a sound file asks for is in the walk, at the block
-/// that the file's table names, and all of its blocks have their forms.
+/// that the file's table names, and all of its blocks have their forms; its data blocks are in the walk in order.
 pub fn sound_entries()
-    ensures header { (image : List ℕ) (w : List (Role × ℕ)) (fs : List Finding) (n h : ℕ) → IsSurvey image w fs
+    ensures header { (image : List ℕ) (w : List (Role × ℕ)) (fs : List Finding) (n h : ℕ)
+        → IsSurvey image w fs
         → IsSound image w fs n h → HeaderHolds image w n h }
-    ensures file { (image : List ℕ) (w : List (Role × ℕ)) (fs : List Finding) (n h : ℕ) → IsSurvey image w fs
+    ensures file { (image : List ℕ) (w : List (Role × ℕ)) (fs : List Finding) (n h : ℕ)
+        → IsSurvey image w fs
         → IsSound image w fs n h → FileAt image w n h → FileHolds image w n h }
+    ensures order { (image : List ℕ) (w : List (Role × ℕ)) (fs : List Finding) (n h : ℕ)
+        → IsSurvey image w fs
+        → IsSound image w fs n h → DatasInOrder w n }
 {}

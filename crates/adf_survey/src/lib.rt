@@ -4,19 +4,20 @@
 mod asked;
 mod bits;
 mod course;
+mod file;
 mod forms;
 mod found;
-mod image;
 mod judge;
 mod laws;
+mod lookup;
 mod marks;
 mod part;
-mod start;
 mod surveyed;
 mod surveys;
 #[cfg(test)]
 mod tests;
 
+pub use crate::file::SoundFile;
 pub use crate::laws::{
     first_finding, no_finding, one_part, one_survey, some_survey, sound_entries,
 };

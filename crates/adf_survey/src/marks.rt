@@ -6,15 +6,16 @@ ghost use Rattle.adf_volume.specs.Image.{kind_of};
 ghost use Rattle.adf_survey.specs.Marks.{AreEntries, blamed, has_mark, is_blamed, is_clear, is_node, is_sharing, sharing};
 
 use crate::found::Found;
-use crate::image::Image;
 use crate::part::{Key, Part};
 use adf_fields::NoMemory;
 use adf_tree::Kind;
+use adf_volume::Image;
 use std::alloc::Global;
 
 // Takes its mark from a node.
 fn strike(marks: &mut Vec<bool>, node: Option<u64>)
-    ensures { (m : ℕ) → has_mark marks.new.items m ≡ (has_mark marks.old.items m && not (is_node node m)) }
+    ensures { (m : ℕ)
+        → has_mark marks.new.items m ≡ (has_mark marks.old.items m && not (is_node node m)) }
 {
     if let Some(node) = node {
         if node < marks.len() as u64 {
@@ -56,7 +57,8 @@ fn sharing(found: &Found, key: &Key, b: u32) -> Option<u64>
 // Takes their marks from the entries that findings speak against.
 fn strike_blamed(found: &Found, marks: &mut Vec<bool>)
     ensures { (m : ℕ) → has_mark marks.new.items m
-        ≡ (has_mark marks.old.items m && not (is_blamed found.now.taken found.now.findings.items m)) }
+        ≡ (has_mark marks.old.items m && not
+        (is_blamed found.now.taken found.now.findings.items m)) }
 {
     for finding in &found.findings {
         strike(marks, blamed(found, finding.part));
@@ -67,7 +69,8 @@ fn strike_blamed(found: &Found, marks: &mut Vec<bool>)
 fn strike_sharing(found: &Found, marks: &mut Vec<bool>)
     ensures entries { AreEntries found.now.taken }
     ensures struck { (m : ℕ) → has_mark marks.new.items m
-        ≡ (has_mark marks.old.items m && not (is_sharing found.now.avoided.items found.now.taken.entries m)) }
+        ≡ (has_mark marks.old.items m && not
+        (is_sharing found.now.avoided.items found.now.taken.entries m)) }
 {
     for (key, block) in &found.taken {
         strike(marks, sharing(found, key, *block));
@@ -77,7 +80,8 @@ fn strike_sharing(found: &Found, marks: &mut Vec<bool>)
 /// A mark for each node, which those have that nothing is said against.
 pub fn clear_marks(alloc: Global, image: &Image<'_>, found: &Found) -> Result<Vec<bool>, NoMemory>
     ensures entries { kind_of image.now ≡ Ffs → OnOk result (AreEntries found.now.taken) }
-    ensures marks { IfOk result (λ v. (m : ℕ) → has_mark v.items m ≡ is_clear image.now found.now m) }
+    ensures marks { IfOk result (λ v. (m : ℕ)
+        → has_mark v.items m ≡ is_clear image.now found.now m) }
 {
     let Ok(mut marks) = vec![in alloc; true; found.nodes.len()] else {
         return Err(NoMemory);

@@ -1,20 +1,26 @@
 // What a survey tells.
 
-ghost use Rattle.std.specs.Prelude.{◌≡◌, ◌≤◌, ◌<◌, ◌↔◌, ℕ, List, ◌+◌, min, map, slice_index, slice_range, IsTrue, IsSome, IfSome};
+ghost use Rattle.std.specs.Prelude.{◌≡◌, ◌≤◌, ◌<◌, ◌↔◌, ℕ, List, ◌+◌, min, map, slice_index};
+ghost use Rattle.std.specs.Prelude.{slice_range, IsTrue, IsOk, IsSome, IfOk, IfSome};
+ghost use Rattle.adf_blocks.specs.HeadBlock.{body_at};
 ghost use Rattle.adf_fields.specs.Words.{block};
 ghost use Rattle.adf_volume.specs.Image.{name_of};
 ghost use Rattle.adf_volume.specs.Walk.{Has, Role, heads, node_block};
 ghost use Rattle.adf_volume.specs.Walk.Role.{Head};
+ghost use Rattle.adf_survey.specs.Files.{IsSoundFile, file_in};
 ghost use Rattle.adf_survey.specs.Marks.{has_mark};
 ghost use Rattle.adf_survey.specs.Parts.{told};
 ghost use Rattle.adf_survey.specs.Sound.{IsSound};
 ghost use Rattle.adf_survey.specs.Survey.{Finding as SpecFinding, IsSurvey};
 ghost use Rattle.adf_survey.specs.Surveyed.{IsOfSurvey, kept_of};
 
+use crate::file::SoundFile;
 use crate::part::Finding;
-use adf_blocks::NAME;
-use adf_fields::Block;
+use adf_blocks::{HeadBody, NAME, SECONDARY_TYPE, ST_FILE};
+use adf_fields::{Block, NoMemory};
 use adf_tree::Node;
+use adf_volume::open;
+use std::alloc::Global;
 use std::marker::Model;
 
 /// What is found of an image: all that is wrong, and what stands all the same.
@@ -68,7 +74,8 @@ impl<'i> Survey<'i> {
         parents: Vec<u32>,
         sound: Vec<bool>,
     ) -> Survey<'i>
-        requires { IsOfSurvey (kept_of image.now findings.items nodes.items parents.items sound.items) }
+        requires { IsOfSurvey
+            (kept_of image.now findings.items nodes.items parents.items sound.items) }
         ensures { result ≡ kept_of image.now findings.items nodes.items parents.items sound.items }
     {
         Survey {
@@ -84,14 +91,16 @@ impl<'i> Survey<'i> {
 impl Survey<'_> {
     /// All that is wrong, in the order of the survey.
     pub fn findings(&self) -> &[Finding]
-        ensures { (w : List (Role × ℕ)) (fs : List SpecFinding) → IsSurvey self.now.image w fs → map told result.now ≡ fs }
+        ensures { (w : List (Role × ℕ)) (fs : List SpecFinding) → IsSurvey self.now.image w fs
+            → map told result.now ≡ fs }
     {
         &self.findings
     }
 
     /// How many entries are found.
     pub fn len(&self) -> usize
-        ensures { (w : List (Role × ℕ)) (fs : List SpecFinding) → IsSurvey self.now.image w fs → result ≡ heads w }
+        ensures { (w : List (Role × ℕ)) (fs : List SpecFinding) → IsSurvey self.now.image w fs
+            → result ≡ heads w }
     {
         self.nodes.len().saturating_sub(1)
     }
@@ -144,11 +153,26 @@ impl Survey<'_> {
         }
     }
 
+    /// Whether an entry that is found is a directory, or a file with its size in bytes and its first extension block, as its
+    /// header says; a link counts as a file. None of the root and past the last entry.
+    pub fn body(&self, n: Node) -> Option<HeadBody>
+        ensures some { (w : List (Role × ℕ)) (fs : List SpecFinding) → IsSurvey self.now.image w fs
+            → IsSome result ↔ ((1 ≤ n) × (n ≤ heads w)) }
+        ensures body { (w : List (Role × ℕ)) (fs : List SpecFinding) → IsSurvey self.now.image w fs
+            → IfSome result (λ x. x ≡ body_at (block self.now.image (node_block w n))) }
+    {
+        match self.header(n) {
+            Some(head) => Some(HeadBody::of(&head)),
+            None => None,
+        }
+    }
+
     /// The node of the directory of an entry that is found, 0 of those in the root; none of the root and past the last entry.
     pub fn parent_of(&self, n: Node) -> Option<Node>
         ensures some { (w : List (Role × ℕ)) (fs : List SpecFinding) → IsSurvey self.now.image w fs
             → IsSome result ↔ ((1 ≤ n) × (n ≤ heads w)) }
-        ensures parent { (w : List (Role × ℕ)) (fs : List SpecFinding) → IsSurvey self.now.image w fs
+        ensures parent { (w : List (Role × ℕ)) (fs : List SpecFinding)
+            → IsSurvey self.now.image w fs
             → IfSome result (λ m. (p s j b : ℕ) → Has w (Head n p s j) b → m ≡ p) }
     {
         if !self.has_entry(n) {
@@ -163,5 +187,30 @@ impl Survey<'_> {
             → IsTrue result ↔ IsSound self.now.image w fs n (node_block w n) }
     {
         n.0 != 0 && has_mark(&self.sound, n.0)
+    }
+}
+
+impl<'i> Survey<'i> {
+    /// A file that nothing is said against; none of what is no file, and of what is not sound, for which no memory is taken.
+    /// `NoMemory` where a growth was refused.
+    pub fn file(&self, alloc: Global, n: Node) -> Result<Option<SoundFile<'i>>, NoMemory>
+        ensures some { (w : List (Role × ℕ)) (fs : List SpecFinding) → IsSurvey self.now.image w fs
+            → IfOk result (λ x. IsSome x ↔ IsSoundFile self.now.image w fs n) }
+        ensures file { (w : List (Role × ℕ)) (fs : List SpecFinding) → IsSurvey self.now.image w fs
+            → IfOk result (λ x. IfSome x (λ f. f ≡ file_in self.now.image w n)) }
+        ensures none { (w : List (Role × ℕ)) (fs : List SpecFinding) → IsSurvey self.now.image w fs
+            → (IsSoundFile self.now.image w fs n → ⊥) → IsOk result }
+    {
+        if !self.is_sound(n) {
+            return Ok(None);
+        }
+        let Ok(opened) = open(self.image) else {
+            return Ok(None);
+        };
+        let head = number_at(&self.nodes, n.0);
+        if opened.image.word(head, SECONDARY_TYPE) != ST_FILE {
+            return Ok(None);
+        }
+        Ok(Some(SoundFile::at(alloc, &opened.image, head)?))
     }
 }

@@ -1,6 +1,6 @@
 // The survey of an image.
 
-ghost use Rattle.std.specs.Prelude.{◌≡◌, ◌++◌, ℕ, List, IfOk, None, map};
+ghost use Rattle.std.specs.Prelude.{◌≡◌, ◌++◌, ℕ, List, IfOk, map};
 ghost use Rattle.adf_volume.specs.Demands.{FirstFails, boot_demands, root_demands};
 ghost use Rattle.adf_volume.specs.Image.{root_of};
 ghost use Rattle.adf_volume.specs.Walk.{Role};
@@ -11,23 +11,28 @@ use crate::asked::Asked;
 use crate::bits::compare;
 use crate::course::run;
 use crate::found::Found;
-use crate::image::Image;
 use crate::marks::clear_marks;
 use crate::part::Finding;
-use crate::start::open;
 use crate::surveyed::Survey;
 use adf_fields::NoMemory;
+use adf_volume::{Image, Unopened, open};
 use std::alloc::Global;
 
-// The survey of an image of which this alone is said.
-fn only<'i>(alloc: Global, image: &'i [u8], finding: Finding) -> Result<Survey<'i>, NoMemory>
-    requires part { finding.part ≡ None }
-    requires fails { FirstFails (boot_demands image.now ++ root_demands image.now (root_of image.now))
-        finding.block finding.cause }
+// The survey of an image that does not begin as a volume: this is its only finding.
+fn only<'i>(alloc: Global, image: &'i [u8], unopened: Unopened) -> Result<Survey<'i>, NoMemory>
+    requires { FirstFails
+        (boot_demands image.now ++ root_demands image.now
+        (root_of image.now)) unopened.block unopened.cause }
     ensures image { IfOk result (λ v. v.image ≡ image.now) }
-    ensures findings { IfOk result (λ v. (w : List (Role × ℕ)) × IsSurvey image.now w (map told v.findings)) }
+    ensures findings { IfOk result (λ v. (w : List (Role × ℕ))
+        × IsSurvey image.now w (map told v.findings)) }
 {
     let mut findings = Vec::new(alloc);
+    let finding = Finding {
+        part: None,
+        block: unopened.block,
+        cause: unopened.cause,
+    };
     match findings.push(finding) {
         Ok(()) => Ok(Survey::new(
             image,
@@ -43,7 +48,8 @@ fn only<'i>(alloc: Global, image: &'i [u8], finding: Finding) -> Result<Survey<'
 // The survey of an image that begins as a volume.
 fn go_through<'i>(alloc: Global, image: &Image<'i>) -> Result<Survey<'i>, NoMemory>
     ensures image { IfOk result (λ v. v.image ≡ image.now) }
-    ensures findings { IfOk result (λ v. (w : List (Role × ℕ)) × IsSurvey image.now w (map told v.findings)) }
+    ensures findings { IfOk result (λ v. (w : List (Role × ℕ))
+        × IsSurvey image.now w (map told v.findings)) }
 {
     let mut found = Found::begin(alloc, image)?;
     let mut asked = Asked::new(alloc);
@@ -64,10 +70,11 @@ fn go_through<'i>(alloc: Global, image: &Image<'i>) -> Result<Survey<'i>, NoMemo
 /// `NoMemory` where a growth was refused.
 pub fn survey<'i>(alloc: Global, image: &'i [u8]) -> Result<Survey<'i>, NoMemory>
     ensures image { IfOk result (λ v. v.image ≡ image.now) }
-    ensures findings { IfOk result (λ v. (w : List (Role × ℕ)) × IsSurvey image.now w (map told v.findings)) }
+    ensures findings { IfOk result (λ v. (w : List (Role × ℕ))
+        × IsSurvey image.now w (map told v.findings)) }
 {
     match open(image) {
-        Ok(image) => go_through(alloc, &image),
-        Err(finding) => only(alloc, image, finding),
+        Ok(opened) => go_through(alloc, &opened.image),
+        Err(unopened) => only(alloc, image, unopened),
     }
 }

@@ -1,8 +1,9 @@
 // The digits of numbers.
 
-ghost use Rattle.std.specs.Prelude.{◌≡◌, ◌<◌, ◌≤◌, ◌++◌, [], ◌∷◌, drop, take, is_ok, if◌then◌else◌, replicate};
+ghost use Rattle.std.specs.Prelude.{◌≡◌, ◌<◌, ◌≤◌, ◌++◌, [], ◌∷◌, drop, take, replicate};
 ghost use Rattle.std.specs.Fmt.{decimal};
 ghost use Rattle.adf_manifest.specs.Texts.{hex_word};
+ghost use Rattle.adf_texts.specs.Growth.{grown};
 ghost use Rattle.adf_texts.specs.VolumeLines.{right_in_ten};
 
 use adf_tree::hex_digit;
@@ -11,7 +12,7 @@ use std::alloc::AllocError;
 
 /// Appends eight hexadecimal digits and the byte behind them.
 pub fn push_hex(text: &mut Vec<u8>, word: u32, end: u8) -> Result<(), AllocError>
-    ensures { text.new.items ≡ (if is_ok result then text.old.items ++ (hex_word word ++ end ∷ []) else text.old.items) }
+    ensures { text.new.items ≡ grown result text.old.items (hex_word word ++ end ∷ []) }
 {
     let first = ((word >> 24) % 256) as u8;
     let second = ((word >> 16) % 256) as u8;
@@ -45,7 +46,7 @@ fn decimal_digits(value: u32, end: u8) -> ([u8; 11], usize)
 
 /// Appends a number in decimal and the byte behind it.
 pub fn push_number(text: &mut Vec<u8>, value: u32, end: u8) -> Result<(), AllocError>
-    ensures { text.new.items ≡ (if is_ok result then text.old.items ++ (decimal value ++ end ∷ []) else text.old.items) }
+    ensures { text.new.items ≡ grown result text.old.items (decimal value ++ end ∷ []) }
 {
     let (digits, at) = decimal_digits(value, end);
     text.extend_from_slice(&digits[at..])
@@ -53,7 +54,8 @@ pub fn push_number(text: &mut Vec<u8>, value: u32, end: u8) -> Result<(), AllocE
 
 /// Appends a number in decimal on the right of ten places, and a space.
 pub fn push_right(text: &mut Vec<u8>, value: u32) -> Result<(), AllocError>
-    ensures { text.new.items ≡ (if is_ok result then text.old.items ++ (right_in_ten (decimal value) ++ 32 ∷ []) else text.old.items) }
+    ensures { text.new.items
+        ≡ grown result text.old.items (right_in_ten (decimal value) ++ 32 ∷ []) }
 {
     let (digits, _) = decimal_digits(value, b' ');
     text.extend_from_slice(&digits)

@@ -41,7 +41,8 @@ pub fn push_escaped(text: &mut Vec<u8>, bytes: &[u8]) -> Result<(), AllocError>
 
 // Appends a name of a path, behind a `/` where it is not the first.
 fn push_name(text: &mut Vec<u8>, name: &Name, is_first: bool) -> Result<(), AllocError>
-    ensures { OnOk result (text.new.items ≡ text.old.items ++ ((if is_first then [] else 47 ∷ []) ++ escaped name.now)) }
+    ensures { OnOk result (text.new.items
+        ≡ text.old.items ++ ((if is_first then [] else 47 ∷ []) ++ escaped name.now)) }
 {
     if !is_first {
         text.push(b'/')?;

@@ -43,7 +43,8 @@ pub fn push_full(text: &mut String, need: u64, have: u64) -> Result<(), AllocErr
 
 /// Appends the line of a manifest's fault.
 pub fn push_manifest_fault(text: &mut String, fault: ManifestFault) -> Result<(), AllocError>
-    ensures { OnOk result (string_bytes text.new ≡ string_bytes text.old ++ manifest_fault_line fault) }
+    ensures { OnOk result
+        (string_bytes text.new ≡ string_bytes text.old ++ manifest_fault_line fault) }
 {
     write!(text, "{fault}\n")
 }

@@ -13,7 +13,8 @@ use adf_fields::{Stamp, push_stamp};
 use adf_tree::{Kind, Label, Name, Stamps};
 use std::alloc::AllocError;
 
-/// Appends the lines before those of the entries: the kind and the number of blocks, the label where there is one, and the dates.
+/// Appends the lines before those of the entries: the kind and the number of blocks, the label where there is one, and
+/// the dates.
 pub fn push_opening_lines(
     text: &mut Vec<u8>,
     kind: Kind,
@@ -21,7 +22,9 @@ pub fn push_opening_lines(
     stamps: Stamps,
     blocks: u32,
 ) -> Result<(), AllocError>
-    ensures { (date : Stamp → List ℕ) → AreDates date → OnOk result (text.new.items ≡ text.old.items ++ opening_lines date kind label.now stamps blocks) }
+    ensures { (date : Stamp → List ℕ) → AreDates date
+        → OnOk result
+        (text.new.items ≡ text.old.items ++ opening_lines date kind label.now stamps blocks) }
 {
     push_blocks_line(text, kind, blocks)?;
     push_escaped_line(text, b"label ", label.bytes())?;
@@ -41,7 +44,8 @@ pub fn push_entry_lines(text: &mut Vec<u8>, row: &Row, path: &[Name]) -> Result<
 // Appends the line of a row, and that of its note where it has one.
 fn push_row_lines(text: &mut Vec<u8>, row: &Row, path: &[Name]) -> Result<(), AllocError>
     ensures { (date : Stamp → List ℕ) → AreDates date
-        → OnOk result (text.new.items ≡ text.old.items ++ lines_with date path.now (row_word row.now.body) (row_size row.now.body) row.now.meta) }
+        → OnOk result (text.new.items ≡ text.old.items
+        ++ lines_with date path.now (row_word row.now.body) (row_size row.now.body) row.now.meta) }
 {
     push_word(text, row.body)?;
     push_hex(text, row.meta.protect, b' ')?;
@@ -65,7 +69,8 @@ fn push_word(text: &mut Vec<u8>, body: RowBody) -> Result<(), AllocError>
 
 // Appends the size of a row, on the right of ten places, and a space.
 fn push_size(text: &mut Vec<u8>, body: RowBody) -> Result<(), AllocError>
-    ensures { OnOk result (text.new.items ≡ text.old.items ++ (right_in_ten (row_size body) ++ codes " ")) }
+    ensures { OnOk result
+        (text.new.items ≡ text.old.items ++ (right_in_ten (row_size body) ++ codes " ")) }
 {
     match body {
         RowBody::Dir => text.extend_from_slice(b"         - "),
@@ -97,7 +102,8 @@ fn push_escaped_line(text: &mut Vec<u8>, word: &[u8], bytes: &[u8]) -> Result<()
 
 // Appends a word and a date.
 fn push_date_line(text: &mut Vec<u8>, word: &[u8], s: Stamp) -> Result<(), AllocError>
-    ensures { (date : Stamp → List ℕ) → AreDates date → OnOk result (text.new.items ≡ text.old.items ++ text_line word.now (date s)) }
+    ensures { (date : Stamp → List ℕ) → AreDates date
+        → OnOk result (text.new.items ≡ text.old.items ++ text_line word.now (date s)) }
 {
     text.extend_from_slice(word)?;
     push_date(text, s)?;
@@ -106,7 +112,8 @@ fn push_date_line(text: &mut Vec<u8>, word: &[u8], s: Stamp) -> Result<(), Alloc
 
 // Appends a date.
 fn push_date(text: &mut Vec<u8>, s: Stamp) -> Result<(), AllocError>
-    ensures { (date : Stamp → List ℕ) → AreDates date → OnOk result (text.new.items ≡ text.old.items ++ date s) }
+    ensures { (date : Stamp → List ℕ) → AreDates date
+        → OnOk result (text.new.items ≡ text.old.items ++ date s) }
 {
     push_stamp(text, s)
 }

@@ -1,6 +1,7 @@
 -- The seats of names.
 use Rattle.std.proofs.Common.{◌≡◌, ◌≢◌, ◌==◌, ◌&&◌, ◌||◌, ◌⊎◌, inl, inr, ℕ, ◌+◌, ◌-◌, ◌<◌, ◌≤◌, List, [], ◌∷◌, ◌++◌, length}
-use Rattle.std.proofs.Common.{get_or, set, take, Bool, true, false, Option, Some, None, arith, sym, refl, zero, suc, ◌∙◌, ap, get_or-set_same, get_or-set_other}
+use Rattle.std.proofs.Common.{get_or, set, take, Bool, true, false, Option, Some, None, arith, sym, refl, zero, suc, ◌∙◌, ap, get_or-set_same}
+use Rattle.std.proofs.Common.{get_or-set_other}
 use Rattle.std.specs.Prelude.{◌^◌, nat_lt, slice_index}
 use Rattle.std.specs.Ordering.{is_eq}
 use Rattle.std.specs.List.{slice_get}

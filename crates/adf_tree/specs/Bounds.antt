@@ -6,6 +6,7 @@ use Rattle.adf_tree.specs.declared.entry.Body.{Body}
 use Rattle.adf_tree.specs.declared.entry.Body.TheVariants.{Dir, File}
 use Rattle.adf_tree.specs.declared.entry.Entry.{Entry}
 use Rattle.adf_tree.specs.declared.entry.Stamps.{Stamps}
+use Rattle.adf_tree.specs.Meta.{IsBoundedMeta}
 use Rattle.adf_tree.specs.Texts.{is_name}
 use Rattle.adf_tree.specs.Tree.{Tree}
 
@@ -23,9 +24,7 @@ IsData (File bytes) = length bytes < 2 ^ 63
 -- the fields of an entry are within their bounds
 pub record IsBoundedEntry (e : Entry) : Type 0 where
   pub name : is_name e.name ≡ true
-  pub comment : length e.meta.comment ≤ 79
-  pub protect : e.meta.protect < 2 ^ 32
-  pub stamp : IsStamp e.meta.stamp
+  pub meta : IsBoundedMeta e.meta
   pub body : IsData e.body
 
 -- the fields of a tree are within their bounds

@@ -1,6 +1,7 @@
 pub mod Texts
 pub mod Kinds
 pub mod Tree
+pub mod Meta
 pub mod Bounds
 pub mod Faults
 pub mod Chain

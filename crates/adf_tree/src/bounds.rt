@@ -29,8 +29,6 @@ pub fn entry_bounds(entry: &Entry)
     ensures { IsBoundedEntry entry.now }
 {
     let _name = entry.name.bytes();
-    let _comment = entry.meta.comment.bytes();
-    let _protect = entry.meta.protect;
-    date_bounds(&entry.meta.stamp);
+    entry.meta.bounds();
     body_bounds(&entry.body);
 }

@@ -89,7 +89,8 @@ impl ChildMap {
 
     // Makes the buckets that are lacking.
     fn make_buckets(&mut self) -> Result<(), NoMemory>
-        ensures same { (p : ℕ) (x : List ℕ) → number_in self.new.buckets.items p x ≡ number_in self.old.buckets.items p x }
+        ensures same { (p : ℕ) (x : List ℕ)
+            → number_in self.new.buckets.items p x ≡ number_in self.old.buckets.items p x }
         ensures full { OnOk result (1021 ≤ length self.new.buckets.items) }
     {
         let alloc = *self.buckets.allocator();
@@ -103,8 +104,11 @@ impl ChildMap {
 
     /// Puts an entry in. After `NoMemory` all is as it was.
     pub fn put(&mut self, parent: Node, name: &Name, number: Node) -> Result<(), NoMemory>
-        ensures more { OnOk result (HasNumber self.old.buckets.items self.new.buckets.items parent (uppers name.now) number) }
-        ensures same { OnErr result ((p : ℕ) (x : List ℕ) → number_in self.new.buckets.items p x ≡ number_in self.old.buckets.items p x) }
+        ensures more { OnOk result
+            (HasNumber self.old.buckets.items self.new.buckets.items parent
+            (uppers name.now) number) }
+        ensures same { OnErr result ((p : ℕ) (x : List ℕ)
+            → number_in self.new.buckets.items p x ≡ number_in self.old.buckets.items p x) }
     {
         self.make_buckets()?;
         let key = ChildKey::of(parent, name);

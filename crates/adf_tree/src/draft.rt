@@ -48,7 +48,8 @@ pub struct Room {
 // The directory that the path leads to, by its number among the additions.
 fn directory(entries: &[Entry], children: &ChildMap, path: &[Name]) -> Result<Node, AddFault>
     requires { IsDraft entries.now children.now.buckets.items }
-    ensures room { directory_from (walk entries.now).entries 0 path.now ≡ room_in_tree (walk entries.now).nodes result }
+    ensures room { directory_from (walk entries.now).entries 0 path.now
+        ≡ room_in_tree (walk entries.now).nodes result }
     ensures within { IfOk result (λ m. m ≤ length entries.now) }
 {
     let mut node = Node(0);
@@ -74,7 +75,8 @@ fn free_directory(
     name: &Name,
 ) -> Result<Node, AddFault>
     requires { IsDraft entries.now children.now.buckets.items }
-    ensures room { room_at (walk entries.now).entries name.now (directory_from (walk entries.now).entries 0 path.now)
+    ensures room { room_at (walk entries.now).entries name.now
+        (directory_from (walk entries.now).entries 0 path.now)
         ≡ room_in_tree (walk entries.now).nodes result }
     ensures within { IfOk result (λ m. m ≤ length entries.now) }
 {
@@ -91,9 +93,13 @@ fn add_child(
     children: &mut ChildMap,
     entry: Entry,
 ) -> Result<(), NoMemory>
-    ensures entries { entries.new.items ≡ if is_ok result then entries.old.items ++ entry ∷ [] else entries.old.items }
-    ensures more { OnOk result (HasNumber children.old.buckets.items children.new.buckets.items entry.parent (uppers entry.name) (length entries.old.items + 1)) }
-    ensures same { OnErr result ((p : ℕ) (x : List ℕ) → number_in children.new.buckets.items p x ≡ number_in children.old.buckets.items p x) }
+    ensures entries { entries.new.items
+        ≡ if is_ok result then entries.old.items ++ entry ∷ [] else entries.old.items }
+    ensures more { OnOk result
+        (HasNumber children.old.buckets.items children.new.buckets.items entry.parent
+        (uppers entry.name) (length entries.old.items + 1)) }
+    ensures same { OnErr result ((p : ℕ) (x : List ℕ)
+        → number_in children.new.buckets.items p x ≡ number_in children.old.buckets.items p x) }
 {
     let parent = entry.parent;
     if entries.push(entry).is_err() {
@@ -111,7 +117,8 @@ fn add_child(
 impl Draft {
     /// A tree in the making with no entry.
     pub fn new(alloc: Global, kind: Kind, label: Label, stamps: Stamps) -> Draft
-        ensures tree { result.tree ≡ record { kind = kind; label = label; stamps = stamps; entries = [] } }
+        ensures tree { result.tree
+            ≡ record { kind = kind; label = label; stamps = stamps; entries = [] } }
         ensures nodes { result.nodes ≡ [] }
     {
         Draft {
@@ -141,9 +148,11 @@ impl Draft {
     pub fn put(&mut self, room: &Room, meta: Meta, body: Body) -> Result<(), NoMemory>
         requires room { (path : List (List ℕ)) × IsRoomFor self.old path room.now }
         ensures paths { (path : List (List ℕ)) → IsRoomFor self.old path room.now → OnOk result
-            (AddsOne self.old.tree.entries self.new.tree.entries (new_entry self.old.tree.entries path meta body) path) }
+            (AddsOne self.old.tree.entries self.new.tree.entries
+            (new_entry self.old.tree.entries path meta body) path) }
         ensures tree { (path : List (List ℕ)) → IsRoomFor self.old path room.now
-            → self.new.tree ≡ if is_ok result then with_entry self.old.tree path meta body else self.old.tree }
+            → self.new.tree
+            ≡ if is_ok result then with_entry self.old.tree path meta body else self.old.tree }
     {
         let parent = room.parent;
         let name = room.name.copy();
@@ -163,8 +172,10 @@ impl Draft {
     pub fn add(&mut self, path: &[Name], meta: Meta, body: Body) -> Result<(), AddFault>
         ensures answer { IsAnswer (room_for self.old.tree.entries path.now) result }
         ensures paths { OnOk result
-            (AddsOne self.old.tree.entries self.new.tree.entries (new_entry self.old.tree.entries path.now meta body) path.now) }
-        ensures tree { self.new.tree ≡ if is_ok result then with_entry self.old.tree path.now meta body else self.old.tree }
+            (AddsOne self.old.tree.entries self.new.tree.entries
+            (new_entry self.old.tree.entries path.now meta body) path.now) }
+        ensures tree { self.new.tree
+            ≡ if is_ok result then with_entry self.old.tree path.now meta body else self.old.tree }
     {
         let room = self.room(path)?;
         match self.put(&room, meta, body) {
@@ -177,7 +188,8 @@ impl Draft {
     pub fn finish(self, alloc: Global) -> Result<Tree, NoMemory>
         ensures { IfOk result (λ t. t ≡ self.tree) }
     {
-        let tree = Tree::new(alloc, self.kind, self.label, self.stamps);
+        let count = self.entries.len();
+        let tree = Tree::with_capacity(alloc, self.kind, self.label, self.stamps, count)?;
         walked(alloc, tree, self.entries)
     }
 }

@@ -2,7 +2,9 @@
 
 ghost use Rattle.std.specs.Prelude.{◌≡◌};
 ghost use Rattle.adf_tree.specs.Kinds.{kind_named, kind_text};
+ghost use Rattle.adf_tree.specs.Meta.{IsBoundedMeta, new_meta};
 
+use crate::bounds::date_bounds;
 use crate::name::Name;
 use crate::short_text::Comment;
 use adf_fields::Stamp;
@@ -82,6 +84,28 @@ pub struct Meta {
     pub comment: Comment,
     pub protect: u32,
     pub stamp: Stamp,
+}
+
+impl Meta {
+    /// With this comment, these protection bits and this date.
+    pub fn new(comment: Comment, protect: u32, stamp: Stamp) -> Meta
+        ensures { result ≡ new_meta comment protect stamp }
+    {
+        Meta {
+            comment,
+            protect,
+            stamp,
+        }
+    }
+
+    /// Tells that each field is within the bounds of its type, and does nothing.
+    pub fn bounds(&self)
+        ensures { IsBoundedMeta self.now }
+    {
+        let _comment = self.comment.bytes();
+        let _protect = self.protect;
+        date_bounds(&self.stamp);
+    }
 }
 
 /// The bytes of a file.

@@ -88,7 +88,8 @@ impl LastChain {
         ensures names { IsOf self.new entries.now }
         ensures parent { self.new.is_known ≡ true → self.new.parent ≡ parent }
         ensures slot { self.new.is_known ≡ true → self.new.slot ≡ slot }
-        ensures last { self.new.is_known ≡ true → place entries.now (rank_of parent slot) ≡ length entries.now }
+        ensures last { self.new.is_known ≡ true
+            → place entries.now (rank_of parent slot) ≡ length entries.now }
     {
         if start_of(entries, parent, slot) == entries.len() {
             self.start(parent, slot);
@@ -106,7 +107,8 @@ pub fn add_entry(
 ) -> Result<(), AddFault>
     requires tree { IsTree entries.old.items }
     requires names { IsOf chain.old entries.old.items }
-    ensures entries { entries.new.items ≡ if is_ok result then added entries.old.items entry else entries.old.items }
+    ensures entries { entries.new.items
+        ≡ if is_ok result then added entries.old.items entry else entries.old.items }
     ensures refused { IfErr result (λ f. f ≡ AddFault.NoMemory) }
     ensures names { IsOf chain.new entries.new.items }
 {

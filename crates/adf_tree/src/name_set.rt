@@ -75,7 +75,8 @@ fn holder(names: &[NameKey], seats: &[u32], seat: usize) -> Option<NameKey>
 // What the seats of a name tell.
 fn seats_tell(names: &[NameKey], seats: &[u32], name: NameKey) -> Seating
     ensures exact { result ≡ seats_tell names.now seats.now name }
-    ensures inside { 8 < length seats.now → (seat : ℕ) → result ≡ Vacant seat → seat < length seats.now }
+    ensures inside { 8 < length seats.now → (seat : ℕ) → result ≡ Vacant seat
+        → seat < length seats.now }
 {
     let first = seat_of(name, seats.len().saturating_sub(CHOICE));
     for seat in first..first + CHOICE {
@@ -94,7 +95,8 @@ fn seats_tell(names: &[NameKey], seats: &[u32], name: NameKey) -> Seating
 // How a name is seated: no seat is vacant where there are as many names as there are numbers for them.
 fn seating_of(names: &[NameKey], seats: &[u32], name: NameKey) -> Seating
     ensures exact { result ≡ seating_of names.now seats.now name }
-    ensures inside { 8 < length seats.now → (seat : ℕ) → result ≡ Vacant seat → seat < length seats.now }
+    ensures inside { 8 < length seats.now → (seat : ℕ) → result ≡ Vacant seat
+        → seat < length seats.now }
     ensures few { (seat : ℕ) → result ≡ Vacant seat → length names.now < 2 ^ 32 }
 {
     match seats_tell(names, seats, name) {
@@ -150,7 +152,8 @@ fn seat_new(
     requires few { length names.old.items < 2 ^ 32 }
     requires inside { seat < length seats.old }
     requires vacant { seating_of names.old.items seats.old name ≡ Vacant seat }
-    ensures seated { (rest : Names) → AreSeated names.old.items seats.old rest → AreSeated names.new.items seats.new rest }
+    ensures seated { (rest : Names) → AreSeated names.old.items seats.old rest
+        → AreSeated names.new.items seats.new rest }
     ensures more { OnOk result (names.new.items ≡ names.old.items ++ name ∷ []) }
 {
     let place = names.len() as u32;
@@ -183,8 +186,10 @@ fn place(
     requires some { 8 < length seats.old }
     requires seated { AreSeated names.old.items seats.old rest.old.keys }
     ensures seated { AreSeated names.new.items seats.new rest.new.keys }
-    ensures new { IfOk result (λ is_new. is_new ≡ not (is_among (names.old.items ++ rest.old.keys) name)) }
-    ensures more { OnOk result (IsWith (names.old.items ++ rest.old.keys) (names.new.items ++ rest.new.keys) name) }
+    ensures new { IfOk result (λ is_new.
+        is_new ≡ not (is_among (names.old.items ++ rest.old.keys) name)) }
+    ensures more { OnOk result
+        (IsWith (names.old.items ++ rest.old.keys) (names.new.items ++ rest.new.keys) name) }
 {
     match seating_of(names, seats, name) {
         Seating::Seated => Ok(false),
@@ -206,7 +211,8 @@ fn place_all(
     requires some { 8 < length seats.old }
     requires seated { AreSeated names.old.items seats.old rest.old.keys }
     ensures seated { AreSeated names.new.items seats.new rest.new.keys }
-    ensures more { OnOk result (IsUnion (names.old.items ++ rest.old.keys) more.now (names.new.items ++ rest.new.keys)) }
+    ensures more { OnOk result
+        (IsUnion (names.old.items ++ rest.old.keys) more.now (names.new.items ++ rest.new.keys)) }
 {
     for i in 0..more.len() {
         place(names, seats, rest, more[i])?;
@@ -224,7 +230,8 @@ fn place_rest(
     requires some { 8 < length seats.old }
     requires seated { AreSeated names.old.items seats.old rest.old.keys }
     ensures seated { AreSeated names.new.items seats.new rest.new.keys }
-    ensures more { OnOk result (IsUnion (names.old.items ++ rest.old.keys) more.keys (names.new.items ++ rest.new.keys)) }
+    ensures more { OnOk result
+        (IsUnion (names.old.items ++ rest.old.keys) more.keys (names.new.items ++ rest.new.keys)) }
 {
     while let Some(name) = more.pop_first() {
         place(names, seats, rest, name)?;
@@ -241,7 +248,9 @@ fn make_room(
     requires seated { AreSeated names.old.items seats.old.items rest.old.keys }
     ensures seated { AreSeated names.new.items seats.new.items rest.new.keys }
     ensures some { OnOk result (8 < length seats.new.items) }
-    ensures same { OnOk result ((k : NameKey) → is_among (names.new.items ++ rest.new.keys) k ≡ is_among (names.old.items ++ rest.old.keys) k) }
+    ensures same { OnOk result ((k : NameKey)
+        → is_among (names.new.items ++ rest.new.keys) k
+        ≡ is_among (names.old.items ++ rest.old.keys) k) }
 {
     if !are_few(seats.len(), names.len(), rest.len()) {
         return Ok(());

@@ -68,7 +68,8 @@ fn slash(text: &[u8]) -> Option<usize>
 // The part of a text before the first `/`, and what is after that.
 fn cut(text: &[u8]) -> (&[u8], Option<&[u8]>)
     ensures last { IfNone result.1 (between_slashes text.now ≡ result.0.now ∷ []) }
-    ensures more { IfSome result.1 (λ after. between_slashes text.now ≡ result.0.now ∷ between_slashes after.now) }
+    ensures more { IfSome result.1 (λ after.
+        between_slashes text.now ≡ result.0.now ∷ between_slashes after.now) }
     ensures shorter { IfSome result.1 (λ after. length after.now < length text.now) }
 {
     match slash(text) {
@@ -100,7 +101,8 @@ fn has_names(text: &[u8]) -> bool
 fn names_of(alloc: Global, text: &[u8]) -> Result<Vec<Name>, PathFault>
     requires { 0 < length text.now }
     ensures ok { IfOk result (λ path. IsPathText text.now path.items) }
-    ensures err { IfErr result (λ f. f ≡ PathFault.BadText → (path : List (List ℕ)) → ¬ IsPathText text.now path) }
+    ensures err { IfErr result (λ f. f ≡ PathFault.BadText → (path : List (List ℕ))
+        → ¬ IsPathText text.now path) }
 {
     let mut path = Vec::new(alloc);
     let mut rest = text;
@@ -124,7 +126,8 @@ fn names_of(alloc: Global, text: &[u8]) -> Result<Vec<Name>, PathFault>
 pub fn read_path(alloc: Global, text: &[u8]) -> Result<Vec<Name>, PathFault>
     ensures ok { IfOk result (λ path. IsPathText text.now path.items) }
     ensures empty { text.now ≡ [] → IsOk result }
-    ensures bad_text { (result ≡ Err PathFault.BadText) ↔ ((path : List (List ℕ)) → ¬ IsPathText text.now path) }
+    ensures bad_text { (result ≡ Err PathFault.BadText)
+        ↔ ((path : List (List ℕ)) → ¬ IsPathText text.now path) }
 {
     if text.is_empty() {
         return Ok(Vec::new(alloc));
@@ -137,7 +140,8 @@ pub fn read_path(alloc: Global, text: &[u8]) -> Result<Vec<Name>, PathFault>
 
 // Appends a name to the text of a path, after a `/` where it is not the first.
 fn push_name(text: &mut String, name: &Name, is_first: bool) -> Result<(), AllocError>
-    ensures { IfOk result (λ _. string_bytes text.new ≡ with_name (string_bytes text.old) name.now is_first) }
+    ensures { IfOk result (λ _.
+        string_bytes text.new ≡ with_name (string_bytes text.old) name.now is_first) }
 {
     if !is_first {
         text.push('/')?;

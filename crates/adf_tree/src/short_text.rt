@@ -50,6 +50,15 @@ impl<const MOST: usize> ShortText<MOST> {
         Some(ShortText { text })
     }
 
+    /// The same text once more.
+    pub(crate) fn copy(&self) -> ShortText<MOST>
+        ensures { result ≡ self.now }
+    {
+        ShortText {
+            text: ArrayVec::try_from(self.bytes()).unwrap(),
+        }
+    }
+
     /// The bytes of the text.
     pub fn bytes(&self) -> &[u8]
         ensures bytes { result.now ≡ self.now }

@@ -1,6 +1,6 @@
 // Trees.
 
-ghost use Rattle.std.specs.Prelude.{◌≡◌, ◌<◌, [], length, is_ok, if◌then◌else◌, OnOk};
+ghost use Rattle.std.specs.Prelude.{◌≡◌, ◌<◌, [], length, is_ok, if◌then◌else◌, IfOk, OnOk};
 ghost use Rattle.std.specs.Option.{option_copied};
 ghost use Rattle.adf_tree.specs.Tree.{entry, find, new_entry, room_for, with_entry, with_kind, with_last, IsAnswer, IsLast, IsTree, MayAdd};
 ghost use Rattle.adf_tree.specs.Faults.{add_fault_number};
@@ -98,6 +98,25 @@ impl Tree {
         }
     }
 
+    /// A tree with no entry, and the memory that so many entries take.
+    pub(crate) fn with_capacity(
+        alloc: Global,
+        kind: Kind,
+        label: Label,
+        stamps: Stamps,
+        count: usize,
+    ) -> Result<Tree, NoMemory>
+        ensures { IfOk result (λ t.
+            t ≡ record { kind = kind; label = label; stamps = stamps; entries = [] }) }
+    {
+        let Ok(entries) = Vec::with_capacity(alloc, count) else {
+            return Err(NoMemory);
+        };
+        let mut tree = Tree::new(alloc, kind, label, stamps);
+        tree.entries = entries;
+        Ok(tree)
+    }
+
     /// The kind of the volume.
     pub fn kind(&self) -> Kind
         ensures { result ≡ self.now.kind }
@@ -160,8 +179,11 @@ impl Tree {
     /// faults that apply, `EmptyPath` comes first, then `NoParent` or `ParentIsFile`, then `Exists`.
     pub fn add(&mut self, path: &[Name], meta: Meta, body: Body) -> Result<(), AddFault>
         ensures answer { IsAnswer (room_for self.old.entries path.now) result }
-        ensures paths { OnOk result (AddsOne self.old.entries self.new.entries (new_entry self.old.entries path.now meta body) path.now) }
-        ensures tree { self.new ≡ if is_ok result then with_entry self.old path.now meta body else self.old }
+        ensures paths { OnOk result
+            (AddsOne self.old.entries self.new.entries
+            (new_entry self.old.entries path.now meta body) path.now) }
+        ensures tree { self.new
+            ≡ if is_ok result then with_entry self.old path.now meta body else self.old }
     {
         if path.is_empty() {
             return Err(AddFault::EmptyPath);

@@ -29,7 +29,8 @@ pub fn start_of(entries: &[Entry], parent: Node, slot: u8) -> usize
     requires slot { slot < 72 }
     requires order { IsNonDecreasingBy rank entries.now }
     ensures within { result ≤ length entries.now }
-    ensures parted { IsPartitionPoint (λ e. nat_lt (rank e) (rank_of parent slot) ≡ true) (λ e. nat_lt (rank e) (rank_of parent slot) ≡ false) entries.now result }
+    ensures parted { IsPartitionPoint (λ e. nat_lt (rank e) (rank_of parent slot) ≡ true) (λ e.
+        nat_lt (rank e) (rank_of parent slot) ≡ false) entries.now result }
 {
     entries.partition_point(|e| is_less(e, parent, slot))
 }
@@ -56,7 +57,8 @@ fn renumber_entry(e: &mut Entry, from: Node)
 
 // Moves the parents up that have the number `from` or a greater one.
 fn renumber_all(entries: &mut [Entry], from: Node)
-    requires { (i : ℕ) (d : Entry) → i < length entries.old → (slice_index_or entries.old i d).parent + 1 < 2 ^ 64 }
+    requires { (i : ℕ) (d : Entry) → i < length entries.old
+        → (slice_index_or entries.old i d).parent + 1 < 2 ^ 64 }
     ensures { entries.new ≡ map (renumbered from) entries.old }
 {
     for e in entries.iter_mut() {
@@ -67,8 +69,10 @@ fn renumber_all(entries: &mut [Entry], from: Node)
 // Moves the parents up of the entries past the new one at `at`.
 fn renumber(entries: &mut [Entry], at: usize)
     requires within { at < length entries.old }
-    requires parents { (i : ℕ) (d : Entry) → at < i → i < length entries.old → (slice_index_or entries.old i d).parent < i }
-    ensures { entries.new ≡ take (at + 1) entries.old ++ map (renumbered (at + 1)) (drop (at + 1) entries.old) }
+    requires parents { (i : ℕ) (d : Entry) → at < i → i < length entries.old
+        → (slice_index_or entries.old i d).parent < i }
+    ensures { entries.new
+        ≡ take (at + 1) entries.old ++ map (renumbered (at + 1)) (drop (at + 1) entries.old) }
 {
     let count = entries.len();
     renumber_all(&mut entries[at + 1..count], Node(at + 1));
@@ -77,7 +81,8 @@ fn renumber(entries: &mut [Entry], at: usize)
 /// Adds an entry after all of the same or a lesser pair.
 pub fn insert_entry(entries: &mut Vec<Entry>, entry: Entry) -> Result<(), AddFault>
     requires tree { IsTree entries.old.items }
-    ensures entries { entries.new.items ≡ if is_ok result then added entries.old.items entry else entries.old.items }
+    ensures entries { entries.new.items
+        ≡ if is_ok result then added entries.old.items entry else entries.old.items }
     ensures refused { IfErr result (λ f. f ≡ AddFault.NoMemory) }
 {
     let at = place_of(entries, entry.parent, slot(entry.name.bytes()));

@@ -1,12 +1,13 @@
 -- What holds of every list of parts of which each was asked for, and lacking, when it came, whatever its block holds.
 use Rattle.std.proofs.lemmas.Bool.{eqb-true}
 use Rattle.std.specs.Prelude.{◌==◌}
-use Rattle.std.proofs.Common.{Bool, true, false, cond, eq-eqb, ◌≡◌, ℕ, zero, suc, List, [], ◌∷◌, inl, inr, ◌+◌, ◌*◌, ◌/◌, ◌<◌, ◌≤◌, refl, sym, ap, subst, ◌∙◌, arith}
+use Rattle.std.proofs.Common.{Bool, true, false, cond, eq-eqb, ◌≡◌, ℕ, zero, suc, List, [], ◌∷◌, inl, inr, ◌+◌, ◌*◌, ◌/◌, ◌<◌, ◌≤◌, refl, sym, ap}
+use Rattle.std.proofs.Common.{subst, ◌∙◌, arith}
 use native.Mathlib.Decide.{dec_le, dec_lt}
 use Rattle.adf_blocks.specs.declared.layout.TheConstants.{MAP_EXT_PAGES, POINTERS, ROOT_PAGES}
 use Rattle.adf_volume.specs.Image.{root_of}
 use Rattle.std.proofs.lemmas.Bool.Decides.{eqb_tells}
-use Rattle.adf_volume.specs.Walk.{first, ext_block, ext_block_of, ext_count, ext_count_of, member_block, node_block, node_block_of}
+use Rattle.adf_volume.specs.Walk.{first, ext_block_in, ext_block_of, ext_count, ext_count_of, member_block, node_block, node_block_of}
 use Rattle.adf_volume.specs.Walk.{Role, second, Same, Has, head_count, heads, NodeAt, DirAt, FileAt, MemberAt, NamesPage, Asks, Lacks}
 use Rattle.adf_volume.specs.Walk.Role.{Root, Page, MapExt, Head, Ext, Data}
 use Rattle.adf_volume.proofs.Roles.{asks_number, count_own, count_up, dir_is_node, dir_up, file_up, heads_up, same_of}
@@ -216,13 +217,13 @@ module _ (image : List ℕ) where
       cond_both (n == m) (k == i) b c a (λ t u. h (ap (λ m. Ext m i) (sym (eqb-true n m t)) ∙ ap (Ext n) (sym (eqb-true k i u)))) z
   ext_block_old n k _ b c a h z = z
 
-  ext_is_block : {w : List (Role × ℕ)} → IsGathered image w → (n k b : ℕ) → Has w (Ext n k) b → ext_block w n k ≡ b
+  ext_is_block : {w : List (Role × ℕ)} → IsGathered image w → (n k b : ℕ) → Has w (Ext n k) b → ext_block_in w n k ≡ b
   ext_is_block start n k b (inl e) =
       let h : second Root ≡ second (Ext n k) = ap second e.0 in let g : first Root ≡ first (Ext n k) = ap first e.0 in absurd (omega arith)
   ext_is_block start n k b (inr f) = absurd f
-  ext_is_block (step {w = w} {r = r} a i b' v d l) n k b (inl e) = ext_block_new n k r b' (ext_block w n k) e.0 ∙ e.1
+  ext_is_block (step {w = w} {r = r} a i b' v d l) n k b (inl e) = ext_block_new n k r b' (ext_block_in w n k) e.0 ∙ e.1
   ext_is_block (step {w = w} {r = r} a i b' v d l) n k b (inr h) =
-      ext_block_old n k r b' (ext_block w n k) b (λ e. l (Ext n k) b h (same_of (Ext n k) r (sym e))) (ext_is_block v n k b h)
+      ext_block_old n k r b' (ext_block_in w n k) b (λ e. l (Ext n k) b h (same_of (Ext n k) r (sym e))) (ext_is_block v n k b h)
 
   pub member_is : {w : List (Role × ℕ)} → IsGathered image w → (n m a : ℕ) → MemberAt image w n m a → member_block w n m ≡ a
   member_is v n zero a h = head_block v n h.0.0 h.0.1 h.0.2 a h.0.3

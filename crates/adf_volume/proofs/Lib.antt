@@ -9,9 +9,11 @@ pub mod Chains
 pub mod Finds
 pub mod FormDemands
 pub mod Images
+pub mod ImageStart
+pub mod WordsPast
 pub mod Owners
 pub mod LayoutRoles
-pub mod Pieces
+pub mod PieceBytes
 pub mod Places
 pub mod TreeOrder
 -- walks

@@ -23,7 +23,8 @@ use Rattle.adf_volume.specs.Made.{pages_in, map_exts_in, exts_in, datas_in, body
 use Rattle.adf_volume.proofs.FormDemands.{head_type, dir_not_file}
 use Rattle.adf_volume.proofs.Images.{content_length, map_exts_high, map_exts_low}
 use Rattle.adf_volume.proofs.Lists.{at_fun, at_below, at_some, at_unmap, spelled_from, no_length, at_index, index_past}
-use Rattle.adf_volume.proofs.Walks.{root_is, root_in, number_of, one_head, one_block, ext_file, asked_block, asked_header, page_word}
+use Rattle.adf_volume.proofs.Gathered.{file_one}
+use Rattle.adf_volume.proofs.Walks.{of_walk, root_is, root_in, number_of, one_head, one_block, ext_file, asked_block, asked_header, page_word}
 use Rattle.adf_volume.proofs.WalkOrder.{parent_below, in_order}
 use Rattle.adf_volume.proofs.MemberFacts.{kept, there, IsNext, new_names, in_range, map_ext_low}
 use Rattle.adf_volume.proofs.WalkMembers.{entry_has, place_has, has_entry, exts_length, ext_has, has_ext, data_has, has_data, pages}
@@ -231,15 +232,12 @@ module _ (image : List ℕ) (w : List (Role × ℕ)) (v : IsWalk image w) (whole
       → (at_node image (layout_in w) n ≡ h) × (exts_of (layout_in w) n ≡ exts_in w n) × (datas_of (layout_in w) n ≡ datas_in w n)
   file_parts n h f = head_is n f.0.0 f.0.1 f.0.2 h f.0.3
 
-  one_file : (n h k : ℕ) → FileAt image w n h → FileAt image w n k → h ≡ k
-  one_file n h k f g = (one_head image v n f.0.0 f.0.1 f.0.2 h g.0.0 g.0.1 g.0.2 k f.0.3 g.0.3).1
-
   enough_now : (n h : ℕ) → FileAt image w n h → data_count image h ≤ POINTERS * suc (ext_count w n)
   enough_now n h f =
       let few : POINTERS * suc (ext_count w n) < data_count image h → ⊥ = (λ u.
       let x = asked_block image w whole (Data n 1) h (table_word 0) ((h, f, omega arith), f, refl) (omega arith) in
       let k = kept image v (Data n 1) x.0 x.1 in
-      let y = subst (λ h. data_count image h ≤ POINTERS * suc (ext_count w n)) (one_file n k.0 h k.1 f) k.3 in
+      let y = subst (λ h. data_count image h ≤ POINTERS * suc (ext_count w n)) (file_one image (of_walk image v) n k.0 h k.1 f) k.3 in
       omega arith) in
       omega arith
 
@@ -255,7 +253,7 @@ module _ (image : List ℕ) (w : List (Role × ℕ)) (v : IsWalk image w) (whole
       let few : data_count image h < m → ⊥ = (λ l.
       let x = at_some (datas_in w n) (data_count image h) l in
       let k = kept image v (Data n (suc (data_count image h))) x.0 (has_data image w v n (data_count image h) x.0 x.1) in
-      let y = subst (λ g. data_count image h < data_count image g) (one_file n k.0 h k.1 f) k.2 in
+      let y = subst (λ g. data_count image h < data_count image g) (file_one image (of_walk image v) n k.0 h k.1 f) k.2 in
       omega arith) in
       omega arith
 
@@ -264,7 +262,7 @@ module _ (image : List ℕ) (w : List (Role × ℕ)) (v : IsWalk image w) (whole
       spelled_from (λ b. word_in image b EXTENSION) (word_in image h EXTENSION) (exts_in w n)
       (λ b x.
       let k = (kept image v (Ext n 1) b (has_ext image w v n 0 b x)).0 in
-      ap (λ h. word_in image h EXTENSION) (one_file n h k.0 f k.1) ∙ k.2)
+      ap (λ h. word_in image h EXTENSION) (file_one image (of_walk image v) n h k.0 f k.1) ∙ k.2)
       (λ z.
       let none : 0 < word_in image h EXTENSION → ⊥ = (λ some.
       let x = asked_block image w whole (Ext n 1) h EXTENSION (f, refl, (λ z. omega arith)) (omega arith) in
@@ -312,7 +310,7 @@ module _ (image : List ℕ) (w : List (Role × ℕ)) (v : IsWalk image w) (whole
       → AllHold (data_demands image (kind_of image) b h (suc k) (held (kind_of image) (word_in image h SIZE) (suc k)) (slice_index (datas_in w n) (suc k)))
   data_formed n h k b f x =
       let y = kept image v (Data n (suc k)) b (has_data image w v n k b x) in
-      let z : y.0 ≡ h = one_file n y.0 h y.1 f in
+      let z : y.0 ≡ h = file_one image (of_walk image v) n y.0 h y.1 f in
       let e : y.5.0 ≡ slice_index (datas_in w n) (suc k) = data_next n h (suc k) y.5.0 f (subst (λ h. IsNext image w n (suc k) h y.5.0) z y.5.1) in
       rw (← e, ← z) y.5.2
 
@@ -327,7 +325,7 @@ module _ (image : List ℕ) (w : List (Role × ℕ)) (v : IsWalk image w) (whole
         exts = subst (Spelled (λ b. word_in image b EXTENSION) (word_in image h EXTENSION)) (sym ex) (exts_spelled n h f);
         ext_form = (λ k b x.
             let y = (kept image v (Ext n (suc k)) b (has_ext image w v n k b (subst (λ xs. At xs k b) ex x))).1 in
-            subst (λ h. AllHold (ext_demands image b h)) (one_file n y.0 h y.1 f) y.2);
+            subst (λ h. AllHold (ext_demands image b h)) (file_one image (of_walk image v) n y.0 h y.1 f) y.2);
         enough =
             (let en : data_count image h ≤ POINTERS * suc (ext_count w n) = enough_now n h f in
             let l : length (exts_of (layout_in w) n) ≡ ext_count w n = ap length ex ∙ exts_length image w n in

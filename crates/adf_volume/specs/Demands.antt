@@ -1,5 +1,5 @@
 -- What must hold of one block, as a list of demands with their causes.
-use Rattle.std.specs.Prelude.{◌≡◌, ℕ, List, [], ◌∷◌, ◌⊎◌, ◌*◌, length, slice_index, true, not, ◌==◌, ◌&&◌, nat_le}
+use Rattle.std.specs.Prelude.{◌≡◌, ℕ, List, [], ◌∷◌, Bool, ◌⊎◌, ◌*◌, length, slice_index, true, not, ◌==◌, ◌&&◌, nat_le}
 use Rattle.adf_fields.specs.Words.{block}
 use Rattle.adf_tree.specs.declared.entry.Kind.{Kind}
 use Rattle.adf_tree.specs.declared.entry.Kind.TheVariants.{Ofs, Ffs}
@@ -42,10 +42,14 @@ demands_at b (x ∷ xs) = demand x.1 b (x.0 ≡ true) ∷ demands_at b xs
 abbrev pub IsSize : List ℕ → Type 0
 IsSize image = (length image ≡ 512 * blocks image) × (is_allowed (blocks image) ≡ true)
 
+-- whether the boot block begins with `DOS` and a type up to 5
+abbrev pub is_dos : List ℕ → Bool
+is_dos b = (slice_index b 0 == 0x44) && (slice_index b 1 == 0x4F) && (slice_index b 2 == 0x53) && nat_le (slice_index b 3) 5
+
 -- what the first boot block holds: `DOS` and a type, of which 0 and 1 are read
 abbrev pub boot_form : List ℕ → List Clause
 boot_form b =
-    ((slice_index b 0 == 0x44) && (slice_index b 1 == 0x4F) && (slice_index b 2 == 0x53) && nat_le (slice_index b 3) 5, NotDos)
+    (is_dos b, NotDos)
     ∷ (not (slice_index b 3 == 2) && not (slice_index b 3 == 3), International)
     ∷ (not (slice_index b 3 == 4) && not (slice_index b 3 == 5), DirCache)
     ∷ []

@@ -1,6 +1,8 @@
 pub mod Lists
 pub mod Image
 pub mod Demands
+pub mod Start
+pub mod Pieces
 pub mod Layout
 pub mod Fits
 pub mod Walk

@@ -6,6 +6,7 @@ use Rattle.adf_fields.specs.declared.dates.Stamp.{Stamp}
 use Rattle.adf_tree.specs.declared.entry.Body.TheVariants.{File}
 use Rattle.adf_tree.specs.declared.entry.Entry.{Entry}
 use Rattle.adf_tree.specs.declared.entry.Kind.TheVariants.{Ofs, Ffs}
+use Rattle.adf_tree.specs.Meta.{new_meta}
 use Rattle.adf_tree.specs.Tree.{Tree}
 use Rattle.adf_volume.specs.Layout.{Layout}
 
@@ -75,7 +76,7 @@ abbrev pub file_a : Entry
 file_a = record {
   parent = 0;
   name = 0x61 ∷ [];
-  meta = record { comment = []; protect = 0; stamp = no_stamp };
+  meta = new_meta [] 0 no_stamp;
   body = File (replicate 489 0x41);
 }
 

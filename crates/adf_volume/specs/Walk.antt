@@ -162,14 +162,14 @@ ext_block_of n k (Ext m i) b c = cond (n == m) (cond (k == i) b c) c
 ext_block_of n k _ b c = c
 
 -- extension block k of file n
-abbrev pub ext_block : List (Role × ℕ) → ℕ → ℕ → ℕ
-ext_block [] n k = 0
-ext_block (x ∷ w) n k = ext_block_of n k x.0 x.1 (ext_block w n k)
+abbrev pub ext_block_in : List (Role × ℕ) → ℕ → ℕ → ℕ
+ext_block_in [] n k = 0
+ext_block_in (x ∷ w) n k = ext_block_of n k x.0 x.1 (ext_block_in w n k)
 
 -- member m of the header of n followed by its extension blocks
 abbrev pub member_block : List (Role × ℕ) → ℕ → ℕ → ℕ
 member_block w n zero = node_block w n
-member_block w n (suc m) = ext_block w n (suc m)
+member_block w n (suc m) = ext_block_in w n (suc m)
 
 -- what the table of file n has for data block k + 1, or 0 where that is past the last
 abbrev pub next_data : List ℕ → List (Role × ℕ) → ℕ → ℕ → ℕ

@@ -21,65 +21,80 @@ ghost use Rattle.adf_volume.specs.Made.{layout_in, tree_in};
 
 /// The demands of a form all hold exactly where it has no first cause; the first that fails is its first cause.
 pub fn demanded_form()
-    ensures all { (b : ℕ) (form : List Clause) → AllHold (demands_at b form) ↔ (first_cause form ≡ None) }
-    ensures first { (b a : ℕ) (c : Cause) (form : List Clause) → FirstFails (demands_at b form) a c ↔ ((first_cause form ≡ Some c) × (b ≡ a)) }
+    ensures all { (b : ℕ) (form : List Clause)
+        → AllHold (demands_at b form) ↔ (first_cause form ≡ None) }
+    ensures first { (b a : ℕ) (c : Cause) (form : List Clause)
+        → FirstFails (demands_at b form) a c ↔ ((first_cause form ≡ Some c) × (b ≡ a)) }
 {}
 
 /// Where a tree and a layout fit, what a walk has is a part of them, and what is due next is one and has no cause.
 pub fn agreement()
-    ensures part { (image : List ℕ) (t : Tree) (l : Layout) (w : List (Role × ℕ)) → Fits image t l → IsWalk image w
+    ensures part { (image : List ℕ) (t : Tree) (l : Layout) (w : List (Role × ℕ)) → Fits image t l
+        → IsWalk image w
         → (r : Role) (b : ℕ) → Has w r b → LayoutHas image t l r b }
-    ensures due { (image : List ℕ) (t : Tree) (l : Layout) (w : List (Role × ℕ)) → Fits image t l → IsWalk image w
-        → (r : Role) (a i : ℕ) → IsDue image w r a i → LayoutHas image t l r (word_in image a i) × NoCause image w r a (word_in image a i) }
+    ensures due { (image : List ℕ) (t : Tree) (l : Layout) (w : List (Role × ℕ)) → Fits image t l
+        → IsWalk image w
+        → (r : Role) (a i : ℕ) → IsDue image w r a i
+        → LayoutHas image t l r (word_in image a i) × NoCause image w r a (word_in image a i) }
 {}
 
 /// Where besides nothing is due, each part is in the walk.
 #[tactic(auto, using(crate::proofs::WalkCompleteness::part_walked))]
 pub fn completeness()
-    ensures { (image : List ℕ) (t : Tree) (l : Layout) (w : List (Role × ℕ)) → Fits image t l → IsWalk image w → IsWhole image w
+    ensures { (image : List ℕ) (t : Tree) (l : Layout) (w : List (Role × ℕ)) → Fits image t l
+        → IsWalk image w → IsWhole image w
         → (r : Role) (b : ℕ) → LayoutHas image t l r b → Has w r b }
 {}
 
 /// An image with a first fault has no tree.
 pub fn none_fits()
-    ensures { (image : List ℕ) (b : ℕ) (c : Cause) → FirstFault image b c → (t : Tree) (l : Layout) → Fits image t l → ⊥ }
+    ensures { (image : List ℕ) (b : ℕ) (c : Cause) → FirstFault image b c → (t : Tree) (l : Layout)
+        → Fits image t l → ⊥ }
 {}
 
 /// Where a tree and a layout fit, there is a whole walk.
 #[tactic(auto, using(crate::proofs::FitWalks::whole_walk))]
 pub fn whole_walk()
-    ensures { (image : List ℕ) (t : Tree) (l : Layout) → Fits image t l → (w : List (Role × ℕ)) × IsWalk image w × IsWhole image w }
+    ensures { (image : List ℕ) (t : Tree) (l : Layout) → Fits image t l
+        → (w : List (Role × ℕ)) × IsWalk image w × IsWhole image w }
 {}
 
 /// Two trees that fit an image are one, and so are their layouts.
 #[tactic(auto, using(crate::proofs::FitWalks::one_fit))]
 pub fn one_fit()
-    ensures { (image : List ℕ) (t u : Tree) (l m : Layout) → Fits image t l → Fits image u m → (t ≡ u) × (l ≡ m) }
+    ensures { (image : List ℕ) (t u : Tree) (l m : Layout) → Fits image t l → Fits image u m
+        → (t ≡ u) × (l ≡ m) }
 {}
 
 /// What a whole walk tells of an image whose boot bytes, root and bitmap are sound, fits it.
 pub fn layout_of_walk_fits()
-    ensures { (image : List ℕ) (w : List (Role × ℕ)) → AllHold (boot_demands image) → AllHold (root_demands image (root_of image))
+    ensures { (image : List ℕ) (w : List (Role × ℕ)) → AllHold (boot_demands image)
+        → AllHold (root_demands image (root_of image))
         → IsWalk image w → IsWhole image w → AllHold (bitmap_demands image w 2 (blocks image - 2))
         → Fits image (tree_in image w) (layout_in w) }
 {}
 
 /// An image has one first fault at most.
 pub fn one_fault()
-    ensures { (image : List ℕ) (b d : ℕ) (c e : Cause) → FirstFault image b c → FirstFault image d e → (b ≡ d) × (c ≡ e) }
+    ensures { (image : List ℕ) (b d : ℕ) (c e : Cause) → FirstFault image b c → FirstFault image d e
+        → (b ≡ d) × (c ≡ e) }
 {}
 
 /// The numbers of a chain are those of its entries.
 #[tactic(auto, using(crate::proofs::Chains::chain_entries, crate::proofs::Chains::entry_is_at))]
 pub fn chains_of_numbers()
-    ensures entries { (t : Tree) (p s : ℕ) → map (λ n. entry t.entries n) (chain_nodes t p s) ≡ map Some (chain t.entries p s) }
-    ensures numbers { (t : Tree) (n : ℕ) (e : Entry) → EntryAt t n e ↔ (entry t.entries n ≡ Some e) }
+    ensures entries { (t : Tree) (p s : ℕ)
+        → map (λ n. entry t.entries n) (chain_nodes t p s) ≡ map Some (chain t.entries p s) }
+    ensures numbers { (t : Tree) (n : ℕ) (e : Entry)
+        → EntryAt t n e ↔ (entry t.entries n ≡ Some e) }
 {}
 
 /// The pieces of a file, one after the other, are its content.
-#[tactic(auto, using(crate::proofs::Pieces::pieces_joined, crate::proofs::Pieces::pieces_length))]
+#[tactic(auto, using(crate::proofs::PieceBytes::pieces_joined, crate::proofs::PieceBytes::pieces_length))]
 pub fn pieces_are_content()
-    ensures joined { (image : List ℕ) (kind : Kind) (h : ℕ) (datas : List ℕ) → length image ≡ 512 * blocks image → ((i b : ℕ) → At datas i b → b < blocks image)
+    ensures joined { (image : List ℕ) (kind : Kind) (h : ℕ) (datas : List ℕ)
+        → length image ≡ 512 * blocks image → ((i b : ℕ) → At datas i b → b < blocks image)
         → concat (pieces image kind (word_in image h SIZE) 1 datas) ≡ content image kind h datas }
-    ensures one_each { (image : List ℕ) (kind : Kind) (size k : ℕ) (datas : List ℕ) → length (pieces image kind size k datas) ≡ length datas }
+    ensures one_each { (image : List ℕ) (kind : Kind) (size k : ℕ) (datas : List ℕ)
+        → length (pieces image kind size k datas) ≡ length datas }
 {}

@@ -20,9 +20,11 @@ loop-i-preserved c =
     let slots = slots_are c.slots_between-slots.result nodes es (i + 1) (search rules) (λ s h. c.slots_between-slots.ensures s h
     ∙ ap (first_block (slice_index nodes)) (sym (c.loop-i.invariant.chains (i + 1) s (omega arith)))) in
     record {
-      work = entry_step c.write_entry.new.image c.loop-i.image _ c.args.plan.blocks kind c.kind.result nodes c.slots_between-slots.result es (drop i es)
-          (drop (i + 1) es) (i + 1) k c.next_free-k.result (i + 2) e (record { k = k; parent = c.parent_block.result; next = c.next_of.result })
-          split c.kind.ensures (omega arith) skip refl c.parent_block.ensures c.next_of.ensures slots c.loop-i.invariant.work c.write_entry.ensures;
+      work = entry_step c.write_entry.new.image c.loop-i.image _ nodes c.slots_between-slots.result c.args.plan.blocks c.args.tree.now c.kind.result
+          (drop i es) (drop (i + 1) es) (i + 1) k c.next_free-k.result (i + 2) e
+          (record { k = k; parent = c.parent_block.result; next = c.next_of.result })
+          split c.kind.ensures (omega arith) skip c.requires.nodes refl c.parent_block.ensures c.next_of.ensures slots c.loop-i.invariant.work
+          c.write_entry.ensures;
       room = room_step kind k c.next_free-k.result _ (drop i es) (drop (i + 1) es) e split skip c.loop-i.invariant.room;
       within = c.children_end-end.ensures.within;
       low = c.children_end-end.ensures.past;

@@ -8,8 +8,8 @@ use Rattle.adf_build.proofs.entries.write_entries.Given as goal
 
 abbrev pub invariant-loop-i : goal.invariant-loop-i
 invariant-loop-i l = record {
-  work : with_blocks l.image (entries_writes l.plan.blocks l.tree.kind l.nodes l.tree.entries (l.i + 1) l.k (drop l.i l.tree.entries))
-      ≡ with_blocks l.initial.image (entries_writes l.plan.blocks l.tree.kind l.nodes l.tree.entries 1 0 l.tree.entries);
+  work : with_blocks l.image (entries_writes l.plan.blocks l.tree (l.i + 1) l.k (drop l.i l.tree.entries))
+      ≡ with_blocks l.initial.image (entries_writes l.plan.blocks l.tree 1 0 l.tree.entries);
   room : l.k + entries_blocks l.tree.kind (drop l.i l.tree.entries) ≡ entries_blocks l.tree.kind l.tree.entries;
   within : l.child ≤ length l.tree.entries;
   low : RisesFrom (72 * (l.i + 1)) (drop l.child l.tree.entries);

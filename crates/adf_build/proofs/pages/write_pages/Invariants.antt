@@ -1,9 +1,11 @@
-use Rattle.std.proofs.Common.{◌≡◌, ◌-◌}
+use Rattle.std.proofs.Common.{◌≡◌, ◌-◌, map}
+use Rattle.std.specs.List.{range_with_len}
 use Rattle.adf_blocks.specs.Sizes.{pages_needed}
-use Rattle.adf_build.specs.Laid.{page_writes}
+use Rattle.adf_build.specs.Laid.{page_part, page_writes}
 use Rattle.adf_build.specs.Writes.{with_blocks}
 use Rattle.adf_build.proofs.pages.write_pages.Given as goal
 
 abbrev pub invariant-loop-j : goal.invariant-loop-j
-invariant-loop-j l = with_blocks l.image (page_writes l.plan.blocks l.total l.j (pages_needed l.plan.blocks - l.j))
-    ≡ with_blocks l.initial.image (page_writes l.plan.blocks l.total 0 (pages_needed l.plan.blocks))
+invariant-loop-j l =
+    with_blocks l.image (map (page_part l.plan.blocks l.total) (range_with_len l.j (pages_needed l.plan.blocks - l.j)))
+    ≡ with_blocks l.initial.image (page_writes l.plan.blocks l.total)

@@ -1,9 +1,8 @@
 use Rattle.std.proofs.Common.{◌≡◌, List, ℕ}
 use Rattle.adf_cmd.specs.Answers.{Answers, IsUnanswered}
-use Rattle.adf_cmd.specs.CommandLine.{AreRefused}
+use Rattle.adf_cmd.specs.CommandLine.{AreRefused, texts_of}
 use Rattle.adf_c.specs.Words.{AreWords}
 use Rattle.adf_c.proofs.WordParts.{along, read_as}
-use Rattle.adf_cmd.proofs.AnswerLaws.{texts_of}
 use Rattle.adf_c.proofs.running.run_words.Goals as goal
 
 pub returns-in-Ok-clause-answer : goal.returns-in-Ok-clause-answer

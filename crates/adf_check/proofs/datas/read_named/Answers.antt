@@ -3,4 +3,4 @@ use Rattle.adf_check.proofs.DataSteps.{table_inside}
 use Rattle.adf_check.proofs.datas.read_named.Goals as goal
 
 pub look-requires-clause-inside : goal.look-requires-clause-inside
-look-requires-clause-inside g c = table_inside c.requires.begun c.requires.state c.args.m (omega arith)
+look-requires-clause-inside g c = table_inside c.begun.ensures c.requires.state c.args.m (omega arith)

@@ -8,12 +8,12 @@ use Rattle.adf_check.proofs.exts.read_ext_block.Goals as goal
 
 pub returns-in_err-claim_named-clause-fault : goal.returns-in_err-claim_named-clause-fault
 returns-in_err-claim_named-clause-fault g c =
-    claim_refused (ext_named c.requires.begun c.requires.state c.requires.some) tt c.from_residual.result (search rules)
+    claim_refused (ext_named c.begun.ensures c.requires.state c.requires.some) tt c.from_residual.result (search rules)
 
 pub returns-in-Err-clause-fault : goal.returns-in-Err-clause-fault
 returns-in-Err-clause-fault g c =
     let claimed = c.in_ok-claim_named.ensures in
-    rw c.fault_at.ensures (ext_fault c.requires.begun c.requires.state c.requires.some claimed.range claimed.free c.look.ensures.block c.in-Err.cause
+    rw c.fault_at.ensures (ext_fault c.begun.ensures c.requires.state c.requires.some claimed.range claimed.free c.look.ensures.block c.in-Err.cause
     c.in-Err.ensures)
 
 pub returns-clause-state : goal.returns-clause-state
@@ -24,7 +24,7 @@ returns-clause-state g c =
     let count : c.len.result ≡ length c.args.table.now.items = search rules in
     let pushed : c.push.new.self.items ≡ c.args.table.now.items ++ b ∷ [] = search rules in
     let kept : c.push-else-is_err.new.self.items ≡ store.exts ++ b ∷ [] = search rules in
-    ext_done c.requires.begun c.requires.state c.requires.some claimed.range claimed.free c.look.ensures.block c.in-Ok.ensures.0 c.in-Ok.ensures.1
+    ext_done c.begun.ensures c.requires.state c.requires.some claimed.range claimed.free c.look.ensures.block c.in-Ok.ensures.0 c.in-Ok.ensures.1
     c.next.ensures pushed (record {
       owners = claimed.ok ∙ ap (λ k. set store.owners b (AnExt c.args.node k)) count;
       headers = refl;
@@ -36,10 +36,10 @@ returns-clause-state g c =
 
 pub overflow_cast-owner : goal.overflow_cast-owner
 overflow_cast-owner g c =
-    omega (arith, table_short c.requires.begun refl c.requires.state.read c.requires.state.holds)
+    omega (arith, table_short c.begun.ensures refl c.requires.state.read c.requires.state.holds)
 
 pub claim_named-requires-clause-words : goal.claim_named-requires-clause-words
-claim_named-requires-clause-words g c = file_short c.requires.begun refl c.requires.state.read c.requires.state.holds
+claim_named-requires-clause-words g c = file_short c.begun.ensures refl c.requires.state.read c.requires.state.holds
 
 pub look-requires-clause-paid : goal.look-requires-clause-paid
 look-requires-clause-paid g c = omega (arith, c.requires.paid, c.in_ok-claim_named.ensures)

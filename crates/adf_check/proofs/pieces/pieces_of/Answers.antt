@@ -1,7 +1,7 @@
 use Rattle.std.proofs.Common.{length, ap, sym, ◌∙◌, arith}
 use Rattle.adf_blocks.specs.Sizes.{count}
 use Rattle.adf_volume.specs.Image.{kind_of}
-use Rattle.adf_volume.proofs.Pieces.{pieces_length}
+use Rattle.adf_volume.proofs.PieceBytes.{pieces_length}
 use Rattle.adf_check.proofs.HeaderBodies.{dir_type, file_words}
 use Rattle.adf_check.proofs.FilePieces.{data_count_is, dir_bytes, dir_pieces, is_entry, made_exact, made_inside, made_joined, made_some}
 use Rattle.adf_check.proofs.pieces.pieces_of.Goals as goal

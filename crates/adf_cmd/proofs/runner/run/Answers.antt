@@ -1,4 +1,5 @@
-use Rattle.adf_cmd.proofs.AnswerLaws.{left_answers, no_work_answers, texts_of}
+use Rattle.adf_cmd.specs.CommandLine.{texts_of}
+use Rattle.adf_cmd.proofs.AnswerLaws.{left_answers, left_part, no_work_answers}
 use Rattle.adf_cmd.proofs.runner.run.Goals as goal
 
 pub returns-in-Ok-clause-answer : goal.returns-in-Ok-clause-answer
@@ -6,6 +7,12 @@ returns-in-Ok-clause-answer g c = λ taken not_three.
     let (r, asks, serves) = c.in-Ok.ensures.ok in
     left_answers c.on_input.result (texts_of c.args.words.now) r _ _ _ _ _ _ _ asks c.finish.ensures.status not_three
     (c.on_input.ensures.works r serves) c.finish.ensures.said
+
+pub returns-in-Ok-clause-part : goal.returns-in-Ok-clause-part
+returns-in-Ok-clause-part g c = λ three.
+    let (r, asks, serves) = c.in-Ok.ensures.ok in
+    left_part c.on_input.result (texts_of c.args.words.now) r _ _ _ _ _ asks c.finish.ensures.status c.on_input.ensures.read three
+    (c.on_input.ensures.works r serves)
 
 pub returns-in-Err-clause-answer : goal.returns-in-Err-clause-answer
 returns-in-Err-clause-answer g c = λ taken not_three.

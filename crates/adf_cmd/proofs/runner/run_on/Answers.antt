@@ -1,5 +1,6 @@
 use Rattle.std.proofs.Common.{Some, sym}
-use Rattle.adf_cmd.proofs.AnswerLaws.{left_answers, left_part, no_work_answers, texts_of}
+use Rattle.adf_cmd.specs.CommandLine.{texts_of}
+use Rattle.adf_cmd.proofs.AnswerLaws.{left_answers, left_part, no_work_answers}
 use Rattle.adf_cmd.proofs.runner.run_on.Goals as goal
 
 pub returns-in-Ok-clause-answer : goal.returns-in-Ok-clause-answer

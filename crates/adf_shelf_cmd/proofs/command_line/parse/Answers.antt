@@ -1,12 +1,13 @@
-use Rattle.std.proofs.Common.{◌≡◌, ◌∙◌, [], ap, map, subst, sym}
+use Rattle.std.proofs.Common.{◌≡◌, ◌∙◌, [], ap, subst, sym}
 use Rattle.clap.specs.Words.{App, fault_of, found_of, is_simple, is_simple_and_free, matches_of, rows_of}
+use Rattle.adf_cmd.specs.CommandLine.{texts_of}
 use Rattle.adf_shelf_cmd.specs.CommandLine.{order_in}
 use Rattle.adf_shelf_cmd.proofs.Refusals.{shelf_free, shelf_simple}
 use Rattle.adf_shelf_cmd.proofs.command_line.parse.Goals as goal
 
 pub returns-in-Ok-order_in-clause-ok : goal.returns-in-Ok-order_in-clause-ok
 returns-in-Ok-order_in-clause-ok c =
-    let words = map (λ w. w.now) c.args.words.now in
+    let words = texts_of c.args.words.now in
     let m = c.in-Ok-try_get_matches_from.matches in
     let no_fault : App → Type 0 = λ a. fault_of a words ≡ [] in
     let has_rows : App → Type 0 = λ a. rows_of (found_of m) ≡ matches_of a words in

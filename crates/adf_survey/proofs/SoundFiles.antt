@@ -1,0 +1,103 @@
+-- The data blocks of a sound file are those that its table names.
+use Rattle.std.specs.Prelude.{get_or, slice_index}
+use Rattle.std.proofs.Common.{◌≡◌, ℕ, suc, List, ◌++◌, ◌+◌, ◌*◌, ◌^◌, ◌<◌, length, sym, ap, subst, ◌∙◌, arith}
+use Rattle.adf_blocks.specs.declared.layout.TheConstants.{SECONDARY_TYPE, SIZE, ST_FILE}
+use Rattle.adf_volume.specs.Demands.{AllHold, boot_demands, root_demands}
+use Rattle.adf_volume.specs.Image.{kind_of, pieces, root_of, word_in}
+use Rattle.adf_volume.specs.Made.{datas_in}
+use Rattle.adf_volume.specs.Walk.{Role, first, FileAt, data_count, node_block}
+use Rattle.adf_volume.specs.Walk.Role.{Root, Data}
+use Rattle.adf_volume.proofs.Lists.{at_index_or, at_some, in_left}
+use Rattle.adf_blocks.specs.Sizes.{blocks, chunk, count}
+use Rattle.adf_tree.specs.declared.entry.Kind.{Kind}
+use Rattle.adf_tree.specs.declared.entry.Kind.TheVariants.{Ofs, Ffs}
+use Rattle.adf_volume.specs.Pieces.{AreInside}
+use Rattle.adf_volume.proofs.PieceBytes.{pieces_joined}
+use Rattle.adf_volume.proofs.Roles.{same_refl}
+use Rattle.std.specs.List.{concat}
+use Rattle.adf_survey.specs.Files.{FileValue, HasItsBlocks, content_of, file_from, file_in, names_from}
+use Rattle.adf_survey.specs.Sound.{IsSound}
+use Rattle.adf_survey.specs.Survey.{Finding, IsSurvey}
+use Rattle.adf_survey.specs.Survey.IsSurvey.{read, unread}
+use Rattle.adf_survey.specs.Surveyed.{IsOfSurvey, Surveyed}
+use Rattle.adf_survey.proofs.Keeping.{tells_each}
+use Rattle.adf_survey.proofs.FileBlocks.{DatasListed, datas_listed, listed_named, names_length}
+use Rattle.adf_survey.proofs.SoundEntries.{passed_noted, sound_file}
+use Rattle.adf_survey.proofs.SoundMarks.{inside}
+
+-- the data blocks of a sound file are in the walk in order
+pub sound_listed : (image : List ℕ) (w : List (Role × ℕ)) (fs : List Finding) (n h : ℕ) → IsSurvey image w fs → IsSound image w fs n h
+    → DatasListed image n w
+sound_listed image w fs n h (unread f) sound = absurd sound.header.3
+sound_listed image w fs n h (read {s = s} {bits = bits} begun v d told) sound =
+    datas_listed image n v (λ k b g. let y = passed_noted image v (Data n k) b g in
+    sound.datas k y.0 (Data n k) (in_left s.findings bits y.0 y.1) y.2 (same_refl (Data n k)))
+
+-- the file that the table of a sound file tells is that of the walk, and it has its blocks
+pub file_told : (image : List ℕ) (w : List (Role × ℕ)) (fs : List Finding) (n : ℕ) → IsSurvey image w fs
+    → IsSound image w fs n (node_block w n) → word_in image (node_block w n) SECONDARY_TYPE ≡ ST_FILE
+    → (file_from image (node_block w n) ≡ file_in image w n) × HasItsBlocks (file_in image w n)
+file_told image w fs n (unread f) sound type = absurd sound.header.3
+file_told image w fs n (read {s = s} {bits = bits} begun v d told) sound type =
+    let h : ℕ = node_block s.walk n in
+    let x = sound.header in
+    let file : FileAt image s.walk n h = ((x.0, x.1, x.2, x.3), type) in
+    let holds = sound_file image s.walk (s.findings ++ bits) n h (read begun v d told) sound file in
+    let listed = sound_listed image s.walk (s.findings ++ bits) n h (read begun v d told) sound in
+    let e : names_from image h (data_count image h) ≡ datas_in s.walk n =
+    listed_named image n v listed h file (λ k lt. let y = holds.named k lt in (y.1, y.4)) in (
+      (λ i. record { image = image; head = h; blocks = e i }),
+      record {
+        whole = begun.0.0;
+        inside = (λ k b g. inside image v (Data n (suc k)) b (λ z. let y : first Root ≡ first (Data n (suc k)) = ap first z in omega arith)
+            (listed.from k b g));
+        many = sym (ap length e) ∙ names_length image n h (data_count image h);
+      },
+    )
+
+-- an image with a sound entry begins as a volume
+pub sound_begun : (image : List ℕ) (w : List (Role × ℕ)) (fs : List Finding) (n h : ℕ) → IsSurvey image w fs → IsSound image w fs n h
+    → AllHold (boot_demands image ++ root_demands image (root_of image))
+sound_begun image w fs n h (unread f) sound = absurd sound.header.3
+sound_begun image w fs n h (read begun v d told) sound = begun
+
+-- what is kept of a survey tells of the header of an entry
+module _ (v : Surveyed) (kept : IsOfSurvey v) (w : List (Role × ℕ)) (fs : List Finding) (h : IsSurvey v.image w fs) (n : ℕ) {head type : ℕ} {image : List ℕ}
+    (is_image : image ≡ v.image) (is_head : head ≡ slice_index v.nodes n) (is_type : type ≡ word_in image head SECONDARY_TYPE) where
+  head_is : head ≡ node_block w n
+  head_is = is_head ∙ (tells_each v kept w fs h).node n
+
+  pub type_is : type ≡ word_in v.image (node_block w n) SECONDARY_TYPE
+  type_is = is_type ∙ (λ i. word_in (is_image i) (head_is i) SECONDARY_TYPE)
+
+  module _ (sound : IsSound v.image w fs n (node_block w n)) (file : type ≡ ST_FILE) where
+    pub file_is : file_from image head ≡ file_in v.image w n
+    file_is = (λ i. file_from (is_image i) (head_is i)) ∙ (file_told v.image w fs n h sound (sym type_is ∙ file)).0
+
+    pub has_its_blocks : HasItsBlocks (file_from image head)
+    has_its_blocks = subst HasItsBlocks (sym file_is) (file_told v.image w fs n h sound (sym type_is ∙ file)).1
+
+count_small : (kind : Kind) (size : ℕ) → size < 2 ^ 32 → 1 + count kind size < 2 ^ 32
+unfolding count chunk
+count_small Ofs size h = omega arith
+count_small Ffs size h = omega arith
+
+-- the data blocks of a file are inside of the image
+pub blocks_inside : (f : FileValue) → HasItsBlocks f → word_in f.image f.head SIZE < 2 ^ 32 → AreInside f.image f.blocks 1
+blocks_inside f has small =
+    let few = count_small (kind_of f.image) (word_in f.image f.head SIZE) small in
+    record {
+      inside = (λ i d lt.
+          let x = at_some f.blocks i lt in
+          let e : get_or f.blocks i d ≡ x.0 = at_index_or f.blocks i x.0 d x.1 in
+          let b : x.0 < blocks f.image = has.inside i x.0 x.1 in
+          let whole : length f.image ≡ 512 * blocks f.image = has.whole in
+          omega arith);
+      from = omega arith;
+      few = omega (arith, has.many);
+    }
+
+-- the pieces of a file, one after the other, are its content
+pub joined_content : (f : FileValue) → HasItsBlocks f
+    → concat (pieces f.image (kind_of f.image) (word_in f.image f.head SIZE) 1 f.blocks) ≡ content_of f
+joined_content f has = pieces_joined f.image (kind_of f.image) f.head f.blocks has.whole has.inside

@@ -1,0 +1,65 @@
+use Rattle.std.specs.Prelude.{slice_index}
+use Rattle.std.proofs.Common.{◌++◌, ℕ, List, refl, sym, ap, subst, ◌∙◌}
+use Rattle.adf_volume.specs.Demands.{FirstFails, boot_demands, root_demands}
+use Rattle.adf_volume.specs.Image.{root_of}
+use Rattle.adf_volume.specs.Walk.{node_block}
+use Rattle.adf_volume.proofs.Lists.{fails_not_all}
+use Rattle.adf_survey.specs.Surveyed.{IsOfSurvey}
+use Rattle.adf_survey.proofs.SoundFiles.{file_is, has_its_blocks, sound_begun, type_is}
+use Rattle.adf_survey.proofs.surveyed.Survey.file.Goals as goal
+
+pub returns-in_default-clause-some : goal.returns-in_default-clause-some
+returns-in_default-clause-some c = λ w fs h. (
+  (λ e. cc),
+  (λ y.
+      let image : List ℕ = c.args.self.now.image in
+      let at : ℕ = c.in_default.field-0.block in
+      let all = sound_begun image w fs c.args.n (node_block w c.args.n) h y.0 in
+      let fails : FirstFails (boot_demands image ++ root_demands image (root_of image)) at c.in_default.field-0.cause =
+      subst (λ i. FirstFails (boot_demands i ++ root_demands i (root_of i)) at c.in_default.field-0.cause) (ap (λ v. v.image) c.self.view_is)
+      c.in_default.ensures.fails in
+      absurd (fails_not_all (boot_demands image ++ root_demands image (root_of image)) at c.in_default.field-0.cause fails all)),
+)
+
+pub returns-then-word-clause-some : goal.returns-then-word-clause-some
+returns-then-word-clause-some c = λ w fs h. (
+  (λ e. cc),
+  (λ y.
+      let kept = subst IsOfSurvey c.self.view_is c.self.invariant in
+      let image = c.in-Ok.ensures.image ∙ ap (λ v. v.image) c.self.view_is in
+      let head = c.number_at-head.ensures ∙ (λ i. slice_index (c.self.view_is i).nodes (c.n.view_is i)) in
+      absurd (c.if-word.true (type_is c.args.self.now kept w fs h c.args.n image head c.word.ensures ∙ y.1))),
+)
+
+pub at-requires : goal.at-requires
+at-requires c =
+    let kept = subst IsOfSurvey c.self.view_is c.self.invariant in
+    let image = c.in-Ok.ensures.image ∙ ap (λ v. v.image) c.self.view_is in
+    let head = c.number_at-head.ensures ∙ (λ i. slice_index (c.self.view_is i).nodes (c.n.view_is i)) in
+    let sound = (c.is_sound.ensures kept.0 kept.1 kept.2.survey).0 c.if-not-is_sound.false in
+    has_its_blocks c.args.self.now kept kept.0 kept.1 kept.2.survey c.args.n image head c.word.ensures sound c.if-word.false
+
+pub returns-in_err-at-clause-none : goal.returns-in_err-at-clause-none
+returns-in_err-at-clause-none c = λ w fs h no.
+    let kept = subst IsOfSurvey c.self.view_is c.self.invariant in
+    let image = c.in-Ok.ensures.image ∙ ap (λ v. v.image) c.self.view_is in
+    let head = c.number_at-head.ensures ∙ (λ i. slice_index (c.self.view_is i).nodes (c.n.view_is i)) in
+    let sound = (c.is_sound.ensures w fs h).0 c.if-not-is_sound.false in
+    absurd (no (sound, sym (type_is c.args.self.now kept w fs h c.args.n image head c.word.ensures) ∙ c.if-word.false))
+
+pub returns-clause-some : goal.returns-clause-some
+returns-clause-some c = λ w fs h.
+    let kept = subst IsOfSurvey c.self.view_is c.self.invariant in
+    let image = c.in-Ok.ensures.image ∙ ap (λ v. v.image) c.self.view_is in
+    let head = c.number_at-head.ensures ∙ (λ i. slice_index (c.self.view_is i).nodes (c.n.view_is i)) in
+    let sound = (c.is_sound.ensures w fs h).0 c.if-not-is_sound.false in
+    let type = type_is c.args.self.now kept w fs h c.args.n image head c.word.ensures in
+    ((λ e. (sound, sym type ∙ c.if-word.false)), (λ y. refl))
+
+pub returns-clause-file : goal.returns-clause-file
+returns-clause-file c = λ w fs h.
+    let kept = subst IsOfSurvey c.self.view_is c.self.invariant in
+    let image = c.in-Ok.ensures.image ∙ ap (λ v. v.image) c.self.view_is in
+    let head = c.number_at-head.ensures ∙ (λ i. slice_index (c.self.view_is i).nodes (c.n.view_is i)) in
+    let sound = (c.is_sound.ensures w fs h).0 c.if-not-is_sound.false in
+    c.in_ok-at.ensures ∙ file_is c.args.self.now kept w fs h c.args.n image head c.word.ensures sound c.if-word.false

@@ -1,0 +1,55 @@
+-- Files that nothing is said against.
+-- Letters: w the walk of a survey, fs its findings; n a file's node; h the block of its header; m a number of a member; k a number of a data block, from 0.
+use Rattle.std.specs.Prelude.{◌≡◌, ◌*◌, ◌/◌, ◌<◌, ℕ, List, [], ◌∷◌, ◌++◌, length}
+use Rattle.std.proofs.Common.{zero, suc}
+use Rattle.adf_blocks.specs.declared.layout.TheConstants.{EXTENSION, POINTERS, SECONDARY_TYPE, ST_FILE}
+use Rattle.adf_blocks.specs.Sizes.{blocks}
+use Rattle.adf_volume.specs.Image.{content, kind_of, table_word, word_in}
+use Rattle.adf_volume.specs.Lists.{At}
+use Rattle.adf_volume.specs.Made.{datas_in}
+use Rattle.adf_volume.specs.Walk.{Role, data_count, node_block}
+use Rattle.adf_survey.specs.Sound.{IsSound}
+use Rattle.adf_survey.specs.Survey.{Finding}
+
+-- a file: the image, the block of its header, and its data blocks in order
+pub record FileValue : Type 0 where
+  pub image : List ℕ
+  pub head : ℕ
+  pub blocks : List ℕ
+
+-- each of its data blocks lies in the image, and there are as many as its size asks for
+pub record HasItsBlocks (f : FileValue) : Type 0 where
+  pub whole : length f.image ≡ 512 * blocks f.image
+  pub inside : (k b : ℕ) → At f.blocks k b → b < blocks f.image
+  pub many : length f.blocks ≡ data_count f.image f.head
+
+-- the content of the file
+abbrev pub content_of : FileValue → List ℕ
+content_of f = content f.image (kind_of f.image) f.head f.blocks
+
+-- entry n is sound, and its header is a file's
+abbrev pub IsSoundFile : List ℕ → List (Role × ℕ) → List Finding → ℕ → Type 0
+IsSoundFile image w fs n =
+    IsSound image w fs n (node_block w n) × (word_in image (node_block w n) SECONDARY_TYPE ≡ ST_FILE)
+
+-- file n of a walk
+abbrev pub file_in : List ℕ → List (Role × ℕ) → ℕ → FileValue
+file_in image w n = record { image = image; head = node_block w n; blocks = datas_in w n }
+
+-- member m of a header followed by its extension blocks, each of which is named by the one before
+abbrev pub member_from : List ℕ → ℕ → ℕ → ℕ
+member_from image h zero = h
+member_from image h (suc m) = word_in image (member_from image h m) EXTENSION
+
+-- the block that the table of a file names for data block k + 1
+abbrev pub named_from : List ℕ → ℕ → ℕ → ℕ
+named_from image h k = word_in image (member_from image h (k / POINTERS)) (table_word k)
+
+-- the blocks that it names for the first data blocks, so many
+abbrev pub names_from : List ℕ → ℕ → ℕ → List ℕ
+names_from image h zero = []
+names_from image h (suc k) = names_from image h k ++ named_from image h k ∷ []
+
+-- the file with its header at a block, by its table
+abbrev pub file_from : List ℕ → ℕ → FileValue
+file_from image h = record { image = image; head = h; blocks = names_from image h (data_count image h) }

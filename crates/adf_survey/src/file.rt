@@ -1,0 +1,119 @@
+// The files of a survey that nothing is said against.
+
+ghost use Rattle.std.specs.Prelude.{◌≡◌, [], IsOk, IfOk};
+ghost use Rattle.std.specs.List.{concat};
+ghost use Rattle.adf_blocks.specs.declared.layout.TheConstants.{SIZE};
+ghost use Rattle.adf_volume.specs.Image.{kind_of, pieces, word_in};
+ghost use Rattle.adf_survey.specs.Files.{HasItsBlocks, content_of, file_from, names_from};
+
+use crate::asked::count_of;
+use adf_blocks::{EXTENSION, FIRST_POINTER, POINTERS, SIZE};
+use adf_fields::NoMemory;
+use adf_tree::Kind;
+use adf_volume::{Image, Pieces, joined};
+use std::alloc::Global;
+use std::marker::Model;
+
+/// A file that nothing is said against: its size, and its data blocks in the order of its bytes.
+#[derive(Drop)]
+pub struct SoundFile<'i> {
+    image: &'i [u8],
+    kind: Kind,
+    head: u32,
+    size: u32,
+    blocks: Vec<u32>,
+}
+
+impl<'i> Model for SoundFile<'i> {
+    ghost use Rattle.std.specs.Prelude.{◌≡◌};
+    ghost use Rattle.adf_blocks.specs.declared.layout.TheConstants.{SIZE};
+    ghost use Rattle.adf_volume.specs.Image.{kind_of, word_in};
+    ghost use Rattle.adf_survey.specs.Files.{FileValue, HasItsBlocks};
+
+    ghost Value = { FileValue };
+
+    ghost view = { λ f. record { image = f.image.now; head = f.head; blocks = f.blocks.items } };
+
+    ghost invariant = { λ f. (f.kind ≡ kind_of f.image.now) × (f.size ≡ word_in f.image.now f.head SIZE)
+        × HasItsBlocks (record { image = f.image.now; head = f.head; blocks = f.blocks.items }) };
+}
+
+// The blocks that the table of the file with its header at block `head` names for its first `count` data blocks.
+fn named_blocks(
+    alloc: Global,
+    image: &Image<'_>,
+    head: u32,
+    count: u32,
+) -> Result<Vec<u32>, NoMemory>
+    ensures { IfOk result (λ v. v.items ≡ names_from image.now head count) }
+{
+    let Ok(mut blocks) = Vec::with_capacity(alloc, count as usize) else {
+        return Err(NoMemory);
+    };
+    let mut member = head;
+    for k in 0..count as usize {
+        let named = image.word(member, FIRST_POINTER - k % POINTERS);
+        if blocks.push(named).is_err() {
+            return Err(NoMemory);
+        }
+        if (k + 1) % POINTERS == 0 {
+            member = image.word(member, EXTENSION);
+        }
+    }
+    Ok(blocks)
+}
+
+impl<'i> SoundFile<'i> {
+    // The file with its header at a block.
+    pub(crate) fn at(alloc: Global, image: &Image<'i>, head: u32) -> Result<SoundFile<'i>, NoMemory>
+        requires { HasItsBlocks (file_from image.now head) }
+        ensures { IfOk result (λ f. f ≡ file_from image.now head) }
+    {
+        let kind = image.kind();
+        let size = image.word(head, SIZE);
+        let blocks = named_blocks(alloc, image, head, count_of(kind, size))?;
+        Ok(SoundFile {
+            image: image.bytes(),
+            kind,
+            head,
+            size,
+            blocks,
+        })
+    }
+}
+
+impl SoundFile<'_> {
+    /// How many bytes the file has.
+    pub fn size(&self) -> u32
+        ensures { result ≡ word_in self.now.image self.now.head SIZE }
+    {
+        self.size
+    }
+
+    /// The data blocks of the file, in the order of its bytes.
+    pub fn blocks(&self) -> &[u32]
+        ensures blocks { result.now ≡ self.now.blocks }
+        ensures whole { HasItsBlocks self.now }
+    {
+        self.blocks.as_slice()
+    }
+
+    /// The bytes of the file as slices of the image, one for each data block.
+    pub fn pieces(&self) -> Pieces<'_>
+        ensures exact { result
+            ≡ pieces self.now.image (kind_of self.now.image)
+            (word_in self.now.image self.now.head SIZE)
+            1 self.now.blocks }
+        ensures joined { concat result ≡ content_of self.now }
+    {
+        Pieces::new(self.image, self.kind, self.size, &self.blocks)
+    }
+
+    /// The bytes of the file; `NoMemory` where room for them was refused. Where there are no bytes, no memory is taken.
+    pub fn read(&self, alloc: Global) -> Result<Vec<u8>, NoMemory>
+        ensures bytes { IfOk result (λ v. v.items ≡ content_of self.now) }
+        ensures empty { self.now.blocks ≡ [] → IsOk result }
+    {
+        joined(alloc, self.pieces())
+    }
+}

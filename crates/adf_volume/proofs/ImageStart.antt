@@ -1,0 +1,52 @@
+-- How an image begins: its size, boot bytes and root.
+use Rattle.std.specs.Prelude.{Some, None}
+use Rattle.std.proofs.Common.{◌≡◌, ℕ, List, ◌∷◌, ◌++◌, Bool, true, false, inl, inr, length, refl, arith}
+use Rattle.std.proofs.lemmas.Bool.Decides.{nat_tests}
+use Rattle.adf_fields.specs.Words.{block}
+use Rattle.adf_blocks.specs.declared.cause.Cause.{Cause}
+use Rattle.adf_blocks.specs.declared.cause.Cause.TheVariants.{BadSize}
+use Rattle.adf_blocks.specs.Forms.{first_cause}
+use Rattle.adf_blocks.specs.RootBlock.{root_form}
+use Rattle.adf_volume.specs.Demands.{AllHold, FirstFails, IsSize, boot_demands, boot_form, root_demands}
+use Rattle.adf_volume.specs.Image.{root_of}
+use Rattle.adf_volume.proofs.Lists.{all_append, fails_left, fails_right}
+use Rattle.adf_volume.proofs.FormDemands.{all_demanded, first_demanded}
+use Rattle.adf_volume.specs.Start.{IsBegun, is_image_len, start_form}
+
+-- a size is whole blocks
+size_is : (image : List ℕ) → is_image_len (length image) ≡ true → IsSize image
+size_is image h = (grind (arith, nat_tests), grind (arith, nat_tests))
+
+size_not : (image : List ℕ) → is_image_len (length image) ≡ false → IsSize image → ⊥
+size_not image h k =
+    let whole = k.0 in
+    let allowed = k.1 in
+    let clash : true ≡ false = grind (arith, nat_tests) in cc
+
+boots : (image : List ℕ) → first_cause (start_form image) ≡ None → AllHold (boot_demands image)
+boots image h = go (is_image_len (length image)) refl h
+  where
+    go : (whole : Bool) → is_image_len (length image) ≡ whole → first_cause ((whole, BadSize) ∷ boot_form (block image 0)) ≡ None → AllHold (boot_demands image)
+    go true w h = (size_is image w, all_demanded 0 (boot_form (block image 0)) h)
+    go false w h = cc
+
+-- the image begins as a volume
+pub begins : (image : List ℕ) → first_cause (start_form image) ≡ None → first_cause (root_form (block image (root_of image))) ≡ None → IsBegun image
+begins image h r = all_append (boot_demands image) (root_demands image (root_of image)) (boots image h)
+    (all_demanded (root_of image) (root_form (block image (root_of image))) r)
+
+-- or the size, the boot bytes or the root are those of no volume
+pub fails_start : (image : List ℕ) (c : Cause) → first_cause (start_form image) ≡ Some c
+    → FirstFails (boot_demands image ++ root_demands image (root_of image)) 0 c
+fails_start image c h = fails_left (boot_demands image) (root_demands image (root_of image)) 0 c (go (is_image_len (length image)) refl h)
+  where
+    go : (whole : Bool) → is_image_len (length image) ≡ whole → first_cause ((whole, BadSize) ∷ boot_form (block image 0)) ≡ Some c
+        → FirstFails (boot_demands image) 0 c
+    go true w h = inr (size_is image w, first_demanded 0 (boot_form (block image 0)) c h)
+    go false w h = let e : BadSize ≡ c = cc in inl (size_not image w, refl, e)
+
+pub fails_root : (image : List ℕ) (c : Cause) → first_cause (start_form image) ≡ None → first_cause (root_form (block image (root_of image))) ≡ Some c
+    → FirstFails (boot_demands image ++ root_demands image (root_of image)) (root_of image) c
+fails_root image c h r =
+    fails_right (boot_demands image) (root_demands image (root_of image)) (root_of image) c (boots image h)
+    (first_demanded (root_of image) (root_form (block image (root_of image))) c r)

@@ -1,0 +1,146 @@
+-- The pieces of a file joined are its content.
+use Rattle.std.proofs.Common.{◌≡◌, ℕ, zero, suc, List, [], ◌∷◌, ◌++◌, ◌+◌, ◌-◌, ◌*◌, ◌<◌, ◌≤◌, length, refl, sym, ap, subst, ◌∙◌, arith, Bool, true, false}
+use Rattle.std.proofs.Common.{cond, drop, get_or, take, take_all}
+use Rattle.std.specs.Prelude.{nat_lt, slice_range}
+use Rattle.std.specs.List.{concat}
+use Rattle.std.proofs.lemmas.Bool.Decides.{nat_tests}
+use Rattle.std.proofs.lemmas.List.{take-take}
+use Rattle.adf_fields.specs.Words.{block}
+use Rattle.adf_tree.specs.declared.entry.Kind.{Kind}
+use Rattle.adf_tree.specs.declared.entry.Kind.TheVariants.{Ofs, Ffs}
+use Rattle.adf_blocks.specs.Sizes.{blocks, chunk, count}
+use Rattle.adf_blocks.specs.declared.layout.TheConstants.{SIZE}
+use Rattle.adf_volume.specs.Lists.{At}
+use Rattle.adf_volume.specs.Image.{word_in, held, area, joined, content, piece, pieces}
+use Rattle.adf_volume.specs.Pieces.{AreInside}
+use Rattle.adf_volume.proofs.Images.{area_length, AreIn}
+
+take_zero : (xs : List ℕ) → take 0 xs ≡ []
+take_zero [] = refl
+take_zero (x ∷ xs) = refl
+
+-- the first bytes of two lists, one after the other
+take_append : (s : ℕ) (xs ys : List ℕ) → take s (xs ++ ys) ≡ take s xs ++ take (s - length xs) ys
+take_append zero [] ys = let z : 0 - length {A = ℕ} [] ≡ 0 = omega arith in ap (λ k. take k ys) (sym z)
+take_append (suc s) [] ys = let z : suc s - length {A = ℕ} [] ≡ suc s = omega arith in ap (λ k. take k ys) (sym z)
+take_append zero (x ∷ xs) ys = let z : 0 - length (x ∷ xs) ≡ 0 = omega arith in sym (take_zero ys) ∙ ap (λ k. take k ys) (sym z)
+take_append (suc s) (x ∷ xs) ys =
+    let z : s - length xs ≡ suc s - length (x ∷ xs) = omega arith in ap (λ zs. x ∷ zs) (take_append s xs ys) ∙ ap (λ k. x ∷ (take s xs ++ take k ys)) z
+
+-- what is left of a size from data block k + 1 on
+left : Kind → ℕ → ℕ → ℕ
+left kind size k = size - chunk kind * k
+
+-- a data block that is followed holds all that it can, the last one what is left
+held_is : (kind : Kind) (size k : ℕ) (xs : List ℕ) → length xs ≡ chunk kind → take (held kind size (suc k)) xs ≡ take (left kind size k) xs
+unfolding held left
+held_is kind size k xs h = go (nat_lt (c * suc k) size) refl
+  where
+    c : ℕ
+    c = chunk kind
+
+    m : c * suc k ≡ c + c * k
+    m = omega arith
+
+    go : (t : Bool) → nat_lt (c * suc k) size ≡ t → take (cond t c (size - c * (suc k - 1))) xs ≡ take (size - c * k) xs
+    go true z = let l : c * suc k < size = grind (arith, nat_tests) in take_all c xs (omega (arith, h)) ∙ sym (take_all (size - c * k) xs (omega (arith, h, m)))
+    go false z = let e : suc k - 1 ≡ k = omega arith in ap (λ n. take (size - c * n) xs) e
+
+left_more : (kind : Kind) (size k n : ℕ) → n ≡ chunk kind → left kind size k - n ≡ left kind size (suc k)
+unfolding left chunk
+left_more Ofs size k n h = omega arith
+left_more Ffs size k n h = omega arith
+
+pieces_from : (image : List ℕ) (kind : Kind) (size k : ℕ) (bs : List ℕ) → length image ≡ 512 * blocks image → AreIn image bs
+    → concat (pieces image kind size (suc k) bs) ≡ take (left kind size k) (joined image kind bs)
+pieces_from image kind size k [] z l = none (left kind size k)
+  where
+    none : (n : ℕ) → ◌≡◌ {A = List ℕ} [] (take n [])
+    none zero = refl
+    none (suc n) = refl
+pieces_from image kind size k (b ∷ bs) z l =
+    let n : length (area kind (block image b)) ≡ chunk kind = area_length image kind b z (l 0 b refl) in
+    let ih = pieces_from image kind size (suc k) bs z (λ i c h. l (suc i) c h) in
+    ap (λ xs. xs ++ concat (pieces image kind size (suc (suc k)) bs)) (held_is kind size k (area kind (block image b)) n)
+    ∙ (ap (λ ys. take (left kind size k) (area kind (block image b)) ++ ys)
+    (ih ∙ ap (λ m. take m (joined image kind bs)) (sym (left_more kind size k (length (area kind (block image b))) n)))
+    ∙ sym (take_append (left kind size k) (area kind (block image b)) (joined image kind bs)))
+
+left_all : (kind : Kind) (size : ℕ) → left kind size 0 ≡ size
+unfolding left
+left_all kind size = let z : chunk kind * 0 ≡ 0 = omega arith in omega arith
+
+-- the pieces of a file, one after the other, are its content
+pub pieces_joined : (image : List ℕ) (kind : Kind) (h : ℕ) (bs : List ℕ) → length image ≡ 512 * blocks image
+    → AreIn image bs → concat (pieces image kind (word_in image h SIZE) 1 bs) ≡ content image kind h bs
+unfolding content
+pieces_joined image kind h bs z l =
+    pieces_from image kind (word_in image h SIZE) 0 bs z l ∙ ap (λ n. take n (joined image kind bs)) (left_all kind (word_in image h SIZE))
+
+-- there is a piece for each data block
+pub pieces_length : (image : List ℕ) (kind : Kind) (size k : ℕ) (bs : List ℕ) → length (pieces image kind size k bs) ≡ length bs
+pieces_length image kind size k [] = refl
+pieces_length image kind size k (b ∷ bs) = ap suc (pieces_length image kind size (suc k) bs)
+
+pub piece_at : (image : List ℕ) (kind : Kind) (size k : ℕ) (bs : List ℕ) (i b : ℕ) → At bs i b
+    → At (pieces image kind size k bs) i (piece kind size (k + i) (block image b))
+piece_at image kind size k [] i b h = absurd h
+piece_at image kind size k (c ∷ bs) zero b h = let z : k ≡ k + 0 = omega arith in λ t. piece kind size (z t) (block image (h t))
+piece_at image kind size k (c ∷ bs) (suc i) b h =
+    let z : suc k + i ≡ k + suc i = omega arith in
+    subst (λ m. At (pieces image kind size (suc k) bs) i (piece kind size m (block image b))) z (piece_at image kind size (suc k) bs i b h)
+
+-- a data block that a size needs begins within it
+some_left : (kind : Kind) (size k : ℕ) → k < count kind size → (0 < chunk kind) × (chunk kind * k < size)
+unfolding count chunk
+some_left Ofs size k h = (omega arith, omega arith)
+some_left Ffs size k h = (omega arith, omega arith)
+
+-- no data block that a size needs is empty, and none holds more than it can
+pub held_some : (kind : Kind) (size k : ℕ) → k < count kind size → (0 < held kind size (suc k)) × (held kind size (suc k) ≤ chunk kind)
+unfolding held
+held_some kind size k h = go (nat_lt (c * suc k) size) refl
+  where
+    c : ℕ
+    c = chunk kind
+
+    some : (0 < c) × (c * k < size)
+    some = some_left kind size k h
+
+    m : c * suc k ≡ c + c * k
+    m = omega arith
+
+    go : (t : Bool) → nat_lt (c * suc k) size ≡ t → (0 < cond t c (size - c * (suc k - 1))) × (cond t c (size - c * (suc k - 1)) ≤ c)
+    go true z = (some.0, omega arith)
+    go false z =
+        let l : size ≤ c * suc k = grind (arith, nat_tests) in
+        let e : c * (suc k - 1) ≡ c * k = ap (λ n. c * n) (omega arith) in
+        (omega (arith, some.1), omega (arith, m))
+
+-- where there are data blocks, there are pieces
+pub some_pieces : (bytes : List ℕ) (kind : Kind) (size k : ℕ) (ds : List ℕ) → pieces bytes kind size k ds ≡ [] → ds ≡ []
+some_pieces bytes kind size k [] e = refl
+some_pieces bytes kind size k (d ∷ ds) e = cc
+
+-- one data block less
+pub inside_next : (image ds others : List ℕ) (x k : ℕ) → ds ≡ x ∷ others → AreInside image ds k → AreInside image others (k + 1)
+inside_next image ds others x k e h =
+    let n : length ds ≡ suc (length others) = ap length e in
+    record {
+      inside = (λ i d lt. subst (λ xs. get_or xs (suc i) d * 512 + 512 ≤ length image) e (h.inside (suc i) d (omega arith)));
+      from = omega arith;
+      few = omega (arith, h.few);
+    }
+
+-- what a data block holds is the first part of its data area
+pub piece_ofs : (size k n : ℕ) (b : List ℕ) → n ≡ held Ofs size k → n ≤ chunk Ofs → slice_range b 24 (24 + n) ≡ piece Ofs size k b
+unfolding area chunk
+piece_ofs size k n b e le =
+    let z : 24 + n - 24 ≡ n = omega arith in
+    ap (λ m. take m (drop 24 b)) z ∙ sym (take-take n 488 (drop 24 b) le) ∙ ap (λ m. take m (take 488 (drop 24 b))) e
+
+pub piece_ffs : (size k n : ℕ) (b : List ℕ) → n ≡ held Ffs size k → n ≤ chunk Ffs → slice_range b 0 (0 + n) ≡ piece Ffs size k b
+unfolding area chunk
+piece_ffs size k n b e le =
+    let z : 0 + n - 0 ≡ n = omega arith in
+    ap (λ m. take m (drop 0 b)) z ∙ sym (take-take n 512 (drop 0 b) le) ∙ ap (λ m. take m (take 512 (drop 0 b))) e

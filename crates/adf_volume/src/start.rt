@@ -1,0 +1,125 @@
+// The size of an image, its first four bytes and its root.
+
+ghost use Rattle.std.specs.Prelude.{◌≡◌, ◌≤◌, ◌++◌, length, IfOk, IfErr};
+ghost use Rattle.adf_fields.specs.Words.{block};
+ghost use Rattle.adf_volume.specs.Demands.{FirstFails, boot_demands, is_dos, root_demands};
+ghost use Rattle.adf_volume.specs.Image.{kind_of, root_of};
+ghost use Rattle.adf_volume.specs.Start.{IsBegun, is_image_len, start_form};
+ghost use Rattle.adf_blocks.specs.Forms.{ReadsForm};
+ghost use Rattle.adf_blocks.specs.Sizes.{blocks, is_allowed};
+
+use crate::image::Image;
+use adf_blocks::{Cause, Root, is_allowed_size, read_root};
+use adf_fields::{BLOCK_LEN, Block};
+use adf_tree::Kind;
+
+// What the size and the first four bytes of an image tell.
+#[derive(Drop)]
+struct Start {
+    blocks: u32,
+    kind: Kind,
+}
+
+/// An image that begins as a volume, and its root.
+#[derive(Drop)]
+pub struct Opened<'a> {
+    pub image: Image<'a>,
+    pub root: Root<'a>,
+}
+
+/// Why an image does not begin as a volume, and the block where it stands.
+#[derive(Clone, Copy, Debug, PartialEq, Eq)]
+pub struct Unopened {
+    pub block: u32,
+    pub cause: Cause,
+}
+
+// Whether a volume may have so many bytes.
+fn is_image_len(size: usize) -> bool
+    ensures { result ≡ is_image_len size }
+{
+    match u32::try_from(size / BLOCK_LEN) {
+        Ok(blocks) => size % BLOCK_LEN == 0 && is_allowed_size(blocks),
+        Err(_) => false,
+    }
+}
+
+// Block 0.
+fn boot_block<'a>(image: &'a [u8]) -> Block<'a>
+    requires { 512 ≤ length image.now }
+    ensures { result ≡ block image.now 0 }
+{
+    Block::at(image, 0).unwrap()
+}
+
+// Whether the boot block begins with `DOS` and a type up to 5.
+fn is_dos(boot: &Block<'_>) -> bool
+    ensures { result ≡ is_dos boot.now }
+{
+    boot.byte(0) == b'D' && boot.byte(1) == b'O' && boot.byte(2) == b'S' && boot.byte(3) <= 5
+}
+
+// The kind that the boot block of a volume tells.
+#[tactic(auto, unfolding(crate::specs::Image::kind_of))]
+fn kind_in(image: &[u8]) -> Kind
+    requires { 512 ≤ length image.now }
+    ensures { result ≡ kind_of image.now }
+{
+    if boot_block(image).byte(3) == 0 {
+        Kind::Ofs
+    } else {
+        Kind::Ffs
+    }
+}
+
+// The number of blocks and the kind of a volume; `BadSize`, `NotDos`, `International` or `DirCache` where the size or the first
+// four bytes are none of such a volume.
+fn read_start(image: &[u8]) -> Result<Start, Cause>
+    ensures { ReadsForm (start_form image.now) (λ s. (s.blocks ≡ blocks image.now)
+        × (s.kind ≡ kind_of image.now)) result }
+{
+    if !is_image_len(image.len()) {
+        return Err(Cause::BadSize);
+    }
+    let boot = boot_block(image);
+    if !is_dos(&boot) {
+        return Err(Cause::NotDos);
+    }
+    if boot.byte(3) == 2 || boot.byte(3) == 3 {
+        return Err(Cause::International);
+    }
+    if boot.byte(3) == 4 || boot.byte(3) == 5 {
+        return Err(Cause::DirCache);
+    }
+    Ok(Start {
+        blocks: (image.len() / BLOCK_LEN) as u32,
+        kind: kind_in(image),
+    })
+}
+
+/// Reads the size, the first four bytes and the root of an image; where they are none of a volume, the first cause and its block.
+#[tactic(auto, using(crate::proofs::ImageStart::begins, crate::proofs::ImageStart::fails_start, crate::proofs::ImageStart::fails_root))]
+pub fn open<'a>(bytes: &'a [u8]) -> Result<Opened<'a>, Unopened>
+    ensures image { IfOk result (λ o. o.image ≡ bytes.now) }
+    ensures begun { IfOk result (λ o. IsBegun o.image) }
+    ensures root { IfOk result (λ o. o.root ≡ block bytes.now (root_of bytes.now)) }
+    ensures fails { IfErr result (λ f.
+        FirstFails (boot_demands bytes.now ++ root_demands bytes.now (root_of bytes.now))
+        f.block f.cause) }
+{
+    let start = match read_start(bytes) {
+        Ok(start) => start,
+        Err(cause) => return Err(Unopened { block: 0, cause }),
+    };
+    let middle = start.blocks / 2;
+    match read_root(Block::at(bytes, middle).unwrap()) {
+        Ok(root) => Ok(Opened {
+            image: Image::new(bytes, start.kind, start.blocks),
+            root,
+        }),
+        Err(cause) => Err(Unopened {
+            block: middle,
+            cause,
+        }),
+    }
+}
