@@ -1,5 +1,6 @@
 -- What is kept of an image tells of its survey.
-use Rattle.std.specs.Prelude.{Bool, None, map}
+use Rattle.std.specs.Prelude.{Bool, None, Option, map, slice_get}
+use Rattle.std.specs.Option.{option_flatten}
 use Rattle.std.proofs.Common.{◌≡◌, ℕ, suc, List, [], ◌∷◌, ◌++◌, inl, inr, ◌≤◌, refl, sym, ap, subst, ◌∙◌, arith, ◌*◌, ◌<◌, length}
 use Rattle.adf_tree.specs.declared.entry.Kind.TheVariants.{Ffs}
 use Rattle.adf_volume.specs.Demands.{FirstFails, boot_demands, root_demands}
@@ -18,27 +19,29 @@ use Rattle.adf_survey.specs.declared.part.Finding.{Finding as FoundFinding}
 use Rattle.adf_survey.specs.declared.found.Found.{Found}
 use Rattle.adf_survey.specs.Found.{IsCompleted}
 use Rattle.adf_volume.specs.Start.{IsBegun}
-use Rattle.adf_survey.specs.Marks.{AreEntries, has_mark, is_clear}
+use Rattle.adf_survey.specs.Marks.{AreEntries, blamed, has_mark, is_clear}
 use Rattle.adf_survey.specs.Parts.{told}
-use Rattle.adf_survey.specs.Survey.{Finding, IsSurvey}
+use Rattle.adf_survey.specs.Survey.{Course, Finding, IsSurvey}
 use Rattle.adf_survey.specs.Survey.IsSurvey.{read, unread}
 use Rattle.adf_survey.specs.Sound.{IsSound}
 use Rattle.adf_volume.proofs.Gathered.{number_of}
-use Rattle.adf_survey.specs.Surveyed.{IsOfSurvey, Surveyed, TellsOf}
+use Rattle.adf_survey.specs.Surveyed.{IsOfSurvey, Surveyed, TellsOf, kept_of}
 use Rattle.adf_survey.proofs.BitSteps.{unread_survey}
+use Rattle.adf_survey.proofs.Concerning.{concerned_kept, none_kept}
 use Rattle.adf_survey.proofs.OneSurvey.{gathered, one_survey}
 use Rattle.adf_survey.proofs.SoundMarks.{clear_is_sound, inside}
 
 -- of an image that does not begin as a volume the finding is kept alone
 pub unread_kept : (image : List ℕ) (x : FoundFinding) (items : List FoundFinding) → x.part ≡ None
     → FirstFails (boot_demands image ++ root_demands image (root_of image)) x.block x.cause → items ≡ x ∷ []
-    → IsOfSurvey (record { image = image; findings = items; nodes = []; parents = []; sound = [] })
+    → IsOfSurvey (record { image = image; findings = items; concerned = []; nodes = []; parents = []; sound = [] })
 unread_kept image x items none fails e = (
   [],
   map told items,
   record {
     survey = unread_survey image x items none fails e;
     findings = refl;
+    concerned = (λ k. none_kept [] x items k none e);
     node = (λ n. refl);
     parent = (λ n. refl);
     count = omega arith;
@@ -47,15 +50,19 @@ unread_kept image x items none fails e = (
 )
 
 -- of an image whose course is done, with its bits compared
-pub read_kept : (image : List ℕ) (f : Found) (sound : List Bool) → IsBegun image → IsCompleted image f → (kind_of image ≡ Ffs → AreEntries f.taken)
+pub read_kept : (image : List ℕ) (f : Found) (concerned : List (Option ℕ)) (sound : List Bool) → IsBegun image → IsCompleted image f
+    → (kind_of image ≡ Ffs → AreEntries f.taken) → concerned ≡ map (λ x. blamed f.taken x.part) f.findings.items
     → ((m : ℕ) → has_mark sound m ≡ is_clear image f m)
-    → IsOfSurvey (record { image = image; findings = f.findings.items; nodes = f.nodes.items; parents = f.parents.items; sound = sound })
-read_kept image f sound begun c es marks = (
+    → IsOfSurvey (kept_of image f.findings.items concerned f.nodes.items f.parents.items sound)
+read_kept image f concerned sound begun c es entries marks = (
   c.0.walk,
   c.0.findings ++ c.1,
   record {
     survey = read begun c.2 c.3 c.4;
     findings = c.5.findings;
+    concerned = (λ k.
+        let t : Course = record { walk = c.0.walk; passed_over = c.0.passed_over; findings = c.0.findings ++ c.1 } in
+        ap (λ os. option_flatten (slice_get os k)) entries ∙ concerned_kept image f t c.5 k);
     node = c.5.node;
     parent = c.5.parent;
     count = (let e = c.5.count in omega arith);

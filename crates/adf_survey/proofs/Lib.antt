@@ -23,4 +23,6 @@ pub mod CourseSteps
 pub mod Begun
 pub mod BitSteps
 pub mod SoundMarks
+-- the entries that findings concern
+pub mod Concerning
 pub mod Keeping

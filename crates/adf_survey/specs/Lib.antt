@@ -8,4 +8,5 @@ pub mod Courses
 pub mod Marks
 pub mod Files
 pub mod Surveyed
+pub mod Concerned
 pub mod Lookup

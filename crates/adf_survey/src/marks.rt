@@ -1,6 +1,6 @@
 // The entries that nothing is said against.
 
-ghost use Rattle.std.specs.Prelude.{◌≡◌, ◌&&◌, ℕ, IfOk, OnOk, not};
+ghost use Rattle.std.specs.Prelude.{◌≡◌, ◌&&◌, ℕ, IfOk, OnOk, map, not};
 ghost use Rattle.adf_tree.specs.declared.entry.Kind.TheVariants.{Ffs};
 ghost use Rattle.adf_volume.specs.Image.{kind_of};
 ghost use Rattle.adf_survey.specs.Marks.{AreEntries, blamed, has_mark, is_blamed, is_clear, is_node, is_sharing, sharing};
@@ -25,19 +25,19 @@ fn strike(marks: &mut Vec<bool>, node: Option<u64>)
 }
 
 // The entry that a finding of the part speaks against.
-fn blamed(found: &Found, part: Option<Part>) -> Option<u64>
+fn blamed(found: &Found, part: Option<Part>) -> Option<u32>
     ensures { result ≡ blamed found.now.taken part }
 {
     let part = part?;
     match part {
         Part::Head { node, .. } => {
             if found.taken.contains_key(&part.key()) {
-                Some(u64::from(node))
+                Some(node)
             } else {
                 None
             }
         }
-        Part::Ext(node, _) | Part::Data(node, _) => Some(u64::from(node)),
+        Part::Ext(node, _) | Part::Data(node, _) => Some(node),
         _ => None,
     }
 }
@@ -54,6 +54,22 @@ fn sharing(found: &Found, key: &Key, b: u32) -> Option<u64>
     }
 }
 
+/// The entries that the findings speak against, in the order of the findings.
+pub fn concerned(alloc: Global, found: &Found) -> Result<Vec<Option<u32>>, NoMemory>
+    ensures { IfOk result (λ v. v.items
+        ≡ map (λ x. blamed found.now.taken x.part) found.now.findings.items) }
+{
+    let Ok(mut entries) = Vec::with_capacity(alloc, found.findings.len()) else {
+        return Err(NoMemory);
+    };
+    for finding in &found.findings {
+        if entries.push(blamed(found, finding.part)).is_err() {
+            return Err(NoMemory);
+        }
+    }
+    Ok(entries)
+}
+
 // Takes their marks from the entries that findings speak against.
 fn strike_blamed(found: &Found, marks: &mut Vec<bool>)
     ensures { (m : ℕ) → has_mark marks.new.items m
@@ -61,7 +77,7 @@ fn strike_blamed(found: &Found, marks: &mut Vec<bool>)
         (is_blamed found.now.taken found.now.findings.items m)) }
 {
     for finding in &found.findings {
-        strike(marks, blamed(found, finding.part));
+        strike(marks, blamed(found, finding.part).map(u64::from));
     }
 }
 

@@ -1,12 +1,14 @@
 // What a survey tells.
 
 ghost use Rattle.std.specs.Prelude.{◌≡◌, ◌≤◌, ◌<◌, ◌↔◌, ℕ, List, ◌+◌, min, map, slice_index};
-ghost use Rattle.std.specs.Prelude.{slice_range, IsTrue, IsOk, IsSome, IfOk, IfSome};
+ghost use Rattle.std.specs.Prelude.{slice_get, slice_range, IsTrue, IsOk, IsSome, IfOk, IfSome};
+ghost use Rattle.std.specs.Option.{option_flatten};
 ghost use Rattle.adf_blocks.specs.HeadBlock.{body_at};
 ghost use Rattle.adf_fields.specs.Words.{block};
 ghost use Rattle.adf_volume.specs.Image.{name_of};
 ghost use Rattle.adf_volume.specs.Walk.{Has, Role, heads, node_block};
 ghost use Rattle.adf_volume.specs.Walk.Role.{Head};
+ghost use Rattle.adf_survey.specs.Concerned.{entry_of_nth};
 ghost use Rattle.adf_survey.specs.Files.{IsSoundFile, file_in};
 ghost use Rattle.adf_survey.specs.Marks.{has_mark};
 ghost use Rattle.adf_survey.specs.Parts.{told};
@@ -28,6 +30,7 @@ use std::marker::Model;
 pub struct Survey<'i> {
     image: &'i [u8],
     findings: Vec<Finding>,
+    concerned: Vec<Option<u32>>,
     nodes: Vec<u32>,
     parents: Vec<u32>,
     sound: Vec<bool>,
@@ -38,9 +41,10 @@ impl<'i> Model for Survey<'i> {
 
     ghost Value = { Surveyed };
 
-    ghost view = { λ v. kept_of v.image.now v.findings.items v.nodes.items v.parents.items v.sound.items };
+    ghost view = { λ v. kept_of v.image.now v.findings.items v.concerned.items v.nodes.items v.parents.items v.sound.items };
 
-    ghost invariant = { λ v. IsOfSurvey (kept_of v.image.now v.findings.items v.nodes.items v.parents.items v.sound.items) };
+    ghost invariant = { λ v. IsOfSurvey
+        (kept_of v.image.now v.findings.items v.concerned.items v.nodes.items v.parents.items v.sound.items) };
 }
 
 // Whether a node has a mark.
@@ -65,22 +69,33 @@ fn number_at(numbers: &Vec<u32>, n: usize) -> u32
     numbers.get(n).copied().unwrap_or(0)
 }
 
+// The entry at a place, none past the last.
+fn entry_at(entries: &Vec<Option<u32>>, k: usize) -> Option<u32>
+    ensures { result ≡ option_flatten (slice_get entries.now.items k) }
+{
+    entries.get(k).copied().flatten()
+}
+
 impl<'i> Survey<'i> {
     // What is kept of an image.
     pub(crate) fn new(
         image: &'i [u8],
         findings: Vec<Finding>,
+        concerned: Vec<Option<u32>>,
         nodes: Vec<u32>,
         parents: Vec<u32>,
         sound: Vec<bool>,
     ) -> Survey<'i>
         requires { IsOfSurvey
-            (kept_of image.now findings.items nodes.items parents.items sound.items) }
-        ensures { result ≡ kept_of image.now findings.items nodes.items parents.items sound.items }
+            (kept_of image.now findings.items concerned.items
+            nodes.items parents.items sound.items) }
+        ensures { result ≡ kept_of image.now findings.items concerned.items
+            nodes.items parents.items sound.items }
     {
         Survey {
             image,
             findings,
+            concerned,
             nodes,
             parents,
             sound,
@@ -95,6 +110,18 @@ impl Survey<'_> {
             → map told result.now ≡ fs }
     {
         &self.findings
+    }
+
+    /// The entry that finding `k`, counted from 0, concerns: that of a header that is found, or the file of an extension or
+    /// data block. None of a header that was passed over, of other parts, and past the last finding.
+    pub fn entry_of(&self, k: usize) -> Option<Node>
+        ensures { (w : List (Role × ℕ)) (fs : List SpecFinding) → IsSurvey self.now.image w fs
+            → result ≡ entry_of_nth w fs k }
+    {
+        match entry_at(&self.concerned, k) {
+            Some(n) => Some(Node(n as usize)),
+            None => None,
+        }
     }
 
     /// How many entries are found.

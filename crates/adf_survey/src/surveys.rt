@@ -11,7 +11,7 @@ use crate::asked::Asked;
 use crate::bits::compare;
 use crate::course::run;
 use crate::found::Found;
-use crate::marks::clear_marks;
+use crate::marks::{clear_marks, concerned};
 use crate::part::Finding;
 use crate::surveyed::Survey;
 use adf_fields::NoMemory;
@@ -40,6 +40,7 @@ fn only<'i>(alloc: Global, image: &'i [u8], unopened: Unopened) -> Result<Survey
             Vec::new(alloc),
             Vec::new(alloc),
             Vec::new(alloc),
+            Vec::new(alloc),
         )),
         Err(_) => Err(NoMemory),
     }
@@ -56,10 +57,12 @@ fn go_through<'i>(alloc: Global, image: &Image<'i>) -> Result<Survey<'i>, NoMemo
     asked.ask_of_root(image)?;
     run(image, &mut found, &mut asked)?;
     compare(image, &mut found)?;
+    let concerned = concerned(alloc, &found)?;
     let sound = clear_marks(alloc, image, &found)?;
     Ok(Survey::new(
         image.bytes(),
         found.findings,
+        concerned,
         found.nodes,
         found.parents,
         sound,

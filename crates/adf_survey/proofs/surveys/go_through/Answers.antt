@@ -13,6 +13,7 @@ run-requires-clause-state c =
 pub new-requires : goal.new-requires
 new-requires c =
     let f : Found = c.compare.new.found in
-    subst (λ i. IsOfSurvey (kept_of i f.findings.items f.nodes.items f.parents.items c.in_ok-sound.sound.items)) (sym c.bytes.ensures.bytes)
-    (read_kept c.args.image.now f c.in_ok-sound.sound.items c.begin.ensures.begun c.in_ok-compare.ensures c.in_ok-sound.ensures.entries
-    c.in_ok-sound.ensures.marks)
+    let entries = c.in_ok-concerned.concerned.items in
+    subst (λ i. IsOfSurvey (kept_of i f.findings.items entries f.nodes.items f.parents.items c.in_ok-sound.sound.items)) (sym c.bytes.ensures.bytes)
+    (read_kept c.args.image.now f entries c.in_ok-sound.sound.items c.begin.ensures.begun c.in_ok-compare.ensures c.in_ok-sound.ensures.entries
+    c.in_ok-concerned.ensures c.in_ok-sound.ensures.marks)

@@ -1,0 +1,6 @@
+use Rattle.std.specs.Prelude.{◌≡◌, map, take}
+use Rattle.adf_survey.specs.Marks.{blamed}
+use Rattle.adf_survey.proofs.marks.concerned.Given as goal
+
+abbrev pub invariant-loop-finding : goal.invariant-loop-finding
+invariant-loop-finding l = l.entries.items ≡ map (λ x. blamed l.found.taken x.part) (take l.finding-index l.found.findings.items)

@@ -1,0 +1,16 @@
+use Rattle.std.specs.Prelude.{slice_get}
+use Rattle.std.specs.Option.{option_flatten}
+use Rattle.std.proofs.Common.{ap, subst, ◌∙◌}
+use Rattle.adf_survey.specs.Surveyed.{IsOfSurvey}
+use Rattle.adf_survey.proofs.Keeping.{tells_each}
+use Rattle.adf_survey.proofs.surveyed.Survey.entry_of.Goals as goal
+
+pub returns-in-Some : goal.returns-in-Some
+returns-in-Some c = λ w fs h.
+    let t = tells_each c.args.self.now (subst IsOfSurvey c.self.view_is c.self.invariant) w fs h in
+    c.in-Some.ensures ∙ (ap (λ v. option_flatten (slice_get v.concerned c.args.k)) c.self.view_is ∙ t.concerned c.args.k)
+
+pub returns-in-None : goal.returns-in-None
+returns-in-None c = λ w fs h.
+    let t = tells_each c.args.self.now (subst IsOfSurvey c.self.view_is c.self.invariant) w fs h in
+    c.in-None.ensures ∙ (ap (λ v. option_flatten (slice_get v.concerned c.args.k)) c.self.view_is ∙ t.concerned c.args.k)
