@@ -10,6 +10,7 @@ mod FileBlocks
 mod SoundFiles
 -- where paths lead
 mod Lookups
+mod EntryPaths
 -- the blocks of sound entries
 pub mod SoundEntries
 pub mod Judged

@@ -45,7 +45,7 @@ child_between image w fs (read begun v d t) p n name k =
     (parent_before image (gathered image v) n p k.0 k.1 k.2 k.3, (number_of image (gathered image v) n p k.0 k.1 k.2 k.3).1)
 
 -- the header of an entry, by its number
-header_at : (image : List ℕ) (w : List (Role × ℕ)) (fs : List Finding) → IsSurvey image w fs → (n : ℕ) → 1 ≤ n → n ≤ heads w
+pub header_at : (image : List ℕ) (w : List (Role × ℕ)) (fs : List Finding) → IsSurvey image w fs → (n : ℕ) → 1 ≤ n → n ≤ heads w
     → (p s j : ℕ) × Has w (Head n p s j) (node_block w n)
 header_at image w fs (unread f) n lo hi = absurd (omega arith)
 header_at image w fs (read {s = s} begun v d t) n lo hi =

@@ -1,10 +1,12 @@
--- Where paths lead in what is found.
--- Letters: w the walk of a survey; p, n, m nodes; s, j the slot and the place of a header in its chain, b its block.
-use Rattle.std.specs.Prelude.{◌≡◌, ◌<◌, ℕ, List, [], ◌∷◌}
+-- Where paths lead in what is found, and the paths of entries.
+-- Letters: w the walk of a survey; p, n, m nodes; s, j the slot and the place of a header in its chain, b its block; f a number of steps.
+use Rattle.std.specs.Prelude.{◌≡◌, ◌<◌, ◌&&◌, ℕ, List, [], ◌∷◌, ◌++◌, cond, nat_le}
+use Rattle.std.proofs.Common.{zero, suc}
 use Rattle.adf_tree.specs.Texts.{uppers}
 use Rattle.adf_volume.specs.Image.{name_of}
-use Rattle.adf_volume.specs.Walk.{Role, Has}
+use Rattle.adf_volume.specs.Walk.{Role, Has, heads, node_block}
 use Rattle.adf_volume.specs.Walk.Role.{Head}
+use Rattle.adf_survey.specs.Found.{parent_in}
 
 -- entry n is found in directory p, and its header has the name, whatever the case
 abbrev pub IsChild : List ℕ → List (Role × ℕ) → ℕ → List ℕ → ℕ → Type 0
@@ -18,3 +20,13 @@ IsFirstChild image w p name n = IsChild image w p name n × ((m : ℕ) → m < n
 abbrev pub LeadsTo : List ℕ → List (Role × ℕ) → ℕ → List (List ℕ) → ℕ → Type 0
 LeadsTo image w p [] n = p ≡ n
 LeadsTo image w p (name ∷ names) n = (m : ℕ) × IsFirstChild image w p name m × LeadsTo image w m names n
+
+-- the names from the root to entry n, over at most f steps up
+abbrev pub path_up : List ℕ → List (Role × ℕ) → ℕ → ℕ → List (List ℕ)
+path_up image w zero n = []
+path_up image w (suc f) n =
+    cond (nat_le 1 n && nat_le n (heads w)) (path_up image w f (parent_in w n) ++ name_of image (node_block w n) ∷ []) []
+
+-- the names from the root to entry n, none of the root and past the last entry
+abbrev pub path_to : List ℕ → List (Role × ℕ) → ℕ → List (List ℕ)
+path_to image w n = path_up image w n n

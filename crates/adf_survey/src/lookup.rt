@@ -1,12 +1,14 @@
-// Look-up of paths in what is found.
+// Look-up of paths in what is found, and the paths of entries.
 
-ghost use Rattle.std.specs.Prelude.{◌↔◌, ℕ, List, IsTrue, IfNone, IfSome};
+ghost use Rattle.std.specs.Prelude.{◌≡◌, ◌↔◌, ℕ, List, [], IsOk, IsTrue, IfNone, IfOk, IfSome, map};
 ghost use Rattle.adf_volume.specs.Walk.{Role};
-ghost use Rattle.adf_survey.specs.Lookup.{IsChild, IsFirstChild, LeadsTo};
+ghost use Rattle.adf_survey.specs.Lookup.{IsChild, IsFirstChild, LeadsTo, path_to};
 ghost use Rattle.adf_survey.specs.Survey.{Finding as SpecFinding, IsSurvey};
 
 use crate::surveyed::Survey;
+use adf_fields::NoMemory;
 use adf_tree::{Name, Node};
+use std::alloc::Global;
 
 // Whether an entry is found in this directory under this name, whatever the case.
 fn is_child(survey: &Survey<'_>, parent: Node, name: &Name, n: Node) -> bool
@@ -55,5 +57,25 @@ impl Survey<'_> {
             }
         }
         Some(node)
+    }
+
+    /// The names from the root to an entry that is found, each at most 79 bytes and perhaps none that is allowed; empty for
+    /// the root and past the last entry, where no memory is taken. `NoMemory` where a growth was refused.
+    pub fn path(&self, alloc: Global, n: Node) -> Result<Vec<&[u8]>, NoMemory>
+        ensures names { (w : List (Role × ℕ)) (fs : List SpecFinding) → IsSurvey self.now.image w fs
+            → IfOk result (λ v. map (λ x. x.now) v.items ≡ path_to self.now.image w n) }
+        ensures empty { (w : List (Role × ℕ)) (fs : List SpecFinding) → IsSurvey self.now.image w fs
+            → path_to self.now.image w n ≡ [] → IsOk result }
+    {
+        let mut path = Vec::new(alloc);
+        let mut node = n;
+        while let Some(name) = self.name(node) {
+            if path.push(name).is_err() {
+                return Err(NoMemory);
+            }
+            node = self.directory_of(node);
+        }
+        path.reverse();
+        Ok(path)
     }
 }

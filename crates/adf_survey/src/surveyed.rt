@@ -10,6 +10,7 @@ ghost use Rattle.adf_volume.specs.Walk.{Has, Role, heads, node_block};
 ghost use Rattle.adf_volume.specs.Walk.Role.{Head};
 ghost use Rattle.adf_survey.specs.Concerned.{entry_of_nth};
 ghost use Rattle.adf_survey.specs.Files.{IsSoundFile, file_in};
+ghost use Rattle.adf_survey.specs.Found.{parent_in};
 ghost use Rattle.adf_survey.specs.Marks.{has_mark};
 ghost use Rattle.adf_survey.specs.Parts.{told};
 ghost use Rattle.adf_survey.specs.Sound.{IsSound};
@@ -194,6 +195,14 @@ impl Survey<'_> {
         }
     }
 
+    // The node of the directory of an entry, 0 where there is no such entry.
+    pub(crate) fn directory_of(&self, n: Node) -> Node
+        ensures { (w : List (Role × ℕ)) (fs : List SpecFinding) → IsSurvey self.now.image w fs
+            → result ≡ parent_in w n }
+    {
+        Node(number_at(&self.parents, n.0) as usize)
+    }
+
     /// The node of the directory of an entry that is found, 0 of those in the root; none of the root and past the last entry.
     pub fn parent_of(&self, n: Node) -> Option<Node>
         ensures some { (w : List (Role × ℕ)) (fs : List SpecFinding) → IsSurvey self.now.image w fs
@@ -205,7 +214,7 @@ impl Survey<'_> {
         if !self.has_entry(n) {
             return None;
         }
-        Some(Node(number_at(&self.parents, n.0) as usize))
+        Some(self.directory_of(n))
     }
 
     /// Whether nothing is said against the parts of an entry that is found.

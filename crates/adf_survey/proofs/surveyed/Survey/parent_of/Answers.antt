@@ -1,7 +1,6 @@
-use Rattle.std.specs.Prelude.{true, false, slice_index}
-use Rattle.std.proofs.Common.{◌≡◌, refl, sym, subst, ◌∙◌}
-use Rattle.adf_survey.specs.Surveyed.{IsOfSurvey}
-use Rattle.adf_survey.proofs.Keeping.{parent_is, tells_each}
+use Rattle.std.specs.Prelude.{true, false}
+use Rattle.std.proofs.Common.{◌≡◌, refl, sym, ◌∙◌}
+use Rattle.adf_survey.proofs.Keeping.{parent_is}
 use Rattle.adf_survey.proofs.surveyed.Survey.parent_of.Goals as goal
 
 pub returns-then-not-has_entry-clause-some : goal.returns-then-not-has_entry-clause-some
@@ -13,6 +12,4 @@ returns-clause-some c = λ w fs h. ((λ e. (c.has_entry.ensures w fs h).0 c.if-n
 
 pub returns-clause-parent : goal.returns-clause-parent
 returns-clause-parent c = λ w fs h p s j b has.
-    let t = tells_each c.args.self.now (subst IsOfSurvey c.self.view_is c.self.invariant) w fs h in
-    c.number_at.ensures ∙ ((λ i. slice_index (c.self.view_is i).parents (c.n.view_is i))
-    ∙ (t.parent c.args.n ∙ parent_is c.args.self.now.image w fs h c.args.n p s j b has))
+    c.directory_of.ensures w fs h ∙ parent_is c.args.self.now.image w fs h c.args.n p s j b has
