@@ -7,7 +7,7 @@ use Rattle.std.proofs.lemmas.Bool.{and_parts}
 use Rattle.std.proofs.lemmas.Bool.Decides.{nat_tests}
 use Rattle.adf_volume.specs.Image.{name_of}
 use Rattle.adf_volume.specs.Walk.{Role, heads, node_block}
-use Rattle.adf_survey.specs.Found.{parent_in}
+use Rattle.adf_survey.specs.Found.{parent_node}
 use Rattle.adf_survey.specs.Lookup.{path_to, path_up}
 use Rattle.adf_survey.specs.Survey.{Finding, IsSurvey}
 use Rattle.adf_survey.proofs.Keeping.{parent_is}
@@ -19,10 +19,10 @@ is_entry w n = nat_le 1 n && nat_le n (heads w)
 
 module _ (image : List ℕ) (w : List (Role × ℕ)) (fs : List Finding) (h : IsSurvey image w fs) where
   -- the directory of an entry has a smaller number
-  pub directory_smaller : (n : ℕ) → 1 ≤ n → n ≤ heads w → parent_in w n < n
+  pub directory_smaller : (n : ℕ) → 1 ≤ n → n ≤ heads w → parent_node w n < n
   directory_smaller n lo hi =
       let x = header_at image w fs h n lo hi in
-      let e : parent_in w n ≡ x.0 = parent_is image w fs h n x.0 x.1 x.2 (node_block w n) x.3 in
+      let e : parent_node w n ≡ x.0 = parent_is image w fs h n x.0 x.1 x.2 (node_block w n) x.3 in
       let lt : x.0 < n = (child_between image w fs h x.0 n (name_of image (node_block w n)) (x.1, x.2, node_block w n, x.3, refl)).0 in
       omega arith
 
@@ -47,22 +47,22 @@ module _ (image : List ℕ) (w : List (Role × ℕ)) (fs : List Finding) (h : Is
   path_enough (suc f) zero zero a b = refl
   path_enough (suc f) zero (suc n) a b = absurd (omega arith)
   path_enough (suc f) (suc g) n a b =
-      go (is_entry w n) refl (λ lt. path_enough f g (parent_in w n) (omega arith) (omega arith))
+      go (is_entry w n) refl (λ lt. path_enough f g (parent_node w n) (omega arith) (omega arith))
     where
       go : (t : Bool) → is_entry w n ≡ t
-          → (parent_in w n < n → path_up image w f (parent_in w n) ≡ path_up image w g (parent_in w n))
-          → cond t (path_up image w f (parent_in w n) ++ name_of image (node_block w n) ∷ []) []
-          ≡ cond t (path_up image w g (parent_in w n) ++ name_of image (node_block w n) ∷ []) []
+          → (parent_node w n < n → path_up image w f (parent_node w n) ≡ path_up image w g (parent_node w n))
+          → cond t (path_up image w f (parent_node w n) ++ name_of image (node_block w n) ∷ []) []
+          ≡ cond t (path_up image w g (parent_node w n) ++ name_of image (node_block w n) ∷ []) []
       go false e again = refl
       go true e again =
           let r = entry_range n e in
           ap (λ p. p ++ name_of image (node_block w n) ∷ []) (again (directory_smaller n r.0 r.1))
 
   -- one step up
-  pub path_next : (n : ℕ) → 1 ≤ n → n ≤ heads w → path_to image w n ≡ path_to image w (parent_in w n) ++ name_of image (node_block w n) ∷ []
+  pub path_next : (n : ℕ) → 1 ≤ n → n ≤ heads w → path_to image w n ≡ path_to image w (parent_node w n) ++ name_of image (node_block w n) ∷ []
   path_next zero lo hi = absurd (omega arith)
   path_next (suc m) lo hi =
-      let p : ℕ = parent_in w (suc m) in
+      let p : ℕ = parent_node w (suc m) in
       let lt : p < suc m = directory_smaller (suc m) lo hi in
       let name : List ℕ = name_of image (node_block w (suc m)) in
       ap (λ t. cond t (path_up image w m p ++ name ∷ []) []) (in_range (suc m) lo hi)
@@ -74,12 +74,12 @@ module _ (image : List ℕ) (w : List (Role × ℕ)) (fs : List Finding) (h : Is
   path_none (suc m) none = go (is_entry w (suc m)) refl
     where
       go : (t : Bool) → is_entry w (suc m) ≡ t
-          → cond t (path_up image w m (parent_in w (suc m)) ++ name_of image (node_block w (suc m)) ∷ []) [] ≡ []
+          → cond t (path_up image w m (parent_node w (suc m)) ++ name_of image (node_block w (suc m)) ∷ []) [] ≡ []
       go false e = refl
       go true e = absurd (none (entry_range (suc m) e))
 
   -- the names gathered so far, and one more
-  pub gathered_more : (path names : List (List ℕ)) (n m : ℕ) (name : List ℕ) → (1 ≤ n) × (n ≤ heads w) → m ≡ parent_in w n
+  pub gathered_more : (path names : List (List ℕ)) (n m : ℕ) (name : List ℕ) → (1 ≤ n) × (n ≤ heads w) → m ≡ parent_node w n
       → name ≡ name_of image (node_block w n) → path ≡ path_to image w n ++ reverse names
       → path ≡ path_to image w m ++ reverse (names ++ name ∷ [])
   gathered_more path names n m name r up is e = rw (e, path_next n r.0 r.1, up, is, append_assoc, reverse-append) refl
@@ -87,7 +87,7 @@ module _ (image : List ℕ) (w : List (Role × ℕ)) (fs : List Finding) (h : Is
   -- where a name is to be gathered, there is one
   pub gathered_some : (path names : List (List ℕ)) (n : ℕ) → (1 ≤ n) × (n ≤ heads w) → path ≡ path_to image w n ++ reverse names → path ≡ [] → ⊥
   gathered_some path names n r e nil =
-      let up : List (List ℕ) = path_to image w (parent_in w n) in
+      let up : List (List ℕ) = path_to image w (parent_node w n) in
       let name : List ℕ = name_of image (node_block w n) in
       let long : length path ≡ length up + 1 + length (reverse names) = rw (e, path_next n r.0 r.1, length-append, length-append) refl in
       let none : length path ≡ 0 = ap length nil in

@@ -12,7 +12,7 @@ use Rattle.adf_volume.specs.Walk.Role.{Root, Head}
 use Rattle.adf_volume.proofs.Gathered.{IsGathered}
 use Rattle.adf_volume.proofs.Gathered.IsGathered.{start, step}
 use Rattle.adf_volume.proofs.Roles.{asks_number}
-use Rattle.adf_survey.specs.Found.{parent_by, parent_in}
+use Rattle.adf_survey.specs.Found.{parent_by, parent_node}
 use Rattle.std.proofs.lemmas.Bool.{eq-eqb}
 use Rattle.std.proofs.lemmas.Bool.Decides.{eqb_tells}
 use Rattle.adf_survey.specs.declared.part.Finding.{Finding as FoundFinding}
@@ -91,18 +91,18 @@ other_parent image w n (Head m p s j) a i c d u =
     elim (eqb_tells n m) [ inl y ↦ let e : n ≡ m = y.1 in absurd (omega arith) | inr y ↦ rw y.0 refl ]
 other_parent image w n _ a i c d u = refl
 
-head_parent : (image : List ℕ) {w : List (Role × ℕ)} → IsGathered image w → (n p s j b : ℕ) → Has w (Head n p s j) b → parent_in w n ≡ p
+head_parent : (image : List ℕ) {w : List (Role × ℕ)} → IsGathered image w → (n p s j b : ℕ) → Has w (Head n p s j) b → parent_node w n ≡ p
 head_parent image start n p s j b (inl e) = let h : second Root ≡ second (Head n p s j) = ap second e.0 in absurd (omega arith)
 head_parent image start n p s j b (inr f) = absurd f
 head_parent image (step {w = w} {r = r} a i c v d l) n p s j b (inl e) =
-    subst (λ r. parent_by n r (parent_in w n) ≡ p) (sym e.0) (rw (eq-eqb n n refl) refl)
+    subst (λ r. parent_by n r (parent_node w n) ≡ p) (sym e.0) (rw (eq-eqb n n refl) refl)
 head_parent image (step {w = w} {r = r} a i c v d l) n p s j b (inr h) =
     let u : (1 ≤ n) × (n ≤ heads w) = number_of image v n p s j b h in
-    other_parent image w n r a i (parent_in w n) d (omega arith) ∙ head_parent image v n p s j b h
+    other_parent image w n r a i (parent_node w n) d (omega arith) ∙ head_parent image v n p s j b h
 
 -- the directory of an entry, as a function
 pub parent_is : (image : List ℕ) (w : List (Role × ℕ)) (fs : List Finding) → IsSurvey image w fs → (n p s j b : ℕ) → Has w (Head n p s j) b
-    → parent_in w n ≡ p
+    → parent_node w n ≡ p
 parent_is image w fs (unread f) n p s j b h = absurd h
 parent_is image w fs (read begun v d t) n p s j b h = head_parent image (gathered image v) n p s j b h
 

@@ -10,7 +10,7 @@ use Rattle.adf_volume.specs.Walk.{Role, second, Has, Asks, DirAt, heads, node_bl
 use Rattle.adf_volume.specs.Walk.Role.{Root, Head}
 use Rattle.adf_volume.proofs.Gathered.{IsGathered, head_block, number_of, numbered as has_number}
 use Rattle.adf_volume.proofs.Gathered.IsGathered.{start, step}
-use Rattle.adf_survey.specs.Lookup.{IsChild, IsFirstChild, LeadsTo}
+use Rattle.adf_survey.specs.Lookup.{IsNamedChild, IsFirstChild, LeadsTo}
 use Rattle.adf_survey.specs.Survey.{Finding, IsSurvey}
 use Rattle.adf_survey.specs.Survey.IsSurvey.{read, unread}
 use Rattle.adf_survey.proofs.OneSurvey.{gathered}
@@ -39,7 +39,7 @@ module _ (image : List ℕ) where
 
 -- the number of an entry is greater than its directory's, and at most the count
 pub child_between : (image : List ℕ) (w : List (Role × ℕ)) (fs : List Finding) → IsSurvey image w fs → (p n : ℕ) (name : List ℕ)
-    → IsChild image w p name n → (p < n) × (n ≤ heads w)
+    → IsNamedChild image w p name n → (p < n) × (n ≤ heads w)
 child_between image w fs (unread f) p n name k = absurd k.3
 child_between image w fs (read begun v d t) p n name k =
     (parent_before image (gathered image v) n p k.0 k.1 k.2 k.3, (number_of image (gathered image v) n p k.0 k.1 k.2 k.3).1)
@@ -61,7 +61,7 @@ header_one image w fs (read begun v d t) n p s j b g = head_block image (gathere
 -- an entry of the directory is a child by its name
 pub child_told : (image : List ℕ) (w : List (Role × ℕ)) (fs : List Finding) → IsSurvey image w fs → (p n : ℕ) (name text : List ℕ) (t : Bool) (up : ℕ)
     → 1 ≤ n → n ≤ heads w → ((q s j b : ℕ) → Has w (Head n q s j) b → up ≡ q) → up ≡ p → text ≡ name_of image (node_block w n)
-    → t ≡ bytes_eq (uppers text) (uppers name) → (t ≡ true) ↔ IsChild image w p name n
+    → t ≡ bytes_eq (uppers text) (uppers name) → (t ≡ true) ↔ IsNamedChild image w p name n
 child_told image w fs h p n name text t up lo hi parent same is_text is_t =
     let x = header_at image w fs h n lo hi in
     let e : x.0 ≡ p = sym (parent x.0 x.1 x.2 (node_block w n) x.3) ∙ same in

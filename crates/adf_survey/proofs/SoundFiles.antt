@@ -15,7 +15,7 @@ use Rattle.adf_volume.specs.Pieces.{AreInside}
 use Rattle.adf_volume.proofs.PieceBytes.{pieces_joined}
 use Rattle.adf_volume.proofs.Roles.{same_refl}
 use Rattle.std.specs.List.{concat}
-use Rattle.adf_survey.specs.Files.{FileValue, HasItsBlocks, content_of, file_from, file_in, names_from}
+use Rattle.adf_survey.specs.Files.{FileValue, HasItsBlocks, file_content, file_from, file_in, names_from}
 use Rattle.adf_survey.specs.Sound.{IsSound}
 use Rattle.adf_survey.specs.Survey.{Finding, IsSurvey}
 use Rattle.adf_survey.specs.Survey.IsSurvey.{read, unread}
@@ -99,5 +99,5 @@ blocks_inside f has small =
 
 -- the pieces of a file, one after the other, are its content
 pub joined_content : (f : FileValue) → HasItsBlocks f
-    → concat (pieces f.image (kind_of f.image) (word_in f.image f.head SIZE) 1 f.blocks) ≡ content_of f
+    → concat (pieces f.image (kind_of f.image) (word_in f.image f.head SIZE) 1 f.blocks) ≡ file_content f
 joined_content f has = pieces_joined f.image (kind_of f.image) f.head f.blocks has.whole has.inside

@@ -21,7 +21,7 @@ use Rattle.adf_survey.specs.declared.found.ChainName.{ChainName}
 use Rattle.adf_survey.specs.Survey.{Course}
 use Rattle.adf_survey.specs.Parts.{by_key, key_of, role_of, told}
 use Rattle.adf_survey.specs.Found.{AreMarked, AreNamed, AreSame, IsKept, IsNoted, IsOwned, IsPassed, IsTaken, KeepsParts, Stands, at_key, by_name, exts_found}
-use Rattle.adf_survey.specs.Found.{is_named, owns, parent_by, parent_in, unowned}
+use Rattle.adf_survey.specs.Found.{is_named, owns, parent_by, parent_node, unowned}
 
 kept_more : (image : List ℕ) (part : Part) (b : ℕ) (f g h : Found) → IsKept image part b f g → AreSame g h → IsKept image part b f h
 kept_more image (HeadPart n p s j) b f g h k e = (
@@ -97,7 +97,7 @@ module _ (image : List ℕ) (f g : Found) (s : Course) (b : ℕ) (st : Stands im
   abbrev IsLater : List (Role × ℕ) → Type 0
   IsLater w =
       ((n : ℕ) → slice_index g.nodes.items n ≡ node_block w n) × (length g.nodes.items ≡ suc (heads w)) × (length g.nodes.items ≤ suc (length f.nodes.items))
-      × ((n : ℕ) → exts_found g n ≡ ext_count w n) × AreNamed image w g.names × ((n : ℕ) → slice_index g.parents.items n ≡ parent_in w n)
+      × ((n : ℕ) → exts_found g n ≡ ext_count w n) × AreNamed image w g.names × ((n : ℕ) → slice_index g.parents.items n ≡ parent_node w n)
       × (length g.parents.items ≡ suc (heads w))
 
   same_later : (r : Role) → ((m c : ℕ) → node_block_of m r b c ≡ c) → head_count r (heads s.walk) ≡ heads s.walk → ((m c : ℕ) → ext_count_of m r c ≡ c)
@@ -109,7 +109,7 @@ module _ (image : List ℕ) (f g : Found) (s : Course) (b : ℕ) (st : Stands im
     (let l = ap (λ v. length v.items) e.0 in omega arith),
     (λ n. ap (λ m. unwrap_or (get nat_cmp m n) 0) e.2 ∙ (st.ext n ∙ sym (ext n (ext_count s.walk n)))),
     (λ q. ap (λ m. get by_name m q) e.1 ∙ (st.name q ∙ sym (rw (name q) refl))),
-    (λ n. ap (λ v. slice_index v.items n) e.3 ∙ (st.parent n ∙ sym (parent n (parent_in s.walk n)))),
+    (λ n. ap (λ v. slice_index v.items n) e.3 ∙ (st.parent n ∙ sym (parent n (parent_node s.walk n)))),
     ap (λ v. length v.items) e.3 ∙ (st.parents ∙ ap suc (sym head)),
   )
 

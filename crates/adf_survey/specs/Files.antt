@@ -24,8 +24,8 @@ pub record HasItsBlocks (f : FileValue) : Type 0 where
   pub many : length f.blocks ≡ data_count f.image f.head
 
 -- the content of the file
-abbrev pub content_of : FileValue → List ℕ
-content_of f = content f.image (kind_of f.image) f.head f.blocks
+abbrev pub file_content : FileValue → List ℕ
+file_content f = content f.image (kind_of f.image) f.head f.blocks
 
 -- entry n is sound, and its header is a file's
 abbrev pub IsSoundFile : List ℕ → List (Role × ℕ) → List Finding → ℕ → Type 0

@@ -67,9 +67,9 @@ parent_by n (Head m p s j) c = cond (n == m) p c
 parent_by n _ c = c
 
 -- the node of the directory of node n, 0 where the walk has no such header
-abbrev pub parent_in : List (Role × ℕ) → ℕ → ℕ
-parent_in [] n = 0
-parent_in (x ∷ w) n = parent_by n x.0 (parent_in w n)
+abbrev pub parent_node : List (Role × ℕ) → ℕ → ℕ
+parent_node [] n = 0
+parent_node (x ∷ w) n = parent_by n x.0 (parent_node w n)
 
 -- how many blocks are no member's
 abbrev pub unowned : List Bool → ℕ
@@ -160,7 +160,7 @@ pub record Stands (image : List ℕ) (f : Found) (s : Course) : Type 0 where
   pub ext : (n : ℕ) → exts_found f n ≡ ext_count s.walk n
   pub name : AreNamed image s.walk f.names
   pub findings : map told f.findings.items ≡ s.findings
-  pub parent : (n : ℕ) → slice_index f.parents.items n ≡ parent_in s.walk n
+  pub parent : (n : ℕ) → slice_index f.parents.items n ≡ parent_node s.walk n
   pub parents : length f.parents.items ≡ suc (heads s.walk)
 
 -- the course that begins with the root

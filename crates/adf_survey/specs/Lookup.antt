@@ -6,15 +6,15 @@ use Rattle.adf_tree.specs.Texts.{uppers}
 use Rattle.adf_volume.specs.Image.{name_of}
 use Rattle.adf_volume.specs.Walk.{Role, Has, heads, node_block}
 use Rattle.adf_volume.specs.Walk.Role.{Head}
-use Rattle.adf_survey.specs.Found.{parent_in}
+use Rattle.adf_survey.specs.Found.{parent_node}
 
 -- entry n is found in directory p, and its header has the name, whatever the case
-abbrev pub IsChild : List ℕ → List (Role × ℕ) → ℕ → List ℕ → ℕ → Type 0
-IsChild image w p name n = (s j b : ℕ) × Has w (Head n p s j) b × (uppers (name_of image b) ≡ uppers name)
+abbrev pub IsNamedChild : List ℕ → List (Role × ℕ) → ℕ → List ℕ → ℕ → Type 0
+IsNamedChild image w p name n = (s j b : ℕ) × Has w (Head n p s j) b × (uppers (name_of image b) ≡ uppers name)
 
 -- it is the first of these by its number
 abbrev pub IsFirstChild : List ℕ → List (Role × ℕ) → ℕ → List ℕ → ℕ → Type 0
-IsFirstChild image w p name n = IsChild image w p name n × ((m : ℕ) → m < n → IsChild image w p name m → ⊥)
+IsFirstChild image w p name n = IsNamedChild image w p name n × ((m : ℕ) → m < n → IsNamedChild image w p name m → ⊥)
 
 -- the names lead from node p to node n: from each node to the first child with the next name
 abbrev pub LeadsTo : List ℕ → List (Role × ℕ) → ℕ → List (List ℕ) → ℕ → Type 0
@@ -25,7 +25,7 @@ LeadsTo image w p (name ∷ names) n = (m : ℕ) × IsFirstChild image w p name 
 abbrev pub path_up : List ℕ → List (Role × ℕ) → ℕ → ℕ → List (List ℕ)
 path_up image w zero n = []
 path_up image w (suc f) n =
-    cond (nat_le 1 n && nat_le n (heads w)) (path_up image w f (parent_in w n) ++ name_of image (node_block w n) ∷ []) []
+    cond (nat_le 1 n && nat_le n (heads w)) (path_up image w f (parent_node w n) ++ name_of image (node_block w n) ∷ []) []
 
 -- the names from the root to entry n, none of the root and past the last entry
 abbrev pub path_to : List ℕ → List (Role × ℕ) → ℕ → List (List ℕ)

@@ -5,7 +5,7 @@ use Rattle.std.specs.Option.{option_flatten}
 use Rattle.adf_volume.specs.Walk.{Role, heads, node_block}
 use Rattle.adf_survey.specs.declared.part.Finding.{Finding as FoundFinding}
 use Rattle.adf_survey.specs.Concerned.{entry_of_nth}
-use Rattle.adf_survey.specs.Found.{parent_in}
+use Rattle.adf_survey.specs.Found.{parent_node}
 use Rattle.adf_survey.specs.Marks.{has_mark}
 use Rattle.adf_survey.specs.Parts.{told}
 use Rattle.adf_survey.specs.Sound.{IsSound}
@@ -31,7 +31,7 @@ pub record TellsOf (v : Surveyed) (w : List (Role × ℕ)) (fs : List Finding) :
   pub findings : map told v.findings ≡ fs
   pub concerned : (k : ℕ) → option_flatten (slice_get v.concerned k) ≡ entry_of_nth w fs k
   pub node : (n : ℕ) → slice_index v.nodes n ≡ node_block w n
-  pub parent : (n : ℕ) → slice_index v.parents n ≡ parent_in w n
+  pub parent : (n : ℕ) → slice_index v.parents n ≡ parent_node w n
   pub count : length v.nodes - 1 ≡ heads w
   pub sound : (n : ℕ) → 1 ≤ n → (has_mark v.sound n ≡ true) ↔ IsSound v.image w fs n (node_block w n)
 

@@ -4,7 +4,7 @@ ghost use Rattle.std.specs.Prelude.{◌≡◌, [], IsOk, IfOk};
 ghost use Rattle.std.specs.List.{concat};
 ghost use Rattle.adf_blocks.specs.declared.layout.TheConstants.{SIZE};
 ghost use Rattle.adf_volume.specs.Image.{kind_of, pieces, word_in};
-ghost use Rattle.adf_survey.specs.Files.{HasItsBlocks, content_of, file_from, names_from};
+ghost use Rattle.adf_survey.specs.Files.{HasItsBlocks, file_content, file_from, names_from};
 
 use crate::asked::count_of;
 use adf_blocks::{EXTENSION, FIRST_POINTER, POINTERS, SIZE};
@@ -104,14 +104,14 @@ impl SoundFile<'_> {
             ≡ pieces self.now.image (kind_of self.now.image)
             (word_in self.now.image self.now.head SIZE)
             1 self.now.blocks }
-        ensures joined { concat result ≡ content_of self.now }
+        ensures joined { concat result ≡ file_content self.now }
     {
         Pieces::new(self.image, self.kind, self.size, &self.blocks)
     }
 
     /// The bytes of the file; `NoMemory` where room for them was refused. Where there are no bytes, no memory is taken.
     pub fn read(&self, alloc: Global) -> Result<Vec<u8>, NoMemory>
-        ensures bytes { IfOk result (λ v. v.items ≡ content_of self.now) }
+        ensures bytes { IfOk result (λ v. v.items ≡ file_content self.now) }
         ensures empty { self.now.blocks ≡ [] → IsOk result }
     {
         joined(alloc, self.pieces())

@@ -2,7 +2,7 @@
 
 ghost use Rattle.std.specs.Prelude.{◌≡◌, ◌↔◌, ℕ, List, [], IsOk, IsTrue, IfNone, IfOk, IfSome, map};
 ghost use Rattle.adf_volume.specs.Walk.{Role};
-ghost use Rattle.adf_survey.specs.Lookup.{IsChild, IsFirstChild, LeadsTo, path_to};
+ghost use Rattle.adf_survey.specs.Lookup.{IsNamedChild, IsFirstChild, LeadsTo, path_to};
 ghost use Rattle.adf_survey.specs.Survey.{Finding as SpecFinding, IsSurvey};
 
 use crate::surveyed::Survey;
@@ -13,7 +13,7 @@ use std::alloc::Global;
 // Whether an entry is found in this directory under this name, whatever the case.
 fn is_child(survey: &Survey<'_>, parent: Node, name: &Name, n: Node) -> bool
     ensures { (w : List (Role × ℕ)) (fs : List SpecFinding) → IsSurvey survey.now.image w fs
-        → IsTrue result ↔ IsChild survey.now.image w parent name.now n }
+        → IsTrue result ↔ IsNamedChild survey.now.image w parent name.now n }
 {
     let Some(up) = survey.parent_of(n) else {
         return false;
@@ -29,7 +29,7 @@ fn child(survey: &Survey<'_>, parent: Node, name: &Name) -> Option<Node>
     ensures first { (w : List (Role × ℕ)) (fs : List SpecFinding) → IsSurvey survey.now.image w fs
         → IfSome result (λ n. IsFirstChild survey.now.image w parent name.now n) }
     ensures none { (w : List (Role × ℕ)) (fs : List SpecFinding) → IsSurvey survey.now.image w fs
-        → IfNone result ((n : ℕ) → IsChild survey.now.image w parent name.now n → ⊥) }
+        → IfNone result ((n : ℕ) → IsNamedChild survey.now.image w parent name.now n → ⊥) }
 {
     for before in parent.0..survey.len() {
         let n = Node(before + 1);

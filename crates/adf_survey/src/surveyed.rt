@@ -10,7 +10,7 @@ ghost use Rattle.adf_volume.specs.Walk.{Has, Role, heads, node_block};
 ghost use Rattle.adf_volume.specs.Walk.Role.{Head};
 ghost use Rattle.adf_survey.specs.Concerned.{entry_of_nth};
 ghost use Rattle.adf_survey.specs.Files.{IsSoundFile, file_in};
-ghost use Rattle.adf_survey.specs.Found.{parent_in};
+ghost use Rattle.adf_survey.specs.Found.{parent_node};
 ghost use Rattle.adf_survey.specs.Marks.{has_mark};
 ghost use Rattle.adf_survey.specs.Parts.{told};
 ghost use Rattle.adf_survey.specs.Sound.{IsSound};
@@ -198,7 +198,7 @@ impl Survey<'_> {
     // The node of the directory of an entry, 0 where there is no such entry.
     pub(crate) fn directory_of(&self, n: Node) -> Node
         ensures { (w : List (Role × ℕ)) (fs : List SpecFinding) → IsSurvey self.now.image w fs
-            → result ≡ parent_in w n }
+            → result ≡ parent_node w n }
     {
         Node(number_at(&self.parents, n.0) as usize)
     }

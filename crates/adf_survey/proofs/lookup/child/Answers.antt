@@ -1,6 +1,6 @@
 use Rattle.std.proofs.Common.{◌+◌, subst, arith}
 use native.Mathlib.Decide.{ℕ_discrete}
-use Rattle.adf_survey.specs.Lookup.{IsChild}
+use Rattle.adf_survey.specs.Lookup.{IsNamedChild}
 use Rattle.adf_survey.proofs.Lookups.{child_between}
 use Rattle.adf_survey.proofs.lookup.child.Goals as goal
 
@@ -17,7 +17,7 @@ pub loop-before-preserved : goal.loop-before-preserved
 loop-before-preserved c = λ w fs h m le k.
     elim (ℕ_discrete m (c.loop-before.before + 1)) [
       | yes e ↦
-          let x = (c.is_child.ensures w fs h).1 (subst (IsChild c.args.survey.now.image w c.args.parent c.args.name.now) e k) in cc
+          let x = (c.is_child.ensures w fs h).1 (subst (IsNamedChild c.args.survey.now.image w c.args.parent c.args.name.now) e k) in cc
       | no ne ↦ c.loop-before.invariant w fs h m (omega arith) k
     ]
 
