@@ -26,13 +26,17 @@ at_kept true k rest zero n h = inl (refl, h)
 at_kept true k rest (suc j) n h = inr (j, h)
 at_kept false k rest j n h = inr (j, h)
 
-pub at_chain : (k : ℕ) (es : List Entry) (p s j n : ℕ) → At (nodes_from k es p s) j n
-    → (i : ℕ) × (e : Entry) × At es i e × (n ≡ k + i) × (e.parent ≡ p) × (slot_of e.name ≡ s)
+at_chain : (k : ℕ) (es : List Entry) (p s j n : ℕ) → At (nodes_from k es p s) j n
+    → record { index : ℕ; entry : Entry; at : At es index entry; number : n ≡ k + index; parent : entry.parent ≡ p; slot : slot_of entry.name ≡ s }
 at_chain k [] p s j n h = absurd h
 at_chain k (e ∷ es) p s j n h =
     elim (at_kept ((e.parent == p) && (slot_of e.name == s)) k (nodes_from (suc k) es p s) j n h) [
-      | inl z ↦ let q = both_equal e.parent p (slot_of e.name) s z.0 in let y : n ≡ k + 0 = sym z.1 ∙ omega arith in (0, e, refl, y, q.0, q.1)
-      | inr g ↦ let r = at_chain (suc k) es p s g.0 n g.1 in let z : n ≡ k + suc r.0 = r.3 ∙ omega arith in (suc r.0, r.1, r.2, z, r.4, r.5)
+      | inl z ↦
+          let q = both_equal e.parent p (slot_of e.name) s z.0 in
+          record { index = 0; entry = e; at = refl; number = sym z.1 ∙ omega arith; parent = q.0; slot = q.1 }
+      | inr g ↦
+          let r = at_chain (suc k) es p s g.0 n g.1 in
+          record { index = suc r.index; entry = r.entry; at = r.at; number = r.number ∙ omega arith; parent = r.parent; slot = r.slot }
     ]
 
 -- each entry is in the chain of its parent and slot
@@ -65,17 +69,17 @@ pub chain_rises : (k : ℕ) (es : List Entry) (p s i j n m : ℕ) → At (nodes_
 chain_rises k [] p s i j n m a b l = absurd a
 chain_rises k (e ∷ es) p s i j n m a b l =
     rises_kept ((e.parent == p) && (slot_of e.name == s)) k (nodes_from (suc k) es p s) i j n m
-    (λ q x h. let r = at_chain (suc k) es p s q x h in let z : x ≡ suc k + r.0 = r.3 in omega arith)
+    (λ q x h. let r = at_chain (suc k) es p s q x h in let z : x ≡ suc k + r.index = r.number in omega arith)
     (chain_rises (suc k) es p s) a b l
 
 -- the entry of a place in a chain
-pub entry_at : (t : Tree) (p s j n : ℕ) → At (chain_nodes t p s) j n → (e : Entry) × EntryAt t n e × (e.parent ≡ p) × (slot_of e.name ≡ s) × (1 ≤ n)
+pub entry_at : (t : Tree) (p s j n : ℕ) → At (chain_nodes t p s) j n
+    → record { entry : Entry; at : EntryAt t n entry; parent : entry.parent ≡ p; slot : slot_of entry.name ≡ s; low : 1 ≤ n }
 entry_at t p s j n h =
     let r = at_chain 1 t.entries p s j n h in
-    let y : n ≡ 1 + r.0 = r.3 in
-    let z : suc r.0 ≡ n = omega arith in
-    let l : 1 ≤ n = omega arith in
-    (r.1, subst (λ n. EntryAt t n r.1) z r.2, r.4, r.5, l)
+    let y : n ≡ 1 + r.index = r.number in
+    let z : suc r.index ≡ n = omega arith in
+    record { entry = r.entry; at = subst (λ n. EntryAt t n r.entry) z r.at; parent = r.parent; slot = r.slot; low = omega arith }
 
 pub place_at : (t : Tree) (n : ℕ) (e : Entry) → EntryAt t n e → (j : ℕ) × At (chain_nodes t e.parent (slot_of e.name)) j n
 place_at t zero e h = absurd h
@@ -108,9 +112,9 @@ pub one_place : (t : Tree) (p s i q u j n : ℕ) → At (chain_nodes t p s) i n 
 one_place t p s i q u j n a b =
     let e = entry_at t p s i n a in
     let f = entry_at t q u j n b in
-    let z : e.0 ≡ f.0 = entry_fun t n e.0 f.0 e.1 f.1 in
-    let x : p ≡ q = sym e.2 ∙ ap (λ (x : Entry). x.parent) z ∙ f.2 in
-    let y : s ≡ u = sym e.3 ∙ ap (λ (x : Entry). slot_of x.name) z ∙ f.3 in
+    let z : e.entry ≡ f.entry = entry_fun t n e.entry f.entry e.at f.at in
+    let x : p ≡ q = sym e.parent ∙ ap (λ (x : Entry). x.parent) z ∙ f.parent in
+    let y : s ≡ u = sym e.slot ∙ ap (λ (x : Entry). slot_of x.name) z ∙ f.slot in
     (x, y, place_fun t p s i j n a (rw (x, y) b))
 
 -- a node that comes later stands later
@@ -119,11 +123,11 @@ pub sorted_places : (t : Tree) → Ordered t → (p s i q u j n m a b : ℕ) →
 sorted_places t v p s i q u j n m a' b' a b l =
     let e = entry_at t p s i n a in
     let f = entry_at t q u j m b in
-    let o = v.order n m e.0 f.0 e.1 f.1 l in
-    let x : e.0.parent ≡ p = e.2 in
-    let y : f.0.parent ≡ q = f.2 in
-    let x1 : slot_of e.0.name ≡ s = e.3 in
-    let y1 : slot_of f.0.name ≡ u = f.3 in
+    let o = v.order n m e.entry f.entry e.at f.at l in
+    let x : e.entry.parent ≡ p = e.parent in
+    let y : f.entry.parent ≡ q = f.parent in
+    let x1 : slot_of e.entry.name ≡ s = e.slot in
+    let y1 : slot_of f.entry.name ≡ u = f.slot in
     let later : p ≡ q → s ≡ u → i < j =
     (λ z y. let b'' : At (chain_nodes t p s) j m = rw (z, y) b in
     let r : j < i → ⊥ = (λ l2. let k = chain_rises 1 t.entries p s j i m n b'' a l2 in omega arith) in

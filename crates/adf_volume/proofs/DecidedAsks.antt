@@ -5,10 +5,10 @@ use Rattle.adf_blocks.specs.declared.layout.TheConstants.{EXTENSION, FIRST_MAP_E
 use Rattle.adf_blocks.specs.declared.layout.TheConstants.{POINTERS, ROOT_PAGES, SECONDARY_TYPE, SLOTS, ST_DIR, ST_FILE}
 use Rattle.adf_blocks.specs.Sizes.{blocks, pages_needed}
 use Rattle.adf_volume.specs.Image.{root_of, word_in, table_word}
-use Rattle.adf_volume.specs.Walk.{Asks, Role, second, Has, heads, DirAt, FileAt, MemberAt, data_count}
+use Rattle.adf_volume.specs.Walk.{Asks, Role, second, Has, heads, HeadAt, TypedAt, DirAt, FileAt, MemberAt, data_count}
 use Rattle.adf_volume.specs.Walk.Role.{Root, Page, MapExt, Head, Ext, Data}
 use Rattle.adf_volume.proofs.Roles.{dec_has, has_role, head_key, renumbered, same_refl}
-use Rattle.adf_volume.proofs.Gathered.{IsGathered, root_in, number_of, numbered, one_block, node_one, dir_one, file_one}
+use Rattle.adf_volume.proofs.Gathered.{IsGathered, root_in, number_of, numbered, one_block, one_head, dir_one, file_one}
 
 -- whether what is unique passes a test
 pub dec_where : (A T : ℕ → Type 0) → ((a b : ℕ) → A a → A b → a ≡ b) → ((a : ℕ) → Dec (T a)) → Dec ((a : ℕ) × A a) → Dec ((a : ℕ) × A a × T a)
@@ -49,38 +49,31 @@ module _ (image : List ℕ) (w : List (Role × ℕ)) (v : IsGathered image w) wh
   one_chain p s j a b h k = (one_block image v (Head h.0 p s j) (Head k.0 p s j) a b h.1 k.1 (refl, refl, refl)).1
 
   -- whether the walk has a header of a number
-  abbrev HeadAt : ℕ → ℕ → Type 0
-  HeadAt n a = (p s j : ℕ) × Has w (Head n p s j) a
-
-  dec_head : (n : ℕ) → Dec ((a : ℕ) × HeadAt n a)
+  dec_head : (n : ℕ) → Dec ((a : ℕ) × HeadAt w n a)
   dec_head n =
-      let known : (x : (a : ℕ) × HeadAt n a) → (1 ≤ n) × (n ≤ heads w) = (λ x. number_of image v n x.1.0 x.1.1 x.1.2 x.0 x.1.3) in
       elim (dec_le 1 n) [
-        | no l ↦ no (λ x. l (known x).0)
+        | no l ↦ no (λ x. l (number_of image v x.1).0)
         | yes l ↦ elim (dec_le n (heads w)) [
-          | no u ↦ no (λ x. u (known x).1)
-          | yes u ↦ let k = numbered image v n l u in yes (k.3, (k.0, k.1, k.2, k.4))
+          | no u ↦ no (λ x. u (number_of image v x.1).1)
+          | yes u ↦ yes (numbered image v n l u)
         ]
       ]
 
-  one_head_block : (n a b : ℕ) → HeadAt n a → HeadAt n b → a ≡ b
-  one_head_block zero a b h k = absurd (let x : (1 ≤ 0) × (0 ≤ heads w) = number_of image v 0 h.0 h.1 h.2 a h.3 in omega arith)
-  one_head_block (suc i) a b h k = node_one image v (suc i) a b h k
+  -- whether a node has a header of a type
+  dec_typed : (t n : ℕ) → Dec ((a : ℕ) × TypedAt image w t n a)
+  dec_typed t n =
+      map_dec (λ x. (x.0, record { header = x.1; type = x.2 })) (λ x. (x.0, x.1.header, x.1.type))
+      (dec_where (HeadAt w n) (λ a. word_in image a SECONDARY_TYPE ≡ t) (λ a b h k. (one_head image v h k).1)
+      (λ a. ℕ_discrete (word_in image a SECONDARY_TYPE) t) (dec_head n))
 
   -- whether a node is a directory
   dec_dir : (p : ℕ) → Dec ((a : ℕ) × DirAt image w p a)
   dec_dir zero = yes (root_of image, root_in image v)
-  dec_dir (suc i) =
-      map_dec (λ x. (x.0, (x.1, x.2))) (λ x. (x.0, x.1.0, x.1.1))
-      (dec_where (HeadAt (suc i)) (λ a. word_in image a SECONDARY_TYPE ≡ ST_DIR) (one_head_block (suc i))
-      (λ a. ℕ_discrete (word_in image a SECONDARY_TYPE) ST_DIR) (dec_head (suc i)))
+  dec_dir (suc i) = dec_typed ST_DIR (suc i)
 
   -- whether a node is a file
   pub dec_file : (n : ℕ) → Dec ((a : ℕ) × FileAt image w n a)
-  dec_file n =
-      map_dec (λ x. (x.0, (x.1, x.2))) (λ x. (x.0, x.1.0, x.1.1))
-      (dec_where (HeadAt n) (λ a. word_in image a SECONDARY_TYPE ≡ ST_FILE) (one_head_block n)
-      (λ a. ℕ_discrete (word_in image a SECONDARY_TYPE) ST_FILE) (dec_head n))
+  dec_file n = dec_typed ST_FILE n
 
   dec_member : (n m : ℕ) → Dec ((a : ℕ) × MemberAt image w n m a)
   dec_member n zero = dec_file n

@@ -38,8 +38,8 @@ pub chain_yes : (t : Tree) (p s : ℕ) (name : List ℕ) (j n : ℕ) (e : Entry)
     → uppers e.name ≡ uppers name → child t.entries p name ≡ Some n
 chain_yes t p s name j n e v c h u =
     let x = entry_at t p s j n c in
-    let z : x.0 ≡ e = entry_fun t n x.0 e x.1 h in
-    child_yes t p name n e v h (ap (λ (y : Entry). y.parent) (sym z) ∙ x.2) u
+    let z : x.entry ≡ e = entry_fun t n x.entry e x.at h in
+    child_yes t p name n e v h (ap (λ (y : Entry). y.parent) (sym z) ∙ x.parent) u
 
 -- where no node of the name's chain has this name there is no child
 pub chain_no : (t : Tree) (p : ℕ) (name : List ℕ)

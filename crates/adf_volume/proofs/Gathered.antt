@@ -1,16 +1,17 @@
 -- What holds of every list of parts of which each was asked for, and lacking, when it came, whatever its block holds.
 use Rattle.std.proofs.lemmas.Bool.{eqb-true}
 use Rattle.std.specs.Prelude.{◌==◌}
-use Rattle.std.proofs.Common.{Bool, true, false, cond, eq-eqb, ◌≡◌, ℕ, zero, suc, List, [], ◌∷◌, inl, inr, ◌+◌, ◌*◌, ◌/◌, ◌<◌, ◌≤◌, refl, sym, ap}
+use Rattle.std.proofs.Common.{Bool, true, false, cond, eq-eqb, ◌≡◌, ℕ, zero, suc, List, [], ◌∷◌, inl, inr, ◌+◌, ◌*◌, ◌/◌, ◌<◌, ◌≤◌, ◌≢◌, refl, sym, ap}
 use Rattle.std.proofs.Common.{subst, ◌∙◌, arith}
 use native.Mathlib.Decide.{dec_le, dec_lt}
 use Rattle.adf_blocks.specs.declared.layout.TheConstants.{MAP_EXT_PAGES, POINTERS, ROOT_PAGES}
 use Rattle.adf_volume.specs.Image.{root_of}
 use Rattle.std.proofs.lemmas.Bool.Decides.{eqb_tells}
 use Rattle.adf_volume.specs.Walk.{first, ext_block_in, ext_block_of, ext_count, ext_count_of, member_block, node_block, node_block_of}
-use Rattle.adf_volume.specs.Walk.{Role, second, Same, Has, head_count, heads, NodeAt, DirAt, FileAt, MemberAt, NamesPage, Asks, Lacks}
+use Rattle.adf_volume.specs.Walk.{Role, second, Same, Has, head_count, heads, HeadAt, NodeAt, DirAt, FileAt, MemberAt, NamesPage, Asks, Lacks}
 use Rattle.adf_volume.specs.Walk.Role.{Root, Page, MapExt, Head, Ext, Data}
-use Rattle.adf_volume.proofs.Roles.{asks_number, count_own, count_up, dir_is_node, dir_up, file_up, heads_up, same_of}
+use Rattle.adf_volume.proofs.Roles.{asks_number, count_own, count_up, dir_is_node, dir_up, head_at, head_in, head_role, heads_up, new_number, no_head}
+use Rattle.adf_volume.proofs.Roles.{same_of, typed_up}
 
 pub data IsGathered (image : List ℕ) : List (Role × ℕ) → Type 0 where
   start : IsGathered image ((Root, root_of image) ∷ [])
@@ -28,32 +29,29 @@ module _ (image : List ℕ) where
   root_in (step a i b v d l) = inr (root_in v)
 
   -- headers are numbered from 1
-  pub number_of : {w : List (Role × ℕ)} → IsGathered image w → (n p s j b : ℕ) → Has w (Head n p s j) b → (1 ≤ n) × (n ≤ heads w)
-  number_of start n p s j b (inl e) = let h : second Root ≡ second (Head n p s j) = ap second e.0 in absurd (omega arith)
-  number_of start n p s j b (inr f) = absurd f
-  number_of (step {w = w} {r = r} a i b' v d l) n p s j b (inl e) =
-      let k : n ≡ suc (heads w) = asks_number image w n p s j a i (subst (λ r. Asks image w r a i) e.0 d) in
-      subst (λ q. (1 ≤ n) × (n ≤ head_count q (heads w))) (sym e.0) (omega arith)
-  number_of (step {w = w} {r = r} a i b' v d l) n p s j b (inr h) =
-      let ih : (1 ≤ n) × (n ≤ heads w) = number_of v n p s j b h in
-      let up : heads w ≤ head_count r (heads w) = heads_up r (heads w) in
-      omega arith
+  pub number_of : {w : List (Role × ℕ)} {n b : ℕ} → IsGathered image w → HeadAt w n b → (1 ≤ n) × (n ≤ heads w)
+  number_of start h = absurd (no_head h)
+  number_of {n = n} (step {w = w} {r = r} a i b v d l) h = elim h.has [
+    | inl e ↦
+        subst (λ q. (1 ≤ n) × (n ≤ head_count q (heads w))) (sym e.0) (omega (arith, new_number image w h a i e.0 d))
+    | inr k ↦ omega (arith, number_of v (head_in h k), heads_up r (heads w))
+  ]
 
   -- each number up to the count is a header's
-  pub numbered : {w : List (Role × ℕ)} → IsGathered image w → (n : ℕ) → 1 ≤ n → n ≤ heads w → (p s j b : ℕ) × Has w (Head n p s j) b
+  pub numbered : {w : List (Role × ℕ)} → IsGathered image w → (n : ℕ) → 1 ≤ n → n ≤ heads w → (b : ℕ) × HeadAt w n b
   numbered start n l u = absurd (omega arith)
   numbered (step {w = w} {r = r} a i b v d e) n l u = numbered_step r refl (numbered v n l)
     where
-      older : ((p s j b : ℕ) × Has w (Head n p s j) b) → (p s j b' : ℕ) × Has ((r, b) ∷ w) (Head n p s j) b'
-      older h = (h.0, h.1, h.2, h.3, inr h.4)
+      older : ((b : ℕ) × HeadAt w n b) → (b' : ℕ) × HeadAt ((r, b) ∷ w) n b'
+      older h = (h.0, head_in h.1 (inr h.1.has))
 
-      numbered_step : (q : Role) → r ≡ q → (n ≤ heads w → (p s j b : ℕ) × Has w (Head n p s j) b) → (p s j b' : ℕ) × Has ((r, b) ∷ w) (Head n p s j) b'
+      numbered_step : (q : Role) → r ≡ q → (n ≤ heads w → (b : ℕ) × HeadAt w n b) → (b' : ℕ) × HeadAt ((r, b) ∷ w) n b'
       numbered_step (Head m p s j) z ih =
           let u' : n ≤ suc (heads w) = subst (λ q. n ≤ head_count q (heads w)) z u in
           let e : m ≡ suc (heads w) = asks_number image w m p s j a i (subst (λ r. Asks image w r a i) z d) in
           elim (dec_le n (heads w)) [
             | yes k ↦ older (ih k)
-            | no k ↦ let y : m ≡ n = omega arith in (p, s, j, b, inl (z ∙ ap (λ m. Head m p s j) y, refl))
+            | no k ↦ let y : m ≡ n = omega arith in (b, head_at n p s j b (inl (z ∙ ap (λ m. Head m p s j) y, refl)))
           ]
       numbered_step _ z ih = older (ih (subst (λ q. n ≤ head_count q (heads w)) z u))
 
@@ -67,32 +65,34 @@ module _ (image : List ℕ) where
   one_block (step {r = z} a i b' v d l) r q b c (inr e) (inl f) s = let t : Same q z = same_of q z (sym f.0) in absurd (l r b e (omega arith))
   one_block (step a i b' v d l) r q b c (inr e) (inr f) s = one_block v r q b c e f s
 
+  -- no header has the next number yet
+  pub none_next : {w : List (Role × ℕ)} {n b : ℕ} → IsGathered image w → HeadAt w n b → n ≢ suc (heads w)
+  none_next v h e = omega (arith, number_of v h)
+
   -- a number has one header
-  pub one_head : {w : List (Role × ℕ)} → IsGathered image w → (n p s j b p' s' j' b' : ℕ) → Has w (Head n p s j) b → Has w (Head n p' s' j') b'
-      → (Head n p s j ≡ Head n p' s' j') × (b ≡ b')
-  one_head start n p s j b p' s' j' b' (inl e) f = let h : second Root ≡ second (Head n p s j) = ap second e.0 in absurd (omega arith)
-  one_head start n p s j b p' s' j' b' (inr e) f = absurd e
-  one_head (step a i c v d l) n p s j b p' s' j' b' (inl e) (inl f) = (sym e.0 ∙ f.0, sym e.1 ∙ f.1)
-  one_head (step {w = w} {r = r} a i c v d l) n p s j b p' s' j' b' (inl e) (inr f) =
-      let k : n ≡ suc (heads w) = asks_number image w n p s j a i (subst (λ r. Asks image w r a i) e.0 d) in
-      let h : (1 ≤ n) × (n ≤ heads w) = number_of v n p' s' j' b' f in
-      absurd (omega arith)
-  one_head (step {w = w} {r = r} a i c v d l) n p s j b p' s' j' b' (inr e) (inl f) =
-      let k : n ≡ suc (heads w) = asks_number image w n p' s' j' a i (subst (λ r. Asks image w r a i) f.0 d) in
-      let h : (1 ≤ n) × (n ≤ heads w) = number_of v n p s j b e in
-      absurd (omega arith)
-  one_head (step a i c v d l) n p s j b p' s' j' b' (inr e) (inr f) = one_head v n p s j b p' s' j' b' e f
+  pub one_head : {w : List (Role × ℕ)} {n b c : ℕ} → IsGathered image w → (h : HeadAt w n b) (k : HeadAt w n c) → (head_role h ≡ head_role k) × (b ≡ c)
+  one_head start h k = absurd (no_head h)
+  one_head (step {w = w} a i x v d l) h k = elim h.has [
+    | inl e ↦ elim k.has [
+      | inl f ↦ (sym e.0 ∙ f.0, sym e.1 ∙ f.1)
+      | inr g ↦ absurd (none_next v (head_in k g) (new_number image w h a i e.0 d))
+    ]
+    | inr g ↦ elim k.has [
+      | inl f ↦ absurd (none_next v (head_in h g) (new_number image w k a i f.0 d))
+      | inr f ↦ one_head v (head_in h g) (head_in k f)
+    ]
+  ]
 
   module _ {w : List (Role × ℕ)} (v : IsGathered image w) where
     pub node_one : (p a b : ℕ) → NodeAt w p a → NodeAt w p b → a ≡ b
     node_one zero a b h k = sym (root_is v a h) ∙ root_is v b k
-    node_one (suc i) a b h k = (one_head v (suc i) h.0 h.1 h.2 a k.0 k.1 k.2 b h.3 k.3).1
+    node_one (suc i) a b h k = (one_head v h k).1
 
     pub dir_one : (p a b : ℕ) → DirAt image w p a → DirAt image w p b → a ≡ b
     dir_one p a b h k = node_one p a b (dir_is_node image w p a h) (dir_is_node image w p b k)
 
     pub file_one : (n a b : ℕ) → FileAt image w n a → FileAt image w n b → a ≡ b
-    file_one n a b f g = (one_head v n f.0.0 f.0.1 f.0.2 a g.0.0 g.0.1 g.0.2 b f.0.3 g.0.3).1
+    file_one n a b f g = (one_head v f.header g.header).1
 
     member_one : (n m a b : ℕ) → MemberAt image w n m a → MemberAt image w n m b → a ≡ b
     member_one n zero a b h k = file_one n a b h k
@@ -185,14 +185,12 @@ module _ (image : List ℕ) where
       elim (eqb_tells n m) [ inl y ↦ let e : n ≡ m = y.1 in absurd (omega arith) | inr y ↦ rw y.0 refl ]
   other_node w n _ a i b c d u = refl
 
-  pub head_block : {w : List (Role × ℕ)} → IsGathered image w → (n p s j b : ℕ) → Has w (Head n p s j) b → node_block w n ≡ b
-  head_block start n p s j b (inl e) = let h : second Root ≡ second (Head n p s j) = ap second e.0 in absurd (omega arith)
-  head_block start n p s j b (inr f) = absurd f
-  head_block (step {w = w} {r = r} a i c v d l) n p s j b (inl e) =
-      subst (λ r. node_block_of n r c (node_block w n) ≡ b) (sym e.0) (rw (eq-eqb n n refl) e.1)
-  head_block (step {w = w} {r = r} a i c v d l) n p s j b (inr h) =
-      let u : (1 ≤ n) × (n ≤ heads w) = number_of v n p s j b h in
-      other_node w n r a i c (node_block w n) d (omega arith) ∙ head_block v n p s j b h
+  pub head_block : {w : List (Role × ℕ)} {n b : ℕ} → IsGathered image w → HeadAt w n b → node_block w n ≡ b
+  head_block start h = absurd (no_head h)
+  head_block {n = n} {b = b} (step {w = w} {r = r} a i c v d l) h = elim h.has [
+    | inl e ↦ subst (λ r. node_block_of n r c (node_block w n) ≡ b) (sym e.0) (rw (eq-eqb n n refl) e.1)
+    | inr k ↦ other_node w n r a i c (node_block w n) d (omega (arith, number_of v (head_in h k))) ∙ head_block v (head_in h k)
+  ]
 
   root_block : {w : List (Role × ℕ)} → IsGathered image w → node_block w 0 ≡ root_of image
   root_block start = refl
@@ -200,7 +198,7 @@ module _ (image : List ℕ) where
 
   pub node_is : {w : List (Role × ℕ)} → IsGathered image w → (n b : ℕ) → NodeAt w n b → node_block w n ≡ b
   node_is v zero b h = root_block v ∙ root_is v b h
-  node_is v (suc n) b h = head_block v (suc n) h.0 h.1 h.2 b h.3
+  node_is v (suc n) b h = head_block v h
 
   -- extension block k of a file, as a function
   ext_block_new : (n k : ℕ) (r : Role) (b c : ℕ) → r ≡ Ext n k → ext_block_of n k r b c ≡ b
@@ -226,7 +224,7 @@ module _ (image : List ℕ) where
       ext_block_old n k r b' (ext_block_in w n k) b (λ e. l (Ext n k) b h (same_of (Ext n k) r (sym e))) (ext_is_block v n k b h)
 
   pub member_is : {w : List (Role × ℕ)} → IsGathered image w → (n m a : ℕ) → MemberAt image w n m a → member_block w n m ≡ a
-  member_is v n zero a h = head_block v n h.0.0 h.0.1 h.0.2 a h.0.3
+  member_is v n zero a h = head_block v h.header
   member_is v n (suc m) a h = ext_is_block v n (suc m) a h
 
   -- a header stands in a directory that came before
@@ -257,8 +255,8 @@ module _ (image : List ℕ) where
   ext_file start n k b (inl e) = let h : first Root ≡ first (Ext n k) = ap first e.0 in absurd (omega arith)
   ext_file start n k b (inr f) = absurd f
   ext_file (step {w = w} {r = r} a i c v d l) n k b (inl e) =
-      let x = ext_file_of w n k a i (subst (λ r. Asks image w r a i) e.0 d) (ext_file v n) in (x.0, file_up image w (r, c) n x.0 x.1)
-  ext_file (step {w = w} {r = r} a i c v d l) n k b (inr h) = let x = ext_file v n k b h in (x.0, file_up image w (r, c) n x.0 x.1)
+      let x = ext_file_of w n k a i (subst (λ r. Asks image w r a i) e.0 d) (ext_file v n) in (x.0, typed_up (r, c) x.1)
+  ext_file (step {w = w} {r = r} a i c v d l) n k b (inr h) = let x = ext_file v n k b h in (x.0, typed_up (r, c) x.1)
 
   pub asked_file : {w : List (Role × ℕ)} → IsGathered image w → (n k a i : ℕ) → Asks image w (Ext n k) a i → (h : ℕ) × FileAt image w n h
   asked_file {w = w} v n k a i h = ext_file_of w n k a i h (ext_file v n)

@@ -97,10 +97,10 @@ module _ (image : List ℕ) (t : Tree) (l : Layout) (long : length l.places ≡ 
       inr (in_right (numbered APage 0 l.pages) (numbered AMapExt 0 l.map_exts ++ owned_from 1 l.places) (AMapExt k, b)
       (in_left (numbered AMapExt 0 l.map_exts) (owned_from 1 l.places) (AMapExt k, b)
       (subst (λ k. In (numbered AMapExt 0 l.map_exts) (AMapExt k, b)) z (in_numbered AMapExt 0 l.map_exts k b h))))
-  part_owned (Head zero p s j) b h = let e = entry_at t p s j 0 h.0 in absurd e.1
+  part_owned (Head zero p s j) b h = absurd (entry_at t p s j 0 h.0).at
   part_owned (Head (suc i) p s j) b h =
       let e = entry_at t p s j (suc i) h.0 in
-      let k : suc i ≤ length t.entries = entry_below t (suc i) e.0 e.1 in
+      let k : suc i ≤ length t.entries = entry_below t (suc i) e.entry e.at in
       let z : 1 + i ≡ suc i = omega arith in
       places_owned (AHead (suc i)) b (subst (λ b. In (owned_from 1 l.places) (AHead (suc i), b)) h.1
       (subst (λ m. In (owned_from 1 l.places) (AHead m, head_at l.places i)) z (owned_head 1 l.places i (omega arith))))

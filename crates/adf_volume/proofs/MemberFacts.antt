@@ -14,7 +14,7 @@ use Rattle.adf_volume.specs.Walk.{member_block, next_data, form_demands, NewName
 use Rattle.adf_volume.specs.Walk.Role.{Root, Page, MapExt, Head, Ext, Data}
 use Rattle.adf_volume.specs.Walk.IsWalk.{start, step}
 use Rattle.adf_volume.proofs.Lists.{all_split}
-use Rattle.adf_volume.proofs.Roles.{count_up, dir_is_node, dir_up, file_up, member_up}
+use Rattle.adf_volume.proofs.Roles.{count_up, dir_is_node, dir_up, member_up, typed_up}
 use Rattle.adf_volume.proofs.Walks.{node_is, member_is, file_is, due_file, ext_counted, is_there}
 use Rattle.std.proofs.lemmas.Bool.{cond-true, cond-false, le-ltb, lt-ltb}
 
@@ -42,10 +42,16 @@ Kept image w (Head n p s j) b = (s < SLOTS) × HeadNamed image w p s j b × ((c 
 Kept image w (Ext n zero) b = ⊥
 Kept image w (Ext n (suc k)) b = ExtNamed image w n k b × ((h : ℕ) × FileAt image w n h × AllHold (ext_demands image b h))
 Kept image w (Data n zero) b = ⊥
-Kept image w (Data n (suc k)) b = (h : ℕ) × FileAt image w n h × (k < data_count image h) × (data_count image h ≤ POINTERS * suc (ext_count w n))
-    × ((c : ℕ) × MemberAt image w n (k / POINTERS) c × (word_in image c (table_word k) ≡ b))
-    × ((x : ℕ) × IsNext image w n (suc k) h x
-    × AllHold (data_demands image (kind_of image) b h (suc k) (held (kind_of image) (word_in image h SIZE) (suc k)) x))
+Kept image w (Data n (suc k)) b = record {
+  head : ℕ;
+  file : FileAt image w n head;
+  asked : k < data_count image head;
+  enough : data_count image head ≤ POINTERS * suc (ext_count w n);
+  named : (c : ℕ) × MemberAt image w n (k / POINTERS) c × (word_in image c (table_word k) ≡ b);
+  form :
+      (next : ℕ) × IsNext image w n (suc k) head next
+      × AllHold (data_demands image (kind_of image) b head (suc k) (held (kind_of image) (word_in image head SIZE) (suc k)) next);
+}
 
 same_number : (n m p s i j : ℕ) → Head n p s i ≡ Head m p s j → n ≡ m
 same_number n m p s i j h = cc
@@ -66,14 +72,18 @@ module _ (image : List ℕ) where
   kept_up w x (Head n p s zero) b h = (h.0, (h.1.0, dir_up image w x p h.1.0 h.1.1, h.1.2), (h.2.0, dir_up image w x p h.2.0 h.2.1, h.2.2))
   kept_up w x (Head n p s (suc j)) b h = (h.0, (h.1.0, h.1.1, inr h.1.2, h.1.3), (h.2.0, dir_up image w x p h.2.0 h.2.1, h.2.2))
   kept_up w x (Ext n zero) b h = absurd h
-  kept_up w x (Ext n (suc zero)) b h = ((h.0.0, file_up image w x n h.0.0 h.0.1, h.0.2), (h.1.0, file_up image w x n h.1.0 h.1.1, h.1.2))
-  kept_up w x (Ext n (suc (suc k))) b h = ((h.0.0, inr h.0.1, h.0.2), (h.1.0, file_up image w x n h.1.0 h.1.1, h.1.2))
+  kept_up w x (Ext n (suc zero)) b h = ((h.0.0, typed_up x h.0.1, h.0.2), (h.1.0, typed_up x h.1.1, h.1.2))
+  kept_up w x (Ext n (suc (suc k))) b h = ((h.0.0, inr h.0.1, h.0.2), (h.1.0, typed_up x h.1.1, h.1.2))
   kept_up w x (Data n zero) b h = absurd h
   kept_up w x (Data n (suc k)) b h =
-      let u : ext_count w n ≤ ext_count_of n x.0 (ext_count w n) = count_up n x.0 (ext_count w n) in
-      let y : data_count image h.0 ≤ POINTERS * suc (ext_count w n) = h.3 in
-      let next = next_up w x n (suc k) h.0 h.5.0 h.5.1 in
-      (h.0, file_up image w x n h.0 h.1, h.2, omega arith, (h.4.0, member_up image w x n (k / POINTERS) h.4.0 h.4.1, h.4.2), (h.5.0, next, h.5.2))
+      record {
+        head = h.head;
+        file = typed_up x h.file;
+        asked = h.asked;
+        enough = omega (arith, h.enough, count_up n x.0 (ext_count w n));
+        named = (h.named.0, member_up image w x n (k / POINTERS) h.named.0 h.named.1, h.named.2);
+        form = (h.form.0, next_up w x n (suc k) h.head h.form.0 h.form.1, h.form.2);
+      }
 
   -- a header that is asked for has its directory
   asks_dir : {w : List (Role × ℕ)} → ((r : Role) (b : ℕ) → Has w r b → Kept image w r b) → (n p s j a i : ℕ) → Asks image w (Head n p s j) a i
@@ -95,8 +105,8 @@ module _ (image : List ℕ) where
         (omega arith, (λ z. omega arith), (λ z z'. omega arith)) (omega arith) in
         let kp = old (Data n 1) x.0 x.1 in
         let e : node_block w n ≡ h = file_is image w n h v f in
-        let e' : node_block w n ≡ kp.0 = file_is image w n kp.0 v kp.1 in
-        subst (λ h. data_count image h ≤ POINTERS * suc (ext_count w n)) (sym e' ∙ e) kp.3
+        let e' : node_block w n ≡ kp.head = file_is image w n kp.head v kp.file in
+        subst (λ h. data_count image h ≤ POINTERS * suc (ext_count w n)) (sym e' ∙ e) kp.enough
 
     form_of : (r : Role) (a b : ℕ) → NoCause image w r a b → AllHold (form_demands image w r b)
     form_of r a b g = (all_split (form_demands image w r b) (demand SameName b (NewName image w r b) ∷ []) g.1.1.1).0
@@ -151,8 +161,14 @@ module _ (image : List ℕ) where
         let en = enough n k a i b f.0 d g f.1 f.2 in
         let form = subst (λ h. AllHold (data_demands image (kind_of image) b h (suc k) (held (kind_of image) (word_in image h SIZE) (suc k))
         (next_data image w n (suc k)))) z (form_of (Data n (suc k)) a b g) in
-        let next = next_is n (suc k) f.0 f.1 z en in
-        (f.0, f.1, f.2, en, (a, d.asked.1, ap (word_in image a) (sym d.asked.2) ∙ e), (next_data image w n (suc k), next, form))
+        record {
+          head = f.0;
+          file = f.1;
+          asked = f.2;
+          enough = en;
+          named = (a, d.asked.1, ap (word_in image a) (sym d.asked.2) ∙ e);
+          form = (next_data image w n (suc k), next_is n (suc k) f.0 f.1 z en, form);
+        }
 
   pub kept : {w : List (Role × ℕ)} → IsWalk image w → (r : Role) (b : ℕ) → Has w r b → Kept image w r b
   kept start r b (inl e) = subst (λ r. Kept image ((Root, root_of image) ∷ []) r b) e.0 tt

@@ -68,11 +68,11 @@ module _ (image : List ℕ) (w : List (Role × ℕ)) (v : IsWalk image w) (whole
       let pt = carry (Head n e.parent (slot_of e.name) q.0) (at_node image l n) (q.1, refl) in
       let f = entry_at u e.parent (slot_of e.name) q.0 n pt.0 in
       let ef = fit.entries n e h in
-      let ff = fit'.entries n f.0 f.1 in
+      let ff = fit'.entries n f.entry f.at in
       let z : at_node image l n ≡ at_node image m n = sym pt.1 in
-      let same : e ≡ f.0 = same_entry e f.0 (sym f.2) (ef.name ∙ ap (name_of image) z ∙ sym ff.name) (ef.meta ∙ ap (meta_of image) z ∙ sym ff.meta)
-      (same_body n (at_node image l n) (at_node image m n) e.body f.0.body z ef.body ff.body) in
-      subst (EntryAt u n) (sym same) f.1
+      let same : e ≡ f.entry = same_entry e f.entry (sym f.parent) (ef.name ∙ ap (name_of image) z ∙ sym ff.name) (ef.meta ∙ ap (meta_of image) z ∙ sym ff.meta)
+      (same_body n (at_node image l n) (at_node image m n) e.body f.entry.body z ef.body ff.body) in
+      subst (EntryAt u n) (sym same) f.at
 
   pub place_carried : (i : ℕ) (q : Place) → At l.places i q → At m.places i q
   place_carried i q h =

@@ -3,7 +3,8 @@ use Rattle.std.proofs.Common.{◌≡◌, ℕ, zero, suc, List, [], ◌∷◌, �
 use Rattle.std.proofs.Common.{Bool, true, false, cond, eq-eqb}
 use Rattle.std.specs.Prelude.{◌==◌}
 use native.Mathlib.Decide.{ℕ_discrete}
-use Rattle.adf_volume.specs.Walk.{Role, first, second, third, Same, Has, head_count, heads, NodeAt, DirAt, FileAt, MemberAt, Asks, Lacks, ext_count_of}
+use Rattle.adf_volume.specs.Walk.{Role, first, second, third, Same, Has, head_count, heads, HeadAt, TypedAt, NodeAt, DirAt, MemberAt, Asks, Lacks}
+use Rattle.adf_volume.specs.Walk.{ext_count_of}
 use Rattle.adf_volume.specs.Walk.Role.{Root, Page, MapExt, Head, Ext, Data}
 
 -- two roles of one key, of which headers have one number, are one role
@@ -60,7 +61,7 @@ asks_next_number image w m _ a i h = refl
 -- a directory of a walk is a node of it
 pub dir_is_node : (image : List ℕ) (w : List (Role × ℕ)) (p a : ℕ) → DirAt image w p a → NodeAt w p a
 dir_is_node image w zero a h = h
-dir_is_node image w (suc i) a h = h.0
+dir_is_node image w (suc i) a h = h.header
 
 -- extension blocks are counted
 pub count_up : (n : ℕ) (r : Role) (c : ℕ) → c ≤ ext_count_of n r c
@@ -109,15 +110,35 @@ head_key n p s j (Head x y z k) h =
     (x, e)
 head_key n p s j _ h = absurd (omega arith)
 
+-- the role of a header
+abbrev pub head_role : {w : List (Role × ℕ)} {n a : ℕ} → HeadAt w n a → Role
+head_role {n = n} h = Head n h.parent h.slot h.place
+
+abbrev pub head_at : {w : List (Role × ℕ)} (n p s j a : ℕ) → Has w (Head n p s j) a → HeadAt w n a
+head_at n p s j a h = record { parent = p; slot = s; place = j; has = h }
+
+-- the header as one of another list that has it
+abbrev pub head_in : {w v : List (Role × ℕ)} {n a : ℕ} (h : HeadAt w n a) → Has v (head_role h) a → HeadAt v n a
+head_in {n = n} {a = a} h k = head_at n h.parent h.slot h.place a k
+
+-- a header that is new has the next number
+pub new_number : (image : List ℕ) (w : List (Role × ℕ)) {v : List (Role × ℕ)} {n b : ℕ} (h : HeadAt v n b) {r : Role} (a i : ℕ) → r ≡ head_role h
+    → Asks image w r a i → n ≡ suc (heads w)
+new_number image w {n = n} h a i e d = asks_number image w n h.parent h.slot h.place a i (subst (λ r. Asks image w r a i) e d)
+
+-- the root alone has none
+pub no_head : {c n a : ℕ} → HeadAt ((Root, c) ∷ []) n a → ⊥
+no_head h = elim h.has [ inl e ↦ let x : second Root ≡ second (head_role h) = ap second e.0 in omega arith | inr f ↦ f ]
+
+-- a list with one part more has what it had
+pub typed_up : {image : List ℕ} {w : List (Role × ℕ)} {t n a : ℕ} (x : Role × ℕ) → TypedAt image w t n a → TypedAt image (x ∷ w) t n a
+typed_up x h = record { header = head_in h.header (inr h.header.has); type = h.type }
+
 module _ (image : List ℕ) where
-  -- a list with one part more has what it had
   pub dir_up : (w : List (Role × ℕ)) (x : Role × ℕ) (p a : ℕ) → DirAt image w p a → DirAt image (x ∷ w) p a
   dir_up w x zero a h = inr h
-  dir_up w x (suc i) a h = ((h.0.0, h.0.1, h.0.2, inr h.0.3), h.1)
-
-  pub file_up : (w : List (Role × ℕ)) (x : Role × ℕ) (p a : ℕ) → FileAt image w p a → FileAt image (x ∷ w) p a
-  file_up w x p a h = ((h.0.0, h.0.1, h.0.2, inr h.0.3), h.1)
+  dir_up w x (suc i) a h = typed_up x h
 
   pub member_up : (w : List (Role × ℕ)) (x : Role × ℕ) (n m a : ℕ) → MemberAt image w n m a → MemberAt image (x ∷ w) n m a
-  member_up w x n zero a h = file_up w x n a h
+  member_up w x n zero a h = typed_up x h
   member_up w x n (suc m) a h = inr h

@@ -12,11 +12,11 @@ use Rattle.std.specs.Prelude.{slice_index, nat_lt}
 use Rattle.adf_tree.specs.declared.entry.Body.{Body}
 use Rattle.adf_tree.specs.declared.entry.Entry.{Entry}
 use Rattle.adf_tree.specs.Tree.{Tree}
-use Rattle.adf_volume.specs.Layout.{EntryAt, chain_nodes, Layout, at_node, exts_of, datas_of}
+use Rattle.adf_volume.specs.Layout.{EntryAt, IsFile, chain_nodes, Layout, at_node, exts_of, datas_of}
 use Rattle.adf_volume.proofs.TreeOrder.{DirNode, ordered, is_dir}
 use Rattle.adf_tree.specs.declared.entry.Body.TheVariants.{Dir, File}
 use Rattle.adf_volume.specs.Fits.{Fits, FileFits, BodyFits, TableAt}
-use Rattle.adf_volume.specs.Walk.{Role, Before, Has, heads, DirAt, FileAt, MemberAt, NamesPage, data_count, Asks, Lacks, IsDue, ext_count, Enough, NewName}
+use Rattle.adf_volume.specs.Walk.{Role, Before, Has, heads, DirAt, FileAt, MemberAt, NamesPage, data_count, Asks, Lacks, IsDue, ext_count, Enough, NewName, HeadAt}
 use Rattle.adf_volume.specs.Walk.{form_demands, node_block, member_block, next_data, NoCause, IsWalk}
 use Rattle.adf_volume.specs.Walk.Role.{Root, Page, MapExt, Head, Ext, Data}
 use Rattle.adf_volume.specs.Walk.IsWalk.{start, step}
@@ -25,10 +25,8 @@ use Rattle.adf_volume.proofs.Images.{map_exts_high}
 use Rattle.adf_volume.proofs.Lists.{at_fun, at_below, at_some, at_before, at_map, at_unmap, spelled_first, spelled_next, spelled_word, spelled_link}
 use Rattle.adf_volume.proofs.Lists.{all_append, at_index, index_past}
 use Rattle.adf_volume.proofs.Chains.{entry_at, entry_below, entry_some, place_at, one_place, sorted_places, chain_rises}
-use Rattle.adf_volume.proofs.Roles.{asks_number, renumbered, same_of}
-use Rattle.adf_volume.proofs.Walks.{root_is, root_in, number_of, numbered, ext_below, due_file, node_is, member_is, file_is}
-use Rattle.adf_volume.proofs.Roles.{dir_is_node, head_key}
-use Rattle.adf_volume.proofs.Walks.{is_there}
+use Rattle.adf_volume.proofs.Roles.{asks_number, dir_is_node, head_at, head_key, head_role, renumbered, same_of}
+use Rattle.adf_volume.proofs.Walks.{root_is, root_in, number_of, numbered, ext_below, due_file, node_is, member_is, file_is, is_there}
 use Rattle.adf_volume.proofs.LayoutRoles.{part_range, one_part}
 use Rattle.std.proofs.lemmas.Bool.{ltb-false, ltb-true}
 use Rattle.adf_volume.proofs.Places.{exts_below}
@@ -58,57 +56,70 @@ module _ (image : List ℕ) (t : Tree) (l : Layout) (fit : Fits image t l) where
   no_exts n e Dir k x z f a = absurd (subst (λ xs. At xs k x) f.1 a)
   no_exts n e (File bytes) k x z f a = (bytes, sym z)
 
+  pub fit_file : {n : ℕ} (f : IsFile t n) → FileFits image t l n (at_node image l n) f.bytes
+  fit_file {n = n} f = fit.files n f.entry f.bytes f.at f.body
+
   -- the walk so far goes along the tree
   module _ (w : List (Role × ℕ)) (v : IsWalk image w) (ag : (r : Role) (b : ℕ) → Has w r b → LayoutHas image t l r b) where
     pub dir_agrees : (p a : ℕ) → DirAt image w p a → DirNode t p × (at_node image l p ≡ a)
     dir_agrees zero a h = (tt, root_is image w a v h)
     dir_agrees (suc i) a h =
-        let k = h.0 in
-        let q = ag (Head (suc i) k.0 k.1 k.2) a k.3 in
-        let e = entry_at t k.0 k.1 k.2 (suc i) q.0 in
-        let d : word_in image (at_node image l (suc i)) SECONDARY_TYPE ≡ ST_DIR = ap (λ b. word_in image b SECONDARY_TYPE) q.1 ∙ h.1 in
-        ((e.0, e.1, dir_of (suc i) e.0 e.0.body refl (fit.entries (suc i) e.0 e.1).body d), q.1)
+        let q = ag (head_role h.header) a h.header.has in
+        let e = entry_at t h.header.parent h.header.slot h.header.place (suc i) q.0 in
+        let d : word_in image (at_node image l (suc i)) SECONDARY_TYPE ≡ ST_DIR = ap (λ b. word_in image b SECONDARY_TYPE) q.1 ∙ h.type in
+        ((e.entry, e.at, dir_of (suc i) e.entry e.entry.body refl (fit.entries (suc i) e.entry e.at).body d), q.1)
 
+    -- a file of the walk is one of the tree, with as many bytes and data blocks as its header says
     pub file_agrees : (n a : ℕ) → FileAt image w n a
-        → (e : Entry) × (bytes : List ℕ) × EntryAt t n e × (e.body ≡ File bytes) × (length bytes ≡ word_in image a SIZE) × (at_node image l n ≡ a)
+        → record {
+          file : IsFile t n;
+          long : length file.bytes ≡ word_in image a SIZE;
+          count : count t.kind (length file.bytes) ≡ data_count image a;
+          block : at_node image l n ≡ a;
+        }
     file_agrees n a h =
-        let k = h.0 in
-        let q = ag (Head n k.0 k.1 k.2) a k.3 in
-        let e = entry_at t k.0 k.1 k.2 n q.0 in
-        let d : word_in image (at_node image l n) SECONDARY_TYPE ≡ ST_FILE = ap (λ b. word_in image b SECONDARY_TYPE) q.1 ∙ h.1 in
-        let f = file_of n e.0 e.0.body refl (fit.entries n e.0 e.1).body d in
-        (e.0, f.0, e.1, f.1, f.2 ∙ ap (λ b. word_in image b SIZE) q.1, q.1)
-
-    pub count_agrees : (n a : ℕ) (bytes : List ℕ) → length bytes ≡ word_in image a SIZE → count t.kind (length bytes) ≡ data_count image a
-    count_agrees n a bytes z = ap (λ k. count k (length bytes)) fit.kind ∙ ap (count (kind_of image)) z
+        let q = ag (head_role h.header) a h.header.has in
+        let e = entry_at t h.header.parent h.header.slot h.header.place n q.0 in
+        let d : word_in image (at_node image l n) SECONDARY_TYPE ≡ ST_FILE = ap (λ b. word_in image b SECONDARY_TYPE) q.1 ∙ h.type in
+        let f = file_of n e.entry e.entry.body refl (fit.entries n e.entry e.at).body d in
+        let long : length f.0 ≡ word_in image a SIZE = f.2 ∙ ap (λ b. word_in image b SIZE) q.1 in
+        record {
+          file = record { entry = e.entry; bytes = f.0; at = e.at; body = f.1 };
+          long = long;
+          count = ap (λ k. count k (length f.0)) fit.kind ∙ ap (count (kind_of image)) long;
+          block = q.1;
+        }
 
     -- a node of the tree with a number that the walk has stands in the walk at its place
     pub has_node : (p s j n : ℕ) → At (chain_nodes t p s) j n → n ≤ heads w → (b : ℕ) × Has w (Head n p s j) b
     has_node p s j n h u =
         let e = entry_at t p s j n h in
-        let k = numbered image v n e.4 u in
-        let q = ag (Head n k.0 k.1 k.2) k.3 k.4 in
-        let z = one_place t k.0 k.1 k.2 p s j n q.0 h in
-        let z0 : k.0 ≡ p = z.0 in let z1 : k.1 ≡ s = z.1 in let z2 : k.2 ≡ j = z.2 in
-        let y : Head n k.0 k.1 k.2 ≡ Head n p s j = cc in
-        (k.3, subst (λ r. Has w r k.3) y k.4)
+        let x = numbered image v n e.low u in
+        let k = x.1 in
+        let q = ag (head_role k) x.0 k.has in
+        let z = one_place t k.parent k.slot k.place p s j n q.0 h in
+        let z0 : k.parent ≡ p = z.0 in let z1 : k.slot ≡ s = z.1 in let z2 : k.place ≡ j = z.2 in
+        let y : head_role k ≡ Head n p s j = cc in
+        (x.0, subst (λ r. Has w r x.0) y k.has)
+
+    pub has_head : (n : ℕ) (e : Entry) → EntryAt t n e → n ≤ heads w → HeadAt w n (at_node image l n)
+    has_head n e h u =
+        let q = place_at t n e h in
+        let k = has_node e.parent (slot_of e.name) q.0 n q.1 u in
+        let g : HeadAt w n k.0 = head_at n e.parent (slot_of e.name) q.0 k.0 k.1 in
+        subst (HeadAt w n) (sym (ag (head_role g) k.0 k.1).1) g
 
     pub has_dir : (p : ℕ) → p ≤ heads w → DirNode t p → DirAt image w p (at_node image l p)
     has_dir zero u d = root_in image v
     has_dir (suc i) u d =
-        let q = place_at t (suc i) d.0 d.1 in
-        let k = has_node d.0.parent (slot_of d.0.name) q.0 (suc i) q.1 u in
-        let z = (ag (Head (suc i) d.0.parent (slot_of d.0.name) q.0) k.0 k.1).1 in (
-          (d.0.parent, slot_of d.0.name, q.0, subst (λ b. Has w (Head (suc i) d.0.parent (slot_of d.0.name) q.0) b) (sym z) k.1),
-          dir_word (suc i) d.0 d.0.body refl (fit.entries (suc i) d.0 d.1).body d.2,
-        )
+        record { header = has_head (suc i) d.0 d.1 u; type = dir_word (suc i) d.0 d.0.body refl (fit.entries (suc i) d.0 d.1).body d.2 }
 
     -- the chain in which a node stands is a directory's before it, and its slot is one of the table
     chain_of : (p s j n : ℕ) → At (chain_nodes t p s) j n → DirNode t p × (p < n) × (s < SLOTS)
     chain_of p s j n h =
         let e = entry_at t p s j n h in
-        let up = (ordered t fit.tree).parents n e.0 e.1 in
-        (subst (DirNode t) e.2 up.1, subst (λ p. p < n) e.2 up.0, subst (λ s. s < SLOTS) e.3 (slot_small e.0.name))
+        let up = (ordered t fit.tree).parents n e.entry e.at in
+        (subst (DirNode t) e.parent up.1, subst (λ p. p < n) e.parent up.0, subst (λ s. s < SLOTS) e.slot (slot_small e.entry.name))
 
     -- the next node of the tree is asked for
     pub asks_next : (p s j n : ℕ) → At (chain_nodes t p s) j n → n ≡ suc (heads w) → (a i : ℕ) × Asks image w (Head n p s j) a i
@@ -121,8 +132,7 @@ module _ (image : List ℕ) (t : Tree) (l : Layout) (fit : Fits image t l) where
         (map (at_node image l) (chain_nodes t p s)) (at_node image l n)
         sp (at_map (at_node image l) (chain_nodes t p s) 0 n h) in
         let r = part_range image t l fit (Head n p s 0) (at_node image l n) (h, refl) in
-        let r1 : 2 ≤ at_node image l n = r.0 in
-        (at_node image l p, 6 + s, (u, g.2, has_dir p (omega arith) g.0, refl, (λ z. let k : at_node image l n ≡ 0 = sym named ∙ z in omega arith)))
+        (at_node image l p, 6 + s, (u, g.2, has_dir p (omega arith) g.0, refl, (λ z. omega (arith, r.0, sym named ∙ z))))
     asks_next p s (suc j) n h u =
         let b = at_before (chain_nodes t p s) j n h in
         let m : ℕ = b.0 in
@@ -136,18 +146,7 @@ module _ (image : List ℕ) (t : Tree) (l : Layout) (fit : Fits image t l) where
         (at_node image l m) (at_node image l n) sp
         (at_map (at_node image l) (chain_nodes t p s) j m b.1) (at_map (at_node image l) (chain_nodes t p s) (suc j) n h) in
         let r = part_range image t l fit (Head n p s (suc j)) (at_node image l n) (h, refl) in
-        let r1 : 2 ≤ at_node image l n = r.0 in (
-          k.0,
-          NEXT_IN_CHAIN,
-          (
-            u,
-            (m, k.1),
-            refl,
-            (λ q.
-                let x : at_node image l n ≡ 0 = sym named ∙ (ap (λ b. word_in image b NEXT_IN_CHAIN) z ∙ q) in
-                omega arith),
-          ),
-        )
+        (k.0, NEXT_IN_CHAIN, (u, (m, k.1), refl, (λ q. omega (arith, r.0, sym named ∙ (ap (λ b. word_in image b NEXT_IN_CHAIN) z ∙ q)))))
 
     -- and the walk lacks it
     pub next_lacks : (p s j n : ℕ) → At (chain_nodes t p s) j n → n ≡ suc (heads w) → Lacks w (Head n p s j)
@@ -155,7 +154,7 @@ module _ (image : List ℕ) (t : Tree) (l : Layout) (fit : Fits image t l) where
         let z = head_key n p s j r same in
         let has' : Has w (Head z.0 p s j) b = subst (λ r. Has w r b) z.1 has in
         let f = at_fun (chain_nodes t p s) j z.0 n (ag (Head z.0 p s j) b has').0 h in
-        let g = number_of image v z.0 p s j b has' in
+        let g = number_of image v (head_at z.0 p s j b has') in
         omega arith
 
     -- what is due in a chain is the tree's next node
@@ -164,7 +163,7 @@ module _ (image : List ℕ) (t : Tree) (l : Layout) (fit : Fits image t l) where
         let above : m ≤ heads w → ⊥ = (λ k. let x = has_node p s j m h k in d.lacks (Head m p s j) x.0 x.1 (refl, refl, refl)) in
         let below : n < m → ⊥ = (λ y.
         let top = entry_at t p s j m h in
-        let lim : m ≤ length t.entries = entry_below t m top.0 top.1 in
+        let lim : m ≤ length t.entries = entry_below t m top.entry top.at in
         let e = entry_some t n (omega arith) (omega arith) in
         let q = place_at t n e.0 e.1 in
         let ask = asks_next e.0.parent (slot_of e.0.name) q.0 n q.1 u in
@@ -176,28 +175,24 @@ module _ (image : List ℕ) (t : Tree) (l : Layout) (fit : Fits image t l) where
 
     -- the members of a file's table agree
     pub member_agrees : (n m a : ℕ) → MemberAt image w n m a → TableAt image l n m a
-    member_agrees n zero a h = let f = file_agrees n a h in f.5
+    member_agrees n zero a h = (file_agrees n a h).block
     member_agrees n (suc m) a h = ag (Ext n (suc m)) a h
 
-    pub is_file : (n k b : ℕ) → At (exts_of l n) k b → (e : Entry) × (bytes : List ℕ) × EntryAt t n e × (e.body ≡ File bytes)
+    pub is_file : (n k b : ℕ) → At (exts_of l n) k b → IsFile t n
     is_file zero k b h = absurd h
     is_file (suc i) k b h =
-        let f : length l.places ≡ length t.entries = fit.places in
-        let lt : i < length l.places = exts_below l.places i k b h in
-        let e = entry_some t (suc i) (omega arith) (omega arith) in
+        let e = entry_some t (suc i) (omega arith) (omega (arith, exts_below l.places i k b h, fit.places)) in
         let g = no_exts (suc i) e.0 e.0.body k b refl (fit.entries (suc i) e.0 e.1).body h in
-        (e.0, g.0, e.1, g.1)
+        record { entry = e.0; bytes = g.0; at = e.1; body = g.1 }
 
     -- the word that names a page
     page_part : (k a i : ℕ) → k < pages_needed (blocks image) → NamesPage image w k a i → At l.pages k (word_in image a i)
     page_part k a i lt (inl x) =
-        let p : length l.pages ≡ pages_needed (blocks image) = fit.pages in
-        let b = at_some l.pages k (omega arith) in
+        let b = at_some l.pages k (omega (arith, lt, fit.pages)) in
         let z : word_in image a i ≡ b.0 = ap (λ a. word_in image a i) x.1 ∙ ap (word_in image (root_of image)) x.2 ∙ fit.page_named k b.0 x.0 b.1 in
         subst (At l.pages k) (sym z) b.1
     page_part k a i lt (inr x) =
-        let p : length l.pages ≡ pages_needed (blocks image) = fit.pages in
-        let b = at_some l.pages k (omega arith) in
+        let b = at_some l.pages k (omega (arith, lt, fit.pages)) in
         let z : word_in image a i ≡ b.0 = fit.page_listed x.0 i a b.0 x.2 (ag (MapExt x.0) a x.1) (subst (λ k. At l.pages k b.0) x.3 b.1) in
         subst (At l.pages k) (sym z) b.1
 
@@ -206,15 +201,11 @@ module _ (image : List ℕ) (t : Tree) (l : Layout) (fit : Fits image t l) where
     asked_part Root a i q = absurd q
     asked_part (Page k) a i q = (0, page_part k a i q.0 q.1)
     asked_part (MapExt zero) a i q =
-        let p : length l.map_exts ≡ map_exts_needed (pages_needed (blocks image)) = fit.map_exts in
-        let u : 0 < map_exts_needed (pages_needed (blocks image)) = map_exts_high (pages_needed (blocks image)) 0 q.0 in
-        let b = at_some l.map_exts 0 (omega arith) in
+        let b = at_some l.map_exts 0 (omega (arith, fit.map_exts, map_exts_high (pages_needed (blocks image)) 0 q.0)) in
         let z : word_in image a i ≡ b.0 = ap (λ a. word_in image a i) q.1 ∙ ap (word_in image (root_of image)) q.2 ∙ fit.map_first b.0 b.1 in
         (0, subst (At l.map_exts 0) (sym z) b.1)
     asked_part (MapExt (suc j)) a i q =
-        let p : length l.map_exts ≡ map_exts_needed (pages_needed (blocks image)) = fit.map_exts in
-        let u : suc j < map_exts_needed (pages_needed (blocks image)) = map_exts_high (pages_needed (blocks image)) (suc j) q.0 in
-        let b = at_some l.map_exts (suc j) (omega arith) in
+        let b = at_some l.map_exts (suc j) (omega (arith, fit.map_exts, map_exts_high (pages_needed (blocks image)) (suc j) q.0)) in
         let z : word_in image a i ≡ b.0 = ap (word_in image a) q.2 ∙ fit.map_next j a b.0 (ag (MapExt j) a q.1) b.1 in
         (0, subst (At l.map_exts (suc j)) (sym z) b.1)
     asked_part (Head n p s zero) a i q =
@@ -243,15 +234,14 @@ module _ (image : List ℕ) (t : Tree) (l : Layout) (fit : Fits image t l) where
     asked_part (Ext n zero) a i q = absurd q
     asked_part (Ext n (suc zero)) a i q =
         let f = file_agrees n a q.0 in
-        let ff = fit.files n f.0 f.1 f.2 f.3 in
-        let z : word_in image (at_node image l n) EXTENSION ≡ word_in image a i = ap (λ a. word_in image a EXTENSION) f.5 ∙ ap (word_in image a) (sym q.1) in
+        let ff = fit_file f.file in
+        let z : word_in image (at_node image l n) EXTENSION ≡ word_in image a i = ap (λ a. word_in image a EXTENSION) f.block ∙ ap (word_in image a) (sym q.1) in
         let x : At (exts_of l n) 0 (word_in image (at_node image l n) EXTENSION) =
         spelled_first (λ b. word_in image b EXTENSION) (word_in image (at_node image l n) EXTENSION) (exts_of l n) ff.exts (λ k. q.2 (sym z ∙ k)) in
         (0, subst (At (exts_of l n) 0) z x)
     asked_part (Ext n (suc (suc k))) a i q =
         let h : At (exts_of l n) k a = ag (Ext n (suc k)) a q.0 in
-        let f = is_file n k a h in
-        let ff = fit.files n f.0 f.1 f.2 f.3 in
+        let ff = fit_file (is_file n k a h) in
         let z : word_in image a EXTENSION ≡ word_in image a i = ap (word_in image a) (sym q.1) in
         let x : At (exts_of l n) (suc k) (word_in image a EXTENSION) =
         spelled_next (λ b. word_in image b EXTENSION) (word_in image (at_node image l n) EXTENSION) (exts_of l n) k a ff.exts h (λ y. q.2 (sym z ∙ y)) in
@@ -260,11 +250,8 @@ module _ (image : List ℕ) (t : Tree) (l : Layout) (fit : Fits image t l) where
     asked_part (Data n (suc k)) a i q =
         let h = q.0 in
         let f = file_agrees n h.0 h.1 in
-        let ff = fit.files n f.0 f.1 f.2 f.3 in
-        let c : count t.kind (length f.1) ≡ data_count image h.0 = count_agrees n h.0 f.1 f.4 in
-        let len : length (datas_of l n) ≡ count t.kind (length f.1) = ff.datas in
-        let h2 : k < data_count image h.0 = h.2 in
-        let b = at_some (datas_of l n) k (omega arith) in
+        let ff = fit_file f.file in
+        let b = at_some (datas_of l n) k (omega (arith, h.2, f.count, ff.datas)) in
         let z : word_in image a i ≡ b.0 = ap (word_in image a) q.2 ∙ ff.named k b.0 a b.1 (member_agrees n (k / POINTERS) a q.1) in
         (0, subst (At (datas_of l n) k) (sym z) b.1)
 
@@ -277,15 +264,14 @@ module _ (image : List ℕ) (t : Tree) (l : Layout) (fit : Fits image t l) where
     due_part r a i d = (asked_part r a i d.asked).1
 
     pub file_block : (n h a : ℕ) → FileAt image w n h → at_node image l n ≡ h
-    file_block n h a f = (file_agrees n h f).5
+    file_block n h a f = (file_agrees n h f).block
 
     -- a file's extension blocks are all there when its first data block is due
     has_exts : (n d0 a i h : ℕ) → IsDue image w (Data n (suc d0)) a i → FileAt image w n h → (k : ℕ) → k < length (exts_of l n)
         → (b : ℕ) × Has w (Ext n (suc k)) b
     has_exts n d0 a i h d f zero u =
         let e = at_some (exts_of l n) 0 u in
-        let g = is_file n 0 e.0 e.1 in
-        let ff = fit.files n g.0 g.1 g.2 g.3 in
+        let ff = fit_file (is_file n 0 e.0 e.1) in
         let rg : 2 ≤ e.0 = (part_range image t l fit (Ext n 1) e.0 e.1).0 in
         let z : at_node image l n ≡ h = file_block n h a f in
         let y : word_in image (at_node image l n) EXTENSION ≡ e.0 =
@@ -297,8 +283,7 @@ module _ (image : List ℕ) (t : Tree) (l : Layout) (fit : Fits image t l) where
         let x = has_exts n d0 a i h d f k (omega arith) in
         let px : At (exts_of l n) k x.0 = ag (Ext n (suc k)) x.0 x.1 in
         let e = at_some (exts_of l n) (suc k) u in
-        let g = is_file n (suc k) e.0 e.1 in
-        let ff = fit.files n g.0 g.1 g.2 g.3 in
+        let ff = fit_file (is_file n (suc k) e.0 e.1) in
         let rg : 2 ≤ e.0 = (part_range image t l fit (Ext n (suc (suc k))) e.0 e.1).0 in
         let y : word_in image x.0 EXTENSION ≡ e.0 =
         spelled_link (λ b. word_in image b EXTENSION) (word_in image (at_node image l n) EXTENSION) (exts_of l n) k x.0 e.0 ff.exts px e.1 in
@@ -310,14 +295,11 @@ module _ (image : List ℕ) (t : Tree) (l : Layout) (fit : Fits image t l) where
     enough_due (Data n k) a i d = λ e h f.
         let d' : IsDue image w (Data n 1) a i = subst (λ k. IsDue image w (Data n k) a i) e d in
         let g = file_agrees n h f in
-        let ff = fit.files n g.0 g.1 g.2 g.3 in
-        let c : count t.kind (length g.1) ≡ data_count image h = count_agrees n h g.1 g.4 in
-        let en : count t.kind (length g.1) ≤ POINTERS * suc (length (exts_of l n)) = ff.enough in
         let all : ext_count w n < length (exts_of l n) → ⊥ = (λ y.
         let x = has_exts n 0 a i h d' f (ext_count w n) (omega arith) in
         let z = ext_below image v n (ext_count w n) x.0 x.1 in
         omega arith) in
-        omega arith
+        omega (arith, g.count, (fit_file g.file).enough)
     enough_due _ a i d = tt
 
     table_there : (n d0 a i h m : ℕ) → IsDue image w (Data n (suc d0)) a i → FileAt image w n h → m ≤ length (exts_of l n) → (c : ℕ) × MemberAt image w n m c
@@ -331,50 +313,46 @@ module _ (image : List ℕ) (t : Tree) (l : Layout) (fit : Fits image t l) where
         cond x (word_in image (member_block w n (suc k / POINTERS)) (table_word (suc k))) 0 ≡ slice_index (datas_of l n) (suc k)
     next_agrees n k a i h bytes d f ff c true z u =
         let lt : suc k < data_count image (node_block w n) = ltb-true (suc k) (data_count image (node_block w n)) z in
-        let len : length (datas_of l n) ≡ count t.kind (length bytes) = ff.datas in
-        let en : count t.kind (length bytes) ≤ POINTERS * suc (length (exts_of l n)) = ff.enough in
-        let m = table_there n k a i h (suc k / POINTERS) d f (omega arith) in
-        let e = at_some (datas_of l n) (suc k) (omega arith) in
+        let m = table_there n k a i h (suc k / POINTERS) d f (omega (arith, lt, c, ff.enough)) in
+        let e = at_some (datas_of l n) (suc k) (omega (arith, lt, c, ff.datas)) in
         ap (λ b. word_in image b (table_word (suc k))) (member_is image w n (suc k / POINTERS) m.0 v m.1)
         ∙ ff.named (suc k) e.0 m.0 e.1 (member_agrees n (suc k / POINTERS) m.0 m.1)
         ∙ sym (at_index (datas_of l n) (suc k) e.0 e.1)
     next_agrees n k a i h bytes d f ff c false z u =
-        let ge : data_count image (node_block w n) ≤ suc k = ltb-false (suc k) (data_count image (node_block w n)) z in
-        let len : length (datas_of l n) ≡ count t.kind (length bytes) = ff.datas in
-        sym (index_past (datas_of l n) (suc k) (omega arith))
+        sym (index_past (datas_of l n) (suc k) (omega (arith, ltb-false (suc k) (data_count image (node_block w n)) z, c, ff.datas)))
 
     head_form : (n p s j a i b : ℕ) → IsDue image w (Head n p s j) a i → LayoutHas image t l (Head n p s j) b → AllHold (form_demands image w (Head n p s j) b)
     head_form n p s j a i b d h =
         let e = entry_at t p s j n h.0 in
-        let ef = fit.entries n e.0 e.1 in
+        let ef = fit.entries n e.entry e.at in
         let u : n ≡ suc (heads w) = asks_number image w n p s j a i d.asked in
-        let up = (ordered t fit.tree).parents n e.0 e.1 in
-        let u1 : e.0.parent < n = up.0 in
-        let dir = has_dir e.0.parent (omega arith) up.1 in
-        let z : at_node image l e.0.parent ≡ node_block w p =
-        sym (node_is image w e.0.parent (at_node image l e.0.parent) v (dir_is_node image w e.0.parent (at_node image l e.0.parent) dir))
-        ∙ ap (node_block w) e.2 in
-        rw (← fit.kind, ← h.1, ← e.3, ← z) ef.form
+        let up = (ordered t fit.tree).parents n e.entry e.at in
+        let q : ℕ = e.entry.parent in
+        let u1 : q < n = up.0 in
+        let dir = has_dir q (omega arith) up.1 in
+        let z : at_node image l q ≡ node_block w p =
+        sym (node_is image w q (at_node image l q) v (dir_is_node image w q (at_node image l q) dir)) ∙ ap (node_block w) e.parent in
+        rw (← fit.kind, ← h.1, ← e.slot, ← z) ef.form
 
     ext_form : (n k a i b : ℕ) → IsDue image w (Ext n (suc k)) a i → At (exts_of l n) k b → AllHold (ext_demands image b (node_block w n))
     ext_form n k a i b d h =
         let f = due_file image w n (suc k) a i v d.asked in
         let g = file_agrees n f.0 f.1 in
-        let ff = fit.files n g.0 g.1 g.2 g.3 in
-        let z : at_node image l n ≡ node_block w n = g.5 ∙ sym (file_is image w n f.0 v f.1) in
+        let ff = fit_file g.file in
+        let z : at_node image l n ≡ node_block w n = g.block ∙ sym (file_is image w n f.0 v f.1) in
         subst (λ h. AllHold (ext_demands image b h)) z (ff.ext_form k b h)
 
     data_form : (n k a i b : ℕ) → IsDue image w (Data n (suc k)) a i → At (datas_of l n) k b → AllHold (form_demands image w (Data n (suc k)) b)
     data_form n k a i b d h =
         let f = d.asked.0 in
         let g = file_agrees n f.0 f.1 in
-        let ff = fit.files n g.0 g.1 g.2 g.3 in
+        let ff = fit_file g.file in
         let z0 : f.0 ≡ node_block w n = sym (file_is image w n f.0 v f.1) in
-        let z : at_node image l n ≡ node_block w n = g.5 ∙ z0 in
-        let c : count t.kind (length g.1) ≡ data_count image (node_block w n) = count_agrees n f.0 g.1 g.4 ∙ ap (data_count image) z0 in
-        let size : length g.1 ≡ word_in image (node_block w n) SIZE = g.4 ∙ ap (λ h. word_in image h SIZE) z0 in
+        let z : at_node image l n ≡ node_block w n = g.block ∙ z0 in
+        let c : count t.kind (length g.file.bytes) ≡ data_count image (node_block w n) = g.count ∙ ap (data_count image) z0 in
+        let size : length g.file.bytes ≡ word_in image (node_block w n) SIZE = g.long ∙ ap (λ h. word_in image h SIZE) z0 in
         let next : next_data image w n (suc k) ≡ slice_index (datas_of l n) (suc k) =
-        next_agrees n k a i f.0 g.1 d f.1 ff c (nat_lt (suc k) (data_count image (node_block w n))) refl (at_below (datas_of l n) k b h) in
+        next_agrees n k a i f.0 g.file.bytes d f.1 ff c (nat_lt (suc k) (data_count image (node_block w n))) refl (at_below (datas_of l n) k b h) in
         rw (next, ← size, ← fit.kind, ← z) (ff.data_form k b h)
 
     form_due : (r : Role) (a i b : ℕ) → IsDue image w r a i → LayoutHas image t l r b → AllHold (form_demands image w r b)
@@ -391,12 +369,13 @@ module _ (image : List ℕ) (t : Tree) (l : Layout) (fit : Fits image t l) where
     new_due (Head n p s j) a i b d h = λ m k c has eq.
         let u : n ≡ suc (heads w) = asks_number image w n p s j a i d.asked in
         let pt = ag (Head m p s k) c has in
-        let nb : (1 ≤ m) × (m ≤ heads w) = number_of image v m p s k c has in
+        let nb : (1 ≤ m) × (m ≤ heads w) = number_of image v (head_at m p s k c has) in
         let e = entry_at t p s j n h.0 in
         let f = entry_at t p s k m pt.0 in
         let ne : n ≢ m = omega arith in
-        (ordered t fit.tree).names n m e.0 f.0 e.1 f.1 ne (e.2 ∙ sym f.2)
-        (ap uppers ((fit.entries n e.0 e.1).name ∙ ap (name_of image) h.1) ∙ sym eq ∙ sym (ap uppers ((fit.entries m f.0 f.1).name ∙ ap (name_of image) pt.1)))
+        (ordered t fit.tree).names n m e.entry f.entry e.at f.at ne (e.parent ∙ sym f.parent)
+        (ap uppers ((fit.entries n e.entry e.at).name ∙ ap (name_of image) h.1) ∙ sym eq
+        ∙ sym (ap uppers ((fit.entries m f.entry f.at).name ∙ ap (name_of image) pt.1)))
     new_due _ a i b d h = tt
 
     -- agreement, one step: what is due has no cause

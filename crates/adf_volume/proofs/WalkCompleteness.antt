@@ -12,7 +12,7 @@ use Rattle.adf_tree.specs.Tree.{Tree}
 use Rattle.adf_volume.specs.Layout.{EntryAt, Layout, at_node, exts_of, datas_of}
 use Rattle.adf_tree.specs.declared.entry.Body.TheVariants.{Dir, File}
 use Rattle.adf_volume.specs.Fits.{Fits, BodyFits}
-use Rattle.adf_volume.specs.Walk.{Role, Has, heads, FileAt, MemberAt, data_count, IsWalk, IsWhole}
+use Rattle.adf_volume.specs.Walk.{Role, Has, heads, HeadAt, FileAt, MemberAt, data_count, IsWalk, IsWhole}
 use Rattle.adf_volume.specs.Walk.Role.{Root, Page, MapExt, Head, Ext, Data}
 use Rattle.adf_volume.specs.LayoutRoles.{LayoutHas}
 use Rattle.adf_volume.proofs.Lists.{at_fun, at_below, at_some, at_before, spelled_word, spelled_link}
@@ -20,7 +20,8 @@ use Rattle.adf_volume.proofs.Chains.{entry_at, entry_fun, entry_below, entry_som
 use Rattle.adf_volume.proofs.Walks.{root_in, numbered, page_word, asked_block}
 use Rattle.adf_volume.proofs.Images.{map_exts_high, map_exts_low}
 use Rattle.adf_volume.proofs.LayoutRoles.{part_range}
-use Rattle.adf_volume.proofs.WalkAgreement.{next_lacks, agreement, file_agrees, count_agrees, has_node, asks_next, is_file}
+use Rattle.adf_volume.proofs.Roles.{head_role}
+use Rattle.adf_volume.proofs.WalkAgreement.{next_lacks, agreement, file_agrees, fit_file, has_head, has_node, asks_next, is_file}
 use Rattle.adf_volume.proofs.Places.{datas_below}
 
 file_word : (image : List ℕ) (t : Tree) (l : Layout) (n : ℕ) (e : Entry) (b : Body) (bytes : List ℕ) → b ≡ e.body
@@ -51,14 +52,10 @@ module _ (image : List ℕ) (t : Tree) (l : Layout) (fit : Fits image t l) (w : 
 
   has_file : (n : ℕ) (e : Entry) (bytes : List ℕ) → EntryAt t n e → e.body ≡ File bytes → FileAt image w n (at_node image l n)
   has_file n e bytes h f =
-      let q = place_at t n e h in
       let u : n ≤ length t.entries = entry_below t n e h in
       let a = all_heads in
-      let k = has_node image t l fit w v ag e.parent (slot_of e.name) q.0 n q.1 (omega arith) in
-      let z = (ag (Head n e.parent (slot_of e.name) q.0) k.0 k.1).1 in (
-        (e.parent, slot_of e.name, q.0, subst (λ b. Has w (Head n e.parent (slot_of e.name) q.0) b) (sym z) k.1),
-        file_word image t l n e e.body bytes refl (fit.entries n e h).body f,
-      )
+      let head = has_head image t l fit w v ag n e h (omega arith) in
+      record { header = head; type = file_word image t l n e e.body bytes refl (fit.entries n e h).body f }
 
   -- what the walk has at a place of a list of the layout is what the layout has there
   at_its_block : (r : Role) (xs : List ℕ) (k c b : ℕ) → Has w r c → At xs k c → At xs k b → Has w r b
@@ -67,18 +64,17 @@ module _ (image : List ℕ) (t : Tree) (l : Layout) (fit : Fits image t l) (w : 
   all_exts : (n k b : ℕ) → At (exts_of l n) k b → Has w (Ext n (suc k)) b
   all_exts n zero b h =
       let g = is_file image t l fit w v ag n 0 b h in
-      let ff = fit.files n g.0 g.1 g.2 g.3 in
+      let ff = fit_file image t l fit g in
       let rg : 2 ≤ b = (part_range image t l fit (Ext n 1) b h).0 in
       let y : word_in image (at_node image l n) EXTENSION ≡ b =
       spelled_word (λ b. word_in image b EXTENSION) (word_in image (at_node image l n) EXTENSION) (exts_of l n) b ff.exts h in
       let x = asked_block image w whole (Ext n 1) (at_node image l n) EXTENSION
-      (has_file n g.0 g.1 g.2 g.3, refl, (λ z. let o : b ≡ 0 = sym y ∙ z in omega arith)) (omega arith) in
+      (has_file n g.entry g.bytes g.at g.body, refl, (λ z. let o : b ≡ 0 = sym y ∙ z in omega arith)) (omega arith) in
       at_its_block (Ext n 1) (exts_of l n) 0 x.0 b x.1 (ag (Ext n 1) x.0 x.1) h
   all_exts n (suc k) b h =
       let c = at_before (exts_of l n) k b h in
       let hc : Has w (Ext n (suc k)) c.0 = all_exts n k c.0 c.1 in
-      let g = is_file image t l fit w v ag n (suc k) b h in
-      let ff = fit.files n g.0 g.1 g.2 g.3 in
+      let ff = fit_file image t l fit (is_file image t l fit w v ag n (suc k) b h) in
       let rg : 2 ≤ b = (part_range image t l fit (Ext n (suc (suc k))) b h).0 in
       let y : word_in image c.0 EXTENSION ≡ b =
       spelled_link (λ b. word_in image b EXTENSION) (word_in image (at_node image l n) EXTENSION) (exts_of l n) k c.0 b ff.exts c.1 h in
@@ -93,19 +89,12 @@ module _ (image : List ℕ) (t : Tree) (l : Layout) (fit : Fits image t l) (w : 
       let lt : i < length l.places = datas_below l.places i k b h in
       let e = entry_some t n (omega arith) (omega arith) in
       let g = no_datas image t l n e.0 e.0.body k b refl (fit.entries n e.0 e.1).body h in
-      let ff = fit.files n e.0 g.0 e.1 g.1 in
       let fl = has_file n e.0 g.0 e.1 g.1 in
       let fa = file_agrees image t l fit w v ag n (at_node image l n) fl in
-      let same : e.0 ≡ fa.0 = entry_fun t n e.0 fa.0 e.1 fa.2 in
-      let bz : File g.0 ≡ File fa.1 = sym g.1 ∙ ap (λ (x : Entry). x.body) same ∙ fa.3 in
-      let bb : g.0 ≡ fa.1 = cc in
-      let c : count t.kind (length g.0) ≡ data_count image (at_node image l n) =
-      count_agrees image t l fit w v ag n (at_node image l n) g.0 (ap length bb ∙ fa.4) in
-      let len : length (datas_of l n) ≡ count t.kind (length g.0) = ff.datas in
-      let at : k < length (datas_of l n) = at_below (datas_of l n) k b h in
-      let en : count t.kind (length g.0) ≤ POINTERS * suc (length (exts_of l n)) = ff.enough in
-      let m = table (k / POINTERS) (omega arith) fl in
-      let x = asked_block image w whole (Data n (suc k)) m.0 (table_word k) ((at_node image l n, fl, (omega arith)), m.1, refl) (omega arith) in
+      let ff = fit_file image t l fit fa.file in
+      let inside : k < data_count image (at_node image l n) = omega (arith, fa.count, ff.datas, at_below (datas_of l n) k b h) in
+      let m = table (k / POINTERS) (omega (arith, fa.count, ff.enough)) fl in
+      let x = asked_block image w whole (Data n (suc k)) m.0 (table_word k) ((at_node image l n, fl, inside), m.1, refl) (omega arith) in
       at_its_block (Data n (suc k)) (datas_of l n) k x.0 b x.1 (ag (Data n (suc k)) x.0 x.1) h
     where
       table : (m : ℕ) → m ≤ length (exts_of l (suc i)) → FileAt image w (suc i) (at_node image l (suc i)) → (a : ℕ) × MemberAt image w (suc i) m a
@@ -114,24 +103,18 @@ module _ (image : List ℕ) (t : Tree) (l : Layout) (fit : Fits image t l) (w : 
 
   all_map_exts : (j b : ℕ) → At l.map_exts j b → Has w (MapExt j) b
   all_map_exts zero b h =
-      let u : 0 < length l.map_exts = at_below l.map_exts 0 b h in
-      let p : length l.map_exts ≡ map_exts_needed (pages_needed (blocks image)) = fit.map_exts in
-      let x = asked_block image w whole (MapExt 0) (root_of image) FIRST_MAP_EXT (map_exts_low (pages_needed (blocks image)) 0 (omega arith), refl, refl)
-      (omega arith) in
+      let lt = map_exts_low (pages_needed (blocks image)) 0 (omega (arith, at_below l.map_exts 0 b h, fit.map_exts)) in
+      let x = asked_block image w whole (MapExt 0) (root_of image) FIRST_MAP_EXT (lt, refl, refl) (omega arith) in
       at_its_block (MapExt 0) l.map_exts 0 x.0 b x.1 (ag (MapExt 0) x.0 x.1) h
   all_map_exts (suc j) b h =
-      let u : suc j < length l.map_exts = at_below l.map_exts (suc j) b h in
-      let p : length l.map_exts ≡ map_exts_needed (pages_needed (blocks image)) = fit.map_exts in
+      let lt = map_exts_low (pages_needed (blocks image)) (suc j) (omega (arith, at_below l.map_exts (suc j) b h, fit.map_exts)) in
       let c = at_before l.map_exts j b h in
-      let x = asked_block image w whole (MapExt (suc j)) c.0 MAP_EXT_NEXT
-      (map_exts_low (pages_needed (blocks image)) (suc j) (omega arith), all_map_exts j c.0 c.1, refl) (omega arith) in
+      let x = asked_block image w whole (MapExt (suc j)) c.0 MAP_EXT_NEXT (lt, all_map_exts j c.0 c.1, refl) (omega arith) in
       at_its_block (MapExt (suc j)) l.map_exts (suc j) x.0 b x.1 (ag (MapExt (suc j)) x.0 x.1) h
 
   some_map_ext : (j : ℕ) → ROOT_PAGES + MAP_EXT_PAGES * j < pages_needed (blocks image) → (a : ℕ) × Has w (MapExt j) a
   some_map_ext j lt =
-      let p : length l.map_exts ≡ map_exts_needed (pages_needed (blocks image)) = fit.map_exts in
-      let u : j < map_exts_needed (pages_needed (blocks image)) = map_exts_high (pages_needed (blocks image)) j lt in
-      let b = at_some l.map_exts j (omega arith) in
+      let b = at_some l.map_exts j (omega (arith, fit.map_exts, map_exts_high (pages_needed (blocks image)) j lt)) in
       (b.0, all_map_exts j b.0 b.1)
 
   -- completeness: each part is in the walk
@@ -146,7 +129,7 @@ module _ (image : List ℕ) (t : Tree) (l : Layout) (fit : Fits image t l) (w : 
   part_walked (MapExt j) b h = all_map_exts j b h
   part_walked (Head n p s j) b h =
       let e = entry_at t p s j n h.0 in
-      let u : n ≤ length t.entries = entry_below t n e.0 e.1 in
+      let u : n ≤ length t.entries = entry_below t n e.entry e.at in
       let a = all_heads in
       let k = has_node image t l fit w v ag p s j n h.0 (omega arith) in
       subst (Has w (Head n p s j)) (sym (ag (Head n p s j) k.0 k.1).1 ∙ h.1) k.1
@@ -163,7 +146,7 @@ module _ (image : List ℕ) (t : Tree) (l : Layout) (fit : Fits image t l) (w : 
       at_least (suc m) z =
           let a = all_heads in
           let k = numbered image v (suc m) (omega arith) (omega arith) in
-          let pt = ag (Head (suc m) k.0 k.1 k.2) k.3 k.4 in
-          let e = entry_at t k.0 k.1 k.2 (suc m) pt.0 in
-          let u : suc m ≤ length t.entries = entry_below t (suc m) e.0 e.1 in
+          let pt = ag (head_role k.1) k.0 k.1.has in
+          let e = entry_at t k.1.parent k.1.slot k.1.place (suc m) pt.0 in
+          let u : suc m ≤ length t.entries = entry_below t (suc m) e.entry e.at in
           omega arith

@@ -13,7 +13,7 @@ use Rattle.adf_volume.specs.Made.{tree_in, layout_in}
 use Rattle.adf_volume.specs.LayoutRoles.{owner_of}
 use Rattle.adf_volume.proofs.MemberFacts.{kept, in_range}
 use Rattle.adf_volume.proofs.WalkMembers.{entries_length, places_length, pages, map_exts}
-use Rattle.adf_volume.proofs.WholeWalks.{chains_spelled, content_long, entry_fits, ext_names, file_at, file_fits, is_tree, map_ext_next, map_exts_length}
+use Rattle.adf_volume.proofs.WholeWalks.{chains_spelled, content_long, entry_fits, ext_names, file_at, file_fits, head_is, is_tree, map_ext_next, map_exts_length}
 use Rattle.adf_volume.proofs.WholeWalks.{pages_length, root_names}
 use Rattle.adf_volume.proofs.WalkOwners.{is_owned, owned_has, once}
 use Rattle.adf_volume.proofs.Sizes.{size_low}
@@ -50,7 +50,7 @@ module _ (image : List ℕ) (w : List (Role × ℕ)) (v : IsWalk image w) (whole
     chains = (λ p s d lt. (chains_spelled image w v whole) p s (dir_node (tree_in image w) p d) lt);
     files = (λ n e bytes h f.
         let x = file_at image w v whole n e bytes h f in
-        subst (λ h. FileFits image (tree_in image w) (layout_in w) n h bytes) (sym x.3)
+        subst (λ h. FileFits image (tree_in image w) (layout_in w) n h bytes) (sym (head_is image w v whole x.1.header).0)
         (file_fits image w v whole n x.0 bytes x.1 (ap length x.2 ∙ (content_long image w v whole boots) n x.0 x.1)));
     once = once image w v whole;
     range = (λ o b h. let r = owned_has image w v whole o b h in in_range image v (size_low (blocks image) boots.0.1) r.0 b r.1);

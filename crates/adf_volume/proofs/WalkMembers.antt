@@ -8,18 +8,17 @@ use Rattle.adf_volume.specs.Lists.{At}
 use Rattle.adf_blocks.specs.Sizes.{blocks, pages_needed}
 use Rattle.adf_volume.specs.Image.{kind_of, table_word, name_of, root_of}
 use Rattle.adf_fields.specs.Hash.{slot_of}
-use Rattle.adf_tree.specs.declared.entry.Entry.{Entry}
 use Rattle.adf_volume.specs.Layout.{nodes_from}
-use Rattle.adf_volume.specs.Walk.{Role, second, Has, head_count, heads, data_count, NamesPage, Asks, IsDue, Lacks, ext_count_of, ext_count, NoCause, IsWalk}
+use Rattle.adf_volume.specs.Walk.{Role, second, Has, HeadAt, head_count, heads, data_count, NamesPage, Asks, IsDue, Lacks, ext_count_of, ext_count, NoCause, IsWalk}
 use Rattle.adf_volume.specs.Walk.Role.{Root, Page, MapExt, Head, Ext, Data}
 use Rattle.adf_volume.specs.Walk.IsWalk.{start, step}
 use Rattle.adf_volume.specs.Made.{picked, is_page, pages_in, is_map_ext, map_exts_in, is_ext_of, exts_in, push_ext, is_data_of, datas_in, entry_in, place_in}
 use Rattle.adf_volume.specs.Made.{push_head, of_heads, entries_in, places_in}
 use Rattle.adf_volume.proofs.FormDemands.{head_slot_is}
-use Rattle.adf_volume.proofs.Lists.{at_fun, at_below, at_some, at_old, at_new, at_snoc, snoc_length}
+use Rattle.adf_volume.proofs.Lists.{at_below, at_some, at_old, at_new, at_snoc, snoc_length}
 use Rattle.adf_volume.proofs.Chains.{chain_snoc}
-use Rattle.adf_volume.proofs.Roles.{asks_number}
-use Rattle.adf_volume.proofs.Walks.{numbered, ext_counted, next_ext, page_word, is_there}
+use Rattle.adf_volume.proofs.Roles.{asks_number, head_at, head_in, head_role, new_number, no_head}
+use Rattle.adf_volume.proofs.Walks.{ext_counted, next_ext, page_word, is_there}
 use Rattle.adf_volume.proofs.MemberFacts.{kept, there, enough, map_ext_down}
 use Rattle.adf_volume.proofs.Comparisons.{both_equal, equal_both}
 
@@ -77,15 +76,17 @@ module _ {X : Type 0} (f : ℕ → ℕ → ℕ → X) where
   heads_length [] = refl
   heads_length (x ∷ w) = head_length x.0 x.1 (heads w) (of_heads f w) (heads_length w)
 
-  head_has : (image : List ℕ) {w : List (Role × ℕ)} → IsWalk image w → (i p s j b : ℕ) → Has w (Head (suc i) p s j) b → At (of_heads f w) i (f (suc i) p b)
-  head_has image start i p s j b (inl e) = let x : second Root ≡ second (Head (suc i) p s j) = ap second e.0 in absurd (omega arith)
-  head_has image start i p s j b (inr e) = absurd e
-  head_has image (step {w = w} {r = q} {b = c} {a = a0} {i = i0} v d e g) i p s j b (inl h) =
-      let u : suc i ≡ suc (heads w) = asks_number image w (suc i) p s j a0 i0 (subst (λ r. Asks image w r a0 i0) h.0 d.asked) in
-      let l : length (of_heads f w) ≡ heads w = heads_length w in
-      subst (λ q. At (push_head f q c (of_heads f w)) i (f (suc i) p b)) (sym h.0)
-      (subst (λ c. At (of_heads f w ++ f (suc i) p c ∷ []) i (f (suc i) p b)) (sym h.1) (at_new (of_heads f w) (f (suc i) p b) i (omega arith)))
-  head_has image (step {w = w} {r = q} {b = c} v d e g) i p s j b (inr h) = head_up q c (of_heads f w) i (f (suc i) p b) (head_has image v i p s j b h)
+  head_has : (image : List ℕ) {w : List (Role × ℕ)} {i b : ℕ} → IsWalk image w → (h : HeadAt w (suc i) b) → At (of_heads f w) i (f (suc i) h.parent b)
+  head_has image start h = absurd (no_head h)
+  head_has image {i = i} {b = b} (step {w = w} {r = q} {b = c} {a = a} {i = k} v d e g) h =
+      let made : X = f (suc i) h.parent b in
+      elim h.has [
+        | inl x ↦
+            let last = at_new (of_heads f w) made i (omega (arith, new_number image w h a k x.0 d.asked, heads_length w)) in
+            subst (λ q. At (push_head f q c (of_heads f w)) i made) (sym x.0)
+            (subst (λ c. At (of_heads f w ++ f (suc i) h.parent c ∷ []) i made) (sym x.1) last)
+        | inr x ↦ head_up q c (of_heads f w) i made (head_has image v (head_in h x))
+      ]
 
 module _ (image : List ℕ) (full : List (Role × ℕ)) where
   pub entries_length : (w : List (Role × ℕ)) → length (entries_in image full w) ≡ heads w
@@ -94,21 +95,12 @@ module _ (image : List ℕ) (full : List (Role × ℕ)) where
   pub places_length : (w : List (Role × ℕ)) → length (places_in full w) ≡ heads w
   places_length w = heads_length (λ n p b. place_in full n b) w
 
-  pub entry_has : {w : List (Role × ℕ)} → IsWalk image w → (i p s j b : ℕ) → Has w (Head (suc i) p s j) b
-      → At (entries_in image full w) i (entry_in image full (suc i) p b)
-  entry_has v i p s j b h = head_has (entry_in image full) image v i p s j b h
+  pub entry_has : {w : List (Role × ℕ)} {i b : ℕ} → IsWalk image w → (h : HeadAt w (suc i) b)
+      → At (entries_in image full w) i (entry_in image full (suc i) h.parent b)
+  entry_has v h = head_has (entry_in image full) image v h
 
-  pub place_has : {w : List (Role × ℕ)} → IsWalk image w → (i p s j b : ℕ) → Has w (Head (suc i) p s j) b → At (places_in full w) i (place_in full (suc i) b)
-  place_has v i p s j b h = head_has (λ n p b. place_in full n b) image v i p s j b h
-
-  -- each entry is a header's
-  pub has_entry : (w : List (Role × ℕ)) → IsWalk image w → (i : ℕ) (e : Entry) → At (entries_in image full w) i e
-      → (p s j b : ℕ) × Has w (Head (suc i) p s j) b × (e ≡ entry_in image full (suc i) p b)
-  has_entry w v i e h =
-      let u : i < length (entries_in image full w) = at_below (entries_in image full w) i e h in
-      let l : length (entries_in image full w) ≡ heads w = entries_length w in
-      let k = numbered image v (suc i) (omega arith) (omega arith) in
-      (k.0, k.1, k.2, k.3, k.4, at_fun (entries_in image full w) i e (entry_in image full (suc i) k.0 k.3) h (entry_has v i k.0 k.1 k.2 k.3 k.4))
+  pub place_has : {w : List (Role × ℕ)} {i b : ℕ} → IsWalk image w → HeadAt w (suc i) b → At (places_in full w) i (place_in full (suc i) b)
+  place_has v h = head_has (λ n p b. place_in full n b) image v h
 
 module _ (image : List ℕ) where
   -- the extension blocks, in order
@@ -231,8 +223,8 @@ module _ (image : List ℕ) where
       (λ t. let x = map_ext_only q t in x.1 ∙ ap MapExt (next_map_ext w v (map_exts v) x.0 a i (subst (λ r. IsDue image w r a i) x.1 d)))
 
   -- the slot of a header's name
-  pub slot_is : (w : List (Role × ℕ)) → IsWalk image w → (n p s j b : ℕ) → Has w (Head n p s j) b → slot_of (name_of image b) ≡ s
-  slot_is w v n p s j b h = let k = (kept image v (Head n p s j) b h).2 in head_slot_is image (kind_of image) b k.0 s k.2
+  pub slot_is : {w : List (Role × ℕ)} {n b : ℕ} → IsWalk image w → (h : HeadAt w n b) → slot_of (name_of image b) ≡ h.slot
+  slot_is {b = b} v h = let k = (kept image v (head_role h) b h.has).2 in head_slot_is image (kind_of image) b k.0 h.slot k.2
 
   module _ (full : List (Role × ℕ)) where
     -- the chains, in order
@@ -315,7 +307,7 @@ module _ (image : List ℕ) where
         (λ m q u k z.
         let d' = subst (λ r. IsDue image w r a i) z d in (
           asks_number image w m q u k a i d'.asked,
-          slot_is ((r, c) ∷ w) (step v d e g) m q u k c (inl (z, refl)),
+          slot_is (step v d e g) (head_at m q u k c (inl (z, refl))),
           next_place w ih m q u k a i d',
         )) in
         record {

@@ -1,11 +1,12 @@
 -- A walk rises: what is due comes after all that is there.
 use Rattle.std.proofs.Common.{◌≡◌, ℕ, zero, suc, List, [], ◌∷◌, ◌⊎◌, inl, inr, ◌+◌, ◌*◌, ◌/◌, ◌<◌, ◌≤◌, refl, sym, ap, subst, ◌∙◌, arith}
-use Rattle.adf_blocks.specs.declared.layout.TheConstants.{MAP_EXT_PAGES, POINTERS, ROOT_PAGES}
+use Rattle.adf_blocks.specs.declared.layout.TheConstants.{MAP_EXT_PAGES, POINTERS, ROOT_PAGES, ST_DIR, ST_FILE}
 use Rattle.adf_volume.specs.Image.{root_of}
-use Rattle.adf_volume.specs.Walk.{Role, first, second, third, Before, Same, Has, heads, DirAt, FileAt, MemberAt, Asks, Lacks, IsDue, IsWalk}
+use Rattle.adf_volume.specs.Walk.{Role, first, second, third, Before, Same, Has, head_count, heads, HeadAt, TypedAt, DirAt, MemberAt, Asks, Lacks, IsDue}
+use Rattle.adf_volume.specs.Walk.{IsWalk}
 use Rattle.adf_volume.specs.Walk.Role.{Root, Page, MapExt, Head, Ext, Data}
 use Rattle.adf_volume.specs.Walk.IsWalk.{start, step}
-use Rattle.adf_volume.proofs.Roles.{asks_number, same_refl}
+use Rattle.adf_volume.proofs.Roles.{head_at, head_in, head_role, new_number, no_head, same_refl}
 use Rattle.adf_volume.proofs.Walks.{number_of}
 
 pub before_trans : (x y z : Role) → Before x y → Before y z → Before x z
@@ -33,40 +34,37 @@ last w z c q b r (inr y) n o = o y
 module _ (image : List ℕ) where
   pub dir_number : (w : List (Role × ℕ)) (p a : ℕ) → IsWalk image w → DirAt image w p a → p ≤ heads w
   dir_number w zero a v h = omega arith
-  dir_number w (suc i) a v h = let k = h.0 in (number_of image v (suc i) k.0 k.1 k.2 a k.3).1
+  dir_number w (suc i) a v h = (number_of image v h.header).1
 
-  asks_parent : {w : List (Role × ℕ)} → IsWalk image w → (n p s j a i : ℕ) → ((m q u k b : ℕ) → Has w (Head m q u k) b → q < m)
+  asks_parent : {w : List (Role × ℕ)} → IsWalk image w → (n p s j a i : ℕ) → ((m b : ℕ) (h : HeadAt w m b) → h.parent < m)
       → Asks image w (Head n p s j) a i → p < n
-  asks_parent {w = w} v n p s zero a i ih h = let x : p ≤ heads w = dir_number w p a v h.2 in let y : n ≡ suc (heads w) = h.0 in omega arith
+  asks_parent {w = w} v n p s zero a i ih h = omega (arith, dir_number w p a v h.2, h.0)
   asks_parent {w = w} v n p s (suc j) a i ih h =
-      let m = h.1 in
-      let x : p < m.0 = ih m.0 p s j a m.1 in
-      let z : (1 ≤ m.0) × (m.0 ≤ heads w) = number_of image v m.0 p s j a m.1 in
-      let y : n ≡ suc (heads w) = h.0 in
-      omega arith
+      let k : HeadAt w h.1.0 a = head_at h.1.0 p s j a h.1.1 in
+      omega (arith, ih h.1.0 a k, number_of image v k, h.0)
 
   -- a parent has a smaller number
-  pub parent_below : {w : List (Role × ℕ)} → IsWalk image w → (n p s j b : ℕ) → Has w (Head n p s j) b → p < n
-  parent_below start n p s j b (inl e) = let h : second Root ≡ second (Head n p s j) = ap second e.0 in absurd (omega arith)
-  parent_below start n p s j b (inr f) = absurd f
-  parent_below (step {w = w} {r = r} {a = a} {i = i} v d g c) n p s j b (inl e) =
-      asks_parent v n p s j a i (parent_below v) (subst (λ r. Asks image w r a i) e.0 d.asked)
-  parent_below (step v d g c) n p s j b (inr h) = parent_below v n p s j b h
+  pub parent_below : {w : List (Role × ℕ)} {n b : ℕ} → IsWalk image w → (h : HeadAt w n b) → h.parent < n
+  parent_below start h = absurd (no_head h)
+  parent_below {n = n} (step {w = w} {a = a} {i = i} v d g c) h = elim h.has [
+    | inl e ↦ asks_parent v n h.parent h.slot h.place a i (λ m b k. parent_below v k) (subst (λ r. Asks image w r a i) e.0 d.asked)
+    | inr k ↦ parent_below v (head_in h k)
+  ]
 
   module _ (w : List (Role × ℕ)) (v : IsWalk image w) (q : Role) (c a0 i0 : ℕ) (d : IsDue image w q a0 i0) where
     head_before : (n p s j : ℕ) (r : Role) → q ≡ Head n p s j → n < first r → Before q r
     head_before n p s j r e u =
-        let x : p < n = asks_parent v n p s j a0 i0 (parent_below v) (subst (λ q. Asks image w q a0 i0) e d.asked) in
+        let x : p < n = asks_parent v n p s j a0 i0 (λ m b k. parent_below v k) (subst (λ q. Asks image w q a0 i0) e d.asked) in
         let y : first q ≡ suc p = ap first e in
         (omega arith, (λ z. absurd (omega arith)), (λ z z'. absurd (omega arith)))
 
     not_root : q ≡ Root → ⊥
     not_root e = subst (λ q. Asks image w q a0 i0) e d.asked
 
-    file_back : (n a : ℕ) (r : Role) → n < first r → FileAt image ((q, c) ∷ w) n a → FileAt image w n a ⊎ Before q r
-    file_back n a r u h = let x = h.0 in elim x.3 [
-      | inl e ↦ inr (head_before n x.0 x.1 x.2 r e.0 u)
-      | inr k ↦ inl ((x.0, x.1, x.2, k), h.1)
+    typed_back : (t n a : ℕ) (r : Role) → n < first r → TypedAt image ((q, c) ∷ w) t n a → TypedAt image w t n a ⊎ Before q r
+    typed_back t n a r u h = let x = h.header in elim x.has [
+      | inl e ↦ inr (head_before n x.parent x.slot x.place r e.0 u)
+      | inr k ↦ inl (record { header = head_in x k; type = h.type })
     ]
 
     -- what the longer walk asks for was asked for before, or comes after the new member
@@ -91,9 +89,9 @@ module _ (image : List ℕ) where
       | inl e ↦ absurd (not_root e.0)
       | inr k ↦ inl (Head (suc (heads w)) zero s zero, (refl, h.1, k, h.3, h.4), (refl, refl, refl))
     ]
-    asks_back (Head n (suc p) s zero) a i h = let x = h.2.0 in elim x.3 [
-      | inl e ↦ inr (head_before (suc p) x.0 x.1 x.2 (Head n (suc p) s zero) e.0 (omega arith))
-      | inr k ↦ inl (Head (suc (heads w)) (suc p) s zero, (refl, h.1, ((x.0, x.1, x.2, k), h.2.1), h.3, h.4), (refl, refl, refl))
+    asks_back (Head n (suc p) s zero) a i h = elim (typed_back ST_DIR (suc p) a (Head n (suc p) s zero) (omega arith) h.2) [
+      | inl d ↦ inl (Head (suc (heads w)) (suc p) s zero, (refl, h.1, d, h.3, h.4), (refl, refl, refl))
+      | inr b ↦ inr b
     ]
     asks_back (Head n p s (suc j)) a i h = elim h.1.1 [
       | inl e ↦ inr (subst (λ q. Before q (Head n p s (suc j))) (sym e.0) (omega arith))
@@ -101,7 +99,7 @@ module _ (image : List ℕ) where
     ]
     asks_back (Ext n zero) a i h = absurd h
     asks_back (Ext n (suc zero)) a i h =
-        elim (file_back n a (Ext n 1) (omega arith) h.0) [
+        elim (typed_back ST_FILE n a (Ext n 1) (omega arith) h.0) [
           | inl f ↦ inl (Ext n 1, (f, h.1, h.2), (refl, refl, refl))
           | inr b ↦ inr b
         ]
@@ -111,7 +109,7 @@ module _ (image : List ℕ) where
     ]
     asks_back (Data n zero) a i h = absurd h
     asks_back (Data n (suc k)) a i h =
-        elim (file_back n h.0.0 (Data n (suc k)) (omega arith) h.0.1) [
+        elim (typed_back ST_FILE n h.0.0 (Data n (suc k)) (omega arith) h.0.1) [
           | inl f ↦ elim (member (k / POINTERS) h.1) [
             | inl m ↦ inl (Data n (suc k), ((h.0.0, f, h.0.2), m, h.2), (refl, refl, refl))
             | inr b ↦ inr b
@@ -120,7 +118,7 @@ module _ (image : List ℕ) where
         ]
       where
         member : (m : ℕ) → MemberAt image ((q, c) ∷ w) n m a → MemberAt image w n m a ⊎ Before q (Data n (suc k))
-        member zero x = file_back n a (Data n (suc k)) (omega arith) x
+        member zero x = typed_back ST_FILE n a (Data n (suc k)) (omega arith) x
         member (suc m) (inl e) = inr (subst (λ q. Before q (Data n (suc k))) (sym e.0) (omega arith))
         member (suc m) (inr x) = inl x
 
@@ -148,18 +146,14 @@ module _ (image : List ℕ) where
           ]
 
   -- headers stand in the order of their numbers
-  pub in_order : {w : List (Role × ℕ)} → IsWalk image w → (n p s i m q u j b c : ℕ) → Has w (Head n p s i) b → Has w (Head m q u j) c → n < m
-      → Before (Head n p s i) (Head m q u j)
-  in_order start n p s i m q u j b c (inl e) k l = let x : second Root ≡ second (Head n p s i) = ap second e.0 in absurd (omega arith)
-  in_order start n p s i m q u j b c (inr e) k l = absurd e
-  in_order (step {w = w} {r = r} {a = a} {i = i0} v d e g) n p s i m q u j b c (inl h) (inl k) l =
-      let x : n ≡ suc (heads w) = asks_number image w n p s i a i0 (subst (λ r. Asks image w r a i0) h.0 d.asked) in
-      let y : m ≡ suc (heads w) = asks_number image w m q u j a i0 (subst (λ r. Asks image w r a i0) k.0 d.asked) in
-      absurd (omega arith)
-  in_order (step {w = w} {r = r} {a = a} {i = i0} v d e g) n p s i m q u j b c (inl h) (inr k) l =
-      let x : n ≡ suc (heads w) = asks_number image w n p s i a i0 (subst (λ r. Asks image w r a i0) h.0 d.asked) in
-      let y : (1 ≤ m) × (m ≤ heads w) = number_of image v m q u j c k in
-      absurd (omega arith)
-  in_order (step {w = w} {r = r} {a = a} {i = i0} v d e g) n p s i m q u j b c (inr h) (inl k) l =
-      subst (λ r. Before (Head n p s i) r) k.0 (rises v r a i0 d (Head n p s i) b h)
-  in_order (step v d e g) n p s i m q u j b c (inr h) (inr k) l = in_order v n p s i m q u j b c h k l
+  pub in_order : {w : List (Role × ℕ)} {n m b c : ℕ} → IsWalk image w → (h : HeadAt w n b) (k : HeadAt w m c) → n < m → Before (head_role h) (head_role k)
+  in_order start h k l = absurd (no_head h)
+  in_order {n = n} {m = m} {b = b} (step {w = w} {r = r} {a = a} {i = i} v d e g) h k l = elim h.has [
+    | inl x ↦
+        let high : head_count r (heads w) ≡ suc (heads w) = ap (λ r. head_count r (heads w)) x.0 in
+        absurd (omega (arith, new_number image w h a i x.0 d.asked, number_of image (step v d e g) k))
+    | inr x ↦ elim k.has [
+      | inl y ↦ subst (λ r. Before (head_role h) r) y.0 (rises v r a i d (head_role h) b x)
+      | inr y ↦ in_order v (head_in h x) (head_in k y) l
+    ]
+  ]

@@ -7,12 +7,13 @@ use Rattle.adf_volume.specs.Walk.{Role, Has, IsWalk, IsWhole}
 use Rattle.adf_volume.specs.Walk.Role.{Root, Page, MapExt, Head, Ext, Data}
 use Rattle.adf_volume.specs.Made.{datas_in, entries_in, exts_in, layout_in, places_in, tree_in}
 use Rattle.adf_volume.specs.LayoutRoles.{LayoutHas, owner_of}
+use Rattle.adf_volume.proofs.Roles.{head_at}
 use Rattle.adf_volume.proofs.Walks.{root_is, root_in, numbered as numbers, one_role, ext_file}
 use Rattle.adf_volume.proofs.LayoutRoles.{owned_part, part_owned}
 use Rattle.adf_volume.proofs.Owners.{once_owned, blocks_once}
 use Rattle.adf_volume.proofs.MemberFacts.{kept}
 use Rattle.adf_volume.proofs.WalkMembers.{chains, entries_length, places_length, ext_has, has_ext, data_has, has_data, pages, map_exts}
-use Rattle.adf_volume.proofs.WholeWalks.{file_parts, head_is}
+use Rattle.adf_volume.proofs.WholeWalks.{head_is}
 use Rattle.adf_volume.proofs.Places.{exts_below, datas_below}
 
 module _ (image : List ℕ) (w : List (Role × ℕ)) (v : IsWalk image w) (whole : IsWhole image w) where
@@ -24,22 +25,22 @@ module _ (image : List ℕ) (w : List (Role × ℕ)) (v : IsWalk image w) (whole
   has_part Root b h = root_is image w b v h
   has_part (Page k) b h = (pages image v).to k b h
   has_part (MapExt k) b h = (map_exts image v).to k b h
-  has_part (Head n p s j) b h = ((chains image w v).to n p s j b h, (head_is image w v whole n p s j b h).0)
+  has_part (Head n p s j) b h = ((chains image w v).to n p s j b h, (head_is image w v whole (head_at n p s j b h)).0)
   has_part (Ext n zero) b h = kept image v (Ext n zero) b h
   has_part (Ext n (suc k)) b h =
       let f = ext_file image v n (suc k) b h in
-      subst (λ xs. At xs k b) (sym (file_parts image w v whole n f.0 f.1).1) (ext_has image v n k b h)
+      subst (λ xs. At xs k b) (sym (head_is image w v whole f.1.header).1) (ext_has image v n k b h)
   has_part (Data n zero) b h = kept image v (Data n zero) b h
   has_part (Data n (suc k)) b h =
       let f = kept image v (Data n (suc k)) b h in
-      subst (λ xs. At xs k b) (sym (file_parts image w v whole n f.0 f.1).2) (data_has image w v n k b h)
+      subst (λ xs. At xs k b) (sym (head_is image w v whole f.file.header).2) (data_has image w v n k b h)
 
   -- the blocks of a place are those of its file
   place_lists : (i : ℕ) → i < length (places_in w w) → (exts_at (places_in w w) i ≡ exts_in w (suc i)) × (datas_at (places_in w w) i ≡ datas_in w (suc i))
   place_lists i u =
       let l = places_length image w w in
       let x = numbers image v (suc i) (omega arith) (omega arith) in
-      let y = head_is image w v whole (suc i) x.0 x.1 x.2 x.3 x.4 in
+      let y = head_is image w v whole x.1 in
       (y.1, y.2)
 
   -- each part is in the walk
@@ -49,7 +50,7 @@ module _ (image : List ℕ) (w : List (Role × ℕ)) (v : IsWalk image w) (whole
   part_has (MapExt k) b h = (map_exts image v).from k b h
   part_has (Head n p s j) b h =
       let x = (chains image w v).from n p s j h.0 in
-      subst (Has w (Head n p s j)) (sym (head_is image w v whole n p s j x.0 x.1).0 ∙ h.1) x.1
+      subst (Has w (Head n p s j)) (sym (head_is image w v whole (head_at n p s j x.0 x.1)).0 ∙ h.1) x.1
   part_has (Ext n zero) b h = absurd h
   part_has (Ext zero (suc k)) b h = absurd h
   part_has (Ext (suc i) (suc k)) b h =

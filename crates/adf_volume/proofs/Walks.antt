@@ -4,11 +4,11 @@ use native.Mathlib.Decide.{dec_lt}
 use Rattle.adf_blocks.specs.declared.layout.TheConstants.{FIRST_PAGE, MAP_EXT_PAGES, ROOT_PAGES}
 use Rattle.adf_blocks.specs.Sizes.{blocks, pages_needed}
 use Rattle.adf_volume.specs.Image.{root_of}
-use Rattle.adf_volume.specs.Walk.{Role, second, Has, heads, NodeAt, FileAt, MemberAt, Asks, Same, IsDue, IsWalk, IsWhole, Before}
+use Rattle.adf_volume.specs.Walk.{Role, second, Has, heads, HeadAt, NodeAt, FileAt, MemberAt, Asks, Same, IsDue, IsWalk, IsWhole, Before}
 use Rattle.adf_volume.specs.Walk.{ext_count, member_block, node_block}
 use Rattle.adf_volume.specs.Walk.Role.{Root, Page, MapExt, Head, Ext}
 use Rattle.adf_volume.specs.Walk.IsWalk.{start, step}
-use Rattle.adf_volume.proofs.Roles.{dec_has, has_role, head_key}
+use Rattle.adf_volume.proofs.Roles.{dec_has, has_role, head_key, head_role}
 use Rattle.adf_volume.proofs.Gathered as gathered
 use Rattle.adf_volume.proofs.Gathered.{IsGathered}
 use Rattle.adf_volume.proofs.Gathered.IsGathered.{start as gathered_start, step as gathered_step}
@@ -35,17 +35,16 @@ module _ (image : List ℕ) where
   pub root_in : {w : List (Role × ℕ)} → IsWalk image w → Has w Root (root_of image)
   root_in v = gathered.root_in image (of_walk v)
 
-  pub number_of : {w : List (Role × ℕ)} → IsWalk image w → (n p s j b : ℕ) → Has w (Head n p s j) b → (1 ≤ n) × (n ≤ heads w)
+  pub number_of : {w : List (Role × ℕ)} {n b : ℕ} → IsWalk image w → HeadAt w n b → (1 ≤ n) × (n ≤ heads w)
   number_of v = gathered.number_of image (of_walk v)
 
-  pub numbered : {w : List (Role × ℕ)} → IsWalk image w → (n : ℕ) → 1 ≤ n → n ≤ heads w → (p s j b : ℕ) × Has w (Head n p s j) b
+  pub numbered : {w : List (Role × ℕ)} → IsWalk image w → (n : ℕ) → 1 ≤ n → n ≤ heads w → (b : ℕ) × HeadAt w n b
   numbered v = gathered.numbered image (of_walk v)
 
   pub one_block : {w : List (Role × ℕ)} → IsWalk image w → (r q : Role) (b c : ℕ) → Has w r b → Has w q c → Same r q → (r ≡ q) × (b ≡ c)
   one_block v = gathered.one_block image (of_walk v)
 
-  pub one_head : {w : List (Role × ℕ)} → IsWalk image w → (n p s j b p' s' j' b' : ℕ) → Has w (Head n p s j) b → Has w (Head n p' s' j') b'
-      → (Head n p s j ≡ Head n p' s' j') × (b ≡ b')
+  pub one_head : {w : List (Role × ℕ)} {n b c : ℕ} → IsWalk image w → (h : HeadAt w n b) (k : HeadAt w n c) → (head_role h ≡ head_role k) × (b ≡ c)
   one_head v = gathered.one_head image (of_walk v)
 
   pub one_node : {w : List (Role × ℕ)} → IsWalk image w → (p a b : ℕ) → NodeAt w p a → NodeAt w p b → a ≡ b
@@ -75,7 +74,7 @@ module _ (image : List ℕ) where
   member_is w n m a v = gathered.member_is image (of_walk v) n m a
 
   pub file_is : (w : List (Role × ℕ)) (n a : ℕ) → IsWalk image w → FileAt image w n a → node_block w n ≡ a
-  file_is w n a v h = gathered.head_block image (of_walk v) n h.0.0 h.0.1 h.0.2 a h.0.3
+  file_is w n a v h = gathered.head_block image (of_walk v) h.header
 
 -- what is asked for and comes before what is due is there
 pub is_there : (image : List ℕ) (w : List (Role × ℕ)) (q r : Role) (a i c k : ℕ) → IsDue image w r a i → Asks image w q c k → Before q r → second q < 2

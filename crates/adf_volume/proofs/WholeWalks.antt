@@ -17,17 +17,18 @@ use Rattle.adf_volume.specs.Layout.{EntryAt, nodes_from, chain_nodes, at_node, e
 use Rattle.adf_volume.proofs.TreeOrder.{Ordered, DirNode}
 use Rattle.adf_tree.specs.declared.entry.Body.TheVariants.{Dir, File}
 use Rattle.adf_volume.specs.Fits.{EntryFits, FileFits, BodyFits, TableAt}
-use Rattle.adf_volume.specs.Walk.{Role, Before, Has, heads, NodeAt, DirAt, FileAt, MemberAt, NamesPage, data_count, ext_count, IsWalk, IsWhole}
+use Rattle.adf_volume.specs.Walk.{Role, Before, Has, heads, HeadAt, DirAt, FileAt, MemberAt, NamesPage, data_count, ext_count, IsWalk, IsWhole}
 use Rattle.adf_volume.specs.Walk.Role.{Page, MapExt, Head, Ext, Data}
 use Rattle.adf_volume.specs.Made.{pages_in, map_exts_in, exts_in, datas_in, body_in, entry_in, place_in, entries_in, places_in, tree_in, layout_in}
 use Rattle.adf_volume.proofs.FormDemands.{head_type, dir_not_file}
 use Rattle.adf_volume.proofs.Images.{content_length, map_exts_high, map_exts_low}
 use Rattle.adf_volume.proofs.Lists.{at_fun, at_below, at_some, at_unmap, spelled_from, no_length, at_index, index_past}
 use Rattle.adf_volume.proofs.Gathered.{file_one}
-use Rattle.adf_volume.proofs.Walks.{of_walk, root_is, root_in, number_of, one_head, one_block, ext_file, asked_block, asked_header, page_word}
+use Rattle.adf_volume.proofs.Walks.{of_walk, root_is, root_in, number_of, numbered, one_head, one_block, ext_file, asked_block, asked_header, page_word}
 use Rattle.adf_volume.proofs.WalkOrder.{parent_below, in_order}
 use Rattle.adf_volume.proofs.MemberFacts.{kept, there, IsNext, new_names, in_range, map_ext_low}
-use Rattle.adf_volume.proofs.WalkMembers.{entry_has, place_has, has_entry, exts_length, ext_has, has_ext, data_has, has_data, pages}
+use Rattle.adf_volume.proofs.Roles.{head_at, head_role}
+use Rattle.adf_volume.proofs.WalkMembers.{entries_length, entry_has, place_has, exts_length, ext_has, has_ext, data_has, has_data, pages}
 use Rattle.adf_volume.proofs.WalkMembers.{map_exts, slot_is, chains}
 use Rattle.adf_volume.proofs.Places.{place_parts}
 use Rattle.std.proofs.lemmas.List.{length-map}
@@ -62,61 +63,65 @@ all_map_exts image w whole (suc j) lt =
     let x = all_map_exts image w whole j (omega arith) in
     asked_block image w whole (MapExt (suc j)) x.0 MAP_EXT_NEXT (lt, x.1, refl) (omega arith)
 
-module _ (image : List ℕ) (w : List (Role × ℕ)) (v : IsWalk image w) (whole : IsWhole image w) where
-  pub head_is : (n p s j b : ℕ) → Has w (Head n p s j) b
-      → (at_node image (layout_in w) n ≡ b) × (exts_of (layout_in w) n ≡ exts_in w n) × (datas_of (layout_in w) n ≡ datas_in w n)
-  head_is zero p s j b h = let u : (1 ≤ 0) × (0 ≤ heads w) = number_of image v 0 p s j b h in absurd (omega arith)
-  head_is (suc i) p s j b h = place_parts (places_in w w) i (place_in w (suc i) b) (place_has image w v i p s j b h)
+-- the header of which entry n is made
+pub record HeadOf (image : List ℕ) (w : List (Role × ℕ)) (n : ℕ) (e : Entry) : Type 0 where
+  pub block : ℕ
+  pub header : HeadAt w n block
+  pub entry : e ≡ entry_in image w n header.parent block
 
-  node_at : (p a : ℕ) → NodeAt w p a → at_node image (layout_in w) p ≡ a
-  node_at zero a h = root_is image w a v h
-  node_at (suc i) a h = (head_is (suc i) h.0 h.1 h.2 a h.3).0
+module _ (image : List ℕ) (w : List (Role × ℕ)) (v : IsWalk image w) (whole : IsWhole image w) where
+  pub head_is : {n b : ℕ} → HeadAt w n b
+      → (at_node image (layout_in w) n ≡ b) × (exts_of (layout_in w) n ≡ exts_in w n) × (datas_of (layout_in w) n ≡ datas_in w n)
+  head_is {n = zero} h = let u : (1 ≤ 0) × (0 ≤ heads w) = number_of image v h in absurd (omega arith)
+  head_is {n = suc i} {b = b} h = place_parts (places_in w w) i (place_in w (suc i) b) (place_has image w v h)
 
   dir_at : (p a : ℕ) → DirAt image w p a → at_node image (layout_in w) p ≡ a
   dir_at zero a h = root_is image w a v h
-  dir_at (suc i) a h = node_at (suc i) a h.0
+  dir_at (suc i) a h = (head_is h.header).0
 
-  pub entry_is : (n : ℕ) (e : Entry) → EntryAt (tree_in image w) n e → (p s j b : ℕ) × Has w (Head n p s j) b × (e ≡ entry_in image w n p b)
+  pub entry_is : (n : ℕ) (e : Entry) → EntryAt (tree_in image w) n e → HeadOf image w n e
   entry_is zero e h = absurd h
-  entry_is (suc i) e h = has_entry image w w v i e h
+  entry_is (suc i) e h =
+      let lt = at_below (entries_in image w w) i e h in
+      let k = numbered image v (suc i) (omega arith) (omega (arith, lt, entries_length image w w)) in
+      let same = at_fun (entries_in image w w) i e (entry_in image w (suc i) k.1.parent k.0) h (entry_has image w v k.1) in
+      record { block = k.0; header = k.1; entry = same }
 
   -- a directory of the walk is one of the tree
   dir_is : (p c : ℕ) → DirAt image w p c → DirNode (tree_in image w) p
   dir_is zero c h = tt
-  dir_is (suc i) c h =
-      let k = h.0 in (
-        entry_in image w (suc i) k.0 c,
-        entry_has image w v i k.0 k.1 k.2 c k.3,
-        ap (λ x. cond x Dir (File (content image (kind_of image) c (datas_in w (suc i))))) (eq-eqb (word_in image c SECONDARY_TYPE) ST_DIR h.1),
-      )
+  dir_is (suc i) c h = (
+    entry_in image w (suc i) h.header.parent c,
+    entry_has image w v h.header,
+    ap (λ x. cond x Dir (File (content image (kind_of image) c (datas_in w (suc i))))) (eq-eqb (word_in image c SECONDARY_TYPE) ST_DIR h.type),
+  )
 
   pub is_tree : Ordered (tree_in image w)
   is_tree = record {
     parents = (λ n e h.
         let x = entry_is n e h in
-        let k = kept image v (Head n x.0 x.1 x.2) x.3 x.4 in
-        let z : x.0 ≡ e.parent = ap (λ (y : Entry). y.parent) (sym x.5) in
-        subst (λ p. (p < n) × DirNode (tree_in image w) p) z (parent_below image v n x.0 x.1 x.2 x.3 x.4, dir_is x.0 k.2.0 k.2.1));
+        let k = kept image v (head_role x.header) x.block x.header.has in
+        let z : x.header.parent ≡ e.parent = ap (λ (y : Entry). y.parent) (sym x.entry) in
+        subst (λ p. (p < n) × DirNode (tree_in image w) p) z (parent_below image v x.header, dir_is x.header.parent k.2.0 k.2.1));
     order = (λ n m e f h k l.
         let x = entry_is n e h in
         let y = entry_is m f k in
-        let o : Before (Head n x.0 x.1 x.2) (Head m y.0 y.1 y.2) = in_order image v n x.0 x.1 x.2 m y.0 y.1 y.2 x.3 y.3 x.4 y.4 l in
-        let p1 : e.parent ≡ x.0 = ap (λ (z : Entry). z.parent) x.5 in
-        let p2 : f.parent ≡ y.0 = ap (λ (z : Entry). z.parent) y.5 in
-        let s1 : slot_of e.name ≡ x.1 = ap (λ (z : Entry). slot_of z.name) x.5 ∙ slot_is image w v n x.0 x.1 x.2 x.3 x.4 in
-        let s2 : slot_of f.name ≡ y.1 = ap (λ (z : Entry). slot_of z.name) y.5 ∙ slot_is image w v m y.0 y.1 y.2 y.3 y.4 in
-        let o0 : suc x.0 ≤ suc y.0 = o.0 in
-        (omega arith, (λ z. let o1 : suc (suc x.1) ≤ suc (suc y.1) = o.1 (omega arith) in omega arith)));
+        let o : Before (head_role x.header) (head_role y.header) = in_order image v x.header y.header l in
+        let p1 : e.parent ≡ x.header.parent = ap (λ (z : Entry). z.parent) x.entry in
+        let p2 : f.parent ≡ y.header.parent = ap (λ (z : Entry). z.parent) y.entry in
+        let s1 : slot_of e.name ≡ x.header.slot = ap (λ (z : Entry). slot_of z.name) x.entry ∙ slot_is image v x.header in
+        let s2 : slot_of f.name ≡ y.header.slot = ap (λ (z : Entry). slot_of z.name) y.entry ∙ slot_is image v y.header in
+        (omega (arith, o.0), (λ z. omega (arith, o.1 (omega (arith, o.0))))));
     names = (λ n m e f h k ne z u.
         let x = entry_is n e h in
         let y = entry_is m f k in
-        let p1 : x.0 ≡ y.0 = sym (ap (λ (z : Entry). z.parent) x.5) ∙ z ∙ ap (λ (z : Entry). z.parent) y.5 in
-        let nm : uppers (name_of image x.3) ≡ uppers (name_of image y.3) =
-        sym (ap (λ (z : Entry). uppers z.name) x.5) ∙ u ∙ ap (λ (z : Entry). uppers z.name) y.5 in
-        let s1 : x.1 ≡ y.1 = sym (slot_is image w v n x.0 x.1 x.2 x.3 x.4) ∙ same_slot (name_of image x.3) (name_of image y.3) nm
-        ∙ slot_is image w v m y.0 y.1 y.2 y.3 y.4 in
-        let y4 : Has w (Head m x.0 x.1 y.2) y.3 = rw (p1, s1) y.4 in
-        new_names image v n m x.0 x.1 x.2 y.2 x.3 y.3 x.4 y4 ne nm);
+        let p1 : x.header.parent ≡ y.header.parent = sym (ap (λ (z : Entry). z.parent) x.entry) ∙ z ∙ ap (λ (z : Entry). z.parent) y.entry in
+        let nm : uppers (name_of image x.block) ≡ uppers (name_of image y.block) =
+        sym (ap (λ (z : Entry). uppers z.name) x.entry) ∙ u ∙ ap (λ (z : Entry). uppers z.name) y.entry in
+        let s1 : x.header.slot ≡ y.header.slot =
+        sym (slot_is image v x.header) ∙ same_slot (name_of image x.block) (name_of image y.block) nm ∙ slot_is image v y.header in
+        let has : Has w (Head m x.header.parent x.header.slot y.header.place) y.block = rw (p1, s1) y.header.has in
+        new_names image v n m x.header.parent x.header.slot x.header.place y.header.place x.block y.block x.header.has has ne nm);
   }
 
   pub pages_length : length (pages_in w) ≡ pages_needed (blocks image)
@@ -170,13 +175,13 @@ module _ (image : List ℕ) (w : List (Role × ℕ)) (v : IsWalk image w) (whole
   is_dir_at : (p : ℕ) → DirNode (tree_in image w) p → DirAt image w p (at_node image (layout_in w) p)
   is_dir_at zero d = root_in image v
   is_dir_at (suc i) d =
-      let x = has_entry image w w v i d.0 d.1 in
-      let b : ℕ = x.3 in
-      let z : body_in image w (suc i) b ≡ Dir = ap (λ (y : Entry). y.body) (sym x.5) ∙ d.2 in
+      let x = entry_is (suc i) d.0 d.1 in
+      let b : ℕ = x.block in
+      let z : body_in image w (suc i) b ≡ Dir = ap (λ (y : Entry). y.body) (sym x.entry) ∙ d.2 in
       let y : word_in image b SECONDARY_TYPE ≡ ST_DIR =
       eqb-true (word_in image b SECONDARY_TYPE) ST_DIR (body_dir image w (suc i) b (word_in image b SECONDARY_TYPE == ST_DIR) z) in
-      let e : b ≡ at_node image (layout_in w) (suc i) = sym (head_is (suc i) x.0 x.1 x.2 b x.4).0 in
-      subst (DirAt image w (suc i)) e ((x.0, x.1, x.2, x.4), y)
+      let e : b ≡ at_node image (layout_in w) (suc i) = sym (head_is x.header).0 in
+      subst (DirAt image w (suc i)) e (record { header = x.header; type = y })
 
   -- the chains are spelled
   pub chains_spelled : (p s : ℕ) → DirNode (tree_in image w) p → s < SLOTS →
@@ -191,7 +196,7 @@ module _ (image : List ℕ) (w : List (Role × ℕ)) (v : IsWalk image w) (whole
       let u = at_unmap (at_node image (layout_in w)) c 0 b h in
       let x = (chains image w v).from u.0 p s 0 u.1 in
       let k = (kept image v (Head u.0 p s 0) x.0 x.1).1 in
-      ap (λ a. word_in image a (FIRST_SLOT + s)) (dir_at p k.0 k.1) ∙ k.2 ∙ sym (head_is u.0 p s 0 x.0 x.1).0 ∙ u.2)
+      ap (λ a. word_in image a (FIRST_SLOT + s)) (dir_at p k.0 k.1) ∙ k.2 ∙ sym (head_is (head_at u.0 p s 0 x.0 x.1)).0 ∙ u.2)
       (λ h.
       let none : 0 < word_in image a (FIRST_SLOT + s) → ⊥ = (λ some.
       let x = asked_header image w whole (suc (heads w)) p s 0 a (FIRST_SLOT + s) (refl, lt, da, refl, (λ z. omega arith)) in
@@ -205,12 +210,12 @@ module _ (image : List ℕ) (w : List (Role × ℕ)) (v : IsWalk image w) (whole
       let x2 = (chains image w v).from u2.0 p s (suc j) u2.1 in
       let k = (kept image v (Head u2.0 p s (suc j)) x2.0 x2.1).1 in
       let z : k.1 ≡ x.0 = (one_block image v (Head k.0 p s j) (Head u.0 p s j) k.1 x.0 k.2 x.1 (refl, refl, refl)).1 in
-      let y : b ≡ k.1 = sym u.2 ∙ (head_is u.0 p s j x.0 x.1).0 ∙ sym z in
-      ap (λ b. word_in image b NEXT_IN_CHAIN) y ∙ k.3 ∙ sym (head_is u2.0 p s (suc j) x2.0 x2.1).0 ∙ u2.2)
+      let y : b ≡ k.1 = sym u.2 ∙ (head_is (head_at u.0 p s j x.0 x.1)).0 ∙ sym z in
+      ap (λ b. word_in image b NEXT_IN_CHAIN) y ∙ k.3 ∙ sym (head_is (head_at u2.0 p s (suc j) x2.0 x2.1)).0 ∙ u2.2)
       (λ j b h e.
       let u = at_unmap (at_node image (layout_in w)) c j b h in
       let x = (chains image w v).from u.0 p s j u.1 in
-      let y : x.0 ≡ b = sym (head_is u.0 p s j x.0 x.1).0 ∙ u.2 in
+      let y : x.0 ≡ b = sym (head_is (head_at u.0 p s j x.0 x.1)).0 ∙ u.2 in
       let none : 0 < word_in image b NEXT_IN_CHAIN → ⊥ = (λ some.
       let x' : Has w (Head u.0 p s j) b = subst (Has w (Head u.0 p s j)) y x.1 in
       let q = asked_header image w whole (suc (heads w)) p s (suc j) b NEXT_IN_CHAIN (refl, (u.0, x'), refl, (λ z. omega arith)) in
@@ -220,24 +225,21 @@ module _ (image : List ℕ) (w : List (Role × ℕ)) (v : IsWalk image w) (whole
 
   -- a file of the tree is one of the walk
   pub file_at : (n : ℕ) (e : Entry) (bytes : List ℕ) → EntryAt (tree_in image w) n e → e.body ≡ File bytes
-      → (h : ℕ) × FileAt image w n h × (bytes ≡ content image (kind_of image) h (datas_in w n)) × (at_node image (layout_in w) n ≡ h)
+      → (h : ℕ) × FileAt image w n h × (bytes ≡ content image (kind_of image) h (datas_in w n))
   file_at n e bytes h f =
       let x = entry_is n e h in
-      let z : body_in image w n x.3 ≡ File bytes = ap (λ (y : Entry). y.body) (sym x.5) ∙ f in
-      let y = body_file image w n x.3 bytes (word_in image x.3 SECONDARY_TYPE == ST_DIR) z in
-      let k = kept image v (Head n x.0 x.1 x.2) x.3 x.4 in
-      (x.3, ((x.0, x.1, x.2, x.4), head_kind image x.3 k.2.0 x.1 k.2.2 y.0), y.1, (head_is n x.0 x.1 x.2 x.3 x.4).0)
-
-  pub file_parts : (n h : ℕ) → FileAt image w n h
-      → (at_node image (layout_in w) n ≡ h) × (exts_of (layout_in w) n ≡ exts_in w n) × (datas_of (layout_in w) n ≡ datas_in w n)
-  file_parts n h f = head_is n f.0.0 f.0.1 f.0.2 h f.0.3
+      let b : ℕ = x.block in
+      let z : body_in image w n b ≡ File bytes = ap (λ (y : Entry). y.body) (sym x.entry) ∙ f in
+      let y = body_file image w n b bytes (word_in image b SECONDARY_TYPE == ST_DIR) z in
+      let k = kept image v (head_role x.header) b x.header.has in
+      (b, record { header = x.header; type = head_kind image b k.2.0 x.header.slot k.2.2 y.0 }, y.1)
 
   enough_now : (n h : ℕ) → FileAt image w n h → data_count image h ≤ POINTERS * suc (ext_count w n)
   enough_now n h f =
       let few : POINTERS * suc (ext_count w n) < data_count image h → ⊥ = (λ u.
       let x = asked_block image w whole (Data n 1) h (table_word 0) ((h, f, omega arith), f, refl) (omega arith) in
       let k = kept image v (Data n 1) x.0 x.1 in
-      let y = subst (λ h. data_count image h ≤ POINTERS * suc (ext_count w n)) (file_one image (of_walk image v) n k.0 h k.1 f) k.3 in
+      let y = subst (λ h. data_count image h ≤ POINTERS * suc (ext_count w n)) (file_one image (of_walk image v) n k.head h k.file f) k.enough in
       omega arith) in
       omega arith
 
@@ -253,7 +255,7 @@ module _ (image : List ℕ) (w : List (Role × ℕ)) (v : IsWalk image w) (whole
       let few : data_count image h < m → ⊥ = (λ l.
       let x = at_some (datas_in w n) (data_count image h) l in
       let k = kept image v (Data n (suc (data_count image h))) x.0 (has_data image w v n (data_count image h) x.0 x.1) in
-      let y = subst (λ g. data_count image h < data_count image g) (file_one image (of_walk image v) n k.0 h k.1 f) k.2 in
+      let y = subst (λ g. data_count image h < data_count image g) (file_one image (of_walk image v) n k.head h k.file f) k.asked in
       omega arith) in
       omega arith
 
@@ -282,18 +284,18 @@ module _ (image : List ℕ) (w : List (Role × ℕ)) (v : IsWalk image w) (whole
 
   -- a member of the table is one member
   table_is : (n h m a c : ℕ) → FileAt image w n h → TableAt image (layout_in w) n m a → MemberAt image w n m c → a ≡ c
-  table_is n h zero a c f x y = sym x ∙ (file_parts n c y).0
-  table_is n h (suc m) a c f x y = at_fun (exts_in w n) m a c (subst (λ xs. At xs m a) (file_parts n h f).1 x) (ext_has image v n m c y)
+  table_is n h zero a c f x y = sym x ∙ (head_is y.header).0
+  table_is n h (suc m) a c f x y = at_fun (exts_in w n) m a c (subst (λ xs. At xs m a) (head_is f.header).1 x) (ext_has image v n m c y)
 
   data_named : (n h k b a : ℕ) → FileAt image w n h → At (datas_in w n) k b → TableAt image (layout_in w) n (k / POINTERS) a
       → word_in image a (table_word k) ≡ b
   data_named n h k b a f x y =
-      let z = (kept image v (Data n (suc k)) b (has_data image w v n k b x)).4 in
+      let z = (kept image v (Data n (suc k)) b (has_data image w v n k b x)).named in
       ap (λ a. word_in image a (table_word k)) (table_is n h (k / POINTERS) a z.0 f y z.1) ∙ z.2
 
   table_of : (n h m c : ℕ) → FileAt image w n h → MemberAt image w n m c → TableAt image (layout_in w) n m c
-  table_of n h zero c f y = (file_parts n c y).0
-  table_of n h (suc m) c f y = subst (λ xs. At xs m c) (sym (file_parts n h f).1) (ext_has image v n m c y)
+  table_of n h zero c f y = (head_is y.header).0
+  table_of n h (suc m) c f y = subst (λ xs. At xs m c) (sym (head_is f.header).1) (ext_has image v n m c y)
 
   data_next : (n h k x : ℕ) → FileAt image w n h → IsNext image w n k h x → x ≡ slice_index (datas_in w n) k
   data_next n h k x f y =
@@ -310,14 +312,15 @@ module _ (image : List ℕ) (w : List (Role × ℕ)) (v : IsWalk image w) (whole
       → AllHold (data_demands image (kind_of image) b h (suc k) (held (kind_of image) (word_in image h SIZE) (suc k)) (slice_index (datas_in w n) (suc k)))
   data_formed n h k b f x =
       let y = kept image v (Data n (suc k)) b (has_data image w v n k b x) in
-      let z : y.0 ≡ h = file_one image (of_walk image v) n y.0 h y.1 f in
-      let e : y.5.0 ≡ slice_index (datas_in w n) (suc k) = data_next n h (suc k) y.5.0 f (subst (λ h. IsNext image w n (suc k) h y.5.0) z y.5.1) in
-      rw (← e, ← z) y.5.2
+      let z : y.head ≡ h = file_one image (of_walk image v) n y.head h y.file f in
+      let next : ℕ = y.form.0 in
+      let e : next ≡ slice_index (datas_in w n) (suc k) = data_next n h (suc k) next f (subst (λ h. IsNext image w n (suc k) h next) z y.form.1) in
+      rw (← e, ← z) y.form.2
 
   pub file_fits : (n h : ℕ) (bytes : List ℕ) → FileAt image w n h → length bytes ≡ word_in image h SIZE
       → FileFits image (tree_in image w) (layout_in w) n h bytes
   file_fits n h bytes f z =
-      let fp = file_parts n h f in
+      let fp = head_is f.header in
       let ex : exts_of (layout_in w) n ≡ exts_in w n = fp.1 in
       let da : datas_of (layout_in w) n ≡ datas_in w n = fp.2 in
       let ct : count (kind_of image) (length bytes) ≡ data_count image h = ap (count (kind_of image)) z in
@@ -344,41 +347,40 @@ module _ (image : List ℕ) (w : List (Role × ℕ)) (v : IsWalk image w) (whole
         (λ k b x. (in_range image v (size_low (blocks image) boots.0.1) (Data n (suc k)) b (has_data image w v n k b x)).1)
         (datas_length n h f)
 
-    body_fits : (n p s j b c : ℕ) → Has w (Head n p s j) b → AllHold (head_demands image (kind_of image) b c s) → (x : Bool)
+    body_fits : (n b c : ℕ) (h : HeadAt w n b) → AllHold (head_demands image (kind_of image) b c h.slot) → (x : Bool)
         → (word_in image b SECONDARY_TYPE == ST_DIR) ≡ x
         → BodyFits image (kind_of image) (layout_in w) n b (cond x Dir (File (content image (kind_of image) b (datas_in w n))))
-    body_fits n p s j b c h k true z =
+    body_fits n b c h k true z =
         let d : word_in image b SECONDARY_TYPE ≡ ST_DIR = eqb-true (word_in image b SECONDARY_TYPE) ST_DIR z in
-        let hp = head_is n p s j b h in
+        let hp = head_is h in
         let no_file : (a : ℕ) → FileAt image w n a → ⊥ =
-        (λ a f. let e : a ≡ b =
-        (one_head image v n f.0.0 f.0.1 f.0.2 a p s j b f.0.3 h).1 in dir_not_file image b d (subst (λ a. word_in image a SECONDARY_TYPE ≡ ST_FILE) e f.1)) in (
+        (λ a f. dir_not_file image b d (subst (λ a. word_in image a SECONDARY_TYPE ≡ ST_FILE) (one_head image v f.header h).1 f.type)) in (
           d,
           hp.1 ∙ no_length (exts_in w n) (let none : 0 < length (exts_in w n) → ⊥ = (λ u.
               let x = at_some (exts_in w n) 0 u in
               let f = ext_file image v n 1 x.0 (has_ext image w v n 0 x.0 x.1) in no_file f.0 f.1) in omega arith),
           hp.2 ∙ no_length (datas_in w n) (let none : 0 < length (datas_in w n) → ⊥ = (λ u.
               let x = at_some (datas_in w n) 0 u in
-              let f = kept image v (Data n 1) x.0 (has_data image w v n 0 x.0 x.1) in no_file f.0 f.1) in omega arith),
+              let f = kept image v (Data n 1) x.0 (has_data image w v n 0 x.0 x.1) in no_file f.head f.file) in omega arith),
         )
-    body_fits n p s j b c h k false z =
-        let f : FileAt image w n b = ((p, s, j, h), head_kind image b c s k z) in
-        let hp = head_is n p s j b h in
-        (f.1, ap (content image (kind_of image) b) (sym hp.2), content_long n b f)
+    body_fits n b c h k false z =
+        let f : FileAt image w n b = record { header = h; type = head_kind image b c h.slot k z } in
+        let hp = head_is h in
+        (f.type, ap (content image (kind_of image) b) (sym hp.2), content_long n b f)
 
     pub entry_fits : (n : ℕ) (e : Entry) → EntryAt (tree_in image w) n e → EntryFits image (tree_in image w) (layout_in w) n (at_node image (layout_in w) n) e
     entry_fits n e h =
         let x = entry_is n e h in
-        let b : ℕ = x.3 in
-        let k = kept image v (Head n x.0 x.1 x.2) b x.4 in
-        let hb : at_node image (layout_in w) n ≡ b = (head_is n x.0 x.1 x.2 b x.4).0 in
-        let pb : at_node image (layout_in w) x.0 ≡ k.2.0 = dir_at x.0 k.2.0 k.2.1 in
-        let sl : slot_of (name_of image b) ≡ x.1 = slot_is image w v n x.0 x.1 x.2 b x.4 in
-        subst (λ e. EntryFits image (tree_in image w) (layout_in w) n (at_node image (layout_in w) n) e) (sym x.5)
-        (subst (λ h. EntryFits image (tree_in image w) (layout_in w) n h (entry_in image w n x.0 b)) (sym hb)
+        let b : ℕ = x.block in
+        let k = kept image v (head_role x.header) b x.header.has in
+        let hb : at_node image (layout_in w) n ≡ b = (head_is x.header).0 in
+        let pb : at_node image (layout_in w) x.header.parent ≡ k.2.0 = dir_at x.header.parent k.2.0 k.2.1 in
+        let sl : slot_of (name_of image b) ≡ x.header.slot = slot_is image v x.header in
+        subst (λ e. EntryFits image (tree_in image w) (layout_in w) n (at_node image (layout_in w) n) e) (sym x.entry)
+        (subst (λ h. EntryFits image (tree_in image w) (layout_in w) n h (entry_in image w n x.header.parent b)) (sym hb)
         (record {
           form = rw (pb, sl) k.2.2;
           name = refl;
           meta = refl;
-          body = body_fits n x.0 x.1 x.2 b k.2.0 x.4 k.2.2 (word_in image b SECONDARY_TYPE == ST_DIR) refl;
+          body = body_fits n b k.2.0 x.header k.2.2 (word_in image b SECONDARY_TYPE == ST_DIR) refl;
         }))

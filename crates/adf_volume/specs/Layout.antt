@@ -25,8 +25,11 @@ abbrev pub chain_nodes : Tree → ℕ → ℕ → List ℕ
 chain_nodes t p s = nodes_from 1 t.entries p s
 
 -- entry n is a file
-abbrev pub IsFile : Tree → ℕ → Type 0
-IsFile t n = (e : Entry) × (bytes : List ℕ) × EntryAt t n e × (e.body ≡ File bytes)
+pub record IsFile (t : Tree) (n : ℕ) : Type 0 where
+  pub entry : Entry
+  pub bytes : List ℕ
+  pub at : EntryAt t n entry
+  pub body : entry.body ≡ File bytes
 
 -- where an entry lies: its header, its extension blocks and its data blocks
 pub record Place : Type 0 where

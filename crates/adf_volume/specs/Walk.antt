@@ -73,19 +73,31 @@ abbrev pub heads : List (Role × ℕ) → ℕ
 heads [] = 0
 heads (x ∷ w) = head_count x.0 (heads w)
 
+-- node n has its header at block a: that of the directory, the slot and the place in its chain
+pub record HeadAt (w : List (Role × ℕ)) (n a : ℕ) : Type 0 where
+  pub parent : ℕ
+  pub slot : ℕ
+  pub place : ℕ
+  pub has : Has w (Head n parent slot place) a
+
+-- node n has its header at block a, and its secondary type is t
+pub record TypedAt (image : List ℕ) (w : List (Role × ℕ)) (t n a : ℕ) : Type 0 where
+  pub header : HeadAt w n a
+  pub type : word_in image a SECONDARY_TYPE ≡ t
+
 -- node n has its block at a
 abbrev pub NodeAt : List (Role × ℕ) → ℕ → ℕ → Type 0
 NodeAt w zero a = Has w Root a
-NodeAt w (suc i) a = (p s j : ℕ) × Has w (Head (suc i) p s j) a
+NodeAt w (suc i) a = HeadAt w (suc i) a
 
 -- directory p has its block at a
 abbrev pub DirAt : List ℕ → List (Role × ℕ) → ℕ → ℕ → Type 0
 DirAt image w zero a = Has w Root a
-DirAt image w (suc i) a = NodeAt w (suc i) a × (word_in image a SECONDARY_TYPE ≡ ST_DIR)
+DirAt image w (suc i) a = TypedAt image w ST_DIR (suc i) a
 
 -- file n has its header at block a
 abbrev pub FileAt : List ℕ → List (Role × ℕ) → ℕ → ℕ → Type 0
-FileAt image w n a = ((p s j : ℕ) × Has w (Head n p s j) a) × (word_in image a SECONDARY_TYPE ≡ ST_FILE)
+FileAt image w n a = TypedAt image w ST_FILE n a
 
 -- member m of the header of n followed by its extension blocks
 abbrev pub MemberAt : List ℕ → List (Role × ℕ) → ℕ → ℕ → ℕ → Type 0
