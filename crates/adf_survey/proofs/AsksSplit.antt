@@ -4,10 +4,10 @@ use Rattle.adf_blocks.specs.declared.layout.TheConstants.{EXTENSION, FIRST_SLOT,
 use Rattle.adf_blocks.specs.declared.layout.TheConstants.{SLOTS}
 use Rattle.adf_blocks.specs.Sizes.{blocks, pages_needed}
 use Rattle.adf_volume.specs.Image.{word_in, table_word}
-use Rattle.adf_volume.specs.Walk.{Role, second, Has, DirAt, FileAt, MemberAt, NamesPage, Asks, heads, data_count, node_block}
+use Rattle.adf_volume.specs.Walk.{Role, second, Has, HeadAt, DirAt, FileAt, MemberAt, NamesPage, Asks, heads, data_count, node_block}
 use Rattle.adf_volume.specs.Walk.Role.{Root, Page, MapExt, Head, Ext, Data}
-use Rattle.adf_volume.proofs.Roles.{renumbered}
-use Rattle.adf_volume.proofs.Gathered.{IsGathered, ext_file, head_block, number_of}
+use Rattle.adf_volume.proofs.Roles.{dir_up, head_role, member_up, renumbered, typed_cases, typed_up}
+use Rattle.adf_volume.proofs.Gathered.{IsGathered, ext_file, head_block, none_next as no_next}
 use Rattle.adf_survey.specs.declared.part.Key.{Key}
 use Rattle.adf_survey.specs.Parts.{key_of}
 use Rattle.adf_survey.specs.Asked.{NewAsk}
@@ -35,15 +35,9 @@ module _ (image : List ℕ) (w : List (Role × ℕ)) (v : IsGathered image w) (r
   not_root : r ≡ Root → ⊥
   not_root e = subst (IsNumbered w) e num
 
-  number_is : (n p s j : ℕ) → r ≡ Head n p s j → n ≡ suc (heads w)
-  number_is n p s j e = subst (IsNumbered w) e num
-
-  -- no header has the next number yet
-  none_next : (n p s j p' s' j' c : ℕ) → r ≡ Head n p s j → Has w (Head n p' s' j') c → ⊥
-  none_next n p s j p' s' j' c e h =
-      let x : n ≡ suc (heads w) = number_is n p s j e in
-      let y = number_of image v n p' s' j' c h in
-      omega arith
+  -- no header has the number of the part
+  none_next : {v : List (Role × ℕ)} {n a c : ℕ} (h : HeadAt v n a) → r ≡ head_role h → HeadAt w n c → ⊥
+  none_next h e k = no_next image v k (subst (IsNumbered w) e num)
 
   split_map : (k a i : ℕ) → k < pages_needed (blocks image) → NamesPage image ((r, b) ∷ w) k a i → Either (Page k) a i
   split_map k a i lt (inl h) = inl (Page k, (lt, inl h), refl)
@@ -62,11 +56,12 @@ module _ (image : List ℕ) (w : List (Role × ℕ)) (v : IsGathered image w) (r
   split_slot : (n p s a i : ℕ) → s < SLOTS → DirAt image ((r, b) ∷ w) p a → i ≡ FIRST_SLOT + s → word_in image a i ≢ 0 → Either (Head n p s zero) a i
   split_slot n zero s a i ls (inl e) ie ne = absurd (not_root e.0)
   split_slot n zero s a i ls (inr h) ie ne = inl (Head (suc (heads w)) zero s zero, (refl, ls, h, ie, ne), refl)
-  split_slot n (suc p) s a i ls ((p1, s1, j1, inl e), told) ie ne =
-      inr (new_at (Head n (suc p) s zero) (Head (suc p) p1 s1 j1) a e.0 e.1
-      (inr (inl (told, (s, ls, subst (λ i. word_in image a i ≢ 0) ie ne, refl)))))
-  split_slot n (suc p) s a i ls ((p1, s1, j1, inr h), told) ie ne =
-      inl (Head (suc (heads w)) (suc p) s zero, (refl, ls, ((p1, s1, j1, h), told), ie, ne), refl)
+  split_slot n (suc p) s a i ls d ie ne = elim (typed_cases d) [
+    | inl e ↦
+        inr (new_at (Head n (suc p) s zero) (head_role d.header) a e.0 e.1
+        (inr (inl (d.type, (s, ls, subst (λ i. word_in image a i ≢ 0) ie ne, refl)))))
+    | inr h ↦ inl (Head (suc (heads w)) (suc p) s zero, (refl, ls, h, ie, ne), refl)
+  ]
 
   split_chain : (n m p s j a i : ℕ) → Has ((r, b) ∷ w) (Head m p s j) a → i ≡ NEXT_IN_CHAIN → word_in image a i ≢ 0 → Either (Head n p s (suc j)) a i
   split_chain n m p s j a i (inl e) ie ne =
@@ -76,9 +71,10 @@ module _ (image : List ℕ) (w : List (Role × ℕ)) (v : IsGathered image w) (r
   split_chain n m p s j a i (inr h) ie ne = inl (Head (suc (heads w)) p s (suc j), (refl, (m, h), ie, ne), refl)
 
   split_first_ext : (n a i : ℕ) → FileAt image ((r, b) ∷ w) n a → i ≡ EXTENSION → word_in image a i ≢ 0 → Either (Ext n 1) a i
-  split_first_ext n a i ((p, s, j, inl e), told) ie ne =
-      inr (new_at (Ext n 1) (Head n p s j) a e.0 e.1 (inr (inr (told, inl (subst (λ i. word_in image a i ≢ 0) ie ne, refl)))))
-  split_first_ext n a i ((p, s, j, inr h), told) ie ne = inl (Ext n 1, (((p, s, j, h), told), ie, ne), refl)
+  split_first_ext n a i f ie ne = elim (typed_cases f) [
+    | inl e ↦ inr (new_at (Ext n 1) (head_role f.header) a e.0 e.1 (inr (inr (f.type, inl (subst (λ i. word_in image a i ≢ 0) ie ne, refl)))))
+    | inr g ↦ inl (Ext n 1, (g, ie, ne), refl)
+  ]
 
   split_ext : (n k a i : ℕ) → Has ((r, b) ∷ w) (Ext n (suc k)) a → i ≡ EXTENSION → word_in image a i ≢ 0 → Either (Ext n (suc (suc k))) a i
   split_ext n k a i (inl e) ie ne =
@@ -88,32 +84,38 @@ module _ (image : List ℕ) (w : List (Role × ℕ)) (v : IsGathered image w) (r
 
   split_data : (n k h a i m : ℕ) → k / POINTERS ≡ m → FileAt image ((r, b) ∷ w) n h → k < data_count image h → MemberAt image ((r, b) ∷ w) n m a
       → i ≡ table_word k → Either (Data n (suc k)) a i
-  split_data n k h a i zero km ((p, s, j, inl e), told) lt ((p', s', j', inl f), told') ie =
-      let one : suc k ≡ POINTERS * 0 + k + 1 = omega arith in
-      let same : h ≡ a = sym e.1 ∙ f.1 in
-      let inside : POINTERS * 0 + k < data_count image a = (let l : k < data_count image a = subst (λ h. k < data_count image h) same lt in omega arith) in
-      inr (new_at (Data n (suc k)) (Head n p' s' j') a f.0 f.1 (inr (inr (told', inr (k, omega arith, inside, ap (λ k. key_of (Data n k)) one)))))
-  split_data n k h a i zero km ((p, s, j, inl e), told) lt ((p', s', j', inr g), told') ie = absurd (none_next n p s j p' s' j' a e.0 g)
-  split_data n k h a i zero km ((p, s, j, inr g), told) lt ((p', s', j', inl f), told') ie = absurd (none_next n p' s' j' p s j h f.0 g)
-  split_data n k h a i zero km ((p, s, j, inr g), told) lt ((p', s', j', inr f), told') ie =
-      inl (Data n (suc k), ((h, ((p, s, j, g), told), lt), subst (λ m. MemberAt image w n m a) (sym km) ((p', s', j', f), told'), ie), refl)
-  split_data n k h a i (suc m) km ((p, s, j, inl e), told) lt (inl f) ie =
-      let z : second (Head n p s j) ≡ second (Ext n (suc m)) = ap second (sym e.0 ∙ f.0) in absurd (omega arith)
-  split_data n k h a i (suc m) km ((p, s, j, inl e), told) lt (inr g) ie =
-      let x = ext_file image v n (suc m) a g in absurd (none_next n p s j x.1.0.0 x.1.0.1 x.1.0.2 x.0 e.0 x.1.0.3)
-  split_data n k h a i (suc m) km ((p, s, j, inr g), told) lt (inl f) ie =
-      let inside : POINTERS * suc m + k % POINTERS ≡ k = omega arith in
-      let one : suc k ≡ POINTERS * suc m + k % POINTERS + 1 = omega arith in
-      let up : h ≡ node_block w n = sym (head_block image v n p s j h g) in
-      inr (new_at (Data n (suc k)) (Ext n (suc m)) a f.0 f.1
-      (inr (
-        k % POINTERS,
-        omega arith,
-        subst (λ k. k < data_count image (node_block w n)) (sym inside) (subst (λ h. k < data_count image h) up lt),
-        ap (λ k. key_of (Data n k)) one,
-      )))
-  split_data n k h a i (suc m) km ((p, s, j, inr g), told) lt (inr f) ie =
-      inl (Data n (suc k), ((h, ((p, s, j, g), told), lt), subst (λ m. MemberAt image w n m a) (sym km) f, ie), refl)
+  split_data n k h a i zero km f lt m ie = elim (typed_cases f) [
+    | inl e ↦ elim (typed_cases m) [
+      | inl y ↦
+          let one : suc k ≡ POINTERS * 0 + k + 1 = omega arith in
+          let inside : POINTERS * 0 + k < data_count image a = omega (arith, subst (λ h. k < data_count image h) (sym e.1 ∙ y.1) lt) in
+          inr (new_at (Data n (suc k)) (head_role m.header) a y.0 y.1
+          (inr (inr (m.type, inr (k, omega arith, inside, ap (λ k. key_of (Data n k)) one)))))
+      | inr y ↦ absurd (none_next f.header e.0 y.header)
+    ]
+    | inr g ↦ elim (typed_cases m) [
+      | inl y ↦ absurd (none_next m.header y.0 g.header)
+      | inr y ↦ inl (Data n (suc k), ((h, g, lt), subst (λ m. MemberAt image w n m a) (sym km) y, ie), refl)
+    ]
+  ]
+  split_data n k h a i (suc m) km f lt (inl y) ie = elim (typed_cases f) [
+    | inl e ↦ let z : second (head_role f.header) ≡ second (Ext n (suc m)) = ap second (sym e.0 ∙ y.0) in absurd (omega arith)
+    | inr g ↦
+        let inside : POINTERS * suc m + k % POINTERS ≡ k = omega arith in
+        let one : suc k ≡ POINTERS * suc m + k % POINTERS + 1 = omega arith in
+        let up : h ≡ node_block w n = sym (head_block image v g.header) in
+        inr (new_at (Data n (suc k)) (Ext n (suc m)) a y.0 y.1
+        (inr (
+          k % POINTERS,
+          omega arith,
+          subst (λ k. k < data_count image (node_block w n)) (sym inside) (subst (λ h. k < data_count image h) up lt),
+          ap (λ k. key_of (Data n k)) one,
+        )))
+  ]
+  split_data n k h a i (suc m) km f lt (inr y) ie = elim (typed_cases f) [
+    | inl e ↦ absurd (none_next f.header e.0 (ext_file image v n (suc m) a y).1.header)
+    | inr g ↦ inl (Data n (suc k), ((h, g, lt), subst (λ m. MemberAt image w n m a) (sym km) y, ie), refl)
+  ]
 
   pub asks_split : (q : Role) (a i : ℕ) → Asks image ((r, b) ∷ w) q a i → Either q a i
   asks_split Root a i h = absurd h
@@ -128,31 +130,20 @@ module _ (image : List ℕ) (w : List (Role × ℕ)) (v : IsGathered image w) (r
   asks_split (Data n zero) a i h = absurd h
   asks_split (Data n (suc k)) a i h = split_data n k h.0.0 a i (k / POINTERS) refl h.0.1 h.0.2 h.1 h.2
 
-  -- what was asked for is asked for still
-  dir_more : (p a : ℕ) → DirAt image w p a → DirAt image ((r, b) ∷ w) p a
-  dir_more zero a h = inr h
-  dir_more (suc p) a h = ((h.0.0, h.0.1, h.0.2, inr h.0.3), h.1)
-
-  pub file_more : (n a : ℕ) → FileAt image w n a → FileAt image ((r, b) ∷ w) n a
-  file_more n a h = ((h.0.0, h.0.1, h.0.2, inr h.0.3), h.1)
-
-  member_more : (n m a : ℕ) → MemberAt image w n m a → MemberAt image ((r, b) ∷ w) n m a
-  member_more n zero a h = file_more n a h
-  member_more n (suc m) a h = inr h
-
   abbrev number : ℕ
   number = suc (heads ((r, b) ∷ w))
 
+  -- what was asked for is asked for still
   pub asks_more : (q : Role) (a i : ℕ) → Asks image w (renumbered (suc (heads w)) q) a i → Asks image ((r, b) ∷ w) (renumbered number q) a i
   asks_more Root a i h = absurd h
   asks_more (Page k) a i (lt, inl h) = (lt, inl h)
   asks_more (Page k) a i (lt, inr h) = (lt, inr (h.0, inr h.1, h.2, h.3))
   asks_more (MapExt zero) a i h = h
   asks_more (MapExt (suc j)) a i h = (h.0, inr h.1, h.2)
-  asks_more (Head n p s zero) a i h = (refl, h.1, dir_more p a h.2, h.3, h.4)
+  asks_more (Head n p s zero) a i h = (refl, h.1, dir_up image w (r, b) p a h.2, h.3, h.4)
   asks_more (Head n p s (suc j)) a i h = (refl, (h.1.0, inr h.1.1), h.2, h.3)
   asks_more (Ext n zero) a i h = absurd h
-  asks_more (Ext n (suc zero)) a i h = (file_more n a h.0, h.1, h.2)
+  asks_more (Ext n (suc zero)) a i h = (typed_up (r, b) h.0, h.1, h.2)
   asks_more (Ext n (suc (suc k))) a i h = (inr h.0, h.1, h.2)
   asks_more (Data n zero) a i h = absurd h
-  asks_more (Data n (suc k)) a i h = ((h.0.0, file_more n h.0.0 h.0.1, h.0.2), member_more n (k / POINTERS) a h.1, h.2)
+  asks_more (Data n (suc k)) a i h = ((h.0.0, typed_up (r, b) h.0.1, h.0.2), member_up image w (r, b) n (k / POINTERS) a h.1, h.2)

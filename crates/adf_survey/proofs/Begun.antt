@@ -10,6 +10,7 @@ use Rattle.std.proofs.lemmas.List.{length-replicate}
 use Rattle.adf_blocks.specs.Sizes.{blocks}
 use Rattle.adf_volume.specs.Image.{root_of, word_in}
 use Rattle.adf_volume.specs.Walk.{Role, first, second, Has, Asks}
+use Rattle.adf_volume.proofs.Roles.{no_head}
 use Rattle.adf_volume.specs.Walk.Role.{Root, Page, MapExt, Head, Ext, Data}
 use Rattle.adf_survey.specs.declared.part.Part.TheVariants.{Root as RootPart}
 use Rattle.adf_survey.specs.declared.part.Key.{Key}
@@ -97,19 +98,15 @@ module _ (image : List ℕ) where
   root_asks (Head n zero s zero) a i (x, ls, inl e, ie, ne) =
       inr (inr (s, ls, subst (λ i. word_in image (root_of image) i ≢ 0) ie (subst (λ a. word_in image a i ≢ 0) (sym e.1) ne), refl))
   root_asks (Head n zero s zero) a i (x, ls, inr h, ie, ne) = absurd h
-  root_asks (Head n (suc p) s zero) a i (x, ls, ((p1, s1, j1, inl e), t), ie, ne) =
-      let z : second Root ≡ second (Head (suc p) p1 s1 j1) = ap second e.0 in absurd (omega arith)
-  root_asks (Head n (suc p) s zero) a i (x, ls, ((p1, s1, j1, inr h), t), ie, ne) = absurd h
+  root_asks (Head n (suc p) s zero) a i (x, ls, d, ie, ne) = absurd (no_head d.header)
   root_asks (Head n p s (suc j)) a i (x, (m, inl e), ie, ne) = let z : second Root ≡ second (Head m p s j) = ap second e.0 in absurd (omega arith)
   root_asks (Head n p s (suc j)) a i (x, (m, inr h), ie, ne) = absurd h
   root_asks (Ext n zero) a i h = absurd h
-  root_asks (Ext n (suc zero)) a i (((p, s, j, inl e), t), ie, ne) = let z : second Root ≡ second (Head n p s j) = ap second e.0 in absurd (omega arith)
-  root_asks (Ext n (suc zero)) a i (((p, s, j, inr h), t), ie, ne) = absurd h
+  root_asks (Ext n (suc zero)) a i (f, ie, ne) = absurd (no_head f.header)
   root_asks (Ext n (suc (suc k))) a i (inl e, ie, ne) = let z : first Root ≡ first (Ext n (suc k)) = ap first e.0 in absurd (omega arith)
   root_asks (Ext n (suc (suc k))) a i (inr h, ie, ne) = absurd h
   root_asks (Data n zero) a i h = absurd h
-  root_asks (Data n (suc k)) a i ((x, ((p, s, j, inl e), t), lt), m, ie) = let z : second Root ≡ second (Head n p s j) = ap second e.0 in absurd (omega arith)
-  root_asks (Data n (suc k)) a i ((x, ((p, s, j, inr h), t), lt), m, ie) = absurd h
+  root_asks (Data n (suc k)) a i ((x, f, lt), m, ie) = absurd (no_head f.header)
 
   none_yet : (w : List (Role × ℕ)) (m : ℕ) (parts : BTreeMap Key Ask) → IsEmpty parts → AllAsked image w m parts
   none_yet w m parts e k x is = let z : None ≡ Some x = sym (empty_get parts (is_at (by_key k)) e) ∙ is in cc

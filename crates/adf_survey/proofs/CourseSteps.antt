@@ -11,7 +11,7 @@ use Rattle.adf_volume.specs.Image.{word_in}
 use Rattle.adf_volume.specs.Walk.{Role, Before, Same, Has, Asks, Lacks, DirAt, FileAt, MemberAt, heads, node_block}
 use Rattle.adf_volume.specs.Walk.Role.{Root, Page, MapExt, Head, Ext, Data}
 use Rattle.adf_volume.proofs.Gathered.{IsGathered, asked_file, ext_counted, head_block, next_ext}
-use Rattle.adf_volume.proofs.Roles.{asks_number, renumbered, renumbered_same}
+use Rattle.adf_volume.proofs.Roles.{asks_number, head_at, renumbered, renumbered_same, typed_up}
 use Rattle.adf_survey.specs.declared.part.Part.{Part}
 use Rattle.adf_survey.specs.declared.part.Part.TheVariants.{Root as RootPart, Page as PagePart, MapExt as MapExtPart, Head as HeadPart}
 use Rattle.adf_survey.specs.declared.part.Part.TheVariants.{Ext as ExtPart, Data as DataPart}
@@ -148,7 +148,7 @@ module _ (image : List ℕ) (w : List (Role × ℕ)) (v : IsGathered image w) (p
     now = (role_of part, b) ∷ w
 
     dir_at : (n k p s j : ℕ) → n ≡ suc k → Has now (Head n p s j) b → word_in image b SECONDARY_TYPE ≡ ST_DIR → DirAt image now n b
-    dir_at n k p s j e h t = subst (λ n. Has now (Head n p s j) b → DirAt image now n b) (sym e) (λ h. ((p, s, j, h), t)) h
+    dir_at n k p s j e h t = subst (λ n. Has now (Head n p s j) b → DirAt image now n b) (sym e) (λ h. record { header = head_at (suc k) p s j b h; type = t }) h
 
 -- what a part names is asked for, once it is taken
 new_asked : (image : List ℕ) (w : List (Role × ℕ)) (f : Found) (part : Part) (b : ℕ) (k : Key) → ((n : ℕ) → slice_index f.nodes.items n ≡ node_block w n)
@@ -165,7 +165,7 @@ ext_allows : (image : List ℕ) (w : List (Role × ℕ)) → IsGathered image w 
 ext_allows image w v n zero a i b most up h le u = absurd h
 ext_allows image w v n (suc m) a i b most up h le u =
     let file = asked_file image v n (suc m) a i h in
-    let here : up ≡ file.0 = u ∙ head_block image v n file.1.0.0 file.1.0.1 file.1.0.2 file.0 file.1.0.3 in
+    let here : up ≡ file.0 = u ∙ head_block image v file.1.header in
     let one : suc (suc m) ≡ suc m + 1 = omega arith in
     let now : List (Role × ℕ) = (Ext n (suc m), b) ∷ w in (
       le,
@@ -173,7 +173,7 @@ ext_allows image w v n (suc m) a i b most up h le u =
       (λ j lt few.
           let e : suc (POINTERS * suc m + j) ≡ POINTERS * suc m + j + 1 = omega arith in
           let q : suc m ≡ (POINTERS * suc m + j) / POINTERS = omega arith in
-          let f : FileAt image now n up = subst (FileAt image now n) (sym here) ((file.1.0.0, file.1.0.1, file.1.0.2, inr file.1.0.3), file.1.1) in
+          let f : FileAt image now n up = subst (FileAt image now n) (sym here) (typed_up (Ext n (suc m), b) file.1) in
           subst (λ k. Asks image now (Data n k) b (FIRST_POINTER - j)) e
           ((up, f, few), subst (λ m. MemberAt image now n m b) q (inl (refl, refl)), omega arith)),
     )
@@ -185,7 +185,7 @@ allows image w v f (HeadPart n p s j) a i b most h num le node = (
   inl (refl, refl),
   le,
   (λ t. dir_at image w v (HeadPart n p s j) a i b h num j (omega arith) f node n (heads w) p s j num (inl (refl, refl)) t),
-  (λ t. ((p, s, j, inl (refl, refl)), t)),
+  (λ t. record { header = head_at n p s j b (inl (refl, refl)); type = t }),
 )
 allows image w v f (ExtPart n m) a i b most h num le node = ext_allows image w v n m a i b most (slice_index f.nodes.items n) h le (node n)
 allows image w v f (MapExtPart j) a i b most h num le node = inl (refl, refl)

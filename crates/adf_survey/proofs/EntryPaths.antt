@@ -22,8 +22,9 @@ module _ (image : List ℕ) (w : List (Role × ℕ)) (fs : List Finding) (h : Is
   pub directory_smaller : (n : ℕ) → 1 ≤ n → n ≤ heads w → parent_node w n < n
   directory_smaller n lo hi =
       let x = header_at image w fs h n lo hi in
-      let e : parent_node w n ≡ x.0 = parent_is image w fs h n x.0 x.1 x.2 (node_block w n) x.3 in
-      let lt : x.0 < n = (child_between image w fs h x.0 n (name_of image (node_block w n)) (x.1, x.2, node_block w n, x.3, refl)).0 in
+      let e : parent_node w n ≡ x.parent = parent_is image w fs h n x.parent x.slot x.place (node_block w n) x.has in
+      let child = (x.slot, x.place, node_block w n, x.has, refl) in
+      let lt : x.parent < n = (child_between image w fs h x.parent n (name_of image (node_block w n)) child).0 in
       omega arith
 
   entry_range : (n : ℕ) → is_entry w n ≡ true → (1 ≤ n) × (n ≤ heads w)

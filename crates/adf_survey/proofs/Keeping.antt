@@ -11,7 +11,7 @@ use Rattle.adf_volume.specs.Walk.{Role, second, Has, Asks, heads, node_block}
 use Rattle.adf_volume.specs.Walk.Role.{Root, Head}
 use Rattle.adf_volume.proofs.Gathered.{IsGathered}
 use Rattle.adf_volume.proofs.Gathered.IsGathered.{start, step}
-use Rattle.adf_volume.proofs.Roles.{asks_number}
+use Rattle.adf_volume.proofs.Roles.{asks_number, head_at, head_role}
 use Rattle.adf_survey.specs.Found.{parent_by, parent_node}
 use Rattle.std.proofs.lemmas.Bool.{eq-eqb}
 use Rattle.std.proofs.lemmas.Bool.Decides.{eqb_tells}
@@ -45,7 +45,7 @@ unread_kept image x items none fails e = (
     node = (λ n. refl);
     parent = (λ n. refl);
     count = omega arith;
-    sound = (λ n lo. ((λ t. cc), (λ s. absurd s.header.3)));
+    sound = (λ n lo. ((λ t. cc), (λ s. absurd s.header.has)));
   },
 )
 
@@ -80,9 +80,8 @@ tells_each v k w fs h =
 
 -- the root is no entry
 pub root_no_entry : (image : List ℕ) (w : List (Role × ℕ)) (fs : List Finding) (h : ℕ) → IsSurvey image w fs → IsSound image w fs 0 h → ⊥
-root_no_entry image w fs h (unread f) s = s.header.3
-root_no_entry image w fs h (read begun v d t) s =
-    let x = number_of image (gathered image v) 0 s.header.0 s.header.1 s.header.2 h s.header.3 in omega arith
+root_no_entry image w fs h (unread f) s = s.header.has
+root_no_entry image w fs h (read begun v d t) s = omega (arith, number_of image (gathered image v) s.header)
 
 -- the parent of what comes later is that of no earlier node
 other_parent : (image : List ℕ) (w : List (Role × ℕ)) (n : ℕ) (r : Role) (a i c : ℕ) → Asks image w r a i → n ≤ heads w → parent_by n r c ≡ c
@@ -97,7 +96,7 @@ head_parent image start n p s j b (inr f) = absurd f
 head_parent image (step {w = w} {r = r} a i c v d l) n p s j b (inl e) =
     subst (λ r. parent_by n r (parent_node w n) ≡ p) (sym e.0) (rw (eq-eqb n n refl) refl)
 head_parent image (step {w = w} {r = r} a i c v d l) n p s j b (inr h) =
-    let u : (1 ≤ n) × (n ≤ heads w) = number_of image v n p s j b h in
+    let u : (1 ≤ n) × (n ≤ heads w) = number_of image v (head_at n p s j b h) in
     other_parent image w n r a i (parent_node w n) d (omega arith) ∙ head_parent image v n p s j b h
 
 -- the directory of an entry, as a function
@@ -112,7 +111,7 @@ pub header_inside : (image : List ℕ) (w : List (Role × ℕ)) (fs : List Findi
 header_inside image w fs (unread f) n lo hi = absurd (omega arith)
 header_inside image w fs (read {s = s} begun v d t) n lo hi =
     let x = has_number image (gathered image v) n lo hi in
-    let at : node_block s.walk n ≡ x.3 = head_block image (gathered image v) n x.0 x.1 x.2 x.3 x.4 in
-    let lt : x.3 < blocks image =
-    inside image v (Head n x.0 x.1 x.2) x.3 (λ e. let y : second Root ≡ second (Head n x.0 x.1 x.2) = ap second e in omega arith) x.4 in
+    let at : node_block s.walk n ≡ x.0 = head_block image (gathered image v) x.1 in
+    let lt : x.0 < blocks image =
+    inside image v (head_role x.1) x.0 (λ e. let y : second Root ≡ second (head_role x.1) = ap second e in omega arith) x.1.has in
     (begun.0.0, omega arith)

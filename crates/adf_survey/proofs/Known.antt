@@ -164,7 +164,7 @@ module _ (image : List ℕ) (f : Found) (s : Course) (st : Stands image f s) whe
   enough_tells n k h v file t e = go (k == 1) refl t e
     where
       block_is : (c : ℕ) → FileAt image s.walk n c → node_block s.walk n ≡ c
-      block_is c x = head_block image v n x.0.0 x.0.1 x.0.2 c x.0.3
+      block_is c x = head_block image v x.header
 
       go : (u : Bool) → (k == 1) ≡ u → (t : Bool) → nat_le (data_count image (node_block s.walk n)) (POINTERS * suc (ext_count s.walk n)) ≡ t → Tells (not u || t) (Enough image s.walk (Data n k))
       go false e t z = λ one. let y : true ≡ false = sym (eq-eqb k 1 one) ∙ e in cc

@@ -6,57 +6,34 @@ use Rattle.std.proofs.lemmas.Slice.Eq.{bytes_eq-Decides}
 use Rattle.adf_tree.specs.Texts.{uppers}
 use Rattle.adf_volume.specs.Image.{name_of}
 use Rattle.std.proofs.Common.{◌≡◌, ℕ, zero, suc, List, ◌∷◌, ◌+◌, length, inl, inr, ◌<◌, ◌≤◌, sym, ap, subst, ◌∙◌, arith}
-use Rattle.adf_volume.specs.Walk.{Role, second, Has, Asks, DirAt, heads, node_block}
+use Rattle.adf_volume.specs.Walk.{Role, second, Has, HeadAt, Asks, DirAt, heads, node_block}
 use Rattle.adf_volume.specs.Walk.Role.{Root, Head}
-use Rattle.adf_volume.proofs.Gathered.{IsGathered, head_block, number_of, numbered as has_number}
-use Rattle.adf_volume.proofs.Gathered.IsGathered.{start, step}
+use Rattle.adf_volume.proofs.Gathered.{head_block, number_of, numbered as has_number, parent_below}
+use Rattle.adf_volume.proofs.Roles.{head_at}
 use Rattle.adf_survey.specs.Lookup.{IsNamedChild, IsFirstChild, LeadsTo}
 use Rattle.adf_survey.specs.Survey.{Finding, IsSurvey}
 use Rattle.adf_survey.specs.Survey.IsSurvey.{read, unread}
 use Rattle.adf_survey.proofs.OneSurvey.{gathered}
-
-module _ (image : List ℕ) where
-  -- a directory is there before what is in it
-  dir_there : {w : List (Role × ℕ)} → IsGathered image w → (p a : ℕ) → DirAt image w p a → p ≤ heads w
-  dir_there v zero a h = omega arith
-  dir_there v (suc p) a h = let x = number_of image v (suc p) h.0.0 h.0.1 h.0.2 a h.0.3 in omega (arith, x.1)
-
-  asked_there : {w : List (Role × ℕ)} → IsGathered image w → ((n p s j b : ℕ) → Has w (Head n p s j) b → p < n) → (n p s j a i : ℕ)
-      → Asks image w (Head n p s j) a i → p < n
-  asked_there v ih n p s zero a i d = let x = dir_there v p a d.2 in omega (arith, x, d.0)
-  asked_there v ih n p s (suc j) a i d =
-      let m = d.1 in
-      let x = ih m.0 p s j a m.1 in
-      let y = number_of image v m.0 p s j a m.1 in
-      omega (arith, x, y.1, d.0)
-
-  pub parent_before : {w : List (Role × ℕ)} → IsGathered image w → (n p s j b : ℕ) → Has w (Head n p s j) b → p < n
-  parent_before start n p s j b (inl e) = let h : second Root ≡ second (Head n p s j) = ap second e.0 in absurd (omega arith)
-  parent_before start n p s j b (inr f) = absurd f
-  parent_before (step {w = w} {r = r} a i c v d l) n p s j b (inl e) =
-      asked_there v (parent_before v) n p s j a i (subst (λ r. Asks image w r a i) e.0 d)
-  parent_before (step a i c v d l) n p s j b (inr h) = parent_before v n p s j b h
 
 -- the number of an entry is greater than its directory's, and at most the count
 pub child_between : (image : List ℕ) (w : List (Role × ℕ)) (fs : List Finding) → IsSurvey image w fs → (p n : ℕ) (name : List ℕ)
     → IsNamedChild image w p name n → (p < n) × (n ≤ heads w)
 child_between image w fs (unread f) p n name k = absurd k.3
 child_between image w fs (read begun v d t) p n name k =
-    (parent_before image (gathered image v) n p k.0 k.1 k.2 k.3, (number_of image (gathered image v) n p k.0 k.1 k.2 k.3).1)
+    let h : HeadAt w n k.2 = head_at n p k.0 k.1 k.2 k.3 in (parent_below image (gathered image v) h, (number_of image (gathered image v) h).1)
 
 -- the header of an entry, by its number
 pub header_at : (image : List ℕ) (w : List (Role × ℕ)) (fs : List Finding) → IsSurvey image w fs → (n : ℕ) → 1 ≤ n → n ≤ heads w
-    → (p s j : ℕ) × Has w (Head n p s j) (node_block w n)
+    → HeadAt w n (node_block w n)
 header_at image w fs (unread f) n lo hi = absurd (omega arith)
 header_at image w fs (read {s = s} begun v d t) n lo hi =
     let x = has_number image (gathered image v) n lo hi in
-    let e : node_block s.walk n ≡ x.3 = head_block image (gathered image v) n x.0 x.1 x.2 x.3 x.4 in
-    (x.0, x.1, x.2, subst (Has s.walk (Head n x.0 x.1 x.2)) (sym e) x.4)
+    subst (HeadAt s.walk n) (sym (head_block image (gathered image v) x.1)) x.1
 
 header_one : (image : List ℕ) (w : List (Role × ℕ)) (fs : List Finding) → IsSurvey image w fs → (n p s j b : ℕ) → Has w (Head n p s j) b
     → node_block w n ≡ b
 header_one image w fs (unread f) n p s j b g = absurd g
-header_one image w fs (read begun v d t) n p s j b g = head_block image (gathered image v) n p s j b g
+header_one image w fs (read begun v d t) n p s j b g = head_block image (gathered image v) (head_at n p s j b g)
 
 -- an entry of the directory is a child by its name
 pub child_told : (image : List ℕ) (w : List (Role × ℕ)) (fs : List Finding) → IsSurvey image w fs → (p n : ℕ) (name text : List ℕ) (t : Bool) (up : ℕ)
@@ -64,10 +41,10 @@ pub child_told : (image : List ℕ) (w : List (Role × ℕ)) (fs : List Finding)
     → t ≡ bytes_eq (uppers text) (uppers name) → (t ≡ true) ↔ IsNamedChild image w p name n
 child_told image w fs h p n name text t up lo hi parent same is_text is_t =
     let x = header_at image w fs h n lo hi in
-    let e : x.0 ≡ p = sym (parent x.0 x.1 x.2 (node_block w n) x.3) ∙ same in
-    let has : Has w (Head n p x.1 x.2) (node_block w n) = subst (λ p. Has w (Head n p x.1 x.2) (node_block w n)) e x.3 in
+    let e : x.parent ≡ p = sym (parent x.parent x.slot x.place (node_block w n) x.has) ∙ same in
+    let has : Has w (Head n p x.slot x.place) (node_block w n) = subst (λ p. Has w (Head n p x.slot x.place) (node_block w n)) e x.has in
     let decides = bytes_eq-Decides (uppers text) (uppers name) in (
-      (λ y. (x.1, x.2, node_block w n, has, ap uppers (sym is_text) ∙ decides.0 (sym is_t ∙ y))),
+      (λ y. (x.slot, x.place, node_block w n, has, ap uppers (sym is_text) ∙ decides.0 (sym is_t ∙ y))),
       (λ k. is_t ∙ decides.1 (ap uppers (is_text ∙ ap (name_of image) (header_one image w fs h n p k.0 k.1 k.2 k.3)) ∙ k.4)),
     )
 

@@ -15,7 +15,7 @@ use Rattle.adf_volume.specs.Walk.Role.{Root, Page, MapExt, Head, Ext, Data}
 use Rattle.adf_volume.proofs.DecidedAsks.{Asked}
 use Rattle.adf_volume.proofs.FitWalks.{dec_lacks, lacks_same, least, without}
 use Rattle.adf_volume.proofs.Lists.{in_left, in_right}
-use Rattle.adf_volume.proofs.Roles.{renumbered, renumbered_same, same_of}
+use Rattle.adf_volume.proofs.Roles.{head_role, renumbered, renumbered_same, same_of}
 use Rattle.adf_survey.specs.Survey.{Finding, finding, Judgement, Judged, Course, after, IsNext, IsCourse, IsDone, IsSurvey}
 use Rattle.adf_survey.specs.Survey.Judgement.{clean, noted, passed}
 use Rattle.adf_survey.specs.Survey.IsCourse.{start, step}
@@ -74,7 +74,7 @@ module _ (image : List ℕ) where
     listed_data : (n k m a : ℕ) → k / POINTERS ≡ m → MemberAt image w n m a → Listed w (askable pages w) (Data n (suc k))
     listed_data n k zero a e h =
         let lt : k < POINTERS = omega arith in
-        listed (Head n h.0.0 h.0.1 h.0.2) a (Data n (suc k)) (Data n (suc k)) h.0.3
+        listed (head_role h.header) a (Data n (suc k)) (Data n (suc k)) h.header.has
         (inr (inr (in_right (upto (λ t. Head 0 n t 0) SLOTS) (upto (λ k. Data n (suc k)) POINTERS) (Data n (suc k))
         (in_upto (λ k. Data n (suc k)) POINTERS k lt)))) refl
     listed_data n k (suc m) a e h =
@@ -97,16 +97,15 @@ module _ (image : List ℕ) where
         (in_right (upto Page pages) (MapExt 0 ∷ upto (λ s. Head 0 0 s 0) SLOTS) (Head 0 0 s 0) (inr (in_upto (λ s. Head 0 0 s 0) SLOTS s h.1)))
         (ap (λ n. Head n 0 s 0) (sym h.0))
     covered (Head n (suc p) s zero) a i h =
-        let x = h.2.0 in
-        listed (Head (suc p) x.0 x.1 x.2) a (Head 0 (suc p) s 0) (Head n (suc p) s 0) x.3
+        let x = h.2.header in
+        listed (head_role x) a (Head 0 (suc p) s 0) (Head n (suc p) s 0) x.has
         (inr (inr (in_left (upto (λ t. Head 0 (suc p) t 0) SLOTS) (upto (λ k. Data (suc p) (suc k)) POINTERS) (Head 0 (suc p) s 0)
         (in_upto (λ t. Head 0 (suc p) t 0) SLOTS s h.1)))) (ap (λ n. Head n (suc p) s 0) (sym h.0))
     covered (Head n p s (suc j)) a i h =
         listed (Head h.1.0 p s j) a (Head 0 p s (suc j)) (Head n p s (suc j)) h.1.1 (inl refl) (ap (λ n. Head n p s (suc j)) (sym h.0))
     covered (Ext n zero) a i h = absurd h
     covered (Ext n (suc zero)) a i h =
-        let x = h.0.0 in
-        listed (Head n x.0 x.1 x.2) a (Ext n 1) (Ext n 1) x.3 (inr (inl refl)) refl
+        listed (head_role h.0.header) a (Ext n 1) (Ext n 1) h.0.header.has (inr (inl refl)) refl
     covered (Ext n (suc (suc k))) a i h = listed (Ext n (suc k)) a (Ext n (suc (suc k))) (Ext n (suc (suc k))) h.0 (inl refl) refl
     covered (Data n zero) a i h = absurd h
     covered (Data n (suc k)) a i h = listed_data n k (k / POINTERS) a refl h.1

@@ -11,7 +11,7 @@ use Rattle.adf_volume.specs.Walk.{first, NodeAt, NewName, form_demands, next_dat
 use Rattle.adf_volume.specs.Walk.{Role, second, Has, FileAt, MemberAt, data_count, Asks, IsAbsent, ext_count, demands}
 use Rattle.adf_volume.specs.Walk.Role.{Root, Head, Ext, Data}
 use Rattle.adf_volume.proofs.Lists.{all_split, in_left, in_right}
-use Rattle.adf_volume.proofs.Roles.{count_up, dec_has, dir_is_node, has_role, same_refl}
+use Rattle.adf_volume.proofs.Roles.{count_up, dec_has, dir_is_node, has_role, head_in, head_role, same_refl, typed_in}
 use Rattle.adf_survey.specs.Survey.{Finding, finding, Course, IsNext, IsCourse, IsDone, IsSurvey}
 use Rattle.adf_survey.specs.Survey.Judgement.{clean, noted, passed}
 use Rattle.adf_survey.specs.Survey.IsCourse.{start, step}
@@ -146,7 +146,7 @@ module _ (image : List ℕ) where
 
     node_before : (w : List (Role × ℕ)) (p a : ℕ) → ((q : Role) (c : ℕ) → Has w q c → Has s.walk q c) → NodeAt w p a → NodeAt s.walk p a
     node_before w zero a older f = older Root a f
-    node_before w (suc p) a older f = (f.0, f.1, f.2, older (Head (suc p) f.0 f.1 f.2) a f.3)
+    node_before w (suc p) a older f = head_in f (older (head_role f) a f.has)
 
     -- a header has its form
     head_formed : (n p t j h up : ℕ) → Has s.walk (Head n p t j) h → IsUnnoted s.findings (Head n p t j) → NodeAt s.walk p up
@@ -164,8 +164,7 @@ module _ (image : List ℕ) where
     file_was : (w : List (Role × ℕ)) (n a h : ℕ) → IsGathered image w → ((q : Role) (c : ℕ) → Has w q c → Has s.walk q c) → FileAt image w n a
         → FileAt image s.walk n h → node_block w n ≡ h
     file_was w n a h g older f file =
-        head_block image g n f.0.0 f.0.1 f.0.2 a f.0.3
-        ∙ file_one image (gathered image v) n a h ((f.0.0, f.0.1, f.0.2, older (Head n f.0.0 f.0.1 f.0.2) a f.0.3), f.1) file
+        head_block image g f.header ∙ file_one image (gathered image v) n a h (typed_in f (older (head_role f.header) a f.header.has)) file
 
     ext_formed : (n k b h : ℕ) → Has s.walk (Ext n k) b → IsUnnoted s.findings (Ext n k) → FileAt image s.walk n h → AllHold (ext_demands image b h)
     ext_formed n k b h g clear file =
@@ -199,7 +198,7 @@ module _ (image : List ℕ) where
     module _ (n h : ℕ) (file : FileAt image s.walk n h) (clear : (k : ℕ) → IsUnnoted s.findings (Data n k)) where
       -- a file that was there before has the same header
       file_before : (w : List (Role × ℕ)) (a : ℕ) → ((q : Role) (c : ℕ) → Has w q c → Has s.walk q c) → FileAt image w n a → FileAt image s.walk n a
-      file_before w a older f = ((f.0.0, f.0.1, f.0.2, older (Head n f.0.0 f.0.1 f.0.2) a f.0.3), f.1)
+      file_before w a older f = typed_in f (older (head_role f.header) a f.header.has)
 
       member_before : (w : List (Role × ℕ)) (m a : ℕ) → ((q : Role) (c : ℕ) → Has w q c → Has s.walk q c) → MemberAt image w n m a
           → MemberAt image s.walk n m a
@@ -271,15 +270,16 @@ module _ (image : List ℕ) where
   unnoted_less fs gs r h f q i = h f q (in_left fs gs f i)
 
   pub sound_header : (w : List (Role × ℕ)) (fs : List Finding) (n h : ℕ) → IsSurvey image w fs → IsSound image w fs n h → HeaderHolds image w n h
-  sound_header w fs n h (unread f) sound p t j up g node = absurd g
-  sound_header w fs n h (read {s = s} {bits = bits} begun v d told) sound p t j up g node =
-      let x = sound.header in
-      let e : Head n x.0 x.1 x.2 ≡ Head n p t j = one_role v (Head n x.0 x.1 x.2) (Head n p t j) h x.3 g in
-      head_formed v d n p t j h up g (subst (IsUnnoted s.findings) e (unnoted_less s.findings bits (Head n x.0 x.1 x.2) x.4)) node
+  sound_header w fs n h (unread f) sound g up node = absurd g.has
+  sound_header w fs n h (read {s = s} {bits = bits} begun v d told) sound g up node =
+      let e : head_role sound.header ≡ head_role g = one_role v (head_role sound.header) (head_role g) h sound.header.has g.has in
+      let clear : IsUnnoted s.findings (head_role g) =
+      subst (IsUnnoted s.findings) e (unnoted_less s.findings bits (head_role sound.header) sound.unnoted) in
+      head_formed v d n g.parent g.slot g.place h up g.has clear node
 
   pub sound_file : (w : List (Role × ℕ)) (fs : List Finding) (n h : ℕ) → IsSurvey image w fs → IsSound image w fs n h → FileAt image w n h
       → FileHolds image w n h
-  sound_file w fs n h (unread f) sound file = absurd file.0.3
+  sound_file w fs n h (unread f) sound file = absurd file.header.has
   sound_file w fs n h (read {s = s} {bits = bits} begun v d told) sound file = record {
     named = data_named v d n h file (λ k. unnoted_less s.findings bits (Data n k) (sound.datas k));
     exts = (λ k b g. ext_formed v d n k b h g (unnoted_less s.findings bits (Ext n k) (sound.exts k)) file);

@@ -28,7 +28,7 @@ use Rattle.adf_survey.proofs.SoundMarks.{inside}
 -- the data blocks of a sound file are in the walk in order
 pub sound_listed : (image : List ℕ) (w : List (Role × ℕ)) (fs : List Finding) (n h : ℕ) → IsSurvey image w fs → IsSound image w fs n h
     → DatasListed image n w
-sound_listed image w fs n h (unread f) sound = absurd sound.header.3
+sound_listed image w fs n h (unread f) sound = absurd sound.header.has
 sound_listed image w fs n h (read {s = s} {bits = bits} begun v d told) sound =
     datas_listed image n v (λ k b g. let y = passed_noted image v (Data n k) b g in
     sound.datas k y.0 (Data n k) (in_left s.findings bits y.0 y.1) y.2 (same_refl (Data n k)))
@@ -37,11 +37,10 @@ sound_listed image w fs n h (read {s = s} {bits = bits} begun v d told) sound =
 pub file_told : (image : List ℕ) (w : List (Role × ℕ)) (fs : List Finding) (n : ℕ) → IsSurvey image w fs
     → IsSound image w fs n (node_block w n) → word_in image (node_block w n) SECONDARY_TYPE ≡ ST_FILE
     → (file_from image (node_block w n) ≡ file_in image w n) × HasItsBlocks (file_in image w n)
-file_told image w fs n (unread f) sound type = absurd sound.header.3
+file_told image w fs n (unread f) sound type = absurd sound.header.has
 file_told image w fs n (read {s = s} {bits = bits} begun v d told) sound type =
     let h : ℕ = node_block s.walk n in
-    let x = sound.header in
-    let file : FileAt image s.walk n h = ((x.0, x.1, x.2, x.3), type) in
+    let file : FileAt image s.walk n h = record { header = sound.header; type = type } in
     let holds = sound_file image s.walk (s.findings ++ bits) n h (read begun v d told) sound file in
     let listed = sound_listed image s.walk (s.findings ++ bits) n h (read begun v d told) sound in
     let e : names_from image h (data_count image h) ≡ datas_in s.walk n =
@@ -58,7 +57,7 @@ file_told image w fs n (read {s = s} {bits = bits} begun v d told) sound type =
 -- an image with a sound entry begins as a volume
 pub sound_begun : (image : List ℕ) (w : List (Role × ℕ)) (fs : List Finding) (n h : ℕ) → IsSurvey image w fs → IsSound image w fs n h
     → AllHold (boot_demands image ++ root_demands image (root_of image))
-sound_begun image w fs n h (unread f) sound = absurd sound.header.3
+sound_begun image w fs n h (unread f) sound = absurd sound.header.has
 sound_begun image w fs n h (read begun v d told) sound = begun
 
 -- what is kept of a survey tells of the header of an entry

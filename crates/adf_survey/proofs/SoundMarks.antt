@@ -17,7 +17,7 @@ use Rattle.adf_volume.specs.Walk.Role.{Root, Page, MapExt, Head, Ext, Data}
 use Rattle.adf_volume.proofs.Gathered.{IsGathered, asks_one, head_block, number_of, numbered as has_number, one_block, one_head}
 use Rattle.adf_volume.proofs.Lists.{in_cases}
 use Rattle.adf_volume.proofs.OneFault.{number_is}
-use Rattle.adf_volume.proofs.Roles.{asks_number, dec_has, renumbered, renumbered_same, same_of, same_role}
+use Rattle.adf_volume.proofs.Roles.{asks_number, dec_has, head_at, head_role, renumbered, renumbered_same, same_of, same_role}
 use Rattle.adf_survey.specs.declared.part.Part.{Part}
 use Rattle.adf_survey.specs.declared.part.Part.TheVariants.{Root as RootPart, Page as PagePart, MapExt as MapExtPart, Head as HeadPart}
 use Rattle.adf_survey.specs.declared.part.Part.TheVariants.{Ext as ExtPart, Data as DataPart}
@@ -415,9 +415,8 @@ module _ (image : List ℕ) (f : Found) {s : Course} (v : IsCourse image s) (don
           elim (settled g (Head q p t j) i e) [
             | inl y ↦
                 let here = subst (λ q. Has s.walk (Head q p t j) y.0) one y.1 in
-                let same = same_of (Head m head.0 head.1 head.2) (Head m p t j)
-                (one_head image (gathered image v) m head.0 head.1 head.2 h p t j y.0 head.3 here).0 in
-                head.4 g (Head q p t j) i e (sym same.0, sym same.1, sym same.2)
+                let same = same_of (head_role head) (Head m p t j) (one_head image (gathered image v) head (head_at m p t j y.0 here)).0 in
+                sound.unnoted g (Head q p t j) i e (sym same.0, sym same.1, sym same.2)
             | inr y ↦ apart image v x.0 (Head q p t j) c y.0 x.1 y.1 (same_of_key x.0 (Head q p t j) x.2)
           ]
 
@@ -489,9 +488,11 @@ module _ (image : List ℕ) (f : Found) {s : Course} (v : IsCourse image s) (don
       → IsSound image s.walk all m (node_block s.walk m)
   clear_sound m lo hi clear free =
       let x = has_number image (gathered image v) m lo hi in
-      let at : x.3 ≡ node_block s.walk m = sym (head_block image (gathered image v) m x.0 x.1 x.2 x.3 x.4) in
+      let g = x.1 in
+      let at : x.0 ≡ node_block s.walk m = sym (head_block image (gathered image v) g) in
       record {
-        header = (x.0, x.1, x.2, subst (Has s.walk (Head m x.0 x.1 x.2)) at x.4, head_clear m x.0 x.1 x.2 x.3 x.4 clear);
+        header = head_at m g.parent g.slot g.place (node_block s.walk m) (subst (Has s.walk (head_role g)) at g.has);
+        unnoted = head_clear m g.parent g.slot g.place x.0 g.has clear;
         exts = (λ k g q i is same. unspoken m clear g q i is (λ o z. ap (blamed f.taken) (ext_part o m k (z ∙ ap Some (ext_of q m k same)))));
         datas = (λ k g q i is same. unspoken m clear g q i is (λ o z. ap (blamed f.taken) (data_part o m k (z ∙ ap Some (data_of q m k same)))));
         alone = alone_clear m free;
@@ -512,8 +513,7 @@ module _ (image : List ℕ) (f : Found) {s : Course} (v : IsCourse image s) (don
         let lt : m < length f.nodes.items = (let z = x.0 in grind (arith, nat_tests)) in
         clear_sound m lo (omega arith) (not_false (is_blamed f.taken f.findings.items m) y.0) (not_false (is_doubtful (kind_of image) f m) y.1)),
     (λ sound.
-        let head = sound.header in
-        let few = number_of image (gathered image v) m head.0 head.1 head.2 (node_block s.walk m) head.3 in
+        let few = number_of image (gathered image v) sound.header in
         let count : length f.nodes.items ≡ suc (heads s.walk) = st.count in
         let lt : m < length f.nodes.items = omega arith in
         let one : nat_lt m (length f.nodes.items) ≡ true = grind (arith, nat_tests) in

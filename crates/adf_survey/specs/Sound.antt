@@ -1,6 +1,6 @@
 -- Entries that nothing is said against.
--- Letters: w the walk of a survey, fs its findings; n an entry's node, h the block of its header; p, s, j, up the node of its directory, its slot, its
--- place in the chain and the directory's block; q, r roles; b the block of one; a, i the block and the word that name one; k a number of a part.
+-- Letters: w the walk of a survey, fs its findings; n an entry's node, h the block of its header, g where it stands; up the block of its
+-- directory; q, r roles; b the block of one; a, i the block and the word that name one; k a number of a part.
 use Rattle.std.specs.Prelude.{◌≡◌, ◌<◌, ◌/◌, ◌↔◌, ℕ, List, Some}
 use Rattle.std.proofs.Common.{suc}
 use Rattle.adf_blocks.specs.declared.layout.TheConstants.{POINTERS, SIZE}
@@ -9,7 +9,7 @@ use Rattle.adf_tree.specs.declared.entry.Kind.TheVariants.{Ffs}
 use Rattle.adf_volume.specs.Lists.{At, In}
 use Rattle.adf_volume.specs.Made.{datas_in}
 use Rattle.adf_volume.specs.Image.{held, kind_of, table_word, word_in}
-use Rattle.adf_volume.specs.Walk.{Role, Same, Has, NodeAt, MemberAt, data_count, Asks}
+use Rattle.adf_volume.specs.Walk.{Role, Same, Has, HeadAt, NodeAt, MemberAt, data_count, Asks}
 use Rattle.adf_volume.specs.Walk.Role.{Head, Ext, Data}
 use Rattle.adf_survey.specs.Survey.{Finding}
 
@@ -20,14 +20,15 @@ IsUnnoted fs r = (f : Finding) (q : Role) → In fs f → f.part ≡ Some q → 
 -- The header of the entry is in the walk, and nothing concerns it, an extension block or a data block of the entry. An FFS data block does not say
 -- whose it is, so no other part may be asked for in it.
 pub record IsSound (image : List ℕ) (w : List (Role × ℕ)) (fs : List Finding) (n h : ℕ) : Type 0 where
-  pub header : (p s j : ℕ) × Has w (Head n p s j) h × IsUnnoted fs (Head n p s j)
+  pub header : HeadAt w n h
+  pub unnoted : IsUnnoted fs (Head n header.parent header.slot header.place)
   pub exts : (k : ℕ) → IsUnnoted fs (Ext n k)
   pub datas : (k : ℕ) → IsUnnoted fs (Data n k)
   pub alone : kind_of image ≡ Ffs → (k b : ℕ) → Has w (Data n k) b → (q : Role) (a i : ℕ) → Asks image w q a i → word_in image a i ≡ b → Same q (Data n k)
 
 -- the header of the entry, at block h, has its form in the chain in which it stands
 abbrev pub HeaderHolds : List ℕ → List (Role × ℕ) → ℕ → ℕ → Type 0
-HeaderHolds image w n h = (p s j up : ℕ) → Has w (Head n p s j) h → NodeAt w p up → AllHold (head_demands image (kind_of image) h up s)
+HeaderHolds image w n h = (g : HeadAt w n h) (up : ℕ) → NodeAt w g.parent up → AllHold (head_demands image (kind_of image) h up g.slot)
 
 -- Each data block that the size of the file asks for is in the walk, at the block that the table names; its extension blocks and data blocks have
 -- their forms, the latter for some next data block.

@@ -69,6 +69,29 @@ module _ (image : List ℕ) where
   pub none_next : {w : List (Role × ℕ)} {n b : ℕ} → IsGathered image w → HeadAt w n b → n ≢ suc (heads w)
   none_next v h e = omega (arith, number_of v h)
 
+  -- a directory is there before what is in it
+  pub dir_number : {w : List (Role × ℕ)} → IsGathered image w → (p a : ℕ) → DirAt image w p a → p ≤ heads w
+  dir_number v zero a h = omega arith
+  dir_number v (suc i) a h = (number_of v h.header).1
+
+  asked_after : {w : List (Role × ℕ)} → IsGathered image w → ((m b : ℕ) (h : HeadAt w m b) → h.parent < m) → (n p s j a i : ℕ)
+      → Asks image w (Head n p s j) a i → p < n
+  asked_after v older n p s zero a i h = omega (arith, dir_number v p a h.2, h.0)
+  asked_after {w = w} v older n p s (suc j) a i h =
+      let k : HeadAt w h.1.0 a = head_at h.1.0 p s j a h.1.1 in
+      omega (arith, older h.1.0 a k, number_of v k, h.0)
+
+  -- a parent has a smaller number
+  pub parent_below : {w : List (Role × ℕ)} {n b : ℕ} → IsGathered image w → (h : HeadAt w n b) → h.parent < n
+  parent_below start h = absurd (no_head h)
+  parent_below {n = n} (step {w = w} a i c v d l) h = elim h.has [
+    | inl e ↦ asked_after v (λ m b k. parent_below v k) n h.parent h.slot h.place a i (subst (λ r. Asks image w r a i) e.0 d)
+    | inr k ↦ parent_below v (head_in h k)
+  ]
+
+  pub parent_asked : {w : List (Role × ℕ)} → IsGathered image w → (n p s j a i : ℕ) → Asks image w (Head n p s j) a i → p < n
+  parent_asked v = asked_after v (λ m b k. parent_below v k)
+
   -- a number has one header
   pub one_head : {w : List (Role × ℕ)} {n b c : ℕ} → IsGathered image w → (h : HeadAt w n b) (k : HeadAt w n c) → (head_role h ≡ head_role k) × (b ≡ c)
   one_head start h k = absurd (no_head h)

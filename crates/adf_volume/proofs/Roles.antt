@@ -130,9 +130,17 @@ new_number image w {n = n} h a i e d = asks_number image w n h.parent h.slot h.p
 pub no_head : {c n a : ℕ} → HeadAt ((Root, c) ∷ []) n a → ⊥
 no_head h = elim h.has [ inl e ↦ let x : second Root ≡ second (head_role h) = ap second e.0 in omega arith | inr f ↦ f ]
 
+pub typed_in : {image : List ℕ} {w v : List (Role × ℕ)} {t n a : ℕ} (h : TypedAt image w t n a) → Has v (head_role h.header) a → TypedAt image v t n a
+typed_in h k = record { header = head_in h.header k; type = h.type }
+
+-- a node of a list with one part more is that part, or was there
+pub typed_cases : {image : List ℕ} {w : List (Role × ℕ)} {x : Role × ℕ} {t n a : ℕ} (h : TypedAt image (x ∷ w) t n a)
+    → ((x.0 ≡ head_role h.header) × (x.1 ≡ a)) ⊎ TypedAt image w t n a
+typed_cases h = elim h.header.has [ inl e ↦ inl e | inr k ↦ inr (typed_in h k) ]
+
 -- a list with one part more has what it had
 pub typed_up : {image : List ℕ} {w : List (Role × ℕ)} {t n a : ℕ} (x : Role × ℕ) → TypedAt image w t n a → TypedAt image (x ∷ w) t n a
-typed_up x h = record { header = head_in h.header (inr h.header.has); type = h.type }
+typed_up x h = typed_in h (inr h.header.has)
 
 module _ (image : List ℕ) where
   pub dir_up : (w : List (Role × ℕ)) (x : Role × ℕ) (p a : ℕ) → DirAt image w p a → DirAt image (x ∷ w) p a

@@ -6,8 +6,9 @@ use Rattle.adf_volume.specs.Walk.{Role, first, second, third, Before, Same, Has,
 use Rattle.adf_volume.specs.Walk.{IsWalk}
 use Rattle.adf_volume.specs.Walk.Role.{Root, Page, MapExt, Head, Ext, Data}
 use Rattle.adf_volume.specs.Walk.IsWalk.{start, step}
-use Rattle.adf_volume.proofs.Roles.{head_at, head_in, head_role, new_number, no_head, same_refl}
-use Rattle.adf_volume.proofs.Walks.{number_of}
+use Rattle.adf_volume.proofs.Gathered.{parent_asked}
+use Rattle.adf_volume.proofs.Roles.{head_in, head_role, new_number, no_head, same_refl, typed_cases}
+use Rattle.adf_volume.proofs.Walks.{number_of, of_walk}
 
 pub before_trans : (x y z : Role) → Before x y → Before y z → Before x z
 before_trans x y z h k = (omega arith, (λ e. omega arith), (λ e f. omega arith))
@@ -32,29 +33,10 @@ last w z c q b r (inl y) n o = subst (λ q. Before q r) y.0 n
 last w z c q b r (inr y) n o = o y
 
 module _ (image : List ℕ) where
-  pub dir_number : (w : List (Role × ℕ)) (p a : ℕ) → IsWalk image w → DirAt image w p a → p ≤ heads w
-  dir_number w zero a v h = omega arith
-  dir_number w (suc i) a v h = (number_of image v h.header).1
-
-  asks_parent : {w : List (Role × ℕ)} → IsWalk image w → (n p s j a i : ℕ) → ((m b : ℕ) (h : HeadAt w m b) → h.parent < m)
-      → Asks image w (Head n p s j) a i → p < n
-  asks_parent {w = w} v n p s zero a i ih h = omega (arith, dir_number w p a v h.2, h.0)
-  asks_parent {w = w} v n p s (suc j) a i ih h =
-      let k : HeadAt w h.1.0 a = head_at h.1.0 p s j a h.1.1 in
-      omega (arith, ih h.1.0 a k, number_of image v k, h.0)
-
-  -- a parent has a smaller number
-  pub parent_below : {w : List (Role × ℕ)} {n b : ℕ} → IsWalk image w → (h : HeadAt w n b) → h.parent < n
-  parent_below start h = absurd (no_head h)
-  parent_below {n = n} (step {w = w} {a = a} {i = i} v d g c) h = elim h.has [
-    | inl e ↦ asks_parent v n h.parent h.slot h.place a i (λ m b k. parent_below v k) (subst (λ r. Asks image w r a i) e.0 d.asked)
-    | inr k ↦ parent_below v (head_in h k)
-  ]
-
   module _ (w : List (Role × ℕ)) (v : IsWalk image w) (q : Role) (c a0 i0 : ℕ) (d : IsDue image w q a0 i0) where
     head_before : (n p s j : ℕ) (r : Role) → q ≡ Head n p s j → n < first r → Before q r
     head_before n p s j r e u =
-        let x : p < n = asks_parent v n p s j a0 i0 (λ m b k. parent_below v k) (subst (λ q. Asks image w q a0 i0) e d.asked) in
+        let x : p < n = parent_asked image (of_walk image v) n p s j a0 i0 (subst (λ q. Asks image w q a0 i0) e d.asked) in
         let y : first q ≡ suc p = ap first e in
         (omega arith, (λ z. absurd (omega arith)), (λ z z'. absurd (omega arith)))
 
@@ -62,9 +44,9 @@ module _ (image : List ℕ) where
     not_root e = subst (λ q. Asks image w q a0 i0) e d.asked
 
     typed_back : (t n a : ℕ) (r : Role) → n < first r → TypedAt image ((q, c) ∷ w) t n a → TypedAt image w t n a ⊎ Before q r
-    typed_back t n a r u h = let x = h.header in elim x.has [
-      | inl e ↦ inr (head_before n x.parent x.slot x.place r e.0 u)
-      | inr k ↦ inl (record { header = head_in x k; type = h.type })
+    typed_back t n a r u h = elim (typed_cases h) [
+      | inl e ↦ inr (head_before n h.header.parent h.header.slot h.header.place r e.0 u)
+      | inr k ↦ inl k
     ]
 
     -- what the longer walk asks for was asked for before, or comes after the new member

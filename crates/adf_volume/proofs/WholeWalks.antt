@@ -23,9 +23,9 @@ use Rattle.adf_volume.specs.Made.{pages_in, map_exts_in, exts_in, datas_in, body
 use Rattle.adf_volume.proofs.FormDemands.{head_type, dir_not_file}
 use Rattle.adf_volume.proofs.Images.{content_length, map_exts_high, map_exts_low}
 use Rattle.adf_volume.proofs.Lists.{at_fun, at_below, at_some, at_unmap, spelled_from, no_length, at_index, index_past}
-use Rattle.adf_volume.proofs.Gathered.{file_one}
+use Rattle.adf_volume.proofs.Gathered.{file_one, parent_below}
 use Rattle.adf_volume.proofs.Walks.{of_walk, root_is, root_in, number_of, numbered, one_head, one_block, ext_file, asked_block, asked_header, page_word}
-use Rattle.adf_volume.proofs.WalkOrder.{parent_below, in_order}
+use Rattle.adf_volume.proofs.WalkOrder.{in_order}
 use Rattle.adf_volume.proofs.MemberFacts.{kept, there, IsNext, new_names, in_range, map_ext_low}
 use Rattle.adf_volume.proofs.Roles.{head_at, head_role}
 use Rattle.adf_volume.proofs.WalkMembers.{entries_length, entry_has, place_has, exts_length, ext_has, has_ext, data_has, has_data, pages}
@@ -102,7 +102,7 @@ module _ (image : List ℕ) (w : List (Role × ℕ)) (v : IsWalk image w) (whole
         let x = entry_is n e h in
         let k = kept image v (head_role x.header) x.block x.header.has in
         let z : x.header.parent ≡ e.parent = ap (λ (y : Entry). y.parent) (sym x.entry) in
-        subst (λ p. (p < n) × DirNode (tree_in image w) p) z (parent_below image v x.header, dir_is x.header.parent k.2.0 k.2.1));
+        subst (λ p. (p < n) × DirNode (tree_in image w) p) z (parent_below image (of_walk image v) x.header, dir_is x.header.parent k.2.0 k.2.1));
     order = (λ n m e f h k l.
         let x = entry_is n e h in
         let y = entry_is m f k in
