@@ -25,7 +25,7 @@ use Rattle.adf_volume.specs.Layout.{EntryAt, Layout, at_node, chain_nodes}
 use Rattle.adf_volume.specs.Lists.{At, Spelled}
 use Rattle.adf_volume.specs.Made.{layout_in, tree_in}
 use Rattle.adf_volume.specs.Walk.Role.{Head}
-use Rattle.adf_volume.proofs.Chains.{chain_rises, entry_at, entry_below}
+use Rattle.adf_volume.proofs.Chains.{SlotEntry, chain_rises, entry_at, entry_below}
 use Rattle.adf_volume.proofs.Finds.{chain_no, chain_yes}
 use Rattle.adf_volume.proofs.LayoutRoles.{part_owned, part_range}
 use Rattle.adf_volume.proofs.Lists.{at_below, at_fun, at_map, at_some, at_unmap, no_length, spelled_first, spelled_link, spelled_next, spelled_word}
@@ -115,7 +115,7 @@ module _ {image : List ℕ} {store : StoreValue} {t : Tree} {l : Layout} (k : St
         | yes some ↦
             let n = at_some (chain_nodes t p s) 0 some in
             let x = entry_at t p s 0 n.0 n.1 in
-            absurd (h (type_of p ne (subst (DirNode t) x.2 ((ordered t k.fits.tree).parents n.0 x.0 x.1).1)))
+            absurd (h (type_of p ne (subst (DirNode t) x.parent ((ordered t k.fits.tree).parents n.0 x.entry x.at).1)))
         | no none ↦
             subst (λ ns. Spelled (next_in image) 0 (map (at_node image l) ns)) (sym (no_length (chain_nodes t p s) (omega arith))) refl
       ]
@@ -139,7 +139,7 @@ module _ {image : List ℕ} {store : StoreValue} {t : Tree} {l : Layout} (k : St
     left_at j n a {b = b} is =
         let x = entry_at t p (slot_of name) j n a in
         let o : owner_at store.owners b ≡ AHead n = k.owners.part (AHead n) b (part_owned image t l k.fits.places (Head n p (slot_of name) j) b (a, is)) in
-        (o, ap (node_left (length store.headers)) o, omega (arith, entry_below t n x.0 x.1, k.headers.count))
+        (o, ap (node_left (length store.headers)) o, omega (arith, entry_below t n x.entry x.at, k.headers.count))
 
   module _ {p : ℕ} {name : List ℕ} where
     pub chain_begins : (b : ℕ) → Spelled (next_in image) b (heads_named image t l p name) → OnChain image t l p name b
@@ -161,7 +161,7 @@ module _ {image : List ℕ} {store : StoreValue} {t : Tree} {l : Layout} (k : St
       at : (n : ℕ) × At (nodes_named t p name) c.place n × (at_node image l n ≡ b)
       at = at_unmap (at_node image l) (nodes_named t p name) c.place b (c.here ne)
 
-      node_entry : (e : Entry) × EntryAt t at.0 e × (e.parent ≡ p) × (slot_of e.name ≡ slot_of name) × (1 ≤ at.0)
+      node_entry : SlotEntry t p (slot_of name) at.0
       node_entry = entry_at t p (slot_of name) c.place at.0 at.1
 
       entry_fits : (e : Entry) → EntryAt t at.0 e → EntryFits image t l at.0 b e
@@ -172,15 +172,15 @@ module _ {image : List ℕ} {store : StoreValue} {t : Tree} {l : Layout} (k : St
 
       pub here_head : IsHead (block image b)
       here_head =
-          let e : Entry = node_entry.0 in
-          head_facts t.kind b b (at_node image l e.parent) (slot_of e.name) (block image b) (entry_fits e node_entry.1).form
+          let e : Entry = node_entry.entry in
+          head_facts t.kind b b (at_node image l e.parent) (slot_of e.name) (block image b) (entry_fits e node_entry.at).form
 
       -- the header has the name
       pub chain_found : uppers (name_of image b) ≡ uppers name → headed (owner_at store.owners b) ≡ child t.entries p name
       chain_found u =
           let x = node_entry in
           ap headed (left_at p name c.place at.0 at.1 at.2).0
-          ∙ sym (chain_yes t p (slot_of name) name c.place at.0 x.0 k.fits.tree at.1 x.1 (ap uppers (entry_fits x.0 x.1).name ∙ u))
+          ∙ sym (chain_yes t p (slot_of name) name c.place at.0 x.entry k.fits.tree at.1 x.at (ap uppers (entry_fits x.entry x.at).name ∙ u))
 
       next_here : next_in image b ≢ 0 → At (heads_named image t l p name) (suc c.place) (next_in image b)
       next_here = spelled_next (next_in image) c.first (heads_named image t l p name) c.place b c.spelled (c.here ne)

@@ -8,8 +8,9 @@ use Rattle.adf_volume.specs.Walk.{Role, first, second, third, Before, Same, head
 use Rattle.adf_volume.specs.Walk.Role.{Root, Page, MapExt, Head, Ext, Data}
 use Rattle.adf_volume.specs.Walk.IsWalk.{start, step}
 use Rattle.adf_volume.proofs.Roles.{same_refl}
-use Rattle.adf_volume.proofs.Walks.{number_of, one_head, one_node, due_file}
-use Rattle.adf_volume.proofs.WalkOrder.{dir_number, asks_back, before_total}
+use Rattle.adf_volume.proofs.Walks.{number_of, of_walk, one_head, due_file}
+use Rattle.adf_volume.proofs.Gathered.{dir_number}
+use Rattle.adf_volume.proofs.WalkOrder.{asks_back, before_total}
 use Rattle.adf_volume.proofs.MemberFacts.{kept}
 use Rattle.adf_check.specs.Cursor.{Cursor, first_number, second_number, third_number, nodes_begun, IsBelow, IsUpTo}
 use Rattle.adf_check.specs.Reading.{HasRead}
@@ -104,13 +105,13 @@ module _ (image : List ℕ) (w : List (Role × ℕ)) where
   data_file_of n (suc m) a i h = (h.0.0, h.0.1)
 
   file_number : IsWalk image w → (n : ℕ) → (h : ℕ) × FileAt image w n h → (1 ≤ n) × (n ≤ heads w)
-  file_number v n f = number_of image v n f.1.0.0 f.1.0.1 f.1.0.2 f.0 f.1.0.3
+  file_number v n f = number_of image v f.1.header
 
   dir_no_file : IsWalk image w → (n a b : ℕ) → DirAt image w n a → FileAt image w n b → ⊥
   dir_no_file v zero a b d f = omega (arith, (file_number v 0 (b, f)).0)
   dir_no_file v (suc i) a b d f =
-      let e : a ≡ b = one_node image v (suc i) a b d.0 f.0 in
-      let z : ST_DIR ≡ ST_FILE = sym d.1 ∙ ap (λ a. word_in image a SECONDARY_TYPE) e ∙ f.1 in omega arith
+      let e : a ≡ b = (one_head image v d.header f.header).1 in
+      let z : ST_DIR ≡ ST_FILE = sym d.type ∙ ap (λ a. word_in image a SECONDARY_TYPE) e ∙ f.type in omega arith
 
   -- behind the last slot of a directory
   pub end_dir : (p : ℕ) → IsUpTo image w (suc p) 74 0 → IsUpTo image w (suc (suc p)) 0 0
@@ -174,7 +175,7 @@ module _ (image : List ℕ) (w : List (Role × ℕ)) where
           elim (ℕ_discrete q n) [
             | yes e ↦
                 let g : FileAt image w n h.0.0 = subst (λ q. FileAt image w q h.0.0) e h.0.1 in
-                let z : h.0.0 ≡ c = (one_head image u.walk n g.0.0 g.0.1 g.0.2 h.0.0 f.0.0 f.0.1 f.0.2 c g.0.3 f.0.3).1 in
+                let z : h.0.0 ≡ c = (one_head image u.walk g.header f.header).1 in
                 let x : m < data_count image c = subst (λ c. m < data_count image c) z h.0.2 in
                 k (omega arith)
             | no e ↦ k (grind arith)
@@ -208,8 +209,7 @@ module _ (image : List ℕ) (w : List (Role × ℕ)) where
       low (Data q m) a i h = omega (arith, (file_number u.walk q (data_file_of q m a i h)).1)
       low (Head m q s j) a i h =
           let d = slot_low u.walk m q s j a i h in
-          let x : q ≤ heads w = dir_number image w q d.1.0 u.walk d.1.1 in
-          omega arith
+          omega (arith, dir_number image (of_walk image u.walk) q d.1.0 d.1.1)
       low _ a i h = omega arith
 
 -- where the reader begins

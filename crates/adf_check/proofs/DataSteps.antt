@@ -15,7 +15,7 @@ use Rattle.adf_volume.specs.Lists.{At}
 use Rattle.adf_volume.specs.Walk.{Enough, FileAt, IsWalk, MemberAt, Role, data_count, ext_count, form_demands, member_block, node_block}
 use Rattle.adf_volume.specs.Walk.Role.{Data, Ext, Head}
 use Rattle.adf_volume.proofs.Lists.{at_some}
-use Rattle.adf_volume.proofs.Roles.{file_up, member_up}
+use Rattle.adf_volume.proofs.Roles.{head_role, member_up, typed_up}
 use Rattle.adf_volume.proofs.MemberFacts.{in_range}
 use Rattle.adf_volume.proofs.Walks.{file_is, member_is, one_head}
 use Rattle.adf_check.specs.Fault.{IsTrueFault, fault}
@@ -30,7 +30,7 @@ use Rattle.adf_check.proofs.ClaimSteps.{IsNamed, IsStored, form_fault, read_one,
 use Rattle.adf_check.proofs.CursorMoves.{moved, end_datas}
 
 member_inside : (image : List ℕ) (w : List (Role × ℕ)) → IsBegun image → IsWalk image w → (n m c : ℕ) → MemberAt image w n m c → c < blocks image
-member_inside image w begun v n zero c h = (in_range image v (many_blocks image begun) (Head n h.0.0 h.0.1 h.0.2) c h.0.3).1
+member_inside image w begun v n zero c h = (in_range image v (many_blocks image begun) (head_role h.header) c h.header.has).1
 member_inside image w begun v n (suc m) c h = (in_range image v (many_blocks image begun) (Ext n (suc m)) c h).1
 
 -- the blocks of the table are those of the image
@@ -49,9 +49,7 @@ datas_end image store n h table k st le = record {
 
 module _ {image : List ℕ} {store : StoreValue} {n h : ℕ} {table : List ℕ} {k : ℕ} (begun : IsBegun image) (st : IsInDatas image store n h table k) where
   one_file : (a : ℕ) → FileAt image st.walk n a → h ≡ a
-  one_file a f =
-      let g = st.holds.file in
-      (one_head image st.read.upto.walk n g.0.0 g.0.1 g.0.2 h f.0.0 f.0.1 f.0.2 a g.0.3 f.0.3).1
+  one_file a f = (one_head image st.read.upto.walk st.holds.file.header f.header).1
 
   named_by : k < data_count image h → (c b : ℕ) → At table (k / POINTERS) c → b ≡ word_in image c (table_word k)
       → IsNamed image store st.walk (Data n (suc k)) c b
@@ -119,7 +117,7 @@ module _ {image : List ℕ} {store : StoreValue} {n h : ℕ} {table : List ℕ} 
               read = read_one data_named data_enough range free (subst AllHold form_is f) tt (subst (λ m. IsStored store new (Data n m) b) one stored)
                   (BeforeRole (Data n (suc (k + 1)))) (refl, refl, refl, omega arith);
               holds = record {
-                file = file_up image st.walk (r, b) n h st.holds.file;
+                file = typed_up (r, b) st.holds.file;
                 members = (λ m c x. member_up image st.walk (r, b) n m c (st.holds.members m c x));
                 counted = st.holds.counted;
               };

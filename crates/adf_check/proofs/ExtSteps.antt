@@ -16,8 +16,7 @@ use Rattle.adf_volume.specs.Walk.{Role, Asks, FileAt, MemberAt, form_demands, ex
 use Rattle.adf_volume.specs.Walk.Role.{Ext}
 use Rattle.adf_volume.proofs.FormDemands.{all_demanded, first_demanded}
 use Rattle.adf_volume.proofs.Lists.{at_snoc, snoc_length}
-use Rattle.adf_volume.proofs.Roles.{file_up, member_up}
-use Rattle.adf_volume.proofs.Roles.{count_own}
+use Rattle.adf_volume.proofs.Roles.{count_own, member_up, typed_up}
 use Rattle.adf_volume.proofs.Walks.{file_is, one_block, one_head, ext_counted}
 use Rattle.adf_check.specs.Fault.{IsTrueFault, fault}
 use Rattle.adf_check.specs.Cursor.Cursor.{BeforeRole}
@@ -62,7 +61,7 @@ exts_asks image w n h (suc j) a b f ne x = (126, (x.0, refl, (λ z. ne (sym x.1 
 exts_no : (image : List ℕ) (w : List (Role × ℕ)) → IsWalk image w → (n h j a : ℕ) → FileAt image w n h → NextExt image w n h j a 0 → (c i : ℕ)
     → Asks image w (Ext n (suc j)) c i → ⊥
 exts_no image w v n h zero a f x c i k =
-    let e : c ≡ h = (one_head image v n k.0.0.0 k.0.0.1 k.0.0.2 c f.0.0 f.0.1 f.0.2 h k.0.0.3 f.0.3).1 in
+    let e : c ≡ h = (one_head image v k.0.header f.header).1 in
     k.2 (ap (word_in image c) k.1 ∙ ap (λ a. word_in image a EXTENSION) (e ∙ sym x.0) ∙ x.1)
 exts_no image w v n h (suc j) a f x c i k =
     let e : c ≡ a = (one_block image v (Ext n (suc j)) (Ext n (suc j)) c a k.0 x.0 (refl, refl, refl)).1 in
@@ -107,7 +106,7 @@ module _ {image : List ℕ} {store : StoreValue} {n h : ℕ} {table : List ℕ} 
           read = read_one ext_named tt range free (form_at AllHold form) tt (subst (λ k. IsStored store new (Ext n k) b) number stored)
               (BeforeRole (Ext n (suc (suc st.extra)))) (refl, refl, refl, refl);
           holds = subst (HasTable image ((r, b) ∷ st.walk) n h) (sym longer_is) (record {
-            file = file_up image st.walk (r, b) n h st.holds.file;
+            file = typed_up (r, b) st.holds.file;
             members = (λ m c x. elim (at_snoc table b m c x) [
               | inl y ↦ member_up image st.walk (r, b) n m c (st.holds.members m c y)
               | inr y ↦ subst (λ m. MemberAt image ((r, b) ∷ st.walk) n m c) (sym number ∙ sym y.0) (inl (refl, y.1))

@@ -4,11 +4,12 @@ use Rattle.adf_blocks.specs.declared.layout.TheConstants.{EXTENSION, SECONDARY_T
 use Rattle.adf_blocks.specs.Sizes.{blocks}
 use Rattle.adf_volume.specs.Image.{kind_of, root_of, word_in}
 use Rattle.adf_volume.specs.Lists.{At}
-use Rattle.adf_volume.specs.Walk.{Role, first, Has, heads, DirAt, FileAt, IsWalk}
+use Rattle.adf_volume.specs.Walk.{Role, first, Has, heads, HeadAt, DirAt, FileAt, IsWalk}
 use Rattle.adf_volume.specs.Walk.Role.{Root, Head}
 use Rattle.adf_volume.proofs.FormDemands.{head_type}
 use Rattle.adf_volume.proofs.Lists.{at_below, at_fun, at_index_or, at_snoc, at_some, snoc_length}
 use Rattle.adf_volume.proofs.MemberFacts.{in_range, kept}
+use Rattle.adf_volume.proofs.Roles.{head_role}
 use Rattle.adf_volume.proofs.Walks.{numbered, root_in}
 use Rattle.adf_check.specs.declared.store.KeptHeader.{KeptHeader}
 use Rattle.adf_check.specs.declared.store.NodeStart.{NodeStart}
@@ -61,21 +62,20 @@ enter_node image store n st = record {
 
 -- the node of a row
 module _ (image : List ℕ) (store : StoreValue) (w : List (Role × ℕ)) (t : StoreMatches image store w) (v : IsWalk image w) where
-  pub node_here : (i : ℕ) (r : KeptHeader) → At store.headers i r → (p s j : ℕ) × Has w (Head (suc i) p s j) r.head
+  pub node_here : (i : ℕ) (r : KeptHeader) → At store.headers i r → HeadAt w (suc i) r.head
   node_here i r h =
       let u : i < length store.headers = at_below store.headers i r h in
-      let k = numbered image v (suc i) (omega arith) (omega arith) in
-      let z : r ≡ record { parent = k.0; head = k.3 } =
-      at_fun store.headers i r (record { parent = k.0; head = k.3 }) h (t.headers.header i k.0 k.1 k.2 k.3 k.4) in
-      (k.0, k.1, k.2, subst (Has w (Head (suc i) k.0 k.1 k.2)) (ap (λ (x : KeptHeader). x.head) (sym z)) k.4)
+      let x = numbered image v (suc i) (omega arith) (omega arith) in
+      let k = x.1 in
+      let z : r ≡ record { parent = k.parent; head = x.0 } =
+      at_fun store.headers i r (record { parent = k.parent; head = x.0 }) h (t.headers.header i k.parent k.slot k.place x.0 k.has) in
+      subst (HeadAt w (suc i)) (ap (λ (x : KeptHeader). x.head) (sym z)) k
 
   pub file_here : (i : ℕ) (r : KeptHeader) → At store.headers i r → word_in image r.head SECONDARY_TYPE ≢ ST_DIR → FileAt image w (suc i) r.head
   file_here i r h d =
       let x = node_here i r h in
-      let k = (kept image v (Head (suc i) x.0 x.1 x.2) r.head x.3).2 in (
-        x,
-        elim (head_type image (kind_of image) r.head k.0 x.1 k.2) [ inl e ↦ absurd (d e) | inr e ↦ e ],
-      )
+      let k = (kept image v (head_role x) r.head x.has).2 in
+      record { header = x; type = elim (head_type image (kind_of image) r.head k.0 x.slot k.2) [ inl e ↦ absurd (d e) | inr e ↦ e ] }
 
 -- a directory's slots are next
 pub enter_directory : (image : List ℕ) (store : StoreValue) (n a : ℕ) (st : IsInNode image store n) → DirAt image st.walk n a → IsAtSlot image store n a 0
@@ -108,12 +108,12 @@ module _ {image : List ℕ} {store : StoreValue} {m n : ℕ} {header : KeptHeade
   pub head_inside : header.head < blocks image
   head_inside =
       let x = node_here image store st.walk st.read.tells st.read.upto.walk (m - 1) header here in
-      (in_range image st.read.upto.walk (many_blocks image begun) (Head (suc (m - 1)) x.0 x.1 x.2) header.head x.3).1
+      (in_range image st.read.upto.walk (many_blocks image begun) (head_role x) header.head x.has).1
 
   pub directory_begins : word_in image header.head SECONDARY_TYPE ≡ ST_DIR → IsAtSlot image store n header.head 0
   directory_begins e =
       enter_directory image store n header.head st (subst (λ n. DirAt image st.walk n header.head) node
-      (node_here image store st.walk st.read.tells st.read.upto.walk (m - 1) header here, e))
+      (record { header = node_here image store st.walk st.read.tells st.read.upto.walk (m - 1) header here; type = e }))
 
   pub file_begins : word_in image header.head SECONDARY_TYPE ≢ ST_DIR
       → IsInExts image store n header.head (header.head ∷ []) header.head (word_in image header.head EXTENSION)

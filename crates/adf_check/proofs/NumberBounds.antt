@@ -8,8 +8,8 @@ use Rattle.adf_volume.specs.Made.{is_ext_of}
 use Rattle.adf_volume.specs.Walk.{Role, heads}
 use Rattle.adf_volume.proofs.Sizes.{size_high, size_low}
 use Rattle.adf_volume.proofs.WalkMembers.{exts_length}
-use Rattle.adf_volume.proofs.WalkOrder.{dir_number}
-use Rattle.adf_volume.proofs.Walks.{number_of}
+use Rattle.adf_volume.proofs.Gathered.{dir_number}
+use Rattle.adf_volume.proofs.Walks.{number_of, of_walk}
 use Rattle.adf_check.specs.Cursor.{Cursor}
 use Rattle.adf_check.specs.Reading.{HasRead, HasTable, IsAtNode, IsInChain}
 use Rattle.adf_check.specs.Store.{StoreValue, StoreMatches, data_file, ext_file}
@@ -42,7 +42,7 @@ module _ {image : List ℕ} {store : StoreValue} (begun : IsBegun image) (used :
 
   -- the number of a directory is short
   pub parent_short : {p up s a b : ℕ} {seen : List ℕ → Type 0} → IsInChain image store p up s a b seen → p < 2 ^ 32
-  parent_short {p = p} {up = up} st = omega (arith, heads_short st.read.tells, dir_number image st.walk p up st.read.upto.walk st.dir)
+  parent_short {p = p} {up = up} st = omega (arith, heads_short st.read.tells, dir_number image (of_walk image st.read.upto.walk) p up st.dir)
 
   -- the number of a header that is due is short
   pub entry_short : {p up s a b : ℕ} {seen : List ℕ → Type 0} → IsInChain image store p up s a b seen → length store.headers + 1 < 2 ^ 32
@@ -52,8 +52,7 @@ module _ {image : List ℕ} {store : StoreValue} (begun : IsBegun image) (used :
     -- the number of a file is short
     pub file_short : n < 2 ^ 32
     file_short =
-        let f = holds.file.0 in
-        omega (arith, heads_short read.tells, (number_of image read.upto.walk n f.0 f.1 f.2 h f.3).1)
+        omega (arith, heads_short read.tells, (number_of image read.upto.walk holds.file.header).1)
 
     -- and so is its table
     pub table_short : length table < 2 ^ 32

@@ -21,6 +21,7 @@ use Rattle.adf_volume.specs.Layout.{Layout, at_node}
 use Rattle.adf_volume.specs.Lists.{At}
 use Rattle.adf_volume.specs.Walk.Role.{Head}
 use Rattle.adf_volume.proofs.MemberFacts.{kept}
+use Rattle.adf_volume.proofs.Roles.{head_role}
 use Rattle.adf_volume.proofs.FormDemands.{demanded}
 use Rattle.adf_volume.proofs.Lists.{all_append, at_below, at_some}
 use Rattle.adf_volume.proofs.Chains.{entry_is_at}
@@ -50,8 +51,8 @@ head_facts kind b own parent slot bytes h =
 pub header_is_head : {image : List ℕ} {store : StoreValue} → StoreFits image store → (i : ℕ) (r : Kept) → At store.headers i r → IsHead (block image r.head)
 header_is_head {image = image} {store = store} st i r at =
     let x = node_here image store st.walk st.read.tells st.read.is_walk i r at in
-    let k = (kept image st.read.is_walk (Head (suc i) x.0 x.1 x.2) r.head x.3).2 in
-    head_facts (kind_of image) r.head r.head k.0 x.1 (block image r.head) k.2
+    let k = (kept image st.read.is_walk (head_role x) r.head x.has).2 in
+    head_facts (kind_of image) r.head r.head k.0 x.slot (block image r.head) k.2
 
 pub tells_begun : (image : List ℕ) (store : StoreValue) → StoreFits image store → IsBegun image
 tells_begun image store st = all_append (boot_demands image) (root_demands image (root_of image)) st.fits.boots st.fits.root

@@ -44,12 +44,14 @@ module _ (image : List ℕ) (store : StoreValue) (st : StoreFits image store) wh
     count = st.read.tells.headers.count ∙ sym (entries_length image st.walk st.walk);
     head = (λ i r h.
         let x = node_here image store st.walk st.read.tells st.read.is_walk i r h in
-        (head_is image st.walk st.read.is_walk st.read.whole (suc i) x.0 x.1 x.2 r.head x.3).0);
+        (head_is image st.walk st.read.is_walk st.read.whole x).0);
     parent = (λ i r e h k.
         let x = entry_is image st.walk st.read.is_walk st.read.whole (suc i) e k in
-        let z : r ≡ record { parent = x.0; head = x.3 } =
-        at_fun store.headers i r (record { parent = x.0; head = x.3 }) h (st.read.tells.headers.header i x.0 x.1 x.2 x.3 x.4) in
-        ap (λ (y : Entry). y.parent) x.5 ∙ ap (λ (y : KeptHeader). y.parent) (sym z));
+        let g = x.header in
+        let z : r ≡ record { parent = g.parent; head = x.block } =
+        at_fun store.headers i r (record { parent = g.parent; head = x.block }) h
+        (st.read.tells.headers.header i g.parent g.slot g.place x.block g.has) in
+        ap (λ (y : Entry). y.parent) x.entry ∙ ap (λ (y : KeptHeader). y.parent) (sym z));
   }
 
   -- a part that the layout tells is in the walk, and the other way round

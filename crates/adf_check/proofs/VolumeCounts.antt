@@ -13,6 +13,7 @@ use Rattle.adf_volume.specs.Layout.{Layout, at_node, owned}
 use Rattle.adf_volume.specs.Lists.{At}
 use Rattle.adf_volume.specs.Walk.Role.{Head}
 use Rattle.adf_volume.proofs.MemberFacts.{in_range}
+use Rattle.adf_volume.proofs.Roles.{head_role}
 use Rattle.adf_check.specs.declared.store.KeptHeader.{KeptHeader}
 use Rattle.adf_check.specs.StoreStands.{StoreStandsFor}
 use Rattle.adf_check.specs.Reading.{StoreFits}
@@ -28,7 +29,7 @@ use Rattle.adf_check.specs.declared.checked.Counts.{Counts}
 pub header_inside : {image : List ℕ} {store : StoreValue} → StoreFits image store → (i : ℕ) (r : KeptHeader) → At store.headers i r → r.head < blocks image
 header_inside {image = image} {store = store} st i r at =
     let x = node_here image store st.walk st.read.tells st.read.is_walk i r at in
-    (in_range image st.read.is_walk (many_blocks image (tells_begun image store st)) (Head (suc i) x.0 x.1 x.2) r.head x.3).1
+    (in_range image st.read.is_walk (many_blocks image (tells_begun image store st)) (head_role x) r.head x.has).1
 
 pub headers_inside : (image : List ℕ) (store : StoreValue) → StoreFits image store → (i : ℕ) (d : KeptHeader) → i < length store.headers
     → (get_or store.headers i d).head < blocks image

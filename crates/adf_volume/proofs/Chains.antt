@@ -72,9 +72,16 @@ chain_rises k (e ∷ es) p s i j n m a b l =
     (λ q x h. let r = at_chain (suc k) es p s q x h in let z : x ≡ suc k + r.index = r.number in omega arith)
     (chain_rises (suc k) es p s) a b l
 
+-- entry n is one of slot s of directory p
+pub record SlotEntry (t : Tree) (p s n : ℕ) : Type 0 where
+  pub entry : Entry
+  pub at : EntryAt t n entry
+  pub parent : entry.parent ≡ p
+  pub slot : slot_of entry.name ≡ s
+  pub low : 1 ≤ n
+
 -- the entry of a place in a chain
-pub entry_at : (t : Tree) (p s j n : ℕ) → At (chain_nodes t p s) j n
-    → record { entry : Entry; at : EntryAt t n entry; parent : entry.parent ≡ p; slot : slot_of entry.name ≡ s; low : 1 ≤ n }
+pub entry_at : (t : Tree) (p s j n : ℕ) → At (chain_nodes t p s) j n → SlotEntry t p s n
 entry_at t p s j n h =
     let r = at_chain 1 t.entries p s j n h in
     let y : n ≡ 1 + r.index = r.number in
