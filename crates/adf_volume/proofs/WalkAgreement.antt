@@ -1,10 +1,10 @@
 -- Agreement: where a tree and a layout fit, each walk goes along them.
-use Rattle.std.proofs.Common.{◌≡◌, ℕ, zero, suc, List, inl, inr, ◌+◌, ◌*◌, ◌/◌, ◌<◌, ◌≤◌, ◌≢◌, length, refl, sym, ap, subst, ◌∙◌, arith, map, Bool, true}
+use Rattle.std.proofs.Common.{◌≡◌, ℕ, zero, suc, List, inl, inr, ◌+◌, ◌/◌, ◌<◌, ◌≤◌, ◌≢◌, length, refl, sym, ap, subst, ◌∙◌, arith, map, Bool, true}
 use Rattle.std.proofs.Common.{false, cond}
 use Rattle.adf_blocks.specs.declared.layout.TheConstants.{EXTENSION, FIRST_SLOT, NEXT_IN_CHAIN, POINTERS, SECONDARY_TYPE, SIZE, SLOTS, ST_DIR, ST_FILE}
 use Rattle.adf_volume.specs.Lists.{At}
 use Rattle.adf_blocks.specs.Sizes.{blocks, count, pages_needed}
-use Rattle.adf_volume.specs.Image.{root_of, name_of, word_in, map_exts_needed, kind_of, table_word}
+use Rattle.adf_volume.specs.Image.{root_of, name_of, word_in, kind_of, table_word}
 use Rattle.adf_fields.specs.Hash.{slot_of}
 use Rattle.adf_tree.specs.Texts.{uppers}
 use Rattle.adf_volume.specs.Demands.{AllHold, ext_demands}

@@ -1,10 +1,10 @@
 -- Completeness: where a tree and a layout fit, a walk that asks for nothing more has all their parts.
-use Rattle.std.proofs.Common.{◌≡◌, ℕ, zero, suc, List, ◌+◌, ◌*◌, ◌/◌, ◌<◌, ◌≤◌, length, refl, sym, ap, subst, ◌∙◌, arith}
+use Rattle.std.proofs.Common.{◌≡◌, ℕ, zero, suc, List, ◌+◌, ◌*◌, ◌/◌, ◌<◌, ◌≤◌, length, refl, sym, subst, ◌∙◌, arith}
 use Rattle.adf_blocks.specs.declared.layout.TheConstants.{EXTENSION, FIRST_MAP_EXT, MAP_EXT_NEXT, MAP_EXT_PAGES, POINTERS, ROOT_PAGES, SECONDARY_TYPE}
 use Rattle.adf_blocks.specs.declared.layout.TheConstants.{ST_FILE}
 use Rattle.adf_volume.specs.Lists.{At}
-use Rattle.adf_blocks.specs.Sizes.{blocks, count, pages_needed}
-use Rattle.adf_volume.specs.Image.{root_of, word_in, map_exts_needed, table_word}
+use Rattle.adf_blocks.specs.Sizes.{blocks, pages_needed}
+use Rattle.adf_volume.specs.Image.{root_of, word_in, table_word}
 use Rattle.adf_fields.specs.Hash.{slot_of}
 use Rattle.adf_tree.specs.declared.entry.Body.{Body}
 use Rattle.adf_tree.specs.declared.entry.Entry.{Entry}
@@ -12,11 +12,11 @@ use Rattle.adf_tree.specs.Tree.{Tree}
 use Rattle.adf_volume.specs.Layout.{EntryAt, Layout, at_node, exts_of, datas_of}
 use Rattle.adf_tree.specs.declared.entry.Body.TheVariants.{Dir, File}
 use Rattle.adf_volume.specs.Fits.{Fits, BodyFits}
-use Rattle.adf_volume.specs.Walk.{Role, Has, heads, HeadAt, FileAt, MemberAt, data_count, IsWalk, IsWhole}
+use Rattle.adf_volume.specs.Walk.{Role, Has, heads, FileAt, MemberAt, data_count, IsWalk, IsWhole}
 use Rattle.adf_volume.specs.Walk.Role.{Root, Page, MapExt, Head, Ext, Data}
 use Rattle.adf_volume.specs.LayoutRoles.{LayoutHas}
 use Rattle.adf_volume.proofs.Lists.{at_fun, at_below, at_some, at_before, spelled_word, spelled_link}
-use Rattle.adf_volume.proofs.Chains.{entry_at, entry_fun, entry_below, entry_some, place_at}
+use Rattle.adf_volume.proofs.Chains.{entry_at, entry_below, entry_some, place_at}
 use Rattle.adf_volume.proofs.Walks.{root_in, numbered, page_word, asked_block}
 use Rattle.adf_volume.proofs.Images.{map_exts_high, map_exts_low}
 use Rattle.adf_volume.proofs.LayoutRoles.{part_range}
