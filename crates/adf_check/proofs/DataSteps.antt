@@ -13,7 +13,7 @@ use Rattle.adf_volume.specs.Demands.{Demand, AllHold, FirstFails, data_demands}
 use Rattle.adf_volume.specs.Image.{held, kind_of, table_word, word_in}
 use Rattle.adf_volume.specs.Lists.{At}
 use Rattle.adf_volume.specs.Walk.{Enough, FileAt, IsWalk, MemberAt, Role, data_count, ext_count, form_demands, member_block, node_block}
-use Rattle.adf_volume.specs.Walk.Role.{Data, Ext, Head}
+use Rattle.adf_volume.specs.Walk.Role.{Data, Ext}
 use Rattle.adf_volume.proofs.Lists.{at_some}
 use Rattle.adf_volume.proofs.Roles.{head_role, member_up, typed_up}
 use Rattle.adf_volume.proofs.MemberFacts.{in_range}

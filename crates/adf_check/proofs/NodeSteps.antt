@@ -5,7 +5,7 @@ use Rattle.adf_blocks.specs.Sizes.{blocks}
 use Rattle.adf_volume.specs.Image.{kind_of, root_of, word_in}
 use Rattle.adf_volume.specs.Lists.{At}
 use Rattle.adf_volume.specs.Walk.{Role, first, Has, heads, HeadAt, DirAt, FileAt, IsWalk}
-use Rattle.adf_volume.specs.Walk.Role.{Root, Head}
+use Rattle.adf_volume.specs.Walk.Role.{Root}
 use Rattle.adf_volume.proofs.FormDemands.{head_type}
 use Rattle.adf_volume.proofs.Lists.{at_below, at_fun, at_index_or, at_snoc, at_some, snoc_length}
 use Rattle.adf_volume.proofs.MemberFacts.{in_range, kept}

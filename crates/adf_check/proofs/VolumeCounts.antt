@@ -11,7 +11,6 @@ use Rattle.adf_blocks.specs.Sizes.{blocks}
 use Rattle.adf_volume.specs.Image.{kind_of, word_in}
 use Rattle.adf_volume.specs.Layout.{Layout, at_node, owned}
 use Rattle.adf_volume.specs.Lists.{At}
-use Rattle.adf_volume.specs.Walk.Role.{Head}
 use Rattle.adf_volume.proofs.MemberFacts.{in_range}
 use Rattle.adf_volume.proofs.Roles.{head_role}
 use Rattle.adf_check.specs.declared.store.KeptHeader.{KeptHeader}

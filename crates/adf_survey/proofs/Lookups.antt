@@ -5,9 +5,9 @@ use Rattle.std.specs.Str.{bytes_eq}
 use Rattle.std.proofs.lemmas.Slice.Eq.{bytes_eq-Decides}
 use Rattle.adf_tree.specs.Texts.{uppers}
 use Rattle.adf_volume.specs.Image.{name_of}
-use Rattle.std.proofs.Common.{◌≡◌, ℕ, zero, suc, List, ◌∷◌, ◌+◌, length, inl, inr, ◌<◌, ◌≤◌, sym, ap, subst, ◌∙◌, arith}
-use Rattle.adf_volume.specs.Walk.{Role, second, Has, HeadAt, Asks, DirAt, heads, node_block}
-use Rattle.adf_volume.specs.Walk.Role.{Root, Head}
+use Rattle.std.proofs.Common.{◌≡◌, ℕ, suc, List, ◌∷◌, ◌+◌, length, ◌<◌, ◌≤◌, sym, ap, subst, ◌∙◌, arith}
+use Rattle.adf_volume.specs.Walk.{Role, Has, HeadAt, heads, node_block}
+use Rattle.adf_volume.specs.Walk.Role.{Head}
 use Rattle.adf_volume.proofs.Gathered.{head_block, number_of, numbered as has_number, parent_below}
 use Rattle.adf_volume.proofs.Roles.{head_at}
 use Rattle.adf_survey.specs.Lookup.{IsNamedChild, IsFirstChild, LeadsTo}
