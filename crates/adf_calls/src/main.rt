@@ -15,7 +15,7 @@ use std::process::ExitCode;
 use std::rt::Env;
 
 /// The calls, by the names that the command line may give.
-const CALLS: [&str; 27] = [
+const CALLS: [&str; 28] = [
     "stamp_text",
     "push_stamp",
     "label_write",
@@ -30,6 +30,7 @@ const CALLS: [&str; 27] = [
     "read",
     "to_tree",
     "survey",
+    "survey_path",
     "sound_file",
     "read_sound_file",
     "build",
@@ -62,6 +63,7 @@ fn went(alloc: Global, call: &str) -> Option<Went> {
         "read" => volumes::read_went(alloc),
         "to_tree" => volumes::to_tree_went(alloc),
         "survey" => volumes::survey_went(alloc),
+        "survey_path" => volumes::survey_path_went(alloc),
         "sound_file" => volumes::sound_file_went(alloc),
         "read_sound_file" => volumes::read_sound_file_went(alloc),
         "build" => volumes::build_went(alloc),

@@ -9,6 +9,10 @@ use adf_survey::{Finding, Survey, survey};
 use adf_tree::{Name, Node, Tree};
 use std::alloc::Global;
 
+/// A volume of 16 blocks with a file in a directory.
+const NESTED: &[u8] =
+    b"volume ofs 16\ndir 0:0:0 00000000 d\nfile 0:0:0 00000000 d/f\nfill 489 41\n";
+
 /// A volume of 16 blocks with one file of two data blocks.
 const MANIFEST: &[u8] = b"volume ofs 16\nfile 0:0:0 00000000 a\nfill 489 41\n";
 
@@ -80,13 +84,41 @@ fn is_bad_sum_alone(findings: &[Finding]) -> bool {
     }
 }
 
+// Whether the only finding concerns the first entry.
+fn tells_first(survey: &Survey<'_>) -> bool {
+    survey.entry_of(0) == Some(Node(1)) && survey.entry_of(1).is_none()
+}
+
 /// The survey of the volume with one protection bit of the file changed.
 pub fn survey_went(alloc: Global) -> Option<Went> {
     let mut image = image(alloc)?;
     *image.get_mut(2 * 512 + 320)? ^= 1;
     Some(match survey(alloc, &image) {
-        Ok(survey) => Went::done_if(is_bad_sum_alone(survey.findings())),
+        Ok(survey) => Went::done_if(is_bad_sum_alone(survey.findings()) && tells_first(&survey)),
         Err(_) => Went::NoMemory,
+    })
+}
+
+// The volume with a file in a directory, one protection bit of the file changed.
+fn damaged(alloc: Global) -> Option<Vec<u8>> {
+    let (tree, _) = read_manifest(alloc, NESTED).ok()?;
+    let mut image = build(alloc, &tree, 16).ok()?;
+    *image.get_mut(3 * 512 + 320)? ^= 1;
+    Some(image)
+}
+
+/// The path of the entry that its finding concerns.
+pub fn survey_path_went(alloc: Global) -> Option<Went> {
+    let image = damaged(alloc)?;
+    let survey = survey(alloc, &image).ok()?;
+    let entry = survey.entry_of(0)?;
+    Some(match survey.path(alloc, entry) {
+        Ok(path) => Went::done_if(
+            path.len() == 2
+                && path.first() == Some(&b"d".as_slice())
+                && path.last() == Some(&b"f".as_slice()),
+        ),
+        Err(_) => Went::refused_if(entry == Node(2) && survey.entry_of(1).is_none()),
     })
 }
 
