@@ -8,7 +8,7 @@ use Rattle.std.proofs.lemmas.Bool.Decides.{nat_tests}
 use Rattle.adf_volume.specs.Image.{name_of}
 use Rattle.adf_volume.specs.Walk.{Role, heads, node_block}
 use Rattle.adf_survey.specs.Found.{parent_node}
-use Rattle.adf_survey.specs.Lookup.{path_to, path_up}
+use Rattle.adf_survey.specs.Lookup.{IsNamedChild, path_to, path_up}
 use Rattle.adf_survey.specs.Survey.{Finding, IsSurvey}
 use Rattle.adf_survey.proofs.Keeping.{parent_is}
 use Rattle.adf_survey.proofs.Lookups.{child_between, header_at}
@@ -23,7 +23,7 @@ module _ (image : List ℕ) (w : List (Role × ℕ)) (fs : List Finding) (h : Is
   directory_smaller n lo hi =
       let x = header_at image w fs h n lo hi in
       let e : parent_node w n ≡ x.parent = parent_is image w fs h n x.parent x.slot x.place (node_block w n) x.has in
-      let child = (x.slot, x.place, node_block w n, x.has, refl) in
+      let child : IsNamedChild image w x.parent (name_of image (node_block w n)) n = (x.slot, x.place, node_block w n, x.has, refl) in
       let lt : x.parent < n = (child_between image w fs h x.parent n (name_of image (node_block w n)) child).0 in
       omega arith
 
