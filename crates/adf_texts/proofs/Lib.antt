@@ -1,3 +1,4 @@
 pub mod Ranges
+pub mod PathSteps
 -- the lines of `list`
 pub mod VolumeTexts

@@ -1,6 +1,6 @@
 // The escape forms of bytes and paths.
 
-ghost use Rattle.std.specs.Prelude.{◌≡◌, ◌++◌, [], ◌∷◌, OnOk, if◌then◌else◌};
+ghost use Rattle.std.specs.Prelude.{◌≡◌, ◌++◌, [], ◌∷◌, OnOk, if◌then◌else◌, map};
 ghost use Rattle.std.specs.List.{list_all};
 ghost use Rattle.adf_tree.specs.Escapes.{escape_of, escaped, is_plain};
 ghost use Rattle.adf_tree.specs.PathTexts.{path_text};
@@ -40,19 +40,30 @@ pub fn push_escaped(text: &mut Vec<u8>, bytes: &[u8]) -> Result<(), AllocError>
 }
 
 // Appends a name of a path, behind a `/` where it is not the first.
-fn push_name(text: &mut Vec<u8>, name: &Name, is_first: bool) -> Result<(), AllocError>
+fn push_name(text: &mut Vec<u8>, name: &[u8], is_first: bool) -> Result<(), AllocError>
     ensures { OnOk result (text.new.items
         ≡ text.old.items ++ ((if is_first then [] else 47 ∷ []) ++ escaped name.now)) }
 {
     if !is_first {
         text.push(b'/')?;
     }
-    push_escaped(text, name.bytes())
+    push_escaped(text, name)
 }
 
 /// Appends the text of a path.
 pub fn push_path(text: &mut Vec<u8>, path: &[Name]) -> Result<(), AllocError>
     ensures { OnOk result (text.new.items ≡ text.old.items ++ path_text path.now) }
+{
+    for (i, name) in path.iter().enumerate() {
+        push_name(text, name.bytes(), i == 0)?;
+    }
+    Ok(())
+}
+
+/// Appends the text of a path of these names, which may be none that are allowed.
+pub fn push_names(text: &mut Vec<u8>, path: &[&[u8]]) -> Result<(), AllocError>
+    ensures { OnOk result
+        (text.new.items ≡ text.old.items ++ path_text (map (λ name. name.now) path.now)) }
 {
     for (i, name) in path.iter().enumerate() {
         push_name(text, name, i == 0)?;
