@@ -35,7 +35,7 @@ works_both r image bytes o o' f NoMemory (inr h) = inr (h.0, f h.0 h.1, h.2)
 works_both r image bytes o o' f w h = (h.0, f (record { status = status_of w; output = h.0; errors = outcome_line w }) h.1, h.2)
 
 -- a size above that of the largest volume is none
-too_large : (image : List ℕ) → 512 * MOST_BLOCKS < length image → IsSize image → ⊥
+pub too_large : (image : List ℕ) → 512 * MOST_BLOCKS < length image → IsSize image → ⊥
 too_large image h size =
     let few : blocks image ≤ MOST_BLOCKS = size_high (blocks image) size.1 in
     let whole : length image ≡ 512 * blocks image = size.0 in

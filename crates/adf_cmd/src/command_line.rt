@@ -30,7 +30,8 @@ pub enum WordsFault {
     NoMemory,
 }
 
-fn cat_command<'a>(alloc: Global) -> Result<Command<'a>, AllocError>
+/// The command `cat PATH`. `AllocError` where memory was refused.
+pub fn cat_command<'a>(alloc: Global) -> Result<Command<'a>, AllocError>
     ensures app { IfOk result (λ c. app_of c ≡ cat_app) }
     ensures local { IfOk result (λ c. (out-Command c).has_globals ≡ false) }
 {
@@ -72,8 +73,8 @@ fn command<'a>(alloc: Global) -> Result<Command<'a>, AllocError>
         .subcommand(convert_command(alloc)?)
 }
 
-// The first value of an argument.
-fn first_text<'a>(found: &ArgMatches<'a>, id: &str) -> Option<&'a str>
+/// The first value of an argument; none where it has none.
+pub fn first_text<'a>(found: &ArgMatches<'a>, id: &str) -> Option<&'a str>
     ensures { option_map (λ s. s.now) result ≡ first_of id.now (rows_of (found_of found.now)) }
 {
     found.get_str(id)

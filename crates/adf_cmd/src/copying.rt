@@ -21,7 +21,7 @@ use adf_tree::Name;
 use std::alloc::Global;
 
 /// Bytes of the room in which pieces wait to be written together.
-const ROOM: usize = 32768;
+pub const ROOM: usize = 32768;
 
 // Puts a piece into the room behind what waits there, and answers how many bytes wait then.
 fn put_piece(piece: &[u8], room: &mut [u8], waiting: usize) -> usize
@@ -78,8 +78,12 @@ fn write_pieces<W: Sink>(pieces: Pieces<'_>, room: &mut [u8], output: &mut W) ->
     write_all(output, &room[..waiting])
 }
 
-// Writes the pieces of a file through a room of so many bytes.
-fn write_through<const N: usize, W: Sink>(pieces: Pieces<'_>, output: &mut W) -> Result<(), Failed>
+/// Writes the pieces of a file through a room of so many bytes. `Failed` where the writer failed or took
+/// 0 of some bytes; then a front part of them is written.
+pub fn write_through<const N: usize, W: Sink>(
+    pieces: Pieces<'_>,
+    output: &mut W,
+) -> Result<(), Failed>
     requires small { N < 2 ^ 32 }
     requires works { W.has_failed output.old ≡ false }
     ensures ok { OnOk result

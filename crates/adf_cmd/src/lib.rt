@@ -18,7 +18,10 @@ mod volume_listing;
 mod work;
 
 pub use crate::checking::{CheckAnswer, answer_to_image, answer_to_input};
-pub use crate::command_line::{Request, WordsFault, parse, words_as_documented};
+pub use crate::command_line::{
+    Request, WordsFault, cat_command, first_text, parse, words_as_documented,
+};
+pub use crate::copying::{ROOM, write_through};
 pub use crate::devices::{Device, Failed, Sink, Source};
 pub use crate::images::MOST_IMAGE_BYTES;
 pub use crate::listing::write_listing;
