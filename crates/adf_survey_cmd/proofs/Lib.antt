@@ -1,0 +1,6 @@
+pub mod Refusals
+pub mod RunLines
+pub mod FindingLists
+pub mod FoundFiles
+pub mod EndingLaws
+pub mod LongSurveys

@@ -1,0 +1,74 @@
+-- What is answered to the front of an input that is longer than the largest image is answered to the whole of it.
+-- Letters: w the walk of a survey, fs its findings; n an entry's node.
+use Rattle.std.proofs.Common.{◌≡◌, ◌<◌, ◌+◌, ◌*◌, ◌∙◌, inl, inr, ℕ, List, [], ◌∷◌, Option, Some, None, IfSome, refl, ap, subst, arith}
+use Rattle.std.proofs.Common.{length, take, length-take}
+use Rattle.std.proofs.lemmas.Bool.{cases_lt}
+use Rattle.std.proofs.lemmas.List.{take_all}
+use Rattle.adf_blocks.specs.declared.layout.TheConstants.{MOST_BLOCKS}
+use Rattle.adf_blocks.specs.declared.cause.Cause.TheVariants.{BadSize}
+use Rattle.adf_volume.specs.Walk.{Role}
+use Rattle.adf_survey.specs.Lookup.{LeadsTo}
+use Rattle.adf_survey.specs.Survey.{Finding, IsSurvey, finding}
+use Rattle.adf_survey.specs.Survey.IsSurvey.{unread}
+use Rattle.adf_survey.proofs.OneSurvey.{one_survey}
+use Rattle.adf_cmd.specs.Answers.{Reply, on_output}
+use Rattle.adf_cmd.proofs.LongInputs.{too_large}
+use Rattle.adf_survey_cmd.specs.Answers.{CopiesFound, SurveyAnswer, findings_status}
+use Rattle.adf_survey_cmd.specs.CommandLine.{InquiryValue, cat, report}
+use Rattle.adf_survey_cmd.specs.Endings.{EndsBy}
+use Rattle.adf_survey_cmd.specs.Lines.{findings_text, runs_from}
+use Rattle.adf_survey_cmd.specs.declared.ending.Ending.{Ending}
+use Rattle.adf_survey_cmd.proofs.EndingLaws.{ends_weaker}
+
+-- an input of a bad size has this finding
+bad_size : List Finding
+bad_size = finding None 0 BadSize ∷ []
+
+long_survey : (image : List ℕ) → 512 * MOST_BLOCKS < length image → IsSurvey image [] bad_size
+unfolding bad_size
+long_survey image h = unread (inl (too_large image h, refl, refl))
+
+-- one text, whatever the image
+same_text : (image bytes : List ℕ) → findings_text image [] bad_size ≡ findings_text bytes [] bad_size
+unfolding bad_size runs_from
+same_text image bytes = refl
+
+same_leads : (image bytes : List ℕ) (names : List (List ℕ)) (n : ℕ) → LeadsTo image [] 0 names n → LeadsTo bytes [] 0 names n
+same_leads image bytes [] n h = h
+same_leads image bytes (name ∷ names) n h = absurd h.1.0.3
+
+same_found : (image bytes : List ℕ) (names : List (List ℕ)) (reply : Reply) → CopiesFound image [] bad_size names reply
+    → CopiesFound bytes [] bad_size names reply
+same_found image bytes names reply (inl (none, e)) = inl ((λ n h. none n (same_leads bytes image names n h)), e)
+same_found image bytes names reply (inr (n, leads, inl (none, e))) = inr (n, same_leads image bytes names n leads, inl ((λ h at. at.0.3), e))
+same_found image bytes names reply (inr (n, leads, inr (inl (file, damage, e)))) = absurd file.1.0.3
+same_found image bytes names reply (inr (n, leads, inr (inr (sound, e)))) = absurd sound.0.header.3
+
+-- of an input of a bad size, whatever holds of its walk and its findings holds of these
+of_long : (image : List ℕ) (w : List (Role × ℕ)) (fs : List Finding) (holds : List (Role × ℕ) → List Finding → Type 0)
+    → 512 * MOST_BLOCKS < length image → IsSurvey image w fs → holds w fs → holds [] bad_size
+of_long image w fs holds long s h =
+    let same = one_survey image w [] fs bad_size s (long_survey image long) in
+    subst (λ (u : List (Role × ℕ)). holds u bad_size) same.0 (subst (λ (gs : List Finding). holds w gs) same.1 h)
+
+long_answers : (r : InquiryValue) (image bytes : List ℕ) → 512 * MOST_BLOCKS < length image → 512 * MOST_BLOCKS < length bytes → (reply : Reply)
+    → SurveyAnswer r image reply → SurveyAnswer r bytes reply
+long_answers report image bytes a b reply (w, fs, s, e) =
+    let told = of_long image w fs (λ u gs. reply ≡ on_output (findings_status gs) (findings_text image u gs)) a s e in
+    ([], bad_size, long_survey bytes b, told ∙ ap (on_output (findings_status bad_size)) (same_text image bytes))
+long_answers (cat path) image bytes a b reply (inl bad) = inl bad
+long_answers (cat path) image bytes a b reply (inr (names, text, w, fs, s, found)) =
+    let same = of_long image w fs (λ u gs. CopiesFound image u gs names reply) a s found in
+    inr (names, text, [], bad_size, long_survey bytes b, same_found image bytes names reply same)
+
+-- what is done with the bytes that are read is done with the whole input, where that is known
+pub read_ends : (e : Ending) (r : InquiryValue) (image : List ℕ) (left o o' : Option (List ℕ))
+    → IfSome left (λ bytes. image ≡ take (512 * MOST_BLOCKS + 1) bytes)
+    → EndsBy (SurveyAnswer r image) e o o' → IfSome left (λ bytes. EndsBy (SurveyAnswer r bytes) e o o')
+read_ends e r image None o o' same h = tt
+read_ends e r image (Some bytes) o o' same h = elim (cases_lt (512 * MOST_BLOCKS) (length bytes)) [
+  | inr short ↦ subst (λ l. EndsBy (SurveyAnswer r l) e o o') (same ∙ take_all (512 * MOST_BLOCKS + 1) bytes (omega arith)) h
+  | inl long ↦
+      let cut : 512 * MOST_BLOCKS < length image = rw same (omega (arith, length-take {A = ℕ})) in
+      ends_weaker (SurveyAnswer r image) (SurveyAnswer r bytes) e o o' (long_answers r image bytes cut long) h
+]

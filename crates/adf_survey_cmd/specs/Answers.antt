@@ -1,0 +1,92 @@
+-- What the command answers to its words and its input.
+-- Letters: w the walk of a survey, fs its findings; n an entry's node, h the block of its header; r an inquiry.
+use Rattle.std.specs.Prelude.{◌≡◌, ◌⊎◌, ◌++◌, ℕ, Bool, true, false, List, [], ◌∷◌, codes, Option}
+use Rattle.std.specs.Io.KnownBytes.{Appends}
+use Rattle.adf_tree.specs.PathTexts.{IsPathText}
+use Rattle.adf_volume.specs.Walk.{FileAt, Role}
+use Rattle.adf_survey.specs.Files.{IsSoundFile, file_content, file_in}
+use Rattle.adf_survey.specs.Lookup.{LeadsTo}
+use Rattle.adf_survey.specs.Survey.{Finding, IsSurvey}
+use Rattle.adf_cmd.specs.Answers.{IsBadPath, RefusesPath, Reply, on_errors, on_output}
+use Rattle.adf_cmd.specs.Streams.{AppendsPart, Says}
+use Rattle.adf_survey_cmd.specs.CommandLine.{AreRefusedBySurvey, AsksSurvey, InquiryValue, cat, report}
+use Rattle.adf_survey_cmd.specs.Lines.{findings_text}
+
+-- the status of findings: 0 where there is none
+abbrev pub findings_status : List Finding → ℕ
+findings_status [] = 0
+findings_status (f ∷ fs) = 1
+
+-- the lines of the findings are told
+abbrev pub TellsFindings : List ℕ → List (Role × ℕ) → List Finding → Reply → Type 0
+TellsFindings input w fs reply = reply ≡ on_output (findings_status fs) (findings_text input w fs)
+
+-- nothing is found under the names
+abbrev pub FindsNothing : List ℕ → List (Role × ℕ) → List (List ℕ) → Reply → Type 0
+FindsNothing input w names reply = ((n : ℕ) → LeadsTo input w 0 names n → ⊥) × (reply ≡ on_errors 1 (codes "no such path\n"))
+
+-- the entry is no file
+abbrev pub FindsNoFile : List ℕ → List (Role × ℕ) → ℕ → Reply → Type 0
+FindsNoFile input w n reply = ((h : ℕ) → FileAt input w n h → ⊥) × (reply ≡ on_errors 1 (codes "not a file\n"))
+
+-- the entry is a file that is not sound
+abbrev pub FindsDamage : List ℕ → List (Role × ℕ) → List Finding → ℕ → Reply → Type 0
+FindsDamage input w fs n reply =
+    ((h : ℕ) × FileAt input w n h) × (IsSoundFile input w fs n → ⊥) × (reply ≡ on_errors 1 (codes "damaged\n"))
+
+-- the entry is a sound file, whose bytes are written
+abbrev pub CopiesSoundFile : List ℕ → List (Role × ℕ) → List Finding → ℕ → Reply → Type 0
+CopiesSoundFile input w fs n reply = IsSoundFile input w fs n × (reply ≡ on_output 0 (file_content (file_in input w n)))
+
+-- `cat` of an entry
+abbrev pub CopiesEntry : List ℕ → List (Role × ℕ) → List Finding → ℕ → Reply → Type 0
+CopiesEntry input w fs n reply = FindsNoFile input w n reply ⊎ (FindsDamage input w fs n reply ⊎ CopiesSoundFile input w fs n reply)
+
+-- `cat` of what the names lead to
+abbrev pub CopiesFound : List ℕ → List (Role × ℕ) → List Finding → List (List ℕ) → Reply → Type 0
+CopiesFound input w fs names reply =
+    FindsNothing input w names reply ⊎ ((n : ℕ) × LeadsTo input w 0 names n × CopiesEntry input w fs n reply)
+
+-- `adf-survey` tells the findings of the image's survey
+abbrev pub Surveys : List ℕ → Reply → Type 0
+Surveys input reply = (w : List (Role × ℕ)) × (fs : List Finding) × IsSurvey input w fs × TellsFindings input w fs reply
+
+-- `cat` of a path that is read, in what is found of the image
+abbrev pub CopiesFromSurvey : List ℕ → List ℕ → Reply → Type 0
+CopiesFromSurvey path input reply =
+    (names : List (List ℕ)) × IsPathText path names
+    × (w : List (Role × ℕ)) × (fs : List Finding) × IsSurvey input w fs × CopiesFound input w fs names reply
+
+-- the answer to an inquiry
+abbrev pub SurveyAnswer : InquiryValue → List ℕ → Reply → Type 0
+SurveyAnswer report input reply = Surveys input reply
+SurveyAnswer (cat path) input reply = RefusesPath path reply ⊎ CopiesFromSurvey path input reply
+
+-- at a status other than 3: the words ask for something, output and errors got an answer to it, or where errors failed a front part of it
+abbrev pub SurveyAnswers : List (List ℕ) → List ℕ → ℕ → Option (List ℕ) → Option (List ℕ) → Bool → Option (List ℕ) → Option (List ℕ) → Type 0
+SurveyAnswers words input status o o' failed e e' =
+    (r : InquiryValue) × AsksSurvey words r × (reply : Reply) × (reply.status ≡ status) × SurveyAnswer r input reply
+    × Appends o o' reply.output × Says failed e e' reply.errors
+
+-- output got a front part of an answer
+abbrev pub IsSurveyPart : InquiryValue → List ℕ → Option (List ℕ) → Option (List ℕ) → Type 0
+IsSurveyPart r input o o' = (reply : Reply) × SurveyAnswer r input reply × AppendsPart o o' reply.output
+
+-- what output has got at status 3: nothing where the input failed, else nothing or a front part of an answer
+abbrev pub SurveyAnswersPart : List (List ℕ) → Bool → List ℕ → Option (List ℕ) → Option (List ℕ) → Type 0
+SurveyAnswersPart words true input o o' = Appends o o' []
+SurveyAnswersPart words false input o o' = Appends o o' [] ⊎ ((r : InquiryValue) × AsksSurvey words r × IsSurveyPart r input o o')
+
+-- what errors get where the words are refused
+abbrev pub survey_usage : List ℕ
+survey_usage =
+    codes "usage: adf-survey < IMAGE\n       adf-survey cat PATH < IMAGE\n"
+    ++ codes "an image comes on standard input; man adf-survey tells more\n"
+
+-- the words ask for the bytes under a path that is not read
+abbrev pub AsksBadSurveyPath : List (List ℕ) → Type 0
+AsksBadSurveyPath words = (path : List ℕ) × AsksSurvey words (cat path) × IsBadPath path
+
+-- the words are refused, or their path is not read
+abbrev pub IsUnansweredBySurvey : List (List ℕ) → Type 0
+IsUnansweredBySurvey words = AreRefusedBySurvey words ⊎ AsksBadSurveyPath words

@@ -1,0 +1,63 @@
+-- The lines of findings.
+-- Letters: w the walk of an image's survey, fs its findings; f a finding; r, s runs; n, m entries' nodes; b a block.
+use Rattle.std.specs.Prelude.{ℕ, ◌+◌, ◌==◌, ◌&&◌, ◌||◌, Bool, true, false, List, [], ◌∷◌, ◌++◌, Option, Some, None, codes, if◌then◌else◌}
+use Rattle.std.specs.Fmt.{decimal}
+use Rattle.std.specs.List.{flat_map}
+use Rattle.adf_tree.specs.PathTexts.{path_text}
+use Rattle.adf_blocks.specs.Causes.{cause_number, cause_text}
+use Rattle.adf_volume.specs.Walk.{Role}
+use Rattle.adf_survey.specs.Concerned.{entry_of}
+use Rattle.adf_survey.specs.Lookup.{path_to}
+use Rattle.adf_survey.specs.Survey.{Finding}
+use Rattle.adf_survey_cmd.specs.declared.runs.Run.{Run}
+
+-- a finding by itself
+abbrev pub run_of : List (Role × ℕ) → Finding → Run
+run_of w f = record { first = f.block; last = f.block; cause = f.cause; entry = entry_of w f }
+
+-- the entries are one, or there is none
+abbrev pub are_one : Option ℕ → Option ℕ → Bool
+are_one None None = true
+are_one (Some n) (Some m) = n == m
+are_one _ _ = false
+
+-- the block is the one behind the run, or the run's only one
+abbrev pub is_beside : Run → ℕ → Bool
+is_beside r b = (r.last + 1 == b) || ((r.first == b) && (r.last == b))
+
+-- the run goes on with another, of one finding: the cause and the entry are the same, and the block is beside
+abbrev pub continues : Run → Run → Bool
+continues r s = (cause_number r.cause == cause_number s.cause) && (are_one r.entry s.entry && is_beside r s.first)
+
+-- the runs of findings behind a run
+unfoldable pub runs_from : List (Role × ℕ) → Run → List Finding → List Run
+runs_from w r [] = r ∷ []
+runs_from w r (f ∷ fs) =
+    if continues r (run_of w f) then runs_from w (record r { last = f.block }) fs else r ∷ runs_from w (run_of w f) fs
+
+-- the runs of findings
+abbrev pub runs : List (Role × ℕ) → List Finding → List Run
+runs w [] = []
+runs w (f ∷ fs) = runs_from w (run_of w f) fs
+
+-- the blocks of a run
+abbrev pub blocks_text : ℕ → ℕ → List ℕ
+blocks_text first last =
+    if first == last then codes "block " ++ decimal first else codes "blocks " ++ (decimal first ++ (codes " to " ++ decimal last))
+
+-- the path of the entry that a run concerns, where it concerns one
+abbrev pub entry_text : List ℕ → List (Role × ℕ) → Option ℕ → List ℕ
+entry_text image w None = []
+entry_text image w (Some n) = codes ": " ++ path_text (path_to image w n)
+
+-- the line of a run
+abbrev pub run_line : List ℕ → List (Role × ℕ) → Run → List ℕ
+run_line image w r = blocks_text r.first r.last ++ (codes ": " ++ (cause_text r.cause ++ (entry_text image w r.entry ++ codes "\n")))
+
+-- the lines of findings behind a run
+abbrev pub lines_from : List ℕ → List (Role × ℕ) → Run → List Finding → List ℕ
+lines_from image w r fs = flat_map (run_line image w) (runs_from w r fs)
+
+-- the lines of findings
+abbrev pub findings_text : List ℕ → List (Role × ℕ) → List Finding → List ℕ
+findings_text image w fs = flat_map (run_line image w) (runs w fs)

@@ -1,0 +1,80 @@
+// The bytes of sound files.
+
+ghost use Rattle.std.specs.Prelude.{◌≡◌, ◌↔◌, ℕ, List, false, IsTrue};
+ghost use Rattle.adf_volume.specs.Walk.{FileAt, Role};
+ghost use Rattle.adf_survey.specs.Files.{file_content};
+ghost use Rattle.adf_survey.specs.Survey.{Finding as SpecFinding, IsSurvey};
+ghost use Rattle.adf_cmd.specs.Answers.{on_output};
+ghost use Rattle.adf_survey_cmd.specs.Answers.{CopiesEntry, CopiesFound};
+ghost use Rattle.adf_survey_cmd.specs.Endings.{EndsBy, is_read_ending, is_write_ending};
+
+use crate::ending::Ending;
+use adf_blocks::{SECONDARY_TYPE, ST_FILE};
+use adf_cmd::{ROOM, Sink, write_through};
+use adf_survey::{SoundFile, Survey};
+use adf_tree::{Name, Node};
+use std::alloc::Global;
+
+// Whether an entry that is found is a file, sound or not.
+fn is_file(survey: &Survey<'_>, n: Node) -> bool
+    ensures { (w : List (Role × ℕ)) (fs : List SpecFinding) → IsSurvey survey.now.image w fs
+        → IsTrue result ↔ ((h : ℕ) × FileAt survey.now.image w n h) }
+{
+    match survey.header(n) {
+        Some(head) => head.word(SECONDARY_TYPE) == ST_FILE,
+        None => false,
+    }
+}
+
+// Writes the bytes of a file.
+fn write_file<W: Sink>(file: &SoundFile<'_>, output: &mut W) -> Ending
+    requires { W.has_failed output.old ≡ false }
+    ensures ends { EndsBy (λ reply. reply ≡ on_output 0 (file_content file.now)) result
+        (W.held output.old) (W.held output.new) }
+    ensures read { is_read_ending result ≡ false }
+    ensures written { W.has_failed output.new ≡ is_write_ending result }
+{
+    match write_through::<ROOM, W>(file.pieces(), output) {
+        Ok(()) => Ending::Done,
+        Err(_) => Ending::WriteFault,
+    }
+}
+
+// Writes the bytes of an entry that is a sound file.
+fn copy_entry<W: Sink>(alloc: Global, survey: &Survey<'_>, n: Node, output: &mut W) -> Ending
+    requires { W.has_failed output.old ≡ false }
+    ensures ends { (w : List (Role × ℕ)) (fs : List SpecFinding) → IsSurvey survey.now.image w fs
+        → EndsBy (CopiesEntry survey.now.image w fs n) result
+        (W.held output.old) (W.held output.new) }
+    ensures read { is_read_ending result ≡ false }
+    ensures written { W.has_failed output.new ≡ is_write_ending result }
+{
+    if !is_file(survey, n) {
+        return Ending::NotAFile;
+    }
+    match survey.file(alloc, n) {
+        Ok(Some(file)) => write_file(&file, output),
+        Ok(None) => Ending::Damaged,
+        Err(_) => Ending::NoMemory,
+    }
+}
+
+/// Writes the bytes of the sound file that the names lead to.
+pub fn copy_found<W: Sink>(
+    alloc: Global,
+    survey: &Survey<'_>,
+    names: &[Name],
+    output: &mut W,
+) -> Ending
+    requires { W.has_failed output.old ≡ false }
+    ensures ends { (w : List (Role × ℕ)) (fs : List SpecFinding) → IsSurvey survey.now.image w fs
+        → EndsBy (CopiesFound survey.now.image w fs names.now) result
+        (W.held output.old) (W.held output.new) }
+    ensures read { is_read_ending result ≡ false }
+    ensures written { W.has_failed output.new ≡ is_write_ending result }
+{
+    match survey.find(names) {
+        Some(n) => copy_entry(alloc, survey, n, output),
+        None => Ending::NoSuchPath,
+    }
+}

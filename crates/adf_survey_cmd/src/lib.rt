@@ -1,0 +1,13 @@
+//! The command `adf-survey`: all that is wrong in an image, and files that are sound all the same.
+#![tactic(auto)]
+
+mod command_line;
+mod copying;
+mod ending;
+mod reporting;
+mod runner;
+mod runs;
+mod work;
+
+pub use crate::command_line::{Inquiry, parse, survey_words_as_documented};
+pub use crate::runner::run;

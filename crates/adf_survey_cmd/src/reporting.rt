@@ -1,0 +1,33 @@
+// The lines of all findings.
+
+ghost use Rattle.std.specs.Prelude.{◌≡◌, ℕ, List, false};
+ghost use Rattle.adf_volume.specs.Walk.{Role};
+ghost use Rattle.adf_survey.specs.Survey.{Finding as SpecFinding, IsSurvey};
+ghost use Rattle.adf_survey_cmd.specs.Answers.{TellsFindings};
+ghost use Rattle.adf_survey_cmd.specs.Endings.{EndsBy, is_read_ending, is_write_ending};
+
+use crate::ending::Ending;
+use crate::runs::push_findings;
+use adf_cmd::{Sink, write_all};
+use adf_survey::Survey;
+use std::alloc::Global;
+
+/// Writes the lines of the findings.
+pub fn write_findings<W: Sink>(alloc: Global, survey: &Survey<'_>, output: &mut W) -> Ending
+    requires { W.has_failed output.old ≡ false }
+    ensures ends { (w : List (Role × ℕ)) (fs : List SpecFinding) → IsSurvey survey.now.image w fs
+        → EndsBy (TellsFindings survey.now.image w fs) result
+        (W.held output.old) (W.held output.new) }
+    ensures read { is_read_ending result ≡ false }
+    ensures written { W.has_failed output.new ≡ is_write_ending result }
+{
+    let mut text = Vec::new(alloc);
+    if push_findings(alloc, survey, &mut text).is_err() {
+        return Ending::NoMemory;
+    }
+    match write_all(output, &text) {
+        Ok(()) if survey.findings().is_empty() => Ending::Done,
+        Ok(()) => Ending::FindingsWritten,
+        Err(_) => Ending::WriteFault,
+    }
+}

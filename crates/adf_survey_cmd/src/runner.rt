@@ -1,0 +1,93 @@
+// The whole command.
+
+ghost use Rattle.std.specs.Prelude.{◌≡◌, ◌≤◌, ◌*◌, ◌+◌, true, false, codes, IfSome};
+ghost use Rattle.adf_blocks.specs.declared.layout.TheConstants.{MOST_BLOCKS};
+ghost use Rattle.adf_cmd.specs.Answers.{failure_line};
+ghost use Rattle.adf_cmd.specs.CommandLine.{texts_of};
+ghost use Rattle.adf_cmd.specs.Streams.{Says, TakesAtMost};
+ghost use Rattle.adf_survey_cmd.specs.Answers.{AsksBadSurveyPath, IsUnansweredBySurvey, SurveyAnswers, SurveyAnswersPart, survey_usage};
+ghost use Rattle.adf_survey_cmd.specs.CommandLine.{AreRefusedBySurvey};
+ghost use Rattle.adf_survey_cmd.specs.Endings.{ending_line, ending_status};
+ghost use Rattle.adf_survey_cmd.specs.Work.{unmet_line, unmet_status};
+
+use crate::ending::Ending;
+use crate::work::{WorkFault, work_of};
+use adf_cmd::{Sink, Source, say};
+use std::alloc::Global;
+
+// Says on errors how the work ended, and answers the status.
+fn finish<E: Sink>(ending: Ending, errors: &mut E) -> u8
+    requires { E.has_failed errors.old ≡ false }
+    ensures status { result ≡ ending_status ending }
+    ensures said { Says (E.has_failed errors.new) (E.held errors.old) (E.held errors.new)
+        (ending_line ending) }
+{
+    say(errors, ending.line());
+    ending.status()
+}
+
+// Says on errors why no work is begun, and answers the status.
+fn refuse<E: Sink>(fault: WorkFault, errors: &mut E) -> u8
+    requires { E.has_failed errors.old ≡ false }
+    ensures status { result ≡ unmet_status fault }
+    ensures said { Says (E.has_failed errors.new) (E.held errors.old) (E.held errors.new)
+        (unmet_line fault) }
+{
+    say(errors, fault.line());
+    fault.status()
+}
+
+/// Does what the words ask for, of which the first is the program's name, and answers the status:
+///
+/// - 0 where there is no finding, or the bytes of a sound file are written;
+/// - 1 where findings are written, or nothing, no file or no sound file is under the path, which errors tell;
+/// - 2 where the words are not accepted, or the path is not read, which errors tell; nothing is read, and output is empty;
+/// - 3 where a device failed or memory was refused, which errors tell.
+pub fn run<R: Source, W: Sink, E: Sink>(
+    alloc: Global,
+    words: &[&str],
+    input: &mut R,
+    output: &mut W,
+    errors: &mut E,
+) -> u8
+    requires reads { R.has_failed input.old ≡ false }
+    requires writes { W.has_failed output.old ≡ false }
+    requires tells { E.has_failed errors.old ≡ false }
+    ensures status { result ≤ 3 }
+
+    // Where the words are taken, at a status other than 3 the answer is the defined one.
+    ensures answer { ¬ AreRefusedBySurvey (texts_of words.now) → ¬ (result ≡ 3)
+        → IfSome (R.left input.old) (λ bytes. SurveyAnswers (texts_of words.now) bytes result
+        (W.held output.old) (W.held output.new)
+        (E.has_failed errors.new) (E.held errors.old) (E.held errors.new)) }
+    ensures words { ¬ (result ≡ 2) → ¬ (result ≡ 3)
+        → ¬ IsUnansweredBySurvey (texts_of words.now) }
+
+    // At status 2 the words are refused or their path is not read, and nothing was read or written.
+    ensures usage { result ≡ 2 → IsUnansweredBySurvey (texts_of words.now) }
+    ensures bad_path { result ≡ 2 → AsksBadSurveyPath (texts_of words.now)
+        → Says (E.has_failed errors.new) (E.held errors.old) (E.held errors.new)
+        (codes "bad path\n") }
+    ensures refused { result ≡ 2 → AreRefusedBySurvey (texts_of words.now)
+        → Says (E.has_failed errors.new) (E.held errors.old) (E.held errors.new) survey_usage }
+    ensures untouched { result ≡ 2 → (input.new ≡ input.old) × (output.new ≡ output.old) }
+
+    // At status 3 errors tell what failed, and output has a front part of an answer: nothing where input failed, so that
+    // output has not.
+    ensures read_failed { R.has_failed input.new ≡ true → result ≡ 3 }
+    ensures write_failed { W.has_failed output.new ≡ true → result ≡ 3 }
+    ensures unwritten { R.has_failed input.new ≡ true → output.new ≡ output.old }
+    ensures failure { result ≡ 3
+        → Says (E.has_failed errors.new) (E.held errors.old) (E.held errors.new)
+        (failure_line (R.has_failed input.new) (W.has_failed output.new)) }
+    ensures part { result ≡ 3 → IfSome (R.left input.old) (λ bytes.
+        SurveyAnswersPart (texts_of words.now) (R.has_failed input.new) bytes
+        (W.held output.old) (W.held output.new)) }
+
+    ensures at_most { TakesAtMost (512 * MOST_BLOCKS + 1) (R.left input.old) (R.left input.new) }
+{
+    match work_of(alloc, words) {
+        Ok(work) => finish(work.on_input(alloc, input, output), errors),
+        Err(fault) => refuse(fault, errors),
+    }
+}

@@ -1,0 +1,164 @@
+// Runs of findings, and their lines.
+
+ghost use Rattle.std.specs.Prelude.{◌≡◌, ◌++◌, ◌∷◌, ℕ, List, IfOk, OnOk, codes};
+ghost use Rattle.adf_volume.specs.Walk.{Role};
+ghost use Rattle.adf_survey.specs.Concerned.{entry_of};
+ghost use Rattle.adf_survey.specs.Parts.{told};
+ghost use Rattle.adf_survey.specs.Survey.{Finding as SpecFinding, IsSurvey};
+ghost use Rattle.adf_survey_cmd.specs.Lines.{are_one, blocks_text, continues, entry_text, findings_text, is_beside, lines_from, run_line, run_of};
+
+use adf_blocks::Cause;
+use adf_survey::{Finding, Survey};
+use adf_texts::{push_names, push_number};
+use adf_tree::Node;
+use std::alloc::{AllocError, Global};
+
+/// Findings of neighbouring blocks, with one cause, of one entry or of none.
+#[derive(Clone, Copy, Debug, PartialEq, Eq)]
+pub struct Run {
+    pub first: u32,
+    pub last: u32,
+    pub cause: Cause,
+    pub entry: Option<Node>,
+}
+
+// Whether the entries are one, or there is none.
+fn are_one(a: Option<Node>, b: Option<Node>) -> bool
+    ensures { result ≡ are_one a b }
+{
+    match (a, b) {
+        (None, None) => true,
+        (Some(n), Some(m)) => n.0 == m.0,
+        _ => false,
+    }
+}
+
+impl Run {
+    // A finding of an entry, or of none, by itself.
+    fn of(finding: &Finding, entry: Option<Node>) -> Run
+        ensures { (w : List (Role × ℕ)) → entry ≡ entry_of w (told finding.now)
+            → result ≡ run_of w (told finding.now) }
+    {
+        Run {
+            first: finding.block,
+            last: finding.block,
+            cause: finding.cause,
+            entry,
+        }
+    }
+
+    // Whether the block is the one behind the run, or the run's only one.
+    fn is_beside(&self, block: u32) -> bool
+        ensures { result ≡ is_beside self.now block }
+    {
+        let is_next = block != 0 && block - 1 == self.last;
+        is_next || (self.first == block && self.last == block)
+    }
+
+    // Whether the run goes on with another, of one finding.
+    fn continues(&self, next: &Run) -> bool
+        ensures { result ≡ continues self.now next.now }
+    {
+        let is_same = self.cause.number() == next.cause.number();
+        is_same && are_one(self.entry, next.entry) && self.is_beside(next.first)
+    }
+}
+
+// Appends the blocks of a run.
+fn push_blocks(text: &mut Vec<u8>, first: u32, last: u32) -> Result<(), AllocError>
+    ensures { OnOk result
+        (text.new.items ≡ text.old.items ++ (blocks_text first last ++ codes ": ")) }
+{
+    if first == last {
+        text.extend_from_slice(b"block ")?;
+    } else {
+        text.extend_from_slice(b"blocks ")?;
+        push_number(text, first, b' ')?;
+        text.extend_from_slice(b"to ")?;
+    }
+    push_number(text, last, b':')?;
+    text.extend_from_slice(b" ")
+}
+
+// Appends the path of an entry, where there is one.
+fn push_entry(
+    alloc: Global,
+    survey: &Survey<'_>,
+    entry: Option<Node>,
+    text: &mut Vec<u8>,
+) -> Result<(), AllocError>
+    ensures { (w : List (Role × ℕ)) (fs : List SpecFinding) → IsSurvey survey.now.image w fs
+        → OnOk result
+        (text.new.items ≡ text.old.items ++ entry_text survey.now.image w entry) }
+{
+    let Some(n) = entry else {
+        return Ok(());
+    };
+    let Ok(path) = survey.path(alloc, n) else {
+        return Err(AllocError);
+    };
+    text.extend_from_slice(b": ")?;
+    push_names(text, &path)
+}
+
+// Appends the line of a run.
+fn push_run(
+    alloc: Global,
+    survey: &Survey<'_>,
+    run: &Run,
+    text: &mut Vec<u8>,
+) -> Result<(), AllocError>
+    ensures { (w : List (Role × ℕ)) (fs : List SpecFinding) → IsSurvey survey.now.image w fs
+        → OnOk result
+        (text.new.items ≡ text.old.items ++ run_line survey.now.image w run.now) }
+{
+    push_blocks(text, run.first, run.last)?;
+    text.extend_from_slice(run.cause.text().as_bytes())?;
+    push_entry(alloc, survey, run.entry, text)?;
+    text.extend_from_slice(b"\n")
+}
+
+// Goes on from a run to the next finding: the run with it, or where it does not go on, that finding, behind the line of the run.
+fn join_run(
+    alloc: Global,
+    survey: &Survey<'_>,
+    run: Run,
+    next: Run,
+    text: &mut Vec<u8>,
+) -> Result<Run, AllocError>
+    ensures { (w : List (Role × ℕ)) (fs : List SpecFinding) → IsSurvey survey.now.image w fs
+        → (f : SpecFinding) (gs : List SpecFinding) → next ≡ run_of w f
+        → IfOk result (λ r. text.new.items ++ lines_from survey.now.image w r gs
+        ≡ text.old.items ++ lines_from survey.now.image w run (f ∷ gs)) }
+{
+    if run.continues(&next) {
+        return Ok(Run {
+            last: next.last,
+            ..run
+        });
+    }
+    push_run(alloc, survey, &run, text)?;
+    Ok(next)
+}
+
+/// Appends the lines of the findings, of which those of neighbouring blocks are one. `AllocError` where
+/// memory was refused.
+pub fn push_findings(
+    alloc: Global,
+    survey: &Survey<'_>,
+    text: &mut Vec<u8>,
+) -> Result<(), AllocError>
+    ensures { (w : List (Role × ℕ)) (fs : List SpecFinding) → IsSurvey survey.now.image w fs
+        → OnOk result
+        (text.new.items ≡ text.old.items ++ findings_text survey.now.image w fs) }
+{
+    let Some((first, others)) = survey.findings().split_first() else {
+        return Ok(());
+    };
+    let mut run = Run::of(first, survey.entry_of(0));
+    for (i, finding) in others.iter().enumerate() {
+        let next = Run::of(finding, survey.entry_of(i + 1));
+        run = join_run(alloc, survey, run, next, text)?;
+    }
+    push_run(alloc, survey, &run, text)
+}
