@@ -1,4 +1,4 @@
-# Completion of adf, adf-mount and adf-shelf for bash.
+# Completion of adf, adf-mount, adf-shelf and adf-survey for bash.
 
 _adf() {
     local word=${COMP_WORDS[COMP_CWORD]} first=${COMP_WORDS[1]}
@@ -13,6 +13,14 @@ _adf() {
     fi
 }
 
+_adf_survey() {
+    if [[ ${COMP_WORDS[COMP_CWORD - 1]} == [\<\>] ]]; then
+        compopt -o default
+    elif ((COMP_CWORD == 1)); then
+        COMPREPLY=($(compgen -W "cat" -- "$2"))
+    fi
+}
+
 _adf_files() {
     case $1:$2 in
         adf-mount:-*) COMPREPLY=($(compgen -W "-f -o -h --help -V --version" -- "$2")) ;;
@@ -21,4 +29,5 @@ _adf_files() {
 }
 
 complete -F _adf adf
+complete -F _adf_survey adf-survey
 complete -o default -F _adf_files adf-mount adf-shelf
