@@ -214,20 +214,16 @@ class Survey:
             if free != (b not in self.owner):
                 self.findings.append((None, b, "owned free" if free else "lost block"))
 
-    def node_of(self, role, b):
-        """The node that a finding concerns, as a path; a header that was passed over stands with its name, where it may be one."""
-        if role is None:
-            role = self.owner.get(b)
+    def node_of(self, role):
+        """The node of the entry that a finding concerns: of a header that is found, or of an extension or data block."""
         if role is None or role[1] in ("root", "page", "map"):
             return None
         if role[1] in ("ext", "data"):
-            return self.path(role[2])
-        b = self.walk.get(role[0], self.passed_over.get(role[0]))
-        typed = b is not None and 2 <= b < self.blocks and self.word(b, 0) == 2 and 1 <= self.byte(b, 432) <= 30
-        return self.path(role[2]) + [self.text(b, 432) if typed and self.owner.get(b, role)[0] == role[0] else None]
+            return role[2]
+        return next((n for n, known in enumerate(self.nodes) if known[0] == role[0]), None)
 
     def path(self, n):
-        return [] if n == 0 else self.path(self.nodes[n][2]) + [self.text(self.block_of(n), 432)[:30]]
+        return [] if n == 0 else self.path(self.nodes[n][2]) + [self.text(self.block_of(n), 432)[:79]]
 
     def is_sound(self, n):
         """Nothing of the entry is noted, and no other word names an FFS data block of it, which does not say whose it is."""
@@ -236,24 +232,28 @@ class Survey:
         headed = any(key[0] == n + 1 and key[1] < 2 for key in noted)
         return not headed and not noted & set(parts) and all(self.offset or key[1] != 1 or self.names[b] == 1 for key, b in parts.items())
 
-    def lines(self):
-        """A line for each run of findings with one cause and one path, at one block or at neighbouring ones; then the entries."""
+    def found(self):
+        """A line for each run of findings with one cause, of one entry or of none, at one block or at neighbouring ones."""
         runs = []
         for role, at, cause in self.findings:
-            path = self.node_of(role, at)
-            if runs and runs[-1][2:] == [cause, path] and (runs[-1][1] == at - 1 or runs[-1][:2] == [at, at]):
+            node = self.node_of(role)
+            if runs and runs[-1][2:] == [cause, node] and (runs[-1][1] == at - 1 or runs[-1][:2] == [at, at]):
                 runs[-1][1] = at
             else:
-                runs.append([at, at, cause, path])
-        for first, last, cause, path in runs:
+                runs.append([at, at, cause, node])
+        for first, last, cause, node in runs:
             where = f"block {first}" if first == last else f"blocks {first} to {last}"
-            yield f"{where}: {cause}" + ("" if path is None else " " + spelled(path))
+            yield f"{where}: {cause}" + ("" if node is None else f": {spelled(self.path(node))}")
+
+    def lines(self):
+        """The findings, and then the entries."""
+        yield from self.found()
         for n in range(1, len(self.nodes)):
             yield f"{'sound' if self.is_sound(n) else 'damaged'} {spelled(self.path(n))}"
 
 
 def spelled(path):
-    return "/".join("?" if name is None else "".join(chr(c) if 32 <= c <= 126 and c != 92 else f"\\x{c:02x}" for c in name) for name in path)
+    return "/".join("".join(chr(c) if 32 <= c <= 126 and c != 92 else f"\\x{c:02x}" for c in name) for name in path)
 
 
 def main():
