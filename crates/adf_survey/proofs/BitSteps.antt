@@ -45,7 +45,7 @@ module _ (image : List ℕ) (f : Found) (s : Course) (v : IsCourse image s) (fs 
   page_has : (at : ℕ) → get by_key f.taken (key_of (Page page)) ≡ Some at → Has s.walk (Page page) at
   page_has at e =
       let x = at_has s.walk (key_of (Page page)) at (sym (st.taken (key_of (Page page))) ∙ e) in
-      has_role image s.walk (Page page) (λ n p t j z. let y : second (Page page) ≡ second (Head n p t j) = ap second z in absurd (omega arith)) x.0 at x.1
+      has_role s.walk (Page page) (λ n p t j z. let y : second (Page page) ≡ second (Head n p t j) = ap second z in absurd (omega arith)) x.0 at x.1
       (same_of_key x.0 (Page page) x.2)
 
   -- without its page a bit is not compared

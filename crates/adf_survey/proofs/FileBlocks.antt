@@ -74,11 +74,11 @@ module _ (image : List ℕ) where
       not_had : Lacks s.walk (Data n (suc (length (datas_in s.walk n))))
       not_had q b h same =
           let m : ℕ = length (datas_in s.walk n) in
-          let u = at_below (datas_in s.walk n) m b (old.to m b (has_role image s.walk (Data n (suc m)) (no_data_head (suc m)) q b h same)) in
+          let u = at_below (datas_in s.walk n) m b (old.to m b (has_role s.walk (Data n (suc m)) (no_data_head (suc m)) q b h same)) in
           omega arith
 
       not_passed : (k : ℕ) → Lacks s.passed_over (Data n k)
-      not_passed k q b h same = clear k b (has_role image s.passed_over (Data n k) (no_data_head k) q b h same)
+      not_passed k q b h same = clear k b (has_role s.passed_over (Data n k) (no_data_head k) q b h same)
 
       -- the data block that is next has the next number
       next_number : (k a i : ℕ) → IsNext image s (Data n k) a i → k ≡ suc (length (datas_in s.walk n))

@@ -11,7 +11,7 @@ use Rattle.adf_volume.specs.Walk.{first, NodeAt, NewName, form_demands, next_dat
 use Rattle.adf_volume.specs.Walk.{Role, second, Has, FileAt, MemberAt, data_count, Asks, IsAbsent, ext_count, demands}
 use Rattle.adf_volume.specs.Walk.Role.{Root, Head, Ext, Data}
 use Rattle.adf_volume.proofs.Lists.{all_split, in_left, in_right}
-use Rattle.adf_volume.proofs.Roles.{count_up, dec_has, dir_is_node, has_role, head_in, head_role, same_refl, typed_in}
+use Rattle.adf_volume.proofs.Roles.{count_up, dec_has, dir_is_node, has_low, head_in, head_role, same_refl, typed_in}
 use Rattle.adf_survey.specs.Survey.{Finding, finding, Course, IsNext, IsCourse, IsDone, IsSurvey}
 use Rattle.adf_survey.specs.Survey.Judgement.{clean, noted, passed}
 use Rattle.adf_survey.specs.Survey.IsCourse.{start, step}
@@ -187,11 +187,11 @@ module _ (image : List ℕ) where
     -- what is asked for and has no finding is in the walk
     in_walk : (r : Role) (a i : ℕ) → Asks image s.walk r a i → IsUnnoted s.findings r → second r < 2 → (b : ℕ) × Has s.walk r b
     in_walk r a i ask clear low =
-        elim (dec_has s.walk r) [
-          | inr y ↦ (y.1, has_role image s.walk r (λ n p t j z. let x : second r ≡ second (Head n p t j) = ap second z in omega arith) y.0 y.1 y.2 y.3)
+        elim (has_low s.walk r low) [
+          | inr y ↦ y
           | inl lack ↦ elim (dec_has s.passed_over r) [
             | inl l ↦ absurd (done r a i ask lack l)
-            | inr y ↦ let x = passed_noted v y.0 y.1 y.2 in absurd (clear x.0 y.0 x.1 x.2 y.3)
+            | inr y ↦ let x = passed_noted v y.role y.block y.has in absurd (clear x.0 y.role x.1 x.2 y.same)
           ]
         ]
 

@@ -192,15 +192,15 @@ module _ (image : List ℕ) where
     settled_at : (q : Role) (a i b : ℕ) → Asks image s.walk q a i → word_in image a i ≡ b
         → ((r : Role) × Has s.walk r b × Same r q) ⊎ ((r : Role) × Has s.passed_over r b × Same r q)
     settled_at q a i b h e = elim (dec_has s.walk q) [
-      | inr x ↦ elim (taken_wanted v x.0 x.1 x.2) [
-        | inl root ↦ absurd (no_root s.walk q x.0 a i h root x.3)
-        | inr y ↦ inl (x.0, subst (Has s.walk x.0) (one_wanted s.walk (gathered image v) x.0 q a i x.1 y h x.3 ∙ e) x.2, x.3)
+      | inr x ↦ elim (taken_wanted v x.role x.block x.has) [
+        | inl root ↦ absurd (no_root s.walk q x.role a i h root x.same)
+        | inr y ↦ inl (x.role, subst (Has s.walk x.role) (one_wanted s.walk (gathered image v) x.role q a i x.block y h x.same ∙ e) x.has, x.same)
       ]
       | inl lacks ↦ elim (dec_has s.passed_over q) [
         | inl over ↦ absurd (done q a i h lacks over)
         | inr x ↦
-            let y = passed_wanted v x.0 x.1 x.2 in
-            inr (x.0, subst (Has s.passed_over x.0) (one_wanted s.walk (gathered image v) x.0 q a i x.1 y h x.3 ∙ e) x.2, x.3)
+            let y = passed_wanted v x.role x.block x.has in
+            inr (x.role, subst (Has s.passed_over x.role) (one_wanted s.walk (gathered image v) x.role q a i x.block y h x.same ∙ e) x.has, x.same)
       ]
     ]
 

@@ -7,7 +7,7 @@ use Rattle.adf_blocks.specs.Sizes.{blocks, pages_needed}
 use Rattle.adf_volume.specs.Image.{root_of, word_in, table_word}
 use Rattle.adf_volume.specs.Walk.{Asks, Role, second, Has, heads, HeadAt, TypedAt, DirAt, FileAt, MemberAt, data_count}
 use Rattle.adf_volume.specs.Walk.Role.{Root, Page, MapExt, Head, Ext, Data}
-use Rattle.adf_volume.proofs.Roles.{dec_has, has_role, head_key, renumbered, same_refl}
+use Rattle.adf_volume.proofs.Roles.{dec_has, has_low, head_key, renumbered, same_refl}
 use Rattle.adf_volume.proofs.Gathered.{IsGathered, root_in, number_of, numbered, one_block, one_head, dir_one, file_one}
 
 -- whether what is unique passes a test
@@ -25,11 +25,7 @@ Asked image w r = (a i : ℕ) × Asks image w (renumbered (suc (heads w)) r) a i
 module _ (image : List ℕ) (w : List (Role × ℕ)) (v : IsGathered image w) where
   -- whether the walk has a role that is no header's
   pub dec_low : (r : Role) → second r < 2 → Dec ((b : ℕ) × Has w r b)
-  dec_low r low =
-      elim (dec_has w r) [
-        | inl l ↦ no (λ x. l r x.0 x.1 (same_refl r))
-        | inr y ↦ yes (y.1, has_role image w r (λ n p s j z. let x : second r ≡ second (Head n p s j) = ap second z in omega arith) y.0 y.1 y.2 y.3)
-      ]
+  dec_low r low = elim (has_low w r low) [ inl l ↦ no (λ x. l r x.0 x.1 (same_refl r)) | inr y ↦ yes y ]
 
   pub one_low : (r : Role) (a b : ℕ) → Has w r a → Has w r b → a ≡ b
   one_low r a b h k = (one_block image v r r a b h k (same_refl r)).1
@@ -42,7 +38,7 @@ module _ (image : List ℕ) (w : List (Role × ℕ)) (v : IsGathered image w) wh
   dec_chain p s j =
       elim (dec_has w (Head 0 p s j)) [
         | inl l ↦ no (λ x. l (Head x.1.0 p s j) x.0 x.1.1 (refl, refl, refl))
-        | inr y ↦ let z = head_key 0 p s j y.0 y.3 in yes (y.1, (z.0, subst (λ r. Has w r y.1) z.1 y.2))
+        | inr y ↦ let z = head_key 0 p s j y.role y.same in yes (y.block, (z.0, subst (λ r. Has w r y.block) z.1 y.has))
       ]
 
   one_chain : (p s j a b : ℕ) → InChain p s j a → InChain p s j b → a ≡ b

@@ -80,7 +80,7 @@ pub lacks_same : (w : List (Role × ℕ)) (r q : Role) → Same q r → Lacks w 
 lacks_same w r q s l y b h k = l y b h (omega arith)
 
 pub dec_lacks : (w : List (Role × ℕ)) (r : Role) → Dec (Lacks w r)
-dec_lacks w r = elim (dec_has w r) [ inl l ↦ yes l | inr y ↦ no (λ l. l y.0 y.1 y.2 y.3) ]
+dec_lacks w r = elim (dec_has w r) [ inl l ↦ yes l | inr y ↦ no (λ l. l y.role y.block y.has y.same) ]
 
 module _ (image : List ℕ) (t : Tree) (l : Layout) (fit : Fits image t l) where
   -- the roles of what is owned

@@ -1,5 +1,5 @@
 -- Roles, and lists of them with blocks, whatever the blocks hold.
-use Rattle.std.proofs.Common.{◌≡◌, ℕ, zero, suc, List, [], ◌∷◌, ◌⊎◌, inl, inr, ◌≤◌, refl, sym, ap, subst, arith}
+use Rattle.std.proofs.Common.{◌≡◌, ℕ, zero, suc, List, [], ◌∷◌, ◌⊎◌, inl, inr, ◌<◌, ◌≤◌, refl, sym, ap, subst, arith}
 use Rattle.std.proofs.Common.{Bool, true, false, cond, eq-eqb}
 use Rattle.std.specs.Prelude.{◌==◌}
 use native.Mathlib.Decide.{ℕ_discrete}
@@ -87,20 +87,27 @@ dec_same r q =
     ]
 
 -- whether a walk has a role
-pub dec_has : (w : List (Role × ℕ)) (r : Role) → Lacks w r ⊎ ((q : Role) × (b : ℕ) × Has w q b × Same q r)
+pub dec_has : (w : List (Role × ℕ)) (r : Role) → Lacks w r ⊎ record { role : Role; block : ℕ; has : Has w role block; same : Same role r }
 dec_has [] r = inl (λ q b h s. h)
 dec_has (x ∷ w) r =
     elim (dec_same x.0 r) [
-      | yes s ↦ inr (x.0, x.1, inl (refl, refl), s)
+      | yes s ↦ inr (record { role = x.0; block = x.1; has = inl (refl, refl); same = s })
       | no s ↦ elim (dec_has w r) [
         | inl l ↦ inl (λ q b h k. elim h [ inl e ↦ s (subst (λ z. Same z r) (sym e.0) k) | inr g ↦ l q b g k ])
-        | inr h ↦ inr (h.0, h.1, inr h.2, h.3)
+        | inr h ↦ inr (record { role = h.role; block = h.block; has = inr h.has; same = h.same })
       ]
     ]
 
-pub has_role : (image : List ℕ) (w : List (Role × ℕ)) (r : Role) → ((n p s j : ℕ) → r ≡ Head n p s j → ⊥) → (q : Role) (b : ℕ) → Has w q b → Same q r
+pub has_role : (w : List (Role × ℕ)) (r : Role) → ((n p s j : ℕ) → r ≡ Head n p s j → ⊥) → (q : Role) (b : ℕ) → Has w q b → Same q r
     → Has w r b
-has_role image w r nohead q b h s = subst (λ z. Has w z b) (same_role q r s (λ n m p t j e f. absurd (nohead m p t j f))) h
+has_role w r nohead q b h s = subst (λ z. Has w z b) (same_role q r s (λ n m p t j e f. absurd (nohead m p t j f))) h
+
+-- whether a walk has a role that is no header's
+pub has_low : (w : List (Role × ℕ)) (r : Role) → second r < 2 → Lacks w r ⊎ ((b : ℕ) × Has w r b)
+has_low w r low = elim (dec_has w r) [
+  | inl l ↦ inl l
+  | inr y ↦ inr (y.block, has_role w r (λ n p s j z. omega (arith, low, ap second z)) y.role y.block y.has y.same)
+]
 
 -- only a header has a header's key
 pub head_key : (n p s j : ℕ) (q : Role) → Same q (Head n p s j) → (m : ℕ) × (q ≡ Head m p s j)

@@ -8,7 +8,7 @@ use Rattle.adf_volume.specs.Walk.{Role, second, Has, heads, HeadAt, NodeAt, File
 use Rattle.adf_volume.specs.Walk.{ext_count, member_block, node_block}
 use Rattle.adf_volume.specs.Walk.Role.{Root, Page, MapExt, Head, Ext}
 use Rattle.adf_volume.specs.Walk.IsWalk.{start, step}
-use Rattle.adf_volume.proofs.Roles.{dec_has, has_role, head_key, head_role}
+use Rattle.adf_volume.proofs.Roles.{dec_has, has_low, head_key, head_role}
 use Rattle.adf_volume.proofs.Gathered as gathered
 use Rattle.adf_volume.proofs.Gathered.{IsGathered}
 use Rattle.adf_volume.proofs.Gathered.IsGathered.{start as gathered_start, step as gathered_step}
@@ -80,24 +80,18 @@ module _ (image : List ℕ) where
 pub is_there : (image : List ℕ) (w : List (Role × ℕ)) (q r : Role) (a i c k : ℕ) → IsDue image w r a i → Asks image w q c k → Before q r → second q < 2
     → (b : ℕ) × Has w q b
 is_there image w q r a i c k d ask bef low =
-    elim (dec_has w q) [
-      | inr y ↦ (y.1, has_role image w q (λ n p s j z. let x : second q ≡ second (Head n p s j) = ap second z in omega arith) y.0 y.1 y.2 y.3)
-      | inl y ↦ absurd (d.least q c k ask y bef)
-    ]
+    elim (has_low w q low) [ inr y ↦ y | inl y ↦ absurd (d.least q c k ask y bef) ]
 
 -- what a whole walk asks for is there
 pub asked_block : (image : List ℕ) (w : List (Role × ℕ)) → IsWhole image w → (r : Role) (a i : ℕ) → Asks image w r a i → second r < 2 → (b : ℕ) × Has w r b
 asked_block image w whole r a i ask low =
-    elim (dec_has w r) [
-      | inr y ↦ (y.1, has_role image w r (λ n p s j z. let x : second r ≡ second (Head n p s j) = ap second z in omega arith) y.0 y.1 y.2 y.3)
-      | inl y ↦ absurd (whole r a i ask y)
-    ]
+    elim (has_low w r low) [ inr y ↦ y | inl y ↦ absurd (whole r a i ask y) ]
 
 pub asked_header : (image : List ℕ) (w : List (Role × ℕ)) → IsWhole image w → (n p s j a i : ℕ) → Asks image w (Head n p s j) a i
     → (m b : ℕ) × Has w (Head m p s j) b
 asked_header image w whole n p s j a i ask =
     elim (dec_has w (Head n p s j)) [
-      | inr y ↦ let z = head_key n p s j y.0 y.3 in (z.0, y.1, subst (λ r. Has w r y.1) z.1 y.2)
+      | inr y ↦ let z = head_key n p s j y.role y.same in (z.0, y.block, subst (λ r. Has w r y.block) z.1 y.has)
       | inl y ↦ absurd (whole (Head n p s j) a i ask y)
     ]
 
