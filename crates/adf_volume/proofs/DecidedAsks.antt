@@ -87,8 +87,6 @@ module _ (image : List ℕ) (w : List (Role × ℕ)) (v : IsGathered image w) wh
             | no n ↦ no (λ x. elim x.2.1 [
               | inl e ↦ l e.0
               | inr y ↦
-                  let u : x.1 < MAP_EXT_PAGES = y.2 in
-                  let z : k ≡ ROOT_PAGES + MAP_EXT_PAGES * y.0 + x.1 = y.3 in
                   let e : y.0 ≡ j = omega arith in
                   n (x.0, subst (λ j. Has w (MapExt j) x.0) e y.1)
             ])

@@ -123,13 +123,9 @@ module _ (image : List ℕ) where
 
     names_one : (n a i b j : ℕ) → NamesPage image w n a i → NamesPage image w n b j → (a ≡ b) × (i ≡ j)
     names_one n a i b j (inl h) (inl k) = (h.1 ∙ sym k.1, h.2 ∙ sym k.2)
-    names_one n a i b j (inl h) (inr k) = let x : n < ROOT_PAGES = h.0 in let y : n ≡ ROOT_PAGES + MAP_EXT_PAGES * k.0 + j = k.3 in absurd (omega arith)
-    names_one n a i b j (inr h) (inl k) = let x : n < ROOT_PAGES = k.0 in let y : n ≡ ROOT_PAGES + MAP_EXT_PAGES * h.0 + i = h.3 in absurd (omega arith)
+    names_one n a i b j (inl h) (inr k) = absurd (omega arith)
+    names_one n a i b j (inr h) (inl k) = absurd (omega arith)
     names_one n a i b j (inr h) (inr k) =
-        let x : n ≡ ROOT_PAGES + MAP_EXT_PAGES * h.0 + i = h.3 in
-        let y : n ≡ ROOT_PAGES + MAP_EXT_PAGES * k.0 + j = k.3 in
-        let li : i < MAP_EXT_PAGES = h.2 in
-        let lj : j < MAP_EXT_PAGES = k.2 in
         let e : h.0 ≡ k.0 = omega arith in
         let f : i ≡ j = omega arith in
         let k1 : Has w (MapExt h.0) b = subst (λ x. Has w (MapExt x) b) (sym e) k.1 in

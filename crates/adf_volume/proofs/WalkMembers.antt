@@ -147,8 +147,7 @@ module _ (image : List ℕ) where
       let t = there image w v (λ r b h. kept image v r b h) n (m / POINTERS) f.0 f.1 (omega arith) in
       let x = is_there image w (Data n (suc m)) (Data n (suc k)) a i t.0 (table_word m) d ((f.0, f.1, omega arith), t.1, refl)
       (omega arith, (λ z. omega arith), (λ z y. omega arith)) (omega arith) in
-      let y = at_below (datas_in w n) m x.0 (ih.to m x.0 x.1) in
-      omega arith) in
+      omega (arith, at_below (datas_in w n) m x.0 (ih.to m x.0 x.1))) in
       omega arith
 
   data_only : (n : ℕ) (q : Role) → is_data_of n q ≡ true → (k : ℕ) × (q ≡ Data n k)
@@ -176,11 +175,8 @@ module _ (image : List ℕ) where
   -- what names a page has the extension blocks of the pages before it
   before_page : (w : List (Role × ℕ)) → IsWalk image w → (k m j a i : ℕ) → m < k → ROOT_PAGES + MAP_EXT_PAGES * j ≤ m → NamesPage image w k a i
       → (b : ℕ) × Has w (MapExt j) b
-  before_page w v k m j a i l u (inl x) = let y : k < ROOT_PAGES = x.0 in absurd (omega arith)
-  before_page w v k m j a i l u (inr x) =
-      let y : i < MAP_EXT_PAGES = x.2 in
-      let z : k ≡ ROOT_PAGES + MAP_EXT_PAGES * x.0 + i = x.3 in
-      map_ext_down image w v x.0 j a x.1 (omega arith)
+  before_page w v k m j a i l u (inl x) = absurd (omega arith)
+  before_page w v k m j a i l u (inr x) = map_ext_down image w v x.0 j a x.1 (omega arith)
 
   next_page : (w : List (Role × ℕ)) → IsWalk image w → Lists is_page Page w → (k a i : ℕ) → IsDue image w (Page k) a i → k ≡ length (pages_in w)
   next_page w v ih k a i d =
@@ -190,8 +186,7 @@ module _ (image : List ℕ) where
       let high : m < k → ⊥ = (λ l.
       let p = page_word image w m (omega arith) (λ j u. before_page w v k m j a i l u d.asked.1) in
       let x = is_there image w (Page m) (Page k) a i p.0 p.1 d p.2 (omega arith, (λ z. omega arith), (λ z y. omega arith)) (omega arith) in
-      let y = at_below (pages_in w) m x.0 (ih.to m x.0 x.1) in
-      omega arith) in
+      omega (arith, at_below (pages_in w) m x.0 (ih.to m x.0 x.1))) in
       omega arith
 
   page_only : (q : Role) → is_page q ≡ true → (k : ℕ) × (q ≡ Page k)

@@ -55,10 +55,7 @@ module _ (image : List ℕ) where
     asks_back (Page k) a i h = elim h.1 [
       | inl e ↦ inl (Page k, (h.0, inl e), (refl, refl, refl))
       | inr x ↦ elim x.1 [
-        | inl e ↦
-            let l : i < MAP_EXT_PAGES = x.2 in
-            let z : k ≡ ROOT_PAGES + MAP_EXT_PAGES * x.0 + i = x.3 in
-            inr (subst (λ q. Before q (Page k)) (sym e.0) (omega arith))
+        | inl e ↦ inr (subst (λ q. Before q (Page k)) (sym e.0) (omega arith))
         | inr y ↦ inl (Page k, (h.0, inr (x.0, y, x.2, x.3)), (refl, refl, refl))
       ]
     ]

@@ -129,8 +129,7 @@ module _ (image : List ℕ) (w : List (Role × ℕ)) (v : IsWalk image w) (whole
       let enough : length (pages_in w) < pages_needed (blocks image) → ⊥ = (λ u.
       let m = page_word image w (length (pages_in w)) u (λ j y. all_map_exts image w whole j (omega arith)) in
       let x = asked_block image w whole (Page (length (pages_in w))) m.0 m.1 m.2 (omega arith) in
-      let y = at_below (pages_in w) (length (pages_in w)) x.0 ((pages image v).to (length (pages_in w)) x.0 x.1) in
-      omega arith) in
+      omega (arith, at_below (pages_in w) (length (pages_in w)) x.0 ((pages image v).to (length (pages_in w)) x.0 x.1))) in
       let few : pages_needed (blocks image) < length (pages_in w) → ⊥ = (λ l.
       let x = at_some (pages_in w) (pages_needed (blocks image)) l in
       let y = (kept image v (Page (pages_needed (blocks image))) x.0 ((pages image v).from (pages_needed (blocks image)) x.0 x.1)).0 in
@@ -142,8 +141,7 @@ module _ (image : List ℕ) (w : List (Role × ℕ)) (v : IsWalk image w) (whole
       let m : ℕ = map_exts_needed (pages_needed (blocks image)) in
       let enough : length (map_exts_in w) < m → ⊥ = (λ u.
       let x = all_map_exts image w whole (length (map_exts_in w)) (map_exts_low (pages_needed (blocks image)) (length (map_exts_in w)) u) in
-      let y = at_below (map_exts_in w) (length (map_exts_in w)) x.0 ((map_exts image v).to (length (map_exts_in w)) x.0 x.1) in
-      omega arith) in
+      omega (arith, at_below (map_exts_in w) (length (map_exts_in w)) x.0 ((map_exts image v).to (length (map_exts_in w)) x.0 x.1))) in
       let few : m < length (map_exts_in w) → ⊥ = (λ l.
       let x = at_some (map_exts_in w) m l in
       let y = map_exts_high (pages_needed (blocks image)) m (map_ext_low image w m x.0 v ((map_exts image v).from m x.0 x.1)) in
@@ -158,15 +156,13 @@ module _ (image : List ℕ) (w : List (Role × ℕ)) (v : IsWalk image w) (whole
 
   pub root_names : (k b a i : ℕ) → k < ROOT_PAGES → NamesPage image w k a i → word_in image a i ≡ b → word_in image (root_of image) (FIRST_PAGE + k) ≡ b
   root_names k b a i lt (inl x) e = ap (λ a. word_in image a (FIRST_PAGE + k)) (sym x.1) ∙ ap (word_in image a) (sym x.2) ∙ e
-  root_names k b a i lt (inr x) e = let z : k ≡ ROOT_PAGES + MAP_EXT_PAGES * x.0 + i = x.3 in absurd (omega arith)
+  root_names k b a i lt (inr x) e = absurd (omega arith)
 
   pub ext_names : (j i c b a m : ℕ) → i < MAP_EXT_PAGES → At (map_exts_in w) j c → NamesPage image w (ROOT_PAGES + MAP_EXT_PAGES * j + i) a m
       → word_in image a m ≡ b
       → word_in image c i ≡ b
-  ext_names j i c b a m lt h (inl x) e = let y : ROOT_PAGES + MAP_EXT_PAGES * j + i < ROOT_PAGES = x.0 in absurd (omega arith)
+  ext_names j i c b a m lt h (inl x) e = absurd (omega arith)
   ext_names j i c b a m lt h (inr x) e =
-      let l : m < MAP_EXT_PAGES = x.2 in
-      let z : ROOT_PAGES + MAP_EXT_PAGES * j + i ≡ ROOT_PAGES + MAP_EXT_PAGES * x.0 + m = x.3 in
       let ej : x.0 ≡ j = omega arith in
       let ei : i ≡ m = omega arith in
       let ea : c ≡ a = at_fun (map_exts_in w) j c a h (subst (λ j. At (map_exts_in w) j a) ej ((map_exts image v).to x.0 a x.1)) in
@@ -200,8 +196,7 @@ module _ (image : List ℕ) (w : List (Role × ℕ)) (v : IsWalk image w) (whole
       (λ h.
       let none : 0 < word_in image a (FIRST_SLOT + s) → ⊥ = (λ some.
       let x = asked_header image w whole (suc (heads w)) p s 0 a (FIRST_SLOT + s) (refl, lt, da, refl, (λ z. omega arith)) in
-      let y = at_below c 0 x.0 ((chains image w v).to x.0 p s 0 x.1 x.2) in
-      omega (arith, length-map c (at_node image (layout_in w)))) in
+      omega (arith, at_below c 0 x.0 ((chains image w v).to x.0 p s 0 x.1 x.2), length-map c (at_node image (layout_in w)))) in
       omega arith)
       (λ j b b2 h h2.
       let u = at_unmap (at_node image (layout_in w)) c j b h in
@@ -219,8 +214,7 @@ module _ (image : List ℕ) (w : List (Role × ℕ)) (v : IsWalk image w) (whole
       let none : 0 < word_in image b NEXT_IN_CHAIN → ⊥ = (λ some.
       let x' : Has w (Head u.0 p s j) b = subst (Has w (Head u.0 p s j)) y x.1 in
       let q = asked_header image w whole (suc (heads w)) p s (suc j) b NEXT_IN_CHAIN (refl, (u.0, x'), refl, (λ z. omega arith)) in
-      let r = at_below c (suc j) q.0 ((chains image w v).to q.0 p s (suc j) q.1 q.2) in
-      omega (arith, length-map c (at_node image (layout_in w)))) in
+      omega (arith, at_below c (suc j) q.0 ((chains image w v).to q.0 p s (suc j) q.1 q.2), length-map c (at_node image (layout_in w)))) in
       omega arith)
 
   -- a file of the tree is one of the walk
@@ -250,8 +244,7 @@ module _ (image : List ℕ) (w : List (Role × ℕ)) (v : IsWalk image w) (whole
       let en = enough_now n h f in
       let t = there image w v (λ r b h. kept image v r b h) n (m / POINTERS) h f (omega arith) in
       let x = asked_block image w whole (Data n (suc m)) t.0 (table_word m) ((h, f, u), t.1, refl) (omega arith) in
-      let y = at_below (datas_in w n) m x.0 (data_has image w v n m x.0 x.1) in
-      omega arith) in
+      omega (arith, at_below (datas_in w n) m x.0 (data_has image w v n m x.0 x.1))) in
       let few : data_count image h < m → ⊥ = (λ l.
       let x = at_some (datas_in w n) (data_count image h) l in
       let k = kept image v (Data n (suc (data_count image h))) x.0 (has_data image w v n (data_count image h) x.0 x.1) in
@@ -268,8 +261,7 @@ module _ (image : List ℕ) (w : List (Role × ℕ)) (v : IsWalk image w) (whole
       (λ z.
       let none : 0 < word_in image h EXTENSION → ⊥ = (λ some.
       let x = asked_block image w whole (Ext n 1) h EXTENSION (f, refl, (λ z. omega arith)) (omega arith) in
-      let y = at_below (exts_in w n) 0 x.0 (ext_has image v n 0 x.0 x.1) in
-      omega arith) in
+      omega (arith, at_below (exts_in w n) 0 x.0 (ext_has image v n 0 x.0 x.1))) in
       omega arith)
       (λ j b c x y.
       let k = (kept image v (Ext n (suc (suc j))) c (has_ext image w v n (suc j) c y)).0 in
@@ -278,8 +270,7 @@ module _ (image : List ℕ) (w : List (Role × ℕ)) (v : IsWalk image w) (whole
       (λ j b x e.
       let none : 0 < word_in image b EXTENSION → ⊥ = (λ some.
       let q = asked_block image w whole (Ext n (suc (suc j))) b EXTENSION (has_ext image w v n j b x, refl, (λ z. omega arith)) (omega arith) in
-      let y = at_below (exts_in w n) (suc j) q.0 (ext_has image v n (suc j) q.0 q.1) in
-      omega arith) in
+      omega (arith, at_below (exts_in w n) (suc j) q.0 (ext_has image v n (suc j) q.0 q.1))) in
       omega arith)
 
   -- a member of the table is one member
@@ -330,9 +321,7 @@ module _ (image : List ℕ) (w : List (Role × ℕ)) (v : IsWalk image w) (whole
             let y = (kept image v (Ext n (suc k)) b (has_ext image w v n k b (subst (λ xs. At xs k b) ex x))).1 in
             subst (λ h. AllHold (ext_demands image b h)) (file_one image (of_walk image v) n y.0 h y.1 f) y.2);
         enough =
-            (let en : data_count image h ≤ POINTERS * suc (ext_count w n) = enough_now n h f in
-            let l : length (exts_of (layout_in w) n) ≡ ext_count w n = ap length ex ∙ exts_length image w n in
-            omega arith);
+            omega (arith, ct, enough_now n h f, ap length ex ∙ exts_length image w n);
         datas = ap length da ∙ datas_length n h f ∙ sym ct;
         named = (λ k b a x y. data_named n h k b a f (subst (λ xs. At xs k b) da x) y);
         data_form = (λ k b x.
