@@ -10,4 +10,5 @@ mod runs;
 mod work;
 
 pub use crate::command_line::{Inquiry, parse, survey_words_as_documented};
+pub use crate::ending::Ending;
 pub use crate::runner::run;

@@ -118,7 +118,8 @@ fn push_run(
     text.extend_from_slice(b"\n")
 }
 
-// Goes on from a run to the next finding: the run with it, or where it does not go on, that finding, behind the line of the run.
+// Goes on from a run to the next finding: answers the run with it; or where it does not go on,
+// appends the line of the run and answers that finding.
 fn join_run(
     alloc: Global,
     survey: &Survey<'_>,

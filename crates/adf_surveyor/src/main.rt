@@ -1,0 +1,45 @@
+//! Tells all that is wrong in an image of an Amiga floppy or hard disk, and reads files that are sound.
+#![tactic(auto)]
+
+use adf_cmd::{Device, say};
+use adf_survey_cmd::{Ending, run};
+use std::alloc::Global;
+use std::io;
+use std::io::ErrorKind;
+use std::process::ExitCode;
+use std::rt::Env;
+
+// The words of the command line.
+fn command_words(rt: &(impl Env + Alloc<A = Global>)) -> io::Result<Vec<String>> {
+    Ok(std::env::args(rt)?.collect(rt.alloc())?)
+}
+
+fn status(rt: &HostRuntime) -> io::Result<u8> {
+    let words = command_words(rt)?;
+    let mut texts = Vec::with_capacity(rt.alloc(), words.len())?;
+    for word in &words {
+        texts.push(word.as_str())?;
+    }
+    let mut input = Device::new(rt.stdin());
+    let mut output = Device::new(rt.stdout());
+    let mut errors = Device::new(rt.stderr());
+    Ok(run(rt.alloc(), &texts, &mut input, &mut output, &mut errors))
+}
+
+// Why the words cannot be had: memory, or one that is no UTF-8.
+fn ending_of(error: &io::Error) -> Ending {
+    match error.kind() {
+        ErrorKind::OutOfMemory => Ending::NoMemory,
+        _ => Ending::ReadFault,
+    }
+}
+
+fn main(rt: HostRuntime) -> ExitCode {
+    match status(&rt) {
+        Ok(status) => ExitCode::from(status),
+        Err(error) => {
+            say(&mut Device::new(rt.stderr()), ending_of(&error).line());
+            ExitCode::from(3)
+        }
+    }
+}
