@@ -13,8 +13,8 @@ use Rattle.adf_survey.proofs.OneSurvey.{gathered}
 -- the number of an entry that is found
 pub file_between : (image : List ℕ) (w : List (Role × ℕ)) (fs : List Finding) → IsSurvey image w fs → (n h : ℕ) → FileAt image w n h
     → (1 ≤ n) × (n ≤ heads w)
-file_between image w fs (unread f) n h at = absurd at.0.3
-file_between image w fs (read begun v d t) n h at = number_of image (gathered image v) n at.0.0 at.0.1 at.0.2 h at.0.3
+file_between image w fs (unread f) n h at = absurd at.header.has
+file_between image w fs (read begun v d t) n h at = number_of image (gathered image v) at.header
 
 -- an entry is a file where its header says so
 pub file_told : (image : List ℕ) (w : List (Role × ℕ)) (fs : List Finding) → IsSurvey image w fs → (n : ℕ) (t : Bool) → 1 ≤ n → n ≤ heads w
@@ -23,9 +23,7 @@ file_told image w fs (unread f) n t lo hi e = absurd (omega arith)
 file_told image w fs (read {s = s} begun v d u) n t lo hi e =
     let x = has_number image (gathered image v) n lo hi in
     let word : ℕ → ℕ = λ b. word_in image b SECONDARY_TYPE in
-    let at : node_block s.walk n ≡ x.3 = head_block image (gathered image v) n x.0 x.1 x.2 x.3 x.4 in (
-      (λ y. (x.3, ((x.0, x.1, x.2, x.4), ap word (sym at) ∙ eqb-true _ _ (sym e ∙ y)))),
-      (λ y.
-          let b = head_block image (gathered image v) n y.1.0.0 y.1.0.1 y.1.0.2 y.0 y.1.0.3 in
-          e ∙ eq-eqb _ _ (ap word b ∙ y.1.1)),
+    let at : node_block s.walk n ≡ x.0 = head_block image (gathered image v) x.1 in (
+      (λ y. (x.0, record { header = x.1; type = ap word (sym at) ∙ eqb-true _ _ (sym e ∙ y) })),
+      (λ y. e ∙ eq-eqb _ _ (ap word (head_block image (gathered image v) y.1.header) ∙ y.1.type)),
     )

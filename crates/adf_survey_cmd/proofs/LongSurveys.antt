@@ -40,9 +40,9 @@ same_leads image bytes (name ∷ names) n h = absurd h.1.0.3
 same_found : (image bytes : List ℕ) (names : List (List ℕ)) (reply : Reply) → CopiesFound image [] bad_size names reply
     → CopiesFound bytes [] bad_size names reply
 same_found image bytes names reply (inl (none, e)) = inl ((λ n h. none n (same_leads bytes image names n h)), e)
-same_found image bytes names reply (inr (n, leads, inl (none, e))) = inr (n, same_leads image bytes names n leads, inl ((λ h at. at.0.3), e))
-same_found image bytes names reply (inr (n, leads, inr (inl (file, damage, e)))) = absurd file.1.0.3
-same_found image bytes names reply (inr (n, leads, inr (inr (sound, e)))) = absurd sound.0.header.3
+same_found image bytes names reply (inr (n, leads, inl (none, e))) = inr (n, same_leads image bytes names n leads, inl ((λ h at. at.header.has), e))
+same_found image bytes names reply (inr (n, leads, inr (inl (file, damage, e)))) = absurd file.1.header.has
+same_found image bytes names reply (inr (n, leads, inr (inr (sound, e)))) = absurd sound.0.header.has
 
 -- of an input of a bad size, whatever holds of its walk and its findings holds of these
 of_long : (image : List ℕ) (w : List (Role × ℕ)) (fs : List Finding) (holds : List (Role × ℕ) → List Finding → Type 0)
