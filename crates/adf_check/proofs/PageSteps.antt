@@ -118,10 +118,10 @@ module _ {image : List ℕ} {store : StoreValue} {i a b : ℕ} (begun : IsBegun 
       where
         at_root : (n : ℕ) → NamesPage image st.walk i a n → suc i ≤ 25 → a ≡ root_of image
         at_root n (inl x) l = x.1
-        at_root n (inr x) l = let y : i ≡ 25 + 127 * x.0 + n = x.3 in absurd (omega arith)
+        at_root n (inr x) l = absurd (omega arith)
 
         at_ext : (n : ℕ) → NamesPage image st.walk i a n → (j : ℕ) → 25 + 127 * j < suc i → suc i ≤ 25 + 127 * suc j → Has st.walk (MapExt j) a
-        at_ext n (inl x) j l h = let y : i < 25 = x.0 in absurd (omega arith)
+        at_ext n (inl x) j l h = absurd (omega arith)
         at_ext n (inr x) j l h =
             let e : x.0 ≡ j = omega arith in
             subst (λ j. Has st.walk (MapExt j) a) e x.1

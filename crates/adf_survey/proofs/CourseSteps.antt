@@ -148,7 +148,8 @@ module _ (image : List ℕ) (w : List (Role × ℕ)) (v : IsGathered image w) (p
     now = (role_of part, b) ∷ w
 
     dir_at : (n k p s j : ℕ) → n ≡ suc k → Has now (Head n p s j) b → word_in image b SECONDARY_TYPE ≡ ST_DIR → DirAt image now n b
-    dir_at n k p s j e h t = subst (λ n. Has now (Head n p s j) b → DirAt image now n b) (sym e) (λ h. record { header = head_at (suc k) p s j b h; type = t }) h
+    dir_at n k p s j e h t =
+        subst (λ n. Has now (Head n p s j) b → DirAt image now n b) (sym e) (λ h. record { header = head_at (suc k) p s j b h; type = t }) h
 
 -- what a part names is asked for, once it is taken
 new_asked : (image : List ℕ) (w : List (Role × ℕ)) (f : Found) (part : Part) (b : ℕ) (k : Key) → ((n : ℕ) → slice_index f.nodes.items n ≡ node_block w n)

@@ -1,10 +1,10 @@
 -- What holds of every list of parts of which each was asked for, and lacking, when it came, whatever its block holds.
 use Rattle.std.proofs.lemmas.Bool.{eqb-true}
 use Rattle.std.specs.Prelude.{◌==◌}
-use Rattle.std.proofs.Common.{Bool, true, false, cond, eq-eqb, ◌≡◌, ℕ, zero, suc, List, [], ◌∷◌, inl, inr, ◌+◌, ◌*◌, ◌/◌, ◌<◌, ◌≤◌, ◌≢◌, refl, sym, ap}
+use Rattle.std.proofs.Common.{Bool, true, false, cond, eq-eqb, ◌≡◌, ℕ, zero, suc, List, [], ◌∷◌, inl, inr, ◌/◌, ◌<◌, ◌≤◌, ◌≢◌, refl, sym, ap}
 use Rattle.std.proofs.Common.{subst, ◌∙◌, arith}
 use native.Mathlib.Decide.{dec_le, dec_lt}
-use Rattle.adf_blocks.specs.declared.layout.TheConstants.{MAP_EXT_PAGES, POINTERS, ROOT_PAGES}
+use Rattle.adf_blocks.specs.declared.layout.TheConstants.{POINTERS}
 use Rattle.adf_volume.specs.Image.{root_of}
 use Rattle.std.proofs.lemmas.Bool.Decides.{eqb_tells}
 use Rattle.adf_volume.specs.Walk.{first, ext_block_in, ext_block_of, ext_count, ext_count_of, member_block, node_block, node_block_of}

@@ -70,7 +70,8 @@ module _ (image : List ℕ) (w : List (Role × ℕ)) (v : IsWalk image w) (whole
       let ef = fit.entries n e h in
       let ff = fit'.entries n f.entry f.at in
       let z : at_node image l n ≡ at_node image m n = sym pt.1 in
-      let same : e ≡ f.entry = same_entry e f.entry (sym f.parent) (ef.name ∙ ap (name_of image) z ∙ sym ff.name) (ef.meta ∙ ap (meta_of image) z ∙ sym ff.meta)
+      let same : e ≡ f.entry =
+      same_entry e f.entry (sym f.parent) (ef.name ∙ ap (name_of image) z ∙ sym ff.name) (ef.meta ∙ ap (meta_of image) z ∙ sym ff.meta)
       (same_body n (at_node image l n) (at_node image m n) e.body f.entry.body z ef.body ff.body) in
       subst (EntryAt u n) (sym same) f.at
 

@@ -16,8 +16,8 @@ use Rattle.adf_volume.specs.Layout.{EntryAt, IsFile, chain_nodes, Layout, at_nod
 use Rattle.adf_volume.proofs.TreeOrder.{DirNode, ordered, is_dir}
 use Rattle.adf_tree.specs.declared.entry.Body.TheVariants.{Dir, File}
 use Rattle.adf_volume.specs.Fits.{Fits, FileFits, BodyFits, TableAt}
-use Rattle.adf_volume.specs.Walk.{Role, Before, Has, heads, DirAt, FileAt, MemberAt, NamesPage, data_count, Asks, Lacks, IsDue, ext_count, Enough, NewName, HeadAt}
-use Rattle.adf_volume.specs.Walk.{form_demands, node_block, member_block, next_data, NoCause, IsWalk}
+use Rattle.adf_volume.specs.Walk.{Role, Before, Has, heads, HeadAt, DirAt, FileAt, MemberAt, NamesPage, data_count, Asks, Lacks, IsDue, ext_count, Enough}
+use Rattle.adf_volume.specs.Walk.{NewName, form_demands, node_block, member_block, next_data, NoCause, IsWalk}
 use Rattle.adf_volume.specs.Walk.Role.{Root, Page, MapExt, Head, Ext, Data}
 use Rattle.adf_volume.specs.Walk.IsWalk.{start, step}
 use Rattle.adf_volume.specs.LayoutRoles.{LayoutHas}
@@ -235,7 +235,8 @@ module _ (image : List ℕ) (t : Tree) (l : Layout) (fit : Fits image t l) where
     asked_part (Ext n (suc zero)) a i q =
         let f = file_agrees n a q.0 in
         let ff = fit_file f.file in
-        let z : word_in image (at_node image l n) EXTENSION ≡ word_in image a i = ap (λ a. word_in image a EXTENSION) f.block ∙ ap (word_in image a) (sym q.1) in
+        let z : word_in image (at_node image l n) EXTENSION ≡ word_in image a i =
+        ap (λ a. word_in image a EXTENSION) f.block ∙ ap (word_in image a) (sym q.1) in
         let x : At (exts_of l n) 0 (word_in image (at_node image l n) EXTENSION) =
         spelled_first (λ b. word_in image b EXTENSION) (word_in image (at_node image l n) EXTENSION) (exts_of l n) ff.exts (λ k. q.2 (sym z ∙ k)) in
         (0, subst (At (exts_of l n) 0) z x)

@@ -13,8 +13,8 @@ use Rattle.adf_volume.specs.Made.{tree_in, layout_in}
 use Rattle.adf_volume.specs.LayoutRoles.{owner_of}
 use Rattle.adf_volume.proofs.MemberFacts.{kept, in_range}
 use Rattle.adf_volume.proofs.WalkMembers.{entries_length, places_length, pages, map_exts}
-use Rattle.adf_volume.proofs.WholeWalks.{chains_spelled, content_long, entry_fits, ext_names, file_at, file_fits, head_is, is_tree, map_ext_next, map_exts_length}
-use Rattle.adf_volume.proofs.WholeWalks.{pages_length, root_names}
+use Rattle.adf_volume.proofs.WholeWalks.{chains_spelled, content_long, entry_fits, ext_names, file_at, file_fits, head_is, is_tree, map_ext_next}
+use Rattle.adf_volume.proofs.WholeWalks.{map_exts_length, pages_length, root_names}
 use Rattle.adf_volume.proofs.WalkOwners.{is_owned, owned_has, once}
 use Rattle.adf_volume.proofs.Sizes.{size_low}
 

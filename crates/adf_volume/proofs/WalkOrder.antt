@@ -1,6 +1,6 @@
 -- A walk rises: what is due comes after all that is there.
-use Rattle.std.proofs.Common.{◌≡◌, ℕ, zero, suc, List, [], ◌∷◌, ◌⊎◌, inl, inr, ◌+◌, ◌*◌, ◌/◌, ◌<◌, ◌≤◌, refl, sym, ap, subst, ◌∙◌, arith}
-use Rattle.adf_blocks.specs.declared.layout.TheConstants.{MAP_EXT_PAGES, POINTERS, ROOT_PAGES, ST_DIR, ST_FILE}
+use Rattle.std.proofs.Common.{◌≡◌, ℕ, zero, suc, List, [], ◌∷◌, ◌⊎◌, inl, inr, ◌/◌, ◌<◌, ◌≤◌, refl, sym, ap, subst, ◌∙◌, arith}
+use Rattle.adf_blocks.specs.declared.layout.TheConstants.{POINTERS, ST_DIR, ST_FILE}
 use Rattle.adf_volume.specs.Image.{root_of}
 use Rattle.adf_volume.specs.Walk.{Role, first, second, third, Before, Same, Has, head_count, heads, HeadAt, TypedAt, MemberAt, Asks, Lacks, IsDue}
 use Rattle.adf_volume.specs.Walk.{IsWalk}
