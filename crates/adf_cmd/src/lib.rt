@@ -27,5 +27,5 @@ pub use crate::images::MOST_IMAGE_BYTES;
 pub use crate::listing::write_listing;
 pub use crate::round_trip::build_and_read;
 pub use crate::runner::{Ran, one_answer, refuse_words, run, run_on};
-pub use crate::streams::{StreamFault, read_all, read_into, say, write_all};
+pub use crate::streams::{StreamFault, flush_long, read_all, read_into, say, write_all};
 pub use adf_manifest::{ManifestFault, ManifestKind, read_manifest};

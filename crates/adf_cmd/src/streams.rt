@@ -173,7 +173,7 @@ pub fn say<E: Sink>(errors: &mut E, text: &str)
 }
 
 /// Writes the text that waits once it is long; then none waits.
-pub(crate) fn flush_long<W: Sink>(output: &mut W, text: &mut Vec<u8>) -> Result<(), Failed>
+pub fn flush_long<W: Sink>(output: &mut W, text: &mut Vec<u8>) -> Result<(), Failed>
     requires { W.has_failed output.old ≡ false }
     ensures ok { OnOk result (KeepsPending
         (W.held output.old) text.old.items (W.held output.new) text.new.items) }
