@@ -14,8 +14,6 @@ mod marks;
 mod part;
 mod surveyed;
 mod surveys;
-#[cfg(test)]
-mod tests;
 
 pub use crate::file::SoundFile;
 pub use crate::laws::{
