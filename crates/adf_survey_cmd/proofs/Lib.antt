@@ -4,3 +4,4 @@ pub mod FindingLists
 pub mod FoundFiles
 pub mod EndingLaws
 pub mod LongSurveys
+pub mod OneAnswer

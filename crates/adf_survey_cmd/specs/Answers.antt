@@ -62,6 +62,14 @@ abbrev pub SurveyAnswer : InquiryValue → List ℕ → Reply → Type 0
 SurveyAnswer report input reply = Surveys input reply
 SurveyAnswer (cat path) input reply = RefusesPath path reply ⊎ CopiesFromSurvey path input reply
 
+-- words ask for one thing at most
+abbrev pub WordsAskForOneInquiry : Type 0
+WordsAskForOneInquiry = (words : List (List ℕ)) (r q : InquiryValue) → AsksSurvey words r → AsksSurvey words q → r ≡ q
+
+-- what is asked of an image has one answer at most
+abbrev pub InquiriesHaveOneAnswer : Type 0
+InquiriesHaveOneAnswer = (r : InquiryValue) (input : List ℕ) (a b : Reply) → SurveyAnswer r input a → SurveyAnswer r input b → a ≡ b
+
 -- at a status other than 3: the words ask for something, output and errors got an answer to it, or where errors failed a front part of it
 abbrev pub SurveyAnswers : List (List ℕ) → List ℕ → ℕ → Option (List ℕ) → Option (List ℕ) → Bool → Option (List ℕ) → Option (List ℕ) → Type 0
 SurveyAnswers words input status o o' failed e e' =

@@ -11,4 +11,4 @@ mod work;
 
 pub use crate::command_line::{Inquiry, parse, survey_words_as_documented};
 pub use crate::ending::Ending;
-pub use crate::runner::run;
+pub use crate::runner::{one_answer, run};

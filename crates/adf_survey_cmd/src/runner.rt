@@ -5,7 +5,7 @@ ghost use Rattle.adf_blocks.specs.declared.layout.TheConstants.{MOST_BLOCKS};
 ghost use Rattle.adf_cmd.specs.Answers.{failure_line};
 ghost use Rattle.adf_cmd.specs.CommandLine.{texts_of};
 ghost use Rattle.adf_cmd.specs.Streams.{Says, TakesAtMost};
-ghost use Rattle.adf_survey_cmd.specs.Answers.{AsksBadSurveyPath, IsUnansweredBySurvey, SurveyAnswers, SurveyAnswersPart, survey_usage};
+ghost use Rattle.adf_survey_cmd.specs.Answers.{AsksBadSurveyPath, InquiriesHaveOneAnswer, IsUnansweredBySurvey, SurveyAnswers, SurveyAnswersPart, WordsAskForOneInquiry, survey_usage};
 ghost use Rattle.adf_survey_cmd.specs.CommandLine.{AreRefusedBySurvey};
 ghost use Rattle.adf_survey_cmd.specs.Endings.{ending_line, ending_status};
 ghost use Rattle.adf_survey_cmd.specs.Work.{unmet_line, unmet_status};
@@ -91,3 +91,10 @@ pub fn run<R: Source, W: Sink, E: Sink>(
         Err(fault) => refuse(fault, errors),
     }
 }
+
+/// Words ask for one thing, and what is asked of an image has one answer: one status, one output and one text on errors.
+#[tactic(auto, using(crate::proofs::OneAnswer::one_answer, crate::proofs::OneAnswer::one_inquiry))]
+pub fn one_answer()
+    ensures request { WordsAskForOneInquiry }
+    ensures answer { InquiriesHaveOneAnswer }
+{}

@@ -1,0 +1,75 @@
+-- What is asked of an image has one answer.
+-- Letters: w, u walks of its survey, fs, gs the findings; n, m entries' nodes; r, q inquiries; a, b replies.
+use Rattle.std.proofs.Common.{◌≡◌, ◌<◌, ◌∙◌, inl, inr, ℕ, List, [], ◌∷◌, Option, Some, sym, ap, subst, arith}
+use Rattle.adf_tree.proofs.PathParts.{one_path}
+use Rattle.adf_volume.specs.Walk.{FileAt, Role, node_block}
+use Rattle.adf_survey.specs.Files.{IsSoundFile}
+use Rattle.adf_survey.specs.Lookup.{IsFirstChild, LeadsTo}
+use Rattle.adf_survey.specs.Survey.{Finding}
+use Rattle.adf_survey.proofs.OneSurvey.{one_survey}
+use Rattle.adf_cmd.specs.Answers.{Reply, on_output}
+use Rattle.adf_survey_cmd.specs.Answers.{CopiesEntry, CopiesFound, CopiesFromSurvey, SurveyAnswer, Surveys, findings_status}
+use Rattle.adf_survey_cmd.specs.CommandLine.{AsksSurvey, InquiryValue, cat, inquiry_of, report}
+use Rattle.adf_survey_cmd.specs.Lines.{findings_text}
+
+pub one_inquiry : (words : List (List ℕ)) (r q : InquiryValue) → AsksSurvey words r → AsksSurvey words q → r ≡ q
+one_inquiry words r q a b = same (inquiry_of words) r q a.1 b.1
+  where
+    same : (o : Option InquiryValue) (x y : InquiryValue) → o ≡ Some x → o ≡ Some y → x ≡ y
+    same o x y p q = cc
+
+module _ (image : List ℕ) (w : List (Role × ℕ)) where
+  one_first : (p : ℕ) (name : List ℕ) (n m : ℕ) → IsFirstChild image w p name n → IsFirstChild image w p name m → n ≡ m
+  one_first p name n m x y =
+      let low : n < m → ⊥ = (λ u. y.1 n u x.0) in
+      let high : m < n → ⊥ = (λ u. x.1 m u y.0) in
+      omega arith
+
+  one_lead : (p : ℕ) (names : List (List ℕ)) (n m : ℕ) → LeadsTo image w p names n → LeadsTo image w p names m → n ≡ m
+  one_lead p [] n m x y = sym x ∙ y
+  one_lead p (name ∷ names) n m x y =
+      let same = one_first p name x.0 y.0 x.1 y.1 in
+      one_lead x.0 names n m x.2 (subst (λ k. LeadsTo image w k names m) (sym same) y.2)
+
+  sound_is_file : (fs : List Finding) (n : ℕ) → IsSoundFile image w fs n → (h : ℕ) × FileAt image w n h
+  sound_is_file fs n s = (node_block w n, ((s.0.header.0, s.0.header.1, s.0.header.2, s.0.header.3), s.1))
+
+  entry_once : (fs : List Finding) (n : ℕ) (a b : Reply) → CopiesEntry image w fs n a → CopiesEntry image w fs n b → a ≡ b
+  entry_once fs n a b (inl (none, x)) (inl (never, y)) = x ∙ sym y
+  entry_once fs n a b (inl (none, x)) (inr (inl (file, damage, y))) = absurd (none file.0 file.1)
+  entry_once fs n a b (inl (none, x)) (inr (inr (sound, y))) = let file = sound_is_file fs n sound in absurd (none file.0 file.1)
+  entry_once fs n a b (inr (inl (file, damage, x))) (inl (none, y)) = absurd (none file.0 file.1)
+  entry_once fs n a b (inr (inl (file, damage, x))) (inr (inl (also, harm, y))) = x ∙ sym y
+  entry_once fs n a b (inr (inl (file, damage, x))) (inr (inr (sound, y))) = absurd (damage sound)
+  entry_once fs n a b (inr (inr (sound, x))) (inl (none, y)) = let file = sound_is_file fs n sound in absurd (none file.0 file.1)
+  entry_once fs n a b (inr (inr (sound, x))) (inr (inl (file, damage, y))) = absurd (damage sound)
+  entry_once fs n a b (inr (inr (sound, x))) (inr (inr (also, y))) = x ∙ sym y
+
+  found_once : (fs : List Finding) (names : List (List ℕ)) (a b : Reply) → CopiesFound image w fs names a → CopiesFound image w fs names b → a ≡ b
+  found_once fs names a b (inl (none, x)) (inl (never, y)) = x ∙ sym y
+  found_once fs names a b (inl (none, x)) (inr (n, leads, y)) = absurd (none n leads)
+  found_once fs names a b (inr (n, leads, x)) (inl (none, y)) = absurd (none n leads)
+  found_once fs names a b (inr (n, leads, x)) (inr (m, also, y)) =
+      let same = one_lead 0 names n m leads also in
+      entry_once fs m a b (subst (λ k. CopiesEntry image w fs k a) same x) y
+
+surveyed_once : (image : List ℕ) (a b : Reply) → Surveys image a → Surveys image b → a ≡ b
+surveyed_once image a b (w, fs, s, x) (u, gs, t, y) =
+    let same = one_survey image w u fs gs s t in
+    x ∙ ap (λ v. on_output (findings_status fs) (findings_text image v fs)) same.0
+    ∙ ap (λ hs. on_output (findings_status hs) (findings_text image u hs)) same.1 ∙ sym y
+
+copied_once : (path image : List ℕ) (a b : Reply) → CopiesFromSurvey path image a → CopiesFromSurvey path image b → a ≡ b
+copied_once path image a b (names, text, w, fs, s, x) (others, also, u, gs, t, y) =
+    let same = one_survey image w u fs gs s t in
+    let walk = subst (λ v. CopiesFound image v fs names a) same.0 x in
+    let found = subst (λ hs. CopiesFound image u hs names a) same.1 walk in
+    let path_is = one_path path names others text also in
+    found_once image u gs others a b (subst (λ (ns : List (List ℕ)). CopiesFound image u gs ns a) path_is found) y
+
+pub one_answer : (r : InquiryValue) (image : List ℕ) (a b : Reply) → SurveyAnswer r image a → SurveyAnswer r image b → a ≡ b
+one_answer report image a b x y = surveyed_once image a b x y
+one_answer (cat path) image a b (inl (bad, x)) (inl (worse, y)) = x ∙ sym y
+one_answer (cat path) image a b (inl (bad, x)) (inr h) = absurd (bad h.0 h.1)
+one_answer (cat path) image a b (inr h) (inl (bad, y)) = absurd (bad h.0 h.1)
+one_answer (cat path) image a b (inr h) (inr g) = copied_once path image a b h g
