@@ -32,7 +32,7 @@ module _ (image : List ℕ) (w : List (Role × ℕ)) where
       one_lead x.0 names n m x.2 (subst (λ k. LeadsTo image w k names m) (sym same) y.2)
 
   sound_is_file : (fs : List Finding) (n : ℕ) → IsSoundFile image w fs n → (h : ℕ) × FileAt image w n h
-  sound_is_file fs n s = (node_block w n, ((s.0.header.0, s.0.header.1, s.0.header.2, s.0.header.3), s.1))
+  sound_is_file fs n s = (node_block w n, record { header = s.0.header; type = s.1 })
 
   entry_once : (fs : List Finding) (n : ℕ) (a b : Reply) → CopiesEntry image w fs n a → CopiesEntry image w fs n b → a ≡ b
   entry_once fs n a b (inl (none, x)) (inl (never, y)) = x ∙ sym y
