@@ -1,9 +1,9 @@
-// What a run of the command gives.
+// What a run of a command gives.
 
 use crate::devices::{Given, Kept, Pace, WriteFailure};
 use crate::wants::{is_status, push_line};
 use crate::wrong::Wrong;
-use adf_cmd::{Sink, Source, run};
+use adf_cmd::{Sink, Source};
 use std::alloc::{AllocError, Global};
 
 /// The status of a run, and what it wrote.
@@ -12,6 +12,45 @@ pub struct Answer {
     pub status: u8,
     pub output: Vec<u8>,
     pub errors: Vec<u8>,
+}
+
+/// The command that is run.
+#[derive(Clone, Copy)]
+pub enum Program {
+    Adf,
+    Survey,
+}
+
+impl Program {
+    fn name(self) -> &'static str {
+        match self {
+            Program::Adf => "adf",
+            Program::Survey => "adf-survey",
+        }
+    }
+}
+
+/// A command with its words, the program's name not among them.
+#[derive(Clone, Copy)]
+pub struct CommandLine<'a> {
+    pub program: Program,
+    pub words: &'a str,
+}
+
+impl<'a> CommandLine<'a> {
+    pub fn adf(words: &'a str) -> CommandLine<'a> {
+        CommandLine {
+            program: Program::Adf,
+            words,
+        }
+    }
+
+    pub fn survey(words: &'a str) -> CommandLine<'a> {
+        CommandLine {
+            program: Program::Survey,
+            words,
+        }
+    }
 }
 
 /// How the devices of a run move bytes.
@@ -36,21 +75,30 @@ impl Paces {
 }
 
 /// The words of a command, the program's name in front.
-pub fn words_of(alloc: Global, command: &str) -> Result<Vec<&str>, AllocError> {
+pub fn words_of<'a>(alloc: Global, line: CommandLine<'a>) -> Result<Vec<&'a str>, AllocError> {
     let mut words = Vec::new(alloc);
-    words.push("adf")?;
-    for word in command.split(' ').filter(|word| !word.is_empty()) {
+    words.push(line.program.name())?;
+    for word in line.words.split(' ').filter(|word| !word.is_empty()) {
         words.push(word)?;
     }
     Ok(words)
 }
 
-/// Runs the command of these words over bytes, by devices that move them so, and tells whether one of these failed.
-pub fn run_by(alloc: Global, words: &[&str], bytes: &[u8], paces: Paces) -> (Answer, bool) {
+/// Runs a program with these words over bytes, by devices that move them so, and tells whether one of these failed.
+pub fn run_by(
+    alloc: Global,
+    program: Program,
+    words: &[&str],
+    bytes: &[u8],
+    paces: Paces,
+) -> (Answer, bool) {
     let mut input = Given::new(bytes, paces.input);
     let mut output = Kept::new(alloc, paces.output, paces.failure);
     let mut errors = Kept::new(alloc, paces.errors, paces.failure);
-    let status = run(alloc, words, &mut input, &mut output, &mut errors);
+    let status = match program {
+        Program::Adf => adf_cmd::run(alloc, words, &mut input, &mut output, &mut errors),
+        Program::Survey => adf_survey_cmd::run(alloc, words, &mut input, &mut output, &mut errors),
+    };
     let failed = input.failed() || output.failed() || errors.failed();
     let answer = Answer {
         status,
@@ -60,15 +108,15 @@ pub fn run_by(alloc: Global, words: &[&str], bytes: &[u8], paces: Paces) -> (Ans
     (answer, failed)
 }
 
-/// Runs a command, its words without the program's name, over bytes.
-pub fn answer_of(alloc: Global, command: &str, bytes: &[u8]) -> Result<Answer, AllocError> {
-    let words = words_of(alloc, command)?;
+/// Runs a command over bytes.
+pub fn answer_of(alloc: Global, line: CommandLine<'_>, bytes: &[u8]) -> Result<Answer, AllocError> {
+    let words = words_of(alloc, line)?;
     let paces = Paces::steady(usize::MAX, usize::MAX);
-    Ok(run_by(alloc, &words, bytes, paces).0)
+    Ok(run_by(alloc, line.program, &words, bytes, paces).0)
 }
 
-/// The lines of a manifest, told with ` | ` between them.
-pub fn manifest_text(alloc: Global, lines: &str) -> Result<Vec<u8>, AllocError> {
+/// Lines, told with ` | ` between them.
+pub fn text_of_lines(alloc: Global, lines: &str) -> Result<Vec<u8>, AllocError> {
     let mut text = Vec::new(alloc);
     for line in lines.split(" | ") {
         push_line(&mut text, line)?;
@@ -78,8 +126,8 @@ pub fn manifest_text(alloc: Global, lines: &str) -> Result<Vec<u8>, AllocError> 
 
 /// What `build` makes of a manifest that it takes.
 pub fn built(alloc: Global, lines: &str) -> Result<Vec<u8>, Wrong> {
-    let text = manifest_text(alloc, lines)?;
-    let came = answer_of(alloc, "build", &text)?;
+    let text = text_of_lines(alloc, lines)?;
+    let came = answer_of(alloc, CommandLine::adf("build"), &text)?;
     is_status(alloc, 0, came.status)?;
     Ok(came.output)
 }

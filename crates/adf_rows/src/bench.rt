@@ -1,6 +1,6 @@
 // The image and the row at a line of a file.
 
-use crate::answer::{Answer, answer_of, built, manifest_text};
+use crate::answer::{Answer, CommandLine, answer_of, built, text_of_lines};
 use crate::line::{Line, Start};
 use crate::wants::{Want, Wanted, push_line};
 use crate::wrong::{Failure, Wrong};
@@ -98,7 +98,7 @@ impl Bench {
             Line::Start(start) => self.start(start),
             Line::Change(change) => change.make(&mut self.image),
             Line::Name(name) => self.keep(name),
-            Line::Run(command) => self.run(command),
+            Line::Run(command) => self.run(*command),
             Line::Want(want) => self.want(want),
             Line::Table(table) => {
                 self.has_rows = true;
@@ -113,7 +113,7 @@ impl Bench {
             Start::Zeros(count) => vec![in alloc; 0u8; count]?,
             Start::On(name) => Vec::from_slice(alloc, image_of(&self.named, name)?)?,
             Start::Output => mem::replace(&mut self.output, Vec::new(alloc)),
-            Start::Manifest(lines) => manifest_text(alloc, lines)?,
+            Start::Manifest(lines) => text_of_lines(alloc, lines)?,
             Start::Built(lines) => built(alloc, lines)?,
         };
         Ok(())
@@ -127,7 +127,7 @@ impl Bench {
         Ok(())
     }
 
-    fn run(&mut self, command: &str) -> Result<(), Wrong> {
+    fn run(&mut self, command: CommandLine<'_>) -> Result<(), Wrong> {
         let row = self.row.as_mut().ok_or(Wrong::Unread)?;
         row.came = Some(answer_of(self.alloc, command, &self.image)?);
         Ok(())

@@ -1,6 +1,6 @@
 // Runs in which one call of a device fails, and a run whose input never ends.
 
-use crate::answer::{Answer, Paces, run_by, words_of};
+use crate::answer::{Answer, CommandLine, Paces, Program, run_by, words_of};
 use crate::devices::{Endless, Kept, Pace, WriteFailure};
 use crate::wants::{Wanted, is_number, is_same, is_status, push_line};
 use crate::words::number;
@@ -50,9 +50,9 @@ impl<'a> Failing<'a> {
 
     /// Lets each call of each device fail in turn, those of output and errors by an error and by taking no bytes.
     pub fn run(&self, alloc: Global, image: &[u8]) -> Result<(), Wrong> {
-        let words = words_of(alloc, self.command)?;
+        let words = words_of(alloc, CommandLine::adf(self.command))?;
         let paces = Paces::steady(self.read, self.write);
-        let (whole, _) = run_by(alloc, &words, image, paces);
+        let (whole, _) = run_by(alloc, Program::Adf, &words, image, paces);
         let runs = Runs {
             alloc,
             words,
@@ -74,7 +74,7 @@ impl Runs<'_> {
     fn fail_each(&self, side: Side, failure: WriteFailure) -> Result<(), Wrong> {
         for calls in 0..=self.most_calls() {
             let paces = self.paces_to(side, failure, calls);
-            let (came, failed) = run_by(self.alloc, &self.words, self.image, paces);
+            let (came, failed) = run_by(self.alloc, Program::Adf, &self.words, self.image, paces);
             let wanted = if failed {
                 self.part(side, calls)
             } else {

@@ -1,5 +1,6 @@
 // The lines of a file of rows.
 
+use crate::answer::CommandLine;
 use crate::changes::Change;
 use crate::tables::Table;
 use crate::wants::Want;
@@ -17,8 +18,8 @@ pub enum Line<'a> {
     Change(Change<'a>),
     /// `name NAME`: the name of the image as it is here.
     Name(&'a str),
-    /// `run WORDS`: the words of a command.
-    Run(&'a str),
+    /// `run WORDS`, `survey WORDS`: a command is run.
+    Run(CommandLine<'a>),
     Want(Want<'a>),
     Table(Table<'a>),
 }
@@ -57,7 +58,8 @@ impl<'a> Line<'a> {
 fn read_part<'a>(word: &str, rest: &'a str) -> Option<Line<'a>> {
     match word {
         "row" => return Some(Line::Row),
-        "run" => return Some(Line::Run(rest)),
+        "run" => return Some(Line::Run(CommandLine::adf(rest))),
+        "survey" => return Some(Line::Run(CommandLine::survey(rest))),
         "name" => return Some(Line::Name(rest)),
         _ => {}
     }

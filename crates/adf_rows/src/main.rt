@@ -6,6 +6,7 @@ mod bench;
 mod changes;
 mod devices;
 mod failing;
+mod findings;
 mod line;
 mod questions;
 mod tables;

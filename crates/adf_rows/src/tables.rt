@@ -1,8 +1,9 @@
 // Rows of one line.
 
-use crate::answer::{answer_of, built, manifest_text};
+use crate::answer::{CommandLine, answer_of, built, text_of_lines};
 use crate::changes::put_items;
 use crate::failing::{Failing, is_refused_in_the_end};
+use crate::findings::{are_findings, begin_alike};
 use crate::questions::Question;
 use crate::trees::{is_not_laid, is_tree, needs, tree_of_image, tree_of_lines};
 use crate::wants::{Wanted, is_same, push_line};
@@ -23,10 +24,14 @@ pub struct Table<'a> {
 enum TableKind<'a> {
     /// `patch ITEM ..`: `check` on the image with these changes.
     Patch(&'a str),
+    /// `findings ITEM ..`: `adf-survey` on the image with these changes.
+    Findings(&'a str),
     /// `flips FROM-TO`: `check` on the image with each of these bytes alone changed by exclusive or with 1.
     Flips(usize, usize),
     /// `cuts FROM-TO`: `check` on the first bytes of the image, of each of these lengths.
     Cuts(usize, usize),
+    /// `alike FROM-TO`: `adf-survey` and `check` on the first bytes of the image, of each of these lengths.
+    Alike(usize, usize),
     /// `refused LINE | LINE ..`: `build` on these lines says the line on errors.
     Refused(&'a str),
     /// `sound LINE | LINE ..`: `check` on what `build` makes of these lines.
@@ -48,7 +53,7 @@ enum TableKind<'a> {
 impl<'a> Table<'a> {
     pub fn read(word: &str, rest: &'a str) -> Option<Table<'a>> {
         let (what, line) = match word {
-            "tree" | "failing" => (rest, ""),
+            "tree" | "failing" | "alike" => (rest, ""),
             _ => rest.split_once(" -> ")?,
         };
         let kind = TableKind::read(word, what)?;
@@ -59,9 +64,11 @@ impl<'a> Table<'a> {
     pub fn run(&self, alloc: Global, image: &[u8]) -> Result<(), Wrong> {
         let line = self.line;
         match self.kind {
-            TableKind::Patch(items) => is_patched(alloc, image, items, line),
+            TableKind::Patch(items) => is_told(alloc, &patched(alloc, image, items)?, line),
+            TableKind::Findings(items) => are_findings(alloc, &patched(alloc, image, items)?, line),
             TableKind::Flips(from, to) => are_flipped(alloc, image, (from, to), line),
             TableKind::Cuts(from, to) => are_cut(alloc, image, (from, to), line),
+            TableKind::Alike(from, to) => are_alike(alloc, image, (from, to)),
             TableKind::Refused(lines) => is_refused(alloc, lines, line),
             TableKind::Sound(lines) => is_told(alloc, &built(alloc, lines)?, line),
             TableKind::Tree(lines) => {
@@ -84,6 +91,7 @@ impl<'a> TableKind<'a> {
     fn read(word: &str, what: &'a str) -> Option<TableKind<'a>> {
         Some(match word {
             "patch" => TableKind::Patch(what),
+            "findings" => TableKind::Findings(what),
             "flips" => {
                 let (from, to) = rising(what)?;
                 TableKind::Flips(from, to)
@@ -91,6 +99,10 @@ impl<'a> TableKind<'a> {
             "cuts" => {
                 let (from, to) = rising(what)?;
                 TableKind::Cuts(from, to)
+            }
+            "alike" => {
+                let (from, to) = rising(what)?;
+                TableKind::Alike(from, to)
             }
             "refused" => TableKind::Refused(what),
             "sound" => TableKind::Sound(what),
@@ -118,13 +130,17 @@ fn sized(text: &str) -> Option<(u32, &str)> {
 
 // `check` on an image answers a line.
 fn is_told(alloc: Global, image: &[u8], line: &str) -> Result<(), Wrong> {
-    Wanted::verdict(alloc, line)?.compare(alloc, &answer_of(alloc, "check", image)?)
+    Wanted::verdict(alloc, line)?.compare(
+        alloc,
+        &answer_of(alloc, CommandLine::adf("check"), image)?,
+    )
 }
 
-fn is_patched(alloc: Global, image: &[u8], items: &str, line: &str) -> Result<(), Wrong> {
-    let mut patched = Vec::from_slice(alloc, image)?;
-    put_items(&mut patched, items)?;
-    is_told(alloc, &patched, line)
+// The image with changes.
+fn patched(alloc: Global, image: &[u8], items: &str) -> Result<Vec<u8>, Wrong> {
+    let mut changed = Vec::from_slice(alloc, image)?;
+    put_items(&mut changed, items)?;
+    Ok(changed)
 }
 
 fn are_flipped(
@@ -166,9 +182,17 @@ fn are_cut(alloc: Global, image: &[u8], lens: (usize, usize), line: &str) -> Res
     Ok(())
 }
 
+fn are_alike(alloc: Global, image: &[u8], lens: (usize, usize)) -> Result<(), Wrong> {
+    for len in lens.0..=lens.1 {
+        let front = image.get(..len).ok_or(Wrong::NoPlace)?;
+        begin_alike(alloc, front).map_err(|wrong| wrong.of_case(len))?;
+    }
+    Ok(())
+}
+
 fn is_refused(alloc: Global, lines: &str, line: &str) -> Result<(), Wrong> {
     let mut wanted = Wanted::new(alloc, Some(1));
     push_line(&mut wanted.errors, line)?;
-    let text = manifest_text(alloc, lines)?;
-    wanted.compare(alloc, &answer_of(alloc, "build", &text)?)
+    let text = text_of_lines(alloc, lines)?;
+    wanted.compare(alloc, &answer_of(alloc, CommandLine::adf("build"), &text)?)
 }

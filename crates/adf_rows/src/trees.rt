@@ -1,6 +1,6 @@
 // Trees of images and of manifests.
 
-use crate::answer::manifest_text;
+use crate::answer::text_of_lines;
 use crate::wants::is_same;
 use crate::wrong::{Difference, Wrong};
 use adf_build::{BuildFault, build, need};
@@ -11,7 +11,7 @@ use std::alloc::Global;
 
 /// The tree of the lines of a manifest, told with ` | ` between them.
 pub fn tree_of_lines(alloc: Global, lines: &str) -> Result<Tree, Wrong> {
-    let text = manifest_text(alloc, lines)?;
+    let text = text_of_lines(alloc, lines)?;
     let (tree, _) = read_manifest(alloc, &text)?;
     Ok(tree)
 }
