@@ -172,7 +172,8 @@ pub fn say<E: Sink>(errors: &mut E, text: &str)
     let _ = write_all(errors, text.as_bytes());
 }
 
-/// Writes the text that waits once it is long; then none waits.
+/// Writes the text that waits once it is long; then none waits. `Failed` where the writer failed or
+/// took 0 of some bytes; then a front part of the text is written.
 pub fn flush_long<W: Sink>(output: &mut W, text: &mut Vec<u8>) -> Result<(), Failed>
     requires { W.has_failed output.old ≡ false }
     ensures ok { OnOk result (KeepsPending
