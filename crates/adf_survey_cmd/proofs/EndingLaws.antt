@@ -17,7 +17,8 @@ use Rattle.adf_survey_cmd.specs.declared.work.WorkFault.TheVariants.{Usage, BadP
 pub ends_weaker : (few more : Reply → Type 0) (e : Ending) (o o' : Option (List ℕ)) → ((reply : Reply) → few reply → more reply)
     → EndsBy few e o o' → EndsBy more e o o'
 ends_weaker few more ReadFault o o' f h = h
-ends_weaker few more NoMemory o o' f h = h
+ends_weaker few more NoMemory o o' f (inl none) = inl none
+ends_weaker few more NoMemory o o' f (inr h) = inr (h.0, f h.0 h.1, h.2)
 ends_weaker few more WriteFault o o' f h = (h.0, f h.0 h.1, h.2)
 ends_weaker few more e o o' f h = (h.0, f (record { status = ending_status e; output = h.0; errors = ending_line e }) h.1, h.2)
 
@@ -44,7 +45,8 @@ ending_part : (e : Ending) (words : List (List ℕ)) (r : InquiryValue) (input :
     → EndsBy (SurveyAnswer r input) e o o' → SurveyAnswersPart words (is_read_ending e) input o o'
 ending_part ReadFault words r input o o' asks three h = h
 ending_part WriteFault words r input o o' asks three h = inr (r, asks, h)
-ending_part NoMemory words r input o o' asks three h = inl h
+ending_part NoMemory words r input o o' asks three (inl none) = inl none
+ending_part NoMemory words r input o o' asks three (inr h) = inr (r, asks, h)
 ending_part _ words r input o o' asks three h = absurd (omega arith)
 
 pub left_part : (e : Ending) (words : List (List ℕ)) (r : InquiryValue) (left o o' : Option (List ℕ)) (failed : Bool) (status : ℕ) → AsksSurvey words r

@@ -2,16 +2,18 @@
 -- Letters: w a walk; all the findings as they are kept, of which first is the first and others are behind it, and fs as they are told; i a place.
 use Rattle.std.specs.Prelude.{Some, map, option_map, slice_get}
 use Rattle.std.specs.Option.{option_and_then}
-use Rattle.std.proofs.Common.{◌≡◌, ◌∙◌, ◌<◌, ◌≤◌, ◌+◌, ◌++◌, ℕ, suc, List, [], ◌∷◌, Option, sym, ap, add-one, drop, get_or, length}
+use Rattle.std.proofs.Common.{◌≡◌, ◌∙◌, ◌<◌, ◌≤◌, ◌+◌, ◌++◌, ℕ, suc, List, [], ◌∷◌, Option, sym, ap, subst, add-one, drop, get_or, length}
 use Rattle.std.proofs.lemmas.List.{drop_all, drop_more}
-use Rattle.std.proofs.lemmas.Option.{slice_get-map}
+use Rattle.std.proofs.lemmas.Option.{slice_get-get_or, slice_get-map}
 use Rattle.adf_volume.specs.Walk.{Role}
 use Rattle.adf_survey.specs.Concerned.{entry_of, entry_of_nth}
 use Rattle.adf_survey.specs.declared.part.Finding.{Finding as FoundFinding}
 use Rattle.adf_survey.specs.Parts.{told}
 use Rattle.adf_survey.specs.Survey.{Finding}
-use Rattle.adf_survey_cmd.specs.Lines.{findings_text, lines_from, run_of}
+use Rattle.adf_cmd.specs.Streams.{Pending}
+use Rattle.adf_survey_cmd.specs.Lines.{findings_text, lines_from, run_line, run_of}
 use Rattle.adf_survey_cmd.specs.declared.runs.Run.{Run}
+use Rattle.adf_survey_cmd.proofs.RunLines.{run_last}
 
 module _ (image : List ℕ) (w : List (Role × ℕ)) (fs : List Finding) (all others : List FoundFinding) (first : FoundFinding) (e : map told all ≡ fs)
     (s : all ≡ first ∷ others) where
@@ -19,31 +21,32 @@ module _ (image : List ℕ) (w : List (Role × ℕ)) (fs : List Finding) (all ot
   are = sym (ap (map told) s) ∙ e
 
   -- the first finding begins the runs
-  pub runs_begun : (run : Run) (text : List ℕ) → run ≡ run_of w (told first)
-      → text ++ lines_from image w run (map told others) ≡ text ++ findings_text image w fs
-  runs_begun run text r =
-      ap (λ (x : Run). text ++ lines_from image w x (map told others)) r ∙ ap (λ gs. text ++ findings_text image w gs) are
+  pub runs_begun : (run : Run) (text : List ℕ) → run ≡ run_of w (told first) → text ≡ []
+      → findings_text image w fs ≡ text ++ lines_from image w run (map told others)
+  runs_begun run text r empty =
+      ap (findings_text image w) (sym are) ∙ ap (λ (x : Run). lines_from image w x (map told others)) (sym r)
+      ∙ ap (λ t. t ++ lines_from image w run (map told others)) (sym empty)
 
   pub entry_first : (o : Option ℕ) → o ≡ entry_of_nth w fs 0 → o ≡ entry_of w (told first)
   entry_first o h = h ∙ ap (λ gs. entry_of_nth w gs 0) (sym are)
 
-  pub entry_later : (i : ℕ) (x : FoundFinding) (o : Option ℕ) → slice_get others i ≡ Some x → o ≡ entry_of_nth w fs (i + 1) → o ≡ entry_of w (told x)
-  entry_later i x o at h =
+  pub entry_later : (i : ℕ) (d : FoundFinding) (o : Option ℕ) → i < length others → o ≡ entry_of_nth w fs (i + 1)
+      → o ≡ entry_of w (told (get_or others i d))
+  entry_later i d o within h =
       let behind : entry_of_nth w fs (i + 1) ≡ entry_of_nth w (told first ∷ map told others) (suc i) =
       ap (entry_of_nth w fs) (add-one i) ∙ ap (λ gs. entry_of_nth w gs (suc i)) (sym are) in
+      let at = slice_get-get_or others i d within in
       h ∙ behind ∙ ap (option_and_then (entry_of w)) (slice_get-map told others i ∙ ap (option_map told) at)
 
-module _ (image : List ℕ) (w : List (Role × ℕ)) (others : List FoundFinding) (whole : List ℕ) where
+module _ (image : List ℕ) (w : List (Role × ℕ)) (others : List FoundFinding) (a b : Option (List ℕ)) (text whole : List ℕ) (r : Run) where
   -- one finding more
-  pub runs_next : (i : ℕ) (d : FoundFinding) (r r' : Run) (text text' : List ℕ) → i < length others
-      → text ++ lines_from image w r (map told (drop i others)) ≡ whole
-      → text' ++ lines_from image w r' (map told (drop (i + 1) others))
-      ≡ text ++ lines_from image w r (told (get_or others i d) ∷ map told (drop (i + 1) others))
-      → text' ++ lines_from image w r' (map told (drop (i + 1) others)) ≡ whole
-  runs_next i d r r' text text' h so_far step =
-      step ∙ ap (λ gs. text ++ lines_from image w r (map told gs)) (sym (drop_more others i d h)) ∙ so_far
+  pub runs_next : (i : ℕ) (d : FoundFinding) → i < length others → Pending a b (text ++ lines_from image w r (map told (drop i others))) whole
+      → Pending a b (text ++ lines_from image w r (told (get_or others i d) ∷ map told (drop (i + 1) others))) whole
+  runs_next i d h p = subst (λ gs. Pending a b (text ++ lines_from image w r (map told gs)) whole) (drop_more others i d h) p
 
-  -- no finding is left
-  pub runs_done : (i : ℕ) (r : Run) (text : List ℕ) → length others ≤ i → text ++ lines_from image w r (map told (drop i others)) ≡ whole
-      → text ++ lines_from image w r [] ≡ whole
-  runs_done i r text h so_far = ap (λ gs. text ++ lines_from image w r (map told gs)) (sym (drop_all i others h)) ∙ so_far
+  -- no finding is left, and the line of the run waits
+  pub runs_done : (i : ℕ) (text' : List ℕ) → length others ≤ i → text' ≡ text ++ run_line image w r
+      → Pending a b (text ++ lines_from image w r (map told (drop i others))) whole → Pending a b text' whole
+  runs_done i text' h line p =
+      let last = ap (λ gs. text ++ lines_from image w r (map told gs)) (drop_all i others h) ∙ run_last image w r text text' line in
+      subst (λ t. Pending a b t whole) last p

@@ -1,5 +1,6 @@
 pub mod Refusals
 pub mod RunLines
+pub mod PendingLines
 pub mod FindingLists
 pub mod FoundFiles
 pub mod EndingLaws

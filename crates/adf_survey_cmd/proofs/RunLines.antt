@@ -34,6 +34,6 @@ module _ (image : List ℕ) (w : List (Role × ℕ)) where
       ∙ ap (λ (x : List ℕ). text ++ x) (is_over r f fs (subst (λ x. continues r x ≡ false) e h))
 
   -- the last run
-  pub run_last : (r : Run) (text text' : List ℕ) → text' ≡ text ++ lines_from image w r [] → text ++ run_line image w r ≡ text'
+  pub run_last : (r : Run) (text text' : List ℕ) → text' ≡ text ++ run_line image w r → text ++ lines_from image w r [] ≡ text'
   unfolding runs_from
-  run_last r text text' e = ap (λ t. text ++ t) (sym (append-nil (run_line image w r))) ∙ sym e
+  run_last r text text' e = ap (λ t. text ++ t) (append-nil (run_line image w r)) ∙ sym e

@@ -1,5 +1,5 @@
 -- How the work on an image ended.
-use Rattle.std.specs.Prelude.{ℕ, Bool, true, false, List, [], codes, Option}
+use Rattle.std.specs.Prelude.{◌⊎◌, ℕ, Bool, true, false, List, [], codes, Option}
 use Rattle.std.specs.Io.KnownBytes.{Appends}
 use Rattle.adf_cmd.specs.Answers.{Reply}
 use Rattle.adf_cmd.specs.Streams.{AppendsPart}
@@ -43,9 +43,13 @@ abbrev pub WritesOne : (Reply → Type 0) → ℕ → List ℕ → Option (List 
 WritesOne answers status errors o o' =
     (output : List ℕ) × answers (record { status = status; output = output; errors = errors }) × Appends o o' output
 
+-- output got a front part of one of these answers
+abbrev pub WritesFront : (Reply → Type 0) → Option (List ℕ) → Option (List ℕ) → Type 0
+WritesFront answers o o' = (reply : Reply) × answers reply × AppendsPart o o' reply.output
+
 -- what an ending says of what was added to output, where these are the answers
 abbrev pub EndsBy : (Reply → Type 0) → Ending → Option (List ℕ) → Option (List ℕ) → Type 0
 EndsBy answers ReadFault o o' = Appends o o' []
-EndsBy answers NoMemory o o' = Appends o o' []
-EndsBy answers WriteFault o o' = (reply : Reply) × answers reply × AppendsPart o o' reply.output
+EndsBy answers NoMemory o o' = Appends o o' [] ⊎ WritesFront answers o o'
+EndsBy answers WriteFault o o' = WritesFront answers o o'
 EndsBy answers e o o' = WritesOne answers (ending_status e) (ending_line e) o o'

@@ -7,8 +7,8 @@ ghost use Rattle.adf_survey_cmd.specs.Answers.{TellsFindings};
 ghost use Rattle.adf_survey_cmd.specs.Endings.{EndsBy, is_read_ending, is_write_ending};
 
 use crate::ending::Ending;
-use crate::runs::push_findings;
-use adf_cmd::{Sink, write_all};
+use crate::runs::write_runs;
+use adf_cmd::{Sink, StreamFault};
 use adf_survey::Survey;
 use std::alloc::Global;
 
@@ -21,13 +21,10 @@ pub fn write_findings<W: Sink>(alloc: Global, survey: &Survey<'_>, output: &mut 
     ensures read { is_read_ending result ≡ false }
     ensures written { W.has_failed output.new ≡ is_write_ending result }
 {
-    let mut text = Vec::new(alloc);
-    if push_findings(alloc, survey, &mut text).is_err() {
-        return Ending::NoMemory;
-    }
-    match write_all(output, &text) {
+    match write_runs(alloc, survey, output) {
         Ok(()) if survey.findings().is_empty() => Ending::Done,
         Ok(()) => Ending::FindingsWritten,
-        Err(_) => Ending::WriteFault,
+        Err(StreamFault::Device) => Ending::WriteFault,
+        Err(StreamFault::NoMemory) => Ending::NoMemory,
     }
 }

@@ -1,13 +1,16 @@
 // Runs of findings, and their lines.
 
-ghost use Rattle.std.specs.Prelude.{◌≡◌, ◌++◌, ◌∷◌, ℕ, List, IfOk, OnOk, codes};
+ghost use Rattle.std.specs.Prelude.{◌≡◌, ◌++◌, ◌∷◌, ℕ, List, IfOk, OnErr, OnOk, codes, false};
+ghost use Rattle.std.specs.Io.KnownBytes.{Appends};
 ghost use Rattle.adf_volume.specs.Walk.{Role};
 ghost use Rattle.adf_survey.specs.Concerned.{entry_of};
 ghost use Rattle.adf_survey.specs.Parts.{told};
 ghost use Rattle.adf_survey.specs.Survey.{Finding as SpecFinding, IsSurvey};
+ghost use Rattle.adf_cmd.specs.Streams.{AppendsPart, KeepsPending, is_device};
 ghost use Rattle.adf_survey_cmd.specs.Lines.{are_one, blocks_text, continues, entry_text, findings_text, is_beside, lines_from, run_line, run_of};
 
 use adf_blocks::Cause;
+use adf_cmd::{Sink, StreamFault, flush_long, write_all};
 use adf_survey::{Finding, Survey};
 use adf_texts::{push_names, push_number};
 use adf_tree::Node;
@@ -142,24 +145,58 @@ fn join_run(
     Ok(next)
 }
 
-/// Appends the lines of the findings, of which those of neighbouring blocks are one. `AllocError` where
-/// memory was refused.
-pub fn push_findings(
+// Goes on from a run to the next finding, and writes what is long.
+fn tell_finding<W: Sink>(
     alloc: Global,
     survey: &Survey<'_>,
+    run: Run,
+    next: Run,
     text: &mut Vec<u8>,
-) -> Result<(), AllocError>
-    ensures { (w : List (Role × ℕ)) (fs : List SpecFinding) → IsSurvey survey.now.image w fs
-        → OnOk result
-        (text.new.items ≡ text.old.items ++ findings_text survey.now.image w fs) }
+    output: &mut W,
+) -> Result<Run, StreamFault>
+    requires works { W.has_failed output.old ≡ false }
+    ensures ok { (w : List (Role × ℕ)) (fs : List SpecFinding) → IsSurvey survey.now.image w fs
+        → (f : SpecFinding) (gs : List SpecFinding) → next ≡ run_of w f
+        → IfOk result (λ r. KeepsPending
+        (W.held output.old) (text.old.items ++ lines_from survey.now.image w run (f ∷ gs))
+        (W.held output.new) (text.new.items ++ lines_from survey.now.image w r gs)) }
+    ensures err { (w : List (Role × ℕ)) (fs : List SpecFinding) → IsSurvey survey.now.image w fs
+        → (f : SpecFinding) (gs : List SpecFinding) → next ≡ run_of w f
+        → OnErr result (AppendsPart (W.held output.old) (W.held output.new)
+        (text.old.items ++ lines_from survey.now.image w run (f ∷ gs))) }
+    ensures failed { W.has_failed output.new ≡ is_device result }
+{
+    let joined = join_run(alloc, survey, run, next, text)?;
+    flush_long(output, text)?;
+    Ok(joined)
+}
+
+/// Writes the lines of the findings, of which those of neighbouring blocks are one. `Device` where the
+/// writer failed, `NoMemory` where memory was refused; then a front part of the lines is written.
+pub fn write_runs<W: Sink>(
+    alloc: Global,
+    survey: &Survey<'_>,
+    output: &mut W,
+) -> Result<(), StreamFault>
+    requires works { W.has_failed output.old ≡ false }
+    ensures ok { (w : List (Role × ℕ)) (fs : List SpecFinding) → IsSurvey survey.now.image w fs
+        → OnOk result (Appends (W.held output.old) (W.held output.new)
+        (findings_text survey.now.image w fs)) }
+    ensures err { (w : List (Role × ℕ)) (fs : List SpecFinding) → IsSurvey survey.now.image w fs
+        → OnErr result (AppendsPart (W.held output.old) (W.held output.new)
+        (findings_text survey.now.image w fs)) }
+    ensures failed { W.has_failed output.new ≡ is_device result }
 {
     let Some((first, others)) = survey.findings().split_first() else {
         return Ok(());
     };
+    let mut text = Vec::new(alloc);
     let mut run = Run::of(first, survey.entry_of(0));
     for (i, finding) in others.iter().enumerate() {
         let next = Run::of(finding, survey.entry_of(i + 1));
-        run = join_run(alloc, survey, run, next, text)?;
+        run = tell_finding(alloc, survey, run, next, &mut text, output)?;
     }
-    push_run(alloc, survey, &run, text)
+    push_run(alloc, survey, &run, &mut text)?;
+    write_all(output, &text)?;
+    Ok(())
 }
