@@ -1,5 +1,5 @@
 -- The headers of directories and files.
-use Rattle.std.specs.Prelude.{◌≡◌, ◌≤◌, ◌<◌, ◌*◌, ◌^◌, ℕ, ◌==◌, if◌then◌else◌, ◌&&◌, ◌||◌, not, nat_le, Bool, true, false, List, [], ◌∷◌, length, slice_index}
+use Rattle.std.specs.Prelude.{◌≡◌, ◌≤◌, ◌<◌, ◌*◌, ◌^◌, ℕ, ◌==◌, if◌then◌else◌, ◌&&◌, ◌||◌, not, nat_le, Bool, true, false, List, [], ◌∷◌, length, slice_index, take}
 use Rattle.adf_fields.specs.Words.{word, long_sum, sealed}
 use Rattle.adf_fields.specs.Hash.{slot_of}
 use Rattle.adf_tree.specs.Texts.{is_name}
@@ -68,6 +68,10 @@ pub record IsHead (b : List ℕ) : Type 0 where
 -- what a header has beside its name and its body
 abbrev pub meta_at : List ℕ → Meta
 meta_at b = record { comment = text_at b COMMENT; protect = word b PROTECTION; stamp = stamp_at b DATE }
+
+-- what any block has there: of a longer comment the first 79 bytes
+abbrev pub meta_told : List ℕ → Meta
+meta_told b = record { comment = take 79 (text_at b COMMENT); protect = word b PROTECTION; stamp = stamp_at b DATE }
 
 -- what a header has by its secondary type
 abbrev pub body_at : List ℕ → HeadBody

@@ -1,10 +1,11 @@
 // The headers of directories and files, as they are read.
 
-ghost use Rattle.std.specs.Prelude.{◌≡◌, ◌<◌, ◌+◌, ◌-◌, ◌==◌, true};
+ghost use Rattle.std.specs.Prelude.{◌≡◌, ◌≤◌, ◌<◌, ◌+◌, ◌-◌, ◌==◌, true, slice_index};
 ghost use Rattle.adf_fields.specs.Hash.{slot_of};
 ghost use Rattle.adf_fields.specs.Words.{word};
 ghost use Rattle.adf_blocks.specs.Forms.{ReadsForm, stamp_at, text_at};
-ghost use Rattle.adf_blocks.specs.HeadBlock.{body_at, IsHead, has_first, has_type, head_form, is_entry, is_link, is_name_at, meta_at};
+ghost use Rattle.adf_blocks.specs.declared.layout.TheConstants.{COMMENT};
+ghost use Rattle.adf_blocks.specs.HeadBlock.{body_at, IsHead, has_first, has_type, head_form, is_entry, is_link, is_name_at, meta_at, meta_told};
 
 use crate::cause::Cause;
 use crate::fields::stamp_in;
@@ -56,6 +57,20 @@ impl HeadBody {
                 ext: b.word(EXTENSION),
             }
         }
+    }
+}
+
+/// What a block that is known to be a header says beside its name and its body: the comment of byte 328, of a longer one the
+/// first 79 bytes, the protection of word 80 and the date of words 105 to 107.
+pub fn meta_of(b: &Block<'_>) -> Meta
+    ensures told { result ≡ meta_told b.now }
+    ensures whole { slice_index b.now COMMENT ≤ 79 → result ≡ meta_at b.now }
+{
+    let len = (b.byte(COMMENT) as usize).min(79);
+    Meta {
+        comment: Comment::new(b.bytes(COMMENT + 1, len)).unwrap(),
+        protect: b.word(PROTECTION),
+        stamp: stamp_in(b, DATE),
     }
 }
 
