@@ -27,3 +27,5 @@ pub mod SoundMarks
 -- the entries that findings concern
 pub mod Concerning
 pub mod Keeping
+-- images that begin as volumes, and the marks that are kept
+pub mod Openings

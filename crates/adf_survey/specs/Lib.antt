@@ -10,3 +10,5 @@ pub mod Files
 pub mod Surveyed
 pub mod Concerned
 pub mod Lookup
+pub mod Opening
+pub mod Marked

@@ -11,6 +11,7 @@ mod judge;
 mod laws;
 mod lookup;
 mod marks;
+mod opening;
 mod part;
 mod surveyed;
 mod surveys;
@@ -19,6 +20,7 @@ pub use crate::file::SoundFile;
 pub use crate::laws::{
     first_finding, no_finding, one_part, one_survey, some_survey, sound_entries,
 };
+pub use crate::opening::Opening;
 pub use crate::part::{Finding, Part};
 pub use crate::surveyed::Survey;
 pub use crate::surveys::survey;

@@ -1,9 +1,9 @@
 // What a survey tells.
 
-ghost use Rattle.std.specs.Prelude.{◌≡◌, ◌≤◌, ◌<◌, ◌↔◌, ℕ, List, ◌+◌, min, map, slice_index};
-ghost use Rattle.std.specs.Prelude.{slice_get, slice_range, IsTrue, IsOk, IsSome, IfOk, IfSome};
+ghost use Rattle.std.specs.Prelude.{◌≡◌, ◌≤◌, ◌<◌, ◌↔◌, ℕ, List, [], ◌+◌, min, map, slice_index};
+ghost use Rattle.std.specs.Prelude.{slice_get, slice_range, IsTrue, IsNone, IsOk, IsSome, IfOk, IfSome};
 ghost use Rattle.std.specs.Option.{option_flatten};
-ghost use Rattle.adf_blocks.specs.HeadBlock.{body_at};
+ghost use Rattle.adf_blocks.specs.HeadBlock.{body_at, meta_told};
 ghost use Rattle.adf_fields.specs.Words.{block};
 ghost use Rattle.adf_volume.specs.Image.{name_of};
 ghost use Rattle.adf_volume.specs.Walk.{Has, Role, heads, node_block};
@@ -11,17 +11,20 @@ ghost use Rattle.adf_volume.specs.Walk.Role.{Head};
 ghost use Rattle.adf_survey.specs.Concerned.{entry_of_nth};
 ghost use Rattle.adf_survey.specs.Files.{IsSoundFile, file_in};
 ghost use Rattle.adf_survey.specs.Found.{parent_node};
+ghost use Rattle.adf_survey.specs.Marked.{AreMarks, mark_in};
 ghost use Rattle.adf_survey.specs.Marks.{has_mark};
+ghost use Rattle.adf_survey.specs.Opening.{opening_in};
 ghost use Rattle.adf_survey.specs.Parts.{told};
 ghost use Rattle.adf_survey.specs.Sound.{IsSound};
 ghost use Rattle.adf_survey.specs.Survey.{Finding as SpecFinding, IsSurvey};
 ghost use Rattle.adf_survey.specs.Surveyed.{IsOfSurvey, kept_of};
 
 use crate::file::SoundFile;
+use crate::opening::Opening;
 use crate::part::Finding;
-use adf_blocks::{HeadBody, NAME, SECONDARY_TYPE, ST_FILE};
+use adf_blocks::{HeadBody, NAME, SECONDARY_TYPE, ST_FILE, meta_of};
 use adf_fields::{Block, NoMemory};
-use adf_tree::Node;
+use adf_tree::{Meta, Node};
 use adf_volume::open;
 use std::alloc::Global;
 use std::marker::Model;
@@ -195,6 +198,32 @@ impl Survey<'_> {
         }
     }
 
+    /// What the header of an entry that is found says beside its name and its body: its comment, of a longer one the first 79
+    /// bytes, its protection and its date. None of the root and past the last entry.
+    pub fn meta(&self, n: Node) -> Option<Meta>
+        ensures some { (w : List (Role × ℕ)) (fs : List SpecFinding) → IsSurvey self.now.image w fs
+            → IsSome result ↔ ((1 ≤ n) × (n ≤ heads w)) }
+        ensures meta { (w : List (Role × ℕ)) (fs : List SpecFinding) → IsSurvey self.now.image w fs
+            → IfSome result (λ x. x ≡ meta_told (block self.now.image (node_block w n))) }
+    {
+        match self.header(n) {
+            Some(head) => Some(meta_of(&head)),
+            None => None,
+        }
+    }
+
+    /// What the boot bytes and the root tell; none where the image does not begin as a volume, so that nothing is gone through.
+    pub fn opening(&self) -> Option<Opening>
+        ensures some { (w : List (Role × ℕ)) (fs : List SpecFinding) → IsSurvey self.now.image w fs
+            → IsNone result ↔ (w ≡ []) }
+        ensures opening { IfSome result (λ o. o ≡ opening_in self.now.image) }
+    {
+        match open(self.image) {
+            Ok(opened) => Some(Opening::of(&opened)),
+            Err(_) => None,
+        }
+    }
+
     // The node of the directory of an entry, 0 where there is no such entry.
     pub(crate) fn directory_of(&self, n: Node) -> Node
         ensures { (w : List (Role × ℕ)) (fs : List SpecFinding) → IsSurvey self.now.image w fs
@@ -223,6 +252,14 @@ impl Survey<'_> {
             → IsTrue result ↔ IsSound self.now.image w fs n (node_block w n) }
     {
         n.0 != 0 && has_mark(&self.sound, n.0)
+    }
+
+    /// Tells that the marks that are kept are those of the sound entries.
+    pub fn marks(&self)
+        ensures { (w : List (Role × ℕ)) (fs : List SpecFinding) → IsSurvey self.now.image w fs
+            → AreMarks self.now.image w fs (mark_in self.now) }
+    {
+        let _sound = &self.sound;
     }
 }
 

@@ -1,0 +1,52 @@
+-- Whether an image begins as a volume, and the marks that are kept.
+-- Letters: w the walk of a survey, fs its findings; v what is kept; n a node.
+use Rattle.std.specs.Prelude.{nat_le, true, false}
+use Rattle.std.proofs.Common.{◌≡◌, ◌++◌, ℕ, List, [], inl, inr, refl, subst, arith}
+use Rattle.std.proofs.lemmas.Bool.{cases_lt}
+use Rattle.std.proofs.lemmas.Bool.Decides.{nat_tests}
+use Rattle.adf_blocks.specs.declared.cause.Cause.{Cause}
+use Rattle.adf_volume.specs.Demands.{FirstFails, boot_demands, root_demands}
+use Rattle.adf_volume.specs.Image.{root_of}
+use Rattle.adf_volume.specs.Start.{IsBegun}
+use Rattle.adf_volume.specs.Walk.{Role, node_block}
+use Rattle.adf_volume.proofs.Gathered.{IsGathered}
+use Rattle.adf_volume.proofs.Gathered.IsGathered.{start, step}
+use Rattle.adf_volume.proofs.Lists.{fails_not_all}
+use Rattle.adf_survey.specs.Marked.{AreMarks, mark_in}
+use Rattle.adf_survey.specs.Sound.{IsSound}
+use Rattle.adf_survey.specs.Survey.{Finding, IsSurvey}
+use Rattle.adf_survey.specs.Survey.IsSurvey.{read, unread}
+use Rattle.adf_survey.specs.Surveyed.{IsOfSurvey, Surveyed}
+use Rattle.adf_survey.proofs.Keeping.{root_no_entry, tells_each}
+use Rattle.adf_survey.proofs.OneSurvey.{gathered}
+
+some_part : (image : List ℕ) (w : List (Role × ℕ)) → IsGathered image w → w ≡ [] → ⊥
+some_part image w start e = cc
+some_part image w (step a i b v asked lacks) e = cc
+
+-- the walk of an image that begins as a volume is not empty
+pub begun_walk : (image : List ℕ) (w : List (Role × ℕ)) (fs : List Finding) → IsSurvey image w fs → IsBegun image → w ≡ [] → ⊥
+begun_walk image w fs (unread {at = at} {c = c} f) begun e =
+    fails_not_all (boot_demands image ++ root_demands image (root_of image)) at c f begun
+begun_walk image w fs (read {s = s} all v d t) begun e = some_part image s.walk (gathered image v) e
+
+-- that of any other image is empty
+pub unbegun_walk : (image : List ℕ) (w : List (Role × ℕ)) (fs : List Finding) (at : ℕ) (c : Cause) → IsSurvey image w fs
+    → FirstFails (boot_demands image ++ root_demands image (root_of image)) at c → w ≡ []
+unbegun_walk image w fs at c (unread f) fails = refl
+unbegun_walk image w fs at c (read begun v d t) fails =
+    absurd (fails_not_all (boot_demands image ++ root_demands image (root_of image)) at c fails begun)
+
+-- the marks that are kept are those of the sound entries
+pub kept_marks : (v : Surveyed) → IsOfSurvey v → (w : List (Role × ℕ)) (fs : List Finding) → IsSurvey v.image w fs → AreMarks v.image w fs (mark_in v)
+kept_marks v k w fs h n = elim (cases_lt 0 n) [
+  | inl some ↦
+      let e : nat_le 1 n ≡ true = grind (arith, nat_tests) in
+      rw e ((tells_each v k w fs h).sound n (omega arith))
+  | inr none ↦
+      let e : nat_le 1 n ≡ false = grind (arith, nat_tests) in
+      let zero : n ≡ 0 = omega arith in
+      let no : IsSound v.image w fs n (node_block w n) → ⊥ =
+      λ s. root_no_entry v.image w fs (node_block w 0) h (subst (λ m. IsSound v.image w fs m (node_block w m)) zero s) in
+      rw e ((λ t. cc), (λ s. absurd (no s)))
+]
