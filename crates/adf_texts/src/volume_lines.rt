@@ -1,16 +1,17 @@
 // The lines of `list`.
 
-ghost use Rattle.std.specs.Prelude.{◌≡◌, ◌++◌, codes, ℕ, List, OnOk};
+ghost use Rattle.std.specs.Prelude.{◌≡◌, ◌++◌, codes, ℕ, List, OnOk, map};
 ghost use Rattle.adf_tree.specs.declared.entry.Entry.{Entry};
-ghost use Rattle.adf_check.specs.Rows.{row_of_entry};
-ghost use Rattle.adf_texts.specs.RowTexts.{row_size, row_word};
+ghost use Rattle.adf_check.specs.Rows.{row_body, row_of_entry};
+ghost use Rattle.adf_texts.specs.RowTexts.{columns, head_lines, row_size, row_word};
 ghost use Rattle.adf_texts.specs.VolumeLines.{AreDates, blocks_line, entry_lines, escaped_line, lines_with, opening_lines, right_in_ten, text_line};
 
 use crate::digits::{push_hex, push_number, push_right};
-use crate::escapes::{push_escaped, push_path};
+use crate::escapes::{push_escaped, push_names, push_path};
+use adf_blocks::HeadBody;
 use adf_check::{Row, RowBody};
 use adf_fields::{Stamp, push_stamp};
-use adf_tree::{Kind, Label, Name, Stamps};
+use adf_tree::{Kind, Label, Meta, Name, Stamps};
 use std::alloc::AllocError;
 
 /// Appends the lines before those of the entries: the kind and the number of blocks, the label where there is one, and
@@ -47,14 +48,57 @@ fn push_row_lines(text: &mut Vec<u8>, row: &Row, path: &[Name]) -> Result<(), Al
         → OnOk result (text.new.items ≡ text.old.items
         ++ lines_with date path.now (row_word row.now.body) (row_size row.now.body) row.now.meta) }
 {
-    push_word(text, row.body)?;
-    push_hex(text, row.meta.protect, b' ')?;
-    push_size(text, row.body)?;
-    push_date(text, row.meta.stamp)?;
-    text.extend_from_slice(b" ")?;
+    push_columns(text, row.body, &row.meta)?;
     push_path(text, path)?;
+    push_line_end(text, &row.meta)
+}
+
+/// Appends the line of an entry of which a header tells, and that of its note where it has one; its names may be none that are
+/// allowed.
+pub fn push_head_lines(
+    text: &mut Vec<u8>,
+    body: HeadBody,
+    meta: &Meta,
+    path: &[&[u8]],
+) -> Result<(), AllocError>
+    ensures { (date : Stamp → List ℕ) → AreDates date
+        → OnOk result (text.new.items ≡ text.old.items
+        ++ head_lines date (map (λ name. name.now) path.now) body meta.now) }
+{
+    push_columns(text, row_body(body), meta)?;
+    push_names(text, path)?;
+    push_line_end(text, meta)
+}
+
+// What the body of a header tells.
+fn row_body(body: HeadBody) -> RowBody
+    ensures { result ≡ row_body body }
+{
+    match body {
+        HeadBody::Dir => RowBody::Dir,
+        HeadBody::File { size, .. } => RowBody::File { size },
+    }
+}
+
+// Appends what stands before the names in the line of an entry.
+fn push_columns(text: &mut Vec<u8>, body: RowBody, meta: &Meta) -> Result<(), AllocError>
+    ensures { (date : Stamp → List ℕ) → AreDates date
+        → OnOk result (text.new.items ≡ text.old.items ++ columns date body meta.now) }
+{
+    push_word(text, body)?;
+    push_hex(text, meta.protect, b' ')?;
+    push_size(text, body)?;
+    push_date(text, meta.stamp)?;
+    text.extend_from_slice(b" ")
+}
+
+// Appends the end of the line of an entry, and the line of its note where it has one.
+fn push_line_end(text: &mut Vec<u8>, meta: &Meta) -> Result<(), AllocError>
+    ensures { OnOk result (text.new.items ≡ text.old.items
+        ++ (codes "\n" ++ escaped_line (codes "note ") meta.now.comment)) }
+{
     text.extend_from_slice(b"\n")?;
-    push_escaped_line(text, b"note ", row.meta.comment.bytes())
+    push_escaped_line(text, b"note ", meta.comment.bytes())
 }
 
 // Appends the word of a row and a space.
