@@ -1,6 +1,6 @@
 -- The findings of a survey, one after another, and the entries that they concern.
 -- Letters: w a walk; all the findings as they are kept, of which first is the first and others are behind it, and fs as they are told; i a place.
-use Rattle.std.specs.Prelude.{Some, map, option_map, slice_get}
+use Rattle.std.specs.Prelude.{map, option_map}
 use Rattle.std.specs.Option.{option_and_then}
 use Rattle.std.proofs.Common.{◌≡◌, ◌∙◌, ◌<◌, ◌≤◌, ◌+◌, ◌++◌, ℕ, suc, List, [], ◌∷◌, Option, sym, ap, subst, add-one, drop, get_or, length}
 use Rattle.std.proofs.lemmas.List.{drop_all, drop_more}

@@ -1,6 +1,6 @@
 -- What is answered to the front of an input that is longer than the largest image is answered to the whole of it.
 -- Letters: w the walk of a survey, fs its findings; n an entry's node.
-use Rattle.std.proofs.Common.{◌≡◌, ◌<◌, ◌+◌, ◌*◌, ◌∙◌, inl, inr, ℕ, List, [], ◌∷◌, Option, Some, None, IfSome, refl, ap, subst, arith}
+use Rattle.std.proofs.Common.{◌≡◌, ◌<◌, ◌+◌, ◌*◌, ◌∙◌, ◌++◌, false, inl, inr, ℕ, List, [], ◌∷◌, Option, Some, None, IfSome, refl, ap, subst, arith}
 use Rattle.std.proofs.Common.{length, take, length-take}
 use Rattle.std.proofs.lemmas.Bool.{cases_lt}
 use Rattle.std.proofs.lemmas.List.{take_all}
@@ -8,13 +8,14 @@ use Rattle.adf_blocks.specs.declared.layout.TheConstants.{MOST_BLOCKS}
 use Rattle.adf_blocks.specs.declared.cause.Cause.TheVariants.{BadSize}
 use Rattle.adf_volume.specs.Walk.{Role}
 use Rattle.adf_survey.specs.Lookup.{LeadsTo}
+use Rattle.adf_survey.specs.Marked.{AreMarks}
 use Rattle.adf_survey.specs.Survey.{Finding, IsSurvey, finding}
 use Rattle.adf_survey.specs.Survey.IsSurvey.{unread}
 use Rattle.adf_survey.proofs.OneSurvey.{one_survey}
 use Rattle.adf_cmd.specs.Answers.{Reply, on_output}
 use Rattle.adf_cmd.proofs.LongInputs.{too_large}
-use Rattle.adf_survey_cmd.specs.Answers.{CopiesFound, SurveyAnswer, findings_status}
-use Rattle.adf_survey_cmd.specs.CommandLine.{InquiryValue, cat, report}
+use Rattle.adf_survey_cmd.specs.Answers.{CopiesFound, SurveyAnswer, TellsFound, findings_status}
+use Rattle.adf_survey_cmd.specs.CommandLine.{InquiryValue, cat, list, report}
 use Rattle.adf_survey_cmd.specs.Endings.{EndsBy}
 use Rattle.adf_survey_cmd.specs.Lines.{findings_text, runs_from}
 use Rattle.adf_survey_cmd.specs.declared.ending.Ending.{Ending}
@@ -32,6 +33,10 @@ long_survey image h = unread (inl (too_large image h, refl, refl))
 same_text : (image bytes : List ℕ) → findings_text image [] bad_size ≡ findings_text bytes [] bad_size
 unfolding bad_size runs_from
 same_text image bytes = refl
+
+-- nothing is found, and so nothing is sound
+no_marks : (image : List ℕ) → AreMarks image [] bad_size (λ n. false)
+no_marks image n = ((λ t. cc), (λ s. absurd s.header.has))
 
 same_leads : (image bytes : List ℕ) (names : List (List ℕ)) (n : ℕ) → LeadsTo image [] 0 names n → LeadsTo bytes [] 0 names n
 same_leads image bytes [] n h = h
@@ -56,6 +61,10 @@ long_answers : (r : InquiryValue) (image bytes : List ℕ) → 512 * MOST_BLOCKS
 long_answers report image bytes a b reply (w, fs, s, e) =
     let told = of_long image w fs (λ u gs. reply ≡ on_output (findings_status gs) (findings_text image u gs)) a s e in
     ([], bad_size, long_survey bytes b, told ∙ ap (on_output (findings_status bad_size)) (same_text image bytes))
+long_answers list image bytes a b reply (w, fs, s, told) =
+    let (date, dates, sound, marks, e) = of_long image w fs (λ u gs. TellsFound image u gs reply) a s told in
+    let same = ap (λ t. on_output (findings_status bad_size) (t ++ [])) (same_text image bytes) in
+    ([], bad_size, long_survey bytes b, (date, dates, (λ n. false), no_marks bytes, e ∙ same))
 long_answers (cat path) image bytes a b reply (inl bad) = inl bad
 long_answers (cat path) image bytes a b reply (inr (names, text, w, fs, s, found)) =
     let same = of_long image w fs (λ u gs. CopiesFound image u gs names reply) a s found in

@@ -1,16 +1,23 @@
 -- What is asked of an image has one answer.
 -- Letters: w, u walks of its survey, fs, gs the findings; n, m entries' nodes; r, q inquiries; a, b replies.
-use Rattle.std.proofs.Common.{◌≡◌, ◌<◌, ◌∙◌, inl, inr, ℕ, List, [], ◌∷◌, Option, Some, sym, ap, subst, arith}
+use Rattle.std.proofs.Common.{◌≡◌, ◌<◌, ◌∙◌, inl, inr, ℕ, Bool, List, [], ◌∷◌, Option, Some, sym, ap, subst, arith}
+use mathlib.Core.Path.{fun_ext}
+use Rattle.adf_fields.proofs.DateTexts.{one_text}
+use Rattle.adf_fields.specs.declared.dates.Stamp.{Stamp}
 use Rattle.adf_tree.proofs.PathParts.{one_path}
 use Rattle.adf_volume.specs.Walk.{FileAt, Role, node_block}
 use Rattle.adf_survey.specs.Files.{IsSoundFile}
 use Rattle.adf_survey.specs.Lookup.{IsFirstChild, LeadsTo}
+use Rattle.adf_survey.specs.Marked.{AreMarks}
 use Rattle.adf_survey.specs.Survey.{Finding}
 use Rattle.adf_survey.proofs.OneSurvey.{one_survey}
+use Rattle.adf_texts.specs.VolumeLines.{AreDates}
 use Rattle.adf_cmd.specs.Answers.{Reply, on_output}
-use Rattle.adf_survey_cmd.specs.Answers.{CopiesEntry, CopiesFound, CopiesFromSurvey, SurveyAnswer, Surveys, findings_status}
-use Rattle.adf_survey_cmd.specs.CommandLine.{AsksSurvey, InquiryValue, cat, inquiry_of, report}
+use Rattle.adf_survey_cmd.specs.Answers.{CopiesEntry, CopiesFound, CopiesFromSurvey, ListsSurvey, SurveyAnswer, Surveys, TellsFound, findings_status}
+use Rattle.adf_survey_cmd.specs.CommandLine.{AsksSurvey, InquiryValue, cat, inquiry_of, list, report}
+use Rattle.adf_survey_cmd.specs.FoundLines.{listing_text}
 use Rattle.adf_survey_cmd.specs.Lines.{findings_text}
+use Rattle.adf_survey_cmd.proofs.FoundTexts.{same_tests}
 
 pub one_inquiry : (words : List (List ℕ)) (r q : InquiryValue) → AsksSurvey words r → AsksSurvey words q → r ≡ q
 one_inquiry words r q a b = same (inquiry_of words) r q a.1 b.1
@@ -59,6 +66,25 @@ surveyed_once image a b (w, fs, s, x) (u, gs, t, y) =
     x ∙ ap (λ v. on_output (findings_status fs) (findings_text image v fs)) same.0
     ∙ ap (λ hs. on_output (findings_status hs) (findings_text image u hs)) same.1 ∙ sym y
 
+one_dates : (date other : Stamp → List ℕ) → AreDates date → AreDates other → date ≡ other
+one_dates date other p q = fun_ext (λ s. one_text s (date s) (other s) (p s) (q s))
+
+one_marks : (image : List ℕ) (w : List (Role × ℕ)) (fs : List Finding) (sound others : ℕ → Bool) → AreMarks image w fs sound
+    → AreMarks image w fs others → sound ≡ others
+one_marks image w fs sound others p q =
+    fun_ext (λ n. same_tests (sound n) (others n) (λ t. (q n).1 ((p n).0 t)) (λ t. (p n).1 ((q n).0 t)))
+
+found_told_once : (image : List ℕ) (w : List (Role × ℕ)) (fs : List Finding) (a b : Reply) → TellsFound image w fs a → TellsFound image w fs b → a ≡ b
+found_told_once image w fs a b (date, dates, sound, marks, x) (other, others, tests, also, y) =
+    x ∙ ap (λ d. on_output (findings_status fs) (listing_text d sound image w fs)) (one_dates date other dates others)
+    ∙ ap (λ m. on_output (findings_status fs) (listing_text other m image w fs)) (one_marks image w fs sound tests marks also) ∙ sym y
+
+listed_once : (image : List ℕ) (a b : Reply) → ListsSurvey image a → ListsSurvey image b → a ≡ b
+listed_once image a b (w, fs, s, x) (u, gs, t, y) =
+    let same = one_survey image w u fs gs s t in
+    let moved = subst (λ v. TellsFound image v fs a) same.0 x in
+    found_told_once image u gs a b (subst (λ hs. TellsFound image u hs a) same.1 moved) y
+
 copied_once : (path image : List ℕ) (a b : Reply) → CopiesFromSurvey path image a → CopiesFromSurvey path image b → a ≡ b
 copied_once path image a b (names, text, w, fs, s, x) (others, also, u, gs, t, y) =
     let same = one_survey image w u fs gs s t in
@@ -69,6 +95,7 @@ copied_once path image a b (names, text, w, fs, s, x) (others, also, u, gs, t, y
 
 pub one_answer : (r : InquiryValue) (image : List ℕ) (a b : Reply) → SurveyAnswer r image a → SurveyAnswer r image b → a ≡ b
 one_answer report image a b x y = surveyed_once image a b x y
+one_answer list image a b x y = listed_once image a b x y
 one_answer (cat path) image a b (inl (bad, x)) (inl (worse, y)) = x ∙ sym y
 one_answer (cat path) image a b (inl (bad, x)) (inr h) = absurd (bad h.0 h.1)
 one_answer (cat path) image a b (inr h) (inl (bad, y)) = absurd (bad h.0 h.1)

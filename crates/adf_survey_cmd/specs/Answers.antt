@@ -6,10 +6,14 @@ use Rattle.adf_tree.specs.PathTexts.{IsPathText}
 use Rattle.adf_volume.specs.Walk.{FileAt, Role}
 use Rattle.adf_survey.specs.Files.{IsSoundFile, file_content, file_in}
 use Rattle.adf_survey.specs.Lookup.{LeadsTo}
+use Rattle.adf_survey.specs.Marked.{AreMarks}
 use Rattle.adf_survey.specs.Survey.{Finding, IsSurvey}
+use Rattle.adf_fields.specs.declared.dates.Stamp.{Stamp}
+use Rattle.adf_texts.specs.VolumeLines.{AreDates}
 use Rattle.adf_cmd.specs.Answers.{IsBadPath, RefusesPath, Reply, on_errors, on_output}
 use Rattle.adf_cmd.specs.Streams.{AppendsPart, Says}
-use Rattle.adf_survey_cmd.specs.CommandLine.{AreRefusedBySurvey, AsksSurvey, InquiryValue, cat, report}
+use Rattle.adf_survey_cmd.specs.CommandLine.{AreRefusedBySurvey, AsksSurvey, InquiryValue, cat, list, report}
+use Rattle.adf_survey_cmd.specs.FoundLines.{listing_text}
 use Rattle.adf_survey_cmd.specs.Lines.{findings_text}
 
 -- the status of findings: 0 where there is none
@@ -20,6 +24,11 @@ findings_status (f ∷ fs) = 1
 -- the lines of the findings are told
 abbrev pub TellsFindings : List ℕ → List (Role × ℕ) → List Finding → Reply → Type 0
 TellsFindings input w fs reply = reply ≡ on_output (findings_status fs) (findings_text input w fs)
+
+-- the lines of the findings are told, and behind them those of what is found, in which each date has its text and the sound entries are marked
+abbrev pub TellsFound : List ℕ → List (Role × ℕ) → List Finding → Reply → Type 0
+TellsFound input w fs reply = (date : Stamp → List ℕ) × AreDates date × (sound : ℕ → Bool) × AreMarks input w fs sound
+    × (reply ≡ on_output (findings_status fs) (listing_text date sound input w fs))
 
 -- nothing is found under the names
 abbrev pub FindsNothing : List ℕ → List (Role × ℕ) → List (List ℕ) → Reply → Type 0
@@ -51,6 +60,10 @@ CopiesFound input w fs names reply =
 abbrev pub Surveys : List ℕ → Reply → Type 0
 Surveys input reply = (w : List (Role × ℕ)) × (fs : List Finding) × IsSurvey input w fs × TellsFindings input w fs reply
 
+-- `adf-survey --list` tells the findings of the image's survey and what is found
+abbrev pub ListsSurvey : List ℕ → Reply → Type 0
+ListsSurvey input reply = (w : List (Role × ℕ)) × (fs : List Finding) × IsSurvey input w fs × TellsFound input w fs reply
+
 -- `cat` of a path that is read, in what is found of the image
 abbrev pub CopiesFromSurvey : List ℕ → List ℕ → Reply → Type 0
 CopiesFromSurvey path input reply =
@@ -60,6 +73,7 @@ CopiesFromSurvey path input reply =
 -- the answer to an inquiry
 abbrev pub SurveyAnswer : InquiryValue → List ℕ → Reply → Type 0
 SurveyAnswer report input reply = Surveys input reply
+SurveyAnswer list input reply = ListsSurvey input reply
 SurveyAnswer (cat path) input reply = RefusesPath path reply ⊎ CopiesFromSurvey path input reply
 
 -- words ask for one thing at most
@@ -88,7 +102,7 @@ SurveyAnswersPart words false input o o' = Appends o o' [] ⊎ ((r : InquiryValu
 -- what errors get where the words are refused
 abbrev pub survey_usage : List ℕ
 survey_usage =
-    codes "usage: adf-survey < IMAGE\n       adf-survey cat PATH < IMAGE\n"
+    codes "usage: adf-survey [--list] < IMAGE\n       adf-survey cat PATH < IMAGE\n"
     ++ codes "an image comes on standard input; man adf-survey tells more\n"
 
 -- the words ask for the bytes under a path that is not read

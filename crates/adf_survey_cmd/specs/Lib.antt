@@ -1,5 +1,6 @@
 pub mod CommandLine
 pub mod Lines
+pub mod FoundLines
 pub mod Answers
 pub mod Endings
 pub mod Work

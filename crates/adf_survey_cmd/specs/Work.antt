@@ -3,15 +3,16 @@ use Rattle.std.specs.Prelude.{◌≡◌, ℕ, List, codes}
 use Rattle.adf_tree.specs.PathTexts.{IsPathText}
 use Rattle.adf_cmd.specs.Answers.{IsBadPath}
 use Rattle.adf_survey_cmd.specs.Answers.{AsksBadSurveyPath, survey_usage}
-use Rattle.adf_survey_cmd.specs.CommandLine.{AreRefusedBySurvey, InquiryValue, cat, report}
+use Rattle.adf_survey_cmd.specs.CommandLine.{AreRefusedBySurvey, InquiryValue, cat, list, report}
 use Rattle.adf_survey_cmd.specs.declared.work.Work.{Work}
-use Rattle.adf_survey_cmd.specs.declared.work.Work.TheVariants.{Report, Cat}
+use Rattle.adf_survey_cmd.specs.declared.work.Work.TheVariants.{Report, List as ListAll, Cat}
 use Rattle.adf_survey_cmd.specs.declared.work.WorkFault.{WorkFault}
 use Rattle.adf_survey_cmd.specs.declared.work.WorkFault.TheVariants.{Usage, BadPath, NoMemory}
 
 -- the work is what is asked for, with the names of the path
 abbrev pub Meets : Work → InquiryValue → Type 0
 Meets Report r = r ≡ report
+Meets ListAll r = r ≡ list
 Meets (Cat names) r = (path : List ℕ) × (r ≡ cat path) × IsPathText path names.items
 
 -- why no work is begun for an inquiry: its path is none

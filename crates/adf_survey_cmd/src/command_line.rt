@@ -1,13 +1,13 @@
 // The words of the command line, by clap.
 
 ghost use Rattle.std.specs.Prelude.{◌≡◌, ◌==◌, IfOk, IfErr, ℕ, List, [], ◌∷◌, codes, false, option_map};
-ghost use Rattle.clap.specs.Words.{app_of, found_of, rows_of, subcommand_rows_of};
-ghost use Rattle.adf_cmd.specs.CommandLine.{texts_of};
-ghost use Rattle.adf_survey_cmd.specs.CommandLine.{AsksSurvey, AreRefusedBySurvey, ExplainsSurveyWords, cat, inquiry_met, inquiry_named, inquiry_value, report, survey_app};
+ghost use Rattle.clap.specs.Words.{app_of, found_of, rows_of, rule_of, subcommand_rows_of};
+ghost use Rattle.adf_cmd.specs.CommandLine.{list_rule, texts_of};
+ghost use Rattle.adf_survey_cmd.specs.CommandLine.{AsksSurvey, AreRefusedBySurvey, ExplainsSurveyWords, asks_list, cat, list, inquiry_met, inquiry_named, inquiry_value, report, survey_app};
 
 use adf_cmd::{WordsFault, cat_command, first_text};
 use clap::error::ErrorKind;
-use clap::{ArgMatches, Command};
+use clap::{Arg, ArgAction, ArgMatches, Command};
 use std::alloc::{AllocError, Global};
 
 /// What a command line asks for.
@@ -15,8 +15,20 @@ use std::alloc::{AllocError, Global};
 pub enum Inquiry<'a> {
     /// All findings.
     Report,
+    /// All findings, and what is found.
+    List,
     /// The bytes of a sound file, by the text of its path.
     Cat(&'a str),
+}
+
+// The flag `--list`.
+fn list_flag<'a>(alloc: Global) -> Arg<'a>
+    ensures rule { rule_of result ≡ list_rule }
+    ensures local { result.global ≡ false }
+{
+    Arg::new(alloc, "list")
+        .long("list")
+        .action(ArgAction::SetTrue)
 }
 
 // The command line. Words of help are refused as any others are, so that clap lays out no text for them.
@@ -26,7 +38,7 @@ fn command<'a>(alloc: Global) -> Result<Command<'a>, AllocError>
     let bare = Command::new(alloc, "adf-survey")
         .disable_help_flag(true)
         .disable_help_subcommand(true);
-    bare.subcommand(cat_command(alloc)?)
+    bare.arg(list_flag(alloc))?.subcommand(cat_command(alloc)?)
 }
 
 // What a subcommand's name and matches ask for.
@@ -43,18 +55,32 @@ fn inquiry_named<'a>(name: &str, found: &ArgMatches<'a>) -> Option<Inquiry<'a>>
     }
 }
 
+// Whether the flag `--list` is among the matches.
+fn asks_list(matches: &ArgMatches<'_>) -> bool
+    ensures { result ≡ asks_list (rows_of (found_of matches.now)) }
+{
+    match first_text(matches, "list") {
+        Some(text) => text == "true",
+        None => false,
+    }
+}
+
 // What the matches ask for.
 fn inquiry_in<'a>(matches: &ArgMatches<'a>) -> Option<Inquiry<'a>>
-    ensures { option_map inquiry_value result ≡ inquiry_met (subcommand_rows_of matches.now) }
+    ensures { option_map inquiry_value result
+        ≡ inquiry_met (rows_of (found_of matches.now)) (subcommand_rows_of matches.now) }
 {
+    let list = asks_list(matches);
     match matches.subcommand() {
+        Some(_) if list => None,
         Some((name, found)) => inquiry_named(name, found),
+        None if list => Some(Inquiry::List),
         None => Some(Inquiry::Report),
     }
 }
 
 /// Reads the words, of which the first is the program's name. `Usage` exactly where clap refuses them
-/// or its matches lack the path, `NoMemory` where memory was refused.
+/// or its matches lack the path or have the flag before a command, `NoMemory` where memory was refused.
 pub fn parse<'a>(alloc: Global, words: &'a [&str]) -> Result<Inquiry<'a>, WordsFault>
     ensures ok { IfOk result (λ inquiry.
         AsksSurvey (texts_of words.entry.now) (inquiry_value inquiry)) }
@@ -81,6 +107,7 @@ pub fn parse<'a>(alloc: Global, words: &'a [&str]) -> Result<Inquiry<'a>, WordsF
 pub fn survey_words_as_documented()
     ensures report { AsksSurvey (codes "adf-survey" ∷ []) report }
     ensures no_words { AsksSurvey [] report }
+    ensures list { AsksSurvey (codes "adf-survey" ∷ codes "--list" ∷ []) list }
     ensures cat { (first : ℕ) (rest : List ℕ) → (first == 45) ≡ false
         → AsksSurvey (codes "adf-survey" ∷ codes "cat" ∷ (first ∷ rest) ∷ [])
         (cat (first ∷ rest)) }
@@ -91,6 +118,14 @@ pub fn survey_words_as_documented()
     ensures dash { AreRefusedBySurvey (codes "adf-survey" ∷ codes "cat" ∷ codes "-x" ∷ []) }
     ensures two_paths { AreRefusedBySurvey
         (codes "adf-survey" ∷ codes "cat" ∷ codes "a" ∷ codes "b" ∷ []) }
+    ensures list_twice { AreRefusedBySurvey
+        (codes "adf-survey" ∷ codes "--list" ∷ codes "--list" ∷ []) }
+    ensures list_cat { AreRefusedBySurvey
+        (codes "adf-survey" ∷ codes "--list" ∷ codes "cat" ∷ codes "a" ∷ []) }
+    ensures cat_list { AreRefusedBySurvey
+        (codes "adf-survey" ∷ codes "cat" ∷ codes "a" ∷ codes "--list" ∷ []) }
+    ensures short_list { AreRefusedBySurvey (codes "adf-survey" ∷ codes "-l" ∷ []) }
+    ensures list_word { AreRefusedBySurvey (codes "adf-survey" ∷ codes "list" ∷ []) }
     ensures flag { AreRefusedBySurvey (codes "adf-survey" ∷ codes "-x" ∷ []) }
     ensures help { AreRefusedBySurvey (codes "adf-survey" ∷ codes "--help" ∷ []) }
     ensures help_word { AreRefusedBySurvey (codes "adf-survey" ∷ codes "help" ∷ []) }

@@ -4,6 +4,8 @@
 mod command_line;
 mod copying;
 mod ending;
+mod found_lines;
+mod listing;
 mod reporting;
 mod runner;
 mod runs;

@@ -14,6 +14,7 @@ ghost use Rattle.adf_survey_cmd.specs.Work.{AreUnmet, IsUnmetInquiry, Meets, unm
 use crate::command_line::{Inquiry, parse};
 use crate::copying::copy_found;
 use crate::ending::Ending;
+use crate::listing::write_list;
 use crate::reporting::write_findings;
 use adf_cmd::{MOST_IMAGE_BYTES, Sink, Source, StreamFault, WordsFault, read_all};
 use adf_survey::{Survey, survey};
@@ -24,6 +25,7 @@ use std::alloc::Global;
 #[derive(Drop)]
 pub enum Work {
     Report,
+    List,
     /// The names of the path.
     Cat(Vec<Name>),
 }
@@ -40,7 +42,7 @@ pub enum WorkFault {
 }
 
 const USAGE: &str =
-    "usage: adf-survey < IMAGE\n       adf-survey cat PATH < IMAGE\nan image comes on standard input; man adf-survey tells more\n";
+    "usage: adf-survey [--list] < IMAGE\n       adf-survey cat PATH < IMAGE\nan image comes on standard input; man adf-survey tells more\n";
 
 impl WorkFault {
     /// The status that the run ends with.
@@ -73,6 +75,7 @@ fn work_for(alloc: Global, inquiry: Inquiry<'_>) -> Result<Work, WorkFault>
 {
     match inquiry {
         Inquiry::Report => Ok(Work::Report),
+        Inquiry::List => Ok(Work::List),
         Inquiry::Cat(path) => match read_path(alloc, path.as_bytes()) {
             Ok(names) => Ok(Work::Cat(names)),
             Err(PathFault::BadText) => Err(WorkFault::BadPath),
@@ -108,6 +111,7 @@ impl Work {
     {
         match self {
             Work::Report => write_findings(alloc, survey, output),
+            Work::List => write_list(alloc, survey, output),
             Work::Cat(names) => copy_found(alloc, survey, names, output),
         }
     }

@@ -1,0 +1,43 @@
+-- The lines of what is found.
+-- Letters: w the walk of a survey; k, n how many entries; i a number of an entry; text what stands in front.
+use Rattle.std.proofs.Common.{◌≡◌, ◌≤◌, ◌+◌, ◌++◌, ◌∙◌, ℕ, List, [], ◌∷◌, Bool, append_assoc, append-nil, arith, ap, refl, sym, true, false}
+use Rattle.adf_fields.specs.declared.dates.Stamp.{Stamp}
+use Rattle.adf_volume.specs.Walk.{Role, heads}
+use Rattle.adf_texts.proofs.Ranges.{flat_map_front, flat_map_next}
+use Rattle.adf_survey_cmd.specs.FoundLines.{found_lines, found_text, lines_of_found, opening_text}
+
+-- two tests that hold of the same are one
+pub same_tests : (a b : Bool) → (a ≡ true → b ≡ true) → (b ≡ true → a ≡ true) → a ≡ b
+same_tests true b f g = sym (f refl)
+same_tests false true f g = let clash : false ≡ true = g refl in cc
+same_tests false false f g = refl
+
+module _ (date : Stamp → List ℕ) (sound : ℕ → Bool) (image : List ℕ) (w : List (Role × ℕ)) where
+  pub found_none : (text : List ℕ) → text ++ lines_of_found date sound image w 0 ≡ text
+  unfolding lines_of_found
+  found_none text = append-nil text
+
+  next_found : (k : ℕ) → lines_of_found date sound image w (k + 1) ≡ lines_of_found date sound image w k ++ found_lines date sound image w (k + 1)
+  unfolding lines_of_found
+  next_found k = flat_map_next (found_lines date sound image w) 1 k (k + 1) (omega arith)
+
+  pub found_more : (text : List ℕ) (i : ℕ)
+      → text ++ lines_of_found date sound image w (i + 1) ≡ (text ++ lines_of_found date sound image w i) ++ found_lines date sound image w (i + 1)
+  found_more text i =
+      ap (λ t. text ++ t) (next_found i)
+      ∙ sym (append_assoc text (lines_of_found date sound image w i) (found_lines date sound image w (i + 1)))
+
+  fewer : (k n : ℕ) → k ≤ n → (rest : List ℕ) × (lines_of_found date sound image w n ≡ lines_of_found date sound image w k ++ rest)
+  unfolding lines_of_found
+  fewer k n h = flat_map_front (found_lines date sound image w) 1 k n h
+
+  -- the lines of fewer entries stand in front
+  pub found_front : (text : List ℕ) (k n : ℕ) → k ≤ n
+      → (rest : List ℕ) × (text ++ lines_of_found date sound image w n ≡ (text ++ lines_of_found date sound image w k) ++ rest)
+  found_front text k n h = let front = fewer k n h in (front.0, ap (λ t. text ++ t) front.1 ∙ sym (append_assoc text (lines_of_found date sound image w k) front.0))
+
+module _ (date : Stamp → List ℕ) (sound : ℕ → Bool) (image : List ℕ) where
+  pub found_begun : (w : List (Role × ℕ)) → (w ≡ [] → ⊥)
+      → found_text date sound image w ≡ opening_text date image ++ lines_of_found date sound image w (heads w)
+  found_begun [] h = absurd (h refl)
+  found_begun (x ∷ w) h = refl

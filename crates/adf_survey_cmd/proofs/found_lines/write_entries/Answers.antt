@@ -1,0 +1,43 @@
+use Rattle.std.proofs.Common.{◌≡◌, ◌+◌, arith, rules}
+use Rattle.adf_volume.specs.Walk.{heads}
+use Rattle.adf_cmd.proofs.PendingText.{on_err, pending_begun, pending_end, pending_fails, pending_more}
+use Rattle.adf_survey_cmd.proofs.FoundTexts.{found_front, found_more, found_none}
+use Rattle.adf_survey_cmd.proofs.found_lines.write_entries.Goals as goal
+
+pub loop-i-init : goal.loop-i-init
+loop-i-init g c = record {
+  works = c.requires.works;
+  so_far = λ w fs survey date sound dates marks. pending_begun _ _ _ (found_none date sound c.args.survey.now.image w c.args.text.items);
+}
+
+pub loop-i-preserved : goal.loop-i-preserved
+loop-i-preserved g c = record {
+  works = search rules;
+  so_far = λ w fs survey date sound dates marks.
+      let more = pending_more _ _ _ _ _ _ (found_more date sound c.args.survey.now.image w c.args.text.items c.loop-i.i)
+      (c.loop-i.invariant.so_far w fs survey date sound dates marks) in
+      let all = c.len-i-end.ensures w fs survey in
+      c.in_ok-tell_found.ensures.ok w fs survey date sound dates marks (omega arith) (omega (arith, all)) _ _ more;
+}
+
+pub returns-in_err-tell_found-clause-err : goal.returns-in_err-tell_found-clause-err
+returns-in_err-tell_found-clause-err g c = λ w fs survey date sound dates marks.
+    let image = c.args.survey.now.image in
+    let all = c.len-i-end.ensures w fs survey in
+    let more = pending_more _ _ _ _ _ _ (found_more date sound image w c.args.text.items c.loop-i.i)
+    (c.loop-i.invariant.so_far w fs survey date sound dates marks) in
+    let front = found_front date sound image w c.args.text.items (c.loop-i.i + 1) (heads w) (omega (arith, all)) in
+    on_err c.from_residual.result (pending_fails _ _ _ _ _ front.0 _ front.1 more
+    (c.in_err-tell_found.ensures.err w fs survey date sound dates marks (omega arith) (omega (arith, all))))
+
+pub returns-clause-ok : goal.returns-clause-ok
+returns-clause-ok g c = λ w fs survey date sound dates marks.
+    let last : c.loop-i.i ≡ heads w = omega (arith, c.len-i-end.ensures w fs survey) in
+    pending_end _ _ _ _ _ (rw last at (c.loop-i.invariant.so_far w fs survey date sound dates marks)) (rw c.deref.ensures.value at c.in_ok-write_all.ensures.ok)
+
+pub returns-in_err-write_all-clause-err : goal.returns-in_err-write_all-clause-err
+returns-in_err-write_all-clause-err g c = λ w fs survey date sound dates marks.
+    let front = found_front date sound c.args.survey.now.image w c.args.text.items c.loop-i.i (heads w)
+    (omega (arith, c.len-i-end.ensures w fs survey)) in
+    on_err c.from_residual-in_err-write_all.result (pending_fails _ _ _ _ _ front.0 _ front.1
+    (c.loop-i.invariant.so_far w fs survey date sound dates marks) (rw c.deref.ensures.value at c.in_err-write_all.ensures.err))

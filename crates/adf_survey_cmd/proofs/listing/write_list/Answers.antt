@@ -1,0 +1,43 @@
+use Rattle.std.proofs.Common.{◌≡◌, ◌∙◌, ap, false, inr, refl, sym, true}
+use Rattle.std.proofs.lemmas.Bool.{eqb-true, eq-eqb}
+use Rattle.adf_fields.proofs.DateTexts.{date_of, date_of_is}
+use Rattle.adf_survey.specs.Marked.{mark_in}
+use Rattle.adf_cmd.specs.Answers.{on_output}
+use Rattle.adf_survey_cmd.specs.FoundLines.{listing_text}
+use Rattle.adf_survey_cmd.proofs.FindingStatus.{none_status, some_status}
+use Rattle.adf_survey_cmd.proofs.listing.write_list.Goals as goal
+
+pub returns-in-Ok-clause-ends : goal.returns-in-Ok-clause-ends
+returns-in-Ok-clause-ends g c = λ w fs survey.
+    let v = c.args.survey.now in
+    let sound = mark_in v in
+    let marks = c.marks.ensures w fs survey in
+    let status = none_status _ fs (c.findings.ensures w fs survey) (eqb-true _ _ (sym c.if-is_empty.ensures)) in (
+      _,
+      (date_of, date_of_is, sound, marks, ap (λ k. on_output k (listing_text date_of sound v.image w fs)) status),
+      c.in-Ok.ensures.ok w fs survey date_of sound date_of_is marks,
+    )
+
+pub returns-in-Ok-2-clause-ends : goal.returns-in-Ok-2-clause-ends
+returns-in-Ok-2-clause-ends g c = λ w fs survey.
+    let v = c.args.survey.now in
+    let sound = mark_in v in
+    let marks = c.marks.ensures w fs survey in
+    let status = some_status _ fs (c.findings.ensures w fs survey)
+    (λ e. let clash : false ≡ true = c.if-is_empty.ensures ∙ eq-eqb _ _ e in cc) in (
+      _,
+      (date_of, date_of_is, sound, marks, ap (λ k. on_output k (listing_text date_of sound v.image w fs)) status),
+      c.in-Ok-2.ensures.ok w fs survey date_of sound date_of_is marks,
+    )
+
+pub returns-in-Err-Device-clause-ends : goal.returns-in-Err-Device-clause-ends
+returns-in-Err-Device-clause-ends g c = λ w fs survey.
+    let sound = mark_in c.args.survey.now in
+    let marks = c.marks.ensures w fs survey in
+    (_, (date_of, date_of_is, sound, marks, refl), c.in-Err-Device.ensures.err w fs survey date_of sound date_of_is marks)
+
+pub returns-in-Err-NoMemory-clause-ends : goal.returns-in-Err-NoMemory-clause-ends
+returns-in-Err-NoMemory-clause-ends g c = λ w fs survey.
+    let sound = mark_in c.args.survey.now in
+    let marks = c.marks.ensures w fs survey in
+    inr (_, (date_of, date_of_is, sound, marks, refl), c.in-Err-NoMemory.ensures.err w fs survey date_of sound date_of_is marks)

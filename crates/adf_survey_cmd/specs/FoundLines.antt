@@ -1,0 +1,51 @@
+-- The lines of what is found. In each definition `date` gives the text of a date, and `sound` tells whether an entry is sound.
+-- Letters: w the walk of an image's survey, fs its findings; n an entry's node, h the block of its header; k how many entries.
+use Rattle.std.specs.Prelude.{ℕ, Bool, true, false, List, [], ◌∷◌, ◌++◌, codes}
+use Rattle.std.specs.List.{flat_map, range_with_len}
+use Rattle.adf_fields.specs.Words.{block}
+use Rattle.adf_fields.specs.declared.dates.Stamp.{Stamp}
+use Rattle.adf_blocks.specs.HeadBlock.{body_at, meta_told}
+use Rattle.adf_blocks.specs.Sizes.{blocks}
+use Rattle.adf_volume.specs.Image.{kind_of, label_of, root_of, stamps_of}
+use Rattle.adf_volume.specs.Walk.{Role, heads, node_block}
+use Rattle.adf_survey.specs.Lookup.{path_to}
+use Rattle.adf_survey.specs.Marked.{AreMarks}
+use Rattle.adf_survey.specs.Survey.{Finding}
+use Rattle.adf_texts.specs.RowTexts.{head_lines}
+use Rattle.adf_texts.specs.VolumeLines.{AreDates, opening_lines}
+use Rattle.adf_survey_cmd.specs.Lines.{findings_text}
+
+-- the mark of an entry, on the left of eight places
+abbrev pub mark_text : Bool → List ℕ
+mark_text true = codes "sound   "
+mark_text false = codes "damaged "
+
+-- the lines that `list` writes of entry n, as its header at block h tells
+abbrev pub header_lines : (Stamp → List ℕ) → List ℕ → List (Role × ℕ) → ℕ → ℕ → List ℕ
+header_lines date image w n h = head_lines date (path_to image w n) (body_at (block image h)) (meta_told (block image h))
+
+-- the mark and the lines of entry n
+abbrev pub found_lines : (Stamp → List ℕ) → (ℕ → Bool) → List ℕ → List (Role × ℕ) → ℕ → List ℕ
+found_lines date sound image w n = mark_text (sound n) ++ header_lines date image w n (node_block w n)
+
+-- the marks and the lines of the first k entries
+unfoldable pub lines_of_found : (Stamp → List ℕ) → (ℕ → Bool) → List ℕ → List (Role × ℕ) → ℕ → List ℕ
+lines_of_found date sound image w k = flat_map (found_lines date sound image w) (range_with_len 1 k)
+
+-- the opening lines that `list` writes of the volume
+abbrev pub opening_text : (Stamp → List ℕ) → List ℕ → List ℕ
+opening_text date image = opening_lines date (kind_of image) (label_of image (root_of image)) (stamps_of image (root_of image)) (blocks image)
+
+-- the lines of what is found: none where the image does not begin as a volume
+abbrev pub found_text : (Stamp → List ℕ) → (ℕ → Bool) → List ℕ → List (Role × ℕ) → List ℕ
+found_text date sound image [] = []
+found_text date sound image (x ∷ w) = opening_text date image ++ lines_of_found date sound image (x ∷ w) (heads (x ∷ w))
+
+-- the lines of the findings, and behind them those of what is found
+abbrev pub listing_text : (Stamp → List ℕ) → (ℕ → Bool) → List ℕ → List (Role × ℕ) → List Finding → List ℕ
+listing_text date sound image w fs = findings_text image w fs ++ found_text date sound image w
+
+-- it holds of any function that gives each date its text, and of any that tells the sound entries of a survey
+abbrev pub InAnyTexts : List ℕ → List (Role × ℕ) → List Finding → ((Stamp → List ℕ) → (ℕ → Bool) → Type 0) → Type 0
+InAnyTexts image w fs holds =
+    (date : Stamp → List ℕ) (sound : ℕ → Bool) → AreDates date → AreMarks image w fs sound → holds date sound

@@ -1,0 +1,138 @@
+// The lines of what is found.
+
+ghost use Rattle.std.specs.Prelude.{◌≡◌, ◌++◌, ◌≤◌, ℕ, List, OnErr, OnOk, false};
+ghost use Rattle.std.specs.Io.KnownBytes.{Appends};
+ghost use Rattle.adf_fields.specs.declared.dates.Stamp.{Stamp};
+ghost use Rattle.adf_volume.specs.Walk.{Role, heads};
+ghost use Rattle.adf_survey.specs.Opening.{opening_in};
+ghost use Rattle.adf_survey.specs.Survey.{Finding as SpecFinding, IsSurvey};
+ghost use Rattle.adf_texts.specs.VolumeLines.{AreDates};
+ghost use Rattle.adf_cmd.specs.Streams.{AppendsPart, KeepsPending, is_device};
+ghost use Rattle.adf_survey_cmd.specs.FoundLines.{InAnyTexts, found_lines, found_text, lines_of_found, mark_text, opening_text};
+
+use adf_cmd::{Sink, StreamFault, flush_long, write_all};
+use adf_survey::{Opening, Survey};
+use adf_texts::{push_head_lines, push_opening_lines};
+use adf_tree::Node;
+use std::alloc::{AllocError, Global};
+
+// Appends the mark of an entry.
+fn push_mark(text: &mut Vec<u8>, is_sound: bool) -> Result<(), AllocError>
+    ensures { OnOk result (text.new.items ≡ text.old.items ++ mark_text is_sound) }
+{
+    if is_sound {
+        text.extend_from_slice(b"sound   ")
+    } else {
+        text.extend_from_slice(b"damaged ")
+    }
+}
+
+// Appends the mark and the lines of an entry.
+fn push_found(
+    alloc: Global,
+    survey: &Survey<'_>,
+    n: Node,
+    text: &mut Vec<u8>,
+) -> Result<(), AllocError>
+    ensures { (w : List (Role × ℕ)) (fs : List SpecFinding) → IsSurvey survey.now.image w fs
+        → InAnyTexts survey.now.image w fs (λ date sound. 1 ≤ n → n ≤ heads w → OnOk result
+        (text.new.items ≡ text.old.items ++ found_lines date sound survey.now.image w n)) }
+{
+    let (Some(body), Some(meta)) = (survey.body(n), survey.meta(n)) else {
+        return Ok(());
+    };
+    let Ok(path) = survey.path(alloc, n) else {
+        return Err(AllocError);
+    };
+    push_mark(text, survey.is_sound(n))?;
+    push_head_lines(text, body, &meta, &path)
+}
+
+// Appends the mark and the lines of an entry, and writes what is long.
+fn tell_found<W: Sink>(
+    alloc: Global,
+    survey: &Survey<'_>,
+    n: Node,
+    text: &mut Vec<u8>,
+    output: &mut W,
+) -> Result<(), StreamFault>
+    requires works { W.has_failed output.old ≡ false }
+    ensures ok { (w : List (Role × ℕ)) (fs : List SpecFinding) → IsSurvey survey.now.image w fs
+        → InAnyTexts survey.now.image w fs (λ date sound. 1 ≤ n → n ≤ heads w
+        → OnOk result (KeepsPending
+        (W.held output.old) (text.old.items ++ found_lines date sound survey.now.image w n)
+        (W.held output.new) text.new.items)) }
+    ensures err { (w : List (Role × ℕ)) (fs : List SpecFinding) → IsSurvey survey.now.image w fs
+        → InAnyTexts survey.now.image w fs (λ date sound. 1 ≤ n → n ≤ heads w
+        → OnErr result (AppendsPart (W.held output.old) (W.held output.new)
+        (text.old.items ++ found_lines date sound survey.now.image w n))) }
+    ensures failed { W.has_failed output.new ≡ is_device result }
+{
+    push_found(alloc, survey, n, text)?;
+    flush_long(output, text)?;
+    Ok(())
+}
+
+// Writes the text that waits, and the marks and lines of the entries behind it.
+fn write_entries<W: Sink>(
+    alloc: Global,
+    survey: &Survey<'_>,
+    mut text: Vec<u8>,
+    output: &mut W,
+) -> Result<(), StreamFault>
+    requires works { W.has_failed output.old ≡ false }
+    ensures ok { (w : List (Role × ℕ)) (fs : List SpecFinding) → IsSurvey survey.now.image w fs
+        → InAnyTexts survey.now.image w fs (λ date sound. OnOk result (Appends
+        (W.held output.old) (W.held output.new)
+        (text.items ++ lines_of_found date sound survey.now.image w (heads w)))) }
+    ensures err { (w : List (Role × ℕ)) (fs : List SpecFinding) → IsSurvey survey.now.image w fs
+        → InAnyTexts survey.now.image w fs (λ date sound. OnErr result (AppendsPart
+        (W.held output.old) (W.held output.new)
+        (text.items ++ lines_of_found date sound survey.now.image w (heads w)))) }
+    ensures failed { W.has_failed output.new ≡ is_device result }
+{
+    for i in 0..survey.len() {
+        tell_found(alloc, survey, Node(i + 1), &mut text, output)?;
+    }
+    write_all(output, &text)?;
+    Ok(())
+}
+
+// Appends the opening lines of the volume.
+fn push_opening(text: &mut Vec<u8>, opening: &Opening) -> Result<(), AllocError>
+    ensures { (date : Stamp → List ℕ) → AreDates date → (image : List ℕ) → opening.now ≡ opening_in image
+        → OnOk result (text.new.items ≡ text.old.items ++ opening_text date image) }
+{
+    push_opening_lines(
+        text,
+        opening.kind,
+        &opening.label,
+        opening.stamps,
+        opening.blocks,
+    )
+}
+
+/// Writes the lines of what is found: those that open `list` of the volume, and behind them those of each entry, with its mark;
+/// none where the image does not begin as a volume. `Device` where the writer failed, `NoMemory` where memory was refused; then
+/// a front part of the lines is written.
+pub fn write_found<W: Sink>(
+    alloc: Global,
+    survey: &Survey<'_>,
+    output: &mut W,
+) -> Result<(), StreamFault>
+    requires works { W.has_failed output.old ≡ false }
+    ensures ok { (w : List (Role × ℕ)) (fs : List SpecFinding) → IsSurvey survey.now.image w fs
+        → InAnyTexts survey.now.image w fs (λ date sound. OnOk result (Appends
+        (W.held output.old) (W.held output.new) (found_text date sound survey.now.image w))) }
+    ensures err { (w : List (Role × ℕ)) (fs : List SpecFinding) → IsSurvey survey.now.image w fs
+        → InAnyTexts survey.now.image w fs (λ date sound. OnErr result (AppendsPart
+        (W.held output.old) (W.held output.new) (found_text date sound survey.now.image w))) }
+    ensures failed { W.has_failed output.new ≡ is_device result }
+{
+    let Some(opening) = survey.opening() else {
+        return Ok(());
+    };
+    let mut text = Vec::new(alloc);
+    push_opening(&mut text, &opening)?;
+    write_entries(alloc, survey, text, output)
+}

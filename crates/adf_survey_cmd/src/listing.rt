@@ -1,0 +1,54 @@
+// The lines of all findings, and of what is found.
+
+ghost use Rattle.std.specs.Prelude.{◌≡◌, ℕ, List, OnErr, OnOk, false};
+ghost use Rattle.std.specs.Io.KnownBytes.{Appends};
+ghost use Rattle.adf_volume.specs.Walk.{Role};
+ghost use Rattle.adf_survey.specs.Survey.{Finding as SpecFinding, IsSurvey};
+ghost use Rattle.adf_cmd.specs.Streams.{AppendsPart, is_device};
+ghost use Rattle.adf_survey_cmd.specs.Answers.{TellsFound};
+ghost use Rattle.adf_survey_cmd.specs.Endings.{EndsBy, is_read_ending, is_write_ending};
+ghost use Rattle.adf_survey_cmd.specs.FoundLines.{InAnyTexts, listing_text};
+
+use crate::ending::Ending;
+use crate::found_lines::write_found;
+use crate::runs::write_runs;
+use adf_cmd::{Sink, StreamFault};
+use adf_survey::Survey;
+use std::alloc::Global;
+
+// Writes the lines of the findings, and behind them those of what is found.
+fn write_both<W: Sink>(
+    alloc: Global,
+    survey: &Survey<'_>,
+    output: &mut W,
+) -> Result<(), StreamFault>
+    requires works { W.has_failed output.old ≡ false }
+    ensures ok { (w : List (Role × ℕ)) (fs : List SpecFinding) → IsSurvey survey.now.image w fs
+        → InAnyTexts survey.now.image w fs (λ date sound. OnOk result (Appends
+        (W.held output.old) (W.held output.new) (listing_text date sound survey.now.image w fs))) }
+    ensures err { (w : List (Role × ℕ)) (fs : List SpecFinding) → IsSurvey survey.now.image w fs
+        → InAnyTexts survey.now.image w fs (λ date sound. OnErr result (AppendsPart
+        (W.held output.old) (W.held output.new) (listing_text date sound survey.now.image w fs))) }
+    ensures failed { W.has_failed output.new ≡ is_device result }
+{
+    write_runs(alloc, survey, output)?;
+    write_found(alloc, survey, output)
+}
+
+/// Writes the lines of the findings, and behind them those of what is found.
+pub fn write_list<W: Sink>(alloc: Global, survey: &Survey<'_>, output: &mut W) -> Ending
+    requires { W.has_failed output.old ≡ false }
+    ensures ends { (w : List (Role × ℕ)) (fs : List SpecFinding) → IsSurvey survey.now.image w fs
+        → EndsBy (TellsFound survey.now.image w fs) result
+        (W.held output.old) (W.held output.new) }
+    ensures read { is_read_ending result ≡ false }
+    ensures written { W.has_failed output.new ≡ is_write_ending result }
+{
+    survey.marks();
+    match write_both(alloc, survey, output) {
+        Ok(()) if survey.findings().is_empty() => Ending::Done,
+        Ok(()) => Ending::FindingsWritten,
+        Err(StreamFault::Device) => Ending::WriteFault,
+        Err(StreamFault::NoMemory) => Ending::NoMemory,
+    }
+}
