@@ -34,7 +34,9 @@ module _ (date : Stamp → List ℕ) (sound : ℕ → Bool) (image : List ℕ) (
   -- the lines of fewer entries stand in front
   pub found_front : (text : List ℕ) (k n : ℕ) → k ≤ n
       → (rest : List ℕ) × (text ++ lines_of_found date sound image w n ≡ (text ++ lines_of_found date sound image w k) ++ rest)
-  found_front text k n h = let front = fewer k n h in (front.0, ap (λ t. text ++ t) front.1 ∙ sym (append_assoc text (lines_of_found date sound image w k) front.0))
+  found_front text k n h =
+      let front = fewer k n h in
+      (front.0, ap (λ t. text ++ t) front.1 ∙ sym (append_assoc text (lines_of_found date sound image w k) front.0))
 
 module _ (date : Stamp → List ℕ) (sound : ℕ → Bool) (image : List ℕ) where
   pub found_begun : (w : List (Role × ℕ)) → (w ≡ [] → ⊥)

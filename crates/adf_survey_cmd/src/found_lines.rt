@@ -100,7 +100,8 @@ fn write_entries<W: Sink>(
 
 // Appends the opening lines of the volume.
 fn push_opening(text: &mut Vec<u8>, opening: &Opening) -> Result<(), AllocError>
-    ensures { (date : Stamp → List ℕ) → AreDates date → (image : List ℕ) → opening.now ≡ opening_in image
+    ensures { (date : Stamp → List ℕ) → AreDates date
+        → (image : List ℕ) → opening.now ≡ opening_in image
         → OnOk result (text.new.items ≡ text.old.items ++ opening_text date image) }
 {
     push_opening_lines(
