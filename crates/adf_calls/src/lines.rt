@@ -2,13 +2,13 @@
 
 use crate::answers::Went;
 use crate::trees::{meta, stamps};
-use adf_blocks::Cause;
+use adf_blocks::{Cause, HeadBody};
 use adf_check::{Counts, Fault, Row, RowBody};
 use adf_fields::{Stamp, push_stamp};
 use adf_manifest::{ManifestFault, ManifestKind};
 use adf_texts::{
-    push_counts, push_entry_lines, push_fault, push_full, push_manifest_fault, push_opening_lines,
-    push_word_line,
+    push_counts, push_entry_lines, push_fault, push_full, push_head_lines, push_manifest_fault,
+    push_opening_lines, push_word_line,
 };
 use adf_tree::{Kind, Label, Name, Node};
 use std::alloc::{AllocError, Global};
@@ -107,5 +107,15 @@ pub fn push_entry_lines_went(alloc: Global) -> Option<Went> {
     let path = [Name::new(b"c")?, Name::new(b"\xe9")?];
     let res = push_entry_lines(&mut text, &row, &path);
     let wanted = b"file 0000000f 4294967295 1978-01-05 00:00:00.00 c/\\xe9\nnote note\n";
+    pushed(res, &text, wanted)
+}
+
+/// The lines of an entry with a note of which a header tells, one of its names none that is allowed.
+pub fn push_head_lines_went(alloc: Global) -> Option<Went> {
+    let mut text = Vec::new(alloc);
+    let body = HeadBody::File { size: 489, ext: 7 };
+    let path = [b"c".as_slice(), b"a:".as_slice()];
+    let res = push_head_lines(&mut text, body, &meta()?, &path);
+    let wanted = b"file 0000000f        489 1978-01-05 00:00:00.00 c/a:\nnote note\n";
     pushed(res, &text, wanted)
 }

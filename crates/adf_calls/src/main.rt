@@ -15,7 +15,7 @@ use std::process::ExitCode;
 use std::rt::Env;
 
 /// The calls, by the names that the command line may give.
-const CALLS: [&str; 28] = [
+const CALLS: [&str; 29] = [
     "stamp_text",
     "push_stamp",
     "label_write",
@@ -42,6 +42,7 @@ const CALLS: [&str; 28] = [
     "push_word_line",
     "push_opening_lines",
     "push_entry_lines",
+    "push_head_lines",
     "parse",
     "build_and_read",
 ];
@@ -75,6 +76,7 @@ fn went(alloc: Global, call: &str) -> Option<Went> {
         "push_word_line" => lines::push_word_line_went(alloc),
         "push_opening_lines" => lines::push_opening_lines_went(alloc),
         "push_entry_lines" => lines::push_entry_lines_went(alloc),
+        "push_head_lines" => lines::push_head_lines_went(alloc),
         "parse" => commands::parse_went(alloc),
         "build_and_read" => commands::build_and_read_went(alloc),
         _ => None,
