@@ -55,32 +55,29 @@ pub stands_begun : (image : List ℕ) (f g h : Found) → IsEmpty f.taken → Is
 stands_begun image f g h taken passed owned avoided left nodes exts names findings parents o e same pushed lt =
     let n : ℕ = blocks image in
     let root : ℕ = root_of image in
-    let items : h.nodes.items ≡ root ∷ [] = pushed ∙ ap (λ xs. xs ++ root ∷ []) (ap (λ v. v.items) e.0 ∙ nodes) in
-    let marks : h.owned.items ≡ set (replicate n false) root true = ap (λ f. f.owned.items) same ∙ (o.1 ∙ ap (λ xs. set xs root true) owned) in
-    let free : h.avoided.items ≡ replicate n false = ap (λ f. f.avoided.items) same ∙ (ap (λ v. v.items) o.4 ∙ avoided) in
-    let one : h.left + 1 ≡ n = ap (λ f. f.left + 1) same ∙ (o.2 ∙ left) in
+    let items : h.nodes.items ≡ root ∷ [] = pushed ∙ ap (λ xs. xs ++ root ∷ []) (ap (λ v. v.items) e.nodes ∙ nodes) in
+    let marks : g.owned.items ≡ set (replicate n false) root true = o.owned ∙ ap (λ xs. set xs root true) owned in
+    let free : g.avoided.items ≡ replicate n false = ap (λ v. v.items) o.avoided ∙ avoided in
+    let one : g.left + 1 ≡ n = o.left ∙ left in
     let less = unowned_less (replicate n false) root (let l : length {A = Bool} (replicate n false) ≡ n = length-replicate n false in omega arith) (none_false n root) in
     let all = all_free n in
-    record {
-      taken = (λ k. ap (λ f. get by_key f.taken k) same
-          ∙ (o.0.0 k ∙ ap (λ c. cond (is_eq (by_key (key_of Root) k)) (Some root) c) (empty_get f.taken (is_at (by_key k)) taken)));
-      passed = (λ k. ap (λ f. get by_key f.passed k) same ∙ (ap (λ m. get by_key m k) o.3 ∙ empty_get f.passed (is_at (by_key k)) passed));
+    subst (λ h. Stands image h (begun image)) (sym same) (record {
+      taken = (λ k. o.taken.0 k ∙ ap (λ c. cond (is_eq (by_key (key_of Root) k)) (Some root) c) (empty_get f.taken (is_at (by_key k)) taken));
+      passed = (λ k. ap (λ m. get by_key m k) o.passed ∙ empty_get f.passed (is_at (by_key k)) passed);
       owned = subst (λ xs. (length xs ≡ n) × ((b : ℕ) → b < n → slice_index_or xs b false ≡ owns ((Root, root) ∷ []) b)) (sym marks)
           (marked_more n (replicate n false) [] Root root (length-replicate n false, (λ b l. none_false n b)));
       avoided = subst (λ xs. (length xs ≡ n) × ((b : ℕ) → b < n → slice_index_or xs b false ≡ false)) (sym free)
           (length-replicate n false, (λ b l. none_false n b));
-      left = (let z : h.left ≡ unowned (set (replicate n false) root true) = omega arith in z ∙ ap unowned (sym marks));
+      left = (let z : g.left ≡ unowned (set (replicate n false) root true) = omega arith in z ∙ ap unowned (sym marks));
       node = (λ m. ap (λ xs. slice_index xs m) items ∙ one_node root m);
       count = ap length items;
       few = (let l : length h.nodes.items ≡ 1 = ap length items in omega arith);
-      ext = (λ m. ap (λ f. unwrap_or (get nat_cmp f.exts m) 0) same
-          ∙ (ap (λ x. unwrap_or (get nat_cmp x m) 0) e.2 ∙ ap (λ c. unwrap_or c 0) (empty_get f.exts (is_at (nat_cmp m)) exts)));
-      name = (λ q. ap (λ f. get by_name f.names q) same ∙ (ap (λ x. get by_name x q) e.1 ∙ empty_get f.names (is_at (by_name q)) names));
-      findings = ap (λ f. map told f.findings.items) same ∙ (ap (λ v. map told v.items) o.5 ∙ ap (map told) findings);
-      parent = (λ m. ap (λ f. slice_index f.parents.items m) same
-          ∙ (ap (λ v. slice_index v.items m) e.3 ∙ (ap (λ xs. slice_index xs m) parents ∙ no_parent m)));
-      parents = ap (λ f. length f.parents.items) same ∙ (ap (λ v. length v.items) e.3 ∙ ap length parents);
-    }
+      ext = (λ m. ap (λ x. unwrap_or (get nat_cmp x m) 0) e.exts ∙ ap (λ c. unwrap_or c 0) (empty_get f.exts (is_at (nat_cmp m)) exts));
+      name = (λ q. ap (λ x. get by_name x q) e.names ∙ empty_get f.names (is_at (by_name q)) names);
+      findings = ap (λ v. map told v.items) o.findings ∙ ap (map told) findings;
+      parent = (λ m. ap (λ v. slice_index v.items m) e.parents ∙ (ap (λ xs. slice_index xs m) parents ∙ no_parent m));
+      parents = ap (λ v. length v.items) e.parents ∙ ap length parents;
+    })
 
 -- what the root alone asks for
 module _ (image : List ℕ) where

@@ -1,6 +1,6 @@
 -- A course is gone on with: the least part that is asked for is left, passed over or taken.
 use Rattle.std.specs.Prelude.{Bool, true, false, cond, is_some, IsSome, ◌||◌, Option, Some, None, slice_index}
-use Rattle.std.proofs.Common.{◌≡◌, ℕ, zero, suc, List, [], ◌∷◌, inl, inr, ◌+◌, ◌-◌, ◌*◌, ◌/◌, ◌<◌, ◌≤◌, refl, sym, subst, ap, ◌∙◌, arith}
+use Rattle.std.proofs.Common.{◌≡◌, ℕ, zero, suc, length, List, [], ◌∷◌, inl, inr, ◌+◌, ◌-◌, ◌*◌, ◌/◌, ◌<◌, ◌≤◌, refl, sym, subst, ap, ◌∙◌, arith}
 use Rattle.std.specs.Ordering.{is_eq, is_gt}
 use Rattle.std.specs.BTreeMap.{BTreeMap, IsLowerBound, Updates, get}
 use Rattle.std.proofs.lemmas.Bool.{cases_Bool}
@@ -9,12 +9,12 @@ use Rattle.adf_blocks.specs.declared.layout.TheConstants.{EXTENSION, FIRST_POINT
 use Rattle.adf_blocks.specs.Sizes.{blocks, pages_needed}
 use Rattle.adf_volume.specs.Image.{word_in}
 use Rattle.adf_volume.specs.Walk.{Role, Before, Same, Has, Asks, Lacks, DirAt, FileAt, MemberAt, heads, node_block}
-use Rattle.adf_volume.specs.Walk.Role.{Root, Page, MapExt, Head, Ext, Data}
+use Rattle.adf_volume.specs.Walk.Role.{Root, Head, Ext, Data}
 use Rattle.adf_volume.proofs.Gathered.{IsGathered, asked_file, ext_counted, head_block, next_ext}
 use Rattle.adf_volume.proofs.Roles.{asks_number, head_at, renumbered, renumbered_same, typed_up}
 use Rattle.adf_survey.specs.declared.part.Part.{Part}
-use Rattle.adf_survey.specs.declared.part.Part.TheVariants.{Root as RootPart, Page as PagePart, MapExt as MapExtPart, Head as HeadPart}
-use Rattle.adf_survey.specs.declared.part.Part.TheVariants.{Ext as ExtPart, Data as DataPart}
+use Rattle.adf_survey.specs.declared.part.Part.TheVariants.{MapExt as MapExtPart, Head as HeadPart}
+use Rattle.adf_survey.specs.declared.part.Part.TheVariants.{Ext as ExtPart}
 use Rattle.adf_survey.specs.declared.part.Key.{Key}
 use Rattle.adf_survey.specs.declared.asked.Ask.{Ask}
 use Rattle.adf_survey.specs.declared.found.Found.{Found}
@@ -22,11 +22,11 @@ use Rattle.adf_survey.specs.Survey.{Course, IsCourse}
 use Rattle.adf_survey.specs.Parts.{by_key, key_of, role_of}
 use Rattle.adf_survey.specs.Asked.{AddsAsked, AllAsked, Allows, HasKey, HasRoom, IsAsk, Keeps, NewAsk, reach}
 use Rattle.adf_survey.specs.Found.{IsTaken, Stands, around_in, at_key}
-use Rattle.adf_survey.specs.Courses.{Holds, IsNextAsk, IsOnCourse, IsOutcome, role_asked}
+use Rattle.adf_survey.specs.Courses.{Holds, IsNextAsk, IsOnCourse, IsOutcome, IsPassedOver, IsToTake, role_asked}
 use Rattle.adf_survey.proofs.AsksSplit.{asks_more, asks_split, header_of}
 use Rattle.adf_survey.proofs.Asking.{one_key, same_key}
 use Rattle.adf_survey.proofs.OneSurvey.{gathered}
-use Rattle.adf_survey.proofs.Taking.{IsNumbered, stands_taken}
+use Rattle.adf_survey.proofs.Taking.{IsNumbered, stands_taken, unowned_less}
 
 key_same : (r q : Role) → Same r q → key_of r ≡ key_of q
 key_same r q e = λ i. record { first = e.0 i; second = e.1 i; third = e.2 i }
@@ -65,18 +65,17 @@ none_of (Some x) e = cc
 -- a part that comes next has the next number of its kind
 pub numbered : (image : List ℕ) (w : List (Role × ℕ)) → IsGathered image w → (r : Role) (a i : ℕ) → Asks image w r a i → Lacks w r → IsNumbered w r
 numbered image w v Root a i h l = absurd h
-numbered image w v (Page k) a i h l = tt
-numbered image w v (MapExt j) a i h l = tt
 numbered image w v (Head n p s j) a i h l = asks_number image w n p s j a i h
 numbered image w v (Ext n k) a i h l = next_ext image w v n k a i h l (ext_counted image v n)
-numbered image w v (Data n k) a i h l = tt
+numbered image w v _ a i h l = tt
+
+-- in any course in which the ask is next, this comes of it
+abbrev AsJudged : List ℕ → Ask → Found → Found → Option Part → Type 0
+AsJudged image x f g o = (s : Course) → IsCourse image s → Stands image f s → IsNextAsk image s x → IsOutcome image s x f g o
 
 module _ (image : List ℕ) (f : Found) (parts rest : BTreeMap Key Ask) (s : Course) (hold : Holds image f parts s) (key : Key) (x : Ask)
     (value : get by_key parts key ≡ Some x) (updates : Updates by_key parts rest key None) where
-  abbrev most : ℕ
-  most = blocks image - f.left
-
-  ask : IsAsk image s.walk most key x
+  ask : IsAsk image s.walk (blocks image - f.left) key x
   ask = hold.asked key x value
 
   abbrev role : Role
@@ -103,7 +102,7 @@ module _ (image : List ℕ) (f : Found) (parts rest : BTreeMap Key Ask) (s : Cou
   settled t = record {
     course = hold.course;
     stands = hold.stands;
-    asked = fewer s.walk most hold.asked;
+    asked = fewer s.walk (blocks image - f.left) hold.asked;
     whole = (λ q a i h lack over. kept (key_of q) (hold.whole q a i h lack over) (λ e.
         let one : get by_key f.taken key ≡ None = hold.stands.taken key ∙ (ap (at_key s.walk) e ∙ at_lacks s.walk q lack) in
         let two : get by_key f.passed key ≡ None = hold.stands.passed key ∙ (ap (at_key s.passed_over) e ∙ at_lacks s.passed_over q over) in
@@ -111,7 +110,7 @@ module _ (image : List ℕ) (f : Found) (parts rest : BTreeMap Key Ask) (s : Cou
   }
 
   -- else it is next
-  pub is_next : (is_some (get by_key f.taken key) || is_some (get by_key f.passed key)) ≡ false → IsLowerBound by_key parts key → IsNextAsk image s x
+  is_next : (is_some (get by_key f.taken key) || is_some (get by_key f.passed key)) ≡ false → IsLowerBound by_key parts key → IsNextAsk image s x
   is_next t least =
       let one : is_some (get by_key f.taken key) ≡ false = grind arith in
       let two : is_some (get by_key f.passed key) ≡ false = grind arith in (
@@ -129,37 +128,33 @@ module _ (image : List ℕ) (f : Found) (parts rest : BTreeMap Key Ask) (s : Cou
       )
 
   -- a part that is passed over is asked for no more
-  pub passed_on : (g : Found) → IsOutcome image s x f g None → IsOnCourse image g rest
-  passed_on g o = (
-    _,
-    record {
-      course = o.1.0;
-      stands = o.1.1;
-      asked = subst (λ l. AllAsked image s.walk (blocks image - l) rest) (sym o.1.2) (fewer s.walk most hold.asked);
-      whole = (λ q a i h lack over. kept (key_of q) (hold.whole q a i h lack (λ z c m. over z c (inr m)))
-          (λ e. over role x.block (inl (refl, refl)) (same_of_key role q (sym key_is ∙ e))));
-    },
-  )
+  pub passed_on : (is_some (get by_key f.taken key) || is_some (get by_key f.passed key)) ≡ false → IsLowerBound by_key parts key
+      → (g : Found) (old : Option Part) → AsJudged image x f g old → old ≡ None → IsOnCourse image g rest × (g.left ≡ f.left)
+  passed_on t least g old judged is =
+      let o : IsPassedOver image s x f g = subst (IsOutcome image s x f g) is (judged s hold.course hold.stands (is_next t least)) in (
+        (
+          _,
+          record {
+            course = o.course;
+            stands = o.stands;
+            asked = subst (λ l. AllAsked image s.walk (blocks image - l) rest) (sym o.left) (fewer s.walk (blocks image - f.left) hold.asked);
+            whole = (λ q a i h lack over. kept (key_of q) (hold.whole q a i h lack (λ z c m. over z c (inr m)))
+                (λ e. over role x.block (inl (refl, refl)) (same_of_key role q (sym key_is ∙ e))));
+          },
+        ),
+        o.left,
+      )
 
-module _ (image : List ℕ) (w : List (Role × ℕ)) (v : IsGathered image w) (part : Part) (a i b : ℕ) (asked : Asks image w (role_of part) a i)
-    (num : IsNumbered w (role_of part)) (m : ℕ) (far : reach (role_of part) ≤ m) (f : Found) (node : (n : ℕ) → slice_index f.nodes.items n ≡ node_block w n)
-  where
-    abbrev now : List (Role × ℕ)
-    now = (role_of part, b) ∷ w
-
-    dir_at : (n k p s j : ℕ) → n ≡ suc k → Has now (Head n p s j) b → word_in image b SECONDARY_TYPE ≡ ST_DIR → DirAt image now n b
-    dir_at n k p s j e h t =
-        subst (λ n. Has now (Head n p s j) b → DirAt image now n b) (sym e) (λ h. record { header = head_at (suc k) p s j b h; type = t }) h
+dir_at : (image : List ℕ) (w : List (Role × ℕ)) (n k p s j b : ℕ) → n ≡ suc k → Has w (Head n p s j) b → word_in image b SECONDARY_TYPE ≡ ST_DIR
+    → DirAt image w n b
+dir_at image w n k p s j b e h t =
+    subst (λ n. Has w (Head n p s j) b → DirAt image w n b) (sym e) (λ h. record { header = head_at (suc k) p s j b h; type = t }) h
 
 -- what a part names is asked for, once it is taken
 new_asked : (image : List ℕ) (w : List (Role × ℕ)) (f : Found) (part : Part) (b : ℕ) (k : Key) → ((n : ℕ) → slice_index f.nodes.items n ≡ node_block w n)
     → NewAsk image (role_of part) b (header_of w (role_of part)) k → NewAsk image (role_of part) b (around_in image f part).up k
 new_asked image w f (ExtPart n m) b k node h = subst (λ u. NewAsk image (Ext n m) b u k) (sym (node n)) h
-new_asked image w f (HeadPart n p s j) b k node h = h
-new_asked image w f (MapExtPart j) b k node h = h
-new_asked image w f RootPart b k node h = h
-new_asked image w f (PagePart i) b k node h = h
-new_asked image w f (DataPart n m) b k node h = h
+new_asked image w f _ b k node h = h
 
 ext_allows : (image : List ℕ) (w : List (Role × ℕ)) → IsGathered image w → (n m a i b most up : ℕ) → Asks image w (Ext n m) a i → m + 1 ≤ most
     → up ≡ node_block w n → Allows image ((Ext n m, b) ∷ w) most (ExtPart n m) b up
@@ -185,78 +180,84 @@ allows : (image : List ℕ) (w : List (Role × ℕ)) → IsGathered image w → 
 allows image w v f (HeadPart n p s j) a i b most h num le node = (
   inl (refl, refl),
   le,
-  (λ t. dir_at image w v (HeadPart n p s j) a i b h num j (omega arith) f node n (heads w) p s j num (inl (refl, refl)) t),
+  dir_at image ((Head n p s j, b) ∷ w) n (heads w) p s j b num (inl (refl, refl)),
   (λ t. record { header = head_at n p s j b (inl (refl, refl)); type = t }),
 )
 allows image w v f (ExtPart n m) a i b most h num le node = ext_allows image w v n m a i b most (slice_index f.nodes.items n) h le (node n)
 allows image w v f (MapExtPart j) a i b most h num le node = inl (refl, refl)
-allows image w v f RootPart a i b most h num le node = tt
-allows image w v f (PagePart k) a i b most h num le node = tt
-allows image w v f (DataPart n m) a i b most h num le node = tt
+allows image w v f _ a i b most h num le node = tt
 
 -- the numbers of what is asked for can grow
 pub has_room : (image : List ℕ) (w : List (Role × ℕ)) (part : Part) (a i most : ℕ) → Asks image w (role_of part) a i → reach (role_of part) ≤ most
     → most < 16777216 → HasRoom image part
 has_room image w (MapExtPart zero) a i most h le lt = let few : ROOT_PAGES < pages_needed (blocks image) = h.0 in omega arith
 has_room image w (MapExtPart (suc j)) a i most h le lt = h.0
-has_room image w (HeadPart n p s j) a i most h le lt = omega arith
-has_room image w (ExtPart n m) a i most h le lt = omega arith
-has_room image w RootPart a i most h le lt = omega arith
-has_room image w (PagePart k) a i most h le lt = omega arith
-has_room image w (DataPart n m) a i most h le lt = omega arith
+has_room image w _ a i most h le lt = omega arith
+
+reach_same : (k : ℕ) (r : Role) → reach (renumbered k r) ≡ reach r
+reach_same k (Head m p t j) = refl
+reach_same k _ = refl
 
 module _ (image : List ℕ) (f : Found) (parts rest : BTreeMap Key Ask) (s : Course) (hold : Holds image f parts s) (key : Key) (x : Ask)
-    (value : get by_key parts key ≡ Some x) (updates : Updates by_key parts rest key None) (n : IsNextAsk image s x) (g : Found) (part : Part)
-    (o : IsOutcome image s x f g (Some part)) where
-  abbrev at_first : ℕ
-  at_first = blocks image - f.left
-
+    (value : get by_key parts key ≡ Some x) (updates : Updates by_key parts rest key None)
+    (unsettled : (is_some (get by_key f.taken key) || is_some (get by_key f.passed key)) ≡ false) (least : IsLowerBound by_key parts key)
+    (g : Found) (old : Option Part) (judged : AsJudged image x f g old) (part : Part) (is : old ≡ Some part) where
   v : IsGathered image s.walk
   v = gathered image hold.course
 
+  n : IsNextAsk image s x
+  n = is_next image f parts rest s hold key x value updates unsettled least
+
+  o : IsToTake image s x f g part
+  o = subst (IsOutcome image s x f g) is (judged s hold.course hold.stands n)
+
   part_asked : Asks image s.walk (role_of part) x.holder n.0
-  part_asked = subst (λ r. Asks image s.walk r x.holder n.0) (sym o.1) n.1.asked
+  part_asked = subst (λ r. Asks image s.walk r x.holder n.0) (sym o.role) n.1.asked
 
   part_numbered : IsNumbered s.walk (role_of part)
-  part_numbered = subst (IsNumbered s.walk) (sym o.1) (numbered image s.walk v (role_asked s x) x.holder n.0 n.1.asked n.1.lacks)
+  part_numbered = subst (IsNumbered s.walk) (sym o.role) (numbered image s.walk v (role_asked s x) x.holder n.0 n.1.asked n.1.lacks)
 
-  reach_same : (k : ℕ) (r : Role) → reach (renumbered k r) ≡ reach r
-  reach_same k (Head m p t j) = refl
-  reach_same k Root = refl
-  reach_same k (Page i) = refl
-  reach_same k (MapExt j) = refl
-  reach_same k (Ext m i) = refl
-  reach_same k (Data m i) = refl
-
-  pub part_far : reach (role_of part) ≤ at_first
+  part_far : reach (role_of part) ≤ blocks image - f.left
   part_far =
-      let e : reach (role_of part) ≡ reach (role_of x.part) = ap reach o.1 ∙ reach_same (suc (heads s.walk)) (role_of x.part) in
-      let l : reach (role_of x.part) ≤ at_first = (hold.asked key x value).word.1.1 in
+      let e : reach (role_of part) ≡ reach (role_of x.part) = ap reach o.role ∙ reach_same (suc (heads s.walk)) (role_of x.part) in
+      let l : reach (role_of x.part) ≤ blocks image - f.left = (hold.asked key x value).word.1.1 in
       omega arith
 
-  pub part_room : blocks image ≤ 1048576 → HasRoom image part
-  part_room few = has_room image s.walk part x.holder n.0 at_first part_asked part_far (omega arith)
+  pub part_inside : x.block < blocks image
+  part_inside = o.inside
 
-  abbrev walk_now : List (Role × ℕ)
-  walk_now = (role_of part, x.block) ∷ s.walk
+  pub part_marked : length g.owned.items ≡ blocks image
+  part_marked = o.stands.owned.0
+
+  pub part_left : 1 ≤ g.left
+  part_left =
+      let marks = part_marked in
+      let less = unowned_less g.owned.items x.block (let l = o.inside in omega arith) (o.stands.owned.1 x.block o.inside ∙ o.free) in
+      omega (arith, o.stands.left)
+
+  pub part_room : blocks image ≤ 1048576 → HasRoom image part
+  part_room few = has_room image s.walk part x.holder n.0 (blocks image - f.left) part_asked part_far (omega arith)
+
+  pub taken_less : (h : Found) → IsTaken image part x.block g h → h.left + 1 ≡ f.left
+  taken_less h taken = taken.owned.left ∙ o.left
 
   -- the part is taken, and what it names is asked for
-  pub taken_on : (h : Found) (more : BTreeMap Key Ask) → f.left ≤ blocks image → IsTaken image part x.block g h → Keeps rest more
+  pub taken_on : (h : Found) (more : BTreeMap Key Ask) → IsTaken image part x.block g h → Keeps rest more
       → ((k : Key) → NewAsk image (role_of part) x.block (around_in image g part).up k → HasKey more k)
       → ((w : List (Role × ℕ)) (m : ℕ) → Allows image w m part x.block (around_in image g part).up → AddsAsked image w m rest more) → IsOnCourse image h more
-  taken_on h more le taken keeps has adds =
-      let gs : Stands image g (record { walk = s.walk; passed_over = s.passed_over; findings = o.0 }) = o.5 in
-      let fs : Course = record { walk = s.walk; passed_over = s.passed_over; findings = o.0 } in
-      let left : g.left ≡ f.left = o.6 in
-      let less : h.left + 1 ≡ g.left = taken.0.2 in
+  taken_on h more taken keeps has adds =
+      let now : Course = record { walk = s.walk; passed_over = s.passed_over; findings = o.findings } in
+      let less : h.left + 1 ≡ f.left = taken_less h taken in
+      let few = hold.stands.few in
+      let count = hold.stands.count in
       let most : ℕ = blocks image - h.left in (
-        record { walk = walk_now; passed_over = s.passed_over; findings = o.0 },
+        record { walk = (role_of part, x.block) ∷ s.walk; passed_over = s.passed_over; findings = o.findings },
         record {
-          course = subst (λ r. IsCourse image (record { walk = (r, x.block) ∷ s.walk; passed_over = s.passed_over; findings = o.0 })) (sym o.1) o.4;
-          stands = stands_taken image g h fs x.block gs part part_numbered o.2 o.3 taken;
-          asked = adds walk_now most
-              (allows image s.walk v g part x.holder n.0 x.block most part_asked part_numbered (let l = part_far in omega arith) gs.node)
-              (λ k y e. let z = fewer image f parts rest s hold key x value updates s.walk at_first hold.asked k y e in
+          course = subst (λ r. IsCourse image (record { walk = (r, x.block) ∷ s.walk; passed_over = s.passed_over; findings = o.findings })) (sym o.role) o.course;
+          stands = stands_taken image g h now x.block o.stands part part_numbered o.inside o.free taken;
+          asked = adds ((role_of part, x.block) ∷ s.walk) most
+              (allows image s.walk v g part x.holder n.0 x.block most part_asked part_numbered (let l = part_far in omega arith) o.stands.node)
+              (λ k y e. let z = fewer image f parts rest s hold key x value updates s.walk (blocks image - f.left) hold.asked k y e in
               record {
                 key = z.key;
                 word = (
@@ -274,8 +275,8 @@ module _ (image : List ℕ) (f : Found) (parts rest : BTreeMap Key Ask) (s : Cou
                     (kept image f parts rest s hold key x value updates (key_of y.0)
                     (hold.whole y.0 a i y.1 (λ z c m t. lack z c (inr m) (same_on z y.0 q t y.2)) (λ z c m t. over z c m (same_on z y.0 q t y.2)))
                     (λ e. lack (role_of part) x.block (inl (refl, refl))
-                    (same_of_key (role_of part) q (ap key_of o.1 ∙ (sym (key_is image f parts rest s hold key x value updates) ∙ (e ∙ y.2)))))))
-                | inr y ↦ has (key_of q) (new_asked image s.walk g part x.block (key_of q) gs.node y)
+                    (same_of_key (role_of part) q (ap key_of o.role ∙ (sym (key_is image f parts rest s hold key x value updates) ∙ (e ∙ y.2)))))))
+                | inr y ↦ has (key_of q) (new_asked image s.walk g part x.block (key_of q) o.stands.node y)
               ]);
         },
       )

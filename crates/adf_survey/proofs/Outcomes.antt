@@ -42,7 +42,15 @@ module _ (image : List ℕ) (f : Found) (s : Course) (x : Ask) (v : IsCourse ima
       → meant j ≡ judged_by (first_failing image part x.holder x.block facts) (keeps image part x.block facts) → IsOutcome image s x f f (Some part)
   clean_outcome j is_clean e =
       let h = judgement Clean (sym (ap meant is_clean) ∙ e) in
-      (s.findings, is, h.1.0.1, no_owner s.walk x.block h.1.1.0, stepped clean h, st, refl)
+      record {
+        role = is;
+        inside = h.1.0.1;
+        free = no_owner s.walk x.block h.1.1.0;
+        findings = s.findings;
+        course = stepped clean h;
+        stands = st;
+        left = refl;
+      }
 
   -- the finding of the part
   told_is : (at : ℕ) (c : Cause) → s.findings ++ told (record { part = Some part; block = at; cause = c }) ∷ [] ≡ s.findings ++ finding (Some role) at c ∷ []
@@ -60,15 +68,16 @@ module _ (image : List ℕ) (f : Found) (s : Course) (x : Ask) (v : IsCourse ima
       → IsOutcome image s x f g (Some part)
   noted_outcome j g at c y is_noted one e h =
       let k = subst (λ y. IsNoted y f g) one h in
-      let d = judgement (Noted at c) (sym (ap meant is_noted) ∙ e) in (
-        s.findings ++ finding (Some role) at c ∷ [],
-        is,
-        (d.1.1.0 (keeps_range role)).1,
-        no_owner s.walk x.block (d.1.1.1.0 (keeps_taken role)),
-        stepped (noted at c) d,
-        noted_stands g at c k,
-        k.3,
-      )
+      let d = judgement (Noted at c) (sym (ap meant is_noted) ∙ e) in
+      record {
+        role = is;
+        inside = (d.1.1.0 (keeps_range role)).1;
+        free = no_owner s.walk x.block (d.1.1.1.0 (keeps_taken role));
+        findings = s.findings ++ finding (Some role) at c ∷ [];
+        course = stepped (noted at c) d;
+        stands = noted_stands g at c k;
+        left = ap (λ f. f.left) k.rest;
+      }
 
   pub passed_outcome : (j : FoundJudgement) (g h : Found) (at : ℕ) (c : Cause) (y : FoundFinding) → j ≡ Passed at c
       → y ≡ record { part = Some part; block = at; cause = c }
@@ -78,12 +87,11 @@ module _ (image : List ℕ) (f : Found) (s : Course) (x : Ask) (v : IsCourse ima
       let k = subst (λ y. IsNoted y f g) one made in
       let d = judgement (Passed at c) (sym (ap meant is_passed) ∙ e) in
       let fs : List Finding = s.findings ++ finding (Some role) at c ∷ [] in
-      let t : Course = record { walk = s.walk; passed_over = s.passed_over; findings = fs } in (
-        fs,
-        (
-          stepped (passed at c) d,
-          subst (λ r. Stands image h (record { walk = s.walk; passed_over = (r, x.block) ∷ s.passed_over; findings = fs })) is
-              (stands_passed image g h t x.block (noted_stands g at c k) part over),
-          over.4 ∙ k.3,
-        ),
-      )
+      let t : Course = record { walk = s.walk; passed_over = s.passed_over; findings = fs } in
+      record {
+        findings = fs;
+        course = stepped (passed at c) d;
+        stands = subst (λ r. Stands image h (record { walk = s.walk; passed_over = (r, x.block) ∷ s.passed_over; findings = fs })) is
+            (stands_passed image g h t x.block (noted_stands g at c k) part over);
+        left = ap (λ f. f.left) over.rest ∙ ap (λ f. f.left) k.rest;
+      }

@@ -1,6 +1,6 @@
 -- What is found, as parts are taken and passed over.
 use Rattle.std.specs.Prelude.{Bool, true, false, cond, ◌==◌, Some, map, slice_index, slice_index_or}
-use Rattle.std.proofs.Common.{◌≡◌, ℕ, zero, suc, List, [], ◌∷◌, ◌++◌, length, set, inl, inr, ◌+◌, ◌<◌, ◌≤◌, refl, sym, subst, ap, ◌∙◌, arith, length-set}
+use Rattle.std.proofs.Common.{◌≡◌, ℕ, zero, suc, List, [], ◌∷◌, ◌++◌, length, set, inl, inr, ◌<◌, ◌≤◌, refl, sym, subst, ap, ◌∙◌, arith, length-set}
 use Rattle.std.proofs.Common.{get_or-set_same, get_or-set_other}
 use Rattle.std.specs.Option.{unwrap_or}
 use Rattle.std.specs.Ordering.{is_eq, nat_cmp}
@@ -18,36 +18,32 @@ use Rattle.adf_survey.specs.declared.part.Finding.{Finding as FoundFinding}
 use Rattle.adf_survey.specs.declared.part.Key.{Key}
 use Rattle.adf_survey.specs.declared.found.Found.{Found}
 use Rattle.adf_survey.specs.declared.found.ChainName.{ChainName}
-use Rattle.adf_survey.specs.Survey.{Course}
+use Rattle.adf_survey.specs.Survey.{Course, Finding}
 use Rattle.adf_survey.specs.Parts.{by_key, key_of, role_of, told}
 use Rattle.adf_survey.specs.Found.{AreMarked, AreNamed, AreSame, IsKept, IsNoted, IsOwned, IsPassed, IsTaken, KeepsParts, Stands, at_key, by_name, exts_found}
 use Rattle.adf_survey.specs.Found.{is_named, owns, parent_by, parent_node, unowned}
 
 kept_more : (image : List ℕ) (part : Part) (b : ℕ) (f g h : Found) → IsKept image part b f g → AreSame g h → IsKept image part b f h
-kept_more image (HeadPart n p s j) b f g h k e = (
-  ap (λ v. v.items) e.0 ∙ k.0,
-  (λ q. ap (λ m. get by_name m q) e.1 ∙ k.1 q),
-  e.2 ∙ k.2,
-  ap (λ v. v.items) e.3 ∙ k.3,
-)
-kept_more image (ExtPart n i) b f g h k e = (e.0 ∙ k.0, e.1 ∙ k.1, subst (λ m. Updates nat_cmp f.exts m n (Some i)) (sym e.2) k.2, e.3 ∙ k.3)
-kept_more image RootPart b f g h k e = (e.0 ∙ k.0, e.1 ∙ k.1, e.2 ∙ k.2, e.3 ∙ k.3)
-kept_more image (PagePart i) b f g h k e = (e.0 ∙ k.0, e.1 ∙ k.1, e.2 ∙ k.2, e.3 ∙ k.3)
-kept_more image (MapExtPart j) b f g h k e = (e.0 ∙ k.0, e.1 ∙ k.1, e.2 ∙ k.2, e.3 ∙ k.3)
-kept_more image (DataPart n i) b f g h k e = (e.0 ∙ k.0, e.1 ∙ k.1, e.2 ∙ k.2, e.3 ∙ k.3)
+kept_more image (HeadPart n p s j) b f g h k e = record {
+  nodes = ap (λ v. v.items) e.nodes ∙ k.nodes;
+  names = (λ q. ap (λ m. get by_name m q) e.names ∙ k.names q);
+  exts = e.exts ∙ k.exts;
+  parents = ap (λ v. v.items) e.parents ∙ k.parents;
+}
+kept_more image (ExtPart n i) b f g h k e = record {
+  nodes = e.nodes ∙ k.nodes;
+  names = e.names ∙ k.names;
+  exts = subst (λ m. Updates nat_cmp f.exts m n (Some i)) (sym e.exts) k.exts;
+  parents = e.parents ∙ k.parents;
+}
+kept_more image _ b f g h k e = record { nodes = e.nodes ∙ k.nodes; names = e.names ∙ k.names; exts = e.exts ∙ k.exts; parents = e.parents ∙ k.parents }
 
 pub taken_last : (image : List ℕ) (part : Part) (b : ℕ) (f g h : Found) → IsKept image part b f g → KeepsParts f g → IsOwned part b g h → AreSame g h
     → IsTaken image part b f h
 taken_last image part b f g h k p o e =
-    let owned : IsOwned part b f h = (
-      subst (λ m. Updates by_key m h.taken (key_of (role_of part)) (Some b)) p.0 o.0,
-      o.1 ∙ ap (λ v. set v.items b true) p.1,
-      o.2 ∙ p.2,
-      o.3 ∙ p.3,
-      o.4 ∙ p.4,
-      o.5 ∙ p.5,
-    ) in
-    (owned, kept_more image part b f g h k e)
+    let x = subst (λ g. IsOwned part b g h) p o in
+    let owned : IsOwned part b f h = record { taken = x.taken; owned = x.owned; left = x.left; passed = x.passed; avoided = x.avoided; findings = x.findings } in
+    record { owned = owned; kept = kept_more image part b f g h k e }
 
 at_more : (m n : BTreeMap Key ℕ) (w : List (Role × ℕ)) (r : Role) (b : ℕ) → ((k : Key) → get by_key m k ≡ at_key w k)
     → Updates by_key m n (key_of r) (Some b) → (k : Key) → get by_key n k ≡ at_key ((r, b) ∷ w) k
@@ -94,54 +90,58 @@ IsNumbered w _ = Unit {0}
 
 module _ (image : List ℕ) (f g : Found) (s : Course) (b : ℕ) (st : Stands image f s) where
   -- what of the walk is kept for later
-  abbrev IsLater : List (Role × ℕ) → Type 0
-  IsLater w =
-      ((n : ℕ) → slice_index g.nodes.items n ≡ node_block w n) × (length g.nodes.items ≡ suc (heads w)) × (length g.nodes.items ≤ suc (length f.nodes.items))
-      × ((n : ℕ) → exts_found g n ≡ ext_count w n) × AreNamed image w g.names × ((n : ℕ) → slice_index g.parents.items n ≡ parent_node w n)
-      × (length g.parents.items ≡ suc (heads w))
+  record IsLater (w : List (Role × ℕ)) : Type 0 where
+    node : (n : ℕ) → slice_index g.nodes.items n ≡ node_block w n
+    count : length g.nodes.items ≡ suc (heads w)
+    few : length g.nodes.items ≤ suc (length f.nodes.items)
+    ext : (n : ℕ) → exts_found g n ≡ ext_count w n
+    name : AreNamed image w g.names
+    parent : (n : ℕ) → slice_index g.parents.items n ≡ parent_node w n
+    parents : length g.parents.items ≡ suc (heads w)
 
   same_later : (r : Role) → ((m c : ℕ) → node_block_of m r b c ≡ c) → head_count r (heads s.walk) ≡ heads s.walk → ((m c : ℕ) → ext_count_of m r c ≡ c)
       → ((q : ChainName) → is_named image r b q.parent q.slot q.name.items ≡ false) → ((m c : ℕ) → parent_by m r c ≡ c) → AreSame f g
       → IsLater ((r, b) ∷ s.walk)
-  same_later r node head ext name parent e = (
-    (λ n. ap (λ v. slice_index v.items n) e.0 ∙ (st.node n ∙ sym (node n (node_block s.walk n)))),
-    ap (λ v. length v.items) e.0 ∙ (st.count ∙ ap suc (sym head)),
-    (let l = ap (λ v. length v.items) e.0 in omega arith),
-    (λ n. ap (λ m. unwrap_or (get nat_cmp m n) 0) e.2 ∙ (st.ext n ∙ sym (ext n (ext_count s.walk n)))),
-    (λ q. ap (λ m. get by_name m q) e.1 ∙ (st.name q ∙ sym (rw (name q) refl))),
-    (λ n. ap (λ v. slice_index v.items n) e.3 ∙ (st.parent n ∙ sym (parent n (parent_node s.walk n)))),
-    ap (λ v. length v.items) e.3 ∙ (st.parents ∙ ap suc (sym head)),
-  )
+  same_later r node head ext name parent e = record {
+    node = (λ n. ap (λ v. slice_index v.items n) e.nodes ∙ (st.node n ∙ sym (node n (node_block s.walk n))));
+    count = ap (λ v. length v.items) e.nodes ∙ (st.count ∙ ap suc (sym head));
+    few = (let l = ap (λ v. length v.items) e.nodes in omega arith);
+    ext = (λ n. ap (λ m. unwrap_or (get nat_cmp m n) 0) e.exts ∙ (st.ext n ∙ sym (ext n (ext_count s.walk n))));
+    name = (λ q. ap (λ m. get by_name m q) e.names ∙ (st.name q ∙ sym (rw (name q) refl)));
+    parent = (λ n. ap (λ v. slice_index v.items n) e.parents ∙ (st.parent n ∙ sym (parent n (parent_node s.walk n))));
+    parents = ap (λ v. length v.items) e.parents ∙ (st.parents ∙ ap suc (sym head));
+  }
 
   later : (part : Part) → IsNumbered s.walk (role_of part) → IsKept image part b f g → IsLater ((role_of part, b) ∷ s.walk)
   later (HeadPart n p t j) fit k =
       let c : length f.nodes.items ≡ suc (heads s.walk) = st.count in
       let e : length f.nodes.items ≡ n = c ∙ sym fit in
-      let d : length f.parents.items ≡ n = st.parents ∙ sym fit in (
-        (λ m. ap (λ v. slice_index v m) k.0 ∙ (node_snoc f.nodes.items b m ∙ (λ t. cond (m == e t) b (st.node m t)))),
-        (let l = ap length k.0 in omega (arith, snoc_length f.nodes.items b)),
-        (let l = ap length k.0 in omega (arith, snoc_length f.nodes.items b)),
-        (λ m. ap (λ x. unwrap_or (get nat_cmp x m) 0) k.2 ∙ st.ext m),
-        (λ q. k.1 q ∙ ap (λ o. cond (is_named image (Head n p t j) b q.parent q.slot q.name.items) (Some b) o) (st.name q)),
-        (λ m. ap (λ v. slice_index v m) k.3 ∙ (node_snoc f.parents.items p m ∙ (λ t. cond (m == d t) p (st.parent m t)))),
-        (let l = ap length k.3 in let g = fit in omega (arith, snoc_length f.parents.items p)),
-      )
-  later (ExtPart n i) fit k = (
-    (λ m. ap (λ v. slice_index v.items m) k.0 ∙ st.node m),
-    ap (λ v. length v.items) k.0 ∙ st.count,
-    (let l = ap (λ v. length v.items) k.0 in omega arith),
-    (λ m. elim (eqb_tells m n) [
+      let d : length f.parents.items ≡ n = st.parents ∙ sym fit in
+      record {
+        node = (λ m. ap (λ v. slice_index v m) k.nodes ∙ (node_snoc f.nodes.items b m ∙ (λ t. cond (m == e t) b (st.node m t))));
+        count = (let l = ap length k.nodes in omega (arith, snoc_length f.nodes.items b));
+        few = (let l = ap length k.nodes in omega (arith, snoc_length f.nodes.items b));
+        ext = (λ m. ap (λ x. unwrap_or (get nat_cmp x m) 0) k.exts ∙ st.ext m);
+        name = (λ q. k.names q ∙ ap (λ o. cond (is_named image (Head n p t j) b q.parent q.slot q.name.items) (Some b) o) (st.name q));
+        parent = (λ m. ap (λ v. slice_index v m) k.parents ∙ (node_snoc f.parents.items p m ∙ (λ t. cond (m == d t) p (st.parent m t))));
+        parents = (let l = ap length k.parents in let g = fit in omega (arith, snoc_length f.parents.items p));
+      }
+  later (ExtPart n i) fit k = record {
+    node = (λ m. ap (λ v. slice_index v.items m) k.nodes ∙ st.node m);
+    count = ap (λ v. length v.items) k.nodes ∙ st.count;
+    few = (let l = ap (λ v. length v.items) k.nodes in omega arith);
+    ext = (λ m. elim (eqb_tells m n) [
       | inl y ↦
           let one : is_eq (nat_cmp n m) ≡ true = (let e : m ≡ n = y.1 in grind (arith, nat_tests)) in
-          ap (λ o. unwrap_or o 0) (k.2.0 m) ∙ rw (y.0, one) (fit ∙ ap (λ m. suc (ext_count s.walk m)) (sym y.1))
+          ap (λ o. unwrap_or o 0) (k.exts.0 m) ∙ rw (y.0, one) (fit ∙ ap (λ m. suc (ext_count s.walk m)) (sym y.1))
       | inr y ↦
           let one : is_eq (nat_cmp n m) ≡ false = (let e : m ≡ n → ⊥ = y.1 in grind (arith, nat_tests)) in
-          ap (λ o. unwrap_or o 0) (k.2.0 m) ∙ rw (y.0, one) (st.ext m)
-    ]),
-    (λ q. ap (λ m. get by_name m q) k.1 ∙ st.name q),
-    (λ m. ap (λ v. slice_index v.items m) k.3 ∙ st.parent m),
-    ap (λ v. length v.items) k.3 ∙ st.parents,
-  )
+          ap (λ o. unwrap_or o 0) (k.exts.0 m) ∙ rw (y.0, one) (st.ext m)
+    ]);
+    name = (λ q. ap (λ m. get by_name m q) k.names ∙ st.name q);
+    parent = (λ m. ap (λ v. slice_index v.items m) k.parents ∙ st.parent m);
+    parents = ap (λ v. length v.items) k.parents ∙ st.parents;
+  }
   later RootPart fit k = absurd fit
   later (PagePart i) fit k = same_later (Page i) (λ m c. refl) refl (λ m c. refl) (λ q. refl) (λ m c. refl) k
   later (MapExtPart j) fit k = same_later (MapExt j) (λ m c. refl) refl (λ m c. refl) (λ q. refl) (λ m c. refl) k
@@ -151,65 +151,60 @@ module _ (image : List ℕ) (f g : Found) (s : Course) (b : ℕ) (st : Stands im
   pub stands_taken : (part : Part) → IsNumbered s.walk (role_of part) → b < blocks image → owns s.walk b ≡ false → IsTaken image part b f g
       → Stands image g (record { walk = (role_of part, b) ∷ s.walk; passed_over = s.passed_over; findings = s.findings })
   stands_taken part fit lt free t =
-      let o : IsOwned part b f g = t.0 in
-      let l = later part fit t.1 in
+      let o : IsOwned part b f g = t.owned in
+      let l = later part fit t.kept in
       let less = unowned_less f.owned.items b (let e = st.owned.0 in omega arith) (st.owned.1 b lt ∙ free) in
-      let left : g.left ≡ unowned (set f.owned.items b true) = (let e : g.left + 1 ≡ f.left = o.2 in let d = st.left in omega arith) in
+      let left : g.left ≡ unowned (set f.owned.items b true) = (let d = st.left in omega arith) in
       record {
-        taken = at_more f.taken g.taken s.walk (role_of part) b st.taken o.0;
-        passed = (λ k. ap (λ m. get by_key m k) o.3 ∙ st.passed k);
-        owned = subst (λ xs. AreMarked (blocks image) xs ((role_of part, b) ∷ s.walk)) (sym o.1)
+        taken = at_more f.taken g.taken s.walk (role_of part) b st.taken o.taken;
+        passed = (λ k. ap (λ m. get by_key m k) o.passed ∙ st.passed k);
+        owned = subst (λ xs. AreMarked (blocks image) xs ((role_of part, b) ∷ s.walk)) (sym o.owned)
             (marked_more (blocks image) f.owned.items s.walk (role_of part) b st.owned);
-        avoided = subst (λ v. AreMarked (blocks image) v.items s.passed_over) (sym o.4) st.avoided;
-        left = left ∙ ap unowned (sym o.1);
-        node = l.0;
-        count = l.1;
-        few = (let e : g.left + 1 ≡ f.left = o.2 in let m : length g.nodes.items ≤ suc (length f.nodes.items) = l.2 in let d = st.few in omega arith);
-        ext = l.3;
-        name = l.4;
-        findings = ap (λ v. map told v.items) o.5 ∙ st.findings;
-        parent = l.5;
-        parents = l.6;
+        avoided = subst (λ v. AreMarked (blocks image) v.items s.passed_over) (sym o.avoided) st.avoided;
+        left = left ∙ ap unowned (sym o.owned);
+        node = l.node;
+        count = l.count;
+        few = (let m = l.few in let d = st.few in omega arith);
+        ext = l.ext;
+        name = l.name;
+        findings = ap (λ v. map told v.items) o.findings ∙ st.findings;
+        parent = l.parent;
+        parents = l.parents;
       }
 
-  same_few : AreSame f g → g.left ≡ f.left → length g.nodes.items + g.left ≤ suc (blocks image)
-  same_few e l = let m = ap (λ v. length v.items) e.0 in let d = st.few in omega arith
+  -- what is taken stays so, whatever is passed over and noted
+  stands_else : (over : List (Role × ℕ)) (fs : List Finding) → g ≡ record f { passed = g.passed; avoided = g.avoided; findings = g.findings }
+      → ((k : Key) → get by_key g.passed k ≡ at_key over k) → AreMarked (blocks image) g.avoided.items over → map told g.findings.items ≡ fs
+      → Stands image g (record { walk = s.walk; passed_over = over; findings = fs })
+  stands_else over fs rest passed avoided findings =
+      subst (λ h. Stands image h (record { walk = s.walk; passed_over = over; findings = fs })) (sym rest) (record {
+        taken = st.taken;
+        passed = passed;
+        owned = st.owned;
+        avoided = avoided;
+        left = st.left;
+        node = st.node;
+        count = st.count;
+        few = st.few;
+        ext = st.ext;
+        name = st.name;
+        findings = findings;
+        parent = st.parent;
+        parents = st.parents;
+      })
 
   -- a part is passed over
   pub stands_passed : (part : Part) → IsPassed part b f g
       → Stands image g (record { walk = s.walk; passed_over = (role_of part, b) ∷ s.passed_over; findings = s.findings })
-  stands_passed part t = record {
-    taken = (λ k. ap (λ m. get by_key m k) t.2 ∙ st.taken k);
-    passed = at_more f.passed g.passed s.passed_over (role_of part) b st.passed t.0;
-    owned = subst (λ v. AreMarked (blocks image) v.items s.walk) (sym t.3) st.owned;
-    avoided = subst (λ xs. AreMarked (blocks image) xs ((role_of part, b) ∷ s.passed_over)) (sym t.1)
-        (marked_more (blocks image) f.avoided.items s.passed_over (role_of part) b st.avoided);
-    left = t.4 ∙ (st.left ∙ ap (λ v. unowned v.items) (sym t.3));
-    node = (λ n. ap (λ v. slice_index v.items n) t.6.0 ∙ st.node n);
-    count = ap (λ v. length v.items) t.6.0 ∙ st.count;
-    few = same_few t.6 t.4;
-    ext = (λ n. ap (λ m. unwrap_or (get nat_cmp m n) 0) t.6.2 ∙ st.ext n);
-    name = (λ q. ap (λ m. get by_name m q) t.6.1 ∙ st.name q);
-    findings = ap (λ v. map told v.items) t.5 ∙ st.findings;
-    parent = (λ n. ap (λ v. slice_index v.items n) t.6.3 ∙ st.parent n);
-    parents = ap (λ v. length v.items) t.6.3 ∙ st.parents;
-  }
+  stands_passed part t =
+      stands_else ((role_of part, b) ∷ s.passed_over) s.findings t.rest (at_more f.passed g.passed s.passed_over (role_of part) b st.passed t.passed)
+      (subst (λ xs. AreMarked (blocks image) xs ((role_of part, b) ∷ s.passed_over)) (sym t.avoided)
+      (marked_more (blocks image) f.avoided.items s.passed_over (role_of part) b st.avoided)) (ap (λ v. map told v.items) t.findings ∙ st.findings)
 
   -- a finding is noted
   pub stands_noted : (x : FoundFinding) → IsNoted x f g
       → Stands image g (record { walk = s.walk; passed_over = s.passed_over; findings = s.findings ++ told x ∷ [] })
-  stands_noted x t = record {
-    taken = (λ k. ap (λ m. get by_key m k) t.1 ∙ st.taken k);
-    passed = (λ k. ap (λ m. get by_key m k) t.4 ∙ st.passed k);
-    owned = subst (λ v. AreMarked (blocks image) v.items s.walk) (sym t.2) st.owned;
-    avoided = subst (λ v. AreMarked (blocks image) v.items s.passed_over) (sym t.5) st.avoided;
-    left = t.3 ∙ (st.left ∙ ap (λ v. unowned v.items) (sym t.2));
-    node = (λ n. ap (λ v. slice_index v.items n) t.6.0 ∙ st.node n);
-    count = ap (λ v. length v.items) t.6.0 ∙ st.count;
-    few = same_few t.6 t.3;
-    ext = (λ n. ap (λ m. unwrap_or (get nat_cmp m n) 0) t.6.2 ∙ st.ext n);
-    name = (λ q. ap (λ m. get by_name m q) t.6.1 ∙ st.name q);
-    findings = ap (map told) t.0 ∙ (map-append told f.findings.items (x ∷ []) ∙ ap (λ fs. fs ++ told x ∷ []) st.findings);
-    parent = (λ n. ap (λ v. slice_index v.items n) t.6.3 ∙ st.parent n);
-    parents = ap (λ v. length v.items) t.6.3 ∙ st.parents;
-  }
+  stands_noted x t =
+      stands_else s.passed_over (s.findings ++ told x ∷ []) t.rest (λ k. ap (λ m. get by_key m k) t.passed ∙ st.passed k)
+      (subst (λ v. AreMarked (blocks image) v.items s.passed_over) (sym t.avoided) st.avoided)
+      (ap (map told) t.findings ∙ (map-append told f.findings.items (x ∷ []) ∙ ap (λ fs. fs ++ told x ∷ []) st.findings))

@@ -35,12 +35,24 @@ role_asked s x = renumbered (suc (heads s.walk)) (role_of x.part)
 abbrev pub IsNextAsk : List ℕ → Course → Ask → Type 0
 IsNextAsk image s x = (i : ℕ) × IsNext image s (role_asked s x) x.holder i × (word_in image x.holder i ≡ x.block)
 
--- the part was passed over; or it is to be taken
+-- the part was passed over
+pub record IsPassedOver (image : List ℕ) (s : Course) (x : Ask) (f g : Found) : Type 0 where
+  pub findings : List Finding
+  pub course : IsCourse image (record { walk = s.walk; passed_over = (role_asked s x, x.block) ∷ s.passed_over; findings = findings })
+  pub stands : Stands image g (record { walk = s.walk; passed_over = (role_asked s x, x.block) ∷ s.passed_over; findings = findings })
+  pub left : g.left ≡ f.left
+
+-- the part is to be taken
+pub record IsToTake (image : List ℕ) (s : Course) (x : Ask) (f g : Found) (part : Part) : Type 0 where
+  pub role : role_of part ≡ role_asked s x
+  pub inside : x.block < blocks image
+  pub free : owns s.walk x.block ≡ false
+  pub findings : List Finding
+  pub course : IsCourse image (record { walk = (role_asked s x, x.block) ∷ s.walk; passed_over = s.passed_over; findings = findings })
+  pub stands : Stands image g (record { walk = s.walk; passed_over = s.passed_over; findings = findings })
+  pub left : g.left ≡ f.left
+
+-- one of the two came of it
 abbrev pub IsOutcome : List ℕ → Course → Ask → Found → Found → Option Part → Type 0
-IsOutcome image s x f g None =
-    (fs : List Finding) × (let t : Course = record { walk = s.walk; passed_over = (role_asked s x, x.block) ∷ s.passed_over; findings = fs } in
-    IsCourse image t × Stands image g t × (g.left ≡ f.left))
-IsOutcome image s x f g (Some part) =
-    (fs : List Finding) × (role_of part ≡ role_asked s x) × (x.block < blocks image) × (owns s.walk x.block ≡ false)
-    × IsCourse image (record { walk = (role_asked s x, x.block) ∷ s.walk; passed_over = s.passed_over; findings = fs })
-    × Stands image g (record { walk = s.walk; passed_over = s.passed_over; findings = fs }) × (g.left ≡ f.left)
+IsOutcome image s x f g None = IsPassedOver image s x f g
+IsOutcome image s x f g (Some part) = IsToTake image s x f g part

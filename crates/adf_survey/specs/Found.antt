@@ -107,45 +107,63 @@ enough_in image f (DataPart n k) = not (k == 1) || nat_le (data_count image (sli
 enough_in image f _ = true
 
 -- the block is a part's
-abbrev pub IsOwned : Part → ℕ → Found → Found → Type 0
-IsOwned part b f g =
-    Updates by_key f.taken g.taken (key_of (role_of part)) (Some b) × (g.owned.items ≡ set f.owned.items b true) × (g.left + 1 ≡ f.left)
-    × (g.passed ≡ f.passed) × (g.avoided ≡ f.avoided) × (g.findings ≡ f.findings)
+pub record IsOwned (part : Part) (b : ℕ) (f g : Found) : Type 0 where
+  pub taken : Updates by_key f.taken g.taken (key_of (role_of part)) (Some b)
+  pub owned : g.owned.items ≡ set f.owned.items b true
+  pub left : g.left + 1 ≡ f.left
+  pub passed : g.passed ≡ f.passed
+  pub avoided : g.avoided ≡ f.avoided
+  pub findings : g.findings ≡ f.findings
 
 -- nodes, names, counts of extension blocks and parents are the same
-abbrev pub AreSame : Found → Found → Type 0
-AreSame f g = (g.nodes ≡ f.nodes) × (g.names ≡ f.names) × (g.exts ≡ f.exts) × (g.parents ≡ f.parents)
+pub record AreSame (f g : Found) : Type 0 where
+  pub nodes : g.nodes ≡ f.nodes
+  pub names : g.names ≡ f.names
+  pub exts : g.exts ≡ f.exts
+  pub parents : g.parents ≡ f.parents
+
+-- the node, the name and the directory of a header are kept
+pub record KeepsHead (image : List ℕ) (r : Role) (p b : ℕ) (f g : Found) : Type 0 where
+  pub nodes : g.nodes.items ≡ f.nodes.items ++ b ∷ []
+  pub names : (q : ChainName) → get by_name g.names q ≡ cond (is_named image r b q.parent q.slot q.name.items) (Some b) (get by_name f.names q)
+  pub exts : g.exts ≡ f.exts
+  pub parents : g.parents.items ≡ f.parents.items ++ p ∷ []
+
+-- the count of extension blocks of file n is kept
+pub record KeepsExt (n k : ℕ) (f g : Found) : Type 0 where
+  pub nodes : g.nodes ≡ f.nodes
+  pub names : g.names ≡ f.names
+  pub exts : Updates nat_cmp f.exts g.exts n (Some k)
+  pub parents : g.parents ≡ f.parents
 
 -- what is asked of headers and extension blocks later is kept of the part
 abbrev pub IsKept : List ℕ → Part → ℕ → Found → Found → Type 0
-IsKept image (HeadPart n p s j) b f g =
-    (g.nodes.items ≡ f.nodes.items ++ b ∷ [])
-    × ((q : ChainName) → get by_name g.names q
-    ≡ cond (is_named image (Head n p s j) b q.parent q.slot q.name.items) (Some b) (get by_name f.names q))
-    × (g.exts ≡ f.exts) × (g.parents.items ≡ f.parents.items ++ p ∷ [])
-IsKept image (ExtPart n k) b f g =
-    (g.nodes ≡ f.nodes) × (g.names ≡ f.names) × Updates nat_cmp f.exts g.exts n (Some k) × (g.parents ≡ f.parents)
+IsKept image (HeadPart n p s j) b f g = KeepsHead image (Head n p s j) p b f g
+IsKept image (ExtPart n k) b f g = KeepsExt n k f g
 IsKept image _ b f g = AreSame f g
 
 -- marks, keys and findings are the same
 abbrev pub KeepsParts : Found → Found → Type 0
-KeepsParts f g = (g.taken ≡ f.taken) × (g.owned ≡ f.owned) × (g.left ≡ f.left) × (g.passed ≡ f.passed) × (g.avoided ≡ f.avoided) × (g.findings ≡ f.findings)
+KeepsParts f g = g ≡ record f { nodes = g.nodes; exts = g.exts; names = g.names; parents = g.parents }
 
 -- the part is taken
-abbrev pub IsTaken : List ℕ → Part → ℕ → Found → Found → Type 0
-IsTaken image part b f g = IsOwned part b f g × IsKept image part b f g
+pub record IsTaken (image : List ℕ) (part : Part) (b : ℕ) (f g : Found) : Type 0 where
+  pub owned : IsOwned part b f g
+  pub kept : IsKept image part b f g
 
 -- the part is passed over
-abbrev pub IsPassed : Part → ℕ → Found → Found → Type 0
-IsPassed part b f g =
-    Updates by_key f.passed g.passed (key_of (role_of part)) (Some b) × (g.avoided.items ≡ set f.avoided.items b true) × (g.taken ≡ f.taken)
-    × (g.owned ≡ f.owned) × (g.left ≡ f.left) × (g.findings ≡ f.findings) × AreSame f g
+pub record IsPassed (part : Part) (b : ℕ) (f g : Found) : Type 0 where
+  pub passed : Updates by_key f.passed g.passed (key_of (role_of part)) (Some b)
+  pub avoided : g.avoided.items ≡ set f.avoided.items b true
+  pub findings : g.findings ≡ f.findings
+  pub rest : g ≡ record f { passed = g.passed; avoided = g.avoided; findings = g.findings }
 
 -- the finding is noted
-abbrev pub IsNoted : FoundFinding → Found → Found → Type 0
-IsNoted x f g =
-    (g.findings.items ≡ f.findings.items ++ x ∷ []) × (g.taken ≡ f.taken) × (g.owned ≡ f.owned) × (g.left ≡ f.left) × (g.passed ≡ f.passed)
-    × (g.avoided ≡ f.avoided) × AreSame f g
+pub record IsNoted (x : FoundFinding) (f g : Found) : Type 0 where
+  pub findings : g.findings.items ≡ f.findings.items ++ x ∷ []
+  pub passed : g.passed ≡ f.passed
+  pub avoided : g.avoided ≡ f.avoided
+  pub rest : g ≡ record f { passed = g.passed; avoided = g.avoided; findings = g.findings }
 
 -- what is found is what a course has
 pub record Stands (image : List ℕ) (f : Found) (s : Course) : Type 0 where
