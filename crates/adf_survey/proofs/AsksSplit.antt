@@ -119,16 +119,16 @@ module _ (image : List ℕ) (w : List (Role × ℕ)) (v : IsGathered image w) (r
 
   pub asks_split : (q : Role) (a i : ℕ) → Asks image ((r, b) ∷ w) q a i → Either q a i
   asks_split Root a i h = absurd h
-  asks_split (Page k) a i h = split_map k a i h.0 h.1
+  asks_split (Page k) a i (lt, names) = split_map k a i lt names
   asks_split (MapExt zero) a i h = inl (MapExt zero, h, refl)
-  asks_split (MapExt (suc j)) a i h = split_next_map j a i h.0 h.1 h.2
-  asks_split (Head n p s zero) a i h = split_slot n p s a i h.1 h.2 h.3 h.4
-  asks_split (Head n p s (suc j)) a i h = split_chain n h.1.0 p s j a i h.1.1 h.2 h.3
+  asks_split (MapExt (suc j)) a i (lt, has, ie) = split_next_map j a i lt has ie
+  asks_split (Head n p s zero) a i (x, ls, d, ie, ne) = split_slot n p s a i ls d ie ne
+  asks_split (Head n p s (suc j)) a i (x, (m, has), ie, ne) = split_chain n m p s j a i has ie ne
   asks_split (Ext n zero) a i h = absurd h
-  asks_split (Ext n (suc zero)) a i h = split_first_ext n a i h.0 h.1 h.2
-  asks_split (Ext n (suc (suc k))) a i h = split_ext n k a i h.0 h.1 h.2
+  asks_split (Ext n (suc zero)) a i (f, ie, ne) = split_first_ext n a i f ie ne
+  asks_split (Ext n (suc (suc k))) a i (has, ie, ne) = split_ext n k a i has ie ne
   asks_split (Data n zero) a i h = absurd h
-  asks_split (Data n (suc k)) a i h = split_data n k h.0.0 a i (k / POINTERS) refl h.0.1 h.0.2 h.1 h.2
+  asks_split (Data n (suc k)) a i ((h, f, lt), m, ie) = split_data n k h a i (k / POINTERS) refl f lt m ie
 
   abbrev number : ℕ
   number = suc (heads ((r, b) ∷ w))
@@ -137,13 +137,13 @@ module _ (image : List ℕ) (w : List (Role × ℕ)) (v : IsGathered image w) (r
   pub asks_more : (q : Role) (a i : ℕ) → Asks image w (renumbered (suc (heads w)) q) a i → Asks image ((r, b) ∷ w) (renumbered number q) a i
   asks_more Root a i h = absurd h
   asks_more (Page k) a i (lt, inl h) = (lt, inl h)
-  asks_more (Page k) a i (lt, inr h) = (lt, inr (h.0, inr h.1, h.2, h.3))
+  asks_more (Page k) a i (lt, inr (j, has, li, ke)) = (lt, inr (j, inr has, li, ke))
   asks_more (MapExt zero) a i h = h
-  asks_more (MapExt (suc j)) a i h = (h.0, inr h.1, h.2)
-  asks_more (Head n p s zero) a i h = (refl, h.1, dir_up image w (r, b) p a h.2, h.3, h.4)
-  asks_more (Head n p s (suc j)) a i h = (refl, (h.1.0, inr h.1.1), h.2, h.3)
+  asks_more (MapExt (suc j)) a i (lt, has, ie) = (lt, inr has, ie)
+  asks_more (Head n p s zero) a i (x, ls, d, ie, ne) = (refl, ls, dir_up image w (r, b) p a d, ie, ne)
+  asks_more (Head n p s (suc j)) a i (x, (m, has), ie, ne) = (refl, (m, inr has), ie, ne)
   asks_more (Ext n zero) a i h = absurd h
-  asks_more (Ext n (suc zero)) a i h = (typed_up (r, b) h.0, h.1, h.2)
-  asks_more (Ext n (suc (suc k))) a i h = (inr h.0, h.1, h.2)
+  asks_more (Ext n (suc zero)) a i (f, ie, ne) = (typed_up (r, b) f, ie, ne)
+  asks_more (Ext n (suc (suc k))) a i (has, ie, ne) = (inr has, ie, ne)
   asks_more (Data n zero) a i h = absurd h
-  asks_more (Data n (suc k)) a i h = ((h.0.0, typed_up (r, b) h.0.1, h.0.2), member_up image w (r, b) n (k / POINTERS) a h.1, h.2)
+  asks_more (Data n (suc k)) a i ((h, f, lt), m, ie) = ((h, typed_up (r, b) f, lt), member_up image w (r, b) n (k / POINTERS) a m, ie)

@@ -113,32 +113,33 @@ all_told image s b gs on =
 pub none_on : (image : List ℕ) (f : Found) (b : ℕ) → 2 ≤ b
     → ((s : Course) (fs : List Finding) → IsCourse image s → Stands image f (record { walk = s.walk; passed_over = s.passed_over; findings = fs })
     → BitTells image s b None) → IsToldOn image f b → IsToldOn image f (b + 1)
-none_on image f b lo tells t = (t.0, t.1, t.2, t.3, t.4, tells_none image t.0 b t.1 lo (tells t.0 (t.0.findings ++ t.1) t.2 t.4) t.5)
+none_on image f b lo tells (s, gs, told, on) = (s, gs, told, tells_none image s b gs lo (tells s (s.findings ++ gs) told.course told.stands) on)
 
 pub some_on : (image : List ℕ) (f g : Found) (b : ℕ) (c : Cause) (x : FoundFinding) → 2 ≤ b → x ≡ record { part = None; block = b; cause = c }
     → ((s : Course) (fs : List Finding) → IsCourse image s → Stands image f (record { walk = s.walk; passed_over = s.passed_over; findings = fs })
     → BitTells image s b (Some c)) → IsNoted x f g → IsToldOn image f b → IsToldOn image g (b + 1)
-some_on image f g b c x lo is tells noted t =
-    let s : Course = t.0 in
+some_on image f g b c x lo is tells noted (s, gs, told, on) =
     let one : List Finding = finding None b c ∷ [] in
     let n : IsNoted (record { part = None; block = b; cause = c }) f g = subst (λ x. IsNoted x f g) is noted in
-    let st = stands_noted image f g (record { walk = s.walk; passed_over = s.passed_over; findings = s.findings ++ t.1 }) b t.4
+    let st = stands_noted image f g (record { walk = s.walk; passed_over = s.passed_over; findings = s.findings ++ gs }) b told.stands
     (record { part = None; block = b; cause = c }) n in (
       s,
-      t.1 ++ one,
-      t.2,
-      t.3,
-      subst (λ fs. Stands image g (record { walk = s.walk; passed_over = s.passed_over; findings = fs })) (append_assoc s.findings t.1 one) st,
-      tells_some image s b t.1 c lo (tells s (s.findings ++ t.1) t.2 t.4) t.5,
+      gs ++ one,
+      record {
+        course = told.course;
+        done = told.done;
+        stands = subst (λ fs. Stands image g (record { walk = s.walk; passed_over = s.passed_over; findings = fs })) (append_assoc s.findings gs one) st;
+      },
+      tells_some image s b gs c lo (tells s (s.findings ++ gs) told.course told.stands) on,
     )
 
 pub told_first : (image : List ℕ) (f : Found) → IsFinished image f → IsToldOn image f 2
-told_first image f h =
-    let s : Course = h.0 in
-    (s, [], h.1, h.2, subst (λ fs. Stands image f (record { walk = s.walk; passed_over = s.passed_over; findings = fs })) (sym (append-nil s.findings)) h.3, none_told image s)
+told_first image f (s, course, done, stands) =
+    let st = subst (λ fs. Stands image f (record { walk = s.walk; passed_over = s.passed_over; findings = fs })) (sym (append-nil s.findings)) stands in
+    (s, [], record { course = course; done = done; stands = st }, none_told image s)
 
 pub told_last : (image : List ℕ) (f : Found) (b : ℕ) → b ≡ blocks image → IsToldOn image f b → IsCompleted image f
-told_last image f b e t = (t.0, t.1, t.2, t.3, subst (λ b. BitsTell image t.0 2 (b - 2) t.1) e (all_told image t.0 b t.1 t.5), t.4)
+told_last image f b e (s, gs, told, on) = (s, gs, told, subst (λ b. BitsTell image s 2 (b - 2) gs) e (all_told image s b gs on))
 
 -- inside a list the default does not count
 pub any_default : (xs : List Bool) (b : ℕ) (d : Bool) → b < length xs → slice_index_or xs b d ≡ slice_index_or xs b false

@@ -54,20 +54,20 @@ pub read_kept : (image : List ℕ) (f : Found) (concerned : List (Option ℕ)) (
     → (kind_of image ≡ Ffs → AreEntries f.taken) → concerned ≡ map (λ x. blamed f.taken x.part) f.findings.items
     → ((m : ℕ) → has_mark sound m ≡ is_clear image f m)
     → IsOfSurvey (kept_of image f.findings.items concerned f.nodes.items f.parents.items sound)
-read_kept image f concerned sound begun c es entries marks = (
-  c.0.walk,
-  c.0.findings ++ c.1,
+read_kept image f concerned sound begun (s, bits, told, bits_tell) es entries marks = (
+  s.walk,
+  s.findings ++ bits,
   record {
-    survey = read begun c.2 c.3 c.4;
-    findings = c.5.findings;
+    survey = read begun told.course told.done bits_tell;
+    findings = told.stands.findings;
     concerned = (λ k.
-        let t : Course = record { walk = c.0.walk; passed_over = c.0.passed_over; findings = c.0.findings ++ c.1 } in
-        ap (λ os. option_flatten (slice_get os k)) entries ∙ concerned_kept image f t c.5 k);
-    node = c.5.node;
-    parent = c.5.parent;
-    count = (let e = c.5.count in omega arith);
+        let t : Course = record { walk = s.walk; passed_over = s.passed_over; findings = s.findings ++ bits } in
+        ap (λ os. option_flatten (slice_get os k)) entries ∙ concerned_kept image f t told.stands k);
+    node = told.stands.node;
+    parent = told.stands.parent;
+    count = (let e = told.stands.count in omega arith);
     sound = (λ m lo.
-        let x = clear_is_sound image f c.2 c.3 c.1 c.4 c.5 m lo es in
+        let x = clear_is_sound image f told.course told.done bits bits_tell told.stands m lo es in
         ((λ t. x.0 (sym (marks m) ∙ t)), (λ y. marks m ∙ x.1 y)));
   },
 )

@@ -207,11 +207,15 @@ cause_told true avoided false = None
 abbrev pub IsFinished : List ℕ → Found → Type 0
 IsFinished image f = (s : Course) × IsCourse image s × IsDone image s × Stands image f s
 
+-- a course is done, and what is found is what it and these bits tell
+pub record IsTold (image : List ℕ) (f : Found) (s : Course) (bits : List Finding) : Type 0 where
+  pub course : IsCourse image s
+  pub done : IsDone image s
+  pub stands : Stands image f (record { walk = s.walk; passed_over = s.passed_over; findings = s.findings ++ bits })
+
 -- a course is done, and the bits are compared
 abbrev pub IsCompleted : List ℕ → Found → Type 0
-IsCompleted image f =
-    (s : Course) × (bits : List Finding) × IsCourse image s × IsDone image s × BitsTell image s 2 (blocks image - 2) bits
-    × Stands image f (record { walk = s.walk; passed_over = s.passed_over; findings = s.findings ++ bits })
+IsCompleted image f = (s : Course) × (bits : List Finding) × IsTold image f s bits × BitsTell image s 2 (blocks image - 2) bits
 
 -- what the bits up to a block tell, and those from there on
 abbrev pub TellsOn : List ℕ → Course → ℕ → List Finding → Type 0
@@ -219,6 +223,4 @@ TellsOn image s b gs = (n : ℕ) (fs : List Finding) → BitsTell image s b n fs
 
 -- a course is done, and the bits up to a block are compared
 abbrev pub IsToldOn : List ℕ → Found → ℕ → Type 0
-IsToldOn image f b =
-    (s : Course) × (gs : List Finding) × IsCourse image s × IsDone image s
-    × Stands image f (record { walk = s.walk; passed_over = s.passed_over; findings = s.findings ++ gs }) × TellsOn image s b gs
+IsToldOn image f b = (s : Course) × (gs : List Finding) × IsTold image f s gs × TellsOn image s b gs
