@@ -60,7 +60,7 @@ put_adds image w most m n part a i b key is named u can all k y e =
       | inl t ↦
           let z : Some x ≡ Some y = sym (u.0 k ∙ ap (λ c. cond c (Some x) (get by_key m k)) t) ∙ e in
           let z' : x ≡ y = cc in
-          subst (IsAsk image w most k) z' (record { key = sym (one_key key k t) ∙ is; word = (i, can, sym named) })
+          subst (IsAsk image w most k) z' (record { key = sym (one_key key k t) ∙ is; word = i; can = can; named = sym named })
       | inr t ↦ all k y (sym (u.0 k ∙ ap (λ c. cond c (Some x) (get by_key m k)) t) ∙ e)
     ]
 

@@ -1,5 +1,5 @@
 -- What the bits tell.
-use Rattle.std.specs.Prelude.{Bool, true, false, cond, not, Some, None, IsTrue, ◌↔◌, map, slice_index_or}
+use Rattle.std.specs.Prelude.{Bool, true, false, cond, not, Some, None, IsTrue, ◌↔◌, slice_index_or}
 use Rattle.std.proofs.Common.{◌≡◌, ℕ, zero, suc, length, List, [], ◌∷◌, ◌++◌, inl, inr, ◌+◌, ◌-◌, ◌/◌, ◌%◌, ◌<◌, ◌≤◌, refl, sym, subst, ap, ◌∙◌, arith}
 use Rattle.std.specs.Ordering.{is_eq}
 use Rattle.std.specs.BTreeMap.{get}
@@ -7,20 +7,18 @@ use Rattle.std.proofs.lemmas.List.{append_assoc, append-nil}
 use Rattle.adf_blocks.specs.declared.cause.Cause.{Cause}
 use Rattle.adf_blocks.specs.declared.layout.TheConstants.{PAGE_BITS}
 use Rattle.adf_blocks.specs.Sizes.{blocks}
-use Rattle.adf_volume.specs.Image.{IsFreeAt, root_of}
+use Rattle.adf_volume.specs.Image.{IsFreeAt}
 use Rattle.adf_volume.specs.Walk.{Role, second, Has, IsAbsent, IsFreeIn}
 use Rattle.adf_volume.specs.Walk.Role.{Page, Head}
 use Rattle.adf_volume.proofs.Gathered.{one_block}
 use Rattle.adf_volume.proofs.Roles.{has_role, same_refl}
 use Rattle.adf_survey.specs.declared.part.Key.{Key}
 use Rattle.adf_survey.specs.declared.found.Found.{Found}
-use Rattle.adf_survey.specs.Survey.{BitsTell, Course, Finding, IsCourse, IsSurvey, finding}
+use Rattle.adf_survey.specs.Survey.{BitsTell, Course, Finding, IsCourse, finding}
 use Rattle.adf_survey.specs.Survey.BitsTell.{agrees, differs, ends}
-use Rattle.adf_survey.specs.Survey.IsSurvey.{unread}
-use Rattle.adf_volume.specs.Demands.{FirstFails, boot_demands, root_demands}
 use Rattle.adf_survey.specs.declared.part.Finding.{Finding as FoundFinding}
 use Rattle.adf_survey.specs.Forms.{Tells}
-use Rattle.adf_survey.specs.Parts.{by_key, key_of, part_role, told}
+use Rattle.adf_survey.specs.Parts.{by_key, key_of, told}
 use Rattle.adf_survey.specs.Found.{BitTells, IsBitOf, IsCompleted, IsFinished, IsNoted, IsToldOn, TellsOn, Stands, at_key, cause_told, owns}
 use Rattle.adf_survey.proofs.Asking.{one_key}
 use Rattle.adf_survey.proofs.CourseSteps.{lacks_at, same_of_key}
@@ -91,15 +89,6 @@ tells_some image s b gs c lo t on n fs h =
     subst (λ m. BitsTell image s 2 m (gs ++ finding None b c ∷ [] ++ fs)) more
     (subst (BitsTell image s 2 (b - 2 + suc n)) (sym (append_assoc gs (finding None b c ∷ []) fs))
     (on (suc n) (finding None b c ∷ fs) (differs t.0 t.1 (subst (λ c. BitsTell image s c n fs) one h))))
-
--- the survey of an image that does not begin as a volume
-pub unread_survey : (image : List ℕ) (x : FoundFinding) (items : List FoundFinding) → x.part ≡ None
-    → FirstFails (boot_demands image ++ root_demands image (root_of image)) x.block x.cause → items ≡ x ∷ []
-    → IsSurvey image [] (map told items)
-unread_survey image x items none fails e =
-    let one : finding None x.block x.cause ∷ [] ≡ map told items =
-    (λ i. record { part = part_role (sym none i); block = x.block; cause = x.cause } ∷ []) ∙ ap (map told) (sym e) in
-    subst (IsSurvey image []) one (unread fails)
 
 -- the bits of no block are compared at first, and at last all are
 pub none_told : (image : List ℕ) (s : Course) → TellsOn image s 2 []

@@ -114,9 +114,9 @@ module _ (image : List ℕ) (f : Found) (parts rest : BTreeMap Key Ask) (s : Cou
   is_next t least =
       let one : is_some (get by_key f.taken key) ≡ false = grind arith in
       let two : is_some (get by_key f.passed key) ≡ false = grind arith in (
-        ask.word.0,
+        ask.word,
         record {
-          asked = ask.word.1.0;
+          asked = ask.can.0;
           lacks = lacks_at s.walk role (ap (at_key s.walk) (sym key_is) ∙ (sym (hold.stands.taken key) ∙ none_of (get by_key f.taken key) one));
           unpassed = lacks_at s.passed_over role (ap (at_key s.passed_over) (sym key_is) ∙ (sym (hold.stands.passed key) ∙ none_of (get by_key f.passed key) two));
           least = (λ q d k h lack over bef.
@@ -124,7 +124,7 @@ module _ (image : List ℕ) (f : Found) (parts rest : BTreeMap Key Ask) (s : Cou
               let high : is_gt (by_key key (key_of q)) ≡ true = ap (λ y. is_gt (by_key y (key_of q))) key_is ∙ lower_key q role bef in
               let clash : true ≡ false = sym high ∙ low in cc);
         },
-        ask.word.2,
+        ask.named,
       )
 
   -- a part that is passed over is asked for no more
@@ -220,7 +220,7 @@ module _ (image : List ℕ) (f : Found) (parts rest : BTreeMap Key Ask) (s : Cou
   part_far : reach (role_of part) ≤ blocks image - f.left
   part_far =
       let e : reach (role_of part) ≡ reach (role_of x.part) = ap reach o.role ∙ reach_same (suc (heads s.walk)) (role_of x.part) in
-      let l : reach (role_of x.part) ≤ blocks image - f.left = (hold.asked key x value).word.1.1 in
+      let l : reach (role_of x.part) ≤ blocks image - f.left = (hold.asked key x value).can.1 in
       omega arith
 
   pub part_inside : x.block < blocks image
@@ -260,14 +260,9 @@ module _ (image : List ℕ) (f : Found) (parts rest : BTreeMap Key Ask) (s : Cou
               (λ k y e. let z = fewer image f parts rest s hold key x value updates s.walk (blocks image - f.left) hold.asked k y e in
               record {
                 key = z.key;
-                word = (
-                  z.word.0,
-                  (
-                    asks_more image s.walk v (role_of part) x.block part_numbered (role_of y.part) y.holder z.word.0 z.word.1.0,
-                    (let l = z.word.1.1 in omega arith),
-                  ),
-                  z.word.2,
-                );
+                word = z.word;
+                can = (asks_more image s.walk v (role_of part) x.block part_numbered (role_of y.part) y.holder z.word z.can.0, (let l = z.can.1 in omega arith));
+                named = z.named;
               });
           whole = (λ q a i ask lack over.
               elim (asks_split image s.walk v (role_of part) x.block part_numbered q a i ask) [

@@ -120,14 +120,14 @@ module _ (image : List ℕ) where
       member_is (suc zero) a g = elim (taken_wanted image v (Ext n 1) a g) [
         | inl e ↦ let x : first Root ≡ first (Ext n 1) = ap first e in absurd (omega arith)
         | inr x ↦
-            let here : h ≡ x.0 = file_one image (gathered image v) n h x.0 file x.2.0 in
-            (λ t. word_in image (here t) (sym x.2.1 t)) ∙ x.3
+            let here : h ≡ x.holder = file_one image (gathered image v) n h x.holder file x.asked.0 in
+            (λ t. word_in image (here t) (sym x.asked.1 t)) ∙ x.named
       ]
       member_is (suc (suc m)) a g = elim (taken_wanted image v (Ext n (suc (suc m))) a g) [
         | inl e ↦ let x : first Root ≡ first (Ext n (suc (suc m))) = ap first e in absurd (omega arith)
         | inr x ↦
-            let here : member_from image h (suc m) ≡ x.0 = member_is (suc m) x.0 x.2.0 in
-            (λ t. word_in image (here t) (sym x.2.1 t)) ∙ x.3
+            let here : member_from image h (suc m) ≡ x.holder = member_is (suc m) x.holder x.asked.0 in
+            (λ t. word_in image (here t) (sym x.asked.1 t)) ∙ x.named
       ]
 
       -- a data block is the one that the table names, and among those that the size asks for
@@ -135,9 +135,9 @@ module _ (image : List ℕ) where
       data_is k b g = elim (taken_wanted image v (Data n (suc k)) b g) [
         | inl e ↦ let x : first Root ≡ first (Data n (suc k)) = ap first e in absurd (omega arith)
         | inr x ↦
-            let here : member_from image h (k / POINTERS) ≡ x.0 = member_is (k / POINTERS) x.0 x.2.1 in
-            let own : x.2.0.0 ≡ h = file_one image (gathered image v) n x.2.0.0 h x.2.0.1 file in
-            ((λ t. word_in image (here t) (sym x.2.2 t)) ∙ x.3, subst (λ h. k < data_count image h) own x.2.0.2)
+            let here : member_from image h (k / POINTERS) ≡ x.holder = member_is (k / POINTERS) x.holder x.asked.1 in
+            let own : x.asked.0.0 ≡ h = file_one image (gathered image v) n x.asked.0.0 h x.asked.0.1 file in
+            ((λ t. word_in image (here t) (sym x.asked.2 t)) ∙ x.named, subst (λ h. k < data_count image h) own x.asked.0.2)
       ]
 
     pub names_length : (h k : ℕ) → length (names_from image h k) ≡ k

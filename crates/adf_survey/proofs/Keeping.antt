@@ -20,13 +20,13 @@ use Rattle.adf_survey.specs.declared.found.Found.{Found}
 use Rattle.adf_survey.specs.Found.{IsCompleted}
 use Rattle.adf_volume.specs.Start.{IsBegun}
 use Rattle.adf_survey.specs.Marks.{AreEntries, blamed, has_mark, is_clear}
-use Rattle.adf_survey.specs.Parts.{told}
-use Rattle.adf_survey.specs.Survey.{Course, Finding, IsSurvey}
+use Rattle.adf_survey.specs.declared.part.Part.{Part}
+use Rattle.adf_survey.specs.Parts.{part_role, told}
+use Rattle.adf_survey.specs.Survey.{Course, Finding, IsSurvey, finding}
 use Rattle.adf_survey.specs.Survey.IsSurvey.{read, unread}
 use Rattle.adf_survey.specs.Sound.{IsSound}
 use Rattle.adf_volume.proofs.Gathered.{number_of}
 use Rattle.adf_survey.specs.Surveyed.{IsOfSurvey, Surveyed, TellsOf, kept_of}
-use Rattle.adf_survey.proofs.BitSteps.{unread_survey}
 use Rattle.adf_survey.proofs.Concerning.{concerned_kept, none_kept}
 use Rattle.adf_survey.proofs.OneSurvey.{gathered, one_survey}
 use Rattle.adf_survey.proofs.SoundMarks.{clear_is_sound, inside}
@@ -35,19 +35,20 @@ use Rattle.adf_survey.proofs.SoundMarks.{clear_is_sound, inside}
 pub unread_kept : (image : List ℕ) (x : FoundFinding) (items : List FoundFinding) → x.part ≡ None
     → FirstFails (boot_demands image ++ root_demands image (root_of image)) x.block x.cause → items ≡ x ∷ []
     → IsOfSurvey (record { image = image; findings = items; concerned = []; nodes = []; parents = []; sound = [] })
-unread_kept image x items none fails e = (
-  [],
-  map told items,
-  record {
-    survey = unread_survey image x items none fails e;
-    findings = refl;
-    concerned = (λ k. none_kept [] x items k none e);
-    node = (λ n. refl);
-    parent = (λ n. refl);
-    count = omega arith;
-    sound = (λ n lo. ((λ t. cc), (λ s. absurd s.header.has)));
-  },
-)
+unread_kept image x items none fails e =
+    let part_told : Option Part → Finding = λ p. finding (part_role p) x.block x.cause in (
+      [],
+      map told items,
+      record {
+        survey = subst (IsSurvey image []) ((λ i. part_told (sym none i) ∷ []) ∙ ap (map told) (sym e)) (unread fails);
+        findings = refl;
+        concerned = (λ k. none_kept [] x items k none e);
+        node = (λ n. refl);
+        parent = (λ n. refl);
+        count = omega arith;
+        sound = (λ n lo. ((λ t. cc), (λ s. absurd s.header.has)));
+      },
+    )
 
 -- of an image whose course is done, with its bits compared
 pub read_kept : (image : List ℕ) (f : Found) (concerned : List (Option ℕ)) (sound : List Bool) → IsBegun image → IsCompleted image f

@@ -93,21 +93,25 @@ module _ (image : List ℕ) where
   apart (step (passed at d) v n g) r q b c h (inr k) same = apart v r q b c h k same
 
   -- the walk asks for the part, a header with the next number, in block b
-  abbrev pub Wanted : List (Role × ℕ) → Role → ℕ → Type 0
-  Wanted w r b = (a i : ℕ) × Asks image w (renumbered (suc (heads w)) r) a i × (word_in image a i ≡ b)
+  pub record Wanted (w : List (Role × ℕ)) (r : Role) (b : ℕ) : Type 0 where
+    pub holder : ℕ
+    pub word : ℕ
+    pub asked : Asks image w (renumbered (suc (heads w)) r) holder word
+    pub named : word_in image holder word ≡ b
 
   own_number : (w : List (Role × ℕ)) (r : Role) (a i : ℕ) → Asks image w r a i → r ≡ renumbered (suc (heads w)) r
   own_number w (Head n p s j) a i h = ap (λ n. Head n p s j) (asks_number image w n p s j a i h)
   own_number w _ a i h = refl
 
   wanted_now : (w : List (Role × ℕ)) (r : Role) (a i : ℕ) → Asks image w r a i → Wanted w r (word_in image a i)
-  wanted_now w r a i h = (a, i, subst (λ r. Asks image w r a i) (own_number w r a i h) h, refl)
+  wanted_now w r a i h = record { holder = a; word = i; asked = subst (λ r. Asks image w r a i) (own_number w r a i h) h; named = refl }
 
   wanted_later : (s : Course) (z : Role) (a i c : ℕ) → IsCourse image s → IsNext image s z a i → (r : Role) (b : ℕ) → Wanted s.walk r b
       → Wanted ((z, c) ∷ s.walk) r b
   wanted_later s z a i c v n r b x =
       let w : IsGathered image s.walk = gathered image v in
-      (x.0, x.1, asks_more image s.walk w z c (numbered image s.walk w z a i n.asked n.lacks) r x.0 x.1 x.2, x.3)
+      let asked = asks_more image s.walk w z c (numbered image s.walk w z a i n.asked n.lacks) r x.holder x.word x.asked in
+      record { holder = x.holder; word = x.word; asked = asked; named = x.named }
 
   wanted_new : (s : Course) (z : Role) (a i : ℕ) → IsCourse image s → IsNext image s z a i → (r : Role) (b : ℕ)
       → (Has s.walk r b → (Root ≡ r) ⊎ Wanted s.walk r b) → Has ((z, word_in image a i) ∷ s.walk) r b
@@ -147,9 +151,9 @@ module _ (image : List ℕ) where
       let own : Same (renumbered (suc (heads w)) r) r = renumbered_same (suc (heads w)) r in
       let z : renumbered (suc (heads w)) r ≡ q =
       same_role (renumbered (suc (heads w)) r) q (omega arith) (λ n m p t j e f.
-      number_is image w (renumbered (suc (heads w)) r) x.0 x.1 n p t j x.2 e ∙ sym (number_is image w q a i m p t j h f)) in
-      let y = asks_one image v q x.0 x.1 a i (subst (λ r. Asks image w r x.0 x.1) z x.2) h in
-      sym x.3 ∙ (λ t. word_in image (y.0 t) (y.1 t))
+      number_is image w (renumbered (suc (heads w)) r) x.holder x.word n p t j x.asked e ∙ sym (number_is image w q a i m p t j h f)) in
+      let y = asks_one image v q x.holder x.word a i (subst (λ r. Asks image w r x.holder x.word) z x.asked) h in
+      sym x.named ∙ (λ t. word_in image (y.0 t) (y.1 t))
 
   no_root : (w : List (Role × ℕ)) (q r : Role) (a i : ℕ) → Asks image w q a i → Root ≡ r → Same r q → ⊥
   no_root w Root r a i h e s = h
@@ -222,7 +226,7 @@ module _ (image : List ℕ) where
         let x = owner_of s.passed_over b over in
         let y = passed_wanted v x.0 b x.1 in
         let q : Role = renumbered (suc (heads s.walk)) x.0 in
-        let same : Same q (Data n k) = alone q y.0 y.1 y.2 y.3 in
+        let same : Same q (Data n k) = alone q y.holder y.word y.asked y.named in
         let own : Same q x.0 = renumbered_same (suc (heads s.walk)) x.0 in
         apart v (Data n k) x.0 b b d x.1 (omega arith)
 

@@ -30,7 +30,9 @@ CanAsk image w most r a i = Asks image w (renumbered (suc (heads w)) r) a i × (
 -- the walk asks for what the ask says
 pub record IsAsk (image : List ℕ) (w : List (Role × ℕ)) (most : ℕ) (k : Key) (x : Ask) : Type 0 where
   pub key : k ≡ key_of (role_of x.part)
-  pub word : (i : ℕ) × CanAsk image w most (role_of x.part) x.holder i × (word_in image x.holder i ≡ x.block)
+  pub word : ℕ
+  pub can : CanAsk image w most (role_of x.part) x.holder word
+  pub named : word_in image x.holder word ≡ x.block
 
 -- the walk asks for all of the parts
 abbrev pub AllAsked : List ℕ → List (Role × ℕ) → ℕ → BTreeMap Key Ask → Type 0
