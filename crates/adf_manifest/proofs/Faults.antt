@@ -81,9 +81,15 @@ line_good m n line text kind g is e (inr f) =
     of_good m n line kind g (subst (λ l. OfLine (manifest_tree m) l kind) same f.4)
 
 -- behind lines of a manifest, a line that adds
-abbrev IsInner : List (List ℕ) → List ℕ → Type 0
-IsInner front text = (m : Manifest) × (n : Manifest) × (line : LineValue) × IsWell m × Adds m line n × IsLine line × (manifest_lines m ≡ front)
-    × (text ≡ line_text line)
+record IsInner (front : List (List ℕ)) (text : List ℕ) : Type 0 where
+  before : Manifest
+  next : Manifest
+  line : LineValue
+  well : IsWell before
+  adds : Adds before line next
+  is_line : IsLine line
+  lines : manifest_lines before ≡ front
+  reads : text ≡ line_text line
 
 inner_first : (n : Manifest) (front rest : List (List ℕ)) (text : List ℕ) → IsFirst n → manifest_lines n ≡ front ++ text ∷ rest → 0 < length front → ⊥
 inner_first n front rest text p e h = omega (arith, h, ap length (sym (first_lines n p) ∙ e), length-append front (text ∷ rest))
@@ -98,12 +104,21 @@ inner (suc k) n front rest text s w e h =
       | inr p ↦
           elim (ends rest) [
             | inl r ↦
-                let both = same_from_push front (manifest_lines p.0) text (line_text p.1) (ap (λ x. front ++ text ∷ x) (sym r) ∙ sym e ∙ p.5) in
-                (p.0, n, p.1, p.2, p.4, p.3, sym both.0, both.1)
+                let both = same_from_push front (manifest_lines p.before) text (line_text p.last) (ap (λ x. front ++ text ∷ x) (sym r) ∙ sym e ∙ p.lines) in
+                record {
+                  before = p.before;
+                  next = n;
+                  line = p.last;
+                  well = p.well;
+                  adds = p.adds;
+                  is_line = p.is_line;
+                  lines = sym both.0;
+                  reads = both.1;
+                }
             | inr q ↦
-                let split = append_assoc front (text ∷ q.0) (q.1 ∷ []) ∙ ap (λ x. front ++ text ∷ x) (sym q.2) ∙ sym e ∙ p.5 in
-                let both = same_from_push (front ++ text ∷ q.0) (manifest_lines p.0) q.1 (line_text p.1) split in
-                inner k p.0 front q.0 text (omega (arith, s, ap length p.5, length-append (manifest_lines p.0) (line_text p.1 ∷ []))) p.2 (sym both.0) h
+                let split = append_assoc front (text ∷ q.0) (q.1 ∷ []) ∙ ap (λ x. front ++ text ∷ x) (sym q.2) ∙ sym e ∙ p.lines in
+                let both = same_from_push (front ++ text ∷ q.0) (manifest_lines p.before) q.1 (line_text p.last) split in
+                inner k p.before front q.0 text (omega (arith, s, ap length p.lines, length-append (manifest_lines p.before) (line_text p.last ∷ []))) p.well (sym both.0) h
           ]
     ]
 
@@ -111,8 +126,8 @@ pub later_good : (m n : Manifest) (text : List ℕ) (rest : List (List ℕ)) (ki
     → manifest_lines n ≡ manifest_lines m ++ text ∷ rest → IsLaterFault m text kind → ⊥
 later_good m n text rest kind w v e f =
     let i = inner (length (manifest_lines n)) n (manifest_lines m) rest text (omega arith) v e (some_lines m) in
-    let same = one_told i.0 m i.3 w i.6 in
-    line_good i.0 i.1 i.2 text kind i.4 i.5 i.7 (later_kind i.0 text kind (subst (λ (x : Manifest). IsLaterFault x text kind) (sym same) f))
+    let same = one_told i.before m i.well w i.lines in
+    line_good i.before i.next i.line text kind i.adds i.is_line i.reads (later_kind i.before text kind (subst (λ (x : Manifest). IsLaterFault x text kind) (sym same) f))
 
 -- a first line of an allowed size has no fault
 first_good : (kind' : Kind) (n' : ℕ) (line : List ℕ) (kind : ManifestKind) → is_allowed n' ≡ true → line ≡ volume_line kind' n' → IsFirstFault line kind → ⊥

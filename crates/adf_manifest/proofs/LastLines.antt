@@ -44,12 +44,20 @@ Adds m (NoteLine text) n =
     × ((note : List ℕ) × IsSpelling 79 text note × (n ≡ with_last m e (noted e.last note)))
 Adds m (RunLine run) n = (e : Entries) × (m.entries ≡ Some e) × (e.last.sort ≡ File) × (n ≡ with_last m e (with_run e.last run))
 
--- a manifest of one line, or of a manifest's lines and one more
-abbrev pub IsFirst : Manifest → Type 0
-IsFirst n = (n.entries ≡ None) × (n.head.label ≡ None) × (n.head.stamps ≡ None)
+-- a manifest of one line
+pub record IsFirst (n : Manifest) : Type 0 where
+  pub entries : n.entries ≡ None
+  pub label : n.head.label ≡ None
+  pub stamps : n.head.stamps ≡ None
 
-abbrev pub IsNext : Manifest → Type 0
-IsNext n = (m : Manifest) × (line : LineValue) × IsWell m × IsLine line × Adds m line n × (manifest_lines n ≡ manifest_lines m ++ line_text line ∷ [])
+-- a manifest of the lines of the one before and a last line
+pub record IsNext (n : Manifest) : Type 0 where
+  pub before : Manifest
+  pub last : LineValue
+  pub well : IsWell before
+  pub is_line : IsLine last
+  pub adds : Adds before last n
+  pub lines : manifest_lines n ≡ manifest_lines before ++ line_text last ∷ []
 
 -- a list is empty or has a last element
 pub ends : {X : Type 0} (xs : List X) → (xs ≡ []) ⊎ ((front : List X) × (x : X) × (xs ≡ front ++ x ∷ []))
@@ -74,24 +82,30 @@ stamps_behind h stamps e =
 
 pub last_of_head : (kind : Kind) (blocks : ℕ) (label : Option (List ℕ)) (stamps : Option Stamps) → let h : Head =
     record { kind = kind; blocks = blocks; label = label; stamps = stamps } in IsManifestHead h → IsFirst (bare h) ⊎ IsNext (bare h)
-last_of_head kind blocks None None g = inl (refl, refl, refl)
+last_of_head kind blocks None None g = inl (record { entries = refl; label = refl; stamps = refl })
 last_of_head kind blocks (Some label) None g =
     let before : Head = record { kind = kind; blocks = blocks; label = None; stamps = None } in
     let well : IsManifestHead before = record { size = g.size; label = tt; stamps = tt } in
-    inr (bare before, LabelLine (escaped label), bare_well before well, filled label g.label.0, (refl, refl, refl, (label, g.label.1, refl)), refl)
+    inr (record {
+      before = bare before;
+      last = LabelLine (escaped label);
+      well = bare_well before well;
+      is_line = filled label g.label.0;
+      adds = (refl, refl, refl, (label, g.label.1, refl));
+      lines = refl;
+    })
 last_of_head kind blocks label (Some stamps) g =
     let before : Head = record { kind = kind; blocks = blocks; label = label; stamps = None } in
     let now : Head = record { kind = kind; blocks = blocks; label = label; stamps = Some stamps } in
     let well : IsManifestHead before = record { size = g.size; label = g.label; stamps = tt } in
-    inr (
-      bare before,
-      StampsLine stamps,
-      bare_well before well,
-      g.stamps,
-      (refl, refl, refl),
-      bare_lines now ∙ stamps_behind before stamps refl
-          ∙ ap (λ l. l ++ stamps_line stamps ∷ []) (sym (bare_lines before)),
-    )
+    inr (record {
+      before = bare before;
+      last = StampsLine stamps;
+      well = bare_well before well;
+      is_line = g.stamps;
+      adds = (refl, refl, refl);
+      lines = bare_lines now ∙ stamps_behind before stamps refl ∙ ap (λ l. l ++ stamps_line stamps ∷ []) (sym (bare_lines before));
+    })
 
 no_end : (runs : List RunValue) (run : RunValue) → runs ++ run ∷ [] ≡ [] → ⊥
 no_end [] run e = cc
@@ -127,15 +141,15 @@ last_run m e runs run w is r =
     let i : Item = record e.last { runs = runs } in
     let before : Entries = record { before = e.before; last = i } in
     let k : Manifest = record { head = m.head; entries = Some before } in
-    let same : m ≡ with_last k before (with_run i run) = entries_are m e e.before e.last.note (runs ++ run ∷ []) is refl refl r in (
-      k,
-      RunLine run,
-      last_well m e i w is less.0 refl,
-      less.1,
-      (before, refl, file, same),
-      ap manifest_lines same
-          ∙ last_lines k before (with_run i run) (run_line run) refl (with_run_lines i run),
-    )
+    let same : m ≡ with_last k before (with_run i run) = entries_are m e e.before e.last.note (runs ++ run ∷ []) is refl refl r in
+    record {
+      before = k;
+      last = RunLine run;
+      well = last_well m e i w is less.0 refl;
+      is_line = less.1;
+      adds = (before, refl, file, same);
+      lines = ap manifest_lines same ∙ last_lines k before (with_run i run) (run_line run) refl (with_run_lines i run);
+    }
 
 given_note : (o : Option (List ℕ)) (note : List ℕ) → o ≡ Some note → IfSome o IsGivenNote → IsGivenNote note
 given_note None note e g = absurd cc
@@ -149,15 +163,15 @@ last_note m e note w is r n =
     let bare : IsItem i = item_with e.last None e.last.runs g tt g.runs g.plain in
     let before : Entries = record { before = e.before; last = i } in
     let k : Manifest = record { head = m.head; entries = Some before } in
-    let same : m ≡ with_last k before (noted i note) = entries_are m e e.before (Some note) e.last.runs is refl n refl in (
-      k,
-      NoteLine (escaped note),
-      last_well m e i w is bare refl,
-      filled note mine.0,
-      (before, refl, refl, r, (note, mine.1, same)),
-      ap manifest_lines same
-          ∙ last_lines k before (noted i note) (note_line (escaped note)) refl (noted_lines i note refl r),
-    )
+    let same : m ≡ with_last k before (noted i note) = entries_are m e e.before (Some note) e.last.runs is refl n refl in
+    record {
+      before = k;
+      last = NoteLine (escaped note);
+      well = last_well m e i w is bare refl;
+      is_line = filled note mine.0;
+      adds = (before, refl, refl, r, (note, mine.1, same));
+      lines = ap manifest_lines same ∙ last_lines k before (noted i note) (note_line (escaped note)) refl (noted_lines i note refl r);
+    }
 
 path_some : (path : List (List ℕ)) → 0 < length path → All IsName path → 0 < length (path_text path)
 path_some path h g = filled_list (path_text path) (λ e. omega (arith, h, ap length (empty_path path g e)))
@@ -180,19 +194,15 @@ last_entry m e es b w is r n =
     let i : Item = new_item e.last.sort e.last.stamp e.last.protect path in
     let same : m ≡ with_new k i = entries_are m e (items_of es) None [] is b n r in
     let place : IsOk (room_for (manifest_tree k).entries path) = subst (λ xs. IsOk (room_for (items_tree t xs).entries path)) b room.1 in
-    let text : IsPathText (path_text path) path = record { spells = refl; names = item.names } in (
-      k,
-      EntryLine e.last.sort e.last.stamp e.last.protect (path_text path),
-      well,
-      (
-        item.stamp,
-        item.protect,
-        path_some path item.filled
-            item.names,
-      ),
-      (path, text, place, same),
-      ap manifest_lines same ∙ new_lines k i,
-    )
+    let text : IsPathText (path_text path) path = record { spells = refl; names = item.names } in
+    record {
+      before = k;
+      last = EntryLine e.last.sort e.last.stamp e.last.protect (path_text path);
+      well = well;
+      is_line = (item.stamp, item.protect, path_some path item.filled item.names);
+      adds = (path, text, place, same);
+      lines = ap manifest_lines same ∙ new_lines k i;
+    }
 
 bare_entry : (m : Manifest) (e : Entries) (note : Option (List ℕ)) → IsWell m → m.entries ≡ Some e → e.last.runs ≡ [] → e.last.note ≡ note → IsNext m
 bare_entry m e (Some note) w is r n = last_note m e note w is r n

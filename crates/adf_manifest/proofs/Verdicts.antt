@@ -61,13 +61,13 @@ one_adds m n n' (RunLine run) g h = rw (g.3, one_entries m.entries g.0 h.0 g.1 h
 -- a manifest of one line
 pub first_lines : (n : Manifest) → IsFirst n → manifest_lines n ≡ volume_line n.head.kind n.head.blocks ∷ []
 first_lines n f =
-    rw (f.0, f.1, f.2)
+    rw (f.entries, f.label, f.stamps)
 
 first_is : (n : Manifest) → IsFirst n → let h : Head = record { kind = n.head.kind; blocks = n.head.blocks; label = None; stamps = None } in n ≡ bare h
 first_is n f =
     let by : Option (List ℕ) → Option Stamps → Option Entries → Manifest =
     λ l s e. record { head = record { kind = n.head.kind; blocks = n.head.blocks; label = l; stamps = s }; entries = e } in
-    ap (λ e. by n.head.label n.head.stamps e) f.0 ∙ ap (λ l. by l n.head.stamps None) f.1 ∙ ap (λ s. by None s None) f.2
+    ap (λ e. by n.head.label n.head.stamps e) f.entries ∙ ap (λ l. by l n.head.stamps None) f.label ∙ ap (λ s. by None s None) f.stamps
 
 same_first : (m n : Manifest) → IsWell m → IsWell n → IsFirst m → IsFirst n → manifest_lines m ≡ manifest_lines n → m ≡ n
 same_first m n w v f g e =
@@ -81,7 +81,7 @@ some_lines m = omega arith
 
 longer : (m n : Manifest) → IsFirst m → IsNext n → manifest_lines m ≡ manifest_lines n → ⊥
 longer m n f g e =
-    omega (arith, ap length (sym (first_lines m f) ∙ e ∙ g.5), length-append (manifest_lines g.0) (line_text g.1 ∷ []), some_lines g.0)
+    omega (arith, ap length (sym (first_lines m f) ∙ e ∙ g.lines), length-append (manifest_lines g.before) (line_text g.last ∷ []), some_lines g.before)
 
 -- manifests of the same lines tell the same
 same_told : (f : ℕ) (m n : Manifest) → length (manifest_lines m) ≤ f → IsWell m → IsWell n → manifest_lines m ≡ manifest_lines n → m ≡ n
@@ -97,12 +97,12 @@ same_told (suc f) m n small_f w v e =
           elim (last_line n v) [
             | inl q ↦ absurd (longer n m q p (sym e))
             | inr q ↦
-                let both = same_from_push (manifest_lines p.0) (manifest_lines q.0) (line_text p.1) (line_text q.1) (sym p.5 ∙ e ∙ q.5) in
-                let before = same_told f p.0 q.0 (omega (arith, small_f, ap length p.5, length-append (manifest_lines p.0) (line_text p.1 ∷ []))) p.2 q.2
+                let both = same_from_push (manifest_lines p.before) (manifest_lines q.before) (line_text p.last) (line_text q.last) (sym p.lines ∙ e ∙ q.lines) in
+                let before = same_told f p.before q.before (omega (arith, small_f, ap length p.lines, length-append (manifest_lines p.before) (line_text p.last ∷ []))) p.well q.well
                 both.0 in
-                let line = line_same p.1 q.1 p.3 q.3 both.1 in
-                let moved : Adds q.0 q.1 m = subst (λ (k : Manifest). Adds k q.1 m) before (subst (λ (l : LineValue). Adds p.0 l m) line p.4) in
-                one_adds q.0 m n q.1 moved q.4
+                let line = line_same p.last q.last p.is_line q.is_line both.1 in
+                let moved : Adds q.before q.last m = subst (λ (k : Manifest). Adds k q.last m) before (subst (λ (l : LineValue). Adds p.before l m) line p.adds) in
+                one_adds q.before m n q.last moved q.adds
           ]
     ]
 
