@@ -13,7 +13,7 @@ use Rattle.adf_blocks.specs.Sizes.{is_allowed}
 use Rattle.adf_manifest.specs.Lines.{IsLine, LineValue, LabelLine, StampsLine, EntryLine, NoteLine, RunLine, line_text, volume_line}
 use Rattle.adf_manifest.specs.Items.{item_lines}
 use Rattle.std.specs.List.{flat_map}
-use Rattle.adf_manifest.specs.Manifest.{EndsInFile, HasBadText, HasFault, HasNoRoom, IsBare, IsFirstFault, IsLaterFault, IsWell}
+use Rattle.adf_manifest.specs.Manifest.{EndsInFile, HasBadText, HasFault, HasFaultOf, HasNoRoom, IsBare, IsFirstFault, IsLaterFault, IsWell}
 use Rattle.adf_manifest.specs.Manifest.{Manifest, MayStandNext, MayStand, items_of, label_lines, manifest_lines, manifest_tree, stamps_lines}
 use Rattle.adf_manifest.specs.declared.manifest.ManifestKind.{ManifestKind}
 use Rattle.adf_manifest.specs.declared.manifest.ManifestKind.TheVariants.{BadLine, BadSize, BadText, NoParent, ParentIsFile, Exists, NoMemory}
@@ -57,16 +57,19 @@ abbrev OfLine : Tree → LineValue → ManifestKind → Type 0
 OfLine tree line kind = ((kind ≡ BadText) × HasBadText line) ⊎ ((a : AddFault) × (kind ≡ kind_of a) × HasNoRoom tree line a)
 
 abbrev Later : Manifest → List ℕ → ManifestKind → Type 0
-Later m text kind = ((kind ≡ BadLine) × (¬ MayStandNext m text))
-    ⊎ ((line : LineValue) × IsLine line × MayStand m line × (text ≡ line_text line) × OfLine (manifest_tree m) line kind)
+Later m text kind =
+    ((kind ≡ BadLine) × (¬ MayStandNext m text)) ⊎ ((next : MayStandNext m text) × OfLine (manifest_tree m) next.line kind)
+
+abbrev next_of : (m : Manifest) (text : List ℕ) (kind : ManifestKind) → HasFaultOf m text kind → MayStandNext m text
+next_of m text kind f = record { line = f.line; is_line = f.is_line; stands = f.stands; reads = f.reads }
 
 later_kind : (m : Manifest) (text : List ℕ) (kind : ManifestKind) → IsLaterFault m text kind → Later m text kind
 unfolding kind_of
 later_kind m text BadLine f = inl (refl, f)
-later_kind m text BadText f = inr (f.0, f.1, f.2, f.3, inl (refl, f.4))
-later_kind m text NoParent f = inr (f.0, f.1, f.2, f.3, inr (add.NoParent, refl, f.4))
-later_kind m text ParentIsFile f = inr (f.0, f.1, f.2, f.3, inr (add.ParentIsFile, refl, f.4))
-later_kind m text Exists f = inr (f.0, f.1, f.2, f.3, inr (add.Exists, refl, f.4))
+later_kind m text BadText f = inr (next_of m text BadText f, inl (refl, f.fault))
+later_kind m text NoParent f = inr (next_of m text NoParent f, inr (add.NoParent, refl, f.fault))
+later_kind m text ParentIsFile f = inr (next_of m text ParentIsFile f, inr (add.ParentIsFile, refl, f.fault))
+later_kind m text Exists f = inr (next_of m text Exists f, inr (add.Exists, refl, f.fault))
 later_kind m text kind f = absurd f
 
 of_good : (m n : Manifest) (line : LineValue) (kind : ManifestKind) → Adds m line n → OfLine (manifest_tree m) line kind → ⊥
@@ -75,10 +78,10 @@ of_good m n line kind g (inr f) = room_good m n line f.0 g f.2
 
 line_good : (m n : Manifest) (line : LineValue) (text : List ℕ) (kind : ManifestKind) → Adds m line n → IsLine line → text ≡ line_text line
     → Later m text kind → ⊥
-line_good m n line text kind g is e (inl f) = f.1 (line, is, may_stand m n line g, e)
+line_good m n line text kind g is e (inl f) = f.1 (record { line = line; is_line = is; stands = may_stand m n line g; reads = e })
 line_good m n line text kind g is e (inr f) =
-    let same = line_same f.0 line f.1 is (sym f.3 ∙ e) in
-    of_good m n line kind g (subst (λ l. OfLine (manifest_tree m) l kind) same f.4)
+    let same = line_same f.0.line line f.0.is_line is (sym f.0.reads ∙ e) in
+    of_good m n line kind g (subst (λ l. OfLine (manifest_tree m) l kind) same f.1)
 
 -- behind lines of a manifest, a line that adds
 record IsInner (front : List (List ℕ)) (text : List ℕ) : Type 0 where
@@ -154,8 +157,9 @@ pub faultless : (m : Manifest) (all : List (List ℕ)) (number : ℕ) (kind : Ma
 unfolding volume_first
 faultless m all number kind w e (inl f) =
     let first = volume_first m in
-    first_good m.head.kind m.head.blocks f.0 kind w.head.size (heads f.0 (volume_line m.head.kind m.head.blocks) f.1 first.0 (sym f.2 ∙ e)) f.4
-faultless m all number kind w e (inr f) = later_good f.0 m f.1 f.2 kind f.3 w (sym e ∙ f.4) f.6
+    first_good m.head.kind m.head.blocks f.text kind w.head.size
+    (heads f.text (volume_line m.head.kind m.head.blocks) f.rest first.0 (sym f.lines ∙ e)) f.fault
+faultless m all number kind w e (inr f) = later_good f.before m f.text f.rest kind f.well w (sym e ∙ f.lines) f.fault
 
 -- a line has not both a bad text and no room
 text_or_room : (tree : Tree) (line : LineValue) (a : AddFault) → HasBadText line → HasNoRoom tree line a → ⊥
@@ -178,11 +182,11 @@ one_of_line tree line k k' (inr p) (inr q) = p.1 ∙ ap kind_of (one_room tree l
 
 one_later_kind : (m : Manifest) (text : List ℕ) (k k' : ManifestKind) → Later m text k → Later m text k' → k ≡ k'
 one_later_kind m text k k' (inl p) (inl q) = p.0 ∙ sym q.0
-one_later_kind m text k k' (inl p) (inr q) = absurd (p.1 (q.0, q.1, q.2, q.3))
-one_later_kind m text k k' (inr p) (inl q) = absurd (q.1 (p.0, p.1, p.2, p.3))
+one_later_kind m text k k' (inl p) (inr q) = absurd (p.1 q.0)
+one_later_kind m text k k' (inr p) (inl q) = absurd (q.1 p.0)
 one_later_kind m text k k' (inr p) (inr q) =
-    let same = line_same p.0 q.0 p.1 q.1 (sym p.3 ∙ q.3) in
-    one_of_line (manifest_tree m) q.0 k k' (subst (λ l. OfLine (manifest_tree m) l k) same p.4) q.4
+    let same = line_same p.0.line q.0.line p.0.is_line q.0.is_line (sym p.0.reads ∙ q.0.reads) in
+    one_of_line (manifest_tree m) q.0.line k k' (subst (λ l. OfLine (manifest_tree m) l k) same p.1) q.1
 
 one_first_kind : (text : List ℕ) (k k' : ManifestKind) → IsFirstFault text k → IsFirstFault text k' → k ≡ k'
 one_first_kind text BadLine BadLine f g = refl
@@ -212,22 +216,22 @@ fronts xs ys r r' e h = (
 -- lines have one first fault at most
 pub one_fault : (all : List (List ℕ)) (n n' : ℕ) (k k' : ManifestKind) → HasFault all n k → HasFault all n' k' → (n ≡ n') × (k ≡ k')
 one_fault all n n' k k' (inl f) (inl g) =
-    let same = heads f.0 g.0 f.1 g.1 (sym f.2 ∙ g.2) in
-    (f.3 ∙ sym g.3, one_first_kind g.0 k k' (subst (λ l. IsFirstFault l k) same f.4) g.4)
-one_fault all n n' k k' (inl f) (inr g) = absurd (mixed all f.0 f.1 k g.0 (g.1 ∷ g.2) f.2 f.4 g.3 g.4)
-one_fault all n n' k k' (inr f) (inl g) = absurd (mixed all g.0 g.1 k' f.0 (f.1 ∷ f.2) g.2 g.4 f.3 f.4)
+    let same = heads f.text g.text f.rest g.rest (sym f.lines ∙ g.lines) in
+    (f.place ∙ sym g.place, one_first_kind g.text k k' (subst (λ l. IsFirstFault l k) same f.fault) g.fault)
+one_fault all n n' k k' (inl f) (inr g) = absurd (mixed all f.text f.rest k g.before (g.text ∷ g.rest) f.lines f.fault g.well g.lines)
+one_fault all n n' k k' (inr f) (inl g) = absurd (mixed all g.text g.rest k' f.before (f.text ∷ f.rest) g.lines g.fault f.well f.lines)
 one_fault all n n' k k' (inr f) (inr g) =
-    elim (cases_order (length (manifest_lines f.0)) (length (manifest_lines g.0))) [
+    elim (cases_order (length (manifest_lines f.before)) (length (manifest_lines g.before))) [
       | inl e ↦
-          let both = fronts (manifest_lines f.0) (manifest_lines g.0) (f.1 ∷ f.2) (g.1 ∷ g.2) (sym f.4 ∙ g.4) e in
-          let told = one_told f.0 g.0 f.3 g.3 both.0 in
-          let text = heads f.1 g.1 f.2 g.2 both.1 in
-          let moved = subst (λ (m : Manifest). IsLaterFault m g.1 k) told (subst (λ t. IsLaterFault f.0 t k) text f.6) in
-          (f.5 ∙ ap (λ m. m + 1) e ∙ sym g.5, one_later_kind g.0 g.1 k k' (later_kind g.0 g.1 k moved) (later_kind g.0 g.1 k' g.6))
+          let both = fronts (manifest_lines f.before) (manifest_lines g.before) (f.text ∷ f.rest) (g.text ∷ g.rest) (sym f.lines ∙ g.lines) e in
+          let told = one_told f.before g.before f.well g.well both.0 in
+          let text = heads f.text g.text f.rest g.rest both.1 in
+          let moved = subst (λ (m : Manifest). IsLaterFault m g.text k) told (subst (λ t. IsLaterFault f.before t k) text f.fault) in
+          (f.place ∙ ap (λ m. m + 1) e ∙ sym g.place, one_later_kind g.before g.text k k' (later_kind g.before g.text k moved) (later_kind g.before g.text k' g.fault))
       | inr (inl lt) ↦
-          let more = inside (manifest_lines f.0) (manifest_lines g.0) f.2 (g.1 ∷ g.2) f.1 (sym f.4 ∙ g.4) lt in
-          absurd (later_good f.0 g.0 f.1 more.0 k f.3 g.3 more.1 f.6)
+          let more = inside (manifest_lines f.before) (manifest_lines g.before) f.rest (g.text ∷ g.rest) f.text (sym f.lines ∙ g.lines) lt in
+          absurd (later_good f.before g.before f.text more.0 k f.well g.well more.1 f.fault)
       | inr (inr gt) ↦
-          let more = inside (manifest_lines g.0) (manifest_lines f.0) g.2 (f.1 ∷ f.2) g.1 (sym g.4 ∙ f.4) gt in
-          absurd (later_good g.0 f.0 g.1 more.0 k' g.3 f.3 more.1 g.6)
+          let more = inside (manifest_lines g.before) (manifest_lines f.before) g.rest (f.text ∷ f.rest) g.text (sym g.lines ∙ f.lines) gt in
+          absurd (later_good g.before f.before g.text more.0 k' g.well f.well more.1 g.fault)
     ]

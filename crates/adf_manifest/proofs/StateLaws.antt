@@ -159,6 +159,6 @@ stopped (Err k) m line tree e may f = stops m line k may (subst (λ t. StopsIn t
 pub first_fault_explains : (kind : ManifestKind) (number : ℕ) (bytes : List ℕ) → length bytes ≤ most_bytes → ExplainsLines kind number (lines bytes)
     → ExplainsKind kind number bytes
 first_fault_explains NoMemory number bytes h f = (f, h)
-first_fault_explains TooLong number bytes h (inl f) = absurd f.4
-first_fault_explains TooLong number bytes h (inr f) = absurd f.6
+first_fault_explains TooLong number bytes h (inl f) = absurd f.fault
+first_fault_explains TooLong number bytes h (inr f) = absurd f.fault
 first_fault_explains kind number bytes h f = (h, f)

@@ -170,12 +170,19 @@ IsFirstFault text BadSize = (kind : Kind) × (n : ℕ) × (n < 2 ^ 32) × (text 
 IsFirstFault text _ = ⊥
 
 -- a text is that of a line that may stand behind the lines of a manifest
-abbrev pub MayStandNext : Manifest → List ℕ → Type 0
-MayStandNext m text = (line : LineValue) × IsLine line × MayStand m line × (text ≡ line_text line)
+pub record MayStandNext (m : Manifest) (text : List ℕ) : Type 0 where
+  pub line : LineValue
+  pub is_line : IsLine line
+  pub stands : MayStand m line
+  pub reads : text ≡ line_text line
 
 -- a text is that of a line that may stand there, and has this fault
-abbrev pub HasFaultOf : Manifest → List ℕ → ManifestKind → Type 0
-HasFaultOf m text kind = (line : LineValue) × IsLine line × MayStand m line × (text ≡ line_text line) × IsFaultOf (manifest_tree m) line kind
+pub record HasFaultOf (m : Manifest) (text : List ℕ) (kind : ManifestKind) : Type 0 where
+  pub line : LineValue
+  pub is_line : IsLine line
+  pub stands : MayStand m line
+  pub reads : text ≡ line_text line
+  pub fault : IsFaultOf (manifest_tree m) line kind
 
 -- the fault of a line behind those of a manifest
 abbrev pub IsLaterFault : Manifest → List ℕ → ManifestKind → Type 0
@@ -186,12 +193,27 @@ IsLaterFault m text ParentIsFile = HasFaultOf m text ParentIsFile
 IsLaterFault m text Exists = HasFaultOf m text Exists
 IsLaterFault m text _ = ⊥
 
--- the first line with a fault, counted from 1, and the first kind there: the lines before are those of a manifest
+-- line 1 has the fault
+pub record FaultInFirst (all : List (List ℕ)) (number : ℕ) (kind : ManifestKind) : Type 0 where
+  pub text : List ℕ
+  pub rest : List (List ℕ)
+  pub lines : all ≡ text ∷ rest
+  pub place : number ≡ 1
+  pub fault : IsFirstFault text kind
+
+-- a later line has the fault, and the lines before it are those of a manifest
+pub record FaultInLater (all : List (List ℕ)) (number : ℕ) (kind : ManifestKind) : Type 0 where
+  pub before : Manifest
+  pub text : List ℕ
+  pub rest : List (List ℕ)
+  pub well : IsWell before
+  pub lines : all ≡ manifest_lines before ++ text ∷ rest
+  pub place : number ≡ length (manifest_lines before) + 1
+  pub fault : IsLaterFault before text kind
+
+-- the first line with a fault, counted from 1, and the first kind there
 abbrev pub HasFault : List (List ℕ) → ℕ → ManifestKind → Type 0
-HasFault all number kind =
-    ((text : List ℕ) × (rest : List (List ℕ)) × (all ≡ text ∷ rest) × (number ≡ 1) × IsFirstFault text kind)
-    ⊎ ((m : Manifest) × (text : List ℕ) × (rest : List (List ℕ)) × IsWell m × (all ≡ manifest_lines m ++ text ∷ rest)
-    × (number ≡ length (manifest_lines m) + 1) × IsLaterFault m text kind)
+HasFault all number kind = FaultInFirst all number kind ⊎ FaultInLater all number kind
 
 -- what a fault says of the bytes: `TooLong` comes exactly where they are more than a manifest may have
 abbrev pub ExplainsKind : ManifestKind → ℕ → List ℕ → Type 0
