@@ -23,16 +23,16 @@ use Rattle.adf_manifest.proofs.Verdicts.{first_lines, heads, one_volume, one_tol
 
 -- a line that adds may stand at its place, and has no fault
 may_stand : (m n : Manifest) (line : LineValue) → Adds m line n → MayStand m line
-may_stand m n (LabelLine text) g = (g.0, g.1, g.2)
-may_stand m n (StampsLine stamps) g = (g.0, g.1)
+may_stand m n (LabelLine text) g = g.stands
+may_stand m n (StampsLine stamps) g = g.0
 may_stand m n (EntryLine sort stamp protect text) g = tt
-may_stand m n (NoteLine text) g = subst IsBare (sym g.1) (g.2, g.3)
-may_stand m n (RunLine run) g = subst EndsInFile (sym g.1) g.2
+may_stand m n (NoteLine text) g = subst IsBare (sym g.entries) g.bare
+may_stand m n (RunLine run) g = subst EndsInFile (sym g.entries) g.file
 
 text_good : (m n : Manifest) (line : LineValue) → Adds m line n → HasBadText line → ⊥
-text_good m n (LabelLine text) g f = f g.3.0 g.3.1
-text_good m n (EntryLine sort stamp protect text) g f = f g.0 g.1
-text_good m n (NoteLine text) g f = f g.4.0 g.4.1
+text_good m n (LabelLine text) g f = f g.label g.spells
+text_good m n (EntryLine sort stamp protect text) g f = f g.path g.reads
+text_good m n (NoteLine text) g f = f g.note g.spells
 text_good m n line g f = f
 
 ok_err : (r : Result ℕ AddFault) (f : AddFault) → IsOk r → r ≡ Err f → ⊥
@@ -41,8 +41,8 @@ ok_err (Err x) f h e = cc
 
 room_good : (m n : Manifest) (line : LineValue) (a : AddFault) → Adds m line n → HasNoRoom (manifest_tree m) line a → ⊥
 room_good m n (EntryLine sort stamp protect text) a g f =
-    let same = one_path text g.0 f.0 g.1 f.1 in
-    ok_err (room_for (manifest_tree m).entries f.0) a (subst (λ p. IsOk (room_for (manifest_tree m).entries p)) same g.2) f.2
+    let same = one_path text g.path f.0 g.reads f.1 in
+    ok_err (room_for (manifest_tree m).entries f.0) a (subst (λ p. IsOk (room_for (manifest_tree m).entries p)) same g.room) f.2
 room_good m n line a g f = f
 
 -- the kinds of a later fault

@@ -14,8 +14,9 @@ use Rattle.adf_manifest.specs.Lines.{IsLine, IsRun, LineValue, LabelLine, Stamps
 use Rattle.adf_manifest.specs.Lines.{stamps_line, note_line}
 use Rattle.adf_manifest.specs.Items.{HaveRoom, IsGivenNote, IsItem, Item, items_tree}
 use Rattle.adf_manifest.specs.Manifest.{Entries, IsManifestHead, IsWell, Manifest, head_lines, head_tree, label_lines, items_of, manifest_lines}
-use Rattle.adf_manifest.specs.Manifest.{manifest_tree}
+use Rattle.adf_manifest.specs.Manifest.{manifest_tree, EndsInFile, IsBare, MayStand}
 use Rattle.adf_manifest.specs.Reader.{bare}
+use Rattle.adf_fields.specs.declared.dates.Stamp.{Stamp}
 use Rattle.adf_manifest.specs.declared.lines.Sort.{Sort}
 use Rattle.adf_manifest.specs.declared.lines.Sort.TheVariants.{Dir, File}
 use Rattle.adf_manifest.specs.declared.reader.Head.{Head}
@@ -32,17 +33,43 @@ with_label h label = record h { label = Some label }
 abbrev pub with_stamps : Head → Stamps → Head
 with_stamps h stamps = record h { stamps = Some stamps }
 
+-- a label line adds the label that it tells
+pub record AddsLabel (m : Manifest) (text : List ℕ) (n : Manifest) : Type 0 where
+  pub stands : MayStand m (LabelLine text)
+  pub label : List ℕ
+  pub spells : IsSpelling 30 text label
+  pub told : n ≡ bare (with_label m.head label)
+
+-- an entry line adds an entry that has room
+pub record AddsEntry (m : Manifest) (sort : Sort) (stamp : Stamp) (protect : ℕ) (text : List ℕ) (n : Manifest) : Type 0 where
+  pub path : List (List ℕ)
+  pub reads : IsPathText text path
+  pub room : IsOk (room_for (manifest_tree m).entries path)
+  pub told : n ≡ with_new m (new_item sort stamp protect path)
+
+-- a note line adds its note to the last entry
+pub record AddsNote (m : Manifest) (text : List ℕ) (n : Manifest) : Type 0 where
+  pub some : Entries
+  pub entries : m.entries ≡ Some some
+  pub bare : IsBare (Some some)
+  pub note : List ℕ
+  pub spells : IsSpelling 79 text note
+  pub told : n ≡ with_last m some (noted some.last note)
+
+-- a line of bytes adds them to the last entry, a file
+pub record AddsRun (m : Manifest) (run : RunValue) (n : Manifest) : Type 0 where
+  pub some : Entries
+  pub entries : m.entries ≡ Some some
+  pub file : EndsInFile (Some some)
+  pub told : n ≡ with_last m some (with_run some.last run)
+
 -- a line stands behind those of a manifest without a fault, and this is told with it
 abbrev pub Adds : Manifest → LineValue → Manifest → Type 0
-Adds m (LabelLine text) n =
-    (m.entries ≡ None) × (m.head.label ≡ None) × (m.head.stamps ≡ None) × ((label : List ℕ) × IsSpelling 30 text label × (n ≡ bare (with_label m.head label)))
-Adds m (StampsLine stamps) n = (m.entries ≡ None) × (m.head.stamps ≡ None) × (n ≡ bare (with_stamps m.head stamps))
-Adds m (EntryLine sort stamp protect text) n =
-    (path : List (List ℕ)) × IsPathText text path × IsOk (room_for (manifest_tree m).entries path) × (n ≡ with_new m (new_item sort stamp protect path))
-Adds m (NoteLine text) n =
-    (e : Entries) × (m.entries ≡ Some e) × (e.last.note ≡ None) × (e.last.runs ≡ [])
-    × ((note : List ℕ) × IsSpelling 79 text note × (n ≡ with_last m e (noted e.last note)))
-Adds m (RunLine run) n = (e : Entries) × (m.entries ≡ Some e) × (e.last.sort ≡ File) × (n ≡ with_last m e (with_run e.last run))
+Adds m (LabelLine text) n = AddsLabel m text n
+Adds m (StampsLine stamps) n = MayStand m (StampsLine stamps) × (n ≡ bare (with_stamps m.head stamps))
+Adds m (EntryLine sort stamp protect text) n = AddsEntry m sort stamp protect text n
+Adds m (NoteLine text) n = AddsNote m text n
+Adds m (RunLine run) n = AddsRun m run n
 
 -- a manifest of one line
 pub record IsFirst (n : Manifest) : Type 0 where
@@ -91,7 +118,7 @@ last_of_head kind blocks (Some label) None g =
       last = LabelLine (escaped label);
       well = bare_well before well;
       is_line = filled label g.label.0;
-      adds = (refl, refl, refl, (label, g.label.1, refl));
+      adds = record { stands = (refl, refl, refl); label = label; spells = g.label.1; told = refl };
       lines = refl;
     })
 last_of_head kind blocks label (Some stamps) g =
@@ -103,7 +130,7 @@ last_of_head kind blocks label (Some stamps) g =
       last = StampsLine stamps;
       well = bare_well before well;
       is_line = g.stamps;
-      adds = (refl, refl, refl);
+      adds = ((refl, refl), refl);
       lines = bare_lines now ∙ stamps_behind before stamps refl ∙ ap (λ l. l ++ stamps_line stamps ∷ []) (sym (bare_lines before));
     })
 
@@ -147,7 +174,7 @@ last_run m e runs run w is r =
       last = RunLine run;
       well = last_well m e i w is less.0 refl;
       is_line = less.1;
-      adds = (before, refl, file, same);
+      adds = record { some = before; entries = refl; file = file; told = same };
       lines = ap manifest_lines same ∙ last_lines k before (with_run i run) (run_line run) refl (with_run_lines i run);
     }
 
@@ -169,7 +196,7 @@ last_note m e note w is r n =
       last = NoteLine (escaped note);
       well = last_well m e i w is bare refl;
       is_line = filled note mine.0;
-      adds = (before, refl, refl, r, (note, mine.1, same));
+      adds = record { some = before; entries = refl; bare = (refl, r); note = note; spells = mine.1; told = same };
       lines = ap manifest_lines same ∙ last_lines k before (noted i note) (note_line (escaped note)) refl (noted_lines i note refl r);
     }
 
@@ -200,7 +227,7 @@ last_entry m e es b w is r n =
       last = EntryLine e.last.sort e.last.stamp e.last.protect (path_text path);
       well = well;
       is_line = (item.stamp, item.protect, path_some path item.filled item.names);
-      adds = (path, text, place, same);
+      adds = record { path = path; reads = text; room = place; told = same };
       lines = ap manifest_lines same ∙ new_lines k i;
     }
 

@@ -45,18 +45,13 @@ spelled_once most text a b g h = only_spelled a b g.are_bytes h.are_bytes (sym g
 
 -- a line tells one thing with what stands before it
 one_adds : (m n n' : Manifest) (line : LineValue) → Adds m line n → Adds m line n' → n ≡ n'
-one_adds m n n' (LabelLine text) g h =
-    let same = spelled_once 30 text g.3.0 h.3.0 g.3.1 h.3.1 in
-    rw (g.3.2, same, h.3.2)
-one_adds m n n' (StampsLine stamps) g h = g.2 ∙ sym h.2
-one_adds m n n' (EntryLine sort stamp protect text) g h =
-    let same = one_path text g.0 h.0 g.1 h.1 in
-    rw (g.3, same, h.3)
+one_adds m n n' (LabelLine text) g h = rw (g.told, spelled_once 30 text g.label h.label g.spells h.spells, h.told)
+one_adds m n n' (StampsLine stamps) g h = g.1 ∙ sym h.1
+one_adds m n n' (EntryLine sort stamp protect text) g h = rw (g.told, one_path text g.path h.path g.reads h.reads, h.told)
 one_adds m n n' (NoteLine text) g h =
-    let same = spelled_once 79 text g.4.0 h.4.0 g.4.1 h.4.1 in
-    let entries = one_entries m.entries g.0 h.0 g.1 h.1 in
-    rw (g.4.2, entries, same, h.4.2)
-one_adds m n n' (RunLine run) g h = rw (g.3, one_entries m.entries g.0 h.0 g.1 h.1, h.3)
+    let same = spelled_once 79 text g.note h.note g.spells h.spells in
+    rw (g.told, one_entries m.entries g.some h.some g.entries h.entries, same, h.told)
+one_adds m n n' (RunLine run) g h = rw (g.told, one_entries m.entries g.some h.some g.entries h.entries, h.told)
 
 -- a manifest of one line
 pub first_lines : (n : Manifest) → IsFirst n → manifest_lines n ≡ volume_line n.head.kind n.head.blocks ∷ []
