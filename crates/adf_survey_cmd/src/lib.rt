@@ -13,4 +13,4 @@ mod work;
 
 pub use crate::command_line::{Inquiry, parse, survey_words_as_documented};
 pub use crate::ending::Ending;
-pub use crate::runner::{one_answer, run};
+pub use crate::runner::{one_answer, refuse_words, run, run_on};

@@ -1,6 +1,6 @@
 // The whole command.
 
-ghost use Rattle.std.specs.Prelude.{◌≡◌, ◌≤◌, ◌*◌, ◌+◌, true, false, codes, IfSome};
+ghost use Rattle.std.specs.Prelude.{◌≡◌, ◌≤◌, ◌*◌, ◌+◌, true, false, codes, length, min, IfSome};
 ghost use Rattle.adf_blocks.specs.declared.layout.TheConstants.{MOST_BLOCKS};
 ghost use Rattle.adf_cmd.specs.Answers.{failure_line};
 ghost use Rattle.adf_cmd.specs.CommandLine.{texts_of};
@@ -12,7 +12,7 @@ ghost use Rattle.adf_survey_cmd.specs.Work.{unmet_line, unmet_status};
 
 use crate::ending::Ending;
 use crate::work::{WorkFault, work_of};
-use adf_cmd::{Sink, Source, say};
+use adf_cmd::{MOST_IMAGE_BYTES, Ran, Sink, Source, say};
 use std::alloc::Global;
 
 // Says on errors how the work ended, and answers the status.
@@ -35,6 +35,16 @@ fn refuse<E: Sink>(fault: WorkFault, errors: &mut E) -> u8
 {
     say(errors, fault.line());
     fault.status()
+}
+
+/// Says on errors which words are taken, and answers the status of others, 2.
+pub fn refuse_words<E: Sink>(errors: &mut E) -> u8
+    requires { E.has_failed errors.old ≡ false }
+    ensures status { result ≡ 2 }
+    ensures said { Says (E.has_failed errors.new) (E.held errors.old) (E.held errors.new)
+        survey_usage }
+{
+    refuse(WorkFault::Usage, errors)
 }
 
 /// Does what the words ask for, of which the first is the program's name, and answers the status:
@@ -89,6 +99,62 @@ pub fn run<R: Source, W: Sink, E: Sink>(
     match work_of(alloc, words) {
         Ok(work) => finish(work.on_input(alloc, input, output), errors),
         Err(fault) => refuse(fault, errors),
+    }
+}
+
+/// Does what the words ask for, as `run` does, over bytes that are in memory, where they lie.
+pub fn run_on<W: Sink, E: Sink>(
+    alloc: Global,
+    words: &[&str],
+    input: &[u8],
+    output: &mut W,
+    errors: &mut E,
+) -> Ran
+    requires writes { W.has_failed output.old ≡ false }
+    requires tells { E.has_failed errors.old ≡ false }
+    ensures status { result.status ≤ 3 }
+    ensures within { result.taken ≤ length input.now }
+
+    // Where the words are taken, at a status other than 3 the answer is the defined one.
+    ensures answer { ¬ AreRefusedBySurvey (texts_of words.now) → ¬ (result.status ≡ 3)
+        → SurveyAnswers (texts_of words.now) input.now result.status
+        (W.held output.old) (W.held output.new)
+        (E.has_failed errors.new) (E.held errors.old) (E.held errors.new) }
+    ensures words { ¬ (result.status ≡ 2) → ¬ (result.status ≡ 3)
+        → ¬ IsUnansweredBySurvey (texts_of words.now) }
+
+    // At status 2 the words are refused or their path is not read, and nothing was looked at or written.
+    ensures usage { result.status ≡ 2 → IsUnansweredBySurvey (texts_of words.now) }
+    ensures bad_path { result.status ≡ 2 → AsksBadSurveyPath (texts_of words.now)
+        → Says (E.has_failed errors.new) (E.held errors.old) (E.held errors.new)
+        (codes "bad path\n") }
+    ensures refused { result.status ≡ 2 → AreRefusedBySurvey (texts_of words.now)
+        → Says (E.has_failed errors.new) (E.held errors.old) (E.held errors.new) survey_usage }
+    ensures untouched { result.status ≡ 2 → (result.taken ≡ 0) × (output.new ≡ output.old) }
+
+    // At status 3 errors tell what failed, and output has a front part of an answer.
+    ensures write_failed { W.has_failed output.new ≡ true → result.status ≡ 3 }
+    ensures failure { result.status ≡ 3
+        → Says (E.has_failed errors.new) (E.held errors.old) (E.held errors.new)
+        (failure_line false (W.has_failed output.new)) }
+    ensures part { result.status ≡ 3
+        → SurveyAnswersPart (texts_of words.now) false input.now
+        (W.held output.old) (W.held output.new) }
+
+    // At status 0 and 1 all was looked at, and of more bytes than an image has those of one and one more.
+    ensures at_most { result.taken ≤ 512 * MOST_BLOCKS + 1 }
+    ensures taken { ¬ (result.status ≡ 2) → ¬ (result.status ≡ 3)
+        → result.taken ≡ min (length input.now) (512 * MOST_BLOCKS + 1) }
+{
+    match work_of(alloc, words) {
+        Ok(work) => Ran {
+            status: finish(work.on(alloc, input, output), errors),
+            taken: input.len().min(MOST_IMAGE_BYTES + 1),
+        },
+        Err(fault) => Ran {
+            status: refuse(fault, errors),
+            taken: 0,
+        },
     }
 }
 

@@ -116,8 +116,8 @@ impl Work {
         }
     }
 
-    // Surveys an image, and does the work.
-    fn on<W: Sink>(&self, alloc: Global, image: &[u8], output: &mut W) -> Ending
+    /// Surveys an image, and does the work.
+    pub fn on<W: Sink>(&self, alloc: Global, image: &[u8], output: &mut W) -> Ending
         requires { W.has_failed output.old ≡ false }
         ensures ends { (r : InquiryValue) → Meets self.now r
             → EndsBy (SurveyAnswer r image.now) result (W.held output.old) (W.held output.new) }
