@@ -8,6 +8,7 @@ mod memory;
 mod owners;
 mod reading;
 mod running;
+mod surveying;
 mod tables;
 #[cfg(test)]
 mod tests;

@@ -61,3 +61,44 @@ impl Sink for CallerMemory<'_> {
         self.full
     }
 }
+
+/// How much of the caller's memory a run has moved.
+#[repr(C)]
+#[derive(Clone, Copy)]
+pub struct Moved {
+    /// Bytes of the input that were read.
+    pub input: usize,
+    /// Bytes that stand in the room for output.
+    pub output: usize,
+    /// Bytes that stand in the room for errors.
+    pub errors: usize,
+    /// Whether output had too little room.
+    pub output_full: bool,
+    /// Whether errors had too little room.
+    pub errors_full: bool,
+}
+
+impl Moved {
+    /// What a run moved that read so many bytes, and wrote into rooms for so many.
+    pub fn of(
+        input: usize,
+        output: &CallerMemory<'_>,
+        most_output: usize,
+        errors: &CallerMemory<'_>,
+        most_errors: usize,
+    ) -> Moved
+        ensures input { result.input ≡ input }
+        ensures output { result.output ≡ min output.now.taken most_output }
+        ensures errors { result.errors ≡ min errors.now.taken most_errors }
+        ensures output_full { result.output_full ≡ output.now.full }
+        ensures errors_full { result.errors_full ≡ errors.now.full }
+    {
+        Moved {
+            input,
+            output: output.taken(most_output),
+            errors: errors.taken(most_errors),
+            output_full: output.is_full(),
+            errors_full: errors.is_full(),
+        }
+    }
+}

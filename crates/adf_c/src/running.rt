@@ -6,25 +6,23 @@ ghost use Rattle.adf_cmd.specs.CommandLine.{AreRefused, request_of};
 ghost use Rattle.adf_cmd.specs.Streams.{Says};
 ghost use Rattle.adf_c.specs.Words.{AreNoWords, AreWords, ForWords};
 
-use crate::memory::CallerMemory;
+use crate::memory::{CallerMemory, Moved};
 use crate::words::words_in;
 use adf_cmd::{Ran, Sink, WordsFault, refuse_words, run_on, say};
 use std::alloc::Global;
 
-/// How much of the caller's memory a run has moved.
-#[repr(C)]
-#[derive(Clone, Copy)]
-pub struct Moved {
-    /// Bytes of the input that were read.
-    pub input: usize,
-    /// Bytes that stand in the room for output.
-    pub output: usize,
-    /// Bytes that stand in the room for errors.
-    pub errors: usize,
-    /// Whether output had too little room.
-    pub output_full: bool,
-    /// Whether errors had too little room.
-    pub errors_full: bool,
+/// Says that memory was refused before a work was begun.
+pub fn refuse_memory<E: Sink>(errors: &mut E) -> Ran
+    requires { E.has_failed errors.old ≡ false }
+    ensures ran { result ≡ record { status = 3; taken = 0 } }
+    ensures said { Says (E.has_failed errors.new) (E.held errors.old) (E.held errors.new)
+        (codes "no memory\n") }
+{
+    say(errors, "no memory\n");
+    Ran {
+        status: 3,
+        taken: 0,
+    }
 }
 
 // Runs the command that the words in memory name, over bytes where they lie.
@@ -68,13 +66,7 @@ fn run_words<W: Sink, E: Sink>(
             status: refuse_words(errors),
             taken: 0,
         },
-        Err(WordsFault::NoMemory) => {
-            say(errors, "no memory\n");
-            Ran {
-                status: 3,
-                taken: 0,
-            }
-        }
+        Err(WordsFault::NoMemory) => refuse_memory(errors),
     }
 }
 
@@ -135,12 +127,12 @@ pub extern "C" fn adf_run(
     let mut output_room = CallerMemory::new(output);
     let mut errors_room = CallerMemory::new(errors);
     let ran = run_words(alloc, words, input, &mut output_room, &mut errors_room);
-    *moved = Moved {
-        input: ran.taken,
-        output: output_room.taken(most_output),
-        errors: errors_room.taken(most_errors),
-        output_full: output_room.is_full(),
-        errors_full: errors_room.is_full(),
-    };
+    *moved = Moved::of(
+        ran.taken,
+        &output_room,
+        most_output,
+        &errors_room,
+        most_errors,
+    );
     ran.status
 }
