@@ -18,9 +18,9 @@ use Rattle.adf_survey.proofs.OneSurvey.{gathered}
 -- the number of an entry is greater than its directory's, and at most the count
 pub child_between : (image : List ℕ) (w : List (Role × ℕ)) (fs : List Finding) → IsSurvey image w fs → (p n : ℕ) (name : List ℕ)
     → IsNamedChild image w p name n → (p < n) × (n ≤ heads w)
-child_between image w fs (unread f) p n name k = absurd k.3
-child_between image w fs (read begun v d t) p n name k =
-    let h : HeadAt w n k.2 = head_at n p k.0 k.1 k.2 k.3 in (parent_below image (gathered image v) h, (number_of image (gathered image v) h).1)
+child_between image w fs (unread f) p n name (s, j, b, has, same) = absurd has
+child_between image w fs (read begun v d t) p n name (s, j, b, has, same) =
+    let h : HeadAt w n b = head_at n p s j b has in (parent_below image (gathered image v) h, (number_of image (gathered image v) h).1)
 
 -- the header of an entry, by its number
 pub header_at : (image : List ℕ) (w : List (Role × ℕ)) (fs : List Finding) → IsSurvey image w fs → (n : ℕ) → 1 ≤ n → n ≤ heads w

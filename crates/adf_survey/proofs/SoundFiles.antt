@@ -25,13 +25,15 @@ use Rattle.adf_survey.proofs.FileBlocks.{DatasListed, datas_listed, listed_named
 use Rattle.adf_survey.proofs.SoundEntries.{passed_noted, sound_file}
 use Rattle.adf_survey.proofs.SoundMarks.{inside}
 
--- the data blocks of a sound file are in the walk in order
-pub sound_listed : (image : List ℕ) (w : List (Role × ℕ)) (fs : List Finding) (n h : ℕ) → IsSurvey image w fs → IsSound image w fs n h
-    → DatasListed image n w
-sound_listed image w fs n h (unread f) sound = absurd sound.header.has
-sound_listed image w fs n h (read {s = s} {bits = bits} begun v d told) sound =
-    datas_listed image n v (λ k b g. let y = passed_noted image v (Data n k) b g in
-    sound.datas k y.0 (Data n k) (in_left s.findings bits y.0 y.1) y.2 (same_refl (Data n k)))
+-- an image with a sound entry begins as a volume, and the entry's data blocks are in the walk in order
+pub sound_read : (image : List ℕ) (w : List (Role × ℕ)) (fs : List Finding) (n h : ℕ) → IsSurvey image w fs → IsSound image w fs n h
+    → AllHold (boot_demands image ++ root_demands image (root_of image)) × DatasListed image n w
+sound_read image w fs n h (unread f) sound = absurd sound.header.has
+sound_read image w fs n h (read {s = s} {bits = bits} begun v d told) sound = (
+  begun,
+  datas_listed image n v (λ k b g. let y = passed_noted image v (Data n k) b g in
+      sound.datas k y.0 (Data n k) (in_left s.findings bits y.0 y.1) y.2 (same_refl (Data n k))),
+)
 
 -- the file that the table of a sound file tells is that of the walk, and it has its blocks
 pub file_told : (image : List ℕ) (w : List (Role × ℕ)) (fs : List Finding) (n : ℕ) → IsSurvey image w fs
@@ -42,7 +44,7 @@ file_told image w fs n (read {s = s} {bits = bits} begun v d told) sound type =
     let h : ℕ = node_block s.walk n in
     let file : FileAt image s.walk n h = record { header = sound.header; type = type } in
     let holds = sound_file image s.walk (s.findings ++ bits) n h (read begun v d told) sound file in
-    let listed = sound_listed image s.walk (s.findings ++ bits) n h (read begun v d told) sound in
+    let listed = (sound_read image s.walk (s.findings ++ bits) n h (read begun v d told) sound).1 in
     let e : names_from image h (data_count image h) ≡ datas_in s.walk n =
     listed_named image n v listed h file (λ k lt. let y = holds.named k lt in (y.1, y.4)) in (
       (λ i. record { image = image; head = h; blocks = e i }),
@@ -53,12 +55,6 @@ file_told image w fs n (read {s = s} {bits = bits} begun v d told) sound type =
         many = sym (ap length e) ∙ names_length image n h (data_count image h);
       },
     )
-
--- an image with a sound entry begins as a volume
-pub sound_begun : (image : List ℕ) (w : List (Role × ℕ)) (fs : List Finding) (n h : ℕ) → IsSurvey image w fs → IsSound image w fs n h
-    → AllHold (boot_demands image ++ root_demands image (root_of image))
-sound_begun image w fs n h (unread f) sound = absurd sound.header.has
-sound_begun image w fs n h (read begun v d told) sound = begun
 
 -- what is kept of a survey tells of the header of an entry
 module _ (v : Surveyed) (kept : IsOfSurvey v) (w : List (Role × ℕ)) (fs : List Finding) (h : IsSurvey v.image w fs) (n : ℕ) {head type : ℕ} {image : List ℕ}

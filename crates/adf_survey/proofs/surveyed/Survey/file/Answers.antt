@@ -5,7 +5,7 @@ use Rattle.adf_volume.specs.Image.{root_of}
 use Rattle.adf_volume.specs.Walk.{node_block}
 use Rattle.adf_volume.proofs.Lists.{fails_not_all}
 use Rattle.adf_survey.specs.Surveyed.{IsOfSurvey}
-use Rattle.adf_survey.proofs.SoundFiles.{file_is, has_its_blocks, sound_begun, type_is}
+use Rattle.adf_survey.proofs.SoundFiles.{file_is, has_its_blocks, sound_read, type_is}
 use Rattle.adf_survey.proofs.surveyed.Survey.file.Goals as goal
 
 pub returns-in_default-clause-some : goal.returns-in_default-clause-some
@@ -14,7 +14,7 @@ returns-in_default-clause-some c = λ w fs h. (
   (λ y.
       let image : List ℕ = c.args.self.now.image in
       let at : ℕ = c.in_default.field-0.block in
-      let all = sound_begun image w fs c.args.n (node_block w c.args.n) h y.0 in
+      let all = (sound_read image w fs c.args.n (node_block w c.args.n) h y.0).0 in
       let fails : FirstFails (boot_demands image ++ root_demands image (root_of image)) at c.in_default.field-0.cause =
       subst (λ i. FirstFails (boot_demands i ++ root_demands i (root_of i)) at c.in_default.field-0.cause) (ap (λ v. v.image) c.self.view_is)
       c.in_default.ensures.fails in
