@@ -8,16 +8,20 @@ from shared import adf
 CYLINDER = 22
 STEP, SIDE, MARGIN = 10, 9, 12
 LINE, LEGEND = 20, 17
-UNTOLD = len(adf.ROLES)
-NAMES = (*adf.ROLES, "not told")
-COLOURS = ("#e8e8e8", "#333333", "#d62728", "#9467bd", "#c5b0d5", "#ff7f0e", "#bcbd22", "#1f77b4", "#bbbbbb")
+UNTOLD, NOTED = len(adf.ROLES), len(adf.ROLES) + 1
+NAMES = (*adf.ROLES, "not told", "has a finding")
+COLOURS = ("#e8e8e8", "#333333", "#d62728", "#9467bd", "#c5b0d5", "#ff7f0e", "#bcbd22", "#1f77b4", "#bbbbbb", "#d62728")
 FAULT = "#d62728"
 RUN = re.compile(rb"(.)\1*", re.DOTALL)
 
 
-def untold(image):
-    """The roles of a refused image, which nobody knows."""
-    return bytes([UNTOLD]) * (len(image) // adf.BLOCK)
+def roles_of_refused(image, findings):
+    """The roles of a refused image, which nobody knows but that a block has a finding."""
+    roles = bytearray([UNTOLD]) * (len(image) // adf.BLOCK)
+    for finding in findings:
+        inside = range(finding.first, min(finding.last + 1, len(roles)))
+        roles[finding.first : finding.first + len(inside)] = bytes([NOTED]) * len(inside)
+    return bytes(roles)
 
 
 def width_of(count):

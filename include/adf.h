@@ -228,6 +228,19 @@ struct adf_moved {
 uint8_t adf_run(const uint8_t *words, size_t words_length, const uint8_t *input, size_t input_length,
                 uint8_t *output, size_t output_room, uint8_t *errors, size_t errors_room, struct adf_moved *moved);
 
+/* Runs the command `adf-survey` with these words over an image, and answers its status. The words stand as those of adf_run: so
+ * `adf-survey cat c/readme` is "adf-survey\0cat\0c/readme\0", of 24 bytes. docs/adf-survey.1 has what is written.
+ *
+ * 0: there is no finding, and output has nothing; or of `cat` output has the bytes of the file, which is sound. Errors have nothing.
+ * 1: output has the lines of the findings; or of `cat` nothing, and errors say `no such path`, `not a file` or `damaged`.
+ *    With `--list` the lines of what is found stand behind those of the findings, at 0 too.
+ * 2, 3: as of adf_run.
+ *
+ * Nothing is said of the bytes of a room behind those that `moved` counts.
+ */
+uint8_t adf_survey_run(const uint8_t *words, size_t words_length, const uint8_t *input, size_t input_length,
+                       uint8_t *output, size_t output_room, uint8_t *errors, size_t errors_room, struct adf_moved *moved);
+
 #ifdef __cplusplus
 }
 #endif

@@ -11,6 +11,7 @@
     for path, directories, files in volume.walk():  # as os.walk
         print(path, directories, files)
     roles = volume.owners()                         # a byte for each block: adf.ROLES[roles[880]] is "root"
+    found = adf.survey(image)                       # of a damaged image: found.findings, found.entries, found.read("c/list")
 
 Texts are in Latin-1, as Amigas have them, so each byte is one character and nothing is lost; where a path is given, bytes do
 as well, and mean themselves. `raw_label`, `raw_name`, `raw_path` and `raw_comment` are the bytes.
@@ -67,6 +68,7 @@ _CALLS = {
     "adf_read": (_SIZE, *(_POINTER, _SIZE) * 3, _SIZE, _SIZE, _POINTER, _SIZE),
     "adf_cause_text": (_SIZE, _BYTE, _POINTER, _SIZE),
     "adf_run": (_BYTE, *(_POINTER, _SIZE) * 4, _POINTER),
+    "adf_survey_run": (_BYTE, *(_POINTER, _SIZE) * 4, _POINTER),
 }
 _library = None
 
@@ -154,19 +156,102 @@ def check(image):
     return Verdict(KINDS[verdict.kind], *(getattr(verdict, name) for name in Verdict._fields[1:]))
 
 
-def run(words, given=b""):
-    """Runs the command `adf` with these words over the input: its status, and what it wrote to output and to errors."""
-    given, line = _bytes(given), b"".join(word.encode() + b"\0" for word in ("adf", *words))
+def _run(call, program, words, given):
+    """Runs a program of the library with these words over the input: its status, output and errors."""
+    given, line = _bytes(given), b"".join(word.encode() + b"\0" for word in (program, *words))
     if line.count(b"\0") != len(words) + 1:
         raise ValueError("a word has a zero byte")
     errors, moved, room = ctypes.create_string_buffer(MOST_ERRORS), _Moved(), len(given) + FIRST_OUTPUT
     while True:
         output = ctypes.create_string_buffer(room)
         rooms = (output, room, errors, MOST_ERRORS, ctypes.byref(moved))
-        status = _calls().adf_run(line, len(line), given, len(given), *rooms)
+        status = call(line, len(line), given, len(given), *rooms)
         if not moved.output_full:
             return status, output.raw[: moved.output], errors.raw[: moved.errors]
         room *= 4
+
+
+def run(words, given=b""):
+    """Runs the command `adf` with these words over the input: its status, and what it wrote to output and to errors."""
+    return _run(_calls().adf_run, "adf", words, given)
+
+
+def survey(image):
+    """All that is wrong with an image, and what is found in it all the same."""
+    return Survey(image)
+
+
+# Blocks from the first to the last with one cause, as `bad sum`; the path of the entry that is concerned, where there is one.
+Finding = collections.namedtuple("Finding", "first last cause path")
+# An entry that is found: whether it is sound; the columns of `adf list`; its comment.
+Found = collections.namedtuple("Found", "is_sound is_file protection size date path comment")
+_FOUND = re.compile(r"(sound  |damaged) (dir |file) ([0-9a-f]{8}) +(\d+|-) ([\d-]+ [\d:.]+|[\d:]+) (.*)")
+
+
+class Survey:
+    """What is found in an image by `adf-survey`: findings, in its order; entries, in its order; image, its bytes.
+
+    It has no findings exactly where `Volume` takes the image, and the first of them is what `Refused` says.
+    """
+
+    def __init__(self, image):
+        self.image = _bytes(image)
+        self.findings, self.entries = [], []
+        for line in self._answer(["--list"]).decode("ascii").splitlines():
+            word, _, rest = line.partition(" ")
+            if word in ("block", "blocks"):
+                self.findings.append(_finding(rest))
+            elif word in ("sound", "damaged"):
+                self.entries.append(_found(*_FOUND.fullmatch(line).groups()))
+            elif word == "note":
+                self.entries[-1] = self.entries[-1]._replace(comment=_plain(rest))
+
+    def read(self, path):
+        """The bytes of a sound file, for which the image is surveyed again. KeyError where nothing is under the path,
+        IsADirectoryError where it is no file, OSError (EIO) where it is damaged."""
+        try:
+            return self._answer(["cat", "--", escape(path)], path)
+        except UnicodeEncodeError:
+            raise KeyError(path) from None
+
+    def _answer(self, words, path=None):
+        status, output, errors = _run(_calls().adf_survey_run, "adf-survey", words, self.image)
+        if status == 3:
+            raise MemoryError
+        if errors in (b"no such path\n", b"bad path\n"):
+            raise KeyError(path)
+        if errors == b"not a file\n":
+            raise IsADirectoryError(errno.EISDIR, os.strerror(errno.EISDIR), path)
+        if errors == b"damaged\n":
+            raise OSError(errno.EIO, "damaged", path)
+        return output
+
+
+def _finding(text):
+    """A finding by its line, of which the first word is read."""
+    blocks, cause, *path = text.split(": ", 2)
+    first, *last = map(int, blocks.split(" to "))
+    return Finding(first, last[0] if last else first, cause, _plain(path[0]) if path else None)
+
+
+def _found(mark, word, protection, size, date, path):
+    """An entry that is found, by the parts of its line."""
+    return Found(
+        mark.strip() == "sound", word == "file", int(protection, 16), int(size.replace("-", "0")), _date_of(date), _plain(path), ""
+    )
+
+
+def _date_of(text):
+    """The date that has this text."""
+    if " " not in text:
+        return Date(*map(int, text.split(":")))
+    past = datetime.datetime.strptime(text[:-3], "%Y-%m-%d %H:%M:%S") - EPOCH
+    return Date(past.days, past.seconds // 60, past.seconds % 60 * 50 + int(text[-2:]))
+
+
+def _plain(text):
+    """The text in Latin-1 of which this is the escape form."""
+    return re.sub(r"\\x([0-9a-f]{2})", lambda found: chr(int(found[1], 16)), text)
 
 
 def escape(text):

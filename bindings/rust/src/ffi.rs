@@ -100,6 +100,17 @@ extern "C" {
         errors_room: usize,
         moved: *mut Moved,
     ) -> u8;
+    fn adf_survey_run(
+        words: *const u8,
+        words_length: usize,
+        input: *const u8,
+        input_length: usize,
+        output: *mut u8,
+        output_room: usize,
+        errors: *mut u8,
+        errors_room: usize,
+        moved: *mut Moved,
+    ) -> u8;
 }
 
 /// The tables of a volume, as `adf_index` makes them.
@@ -203,13 +214,24 @@ pub(crate) fn cause_text(cause: u8) -> String {
     String::from_utf8_lossy(&room[..length.min(room.len())]).into_owned()
 }
 
-/// Runs the command over memory: its status, and how many bytes moved.
-pub(crate) fn run(words: &[u8], input: &[u8], output: &mut [u8], errors: &mut [u8]) -> (u8, Moved) {
+/// A program of the library.
+#[derive(Clone, Copy)]
+pub(crate) enum Program {
+    Adf,
+    Survey,
+}
+
+/// Runs a program over memory: its status, and how many bytes moved.
+pub(crate) fn run(program: Program, words: &[u8], input: &[u8], output: &mut [u8], errors: &mut [u8]) -> (u8, Moved) {
     let mut moved = Moved::default();
+    let call = match program {
+        Program::Adf => adf_run,
+        Program::Survey => adf_survey_run,
+    };
     // "What is written here (not const) overlaps nothing else that is passed"; "a room may hold anything before the call, and so
     // may a struct, but for its bools, which are true or false".
     let status = unsafe {
-        adf_run(
+        call(
             words.as_ptr(),
             words.len(),
             input.as_ptr(),

@@ -7,7 +7,7 @@ mod role;
 mod text;
 
 pub use cause::{Cause, NotFound, Refused};
-pub use command::{run, Answer};
+pub use command::{run, survey, Answer};
 pub use ffi::Date;
 pub use role::Role;
 pub use text::Text;

@@ -1,6 +1,6 @@
 //! Small volumes, built by the library itself.
 
-use adf::{run, Cause, Date, Kind, NotFound, Refused, Role, Volume};
+use adf::{run, survey, Cause, Date, Kind, NotFound, Refused, Role, Volume};
 use std::time::{Duration, SystemTime};
 
 const MANIFEST: &str = r"volume ofs 1760
@@ -201,4 +201,16 @@ fn the_command_runs_over_memory() {
     assert_eq!(run(&["frob"], b"").status, 2);
     let answer = run(&["cat", "nix"], &image);
     assert_eq!((answer.status, &answer.output[..], &answer.errors[..]), (1, &b""[..], &b"no such path\n"[..]));
+}
+
+#[test]
+fn a_survey_tells_findings_and_reads_what_stands() {
+    // The header of `c` is the first free block, 2, and that of its file the next.
+    let mut image = built("volume ofs 16\ndir 0:0:0 00000000 c\nfile 0:0:0 00000000 c/a\ndata 616263\n");
+    assert_eq!(survey(&[], &image).status, 0);
+    image[2 * 512 + 323] ^= 1;
+    let answer = survey(&[], &image);
+    assert_eq!((answer.status, &answer.output[..]), (1, &b"block 2: bad sum: c\n"[..]));
+    let answer = survey(&["cat", "c/a"], &image);
+    assert_eq!((answer.status, &answer.output[..]), (0, &b"abc"[..]));
 }
