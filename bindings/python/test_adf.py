@@ -192,13 +192,13 @@ class Refusals(unittest.TestCase):
 
 class Surveys(unittest.TestCase):
     def test_tells_findings_and_what_is_found(self):
-        # The header of `c` is the first free block, 2, that of its file the next, whose data block is 4.
-        sound = built("volume ofs 16\ndir 0:0:0 00000000 c\nfile 8035:1:50 0000000f c/l\xf6ng\nnote a\\x09b\nfill 488 41\n")
+        # The header of `c` is the first free block, 2, that of its file the next; byte 323 is the last of the protection.
+        sound = built("volume ofs 16\ndir 0:0:0 00000000 c\nfile 8035:1:50 0000000f c/l\\xf6ng\nnote a\\x09b\nfill 488 41\n")
         damaged = adf.survey(changed(sound, 2, 323, 1))
         self.assertEqual(adf.survey(sound).findings, [])
         self.assertEqual(damaged.findings, [adf.Finding(2, 2, "bad sum", "c")])
         directory, file = damaged.entries
-        self.assertEqual(directory, adf.Found(False, False, 0, 0, adf.Date(0, 0, 0), "c", ""))
+        self.assertEqual(directory, adf.Found(False, False, 1, 0, adf.Date(0, 0, 0), "c", ""))
         self.assertEqual(file, adf.Found(True, True, 15, 488, adf.Date(8035, 1, 50), "c/l\xf6ng", "a\tb"))
         self.assertEqual(damaged.read(file.path), b"A" * 488)
         for path in ("", "c"):
