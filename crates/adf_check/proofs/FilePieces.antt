@@ -8,16 +8,15 @@ use Rattle.adf_tree.specs.declared.entry.Body.{Body}
 use Rattle.adf_tree.specs.declared.entry.Body.TheVariants.{Dir, File}
 use Rattle.adf_tree.specs.declared.entry.Entry.{Entry}
 use Rattle.adf_tree.specs.declared.entry.Kind.{Kind}
-use Rattle.adf_tree.specs.declared.entry.Kind.TheVariants.{Ofs, Ffs}
 use Rattle.adf_tree.specs.Tree.{Tree, entry}
-use Rattle.adf_blocks.specs.Sizes.{blocks, chunk, count}
+use Rattle.adf_blocks.specs.Sizes.{blocks, count}
 use Rattle.adf_volume.specs.Walk.Role.{Data}
 use Rattle.adf_volume.specs.Fits.{BodyFits}
 use Rattle.adf_volume.specs.Image.{area, content, held, kind_of, piece, pieces, word_in}
 use Rattle.adf_volume.specs.Layout.{EntryAt, Layout, Place, at_node, datas_at, datas_of}
 use Rattle.adf_volume.specs.Lists.{At}
 use Rattle.adf_volume.specs.Pieces.{AreInside}
-use Rattle.adf_volume.proofs.Images.{area_length}
+use Rattle.adf_volume.proofs.Images.{area_length, count_small}
 use Rattle.adf_volume.proofs.Lists.{at_index_or}
 use Rattle.adf_volume.proofs.LayoutRoles.{part_range}
 use Rattle.adf_volume.proofs.PieceBytes.{held_some, piece_at, pieces_joined, pieces_length}
@@ -35,11 +34,6 @@ use Rattle.adf_check.specs.Pieces.{body_bytes, bytes_of, pieces_at, pieces_in, p
 pub no_pieces : (ps : List (List ℕ)) → All (λ p. 0 < length p) ps → concat ps ≡ [] → ps ≡ []
 no_pieces [] some e = refl
 no_pieces (p ∷ ps) some e = absurd (omega (arith, some 0 [] (omega arith), ap length e, length-append p (concat ps)))
-
-count_small : (kind : Kind) (size : ℕ) → size < 2 ^ 32 → 1 + count kind size < 2 ^ 32
-unfolding count chunk
-count_small Ofs size h = omega arith
-count_small Ffs size h = omega arith
 
 body_other : (image : List ℕ) (kind : Kind) (l : Layout) (n h : ℕ) (body : Body) → BodyFits image kind l n h body → word_in image h SECONDARY_TYPE ≢ ST_DIR
     → (bytes : List ℕ) × (body ≡ File bytes)

@@ -9,7 +9,7 @@ pub mod SomeSurvey
 mod FileBlocks
 mod SoundFiles
 -- where paths lead
-mod Lookups
+pub mod Lookups
 mod EntryPaths
 -- the blocks of sound entries
 pub mod SoundEntries

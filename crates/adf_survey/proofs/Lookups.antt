@@ -50,7 +50,7 @@ child_told image w fs h p n name text t up lo hi parent same is_text is_t =
 
 module _ (image : List ℕ) (w : List (Role × ℕ)) where
   -- there is one first child
-  one_first : (p : ℕ) (name : List ℕ) (n m : ℕ) → IsFirstChild image w p name n → IsFirstChild image w p name m → n ≡ m
+  pub one_first : (p : ℕ) (name : List ℕ) (n m : ℕ) → IsFirstChild image w p name n → IsFirstChild image w p name m → n ≡ m
   one_first p name n m x y =
       let low : n < m → ⊥ = (λ u. y.1 n u x.0) in
       let high : m < n → ⊥ = (λ u. x.1 m u y.0) in

@@ -1,16 +1,15 @@
 -- The data blocks of a sound file are those that its table names.
 use Rattle.std.specs.Prelude.{get_or, slice_index}
-use Rattle.std.proofs.Common.{◌≡◌, ℕ, suc, List, ◌++◌, ◌+◌, ◌*◌, ◌^◌, ◌<◌, length, sym, ap, subst, ◌∙◌, arith}
+use Rattle.std.proofs.Common.{◌≡◌, ℕ, suc, List, ◌++◌, ◌*◌, ◌^◌, ◌<◌, length, sym, ap, subst, ◌∙◌, arith}
 use Rattle.adf_blocks.specs.declared.layout.TheConstants.{SECONDARY_TYPE, SIZE, ST_FILE}
+use Rattle.adf_volume.proofs.Images.{count_small}
 use Rattle.adf_volume.specs.Demands.{AllHold, boot_demands, root_demands}
 use Rattle.adf_volume.specs.Image.{kind_of, pieces, root_of, word_in}
 use Rattle.adf_volume.specs.Made.{datas_in}
 use Rattle.adf_volume.specs.Walk.{Role, first, FileAt, data_count, node_block}
 use Rattle.adf_volume.specs.Walk.Role.{Root, Data}
 use Rattle.adf_volume.proofs.Lists.{at_index_or, at_some, in_left}
-use Rattle.adf_blocks.specs.Sizes.{blocks, chunk, count}
-use Rattle.adf_tree.specs.declared.entry.Kind.{Kind}
-use Rattle.adf_tree.specs.declared.entry.Kind.TheVariants.{Ofs, Ffs}
+use Rattle.adf_blocks.specs.Sizes.{blocks}
 use Rattle.adf_volume.specs.Pieces.{AreInside}
 use Rattle.adf_volume.proofs.PieceBytes.{pieces_joined}
 use Rattle.adf_volume.proofs.Roles.{same_refl}
@@ -71,11 +70,6 @@ module _ (v : Surveyed) (kept : IsOfSurvey v) (w : List (Role × ℕ)) (fs : Lis
 
     pub has_its_blocks : HasItsBlocks (file_from image head)
     has_its_blocks = subst HasItsBlocks (sym file_is) (file_told v.image w fs n h sound (sym type_is ∙ file)).1
-
-count_small : (kind : Kind) (size : ℕ) → size < 2 ^ 32 → 1 + count kind size < 2 ^ 32
-unfolding count chunk
-count_small Ofs size h = omega arith
-count_small Ffs size h = omega arith
 
 -- the data blocks of a file are inside of the image
 pub blocks_inside : (f : FileValue) → HasItsBlocks f → word_in f.image f.head SIZE < 2 ^ 32 → AreInside f.image f.blocks 1

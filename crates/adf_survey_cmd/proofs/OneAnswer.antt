@@ -1,17 +1,18 @@
 -- What is asked of an image has one answer.
 -- Letters: w, u walks of its survey, fs, gs the findings; n, m entries' nodes; r, q inquiries; a, b replies.
-use Rattle.std.proofs.Common.{◌≡◌, ◌<◌, ◌∙◌, inl, inr, ℕ, Bool, List, [], ◌∷◌, Option, Some, sym, ap, subst, arith}
+use Rattle.std.proofs.Common.{◌≡◌, ◌∙◌, inl, inr, ℕ, Bool, List, [], ◌∷◌, Option, Some, sym, ap, subst}
 use mathlib.Core.Path.{fun_ext}
 use Rattle.adf_fields.proofs.DateTexts.{one_text}
 use Rattle.adf_fields.specs.declared.dates.Stamp.{Stamp}
 use Rattle.adf_tree.proofs.PathParts.{one_path}
 use Rattle.adf_volume.specs.Walk.{FileAt, Role, node_block}
 use Rattle.adf_survey.specs.Files.{IsSoundFile}
-use Rattle.adf_survey.specs.Lookup.{IsFirstChild, LeadsTo}
+use Rattle.adf_survey.specs.Lookup.{LeadsTo}
 use Rattle.adf_survey.specs.Marked.{AreMarks}
 use Rattle.adf_survey.specs.Survey.{Finding}
 use Rattle.adf_survey.proofs.OneSurvey.{one_survey}
 use Rattle.adf_texts.specs.VolumeLines.{AreDates}
+use Rattle.adf_survey.proofs.Lookups.{one_first}
 use Rattle.adf_cmd.specs.Answers.{Reply, on_output}
 use Rattle.adf_survey_cmd.specs.Answers.{CopiesEntry, CopiesFound, CopiesFromSurvey, ListsSurvey, SurveyAnswer, Surveys, TellsFound, findings_status}
 use Rattle.adf_survey_cmd.specs.CommandLine.{AsksSurvey, InquiryValue, cat, inquiry_of, list, report}
@@ -26,16 +27,10 @@ one_inquiry words r q a b = same (inquiry_of words) r q a.1 b.1
     same o x y p q = cc
 
 module _ (image : List ℕ) (w : List (Role × ℕ)) where
-  one_first : (p : ℕ) (name : List ℕ) (n m : ℕ) → IsFirstChild image w p name n → IsFirstChild image w p name m → n ≡ m
-  one_first p name n m x y =
-      let low : n < m → ⊥ = (λ u. y.1 n u x.0) in
-      let high : m < n → ⊥ = (λ u. x.1 m u y.0) in
-      omega arith
-
   one_lead : (p : ℕ) (names : List (List ℕ)) (n m : ℕ) → LeadsTo image w p names n → LeadsTo image w p names m → n ≡ m
   one_lead p [] n m x y = sym x ∙ y
   one_lead p (name ∷ names) n m x y =
-      let same = one_first p name x.0 y.0 x.1 y.1 in
+      let same = one_first image w p name x.0 y.0 x.1 y.1 in
       one_lead x.0 names n m x.2 (subst (λ k. LeadsTo image w k names m) (sym same) y.2)
 
   sound_is_file : (fs : List Finding) (n : ℕ) → IsSoundFile image w fs n → (h : ℕ) × FileAt image w n h

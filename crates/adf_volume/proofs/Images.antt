@@ -1,5 +1,5 @@
 -- Lengths of blocks and contents, and how many pages and bitmap extension blocks there are.
-use Rattle.std.proofs.Common.{◌≡◌, ℕ, suc, List, [], ◌∷◌, ◌+◌, ◌-◌, ◌/◌, ◌*◌, ◌<◌, ◌≤◌, arith, refl, sym, ◌∙◌, length, length-append, length-drop, length-take}
+use Rattle.std.proofs.Common.{◌≡◌, ℕ, suc, List, [], ◌∷◌, ◌+◌, ◌-◌, ◌/◌, ◌*◌, ◌^◌, ◌<◌, ◌≤◌, arith, refl, sym, ◌∙◌, length, length-append, length-drop, length-take}
 use Rattle.adf_fields.specs.Words.{block}
 use Rattle.adf_blocks.specs.declared.layout.TheConstants.{MAP_EXT_PAGES, PAGE_BITS, ROOT_PAGES, SIZE}
 use Rattle.adf_volume.specs.Lists.{At}
@@ -33,6 +33,12 @@ pub enough_bytes : (k : Kind) (size n : ℕ) → count k size ≡ n → size ≤
 unfolding count chunk
 enough_bytes Ofs size n h = omega arith
 enough_bytes Ffs size n h = omega arith
+
+-- a file has fewer data blocks than a word counts
+pub count_small : (kind : Kind) (size : ℕ) → size < 2 ^ 32 → 1 + count kind size < 2 ^ 32
+unfolding count chunk
+count_small Ofs size h = omega arith
+count_small Ffs size h = omega arith
 
 pub content_length : (image : List ℕ) (k : Kind) (h : ℕ) (bs : List ℕ) → length image ≡ 512 * blocks image → AreIn image bs
     → length bs ≡ count k (word_in image h SIZE)
