@@ -1,6 +1,6 @@
 // The whole command over memory.
 
-ghost use Rattle.std.specs.Prelude.{◌≡◌, ◌≤◌, ◌+◌, [], ℕ, List, true, false, codes, Some, length, take};
+ghost use Rattle.std.specs.Prelude.{◌≡◌, ◌≤◌, ◌+◌, [], ℕ, List, true, false, codes, Some, length, min, take};
 ghost use Rattle.adf_cmd.specs.Answers.{Answers, AnswersPart, AsksBadPath, IsUnanswered, failure_line, limit_of, usage_line};
 ghost use Rattle.adf_cmd.specs.CommandLine.{AreRefused, request_of};
 ghost use Rattle.adf_cmd.specs.Streams.{Says};
@@ -59,6 +59,8 @@ fn run_words<W: Sink, E: Sink>(
         → ForWords words.now (λ ws.
         AnswersPart ws false input.now (W.held output.old) (W.held output.new)) }
     ensures at_most { ForWords words.now (λ ws. result.taken ≤ limit_of (request_of ws) + 1) }
+    ensures taken { ForWords words.now (λ ws. ¬ (result.status ≡ 2) → ¬ (result.status ≡ 3)
+        → result.taken ≡ min (length input.now) (limit_of (request_of ws) + 1)) }
 {
     match words_in(alloc, words) {
         Ok(texts) => run_on(alloc, &texts, input, output, errors),
@@ -121,6 +123,8 @@ pub extern "C" fn adf_run(
         AnswersPart ws false input.now (Some []) (Some (take moved.new.output output.new))) }
 
     ensures at_most { ForWords words.now (λ ws. moved.new.input ≤ limit_of (request_of ws) + 1) }
+    ensures taken { ForWords words.now (λ ws. ¬ (result ≡ 2) → ¬ (result ≡ 3)
+        → moved.new.input ≡ min (length input.now) (limit_of (request_of ws) + 1)) }
 {
     let most_output = output.len();
     let most_errors = errors.len();

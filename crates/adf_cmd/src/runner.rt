@@ -1,6 +1,6 @@
 // The whole command.
 
-ghost use Rattle.std.specs.Prelude.{◌≡◌, ◌≤◌, ◌+◌, true, false, codes, length, IfSome};
+ghost use Rattle.std.specs.Prelude.{◌≡◌, ◌≤◌, ◌+◌, true, false, codes, length, min, IfSome};
 ghost use Rattle.adf_cmd.specs.Answers.{Answers, AnswersPart, AsksBadPath, IsUnanswered, RequestsHaveOneAnswer, WordsAskForOneRequest, failure_line, limit_of, usage_line};
 ghost use Rattle.adf_cmd.specs.CommandLine.{AreRefused, request_of, texts_of};
 ghost use Rattle.adf_cmd.specs.Outcomes.{outcome_line, status_of};
@@ -148,6 +148,8 @@ pub fn run_on<W: Sink, E: Sink>(
         → AnswersPart (texts_of words.now) false input.now (W.held output.old) (W.held output.new) }
 
     ensures at_most { result.taken ≤ limit_of (request_of (texts_of words.now)) + 1 }
+    ensures taken { ¬ (result.status ≡ 2) → ¬ (result.status ≡ 3)
+        → result.taken ≡ min (length input.now) (limit_of (request_of (texts_of words.now)) + 1) }
 {
     match work_of(alloc, words) {
         Ok(work) => Ran {
