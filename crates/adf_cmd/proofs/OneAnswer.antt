@@ -53,7 +53,8 @@ accepted_once input a b (t, l, fits, x) (u, m, also, y) =
     let same = one_fit input t u l m fits also in
     x ∙ ap (λ v. on_output 0 (ok_line (counts_of input v l))) same.0 ∙ ap (λ n. on_output 0 (ok_line (counts_of input u n))) same.1 ∙ sym y
 
-one_dates : (date other : Stamp → List ℕ) → AreDates date → AreDates other → date ≡ other
+-- dates have one text each
+pub one_dates : (date other : Stamp → List ℕ) → AreDates date → AreDates other → date ≡ other
 one_dates date other p q = fun_ext (λ s. one_text s (date s) (other s) (p s) (q s))
 
 listed_once : (input : List ℕ) (a b : Reply) → Lists input a → Lists input b → a ≡ b

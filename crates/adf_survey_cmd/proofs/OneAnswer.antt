@@ -2,8 +2,6 @@
 -- Letters: w, u walks of its survey, fs, gs the findings; n, m entries' nodes; r, q inquiries; a, b replies.
 use Rattle.std.proofs.Common.{◌≡◌, ◌∙◌, inl, inr, ℕ, Bool, List, [], ◌∷◌, Option, Some, sym, ap, subst}
 use mathlib.Core.Path.{fun_ext}
-use Rattle.adf_fields.proofs.DateTexts.{one_text}
-use Rattle.adf_fields.specs.declared.dates.Stamp.{Stamp}
 use Rattle.adf_tree.proofs.PathParts.{one_path}
 use Rattle.adf_volume.specs.Walk.{FileAt, Role, node_block}
 use Rattle.adf_survey.specs.Files.{IsSoundFile}
@@ -11,9 +9,9 @@ use Rattle.adf_survey.specs.Lookup.{LeadsTo}
 use Rattle.adf_survey.specs.Marked.{AreMarks}
 use Rattle.adf_survey.specs.Survey.{Finding}
 use Rattle.adf_survey.proofs.OneSurvey.{one_survey}
-use Rattle.adf_texts.specs.VolumeLines.{AreDates}
 use Rattle.adf_survey.proofs.Lookups.{one_first}
 use Rattle.adf_cmd.specs.Answers.{Reply, on_output}
+use Rattle.adf_cmd.proofs.OneAnswer.{one_dates}
 use Rattle.adf_survey_cmd.specs.Answers.{CopiesEntry, CopiesFound, CopiesFromSurvey, ListsSurvey, SurveyAnswer, Surveys, TellsFound, findings_status}
 use Rattle.adf_survey_cmd.specs.CommandLine.{AsksSurvey, InquiryValue, cat, inquiry_of, list, report}
 use Rattle.adf_survey_cmd.specs.FoundLines.{listing_text}
@@ -60,9 +58,6 @@ surveyed_once image a b (w, fs, s, x) (u, gs, t, y) =
     let same = one_survey image w u fs gs s t in
     x ∙ ap (λ v. on_output (findings_status fs) (findings_text image v fs)) same.0
     ∙ ap (λ hs. on_output (findings_status hs) (findings_text image u hs)) same.1 ∙ sym y
-
-one_dates : (date other : Stamp → List ℕ) → AreDates date → AreDates other → date ≡ other
-one_dates date other p q = fun_ext (λ s. one_text s (date s) (other s) (p s) (q s))
 
 one_marks : (image : List ℕ) (w : List (Role × ℕ)) (fs : List Finding) (sound others : ℕ → Bool) → AreMarks image w fs sound
     → AreMarks image w fs others → sound ≡ others
