@@ -150,7 +150,7 @@ mixed : (all : List (List ℕ)) (text : List ℕ) (rest : List (List ℕ)) (kind
 unfolding volume_first
 mixed all text rest kind m more e f w g =
     let first = volume_first m in
-    first_good m.head.kind m.head.blocks text kind w.head.size (heads text (volume_line m.head.kind m.head.blocks) rest (first.0 ++ more) (sym e ∙ g)) f
+    first_good m.head.kind m.head.blocks text kind w.head.size (heads (sym e ∙ g)) f
 
 -- a manifest has no fault
 pub faultless : (m : Manifest) (all : List (List ℕ)) (number : ℕ) (kind : ManifestKind) → IsWell m → all ≡ manifest_lines m → HasFault all number kind → ⊥
@@ -158,7 +158,7 @@ unfolding volume_first
 faultless m all number kind w e (inl f) =
     let first = volume_first m in
     first_good m.head.kind m.head.blocks f.text kind w.head.size
-    (heads f.text (volume_line m.head.kind m.head.blocks) f.rest first.0 (sym f.lines ∙ e)) f.fault
+    (heads (sym f.lines ∙ e)) f.fault
 faultless m all number kind w e (inr f) = later_good f.before m f.text f.rest kind f.well w (sym e ∙ f.lines) f.fault
 
 -- a line has not both a bad text and no room
@@ -200,11 +200,11 @@ one_first_kind text _ _ f g = absurd f
 -- one of two fronts of a list goes on with what follows the other
 inside : (xs ys r r' : List (List ℕ)) (a : List ℕ) → xs ++ a ∷ r ≡ ys ++ r' → length xs < length ys → (s : List (List ℕ)) × (ys ≡ xs ++ a ∷ s)
 inside [] [] r r' a e h = absurd (omega arith)
-inside [] (y ∷ ys) r r' a e h = (ys, ap (λ z. z ∷ ys) (sym (heads a y r (ys ++ r') e)))
+inside [] (y ∷ ys) r r' a e h = (ys, ap (λ z. z ∷ ys) (sym (heads e)))
 inside (x ∷ xs) [] r r' a e h = absurd (omega arith)
 inside (x ∷ xs) (y ∷ ys) r r' a e h =
-    let more = inside xs ys r r' a (rests x y (xs ++ a ∷ r) (ys ++ r') e) (omega arith) in
-    (more.0, ap (λ z. z ∷ ys) (sym (heads x y (xs ++ a ∷ r) (ys ++ r') e)) ∙ ap (λ l. x ∷ l) more.1)
+    let more = inside xs ys r r' a (rests e) (omega arith) in
+    (more.0, ap (λ z. z ∷ ys) (sym (heads e)) ∙ ap (λ l. x ∷ l) more.1)
 
 -- two fronts of one length are the same, and so is what follows
 fronts : (xs ys r r' : List (List ℕ)) → xs ++ r ≡ ys ++ r' → length xs ≡ length ys → (xs ≡ ys) × (r ≡ r')
@@ -216,7 +216,7 @@ fronts xs ys r r' e h = (
 -- lines have one first fault at most
 pub one_fault : (all : List (List ℕ)) (n n' : ℕ) (k k' : ManifestKind) → HasFault all n k → HasFault all n' k' → (n ≡ n') × (k ≡ k')
 one_fault all n n' k k' (inl f) (inl g) =
-    let same = heads f.text g.text f.rest g.rest (sym f.lines ∙ g.lines) in
+    let same = heads (sym f.lines ∙ g.lines) in
     (f.place ∙ sym g.place, one_first_kind g.text k k' (subst (λ l. IsFirstFault l k) same f.fault) g.fault)
 one_fault all n n' k k' (inl f) (inr g) = absurd (mixed all f.text f.rest k g.before (g.text ∷ g.rest) f.lines f.fault g.well g.lines)
 one_fault all n n' k k' (inr f) (inl g) = absurd (mixed all g.text g.rest k' f.before (f.text ∷ f.rest) g.lines g.fault f.well f.lines)
@@ -225,7 +225,7 @@ one_fault all n n' k k' (inr f) (inr g) =
       | inl e ↦
           let both = fronts (manifest_lines f.before) (manifest_lines g.before) (f.text ∷ f.rest) (g.text ∷ g.rest) (sym f.lines ∙ g.lines) e in
           let told = one_told f.before g.before f.well g.well both.0 in
-          let text = heads f.text g.text f.rest g.rest both.1 in
+          let text = heads both.1 in
           let moved = subst (λ (m : Manifest). IsLaterFault m g.text k) told (subst (λ t. IsLaterFault f.before t k) text f.fault) in
           (f.place ∙ ap (λ m. m + 1) e ∙ sym g.place, one_later_kind g.before g.text k k' (later_kind g.before g.text k moved) (later_kind g.before g.text k' g.fault))
       | inr (inl lt) ↦

@@ -26,7 +26,7 @@ stamp_same s t d m k = of_three (λ d m k. record { days = d; mins = m; ticks = 
 
 pub one_stamp : (s t : Stamp) → IsStamp s → IsStamp t → plain_text s ≡ plain_text t → s ≡ t
 one_stamp s t g h e =
-    let parts = stamp_parts (plain_text s) (decimal s.days) (decimal s.mins) (decimal s.ticks) t (refl, colon_lacks s.days g.days, colon_lacks s.mins g.mins) h e in
+    let parts = stamp_parts t (refl, colon_lacks s.days g.days, colon_lacks s.mins g.mins) h e in
     let same : (a b : ℕ) → a < 2 ^ 32 → b < 2 ^ 32 → decimal a ≡ decimal b → a ≡ b = λ a b x y q. decimal_injective a b (omega arith) (omega arith) q in
     stamp_same s t (same s.days t.days g.days h.days parts.0) (same s.mins t.mins g.mins h.mins parts.1) (same s.ticks t.ticks g.ticks h.ticks parts.2)
 
@@ -36,7 +36,7 @@ stamps_same s t r a k = of_three (λ r a k. record { root = r; altered = a; crea
 pub one_stamps : (s t : Stamps) → AreStamps s → AreStamps t → stamps_line s ≡ stamps_line t → s ≡ t
 one_stamps s t g h e =
     let texts = append_cancel_left (codes "stamps ") (stamps_text s) (stamps_text t) e in
-    let parts = stamps_parts (stamps_text s) (plain_text s.root) (plain_text s.altered) (plain_text s.created) t
+    let parts = stamps_parts t
     (refl, stamp_lacks s.root g.root, stamp_lacks s.altered g.altered) h texts in
     stamps_same s t (one_stamp s.root t.root g.root h.root parts.0) (one_stamp s.altered t.altered g.altered h.altered parts.1)
     (one_stamp s.created t.created g.created h.created parts.2)
@@ -47,7 +47,7 @@ same_fields sort s t p q x y e f g = cc
 one_entry : (sort : Sort) (s t : Stamp) (p q : ℕ) (x y : List ℕ) → IsStamp s → IsStamp t → p < 2 ^ 32 → q < 2 ^ 32 → fields_text s p x ≡ fields_text t q y
     → EntryLine sort s p x ≡ EntryLine sort t q y
 one_entry sort s t p q x y hs ht hp hq e =
-    let parts = fields_parts (fields_text s p x) (plain_text s) (hex_word p) x t q y (refl, stamp_lacks s hs, word_lacks p) ht e in
+    let parts = fields_parts t q y (refl, stamp_lacks s hs, word_lacks p) ht e in
     same_fields sort s t p q x y (one_stamp s t hs ht parts.0) (one_word p q hp hq parts.1) parts.2
 
 one_run : (a b : List ℕ) → IsRun (DataRun a) → IsRun (DataRun b) → pairs a ≡ pairs b → a ≡ b
@@ -55,7 +55,7 @@ one_run a b g h e = sym (unpaired_pairs a g.1) ∙ ap unpaired e ∙ unpaired_pa
 
 one_fill : (n m a b : ℕ) → IsRun (FillRun n a) → IsRun (FillRun m b) → fill_line n a ≡ fill_line m b → FillRun n a ≡ FillRun m b
 one_fill n m a b g h e =
-    let parts = fill_parts (fill_line n a) (decimal n ++ 32 ∷ pair a) (decimal n) (pair a) m b refl
+    let parts = fill_parts m b refl
     (refl, space_lacks n (let small = g.1 in omega arith)) h.1 e in
     let count : n ≡ m = decimal_injective n m (let small = g.1 in omega arith) (let small = h.1 in omega arith) parts.0 in
     let byte = (one_pair a b [] [] g.2 h.2 parts.1).0 in

@@ -15,12 +15,12 @@ pub fill_text : (line text : List ℕ) (count byte : ℕ) → line ≡ codes "fi
 fill_text line text count byte e g = append_cancel_left (codes "fill ") text (decimal count ++ 32 ∷ pair byte) (sym e ∙ g)
 
 -- the parts of a fill line
-pub fill_parts : (line text a b : List ℕ) (count byte : ℕ) → line ≡ codes "fill " ++ text → (text ≡ a ++ 32 ∷ b) × LacksByte 32 a → count ≤ most_fill
+pub fill_parts : {line text a b : List ℕ} (count byte : ℕ) → line ≡ codes "fill " ++ text → (text ≡ a ++ 32 ∷ b) × LacksByte 32 a → count ≤ most_fill
     → line ≡ fill_line count byte → (a ≡ decimal count) × (b ≡ pair byte)
-fill_parts line text a b count byte e cut h g =
+fill_parts {line = line} {text = text} {a = a} {b = b} count byte e cut h g =
     one_cut 32 a b (decimal count) (pair byte) cut.1 (space_lacks count (omega arith)) (sym cut.0 ∙ fill_text line text count byte e g)
 
 -- the parts of the fields of an entry line
-pub fields_parts : (text x y z : List ℕ) (s : Stamp) (p : ℕ) (path : List ℕ) → CutTwice 32 text x y z → IsStamp s → text ≡ fields_text s p path
+pub fields_parts : {text x y z : List ℕ} (s : Stamp) (p : ℕ) (path : List ℕ) → CutTwice 32 text x y z → IsStamp s → text ≡ fields_text s p path
     → (x ≡ plain_text s) × (y ≡ hex_word p) × (z ≡ path)
-fields_parts text x y z s p path cut h e = one_cut_twice 32 text x y z (plain_text s) (hex_word p) path cut (e, stamp_lacks s h, word_lacks p)
+fields_parts {text = text} {x = x} {y = y} {z = z} s p path cut h e = one_cut_twice 32 text x y z (plain_text s) (hex_word p) path cut (e, stamp_lacks s h, word_lacks p)

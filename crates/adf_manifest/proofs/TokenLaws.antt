@@ -78,14 +78,14 @@ stamp_lacks s h =
     (All-cons P 58 _ refl (All-append P (decimal s.mins) _ (space_lacks s.mins h.mins) (All-cons P 58 _ refl (space_lacks s.ticks h.ticks))))
 
 -- the parts of a stamp
-pub stamp_parts : (text x y z : List ℕ) (s : Stamp) → CutTwice 58 text x y z → IsStamp s → text ≡ plain_text s
+pub stamp_parts : {text x y z : List ℕ} (s : Stamp) → CutTwice 58 text x y z → IsStamp s → text ≡ plain_text s
     → (x ≡ decimal s.days) × (y ≡ decimal s.mins) × (z ≡ decimal s.ticks)
-stamp_parts text x y z s cut h e = one_cut_twice 58 text x y z _ _ _ cut (e, colon_lacks s.days h.days, colon_lacks s.mins h.mins)
+stamp_parts {text = text} {x = x} {y = y} {z = z} s cut h e = one_cut_twice 58 text x y z _ _ _ cut (e, colon_lacks s.days h.days, colon_lacks s.mins h.mins)
 
 -- the parts of three stamps
-pub stamps_parts : (text x y z : List ℕ) (s : Stamps) → CutTwice 32 text x y z → AreStamps s → text ≡ stamps_text s
+pub stamps_parts : {text x y z : List ℕ} (s : Stamps) → CutTwice 32 text x y z → AreStamps s → text ≡ stamps_text s
     → (x ≡ plain_text s.root) × (y ≡ plain_text s.altered) × (z ≡ plain_text s.created)
-stamps_parts text x y z s cut h e = one_cut_twice 32 text x y z _ _ (plain_text s.created) cut (e, stamp_lacks s.root h.root, stamp_lacks s.altered h.altered)
+stamps_parts {text = text} {x = x} {y = y} {z = z} s cut h e = one_cut_twice 32 text x y z _ _ (plain_text s.created) cut (e, stamp_lacks s.root h.root, stamp_lacks s.altered h.altered)
 
 own : IsNumeralModel (AllDigits 10) (digits_value 10)
 own = numerals_by_value (AllDigits 10) tells_digits

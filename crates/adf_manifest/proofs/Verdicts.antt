@@ -19,11 +19,11 @@ use Rattle.adf_manifest.specs.declared.reader.Head.{Head}
 use Rattle.adf_manifest.proofs.Forms.{line_same}
 use Rattle.adf_manifest.proofs.LastLines.{Adds, IsFirst, IsNext, last_line}
 
-pub heads : (a b : List ℕ) (x y : List (List ℕ)) → a ∷ x ≡ b ∷ y → a ≡ b
-heads a b x y e = cc
+pub heads : {a b : List ℕ} {x y : List (List ℕ)} → a ∷ x ≡ b ∷ y → a ≡ b
+heads e = cc
 
-pub rests : (a b : List ℕ) (x y : List (List ℕ)) → a ∷ x ≡ b ∷ y → x ≡ y
-rests a b x y e = cc
+pub rests : {a b : List ℕ} {x y : List (List ℕ)} → a ∷ x ≡ b ∷ y → x ≡ y
+rests e = cc
 
 pub small : (n : ℕ) → is_allowed n ≡ true → n < 2 ^ 32
 small n h = grind (arith, nat_tests)
@@ -66,7 +66,7 @@ first_is n f =
 
 same_first : (m n : Manifest) → IsWell m → IsWell n → IsFirst m → IsFirst n → manifest_lines m ≡ manifest_lines n → m ≡ n
 same_first m n w v f g e =
-    let line = heads _ _ _ _ (sym (first_lines m f) ∙ e ∙ first_lines n g) in
+    let line = heads (sym (first_lines m f) ∙ e ∙ first_lines n g) in
     let by : Kind → ℕ → Manifest = λ k b. bare (record { kind = k; blocks = b; label = None; stamps = None }) in
     let same = one_volume m.head.kind n.head.kind m.head.blocks n.head.blocks (small m.head.blocks w.head.size) (small n.head.blocks v.head.size) line in
     first_is m f ∙ ap (λ k. by k m.head.blocks) same.0 ∙ ap (λ b. by n.head.kind b) same.1 ∙ sym (first_is n g)

@@ -28,6 +28,7 @@ key_of r = record { first = first r; second = second r; third = third r }
 abbrev pub by_key : Key → Key → Ordering
 by_key a b = ordering_then (nat_cmp a.first b.first) (ordering_then (nat_cmp a.second b.second) (nat_cmp a.third b.third))
 
+-- the role of a part, where there is one
 abbrev pub part_role : Option Part → Option Role
 part_role None = None
 part_role (Some p) = Some (role_of p)

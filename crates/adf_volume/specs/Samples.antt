@@ -22,6 +22,7 @@ tiny_root =
 unfoldable pub tiny : List ℕ
 tiny = (0x44 ∷ 0x4F ∷ 0x53 ∷ 1 ∷ []) ++ (replicate 1020 0 ++ (tiny_root ++ replicate 512 0))
 
+-- the first moment of all dates
 abbrev no_stamp : Stamp
 no_stamp = record { days = 0; mins = 0; ticks = 0 }
 

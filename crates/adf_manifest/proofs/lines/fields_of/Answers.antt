@@ -13,13 +13,13 @@ returns-in_err-stamp-clause-none c = if_none c.from_residual.result (λ s p path
 
 pub returns-in_err-stamp-2-clause-none : goal.returns-in_err-stamp-2-clause-none
 returns-in_err-stamp-2-clause-none c = if_none c.from_residual-in_err-stamp-2.result (λ s p path hs hp hf e.
-    c.in_err-stamp-2.ensures.none s hs (fields_parts _ _ _ _ s p path c.in_ok-stamp.ensures.some hs e).0)
+    c.in_err-stamp-2.ensures.none s hs (fields_parts s p path c.in_ok-stamp.ensures.some hs e).0)
 
 pub returns-in_err-protect-clause-none : goal.returns-in_err-protect-clause-none
 returns-in_err-protect-clause-none c = if_none c.from_residual-in_err-protect.result (λ s p path hs hp hf e.
-    c.in_err-protect.ensures.none p hp (fields_parts _ _ _ _ s p path c.in_ok-stamp.ensures.some hs e).1)
+    c.in_err-protect.ensures.none p hp (fields_parts s p path c.in_ok-stamp.ensures.some hs e).1)
 
 pub returns-then-is_empty-clause-none : goal.returns-then-is_empty-clause-none
 returns-then-is_empty-clause-none c =
     let empty : length c.in_ok-stamp.path.now ≡ 0 = grind (arith, nat_tests) in
-    λ s p path hs hp hf e. omega (arith, ap length (fields_parts _ _ _ _ s p path c.in_ok-stamp.ensures.some hs e).2, hf, empty)
+    λ s p path hs hp hf e. omega (arith, ap length (fields_parts s p path c.in_ok-stamp.ensures.some hs e).2, hf, empty)

@@ -13,15 +13,15 @@ returns-in_err-count-clause-none c = if_none c.from_residual-in_err-count.result
 
 pub returns-in_err-count-2-clause-none : goal.returns-in_err-count-2-clause-none
 returns-in_err-count-2-clause-none c = if_none c.from_residual-in_err-count-2.result (λ count byte h e. c.in_err-count-2.ensures.none count (omega (arith, h.1))
-    (fill_parts _ _ _ _ count byte c.in_ok-text.ensures.some c.in_ok-count.ensures.some h.1 e).0)
+    (fill_parts count byte c.in_ok-text.ensures.some c.in_ok-count.ensures.some h.1 e).0)
 
 pub returns-in_err-byte-clause-none : goal.returns-in_err-byte-clause-none
 returns-in_err-byte-clause-none c = if_none c.from_residual-in_err-byte.result (λ count byte h e. c.in_err-byte.ensures.none byte h.2
-    (fill_parts _ _ _ _ count byte c.in_ok-text.ensures.some c.in_ok-count.ensures.some h.1 e).1)
+    (fill_parts count byte c.in_ok-text.ensures.some c.in_ok-count.ensures.some h.1 e).1)
 
 pub returns-else-count-gt0-clause-none : goal.returns-else-count-gt0-clause-none
 returns-else-count-gt0-clause-none c = λ count byte h e.
-    let parts = fill_parts _ _ _ _ count byte c.in_ok-text.ensures.some c.in_ok-count.ensures.some h.1 e in
+    let parts = fill_parts count byte c.in_ok-text.ensures.some c.in_ok-count.ensures.some h.1 e in
     let same : c.in_ok-count-2.count ≡ count =
     decimal_injective _ _ (omega arith) (omega (arith, h.1)) (sym c.in_ok-count-2.ensures.some ∙ parts.0) in
     elim c.else-count-gt0.branch [

@@ -8,12 +8,12 @@ returns-in_err-days-clause-none c = if_none c.from_residual.result (λ s h e.
 
 pub returns-in_err-days-2-clause-none : goal.returns-in_err-days-2-clause-none
 returns-in_err-days-2-clause-none c = if_none c.from_residual-in_err-days-2.result (λ s h e.
-    c.in_err-days-2.ensures.none s.days h.days (stamp_parts _ _ _ _ s c.in_ok-days.ensures.some h e).0)
+    c.in_err-days-2.ensures.none s.days h.days (stamp_parts s c.in_ok-days.ensures.some h e).0)
 
 pub returns-in_err-mins-clause-none : goal.returns-in_err-mins-clause-none
 returns-in_err-mins-clause-none c = if_none c.from_residual-in_err-mins.result (λ s h e.
-    c.in_err-mins.ensures.none s.mins h.mins (stamp_parts _ _ _ _ s c.in_ok-days.ensures.some h e).1)
+    c.in_err-mins.ensures.none s.mins h.mins (stamp_parts s c.in_ok-days.ensures.some h e).1)
 
 pub returns-in_err-ticks-clause-none : goal.returns-in_err-ticks-clause-none
 returns-in_err-ticks-clause-none c = if_none c.from_residual-in_err-ticks.result (λ s h e.
-    c.in_err-ticks.ensures.none s.ticks h.ticks (stamp_parts _ _ _ _ s c.in_ok-days.ensures.some h e).2)
+    c.in_err-ticks.ensures.none s.ticks h.ticks (stamp_parts s c.in_ok-days.ensures.some h e).2)

@@ -8,12 +8,12 @@ returns-in_err-root-clause-none c = if_none c.from_residual.result (λ s h e.
 
 pub returns-in_err-root-2-clause-none : goal.returns-in_err-root-2-clause-none
 returns-in_err-root-2-clause-none c = if_none c.from_residual-in_err-root-2.result (λ s h e.
-    c.in_err-root-2.ensures.none s.root h.root (stamps_parts _ _ _ _ s c.in_ok-root.ensures.some h e).0)
+    c.in_err-root-2.ensures.none s.root h.root (stamps_parts s c.in_ok-root.ensures.some h e).0)
 
 pub returns-in_err-altered-clause-none : goal.returns-in_err-altered-clause-none
 returns-in_err-altered-clause-none c = if_none c.from_residual-in_err-altered.result (λ s h e.
-    c.in_err-altered.ensures.none s.altered h.altered (stamps_parts _ _ _ _ s c.in_ok-root.ensures.some h e).1)
+    c.in_err-altered.ensures.none s.altered h.altered (stamps_parts s c.in_ok-root.ensures.some h e).1)
 
 pub returns-in_err-created-clause-none : goal.returns-in_err-created-clause-none
 returns-in_err-created-clause-none c = if_none c.from_residual-in_err-created.result (λ s h e.
-    c.in_err-created.ensures.none s.created h.created (stamps_parts _ _ _ _ s c.in_ok-root.ensures.some h e).2)
+    c.in_err-created.ensures.none s.created h.created (stamps_parts s c.in_ok-root.ensures.some h e).2)
