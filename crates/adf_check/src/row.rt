@@ -1,7 +1,7 @@
 // What is told of an entry.
 
 ghost use Rattle.std.specs.Prelude.{◌≡◌};
-ghost use Rattle.adf_check.specs.Rows.{row_in};
+ghost use Rattle.adf_check.specs.Rows.{row_body, row_in};
 
 use adf_blocks::{Head, HeadBody};
 use adf_tree::{Meta, Name, Node};
@@ -22,6 +22,18 @@ pub enum RowBody {
     File { size: u32 },
 }
 
+impl RowBody {
+    /// What the body of a header tells.
+    pub fn of(body: HeadBody) -> RowBody
+        ensures { result ≡ row_body body }
+    {
+        match body {
+            HeadBody::Dir => RowBody::Dir,
+            HeadBody::File { size, .. } => RowBody::File { size },
+        }
+    }
+}
+
 // What a header tells of its entry.
 pub fn row_of(parent: Node, head: &Head<'_>) -> Row
     ensures { result ≡ row_in parent head.now }
@@ -30,9 +42,6 @@ pub fn row_of(parent: Node, head: &Head<'_>) -> Row
         parent,
         name: head.name(),
         meta: head.meta(),
-        body: match head.body() {
-            HeadBody::Dir => RowBody::Dir,
-            HeadBody::File { size, .. } => RowBody::File { size },
-        },
+        body: RowBody::of(head.body()),
     }
 }

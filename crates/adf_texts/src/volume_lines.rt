@@ -2,7 +2,7 @@
 
 ghost use Rattle.std.specs.Prelude.{◌≡◌, ◌++◌, codes, ℕ, List, OnOk, map};
 ghost use Rattle.adf_tree.specs.declared.entry.Entry.{Entry};
-ghost use Rattle.adf_check.specs.Rows.{row_body, row_of_entry};
+ghost use Rattle.adf_check.specs.Rows.{row_of_entry};
 ghost use Rattle.adf_texts.specs.RowTexts.{columns, head_lines, row_size, row_word};
 ghost use Rattle.adf_texts.specs.VolumeLines.{AreDates, blocks_line, entry_lines, escaped_line, lines_with, opening_lines, right_in_ten, text_line};
 
@@ -65,19 +65,9 @@ pub fn push_head_lines(
         → OnOk result (text.new.items ≡ text.old.items
         ++ head_lines date (map (λ name. name.now) path.now) body meta.now) }
 {
-    push_columns(text, row_body(body), meta)?;
+    push_columns(text, RowBody::of(body), meta)?;
     push_names(text, path)?;
     push_line_end(text, meta)
-}
-
-// What the body of a header tells.
-fn row_body(body: HeadBody) -> RowBody
-    ensures { result ≡ row_body body }
-{
-    match body {
-        HeadBody::Dir => RowBody::Dir,
-        HeadBody::File { size, .. } => RowBody::File { size },
-    }
 }
 
 // Appends what stands before the names in the line of an entry.

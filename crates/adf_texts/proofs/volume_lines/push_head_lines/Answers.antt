@@ -12,5 +12,5 @@ returns c = λ date dates.
       e,
       c.in_ok-push_names.ensures,
       c.in_ok-push_columns.ensures date dates,
-      c.row_body.ensures,
+      c.of.ensures,
     ) (simp append_assoc)) c.push_line_end.ensures
