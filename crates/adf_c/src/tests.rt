@@ -178,63 +178,65 @@ fn tables_of_no_volume_are_safe(rt: HostRuntime) {
     assert_eq!(rt; found(&rt, &tables.entries, b"c/long"), (1, 9));
 }
 
-// What `adf-survey` with these words answers on an image, with so much room for output, and output is this.
+// What `adf-survey` with these words answers on an image, with this room for output, and output is this.
 fn surveys(
     rt: &(impl Abort + AllocGlobal),
     words: &[u8],
     image: &[u8],
-    room: usize,
+    output: &mut [u8],
     wanted: &[u8],
 ) -> (u8, usize, usize) {
-    let mut output = [0; 500];
     let mut errors = [0; 80];
     let mut moved = NOTHING_MOVED;
-    let status = adf_survey_run(
-        rt.alloc(),
-        words,
-        image,
-        &mut output[..room],
-        &mut errors,
-        &mut moved,
-    );
+    let status = adf_survey_run(rt.alloc(), words, image, output, &mut errors, &mut moved);
     assert_eq!(rt; &output[..moved.output], wanted);
     (status, moved.input, moved.errors)
 }
 
 #[test]
 fn findings_are_told(rt: HostRuntime) {
+    let mut room = [0; 500];
+    let mut exact = [0; 20];
+    let mut short = [0; 19];
     let mut image = built(&rt);
     // The header of `c` is the first free block, 2, that of its file the next.
     image[2 * 512 + 323] ^= 1;
     let line = b"block 2: bad sum: c\n";
     assert_eq!(rt;
-        surveys(&rt, b"adf-survey\0", &image, 500, line),
+        surveys(&rt, b"adf-survey\0", &image, &mut room, line),
         (1, 8192, 0)
     );
     assert_eq!(rt;
-        surveys(&rt, b"adf-survey\0", &image, 20, line),
+        surveys(&rt, b"adf-survey\0", &image, &mut exact, line),
         (1, 8192, 0)
     );
     assert_eq!(rt;
-        surveys(&rt, b"adf-survey\0", &image, 19, &line[..19]),
+        surveys(&rt, b"adf-survey\0", &image, &mut short, &line[..19]),
         (3, 8192, 12)
     );
-    assert_eq!(rt; surveys(&rt, b"adf-survey", &image, 500, b""), (2, 0, 80));
+    assert_eq!(rt;
+        surveys(&rt, b"adf-survey", &image, &mut room, b""),
+        (2, 0, 80)
+    );
     let none = b"block 0: bad size\n";
-    assert_eq!(rt; surveys(&rt, b"adf-survey\0", b"", 500, none), (1, 0, 0));
+    assert_eq!(rt;
+        surveys(&rt, b"adf-survey\0", b"", &mut room, none),
+        (1, 0, 0)
+    );
 }
 
 #[test]
 fn a_sound_file_is_copied_from_a_damaged_image(rt: HostRuntime) {
+    let mut room = [0; 500];
     let mut image = built(&rt);
     image[2 * 512 + 323] ^= 1;
     let words = b"adf-survey\0cat\0c/long\0";
     assert_eq!(rt;
-        surveys(&rt, words, &image, 500, &[0x41; 489]),
+        surveys(&rt, words, &image, &mut room, &[0x41; 489]),
         (0, 8192, 0)
     );
     image[3 * 512 + 323] ^= 1;
-    assert_eq!(rt; surveys(&rt, words, &image, 500, b""), (1, 8192, 8));
+    assert_eq!(rt; surveys(&rt, words, &image, &mut room, b""), (1, 8192, 8));
 }
 
 #[test]
