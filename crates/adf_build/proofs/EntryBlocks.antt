@@ -1,5 +1,5 @@
 -- Where each entry was laid, and that its header names the next one of its chain.
-use Rattle.std.proofs.Common.{◌≡◌, ℕ, zero, suc, List, [], ◌∷◌, ◌+◌, ◌-◌, ◌^◌, ◌<◌, ◌≤◌, map, refl, sym, ap, subst, ◌∙◌, arith, true}
+use Rattle.std.proofs.Common.{◌≡◌, ℕ, zero, suc, List, [], ◌∷◌, ◌+◌, ◌^◌, ◌<◌, ◌≤◌, map, refl, sym, ap, subst, ◌∙◌, arith}
 use Rattle.std.specs.Prelude.{slice_index}
 use Rattle.std.proofs.lemmas.List.FromFn.{get_or-map-range_with_len}
 use Rattle.adf_fields.specs.Hash.{slot_of}
@@ -10,7 +10,7 @@ use Rattle.adf_tree.specs.declared.entry.Entry.{Entry}
 use Rattle.adf_tree.specs.declared.entry.Body.TheVariants.{Dir}
 use Rattle.adf_tree.specs.Tree.{Tree}
 use Rattle.adf_blocks.specs.declared.layout.TheConstants.{FIRST_SLOT, NEXT_IN_CHAIN, SLOTS}
-use Rattle.adf_blocks.specs.Sizes.{middle, is_allowed}
+use Rattle.adf_blocks.specs.Sizes.{middle}
 use Rattle.adf_blocks.specs.HeadBlock.{FitsHead, head_block}
 use Rattle.adf_blocks.specs.HeadBlock.BodyFields.{DirFields}
 use Rattle.adf_blocks.proofs.HeadLaws.{head_block-next, head_block-slot}
@@ -18,13 +18,12 @@ use Rattle.adf_blocks.proofs.RootLaws.{root_block-slot}
 use Rattle.adf_volume.specs.Lists.{At, Spelled}
 use Rattle.adf_volume.specs.Image.{word_in}
 use Rattle.adf_volume.specs.Layout.{Place, nodes_from, chain_nodes, head_at, exts_at, datas_at, at_node}
-use Rattle.adf_volume.proofs.Sizes.{size_low, size_high}
-use Rattle.adf_build.specs.Plan.{exts_needed, data_blocks, entry_blocks, entries_blocks, blocks_needed, nth_free, allocated, places_from, planned}
+use Rattle.adf_build.specs.Plan.{exts_needed, data_blocks, entry_blocks, entries_blocks, nth_free, allocated, places_from, planned}
 use Rattle.adf_build.specs.Writes.{HoldsBlocks}
-use Rattle.adf_build.specs.Laid.{IsWellFormed, body_writes, entries_writes, first_block, heads_from, node_blocks, planned_body, planned_root, slots_of, volume}
+use Rattle.adf_build.specs.Laid.{body_writes, entries_writes, first_block, heads_from, node_blocks, planned_body, planned_root, slots_of, volume}
 use Rattle.adf_build.proofs.ChainLinks.{Links, spelled_chain}
 use Rattle.adf_build.proofs.WholeBlocks.{fits_head, entry_head}
-use Rattle.adf_build.proofs.LaidWrites.{below, near, entry_sound, fits_root, volume_blocks, holds_entries, holds_root}
+use Rattle.adf_build.proofs.LaidWrites.{CanHold, small, few, below, near, entry_sound, fits_root, volume_blocks, holds_entries, holds_root}
 use Rattle.adf_build.proofs.WrittenBlocks.{holds_left, holds_right}
 
 -- entry j of a list of places, which is entry i of the volume: from which free block on it lies, and what stands there
@@ -72,17 +71,17 @@ first_near : (at : ℕ → ℕ) (ns : List ℕ) → ((j : ℕ) → at j < 2 ^ 32
 first_near at [] f = omega arith
 first_near at (m ∷ ms) f = f m
 
-module _ (t : Tree) (n : ℕ) (sound : IsWellFormed t) (allowed : is_allowed n ≡ true) (room : blocks_needed t n ≤ n - 2) where
+module _ {t : Tree} {n : ℕ} (can : CanHold t n) where
   -- where each entry stands
   pub standing : (i : ℕ) (e : Entry) → At t.entries i e
       → Standing (volume t n) n (entries_blocks t.kind t.entries) t (places_from n t.kind 0 t.entries) i (suc i) e
   standing i e h =
       let z : 1 + i ≡ suc i = omega arith in
       subst (λ m. Standing (volume t n) n (entries_blocks t.kind t.entries) t (places_from n t.kind 0 t.entries) i m e) z
-      (all_stand (volume t n) n (entries_blocks t.kind t.entries) t 1 0 t.entries (holds_entries t n sound allowed room) (omega arith) i e h)
+      (all_stand (volume t n) n (entries_blocks t.kind t.entries) t 1 0 t.entries (holds_entries can) (omega arith) i e h)
 
   pub nodes_at : (j : ℕ) → slice_index (node_blocks t n) j ≡ at_node (volume t n) (planned t n) j
-  nodes_at zero = ap middle (sym (volume_blocks t n sound allowed room))
+  nodes_at zero = ap middle (sym (volume_blocks can))
   nodes_at (suc j) = heads_places n t.kind 0 t.entries j
 
   -- the fields of each header are words
@@ -90,11 +89,8 @@ module _ (t : Tree) (n : ℕ) (sound : IsWellFormed t) (allowed : is_allowed n �
   head_fits i e h =
       let s = standing i e h in
       let r : s.k + entry_blocks t.kind e ≤ entries_blocks t.kind t.entries = s.room in
-      let high = size_high n allowed in
-      let b = entry_sound t n sound allowed room i e h in
-      let four = size_low n allowed in
-      fits_head n (entries_blocks t.kind t.entries) (omega arith) (omega arith) (below t n sound allowed room) t (suc i) s.k e s.rest
-      (near t n sound allowed room) (omega arith) b.name b.meta.comment
+      let b = entry_sound can i e h in
+      fits_head n (entries_blocks t.kind t.entries) (small can) (few can) (below can) t (suc i) s.k e s.rest (near can) (omega arith) b.name b.meta.comment
 
   links : (i k : ℕ) (es : List Entry) → ((j : ℕ) → slice_index (node_blocks t n) (i + j) ≡ slice_index (heads_from n t.kind k es) j)
       → HoldsBlocks (volume t n) (entries_writes n t i k es)
@@ -105,12 +101,9 @@ module _ (t : Tree) (n : ℕ) (sound : IsWellFormed t) (allowed : is_allowed n �
   links i k (e ∷ es) f h l g =
       let z : i + 0 ≡ i = omega arith in
       let a : slice_index (node_blocks t n) i ≡ nth_free n k = ap (slice_index (node_blocks t n)) (sym z) ∙ f 0 in
-      let high = size_high n allowed in
-      let four = size_low n allowed in
       let b = g 0 e refl in
-      let fh = fits_head n (entries_blocks t.kind t.entries) (omega arith) (omega arith) (below t n sound allowed room) t i k e es
-      (near t n sound allowed room) (omega arith) b.name b.meta.comment in
-      let nx = first_near (slice_index (node_blocks t n)) (nodes_from (suc i) es e.parent (slot_of e.name)) (near t n sound allowed room) in (
+      let fh = fits_head n (entries_blocks t.kind t.entries) (small can) (few can) (below can) t i k e es (near can) (omega arith) b.name b.meta.comment in
+      let nx = first_near (slice_index (node_blocks t n)) (nodes_from (suc i) es e.parent (slot_of e.name)) (near can) in (
         ap (λ b. word_in (volume t n) b NEXT_IN_CHAIN) a
             ∙ (ap (λ bs. word bs NEXT_IN_CHAIN) h.0 ∙ head_block-next (entry_head n t i k e es) fh nx),
         links (suc i) (k + entry_blocks t.kind e) es (λ j. let y : suc i + j ≡ i + suc j = omega arith in ap (slice_index (node_blocks t n)) y ∙ f (suc j))
@@ -119,8 +112,8 @@ module _ (t : Tree) (n : ℕ) (sound : IsWellFormed t) (allowed : is_allowed n �
       )
 
   all_links : Links (λ b. word_in (volume t n) b NEXT_IN_CHAIN) (slice_index (node_blocks t n)) 1 t.entries
-  all_links = links 1 0 t.entries (λ j. let y : 1 + j ≡ suc j = omega arith in ap (slice_index (node_blocks t n)) y) (holds_entries t n sound allowed room)
-      (omega arith) (entry_sound t n sound allowed room)
+  all_links = links 1 0 t.entries (λ j. let y : 1 + j ≡ suc j = omega arith in ap (slice_index (node_blocks t n)) y)
+      (holds_entries can) (omega arith) (entry_sound can)
 
   -- a chain whose first header stands in this word
   pub chain_laid : (p s w : ℕ) → w ≡ first_block (slice_index (node_blocks t n)) (chain_nodes t p s)
@@ -141,9 +134,8 @@ module _ (t : Tree) (n : ℕ) (sound : IsWellFormed t) (allowed : is_allowed n �
   root_slot s l =
       let e = slot_is 0 s l in
       let small : slice_index (slots_of (node_blocks t n) t.entries 0) s < 2 ^ 32 =
-      subst (λ m. m < 2 ^ 32) (sym e) (first_near (slice_index (node_blocks t n)) (chain_nodes t 0 s) (near t n sound allowed room)) in
-      ap (λ bs. word bs (FIRST_SLOT + s)) (holds_root t n sound allowed room)
-      ∙ (root_block-slot (planned_root t n) s (fits_root t n sound allowed room) l small ∙ e)
+      subst (λ m. m < 2 ^ 32) (sym e) (first_near (slice_index (node_blocks t n)) (chain_nodes t 0 s) (near can)) in
+      ap (λ bs. word bs (FIRST_SLOT + s)) (holds_root can) ∙ (root_block-slot (planned_root t n) s (fits_root can) l small ∙ e)
 
   pub dir_slot : (i s : ℕ) (e : Entry) (h : At t.entries i e) → e.body ≡ Dir → s < SLOTS
       → word_in (volume t n) (nth_free n (standing i e h).k) (FIRST_SLOT + s) ≡ first_block (slice_index (node_blocks t n)) (chain_nodes t (suc i) s)
@@ -151,7 +143,7 @@ module _ (t : Tree) (n : ℕ) (sound : IsWellFormed t) (allowed : is_allowed n �
       let p = standing i e h in
       let y = slot_is (suc i) s l in
       let small : slice_index (slots_of (node_blocks t n) t.entries (suc i)) s < 2 ^ 32 =
-      subst (λ m. m < 2 ^ 32) (sym y) (first_near (slice_index (node_blocks t n)) (chain_nodes t (suc i) s) (near t n sound allowed room)) in
+      subst (λ m. m < 2 ^ 32) (sym y) (first_near (slice_index (node_blocks t n)) (chain_nodes t (suc i) s) (near can)) in
       let b : planned_body n p.k t.kind (slots_of (node_blocks t n) t.entries (suc i)) e.body ≡ DirFields (slots_of (node_blocks t n) t.entries (suc i)) =
       ap (planned_body n p.k t.kind (slots_of (node_blocks t n) t.entries (suc i))) d in
       ap (λ bs. word bs (FIRST_SLOT + s)) p.head

@@ -1,5 +1,5 @@
 -- The entries of a tree fit the volume that was laid.
-use Rattle.std.proofs.Common.{◌≡◌, ℕ, zero, suc, List, ◌+◌, ◌-◌, ◌*◌, ◌/◌, ◌%◌, ◌^◌, ◌<◌, ◌≤◌, length, take, min, refl, sym, ap, subst, ◌∙◌, arith, true}
+use Rattle.std.proofs.Common.{◌≡◌, ℕ, zero, suc, List, ◌+◌, ◌-◌, ◌*◌, ◌/◌, ◌%◌, ◌^◌, ◌<◌, ◌≤◌, length, take, min, refl, sym, ap, subst, ◌∙◌, arith}
 use Rattle.std.specs.Prelude.{slice_index}
 use Rattle.adf_fields.specs.Hash.{slot_of}
 use Rattle.adf_fields.specs.Words.{block, word}
@@ -9,7 +9,7 @@ use Rattle.adf_tree.specs.declared.entry.Body.{Body}
 use Rattle.adf_tree.specs.declared.entry.Body.TheVariants.{Dir, File}
 use Rattle.adf_tree.specs.declared.entry.Entry.{Entry}
 use Rattle.adf_tree.specs.Tree.{Tree}
-use Rattle.adf_blocks.specs.Sizes.{chunk, count, is_allowed}
+use Rattle.adf_blocks.specs.Sizes.{chunk, count}
 use Rattle.adf_blocks.specs.declared.layout.TheConstants.{EXTENSION, FIRST_POINTER, NAME, POINTERS, SECONDARY_TYPE, SIZE}
 use Rattle.adf_blocks.specs.Forms.{text_at}
 use Rattle.adf_blocks.specs.HeadBlock.{HeadFields, meta_at, secondary_of, size_of, ext_of, head_form}
@@ -23,13 +23,13 @@ use Rattle.adf_volume.specs.Demands.{AllHold, head_demands, data_demands}
 use Rattle.adf_volume.specs.Layout.{at_node, exts_of, datas_of}
 use Rattle.adf_volume.specs.Fits.{EntryFits, FileFits, BodyFits, TableAt}
 use Rattle.adf_volume.proofs.FormDemands.{all_demanded}
-use Rattle.adf_volume.proofs.Sizes.{size_low, size_high}
-use Rattle.adf_build.specs.Plan.{exts_needed, data_blocks, entries_blocks, blocks_needed, nth_free, allocated, places_from, planned}
+use Rattle.adf_volume.proofs.Sizes.{size_high}
+use Rattle.adf_build.specs.Plan.{exts_needed, data_blocks, entries_blocks, nth_free, allocated, places_from, planned}
 use Rattle.adf_build.specs.Writes.{HoldsBlocks}
-use Rattle.adf_build.specs.Laid.{IsWellFormed, body_writes, data_writes, ext_writes, node_blocks, nth_free_or_none, planned_body, slots_of, volume}
+use Rattle.adf_build.specs.Laid.{body_writes, data_writes, ext_writes, node_blocks, nth_free_or_none, planned_body, slots_of, volume}
 use Rattle.adf_build.proofs.AllocatedBlocks.{length_allocated}
 use Rattle.adf_build.proofs.WholeBlocks.{next_small, entry_head}
-use Rattle.adf_build.proofs.LaidWrites.{below, entry_sound}
+use Rattle.adf_build.proofs.LaidWrites.{CanHold, small, few, below, entry_sound}
 use Rattle.adf_build.proofs.WrittenBlocks.{holds_left, holds_right}
 use Rattle.adf_build.proofs.EntryBlocks.{Standing, head_fits, nodes_at, standing}
 use Rattle.adf_build.proofs.LaidFiles.{allocated_at, allocated_index, exts_linked, exts_formed, exts_point, bytes_held, datas_formed, held_long}
@@ -48,10 +48,9 @@ exts_enough : (c : ℕ) → c ≤ POINTERS * suc (exts_needed c)
 unfolding exts_needed
 exts_enough c = omega arith
 
-module _ (t : Tree) (n : ℕ) (sound : IsWellFormed t) (allowed : is_allowed n ≡ true) (room : blocks_needed t n ≤ n - 2) (i : ℕ) (e : Entry)
-    (h : At t.entries i e) where
+module _ {t : Tree} {n : ℕ} (can : CanHold t n) (i : ℕ) (e : Entry) (h : At t.entries i e) where
   abbrev here : Standing (volume t n) n (entries_blocks t.kind t.entries) t (places_from n t.kind 0 t.entries) i (suc i) e
-  here = standing t n sound allowed room i e h
+  here = standing can i e h
 
   abbrev fields : HeadFields
   fields = entry_head n t (suc i) here.k e here.rest
@@ -60,30 +59,23 @@ module _ (t : Tree) (n : ℕ) (sound : IsWellFormed t) (allowed : is_allowed n �
   form_laid =
       all_demanded (nth_free n here.k) (head_form t.kind (nth_free n here.k) (at_node (volume t n) (planned t n) e.parent) (slot_of e.name)
       (block (volume t n) (nth_free n here.k)))
-      (rw (here.head, ← nodes_at t n sound allowed room e.parent) (head_block-form t.kind fields (head_fits t n sound allowed room i e h)))
+      (rw (here.head, ← nodes_at can e.parent) (head_block-form t.kind fields (head_fits can i e h)))
 
   name_laid : e.name ≡ name_of (volume t n) (nth_free n here.k)
   unfolding name_of
-  name_laid = sym (ap (λ bs. text_at bs NAME) here.head ∙ (head_block-name fields (head_fits t n sound allowed room i e h)).1)
+  name_laid = sym (ap (λ bs. text_at bs NAME) here.head ∙ (head_block-name fields (head_fits can i e h)).1)
 
   meta_laid : e.meta ≡ meta_of (volume t n) (nth_free n here.k)
   unfolding meta_of
-  meta_laid = sym (ap meta_at here.head ∙ head_block-meta fields (head_fits t n sound allowed room i e h)
-      (entry_sound t n sound allowed room i e h).meta)
+  meta_laid = sym (ap meta_at here.head ∙ head_block-meta fields (head_fits can i e h) (entry_sound can i e h).meta)
 
   type_laid : word_in (volume t n) (nth_free n here.k) SECONDARY_TYPE
       ≡ secondary_of (planned_body n here.k t.kind (slots_of (node_blocks t n) t.entries (suc i)) e.body)
-  type_laid = ap (λ bs. word bs SECONDARY_TYPE) here.head ∙ head_block-secondary fields (head_fits t n sound allowed room i e h)
+  type_laid = ap (λ bs. word bs SECONDARY_TYPE) here.head ∙ head_block-secondary fields (head_fits can i e h)
 
   -- the blocks that the entry takes
   kept_blocks : here.k + (1 + exts_needed (data_blocks t.kind e.body) + data_blocks t.kind e.body) ≤ entries_blocks t.kind t.entries
   kept_blocks = here.room
-
-  few : entries_blocks t.kind t.entries < 2 ^ 32
-  few = let high = size_high n allowed in let four = size_low n allowed in omega arith
-
-  small : n < 2 ^ 32
-  small = let high = size_high n allowed in omega arith
 
   module _ (bytes : List ℕ) (is : e.body ≡ File bytes) where
     -- how many data blocks and extension blocks the file has
@@ -110,12 +102,7 @@ module _ (t : Tree) (n : ℕ) (sound : IsWellFormed t) (allowed : is_allowed n �
     file_blocks = subst (λ b. here.k + (1 + exts_needed (data_blocks t.kind b) + data_blocks t.kind b) ≤ entries_blocks t.kind t.entries) is kept_blocks
 
     size_word : length bytes < 2 ^ 32
-    size_word =
-        let a = size_small t.kind (length bytes) in
-        let b = file_blocks in
-        let high = size_high n allowed in
-        let four = size_low n allowed in
-        omega arith
+    size_word = omega (arith, size_small t.kind (length bytes), file_blocks, size_high n can.allowed)
 
     body_is : planned_body n here.k t.kind (slots_of (node_blocks t n) t.entries (suc i)) e.body
         ≡ FileFields (length bytes) (allocated n (suc here.k + file_exts) (min POINTERS file_datas)) (nth_free_or_none n (suc here.k) file_exts)
@@ -139,13 +126,13 @@ module _ (t : Tree) (n : ℕ) (sound : IsWellFormed t) (allowed : is_allowed n �
     size_laid : word_in (volume t n) (nth_free n here.k) SIZE ≡ length bytes
     size_laid =
         let w : size_of fields.body ≡ length bytes = ap size_of body_is in
-        ap (λ bs. word bs SIZE) here.head ∙ (head_block-size fields (head_fits t n sound allowed room i e h) (let s = size_word in omega arith) ∙ w)
+        ap (λ bs. word bs SIZE) here.head ∙ (head_block-size fields (head_fits can i e h) (let s = size_word in omega arith) ∙ w)
 
     content_laid : bytes ≡ content (volume t n) t.kind (nth_free n here.k) data_run
     unfolding content
     content_laid =
         sym (ap (λ m. take m (joined (volume t n) t.kind data_run)) size_laid
-        ∙ bytes_held (volume t n) n (entries_blocks t.kind t.entries) small few (below t n sound allowed room) here.k t.kind bytes file_blocks datas_hold
+        ∙ bytes_held (volume t n) n (entries_blocks t.kind t.entries) (small can) (few can) (below can) here.k t.kind bytes file_blocks datas_hold
         (chunks_cover t.kind (length bytes)))
 
     -- the header or the extension block that names data block j
@@ -158,21 +145,20 @@ module _ (t : Tree) (n : ℕ) (sound : IsWellFormed t) (allowed : is_allowed n �
         let fb = file_blocks in
         let idx : slice_index (allocated n (suc here.k + file_exts) (min POINTERS file_datas)) j ≡ nth_free n (suc here.k + file_exts + j) =
         allocated_index n (suc here.k + file_exts) (min POINTERS file_datas) j (omega arith) in
-        let s = below t n sound allowed room (suc here.k + file_exts + j) (omega arith) in
-        let sm = small in
+        let s = below can (suc here.k + file_exts + j) (omega arith) in
         let at_head : nth_free n here.k ≡ a = sym here.at ∙ ta in
         ap (λ a. word_in (volume t n) a (FIRST_POINTER - j % POINTERS)) (sym at_head)
         ∙ (ap (λ m. word_in (volume t n) (nth_free n here.k) (FIRST_POINTER - m)) m
         ∙ (ap (λ bs. word bs (FIRST_POINTER - j)) here.head
         ∙ (head_block-pointer fields (length bytes) (allocated n (suc here.k + file_exts) (min POINTERS file_datas))
-        (nth_free_or_none n (suc here.k) file_exts) j (head_fits t n sound allowed room i e h) body_is lt
-        ∙ (long_number (slice_index (allocated n (suc here.k + file_exts) (min POINTERS file_datas)) j) (omega arith)
+        (nth_free_or_none n (suc here.k) file_exts) j (head_fits can i e h) body_is lt
+        ∙ (long_number (slice_index (allocated n (suc here.k + file_exts) (min POINTERS file_datas)) j) (omega (arith, small can))
         ∙ (idx ∙ sym place.1)))))
     named_laid (suc q) j b a z at ta =
         let place = allocated_at n (suc here.k + file_exts) file_datas j b at in
         let ax : At ext_run q a = subst (λ xs. At xs q a) exts_are ta in
         let y : suc here.k + file_exts + (POINTERS * suc q + j % POINTERS) ≡ suc here.k + file_exts + j = omega arith in
-        exts_point (volume t n) n (entries_blocks t.kind t.entries) small few (below t n sound allowed room) here.k file_datas file_blocks exts_hold q a
+        exts_point (volume t n) n (entries_blocks t.kind t.entries) (small can) (few can) (below can) here.k file_datas file_blocks exts_hold q a
         (j % POINTERS) ax (omega arith) (omega arith)
         ∙ (ap (nth_free n) y ∙ sym place.1)
 
@@ -187,21 +173,21 @@ module _ (t : Tree) (n : ℕ) (sound : IsWellFormed t) (allowed : is_allowed n �
         subst (λ k. HoldsBlocks (volume t n) (data_writes n k here.k bytes)) z datas_hold in
         let run : At (allocated n (suc here.k + exts_needed e) e) j b = rw co at at in
         rw (co, ← held_long bytes j)
-        (datas_formed (volume t n) n (entries_blocks t.kind t.entries) small few (below t n sound allowed room) here.k bytes fb ho j b run)
+        (datas_formed (volume t n) n (entries_blocks t.kind t.entries) (small can) (few can) (below can) here.k bytes fb ho j b run)
 
     file_at : FileFits (volume t n) t (planned t n) (suc i) (nth_free n here.k) bytes
     file_at =
         let fb = file_blocks in
         let first : word_in (volume t n) (nth_free n here.k) EXTENSION ≡ nth_free_or_none n (suc here.k) file_exts =
         ap (λ bs. word bs EXTENSION) here.head
-        ∙ (head_block-ext fields (head_fits t n sound allowed room i e h)
-        (subst (λ b. ext_of b < 2 ^ 32) (sym body_is) (next_small n (entries_blocks t.kind t.entries) small few (below t n sound allowed room)
+        ∙ (head_block-ext fields (head_fits can i e h)
+        (subst (λ b. ext_of b < 2 ^ 32) (sym body_is) (next_small n (entries_blocks t.kind t.entries) (small can) (few can) (below can)
         (suc here.k) file_exts (omega arith))) ∙ ap ext_of body_is) in
         record {
           exts = subst (λ xs. Spelled (λ b. word_in (volume t n) b EXTENSION) (word_in (volume t n) (nth_free n here.k) EXTENSION) xs) (sym exts_are)
               (subst (λ w. Spelled (λ b. word_in (volume t n) b EXTENSION) w ext_run) (sym first)
-              (exts_linked (volume t n) n (entries_blocks t.kind t.entries) small few (below t n sound allowed room) here.k file_datas file_blocks exts_hold));
-          ext_form = (λ k b a. exts_formed (volume t n) n (entries_blocks t.kind t.entries) small few (below t n sound allowed room) here.k file_datas
+              (exts_linked (volume t n) n (entries_blocks t.kind t.entries) (small can) (few can) (below can) here.k file_datas file_blocks exts_hold));
+          ext_form = (λ k b a. exts_formed (volume t n) n (entries_blocks t.kind t.entries) (small can) (few can) (below can) here.k file_datas
               file_blocks exts_hold k b (subst (λ xs. At xs k b) exts_are a));
           enough = (let a = exts_enough file_datas in let l : length (exts_of (planned t n) (suc i)) ≡ file_exts =
               ap length exts_are ∙ length_allocated n (suc here.k) file_exts in omega arith);

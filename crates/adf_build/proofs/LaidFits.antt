@@ -35,15 +35,15 @@ use Rattle.adf_volume.proofs.Lists.{at_below, at_index}
 use Rattle.adf_volume.proofs.Images.{page_in}
 use Rattle.adf_volume.proofs.TreeOrder.{dir_node}
 use Rattle.adf_volume.proofs.DistinctBlocks.{block_in, in_block}
-use Rattle.adf_volume.proofs.Sizes.{size_low, size_high}
-use Rattle.adf_build.specs.Plan.{entry_blocks, entries_blocks, blocks_needed, places_from, planned}
+use Rattle.adf_build.specs.Plan.{entry_blocks, entries_blocks, places_from, planned}
 use Rattle.adf_build.specs.Bits.{is_used, is_free_bit, bits_from, page_words}
-use Rattle.adf_build.specs.Laid.{IsLaid, IsWellFormed, boot_bytes, listed_pages, map_ext_or_none, map_ext_part, page_part, planned_root, volume}
+use Rattle.adf_build.specs.Laid.{IsLaid, boot_bytes, listed_pages, map_ext_or_none, map_ext_part, page_part, planned_root, volume}
 use Rattle.adf_build.proofs.AllocatedBlocks.{reserved_below}
 use Rattle.adf_build.proofs.Parts.{part_held}
 use Rattle.adf_build.proofs.Planned.{owned_blocks, planned_once, planned_range}
 use Rattle.adf_build.proofs.Bits.{bit_of, bits_small, owned_used, used_owned}
-use Rattle.adf_build.proofs.LaidWrites.{fits_root, volume_long, volume_blocks, holds_map_exts, holds_pages, holds_root, holds_boot, listed_few, reserved_parts}
+use Rattle.adf_build.proofs.LaidWrites.{CanHold, can_hold, four, small, listed_few, reserved_parts, fits_root, volume_long, volume_blocks}
+use Rattle.adf_build.proofs.LaidWrites.{holds_map_exts, holds_pages, holds_root, holds_boot}
 use Rattle.adf_build.proofs.EntryBlocks.{standing, chain_laid, root_slot, dir_slot}
 use Rattle.adf_build.proofs.LaidEntries.{entry_laid, file_laid}
 use Rattle.std.proofs.lemmas.Bool.{false_from_ne_true, true≢false}
@@ -117,50 +117,45 @@ free_unused n total r b e h = grind (arith, nat_tests)
 unused_free : (n total r b : ℕ) → 2 + r ≡ b → b < n → is_used n total b ≡ false → is_free_bit n total r ≡ true
 unused_free n total r b e l h = grind (arith, nat_tests)
 
-module _ (t : Tree) (n : ℕ) (sound : IsWellFormed t) (allowed : is_allowed n ≡ true) (room : blocks_needed t n ≤ n - 2) where
+module _ {t : Tree} {n : ℕ} (can : CanHold t n) where
   size : blocks (volume t n) ≡ n
-  size = volume_blocks t n sound allowed room
+  size = volume_blocks can
 
   boots_laid : AllHold (boot_demands (volume t n))
   boots_laid =
-      let l : length (volume t n) ≡ n * 512 = volume_long t n sound allowed room in
+      let l : length (volume t n) ≡ n * 512 = volume_long can in
       let s = size in (
-        (omega arith, ap is_allowed s ∙ allowed),
-        all_demanded 0 (boot_form (block (volume t n) 0)) (subst (λ bs. first_cause (boot_form bs) ≡ None) (sym (holds_boot t n sound allowed room))
-            (boot_holds t.kind)),
+        (omega arith, ap is_allowed s ∙ can.allowed),
+        all_demanded 0 (boot_form (block (volume t n) 0)) (subst (λ bs. first_cause (boot_form bs) ≡ None) (sym (holds_boot can)) (boot_holds t.kind)),
       )
 
   kind_laid : t.kind ≡ kind_of (volume t n)
   unfolding kind_of
-  kind_laid = sym (ap (λ bs. cond (slice_index bs 3 == 0) Ofs Ffs) (holds_boot t n sound allowed room) ∙ boot_kind t.kind)
+  kind_laid = sym (ap (λ bs. cond (slice_index bs 3 == 0) Ofs Ffs) (holds_boot can) ∙ boot_kind t.kind)
 
   root_at : AllHold (root_demands (volume t n) (middle n))
   root_at = all_demanded (middle n) (root_form (block (volume t n) (middle n)))
-      (subst (λ bs. first_cause (root_form bs) ≡ None) (sym (holds_root t n sound allowed room))
-      (root_block-form (planned_root t n) (fits_root t n sound allowed room)))
+      (subst (λ bs. first_cause (root_form bs) ≡ None) (sym (holds_root can)) (root_block-form (planned_root t n) (fits_root can)))
 
   label_laid : t.label ≡ label_of (volume t n) (middle n)
   unfolding label_of
-  label_laid = sym (ap (λ bs. text_at bs NAME) (holds_root t n sound allowed room) ∙ root_block-text (planned_root t n) (fits_root t n sound allowed room))
+  label_laid = sym (ap (λ bs. text_at bs NAME) (holds_root can) ∙ root_block-text (planned_root t n) (fits_root can))
 
   stamps_laid : t.stamps ≡ stamps_of (volume t n) (middle n)
   unfolding stamps_of
-  stamps_laid =
-      sym (ap stamps_at (holds_root t n sound allowed room) ∙ root_block-stamps (planned_root t n) (fits_root t n sound allowed room) sound.bounds.stamps)
+  stamps_laid = sym (ap stamps_at (holds_root can) ∙ root_block-stamps (planned_root t n) (fits_root can) can.sound.bounds.stamps)
 
   page_word : (k b : ℕ) → k < ROOT_PAGES → At (range_with_len (middle n + 1) (pages_needed n)) k b → word_in (volume t n) (middle n) (FIRST_PAGE + k) ≡ b
   page_word k b l h =
       let at = range_at (middle n + 1) (pages_needed n) k b h in
       let e : slice_index (range_with_len (middle n + 1) (min ROOT_PAGES (pages_needed n))) k ≡ b =
       get_or-range_with_len (middle n + 1) (min ROOT_PAGES (pages_needed n)) k 0 (omega arith) ∙ sym at.1 in
-      let high = size_high n allowed in
-      ap (λ bs. word bs (FIRST_PAGE + k)) (holds_root t n sound allowed room)
-      ∙ (root_block-page (planned_root t n) k (fits_root t n sound allowed room) l (omega arith) ∙ e)
+      ap (λ bs. word bs (FIRST_PAGE + k)) (holds_root can)
+      ∙ (root_block-page (planned_root t n) k (fits_root can) l (omega (arith, small can)) ∙ e)
 
   page_at : (q : ℕ) → q < pages_needed n → block (volume t n) (middle n + 1 + q) ≡ page_block (page_words n (entries_blocks t.kind t.entries) q)
   page_at q l =
-      part_held (volume t n) (page_part n (entries_blocks t.kind t.entries)) 0 (pages_needed n) q (holds_pages t n sound allowed room)
-      (omega arith) (omega arith)
+      part_held (volume t n) (page_part n (entries_blocks t.kind t.entries)) 0 (pages_needed n) q (holds_pages can) (omega arith) (omega arith)
 
   page_formed : (k b : ℕ) → At (range_with_len (middle n + 1) (pages_needed n)) k b → AllHold (page_demands (volume t n) b)
   page_formed k b h =
@@ -175,12 +170,12 @@ module _ (t : Tree) (n : ℕ) (sound : IsWellFormed t) (allowed : is_allowed n �
       → Spelled (λ b. word_in (volume t n) b NEXT_IN_CHAIN) (word_in (volume t n) (at_node (volume t n) (planned t n) p) (FIRST_SLOT + s))
       (map (at_node (volume t n) (planned t n)) (chain_nodes t p s))
   chains_laid zero s d l =
-      chain_laid t n sound allowed room 0 s (word_in (volume t n) (root_of (volume t n)) (FIRST_SLOT + s))
-      (ap (λ b. word_in (volume t n) (middle b) (FIRST_SLOT + s)) size ∙ root_slot t n sound allowed room s l)
+      chain_laid can 0 s (word_in (volume t n) (root_of (volume t n)) (FIRST_SLOT + s))
+      (ap (λ b. word_in (volume t n) (middle b) (FIRST_SLOT + s)) size ∙ root_slot can s l)
   chains_laid (suc i) s d l =
       let x = dir_node t (suc i) d in
-      chain_laid t n sound allowed room (suc i) s (word_in (volume t n) (at_node (volume t n) (planned t n) (suc i)) (FIRST_SLOT + s))
-      (ap (λ b. word_in (volume t n) b (FIRST_SLOT + s)) (standing t n sound allowed room i x.0 x.1).at ∙ dir_slot t n sound allowed room i s x.0 x.1 x.2 l)
+      chain_laid can (suc i) s (word_in (volume t n) (at_node (volume t n) (planned t n) (suc i)) (FIRST_SLOT + s))
+      (ap (λ b. word_in (volume t n) b (FIRST_SLOT + s)) (standing can i x.0 x.1).at ∙ dir_slot can i s x.0 x.1 x.2 l)
 
   free_laid : (b : ℕ) → 2 ≤ b → b < n → IsFree (volume t n) (range_with_len (middle n + 1) (pages_needed n)) b → (o : Owner)
       → In (owned (volume t n) (planned t n)) (o, b) → ⊥
@@ -201,10 +196,9 @@ module _ (t : Tree) (n : ℕ) (sound : IsWellFormed t) (allowed : is_allowed n �
   unowned_laid b lo hi f =
       let q : ℕ = (b - 2) / PAGE_BITS in
       let r : ℕ = (b - 2) % PAGE_BITS in
-      let four = size_low n allowed in
       let lt : q < pages_needed n = page_in n b lo hi in
       let y = false_from_ne_true (is_used n (entries_blocks t.kind t.entries) b) (λ u. let x = in_block (owned (volume t n) (planned t n)) b
-      (subst (λ l. In l b) (sym (owned_blocks (volume t n) t n size)) (used_owned n (entries_blocks t.kind t.entries) b four lo u)) in f x.0 x.1) in
+      (subst (λ l. In l b) (sym (owned_blocks (volume t n) t n size)) (used_owned n (entries_blocks t.kind t.entries) b (four can) lo u)) in f x.0 x.1) in
       let x = unused_free n (entries_blocks t.kind t.entries) (PAGE_BITS * q + r) b (omega arith) hi y in
       let g = (bit_tells n (entries_blocks t.kind t.entries) q r (omega arith)).1 x in
       (middle n + 1 + q, at_range (middle n + 1) (pages_needed n) q lt, subst (λ bs. IsFreeBit bs r) (sym (page_at q lt)) g)
@@ -214,16 +208,14 @@ module _ (t : Tree) (n : ℕ) (sound : IsWellFormed t) (allowed : is_allowed n �
       → block (volume t n) (middle n + 1 + pages_needed n + j)
       ≡ map_ext_block (listed_pages n j) (map_ext_or_none n (suc j))
   map_ext_is j l =
-      part_held (volume t n) (map_ext_part n) 0 (map_exts_needed (pages_needed n)) j (holds_map_exts t n sound allowed room) (omega arith) (omega arith)
+      part_held (volume t n) (map_ext_part n) 0 (map_exts_needed (pages_needed n)) j (holds_map_exts can) (omega arith) (omega arith)
 
   -- a bitmap extension block lies in the volume
   map_ext_near : (j : ℕ) → j ≤ map_exts_needed (pages_needed n) → middle n + 1 + pages_needed n + j < 2 ^ 32
   map_ext_near j l =
-      let four = size_low n allowed in
-      let high = size_high n allowed in
       let p = reserved_parts n in
-      let r = reserved_below n four in
-      omega arith
+      let r = reserved_below n (four can) in
+      omega (arith, small can)
 
   map_first_laid : (b : ℕ) → At (range_with_len (middle n + 1 + pages_needed n) (map_exts_needed (pages_needed n))) 0 b
       → word_in (volume t n) (middle n) FIRST_MAP_EXT ≡ b
@@ -231,8 +223,7 @@ module _ (t : Tree) (n : ℕ) (sound : IsWellFormed t) (allowed : is_allowed n �
       let x = range_at (middle n + 1 + pages_needed n) (map_exts_needed (pages_needed n)) 0 b h in
       let e : b ≡ middle n + 1 + pages_needed n + 0 = x.1 in
       let small = map_ext_small n 0 (map_ext_near 0 (omega arith)) in
-      ap (λ bs. word bs FIRST_MAP_EXT) (holds_root t n sound allowed room)
-      ∙ (root_block-map_ext (planned_root t n) (fits_root t n sound allowed room) small ∙ (map_ext_some n 0 x.0 ∙ sym e))
+      ap (λ bs. word bs FIRST_MAP_EXT) (holds_root can) ∙ (root_block-map_ext (planned_root t n) (fits_root can) small ∙ (map_ext_some n 0 x.0 ∙ sym e))
 
   map_next_laid : (j a b : ℕ) → At (range_with_len (middle n + 1 + pages_needed n) (map_exts_needed (pages_needed n))) j a
       → At (range_with_len (middle n + 1 + pages_needed n) (map_exts_needed (pages_needed n))) (suc j) b
@@ -264,24 +255,23 @@ module _ (t : Tree) (n : ℕ) (sound : IsWellFormed t) (allowed : is_allowed n �
 
   entries_fit : (m : ℕ) (e : Entry) → EntryAt t m e → EntryFits (volume t n) t (planned t n) m (at_node (volume t n) (planned t n) m) e
   entries_fit zero e h = absurd h
-  entries_fit (suc i) e h = entry_laid t n sound allowed room i e h
+  entries_fit (suc i) e h = entry_laid can i e h
 
   files_fit : (m : ℕ) (e : Entry) (bytes : List ℕ) → EntryAt t m e → e.body ≡ File bytes
       → FileFits (volume t n) t (planned t n) m (at_node (volume t n) (planned t n) m) bytes
   files_fit zero e bytes h f = absurd h
-  files_fit (suc i) e bytes h f = file_laid t n sound allowed room i e h bytes f
+  files_fit (suc i) e bytes h f = file_laid can i e h bytes f
 
   pub volume_fits : Fits (volume t n) t (planned t n)
   volume_fits =
       let s : middle n ≡ root_of (volume t n) = ap middle (sym size) in
-      let four = size_low n allowed in
       record {
         boots = boots_laid;
         kind = kind_laid;
         root = subst (λ b. AllHold (root_demands (volume t n) b)) s root_at;
         label = subst (λ b. t.label ≡ label_of (volume t n) b) s label_laid;
         stamps = subst (λ b. t.stamps ≡ stamps_of (volume t n) b) s stamps_laid;
-        tree = sound.tree;
+        tree = can.sound.tree;
         places = places_long n t.kind 0 t.entries;
         pages = length-range_with_len (middle n + 1) (pages_needed n) ∙ ap pages_needed (sym size);
         map_exts = length-range_with_len (middle n + 1 + pages_needed n) (map_exts_needed (pages_needed n))
@@ -295,10 +285,10 @@ module _ (t : Tree) (n : ℕ) (sound : IsWellFormed t) (allowed : is_allowed n �
         chains = chains_laid;
         files = files_fit;
         once = planned_once (volume t n) t n size;
-        range = (λ o b h. let r = planned_range (volume t n) t n o b size four room h in (r.0, subst (λ m. b < m) (sym size) r.1));
+        range = (λ o b h. let r = planned_range (volume t n) t n o b size (four can) can.room h in (r.0, subst (λ m. b < m) (sym size) r.1));
         bitmap = (λ b lo hi. let l : b < n = subst (λ m. b < m) size hi in (free_laid b lo l, unowned_laid b lo l));
       }
 
 -- a laid image fits its tree as it was planned
 pub laid_fits : (image : List ℕ) (t : Tree) → IsLaid image t → Fits image t (planned t (blocks image))
-laid_fits image t l = subst (λ v. Fits v t (planned t (blocks image))) (sym l.bytes) (volume_fits t (blocks image) l.sound l.size l.room)
+laid_fits image t l = subst (λ v. Fits v t (planned t (blocks image))) (sym l.bytes) (volume_fits (can_hold l))

@@ -17,7 +17,6 @@ use Rattle.adf_volume.specs.Lists.{At, In}
 use Rattle.adf_volume.specs.Fits.{Fits}
 use Rattle.adf_volume.specs.Image.{map_exts_needed}
 use Rattle.adf_volume.specs.Layout.{EntryAt, Layout, exts_at, exts_of, owned}
-use Rattle.adf_volume.proofs.Sizes.{size_low}
 use Rattle.adf_volume.proofs.Lists.{in_left, in_right}
 use Rattle.adf_volume.proofs.DistinctBlocks.{in_block}
 use Rattle.adf_build.specs.InOrder.{IsInOrder, blocks_in_order}
@@ -31,7 +30,7 @@ use Rattle.adf_build.proofs.BlockWrites.{with_blocks_same, with_blocks_other}
 use Rattle.adf_build.proofs.WrittenBlocks.{number_in}
 use Rattle.adf_build.proofs.LaidFiles.{allocated_at}
 use Rattle.adf_build.proofs.LaidFits.{laid_fits, range_at}
-use Rattle.adf_build.proofs.LaidWrites.{writes_are, writes_once, zeros_long}
+use Rattle.adf_build.proofs.LaidWrites.{can_hold, four, writes_are, writes_once, zeros_long}
 
 -- the free block that is b
 free_is : (n k b : ℕ) → 4 ≤ n → 2 ≤ b → b ≤ nth_free n k → (b < middle n) ⊎ (middle n + reserved n < b) → (i : ℕ) × (i ≤ k) × (nth_free n i ≡ b)
@@ -83,8 +82,7 @@ write_held image t l b bytes h = ap (λ v. block v b) l.bytes ∙ held
   where
     held : block (volume t (blocks image)) b ≡ bytes
     held = with_blocks_same (blocks image) (replicate (blocks image * 512) 0) (writes t (blocks image)) b bytes
-        (writes_are t (blocks image) l.sound l.size l.room)
-        (writes_once t (blocks image) l.sound l.size l.room) (zeros_long t (blocks image) l.sound l.size l.room) h
+        (writes_are (can_hold l)) (writes_once (can_hold l)) (zeros_long (blocks image)) h
 
 -- a block of zeros
 zeros : (n b : ℕ) → b < n → block (replicate (n * 512) 0) b ≡ replicate 512 0
@@ -100,9 +98,8 @@ unfolding volume
 rest_zero image t l b lt h = ap (λ v. block v b) l.bytes ∙ (other ∙ zeros (blocks image) b lt)
   where
     other : block (volume t (blocks image)) b ≡ block (replicate (blocks image * 512) 0) b
-    other = with_blocks_other (blocks image) (replicate (blocks image * 512) 0) (writes t (blocks image)) b (writes_are t (blocks image) l.sound l.size l.room)
-        (zeros_long t (blocks image) l.sound l.size l.room)
-        (λ q i e. h (subst (In (numbers_of (writes t (blocks image)))) e (number_in (writes t (blocks image)) q i)))
+    other = with_blocks_other (blocks image) (replicate (blocks image * 512) 0) (writes t (blocks image)) b (writes_are (can_hold l))
+        (zeros_long (blocks image)) (λ q i e. h (subst (In (numbers_of (writes t (blocks image)))) e (number_in (writes t (blocks image)) q i)))
 
 -- the blocks of entries are a run of free blocks
 in_a_row : (n : ℕ) (kind : Kind) (k : ℕ) (es : List Entry) → blocks_in_order (places_from n kind k es) ≡ allocated n k (entries_blocks kind es)
@@ -152,7 +149,7 @@ planned_in_order image t laid =
           omega (arith, first.1, second.1, free_rises n (0 + i) (0 + j) (omega arith)));
       no_gap = (λ b last is_in lo hi.
           let x = in_allocated n 0 (entries_blocks t.kind t.entries) last (subst (λ bs. In bs last) row is_in) in
-          no_gap image t x.0 b (size_low n laid.size) (omega (arith, x.2)) lo (omega (arith, x.3)));
+          no_gap image t x.0 b (four (can_hold laid)) (omega (arith, x.2)) lo (omega (arith, x.3)));
     }
 
 -- a laid image lies in order

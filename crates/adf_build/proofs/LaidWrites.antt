@@ -28,8 +28,8 @@ use Rattle.adf_volume.proofs.DistinctBlocks.{Distinct, distinct-append}
 use Rattle.adf_build.specs.Plan.{reserved, entry_blocks, entries_blocks, blocks_needed, nth_free, allocated}
 use Rattle.adf_build.specs.Bits.{bits_from, is_free_bit, page_words}
 use Rattle.adf_build.specs.Writes.{AreBlocks, NoneTwice, HoldsBlocks, numbers_of}
-use Rattle.adf_build.specs.Laid.{IsWellFormed, boot_bytes, entries_writes, first_block, heads_from, listed_pages, map_ext_or_none, map_ext_part}
-use Rattle.adf_build.specs.Laid.{map_ext_writes, node_blocks, page_part, page_writes, planned_root, volume, writes}
+use Rattle.adf_build.specs.Laid.{IsLaid, IsWellFormed, boot_bytes, entries_writes, first_block, heads_from, listed_pages, map_ext_or_none}
+use Rattle.adf_build.specs.Laid.{map_ext_part, map_ext_writes, node_blocks, page_part, page_writes, planned_root, volume, writes}
 use Rattle.adf_build.proofs.AllocatedBlocks.{free_from, free_below, free_apart, reserved_below, in_allocated, in_range, distinct_allocated, distinct_range}
 use Rattle.adf_build.proofs.AllocatedBlocks.{range_with_len-append}
 use Rattle.adf_build.proofs.BlockWrites.{length-with_blocks}
@@ -69,28 +69,49 @@ ends_of t n = (middle n, root_block (planned_root t n)) ∷ (0, block_of_fields 
 abbrev rest_of : Tree → ℕ → List (ℕ × List ℕ)
 rest_of t n = pages_of t n ++ (map_ext_writes n ++ ends_of t n)
 
-module _ (t : Tree) (n : ℕ) (sound : IsWellFormed t) (allowed : is_allowed n ≡ true) (room : blocks_needed t n ≤ n - 2) where
-  total : ℕ
-  total = entries_blocks t.kind t.entries
+-- a volume of n blocks can hold the tree: the tree is well formed, the size is allowed, and there is room
+pub record CanHold (t : Tree) (n : ℕ) : Type 0 where
+  pub sound : IsWellFormed t
+  pub allowed : is_allowed n ≡ true
+  pub room : blocks_needed t n ≤ n - 2
+
+-- the volume of a laid image can hold its tree
+pub can_hold : {image : List ℕ} {t : Tree} → IsLaid image t → CanHold t (blocks image)
+can_hold l = record { sound = l.sound; allowed = l.size; room = l.room }
+
+-- an empty volume has its length
+pub zeros_long : (n : ℕ) → length {A = ℕ} (replicate (n * 512) 0) ≡ n * 512
+zeros_long n = length-replicate (n * 512) 0
+
+module _ {t : Tree} {n : ℕ} (can : CanHold t n) where
+  -- the size and the blocks of the entries are within bounds
+  pub four : 4 ≤ n
+  four = size_low n can.allowed
+
+  pub small : n < 2 ^ 32
+  small = omega (arith, size_high n can.allowed)
+
+  pub few : entries_blocks t.kind t.entries < 2 ^ 32
+  few = omega (arith, small)
 
   pub below : (k : ℕ) → k < entries_blocks t.kind t.entries → nth_free n k < n
-  below k l = let four : 4 ≤ n = size_low n allowed in free_below n k four (omega arith)
+  below k l = free_below n k four (omega arith)
 
   heads_near : (k : ℕ) (es : List Entry) → k + entries_blocks t.kind es ≤ entries_blocks t.kind t.entries → (j : ℕ)
       → slice_index (heads_from n t.kind k es) j < 2 ^ 32
   heads_near k [] l j = omega arith
-  heads_near k (e ∷ es) l zero = let b = below k (omega arith) in let high = size_high n allowed in omega arith
+  heads_near k (e ∷ es) l zero = omega (arith, below k (omega arith), small)
   heads_near k (e ∷ es) l (suc j) = heads_near (k + entry_blocks t.kind e) es (omega arith) j
 
   -- the block of each node is a word
   pub near : (j : ℕ) → slice_index (node_blocks t n) j < 2 ^ 32
-  near zero = let high = size_high n allowed in omega arith
+  near zero = omega (arith, small)
   near (suc j) = heads_near 0 t.entries (omega arith) j
 
   pub entry_sound : (j : ℕ) (e : Entry) → At t.entries j e → IsBoundedEntry e
   entry_sound j e h =
       let l : j < length t.entries = at_below t.entries j e h in
-      subst IsBoundedEntry (at_index_or t.entries j e e h) (sound.bounds.entries j e l)
+      subst IsBoundedEntry (at_index_or t.entries j e e h) (can.sound.bounds.entries j e l)
 
   pub fits_root : FitsRoot (planned_root t n)
   fits_root =
@@ -99,19 +120,18 @@ module _ (t : Tree) (n : ℕ) (sound : IsWellFormed t) (allowed : is_allowed n �
       record {
         slots = length-map-range_with_len (λ s. first_block (slice_index (node_blocks t n)) (nodes_from 1 t.entries 0 s)) 0 SLOTS;
         pages = omega arith;
-        label = sound.bounds.label;
+        label = can.sound.bounds.label;
       }
 
   pub writes_are : AreBlocks n (writes t n)
   writes_are =
-      let four = size_low n allowed in
-      let high = size_high n allowed in
+      let least = four in
       let p = reserved_parts n in
       let r = reserved_below n four in
       let b = boot_short t.kind in
       let boot = length-block_of_fields 512 ((0, boot_bytes t.kind) ∷ []) (omega arith) (omega arith, tt) in
       are-append n (entries_of t n) (rest_of t n)
-      (are_entries n (entries_blocks t.kind t.entries) (omega arith) (omega arith) below t 1 0 t.entries near (omega arith)
+      (are_entries n (entries_blocks t.kind t.entries) small few below t 1 0 t.entries near (omega arith)
       (λ j e h. let b = entry_sound j e h in (b.name, b.meta.comment)))
       (are-append n (pages_of t n) (map_ext_writes n ++ ends_of t n)
       (are_parts n (page_part n (entries_blocks t.kind t.entries)) 0 (pages_needed n)
@@ -136,7 +156,7 @@ module _ (t : Tree) (n : ℕ) (sound : IsWellFormed t) (allowed : is_allowed n �
 
   pub writes_once : NoneTwice (writes t n)
   writes_once =
-      let four = size_low n allowed in
+      let least = four in
       let m : ℕ = entries_blocks t.kind t.entries in
       none_twice (writes t n) (subst Distinct (sym writes_numbers)
       (distinct-append (allocated n 0 m) (range_with_len (middle n + 1) (reserved n) ++ middle n ∷ 0 ∷ []) (distinct_allocated n 0 m)
@@ -152,19 +172,16 @@ module _ (t : Tree) (n : ℕ) (sound : IsWellFormed t) (allowed : is_allowed n �
         | inr k ↦ elim k [ inl g ↦ free_apart n s.0 (omega arith) (omega arith) | inr g ↦ elim g [ inl h ↦ omega arith | inr h ↦ h ] ]
       ])))
 
-  pub zeros_long : length {A = ℕ} (replicate (n * 512) 0) ≡ n * 512
-  zeros_long = length-replicate (n * 512) 0
-
   pub volume_long : length (volume t n) ≡ n * 512
   unfolding volume
-  volume_long = length-with_blocks n (replicate (n * 512) 0) (writes t n) writes_are zeros_long
+  volume_long = length-with_blocks n (replicate (n * 512) 0) (writes t n) writes_are (zeros_long n)
 
   pub volume_blocks : blocks (volume t n) ≡ n
   volume_blocks = let l = volume_long in omega arith
 
   holds_all : HoldsBlocks (volume t n) (writes t n)
   unfolding volume
-  holds_all = laid_holds n (replicate (n * 512) 0) (writes t n) (writes t n) writes_are writes_once zeros_long (λ q h. h)
+  holds_all = laid_holds n (replicate (n * 512) 0) (writes t n) (writes t n) writes_are writes_once (zeros_long n) (λ q h. h)
 
   pub holds_entries : HoldsBlocks (volume t n) (entries_of t n)
   holds_entries = holds_left (volume t n) (entries_of t n) (rest_of t n) holds_all

@@ -18,7 +18,7 @@ returns-clause-bytes c =
     take_at image (drop (length image) c.in-Ok-vec.image.items) c.in-Ok-vec.image.len full ∙ written ∙ laid_bytes tree n
 
 pub returns-clause-laid : goal.returns-clause-laid
-returns-clause-laid c = is_laid c.args.tree.now c.args.blocks (returns-clause-bytes c) c.fields_fit.ensures (search rules)
+returns-clause-laid c = is_laid c.args.tree.now c.args.blocks (returns-clause-bytes c) (search rules)
 
 pub returns-clause-fits : goal.returns-clause-fits
-returns-clause-fits c = laid_as_planned c.args.tree.now c.args.blocks (returns-clause-bytes c) c.fields_fit.ensures (search rules)
+returns-clause-fits c = laid_as_planned c.args.tree.now c.args.blocks (returns-clause-bytes c) (search rules)
