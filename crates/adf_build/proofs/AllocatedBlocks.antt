@@ -38,7 +38,7 @@ free_once n i j h =
     let b : j < i → ⊥ = (λ l. let k = free_rises n j i l in omega arith) in
     omega arith
 
-pub free_from : (n k : ℕ) → 2 ≤ nth_free n k
+pub free_from : (n k : ℕ) → 2 + k ≤ nth_free n k
 free_from n k = elim (stretch n k) [ low a e ↦ omega arith | high a e ↦ omega arith ]
 
 pub free_below : (n k : ℕ) → 4 ≤ n → k + 1 + reserved n ≤ n - 3 → nth_free n k < n

@@ -23,7 +23,7 @@ use Rattle.adf_build.specs.Writes.{HoldsBlocks}
 use Rattle.adf_build.specs.Laid.{body_writes, entries_writes, first_block, heads_from, node_blocks, planned_body, planned_root, slots_of, volume}
 use Rattle.adf_build.proofs.ChainLinks.{Links, spelled_chain}
 use Rattle.adf_build.proofs.WholeBlocks.{fits_head, entry_head}
-use Rattle.adf_build.proofs.LaidWrites.{CanHold, small, few, below, near, entry_sound, fits_root, volume_blocks, holds_entries, holds_root}
+use Rattle.adf_build.proofs.LaidWrites.{CanHold, has_free, near, entry_sound, fits_root, volume_blocks, holds_entries, holds_root}
 use Rattle.adf_build.proofs.WrittenBlocks.{holds_left, holds_right}
 
 -- entry j of a list of places, which is entry i of the volume: from which free block on it lies, and what stands there
@@ -90,7 +90,7 @@ module _ {t : Tree} {n : ℕ} (can : CanHold t n) where
       let s = standing i e h in
       let r : s.k + entry_blocks t.kind e ≤ entries_blocks t.kind t.entries = s.room in
       let b = entry_sound can i e h in
-      fits_head n (entries_blocks t.kind t.entries) (small can) (few can) (below can) t (suc i) s.k e s.rest (near can) (omega arith) b.name b.meta.comment
+      fits_head (has_free can) t (suc i) s.k e s.rest (near can) (omega arith) b.name b.meta.comment
 
   links : (i k : ℕ) (es : List Entry) → ((j : ℕ) → slice_index (node_blocks t n) (i + j) ≡ slice_index (heads_from n t.kind k es) j)
       → HoldsBlocks (volume t n) (entries_writes n t i k es)
@@ -102,7 +102,7 @@ module _ {t : Tree} {n : ℕ} (can : CanHold t n) where
       let z : i + 0 ≡ i = omega arith in
       let a : slice_index (node_blocks t n) i ≡ nth_free n k = ap (slice_index (node_blocks t n)) (sym z) ∙ f 0 in
       let b = g 0 e refl in
-      let fh = fits_head n (entries_blocks t.kind t.entries) (small can) (few can) (below can) t i k e es (near can) (omega arith) b.name b.meta.comment in
+      let fh = fits_head (has_free can) t i k e es (near can) (omega arith) b.name b.meta.comment in
       let nx = first_near (slice_index (node_blocks t n)) (nodes_from (suc i) es e.parent (slot_of e.name)) (near can) in (
         ap (λ b. word_in (volume t n) b NEXT_IN_CHAIN) a
             ∙ (ap (λ bs. word bs NEXT_IN_CHAIN) h.0 ∙ head_block-next (entry_head n t i k e es) fh nx),

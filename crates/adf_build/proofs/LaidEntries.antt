@@ -23,13 +23,12 @@ use Rattle.adf_volume.specs.Demands.{AllHold, head_demands, data_demands}
 use Rattle.adf_volume.specs.Layout.{at_node, exts_of, datas_of}
 use Rattle.adf_volume.specs.Fits.{EntryFits, FileFits, BodyFits, TableAt}
 use Rattle.adf_volume.proofs.FormDemands.{all_demanded}
-use Rattle.adf_volume.proofs.Sizes.{size_high}
 use Rattle.adf_build.specs.Plan.{exts_needed, data_blocks, entries_blocks, nth_free, allocated, places_from, planned}
 use Rattle.adf_build.specs.Writes.{HoldsBlocks}
 use Rattle.adf_build.specs.Laid.{body_writes, data_writes, ext_writes, node_blocks, nth_free_or_none, planned_body, slots_of, volume}
 use Rattle.adf_build.proofs.AllocatedBlocks.{length_allocated}
-use Rattle.adf_build.proofs.WholeBlocks.{next_small, entry_head}
-use Rattle.adf_build.proofs.LaidWrites.{CanHold, small, few, below, entry_sound}
+use Rattle.adf_build.proofs.WholeBlocks.{free_small, next_small, entry_head}
+use Rattle.adf_build.proofs.LaidWrites.{CanHold, has_free, small, entry_sound}
 use Rattle.adf_build.proofs.WrittenBlocks.{holds_left, holds_right}
 use Rattle.adf_build.proofs.EntryBlocks.{Standing, head_fits, nodes_at, standing}
 use Rattle.adf_build.proofs.LaidFiles.{allocated_at, allocated_index, exts_linked, exts_formed, exts_point, bytes_held, datas_formed, held_long}
@@ -102,7 +101,7 @@ module _ {t : Tree} {n : ℕ} (can : CanHold t n) (i : ℕ) (e : Entry) (h : At 
     file_blocks = subst (λ b. here.k + (1 + exts_needed (data_blocks t.kind b) + data_blocks t.kind b) ≤ entries_blocks t.kind t.entries) is kept_blocks
 
     size_word : length bytes < 2 ^ 32
-    size_word = omega (arith, size_small t.kind (length bytes), file_blocks, size_high n can.allowed)
+    size_word = omega (arith, size_small t.kind (length bytes), file_blocks, small can)
 
     body_is : planned_body n here.k t.kind (slots_of (node_blocks t n) t.entries (suc i)) e.body
         ≡ FileFields (length bytes) (allocated n (suc here.k + file_exts) (min POINTERS file_datas)) (nth_free_or_none n (suc here.k) file_exts)
@@ -132,8 +131,7 @@ module _ {t : Tree} {n : ℕ} (can : CanHold t n) (i : ℕ) (e : Entry) (h : At 
     unfolding content
     content_laid =
         sym (ap (λ m. take m (joined (volume t n) t.kind data_run)) size_laid
-        ∙ bytes_held (volume t n) n (entries_blocks t.kind t.entries) (small can) (few can) (below can) here.k t.kind bytes file_blocks datas_hold
-        (chunks_cover t.kind (length bytes)))
+        ∙ bytes_held (volume t n) (has_free can) here.k t.kind bytes file_blocks datas_hold (chunks_cover t.kind (length bytes)))
 
     -- the header or the extension block that names data block j
     named_laid : (q j b a : ℕ) → j / POINTERS ≡ q → At data_run j b
@@ -145,21 +143,20 @@ module _ {t : Tree} {n : ℕ} (can : CanHold t n) (i : ℕ) (e : Entry) (h : At 
         let fb = file_blocks in
         let idx : slice_index (allocated n (suc here.k + file_exts) (min POINTERS file_datas)) j ≡ nth_free n (suc here.k + file_exts + j) =
         allocated_index n (suc here.k + file_exts) (min POINTERS file_datas) j (omega arith) in
-        let s = below can (suc here.k + file_exts + j) (omega arith) in
+        let s = free_small (has_free can) (suc here.k + file_exts + j) (omega arith) in
         let at_head : nth_free n here.k ≡ a = sym here.at ∙ ta in
         ap (λ a. word_in (volume t n) a (FIRST_POINTER - j % POINTERS)) (sym at_head)
         ∙ (ap (λ m. word_in (volume t n) (nth_free n here.k) (FIRST_POINTER - m)) m
         ∙ (ap (λ bs. word bs (FIRST_POINTER - j)) here.head
         ∙ (head_block-pointer fields (length bytes) (allocated n (suc here.k + file_exts) (min POINTERS file_datas))
         (nth_free_or_none n (suc here.k) file_exts) j (head_fits can i e h) body_is lt
-        ∙ (long_number (slice_index (allocated n (suc here.k + file_exts) (min POINTERS file_datas)) j) (omega (arith, small can))
+        ∙ (long_number (slice_index (allocated n (suc here.k + file_exts) (min POINTERS file_datas)) j) (omega arith)
         ∙ (idx ∙ sym place.1)))))
     named_laid (suc q) j b a z at ta =
         let place = allocated_at n (suc here.k + file_exts) file_datas j b at in
         let ax : At ext_run q a = subst (λ xs. At xs q a) exts_are ta in
         let y : suc here.k + file_exts + (POINTERS * suc q + j % POINTERS) ≡ suc here.k + file_exts + j = omega arith in
-        exts_point (volume t n) n (entries_blocks t.kind t.entries) (small can) (few can) (below can) here.k file_datas file_blocks exts_hold q a
-        (j % POINTERS) ax (omega arith) (omega arith)
+        exts_point (volume t n) (has_free can) here.k file_datas file_blocks exts_hold q a (j % POINTERS) ax (omega arith) (omega arith)
         ∙ (ap (nth_free n) y ∙ sym place.1)
 
     formed_laid : (kind : Kind) → t.kind ≡ kind → (j b : ℕ) → At data_run j b
@@ -172,8 +169,7 @@ module _ {t : Tree} {n : ℕ} (can : CanHold t n) (i : ℕ) (e : Entry) (h : At 
         let ho : HoldsBlocks (volume t n) (data_writes n Ofs here.k bytes) =
         subst (λ k. HoldsBlocks (volume t n) (data_writes n k here.k bytes)) z datas_hold in
         let run : At (allocated n (suc here.k + exts_needed e) e) j b = rw co at at in
-        rw (co, ← held_long bytes j)
-        (datas_formed (volume t n) n (entries_blocks t.kind t.entries) (small can) (few can) (below can) here.k bytes fb ho j b run)
+        rw (co, ← held_long bytes j) (datas_formed (volume t n) (has_free can) here.k bytes fb ho j b run)
 
     file_at : FileFits (volume t n) t (planned t n) (suc i) (nth_free n here.k) bytes
     file_at =
@@ -181,14 +177,14 @@ module _ {t : Tree} {n : ℕ} (can : CanHold t n) (i : ℕ) (e : Entry) (h : At 
         let first : word_in (volume t n) (nth_free n here.k) EXTENSION ≡ nth_free_or_none n (suc here.k) file_exts =
         ap (λ bs. word bs EXTENSION) here.head
         ∙ (head_block-ext fields (head_fits can i e h)
-        (subst (λ b. ext_of b < 2 ^ 32) (sym body_is) (next_small n (entries_blocks t.kind t.entries) (small can) (few can) (below can)
-        (suc here.k) file_exts (omega arith))) ∙ ap ext_of body_is) in
+        (subst (λ b. ext_of b < 2 ^ 32) (sym body_is) (next_small (has_free can) (suc here.k) file_exts (omega arith)))
+        ∙ ap ext_of body_is) in
         record {
           exts = subst (λ xs. Spelled (λ b. word_in (volume t n) b EXTENSION) (word_in (volume t n) (nth_free n here.k) EXTENSION) xs) (sym exts_are)
               (subst (λ w. Spelled (λ b. word_in (volume t n) b EXTENSION) w ext_run) (sym first)
-              (exts_linked (volume t n) n (entries_blocks t.kind t.entries) (small can) (few can) (below can) here.k file_datas file_blocks exts_hold));
-          ext_form = (λ k b a. exts_formed (volume t n) n (entries_blocks t.kind t.entries) (small can) (few can) (below can) here.k file_datas
-              file_blocks exts_hold k b (subst (λ xs. At xs k b) exts_are a));
+              (exts_linked (volume t n) (has_free can) here.k file_datas file_blocks exts_hold));
+          ext_form = (λ k b a. exts_formed (volume t n) (has_free can) here.k file_datas file_blocks exts_hold k b
+              (subst (λ xs. At xs k b) exts_are a));
           enough = (let a = exts_enough file_datas in let l : length (exts_of (planned t n) (suc i)) ≡ file_exts =
               ap length exts_are ∙ length_allocated n (suc here.k) file_exts in omega arith);
           datas = ap length datas_are ∙ length_allocated n (suc here.k + file_exts) file_datas;

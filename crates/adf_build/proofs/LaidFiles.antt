@@ -1,5 +1,5 @@
 -- The extension blocks, the data blocks and the content of a file that was laid.
-use Rattle.std.proofs.Common.{◌≡◌, ℕ, zero, suc, List, [], ◌∷◌, ◌++◌, inl, inr, ◌+◌, ◌-◌, ◌*◌, ◌^◌, ◌<◌, ◌≤◌, length, take, drop, min, refl, sym, ap, subst}
+use Rattle.std.proofs.Common.{◌≡◌, ℕ, zero, suc, List, [], ◌∷◌, ◌++◌, inl, inr, ◌+◌, ◌-◌, ◌*◌, ◌<◌, ◌≤◌, length, take, drop, min, refl, sym, ap, subst}
 use Rattle.std.proofs.Common.{◌∙◌, arith, Bool, true, false, cond, take_all, length-take, length-drop, length-take-le}
 use Rattle.std.specs.Prelude.{nat_lt, slice_index, None, replicate}
 use Rattle.std.proofs.lemmas.Bool.{cases_lt}
@@ -27,7 +27,7 @@ use Rattle.adf_build.specs.Plan.{allocated, exts_needed, nth_free}
 use Rattle.adf_build.specs.Writes.{HoldsBlocks}
 use Rattle.adf_build.specs.Laid.{data_bytes, data_part, data_writes, ext_part, ext_writes, nth_free_or_none, planned_data, planned_ext}
 use Rattle.adf_build.proofs.Parts.{part_held}
-use Rattle.adf_build.proofs.WholeBlocks.{next_small, fits_ext, fits_data, data_long, chunk_small, chunk_ofs}
+use Rattle.adf_build.proofs.WholeBlocks.{HasFree, free_small, next_small, fits_ext, fits_data, data_long, chunk_small, chunk_ofs}
 
 -- block j of a run
 pub allocated_index : (n k m j : ℕ) → j < m → slice_index (allocated n k m) j ≡ nth_free n (k + j)
@@ -110,19 +110,19 @@ shares_joined v kind n k bytes (suc m) h f =
     ]
 
 -- what a data block holds of its file
-area_holds : (n total : ℕ) → n < 2 ^ 32 → total < 2 ^ 32 → ((k : ℕ) → k < total → nth_free n k < n) → (kind : Kind) (k : ℕ) (bytes : List ℕ) (j : ℕ)
+area_holds : {n total : ℕ} → HasFree n total → (kind : Kind) (k : ℕ) (bytes : List ℕ) (j : ℕ)
     → let c = count kind (length bytes) in k + (1 + exts_needed c + c) ≤ total → j < c
     → let d = planned_data n kind k bytes j in take (length d.bytes) (area kind (data_bytes kind d)) ≡ d.bytes
 unfolding area
-area_holds n total small few below Ofs k bytes j l lt =
+area_holds {n = n} free Ofs k bytes j l lt =
     let d = planned_data n Ofs k bytes j in
     let t = length-take (chunk Ofs) (drop (chunk Ofs * j) bytes) in
     let c = chunk_ofs in
     let z : 24 + length d.bytes - 24 ≡ length d.bytes = omega arith in
     let bs : List ℕ = data_bytes Ofs d in
     take-take (length d.bytes) DATA_ROOM (drop DATA_BYTES bs) (omega (arith, t, c))
-    ∙ (ap (λ m. take m (drop DATA_BYTES bs)) (sym z) ∙ data_block-bytes d (fits_data n total small few below k bytes j l lt))
-area_holds n total small few below Ffs k bytes j l lt =
+    ∙ (ap (λ m. take m (drop DATA_BYTES bs)) (sym z) ∙ data_block-bytes d (fits_data free k bytes j l lt))
+area_holds {n = n} free Ffs k bytes j l lt =
     let xs : List ℕ = take (chunk Ffs) (drop (chunk Ffs * j) bytes) in
     let t = length-take (chunk Ffs) (drop (chunk Ffs * j) bytes) in
     let c = chunk_small Ffs in
@@ -132,13 +132,13 @@ area_holds n total small few below Ffs k bytes j l lt =
     ∙ (ap (λ m. take m (drop 0 bs)) (sym z) ∙ range-with_bytes_same (replicate 512 0) 0 xs (length xs) (omega arith) (omega (arith, t, c)))
 
 -- a file of c data blocks whose header is the k-th free block, in an image that holds its parts
-module _ (v : List ℕ) (n total : ℕ) (small : n < 2 ^ 32) (few : total < 2 ^ 32) (below : (k : ℕ) → k < total → nth_free n k < n) (k : ℕ) where
+module _ (v : List ℕ) {n total : ℕ} (free : HasFree n total) (k : ℕ) where
   module _ (c : ℕ) (room : k + (1 + exts_needed c + c) ≤ total) (hold : HoldsBlocks v (ext_writes n k c)) where
     ext_held : (j : ℕ) → j < exts_needed c → block v (nth_free n (suc k + j)) ≡ ext_block (planned_ext n k c j)
     ext_held j lt = part_held v (ext_part n k c) 0 (exts_needed c) j hold (omega arith) (omega arith)
 
     ext_fits : (j : ℕ) → j < exts_needed c → FitsExt (planned_ext n k c j)
-    ext_fits j lt = fits_ext n total small few below k c j room lt
+    ext_fits j lt = fits_ext free k c j room lt
 
     -- the extension blocks are spelled
     pub exts_linked : Spelled (λ b. word_in v b EXTENSION) (nth_free_or_none n (suc k) (exts_needed c)) (allocated n (suc k) (exts_needed c))
@@ -148,7 +148,7 @@ module _ (v : List ℕ) (n total : ℕ) (small : n < 2 ^ 32) (few : total < 2 ^ 
         (spelled_by (λ b. word_in v b EXTENSION) (allocated n (suc k) m) (λ j b a.
         let place = allocated_at n (suc k) m j b a in
         rw place.1 (ap (λ bs. word bs EXTENSION) (ext_held j place.0)
-        ∙ ext_block-next (planned_ext n k c j) (ext_fits j place.0) (next_small n total small few below _ _ (omega arith))
+        ∙ ext_block-next (planned_ext n k c j) (ext_fits j place.0) (next_small free _ _ (omega arith))
         ∙ run_named n (suc k) m (suc j) (suc k + suc j) (m - suc j) refl refl)))
 
     -- and have their form
@@ -166,10 +166,10 @@ module _ (v : List ℕ) (n total : ℕ) (small : n < 2 ^ 32) (few : total < 2 ^ 
         let first : ℕ = suc k + exts_needed c + POINTERS * suc j in
         let m : ℕ = min POINTERS (c - POINTERS * suc j) in
         let i : slice_index (allocated n first m) q ≡ nth_free n (first + q) = allocated_index n first m q (omega arith) in
-        let s = below (first + q) (omega arith) in
+        let s = free_small free (first + q) (omega arith) in
         let z : first + q ≡ suc k + exts_needed c + (POINTERS * suc j + q) = omega arith in
         rw place.1 (ap (λ bs. word bs (FIRST_POINTER - q)) (ext_held j place.0)
-        ∙ (ext_block-pointer (planned_ext n k c j) q (ext_fits j place.0) lt (omega (arith, i, s, small)) ∙ (i ∙ ap (nth_free n) z)))
+        ∙ (ext_block-pointer (planned_ext n k c j) q (ext_fits j place.0) lt (omega (arith, i, s)) ∙ (i ∙ ap (nth_free n) z)))
 
   module _ (kind : Kind) (bytes : List ℕ) (room : k + (1 + exts_needed (count kind (length bytes)) + count kind (length bytes)) ≤ total)
       (hold : HoldsBlocks v (data_writes n kind k bytes)) where
@@ -183,25 +183,24 @@ module _ (v : List ℕ) (n total : ℕ) (small : n < 2 ^ 32) (few : total < 2 ^ 
     data_held j lt = part_held v (data_part n kind k bytes) 0 many j hold (omega arith) (omega arith)
 
     share_held : (j : ℕ) → j < many → HoldsShare v kind bytes (nth_free n (first_data + j)) j
-    share_held j lt = rw (data_held j lt) (data_long n total small few below kind k bytes j room lt, area_holds n total small few below kind k bytes j room lt)
+    share_held j lt = rw (data_held j lt) (data_long free kind k bytes j room lt, area_holds free kind k bytes j room lt)
 
     -- the content of the data blocks is the bytes
     pub bytes_held : length bytes ≤ many * chunk kind → take (length bytes) (joined v kind (allocated n first_data many)) ≡ bytes
     bytes_held enough = shares_joined v kind n first_data bytes many share_held enough
 
 -- the data blocks of an OFS file have their form
-pub datas_formed : (v : List ℕ) (n total : ℕ) → n < 2 ^ 32 → total < 2 ^ 32 → ((k : ℕ) → k < total → nth_free n k < n) → (k : ℕ) (bytes : List ℕ)
+pub datas_formed : (v : List ℕ) {n total : ℕ} → HasFree n total → (k : ℕ) (bytes : List ℕ)
     → let c = count Ofs (length bytes) in k + (1 + exts_needed c + c) ≤ total → HoldsBlocks v (data_writes n Ofs k bytes)
     → (j b : ℕ) → let run = allocated n (suc k + exts_needed c) c in At run j b
     → AllHold (data_demands v Ofs b (nth_free n k) (suc j) (length (take (chunk Ofs) (drop (chunk Ofs * j) bytes))) (slice_index run (suc j)))
-datas_formed v n total small few below k bytes room hold j b a =
+datas_formed v {n = n} free k bytes room hold j b a =
     let c : ℕ = count Ofs (length bytes) in
     let first : ℕ = suc k + exts_needed c in
     let place = allocated_at n first c j b a in
     let d = planned_data n Ofs k bytes j in
-    let held = data_held v n total small few below k Ofs bytes room hold j place.0 in
     let form : first_cause (data_form d.head d.number (length d.bytes) d.next (block v (nth_free n (first + j)))) ≡ None =
-    rw held (data_block-form d (fits_data n total small few below k bytes j room place.0)) in
+    rw (data_held v free k Ofs bytes room hold j place.0) (data_block-form d (fits_data free k bytes j room place.0)) in
     rw (place.1, ← run_named n first c (suc j) (first + suc j) (c - suc j) refl refl) (all_demanded (nth_free n (first + j))
     (data_form d.head d.number (length d.bytes) d.next (block v (nth_free n (first + j)))) form)
 

@@ -35,7 +35,7 @@ use Rattle.adf_build.proofs.AllocatedBlocks.{range_with_len-append}
 use Rattle.adf_build.proofs.BlockWrites.{length-with_blocks}
 use Rattle.adf_build.proofs.Parts.{are_parts, range_numbers}
 use Rattle.adf_build.proofs.WrittenBlocks.{none_twice, laid_holds, holds_left, holds_right, numbers_of-append, entries_numbers}
-use Rattle.adf_build.proofs.WholeBlocks.{are-append, are_entries}
+use Rattle.adf_build.proofs.WholeBlocks.{HasFree, free_small, are-append, are_entries}
 
 -- the reserved blocks are the pages and the bitmap extension blocks
 pub reserved_parts : (n : ℕ) → pages_needed n + map_exts_needed (pages_needed n) ≡ reserved n
@@ -84,23 +84,20 @@ pub zeros_long : (n : ℕ) → length {A = ℕ} (replicate (n * 512) 0) ≡ n * 
 zeros_long n = length-replicate (n * 512) 0
 
 module _ {t : Tree} {n : ℕ} (can : CanHold t n) where
-  -- the size and the blocks of the entries are within bounds
+  -- the size is within bounds, and the blocks of the entries are there
   pub four : 4 ≤ n
   four = size_low n can.allowed
 
-  pub small : n < 2 ^ 32
+  pub small : n * 512 < 2 ^ 32
   small = omega (arith, size_high n can.allowed)
 
-  pub few : entries_blocks t.kind t.entries < 2 ^ 32
-  few = omega (arith, small)
-
-  pub below : (k : ℕ) → k < entries_blocks t.kind t.entries → nth_free n k < n
-  below k l = free_below n k four (omega arith)
+  pub has_free : HasFree n (entries_blocks t.kind t.entries)
+  has_free = record { small = omega (arith, small); below = (λ k l. free_below n k four (omega arith)) }
 
   heads_near : (k : ℕ) (es : List Entry) → k + entries_blocks t.kind es ≤ entries_blocks t.kind t.entries → (j : ℕ)
       → slice_index (heads_from n t.kind k es) j < 2 ^ 32
   heads_near k [] l j = omega arith
-  heads_near k (e ∷ es) l zero = omega (arith, below k (omega arith), small)
+  heads_near k (e ∷ es) l zero = free_small has_free k (omega arith)
   heads_near k (e ∷ es) l (suc j) = heads_near (k + entry_blocks t.kind e) es (omega arith) j
 
   -- the block of each node is a word
@@ -131,8 +128,7 @@ module _ {t : Tree} {n : ℕ} (can : CanHold t n) where
       let b = boot_short t.kind in
       let boot = length-block_of_fields 512 ((0, boot_bytes t.kind) ∷ []) (omega arith) (omega arith, tt) in
       are-append n (entries_of t n) (rest_of t n)
-      (are_entries n (entries_blocks t.kind t.entries) small few below t 1 0 t.entries near (omega arith)
-      (λ j e h. let b = entry_sound j e h in (b.name, b.meta.comment)))
+      (are_entries has_free t 1 0 t.entries near (omega arith) (λ j e h. let b = entry_sound j e h in (b.name, b.meta.comment)))
       (are-append n (pages_of t n) (map_ext_writes n ++ ends_of t n)
       (are_parts n (page_part n (entries_blocks t.kind t.entries)) 0 (pages_needed n)
       (λ j l. (omega arith, length_page_block (page_words n (entries_blocks t.kind t.entries) j) (page_long n (entries_blocks t.kind t.entries) j))))

@@ -27,7 +27,7 @@ use Rattle.adf_build.specs.Writes.{AreBlocks}
 use Rattle.adf_build.specs.Laid.{body_writes, data_bytes, data_part, data_writes, entries_writes, ext_part, ext_writes, first_block, node_blocks}
 use Rattle.adf_build.specs.Laid.{nth_free_or_none, planned_body, planned_data, planned_ext, planned_head, planned_spot, slots_of}
 use Rattle.adf_build.proofs.Parts.{are_parts}
-use Rattle.adf_build.proofs.AllocatedBlocks.{length_allocated}
+use Rattle.adf_build.proofs.AllocatedBlocks.{free_from, length_allocated}
 
 pub chunk_small : (kind : Kind) → chunk kind ≤ 512
 unfolding chunk
@@ -46,30 +46,36 @@ pub are-append : (n : ℕ) (ps qs : List (ℕ × List ℕ)) → AreBlocks n ps �
 are-append n [] qs a b = b
 are-append n (p ∷ ps) qs a b = (a.0, a.1, are-append n ps qs a.2 b)
 
--- in a volume of n blocks the first `total` free blocks are there
-module _ (n total : ℕ) (small : n < 2 ^ 32) (few : total < 2 ^ 32) (below : (k : ℕ) → k < total → nth_free n k < n) where
+-- a volume of n blocks, each numbered by a word, has its first `total` free blocks
+pub record HasFree (n total : ℕ) : Type 0 where
+  pub small : n < 2 ^ 32
+  pub below : (k : ℕ) → k < total → nth_free n k < n
+
+module _ {n total : ℕ} (free : HasFree n total) where
+  pub free_small : (k : ℕ) → k < total → nth_free n k < 2 ^ 32
+  free_small k l = omega (arith, free.small, free.below k l)
+
   pub next_small : (k m : ℕ) → k + m ≤ total → nth_free_or_none n k m < 2 ^ 32
   next_small k m h = go (nat_lt 0 m) refl
     where
       go : (t : Bool) → nat_lt 0 m ≡ t → cond t (nth_free n k) 0 < 2 ^ 32
-      go true z = let l : 0 < m = grind (arith, nat_tests) in let b = below k (omega arith) in omega arith
+      go true z = let l : 0 < m = grind (arith, nat_tests) in free_small k (omega arith)
       go false z = omega arith
 
   -- the blocks of a file of c data blocks whose header is the k-th free block
   pub fits_ext : (k c j : ℕ) → k + (1 + exts_needed c + c) ≤ total → j < exts_needed c → FitsExt (planned_ext n k c j)
   fits_ext k c j l lt =
-      let own = below (suc k + j) (omega arith) in
-      let head = below k (omega arith) in
       let r = length_allocated n (suc k + exts_needed c + POINTERS * suc j) (min POINTERS (c - POINTERS * suc j)) in
-      record { own = omega (arith, own); head = omega (arith, head); table = omega (arith, r) }
+      record { own = free_small (suc k + j) (omega arith); head = free_small k (omega arith); table = omega (arith, r) }
 
   pub fits_data : (k : ℕ) (bytes : List ℕ) (j : ℕ) → let c = count Ofs (length bytes) in k + (1 + exts_needed c + c) ≤ total → j < c
       → FitsData (planned_data n Ofs k bytes j)
   fits_data k bytes j l lt =
-      let head = below k (omega arith) in
       let t = length-take (chunk Ofs) (drop (chunk Ofs * j) bytes) in
       let c = chunk_ofs in
-      record { head = omega (arith, head); number = omega arith; next = next_small _ _ (omega arith); bytes = omega (arith, t, c) }
+      let f = free_from n (suc j) in
+      let s = free_small (suc j) (omega arith) in
+      record { head = free_small k (omega arith); number = omega (arith, f, s); next = next_small _ _ (omega arith); bytes = omega (arith, t, c) }
 
   pub data_long : (kind : Kind) (k : ℕ) (bytes : List ℕ) (j : ℕ) → let c = count kind (length bytes) in k + (1 + exts_needed c + c) ≤ total → j < c
       → length (data_bytes kind (planned_data n kind k bytes j)) ≡ 512
@@ -86,8 +92,8 @@ module _ (n total : ℕ) (small : n < 2 ^ 32) (few : total < 2 ^ 32) (below : (k
       let c : ℕ = count kind (length bytes) in
       are-append n (ext_writes n k c) (data_writes n kind k bytes)
       (are_parts n (ext_part n k c) 0 (exts_needed c)
-      (λ j lt. (below (suc k + j) (omega arith), length_ext_block (planned_ext n k c j) (fits_ext k c j l (omega arith)))))
-      (are_parts n (data_part n kind k bytes) 0 c (λ j lt. (below (suc k + exts_needed c + j) (omega arith), data_long kind k bytes j l (omega arith))))
+      (λ j lt. (free.below (suc k + j) (omega arith), length_ext_block (planned_ext n k c j) (fits_ext k c j l (omega arith)))))
+      (are_parts n (data_part n kind k bytes) 0 c (λ j lt. (free.below (suc k + exts_needed c + j) (omega arith), data_long kind k bytes j l (omega arith))))
 
   pub fits_body : (k : ℕ) (kind : Kind) (slots : List ℕ) (body : Body) → length slots ≡ SLOTS → FitsBody (planned_body n k kind slots body)
   fits_body k kind slots Dir h = h
@@ -99,9 +105,8 @@ module _ (n total : ℕ) (small : n < 2 ^ 32) (few : total < 2 ^ 32) (below : (k
   pub fits_head : (t : Tree) (i k : ℕ) (e : Entry) (es : List Entry) → ((j : ℕ) → slice_index (node_blocks t n) j < 2 ^ 32)
       → k < total → is_name e.name ≡ true → length e.meta.comment ≤ 79 → FitsHead (entry_head n t i k e es)
   fits_head t i k e es near l name comment =
-      let b = below k l in
       record {
-        own = omega arith;
+        own = free_small k l;
         parent = near e.parent;
         name = name;
         comment = comment;
@@ -116,7 +121,7 @@ module _ (n total : ℕ) (small : n < 2 ^ 32) (few : total < 2 ^ 32) (below : (k
   are_entries t i k (e ∷ es) near l f =
       let g = f 0 e refl in
       let b : k < total = omega arith in (
-        below k b,
+        free.below k b,
         length_head_block (entry_head n t i k e es) (fits_head t i k e es near b g.0 g.1),
         are-append n (body_writes n t.kind k e.body) (entries_writes n t (suc i) (k + entry_blocks t.kind e) es) (are_body t.kind k e.body (omega arith))
             (are_entries t (suc i) (k + entry_blocks t.kind e) es near (omega arith) (λ j d h. f (suc j) d h)),
