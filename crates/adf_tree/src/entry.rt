@@ -98,6 +98,17 @@ impl Meta {
         }
     }
 
+    /// The same comment, protection bits and date.
+    pub fn copy(&self) -> Meta
+        ensures { result ≡ self.now }
+    {
+        Meta {
+            comment: self.comment.copy(),
+            protect: self.protect,
+            stamp: self.stamp,
+        }
+    }
+
     /// Tells that each field is within the bounds of its type, and does nothing.
     pub fn bounds(&self)
         ensures { IsBoundedMeta self.now }
