@@ -10,7 +10,7 @@ use Rattle.adf_tree.specs.Tree.{Tree, room_for}
 use Rattle.adf_fields.specs.declared.dates.Stamp.{Stamp}
 use Rattle.adf_manifest.specs.Lines.{IsRun, RunValue, note_line, run_line}
 use Rattle.adf_manifest.specs.Items.{HaveRoom, IsGivenNote, IsItem, Item, bytes_of_runs, item_lines, items_tree, run_bytes, with_item}
-use Rattle.adf_manifest.specs.Manifest.{Entries, IsWell, Manifest, head_lines, head_tree, items_of, manifest_lines, manifest_tree}
+use Rattle.adf_manifest.specs.Manifest.{Entries, IsWell, Manifest, manifest_head_lines, head_tree, items_of, manifest_lines, manifest_tree}
 use Rattle.adf_manifest.specs.declared.lines.Sort.{Sort}
 use Rattle.adf_manifest.specs.declared.lines.Sort.TheVariants.{Dir, File}
 use Rattle.adf_tree.proofs.Lists.{last_off}
@@ -63,7 +63,7 @@ lines_push : (items : List Item) (i : Item) → flat_map item_lines (items ++ i 
 lines_push items i = simp (flat_map-append, append-nil)
 
 pub new_lines : (m : Manifest) (i : Item) → manifest_lines (with_new m i) ≡ manifest_lines m ++ item_lines i
-new_lines m i = rw lines_push (sym (append_assoc (head_lines m.head) (flat_map item_lines (items_of m.entries)) (item_lines i)))
+new_lines m i = rw lines_push (sym (append_assoc (manifest_head_lines m.head) (flat_map item_lines (items_of m.entries)) (item_lines i)))
 
 pub new_well : (m : Manifest) (i : Item) → IsWell m → IsItem i → IsOk (room_for (manifest_tree m).entries i.path) → IsWell (with_new m i)
 new_well m i w g room = record {
@@ -78,7 +78,7 @@ last_split h before last last' text e = rw (lines_push before last', lines_push 
 
 pub last_lines : (m : Manifest) (e : Entries) (i : Item) (text : List ℕ) → m.entries ≡ Some e → item_lines i ≡ item_lines e.last ++ text ∷ []
     → manifest_lines (with_last m e i) ≡ manifest_lines m ++ text ∷ []
-last_lines m e i text is g = rw is (last_split (head_lines m.head) e.before e.last i text g)
+last_lines m e i text is g = rw is (last_split (manifest_head_lines m.head) e.before e.last i text g)
 
 -- the entries before the last, and the last
 pub well_before : (m : Manifest) (e : Entries) → IsWell m → m.entries ≡ Some e

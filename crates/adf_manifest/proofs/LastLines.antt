@@ -13,7 +13,7 @@ use Rattle.adf_tree.proofs.PathParts.{empty_path}
 use Rattle.adf_manifest.specs.Lines.{IsLine, IsRun, LineValue, LabelLine, StampsLine, EntryLine, NoteLine, RunLine, RunValue, line_text, run_line}
 use Rattle.adf_manifest.specs.Lines.{stamps_line, note_line}
 use Rattle.adf_manifest.specs.Items.{HaveRoom, IsGivenNote, IsItem, Item, items_tree}
-use Rattle.adf_manifest.specs.Manifest.{Entries, IsManifestHead, IsWell, Manifest, head_lines, head_tree, label_lines, items_of, manifest_lines}
+use Rattle.adf_manifest.specs.Manifest.{Entries, IsManifestHead, IsWell, Manifest, manifest_head_lines, head_tree, label_lines, items_of, manifest_lines}
 use Rattle.adf_manifest.specs.Manifest.{manifest_tree, EndsInFile, IsBare, MayStand}
 use Rattle.adf_manifest.specs.Reader.{bare}
 use Rattle.adf_fields.specs.declared.dates.Stamp.{Stamp}
@@ -103,7 +103,7 @@ filled : (l : List ℕ) → 0 < length l → 0 < length (escaped l)
 filled [] h = absurd (omega arith)
 filled (c ∷ cs) h = filled_list (escaped (c ∷ cs)) (spelling_some c (escaped cs))
 
-stamps_behind : (h : Head) (stamps : Stamps) → h.stamps ≡ None → head_lines (with_stamps h stamps) ≡ head_lines h ++ stamps_line stamps ∷ []
+stamps_behind : (h : Head) (stamps : Stamps) → h.stamps ≡ None → manifest_head_lines (with_stamps h stamps) ≡ manifest_head_lines h ++ stamps_line stamps ∷ []
 stamps_behind h stamps e =
     rw (e, append-nil (label_lines h.label))
 

@@ -14,7 +14,7 @@ use Rattle.adf_tree.specs.Tree.{Tree, room_for, with_entry}
 use Rattle.adf_tree.specs.declared.entry.Body.{Body}
 use Rattle.adf_manifest.specs.Lines.{EntryLine, IsLine, IsRun, RunValue, DataRun, FillRun, entry_line, note_line, run_line, LineValue}
 use Rattle.adf_manifest.specs.Items.{IsItem, Item, body_of_sort, bytes_of_runs, run_bytes, with_item}
-use Rattle.adf_manifest.specs.Manifest.{Entries, IsManifestHead, IsWell, Manifest, MayStand, head_lines, head_tree, items_of, manifest_lines}
+use Rattle.adf_manifest.specs.Manifest.{Entries, IsManifestHead, IsWell, Manifest, MayStand, manifest_head_lines, head_tree, items_of, manifest_lines}
 use Rattle.adf_manifest.specs.Manifest.{manifest_tree, ExplainsKind, lines, most_bytes}
 use Rattle.adf_manifest.specs.Reader.{GoesOn, IsOpen, IsReading, Stops, StopsIn, bare, ExplainsLines}
 use Rattle.adf_manifest.specs.declared.lines.Sort.{Sort}
@@ -36,11 +36,12 @@ if_ok_weaker (Err e) f p = tt
 pub bare_well : (h : Head) → IsManifestHead h → IsWell (bare h)
 bare_well h g = record { head = g; items = All-nil IsItem; room = room_none (head_tree h) }
 
-pub bare_lines : (h : Head) → manifest_lines (bare h) ≡ head_lines h
-bare_lines h = append-nil (head_lines h)
+pub bare_lines : (h : Head) → manifest_lines (bare h) ≡ manifest_head_lines h
+bare_lines h = append-nil (manifest_head_lines h)
 
 -- a head goes on with a line of its own
-pub head_step : (h h' : Head) (text : List ℕ) → IsManifestHead h' → head_lines h' ≡ head_lines h ++ text ∷ [] → GoesOn (state.Head h') (bare h) text
+pub head_step : (h h' : Head) (text : List ℕ) → IsManifestHead h' → manifest_head_lines h' ≡ manifest_head_lines h ++ text ∷ []
+    → GoesOn (state.Head h') (bare h) text
 head_step h h' text g e = (bare h', bare_well h' g, refl, bare_lines h' ∙ e ∙ ap (λ l. l ++ text ∷ []) (sym (bare_lines h)))
 
 filled_list : (xs : List ℕ) → 0 < length (escaped xs) → 0 < length xs

@@ -54,8 +54,8 @@ stamps_lines None = []
 stamps_lines (Some stamps) = stamps_line stamps ∷ []
 
 -- the lines of a head: the volume, then the label, then the stamps
-abbrev pub head_lines : Head → List (List ℕ)
-head_lines h = volume_line h.kind h.blocks ∷ (label_lines h.label ++ stamps_lines h.stamps)
+abbrev pub manifest_head_lines : Head → List (List ℕ)
+manifest_head_lines h = volume_line h.kind h.blocks ∷ (label_lines h.label ++ stamps_lines h.stamps)
 
 -- a label that a line gives: 1 to 30 bytes
 abbrev pub IsGivenLabel : List ℕ → Type 0
@@ -96,7 +96,7 @@ items_of (Some e) = e.before ++ e.last ∷ []
 
 -- the lines of a manifest: its head's, and those of its entries
 abbrev pub manifest_lines : Manifest → List (List ℕ)
-manifest_lines m = head_lines m.head ++ flat_map item_lines (items_of m.entries)
+manifest_lines m = manifest_head_lines m.head ++ flat_map item_lines (items_of m.entries)
 
 -- the tree that adding entry line after entry line gives
 abbrev pub manifest_tree : Manifest → Tree

@@ -7,7 +7,7 @@ ghost use Rattle.adf_tree.specs.Draft.{IsRoomFor};
 ghost use Rattle.adf_tree.specs.Bounds.{AreStamps};
 ghost use Rattle.adf_manifest.specs.Lines.{IsLine, IsRun, IsVolumeLine, LabelLine, NoteLine, RunLine, StampsLine, entry_value, label_line, line_text, line_value, run_value, stamps_line, volume_line};
 ghost use Rattle.adf_manifest.specs.Items.{Item, body_of_sort, run_bytes, with_item};
-ghost use Rattle.adf_manifest.specs.Manifest.{Entries, HasBadText, IsFirstFault, IsManifestHead, IsLaterFault, IsWell, Manifest, head_lines, head_tree, manifest_lines, manifest_tree};
+ghost use Rattle.adf_manifest.specs.Manifest.{Entries, HasBadText, IsFirstFault, IsManifestHead, IsLaterFault, IsWell, Manifest, manifest_head_lines, head_tree, manifest_lines, manifest_tree};
 ghost use Rattle.adf_manifest.specs.Reader.{GoesOn, IsOpen, IsReading, StopsIn, Stops, StopsAt, StateMatches, bare};
 
 use crate::lines::{EntryText, Line, Run, Sort, line_of};
@@ -87,7 +87,7 @@ fn volume_of(line: &[u8]) -> Option<(Kind, u32)>
 // Reads the first line.
 fn read_volume(line: &[u8]) -> Result<Head, ManifestKind>
     ensures head { IfOk result IsManifestHead }
-    ensures lines { IfOk result (λ h. head_lines h ≡ line.now ∷ []) }
+    ensures lines { IfOk result (λ h. manifest_head_lines h ≡ line.now ∷ []) }
     ensures fault { IfErr result (λ kind. IsFirstFault line.now kind) }
 {
     let Some((kind, blocks)) = volume_of(line) else {
@@ -109,7 +109,7 @@ fn with_label(head: Head, text: &[u8]) -> Result<Head, ManifestKind>
     requires filled { 0 < length text.now }
     requires place { (head.label ≡ None) × (head.stamps ≡ None) }
     ensures head { IsManifestHead head → IfOk result IsManifestHead }
-    ensures lines { IfOk result (λ h. head_lines h ≡ head_lines head ++ label_line text.now ∷ []) }
+    ensures lines { IfOk result (λ h. manifest_head_lines h ≡ manifest_head_lines head ++ label_line text.now ∷ []) }
     ensures fault { IfErr result (λ kind. (kind ≡ ManifestKind.BadText)
         × HasBadText (LabelLine text.now)) }
 {
@@ -129,7 +129,7 @@ fn with_stamps(head: Head, stamps: Stamps) -> Head
     requires numbers { AreStamps stamps }
     requires place { head.stamps ≡ None }
     ensures head { IsManifestHead head → IsManifestHead result }
-    ensures lines { head_lines result ≡ head_lines head ++ stamps_line stamps ∷ [] }
+    ensures lines { manifest_head_lines result ≡ manifest_head_lines head ++ stamps_line stamps ∷ [] }
 {
     Head {
         kind: head.kind,

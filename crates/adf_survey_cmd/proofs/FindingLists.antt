@@ -11,7 +11,7 @@ use Rattle.adf_survey.specs.declared.part.Finding.{Finding as FoundFinding}
 use Rattle.adf_survey.specs.Parts.{told}
 use Rattle.adf_survey.specs.Survey.{Finding}
 use Rattle.adf_cmd.specs.Streams.{Pending}
-use Rattle.adf_survey_cmd.specs.Lines.{findings_text, lines_from, run_line, run_of}
+use Rattle.adf_survey_cmd.specs.Lines.{findings_text, lines_from, findings_line, run_of}
 use Rattle.adf_survey_cmd.specs.declared.runs.Run.{Run}
 use Rattle.adf_survey_cmd.proofs.RunLines.{run_last}
 
@@ -45,7 +45,7 @@ module _ (image : List ℕ) (w : List (Role × ℕ)) (others : List FoundFinding
   runs_next i d h p = subst (λ gs. Pending a b (text ++ lines_from image w r (map told gs)) whole) (drop_more others i d h) p
 
   -- no finding is left, and the line of the run waits
-  pub runs_done : (i : ℕ) (text' : List ℕ) → length others ≤ i → text' ≡ text ++ run_line image w r
+  pub runs_done : (i : ℕ) (text' : List ℕ) → length others ≤ i → text' ≡ text ++ findings_line image w r
       → Pending a b (text ++ lines_from image w r (map told (drop i others))) whole → Pending a b text' whole
   runs_done i text' h line p =
       let last = ap (λ gs. text ++ lines_from image w r (map told gs)) (drop_all i others h) ∙ run_last image w r text text' line in

@@ -3,7 +3,7 @@
 use Rattle.std.proofs.Common.{◌≡◌, ◌∙◌, ◌++◌, List, [], ◌∷◌, ℕ, true, false, refl, sym, subst, ap, append_assoc, append-nil}
 use Rattle.adf_volume.specs.Walk.{Role}
 use Rattle.adf_survey.specs.Survey.{Finding}
-use Rattle.adf_survey_cmd.specs.Lines.{continues, lines_from, run_line, run_of, runs_from}
+use Rattle.adf_survey_cmd.specs.Lines.{continues, lines_from, findings_line, run_of, runs_from}
 use Rattle.adf_survey_cmd.specs.declared.runs.Run.{Run}
 
 module _ (image : List ℕ) (w : List (Role × ℕ)) where
@@ -13,7 +13,7 @@ module _ (image : List ℕ) (w : List (Role × ℕ)) where
   goes_on r f fs h = rw h refl
 
   is_over : (r : Run) (f : Finding) (fs : List Finding) → continues r (run_of w f) ≡ false
-      → run_line image w r ++ lines_from image w (run_of w f) fs ≡ lines_from image w r (f ∷ fs)
+      → findings_line image w r ++ lines_from image w (run_of w f) fs ≡ lines_from image w r (f ∷ fs)
   unfolding runs_from
   is_over r f fs h = rw h refl
 
@@ -27,13 +27,13 @@ module _ (image : List ℕ) (w : List (Role × ℕ)) where
 
   -- a run that ends
   pub run_over : (r s : Run) (f : Finding) (fs : List Finding) (text text' : List ℕ) → s ≡ run_of w f → continues r s ≡ false
-      → text' ≡ text ++ run_line image w r → text' ++ lines_from image w s fs ≡ text ++ lines_from image w r (f ∷ fs)
+      → text' ≡ text ++ findings_line image w r → text' ++ lines_from image w s fs ≡ text ++ lines_from image w r (f ∷ fs)
   run_over r s f fs text text' e h t =
-      ap (λ (x : List ℕ). x ++ lines_from image w s fs) t ∙ append_assoc text (run_line image w r) (lines_from image w s fs)
-      ∙ ap (λ (x : Run). text ++ (run_line image w r ++ lines_from image w x fs)) e
+      ap (λ (x : List ℕ). x ++ lines_from image w s fs) t ∙ append_assoc text (findings_line image w r) (lines_from image w s fs)
+      ∙ ap (λ (x : Run). text ++ (findings_line image w r ++ lines_from image w x fs)) e
       ∙ ap (λ (x : List ℕ). text ++ x) (is_over r f fs (subst (λ x. continues r x ≡ false) e h))
 
   -- the last run
-  pub run_last : (r : Run) (text text' : List ℕ) → text' ≡ text ++ run_line image w r → text ++ lines_from image w r [] ≡ text'
+  pub run_last : (r : Run) (text text' : List ℕ) → text' ≡ text ++ findings_line image w r → text ++ lines_from image w r [] ≡ text'
   unfolding runs_from
-  run_last r text text' e = ap (λ t. text ++ t) (append-nil (run_line image w r)) ∙ sym e
+  run_last r text text' e = ap (λ t. text ++ t) (append-nil (findings_line image w r)) ∙ sym e

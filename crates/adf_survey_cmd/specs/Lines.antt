@@ -51,13 +51,13 @@ entry_text image w None = []
 entry_text image w (Some n) = codes ": " ++ path_text (path_to image w n)
 
 -- the line of a run
-abbrev pub run_line : List ℕ → List (Role × ℕ) → Run → List ℕ
-run_line image w r = blocks_text r.first r.last ++ (codes ": " ++ (cause_text r.cause ++ (entry_text image w r.entry ++ codes "\n")))
+abbrev pub findings_line : List ℕ → List (Role × ℕ) → Run → List ℕ
+findings_line image w r = blocks_text r.first r.last ++ (codes ": " ++ (cause_text r.cause ++ (entry_text image w r.entry ++ codes "\n")))
 
 -- the lines of findings behind a run
 abbrev pub lines_from : List ℕ → List (Role × ℕ) → Run → List Finding → List ℕ
-lines_from image w r fs = flat_map (run_line image w) (runs_from w r fs)
+lines_from image w r fs = flat_map (findings_line image w) (runs_from w r fs)
 
 -- the lines of findings
 abbrev pub findings_text : List ℕ → List (Role × ℕ) → List Finding → List ℕ
-findings_text image w fs = flat_map (run_line image w) (runs w fs)
+findings_text image w fs = flat_map (findings_line image w) (runs w fs)

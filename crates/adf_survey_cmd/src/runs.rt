@@ -7,7 +7,7 @@ ghost use Rattle.adf_survey.specs.Concerned.{entry_of};
 ghost use Rattle.adf_survey.specs.Parts.{told};
 ghost use Rattle.adf_survey.specs.Survey.{Finding as SpecFinding, IsSurvey};
 ghost use Rattle.adf_cmd.specs.Streams.{AppendsPart, KeepsPending, is_device};
-ghost use Rattle.adf_survey_cmd.specs.Lines.{are_one, blocks_text, continues, entry_text, findings_text, is_beside, lines_from, run_line, run_of};
+ghost use Rattle.adf_survey_cmd.specs.Lines.{are_one, blocks_text, continues, entry_text, findings_text, is_beside, lines_from, findings_line, run_of};
 
 use adf_blocks::Cause;
 use adf_cmd::{Sink, StreamFault, flush_long, write_all};
@@ -113,7 +113,7 @@ fn push_run(
 ) -> Result<(), AllocError>
     ensures { (w : List (Role × ℕ)) (fs : List SpecFinding) → IsSurvey survey.now.image w fs
         → OnOk result
-        (text.new.items ≡ text.old.items ++ run_line survey.now.image w run.now) }
+        (text.new.items ≡ text.old.items ++ findings_line survey.now.image w run.now) }
 {
     push_blocks(text, run.first, run.last)?;
     text.extend_from_slice(run.cause.text().as_bytes())?;
