@@ -1,26 +1,23 @@
 -- A course that begins.
 use Rattle.std.specs.Prelude.{Bool, true, false, cond, Some, None, map, slice_index, slice_index_or, replicate, ◌==◌}
-use Rattle.std.proofs.Common.{◌≡◌, ◌≢◌, ℕ, zero, suc, List, [], ◌∷◌, ◌++◌, length, set, inl, inr, ◌+◌, ◌-◌, ◌<◌, refl, sym, subst, ap, ◌∙◌, arith}
+use Rattle.std.proofs.Common.{◌≡◌, ℕ, zero, suc, List, [], ◌∷◌, ◌++◌, length, set, inl, inr, ◌+◌, ◌<◌, ◌≤◌, refl, sym, subst, ap, ◌∙◌, arith}
 use Rattle.std.specs.Ordering.{is_eq, nat_cmp}
+use Rattle.std.specs.Global.{Vec}
 use Rattle.std.specs.Option.{unwrap_or}
 use Rattle.std.specs.Map.{lookup}
 use Rattle.std.specs.BTreeMap.{BTreeMap, IsEmpty, get, is_at}
 use Rattle.std.proofs.lemmas.Bool.Decides.{eqb_tells}
 use Rattle.std.proofs.lemmas.List.{length-replicate}
 use Rattle.adf_blocks.specs.Sizes.{blocks}
-use Rattle.adf_volume.specs.Image.{root_of, word_in}
-use Rattle.adf_volume.specs.Walk.{Role, first, second, Has, Asks}
-use Rattle.adf_volume.proofs.Roles.{no_head}
+use Rattle.adf_volume.specs.Image.{root_of}
+use Rattle.adf_volume.specs.Walk.{Role, Has, Asks, Lacks, third}
 use Rattle.adf_volume.specs.Walk.Role.{Root, Page, MapExt, Head, Ext, Data}
 use Rattle.adf_survey.specs.declared.part.Part.TheVariants.{Root as RootPart}
-use Rattle.adf_survey.specs.declared.part.Key.{Key}
-use Rattle.adf_survey.specs.declared.asked.Ask.{Ask}
 use Rattle.adf_survey.specs.declared.found.Found.{Found}
 use Rattle.adf_survey.specs.Survey.IsCourse.{start}
 use Rattle.adf_survey.specs.Parts.{by_key, key_of, told}
-use Rattle.adf_survey.specs.Asked.{AddsAsked, AllAsked, HasKey, RootAsk}
-use Rattle.adf_survey.specs.Courses.{IsOnCourse}
-use Rattle.adf_survey.specs.Found.{AreSame, IsOwned, Stands, begun, by_name, owns, unowned}
+use Rattle.adf_survey.specs.Courses.{IsAtPage, IsUpTo, Under, page_place}
+use Rattle.adf_survey.specs.Found.{AreNamed, AreSame, IsOwned, Stands, begun, owns, unowned}
 use Rattle.adf_survey.proofs.Taking.{marked_more, unowned_less}
 
 empty_get : {K X : Type 0} (m : BTreeMap K X) (test : K → Bool) → IsEmpty m → lookup test m.entries ≡ None
@@ -47,12 +44,12 @@ one_node b (suc n) = elim (eqb_tells (suc n) 0) [
 ]
 
 -- nothing is found but the root
-pub stands_begun : (image : List ℕ) (f g h : Found) → IsEmpty f.taken → IsEmpty f.passed → f.owned.items ≡ replicate (blocks image) false
-    → f.avoided.items ≡ replicate (blocks image) false → f.left ≡ blocks image → f.nodes.items ≡ [] → IsEmpty f.exts → IsEmpty f.names → f.findings.items ≡ []
-    → f.parents.items ≡ 0 ∷ []
+pub stands_begun : (image : List ℕ) (f g h : Found) → IsEmpty f.taken → f.owned.items ≡ replicate (blocks image) false
+    → f.avoided.items ≡ replicate (blocks image) false → f.left ≡ blocks image → f.nodes.items ≡ [] → IsEmpty f.exts → f.findings.items ≡ []
+    → f.parents.items ≡ 0 ∷ [] → f.places.items ≡ [] → f.datas.items ≡ []
     → IsOwned RootPart (root_of image) f g → AreSame f g → h ≡ record g { nodes = h.nodes } → h.nodes.items ≡ g.nodes.items ++ root_of image ∷ []
     → root_of image < blocks image → Stands image h (begun image)
-stands_begun image f g h taken passed owned avoided left nodes exts names findings parents o e same pushed lt =
+stands_begun image f g h taken owned avoided left nodes exts findings parents places datas o e same pushed lt =
     let n : ℕ = blocks image in
     let root : ℕ = root_of image in
     let items : h.nodes.items ≡ root ∷ [] = pushed ∙ ap (λ xs. xs ++ root ∷ []) (ap (λ v. v.items) e.nodes ∙ nodes) in
@@ -62,8 +59,8 @@ stands_begun image f g h taken passed owned avoided left nodes exts names findin
     let less = unowned_less (replicate n false) root (let l : length {A = Bool} (replicate n false) ≡ n = length-replicate n false in omega arith) (none_false n root) in
     let all = all_free n in
     subst (λ h. Stands image h (begun image)) (sym same) (record {
-      taken = (λ k. o.taken.0 k ∙ ap (λ c. cond (is_eq (by_key (key_of Root) k)) (Some root) c) (empty_get f.taken (is_at (by_key k)) taken));
-      passed = (λ k. ap (λ m. get by_key m k) o.passed ∙ empty_get f.passed (is_at (by_key k)) passed);
+      taken = (λ r x. o.taken.0 (key_of r)
+          ∙ ap (λ c. cond (is_eq (by_key (key_of Root) (key_of r))) (Some root) c) (empty_get f.taken (is_at (by_key (key_of r))) taken));
       owned = subst (λ xs. (length xs ≡ n) × ((b : ℕ) → b < n → slice_index_or xs b false ≡ owns ((Root, root) ∷ []) b)) (sym marks)
           (marked_more n (replicate n false) [] Root root (length-replicate n false, (λ b l. none_false n b)));
       avoided = subst (λ xs. (length xs ≡ n) × ((b : ℕ) → b < n → slice_index_or xs b false ≡ false)) (sym free)
@@ -73,51 +70,42 @@ stands_begun image f g h taken passed owned avoided left nodes exts names findin
       count = ap length items;
       few = (let l : length h.nodes.items ≡ 1 = ap length items in omega arith);
       ext = (λ m. ap (λ x. unwrap_or (get nat_cmp x m) 0) e.exts ∙ ap (λ c. unwrap_or c 0) (empty_get f.exts (is_at (nat_cmp m)) exts));
-      name = (λ q. ap (λ x. get by_name x q) e.names ∙ empty_get f.names (is_at (by_name q)) names);
       findings = ap (λ v. map told v.items) o.findings ∙ ap (map told) findings;
       parent = (λ m. ap (λ v. slice_index v.items m) e.parents ∙ (ap (λ xs. slice_index xs m) parents ∙ no_parent m));
       parents = ap (λ v. length v.items) e.parents ∙ ap length parents;
+      places = ap (λ v. v.items) e.places ∙ places;
+      datas = o.datas ∙ datas;
     })
 
--- what the root alone asks for
 module _ (image : List ℕ) where
-  abbrev alone : List (Role × ℕ)
-  alone = (Root, root_of image) ∷ []
+  -- nothing comes before the first page but the root
+  up_to_begun : IsUpTo image (begun image) (page_place 0)
+  up_to_begun = record {
+    taken = taken;
+    passed = (λ q b h. absurd h);
+    gone = gone;
+  }
+    where
+      taken : (q : Role) (b : ℕ) → Has (begun image).walk q b → Under q (page_place 0)
+      taken q b (inl e) = subst (λ q. Under q (page_place 0)) e.0 (omega arith)
+      taken q b (inr h) = absurd h
 
-  root_asks : (q : Role) (a i : ℕ) → Asks image alone q a i → RootAsk image (root_of image) (key_of q)
-  root_asks Root a i h = absurd h
-  root_asks (Page k) a i (lt, inl h) = inl (k, h.0, lt, refl)
-  root_asks (Page k) a i (lt, inr (j, inl e, x, y)) = let z : second Root ≡ second (MapExt j) = ap second e.0 in absurd (omega arith)
-  root_asks (Page k) a i (lt, inr (j, inr h, x, y)) = absurd h
-  root_asks (MapExt zero) a i h = inr (inl (h.0, refl))
-  root_asks (MapExt (suc j)) a i (lt, inl e, x) = let z : second Root ≡ second (MapExt j) = ap second e.0 in absurd (omega arith)
-  root_asks (MapExt (suc j)) a i (lt, inr h, x) = absurd h
-  root_asks (Head n zero s zero) a i (x, ls, inl e, ie, ne) =
-      inr (inr (s, ls, subst (λ i. word_in image (root_of image) i ≢ 0) ie (subst (λ a. word_in image a i ≢ 0) (sym e.1) ne), refl))
-  root_asks (Head n zero s zero) a i (x, ls, inr h, ie, ne) = absurd h
-  root_asks (Head n (suc p) s zero) a i (x, ls, d, ie, ne) = absurd (no_head d.header)
-  root_asks (Head n p s (suc j)) a i (x, (m, inl e), ie, ne) = let z : second Root ≡ second (Head m p s j) = ap second e.0 in absurd (omega arith)
-  root_asks (Head n p s (suc j)) a i (x, (m, inr h), ie, ne) = absurd h
-  root_asks (Ext n zero) a i h = absurd h
-  root_asks (Ext n (suc zero)) a i (f, ie, ne) = absurd (no_head f.header)
-  root_asks (Ext n (suc (suc k))) a i (inl e, ie, ne) = let z : first Root ≡ first (Ext n (suc k)) = ap first e.0 in absurd (omega arith)
-  root_asks (Ext n (suc (suc k))) a i (inr h, ie, ne) = absurd h
-  root_asks (Data n zero) a i h = absurd h
-  root_asks (Data n (suc k)) a i ((x, f, lt), m, ie) = absurd (no_head f.header)
+      gone : (q : Role) (a i : ℕ) → Asks image (begun image).walk q a i → Lacks (begun image).walk q → Lacks (begun image).passed_over q
+          → Under q (page_place 0) → ⊥
+      gone Root a i h l m u = h
+      gone (Page k) a i h l m u = let x : third (Page k) < 0 = u.2 refl refl in omega arith
+      gone (MapExt j) a i h l m u = let x : third (MapExt j) < 0 = u.2 refl refl in omega arith
+      gone (Head n p s j) a i h l m u = omega arith
+      gone (Ext n k) a i h l m u = omega arith
+      gone (Data n k) a i h l m u = omega arith
 
-  none_yet : (w : List (Role × ℕ)) (m : ℕ) (parts : BTreeMap Key Ask) → IsEmpty parts → AllAsked image w m parts
-  none_yet w m parts e k x is = let z : None ≡ Some x = sym (empty_get parts (is_at (by_key k)) e) ∙ is in cc
+  no_names : (names : BTreeMap (Vec ℕ) ℕ) → AreNamed image (begun image).walk (page_place 0) names
+  no_names names q m p s j b e f h = absurd (omega arith)
 
-  -- the course is on as what the root names is asked for
-  pub on_begun : (f : Found) (old new : BTreeMap Key Ask) → Stands image f (begun image) → IsEmpty old
-      → ((k : Key) → RootAsk image (root_of image) k → HasKey new k)
-      → ((w : List (Role × ℕ)) (m : ℕ) → Has w Root (root_of image) → AddsAsked image w m old new) → IsOnCourse image f new
-  on_begun f old new st e has adds = (
+  -- the course begins at the first page, whose block the root names
+  pub on_begun : (f : Found) → Stands image f (begun image) → blocks image ≤ 1048576 → IsAtPage image f 0 (root_of image)
+  on_begun f st small = (
     begun image,
-    record {
-      course = start;
-      stands = st;
-      asked = adds alone (blocks image - f.left) (inl (refl, refl)) (none_yet alone (blocks image - f.left) old e);
-      whole = (λ q a i h lack over. has (key_of q) (root_asks q a i h));
-    },
+    record { course = start; stands = st; up_to = up_to_begun; names = no_names f.names; small = small },
+    record { root = (λ l. refl); ext = (λ l. absurd (omega arith)) },
   )

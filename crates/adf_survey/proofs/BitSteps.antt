@@ -20,8 +20,7 @@ use Rattle.adf_survey.specs.declared.part.Finding.{Finding as FoundFinding}
 use Rattle.adf_survey.specs.Forms.{Tells}
 use Rattle.adf_survey.specs.Parts.{by_key, key_of, told}
 use Rattle.adf_survey.specs.Found.{BitTells, IsBitOf, IsCompleted, IsFinished, IsNoted, IsToldOn, TellsOn, Stands, at_key, cause_told, owns}
-use Rattle.adf_survey.proofs.Asking.{one_key}
-use Rattle.adf_survey.proofs.CourseSteps.{lacks_at, same_of_key}
+use Rattle.adf_survey.proofs.Keys.{lacks_at, one_key, same_of_key}
 use Rattle.adf_survey.proofs.Known.{tells_absent}
 use Rattle.adf_survey.proofs.Taking.{stands_noted}
 use Rattle.adf_survey.proofs.OneSurvey.{gathered}
@@ -42,13 +41,13 @@ module _ (image : List ℕ) (f : Found) (s : Course) (v : IsCourse image s) (fs 
 
   page_has : (at : ℕ) → get by_key f.taken (key_of (Page page)) ≡ Some at → Has s.walk (Page page) at
   page_has at e =
-      let x = at_has s.walk (key_of (Page page)) at (sym (st.taken (key_of (Page page))) ∙ e) in
+      let x = at_has s.walk (key_of (Page page)) at (sym (st.taken (Page page) tt) ∙ e) in
       has_role s.walk (Page page) (λ n p t j z. let y : second (Page page) ≡ second (Head n p t j) = ap second z in absurd (omega arith)) x.0 at x.1
       (same_of_key x.0 (Page page) x.2)
 
   -- without its page a bit is not compared
   pub no_page : get by_key f.taken (key_of (Page page)) ≡ None → BitTells image s b None
-  no_page e c = absurd (lacks_at s.walk (Page page) (sym (st.taken (key_of (Page page))) ∙ e) (Page page) c.0.0 c.0.1 (same_refl (Page page)))
+  no_page e c = absurd (lacks_at s.walk (Page page) (sym (st.taken (Page page) tt) ∙ e) (Page page) c.0.0 c.0.1 (same_refl (Page page)))
 
   tells_free : (at : ℕ) (t : Bool) → Has s.walk (Page page) at → (IsTrue t ↔ IsFreeAt image at ((b - 2) % PAGE_BITS)) → Tells t (IsFreeIn image s.walk b)
   tells_free at true h free = (at, h, free.0 refl)

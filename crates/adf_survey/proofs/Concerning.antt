@@ -1,9 +1,10 @@
 -- What is kept of findings is the entries that they concern.
-use Rattle.std.specs.Prelude.{Some, None, cond, is_some, map, option_map, slice_get}
+use Rattle.std.specs.Prelude.{Some, None, cond, is_some, map, slice_get}
 use Rattle.std.specs.Option.{option_and_then, option_flatten}
-use Rattle.std.proofs.Common.{◌≡◌, ℕ, zero, suc, List, [], ◌∷◌, Option, refl, sym, ap, ◌∙◌}
-use Rattle.std.proofs.lemmas.Option.{slice_get-map}
-use Rattle.adf_volume.specs.Walk.{Role}
+use Rattle.std.proofs.Common.{false, ◌≡◌, ℕ, zero, suc, List, [], ◌∷◌, ◌++◌, Option, inl, inr, refl, sym, ap, subst, ◌∙◌}
+use Rattle.std.proofs.lemmas.Bool.{cases_Bool}
+use Rattle.adf_volume.specs.Lists.{In}
+use Rattle.adf_volume.specs.Walk.{Role, Lacks}
 use Rattle.adf_volume.specs.Walk.Role.{Head}
 use Rattle.adf_survey.specs.declared.found.Found.{Found}
 use Rattle.adf_survey.specs.declared.part.Finding.{Finding as FoundFinding}
@@ -11,38 +12,62 @@ use Rattle.adf_survey.specs.declared.part.Part.{Part}
 use Rattle.adf_survey.specs.declared.part.Part.TheVariants.{Root as RootPart, Page as PagePart, MapExt as MapExtPart, Head as HeadPart}
 use Rattle.adf_survey.specs.declared.part.Part.TheVariants.{Ext as ExtPart, Data as DataPart}
 use Rattle.adf_survey.specs.Concerned.{entry_of, entry_of_nth, entry_with}
-use Rattle.adf_survey.specs.Found.{Stands}
-use Rattle.adf_survey.specs.Marks.{blamed}
+use Rattle.adf_survey.specs.Found.{Stands, at_key}
+use Rattle.adf_survey.specs.Marks.{blamed, is_header}
 use Rattle.adf_survey.specs.Parts.{key_of, part_role, told}
-use Rattle.adf_survey.specs.Survey.{Course, Finding}
-
--- what is found speaks against the entry that the walk has
-blamed_is : (image : List ℕ) (f : Found) (s : Course) → Stands image f s → (o : Option Part)
-    → blamed f.taken o ≡ option_and_then (entry_with s.walk) (part_role o)
-blamed_is image f s st None = refl
-blamed_is image f s st (Some RootPart) = refl
-blamed_is image f s st (Some (PagePart i)) = refl
-blamed_is image f s st (Some (MapExtPart j)) = refl
-blamed_is image f s st (Some (HeadPart n p t j)) = ap (λ o. cond (is_some o) (Some n) None) (st.taken (key_of (Head n p t j)))
-blamed_is image f s st (Some (ExtPart n k)) = refl
-blamed_is image f s st (Some (DataPart n k)) = refl
+use Rattle.adf_survey.specs.Survey.{BitsTell, Course, Finding, IsCourse}
+use Rattle.adf_survey.proofs.HeadPlaces.{found_header, header_found}
+use Rattle.adf_survey.proofs.Keys.{at_lacks}
+use Rattle.adf_survey.proofs.OneSurvey.{gathered}
+use Rattle.adf_survey.proofs.SoundMarks.{apart, in_told, settled, taken_at}
+use Rattle.adf_volume.proofs.Roles.{same_refl}
 
 -- what holds of each finding holds at each place
-at_places : (g : FoundFinding → Option ℕ) (h : Finding → Option ℕ) → ((x : FoundFinding) → g x ≡ h (told x)) → (xs : List FoundFinding) (k : ℕ)
+at_places : (g : FoundFinding → Option ℕ) (h : Finding → Option ℕ) (xs : List FoundFinding) → ((x : FoundFinding) → In xs x → g x ≡ h (told x)) → (k : ℕ)
     → option_flatten (slice_get (map g xs) k) ≡ option_and_then h (slice_get (map told xs) k)
-at_places g h e xs k =
-    ap option_flatten (slice_get-map g xs k) ∙ (go (slice_get xs k) ∙ sym (ap (option_and_then h) (slice_get-map told xs k)))
-  where
-    go : (o : Option FoundFinding) → option_flatten (option_map g o) ≡ option_and_then h (option_map told o)
-    go None = refl
-    go (Some x) = e x
+at_places g h [] e k = refl
+at_places g h (x ∷ xs) e zero = e x (inl refl)
+at_places g h (x ∷ xs) e (suc k) = at_places g h xs (λ y i. e y (inr i)) k
 
--- of what is found
-pub concerned_kept : (image : List ℕ) (f : Found) (s : Course) → Stands image f s → (k : ℕ)
-    → option_flatten (slice_get (map (λ x. blamed f.taken x.part) f.findings.items) k) ≡ entry_of_nth s.walk s.findings k
-concerned_kept image f s st k =
-    at_places (λ x. blamed f.taken x.part) (entry_of s.walk) (λ x. blamed_is image f s st x.part) f.findings.items k
-    ∙ ap (λ fs. entry_of_nth s.walk fs k) st.findings
+module _ (image : List ℕ) (f : Found) {s : Course} (v : IsCourse image s) (bits : List Finding) {b n : ℕ} (tells : BitsTell image s b n bits)
+    (st : Stands image f (record { walk = s.walk; passed_over = s.passed_over; findings = s.findings ++ bits })) where
+  -- a header of a finding is found by its number where the walk has one at its place
+  header_is : (g : Finding) (n p t j : ℕ) → In (s.findings ++ bits) g → g.part ≡ Some (Head n p t j)
+      → is_header f n p t j ≡ is_some (at_key s.walk (key_of (Head n p t j)))
+  header_is g n p t j i e = elim (settled image v bits tells g (Head n p t j) i e) [
+    | inl x ↦
+        header_found image f _ (gathered image v) st n p t j x.0 x.1
+        ∙ sym (ap is_some (taken_at image s.walk (gathered image v) (Head n p t j) x.0 x.1))
+    | inr x ↦
+        let lacks : Lacks s.walk (Head n p t j) = (λ q c h same. apart image v q (Head n p t j) c x.0 h x.1 same) in
+        let none : is_header f n p t j ≡ false = elim (cases_Bool (is_header f n p t j)) [
+          | inl y ↦
+              let h = found_header image f _ (gathered image v) st n p t j y in
+              absurd (lacks (Head n p t j) h.0 h.1 (same_refl (Head n p t j)))
+          | inr y ↦ y
+        ] in
+        none ∙ sym (ap is_some (at_lacks s.walk (Head n p t j) lacks))
+  ]
+
+  -- what is found speaks against the entry that the walk has
+  blamed_is : (x : FoundFinding) → In (s.findings ++ bits) (told x) → blamed f x.part ≡ option_and_then (entry_with s.walk) (part_role x.part)
+  blamed_is x i = go x.part refl
+    where
+      go : (o : Option Part) → x.part ≡ o → blamed f o ≡ option_and_then (entry_with s.walk) (part_role o)
+      go None e = refl
+      go (Some RootPart) e = refl
+      go (Some (PagePart i)) e = refl
+      go (Some (MapExtPart j)) e = refl
+      go (Some (HeadPart n p t j)) e = ap (λ y. cond y (Some n) None) (header_is (told x) n p t j i (ap part_role e))
+      go (Some (ExtPart n k)) e = refl
+      go (Some (DataPart n k)) e = refl
+
+  -- of what is found
+  pub concerned_kept : (k : ℕ) → option_flatten (slice_get (map (λ x. blamed f x.part) f.findings.items) k) ≡ entry_of_nth s.walk (s.findings ++ bits) k
+  concerned_kept k =
+      at_places (λ x. blamed f x.part) (entry_of s.walk) f.findings.items
+      (λ x i. blamed_is x (subst (λ fs. In fs (told x)) st.findings (in_told f.findings.items x i))) k
+      ∙ ap (λ fs. entry_of_nth s.walk fs k) st.findings
 
 -- a finding of no part concerns no entry
 pub none_kept : (w : List (Role × ℕ)) (x : FoundFinding) (items : List FoundFinding) (k : ℕ) → x.part ≡ None → items ≡ x ∷ []

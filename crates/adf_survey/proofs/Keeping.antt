@@ -1,33 +1,29 @@
 -- What is kept of an image tells of its survey.
 use Rattle.std.specs.Prelude.{Bool, None, Option, map, slice_get}
 use Rattle.std.specs.Option.{option_flatten}
-use Rattle.std.proofs.Common.{◌≡◌, ℕ, suc, List, [], ◌∷◌, ◌++◌, inl, inr, ◌≤◌, refl, sym, ap, subst, ◌∙◌, arith, ◌*◌, ◌<◌, length}
-use Rattle.adf_tree.specs.declared.entry.Kind.TheVariants.{Ffs}
+use Rattle.std.proofs.Common.{◌≡◌, ℕ, List, [], ◌∷◌, ◌++◌, ◌≤◌, refl, sym, ap, subst, ◌∙◌, arith, ◌*◌, ◌<◌, length}
 use Rattle.adf_volume.specs.Demands.{FirstFails, boot_demands, root_demands}
-use Rattle.adf_volume.specs.Image.{kind_of, root_of}
+use Rattle.adf_volume.specs.Image.{root_of}
 use Rattle.adf_blocks.specs.Sizes.{blocks}
 use Rattle.adf_volume.proofs.Gathered.{head_block, numbered as has_number}
-use Rattle.adf_volume.specs.Walk.{Role, second, Has, Asks, heads, node_block}
+use Rattle.adf_volume.specs.Walk.{Role, second, Has, heads, node_block}
 use Rattle.adf_volume.specs.Walk.Role.{Root, Head}
-use Rattle.adf_volume.proofs.Gathered.{IsGathered}
-use Rattle.adf_volume.proofs.Gathered.IsGathered.{start, step}
-use Rattle.adf_volume.proofs.Roles.{asks_number, head_at, head_role}
-use Rattle.adf_survey.specs.Found.{parent_by, parent_node}
-use Rattle.std.proofs.lemmas.Bool.{eq-eqb}
-use Rattle.std.proofs.lemmas.Bool.Decides.{eqb_tells}
+use Rattle.adf_volume.proofs.Roles.{head_role}
+use Rattle.adf_survey.specs.Found.{parent_node}
 use Rattle.adf_survey.specs.declared.part.Finding.{Finding as FoundFinding}
 use Rattle.adf_survey.specs.declared.found.Found.{Found}
 use Rattle.adf_survey.specs.Found.{IsCompleted}
 use Rattle.adf_volume.specs.Start.{IsBegun}
-use Rattle.adf_survey.specs.Marks.{AreEntries, blamed, has_mark, is_clear}
+use Rattle.adf_survey.specs.Marks.{blamed, has_mark, is_clear}
 use Rattle.adf_survey.specs.declared.part.Part.{Part}
 use Rattle.adf_survey.specs.Parts.{part_role, told}
-use Rattle.adf_survey.specs.Survey.{Course, Finding, IsSurvey, finding}
+use Rattle.adf_survey.specs.Survey.{Finding, IsSurvey, finding}
 use Rattle.adf_survey.specs.Survey.IsSurvey.{read, unread}
 use Rattle.adf_survey.specs.Sound.{IsSound}
 use Rattle.adf_volume.proofs.Gathered.{number_of}
 use Rattle.adf_survey.specs.Surveyed.{IsOfSurvey, Surveyed, TellsOf, kept_of}
 use Rattle.adf_survey.proofs.Concerning.{concerned_kept, none_kept}
+use Rattle.adf_survey.proofs.HeadPlaces.{head_parent}
 use Rattle.adf_survey.proofs.OneSurvey.{gathered, one_survey}
 use Rattle.adf_survey.proofs.SoundMarks.{clear_is_sound, inside}
 
@@ -52,23 +48,21 @@ unread_kept image x items none fails e =
 
 -- of an image whose course is done, with its bits compared
 pub read_kept : (image : List ℕ) (f : Found) (concerned : List (Option ℕ)) (sound : List Bool) → IsBegun image → IsCompleted image f
-    → (kind_of image ≡ Ffs → AreEntries f.taken) → concerned ≡ map (λ x. blamed f.taken x.part) f.findings.items
-    → ((m : ℕ) → has_mark sound m ≡ is_clear image f m)
+    → concerned ≡ map (λ x. blamed f x.part) f.findings.items → ((m : ℕ) → has_mark sound m ≡ is_clear image f m)
     → IsOfSurvey (kept_of image f.findings.items concerned f.nodes.items f.parents.items sound)
-read_kept image f concerned sound begun (s, bits, told, bits_tell) es entries marks = (
+read_kept image f concerned sound begun (s, bits, told, bits_tell) entries marks = (
   s.walk,
   s.findings ++ bits,
   record {
     survey = read begun told.course told.done bits_tell;
     findings = told.stands.findings;
     concerned = (λ k.
-        let t : Course = record { walk = s.walk; passed_over = s.passed_over; findings = s.findings ++ bits } in
-        ap (λ os. option_flatten (slice_get os k)) entries ∙ concerned_kept image f t told.stands k);
+        ap (λ os. option_flatten (slice_get os k)) entries ∙ concerned_kept image f told.course bits bits_tell told.stands k);
     node = told.stands.node;
     parent = told.stands.parent;
     count = (let e = told.stands.count in omega arith);
     sound = (λ m lo.
-        let x = clear_is_sound image f told.course told.done bits bits_tell told.stands m lo es in
+        let x = clear_is_sound image f told.course told.done bits bits_tell told.stands m lo in
         ((λ t. x.0 (sym (marks m) ∙ t)), (λ y. marks m ∙ x.1 y)));
   },
 )
@@ -83,22 +77,6 @@ tells_each v k w fs h =
 pub root_no_entry : (image : List ℕ) (w : List (Role × ℕ)) (fs : List Finding) (h : ℕ) → IsSurvey image w fs → IsSound image w fs 0 h → ⊥
 root_no_entry image w fs h (unread f) s = s.header.has
 root_no_entry image w fs h (read begun v d t) s = omega (arith, number_of image (gathered image v) s.header)
-
--- the parent of what comes later is that of no earlier node
-other_parent : (image : List ℕ) (w : List (Role × ℕ)) (n : ℕ) (r : Role) (a i c : ℕ) → Asks image w r a i → n ≤ heads w → parent_by n r c ≡ c
-other_parent image w n (Head m p s j) a i c d u =
-    let k : m ≡ suc (heads w) = asks_number image w m p s j a i d in
-    elim (eqb_tells n m) [ inl y ↦ let e : n ≡ m = y.1 in absurd (omega arith) | inr y ↦ rw y.0 refl ]
-other_parent image w n _ a i c d u = refl
-
-head_parent : (image : List ℕ) {w : List (Role × ℕ)} → IsGathered image w → (n p s j b : ℕ) → Has w (Head n p s j) b → parent_node w n ≡ p
-head_parent image start n p s j b (inl e) = let h : second Root ≡ second (Head n p s j) = ap second e.0 in absurd (omega arith)
-head_parent image start n p s j b (inr f) = absurd f
-head_parent image (step {w = w} {r = r} a i c v d l) n p s j b (inl e) =
-    subst (λ r. parent_by n r (parent_node w n) ≡ p) (sym e.0) (rw (eq-eqb n n refl) refl)
-head_parent image (step {w = w} {r = r} a i c v d l) n p s j b (inr h) =
-    let u : (1 ≤ n) × (n ≤ heads w) = number_of image v (head_at n p s j b h) in
-    other_parent image w n r a i (parent_node w n) d (omega arith) ∙ head_parent image v n p s j b h
 
 -- the directory of an entry, as a function
 pub parent_is : (image : List ℕ) (w : List (Role × ℕ)) (fs : List Finding) → IsSurvey image w fs → (n p s j b : ℕ) → Has w (Head n p s j) b

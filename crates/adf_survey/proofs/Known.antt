@@ -4,7 +4,8 @@ use Rattle.std.proofs.Common.{◌≡◌, ◌≢◌, ℕ, zero, suc, List, [], �
 use Rattle.std.specs.Option.{unwrap_or}
 use Rattle.std.specs.Ordering.{is_eq, nat_cmp}
 use Rattle.std.specs.Cmp.Lexicographic.{slice_cmp}
-use Rattle.std.specs.BTreeMap.{get}
+use Rattle.std.specs.Global.{Vec}
+use Rattle.std.specs.BTreeMap.{BTreeMap, get}
 use Rattle.std.proofs.lemmas.Bool.{and_parts, cases_Bool, eqb-true, eq-eqb}
 use Rattle.std.proofs.lemmas.Bool.Decides.{nat_tests}
 use Rattle.adf_tree.specs.Texts.{uppers}
@@ -22,9 +23,9 @@ use Rattle.adf_survey.specs.declared.judge.Facts.{Facts}
 use Rattle.adf_survey.specs.declared.found.Found.{Found}
 use Rattle.adf_survey.specs.Survey.{Course}
 use Rattle.adf_survey.specs.Forms.{IsAround, Knows, Tells, in_range}
-use Rattle.adf_survey.specs.Found.{AreNamed, Stands, around_in, at_key, enough_in, is_named, member_in, named, new_in, next_in, owns}
+use Rattle.adf_survey.specs.Found.{AreNamed, IsChain, Stands, around_in, at_key, by_name, enough_in, is_named, member_in, named, new_in, next_in, owns}
 use Rattle.adf_survey.specs.Parts.{by_key, key_of, role_of}
-use Rattle.adf_survey.proofs.Asking.{equal_keys}
+use Rattle.adf_survey.proofs.Keys.{equal_keys}
 
 pub tells_absent : (w : List (Role × ℕ)) (b : ℕ) → Tells (not (owns w b)) (IsAbsent w b)
 tells_absent [] b = λ q h. h
@@ -55,6 +56,11 @@ name_itself (x ∷ xs) = rw (then_is (nat_cmp x x) (slice_cmp nat_cmp xs xs), sa
 named_is : (image : List ℕ) (q p s c : ℕ) (n m j : ℕ) (name : List ℕ)
     → is_named image (Head n q m j) c p s name ≡ ((q == p) && ((m == s) && is_eq (slice_cmp nat_cmp (uppers (name_of image c)) name)))
 named_is image q p s c n m j name = simp (then_is, same_number)
+
+-- in its own chain a header has the name that is its own
+pub own_name : (image : List ℕ) (n p s j c : ℕ) (name : List ℕ)
+    → is_named image (Head n p s j) c p s name ≡ is_eq (slice_cmp nat_cmp (uppers (name_of image c)) name)
+own_name image n p s j c name = named_is image p p s c n s j name ∙ rw (eq-eqb p p refl, eq-eqb s s refl) refl
 
 -- whether the role is a header of the chain with the name
 tells_named : (image : List ℕ) (r : Role) (c p s : ℕ) (name : List ℕ)
@@ -98,6 +104,35 @@ tells_new image (x ∷ w) p s name = go (is_named image x.0 x.1 p s name) (named
       | inr z ↦ k m i c z
     ]
 
+-- a chain without headers has no names
+pub no_name : (image : List ℕ) (w : List (Role × ℕ)) (p s : ℕ) (name : List ℕ) → ((m k c : ℕ) → Has w (Head m p s k) c → ⊥)
+    → named image w p s name ≡ None
+no_name image w p s name none = go (named image w p s name) (tells_new image w p s name)
+  where
+    go : (o : Option ℕ) → Tells (not (is_some o)) (Fresh image p s name w) → o ≡ None
+    go None t = refl
+    go (Some c) t = absurd (t (λ m k c h. absurd (none m k c h)))
+
+-- the first header of a chain has a new name
+pub first_is_new : (image : List ℕ) (w : List (Role × ℕ)) (part : Part) (b n p s : ℕ) → part ≡ HeadPart n p s 0 → IsChain w part
+    → true ≡ new_in image w part b
+first_is_new image w part b n p s e =
+    subst (λ part. IsChain w part → true ≡ new_in image w part b) (sym e)
+    (λ none. sym (ap (λ o. not (is_some o)) (no_name image w p s (uppers (name_of image b)) none)))
+
+-- a later one has a new name where the map does not have it
+pub later_is_new : (image : List ℕ) (w : List (Role × ℕ)) (part : Part) (b n p s j : ℕ) (names : BTreeMap (Vec ℕ) ℕ) (name : Vec ℕ) (t : Bool)
+    → part ≡ HeadPart n p s j → (j ≡ 0 → ⊥) → name.items ≡ uppers (name_of image b) → t ≡ is_some (get by_name names name)
+    → AreNamed image w (key_of (role_of part)) names → IsChain w part → not t ≡ new_in image w part b
+later_is_new image w part b n p s j names name t e later is known =
+    subst (λ part. AreNamed image w (key_of (role_of part)) names → IsChain w part → not t ≡ new_in image w part b) (sym e) (go j later)
+  where
+    go : (j : ℕ) → (j ≡ 0 → ⊥) → AreNamed image w (key_of (Head n p s j)) names → IsChain w (HeadPart n p s j)
+        → not t ≡ new_in image w (HeadPart n p s j) b
+    go zero later named_all chain = absurd (later refl)
+    go (suc j) later named_all (m, c, has) =
+        ap not (known ∙ ap is_some (named_all name m p s j c refl refl has ∙ ap (named image w p s) is))
+
 -- the block of an extension block, by its key
 at_ext : (w : List (Role × ℕ)) (n m : ℕ) → unwrap_or (at_key w (key_of (Ext n m))) 0 ≡ ext_block_in w n m
 at_ext [] n m = refl
@@ -139,16 +174,16 @@ at_ext ((Data q k, b) ∷ w) n m =
 
 module _ (image : List ℕ) (f : Found) (s : Course) (st : Stands image f s) where
   member_key : (n m : ℕ) → unwrap_or (get by_key f.taken (key_of (Ext n (suc m)))) 0 ≡ ext_block_in s.walk n (suc m)
-  member_key n m = ap (λ o. unwrap_or o 0) (st.taken (key_of (Ext n (suc m)))) ∙ at_ext s.walk n (suc m)
+  member_key n m = ap (λ o. unwrap_or o 0) (st.taken (Ext n (suc m)) tt) ∙ at_ext s.walk n (suc m)
 
-  member_is : (n m : ℕ) → member_in f n m ≡ member_block s.walk n m
-  member_is n zero = st.node n
-  member_is n (suc m) =
+  pub member_found : (n m : ℕ) → member_in f n m ≡ member_block s.walk n m
+  member_found n zero = st.node n
+  member_found n (suc m) =
       let other : (suc m == 0) ≡ false = grind (arith, nat_tests) in
       rw other (member_key n m)
 
   next_is : (n k : ℕ) → next_in image f n k ≡ next_data image s.walk n k
-  next_is n k = λ t. cond (nat_lt k (data_count image (st.node n t))) (word_in image (member_is n (k / POINTERS) t) (table_word k)) 0
+  next_is n k = λ t. cond (nat_lt k (data_count image (st.node n t))) (word_in image (member_found n (k / POINTERS) t) (table_word k)) 0
 
   around_is : (part : Part) → IsAround image s.walk (role_of part) (around_in image f part)
   around_is RootPart = tt
@@ -202,12 +237,11 @@ module _ (image : List ℕ) (f : Found) (s : Course) (st : Stands image f s) whe
   -- what is found of a part that is asked for is so
   pub knows : (part : Part) (a i b : ℕ) (x : Facts) → IsGathered image s.walk → Asks image s.walk (role_of part) a i
       → x.is_enough ≡ enough_in image f part → x.is_absent ≡ not (slice_index_or f.owned.items b false)
-      → (b < blocks image → (w : List (Role × ℕ)) → AreNamed image w f.names → x.is_new ≡ new_in image w part b)
-      → x.around ≡ around_in image f part → Knows image s.walk part b x
+      → (b < blocks image → x.is_new ≡ new_in image s.walk part b) → x.around ≡ around_in image f part → Knows image s.walk part b x
   knows part a i b x v h enough absent new around = record {
     enough = subst (λ t. Tells t (Enough image s.walk (role_of part))) (sym enough) (enough_is part a i v h);
     absent = (λ e. subst (λ t. Tells t (IsAbsent s.walk b)) (sym (absent ∙ ap not (st.owned.1 b (below b e)))) (tells_absent s.walk b));
-    new = (λ e. subst (λ t. Tells t (NewName image s.walk (role_of part) b)) (sym (new (below b e) s.walk st.name)) (new_is part b));
+    new = (λ e. subst (λ t. Tells t (NewName image s.walk (role_of part) b)) (sym (new (below b e))) (new_is part b));
     around = subst (IsAround image s.walk (role_of part)) (sym around) (around_is part);
   }
 

@@ -16,15 +16,19 @@ pub mod SoundEntries
 pub mod Judged
 pub mod Names
 pub mod Taking
-pub mod Asking
+pub mod Keys
 pub mod AsksSplit
 pub mod Known
 pub mod Outcomes
 pub mod CourseSteps
+-- the places of a course, in turn
+pub mod CoursePlaces
+pub mod MapPlaces
 pub mod Begun
 pub mod BitSteps
 pub mod SoundMarks
--- the entries that findings concern
+-- where headers stand, and the entries that findings concern
+pub mod HeadPlaces
 pub mod Concerning
 pub mod Keeping
 -- images that begin as volumes, and the marks that are kept

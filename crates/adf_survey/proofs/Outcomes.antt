@@ -5,7 +5,7 @@ use Rattle.adf_blocks.specs.declared.cause.Cause.{Cause}
 use Rattle.adf_volume.specs.Walk.{Role, demands}
 use Rattle.adf_survey.specs.declared.part.Part.{Part}
 use Rattle.adf_survey.specs.declared.part.Finding.{Finding as FoundFinding}
-use Rattle.adf_survey.specs.declared.asked.Ask.{Ask}
+use Rattle.adf_survey.specs.declared.course.Ask.{Ask}
 use Rattle.adf_survey.specs.declared.judge.Facts.{Facts}
 use Rattle.adf_survey.specs.declared.judge.Judgement.{Judgement as FoundJudgement}
 use Rattle.adf_survey.specs.declared.judge.Judgement.TheVariants.{Clean, Noted, Passed}
@@ -23,9 +23,9 @@ use Rattle.adf_survey.proofs.Judged.{keeps_range, keeps_taken}
 use Rattle.adf_survey.proofs.Taking.{stands_noted, stands_passed}
 
 module _ (image : List ℕ) (f : Found) (s : Course) (x : Ask) (v : IsCourse image s) (st : Stands image f s) (n : IsNextAsk image s x)
-    (part : Part) (is : role_of part ≡ role_asked s x) (facts : Facts) (k : Knows image s.walk part x.block facts) where
+    (part : Part) (is : role_of part ≡ role_asked s x.part) (facts : Facts) (k : Knows image s.walk part x.block facts) where
   abbrev role : Role
-  role = role_asked s x
+  role = role_asked s x.part
 
   judgement : (j : FoundJudgement) → meant j ≡ judged_by (first_failing image part x.holder x.block facts) (keeps image part x.block facts)
       → Judged role (demands image s.walk role x.holder x.block) (meant j)
@@ -50,6 +50,7 @@ module _ (image : List ℕ) (f : Found) (s : Course) (x : Ask) (v : IsCourse ima
         course = stepped clean h;
         stands = st;
         left = refl;
+        names = refl;
       }
 
   -- the finding of the part
@@ -77,12 +78,13 @@ module _ (image : List ℕ) (f : Found) (s : Course) (x : Ask) (v : IsCourse ima
         course = stepped (noted at c) d;
         stands = noted_stands g at c k;
         left = ap (λ f. f.left) k.rest;
+        names = ap (λ f. f.names) k.rest;
       }
 
   pub passed_outcome : (j : FoundJudgement) (g h : Found) (at : ℕ) (c : Cause) (y : FoundFinding) → j ≡ Passed at c
       → y ≡ record { part = Some part; block = at; cause = c }
       → meant j ≡ judged_by (first_failing image part x.holder x.block facts) (keeps image part x.block facts) → IsNoted y f g
-      → IsPassed part x.block g h → IsOutcome image s x f h None
+      → IsPassed x.block g h → IsOutcome image s x f h None
   passed_outcome j g h at c y is_passed one e made over =
       let k = subst (λ y. IsNoted y f g) one made in
       let d = judgement (Passed at c) (sym (ap meant is_passed) ∙ e) in
@@ -91,7 +93,7 @@ module _ (image : List ℕ) (f : Found) (s : Course) (x : Ask) (v : IsCourse ima
       record {
         findings = fs;
         course = stepped (passed at c) d;
-        stands = subst (λ r. Stands image h (record { walk = s.walk; passed_over = (r, x.block) ∷ s.passed_over; findings = fs })) is
-            (stands_passed image g h t x.block (noted_stands g at c k) part over);
+        stands = stands_passed image g h t x.block (noted_stands g at c k) role over;
         left = ap (λ f. f.left) over.rest ∙ ap (λ f. f.left) k.rest;
+        names = ap (λ f. f.names) over.rest ∙ ap (λ f. f.names) k.rest;
       }

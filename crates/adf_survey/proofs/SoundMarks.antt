@@ -1,10 +1,6 @@
 -- The marks of a course that is done are those of its sound entries.
-use Rattle.std.specs.Prelude.{Bool, true, false, cond, not, ◌==◌, ◌||◌, ◌&&◌, is_some, nat_lt, map, Option, Some, None, slice_index_or, ◌↔◌}
-use Rattle.std.proofs.Common.{◌≡◌, ℕ, suc, List, [], ◌∷◌, ◌++◌, length, ◌⊎◌, inl, inr, ◌-◌, ◌<◌, ◌≤◌, refl, sym, ap, subst, ◌∙◌, arith}
-use Rattle.std.specs.List.{All}
-use Rattle.std.specs.Map.{lookup}
-use Rattle.std.specs.Ordering.{is_eq}
-use Rattle.std.specs.BTreeMap.{BTreeMap, get, is_at}
+use Rattle.std.specs.Prelude.{Bool, true, false, cond, not, ◌==◌, ◌||◌, ◌&&◌, nat_lt, map, Option, Some, None, slice_index_or, ◌↔◌}
+use Rattle.std.proofs.Common.{◌≡◌, ℕ, suc, List, [], ◌∷◌, ◌++◌, length, ◌⊎◌, inl, inr, ◌<◌, ◌≤◌, refl, sym, ap, subst, ◌∙◌, arith}
 use Rattle.std.proofs.lemmas.Bool.{and_parts, cases_Bool, eqb-true, eq-eqb}
 use Rattle.std.proofs.lemmas.Bool.Decides.{nat_tests}
 use Rattle.adf_tree.specs.declared.entry.Kind.{Kind}
@@ -15,28 +11,28 @@ use Rattle.adf_volume.specs.Lists.{In}
 use Rattle.adf_volume.specs.Walk.{Role, first, second, Same, Has, Asks, Lacks, IsAbsent, heads, node_block}
 use Rattle.adf_volume.specs.Walk.Role.{Root, Page, MapExt, Head, Ext, Data}
 use Rattle.adf_volume.proofs.Gathered.{IsGathered, asks_one, head_block, number_of, numbered as has_number, one_block, one_head}
-use Rattle.adf_volume.proofs.Lists.{in_cases}
+use Rattle.adf_volume.proofs.Lists.{in_cases, in_left, in_right}
 use Rattle.adf_volume.proofs.OneFault.{number_is}
 use Rattle.adf_volume.proofs.Roles.{asks_number, dec_has, head_at, head_role, renumbered, renumbered_same, same_of, same_role}
 use Rattle.adf_survey.specs.declared.part.Part.{Part}
 use Rattle.adf_survey.specs.declared.part.Part.TheVariants.{Root as RootPart, Page as PagePart, MapExt as MapExtPart, Head as HeadPart}
 use Rattle.adf_survey.specs.declared.part.Part.TheVariants.{Ext as ExtPart, Data as DataPart}
 use Rattle.adf_survey.specs.declared.part.Finding.{Finding as FoundFinding}
-use Rattle.adf_survey.specs.declared.part.Key.{Key}
+use Rattle.adf_survey.specs.declared.found.DataBlock.{DataBlock}
 use Rattle.adf_survey.specs.declared.found.Found.{Found}
 use Rattle.adf_survey.specs.Forms.{Tells}
-use Rattle.adf_survey.specs.Found.{Stands, at_key, owns}
-use Rattle.adf_survey.specs.Marks.{AreEntries, blamed, is_blamed, is_clear, is_doubtful, is_node, is_sharing, sharing}
-use Rattle.adf_survey.specs.Parts.{by_key, key_of, part_role, told}
+use Rattle.adf_survey.specs.Found.{Stands, at_key, datas_of, owns, with_data}
+use Rattle.adf_survey.specs.Marks.{blamed, is_blamed, is_clear, is_doubtful, is_node, is_sharing, sharing, is_header}
+use Rattle.adf_survey.specs.Parts.{key_of, part_role, told}
 use Rattle.adf_survey.specs.Sound.{IsSound, IsUnnoted}
 use Rattle.adf_survey.specs.Survey.{BitsTell, Course, Finding, IsCourse, IsDone, IsNext, finding}
 use Rattle.adf_survey.specs.Survey.BitsTell.{agrees, differs, ends}
 use Rattle.adf_survey.specs.Survey.IsCourse.{start, step}
 use Rattle.adf_survey.specs.Survey.Judgement.{clean, noted, passed}
-use Rattle.adf_survey.proofs.Asking.{one_key}
+use Rattle.adf_survey.proofs.Keys.{lacks_at, same_of_key}
 use Rattle.adf_survey.proofs.AsksSplit.{asks_more}
 use Rattle.adf_survey.proofs.BitSteps.{at_has}
-use Rattle.adf_survey.proofs.CourseSteps.{lacks_at, numbered, same_of_key}
+use Rattle.adf_survey.proofs.HeadPlaces.{found_header, header_found}
 use Rattle.adf_survey.proofs.Known.{tells_absent}
 use Rattle.adf_survey.proofs.OneSurvey.{gathered}
 use Rattle.adf_survey.proofs.Judged.{keeps_range}
@@ -83,7 +79,7 @@ module _ (image : List ℕ) where
   new_apart w z r q c l e k same = let t : Same z r = same_of z r e in l q c k (omega arith)
 
   -- what is taken was not passed over
-  apart : {s : Course} → IsCourse image s → (r q : Role) (b c : ℕ) → Has s.walk r b → Has s.passed_over q c → Same r q → ⊥
+  pub apart : {s : Course} → IsCourse image s → (r q : Role) (b c : ℕ) → Has s.walk r b → Has s.passed_over q c → Same r q → ⊥
   apart start r q b c h k same = k
   apart (step {s = s} {r = z} clean v n g) r q b c (inl e) k same = new_apart s.passed_over z r q c n.unpassed e.0 k same
   apart (step clean v n g) r q b c (inr h) k same = apart v r q b c h k same
@@ -109,8 +105,7 @@ module _ (image : List ℕ) where
   wanted_later : (s : Course) (z : Role) (a i c : ℕ) → IsCourse image s → IsNext image s z a i → (r : Role) (b : ℕ) → Wanted s.walk r b
       → Wanted ((z, c) ∷ s.walk) r b
   wanted_later s z a i c v n r b x =
-      let w : IsGathered image s.walk = gathered image v in
-      let asked = asks_more image s.walk w z c (numbered image s.walk w z a i n.asked n.lacks) r x.holder x.word x.asked in
+      let asked = asks_more image s.walk z c r x.holder x.word x.asked in
       record { holder = x.holder; word = x.word; asked = asked; named = x.named }
 
   wanted_new : (s : Course) (z : Role) (a i : ℕ) → IsCourse image s → IsNext image s z a i → (r : Role) (b : ℕ)
@@ -237,95 +232,93 @@ node_is (Some n) m e = ap Some (eqb-true n m e)
 node_yes : (o : Option ℕ) (m : ℕ) → o ≡ Some m → is_node o m ≡ true
 node_yes o m e = ap (λ o. is_node o m) e ∙ eq-eqb m m refl
 
-blamed_by : (taken : BTreeMap Key ℕ) (xs : List FoundFinding) (m : ℕ) → is_blamed taken xs m ≡ true
-    → (x : FoundFinding) × In xs x × (blamed taken x.part ≡ Some m)
-blamed_by taken [] m e = cc
-blamed_by taken (x ∷ xs) m e = go (is_node (blamed taken x.part) m) refl e (blamed_by taken xs m)
+blamed_by : (f : Found) (xs : List FoundFinding) (m : ℕ) → is_blamed f xs m ≡ true
+    → (x : FoundFinding) × In xs x × (blamed f x.part ≡ Some m)
+blamed_by f [] m e = cc
+blamed_by f (x ∷ xs) m e = go (is_node (blamed f x.part) m) refl e (blamed_by f xs m)
   where
-    go : (t : Bool) → is_node (blamed taken x.part) m ≡ t → (t || is_blamed taken xs m) ≡ true
-        → (is_blamed taken xs m ≡ true → (y : FoundFinding) × In xs y × (blamed taken y.part ≡ Some m))
-        → (y : FoundFinding) × In (x ∷ xs) y × (blamed taken y.part ≡ Some m)
-    go true f e again = (x, inl refl, node_is (blamed taken x.part) m f)
-    go false f e again = let y = again e in (y.0, inr y.1, y.2)
+    go : (t : Bool) → is_node (blamed f x.part) m ≡ t → (t || is_blamed f xs m) ≡ true
+        → (is_blamed f xs m ≡ true → (y : FoundFinding) × In xs y × (blamed f y.part ≡ Some m))
+        → (y : FoundFinding) × In (x ∷ xs) y × (blamed f y.part ≡ Some m)
+    go true k e again = (x, inl refl, node_is (blamed f x.part) m k)
+    go false k e again = let y = again e in (y.0, inr y.1, y.2)
 
-not_blamed : (taken : BTreeMap Key ℕ) (xs : List FoundFinding) (m : ℕ) (x : FoundFinding) → is_blamed taken xs m ≡ false → In xs x
-    → blamed taken x.part ≡ Some m → ⊥
-not_blamed taken [] m x e h b = h
-not_blamed taken (y ∷ xs) m x e (inl z) b =
-    let one : is_node (blamed taken y.part) m ≡ true = node_yes (blamed taken y.part) m (ap (λ y. blamed taken y.part) z ∙ b) in
-    let clash : true ≡ false = sym (ap (λ t. t || is_blamed taken xs m) one) ∙ e in cc
-not_blamed taken (y ∷ xs) m x e (inr h) b = go (is_node (blamed taken y.part) m) e (λ e. not_blamed taken xs m x e h b)
+not_blamed : (f : Found) (xs : List FoundFinding) (m : ℕ) (x : FoundFinding) → is_blamed f xs m ≡ false → In xs x
+    → blamed f x.part ≡ Some m → ⊥
+not_blamed f [] m x e h b = h
+not_blamed f (y ∷ xs) m x e (inl z) b =
+    let one : is_node (blamed f y.part) m ≡ true = node_yes (blamed f y.part) m (ap (λ y. blamed f y.part) z ∙ b) in
+    let clash : true ≡ false = sym (ap (λ t. t || is_blamed f xs m) one) ∙ e in cc
+not_blamed f (y ∷ xs) m x e (inr h) b = go (is_node (blamed f y.part) m) e (λ e. not_blamed f xs m x e h b)
   where
-    go : (t : Bool) → (t || is_blamed taken xs m) ≡ false → (is_blamed taken xs m ≡ false → ⊥) → ⊥
+    go : (t : Bool) → (t || is_blamed f xs m) ≡ false → (is_blamed f xs m ≡ false → ⊥) → ⊥
     go true e again = cc
     go false e again = again e
 
-sharing_by : (avoided : List Bool) (es : List (Key × ℕ)) (m : ℕ) → is_sharing avoided es m ≡ true
-    → (k : Key) × (b : ℕ) × In es (k, b) × (sharing avoided k b ≡ Some m)
+sharing_by : (avoided : List Bool) (ds : List DataBlock) (m : ℕ) → is_sharing avoided ds m ≡ true
+    → (d : DataBlock) × In ds d × (sharing avoided d ≡ Some m)
 sharing_by avoided [] m e = cc
-sharing_by avoided (x ∷ xs) m e = go (is_node (sharing avoided x.0 x.1) m) refl e (sharing_by avoided xs m)
+sharing_by avoided (d ∷ ds) m e = go (is_node (sharing avoided d) m) refl e (sharing_by avoided ds m)
   where
-    go : (t : Bool) → is_node (sharing avoided x.0 x.1) m ≡ t → (t || is_sharing avoided xs m) ≡ true
-        → (is_sharing avoided xs m ≡ true → (k : Key) × (b : ℕ) × In xs (k, b) × (sharing avoided k b ≡ Some m))
-        → (k : Key) × (b : ℕ) × In (x ∷ xs) (k, b) × (sharing avoided k b ≡ Some m)
-    go true f e again = (x.0, x.1, inl refl, node_is (sharing avoided x.0 x.1) m f)
-    go false f e again = let y = again e in (y.0, y.1, inr y.2, y.3)
+    go : (t : Bool) → is_node (sharing avoided d) m ≡ t → (t || is_sharing avoided ds m) ≡ true
+        → (is_sharing avoided ds m ≡ true → (x : DataBlock) × In ds x × (sharing avoided x ≡ Some m))
+        → (x : DataBlock) × In (d ∷ ds) x × (sharing avoided x ≡ Some m)
+    go true f e again = (d, inl refl, node_is (sharing avoided d) m f)
+    go false f e again = let y = again e in (y.0, inr y.1, y.2)
 
-not_sharing : (avoided : List Bool) (es : List (Key × ℕ)) (m : ℕ) (k : Key) (b : ℕ) → is_sharing avoided es m ≡ false → In es (k, b)
-    → sharing avoided k b ≡ Some m → ⊥
-not_sharing avoided [] m k b e h s = h
-not_sharing avoided (x ∷ xs) m k b e (inl z) s =
-    let one : is_node (sharing avoided x.0 x.1) m ≡ true =
-    node_yes (sharing avoided x.0 x.1) m (ap (λ (x : Key × ℕ). sharing avoided x.0 x.1) z ∙ s) in
-    let clash : true ≡ false = sym (ap (λ t. t || is_sharing avoided xs m) one) ∙ e in cc
-not_sharing avoided (x ∷ xs) m k b e (inr h) s =
-    go (is_node (sharing avoided x.0 x.1) m) e (λ e. not_sharing avoided xs m k b e h s)
+not_sharing : (avoided : List Bool) (ds : List DataBlock) (m : ℕ) (d : DataBlock) → is_sharing avoided ds m ≡ false → In ds d
+    → sharing avoided d ≡ Some m → ⊥
+not_sharing avoided [] m d e h s = h
+not_sharing avoided (x ∷ ds) m d e (inl z) s =
+    let one : is_node (sharing avoided x) m ≡ true = node_yes (sharing avoided x) m (ap (sharing avoided) z ∙ s) in
+    let clash : true ≡ false = sym (ap (λ t. t || is_sharing avoided ds m) one) ∙ e in cc
+not_sharing avoided (x ∷ ds) m d e (inr h) s = go (is_node (sharing avoided x) m) e (λ e. not_sharing avoided ds m d e h s)
   where
-    go : (t : Bool) → (t || is_sharing avoided xs m) ≡ false → (is_sharing avoided xs m ≡ false → ⊥) → ⊥
+    go : (t : Bool) → (t || is_sharing avoided ds m) ≡ false → (is_sharing avoided ds m ≡ false → ⊥) → ⊥
     go true e again = cc
     go false e again = again e
 
 -- what makes a file a sharing one
-sharing_is : (avoided : List Bool) (k : Key) (b m : ℕ) → sharing avoided k b ≡ Some m
-    → (k.first ≡ suc m) × (k.second ≡ 1) × (slice_index_or avoided b false ≡ true)
-sharing_is avoided k b m e = go (nat_lt 0 k.first && ((k.second == 1) && slice_index_or avoided b false)) refl e
+sharing_is : (avoided : List Bool) (d : DataBlock) (m : ℕ) → sharing avoided d ≡ Some m
+    → (d.node ≡ m) × (slice_index_or avoided d.block false ≡ true)
+sharing_is avoided d m e = go (slice_index_or avoided d.block false) refl e
   where
-    go : (t : Bool) → (nat_lt 0 k.first && ((k.second == 1) && slice_index_or avoided b false)) ≡ t → cond t (Some (k.first - 1)) None ≡ Some m
-        → (k.first ≡ suc m) × (k.second ≡ 1) × (slice_index_or avoided b false ≡ true)
-    go true f e =
-        let x = and_parts (nat_lt 0 k.first) ((k.second == 1) && slice_index_or avoided b false) f in
-        let y = and_parts (k.second == 1) (slice_index_or avoided b false) x.1 in
-        let z : k.first - 1 ≡ m = cc in
-        let lt : 0 < k.first = grind (arith, nat_tests) in
-        (omega arith, eqb-true k.second 1 y.0, y.1)
+    go : (t : Bool) → slice_index_or avoided d.block false ≡ t → cond t (Some d.node) None ≡ Some m
+        → (d.node ≡ m) × (slice_index_or avoided d.block false ≡ true)
+    go true f e = let z : d.node ≡ m = cc in (z, f)
     go false f e = cc
 
-shares : (avoided : List Bool) (n k b : ℕ) → slice_index_or avoided b false ≡ true → sharing avoided (key_of (Data n k)) b ≡ Some n
-shares avoided n k b e =
-    let lt : nat_lt 0 (suc n) ≡ true = grind (arith, nat_tests) in
-    let one : (1 == 1) ≡ true = eq-eqb 1 1 refl in
-    let all : (nat_lt 0 (suc n) && ((1 == 1) && slice_index_or avoided b false)) ≡ true = rw (lt, one, e) refl in
-    let same : suc n - 1 ≡ n = omega arith in
-    ap (λ t. cond t (Some (suc n - 1)) None) all ∙ ap Some same
+in_with : (r : Role) (b : ℕ) (ds : List DataBlock) (d : DataBlock) → In ds d → In (with_data r b ds) d
+in_with (Data n k) b ds d h = in_left ds (record { node = n; block = b } ∷ []) d h
+in_with _ b ds d h = h
 
-looked_up : (k : Key) (es : List (Key × ℕ)) (b : ℕ) → lookup (is_at (by_key k)) es ≡ Some b → In es (k, b)
-looked_up k [] b e = cc
-looked_up k (x ∷ xs) b e = go (is_eq (by_key k x.0)) refl e (looked_up k xs b)
-  where
-    go : (t : Bool) → is_eq (by_key k x.0) ≡ t → cond t (Some x.1) (lookup (is_at (by_key k)) xs) ≡ Some b
-        → (lookup (is_at (by_key k)) xs ≡ Some b → In xs (k, b)) → In (x ∷ xs) (k, b)
-    go true f e again =
-        let y : x.1 ≡ b = cc in
-        let z : k ≡ x.0 = one_key k x.0 f in
-        inl (λ i. (sym z i, y i))
-    go false f e again = inr (again e)
+with_cases : (r : Role) (b : ℕ) (ds : List DataBlock) (d : DataBlock) → In (with_data r b ds) d
+    → In ds d ⊎ ((k : ℕ) × (r ≡ Data d.node k) × (b ≡ d.block))
+with_cases (Data n k) b ds d h = elim (in_cases ds (record { node = n; block = b } ∷ []) d h) [
+  | inl g ↦ inl g
+  | inr g ↦ elim g [
+    | inl e ↦ inr (k, ap (λ (d : DataBlock). Data d.node k) e, ap (λ (d : DataBlock). d.block) e)
+    | inr e ↦ absurd e
+  ]
+]
+with_cases _ b ds d h = inl h
 
-all_in : {X : Type 0} (P : X → Type 0) (xs : List X) (x : X) → All P xs → In xs x → P x
-all_in P [] x a h = absurd h
-all_in P (y ∷ ys) x a (inl e) = subst P e (a 0 x (omega arith))
-all_in P (y ∷ ys) x a (inr h) = all_in P ys x (λ k d lt. a (suc k) d (omega arith)) h
+-- the data blocks that are kept are those of the walk
+data_has : (w : List (Role × ℕ)) (d : DataBlock) → In (datas_of w) d → (k : ℕ) × Has w (Data d.node k) d.block
+data_has [] d h = absurd h
+data_has (x ∷ w) d h = elim (with_cases x.0 x.1 (datas_of w) d h) [
+  | inl g ↦ let y = data_has w d g in (y.0, inr y.1)
+  | inr y ↦ (y.0, inl (y.1, y.2))
+]
 
-in_told : (xs : List FoundFinding) (x : FoundFinding) → In xs x → In (map told xs) (told x)
+has_data : (w : List (Role × ℕ)) (n k b : ℕ) → Has w (Data n k) b → In (datas_of w) (record { node = n; block = b })
+has_data [] n k b h = absurd h
+has_data (x ∷ w) n k b (inl e) =
+    subst (λ (y : Role × ℕ). In (with_data y.0 y.1 (datas_of w)) (record { node = n; block = b })) (λ i. (sym e.0 i, sym e.1 i))
+    (in_right (datas_of w) (record { node = n; block = b } ∷ []) (record { node = n; block = b }) (inl refl))
+has_data (x ∷ w) n k b (inr h) = in_with x.0 x.1 (datas_of w) (record { node = n; block = b }) (has_data w n k b h)
+
+pub in_told : (xs : List FoundFinding) (x : FoundFinding) → In xs x → In (map told xs) (told x)
 in_told [] x h = h
 in_told (y ∷ ys) x (inl e) = inl (ap told e)
 in_told (y ∷ ys) x (inr h) = inr (in_told ys x h)
@@ -368,16 +361,7 @@ ext_of q n k same = same_role q (Ext n k) same (λ a m p s j e f. let x : second
 data_of : (q : Role) (n k : ℕ) → Same q (Data n k) → q ≡ Data n k
 data_of q n k same = same_role q (Data n k) same (λ a m p s j e f. let x : second (Data n k) ≡ second (Head m p s j) = ap second f in absurd (omega arith))
 
--- the key of a data block is one's
-data_key : (q : Role) (n : ℕ) → first q ≡ suc n → second q ≡ 1 → (k : ℕ) × (q ≡ Data n k)
-data_key (Data m k) n e f = let z : m ≡ n = omega arith in (k, ap (λ m. Data m k) z)
-data_key Root n e f = absurd (omega arith)
-data_key (Page i) n e f = absurd (omega arith)
-data_key (MapExt j) n e f = absurd (omega arith)
-data_key (Head m p s j) n e f = absurd (omega arith)
-data_key (Ext m k) n e f = absurd (omega arith)
-
-taken_at : (image : List ℕ) (w : List (Role × ℕ)) → IsGathered image w → (q : Role) (b : ℕ) → Has w q b → at_key w (key_of q) ≡ Some b
+pub taken_at : (image : List ℕ) (w : List (Role × ℕ)) → IsGathered image w → (q : Role) (b : ℕ) → Has w q b → at_key w (key_of q) ≡ Some b
 taken_at image w v q b h = go (at_key w (key_of q)) refl
   where
     go : (o : Option ℕ) → at_key w (key_of q) ≡ o → o ≡ Some b
@@ -386,20 +370,22 @@ taken_at image w v q b h = go (at_key w (key_of q)) refl
         let x = at_has w (key_of q) c e in
         ap Some (one_block image v x.0 q c b x.1 h (same_of_key x.0 q x.2)).1
 
+-- a part that a finding of a survey concerns was taken or passed over
+pub settled : (image : List ℕ) {s : Course} → IsCourse image s → (bits : List Finding) {b n : ℕ} → BitsTell image s b n bits
+    → (g : Finding) (q : Role) → In (s.findings ++ bits) g → g.part ≡ Some q → Settled image s q
+settled image {s = s} v bits tells g q h e = elim (in_cases s.findings bits g h) [
+  | inl k ↦ noted_settled image v g q k e
+  | inr k ↦ let z : None ≡ Some q = sym (bits_none image tells g k) ∙ e in cc
+]
+
 module _ (image : List ℕ) (f : Found) {s : Course} (v : IsCourse image s) (done : IsDone image s) (bits : List Finding) {b n : ℕ}
     (tells : BitsTell image s b n bits)
     (st : Stands image f (record { walk = s.walk; passed_over = s.passed_over; findings = s.findings ++ bits })) where
   abbrev all : List Finding
   all = s.findings ++ bits
 
-  settled : (g : Finding) (q : Role) → In all g → g.part ≡ Some q → Settled image s q
-  settled g q h e = elim (in_cases s.findings bits g h) [
-    | inl k ↦ noted_settled image v g q k e
-    | inr k ↦ let z : None ≡ Some q = sym (bits_none image tells g k) ∙ e in cc
-  ]
-
   -- a finding that speaks against an entry concerns a part of it
-  speaks : (m h : ℕ) (g : Finding) (o : Option Part) → In all g → g.part ≡ part_role o → blamed f.taken o ≡ Some m → IsSound image s.walk all m h → ⊥
+  speaks : (m h : ℕ) (g : Finding) (o : Option Part) → In all g → g.part ≡ part_role o → blamed f o ≡ Some m → IsSound image s.walk all m h → ⊥
   speaks m h g None i e z sound = cc
   speaks m h g (Some RootPart) i e z sound = cc
   speaks m h g (Some (PagePart k)) i e z sound = cc
@@ -408,87 +394,80 @@ module _ (image : List ℕ) (f : Found) {s : Course} (v : IsCourse image s) (don
       let one : q ≡ m = cc in sound.exts k g (Ext q k) i e (same_of (Ext q k) (Ext m k) (ap (λ q. Ext q k) one))
   speaks m h g (Some (DataPart q k)) i e z sound =
       let one : q ≡ m = cc in sound.datas k g (Data q k) i e (same_of (Data q k) (Data m k) (ap (λ q. Data q k) one))
-  speaks m h g (Some (HeadPart q p t j)) i e z sound = go (get by_key f.taken (key_of (Head q p t j))) refl z
+  speaks m h g (Some (HeadPart q p t j)) i e z sound = go (is_header f q p t j) refl z
     where
-      go : (o : Option ℕ) → get by_key f.taken (key_of (Head q p t j)) ≡ o → cond (is_some o) (Some q) None ≡ Some m → ⊥
-      go None is z = cc
-      go (Some c) is z =
+      go : (t' : Bool) → is_header f q p t j ≡ t' → cond t' (Some q) None ≡ Some m → ⊥
+      go false is z = cc
+      go true is z =
           let one : q ≡ m = cc in
-          let x = at_has s.walk (key_of (Head q p t j)) c (sym (st.taken (key_of (Head q p t j))) ∙ is) in
+          let x = found_header image f _ (gathered image v) st q p t j is in
+          let here = subst (λ q. Has s.walk (Head q p t j) x.0) one x.1 in
           let head = sound.header in
-          elim (settled g (Head q p t j) i e) [
-            | inl y ↦
-                let here = subst (λ q. Has s.walk (Head q p t j) y.0) one y.1 in
-                let same = same_of (head_role head) (Head m p t j) (one_head image (gathered image v) head (head_at m p t j y.0 here)).0 in
-                sound.unnoted g (Head q p t j) i e (sym same.0, sym same.1, sym same.2)
-            | inr y ↦ apart image v x.0 (Head q p t j) c y.0 x.1 y.1 (same_of_key x.0 (Head q p t j) x.2)
-          ]
+          let same = same_of (head_role head) (Head m p t j) (one_head image (gathered image v) head (head_at m p t j x.0 here)).0 in
+          sound.unnoted g (Head q p t j) i e (sym same.0, sym same.1, sym same.2)
 
-  not_noted : (m h : ℕ) → IsSound image s.walk all m h → is_blamed f.taken f.findings.items m ≡ false
-  not_noted m h sound = elim (cases_Bool (is_blamed f.taken f.findings.items m)) [
+  not_noted : (m h : ℕ) → IsSound image s.walk all m h → is_blamed f f.findings.items m ≡ false
+  not_noted m h sound = elim (cases_Bool (is_blamed f f.findings.items m)) [
     | inl t ↦
-        let x = blamed_by f.taken f.findings.items m t in
+        let x = blamed_by f f.findings.items m t in
         let i : In all (told x.0) = subst (λ fs. In fs (told x.0)) st.findings (in_told f.findings.items x.0 x.1) in
         absurd (speaks m h (told x.0) x.0.part i refl x.2 sound)
     | inr e ↦ e
   ]
 
-  not_shared : (m h : ℕ) → AreEntries f.taken → kind_of image ≡ Ffs → IsSound image s.walk all m h → is_sharing f.avoided.items f.taken.entries m ≡ false
-  not_shared m h es ffs sound = elim (cases_Bool (is_sharing f.avoided.items f.taken.entries m)) [
+  not_shared : (m h : ℕ) → kind_of image ≡ Ffs → IsSound image s.walk all m h → is_sharing f.avoided.items f.datas.items m ≡ false
+  not_shared m h ffs sound = elim (cases_Bool (is_sharing f.avoided.items f.datas.items m)) [
     | inl t ↦
-        let x = sharing_by f.avoided.items f.taken.entries m t in
-        let y = sharing_is f.avoided.items x.0 x.1 m x.3 in
-        let is : get by_key f.taken x.0 ≡ Some x.1 = all_in (λ e. get by_key f.taken e.0 ≡ Some e.1) f.taken.entries (x.0, x.1) es x.2 in
-        let q = at_has s.walk x.0 x.1 (sym (st.taken x.0) ∙ is) in
-        let d = data_key q.0 m (ap (λ k. k.first) q.2 ∙ y.0) (ap (λ k. k.second) q.2 ∙ y.1) in
-        let has : Has s.walk (Data m d.0) x.1 = subst (λ r. Has s.walk r x.1) d.1 q.1 in
-        let over : owns s.passed_over x.1 ≡ true = sym (st.avoided.1 x.1 (data_inside image v m d.0 x.1 has)) ∙ y.2 in
-        absurd (not_alone image v done m d.0 x.1 has over (sound.alone ffs d.0 x.1 has))
+        let x = sharing_by f.avoided.items f.datas.items m t in
+        let y = sharing_is f.avoided.items x.0 m x.2 in
+        let d = data_has s.walk x.0 (subst (λ ds. In ds x.0) st.datas x.1) in
+        let b : ℕ = x.0.block in
+        let has : Has s.walk (Data m d.0) b = subst (λ n. Has s.walk (Data n d.0) b) y.0 d.1 in
+        let over : owns s.passed_over b ≡ true = sym (st.avoided.1 b (data_inside image v m d.0 b has)) ∙ y.1 in
+        absurd (not_alone image v done m d.0 b has over (sound.alone ffs d.0 b has))
     | inr e ↦ e
   ]
 
-  not_doubtful : (m h : ℕ) → (kind_of image ≡ Ffs → AreEntries f.taken) → IsSound image s.walk all m h → is_doubtful (kind_of image) f m ≡ false
-  not_doubtful m h es sound = go (kind_of image) refl
+  not_doubtful : (m h : ℕ) → IsSound image s.walk all m h → is_doubtful (kind_of image) f m ≡ false
+  not_doubtful m h sound = go (kind_of image) refl
     where
       go : (k : Kind) → kind_of image ≡ k → is_doubtful k f m ≡ false
       go Ofs e = refl
-      go Ffs e = not_shared m h (es e) e sound
+      go Ffs e = not_shared m h e sound
 
   -- no finding of a part speaks against the entry
-  unspoken : (m : ℕ) → is_blamed f.taken f.findings.items m ≡ false → (g : Finding) (q : Role) → In all g → g.part ≡ Some q
-      → ((o : Option Part) → part_role o ≡ Some q → blamed f.taken o ≡ Some m) → ⊥
+  unspoken : (m : ℕ) → is_blamed f f.findings.items m ≡ false → (g : Finding) (q : Role) → In all g → g.part ≡ Some q
+      → ((o : Option Part) → part_role o ≡ Some q → blamed f o ≡ Some m) → ⊥
   unspoken m e g q i is names =
       let x = in_untold f.findings.items g (subst (λ fs. In fs g) (sym st.findings) i) in
-      not_blamed f.taken f.findings.items m x.0 e x.1 (names x.0.part (ap (λ g. g.part) x.2 ∙ is))
+      not_blamed f f.findings.items m x.0 e x.1 (names x.0.part (ap (λ g. g.part) x.2 ∙ is))
 
-  head_clear : (m p t j h : ℕ) → Has s.walk (Head m p t j) h → is_blamed f.taken f.findings.items m ≡ false → IsUnnoted all (Head m p t j)
-  head_clear m p t j h has e g q i is same = elim (settled g q i is) [
+  head_clear : (m p t j h : ℕ) → Has s.walk (Head m p t j) h → is_blamed f f.findings.items m ≡ false → IsUnnoted all (Head m p t j)
+  head_clear m p t j h has e g q i is same = elim (settled image v bits tells g q i is) [
     | inl y ↦
         let one : q ≡ Head m p t j = (one_block image (gathered image v) q (Head m p t j) y.0 h y.1 has same).0 in
-        let there : get by_key f.taken (key_of (Head m p t j)) ≡ Some h =
-        st.taken (key_of (Head m p t j)) ∙ taken_at image s.walk (gathered image v) (Head m p t j) h has in
+        let there : is_header f m p t j ≡ true = header_found image f _ (gathered image v) st m p t j h has in
         unspoken m e g q i is (λ o z.
         let u : o ≡ Some (HeadPart m p t j) = head_part o m p t j (z ∙ ap Some one) in
-        ap (blamed f.taken) u ∙ ap (λ c. cond (is_some c) (Some m) None) there)
+        ap (blamed f) u ∙ ap (λ t. cond t (Some m) None) there)
     | inr y ↦ apart image v (Head m p t j) q h y.0 has y.1 (sym same.0, sym same.1, sym same.2)
   ]
 
   alone_clear : (m : ℕ) → is_doubtful (kind_of image) f m ≡ false → kind_of image ≡ Ffs → (k c : ℕ) → Has s.walk (Data m k) c
       → (q : Role) (a i : ℕ) → Asks image s.walk q a i → word_in image a i ≡ c → Same q (Data m k)
   alone_clear m e ffs k c has =
-      let none : is_sharing f.avoided.items f.taken.entries m ≡ false = subst (λ k. is_doubtful k f m ≡ false) ffs e in
-      let there : get by_key f.taken (key_of (Data m k)) ≡ Some c =
-      st.taken (key_of (Data m k)) ∙ taken_at image s.walk (gathered image v) (Data m k) c has in
-      let i : In f.taken.entries (key_of (Data m k), c) = looked_up (key_of (Data m k)) f.taken.entries c there in
+      let none : is_sharing f.avoided.items f.datas.items m ≡ false = subst (λ k. is_doubtful k f m ≡ false) ffs e in
+      let d : DataBlock = record { node = m; block = c } in
+      let i : In f.datas.items d = subst (λ ds. In ds d) (sym st.datas) (has_data s.walk m k c has) in
       let free : owns s.passed_over c ≡ false = elim (cases_Bool (owns s.passed_over c)) [
         | inl t ↦
-            absurd (not_sharing f.avoided.items f.taken.entries m (key_of (Data m k)) c none i
-            (shares f.avoided.items m k c (st.avoided.1 c (data_inside image v m k c has) ∙ t)))
+            absurd (not_sharing f.avoided.items f.datas.items m d none i
+            (ap (λ t. cond t (Some m) None) (st.avoided.1 c (data_inside image v m k c has) ∙ t)))
         | inr t ↦ t
       ] in
       is_alone image v done m k c has free
 
-  clear_sound : (m : ℕ) → 1 ≤ m → m ≤ heads s.walk → is_blamed f.taken f.findings.items m ≡ false → is_doubtful (kind_of image) f m ≡ false
+  clear_sound : (m : ℕ) → 1 ≤ m → m ≤ heads s.walk → is_blamed f f.findings.items m ≡ false → is_doubtful (kind_of image) f m ≡ false
       → IsSound image s.walk all m (node_block s.walk m)
   clear_sound m lo hi clear free =
       let x = has_number image (gathered image v) m lo hi in
@@ -497,8 +476,8 @@ module _ (image : List ℕ) (f : Found) {s : Course} (v : IsCourse image s) (don
       record {
         header = head_at m g.parent g.slot g.place (node_block s.walk m) (subst (Has s.walk (head_role g)) at g.has);
         unnoted = head_clear m g.parent g.slot g.place x.0 g.has clear;
-        exts = (λ k g q i is same. unspoken m clear g q i is (λ o z. ap (blamed f.taken) (ext_part o m k (z ∙ ap Some (ext_of q m k same)))));
-        datas = (λ k g q i is same. unspoken m clear g q i is (λ o z. ap (blamed f.taken) (data_part o m k (z ∙ ap Some (data_of q m k same)))));
+        exts = (λ k g q i is same. unspoken m clear g q i is (λ o z. ap (blamed f) (ext_part o m k (z ∙ ap Some (ext_of q m k same)))));
+        datas = (λ k g q i is same. unspoken m clear g q i is (λ o z. ap (blamed f) (data_part o m k (z ∙ ap Some (data_of q m k same)))));
         alone = alone_clear m free;
       }
 
@@ -507,19 +486,18 @@ module _ (image : List ℕ) (f : Found) {s : Course} (v : IsCourse image s) (don
   not_false true e = cc
 
   -- the nodes that nothing is said against are the sound entries
-  pub clear_is_sound : (m : ℕ) → 1 ≤ m → (kind_of image ≡ Ffs → AreEntries f.taken)
-      → (is_clear image f m ≡ true) ↔ IsSound image s.walk all m (node_block s.walk m)
-  clear_is_sound m lo es = (
+  pub clear_is_sound : (m : ℕ) → 1 ≤ m → (is_clear image f m ≡ true) ↔ IsSound image s.walk all m (node_block s.walk m)
+  clear_is_sound m lo = (
     (λ t.
-        let x = and_parts (nat_lt m (length f.nodes.items)) (not (is_blamed f.taken f.findings.items m) && not (is_doubtful (kind_of image) f m)) t in
-        let y = and_parts (not (is_blamed f.taken f.findings.items m)) (not (is_doubtful (kind_of image) f m)) x.1 in
+        let x = and_parts (nat_lt m (length f.nodes.items)) (not (is_blamed f f.findings.items m) && not (is_doubtful (kind_of image) f m)) t in
+        let y = and_parts (not (is_blamed f f.findings.items m)) (not (is_doubtful (kind_of image) f m)) x.1 in
         let count : length f.nodes.items ≡ suc (heads s.walk) = st.count in
         let lt : m < length f.nodes.items = (let z = x.0 in grind (arith, nat_tests)) in
-        clear_sound m lo (omega arith) (not_false (is_blamed f.taken f.findings.items m) y.0) (not_false (is_doubtful (kind_of image) f m) y.1)),
+        clear_sound m lo (omega arith) (not_false (is_blamed f f.findings.items m) y.0) (not_false (is_doubtful (kind_of image) f m) y.1)),
     (λ sound.
         let few = number_of image (gathered image v) sound.header in
         let count : length f.nodes.items ≡ suc (heads s.walk) = st.count in
         let lt : m < length f.nodes.items = omega arith in
         let one : nat_lt m (length f.nodes.items) ≡ true = grind (arith, nat_tests) in
-        rw (one, not_noted m (node_block s.walk m) sound, not_doubtful m (node_block s.walk m) es sound) refl),
+        rw (one, not_noted m (node_block s.walk m) sound, not_doubtful m (node_block s.walk m) sound) refl),
   )

@@ -7,6 +7,7 @@ use Rattle.std.specs.Ordering.{is_eq, nat_cmp}
 use Rattle.std.specs.BTreeMap.{BTreeMap, Updates, get}
 use Rattle.std.proofs.lemmas.Bool.Decides.{eqb_tells, nat_tests}
 use Rattle.std.proofs.lemmas.List.{map-append}
+use Rattle.adf_tree.proofs.NameKeys.{same_number, then_is}
 use Rattle.adf_blocks.specs.Sizes.{blocks}
 use Rattle.adf_volume.proofs.Lists.{snoc_length}
 use Rattle.adf_volume.specs.Walk.{Role, heads, head_count, node_block, node_block_of, ext_count, ext_count_of}
@@ -16,12 +17,12 @@ use Rattle.adf_survey.specs.declared.part.Part.TheVariants.{Root as RootPart, Pa
 use Rattle.adf_survey.specs.declared.part.Part.TheVariants.{Ext as ExtPart, Data as DataPart}
 use Rattle.adf_survey.specs.declared.part.Finding.{Finding as FoundFinding}
 use Rattle.adf_survey.specs.declared.part.Key.{Key}
+use Rattle.adf_survey.specs.declared.found.ChainPlace.{ChainPlace}
 use Rattle.adf_survey.specs.declared.found.Found.{Found}
-use Rattle.adf_survey.specs.declared.found.ChainName.{ChainName}
 use Rattle.adf_survey.specs.Survey.{Course, Finding}
 use Rattle.adf_survey.specs.Parts.{by_key, key_of, role_of, told}
-use Rattle.adf_survey.specs.Found.{AreMarked, AreNamed, AreSame, IsKept, IsNoted, IsOwned, IsPassed, IsTaken, KeepsParts, Stands, at_key, by_name, exts_found}
-use Rattle.adf_survey.specs.Found.{is_named, owns, parent_by, parent_node, unowned}
+use Rattle.adf_survey.specs.Found.{AreMarked, AreSame, IsKept, IsLookedUp, IsNoted, IsOwned, IsPassed, IsPut, IsTaken, KeepsParts, Stands}
+use Rattle.adf_survey.specs.Found.{at_key, by_name, exts_found, owns, parent_by, parent_node, places_of, unowned, with_data, with_place}
 
 kept_more : (image : List ℕ) (part : Part) (b : ℕ) (f g h : Found) → IsKept image part b f g → AreSame g h → IsKept image part b f h
 kept_more image (HeadPart n p s j) b f g h k e = record {
@@ -29,25 +30,60 @@ kept_more image (HeadPart n p s j) b f g h k e = record {
   names = (λ q. ap (λ m. get by_name m q) e.names ∙ k.names q);
   exts = e.exts ∙ k.exts;
   parents = ap (λ v. v.items) e.parents ∙ k.parents;
+  places = ap (λ v. v.items) e.places ∙ k.places;
 }
 kept_more image (ExtPart n i) b f g h k e = record {
   nodes = e.nodes ∙ k.nodes;
   names = e.names ∙ k.names;
   exts = subst (λ m. Updates nat_cmp f.exts m n (Some i)) (sym e.exts) k.exts;
   parents = e.parents ∙ k.parents;
+  places = e.places ∙ k.places;
 }
-kept_more image _ b f g h k e = record { nodes = e.nodes ∙ k.nodes; names = e.names ∙ k.names; exts = e.exts ∙ k.exts; parents = e.parents ∙ k.parents }
+kept_more image _ b f g h k e = record {
+  nodes = e.nodes ∙ k.nodes;
+  names = e.names ∙ k.names;
+  exts = e.exts ∙ k.exts;
+  parents = e.parents ∙ k.parents;
+  places = e.places ∙ k.places;
+}
 
 pub taken_last : (image : List ℕ) (part : Part) (b : ℕ) (f g h : Found) → IsKept image part b f g → KeepsParts f g → IsOwned part b g h → AreSame g h
     → IsTaken image part b f h
 taken_last image part b f g h k p o e =
     let x = subst (λ g. IsOwned part b g h) p o in
-    let owned : IsOwned part b f h = record { taken = x.taken; owned = x.owned; left = x.left; passed = x.passed; avoided = x.avoided; findings = x.findings } in
+    let owned : IsOwned part b f h = record {
+      taken = x.taken;
+      datas = x.datas;
+      owned = x.owned;
+      left = x.left;
+      avoided = x.avoided;
+      findings = x.findings;
+    } in
     record { owned = owned; kept = kept_more image part b f g h k e }
 
-at_more : (m n : BTreeMap Key ℕ) (w : List (Role × ℕ)) (r : Role) (b : ℕ) → ((k : Key) → get by_key m k ≡ at_key w k)
-    → Updates by_key m n (key_of r) (Some b) → (k : Key) → get by_key n k ≡ at_key ((r, b) ∷ w) k
-at_more m n w r b h u k = u.0 k ∙ ap (λ o. cond (is_eq (by_key (key_of r) k)) (Some b) o) (h k)
+at_more : (m n : BTreeMap Key ℕ) (w : List (Role × ℕ)) (r : Role) (b : ℕ) (k : Key) → Updates by_key m n (key_of r) (Some b)
+    → get by_key m k ≡ at_key w k → get by_key n k ≡ at_key ((r, b) ∷ w) k
+at_more m n w r b k u e = u.0 k ∙ ap (λ o. cond (is_eq (by_key (key_of r) k)) (Some b) o) e
+
+-- the key of a header or a data block is that of no part that is looked up
+no_head_key : (n p s j : ℕ) (r : Role) → IsLookedUp r → is_eq (by_key (key_of (Head n p s j)) (key_of r)) ≡ false
+no_head_key n p s j (Data m k) x = absurd x
+no_head_key n p s j (Head m q t k) x = absurd x
+no_head_key n p s j r x = simp (then_is, same_number) (grind (arith, nat_tests))
+
+no_data_key : (n k : ℕ) (r : Role) → IsLookedUp r → is_eq (by_key (key_of (Data n k)) (key_of r)) ≡ false
+no_data_key n k (Data m j) x = absurd x
+no_data_key n k (Head m p s j) x = absurd x
+no_data_key n k r x = simp (then_is, same_number) (grind (arith, nat_tests))
+
+taken_more : (m n : BTreeMap Key ℕ) (w : List (Role × ℕ)) (part : Part) (b : ℕ) → IsPut part b m n
+    → ((r : Role) → IsLookedUp r → get by_key m (key_of r) ≡ at_key w (key_of r))
+    → (r : Role) → IsLookedUp r → get by_key n (key_of r) ≡ at_key ((role_of part, b) ∷ w) (key_of r)
+taken_more m n w (HeadPart i p s j) b u h r x =
+    ap (λ m. get by_key m (key_of r)) u ∙ (h r x ∙ sym (ap (λ t. cond t (Some b) (at_key w (key_of r))) (no_head_key i p s j r x)))
+taken_more m n w (DataPart i k) b u h r x =
+    ap (λ m. get by_key m (key_of r)) u ∙ (h r x ∙ sym (ap (λ t. cond t (Some b) (at_key w (key_of r))) (no_data_key i k r x)))
+taken_more m n w part b u h r x = at_more m n w (role_of part) b (key_of r) u (h r x)
 
 pub marked_more : (n : ℕ) (xs : List Bool) (w : List (Role × ℕ)) (r : Role) (b : ℕ) → AreMarked n xs w → AreMarked n (set xs b true) ((r, b) ∷ w)
 marked_more n xs w r b h = (
@@ -95,21 +131,21 @@ module _ (image : List ℕ) (f g : Found) (s : Course) (b : ℕ) (st : Stands im
     count : length g.nodes.items ≡ suc (heads w)
     few : length g.nodes.items ≤ suc (length f.nodes.items)
     ext : (n : ℕ) → exts_found g n ≡ ext_count w n
-    name : AreNamed image w g.names
     parent : (n : ℕ) → slice_index g.parents.items n ≡ parent_node w n
     parents : length g.parents.items ≡ suc (heads w)
+    places : g.places.items ≡ places_of w
 
   same_later : (r : Role) → ((m c : ℕ) → node_block_of m r b c ≡ c) → head_count r (heads s.walk) ≡ heads s.walk → ((m c : ℕ) → ext_count_of m r c ≡ c)
-      → ((q : ChainName) → is_named image r b q.parent q.slot q.name.items ≡ false) → ((m c : ℕ) → parent_by m r c ≡ c) → AreSame f g
+      → ((m c : ℕ) → parent_by m r c ≡ c) → ((cs : List ChainPlace) → with_place r cs ≡ cs) → AreSame f g
       → IsLater ((r, b) ∷ s.walk)
-  same_later r node head ext name parent e = record {
+  same_later r node head ext parent place e = record {
     node = (λ n. ap (λ v. slice_index v.items n) e.nodes ∙ (st.node n ∙ sym (node n (node_block s.walk n))));
     count = ap (λ v. length v.items) e.nodes ∙ (st.count ∙ ap suc (sym head));
     few = (let l = ap (λ v. length v.items) e.nodes in omega arith);
     ext = (λ n. ap (λ m. unwrap_or (get nat_cmp m n) 0) e.exts ∙ (st.ext n ∙ sym (ext n (ext_count s.walk n))));
-    name = (λ q. ap (λ m. get by_name m q) e.names ∙ (st.name q ∙ sym (rw (name q) refl)));
     parent = (λ n. ap (λ v. slice_index v.items n) e.parents ∙ (st.parent n ∙ sym (parent n (parent_node s.walk n))));
     parents = ap (λ v. length v.items) e.parents ∙ (st.parents ∙ ap suc (sym head));
+    places = ap (λ v. v.items) e.places ∙ (st.places ∙ sym (place (places_of s.walk)));
   }
 
   later : (part : Part) → IsNumbered s.walk (role_of part) → IsKept image part b f g → IsLater ((role_of part, b) ∷ s.walk)
@@ -122,9 +158,9 @@ module _ (image : List ℕ) (f g : Found) (s : Course) (b : ℕ) (st : Stands im
         count = (let l = ap length k.nodes in omega (arith, snoc_length f.nodes.items b));
         few = (let l = ap length k.nodes in omega (arith, snoc_length f.nodes.items b));
         ext = (λ m. ap (λ x. unwrap_or (get nat_cmp x m) 0) k.exts ∙ st.ext m);
-        name = (λ q. k.names q ∙ ap (λ o. cond (is_named image (Head n p t j) b q.parent q.slot q.name.items) (Some b) o) (st.name q));
         parent = (λ m. ap (λ v. slice_index v m) k.parents ∙ (node_snoc f.parents.items p m ∙ (λ t. cond (m == d t) p (st.parent m t))));
         parents = (let l = ap length k.parents in let g = fit in omega (arith, snoc_length f.parents.items p));
+        places = k.places ∙ ap (with_place (Head n p t j)) st.places;
       }
   later (ExtPart n i) fit k = record {
     node = (λ m. ap (λ v. slice_index v.items m) k.nodes ∙ st.node m);
@@ -138,14 +174,14 @@ module _ (image : List ℕ) (f g : Found) (s : Course) (b : ℕ) (st : Stands im
           let one : is_eq (nat_cmp n m) ≡ false = (let e : m ≡ n → ⊥ = y.1 in grind (arith, nat_tests)) in
           ap (λ o. unwrap_or o 0) (k.exts.0 m) ∙ rw (y.0, one) (st.ext m)
     ]);
-    name = (λ q. ap (λ m. get by_name m q) k.names ∙ st.name q);
     parent = (λ m. ap (λ v. slice_index v.items m) k.parents ∙ st.parent m);
     parents = ap (λ v. length v.items) k.parents ∙ st.parents;
+    places = ap (λ v. v.items) k.places ∙ st.places;
   }
   later RootPart fit k = absurd fit
-  later (PagePart i) fit k = same_later (Page i) (λ m c. refl) refl (λ m c. refl) (λ q. refl) (λ m c. refl) k
-  later (MapExtPart j) fit k = same_later (MapExt j) (λ m c. refl) refl (λ m c. refl) (λ q. refl) (λ m c. refl) k
-  later (DataPart n i) fit k = same_later (Data n i) (λ m c. refl) refl (λ m c. refl) (λ q. refl) (λ m c. refl) k
+  later (PagePart i) fit k = same_later (Page i) (λ m c. refl) refl (λ m c. refl) (λ m c. refl) (λ cs. refl) k
+  later (MapExtPart j) fit k = same_later (MapExt j) (λ m c. refl) refl (λ m c. refl) (λ m c. refl) (λ cs. refl) k
+  later (DataPart n i) fit k = same_later (Data n i) (λ m c. refl) refl (λ m c. refl) (λ m c. refl) (λ cs. refl) k
 
   -- a part is taken
   pub stands_taken : (part : Part) → IsNumbered s.walk (role_of part) → b < blocks image → owns s.walk b ≡ false → IsTaken image part b f g
@@ -156,8 +192,7 @@ module _ (image : List ℕ) (f g : Found) (s : Course) (b : ℕ) (st : Stands im
       let less = unowned_less f.owned.items b (let e = st.owned.0 in omega arith) (st.owned.1 b lt ∙ free) in
       let left : g.left ≡ unowned (set f.owned.items b true) = (let d = st.left in omega arith) in
       record {
-        taken = at_more f.taken g.taken s.walk (role_of part) b st.taken o.taken;
-        passed = (λ k. ap (λ m. get by_key m k) o.passed ∙ st.passed k);
+        taken = taken_more f.taken g.taken s.walk part b o.taken st.taken;
         owned = subst (λ xs. AreMarked (blocks image) xs ((role_of part, b) ∷ s.walk)) (sym o.owned)
             (marked_more (blocks image) f.owned.items s.walk (role_of part) b st.owned);
         avoided = subst (λ v. AreMarked (blocks image) v.items s.passed_over) (sym o.avoided) st.avoided;
@@ -166,20 +201,20 @@ module _ (image : List ℕ) (f g : Found) (s : Course) (b : ℕ) (st : Stands im
         count = l.count;
         few = (let m = l.few in let d = st.few in omega arith);
         ext = l.ext;
-        name = l.name;
         findings = ap (λ v. map told v.items) o.findings ∙ st.findings;
         parent = l.parent;
         parents = l.parents;
+        places = l.places;
+        datas = o.datas ∙ ap (with_data (role_of part) b) st.datas;
       }
 
   -- what is taken stays so, whatever is passed over and noted
-  stands_else : (over : List (Role × ℕ)) (fs : List Finding) → g ≡ record f { passed = g.passed; avoided = g.avoided; findings = g.findings }
-      → ((k : Key) → get by_key g.passed k ≡ at_key over k) → AreMarked (blocks image) g.avoided.items over → map told g.findings.items ≡ fs
+  stands_else : (over : List (Role × ℕ)) (fs : List Finding) → g ≡ record f { avoided = g.avoided; findings = g.findings }
+      → AreMarked (blocks image) g.avoided.items over → map told g.findings.items ≡ fs
       → Stands image g (record { walk = s.walk; passed_over = over; findings = fs })
-  stands_else over fs rest passed avoided findings =
+  stands_else over fs rest avoided findings =
       subst (λ h. Stands image h (record { walk = s.walk; passed_over = over; findings = fs })) (sym rest) (record {
         taken = st.taken;
-        passed = passed;
         owned = st.owned;
         avoided = avoided;
         left = st.left;
@@ -187,24 +222,25 @@ module _ (image : List ℕ) (f g : Found) (s : Course) (b : ℕ) (st : Stands im
         count = st.count;
         few = st.few;
         ext = st.ext;
-        name = st.name;
         findings = findings;
         parent = st.parent;
         parents = st.parents;
+        places = st.places;
+        datas = st.datas;
       })
 
   -- a part is passed over
-  pub stands_passed : (part : Part) → IsPassed part b f g
-      → Stands image g (record { walk = s.walk; passed_over = (role_of part, b) ∷ s.passed_over; findings = s.findings })
-  stands_passed part t =
-      stands_else ((role_of part, b) ∷ s.passed_over) s.findings t.rest (at_more f.passed g.passed s.passed_over (role_of part) b st.passed t.passed)
-      (subst (λ xs. AreMarked (blocks image) xs ((role_of part, b) ∷ s.passed_over)) (sym t.avoided)
-      (marked_more (blocks image) f.avoided.items s.passed_over (role_of part) b st.avoided)) (ap (λ v. map told v.items) t.findings ∙ st.findings)
+  pub stands_passed : (r : Role) → IsPassed b f g
+      → Stands image g (record { walk = s.walk; passed_over = (r, b) ∷ s.passed_over; findings = s.findings })
+  stands_passed r t =
+      stands_else ((r, b) ∷ s.passed_over) s.findings t.rest
+      (subst (λ xs. AreMarked (blocks image) xs ((r, b) ∷ s.passed_over)) (sym t.avoided)
+      (marked_more (blocks image) f.avoided.items s.passed_over r b st.avoided)) (ap (λ v. map told v.items) t.findings ∙ st.findings)
 
   -- a finding is noted
   pub stands_noted : (x : FoundFinding) → IsNoted x f g
       → Stands image g (record { walk = s.walk; passed_over = s.passed_over; findings = s.findings ++ told x ∷ [] })
   stands_noted x t =
-      stands_else s.passed_over (s.findings ++ told x ∷ []) t.rest (λ k. ap (λ m. get by_key m k) t.passed ∙ st.passed k)
+      stands_else s.passed_over (s.findings ++ told x ∷ []) t.rest
       (subst (λ v. AreMarked (blocks image) v.items s.passed_over) (sym t.avoided) st.avoided)
       (ap (map told) t.findings ∙ (map-append told f.findings.items (x ∷ []) ∙ ap (λ fs. fs ++ told x ∷ []) st.findings))

@@ -1,8 +1,9 @@
 -- What is found so far, as a course.
--- Letters: w a walk, s a course; r a role; b, c blocks; k a key; n, p nodes; q a name in a chain; f what is found.
+-- Letters: w a walk, s a course; r a role; b, c blocks; k a key; n, p nodes; q a name in a chain; f what is found; ds data blocks.
 use Rattle.std.specs.Prelude.{◌≡◌, ◌≤◌, ◌<◌, ◌+◌, ◌-◌, ◌*◌, ◌/◌, ◌==◌, ◌||◌, ℕ, Bool, true, false, cond, not, nat_le, nat_lt, List, []}
 use Rattle.std.specs.Prelude.{◌∷◌, ◌++◌, length, set, map, slice_index, slice_index_or, Option, Some, None, is_some, IsTrue, ◌↔◌}
-use Rattle.std.proofs.Common.{suc}
+use Rattle.std.proofs.Common.{zero, suc}
+use Rattle.std.specs.Global.{Vec}
 use Rattle.std.specs.Option.{unwrap_or}
 use Rattle.std.specs.Ordering.{is_eq, nat_cmp, ordering_then}
 use Rattle.std.specs.declared.cmp.Ordering.{Ordering}
@@ -15,15 +16,16 @@ use Rattle.adf_volume.specs.Demands.{AllHold, FirstFails}
 use Rattle.adf_blocks.specs.declared.layout.TheConstants.{POINTERS}
 use Rattle.adf_blocks.specs.Sizes.{blocks}
 use Rattle.adf_volume.specs.Image.{IsFreeAt, name_of, root_of, table_word, word_in}
-use Rattle.adf_volume.specs.Walk.{Role, bitmap_demands, data_count, ext_count, heads, node_block}
-use Rattle.adf_volume.specs.Walk.Role.{Root, Page, Head, Ext}
+use Rattle.adf_volume.specs.Walk.{Role, Has, bitmap_demands, data_count, ext_count, heads, node_block}
+use Rattle.adf_volume.specs.Walk.Role.{Root, Page, Head, Ext, Data}
 use Rattle.adf_survey.specs.declared.part.Part.{Part}
 use Rattle.adf_survey.specs.declared.part.Part.TheVariants.{Head as HeadPart, Ext as ExtPart, Data as DataPart}
 use Rattle.adf_survey.specs.declared.part.Key.{Key}
 use Rattle.adf_survey.specs.declared.part.Finding.{Finding as FoundFinding}
 use Rattle.adf_survey.specs.declared.forms.Around.{Around}
+use Rattle.adf_survey.specs.declared.found.ChainPlace.{ChainPlace}
+use Rattle.adf_survey.specs.declared.found.DataBlock.{DataBlock}
 use Rattle.adf_survey.specs.declared.found.Found.{Found}
-use Rattle.adf_survey.specs.declared.found.ChainName.{ChainName}
 use Rattle.adf_survey.specs.Survey.{BitsTell, Course, Finding, IsCompared, IsCourse, IsDone}
 use Rattle.adf_survey.specs.Parts.{by_key, key_of, role_of, told}
 
@@ -31,6 +33,22 @@ use Rattle.adf_survey.specs.Parts.{by_key, key_of, role_of, told}
 abbrev pub at_key : List (Role × ℕ) → Key → Option ℕ
 at_key [] k = None
 at_key (x ∷ w) k = cond (is_eq (by_key (key_of x.0) k)) (Some x.1) (at_key w k)
+
+-- the role is one that is looked up by its key: no header and no data block
+abbrev pub IsLookedUp : Role → Type 0
+IsLookedUp (Head n p s j) = ⊥
+IsLookedUp (Data n k) = ⊥
+IsLookedUp _ = Unit {0}
+
+-- the data blocks, and that of the role at block b where it is one
+abbrev pub with_data : Role → ℕ → List DataBlock → List DataBlock
+with_data (Data n k) b ds = ds ++ record { node = n; block = b } ∷ []
+with_data _ b ds = ds
+
+-- the data blocks of a walk, in order
+abbrev pub datas_of : List (Role × ℕ) → List DataBlock
+datas_of [] = []
+datas_of (x ∷ w) = with_data x.0 x.1 (datas_of w)
 
 -- whether a block is a member's
 abbrev pub owns : List (Role × ℕ) → ℕ → Bool
@@ -48,13 +66,20 @@ abbrev pub named : List ℕ → List (Role × ℕ) → ℕ → ℕ → List ℕ 
 named image [] parent slot name = None
 named image (x ∷ w) parent slot name = cond (is_named image x.0 x.1 parent slot name) (Some x.1) (named image w parent slot name)
 
--- names in chains, in order
-abbrev pub by_name : ChainName → ChainName → Ordering
-by_name a b = ordering_then (nat_cmp a.parent b.parent) (ordering_then (nat_cmp a.slot b.slot) (slice_cmp nat_cmp a.name.items b.name.items))
+-- names in order
+abbrev pub by_name : Vec ℕ → Vec ℕ → Ordering
+by_name a b = slice_cmp nat_cmp a.items b.items
 
--- the map has the names of the walk's headers
-abbrev pub AreNamed : List ℕ → List (Role × ℕ) → BTreeMap ChainName ℕ → Type 0
-AreNamed image w names = (q : ChainName) → get by_name names q ≡ named image w q.parent q.slot q.name.items
+-- the map has the names of the walk's headers of the chain at a place, where there are some
+abbrev pub AreNamed : List ℕ → List (Role × ℕ) → Key → BTreeMap (Vec ℕ) ℕ → Type 0
+AreNamed image w k names =
+    (q : Vec ℕ) (m p s j b : ℕ) → suc p ≡ k.first → suc (suc s) ≡ k.second → Has w (Head m p s j) b → get by_name names q ≡ named image w p s q.items
+
+-- the walk has headers of the chain of the part, where that is not the first of them
+abbrev pub IsChain : List (Role × ℕ) → Part → Type 0
+IsChain w (HeadPart n p s zero) = (m j b : ℕ) → Has w (Head m p s j) b → ⊥
+IsChain w (HeadPart n p s (suc j)) = (m b : ℕ) × Has w (Head m p s j) b
+IsChain w _ = Unit {0}
 
 -- whether the part has a new name, where it is a header
 abbrev pub new_in : List ℕ → List (Role × ℕ) → Part → ℕ → Bool
@@ -106,28 +131,52 @@ abbrev pub enough_in : List ℕ → Found → Part → Bool
 enough_in image f (DataPart n k) = not (k == 1) || nat_le (data_count image (slice_index f.nodes.items n)) (POINTERS * suc (exts_found f n))
 enough_in image f _ = true
 
+-- the places of headers, and that of the role where it is one
+abbrev pub with_place : Role → List ChainPlace → List ChainPlace
+with_place (Head n p s j) cs = cs ++ record { slot = s; place = j } ∷ []
+with_place _ cs = cs
+
+-- the places of the walk's headers, by their numbers from 1 on
+abbrev pub places_of : List (Role × ℕ) → List ChainPlace
+places_of [] = []
+places_of (x ∷ w) = with_place x.0 (places_of w)
+
+-- the map has the block at the key of the part as well, unless it is a header or a data block
+abbrev pub IsPut : Part → ℕ → BTreeMap Key ℕ → BTreeMap Key ℕ → Type 0
+IsPut (HeadPart n p s j) b old new = new ≡ old
+IsPut (DataPart n k) b old new = new ≡ old
+IsPut part b old new = Updates by_key old new (key_of (role_of part)) (Some b)
+
 -- the block is a part's
 pub record IsOwned (part : Part) (b : ℕ) (f g : Found) : Type 0 where
-  pub taken : Updates by_key f.taken g.taken (key_of (role_of part)) (Some b)
+  pub taken : IsPut part b f.taken g.taken
+  pub datas : g.datas.items ≡ with_data (role_of part) b f.datas.items
   pub owned : g.owned.items ≡ set f.owned.items b true
   pub left : g.left + 1 ≡ f.left
-  pub passed : g.passed ≡ f.passed
   pub avoided : g.avoided ≡ f.avoided
   pub findings : g.findings ≡ f.findings
 
--- nodes, names, counts of extension blocks and parents are the same
+-- nodes, names, counts of extension blocks, parents and places are the same
 pub record AreSame (f g : Found) : Type 0 where
   pub nodes : g.nodes ≡ f.nodes
   pub names : g.names ≡ f.names
   pub exts : g.exts ≡ f.exts
   pub parents : g.parents ≡ f.parents
+  pub places : g.places ≡ f.places
 
--- the node, the name and the directory of a header are kept
-pub record KeepsHead (image : List ℕ) (r : Role) (p b : ℕ) (f g : Found) : Type 0 where
+-- what is known of a name as a header comes to place j of a chain: nothing at the first
+abbrev pub known_at : ℕ → Option ℕ → Option ℕ
+known_at zero o = None
+known_at (suc j) o = o
+
+-- the node, the name, the directory p, the slot and the place j of a header are kept
+pub record KeepsHead (image : List ℕ) (p s j b : ℕ) (f g : Found) : Type 0 where
   pub nodes : g.nodes.items ≡ f.nodes.items ++ b ∷ []
-  pub names : (q : ChainName) → get by_name g.names q ≡ cond (is_named image r b q.parent q.slot q.name.items) (Some b) (get by_name f.names q)
+  pub names : (q : Vec ℕ)
+      → get by_name g.names q ≡ cond (is_eq (slice_cmp nat_cmp (uppers (name_of image b)) q.items)) (Some b) (known_at j (get by_name f.names q))
   pub exts : g.exts ≡ f.exts
   pub parents : g.parents.items ≡ f.parents.items ++ p ∷ []
+  pub places : g.places.items ≡ f.places.items ++ record { slot = s; place = j } ∷ []
 
 -- the count of extension blocks of file n is kept
 pub record KeepsExt (n k : ℕ) (f g : Found) : Type 0 where
@@ -135,40 +184,38 @@ pub record KeepsExt (n k : ℕ) (f g : Found) : Type 0 where
   pub names : g.names ≡ f.names
   pub exts : Updates nat_cmp f.exts g.exts n (Some k)
   pub parents : g.parents ≡ f.parents
+  pub places : g.places ≡ f.places
 
 -- what is asked of headers and extension blocks later is kept of the part
 abbrev pub IsKept : List ℕ → Part → ℕ → Found → Found → Type 0
-IsKept image (HeadPart n p s j) b f g = KeepsHead image (Head n p s j) p b f g
+IsKept image (HeadPart n p s j) b f g = KeepsHead image p s j b f g
 IsKept image (ExtPart n k) b f g = KeepsExt n k f g
 IsKept image _ b f g = AreSame f g
 
 -- marks, keys and findings are the same
 abbrev pub KeepsParts : Found → Found → Type 0
-KeepsParts f g = g ≡ record f { nodes = g.nodes; exts = g.exts; names = g.names; parents = g.parents }
+KeepsParts f g = g ≡ record f { nodes = g.nodes; exts = g.exts; names = g.names; parents = g.parents; places = g.places }
 
 -- the part is taken
 pub record IsTaken (image : List ℕ) (part : Part) (b : ℕ) (f g : Found) : Type 0 where
   pub owned : IsOwned part b f g
   pub kept : IsKept image part b f g
 
--- the part is passed over
-pub record IsPassed (part : Part) (b : ℕ) (f g : Found) : Type 0 where
-  pub passed : Updates by_key f.passed g.passed (key_of (role_of part)) (Some b)
+-- the block is passed over
+pub record IsPassed (b : ℕ) (f g : Found) : Type 0 where
   pub avoided : g.avoided.items ≡ set f.avoided.items b true
   pub findings : g.findings ≡ f.findings
-  pub rest : g ≡ record f { passed = g.passed; avoided = g.avoided; findings = g.findings }
+  pub rest : g ≡ record f { avoided = g.avoided; findings = g.findings }
 
 -- the finding is noted
 pub record IsNoted (x : FoundFinding) (f g : Found) : Type 0 where
   pub findings : g.findings.items ≡ f.findings.items ++ x ∷ []
-  pub passed : g.passed ≡ f.passed
   pub avoided : g.avoided ≡ f.avoided
-  pub rest : g ≡ record f { passed = g.passed; avoided = g.avoided; findings = g.findings }
+  pub rest : g ≡ record f { avoided = g.avoided; findings = g.findings }
 
 -- what is found is what a course has
 pub record Stands (image : List ℕ) (f : Found) (s : Course) : Type 0 where
-  pub taken : (k : Key) → get by_key f.taken k ≡ at_key s.walk k
-  pub passed : (k : Key) → get by_key f.passed k ≡ at_key s.passed_over k
+  pub taken : (r : Role) → IsLookedUp r → get by_key f.taken (key_of r) ≡ at_key s.walk (key_of r)
   pub owned : AreMarked (blocks image) f.owned.items s.walk
   pub avoided : AreMarked (blocks image) f.avoided.items s.passed_over
   pub left : f.left ≡ unowned f.owned.items
@@ -176,10 +223,11 @@ pub record Stands (image : List ℕ) (f : Found) (s : Course) : Type 0 where
   pub count : length f.nodes.items ≡ suc (heads s.walk)
   pub few : length f.nodes.items + f.left ≤ suc (blocks image)
   pub ext : (n : ℕ) → exts_found f n ≡ ext_count s.walk n
-  pub name : AreNamed image s.walk f.names
   pub findings : map told f.findings.items ≡ s.findings
   pub parent : (n : ℕ) → slice_index f.parents.items n ≡ parent_node s.walk n
   pub parents : length f.parents.items ≡ suc (heads s.walk)
+  pub places : f.places.items ≡ places_of s.walk
+  pub datas : f.datas.items ≡ datas_of s.walk
 
 -- the course that begins with the root
 abbrev pub begun : List ℕ → Course

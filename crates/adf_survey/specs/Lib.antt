@@ -3,7 +3,6 @@ pub mod Sound
 pub mod Parts
 pub mod Forms
 pub mod Found
-pub mod Asked
 pub mod Courses
 pub mod Marks
 pub mod Files

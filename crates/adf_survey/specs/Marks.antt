@@ -1,30 +1,32 @@
 -- What is said against entries, by their numbers.
--- Letters: taken the blocks of the parts that are taken, avoided whether blocks were passed over; k a key, b the block of a part; m, n nodes.
-use Rattle.std.specs.Prelude.{◌≡◌, ◌-◌, ◌==◌, ◌||◌, ◌&&◌, ℕ, Bool, false, cond, not, nat_lt, List, [], ◌∷◌, length, slice_index_or}
-use Rattle.std.specs.Prelude.{Option, Some, None, is_some}
-use Rattle.std.specs.BTreeMap.{BTreeMap, get}
-use Rattle.std.specs.List.{All}
+-- Letters: f what is found; avoided whether blocks were passed over; d a data block; m, n, p nodes; s, j a slot and a place in its chain.
+use Rattle.std.specs.Prelude.{◌==◌, ◌||◌, ◌&&◌, ◌-◌, ℕ, Bool, false, cond, not, nat_lt, List, [], ◌∷◌, length, slice_get, slice_index, slice_index_or}
+use Rattle.std.specs.Prelude.{Option, Some, None}
 use Rattle.adf_tree.specs.declared.entry.Kind.{Kind}
 use Rattle.adf_tree.specs.declared.entry.Kind.TheVariants.{Ofs, Ffs}
 use Rattle.adf_volume.specs.Image.{kind_of}
-use Rattle.adf_volume.specs.Walk.Role.{Head}
 use Rattle.adf_survey.specs.declared.part.Part.{Part}
 use Rattle.adf_survey.specs.declared.part.Part.TheVariants.{Head as HeadPart, Ext as ExtPart, Data as DataPart}
-use Rattle.adf_survey.specs.declared.part.Key.{Key}
 use Rattle.adf_survey.specs.declared.part.Finding.{Finding as FoundFinding}
+use Rattle.adf_survey.specs.declared.found.ChainPlace.{ChainPlace}
+use Rattle.adf_survey.specs.declared.found.DataBlock.{DataBlock}
 use Rattle.adf_survey.specs.declared.found.Found.{Found}
-use Rattle.adf_survey.specs.Parts.{by_key, key_of}
 
--- each entry of the map is what is found at its key
-abbrev pub AreEntries : BTreeMap Key ℕ → Type 0
-AreEntries taken = All (λ e. get by_key taken e.0 ≡ Some e.1) taken.entries
+-- whether a place is this one
+abbrev pub is_place : Option ChainPlace → ℕ → ℕ → Bool
+is_place None s j = false
+is_place (Some c) s j = (c.slot == s) && (c.place == j)
+
+-- whether node n is the header at place j of the chain of slot s of directory p
+abbrev pub is_header : Found → ℕ → ℕ → ℕ → ℕ → Bool
+is_header f n p s j = not (n == 0) && ((slice_index f.parents.items n == p) && is_place (slice_get f.places.items (n - 1)) s j)
 
 -- the entry that a finding of the part speaks against: that of a header that is taken, or of an extension or data block
-abbrev pub blamed : BTreeMap Key ℕ → Option Part → Option ℕ
-blamed taken (Some (HeadPart n p s j)) = cond (is_some (get by_key taken (key_of (Head n p s j)))) (Some n) None
-blamed taken (Some (ExtPart n k)) = Some n
-blamed taken (Some (DataPart n k)) = Some n
-blamed taken _ = None
+abbrev pub blamed : Found → Option Part → Option ℕ
+blamed f (Some (HeadPart n p s j)) = cond (is_header f n p s j) (Some n) None
+blamed f (Some (ExtPart n k)) = Some n
+blamed f (Some (DataPart n k)) = Some n
+blamed f _ = None
 
 -- whether it is this node
 abbrev pub is_node : Option ℕ → ℕ → Bool
@@ -32,23 +34,23 @@ is_node None m = false
 is_node (Some n) m = n == m
 
 -- whether a finding speaks against the entry
-abbrev pub is_blamed : BTreeMap Key ℕ → List FoundFinding → ℕ → Bool
-is_blamed taken [] m = false
-is_blamed taken (x ∷ xs) m = is_node (blamed taken x.part) m || is_blamed taken xs m
+abbrev pub is_blamed : Found → List FoundFinding → ℕ → Bool
+is_blamed f [] m = false
+is_blamed f (x ∷ xs) m = is_node (blamed f x.part) m || is_blamed f xs m
 
--- the file whose data block has the key, where the block was also passed over
-abbrev pub sharing : List Bool → Key → ℕ → Option ℕ
-sharing avoided k b = cond (nat_lt 0 k.first && ((k.second == 1) && slice_index_or avoided b false)) (Some (k.first - 1)) None
+-- the file of a data block, where the block was also passed over
+abbrev pub sharing : List Bool → DataBlock → Option ℕ
+sharing avoided d = cond (slice_index_or avoided d.block false) (Some d.node) None
 
 -- whether a data block of the file was also passed over
-abbrev pub is_sharing : List Bool → List (Key × ℕ) → ℕ → Bool
+abbrev pub is_sharing : List Bool → List DataBlock → ℕ → Bool
 is_sharing avoided [] m = false
-is_sharing avoided (e ∷ es) m = is_node (sharing avoided e.0 e.1) m || is_sharing avoided es m
+is_sharing avoided (d ∷ ds) m = is_node (sharing avoided d) m || is_sharing avoided ds m
 
 -- whether that is said against the file: an OFS data block says whose it is
 abbrev pub is_doubtful : Kind → Found → ℕ → Bool
 is_doubtful Ofs f m = false
-is_doubtful Ffs f m = is_sharing f.avoided.items f.taken.entries m
+is_doubtful Ffs f m = is_sharing f.avoided.items f.datas.items m
 
 -- whether the node has a mark
 abbrev pub has_mark : List Bool → ℕ → Bool
@@ -57,4 +59,4 @@ has_mark marks m = slice_index_or marks m false
 -- whether there is such a node, and nothing is said against it
 abbrev pub is_clear : List ℕ → Found → ℕ → Bool
 is_clear image f m =
-    nat_lt m (length f.nodes.items) && (not (is_blamed f.taken f.findings.items m) && not (is_doubtful (kind_of image) f m))
+    nat_lt m (length f.nodes.items) && (not (is_blamed f f.findings.items m) && not (is_doubtful (kind_of image) f m))

@@ -1,22 +1,34 @@
-// The course of a survey: parts are judged until nothing is next.
+// The course of a survey: the pages of the bitmap, then the nodes in order, of a directory its chains, of a file its extension
+// blocks and then its data blocks.
 
-ghost use Rattle.std.specs.Prelude.{ℕ, List, ◌≡◌, ◌<◌, ◌≤◌, ◌+◌, ◌^◌, ◌||◌, IfOk, OnOk, length, is_some, true, false};
-ghost use Rattle.std.specs.BTreeMap.{get};
-ghost use Rattle.adf_blocks.specs.Sizes.{blocks};
-ghost use Rattle.adf_survey.specs.Survey.{Course, IsCourse};
-ghost use Rattle.adf_survey.specs.Parts.{by_key, role_of};
-ghost use Rattle.adf_volume.specs.Walk.{Role};
-ghost use Rattle.adf_survey.specs.Asked.{AddsAsked, Allows, HasKey, HasRoom, Keeps, NewAsk};
-ghost use Rattle.adf_survey.specs.Found.{IsFinished, IsTaken, Stands, around_in};
-ghost use Rattle.adf_survey.specs.Courses.{IsNextAsk, IsOnCourse, IsOutcome};
+ghost use Rattle.std.specs.Prelude.{◌≡◌, ◌<◌, ◌≤◌, ◌+◌, ◌^◌, IfOk, IfSome, OnOk, Some, length};
+ghost use Rattle.adf_blocks.specs.declared.layout.TheConstants.{SLOTS};
+ghost use Rattle.adf_blocks.specs.Sizes.{blocks, pages_needed};
+ghost use Rattle.adf_volume.specs.Image.{root_of};
+ghost use Rattle.adf_survey.specs.Survey.{Course};
+ghost use Rattle.adf_survey.specs.Parts.{key_of, role_of};
+ghost use Rattle.adf_survey.specs.Found.{IsFinished};
+ghost use Rattle.adf_survey.specs.Courses.{Holds, IsAt, IsAtFile, IsAtPage, IsDue, IsGoneOn, IsInDatas, IsInDir, IsNamed};
+ghost use Rattle.adf_survey.specs.Courses.{IsNextAsk, IsOutcome, IsPageNamed, before_node, map_ext_word, page_word};
 
-use crate::asked::{Ask, Asked};
 use crate::found::Found;
 use crate::judge::{Judgement, judge};
-use crate::part::{Finding, Key, Part};
-use adf_blocks::Cause;
+use crate::part::{Finding, Part};
+use adf_blocks::{
+    Cause, EXTENSION, FIRST_MAP_EXT, FIRST_PAGE, FIRST_POINTER, FIRST_SLOT, MAP_EXT_NEXT,
+    MAP_EXT_PAGES, NEXT_IN_CHAIN, POINTERS, ROOT_PAGES, SECONDARY_TYPE, SLOTS, ST_DIR, ST_FILE,
+    page_count,
+};
 use adf_fields::NoMemory;
 use adf_volume::Image;
+
+/// A part that is next, a header with any number: the block that has a word that names its block, and the block named.
+#[derive(Clone, Copy, PartialEq, Eq, Drop)]
+pub struct Ask {
+    pub part: Part,
+    pub holder: u32,
+    pub block: u32,
+}
 
 // A finding of a part.
 fn of_part(part: Part, block: u32, cause: Cause) -> Finding
@@ -32,7 +44,7 @@ fn of_part(part: Part, block: u32, cause: Cause) -> Finding
 // Judges a part that is next, and notes what is wrong: the part where it is to be taken; else it is passed over.
 fn judge_next(image: &Image<'_>, found: &mut Found, ask: &Ask) -> Result<Option<Part>, NoMemory>
     requires { length found.old.nodes.items < 2 ^ 32 }
-    ensures { IfOk result (λ o. (s : Course) → IsCourse image.now s → Stands image.now found.old s
+    ensures { IfOk result (λ o. (s : Course) → Holds image.now found.old (key_of (role_of ask.now.part)) s
         → IsNextAsk image.now s ask.now
         → IsOutcome image.now s ask.now found.old found.new o) }
 {
@@ -47,75 +59,213 @@ fn judge_next(image: &Image<'_>, found: &mut Found, ask: &Ask) -> Result<Option<
         }
         Judgement::Passed(at, cause) => {
             found.note(of_part(part, at, cause))?;
-            found.pass(part, b)?;
+            found.pass(b);
             Ok(None)
         }
     }
 }
 
-// Whether a part of this key is taken or passed over.
-fn is_settled(found: &Found, key: Key) -> bool
-    ensures { result
-        ≡ (is_some (get by_key found.now.taken key) || is_some (get by_key found.now.passed key)) }
-{
-    found.taken.contains_key(&key) || found.passed.contains_key(&key)
-}
-
-// Takes a part in block `b`, and asks for what it asks for.
-fn take(
+// Goes on with a part that word `i` of block `holder` names: its block where it is taken, none where it is passed over.
+fn go_on(
     image: &Image<'_>,
     found: &mut Found,
-    asked: &mut Asked,
     part: Part,
+    holder: u32,
+    i: usize,
+) -> Result<Option<u32>, NoMemory>
+    requires word { i < 128 }
+    requires due { IsDue image.now found.old part holder i }
+    ensures gone { IfOk result (λ o. (s : Course) → IsNamed image.now found.old part holder i s
+        → IsGoneOn image.now s part holder i found.new o) }
+    ensures left { IfOk result (λ o. IfSome o (λ b. found.new.left < found.old.left)) }
+{
+    let ask = Ask {
+        part,
+        holder,
+        block: image.word(holder, i),
+    };
+    match judge_next(image, found, &ask)? {
+        Some(part) => {
+            found.take(image, part, ask.block)?;
+            Ok(Some(ask.block))
+        }
+        None => Ok(None),
+    }
+}
+
+// The word that names a page, of the root or of a bitmap extension block.
+fn page_word(page: u32) -> usize
+    ensures named { result ≡ page_word page }
+    ensures inside { result < 128 }
+{
+    let page = page as usize;
+    if page < ROOT_PAGES {
+        FIRST_PAGE + page
+    } else {
+        (page - ROOT_PAGES) % MAP_EXT_PAGES
+    }
+}
+
+// The word that names the bitmap extension block before a page, of the root or of the extension block before.
+fn map_ext_word(page: u32) -> usize
+    ensures named { result ≡ map_ext_word page }
+    ensures inside { result < 128 }
+{
+    if page as usize == ROOT_PAGES {
+        FIRST_MAP_EXT
+    } else {
+        MAP_EXT_NEXT
+    }
+}
+
+// The block that names a page: the one that named the page before, or the bitmap extension block that comes next; none where that
+// is passed over.
+fn holder_of(
+    image: &Image<'_>,
+    found: &mut Found,
+    page: u32,
+    before: u32,
+) -> Result<Option<u32>, NoMemory>
+    requires some { page < pages_needed (blocks image.now) }
+    requires at { IsAtPage image.now found.old page before }
+    ensures { IfOk result (λ o. IsPageNamed image.now found.new page o) }
+{
+    let first = ROOT_PAGES as u32;
+    let pages = MAP_EXT_PAGES as u32;
+    if page < first || (page - first) % pages != 0 {
+        return Ok(Some(before));
+    }
+    let part = Part::MapExt((page - first) / pages);
+    let holder = go_on(image, found, part, before, map_ext_word(page))?;
+    Ok(holder)
+}
+
+// Goes through the pages of the bitmap and the bitmap extension blocks.
+fn go_through_map(image: &Image<'_>, found: &mut Found) -> Result<(), NoMemory>
+    requires { IsAtPage image.now found.old 0 (root_of image.now) }
+    ensures { OnOk result (IsAt image.now found.new (before_node 0)) }
+{
+    let mut holder = image.root();
+    for page in 0..page_count(image.blocks()) {
+        match holder_of(image, found, page, holder)? {
+            Some(at) => holder = at,
+            None => return Ok(()),
+        }
+        go_on(image, found, Part::Page(page), holder, page_word(page))?;
+    }
+    Ok(())
+}
+
+// Goes through the chain of a slot of a directory.
+fn go_through_chain(
+    image: &Image<'_>,
+    found: &mut Found,
+    parent: u32,
+    slot: u8,
     b: u32,
 ) -> Result<(), NoMemory>
-    requires inside { b < blocks image.now }
-    requires marks { length found.old.owned.items ≡ blocks image.now }
-    requires some { 1 ≤ found.old.left }
-    requires room { HasRoom image.now part }
-    ensures taken { OnOk result (IsTaken image.now part b found.old found.new) }
-    ensures keeps { OnOk result (Keeps asked.old.parts asked.new.parts) }
-    ensures has { OnOk result ((k : Key)
-        → NewAsk image.now (role_of part) b (around_in image.now found.old part).up k
-        → HasKey asked.new.parts k) }
-    ensures adds { OnOk result ((w : List (Role × ℕ)) (most : ℕ)
-        → Allows image.now w most part b (around_in image.now found.old part).up
-        → AddsAsked image.now w most asked.old.parts asked.new.parts) }
+    requires slot { slot < SLOTS }
+    requires at { IsInDir image.now found.old parent slot b }
+    ensures { OnOk result (IsInDir image.now found.new parent (slot + 1) b) }
 {
-    let up = found.around(image, part).up;
-    found.take(image, part, b)?;
-    asked.ask_of(image, part, b, up)
-}
-
-// Judges parts until one is taken; whether one was.
-fn take_next(image: &Image<'_>, found: &mut Found, asked: &mut Asked) -> Result<bool, NoMemory>
-    requires few { blocks image.now ≤ 1048576 }
-    requires state { IsOnCourse image.now found.old asked.old.parts }
-    ensures state { OnOk result (IsOnCourse image.now found.new asked.new.parts) }
-    ensures less { IfOk result (λ t. t ≡ true → found.new.left < found.old.left) }
-    ensures none { IfOk result (λ t. t ≡ false → (k : Key) → HasKey asked.new.parts k → ⊥) }
-{
-    while let Some((key, ask)) = asked.parts.pop_first() {
-        if is_settled(found, key) {
-            continue;
+    let mut holder = b;
+    let mut i = FIRST_SLOT + slot as usize;
+    let mut place = 0;
+    while image.word(holder, i) != 0 {
+        let part = Part::Head {
+            node: 0,
+            parent,
+            slot,
+            place,
+        };
+        match go_on(image, found, part, holder, i)? {
+            Some(header) => holder = header,
+            None => return Ok(()),
         }
-        match judge_next(image, found, &ask)? {
-            Some(part) => {
-                take(image, found, asked, part, ask.block)?;
-                return Ok(true);
-            }
-            None => (),
-        }
+        i = NEXT_IN_CHAIN;
+        place += 1;
     }
-    Ok(false)
+    Ok(())
 }
 
-/// Judges parts until nothing is next.
-pub fn run(image: &Image<'_>, found: &mut Found, asked: &mut Asked) -> Result<(), NoMemory>
-    requires few { blocks image.now ≤ 1048576 }
-    requires state { IsOnCourse image.now found.old asked.old.parts }
+// Goes through the chains of a directory, at block `b`.
+fn go_through_dir(image: &Image<'_>, found: &mut Found, node: u32, b: u32) -> Result<(), NoMemory>
+    requires { IsInDir image.now found.old node 0 b }
+    ensures { OnOk result (IsAt image.now found.new (before_node (node + 1))) }
+{
+    for slot in 0..SLOTS as u8 {
+        go_through_chain(image, found, node, slot, b)?;
+    }
+    Ok(())
+}
+
+// Goes through the extension blocks of a file, with its header at block `b`; how many are taken.
+fn go_through_exts(image: &Image<'_>, found: &mut Found, node: u32, b: u32) -> Result<u32, NoMemory>
+    requires { IsAtFile image.now found.old node b }
+    ensures datas { IfOk result (λ exts. IsInDatas image.now found.new node b exts 0) }
+    ensures few { IfOk result (λ exts. exts ≤ 1048576) }
+{
+    let mut holder = b;
+    let mut exts = 0;
+    while image.word(holder, EXTENSION) != 0 {
+        match go_on(image, found, Part::Ext(node, exts + 1), holder, EXTENSION)? {
+            Some(ext) => holder = ext,
+            None => return Ok(exts),
+        }
+        exts += 1;
+    }
+    Ok(exts)
+}
+
+// Goes through the data blocks of a file, with its header at block `b` and so many extension blocks.
+fn go_through_datas(
+    image: &Image<'_>,
+    found: &mut Found,
+    node: u32,
+    b: u32,
+    exts: u32,
+) -> Result<(), NoMemory>
+    requires few { exts ≤ 1048576 }
+    requires at { IsInDatas image.now found.old node b exts 0 }
+    ensures { OnOk result (IsAt image.now found.new (before_node (node + 1))) }
+{
+    let pointers = POINTERS as u32;
+    for k in 0..found.data_count(image, b).min(pointers * (exts + 1)) {
+        let table = found.member_block(node, k / pointers);
+        let i = FIRST_POINTER - (k % pointers) as usize;
+        go_on(image, found, Part::Data(node, k + 1), table, i)?;
+    }
+    Ok(())
+}
+
+// Goes through what a node has: the chains of a directory, or the blocks of a file.
+fn go_through_node(image: &Image<'_>, found: &mut Found, node: u32) -> Result<(), NoMemory>
+    requires some { node < length found.old.nodes.items }
+    requires at { IsAt image.now found.old (before_node node) }
+    ensures { OnOk result (IsAt image.now found.new (before_node (node + 1))) }
+{
+    let b = found.node_block(node);
+    let kind = image.word(b, SECONDARY_TYPE);
+    if node == 0 || kind == ST_DIR {
+        go_through_dir(image, found, node, b)
+    } else if kind == ST_FILE {
+        let exts = go_through_exts(image, found, node, b)?;
+        go_through_datas(image, found, node, b, exts)
+    } else {
+        Ok(())
+    }
+}
+
+/// Goes through the parts of a volume, until nothing is next.
+pub fn run(image: &Image<'_>, found: &mut Found) -> Result<(), NoMemory>
+    requires { IsAtPage image.now found.old 0 (root_of image.now) }
     ensures { OnOk result (IsFinished image.now found.new) }
 {
-    while take_next(image, found, asked)? {}
+    go_through_map(image, found)?;
+    let mut node = 0;
+    while (node as usize) < found.nodes.len() {
+        go_through_node(image, found, node)?;
+        node += 1;
+    }
     Ok(())
 }

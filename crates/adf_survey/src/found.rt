@@ -3,50 +3,66 @@
 ghost use Rattle.std.specs.Prelude.{◌≡◌, ◌≤◌, ◌<◌, ◌+◌, ℕ, List, [], ◌∷◌, ◌++◌, IfOk, OnOk, Some, None};
 ghost use Rattle.std.specs.Prelude.{length, false, true, not, slice_index, slice_index_or, slice_set, map};
 ghost use Rattle.std.specs.Ordering.{nat_cmp};
-ghost use Rattle.std.specs.BTreeMap.{Updates};
+ghost use Rattle.std.specs.BTreeMap.{Updates, get};
 ghost use Rattle.adf_tree.specs.Texts.{uppers};
-ghost use Rattle.adf_blocks.specs.Sizes.{blocks};
+ghost use Rattle.adf_blocks.specs.Sizes.{blocks, count};
 ghost use Rattle.adf_volume.specs.Image.{name_of, root_of, word_in};
 ghost use Rattle.adf_volume.specs.Walk.{Role, data_count};
 ghost use Rattle.adf_volume.specs.Start.{IsBegun};
 ghost use Rattle.adf_survey.specs.Parts.{by_key, key_of, role_of, told};
-ghost use Rattle.adf_survey.specs.Found.{AreNamed, AreSame, Stands, IsKept, IsNoted, IsOwned, IsPassed};
-ghost use Rattle.adf_survey.specs.Found.{IsTaken, KeepsParts, around_in, begun, by_name, enough_in};
-ghost use Rattle.adf_survey.specs.Found.{exts_found, member_in, new_in, next_in};
+ghost use Rattle.adf_survey.specs.Found.{AreNamed, AreSame, Stands, IsChain, IsKept, IsNoted, IsOwned, IsPassed};
+ghost use Rattle.adf_survey.specs.Found.{IsPut, IsTaken, KeepsParts, around_in, begun, by_name, enough_in};
+ghost use Rattle.adf_survey.specs.Found.{exts_found, known_at, member_in, new_in, next_in, with_data};
+ghost use Rattle.std.specs.Global.{Vec};
 
-use crate::asked::count_of;
 use crate::forms::Around;
 use crate::judge::Facts;
 use crate::part::{Finding, Key, Part};
-use adf_blocks::{FIRST_POINTER, NAME, POINTERS, SIZE};
+use adf_blocks::{FIRST_POINTER, NAME, POINTERS, SIZE, data_count};
 use adf_fields::{NoMemory, upper};
+use adf_tree::Kind;
 use adf_volume::Image;
 use std::alloc::Global;
 use std::collections::BTreeMap;
 
-/// A name without the case of `a` to `z`, in the chain of a slot of a directory.
-#[derive(PartialEq, Eq, PartialOrd, Ord, Drop)]
-pub struct ChainName {
-    pub parent: u32,
-    pub slot: u8,
-    pub name: Vec<u8>,
+/// A data block that is taken: the node of its file, and the block.
+#[derive(Clone, Copy, PartialEq, Eq, Drop)]
+pub struct DataBlock {
+    pub node: u32,
+    pub block: u32,
 }
 
-/// What is found so far: the blocks of the parts that are taken and of those that are passed over, by their keys; by block, whether
+/// Where a header stands in its directory: the slot, and the place in the slot's chain.
+#[derive(Clone, Copy, PartialEq, Eq, Drop)]
+pub struct ChainPlace {
+    pub slot: u8,
+    pub place: u32,
+}
+
+/// What is found so far: the blocks of the parts that are taken, but for headers and data blocks, by their keys; by block, whether
 /// it is taken, and whether it was passed over; how many blocks are not taken; the blocks of nodes by number; how many extension
-/// blocks of a file are taken; the headers by their names; what is wrong; and the nodes of the directories of nodes.
+/// blocks of a file are taken; the headers of the chain that is gone through, by their names; what is wrong; the nodes of the
+/// directories of nodes; the places of headers, from node 1 on; and the data blocks that are taken.
 #[derive(Drop)]
 pub struct Found {
     pub taken: BTreeMap<Key, u32>,
-    pub passed: BTreeMap<Key, u32>,
     pub owned: Vec<bool>,
     pub avoided: Vec<bool>,
     pub left: u32,
     pub nodes: Vec<u32>,
     pub exts: BTreeMap<u32, u32>,
-    pub names: BTreeMap<ChainName, u32>,
+    pub names: BTreeMap<Vec<u8>, u32>,
     pub findings: Vec<Finding>,
     pub parents: Vec<u32>,
+    pub places: Vec<ChainPlace>,
+    pub datas: Vec<DataBlock>,
+}
+
+/// The data blocks of a file of so many bytes.
+pub fn count_of(kind: Kind, size: u32) -> u32
+    ensures { result ≡ count kind size }
+{
+    data_count(kind, size as usize) as u32
 }
 
 // The name of the header at block `b`, without the case of `a` to `z`.
@@ -64,23 +80,6 @@ fn upper_name(alloc: Global, image: &Image<'_>, b: u32) -> Result<Vec<u8>, NoMem
         }
     }
     Ok(name)
-}
-
-// A name in a chain, of the header at block `b`.
-fn chain_name(
-    alloc: Global,
-    image: &Image<'_>,
-    parent: u32,
-    slot: u8,
-    b: u32,
-) -> Result<ChainName, NoMemory>
-    requires { b < blocks image.now }
-    ensures parent { IfOk result (λ q. q.parent ≡ parent) }
-    ensures slot { IfOk result (λ q. q.slot ≡ slot) }
-    ensures name { IfOk result (λ q. q.name.items ≡ uppers (name_of image.now b)) }
-{
-    let name = upper_name(alloc, image, b)?;
-    Ok(ChainName { parent, slot, name })
 }
 
 // A map with one entry more.
@@ -115,7 +114,6 @@ impl Found {
         };
         let mut found = Found {
             taken: BTreeMap::new(alloc),
-            passed: BTreeMap::new(alloc),
             owned,
             avoided,
             left: blocks,
@@ -124,6 +122,8 @@ impl Found {
             names: BTreeMap::new(alloc),
             findings: Vec::new(alloc),
             parents,
+            places: Vec::new(alloc),
+            datas: Vec::new(alloc),
         };
         found.own(Part::Root, root)?;
         match found.nodes.push(root) {
@@ -147,7 +147,7 @@ impl Found {
     }
 
     // The block of member `m` of the header of a file and its extension blocks, 0 where there is none.
-    fn member_block(&self, node: u32, m: u32) -> u32
+    pub fn member_block(&self, node: u32, m: u32) -> u32
         ensures { result ≡ member_in self.now node m }
     {
         if m == 0 {
@@ -158,7 +158,7 @@ impl Found {
     }
 
     // How many data blocks the file at block `head` has.
-    fn data_count(&self, image: &Image<'_>, head: u32) -> u32
+    pub fn data_count(&self, image: &Image<'_>, head: u32) -> u32
         ensures { result ≡ data_count image.now head }
     {
         count_of(image.kind(), image.word(head, SIZE))
@@ -212,16 +212,18 @@ impl Found {
     // Whether no header of the chain has the name of the one at block `b`, where the part is a header.
     fn is_new(&self, image: &Image<'_>, part: Part, b: u32) -> Result<bool, NoMemory>
         requires { b < blocks image.now }
-        ensures { IfOk result (λ t. (w : List (Role × ℕ)) → AreNamed image.now w self.now.names
-            → t ≡ new_in image.now w part b) }
+        ensures { IfOk result (λ t. (w : List (Role × ℕ))
+            → AreNamed image.now w (key_of (role_of part)) self.now.names
+            → IsChain w part → t ≡ new_in image.now w part b) }
     {
-        match part {
-            Part::Head { parent, slot, .. } => {
-                let name = chain_name(*self.nodes.allocator(), image, parent, slot, b)?;
-                Ok(!self.names.contains_key(&name))
-            }
-            _ => Ok(true),
+        let Part::Head { place, .. } = part else {
+            return Ok(true);
+        };
+        if place == 0 {
+            return Ok(true);
         }
+        let name = upper_name(*self.nodes.allocator(), image, b)?;
+        Ok(!self.names.contains_key(&name))
     }
 
     /// What is known of a part in block `b`.
@@ -230,7 +232,8 @@ impl Found {
         ensures absent { IfOk result (λ f.
             f.is_absent ≡ not (slice_index_or self.now.owned.items b false)) }
         ensures new { IfOk result (λ f. b < blocks image.now → (w : List (Role × ℕ))
-            → AreNamed image.now w self.now.names → f.is_new ≡ new_in image.now w part b) }
+            → AreNamed image.now w (key_of (role_of part)) self.now.names
+            → IsChain w part → f.is_new ≡ new_in image.now w part b) }
         ensures around { IfOk result (λ f. f.around ≡ around_in image.now self.now part) }
     {
         let is_new = b >= image.blocks() || self.is_new(image, part, b)?;
@@ -242,6 +245,26 @@ impl Found {
         })
     }
 
+    // Keeps the block of a part by its key, but that of a data block with its file's node; that of a header is its node's.
+    fn keep_block(&mut self, part: Part, b: u32) -> Result<(), NoMemory>
+        ensures taken { OnOk result (IsPut part b self.old.taken self.new.taken) }
+        ensures datas { OnOk result (self.new.datas.items
+            ≡ with_data (role_of part) b self.old.datas.items) }
+        ensures rest { OnOk result (self.new
+            ≡ record self.old { taken = self.new.taken; datas = self.new.datas }) }
+    {
+        match part {
+            Part::Data(node, _) => {
+                if self.datas.push(DataBlock { node, block: b }).is_err() {
+                    return Err(NoMemory);
+                }
+                Ok(())
+            }
+            Part::Head { .. } => Ok(()),
+            _ => put(&mut self.taken, part.key(), b),
+        }
+    }
+
     // Makes block `b` that of a part.
     fn own(&mut self, part: Part, b: u32) -> Result<(), NoMemory>
         requires inside { b < length self.old.owned.items }
@@ -249,10 +272,21 @@ impl Found {
         ensures owned { OnOk result (IsOwned part b self.old self.new) }
         ensures rest { OnOk result (AreSame self.old self.new) }
     {
-        put(&mut self.taken, part.key(), b)?;
+        self.keep_block(part, b)?;
         self.owned[b as usize] = true;
         self.left -= 1;
         Ok(())
+    }
+
+    // Forgets the names of another chain, at the first place of a chain.
+    fn begin_names(&mut self, place: u32)
+        ensures names { (q : Vec ℕ) → get by_name self.new.names q
+            ≡ known_at place (get by_name self.old.names q) }
+        ensures rest { self.new ≡ record self.old { names = self.new.names } }
+    {
+        if place == 0 {
+            self.names.clear();
+        }
     }
 
     // Keeps what is asked of headers and extension blocks later.
@@ -262,10 +296,17 @@ impl Found {
         ensures rest { OnOk result (KeepsParts self.old self.new) }
     {
         match part {
-            Part::Head { parent, slot, .. } => {
-                let name = chain_name(*self.nodes.allocator(), image, parent, slot, b)?;
+            Part::Head {
+                parent,
+                slot,
+                place,
+                ..
+            } => {
+                let name = upper_name(*self.nodes.allocator(), image, b)?;
+                self.begin_names(place);
                 if self.nodes.push(b).is_err()
                     || self.parents.push(parent).is_err()
+                    || self.places.push(ChainPlace { slot, place }).is_err()
                     || self.names.insert(name, b).is_err()
                 {
                     return Err(NoMemory);
@@ -293,15 +334,13 @@ impl Found {
         self.own(part, b)
     }
 
-    /// Passes a part over, in block `b`.
-    pub fn pass(&mut self, part: Part, b: u32) -> Result<(), NoMemory>
-        ensures { OnOk result (IsPassed part b self.old self.new) }
+    /// Passes block `b` over.
+    pub fn pass(&mut self, b: u32)
+        ensures { IsPassed b self.old self.new }
     {
-        put(&mut self.passed, part.key(), b)?;
         if (b as usize) < self.avoided.len() {
             self.avoided[b as usize] = true;
         }
-        Ok(())
     }
 
     /// Notes what is wrong.

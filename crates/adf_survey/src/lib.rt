@@ -1,7 +1,6 @@
 //! Surveys: every part of an image that has a cause, and what of the volume is found all the same.
 #![tactic(auto)]
 
-mod asked;
 mod bits;
 mod course;
 mod file;

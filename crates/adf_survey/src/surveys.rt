@@ -7,7 +7,6 @@ ghost use Rattle.adf_volume.specs.Walk.{Role};
 ghost use Rattle.adf_survey.specs.Parts.{told};
 ghost use Rattle.adf_survey.specs.Survey.{IsSurvey};
 
-use crate::asked::Asked;
 use crate::bits::compare;
 use crate::course::run;
 use crate::found::Found;
@@ -53,9 +52,7 @@ fn go_through<'i>(alloc: Global, image: &Image<'i>) -> Result<Survey<'i>, NoMemo
         × IsSurvey image.now w (map told v.findings)) }
 {
     let mut found = Found::begin(alloc, image)?;
-    let mut asked = Asked::new(alloc);
-    asked.ask_of_root(image)?;
-    run(image, &mut found, &mut asked)?;
+    run(image, &mut found)?;
     compare(image, &mut found)?;
     let concerned = concerned(alloc, &found)?;
     let sound = clear_marks(alloc, image, &found)?;

@@ -1,5 +1,5 @@
 use Rattle.std.proofs.Common.{refl}
-use Rattle.adf_survey.proofs.Asking.{on_ok}
+use Rattle.adf_survey.proofs.Keys.{on_ok}
 use Rattle.adf_survey.proofs.BitSteps.{none_on, some_on}
 use Rattle.adf_survey.proofs.bits.compare_bit.Goals as goal
 

@@ -1,8 +1,10 @@
-use Rattle.adf_survey.specs.Courses.{IsOnCourse}
+use Rattle.std.proofs.Common.{◌-◌, suc}
+use Rattle.adf_blocks.specs.Sizes.{blocks}
+use Rattle.adf_survey.specs.Courses.{IsAt, before_node}
 use Rattle.adf_survey.proofs.course.run.Given as goal
 
-abbrev pub invariant-loop : goal.invariant-loop
-invariant-loop l = IsOnCourse l.image l.found l.asked.parts
+abbrev pub invariant-loop-node : goal.invariant-loop-node
+invariant-loop-node l = IsAt l.image l.found (before_node l.node)
 
-abbrev pub decreases-loop : goal.decreases-loop
-decreases-loop l = l.found.left
+abbrev pub decreases-loop-node : goal.decreases-loop-node
+decreases-loop-node l = suc (blocks l.image) - l.node
