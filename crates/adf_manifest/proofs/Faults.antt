@@ -6,8 +6,8 @@ use Rattle.std.proofs.lemmas.Bool.{cases_order}
 use Rattle.std.proofs.lemmas.List.{append_assoc, same_from_push, take_at, drop_at}
 use Rattle.adf_tree.specs.Tree.{Tree, room_for}
 use Rattle.adf_tree.specs.declared.entry.Kind.{Kind}
-use Rattle.adf_tree.specs.declared.tree.AddFault.{AddFault}
-use Rattle.adf_tree.specs.declared.tree.AddFault.TheVariants as add
+use Rattle.adf_tree.specs.declared.tree.RoomFault.{RoomFault}
+use Rattle.adf_tree.specs.declared.tree.RoomFault.TheVariants as room
 use Rattle.adf_tree.proofs.PathParts.{one_path}
 use Rattle.adf_blocks.specs.Sizes.{is_allowed}
 use Rattle.adf_manifest.specs.Lines.{IsLine, LineValue, LabelLine, StampsLine, EntryLine, NoteLine, RunLine, line_text, volume_line}
@@ -35,26 +35,25 @@ text_good m n (EntryLine sort stamp protect text) g f = f g.path g.reads
 text_good m n (NoteLine text) g f = f g.note g.spells
 text_good m n line g f = f
 
-ok_err : (r : Result ℕ AddFault) (f : AddFault) → IsOk r → r ≡ Err f → ⊥
+ok_err : (r : Result ℕ RoomFault) (f : RoomFault) → IsOk r → r ≡ Err f → ⊥
 ok_err (Ok x) f h e = cc
 ok_err (Err x) f h e = cc
 
-room_good : (m n : Manifest) (line : LineValue) (a : AddFault) → Adds m line n → HasNoRoom (manifest_tree m) line a → ⊥
+room_good : (m n : Manifest) (line : LineValue) (a : RoomFault) → Adds m line n → HasNoRoom (manifest_tree m) line a → ⊥
 room_good m n (EntryLine sort stamp protect text) a g f =
     let same = one_path text g.path f.0 g.reads f.1 in
     ok_err (room_for (manifest_tree m).entries f.0) a (subst (λ p. IsOk (room_for (manifest_tree m).entries p)) same g.room) f.2
 room_good m n line a g f = f
 
 -- the kinds of a later fault
-kind_of : AddFault → ManifestKind
-kind_of add.NoParent = NoParent
-kind_of add.ParentIsFile = ParentIsFile
-kind_of add.Exists = Exists
-kind_of add.NoMemory = NoMemory
-kind_of add.EmptyPath = NoMemory
+kind_of : RoomFault → ManifestKind
+kind_of room.NoParent = NoParent
+kind_of room.ParentIsFile = ParentIsFile
+kind_of room.Exists = Exists
+kind_of room.EmptyPath = BadText
 
 abbrev OfLine : Tree → LineValue → ManifestKind → Type 0
-OfLine tree line kind = ((kind ≡ BadText) × HasBadText line) ⊎ ((a : AddFault) × (kind ≡ kind_of a) × HasNoRoom tree line a)
+OfLine tree line kind = ((kind ≡ BadText) × HasBadText line) ⊎ ((a : RoomFault) × (kind ≡ kind_of a) × HasNoRoom tree line a)
 
 abbrev Later : Manifest → List ℕ → ManifestKind → Type 0
 Later m text kind =
@@ -67,9 +66,9 @@ later_kind : (m : Manifest) (text : List ℕ) (kind : ManifestKind) → IsLaterF
 unfolding kind_of
 later_kind m text BadLine f = inl (refl, f)
 later_kind m text BadText f = inr (next_of m text BadText f, inl (refl, f.fault))
-later_kind m text NoParent f = inr (next_of m text NoParent f, inr (add.NoParent, refl, f.fault))
-later_kind m text ParentIsFile f = inr (next_of m text ParentIsFile f, inr (add.ParentIsFile, refl, f.fault))
-later_kind m text Exists f = inr (next_of m text Exists f, inr (add.Exists, refl, f.fault))
+later_kind m text NoParent f = inr (next_of m text NoParent f, inr (room.NoParent, refl, f.fault))
+later_kind m text ParentIsFile f = inr (next_of m text ParentIsFile f, inr (room.ParentIsFile, refl, f.fault))
+later_kind m text Exists f = inr (next_of m text Exists f, inr (room.Exists, refl, f.fault))
 later_kind m text kind f = absurd f
 
 of_good : (m n : Manifest) (line : LineValue) (kind : ManifestKind) → Adds m line n → OfLine (manifest_tree m) line kind → ⊥
@@ -162,14 +161,14 @@ faultless m all number kind w e (inl f) =
 faultless m all number kind w e (inr f) = later_good f.before m f.text f.rest kind f.well w (sym e ∙ f.lines) f.fault
 
 -- a line has not both a bad text and no room
-text_or_room : (tree : Tree) (line : LineValue) (a : AddFault) → HasBadText line → HasNoRoom tree line a → ⊥
+text_or_room : (tree : Tree) (line : LineValue) (a : RoomFault) → HasBadText line → HasNoRoom tree line a → ⊥
 text_or_room tree (EntryLine sort stamp protect text) a f g = f g.0 g.1
 text_or_room tree line a f g = g
 
-one_err : (r : Result ℕ AddFault) (a b : AddFault) → r ≡ Err a → r ≡ Err b → a ≡ b
+one_err : (r : Result ℕ RoomFault) (a b : RoomFault) → r ≡ Err a → r ≡ Err b → a ≡ b
 one_err r a b e g = cc
 
-one_room : (tree : Tree) (line : LineValue) (a b : AddFault) → HasNoRoom tree line a → HasNoRoom tree line b → a ≡ b
+one_room : (tree : Tree) (line : LineValue) (a b : RoomFault) → HasNoRoom tree line a → HasNoRoom tree line b → a ≡ b
 one_room tree (EntryLine sort stamp protect text) a b f g =
     one_err (room_for tree.entries g.0) a b (ap (λ p. room_for tree.entries p) (sym (one_path text f.0 g.0 f.1 g.1)) ∙ f.2) g.2
 one_room tree line a b f g = absurd f

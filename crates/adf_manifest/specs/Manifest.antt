@@ -9,8 +9,8 @@ use Rattle.adf_tree.specs.Additions.{IsTreeOf}
 use Rattle.adf_tree.specs.Tree.{Tree, room_for}
 use Rattle.adf_tree.specs.declared.entry.Kind.{Kind}
 use Rattle.adf_tree.specs.declared.entry.Stamps.{Stamps}
-use Rattle.adf_tree.specs.declared.tree.AddFault.{AddFault}
-use Rattle.adf_tree.specs.declared.tree.AddFault.TheVariants as add
+use Rattle.adf_tree.specs.declared.tree.RoomFault.{RoomFault}
+use Rattle.adf_tree.specs.declared.tree.RoomFault.TheVariants as room
 use Rattle.adf_blocks.specs.Sizes.{is_allowed}
 use Rattle.adf_tree.specs.Bounds.{AreStamps}
 use Rattle.adf_manifest.specs.Lines.{IsLine, IsVolumeLine, LineValue, LabelLine, StampsLine, EntryLine, NoteLine, RunLine, label_line, line_text, stamps_line}
@@ -148,7 +148,7 @@ HasBadText (NoteLine text) = (note : List ℕ) → ¬ IsSpelling 79 text note
 HasBadText (RunLine run) = ⊥
 
 -- the path of an entry line has no room in the tree of the lines before
-abbrev pub HasNoRoom : Tree → LineValue → AddFault → Type 0
+abbrev pub HasNoRoom : Tree → LineValue → RoomFault → Type 0
 HasNoRoom tree (EntryLine sort stamp protect text) f = (path : List (List ℕ)) × IsPathText text path × (room_for tree.entries path ≡ Err f)
 HasNoRoom tree (LabelLine text) f = ⊥
 HasNoRoom tree (StampsLine stamps) f = ⊥
@@ -158,9 +158,9 @@ HasNoRoom tree (RunLine run) f = ⊥
 -- the fault of a line that may stand at its place, behind lines that tell a tree
 abbrev pub IsFaultOf : Tree → LineValue → ManifestKind → Type 0
 IsFaultOf tree line BadText = HasBadText line
-IsFaultOf tree line NoParent = HasNoRoom tree line add.NoParent
-IsFaultOf tree line ParentIsFile = HasNoRoom tree line add.ParentIsFile
-IsFaultOf tree line Exists = HasNoRoom tree line add.Exists
+IsFaultOf tree line NoParent = HasNoRoom tree line room.NoParent
+IsFaultOf tree line ParentIsFile = HasNoRoom tree line room.ParentIsFile
+IsFaultOf tree line Exists = HasNoRoom tree line room.Exists
 IsFaultOf tree line _ = ⊥
 
 -- the fault of a first line

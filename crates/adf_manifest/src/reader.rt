@@ -16,7 +16,7 @@ use crate::tokens::{after, read_number};
 use adf_blocks::is_allowed_size;
 use adf_fields::{NoMemory, Stamp};
 use adf_tree::{
-    AddFault, Body, Bytes, Comment, Draft, Kind, Label, Meta, PathFault, Room, Stamps, Tree,
+    Body, Bytes, Comment, Draft, Kind, Label, Meta, PathFault, Room, RoomFault, Stamps, Tree,
     read_path,
 };
 use std::alloc::Global;
@@ -186,11 +186,10 @@ fn opened(alloc: Global, draft: &Draft, line: EntryText) -> Result<Open, Manifes
             note: None,
             bytes: Vec::new(alloc),
         }),
-        Err(AddFault::NoParent) => Err(ManifestKind::NoParent),
-        Err(AddFault::ParentIsFile) => Err(ManifestKind::ParentIsFile),
-        Err(AddFault::Exists) => Err(ManifestKind::Exists),
-        Err(AddFault::EmptyPath) => Err(ManifestKind::BadText),
-        Err(AddFault::NoMemory) => Err(ManifestKind::NoMemory),
+        Err(RoomFault::EmptyPath) => Err(ManifestKind::BadText),
+        Err(RoomFault::NoParent) => Err(ManifestKind::NoParent),
+        Err(RoomFault::ParentIsFile) => Err(ManifestKind::ParentIsFile),
+        Err(RoomFault::Exists) => Err(ManifestKind::Exists),
     }
 }
 

@@ -12,8 +12,8 @@ use Rattle.adf_tree.specs.declared.entry.Entry.{Entry}
 use Rattle.adf_tree.specs.declared.entry.Meta.{Meta}
 use Rattle.adf_tree.specs.declared.entry.Body.{Body}
 use Rattle.adf_tree.specs.declared.entry.Body.TheVariants.{Dir, File}
-use Rattle.adf_tree.specs.declared.tree.AddFault.{AddFault}
-use Rattle.adf_tree.specs.declared.tree.AddFault.TheVariants.{NoParent, ParentIsFile, Exists, NoMemory, EmptyPath}
+use Rattle.adf_tree.specs.declared.tree.RoomFault.{RoomFault}
+use Rattle.adf_tree.specs.declared.tree.RoomFault.TheVariants.{EmptyPath, NoParent, ParentIsFile, Exists}
 use Rattle.adf_tree.specs.Texts.{uppers}
 use Rattle.adf_tree.specs.Tree.{is_child, child, is_dir, is_dir_body, directory_from, room_at, free_in, added, IsDir, IsTree, AreApart, MayAdd, Tree}
 use Rattle.adf_tree.specs.Tree.{new_entry, with_entry, last_of, parents_of, room_for}
@@ -37,14 +37,14 @@ is_dir_says es n h some =
 
 -- a path of directories leads to one
 pub next_dir : (es : List Entry) (names : List (List ℕ)) (q : ℕ) (o : Option ℕ)
-    → (let r : Result ℕ AddFault =
+    → (let r : Result ℕ RoomFault =
     elim o [ None ↦ Err NoParent | Some n ↦ if is_dir es n then directory_from es n names else Err ParentIsFile ] in r ≡ Ok q)
     → (n : ℕ) × (o ≡ Some n) × (is_dir es n ≡ true) × (directory_from es n names ≡ Ok q)
 next_dir es names q None h = cc
 next_dir es names q (Some n) h =
     elim (cases_Bool (is_dir es n)) [
       | inl t ↦ (n, refl, t, rw t at h)
-      | inr f ↦ let g : (let r : Result ℕ AddFault = Err ParentIsFile in r ≡ Ok q) = rw f at h in cc
+      | inr f ↦ let g : (let r : Result ℕ RoomFault = Err ParentIsFile in r ≡ Ok q) = rw f at h in cc
     ]
 
 pub directory_is_dir : (es : List Entry) (p : ℕ) (names : List (List ℕ)) (q : ℕ) → directory_from es p names ≡ Ok q → IsDir es p → IsDir es q
@@ -63,7 +63,7 @@ free_says : (p q : ℕ) (o : Option ℕ) → free_in p o ≡ Ok q → (p ≡ q) 
 free_says p q None h = (cc, refl)
 free_says p q (Some n) h = cc
 
-pub room_says : (es : List Entry) (e : Entry) (r : Result ℕ AddFault) → room_at es e.name r ≡ Ok e.parent
+pub room_says : (es : List Entry) (e : Entry) (r : Result ℕ RoomFault) → room_at es e.name r ≡ Ok e.parent
     → (r ≡ Ok e.parent) × (child es e.parent e.name ≡ None)
 room_says es e (Ok p) h =
     let both = free_says p e.parent (child es p e.name) h in
@@ -99,7 +99,7 @@ pub record IsNew (es : List Entry) (path : List (List ℕ)) (meta : Meta) (body 
 -- the room of a path whose last name is found at its place
 pub room_is : (es : List Entry) (path : List (List ℕ)) (x name : List ℕ) (p : ℕ) → (length path == 0) ≡ false
     → x ≡ get_or path (length path - 1) x → name ≡ x
-    → (let r : Result ℕ AddFault = Ok p in r ≡ room_at es name (directory_from es 0 (parents_of path)))
+    → (let r : Result ℕ RoomFault = Ok p in r ≡ room_at es name (directory_from es 0 (parents_of path)))
     → (name ≡ last_of path) × (room_for es path ≡ Ok p)
 room_is es path x name p some at same ok =
     let lt : length path - 1 < length path = omega (arith, eqb-false (length path) 0 some) in
@@ -111,7 +111,7 @@ pub new_in_room : (es : List Entry) (path : List (List ℕ)) (meta : Meta) (body
     → room_for es path ≡ Ok p → IsNew es path meta body (record { parent = p; name = name; meta = meta; body = body })
 new_in_room es path meta body name p last room =
     elim (cases_Bool (length path == 0)) [
-      | inl none ↦ let bad : (let r : Result ℕ AddFault = Err EmptyPath in r ≡ Ok p) = rw none at room in absurd cc
+      | inl none ↦ let bad : (let r : Result ℕ RoomFault = Err EmptyPath in r ≡ Ok p) = rw none at room in absurd cc
       | inr some ↦
           record {
             is = whole_path path [] some ∙ ap (λ y. parents_of path ++ y ∷ []) (sym last);
@@ -122,7 +122,7 @@ new_in_room es path meta body name p last room =
 
 pub is_new : (es : List Entry) (path : List (List ℕ)) (meta : Meta) (body : Body) (x name : List ℕ) (p : ℕ) → (length path == 0) ≡ false
     → x ≡ get_or path (length path - 1) x → name ≡ x
-    → (let r : Result ℕ AddFault = Ok p in r ≡ room_at es name (directory_from es 0 (parents_of path)))
+    → (let r : Result ℕ RoomFault = Ok p in r ≡ room_at es name (directory_from es 0 (parents_of path)))
     → IsNew es path meta body (record { parent = p; name = name; meta = meta; body = body })
 is_new es path meta body x name p some at same ok =
     let both = room_is es path x name p some at same ok in
@@ -136,39 +136,38 @@ tree_left t entries e true path meta body h same = rw (h, same)
 tree_left t entries e false path meta body h same = rw h
 
 -- why a path with a name has no room: its parent is none, or it exists
-abbrev pub SaysNoRoom : AddFault → Type 0
-SaysNoRoom NoMemory = ⊥
+abbrev pub SaysNoRoom : RoomFault → Type 0
 SaysNoRoom EmptyPath = ⊥
 SaysNoRoom _ = Unit {0}
 
-next_says : (es : List Entry) (names : List (List ℕ)) (f : AddFault) (o : Option ℕ)
+next_says : (es : List Entry) (names : List (List ℕ)) (f : RoomFault) (o : Option ℕ)
     → ((n : ℕ) → directory_from es n names ≡ Err f → SaysNoRoom f)
-    → (let r : Result ℕ AddFault =
+    → (let r : Result ℕ RoomFault =
     elim o [ None ↦ Err NoParent | Some n ↦ if is_dir es n then directory_from es n names else Err ParentIsFile ] in r ≡ Err f) → SaysNoRoom f
 next_says es names f None more h = let same : NoParent ≡ f = cc in subst SaysNoRoom same tt
 next_says es names f (Some n) more h =
     elim (cases_Bool (is_dir es n)) [
       | inl t ↦ more n (rw t at h)
       | inr file ↦
-          let g : (let r : Result ℕ AddFault = Err ParentIsFile in r ≡ Err f) = rw file at h in
+          let g : (let r : Result ℕ RoomFault = Err ParentIsFile in r ≡ Err f) = rw file at h in
           let same : ParentIsFile ≡ f = cc in
           subst SaysNoRoom same tt
     ]
 
-directory_says : (es : List Entry) (names : List (List ℕ)) (f : AddFault) (p : ℕ) → directory_from es p names ≡ Err f → SaysNoRoom f
+directory_says : (es : List Entry) (names : List (List ℕ)) (f : RoomFault) (p : ℕ) → directory_from es p names ≡ Err f → SaysNoRoom f
 directory_says es [] f p h = cc
 directory_says es (name ∷ names) f p h = next_says es names f (child es p name) (directory_says es names f) h
 
-taken_says : (p : ℕ) (o : Option ℕ) (f : AddFault) → free_in p o ≡ Err f → SaysNoRoom f
+taken_says : (p : ℕ) (o : Option ℕ) (f : RoomFault) → free_in p o ≡ Err f → SaysNoRoom f
 taken_says p None f h = cc
 taken_says p (Some n) f h = let same : Exists ≡ f = cc in subst SaysNoRoom same tt
 
-room_says_why : (es : List Entry) (name : List ℕ) (f : AddFault) (r : Result ℕ AddFault) → ((g : AddFault) → r ≡ Err g → SaysNoRoom g)
+room_says_why : (es : List Entry) (name : List ℕ) (f : RoomFault) (r : Result ℕ RoomFault) → ((g : RoomFault) → r ≡ Err g → SaysNoRoom g)
     → room_at es name r ≡ Err f → SaysNoRoom f
 room_says_why es name f (Err g) why h = let same : g ≡ f = cc in subst SaysNoRoom same (why g refl)
 room_says_why es name f (Ok p) why h =
     taken_says p (child es p name) f h
 
-pub no_room : (es : List Entry) (path : List (List ℕ)) (f : AddFault) → 0 < length path → room_for es path ≡ Err f → SaysNoRoom f
+pub no_room : (es : List Entry) (path : List (List ℕ)) (f : RoomFault) → 0 < length path → room_for es path ≡ Err f → SaysNoRoom f
 no_room es path f some h =
     room_says_why es (last_of path) f (directory_from es 0 (parents_of path)) (λ g. directory_says es (parents_of path) g 0) (rw (ne_eqb (length path) 0 (omega arith)) at h)

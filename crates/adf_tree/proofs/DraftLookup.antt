@@ -5,8 +5,8 @@ use Rattle.std.specs.Prelude.{option_map}
 use Rattle.std.proofs.lemmas.Bool.{cases_eq, ne_eqb}
 use Rattle.std.proofs.lemmas.List.{drop_more}
 use Rattle.adf_tree.specs.declared.entry.Entry.{Entry}
-use Rattle.adf_tree.specs.declared.tree.AddFault.{AddFault}
-use Rattle.adf_tree.specs.declared.tree.AddFault.TheVariants.{NoParent, ParentIsFile}
+use Rattle.adf_tree.specs.declared.tree.RoomFault.{RoomFault}
+use Rattle.adf_tree.specs.declared.tree.RoomFault.TheVariants.{NoParent, ParentIsFile}
 use Rattle.adf_tree.specs.Texts.{uppers}
 use Rattle.adf_tree.specs.Tree.{directory_from, is_dir, is_dir_body}
 use Rattle.adf_tree.specs.ChildMap.{number_in, Numbers}
@@ -32,7 +32,7 @@ dir_same drafts w m h le =
     ]
 
 -- one name of a path
-abbrev past : List Entry → List (List ℕ) → Option ℕ → Result ℕ AddFault
+abbrev past : List Entry → List (List ℕ) → Option ℕ → Result ℕ RoomFault
 past es names o = elim o [ None ↦ Err NoParent | Some n ↦ if is_dir es n then directory_from es n names else Err ParentIsFile ]
 
 -- what a look-up says of the next name of a path

@@ -2,7 +2,7 @@
 use Rattle.std.specs.Prelude.{◌≡◌, ℕ, ◌+◌, ◌-◌, ◌<◌, ◌≤◌, List, [], ◌∷◌, ◌++◌, Some, Result, Ok, Err, option_map, length, map, fold, slice_index_or}
 use Rattle.adf_tree.specs.Texts.{uppers}
 use Rattle.adf_tree.specs.declared.entry.Entry.{Entry}
-use Rattle.adf_tree.specs.declared.tree.AddFault.{AddFault}
+use Rattle.adf_tree.specs.declared.tree.RoomFault.{RoomFault}
 use Rattle.adf_tree.specs.declared.draft.Room.{Room}
 use Rattle.adf_tree.specs.declared.entry.Kind.{Kind}
 use Rattle.adf_tree.specs.declared.entry.Stamps.{Stamps}
@@ -81,6 +81,6 @@ pub record IsRoomFor (d : DraftValue) (path : List (List ℕ)) (room : Room) : T
   pub leads : room_for d.tree.entries path ≡ Ok (node_of d.nodes room.parent)
 
 -- a directory among the additions, as the tree numbers it
-abbrev pub room_in_tree : List ℕ → Result ℕ AddFault → Result ℕ AddFault
+abbrev pub room_in_tree : List ℕ → Result ℕ RoomFault → Result ℕ RoomFault
 room_in_tree nodes (Ok m) = Ok (node_of nodes m)
 room_in_tree nodes (Err f) = Err f

@@ -2,8 +2,17 @@
 use Rattle.std.specs.Prelude.{ℕ, List, codes}
 use Rattle.adf_tree.specs.declared.tree.AddFault.{AddFault}
 use Rattle.adf_tree.specs.declared.tree.AddFault.TheVariants as add
+use Rattle.adf_tree.specs.declared.tree.RoomFault.{RoomFault}
+use Rattle.adf_tree.specs.declared.tree.RoomFault.TheVariants as room
 use Rattle.adf_tree.specs.declared.path_texts.PathFault.{PathFault}
 use Rattle.adf_tree.specs.declared.path_texts.PathFault.TheVariants as path
+
+-- why an entry is not added under a path that has no room
+abbrev pub add_fault : RoomFault → AddFault
+add_fault room.EmptyPath = add.EmptyPath
+add_fault room.NoParent = add.NoParent
+add_fault room.ParentIsFile = add.ParentIsFile
+add_fault room.Exists = add.Exists
 
 -- the number of a reason why an entry is not added, 1 to 5
 abbrev pub add_fault_number : AddFault → ℕ

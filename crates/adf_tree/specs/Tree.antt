@@ -1,6 +1,6 @@
 -- Trees and their chains.
 use Rattle.std.specs.Prelude.{◌≡◌, ℕ, ◌+◌, ◌-◌, ◌*◌, ◌<◌, ◌≤◌, ◌≢◌, ◌==◌, ◌&&◌, nat_lt, nat_le, Bool, List, [], ◌∷◌, ◌++◌, if◌then◌else◌, length, map, take}
-use Rattle.std.specs.Prelude.{drop, Option, Some, None, slice_index_or, position, option_map, ◌||◌, true, false, Result, Ok, Err, IsOk, MatchResult, ◌⊎◌}
+use Rattle.std.specs.Prelude.{drop, Option, Some, None, slice_index_or, position, option_map, ◌||◌, true, false, Result, Ok, Err, IsOk, MatchResult}
 use Rattle.std.specs.List.{position_or_len, All, AllPairs, slice_get}
 use Rattle.std.specs.List.Sorted.{IsNonDecreasingBy}
 use Rattle.std.specs.Str.{bytes_eq}
@@ -8,8 +8,11 @@ use Rattle.adf_fields.specs.Hash.{slot_of}
 use Rattle.adf_tree.specs.Texts.{uppers}
 use Rattle.adf_tree.specs.declared.entry.Entry.{Entry}
 use Rattle.std.specs.Option.{unwrap_or}
+use Rattle.adf_tree.specs.Faults.{add_fault}
 use Rattle.adf_tree.specs.declared.tree.AddFault.{AddFault}
-use Rattle.adf_tree.specs.declared.tree.AddFault.TheVariants.{NoParent, ParentIsFile, Exists, NoMemory, EmptyPath}
+use Rattle.adf_tree.specs.declared.tree.AddFault.TheVariants.{NoMemory}
+use Rattle.adf_tree.specs.declared.tree.RoomFault.{RoomFault}
+use Rattle.adf_tree.specs.declared.tree.RoomFault.TheVariants.{EmptyPath, NoParent, ParentIsFile, Exists}
 use Rattle.adf_tree.specs.declared.entry.Kind.{Kind}
 use Rattle.adf_tree.specs.declared.entry.Stamps.{Stamps}
 use Rattle.adf_tree.specs.declared.entry.Meta.{Meta}
@@ -98,7 +101,7 @@ abbrev pub find : List Entry → List (List ℕ) → Option ℕ
 find es path = find_from es 0 path
 
 -- the directory that a path leads to from the directory p, or why there is none
-abbrev pub directory_from : List Entry → ℕ → List (List ℕ) → Result ℕ AddFault
+abbrev pub directory_from : List Entry → ℕ → List (List ℕ) → Result ℕ RoomFault
 directory_from es p [] = Ok p
 directory_from es p (name ∷ names) =
     elim (child es p name) [ None ↦ Err NoParent | Some n ↦ if is_dir es n then directory_from es n names else Err ParentIsFile ]
@@ -112,21 +115,21 @@ abbrev pub last_of : List (List ℕ) → List ℕ
 last_of path = slice_index_or path (length path - 1) []
 
 -- the directory p, where nothing is found in it
-abbrev pub free_in : ℕ → Option ℕ → Result ℕ AddFault
+abbrev pub free_in : ℕ → Option ℕ → Result ℕ RoomFault
 free_in p None = Ok p
 free_in p (Some n) = Err Exists
 
 -- the directory, where nothing in it has this name
-abbrev pub room_at : List Entry → List ℕ → Result ℕ AddFault → Result ℕ AddFault
+abbrev pub room_at : List Entry → List ℕ → Result ℕ RoomFault → Result ℕ RoomFault
 room_at es name (Ok p) = free_in p (child es p name)
 room_at es name (Err f) = Err f
 
 -- the directory that a path is added to, or why it is not added
-abbrev pub room_for : List Entry → List (List ℕ) → Result ℕ AddFault
+abbrev pub room_for : List Entry → List (List ℕ) → Result ℕ RoomFault
 room_for es path = if length path == 0 then Err EmptyPath else room_at es (last_of path) (directory_from es 0 (parents_of path))
 
 -- the entry that is added under a path
-abbrev pub in_directory : Result ℕ AddFault → ℕ
+abbrev pub in_directory : Result ℕ RoomFault → ℕ
 in_directory (Ok p) = p
 in_directory (Err _) = 0
 
@@ -151,5 +154,5 @@ abbrev pub with_kind : Tree → Kind → Tree
 with_kind t kind = record t { kind = kind }
 
 -- what `add` may answer: a fault that is there, or NoMemory where there is none
-abbrev pub IsAnswer : Result ℕ AddFault → Result (Unit {0}) AddFault → Type 0
-IsAnswer room r = MatchResult r (λ _. IsOk room) (λ f. (room ≡ Err f) ⊎ ((f ≡ NoMemory) × IsOk room))
+abbrev pub IsAnswer : Result ℕ RoomFault → Result (Unit {0}) AddFault → Type 0
+IsAnswer room r = MatchResult r (λ _. IsOk room) (λ f. MatchResult room (λ _. f ≡ NoMemory) (λ g. f ≡ add_fault g))

@@ -13,7 +13,7 @@ use crate::groups::walked;
 use crate::lookup::is_dir;
 use crate::name::Name;
 use crate::short_text::Label;
-use crate::tree::{AddFault, Tree};
+use crate::tree::{AddFault, RoomFault, Tree};
 use adf_fields::NoMemory;
 use std::alloc::Global;
 use std::marker::Model;
@@ -46,7 +46,7 @@ pub struct Room {
 }
 
 // The directory that the path leads to, by its number among the additions.
-fn directory(entries: &[Entry], children: &ChildMap, path: &[Name]) -> Result<Node, AddFault>
+fn directory(entries: &[Entry], children: &ChildMap, path: &[Name]) -> Result<Node, RoomFault>
     requires { IsDraft entries.now children.now.buckets.items }
     ensures room { directory_from (walk entries.now).entries 0 path.now
         ≡ room_in_tree (walk entries.now).nodes result }
@@ -55,10 +55,10 @@ fn directory(entries: &[Entry], children: &ChildMap, path: &[Name]) -> Result<No
     let mut node = Node(0);
     for name in path {
         match children.get(node, name) {
-            None => return Err(AddFault::NoParent),
+            None => return Err(RoomFault::NoParent),
             Some(n) => {
                 if !is_dir(entries, n) {
-                    return Err(AddFault::ParentIsFile);
+                    return Err(RoomFault::ParentIsFile);
                 }
                 node = n;
             }
@@ -73,7 +73,7 @@ fn free_directory(
     children: &ChildMap,
     path: &[Name],
     name: &Name,
-) -> Result<Node, AddFault>
+) -> Result<Node, RoomFault>
     requires { IsDraft entries.now children.now.buckets.items }
     ensures room { room_at (walk entries.now).entries name.now
         (directory_from (walk entries.now).entries 0 path.now)
@@ -83,7 +83,7 @@ fn free_directory(
     let parent = directory(entries, children, path)?;
     match children.get(parent, name) {
         None => Ok(parent),
-        Some(_) => Err(AddFault::Exists),
+        Some(_) => Err(RoomFault::Exists),
     }
 }
 
@@ -131,12 +131,12 @@ impl Draft {
     }
 
     /// The room that an entry under this path has, or why it has none.
-    pub fn room(&self, path: &[Name]) -> Result<Room, AddFault>
+    pub fn room(&self, path: &[Name]) -> Result<Room, RoomFault>
         ensures some { IfOk result (λ r. IsRoomFor self.now path.now r) }
         ensures fault { IfErr result (λ f. room_for self.now.tree.entries path.now ≡ Err f) }
     {
         if path.is_empty() {
-            return Err(AddFault::EmptyPath);
+            return Err(RoomFault::EmptyPath);
         }
         let last = path.len() - 1;
         let name = path[last].copy();

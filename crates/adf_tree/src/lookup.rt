@@ -9,7 +9,7 @@ ghost use Rattle.adf_tree.specs.Tree.{child, directory_from, entry, find, is_chi
 use crate::entry::{Body, Entry, Node};
 use crate::last_chain::LastChain;
 use crate::name::Name;
-use crate::tree::AddFault;
+use crate::tree::RoomFault;
 use crate::walk_order::{place_of, start_of};
 use adf_fields::slot;
 
@@ -85,17 +85,17 @@ pub fn find(entries: &[Entry], path: &[Name]) -> Option<Node>
 }
 
 // The directory that the path leads to.
-fn directory(entries: &[Entry], path: &[Name]) -> Result<Node, AddFault>
+fn directory(entries: &[Entry], path: &[Name]) -> Result<Node, RoomFault>
     requires { IsNonDecreasingBy rank entries.now }
     ensures { result ≡ directory_from entries.now 0 path.now }
 {
     let mut node = Node(0);
     for name in path {
         match child(entries, node, name) {
-            None => return Err(AddFault::NoParent),
+            None => return Err(RoomFault::NoParent),
             Some(n) => {
                 if !is_dir(entries, n) {
-                    return Err(AddFault::ParentIsFile);
+                    return Err(RoomFault::ParentIsFile);
                 }
                 node = n;
             }
@@ -122,14 +122,14 @@ pub fn room_for(
     chain: &LastChain,
     path: &[Name],
     name: &Name,
-) -> Result<Node, AddFault>
+) -> Result<Node, RoomFault>
     requires order { IsNonDecreasingBy rank entries.now }
     requires names { IsOf chain.now entries.now }
     ensures { result ≡ room_at entries.now name.now (directory_from entries.now 0 path.now) }
 {
     let parent = directory(entries, path)?;
     if is_taken(entries, chain, parent, name) {
-        return Err(AddFault::Exists);
+        return Err(RoomFault::Exists);
     }
     Ok(parent)
 }

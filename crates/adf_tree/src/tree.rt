@@ -41,6 +41,19 @@ impl Model for Tree {
     ghost invariant = { λ t. IsTree t.entries.items × IsOf t.last_chain t.entries.items };
 }
 
+/// Why a path has no room in a tree.
+#[derive(Clone, Copy, Debug, PartialEq, Eq)]
+pub enum RoomFault {
+    /// The path has no name.
+    EmptyPath,
+    /// Of the shortest proper prefix of the path that is no directory, nothing is there.
+    NoParent,
+    /// Of the shortest proper prefix of the path that is no directory, a file is there.
+    ParentIsFile,
+    /// The path leads to an entry already.
+    Exists,
+}
+
 /// Why an entry is not added.
 #[derive(Clone, Copy, Debug, PartialEq, Eq)]
 pub enum AddFault {
@@ -54,6 +67,22 @@ pub enum AddFault {
     NoMemory = 4,
     /// The path has no name.
     EmptyPath = 5,
+}
+
+impl From<RoomFault> for AddFault {
+    ghost use Rattle.std.specs.Prelude.{◌≡◌};
+    ghost use Rattle.adf_tree.specs.Faults.{add_fault};
+
+    ghost from_gives = { λ room e. e ≡ add_fault room };
+
+    fn from(fault: RoomFault) -> AddFault {
+        match fault {
+            RoomFault::EmptyPath => AddFault::EmptyPath,
+            RoomFault::NoParent => AddFault::NoParent,
+            RoomFault::ParentIsFile => AddFault::ParentIsFile,
+            RoomFault::Exists => AddFault::Exists,
+        }
+    }
 }
 
 impl AddFault {
@@ -83,6 +112,19 @@ impl fmt::Display for AddFault {
 }
 
 impl Error for AddFault {}
+
+impl fmt::Display for RoomFault {
+    ghost use Rattle.std.specs.Prelude.{Some};
+    ghost use Rattle.adf_tree.specs.Faults.{add_fault, add_fault_text};
+
+    ghost output = { λ x. Some (add_fault_text (add_fault x)) };
+
+    fn fmt<W: fmt::Write>(&self, f: &mut fmt::Formatter<W>) -> fmt::Result {
+        AddFault::from(*self).fmt(f)
+    }
+}
+
+impl Error for RoomFault {}
 
 impl Tree {
     /// A tree with no entry.
@@ -167,7 +209,7 @@ impl Tree {
     }
 
     /// The directory that an entry under this path is added to, or why it is not added.
-    pub fn room(&self, path: &[Name]) -> Result<Node, AddFault>
+    pub fn room(&self, path: &[Name]) -> Result<Node, RoomFault>
         requires { 0 < length path.now }
         ensures { result ≡ room_for self.now.entries path.now }
     {
