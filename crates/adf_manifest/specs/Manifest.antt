@@ -19,12 +19,13 @@ use Rattle.adf_manifest.specs.Items.{HaveRoom, IsItem, Item, addition_of, item_l
 use Rattle.adf_manifest.specs.declared.lines.Sort.TheVariants.{File}
 use Rattle.adf_manifest.specs.declared.reader.Head.{Head}
 use Rattle.adf_manifest.specs.declared.manifest.ManifestFault.{ManifestFault}
+use Rattle.adf_manifest.specs.declared.manifest.TheConstants.{MOST_BYTES}
 use Rattle.adf_manifest.specs.declared.manifest.ManifestKind.{ManifestKind}
 use Rattle.adf_manifest.specs.declared.manifest.ManifestKind.TheVariants.{BadLine, BadSize, BadText, NoParent, ParentIsFile, Exists, NoMemory, TooLong}
 
 -- the most bytes of a manifest
 abbrev pub most_bytes : ℕ
-most_bytes = 16777216
+most_bytes = MOST_BYTES
 
 -- the bytes without a line feed at their end
 abbrev pub without_last_feed : List ℕ → List ℕ
