@@ -59,9 +59,9 @@ fn is_dos(boot: &Block<'_>) -> bool
     boot.byte(0) == b'D' && boot.byte(1) == b'O' && boot.byte(2) == b'S' && boot.byte(3) <= 5
 }
 
-// The kind that the boot block of a volume tells.
+/// The kind that the boot block of a volume tells.
 #[tactic(auto, unfolding(crate::specs::Image::kind_of))]
-fn kind_in(image: &[u8]) -> Kind
+pub fn kind_in(image: &[u8]) -> Kind
     requires { 512 ≤ length image.now }
     ensures { result ≡ kind_of image.now }
 {
