@@ -53,12 +53,19 @@ pub reserved_below : (n : ℕ) → 4 ≤ n → middle n + reserved n < n
 unfolding reserved map_exts_needed
 reserved_below n h = omega arith
 
--- members of a run
-pub in_allocated : (n k m b : ℕ) → In (allocated n k m) b → (i : ℕ) × (k ≤ i) × (i < k + m) × (nth_free n i ≡ b)
+-- a member of a run is the free block of a number within it
+pub record IsAllocated (n k m b : ℕ) : Type 0 where
+  pub number : ℕ
+  pub from : k ≤ number
+  pub below : number < k + m
+  pub is : nth_free n number ≡ b
+
+pub in_allocated : (n k m b : ℕ) → In (allocated n k m) b → IsAllocated n k m b
 in_allocated n k zero b h = absurd h
-in_allocated n k (suc m) b (inl e) = (k, omega arith, omega arith, e)
+in_allocated n k (suc m) b (inl e) = record { number = k; from = omega arith; below = omega arith; is = e }
 in_allocated n k (suc m) b (inr h) =
-    let r = in_allocated n (suc k) m b h in let l : suc k ≤ r.0 = r.1 in let u : r.0 < suc k + m = r.2 in (r.0, omega arith, omega arith, r.3)
+    let r = in_allocated n (suc k) m b h in
+    record { number = r.number; from = omega arith; below = omega arith; is = r.is }
 
 pub allocated_in : (n k m i : ℕ) → k ≤ i → i < k + m → In (allocated n k m) (nth_free n i)
 allocated_in n k zero i l u = absurd (omega arith)
@@ -77,7 +84,7 @@ allocated-append n k (suc a) b =
 pub distinct_allocated : (n k m : ℕ) → Distinct (allocated n k m)
 distinct_allocated n k zero = tt
 distinct_allocated n k (suc m) = (
-  (λ h. let r = in_allocated n (suc k) m (nth_free n k) h in let e : r.0 ≡ k = free_once n r.0 k r.3 in let l : suc k ≤ r.0 = r.1 in omega arith),
+  (λ h. let r = in_allocated n (suc k) m (nth_free n k) h in let e : r.number ≡ k = free_once n r.number k r.is in omega arith),
   distinct_allocated n (suc k) m,
 )
 

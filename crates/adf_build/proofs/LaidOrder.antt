@@ -149,7 +149,7 @@ planned_in_order image t laid =
           omega (arith, first.1, second.1, free_rises n (0 + i) (0 + j) (omega arith)));
       no_gap = (λ b last is_in lo hi.
           let x = in_allocated n 0 (entries_blocks t.kind t.entries) last (subst (λ bs. In bs last) row is_in) in
-          no_gap image t x.0 b (four (can_hold laid)) (omega (arith, x.2)) lo (omega (arith, x.3)));
+          no_gap image t x.number b (four (can_hold laid)) (omega arith) lo (omega arith));
     }
 
 -- a laid image lies in order

@@ -161,11 +161,10 @@ module _ {t : Tree} {n : ℕ} (can : CanHold t n) where
       (λ b i j. let r = in_range (middle n + 1) (reserved n) b i in elim j [ inl e ↦ omega arith | inr g ↦ elim g [ inl e ↦ omega arith | inr f ↦ f ] ]))
       (λ b i j.
       let s = in_allocated n 0 m b i in
-      let e : nth_free n s.0 ≡ b = s.3 in
-      let f = free_from n s.0 in
+      let f = free_from n s.number in
       elim (in_cases (range_with_len (middle n + 1) (reserved n)) (middle n ∷ 0 ∷ []) b j) [
-        | inl k ↦ let r = in_range (middle n + 1) (reserved n) b k in free_apart n s.0 (omega arith) (omega arith)
-        | inr k ↦ elim k [ inl g ↦ free_apart n s.0 (omega arith) (omega arith) | inr g ↦ elim g [ inl h ↦ omega arith | inr h ↦ h ] ]
+        | inl k ↦ let r = in_range (middle n + 1) (reserved n) b k in free_apart n s.number (omega arith) (omega arith)
+        | inr k ↦ elim k [ inl g ↦ free_apart n s.number (omega arith) (omega arith) | inr g ↦ elim g [ inl h ↦ omega arith | inr h ↦ h ] ]
       ])))
 
   pub volume_long : length (volume t n) ≡ n * 512

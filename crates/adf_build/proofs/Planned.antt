@@ -52,12 +52,14 @@ planned_once image t n size =
     distinct_blocks (owned image (planned t n)) (subst P (sym (owned_blocks image t n size)) (
       (λ h. elim (in_cases (range_with_len (middle n + 1) (reserved n)) (allocated n 0 total) (middle n) h) [
         | inl i ↦ let r = in_range (middle n + 1) (reserved n) (middle n) i in omega arith
-        | inr i ↦ let r = in_allocated n 0 total (middle n) i in let e : nth_free n r.0 ≡ middle n = r.3 in free_apart n r.0 (omega arith) (omega arith)
+        | inr i ↦ let r = in_allocated n 0 total (middle n) i in free_apart n r.number (omega arith) (omega arith)
       ]),
       distinct-append (range_with_len (middle n + 1) (reserved n)) (allocated n 0 total) (distinct_range (middle n + 1) (reserved n))
           (distinct_allocated n 0 total)
-          (λ b i j. let r = in_range (middle n + 1) (reserved n) b i in let s = in_allocated n 0 total b j in let e : nth_free n s.0 ≡ b =
-          s.3 in free_apart n s.0 (omega arith) (omega arith)),
+          (λ b i j.
+          let r = in_range (middle n + 1) (reserved n) b i in
+          let s = in_allocated n 0 total b j in
+          free_apart n s.number (omega arith) (omega arith)),
     ))
 
 -- each block lies in the volume
@@ -74,10 +76,8 @@ planned_range image t n o b size h fits i =
         | inl r ↦ let s = in_range (middle n + 1) (reserved n) b r in (omega arith, omega arith)
         | inr r ↦
             let s = in_allocated n 0 total b r in
-            let e : nth_free n s.0 ≡ b = s.3 in
-            let u : s.0 < 0 + total = s.2 in
-            let f = free_from n s.0 in
-            let g = free_below n s.0 h (omega arith) in
+            let f = free_from n s.number in
+            let g = free_below n s.number h (omega arith) in
             (omega arith, omega arith)
       ]
     ]
