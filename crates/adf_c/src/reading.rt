@@ -12,23 +12,19 @@ ghost use Rattle.adf_c.specs.Tables.{block_table, bytes_at, entry_table};
 ghost use Rattle.adf_c.specs.Areas.{AreBlocksOf, AreBytesOf, AreDatasOf, bytes_in_blocks};
 
 use crate::tables::TableEntry;
-use adf_blocks::chunk_len;
-use adf_fields::Block;
+use adf_blocks::{DATA_BYTES, DATA_ROOM, chunk_len};
+use adf_fields::{BLOCK_LEN, Block};
 use adf_tree::Kind;
+use adf_volume::kind_in;
 
-// The kind that the boot bytes tell.
-#[tactic(auto, unfolding(adf_volume::specs::Image::kind_of))]
+// The kind that the boot block tells, where the image has one.
 fn kind_of(image: &[u8]) -> Kind
     ensures { 512 ≤ length image.now → result ≡ kind_of image.now }
 {
-    let Some(boot) = Block::at(image, 0) else {
+    if image.len() < BLOCK_LEN {
         return Kind::Ffs;
-    };
-    if boot.byte(3) == 0 {
-        Kind::Ofs
-    } else {
-        Kind::Ffs
     }
+    kind_in(image)
 }
 
 // The data area of a block.
@@ -37,8 +33,8 @@ fn area<'a>(block: Block<'a>, kind: Kind) -> &'a [u8]
     ensures { result.now ≡ area kind block.entry }
 {
     match kind {
-        Kind::Ofs => block.bytes(24, 488),
-        Kind::Ffs => block.bytes(0, 512),
+        Kind::Ofs => block.bytes(DATA_BYTES, DATA_ROOM),
+        Kind::Ffs => block.bytes(0, BLOCK_LEN),
     }
 }
 
