@@ -2,8 +2,9 @@
 pub mod Filled
 pub mod Rooms
 pub mod WordParts
--- what is told of a volume
+-- what is told of a volume, and of a fault
 pub mod CheckedVolumes
+pub mod ToldCauses
 -- the tables of a volume
 pub mod TableLaws
 pub mod Readings

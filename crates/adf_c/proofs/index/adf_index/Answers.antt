@@ -1,20 +1,17 @@
-use Rattle.std.proofs.Common.{◌≡◌, ◌≢◌, ◌∙◌, ap, sym, subst, inr}
-use Rattle.adf_blocks.specs.Causes.{cause_number}
-use Rattle.adf_blocks.specs.declared.cause.Cause.TheVariants.{NoMemory}
-use Rattle.adf_volume.specs.Walk.{FirstFault}
+use Rattle.std.proofs.Common.{ap, sym}
 use Rattle.adf_c.specs.declared.tables.Contents.{Contents}
 use Rattle.adf_c.proofs.TableLaws.{contents_small, used_small}
+use Rattle.adf_c.proofs.ToldCauses.{first_told, number_told}
 use Rattle.adf_c.proofs.index.adf_index.Goals as goal
 
 pub returns-in-Err-clause-number : goal.returns-in-Err-clause-number
-returns-in-Err-clause-number c = inr (c.in-Err.fault.cause, sym c.number.ensures)
+returns-in-Err-clause-number c = number_told c.in-Err.fault.cause c.number.result c.number.ensures
 
 pub returns-in-Err-clause-first : goal.returns-in-Err-clause-first
-returns-in-Err-clause-first c _ other =
+returns-in-Err-clause-first c =
     let f = c.in-Err.fault in
-    let known : f.cause ≢ NoMemory = λ is. other (c.number.ensures ∙ ap cause_number is) in
-    let same : f.block ≡ c.refused_at.result.block = sym (ap (λ (x : Contents). x.block) c.refused_at.ensures) in
-    (f.cause, sym c.number.ensures, subst (λ b. FirstFault c.args.image.now b f.cause) same (c.in-Err.ensures.first known))
+    first_told c.args.image.now f.cause f.block c.refused_at.result.block c.number.result c.in-Err.ensures.first c.number.ensures
+    (sym (ap (λ (x : Contents). x.block) c.refused_at.ensures))
 
 pub returns-in-Ok-clause-few : goal.returns-in-Ok-clause-few
 returns-in-Ok-clause-few c _ =

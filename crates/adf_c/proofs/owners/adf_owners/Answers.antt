@@ -1,13 +1,11 @@
-use Rattle.std.proofs.Common.{◌∙◌, ◌≢◌, ap, sym, inr}
-use Rattle.adf_blocks.specs.Causes.{cause_number}
-use Rattle.adf_blocks.specs.declared.cause.Cause.TheVariants.{NoMemory}
+use Rattle.std.proofs.Common.{refl}
+use Rattle.adf_c.proofs.ToldCauses.{first_told, number_told}
 use Rattle.adf_c.proofs.owners.adf_owners.Goals as goal
 
 pub returns-in-Err-clause-number : goal.returns-in-Err-clause-number
-returns-in-Err-clause-number c = inr (c.in-Err.fault.cause, sym c.number.ensures)
+returns-in-Err-clause-number c = number_told c.in-Err.fault.cause c.number.result c.number.ensures
 
 pub returns-in-Err-clause-first : goal.returns-in-Err-clause-first
-returns-in-Err-clause-first c _ other =
+returns-in-Err-clause-first c some other =
     let f = c.in-Err.fault in
-    let known : f.cause ≢ NoMemory = λ is. other (c.number.ensures ∙ ap cause_number is) in
-    (f.block, (f.cause, sym c.number.ensures, c.in-Err.ensures.first known))
+    (f.block, first_told c.args.image.now f.cause f.block f.block c.number.result c.in-Err.ensures.first c.number.ensures refl some other)
