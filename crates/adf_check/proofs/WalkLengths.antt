@@ -9,6 +9,7 @@ use Rattle.adf_volume.specs.Walk.{Role, Has, head_count, heads, IsWalk, IsWhole}
 use Rattle.adf_volume.specs.Walk.Role.{Head}
 use Rattle.adf_volume.specs.Walk.IsWalk.{start, step}
 use Rattle.adf_volume.proofs.Lists.{snoc_length}
+use Rattle.adf_volume.proofs.PartDemands.{part_holds}
 use Rattle.adf_volume.proofs.WalkOwners.{is_owned, once, owned_has}
 
 -- a member can be taken out, and those with other blocks stay
@@ -42,7 +43,8 @@ in_walk (x ∷ w) r b (inr h) = inr (in_walk w r b h)
 
 walked_once : {image : List ℕ} {w : List (Role × ℕ)} → IsWalk image w → NoBlockTwice w
 walked_once start = (λ y i e. i, tt)
-walked_once (step {w = w} v d e n) = (λ y i z. n.1.1.0 y.0 (subst (Has w y.0) (sym z) (in_walk w y.0 y.1 i)), walked_once v)
+walked_once {image} (step {w = w} {r = r} {b = b} {a = a} v d e n) =
+    let part = part_holds image w r a b n in (λ y i z. part.unowned y.0 (subst (Has w y.0) (sym z) (in_walk w y.0 y.1 i)), walked_once v)
 
 pub walk_length : (image : List ℕ) (w : List (Role × ℕ)) → IsWalk image w → IsWhole image w → length (owned image (layout_in w)) ≡ length w
 walk_length image w v whole =

@@ -20,6 +20,7 @@ pub mod TreeOrder
 pub mod DecidedAsks
 pub mod Gathered
 pub mod MemberFacts
+pub mod PartDemands
 pub mod Roles
 pub mod WalkMembers
 pub mod WalkOrder

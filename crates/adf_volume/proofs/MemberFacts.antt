@@ -4,16 +4,15 @@ use Rattle.std.specs.Prelude.{nat_lt}
 use native.Mathlib.Decide.{dec_le}
 use Rattle.adf_blocks.specs.declared.layout.TheConstants.{EXTENSION, FIRST_MAP_EXT, FIRST_POINTER, FIRST_SLOT, MAP_EXT_NEXT, MAP_EXT_PAGES, NEXT_IN_CHAIN}
 use Rattle.adf_blocks.specs.declared.layout.TheConstants.{POINTERS, ROOT_PAGES, SIZE, SLOTS}
-use Rattle.adf_blocks.specs.declared.cause.Cause.TheVariants.{SameName}
 use Rattle.adf_volume.specs.Image.{word_in, root_of, kind_of, held, table_word, name_of}
 use Rattle.adf_blocks.specs.Sizes.{blocks, pages_needed}
 use Rattle.adf_tree.specs.Texts.{uppers}
-use Rattle.adf_volume.specs.Demands.{demand, AllHold, page_demands, head_demands, ext_demands, data_demands}
+use Rattle.adf_volume.specs.Demands.{AllHold, page_demands, head_demands, ext_demands, data_demands}
 use Rattle.adf_volume.specs.Walk.{Role, second, Has, DirAt, FileAt, MemberAt, NamesPage, data_count, Asks, IsDue, ext_count, node_block}
-use Rattle.adf_volume.specs.Walk.{member_block, next_data, form_demands, NewName, NoCause, IsWalk}
+use Rattle.adf_volume.specs.Walk.{member_block, next_data, NewName, IsWalk}
 use Rattle.adf_volume.specs.Walk.Role.{Root, Page, MapExt, Head, Ext, Data}
 use Rattle.adf_volume.specs.Walk.IsWalk.{start, step}
-use Rattle.adf_volume.proofs.Lists.{all_split}
+use Rattle.adf_volume.proofs.PartDemands.{PartHolds, part_holds}
 use Rattle.adf_volume.proofs.Roles.{count_up, dir_is_node, dir_up, member_up, typed_up}
 use Rattle.adf_volume.proofs.Walks.{node_is, member_is, file_is, due_file, ext_counted, is_there}
 use Rattle.std.proofs.lemmas.Bool.{cond-true, cond-false, le-ltb, lt-ltb}
@@ -97,9 +96,9 @@ module _ (image : List ℕ) where
     there n (suc m) a f u = ext_counted image v n m (omega arith)
 
     -- a file whose data block is due has enough extension blocks
-    pub enough : (n k a i b h : ℕ) → IsDue image w (Data n (suc k)) a i → NoCause image w (Data n (suc k)) a b → FileAt image w n h → k < data_count image h
+    pub enough : (n k a i b h : ℕ) → IsDue image w (Data n (suc k)) a i → PartHolds image w (Data n (suc k)) b → FileAt image w n h → k < data_count image h
         → data_count image h ≤ POINTERS * suc (ext_count w n)
-    enough n zero a i b h d g f u = g.0 refl h f
+    enough n zero a i b h d g f u = g.enough refl h f
     enough n (suc k) a i b h d g f u =
         let x = is_there image w (Data n 1) (Data n (suc (suc k))) a i h FIRST_POINTER d ((h, f, omega arith), f, refl)
         (omega arith, (λ z. omega arith), (λ z z'. omega arith)) (omega arith) in
@@ -107,9 +106,6 @@ module _ (image : List ℕ) where
         let e : node_block w n ≡ h = file_is image w n h v f in
         let e' : node_block w n ≡ kp.head = file_is image w n kp.head v kp.file in
         subst (λ h. data_count image h ≤ POINTERS * suc (ext_count w n)) (sym e' ∙ e) kp.enough
-
-    form_of : (r : Role) (a b : ℕ) → NoCause image w r a b → AllHold (form_demands image w r b)
-    form_of r a b g = (all_split (form_demands image w r b) (demand SameName b (NewName image w r b) ∷ []) g.1.1.1).0
 
     head_named : (n p s j a i b : ℕ) → Asks image w (Head n p s j) a i → word_in image a i ≡ b → HeadNamed image w p s j b
     head_named n p s zero a i b h e = (a, h.2, ap (word_in image a) (sym h.3) ∙ e)
@@ -137,30 +133,29 @@ module _ (image : List ℕ) where
               (le-ltb k (data_count image (node_block w n)) (subst (λ h. data_count image h ≤ k) (sym z) u)));
         }
 
-    kept_new : (r : Role) (a i b : ℕ) → IsDue image w r a i → word_in image a i ≡ b → NoCause image w r a b → Kept image w r b
+    kept_new : (r : Role) (a i b : ℕ) → IsDue image w r a i → word_in image a i ≡ b → PartHolds image w r b → Kept image w r b
     kept_new Root a i b d e g = tt
-    kept_new (Page k) a i b d e g =
-        (d.asked.0, (a, i, d.asked.1, e), form_of (Page k) a b g)
+    kept_new (Page k) a i b d e g = (d.asked.0, (a, i, d.asked.1, e), g.form)
     kept_new (MapExt zero) a i b d e g = (d.asked.0, ap (λ a. word_in image a FIRST_MAP_EXT) (sym d.asked.1) ∙ ap (word_in image a) (sym d.asked.2) ∙ e)
     kept_new (MapExt (suc j)) a i b d e g = (d.asked.0, (a, d.asked.1, ap (word_in image a) (sym d.asked.2) ∙ e))
     kept_new (Head n p s j) a i b d e g =
         let ad = asks_dir old n p s j a i d.asked in
         let c = ad.1 in
         let z : node_block w p ≡ c.0 = node_is image w p c.0 v (dir_is_node image w p c.0 c.1) in
-        let form = subst (λ c. AllHold (head_demands image (kind_of image) b c s)) z (form_of (Head n p s j) a b g) in
+        let form = subst (λ c. AllHold (head_demands image (kind_of image) b c s)) z g.form in
         (ad.0, head_named n p s j a i b d.asked e, (c.0, c.1, form))
     kept_new (Ext n zero) a i b d e g = absurd d.asked
     kept_new (Ext n (suc k)) a i b d e g =
         let f = due_file image w n (suc k) a i v d.asked in
         let z : node_block w n ≡ f.0 = file_is image w n f.0 v f.1 in
-        (ext_named n k a i b d.asked e, (f.0, f.1, subst (λ h. AllHold (ext_demands image b h)) z (form_of (Ext n (suc k)) a b g)))
+        (ext_named n k a i b d.asked e, (f.0, f.1, subst (λ h. AllHold (ext_demands image b h)) z g.form))
     kept_new (Data n zero) a i b d e g = absurd d.asked
     kept_new (Data n (suc k)) a i b d e g =
         let f = d.asked.0 in
         let z : node_block w n ≡ f.0 = file_is image w n f.0 v f.1 in
         let en = enough n k a i b f.0 d g f.1 f.2 in
         let form = subst (λ h. AllHold (data_demands image (kind_of image) b h (suc k) (held (kind_of image) (word_in image h SIZE) (suc k))
-        (next_data image w n (suc k)))) z (form_of (Data n (suc k)) a b g) in
+        (next_data image w n (suc k)))) z g.form in
         record {
           head = f.0;
           file = f.1;
@@ -174,7 +169,8 @@ module _ (image : List ℕ) where
   kept start r b (inl e) = subst (λ r. Kept image ((Root, root_of image) ∷ []) r b) e.0 tt
   kept start r b (inr h) = absurd h
   kept (step {w = w} {r = q} {b = c} {a = a} {i = i} v d e g) r b (inl h) =
-      subst (λ r. Kept image ((q, c) ∷ w) r b) h.0 (subst (Kept image ((q, c) ∷ w) q) h.1 (kept_up w (q, c) q c (kept_new w v (kept v) q a i c d e g)))
+      let new = kept_new w v (kept v) q a i c d e (part_holds image w q a c g) in
+      subst (λ r. Kept image ((q, c) ∷ w) r b) h.0 (subst (Kept image ((q, c) ∷ w) q) h.1 (kept_up w (q, c) q c new))
   kept (step {w = w} {r = q} {b = c} v d e g) r b (inr h) = kept_up w (q, c) r b (kept v r b h)
 
   -- a bitmap extension block has all before it
@@ -198,11 +194,11 @@ module _ (image : List ℕ) where
   new_names (step {w = w} {r = q} {b = b'} {a = a} v d e g) n m p s i j b c (inl h) (inl k) ne z =
       absurd (let x : Head n p s i ≡ Head m p s j = sym h.0 ∙ k.0 in ne (same_number n m p s i j x))
   new_names (step {w = w} {r = q} {b = b'} {a = a} v d e g) n m p s i j b c (inl h) (inr k) ne z =
-      let nn = (all_split (form_demands image w q b') (demand SameName b' (NewName image w q b') ∷ []) g.1.1.1).1.0 in
+      let nn = (part_holds image w q a b' g).new_name in
       let nn' : NewName image w (Head n p s i) b = subst (λ r. NewName image w r b) h.0 (subst (NewName image w q) h.1 nn) in
       nn' m j c k (sym z)
   new_names (step {w = w} {r = q} {b = b'} {a = a} v d e g) n m p s i j b c (inr h) (inl k) ne z =
-      let nn = (all_split (form_demands image w q b') (demand SameName b' (NewName image w q b') ∷ []) g.1.1.1).1.0 in
+      let nn = (part_holds image w q a b' g).new_name in
       let nn' : NewName image w (Head m p s j) c = subst (λ r. NewName image w r c) k.0 (subst (NewName image w q) k.1 nn) in
       nn' n i b h z
   new_names (step v d e g) n m p s i j b c (inr h) (inr k) ne z = new_names v n m p s i j b c h k ne z
@@ -210,5 +206,6 @@ module _ (image : List ℕ) where
   pub in_range : {w : List (Role × ℕ)} → IsWalk image w → 4 ≤ blocks image → (r : Role) (b : ℕ) → Has w r b → (2 ≤ b) × (b < blocks image)
   in_range start four r b (inl e) = let z : root_of image ≡ b = e.1 in omega arith
   in_range start four r b (inr h) = absurd h
-  in_range (step v d e g) four r b (inl h) = subst (λ b. (2 ≤ b) × (b < blocks image)) h.1 g.1.0
+  in_range (step {w = w} {r = q} {b = c} {a = a} v d e g) four r b (inl h) =
+      let part = part_holds image w q a c g in subst (λ b. (2 ≤ b) × (b < blocks image)) h.1 (part.past_boot, part.inside)
   in_range (step v d e g) four r b (inr h) = in_range v four r b h

@@ -20,6 +20,7 @@ use Rattle.adf_volume.proofs.Chains.{chain_snoc}
 use Rattle.adf_volume.proofs.Roles.{asks_number, head_at, head_in, head_role, new_number, no_head}
 use Rattle.adf_volume.proofs.Walks.{ext_counted, next_ext, page_word, is_there}
 use Rattle.adf_volume.proofs.MemberFacts.{kept, there, enough, map_ext_down}
+use Rattle.adf_volume.proofs.PartDemands.{part_holds}
 use Rattle.adf_volume.proofs.Comparisons.{both_equal, equal_both}
 
 -- the blocks that a test picks are those of one kind of role, by their numbers
@@ -143,7 +144,7 @@ module _ (image : List ℕ) where
       let f = d.asked.0 in
       let high : m < k → ⊥ = (λ l.
       let f2 : k < data_count image f.0 = f.2 in
-      let en = enough image w v (λ r b h. kept image v r b h) n k a i b f.0 d g f.1 f.2 in
+      let en = enough image w v (λ r b h. kept image v r b h) n k a i b f.0 d (part_holds image w (Data n (suc k)) a b g) f.1 f.2 in
       let t = there image w v (λ r b h. kept image v r b h) n (m / POINTERS) f.0 f.1 (omega arith) in
       let x = is_there image w (Data n (suc m)) (Data n (suc k)) a i t.0 (table_word m) d ((f.0, f.1, omega arith), t.1, refl)
       (omega arith, (λ z. omega arith), (λ z y. omega arith)) (omega arith) in

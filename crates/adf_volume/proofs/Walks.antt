@@ -9,6 +9,7 @@ use Rattle.adf_volume.specs.Walk.{ext_count, member_block, node_block}
 use Rattle.adf_volume.specs.Walk.Role.{Root, Page, MapExt, Head, Ext}
 use Rattle.adf_volume.specs.Walk.IsWalk.{start, step}
 use Rattle.adf_volume.proofs.Roles.{dec_has, has_low, head_key, head_role}
+use Rattle.adf_volume.proofs.PartDemands.{part_holds}
 use Rattle.adf_volume.proofs.Gathered as gathered
 use Rattle.adf_volume.proofs.Gathered.{IsGathered}
 use Rattle.adf_volume.proofs.Gathered.IsGathered.{start as gathered_start, step as gathered_step}
@@ -25,8 +26,10 @@ module _ (image : List ℕ) where
   one_role start r q b (inl e) (inr f) = absurd f
   one_role start r q b (inr e) f = absurd e
   one_role (step v d g n) r q b (inl e) (inl f) = sym e.0 ∙ f.0
-  one_role (step {w = w} v d g n) r q b (inl e) (inr f) = absurd (n.1.1.0 q (subst (λ b. Has w q b) (sym e.1) f))
-  one_role (step {w = w} v d g n) r q b (inr e) (inl f) = absurd (n.1.1.0 r (subst (λ b. Has w r b) (sym f.1) e))
+  one_role (step {w = w} {r = z} {b = c} {a = a} v d g n) r q b (inl e) (inr f) =
+      absurd ((part_holds image w z a c n).unowned q (subst (λ b. Has w q b) (sym e.1) f))
+  one_role (step {w = w} {r = z} {b = c} {a = a} v d g n) r q b (inr e) (inl f) =
+      absurd ((part_holds image w z a c n).unowned r (subst (λ b. Has w r b) (sym f.1) e))
   one_role (step v d g n) r q b (inr e) (inr f) = one_role v r q b e f
 
   pub root_is : (w : List (Role × ℕ)) (b : ℕ) → IsWalk image w → Has w Root b → root_of image ≡ b

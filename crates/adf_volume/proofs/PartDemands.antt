@@ -1,0 +1,28 @@
+-- The demands of a part that has no cause, by their names.
+use Rattle.std.proofs.Common.{ℕ, List, [], ◌∷◌, ◌<◌, ◌≤◌}
+use Rattle.adf_blocks.specs.declared.cause.Cause.TheVariants.{SameName}
+use Rattle.adf_blocks.specs.Sizes.{blocks}
+use Rattle.adf_volume.specs.Demands.{AllHold, demand}
+use Rattle.adf_volume.specs.Walk.{Role, Enough, IsAbsent, NewName, NoCause, form_demands}
+use Rattle.adf_volume.proofs.Lists.{all_split}
+
+-- each demand of the role at block b holds
+pub record PartHolds (image : List ℕ) (w : List (Role × ℕ)) (r : Role) (b : ℕ) : Type 0 where
+  pub enough : Enough image w r
+  pub past_boot : 2 ≤ b
+  pub inside : b < blocks image
+  pub unowned : IsAbsent w b
+  pub form : AllHold (form_demands image w r b)
+  pub new_name : NewName image w r b
+
+pub part_holds : (image : List ℕ) (w : List (Role × ℕ)) (r : Role) (a b : ℕ) → NoCause image w r a b → PartHolds image w r b
+part_holds image w r a b n =
+    let named = all_split (form_demands image w r b) (demand SameName b (NewName image w r b) ∷ []) n.1.1.1 in
+    record {
+      enough = n.0;
+      past_boot = n.1.0.0;
+      inside = n.1.0.1;
+      unowned = n.1.1.0;
+      form = named.0;
+      new_name = named.1.0;
+    }
