@@ -26,7 +26,7 @@ use Rattle.adf_blocks.proofs.MapExtLaws.{map_ext_block-next, map_ext_block-page}
 use Rattle.adf_blocks.proofs.PageLaws.{page_block-form, page_block-bit}
 use Rattle.adf_volume.specs.declared.owner.Owner.{Owner}
 use Rattle.adf_volume.specs.Lists.{At, In, Spelled}
-use Rattle.adf_volume.specs.Image.{word_in, root_of, kind_of, label_of, stamps_of, map_exts_needed}
+use Rattle.adf_volume.specs.Image.{word_in, root_of, kind_of, name_of, stamps_of, map_exts_needed}
 use Rattle.adf_volume.specs.Demands.{AllHold, boot_form, boot_demands, root_demands, page_demands}
 use Rattle.adf_volume.specs.Layout.{EntryAt, at_node, chain_nodes, owned}
 use Rattle.adf_volume.specs.Fits.{Fits, EntryFits, FileFits, IsFree}
@@ -137,8 +137,8 @@ module _ {t : Tree} {n : ℕ} (can : CanHold t n) where
   root_at = all_demanded (middle n) (root_form (block (volume t n) (middle n)))
       (subst (λ bs. first_cause (root_form bs) ≡ None) (sym (holds_root can)) (root_block-form (planned_root t n) (fits_root can)))
 
-  label_laid : t.label ≡ label_of (volume t n) (middle n)
-  unfolding label_of
+  label_laid : t.label ≡ name_of (volume t n) (middle n)
+  unfolding name_of
   label_laid = sym (ap (λ bs. text_at bs NAME) (holds_root can) ∙ root_block-text (planned_root t n) (fits_root can))
 
   stamps_laid : t.stamps ≡ stamps_of (volume t n) (middle n)
@@ -269,7 +269,7 @@ module _ {t : Tree} {n : ℕ} (can : CanHold t n) where
         boots = boots_laid;
         kind = kind_laid;
         root = subst (λ b. AllHold (root_demands (volume t n) b)) s root_at;
-        label = subst (λ b. t.label ≡ label_of (volume t n) b) s label_laid;
+        label = subst (λ b. t.label ≡ name_of (volume t n) b) s label_laid;
         stamps = subst (λ b. t.stamps ≡ stamps_of (volume t n) b) s stamps_laid;
         tree = can.sound.tree;
         places = places_long n t.kind 0 t.entries;

@@ -5,7 +5,7 @@ use Rattle.adf_tree.specs.declared.entry.Entry.{Entry}
 use Rattle.adf_tree.specs.declared.entry.Stamps.{Stamps}
 use Rattle.adf_tree.specs.Tree.{Tree, is_dir_body}
 use Rattle.adf_blocks.specs.Sizes.{blocks}
-use Rattle.adf_volume.specs.Image.{label_of, root_of, stamps_of, word_in}
+use Rattle.adf_volume.specs.Image.{name_of, root_of, stamps_of, word_in}
 use Rattle.adf_volume.specs.Layout.{Layout, owned}
 use Rattle.adf_check.specs.declared.store.KeptHeader.{KeptHeader}
 use Rattle.adf_check.specs.StoreStands.{StoreStandsFor}
@@ -25,7 +25,7 @@ StandsFor v t l = StoreStandsFor v.image v.store t l
 -- what holds of every checked volume
 pub record IsChecked (v : Volume) (name : List ℕ) (dates : Stamps) : Type 0 where
   pub tells : StoreFits v.image v.store
-  pub label : name ≡ label_of v.image (root_of v.image)
+  pub label : name ≡ name_of v.image (root_of v.image)
   pub stamps : dates ≡ stamps_of v.image (root_of v.image)
 
 -- whether an entry is a directory

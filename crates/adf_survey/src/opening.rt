@@ -20,7 +20,7 @@ pub struct Opening {
 
 impl Opening {
     // What an image that begins as a volume tells.
-    #[tactic(auto, unfolding(adf_volume::specs::Image::label_of, adf_volume::specs::Image::stamps_of))]
+    #[tactic(auto, unfolding(adf_volume::specs::Image::name_of, adf_volume::specs::Image::stamps_of))]
     pub(crate) fn of(opened: &Opened<'_>) -> Opening
         requires { opened.now.root ≡ block opened.now.image (root_of opened.now.image) }
         ensures { result ≡ opening_in opened.now.image }

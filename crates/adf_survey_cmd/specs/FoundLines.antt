@@ -6,7 +6,7 @@ use Rattle.adf_fields.specs.Words.{block}
 use Rattle.adf_fields.specs.declared.dates.Stamp.{Stamp}
 use Rattle.adf_blocks.specs.HeadBlock.{body_at, meta_told}
 use Rattle.adf_blocks.specs.Sizes.{blocks}
-use Rattle.adf_volume.specs.Image.{kind_of, label_of, root_of, stamps_of}
+use Rattle.adf_volume.specs.Image.{kind_of, name_of, root_of, stamps_of}
 use Rattle.adf_volume.specs.Walk.{Role, heads, node_block}
 use Rattle.adf_survey.specs.Lookup.{path_to}
 use Rattle.adf_survey.specs.Marked.{AreMarks}
@@ -34,7 +34,7 @@ lines_of_found date sound image w k = flat_map (found_lines date sound image w) 
 
 -- the opening lines that `list` writes of the volume
 abbrev pub opening_text : (Stamp → List ℕ) → List ℕ → List ℕ
-opening_text date image = opening_lines date (kind_of image) (label_of image (root_of image)) (stamps_of image (root_of image)) (blocks image)
+opening_text date image = opening_lines date (kind_of image) (name_of image (root_of image)) (stamps_of image (root_of image)) (blocks image)
 
 -- the lines of what is found: none where the image does not begin as a volume
 abbrev pub found_text : (Stamp → List ℕ) → (ℕ → Bool) → List ℕ → List (Role × ℕ) → List ℕ

@@ -5,7 +5,7 @@ use Rattle.adf_tree.specs.declared.entry.Entry.{Entry}
 use Rattle.adf_tree.specs.Tree.{Tree, IsDir}
 use Rattle.adf_volume.specs.declared.owner.Owner.{Owner}
 use Rattle.adf_volume.specs.Lists.{At, In, NoBlockTwice}
-use Rattle.adf_volume.specs.Image.{word_in, root_of, kind_of, label_of, stamps_of, map_exts_needed, IsFreeAt}
+use Rattle.adf_volume.specs.Image.{word_in, root_of, kind_of, name_of, stamps_of, map_exts_needed, IsFreeAt}
 use Rattle.adf_blocks.specs.PageBlock.{page_form}
 use Rattle.adf_blocks.specs.RootBlock.{root_form}
 use Rattle.adf_volume.specs.Demands.{AllHold, boot_demands, boot_form, root_demands, page_demands}
@@ -87,7 +87,7 @@ tiny_once = (
 )
 
 pub tiny_fits : Fits tiny tiny_tree tiny_layout
-unfolding tiny tiny_root block word kind_of label_of stamps_of map_exts_needed
+unfolding tiny tiny_root block word kind_of name_of stamps_of map_exts_needed
 tiny_fits = record {
   boots = tiny_boots;
   kind = refl;

@@ -14,7 +14,7 @@ use Rattle.adf_tree.specs.Tree.{IsDir, IsTree, rank}
 use Rattle.adf_volume.specs.declared.owner.Owner.{Owner}
 use Rattle.adf_volume.specs.Lists.{At, In, Spelled, NoBlockTwice}
 use Rattle.adf_blocks.specs.Sizes.{chunk, count}
-use Rattle.adf_volume.specs.Image.{word_in, root_of, kind_of, name_of, label_of, meta_of, stamps_of, content, area, held, table_word}
+use Rattle.adf_volume.specs.Image.{word_in, root_of, kind_of, name_of, meta_of, stamps_of, content, area, held, table_word}
 use Rattle.adf_volume.specs.Image.{map_exts_needed, IsFreeAt}
 use Rattle.adf_blocks.specs.DataBlock.{data_form}
 use Rattle.adf_blocks.specs.HeadBlock.{head_form}
@@ -291,7 +291,7 @@ bitmap b l u = put (has owned_blocks b) refl (not_wrong b l u)
     )
 
 pub one_file_fits : Fits one_file one_file_tree one_file_layout
-unfolding one_file block word with_bytes kind_of label_of stamps_of map_exts_needed
+unfolding one_file block word with_bytes kind_of name_of stamps_of map_exts_needed
 one_file_fits = record {
   boots = boots;
   kind = refl;

@@ -6,7 +6,7 @@ use Rattle.std.proofs.Common.{zero, suc}
 use Rattle.adf_volume.specs.Lists.{At, In, Spelled, NoBlockTwice}
 use Rattle.adf_tree.specs.declared.entry.Kind.{Kind}
 use Rattle.adf_blocks.specs.Sizes.{blocks, count, pages_needed}
-use Rattle.adf_volume.specs.Image.{word_in, root_of, map_exts_needed, kind_of, held, table_word, name_of, label_of, meta_of, stamps_of}
+use Rattle.adf_volume.specs.Image.{word_in, root_of, map_exts_needed, kind_of, held, table_word, name_of, meta_of, stamps_of}
 use Rattle.adf_volume.specs.Image.{content, IsFreeAt}
 use Rattle.adf_fields.specs.Hash.{slot_of}
 use Rattle.adf_blocks.specs.declared.layout.TheConstants.{EXTENSION, FIRST_MAP_EXT, FIRST_PAGE, FIRST_SLOT, MAP_EXT_NEXT, MAP_EXT_PAGES, NEXT_IN_CHAIN}
@@ -56,7 +56,7 @@ pub record Fits (image : List ℕ) (t : Tree) (l : Layout) : Type 0 where
   pub boots : AllHold (boot_demands image)
   pub kind : t.kind ≡ kind_of image
   pub root : AllHold (root_demands image (root_of image))
-  pub label : t.label ≡ label_of image (root_of image)
+  pub label : t.label ≡ name_of image (root_of image)
   pub stamps : t.stamps ≡ stamps_of image (root_of image)
   pub tree : IsTree t.entries
   pub places : length l.places ≡ length t.entries

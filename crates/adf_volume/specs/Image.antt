@@ -26,13 +26,9 @@ root_of image = middle (blocks image)
 unfoldable pub kind_of : List ℕ → Kind
 kind_of image = cond (slice_index (block image 0) 3 == 0) Ofs Ffs
 
--- the name in a header
+-- the name in a header, or the label in a root
 unfoldable pub name_of : List ℕ → ℕ → List ℕ
 name_of image b = text_at (block image b) NAME
-
--- the label in a root
-unfoldable pub label_of : List ℕ → ℕ → List ℕ
-label_of image b = text_at (block image b) NAME
 
 -- comment, protection and date in a header
 unfoldable pub meta_of : List ℕ → ℕ → Meta

@@ -1,7 +1,7 @@
 -- The tree and the layout that a whole walk tells.
 use Rattle.std.specs.Prelude.{Bool, true, false, ℕ, List, [], ◌∷◌, ◌++◌, cond, ◌==◌}
 use Rattle.adf_blocks.specs.declared.layout.TheConstants.{SECONDARY_TYPE, ST_DIR}
-use Rattle.adf_volume.specs.Image.{word_in, root_of, kind_of, name_of, label_of, meta_of, stamps_of, content}
+use Rattle.adf_volume.specs.Image.{word_in, root_of, kind_of, name_of, meta_of, stamps_of, content}
 use Rattle.adf_tree.specs.declared.entry.Body.{Body}
 use Rattle.adf_tree.specs.declared.entry.Entry.{Entry}
 use Rattle.adf_tree.specs.Tree.{Tree}
@@ -93,7 +93,7 @@ places_in full w = of_heads (λ n p b. place_in full n b) w
 abbrev pub tree_in : List ℕ → List (Role × ℕ) → Tree
 tree_in image w = record {
   kind = kind_of image;
-  label = label_of image (root_of image);
+  label = name_of image (root_of image);
   stamps = stamps_of image (root_of image);
   entries =
       entries_in image w w;

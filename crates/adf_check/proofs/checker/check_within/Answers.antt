@@ -4,7 +4,7 @@ use Rattle.adf_fields.specs.Words.{block}
 use Rattle.adf_tree.specs.Tree.{Tree}
 use Rattle.adf_blocks.specs.Forms.{text_at}
 use Rattle.adf_blocks.specs.RootBlock.{stamps_at}
-use Rattle.adf_volume.specs.Image.{label_of, root_of, stamps_of}
+use Rattle.adf_volume.specs.Image.{name_of, root_of, stamps_of}
 use Rattle.adf_volume.specs.Layout.{Layout}
 use Rattle.adf_volume.specs.Made.{layout_in, tree_in}
 use Rattle.adf_check.specs.Store.{store_value}
@@ -16,7 +16,7 @@ use Rattle.adf_check.proofs.StoreStands.{keeps}
 use Rattle.adf_check.proofs.checker.check_within.Goals as goal
 
 pub new-requires : goal.new-requires
-unfolding label_of stamps_of
+unfolding name_of stamps_of
 new-requires g c =
     let image = c.in_ok-opened.opened.image in
     let root : c.in_ok-opened.opened.root ≡ block image (root_of image) =
