@@ -15,7 +15,7 @@ use Rattle.adf_volume.specs.Walk.Role.{Root, Page, MapExt, Head, Ext, Data}
 use Rattle.adf_survey.specs.declared.part.Part.TheVariants.{Root as RootPart}
 use Rattle.adf_survey.specs.declared.found.Found.{Found}
 use Rattle.adf_survey.specs.Survey.IsCourse.{start}
-use Rattle.adf_survey.specs.Parts.{by_key, key_of, told}
+use Rattle.adf_survey.specs.Parts.{by_key, key_of, finding_value}
 use Rattle.adf_survey.specs.Courses.{IsAtPage, IsUpTo, Under, page_place}
 use Rattle.adf_survey.specs.Found.{AreNamed, AreSame, IsOwned, Stands, begun, owns, unowned}
 use Rattle.adf_survey.proofs.Taking.{marked_more, unowned_less}
@@ -70,7 +70,7 @@ stands_begun image f g h taken owned avoided left nodes exts findings parents pl
       count = ap length items;
       few = (let l : length h.nodes.items ≡ 1 = ap length items in omega arith);
       ext = (λ m. ap (λ x. unwrap_or (get nat_cmp x m) 0) e.exts ∙ ap (λ c. unwrap_or c 0) (empty_get f.exts (is_at (nat_cmp m)) exts));
-      findings = ap (λ v. map told v.items) o.findings ∙ ap (map told) findings;
+      findings = ap (λ v. map finding_value v.items) o.findings ∙ ap (map finding_value) findings;
       parent = (λ m. ap (λ v. slice_index v.items m) e.parents ∙ (ap (λ xs. slice_index xs m) parents ∙ no_parent m));
       parents = ap (λ v. length v.items) e.parents ∙ ap length parents;
       places = ap (λ v. v.items) e.places ∙ places;

@@ -14,11 +14,11 @@ use Rattle.adf_volume.proofs.Gathered.{one_block}
 use Rattle.adf_volume.proofs.Roles.{has_role, same_refl}
 use Rattle.adf_survey.specs.declared.part.Key.{Key}
 use Rattle.adf_survey.specs.declared.found.Found.{Found}
-use Rattle.adf_survey.specs.Survey.{BitsTell, Course, Finding, IsCourse, finding}
+use Rattle.adf_survey.specs.Survey.{BitsTell, Course, FindingValue, IsCourse, finding}
 use Rattle.adf_survey.specs.Survey.BitsTell.{agrees, differs, ends}
-use Rattle.adf_survey.specs.declared.part.Finding.{Finding as FoundFinding}
+use Rattle.adf_survey.specs.declared.part.Finding.{Finding}
 use Rattle.adf_survey.specs.Forms.{Tells}
-use Rattle.adf_survey.specs.Parts.{by_key, key_of, told}
+use Rattle.adf_survey.specs.Parts.{by_key, key_of, finding_value}
 use Rattle.adf_survey.specs.Found.{BitTells, IsBitOf, IsCompleted, IsFinished, IsNoted, IsToldOn, TellsOn, Stands, at_key, cause_told, owns}
 use Rattle.adf_survey.proofs.Keys.{lacks_at, one_key, same_of_key}
 use Rattle.adf_survey.proofs.Known.{tells_absent}
@@ -34,7 +34,7 @@ at_has (x ∷ w) k b e = go (is_eq (by_key (key_of x.0) k)) refl e (at_has w k b
     go true f e again = let z : x.1 ≡ b = cc in (x.0, inl (refl, z), one_key (key_of x.0) k f)
     go false f e again = let y = again e in (y.0, inr y.1, y.2)
 
-module _ (image : List ℕ) (f : Found) (s : Course) (v : IsCourse image s) (fs : List Finding)
+module _ (image : List ℕ) (f : Found) (s : Course) (v : IsCourse image s) (fs : List FindingValue)
     (st : Stands image f (record { walk = s.walk; passed_over = s.passed_over; findings = fs })) (b : ℕ) where
   abbrev page : ℕ
   page = (b - 2) / PAGE_BITS
@@ -74,13 +74,13 @@ module _ (image : List ℕ) (f : Found) (s : Course) (v : IsCourse image s) (fs 
       tells_bit o a t x.0 h (subst (λ o. Tells (not o) (IsAbsent s.walk b)) (sym oe) (tells_absent s.walk b))
       (subst (λ a. Tells (not a) (IsAbsent s.passed_over b)) (sym ae) (tells_absent s.passed_over b)) (tells_free x.0 t h x.2)
 
-pub tells_none : (image : List ℕ) (s : Course) (b : ℕ) (gs : List Finding) → 2 ≤ b → BitTells image s b None → TellsOn image s b gs → TellsOn image s (b + 1) gs
+pub tells_none : (image : List ℕ) (s : Course) (b : ℕ) (gs : List FindingValue) → 2 ≤ b → BitTells image s b None → TellsOn image s b gs → TellsOn image s (b + 1) gs
 tells_none image s b gs lo t on n fs h =
     let one : b + 1 ≡ suc b = omega arith in
     let more : b - 2 + suc n ≡ b + 1 - 2 + n = omega arith in
     subst (λ m. BitsTell image s 2 m (gs ++ fs)) more (on (suc n) fs (agrees t (subst (λ c. BitsTell image s c n fs) one h)))
 
-pub tells_some : (image : List ℕ) (s : Course) (b : ℕ) (gs : List Finding) (c : Cause) → 2 ≤ b → BitTells image s b (Some c) → TellsOn image s b gs
+pub tells_some : (image : List ℕ) (s : Course) (b : ℕ) (gs : List FindingValue) (c : Cause) → 2 ≤ b → BitTells image s b (Some c) → TellsOn image s b gs
     → TellsOn image s (b + 1) (gs ++ finding None b c ∷ [])
 tells_some image s b gs c lo t on n fs h =
     let one : b + 1 ≡ suc b = omega arith in
@@ -93,21 +93,21 @@ tells_some image s b gs c lo t on n fs h =
 pub none_told : (image : List ℕ) (s : Course) → TellsOn image s 2 []
 none_told image s n fs h = let e : n ≡ 2 - 2 + n = omega arith in subst (λ n. BitsTell image s 2 n fs) e h
 
-pub all_told : (image : List ℕ) (s : Course) (b : ℕ) (gs : List Finding) → TellsOn image s b gs → BitsTell image s 2 (b - 2) gs
+pub all_told : (image : List ℕ) (s : Course) (b : ℕ) (gs : List FindingValue) → TellsOn image s b gs → BitsTell image s 2 (b - 2) gs
 all_told image s b gs on =
     let e : b - 2 + 0 ≡ b - 2 = omega arith in
     subst (λ n. BitsTell image s 2 n gs) e (subst (BitsTell image s 2 (b - 2 + 0)) (append-nil gs) (on 0 [] ends))
 
 pub none_on : (image : List ℕ) (f : Found) (b : ℕ) → 2 ≤ b
-    → ((s : Course) (fs : List Finding) → IsCourse image s → Stands image f (record { walk = s.walk; passed_over = s.passed_over; findings = fs })
+    → ((s : Course) (fs : List FindingValue) → IsCourse image s → Stands image f (record { walk = s.walk; passed_over = s.passed_over; findings = fs })
     → BitTells image s b None) → IsToldOn image f b → IsToldOn image f (b + 1)
 none_on image f b lo tells (s, gs, told, on) = (s, gs, told, tells_none image s b gs lo (tells s (s.findings ++ gs) told.course told.stands) on)
 
-pub some_on : (image : List ℕ) (f g : Found) (b : ℕ) (c : Cause) (x : FoundFinding) → 2 ≤ b → x ≡ record { part = None; block = b; cause = c }
-    → ((s : Course) (fs : List Finding) → IsCourse image s → Stands image f (record { walk = s.walk; passed_over = s.passed_over; findings = fs })
+pub some_on : (image : List ℕ) (f g : Found) (b : ℕ) (c : Cause) (x : Finding) → 2 ≤ b → x ≡ record { part = None; block = b; cause = c }
+    → ((s : Course) (fs : List FindingValue) → IsCourse image s → Stands image f (record { walk = s.walk; passed_over = s.passed_over; findings = fs })
     → BitTells image s b (Some c)) → IsNoted x f g → IsToldOn image f b → IsToldOn image g (b + 1)
 some_on image f g b c x lo is tells noted (s, gs, told, on) =
-    let one : List Finding = finding None b c ∷ [] in
+    let one : List FindingValue = finding None b c ∷ [] in
     let n : IsNoted (record { part = None; block = b; cause = c }) f g = subst (λ x. IsNoted x f g) is noted in
     let st = stands_noted image f g (record { walk = s.walk; passed_over = s.passed_over; findings = s.findings ++ gs }) b told.stands
     (record { part = None; block = b; cause = c }) n in (

@@ -7,32 +7,32 @@ use Rattle.adf_volume.specs.Lists.{In}
 use Rattle.adf_volume.specs.Walk.{Role, Lacks}
 use Rattle.adf_volume.specs.Walk.Role.{Head}
 use Rattle.adf_survey.specs.declared.found.Found.{Found}
-use Rattle.adf_survey.specs.declared.part.Finding.{Finding as FoundFinding}
+use Rattle.adf_survey.specs.declared.part.Finding.{Finding}
 use Rattle.adf_survey.specs.declared.part.Part.{Part}
 use Rattle.adf_survey.specs.declared.part.Part.TheVariants.{Root as RootPart, Page as PagePart, MapExt as MapExtPart, Head as HeadPart}
 use Rattle.adf_survey.specs.declared.part.Part.TheVariants.{Ext as ExtPart, Data as DataPart}
 use Rattle.adf_survey.specs.Concerned.{entry_of, entry_of_nth, entry_with}
 use Rattle.adf_survey.specs.Found.{Stands, at_key}
 use Rattle.adf_survey.specs.Marks.{blamed, is_header}
-use Rattle.adf_survey.specs.Parts.{key_of, part_role, told}
-use Rattle.adf_survey.specs.Survey.{BitsTell, Course, Finding, IsCourse}
+use Rattle.adf_survey.specs.Parts.{key_of, part_role, finding_value}
+use Rattle.adf_survey.specs.Survey.{BitsTell, Course, FindingValue, IsCourse}
 use Rattle.adf_survey.proofs.HeadPlaces.{found_header, header_found}
 use Rattle.adf_survey.proofs.Keys.{at_lacks}
 use Rattle.adf_survey.proofs.OneSurvey.{gathered}
-use Rattle.adf_survey.proofs.SoundMarks.{apart, in_told, settled, taken_at}
+use Rattle.adf_survey.proofs.SoundMarks.{apart, in_values, settled, taken_at}
 use Rattle.adf_volume.proofs.Roles.{same_refl}
 
 -- what holds of each finding holds at each place
-at_places : (g : FoundFinding → Option ℕ) (h : Finding → Option ℕ) (xs : List FoundFinding) → ((x : FoundFinding) → In xs x → g x ≡ h (told x)) → (k : ℕ)
-    → option_flatten (slice_get (map g xs) k) ≡ option_and_then h (slice_get (map told xs) k)
+at_places : (g : Finding → Option ℕ) (h : FindingValue → Option ℕ) (xs : List Finding) → ((x : Finding) → In xs x → g x ≡ h (finding_value x)) → (k : ℕ)
+    → option_flatten (slice_get (map g xs) k) ≡ option_and_then h (slice_get (map finding_value xs) k)
 at_places g h [] e k = refl
 at_places g h (x ∷ xs) e zero = e x (inl refl)
 at_places g h (x ∷ xs) e (suc k) = at_places g h xs (λ y i. e y (inr i)) k
 
-module _ (image : List ℕ) (f : Found) {s : Course} (v : IsCourse image s) (bits : List Finding) {b n : ℕ} (tells : BitsTell image s b n bits)
+module _ (image : List ℕ) (f : Found) {s : Course} (v : IsCourse image s) (bits : List FindingValue) {b n : ℕ} (tells : BitsTell image s b n bits)
     (st : Stands image f (record { walk = s.walk; passed_over = s.passed_over; findings = s.findings ++ bits })) where
   -- a header of a finding is found by its number where the walk has one at its place
-  header_is : (g : Finding) (n p t j : ℕ) → In (s.findings ++ bits) g → g.part ≡ Some (Head n p t j)
+  header_is : (g : FindingValue) (n p t j : ℕ) → In (s.findings ++ bits) g → g.part ≡ Some (Head n p t j)
       → is_header f n p t j ≡ is_some (at_key s.walk (key_of (Head n p t j)))
   header_is g n p t j i e = elim (settled image v bits tells g (Head n p t j) i e) [
     | inl x ↦
@@ -50,7 +50,7 @@ module _ (image : List ℕ) (f : Found) {s : Course} (v : IsCourse image s) (bit
   ]
 
   -- what is found speaks against the entry that the walk has
-  blamed_is : (x : FoundFinding) → In (s.findings ++ bits) (told x) → blamed f x.part ≡ option_and_then (entry_with s.walk) (part_role x.part)
+  blamed_is : (x : Finding) → In (s.findings ++ bits) (finding_value x) → blamed f x.part ≡ option_and_then (entry_with s.walk) (part_role x.part)
   blamed_is x i = go x.part refl
     where
       go : (o : Option Part) → x.part ≡ o → blamed f o ≡ option_and_then (entry_with s.walk) (part_role o)
@@ -58,7 +58,7 @@ module _ (image : List ℕ) (f : Found) {s : Course} (v : IsCourse image s) (bit
       go (Some RootPart) e = refl
       go (Some (PagePart i)) e = refl
       go (Some (MapExtPart j)) e = refl
-      go (Some (HeadPart n p t j)) e = ap (λ y. cond y (Some n) None) (header_is (told x) n p t j i (ap part_role e))
+      go (Some (HeadPart n p t j)) e = ap (λ y. cond y (Some n) None) (header_is (finding_value x) n p t j i (ap part_role e))
       go (Some (ExtPart n k)) e = refl
       go (Some (DataPart n k)) e = refl
 
@@ -66,12 +66,12 @@ module _ (image : List ℕ) (f : Found) {s : Course} (v : IsCourse image s) (bit
   pub concerned_kept : (k : ℕ) → option_flatten (slice_get (map (λ x. blamed f x.part) f.findings.items) k) ≡ entry_of_nth s.walk (s.findings ++ bits) k
   concerned_kept k =
       at_places (λ x. blamed f x.part) (entry_of s.walk) f.findings.items
-      (λ x i. blamed_is x (subst (λ fs. In fs (told x)) st.findings (in_told f.findings.items x i))) k
+      (λ x i. blamed_is x (subst (λ fs. In fs (finding_value x)) st.findings (in_values f.findings.items x i))) k
       ∙ ap (λ fs. entry_of_nth s.walk fs k) st.findings
 
 -- a finding of no part concerns no entry
-pub none_kept : (w : List (Role × ℕ)) (x : FoundFinding) (items : List FoundFinding) (k : ℕ) → x.part ≡ None → items ≡ x ∷ []
-    → option_flatten {T = ℕ} (slice_get [] k) ≡ entry_of_nth w (map told items) k
+pub none_kept : (w : List (Role × ℕ)) (x : Finding) (items : List Finding) (k : ℕ) → x.part ≡ None → items ≡ x ∷ []
+    → option_flatten {T = ℕ} (slice_get [] k) ≡ entry_of_nth w (map finding_value items) k
 none_kept w x items zero none e =
-    sym (ap (λ xs. entry_of_nth w (map told xs) 0) e ∙ ap (λ o. option_and_then (entry_with w) (part_role o)) none)
-none_kept w x items (suc k) none e = sym (ap (λ xs. entry_of_nth w (map told xs) (suc k)) e)
+    sym (ap (λ xs. entry_of_nth w (map finding_value xs) 0) e ∙ ap (λ o. option_and_then (entry_with w) (part_role o)) none)
+none_kept w x items (suc k) none e = sym (ap (λ xs. entry_of_nth w (map finding_value xs) (suc k)) e)

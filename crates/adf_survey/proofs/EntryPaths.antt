@@ -9,7 +9,7 @@ use Rattle.adf_volume.specs.Image.{name_of}
 use Rattle.adf_volume.specs.Walk.{Role, heads, node_block}
 use Rattle.adf_survey.specs.Found.{parent_node}
 use Rattle.adf_survey.specs.Lookup.{IsNamedChild, path_to, path_up}
-use Rattle.adf_survey.specs.Survey.{Finding, IsSurvey}
+use Rattle.adf_survey.specs.Survey.{FindingValue, IsSurvey}
 use Rattle.adf_survey.proofs.Keeping.{parent_is}
 use Rattle.adf_survey.proofs.Lookups.{child_between, header_at}
 
@@ -17,7 +17,7 @@ use Rattle.adf_survey.proofs.Lookups.{child_between, header_at}
 abbrev is_entry : List (Role × ℕ) → ℕ → Bool
 is_entry w n = nat_le 1 n && nat_le n (heads w)
 
-module _ (image : List ℕ) (w : List (Role × ℕ)) (fs : List Finding) (h : IsSurvey image w fs) where
+module _ (image : List ℕ) (w : List (Role × ℕ)) (fs : List FindingValue) (h : IsSurvey image w fs) where
   -- the directory of an entry has a smaller number
   pub directory_smaller : (n : ℕ) → 1 ≤ n → n ≤ heads w → parent_node w n < n
   directory_smaller n lo hi =

@@ -15,7 +15,7 @@ use Rattle.adf_volume.proofs.WalkMembers.{Lists}
 use Rattle.adf_survey.specs.Files.{member_from, named_from, names_from}
 use Rattle.adf_survey.specs.Survey.{Course, IsCourse, IsNext}
 use Rattle.adf_survey.specs.Survey.IsCourse.{start, step}
-use Rattle.adf_survey.specs.Survey.Judgement.{clean, noted, passed}
+use Rattle.adf_survey.specs.Survey.JudgementValue.{clean, noted, passed}
 use Rattle.adf_survey.proofs.OneSurvey.{gathered}
 use Rattle.adf_survey.proofs.SoundMarks.{taken_wanted}
 

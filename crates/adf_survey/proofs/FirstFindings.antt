@@ -18,20 +18,20 @@ use Rattle.adf_volume.specs.Made.{layout_in, tree_in}
 use Rattle.adf_volume.proofs.Lists.{all_split}
 use Rattle.adf_volume.proofs.NoneFits.{none_fits}
 use Rattle.adf_volume.proofs.WalkFits.{fits}
-use Rattle.adf_survey.specs.Survey.{Finding, Judgement, Judged, Course, after, IsNext, IsCourse, IsDone, IsCompared, BitsTell, IsSurvey}
-use Rattle.adf_survey.specs.Survey.Judgement.{clean, noted, passed}
+use Rattle.adf_survey.specs.Survey.{FindingValue, JudgementValue, Judged, Course, after, IsNext, IsCourse, IsDone, IsCompared, BitsTell, IsSurvey}
+use Rattle.adf_survey.specs.Survey.JudgementValue.{clean, noted, passed}
 use Rattle.adf_survey.specs.Survey.IsCourse.{start, step}
 use Rattle.adf_survey.specs.Survey.BitsTell.{ends, agrees, differs}
 use Rattle.adf_survey.specs.Survey.IsSurvey.{unread, read}
 
 module _ (image : List ℕ) (begun : AllHold (boot_demands image ++ root_demands image (root_of image))) where
   -- what is known of a course by its findings: without one it is a walk that left nothing; the first one is the first fault
-  abbrev Known : List (Role × ℕ) → List (Role × ℕ) → List Finding → Type 0
+  abbrev Known : List (Role × ℕ) → List (Role × ℕ) → List FindingValue → Type 0
   Known w over [] = IsWalk image w × (over ≡ [])
   Known w over (f ∷ fs) = FirstFault image f.block f.cause
 
   -- without findings, what is next is what is due
-  due : (w over : List (Role × ℕ)) (fs : List Finding) (r : Role) (a i : ℕ) → over ≡ []
+  due : (w over : List (Role × ℕ)) (fs : List FindingValue) (r : Role) (a i : ℕ) → over ≡ []
       → IsNext image (record { walk = w; passed_over = over; findings = fs }) r a i → IsDue image w r a i
   due w over fs r a i e n = record {
     asked = n.asked;
@@ -39,7 +39,7 @@ module _ (image : List ℕ) (begun : AllHold (boot_demands image ++ root_demands
     least = (λ q c k ask lack bef. n.least q c k ask lack (subst (λ l. Lacks l q) (sym e) (λ z b h s. h)) bef);
   }
 
-  stepped : (w over : List (Role × ℕ)) (fs : List Finding) (r : Role) (a i : ℕ) (j : Judgement) → Known w over fs
+  stepped : (w over : List (Role × ℕ)) (fs : List FindingValue) (r : Role) (a i : ℕ) (j : JudgementValue) → Known w over fs
       → IsNext image (record { walk = w; passed_over = over; findings = fs }) r a i → Judged r (demands image w r a (word_in image a i)) j
       → let s : Course = after (record { walk = w; passed_over = over; findings = fs }) r (word_in image a i) j in Known s.walk s.passed_over s.findings
   stepped w over [] r a i clean k n h = (walk_step k.0 (due w over [] r a i k.1 n) refl h, k.1)
@@ -54,11 +54,11 @@ module _ (image : List ℕ) (begun : AllHold (boot_demands image ++ root_demands
   known (step {s = s} {r = r} {a = a} {i = i} j v n h) = stepped s.walk s.passed_over s.findings r a i j (known v) n h
 
   -- without findings, a course that is done is a whole walk
-  whole : (w over : List (Role × ℕ)) (fs : List Finding) → over ≡ [] → IsDone image (record { walk = w; passed_over = over; findings = fs }) → IsWhole image w
+  whole : (w over : List (Role × ℕ)) (fs : List FindingValue) → over ≡ [] → IsDone image (record { walk = w; passed_over = over; findings = fs }) → IsWhole image w
   whole w over fs e d r a i ask lack = d r a i ask lack (subst (λ l. Lacks l r) (sym e) (λ z b h s. h))
 
   -- and all bits are compared
-  compared : (w over : List (Role × ℕ)) (fs : List Finding) → over ≡ [] → IsWhole image w → (b : ℕ) → 2 ≤ b → b < blocks image
+  compared : (w over : List (Role × ℕ)) (fs : List FindingValue) → over ≡ [] → IsWhole image w → (b : ℕ) → 2 ≤ b → b < blocks image
       → IsCompared (record { walk = w; passed_over = over; findings = fs }) b
   compared w over fs e wh b lo hi =
       let k : ℕ = (b - 2) / PAGE_BITS in
@@ -67,11 +67,11 @@ module _ (image : List ℕ) (begun : AllHold (boot_demands image ++ root_demands
       (asked_block image w wh (Page k) m.0 m.1 m.2 (omega arith), (λ _. subst (λ l. IsAbsent l b) (sym e) (λ q h. h)))
 
   -- where all bits are compared, without a finding they agree, and the first one is the first that disagrees
-  abbrev Told : List (Role × ℕ) → ℕ → ℕ → List Finding → Type 0
+  abbrev Told : List (Role × ℕ) → ℕ → ℕ → List FindingValue → Type 0
   Told w b n [] = AllHold (bitmap_demands image w b n)
   Told w b n (f ∷ fs) = FirstFails (bitmap_demands image w b n) f.block f.cause
 
-  agreed : (w : List (Role × ℕ)) (b n : ℕ) (fs : List Finding) → AllHold (bitmap_demands image w b 1) → Told w (suc b) n fs → Told w b (suc n) fs
+  agreed : (w : List (Role × ℕ)) (b n : ℕ) (fs : List FindingValue) → AllHold (bitmap_demands image w b 1) → Told w (suc b) n fs → Told w b (suc n) fs
   agreed w b n [] h t = (h.0, (h.1.0, t))
   agreed w b n (f ∷ fs) h t = inr (h.0, inr (h.1.0, t))
 
@@ -80,19 +80,19 @@ module _ (image : List ℕ) (begun : AllHold (boot_demands image ++ root_demands
   differed w b n at c (inr (x, inl h)) = inr (x, inl h)
   differed w b n at c (inr (x, inr h)) = absurd h.1
 
-  told : {s : Course} {b n : ℕ} {fs : List Finding} → BitsTell image s b n fs → ((c : ℕ) → b ≤ c → c < b + n → IsCompared s c) → Told s.walk b n fs
+  told : {s : Course} {b n : ℕ} {fs : List FindingValue} → BitsTell image s b n fs → ((c : ℕ) → b ≤ c → c < b + n → IsCompared s c) → Told s.walk b n fs
   told ends all = tt
   told {s = s} (agrees {b = b} {n = n} {fs = fs} h t) all =
       agreed s.walk b n fs (h (all b (omega arith) (omega arith))) (told t (λ c lo hi. all c (omega arith) (omega arith)))
   told {s = s} (differs {b = b} {n = n} {at = at} {c = c} k f t) all = differed s.walk b n at c f
 
 -- what is known of an image by its walk and findings
-abbrev pub Shows : List ℕ → List (Role × ℕ) → List Finding → Type 0
+abbrev pub Shows : List ℕ → List (Role × ℕ) → List FindingValue → Type 0
 Shows image w [] = AllHold (boot_demands image ++ root_demands image (root_of image)) × IsWalk image w × IsWhole image w
     × AllHold (bitmap_demands image w 2 (blocks image - 2))
 Shows image w (f ∷ fs) = FirstFault image f.block f.cause
 
-joined : (image : List ℕ) (w over : List (Role × ℕ)) (fs bits : List Finding) (begun : AllHold (boot_demands image ++ root_demands image (root_of image)))
+joined : (image : List ℕ) (w over : List (Role × ℕ)) (fs bits : List FindingValue) (begun : AllHold (boot_demands image ++ root_demands image (root_of image)))
     → Known image begun w over fs → IsDone image (record { walk = w; passed_over = over; findings = fs })
     → BitsTell image (record { walk = w; passed_over = over; findings = fs }) 2 (blocks image - 2) bits → Shows image w (fs ++ bits)
 joined image w over (f ∷ fs) bits begun k d t = k
@@ -100,16 +100,16 @@ joined image w over [] bits begun k d t =
     let wh = whole image begun w over [] k.1 d in
     cases bits (told image begun t (λ b lo hi. compared image begun w over [] k.1 wh b lo (omega arith)))
   where
-    cases : (bits : List Finding) → Told image begun w 2 (blocks image - 2) bits → Shows image w bits
+    cases : (bits : List FindingValue) → Told image begun w 2 (blocks image - 2) bits → Shows image w bits
     cases [] h = (begun, k.0, whole image begun w over [] k.1 d, h)
     cases (f ∷ fs) h = at_bitmap begun w k.0 (whole image begun w over [] k.1 d) h
 
-pub shown : (image : List ℕ) {w : List (Role × ℕ)} {fs : List Finding} → IsSurvey image w fs → Shows image w fs
+pub shown : (image : List ℕ) {w : List (Role × ℕ)} {fs : List FindingValue} → IsSurvey image w fs → Shows image w fs
 shown image (unread f) = at_boot f
 shown image (read {s = s} {bits = bits} begun v d t) = joined image s.walk s.passed_over s.findings bits begun (known image begun v) d t
 
 -- the first finding is the first fault
-pub first_finding : (image : List ℕ) (w : List (Role × ℕ)) (f : Finding) (fs : List Finding) → IsSurvey image w (f ∷ fs) → FirstFault image f.block f.cause
+pub first_finding : (image : List ℕ) (w : List (Role × ℕ)) (f : FindingValue) (fs : List FindingValue) → IsSurvey image w (f ∷ fs) → FirstFault image f.block f.cause
 first_finding image w f fs v = shown image v
 
 -- what a survey without findings tells, fits
@@ -120,6 +120,6 @@ none_found image w v =
     fits image w k.1 k.2 b.0 b.1 k.3
 
 -- where a tree and a layout fit, a survey has no finding
-pub finds_none : (image : List ℕ) (t : Tree) (l : Layout) (w : List (Role × ℕ)) (fs : List Finding) → Fits image t l → IsSurvey image w fs → fs ≡ []
+pub finds_none : (image : List ℕ) (t : Tree) (l : Layout) (w : List (Role × ℕ)) (fs : List FindingValue) → Fits image t l → IsSurvey image w fs → fs ≡ []
 finds_none image t l w [] fit v = refl
 finds_none image t l w (f ∷ fs) fit v = absurd (none_fits image f.block f.cause t l (first_finding image w f fs v) fit)

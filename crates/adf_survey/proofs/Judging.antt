@@ -19,8 +19,8 @@ use Rattle.adf_volume.specs.Demands.{Demand, AllHold, FirstFails, demands_at, da
 use Rattle.adf_volume.specs.Walk.{Role, first, second, Has, data_count, ext_count, Enough, form_demands, NewName, IsAbsent, IsFreeIn, demands}
 use Rattle.adf_volume.specs.Walk.{bitmap_demands, next_data, node_block}
 use Rattle.adf_volume.specs.Walk.Role.{Root, Page, MapExt, Head, Ext, Data}
-use Rattle.adf_survey.specs.Survey.{Finding, Judgement, Judged, IsItself, is_kept, Course, IsCompared, BitsTell}
-use Rattle.adf_survey.specs.Survey.Judgement.{clean, noted, passed}
+use Rattle.adf_survey.specs.Survey.{FindingValue, JudgementValue, Judged, IsItself, is_kept, Course, IsCompared, BitsTell}
+use Rattle.adf_survey.specs.Survey.JudgementValue.{clean, noted, passed}
 use Rattle.adf_survey.specs.Survey.BitsTell.{ends, agrees, differs}
 use Rattle.adf_volume.proofs.Gathered.{IsGathered, file_one}
 use Rattle.adf_volume.proofs.DecidedAsks.{dec_where, dec_not_zero}
@@ -55,7 +55,7 @@ dec_itself r (x ∷ xs) d =
     ]
 
 -- a part whose demands are decided is judged
-pub judged : (r : Role) (xs : List Demand) → Decided xs → (j : Judgement) × Judged r xs j
+pub judged : (r : Role) (xs : List Demand) → Decided xs → (j : JudgementValue) × Judged r xs j
 judged r xs d =
     elim (first_failing xs d) [
       | inl h ↦ (clean, h)
@@ -194,7 +194,7 @@ module _ (image : List ℕ) (s : Course) (v : IsGathered image s.walk) where
         ]
       ]
 
-  pub bits_told : (b n : ℕ) → (fs : List Finding) × BitsTell image s b n fs
+  pub bits_told : (b n : ℕ) → (fs : List FindingValue) × BitsTell image s b n fs
   bits_told b zero = ([], ends)
   bits_told b (suc n) =
       let rest = bits_told (suc b) n in

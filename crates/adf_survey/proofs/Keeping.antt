@@ -10,14 +10,14 @@ use Rattle.adf_volume.specs.Walk.{Role, second, Has, heads, node_block}
 use Rattle.adf_volume.specs.Walk.Role.{Root, Head}
 use Rattle.adf_volume.proofs.Roles.{head_role}
 use Rattle.adf_survey.specs.Found.{parent_node}
-use Rattle.adf_survey.specs.declared.part.Finding.{Finding as FoundFinding}
+use Rattle.adf_survey.specs.declared.part.Finding.{Finding}
 use Rattle.adf_survey.specs.declared.found.Found.{Found}
 use Rattle.adf_survey.specs.Found.{IsCompleted}
 use Rattle.adf_volume.specs.Start.{IsBegun}
 use Rattle.adf_survey.specs.Marks.{blamed, has_mark, is_clear}
 use Rattle.adf_survey.specs.declared.part.Part.{Part}
-use Rattle.adf_survey.specs.Parts.{part_role, told}
-use Rattle.adf_survey.specs.Survey.{Finding, IsSurvey, finding}
+use Rattle.adf_survey.specs.Parts.{part_role, finding_value}
+use Rattle.adf_survey.specs.Survey.{FindingValue, IsSurvey, finding}
 use Rattle.adf_survey.specs.Survey.IsSurvey.{read, unread}
 use Rattle.adf_survey.specs.Sound.{IsSound}
 use Rattle.adf_volume.proofs.Gathered.{number_of}
@@ -28,15 +28,15 @@ use Rattle.adf_survey.proofs.OneSurvey.{gathered, one_survey}
 use Rattle.adf_survey.proofs.SoundMarks.{clear_is_sound, inside}
 
 -- of an image that does not begin as a volume the finding is kept alone
-pub unread_kept : (image : List ℕ) (x : FoundFinding) (items : List FoundFinding) → x.part ≡ None
+pub unread_kept : (image : List ℕ) (x : Finding) (items : List Finding) → x.part ≡ None
     → FirstFails (boot_demands image ++ root_demands image (root_of image)) x.block x.cause → items ≡ x ∷ []
     → IsOfSurvey (record { image = image; findings = items; concerned = []; nodes = []; parents = []; sound = [] })
 unread_kept image x items none fails e =
-    let part_told : Option Part → Finding = λ p. finding (part_role p) x.block x.cause in (
+    let part_told : Option Part → FindingValue = λ p. finding (part_role p) x.block x.cause in (
       [],
-      map told items,
+      map finding_value items,
       record {
-        survey = subst (IsSurvey image []) ((λ i. part_told (sym none i) ∷ []) ∙ ap (map told) (sym e)) (unread fails);
+        survey = subst (IsSurvey image []) ((λ i. part_told (sym none i) ∷ []) ∙ ap (map finding_value) (sym e)) (unread fails);
         findings = refl;
         concerned = (λ k. none_kept [] x items k none e);
         node = (λ n. refl);
@@ -68,24 +68,24 @@ read_kept image f concerned sound begun (s, bits, told, bits_tell) entries marks
 )
 
 -- what is kept of an image tells of each survey of it
-pub tells_each : (v : Surveyed) → IsOfSurvey v → (w : List (Role × ℕ)) (fs : List Finding) → IsSurvey v.image w fs → TellsOf v w fs
+pub tells_each : (v : Surveyed) → IsOfSurvey v → (w : List (Role × ℕ)) (fs : List FindingValue) → IsSurvey v.image w fs → TellsOf v w fs
 tells_each v k w fs h =
     let e = one_survey v.image k.0 w k.1 fs k.2.survey h in
-    subst (λ (x : List (Role × ℕ) × List Finding). TellsOf v x.0 x.1) (λ t. (e.0 t, e.1 t)) k.2
+    subst (λ (x : List (Role × ℕ) × List FindingValue). TellsOf v x.0 x.1) (λ t. (e.0 t, e.1 t)) k.2
 
 -- the root is no entry
-pub root_no_entry : (image : List ℕ) (w : List (Role × ℕ)) (fs : List Finding) (h : ℕ) → IsSurvey image w fs → IsSound image w fs 0 h → ⊥
+pub root_no_entry : (image : List ℕ) (w : List (Role × ℕ)) (fs : List FindingValue) (h : ℕ) → IsSurvey image w fs → IsSound image w fs 0 h → ⊥
 root_no_entry image w fs h (unread f) s = s.header.has
 root_no_entry image w fs h (read begun v d t) s = omega (arith, number_of image (gathered image v) s.header)
 
 -- the directory of an entry, as a function
-pub parent_is : (image : List ℕ) (w : List (Role × ℕ)) (fs : List Finding) → IsSurvey image w fs → (n p s j b : ℕ) → Has w (Head n p s j) b
+pub parent_is : (image : List ℕ) (w : List (Role × ℕ)) (fs : List FindingValue) → IsSurvey image w fs → (n p s j b : ℕ) → Has w (Head n p s j) b
     → parent_node w n ≡ p
 parent_is image w fs (unread f) n p s j b h = absurd h
 parent_is image w fs (read begun v d t) n p s j b h = head_parent image (gathered image v) n p s j b h
 
 -- the header of an entry is inside of the image
-pub header_inside : (image : List ℕ) (w : List (Role × ℕ)) (fs : List Finding) → IsSurvey image w fs → (n : ℕ) → 1 ≤ n → n ≤ heads w
+pub header_inside : (image : List ℕ) (w : List (Role × ℕ)) (fs : List FindingValue) → IsSurvey image w fs → (n : ℕ) → 1 ≤ n → n ≤ heads w
     → (length image ≡ 512 * blocks image) × (node_block w n < blocks image)
 header_inside image w fs (unread f) n lo hi = absurd (omega arith)
 header_inside image w fs (read {s = s} begun v d t) n lo hi =

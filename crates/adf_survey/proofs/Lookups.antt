@@ -11,32 +11,32 @@ use Rattle.adf_volume.specs.Walk.Role.{Head}
 use Rattle.adf_volume.proofs.Gathered.{head_block, number_of, numbered as has_number, parent_below}
 use Rattle.adf_volume.proofs.Roles.{head_at}
 use Rattle.adf_survey.specs.Lookup.{IsNamedChild, IsFirstChild, LeadsTo}
-use Rattle.adf_survey.specs.Survey.{Finding, IsSurvey}
+use Rattle.adf_survey.specs.Survey.{FindingValue, IsSurvey}
 use Rattle.adf_survey.specs.Survey.IsSurvey.{read, unread}
 use Rattle.adf_survey.proofs.OneSurvey.{gathered}
 
 -- the number of an entry is greater than its directory's, and at most the count
-pub child_between : (image : List ℕ) (w : List (Role × ℕ)) (fs : List Finding) → IsSurvey image w fs → (p n : ℕ) (name : List ℕ)
+pub child_between : (image : List ℕ) (w : List (Role × ℕ)) (fs : List FindingValue) → IsSurvey image w fs → (p n : ℕ) (name : List ℕ)
     → IsNamedChild image w p name n → (p < n) × (n ≤ heads w)
 child_between image w fs (unread f) p n name (s, j, b, has, same) = absurd has
 child_between image w fs (read begun v d t) p n name (s, j, b, has, same) =
     let h : HeadAt w n b = head_at n p s j b has in (parent_below image (gathered image v) h, (number_of image (gathered image v) h).1)
 
 -- the header of an entry, by its number
-pub header_at : (image : List ℕ) (w : List (Role × ℕ)) (fs : List Finding) → IsSurvey image w fs → (n : ℕ) → 1 ≤ n → n ≤ heads w
+pub header_at : (image : List ℕ) (w : List (Role × ℕ)) (fs : List FindingValue) → IsSurvey image w fs → (n : ℕ) → 1 ≤ n → n ≤ heads w
     → HeadAt w n (node_block w n)
 header_at image w fs (unread f) n lo hi = absurd (omega arith)
 header_at image w fs (read {s = s} begun v d t) n lo hi =
     let x = has_number image (gathered image v) n lo hi in
     subst (HeadAt s.walk n) (sym (head_block image (gathered image v) x.1)) x.1
 
-header_one : (image : List ℕ) (w : List (Role × ℕ)) (fs : List Finding) → IsSurvey image w fs → (n p s j b : ℕ) → Has w (Head n p s j) b
+header_one : (image : List ℕ) (w : List (Role × ℕ)) (fs : List FindingValue) → IsSurvey image w fs → (n p s j b : ℕ) → Has w (Head n p s j) b
     → node_block w n ≡ b
 header_one image w fs (unread f) n p s j b g = absurd g
 header_one image w fs (read begun v d t) n p s j b g = head_block image (gathered image v) (head_at n p s j b g)
 
 -- an entry of the directory is a child by its name
-pub child_told : (image : List ℕ) (w : List (Role × ℕ)) (fs : List Finding) → IsSurvey image w fs → (p n : ℕ) (name text : List ℕ) (t : Bool) (up : ℕ)
+pub child_told : (image : List ℕ) (w : List (Role × ℕ)) (fs : List FindingValue) → IsSurvey image w fs → (p n : ℕ) (name text : List ℕ) (t : Bool) (up : ℕ)
     → 1 ≤ n → n ≤ heads w → ((q s j b : ℕ) → Has w (Head n q s j) b → up ≡ q) → up ≡ p → text ≡ name_of image (node_block w n)
     → t ≡ bytes_eq (uppers text) (uppers name) → (t ≡ true) ↔ IsNamedChild image w p name n
 child_told image w fs h p n name text t up lo hi parent same is_text is_t =

@@ -9,8 +9,8 @@ use Rattle.adf_volume.specs.Walk.{Role, Same, Asks, demands, bitmap_demands}
 use Rattle.adf_volume.proofs.Lists.{fails_not_all}
 use Rattle.adf_volume.proofs.OneFault.{fails_one, neither_before, number_is}
 use Rattle.adf_volume.proofs.Roles.{same_role}
-use Rattle.adf_survey.specs.Survey.{Finding, finding, Judgement, Judged, Course, after, IsNext, IsCourse, IsDone, BitsTell, IsSurvey}
-use Rattle.adf_survey.specs.Survey.Judgement.{clean, noted, passed}
+use Rattle.adf_survey.specs.Survey.{FindingValue, finding, JudgementValue, Judged, Course, after, IsNext, IsCourse, IsDone, BitsTell, IsSurvey}
+use Rattle.adf_survey.specs.Survey.JudgementValue.{clean, noted, passed}
 use Rattle.adf_survey.specs.Survey.IsCourse.{start, step}
 use Rattle.adf_survey.specs.Survey.BitsTell.{ends, agrees, differs}
 use Rattle.adf_survey.specs.Survey.IsSurvey.{unread, read}
@@ -18,7 +18,7 @@ use Rattle.adf_volume.proofs.Gathered.{IsGathered, asks_one}
 use Rattle.adf_volume.proofs.Gathered.IsGathered.{start as gathered_start, step as gathered_step}
 
 -- a part is judged in one way
-judged_one : (r : Role) (xs : List Demand) (j k : Judgement) → Judged r xs j → Judged r xs k → j ≡ k
+judged_one : (r : Role) (xs : List Demand) (j k : JudgementValue) → Judged r xs j → Judged r xs k → j ≡ k
 judged_one r xs clean clean h g = refl
 judged_one r xs clean (noted b d) h g = absurd (fails_not_all xs b d g.0 h)
 judged_one r xs clean (passed b d) h g = absurd (fails_not_all xs b d g.0 h)
@@ -31,7 +31,7 @@ judged_one r xs (passed a c) (passed b d) h g = let e = fails_one xs a c b d h.0
 
 module _ (image : List ℕ) where
   -- the walk of a course was gathered
-  came : (s : Course) (r : Role) (a i : ℕ) (j : Judgement) → IsGathered image s.walk → IsNext image s r a i
+  came : (s : Course) (r : Role) (a i : ℕ) (j : JudgementValue) → IsGathered image s.walk → IsNext image s r a i
       → IsGathered image (after s r (word_in image a i) j).walk
   came s r a i clean v n = gathered_step a i (word_in image a i) v n.asked n.lacks
   came s r a i (noted at c) v n = gathered_step a i (word_in image a i) v n.asked n.lacks
@@ -54,7 +54,7 @@ module _ (image : List ℕ) where
   abbrev steps : Course → ℕ
   steps s = length s.walk + length s.passed_over
 
-  one_more : (s : Course) (r : Role) (b : ℕ) (j : Judgement) → steps (after s r b j) ≡ suc (steps s)
+  one_more : (s : Course) (r : Role) (b : ℕ) (j : JudgementValue) → steps (after s r b j) ≡ suc (steps s)
   one_more s r b clean = omega arith
   one_more s r b (noted at c) = omega arith
   one_more s r b (passed at c) = omega arith
@@ -102,7 +102,7 @@ module _ (image : List ℕ) where
       let long : steps t < steps s → ⊥ = not_shorter v t v' d' in
       same_courses v v' (omega arith)
 
-  bits_one : (s : Course) {b n : ℕ} {fs gs : List Finding} → BitsTell image s b n fs → BitsTell image s b n gs → fs ≡ gs
+  bits_one : (s : Course) {b n : ℕ} {fs gs : List FindingValue} → BitsTell image s b n fs → BitsTell image s b n gs → fs ≡ gs
   bits_one s ends ends = refl
   bits_one s (agrees h t) (agrees k u) = bits_one s t u
   bits_one s (agrees {b = b} h t) (differs {at = at} {c = c} k f u) = absurd (fails_not_all (bitmap_demands image s.walk b 1) at c f (h k))
@@ -112,7 +112,7 @@ module _ (image : List ℕ) where
       let y = bits_one s t u in
       λ t. finding None (e.0 t) (e.1 t) ∷ y t
 
-  pub one_survey : (w u : List (Role × ℕ)) (fs gs : List Finding) → IsSurvey image w fs → IsSurvey image u gs → (w ≡ u) × (fs ≡ gs)
+  pub one_survey : (w u : List (Role × ℕ)) (fs gs : List FindingValue) → IsSurvey image w fs → IsSurvey image u gs → (w ≡ u) × (fs ≡ gs)
   one_survey w u fs gs (unread {at = at} {c = c} f) (unread {at = at'} {c = c'} g) =
       let e = fails_one (boot_demands image ++ root_demands image (root_of image)) at c at' c' f g in
       (refl, (λ t. finding None (e.0 t) (e.1 t) ∷ []))

@@ -14,7 +14,7 @@ use Rattle.adf_volume.proofs.Gathered.IsGathered.{start, step}
 use Rattle.adf_volume.proofs.Lists.{fails_not_all}
 use Rattle.adf_survey.specs.Marked.{AreMarks, mark_in}
 use Rattle.adf_survey.specs.Sound.{IsSound}
-use Rattle.adf_survey.specs.Survey.{Finding, IsSurvey}
+use Rattle.adf_survey.specs.Survey.{FindingValue, IsSurvey}
 use Rattle.adf_survey.specs.Survey.IsSurvey.{read, unread}
 use Rattle.adf_survey.specs.Surveyed.{IsOfSurvey, Surveyed}
 use Rattle.adf_survey.proofs.Keeping.{root_no_entry, tells_each}
@@ -25,20 +25,20 @@ some_part image w start e = cc
 some_part image w (step a i b v asked lacks) e = cc
 
 -- the walk of an image that begins as a volume is not empty
-pub begun_walk : (image : List ℕ) (w : List (Role × ℕ)) (fs : List Finding) → IsSurvey image w fs → IsBegun image → w ≡ [] → ⊥
+pub begun_walk : (image : List ℕ) (w : List (Role × ℕ)) (fs : List FindingValue) → IsSurvey image w fs → IsBegun image → w ≡ [] → ⊥
 begun_walk image w fs (unread {at = at} {c = c} f) begun e =
     fails_not_all (boot_demands image ++ root_demands image (root_of image)) at c f begun
 begun_walk image w fs (read {s = s} all v d t) begun e = some_part image s.walk (gathered image v) e
 
 -- that of any other image is empty
-pub unbegun_walk : (image : List ℕ) (w : List (Role × ℕ)) (fs : List Finding) (at : ℕ) (c : Cause) → IsSurvey image w fs
+pub unbegun_walk : (image : List ℕ) (w : List (Role × ℕ)) (fs : List FindingValue) (at : ℕ) (c : Cause) → IsSurvey image w fs
     → FirstFails (boot_demands image ++ root_demands image (root_of image)) at c → w ≡ []
 unbegun_walk image w fs at c (unread f) fails = refl
 unbegun_walk image w fs at c (read begun v d t) fails =
     absurd (fails_not_all (boot_demands image ++ root_demands image (root_of image)) at c fails begun)
 
 -- the marks that are kept are those of the sound entries
-pub kept_marks : (v : Surveyed) → IsOfSurvey v → (w : List (Role × ℕ)) (fs : List Finding) → IsSurvey v.image w fs → AreMarks v.image w fs (mark_in v)
+pub kept_marks : (v : Surveyed) → IsOfSurvey v → (w : List (Role × ℕ)) (fs : List FindingValue) → IsSurvey v.image w fs → AreMarks v.image w fs (mark_in v)
 kept_marks v k w fs h n = elim (cases_lt 0 n) [
   | inl some ↦
       let e : nat_le 1 n ≡ true = grind (arith, nat_tests) in

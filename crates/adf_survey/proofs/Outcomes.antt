@@ -4,18 +4,18 @@ use Rattle.std.proofs.Common.{◌≡◌, ℕ, List, [], ◌∷◌, ◌++◌, ref
 use Rattle.adf_blocks.specs.declared.cause.Cause.{Cause}
 use Rattle.adf_volume.specs.Walk.{Role, demands}
 use Rattle.adf_survey.specs.declared.part.Part.{Part}
-use Rattle.adf_survey.specs.declared.part.Finding.{Finding as FoundFinding}
+use Rattle.adf_survey.specs.declared.part.Finding.{Finding}
 use Rattle.adf_survey.specs.declared.course.Ask.{Ask}
 use Rattle.adf_survey.specs.declared.judge.Facts.{Facts}
-use Rattle.adf_survey.specs.declared.judge.Judgement.{Judgement as FoundJudgement}
+use Rattle.adf_survey.specs.declared.judge.Judgement.{Judgement}
 use Rattle.adf_survey.specs.declared.judge.Judgement.TheVariants.{Clean, Noted, Passed}
 use Rattle.adf_survey.specs.declared.found.Found.{Found}
-use Rattle.adf_survey.specs.Survey.{Course, Finding, IsCourse, Judged, Judgement, after, finding}
-use Rattle.adf_survey.specs.Survey.Judgement.{clean, noted, passed}
+use Rattle.adf_survey.specs.Survey.{Course, FindingValue, IsCourse, Judged, JudgementValue, after, finding}
+use Rattle.adf_survey.specs.Survey.JudgementValue.{clean, noted, passed}
 use Rattle.adf_survey.specs.Survey.IsCourse.{step}
-use Rattle.adf_survey.specs.Forms.{Knows, first_failing, judged_by, keeps, meant}
+use Rattle.adf_survey.specs.Forms.{Knows, first_failing, judged_by, keeps, judgement_value}
 use Rattle.adf_survey.specs.Found.{IsNoted, IsPassed, Stands}
-use Rattle.adf_survey.specs.Parts.{role_of, told}
+use Rattle.adf_survey.specs.Parts.{role_of, finding_value}
 use Rattle.adf_survey.specs.Courses.{IsNextAsk, IsOutcome, role_asked}
 use Rattle.adf_survey.proofs.Judged.{judged}
 use Rattle.adf_survey.proofs.Known.{no_owner}
@@ -27,21 +27,21 @@ module _ (image : List ℕ) (f : Found) (s : Course) (x : Ask) (v : IsCourse ima
   abbrev role : Role
   role = role_asked s x.part
 
-  judgement : (j : FoundJudgement) → meant j ≡ judged_by (first_failing image part x.holder x.block facts) (keeps image part x.block facts)
-      → Judged role (demands image s.walk role x.holder x.block) (meant j)
+  judgement : (j : Judgement) → judgement_value j ≡ judged_by (first_failing image part x.holder x.block facts) (keeps image part x.block facts)
+      → Judged role (demands image s.walk role x.holder x.block) (judgement_value j)
   judgement j e =
-      subst (λ r. Judged r (demands image s.walk r x.holder x.block) (meant j)) is
+      subst (λ r. Judged r (demands image s.walk r x.holder x.block) (judgement_value j)) is
       (subst (Judged (role_of part) (demands image s.walk (role_of part) x.holder x.block)) (sym e) (judged image s.walk part x.holder x.block facts k))
 
-  stepped : (j : Judgement) → Judged role (demands image s.walk role x.holder x.block) j → IsCourse image (after s role x.block j)
+  stepped : (j : JudgementValue) → Judged role (demands image s.walk role x.holder x.block) j → IsCourse image (after s role x.block j)
   stepped j h =
       subst (λ b. IsCourse image (after s role b j)) n.2
       (step j v n.1 (subst (λ b. Judged role (demands image s.walk role x.holder b) j) (sym n.2) h))
 
-  pub clean_outcome : (j : FoundJudgement) → j ≡ Clean
-      → meant j ≡ judged_by (first_failing image part x.holder x.block facts) (keeps image part x.block facts) → IsOutcome image s x f f (Some part)
+  pub clean_outcome : (j : Judgement) → j ≡ Clean
+      → judgement_value j ≡ judged_by (first_failing image part x.holder x.block facts) (keeps image part x.block facts) → IsOutcome image s x f f (Some part)
   clean_outcome j is_clean e =
-      let h = judgement Clean (sym (ap meant is_clean) ∙ e) in
+      let h = judgement Clean (sym (ap judgement_value is_clean) ∙ e) in
       record {
         role = is;
         inside = h.1.0.1;
@@ -54,7 +54,7 @@ module _ (image : List ℕ) (f : Found) (s : Course) (x : Ask) (v : IsCourse ima
       }
 
   -- the finding of the part
-  told_is : (at : ℕ) (c : Cause) → s.findings ++ told (record { part = Some part; block = at; cause = c }) ∷ [] ≡ s.findings ++ finding (Some role) at c ∷ []
+  told_is : (at : ℕ) (c : Cause) → s.findings ++ finding_value (record { part = Some part; block = at; cause = c }) ∷ [] ≡ s.findings ++ finding (Some role) at c ∷ []
   told_is at c = ap (λ r. s.findings ++ finding (Some r) at c ∷ []) is
 
   noted_stands : (g : Found) (at : ℕ) (c : Cause) → IsNoted (record { part = Some part; block = at; cause = c }) f g
@@ -63,13 +63,13 @@ module _ (image : List ℕ) (f : Found) (s : Course) (x : Ask) (v : IsCourse ima
       subst (λ fs. Stands image g (record { walk = s.walk; passed_over = s.passed_over; findings = fs })) (told_is at c)
       (stands_noted image f g s at st (record { part = Some part; block = at; cause = c }) h)
 
-  pub noted_outcome : (j : FoundJudgement) (g : Found) (at : ℕ) (c : Cause) (y : FoundFinding) → j ≡ Noted at c
+  pub noted_outcome : (j : Judgement) (g : Found) (at : ℕ) (c : Cause) (y : Finding) → j ≡ Noted at c
       → y ≡ record { part = Some part; block = at; cause = c }
-      → meant j ≡ judged_by (first_failing image part x.holder x.block facts) (keeps image part x.block facts) → IsNoted y f g
+      → judgement_value j ≡ judged_by (first_failing image part x.holder x.block facts) (keeps image part x.block facts) → IsNoted y f g
       → IsOutcome image s x f g (Some part)
   noted_outcome j g at c y is_noted one e h =
       let k = subst (λ y. IsNoted y f g) one h in
-      let d = judgement (Noted at c) (sym (ap meant is_noted) ∙ e) in
+      let d = judgement (Noted at c) (sym (ap judgement_value is_noted) ∙ e) in
       record {
         role = is;
         inside = (d.1.1.0 (keeps_range role)).1;
@@ -81,14 +81,14 @@ module _ (image : List ℕ) (f : Found) (s : Course) (x : Ask) (v : IsCourse ima
         names = ap (λ f. f.names) k.rest;
       }
 
-  pub passed_outcome : (j : FoundJudgement) (g h : Found) (at : ℕ) (c : Cause) (y : FoundFinding) → j ≡ Passed at c
+  pub passed_outcome : (j : Judgement) (g h : Found) (at : ℕ) (c : Cause) (y : Finding) → j ≡ Passed at c
       → y ≡ record { part = Some part; block = at; cause = c }
-      → meant j ≡ judged_by (first_failing image part x.holder x.block facts) (keeps image part x.block facts) → IsNoted y f g
+      → judgement_value j ≡ judged_by (first_failing image part x.holder x.block facts) (keeps image part x.block facts) → IsNoted y f g
       → IsPassed x.block g h → IsOutcome image s x f h None
   passed_outcome j g h at c y is_passed one e made over =
       let k = subst (λ y. IsNoted y f g) one made in
-      let d = judgement (Passed at c) (sym (ap meant is_passed) ∙ e) in
-      let fs : List Finding = s.findings ++ finding (Some role) at c ∷ [] in
+      let d = judgement (Passed at c) (sym (ap judgement_value is_passed) ∙ e) in
+      let fs : List FindingValue = s.findings ++ finding (Some role) at c ∷ [] in
       let t : Course = record { walk = s.walk; passed_over = s.passed_over; findings = fs } in
       record {
         findings = fs;

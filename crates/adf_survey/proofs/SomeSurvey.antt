@@ -16,8 +16,8 @@ use Rattle.adf_volume.proofs.DecidedAsks.{Asked}
 use Rattle.adf_volume.proofs.FitWalks.{dec_lacks, lacks_same, least, without}
 use Rattle.adf_volume.proofs.Lists.{in_left, in_right}
 use Rattle.adf_volume.proofs.Roles.{head_role, renumbered, renumbered_same, same_of}
-use Rattle.adf_survey.specs.Survey.{Finding, finding, Judgement, Judged, Course, after, IsNext, IsCourse, IsDone, IsSurvey}
-use Rattle.adf_survey.specs.Survey.Judgement.{clean, noted, passed}
+use Rattle.adf_survey.specs.Survey.{FindingValue, finding, JudgementValue, Judged, Course, after, IsNext, IsCourse, IsDone, IsSurvey}
+use Rattle.adf_survey.specs.Survey.JudgementValue.{clean, noted, passed}
 use Rattle.adf_survey.specs.Survey.IsCourse.{start, step}
 use Rattle.adf_survey.specs.Survey.IsSurvey.{unread, read}
 use Rattle.adf_volume.proofs.DecidedAsks.{dec_asked}
@@ -124,7 +124,7 @@ module _ (image : List ℕ) where
 
   module _ (free : List ℕ) (again : (rest : List ℕ) → length free ≡ suc (length rest) → (s : Course) → IsCourse image s → Frees rest s → Finished) where
     -- a part is taken, and its block is free no more
-    took : (w over : List (Role × ℕ)) (fs : List Finding) (r : Role) (b : ℕ) → IsCourse image (record { walk = (r, b) ∷ w; passed_over = over; findings = fs })
+    took : (w over : List (Role × ℕ)) (fs : List FindingValue) (r : Role) (b : ℕ) → IsCourse image (record { walk = (r, b) ∷ w; passed_over = over; findings = fs })
         → b < blocks image → IsAbsent w b → ((b : ℕ) → b < blocks image → IsAbsent w b → In free b) → Finished
     took w over fs r b v lt abs fr =
         let x = without free b (fr b lt abs) in
@@ -192,7 +192,7 @@ module _ (image : List ℕ) where
         ]
       where
         go : (z : Role) → In rs z → (q : Role) → renumbered (suc (heads s.walk)) z ≡ q → (a i : ℕ) → IsNext image s q a i
-            → (j : Judgement) → Judged q (demands image s.walk q a (word_in image a i)) j → Finished
+            → (j : JudgementValue) → Judged q (demands image s.walk q a (word_in image a i)) j → Finished
         go z mem q e a i next clean h =
             took s.walk s.passed_over s.findings q (word_in image a i) (step clean v next h) h.1.0.1 h.1.1.0 fr
         go z mem q e a i next (noted at c) h =
@@ -233,7 +233,7 @@ module _ (image : List ℕ) where
     | yes e ↦ elim (dec_true (is_allowed (blocks image))) [ no n ↦ no (λ x. n x.1) | yes y ↦ yes (e, y) ]
   ]
 
-  pub some_survey : (w : List (Role × ℕ)) × (fs : List Finding) × IsSurvey image w fs
+  pub some_survey : (w : List (Role × ℕ)) × (fs : List FindingValue) × IsSurvey image w fs
   some_survey =
       elim (first_failing (boot_demands image ++ root_demands image (root_of image))
       (decided_append (boot_demands image) (root_demands image (root_of image)) (decided_size, decided_form 0 (boot_form (block image 0)))

@@ -12,8 +12,8 @@ use Rattle.adf_volume.specs.Walk.{Role, second, Has, FileAt, MemberAt, data_coun
 use Rattle.adf_volume.specs.Walk.Role.{Root, Head, Ext, Data}
 use Rattle.adf_volume.proofs.Lists.{all_split, in_left, in_right}
 use Rattle.adf_volume.proofs.Roles.{count_up, dec_has, dir_is_node, has_low, head_in, head_role, same_refl, typed_in}
-use Rattle.adf_survey.specs.Survey.{Finding, finding, Course, IsNext, IsCourse, IsDone, IsSurvey}
-use Rattle.adf_survey.specs.Survey.Judgement.{clean, noted, passed}
+use Rattle.adf_survey.specs.Survey.{FindingValue, finding, Course, IsNext, IsCourse, IsDone, IsSurvey}
+use Rattle.adf_survey.specs.Survey.JudgementValue.{clean, noted, passed}
 use Rattle.adf_survey.specs.Survey.IsCourse.{start, step}
 use Rattle.adf_survey.specs.Survey.IsSurvey.{unread, read}
 use Rattle.adf_survey.specs.Sound.{FileHolds, HeaderHolds, IsSound, IsUnnoted}
@@ -23,13 +23,13 @@ use Rattle.adf_survey.proofs.Judged.{keeps_taken}
 
 module _ (image : List ℕ) where
   -- a finding concerns the part
-  abbrev Noted : List Finding → Role → Type 0
-  Noted fs r = (f : Finding) × In fs f × (f.part ≡ Some r)
+  abbrev Noted : List FindingValue → Role → Type 0
+  Noted fs r = (f : FindingValue) × In fs f × (f.part ≡ Some r)
 
-  noted_more : (fs gs : List Finding) (r : Role) → Noted fs r → Noted (fs ++ gs) r
+  noted_more : (fs gs : List FindingValue) (r : Role) → Noted fs r → Noted (fs ++ gs) r
   noted_more fs gs r x = (x.0, in_left fs gs x.0 x.1, x.2)
 
-  noted_now : (fs : List Finding) (r : Role) (f : Finding) → f.part ≡ Some r → Noted (fs ++ f ∷ []) r
+  noted_now : (fs : List FindingValue) (r : Role) (f : FindingValue) → f.part ≡ Some r → Noted (fs ++ f ∷ []) r
   noted_now fs r f e = (f, in_right fs (f ∷ []) f (inl refl), e)
 
   -- what was passed over is noted
@@ -42,7 +42,7 @@ module _ (image : List ℕ) where
       noted_more s.findings (finding (Some q) at c ∷ []) r (passed_noted v r b h)
 
   -- how a member came into a walk
-  record Came (w : List (Role × ℕ)) (fs : List Finding) (r : Role) (b : ℕ) : Type 0 where
+  record Came (w : List (Role × ℕ)) (fs : List FindingValue) (r : Role) (b : ℕ) : Type 0 where
     before : List (Role × ℕ)
     came_before : IsGathered image before
     at : ℕ
@@ -53,7 +53,7 @@ module _ (image : List ℕ) where
     older : (q : Role) (c : ℕ) → Has before q c → Has w q c
     counted : (n : ℕ) → ext_count before n ≤ ext_count w n
 
-  came_later : (w : List (Role × ℕ)) (fs : List Finding) (r : Role) (b : ℕ) (x : Role × ℕ) → Came w fs r b → Came (x ∷ w) fs r b
+  came_later : (w : List (Role × ℕ)) (fs : List FindingValue) (r : Role) (b : ℕ) (x : Role × ℕ) → Came w fs r b → Came (x ∷ w) fs r b
   came_later w fs r b x y = record {
     before = y.before;
     came_before = y.came_before;
@@ -66,7 +66,7 @@ module _ (image : List ℕ) where
     counted = (λ n. let k = y.counted n in let u = count_up n x.0 (ext_count w n) in omega arith);
   }
 
-  came_noted : (w : List (Role × ℕ)) (fs gs : List Finding) (r : Role) (b : ℕ) → Came w fs r b → Came w (fs ++ gs) r b
+  came_noted : (w : List (Role × ℕ)) (fs gs : List FindingValue) (r : Role) (b : ℕ) → Came w fs r b → Came w (fs ++ gs) r b
   came_noted w fs gs r b y = record {
     before = y.before;
     came_before = y.came_before;
@@ -79,7 +79,7 @@ module _ (image : List ℕ) where
     counted = y.counted;
   }
 
-  came_new : (s : Course) (r : Role) (a i : ℕ) (w : List (Role × ℕ)) (fs : List Finding) (x : Role × ℕ) → w ≡ x ∷ s.walk → IsCourse image s
+  came_new : (s : Course) (r : Role) (a i : ℕ) (w : List (Role × ℕ)) (fs : List FindingValue) (x : Role × ℕ) → w ≡ x ∷ s.walk → IsCourse image s
       → IsNext image s r a i
       → AllHold (demands image s.walk r a (word_in image a i)) ⊎ Noted fs r → Came w fs r (word_in image a i)
   came_new s r a i w fs x e v n j = record {
@@ -109,7 +109,7 @@ module _ (image : List ℕ) where
       ]
   came (step {s = s} {r = q} {a = a} {i = i} (noted at c) v n g) r b (inl e) =
       let w : List (Role × ℕ) = (q, word_in image a i) ∷ s.walk in
-      let fs : List Finding = s.findings ++ finding (Some q) at c ∷ [] in
+      let fs : List FindingValue = s.findings ++ finding (Some q) at c ∷ [] in
       inr (subst (Came w fs r) e.1 (subst (λ r. Came w fs r (word_in image a i)) e.0
       (came_new s q a i w fs (q, word_in image a i) refl v n (inr (noted_now s.findings q (finding (Some q) at c) refl)))))
   came (step {s = s} {r = q} {a = a} {i = i} (noted at c) v n g) r b (inr h) =
@@ -262,14 +262,14 @@ module _ (image : List ℕ) where
       absent_new s.walk z r q (word_in image a i) b (g.1.1.1.0 (keeps_taken z)) (one_role v r q b) h k
   one_role (step (passed at c) v n g) r q b h k = one_role v r q b h k
 
-  pub one_part : (w : List (Role × ℕ)) (fs : List Finding) → IsSurvey image w fs → (r q : Role) (b : ℕ) → Has w r b → Has w q b → r ≡ q
+  pub one_part : (w : List (Role × ℕ)) (fs : List FindingValue) → IsSurvey image w fs → (r q : Role) (b : ℕ) → Has w r b → Has w q b → r ≡ q
   one_part w fs (unread f) r q b h k = absurd h
   one_part w fs (read begun v d t) r q b h k = one_role v r q b h k
 
-  unnoted_less : (fs gs : List Finding) (r : Role) → IsUnnoted (fs ++ gs) r → IsUnnoted fs r
+  unnoted_less : (fs gs : List FindingValue) (r : Role) → IsUnnoted (fs ++ gs) r → IsUnnoted fs r
   unnoted_less fs gs r h f q i = h f q (in_left fs gs f i)
 
-  pub sound_header : (w : List (Role × ℕ)) (fs : List Finding) (n h : ℕ) → IsSurvey image w fs → IsSound image w fs n h → HeaderHolds image w n h
+  pub sound_header : (w : List (Role × ℕ)) (fs : List FindingValue) (n h : ℕ) → IsSurvey image w fs → IsSound image w fs n h → HeaderHolds image w n h
   sound_header w fs n h (unread f) sound g up node = absurd g.has
   sound_header w fs n h (read {s = s} {bits = bits} begun v d told) sound g up node =
       let e : head_role sound.header ≡ head_role g = one_role v (head_role sound.header) (head_role g) h sound.header.has g.has in
@@ -277,7 +277,7 @@ module _ (image : List ℕ) where
       subst (IsUnnoted s.findings) e (unnoted_less s.findings bits (head_role sound.header) sound.unnoted) in
       head_formed v d n g.parent g.slot g.place h up g.has clear node
 
-  pub sound_file : (w : List (Role × ℕ)) (fs : List Finding) (n h : ℕ) → IsSurvey image w fs → IsSound image w fs n h → FileAt image w n h
+  pub sound_file : (w : List (Role × ℕ)) (fs : List FindingValue) (n h : ℕ) → IsSurvey image w fs → IsSound image w fs n h → FileAt image w n h
       → FileHolds image w n h
   sound_file w fs n h (unread f) sound file = absurd file.header.has
   sound_file w fs n h (read {s = s} {bits = bits} begun v d told) sound file = record {

@@ -16,7 +16,7 @@ use Rattle.adf_volume.proofs.Roles.{same_refl}
 use Rattle.std.specs.List.{concat}
 use Rattle.adf_survey.specs.Files.{FileValue, HasItsBlocks, file_content, file_from, file_in, names_from}
 use Rattle.adf_survey.specs.Sound.{IsSound}
-use Rattle.adf_survey.specs.Survey.{Finding, IsSurvey}
+use Rattle.adf_survey.specs.Survey.{FindingValue, IsSurvey}
 use Rattle.adf_survey.specs.Survey.IsSurvey.{read, unread}
 use Rattle.adf_survey.specs.Surveyed.{IsOfSurvey, Surveyed}
 use Rattle.adf_survey.proofs.Keeping.{tells_each}
@@ -25,7 +25,7 @@ use Rattle.adf_survey.proofs.SoundEntries.{passed_noted, sound_file}
 use Rattle.adf_survey.proofs.SoundMarks.{inside}
 
 -- an image with a sound entry begins as a volume, and the entry's data blocks are in the walk in order
-pub sound_read : (image : List ℕ) (w : List (Role × ℕ)) (fs : List Finding) (n h : ℕ) → IsSurvey image w fs → IsSound image w fs n h
+pub sound_read : (image : List ℕ) (w : List (Role × ℕ)) (fs : List FindingValue) (n h : ℕ) → IsSurvey image w fs → IsSound image w fs n h
     → AllHold (boot_demands image ++ root_demands image (root_of image)) × DatasListed image n w
 sound_read image w fs n h (unread f) sound = absurd sound.header.has
 sound_read image w fs n h (read {s = s} {bits = bits} begun v d told) sound = (
@@ -35,7 +35,7 @@ sound_read image w fs n h (read {s = s} {bits = bits} begun v d told) sound = (
 )
 
 -- the file that the table of a sound file tells is that of the walk, and it has its blocks
-pub file_told : (image : List ℕ) (w : List (Role × ℕ)) (fs : List Finding) (n : ℕ) → IsSurvey image w fs
+pub file_told : (image : List ℕ) (w : List (Role × ℕ)) (fs : List FindingValue) (n : ℕ) → IsSurvey image w fs
     → IsSound image w fs n (node_block w n) → word_in image (node_block w n) SECONDARY_TYPE ≡ ST_FILE
     → (file_from image (node_block w n) ≡ file_in image w n) × HasItsBlocks (file_in image w n)
 file_told image w fs n (unread f) sound type = absurd sound.header.has
@@ -56,7 +56,7 @@ file_told image w fs n (read {s = s} {bits = bits} begun v d told) sound type =
     )
 
 -- what is kept of a survey tells of the header of an entry
-module _ (v : Surveyed) (kept : IsOfSurvey v) (w : List (Role × ℕ)) (fs : List Finding) (h : IsSurvey v.image w fs) (n : ℕ) {head type : ℕ} {image : List ℕ}
+module _ (v : Surveyed) (kept : IsOfSurvey v) (w : List (Role × ℕ)) (fs : List FindingValue) (h : IsSurvey v.image w fs) (n : ℕ) {head type : ℕ} {image : List ℕ}
     (is_image : image ≡ v.image) (is_head : head ≡ slice_index v.nodes n) (is_type : type ≡ word_in image head SECONDARY_TYPE) where
   head_is : head ≡ node_block w n
   head_is = is_head ∙ (tells_each v kept w fs h).node n

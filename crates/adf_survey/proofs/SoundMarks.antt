@@ -17,18 +17,18 @@ use Rattle.adf_volume.proofs.Roles.{asks_number, dec_has, head_at, head_role, re
 use Rattle.adf_survey.specs.declared.part.Part.{Part}
 use Rattle.adf_survey.specs.declared.part.Part.TheVariants.{Root as RootPart, Page as PagePart, MapExt as MapExtPart, Head as HeadPart}
 use Rattle.adf_survey.specs.declared.part.Part.TheVariants.{Ext as ExtPart, Data as DataPart}
-use Rattle.adf_survey.specs.declared.part.Finding.{Finding as FoundFinding}
+use Rattle.adf_survey.specs.declared.part.Finding.{Finding}
 use Rattle.adf_survey.specs.declared.found.DataBlock.{DataBlock}
 use Rattle.adf_survey.specs.declared.found.Found.{Found}
 use Rattle.adf_survey.specs.Forms.{Tells}
 use Rattle.adf_survey.specs.Found.{Stands, at_key, datas_of, owns, with_data}
 use Rattle.adf_survey.specs.Marks.{blamed, is_blamed, is_clear, is_doubtful, is_node, is_sharing, sharing, is_header}
-use Rattle.adf_survey.specs.Parts.{key_of, part_role, told}
+use Rattle.adf_survey.specs.Parts.{key_of, part_role, finding_value}
 use Rattle.adf_survey.specs.Sound.{IsSound, IsUnnoted}
-use Rattle.adf_survey.specs.Survey.{BitsTell, Course, Finding, IsCourse, IsDone, IsNext, finding}
+use Rattle.adf_survey.specs.Survey.{BitsTell, Course, FindingValue, IsCourse, IsDone, IsNext, finding}
 use Rattle.adf_survey.specs.Survey.BitsTell.{agrees, differs, ends}
 use Rattle.adf_survey.specs.Survey.IsCourse.{start, step}
-use Rattle.adf_survey.specs.Survey.Judgement.{clean, noted, passed}
+use Rattle.adf_survey.specs.Survey.JudgementValue.{clean, noted, passed}
 use Rattle.adf_survey.proofs.Keys.{lacks_at, same_of_key}
 use Rattle.adf_survey.proofs.AsksSplit.{asks_more}
 use Rattle.adf_survey.proofs.BitSteps.{at_has}
@@ -43,17 +43,17 @@ module _ (image : List ℕ) where
   abbrev Settled : Course → Role → Type 0
   Settled s q = ((b : ℕ) × Has s.walk q b) ⊎ ((b : ℕ) × Has s.passed_over q b)
 
-  new_part : (r q : Role) (f g : Finding) → f.part ≡ Some r → In (f ∷ []) g → g.part ≡ Some q → r ≡ q
+  new_part : (r q : Role) (f g : FindingValue) → f.part ≡ Some r → In (f ∷ []) g → g.part ≡ Some q → r ≡ q
   new_part r q f g e (inl x) p = let z : Some r ≡ Some q = sym e ∙ (ap (λ f. f.part) x ∙ p) in cc
   new_part r q f g e (inr h) p = absurd h
 
-  settled_more : (s : Course) (r q : Role) (b : ℕ) (fs : List Finding) → Settled s q
+  settled_more : (s : Course) (r q : Role) (b : ℕ) (fs : List FindingValue) → Settled s q
       → Settled (record { walk = (r, b) ∷ s.walk; passed_over = s.passed_over; findings = fs }) q
   settled_more s r q b fs (inl h) = inl (h.0, inr h.1)
   settled_more s r q b fs (inr h) = inr h
 
   -- a part that a finding concerns was taken or passed over
-  noted_settled : {s : Course} → IsCourse image s → (f : Finding) (q : Role) → In s.findings f → f.part ≡ Some q → Settled s q
+  noted_settled : {s : Course} → IsCourse image s → (f : FindingValue) (q : Role) → In s.findings f → f.part ≡ Some q → Settled s q
   noted_settled start f q m e = absurd m
   noted_settled (step {s = s} {r = r} {a = a} {i = i} clean v n g) f q m e =
       settled_more s r q (word_in image a i) s.findings (noted_settled v f q m e)
@@ -69,7 +69,7 @@ module _ (image : List ℕ) where
       ]
 
   -- the bits tell of no part
-  bits_none : {s : Course} {b n : ℕ} {fs : List Finding} → BitsTell image s b n fs → (f : Finding) → In fs f → f.part ≡ None
+  bits_none : {s : Course} {b n : ℕ} {fs : List FindingValue} → BitsTell image s b n fs → (f : FindingValue) → In fs f → f.part ≡ None
   bits_none ends f m = absurd m
   bits_none (agrees h t) f m = bits_none t f m
   bits_none (differs h k t) f (inl e) = ap (λ f. f.part) (sym e)
@@ -232,18 +232,18 @@ node_is (Some n) m e = ap Some (eqb-true n m e)
 node_yes : (o : Option ℕ) (m : ℕ) → o ≡ Some m → is_node o m ≡ true
 node_yes o m e = ap (λ o. is_node o m) e ∙ eq-eqb m m refl
 
-blamed_by : (f : Found) (xs : List FoundFinding) (m : ℕ) → is_blamed f xs m ≡ true
-    → (x : FoundFinding) × In xs x × (blamed f x.part ≡ Some m)
+blamed_by : (f : Found) (xs : List Finding) (m : ℕ) → is_blamed f xs m ≡ true
+    → (x : Finding) × In xs x × (blamed f x.part ≡ Some m)
 blamed_by f [] m e = cc
 blamed_by f (x ∷ xs) m e = go (is_node (blamed f x.part) m) refl e (blamed_by f xs m)
   where
     go : (t : Bool) → is_node (blamed f x.part) m ≡ t → (t || is_blamed f xs m) ≡ true
-        → (is_blamed f xs m ≡ true → (y : FoundFinding) × In xs y × (blamed f y.part ≡ Some m))
-        → (y : FoundFinding) × In (x ∷ xs) y × (blamed f y.part ≡ Some m)
+        → (is_blamed f xs m ≡ true → (y : Finding) × In xs y × (blamed f y.part ≡ Some m))
+        → (y : Finding) × In (x ∷ xs) y × (blamed f y.part ≡ Some m)
     go true k e again = (x, inl refl, node_is (blamed f x.part) m k)
     go false k e again = let y = again e in (y.0, inr y.1, y.2)
 
-not_blamed : (f : Found) (xs : List FoundFinding) (m : ℕ) (x : FoundFinding) → is_blamed f xs m ≡ false → In xs x
+not_blamed : (f : Found) (xs : List Finding) (m : ℕ) (x : Finding) → is_blamed f xs m ≡ false → In xs x
     → blamed f x.part ≡ Some m → ⊥
 not_blamed f [] m x e h b = h
 not_blamed f (y ∷ xs) m x e (inl z) b =
@@ -318,15 +318,15 @@ has_data (x ∷ w) n k b (inl e) =
     (in_right (datas_of w) (record { node = n; block = b } ∷ []) (record { node = n; block = b }) (inl refl))
 has_data (x ∷ w) n k b (inr h) = in_with x.0 x.1 (datas_of w) (record { node = n; block = b }) (has_data w n k b h)
 
-pub in_told : (xs : List FoundFinding) (x : FoundFinding) → In xs x → In (map told xs) (told x)
-in_told [] x h = h
-in_told (y ∷ ys) x (inl e) = inl (ap told e)
-in_told (y ∷ ys) x (inr h) = inr (in_told ys x h)
+pub in_values : (xs : List Finding) (x : Finding) → In xs x → In (map finding_value xs) (finding_value x)
+in_values [] x h = h
+in_values (y ∷ ys) x (inl e) = inl (ap finding_value e)
+in_values (y ∷ ys) x (inr h) = inr (in_values ys x h)
 
-in_untold : (xs : List FoundFinding) (g : Finding) → In (map told xs) g → (x : FoundFinding) × In xs x × (told x ≡ g)
-in_untold [] g h = absurd h
-in_untold (y ∷ ys) g (inl e) = (y, inl refl, e)
-in_untold (y ∷ ys) g (inr h) = let x = in_untold ys g h in (x.0, inr x.1, x.2)
+in_findings : (xs : List Finding) (g : FindingValue) → In (map finding_value xs) g → (x : Finding) × In xs x × (finding_value x ≡ g)
+in_findings [] g h = absurd h
+in_findings (y ∷ ys) g (inl e) = (y, inl refl, e)
+in_findings (y ∷ ys) g (inr h) = let x = in_findings ys g h in (x.0, inr x.1, x.2)
 
 head_part : (o : Option Part) (n p s j : ℕ) → part_role o ≡ Some (Head n p s j) → o ≡ Some (HeadPart n p s j)
 head_part (Some (HeadPart m q t i)) n p s j e = cc
@@ -371,21 +371,21 @@ taken_at image w v q b h = go (at_key w (key_of q)) refl
         ap Some (one_block image v x.0 q c b x.1 h (same_of_key x.0 q x.2)).1
 
 -- a part that a finding of a survey concerns was taken or passed over
-pub settled : (image : List ℕ) {s : Course} → IsCourse image s → (bits : List Finding) {b n : ℕ} → BitsTell image s b n bits
-    → (g : Finding) (q : Role) → In (s.findings ++ bits) g → g.part ≡ Some q → Settled image s q
+pub settled : (image : List ℕ) {s : Course} → IsCourse image s → (bits : List FindingValue) {b n : ℕ} → BitsTell image s b n bits
+    → (g : FindingValue) (q : Role) → In (s.findings ++ bits) g → g.part ≡ Some q → Settled image s q
 settled image {s = s} v bits tells g q h e = elim (in_cases s.findings bits g h) [
   | inl k ↦ noted_settled image v g q k e
   | inr k ↦ let z : None ≡ Some q = sym (bits_none image tells g k) ∙ e in cc
 ]
 
-module _ (image : List ℕ) (f : Found) {s : Course} (v : IsCourse image s) (done : IsDone image s) (bits : List Finding) {b n : ℕ}
+module _ (image : List ℕ) (f : Found) {s : Course} (v : IsCourse image s) (done : IsDone image s) (bits : List FindingValue) {b n : ℕ}
     (tells : BitsTell image s b n bits)
     (st : Stands image f (record { walk = s.walk; passed_over = s.passed_over; findings = s.findings ++ bits })) where
-  abbrev all : List Finding
+  abbrev all : List FindingValue
   all = s.findings ++ bits
 
   -- a finding that speaks against an entry concerns a part of it
-  speaks : (m h : ℕ) (g : Finding) (o : Option Part) → In all g → g.part ≡ part_role o → blamed f o ≡ Some m → IsSound image s.walk all m h → ⊥
+  speaks : (m h : ℕ) (g : FindingValue) (o : Option Part) → In all g → g.part ≡ part_role o → blamed f o ≡ Some m → IsSound image s.walk all m h → ⊥
   speaks m h g None i e z sound = cc
   speaks m h g (Some RootPart) i e z sound = cc
   speaks m h g (Some (PagePart k)) i e z sound = cc
@@ -410,8 +410,8 @@ module _ (image : List ℕ) (f : Found) {s : Course} (v : IsCourse image s) (don
   not_noted m h sound = elim (cases_Bool (is_blamed f f.findings.items m)) [
     | inl t ↦
         let x = blamed_by f f.findings.items m t in
-        let i : In all (told x.0) = subst (λ fs. In fs (told x.0)) st.findings (in_told f.findings.items x.0 x.1) in
-        absurd (speaks m h (told x.0) x.0.part i refl x.2 sound)
+        let i : In all (finding_value x.0) = subst (λ fs. In fs (finding_value x.0)) st.findings (in_values f.findings.items x.0 x.1) in
+        absurd (speaks m h (finding_value x.0) x.0.part i refl x.2 sound)
     | inr e ↦ e
   ]
 
@@ -436,10 +436,10 @@ module _ (image : List ℕ) (f : Found) {s : Course} (v : IsCourse image s) (don
       go Ffs e = not_shared m h e sound
 
   -- no finding of a part speaks against the entry
-  unspoken : (m : ℕ) → is_blamed f f.findings.items m ≡ false → (g : Finding) (q : Role) → In all g → g.part ≡ Some q
+  unspoken : (m : ℕ) → is_blamed f f.findings.items m ≡ false → (g : FindingValue) (q : Role) → In all g → g.part ≡ Some q
       → ((o : Option Part) → part_role o ≡ Some q → blamed f o ≡ Some m) → ⊥
   unspoken m e g q i is names =
-      let x = in_untold f.findings.items g (subst (λ fs. In fs g) (sym st.findings) i) in
+      let x = in_findings f.findings.items g (subst (λ fs. In fs g) (sym st.findings) i) in
       not_blamed f f.findings.items m x.0 e x.1 (names x.0.part (ap (λ g. g.part) x.2 ∙ is))
 
   head_clear : (m p t j h : ℕ) → Has s.walk (Head m p t j) h → is_blamed f f.findings.items m ≡ false → IsUnnoted all (Head m p t j)

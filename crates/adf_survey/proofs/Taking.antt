@@ -15,12 +15,12 @@ use Rattle.adf_volume.specs.Walk.Role.{Root, Page, MapExt, Head, Ext, Data}
 use Rattle.adf_survey.specs.declared.part.Part.{Part}
 use Rattle.adf_survey.specs.declared.part.Part.TheVariants.{Root as RootPart, Page as PagePart, MapExt as MapExtPart, Head as HeadPart}
 use Rattle.adf_survey.specs.declared.part.Part.TheVariants.{Ext as ExtPart, Data as DataPart}
-use Rattle.adf_survey.specs.declared.part.Finding.{Finding as FoundFinding}
+use Rattle.adf_survey.specs.declared.part.Finding.{Finding}
 use Rattle.adf_survey.specs.declared.part.Key.{Key}
 use Rattle.adf_survey.specs.declared.found.ChainPlace.{ChainPlace}
 use Rattle.adf_survey.specs.declared.found.Found.{Found}
-use Rattle.adf_survey.specs.Survey.{Course, Finding}
-use Rattle.adf_survey.specs.Parts.{by_key, key_of, role_of, told}
+use Rattle.adf_survey.specs.Survey.{Course, FindingValue}
+use Rattle.adf_survey.specs.Parts.{by_key, key_of, role_of, finding_value}
 use Rattle.adf_survey.specs.Found.{AreMarked, AreSame, IsKept, IsLookedUp, IsNoted, IsOwned, IsPassed, IsPut, IsTaken, KeepsParts, Stands}
 use Rattle.adf_survey.specs.Found.{at_key, by_name, exts_found, owns, parent_by, parent_node, places_of, unowned, with_data, with_place}
 
@@ -201,7 +201,7 @@ module _ (image : List ℕ) (f g : Found) (s : Course) (b : ℕ) (st : Stands im
         count = l.count;
         few = (let m = l.few in let d = st.few in omega arith);
         ext = l.ext;
-        findings = ap (λ v. map told v.items) o.findings ∙ st.findings;
+        findings = ap (λ v. map finding_value v.items) o.findings ∙ st.findings;
         parent = l.parent;
         parents = l.parents;
         places = l.places;
@@ -209,8 +209,8 @@ module _ (image : List ℕ) (f g : Found) (s : Course) (b : ℕ) (st : Stands im
       }
 
   -- what is taken stays so, whatever is passed over and noted
-  stands_else : (over : List (Role × ℕ)) (fs : List Finding) → g ≡ record f { avoided = g.avoided; findings = g.findings }
-      → AreMarked (blocks image) g.avoided.items over → map told g.findings.items ≡ fs
+  stands_else : (over : List (Role × ℕ)) (fs : List FindingValue) → g ≡ record f { avoided = g.avoided; findings = g.findings }
+      → AreMarked (blocks image) g.avoided.items over → map finding_value g.findings.items ≡ fs
       → Stands image g (record { walk = s.walk; passed_over = over; findings = fs })
   stands_else over fs rest avoided findings =
       subst (λ h. Stands image h (record { walk = s.walk; passed_over = over; findings = fs })) (sym rest) (record {
@@ -235,12 +235,12 @@ module _ (image : List ℕ) (f g : Found) (s : Course) (b : ℕ) (st : Stands im
   stands_passed r t =
       stands_else ((r, b) ∷ s.passed_over) s.findings t.rest
       (subst (λ xs. AreMarked (blocks image) xs ((r, b) ∷ s.passed_over)) (sym t.avoided)
-      (marked_more (blocks image) f.avoided.items s.passed_over r b st.avoided)) (ap (λ v. map told v.items) t.findings ∙ st.findings)
+      (marked_more (blocks image) f.avoided.items s.passed_over r b st.avoided)) (ap (λ v. map finding_value v.items) t.findings ∙ st.findings)
 
   -- a finding is noted
-  pub stands_noted : (x : FoundFinding) → IsNoted x f g
-      → Stands image g (record { walk = s.walk; passed_over = s.passed_over; findings = s.findings ++ told x ∷ [] })
+  pub stands_noted : (x : Finding) → IsNoted x f g
+      → Stands image g (record { walk = s.walk; passed_over = s.passed_over; findings = s.findings ++ finding_value x ∷ [] })
   stands_noted x t =
-      stands_else s.passed_over (s.findings ++ told x ∷ []) t.rest
+      stands_else s.passed_over (s.findings ++ finding_value x ∷ []) t.rest
       (subst (λ v. AreMarked (blocks image) v.items s.passed_over) (sym t.avoided) st.avoided)
-      (ap (map told) t.findings ∙ (map-append told f.findings.items (x ∷ []) ∙ ap (λ fs. fs ++ told x ∷ []) st.findings))
+      (ap (map finding_value) t.findings ∙ (map-append finding_value f.findings.items (x ∷ []) ∙ ap (λ fs. fs ++ finding_value x ∷ []) st.findings))

@@ -6,7 +6,7 @@ use Rattle.adf_volume.specs.Walk.{Role}
 use Rattle.adf_volume.specs.Walk.Role.{Head, Ext, Data}
 use Rattle.adf_survey.specs.Found.{at_key}
 use Rattle.adf_survey.specs.Parts.{key_of}
-use Rattle.adf_survey.specs.Survey.{Finding}
+use Rattle.adf_survey.specs.Survey.{FindingValue}
 
 -- the entry that the role is a part of: of a header where the walk has it, of an extension or data block its file
 abbrev pub entry_with : List (Role × ℕ) → Role → Option ℕ
@@ -16,9 +16,9 @@ entry_with w (Data n k) = Some n
 entry_with w _ = None
 
 -- the entry that the finding concerns
-abbrev pub entry_of : List (Role × ℕ) → Finding → Option ℕ
+abbrev pub entry_of : List (Role × ℕ) → FindingValue → Option ℕ
 entry_of w f = option_and_then (entry_with w) f.part
 
 -- the entry that the finding at a place concerns, none past the last
-abbrev pub entry_of_nth : List (Role × ℕ) → List Finding → ℕ → Option ℕ
+abbrev pub entry_of_nth : List (Role × ℕ) → List FindingValue → ℕ → Option ℕ
 entry_of_nth w fs k = option_and_then (entry_of w) (slice_get fs k)

@@ -12,7 +12,7 @@ use Rattle.adf_survey.specs.declared.part.Part.{Part}
 use Rattle.adf_survey.specs.declared.part.Key.{Key}
 use Rattle.adf_survey.specs.declared.course.Ask.{Ask}
 use Rattle.adf_survey.specs.declared.found.Found.{Found}
-use Rattle.adf_survey.specs.Survey.{Course, Finding, IsCourse, IsNext}
+use Rattle.adf_survey.specs.Survey.{Course, FindingValue, IsCourse, IsNext}
 use Rattle.adf_survey.specs.Parts.{key_of, role_of}
 use Rattle.adf_survey.specs.Found.{AreNamed, Stands, owns}
 
@@ -61,7 +61,7 @@ IsNextAsk image s x = (i : ℕ) × IsNext image s (role_asked s x.part) x.holder
 
 -- the part was passed over
 pub record IsPassedOver (image : List ℕ) (s : Course) (x : Ask) (f g : Found) : Type 0 where
-  pub findings : List Finding
+  pub findings : List FindingValue
   pub course : IsCourse image (record { walk = s.walk; passed_over = (role_asked s x.part, x.block) ∷ s.passed_over; findings = findings })
   pub stands : Stands image g (record { walk = s.walk; passed_over = (role_asked s x.part, x.block) ∷ s.passed_over; findings = findings })
   pub left : g.left ≡ f.left
@@ -72,7 +72,7 @@ pub record IsToTake (image : List ℕ) (s : Course) (x : Ask) (f g : Found) (par
   pub role : role_of part ≡ role_asked s x.part
   pub inside : x.block < blocks image
   pub free : owns s.walk x.block ≡ false
-  pub findings : List Finding
+  pub findings : List FindingValue
   pub course : IsCourse image (record { walk = (role_asked s x.part, x.block) ∷ s.walk; passed_over = s.passed_over; findings = findings })
   pub stands : Stands image g (record { walk = s.walk; passed_over = s.passed_over; findings = findings })
   pub left : g.left ≡ f.left
@@ -84,13 +84,13 @@ IsOutcome image s x f g None = IsPassedOver image s x f g
 IsOutcome image s x f g (Some part) = IsToTake image s x f g part
 
 -- the course as it goes on behind a role at block b: taken, or passed over
-abbrev pub course_on : Course → Role → ℕ → Option ℕ → List Finding → Course
+abbrev pub course_on : Course → Role → ℕ → Option ℕ → List FindingValue → Course
 course_on s r b None fs = record { walk = s.walk; passed_over = (r, b) ∷ s.passed_over; findings = fs }
 course_on s r b (Some c) fs = record { walk = (r, b) ∷ s.walk; passed_over = s.passed_over; findings = fs }
 
 -- a course is gone on with, behind a part that word i of block a names
 pub record IsGoneOn (image : List ℕ) (s : Course) (part : Part) (a i : ℕ) (g : Found) (o : Option ℕ) : Type 0 where
-  pub findings : List Finding
+  pub findings : List FindingValue
   pub holds : Holds image g (behind (role_of part)) (course_on s (role_asked s part) (word_in image a i) o findings)
   pub block : IfSome o (λ b. b ≡ word_in image a i)
 

@@ -9,7 +9,7 @@ use Rattle.adf_volume.specs.Lists.{At}
 use Rattle.adf_volume.specs.Made.{datas_in}
 use Rattle.adf_volume.specs.Walk.{Role, data_count, node_block}
 use Rattle.adf_survey.specs.Sound.{IsSound}
-use Rattle.adf_survey.specs.Survey.{Finding}
+use Rattle.adf_survey.specs.Survey.{FindingValue}
 
 -- a file: the image, the block of its header, and its data blocks in order
 pub record FileValue : Type 0 where
@@ -28,7 +28,7 @@ abbrev pub file_content : FileValue → List ℕ
 file_content f = content f.image (kind_of f.image) f.head f.blocks
 
 -- entry n is sound, and its header is a file's
-abbrev pub IsSoundFile : List ℕ → List (Role × ℕ) → List Finding → ℕ → Type 0
+abbrev pub IsSoundFile : List ℕ → List (Role × ℕ) → List FindingValue → ℕ → Type 0
 IsSoundFile image w fs n =
     IsSound image w fs n (node_block w n) × (word_in image (node_block w n) SECONDARY_TYPE ≡ ST_FILE)
 

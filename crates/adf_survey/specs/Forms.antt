@@ -21,10 +21,10 @@ use Rattle.adf_survey.specs.declared.part.Part.TheVariants.{Root as RootPart, Pa
 use Rattle.adf_survey.specs.declared.part.Part.TheVariants.{Ext as ExtPart, Data as DataPart}
 use Rattle.adf_survey.specs.declared.forms.Around.{Around}
 use Rattle.adf_survey.specs.declared.judge.Facts.{Facts}
-use Rattle.adf_survey.specs.declared.judge.Judgement.{Judgement as FoundJudgement}
+use Rattle.adf_survey.specs.declared.judge.Judgement.{Judgement}
 use Rattle.adf_survey.specs.declared.judge.Judgement.TheVariants.{Clean, Noted, Passed}
-use Rattle.adf_survey.specs.Survey.{Judgement, is_kept}
-use Rattle.adf_survey.specs.Survey.Judgement.{clean, noted, passed}
+use Rattle.adf_survey.specs.Survey.{JudgementValue, is_kept}
+use Rattle.adf_survey.specs.Survey.JudgementValue.{clean, noted, passed}
 use Rattle.adf_survey.specs.Parts.{role_of}
 
 -- the form of a data block; nothing is asked of an FFS one
@@ -72,16 +72,16 @@ abbrev pub keeps : List ℕ → Part → ℕ → Facts → Bool
 keeps image part b f = in_range image b && (f.is_absent && itself_by (role_of part) (form_of image part b f.around))
 
 -- what is judged of a part, of which this fails first
-abbrev pub judged_by : Option (ℕ × Cause) → Bool → Judgement
+abbrev pub judged_by : Option (ℕ × Cause) → Bool → JudgementValue
 judged_by None kept = clean
 judged_by (Some x) true = noted x.0 x.1
 judged_by (Some x) false = passed x.0 x.1
 
--- the judgement that is meant
-abbrev pub meant : FoundJudgement → Judgement
-meant Clean = clean
-meant (Noted at c) = noted at c
-meant (Passed at c) = passed at c
+-- the value of a judgement as the code has it
+abbrev pub judgement_value : Judgement → JudgementValue
+judgement_value Clean = clean
+judgement_value (Noted at c) = noted at c
+judgement_value (Passed at c) = passed at c
 
 -- the test tells whether it holds
 abbrev pub Tells : Bool → Type 0 → Type 0

@@ -21,13 +21,13 @@ use Rattle.adf_volume.specs.Walk.Role.{Root, Page, Head, Ext, Data}
 use Rattle.adf_survey.specs.declared.part.Part.{Part}
 use Rattle.adf_survey.specs.declared.part.Part.TheVariants.{Head as HeadPart, Ext as ExtPart, Data as DataPart}
 use Rattle.adf_survey.specs.declared.part.Key.{Key}
-use Rattle.adf_survey.specs.declared.part.Finding.{Finding as FoundFinding}
+use Rattle.adf_survey.specs.declared.part.Finding.{Finding}
 use Rattle.adf_survey.specs.declared.forms.Around.{Around}
 use Rattle.adf_survey.specs.declared.found.ChainPlace.{ChainPlace}
 use Rattle.adf_survey.specs.declared.found.DataBlock.{DataBlock}
 use Rattle.adf_survey.specs.declared.found.Found.{Found}
-use Rattle.adf_survey.specs.Survey.{BitsTell, Course, Finding, IsCompared, IsCourse, IsDone}
-use Rattle.adf_survey.specs.Parts.{by_key, key_of, role_of, told}
+use Rattle.adf_survey.specs.Survey.{BitsTell, Course, FindingValue, IsCompared, IsCourse, IsDone}
+use Rattle.adf_survey.specs.Parts.{by_key, key_of, role_of, finding_value}
 
 -- the block of the member with this key
 abbrev pub at_key : List (Role × ℕ) → Key → Option ℕ
@@ -208,7 +208,7 @@ pub record IsPassed (b : ℕ) (f g : Found) : Type 0 where
   pub rest : g ≡ record f { avoided = g.avoided; findings = g.findings }
 
 -- the finding is noted
-pub record IsNoted (x : FoundFinding) (f g : Found) : Type 0 where
+pub record IsNoted (x : Finding) (f g : Found) : Type 0 where
   pub findings : g.findings.items ≡ f.findings.items ++ x ∷ []
   pub avoided : g.avoided ≡ f.avoided
   pub rest : g ≡ record f { avoided = g.avoided; findings = g.findings }
@@ -223,7 +223,7 @@ pub record Stands (image : List ℕ) (f : Found) (s : Course) : Type 0 where
   pub count : length f.nodes.items ≡ suc (heads s.walk)
   pub few : length f.nodes.items + f.left ≤ suc (blocks image)
   pub ext : (n : ℕ) → exts_found f n ≡ ext_count s.walk n
-  pub findings : map told f.findings.items ≡ s.findings
+  pub findings : map finding_value f.findings.items ≡ s.findings
   pub parent : (n : ℕ) → slice_index f.parents.items n ≡ parent_node s.walk n
   pub parents : length f.parents.items ≡ suc (heads s.walk)
   pub places : f.places.items ≡ places_of s.walk
@@ -256,19 +256,19 @@ abbrev pub IsFinished : List ℕ → Found → Type 0
 IsFinished image f = (s : Course) × IsCourse image s × IsDone image s × Stands image f s
 
 -- a course is done, and what is found is what it and these bits tell
-pub record IsTold (image : List ℕ) (f : Found) (s : Course) (bits : List Finding) : Type 0 where
+pub record IsTold (image : List ℕ) (f : Found) (s : Course) (bits : List FindingValue) : Type 0 where
   pub course : IsCourse image s
   pub done : IsDone image s
   pub stands : Stands image f (record { walk = s.walk; passed_over = s.passed_over; findings = s.findings ++ bits })
 
 -- a course is done, and the bits are compared
 abbrev pub IsCompleted : List ℕ → Found → Type 0
-IsCompleted image f = (s : Course) × (bits : List Finding) × IsTold image f s bits × BitsTell image s 2 (blocks image - 2) bits
+IsCompleted image f = (s : Course) × (bits : List FindingValue) × IsTold image f s bits × BitsTell image s 2 (blocks image - 2) bits
 
 -- what the bits up to a block tell, and those from there on
-abbrev pub TellsOn : List ℕ → Course → ℕ → List Finding → Type 0
-TellsOn image s b gs = (n : ℕ) (fs : List Finding) → BitsTell image s b n fs → BitsTell image s 2 (b - 2 + n) (gs ++ fs)
+abbrev pub TellsOn : List ℕ → Course → ℕ → List FindingValue → Type 0
+TellsOn image s b gs = (n : ℕ) (fs : List FindingValue) → BitsTell image s b n fs → BitsTell image s 2 (b - 2 + n) (gs ++ fs)
 
 -- a course is done, and the bits up to a block are compared
 abbrev pub IsToldOn : List ℕ → Found → ℕ → Type 0
-IsToldOn image f b = (s : Course) × (gs : List Finding) × IsTold image f s gs × TellsOn image s b gs
+IsToldOn image f b = (s : Course) × (gs : List FindingValue) × IsTold image f s gs × TellsOn image s b gs

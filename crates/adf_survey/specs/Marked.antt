@@ -4,11 +4,11 @@ use Rattle.std.specs.Prelude.{◌≡◌, ◌↔◌, ◌&&◌, ℕ, Bool, true, L
 use Rattle.adf_volume.specs.Walk.{Role, node_block}
 use Rattle.adf_survey.specs.Marks.{has_mark}
 use Rattle.adf_survey.specs.Sound.{IsSound}
-use Rattle.adf_survey.specs.Survey.{Finding}
+use Rattle.adf_survey.specs.Survey.{FindingValue}
 use Rattle.adf_survey.specs.Surveyed.{Surveyed}
 
 -- the entries that nothing is said against are marked, and no others
-abbrev pub AreMarks : List ℕ → List (Role × ℕ) → List Finding → (ℕ → Bool) → Type 0
+abbrev pub AreMarks : List ℕ → List (Role × ℕ) → List FindingValue → (ℕ → Bool) → Type 0
 AreMarks image w fs sound = (n : ℕ) → (sound n ≡ true) ↔ IsSound image w fs n (node_block w n)
 
 -- the marks that are kept

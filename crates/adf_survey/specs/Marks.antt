@@ -7,7 +7,7 @@ use Rattle.adf_tree.specs.declared.entry.Kind.TheVariants.{Ofs, Ffs}
 use Rattle.adf_volume.specs.Image.{kind_of}
 use Rattle.adf_survey.specs.declared.part.Part.{Part}
 use Rattle.adf_survey.specs.declared.part.Part.TheVariants.{Head as HeadPart, Ext as ExtPart, Data as DataPart}
-use Rattle.adf_survey.specs.declared.part.Finding.{Finding as FoundFinding}
+use Rattle.adf_survey.specs.declared.part.Finding.{Finding}
 use Rattle.adf_survey.specs.declared.found.ChainPlace.{ChainPlace}
 use Rattle.adf_survey.specs.declared.found.DataBlock.{DataBlock}
 use Rattle.adf_survey.specs.declared.found.Found.{Found}
@@ -34,7 +34,7 @@ is_node None m = false
 is_node (Some n) m = n == m
 
 -- whether a finding speaks against the entry
-abbrev pub is_blamed : Found → List FoundFinding → ℕ → Bool
+abbrev pub is_blamed : Found → List Finding → ℕ → Bool
 is_blamed f [] m = false
 is_blamed f (x ∷ xs) m = is_node (blamed f x.part) m || is_blamed f xs m
 

@@ -8,8 +8,8 @@ use Rattle.adf_survey.specs.declared.part.Part.{Part}
 use Rattle.adf_survey.specs.declared.part.Part.TheVariants.{Root as RootPart, Page as PagePart, MapExt as MapExtPart, Head as HeadPart}
 use Rattle.adf_survey.specs.declared.part.Part.TheVariants.{Ext as ExtPart, Data as DataPart}
 use Rattle.adf_survey.specs.declared.part.Key.{Key}
-use Rattle.adf_survey.specs.declared.part.Finding.{Finding as FoundFinding}
-use Rattle.adf_survey.specs.Survey.{Finding}
+use Rattle.adf_survey.specs.declared.part.Finding.{Finding}
+use Rattle.adf_survey.specs.Survey.{FindingValue}
 
 -- the part as a role
 abbrev pub role_of : Part → Role
@@ -33,6 +33,6 @@ abbrev pub part_role : Option Part → Option Role
 part_role None = None
 part_role (Some p) = Some (role_of p)
 
--- the finding that is meant
-abbrev pub told : FoundFinding → Finding
-told f = record { part = part_role f.part; block = f.block; cause = f.cause }
+-- the value of a finding as the code has it
+abbrev pub finding_value : Finding → FindingValue
+finding_value f = record { part = part_role f.part; block = f.block; cause = f.cause }

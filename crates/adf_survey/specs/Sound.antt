@@ -11,15 +11,15 @@ use Rattle.adf_volume.specs.Made.{datas_in}
 use Rattle.adf_volume.specs.Image.{held, kind_of, table_word, word_in}
 use Rattle.adf_volume.specs.Walk.{Role, Same, Has, HeadAt, NodeAt, MemberAt, data_count, Asks}
 use Rattle.adf_volume.specs.Walk.Role.{Head, Ext, Data}
-use Rattle.adf_survey.specs.Survey.{Finding}
+use Rattle.adf_survey.specs.Survey.{FindingValue}
 
 -- no finding concerns the part
-abbrev pub IsUnnoted : List Finding → Role → Type 0
-IsUnnoted fs r = (f : Finding) (q : Role) → In fs f → f.part ≡ Some q → Same q r → ⊥
+abbrev pub IsUnnoted : List FindingValue → Role → Type 0
+IsUnnoted fs r = (f : FindingValue) (q : Role) → In fs f → f.part ≡ Some q → Same q r → ⊥
 
 -- The header of the entry is in the walk, and nothing concerns it, an extension block or a data block of the entry. An FFS data block does not say
 -- whose it is, so no other part may be asked for in it.
-pub record IsSound (image : List ℕ) (w : List (Role × ℕ)) (fs : List Finding) (n h : ℕ) : Type 0 where
+pub record IsSound (image : List ℕ) (w : List (Role × ℕ)) (fs : List FindingValue) (n h : ℕ) : Type 0 where
   pub header : HeadAt w n h
   pub unnoted : IsUnnoted fs (Head n header.parent header.slot header.place)
   pub exts : (k : ℕ) → IsUnnoted fs (Ext n k)

@@ -13,13 +13,13 @@ use Rattle.adf_volume.specs.Walk.{Role, Before, Has, Asks, Lacks, IsAbsent, dema
 use Rattle.adf_volume.specs.Walk.Role.{Root, Page}
 
 -- What is wrong: the part that it concerns, where it concerns one; the block that is named; the cause.
-pub record Finding : Type 0 where
+pub record FindingValue : Type 0 where
   pub part : Option Role
   pub block : ℕ
   pub cause : Cause
 
 -- a finding of these three
-abbrev pub finding : Option Role → ℕ → Cause → Finding
+abbrev pub finding : Option Role → ℕ → Cause → FindingValue
 finding r at c = record { part = r; block = at; cause = c }
 
 -- the cause says nothing against the block being the part
@@ -45,13 +45,13 @@ IsItself r [] = Unit {0}
 IsItself r (x ∷ xs) = (is_kept r x.cause ≡ false → x.holds) × IsItself r xs
 
 -- How a part is judged that is next: it has no cause; it has one, which is noted, and is taken all the same; it has one and is passed over.
-pub data Judgement : Type 0 where
-  clean : Judgement
-  noted : (at : ℕ) (c : Cause) → Judgement
-  passed : (at : ℕ) (c : Cause) → Judgement
+pub data JudgementValue : Type 0 where
+  clean : JudgementValue
+  noted : (at : ℕ) (c : Cause) → JudgementValue
+  passed : (at : ℕ) (c : Cause) → JudgementValue
 
 -- the demands of the part lead to this judgement
-abbrev pub Judged : Role → List Demand → Judgement → Type 0
+abbrev pub Judged : Role → List Demand → JudgementValue → Type 0
 Judged r xs clean = AllHold xs
 Judged r xs (noted at c) = FirstFails xs at c × IsItself r xs
 Judged r xs (passed at c) = FirstFails xs at c × (IsItself r xs → ⊥)
@@ -60,10 +60,10 @@ Judged r xs (passed at c) = FirstFails xs at c × (IsItself r xs → ⊥)
 pub record Course : Type 0 where
   pub walk : List (Role × ℕ)
   pub passed_over : List (Role × ℕ)
-  pub findings : List Finding
+  pub findings : List FindingValue
 
 -- the part that was next, at block b, is taken or passed over, and its cause is noted
-abbrev pub after : Course → Role → ℕ → Judgement → Course
+abbrev pub after : Course → Role → ℕ → JudgementValue → Course
 after s r b clean = record { walk = (r, b) ∷ s.walk; passed_over = s.passed_over; findings = s.findings }
 after s r b (noted at c) = record { walk = (r, b) ∷ s.walk; passed_over = s.passed_over; findings = s.findings ++ finding (Some r) at c ∷ [] }
 after s r b (passed at c) = record { walk = s.walk; passed_over = (r, b) ∷ s.passed_over; findings = s.findings ++ finding (Some r) at c ∷ [] }
@@ -78,7 +78,7 @@ pub record IsNext (image : List ℕ) (s : Course) (r : Role) (a i : ℕ) : Type 
 -- a course begins with the root, and each part that is next in turn is judged by its demands
 pub data IsCourse (image : List ℕ) : Course → Type 0 where
   start : IsCourse image (record { walk = (Root, root_of image) ∷ []; passed_over = []; findings = [] })
-  step : {s : Course} {r : Role} {a i : ℕ} (j : Judgement) → IsCourse image s → IsNext image s r a i
+  step : {s : Course} {r : Role} {a i : ℕ} (j : JudgementValue) → IsCourse image s → IsNext image s r a i
       → Judged r (demands image s.walk r a (word_in image a i)) j → IsCourse image (after s r (word_in image a i) j)
 
 -- nothing is next
@@ -90,17 +90,17 @@ abbrev pub IsCompared : Course → ℕ → Type 0
 IsCompared s b = ((page : ℕ) × Has s.walk (Page ((b - 2) / PAGE_BITS)) page) × (IsAbsent s.walk b → IsAbsent s.passed_over b)
 
 -- what the bits of n blocks tell, from b on: a finding for each that is compared and disagrees with the walk
-pub data BitsTell (image : List ℕ) (s : Course) : ℕ → ℕ → List Finding → Type 0 where
+pub data BitsTell (image : List ℕ) (s : Course) : ℕ → ℕ → List FindingValue → Type 0 where
   ends : {b : ℕ} → BitsTell image s b 0 []
-  agrees : {b n : ℕ} {fs : List Finding} → (IsCompared s b → AllHold (bitmap_demands image s.walk b 1)) → BitsTell image s (suc b) n fs
+  agrees : {b n : ℕ} {fs : List FindingValue} → (IsCompared s b → AllHold (bitmap_demands image s.walk b 1)) → BitsTell image s (suc b) n fs
       → BitsTell image s b (suc n) fs
-  differs : {b n at : ℕ} {c : Cause} {fs : List Finding} → IsCompared s b → FirstFails (bitmap_demands image s.walk b 1) at c
+  differs : {b n at : ℕ} {c : Cause} {fs : List FindingValue} → IsCompared s b → FirstFails (bitmap_demands image s.walk b 1) at c
       → BitsTell image s (suc b) n fs → BitsTell image s b (suc n) (finding None at c ∷ fs)
 
 -- The walk and the findings of an image. A cause of size, boot bytes or root is the only finding; else the parts are gone through until
 -- nothing is next, and then the bits are compared.
-pub data IsSurvey (image : List ℕ) : List (Role × ℕ) → List Finding → Type 0 where
+pub data IsSurvey (image : List ℕ) : List (Role × ℕ) → List FindingValue → Type 0 where
   unread : {at : ℕ} {c : Cause} → FirstFails (boot_demands image ++ root_demands image (root_of image)) at c
       → IsSurvey image [] (finding None at c ∷ [])
-  read : {s : Course} {bits : List Finding} → AllHold (boot_demands image ++ root_demands image (root_of image)) → IsCourse image s → IsDone image s
+  read : {s : Course} {bits : List FindingValue} → AllHold (boot_demands image ++ root_demands image (root_of image)) → IsCourse image s → IsDone image s
       → BitsTell image s 2 (blocks image - 2) bits → IsSurvey image s.walk (s.findings ++ bits)

@@ -3,32 +3,32 @@
 use Rattle.std.specs.Prelude.{◌≡◌, ◌≤◌, ◌-◌, ◌↔◌, ℕ, Bool, true, List, Option, length, map, slice_get, slice_index}
 use Rattle.std.specs.Option.{option_flatten}
 use Rattle.adf_volume.specs.Walk.{Role, heads, node_block}
-use Rattle.adf_survey.specs.declared.part.Finding.{Finding as FoundFinding}
+use Rattle.adf_survey.specs.declared.part.Finding.{Finding}
 use Rattle.adf_survey.specs.Concerned.{entry_of_nth}
 use Rattle.adf_survey.specs.Found.{parent_node}
 use Rattle.adf_survey.specs.Marks.{has_mark}
-use Rattle.adf_survey.specs.Parts.{told}
+use Rattle.adf_survey.specs.Parts.{finding_value}
 use Rattle.adf_survey.specs.Sound.{IsSound}
-use Rattle.adf_survey.specs.Survey.{Finding, IsSurvey}
+use Rattle.adf_survey.specs.Survey.{FindingValue, IsSurvey}
 
 -- what is kept of an image: the findings, the entries that they concern; the nodes' blocks, the nodes of their directories, whether they are sound
 pub record Surveyed : Type 0 where
   pub image : List ℕ
-  pub findings : List FoundFinding
+  pub findings : List Finding
   pub concerned : List (Option ℕ)
   pub nodes : List ℕ
   pub parents : List ℕ
   pub sound : List Bool
 
 -- what is kept of these
-abbrev pub kept_of : List ℕ → List FoundFinding → List (Option ℕ) → List ℕ → List ℕ → List Bool → Surveyed
+abbrev pub kept_of : List ℕ → List Finding → List (Option ℕ) → List ℕ → List ℕ → List Bool → Surveyed
 kept_of image findings concerned nodes parents sound =
     record { image = image; findings = findings; concerned = concerned; nodes = nodes; parents = parents; sound = sound }
 
 -- what is kept tells of this walk and these findings of a survey
-pub record TellsOf (v : Surveyed) (w : List (Role × ℕ)) (fs : List Finding) : Type 0 where
+pub record TellsOf (v : Surveyed) (w : List (Role × ℕ)) (fs : List FindingValue) : Type 0 where
   pub survey : IsSurvey v.image w fs
-  pub findings : map told v.findings ≡ fs
+  pub findings : map finding_value v.findings ≡ fs
   pub concerned : (k : ℕ) → option_flatten (slice_get v.concerned k) ≡ entry_of_nth w fs k
   pub node : (n : ℕ) → slice_index v.nodes n ≡ node_block w n
   pub parent : (n : ℕ) → slice_index v.parents n ≡ parent_node w n
@@ -37,4 +37,4 @@ pub record TellsOf (v : Surveyed) (w : List (Role × ℕ)) (fs : List Finding) :
 
 -- what is kept tells of a survey
 abbrev pub IsOfSurvey : Surveyed → Type 0
-IsOfSurvey v = (w : List (Role × ℕ)) × (fs : List Finding) × TellsOf v w fs
+IsOfSurvey v = (w : List (Role × ℕ)) × (fs : List FindingValue) × TellsOf v w fs

@@ -3,7 +3,7 @@
 ghost use Rattle.std.specs.Prelude.{◌≡◌, ◌≤◌, ◌<◌, ◌+◌, ◌-◌, ◌/◌, ◌%◌, ◌↔◌, List, length, IsTrue, IsBitSet, OnOk};
 ghost use Rattle.adf_blocks.specs.declared.layout.TheConstants.{PAGE_BITS};
 ghost use Rattle.adf_blocks.specs.Sizes.{blocks};
-ghost use Rattle.adf_survey.specs.Survey.{Course, Finding as SpecFinding, IsCourse};
+ghost use Rattle.adf_survey.specs.Survey.{Course, FindingValue, IsCourse};
 ghost use Rattle.adf_survey.specs.Found.{BitTells, IsBitOf, IsCompleted, IsFinished, IsToldOn, Stands, cause_told};
 
 use crate::found::Found;
@@ -53,7 +53,7 @@ fn cause_of_bit(image: &Image<'_>, found: &Found, b: u32) -> Option<Cause>
     requires inside { b < blocks image.now }
     requires owned { length found.now.owned.items ≡ blocks image.now }
     requires avoided { length found.now.avoided.items ≡ blocks image.now }
-    ensures { (s : Course) (fs : List SpecFinding) → IsCourse image.now s
+    ensures { (s : Course) (fs : List FindingValue) → IsCourse image.now s
         → Stands image.now found.now
         (record { walk = s.walk; passed_over = s.passed_over; findings = fs })
         → BitTells image.now s b result }

@@ -9,7 +9,7 @@ ghost use Rattle.adf_blocks.specs.Sizes.{blocks, count};
 ghost use Rattle.adf_volume.specs.Image.{name_of, root_of, word_in};
 ghost use Rattle.adf_volume.specs.Walk.{Role, data_count};
 ghost use Rattle.adf_volume.specs.Start.{IsBegun};
-ghost use Rattle.adf_survey.specs.Parts.{by_key, key_of, role_of, told};
+ghost use Rattle.adf_survey.specs.Parts.{by_key, finding_value, key_of, role_of};
 ghost use Rattle.adf_survey.specs.Found.{AreNamed, AreSame, Stands, IsChain, IsKept, IsNoted, IsOwned, IsPassed};
 ghost use Rattle.adf_survey.specs.Found.{IsPut, IsTaken, KeepsParts, around_in, begun, by_name, enough_in};
 ghost use Rattle.adf_survey.specs.Found.{exts_found, known_at, member_in, new_in, next_in, with_data};

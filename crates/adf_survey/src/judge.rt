@@ -1,7 +1,7 @@
 // How a part is judged that is next.
 
 ghost use Rattle.std.specs.Prelude.{◌≡◌};
-ghost use Rattle.adf_survey.specs.Forms.{first_failing, judged_by, keeps, meant};
+ghost use Rattle.adf_survey.specs.Forms.{first_failing, judged_by, keeps, judgement_value};
 
 use crate::forms::{Around, first_cause, is_itself};
 use crate::part::Part;
@@ -64,7 +64,7 @@ fn is_kept(image: &Image<'_>, part: Part, b: u32, facts: &Facts) -> bool
 
 /// Judges a part in block `b`, which a word of block `holder` names.
 pub fn judge(image: &Image<'_>, part: Part, holder: u32, b: u32, facts: &Facts) -> Judgement
-    ensures { meant result
+    ensures { judgement_value result
         ≡ judged_by (first_failing image.now part holder b facts.now)
         (keeps image.now part b facts.now) }
 {

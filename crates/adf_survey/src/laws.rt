@@ -6,25 +6,27 @@ ghost use Rattle.adf_volume.specs.Fits.{Fits};
 ghost use Rattle.adf_volume.specs.Layout.{Layout};
 ghost use Rattle.adf_volume.specs.Made.{layout_in, tree_in};
 ghost use Rattle.adf_volume.specs.Walk.{FileAt, FirstFault, Has, Role};
-ghost use Rattle.adf_survey.specs.Survey.{Finding, IsSurvey};
+ghost use Rattle.adf_survey.specs.Survey.{FindingValue, IsSurvey};
 ghost use Rattle.adf_survey.specs.Sound.{DatasInOrder, FileHolds, HeaderHolds, IsSound};
 
 /// Each image has a survey.
 #[tactic(auto, using(crate::proofs::SomeSurvey::some_survey))]
 pub fn some_survey()
-    ensures { (image : List ℕ) → (w : List (Role × ℕ)) × (fs : List Finding) × IsSurvey image w fs }
+    ensures { (image : List ℕ)
+        → (w : List (Role × ℕ)) × (fs : List FindingValue) × IsSurvey image w fs }
 {}
 
 /// An image has one survey at most.
 pub fn one_survey()
-    ensures { (image : List ℕ) (w u : List (Role × ℕ)) (fs gs : List Finding) → IsSurvey image w fs
+    ensures { (image : List ℕ) (w u : List (Role × ℕ)) (fs gs : List FindingValue)
+        → IsSurvey image w fs
         → IsSurvey image u gs
         → (w ≡ u) × (fs ≡ gs) }
 {}
 
 /// The first finding of an image is its first fault.
 pub fn first_finding()
-    ensures { (image : List ℕ) (w : List (Role × ℕ)) (f : Finding) (fs : List Finding)
+    ensures { (image : List ℕ) (w : List (Role × ℕ)) (f : FindingValue) (fs : List FindingValue)
         → IsSurvey image w (f ∷ fs)
         → FirstFault image f.block f.cause }
 {}
@@ -34,26 +36,26 @@ pub fn no_finding()
     ensures fits { (image : List ℕ) (w : List (Role × ℕ)) → IsSurvey image w []
         → Fits image (tree_in image w) (layout_in w) }
     ensures none { (image : List ℕ) (t : Tree) (l : Layout) (w : List (Role
-        × ℕ)) (fs : List Finding) → Fits image t l
+        × ℕ)) (fs : List FindingValue) → Fits image t l
         → IsSurvey image w fs → fs ≡ [] }
 {}
 
 /// A block of a survey's walk is one part.
 pub fn one_part()
-    ensures { (image : List ℕ) (w : List (Role × ℕ)) (fs : List Finding) → IsSurvey image w fs
+    ensures { (image : List ℕ) (w : List (Role × ℕ)) (fs : List FindingValue) → IsSurvey image w fs
         → (r q : Role) (b : ℕ) → Has w r b → Has w q b → r ≡ q }
 {}
 
 /// The header of a sound entry has its form. Each data block that the size of a sound file asks for is in the walk, at the block
 /// that the file's table names, and all of its blocks have their forms; its data blocks are in the walk in order.
 pub fn sound_entries()
-    ensures header { (image : List ℕ) (w : List (Role × ℕ)) (fs : List Finding) (n h : ℕ)
+    ensures header { (image : List ℕ) (w : List (Role × ℕ)) (fs : List FindingValue) (n h : ℕ)
         → IsSurvey image w fs
         → IsSound image w fs n h → HeaderHolds image w n h }
-    ensures file { (image : List ℕ) (w : List (Role × ℕ)) (fs : List Finding) (n h : ℕ)
+    ensures file { (image : List ℕ) (w : List (Role × ℕ)) (fs : List FindingValue) (n h : ℕ)
         → IsSurvey image w fs
         → IsSound image w fs n h → FileAt image w n h → FileHolds image w n h }
-    ensures order { (image : List ℕ) (w : List (Role × ℕ)) (fs : List Finding) (n h : ℕ)
+    ensures order { (image : List ℕ) (w : List (Role × ℕ)) (fs : List FindingValue) (n h : ℕ)
         → IsSurvey image w fs
         → IsSound image w fs n h → DatasInOrder w n }
 {}

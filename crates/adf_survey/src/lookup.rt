@@ -3,7 +3,7 @@
 ghost use Rattle.std.specs.Prelude.{◌≡◌, ◌↔◌, ℕ, List, [], IsOk, IsTrue, IfNone, IfOk, IfSome, map};
 ghost use Rattle.adf_volume.specs.Walk.{Role};
 ghost use Rattle.adf_survey.specs.Lookup.{IsNamedChild, IsFirstChild, LeadsTo, path_to};
-ghost use Rattle.adf_survey.specs.Survey.{Finding as SpecFinding, IsSurvey};
+ghost use Rattle.adf_survey.specs.Survey.{FindingValue, IsSurvey};
 
 use crate::surveyed::Survey;
 use adf_fields::NoMemory;
@@ -12,7 +12,7 @@ use std::alloc::Global;
 
 // Whether an entry is found in this directory under this name, whatever the case.
 fn is_child(survey: &Survey<'_>, parent: Node, name: &Name, n: Node) -> bool
-    ensures { (w : List (Role × ℕ)) (fs : List SpecFinding) → IsSurvey survey.now.image w fs
+    ensures { (w : List (Role × ℕ)) (fs : List FindingValue) → IsSurvey survey.now.image w fs
         → IsTrue result ↔ IsNamedChild survey.now.image w parent name.now n }
 {
     let Some(up) = survey.parent_of(n) else {
@@ -26,9 +26,9 @@ fn is_child(survey: &Survey<'_>, parent: Node, name: &Name, n: Node) -> bool
 
 // The first entry of this directory with this name. It has a greater number than the directory.
 fn child(survey: &Survey<'_>, parent: Node, name: &Name) -> Option<Node>
-    ensures first { (w : List (Role × ℕ)) (fs : List SpecFinding) → IsSurvey survey.now.image w fs
+    ensures first { (w : List (Role × ℕ)) (fs : List FindingValue) → IsSurvey survey.now.image w fs
         → IfSome result (λ n. IsFirstChild survey.now.image w parent name.now n) }
-    ensures none { (w : List (Role × ℕ)) (fs : List SpecFinding) → IsSurvey survey.now.image w fs
+    ensures none { (w : List (Role × ℕ)) (fs : List FindingValue) → IsSurvey survey.now.image w fs
         → IfNone result ((n : ℕ) → IsNamedChild survey.now.image w parent name.now n → ⊥) }
 {
     for before in parent.0..survey.len() {
@@ -44,9 +44,9 @@ impl Survey<'_> {
     /// The entry that the path leads to, whatever the case of its names; 0 for the empty path. Where several entries of a
     /// directory have one name, it goes through the first of them.
     pub fn find(&self, path: &[Name]) -> Option<Node>
-        ensures found { (w : List (Role × ℕ)) (fs : List SpecFinding) → IsSurvey self.now.image w fs
+        ensures found { (w : List (Role × ℕ)) (fs : List FindingValue) → IsSurvey self.now.image w fs
             → IfSome result (λ n. LeadsTo self.now.image w 0 path.now n) }
-        ensures none { (w : List (Role × ℕ)) (fs : List SpecFinding) → IsSurvey self.now.image w fs
+        ensures none { (w : List (Role × ℕ)) (fs : List FindingValue) → IsSurvey self.now.image w fs
             → IfNone result ((n : ℕ) → LeadsTo self.now.image w 0 path.now n → ⊥) }
     {
         let mut node = Node(0);
@@ -62,9 +62,9 @@ impl Survey<'_> {
     /// The names from the root to an entry that is found, each at most 79 bytes and perhaps none that is allowed; empty for
     /// the root and past the last entry, where no memory is taken. `NoMemory` where a growth was refused.
     pub fn path(&self, alloc: Global, n: Node) -> Result<Vec<&[u8]>, NoMemory>
-        ensures names { (w : List (Role × ℕ)) (fs : List SpecFinding) → IsSurvey self.now.image w fs
+        ensures names { (w : List (Role × ℕ)) (fs : List FindingValue) → IsSurvey self.now.image w fs
             → IfOk result (λ v. map (λ x. x.now) v.items ≡ path_to self.now.image w n) }
-        ensures empty { (w : List (Role × ℕ)) (fs : List SpecFinding) → IsSurvey self.now.image w fs
+        ensures empty { (w : List (Role × ℕ)) (fs : List FindingValue) → IsSurvey self.now.image w fs
             → path_to self.now.image w n ≡ [] → IsOk result }
     {
         let mut path = Vec::new(alloc);

@@ -14,9 +14,9 @@ ghost use Rattle.adf_survey.specs.Found.{parent_node};
 ghost use Rattle.adf_survey.specs.Marked.{AreMarks, mark_in};
 ghost use Rattle.adf_survey.specs.Marks.{has_mark};
 ghost use Rattle.adf_survey.specs.Opening.{opening_in};
-ghost use Rattle.adf_survey.specs.Parts.{told};
+ghost use Rattle.adf_survey.specs.Parts.{finding_value};
 ghost use Rattle.adf_survey.specs.Sound.{IsSound};
-ghost use Rattle.adf_survey.specs.Survey.{Finding as SpecFinding, IsSurvey};
+ghost use Rattle.adf_survey.specs.Survey.{FindingValue, IsSurvey};
 ghost use Rattle.adf_survey.specs.Surveyed.{IsOfSurvey, kept_of};
 
 use crate::file::SoundFile;
@@ -110,8 +110,8 @@ impl<'i> Survey<'i> {
 impl Survey<'_> {
     /// All that is wrong, in the order of the survey.
     pub fn findings(&self) -> &[Finding]
-        ensures { (w : List (Role × ℕ)) (fs : List SpecFinding) → IsSurvey self.now.image w fs
-            → map told result.now ≡ fs }
+        ensures { (w : List (Role × ℕ)) (fs : List FindingValue) → IsSurvey self.now.image w fs
+            → map finding_value result.now ≡ fs }
     {
         &self.findings
     }
@@ -119,7 +119,7 @@ impl Survey<'_> {
     /// The entry that finding `k`, counted from 0, concerns: that of a header that is found, or the file of an extension or
     /// data block. None of a header that was passed over, of other parts, and past the last finding.
     pub fn entry_of(&self, k: usize) -> Option<Node>
-        ensures { (w : List (Role × ℕ)) (fs : List SpecFinding) → IsSurvey self.now.image w fs
+        ensures { (w : List (Role × ℕ)) (fs : List FindingValue) → IsSurvey self.now.image w fs
             → result ≡ entry_of_nth w fs k }
     {
         match entry_at(&self.concerned, k) {
@@ -130,7 +130,7 @@ impl Survey<'_> {
 
     /// How many entries are found.
     pub fn len(&self) -> usize
-        ensures { (w : List (Role × ℕ)) (fs : List SpecFinding) → IsSurvey self.now.image w fs
+        ensures { (w : List (Role × ℕ)) (fs : List FindingValue) → IsSurvey self.now.image w fs
             → result ≡ heads w }
     {
         self.nodes.len().saturating_sub(1)
@@ -138,7 +138,7 @@ impl Survey<'_> {
 
     // Whether an entry with this number is found.
     fn has_entry(&self, n: Node) -> bool
-        ensures { (w : List (Role × ℕ)) (fs : List SpecFinding) → IsSurvey self.now.image w fs
+        ensures { (w : List (Role × ℕ)) (fs : List FindingValue) → IsSurvey self.now.image w fs
             → IsTrue result ↔ ((1 ≤ n) × (n ≤ heads w)) }
     {
         n.0 != 0 && n.0 <= self.len()
@@ -146,9 +146,9 @@ impl Survey<'_> {
 
     /// The block of the header of an entry that is found; none of the root and past the last entry.
     pub fn block_of(&self, n: Node) -> Option<u32>
-        ensures some { (w : List (Role × ℕ)) (fs : List SpecFinding) → IsSurvey self.now.image w fs
+        ensures some { (w : List (Role × ℕ)) (fs : List FindingValue) → IsSurvey self.now.image w fs
             → IsSome result ↔ ((1 ≤ n) × (n ≤ heads w)) }
-        ensures block { (w : List (Role × ℕ)) (fs : List SpecFinding) → IsSurvey self.now.image w fs
+        ensures block { (w : List (Role × ℕ)) (fs : List FindingValue) → IsSurvey self.now.image w fs
             → IfSome result (λ b. b ≡ node_block w n) }
     {
         if !self.has_entry(n) {
@@ -159,9 +159,9 @@ impl Survey<'_> {
 
     /// The block with the header of an entry that is found; none of the root and past the last entry.
     pub fn header(&self, n: Node) -> Option<Block<'_>>
-        ensures some { (w : List (Role × ℕ)) (fs : List SpecFinding) → IsSurvey self.now.image w fs
+        ensures some { (w : List (Role × ℕ)) (fs : List FindingValue) → IsSurvey self.now.image w fs
             → IsSome result ↔ ((1 ≤ n) × (n ≤ heads w)) }
-        ensures block { (w : List (Role × ℕ)) (fs : List SpecFinding) → IsSurvey self.now.image w fs
+        ensures block { (w : List (Role × ℕ)) (fs : List FindingValue) → IsSurvey self.now.image w fs
             → IfSome result (λ x. x ≡ block self.now.image (node_block w n)) }
     {
         match self.block_of(n) {
@@ -173,9 +173,9 @@ impl Survey<'_> {
     /// The name in the header of an entry that is found, at most 79 bytes, which may be none that is allowed; none of the root
     /// and past the last entry.
     pub fn name(&self, n: Node) -> Option<&[u8]>
-        ensures some { (w : List (Role × ℕ)) (fs : List SpecFinding) → IsSurvey self.now.image w fs
+        ensures some { (w : List (Role × ℕ)) (fs : List FindingValue) → IsSurvey self.now.image w fs
             → IsSome result ↔ ((1 ≤ n) × (n ≤ heads w)) }
-        ensures name { (w : List (Role × ℕ)) (fs : List SpecFinding) → IsSurvey self.now.image w fs
+        ensures name { (w : List (Role × ℕ)) (fs : List FindingValue) → IsSurvey self.now.image w fs
             → IfSome result (λ x. x.now ≡ name_of self.now.image (node_block w n)) }
     {
         match self.header(n) {
@@ -187,9 +187,9 @@ impl Survey<'_> {
     /// Whether an entry that is found is a directory, or a file with its size in bytes and its first extension block, as its
     /// header says; a link counts as a file. None of the root and past the last entry.
     pub fn body(&self, n: Node) -> Option<HeadBody>
-        ensures some { (w : List (Role × ℕ)) (fs : List SpecFinding) → IsSurvey self.now.image w fs
+        ensures some { (w : List (Role × ℕ)) (fs : List FindingValue) → IsSurvey self.now.image w fs
             → IsSome result ↔ ((1 ≤ n) × (n ≤ heads w)) }
-        ensures body { (w : List (Role × ℕ)) (fs : List SpecFinding) → IsSurvey self.now.image w fs
+        ensures body { (w : List (Role × ℕ)) (fs : List FindingValue) → IsSurvey self.now.image w fs
             → IfSome result (λ x. x ≡ body_at (block self.now.image (node_block w n))) }
     {
         match self.header(n) {
@@ -201,9 +201,9 @@ impl Survey<'_> {
     /// What the header of an entry that is found says beside its name and its body: its comment, of a longer one the first 79
     /// bytes, its protection and its date. None of the root and past the last entry.
     pub fn meta(&self, n: Node) -> Option<Meta>
-        ensures some { (w : List (Role × ℕ)) (fs : List SpecFinding) → IsSurvey self.now.image w fs
+        ensures some { (w : List (Role × ℕ)) (fs : List FindingValue) → IsSurvey self.now.image w fs
             → IsSome result ↔ ((1 ≤ n) × (n ≤ heads w)) }
-        ensures meta { (w : List (Role × ℕ)) (fs : List SpecFinding) → IsSurvey self.now.image w fs
+        ensures meta { (w : List (Role × ℕ)) (fs : List FindingValue) → IsSurvey self.now.image w fs
             → IfSome result (λ x. x ≡ meta_told (block self.now.image (node_block w n))) }
     {
         match self.header(n) {
@@ -214,7 +214,7 @@ impl Survey<'_> {
 
     /// What the boot bytes and the root tell; none where the image does not begin as a volume, so that nothing is gone through.
     pub fn opening(&self) -> Option<Opening>
-        ensures some { (w : List (Role × ℕ)) (fs : List SpecFinding) → IsSurvey self.now.image w fs
+        ensures some { (w : List (Role × ℕ)) (fs : List FindingValue) → IsSurvey self.now.image w fs
             → IsNone result ↔ (w ≡ []) }
         ensures opening { IfSome result (λ o. o ≡ opening_in self.now.image) }
     {
@@ -226,7 +226,7 @@ impl Survey<'_> {
 
     // The node of the directory of an entry, 0 where there is no such entry.
     pub(crate) fn directory_of(&self, n: Node) -> Node
-        ensures { (w : List (Role × ℕ)) (fs : List SpecFinding) → IsSurvey self.now.image w fs
+        ensures { (w : List (Role × ℕ)) (fs : List FindingValue) → IsSurvey self.now.image w fs
             → result ≡ parent_node w n }
     {
         Node(number_at(&self.parents, n.0) as usize)
@@ -234,9 +234,9 @@ impl Survey<'_> {
 
     /// The node of the directory of an entry that is found, 0 of those in the root; none of the root and past the last entry.
     pub fn parent_of(&self, n: Node) -> Option<Node>
-        ensures some { (w : List (Role × ℕ)) (fs : List SpecFinding) → IsSurvey self.now.image w fs
+        ensures some { (w : List (Role × ℕ)) (fs : List FindingValue) → IsSurvey self.now.image w fs
             → IsSome result ↔ ((1 ≤ n) × (n ≤ heads w)) }
-        ensures parent { (w : List (Role × ℕ)) (fs : List SpecFinding)
+        ensures parent { (w : List (Role × ℕ)) (fs : List FindingValue)
             → IsSurvey self.now.image w fs
             → IfSome result (λ m. (p s j b : ℕ) → Has w (Head n p s j) b → m ≡ p) }
     {
@@ -248,7 +248,7 @@ impl Survey<'_> {
 
     /// Whether nothing is said against the parts of an entry that is found.
     pub fn is_sound(&self, n: Node) -> bool
-        ensures { (w : List (Role × ℕ)) (fs : List SpecFinding) → IsSurvey self.now.image w fs
+        ensures { (w : List (Role × ℕ)) (fs : List FindingValue) → IsSurvey self.now.image w fs
             → IsTrue result ↔ IsSound self.now.image w fs n (node_block w n) }
     {
         n.0 != 0 && has_mark(&self.sound, n.0)
@@ -256,7 +256,7 @@ impl Survey<'_> {
 
     /// Tells that the marks that are kept are those of the sound entries.
     pub fn marks(&self)
-        ensures { (w : List (Role × ℕ)) (fs : List SpecFinding) → IsSurvey self.now.image w fs
+        ensures { (w : List (Role × ℕ)) (fs : List FindingValue) → IsSurvey self.now.image w fs
             → AreMarks self.now.image w fs (mark_in self.now) }
     {
         let _sound = &self.sound;
@@ -267,11 +267,11 @@ impl<'i> Survey<'i> {
     /// A file that nothing is said against; none of what is no file, and of what is not sound, for which no memory is taken.
     /// `NoMemory` where a growth was refused.
     pub fn file(&self, alloc: Global, n: Node) -> Result<Option<SoundFile<'i>>, NoMemory>
-        ensures some { (w : List (Role × ℕ)) (fs : List SpecFinding) → IsSurvey self.now.image w fs
+        ensures some { (w : List (Role × ℕ)) (fs : List FindingValue) → IsSurvey self.now.image w fs
             → IfOk result (λ x. IsSome x ↔ IsSoundFile self.now.image w fs n) }
-        ensures file { (w : List (Role × ℕ)) (fs : List SpecFinding) → IsSurvey self.now.image w fs
+        ensures file { (w : List (Role × ℕ)) (fs : List FindingValue) → IsSurvey self.now.image w fs
             → IfOk result (λ x. IfSome x (λ f. f ≡ file_in self.now.image w n)) }
-        ensures none { (w : List (Role × ℕ)) (fs : List SpecFinding) → IsSurvey self.now.image w fs
+        ensures none { (w : List (Role × ℕ)) (fs : List FindingValue) → IsSurvey self.now.image w fs
             → (IsSoundFile self.now.image w fs n → ⊥) → IsOk result }
     {
         if !self.is_sound(n) {

@@ -4,7 +4,7 @@ ghost use Rattle.std.specs.Prelude.{◌≡◌, ◌++◌, ℕ, List, IfOk, map};
 ghost use Rattle.adf_volume.specs.Demands.{FirstFails, boot_demands, root_demands};
 ghost use Rattle.adf_volume.specs.Image.{root_of};
 ghost use Rattle.adf_volume.specs.Walk.{Role};
-ghost use Rattle.adf_survey.specs.Parts.{told};
+ghost use Rattle.adf_survey.specs.Parts.{finding_value};
 ghost use Rattle.adf_survey.specs.Survey.{IsSurvey};
 
 use crate::bits::compare;
@@ -24,7 +24,7 @@ fn only<'i>(alloc: Global, image: &'i [u8], unopened: Unopened) -> Result<Survey
         (root_of image.now)) unopened.block unopened.cause }
     ensures image { IfOk result (λ v. v.image ≡ image.now) }
     ensures findings { IfOk result (λ v. (w : List (Role × ℕ))
-        × IsSurvey image.now w (map told v.findings)) }
+        × IsSurvey image.now w (map finding_value v.findings)) }
 {
     let mut findings = Vec::new(alloc);
     let finding = Finding {
@@ -49,7 +49,7 @@ fn only<'i>(alloc: Global, image: &'i [u8], unopened: Unopened) -> Result<Survey
 fn go_through<'i>(alloc: Global, image: &Image<'i>) -> Result<Survey<'i>, NoMemory>
     ensures image { IfOk result (λ v. v.image ≡ image.now) }
     ensures findings { IfOk result (λ v. (w : List (Role × ℕ))
-        × IsSurvey image.now w (map told v.findings)) }
+        × IsSurvey image.now w (map finding_value v.findings)) }
 {
     let mut found = Found::begin(alloc, image)?;
     run(image, &mut found)?;
@@ -71,7 +71,7 @@ fn go_through<'i>(alloc: Global, image: &Image<'i>) -> Result<Survey<'i>, NoMemo
 pub fn survey<'i>(alloc: Global, image: &'i [u8]) -> Result<Survey<'i>, NoMemory>
     ensures image { IfOk result (λ v. v.image ≡ image.now) }
     ensures findings { IfOk result (λ v. (w : List (Role × ℕ))
-        × IsSurvey image.now w (map told v.findings)) }
+        × IsSurvey image.now w (map finding_value v.findings)) }
 {
     match open(image) {
         Ok(opened) => go_through(alloc, &opened.image),

@@ -7,46 +7,46 @@ use Rattle.std.proofs.lemmas.List.{drop_all, drop_more}
 use Rattle.std.proofs.lemmas.Option.{slice_get-get_or, slice_get-map}
 use Rattle.adf_volume.specs.Walk.{Role}
 use Rattle.adf_survey.specs.Concerned.{entry_of, entry_of_nth}
-use Rattle.adf_survey.specs.declared.part.Finding.{Finding as FoundFinding}
-use Rattle.adf_survey.specs.Parts.{told}
-use Rattle.adf_survey.specs.Survey.{Finding}
+use Rattle.adf_survey.specs.declared.part.Finding.{Finding}
+use Rattle.adf_survey.specs.Parts.{finding_value}
+use Rattle.adf_survey.specs.Survey.{FindingValue}
 use Rattle.adf_cmd.specs.Streams.{Pending}
 use Rattle.adf_survey_cmd.specs.Lines.{findings_text, lines_from, findings_line, run_of}
 use Rattle.adf_survey_cmd.specs.declared.runs.Run.{Run}
 use Rattle.adf_survey_cmd.proofs.RunLines.{run_last}
 
-module _ (image : List ℕ) (w : List (Role × ℕ)) (fs : List Finding) (all others : List FoundFinding) (first : FoundFinding) (e : map told all ≡ fs)
+module _ (image : List ℕ) (w : List (Role × ℕ)) (fs : List FindingValue) (all others : List Finding) (first : Finding) (e : map finding_value all ≡ fs)
     (s : all ≡ first ∷ others) where
-  are : told first ∷ map told others ≡ fs
-  are = sym (ap (map told) s) ∙ e
+  are : finding_value first ∷ map finding_value others ≡ fs
+  are = sym (ap (map finding_value) s) ∙ e
 
   -- the first finding begins the runs
-  pub runs_begun : (run : Run) (text : List ℕ) → run ≡ run_of w (told first) → text ≡ []
-      → findings_text image w fs ≡ text ++ lines_from image w run (map told others)
+  pub runs_begun : (run : Run) (text : List ℕ) → run ≡ run_of w (finding_value first) → text ≡ []
+      → findings_text image w fs ≡ text ++ lines_from image w run (map finding_value others)
   runs_begun run text r empty =
-      ap (findings_text image w) (sym are) ∙ ap (λ (x : Run). lines_from image w x (map told others)) (sym r)
-      ∙ ap (λ t. t ++ lines_from image w run (map told others)) (sym empty)
+      ap (findings_text image w) (sym are) ∙ ap (λ (x : Run). lines_from image w x (map finding_value others)) (sym r)
+      ∙ ap (λ t. t ++ lines_from image w run (map finding_value others)) (sym empty)
 
-  pub entry_first : (o : Option ℕ) → o ≡ entry_of_nth w fs 0 → o ≡ entry_of w (told first)
+  pub entry_first : (o : Option ℕ) → o ≡ entry_of_nth w fs 0 → o ≡ entry_of w (finding_value first)
   entry_first o h = h ∙ ap (λ gs. entry_of_nth w gs 0) (sym are)
 
-  pub entry_later : (i : ℕ) (d : FoundFinding) (o : Option ℕ) → i < length others → o ≡ entry_of_nth w fs (i + 1)
-      → o ≡ entry_of w (told (get_or others i d))
+  pub entry_later : (i : ℕ) (d : Finding) (o : Option ℕ) → i < length others → o ≡ entry_of_nth w fs (i + 1)
+      → o ≡ entry_of w (finding_value (get_or others i d))
   entry_later i d o within h =
-      let behind : entry_of_nth w fs (i + 1) ≡ entry_of_nth w (told first ∷ map told others) (suc i) =
+      let behind : entry_of_nth w fs (i + 1) ≡ entry_of_nth w (finding_value first ∷ map finding_value others) (suc i) =
       ap (entry_of_nth w fs) (add-one i) ∙ ap (λ gs. entry_of_nth w gs (suc i)) (sym are) in
       let at = slice_get-get_or others i d within in
-      h ∙ behind ∙ ap (option_and_then (entry_of w)) (slice_get-map told others i ∙ ap (option_map told) at)
+      h ∙ behind ∙ ap (option_and_then (entry_of w)) (slice_get-map finding_value others i ∙ ap (option_map finding_value) at)
 
-module _ (image : List ℕ) (w : List (Role × ℕ)) (others : List FoundFinding) (a b : Option (List ℕ)) (text whole : List ℕ) (r : Run) where
+module _ (image : List ℕ) (w : List (Role × ℕ)) (others : List Finding) (a b : Option (List ℕ)) (text whole : List ℕ) (r : Run) where
   -- one finding more
-  pub runs_next : (i : ℕ) (d : FoundFinding) → i < length others → Pending a b (text ++ lines_from image w r (map told (drop i others))) whole
-      → Pending a b (text ++ lines_from image w r (told (get_or others i d) ∷ map told (drop (i + 1) others))) whole
-  runs_next i d h p = subst (λ gs. Pending a b (text ++ lines_from image w r (map told gs)) whole) (drop_more others i d h) p
+  pub runs_next : (i : ℕ) (d : Finding) → i < length others → Pending a b (text ++ lines_from image w r (map finding_value (drop i others))) whole
+      → Pending a b (text ++ lines_from image w r (finding_value (get_or others i d) ∷ map finding_value (drop (i + 1) others))) whole
+  runs_next i d h p = subst (λ gs. Pending a b (text ++ lines_from image w r (map finding_value gs)) whole) (drop_more others i d h) p
 
   -- no finding is left, and the line of the run waits
   pub runs_done : (i : ℕ) (text' : List ℕ) → length others ≤ i → text' ≡ text ++ findings_line image w r
-      → Pending a b (text ++ lines_from image w r (map told (drop i others))) whole → Pending a b text' whole
+      → Pending a b (text ++ lines_from image w r (map finding_value (drop i others))) whole → Pending a b text' whole
   runs_done i text' h line p =
-      let last = ap (λ gs. text ++ lines_from image w r (map told gs)) (drop_all i others h) ∙ run_last image w r text text' line in
+      let last = ap (λ gs. text ++ lines_from image w r (map finding_value gs)) (drop_all i others h) ∙ run_last image w r text text' line in
       subst (λ t. Pending a b t whole) last p

@@ -6,18 +6,18 @@ use Rattle.adf_blocks.specs.declared.layout.TheConstants.{SECONDARY_TYPE, ST_FIL
 use Rattle.adf_volume.specs.Image.{word_in}
 use Rattle.adf_volume.specs.Walk.{FileAt, Role, heads, node_block}
 use Rattle.adf_volume.proofs.Gathered.{head_block, number_of, numbered as has_number}
-use Rattle.adf_survey.specs.Survey.{Finding, IsSurvey}
+use Rattle.adf_survey.specs.Survey.{FindingValue, IsSurvey}
 use Rattle.adf_survey.specs.Survey.IsSurvey.{read, unread}
 use Rattle.adf_survey.proofs.OneSurvey.{gathered}
 
 -- the number of an entry that is found
-pub file_between : (image : List ℕ) (w : List (Role × ℕ)) (fs : List Finding) → IsSurvey image w fs → (n h : ℕ) → FileAt image w n h
+pub file_between : (image : List ℕ) (w : List (Role × ℕ)) (fs : List FindingValue) → IsSurvey image w fs → (n h : ℕ) → FileAt image w n h
     → (1 ≤ n) × (n ≤ heads w)
 file_between image w fs (unread f) n h at = absurd at.header.has
 file_between image w fs (read begun v d t) n h at = number_of image (gathered image v) at.header
 
 -- an entry is a file where its header says so
-pub file_told : (image : List ℕ) (w : List (Role × ℕ)) (fs : List Finding) → IsSurvey image w fs → (n : ℕ) (t : Bool) → 1 ≤ n → n ≤ heads w
+pub file_told : (image : List ℕ) (w : List (Role × ℕ)) (fs : List FindingValue) → IsSurvey image w fs → (n : ℕ) (t : Bool) → 1 ≤ n → n ≤ heads w
     → t ≡ (word_in image (node_block w n) SECONDARY_TYPE == ST_FILE) → (t ≡ true) ↔ ((h : ℕ) × FileAt image w n h)
 file_told image w fs (unread f) n t lo hi e = absurd (omega arith)
 file_told image w fs (read {s = s} begun v d u) n t lo hi e =

@@ -9,7 +9,7 @@ use Rattle.adf_blocks.specs.declared.cause.Cause.TheVariants.{BadSize}
 use Rattle.adf_volume.specs.Walk.{Role}
 use Rattle.adf_survey.specs.Lookup.{LeadsTo}
 use Rattle.adf_survey.specs.Marked.{AreMarks}
-use Rattle.adf_survey.specs.Survey.{Finding, IsSurvey, finding}
+use Rattle.adf_survey.specs.Survey.{FindingValue, IsSurvey, finding}
 use Rattle.adf_survey.specs.Survey.IsSurvey.{unread}
 use Rattle.adf_survey.proofs.OneSurvey.{one_survey}
 use Rattle.adf_cmd.specs.Answers.{Reply, on_output}
@@ -22,7 +22,7 @@ use Rattle.adf_survey_cmd.specs.declared.ending.Ending.{Ending}
 use Rattle.adf_survey_cmd.proofs.EndingLaws.{ends_weaker}
 
 -- an input of a bad size has this finding
-bad_size : List Finding
+bad_size : List FindingValue
 bad_size = finding None 0 BadSize ∷ []
 
 long_survey : (image : List ℕ) → 512 * MOST_BLOCKS < length image → IsSurvey image [] bad_size
@@ -50,11 +50,11 @@ same_found image bytes names reply (inr (n, leads, inr (inl (file, damage, e))))
 same_found image bytes names reply (inr (n, leads, inr (inr (sound, e)))) = absurd sound.0.header.has
 
 -- of an input of a bad size, whatever holds of its walk and its findings holds of these
-of_long : (image : List ℕ) (w : List (Role × ℕ)) (fs : List Finding) (holds : List (Role × ℕ) → List Finding → Type 0)
+of_long : (image : List ℕ) (w : List (Role × ℕ)) (fs : List FindingValue) (holds : List (Role × ℕ) → List FindingValue → Type 0)
     → 512 * MOST_BLOCKS < length image → IsSurvey image w fs → holds w fs → holds [] bad_size
 of_long image w fs holds long s h =
     let same = one_survey image w [] fs bad_size s (long_survey image long) in
-    subst (λ (u : List (Role × ℕ)). holds u bad_size) same.0 (subst (λ (gs : List Finding). holds w gs) same.1 h)
+    subst (λ (u : List (Role × ℕ)). holds u bad_size) same.0 (subst (λ (gs : List FindingValue). holds w gs) same.1 h)
 
 long_answers : (r : InquiryValue) (image bytes : List ℕ) → 512 * MOST_BLOCKS < length image → 512 * MOST_BLOCKS < length bytes → (reply : Reply)
     → SurveyAnswer r image reply → SurveyAnswer r bytes reply

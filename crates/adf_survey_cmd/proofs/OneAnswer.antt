@@ -7,7 +7,7 @@ use Rattle.adf_volume.specs.Walk.{FileAt, Role, node_block}
 use Rattle.adf_survey.specs.Files.{IsSoundFile}
 use Rattle.adf_survey.specs.Lookup.{LeadsTo}
 use Rattle.adf_survey.specs.Marked.{AreMarks}
-use Rattle.adf_survey.specs.Survey.{Finding}
+use Rattle.adf_survey.specs.Survey.{FindingValue}
 use Rattle.adf_survey.proofs.OneSurvey.{one_survey}
 use Rattle.adf_survey.proofs.Lookups.{one_first}
 use Rattle.adf_cmd.specs.Answers.{Reply, on_output}
@@ -31,10 +31,10 @@ module _ (image : List ℕ) (w : List (Role × ℕ)) where
       let same = one_first image w p name x.0 y.0 x.1 y.1 in
       one_lead x.0 names n m x.2 (subst (λ k. LeadsTo image w k names m) (sym same) y.2)
 
-  sound_is_file : (fs : List Finding) (n : ℕ) → IsSoundFile image w fs n → (h : ℕ) × FileAt image w n h
+  sound_is_file : (fs : List FindingValue) (n : ℕ) → IsSoundFile image w fs n → (h : ℕ) × FileAt image w n h
   sound_is_file fs n s = (node_block w n, record { header = s.0.header; type = s.1 })
 
-  entry_once : (fs : List Finding) (n : ℕ) (a b : Reply) → CopiesEntry image w fs n a → CopiesEntry image w fs n b → a ≡ b
+  entry_once : (fs : List FindingValue) (n : ℕ) (a b : Reply) → CopiesEntry image w fs n a → CopiesEntry image w fs n b → a ≡ b
   entry_once fs n a b (inl (none, x)) (inl (never, y)) = x ∙ sym y
   entry_once fs n a b (inl (none, x)) (inr (inl (file, damage, y))) = absurd (none file.0 file.1)
   entry_once fs n a b (inl (none, x)) (inr (inr (sound, y))) = let file = sound_is_file fs n sound in absurd (none file.0 file.1)
@@ -45,7 +45,7 @@ module _ (image : List ℕ) (w : List (Role × ℕ)) where
   entry_once fs n a b (inr (inr (sound, x))) (inr (inl (file, damage, y))) = absurd (damage sound)
   entry_once fs n a b (inr (inr (sound, x))) (inr (inr (also, y))) = x ∙ sym y
 
-  found_once : (fs : List Finding) (names : List (List ℕ)) (a b : Reply) → CopiesFound image w fs names a → CopiesFound image w fs names b → a ≡ b
+  found_once : (fs : List FindingValue) (names : List (List ℕ)) (a b : Reply) → CopiesFound image w fs names a → CopiesFound image w fs names b → a ≡ b
   found_once fs names a b (inl (none, x)) (inl (never, y)) = x ∙ sym y
   found_once fs names a b (inl (none, x)) (inr (n, leads, y)) = absurd (none n leads)
   found_once fs names a b (inr (n, leads, x)) (inl (none, y)) = absurd (none n leads)
@@ -59,12 +59,12 @@ surveyed_once image a b (w, fs, s, x) (u, gs, t, y) =
     x ∙ ap (λ v. on_output (findings_status fs) (findings_text image v fs)) same.0
     ∙ ap (λ hs. on_output (findings_status hs) (findings_text image u hs)) same.1 ∙ sym y
 
-one_marks : (image : List ℕ) (w : List (Role × ℕ)) (fs : List Finding) (sound others : ℕ → Bool) → AreMarks image w fs sound
+one_marks : (image : List ℕ) (w : List (Role × ℕ)) (fs : List FindingValue) (sound others : ℕ → Bool) → AreMarks image w fs sound
     → AreMarks image w fs others → sound ≡ others
 one_marks image w fs sound others p q =
     fun_ext (λ n. same_tests (sound n) (others n) (λ t. (q n).1 ((p n).0 t)) (λ t. (p n).1 ((q n).0 t)))
 
-found_told_once : (image : List ℕ) (w : List (Role × ℕ)) (fs : List Finding) (a b : Reply) → TellsFound image w fs a → TellsFound image w fs b → a ≡ b
+found_told_once : (image : List ℕ) (w : List (Role × ℕ)) (fs : List FindingValue) (a b : Reply) → TellsFound image w fs a → TellsFound image w fs b → a ≡ b
 found_told_once image w fs a b (date, dates, sound, marks, x) (other, others, tests, also, y) =
     x ∙ ap (λ d. on_output (findings_status fs) (listing_text d sound image w fs)) (one_dates date other dates others)
     ∙ ap (λ m. on_output (findings_status fs) (listing_text other m image w fs)) (one_marks image w fs sound tests marks also) ∙ sym y

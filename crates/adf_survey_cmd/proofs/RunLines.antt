@@ -2,23 +2,23 @@
 -- Letters: w a walk; r, s runs; f a finding, fs findings; o, p what is known of an entry.
 use Rattle.std.proofs.Common.{◌≡◌, ◌∙◌, ◌++◌, List, [], ◌∷◌, ℕ, true, false, refl, sym, subst, ap, append_assoc, append-nil}
 use Rattle.adf_volume.specs.Walk.{Role}
-use Rattle.adf_survey.specs.Survey.{Finding}
+use Rattle.adf_survey.specs.Survey.{FindingValue}
 use Rattle.adf_survey_cmd.specs.Lines.{continues, lines_from, findings_line, run_of, runs_from}
 use Rattle.adf_survey_cmd.specs.declared.runs.Run.{Run}
 
 module _ (image : List ℕ) (w : List (Role × ℕ)) where
-  goes_on : (r : Run) (f : Finding) (fs : List Finding) → continues r (run_of w f) ≡ true
+  goes_on : (r : Run) (f : FindingValue) (fs : List FindingValue) → continues r (run_of w f) ≡ true
       → lines_from image w (record r { last = f.block }) fs ≡ lines_from image w r (f ∷ fs)
   unfolding runs_from
   goes_on r f fs h = rw h refl
 
-  is_over : (r : Run) (f : Finding) (fs : List Finding) → continues r (run_of w f) ≡ false
+  is_over : (r : Run) (f : FindingValue) (fs : List FindingValue) → continues r (run_of w f) ≡ false
       → findings_line image w r ++ lines_from image w (run_of w f) fs ≡ lines_from image w r (f ∷ fs)
   unfolding runs_from
   is_over r f fs h = rw h refl
 
   -- a run that goes on
-  pub run_on : (r s : Run) (f : Finding) (fs : List Finding) (text : List ℕ) → s ≡ run_of w f → continues r s ≡ true
+  pub run_on : (r s : Run) (f : FindingValue) (fs : List FindingValue) (text : List ℕ) → s ≡ run_of w f → continues r s ≡ true
       → text ++ lines_from image w (record r { last = s.last }) fs ≡ text ++ lines_from image w r (f ∷ fs)
   run_on r s f fs text e h =
       let last : s.last ≡ f.block = ap (λ (x : Run). x.last) e in
@@ -26,7 +26,7 @@ module _ (image : List ℕ) (w : List (Role × ℕ)) where
       ∙ ap (λ t. text ++ t) (goes_on r f fs (subst (λ x. continues r x ≡ true) e h))
 
   -- a run that ends
-  pub run_over : (r s : Run) (f : Finding) (fs : List Finding) (text text' : List ℕ) → s ≡ run_of w f → continues r s ≡ false
+  pub run_over : (r s : Run) (f : FindingValue) (fs : List FindingValue) (text text' : List ℕ) → s ≡ run_of w f → continues r s ≡ false
       → text' ≡ text ++ findings_line image w r → text' ++ lines_from image w s fs ≡ text ++ lines_from image w r (f ∷ fs)
   run_over r s f fs text text' e h t =
       ap (λ (x : List ℕ). x ++ lines_from image w s fs) t ∙ append_assoc text (findings_line image w r) (lines_from image w s fs)

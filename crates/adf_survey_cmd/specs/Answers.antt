@@ -7,7 +7,7 @@ use Rattle.adf_volume.specs.Walk.{FileAt, Role}
 use Rattle.adf_survey.specs.Files.{IsSoundFile, file_content, file_in}
 use Rattle.adf_survey.specs.Lookup.{LeadsTo}
 use Rattle.adf_survey.specs.Marked.{AreMarks}
-use Rattle.adf_survey.specs.Survey.{Finding, IsSurvey}
+use Rattle.adf_survey.specs.Survey.{FindingValue, IsSurvey}
 use Rattle.adf_fields.specs.declared.dates.Stamp.{Stamp}
 use Rattle.adf_texts.specs.VolumeLines.{AreDates}
 use Rattle.adf_cmd.specs.Answers.{IsBadPath, RefusesPath, Reply, on_errors, on_output}
@@ -17,16 +17,16 @@ use Rattle.adf_survey_cmd.specs.FoundLines.{listing_text}
 use Rattle.adf_survey_cmd.specs.Lines.{findings_text}
 
 -- the status of findings: 0 where there is none
-abbrev pub findings_status : List Finding → ℕ
+abbrev pub findings_status : List FindingValue → ℕ
 findings_status [] = 0
 findings_status (f ∷ fs) = 1
 
 -- the lines of the findings are told
-abbrev pub TellsFindings : List ℕ → List (Role × ℕ) → List Finding → Reply → Type 0
+abbrev pub TellsFindings : List ℕ → List (Role × ℕ) → List FindingValue → Reply → Type 0
 TellsFindings input w fs reply = reply ≡ on_output (findings_status fs) (findings_text input w fs)
 
 -- the lines of the findings are told, and behind them those of what is found, in which each date has its text and the sound entries are marked
-abbrev pub TellsFound : List ℕ → List (Role × ℕ) → List Finding → Reply → Type 0
+abbrev pub TellsFound : List ℕ → List (Role × ℕ) → List FindingValue → Reply → Type 0
 TellsFound input w fs reply = (date : Stamp → List ℕ) × AreDates date × (sound : ℕ → Bool) × AreMarks input w fs sound
     × (reply ≡ on_output (findings_status fs) (listing_text date sound input w fs))
 
@@ -39,36 +39,36 @@ abbrev pub FindsNoFile : List ℕ → List (Role × ℕ) → ℕ → Reply → T
 FindsNoFile input w n reply = ((h : ℕ) → FileAt input w n h → ⊥) × (reply ≡ on_errors 1 (codes "not a file\n"))
 
 -- the entry is a file that is not sound
-abbrev pub FindsDamage : List ℕ → List (Role × ℕ) → List Finding → ℕ → Reply → Type 0
+abbrev pub FindsDamage : List ℕ → List (Role × ℕ) → List FindingValue → ℕ → Reply → Type 0
 FindsDamage input w fs n reply =
     ((h : ℕ) × FileAt input w n h) × (IsSoundFile input w fs n → ⊥) × (reply ≡ on_errors 1 (codes "damaged\n"))
 
 -- the entry is a sound file, whose bytes are written
-abbrev pub CopiesSoundFile : List ℕ → List (Role × ℕ) → List Finding → ℕ → Reply → Type 0
+abbrev pub CopiesSoundFile : List ℕ → List (Role × ℕ) → List FindingValue → ℕ → Reply → Type 0
 CopiesSoundFile input w fs n reply = IsSoundFile input w fs n × (reply ≡ on_output 0 (file_content (file_in input w n)))
 
 -- `cat` of an entry
-abbrev pub CopiesEntry : List ℕ → List (Role × ℕ) → List Finding → ℕ → Reply → Type 0
+abbrev pub CopiesEntry : List ℕ → List (Role × ℕ) → List FindingValue → ℕ → Reply → Type 0
 CopiesEntry input w fs n reply = FindsNoFile input w n reply ⊎ (FindsDamage input w fs n reply ⊎ CopiesSoundFile input w fs n reply)
 
 -- `cat` of what the names lead to
-abbrev pub CopiesFound : List ℕ → List (Role × ℕ) → List Finding → List (List ℕ) → Reply → Type 0
+abbrev pub CopiesFound : List ℕ → List (Role × ℕ) → List FindingValue → List (List ℕ) → Reply → Type 0
 CopiesFound input w fs names reply =
     FindsNothing input w names reply ⊎ ((n : ℕ) × LeadsTo input w 0 names n × CopiesEntry input w fs n reply)
 
 -- `adf-survey` tells the findings of the image's survey
 abbrev pub Surveys : List ℕ → Reply → Type 0
-Surveys input reply = (w : List (Role × ℕ)) × (fs : List Finding) × IsSurvey input w fs × TellsFindings input w fs reply
+Surveys input reply = (w : List (Role × ℕ)) × (fs : List FindingValue) × IsSurvey input w fs × TellsFindings input w fs reply
 
 -- `adf-survey --list` tells the findings of the image's survey and what is found
 abbrev pub ListsSurvey : List ℕ → Reply → Type 0
-ListsSurvey input reply = (w : List (Role × ℕ)) × (fs : List Finding) × IsSurvey input w fs × TellsFound input w fs reply
+ListsSurvey input reply = (w : List (Role × ℕ)) × (fs : List FindingValue) × IsSurvey input w fs × TellsFound input w fs reply
 
 -- `cat` of a path that is read, in what is found of the image
 abbrev pub CopiesFromSurvey : List ℕ → List ℕ → Reply → Type 0
 CopiesFromSurvey path input reply =
     (names : List (List ℕ)) × IsPathText path names
-    × (w : List (Role × ℕ)) × (fs : List Finding) × IsSurvey input w fs × CopiesFound input w fs names reply
+    × (w : List (Role × ℕ)) × (fs : List FindingValue) × IsSurvey input w fs × CopiesFound input w fs names reply
 
 -- the answer to an inquiry
 abbrev pub SurveyAnswer : InquiryValue → List ℕ → Reply → Type 0

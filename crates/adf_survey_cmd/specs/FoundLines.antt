@@ -10,7 +10,7 @@ use Rattle.adf_volume.specs.Image.{kind_of, name_of, root_of, stamps_of}
 use Rattle.adf_volume.specs.Walk.{Role, heads, node_block}
 use Rattle.adf_survey.specs.Lookup.{path_to}
 use Rattle.adf_survey.specs.Marked.{AreMarks}
-use Rattle.adf_survey.specs.Survey.{Finding}
+use Rattle.adf_survey.specs.Survey.{FindingValue}
 use Rattle.adf_texts.specs.RowTexts.{head_lines}
 use Rattle.adf_texts.specs.VolumeLines.{AreDates, opening_lines}
 use Rattle.adf_survey_cmd.specs.Lines.{findings_text}
@@ -42,10 +42,10 @@ found_text date sound image [] = []
 found_text date sound image (x ∷ w) = opening_text date image ++ lines_of_found date sound image (x ∷ w) (heads (x ∷ w))
 
 -- the lines of the findings, and behind them those of what is found
-abbrev pub listing_text : (Stamp → List ℕ) → (ℕ → Bool) → List ℕ → List (Role × ℕ) → List Finding → List ℕ
+abbrev pub listing_text : (Stamp → List ℕ) → (ℕ → Bool) → List ℕ → List (Role × ℕ) → List FindingValue → List ℕ
 listing_text date sound image w fs = findings_text image w fs ++ found_text date sound image w
 
 -- it holds of any function that gives each date its text, and of any that tells the sound entries of a survey
-abbrev pub InAnyTexts : List ℕ → List (Role × ℕ) → List Finding → ((Stamp → List ℕ) → (ℕ → Bool) → Type 0) → Type 0
+abbrev pub InAnyTexts : List ℕ → List (Role × ℕ) → List FindingValue → ((Stamp → List ℕ) → (ℕ → Bool) → Type 0) → Type 0
 InAnyTexts image w fs holds =
     (date : Stamp → List ℕ) (sound : ℕ → Bool) → AreDates date → AreMarks image w fs sound → holds date sound

@@ -8,11 +8,11 @@ use Rattle.adf_blocks.specs.Causes.{cause_number, cause_text}
 use Rattle.adf_volume.specs.Walk.{Role}
 use Rattle.adf_survey.specs.Concerned.{entry_of}
 use Rattle.adf_survey.specs.Lookup.{path_to}
-use Rattle.adf_survey.specs.Survey.{Finding}
+use Rattle.adf_survey.specs.Survey.{FindingValue}
 use Rattle.adf_survey_cmd.specs.declared.runs.Run.{Run}
 
 -- a finding by itself
-abbrev pub run_of : List (Role × ℕ) → Finding → Run
+abbrev pub run_of : List (Role × ℕ) → FindingValue → Run
 run_of w f = record { first = f.block; last = f.block; cause = f.cause; entry = entry_of w f }
 
 -- the entries are one, or there is none
@@ -30,13 +30,13 @@ abbrev pub continues : Run → Run → Bool
 continues r s = (cause_number r.cause == cause_number s.cause) && (are_one r.entry s.entry && is_beside r s.first)
 
 -- the runs of findings behind a run
-unfoldable pub runs_from : List (Role × ℕ) → Run → List Finding → List Run
+unfoldable pub runs_from : List (Role × ℕ) → Run → List FindingValue → List Run
 runs_from w r [] = r ∷ []
 runs_from w r (f ∷ fs) =
     if continues r (run_of w f) then runs_from w (record r { last = f.block }) fs else r ∷ runs_from w (run_of w f) fs
 
 -- the runs of findings
-abbrev pub runs : List (Role × ℕ) → List Finding → List Run
+abbrev pub runs : List (Role × ℕ) → List FindingValue → List Run
 runs w [] = []
 runs w (f ∷ fs) = runs_from w (run_of w f) fs
 
@@ -55,9 +55,9 @@ abbrev pub findings_line : List ℕ → List (Role × ℕ) → Run → List ℕ
 findings_line image w r = blocks_text r.first r.last ++ (codes ": " ++ (cause_text r.cause ++ (entry_text image w r.entry ++ codes "\n")))
 
 -- the lines of findings behind a run
-abbrev pub lines_from : List ℕ → List (Role × ℕ) → Run → List Finding → List ℕ
+abbrev pub lines_from : List ℕ → List (Role × ℕ) → Run → List FindingValue → List ℕ
 lines_from image w r fs = flat_map (findings_line image w) (runs_from w r fs)
 
 -- the lines of findings
-abbrev pub findings_text : List ℕ → List (Role × ℕ) → List Finding → List ℕ
+abbrev pub findings_text : List ℕ → List (Role × ℕ) → List FindingValue → List ℕ
 findings_text image w fs = flat_map (findings_line image w) (runs w fs)

@@ -3,7 +3,7 @@
 ghost use Rattle.std.specs.Prelude.{◌≡◌, ◌↔◌, ℕ, List, false, IsTrue};
 ghost use Rattle.adf_volume.specs.Walk.{FileAt, Role};
 ghost use Rattle.adf_survey.specs.Files.{file_content};
-ghost use Rattle.adf_survey.specs.Survey.{Finding as SpecFinding, IsSurvey};
+ghost use Rattle.adf_survey.specs.Survey.{FindingValue, IsSurvey};
 ghost use Rattle.adf_cmd.specs.Answers.{on_output};
 ghost use Rattle.adf_survey_cmd.specs.Answers.{CopiesEntry, CopiesFound};
 ghost use Rattle.adf_survey_cmd.specs.Endings.{EndsBy, is_read_ending, is_write_ending};
@@ -17,7 +17,7 @@ use std::alloc::Global;
 
 // Whether an entry that is found is a file, sound or not.
 fn is_file(survey: &Survey<'_>, n: Node) -> bool
-    ensures { (w : List (Role × ℕ)) (fs : List SpecFinding) → IsSurvey survey.now.image w fs
+    ensures { (w : List (Role × ℕ)) (fs : List FindingValue) → IsSurvey survey.now.image w fs
         → IsTrue result ↔ ((h : ℕ) × FileAt survey.now.image w n h) }
 {
     match survey.header(n) {
@@ -43,7 +43,7 @@ fn write_file<W: Sink>(file: &SoundFile<'_>, output: &mut W) -> Ending
 // Writes the bytes of an entry that is a sound file.
 fn copy_entry<W: Sink>(alloc: Global, survey: &Survey<'_>, n: Node, output: &mut W) -> Ending
     requires { W.has_failed output.old ≡ false }
-    ensures ends { (w : List (Role × ℕ)) (fs : List SpecFinding) → IsSurvey survey.now.image w fs
+    ensures ends { (w : List (Role × ℕ)) (fs : List FindingValue) → IsSurvey survey.now.image w fs
         → EndsBy (CopiesEntry survey.now.image w fs n) result
         (W.held output.old) (W.held output.new) }
     ensures read { is_read_ending result ≡ false }
@@ -67,7 +67,7 @@ pub fn copy_found<W: Sink>(
     output: &mut W,
 ) -> Ending
     requires { W.has_failed output.old ≡ false }
-    ensures ends { (w : List (Role × ℕ)) (fs : List SpecFinding) → IsSurvey survey.now.image w fs
+    ensures ends { (w : List (Role × ℕ)) (fs : List FindingValue) → IsSurvey survey.now.image w fs
         → EndsBy (CopiesFound survey.now.image w fs names.now) result
         (W.held output.old) (W.held output.new) }
     ensures read { is_read_ending result ≡ false }

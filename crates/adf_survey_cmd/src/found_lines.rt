@@ -5,7 +5,7 @@ ghost use Rattle.std.specs.Io.KnownBytes.{Appends};
 ghost use Rattle.adf_fields.specs.declared.dates.Stamp.{Stamp};
 ghost use Rattle.adf_volume.specs.Walk.{Role, heads};
 ghost use Rattle.adf_survey.specs.Opening.{opening_in};
-ghost use Rattle.adf_survey.specs.Survey.{Finding as SpecFinding, IsSurvey};
+ghost use Rattle.adf_survey.specs.Survey.{FindingValue, IsSurvey};
 ghost use Rattle.adf_texts.specs.VolumeLines.{AreDates};
 ghost use Rattle.adf_cmd.specs.Streams.{AppendsPart, KeepsPending, is_device};
 ghost use Rattle.adf_survey_cmd.specs.FoundLines.{InAnyTexts, found_lines, found_text, lines_of_found, mark_text, opening_text};
@@ -34,7 +34,7 @@ fn push_found(
     n: Node,
     text: &mut Vec<u8>,
 ) -> Result<(), AllocError>
-    ensures { (w : List (Role × ℕ)) (fs : List SpecFinding) → IsSurvey survey.now.image w fs
+    ensures { (w : List (Role × ℕ)) (fs : List FindingValue) → IsSurvey survey.now.image w fs
         → InAnyTexts survey.now.image w fs (λ date sound. 1 ≤ n → n ≤ heads w → OnOk result
         (text.new.items ≡ text.old.items ++ found_lines date sound survey.now.image w n)) }
 {
@@ -57,12 +57,12 @@ fn tell_found<W: Sink>(
     output: &mut W,
 ) -> Result<(), StreamFault>
     requires works { W.has_failed output.old ≡ false }
-    ensures ok { (w : List (Role × ℕ)) (fs : List SpecFinding) → IsSurvey survey.now.image w fs
+    ensures ok { (w : List (Role × ℕ)) (fs : List FindingValue) → IsSurvey survey.now.image w fs
         → InAnyTexts survey.now.image w fs (λ date sound. 1 ≤ n → n ≤ heads w
         → OnOk result (KeepsPending
         (W.held output.old) (text.old.items ++ found_lines date sound survey.now.image w n)
         (W.held output.new) text.new.items)) }
-    ensures err { (w : List (Role × ℕ)) (fs : List SpecFinding) → IsSurvey survey.now.image w fs
+    ensures err { (w : List (Role × ℕ)) (fs : List FindingValue) → IsSurvey survey.now.image w fs
         → InAnyTexts survey.now.image w fs (λ date sound. 1 ≤ n → n ≤ heads w
         → OnErr result (AppendsPart (W.held output.old) (W.held output.new)
         (text.old.items ++ found_lines date sound survey.now.image w n))) }
@@ -81,11 +81,11 @@ fn write_entries<W: Sink>(
     output: &mut W,
 ) -> Result<(), StreamFault>
     requires works { W.has_failed output.old ≡ false }
-    ensures ok { (w : List (Role × ℕ)) (fs : List SpecFinding) → IsSurvey survey.now.image w fs
+    ensures ok { (w : List (Role × ℕ)) (fs : List FindingValue) → IsSurvey survey.now.image w fs
         → InAnyTexts survey.now.image w fs (λ date sound. OnOk result (Appends
         (W.held output.old) (W.held output.new)
         (text.items ++ lines_of_found date sound survey.now.image w (heads w)))) }
-    ensures err { (w : List (Role × ℕ)) (fs : List SpecFinding) → IsSurvey survey.now.image w fs
+    ensures err { (w : List (Role × ℕ)) (fs : List FindingValue) → IsSurvey survey.now.image w fs
         → InAnyTexts survey.now.image w fs (λ date sound. OnErr result (AppendsPart
         (W.held output.old) (W.held output.new)
         (text.items ++ lines_of_found date sound survey.now.image w (heads w)))) }
@@ -122,10 +122,10 @@ pub fn write_found<W: Sink>(
     output: &mut W,
 ) -> Result<(), StreamFault>
     requires works { W.has_failed output.old ≡ false }
-    ensures ok { (w : List (Role × ℕ)) (fs : List SpecFinding) → IsSurvey survey.now.image w fs
+    ensures ok { (w : List (Role × ℕ)) (fs : List FindingValue) → IsSurvey survey.now.image w fs
         → InAnyTexts survey.now.image w fs (λ date sound. OnOk result (Appends
         (W.held output.old) (W.held output.new) (found_text date sound survey.now.image w))) }
-    ensures err { (w : List (Role × ℕ)) (fs : List SpecFinding) → IsSurvey survey.now.image w fs
+    ensures err { (w : List (Role × ℕ)) (fs : List FindingValue) → IsSurvey survey.now.image w fs
         → InAnyTexts survey.now.image w fs (λ date sound. OnErr result (AppendsPart
         (W.held output.old) (W.held output.new) (found_text date sound survey.now.image w))) }
     ensures failed { W.has_failed output.new ≡ is_device result }

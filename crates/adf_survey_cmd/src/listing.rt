@@ -3,7 +3,7 @@
 ghost use Rattle.std.specs.Prelude.{◌≡◌, ℕ, List, OnErr, OnOk, false};
 ghost use Rattle.std.specs.Io.KnownBytes.{Appends};
 ghost use Rattle.adf_volume.specs.Walk.{Role};
-ghost use Rattle.adf_survey.specs.Survey.{Finding as SpecFinding, IsSurvey};
+ghost use Rattle.adf_survey.specs.Survey.{FindingValue, IsSurvey};
 ghost use Rattle.adf_cmd.specs.Streams.{AppendsPart, is_device};
 ghost use Rattle.adf_survey_cmd.specs.Answers.{TellsFound};
 ghost use Rattle.adf_survey_cmd.specs.Endings.{EndsBy, is_read_ending, is_write_ending};
@@ -23,10 +23,10 @@ fn write_both<W: Sink>(
     output: &mut W,
 ) -> Result<(), StreamFault>
     requires works { W.has_failed output.old ≡ false }
-    ensures ok { (w : List (Role × ℕ)) (fs : List SpecFinding) → IsSurvey survey.now.image w fs
+    ensures ok { (w : List (Role × ℕ)) (fs : List FindingValue) → IsSurvey survey.now.image w fs
         → InAnyTexts survey.now.image w fs (λ date sound. OnOk result (Appends
         (W.held output.old) (W.held output.new) (listing_text date sound survey.now.image w fs))) }
-    ensures err { (w : List (Role × ℕ)) (fs : List SpecFinding) → IsSurvey survey.now.image w fs
+    ensures err { (w : List (Role × ℕ)) (fs : List FindingValue) → IsSurvey survey.now.image w fs
         → InAnyTexts survey.now.image w fs (λ date sound. OnErr result (AppendsPart
         (W.held output.old) (W.held output.new) (listing_text date sound survey.now.image w fs))) }
     ensures failed { W.has_failed output.new ≡ is_device result }
@@ -38,7 +38,7 @@ fn write_both<W: Sink>(
 /// Writes the lines of the findings, and behind them those of what is found.
 pub fn write_list<W: Sink>(alloc: Global, survey: &Survey<'_>, output: &mut W) -> Ending
     requires { W.has_failed output.old ≡ false }
-    ensures ends { (w : List (Role × ℕ)) (fs : List SpecFinding) → IsSurvey survey.now.image w fs
+    ensures ends { (w : List (Role × ℕ)) (fs : List FindingValue) → IsSurvey survey.now.image w fs
         → EndsBy (TellsFound survey.now.image w fs) result
         (W.held output.old) (W.held output.new) }
     ensures read { is_read_ending result ≡ false }

@@ -2,7 +2,7 @@
 
 ghost use Rattle.std.specs.Prelude.{◌≡◌, ℕ, List, false};
 ghost use Rattle.adf_volume.specs.Walk.{Role};
-ghost use Rattle.adf_survey.specs.Survey.{Finding as SpecFinding, IsSurvey};
+ghost use Rattle.adf_survey.specs.Survey.{FindingValue, IsSurvey};
 ghost use Rattle.adf_survey_cmd.specs.Answers.{TellsFindings};
 ghost use Rattle.adf_survey_cmd.specs.Endings.{EndsBy, is_read_ending, is_write_ending};
 
@@ -15,7 +15,7 @@ use std::alloc::Global;
 /// Writes the lines of the findings.
 pub fn write_findings<W: Sink>(alloc: Global, survey: &Survey<'_>, output: &mut W) -> Ending
     requires { W.has_failed output.old ≡ false }
-    ensures ends { (w : List (Role × ℕ)) (fs : List SpecFinding) → IsSurvey survey.now.image w fs
+    ensures ends { (w : List (Role × ℕ)) (fs : List FindingValue) → IsSurvey survey.now.image w fs
         → EndsBy (TellsFindings survey.now.image w fs) result
         (W.held output.old) (W.held output.new) }
     ensures read { is_read_ending result ≡ false }

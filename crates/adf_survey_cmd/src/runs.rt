@@ -4,8 +4,8 @@ ghost use Rattle.std.specs.Prelude.{◌≡◌, ◌++◌, ◌∷◌, ℕ, List, I
 ghost use Rattle.std.specs.Io.KnownBytes.{Appends};
 ghost use Rattle.adf_volume.specs.Walk.{Role};
 ghost use Rattle.adf_survey.specs.Concerned.{entry_of};
-ghost use Rattle.adf_survey.specs.Parts.{told};
-ghost use Rattle.adf_survey.specs.Survey.{Finding as SpecFinding, IsSurvey};
+ghost use Rattle.adf_survey.specs.Parts.{finding_value};
+ghost use Rattle.adf_survey.specs.Survey.{FindingValue, IsSurvey};
 ghost use Rattle.adf_cmd.specs.Streams.{AppendsPart, KeepsPending, is_device};
 ghost use Rattle.adf_survey_cmd.specs.Lines.{are_one, blocks_text, continues, entry_text, findings_text, is_beside, lines_from, findings_line, run_of};
 
@@ -39,8 +39,8 @@ fn are_one(a: Option<Node>, b: Option<Node>) -> bool
 impl Run {
     // A finding of an entry, or of none, by itself.
     fn of(finding: &Finding, entry: Option<Node>) -> Run
-        ensures { (w : List (Role × ℕ)) → entry ≡ entry_of w (told finding.now)
-            → result ≡ run_of w (told finding.now) }
+        ensures { (w : List (Role × ℕ)) → entry ≡ entry_of w (finding_value finding.now)
+            → result ≡ run_of w (finding_value finding.now) }
     {
         Run {
             first: finding.block,
@@ -90,7 +90,7 @@ fn push_entry(
     entry: Option<Node>,
     text: &mut Vec<u8>,
 ) -> Result<(), AllocError>
-    ensures { (w : List (Role × ℕ)) (fs : List SpecFinding) → IsSurvey survey.now.image w fs
+    ensures { (w : List (Role × ℕ)) (fs : List FindingValue) → IsSurvey survey.now.image w fs
         → OnOk result
         (text.new.items ≡ text.old.items ++ entry_text survey.now.image w entry) }
 {
@@ -111,7 +111,7 @@ fn push_run(
     run: &Run,
     text: &mut Vec<u8>,
 ) -> Result<(), AllocError>
-    ensures { (w : List (Role × ℕ)) (fs : List SpecFinding) → IsSurvey survey.now.image w fs
+    ensures { (w : List (Role × ℕ)) (fs : List FindingValue) → IsSurvey survey.now.image w fs
         → OnOk result
         (text.new.items ≡ text.old.items ++ findings_line survey.now.image w run.now) }
 {
@@ -130,8 +130,8 @@ fn join_run(
     next: Run,
     text: &mut Vec<u8>,
 ) -> Result<Run, AllocError>
-    ensures { (w : List (Role × ℕ)) (fs : List SpecFinding) → IsSurvey survey.now.image w fs
-        → (f : SpecFinding) (gs : List SpecFinding) → next ≡ run_of w f
+    ensures { (w : List (Role × ℕ)) (fs : List FindingValue) → IsSurvey survey.now.image w fs
+        → (f : FindingValue) (gs : List FindingValue) → next ≡ run_of w f
         → IfOk result (λ r. text.new.items ++ lines_from survey.now.image w r gs
         ≡ text.old.items ++ lines_from survey.now.image w run (f ∷ gs)) }
 {
@@ -155,13 +155,13 @@ fn tell_finding<W: Sink>(
     output: &mut W,
 ) -> Result<Run, StreamFault>
     requires works { W.has_failed output.old ≡ false }
-    ensures ok { (w : List (Role × ℕ)) (fs : List SpecFinding) → IsSurvey survey.now.image w fs
-        → (f : SpecFinding) (gs : List SpecFinding) → next ≡ run_of w f
+    ensures ok { (w : List (Role × ℕ)) (fs : List FindingValue) → IsSurvey survey.now.image w fs
+        → (f : FindingValue) (gs : List FindingValue) → next ≡ run_of w f
         → IfOk result (λ r. KeepsPending
         (W.held output.old) (text.old.items ++ lines_from survey.now.image w run (f ∷ gs))
         (W.held output.new) (text.new.items ++ lines_from survey.now.image w r gs)) }
-    ensures err { (w : List (Role × ℕ)) (fs : List SpecFinding) → IsSurvey survey.now.image w fs
-        → (f : SpecFinding) (gs : List SpecFinding) → next ≡ run_of w f
+    ensures err { (w : List (Role × ℕ)) (fs : List FindingValue) → IsSurvey survey.now.image w fs
+        → (f : FindingValue) (gs : List FindingValue) → next ≡ run_of w f
         → OnErr result (AppendsPart (W.held output.old) (W.held output.new)
         (text.old.items ++ lines_from survey.now.image w run (f ∷ gs))) }
     ensures failed { W.has_failed output.new ≡ is_device result }
@@ -179,10 +179,10 @@ pub fn write_runs<W: Sink>(
     output: &mut W,
 ) -> Result<(), StreamFault>
     requires works { W.has_failed output.old ≡ false }
-    ensures ok { (w : List (Role × ℕ)) (fs : List SpecFinding) → IsSurvey survey.now.image w fs
+    ensures ok { (w : List (Role × ℕ)) (fs : List FindingValue) → IsSurvey survey.now.image w fs
         → OnOk result (Appends (W.held output.old) (W.held output.new)
         (findings_text survey.now.image w fs)) }
-    ensures err { (w : List (Role × ℕ)) (fs : List SpecFinding) → IsSurvey survey.now.image w fs
+    ensures err { (w : List (Role × ℕ)) (fs : List FindingValue) → IsSurvey survey.now.image w fs
         → OnErr result (AppendsPart (W.held output.old) (W.held output.new)
         (findings_text survey.now.image w fs)) }
     ensures failed { W.has_failed output.new ≡ is_device result }

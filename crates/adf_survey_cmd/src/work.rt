@@ -3,7 +3,7 @@
 ghost use Rattle.std.specs.Prelude.{◌≡◌, ◌*◌, ◌+◌, ℕ, List, false, true, IfErr, IfOk, IfSome};
 ghost use Rattle.adf_blocks.specs.declared.layout.TheConstants.{MOST_BLOCKS};
 ghost use Rattle.adf_volume.specs.Walk.{Role};
-ghost use Rattle.adf_survey.specs.Survey.{Finding as SpecFinding, IsSurvey};
+ghost use Rattle.adf_survey.specs.Survey.{FindingValue, IsSurvey};
 ghost use Rattle.adf_cmd.specs.CommandLine.{texts_of};
 ghost use Rattle.adf_cmd.specs.Streams.{TakesAtMost};
 ghost use Rattle.adf_survey_cmd.specs.Answers.{SurveyAnswer};
@@ -101,7 +101,7 @@ impl Work {
     // Does the work on what is found of an image.
     fn on_survey<W: Sink>(&self, alloc: Global, survey: &Survey<'_>, output: &mut W) -> Ending
         requires { W.has_failed output.old ≡ false }
-        ensures ends { (w : List (Role × ℕ)) (fs : List SpecFinding)
+        ensures ends { (w : List (Role × ℕ)) (fs : List FindingValue)
             → IsSurvey survey.now.image w fs
             → (r : InquiryValue) → Meets self.now r
             → EndsBy (SurveyAnswer r survey.now.image) result

@@ -1,8 +1,8 @@
 use Rattle.std.specs.Prelude.{None}
 use Rattle.std.proofs.Common.{◌+◌, arith, drop, get_or, map, rules}
 use Rattle.adf_blocks.specs.declared.cause.Cause.TheVariants.{BadSize}
-use Rattle.adf_survey.specs.Parts.{told}
-use Rattle.adf_survey.specs.declared.part.Finding.{Finding as FoundFinding}
+use Rattle.adf_survey.specs.Parts.{finding_value}
+use Rattle.adf_survey.specs.declared.part.Finding.{Finding}
 use Rattle.adf_cmd.proofs.PendingText.{on_err, pending_begun, pending_end}
 use Rattle.adf_survey_cmd.proofs.FindingLists.{entry_first, entry_later, runs_begun, runs_done, runs_next}
 use Rattle.adf_survey_cmd.proofs.PendingLines.{pending_breaks, pending_stops}
@@ -28,9 +28,9 @@ loop-i-preserved g c = record {
       let split = c.in-Some.ensures.cases.0 in
       let others = c.in-Some.others.now in
       let i = c.loop-i.i in
-      let none : FoundFinding = record { part = None; block = 0; cause = BadSize } in
+      let none : Finding = record { part = None; block = 0; cause = BadSize } in
       let entry = entry_later image w fs _ _ _ all split i none c.entry_of-in-loop-i.result (omega arith) (c.entry_of-in-loop-i.ensures w fs survey) in
-      let step = c.in_ok-run.ensures.ok w fs survey (told (get_or others i none)) (map told (drop (i + 1) others)) (c.of-next.ensures w entry) in
+      let step = c.in_ok-run.ensures.ok w fs survey (finding_value (get_or others i none)) (map finding_value (drop (i + 1) others)) (c.of-next.ensures w entry) in
       step _ _ (runs_next image w others _ _ _ _ c.loop-i.run i none (omega arith) (c.loop-i.invariant.so_far w fs survey));
 }
 
@@ -41,9 +41,9 @@ returns-in_err-run-clause-err g c = λ w fs survey.
     let split = c.in-Some.ensures.cases.0 in
     let others = c.in-Some.others.now in
     let i = c.loop-i.i in
-    let none : FoundFinding = record { part = None; block = 0; cause = BadSize } in
+    let none : Finding = record { part = None; block = 0; cause = BadSize } in
     let entry = entry_later image w fs _ _ _ all split i none c.entry_of-in-loop-i.result (omega arith) (c.entry_of-in-loop-i.ensures w fs survey) in
-    let step = c.in_err-run.ensures.err w fs survey (told (get_or others i none)) (map told (drop (i + 1) others)) (c.of-next.ensures w entry) in
+    let step = c.in_err-run.ensures.err w fs survey (finding_value (get_or others i none)) (map finding_value (drop (i + 1) others)) (c.of-next.ensures w entry) in
     on_err c.from_residual.result (pending_breaks _ _ _ _ _
     (runs_next image w others _ _ _ _ c.loop-i.run i none (omega arith) (c.loop-i.invariant.so_far w fs survey)) step)
 

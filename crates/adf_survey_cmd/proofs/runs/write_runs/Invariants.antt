@@ -1,7 +1,7 @@
 use Rattle.std.proofs.Common.{◌≡◌, ◌++◌, ℕ, List, drop, false, map}
 use Rattle.adf_volume.specs.Walk.{Role}
-use Rattle.adf_survey.specs.Parts.{told}
-use Rattle.adf_survey.specs.Survey.{Finding, IsSurvey}
+use Rattle.adf_survey.specs.Parts.{finding_value}
+use Rattle.adf_survey.specs.Survey.{FindingValue, IsSurvey}
 use Rattle.adf_cmd.specs.Streams.{Pending}
 use Rattle.adf_survey_cmd.specs.Lines.{findings_text, lines_from}
 use Rattle.adf_survey_cmd.proofs.runs.write_runs.Given as goal
@@ -9,7 +9,7 @@ use Rattle.adf_survey_cmd.proofs.runs.write_runs.Given as goal
 abbrev pub invariant-loop-i : goal.invariant-loop-i
 invariant-loop-i g l = record {
   works : g.W.Sink.has_failed l.output ≡ false;
-  so_far : (w : List (Role × ℕ)) (fs : List Finding) → IsSurvey l.survey.image w fs
+  so_far : (w : List (Role × ℕ)) (fs : List FindingValue) → IsSurvey l.survey.image w fs
       → Pending (g.W.Sink.held l.fn.output) (g.W.Sink.held l.output)
-      (l.text.items ++ lines_from l.survey.image w l.run (map told (drop l.i l.others))) (findings_text l.survey.image w fs);
+      (l.text.items ++ lines_from l.survey.image w l.run (map finding_value (drop l.i l.others))) (findings_text l.survey.image w fs);
 }

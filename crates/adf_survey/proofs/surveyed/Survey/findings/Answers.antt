@@ -1,6 +1,6 @@
 use Rattle.std.specs.Prelude.{map}
 use Rattle.std.proofs.Common.{ap, subst, ◌∙◌}
-use Rattle.adf_survey.specs.Parts.{told}
+use Rattle.adf_survey.specs.Parts.{finding_value}
 use Rattle.adf_survey.specs.Surveyed.{IsOfSurvey}
 use Rattle.adf_survey.proofs.Keeping.{tells_each}
 use Rattle.adf_survey.proofs.surveyed.Survey.findings.Goals as goal
@@ -8,4 +8,4 @@ use Rattle.adf_survey.proofs.surveyed.Survey.findings.Goals as goal
 pub returns : goal.returns
 returns c = λ w fs h.
     let t = tells_each c.args.self.now (subst IsOfSurvey c.self.view_is c.self.invariant) w fs h in
-    ap (map told) (c.deref.ensures.value ∙ ap (λ v. v.findings) c.self.view_is) ∙ t.findings
+    ap (map finding_value) (c.deref.ensures.value ∙ ap (λ v. v.findings) c.self.view_is) ∙ t.findings

@@ -1,5 +1,5 @@
 use Rattle.std.proofs.Common.{ℕ, List, map, subst, sym}
-use Rattle.adf_survey.specs.Parts.{told}
+use Rattle.adf_survey.specs.Parts.{finding_value}
 use Rattle.adf_survey.specs.Survey.{IsSurvey}
 use Rattle.adf_survey_cmd.proofs.work.Work.on.Goals as goal
 
@@ -7,6 +7,6 @@ pub returns-in-Ok-clause-ends : goal.returns-in-Ok-clause-ends
 returns-in-Ok-clause-ends g c = λ r meets.
     let (w, survey) = c.in-Ok.ensures.findings in
     let same = c.in-Ok.ensures.image in
-    let fs = map told c.in-Ok.survey.findings in
+    let fs = map finding_value c.in-Ok.survey.findings in
     let of_it = subst (λ (image : List ℕ). IsSurvey image w fs) (sym same) survey in
     rw same at (c.on_survey.ensures.ends w fs of_it r meets)
