@@ -195,8 +195,8 @@ module _ (image : List ℕ) where
           ((one_block image v (Head x.0.0 p slot j) (Head y.0.0 p slot j) a c x.0.1 y.0.1 (omega arith)).1, x.1 ∙ sym y.1)
 
       linked : (m j a i : ℕ) → Asks image s.walk (Head m p slot j) a i → IsLink image s.walk p slot j a i × (word_in image a i ≢ 0)
-      linked m zero a i ask = ((ask.2, ask.3), ask.4)
-      linked m (suc j) a i ask = ((ask.1, ask.2), ask.3)
+      linked m zero a i (number, low, dir, word, named) = ((dir, word), named)
+      linked m (suc j) a i (number, header, word, named) = ((header, word), named)
 
       -- a chain ends where its word names no block
       chain_ends : (j a i : ℕ) → Holds image f (key_of (Head 0 p slot j)) s → DirAt image s.walk p b → IsLink image s.walk p slot j a i

@@ -127,9 +127,9 @@ module _ (image : List ℕ) where
     found_header n p t j e =
         let x = and_parts (not (n == 0)) ((slice_index f.parents.items n == p) && is_place (slice_get f.places.items (n - 1)) t j) e in
         let y = and_parts (slice_index f.parents.items n == p) (is_place (slice_get f.places.items (n - 1)) t j) x.1 in
-        let z = place_is (slice_get f.places.items (n - 1)) t j y.1 in
+        let (c, kept, slot, place) = place_is (slice_get f.places.items (n - 1)) t j y.1 in
         let lo : 1 ≤ n = (let q = x.0 in grind (arith, nat_tests)) in
-        let h = place_has v n z.0 lo (ap (λ xs. slice_get xs (n - 1)) (sym st.places) ∙ z.1) in
-        let parent : h.0 ≡ p =
-        sym (head_parent image v n h.0 z.0.slot z.0.place h.1 h.2) ∙ (sym (st.parent n) ∙ eqb-true (slice_index f.parents.items n) p y.0) in
-        (h.1, subst (λ q. Has s.walk q h.1) (λ y. Head n (parent y) (z.2 y) (z.3 y)) h.2)
+        let (up, b, has) = place_has v n c lo (ap (λ xs. slice_get xs (n - 1)) (sym st.places) ∙ kept) in
+        let parent : up ≡ p =
+        sym (head_parent image v n up c.slot c.place b has) ∙ (sym (st.parent n) ∙ eqb-true (slice_index f.parents.items n) p y.0) in
+        (b, subst (λ q. Has s.walk q b) (λ i. Head n (parent i) (slot i) (place i)) has)

@@ -112,6 +112,14 @@ pub keeps_taken : (r : Role) → is_kept r Taken ≡ false
 keeps_taken (Page i) = refl
 keeps_taken _ = refl
 
+-- the block of a part that is itself is in the image, and no one else's
+pub record ItselfHolds (image : List ℕ) (w : List (Role × ℕ)) (b : ℕ) : Type 0 where
+  pub inside : b < blocks image
+  pub unowned : IsAbsent w b
+
+pub itself_holds : (image : List ℕ) (w : List (Role × ℕ)) (r : Role) (a b : ℕ) → IsItself r (demands image w r a b) → ItselfHolds image w b
+itself_holds image w r a b h = record { inside = (h.1.0 (keeps_range r)).1; unowned = h.1.1.0 (keeps_taken r) }
+
 itself_is : (role : Role) (a b : ℕ) (r t : Bool) (form : List Clause) (E R T N : Type 0) → (is_kept role ShortFile ≡ false → E) → Tells r R
     → (r ≡ true → Tells t T) → (is_kept role SameName ≡ false → N)
     → Tells (r && (t && itself_by role form))
@@ -161,7 +169,7 @@ judged image w part a b f k =
     let P : List Demand → Type 0 = λ ds. Judged r (before ds) (judged_by (first_failing image part a b f) (keeps image part b f)) in
     subst P (sym (form_is image w part b f.around k.around))
     (judged_is r (before (demands_at b form)) (first_failing image part a b f) (keeps image part b f)
-    (first_is a b f.is_enough (in_range image b) f.is_absent f.is_new form (Enough image w r) ((2 ≤ b) × (b < blocks image)) (IsAbsent w b) (NewName image w r b)
-    k.enough (tells_range image b) k.absent k.new)
+    (first_is a b f.is_enough (in_range image b) f.is_absent f.is_new form (Enough image w r) ((2 ≤ b) × (b < blocks image)) (IsAbsent w b)
+    (NewName image w r b) k.enough (tells_range image b) k.absent k.new)
     (itself_is r a b (in_range image b) f.is_absent form (Enough image w r) ((2 ≤ b) × (b < blocks image)) (IsAbsent w b) (NewName image w r b)
     (short_slight image w r) (tells_range image b) k.absent (same_slight image w r b)))

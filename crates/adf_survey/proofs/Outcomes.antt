@@ -17,9 +17,9 @@ use Rattle.adf_survey.specs.Forms.{Knows, first_failing, judged_by, keeps, judge
 use Rattle.adf_survey.specs.Found.{IsNoted, IsPassed, Stands}
 use Rattle.adf_survey.specs.Parts.{role_of, finding_value}
 use Rattle.adf_survey.specs.Courses.{IsNextAsk, IsOutcome, role_asked}
-use Rattle.adf_survey.proofs.Judged.{judged}
+use Rattle.adf_volume.proofs.PartDemands.{part_holds}
+use Rattle.adf_survey.proofs.Judged.{itself_holds, judged}
 use Rattle.adf_survey.proofs.Known.{no_owner}
-use Rattle.adf_survey.proofs.Judged.{keeps_range, keeps_taken}
 use Rattle.adf_survey.proofs.Taking.{stands_noted, stands_passed}
 
 module _ (image : List ℕ) (f : Found) (s : Course) (x : Ask) (v : IsCourse image s) (st : Stands image f s) (n : IsNextAsk image s x)
@@ -42,10 +42,11 @@ module _ (image : List ℕ) (f : Found) (s : Course) (x : Ask) (v : IsCourse ima
       → judgement_value j ≡ judged_by (first_failing image part x.holder x.block facts) (keeps image part x.block facts) → IsOutcome image s x f f (Some part)
   clean_outcome j is_clean e =
       let h = judgement Clean (sym (ap judgement_value is_clean) ∙ e) in
+      let holds = part_holds image s.walk role x.holder x.block h in
       record {
         role = is;
-        inside = h.1.0.1;
-        free = no_owner s.walk x.block h.1.1.0;
+        inside = holds.inside;
+        free = no_owner s.walk x.block holds.unowned;
         findings = s.findings;
         course = stepped clean h;
         stands = st;
@@ -54,7 +55,8 @@ module _ (image : List ℕ) (f : Found) (s : Course) (x : Ask) (v : IsCourse ima
       }
 
   -- the finding of the part
-  told_is : (at : ℕ) (c : Cause) → s.findings ++ finding_value (record { part = Some part; block = at; cause = c }) ∷ [] ≡ s.findings ++ finding (Some role) at c ∷ []
+  told_is : (at : ℕ) (c : Cause)
+      → s.findings ++ finding_value (record { part = Some part; block = at; cause = c }) ∷ [] ≡ s.findings ++ finding (Some role) at c ∷ []
   told_is at c = ap (λ r. s.findings ++ finding (Some r) at c ∷ []) is
 
   noted_stands : (g : Found) (at : ℕ) (c : Cause) → IsNoted (record { part = Some part; block = at; cause = c }) f g
@@ -70,10 +72,11 @@ module _ (image : List ℕ) (f : Found) (s : Course) (x : Ask) (v : IsCourse ima
   noted_outcome j g at c y is_noted one e h =
       let k = subst (λ y. IsNoted y f g) one h in
       let d = judgement (Noted at c) (sym (ap judgement_value is_noted) ∙ e) in
+      let holds = itself_holds image s.walk role x.holder x.block d.1 in
       record {
         role = is;
-        inside = (d.1.1.0 (keeps_range role)).1;
-        free = no_owner s.walk x.block (d.1.1.1.0 (keeps_taken role));
+        inside = holds.inside;
+        free = no_owner s.walk x.block holds.unowned;
         findings = s.findings ++ finding (Some role) at c ∷ [];
         course = stepped (noted at c) d;
         stands = noted_stands g at c k;

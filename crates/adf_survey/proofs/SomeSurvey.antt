@@ -22,7 +22,8 @@ use Rattle.adf_survey.specs.Survey.IsCourse.{start, step}
 use Rattle.adf_survey.specs.Survey.IsSurvey.{unread, read}
 use Rattle.adf_volume.proofs.DecidedAsks.{dec_asked}
 use Rattle.adf_volume.proofs.Gathered.{IsGathered, root_in}
-use Rattle.adf_survey.proofs.Judged.{keeps_range, keeps_taken}
+use Rattle.adf_volume.proofs.PartDemands.{part_holds}
+use Rattle.adf_survey.proofs.Judged.{itself_holds}
 use Rattle.adf_survey.proofs.Judging.{decided, decided_append, decided_form, dec_true, first_failing, judged, bits_told}
 use Rattle.adf_survey.proofs.OneSurvey.{gathered}
 
@@ -124,7 +125,8 @@ module _ (image : List ℕ) where
 
   module _ (free : List ℕ) (again : (rest : List ℕ) → length free ≡ suc (length rest) → (s : Course) → IsCourse image s → Frees rest s → Finished) where
     -- a part is taken, and its block is free no more
-    took : (w over : List (Role × ℕ)) (fs : List FindingValue) (r : Role) (b : ℕ) → IsCourse image (record { walk = (r, b) ∷ w; passed_over = over; findings = fs })
+    took : (w over : List (Role × ℕ)) (fs : List FindingValue) (r : Role) (b : ℕ)
+        → IsCourse image (record { walk = (r, b) ∷ w; passed_over = over; findings = fs })
         → b < blocks image → IsAbsent w b → ((b : ℕ) → b < blocks image → IsAbsent w b → In free b) → Finished
     took w over fs r b v lt abs fr =
         let x = without free b (fr b lt abs) in
@@ -194,10 +196,12 @@ module _ (image : List ℕ) where
         go : (z : Role) → In rs z → (q : Role) → renumbered (suc (heads s.walk)) z ≡ q → (a i : ℕ) → IsNext image s q a i
             → (j : JudgementValue) → Judged q (demands image s.walk q a (word_in image a i)) j → Finished
         go z mem q e a i next clean h =
-            took s.walk s.passed_over s.findings q (word_in image a i) (step clean v next h) h.1.0.1 h.1.1.0 fr
+            let part = part_holds image s.walk q a (word_in image a i) h in
+            took s.walk s.passed_over s.findings q (word_in image a i) (step clean v next h) part.inside part.unowned fr
         go z mem q e a i next (noted at c) h =
+            let part = itself_holds image s.walk q a (word_in image a i) h.1 in
             took s.walk s.passed_over (s.findings ++ finding (Some q) at c ∷ []) q (word_in image a i) (step (noted at c) v next h)
-            (h.1.1.0 (keeps_range q)).1 (h.1.1.1.0 (keeps_taken q)) fr
+            part.inside part.unowned fr
         go z mem q e a i next (passed at c) h =
             let x = without rs z mem in
             pass x.0 x.1 (after s q (word_in image a i) (passed at c)) (step (passed at c) v next h) fr

@@ -5,12 +5,11 @@ use native.Mathlib.Decide.{dec_lt}
 use Rattle.adf_blocks.specs.declared.layout.TheConstants.{POINTERS, SIZE}
 use Rattle.adf_volume.specs.Image.{held, kind_of, word_in, table_word}
 use Rattle.adf_volume.specs.Lists.{In}
-use Rattle.adf_volume.specs.Demands.{AllHold, data_demands, demand, ext_demands, head_demands}
-use Rattle.adf_blocks.specs.declared.cause.Cause.TheVariants.{SameName}
-use Rattle.adf_volume.specs.Walk.{first, NodeAt, NewName, form_demands, next_data, node_block}
+use Rattle.adf_volume.specs.Demands.{AllHold, data_demands, ext_demands, head_demands}
+use Rattle.adf_volume.specs.Walk.{first, NodeAt, form_demands, next_data, node_block}
 use Rattle.adf_volume.specs.Walk.{Role, second, Has, FileAt, MemberAt, data_count, Asks, IsAbsent, ext_count, demands}
 use Rattle.adf_volume.specs.Walk.Role.{Root, Head, Ext, Data}
-use Rattle.adf_volume.proofs.Lists.{all_split, in_left, in_right}
+use Rattle.adf_volume.proofs.Lists.{in_left, in_right}
 use Rattle.adf_volume.proofs.Roles.{count_up, dec_has, dir_is_node, has_low, head_in, head_role, same_refl, typed_in}
 use Rattle.adf_survey.specs.Survey.{FindingValue, finding, Course, IsNext, IsCourse, IsDone, IsSurvey}
 use Rattle.adf_survey.specs.Survey.JudgementValue.{clean, noted, passed}
@@ -19,7 +18,8 @@ use Rattle.adf_survey.specs.Survey.IsSurvey.{unread, read}
 use Rattle.adf_survey.specs.Sound.{FileHolds, HeaderHolds, IsSound, IsUnnoted}
 use Rattle.adf_volume.proofs.Gathered.{IsGathered, asked_dir, asked_file, asks_one, ext_counted, file_one, head_block, node_is, node_one}
 use Rattle.adf_survey.proofs.OneSurvey.{gathered}
-use Rattle.adf_survey.proofs.Judged.{keeps_taken}
+use Rattle.adf_volume.proofs.PartDemands.{part_holds}
+use Rattle.adf_survey.proofs.Judged.{itself_holds}
 
 module _ (image : List ℕ) where
   -- a finding concerns the part
@@ -142,7 +142,7 @@ module _ (image : List ℕ) where
         → (y : Came s.walk s.findings r b) × AllHold (form_demands image y.before r b)
     came_formed r b g other clear =
         let x = came_clean r b g other clear in
-        (x.0, (all_split (form_demands image x.0.before r b) (demand SameName b (NewName image x.0.before r b) ∷ []) x.1.1.1.1).0)
+        (x.0, (part_holds image x.0.before r x.0.at b x.1).form)
 
     node_before : (w : List (Role × ℕ)) (p a : ℕ) → ((q : Role) (c : ℕ) → Has w q c → Has s.walk q c) → NodeAt w p a → NodeAt s.walk p a
     node_before w zero a older f = older Root a f
@@ -257,9 +257,11 @@ module _ (image : List ℕ) where
   one_role start r q b (inl e) (inr f) = absurd f
   one_role start r q b (inr e) f = absurd e
   one_role (step {s = s} {r = z} {a = a} {i = i} clean v n g) r q b h k =
-      absent_new s.walk z r q (word_in image a i) b g.1.1.0 (one_role v r q b) h k
+      let part = part_holds image s.walk z a (word_in image a i) g in
+      absent_new s.walk z r q (word_in image a i) b part.unowned (one_role v r q b) h k
   one_role (step {s = s} {r = z} {a = a} {i = i} (noted at c) v n g) r q b h k =
-      absent_new s.walk z r q (word_in image a i) b (g.1.1.1.0 (keeps_taken z)) (one_role v r q b) h k
+      let part = itself_holds image s.walk z a (word_in image a i) g.1 in
+      absent_new s.walk z r q (word_in image a i) b part.unowned (one_role v r q b) h k
   one_role (step (passed at c) v n g) r q b h k = one_role v r q b h k
 
   pub one_part : (w : List (Role × ℕ)) (fs : List FindingValue) → IsSurvey image w fs → (r q : Role) (b : ℕ) → Has w r b → Has w q b → r ≡ q

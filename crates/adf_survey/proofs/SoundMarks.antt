@@ -35,7 +35,8 @@ use Rattle.adf_survey.proofs.BitSteps.{at_has}
 use Rattle.adf_survey.proofs.HeadPlaces.{found_header, header_found}
 use Rattle.adf_survey.proofs.Known.{tells_absent}
 use Rattle.adf_survey.proofs.OneSurvey.{gathered}
-use Rattle.adf_survey.proofs.Judged.{keeps_range}
+use Rattle.adf_volume.proofs.PartDemands.{part_holds}
+use Rattle.adf_survey.proofs.Judged.{itself_holds}
 use Rattle.adf_survey.proofs.SoundEntries.{one_role}
 
 module _ (image : List ℕ) where
@@ -176,10 +177,10 @@ module _ (image : List ℕ) where
   inside start r b other (inl e) = absurd (other e.0)
   inside start r b other (inr h) = absurd h
   inside (step {s = s} {r = z} {a = a} {i = i} clean v d g) r b other (inl e) =
-      let lt : word_in image a i < blocks image = g.1.0.1 in subst (λ b. b < blocks image) e.1 lt
+      let part = part_holds image s.walk z a (word_in image a i) g in subst (λ b. b < blocks image) e.1 part.inside
   inside (step clean v d g) r b other (inr h) = inside v r b other h
   inside (step {s = s} {r = z} {a = a} {i = i} (noted at c) v d g) r b other (inl e) =
-      let lt : word_in image a i < blocks image = (g.1.1.0 (keeps_range z)).1 in subst (λ b. b < blocks image) e.1 lt
+      let part = itself_holds image s.walk z a (word_in image a i) g.1 in subst (λ b. b < blocks image) e.1 part.inside
   inside (step (noted at c) v d g) r b other (inr h) = inside v r b other h
   inside (step (passed at c) v d g) r b other h = inside v r b other h
 
