@@ -4,6 +4,7 @@ use Rattle.std.proofs.Common.{◌≡◌, ℕ, List, ◌+◌, ◌*◌, ◌-◌, �
 use Rattle.std.proofs.lemmas.Bool.{cases_lt}
 use Rattle.std.proofs.lemmas.List.{length-drop, take_all}
 use Rattle.adf_fields.specs.Words.{block}
+use Rattle.adf_blocks.specs.declared.layout.TheConstants.{NAME}
 use Rattle.adf_blocks.specs.Sizes.{blocks}
 use Rattle.adf_volume.specs.Image.{name_of}
 use Rattle.adf_volume.proofs.Images.{block_length}
@@ -17,11 +18,11 @@ cut xs n h =
 
 -- a name ends where its block ends
 pub cut_name : (image : List ℕ) (b : ℕ) → length image ≡ 512 * blocks image → b < blocks image
-    → slice_range (block image b) 433 (433 + min (slice_index (block image b) 432) 79) ≡ name_of image b
+    → slice_range (block image b) (NAME + 1) (NAME + 1 + min (slice_index (block image b) NAME) 79) ≡ name_of image b
 unfolding name_of
 cut_name image b long lt =
-    let n : ℕ = slice_index (block image b) 432 in
-    let l : length (drop 433 (block image b)) ≤ 79 = omega (arith, block_length image b long lt, length-drop 433 (block image b)) in
-    let e : (433 + min n 79) - 433 ≡ min n 79 = omega arith in
-    let f : (433 + n) - 433 ≡ n = omega arith in
-    rw (e, f) (cut (drop 433 (block image b)) n l)
+    let n : ℕ = slice_index (block image b) NAME in
+    let l : length (drop (NAME + 1) (block image b)) ≤ 79 = omega (arith, block_length image b long lt, length-drop (NAME + 1) (block image b)) in
+    let e : (NAME + 1 + min n 79) - (NAME + 1) ≡ min n 79 = omega arith in
+    let f : (NAME + 1 + n) - (NAME + 1) ≡ n = omega arith in
+    rw (e, f) (cut (drop (NAME + 1) (block image b)) n l)

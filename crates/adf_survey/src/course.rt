@@ -118,8 +118,8 @@ fn map_ext_word(page: u32) -> usize
     }
 }
 
-// The block that names a page: the one that named the page before, or the bitmap extension block that comes next; none where that
-// is passed over.
+// The block that names a page: the one that named the page before, or the bitmap extension block that comes next; none where
+// that is passed over.
 fn holder_of(
     image: &Image<'_>,
     found: &mut Found,

@@ -16,9 +16,10 @@ ghost use Rattle.adf_survey.specs.Found.{exts_found, known_at, member_in, new_in
 ghost use Rattle.std.specs.Global.{Vec};
 
 use crate::forms::Around;
+use crate::header_name::name_in;
 use crate::judge::Facts;
 use crate::part::{Finding, Key, Part};
-use adf_blocks::{FIRST_POINTER, NAME, POINTERS, SIZE, data_count};
+use adf_blocks::{FIRST_POINTER, POINTERS, SIZE, data_count};
 use adf_fields::{NoMemory, upper};
 use adf_tree::Kind;
 use adf_volume::Image;
@@ -39,10 +40,10 @@ pub struct ChainPlace {
     pub place: u32,
 }
 
-/// What is found so far: the blocks of the parts that are taken, but for headers and data blocks, by their keys; by block, whether
-/// it is taken, and whether it was passed over; how many blocks are not taken; the blocks of nodes by number; how many extension
-/// blocks of a file are taken; the headers of the chain that is gone through, by their names; what is wrong; the nodes of the
-/// directories of nodes; the places of headers, from node 1 on; and the data blocks that are taken.
+/// What is found so far: the blocks of the parts that are taken, but for headers and data blocks, by their keys; by block,
+/// whether it is taken, and whether it was passed over; how many blocks are not taken; the blocks of nodes by number; how many
+/// extension blocks of a file are taken; the headers of the chain that is gone through, by their names; what is wrong; the nodes
+/// of the directories of nodes; the places of headers, from node 1 on; and the data blocks that are taken.
 #[derive(Drop)]
 pub struct Found {
     pub taken: BTreeMap<Key, u32>,
@@ -71,10 +72,9 @@ fn upper_name(alloc: Global, image: &Image<'_>, b: u32) -> Result<Vec<u8>, NoMem
     requires { b < blocks image.now }
     ensures { IfOk result (λ v. v.items ≡ uppers (name_of image.now b)) }
 {
-    let block = image.block(b);
-    let len = (block.byte(NAME) as usize).min(79);
+    let head = image.block(b);
     let mut name = Vec::new(alloc);
-    for c in block.bytes(NAME + 1, len) {
+    for c in name_in(&head) {
         if name.push(upper(*c)).is_err() {
             return Err(NoMemory);
         }

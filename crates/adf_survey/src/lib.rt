@@ -6,6 +6,7 @@ mod course;
 mod file;
 mod forms;
 mod found;
+mod header_name;
 mod judge;
 mod laws;
 mod lookup;

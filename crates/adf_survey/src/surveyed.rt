@@ -1,7 +1,7 @@
 // What a survey tells.
 
-ghost use Rattle.std.specs.Prelude.{◌≡◌, ◌≤◌, ◌<◌, ◌↔◌, ℕ, List, [], ◌+◌, min, map, slice_index};
-ghost use Rattle.std.specs.Prelude.{slice_get, slice_range, IsTrue, IsNone, IsOk, IsSome, IfOk, IfSome};
+ghost use Rattle.std.specs.Prelude.{◌≡◌, ◌≤◌, ◌<◌, ◌↔◌, ℕ, List, [], map, slice_index};
+ghost use Rattle.std.specs.Prelude.{slice_get, IsTrue, IsNone, IsOk, IsSome, IfOk, IfSome};
 ghost use Rattle.std.specs.Option.{option_flatten};
 ghost use Rattle.adf_blocks.specs.HeadBlock.{body_at, meta_told};
 ghost use Rattle.adf_fields.specs.Words.{block};
@@ -20,9 +20,10 @@ ghost use Rattle.adf_survey.specs.Survey.{FindingValue, IsSurvey};
 ghost use Rattle.adf_survey.specs.Surveyed.{IsOfSurvey, kept_of};
 
 use crate::file::SoundFile;
+use crate::header_name::name_in;
 use crate::opening::Opening;
 use crate::part::Finding;
-use adf_blocks::{HeadBody, NAME, SECONDARY_TYPE, ST_FILE, meta_of};
+use adf_blocks::{HeadBody, SECONDARY_TYPE, ST_FILE, meta_of};
 use adf_fields::{Block, NoMemory};
 use adf_tree::{Meta, Node};
 use adf_volume::open;
@@ -56,14 +57,6 @@ fn has_mark(marks: &Vec<bool>, n: usize) -> bool
     ensures { result ≡ has_mark marks.now.items n }
 {
     marks.get(n).copied().unwrap_or(false)
-}
-
-// The name in a header, at most 79 bytes.
-fn name_in<'b>(head: &Block<'b>) -> &'b [u8]
-    ensures { result.now ≡ slice_range head.now 433 (433 + min (slice_index head.now 432) 79) }
-{
-    let len = (head.byte(NAME) as usize).min(79);
-    head.bytes(NAME + 1, len)
 }
 
 // The number of a node, 0 where there is none.

@@ -5,13 +5,11 @@ use Rattle.adf_survey.proofs.found.upper_name.Goals as goal
 
 pub returns : goal.returns
 returns c =
-    let cut = cut_name c.args.image.now c.args.b c.block-block.ensures.begun.0.0 c.requires in
+    let cut = cut_name c.args.image.now c.args.b c.block-head.ensures.begun.0.0 c.requires in
     rw (
       c.loop-c.invariant,
-      take_all c.loop-c.c-index c.bytes-c-items.result.now (omega (arith, c.loop-c-test.false)),
-      c.bytes-c-items.ensures,
-      c.min-len.ensures,
-      c.byte.ensures,
-      c.block-block.ensures.block,
+      take_all c.loop-c.c-index c.name_in-c-items.result.now (omega (arith, c.loop-c-test.false)),
+      c.name_in-c-items.ensures,
+      c.block-head.ensures.block,
       cut,
     ) refl
