@@ -56,7 +56,8 @@ stands_begun image f g h taken owned avoided left nodes exts findings parents pl
     let marks : g.owned.items ≡ set (replicate n false) root true = o.owned ∙ ap (λ xs. set xs root true) owned in
     let free : g.avoided.items ≡ replicate n false = ap (λ v. v.items) o.avoided ∙ avoided in
     let one : g.left + 1 ≡ n = o.left ∙ left in
-    let less = unowned_less (replicate n false) root (let l : length {A = Bool} (replicate n false) ≡ n = length-replicate n false in omega arith) (none_false n root) in
+    let long : length {A = Bool} (replicate n false) ≡ n = length-replicate n false in
+    let less = unowned_less (replicate n false) root (omega arith) (none_false n root) in
     let all = all_free n in
     subst (λ h. Stands image h (begun image)) (sym same) (record {
       taken = (λ r x. o.taken.0 (key_of r)

@@ -18,7 +18,7 @@ use Rattle.adf_survey.specs.Survey.{BitsTell, Course, FindingValue, IsCourse, fi
 use Rattle.adf_survey.specs.Survey.BitsTell.{agrees, differs, ends}
 use Rattle.adf_survey.specs.declared.part.Finding.{Finding}
 use Rattle.adf_survey.specs.Forms.{Tells}
-use Rattle.adf_survey.specs.Parts.{by_key, key_of, finding_value}
+use Rattle.adf_survey.specs.Parts.{by_key, key_of}
 use Rattle.adf_survey.specs.Found.{BitTells, IsBitOf, IsCompleted, IsFinished, IsNoted, IsToldOn, TellsOn, Stands, at_key, cause_told, owns}
 use Rattle.adf_survey.proofs.Keys.{lacks_at, one_key, same_of_key}
 use Rattle.adf_survey.proofs.Known.{tells_absent}
@@ -74,7 +74,8 @@ module _ (image : List ℕ) (f : Found) (s : Course) (v : IsCourse image s) (fs 
       tells_bit o a t x.0 h (subst (λ o. Tells (not o) (IsAbsent s.walk b)) (sym oe) (tells_absent s.walk b))
       (subst (λ a. Tells (not a) (IsAbsent s.passed_over b)) (sym ae) (tells_absent s.passed_over b)) (tells_free x.0 t h x.2)
 
-pub tells_none : (image : List ℕ) (s : Course) (b : ℕ) (gs : List FindingValue) → 2 ≤ b → BitTells image s b None → TellsOn image s b gs → TellsOn image s (b + 1) gs
+pub tells_none : (image : List ℕ) (s : Course) (b : ℕ) (gs : List FindingValue) → 2 ≤ b → BitTells image s b None
+    → TellsOn image s b gs → TellsOn image s (b + 1) gs
 tells_none image s b gs lo t on n fs h =
     let one : b + 1 ≡ suc b = omega arith in
     let more : b - 2 + suc n ≡ b + 1 - 2 + n = omega arith in

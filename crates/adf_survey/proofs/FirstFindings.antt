@@ -54,7 +54,8 @@ module _ (image : List ℕ) (begun : AllHold (boot_demands image ++ root_demands
   known (step {s = s} {r = r} {a = a} {i = i} j v n h) = stepped s.walk s.passed_over s.findings r a i j (known v) n h
 
   -- without findings, a course that is done is a whole walk
-  whole : (w over : List (Role × ℕ)) (fs : List FindingValue) → over ≡ [] → IsDone image (record { walk = w; passed_over = over; findings = fs }) → IsWhole image w
+  whole : (w over : List (Role × ℕ)) (fs : List FindingValue) → over ≡ [] → IsDone image (record { walk = w; passed_over = over; findings = fs })
+      → IsWhole image w
   whole w over fs e d r a i ask lack = d r a i ask lack (subst (λ l. Lacks l r) (sym e) (λ z b h s. h))
 
   -- and all bits are compared
@@ -109,7 +110,8 @@ shown image (unread f) = at_boot f
 shown image (read {s = s} {bits = bits} begun v d t) = joined image s.walk s.passed_over s.findings bits begun (known image begun v) d t
 
 -- the first finding is the first fault
-pub first_finding : (image : List ℕ) (w : List (Role × ℕ)) (f : FindingValue) (fs : List FindingValue) → IsSurvey image w (f ∷ fs) → FirstFault image f.block f.cause
+pub first_finding : (image : List ℕ) (w : List (Role × ℕ)) (f : FindingValue) (fs : List FindingValue) → IsSurvey image w (f ∷ fs)
+    → FirstFault image f.block f.cause
 first_finding image w f fs v = shown image v
 
 -- what a survey without findings tells, fits

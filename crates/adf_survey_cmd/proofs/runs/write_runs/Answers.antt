@@ -30,7 +30,8 @@ loop-i-preserved g c = record {
       let i = c.loop-i.i in
       let none : Finding = record { part = None; block = 0; cause = BadSize } in
       let entry = entry_later image w fs _ _ _ all split i none c.entry_of-in-loop-i.result (omega arith) (c.entry_of-in-loop-i.ensures w fs survey) in
-      let step = c.in_ok-run.ensures.ok w fs survey (finding_value (get_or others i none)) (map finding_value (drop (i + 1) others)) (c.of-next.ensures w entry) in
+      let later = map finding_value (drop (i + 1) others) in
+      let step = c.in_ok-run.ensures.ok w fs survey (finding_value (get_or others i none)) later (c.of-next.ensures w entry) in
       step _ _ (runs_next image w others _ _ _ _ c.loop-i.run i none (omega arith) (c.loop-i.invariant.so_far w fs survey));
 }
 
@@ -43,7 +44,8 @@ returns-in_err-run-clause-err g c = λ w fs survey.
     let i = c.loop-i.i in
     let none : Finding = record { part = None; block = 0; cause = BadSize } in
     let entry = entry_later image w fs _ _ _ all split i none c.entry_of-in-loop-i.result (omega arith) (c.entry_of-in-loop-i.ensures w fs survey) in
-    let step = c.in_err-run.ensures.err w fs survey (finding_value (get_or others i none)) (map finding_value (drop (i + 1) others)) (c.of-next.ensures w entry) in
+    let later = map finding_value (drop (i + 1) others) in
+    let step = c.in_err-run.ensures.err w fs survey (finding_value (get_or others i none)) later (c.of-next.ensures w entry) in
     on_err c.from_residual.result (pending_breaks _ _ _ _ _
     (runs_next image w others _ _ _ _ c.loop-i.run i none (omega arith) (c.loop-i.invariant.so_far w fs survey)) step)
 
