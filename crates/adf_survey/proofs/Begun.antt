@@ -6,6 +6,7 @@ use Rattle.std.specs.Global.{Vec}
 use Rattle.std.specs.Option.{unwrap_or}
 use Rattle.std.specs.Map.{lookup}
 use Rattle.std.specs.BTreeMap.{BTreeMap, IsEmpty, get, is_at}
+use Rattle.std.specs.BTreeSet.{BTreeSet}
 use Rattle.std.proofs.lemmas.Bool.Decides.{eqb_tells}
 use Rattle.std.proofs.lemmas.List.{length-replicate}
 use Rattle.adf_blocks.specs.Sizes.{blocks}
@@ -100,7 +101,7 @@ module _ (image : List ℕ) where
       gone (Ext n k) a i h l m u = omega arith
       gone (Data n k) a i h l m u = omega arith
 
-  no_names : (names : BTreeMap (Vec ℕ) ℕ) → AreNamed image (begun image).walk (page_place 0) names
+  no_names : (names : BTreeSet (Vec ℕ)) → AreNamed image (begun image).walk (page_place 0) names
   no_names names q m p s j b e f h = absurd (omega arith)
 
   -- the course begins at the first page, whose block the root names

@@ -1,8 +1,8 @@
 -- A course is gone on with: the part at its place is taken or passed over, or its place moves on where nothing is asked for.
-use Rattle.std.specs.Prelude.{Bool, false, cond, not, slice_index_or, Option, Some, None}
+use Rattle.std.specs.Prelude.{Bool, false, not, ◌||◌, slice_index_or, Option, Some, None}
 use Rattle.std.proofs.Common.{◌≡◌, ℕ, zero, suc, length, List, ◌∷◌, inl, inr, ◌<◌, ◌≤◌, refl, sym, subst, ap, ◌∙◌, arith}
 use Rattle.std.specs.Global.{Vec}
-use Rattle.std.specs.BTreeMap.{get}
+use Rattle.std.specs.BTreeSet.{contains}
 use Rattle.adf_blocks.specs.Sizes.{blocks}
 use Rattle.adf_volume.specs.Image.{word_in}
 use Rattle.adf_volume.specs.Walk.{Role, Same, Has, Asks, Lacks, first, heads, second, third}
@@ -19,7 +19,7 @@ use Rattle.adf_survey.specs.declared.found.Found.{Found}
 use Rattle.adf_survey.specs.Survey.{Course}
 use Rattle.adf_survey.specs.Forms.{Knows}
 use Rattle.adf_survey.specs.Parts.{key_of, role_of}
-use Rattle.adf_survey.specs.Found.{AreNamed, IsChain, IsKept, IsTaken, Stands, around_in, by_name, enough_in, known_at, named, new_in}
+use Rattle.adf_survey.specs.Found.{AreNamed, IsChain, IsKept, IsTaken, Stands, around_in, by_name, enough_in, has_name, known_at, new_in}
 use Rattle.adf_survey.specs.Courses.{Holds, IsGoneOn, IsNamed, IsNextAsk, IsOutcome, IsPassedOver, IsToTake, IsUpTo, Under, behind, course_on, role_asked}
 use Rattle.adf_survey.proofs.AsksSplit.{asks_split}
 use Rattle.adf_survey.proofs.Keys.{key_same}
@@ -156,7 +156,7 @@ module _ {image : List ℕ} {f : Found} {part : Part} {a i : ℕ} {s : Course} (
         course = o.course;
         stands = o.stands;
         up_to = passed_up_to;
-        names = (λ q m p t j b e d has. ap (λ x. get by_name x q) o.names ∙ n.holds.names q m p t j b e d has);
+        names = (λ q m p t j b e d has. ap (λ x. contains by_name x q) o.names ∙ n.holds.names q m p t j b e d has);
         small = n.holds.small;
       };
       block = tt;
@@ -217,14 +217,14 @@ module _ {image : List ℕ} {f : Found} {part : Part} {a i : ℕ} {s : Course} (
           up q b (inr m) = let u = n.holds.up_to.taken q b m in omega arith
 
       known_names : (j : ℕ) (q : Vec ℕ) {m p t : ℕ} → Head m p t j ≡ role → suc p ≡ first (role_of part) → suc (suc t) ≡ second (role_of part)
-          → Asks image s.walk (Head m p t j) a i → known_at j (get by_name g.names q) ≡ named image s.walk p t q.items
+          → Asks image s.walk (Head m p t j) a i → known_at j (contains by_name g.names q) ≡ has_name image s.walk p t q.items
       known_names zero q {p = p} {t = t} is e d asked =
           let place = same in
           let x : 0 ≡ third role = ap third is in
           sym (no_name image s.walk p t q.items
           (λ m k c has. let y : k < third (role_of part) = (n.holds.up_to.taken (Head m p t k) c has).2 e d in omega arith))
       known_names (suc j) q {p = p} {t = t} is e d asked =
-          ap (λ x. get by_name x q) o.names ∙ n.holds.names q asked.1.0 p t j a e d asked.1.1
+          ap (λ x. contains by_name x q) o.names ∙ n.holds.names q asked.1.0 p t j a e d asked.1.1
 
       taken_names : AreNamed image now.walk (behind (role_of part)) h.names
       taken_names = go taken o.role t.kept
@@ -235,10 +235,10 @@ module _ {image : List ℕ} {f : Found} {part : Part} {a i : ℕ} {s : Course} (
               let up : p ≡ u = (let x : suc p ≡ first role = ap first is in omega arith) in
               let slot : t ≡ v = (let x : suc (suc t) ≡ second role = ap second is in omega arith) in
               let asked : Asks image s.walk (Head m p t j) a i = subst (λ r. Asks image s.walk r a i) (sym is) n.asked in
-              let here : get by_name h.names q ≡ named image ((Head m p t j, block) ∷ s.walk) p t q.items =
-              kept.names q ∙ (λ y. cond (sym (own_name image m p t j block q.items) y) (Some block)
-              (known_names j q is (ap suc up ∙ e) (ap (λ t. suc (suc t)) slot ∙ d) asked y)) in
-              here ∙ (λ y. named image ((is y, block) ∷ s.walk) (up y) (slot y) q.items)
+              let here : contains by_name h.names q ≡ has_name image ((Head m p t j, block) ∷ s.walk) p t q.items =
+              kept.names q ∙ (λ y. sym (own_name image m p t j block q.items) y
+              || known_names j q is (ap suc up ∙ e) (ap (λ t. suc (suc t)) slot ∙ d) asked y) in
+              here ∙ (λ y. has_name image ((is y, block) ∷ s.walk) (up y) (slot y) q.items)
           go RootPart is kept = λ q c u v k b e d has. absurd (let place = same in let x : 0 ≡ second role = ap second is in omega arith)
           go (PagePart l) is kept = λ q c u v k b e d has. absurd (let place = same in let x : 1 ≡ second role = ap second is in omega arith)
           go (MapExtPart l) is kept = λ q c u v k b e d has. absurd (let place = same in let x : 1 ≡ second role = ap second is in omega arith)

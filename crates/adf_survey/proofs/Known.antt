@@ -1,11 +1,12 @@
 -- What is found tells what a part's demands ask.
-use Rattle.std.specs.Prelude.{Bool, true, false, cond, not, is_some, nat_le, nat_lt, ◌==◌, ◌||◌, ◌&&◌, Option, Some, None, slice_index_or}
+use Rattle.std.specs.Prelude.{Bool, true, false, cond, not, nat_le, nat_lt, ◌==◌, ◌||◌, ◌&&◌, Some, slice_index_or}
 use Rattle.std.proofs.Common.{◌≡◌, ◌≢◌, ℕ, zero, suc, List, [], ◌∷◌, inl, inr, ◌*◌, ◌/◌, ◌<◌, ◌≤◌, refl, sym, subst, ap, ◌∙◌, arith}
 use Rattle.std.specs.Option.{unwrap_or}
 use Rattle.std.specs.Ordering.{is_eq, nat_cmp}
 use Rattle.std.specs.Cmp.Lexicographic.{slice_cmp}
 use Rattle.std.specs.Global.{Vec}
-use Rattle.std.specs.BTreeMap.{BTreeMap, get}
+use Rattle.std.specs.BTreeMap.{get}
+use Rattle.std.specs.BTreeSet.{BTreeSet, contains}
 use Rattle.std.proofs.lemmas.Bool.{and_parts, cases_Bool, eqb-true, eq-eqb}
 use Rattle.std.proofs.lemmas.Bool.Decides.{nat_tests}
 use Rattle.adf_tree.specs.Texts.{uppers}
@@ -23,7 +24,7 @@ use Rattle.adf_survey.specs.declared.judge.Facts.{Facts}
 use Rattle.adf_survey.specs.declared.found.Found.{Found}
 use Rattle.adf_survey.specs.Survey.{Course}
 use Rattle.adf_survey.specs.Forms.{IsAround, Knows, Tells, in_range}
-use Rattle.adf_survey.specs.Found.{AreNamed, IsChain, Stands, around_in, at_key, by_name, enough_in, is_named, member_in, named, new_in, next_in, owns}
+use Rattle.adf_survey.specs.Found.{AreNamed, IsChain, Stands, around_in, at_key, by_name, enough_in, is_named, member_in, has_name, new_in, next_in, owns}
 use Rattle.adf_survey.specs.Parts.{by_key, key_of, role_of}
 use Rattle.adf_survey.proofs.Keys.{equal_keys}
 
@@ -91,38 +92,39 @@ abbrev pub Fresh : List ℕ → ℕ → ℕ → List ℕ → List (Role × ℕ) 
 Fresh image p s name w = (m k c : ℕ) → Has w (Head m p s k) c → uppers (name_of image c) ≢ name
 
 tells_new : (image : List ℕ) (w : List (Role × ℕ)) (p s : ℕ) (name : List ℕ)
-    → Tells (not (is_some (named image w p s name))) ((m k c : ℕ) → Has w (Head m p s k) c → uppers (name_of image c) ≢ name)
+    → Tells (not (has_name image w p s name)) ((m k c : ℕ) → Has w (Head m p s k) c → uppers (name_of image c) ≢ name)
 tells_new image [] p s name = λ m k c h. absurd h
-tells_new image (x ∷ w) p s name = go (is_named image x.0 x.1 p s name) (named image w p s name) (tells_named image x.0 x.1 p s name) (tells_new image w p s name)
+tells_new image (x ∷ w) p s name =
+    go (is_named image x.0 x.1 p s name) (has_name image w p s name) (tells_named image x.0 x.1 p s name) (tells_new image w p s name)
   where
-    go : (t : Bool) (o : Option ℕ) → Tells (not t) ((m k : ℕ) → x.0 ≡ Head m p s k → uppers (name_of image x.1) ≢ name) → Tells (not (is_some o)) (Fresh image p s name w)
-        → Tells (not (is_some (cond t (Some x.1) o))) (Fresh image p s name (x ∷ w))
-    go true o h k = λ f. h (λ m i e. f m i x.1 (inl (e, refl)))
-    go false (Some c) h k = λ f. k (λ m i c g. f m i c (inr g))
-    go false None h k = λ m i c g. elim g [
+    go : (t u : Bool) → Tells (not t) ((m k : ℕ) → x.0 ≡ Head m p s k → uppers (name_of image x.1) ≢ name) → Tells (not u) (Fresh image p s name w)
+        → Tells (not (t || u)) (Fresh image p s name (x ∷ w))
+    go true u h k = λ f. h (λ m i e. f m i x.1 (inl (e, refl)))
+    go false true h k = λ f. k (λ m i c g. f m i c (inr g))
+    go false false h k = λ m i c g. elim g [
       | inl e ↦ subst (λ c. uppers (name_of image c) ≢ name) e.1 (h m i e.0)
       | inr z ↦ k m i c z
     ]
 
 -- a chain without headers has no names
 pub no_name : (image : List ℕ) (w : List (Role × ℕ)) (p s : ℕ) (name : List ℕ) → ((m k c : ℕ) → Has w (Head m p s k) c → ⊥)
-    → named image w p s name ≡ None
-no_name image w p s name none = go (named image w p s name) (tells_new image w p s name)
+    → has_name image w p s name ≡ false
+no_name image w p s name none = go (has_name image w p s name) (tells_new image w p s name)
   where
-    go : (o : Option ℕ) → Tells (not (is_some o)) (Fresh image p s name w) → o ≡ None
-    go None t = refl
-    go (Some c) t = absurd (t (λ m k c h. absurd (none m k c h)))
+    go : (u : Bool) → Tells (not u) (Fresh image p s name w) → u ≡ false
+    go false t = refl
+    go true t = absurd (t (λ m k c h. absurd (none m k c h)))
 
 -- the first header of a chain has a new name
 pub first_is_new : (image : List ℕ) (w : List (Role × ℕ)) (part : Part) (b n p s : ℕ) → part ≡ HeadPart n p s 0 → IsChain w part
     → true ≡ new_in image w part b
 first_is_new image w part b n p s e =
     subst (λ part. IsChain w part → true ≡ new_in image w part b) (sym e)
-    (λ none. sym (ap (λ o. not (is_some o)) (no_name image w p s (uppers (name_of image b)) none)))
+    (λ none. sym (ap not (no_name image w p s (uppers (name_of image b)) none)))
 
--- a later one has a new name where the map does not have it
-pub later_is_new : (image : List ℕ) (w : List (Role × ℕ)) (part : Part) (b n p s j : ℕ) (names : BTreeMap (Vec ℕ) ℕ) (name : Vec ℕ) (t : Bool)
-    → part ≡ HeadPart n p s j → (j ≡ 0 → ⊥) → name.items ≡ uppers (name_of image b) → t ≡ is_some (get by_name names name)
+-- a later one has a new name where the set does not have it
+pub later_is_new : (image : List ℕ) (w : List (Role × ℕ)) (part : Part) (b n p s j : ℕ) (names : BTreeSet (Vec ℕ)) (name : Vec ℕ) (t : Bool)
+    → part ≡ HeadPart n p s j → (j ≡ 0 → ⊥) → name.items ≡ uppers (name_of image b) → t ≡ contains by_name names name
     → AreNamed image w (key_of (role_of part)) names → IsChain w part → not t ≡ new_in image w part b
 later_is_new image w part b n p s j names name t e later is known =
     subst (λ part. AreNamed image w (key_of (role_of part)) names → IsChain w part → not t ≡ new_in image w part b) (sym e) (go j later)
@@ -131,7 +133,7 @@ later_is_new image w part b n p s j names name t e later is known =
         → not t ≡ new_in image w (HeadPart n p s j) b
     go zero later named_all chain = absurd (later refl)
     go (suc j) later named_all (m, c, has) =
-        ap not (known ∙ ap is_some (named_all name m p s j c refl refl has ∙ ap (named image w p s) is))
+        ap not (known ∙ named_all name m p s j c refl refl has ∙ ap (has_name image w p s) is)
 
 -- the block of an extension block, by its key
 at_ext : (w : List (Role × ℕ)) (n m : ℕ) → unwrap_or (at_key w (key_of (Ext n m))) 0 ≡ ext_block_in w n m
@@ -201,7 +203,8 @@ module _ (image : List ℕ) (f : Found) (s : Course) (st : Stands image f s) whe
       block_is : (c : ℕ) → FileAt image s.walk n c → node_block s.walk n ≡ c
       block_is c x = head_block image v x.header
 
-      go : (u : Bool) → (k == 1) ≡ u → (t : Bool) → nat_le (data_count image (node_block s.walk n)) (POINTERS * suc (ext_count s.walk n)) ≡ t → Tells (not u || t) (Enough image s.walk (Data n k))
+      go : (u : Bool) → (k == 1) ≡ u → (t : Bool) → nat_le (data_count image (node_block s.walk n)) (POINTERS * suc (ext_count s.walk n)) ≡ t
+          → Tells (not u || t) (Enough image s.walk (Data n k))
       go false e t z = λ one. let y : true ≡ false = sym (eq-eqb k 1 one) ∙ e in cc
       go true e true z = λ one c x.
           subst (λ c. data_count image c ≤ POINTERS * suc (ext_count s.walk n)) (block_is c x) (grind (arith, nat_tests))

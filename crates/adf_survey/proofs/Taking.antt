@@ -5,6 +5,7 @@ use Rattle.std.proofs.Common.{get_or-set_same, get_or-set_other}
 use Rattle.std.specs.Option.{unwrap_or}
 use Rattle.std.specs.Ordering.{is_eq, nat_cmp}
 use Rattle.std.specs.BTreeMap.{BTreeMap, Updates, get}
+use Rattle.std.specs.BTreeSet.{contains}
 use Rattle.std.proofs.lemmas.Bool.Decides.{eqb_tells, nat_tests}
 use Rattle.std.proofs.lemmas.List.{map-append}
 use Rattle.adf_tree.proofs.NameKeys.{same_number, then_is}
@@ -27,7 +28,7 @@ use Rattle.adf_survey.specs.Found.{at_key, by_name, exts_found, owns, parent_by,
 kept_more : (image : List ℕ) (part : Part) (b : ℕ) (f g h : Found) → IsKept image part b f g → AreSame g h → IsKept image part b f h
 kept_more image (HeadPart n p s j) b f g h k e = record {
   nodes = ap (λ v. v.items) e.nodes ∙ k.nodes;
-  names = (λ q. ap (λ m. get by_name m q) e.names ∙ k.names q);
+  names = (λ q. ap (λ m. contains by_name m q) e.names ∙ k.names q);
   exts = e.exts ∙ k.exts;
   parents = ap (λ v. v.items) e.parents ∙ k.parents;
   places = ap (λ v. v.items) e.places ∙ k.places;

@@ -1,7 +1,7 @@
 -- What is found so far, as a course.
 -- Letters: w a walk, s a course; r a role; b, c blocks; k a key; n, p nodes; q a name in a chain; f what is found; ds data blocks.
 use Rattle.std.specs.Prelude.{◌≡◌, ◌≤◌, ◌<◌, ◌+◌, ◌-◌, ◌*◌, ◌/◌, ◌==◌, ◌||◌, ℕ, Bool, true, false, cond, not, nat_le, nat_lt, List, []}
-use Rattle.std.specs.Prelude.{◌∷◌, ◌++◌, length, set, map, slice_index, slice_index_or, Option, Some, None, is_some, IsTrue, ◌↔◌}
+use Rattle.std.specs.Prelude.{◌∷◌, ◌++◌, length, set, map, slice_index, slice_index_or, Option, Some, None, IsTrue, ◌↔◌}
 use Rattle.std.proofs.Common.{zero, suc}
 use Rattle.std.specs.Global.{Vec}
 use Rattle.std.specs.Option.{unwrap_or}
@@ -9,6 +9,7 @@ use Rattle.std.specs.Ordering.{is_eq, nat_cmp, ordering_then}
 use Rattle.std.specs.declared.cmp.Ordering.{Ordering}
 use Rattle.std.specs.Cmp.Lexicographic.{slice_cmp}
 use Rattle.std.specs.BTreeMap.{BTreeMap, Updates, get}
+use Rattle.std.specs.BTreeSet.{BTreeSet, contains}
 use Rattle.adf_tree.specs.Texts.{uppers}
 use Rattle.adf_blocks.specs.declared.cause.Cause.{Cause}
 use Rattle.adf_blocks.specs.declared.cause.Cause.TheVariants.{LostBlock, OwnedFree}
@@ -61,19 +62,20 @@ is_named image (Head n p s j) c parent slot name =
     is_eq (ordering_then (nat_cmp p parent) (ordering_then (nat_cmp s slot) (slice_cmp nat_cmp (uppers (name_of image c)) name)))
 is_named image _ c parent slot name = false
 
--- the block of a header of the chain with the name
-abbrev pub named : List ℕ → List (Role × ℕ) → ℕ → ℕ → List ℕ → Option ℕ
-named image [] parent slot name = None
-named image (x ∷ w) parent slot name = cond (is_named image x.0 x.1 parent slot name) (Some x.1) (named image w parent slot name)
+-- whether a header of the chain has the name
+abbrev pub has_name : List ℕ → List (Role × ℕ) → ℕ → ℕ → List ℕ → Bool
+has_name image [] parent slot name = false
+has_name image (x ∷ w) parent slot name = is_named image x.0 x.1 parent slot name || has_name image w parent slot name
 
 -- names in order
 abbrev pub by_name : Vec ℕ → Vec ℕ → Ordering
 by_name a b = slice_cmp nat_cmp a.items b.items
 
--- the map has the names of the walk's headers of the chain at a place, where there are some
-abbrev pub AreNamed : List ℕ → List (Role × ℕ) → Key → BTreeMap (Vec ℕ) ℕ → Type 0
+-- the set has the names of the walk's headers of the chain at a place, where there are some
+abbrev pub AreNamed : List ℕ → List (Role × ℕ) → Key → BTreeSet (Vec ℕ) → Type 0
 AreNamed image w k names =
-    (q : Vec ℕ) (m p s j b : ℕ) → suc p ≡ k.first → suc (suc s) ≡ k.second → Has w (Head m p s j) b → get by_name names q ≡ named image w p s q.items
+    (q : Vec ℕ) (m p s j b : ℕ) → suc p ≡ k.first → suc (suc s) ≡ k.second → Has w (Head m p s j) b
+    → contains by_name names q ≡ has_name image w p s q.items
 
 -- the walk has headers of the chain of the part, where that is not the first of them
 abbrev pub IsChain : List (Role × ℕ) → Part → Type 0
@@ -83,7 +85,7 @@ IsChain w _ = Unit {0}
 
 -- whether the part has a new name, where it is a header
 abbrev pub new_in : List ℕ → List (Role × ℕ) → Part → ℕ → Bool
-new_in image w (HeadPart n p s j) b = not (is_some (named image w p s (uppers (name_of image b))))
+new_in image w (HeadPart n p s j) b = not (has_name image w p s (uppers (name_of image b)))
 new_in image w _ b = true
 
 -- p where the role is a header of node n in directory p, else c
@@ -164,16 +166,16 @@ pub record AreSame (f g : Found) : Type 0 where
   pub parents : g.parents ≡ f.parents
   pub places : g.places ≡ f.places
 
--- what is known of a name as a header comes to place j of a chain: nothing at the first
-abbrev pub known_at : ℕ → Option ℕ → Option ℕ
-known_at zero o = None
-known_at (suc j) o = o
+-- whether a name is known as a header comes to place j of a chain: none is at the first
+abbrev pub known_at : ℕ → Bool → Bool
+known_at zero known = false
+known_at (suc j) known = known
 
 -- the node, the name, the directory p, the slot and the place j of a header are kept
 pub record KeepsHead (image : List ℕ) (p s j b : ℕ) (f g : Found) : Type 0 where
   pub nodes : g.nodes.items ≡ f.nodes.items ++ b ∷ []
   pub names : (q : Vec ℕ)
-      → get by_name g.names q ≡ cond (is_eq (slice_cmp nat_cmp (uppers (name_of image b)) q.items)) (Some b) (known_at j (get by_name f.names q))
+      → contains by_name g.names q ≡ (is_eq (slice_cmp nat_cmp (uppers (name_of image b)) q.items) || known_at j (contains by_name f.names q))
   pub exts : g.exts ≡ f.exts
   pub parents : g.parents.items ≡ f.parents.items ++ p ∷ []
   pub places : g.places.items ≡ f.places.items ++ record { slot = s; place = j } ∷ []

@@ -3,7 +3,8 @@
 ghost use Rattle.std.specs.Prelude.{◌≡◌, ◌≤◌, ◌<◌, ◌+◌, ℕ, List, [], ◌∷◌, ◌++◌, IfOk, OnOk, Some, None};
 ghost use Rattle.std.specs.Prelude.{length, false, true, not, slice_index, slice_index_or, slice_set, map};
 ghost use Rattle.std.specs.Ordering.{nat_cmp};
-ghost use Rattle.std.specs.BTreeMap.{Updates, get};
+ghost use Rattle.std.specs.BTreeMap.{Updates};
+ghost use Rattle.std.specs.BTreeSet.{contains};
 ghost use Rattle.adf_tree.specs.Texts.{uppers};
 ghost use Rattle.adf_blocks.specs.Sizes.{blocks, count};
 ghost use Rattle.adf_volume.specs.Image.{name_of, root_of, word_in};
@@ -24,7 +25,7 @@ use adf_fields::{NoMemory, upper};
 use adf_tree::Kind;
 use adf_volume::Image;
 use std::alloc::Global;
-use std::collections::BTreeMap;
+use std::collections::{BTreeMap, BTreeSet};
 
 /// A data block that is taken: the node of its file, and the block.
 #[derive(Clone, Copy, PartialEq, Eq, Drop)]
@@ -42,8 +43,8 @@ pub struct ChainPlace {
 
 /// What is found so far: the blocks of the parts that are taken, but for headers and data blocks, by their keys; by block,
 /// whether it is taken, and whether it was passed over; how many blocks are not taken; the blocks of nodes by number; how many
-/// extension blocks of a file are taken; the headers of the chain that is gone through, by their names; what is wrong; the nodes
-/// of the directories of nodes; the places of headers, from node 1 on; and the data blocks that are taken.
+/// extension blocks of a file are taken; the names in the chain that is gone through; what is wrong; the nodes of the
+/// directories of nodes; the places of headers, from node 1 on; and the data blocks that are taken.
 #[derive(Drop)]
 pub struct Found {
     pub taken: BTreeMap<Key, u32>,
@@ -52,7 +53,7 @@ pub struct Found {
     pub left: u32,
     pub nodes: Vec<u32>,
     pub exts: BTreeMap<u32, u32>,
-    pub names: BTreeMap<Vec<u8>, u32>,
+    pub names: BTreeSet<Vec<u8>>,
     pub findings: Vec<Finding>,
     pub parents: Vec<u32>,
     pub places: Vec<ChainPlace>,
@@ -119,7 +120,7 @@ impl Found {
             left: blocks,
             nodes: Vec::new(alloc),
             exts: BTreeMap::new(alloc),
-            names: BTreeMap::new(alloc),
+            names: BTreeSet::new(alloc),
             findings: Vec::new(alloc),
             parents,
             places: Vec::new(alloc),
@@ -223,7 +224,7 @@ impl Found {
             return Ok(true);
         }
         let name = upper_name(*self.nodes.allocator(), image, b)?;
-        Ok(!self.names.contains_key(&name))
+        Ok(!self.names.contains(&name))
     }
 
     /// What is known of a part in block `b`.
@@ -280,8 +281,8 @@ impl Found {
 
     // Forgets the names of another chain, at the first place of a chain.
     fn begin_names(&mut self, place: u32)
-        ensures names { (q : Vec ℕ) → get by_name self.new.names q
-            ≡ known_at place (get by_name self.old.names q) }
+        ensures names { (q : Vec ℕ) → contains by_name self.new.names q
+            ≡ known_at place (contains by_name self.old.names q) }
         ensures rest { self.new ≡ record self.old { names = self.new.names } }
     {
         if place == 0 {
@@ -307,7 +308,7 @@ impl Found {
                 if self.nodes.push(b).is_err()
                     || self.parents.push(parent).is_err()
                     || self.places.push(ChainPlace { slot, place }).is_err()
-                    || self.names.insert(name, b).is_err()
+                    || self.names.insert(name).is_err()
                 {
                     return Err(NoMemory);
                 }

@@ -11,5 +11,5 @@ returns-then-place-eq0 c = λ w names.
 pub returns : goal.returns
 returns c = λ w.
     let x = c.in-Head in
-    later_is_new c.args.image.now w c.args.part c.args.b x.node x.parent x.slot x.place c.args.self.now.names c.in_ok-name.name c.contains_key.result
-    x.is c.if-place-eq0.false c.in_ok-name.ensures c.contains_key.ensures
+    later_is_new c.args.image.now w c.args.part c.args.b x.node x.parent x.slot x.place c.args.self.now.names c.in_ok-name.name c.contains.result
+    x.is c.if-place-eq0.false c.in_ok-name.ensures c.contains.ensures
