@@ -9,7 +9,8 @@ use Rattle.adf_volume.proofs.Roles.{dir_up, head_role, member_up, renumbered, sa
 
 module _ (image : List ℕ) (w : List (Role × ℕ)) (r : Role) (b : ℕ) where
   -- what was asked for is asked for still
-  pub asks_more : (q : Role) (a i : ℕ) → Asks image w (renumbered (suc (heads w)) q) a i → Asks image ((r, b) ∷ w) (renumbered (suc (heads ((r, b) ∷ w))) q) a i
+  pub asks_more : (q : Role) (a i : ℕ) → Asks image w (renumbered (suc (heads w)) q) a i
+      → Asks image ((r, b) ∷ w) (renumbered (suc (heads ((r, b) ∷ w))) q) a i
   asks_more Root a i h = absurd h
   asks_more (Page k) a i (lt, inl h) = (lt, inl h)
   asks_more (Page k) a i (lt, inr (j, has, li, ke)) = (lt, inr (j, inr has, li, ke))

@@ -189,7 +189,8 @@ module _ (image : List ℕ) where
       low : (m p' t c : ℕ) → Under (Head m p' t c) (key_of (Head 0 p (suc slot) 0)) → p' ≡ p → t ≤ slot
       low m p' t c u e = let x = low_second (Head m p' t c) (key_of (Head 0 p (suc slot) 0)) u refl (ap suc e) in omega arith
 
-      chain_one : {w : List (Role × ℕ)} → IsGathered image w → (j a c i k m : ℕ) → IsLink image w p slot j a i → IsLink image w p slot j c k → (a ≡ c) × (i ≡ k)
+      chain_one : {w : List (Role × ℕ)} → IsGathered image w → (j a c i k m : ℕ) → IsLink image w p slot j a i → IsLink image w p slot j c k
+          → (a ≡ c) × (i ≡ k)
       chain_one v zero a c i k m x y = (one_dir v p a c x.0 y.0, x.1 ∙ sym y.1)
       chain_one v (suc j) a c i k m x y =
           ((one_block image v (Head x.0.0 p slot j) (Head y.0.0 p slot j) a c x.0.1 y.0.1 (omega arith)).1, x.1 ∙ sym y.1)
@@ -474,7 +475,8 @@ module _ {image : List ℕ} {f : Found} {n b m a : ℕ} (x : IsInExts image f n 
       → IsGoneOn image x.course (ExtPart n (suc m)) a EXTENSION g o
   gone_on {g} {o} = subst (λ k. IsGoneOn image x.course (ExtPart n k) a EXTENSION g o) (sym one_more)
 
-  pub ext_taken : {g : Found} {o : Option ℕ} {c : ℕ} → o ≡ Some c → IsGoneOn image x.course (ExtPart n (m + 1)) a EXTENSION g o → IsInExts image g n b (m + 1) c
+  pub ext_taken : {g : Found} {o : Option ℕ} {c : ℕ} → o ≡ Some c → IsGoneOn image x.course (ExtPart n (m + 1)) a EXTENSION g o
+      → IsInExts image g n b (m + 1) c
   ext_taken {g} {o} {c} e gone =
       subst (λ m. IsInExts image g n b m c) one_more (ext_goes_on image f x.course n b m a c g x.file x.count
       (subst (IsGoneOn image x.course (ExtPart n (suc m)) a EXTENSION g) e (gone_on gone)))

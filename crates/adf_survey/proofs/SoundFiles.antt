@@ -57,7 +57,8 @@ file_told image w fs n (read {s = s} {bits = bits} begun v d told) sound type =
 
 -- what is kept of a survey tells of the header of an entry
 module _ (v : Surveyed) (kept : IsOfSurvey v) (w : List (Role × ℕ)) (fs : List FindingValue) (h : IsSurvey v.image w fs) (n : ℕ)
-    {head type : ℕ} {image : List ℕ} (is_image : image ≡ v.image) (is_head : head ≡ slice_index v.nodes n) (is_type : type ≡ word_in image head SECONDARY_TYPE) where
+    {head type : ℕ} {image : List ℕ} (is_image : image ≡ v.image) (is_head : head ≡ slice_index v.nodes n)
+    (is_type : type ≡ word_in image head SECONDARY_TYPE) where
   head_is : head ≡ node_block w n
   head_is = is_head ∙ (tells_each v kept w fs h).node n
 

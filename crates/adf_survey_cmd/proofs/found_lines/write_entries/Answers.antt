@@ -33,7 +33,8 @@ returns-in_err-tell_found-clause-err g c = λ w fs survey date sound dates marks
 pub returns-clause-ok : goal.returns-clause-ok
 returns-clause-ok g c = λ w fs survey date sound dates marks.
     let last : c.loop-i.i ≡ heads w = omega (arith, c.len-i-end.ensures w fs survey) in
-    pending_end _ _ _ _ _ (rw last at (c.loop-i.invariant.so_far w fs survey date sound dates marks)) (rw c.deref.ensures.value at c.in_ok-write_all.ensures.ok)
+    pending_end _ _ _ _ _ (rw last at (c.loop-i.invariant.so_far w fs survey date sound dates marks))
+    (rw c.deref.ensures.value at c.in_ok-write_all.ensures.ok)
 
 pub returns-in_err-write_all-clause-err : goal.returns-in_err-write_all-clause-err
 returns-in_err-write_all-clause-err g c = λ w fs survey date sound dates marks.
