@@ -26,7 +26,8 @@ size_not image h k =
 boots : (image : List ℕ) → first_cause (start_form image) ≡ None → AllHold (boot_demands image)
 boots image h = go (is_image_len (length image)) refl h
   where
-    go : (whole : Bool) → is_image_len (length image) ≡ whole → first_cause ((whole, BadSize) ∷ boot_form (block image 0)) ≡ None → AllHold (boot_demands image)
+    go : (whole : Bool) → is_image_len (length image) ≡ whole → first_cause ((whole, BadSize) ∷ boot_form (block image 0)) ≡ None
+        → AllHold (boot_demands image)
     go true w h = (size_is image w, all_demanded 0 (boot_form (block image 0)) h)
     go false w h = cc
 

@@ -1,5 +1,6 @@
 -- Lengths of blocks and contents, and how many pages and bitmap extension blocks there are.
-use Rattle.std.proofs.Common.{◌≡◌, ℕ, suc, List, [], ◌∷◌, ◌+◌, ◌-◌, ◌/◌, ◌*◌, ◌^◌, ◌<◌, ◌≤◌, arith, refl, sym, ◌∙◌, length, length-append, length-drop, length-take}
+use Rattle.std.proofs.Common.{◌≡◌, ℕ, suc, List, [], ◌∷◌, ◌+◌, ◌-◌, ◌/◌, ◌*◌, ◌^◌, ◌<◌, ◌≤◌, arith, refl, sym, ◌∙◌, length}
+use Rattle.std.proofs.Common.{length-append, length-drop, length-take}
 use Rattle.adf_fields.specs.Words.{block}
 use Rattle.adf_blocks.specs.declared.layout.TheConstants.{MAP_EXT_PAGES, PAGE_BITS, ROOT_PAGES, SIZE}
 use Rattle.adf_volume.specs.Lists.{At}

@@ -96,7 +96,8 @@ module _ (image : List ℕ) where
   whole_step w x h s = h s.role s.at s.index s.due.asked s.due.lacks
 
   -- two walks from which no step leads on are one
-  one_walk : (w u : List (Role × ℕ)) → IsWalk image w → IsWalk image u → ((x : List (Role × ℕ)) → Step w x → ⊥) → ((x : List (Role × ℕ)) → Step u x → ⊥) → w ≡ u
+  one_walk : (w u : List (Role × ℕ)) → IsWalk image w → IsWalk image u → ((x : List (Role × ℕ)) → Step w x → ⊥)
+      → ((x : List (Role × ℕ)) → Step u x → ⊥) → w ≡ u
   one_walk w u v v' f g =
       let short : length w < length u → ⊥ = (λ l. let s = goes_on v' w v l in f s.0 s.1) in
       let long : length u < length w → ⊥ = (λ l. let s = goes_on v u v' l in g s.0 s.1) in

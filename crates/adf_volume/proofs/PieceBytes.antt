@@ -43,7 +43,9 @@ held_is kind size k xs h = go (nat_lt (c * suc k) size) refl
     m = omega arith
 
     go : (t : Bool) → nat_lt (c * suc k) size ≡ t → take (cond t c (size - c * (suc k - 1))) xs ≡ take (size - c * k) xs
-    go true z = let l : c * suc k < size = grind (arith, nat_tests) in take_all c xs (omega (arith, h)) ∙ sym (take_all (size - c * k) xs (omega (arith, h, m)))
+    go true z =
+        let l : c * suc k < size = grind (arith, nat_tests) in
+        take_all c xs (omega (arith, h)) ∙ sym (take_all (size - c * k) xs (omega (arith, h, m)))
     go false z = let e : suc k - 1 ≡ k = omega arith in ap (λ n. take (size - c * n) xs) e
 
 left_more : (kind : Kind) (size k n : ℕ) → n ≡ chunk kind → left kind size k - n ≡ left kind size (suc k)
