@@ -1,32 +1,36 @@
 -- From outcomes to answers.
-use Rattle.std.proofs.Common.{◌≡◌, ◌≢◌, ◌∙◌, ap, inl, inr, ℕ, Bool, false, List, [], Option, Some, None, IfSome, refl, sym, subst, arith}
+use Rattle.std.proofs.Common.{◌≡◌, ◌∙◌, ◌<◌, ◌-◌, ap, inl, inr, ℕ, Bool, false, List, [], Option, Some, None, IfSome, refl, sym, subst, arith}
 use Rattle.std.specs.Prelude.{codes, string_bytes}
 use Rattle.adf_fields.proofs.DateTexts.{date_of, date_of_is}
 use Rattle.adf_tree.specs.PathTexts.{IsPathText}
 use Rattle.adf_tree.specs.Tree.{Tree, entry, find, with_kind}
 use Rattle.adf_tree.specs.declared.entry.Kind.{Kind}
-use Rattle.adf_blocks.specs.declared.cause.Cause.TheVariants.{NoMemory as CauseNoMemory}
 use Rattle.adf_blocks.specs.Sizes.{blocks}
 use Rattle.adf_volume.specs.Fits.{Fits}
 use Rattle.adf_volume.specs.Layout.{Layout}
 use Rattle.adf_volume.specs.Walk.{FirstFault}
 use Rattle.adf_check.specs.Pieces.{bytes_of}
 use Rattle.adf_check.specs.declared.fault.Fault.{Fault}
-use Rattle.adf_cmd.specs.Answers.{Answer, Answers, AnswersPart, BuildsOrIsFull, Copies, IsBadPath, RefusesImage, Reply}
-use Rattle.adf_cmd.specs.Answers.{built_output, contents_at, on_errors, on_output}
-use Rattle.adf_cmd.specs.CommandLine.{AsksFor, AreRefused, RequestValue, build, cat, check, convert, list}
+use Rattle.adf_cmd.specs.Answers.{Answer, BuildsOrIsFull, Copies, GetsAnswer, GetsFront, IsBuilt, RefusesImage, Reply, WritesFront}
+use Rattle.adf_cmd.specs.Answers.{contents_at, on_errors, on_output}
+use Rattle.adf_cmd.specs.CommandLine.{build, cat, check, convert, list}
 use Rattle.adf_manifest.specs.Manifest.{ExplainsFault, IsManifest}
-use Rattle.adf_cmd.specs.Outcomes.{CopyWorks, IsFaultOutcome, IsRefusal, IsRefusedImage, TreeWorks, Works}
-use Rattle.adf_cmd.specs.Outcomes.{is_read_fault, outcome_line, status_of}
+use Rattle.adf_cmd.specs.Outcomes.{EndsBy, IsFaultOutcome, IsFullOutcome, IsRefusedImage}
+use Rattle.adf_cmd.specs.Outcomes.{after_writing, is_read_fault, outcome_line, status_of}
 use Rattle.adf_cmd.specs.Streams.{Says}
-use Rattle.adf_cmd.specs.Work.{IsNoWork, refusal_line, refusal_status}
-use Rattle.adf_cmd.specs.declared.work.WorkFault.{WorkFault}
-use Rattle.adf_cmd.specs.declared.work.WorkFault.TheVariants.{BadPath, NoMemory as WorkNoMemory, Usage}
+use Rattle.adf_cmd.specs.WorkFaults.{IsNoWork, refusal_line, refusal_status}
+use Rattle.adf_cmd.specs.declared.work_fault.WorkFault.{WorkFault}
+use Rattle.adf_cmd.specs.declared.work_fault.WorkFault.TheVariants.{BadPath, NoMemory as WorkNoMemory, Usage}
 use Rattle.adf_texts.specs.Lines.{fault_line}
 use Rattle.adf_texts.specs.VolumeLines.{volume_lines}
 use Rattle.adf_manifest.specs.declared.manifest.ManifestFault.{ManifestFault}
 use Rattle.adf_cmd.specs.declared.outcome.Outcome.{Outcome}
-use Rattle.adf_cmd.specs.declared.outcome.Outcome.TheVariants.{Done, Refused, NoSuchPath, NotAFile, ReadFault, WriteFault, NoMemory}
+use Rattle.adf_cmd.specs.declared.outcome.Outcome.TheVariants.{Refused, ReadFault, WriteFault, NoMemory}
+use Rattle.adf_cmd.specs.declared.streams.StreamFault.{StreamFault}
+use Rattle.adf_cmd.specs.declared.streams.StreamFault.TheVariants.{Device, NoMemory as StreamNoMemory}
+use Rattle.adf_build.specs.Laid.{IsLaid, volume}
+use Rattle.adf_build.specs.Plan.{blocks_needed, planned}
+use Rattle.adf_build.specs.Building.{IsBuildable, need_of}
 use Rattle.adf_cmd.proofs.PendingText.{appends_nil}
 
 -- the line of the first fault of an image answers `check`
@@ -34,130 +38,130 @@ pub refused_answer : (image line : List ℕ) (f : Fault) → FirstFault image f.
     → Answer check image (on_output 1 line)
 refused_answer image line f first e = inr (f, first, ap (on_output 1) e)
 
--- what is said of a fault is said of the image that has it first
-pub refused_image : (w : Outcome) (image : List ℕ) (f : Fault) → (f.cause ≢ CauseNoMemory → FirstFault image f.block f.cause) → IsRefusal f w
-    → IsRefusedImage image w
-refused_image (Refused line) image f first h = (f, first h.0, h.1)
-refused_image NoMemory image f first h = tt
-refused_image _ image f first h = absurd h
+-- what ends by some answers ends by others that they are
+pub ends_weaker : (few more : Reply → Type 0) (w : Outcome) (o o' : Option (List ℕ)) → ((reply : Reply) → few reply → more reply)
+    → EndsBy few w o o' → EndsBy more w o o'
+ends_weaker few more ReadFault o o' f h = h
+ends_weaker few more WriteFault o o' f h = (h.0, f h.0 h.1, h.2)
+ends_weaker few more NoMemory o o' f (inl none) = inl none
+ends_weaker few more NoMemory o o' f (inr h) = inr (h.0, f h.0 h.1, h.2)
+ends_weaker few more w o o' f h = (h.0, f (record { status = status_of w; output = h.0; errors = outcome_line w }) h.1, h.2)
 
--- what is said of a refused image answers a request that is refused with it
-pub refused_image_works : (w : Outcome) (r : RequestValue) (image : List ℕ) (o : Option (List ℕ))
-    → ((reply : Reply) → RefusesImage image reply → Answer r image reply) → IsRefusedImage image w → Works w r image o o
-refused_image_works (Refused line) r image o f h = ([], f (on_errors 1 (string_bytes line)) (h.0, h.1, ap (on_errors 1) h.2), appends_nil o)
-refused_image_works NoMemory r image o f h = inl (appends_nil o)
-refused_image_works _ r image o f h = absurd h
+-- a fault in writing leaves a front part of an answer
+pub front_ends : (f : StreamFault) (w : Outcome) (answers : Reply → Type 0) (o o' : Option (List ℕ)) → w ≡ after_writing f → WritesFront answers o o'
+    → EndsBy answers w o o'
+front_ends Device w answers o o' e h = rw e h
+front_ends StreamNoMemory w answers o o' e h = rw e (inr h)
+
+-- what is said of a refused image is one of the answers that refuse it so
+pub refused_image_ends : (w : Outcome) (image : List ℕ) (answers : Reply → Type 0) (o : Option (List ℕ))
+    → ((reply : Reply) → RefusesImage image reply → answers reply) → IsRefusedImage image w → EndsBy answers w o o
+refused_image_ends (Refused line) image answers o f h = ([], f (on_errors 1 (string_bytes line)) (h.0, h.1, ap (on_errors 1) h.2), appends_nil o)
+refused_image_ends NoMemory image answers o f h = inl (appends_nil o)
+refused_image_ends _ image answers o f h = absurd h
 
 -- the lines of a volume answer `list`
 pub listed : (image : List ℕ) (t : Tree) (l : Layout) → Fits image t l → Answer list image (on_output 0 (volume_lines date_of t (blocks image)))
 listed image t l fits = inl (t, l, fits, date_of, date_of_is, refl)
 
 -- what is said of a refused manifest answers it
-pub fault_works : (w : Outcome) (lines : Bool) (input : List ℕ) (f : ManifestFault) (o : Option (List ℕ)) → ExplainsFault f input → IsFaultOutcome f w
-    → Works w (build lines) input o o
-fault_works (Refused line) lines input f o why h = ([], inr (f, why, h.0, ap (on_errors 1) h.1), appends_nil o)
-fault_works NoMemory lines input f o why h = inl (appends_nil o)
-fault_works _ lines input f o why h = absurd h
+pub fault_ends : (w : Outcome) (lines : Bool) (input : List ℕ) (f : ManifestFault) (o : Option (List ℕ)) → ExplainsFault f input → IsFaultOutcome f w
+    → EndsBy (Answer (build lines) input) w o o
+fault_ends (Refused line) lines input f o why h = ([], inr (f, why, h.0, ap (on_errors 1) h.1), appends_nil o)
+fault_ends NoMemory lines input f o why h = inl (appends_nil o)
+fault_ends _ lines input f o why h = absurd h
 
--- what answers the building of a tree answers the request
-abbrev Passes : RequestValue → List ℕ → Bool → Tree → ℕ → Type 0
-Passes r input lines tree n = (reply : Reply) → BuildsOrIsFull lines tree n reply → Answer r input reply
+-- an image that was built of a tree is the one that is laid of it
+pub is_built : (image : List ℕ) (tree : Tree) (n : ℕ) → image ≡ volume tree n → IsBuildable tree n → IsLaid image tree → Fits image tree (planned tree n)
+    → IsBuilt tree n
+is_built image tree n e room laid fits = record {
+  room = room;
+  laid = subst (λ i. IsLaid i tree) e laid;
+  fits = subst (λ i. Fits i tree (planned tree n)) e fits;
+}
 
--- what was built of a tree answers a request to build it
-tree_works : (w : Outcome) (r : RequestValue) (lines : Bool) (input : List ℕ) (tree : Tree) (n : ℕ) (o o' : Option (List ℕ)) → Passes r input lines tree n
-    → TreeWorks w lines tree n o o' → Works w r input o o'
-tree_works Done r lines input tree n o o' f h = (built_output lines tree n, f (on_output 0 (built_output lines tree n)) (inl (h.0, refl)), h.1)
-tree_works (Refused line) r lines input tree n o o' f h =
-    ([], f (on_errors 1 (string_bytes line)) (inr (h.1, ap (on_errors 1) h.2)), h.0)
-tree_works WriteFault r lines input tree n o o' f h =
-    let reply = on_output 0 (built_output lines tree n) in
-    (reply, f reply (inl (h.0, refl)), h.1)
-tree_works NoMemory r lines input tree n o o' f (inl h) = inl h
-tree_works NoMemory r lines input tree n o o' f (inr h) =
-    let reply = on_output 0 (built_output lines tree n) in
-    inr (reply, f reply (inl (h.0, refl)), h.1)
-tree_works _ r lines input tree n o o' f h = absurd h
+-- saying that a tree needs more blocks than there are answers what builds it
+pub full_ends : (w : Outcome) (lines : Bool) (tree : Tree) (n : ℕ) (o : Option (List ℕ)) → n - 2 < blocks_needed tree n
+    → IsFullOutcome (need_of tree n) (n - 2) w → EndsBy (BuildsOrIsFull lines tree n) w o o
+full_ends (Refused line) lines tree n o full h = ([], inr (full, ap (on_errors 1) h), appends_nil o)
+full_ends NoMemory lines tree n o full h = inl (appends_nil o)
+full_ends _ lines tree n o full h = absurd h
 
-pub build_works : (w : Outcome) (lines : Bool) (input : List ℕ) (tree : Tree) (n : ℕ) (o o' : Option (List ℕ)) → IsManifest input tree n
-    → TreeWorks w lines tree n o o' → Works w (build lines) input o o'
-build_works w lines input tree n o o' m h = tree_works w (build lines) lines input tree n o o' (λ reply builds. inl (tree, n, m, builds)) h
+-- what builds the tree of a manifest answers its building
+pub build_ends : (w : Outcome) (lines : Bool) (input : List ℕ) (tree : Tree) (n : ℕ) (o o' : Option (List ℕ)) → IsManifest input tree n
+    → EndsBy (BuildsOrIsFull lines tree n) w o o' → EndsBy (Answer (build lines) input) w o o'
+build_ends w lines input tree n o o' m h =
+    ends_weaker (BuildsOrIsFull lines tree n) (Answer (build lines) input) w o o' (λ reply builds. inl (tree, n, m, builds)) h
 
-pub convert_works : (w : Outcome) (kind : Kind) (image : List ℕ) (t : Tree) (l : Layout) (n : ℕ) (o o' : Option (List ℕ))
-    → Fits image t l → n ≡ blocks image
-    → TreeWorks w false (with_kind t kind) n o o' → Works w (convert kind) image o o'
-convert_works w kind image t l n o o' fits e h =
+-- what builds the tree of an image as one of another kind answers its conversion
+pub convert_ends : (w : Outcome) (kind : Kind) (image : List ℕ) (t : Tree) (l : Layout) (n : ℕ) (o o' : Option (List ℕ)) → Fits image t l → n ≡ blocks image
+    → EndsBy (BuildsOrIsFull false (with_kind t kind) n) w o o' → EndsBy (Answer (convert kind) image) w o o'
+convert_ends w kind image t l n o o' fits e h =
     let u = with_kind t kind in
-    let passes : Passes (convert kind) image false u n = λ reply builds. inl (t, l, fits, subst (λ k. BuildsOrIsFull false u k reply) e builds) in
-    tree_works w (convert kind) false image u n o o' passes h
+    ends_weaker (BuildsOrIsFull false u n) (Answer (convert kind) image) w o o'
+    (λ reply builds. inl (t, l, fits, subst (λ k. BuildsOrIsFull false u k reply) e builds)) h
 
 -- the bytes of a file are what its path leads to
-pub file_at : (t : Tree) (names : List (List ℕ)) (node : ℕ) (bytes : List ℕ) → Some node ≡ find t.entries names → Some bytes ≡ bytes_of (entry t.entries node)
+file_at : (t : Tree) (names : List (List ℕ)) (node : ℕ) (bytes : List ℕ) → Some node ≡ find t.entries names → Some bytes ≡ bytes_of (entry t.entries node)
     → contents_at t names ≡ Some (Some bytes)
 file_at t names node bytes e f =
     rw (← e, f)
 
--- what was copied of what a path leads to answers the request for it
-copies : (found : Option (Option (List ℕ))) (path : List ℕ) (names : List (List ℕ)) (image : List ℕ) (t : Tree) (l : Layout) (reply : Reply)
-    → IsPathText path names → Fits image t l → contents_at t names ≡ found → Copies found reply → Answer (cat path) image reply
-copies found path names image t l reply text fits e h = inr (inl (names, text, t, l, fits, subst (λ x. Copies x reply) (sym e) h))
+pub file_copied : (t : Tree) (names : List (List ℕ)) (node : ℕ) (bytes : List ℕ) → Some node ≡ find t.entries names
+    → Some bytes ≡ bytes_of (entry t.entries node) → Copies (contents_at t names) (on_output 0 bytes)
+file_copied t names node bytes e f = subst (λ found. Copies found (on_output 0 bytes)) (sym (file_at t names node bytes e f)) refl
 
-pub copy_works : (w : Outcome) (path : List ℕ) (names : List (List ℕ)) (image : List ℕ) (t : Tree) (l : Layout) (o o' : Option (List ℕ))
-    → IsPathText path names
-    → Fits image t l → CopyWorks w (contents_at t names) o o' → Works w (cat path) image o o'
-copy_works Done path names image t l o o' text fits (bytes, e, h) =
-    (bytes, copies (Some (Some bytes)) path names image t l (on_output 0 bytes) text fits e refl, h)
-copy_works NoSuchPath path names image t l o o' text fits (e, h) =
-    ([], copies None path names image t l (on_errors 1 (outcome_line NoSuchPath)) text fits e refl, h)
-copy_works NotAFile path names image t l o o' text fits (e, h) =
-    ([], copies (Some None) path names image t l (on_errors 1 (outcome_line NotAFile)) text fits e refl, h)
-copy_works WriteFault path names image t l o o' text fits (bytes, e, h) =
-    (on_output 0 bytes, copies (Some (Some bytes)) path names image t l (on_output 0 bytes) text fits e refl, h)
-copy_works _ path names image t l o o' text fits h = absurd h
+-- what copies what a path leads to answers the request for it
+pub copy_ends : (w : Outcome) (path : List ℕ) (names : List (List ℕ)) (image : List ℕ) (t : Tree) (l : Layout) (o o' : Option (List ℕ))
+    → IsPathText path names → Fits image t l → EndsBy (Copies (contents_at t names)) w o o' → EndsBy (Answer (cat path) image) w o o'
+copy_ends w path names image t l o o' text fits h =
+    ends_weaker (Copies (contents_at t names)) (Answer (cat path) image) w o o' (λ reply copies. inr (inl (names, text, t, l, fits, copies))) h
 
--- an outcome at a status other than 3 is an answer
-outcome_answers : (w : Outcome) (words : List (List ℕ)) (r : RequestValue) (input : List ℕ) (o o' e e' : Option (List ℕ)) (failed : Bool) → AsksFor words r
-    → ¬ (status_of w ≡ 3) → Works w r input o o' → Says failed e e' (outcome_line w) → Answers words input (status_of w) o o' failed e e'
-outcome_answers ReadFault words r input o o' e e' failed asks ne h said = absurd (ne refl)
-outcome_answers WriteFault words r input o o' e e' failed asks ne h said = absurd (ne refl)
-outcome_answers NoMemory words r input o o' e e' failed asks ne h said = absurd (ne refl)
-outcome_answers w words r input o o' e e' failed asks ne h said =
-    (r, asks, record { status = status_of w; output = h.0; errors = outcome_line w }, refl, h.1, h.2, said)
+-- what is asked for, and the answers to it
+module _ {R : Type 0} (asks : R → Type 0) (answer : R → List ℕ → Reply → Type 0) where
+  -- an outcome at a status other than 3 is an answer
+  outcome_answers : (w : Outcome) (r : R) (input : List ℕ) (o o' e e' : Option (List ℕ)) (failed : Bool) → asks r → ¬ (status_of w ≡ 3)
+      → EndsBy (answer r input) w o o' → Says failed e e' (outcome_line w) → GetsAnswer asks answer input (status_of w) o o' failed e e'
+  outcome_answers ReadFault r input o o' e e' failed asked ne h said = absurd (ne refl)
+  outcome_answers WriteFault r input o o' e e' failed asked ne h said = absurd (ne refl)
+  outcome_answers NoMemory r input o o' e e' failed asked ne h said = absurd (ne refl)
+  outcome_answers w r input o o' e e' failed asked ne h said =
+      (r, asked, record { status = status_of w; output = h.0; errors = outcome_line w }, refl, h.1, h.2, said)
 
--- and so for what is left of an input, where that is known
-pub left_answers : (w : Outcome) (words : List (List ℕ)) (r : RequestValue) (left o o' e e' : Option (List ℕ)) (failed : Bool) (status : ℕ) → AsksFor words r
-    → status ≡ status_of w → ¬ (status ≡ 3) → IfSome left (λ input. Works w r input o o') → Says failed e e' (outcome_line w)
-    → IfSome left (λ input. Answers words input status o o' failed e e')
-left_answers w words r None o o' e e' failed status asks s ne h said = tt
-left_answers w words r (Some input) o o' e e' failed status asks s ne h said =
-    rw s (outcome_answers w words r input o o' e e' failed asks (λ three. ne (s ∙ three)) h said)
+  -- and so for what is left of an input, where that is known
+  pub left_answers : (w : Outcome) (r : R) (left o o' e e' : Option (List ℕ)) (failed : Bool) (status : ℕ) → asks r
+      → status ≡ status_of w → ¬ (status ≡ 3) → IfSome left (λ input. EndsBy (answer r input) w o o') → Says failed e e' (outcome_line w)
+      → IfSome left (λ input. GetsAnswer asks answer input status o o' failed e e')
+  left_answers w r None o o' e e' failed status asked s ne h said = tt
+  left_answers w r (Some input) o o' e e' failed status asked s ne h said =
+      rw s (outcome_answers w r input o o' e e' failed asked (λ three. ne (s ∙ three)) h said)
 
--- an outcome at status 3 leaves a front part of an answer
-outcome_part : (w : Outcome) (words : List (List ℕ)) (r : RequestValue) (input : List ℕ) (o o' : Option (List ℕ)) → AsksFor words r → status_of w ≡ 3
-    → Works w r input o o' → AnswersPart words (is_read_fault w) input o o'
-outcome_part ReadFault words r input o o' asks three h = h
-outcome_part WriteFault words r input o o' asks three h = inr (r, asks, h)
-outcome_part NoMemory words r input o o' asks three (inl h) = inl h
-outcome_part NoMemory words r input o o' asks three (inr h) = inr (r, asks, h)
-outcome_part _ words r input o o' asks three h = absurd (omega arith)
+  -- an outcome at status 3 leaves a front part of an answer
+  outcome_front : (w : Outcome) (r : R) (input : List ℕ) (o o' : Option (List ℕ)) → asks r → status_of w ≡ 3
+      → EndsBy (answer r input) w o o' → GetsFront asks answer (is_read_fault w) input o o'
+  outcome_front ReadFault r input o o' asked three h = h
+  outcome_front WriteFault r input o o' asked three h = inr (r, asked, h)
+  outcome_front NoMemory r input o o' asked three (inl h) = inl h
+  outcome_front NoMemory r input o o' asked three (inr h) = inr (r, asked, h)
+  outcome_front _ r input o o' asked three h = absurd (omega arith)
 
-pub left_part : (w : Outcome) (words : List (List ℕ)) (r : RequestValue) (left o o' : Option (List ℕ)) (failed : Bool) (status : ℕ) → AsksFor words r
-    → status ≡ status_of w → failed ≡ is_read_fault w → status ≡ 3 → IfSome left (λ input. Works w r input o o')
-    → IfSome left (λ input. AnswersPart words failed input o o')
-left_part w words r None o o' failed status asks s f three h = tt
-left_part w words r (Some input) o o' failed status asks s f three h = rw f (outcome_part w words r input o o' asks (sym s ∙ three) h)
+  pub left_front : (w : Outcome) (r : R) (left o o' : Option (List ℕ)) (failed : Bool) (status : ℕ) → asks r
+      → status ≡ status_of w → failed ≡ is_read_fault w → status ≡ 3 → IfSome left (λ input. EndsBy (answer r input) w o o')
+      → IfSome left (λ input. GetsFront asks answer failed input o o')
+  left_front w r None o o' failed status asked s f three h = tt
+  left_front w r (Some input) o o' failed status asked s f three h = rw f (outcome_front w r input o o' asked (sym s ∙ three) h)
 
--- a path that is not read is answered so
-pub bad_path_answers : (words : List (List ℕ)) (path : List ℕ) (left o e e' : Option (List ℕ)) (failed : Bool) (status : ℕ) → AsksFor words (cat path)
-    → IsBadPath path → status ≡ 2 → Says failed e e' (codes "bad path\n") → IfSome left (λ input. Answers words input status o o failed e e')
-bad_path_answers words path None o e e' failed status asks bad s said = tt
-bad_path_answers words path (Some input) o e e' failed status asks bad s said =
-    (cat path, asks, on_errors 2 (codes "bad path\n"), sym s, inl (bad, refl), appends_nil o, said)
+  -- a request whose path is not read has this answer, whatever the input
+  abbrev pub RefusesRequest : Type 0
+  RefusesRequest = (r : R) × asks r × ((input : List ℕ) → answer r input (on_errors 2 (codes "bad path\n")))
 
--- words that no work is begun for are answered so, unless they are refused or memory is
-pub no_work_answers : (f : WorkFault) (words : List (List ℕ)) (left o e e' : Option (List ℕ)) (failed : Bool) (status : ℕ) → IsNoWork f words
-    → status ≡ refusal_status f → ¬ AreRefused words → ¬ (status ≡ 3) → Says failed e e' (refusal_line f)
-    → IfSome left (λ input. Answers words input status o o failed e e')
-no_work_answers Usage words left o e e' failed status why s taken ne said = absurd (taken why)
-no_work_answers BadPath words left o e e' failed status (path, asks, bad) s taken ne said =
-    bad_path_answers words path left o e e' failed status asks bad s said
-no_work_answers WorkNoMemory words left o e e' failed status why s taken ne said = absurd (ne s)
+  -- words that no work is begun for are answered so, unless they are refused or memory is
+  pub no_work_answers : (f : WorkFault) (refused bad_path : Type 0) (usage : List ℕ) (left o e e' : Option (List ℕ)) (failed : Bool) (status : ℕ)
+      → IsNoWork f refused bad_path → (bad_path → RefusesRequest) → status ≡ refusal_status f → ¬ refused → ¬ (status ≡ 3)
+      → Says failed e e' (refusal_line usage f) → IfSome left (λ input. GetsAnswer asks answer input status o o failed e e')
+  no_work_answers f refused bad_path usage None o e e' failed status why refuses s taken ne said = tt
+  no_work_answers Usage refused bad_path usage (Some input) o e e' failed status why refuses s taken ne said = absurd (taken why)
+  no_work_answers BadPath refused bad_path usage (Some input) o e e' failed status why refuses s taken ne said =
+      let (r, asked, answered) = refuses why in
+      (r, asked, on_errors 2 (codes "bad path\n"), sym s, answered input, appends_nil o, said)
+  no_work_answers WorkNoMemory refused bad_path usage (Some input) o e e' failed status why refuses s taken ne said = absurd (ne s)

@@ -7,6 +7,7 @@ pub mod EntryNames
 pub mod EntryLines
 -- answers
 pub mod Refusals
-pub mod LongInputs
+pub mod WorkFaults
 pub mod AnswerLaws
+pub mod LongInputs
 pub mod OneAnswer

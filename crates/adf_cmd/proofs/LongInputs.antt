@@ -18,21 +18,13 @@ use Rattle.adf_manifest.specs.declared.manifest.ManifestKind.TheVariants.{NoMemo
 use Rattle.adf_cmd.specs.Answers.{Answer, Reply, limit_of}
 use Rattle.adf_cmd.specs.CommandLine.{RequestValue, build, cat, check}
 use Rattle.adf_cmd.specs.declared.checking.CheckAnswer.{CheckAnswer}
-use Rattle.adf_cmd.specs.Outcomes.{IsCheckAnswer, IsCheckAnswerTo, Works, outcome_line, status_of}
+use Rattle.adf_cmd.specs.Outcomes.{EndsBy, IsCheckAnswer, IsCheckAnswerTo}
 use Rattle.adf_cmd.specs.declared.outcome.Outcome.{Outcome}
-use Rattle.adf_cmd.specs.declared.outcome.Outcome.TheVariants.{ReadFault, WriteFault, NoMemory}
+use Rattle.adf_cmd.proofs.AnswerLaws.{ends_weaker}
 
 -- each answer to one input is one to another
-abbrev AnswersBoth : RequestValue → List ℕ → List ℕ → Type 0
+abbrev pub AnswersBoth : RequestValue → List ℕ → List ℕ → Type 0
 AnswersBoth r image bytes = (reply : Reply) → Answer r image reply → Answer r bytes reply
-
-works_both : (r : RequestValue) (image bytes : List ℕ) (o o' : Option (List ℕ)) → AnswersBoth r image bytes → (w : Outcome) → Works w r image o o'
-    → Works w r bytes o o'
-works_both r image bytes o o' f ReadFault h = h
-works_both r image bytes o o' f WriteFault h = (h.0, f h.0 h.1, h.2)
-works_both r image bytes o o' f NoMemory (inl h) = inl h
-works_both r image bytes o o' f NoMemory (inr h) = inr (h.0, f h.0 h.1, h.2)
-works_both r image bytes o o' f w h = (h.0, f (record { status = status_of w; output = h.0; errors = outcome_line w }) h.1, h.2)
 
 -- a size above that of the largest volume is none
 pub too_large : (image : List ℕ) → 512 * MOST_BLOCKS < length image → IsSize image → ⊥
@@ -59,7 +51,7 @@ long_kind ManifestNoMemory line image bytes a b ne h = absurd (ne refl)
 long_kind TooLong line image bytes a b ne h = (h.0, b)
 long_kind _ line image bytes a b ne h = absurd (omega (arith, h.0))
 
-long_answers : (r : RequestValue) (image bytes : List ℕ) → limit_of (Some r) < length image → limit_of (Some r) < length bytes → AnswersBoth r image bytes
+pub long_answers : (r : RequestValue) (image bytes : List ℕ) → limit_of (Some r) < length image → limit_of (Some r) < length bytes → AnswersBoth r image bytes
 long_answers (cat path) image bytes a b reply (inl bad) = inl bad
 long_answers (cat path) image bytes a b reply (inr (inl (names, text, t, l, fits, copies))) = absurd (too_large image a fits.boots.0)
 long_answers (cat path) image bytes a b reply (inr (inr (read, h))) = inr (inr (read, (h.0, long_fault image bytes h.0 a b h.1, h.2)))
@@ -70,16 +62,17 @@ long_answers _ image bytes a b reply h = elim h [
   | inr refused ↦ inr (refused.0, long_fault image bytes refused.0 a b refused.1, refused.2)
 ]
 
--- what is done with the bytes that are read is done with the whole input, where that is known
-pub read_works : (w : Outcome) (r : RequestValue) (image : List ℕ) (left o o' : Option (List ℕ))
-    → IfSome left (λ bytes. image ≡ take (limit_of (Some r) + 1) bytes)
-    → Works w r image o o' → IfSome left (λ bytes. Works w r bytes o o')
-read_works w r image None o o' e h = tt
-read_works w r image (Some bytes) o o' e h = elim (cases_lt (limit_of (Some r)) (length bytes)) [
-  | inr short ↦ subst (λ l. Works w r l o o') (e ∙ take_all (limit_of (Some r) + 1) bytes (omega arith)) h
+-- what is done with the bytes that are read is done with the whole input, where that is known and what answers a long front answers the whole
+pub read_ends : (w : Outcome) (limit : ℕ) (answers : List ℕ → Reply → Type 0) (image : List ℕ) (left o o' : Option (List ℕ))
+    → ((bytes : List ℕ) → limit < length image → limit < length bytes → (reply : Reply) → answers image reply → answers bytes reply)
+    → IfSome left (λ bytes. image ≡ take (limit + 1) bytes)
+    → EndsBy (answers image) w o o' → IfSome left (λ bytes. EndsBy (answers bytes) w o o')
+read_ends w limit answers image None o o' both e h = tt
+read_ends w limit answers image (Some bytes) o o' both e h = elim (cases_lt limit (length bytes)) [
+  | inr short ↦ subst (λ l. EndsBy (answers l) w o o') (e ∙ take_all (limit + 1) bytes (omega arith)) h
   | inl long ↦
-      let cut : limit_of (Some r) < length image = rw e (omega (arith, length-take {A = ℕ})) in
-      works_both r image bytes o o' (long_answers r image bytes cut long) w h
+      let cut : limit < length image = rw e (omega (arith, length-take {A = ℕ})) in
+      ends_weaker (answers image) (answers bytes) w o o' (both bytes cut long) h
 ]
 
 -- the answer to the bytes that are read is that to the whole input, where that is known

@@ -142,20 +142,28 @@ limit_of None = 0
 limit_of (Some (build lines)) = most_bytes
 limit_of (Some _) = 512 * MOST_BLOCKS
 
--- at a status other than 3: the words ask for a request, output and errors got an answer to it, or where errors failed a front part of it
+-- output got a front part of what one of these answers writes
+abbrev pub WritesFront : (Reply → Type 0) → Option (List ℕ) → Option (List ℕ) → Type 0
+WritesFront answers o o' = (reply : Reply) × answers reply × AppendsPart o o' reply.output
+
+-- at a status other than 3: something is asked for, output and errors got an answer to it, or where errors failed a front part of it
+abbrev pub GetsAnswer : {R : Type 0} → (R → Type 0) → (R → List ℕ → Reply → Type 0) → List ℕ → ℕ → Option (List ℕ) → Option (List ℕ) → Bool
+    → Option (List ℕ) → Option (List ℕ) → Type 0
+GetsAnswer {R = R} asks answer input status o o' failed e e' =
+    (r : R) × asks r × (reply : Reply) × (reply.status ≡ status) × answer r input reply × Appends o o' reply.output × Says failed e e' reply.errors
+
+-- what output has got at status 3: nothing where the input failed, else nothing or a front part of an answer to what is asked for
+abbrev pub GetsFront : {R : Type 0} → (R → Type 0) → (R → List ℕ → Reply → Type 0) → Bool → List ℕ → Option (List ℕ) → Option (List ℕ) → Type 0
+GetsFront asks answer true input o o' = Appends o o' []
+GetsFront {R = R} asks answer false input o o' = Appends o o' [] ⊎ ((r : R) × asks r × WritesFront (answer r input) o o')
+
+-- at a status other than 3: the words ask for a request, and output and errors got an answer to it
 abbrev pub Answers : List (List ℕ) → List ℕ → ℕ → Option (List ℕ) → Option (List ℕ) → Bool → Option (List ℕ) → Option (List ℕ) → Type 0
-Answers words input status o o' failed e e' =
-    (r : RequestValue) × AsksFor words r × (reply : Reply) × (reply.status ≡ status) × Answer r input reply
-    × Appends o o' reply.output × Says failed e e' reply.errors
+Answers words = GetsAnswer (AsksFor words) Answer
 
 -- at status 3: output got nothing, or where the input did not fail a front part of an answer
-abbrev pub IsPart : RequestValue → List ℕ → Option (List ℕ) → Option (List ℕ) → Type 0
-IsPart r input o o' = (reply : Reply) × Answer r input reply × AppendsPart o o' reply.output
-
--- what output has got where a device failed: nothing where the input failed, else nothing or a front part of an answer to the request
 abbrev pub AnswersPart : List (List ℕ) → Bool → List ℕ → Option (List ℕ) → Option (List ℕ) → Type 0
-AnswersPart words true input o o' = Appends o o' []
-AnswersPart words false input o o' = Appends o o' [] ⊎ ((r : RequestValue) × AsksFor words r × IsPart r input o o')
+AnswersPart words = GetsFront (AsksFor words) Answer
 
 -- the line of status 3: whether the input failed, and whether output failed
 abbrev pub failure_line : Bool → Bool → List ℕ
@@ -168,6 +176,10 @@ abbrev pub usage_line : List ℕ
 usage_line =
     codes "usage: adf check < IMAGE\n       adf list < IMAGE\n       adf cat PATH < IMAGE\n       adf build [--list] < MANIFEST\n"
     ++ codes "       adf convert ofs|ffs < IMAGE\nan image or a manifest comes on standard input; man adf tells more\n"
+
+-- a request for the bytes under a path that is not read
+abbrev pub HasBadPath : RequestValue → Type 0
+HasBadPath r = (path : List ℕ) × (r ≡ cat path) × IsBadPath path
 
 -- the words ask for the bytes under a path that is not read
 abbrev pub AsksBadPath : List (List ℕ) → Type 0

@@ -4,5 +4,6 @@ pub mod Listing
 pub mod Streams
 pub mod VolumeListing
 pub mod Work
+pub mod WorkFaults
 pub mod Answers
 pub mod Outcomes

@@ -1,21 +1,18 @@
 -- How the work of a command went.
-use Rattle.std.specs.Prelude.{◌≡◌, ◌≢◌, ◌<◌, ◌-◌, ◌⊎◌, ℕ, Bool, true, false, List, [], codes, Option, None, Some, IfSome, if◌then◌else◌, string_bytes}
+use Rattle.std.specs.Prelude.{◌≡◌, ◌≢◌, ◌⊎◌, ℕ, Bool, true, false, List, [], codes, Option, IfSome, if◌then◌else◌, string_bytes}
 use Rattle.std.specs.Io.KnownBytes.{Appends}
-use Rattle.adf_tree.specs.Tree.{Tree}
-use Rattle.adf_blocks.specs.declared.cause.Cause.TheVariants.{NoMemory as CauseNoMemory}
 use Rattle.adf_volume.specs.Walk.{FirstFault}
-use Rattle.adf_build.specs.Plan.{blocks_needed}
-use Rattle.adf_build.specs.Building.{need_of}
 use Rattle.adf_check.specs.declared.fault.Fault.{Fault}
-use Rattle.adf_cmd.specs.Answers.{Answer, IsBuilt, IsPart, built_output, on_output}
-use Rattle.adf_cmd.specs.CommandLine.{RequestValue, check}
-use Rattle.adf_cmd.specs.Streams.{AppendsPart}
+use Rattle.adf_cmd.specs.Answers.{Answer, Reply, WritesFront, on_output}
+use Rattle.adf_cmd.specs.CommandLine.{check}
 use Rattle.adf_texts.specs.Lines.{fault_line, full_line, manifest_fault_line}
 use Rattle.adf_manifest.specs.declared.manifest.ManifestFault.{ManifestFault}
 use Rattle.adf_manifest.specs.declared.manifest.ManifestKind.TheVariants.{NoMemory as ManifestNoMemory}
 use Rattle.adf_cmd.specs.declared.checking.CheckAnswer.{CheckAnswer}
+use Rattle.adf_cmd.specs.declared.streams.StreamFault.{StreamFault}
+use Rattle.adf_cmd.specs.declared.streams.StreamFault.TheVariants.{Device, NoMemory as StreamNoMemory}
 use Rattle.adf_cmd.specs.declared.outcome.Outcome.{Outcome}
-use Rattle.adf_cmd.specs.declared.outcome.Outcome.TheVariants.{Done, FaultWritten, Refused, NoSuchPath, NotAFile, ReadFault, WriteFault, NoMemory}
+use Rattle.adf_cmd.specs.declared.outcome.Outcome.TheVariants.{Done, FaultWritten, Refused, NoSuchPath, NotAFile, Damaged, ReadFault, WriteFault, NoMemory}
 
 -- the exit status of an outcome
 abbrev pub status_of : Outcome → ℕ
@@ -24,6 +21,7 @@ status_of FaultWritten = 1
 status_of (Refused line) = 1
 status_of NoSuchPath = 1
 status_of NotAFile = 1
+status_of Damaged = 1
 status_of ReadFault = 3
 status_of WriteFault = 3
 status_of NoMemory = 3
@@ -35,6 +33,7 @@ outcome_line FaultWritten = []
 outcome_line (Refused line) = string_bytes line
 outcome_line NoSuchPath = codes "no such path\n"
 outcome_line NotAFile = codes "not a file\n"
+outcome_line Damaged = codes "damaged\n"
 outcome_line ReadFault = codes "read fault\n"
 outcome_line WriteFault = codes "write fault\n"
 outcome_line NoMemory = codes "no memory\n"
@@ -55,25 +54,27 @@ LacksInput ReadFault = Unit {0}
 LacksInput NoMemory = Unit {0}
 LacksInput _ = ⊥
 
--- output got an answer at this status that says this on errors
-abbrev pub Writes : RequestValue → List ℕ → ℕ → List ℕ → Option (List ℕ) → Option (List ℕ) → Type 0
-Writes r input status errors o o' =
-    (output : List ℕ) × Answer r input (record { status = status; output = output; errors = errors }) × Appends o o' output
+-- the outcome of a fault in reading the input
+abbrev pub after_reading : StreamFault → Outcome
+after_reading Device = ReadFault
+after_reading StreamNoMemory = NoMemory
 
--- what an outcome says of the input and of what was added to output
-abbrev pub Works : Outcome → RequestValue → List ℕ → Option (List ℕ) → Option (List ℕ) → Type 0
-Works ReadFault r input o o' = Appends o o' []
-Works WriteFault r input o o' = IsPart r input o o'
-Works NoMemory r input o o' = Appends o o' [] ⊎ IsPart r input o o'
-Works w r input o o' = Writes r input (status_of w) (outcome_line w) o o'
+-- the outcome of a fault in writing the answer
+abbrev pub after_writing : StreamFault → Outcome
+after_writing Device = WriteFault
+after_writing StreamNoMemory = NoMemory
 
--- building a tree: its image is written, or it needs more blocks than there are, or a front part is written
-abbrev pub TreeWorks : Outcome → Bool → Tree → ℕ → Option (List ℕ) → Option (List ℕ) → Type 0
-TreeWorks Done lines tree n o o' = IsBuilt tree n × Appends o o' (built_output lines tree n)
-TreeWorks (Refused line) lines tree n o o' = Appends o o' [] × (n - 2 < blocks_needed tree n) × (string_bytes line ≡ full_line (need_of tree n) (n - 2))
-TreeWorks WriteFault lines tree n o o' = IsBuilt tree n × AppendsPart o o' (built_output lines tree n)
-TreeWorks NoMemory lines tree n o o' = Appends o o' [] ⊎ (IsBuilt tree n × AppendsPart o o' (built_output lines tree n))
-TreeWorks _ lines tree n o o' = ⊥
+-- output got one of these answers, at the status of the outcome and with its line on errors
+abbrev pub WritesOne : (Reply → Type 0) → Outcome → Option (List ℕ) → Option (List ℕ) → Type 0
+WritesOne answers w o o' =
+    (output : List ℕ) × answers (record { status = status_of w; output = output; errors = outcome_line w }) × Appends o o' output
+
+-- what an outcome says of what was added to output, where these are the answers
+abbrev pub EndsBy : (Reply → Type 0) → Outcome → Option (List ℕ) → Option (List ℕ) → Type 0
+EndsBy answers ReadFault o o' = Appends o o' []
+EndsBy answers WriteFault o o' = WritesFront answers o o'
+EndsBy answers NoMemory o o' = Appends o o' [] ⊎ WritesFront answers o o'
+EndsBy answers w o o' = WritesOne answers w o o'
 
 -- saying that a tree needs more blocks than there are
 abbrev pub IsFullOutcome : ℕ → ℕ → Outcome → Type 0
@@ -95,22 +96,8 @@ IsCheckAnswer image a = Answer check image (on_output (if a.sound then 0 else 1)
 abbrev pub IsCheckAnswerTo : Option (List ℕ) → CheckAnswer → Type 0
 IsCheckAnswerTo known a = (bytes : List ℕ) × IfSome known (λ all. all ≡ bytes) × IsCheckAnswer bytes a
 
--- saying on errors why an image is refused
-abbrev pub IsRefusal : Fault → Outcome → Type 0
-IsRefusal f (Refused line) = (f.cause ≢ CauseNoMemory) × (string_bytes line ≡ fault_line f)
-IsRefusal f NoMemory = Unit {0}
-IsRefusal f _ = ⊥
-
 -- saying on errors that an image is refused: the line of its first fault
 abbrev pub IsRefusedImage : List ℕ → Outcome → Type 0
 IsRefusedImage image (Refused line) = (f : Fault) × FirstFault image f.block f.cause × (string_bytes line ≡ fault_line f)
 IsRefusedImage image NoMemory = Unit {0}
 IsRefusedImage image _ = ⊥
-
--- copying what a path leads to: the bytes of a file are written, or it is none, or a front part is written
-abbrev pub CopyWorks : Outcome → Option (Option (List ℕ)) → Option (List ℕ) → Option (List ℕ) → Type 0
-CopyWorks Done found o o' = (bytes : List ℕ) × (found ≡ Some (Some bytes)) × Appends o o' bytes
-CopyWorks NoSuchPath found o o' = (found ≡ None) × Appends o o' []
-CopyWorks NotAFile found o o' = (found ≡ Some None) × Appends o o' []
-CopyWorks WriteFault found o o' = (bytes : List ℕ) × (found ≡ Some (Some bytes)) × AppendsPart o o' bytes
-CopyWorks _ found o o' = ⊥

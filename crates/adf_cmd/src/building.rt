@@ -3,9 +3,10 @@
 ghost use Rattle.std.specs.Prelude.{◌≡◌, ◌<◌, ◌^◌, true, false, length, OnOk, OnErr};
 ghost use Rattle.std.specs.Io.KnownBytes.{Appends};
 ghost use Rattle.adf_blocks.specs.Sizes.{is_allowed};
+ghost use Rattle.adf_cmd.specs.Answers.{Answer, BuildsOrIsFull};
 ghost use Rattle.adf_cmd.specs.CommandLine.{build};
 ghost use Rattle.adf_cmd.specs.Listing.{image_or_lines};
-ghost use Rattle.adf_cmd.specs.Outcomes.{IsFaultOutcome, IsFullOutcome, TreeWorks, Works, is_read_fault, is_write_fault};
+ghost use Rattle.adf_cmd.specs.Outcomes.{EndsBy, IsFaultOutcome, IsFullOutcome, is_read_fault, is_write_fault};
 ghost use Rattle.adf_cmd.specs.Streams.{AppendsPart, is_device};
 
 use crate::devices::Sink;
@@ -61,14 +62,15 @@ pub fn build_tree<W: Sink>(
 ) -> Outcome
     requires works { W.has_failed output.old ≡ false }
     requires size { is_allowed blocks ≡ true }
-    ensures works { TreeWorks result lines tree.now blocks (W.held output.old) (W.held output.new) }
+    ensures ends { EndsBy (BuildsOrIsFull lines tree.now blocks) result
+        (W.held output.old) (W.held output.new) }
+    ensures read { is_read_fault result ≡ false }
     ensures written { W.has_failed output.new ≡ is_write_fault result }
 {
     match build(alloc, tree, blocks) {
         Ok(image) => match write_image(alloc, &image, lines, output) {
             Ok(()) => Outcome::Done,
-            Err(StreamFault::Device) => Outcome::WriteFault,
-            Err(StreamFault::NoMemory) => Outcome::NoMemory,
+            Err(fault) => Outcome::after_writing(fault),
         },
         Err(BuildFault::BadSize) => unreachable!(),
         Err(BuildFault::Full { need, have }) => refuse_full(alloc, need, have),
@@ -93,7 +95,8 @@ fn refuse_manifest(alloc: Global, fault: ManifestFault) -> Outcome
 /// Builds the tree of a manifest, and writes the image or the lines of its words.
 pub fn build_manifest<W: Sink>(alloc: Global, bytes: &[u8], lines: bool, output: &mut W) -> Outcome
     requires { W.has_failed output.old ≡ false }
-    ensures works { Works result (build lines) bytes.now (W.held output.old) (W.held output.new) }
+    ensures ends { EndsBy (Answer (build lines) bytes.now) result
+        (W.held output.old) (W.held output.new) }
     ensures written { W.has_failed output.new ≡ is_write_fault result }
     ensures read { is_read_fault result ≡ false }
 {

@@ -5,18 +5,17 @@ ghost use Rattle.adf_tree.specs.Tree.{Tree};
 ghost use Rattle.adf_volume.specs.Layout.{Layout};
 ghost use Rattle.adf_volume.specs.Walk.{FirstFault};
 ghost use Rattle.adf_check.specs.Volumes.{StandsFor};
-ghost use Rattle.adf_cmd.specs.Answers.{limit_of};
+ghost use Rattle.adf_cmd.specs.Answers.{Answer, limit_of};
 ghost use Rattle.adf_cmd.specs.CommandLine.{check};
-ghost use Rattle.adf_cmd.specs.Outcomes.{IsCheckAnswer, IsCheckAnswerTo, Works, is_read_fault, is_write_fault};
+ghost use Rattle.adf_cmd.specs.Outcomes.{EndsBy, IsCheckAnswer, IsCheckAnswerTo, is_read_fault, is_write_fault};
 ghost use Rattle.adf_cmd.specs.Streams.{TakesAtMost, is_device};
 ghost use Rattle.adf_texts.specs.Lines.{ok_line};
 
 use crate::devices::{Sink, Source};
-use crate::images::{MOST_IMAGE_BYTES, refused_line};
+use crate::images::{MOST_IMAGE_BYTES, checked, refused_line};
 use crate::outcome::Outcome;
 use crate::streams::{StreamFault, read_into, write_all};
-use adf_blocks::Cause;
-use adf_check::{Checked, Counts, Fault, check};
+use adf_check::{Checked, Counts, Fault};
 use adf_texts::push_counts;
 use std::alloc::{AllocError, Global};
 
@@ -60,12 +59,9 @@ fn refusal(alloc: Global, fault: Fault) -> Result<CheckAnswer, AllocError>
 pub fn answer_to_image(alloc: Global, image: &[u8]) -> Result<CheckAnswer, AllocError>
     ensures { IfOk result (IsCheckAnswer image.now) }
 {
-    match check(alloc, image) {
+    match checked(alloc, image)? {
         Ok(volume) => acceptance(alloc, &volume),
-        Err(fault) => match fault.cause {
-            Cause::NoMemory => Err(AllocError),
-            _ => refusal(alloc, fault),
-        },
+        Err(fault) => refusal(alloc, fault),
     }
 }
 
@@ -91,7 +87,8 @@ pub fn answer_to_input<R: Source>(
 /// Checks an image, and writes the verdict.
 pub fn check_image<W: Sink>(alloc: Global, image: &[u8], output: &mut W) -> Outcome
     requires { W.has_failed output.old ≡ false }
-    ensures works { Works result check image.now (W.held output.old) (W.held output.new) }
+    ensures ends { EndsBy (Answer check image.now) result
+        (W.held output.old) (W.held output.new) }
     ensures written { W.has_failed output.new ≡ is_write_fault result }
     ensures read { is_read_fault result ≡ false }
 {

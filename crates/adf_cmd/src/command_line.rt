@@ -1,9 +1,9 @@
 // The words of the command line, by clap.
 
 ghost use Rattle.std.specs.Prelude.{◌≡◌, IfOk, IfErr, false, true, ℕ, ◌==◌, List, [], ◌∷◌, codes, option_map};
-ghost use Rattle.clap.specs.Words.{app_of, first_of, found_of, rows_of, subcommand_rows_of};
+ghost use Rattle.clap.specs.Words.{app_of, first_of, found_of, rows_of, rule_of, subcommand_rows_of};
 ghost use Rattle.clap.specs.declared.builder.command.Command.TheViews.{out-Command};
-ghost use Rattle.adf_cmd.specs.CommandLine.{AsksFor, ExplainsWords, AreRefused, adf_app, request_value, build, build_app, cat, cat_app, check, convert, convert_app, list, met, request_named, texts_of};
+ghost use Rattle.adf_cmd.specs.CommandLine.{AsksFor, ExplainsWords, AreRefused, adf_app, request_value, build, build_app, cat, cat_app, check, convert, convert_app, is_text, list, list_rule, met, request_named, texts_of};
 
 use adf_tree::Kind;
 use clap::error::ErrorKind;
@@ -39,14 +39,21 @@ pub fn cat_command<'a>(alloc: Global) -> Result<Command<'a>, AllocError>
     Command::new(alloc, "cat").arg(path)
 }
 
+/// The flag `--list`.
+pub fn list_flag<'a>(alloc: Global) -> Arg<'a>
+    ensures rule { rule_of result ≡ list_rule }
+    ensures local { result.global ≡ false }
+{
+    Arg::new(alloc, "list")
+        .long("list")
+        .action(ArgAction::SetTrue)
+}
+
 fn build_command<'a>(alloc: Global) -> Result<Command<'a>, AllocError>
     ensures app { IfOk result (λ c. app_of c ≡ build_app) }
     ensures local { IfOk result (λ c. (out-Command c).has_globals ≡ false) }
 {
-    let list = Arg::new(alloc, "list")
-        .long("list")
-        .action(ArgAction::SetTrue);
-    Command::new(alloc, "build").arg(list)
+    Command::new(alloc, "build").arg(list_flag(alloc))
 }
 
 fn convert_command<'a>(alloc: Global) -> Result<Command<'a>, AllocError>
@@ -80,6 +87,16 @@ pub fn first_text<'a>(found: &ArgMatches<'a>, id: &str) -> Option<&'a str>
     found.get_str(id)
 }
 
+/// Whether a flag is among the matches.
+pub fn has_flag(found: &ArgMatches<'_>, id: &str) -> bool
+    ensures { result ≡ is_text (codes "true") (first_of id.now (rows_of (found_of found.now))) }
+{
+    match first_text(found, id) {
+        Some(text) => text == "true",
+        None => false,
+    }
+}
+
 // The request that a subcommand's name and matches are.
 fn request_named<'a>(name: &str, found: &ArgMatches<'a>) -> Option<Request<'a>>
     ensures { option_map request_value result
@@ -95,11 +112,9 @@ fn request_named<'a>(name: &str, found: &ArgMatches<'a>) -> Option<Request<'a>>
             None => None,
         }
     } else if name == "build" {
-        let list = match first_text(found, "list") {
-            Some(text) => text == "true",
-            None => false,
-        };
-        Some(Request::Build { list })
+        Some(Request::Build {
+            list: has_flag(found, "list"),
+        })
     } else if name == "convert" {
         match first_text(found, "kind") {
             Some(text) => match Kind::named(text) {

@@ -5,8 +5,9 @@ ghost use Rattle.adf_tree.specs.Tree.{with_kind};
 ghost use Rattle.adf_blocks.specs.Sizes.{blocks, is_allowed};
 ghost use Rattle.adf_volume.specs.Fits.{Fits};
 ghost use Rattle.adf_volume.specs.Layout.{Layout};
+ghost use Rattle.adf_cmd.specs.Answers.{Answer, BuildsOrIsFull};
 ghost use Rattle.adf_cmd.specs.CommandLine.{convert};
-ghost use Rattle.adf_cmd.specs.Outcomes.{IsRefusedImage, TreeWorks, Works, is_read_fault, is_write_fault};
+ghost use Rattle.adf_cmd.specs.Outcomes.{EndsBy, IsRefusedImage, is_read_fault, is_write_fault};
 
 use crate::building::build_tree;
 use crate::devices::Sink;
@@ -25,10 +26,8 @@ fn tree_of(alloc: Global, image: &[u8]) -> Result<(Tree, u32), Outcome>
 {
     let volume = volume_of(alloc, image)?;
     let count = volume.counts().blocks;
-    match volume.to_tree(alloc) {
-        Ok(tree) => Ok((tree, count)),
-        Err(_) => Err(Outcome::NoMemory),
-    }
+    let tree = volume.to_tree(alloc)?;
+    Ok((tree, count))
 }
 
 // The same, and the image is let go.
@@ -52,7 +51,7 @@ fn convert_tree<W: Sink>(
 ) -> Outcome
     requires works { W.has_failed output.old ≡ false }
     requires size { is_allowed blocks ≡ true }
-    ensures works { TreeWorks result false (with_kind tree kind) blocks
+    ensures ends { EndsBy (BuildsOrIsFull false (with_kind tree kind) blocks) result
         (W.held output.old) (W.held output.new) }
     ensures read { is_read_fault result ≡ false }
     ensures written { W.has_failed output.new ≡ is_write_fault result }
@@ -64,7 +63,8 @@ fn convert_tree<W: Sink>(
 /// Checks an image, and builds its tree again, as one of another kind.
 pub fn convert_image<W: Sink>(alloc: Global, image: &[u8], kind: Kind, output: &mut W) -> Outcome
     requires { W.has_failed output.old ≡ false }
-    ensures works { Works result (convert kind) image.now (W.held output.old) (W.held output.new) }
+    ensures ends { EndsBy (Answer (convert kind) image.now) result
+        (W.held output.old) (W.held output.new) }
     ensures read { is_read_fault result ≡ false }
     ensures written { W.has_failed output.new ≡ is_write_fault result }
 {
@@ -77,7 +77,7 @@ pub fn convert_image<W: Sink>(alloc: Global, image: &[u8], kind: Kind, output: &
 /// Does so too, and lets the image go before the new one is built.
 pub fn convert_read<W: Sink>(alloc: Global, image: Vec<u8>, kind: Kind, output: &mut W) -> Outcome
     requires { W.has_failed output.old ≡ false }
-    ensures works { Works result (convert kind) image.items
+    ensures ends { EndsBy (Answer (convert kind) image.items) result
         (W.held output.old) (W.held output.new) }
     ensures read { is_read_fault result ≡ false }
     ensures written { W.has_failed output.new ≡ is_write_fault result }

@@ -7,9 +7,9 @@ ghost use Rattle.adf_tree.specs.PathTexts.{IsPathText};
 ghost use Rattle.adf_tree.specs.Tree.{Tree};
 ghost use Rattle.adf_volume.specs.Layout.{Layout};
 ghost use Rattle.adf_check.specs.Volumes.{StandsFor};
-ghost use Rattle.adf_cmd.specs.Answers.{contents_at};
+ghost use Rattle.adf_cmd.specs.Answers.{Answer, Copies, contents_at};
 ghost use Rattle.adf_cmd.specs.CommandLine.{cat};
-ghost use Rattle.adf_cmd.specs.Outcomes.{CopyWorks, Works, is_read_fault, is_write_fault};
+ghost use Rattle.adf_cmd.specs.Outcomes.{EndsBy, is_read_fault, is_write_fault};
 ghost use Rattle.adf_cmd.specs.Streams.{AppendsPart, KeepsPending};
 
 use crate::devices::{Failed, Sink};
@@ -99,8 +99,9 @@ pub fn write_through<const N: usize, W: Sink>(
 // Writes the bytes of the file under a path.
 fn copy_file<W: Sink>(volume: &Checked<'_>, names: &[Name], output: &mut W) -> Outcome
     requires { W.has_failed output.old ≡ false }
-    ensures works { (t : Tree) (l : Layout) → StandsFor volume.now t l
-        → CopyWorks result (contents_at t names.now) (W.held output.old) (W.held output.new) }
+    ensures ends { (t : Tree) (l : Layout) → StandsFor volume.now t l
+        → EndsBy (Copies (contents_at t names.now)) result
+        (W.held output.old) (W.held output.new) }
     ensures read { is_read_fault result ≡ false }
     ensures written { W.has_failed output.new ≡ is_write_fault result }
 {
@@ -119,8 +120,8 @@ fn copy_file<W: Sink>(volume: &Checked<'_>, names: &[Name], output: &mut W) -> O
 /// Checks an image, and writes the bytes of the file under a path.
 pub fn cat_image<W: Sink>(alloc: Global, image: &[u8], names: &[Name], output: &mut W) -> Outcome
     requires { W.has_failed output.old ≡ false }
-    ensures works { (path : List ℕ) → IsPathText path names.now
-        → Works result (cat path) image.now (W.held output.old) (W.held output.new) }
+    ensures ends { (path : List ℕ) → IsPathText path names.now
+        → EndsBy (Answer (cat path) image.now) result (W.held output.old) (W.held output.new) }
     ensures read { is_read_fault result ≡ false }
     ensures written { W.has_failed output.new ≡ is_write_fault result }
 {

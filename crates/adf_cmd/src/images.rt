@@ -2,9 +2,11 @@
 
 ghost use Rattle.std.specs.Prelude.{◌≡◌, false, IfErr, IfOk, string_bytes};
 ghost use Rattle.adf_tree.specs.Tree.{Tree};
+ghost use Rattle.adf_volume.specs.Fits.{Fits};
 ghost use Rattle.adf_volume.specs.Layout.{Layout};
+ghost use Rattle.adf_volume.specs.Walk.{FirstFault};
 ghost use Rattle.adf_check.specs.Volumes.{StandsFor};
-ghost use Rattle.adf_cmd.specs.Outcomes.{IsRefusal, IsRefusedImage, is_read_fault, is_write_fault};
+ghost use Rattle.adf_cmd.specs.Outcomes.{IsRefusedImage, is_read_fault, is_write_fault};
 ghost use Rattle.adf_texts.specs.Lines.{fault_line};
 
 use crate::outcome::Outcome;
@@ -26,16 +28,20 @@ pub fn refused_line(alloc: Global, fault: Fault) -> Result<String, AllocError>
     Ok(line)
 }
 
-// Says on errors why an image is refused.
-fn refuse_image(alloc: Global, fault: Fault) -> Outcome
-    ensures { IsRefusal fault result }
+/// Checks an image: its volume, or its first fault. `AllocError` where memory was refused, which says nothing of the image.
+pub fn checked<'a>(alloc: Global, image: &'a [u8]) -> Result<Result<Checked<'a>, Fault>, AllocError>
+    ensures image { IfOk result (λ r. IfOk r (λ v. v.image ≡ image.now)) }
+    ensures fits { IfOk result (λ r. IfOk r (λ v. (t : Tree) × (l : Layout) × StandsFor v t l)) }
+    ensures first { IfOk result (λ r. IfErr r (λ f. FirstFault image.now f.block f.cause)) }
+    ensures none { IfOk result (λ r. IfErr r (λ _. (t : Tree) (l : Layout)
+        → Fits image.now t l → ⊥)) }
 {
-    if let Cause::NoMemory = fault.cause {
-        return Outcome::NoMemory;
-    }
-    match refused_line(alloc, fault) {
-        Ok(line) => Outcome::Refused(line),
-        Err(_) => Outcome::NoMemory,
+    match check(alloc, image) {
+        Ok(volume) => Ok(Ok(volume)),
+        Err(fault) => match fault.cause {
+            Cause::NoMemory => Err(AllocError),
+            _ => Ok(Err(fault)),
+        },
     }
 }
 
@@ -47,8 +53,8 @@ pub fn volume_of<'a>(alloc: Global, image: &'a [u8]) -> Result<Checked<'a>, Outc
     ensures read { IfErr result (λ w. is_read_fault w ≡ false) }
     ensures written { IfErr result (λ w. is_write_fault w ≡ false) }
 {
-    match check(alloc, image) {
+    match checked(alloc, image)? {
         Ok(volume) => Ok(volume),
-        Err(fault) => Err(refuse_image(alloc, fault)),
+        Err(fault) => Err(Outcome::Refused(refused_line(alloc, fault)?)),
     }
 }

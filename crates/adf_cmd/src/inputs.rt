@@ -6,7 +6,7 @@ ghost use Rattle.adf_cmd.specs.Streams.{AreFirst, TakesAtMost};
 
 use crate::devices::Source;
 use crate::outcome::Outcome;
-use crate::streams::{StreamFault, read_all};
+use crate::streams::read_all;
 use std::alloc::Global;
 
 /// The input, and at most one byte more than the limit; where it does not come, how the work ends.
@@ -22,7 +22,6 @@ pub fn read_input<R: Source>(alloc: Global, input: &mut R, limit: usize) -> Resu
 {
     match read_all(alloc, input, limit) {
         Ok(bytes) => Ok(bytes),
-        Err(StreamFault::Device) => Err(Outcome::ReadFault),
-        Err(StreamFault::NoMemory) => Err(Outcome::NoMemory),
+        Err(fault) => Err(Outcome::after_reading(fault)),
     }
 }

@@ -16,16 +16,20 @@ mod runner;
 mod streams;
 mod volume_listing;
 mod work;
+mod work_fault;
 
 pub use crate::checking::{CheckAnswer, answer_to_image, answer_to_input};
 pub use crate::command_line::{
-    Request, WordsFault, cat_command, first_text, parse, words_as_documented,
+    Request, WordsFault, cat_command, first_text, has_flag, list_flag, parse, words_as_documented,
 };
 pub use crate::copying::{ROOM, write_through};
 pub use crate::devices::{Device, Failed, Sink, Source};
 pub use crate::images::MOST_IMAGE_BYTES;
+pub use crate::inputs::read_input;
 pub use crate::listing::write_listing;
+pub use crate::outcome::Outcome;
 pub use crate::round_trip::build_and_read;
 pub use crate::runner::{Ran, one_answer, refuse_words, run, run_on};
 pub use crate::streams::{StreamFault, flush_long, read_all, read_into, say, write_all};
+pub use crate::work_fault::WorkFault;
 pub use adf_manifest::{ManifestFault, ManifestKind, read_manifest};

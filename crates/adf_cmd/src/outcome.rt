@@ -1,14 +1,20 @@
 // How the work of a command went.
 
-ghost use Rattle.std.specs.Prelude.{◌≡◌};
-ghost use Rattle.adf_cmd.specs.Outcomes.{outcome_line, status_of};
+ghost use Rattle.std.specs.Prelude.{◌≡◌, false};
+ghost use Rattle.adf_cmd.specs.Outcomes.{after_reading, after_writing, outcome_line, status_of};
+ghost use Rattle.adf_cmd.specs.Streams.{Says};
+
+use crate::devices::Sink;
+use crate::streams::{StreamFault, say};
+use adf_fields::NoMemory;
+use std::alloc::AllocError;
 
 /// How the work of a command went.
 #[derive(Drop)]
 pub enum Outcome {
     /// The answer is written.
     Done,
-    /// The image is refused, and output says so.
+    /// What is wrong with the image is written to output.
     FaultWritten,
     /// The input is refused, and errors are to get this line.
     Refused(String),
@@ -16,12 +22,54 @@ pub enum Outcome {
     NoSuchPath,
     /// The path leads to the root or a directory.
     NotAFile,
+    /// The path leads to a file that is not sound.
+    Damaged,
     ReadFault,
     WriteFault,
     NoMemory,
 }
 
+impl From<AllocError> for Outcome {
+    ghost use Rattle.adf_cmd.specs.declared.outcome.Outcome.TheVariants.{NoMemory};
+
+    ghost from_gives = { λ _ w. w ≡ NoMemory };
+
+    fn from(_e: AllocError) -> Outcome {
+        Outcome::NoMemory
+    }
+}
+
+impl From<NoMemory> for Outcome {
+    ghost use Rattle.adf_cmd.specs.declared.outcome.Outcome.TheVariants.{NoMemory};
+
+    ghost from_gives = { λ _ w. w ≡ NoMemory };
+
+    fn from(_e: NoMemory) -> Outcome {
+        Outcome::NoMemory
+    }
+}
+
 impl Outcome {
+    /// What comes of a fault in reading the input.
+    pub fn after_reading(fault: StreamFault) -> Outcome
+        ensures { result ≡ after_reading fault }
+    {
+        match fault {
+            StreamFault::Device => Outcome::ReadFault,
+            StreamFault::NoMemory => Outcome::NoMemory,
+        }
+    }
+
+    /// What comes of a fault in writing the answer.
+    pub fn after_writing(fault: StreamFault) -> Outcome
+        ensures { result ≡ after_writing fault }
+    {
+        match fault {
+            StreamFault::Device => Outcome::WriteFault,
+            StreamFault::NoMemory => Outcome::NoMemory,
+        }
+    }
+
     /// The status that the run ends with.
     pub fn status(&self) -> u8
         ensures { result ≡ status_of self.now }
@@ -32,6 +80,7 @@ impl Outcome {
             Outcome::Refused(_) => 1,
             Outcome::NoSuchPath => 1,
             Outcome::NotAFile => 1,
+            Outcome::Damaged => 1,
             Outcome::ReadFault => 3,
             Outcome::WriteFault => 3,
             Outcome::NoMemory => 3,
@@ -48,9 +97,21 @@ impl Outcome {
             Outcome::Refused(line) => line.as_str(),
             Outcome::NoSuchPath => "no such path\n",
             Outcome::NotAFile => "not a file\n",
+            Outcome::Damaged => "damaged\n",
             Outcome::ReadFault => "read fault\n",
             Outcome::WriteFault => "write fault\n",
             Outcome::NoMemory => "no memory\n",
         }
+    }
+
+    /// Says on errors how the work went, and answers the status.
+    pub fn finish<E: Sink>(&self, errors: &mut E) -> u8
+        requires { E.has_failed errors.old ≡ false }
+        ensures status { result ≡ status_of self.now }
+        ensures said { Says (E.has_failed errors.new) (E.held errors.old) (E.held errors.new)
+            (outcome_line self.now) }
+    {
+        say(errors, self.line());
+        self.status()
     }
 }

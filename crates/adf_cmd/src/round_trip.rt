@@ -3,9 +3,8 @@
 ghost use Rattle.std.specs.Prelude.{◌≡◌, IfOk, IfErr};
 ghost use Rattle.adf_build.specs.Building.{IsBuildFault};
 
-use adf_blocks::Cause;
+use crate::images::checked;
 use adf_build::{BuildFault, build};
-use adf_check::check;
 use adf_tree::Tree;
 use std::alloc::Global;
 
@@ -17,12 +16,10 @@ pub fn build_and_read(alloc: Global, tree: &Tree, blocks: u32) -> Result<Tree, B
     ensures fault { IfErr result (IsBuildFault tree.now blocks) }
 {
     let image = build(alloc, tree, blocks)?;
-    let volume = match check(alloc, &image) {
-        Ok(volume) => volume,
-        Err(fault) => match fault.cause {
-            Cause::NoMemory => return Err(BuildFault::NoMemory),
-            _ => unreachable!(),
-        },
+    let volume = match checked(alloc, &image) {
+        Ok(Ok(volume)) => volume,
+        Ok(Err(_)) => unreachable!(),
+        Err(_) => return Err(BuildFault::NoMemory),
     };
     match volume.to_tree(alloc) {
         Ok(tree) => Ok(tree),

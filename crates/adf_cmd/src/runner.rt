@@ -3,37 +3,16 @@
 ghost use Rattle.std.specs.Prelude.{◌≡◌, ◌≤◌, ◌+◌, true, false, codes, length, min, IfSome};
 ghost use Rattle.adf_cmd.specs.Answers.{Answers, AnswersPart, AsksBadPath, IsUnanswered, RequestsHaveOneAnswer, WordsAskForOneRequest, failure_line, limit_of, usage_line};
 ghost use Rattle.adf_cmd.specs.CommandLine.{AreRefused, request_of, texts_of};
-ghost use Rattle.adf_cmd.specs.Outcomes.{outcome_line, status_of};
 ghost use Rattle.adf_cmd.specs.Streams.{Says, TakesAtMost};
-ghost use Rattle.adf_cmd.specs.Work.{refusal_line, refusal_status};
 
 use crate::devices::{Sink, Source};
-use crate::outcome::Outcome;
-use crate::streams::say;
-use crate::work::{WorkFault, work_of};
+use crate::work::work_of;
+use crate::work_fault::WorkFault;
 use std::alloc::Global;
 
-// Says on errors how the work went, and answers the status.
-fn finish<E: Sink>(outcome: &Outcome, errors: &mut E) -> u8
-    requires { E.has_failed errors.old ≡ false }
-    ensures status { result ≡ status_of outcome.now }
-    ensures said { Says (E.has_failed errors.new) (E.held errors.old) (E.held errors.new)
-        (outcome_line outcome.now) }
-{
-    say(errors, outcome.line());
-    outcome.status()
-}
-
-// Says on errors why no work is begun, and answers the status.
-fn refuse<E: Sink>(fault: WorkFault, errors: &mut E) -> u8
-    requires { E.has_failed errors.old ≡ false }
-    ensures status { result ≡ refusal_status fault }
-    ensures said { Says (E.has_failed errors.new) (E.held errors.old) (E.held errors.new)
-        (refusal_line fault) }
-{
-    say(errors, fault.line());
-    fault.status()
-}
+const USAGE: &str =
+    "usage: adf check < IMAGE\n       adf list < IMAGE\n       adf cat PATH < IMAGE\n       adf build [--list] < MANIFEST\n\
+    \x20      adf convert ofs|ffs < IMAGE\nan image or a manifest comes on standard input; man adf tells more\n";
 
 /// Says on errors which words are taken, and answers the status of others, 2.
 pub fn refuse_words<E: Sink>(errors: &mut E) -> u8
@@ -42,7 +21,7 @@ pub fn refuse_words<E: Sink>(errors: &mut E) -> u8
     ensures said { Says (E.has_failed errors.new) (E.held errors.old) (E.held errors.new)
         usage_line }
 {
-    refuse(WorkFault::Usage, errors)
+    WorkFault::Usage.refuse(USAGE, errors)
 }
 
 /// Runs the command that the words name, of which the first is the program's name, and answers its status:
@@ -95,8 +74,8 @@ pub fn run<R: Source, W: Sink, E: Sink>(
         (R.left input.old) (R.left input.new) }
 {
     match work_of(alloc, words) {
-        Ok(work) => finish(&work.on_input(alloc, input, output), errors),
-        Err(fault) => refuse(fault, errors),
+        Ok(work) => work.on_input(alloc, input, output).finish(errors),
+        Err(fault) => fault.refuse(USAGE, errors),
     }
 }
 
@@ -153,11 +132,11 @@ pub fn run_on<W: Sink, E: Sink>(
 {
     match work_of(alloc, words) {
         Ok(work) => Ran {
-            status: finish(&work.on(alloc, input, output), errors),
+            status: work.on(alloc, input, output).finish(errors),
             taken: input.len().min(work.limit() + 1),
         },
         Err(fault) => Ran {
-            status: refuse(fault, errors),
+            status: fault.refuse(USAGE, errors),
             taken: 0,
         },
     }

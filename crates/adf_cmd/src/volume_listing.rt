@@ -8,8 +8,9 @@ ghost use Rattle.adf_blocks.specs.Sizes.{blocks};
 ghost use Rattle.adf_volume.specs.Layout.{Layout};
 ghost use Rattle.adf_check.specs.Volumes.{StandsFor};
 ghost use Rattle.adf_texts.specs.VolumeLines.{lines_of_entries, lines_of_entry, opening_lines, volume_lines};
+ghost use Rattle.adf_cmd.specs.Answers.{Answer};
 ghost use Rattle.adf_cmd.specs.CommandLine.{list};
-ghost use Rattle.adf_cmd.specs.Outcomes.{Works, is_read_fault, is_write_fault};
+ghost use Rattle.adf_cmd.specs.Outcomes.{EndsBy, is_read_fault, is_write_fault};
 ghost use Rattle.adf_cmd.specs.Streams.{AppendsPart, KeepsPending, is_device};
 ghost use Rattle.adf_cmd.specs.VolumeListing.{InAnyDates};
 
@@ -141,21 +142,21 @@ fn write_volume<W: Sink>(
 fn list_volume<W: Sink>(alloc: Global, volume: &Checked<'_>, output: &mut W) -> Outcome
     requires works { W.has_failed output.old ≡ false }
     requires stands { (t : Tree) × (l : Layout) × StandsFor volume.now t l }
-    ensures works { Works result list volume.now.image (W.held output.old) (W.held output.new) }
+    ensures ends { EndsBy (Answer list volume.now.image) result
+        (W.held output.old) (W.held output.new) }
     ensures read { is_read_fault result ≡ false }
     ensures written { W.has_failed output.new ≡ is_write_fault result }
 {
     match write_volume(alloc, volume, output) {
         Ok(()) => Outcome::Done,
-        Err(StreamFault::Device) => Outcome::WriteFault,
-        Err(StreamFault::NoMemory) => Outcome::NoMemory,
+        Err(fault) => Outcome::after_writing(fault),
     }
 }
 
 /// Checks an image, and writes the lines of its volume.
 pub fn list_image<W: Sink>(alloc: Global, image: &[u8], output: &mut W) -> Outcome
     requires { W.has_failed output.old ≡ false }
-    ensures works { Works result list image.now (W.held output.old) (W.held output.new) }
+    ensures ends { EndsBy (Answer list image.now) result (W.held output.old) (W.held output.new) }
     ensures read { is_read_fault result ≡ false }
     ensures written { W.has_failed output.new ≡ is_write_fault result }
 {

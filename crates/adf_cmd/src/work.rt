@@ -1,15 +1,16 @@
 // What a command does, once its words and its path are read.
 
 ghost use Rattle.std.specs.Prelude.{◌≡◌, ◌+◌, ◌<◌, ◌^◌, false, IfErr, IfOk, IfSome, Some, true};
-ghost use Rattle.adf_cmd.specs.Answers.{limit_of};
-ghost use Rattle.adf_cmd.specs.CommandLine.{AsksFor, RequestValue, request_value, texts_of};
-ghost use Rattle.adf_cmd.specs.Outcomes.{Works, is_read_fault, is_write_fault};
+ghost use Rattle.adf_cmd.specs.Answers.{Answer, AsksBadPath, HasBadPath, limit_of};
+ghost use Rattle.adf_cmd.specs.CommandLine.{AreRefused, AsksFor, RequestValue, request_value, texts_of};
+ghost use Rattle.adf_cmd.specs.Outcomes.{EndsBy, is_read_fault, is_write_fault};
 ghost use Rattle.adf_cmd.specs.Streams.{TakesAtMost};
-ghost use Rattle.adf_cmd.specs.Work.{IsNoWork, IsNoWorkOf, Serves, refusal_line, refusal_status};
+ghost use Rattle.adf_cmd.specs.Work.{Serves};
+ghost use Rattle.adf_cmd.specs.WorkFaults.{IsNoWork};
 
 use crate::building::build_manifest;
 use crate::checking::check_image;
-use crate::command_line::{Request, WordsFault, parse};
+use crate::command_line::{Request, parse};
 use crate::converting::{convert_image, convert_read};
 use crate::copying::cat_image;
 use crate::devices::{Sink, Source};
@@ -17,8 +18,9 @@ use crate::images::MOST_IMAGE_BYTES;
 use crate::inputs::read_input;
 use crate::outcome::Outcome;
 use crate::volume_listing::list_image;
+use crate::work_fault::WorkFault;
 use adf_manifest::MOST_BYTES;
-use adf_tree::{Kind, Name, PathFault, read_path};
+use adf_tree::{Kind, Name, read_path};
 use std::alloc::Global;
 
 /// What is done to the bytes of an input.
@@ -32,58 +34,16 @@ pub enum Work {
     Convert(Kind),
 }
 
-/// Why no work is begun.
-#[derive(Clone, Copy, Debug, PartialEq, Eq)]
-pub enum WorkFault {
-    /// The words are refused.
-    Usage,
-    /// The path of `cat` is none.
-    BadPath,
-    /// Memory was refused.
-    NoMemory,
-}
-
-const USAGE: &str =
-    "usage: adf check < IMAGE\n       adf list < IMAGE\n       adf cat PATH < IMAGE\n       adf build [--list] < MANIFEST\n\
-    \x20      adf convert ofs|ffs < IMAGE\nan image or a manifest comes on standard input; man adf tells more\n";
-
-impl WorkFault {
-    /// The status that the run ends with.
-    pub fn status(self) -> u8
-        ensures { result ≡ refusal_status self }
-    {
-        match self {
-            WorkFault::Usage => 2,
-            WorkFault::BadPath => 2,
-            WorkFault::NoMemory => 3,
-        }
-    }
-
-    /// What is said on errors.
-    pub fn line(self) -> &'static str
-        ensures { result.now ≡ refusal_line self }
-    {
-        match self {
-            WorkFault::Usage => USAGE,
-            WorkFault::BadPath => "bad path\n",
-            WorkFault::NoMemory => "no memory\n",
-        }
-    }
-}
-
 // The work that a request asks for.
 fn work_for(alloc: Global, request: Request<'_>) -> Result<Work, WorkFault>
     ensures ok { IfOk result (λ work. Serves work (request_value request.entry)) }
-    ensures fault { IfErr result (λ fault. IsNoWorkOf fault (request_value request.entry)) }
+    ensures fault { IfErr result (λ fault.
+        IsNoWork fault ⊥ (HasBadPath (request_value request.entry))) }
 {
     match request {
         Request::Check => Ok(Work::Check),
         Request::List => Ok(Work::List),
-        Request::Cat(path) => match read_path(alloc, path.as_bytes()) {
-            Ok(names) => Ok(Work::Cat(names)),
-            Err(PathFault::BadText) => Err(WorkFault::BadPath),
-            Err(PathFault::NoMemory) => Err(WorkFault::NoMemory),
-        },
+        Request::Cat(path) => Ok(Work::Cat(read_path(alloc, path.as_bytes())?)),
         Request::Build { list } => Ok(Work::Build { list }),
         Request::Convert(kind) => Ok(Work::Convert(kind)),
     }
@@ -93,13 +53,11 @@ fn work_for(alloc: Global, request: Request<'_>) -> Result<Work, WorkFault>
 pub fn work_of(alloc: Global, words: &[&str]) -> Result<Work, WorkFault>
     ensures ok { IfOk result (λ work. (r : RequestValue)
         × AsksFor (texts_of words.now) r × Serves work r) }
-    ensures fault { IfErr result (λ fault. IsNoWork fault (texts_of words.now)) }
+    ensures fault { IfErr result (λ fault.
+        IsNoWork fault (AreRefused (texts_of words.now)) (AsksBadPath (texts_of words.now))) }
 {
-    match parse(alloc, words) {
-        Ok(request) => work_for(alloc, request),
-        Err(WordsFault::Usage) => Err(WorkFault::Usage),
-        Err(WordsFault::NoMemory) => Err(WorkFault::NoMemory),
-    }
+    let request = parse(alloc, words)?;
+    work_for(alloc, request)
 }
 
 impl Work {
@@ -117,8 +75,8 @@ impl Work {
     /// Does the work on the bytes of an input where they lie.
     pub fn on<W: Sink>(&self, alloc: Global, bytes: &[u8], output: &mut W) -> Outcome
         requires { W.has_failed output.old ≡ false }
-        ensures works { (r : RequestValue) → Serves self.now r
-            → Works result r bytes.now (W.held output.old) (W.held output.new) }
+        ensures ends { (r : RequestValue) → Serves self.now r
+            → EndsBy (Answer r bytes.now) result (W.held output.old) (W.held output.new) }
         ensures read { is_read_fault result ≡ false }
         ensures written { W.has_failed output.new ≡ is_write_fault result }
     {
@@ -134,8 +92,8 @@ impl Work {
     // Does the work on bytes that were read, and lets them go where they are no longer wanted.
     fn on_read<W: Sink>(&self, alloc: Global, bytes: Vec<u8>, output: &mut W) -> Outcome
         requires { W.has_failed output.old ≡ false }
-        ensures works { (r : RequestValue) → Serves self.now r
-            → Works result r bytes.items (W.held output.old) (W.held output.new) }
+        ensures ends { (r : RequestValue) → Serves self.now r
+            → EndsBy (Answer r bytes.items) result (W.held output.old) (W.held output.new) }
         ensures read { is_read_fault result ≡ false }
         ensures written { W.has_failed output.new ≡ is_write_fault result }
     {
@@ -154,9 +112,9 @@ impl Work {
     ) -> Outcome
         requires reads { R.has_failed input.old ≡ false }
         requires writes { W.has_failed output.old ≡ false }
-        ensures works { (r : RequestValue) → Serves self.now r
+        ensures ends { (r : RequestValue) → Serves self.now r
             → IfSome (R.left input.old) (λ bytes.
-            Works result r bytes (W.held output.old) (W.held output.new)) }
+            EndsBy (Answer r bytes) result (W.held output.old) (W.held output.new)) }
         ensures read { R.has_failed input.new ≡ is_read_fault result }
         ensures written { W.has_failed output.new ≡ is_write_fault result }
         ensures unwritten { is_read_fault result ≡ true → output.new ≡ output.old }

@@ -5,6 +5,5 @@ pub mod FindingLists
 pub mod FoundFiles
 pub mod FindingStatus
 pub mod FoundTexts
-pub mod EndingLaws
 pub mod LongSurveys
 pub mod OneAnswer

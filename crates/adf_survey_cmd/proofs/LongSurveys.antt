@@ -16,10 +16,7 @@ use Rattle.adf_cmd.specs.Answers.{Reply, on_output}
 use Rattle.adf_cmd.proofs.LongInputs.{too_large}
 use Rattle.adf_survey_cmd.specs.Answers.{CopiesFound, SurveyAnswer, TellsFound, findings_status}
 use Rattle.adf_survey_cmd.specs.CommandLine.{InquiryValue, cat, list, report}
-use Rattle.adf_survey_cmd.specs.Endings.{EndsBy}
 use Rattle.adf_survey_cmd.specs.Lines.{findings_text, runs_from}
-use Rattle.adf_survey_cmd.specs.declared.ending.Ending.{Ending}
-use Rattle.adf_survey_cmd.proofs.EndingLaws.{ends_weaker}
 
 -- an input of a bad size has this finding
 bad_size : List FindingValue
@@ -56,7 +53,7 @@ of_long image w fs holds long s h =
     let same = one_survey image w [] fs bad_size s (long_survey image long) in
     subst (λ (u : List (Role × ℕ)). holds u bad_size) same.0 (subst (λ (gs : List FindingValue). holds w gs) same.1 h)
 
-long_answers : (r : InquiryValue) (image bytes : List ℕ) → 512 * MOST_BLOCKS < length image → 512 * MOST_BLOCKS < length bytes → (reply : Reply)
+pub long_answers : (r : InquiryValue) (image bytes : List ℕ) → 512 * MOST_BLOCKS < length image → 512 * MOST_BLOCKS < length bytes → (reply : Reply)
     → SurveyAnswer r image reply → SurveyAnswer r bytes reply
 long_answers report image bytes a b reply (w, fs, s, e) =
     let told = of_long image w fs (λ u gs. reply ≡ on_output (findings_status gs) (findings_text image u gs)) a s e in
@@ -69,15 +66,3 @@ long_answers (cat path) image bytes a b reply (inl bad) = inl bad
 long_answers (cat path) image bytes a b reply (inr (names, text, w, fs, s, found)) =
     let same = of_long image w fs (λ u gs. CopiesFound image u gs names reply) a s found in
     inr (names, text, [], bad_size, long_survey bytes b, same_found image bytes names reply same)
-
--- what is done with the bytes that are read is done with the whole input, where that is known
-pub read_ends : (e : Ending) (r : InquiryValue) (image : List ℕ) (left o o' : Option (List ℕ))
-    → IfSome left (λ bytes. image ≡ take (512 * MOST_BLOCKS + 1) bytes)
-    → EndsBy (SurveyAnswer r image) e o o' → IfSome left (λ bytes. EndsBy (SurveyAnswer r bytes) e o o')
-read_ends e r image None o o' same h = tt
-read_ends e r image (Some bytes) o o' same h = elim (cases_lt (512 * MOST_BLOCKS) (length bytes)) [
-  | inr short ↦ subst (λ l. EndsBy (SurveyAnswer r l) e o o') (same ∙ take_all (512 * MOST_BLOCKS + 1) bytes (omega arith)) h
-  | inl long ↦
-      let cut : 512 * MOST_BLOCKS < length image = rw same (omega (arith, length-take {A = ℕ})) in
-      ends_weaker (SurveyAnswer r image) (SurveyAnswer r bytes) e o o' (long_answers r image bytes cut long) h
-]

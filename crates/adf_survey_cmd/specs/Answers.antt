@@ -1,7 +1,6 @@
 -- What the command answers to its words and its input.
 -- Letters: w the walk of a survey, fs its findings; n an entry's node, h the block of its header; r an inquiry.
 use Rattle.std.specs.Prelude.{◌≡◌, ◌⊎◌, ◌++◌, ℕ, Bool, true, false, List, [], ◌∷◌, codes, Option}
-use Rattle.std.specs.Io.KnownBytes.{Appends}
 use Rattle.adf_tree.specs.PathTexts.{IsPathText}
 use Rattle.adf_volume.specs.Walk.{FileAt, Role}
 use Rattle.adf_survey.specs.Files.{IsSoundFile, file_content, file_in}
@@ -10,8 +9,7 @@ use Rattle.adf_survey.specs.Marked.{AreMarks}
 use Rattle.adf_survey.specs.Survey.{FindingValue, IsSurvey}
 use Rattle.adf_fields.specs.declared.dates.Stamp.{Stamp}
 use Rattle.adf_texts.specs.VolumeLines.{AreDates}
-use Rattle.adf_cmd.specs.Answers.{IsBadPath, RefusesPath, Reply, on_errors, on_output}
-use Rattle.adf_cmd.specs.Streams.{AppendsPart, Says}
+use Rattle.adf_cmd.specs.Answers.{GetsAnswer, GetsFront, IsBadPath, RefusesPath, Reply, on_errors, on_output}
 use Rattle.adf_survey_cmd.specs.CommandLine.{AreRefusedBySurvey, AsksSurvey, InquiryValue, cat, list, report}
 use Rattle.adf_survey_cmd.specs.FoundLines.{listing_text}
 use Rattle.adf_survey_cmd.specs.Lines.{findings_text}
@@ -84,26 +82,23 @@ WordsAskForOneInquiry = (words : List (List ℕ)) (r q : InquiryValue) → AsksS
 abbrev pub InquiriesHaveOneAnswer : Type 0
 InquiriesHaveOneAnswer = (r : InquiryValue) (input : List ℕ) (a b : Reply) → SurveyAnswer r input a → SurveyAnswer r input b → a ≡ b
 
--- at a status other than 3: the words ask for something, output and errors got an answer to it, or where errors failed a front part of it
+-- at a status other than 3: the words ask for something, and output and errors got an answer to it
 abbrev pub SurveyAnswers : List (List ℕ) → List ℕ → ℕ → Option (List ℕ) → Option (List ℕ) → Bool → Option (List ℕ) → Option (List ℕ) → Type 0
-SurveyAnswers words input status o o' failed e e' =
-    (r : InquiryValue) × AsksSurvey words r × (reply : Reply) × (reply.status ≡ status) × SurveyAnswer r input reply
-    × Appends o o' reply.output × Says failed e e' reply.errors
+SurveyAnswers words = GetsAnswer (AsksSurvey words) SurveyAnswer
 
--- output got a front part of an answer
-abbrev pub IsSurveyPart : InquiryValue → List ℕ → Option (List ℕ) → Option (List ℕ) → Type 0
-IsSurveyPart r input o o' = (reply : Reply) × SurveyAnswer r input reply × AppendsPart o o' reply.output
-
--- what output has got at status 3: nothing where the input failed, else nothing or a front part of an answer
+-- at status 3: output got nothing, or where the input did not fail a front part of an answer
 abbrev pub SurveyAnswersPart : List (List ℕ) → Bool → List ℕ → Option (List ℕ) → Option (List ℕ) → Type 0
-SurveyAnswersPart words true input o o' = Appends o o' []
-SurveyAnswersPart words false input o o' = Appends o o' [] ⊎ ((r : InquiryValue) × AsksSurvey words r × IsSurveyPart r input o o')
+SurveyAnswersPart words = GetsFront (AsksSurvey words) SurveyAnswer
 
 -- what errors get where the words are refused
 abbrev pub survey_usage : List ℕ
 survey_usage =
     codes "usage: adf-survey [--list] < IMAGE\n       adf-survey cat PATH < IMAGE\n"
     ++ codes "an image comes on standard input; man adf-survey tells more\n"
+
+-- a request for the bytes under a path that is not read
+abbrev pub HasBadSurveyPath : InquiryValue → Type 0
+HasBadSurveyPath r = (path : List ℕ) × (r ≡ cat path) × IsBadPath path
 
 -- the words ask for the bytes under a path that is not read
 abbrev pub AsksBadSurveyPath : List (List ℕ) → Type 0

@@ -2,5 +2,4 @@ pub mod CommandLine
 pub mod Lines
 pub mod FoundLines
 pub mod Answers
-pub mod Endings
 pub mod Work

@@ -1,13 +1,13 @@
 // The words of the command line, by clap.
 
 ghost use Rattle.std.specs.Prelude.{◌≡◌, ◌==◌, IfOk, IfErr, ℕ, List, [], ◌∷◌, codes, false, option_map};
-ghost use Rattle.clap.specs.Words.{app_of, found_of, rows_of, rule_of, subcommand_rows_of};
-ghost use Rattle.adf_cmd.specs.CommandLine.{list_rule, texts_of};
-ghost use Rattle.adf_survey_cmd.specs.CommandLine.{AsksSurvey, AreRefusedBySurvey, ExplainsSurveyWords, asks_list, cat, list, inquiry_met, inquiry_named, inquiry_value, report, survey_app};
+ghost use Rattle.clap.specs.Words.{app_of, found_of, rows_of, subcommand_rows_of};
+ghost use Rattle.adf_cmd.specs.CommandLine.{texts_of};
+ghost use Rattle.adf_survey_cmd.specs.CommandLine.{AsksSurvey, AreRefusedBySurvey, ExplainsSurveyWords, cat, list, inquiry_met, inquiry_named, inquiry_value, report, survey_app};
 
-use adf_cmd::{WordsFault, cat_command, first_text};
+use adf_cmd::{WordsFault, cat_command, first_text, has_flag, list_flag};
 use clap::error::ErrorKind;
-use clap::{Arg, ArgAction, ArgMatches, Command};
+use clap::{ArgMatches, Command};
 use std::alloc::{AllocError, Global};
 
 /// What a command line asks for.
@@ -19,16 +19,6 @@ pub enum Inquiry<'a> {
     List,
     /// The bytes of a sound file, by the text of its path.
     Cat(&'a str),
-}
-
-// The flag `--list`.
-fn list_flag<'a>(alloc: Global) -> Arg<'a>
-    ensures rule { rule_of result ≡ list_rule }
-    ensures local { result.global ≡ false }
-{
-    Arg::new(alloc, "list")
-        .long("list")
-        .action(ArgAction::SetTrue)
 }
 
 // The command line. Words of help are refused as any others are, so that clap lays out no text for them.
@@ -55,22 +45,12 @@ fn inquiry_named<'a>(name: &str, found: &ArgMatches<'a>) -> Option<Inquiry<'a>>
     }
 }
 
-// Whether the flag `--list` is among the matches.
-fn asks_list(matches: &ArgMatches<'_>) -> bool
-    ensures { result ≡ asks_list (rows_of (found_of matches.now)) }
-{
-    match first_text(matches, "list") {
-        Some(text) => text == "true",
-        None => false,
-    }
-}
-
 // What the matches ask for.
 fn inquiry_in<'a>(matches: &ArgMatches<'a>) -> Option<Inquiry<'a>>
     ensures { option_map inquiry_value result
         ≡ inquiry_met (rows_of (found_of matches.now)) (subcommand_rows_of matches.now) }
 {
-    let list = asks_list(matches);
+    let list = has_flag(matches, "list");
     match matches.subcommand() {
         Some(_) if list => None,
         Some((name, found)) => inquiry_named(name, found),

@@ -6,11 +6,10 @@ ghost use Rattle.adf_survey.specs.Files.{file_content};
 ghost use Rattle.adf_survey.specs.Survey.{FindingValue, IsSurvey};
 ghost use Rattle.adf_cmd.specs.Answers.{on_output};
 ghost use Rattle.adf_survey_cmd.specs.Answers.{CopiesEntry, CopiesFound};
-ghost use Rattle.adf_survey_cmd.specs.Endings.{EndsBy, is_read_ending, is_write_ending};
+ghost use Rattle.adf_cmd.specs.Outcomes.{EndsBy, is_read_fault, is_write_fault};
 
-use crate::ending::Ending;
 use adf_blocks::{SECONDARY_TYPE, ST_FILE};
-use adf_cmd::{ROOM, Sink, write_through};
+use adf_cmd::{Outcome, ROOM, Sink, write_through};
 use adf_survey::{SoundFile, Survey};
 use adf_tree::{Name, Node};
 use std::alloc::Global;
@@ -27,35 +26,35 @@ fn is_file(survey: &Survey<'_>, n: Node) -> bool
 }
 
 // Writes the bytes of a file.
-fn write_file<W: Sink>(file: &SoundFile<'_>, output: &mut W) -> Ending
+fn write_file<W: Sink>(file: &SoundFile<'_>, output: &mut W) -> Outcome
     requires { W.has_failed output.old ≡ false }
     ensures ends { EndsBy (λ reply. reply ≡ on_output 0 (file_content file.now)) result
         (W.held output.old) (W.held output.new) }
-    ensures read { is_read_ending result ≡ false }
-    ensures written { W.has_failed output.new ≡ is_write_ending result }
+    ensures read { is_read_fault result ≡ false }
+    ensures written { W.has_failed output.new ≡ is_write_fault result }
 {
     match write_through::<ROOM, W>(file.pieces(), output) {
-        Ok(()) => Ending::Done,
-        Err(_) => Ending::WriteFault,
+        Ok(()) => Outcome::Done,
+        Err(_) => Outcome::WriteFault,
     }
 }
 
 // Writes the bytes of an entry that is a sound file.
-fn copy_entry<W: Sink>(alloc: Global, survey: &Survey<'_>, n: Node, output: &mut W) -> Ending
+fn copy_entry<W: Sink>(alloc: Global, survey: &Survey<'_>, n: Node, output: &mut W) -> Outcome
     requires { W.has_failed output.old ≡ false }
     ensures ends { (w : List (Role × ℕ)) (fs : List FindingValue) → IsSurvey survey.now.image w fs
         → EndsBy (CopiesEntry survey.now.image w fs n) result
         (W.held output.old) (W.held output.new) }
-    ensures read { is_read_ending result ≡ false }
-    ensures written { W.has_failed output.new ≡ is_write_ending result }
+    ensures read { is_read_fault result ≡ false }
+    ensures written { W.has_failed output.new ≡ is_write_fault result }
 {
     if !is_file(survey, n) {
-        return Ending::NotAFile;
+        return Outcome::NotAFile;
     }
     match survey.file(alloc, n) {
         Ok(Some(file)) => write_file(&file, output),
-        Ok(None) => Ending::Damaged,
-        Err(_) => Ending::NoMemory,
+        Ok(None) => Outcome::Damaged,
+        Err(_) => Outcome::NoMemory,
     }
 }
 
@@ -65,16 +64,16 @@ pub fn copy_found<W: Sink>(
     survey: &Survey<'_>,
     names: &[Name],
     output: &mut W,
-) -> Ending
+) -> Outcome
     requires { W.has_failed output.old ≡ false }
     ensures ends { (w : List (Role × ℕ)) (fs : List FindingValue) → IsSurvey survey.now.image w fs
         → EndsBy (CopiesFound survey.now.image w fs names.now) result
         (W.held output.old) (W.held output.new) }
-    ensures read { is_read_ending result ≡ false }
-    ensures written { W.has_failed output.new ≡ is_write_ending result }
+    ensures read { is_read_fault result ≡ false }
+    ensures written { W.has_failed output.new ≡ is_write_fault result }
 {
     match survey.find(names) {
         Some(n) => copy_entry(alloc, survey, n, output),
-        None => Ending::NoSuchPath,
+        None => Outcome::NoSuchPath,
     }
 }

@@ -3,7 +3,6 @@
 
 mod command_line;
 mod copying;
-mod ending;
 mod found_lines;
 mod listing;
 mod reporting;
@@ -12,5 +11,4 @@ mod runs;
 mod work;
 
 pub use crate::command_line::{Inquiry, parse, survey_words_as_documented};
-pub use crate::ending::Ending;
 pub use crate::runner::{one_answer, refuse_words, run, run_on};

@@ -6,13 +6,12 @@ ghost use Rattle.adf_volume.specs.Walk.{Role};
 ghost use Rattle.adf_survey.specs.Survey.{FindingValue, IsSurvey};
 ghost use Rattle.adf_cmd.specs.Streams.{AppendsPart, is_device};
 ghost use Rattle.adf_survey_cmd.specs.Answers.{TellsFound};
-ghost use Rattle.adf_survey_cmd.specs.Endings.{EndsBy, is_read_ending, is_write_ending};
+ghost use Rattle.adf_cmd.specs.Outcomes.{EndsBy, is_read_fault, is_write_fault};
 ghost use Rattle.adf_survey_cmd.specs.FoundLines.{InAnyTexts, listing_text};
 
-use crate::ending::Ending;
 use crate::found_lines::write_found;
 use crate::runs::write_runs;
-use adf_cmd::{Sink, StreamFault};
+use adf_cmd::{Outcome, Sink, StreamFault};
 use adf_survey::Survey;
 use std::alloc::Global;
 
@@ -36,19 +35,18 @@ fn write_both<W: Sink>(
 }
 
 /// Writes the lines of the findings, and behind them those of what is found.
-pub fn write_list<W: Sink>(alloc: Global, survey: &Survey<'_>, output: &mut W) -> Ending
+pub fn write_list<W: Sink>(alloc: Global, survey: &Survey<'_>, output: &mut W) -> Outcome
     requires { W.has_failed output.old ≡ false }
     ensures ends { (w : List (Role × ℕ)) (fs : List FindingValue) → IsSurvey survey.now.image w fs
         → EndsBy (TellsFound survey.now.image w fs) result
         (W.held output.old) (W.held output.new) }
-    ensures read { is_read_ending result ≡ false }
-    ensures written { W.has_failed output.new ≡ is_write_ending result }
+    ensures read { is_read_fault result ≡ false }
+    ensures written { W.has_failed output.new ≡ is_write_fault result }
 {
     survey.marks();
     match write_both(alloc, survey, output) {
-        Ok(()) if survey.findings().is_empty() => Ending::Done,
-        Ok(()) => Ending::FindingsWritten,
-        Err(StreamFault::Device) => Ending::WriteFault,
-        Err(StreamFault::NoMemory) => Ending::NoMemory,
+        Ok(()) if survey.findings().is_empty() => Outcome::Done,
+        Ok(()) => Outcome::FaultWritten,
+        Err(fault) => Outcome::after_writing(fault),
     }
 }

@@ -4,27 +4,25 @@ ghost use Rattle.std.specs.Prelude.{◌≡◌, ℕ, List, false};
 ghost use Rattle.adf_volume.specs.Walk.{Role};
 ghost use Rattle.adf_survey.specs.Survey.{FindingValue, IsSurvey};
 ghost use Rattle.adf_survey_cmd.specs.Answers.{TellsFindings};
-ghost use Rattle.adf_survey_cmd.specs.Endings.{EndsBy, is_read_ending, is_write_ending};
+ghost use Rattle.adf_cmd.specs.Outcomes.{EndsBy, is_read_fault, is_write_fault};
 
-use crate::ending::Ending;
 use crate::runs::write_runs;
-use adf_cmd::{Sink, StreamFault};
+use adf_cmd::{Outcome, Sink};
 use adf_survey::Survey;
 use std::alloc::Global;
 
 /// Writes the lines of the findings.
-pub fn write_findings<W: Sink>(alloc: Global, survey: &Survey<'_>, output: &mut W) -> Ending
+pub fn write_findings<W: Sink>(alloc: Global, survey: &Survey<'_>, output: &mut W) -> Outcome
     requires { W.has_failed output.old ≡ false }
     ensures ends { (w : List (Role × ℕ)) (fs : List FindingValue) → IsSurvey survey.now.image w fs
         → EndsBy (TellsFindings survey.now.image w fs) result
         (W.held output.old) (W.held output.new) }
-    ensures read { is_read_ending result ≡ false }
-    ensures written { W.has_failed output.new ≡ is_write_ending result }
+    ensures read { is_read_fault result ≡ false }
+    ensures written { W.has_failed output.new ≡ is_write_fault result }
 {
     match write_runs(alloc, survey, output) {
-        Ok(()) if survey.findings().is_empty() => Ending::Done,
-        Ok(()) => Ending::FindingsWritten,
-        Err(StreamFault::Device) => Ending::WriteFault,
-        Err(StreamFault::NoMemory) => Ending::NoMemory,
+        Ok(()) if survey.findings().is_empty() => Outcome::Done,
+        Ok(()) => Outcome::FaultWritten,
+        Err(fault) => Outcome::after_writing(fault),
     }
 }

@@ -7,35 +7,13 @@ ghost use Rattle.adf_cmd.specs.CommandLine.{texts_of};
 ghost use Rattle.adf_cmd.specs.Streams.{Says, TakesAtMost};
 ghost use Rattle.adf_survey_cmd.specs.Answers.{AsksBadSurveyPath, InquiriesHaveOneAnswer, IsUnansweredBySurvey, SurveyAnswers, SurveyAnswersPart, WordsAskForOneInquiry, survey_usage};
 ghost use Rattle.adf_survey_cmd.specs.CommandLine.{AreRefusedBySurvey};
-ghost use Rattle.adf_survey_cmd.specs.Endings.{ending_line, ending_status};
-ghost use Rattle.adf_survey_cmd.specs.Work.{unmet_line, unmet_status};
 
-use crate::ending::Ending;
-use crate::work::{WorkFault, work_of};
-use adf_cmd::{MOST_IMAGE_BYTES, Ran, Sink, Source, say};
+use crate::work::work_of;
+use adf_cmd::{MOST_IMAGE_BYTES, Ran, Sink, Source, WorkFault};
 use std::alloc::Global;
 
-// Says on errors how the work ended, and answers the status.
-fn finish<E: Sink>(ending: Ending, errors: &mut E) -> u8
-    requires { E.has_failed errors.old ≡ false }
-    ensures status { result ≡ ending_status ending }
-    ensures said { Says (E.has_failed errors.new) (E.held errors.old) (E.held errors.new)
-        (ending_line ending) }
-{
-    say(errors, ending.line());
-    ending.status()
-}
-
-// Says on errors why no work is begun, and answers the status.
-fn refuse<E: Sink>(fault: WorkFault, errors: &mut E) -> u8
-    requires { E.has_failed errors.old ≡ false }
-    ensures status { result ≡ unmet_status fault }
-    ensures said { Says (E.has_failed errors.new) (E.held errors.old) (E.held errors.new)
-        (unmet_line fault) }
-{
-    say(errors, fault.line());
-    fault.status()
-}
+const USAGE: &str =
+    "usage: adf-survey [--list] < IMAGE\n       adf-survey cat PATH < IMAGE\nan image comes on standard input; man adf-survey tells more\n";
 
 /// Says on errors which words are taken, and answers the status of others, 2.
 pub fn refuse_words<E: Sink>(errors: &mut E) -> u8
@@ -44,7 +22,7 @@ pub fn refuse_words<E: Sink>(errors: &mut E) -> u8
     ensures said { Says (E.has_failed errors.new) (E.held errors.old) (E.held errors.new)
         survey_usage }
 {
-    refuse(WorkFault::Usage, errors)
+    WorkFault::Usage.refuse(USAGE, errors)
 }
 
 /// Does what the words ask for, of which the first is the program's name, and answers the status:
@@ -97,8 +75,8 @@ pub fn run<R: Source, W: Sink, E: Sink>(
     ensures at_most { TakesAtMost (512 * MOST_BLOCKS + 1) (R.left input.old) (R.left input.new) }
 {
     match work_of(alloc, words) {
-        Ok(work) => finish(work.on_input(alloc, input, output), errors),
-        Err(fault) => refuse(fault, errors),
+        Ok(work) => work.on_input(alloc, input, output).finish(errors),
+        Err(fault) => fault.refuse(USAGE, errors),
     }
 }
 
@@ -148,11 +126,11 @@ pub fn run_on<W: Sink, E: Sink>(
 {
     match work_of(alloc, words) {
         Ok(work) => Ran {
-            status: finish(work.on(alloc, input, output), errors),
+            status: work.on(alloc, input, output).finish(errors),
             taken: input.len().min(MOST_IMAGE_BYTES + 1),
         },
         Err(fault) => Ran {
-            status: refuse(fault, errors),
+            status: fault.refuse(USAGE, errors),
             taken: 0,
         },
     }

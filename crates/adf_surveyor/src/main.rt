@@ -1,8 +1,8 @@
 //! Tells all that is wrong in an image of an Amiga floppy or hard disk, and reads files that are sound.
 #![tactic(auto)]
 
-use adf_cmd::{Device, say};
-use adf_survey_cmd::{Ending, run};
+use adf_cmd::{Device, Outcome, say};
+use adf_survey_cmd::run;
 use std::alloc::Global;
 use std::io;
 use std::io::ErrorKind;
@@ -27,10 +27,10 @@ fn status(rt: &HostRuntime) -> io::Result<u8> {
 }
 
 // Why the words cannot be had: memory, or one that is no UTF-8.
-fn ending_of(error: &io::Error) -> Ending {
+fn outcome_of(error: &io::Error) -> Outcome {
     match error.kind() {
-        ErrorKind::OutOfMemory => Ending::NoMemory,
-        _ => Ending::ReadFault,
+        ErrorKind::OutOfMemory => Outcome::NoMemory,
+        _ => Outcome::ReadFault,
     }
 }
 
@@ -38,7 +38,7 @@ fn main(rt: HostRuntime) -> ExitCode {
     match status(&rt) {
         Ok(status) => ExitCode::from(status),
         Err(error) => {
-            say(&mut Device::new(rt.stderr()), ending_of(&error).line());
+            say(&mut Device::new(rt.stderr()), outcome_of(&error).line());
             ExitCode::from(3)
         }
     }

@@ -9,14 +9,16 @@ use Rattle.adf_cmd.proofs.round_trip.build_and_read.Goals as goal
 pub unreachable-requires : goal.unreachable-requires
 unreachable-requires c =
     let tree = c.args.tree.now in
-    c.in-Err.ensures.none c.in_default.not-NoMemory tree (planned tree c.args.blocks) (rw (← c.deref.ensures.value) at c.in_ok-image.ensures.fits)
+    (rw c.in-Ok-Err.field-0-is at c.in-Ok-Err.ensures.none) tree (planned tree c.args.blocks)
+    (rw (← c.deref.ensures.value) at c.in_ok-image.ensures.fits)
 
 same_tree : {image : List ℕ} {t u : Tree} {l m : Layout} → Fits image t l → Fits image u m → t ≡ u
 same_tree {image = image} {t = t} {u = u} {l = l} {m = m} f g = (one_fit image t u l m f g).0
 
-pub returns-in-Ok-to_tree-clause-same : goal.returns-in-Ok-to_tree-clause-same
-returns-in-Ok-to_tree-clause-same c =
+pub returns-in-Ok-clause-same : goal.returns-in-Ok-clause-same
+returns-in-Ok-clause-same c =
     let tree = c.args.tree.now in
-    let stands = c.in-Ok.ensures.fits in
-    let fits = rw (← c.deref.ensures.value, ← c.in-Ok.ensures.image) at c.in_ok-image.ensures.fits in
-    c.in-Ok-to_tree.ensures.tree stands.0 stands.1 stands.2 ∙ same_tree stands.2.fits fits
+    let stands = rw c.in-Ok-Ok.field-0-is at c.in-Ok-Ok.ensures.fits in
+    let image = rw c.in-Ok-Ok.field-0-is at c.in-Ok-Ok.ensures.image in
+    let fits = rw (← c.deref.ensures.value, ← image) at c.in_ok-image.ensures.fits in
+    c.in-Ok.ensures.tree stands.0 stands.1 stands.2 ∙ same_tree stands.2.fits fits

@@ -1,8 +1,10 @@
-use Rattle.std.proofs.Common.{◌≡◌, ◌∙◌, ap, false, inr, refl, sym, true}
+use Rattle.std.proofs.Common.{◌≡◌, ◌∙◌, ap, false, refl, sym, true}
 use Rattle.std.proofs.lemmas.Bool.{eqb-true, eq-eqb}
 use Rattle.adf_fields.proofs.DateTexts.{date_of, date_of_is}
 use Rattle.adf_survey.specs.Marked.{mark_in}
 use Rattle.adf_cmd.specs.Answers.{on_output}
+use Rattle.adf_cmd.proofs.AnswerLaws.{front_ends}
+use Rattle.adf_survey_cmd.specs.Answers.{TellsFound}
 use Rattle.adf_survey_cmd.specs.FoundLines.{listing_text}
 use Rattle.adf_survey_cmd.proofs.FindingStatus.{none_status, some_status}
 use Rattle.adf_survey_cmd.proofs.listing.write_list.Goals as goal
@@ -30,14 +32,10 @@ returns-in-Ok-2-clause-ends g c = λ w fs survey.
       c.in-Ok-2.ensures.ok w fs survey date_of sound date_of_is marks,
     )
 
-pub returns-in-Err-Device-clause-ends : goal.returns-in-Err-Device-clause-ends
-returns-in-Err-Device-clause-ends g c = λ w fs survey.
-    let sound = mark_in c.args.survey.now in
+pub returns-in-Err-clause-ends : goal.returns-in-Err-clause-ends
+returns-in-Err-clause-ends g c = λ w fs survey.
+    let v = c.args.survey.now in
+    let sound = mark_in v in
     let marks = c.marks.ensures w fs survey in
-    (_, (date_of, date_of_is, sound, marks, refl), c.in-Err-Device.ensures.err w fs survey date_of sound date_of_is marks)
-
-pub returns-in-Err-NoMemory-clause-ends : goal.returns-in-Err-NoMemory-clause-ends
-returns-in-Err-NoMemory-clause-ends g c = λ w fs survey.
-    let sound = mark_in c.args.survey.now in
-    let marks = c.marks.ensures w fs survey in
-    inr (_, (date_of, date_of_is, sound, marks, refl), c.in-Err-NoMemory.ensures.err w fs survey date_of sound date_of_is marks)
+    front_ends c.in-Err.fault _ (TellsFound v.image w fs) _ _ c.after_writing.ensures
+    (_, (date_of, date_of_is, sound, marks, refl), c.in-Err.ensures.err w fs survey date_of sound date_of_is marks)

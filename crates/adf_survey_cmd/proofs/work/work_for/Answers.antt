@@ -1,5 +1,11 @@
-use Rattle.std.proofs.Common.{rules}
+use Rattle.std.proofs.Common.{rules, ap}
+use Rattle.std.specs.Prelude.{Err}
+use Rattle.adf_cmd.proofs.WorkFaults.{no_path}
+use Rattle.adf_survey_cmd.specs.Answers.{HasBadSurveyPath}
+use Rattle.adf_survey_cmd.specs.CommandLine.{inquiry_value}
 use Rattle.adf_survey_cmd.proofs.work.work_for.Goals as goal
 
-pub returns-in-Err-BadText-clause-fault : goal.returns-in-Err-BadText-clause-fault
-returns-in-Err-BadText-clause-fault c = (c.in-Cat.path.now, search rules, rw c.as_bytes.ensures.value at (c.in-Err-BadText.ensures.bad_text.0 (cc)))
+pub returns-in_err-read_path-in-Cat-clause-fault : goal.returns-in_err-read_path-in-Cat-clause-fault
+returns-in_err-read_path-in-Cat-clause-fault c =
+    no_path c.from_residual.result c.in_err-read_path-in-Cat.field-0.0 (HasBadSurveyPath (inquiry_value c.args.inquiry)) c.from_residual.ensures.1
+    (λ bad. (c.in-Cat.path.now, search rules, rw c.as_bytes.ensures.value at (c.in_err-read_path-in-Cat.ensures.bad_text.0 (ap Err bad))))

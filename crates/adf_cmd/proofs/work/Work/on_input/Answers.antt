@@ -1,6 +1,9 @@
-use Rattle.adf_cmd.proofs.LongInputs.{read_works}
+use Rattle.adf_cmd.specs.Answers.{Answer, limit_of}
+use Rattle.std.proofs.Common.{Some}
+use Rattle.adf_cmd.proofs.LongInputs.{long_answers, read_ends}
 use Rattle.adf_cmd.proofs.work.Work.on_input.Goals as goal
 
-pub returns-in-Ok-clause-works : goal.returns-in-Ok-clause-works
-returns-in-Ok-clause-works g c = λ r serves.
-    read_works _ r _ _ _ _ (rw (c.limit.ensures.exact r serves) at c.in-Ok.ensures.all) (c.on_read.ensures.works r serves)
+pub returns-in-Ok-clause-ends : goal.returns-in-Ok-clause-ends
+returns-in-Ok-clause-ends g c = λ r serves.
+    read_ends _ (limit_of (Some r)) (Answer r) _ _ _ _ (λ bytes. long_answers r _ bytes) (rw (c.limit.ensures.exact r serves) at c.in-Ok.ensures.all)
+    (c.on_read.ensures.ends r serves)

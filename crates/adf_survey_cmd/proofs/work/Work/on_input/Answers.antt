@@ -1,6 +1,11 @@
-use Rattle.adf_survey_cmd.proofs.LongSurveys.{read_ends}
+use Rattle.std.proofs.Common.{◌*◌}
+use Rattle.adf_blocks.specs.declared.layout.TheConstants.{MOST_BLOCKS}
+use Rattle.adf_cmd.proofs.LongInputs.{read_ends}
+use Rattle.adf_survey_cmd.specs.Answers.{SurveyAnswer}
+use Rattle.adf_survey_cmd.proofs.LongSurveys.{long_answers}
 use Rattle.adf_survey_cmd.proofs.work.Work.on_input.Goals as goal
 
 pub returns-in-Ok-clause-ends : goal.returns-in-Ok-clause-ends
 returns-in-Ok-clause-ends g c = λ r meets.
-    read_ends _ r _ _ _ _ c.in-Ok.ensures.all (rw c.deref.ensures.value at (c.on.ensures.ends r meets))
+    read_ends _ (512 * MOST_BLOCKS) (SurveyAnswer r) _ _ _ _ (λ bytes. long_answers r _ bytes) c.in-Ok.ensures.all
+    (rw c.deref.ensures.value at (c.on.ensures.ends r meets))
