@@ -62,7 +62,7 @@ impl HeadBody {
 
 /// What a block that is known to be a header says beside its name and its body: the comment of byte 328, of a longer one the
 /// first 79 bytes, the protection of word 80 and the date of words 105 to 107.
-pub fn meta_of(b: &Block<'_>) -> Meta
+pub fn meta_told(b: &Block<'_>) -> Meta
     ensures told { result ≡ meta_told b.now }
     ensures whole { slice_index b.now COMMENT ≤ 79 → result ≡ meta_at b.now }
 {

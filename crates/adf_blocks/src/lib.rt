@@ -18,7 +18,7 @@ mod sizes;
 pub use crate::cause::Cause;
 pub use crate::data::{DataOut, read_data, write_data, written_data_are_read};
 pub use crate::ext::{Ext, ExtOut, read_ext, write_ext, written_exts_are_read};
-pub use crate::head::{Head, HeadBody, meta_of, read_head};
+pub use crate::head::{Head, HeadBody, meta_told, read_head};
 pub use crate::head_out::{HeadOut, HeadOutBody, write_head, written_heads_are_read};
 pub use crate::layout::{
     DATA_BYTES, DATA_HEAD, DATA_HELD, DATA_NEXT, DATA_NUMBER, DATA_ROOM, EXTENSION, FIRST_MAP_EXT,

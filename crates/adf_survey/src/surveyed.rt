@@ -23,7 +23,7 @@ use crate::file::SoundFile;
 use crate::header_name::name_in;
 use crate::opening::Opening;
 use crate::part::Finding;
-use adf_blocks::{HeadBody, SECONDARY_TYPE, ST_FILE, meta_of};
+use adf_blocks::{HeadBody, SECONDARY_TYPE, ST_FILE, meta_told};
 use adf_fields::{Block, NoMemory};
 use adf_tree::{Meta, Node};
 use adf_volume::open;
@@ -200,7 +200,7 @@ impl Survey<'_> {
             → IfSome result (λ x. x ≡ meta_told (block self.now.image (node_block w n))) }
     {
         match self.header(n) {
-            Some(head) => Some(meta_of(&head)),
+            Some(head) => Some(meta_told(&head)),
             None => None,
         }
     }

@@ -208,15 +208,6 @@ impl Tree {
         }
     }
 
-    /// The directory that an entry under this path is added to, or why it is not added.
-    pub fn room(&self, path: &[Name]) -> Result<Node, RoomFault>
-        requires { 0 < length path.now }
-        ensures { result ≡ room_for self.now.entries path.now }
-    {
-        let end = path.len() - 1;
-        room_for(&self.entries, &self.last_chain, &path[..end], &path[end])
-    }
-
     /// Adds an entry after all of its parent and slot. After a fault the tree is unchanged; of the
     /// faults that apply, `EmptyPath` comes first, then `NoParent` or `ParentIsFile`, then `Exists`.
     pub fn add(&mut self, path: &[Name], meta: Meta, body: Body) -> Result<(), AddFault>

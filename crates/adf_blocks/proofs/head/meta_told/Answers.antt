@@ -4,7 +4,7 @@ use Rattle.std.proofs.lemmas.Bool.{cases_lt}
 use Rattle.std.proofs.lemmas.List.{length-take, take-take, take_all}
 use Rattle.adf_blocks.specs.declared.layout.TheConstants.{COMMENT}
 use Rattle.adf_blocks.specs.Forms.{text_at}
-use Rattle.adf_blocks.proofs.head.meta_of.Goals as goal
+use Rattle.adf_blocks.proofs.head.meta_told.Goals as goal
 
 first_bytes : (xs : List ℕ) (n : ℕ) → take (min n 79) xs ≡ take 79 (take n xs)
 first_bytes xs n = elim (cases_lt 79 n) [
