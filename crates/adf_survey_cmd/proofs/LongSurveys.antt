@@ -1,9 +1,7 @@
 -- What is answered to the front of an input that is longer than the largest image is answered to the whole of it.
 -- Letters: w the walk of a survey, fs its findings; n an entry's node.
-use Rattle.std.proofs.Common.{◌≡◌, ◌<◌, ◌+◌, ◌*◌, ◌∙◌, ◌++◌, false, inl, inr, ℕ, List, [], ◌∷◌, Option, Some, None, IfSome, refl, ap, subst, arith}
-use Rattle.std.proofs.Common.{length, take, length-take}
-use Rattle.std.proofs.lemmas.Bool.{cases_lt}
-use Rattle.std.proofs.lemmas.List.{take_all}
+use Rattle.std.proofs.Common.{◌≡◌, ◌<◌, ◌*◌, ◌∙◌, ◌++◌, false, inl, inr, ℕ, List, [], ◌∷◌, None, refl, ap, subst}
+use Rattle.std.proofs.Common.{length}
 use Rattle.adf_blocks.specs.declared.layout.TheConstants.{MOST_BLOCKS}
 use Rattle.adf_blocks.specs.declared.cause.Cause.TheVariants.{BadSize}
 use Rattle.adf_volume.specs.Walk.{Role}
