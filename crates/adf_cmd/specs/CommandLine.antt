@@ -102,3 +102,8 @@ request_value (Convert k) = convert k
 abbrev pub ExplainsWords : WordsFault → List Text → Type 0
 ExplainsWords Usage words = AreRefused words
 ExplainsWords NoMemory words = Unit {0}
+
+-- the text of the fault
+abbrev pub words_fault_text : WordsFault → List ℕ
+words_fault_text Usage = codes "bad words"
+words_fault_text NoMemory = codes "no memory"

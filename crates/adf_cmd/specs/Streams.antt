@@ -1,8 +1,8 @@
 -- What whole reads and writes take and add.
-use Rattle.std.specs.Prelude.{◌≡◌, ℕ, ◌≤◌, Bool, true, false, List, ◌++◌, length, take, Option, IfSome, Result, Err}
+use Rattle.std.specs.Prelude.{◌≡◌, ℕ, ◌≤◌, Bool, true, false, List, ◌++◌, length, take, Option, IfSome, Result, Err, codes}
 use Rattle.std.specs.Io.KnownBytes.{Appends, Consumes}
 use Rattle.adf_cmd.specs.declared.streams.StreamFault.{StreamFault}
-use Rattle.adf_cmd.specs.declared.streams.StreamFault.TheVariants.{Device}
+use Rattle.adf_cmd.specs.declared.streams.StreamFault.TheVariants.{Device, NoMemory}
 
 -- at most n of the known bytes were taken
 abbrev pub TakesAtMost : ℕ → Option (List ℕ) → Option (List ℕ) → Type 0
@@ -25,6 +25,11 @@ Says true old new text = AppendsPart old new text
 abbrev pub is_device : {T : Type 0} → Result T StreamFault → Bool
 is_device (Err Device) = true
 is_device _ = false
+
+-- the text of the fault
+abbrev pub stream_fault_text : StreamFault → List ℕ
+stream_fault_text Device = codes "device failed"
+stream_fault_text NoMemory = codes "no memory"
 
 -- of `done`, all but the text that waits is written
 abbrev pub Pending : Option (List ℕ) → Option (List ℕ) → List ℕ → List ℕ → Type 0

@@ -34,3 +34,9 @@ abbrev pub refusal_line : List ℕ → WorkFault → List ℕ
 refusal_line usage Usage = usage
 refusal_line usage BadPath = codes "bad path\n"
 refusal_line usage NoMemory = codes "no memory\n"
+
+-- the text of the fault
+abbrev pub work_fault_text : WorkFault → List ℕ
+work_fault_text Usage = codes "bad words"
+work_fault_text BadPath = codes "bad path"
+work_fault_text NoMemory = codes "no memory"

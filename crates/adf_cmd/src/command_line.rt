@@ -9,6 +9,8 @@ use adf_tree::Kind;
 use clap::error::ErrorKind;
 use clap::{Arg, ArgAction, ArgMatches, Command};
 use std::alloc::{AllocError, Global};
+use std::error::Error;
+use std::fmt;
 
 /// What a command line asks for.
 #[derive(Clone, Copy, Debug)]
@@ -29,6 +31,22 @@ pub enum WordsFault {
     /// Memory was refused.
     NoMemory,
 }
+
+impl fmt::Display for WordsFault {
+    ghost use Rattle.std.specs.Prelude.{Some};
+    ghost use Rattle.adf_cmd.specs.CommandLine.{words_fault_text};
+
+    ghost output = { λ x. Some (words_fault_text x) };
+
+    fn fmt<W: fmt::Write>(&self, f: &mut fmt::Formatter<W>) -> fmt::Result {
+        f.write_str(match self {
+            WordsFault::Usage => "bad words",
+            WordsFault::NoMemory => "no memory",
+        })
+    }
+}
+
+impl Error for WordsFault {}
 
 /// The command `cat PATH`. `AllocError` where memory was refused.
 pub fn cat_command<'a>(alloc: Global) -> Result<Command<'a>, AllocError>

@@ -5,11 +5,25 @@ ghost use Rattle.std.specs.Io.{ReadsAtMost, WritesAtMost};
 ghost use Rattle.std.specs.Io.KnownBytes.{ReadConsumes, WriteAppends};
 ghost use Rattle.adf_cmd.specs.Devices.{write_fails};
 
+use std::error::Error;
+use std::fmt;
 use std::io::{Read, Write};
 
 /// A device answered an error.
 #[derive(Clone, Copy, Debug, PartialEq, Eq)]
 pub struct Failed;
+
+impl fmt::Display for Failed {
+    ghost use Rattle.std.specs.Prelude.{Some, codes};
+
+    ghost output = { λ _. Some (codes "device failed") };
+
+    fn fmt<W: fmt::Write>(&self, f: &mut fmt::Formatter<W>) -> fmt::Result {
+        f.write_str("device failed")
+    }
+}
+
+impl Error for Failed {}
 
 /// What gives bytes.
 pub trait Source {

@@ -6,6 +6,8 @@ ghost use Rattle.adf_cmd.specs.Streams.{AppendsPart, AreFirst, KeepsPending, Say
 
 use crate::devices::{Failed, Sink, Source};
 use std::alloc::{AllocError, Global};
+use std::error::Error;
+use std::fmt;
 
 /// Why a whole read or write stopped.
 #[derive(Clone, Copy, Debug, PartialEq, Eq)]
@@ -15,6 +17,22 @@ pub enum StreamFault {
     /// Memory was refused.
     NoMemory,
 }
+
+impl fmt::Display for StreamFault {
+    ghost use Rattle.std.specs.Prelude.{Some};
+    ghost use Rattle.adf_cmd.specs.Streams.{stream_fault_text};
+
+    ghost output = { λ x. Some (stream_fault_text x) };
+
+    fn fmt<W: fmt::Write>(&self, f: &mut fmt::Formatter<W>) -> fmt::Result {
+        f.write_str(match self {
+            StreamFault::Device => "device failed",
+            StreamFault::NoMemory => "no memory",
+        })
+    }
+}
+
+impl Error for StreamFault {}
 
 impl From<Failed> for StreamFault {
     ghost use Rattle.adf_cmd.specs.declared.streams.StreamFault.TheVariants.{Device};

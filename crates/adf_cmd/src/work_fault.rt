@@ -8,6 +8,8 @@ use crate::command_line::WordsFault;
 use crate::devices::Sink;
 use crate::streams::say;
 use adf_tree::PathFault;
+use std::error::Error;
+use std::fmt;
 
 /// Why no work is begun.
 #[derive(Clone, Copy, Debug, PartialEq, Eq)]
@@ -19,6 +21,23 @@ pub enum WorkFault {
     /// Memory was refused.
     NoMemory,
 }
+
+impl fmt::Display for WorkFault {
+    ghost use Rattle.std.specs.Prelude.{Some};
+    ghost use Rattle.adf_cmd.specs.WorkFaults.{work_fault_text};
+
+    ghost output = { λ x. Some (work_fault_text x) };
+
+    fn fmt<W: fmt::Write>(&self, f: &mut fmt::Formatter<W>) -> fmt::Result {
+        f.write_str(match self {
+            WorkFault::Usage => "bad words",
+            WorkFault::BadPath => "bad path",
+            WorkFault::NoMemory => "no memory",
+        })
+    }
+}
+
+impl Error for WorkFault {}
 
 impl From<WordsFault> for WorkFault {
     ghost use Rattle.adf_cmd.specs.WorkFaults.{words_refused};
