@@ -5,14 +5,11 @@ ghost use Rattle.adf_cmd.specs.Answers.{Answers, AnswersPart, AsksBadPath, IsUna
 ghost use Rattle.adf_cmd.specs.CommandLine.{AreRefused, request_of, texts_of};
 ghost use Rattle.adf_cmd.specs.Streams.{Says, TakesAtMost};
 
+use crate::command_line::USAGE;
 use crate::devices::{Sink, Source};
 use crate::work::work_of;
 use crate::work_fault::WorkFault;
 use std::alloc::Global;
-
-const USAGE: &str =
-    "usage: adf check < IMAGE\n       adf list < IMAGE\n       adf cat PATH < IMAGE\n       adf build [--list] < MANIFEST\n\
-    \x20      adf convert ofs|ffs < IMAGE\nan image or a manifest comes on standard input; man adf tells more\n";
 
 /// Says on errors which words are taken, and answers the status of others, 2.
 pub fn refuse_words<E: Sink>(errors: &mut E) -> u8

@@ -10,6 +10,10 @@ use clap::error::ErrorKind;
 use clap::{ArgMatches, Command};
 use std::alloc::{AllocError, Global};
 
+/// What is said of words that are refused.
+pub const USAGE: &str =
+    "usage: adf-survey [--list] < IMAGE\n       adf-survey cat PATH < IMAGE\nan image comes on standard input; man adf-survey tells more\n";
+
 /// What a command line asks for.
 #[derive(Clone, Copy, Debug)]
 pub enum Inquiry<'a> {

@@ -8,12 +8,10 @@ ghost use Rattle.adf_cmd.specs.Streams.{Says, TakesAtMost};
 ghost use Rattle.adf_survey_cmd.specs.Answers.{AsksBadSurveyPath, InquiriesHaveOneAnswer, IsUnansweredBySurvey, SurveyAnswers, SurveyAnswersPart, WordsAskForOneInquiry, survey_usage};
 ghost use Rattle.adf_survey_cmd.specs.CommandLine.{AreRefusedBySurvey};
 
+use crate::command_line::USAGE;
 use crate::work::work_of;
 use adf_cmd::{MOST_IMAGE_BYTES, Ran, Sink, Source, WorkFault};
 use std::alloc::Global;
-
-const USAGE: &str =
-    "usage: adf-survey [--list] < IMAGE\n       adf-survey cat PATH < IMAGE\nan image comes on standard input; man adf-survey tells more\n";
 
 /// Says on errors which words are taken, and answers the status of others, 2.
 pub fn refuse_words<E: Sink>(errors: &mut E) -> u8

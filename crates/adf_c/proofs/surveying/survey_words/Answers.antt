@@ -1,6 +1,6 @@
-use Rattle.std.proofs.Common.{◌≡◌, List, ℕ}
+use Rattle.std.proofs.Common.{◌≡◌, List, ℕ, false}
 use Rattle.adf_cmd.specs.CommandLine.{texts_of}
-use Rattle.adf_survey_cmd.specs.Answers.{IsUnansweredBySurvey, SurveyAnswers}
+use Rattle.adf_survey_cmd.specs.Answers.{IsUnansweredBySurvey, SurveyAnswers, SurveyAnswersPart}
 use Rattle.adf_survey_cmd.specs.CommandLine.{AreRefusedBySurvey}
 use Rattle.adf_c.specs.Words.{AreWords}
 use Rattle.adf_c.proofs.WordParts.{along, read_as}
@@ -40,3 +40,12 @@ returns-in-Ok-clause-refused g c is all =
     let texts : List (List ℕ) = texts_of c.deref.result.now in
     let read : AreWords words texts = read_as words c.deref.result.now c.in-Ok.texts.items c.deref.ensures.value c.in-Ok.ensures.ok in
     c.run_on.ensures.refused is (all texts read)
+
+pub returns-in-Ok-clause-part : goal.returns-in-Ok-clause-part
+returns-in-Ok-clause-part g c is ws are =
+    let words : List ℕ = c.args.words.now in
+    let texts : List (List ℕ) = texts_of c.deref.result.now in
+    let read : AreWords words texts = read_as words c.deref.result.now c.in-Ok.texts.items c.deref.ensures.value c.in-Ok.ensures.ok in
+    let o = g.W.Sink.held c.args.output.now in
+    let o' = g.W.Sink.held c.run_on.new.output in
+    along words texts ws (λ x. SurveyAnswersPart x false c.args.input.now o o') read are (c.run_on.ensures.part is)
