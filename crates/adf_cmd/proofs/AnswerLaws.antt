@@ -1,5 +1,5 @@
 -- From outcomes to answers.
-use Rattle.std.proofs.Common.{◌≡◌, ◌∙◌, ◌<◌, ◌-◌, ap, inl, inr, ℕ, Bool, false, List, [], Option, Some, None, IfSome, refl, sym, subst, arith}
+use Rattle.std.proofs.Common.{◌≡◌, ◌∙◌, ap, inl, inr, ℕ, Bool, false, List, [], Option, Some, None, IfSome, refl, sym, subst, arith}
 use Rattle.std.specs.Prelude.{codes, string_bytes}
 use Rattle.adf_fields.proofs.DateTexts.{date_of, date_of_is}
 use Rattle.adf_tree.specs.PathTexts.{IsPathText}
@@ -9,13 +9,16 @@ use Rattle.adf_blocks.specs.Sizes.{blocks}
 use Rattle.adf_volume.specs.Fits.{Fits}
 use Rattle.adf_volume.specs.Layout.{Layout}
 use Rattle.adf_volume.specs.Walk.{FirstFault}
+use Rattle.adf_build.specs.Laid.{IsLaid, volume}
+use Rattle.adf_build.specs.Plan.{planned}
+use Rattle.adf_build.specs.Building.{IsBuildable}
 use Rattle.adf_check.specs.Pieces.{bytes_of}
 use Rattle.adf_check.specs.declared.fault.Fault.{Fault}
 use Rattle.adf_cmd.specs.Answers.{Answer, BuildsOrIsFull, Copies, GetsAnswer, GetsFront, IsBuilt, RefusesImage, Reply, WritesFront}
 use Rattle.adf_cmd.specs.Answers.{contents_at, on_errors, on_output}
 use Rattle.adf_cmd.specs.CommandLine.{build, cat, check, convert, list}
 use Rattle.adf_manifest.specs.Manifest.{ExplainsFault, IsManifest}
-use Rattle.adf_cmd.specs.Outcomes.{EndsBy, IsFaultOutcome, IsFullOutcome, IsRefusedImage}
+use Rattle.adf_cmd.specs.Outcomes.{EndsBy, IsFaultOutcome, IsRefusedImage}
 use Rattle.adf_cmd.specs.Outcomes.{after_writing, is_read_fault, outcome_line, status_of}
 use Rattle.adf_cmd.specs.Streams.{Says}
 use Rattle.adf_cmd.specs.WorkFaults.{IsNoWork, refusal_line, refusal_status}
@@ -28,9 +31,6 @@ use Rattle.adf_cmd.specs.declared.outcome.Outcome.{Outcome}
 use Rattle.adf_cmd.specs.declared.outcome.Outcome.TheVariants.{Refused, ReadFault, WriteFault, NoMemory}
 use Rattle.adf_cmd.specs.declared.streams.StreamFault.{StreamFault}
 use Rattle.adf_cmd.specs.declared.streams.StreamFault.TheVariants.{Device, NoMemory as StreamNoMemory}
-use Rattle.adf_build.specs.Laid.{IsLaid, volume}
-use Rattle.adf_build.specs.Plan.{blocks_needed, planned}
-use Rattle.adf_build.specs.Building.{IsBuildable, need_of}
 use Rattle.adf_cmd.proofs.PendingText.{appends_nil}
 
 -- the line of the first fault of an image answers `check`
@@ -79,13 +79,6 @@ is_built image tree n e room laid fits = record {
   laid = subst (λ i. IsLaid i tree) e laid;
   fits = subst (λ i. Fits i tree (planned tree n)) e fits;
 }
-
--- saying that a tree needs more blocks than there are answers what builds it
-pub full_ends : (w : Outcome) (lines : Bool) (tree : Tree) (n : ℕ) (o : Option (List ℕ)) → n - 2 < blocks_needed tree n
-    → IsFullOutcome (need_of tree n) (n - 2) w → EndsBy (BuildsOrIsFull lines tree n) w o o
-full_ends (Refused line) lines tree n o full h = ([], inr (full, ap (on_errors 1) h), appends_nil o)
-full_ends NoMemory lines tree n o full h = inl (appends_nil o)
-full_ends _ lines tree n o full h = absurd h
 
 -- what builds the tree of a manifest answers its building
 pub build_ends : (w : Outcome) (lines : Bool) (input : List ℕ) (tree : Tree) (n : ℕ) (o o' : Option (List ℕ)) → IsManifest input tree n

@@ -8,18 +8,19 @@ use Rattle.adf_survey_cmd.proofs.runner.run_on.Goals as goal
 pub returns-in-Ok-clause-answer : goal.returns-in-Ok-clause-answer
 returns-in-Ok-clause-answer g c = λ taken not_three.
     let (r, asks, meets) = c.in-Ok.ensures.ok in
-    left_answers (AsksSurvey (texts_of c.args.words.now)) SurveyAnswer c.on.result r (Some c.args.input.now) _ _ _ _ _ _ asks c.finish.ensures.status not_three
-    (c.on.ensures.ends r meets) c.finish.ensures.said
+    left_answers (AsksSurvey (texts_of c.args.words.now)) SurveyAnswer c.on.result r (Some c.args.input.now) _ _ _ _ _ _ asks
+    c.finish.ensures.status not_three (c.on.ensures.ends r meets) c.finish.ensures.said
 
 pub returns-in-Ok-clause-part : goal.returns-in-Ok-clause-part
 returns-in-Ok-clause-part g c = λ three.
     let (r, asks, meets) = c.in-Ok.ensures.ok in
-    left_front (AsksSurvey (texts_of c.args.words.now)) SurveyAnswer c.on.result r (Some c.args.input.now) _ _ _ _ asks c.finish.ensures.status (sym c.on.ensures.read) three
-    (c.on.ensures.ends r meets)
+    left_front (AsksSurvey (texts_of c.args.words.now)) SurveyAnswer c.on.result r (Some c.args.input.now) _ _ _ _ asks
+    c.finish.ensures.status (sym c.on.ensures.read) three (c.on.ensures.ends r meets)
 
 pub returns-in-Err-clause-answer : goal.returns-in-Err-clause-answer
 returns-in-Err-clause-answer g c = λ taken not_three.
     let words = texts_of c.args.words.now in
-    no_work_answers (AsksSurvey words) SurveyAnswer c.in-Err.fault (AreRefusedBySurvey words) (AsksBadSurveyPath words) _ (Some c.args.input.now) _ _ _ _ _
-    c.in-Err.ensures.fault (λ asked. let (path, asks, bad) = asked in (cat path, asks, λ input. inl (bad, refl))) c.refuse.ensures.status taken
-    not_three c.refuse.ensures.said
+    no_work_answers (AsksSurvey words) SurveyAnswer c.in-Err.fault (AreRefusedBySurvey words) (AsksBadSurveyPath words) _
+    (Some c.args.input.now) _ _ _ _ _ c.in-Err.ensures.fault
+    (λ asked. let (path, asks, bad) = asked in (cat path, asks, λ input. inl (bad, refl))) c.refuse.ensures.status taken not_three
+    c.refuse.ensures.said
