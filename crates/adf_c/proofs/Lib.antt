@@ -2,6 +2,7 @@
 pub mod Filled
 pub mod Rooms
 pub mod WordParts
+pub mod MemoryWords
 -- what is told of a volume, and of a fault
 pub mod CheckedVolumes
 pub mod ToldCauses

@@ -1,10 +1,11 @@
 -- Rooms that C gives: filled from the front, and what stands in them whatever their names.
-use Rattle.std.specs.Prelude.{◌≡◌, ◌⊎◌, ◌+◌, ◌≤◌, ◌<◌, ℕ, List, length, get_or, set, Bool, true, false, [], ◌∷◌, ◌++◌, Option, Some}
-use Rattle.std.proofs.Common.{refl, sym, subst, arith, inl, inr, ◌∙◌, ap}
+use Rattle.std.specs.Prelude.{◌≡◌, ◌+◌, ◌≤◌, ◌<◌, ℕ, List, length, get_or, set, Bool, true, false, [], ◌∷◌, ◌++◌, Some}
+use Rattle.std.proofs.Common.{rules, sym, subst, arith, inl, inr, ◌∙◌, ap}
+use Rattle.std.proofs.lemmas.Bool.{cases_lt}
 use Rattle.std.proofs.lemmas.List.{get_or-set_same, get_or-set_other, length-set}
 use borrow.Author.Count.{below_more}
 use Rattle.std.specs.Io.KnownBytes.{Appends}
-use Rattle.adf_cmd.specs.Answers.{Reply}
+use Rattle.adf_cmd.specs.Commands.{Command, IsUnanswered, RunEnds}
 use Rattle.adf_cmd.specs.Streams.{AppendsPart, Says}
 
 -- what holds of each byte before place i, and of the one that is put there, holds of each byte up to it
@@ -36,41 +37,65 @@ said true n n' k e text empty (part, rest, whole, h) =
     let here = appended n n' k e part empty h in
     (here.0, (part, rest, whole, here.1))
 
--- the same where the room is the caller's
-pub told : (failed failed' : Bool) (m m' : ℕ) (l e e' text : List ℕ) → l ≡ [] → Says failed (Some (m ∷ l)) (Some (m' ∷ e)) text
-    → (m' ≡ m → e ≡ e') → failed ≡ failed' → Says failed' (Some []) (Some e') text
-told failed failed' m m' l e e' text none says room same =
-    let there = said failed m m' l e text none says in
-    let kept : Says failed (Some []) (Some e') text = subst (λ (x : List ℕ). Says failed (Some []) (Some x) text) (room there.0) there.1 in
-    subst (λ (b : Bool). Says b (Some []) (Some e') text) same kept
+-- a run into rooms, of which each is told by its name and what stands in it, and that were empty
+module _ {Words : Type 0} (c : Command Words) (words : Words) (input : List ℕ) (n : ℕ) (no_output no_errors : Bool) (m m' l l' : ℕ)
+    (k o j e : List ℕ) (none_o : k ≡ []) (none_e : j ≡ [])
+    (ends : RunEnds c words (Some input) false n no_output (Some (m ∷ k)) (Some (m' ∷ o)) no_errors (Some (l ∷ j)) (Some (l' ∷ e))) where
+  -- what was said is all that stands in the room for errors
+  told : (text : List ℕ) → Says no_errors (Some (l ∷ j)) (Some (l' ∷ e)) text → Says no_errors (Some []) (Some e) text
+  told text says = (said no_errors l l' j e text none_e says).1
 
--- what was asked is answered, and a front part of an answer was put
-abbrev IsAnswered : (A : Type 0) → (A → Type 0) → (A → Reply → Type 0) → ℕ → Option (List ℕ) → Option (List ℕ) → Bool → Option (List ℕ) → Option (List ℕ)
-    → Type 0
-IsAnswered A asks answer status o o' failed e e' =
-    (r : A) × asks r × (reply : Reply) × (reply.status ≡ status) × answer r reply × Appends o o' reply.output × Says failed e e' reply.errors
+  -- and so for output
+  put : (bytes : List ℕ) → Appends (Some (m ∷ k)) (Some (m' ∷ o)) bytes → Appends (Some []) (Some o) bytes
+  put bytes h = (appended m m' k o bytes none_o h).1
 
-abbrev IsFrontPut : (Reply → Type 0) → Option (List ℕ) → Option (List ℕ) → Type 0
-IsFrontPut answers o o' = (reply : Reply) × answers reply × AppendsPart o o' reply.output
+  -- and so for a front part of it
+  put_front : (whole : List ℕ) → AppendsPart (Some (m ∷ k)) (Some (m' ∷ o)) whole → AppendsPart (Some []) (Some o) whole
+  put_front whole h = (said true m m' k o whole none_o h).1
 
-abbrev IsPartPut : (A : Type 0) → (A → Type 0) → (A → Reply → Type 0) → Option (List ℕ) → Option (List ℕ) → Type 0
-IsPartPut A asks answer o o' = Appends o o' [] ⊎ ((r : A) × asks r × IsFrontPut (answer r) o o')
+  -- the run ends so in rooms without names
+  room_ends : RunEnds c words (Some input) false n no_output (Some []) (Some o) no_errors (Some []) (Some e)
+  room_ends =
+      search (rules, put, told, put_front, ends.answer, ends.answered, ends.usage, ends.bad_path, ends.refused, ends.failure, ends.part)
 
--- and of a front part of an answer
-pub part_told : (A : Type 0) (asks : A → Type 0) (answer : A → Reply → Type 0) (n n' : ℕ) (k o o' : List ℕ) → k ≡ []
-    → IsPartPut A asks answer (Some (n ∷ k)) (Some (n' ∷ o)) → (n' ≡ n → o ≡ o') → IsPartPut A asks answer (Some []) (Some o')
-part_told A asks answer n n' k o o' none (inl nothing) room =
-    let there = appended n n' k o [] none nothing in
-    inl (sym (room there.0) ∙ there.1)
-part_told A asks answer n n' k o o' none (inr (r, asked, (reply, answers, put))) room =
-    inr (r, asked, (reply, answers, told true true n n' k o o' reply.output none put room refl))
+  -- the room for output is kept to, if it is where nothing is answered
+  output_kept : (IsUnanswered c words → m' ≡ m) → m' ≡ m
+  output_kept same = elim (cases_lt n 2) [
+    | inl low ↦
+        let (r, asks, reply, is, answers, written, says) =
+        ends.answer (λ refused. ends.answered (λ two. omega arith) (λ three. omega arith) (inl refused)) (λ three. omega arith) in
+        (appended m m' k o reply.output none_o written).0
+    | inr high ↦ elim (cases_lt n 3) [
+      | inl two ↦ same (ends.usage (omega arith))
+      | inr three ↦ elim (ends.part (let most = ends.status in omega arith)) [
+        | inl nothing ↦ (appended m m' k o [] none_o nothing).0
+        | inr (r, asks, (reply, answers, front)) ↦ (said true m m' k o reply.output none_o front).0
+      ]
+    ]
+  ]
 
--- and of an answer
-pub answered : (A : Type 0) (asks : A → Type 0) (answer : A → Reply → Type 0) (status n n' m m' : ℕ) (k l o o' e e' : List ℕ) (failed failed' : Bool)
-    → k ≡ [] → l ≡ []
-    → IsAnswered A asks answer status (Some (n ∷ k)) (Some (n' ∷ o)) failed (Some (m ∷ l)) (Some (m' ∷ e))
-    → (n' ≡ n → o ≡ o') → (m' ≡ m → e ≡ e') → failed ≡ failed'
-    → IsAnswered A asks answer status (Some []) (Some o') failed' (Some []) (Some e')
-answered A asks answer status n n' m m' k l o o' e e' failed failed' none_o none_e (r, asked, reply, is, answers, put, says) room_o room_e same =
-    let there = appended n n' k o reply.output none_o put in
-    (r, asked, reply, is, answers, sym (room_o there.0) ∙ there.1, told failed failed' m m' l e e' reply.errors none_e says room_e same)
+  -- and so is that for errors
+  errors_kept : l' ≡ l
+  errors_kept = elim (cases_lt n 2) [
+    | inl low ↦
+        let (r, asks, reply, is, answers, written, says) =
+        ends.answer (λ refused. ends.answered (λ two. omega arith) (λ three. omega arith) (inl refused)) (λ three. omega arith) in
+        (said no_errors l l' j e reply.errors none_e says).0
+    | inr high ↦ elim (cases_lt n 3) [
+      | inl two ↦
+          let at : n ≡ 2 = omega arith in
+          elim (ends.usage at) [
+            | inl refused ↦ (said no_errors l l' j e _ none_e (ends.refused at refused)).0
+            | inr bad ↦ (said no_errors l l' j e _ none_e (ends.bad_path at bad)).0
+          ]
+      | inr three ↦
+          let most = ends.status in
+          (said no_errors l l' j e _ none_e (ends.failure (omega arith))).0
+    ]
+  ]
+
+  -- the run ends so in the caller's rooms, which are these where they have the same names
+  pub moved_ends : (no_output' no_errors' : Bool) (o' e' : List ℕ) → (IsUnanswered c words → m' ≡ m) → (m' ≡ m → o ≡ o') → (l' ≡ l → e ≡ e')
+      → no_output ≡ no_output' → no_errors ≡ no_errors' → RunEnds c words (Some input) false n no_output' (Some []) (Some o') no_errors' (Some []) (Some e')
+  moved_ends no_output' no_errors' o' e' same room_o room_e written told =
+      rw (← written, ← told, ← room_o (output_kept same), ← room_e errors_kept) room_ends

@@ -1,6 +1,11 @@
 -- Rooms that are filled from the front.
-use Rattle.std.specs.Prelude.{List, ◌++◌, length, take, drop}
+use Rattle.std.specs.Prelude.{◌≡◌, ◌≤◌, ℕ, Bool, true, List, ◌++◌, length, take, drop}
 
 -- a room with these at its front, as many as there is room for, and behind them as it was
 abbrev pub filled : {X : Type 0} → List X → List X → List X
 filled xs room = take (length room) xs ++ drop (length xs) room
+
+-- so many bytes stand at the front of a room, and fill it where it had too little
+pub record StandIn (n : ℕ) (had_too_little : Bool) (room : List ℕ) : Type 0 where
+  pub within : n ≤ length room
+  pub filled : had_too_little ≡ true → n ≡ length room

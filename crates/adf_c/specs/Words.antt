@@ -2,6 +2,7 @@
 use Rattle.std.specs.Prelude.{◌≡◌, ◌==◌, ℕ, List, [], ◌∷◌, ◌++◌, Bool, All}
 use Rattle.std.specs.List.{slice_split}
 use Rattle.std.specs.Str.{IsUtf8}
+use Rattle.adf_cmd.specs.Commands.{Command}
 
 -- whether a byte is zero
 abbrev pub is_zero : ℕ → Bool
@@ -23,3 +24,15 @@ ForWords bytes holds = (words : List (List ℕ)) → AreWords bytes words → ho
 -- the bytes are no words
 abbrev pub AreNoWords : List ℕ → Type 0
 AreNoWords bytes = (words : List (List ℕ)) → ¬ AreWords bytes words
+
+-- the same command where the bytes in memory are its words: bytes that are none are refused
+abbrev pub in_memory : Command (List (List ℕ)) → Command (List ℕ)
+in_memory c = record {
+  Request = c.Request;
+  asks = λ bytes r. (words : List (List ℕ)) × AreWords bytes words × c.asks words r;
+  refuses = λ bytes. ForWords bytes c.refuses;
+  asks_bad_path = λ bytes. (words : List (List ℕ)) × AreWords bytes words × c.asks_bad_path words;
+  answer = c.answer;
+  limit = c.limit;
+  usage = c.usage;
+}

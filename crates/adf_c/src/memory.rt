@@ -1,6 +1,6 @@
 // Sinks in the caller's memory.
 
-ghost use Rattle.std.specs.Prelude.{◌≡◌, ◌≤◌, ◌∷◌, Some, false, length, min, take};
+ghost use Rattle.std.specs.Prelude.{◌≡◌, ◌≤◌, ◌∷◌, Some, false, length, min, take, true};
 
 use adf_cmd::{Failed, Sink};
 
@@ -11,6 +11,7 @@ pub struct CallerMemory<'a> {
     taken: usize,
     full: bool,
     ghost within: { taken ≤ length room.now },
+    ghost filled: { full ≡ true → taken ≡ length room.now },
 }
 
 impl<'a> CallerMemory<'a> {

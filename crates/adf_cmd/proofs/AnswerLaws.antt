@@ -1,6 +1,6 @@
 -- From outcomes to answers.
-use Rattle.std.proofs.Common.{◌≡◌, ◌∙◌, ap, inl, inr, ℕ, Bool, false, List, [], Option, Some, None, IfSome, refl, sym, subst, arith}
-use Rattle.std.specs.Prelude.{codes, string_bytes}
+use Rattle.std.proofs.Common.{◌≡◌, ap, inl, inr, ℕ, Bool, false, List, [], Option, Some, refl, sym, subst}
+use Rattle.std.specs.Prelude.{string_bytes}
 use Rattle.adf_fields.proofs.DateTexts.{date_of, date_of_is}
 use Rattle.adf_tree.specs.PathTexts.{IsPathText}
 use Rattle.adf_tree.specs.Tree.{Tree, entry, find, with_kind}
@@ -14,16 +14,11 @@ use Rattle.adf_build.specs.Plan.{planned}
 use Rattle.adf_build.specs.Building.{IsBuildable}
 use Rattle.adf_check.specs.Pieces.{bytes_of}
 use Rattle.adf_check.specs.declared.fault.Fault.{Fault}
-use Rattle.adf_cmd.specs.Answers.{Answer, BuildsOrIsFull, Copies, GetsAnswer, GetsFront, IsBuilt, RefusesImage, Reply, WritesFront}
-use Rattle.adf_cmd.specs.Answers.{contents_at, on_errors, on_output}
+use Rattle.adf_cmd.specs.Answers.{Answer, BuildsOrIsFull, Copies, IsBuilt, RefusesImage, contents_at}
+use Rattle.adf_cmd.specs.Commands.{Reply, WritesFront, on_errors, on_output}
 use Rattle.adf_cmd.specs.CommandLine.{build, cat, check, convert, list}
 use Rattle.adf_manifest.specs.Manifest.{ExplainsFault, IsManifest}
-use Rattle.adf_cmd.specs.Outcomes.{EndsBy, IsFaultOutcome, IsRefusedImage}
-use Rattle.adf_cmd.specs.Outcomes.{after_writing, is_read_fault, outcome_line, status_of}
-use Rattle.adf_cmd.specs.Streams.{Says}
-use Rattle.adf_cmd.specs.WorkFaults.{IsNoWork, refusal_line, refusal_status}
-use Rattle.adf_cmd.specs.declared.work_fault.WorkFault.{WorkFault}
-use Rattle.adf_cmd.specs.declared.work_fault.WorkFault.TheVariants.{BadPath, NoMemory as WorkNoMemory, Usage}
+use Rattle.adf_cmd.specs.Outcomes.{EndsBy, IsFaultOutcome, IsRefusedImage, after_writing, outcome_line, status_of}
 use Rattle.adf_texts.specs.Lines.{fault_line}
 use Rattle.adf_texts.specs.VolumeLines.{volume_lines}
 use Rattle.adf_manifest.specs.declared.manifest.ManifestFault.{ManifestFault}
@@ -109,52 +104,3 @@ pub copy_ends : (w : Outcome) (path : List ℕ) (names : List (List ℕ)) (image
     → IsPathText path names → Fits image t l → EndsBy (Copies (contents_at t names)) w o o' → EndsBy (Answer (cat path) image) w o o'
 copy_ends w path names image t l o o' text fits h =
     ends_weaker (Copies (contents_at t names)) (Answer (cat path) image) w o o' (λ reply copies. inr (inl (names, text, t, l, fits, copies))) h
-
--- what is asked for, and the answers to it
-module _ {R : Type 0} (asks : R → Type 0) (answer : R → List ℕ → Reply → Type 0) where
-  -- an outcome at a status other than 3 is an answer
-  outcome_answers : (w : Outcome) (r : R) (input : List ℕ) (o o' e e' : Option (List ℕ)) (failed : Bool) → asks r → ¬ (status_of w ≡ 3)
-      → EndsBy (answer r input) w o o' → Says failed e e' (outcome_line w) → GetsAnswer asks answer input (status_of w) o o' failed e e'
-  outcome_answers ReadFault r input o o' e e' failed asked ne h said = absurd (ne refl)
-  outcome_answers WriteFault r input o o' e e' failed asked ne h said = absurd (ne refl)
-  outcome_answers NoMemory r input o o' e e' failed asked ne h said = absurd (ne refl)
-  outcome_answers w r input o o' e e' failed asked ne h said =
-      (r, asked, record { status = status_of w; output = h.0; errors = outcome_line w }, refl, h.1, h.2, said)
-
-  -- and so for what is left of an input, where that is known
-  pub left_answers : (w : Outcome) (r : R) (left o o' e e' : Option (List ℕ)) (failed : Bool) (status : ℕ) → asks r
-      → status ≡ status_of w → ¬ (status ≡ 3) → IfSome left (λ input. EndsBy (answer r input) w o o') → Says failed e e' (outcome_line w)
-      → IfSome left (λ input. GetsAnswer asks answer input status o o' failed e e')
-  left_answers w r None o o' e e' failed status asked s ne h said = tt
-  left_answers w r (Some input) o o' e e' failed status asked s ne h said =
-      rw s (outcome_answers w r input o o' e e' failed asked (λ three. ne (s ∙ three)) h said)
-
-  -- an outcome at status 3 leaves a front part of an answer
-  outcome_front : (w : Outcome) (r : R) (input : List ℕ) (o o' : Option (List ℕ)) → asks r → status_of w ≡ 3
-      → EndsBy (answer r input) w o o' → GetsFront asks answer (is_read_fault w) input o o'
-  outcome_front ReadFault r input o o' asked three h = h
-  outcome_front WriteFault r input o o' asked three h = inr (r, asked, h)
-  outcome_front NoMemory r input o o' asked three (inl h) = inl h
-  outcome_front NoMemory r input o o' asked three (inr h) = inr (r, asked, h)
-  outcome_front _ r input o o' asked three h = absurd (omega arith)
-
-  pub left_front : (w : Outcome) (r : R) (left o o' : Option (List ℕ)) (failed : Bool) (status : ℕ) → asks r
-      → status ≡ status_of w → failed ≡ is_read_fault w → status ≡ 3 → IfSome left (λ input. EndsBy (answer r input) w o o')
-      → IfSome left (λ input. GetsFront asks answer failed input o o')
-  left_front w r None o o' failed status asked s f three h = tt
-  left_front w r (Some input) o o' failed status asked s f three h = rw f (outcome_front w r input o o' asked (sym s ∙ three) h)
-
-  -- a request whose path is not read has this answer, whatever the input
-  abbrev pub RefusesRequest : Type 0
-  RefusesRequest = (r : R) × asks r × ((input : List ℕ) → answer r input (on_errors 2 (codes "bad path\n")))
-
-  -- words that no work is begun for are answered so, unless they are refused or memory is
-  pub no_work_answers : (f : WorkFault) (refused bad_path : Type 0) (usage : List ℕ) (left o e e' : Option (List ℕ)) (failed : Bool) (status : ℕ)
-      → IsNoWork f refused bad_path → (bad_path → RefusesRequest) → status ≡ refusal_status f → ¬ refused → ¬ (status ≡ 3)
-      → Says failed e e' (refusal_line usage f) → IfSome left (λ input. GetsAnswer asks answer input status o o failed e e')
-  no_work_answers f refused bad_path usage None o e e' failed status why refuses s taken ne said = tt
-  no_work_answers Usage refused bad_path usage (Some input) o e e' failed status why refuses s taken ne said = absurd (taken why)
-  no_work_answers BadPath refused bad_path usage (Some input) o e e' failed status why refuses s taken ne said =
-      let (r, asked, answered) = refuses why in
-      (r, asked, on_errors 2 (codes "bad path\n"), sym s, answered input, appends_nil o, said)
-  no_work_answers WorkNoMemory refused bad_path usage (Some input) o e e' failed status why refuses s taken ne said = absurd (ne s)

@@ -9,5 +9,6 @@ pub mod EntryLines
 pub mod Refusals
 pub mod WorkFaults
 pub mod AnswerLaws
+pub mod CommandRuns
 pub mod LongInputs
 pub mod OneAnswer

@@ -15,7 +15,8 @@ use Rattle.adf_check.specs.declared.fault.Fault.{Fault}
 use Rattle.adf_manifest.specs.Manifest.{ExplainsKind}
 use Rattle.adf_manifest.specs.declared.manifest.ManifestKind.{ManifestKind}
 use Rattle.adf_manifest.specs.declared.manifest.ManifestKind.TheVariants.{NoMemory as ManifestNoMemory, TooLong}
-use Rattle.adf_cmd.specs.Answers.{Answer, Reply, limit_of}
+use Rattle.adf_cmd.specs.Answers.{Answer, limit_of}
+use Rattle.adf_cmd.specs.Commands.{Reply}
 use Rattle.adf_cmd.specs.CommandLine.{RequestValue, build, cat, check}
 use Rattle.adf_cmd.specs.declared.checking.CheckAnswer.{CheckAnswer}
 use Rattle.adf_cmd.specs.Outcomes.{EndsBy, IsCheckAnswer, IsCheckAnswerTo}
@@ -51,7 +52,7 @@ long_kind ManifestNoMemory line image bytes a b ne h = absurd (ne refl)
 long_kind TooLong line image bytes a b ne h = (h.0, b)
 long_kind _ line image bytes a b ne h = absurd (omega (arith, h.0))
 
-pub long_answers : (r : RequestValue) (image bytes : List ℕ) → limit_of (Some r) < length image → limit_of (Some r) < length bytes → AnswersBoth r image bytes
+pub long_answers : (r : RequestValue) (image bytes : List ℕ) → limit_of r < length image → limit_of r < length bytes → AnswersBoth r image bytes
 long_answers (cat path) image bytes a b reply (inl bad) = inl bad
 long_answers (cat path) image bytes a b reply (inr (inl (names, text, t, l, fits, copies))) = absurd (too_large image a fits.boots.0)
 long_answers (cat path) image bytes a b reply (inr (inr (read, h))) = inr (inr (read, (h.0, long_fault image bytes h.0 a b h.1, h.2)))
@@ -76,16 +77,16 @@ read_ends w limit answers image (Some bytes) o o' both e h = elim (cases_lt limi
 ]
 
 -- the answer to the bytes that are read is that to the whole input, where that is known
-pub read_answer : (a : CheckAnswer) (image : List ℕ) (left : Option (List ℕ)) → IfSome left (λ bytes. image ≡ take (limit_of (Some check) + 1) bytes)
+pub read_answer : (a : CheckAnswer) (image : List ℕ) (left : Option (List ℕ)) → IfSome left (λ bytes. image ≡ take (limit_of check + 1) bytes)
     → IsCheckAnswer image a → IsCheckAnswerTo left a
 read_answer a image None e h = (image, tt, h)
 read_answer a image (Some bytes) e h = (
   bytes,
   refl,
-  elim (cases_lt (limit_of (Some check)) (length bytes)) [
-    | inr short ↦ subst (λ l. IsCheckAnswer l a) (e ∙ take_all (limit_of (Some check) + 1) bytes (omega arith)) h
+  elim (cases_lt (limit_of check) (length bytes)) [
+    | inr short ↦ subst (λ l. IsCheckAnswer l a) (e ∙ take_all (limit_of check + 1) bytes (omega arith)) h
     | inl long ↦
-        let cut : limit_of (Some check) < length image = rw e (omega (arith, length-take {A = ℕ})) in
+        let cut : limit_of check < length image = rw e (omega (arith, length-take {A = ℕ})) in
         long_answers check image bytes cut long _ h
   ],
 )

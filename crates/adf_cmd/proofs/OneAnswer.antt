@@ -25,7 +25,8 @@ use Rattle.adf_manifest.proofs.Verdicts.{one_told}
 use Rattle.adf_texts.specs.Lines.{manifest_fault_line, fault_line, ok_line}
 use Rattle.adf_texts.specs.VolumeLines.{AreDates, volume_lines}
 use Rattle.adf_cmd.specs.Answers.{Accepts, Answer, BuildsManifest, BuildsOrIsFull, Converts, Copies, CopiesFrom, Lists, RefusesImage, RefusesManifest}
-use Rattle.adf_cmd.specs.Answers.{Reply, contents_at, on_errors, on_output}
+use Rattle.adf_cmd.specs.Answers.{contents_at}
+use Rattle.adf_cmd.specs.Commands.{Reply, on_errors, on_output}
 use Rattle.adf_cmd.specs.CommandLine.{AsksFor, RequestValue, request_of, build, cat, check, convert, list}
 
 pub one_request : (words : List (List ℕ)) (r r' : RequestValue) → AsksFor words r → AsksFor words r' → r ≡ r'

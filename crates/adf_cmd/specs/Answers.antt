@@ -1,6 +1,5 @@
 -- What the command answers to its words and its input.
-use Rattle.std.specs.Prelude.{◌≡◌, ◌≢◌, ◌++◌, ◌<◌, ◌-◌, ◌*◌, ◌⊎◌, ℕ, Bool, true, false, List, [], codes, Option, None, Some, option_map}
-use Rattle.std.specs.Io.KnownBytes.{Appends}
+use Rattle.std.specs.Prelude.{◌≡◌, ◌≢◌, ◌++◌, ◌<◌, ◌-◌, ◌*◌, ◌⊎◌, ℕ, Bool, false, List, codes, Option, None, Some, option_map}
 use Rattle.adf_blocks.specs.declared.layout.TheConstants.{MOST_BLOCKS}
 use Rattle.adf_fields.specs.declared.dates.Stamp.{Stamp}
 use Rattle.adf_tree.specs.PathTexts.{IsPathText}
@@ -17,27 +16,13 @@ use Rattle.adf_check.specs.Pieces.{bytes_of}
 use Rattle.adf_check.specs.Volumes.{counts_of}
 use Rattle.adf_check.specs.declared.fault.Fault.{Fault}
 use Rattle.adf_cmd.specs.CommandLine.{AsksFor, AreRefused, RequestValue, build, cat, check, convert, list}
+use Rattle.adf_cmd.specs.Commands.{Command, Reply, bad_path, on_errors, on_output}
 use Rattle.adf_cmd.specs.Listing.{image_or_lines}
 use Rattle.adf_manifest.specs.Manifest.{ExplainsFault, IsManifest, most_bytes}
-use Rattle.adf_cmd.specs.Streams.{AppendsPart, Says}
 use Rattle.adf_texts.specs.Lines.{fault_line, full_line, manifest_fault_line, ok_line}
 use Rattle.adf_texts.specs.VolumeLines.{AreDates, volume_lines}
 use Rattle.adf_manifest.specs.declared.manifest.ManifestFault.{ManifestFault}
 use Rattle.adf_manifest.specs.declared.manifest.ManifestKind.TheVariants.{NoMemory as ManifestNoMemory}
-
--- an answer: its status, and what is written to output and errors
-pub record Reply : Type 0 where
-  pub status : ℕ
-  pub output : List ℕ
-  pub errors : List ℕ
-
--- a text on output, and nothing on errors
-abbrev pub on_output : ℕ → List ℕ → Reply
-on_output status text = record { status = status; output = text; errors = [] }
-
--- a text on errors, and nothing on output
-abbrev pub on_errors : ℕ → List ℕ → Reply
-on_errors status text = record { status = status; output = []; errors = text }
 
 -- `check` at status 0 tells the numbers of the tree and the layout that fit the image, at status 1 its first fault
 abbrev pub Accepts : List ℕ → Reply → Type 0
@@ -93,7 +78,7 @@ IsBadPath path = (names : List (List ℕ)) → ¬ IsPathText path names
 
 -- `cat` at status 2: its path is not read
 abbrev pub RefusesPath : List ℕ → Reply → Type 0
-RefusesPath path reply = IsBadPath path × (reply ≡ on_errors 2 (codes "bad path\n"))
+RefusesPath path reply = IsBadPath path × (reply ≡ bad_path)
 
 -- what a path leads to in a tree: nothing, or a node, of which a file has bytes
 abbrev pub contents_at : Tree → List (List ℕ) → Option (Option (List ℕ))
@@ -137,39 +122,9 @@ abbrev pub RequestsHaveOneAnswer : Type 0
 RequestsHaveOneAnswer = (r : RequestValue) (input : List ℕ) (a b : Reply) → Answer r input a → Answer r input b → a ≡ b
 
 -- the most bytes of the input that belong to an answer: those of the largest image or manifest
-abbrev pub limit_of : Option RequestValue → ℕ
-limit_of None = 0
-limit_of (Some (build lines)) = most_bytes
-limit_of (Some _) = 512 * MOST_BLOCKS
-
--- output got a front part of what one of these answers writes
-abbrev pub WritesFront : (Reply → Type 0) → Option (List ℕ) → Option (List ℕ) → Type 0
-WritesFront answers o o' = (reply : Reply) × answers reply × AppendsPart o o' reply.output
-
--- at a status other than 3: something is asked for, output and errors got an answer to it, or where errors failed a front part of it
-abbrev pub GetsAnswer : {R : Type 0} → (R → Type 0) → (R → List ℕ → Reply → Type 0) → List ℕ → ℕ → Option (List ℕ) → Option (List ℕ) → Bool
-    → Option (List ℕ) → Option (List ℕ) → Type 0
-GetsAnswer {R = R} asks answer input status o o' failed e e' =
-    (r : R) × asks r × (reply : Reply) × (reply.status ≡ status) × answer r input reply × Appends o o' reply.output × Says failed e e' reply.errors
-
--- what output has got at status 3: nothing where the input failed, else nothing or a front part of an answer to what is asked for
-abbrev pub GetsFront : {R : Type 0} → (R → Type 0) → (R → List ℕ → Reply → Type 0) → Bool → List ℕ → Option (List ℕ) → Option (List ℕ) → Type 0
-GetsFront asks answer true input o o' = Appends o o' []
-GetsFront {R = R} asks answer false input o o' = Appends o o' [] ⊎ ((r : R) × asks r × WritesFront (answer r input) o o')
-
--- at a status other than 3: the words ask for a request, and output and errors got an answer to it
-abbrev pub Answers : List (List ℕ) → List ℕ → ℕ → Option (List ℕ) → Option (List ℕ) → Bool → Option (List ℕ) → Option (List ℕ) → Type 0
-Answers words = GetsAnswer (AsksFor words) Answer
-
--- at status 3: output got nothing, or where the input did not fail a front part of an answer
-abbrev pub AnswersPart : List (List ℕ) → Bool → List ℕ → Option (List ℕ) → Option (List ℕ) → Type 0
-AnswersPart words = GetsFront (AsksFor words) Answer
-
--- the line of status 3: whether the input failed, and whether output failed
-abbrev pub failure_line : Bool → Bool → List ℕ
-failure_line true _ = codes "read fault\n"
-failure_line false true = codes "write fault\n"
-failure_line false false = codes "no memory\n"
+abbrev pub limit_of : RequestValue → ℕ
+limit_of (build lines) = most_bytes
+limit_of _ = 512 * MOST_BLOCKS
 
 -- what errors get where the words are refused
 abbrev pub usage_line : List ℕ
@@ -185,6 +140,14 @@ HasBadPath r = (path : List ℕ) × (r ≡ cat path) × IsBadPath path
 abbrev pub AsksBadPath : List (List ℕ) → Type 0
 AsksBadPath words = (path : List ℕ) × AsksFor words (cat path) × IsBadPath path
 
--- the words are refused, or their path is not read
-abbrev pub IsUnanswered : List (List ℕ) → Type 0
-IsUnanswered words = AreRefused words ⊎ AsksBadPath words
+-- the command `adf`
+abbrev pub adf_command : Command (List (List ℕ))
+adf_command = record {
+  Request = RequestValue;
+  asks = AsksFor;
+  refuses = AreRefused;
+  asks_bad_path = AsksBadPath;
+  answer = Answer;
+  limit = limit_of;
+  usage = usage_line;
+}

@@ -1,4 +1,5 @@
 pub mod CommandLine
+pub mod Commands
 pub mod Devices
 pub mod Listing
 pub mod Streams

@@ -76,7 +76,7 @@ pub fn answer_to_input<R: Source>(
     ensures answer { IfOk result (IsCheckAnswerTo (R.left input.old)) }
     ensures failed { R.has_failed input.new ≡ is_device result }
     ensures reliable { R.may_fail input.old ≡ false → R.has_failed input.new ≡ false }
-    ensures at_most { TakesAtMost (limit_of (Some check) + 1)
+    ensures at_most { TakesAtMost (limit_of check + 1)
         (R.left input.old) (R.left input.new) }
 {
     let count = read_into(input, MOST_IMAGE_BYTES, buffer)?;

@@ -1,22 +1,22 @@
 // What a command does, once its words and its path are read.
 
-ghost use Rattle.std.specs.Prelude.{◌≡◌, ◌+◌, ◌<◌, ◌^◌, false, IfErr, IfOk, IfSome, Some, true};
-ghost use Rattle.adf_cmd.specs.Answers.{Answer, AsksBadPath, HasBadPath, limit_of};
-ghost use Rattle.adf_cmd.specs.CommandLine.{AreRefused, AsksFor, RequestValue, request_value, texts_of};
+ghost use Rattle.std.specs.Prelude.{◌≡◌, false, IfErr, IfOk};
+ghost use Rattle.adf_cmd.specs.Answers.{Answer, HasBadPath};
+ghost use Rattle.adf_cmd.specs.CommandLine.{RequestValue, request_value};
 ghost use Rattle.adf_cmd.specs.Outcomes.{EndsBy, is_read_fault, is_write_fault};
-ghost use Rattle.adf_cmd.specs.Streams.{TakesAtMost};
 ghost use Rattle.adf_cmd.specs.Work.{Serves};
 ghost use Rattle.adf_cmd.specs.WorkFaults.{IsNoWork};
 
 use crate::building::build_manifest;
 use crate::checking::check_image;
-use crate::command_line::{Request, parse};
+use crate::command_line::{Request, USAGE, parse};
 use crate::converting::{convert_image, convert_read};
 use crate::copying::cat_image;
 use crate::devices::{Sink, Source};
 use crate::images::MOST_IMAGE_BYTES;
 use crate::inputs::read_input;
 use crate::outcome::Outcome;
+use crate::programs::Program;
 use crate::volume_listing::list_image;
 use crate::work_fault::WorkFault;
 use adf_manifest::MOST_BYTES;
@@ -49,46 +49,7 @@ fn work_for(alloc: Global, request: Request<'_>) -> Result<Work, WorkFault>
     }
 }
 
-/// The work that words ask for, of which the first is the program's name.
-pub fn work_of(alloc: Global, words: &[&str]) -> Result<Work, WorkFault>
-    ensures ok { IfOk result (λ work. (r : RequestValue)
-        × AsksFor (texts_of words.now) r × Serves work r) }
-    ensures fault { IfErr result (λ fault.
-        IsNoWork fault (AreRefused (texts_of words.now)) (AsksBadPath (texts_of words.now))) }
-{
-    let request = parse(alloc, words)?;
-    work_for(alloc, request)
-}
-
 impl Work {
-    /// The most bytes of an input that belong to an answer.
-    pub fn limit(&self) -> usize
-        ensures exact { (r : RequestValue) → Serves self.now r → result ≡ limit_of (Some r) }
-        ensures small { result < 2 ^ 63 }
-    {
-        match self {
-            Work::Build { .. } => MOST_BYTES,
-            _ => MOST_IMAGE_BYTES,
-        }
-    }
-
-    /// Does the work on the bytes of an input where they lie.
-    pub fn on<W: Sink>(&self, alloc: Global, bytes: &[u8], output: &mut W) -> Outcome
-        requires { W.has_failed output.old ≡ false }
-        ensures ends { (r : RequestValue) → Serves self.now r
-            → EndsBy (Answer r bytes.now) result (W.held output.old) (W.held output.new) }
-        ensures read { is_read_fault result ≡ false }
-        ensures written { W.has_failed output.new ≡ is_write_fault result }
-    {
-        match self {
-            Work::Check => check_image(alloc, bytes, output),
-            Work::List => list_image(alloc, bytes, output),
-            Work::Cat(names) => cat_image(alloc, bytes, names, output),
-            Work::Build { list } => build_manifest(alloc, bytes, *list, output),
-            Work::Convert(kind) => convert_image(alloc, bytes, *kind, output),
-        }
-    }
-
     // Does the work on bytes that were read, and lets them go where they are no longer wanted.
     fn on_read<W: Sink>(&self, alloc: Global, bytes: Vec<u8>, output: &mut W) -> Outcome
         requires { W.has_failed output.old ≡ false }
@@ -102,28 +63,58 @@ impl Work {
             _ => self.on(alloc, &bytes, output),
         }
     }
+}
 
-    /// Reads an input, and does the work on it.
-    pub fn on_input<R: Source, W: Sink>(
+impl Program for Work {
+    ghost use Rattle.std.proofs.Common.{inl, refl, rules};
+    ghost use Rattle.adf_cmd.specs.Answers.{adf_command};
+    ghost use Rattle.adf_cmd.specs.CommandLine.{cat};
+    ghost use Rattle.adf_cmd.specs.Work.{Serves};
+
+    ghost command = { adf_command };
+
+    ghost serves = { Serves };
+
+    fn usage() -> &'static str {
+        USAGE
+    }
+
+    fn of(alloc: Global, words: &[&str]) -> Result<Work, WorkFault> {
+        let request = parse(alloc, words)?;
+        work_for(alloc, request)
+    }
+
+    fn limit(&self) -> usize {
+        match self {
+            Work::Build { .. } => MOST_BYTES,
+            _ => MOST_IMAGE_BYTES,
+        }
+    }
+
+    fn on<W: Sink>(&self, alloc: Global, bytes: &[u8], output: &mut W) -> Outcome {
+        match self {
+            Work::Check => check_image(alloc, bytes, output),
+            Work::List => list_image(alloc, bytes, output),
+            Work::Cat(names) => cat_image(alloc, bytes, names, output),
+            Work::Build { list } => build_manifest(alloc, bytes, *list, output),
+            Work::Convert(kind) => convert_image(alloc, bytes, *kind, output),
+        }
+    }
+
+    fn on_input<R: Source, W: Sink>(
         &self,
         alloc: Global,
         input: &mut R,
         output: &mut W,
-    ) -> Outcome
-        requires reads { R.has_failed input.old ≡ false }
-        requires writes { W.has_failed output.old ≡ false }
-        ensures ends { (r : RequestValue) → Serves self.now r
-            → IfSome (R.left input.old) (λ bytes.
-            EndsBy (Answer r bytes) result (W.held output.old) (W.held output.new)) }
-        ensures read { R.has_failed input.new ≡ is_read_fault result }
-        ensures written { W.has_failed output.new ≡ is_write_fault result }
-        ensures unwritten { is_read_fault result ≡ true → output.new ≡ output.old }
-        ensures at_most { (r : RequestValue) → Serves self.now r
-            → TakesAtMost (limit_of (Some r) + 1) (R.left input.old) (R.left input.new) }
-    {
+    ) -> Outcome {
         match read_input(alloc, input, self.limit()) {
             Ok(bytes) => self.on_read(alloc, bytes, output),
             Err(outcome) => outcome,
         }
     }
+
+    ghost consistent = { record {
+      taken = Prim.search rules;
+      unread = λ words h. (cat h.0, h.1, λ input. inl (h.2, refl));
+    } };
 }

@@ -1,6 +1,7 @@
 -- What the command answers to its words and its input.
 -- Letters: w the walk of a survey, fs its findings; n an entry's node, h the block of its header; r an inquiry.
-use Rattle.std.specs.Prelude.{◌≡◌, ◌⊎◌, ◌++◌, ℕ, Bool, List, [], ◌∷◌, codes, Option}
+use Rattle.std.specs.Prelude.{◌≡◌, ◌*◌, ◌⊎◌, ◌++◌, ℕ, Bool, List, [], ◌∷◌, codes}
+use Rattle.adf_blocks.specs.declared.layout.TheConstants.{MOST_BLOCKS}
 use Rattle.adf_tree.specs.PathTexts.{IsPathText}
 use Rattle.adf_volume.specs.Walk.{FileAt, Role}
 use Rattle.adf_survey.specs.Files.{IsSoundFile, file_content, file_in}
@@ -9,7 +10,8 @@ use Rattle.adf_survey.specs.Marked.{AreMarks}
 use Rattle.adf_survey.specs.Survey.{FindingValue, IsSurvey}
 use Rattle.adf_fields.specs.declared.dates.Stamp.{Stamp}
 use Rattle.adf_texts.specs.VolumeLines.{AreDates}
-use Rattle.adf_cmd.specs.Answers.{GetsAnswer, GetsFront, IsBadPath, RefusesPath, Reply, on_errors, on_output}
+use Rattle.adf_cmd.specs.Answers.{IsBadPath, RefusesPath}
+use Rattle.adf_cmd.specs.Commands.{Command, Reply, on_errors, on_output}
 use Rattle.adf_survey_cmd.specs.CommandLine.{AreRefusedBySurvey, AsksSurvey, InquiryValue, cat, list, report}
 use Rattle.adf_survey_cmd.specs.FoundLines.{listing_text}
 use Rattle.adf_survey_cmd.specs.Lines.{findings_text}
@@ -82,14 +84,6 @@ WordsAskForOneInquiry = (words : List (List ℕ)) (r q : InquiryValue) → AsksS
 abbrev pub InquiriesHaveOneAnswer : Type 0
 InquiriesHaveOneAnswer = (r : InquiryValue) (input : List ℕ) (a b : Reply) → SurveyAnswer r input a → SurveyAnswer r input b → a ≡ b
 
--- at a status other than 3: the words ask for something, and output and errors got an answer to it
-abbrev pub SurveyAnswers : List (List ℕ) → List ℕ → ℕ → Option (List ℕ) → Option (List ℕ) → Bool → Option (List ℕ) → Option (List ℕ) → Type 0
-SurveyAnswers words = GetsAnswer (AsksSurvey words) SurveyAnswer
-
--- at status 3: output got nothing, or where the input did not fail a front part of an answer
-abbrev pub SurveyAnswersPart : List (List ℕ) → Bool → List ℕ → Option (List ℕ) → Option (List ℕ) → Type 0
-SurveyAnswersPart words = GetsFront (AsksSurvey words) SurveyAnswer
-
 -- what errors get where the words are refused
 abbrev pub survey_usage : List ℕ
 survey_usage =
@@ -104,6 +98,14 @@ HasBadSurveyPath r = (path : List ℕ) × (r ≡ cat path) × IsBadPath path
 abbrev pub AsksBadSurveyPath : List (List ℕ) → Type 0
 AsksBadSurveyPath words = (path : List ℕ) × AsksSurvey words (cat path) × IsBadPath path
 
--- the words are refused, or their path is not read
-abbrev pub IsUnansweredBySurvey : List (List ℕ) → Type 0
-IsUnansweredBySurvey words = AreRefusedBySurvey words ⊎ AsksBadSurveyPath words
+-- the command `adf-survey`
+abbrev pub survey_command : Command (List (List ℕ))
+survey_command = record {
+  Request = InquiryValue;
+  asks = AsksSurvey;
+  refuses = AreRefusedBySurvey;
+  asks_bad_path = AsksBadSurveyPath;
+  answer = SurveyAnswer;
+  limit = λ r. 512 * MOST_BLOCKS;
+  usage = survey_usage;
+}

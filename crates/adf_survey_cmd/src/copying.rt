@@ -4,7 +4,7 @@ ghost use Rattle.std.specs.Prelude.{◌≡◌, ◌↔◌, ℕ, List, false, IsTr
 ghost use Rattle.adf_volume.specs.Walk.{FileAt, Role};
 ghost use Rattle.adf_survey.specs.Files.{file_content};
 ghost use Rattle.adf_survey.specs.Survey.{FindingValue, IsSurvey};
-ghost use Rattle.adf_cmd.specs.Answers.{on_output};
+ghost use Rattle.adf_cmd.specs.Commands.{on_output};
 ghost use Rattle.adf_survey_cmd.specs.Answers.{CopiesEntry, CopiesFound};
 ghost use Rattle.adf_cmd.specs.Outcomes.{EndsBy, is_read_fault, is_write_fault};
 

@@ -11,4 +11,5 @@ mod runs;
 mod work;
 
 pub use crate::command_line::{Inquiry, parse, survey_words_as_documented};
-pub use crate::runner::{one_answer, refuse_words, run, run_on};
+pub use crate::runner::{one_answer, run};
+pub use crate::work::Work;

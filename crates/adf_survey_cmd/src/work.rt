@@ -1,22 +1,19 @@
 // What is done for words, once they and their path are read.
 
-ghost use Rattle.std.specs.Prelude.{◌≡◌, ◌*◌, ◌+◌, ℕ, List, false, true, IfErr, IfOk, IfSome};
-ghost use Rattle.adf_blocks.specs.declared.layout.TheConstants.{MOST_BLOCKS};
+ghost use Rattle.std.specs.Prelude.{◌≡◌, ℕ, List, false, IfErr, IfOk};
 ghost use Rattle.adf_volume.specs.Walk.{Role};
 ghost use Rattle.adf_survey.specs.Survey.{FindingValue, IsSurvey};
-ghost use Rattle.adf_cmd.specs.CommandLine.{texts_of};
-ghost use Rattle.adf_cmd.specs.Streams.{TakesAtMost};
-ghost use Rattle.adf_cmd.specs.WorkFaults.{IsNoWork};
-ghost use Rattle.adf_survey_cmd.specs.Answers.{AsksBadSurveyPath, HasBadSurveyPath, SurveyAnswer};
-ghost use Rattle.adf_survey_cmd.specs.CommandLine.{AreRefusedBySurvey, AsksSurvey, InquiryValue, inquiry_value};
 ghost use Rattle.adf_cmd.specs.Outcomes.{EndsBy, is_read_fault, is_write_fault};
+ghost use Rattle.adf_cmd.specs.WorkFaults.{IsNoWork};
+ghost use Rattle.adf_survey_cmd.specs.Answers.{HasBadSurveyPath, SurveyAnswer};
+ghost use Rattle.adf_survey_cmd.specs.CommandLine.{InquiryValue, inquiry_value};
 ghost use Rattle.adf_survey_cmd.specs.Work.{Meets};
 
-use crate::command_line::{Inquiry, parse};
+use crate::command_line::{Inquiry, USAGE, parse};
 use crate::copying::copy_found;
 use crate::listing::write_list;
 use crate::reporting::write_findings;
-use adf_cmd::{MOST_IMAGE_BYTES, Outcome, Sink, Source, WorkFault, read_input};
+use adf_cmd::{MOST_IMAGE_BYTES, Outcome, Program, Sink, Source, WorkFault, read_input};
 use adf_survey::{Survey, survey};
 use adf_tree::{Name, read_path};
 use std::alloc::Global;
@@ -43,17 +40,6 @@ fn work_for(alloc: Global, inquiry: Inquiry<'_>) -> Result<Work, WorkFault>
     }
 }
 
-/// The work that words ask for, of which the first is the program's name.
-pub fn work_of(alloc: Global, words: &[&str]) -> Result<Work, WorkFault>
-    ensures ok { IfOk result (λ work. (r : InquiryValue)
-        × AsksSurvey (texts_of words.now) r × Meets work r) }
-    ensures fault { IfErr result (λ fault. IsNoWork fault
-        (AreRefusedBySurvey (texts_of words.now)) (AsksBadSurveyPath (texts_of words.now))) }
-{
-    let inquiry = parse(alloc, words)?;
-    work_for(alloc, inquiry)
-}
-
 impl Work {
     // Does the work on what is found of an image.
     fn on_survey<W: Sink>(&self, alloc: Global, survey: &Survey<'_>, output: &mut W) -> Outcome
@@ -72,42 +58,52 @@ impl Work {
             Work::Cat(names) => copy_found(alloc, survey, names, output),
         }
     }
+}
 
-    /// Surveys an image, and does the work.
-    pub fn on<W: Sink>(&self, alloc: Global, image: &[u8], output: &mut W) -> Outcome
-        requires { W.has_failed output.old ≡ false }
-        ensures ends { (r : InquiryValue) → Meets self.now r
-            → EndsBy (SurveyAnswer r image.now) result (W.held output.old) (W.held output.new) }
-        ensures read { is_read_fault result ≡ false }
-        ensures written { W.has_failed output.new ≡ is_write_fault result }
-    {
+impl Program for Work {
+    ghost use Rattle.std.proofs.Common.{inl, refl, rules};
+    ghost use Rattle.adf_survey_cmd.specs.Answers.{survey_command};
+    ghost use Rattle.adf_survey_cmd.specs.CommandLine.{cat};
+    ghost use Rattle.adf_survey_cmd.specs.Work.{Meets};
+
+    ghost command = { survey_command };
+
+    ghost serves = { Meets };
+
+    fn usage() -> &'static str {
+        USAGE
+    }
+
+    fn of(alloc: Global, words: &[&str]) -> Result<Work, WorkFault> {
+        let inquiry = parse(alloc, words)?;
+        work_for(alloc, inquiry)
+    }
+
+    fn limit(&self) -> usize {
+        MOST_IMAGE_BYTES
+    }
+
+    fn on<W: Sink>(&self, alloc: Global, image: &[u8], output: &mut W) -> Outcome {
         match survey(alloc, image) {
             Ok(survey) => self.on_survey(alloc, &survey, output),
             Err(_) => Outcome::NoMemory,
         }
     }
 
-    /// Reads an image, and does the work on it.
-    pub fn on_input<R: Source, W: Sink>(
+    fn on_input<R: Source, W: Sink>(
         &self,
         alloc: Global,
         input: &mut R,
         output: &mut W,
-    ) -> Outcome
-        requires reads { R.has_failed input.old ≡ false }
-        requires writes { W.has_failed output.old ≡ false }
-        ensures ends { (r : InquiryValue) → Meets self.now r
-            → IfSome (R.left input.old) (λ bytes.
-            EndsBy (SurveyAnswer r bytes) result (W.held output.old) (W.held output.new)) }
-        ensures read { R.has_failed input.new ≡ is_read_fault result }
-        ensures written { W.has_failed output.new ≡ is_write_fault result }
-        ensures unwritten { is_read_fault result ≡ true → output.new ≡ output.old }
-        ensures at_most { TakesAtMost (512 * MOST_BLOCKS + 1)
-            (R.left input.old) (R.left input.new) }
-    {
+    ) -> Outcome {
         match read_input(alloc, input, MOST_IMAGE_BYTES) {
             Ok(image) => self.on(alloc, &image, output),
             Err(outcome) => outcome,
         }
     }
+
+    ghost consistent = { record {
+      taken = Prim.search rules;
+      unread = λ words h. (cat h.0, h.1, λ input. inl (h.2, refl));
+    } };
 }

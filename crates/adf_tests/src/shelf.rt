@@ -3,7 +3,7 @@
 ghost use Rattle.std.specs.Prelude.{None, true};
 
 use crate::memory::{Given, Kept};
-use adf_cmd::{Failed, run_on};
+use adf_cmd::Failed;
 use adf_shelf_cmd::{Files, TextNames, run};
 use std::alloc::Global;
 use std::test::Fail;
@@ -42,7 +42,9 @@ impl<'a> Files for Shelf<'a> {
 fn sound_image(alloc: Global) -> Vec<u8> {
     let mut image = Kept::new(alloc, usize::MAX, usize::MAX);
     let mut errors = Kept::new(alloc, usize::MAX, usize::MAX);
-    let _ = run_on(alloc, &["adf", "build"], MANIFEST, &mut image, &mut errors);
+    let mut manifest = Given::new(MANIFEST, usize::MAX);
+    let words = ["adf", "build"];
+    let _ = adf_cmd::run(alloc, &words, &mut manifest, &mut image, &mut errors);
     image.bytes
 }
 

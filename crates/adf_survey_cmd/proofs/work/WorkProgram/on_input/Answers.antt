@@ -3,7 +3,7 @@ use Rattle.adf_blocks.specs.declared.layout.TheConstants.{MOST_BLOCKS}
 use Rattle.adf_cmd.proofs.LongInputs.{read_ends}
 use Rattle.adf_survey_cmd.specs.Answers.{SurveyAnswer}
 use Rattle.adf_survey_cmd.proofs.LongSurveys.{long_answers}
-use Rattle.adf_survey_cmd.proofs.work.Work.on_input.Goals as goal
+use Rattle.adf_survey_cmd.proofs.work.WorkProgram.on_input.Goals as goal
 
 pub returns-in-Ok-clause-ends : goal.returns-in-Ok-clause-ends
 returns-in-Ok-clause-ends g c = λ r meets.

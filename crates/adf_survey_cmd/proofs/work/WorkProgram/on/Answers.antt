@@ -1,7 +1,7 @@
 use Rattle.std.proofs.Common.{ℕ, List, map, subst, sym}
 use Rattle.adf_survey.specs.Parts.{finding_value}
 use Rattle.adf_survey.specs.Survey.{IsSurvey}
-use Rattle.adf_survey_cmd.proofs.work.Work.on.Goals as goal
+use Rattle.adf_survey_cmd.proofs.work.WorkProgram.on.Goals as goal
 
 pub returns-in-Ok-clause-ends : goal.returns-in-Ok-clause-ends
 returns-in-Ok-clause-ends g c = λ r meets.
