@@ -12,7 +12,8 @@ from struct import unpack_from
 
 SLOTS, POINTERS, ROOT_PAGES, MAP_PAGES, PAGE_BITS = 72, 72, 25, 127, 4064
 DIR, FILE, LINKS = 2, 2**32 - 3, (3, 4, 2**32 - 4)
-SLIGHT = {"short file", "bad sum", "link", "bad name", "bad comment", "wrong slot", "bad first", "same name"}
+SLIGHT = {"short file", "bad sum", "link", "bad name", "bad comment", "wrong slot", "bad first", "same name"} | {"bad hash size", "not validated"}
+ROOT = (0, 0, 0), "root"
 
 
 def upper(name):
@@ -46,6 +47,17 @@ def data(n, k):
     return (n + 1, 1, k), "data", n, k
 
 
+def judged(demands, slight):
+    """The block and the cause of the first demand that fails, and whether each holds but those of slight causes."""
+    first = None
+    for cause, at, holds in demands:
+        if not holds():
+            first = first or (at, cause)
+            if cause not in slight:
+                return first, False
+    return first, True
+
+
 class Survey:
     def __init__(self, image):
         self.image, self.blocks = image, len(image) // 512
@@ -53,13 +65,14 @@ class Survey:
         self.asked = {}  # by key: the role, and the block and the word that name its block
         self.names = {}  # how many words that ask for a part name a block
         self.root = self.blocks // 2
-        for cause, at, holds in self.opening():
-            if not holds():
-                self.findings.append((None, at, cause))
-                return
+        first, itself = judged(self.opening(), SLIGHT)
+        if first:
+            self.findings.append((ROOT if itself else None, *first))
+        if not itself:
+            return
         self.offset, self.chunk = (24, 488) if image[3] == 0 else (0, 512)
         self.pages = -(-(self.blocks - 2) // PAGE_BITS)
-        self.take(((0, 0, 0), "root"), self.root)
+        self.take(ROOT, self.root)
         while wanted := [key for key in self.asked if key not in self.walk and key not in self.passed_over]:
             self.judge(*self.asked[min(wanted)])
         self.compare()
@@ -188,22 +201,18 @@ class Survey:
     def judge(self, role, a, i):
         """The role is taken, where its block is in range, no one else's and says of itself that it is the part; its first cause is noted."""
         b = self.word(a, i)
-        first, itself = None, True
-        for cause, at, holds in self.demands(role, a, b):
-            if not holds():
-                first = first or (role, at, cause)
-                if role[1] == "page" or cause not in SLIGHT:
-                    itself = False
-                    break
+        first, itself = judged(self.demands(role, a, b), () if role[1] == "page" else SLIGHT)
         if first:
-            self.findings.append(first)
+            self.findings.append((role, *first))
         if itself:
             self.take(role, b)
         else:
             self.passed_over[role[0]] = b
 
     def compare(self):
-        """Each block whose page is in the walk and that was not passed over is in use where it has an owner, and only there."""
+        """Where the bitmap is valid, each block whose page is in the walk and that was not passed over is in use where it has an owner, and only there."""
+        if self.word(self.root, 78) != 2**32 - 1:
+            return
         passed = set(self.passed_over.values())
         for b in range(2, self.blocks):
             bit = (b - 2) % PAGE_BITS

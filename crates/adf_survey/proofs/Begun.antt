@@ -15,10 +15,11 @@ use Rattle.adf_volume.specs.Walk.{Role, Has, Asks, Lacks, third}
 use Rattle.adf_volume.specs.Walk.Role.{Root, Page, MapExt, Head, Ext, Data}
 use Rattle.adf_survey.specs.declared.part.Part.TheVariants.{Root as RootPart}
 use Rattle.adf_survey.specs.declared.found.Found.{Found}
+use Rattle.adf_survey.specs.Survey.{FindingValue, RootTells, begun}
 use Rattle.adf_survey.specs.Survey.IsCourse.{start}
 use Rattle.adf_survey.specs.Parts.{by_key, key_of, finding_value}
 use Rattle.adf_survey.specs.Courses.{IsAtPage, IsUpTo, Under, page_place}
-use Rattle.adf_survey.specs.Found.{AreNamed, AreSame, IsOwned, Stands, begun, owns, unowned}
+use Rattle.adf_survey.specs.Found.{AreNamed, AreSame, IsOwned, Stands, owns, unowned}
 use Rattle.adf_survey.proofs.Taking.{marked_more, unowned_less}
 
 empty_get : {K X : Type 0} (m : BTreeMap K X) (test : K → Bool) → IsEmpty m → lookup test m.entries ≡ None
@@ -49,7 +50,7 @@ pub stands_begun : (image : List ℕ) (f g h : Found) → IsEmpty f.taken → f.
     → f.avoided.items ≡ replicate (blocks image) false → f.left ≡ blocks image → f.nodes.items ≡ [] → IsEmpty f.exts → f.findings.items ≡ []
     → f.parents.items ≡ 0 ∷ [] → f.places.items ≡ [] → f.datas.items ≡ []
     → IsOwned RootPart (root_of image) f g → AreSame f g → h ≡ record g { nodes = h.nodes } → h.nodes.items ≡ g.nodes.items ++ root_of image ∷ []
-    → root_of image < blocks image → Stands image h (begun image)
+    → root_of image < blocks image → Stands image h (begun image [])
 stands_begun image f g h taken owned avoided left nodes exts findings parents places datas o e same pushed lt =
     let n : ℕ = blocks image in
     let root : ℕ = root_of image in
@@ -60,7 +61,7 @@ stands_begun image f g h taken owned avoided left nodes exts findings parents pl
     let long : length {A = Bool} (replicate n false) ≡ n = length-replicate n false in
     let less = unowned_less (replicate n false) root (omega arith) (none_false n root) in
     let all = all_free n in
-    subst (λ h. Stands image h (begun image)) (sym same) (record {
+    subst (λ h. Stands image h (begun image [])) (sym same) (record {
       taken = (λ r x. o.taken.0 (key_of r)
           ∙ ap (λ c. cond (is_eq (by_key (key_of Root) (key_of r))) (Some root) c) (empty_get f.taken (is_at (by_key (key_of r))) taken));
       owned = subst (λ xs. (length xs ≡ n) × ((b : ℕ) → b < n → slice_index_or xs b false ≡ owns ((Root, root) ∷ []) b)) (sym marks)
@@ -79,20 +80,20 @@ stands_begun image f g h taken owned avoided left nodes exts findings parents pl
       datas = o.datas ∙ datas;
     })
 
-module _ (image : List ℕ) where
+module _ (image : List ℕ) (fs : List FindingValue) where
   -- nothing comes before the first page but the root
-  up_to_begun : IsUpTo image (begun image) (page_place 0)
+  up_to_begun : IsUpTo image (begun image fs) (page_place 0)
   up_to_begun = record {
     taken = taken;
     passed = (λ q b h. absurd h);
     gone = gone;
   }
     where
-      taken : (q : Role) (b : ℕ) → Has (begun image).walk q b → Under q (page_place 0)
+      taken : (q : Role) (b : ℕ) → Has (begun image fs).walk q b → Under q (page_place 0)
       taken q b (inl e) = subst (λ q. Under q (page_place 0)) e.0 (omega arith)
       taken q b (inr h) = absurd h
 
-      gone : (q : Role) (a i : ℕ) → Asks image (begun image).walk q a i → Lacks (begun image).walk q → Lacks (begun image).passed_over q
+      gone : (q : Role) (a i : ℕ) → Asks image (begun image fs).walk q a i → Lacks (begun image fs).walk q → Lacks (begun image fs).passed_over q
           → Under q (page_place 0) → ⊥
       gone Root a i h l m u = h
       gone (Page k) a i h l m u = let x : third (Page k) < 0 = u.2 refl refl in omega arith
@@ -101,13 +102,13 @@ module _ (image : List ℕ) where
       gone (Ext n k) a i h l m u = omega arith
       gone (Data n k) a i h l m u = omega arith
 
-  no_names : (names : BTreeSet (Vec ℕ)) → AreNamed image (begun image).walk (page_place 0) names
+  no_names : (names : BTreeSet (Vec ℕ)) → AreNamed image (begun image fs).walk (page_place 0) names
   no_names names q m p s j b e f h = absurd (omega arith)
 
   -- the course begins at the first page, whose block the root names
-  pub on_begun : (f : Found) → Stands image f (begun image) → blocks image ≤ 1048576 → IsAtPage image f 0 (root_of image)
-  on_begun f st small = (
-    begun image,
-    record { course = start; stands = st; up_to = up_to_begun; names = no_names f.names; small = small },
+  pub on_begun : (f : Found) → RootTells image fs → Stands image f (begun image fs) → blocks image ≤ 1048576 → IsAtPage image f 0 (root_of image)
+  on_begun f told st small = (
+    begun image fs,
+    record { course = start told; stands = st; up_to = up_to_begun; names = no_names f.names; small = small },
     record { root = (λ l. refl); ext = (λ l. absurd (omega arith)) },
   )

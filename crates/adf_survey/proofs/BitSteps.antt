@@ -14,7 +14,7 @@ use Rattle.adf_volume.proofs.Gathered.{one_block}
 use Rattle.adf_volume.proofs.Roles.{has_role, same_refl}
 use Rattle.adf_survey.specs.declared.part.Key.{Key}
 use Rattle.adf_survey.specs.declared.found.Found.{Found}
-use Rattle.adf_survey.specs.Survey.{BitsTell, Course, FindingValue, IsCourse, finding}
+use Rattle.adf_survey.specs.Survey.{BitsTell, Course, FindingValue, IsCourse, IsValidated, finding}
 use Rattle.adf_survey.specs.Survey.BitsTell.{agrees, differs, ends}
 use Rattle.adf_survey.specs.declared.part.Finding.{Finding}
 use Rattle.adf_survey.specs.Forms.{Tells}
@@ -24,6 +24,10 @@ use Rattle.adf_survey.proofs.Keys.{lacks_at, one_key, same_of_key}
 use Rattle.adf_survey.proofs.Known.{tells_absent}
 use Rattle.adf_survey.proofs.Taking.{stands_noted}
 use Rattle.adf_survey.proofs.OneSurvey.{gathered}
+
+-- where the bitmap is not valid, no bit is compared
+pub not_compared : (image : List ℕ) (s : Course) (b : ℕ) → (IsValidated image → ⊥) → BitTells image s b None
+not_compared image s b n = λ c. absurd (n c.0)
 
 pub at_has : (w : List (Role × ℕ)) (k : Key) (b : ℕ) → at_key w k ≡ Some b → (q : Role) × Has w q b × (key_of q ≡ k)
 at_has [] k b e = cc
@@ -47,7 +51,7 @@ module _ (image : List ℕ) (f : Found) (s : Course) (v : IsCourse image s) (fs 
 
   -- without its page a bit is not compared
   pub no_page : get by_key f.taken (key_of (Page page)) ≡ None → BitTells image s b None
-  no_page e c = absurd (lacks_at s.walk (Page page) (sym (st.taken (Page page) tt) ∙ e) (Page page) c.0.0 c.0.1 (same_refl (Page page)))
+  no_page e c = absurd (lacks_at s.walk (Page page) (sym (st.taken (Page page) tt) ∙ e) (Page page) c.1.0 c.1.1 (same_refl (Page page)))
 
   tells_free : (at : ℕ) (t : Bool) → Has s.walk (Page page) at → (IsTrue t ↔ IsFreeAt image at ((b - 2) % PAGE_BITS)) → Tells t (IsFreeIn image s.walk b)
   tells_free at true h free = (at, h, free.0 refl)
@@ -55,23 +59,23 @@ module _ (image : List ℕ) (f : Found) (s : Course) (v : IsCourse image s) (fs 
       let one : y.0 ≡ at = (one_block image (gathered image v) (Page page) (Page page) y.0 at y.1 h (same_refl (Page page))).1 in
       let z : IsTrue false = free.1 (subst (λ a. IsFreeAt image a ((b - 2) % PAGE_BITS)) one y.2) in cc
 
-  tells_bit : (o a t : Bool) (at : ℕ) → Has s.walk (Page page) at → Tells (not o) (IsAbsent s.walk b) → Tells (not a) (IsAbsent s.passed_over b)
+  tells_bit : (o a t : Bool) (at : ℕ) → IsValidated image → Has s.walk (Page page) at → Tells (not o) (IsAbsent s.walk b) → Tells (not a) (IsAbsent s.passed_over b)
       → Tells t (IsFreeIn image s.walk b) → BitTells image s b (cause_told o a t)
-  tells_bit false false false at h ow av fr = (((at, h), (λ x. av)), inl ((λ k. fr (k ow)), refl, refl))
-  tells_bit false true false at h ow av fr = λ c. absurd (av (c.1 ow))
-  tells_bit false false true at h ow av fr = λ c. ((λ x. fr), ((λ x. ow), tt))
-  tells_bit false true true at h ow av fr = λ c. ((λ x. fr), ((λ x. ow), tt))
-  tells_bit true false true at h ow av fr = (((at, h), (λ x. absurd (ow x))), inr ((λ x. fr), inl ((λ k. ow (k fr)), refl, refl)))
-  tells_bit true true true at h ow av fr = (((at, h), (λ x. absurd (ow x))), inr ((λ x. fr), inl ((λ k. ow (k fr)), refl, refl)))
-  tells_bit true false false at h ow av fr = λ c. ((λ x. absurd (ow x)), ((λ x. absurd (fr x)), tt))
-  tells_bit true true false at h ow av fr = λ c. ((λ x. absurd (ow x)), ((λ x. absurd (fr x)), tt))
+  tells_bit false false false at vd h ow av fr = ((vd, (at, h), (λ x. av)), inl ((λ k. fr (k ow)), refl, refl))
+  tells_bit false true false at vd h ow av fr = λ c. absurd (av (c.2 ow))
+  tells_bit false false true at vd h ow av fr = λ c. ((λ x. fr), ((λ x. ow), tt))
+  tells_bit false true true at vd h ow av fr = λ c. ((λ x. fr), ((λ x. ow), tt))
+  tells_bit true false true at vd h ow av fr = ((vd, (at, h), (λ x. absurd (ow x))), inr ((λ x. fr), inl ((λ k. ow (k fr)), refl, refl)))
+  tells_bit true true true at vd h ow av fr = ((vd, (at, h), (λ x. absurd (ow x))), inr ((λ x. fr), inl ((λ k. ow (k fr)), refl, refl)))
+  tells_bit true false false at vd h ow av fr = λ c. ((λ x. absurd (ow x)), ((λ x. absurd (fr x)), tt))
+  tells_bit true true false at vd h ow av fr = λ c. ((λ x. absurd (ow x)), ((λ x. absurd (fr x)), tt))
 
   -- with its page the bit tells by whose the block is
-  pub page_tells : (o a t : Bool) → o ≡ owns s.walk b → a ≡ owns s.passed_over b → IsBitOf image f page ((b - 2) % PAGE_BITS) (Some t)
+  pub page_tells : (o a t : Bool) → o ≡ owns s.walk b → a ≡ owns s.passed_over b → IsValidated image → IsBitOf image f page ((b - 2) % PAGE_BITS) (Some t)
       → BitTells image s b (cause_told o a t)
-  page_tells o a t oe ae x =
+  page_tells o a t oe ae vd x =
       let h = page_has x.0 x.1 in
-      tells_bit o a t x.0 h (subst (λ o. Tells (not o) (IsAbsent s.walk b)) (sym oe) (tells_absent s.walk b))
+      tells_bit o a t x.0 vd h (subst (λ o. Tells (not o) (IsAbsent s.walk b)) (sym oe) (tells_absent s.walk b))
       (subst (λ a. Tells (not a) (IsAbsent s.passed_over b)) (sym ae) (tells_absent s.passed_over b)) (tells_free x.0 t h x.2)
 
 pub tells_none : (image : List ℕ) (s : Course) (b : ℕ) (gs : List FindingValue) → 2 ≤ b → BitTells image s b None

@@ -1,8 +1,12 @@
 -- The first finding of a survey, and surveys without one.
-use Rattle.std.proofs.Common.{◌≡◌, ℕ, suc, List, [], ◌∷◌, ◌++◌, inl, inr, ◌+◌, ◌-◌, ◌/◌, ◌<◌, ◌≤◌, refl, sym, subst, arith}
+use Rattle.std.proofs.Common.{◌≡◌, ℕ, suc, List, [], ◌∷◌, ◌++◌, inl, inr, ◌+◌, ◌-◌, ◌/◌, ◌<◌, ◌≤◌, ◌==◌, refl, sym, subst, arith, rules}
+use Rattle.std.proofs.lemmas.Bool.{eqb-true}
 use Rattle.adf_blocks.specs.declared.cause.Cause.{Cause}
-use Rattle.adf_blocks.specs.declared.layout.TheConstants.{PAGE_BITS}
+use Rattle.adf_blocks.specs.declared.cause.Cause.TheVariants.{NotValidated}
+use Rattle.adf_blocks.specs.declared.layout.TheConstants.{BITMAP_FLAG, PAGE_BITS, VALID}
+use Rattle.adf_blocks.specs.RootBlock.{root_form}
 use Rattle.adf_blocks.specs.Sizes.{blocks, pages_needed}
+use Rattle.adf_fields.specs.Words.{block}
 use Rattle.adf_volume.specs.Image.{word_in, root_of}
 use Rattle.adf_volume.specs.Demands.{AllHold, FirstFails, boot_demands, root_demands}
 use Rattle.adf_volume.specs.Walk.{Role, Lacks, IsDue, IsAbsent, IsWalk, IsWhole, FirstFault, demands, bitmap_demands}
@@ -15,19 +19,22 @@ use Rattle.adf_tree.specs.Tree.{Tree}
 use Rattle.adf_volume.specs.Fits.{Fits}
 use Rattle.adf_volume.specs.Layout.{Layout}
 use Rattle.adf_volume.specs.Made.{layout_in, tree_in}
+use Rattle.adf_volume.proofs.FormDemands.{demanded}
 use Rattle.adf_volume.proofs.Lists.{all_split}
 use Rattle.adf_volume.proofs.NoneFits.{none_fits}
 use Rattle.adf_volume.proofs.WalkFits.{fits}
-use Rattle.adf_survey.specs.Survey.{FindingValue, JudgementValue, Judged, Course, after, IsNext, IsCourse, IsDone, IsCompared, BitsTell, IsSurvey}
+use Rattle.adf_survey.specs.Survey.{FindingValue, JudgementValue, Judged, start_demands}
+use Rattle.adf_survey.specs.Survey.{Course, after, IsNext, IsCourse, IsDone, IsValidated, IsCompared, BitsTell, IsSurvey}
 use Rattle.adf_survey.specs.Survey.JudgementValue.{clean, noted, passed}
 use Rattle.adf_survey.specs.Survey.IsCourse.{start, step}
+use Rattle.adf_survey.specs.Survey.RootTells.{clean_root, noted_root}
 use Rattle.adf_survey.specs.Survey.BitsTell.{ends, agrees, differs}
 use Rattle.adf_survey.specs.Survey.IsSurvey.{unread, read}
 
-module _ (image : List ℕ) (begun : AllHold (boot_demands image ++ root_demands image (root_of image))) where
+module _ (image : List ℕ) where
   -- what is known of a course by its findings: without one it is a walk that left nothing; the first one is the first fault
   abbrev Known : List (Role × ℕ) → List (Role × ℕ) → List FindingValue → Type 0
-  Known w over [] = IsWalk image w × (over ≡ [])
+  Known w over [] = AllHold (start_demands image) × IsWalk image w × (over ≡ [])
   Known w over (f ∷ fs) = FirstFault image f.block f.cause
 
   -- without findings, what is next is what is due
@@ -42,15 +49,16 @@ module _ (image : List ℕ) (begun : AllHold (boot_demands image ++ root_demands
   stepped : (w over : List (Role × ℕ)) (fs : List FindingValue) (r : Role) (a i : ℕ) (j : JudgementValue) → Known w over fs
       → IsNext image (record { walk = w; passed_over = over; findings = fs }) r a i → Judged r (demands image w r a (word_in image a i)) j
       → let s : Course = after (record { walk = w; passed_over = over; findings = fs }) r (word_in image a i) j in Known s.walk s.passed_over s.findings
-  stepped w over [] r a i clean k n h = (walk_step k.0 (due w over [] r a i k.1 n) refl h, k.1)
-  stepped w over [] r a i (noted at c) k n h = at_due begun w r a i k.0 (due w over [] r a i k.1 n) h.0
-  stepped w over [] r a i (passed at c) k n h = at_due begun w r a i k.0 (due w over [] r a i k.1 n) h.0
+  stepped w over [] r a i clean k n h = (k.0, walk_step k.1 (due w over [] r a i k.2 n) refl h, k.2)
+  stepped w over [] r a i (noted at c) k n h = at_due k.0 w r a i k.1 (due w over [] r a i k.2 n) h.0
+  stepped w over [] r a i (passed at c) k n h = at_due k.0 w r a i k.1 (due w over [] r a i k.2 n) h.0
   stepped w over (f ∷ fs) r a i clean k n h = k
   stepped w over (f ∷ fs) r a i (noted at c) k n h = k
   stepped w over (f ∷ fs) r a i (passed at c) k n h = k
 
   known : {s : Course} → IsCourse image s → Known s.walk s.passed_over s.findings
-  known start = (walk_start, refl)
+  known (start (clean_root h)) = (h, walk_start, refl)
+  known (start (noted_root h)) = at_boot h.0
   known (step {s = s} {r = r} {a = a} {i = i} j v n h) = stepped s.walk s.passed_over s.findings r a i j (known v) n h
 
   -- without findings, a course that is done is a whole walk
@@ -58,14 +66,14 @@ module _ (image : List ℕ) (begun : AllHold (boot_demands image ++ root_demands
       → IsWhole image w
   whole w over fs e d r a i ask lack = d r a i ask lack (subst (λ l. Lacks l r) (sym e) (λ z b h s. h))
 
-  -- and all bits are compared
-  compared : (w over : List (Role × ℕ)) (fs : List FindingValue) → over ≡ [] → IsWhole image w → (b : ℕ) → 2 ≤ b → b < blocks image
-      → IsCompared (record { walk = w; passed_over = over; findings = fs }) b
-  compared w over fs e wh b lo hi =
+  -- and all bits are compared, where the root has its form
+  compared : (w over : List (Role × ℕ)) (fs : List FindingValue) → over ≡ [] → IsWhole image w → IsValidated image → (b : ℕ) → 2 ≤ b
+      → b < blocks image → IsCompared image (record { walk = w; passed_over = over; findings = fs }) b
+  compared w over fs e wh vd b lo hi =
       let k : ℕ = (b - 2) / PAGE_BITS in
       let lt : k < pages_needed (blocks image) = omega arith in
       let m = page_word image w k lt (λ j y. all_map_exts image w wh j (omega arith)) in
-      (asked_block image w wh (Page k) m.0 m.1 m.2 (omega arith), (λ _. subst (λ l. IsAbsent l b) (sym e) (λ q h. h)))
+      (vd, asked_block image w wh (Page k) m.0 m.1 m.2 (omega arith), (λ _. subst (λ l. IsAbsent l b) (sym e) (λ q h. h)))
 
   -- where all bits are compared, without a finding they agree, and the first one is the first that disagrees
   abbrev Told : List (Role × ℕ) → ℕ → ℕ → List FindingValue → Type 0
@@ -81,7 +89,7 @@ module _ (image : List ℕ) (begun : AllHold (boot_demands image ++ root_demands
   differed w b n at c (inr (x, inl h)) = inr (x, inl h)
   differed w b n at c (inr (x, inr h)) = absurd h.1
 
-  told : {s : Course} {b n : ℕ} {fs : List FindingValue} → BitsTell image s b n fs → ((c : ℕ) → b ≤ c → c < b + n → IsCompared s c) → Told s.walk b n fs
+  told : {s : Course} {b n : ℕ} {fs : List FindingValue} → BitsTell image s b n fs → ((c : ℕ) → b ≤ c → c < b + n → IsCompared image s c) → Told s.walk b n fs
   told ends all = tt
   told {s = s} (agrees {b = b} {n = n} {fs = fs} h t) all =
       agreed s.walk b n fs (h (all b (omega arith) (omega arith))) (told t (λ c lo hi. all c (omega arith) (omega arith)))
@@ -89,25 +97,31 @@ module _ (image : List ℕ) (begun : AllHold (boot_demands image ++ root_demands
 
 -- what is known of an image by its walk and findings
 abbrev pub Shows : List ℕ → List (Role × ℕ) → List FindingValue → Type 0
-Shows image w [] = AllHold (boot_demands image ++ root_demands image (root_of image)) × IsWalk image w × IsWhole image w
+Shows image w [] = AllHold (start_demands image) × IsWalk image w × IsWhole image w
     × AllHold (bitmap_demands image w 2 (blocks image - 2))
 Shows image w (f ∷ fs) = FirstFault image f.block f.cause
 
-joined : (image : List ℕ) (w over : List (Role × ℕ)) (fs bits : List FindingValue) (begun : AllHold (boot_demands image ++ root_demands image (root_of image)))
-    → Known image begun w over fs → IsDone image (record { walk = w; passed_over = over; findings = fs })
+-- a root that has its form says that the bitmap is valid
+validated : (image : List ℕ) → AllHold (start_demands image) → IsValidated image
+validated image h =
+    let root = (all_split (boot_demands image) (root_demands image (root_of image)) h).1 in
+    let flag : ℕ = word_in image (root_of image) BITMAP_FLAG in
+    eqb-true flag VALID (demanded (root_of image) (root_form (block image (root_of image))) (flag == VALID) NotValidated root (search rules))
+
+joined : (image : List ℕ) (w over : List (Role × ℕ)) (fs bits : List FindingValue) → Known image w over fs → IsDone image (record { walk = w; passed_over = over; findings = fs })
     → BitsTell image (record { walk = w; passed_over = over; findings = fs }) 2 (blocks image - 2) bits → Shows image w (fs ++ bits)
-joined image w over (f ∷ fs) bits begun k d t = k
-joined image w over [] bits begun k d t =
-    let wh = whole image begun w over [] k.1 d in
-    cases bits (told image begun t (λ b lo hi. compared image begun w over [] k.1 wh b lo (omega arith)))
+joined image w over (f ∷ fs) bits k d t = k
+joined image w over [] bits k d t =
+    let wh = whole image w over [] k.2 d in
+    cases bits (told image t (λ b lo hi. compared image w over [] k.2 wh (validated image k.0) b lo (omega arith)))
   where
-    cases : (bits : List FindingValue) → Told image begun w 2 (blocks image - 2) bits → Shows image w bits
-    cases [] h = (begun, k.0, whole image begun w over [] k.1 d, h)
-    cases (f ∷ fs) h = at_bitmap begun w k.0 (whole image begun w over [] k.1 d) h
+    cases : (bits : List FindingValue) → Told image w 2 (blocks image - 2) bits → Shows image w bits
+    cases [] h = (k.0, k.1, whole image w over [] k.2 d, h)
+    cases (f ∷ fs) h = at_bitmap k.0 w k.1 (whole image w over [] k.2 d) h
 
 pub shown : (image : List ℕ) {w : List (Role × ℕ)} {fs : List FindingValue} → IsSurvey image w fs → Shows image w fs
-shown image (unread f) = at_boot f
-shown image (read {s = s} {bits = bits} begun v d t) = joined image s.walk s.passed_over s.findings bits begun (known image begun v) d t
+shown image (unread f) = at_boot f.0
+shown image (read {s = s} {bits = bits} v d t) = joined image s.walk s.passed_over s.findings bits (known image v) d t
 
 -- the first finding is the first fault
 pub first_finding : (image : List ℕ) (w : List (Role × ℕ)) (f : FindingValue) (fs : List FindingValue) → IsSurvey image w (f ∷ fs)

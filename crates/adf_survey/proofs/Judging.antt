@@ -6,7 +6,7 @@ use Rattle.adf_tree.specs.Texts.{uppers}
 use Rattle.adf_tree.specs.declared.entry.Kind.{Kind}
 use Rattle.adf_tree.specs.declared.entry.Kind.TheVariants.{Ofs, Ffs}
 use Rattle.adf_blocks.specs.declared.cause.Cause.{Cause}
-use Rattle.adf_blocks.specs.declared.layout.TheConstants.{PAGE_BITS, POINTERS, SIZE}
+use Rattle.adf_blocks.specs.declared.layout.TheConstants.{BITMAP_FLAG, PAGE_BITS, POINTERS, SIZE, VALID}
 use Rattle.adf_blocks.specs.Forms.{Clause}
 use Rattle.adf_blocks.specs.Sizes.{blocks}
 use Rattle.adf_blocks.specs.DataBlock.{data_form}
@@ -14,7 +14,7 @@ use Rattle.adf_blocks.specs.ExtBlock.{ext_form}
 use Rattle.adf_blocks.specs.HeadBlock.{head_form}
 use Rattle.adf_blocks.specs.PageBlock.{page_form}
 use Rattle.adf_fields.specs.Words.{block}
-use Rattle.adf_volume.specs.Image.{name_of, kind_of, held, word_in, IsFreeAt}
+use Rattle.adf_volume.specs.Image.{name_of, kind_of, held, root_of, word_in, IsFreeAt}
 use Rattle.adf_volume.specs.Demands.{Demand, AllHold, FirstFails, demands_at, data_demands}
 use Rattle.adf_volume.specs.Walk.{Role, first, second, Has, data_count, ext_count, Enough, form_demands, NewName, IsAbsent, IsFreeIn, demands}
 use Rattle.adf_volume.specs.Walk.{bitmap_demands, next_data, node_block}
@@ -184,13 +184,16 @@ module _ (image : List ℕ) (w : List (Role × ℕ)) (v : IsGathered image w) wh
   )
 
 module _ (image : List ℕ) (s : Course) (v : IsGathered image s.walk) where
-  dec_compared : (b : ℕ) → Dec (IsCompared s b)
+  dec_compared : (b : ℕ) → Dec (IsCompared image s b)
   dec_compared b =
-      elim (dec_low image s.walk v (Page ((b - 2) / PAGE_BITS)) (omega arith)) [
+      elim (ℕ_discrete (word_in image (root_of image) BITMAP_FLAG) VALID) [
         | no n ↦ no (λ x. n x.0)
-        | yes y ↦ elim (dec_both (IsAbsent s.walk b) (IsAbsent s.passed_over b) (dec_absent s.walk b) (dec_absent s.passed_over b)) [
+        | yes e ↦ elim (dec_low image s.walk v (Page ((b - 2) / PAGE_BITS)) (omega arith)) [
           | no n ↦ no (λ x. n x.1)
-          | yes z ↦ yes (y, z)
+          | yes y ↦ elim (dec_both (IsAbsent s.walk b) (IsAbsent s.passed_over b) (dec_absent s.walk b) (dec_absent s.passed_over b)) [
+            | no n ↦ no (λ x. n x.2)
+            | yes z ↦ yes (e, y, z)
+          ]
         ]
       ]
 

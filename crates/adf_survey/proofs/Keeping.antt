@@ -2,8 +2,6 @@
 use Rattle.std.specs.Prelude.{Bool, None, Option, map, slice_get}
 use Rattle.std.specs.Option.{option_flatten}
 use Rattle.std.proofs.Common.{◌≡◌, ℕ, List, [], ◌∷◌, ◌++◌, ◌≤◌, refl, sym, ap, subst, ◌∙◌, arith, ◌*◌, ◌<◌, length}
-use Rattle.adf_volume.specs.Demands.{FirstFails, boot_demands, root_demands}
-use Rattle.adf_volume.specs.Image.{root_of}
 use Rattle.adf_blocks.specs.Sizes.{blocks}
 use Rattle.adf_volume.proofs.Gathered.{head_block, numbered as has_number}
 use Rattle.adf_volume.specs.Walk.{Role, second, Has, heads, node_block}
@@ -13,11 +11,11 @@ use Rattle.adf_survey.specs.Found.{parent_node}
 use Rattle.adf_survey.specs.declared.part.Finding.{Finding}
 use Rattle.adf_survey.specs.declared.found.Found.{Found}
 use Rattle.adf_survey.specs.Found.{IsCompleted}
-use Rattle.adf_volume.specs.Start.{IsBegun}
 use Rattle.adf_survey.specs.Marks.{blamed, has_mark, is_clear}
 use Rattle.adf_survey.specs.declared.part.Part.{Part}
 use Rattle.adf_survey.specs.Parts.{part_role, finding_value}
-use Rattle.adf_survey.specs.Survey.{FindingValue, IsSurvey, finding}
+use Rattle.adf_survey.specs.Survey.{FindingValue, IsSurvey, Judged, finding, start_demands}
+use Rattle.adf_survey.specs.Survey.JudgementValue.{passed}
 use Rattle.adf_survey.specs.Survey.IsSurvey.{read, unread}
 use Rattle.adf_survey.specs.Sound.{IsSound}
 use Rattle.adf_volume.proofs.Gathered.{number_of}
@@ -26,10 +24,11 @@ use Rattle.adf_survey.proofs.Concerning.{concerned_kept, none_kept}
 use Rattle.adf_survey.proofs.HeadPlaces.{head_parent}
 use Rattle.adf_survey.proofs.OneSurvey.{gathered, one_survey}
 use Rattle.adf_survey.proofs.SoundMarks.{clear_is_sound, inside}
+use Rattle.adf_survey.proofs.Starts.{course_size}
 
--- of an image that does not begin as a volume the finding is kept alone
+-- of an image whose root is not taken the finding is kept alone
 pub unread_kept : (image : List ℕ) (x : Finding) (items : List Finding) → x.part ≡ None
-    → FirstFails (boot_demands image ++ root_demands image (root_of image)) x.block x.cause → items ≡ x ∷ []
+    → Judged Root (start_demands image) (passed x.block x.cause) → items ≡ x ∷ []
     → IsOfSurvey (record { image = image; findings = items; concerned = []; nodes = []; parents = []; sound = [] })
 unread_kept image x items none fails e =
     let part_told : Option Part → FindingValue = λ p. finding (part_role p) x.block x.cause in (
@@ -47,14 +46,14 @@ unread_kept image x items none fails e =
     )
 
 -- of an image whose course is done, with its bits compared
-pub read_kept : (image : List ℕ) (f : Found) (concerned : List (Option ℕ)) (sound : List Bool) → IsBegun image → IsCompleted image f
+pub read_kept : (image : List ℕ) (f : Found) (concerned : List (Option ℕ)) (sound : List Bool) → IsCompleted image f
     → concerned ≡ map (λ x. blamed f x.part) f.findings.items → ((m : ℕ) → has_mark sound m ≡ is_clear image f m)
     → IsOfSurvey (kept_of image f.findings.items concerned f.nodes.items f.parents.items sound)
-read_kept image f concerned sound begun (s, bits, told, bits_tell) entries marks = (
+read_kept image f concerned sound (s, bits, told, bits_tell) entries marks = (
   s.walk,
   s.findings ++ bits,
   record {
-    survey = read begun told.course told.done bits_tell;
+    survey = read told.course told.done bits_tell;
     findings = told.stands.findings;
     concerned = (λ k.
         ap (λ os. option_flatten (slice_get os k)) entries ∙ concerned_kept image f told.course bits bits_tell told.stands k);
@@ -76,21 +75,21 @@ tells_each v k w fs h =
 -- the root is no entry
 pub root_no_entry : (image : List ℕ) (w : List (Role × ℕ)) (fs : List FindingValue) (h : ℕ) → IsSurvey image w fs → IsSound image w fs 0 h → ⊥
 root_no_entry image w fs h (unread f) s = s.header.has
-root_no_entry image w fs h (read begun v d t) s = omega (arith, number_of image (gathered image v) s.header)
+root_no_entry image w fs h (read v d t) s = omega (arith, number_of image (gathered image v) s.header)
 
 -- the directory of an entry, as a function
 pub parent_is : (image : List ℕ) (w : List (Role × ℕ)) (fs : List FindingValue) → IsSurvey image w fs → (n p s j b : ℕ) → Has w (Head n p s j) b
     → parent_node w n ≡ p
 parent_is image w fs (unread f) n p s j b h = absurd h
-parent_is image w fs (read begun v d t) n p s j b h = head_parent image (gathered image v) n p s j b h
+parent_is image w fs (read v d t) n p s j b h = head_parent image (gathered image v) n p s j b h
 
 -- the header of an entry is inside of the image
 pub header_inside : (image : List ℕ) (w : List (Role × ℕ)) (fs : List FindingValue) → IsSurvey image w fs → (n : ℕ) → 1 ≤ n → n ≤ heads w
     → (length image ≡ 512 * blocks image) × (node_block w n < blocks image)
 header_inside image w fs (unread f) n lo hi = absurd (omega arith)
-header_inside image w fs (read {s = s} begun v d t) n lo hi =
+header_inside image w fs (read {s = s} v d t) n lo hi =
     let x = has_number image (gathered image v) n lo hi in
     let at : node_block s.walk n ≡ x.0 = head_block image (gathered image v) x.1 in
     let lt : x.0 < blocks image =
     inside image v (head_role x.1) x.0 (λ e. let y : second Root ≡ second (head_role x.1) = ap second e in omega arith) x.1.has in
-    (begun.0.0, omega arith)
+    ((course_size image v).0, omega arith)

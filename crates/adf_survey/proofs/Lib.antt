@@ -2,6 +2,8 @@
 pub mod Judging
 -- the first finding, and surveys without one
 pub mod FirstFindings
+-- how an image starts
+pub mod Starts
 -- an image has one survey, and has one
 pub mod OneSurvey
 pub mod SomeSurvey
@@ -31,5 +33,5 @@ pub mod SoundMarks
 pub mod HeadPlaces
 pub mod Concerning
 pub mod Keeping
--- images that begin as volumes, and the marks that are kept
+-- images that are gone through, and the marks that are kept
 pub mod Openings

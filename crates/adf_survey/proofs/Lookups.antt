@@ -19,21 +19,21 @@ use Rattle.adf_survey.proofs.OneSurvey.{gathered}
 pub child_between : (image : List ℕ) (w : List (Role × ℕ)) (fs : List FindingValue) → IsSurvey image w fs → (p n : ℕ) (name : List ℕ)
     → IsNamedChild image w p name n → (p < n) × (n ≤ heads w)
 child_between image w fs (unread f) p n name (s, j, b, has, same) = absurd has
-child_between image w fs (read begun v d t) p n name (s, j, b, has, same) =
+child_between image w fs (read v d t) p n name (s, j, b, has, same) =
     let h : HeadAt w n b = head_at n p s j b has in (parent_below image (gathered image v) h, (number_of image (gathered image v) h).1)
 
 -- the header of an entry, by its number
 pub header_at : (image : List ℕ) (w : List (Role × ℕ)) (fs : List FindingValue) → IsSurvey image w fs → (n : ℕ) → 1 ≤ n → n ≤ heads w
     → HeadAt w n (node_block w n)
 header_at image w fs (unread f) n lo hi = absurd (omega arith)
-header_at image w fs (read {s = s} begun v d t) n lo hi =
+header_at image w fs (read {s = s} v d t) n lo hi =
     let x = has_number image (gathered image v) n lo hi in
     subst (HeadAt s.walk n) (sym (head_block image (gathered image v) x.1)) x.1
 
 header_one : (image : List ℕ) (w : List (Role × ℕ)) (fs : List FindingValue) → IsSurvey image w fs → (n p s j b : ℕ) → Has w (Head n p s j) b
     → node_block w n ≡ b
 header_one image w fs (unread f) n p s j b g = absurd g
-header_one image w fs (read begun v d t) n p s j b g = head_block image (gathered image v) (head_at n p s j b g)
+header_one image w fs (read v d t) n p s j b g = head_block image (gathered image v) (head_at n p s j b g)
 
 -- an entry of the directory is a child by its name
 pub child_told : (image : List ℕ) (w : List (Role × ℕ)) (fs : List FindingValue) → IsSurvey image w fs → (p n : ℕ) (name text : List ℕ) (t : Bool) (up : ℕ)

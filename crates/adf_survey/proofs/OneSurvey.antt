@@ -1,21 +1,25 @@
 -- An image has one survey at most.
-use Rattle.std.specs.Prelude.{None}
+use Rattle.std.specs.Prelude.{None, Some}
 use Rattle.std.proofs.Common.{◌≡◌, ℕ, suc, List, [], ◌∷◌, ◌++◌, ◌+◌, ◌-◌, ◌<◌, length, refl, sym, subst, ◌∙◌, arith}
 use native.Mathlib.Decide.{dec_lt}
 use Rattle.adf_blocks.specs.Sizes.{blocks}
-use Rattle.adf_volume.specs.Image.{word_in, root_of}
-use Rattle.adf_volume.specs.Demands.{Demand, boot_demands, root_demands}
+use Rattle.adf_volume.specs.Image.{word_in}
+use Rattle.adf_volume.specs.Demands.{Demand}
 use Rattle.adf_volume.specs.Walk.{Role, Same, Asks, demands, bitmap_demands}
+use Rattle.adf_volume.specs.Walk.Role.{Root}
 use Rattle.adf_volume.proofs.Lists.{fails_not_all}
 use Rattle.adf_volume.proofs.OneFault.{fails_one, neither_before, number_is}
 use Rattle.adf_volume.proofs.Roles.{same_role}
-use Rattle.adf_survey.specs.Survey.{FindingValue, finding, JudgementValue, Judged, Course, after, IsNext, IsCourse, IsDone, BitsTell, IsSurvey}
+use Rattle.adf_survey.specs.Survey.{FindingValue, finding, JudgementValue, Judged, RootTells, begun, start_demands}
+use Rattle.adf_survey.specs.Survey.{Course, after, IsNext, IsCourse, IsDone, BitsTell, IsSurvey}
 use Rattle.adf_survey.specs.Survey.JudgementValue.{clean, noted, passed}
 use Rattle.adf_survey.specs.Survey.IsCourse.{start, step}
+use Rattle.adf_survey.specs.Survey.RootTells.{clean_root, noted_root}
 use Rattle.adf_survey.specs.Survey.BitsTell.{ends, agrees, differs}
 use Rattle.adf_survey.specs.Survey.IsSurvey.{unread, read}
 use Rattle.adf_volume.proofs.Gathered.{IsGathered, asks_one}
 use Rattle.adf_volume.proofs.Gathered.IsGathered.{start as gathered_start, step as gathered_step}
+use Rattle.adf_survey.proofs.Starts.{not_passed, root_told}
 
 -- a part is judged in one way
 judged_one : (r : Role) (xs : List Demand) (j k : JudgementValue) → Judged r xs j → Judged r xs k → j ≡ k
@@ -38,7 +42,7 @@ module _ (image : List ℕ) where
   came s r a i (passed at c) v n = v
 
   pub gathered : {s : Course} → IsCourse image s → IsGathered image s.walk
-  gathered start = gathered_start
+  gathered (start t) = gathered_start
   gathered (step {s = s} {r = r} {a = a} {i = i} j v n h) = came s r a i j (gathered v) n
 
   -- one part is next, by one word
@@ -60,16 +64,24 @@ module _ (image : List ℕ) where
   one_more s r b (passed at c) = omega arith
 
   not_empty : {s : Course} → IsCourse image s → steps s ≡ 0 → ⊥
-  not_empty start e = omega arith
+  not_empty (start t) e = omega arith
   not_empty (step {s = s} {r = r} {a = a} {i = i} j v n h) e = omega (arith, one_more s r (word_in image a i) j)
+
+  -- one thing is told of the root
+  root_one : {fs gs : List FindingValue} → RootTells image fs → RootTells image gs → fs ≡ gs
+  root_one (clean_root h) (clean_root g) = refl
+  root_one (clean_root h) (noted_root {at = at} {c = c} g) = absurd (fails_not_all (start_demands image) at c g.0 h)
+  root_one (noted_root {at = at} {c = c} h) (clean_root g) = absurd (fails_not_all (start_demands image) at c h.0 g)
+  root_one (noted_root {at = a} {c = c} h) (noted_root {at = b} {c = d} g) =
+      let e = fails_one (start_demands image) a c b d h.0 g.0 in λ t. finding (Some Root) (e.0 t) (e.1 t) ∷ []
 
   -- courses that have judged as many parts are one
   same_courses : {s t : Course} → IsCourse image s → IsCourse image t → steps s ≡ steps t → s ≡ t
-  same_courses start start e = refl
-  same_courses start (step {s = s} {r = r} {a = a} {i = i} j v n h) e =
+  same_courses (start t) (start u) e = λ i. begun image (root_one t u i)
+  same_courses (start t) (step {s = s} {r = r} {a = a} {i = i} j v n h) e =
       let m : steps (after s r (word_in image a i) j) ≡ suc (steps s) = one_more s r (word_in image a i) j in
       absurd (not_empty v (omega arith))
-  same_courses (step {s = s} {r = r} {a = a} {i = i} j v n h) start e =
+  same_courses (step {s = s} {r = r} {a = a} {i = i} j v n h) (start t) e =
       let m : steps (after s r (word_in image a i) j) ≡ suc (steps s) = one_more s r (word_in image a i) j in
       absurd (not_empty v (omega arith))
   same_courses (step {s = s} {r = r} {a = a} {i = i} j v n h) (step {s = u} {r = q} {a = b} {i = k} l v' n' h') e =
@@ -85,7 +97,7 @@ module _ (image : List ℕ) where
 
   -- a course that is done is not the shorter of two
   not_shorter : {t : Course} → IsCourse image t → (s : Course) → IsCourse image s → IsDone image s → steps s < steps t → ⊥
-  not_shorter start s v d l = not_empty v (omega arith)
+  not_shorter (start t) s v d l = not_empty v (omega arith)
   not_shorter (step {s = u} {r = r} {a = a} {i = i} j v' n h) s v d l =
       let m : steps (after u r (word_in image a i) j) ≡ suc (steps u) = one_more u r (word_in image a i) j in
       elim (dec_lt (steps s) (steps u)) [
@@ -114,13 +126,11 @@ module _ (image : List ℕ) where
 
   pub one_survey : (w u : List (Role × ℕ)) (fs gs : List FindingValue) → IsSurvey image w fs → IsSurvey image u gs → (w ≡ u) × (fs ≡ gs)
   one_survey w u fs gs (unread {at = at} {c = c} f) (unread {at = at'} {c = c'} g) =
-      let e = fails_one (boot_demands image ++ root_demands image (root_of image)) at c at' c' f g in
+      let e = fails_one (start_demands image) at c at' c' f.0 g.0 in
       (refl, (λ t. finding None (e.0 t) (e.1 t) ∷ []))
-  one_survey w u fs gs (unread {at = at} {c = c} f) (read begun v d t) =
-      absurd (fails_not_all (boot_demands image ++ root_demands image (root_of image)) at c f begun)
-  one_survey w u fs gs (read begun v d t) (unread {at = at} {c = c} f) =
-      absurd (fails_not_all (boot_demands image ++ root_demands image (root_of image)) at c f begun)
-  one_survey w u fs gs (read {s = s} {bits = bits} begun v d t) (read {s = s'} {bits = bits'} begun' v' d' t') =
+  one_survey w u fs gs (unread f) (read v d t) = absurd (not_passed image (root_told image v).1 f)
+  one_survey w u fs gs (read v d t) (unread f) = absurd (not_passed image (root_told image v).1 f)
+  one_survey w u fs gs (read {s = s} {bits = bits} v d t) (read {s = s'} {bits = bits'} v' d' t') =
       let z = one_course s s' v v' d d' in
       let e = bits_one s' (subst (λ s. BitsTell image s 2 (blocks image - 2) bits) z t) t' in
       ((λ t. (z t).walk), (λ t. (z t).findings ++ e t))

@@ -16,15 +16,17 @@ use Rattle.adf_volume.proofs.DecidedAsks.{Asked}
 use Rattle.adf_volume.proofs.FitWalks.{dec_lacks, lacks_same, least, without}
 use Rattle.adf_volume.proofs.Lists.{in_left, in_right}
 use Rattle.adf_volume.proofs.Roles.{head_role, renumbered, renumbered_same, same_of}
-use Rattle.adf_survey.specs.Survey.{FindingValue, finding, JudgementValue, Judged, Course, after, IsNext, IsCourse, IsDone, IsSurvey}
+use Rattle.adf_survey.specs.Survey.{FindingValue, finding, JudgementValue, Judged, RootTells, begun, start_demands}
+use Rattle.adf_survey.specs.Survey.{Course, after, IsNext, IsCourse, IsDone, IsSurvey}
 use Rattle.adf_survey.specs.Survey.JudgementValue.{clean, noted, passed}
 use Rattle.adf_survey.specs.Survey.IsCourse.{start, step}
+use Rattle.adf_survey.specs.Survey.RootTells.{clean_root, noted_root}
 use Rattle.adf_survey.specs.Survey.IsSurvey.{unread, read}
 use Rattle.adf_volume.proofs.DecidedAsks.{dec_asked}
 use Rattle.adf_volume.proofs.Gathered.{IsGathered, root_in}
 use Rattle.adf_volume.proofs.PartDemands.{part_holds}
 use Rattle.adf_survey.proofs.Judged.{itself_holds}
-use Rattle.adf_survey.proofs.Judging.{decided, decided_append, decided_form, dec_true, first_failing, judged, bits_told}
+use Rattle.adf_survey.proofs.Judging.{decided, decided_append, decided_form, dec_true, judged, bits_told}
 use Rattle.adf_survey.proofs.OneSurvey.{gathered}
 
 -- the values at the numbers below n
@@ -225,11 +227,10 @@ module _ (image : List ℕ) where
       judge_all free (λ rest k. finish n rest (omega arith)) (length rs) rs refl s v fr
       (λ r a i ask lack unpassed. covered s.walk (gathered image v) r a i ask)
 
-  finished : Finished
-  finished =
+  finished : (fs : List FindingValue) → RootTells image fs → Finished
+  finished fs told =
       let free : List ℕ = upto (λ b. b) (blocks image) in
-      finish (length free) free refl (record { walk = (Root, root_of image) ∷ []; passed_over = []; findings = [] }) start
-      (λ b lt h. in_upto (λ b. b) (blocks image) b lt)
+      finish (length free) free refl (begun image fs) (start told) (λ b lt h. in_upto (λ b. b) (blocks image) b lt)
 
   decided_size : Dec (IsSize image)
   decided_size = elim (ℕ_discrete (length image) (512 * blocks image)) [
@@ -237,14 +238,23 @@ module _ (image : List ℕ) where
     | yes e ↦ elim (dec_true (is_allowed (blocks image))) [ no n ↦ no (λ x. n x.1) | yes y ↦ yes (e, y) ]
   ]
 
+  -- the root is judged
+  start_judged : (j : JudgementValue) × Judged Root (start_demands image) j
+  start_judged =
+      judged Root (start_demands image) (decided_append (boot_demands image) (root_demands image (root_of image))
+      (decided_size, decided_form 0 (boot_form (block image 0))) (decided_form (root_of image) (root_form (block image (root_of image)))))
+
+  -- where it is taken, the parts are gone through
+  gone_through : (fs : List FindingValue) → RootTells image fs → (w : List (Role × ℕ)) × (gs : List FindingValue) × IsSurvey image w gs
+  gone_through fs told =
+      let t = finished fs told in
+      let bits = bits_told image t.0 (gathered image t.1) 2 (blocks image - 2) in
+      (t.0.walk, t.0.findings ++ bits.0, read t.1 t.2 bits.1)
+
   pub some_survey : (w : List (Role × ℕ)) × (fs : List FindingValue) × IsSurvey image w fs
-  some_survey =
-      elim (first_failing (boot_demands image ++ root_demands image (root_of image))
-      (decided_append (boot_demands image) (root_demands image (root_of image)) (decided_size, decided_form 0 (boot_form (block image 0)))
-      (decided_form (root_of image) (root_form (block image (root_of image)))))) [
-        | inr f ↦ ([], finding None f.0 f.1 ∷ [], unread f.2)
-        | inl begun ↦
-            let t = finished in
-            let bits = bits_told image t.0 (gathered image t.1) 2 (blocks image - 2) in
-            (t.0.walk, t.0.findings ++ bits.0, read begun t.1 t.2 bits.1)
-      ]
+  some_survey = let y = start_judged in go y.0 y.1
+    where
+      go : (j : JudgementValue) → Judged Root (start_demands image) j → (w : List (Role × ℕ)) × (fs : List FindingValue) × IsSurvey image w fs
+      go clean h = gone_through [] (clean_root h)
+      go (noted at c) h = gone_through (finding (Some Root) at c ∷ []) (noted_root h)
+      go (passed at c) h = ([], finding None at c ∷ [], unread h)

@@ -34,7 +34,7 @@ module _ (image : List ℕ) where
 
   -- what was passed over is noted
   pub passed_noted : {s : Course} → IsCourse image s → (r : Role) (b : ℕ) → Has s.passed_over r b → Noted s.findings r
-  passed_noted start r b h = absurd h
+  passed_noted (start t) r b h = absurd h
   passed_noted (step {s = s} {r = q} {a = a} {i = i} clean v n g) r b h = passed_noted v r b h
   passed_noted (step {s = s} {r = q} {a = a} {i = i} (noted at c) v n g) r b h = noted_more s.findings (finding (Some q) at c ∷ []) r (passed_noted v r b h)
   passed_noted (step {s = s} {r = q} {a = a} {i = i} (passed at c) v n g) r b (inl e) = noted_now s.findings r (finding (Some q) at c) (ap Some e.0)
@@ -96,8 +96,8 @@ module _ (image : List ℕ) where
 
   -- each member but the root came by a word, and has no cause or is noted
   came : {s : Course} → IsCourse image s → (r : Role) (b : ℕ) → Has s.walk r b → (Root ≡ r) ⊎ Came s.walk s.findings r b
-  came start r b (inl e) = inl e.0
-  came start r b (inr h) = absurd h
+  came (start t) r b (inl e) = inl e.0
+  came (start t) r b (inr h) = absurd h
   came (step {s = s} {r = q} {a = a} {i = i} clean v n g) r b (inl e) =
       let w : List (Role × ℕ) = (q, word_in image a i) ∷ s.walk in
       inr (subst (Came w s.findings r) e.1 (subst (λ r. Came w s.findings r (word_in image a i)) e.0
@@ -253,9 +253,9 @@ module _ (image : List ℕ) where
   absent_new w z r q c b h k (inr e) (inr f) = k e f
 
   pub one_role : {s : Course} → IsCourse image s → (r q : Role) (b : ℕ) → Has s.walk r b → Has s.walk q b → r ≡ q
-  one_role start r q b (inl e) (inl f) = sym e.0 ∙ f.0
-  one_role start r q b (inl e) (inr f) = absurd f
-  one_role start r q b (inr e) f = absurd e
+  one_role (start t) r q b (inl e) (inl f) = sym e.0 ∙ f.0
+  one_role (start t) r q b (inl e) (inr f) = absurd f
+  one_role (start t) r q b (inr e) f = absurd e
   one_role (step {s = s} {r = z} {a = a} {i = i} clean v n g) r q b h k =
       let part = part_holds image s.walk z a (word_in image a i) g in
       absent_new s.walk z r q (word_in image a i) b part.unowned (one_role v r q b) h k
@@ -266,14 +266,14 @@ module _ (image : List ℕ) where
 
   pub one_part : (w : List (Role × ℕ)) (fs : List FindingValue) → IsSurvey image w fs → (r q : Role) (b : ℕ) → Has w r b → Has w q b → r ≡ q
   one_part w fs (unread f) r q b h k = absurd h
-  one_part w fs (read begun v d t) r q b h k = one_role v r q b h k
+  one_part w fs (read v d t) r q b h k = one_role v r q b h k
 
   unnoted_less : (fs gs : List FindingValue) (r : Role) → IsUnnoted (fs ++ gs) r → IsUnnoted fs r
   unnoted_less fs gs r h f q i = h f q (in_left fs gs f i)
 
   pub sound_header : (w : List (Role × ℕ)) (fs : List FindingValue) (n h : ℕ) → IsSurvey image w fs → IsSound image w fs n h → HeaderHolds image w n h
   sound_header w fs n h (unread f) sound g up node = absurd g.has
-  sound_header w fs n h (read {s = s} {bits = bits} begun v d told) sound g up node =
+  sound_header w fs n h (read {s = s} {bits = bits} v d told) sound g up node =
       let e : head_role sound.header ≡ head_role g = one_role v (head_role sound.header) (head_role g) h sound.header.has g.has in
       let clear : IsUnnoted s.findings (head_role g) =
       subst (IsUnnoted s.findings) e (unnoted_less s.findings bits (head_role sound.header) sound.unnoted) in
@@ -282,7 +282,7 @@ module _ (image : List ℕ) where
   pub sound_file : (w : List (Role × ℕ)) (fs : List FindingValue) (n h : ℕ) → IsSurvey image w fs → IsSound image w fs n h → FileAt image w n h
       → FileHolds image w n h
   sound_file w fs n h (unread f) sound file = absurd file.header.has
-  sound_file w fs n h (read {s = s} {bits = bits} begun v d told) sound file = record {
+  sound_file w fs n h (read {s = s} {bits = bits} v d told) sound file = record {
     named = data_named v d n h file (λ k. unnoted_less s.findings bits (Data n k) (sound.datas k));
     exts = (λ k b g. ext_formed v d n k b h g (unnoted_less s.findings bits (Ext n k) (sound.exts k)) file);
     datas = (λ k b g. data_formed v d n k b h g (unnoted_less s.findings bits (Data n (suc k)) (sound.datas (suc k))) file);

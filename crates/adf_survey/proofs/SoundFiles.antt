@@ -3,8 +3,7 @@ use Rattle.std.specs.Prelude.{get_or, slice_index}
 use Rattle.std.proofs.Common.{◌≡◌, ℕ, suc, List, ◌++◌, ◌*◌, ◌^◌, ◌<◌, length, sym, ap, subst, ◌∙◌, arith}
 use Rattle.adf_blocks.specs.declared.layout.TheConstants.{SECONDARY_TYPE, SIZE, ST_FILE}
 use Rattle.adf_volume.proofs.Images.{count_small}
-use Rattle.adf_volume.specs.Demands.{AllHold, boot_demands, root_demands}
-use Rattle.adf_volume.specs.Image.{kind_of, pieces, root_of, word_in}
+use Rattle.adf_volume.specs.Image.{kind_of, pieces, word_in}
 use Rattle.adf_volume.specs.Made.{datas_in}
 use Rattle.adf_volume.specs.Walk.{Role, first, FileAt, data_count, node_block}
 use Rattle.adf_volume.specs.Walk.Role.{Root, Data}
@@ -23,32 +22,31 @@ use Rattle.adf_survey.proofs.Keeping.{tells_each}
 use Rattle.adf_survey.proofs.FileBlocks.{DatasListed, datas_listed, listed_named, names_length}
 use Rattle.adf_survey.proofs.SoundEntries.{passed_noted, sound_file}
 use Rattle.adf_survey.proofs.SoundMarks.{inside}
+use Rattle.adf_survey.proofs.Starts.{course_size}
 
--- an image with a sound entry begins as a volume, and the entry's data blocks are in the walk in order
-pub sound_read : (image : List ℕ) (w : List (Role × ℕ)) (fs : List FindingValue) (n h : ℕ) → IsSurvey image w fs → IsSound image w fs n h
-    → AllHold (boot_demands image ++ root_demands image (root_of image)) × DatasListed image n w
-sound_read image w fs n h (unread f) sound = absurd sound.header.has
-sound_read image w fs n h (read {s = s} {bits = bits} begun v d told) sound = (
-  begun,
-  datas_listed image n v (λ k b g. let y = passed_noted image v (Data n k) b g in
-      sound.datas k y.0 (Data n k) (in_left s.findings bits y.0 y.1) y.2 (same_refl (Data n k))),
-)
+-- the data blocks of a sound entry are in the walk in order
+pub sound_listed : (image : List ℕ) (w : List (Role × ℕ)) (fs : List FindingValue) (n h : ℕ) → IsSurvey image w fs → IsSound image w fs n h
+    → DatasListed image n w
+sound_listed image w fs n h (unread f) sound = absurd sound.header.has
+sound_listed image w fs n h (read {s = s} {bits = bits} v d told) sound =
+    datas_listed image n v (λ k b g. let y = passed_noted image v (Data n k) b g in
+    sound.datas k y.0 (Data n k) (in_left s.findings bits y.0 y.1) y.2 (same_refl (Data n k)))
 
 -- the file that the table of a sound file tells is that of the walk, and it has its blocks
 pub file_told : (image : List ℕ) (w : List (Role × ℕ)) (fs : List FindingValue) (n : ℕ) → IsSurvey image w fs
     → IsSound image w fs n (node_block w n) → word_in image (node_block w n) SECONDARY_TYPE ≡ ST_FILE
     → (file_from image (node_block w n) ≡ file_in image w n) × HasItsBlocks (file_in image w n)
 file_told image w fs n (unread f) sound type = absurd sound.header.has
-file_told image w fs n (read {s = s} {bits = bits} begun v d told) sound type =
+file_told image w fs n (read {s = s} {bits = bits} v d told) sound type =
     let h : ℕ = node_block s.walk n in
     let file : FileAt image s.walk n h = record { header = sound.header; type = type } in
-    let holds = sound_file image s.walk (s.findings ++ bits) n h (read begun v d told) sound file in
-    let listed = (sound_read image s.walk (s.findings ++ bits) n h (read begun v d told) sound).1 in
+    let holds = sound_file image s.walk (s.findings ++ bits) n h (read v d told) sound file in
+    let listed = sound_listed image s.walk (s.findings ++ bits) n h (read v d told) sound in
     let e : names_from image h (data_count image h) ≡ datas_in s.walk n =
     listed_named image n v listed h file (λ k lt. let y = holds.named k lt in (y.1, y.4)) in (
       (λ i. record { image = image; head = h; blocks = e i }),
       record {
-        whole = begun.0.0;
+        whole = (course_size image v).0;
         inside = (λ k b g. inside image v (Data n (suc k)) b (λ z. let y : first Root ≡ first (Data n (suc k)) = ap first z in omega arith)
             (listed.from k b g));
         many = sym (ap length e) ∙ names_length image n h (data_count image h);

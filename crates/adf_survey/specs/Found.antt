@@ -16,9 +16,9 @@ use Rattle.adf_blocks.specs.declared.cause.Cause.TheVariants.{LostBlock, OwnedFr
 use Rattle.adf_volume.specs.Demands.{AllHold, FirstFails}
 use Rattle.adf_blocks.specs.declared.layout.TheConstants.{POINTERS}
 use Rattle.adf_blocks.specs.Sizes.{blocks}
-use Rattle.adf_volume.specs.Image.{IsFreeAt, name_of, root_of, table_word, word_in}
+use Rattle.adf_volume.specs.Image.{IsFreeAt, name_of, table_word, word_in}
 use Rattle.adf_volume.specs.Walk.{Role, Has, bitmap_demands, data_count, ext_count, heads, node_block}
-use Rattle.adf_volume.specs.Walk.Role.{Root, Page, Head, Ext, Data}
+use Rattle.adf_volume.specs.Walk.Role.{Page, Head, Ext, Data}
 use Rattle.adf_survey.specs.declared.part.Part.{Part}
 use Rattle.adf_survey.specs.declared.part.Part.TheVariants.{Head as HeadPart, Ext as ExtPart, Data as DataPart}
 use Rattle.adf_survey.specs.declared.part.Key.{Key}
@@ -231,14 +231,10 @@ pub record Stands (image : List ℕ) (f : Found) (s : Course) : Type 0 where
   pub places : f.places.items ≡ places_of s.walk
   pub datas : f.datas.items ≡ datas_of s.walk
 
--- the course that begins with the root
-abbrev pub begun : List ℕ → Course
-begun image = record { walk = (Root, root_of image) ∷ []; passed_over = []; findings = [] }
-
 -- what the bit of block b tells: nothing, where it is not compared or agrees; or the cause
 abbrev pub BitTells : List ℕ → Course → ℕ → Option Cause → Type 0
-BitTells image s b None = IsCompared s b → AllHold (bitmap_demands image s.walk b 1)
-BitTells image s b (Some c) = IsCompared s b × FirstFails (bitmap_demands image s.walk b 1) b c
+BitTells image s b None = IsCompared image s b → AllHold (bitmap_demands image s.walk b 1)
+BitTells image s b (Some c) = IsCompared image s b × FirstFails (bitmap_demands image s.walk b 1) b c
 
 -- whether a page of the bitmap is taken, and its bit set
 abbrev pub IsBitOf : List ℕ → Found → ℕ → ℕ → Option Bool → Type 0

@@ -1,4 +1,5 @@
 pub mod Survey
+pub mod Start
 pub mod Sound
 pub mod Parts
 pub mod Forms

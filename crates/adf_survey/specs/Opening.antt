@@ -1,14 +1,23 @@
--- What an image that begins as a volume tells before its entries.
-use Rattle.std.specs.Prelude.{List, ℕ}
+-- What an image whose root is taken tells before its entries.
+-- Letters: b a block.
+use Rattle.std.specs.Prelude.{List, ℕ, take}
+use Rattle.adf_fields.specs.Words.{block}
+use Rattle.adf_blocks.specs.declared.layout.TheConstants.{NAME}
+use Rattle.adf_blocks.specs.Forms.{text_at}
+use Rattle.adf_blocks.specs.RootBlock.{stamps_at}
 use Rattle.adf_blocks.specs.Sizes.{blocks}
-use Rattle.adf_volume.specs.Image.{kind_of, name_of, root_of, stamps_of}
+use Rattle.adf_volume.specs.Image.{kind_of, root_of}
 use Rattle.adf_survey.specs.declared.opening.Opening.{Opening}
+
+-- what any block has as the label of a root: of a longer one the first 30 bytes
+abbrev pub label_told : List ℕ → List ℕ
+label_told b = take 30 (text_at b NAME)
 
 -- what the size, the boot bytes and the root tell
 abbrev pub opening_in : List ℕ → Opening
 opening_in image = record {
   kind = kind_of image;
   blocks = blocks image;
-  label = name_of image (root_of image);
-  stamps = stamps_of image (root_of image);
+  label = label_told (block image (root_of image));
+  stamps = stamps_at (block image (root_of image));
 }

@@ -5,7 +5,8 @@ use Rattle.std.specs.Prelude.{◌≡◌, ℕ, Bool, true, false, List, [], ◌�
 use Rattle.std.proofs.Common.{suc}
 use Rattle.adf_blocks.specs.declared.cause.Cause.{Cause}
 use Rattle.adf_blocks.specs.declared.cause.Cause.TheVariants.{BadSum, Link, BadName, BadComment, WrongSlot, BadFirst, SameName, ShortFile}
-use Rattle.adf_blocks.specs.declared.layout.TheConstants.{PAGE_BITS}
+use Rattle.adf_blocks.specs.declared.cause.Cause.TheVariants.{BadHashSize, NotValidated}
+use Rattle.adf_blocks.specs.declared.layout.TheConstants.{BITMAP_FLAG, PAGE_BITS, VALID}
 use Rattle.adf_blocks.specs.Sizes.{blocks}
 use Rattle.adf_volume.specs.Image.{word_in, root_of}
 use Rattle.adf_volume.specs.Demands.{Demand, AllHold, FirstFails, boot_demands, root_demands}
@@ -32,6 +33,8 @@ is_slight BadComment = true
 is_slight WrongSlot = true
 is_slight BadFirst = true
 is_slight SameName = true
+is_slight BadHashSize = true
+is_slight NotValidated = true
 is_slight _ = false
 
 -- a part with this cause is taken all the same; but not a page, of which nothing tells beside its sum
@@ -75,9 +78,22 @@ pub record IsNext (image : List ℕ) (s : Course) (r : Role) (a i : ℕ) : Type 
   pub unpassed : Lacks s.passed_over r
   pub least : (q : Role) (d k : ℕ) → Asks image s.walk q d k → Lacks s.walk q → Lacks s.passed_over q → Before q r → ⊥
 
+-- what must hold of the root: the size and the boot bytes, without which no block is known to be the root, and its form
+abbrev pub start_demands : List ℕ → List Demand
+start_demands image = boot_demands image ++ root_demands image (root_of image)
+
+-- what is told of a root that is taken: nothing, or its cause
+pub data RootTells (image : List ℕ) : List FindingValue → Type 0 where
+  clean_root : Judged Root (start_demands image) clean → RootTells image []
+  noted_root : {at : ℕ} {c : Cause} → Judged Root (start_demands image) (noted at c) → RootTells image (finding (Some Root) at c ∷ [])
+
+-- the course that begins with the root, of which this is told
+abbrev pub begun : List ℕ → List FindingValue → Course
+begun image fs = record { walk = (Root, root_of image) ∷ []; passed_over = []; findings = fs }
+
 -- a course begins with the root, and each part that is next in turn is judged by its demands
 pub data IsCourse (image : List ℕ) : Course → Type 0 where
-  start : IsCourse image (record { walk = (Root, root_of image) ∷ []; passed_over = []; findings = [] })
+  start : {fs : List FindingValue} → RootTells image fs → IsCourse image (begun image fs)
   step : {s : Course} {r : Role} {a i : ℕ} (j : JudgementValue) → IsCourse image s → IsNext image s r a i
       → Judged r (demands image s.walk r a (word_in image a i)) j → IsCourse image (after s r (word_in image a i) j)
 
@@ -85,22 +101,26 @@ pub data IsCourse (image : List ℕ) : Course → Type 0 where
 abbrev pub IsDone : List ℕ → Course → Type 0
 IsDone image s = (r : Role) (a i : ℕ) → Asks image s.walk r a i → Lacks s.walk r → Lacks s.passed_over r → ⊥
 
--- the bit of block b is compared: its page is in the walk, and the block is, or was not passed over
-abbrev pub IsCompared : Course → ℕ → Type 0
-IsCompared s b = ((page : ℕ) × Has s.walk (Page ((b - 2) / PAGE_BITS)) page) × (IsAbsent s.walk b → IsAbsent s.passed_over b)
+-- the root says that the bitmap is valid
+abbrev pub IsValidated : List ℕ → Type 0
+IsValidated image = word_in image (root_of image) BITMAP_FLAG ≡ VALID
+
+-- the bit of block b is compared: the bitmap is valid, the page of the block is in the walk, and the block is, or was not passed over
+abbrev pub IsCompared : List ℕ → Course → ℕ → Type 0
+IsCompared image s b =
+    IsValidated image × ((page : ℕ) × Has s.walk (Page ((b - 2) / PAGE_BITS)) page) × (IsAbsent s.walk b → IsAbsent s.passed_over b)
 
 -- what the bits of n blocks tell, from b on: a finding for each that is compared and disagrees with the walk
 pub data BitsTell (image : List ℕ) (s : Course) : ℕ → ℕ → List FindingValue → Type 0 where
   ends : {b : ℕ} → BitsTell image s b 0 []
-  agrees : {b n : ℕ} {fs : List FindingValue} → (IsCompared s b → AllHold (bitmap_demands image s.walk b 1)) → BitsTell image s (suc b) n fs
+  agrees : {b n : ℕ} {fs : List FindingValue} → (IsCompared image s b → AllHold (bitmap_demands image s.walk b 1)) → BitsTell image s (suc b) n fs
       → BitsTell image s b (suc n) fs
-  differs : {b n at : ℕ} {c : Cause} {fs : List FindingValue} → IsCompared s b → FirstFails (bitmap_demands image s.walk b 1) at c
+  differs : {b n at : ℕ} {c : Cause} {fs : List FindingValue} → IsCompared image s b → FirstFails (bitmap_demands image s.walk b 1) at c
       → BitsTell image s (suc b) n fs → BitsTell image s b (suc n) (finding None at c ∷ fs)
 
--- The walk and the findings of an image. A cause of size, boot bytes or root is the only finding; else the parts are gone through until
--- nothing is next, and then the bits are compared.
+-- The walk and the findings of an image. A cause of size or boot bytes, or of a root that does not say that it is the root, is the only finding;
+-- else the parts are gone through until nothing is next, and then the bits are compared.
 pub data IsSurvey (image : List ℕ) : List (Role × ℕ) → List FindingValue → Type 0 where
-  unread : {at : ℕ} {c : Cause} → FirstFails (boot_demands image ++ root_demands image (root_of image)) at c
-      → IsSurvey image [] (finding None at c ∷ [])
-  read : {s : Course} {bits : List FindingValue} → AllHold (boot_demands image ++ root_demands image (root_of image)) → IsCourse image s → IsDone image s
+  unread : {at : ℕ} {c : Cause} → Judged Root (start_demands image) (passed at c) → IsSurvey image [] (finding None at c ∷ [])
+  read : {s : Course} {bits : List FindingValue} → IsCourse image s → IsDone image s
       → BitsTell image s 2 (blocks image - 2) bits → IsSurvey image s.walk (s.findings ++ bits)

@@ -3,14 +3,24 @@
 ghost use Rattle.std.specs.Prelude.{◌≡◌, ◌≤◌, ◌<◌, ◌+◌, ◌-◌, ◌/◌, ◌%◌, ◌↔◌, List, length, IsTrue, IsBitSet, OnOk};
 ghost use Rattle.adf_blocks.specs.declared.layout.TheConstants.{PAGE_BITS};
 ghost use Rattle.adf_blocks.specs.Sizes.{blocks};
-ghost use Rattle.adf_survey.specs.Survey.{Course, FindingValue, IsCourse};
+ghost use Rattle.adf_survey.specs.Survey.{Course, FindingValue, IsCourse, IsValidated};
 ghost use Rattle.adf_survey.specs.Found.{BitTells, IsBitOf, IsCompleted, IsFinished, IsToldOn, Stands, cause_told};
 
 use crate::found::Found;
+use crate::image::Image;
 use crate::part::{Finding, Part};
 use adf_blocks::{Cause, PAGE_FIRST, place_of};
 use adf_fields::NoMemory;
-use adf_volume::Image;
+
+// The word of the root that says that the bitmap is valid.
+const VALID_WORD: usize = 78;
+
+// Whether the root says that the bitmap is valid.
+fn is_validated(image: &Image<'_>) -> bool
+    ensures { IsTrue result ↔ IsValidated image.now }
+{
+    image.word(image.root(), VALID_WORD) == u32::MAX
+}
 
 // Whether a bit of a word is set.
 fn is_set(word: u32, bit: u32) -> bool
@@ -58,6 +68,9 @@ fn cause_of_bit(image: &Image<'_>, found: &Found, b: u32) -> Option<Cause>
         (record { walk = s.walk; passed_over = s.passed_over; findings = fs })
         → BitTells image.now s b result }
 {
+    if !is_validated(image) {
+        return None;
+    }
     let (page, bit) = place_of(b);
     match bit_of(image, found, page, bit) {
         Some(is_free) => cause_told(found.owned[b as usize], found.avoided[b as usize], is_free),
@@ -82,7 +95,8 @@ fn compare_bit(image: &Image<'_>, found: &mut Found, b: u32) -> Result<(), NoMem
     }
 }
 
-/// Compares the bit of each block whose page is taken with its owner, but not those of blocks that were passed over.
+/// Where the bitmap is valid, compares the bit of each block whose page is taken with its owner, but not those of blocks that were
+/// passed over.
 #[tactic(auto, using(crate::proofs::BitSteps::told_first, crate::proofs::BitSteps::told_last))]
 pub fn compare(image: &Image<'_>, found: &mut Found) -> Result<(), NoMemory>
     requires { IsFinished image.now found.old }

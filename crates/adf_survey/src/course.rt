@@ -12,6 +12,7 @@ ghost use Rattle.adf_survey.specs.Courses.{Holds, IsAt, IsAtFile, IsAtPage, IsDu
 ghost use Rattle.adf_survey.specs.Courses.{IsNextAsk, IsOutcome, IsPageNamed, before_node, map_ext_word, page_word};
 
 use crate::found::Found;
+use crate::image::Image;
 use crate::judge::{Judgement, judge};
 use crate::part::{Finding, Part};
 use adf_blocks::{
@@ -20,7 +21,6 @@ use adf_blocks::{
     page_count,
 };
 use adf_fields::NoMemory;
-use adf_volume::Image;
 
 /// A part that is next, a header with any number: the block that has a word that names its block, and the block named.
 #[derive(Clone, Copy, PartialEq, Eq, Drop)]

@@ -13,6 +13,7 @@ ghost use Rattle.adf_volume.specs.Image.{held};
 ghost use Rattle.adf_survey.specs.Forms.{form_of, itself_by};
 ghost use Rattle.adf_survey.specs.Parts.{role_of};
 
+use crate::image::Image;
 use crate::part::Part;
 use adf_blocks::{
     Cause, DATA_HEAD, DATA_HELD, DATA_NEXT, DATA_NUMBER, OWN_KEY, PARENT, SECONDARY_TYPE, SIZE,
@@ -21,7 +22,7 @@ use adf_blocks::{
 };
 use adf_fields::Block;
 use adf_tree::Kind;
-use adf_volume::{Image, held_in};
+use adf_volume::held_in;
 
 /// What the form of a part depends on beside its block: the block of its directory or its file's header, and the next data block.
 #[derive(Clone, Copy, PartialEq, Eq, Drop)]

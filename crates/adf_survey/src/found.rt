@@ -9,21 +9,21 @@ ghost use Rattle.adf_tree.specs.Texts.{uppers};
 ghost use Rattle.adf_blocks.specs.Sizes.{blocks, count};
 ghost use Rattle.adf_volume.specs.Image.{name_of, root_of, word_in};
 ghost use Rattle.adf_volume.specs.Walk.{Role, data_count};
-ghost use Rattle.adf_volume.specs.Start.{IsBegun};
 ghost use Rattle.adf_survey.specs.Parts.{by_key, finding_value, key_of, role_of};
 ghost use Rattle.adf_survey.specs.Found.{AreNamed, AreSame, Stands, IsChain, IsKept, IsNoted, IsOwned, IsPassed};
-ghost use Rattle.adf_survey.specs.Found.{IsPut, IsTaken, KeepsParts, around_in, begun, by_name, enough_in};
+ghost use Rattle.adf_survey.specs.Found.{IsPut, IsTaken, KeepsParts, around_in, by_name, enough_in};
 ghost use Rattle.adf_survey.specs.Found.{exts_found, known_at, member_in, new_in, next_in, with_data};
+ghost use Rattle.adf_survey.specs.Survey.{begun};
 ghost use Rattle.std.specs.Global.{Vec};
 
 use crate::forms::Around;
 use crate::header_name::name_in;
+use crate::image::Image;
 use crate::judge::Facts;
 use crate::part::{Finding, Key, Part};
 use adf_blocks::{FIRST_POINTER, POINTERS, SIZE, data_count};
 use adf_fields::{NoMemory, upper};
 use adf_tree::Kind;
-use adf_volume::Image;
 use std::alloc::Global;
 use std::collections::{BTreeMap, BTreeSet};
 
@@ -97,9 +97,8 @@ impl Found {
     /// Nothing is found but the root.
     #[tactic(auto, using(crate::proofs::Begun::stands_begun))]
     pub fn begin(alloc: Global, image: &Image<'_>) -> Result<Found, NoMemory>
-        ensures stands { IfOk result (λ f. Stands image.now f (begun image.now)) }
+        ensures stands { IfOk result (λ f. Stands image.now f (begun image.now [])) }
         ensures few { blocks image.now ≤ 1048576 }
-        ensures begun { IsBegun image.now }
         ensures left { IfOk result (λ f. f.left + 1 ≡ blocks image.now) }
     {
         let root = image.root();

@@ -4,9 +4,9 @@ ghost use Rattle.std.specs.Prelude.{◌≡◌};
 ghost use Rattle.adf_survey.specs.Forms.{first_failing, judged_by, keeps, judgement_value};
 
 use crate::forms::{Around, first_cause, is_itself};
+use crate::image::Image;
 use crate::part::Part;
 use adf_blocks::Cause;
-use adf_volume::Image;
 
 /// How a part is judged: it has no cause; it has one, at a block, and is taken all the same; it has one and is passed over.
 #[derive(Clone, Copy, PartialEq, Eq, Drop)]

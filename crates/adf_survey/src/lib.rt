@@ -7,12 +7,14 @@ mod file;
 mod forms;
 mod found;
 mod header_name;
+mod image;
 mod judge;
 mod laws;
 mod lookup;
 mod marks;
 mod opening;
 mod part;
+mod start;
 mod surveyed;
 mod surveys;
 

@@ -4,10 +4,10 @@ ghost use Rattle.std.specs.Prelude.{◌≡◌, ◌&&◌, ℕ, IfOk, map, not};
 ghost use Rattle.adf_survey.specs.Marks.{blamed, has_mark, is_blamed, is_clear, is_header, is_node, is_sharing, sharing};
 
 use crate::found::{DataBlock, Found};
+use crate::image::Image;
 use crate::part::Part;
 use adf_fields::NoMemory;
 use adf_tree::Kind;
-use adf_volume::Image;
 use std::alloc::Global;
 
 // Takes its mark from a node.

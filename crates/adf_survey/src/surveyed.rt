@@ -23,10 +23,10 @@ use crate::file::SoundFile;
 use crate::header_name::name_in;
 use crate::opening::Opening;
 use crate::part::Finding;
+use crate::start::start;
 use adf_blocks::{HeadBody, SECONDARY_TYPE, ST_FILE, meta_told};
 use adf_fields::{Block, NoMemory};
 use adf_tree::{Meta, Node};
-use adf_volume::open;
 use std::alloc::Global;
 use std::marker::Model;
 
@@ -205,14 +205,15 @@ impl Survey<'_> {
         }
     }
 
-    /// What the boot bytes and the root tell; none where the image does not begin as a volume, so that nothing is gone through.
+    /// What the boot bytes and the root tell, whatever is noted of it; none where the root is not taken, so that nothing is gone
+    /// through.
     pub fn opening(&self) -> Option<Opening>
         ensures some { (w : List (Role × ℕ)) (fs : List FindingValue) → IsSurvey self.now.image w fs
             → IsNone result ↔ (w ≡ []) }
         ensures opening { IfSome result (λ o. o ≡ opening_in self.now.image) }
     {
-        match open(self.image) {
-            Ok(opened) => Some(Opening::of(&opened)),
+        match start(self.image) {
+            Ok(started) => Some(Opening::of(&started.image)),
             Err(_) => None,
         }
     }
@@ -270,13 +271,13 @@ impl<'i> Survey<'i> {
         if !self.is_sound(n) {
             return Ok(None);
         }
-        let Ok(opened) = open(self.image) else {
+        let Ok(started) = start(self.image) else {
             return Ok(None);
         };
         let head = number_at(&self.nodes, n.0);
-        if opened.image.word(head, SECONDARY_TYPE) != ST_FILE {
+        if started.image.word(head, SECONDARY_TYPE) != ST_FILE {
             return Ok(None);
         }
-        Ok(Some(SoundFile::at(alloc, &opened.image, head)?))
+        Ok(Some(SoundFile::at(alloc, &started.image, head)?))
     }
 }

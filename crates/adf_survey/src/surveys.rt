@@ -1,27 +1,28 @@
 // The survey of an image.
 
-ghost use Rattle.std.specs.Prelude.{◌≡◌, ◌++◌, ℕ, List, IfOk, map};
-ghost use Rattle.adf_volume.specs.Demands.{FirstFails, boot_demands, root_demands};
-ghost use Rattle.adf_volume.specs.Image.{root_of};
+ghost use Rattle.std.specs.Prelude.{◌≡◌, ℕ, List, [], IfOk, OnOk, map};
 ghost use Rattle.adf_volume.specs.Walk.{Role};
+ghost use Rattle.adf_volume.specs.Walk.Role.{Root};
+ghost use Rattle.adf_survey.specs.Found.{Stands};
 ghost use Rattle.adf_survey.specs.Parts.{finding_value};
-ghost use Rattle.adf_survey.specs.Survey.{IsSurvey};
+ghost use Rattle.adf_survey.specs.Start.{root_findings};
+ghost use Rattle.adf_survey.specs.Survey.{IsSurvey, Judged, RootTells, begun, start_demands};
+ghost use Rattle.adf_survey.specs.Survey.JudgementValue.{passed};
 
 use crate::bits::compare;
 use crate::course::run;
 use crate::found::Found;
 use crate::marks::{clear_marks, concerned};
-use crate::part::Finding;
+use crate::part::{Finding, Part};
+use crate::start::{Started, start};
 use crate::surveyed::Survey;
 use adf_fields::NoMemory;
-use adf_volume::{Image, Unopened, open};
+use adf_volume::Unopened;
 use std::alloc::Global;
 
-// The survey of an image that does not begin as a volume: this is its only finding.
+// The survey of an image whose root is not taken: this is its only finding.
 fn only<'i>(alloc: Global, image: &'i [u8], unopened: Unopened) -> Result<Survey<'i>, NoMemory>
-    requires { FirstFails
-        (boot_demands image.now ++ root_demands image.now
-        (root_of image.now)) unopened.block unopened.cause }
+    requires { Judged Root (start_demands image.now) (passed unopened.block unopened.cause) }
     ensures image { IfOk result (λ v. v.image ≡ image.now) }
     ensures findings { IfOk result (λ v. (w : List (Role × ℕ))
         × IsSurvey image.now w (map finding_value v.findings)) }
@@ -45,13 +46,31 @@ fn only<'i>(alloc: Global, image: &'i [u8], unopened: Unopened) -> Result<Survey
     }
 }
 
-// The survey of an image that begins as a volume.
-fn go_through<'i>(alloc: Global, image: &Image<'i>) -> Result<Survey<'i>, NoMemory>
-    ensures image { IfOk result (λ v. v.image ≡ image.now) }
-    ensures findings { IfOk result (λ v. (w : List (Role × ℕ))
-        × IsSurvey image.now w (map finding_value v.findings)) }
+// Notes the cause of the root, where it has one.
+fn note_root(found: &mut Found, cause: Option<Unopened>) -> Result<(), NoMemory>
+    ensures { OnOk result ((image : List ℕ) → Stands image found.old (begun image [])
+        → Stands image found.new (begun image (root_findings cause))) }
 {
+    match cause {
+        Some(Unopened { block, cause }) => found.note(Finding {
+            part: Some(Part::Root),
+            block,
+            cause,
+        }),
+        None => Ok(()),
+    }
+}
+
+// The survey of an image whose root is taken.
+fn go_through<'i>(alloc: Global, started: &Started<'i>) -> Result<Survey<'i>, NoMemory>
+    requires { RootTells started.now.image (root_findings started.now.cause) }
+    ensures image { IfOk result (λ v. v.image ≡ started.now.image) }
+    ensures findings { IfOk result (λ v. (w : List (Role × ℕ))
+        × IsSurvey started.now.image w (map finding_value v.findings)) }
+{
+    let image = &started.image;
     let mut found = Found::begin(alloc, image)?;
+    note_root(&mut found, started.cause)?;
     run(image, &mut found)?;
     compare(image, &mut found)?;
     let concerned = concerned(alloc, &found)?;
@@ -73,8 +92,8 @@ pub fn survey<'i>(alloc: Global, image: &'i [u8]) -> Result<Survey<'i>, NoMemory
     ensures findings { IfOk result (λ v. (w : List (Role × ℕ))
         × IsSurvey image.now w (map finding_value v.findings)) }
 {
-    match open(image) {
-        Ok(opened) => go_through(alloc, &opened.image),
+    match start(image) {
+        Ok(started) => go_through(alloc, &started),
         Err(unopened) => only(alloc, image, unopened),
     }
 }

@@ -14,13 +14,13 @@ use Rattle.adf_survey.proofs.OneSurvey.{gathered}
 pub file_between : (image : List ℕ) (w : List (Role × ℕ)) (fs : List FindingValue) → IsSurvey image w fs → (n h : ℕ) → FileAt image w n h
     → (1 ≤ n) × (n ≤ heads w)
 file_between image w fs (unread f) n h at = absurd at.header.has
-file_between image w fs (read begun v d t) n h at = number_of image (gathered image v) at.header
+file_between image w fs (read v d t) n h at = number_of image (gathered image v) at.header
 
 -- an entry is a file where its header says so
 pub file_told : (image : List ℕ) (w : List (Role × ℕ)) (fs : List FindingValue) → IsSurvey image w fs → (n : ℕ) (t : Bool) → 1 ≤ n → n ≤ heads w
     → t ≡ (word_in image (node_block w n) SECONDARY_TYPE == ST_FILE) → (t ≡ true) ↔ ((h : ℕ) × FileAt image w n h)
 file_told image w fs (unread f) n t lo hi e = absurd (omega arith)
-file_told image w fs (read {s = s} begun v d u) n t lo hi e =
+file_told image w fs (read {s = s} v d u) n t lo hi e =
     let x = has_number image (gathered image v) n lo hi in
     let word : ℕ → ℕ = λ b. word_in image b SECONDARY_TYPE in
     let at : node_block s.walk n ≡ x.0 = head_block image (gathered image v) x.1 in (

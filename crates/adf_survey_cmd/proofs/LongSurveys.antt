@@ -22,7 +22,7 @@ bad_size = finding None 0 BadSize ∷ []
 
 long_survey : (image : List ℕ) → 512 * MOST_BLOCKS < length image → IsSurvey image [] bad_size
 unfolding bad_size
-long_survey image h = unread (inl (too_large image h, refl, refl))
+long_survey image h = unread (inl (too_large image h, refl, refl), (λ i. too_large image h (i.0 refl)))
 
 -- one text, whatever the image
 same_text : (image bytes : List ℕ) → findings_text image [] bad_size ≡ findings_text bytes [] bad_size

@@ -5,11 +5,10 @@ use Rattle.std.specs.List.{flat_map, range_with_len}
 use Rattle.adf_fields.specs.Words.{block}
 use Rattle.adf_fields.specs.declared.dates.Stamp.{Stamp}
 use Rattle.adf_blocks.specs.HeadBlock.{body_at, meta_told}
-use Rattle.adf_blocks.specs.Sizes.{blocks}
-use Rattle.adf_volume.specs.Image.{kind_of, name_of, root_of, stamps_of}
 use Rattle.adf_volume.specs.Walk.{Role, heads, node_block}
 use Rattle.adf_survey.specs.Lookup.{path_to}
 use Rattle.adf_survey.specs.Marked.{AreMarks}
+use Rattle.adf_survey.specs.Opening.{opening_in}
 use Rattle.adf_survey.specs.Survey.{FindingValue}
 use Rattle.adf_texts.specs.RowTexts.{head_lines}
 use Rattle.adf_texts.specs.VolumeLines.{AreDates, opening_lines}
@@ -32,11 +31,11 @@ found_lines date sound image w n = mark_text (sound n) ++ header_lines date imag
 unfoldable pub lines_of_found : (Stamp → List ℕ) → (ℕ → Bool) → List ℕ → List (Role × ℕ) → ℕ → List ℕ
 lines_of_found date sound image w k = flat_map (found_lines date sound image w) (range_with_len 1 k)
 
--- the opening lines that `list` writes of the volume
+-- the opening lines, as `list` writes them of a volume, of what the boot bytes and the root tell
 abbrev pub opening_text : (Stamp → List ℕ) → List ℕ → List ℕ
-opening_text date image = opening_lines date (kind_of image) (name_of image (root_of image)) (stamps_of image (root_of image)) (blocks image)
+opening_text date image = let o = opening_in image in opening_lines date o.kind o.label o.stamps o.blocks
 
--- the lines of what is found: none where the image does not begin as a volume
+-- the lines of what is found: none where the root is not taken
 abbrev pub found_text : (Stamp → List ℕ) → (ℕ → Bool) → List ℕ → List (Role × ℕ) → List ℕ
 found_text date sound image [] = []
 found_text date sound image (x ∷ w) = opening_text date image ++ lines_of_found date sound image (x ∷ w) (heads (x ∷ w))

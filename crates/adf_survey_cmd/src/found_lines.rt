@@ -114,7 +114,7 @@ fn push_opening(text: &mut Vec<u8>, opening: &Opening) -> Result<(), AllocError>
 }
 
 /// Writes the lines of what is found: those that open `list` of the volume, and behind them those of each entry, with its mark;
-/// none where the image does not begin as a volume. `Device` where the writer failed, `NoMemory` where memory was refused; then
+/// none where the root is not taken. `Device` where the writer failed, `NoMemory` where memory was refused; then
 /// a front part of the lines is written.
 pub fn write_found<W: Sink>(
     alloc: Global,

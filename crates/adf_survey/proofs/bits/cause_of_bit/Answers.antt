@@ -1,7 +1,13 @@
-use Rattle.std.proofs.Common.{sym, subst, ◌∙◌, arith}
+use Rattle.std.proofs.Common.{◌≡◌, sym, subst, ◌∙◌, arith}
+use Rattle.std.specs.Prelude.{true, false}
 use Rattle.adf_survey.specs.Found.{BitTells}
-use Rattle.adf_survey.proofs.BitSteps.{any_default, no_page, page_tells}
+use Rattle.adf_survey.proofs.BitSteps.{any_default, no_page, not_compared, page_tells}
 use Rattle.adf_survey.proofs.bits.cause_of_bit.Goals as goal
+
+pub returns-then-not-is_validated : goal.returns-then-not-is_validated
+returns-then-not-is_validated c = λ s fs v st.
+    not_compared c.args.image.now s c.args.b
+    (λ e. let clash : true ≡ false = sym (c.is_validated.ensures.1 e) ∙ c.if-not-is_validated.true in cc)
 
 pub returns-in-Some : goal.returns-in-Some
 returns-in-Some c = λ s fs v st.
@@ -10,7 +16,7 @@ returns-in-Some c = λ s fs v st.
     (c.index.ensures ∙ (any_default c.args.found.now.owned.items c.args.b _ (let l = c.requires.owned in let i = c.requires.inside in omega arith)
     ∙ st.owned.1 c.args.b c.requires.inside))
     (c.index-in-Some.ensures ∙ (any_default c.args.found.now.avoided.items c.args.b _ (let l = c.requires.avoided in let i = c.requires.inside in omega arith)
-    ∙ st.avoided.1 c.args.b c.requires.inside))
+    ∙ st.avoided.1 c.args.b c.requires.inside)) (c.is_validated.ensures.0 c.if-not-is_validated.false)
     (rw (← c.place_of-page.ensures.page, ← c.place_of-page.ensures.bit) c.in-Some.ensures))
 
 pub returns-in-None : goal.returns-in-None

@@ -5,7 +5,7 @@ use Rattle.adf_survey.proofs.found.upper_name.Goals as goal
 
 pub returns : goal.returns
 returns c =
-    let cut = cut_name c.args.image.now c.args.b c.block-head.ensures.begun.0.0 c.requires in
+    let cut = cut_name c.args.image.now c.args.b c.block-head.ensures.size.0 c.requires in
     rw (
       c.loop-c.invariant,
       take_all c.loop-c.c-index c.name_in-c-items.result.now (omega (arith, c.loop-c-test.false)),

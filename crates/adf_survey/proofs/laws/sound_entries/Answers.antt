@@ -1,5 +1,5 @@
 use Rattle.adf_survey.proofs.SoundEntries as laws
-use Rattle.adf_survey.proofs.SoundFiles.{sound_read}
+use Rattle.adf_survey.proofs.SoundFiles.{sound_listed}
 use Rattle.adf_survey.proofs.laws.sound_entries.Goals as goal
 
 pub returns-clause-header : goal.returns-clause-header
@@ -9,4 +9,4 @@ pub returns-clause-file : goal.returns-clause-file
 returns-clause-file c = λ image w fs n h v s f. laws.sound_file image w fs n h v s f
 
 pub returns-clause-order : goal.returns-clause-order
-returns-clause-order c = λ image w fs n h v sound k b. let l = (sound_read image w fs n h v sound).1 in (l.from k b, l.to k b)
+returns-clause-order c = λ image w fs n h v sound k b. let l = sound_listed image w fs n h v sound in (l.from k b, l.to k b)

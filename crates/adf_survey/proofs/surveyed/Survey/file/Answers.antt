@@ -1,24 +1,24 @@
 use Rattle.std.specs.Prelude.{slice_index}
-use Rattle.std.proofs.Common.{◌++◌, ℕ, List, refl, sym, ap, subst, ◌∙◌}
-use Rattle.adf_volume.specs.Demands.{FirstFails, boot_demands, root_demands}
-use Rattle.adf_volume.specs.Image.{root_of}
+use Rattle.std.proofs.Common.{ℕ, refl, sym, ap, subst, ◌∙◌}
 use Rattle.adf_volume.specs.Walk.{node_block}
-use Rattle.adf_volume.proofs.Lists.{fails_not_all}
+use Rattle.adf_volume.specs.Walk.Role.{Root}
+use Rattle.adf_survey.specs.Survey.{Judged, start_demands}
+use Rattle.adf_survey.specs.Survey.JudgementValue.{passed}
 use Rattle.adf_survey.specs.Surveyed.{IsOfSurvey}
-use Rattle.adf_survey.proofs.SoundFiles.{file_is, has_its_blocks, sound_read, type_is}
+use Rattle.adf_survey.proofs.Openings.{root_of_entry}
+use Rattle.adf_survey.proofs.SoundFiles.{file_is, has_its_blocks, type_is}
+use Rattle.adf_survey.proofs.Starts.{not_passed}
 use Rattle.adf_survey.proofs.surveyed.Survey.file.Goals as goal
 
 pub returns-in_default-clause-some : goal.returns-in_default-clause-some
 returns-in_default-clause-some c = λ w fs h. (
   (λ e. cc),
   (λ y.
-      let image : List ℕ = c.args.self.now.image in
       let at : ℕ = c.in_default.field-0.block in
-      let all = (sound_read image w fs c.args.n (node_block w c.args.n) h y.0).0 in
-      let fails : FirstFails (boot_demands image ++ root_demands image (root_of image)) at c.in_default.field-0.cause =
-      subst (λ i. FirstFails (boot_demands i ++ root_demands i (root_of i)) at c.in_default.field-0.cause) (ap (λ v. v.image) c.self.view_is)
-      c.in_default.ensures.fails in
-      absurd (fails_not_all (boot_demands image ++ root_demands image (root_of image)) at c.in_default.field-0.cause fails all)),
+      let cause = c.in_default.field-0.cause in
+      let told = (root_of_entry c.args.self.now.image w fs c.args.n (node_block w c.args.n) h y.0.header).1 in
+      let fails = subst (λ i. Judged Root (start_demands i) (passed at cause)) (ap (λ v. v.image) c.self.view_is) c.in_default.ensures.unread in
+      absurd (not_passed c.args.self.now.image told fails)),
 )
 
 pub returns-then-word-clause-some : goal.returns-then-word-clause-some

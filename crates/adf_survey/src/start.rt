@@ -1,0 +1,85 @@
+// The size of an image, its boot bytes and its root, and whether it is gone through.
+
+ghost use Rattle.std.specs.Prelude.{◌≡◌, IfErr, IfOk};
+ghost use Rattle.adf_volume.specs.Demands.{IsSize};
+ghost use Rattle.adf_volume.specs.Walk.Role.{Root};
+ghost use Rattle.adf_survey.specs.Start.{has_root_type, root_findings};
+ghost use Rattle.adf_survey.specs.Survey.{Judged, RootTells, is_slight, start_demands};
+ghost use Rattle.adf_survey.specs.Survey.JudgementValue.{passed};
+
+use crate::image::Image;
+use adf_blocks::{Cause, SECONDARY_TYPE, T_SHORT, TYPE};
+use adf_fields::{BLOCK_LEN, Block};
+use adf_volume::{Unopened, kind_in, open};
+
+// The secondary type of the root.
+const ROOT_TYPE: u32 = 1;
+
+/// An image that is gone through, and the cause of its root, where it has one.
+#[derive(Drop)]
+pub struct Started<'a> {
+    pub image: Image<'a>,
+    pub cause: Option<Unopened>,
+}
+
+// Whether the cause says nothing against a block being the part.
+fn is_slight(cause: Cause) -> bool
+    ensures { result ≡ is_slight cause }
+{
+    match cause {
+        Cause::BadSum
+        | Cause::Link
+        | Cause::BadName
+        | Cause::BadComment
+        | Cause::WrongSlot
+        | Cause::BadFirst
+        | Cause::SameName
+        | Cause::ShortFile
+        | Cause::BadHashSize
+        | Cause::NotValidated => true,
+        _ => false,
+    }
+}
+
+// The image of a size that volumes have.
+fn sized<'a>(bytes: &'a [u8]) -> Image<'a>
+    requires { IsSize bytes.now }
+    ensures { result ≡ bytes.now }
+{
+    Image::new(bytes, kind_in(bytes), (bytes.len() / BLOCK_LEN) as u32)
+}
+
+// Whether the types are those of the root.
+fn is_root(b: &Block<'_>) -> bool
+    ensures { result ≡ has_root_type b.now }
+{
+    b.word(TYPE) == T_SHORT && b.word(SECONDARY_TYPE) == ROOT_TYPE
+}
+
+/// Reads the size, the boot bytes and the root of an image; where the root is not taken, the only finding.
+pub fn start<'a>(bytes: &'a [u8]) -> Result<Started<'a>, Unopened>
+    ensures image { IfOk result (λ s. s.image ≡ bytes.now) }
+    ensures root { IfOk result (λ s. RootTells bytes.now (root_findings s.cause)) }
+    ensures unread { IfErr result (λ u.
+        Judged Root (start_demands bytes.now) (passed u.block u.cause)) }
+{
+    match open(bytes) {
+        Ok(_) => Ok(Started {
+            image: sized(bytes),
+            cause: None,
+        }),
+        Err(unopened) => {
+            if !is_slight(unopened.cause) {
+                return Err(unopened);
+            }
+            let image = sized(bytes);
+            if !is_root(&image.block(image.root())) {
+                return Err(unopened);
+            }
+            Ok(Started {
+                image,
+                cause: Some(unopened),
+            })
+        }
+    }
+}
