@@ -111,9 +111,6 @@ module _ (free : Bool) {image : List ℕ} {store : StoreValue} {b page : ℕ} {l
   pub agrees : IsTrue free ↔ (owner_at store.owners b ≡ Free) → IsMapped image store (suc b)
   agrees h = agrees_by free refl h
 
-pub map_begins : (image : List ℕ) (store : StoreValue) → IsRead image store → IsMapped image store 2
-map_begins image store st = record { walk = st.walk; read = st.read; low = omega arith; agrees = tt }
-
 pub fits_alone : (image : List ℕ) (store : StoreValue) (b : ℕ) → IsBegun image → b ≡ blocks image → IsMapped image store b → StoreFits image store
 fits_alone image store b begun e st =
     let s = all_split (boot_demands image) (root_demands image (root_of image)) begun in

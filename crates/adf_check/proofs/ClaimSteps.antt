@@ -56,9 +56,6 @@ pub record IsStored (old new : StoreValue) (r : Role) (b : ℕ) : Type 0 where
   pub datas : new.datas ≡ push_block data_file r b old.datas
   pub used : new.used ≡ old.used + 1
 
-pub is_stored : (old : StoreValue) (r : Role) (b : ℕ) → IsStored old (stored old r b) r b
-is_stored old r b = record { owners = refl; headers = refl; starts = refl; exts = refl; datas = refl; used = omega arith }
-
 stored_is : (old new : StoreValue) (r : Role) (b : ℕ) → IsStored old new r b → stored old r b ≡ new
 stored_is old new r b s =
     let used : suc old.used ≡ new.used = omega (arith, s.used) in

@@ -23,7 +23,3 @@ pub mod VolumeCounts
 pub mod ChainLookups
 pub mod FilePieces
 pub mod TreeEntries
--- the states tried on images
-pub mod SmallImages
-pub mod EmptyLost
-pub mod FileLost

@@ -85,13 +85,6 @@ enter_directory image store n a st dir = record {
   dir = dir;
 }
 
--- they are read
-pub leave_directory : (image : List ℕ) (store : StoreValue) (n a : ℕ) → IsAtSlot image store n a 72 → IsAtNode image store (suc n)
-leave_directory image store n a st = record {
-  walk = st.walk;
-  read = moved st.read refl (end_dir image st.walk n st.read.upto);
-}
-
 pub root_begins : (image : List ℕ) (store : StoreValue) (n a : ℕ) → n ≡ 0 → a ≡ root_of image → IsInNode image store n → IsAtSlot image store n a 0
 root_begins image store n a z e st =
     enter_directory image store n a st (subst (λ n. DirAt image st.walk n a) (sym z) (subst (Has st.walk Root) (sym e) (root_in image st.read.upto.walk)))

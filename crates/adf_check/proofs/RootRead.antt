@@ -38,9 +38,6 @@ new_boot m b h = grind (arith, common_steps)
 new_free : (m b : ℕ) → 2 ≤ b → b < 2 + m → owner_at (new_owners m) b ≡ Free
 new_free m b l h = grind (arith, common_steps)
 
-pub owners_free : (m root b : ℕ) → 2 ≤ b → b < 2 + m → b ≢ root → owner_at (owners_of m root) b ≡ Free
-owners_free m root b l h ne = get_or-set_other (new_owners m) root b Root Free ne ∙ new_free m b l h
-
 -- nothing is read and nothing is claimed
 new_tells : (image : List ℕ) (m : ℕ) → blocks image ≡ 2 + m
     → StoreMatches image (record { owners = new_owners m; headers = []; starts = []; exts = []; datas = []; used = 0 }) []

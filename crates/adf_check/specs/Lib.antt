@@ -20,4 +20,3 @@ pub mod Rows
 pub mod Pieces
 pub mod Rebuild
 -- images to try the states on
-pub mod Samples

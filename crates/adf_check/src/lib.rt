@@ -19,7 +19,6 @@ mod pages;
 mod pieces;
 mod rebuild;
 mod row;
-mod samples;
 mod store;
 
 pub use crate::checked::{Checked, Counts};
@@ -28,6 +27,5 @@ pub use crate::fault::Fault;
 pub use crate::looks::Looks;
 pub use crate::owners::Owners;
 pub use crate::row::{Row, RowBody};
-pub use crate::samples::lost_block_is_first_fault;
 pub use crate::store::stores_stand_for_trees;
 pub use adf_volume::{Owner, Pieces};

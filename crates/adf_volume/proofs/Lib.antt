@@ -38,4 +38,3 @@ pub mod WalkCompleteness
 pub mod WalkFits
 -- the samples
 pub mod SampleEmpty
-pub mod SampleFile

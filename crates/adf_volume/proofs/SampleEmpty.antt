@@ -1,5 +1,5 @@
--- Fits holds of a small image, and is refuted of another.
-use Rattle.std.proofs.Common.{◌≡◌, ℕ, zero, suc, inl, inr, ◌+◌, ◌-◌, ◌/◌, ◌%◌, ◌<◌, ◌≤◌, length, refl, sym, ap, subst, ◌∙◌, arith}
+-- Fits holds of the smallest volume.
+use Rattle.std.proofs.Common.{◌≡◌, ℕ, zero, suc, inl, inr, ◌+◌, ◌-◌, ◌/◌, ◌%◌, ◌<◌, ◌≤◌, refl, sym, ap, subst, ◌∙◌, arith}
 use Rattle.adf_fields.specs.Words.{block, word, words}
 use Rattle.adf_tree.specs.declared.entry.Entry.{Entry}
 use Rattle.adf_tree.specs.Tree.{Tree, IsDir}
@@ -11,11 +11,9 @@ use Rattle.adf_blocks.specs.RootBlock.{root_form}
 use Rattle.adf_volume.specs.Demands.{AllHold, boot_demands, boot_form, root_demands, page_demands}
 use Rattle.adf_volume.specs.Layout.{Layout, EntryAt, at_node, owned}
 use Rattle.adf_volume.specs.Fits.{Fits, IsFree}
-use Rattle.adf_volume.specs.Samples.{tiny, tiny_root, tiny_tree, tiny_layout, tiny_freed}
+use Rattle.adf_volume.specs.Samples.{tiny, tiny_root, tiny_tree, tiny_layout}
 use Rattle.adf_volume.proofs.FormDemands.{all_demanded}
 use Rattle.adf_volume.proofs.Zeros.{zero_at}
-use Rattle.adf_volume.proofs.Lists.{at_some, in_left, in_numbered}
-use Rattle.adf_volume.specs.declared.owner.Owner.TheVariants.{Page}
 
 slots_zero : (s : ℕ) → s < 72 → word_in tiny 2 (6 + s) ≡ 0
 unfolding tiny tiny_root block word
@@ -115,20 +113,3 @@ tiny_fits = record {
   range = tiny_range;
   bitmap = (λ b l u. ((λ f. absurd (tiny_bitmap b l u f)), (λ f. absurd (tiny_owned b l u f))));
 }
-
-freed_bit : IsFreeAt tiny_freed 3 1
-unfolding tiny_freed tiny_root block word
-freed_bit = λ (e : 2 ≡ 0). omega arith
-
-freed_page : word_in tiny_freed 2 79 ≡ 3
-unfolding tiny_freed tiny_root block word
-freed_page = refl
-
-pub freed_fits_none : (t : Tree) (l : Layout) → Fits tiny_freed t l → ⊥
-unfolding tiny_freed tiny_root
-freed_fits_none t l fit =
-    let n : length l.pages ≡ 1 = fit.pages in
-    let p = at_some l.pages 0 (omega arith) in
-    let e : 3 ≡ p.0 = sym freed_page ∙ fit.page_named 0 p.0 (omega arith) p.1 in
-    let at : At l.pages 0 3 = subst (At l.pages 0) (sym e) p.1 in
-    (fit.bitmap 3 (omega arith) (omega arith)).0 (3, at, freed_bit) (Page 0) (inr (in_left _ _ (Page 0, 3) (in_numbered Page 0 l.pages 0 3 at)))

@@ -15,5 +15,5 @@ pub use crate::laws::{
 };
 pub use crate::owner::Owner;
 pub use crate::pieces::{Pieces, held_in, joined};
-pub use crate::samples::{file_volume_fits, freed_page_fits_nothing, tiny_volume_fits};
+pub use crate::samples::tiny_volume_fits;
 pub use crate::start::{Opened, Unopened, kind_in, open};
