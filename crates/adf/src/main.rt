@@ -1,9 +1,10 @@
 //! Checks and builds volumes of Amiga floppies and hard disks.
 #![tactic(auto)]
 
-use adf_cmd::{Device, run};
+use adf_cmd::{Device, Outcome, run, say};
 use std::alloc::Global;
 use std::io;
+use std::io::ErrorKind;
 use std::process::ExitCode;
 use std::rt::Env;
 
@@ -24,9 +25,20 @@ fn status(rt: &HostRuntime) -> io::Result<u8> {
     Ok(run(rt.alloc(), &texts, &mut input, &mut output, &mut errors))
 }
 
+// Why the words could not be read: memory, or a word that is not UTF-8.
+fn outcome_of(error: &io::Error) -> Outcome {
+    match error.kind() {
+        ErrorKind::OutOfMemory => Outcome::NoMemory,
+        _ => Outcome::ReadFault,
+    }
+}
+
 fn main(rt: HostRuntime) -> ExitCode {
     match status(&rt) {
         Ok(status) => ExitCode::from(status),
-        Err(_) => ExitCode::from(3),
+        Err(error) => {
+            say(&mut Device::new(rt.stderr()), outcome_of(&error).line());
+            ExitCode::from(3)
+        }
     }
 }

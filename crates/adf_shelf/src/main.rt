@@ -34,7 +34,7 @@ fn status(rt: &HostRuntime) -> io::Result<u8> {
     ))
 }
 
-// Why the words cannot be had: memory, or one that is no UTF-8.
+// Why the words could not be read: memory, or a word that is not UTF-8.
 fn stop_of(error: &io::Error) -> Stop {
     match error.kind() {
         ErrorKind::OutOfMemory => Stop::NoMemory,

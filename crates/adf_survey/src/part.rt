@@ -50,7 +50,7 @@ pub struct Key {
 
 impl Part {
     // The part, with this number where it is a header.
-    pub fn numbered(self, number: u32) -> Part
+    pub(crate) fn numbered(self, number: u32) -> Part
         ensures { role_of result ≡ renumbered number (role_of self) }
     {
         match self {
@@ -70,7 +70,7 @@ impl Part {
     }
 
     // The numbers that the part is ordered by.
-    pub fn key(self) -> Key
+    pub(crate) fn key(self) -> Key
         ensures { result ≡ key_of (role_of self) }
     {
         let (first, second, third) = match self {

@@ -26,7 +26,7 @@ fn status(rt: &HostRuntime) -> io::Result<u8> {
     Ok(run(rt.alloc(), &texts, &mut input, &mut output, &mut errors))
 }
 
-// Why the words cannot be had: memory, or one that is no UTF-8.
+// Why the words could not be read: memory, or a word that is not UTF-8.
 fn outcome_of(error: &io::Error) -> Outcome {
     match error.kind() {
         ErrorKind::OutOfMemory => Outcome::NoMemory,
