@@ -1,12 +1,12 @@
 -- The root of a volume.
-use Rattle.std.specs.Prelude.{◌≡◌, ◌≤◌, ◌*◌, ◌==◌, ◌&&◌, nat_le, ℕ, List, [], ◌∷◌, length, slice_index}
+use Rattle.std.specs.Prelude.{◌≡◌, ◌≤◌, ◌*◌, ◌==◌, ◌&&◌, nat_le, ℕ, List, [], ◌∷◌, length, slice_index, take}
 use Rattle.adf_fields.specs.Words.{word, long_sum, sealed}
 use Rattle.adf_tree.specs.declared.entry.Stamps.{Stamps}
 use Rattle.adf_blocks.specs.declared.cause.Cause.TheVariants.{BadSum, BadType, BadName, BadHashSize, NotValidated}
 use Rattle.adf_blocks.specs.declared.root_out.RootOut.{RootOut}
 use Rattle.adf_blocks.specs.declared.layout.TheConstants.{ALTERED, BITMAP_FLAG, CHECKSUM, CREATED, DATE, FIRST_MAP_EXT, FIRST_PAGE, FIRST_SLOT, HASH_SIZE}
 use Rattle.adf_blocks.specs.declared.layout.TheConstants.{NAME, ROOT_PAGES, SECONDARY_TYPE, SLOTS, ST_ROOT, TYPE, T_SHORT, VALID}
-use Rattle.adf_blocks.specs.Forms.{Clause, stamp_at}
+use Rattle.adf_blocks.specs.Forms.{Clause, stamp_at, text_at}
 use Rattle.adf_blocks.specs.Fields.{Field, block_of_fields, long, longs, stamp, text}
 
 -- what a root holds
@@ -18,6 +18,10 @@ root_form b =
     ∷ (word b HASH_SIZE == SLOTS, BadHashSize)
     ∷ (word b BITMAP_FLAG == VALID, NotValidated)
     ∷ []
+
+-- what any block has as the label of a root: of a longer one the first 30 bytes
+abbrev pub label_told : List ℕ → List ℕ
+label_told b = take 30 (text_at b NAME)
 
 -- the three dates of a root: its own, the last change and the creation
 abbrev pub stamps_at : List ℕ → Stamps

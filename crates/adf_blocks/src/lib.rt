@@ -21,15 +21,15 @@ pub use crate::ext::{Ext, ExtOut, read_ext, write_ext, written_exts_are_read};
 pub use crate::head::{Head, HeadBody, meta_told, read_head};
 pub use crate::head_out::{HeadOut, HeadOutBody, write_head, written_heads_are_read};
 pub use crate::layout::{
-    DATA_BYTES, DATA_HEAD, DATA_HELD, DATA_NEXT, DATA_NUMBER, DATA_ROOM, EXTENSION, FIRST_MAP_EXT,
-    FIRST_PAGE, FIRST_POINTER, FIRST_SLOT, MAP_EXT_NEXT, MAP_EXT_PAGES, MOST_BLOCKS, NAME,
-    NEXT_IN_CHAIN, OWN_KEY, PAGE_BITS, PAGE_FIRST, PAGE_WORDS, PARENT, POINTERS, ROOT_PAGES,
-    SECONDARY_TYPE, SIZE, SLOTS, ST_DIR, ST_FILE, ST_LINK_DIR, ST_LINK_FILE, ST_SOFT_LINK, T_DATA,
-    T_LIST, T_SHORT, TYPE,
+    BITMAP_FLAG, DATA_BYTES, DATA_HEAD, DATA_HELD, DATA_NEXT, DATA_NUMBER, DATA_ROOM, EXTENSION,
+    FIRST_MAP_EXT, FIRST_PAGE, FIRST_POINTER, FIRST_SLOT, MAP_EXT_NEXT, MAP_EXT_PAGES, MOST_BLOCKS,
+    NAME, NEXT_IN_CHAIN, OWN_KEY, PAGE_BITS, PAGE_FIRST, PAGE_WORDS, PARENT, POINTERS, ROOT_PAGES,
+    SECONDARY_TYPE, SIZE, SLOTS, ST_DIR, ST_FILE, ST_LINK_DIR, ST_LINK_FILE, ST_ROOT, ST_SOFT_LINK,
+    T_DATA, T_LIST, T_SHORT, TYPE, VALID,
 };
 pub use crate::links::{Directory, Table};
 pub use crate::map_ext::{MapExt, read_map_ext, write_map_ext, written_map_exts_are_read};
 pub use crate::page::{Page, place_of, read_page, write_page, written_pages_are_read};
-pub use crate::root::{Root, read_root};
+pub use crate::root::{Root, label_told, read_root, stamps_told};
 pub use crate::root_out::{RootOut, write_root, written_roots_are_read};
 pub use crate::sizes::{chunk_len, data_count, is_allowed_size, page_count};

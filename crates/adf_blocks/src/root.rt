@@ -3,7 +3,7 @@
 ghost use Rattle.std.specs.Prelude.{◌≡◌, ◌<◌, ◌+◌};
 ghost use Rattle.adf_fields.specs.Words.{word};
 ghost use Rattle.adf_blocks.specs.Forms.{ReadsForm, text_at};
-ghost use Rattle.adf_blocks.specs.RootBlock.{root_form, stamps_at};
+ghost use Rattle.adf_blocks.specs.RootBlock.{label_told, root_form, stamps_at};
 
 use crate::cause::Cause;
 use crate::fields::stamp_in;
@@ -94,10 +94,26 @@ impl Root<'_> {
     pub fn stamps(&self) -> Stamps
         ensures { result ≡ stamps_at self.now }
     {
-        Stamps {
-            root: stamp_in(&self.block, DATE),
-            altered: stamp_in(&self.block, ALTERED),
-            created: stamp_in(&self.block, CREATED),
-        }
+        stamps_told(&self.block)
+    }
+}
+
+/// The label of a block that is known to be a root: of one with more than 30 bytes, the first 30.
+pub fn label_told(b: &Block<'_>) -> Label
+    ensures { result ≡ label_told b.now }
+{
+    let len = (b.byte(NAME) as usize).min(30);
+    Label::new(b.bytes(NAME + 1, len)).unwrap()
+}
+
+/// The dates of a block that is known to be a root: its own in words 105 to 107, that of the last change in 118 to 120,
+/// that of the creation in 121 to 123.
+pub fn stamps_told(b: &Block<'_>) -> Stamps
+    ensures { result ≡ stamps_at b.now }
+{
+    Stamps {
+        root: stamp_in(b, DATE),
+        altered: stamp_in(b, ALTERED),
+        created: stamp_in(b, CREATED),
     }
 }

@@ -1,17 +1,10 @@
 -- What an image whose root is taken tells before its entries.
--- Letters: b a block.
-use Rattle.std.specs.Prelude.{List, ℕ, take}
+use Rattle.std.specs.Prelude.{List, ℕ}
 use Rattle.adf_fields.specs.Words.{block}
-use Rattle.adf_blocks.specs.declared.layout.TheConstants.{NAME}
-use Rattle.adf_blocks.specs.Forms.{text_at}
-use Rattle.adf_blocks.specs.RootBlock.{stamps_at}
+use Rattle.adf_blocks.specs.RootBlock.{label_told, stamps_at}
 use Rattle.adf_blocks.specs.Sizes.{blocks}
 use Rattle.adf_volume.specs.Image.{kind_of, root_of}
 use Rattle.adf_survey.specs.declared.opening.Opening.{Opening}
-
--- what any block has as the label of a root: of a longer one the first 30 bytes
-abbrev pub label_told : List ℕ → List ℕ
-label_told b = take 30 (text_at b NAME)
 
 -- what the size, the boot bytes and the root tell
 abbrev pub opening_in : List ℕ → Opening

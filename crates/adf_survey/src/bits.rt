@@ -9,17 +9,14 @@ ghost use Rattle.adf_survey.specs.Found.{BitTells, IsBitOf, IsCompleted, IsFinis
 use crate::found::Found;
 use crate::image::Image;
 use crate::part::{Finding, Part};
-use adf_blocks::{Cause, PAGE_FIRST, place_of};
+use adf_blocks::{BITMAP_FLAG, Cause, PAGE_FIRST, VALID, place_of};
 use adf_fields::NoMemory;
-
-// The word of the root that says that the bitmap is valid.
-const VALID_WORD: usize = 78;
 
 // Whether the root says that the bitmap is valid.
 fn is_validated(image: &Image<'_>) -> bool
     ensures { IsTrue result ↔ IsValidated image.now }
 {
-    image.word(image.root(), VALID_WORD) == u32::MAX
+    image.word(image.root(), BITMAP_FLAG) == VALID
 }
 
 // Whether a bit of a word is set.

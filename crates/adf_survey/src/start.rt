@@ -8,12 +8,9 @@ ghost use Rattle.adf_survey.specs.Survey.{Judged, RootTells, is_slight, start_de
 ghost use Rattle.adf_survey.specs.Survey.JudgementValue.{passed};
 
 use crate::image::Image;
-use adf_blocks::{Cause, SECONDARY_TYPE, T_SHORT, TYPE};
+use adf_blocks::{Cause, SECONDARY_TYPE, ST_ROOT, T_SHORT, TYPE};
 use adf_fields::{BLOCK_LEN, Block};
 use adf_volume::{Unopened, kind_in, open};
-
-// The secondary type of the root.
-const ROOT_TYPE: u32 = 1;
 
 /// An image that is gone through, and the cause of its root, where it has one.
 #[derive(Drop)]
@@ -53,7 +50,7 @@ fn sized<'a>(bytes: &'a [u8]) -> Image<'a>
 fn is_root(b: &Block<'_>) -> bool
     ensures { result ≡ has_root_type b.now }
 {
-    b.word(TYPE) == T_SHORT && b.word(SECONDARY_TYPE) == ROOT_TYPE
+    b.word(TYPE) == T_SHORT && b.word(SECONDARY_TYPE) == ST_ROOT
 }
 
 /// Reads the size, the boot bytes and the root of an image; where the root is not taken, the only finding.

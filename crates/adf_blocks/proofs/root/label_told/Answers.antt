@@ -4,7 +4,7 @@ use Rattle.std.proofs.lemmas.Bool.{cases_lt}
 use Rattle.std.proofs.lemmas.List.{length-take, take-take, take_all}
 use Rattle.adf_blocks.specs.declared.layout.TheConstants.{NAME}
 use Rattle.adf_blocks.specs.Forms.{text_at}
-use Rattle.adf_survey.proofs.opening.label_told.Goals as goal
+use Rattle.adf_blocks.proofs.root.label_told.Goals as goal
 
 first_bytes : (xs : List ℕ) (n : ℕ) → take (min n 30) xs ≡ take 30 (take n xs)
 first_bytes xs n = elim (cases_lt 30 n) [
