@@ -1,6 +1,6 @@
 -- The data blocks of a sound file are those that its table names.
 use Rattle.std.specs.Prelude.{get_or, slice_index}
-use Rattle.std.proofs.Common.{◌≡◌, ℕ, suc, List, ◌++◌, ◌*◌, ◌^◌, ◌<◌, length, sym, ap, subst, ◌∙◌, arith}
+use Rattle.std.proofs.Common.{◌≡◌, ℕ, suc, List, [], ◌++◌, ◌*◌, ◌^◌, ◌<◌, length, sym, ap, subst, ◌∙◌, arith}
 use Rattle.adf_blocks.specs.declared.layout.TheConstants.{SECONDARY_TYPE, SIZE, ST_FILE}
 use Rattle.adf_volume.proofs.Images.{count_small}
 use Rattle.adf_volume.specs.Image.{kind_of, pieces, word_in}
@@ -84,6 +84,10 @@ blocks_inside f has small =
       from = omega arith;
       few = omega (arith, has.many);
     }
+
+-- a table that names no block names none of none
+pub names_none : (image : List ℕ) (h k : ℕ) → names_from image h k ≡ [] → k ≡ 0
+names_none image h k none = sym (names_length image 0 h k) ∙ ap length none
 
 -- the pieces of a file, one after the other, are its content
 pub joined_content : (f : FileValue) → HasItsBlocks f

@@ -46,8 +46,12 @@ fn named_blocks(
     head: u32,
     count: u32,
 ) -> Result<Vec<u32>, NoMemory>
-    ensures { IfOk result (λ v. v.items ≡ names_from image.now head count) }
+    ensures names { IfOk result (λ v. v.items ≡ names_from image.now head count) }
+    ensures empty { count ≡ 0 → IsOk result }
 {
+    if count == 0 {
+        return Ok(Vec::new(alloc));
+    }
     let Ok(mut blocks) = Vec::with_capacity(alloc, count as usize) else {
         return Err(NoMemory);
     };
@@ -68,7 +72,8 @@ impl<'i> SoundFile<'i> {
     // The file with its header at a block.
     pub(crate) fn at(alloc: Global, image: &Image<'i>, head: u32) -> Result<SoundFile<'i>, NoMemory>
         requires { HasItsBlocks (file_from image.now head) }
-        ensures { IfOk result (λ f. f ≡ file_from image.now head) }
+        ensures file { IfOk result (λ f. f ≡ file_from image.now head) }
+        ensures empty { (file_from image.now head).blocks ≡ [] → IsOk result }
     {
         let kind = image.kind();
         let size = image.word(head, SIZE);

@@ -258,8 +258,8 @@ impl Survey<'_> {
 }
 
 impl<'i> Survey<'i> {
-    /// A file that nothing is said against; none of what is no file, and of what is not sound, for which no memory is taken.
-    /// `NoMemory` where a growth was refused.
+    /// A sound file; none of what is no file or is not sound. `NoMemory` where a growth was refused, which cannot happen where
+    /// there is no file, or it is empty.
     pub fn file(&self, alloc: Global, n: Node) -> Result<Option<SoundFile<'i>>, NoMemory>
         ensures some { (w : List (Role × ℕ)) (fs : List FindingValue) → IsSurvey self.now.image w fs
             → IfOk result (λ x. IsSome x ↔ IsSoundFile self.now.image w fs n) }
@@ -267,6 +267,8 @@ impl<'i> Survey<'i> {
             → IfOk result (λ x. IfSome x (λ f. f ≡ file_in self.now.image w n)) }
         ensures none { (w : List (Role × ℕ)) (fs : List FindingValue) → IsSurvey self.now.image w fs
             → (IsSoundFile self.now.image w fs n → ⊥) → IsOk result }
+        ensures empty { (w : List (Role × ℕ)) (fs : List FindingValue) → IsSurvey self.now.image w fs
+            → (file_in self.now.image w n).blocks ≡ [] → IsOk result }
     {
         if !self.is_sound(n) {
             return Ok(None);

@@ -1,7 +1,8 @@
 use Rattle.std.specs.Prelude.{slice_index}
-use Rattle.std.proofs.Common.{ℕ, refl, sym, ap, subst, ◌∙◌}
+use Rattle.std.proofs.Common.{ℕ, List, refl, sym, ap, subst, ◌∙◌}
 use Rattle.adf_volume.specs.Walk.{node_block}
 use Rattle.adf_volume.specs.Walk.Role.{Root}
+use Rattle.adf_survey.specs.Files.{FileValue}
 use Rattle.adf_survey.specs.Survey.{Judged, start_demands}
 use Rattle.adf_survey.specs.Survey.JudgementValue.{passed}
 use Rattle.adf_survey.specs.Surveyed.{IsOfSurvey}
@@ -9,6 +10,9 @@ use Rattle.adf_survey.proofs.Openings.{root_of_entry}
 use Rattle.adf_survey.proofs.SoundFiles.{file_is, has_its_blocks, type_is}
 use Rattle.adf_survey.proofs.Starts.{not_passed}
 use Rattle.adf_survey.proofs.surveyed.Survey.file.Goals as goal
+
+abbrev blocks_of : FileValue → List ℕ
+blocks_of f = f.blocks
 
 pub returns-in_default-clause-some : goal.returns-in_default-clause-some
 returns-in_default-clause-some c = λ w fs h. (
@@ -62,4 +66,13 @@ returns-clause-file c = λ w fs h.
     let image = c.in-Ok.ensures.image ∙ ap (λ v. v.image) c.self.view_is in
     let head = c.number_at-head.ensures ∙ (λ i. slice_index (c.self.view_is i).nodes (c.n.view_is i)) in
     let sound = (c.is_sound.ensures w fs h).0 c.if-not-is_sound.false in
-    c.in_ok-at.ensures ∙ file_is c.args.self.now kept w fs h c.args.n image head c.word.ensures sound c.if-word.false
+    c.in_ok-at.ensures.file ∙ file_is c.args.self.now kept w fs h c.args.n image head c.word.ensures sound c.if-word.false
+
+pub returns-in_err-at-clause-empty : goal.returns-in_err-at-clause-empty
+returns-in_err-at-clause-empty c = λ w fs h none.
+    let kept = subst IsOfSurvey c.self.view_is c.self.invariant in
+    let image = c.in-Ok.ensures.image ∙ ap (λ v. v.image) c.self.view_is in
+    let head = c.number_at-head.ensures ∙ (λ i. slice_index (c.self.view_is i).nodes (c.n.view_is i)) in
+    let sound = (c.is_sound.ensures w fs h).0 c.if-not-is_sound.false in
+    let same = file_is c.args.self.now kept w fs h c.args.n image head c.word.ensures sound c.if-word.false in
+    let no = c.in_err-at.ensures.empty (ap blocks_of same ∙ none) in absurd (cc)
