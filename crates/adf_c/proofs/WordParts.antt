@@ -7,7 +7,7 @@ use Rattle.std.proofs.lemmas.List.{append_assoc, append_cancel_right, get_or_app
 use Rattle.std.proofs.lemmas.List.Elements.{All-push}
 use Rattle.std.proofs.lemmas.List.Splits.{length-slice_split}
 use Rattle.adf_c.specs.Words.{AreWords, is_zero, between_zeros}
-use Rattle.adf_cmd.specs.CommandLine.{texts_of}
+use Rattle.adf_words.specs.CommandLine.{texts_of}
 
 -- memory holds one list of words at most
 pub one_list : (bytes : List ℕ) (words others : List (List ℕ)) → AreWords bytes words → AreWords bytes others → words ≡ others

@@ -1,7 +1,7 @@
 // The words of a command line in memory.
 
 ghost use Rattle.std.specs.Prelude.{◌≡◌, ◌<◌, ◌∷◌, [], IfOk, IfErr, IfSome, IfNone, length, position};
-ghost use Rattle.adf_cmd.specs.CommandLine.{texts_of};
+ghost use Rattle.adf_words.specs.CommandLine.{texts_of};
 ghost use Rattle.adf_c.specs.Words.{AreNoWords, AreWords, is_zero, between_zeros};
 
 use adf_cmd::WordsFault;

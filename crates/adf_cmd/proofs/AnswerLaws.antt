@@ -16,7 +16,7 @@ use Rattle.adf_check.specs.Pieces.{bytes_of}
 use Rattle.adf_check.specs.declared.fault.Fault.{Fault}
 use Rattle.adf_cmd.specs.Answers.{Answer, BuildsOrIsFull, Copies, IsBuilt, RefusesImage, contents_at}
 use Rattle.adf_cmd.specs.Commands.{Reply, WritesFront, on_errors, on_output}
-use Rattle.adf_cmd.specs.CommandLine.{build, cat, check, convert, list}
+use Rattle.adf_words.specs.CommandLine.{build, cat, check, convert, list}
 use Rattle.adf_manifest.specs.Manifest.{ExplainsFault, IsManifest}
 use Rattle.adf_cmd.specs.Outcomes.{EndsBy, IsFaultOutcome, IsRefusedImage, after_writing, outcome_line, status_of}
 use Rattle.adf_texts.specs.Lines.{fault_line}

@@ -6,7 +6,6 @@ pub mod Lines
 pub mod EntryNames
 pub mod EntryLines
 -- answers
-pub mod Refusals
 pub mod WorkFaults
 pub mod AnswerLaws
 pub mod CommandRuns

@@ -17,7 +17,7 @@ use Rattle.adf_manifest.specs.declared.manifest.ManifestKind.{ManifestKind}
 use Rattle.adf_manifest.specs.declared.manifest.ManifestKind.TheVariants.{NoMemory as ManifestNoMemory, TooLong}
 use Rattle.adf_cmd.specs.Answers.{Answer, limit_of}
 use Rattle.adf_cmd.specs.Commands.{Reply}
-use Rattle.adf_cmd.specs.CommandLine.{RequestValue, build, cat, check}
+use Rattle.adf_words.specs.CommandLine.{RequestValue, build, cat, check}
 use Rattle.adf_cmd.specs.declared.checking.CheckAnswer.{CheckAnswer}
 use Rattle.adf_cmd.specs.Outcomes.{EndsBy, IsCheckAnswer, IsCheckAnswerTo}
 use Rattle.adf_cmd.specs.declared.outcome.Outcome.{Outcome}

@@ -27,7 +27,7 @@ use Rattle.adf_texts.specs.VolumeLines.{AreDates, volume_lines}
 use Rattle.adf_cmd.specs.Answers.{Accepts, Answer, BuildsManifest, BuildsOrIsFull, Converts, Copies, CopiesFrom, Lists, RefusesImage, RefusesManifest}
 use Rattle.adf_cmd.specs.Answers.{contents_at}
 use Rattle.adf_cmd.specs.Commands.{Reply, on_errors, on_output}
-use Rattle.adf_cmd.specs.CommandLine.{AsksFor, RequestValue, request_of, build, cat, check, convert, list}
+use Rattle.adf_words.specs.CommandLine.{AsksFor, RequestValue, request_of, build, cat, check, convert, list}
 
 pub one_request : (words : List (List ℕ)) (r r' : RequestValue) → AsksFor words r → AsksFor words r' → r ≡ r'
 one_request words r r' a b = same (request_of words) r r' a.1 b.1

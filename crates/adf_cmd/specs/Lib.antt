@@ -1,4 +1,3 @@
-pub mod CommandLine
 pub mod Commands
 pub mod Devices
 pub mod Listing

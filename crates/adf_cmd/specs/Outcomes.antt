@@ -5,7 +5,7 @@ use Rattle.adf_volume.specs.Walk.{FirstFault}
 use Rattle.adf_check.specs.declared.fault.Fault.{Fault}
 use Rattle.adf_cmd.specs.Answers.{Answer}
 use Rattle.adf_cmd.specs.Commands.{Reply, WritesFront, on_output}
-use Rattle.adf_cmd.specs.CommandLine.{check}
+use Rattle.adf_words.specs.CommandLine.{check}
 use Rattle.adf_texts.specs.Lines.{fault_line, full_line, manifest_fault_line}
 use Rattle.adf_manifest.specs.declared.manifest.ManifestFault.{ManifestFault}
 use Rattle.adf_manifest.specs.declared.manifest.ManifestKind.TheVariants.{NoMemory as ManifestNoMemory}

@@ -2,8 +2,8 @@
 use Rattle.std.specs.Prelude.{ℕ, List, codes}
 use Rattle.adf_tree.specs.declared.path_texts.PathFault.{PathFault}
 use Rattle.adf_tree.specs.declared.path_texts.PathFault.TheVariants.{BadText, NoMemory as PathNoMemory}
-use Rattle.adf_cmd.specs.declared.command_line.WordsFault.{WordsFault}
-use Rattle.adf_cmd.specs.declared.command_line.WordsFault.TheVariants.{NoMemory as WordsNoMemory, Usage as WordsUsage}
+use Rattle.adf_words.specs.declared.command_line.WordsFault.{WordsFault}
+use Rattle.adf_words.specs.declared.command_line.WordsFault.TheVariants.{NoMemory as WordsNoMemory, Usage as WordsUsage}
 use Rattle.adf_cmd.specs.declared.work_fault.WorkFault.{WorkFault}
 use Rattle.adf_cmd.specs.declared.work_fault.WorkFault.TheVariants.{Usage, BadPath, NoMemory}
 

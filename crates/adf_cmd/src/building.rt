@@ -4,7 +4,7 @@ ghost use Rattle.std.specs.Prelude.{◌≡◌, ◌<◌, ◌^◌, true, false, le
 ghost use Rattle.std.specs.Io.KnownBytes.{Appends};
 ghost use Rattle.adf_blocks.specs.Sizes.{is_allowed};
 ghost use Rattle.adf_cmd.specs.Answers.{Answer, BuildsOrIsFull};
-ghost use Rattle.adf_cmd.specs.CommandLine.{build};
+ghost use Rattle.adf_words.specs.CommandLine.{build};
 ghost use Rattle.adf_cmd.specs.Listing.{image_or_lines};
 ghost use Rattle.adf_cmd.specs.Outcomes.{EndsBy, IsFaultOutcome, IsFullOutcome, is_read_fault, is_write_fault};
 ghost use Rattle.adf_cmd.specs.Streams.{AppendsPart, is_device};

@@ -6,7 +6,7 @@ ghost use Rattle.adf_volume.specs.Layout.{Layout};
 ghost use Rattle.adf_volume.specs.Walk.{FirstFault};
 ghost use Rattle.adf_check.specs.Volumes.{StandsFor};
 ghost use Rattle.adf_cmd.specs.Answers.{Answer, limit_of};
-ghost use Rattle.adf_cmd.specs.CommandLine.{check};
+ghost use Rattle.adf_words.specs.CommandLine.{check};
 ghost use Rattle.adf_cmd.specs.Outcomes.{EndsBy, IsCheckAnswer, IsCheckAnswerTo, is_read_fault, is_write_fault};
 ghost use Rattle.adf_cmd.specs.Streams.{TakesAtMost, is_device};
 ghost use Rattle.adf_texts.specs.Lines.{ok_line};

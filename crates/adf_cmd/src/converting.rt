@@ -6,7 +6,7 @@ ghost use Rattle.adf_blocks.specs.Sizes.{blocks, is_allowed};
 ghost use Rattle.adf_volume.specs.Fits.{Fits};
 ghost use Rattle.adf_volume.specs.Layout.{Layout};
 ghost use Rattle.adf_cmd.specs.Answers.{Answer, BuildsOrIsFull};
-ghost use Rattle.adf_cmd.specs.CommandLine.{convert};
+ghost use Rattle.adf_words.specs.CommandLine.{convert};
 ghost use Rattle.adf_cmd.specs.Outcomes.{EndsBy, IsRefusedImage, is_read_fault, is_write_fault};
 
 use crate::building::build_tree;

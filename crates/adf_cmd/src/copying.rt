@@ -8,7 +8,7 @@ ghost use Rattle.adf_tree.specs.Tree.{Tree};
 ghost use Rattle.adf_volume.specs.Layout.{Layout};
 ghost use Rattle.adf_check.specs.Volumes.{StandsFor};
 ghost use Rattle.adf_cmd.specs.Answers.{Answer, Copies, contents_at};
-ghost use Rattle.adf_cmd.specs.CommandLine.{cat};
+ghost use Rattle.adf_words.specs.CommandLine.{cat};
 ghost use Rattle.adf_cmd.specs.Outcomes.{EndsBy, is_read_fault, is_write_fault};
 ghost use Rattle.adf_cmd.specs.Streams.{AppendsPart, KeepsPending};
 

@@ -3,7 +3,6 @@
 
 mod building;
 mod checking;
-mod command_line;
 mod converting;
 mod copying;
 mod devices;
@@ -20,9 +19,6 @@ mod work;
 mod work_fault;
 
 pub use crate::checking::{CheckAnswer, answer_to_image, answer_to_input};
-pub use crate::command_line::{
-    Request, WordsFault, cat_command, first_text, has_flag, list_flag, parse, words_as_documented,
-};
 pub use crate::copying::{ROOM, write_through};
 pub use crate::devices::{Device, Failed, Sink, Source};
 pub use crate::images::MOST_IMAGE_BYTES;
@@ -36,3 +32,4 @@ pub use crate::streams::{StreamFault, flush_long, read_all, read_into, say, writ
 pub use crate::work::Work;
 pub use crate::work_fault::WorkFault;
 pub use adf_manifest::{ManifestFault, ManifestKind, read_manifest};
+pub use adf_words::{Request, WordsFault, parse, words_as_documented};

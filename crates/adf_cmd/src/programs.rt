@@ -1,7 +1,7 @@
 // Programs, and runs of them.
 
 ghost use Rattle.std.specs.Prelude.{◌≡◌, ◌+◌, ◌<◌, ◌^◌, ℕ, List, Some, false, true, IfErr, IfOk, IfSome, OnOk};
-ghost use Rattle.adf_cmd.specs.CommandLine.{texts_of};
+ghost use Rattle.adf_words.specs.CommandLine.{texts_of};
 ghost use Rattle.adf_cmd.specs.Commands.{Command, IsConsistent, IsUnanswered, LooksAt, RunEnds, TakesEnough};
 ghost use Rattle.adf_cmd.specs.Outcomes.{EndsBy, is_read_fault, is_write_fault};
 ghost use Rattle.adf_cmd.specs.Streams.{TakesAtMost};

@@ -2,7 +2,7 @@
 
 ghost use Rattle.std.specs.Prelude.{◌≡◌, false, true};
 ghost use Rattle.adf_cmd.specs.Answers.{RequestsHaveOneAnswer, WordsAskForOneRequest, adf_command};
-ghost use Rattle.adf_cmd.specs.CommandLine.{texts_of};
+ghost use Rattle.adf_words.specs.CommandLine.{texts_of};
 ghost use Rattle.adf_cmd.specs.Commands.{IsUnanswered, RunEnds, TakesEnough};
 
 use crate::devices::{Sink, Source};

@@ -9,7 +9,7 @@ ghost use Rattle.adf_volume.specs.Layout.{Layout};
 ghost use Rattle.adf_check.specs.Volumes.{StandsFor};
 ghost use Rattle.adf_texts.specs.VolumeLines.{lines_of_entries, lines_of_entry, opening_lines, volume_lines};
 ghost use Rattle.adf_cmd.specs.Answers.{Answer};
-ghost use Rattle.adf_cmd.specs.CommandLine.{list};
+ghost use Rattle.adf_words.specs.CommandLine.{list};
 ghost use Rattle.adf_cmd.specs.Outcomes.{EndsBy, is_read_fault, is_write_fault};
 ghost use Rattle.adf_cmd.specs.Streams.{AppendsPart, KeepsPending, is_device};
 ghost use Rattle.adf_cmd.specs.VolumeListing.{InAnyDates};

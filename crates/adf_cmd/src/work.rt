@@ -2,14 +2,13 @@
 
 ghost use Rattle.std.specs.Prelude.{◌≡◌, false, IfErr, IfOk};
 ghost use Rattle.adf_cmd.specs.Answers.{Answer, HasBadPath};
-ghost use Rattle.adf_cmd.specs.CommandLine.{RequestValue, request_value};
+ghost use Rattle.adf_words.specs.CommandLine.{RequestValue, request_value};
 ghost use Rattle.adf_cmd.specs.Outcomes.{EndsBy, is_read_fault, is_write_fault};
 ghost use Rattle.adf_cmd.specs.Work.{Serves};
 ghost use Rattle.adf_cmd.specs.WorkFaults.{IsNoWork};
 
 use crate::building::build_manifest;
 use crate::checking::check_image;
-use crate::command_line::{Request, USAGE, parse};
 use crate::converting::{convert_image, convert_read};
 use crate::copying::cat_image;
 use crate::devices::{Sink, Source};
@@ -21,6 +20,7 @@ use crate::volume_listing::list_image;
 use crate::work_fault::WorkFault;
 use adf_manifest::MOST_BYTES;
 use adf_tree::{Kind, Name, read_path};
+use adf_words::{Request, USAGE, parse};
 use std::alloc::Global;
 
 /// What is done to the bytes of an input.
@@ -68,7 +68,7 @@ impl Work {
 impl Program for Work {
     ghost use Rattle.std.proofs.Common.{inl, refl, rules};
     ghost use Rattle.adf_cmd.specs.Answers.{adf_command};
-    ghost use Rattle.adf_cmd.specs.CommandLine.{cat};
+    ghost use Rattle.adf_words.specs.CommandLine.{cat};
     ghost use Rattle.adf_cmd.specs.Work.{Serves};
 
     ghost command = { adf_command };

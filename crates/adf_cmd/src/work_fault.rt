@@ -4,10 +4,10 @@ ghost use Rattle.std.specs.Prelude.{◌≡◌, false};
 ghost use Rattle.adf_cmd.specs.Streams.{Says};
 ghost use Rattle.adf_cmd.specs.WorkFaults.{refusal_line, refusal_status};
 
-use crate::command_line::WordsFault;
 use crate::devices::Sink;
 use crate::streams::say;
 use adf_tree::PathFault;
+use adf_words::WordsFault;
 use std::error::Error;
 use std::fmt;
 

@@ -6,7 +6,7 @@ use Rattle.std.specs.Io.KnownBytes.{Appends}
 use Rattle.adf_tree.specs.Escapes.{escaped}
 use Rattle.adf_cmd.specs.Answers.{Answer}
 use Rattle.adf_cmd.specs.Commands.{on_output}
-use Rattle.adf_cmd.specs.CommandLine.{check}
+use Rattle.adf_words.specs.CommandLine.{check}
 use Rattle.adf_cmd.specs.Streams.{AppendsPart, Says}
 use Rattle.adf_shelf_cmd.specs.declared.report.Report.{Report}
 use Rattle.adf_shelf_cmd.specs.declared.report.Report.TheVariants.{Checked, ReadFault, NoMemory}

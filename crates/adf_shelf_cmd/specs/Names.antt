@@ -1,5 +1,5 @@
 -- The names of images.
-use Rattle.std.specs.Prelude.{◌≡◌, ℕ, zero, suc, Bool, true, false, List, [], ◌∷◌, ◌++◌, length, Option, None, Some, IfSome}
+use Rattle.std.specs.Prelude.{◌≡◌, ℕ, zero, suc, Bool, true, false, List, [], ◌∷◌, ◌++◌, length, Option, None, Some, IfSome, option_map, if◌then◌else◌}
 use Rattle.std.specs.Io.BufRead.{drop_through, first_piece}
 
 -- of the known names, these were given
@@ -22,3 +22,12 @@ first_names (suc most) end (b ∷ bytes) = first_piece end (b ∷ bytes) ∷ fir
 -- the names in bytes
 abbrev pub listed_names : ℕ → List ℕ → List (List ℕ)
 listed_names end bytes = first_names (length bytes) end bytes
+
+-- the byte that ends a name
+abbrev pub end_of : Bool → ℕ
+end_of null = if null then 0 else 10
+
+-- the names of an order, or where it has none those in the input
+abbrev pub names_asked : Bool × List (List ℕ) → Option (List ℕ) → Option (List (List ℕ))
+names_asked (null, []) input = option_map (listed_names (end_of null)) input
+names_asked (null, name ∷ names) input = Some (name ∷ names)

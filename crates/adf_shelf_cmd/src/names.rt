@@ -2,7 +2,7 @@
 
 ghost use Rattle.std.specs.Prelude.{◌≡◌, ◌<◌, ℕ, IfOk, List, Ok, Option, Some, length, option_map, true};
 ghost use Rattle.std.specs.Io.BufRead.{strip_last};
-ghost use Rattle.adf_cmd.specs.CommandLine.{texts_of};
+ghost use Rattle.adf_words.specs.CommandLine.{texts_of};
 ghost use Rattle.adf_shelf_cmd.specs.Names.{GivesName, listed_names};
 
 use adf_cmd::StreamFault;

@@ -1,20 +1,19 @@
 // The whole command.
 
 ghost use Rattle.std.specs.Prelude.{◌≡◌, ◌≢◌, ◌≤◌, Bool, List, ℕ, [], codes, false};
-ghost use Rattle.adf_cmd.specs.CommandLine.{texts_of};
+ghost use Rattle.adf_words.specs.CommandLine.{texts_of};
 ghost use Rattle.adf_cmd.specs.Streams.{Says};
-ghost use Rattle.adf_shelf_cmd.specs.CommandLine.{AsksShelf, AreRefusedByShelf, names_asked};
+ghost use Rattle.adf_words.specs.ShelfLine.{AsksShelf, AreRefusedByShelf};
 ghost use Rattle.adf_shelf_cmd.specs.Lines.{Ends, IsReportOf, IsRunStatus};
+ghost use Rattle.adf_shelf_cmd.specs.Names.{names_asked};
 
-use crate::command_line::{Order, parse};
 use crate::files::Files;
 use crate::names::{Names, TextNames, WordNames};
 use crate::shelf::{Stop, write_verdicts};
-use adf_cmd::{Sink, WordsFault, say};
+use adf_cmd::{Sink, say};
+use adf_words::{Order, SHELF_USAGE as USAGE, WordsFault, parse_shelf};
 use std::alloc::Global;
 use std::io::BufRead;
-
-const USAGE: &str = "usage: adf-shelf [--null] [FILE..]\n";
 
 // Writes the lines of names, says on errors why it stopped, and answers the status.
 fn run_names<N: Names, F: Files, W: Sink, E: Sink>(
@@ -103,7 +102,7 @@ pub fn run<B: BufRead, F: Files, W: Sink, E: Sink>(
         → Says (E.has_failed errors.new) (E.held errors.old) (E.held errors.new)
         (codes "usage: adf-shelf [--null] [FILE..]\n") }
 {
-    match parse(alloc, words) {
+    match parse_shelf(alloc, words) {
         Ok(order) => run_order(alloc, &order, input, files, output, errors),
         Err(WordsFault::Usage) => {
             say(errors, USAGE);

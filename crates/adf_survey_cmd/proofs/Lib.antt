@@ -1,4 +1,3 @@
-pub mod Refusals
 pub mod RunLines
 pub mod PendingLines
 pub mod FindingLists

@@ -13,7 +13,7 @@ use Rattle.adf_survey.proofs.OneSurvey.{one_survey}
 use Rattle.adf_cmd.specs.Commands.{Reply, on_output}
 use Rattle.adf_cmd.proofs.LongInputs.{too_large}
 use Rattle.adf_survey_cmd.specs.Answers.{CopiesFound, SurveyAnswer, TellsFound, findings_status}
-use Rattle.adf_survey_cmd.specs.CommandLine.{InquiryValue, cat, list, report}
+use Rattle.adf_words.specs.SurveyLine.{InquiryValue, cat, list, report}
 use Rattle.adf_survey_cmd.specs.Lines.{findings_text, runs_from}
 
 -- an input of a bad size has this finding

@@ -13,7 +13,7 @@ use Rattle.adf_survey.proofs.Lookups.{one_first}
 use Rattle.adf_cmd.specs.Commands.{Reply, on_output}
 use Rattle.adf_cmd.proofs.OneAnswer.{one_dates}
 use Rattle.adf_survey_cmd.specs.Answers.{CopiesEntry, CopiesFound, CopiesFromSurvey, ListsSurvey, SurveyAnswer, Surveys, TellsFound, findings_status}
-use Rattle.adf_survey_cmd.specs.CommandLine.{AsksSurvey, InquiryValue, cat, inquiry_of, list, report}
+use Rattle.adf_words.specs.SurveyLine.{AsksSurvey, InquiryValue, cat, inquiry_of, list, report}
 use Rattle.adf_survey_cmd.specs.FoundLines.{listing_text}
 use Rattle.adf_survey_cmd.specs.Lines.{findings_text}
 use Rattle.adf_survey_cmd.proofs.FoundTexts.{same_tests}

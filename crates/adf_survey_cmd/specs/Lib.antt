@@ -1,4 +1,3 @@
-pub mod CommandLine
 pub mod Lines
 pub mod FoundLines
 pub mod Answers

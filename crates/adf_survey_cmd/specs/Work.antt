@@ -1,7 +1,7 @@
 -- What is done for words, once they and their path are read.
 use Rattle.std.specs.Prelude.{◌≡◌, ℕ, List}
 use Rattle.adf_tree.specs.PathTexts.{IsPathText}
-use Rattle.adf_survey_cmd.specs.CommandLine.{InquiryValue, cat, list, report}
+use Rattle.adf_words.specs.SurveyLine.{InquiryValue, cat, list, report}
 use Rattle.adf_survey_cmd.specs.declared.work.Work.{Work}
 use Rattle.adf_survey_cmd.specs.declared.work.Work.TheVariants.{Report, List as ListAll, Cat}
 

@@ -1,7 +1,7 @@
 // The whole command.
 
 ghost use Rattle.std.specs.Prelude.{◌≡◌, false, true};
-ghost use Rattle.adf_cmd.specs.CommandLine.{texts_of};
+ghost use Rattle.adf_words.specs.CommandLine.{texts_of};
 ghost use Rattle.adf_cmd.specs.Commands.{IsUnanswered, RunEnds, TakesEnough};
 ghost use Rattle.adf_survey_cmd.specs.Answers.{InquiriesHaveOneAnswer, WordsAskForOneInquiry, survey_command};
 

@@ -6,16 +6,16 @@ ghost use Rattle.adf_survey.specs.Survey.{FindingValue, IsSurvey};
 ghost use Rattle.adf_cmd.specs.Outcomes.{EndsBy, is_read_fault, is_write_fault};
 ghost use Rattle.adf_cmd.specs.WorkFaults.{IsNoWork};
 ghost use Rattle.adf_survey_cmd.specs.Answers.{HasBadSurveyPath, SurveyAnswer};
-ghost use Rattle.adf_survey_cmd.specs.CommandLine.{InquiryValue, inquiry_value};
+ghost use Rattle.adf_words.specs.SurveyLine.{InquiryValue, inquiry_value};
 ghost use Rattle.adf_survey_cmd.specs.Work.{Meets};
 
-use crate::command_line::{Inquiry, USAGE, parse};
 use crate::copying::copy_found;
 use crate::listing::write_list;
 use crate::reporting::write_findings;
 use adf_cmd::{MOST_IMAGE_BYTES, Outcome, Program, Sink, Source, WorkFault, read_input};
 use adf_survey::{Survey, survey};
 use adf_tree::{Name, read_path};
+use adf_words::{Inquiry, SURVEY_USAGE as USAGE, parse_survey};
 use std::alloc::Global;
 
 /// What is done with an image.
@@ -63,7 +63,7 @@ impl Work {
 impl Program for Work {
     ghost use Rattle.std.proofs.Common.{inl, refl, rules};
     ghost use Rattle.adf_survey_cmd.specs.Answers.{survey_command};
-    ghost use Rattle.adf_survey_cmd.specs.CommandLine.{cat};
+    ghost use Rattle.adf_words.specs.SurveyLine.{cat};
     ghost use Rattle.adf_survey_cmd.specs.Work.{Meets};
 
     ghost command = { survey_command };
@@ -75,7 +75,7 @@ impl Program for Work {
     }
 
     fn of(alloc: Global, words: &[&str]) -> Result<Work, WorkFault> {
-        let inquiry = parse(alloc, words)?;
+        let inquiry = parse_survey(alloc, words)?;
         work_for(alloc, inquiry)
     }
 

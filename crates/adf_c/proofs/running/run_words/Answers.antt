@@ -1,4 +1,4 @@
-use Rattle.adf_cmd.specs.CommandLine.{texts_of}
+use Rattle.adf_words.specs.CommandLine.{texts_of}
 use Rattle.adf_c.proofs.MemoryWords.{ends_in_memory, looks_in_memory}
 use Rattle.adf_c.proofs.WordParts.{read_as}
 use Rattle.adf_c.proofs.running.run_words.Goals as goal

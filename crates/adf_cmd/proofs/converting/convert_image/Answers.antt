@@ -1,6 +1,6 @@
 use Rattle.std.proofs.Common.{inr}
 use Rattle.adf_cmd.specs.Answers.{Answer}
-use Rattle.adf_cmd.specs.CommandLine.{convert}
+use Rattle.adf_words.specs.CommandLine.{convert}
 use Rattle.adf_cmd.proofs.AnswerLaws.{convert_ends, refused_image_ends}
 use Rattle.adf_cmd.proofs.converting.convert_image.Goals as goal
 

@@ -1,6 +1,6 @@
 use Rattle.std.proofs.Common.{inr}
 use Rattle.adf_cmd.specs.Answers.{Answer}
-use Rattle.adf_cmd.specs.CommandLine.{cat}
+use Rattle.adf_words.specs.CommandLine.{cat}
 use Rattle.adf_cmd.proofs.AnswerLaws.{copy_ends, refused_image_ends}
 use Rattle.adf_cmd.proofs.copying.cat_image.Goals as goal
 

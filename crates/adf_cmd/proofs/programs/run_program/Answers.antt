@@ -1,4 +1,4 @@
-use Rattle.adf_cmd.specs.CommandLine.{texts_of}
+use Rattle.adf_words.specs.CommandLine.{texts_of}
 use Rattle.adf_cmd.proofs.CommandRuns.{no_work_ends}
 use Rattle.adf_cmd.proofs.programs.run_program.Goals as goal
 

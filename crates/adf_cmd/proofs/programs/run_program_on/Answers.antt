@@ -1,5 +1,5 @@
 use Rattle.std.proofs.Common.{Some, refl}
-use Rattle.adf_cmd.specs.CommandLine.{texts_of}
+use Rattle.adf_words.specs.CommandLine.{texts_of}
 use Rattle.adf_cmd.proofs.CommandRuns.{no_work_ends}
 use Rattle.adf_cmd.proofs.programs.run_program_on.Goals as goal
 

@@ -1,6 +1,6 @@
 use Rattle.std.proofs.Common.{inr}
 use Rattle.adf_cmd.specs.Answers.{Answer}
-use Rattle.adf_cmd.specs.CommandLine.{list}
+use Rattle.adf_words.specs.CommandLine.{list}
 use Rattle.adf_cmd.proofs.AnswerLaws.{refused_image_ends}
 use Rattle.adf_cmd.proofs.volume_listing.list_image.Goals as goal
 

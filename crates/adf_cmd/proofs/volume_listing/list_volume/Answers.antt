@@ -1,6 +1,6 @@
 use Rattle.adf_fields.proofs.DateTexts.{date_of, date_of_is}
 use Rattle.adf_cmd.specs.Answers.{Answer}
-use Rattle.adf_cmd.specs.CommandLine.{list}
+use Rattle.adf_words.specs.CommandLine.{list}
 use Rattle.adf_cmd.proofs.AnswerLaws.{front_ends, listed}
 use Rattle.adf_cmd.proofs.volume_listing.list_volume.Goals as goal
 

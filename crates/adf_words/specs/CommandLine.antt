@@ -1,0 +1,109 @@
+-- The command line of `adf`, as clap reads it, and the request that its matches name.
+use Rattle.std.specs.Prelude.{◌≡◌, ◌⊎◌, ℕ, List, [], Bool, true, false, Option, Some, None, codes, map, option_map, option_and_then, if◌then◌else◌}
+use Rattle.std.specs.Borrow.{Bor}
+use Rattle.std.specs.Str.{bytes_eq}
+use Rattle.clap.specs.Words.{App, Row, Rule, Text, fault_of, first_of, new_app, new_rule, subcommand_of, with_rule, with_subcommand}
+use Rattle.clap.specs.declared.builder.action.ArgAction.TheVariants.{SetTrue}
+use Rattle.adf_tree.specs.declared.entry.Kind.{Kind}
+use Rattle.adf_tree.specs.Kinds.{kind_named}
+use Rattle.adf_words.specs.declared.command_line.Request.{Request}
+use Rattle.adf_words.specs.declared.command_line.Request.TheVariants.{Check, List as ListAll, Cat, Build, Convert}
+use Rattle.adf_words.specs.declared.command_line.WordsFault.{WordsFault}
+use Rattle.adf_words.specs.declared.command_line.WordsFault.TheVariants.{NoMemory, Usage}
+
+-- the argument PATH
+abbrev pub path_rule : Rule
+path_rule = record (new_rule (codes "path")) { required = true }
+
+-- the flag --list
+abbrev pub list_rule : Rule
+list_rule = record (new_rule (codes "list")) { long = Some (codes "list"); action = Some SetTrue }
+
+-- the argument KIND
+abbrev pub kind_rule : Rule
+kind_rule = record (new_rule (codes "kind")) { required = true }
+
+-- cat PATH
+abbrev pub cat_app : App
+cat_app = with_rule (new_app (codes "cat")) path_rule
+
+-- build [--list]
+abbrev pub build_app : App
+build_app = with_rule (new_app (codes "build")) list_rule
+
+-- convert KIND
+abbrev pub convert_app : App
+convert_app = with_rule (new_app (codes "convert")) kind_rule
+
+-- adf, with no flag and no subcommand for help
+abbrev pub bare_adf : App
+bare_adf = record (new_app (codes "adf")) { top = record (new_app (codes "adf")).top { disable_help_flag = true; disable_help_subcommand = true } }
+
+-- adf with the two commands that have no argument
+abbrev pub plain_app : App
+plain_app = with_subcommand (with_subcommand bare_adf (new_app (codes "check")).top) (new_app (codes "list")).top
+
+-- the command line: check, list, cat PATH, build [--list], convert KIND
+abbrev pub adf_app : App
+adf_app = with_subcommand (with_subcommand (with_subcommand plain_app cat_app.top) build_app.top) convert_app.top
+
+-- what a command line asks for
+pub data RequestValue : Type 0 where
+  check : RequestValue
+  list : RequestValue
+  cat : Text → RequestValue
+  build : Bool → RequestValue
+  convert : Kind → RequestValue
+
+-- the argument has this value
+abbrev pub is_text : Text → Option Text → Bool
+is_text t None = false
+is_text t (Some s) = bytes_eq s t
+
+-- the request that a subcommand's name and matches are
+abbrev pub request_named : Text → List Row → Option RequestValue
+request_named name rows =
+    if bytes_eq name (codes "check") then Some check
+    else (if bytes_eq name (codes "list") then Some list
+    else (if bytes_eq name (codes "cat") then option_map cat (first_of (codes "path") rows)
+    else (if bytes_eq name (codes "build") then Some (build (is_text (codes "true") (first_of (codes "list") rows)))
+    else (if bytes_eq name (codes "convert") then option_map convert (option_and_then kind_named (first_of (codes "kind") rows))
+    else None))))
+
+-- what the matches ask for
+abbrev pub met : Option (Text × List Row) → Option RequestValue
+met = option_and_then (λ p. request_named p.0 p.1)
+
+-- the request of the words, where clap takes them
+abbrev pub request_of : List Text → Option RequestValue
+request_of words = met (subcommand_of adf_app words)
+
+-- the texts of words
+abbrev pub texts_of : List (Bor (List ℕ)) → List Text
+texts_of words = map (λ w. w.now) words
+
+-- clap takes the words, and its matches name the request
+abbrev pub AsksFor : List Text → RequestValue → Type 0
+AsksFor words r = (fault_of adf_app words ≡ []) × (request_of words ≡ Some r)
+
+-- clap refuses the words, or its matches lack the command or its value
+abbrev pub AreRefused : List Text → Type 0
+AreRefused words = (¬ (fault_of adf_app words ≡ [])) ⊎ (request_of words ≡ None)
+
+-- the value of a request as the code has it
+abbrev pub request_value : Request → RequestValue
+request_value Check = check
+request_value ListAll = list
+request_value (Cat p) = cat p.now
+request_value (Build b) = build b
+request_value (Convert k) = convert k
+
+-- what a fault of the words says of them
+abbrev pub ExplainsWords : WordsFault → List Text → Type 0
+ExplainsWords Usage words = AreRefused words
+ExplainsWords NoMemory words = Unit {0}
+
+-- the text of the fault
+abbrev pub words_fault_text : WordsFault → List ℕ
+words_fault_text Usage = codes "bad words"
+words_fault_text NoMemory = codes "no memory"

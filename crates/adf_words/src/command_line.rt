@@ -1,0 +1,214 @@
+// The words of `adf`, by clap.
+
+ghost use Rattle.std.specs.Prelude.{◌≡◌, IfOk, IfErr, false, true, ℕ, ◌==◌, List, [], ◌∷◌, codes, option_map};
+ghost use Rattle.clap.specs.Words.{app_of, first_of, found_of, rows_of, rule_of, subcommand_rows_of};
+ghost use Rattle.clap.specs.declared.builder.command.Command.TheViews.{out-Command};
+ghost use Rattle.adf_words.specs.CommandLine.{AsksFor, ExplainsWords, AreRefused, adf_app, request_value, build, build_app, cat, cat_app, check, convert, convert_app, is_text, list, list_rule, met, request_named, texts_of};
+
+use adf_tree::Kind;
+use clap::error::ErrorKind;
+use clap::{Arg, ArgAction, ArgMatches, Command};
+use std::alloc::{AllocError, Global};
+use std::error::Error;
+use std::fmt;
+
+/// What is said of words that are refused.
+pub const USAGE: &str =
+    "usage: adf check < IMAGE\n       adf list < IMAGE\n       adf cat PATH < IMAGE\n       adf build [--list] < MANIFEST\n\
+    \x20      adf convert ofs|ffs < IMAGE\nan image or a manifest comes on standard input; man adf tells more\n";
+
+/// What a command line asks for.
+#[derive(Clone, Copy, Debug)]
+pub enum Request<'a> {
+    Check,
+    List,
+    /// The text of the path.
+    Cat(&'a str),
+    Build { list: bool },
+    Convert(Kind),
+}
+
+/// Why the words give no request.
+#[derive(Clone, Copy, Debug, PartialEq, Eq)]
+pub enum WordsFault {
+    /// The words are refused, or the command or its value is missing.
+    Usage,
+    /// Memory was refused.
+    NoMemory,
+}
+
+impl fmt::Display for WordsFault {
+    ghost use Rattle.std.specs.Prelude.{Some};
+    ghost use Rattle.adf_words.specs.CommandLine.{words_fault_text};
+
+    ghost output = { λ x. Some (words_fault_text x) };
+
+    fn fmt<W: fmt::Write>(&self, f: &mut fmt::Formatter<W>) -> fmt::Result {
+        f.write_str(match self {
+            WordsFault::Usage => "bad words",
+            WordsFault::NoMemory => "no memory",
+        })
+    }
+}
+
+impl Error for WordsFault {}
+
+// The command `cat PATH`.
+pub(crate) fn cat_command<'a>(alloc: Global) -> Result<Command<'a>, AllocError>
+    ensures app { IfOk result (λ c. app_of c ≡ cat_app) }
+    ensures local { IfOk result (λ c. (out-Command c).has_globals ≡ false) }
+{
+    let path = Arg::new(alloc, "path").required(true);
+    Command::new(alloc, "cat").arg(path)
+}
+
+// The flag `--list`.
+pub(crate) fn list_flag<'a>(alloc: Global) -> Arg<'a>
+    ensures rule { rule_of result ≡ list_rule }
+    ensures local { result.global ≡ false }
+{
+    Arg::new(alloc, "list")
+        .long("list")
+        .action(ArgAction::SetTrue)
+}
+
+fn build_command<'a>(alloc: Global) -> Result<Command<'a>, AllocError>
+    ensures app { IfOk result (λ c. app_of c ≡ build_app) }
+    ensures local { IfOk result (λ c. (out-Command c).has_globals ≡ false) }
+{
+    Command::new(alloc, "build").arg(list_flag(alloc))
+}
+
+fn convert_command<'a>(alloc: Global) -> Result<Command<'a>, AllocError>
+    ensures app { IfOk result (λ c. app_of c ≡ convert_app) }
+    ensures local { IfOk result (λ c. (out-Command c).has_globals ≡ false) }
+{
+    let kind = Arg::new(alloc, "kind").required(true);
+    Command::new(alloc, "convert").arg(kind)
+}
+
+// The command line, with its subcommands. Words of help are refused as any others are, so that clap lays out no text for them.
+fn command<'a>(alloc: Global) -> Result<Command<'a>, AllocError>
+    ensures { IfOk result (λ c. app_of c ≡ adf_app) }
+{
+    let bare = Command::new(alloc, "adf")
+        .disable_help_flag(true)
+        .disable_help_subcommand(true);
+    let plain = bare
+        .subcommand(Command::new(alloc, "check"))?
+        .subcommand(Command::new(alloc, "list"))?;
+    plain
+        .subcommand(cat_command(alloc)?)?
+        .subcommand(build_command(alloc)?)?
+        .subcommand(convert_command(alloc)?)
+}
+
+// The first value of an argument.
+pub(crate) fn first_text<'a>(found: &ArgMatches<'a>, id: &str) -> Option<&'a str>
+    ensures { option_map (λ s. s.now) result ≡ first_of id.now (rows_of (found_of found.now)) }
+{
+    found.get_str(id)
+}
+
+// Whether a flag is among the matches.
+pub(crate) fn has_flag(found: &ArgMatches<'_>, id: &str) -> bool
+    ensures { result ≡ is_text (codes "true") (first_of id.now (rows_of (found_of found.now))) }
+{
+    match first_text(found, id) {
+        Some(text) => text == "true",
+        None => false,
+    }
+}
+
+// The request that a subcommand's name and matches are.
+fn request_named<'a>(name: &str, found: &ArgMatches<'a>) -> Option<Request<'a>>
+    ensures { option_map request_value result
+        ≡ request_named name.now (rows_of (found_of found.now)) }
+{
+    if name == "check" {
+        Some(Request::Check)
+    } else if name == "list" {
+        Some(Request::List)
+    } else if name == "cat" {
+        match first_text(found, "path") {
+            Some(path) => Some(Request::Cat(path)),
+            None => None,
+        }
+    } else if name == "build" {
+        Some(Request::Build {
+            list: has_flag(found, "list"),
+        })
+    } else if name == "convert" {
+        match first_text(found, "kind") {
+            Some(text) => match Kind::named(text) {
+                Some(kind) => Some(Request::Convert(kind)),
+                None => None,
+            },
+            None => None,
+        }
+    } else {
+        None
+    }
+}
+
+// The request that the matches are.
+fn request_in<'a>(matches: &ArgMatches<'a>) -> Option<Request<'a>>
+    ensures { option_map request_value result ≡ met (subcommand_rows_of matches.now) }
+{
+    match matches.subcommand() {
+        Some((name, found)) => request_named(name, found),
+        None => None,
+    }
+}
+
+/// Reads the words, of which the first is the program's name. `Usage` exactly where clap refuses them
+/// or its matches lack the command or its value, `NoMemory` where memory was refused.
+pub fn parse<'a>(alloc: Global, words: &'a [&str]) -> Result<Request<'a>, WordsFault>
+    ensures ok { IfOk result (λ request.
+        AsksFor (texts_of words.entry.now) (request_value request)) }
+    ensures refused { IfErr result (λ fault. ExplainsWords fault (texts_of words.entry.now)) }
+{
+    let adf = match command(alloc) {
+        Ok(adf) => adf,
+        Err(_) => return Err(WordsFault::NoMemory),
+    };
+    match adf.try_get_matches_from(words) {
+        Ok(matches) => match request_in(&matches) {
+            Some(request) => Ok(request),
+            None => Err(WordsFault::Usage),
+        },
+        Err(error) => match error.kind() {
+            ErrorKind::OutOfMemory => Err(WordsFault::NoMemory),
+            _ => Err(WordsFault::Usage),
+        },
+    }
+}
+
+/// The commands of the documentation are taken with the request that they name, and other words are
+/// refused, calls for help among them.
+#[tactic(auto, unfolding(clap::proofs::OnLiterals::clap_on_literals))]
+pub fn words_as_documented()
+    ensures check { AsksFor (codes "adf" ∷ codes "check" ∷ []) check }
+    ensures list { AsksFor (codes "adf" ∷ codes "list" ∷ []) list }
+    ensures build { AsksFor (codes "adf" ∷ codes "build" ∷ []) (build false) }
+    ensures build_list { AsksFor (codes "adf" ∷ codes "build" ∷ codes "--list" ∷ []) (build true) }
+    ensures convert_ofs { AsksFor (codes "adf" ∷ codes "convert" ∷ codes "ofs" ∷ [])
+        (convert Kind.Ofs) }
+    ensures convert_ffs { AsksFor (codes "adf" ∷ codes "convert" ∷ codes "ffs" ∷ [])
+        (convert Kind.Ffs) }
+    ensures cat { (first : ℕ) (rest : List ℕ) → (first == 45) ≡ false
+        → AsksFor (codes "adf" ∷ codes "cat" ∷ (first ∷ rest) ∷ []) (cat (first ∷ rest)) }
+    ensures cat_any { (path : List ℕ)
+        → AsksFor (codes "adf" ∷ codes "cat" ∷ codes "--" ∷ path ∷ []) (cat path) }
+    ensures no_words { AreRefused [] }
+    ensures no_command { AreRefused (codes "adf" ∷ []) }
+    ensures unknown { AreRefused (codes "adf" ∷ codes "frob" ∷ []) }
+    ensures no_path { AreRefused (codes "adf" ∷ codes "cat" ∷ []) }
+    ensures dash { AreRefused (codes "adf" ∷ codes "cat" ∷ codes "-x" ∷ []) }
+    ensures two_paths { AreRefused (codes "adf" ∷ codes "cat" ∷ codes "a" ∷ codes "b" ∷ []) }
+    ensures no_kind { AreRefused (codes "adf" ∷ codes "convert" ∷ []) }
+    ensures unknown_kind { AreRefused (codes "adf" ∷ codes "convert" ∷ codes "pfs" ∷ []) }
+    ensures help { AreRefused (codes "adf" ∷ codes "--help" ∷ []) }
+    ensures help_word { AreRefused (codes "adf" ∷ codes "help" ∷ []) }
+    ensures check_help { AreRefused (codes "adf" ∷ codes "check" ∷ codes "--help" ∷ []) }
+{}
