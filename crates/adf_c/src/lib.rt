@@ -1,16 +1,7 @@
-//! What a C program calls: include/adf.h.
+//! The calls of adf_memory under the names of include/adf.h.
 #![tactic(auto)]
 
 mod causes;
-mod index;
-mod lookup;
-mod memory;
-mod owners;
-mod reading;
-mod running;
-mod surveying;
+mod commands;
+mod images;
 mod tables;
-#[cfg(test)]
-mod tests;
-mod verdict;
-mod words;

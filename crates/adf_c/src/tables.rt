@@ -1,255 +1,107 @@
-// The tables of a volume, as C has them, and how they are filled.
+// The tables of an image, and what is found and read through them.
 
-ghost use Rattle.std.specs.Prelude.{◌≡◌, ◌<◌, ◌≤◌, ◌+◌, ◌++◌, ◌∷◌, [], ◌^◌, ℕ, List, length};
-ghost use Rattle.adf_tree.specs.declared.entry.Body.{Body};
-ghost use Rattle.adf_tree.specs.declared.entry.Entry.{Entry};
-ghost use Rattle.adf_tree.specs.Tree.{Tree, entry};
-ghost use Rattle.adf_volume.specs.Layout.{Layout, at_node, owned};
-ghost use Rattle.adf_check.specs.Rows.{row_of_body, row_of_entry};
-ghost use Rattle.adf_check.specs.Volumes.{StandsFor, counts_of};
-ghost use Rattle.adf_c.specs.Rooms.{filled};
-ghost use Rattle.adf_c.specs.Tables.{block_table, bytes_in, contents_of, date_of, entry_table, field};
-ghost use Rattle.adf_c.specs.Tables.{file_number, refused_at, table_entry};
+ghost use Rattle.std.specs.Prelude.{◌≡◌, ◌<◌, ◌+◌, ◌≤◌, ◌↔◌, ◌⊎◌, ℕ, List, Some, None, length, min, take, drop};
+ghost use Rattle.adf_tree.specs.PathTexts.{IsPathText};
+ghost use Rattle.adf_tree.specs.Tree.{Tree, find};
+ghost use Rattle.adf_volume.specs.Fits.{Fits};
+ghost use Rattle.adf_volume.specs.Layout.{Layout};
+ghost use Rattle.adf_volume.specs.Start.{IsBegun};
+ghost use Rattle.adf_memory.specs.Areas.{AreBytesOf};
+ghost use Rattle.adf_memory.specs.Rooms.{filled};
+ghost use Rattle.adf_memory.specs.Tables.{IsTableOf, block_table, bytes_at, contents_of, entry_table, refused_at};
+ghost use Rattle.adf_memory.specs.Verdicts.{IsFirstCause, IsVerdictNumber, OnFault, WantsMemory};
 
-use crate::verdict::kind_code;
-use adf_check::{Checked, Counts, Row, RowBody};
-use adf_fields::Stamp;
-use adf_tree::Node;
+use adf_memory::{Contents, TableEntry, find_entry, put_index, read_bytes};
+use std::alloc::Global;
 
-/// A date of the file system.
-#[repr(C)]
-#[derive(Clone, Copy)]
-pub struct Date {
-    /// Days since 1978-01-01.
-    pub days: u32,
-    /// Minutes of the day.
-    pub mins: u32,
-    /// Fiftieths of a second in the minute.
-    pub ticks: u32,
-}
+/// Checks an image and fills two tables, each as far as it has room: its entries, and the data blocks of its files. Returns 0
+/// if the image is accepted, otherwise the number of a cause: that of the first fault, or `NoMemory` if memory ran out.
+#[unsafe(no_mangle)]
+pub extern "C" fn adf_index(
+    alloc: Global,
+    image: &[u8],
+    entries: &mut [TableEntry],
+    blocks: &mut [u32],
+    contents: &mut Contents,
+) -> u8
+    ensures number { IsVerdictNumber result }
 
-/// An entry of a volume. Entry n stands at place n - 1 of the table.
-#[repr(C)]
-#[derive(Clone, Copy)]
-pub struct TableEntry {
-    /// The number of its directory, 0 for the root.
-    pub parent: u32,
-    /// The block of its header.
-    pub header: u32,
-    /// Bytes of a file, 0 of a directory.
-    pub size: u32,
-    /// The place of its first data block in the table of blocks; so many data blocks are of files before it.
-    pub first: u32,
-    /// The protection word.
-    pub protection: u32,
-    pub date: Date,
-    /// 1 for a file, 0 for a directory.
-    pub is_file: u8,
-    pub name_length: u8,
-    /// The name, with zeros behind it.
-    pub name: [u8; 30],
-    pub comment_length: u8,
-    /// The comment, with zeros behind it.
-    pub comment: [u8; 79],
-}
-
-/// What an accepted image has beside its tables, or the block of the first fault; 0 in the fields that do not apply.
-#[repr(C)]
-#[derive(Clone, Copy)]
-pub struct Contents {
-    /// 0 for OFS, 1 for FFS.
-    pub kind: u32,
-    /// All blocks, the two boot blocks among them.
-    pub blocks: u32,
-    /// Blocks that parts of the volume own, so not the two boot blocks.
-    pub used: u32,
-    /// Blocks from 2 on that no part owns.
-    pub free: u32,
-    /// Directories and files, the root not among them.
-    pub entries: usize,
-    /// The data blocks of all files.
-    pub data_blocks: usize,
-    /// The block where the fault stands.
-    pub block: u32,
-    /// The three dates of the root block: of the root, of the last change, of the creation.
-    pub root: Date,
-    pub altered: Date,
-    pub created: Date,
-    pub label_length: u8,
-    /// The label, with zeros behind it.
-    pub label: [u8; 30],
-}
-
-// A date, as C has it.
-fn date_of(stamp: Stamp) -> Date
-    ensures { result ≡ date_of stamp }
-{
-    Date {
-        days: stamp.days,
-        mins: stamp.mins,
-        ticks: stamp.ticks,
-    }
-}
-
-// A text in a field, with zeros behind it.
-fn field<const N: usize>(text: &[u8]) -> [u8; N]
-    requires { length text.now ≤ N }
-    ensures { result ≡ field N text.now }
-{
-    let mut bytes = [0; N];
-    bytes[..text.len()].copy_from_slice(text);
-    bytes
-}
-
-// 1 for a file, 0 for a directory.
-fn file_number(body: RowBody) -> u8
-    ensures { (b : Body) → body ≡ row_of_body b → result ≡ file_number b }
-{
-    match body {
-        RowBody::Dir => 0,
-        RowBody::File { .. } => 1,
-    }
-}
-
-// The bytes of a file; 0 of a directory.
-fn size_of(body: RowBody) -> u32
-    ensures { (b : Body) → body ≡ row_of_body b → result ≡ length (bytes_in b) }
-{
-    match body {
-        RowBody::Dir => 0,
-        RowBody::File { size } => size,
-    }
-}
-
-// The entry of a row, whose header is at a block, and before whose data blocks there are so many others.
-fn entry_of(row: &Row, header: u32, first: u32) -> TableEntry
-    requires { row.now.parent < 2 ^ 32 }
-    ensures { (e : Entry) → row.now ≡ row_of_entry e → result ≡ table_entry header first e }
-{
-    let name = row.name.bytes();
-    let comment = row.meta.comment.bytes();
-    TableEntry {
-        parent: row.parent.0 as u32,
-        header,
-        size: size_of(row.body),
-        first,
-        protection: row.meta.protect,
-        date: date_of(row.meta.stamp),
-        is_file: file_number(row.body),
-        name_length: name.len() as u8,
-        name: field(name),
-        comment_length: comment.len() as u8,
-        comment: field(comment),
-    }
-}
-
-// The entry with a number, before whose data blocks there are so many others.
-fn table_entry(volume: &Checked<'_>, node: Node, first: u32) -> TableEntry
-    requires few { (t : Tree) (l : Layout) → StandsFor volume.now t l
-        → length (owned volume.now.image l) < 2 ^ 32 }
-    requires stands { (t : Tree) × (l : Layout) × StandsFor volume.now t l }
-    requires some { (t : Tree) (l : Layout) → StandsFor volume.now t l
-        → (0 < node) × (node ≤ length t.entries) }
-    ensures { (t : Tree) (l : Layout) (e : Entry)
-        → StandsFor volume.now t l → entry t.entries node ≡ Some e
-        → result ≡ table_entry (at_node volume.now.image l node) first e }
-{
-    let row = volume.row(node).unwrap();
-    let header = volume.block_of(node).unwrap();
-    entry_of(&row, header, first)
-}
-
-// Puts an entry behind those that stand in the table of entries, where there is room.
-fn put_entry(table: &mut [TableEntry], at: usize, entry: TableEntry)
-    ensures { (xs room : List TableEntry) → at ≡ length xs → table.old ≡ filled xs room
-        → table.new ≡ filled (xs ++ entry ∷ []) room }
-{
-    if at < table.len() {
-        table[at] = entry;
-    }
-}
-
-// Puts data blocks behind those that stand in the table of blocks, as far as there is room.
-fn put_blocks(table: &mut [u32], first: usize, datas: &[u32])
-    requires { first + length datas.now < 2 ^ 64 }
-    ensures { (xs room : List ℕ) → first ≡ length xs → table.old ≡ filled xs room
-        → table.new ≡ filled (xs ++ datas.now) room }
-{
-    for i in 0..datas.len() {
-        if first + i >= table.len() {
-            return;
-        }
-        table[first + i] = datas[i];
-    }
-}
-
-/// Fills the tables as far as there is room, and answers how many data blocks there are.
-pub fn put_tables(volume: &Checked<'_>, entries: &mut [TableEntry], blocks: &mut [u32]) -> usize
-    requires few { (t : Tree) (l : Layout) → StandsFor volume.now t l
-        → length (owned volume.now.image l) < 2 ^ 32 }
-    ensures count { (t : Tree) (l : Layout) → StandsFor volume.now t l
-        → result ≡ length (block_table l) }
-    ensures entries { (t : Tree) (l : Layout) → StandsFor volume.now t l
+    // A tree and a layout fit an accepted image, and the tables and the contents are theirs.
+    ensures fits { result ≡ 0 → (t : Tree) × (l : Layout) × Fits image.now t l }
+    ensures entries { result ≡ 0 → (t : Tree) (l : Layout) → Fits image.now t l
         → entries.new ≡ filled (entry_table t l) entries.old }
-    ensures blocks { (t : Tree) (l : Layout) → StandsFor volume.now t l
+    ensures blocks { result ≡ 0 → (t : Tree) (l : Layout) → Fits image.now t l
         → blocks.new ≡ filled (block_table l) blocks.old }
+    ensures contents { result ≡ 0 → (t : Tree) (l : Layout) → Fits image.now t l
+        → contents.new ≡ contents_of image.now t l }
+
+    // Entries and data blocks together are fewer than the blocks in use, which are fewer than all blocks.
+    ensures few { result ≡ 0 → contents.new.entries + contents.new.data_blocks < contents.new.used }
+    ensures used { result ≡ 0 → contents.new.used < contents.new.blocks }
+
+    // The fault is the first one, nothing fits the image, and the tables are unchanged.
+    ensures refused { ¬ (result ≡ 0) → contents.new ≡ refused_at contents.new.block }
+    ensures first { OnFault result (IsFirstCause image.now contents.new.block result) }
+    ensures none { OnFault result ((t : Tree) (l : Layout) → Fits image.now t l → ⊥) }
+    ensures unchanged { ¬ (result ≡ 0) → (entries.new ≡ entries.old) × (blocks.new ≡ blocks.old) }
+
+    // Out of memory names block 0, and is returned only if the size, the boot bytes and the root are sound.
+    ensures memory { WantsMemory result → contents.new.block ≡ 0 }
+    ensures begun { WantsMemory result → IsBegun image.now }
 {
-    let mut first = 0;
-    for i in 0..volume.len() {
-        let node = Node(i + 1);
-        put_entry(entries, i, table_entry(volume, node, first as u32));
-        let datas = volume.blocks_of(node);
-        put_blocks(blocks, first, datas);
-        first += datas.len();
-    }
-    first
+    put_index(alloc, image, entries, blocks, contents)
 }
 
-/// What is told of an accepted image beside the tables.
-pub fn contents_of(volume: &Checked<'_>, counts: &Counts, data_blocks: usize) -> Contents
-    ensures { (t : Tree) (l : Layout)
-        → StandsFor volume.now t l → counts.now ≡ counts_of volume.now.image t l
-        → data_blocks ≡ length (block_table l) → result ≡ contents_of volume.now.image t l }
+/// Looks up a path, in escape form, in the table of a volume's entries. Returns 0 and writes the entry's number to `node` if it
+/// is there, 1 if there is no such entry, 2 if the text is not a path, and the number of `NoMemory` if memory ran out.
+#[unsafe(no_mangle)]
+pub extern "C" fn adf_find(
+    alloc: Global,
+    entries: &[TableEntry],
+    path: &[u8],
+    node: &mut usize,
+) -> u8
+    // For any table the result is one of these, and the node is the root or one of the entries.
+    ensures number { (result ≡ 0) ⊎ (result ≡ 1) ⊎ (result ≡ 2) ⊎ WantsMemory result }
+    ensures inside { result ≡ 0 → node.new ≤ length entries.now }
+    ensures unchanged { ¬ (result ≡ 0) → node.new ≡ node.old }
+
+    // In the table of a volume it is the node that the path leads to.
+    ensures found { result ≡ 0 → (t : Tree) (names : List (List ℕ))
+        → IsTableOf entries.now t → IsPathText path.now names
+        → find t.entries names ≡ Some node.new }
+    ensures none { result ≡ 1 → (t : Tree) (names : List (List ℕ))
+        → IsTableOf entries.now t → IsPathText path.now names
+        → find t.entries names ≡ None }
+    ensures bad_path { (result ≡ 2) ↔ ((names : List (List ℕ)) → ¬ IsPathText path.now names) }
 {
-    let label = volume.label().bytes();
-    let stamps = volume.stamps();
-    Contents {
-        kind: kind_code(counts.kind),
-        blocks: counts.blocks,
-        used: counts.used,
-        free: counts.free,
-        entries: volume.len(),
-        data_blocks,
-        block: 0,
-        root: date_of(stamps.root),
-        altered: date_of(stamps.altered),
-        created: date_of(stamps.created),
-        label_length: label.len() as u8,
-        label: field(label),
-    }
+    find_entry(alloc, entries, path, node)
 }
 
-/// What is told of a refused image.
-pub fn refused_at(block: u32) -> Contents
-    ensures { result ≡ refused_at block }
+/// Reads a file through the tables of its image, from `offset` on, as many bytes as there are and as fit into `room`. Returns
+/// how many. It neither checks the image nor allocates.
+#[unsafe(no_mangle)]
+pub extern "C" fn adf_read(
+    image: &[u8],
+    entries: &[TableEntry],
+    blocks: &[u32],
+    node: usize,
+    offset: usize,
+    room: &mut [u8],
+) -> usize
+    ensures within { result ≤ length room.new }
+
+    // If the tables are those of the image's volume, the bytes are those of the file.
+    ensures count { (t : Tree) (l : Layout) → Fits image.now t l
+        → entries.now ≡ entry_table t l → blocks.now ≡ block_table l
+        → result ≡ min (length room.old) (length (drop offset (bytes_at t node))) }
+    ensures bytes { (t : Tree) (l : Layout) → Fits image.now t l
+        → entries.now ≡ entry_table t l → blocks.now ≡ block_table l
+        → room.new ≡ filled (drop offset (bytes_at t node)) room.old }
+
+    // For any tables the bytes are bytes of the image, and nothing behind them changes.
+    ensures image { AreBytesOf image.now (take result room.new) }
+    ensures behind { drop result room.new ≡ drop result room.old }
 {
-    let date = Date {
-        days: 0,
-        mins: 0,
-        ticks: 0,
-    };
-    Contents {
-        kind: 0,
-        blocks: 0,
-        used: 0,
-        free: 0,
-        entries: 0,
-        data_blocks: 0,
-        block,
-        root: date,
-        altered: date,
-        created: date,
-        label_length: 0,
-        label: [0; 30],
-    }
+    read_bytes(image, entries, blocks, node, offset, room)
 }

@@ -1,0 +1,101 @@
+-- Rooms that are filled from the front.
+use Rattle.std.specs.Prelude.{◌≡◌, ◌+◌, ◌≤◌, ◌<◌, ℕ, List, [], ◌∷◌, ◌++◌, get_or, length, min, take, drop, set}
+use Rattle.std.proofs.Common.{zero, suc, refl, sym, ap, ◌∙◌, arith, inl, inr, append_assoc, length-append, length-take, take_all}
+use Rattle.std.proofs.Math.ListN.{drop_of_length-le}
+use Rattle.std.proofs.Math.Seq.{take-nil}
+use Rattle.std.proofs.lemmas.Bool.{cases_lt}
+use Rattle.std.proofs.lemmas.List.{length-take-le, take-append-drop, take-take, take_more}
+use Rattle.adf_memory.specs.Rooms.{filled}
+
+-- the first members where there are none to take
+pub take_zero : {X : Type 0} (xs : List X) → take 0 xs ≡ []
+take_zero [] = refl
+take_zero (x ∷ xs) = refl
+
+-- and where there are none to leave
+pub drop_zero : {X : Type 0} (xs : List X) → drop 0 xs ≡ xs
+drop_zero [] = refl
+drop_zero (x ∷ xs) = refl
+
+-- a room into which nothing is put
+pub filled_none : {X : Type 0} (room : List X) → filled [] room ≡ room
+filled_none room = ap (λ xs. xs ++ drop 0 room) (take-nil (length room)) ∙ drop_zero room
+
+-- no room
+no_room : {X : Type 0} (xs : List X) → filled xs [] ≡ []
+no_room [] = refl
+no_room (x ∷ xs) = refl
+
+-- a room stays as long as it is
+pub length_filled : {X : Type 0} (xs room : List X) → length (filled xs room) ≡ length room
+length_filled xs [] = ap length (no_room xs)
+length_filled [] (r ∷ rs) = ap length (filled_none (r ∷ rs))
+length_filled (x ∷ xs) (r ∷ rs) = ap suc (length_filled xs rs)
+
+-- one more is put behind those that are there
+pub filled_more : {X : Type 0} (xs room : List X) (i : ℕ) (x : X) → i ≡ length xs → i < length room
+    → set (filled xs room) i x ≡ filled (xs ++ x ∷ []) room
+filled_more xs [] i x e lt = absurd (omega arith)
+filled_more [] (r ∷ rs) zero x e lt = ap (λ ys. x ∷ ys) (drop_zero rs ∙ sym (filled_none rs))
+filled_more [] (r ∷ rs) (suc i) x e lt = absurd (omega arith)
+filled_more (y ∷ ys) (r ∷ rs) zero x e lt = absurd (omega arith)
+filled_more (y ∷ ys) (r ∷ rs) (suc i) x e lt = ap (λ zs. y ∷ zs) (filled_more ys rs i x (omega arith) (omega arith))
+
+-- what there is no room for changes nothing
+pub filled_full : {X : Type 0} (xs ys room : List X) → length room ≤ length xs → filled (xs ++ ys) room ≡ filled xs room
+filled_full xs ys [] le = no_room (xs ++ ys) ∙ sym (no_room xs)
+filled_full [] ys (r ∷ rs) le = absurd (omega arith)
+filled_full (x ∷ xs) ys (r ∷ rs) le = ap (λ zs. x ∷ zs) (filled_full xs ys rs (omega arith))
+
+-- data blocks that are put behind others, one by one
+pub blocks_more : (xs ds room now : List ℕ) (a i : ℕ) → a ≡ length xs → now ≡ filled (xs ++ take i ds) room → i < length ds → a + i < length now
+    → set now (a + i) (get_or ds i 0) ≡ filled (xs ++ take (i + 1) ds) room
+blocks_more xs ds room now a i at e lt fits =
+    let long : length now ≡ length room = ap length e ∙ length_filled (xs ++ take i ds) room in
+    let many : a + i ≡ length (xs ++ take i ds) = omega (arith, length-append xs (take i ds), length-take-le i ds (omega arith)) in
+    let all : (xs ++ take i ds) ++ get_or ds i 0 ∷ [] ≡ xs ++ take (i + 1) ds =
+    append_assoc xs (take i ds) (get_or ds i 0 ∷ []) ∙ ap (λ ys. xs ++ ys) (sym (take_more ds i 0 lt)) in
+    ap (λ ys. set ys (a + i) (get_or ds i 0)) e ∙ filled_more (xs ++ take i ds) room (a + i) (get_or ds i 0) many (omega arith)
+    ∙ ap (λ ys. filled ys room) all
+
+-- and where there is no more room
+pub blocks_full : (xs ds room now : List ℕ) (a i : ℕ) → a ≡ length xs → now ≡ filled (xs ++ take i ds) room → i ≤ length ds → length now ≤ a + i
+    → now ≡ filled (xs ++ ds) room
+blocks_full xs ds room now a i at e le full =
+    let long : length now ≡ length room = ap length e ∙ length_filled (xs ++ take i ds) room in
+    let all : (xs ++ take i ds) ++ drop i ds ≡ xs ++ ds =
+    append_assoc xs (take i ds) (drop i ds) ∙ ap (λ ys. xs ++ ys) (take-append-drop i ds) in
+    e ∙ sym (filled_full (xs ++ take i ds) (drop i ds) room (omega (arith, length-append xs (take i ds), length-take-le i ds le)))
+    ∙ ap (λ ys. filled ys room) all
+
+-- where one is put behind those that are there, one more stands there
+pub one_put : {X : Type 0} (xs room now : List X) (i : ℕ) (x : X) → i ≡ length xs → now ≡ filled xs room → i < length now
+    → set now i x ≡ filled (xs ++ x ∷ []) room
+one_put xs room now i x at e lt =
+    let long : length now ≡ length room = ap length e ∙ length_filled xs room in
+    ap (λ ys. set ys i x) e ∙ filled_more xs room i x at (omega arith)
+
+-- and where there is no more room
+pub one_left : {X : Type 0} (xs room now : List X) (i : ℕ) (x : X) → i ≡ length xs → now ≡ filled xs room → length now ≤ i
+    → now ≡ filled (xs ++ x ∷ []) room
+one_left xs room now i x at e le =
+    let long : length now ≡ length room = ap length e ∙ length_filled xs room in
+    e ∙ sym (filled_full xs (x ∷ []) room (omega arith))
+
+-- so many bytes from a place on, as far as there is room
+pub filled_part : (q m : ℕ) (xs room : List ℕ) → m ≡ min (length room) q → q ≤ length xs
+    → take m xs ++ drop m room ≡ filled (take q xs) room
+filled_part q m xs room is le =
+    let long : length (take q xs) ≡ q = simp length-take (omega arith) in
+    elim (cases_lt (length room) q) [
+      | inl lt ↦
+          let all : m ≡ length room = omega arith in
+          let none : drop m room ≡ [] = drop_of_length-le room (omega arith) in
+          let past : drop (length (take q xs)) room ≡ [] = drop_of_length-le room (omega arith) in
+          ap (λ ys. take m xs ++ ys) (none ∙ sym past)
+          ∙ ap (λ ys. ys ++ drop (length (take q xs)) room) (ap (λ n. take n xs) all ∙ sym (take-take (length room) q xs (omega arith)))
+      | inr ge ↦
+          let all : m ≡ q = omega arith in
+          let same : take (length room) (take q xs) ≡ take m xs = take_all (length room) (take q xs) (omega arith) ∙ ap (λ n. take n xs) (sym all) in
+          ap (λ ys. ys ++ drop m room) (sym same) ∙ ap (λ n. take (length room) (take q xs) ++ drop n room) (all ∙ sym long)
+    ]

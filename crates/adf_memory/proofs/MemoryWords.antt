@@ -1,0 +1,47 @@
+-- A command whose words are bytes in memory.
+use Rattle.std.proofs.Common.{rules, ℕ, Bool, false, List, Option, Some, inl, inr}
+use Rattle.adf_cmd.specs.Commands.{Command, IsUnanswered, LooksAt, RunEnds}
+use Rattle.adf_memory.specs.Words.{AreWords, in_memory}
+use Rattle.adf_memory.proofs.WordParts.{along}
+
+-- the bytes are these words
+module _ (c : Command (List (List ℕ))) (bytes : List ℕ) (words : List (List ℕ)) (are : AreWords bytes words) where
+  bad_path_words : (in_memory c).asks_bad_path bytes → c.asks_bad_path words
+  bad_path_words (others, also, bad) = along bytes others words c.asks_bad_path also are bad
+
+  unanswered_words : IsUnanswered (in_memory c) bytes → IsUnanswered c words
+  unanswered_words (inl all) = inl (all words are)
+  unanswered_words (inr bad) = inr (bad_path_words bad)
+
+  refused_bytes : c.refuses words → (in_memory c).refuses bytes
+  refused_bytes refused = λ others also. along bytes words others c.refuses are also refused
+
+  unanswered_bytes : IsUnanswered c words → IsUnanswered (in_memory c) bytes
+  unanswered_bytes (inl refused) = inl (refused_bytes refused)
+  unanswered_bytes (inr bad) = inr (words, are, bad)
+
+  pub ends_in_memory : (input : List ℕ) (n : ℕ) (no_output no_errors : Bool) (o o' e e' : Option (List ℕ))
+      → RunEnds c words (Some input) false n no_output o o' no_errors e e' → RunEnds (in_memory c) bytes (Some input) false n no_output o o' no_errors e e'
+  ends_in_memory input n no_output no_errors o o' e e' h =
+      search (
+        rules,
+        unanswered_words,
+        unanswered_bytes,
+        refused_bytes,
+        bad_path_words,
+        h.answer,
+        h.answered,
+        h.usage,
+        h.bad_path,
+        h.refused,
+        h.failure,
+        h.part,
+      )
+
+  pub looks_in_memory : (input : List ℕ) (n taken : ℕ) → LooksAt c words input n taken → LooksAt (in_memory c) bytes input n taken
+  looks_in_memory input n taken h = record {
+    within = h.within;
+    none = λ unanswered. h.none (unanswered_words unanswered);
+    at_most = λ most enough. h.at_most most (λ r asks. enough r (words, are, asks));
+    all = λ ne far. let (r, asks, same) = h.all ne far in (r, (words, are, asks), same);
+  }

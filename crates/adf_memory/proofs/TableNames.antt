@@ -1,0 +1,156 @@
+-- A table of entries has their directories and names, and look-up in it finds what look-up in the tree finds.
+use Rattle.std.specs.Prelude.{◌≡◌, ◌+◌, ◌≤◌, ◌<◌, ℕ, List, ◌++◌, Bool, true, false, Some, None, get_or, length, max, take, nat_le, nat_lt, replicate}
+use Rattle.std.proofs.Common.{suc, refl, sym, ap, subst, ◌∙◌, arith, inl, inr}
+use Rattle.std.specs.List.Sorted.{IsNonDecreasingBy, IsPartitionPoint}
+use Rattle.std.proofs.lemmas.Bool.{cases_lt, false_from_ne_true}
+use Rattle.std.specs.Prelude.{drop}
+use Rattle.std.proofs.Common.{take_all}
+use Rattle.std.proofs.Math.Seq.{take-append_seam}
+use Rattle.adf_fields.specs.Hash.{slot_of}
+use Rattle.adf_fields.specs.Words.{block}
+use Rattle.std.specs.Prelude.{◌==◌, ◌&&◌}
+use Rattle.std.specs.Str.{bytes_eq}
+use Rattle.adf_tree.specs.Texts.{is_name, uppers}
+use Rattle.adf_tree.specs.declared.entry.Entry.{Entry}
+use Rattle.adf_tree.specs.Tree.{Tree, child, is_child, place, rank, rank_of}
+use Rattle.adf_tree.proofs.ChildLookup.{child_found, child_not_before, child_not_past, child_says, no_children}
+use Rattle.adf_tree.proofs.Lists.{some_in}
+use Rattle.adf_tree.proofs.PathParts.{one_path}
+use Rattle.adf_tree.proofs.WalkOrder.{place_is}
+use Rattle.adf_blocks.proofs.HeadLaws.{name_short}
+use Rattle.adf_volume.proofs.Lists.{at_index_or, at_some}
+use Rattle.adf_tree.specs.PathTexts.{IsPathText}
+use Rattle.adf_volume.specs.Fits.{Fits}
+use Rattle.adf_volume.specs.Image.{name_of}
+use Rattle.adf_volume.specs.Layout.{Layout, at_node, head_at}
+use Rattle.adf_volume.specs.Lists.{At}
+use Rattle.adf_check.proofs.RowLaws.{head_facts}
+use Rattle.adf_memory.specs.Rooms.{filled}
+use Rattle.adf_memory.specs.Tables.{all_datas, entry_table, table_entry}
+use Rattle.adf_memory.proofs.TableLaws.{told_here, told_length}
+use Rattle.adf_memory.specs.declared.tables.TableEntry.{TableEntry}
+use Rattle.adf_memory.specs.TableNames.{HasNamesOf, IsEnd, IsStart, is_child_in, name_in, rank_in}
+
+module _ {xs : List TableEntry} {es : List Entry} (has : HasNamesOf xs es) where
+  same_rank : (i : ℕ) (x : TableEntry) (e : Entry) → i < length es → rank_in (get_or xs i x) ≡ rank (get_or es i e)
+  same_rank i x e lt = let p = has.parents i x e lt in let n = has.names i x e lt in λ j. rank_of (p j) (slot_of (n j))
+
+  same_child : (i : ℕ) (x : TableEntry) (e : Entry) (p : ℕ) (name : List ℕ) → i < length es
+      → is_child_in p name (get_or xs i x) ≡ is_child p name (get_or es i e)
+  same_child i x e p name lt =
+      let a = has.parents i x e lt in
+      let b = has.names i x e lt in
+      λ j. (a j == p) && bytes_eq (uppers (b j)) (uppers name)
+
+  an_entry : (i : ℕ) → i < length es → TableEntry
+  an_entry i lt = some_in xs (omega (arith, has.count))
+
+  pub in_order : IsNonDecreasingBy rank_in xs
+  in_order i j x le lt =
+      let short : j < length es = omega (arith, has.count) in
+      let e = some_in es (omega arith) in
+      omega (arith, same_rank i x e (omega arith), same_rank j x e short, has.order i j e le short)
+
+  -- where a list of the table is parted, that of the tree is
+  parted : (f : ℕ → Bool) (n : ℕ) → n ≤ length xs → IsPartitionPoint (λ x. f (rank_in x) ≡ true) (λ x. f (rank_in x) ≡ false) xs n
+      → IsPartitionPoint (λ e. f (rank e) ≡ true) (λ e. f (rank e) ≡ false) es n
+  parted f n within point = (
+    (λ k e low lt.
+        let short : k < length es = omega (arith, has.count) in
+        let x = an_entry k short in
+        ap f (sym (same_rank k x e short)) ∙ point.0 k x low lt),
+    (λ k e low lt.
+        let x = an_entry k lt in
+        ap f (sym (same_rank k x e lt)) ∙ point.1 k x low (omega (arith, has.count))),
+  )
+
+  module _ (p : ℕ) (name : List ℕ) (s : ℕ) (slot : s ≡ slot_of name) where
+    -- an entry before its directory is none of its children
+    before_parent : (k : ℕ) (d : Entry) → k < p → k < length es → is_child p name (get_or es k d) ≡ false
+    before_parent k d low short =
+        false_from_ne_true (is_child p name (get_or es k d))
+        (λ is. absurd (omega (arith, (child_says p name (get_or es k d) is).0, has.below k d short)))
+
+    before_start : (from : ℕ) → from ≤ length xs → (IsNonDecreasingBy rank_in xs → IsStart xs (rank_of p s) from)
+        → (k : ℕ) (d : Entry) → k < from → is_child p name (get_or es k d) ≡ false
+    before_start from within point = child_not_before es p name s from slot (parted (λ r. nat_lt r (rank_of p s)) from within (point in_order))
+
+    -- what stands before the chain, or before the directory
+    pub before_both : (from at : ℕ) → from ≤ length xs → p ≤ length xs → at ≡ max from p → (IsNonDecreasingBy rank_in xs → IsStart xs (rank_of p s) from)
+        → (k : ℕ) (d : Entry) → k < at → is_child p name (get_or es k d) ≡ false
+    before_both from at within inside is point k d low =
+        elim (cases_lt k from) [
+          | inl less ↦ before_start from within point k d less
+          | inr more ↦ before_parent k d (omega arith) (omega (arith, has.count))
+        ]
+
+    -- where no entry up to the end of the chain is the child, there is none
+    pub past_end : (to i : ℕ) → to ≤ length xs → (IsNonDecreasingBy rank_in xs → IsEnd xs (rank_of p s) to)
+        → to ≤ i → ((k : ℕ) (d : Entry) → k < i → is_child p name (get_or es k d) ≡ false) → None ≡ child es p name
+    past_end to i within point past others =
+        let at : to ≡ place es (rank_of p s) =
+        place_is es (rank_of p s) to (omega (arith, has.count)) (parted (λ r. nat_le r (rank_of p s)) to within (point in_order)) in
+        sym (no_children es p name (child_not_past es p name s to i slot has.order at past others))
+
+  pub one_more : (p : ℕ) (name : List ℕ) (i : ℕ) (x : TableEntry) (is : Bool) → i < length xs → is ≡ is_child_in p name (get_or xs i x) → is ≡ false
+      → ((k : ℕ) (d : Entry) → k < i → is_child p name (get_or es k d) ≡ false) → (k : ℕ) (d : Entry) → k < i + 1 → is_child p name (get_or es k d) ≡ false
+  one_more p name i x is lt told other others k d low =
+      elim (cases_lt k i) [
+        | inl less ↦ others k d less
+        | inr more ↦
+            let same : i ≡ k = omega arith in
+            subst (λ n. is_child p name (get_or es n d) ≡ false) same
+            (sym (same_child i x d p name (omega (arith, has.count))) ∙ sym told ∙ other)
+      ]
+
+  pub found_here : (p : ℕ) (name : List ℕ) (i : ℕ) (x : TableEntry) (is : Bool) → i < length xs → is ≡ is_child_in p name (get_or xs i x) → is ≡ true
+      → ((k : ℕ) (d : Entry) → k < i → is_child p name (get_or es k d) ≡ false) → Some (i + 1) ≡ child es p name
+  found_here p name i x is lt told same others =
+      let short : i < length es = omega (arith, has.count) in
+      let e = at_some es i short in
+      let here : get_or es i e.0 ≡ e.0 = at_index_or es i e.0 e.0 e.1 in
+      child_found es p name i e.0 short (sym here)
+      (ap (is_child p name) (sym here) ∙ sym (same_child i x e.0 p name short) ∙ sym told ∙ same) others
+
+-- the name of an entry that fits is short
+short_name : (image : List ℕ) (t : Tree) (l : Layout) (i : ℕ) (e : Entry) → Fits image t l → At t.entries i e → length e.name ≤ 30
+unfolding name_of
+short_name image t l i e fits at =
+    let h : ℕ = at_node image l (suc i) in
+    let f = fits.entries (suc i) e at in
+    name_short e.name (ap is_name f.name ∙ (head_facts t.kind h h (at_node image l e.parent) (slot_of e.name) (block image h) f.form).name)
+
+-- a text that fits a field stands at its front
+text_there : (text room : List ℕ) → length text ≤ length room → take (length text) (filled text room) ≡ text
+text_there text room le =
+    ap (λ xs. take (length text) (xs ++ drop (length text) room)) (take_all (length room) text le) ∙ take-append_seam text (drop (length text) room)
+
+-- the name that is told of an entry is its own
+pub name_told : (image : List ℕ) (t : Tree) (l : Layout) (i h k : ℕ) (e : Entry) → Fits image t l → At t.entries i e
+    → name_in (table_entry h k e) ≡ e.name
+name_told image t l i h k e fits at = text_there e.name (replicate 30 0) (short_name image t l i e fits at)
+
+-- the table of a volume has the directories and names of its entries
+pub table_names : (image : List ℕ) (t : Tree) (l : Layout) (xs : List TableEntry) → Fits image t l → xs ≡ entry_table t l → HasNamesOf xs t.entries
+table_names image t l xs fits is = record {
+  count = ap length is ∙ told_length 0 t.entries l.places fits.places;
+  order = fits.tree.order;
+  below = fits.tree.parents;
+  parents = (λ i x e lt. let h = here i x e lt in ap (λ (y : TableEntry). y.parent) h.2 ∙ ap (λ (f : Entry). f.parent) (sym h.1));
+  names = (λ i x e lt. let h = here i x e lt in
+      ap name_in h.2 ∙ name_told image t l i (head_at l.places i) (length (all_datas (take i l.places))) h.0.0 fits h.0.1
+      ∙ ap (λ (f : Entry). f.name) (sym h.1));
+}
+  where
+    here : (i : ℕ) (x : TableEntry) (e : Entry) → i < length t.entries
+        → (f : (f : Entry) × At t.entries i f) × (get_or t.entries i e ≡ f.0)
+        × (get_or xs i x ≡ table_entry (head_at l.places i) (length (all_datas (take i l.places))) f.0)
+    here i x e lt =
+        let f = at_some t.entries i lt in
+        let at = told_here t l i (length (all_datas (take i l.places))) f.0 f.1 fits.places refl in
+        (f, at_index_or t.entries i f.0 e f.1, ap (λ ys. get_or ys i x) is ∙ at_index_or (entry_table t l) i _ x at)
+
+-- a text has one path, so what holds of the path that was read holds of each
+pub for_each_path : (text : List ℕ) (read names : List (List ℕ)) → IsPathText text read → IsPathText text names
+    → (P : List (List ℕ) → Type 0) → P read → P names
+for_each_path text read names a b P h = subst P (one_path text read names a b) h

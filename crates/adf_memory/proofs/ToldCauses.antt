@@ -1,0 +1,19 @@
+-- What a number tells of the fault of a check.
+use Rattle.std.specs.Prelude.{◌≡◌, ◌≢◌, ℕ, List}
+use Rattle.std.proofs.Common.{◌∙◌, ap, sym, subst, inr}
+use Rattle.adf_blocks.specs.Causes.{cause_number}
+use Rattle.adf_blocks.specs.declared.cause.Cause.{Cause}
+use Rattle.adf_blocks.specs.declared.cause.Cause.TheVariants.{NoMemory}
+use Rattle.adf_volume.specs.Walk.{FirstFault}
+use Rattle.adf_memory.specs.Verdicts.{IsFirstCause, IsVerdictNumber, OnFault}
+
+-- the number of a cause is one that is told
+pub number_told : (cause : Cause) (n : ℕ) → n ≡ cause_number cause → IsVerdictNumber n
+number_told cause n is = inr (cause, sym is)
+
+-- a cause that is told by its number, and a block that is told, are those of the first fault
+pub first_told : (image : List ℕ) (cause : Cause) (b block n : ℕ) → (cause ≢ NoMemory → FirstFault image b cause)
+    → n ≡ cause_number cause → b ≡ block → OnFault n (IsFirstCause image block n)
+first_told image cause b block n first is same some other =
+    let known : cause ≢ NoMemory = λ wants. other (is ∙ ap cause_number wants) in
+    (cause, sym is, subst (λ at. FirstFault image at cause) same (first known))

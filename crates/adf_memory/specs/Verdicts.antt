@@ -1,0 +1,39 @@
+-- The verdict on an image.
+use Rattle.std.specs.Prelude.{◌≡◌, ◌⊎◌, ℕ, List}
+use Rattle.adf_tree.specs.declared.entry.Kind.{Kind}
+use Rattle.adf_tree.specs.declared.entry.Kind.TheVariants.{Ofs, Ffs}
+use Rattle.adf_blocks.specs.Causes.{cause_number}
+use Rattle.adf_blocks.specs.declared.cause.Cause.{Cause}
+use Rattle.adf_blocks.specs.declared.cause.Cause.TheVariants.{NoMemory}
+use Rattle.adf_volume.specs.Walk.{FirstFault}
+use Rattle.adf_check.specs.declared.checked.Counts.{Counts}
+use Rattle.adf_memory.specs.declared.verdict.Verdict.{Verdict}
+
+-- 0 for OFS, 1 for FFS
+abbrev pub kind_code : Kind → ℕ
+kind_code Ofs = 0
+kind_code Ffs = 1
+
+-- an accepted image: its numbers, and no block of a fault
+abbrev pub accepted : Counts → Verdict
+accepted c = record { kind = kind_code c.kind; blocks = c.blocks; used = c.used; free = c.free; dirs = c.dirs; files = c.files; block = 0 }
+
+-- a refused image: the block of its fault
+abbrev pub refused : ℕ → Verdict
+refused b = record { kind = 0; blocks = 0; used = 0; free = 0; dirs = 0; files = 0; block = b }
+
+-- 0 for an accepted image, or the number of a cause
+abbrev pub IsVerdictNumber : ℕ → Type 0
+IsVerdictNumber n = (n ≡ 0) ⊎ ((c : Cause) × (cause_number c ≡ n))
+
+-- the number of the cause of refused memory
+abbrev pub WantsMemory : ℕ → Type 0
+WantsMemory n = n ≡ cause_number NoMemory
+
+-- it holds where n is the number of a cause that is not refused memory
+abbrev pub OnFault : ℕ → Type 0 → Type 0
+OnFault n holds = ¬ (n ≡ 0) → ¬ WantsMemory n → holds
+
+-- n is the number of the cause of the image's first fault, which stands at block b
+abbrev pub IsFirstCause : List ℕ → ℕ → ℕ → Type 0
+IsFirstCause image b n = (c : Cause) × (cause_number c ≡ n) × FirstFault image b c

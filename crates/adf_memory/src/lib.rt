@@ -1,0 +1,25 @@
+//! Checks, tables, look-up, reading and whole commands over memory that the caller gives.
+#![tactic(auto)]
+
+mod causes;
+mod index;
+mod lookup;
+mod memory;
+mod owners;
+mod reading;
+mod running;
+mod surveying;
+mod tables;
+mod verdict;
+mod words;
+
+pub use crate::causes::cause_text;
+pub use crate::index::put_index;
+pub use crate::lookup::find_entry;
+pub use crate::memory::Moved;
+pub use crate::owners::owners_of;
+pub use crate::reading::read_bytes;
+pub use crate::running::run_command;
+pub use crate::surveying::run_survey;
+pub use crate::tables::{Contents, Date, TableEntry};
+pub use crate::verdict::{Verdict, check_image};

@@ -1,0 +1,85 @@
+// The owners of blocks.
+
+ghost use Rattle.std.specs.Prelude.{◌≡◌, ◌≤◌, ◌<◌, ℕ, length, slice_index};
+ghost use Rattle.adf_tree.specs.Tree.{Tree};
+ghost use Rattle.adf_blocks.specs.Sizes.{blocks};
+ghost use Rattle.adf_volume.specs.Fits.{Fits};
+ghost use Rattle.adf_volume.specs.Layout.{Layout};
+ghost use Rattle.adf_volume.specs.Start.{IsBegun};
+ghost use Rattle.adf_check.specs.Volumes.{StandsFor};
+ghost use Rattle.adf_memory.specs.OwnerNumbers.{IsOwnerNumber, owner_number};
+ghost use Rattle.adf_memory.specs.Verdicts.{IsFirstCause, IsVerdictNumber, OnFault, WantsMemory};
+
+use adf_check::{Checked, Owner, check};
+use std::alloc::Global;
+
+// The number of an owner's role.
+fn owner_number(owner: Owner) -> u8
+    ensures { result ≡ owner_number owner }
+{
+    match owner {
+        Owner::Free => 0,
+        Owner::Boot => 1,
+        Owner::Root => 2,
+        Owner::Page(_) => 3,
+        Owner::MapExt(_) => 4,
+        Owner::Head(_) => 5,
+        Owner::Ext(_, _) => 6,
+        Owner::Data(_, _) => 7,
+    }
+}
+
+// The role of a block.
+fn role_of(volume: &Checked<'_>, b: u32) -> u8
+    requires stands { (t : Tree) × (l : Layout) × StandsFor volume.now t l }
+    requires inside { b < blocks volume.now.image }
+    ensures { IsOwnerNumber volume.now.image b result }
+{
+    owner_number(volume.owner(b).unwrap())
+}
+
+// Writes the roles of the first blocks, as many as there is room for.
+fn put_roles(volume: &Checked<'_>, roles: &mut [u8])
+    requires { (t : Tree) × (l : Layout) × StandsFor volume.now t l }
+    ensures roles { (b : ℕ) → b < length roles.new → b < blocks volume.now.image
+        → IsOwnerNumber volume.now.image b (slice_index roles.new b) }
+    ensures behind { (b : ℕ) → blocks volume.now.image ≤ b
+        → slice_index roles.new b ≡ slice_index roles.old b }
+{
+    for b in 0..volume.counts().blocks {
+        let at = b as usize;
+        if at >= roles.len() {
+            return;
+        }
+        roles[at] = role_of(volume, b);
+    }
+}
+
+/// Checks an image and writes the role of each block's owner, one byte for each block, as far as `roles` has room. Returns 0 if
+/// the image is accepted, otherwise the number of a cause: that of the first fault, or `NoMemory` if memory ran out.
+pub fn owners_of(alloc: Global, image: &[u8], roles: &mut [u8]) -> u8
+    ensures number { IsVerdictNumber result }
+
+    // A tree and a layout fit an accepted image, and the roles are those of its parts.
+    ensures fits { result ≡ 0 → (t : Tree) × (l : Layout) × Fits image.now t l }
+    ensures roles { result ≡ 0 → (b : ℕ) → b < length roles.new → b < blocks image.now
+        → IsOwnerNumber image.now b (slice_index roles.new b) }
+    ensures behind { (b : ℕ) → blocks image.now ≤ b
+        → slice_index roles.new b ≡ slice_index roles.old b }
+
+    // The cause is that of the first fault, nothing fits the image, and nothing is written.
+    ensures first { OnFault result ((b : ℕ) × IsFirstCause image.now b result) }
+    ensures none { OnFault result ((t : Tree) (l : Layout) → Fits image.now t l → ⊥) }
+    ensures unchanged { ¬ (result ≡ 0) → roles.new ≡ roles.old }
+
+    // Out of memory is returned only if the size, the boot bytes and the root are sound.
+    ensures begun { WantsMemory result → IsBegun image.now }
+{
+    match check(alloc, image) {
+        Ok(volume) => {
+            put_roles(&volume, roles);
+            0
+        }
+        Err(fault) => fault.cause.number(),
+    }
+}

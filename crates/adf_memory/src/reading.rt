@@ -1,0 +1,162 @@
+// Reading files through the tables.
+
+ghost use Rattle.std.specs.Prelude.{◌≡◌, ◌≤◌, ◌<◌, ◌+◌, ◌-◌, ◌*◌, ◌^◌, ◌++◌, ℕ, List, IsSome, IfSome, length, min, take, drop};
+ghost use Rattle.adf_fields.specs.Words.{block};
+ghost use Rattle.adf_tree.specs.Tree.{Tree};
+ghost use Rattle.adf_blocks.specs.Sizes.{chunk};
+ghost use Rattle.adf_volume.specs.Fits.{Fits};
+ghost use Rattle.adf_volume.specs.Image.{area, joined, kind_of};
+ghost use Rattle.adf_volume.specs.Layout.{Layout};
+ghost use Rattle.adf_memory.specs.Rooms.{filled};
+ghost use Rattle.adf_memory.specs.Tables.{block_table, bytes_at, entry_table};
+ghost use Rattle.adf_memory.specs.Areas.{AreBlocksOf, AreBytesOf, AreDatasOf, bytes_in_blocks};
+
+use crate::tables::TableEntry;
+use adf_blocks::{DATA_BYTES, DATA_ROOM, chunk_len};
+use adf_fields::{BLOCK_LEN, Block};
+use adf_tree::Kind;
+use adf_volume::kind_in;
+
+// The kind that the boot block tells, where the image has one.
+fn kind_of(image: &[u8]) -> Kind
+    ensures { 512 ≤ length image.now → result ≡ kind_of image.now }
+{
+    if image.len() < BLOCK_LEN {
+        return Kind::Ffs;
+    }
+    kind_in(image)
+}
+
+// The data area of a block.
+#[tactic(auto, unfolding(adf_volume::specs::Image::area))]
+fn area<'a>(block: Block<'a>, kind: Kind) -> &'a [u8]
+    ensures { result.now ≡ area kind block.entry }
+{
+    match kind {
+        Kind::Ofs => block.bytes(DATA_BYTES, DATA_ROOM),
+        Kind::Ffs => block.bytes(0, BLOCK_LEN),
+    }
+}
+
+// What these data blocks hold from a place on, up to the end of the data area where it lies.
+fn part_at<'a>(image: &'a [u8], kind: Kind, datas: &[u32], at: usize) -> Option<&'a [u8]>
+    ensures some { IfSome result (λ part. 0 < length part.now) }
+    ensures there { (ds : List ℕ) → AreBlocksOf image.entry.now datas.now ds
+        → at < chunk kind * length ds → IsSome result }
+    ensures part { IfSome result (λ part. (ds : List ℕ)
+        → AreBlocksOf image.entry.now datas.now ds → at < chunk kind * length ds
+        → part.now ≡ take (length part.now) (drop at (joined image.entry.now kind ds))) }
+    ensures image { IfSome result (λ part. AreBytesOf image.entry.now part.now) }
+{
+    let size = chunk_len(kind);
+    let place = at / size;
+    if datas.len() <= place {
+        return None;
+    }
+    let block = Block::at(image, datas[place])?;
+    Some(&area(block, kind)[at % size..])
+}
+
+// Puts as much of a part as fits behind the bytes that stand in the room, and answers how many stand there then.
+fn put_part(room: &mut [u8], put: usize, part: &[u8]) -> usize
+    requires { put ≤ length room.old }
+    ensures count { result ≡ put + min (length part.now) (length room.old - put) }
+    ensures front { take result room.new ≡ take put room.old
+        ++ take (min (length part.now) (length room.old - put)) part.now }
+    ensures behind { drop result room.new ≡ drop result room.old }
+{
+    let count = part.len().min(room.len() - put);
+    room[put..put + count].copy_from_slice(&part[..count]);
+    put + count
+}
+
+// Fills the room with what these data blocks hold from a place on, and answers how many bytes it put.
+fn put_bytes(image: &[u8], kind: Kind, datas: &[u32], from: usize, room: &mut [u8]) -> usize
+    requires { from + length room.old < 2 ^ 64 }
+    ensures within { result ≤ length room.new }
+    ensures all { (ds : List ℕ) → AreBlocksOf image.now datas.now ds
+        → from + length room.old ≤ chunk kind * length ds
+        → result ≡ length room.old }
+    ensures bytes { (ds : List ℕ) → AreBlocksOf image.now datas.now ds
+        → from + length room.old ≤ chunk kind * length ds
+        → room.new ≡ take (length room.old) (drop from (joined image.now kind ds)) }
+    ensures image { AreBytesOf image.now (take result room.new) }
+    ensures behind { drop result room.new ≡ drop result room.old }
+{
+    let mut put = 0;
+    while put < room.len() {
+        let Some(part) = part_at(image, kind, datas, from + put) else {
+            return put;
+        };
+        put = put_part(room, put, part);
+    }
+    put
+}
+
+// Puts the bytes of a file from a place on into the room, as many as there are and fit, and answers how many.
+fn read_file(
+    image: &[u8],
+    file: &TableEntry,
+    blocks: &[u32],
+    offset: usize,
+    room: &mut [u8],
+) -> usize
+    ensures within { result ≤ length room.new }
+    ensures count { (ds : List ℕ) → AreDatasOf image.now file.now blocks.now ds
+        → result ≡ min (length room.old)
+        (length (drop offset (bytes_in_blocks image.now file.now ds))) }
+    ensures bytes { (ds : List ℕ) → AreDatasOf image.now file.now blocks.now ds
+        → room.new ≡ filled (drop offset (bytes_in_blocks image.now file.now ds)) room.old }
+    ensures image { AreBytesOf image.now (take result room.new) }
+    ensures behind { drop result room.new ≡ drop result room.old }
+{
+    let size = file.size as usize;
+    let first = file.first as usize;
+    if size <= offset {
+        return 0;
+    }
+    if blocks.len() < first {
+        return 0;
+    }
+    let count = room.len().min(size - offset);
+    put_bytes(
+        image,
+        kind_of(image),
+        &blocks[first..],
+        offset,
+        &mut room[..count],
+    )
+}
+
+/// Reads a file through the tables of its image, from `offset` on, as many bytes as there are and as fit into `room`. Returns
+/// how many. It neither checks the image nor allocates.
+pub fn read_bytes(
+    image: &[u8],
+    entries: &[TableEntry],
+    blocks: &[u32],
+    node: usize,
+    offset: usize,
+    room: &mut [u8],
+) -> usize
+    ensures within { result ≤ length room.new }
+
+    // If the tables are those of the image's volume, the bytes are those of the file.
+    ensures count { (t : Tree) (l : Layout) → Fits image.now t l
+        → entries.now ≡ entry_table t l → blocks.now ≡ block_table l
+        → result ≡ min (length room.old) (length (drop offset (bytes_at t node))) }
+    ensures bytes { (t : Tree) (l : Layout) → Fits image.now t l
+        → entries.now ≡ entry_table t l → blocks.now ≡ block_table l
+        → room.new ≡ filled (drop offset (bytes_at t node)) room.old }
+
+    // For any tables the bytes are bytes of the image, and nothing behind them changes.
+    ensures image { AreBytesOf image.now (take result room.new) }
+    ensures behind { drop result room.new ≡ drop result room.old }
+{
+    if node == 0 {
+        return 0;
+    }
+    if entries.len() < node {
+        return 0;
+    }
+    read_file(image, &entries[node - 1], blocks, offset, room)
+}

@@ -1,0 +1,103 @@
+// Programs over memory, and the command `adf`.
+
+ghost use Rattle.std.specs.Prelude.{◌≡◌, [], Some, false, take};
+ghost use Rattle.adf_cmd.specs.Answers.{adf_command};
+ghost use Rattle.adf_cmd.specs.Commands.{IsUnanswered, LooksAt, RunEnds};
+ghost use Rattle.adf_memory.specs.Rooms.{StandIn};
+ghost use Rattle.adf_memory.specs.Words.{in_memory};
+
+use crate::memory::{CallerMemory, Moved};
+use crate::words::words_in;
+use adf_cmd::{Program, Ran, Sink, Work, WorkFault, run_program_on};
+use std::alloc::Global;
+
+// Runs a program for the words in memory, on an input in memory.
+fn run_words<P: Program, W: Sink, E: Sink>(
+    alloc: Global,
+    words: &[u8],
+    input: &[u8],
+    output: &mut W,
+    errors: &mut E,
+) -> Ran
+    requires writes { W.has_failed output.old ≡ false }
+    requires tells { E.has_failed errors.old ≡ false }
+    ensures ends { RunEnds (in_memory P.command) words.now (Some input.now) false result.status
+        (W.has_failed output.new) (W.held output.old) (W.held output.new)
+        (E.has_failed errors.new) (E.held errors.old) (E.held errors.new) }
+    ensures untouched { IsUnanswered (in_memory P.command) words.now → output.new ≡ output.old }
+    ensures taken { LooksAt (in_memory P.command) words.now input.now result.status result.taken }
+{
+    match words_in(alloc, words) {
+        Ok(texts) => run_program_on::<P, W, E>(alloc, &texts, input, output, errors),
+        Err(fault) => Ran {
+            status: WorkFault::from(fault).refuse(P::usage(), errors),
+            taken: 0,
+        },
+    }
+}
+
+/// Runs a program over memory. Output and errors are filled from the front. Returns the exit status.
+pub fn run_in_memory<P: Program>(
+    alloc: Global,
+    words: &[u8],
+    input: &[u8],
+    output: &mut [u8],
+    errors: &mut [u8],
+    moved: &mut Moved,
+) -> u8
+    ensures ends { RunEnds (in_memory P.command) words.now (Some input.now) false result
+        moved.new.output_full (Some []) (Some (take moved.new.output output.new))
+        moved.new.errors_full (Some []) (Some (take moved.new.errors errors.new)) }
+    ensures untouched { IsUnanswered (in_memory P.command) words.now
+        → (moved.new.output ≡ 0) × (output.new ≡ output.old) }
+    ensures taken { LooksAt (in_memory P.command) words.now input.now result moved.new.input }
+    ensures output { StandIn moved.new.output moved.new.output_full output.new }
+    ensures errors { StandIn moved.new.errors moved.new.errors_full errors.new }
+{
+    let most_output = output.len();
+    let most_errors = errors.len();
+    let mut output_room = CallerMemory::new(output);
+    let mut errors_room = CallerMemory::new(errors);
+    let ran = run_words::<P, CallerMemory<'_>, CallerMemory<'_>>(
+        alloc,
+        words,
+        input,
+        &mut output_room,
+        &mut errors_room,
+    );
+    *moved = Moved::of(
+        ran.taken,
+        &output_room,
+        most_output,
+        &errors_room,
+        most_errors,
+    );
+    ran.status
+}
+
+/// Runs the command `adf` on an input in memory. Each word ends with a zero byte, and the first is the program's name. Returns
+/// the exit status:
+///
+/// - 0 if the answer is written to the output;
+/// - 1 if the input is refused: `check` reports it on the output, the other commands on the errors;
+/// - 2 if the words or the path are refused: the errors say which, nothing is read, and the output is empty;
+/// - 3 if the output is too small or memory ran out: the errors say which.
+pub fn run_command(
+    alloc: Global,
+    words: &[u8],
+    input: &[u8],
+    output: &mut [u8],
+    errors: &mut [u8],
+    moved: &mut Moved,
+) -> u8
+    ensures ends { RunEnds (in_memory adf_command) words.now (Some input.now) false result
+        moved.new.output_full (Some []) (Some (take moved.new.output output.new))
+        moved.new.errors_full (Some []) (Some (take moved.new.errors errors.new)) }
+    ensures untouched { IsUnanswered (in_memory adf_command) words.now
+        → (moved.new.output ≡ 0) × (output.new ≡ output.old) }
+    ensures taken { LooksAt (in_memory adf_command) words.now input.now result moved.new.input }
+    ensures output { StandIn moved.new.output moved.new.output_full output.new }
+    ensures errors { StandIn moved.new.errors moved.new.errors_full errors.new }
+{
+    run_in_memory::<Work>(alloc, words, input, output, errors, moved)
+}

@@ -1,0 +1,104 @@
+// The verdict on an image.
+
+ghost use Rattle.std.specs.Prelude.{◌≡◌};
+ghost use Rattle.adf_tree.specs.Tree.{Tree};
+ghost use Rattle.adf_volume.specs.Fits.{Fits};
+ghost use Rattle.adf_volume.specs.Layout.{Layout};
+ghost use Rattle.adf_volume.specs.Start.{IsBegun};
+ghost use Rattle.adf_check.specs.Volumes.{counts_of};
+ghost use Rattle.adf_memory.specs.Verdicts.{IsFirstCause, IsVerdictNumber, OnFault, WantsMemory, accepted, kind_code, refused};
+
+use adf_check::{Counts, check};
+use adf_tree::Kind;
+use std::alloc::Global;
+
+/// The counts of an accepted image, or the block of the first fault. Fields that do not apply are 0.
+#[repr(C)]
+#[derive(Clone, Copy)]
+pub struct Verdict {
+    /// 0 for OFS, 1 for FFS.
+    pub kind: u32,
+    /// All blocks, including the two boot blocks.
+    pub blocks: u32,
+    /// Blocks that the volume owns, excluding the two boot blocks.
+    pub used: u32,
+    /// Blocks from 2 on that nothing owns.
+    pub free: u32,
+    /// Directories, excluding the root.
+    pub dirs: usize,
+    pub files: usize,
+    /// The block that has the fault.
+    pub block: u32,
+}
+
+/// 0 for OFS, 1 for FFS.
+pub fn kind_code(kind: Kind) -> u32
+    ensures { result ≡ kind_code kind }
+{
+    match kind {
+        Kind::Ofs => 0,
+        Kind::Ffs => 1,
+    }
+}
+
+// The verdict on an accepted image.
+fn accepted(counts: &Counts) -> Verdict
+    ensures { result ≡ accepted counts.now }
+{
+    Verdict {
+        kind: kind_code(counts.kind),
+        blocks: counts.blocks,
+        used: counts.used,
+        free: counts.free,
+        dirs: counts.dirs,
+        files: counts.files,
+        block: 0,
+    }
+}
+
+// The verdict on a refused image.
+fn refused(block: u32) -> Verdict
+    ensures { result ≡ refused block }
+{
+    Verdict {
+        kind: 0,
+        blocks: 0,
+        used: 0,
+        free: 0,
+        dirs: 0,
+        files: 0,
+        block,
+    }
+}
+
+/// Checks an image and fills in the verdict. Returns 0 if the image is accepted, otherwise the number of a cause: that of the
+/// first fault, or `NoMemory` if memory ran out.
+#[tactic(auto, using(crate::proofs::CheckedVolumes::stands_for))]
+pub fn check_image(alloc: Global, image: &[u8], verdict: &mut Verdict) -> u8
+    ensures number { IsVerdictNumber result }
+
+    // A tree and a layout fit an accepted image, and the counts are theirs.
+    ensures fits { result ≡ 0 → (t : Tree) × (l : Layout) × Fits image.now t l }
+    ensures counts { result ≡ 0 → (t : Tree) (l : Layout) → Fits image.now t l
+        → verdict.new ≡ accepted (counts_of image.now t l) }
+
+    // The fault is the first one, and nothing fits the image.
+    ensures refused { ¬ (result ≡ 0) → verdict.new ≡ refused verdict.new.block }
+    ensures first { OnFault result (IsFirstCause image.now verdict.new.block result) }
+    ensures none { OnFault result ((t : Tree) (l : Layout) → Fits image.now t l → ⊥) }
+
+    // Out of memory names block 0, and is returned only if the size, the boot bytes and the root are sound.
+    ensures memory { WantsMemory result → verdict.new.block ≡ 0 }
+    ensures begun { WantsMemory result → IsBegun image.now }
+{
+    match check(alloc, image) {
+        Ok(volume) => {
+            *verdict = accepted(&volume.counts());
+            0
+        }
+        Err(fault) => {
+            *verdict = refused(fault.block);
+            fault.cause.number()
+        }
+    }
+}
