@@ -1,30 +1,45 @@
-/* adf for C: checks an image of an Amiga volume, tells whose each block is, makes tables by which its files are found and read,
- * and runs the whole command over memory.
+/* adf for C: checks images of Amiga disks, lists, looks up and reads their files, and runs the commands `adf` and
+ * `adf-survey` over memory.
  *
- * The library is libadf_c.a, which `rt lib` in crates/adf_c leaves in crates/adf_c/out. Link it with liblibc_c.a of the
- * Rattle toolchain, which takes memory by malloc, realloc and free of the program:
+ *     struct adf_verdict verdict;
+ *     if (adf_check(image, length, &verdict) == ADF_ACCEPTED)
+ *         printf("%zu files\n", verdict.files);
+ *
+ * Linking, once adf is installed:
+ *
+ *     cc program.c $(pkg-config --cflags --libs adf)
+ *
+ * For a prefix of your own, such as ~/.local, pkg-config and the loader have to be told where it is:
+ *
+ *     export PKG_CONFIG_PATH=$HOME/.local/lib/pkgconfig
+ *     cc program.c $(pkg-config --cflags --libs adf) -Wl,-rpath,$HOME/.local/lib
+ *
+ * or link the archive: cc program.c -I$HOME/.local/include $HOME/.local/lib/libadf.a
+ *
+ * In a clone of the source, `rt lib` in crates/adf_c leaves libadf_c.a in crates/adf_c/out; link liblibc_c.a of the Rattle
+ * toolchain with it, which takes memory by malloc, realloc and free:
  *
  *     kit=$(dirname "$(rt doc)")
- *     cc program.c libadf_c.a "$kit/c/liblibc_c.a"
+ *     cc -Iinclude program.c crates/adf_c/out/libadf_c.a "$kit/c/liblibc_c.a"
  *
- * Each function is proved to keep the contract that stands under its signature in crates/adf_c/src; what follows is that
- * contract in words. The proofs begin at the call: nothing checks what the caller passes.
+ * Each function is proved to keep its contract, which is in the source (crates/adf_memory/src). The comments here say it in
+ * words, and what is not proved is marked so. The proofs begin at the call: the obligations of the caller are not checked.
  *
  * What the caller owes
  *
  * - No pointer is null, not even where its length is 0.
- * - A pointer to bytes leads to as many as its length or room says, and no length is above PTRDIFF_MAX.
- * - A room may hold anything before the call, and so may a struct, but for its bools, which are true or false: `= {0}` will do.
- * - Nothing else writes what is read here (const) while a call runs. What is written here (not const) overlaps nothing else
- *   that is passed, and nobody else reads or writes it while the call runs.
- * - malloc, realloc and free belong together, and align as C asks: for any object that fits the size.
- * - A call is not made from a signal handler, nor in the forked child of a process that had threads.
+ * - A pointer to bytes has as many bytes as its length or room says, and no length is above PTRDIFF_MAX.
+ * - Buffers and structs need not be initialised, except for the bools of a struct, which are true or false: `= {0}` will do.
+ * - While a call runs, nothing else writes what it reads (const). What it writes (not const) overlaps nothing else that is
+ *   passed, and nothing else reads or writes it.
+ * - malloc, realloc and free belong together, and align as C demands: for any object that fits the size.
+ * - No call is made from a signal handler, or in the forked child of a process that had threads.
  *
  * What the caller gets
  *
- * - All memory that is passed stays the caller's. What a call takes for itself it gives back before it returns.
- * - Nothing is kept between calls, there is no state, and any thread may call, also while others do.
+ * - All memory that is passed stays the caller's. A call frees whatever it allocates before it returns.
  * - A call writes to what is not const and to nothing else, and it returns.
+ * - By design, not proved: there is no state between calls, and any thread may call while others do.
  */
 #ifndef ADF_H
 #define ADF_H
@@ -40,38 +55,38 @@
 extern "C" {
 #endif
 
-/* Why an image is refused, as adf_check, adf_owners and adf_index answer it. Within one block the causes are tried in this
- * order. */
+/* Why an image is refused, as adf_check, adf_owners and adf_index answer it. Within one block the causes are tested in this
+ * order, except that ADF_SAME_NAME comes after all other causes of a header. FAULTS.md explains them. */
 enum adf_cause {
     ADF_ACCEPTED = 0,
-    ADF_BAD_SIZE = 1,       /* The length is no multiple of 512, or no allowed number of blocks. */
+    ADF_BAD_SIZE = 1,       /* The length is not a multiple of 512, or not an allowed number of blocks. */
     ADF_NOT_DOS = 2,        /* The first three bytes are not DOS, or the type byte is above 5. */
     ADF_INTERNATIONAL = 3,  /* Type 2 or 3: names are compared in another way. */
     ADF_DIR_CACHE = 4,      /* Type 4 or 5: directories have caches. */
-    ADF_OUT_OF_RANGE = 5,   /* A pointer leads out of the volume; named at the block that holds it. */
+    ADF_OUT_OF_RANGE = 5,   /* A pointer leads out of the volume; the block that holds it is named. */
     ADF_TAKEN = 6,          /* A block is claimed a second time. */
-    ADF_BAD_SUM = 7,        /* The 128 words do not add up to 0. */
-    ADF_BAD_TYPE = 8,       /* The primary or secondary type is none that may stand here. */
+    ADF_BAD_SUM = 7,        /* The checksum is wrong: the 128 words do not add up to 0. */
+    ADF_BAD_TYPE = 8,       /* The primary or secondary type is not one that may be here. */
     ADF_LINK = 9,           /* The secondary type is that of a soft or hard link. */
     ADF_BAD_OWN_KEY = 10,   /* Word 1 is not the block's own number. */
     ADF_BAD_PARENT = 11,    /* The word that names the parent, or the header, names another block. */
-    ADF_BAD_NAME = 12,      /* The name or label is too long, or is none. */
-    ADF_BAD_COMMENT = 13,   /* The comment is above 79 bytes. */
-    ADF_WRONG_SLOT = 14,    /* The name's hash is not the slot whose chain the header stands in. */
+    ADF_BAD_NAME = 12,      /* The name or label is too long, or is not a name. */
+    ADF_BAD_COMMENT = 13,   /* The comment is longer than 79 bytes. */
+    ADF_WRONG_SLOT = 14,    /* The name does not hash to the slot whose chain the header is in. */
     ADF_BAD_FIRST = 15,     /* Word 4 of an OFS file header is not its first data block. */
-    ADF_SAME_NAME = 16,     /* An earlier header of the chain has the same name without case. */
-    ADF_BAD_HASH_SIZE = 17, /* The root's hash table has not 72 slots. */
+    ADF_SAME_NAME = 16,     /* An earlier header of the chain has the same name, ignoring case. */
+    ADF_BAD_HASH_SIZE = 17, /* The root's hash table does not have 72 slots. */
     ADF_NOT_VALIDATED = 18, /* The root's bitmap flag is not 0xFFFFFFFF. */
     ADF_SHORT_FILE = 19,    /* A file has too few extension blocks for its size. */
     ADF_BAD_DATA = 20,      /* An OFS data block has another header, number, length or successor. */
-    ADF_LOST_BLOCK = 21,    /* A block is in use and no part of the volume owns it. */
+    ADF_LOST_BLOCK = 21,    /* A block is in use, and no part of the volume owns it. */
     ADF_OWNED_FREE = 22,    /* A block is owned and marked free. */
-    ADF_NO_MEMORY = 23      /* Memory was refused; nothing is said of the image but that it begins as a volume. */
+    ADF_NO_MEMORY = 23      /* An allocation failed. Nothing is said about the image, except that it begins as a volume. */
 };
 
-/* Puts the text of the cause with this number at the front of the room, as far as it fits, such as `bad sum`, of lower-case
- * letters and spaces with no zero behind it, and answers how many bytes the whole text has: at most 15. Where no cause has the
- * number, as 0, it answers 0, and the room stays as it was.
+/* Writes the text of the cause with this number, such as `bad sum`, to the front of the room, as far as it fits, and returns
+ * the length of the whole text, at most 15. Texts are lower-case letters and spaces, with no zero at the end. If no cause has
+ * the number, as 0, it returns 0, and the room is unchanged.
  */
 size_t adf_cause_text(uint8_t cause, uint8_t *room, size_t room_length);
 
@@ -79,25 +94,26 @@ enum adf_kind { ADF_OFS = 0, ADF_FFS = 1 };
 
 struct adf_verdict {
     uint32_t kind;   /* an adf_kind */
-    uint32_t blocks; /* all blocks, the two boot blocks among them */
-    uint32_t used;   /* blocks that parts of the volume own, so not the two boot blocks */
+    uint32_t blocks; /* all blocks, the two boot blocks included */
+    uint32_t used;   /* blocks that parts of the volume own, so without the two boot blocks */
     uint32_t free;   /* blocks from 2 on that no part owns */
-    size_t dirs;     /* directories, the root not among them */
+    size_t dirs;     /* directories, without the root */
     size_t files;
-    uint32_t block;  /* of a refused image the block where the fault stands, else 0 */
+    uint32_t block;  /* if the image is refused, the block with the fault, else 0 */
 };
 
-/* Checks an image of so many bytes. Answers an adf_cause, and fills the verdict.
+/* Checks an image of this length. Returns an adf_cause, and fills the verdict.
  *
- * 0: the image is that of one volume, whose numbers the verdict has; `block` is 0.
- * Another cause: no volume has this image. It is its first fault, and `block` is where it stands; the other fields are 0.
- * ADF_NO_MEMORY: memory was refused; the size, the boot bytes and the root are sound, and no more is said of the image. All fields are 0.
+ * 0: the image is that of one volume, whose numbers are in the verdict; `block` is 0.
+ * Another cause: no volume has this image. It is the first fault, and `block` is where it is; the other fields are 0.
+ * ADF_NO_MEMORY: an allocation failed, which can happen only after the size, the boot bytes and the root were accepted.
+ *    Nothing else is said about the image, and all fields are 0.
  */
 uint8_t adf_check(const uint8_t *image, size_t length, struct adf_verdict *verdict);
 
-/* What part of the volume has a block. */
+/* Which part of the volume owns a block. */
 enum adf_role {
-    ADF_ROLE_FREE = 0,    /* a block from 2 on that no part has */
+    ADF_ROLE_FREE = 0,    /* a block from 2 on that no part owns */
     ADF_ROLE_BOOT = 1,    /* block 0 or 1 */
     ADF_ROLE_ROOT = 2,
     ADF_ROLE_PAGE = 3,    /* a page of the bitmap */
@@ -107,136 +123,138 @@ enum adf_role {
     ADF_ROLE_DATA = 7     /* a data block of a file */
 };
 
-/* Tells the role of each block of an image of so many bytes. Answers an adf_cause.
+/* Writes the role of each block of an image of this length. Returns an adf_cause.
  *
- * 0: byte b of the room is the adf_role of block b, for each block for which there is room. An image has a block for each 512
- *    bytes; bytes of the room behind the last block stay as they were.
- * An adf_cause: as of adf_check, and the room stays as it was.
+ * 0: byte b of the room is the adf_role of block b, for each block for which there is room. An image has one block for each
+ *    512 bytes; bytes of the room after the last block are unchanged.
+ * An adf_cause: as for adf_check, and the room is unchanged.
  */
 uint8_t adf_owners(const uint8_t *image, size_t length, uint8_t *roles, size_t room);
 
 /* Tables of a volume
  *
- * A program that shows a volume, as an emulator or a file system does, has it checked once by adf_index, which makes two tables
- * of it in memory that the program gives, and then uses the tables as it likes: to list, by themselves; to look a path up,
- * adf_find; to read a file, adf_read. adf_find takes memory for the names of the path, and adf_read none.
+ * A program that shows a volume, such as an emulator or a file system, has it checked once by adf_index, which fills two
+ * tables in the program's memory. From then on the program uses these tables: it lists by them directly, looks up a path by
+ * adf_find, and reads a file by adf_read. adf_find allocates memory for the names of the path, and adf_read none.
  *
- * The entries of a volume, its directories and files, are numbered from 1 on, and the root has the number 0. A directory comes
- * before what is in it, and what is in one directory stands together, in the order of the slots and chains of the disk.
+ * The entries of a volume, its directories and files, are numbered from 1; the root is number 0. A directory comes before
+ * what is in it. The entries of one directory are next to each other, in the order of the slots and chains of the disk.
  */
 
-/* A date of the file system, of no time zone. What a volume has may be no civil date. */
+/* A date of the file system, without a time zone. It may not be a civil date. */
 struct adf_date {
     uint32_t days;  /* since 1978-01-01 */
     uint32_t mins;  /* of the day: 0 to 1439 */
     uint32_t ticks; /* of 1/50 second, in the minute: 0 to 2999 */
 };
 
-/* An entry. Entry n stands at place n - 1 of the table. */
+/* An entry. Entry n is at index n - 1 of the table. */
 struct adf_entry {
     uint32_t parent;         /* the number of its directory, 0 for the root */
     uint32_t header;         /* the block of its header */
-    uint32_t size;           /* bytes of a file, 0 of a directory */
-    uint32_t first;          /* the place of its first data block in the table of blocks */
-    uint32_t protection;     /* the protection word; a set bit of 0 to 3 forbids */
+    uint32_t size;           /* bytes of a file, 0 for a directory */
+    uint32_t first;          /* the index of its first data block in the table of blocks */
+    uint32_t protection;     /* from bit 7: h, s, p, a, set if it is so; r, w, e, d, set if it is forbidden */
     struct adf_date date;
     uint8_t is_file;         /* 1 for a file, 0 for a directory */
     uint8_t name_length;     /* 1 to 30 */
-    uint8_t name[30];        /* bytes but `/` and `:`, of no encoding, with zeros behind */
+    uint8_t name[30];        /* any bytes except `/` and `:`, in no particular encoding, padded with zeros */
     uint8_t comment_length;  /* 0 to 79 */
-    uint8_t comment[79];     /* with zeros behind */
+    uint8_t comment[79];     /* padded with zeros */
 };
 
 /* What a volume has beside its entries. */
 struct adf_contents {
     uint32_t kind;        /* an adf_kind */
-    uint32_t blocks;      /* all blocks, the two boot blocks among them */
-    uint32_t used;        /* blocks that parts of the volume own, so not the two boot blocks */
+    uint32_t blocks;      /* all blocks, the two boot blocks included */
+    uint32_t used;        /* blocks that parts of the volume own, so without the two boot blocks */
     uint32_t free;        /* blocks from 2 on that no part owns */
-    size_t entries;       /* directories and files, the root not among them */
+    size_t entries;       /* directories and files, without the root */
     size_t data_blocks;   /* data blocks of all files */
-    uint32_t block;       /* of a refused image the block where the fault stands, else 0 */
+    uint32_t block;       /* if the image is refused, the block with the fault, else 0 */
     struct adf_date root; /* the three dates of the root block: its own, that of the last change, that of the creation */
     struct adf_date altered;
     struct adf_date created;
     uint8_t label_length; /* 0 to 30 */
-    uint8_t label[30];    /* bytes of no encoding, with zeros behind */
+    uint8_t label[30];    /* in no particular encoding, padded with zeros */
 };
 
-/* Checks an image of so many bytes, and fills two tables, each as far as there is room: of its entries, and of the data blocks
- * of its files, file after file in the order of the entries. Answers an adf_cause.
+/* Checks an image of this length, and fills two tables, each as far as there is room: its entries, and the data blocks of its
+ * files, file after file in the order of the entries. Returns an adf_cause.
  *
- * 0: the image is that of one volume, and the tables and contents are its own. contents->entries and contents->data_blocks tell
- *    how many there are of each, whatever the rooms: where a room is less, the table is only a front part, and a second call
- *    with rooms of these sizes gives all. Together they are fewer than the blocks in use, so than length / 512. What is behind
- *    in a room stays.
- * Another cause: no volume has this image. It is its first fault, and contents->block is where it stands; the other fields are 0,
- *    and the tables stay as they were.
- * ADF_NO_MEMORY: memory was refused; the size, the boot bytes and the root are sound, and no more is said of the image. All fields are 0,
- *    and the tables stay as they were.
+ * 0: the image is that of one volume, and the tables and contents are its own. contents->entries and contents->data_blocks
+ *    are the whole numbers, whatever the rooms: if a room is smaller, the table is only its front part, and a second call with
+ *    rooms of these sizes gives all. Both together are fewer than the blocks in use, so fewer than length / 512. The rest of a
+ *    room is unchanged.
+ * Another cause: no volume has this image. It is the first fault, and contents->block is where it is; the other fields are 0,
+ *    and the tables are unchanged.
+ * ADF_NO_MEMORY: as for adf_check. All fields are 0, and the tables are unchanged.
  */
 uint8_t adf_index(const uint8_t *image, size_t length, struct adf_entry *entries, size_t entries_room,
                   uint32_t *blocks, size_t blocks_room, struct adf_contents *contents);
 
-/* Looks a path up in a whole table of entries. It is written as `adf cat` takes it: names with `/` between them, in
- * escape form, where a byte outside 32 to 126 and the backslash stand as \xHH. The case of a to z does not count.
+/* Looks up a path in a whole table of entries. The path is written as for `adf cat`: names joined by `/`, in escape form, in
+ * which a byte outside 32 to 126, and the backslash, is \xHH. The case of a to z is ignored.
  *
- * 0: node has the number of the entry, 0 for the empty path.
- * 1: there is none, and node stays.
- * 2: the text is that of no path, and node stays.
- * ADF_NO_MEMORY: memory was refused, and node stays.
+ * 0: node is the number of the entry, 0 for the empty path.
+ * 1: nothing has this path, and node is unchanged.
+ * 2: the text is not a path, and node is unchanged.
+ * ADF_NO_MEMORY: an allocation failed, and node is unchanged.
  *
- * In a table that adf_index did not make, or that has been changed, the answer is one of these four, and a node that is found is
- * at most count; 2 is answered for the same texts.
+ * If adf_index did not make the table, or it has been changed, the answer is still one of these four, 2 is returned for the
+ * same texts, and node is at most count.
  *
- * The work, whatever the table is: for each name of the path twice log2(count) entries, and beside that each entry once at most,
- * since every step goes to a greater number. In the table of a volume these are the entries of the chains along the path.
+ * A budget, by reading the code and not proved: whatever the table is, each name of the path takes two binary searches, and all
+ * names together look at each entry at most once beside that. In the table of a volume these are the entries of the chains
+ * along the path.
  */
 uint8_t adf_find(const struct adf_entry *entries, size_t count, const uint8_t *path, size_t path_length, size_t *node);
 
-/* Puts the bytes of file `node` from byte `offset` on into the room, as many as there are and fit, and answers how many: 0 for
- * the root, a directory, a node past the last entry, and an offset past the end. What is behind them in the room stays. The
- * work is by the bytes that are put. The image and the tables are those of one call of adf_index, whole and unchanged; with
- * any others the answer is at most room_length, the bytes are some of the image's, and what is behind them stays all the same.
+/* Copies the bytes of file `node` from byte `offset` on into the room, as many as there are and fit, and returns how many: 0
+ * for the root, a directory, a node past the last entry, and an offset past the end. The rest of the room is unchanged. The
+ * image and the tables are those of one call of adf_index, whole and unchanged; with any others, the result is still at most
+ * room_length, each byte that is copied is one of the image's, and the rest of the room is unchanged.
+ *
+ * A budget, by reading the code and not proved: the work is proportional to the bytes that are copied.
  */
 size_t adf_read(const uint8_t *image, size_t length, const struct adf_entry *entries, size_t entries_count,
                 const uint32_t *blocks, size_t blocks_count, size_t node, size_t offset, uint8_t *room, size_t room_length);
 
 struct adf_moved {
     size_t input;      /* bytes that were read */
-    size_t output;     /* bytes that stand at the front of the room for output */
-    size_t errors;     /* bytes that stand at the front of the room for errors */
+    size_t output;     /* bytes at the front of the room for output */
+    size_t errors;     /* bytes at the front of the room for errors */
     bool output_full;  /* output had too little room; the status is then 3 */
     bool errors_full;  /* errors had too little room, so that they are only a front part */
 };
 
-/* Runs the command `adf` with these words over the input, and answers its status.
+/* Runs the command `adf` with these words over the input, and returns its status.
  *
- * The words stand one behind the other, each a UTF-8 text that a zero byte ends, and the first is the program's name. So
- * `adf cat s/startup-sequence` is "adf\0cat\0s/startup-sequence\0", of 27 bytes. The input of `build` is a manifest, that of
- * all others an image. README.md has the commands and what each writes.
+ * Each word is UTF-8 text that ends in a zero byte, and the first is the program's name. So `adf cat s/startup-sequence` is
+ * "adf\0cat\0s/startup-sequence\0", 27 bytes. The input of `build` is a manifest, that of all others an image. adf(1) has the
+ * commands and what each writes.
  *
- * 0: output has the answer, and errors nothing.
- * 1: the input is refused, or the path leads to no file. `check` says so on output, the others on errors.
- * 2: the words are refused, or are no such texts, or the path is none. Nothing was read, and output has nothing. Errors have
- *    the line of the usage, or of a path that is none `bad path`.
- * 3: output had too little room (output_full), or memory was refused. Errors say which, and output has a front part of an
- *    answer, or nothing, as where the words are no such texts. With more room, call again: nothing was kept.
+ * 0: the answer is in output, and errors are empty.
+ * 1: the input is refused, or the path does not lead to a file. `check` says so in output, the others in errors.
+ * 2: the words are refused, or are not such texts, or the path is not one. Nothing was read, and output is empty. Errors have
+ *    the usage, or `bad path` for a path that is not one.
+ * 3: output had too little room (output_full), or an allocation failed. Errors say which (`write fault`, `no memory`), and
+ *    output has the front part of an answer, or nothing. Call again with more room: nothing was kept.
  *
- * Nothing is said of the bytes of a room behind those that `moved` counts.
+ * Nothing is said about the bytes of a room after those that `moved` counts.
  */
 uint8_t adf_run(const uint8_t *words, size_t words_length, const uint8_t *input, size_t input_length,
                 uint8_t *output, size_t output_room, uint8_t *errors, size_t errors_room, struct adf_moved *moved);
 
-/* Runs the command `adf-survey` with these words over an image, and answers its status. The words stand as those of adf_run: so
- * `adf-survey cat c/readme` is "adf-survey\0cat\0c/readme\0", of 24 bytes. docs/adf-survey.1 has what is written.
+/* Runs the command `adf-survey` with these words over an image, and returns its status. The words are as for adf_run: so
+ * `adf-survey cat c/readme` is "adf-survey\0cat\0c/readme\0", 24 bytes. adf-survey(1) has what it writes.
  *
- * 0: there is no finding, and output has nothing; or of `cat` output has the bytes of the file, which is sound. Errors have nothing.
- * 1: output has the lines of the findings; or of `cat` nothing, and errors say `no such path`, `not a file` or `damaged`.
- *    With `--list` the lines of what is found stand behind those of the findings, at 0 too.
- * 2, 3: as of adf_run.
+ * 0: there is no finding, and output is empty; for `cat`, output has the bytes of the file, which is sound. Errors are empty.
+ * 1: output has the lines of the findings; for `cat`, it is empty, and errors say `no such path`, `not a file` or `damaged`.
+ *    With `--list` the lines of what is found follow those of the findings, at status 0 too.
+ * 2, 3: as for adf_run.
  *
- * Nothing is said of the bytes of a room behind those that `moved` counts.
+ * Nothing is said about the bytes of a room after those that `moved` counts.
  */
 uint8_t adf_survey_run(const uint8_t *words, size_t words_length, const uint8_t *input, size_t input_length,
                        uint8_t *output, size_t output_room, uint8_t *errors, size_t errors_room, struct adf_moved *moved);
