@@ -23,8 +23,8 @@ const MOST_SEATED: usize = 1 << 32;
 /// The number of adjacent seats that a name may take.
 const CHOICE: usize = 8;
 
-/// A set of names, ignoring the case of `a` to `z`. The name's hash selects a window of eight seats; the name takes the
-/// first vacant one. Names whose eight seats are all taken are kept in a sorted set, the rest.
+/// A set of names, ignoring the case of `a` to `z`. The name's hash selects a window of eight seats; the name takes
+/// the first vacant one. Names whose eight seats are all taken are kept in a sorted set, the rest.
 #[derive(Drop)]
 pub struct NameSet {
     seated: Vec<NameKey>,
