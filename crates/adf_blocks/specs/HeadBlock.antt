@@ -78,8 +78,8 @@ meta_told b = record { comment = take 79 (text_at b COMMENT); protect = word b P
 abbrev pub body_at : List ℕ → HeadBody
 body_at b = if word b SECONDARY_TYPE == ST_DIR then Dir else File (word b SIZE) (word b EXTENSION)
 
--- the fields of a header that depend on its type: for a directory the first header of each slot's chain; for a file its size, its first data
--- blocks and its first extension block
+-- the fields of a header that depend on its type: for a directory the first header of each slot's chain;
+-- for a file its size, its first data blocks and its first extension block
 pub data BodyFields : Type 0 where
   DirFields : (slots : List ℕ) → BodyFields
   FileFields : (size : ℕ) (table : List ℕ) (ext : ℕ) → BodyFields

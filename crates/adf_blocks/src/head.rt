@@ -44,8 +44,8 @@ pub enum HeadBody {
 }
 
 impl HeadBody {
-    /// The body of a block known to be a header: a directory if word 127 is 2; otherwise a file, with its size in word 81
-    /// and its first extension block in word 126.
+    /// The body of a block known to be a header: a directory if word 127 is 2; otherwise a file, with its size in word
+    /// 81 and its first extension block in word 126.
     pub fn of(b: &Block<'_>) -> HeadBody
         ensures { result ≡ body_at b.now }
     {
@@ -60,8 +60,8 @@ impl HeadBody {
     }
 }
 
-/// The metadata of a block known to be a header: the comment at byte 328, cut to 79 bytes; the protection bits in word 80;
-/// the date in words 105 to 107.
+/// The metadata of a block known to be a header: the comment at byte 328, cut to 79 bytes; the protection bits in word
+/// 80; the date in words 105 to 107.
 pub fn meta_told(b: &Block<'_>) -> Meta
     ensures told { result ≡ meta_told b.now }
     ensures whole { slice_index b.now COMMENT ≤ 79 → result ≡ meta_at b.now }
@@ -131,8 +131,8 @@ fn first_holds(b: &Block<'_>, kind: Kind) -> bool
 ///
 /// The first cause that applies: `BadSum`; `BadType` if word 0 is not 2, or word 127 is not one of 2, -3, 3, 4 and -4;
 /// `Link` if word 127 is 3, 4 or -4; `BadOwnKey` if word 1 is not `own`; `BadParent` if word 125 is not `parent`;
-/// `BadName` if the length in byte 432 and the bytes from 433 on are not a valid name; `BadComment` if byte 328 is above
-/// 79; `WrongSlot` if the name's hash is not `slot`; `BadFirst` if word 4 of an OFS file with a size above 0 is not
+/// `BadName` if the length in byte 432 and the bytes from 433 on are not a valid name; `BadComment` if byte 328 is
+/// above 79; `WrongSlot` if the name's hash is not `slot`; `BadFirst` if word 4 of an OFS file with a size above 0 is not
 /// word 77.
 pub fn read_head<'a>(
     b: Block<'a>,
@@ -218,7 +218,7 @@ impl Head<'_> {
         self.block.word(NEXT_IN_CHAIN)
     }
 
-    /// A directory if word 127 is 2; otherwise a file, with its size in word 81 and its first extension block in word 126.
+    /// A directory if word 127 is 2; otherwise a file: its size in word 81, its first extension block in word 126.
     pub fn body(&self) -> HeadBody
         ensures { result ≡ body_at self.now }
     {

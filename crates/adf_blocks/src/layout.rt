@@ -1,6 +1,6 @@
 // The offsets of fields in blocks, and the constants of the format. Words are numbered from 0.
 
-/// The most blocks of a volume. Its bitmap has 259 pages: the root points to 25, two bitmap extension blocks to the rest.
+/// The most blocks of a volume: 259 bitmap pages. The root points to 25, two bitmap extension blocks to the rest.
 pub const MOST_BLOCKS: u32 = 1_048_576;
 
 /// The bitmap pages that the root points to.

@@ -58,8 +58,8 @@ fn map_ext_bytes(pages: &[u32], next: u32) -> [u8; 512]
     block
 }
 
-/// Writes a bitmap extension block, with pointers to at most 127 pages and to the next such block, over block `b` of an
-/// image. The words after the last page are 0.
+/// Writes a bitmap extension block, with pointers to at most 127 pages and to the next such block, over block `b` of
+/// an image. The words after the last page are 0.
 pub fn write_map_ext(image: &mut [u8], b: u32, pages: &[u32], next: u32)
     requires whole { b * 512 + 512 ≤ length image.old }
     requires pages { length pages.now ≤ MAP_EXT_PAGES }

@@ -90,7 +90,7 @@ impl Root<'_> {
         Label::new(self.block.bytes(NAME + 1, len)).unwrap()
     }
 
-    /// The dates: the root's in words 105 to 107, the last change in words 118 to 120, the creation in words 121 to 123.
+    /// The dates: the root's in words 105 to 107, the last change in 118 to 120, the creation in 121 to 123.
     pub fn stamps(&self) -> Stamps
         ensures { result ≡ stamps_at self.now }
     {

@@ -1,4 +1,4 @@
--- What is read of blocks.
+-- Words of blocks, inside an image and past its end.
 use Rattle.std.proofs.Common.{◌≡◌, ℕ, List, [], ◌+◌, ◌-◌, ◌*◌, ◌≤◌, length, take, zero, suc, refl, sym, ap, ◌∙◌, arith}
 use Rattle.std.proofs.lemmas.List.{drop_all}
 use Rattle.adf_fields.specs.Words.{block, word}
