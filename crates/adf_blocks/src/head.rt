@@ -132,8 +132,8 @@ fn first_holds(b: &Block<'_>, kind: Kind) -> bool
 /// The first cause that applies: `BadSum`; `BadType` if word 0 is not 2, or word 127 is not one of 2, -3, 3, 4 and -4;
 /// `Link` if word 127 is 3, 4 or -4; `BadOwnKey` if word 1 is not `own`; `BadParent` if word 125 is not `parent`;
 /// `BadName` if the length in byte 432 and the bytes from 433 on are not a valid name; `BadComment` if byte 328 is
-/// above 79; `WrongSlot` if the name's hash is not `slot`; `BadFirst` if word 4 of an OFS file with a size above 0 is not
-/// word 77.
+/// above 79; `WrongSlot` if the name's hash is not `slot`; `BadFirst` if word 4 of an OFS file with a size above 0 is
+/// not word 77.
 pub fn read_head<'a>(
     b: Block<'a>,
     kind: Kind,

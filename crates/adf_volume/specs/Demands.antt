@@ -74,7 +74,7 @@ head_demands image kind b up s = demands_at b (head_form kind b up s (block imag
 abbrev pub ext_demands : List ℕ → ℕ → ℕ → List Demand
 ext_demands image b h = demands_at b (ext_form b h (block image b))
 
--- the demands on data block k at block b, of the file with header h: n bytes held, then the next data block; none for FFS
+-- the demands on data block k at block b, of the file with header h: n bytes, then the next data block; none for FFS
 abbrev pub data_demands : List ℕ → Kind → ℕ → ℕ → ℕ → ℕ → ℕ → List Demand
 data_demands image Ofs b h k n next = demands_at b (data_form h k n next (block image b))
 data_demands image Ffs b h k n next = []

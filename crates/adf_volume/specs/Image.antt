@@ -69,7 +69,7 @@ abbrev pub pieces : List ℕ → Kind → ℕ → ℕ → List ℕ → List (Lis
 pieces image kind size k [] = []
 pieces image kind size k (b ∷ bs) = piece kind size k (block image b) ∷ pieces image kind size (suc k) bs
 
--- the number of bitmap extension blocks for this many pages: the root points to ROOT_PAGES, each extension block to MAP_EXT_PAGES
+-- the bitmap extension blocks for this many pages: the root points to ROOT_PAGES, each of them to MAP_EXT_PAGES
 unfoldable pub map_exts_needed : ℕ → ℕ
 map_exts_needed pages = (pages - ROOT_PAGES + (MAP_EXT_PAGES - 1)) / MAP_EXT_PAGES
 

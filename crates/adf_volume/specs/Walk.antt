@@ -1,6 +1,7 @@
--- Walks of an image: its blocks with their roles, in the order in which they are found, as relations over the whole list.
--- Letters: w a walk; r, q roles; b, c the block with a role; a, i the block and the word that point to one; n, m nodes; p a directory's node;
--- s a slot; j a position in a chain, or the number of a bitmap extension block; k the number of a page, extension block or data block; h a header.
+-- Walks of an image: its blocks with their roles, in the order found, as relations over the whole list.
+-- Letters: w a walk; r, q roles; b, c the block with a role; a, i the block and the word that point to one;
+-- n, m nodes; p a directory's node; s a slot; j a position in a chain, or the number of a bitmap extension block;
+-- k the number of a page, an extension block or a data block; h a header's block.
 use Rattle.std.specs.Prelude.{◌≡◌, ℕ, List, [], ◌∷◌, ◌⊎◌, ◌+◌, ◌-◌, ◌*◌, ◌/◌, ◌%◌, ◌<◌, ◌≤◌, ◌≢◌, cond, ◌==◌, ◌++◌, nat_lt}
 use Rattle.std.proofs.Common.{zero, suc}
 use Rattle.adf_blocks.specs.declared.cause.Cause.{Cause}
@@ -22,7 +23,8 @@ pub data Role : Type 0 where
   Data : (n k : ℕ) → Role
 
 -- Roles are ordered by three numbers: pages by number, each bitmap extension block before the pages that it points to
--- (page ROOT_PAGES + MAP_EXT_PAGES * j + i is 1 + i after extension block j); then by node; in a directory by slot and position; in a file
+-- (page ROOT_PAGES + MAP_EXT_PAGES * j + i is 1 + i after extension block j); then by node;
+-- in a directory by slot and position; in a file
 -- extensions, then data.
 abbrev pub first : Role → ℕ
 first Root = 0
@@ -241,7 +243,7 @@ bitmap_demands image w b (suc n) =
     ∷ demand OwnedFree b (IsFreeIn image w b → IsAbsent w b)
     ∷ bitmap_demands image w (suc b) n
 
--- The first fault: in size, boot bytes or root; else in the part due after some walk; else in the bitmap after a whole walk.
+-- The first fault: in size, boot bytes or root; else in a part due after some walk; else in the bitmap.
 pub data FirstFault (image : List ℕ) (b : ℕ) (c : Cause) : Type 0 where
   at_boot : FirstFails (boot_demands image ++ root_demands image (root_of image)) b c → FirstFault image b c
   at_due : AllHold (boot_demands image ++ root_demands image (root_of image)) → (w : List (Role × ℕ)) (r : Role) (a i : ℕ) → IsWalk image w
