@@ -30,8 +30,8 @@ use std::sync::ledger::{Blank, Ledger};
 ///
 /// The order of the checks: the size and the first four bytes; the root; the bitmap pages by number, each bitmap
 /// extension block before its pages; the nodes by number (for a directory the chain of each slot, for a file its
-/// extension blocks, their number and its data blocks); the bitmap in ascending order of blocks. `NoMemory` at block 0 if
-/// an allocation fails, which can happen only after the root was accepted; nothing else is then known of the image.
+/// extension blocks, their number and its data blocks); the bitmap in ascending order of blocks. `NoMemory` at block 0
+/// if an allocation fails, which can happen only after the root was accepted; nothing else is then known of the image.
 pub fn check<'a>(alloc: Global, image: &'a [u8]) -> Result<Checked<'a>, Fault>
     ensures image { IfOk result (λ v. v.image ≡ image.now) }
 
@@ -81,7 +81,7 @@ fn check_all<'a, L: Ledger>(
     check_within(alloc, image, &mut looks)
 }
 
-/// Checks an image as `check` does, with a bound on its reads: each read of a block, except block 0 and the root, takes
+/// Checks an image as `check` does, with a bound on its reads: each read of a block, except block 0 and the root, uses
 /// one of the looks. Six for each block of the image are enough for any content.
 pub fn check_within<'a, L: Ledger>(
     alloc: Global,

@@ -1,4 +1,4 @@
--- Whether the parts of an image are gone through, and the marks that are kept.
+-- Whether the parts of an image are surveyed, and the marks that are kept.
 -- Letters: w the walk of a survey, fs its findings; v what is kept; n a node.
 use Rattle.std.specs.Prelude.{nat_le, true, false}
 use Rattle.std.proofs.Common.{◌≡◌, ℕ, List, [], inl, inr, refl, subst, arith}

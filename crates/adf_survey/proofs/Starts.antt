@@ -1,4 +1,4 @@
--- How an image starts: its size, its boot bytes and its root.
+-- The start of an image: its size, its boot bytes and its root.
 -- Letters: xs, ys demands; r a role; at, c the block and the cause that are noted.
 use Rattle.std.specs.Prelude.{true, false}
 use Rattle.std.proofs.Common.{◌≡◌, ℕ, List, [], ◌∷◌, ◌++◌, inl, inr, refl, sym, ap, ◌∙◌}

@@ -81,6 +81,6 @@ abbrev pub owned_from : ℕ → List Place → List (Owner × ℕ)
 owned_from n [] = []
 owned_from n (q ∷ qs) = (Head n, q.head) ∷ ((numbered (Ext n) 1 q.exts ++ numbered (Data n) 1 q.datas) ++ owned_from (suc n) qs)
 
--- the parts of a volume: root, pages, bitmap extension blocks; then for each entry its header, extensions and data blocks
+-- the parts of a volume: root, pages, bitmap extension blocks; then for each entry its header, extension, data blocks
 abbrev pub owned : List ℕ → Layout → List (Owner × ℕ)
 owned image l = (Root, root_of image) ∷ (numbered Page 0 l.pages ++ (numbered MapExt 0 l.map_exts ++ owned_from 1 l.places))
