@@ -64,7 +64,7 @@ fn text_of(alloc: Global, s: Stamp) -> Result<String, AllocError>
     }
 }
 
-/// Appends the text of a date.
+/// Appends the text of a date; if memory is refused, `out` is unchanged.
 pub fn stamp_text(s: Stamp, out: &mut String) -> Result<(), NoMemory>
     ensures ok { OnOk result (AppendsStampText s (string_bytes out.old) (string_bytes out.new)) }
     ensures err { OnErr result (string_bytes out.new ≡ string_bytes out.old) }

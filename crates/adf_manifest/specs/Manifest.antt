@@ -49,7 +49,7 @@ abbrev pub label_lines : Option (List ℕ) → List (List ℕ)
 label_lines None = []
 label_lines (Some label) = label_line (escaped label) ∷ []
 
--- the line of stamps, where there is one
+-- the line of stamps, if there is one
 abbrev pub stamps_lines : Option Stamps → List (List ℕ)
 stamps_lines None = []
 stamps_lines (Some stamps) = stamps_line stamps ∷ []
@@ -109,8 +109,8 @@ pub record IsWell (m : Manifest) : Type 0 where
   pub items : All IsItem (items_of m.entries)
   pub room : HaveRoom (head_tree m.head) (items_of m.entries)
 
--- the tree of a manifest: it has the kind, the label and the dates of the head; its entries have the paths of the entry
--- lines and no others, and each chain has its entries in the order of the lines
+-- the tree of a manifest: it has the kind, the label and the dates of the head; its entries have the paths of the
+-- entry lines and no others, and each chain has its entries in the order of the lines
 pub record IsTreeOfManifest (tree : Tree) (m : Manifest) : Type 0 where
   pub head : record tree { entries = [] } ≡ head_tree m.head
   pub entries : IsTreeOf tree.entries (map addition_of (items_of m.entries))
@@ -130,9 +130,9 @@ abbrev pub EndsInFile : Option Entries → Type 0
 EndsInFile None = ⊥
 EndsInFile (Some e) = e.last.sort ≡ File
 
--- a line is allowed after the lines of a manifest: a label line if there is no label, stamps or entry,
--- a stamps line if there are no stamps or entries, an entry line always, a note
--- line directly after an entry line, and a data or fill line in a file
+-- a line is allowed after the lines of a manifest: a label line if there is no label, stamps or entry, a stamps line
+-- if there are no stamps or entries, an entry line always, a note line directly after an entry line,
+-- a data or fill line in a file
 abbrev pub MayStand : Manifest → LineValue → Type 0
 MayStand m (LabelLine text) = (m.entries ≡ None) × (m.head.label ≡ None) × (m.head.stamps ≡ None)
 MayStand m (StampsLine stamps) = (m.entries ≡ None) × (m.head.stamps ≡ None)

@@ -20,7 +20,7 @@ pub const MOST_BYTES: usize = 16_777_216;
 pub enum ManifestKind {
     /// The line has no form that is allowed at its place.
     BadLine = 1,
-    /// The number of blocks is not allowed.
+    /// The number of blocks is not allowed: not even, or not 4 to 1,048,576.
     BadSize = 2,
     /// A text is not in the escape form, or is too long.
     BadText = 3,
@@ -156,8 +156,7 @@ fn without_last_feed(bytes: &[u8]) -> &[u8]
 }
 
 /// Reads a manifest: returns its tree and its number of blocks. `TooLong` if it is longer than `MOST_BYTES`;
-/// `NoMemory` if an allocation fails; otherwise the first line with a fault, and the first kind
-/// there.
+/// `NoMemory` if an allocation fails; otherwise the first line with a fault, and the first kind there.
 pub fn read_manifest(alloc: Global, bytes: &[u8]) -> Result<(Tree, u32), ManifestFault>
     ensures manifest { IfOk result (λ r. IsManifest bytes.now r.0 r.1) }
     ensures fault { IfErr result (λ f. ExplainsFault f bytes.now) }

@@ -1,5 +1,6 @@
 -- The state of a survey along its course.
--- Letters: s a course, w its walk; f, g what is found; q a role; k a key; a, i the block and the word that name a part; b a block; n, p nodes; x an ask.
+-- Letters: s a course, w its walk; f, g states; q a role; k a key; a, i the block and the word that point to a part;
+-- b a block; n, p nodes; x an ask.
 use Rattle.std.specs.Prelude.{◌≡◌, ◌≤◌, ◌<◌, ◌+◌, ◌-◌, ◌/◌, ◌%◌, ◌==◌, ℕ, false, cond, nat_lt, List, ◌∷◌, Option, Some, None, IfSome}
 use Rattle.std.proofs.Common.{zero, suc}
 use Rattle.adf_blocks.specs.declared.layout.TheConstants.{FIRST_MAP_EXT, FIRST_PAGE, FIRST_SLOT, MAP_EXT_NEXT, MAP_EXT_PAGES, NEXT_IN_CHAIN, ROOT_PAGES}

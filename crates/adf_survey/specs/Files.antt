@@ -1,5 +1,6 @@
 -- Sound files.
--- Letters: w the walk of a survey, fs its findings; n a file's node; h the block of its header; m a number of a member; k a number of a data block, from 0.
+-- Letters: w the walk of a survey, fs its findings; n a file's node; h its header's block; m a position in its table;
+-- k the number of a data block, from 0.
 use Rattle.std.specs.Prelude.{◌≡◌, ◌*◌, ◌/◌, ◌<◌, ℕ, List, [], ◌∷◌, ◌++◌, length}
 use Rattle.std.proofs.Common.{zero, suc}
 use Rattle.adf_blocks.specs.declared.layout.TheConstants.{EXTENSION, POINTERS, SECONDARY_TYPE, ST_FILE}

@@ -1,5 +1,6 @@
 -- The forms of parts, and the judgement of a part by them.
--- Letters: b the block of a part, a the block that has the word that names it; x what its form depends on; f what is known of it; r a role; w a walk.
+-- Letters: b the block of a part, a the block that points to it; x the context of a part; f the facts about it;
+-- r a role; w a walk.
 use Rattle.std.specs.Prelude.{◌≡◌, ℕ, Bool, true, false, ◌&&◌, ◌||◌, nat_le, nat_lt, cond, List, [], ◌∷◌, Option, Some, None}
 use Rattle.adf_fields.specs.Words.{block}
 use Rattle.adf_tree.specs.declared.entry.Kind.{Kind}

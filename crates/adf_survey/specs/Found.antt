@@ -1,5 +1,6 @@
 -- The state of a survey, as a course.
--- Letters: w a walk, s a course; r a role; b, c blocks; k a key; n, p nodes; q a name in a chain; f what is found; ds data blocks.
+-- Letters: w a walk, s a course; r a role; b, c blocks; k a key; n, p nodes; q a name in a chain; f a state;
+-- ds data blocks.
 use Rattle.std.specs.Prelude.{◌≡◌, ◌≤◌, ◌<◌, ◌+◌, ◌-◌, ◌*◌, ◌/◌, ◌==◌, ◌||◌, ℕ, Bool, true, false, cond, not, nat_le, nat_lt, List, []}
 use Rattle.std.specs.Prelude.{◌∷◌, ◌++◌, length, set, map, slice_index, slice_index_or, Option, Some, None, IsTrue, ◌↔◌}
 use Rattle.std.proofs.Common.{zero, suc}
@@ -30,7 +31,7 @@ use Rattle.adf_survey.specs.declared.found.Found.{Found}
 use Rattle.adf_survey.specs.Survey.{BitsTell, Course, FindingValue, IsCompared, IsCourse, IsDone}
 use Rattle.adf_survey.specs.Parts.{by_key, key_of, role_of, finding_value}
 
--- the block of the member with this key
+-- the block of the member of the walk with this key
 abbrev pub at_key : List (Role × ℕ) → Key → Option ℕ
 at_key [] k = None
 at_key (x ∷ w) k = cond (is_eq (by_key (key_of x.0) k)) (Some x.1) (at_key w k)
@@ -67,7 +68,7 @@ abbrev pub has_name : List ℕ → List (Role × ℕ) → ℕ → ℕ → List �
 has_name image [] parent slot name = false
 has_name image (x ∷ w) parent slot name = is_named image x.0 x.1 parent slot name || has_name image w parent slot name
 
--- names in order
+-- the order of names
 abbrev pub by_name : Vec ℕ → Vec ℕ → Ordering
 by_name a b = slice_cmp nat_cmp a.items b.items
 

@@ -1,5 +1,5 @@
 -- The marks of the sound entries.
--- Letters: w the walk of a survey, fs its findings; n an entry's node; v what is kept.
+-- Letters: w the walk of a survey, fs its findings; n an entry's node; v a result.
 use Rattle.std.specs.Prelude.{◌≡◌, ◌↔◌, ◌&&◌, ℕ, Bool, true, List, nat_le}
 use Rattle.adf_volume.specs.Walk.{Role, node_block}
 use Rattle.adf_survey.specs.Marks.{has_mark}

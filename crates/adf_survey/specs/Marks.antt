@@ -1,5 +1,6 @@
 -- The entries that findings concern, by number.
--- Letters: f what is found; avoided whether blocks were passed over; d a data block; m, n, p nodes; s, j a slot and a place in its chain.
+-- Letters: f a state; avoided whether each block was passed over; d a data block; m, n, p nodes;
+-- s, j a slot and a position in its chain.
 use Rattle.std.specs.Prelude.{◌==◌, ◌||◌, ◌&&◌, ◌-◌, ℕ, Bool, false, cond, not, nat_lt, List, [], ◌∷◌, length, slice_get, slice_index, slice_index_or}
 use Rattle.std.specs.Prelude.{Option, Some, None}
 use Rattle.adf_tree.specs.declared.entry.Kind.{Kind}

@@ -1,6 +1,6 @@
 -- Sound entries.
--- Letters: w the walk of a survey, fs its findings; n an entry's node, h the block of its header, g where it stands; up the block of its
--- directory; q, r roles; b the block of one; a, i the block and the word that name one; k a number of a part.
+-- Letters: w the walk of a survey, fs its findings; n an entry's node, h its header's block, g its position; up its
+-- directory's block; q, r roles; b the block of one; a, i the block and the word that point to it; k a part's number.
 use Rattle.std.specs.Prelude.{◌≡◌, ◌<◌, ◌/◌, ◌↔◌, ℕ, List, Some}
 use Rattle.std.proofs.Common.{suc}
 use Rattle.adf_blocks.specs.declared.layout.TheConstants.{POINTERS, SIZE}

@@ -1,6 +1,7 @@
 -- Surveys of an image: a walk that continues past parts with causes, and all those causes.
--- Letters: s a course; r, q roles; b the block of a role; a, i (d, k) the block and the word that name one; at, c the block and the cause that are noted;
--- j a judgement; fs findings; n how many blocks.
+-- Letters: s a course; r, q roles; b the block of a role; a, i (d, k) the block and the word that point to it;
+-- at, c the block and the cause of a finding;
+-- j a judgement; fs findings; n a number of blocks.
 use Rattle.std.specs.Prelude.{◌≡◌, ℕ, Bool, true, false, List, [], ◌∷◌, ◌++◌, ◌-◌, ◌/◌, Option, Some, None}
 use Rattle.std.proofs.Common.{suc}
 use Rattle.adf_blocks.specs.declared.cause.Cause.{Cause}

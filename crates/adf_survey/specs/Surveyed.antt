@@ -1,5 +1,5 @@
 -- The results of a survey.
--- Letters: v what is kept; w, fs the walk and the findings of the survey; k the place of a finding; n a node.
+-- Letters: v a result; w, fs the walk and the findings of the survey; k the index of a finding; n a node.
 use Rattle.std.specs.Prelude.{◌≡◌, ◌≤◌, ◌-◌, ◌↔◌, ℕ, Bool, true, List, Option, length, map, slice_get, slice_index}
 use Rattle.std.specs.Option.{option_flatten}
 use Rattle.adf_volume.specs.Walk.{Role, heads, node_block}

@@ -334,7 +334,7 @@ impl Found {
         self.own(part, b)
     }
 
-    /// Passes block `b` over.
+    /// Marks block `b` as passed over.
     pub fn pass(&mut self, b: u32)
         ensures { IsPassed b self.old self.new }
     {

@@ -15,9 +15,9 @@ use adf_blocks::{Cause, MAP_EXT_PAGES, ROOT_PAGES};
 pub enum Part {
     /// The root.
     Root,
-    /// A page of the bitmap.
+    /// A page of the bitmap, by number.
     Page(u32),
-    /// A bitmap extension block.
+    /// A bitmap extension block, by number.
     MapExt(u32),
     /// The header of a node, with the number of its parent, its slot and its position in the chain.
     Head {

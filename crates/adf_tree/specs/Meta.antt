@@ -1,4 +1,4 @@
--- The metadata of an entry: its fields are named here, and where its block is read and written.
+-- The metadata of an entry. Its fields are named here, and in the code that reads and writes its block.
 use Rattle.std.specs.Prelude.{◌<◌, ◌≤◌, ◌^◌, ℕ, List, length}
 use Rattle.adf_fields.specs.Dates.{IsStamp}
 use Rattle.adf_fields.specs.declared.dates.Stamp.{Stamp}

@@ -21,7 +21,7 @@ abbrev pub seating_at : ℕ → NameKey → Option NameKey → Seating → Seati
 seating_at seat k None further = Vacant seat
 seating_at seat k (Some held) further = if is_eq (by_words k held) then Seated else further
 
--- the result of a search at so many seats, from one on
+-- the result of a search at n adjacent seats, from `seat` on
 abbrev pub seating_from : Names → List ℕ → NameKey → ℕ → ℕ → Seating
 seating_from names seats k seat zero = Crowded
 seating_from names seats k seat (suc n) = seating_at seat k (holder_of names seats seat) (seating_from names seats k (seat + 1) n)

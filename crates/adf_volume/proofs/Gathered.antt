@@ -1,4 +1,4 @@
--- Facts of every list of parts that were each asked for and lacking when added, whatever their blocks hold.
+-- Facts of every list of parts that were each asked for and missing when added, for any content of their blocks.
 use Rattle.std.proofs.lemmas.Bool.{eqb-true}
 use Rattle.std.specs.Prelude.{◌==◌}
 use Rattle.std.proofs.Common.{Bool, true, false, cond, eq-eqb, ◌≡◌, ℕ, zero, suc, List, [], ◌∷◌, inl, inr, ◌/◌, ◌<◌, ◌≤◌, ◌≢◌, refl, sym, ap}

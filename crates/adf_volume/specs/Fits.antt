@@ -1,5 +1,6 @@
 -- When a tree and a layout fit an image.
--- Letters: t a tree; l a layout; n an entry's number; e an entry; h its header's block; b, a blocks; k, m, j, i places in lists of blocks, or of words;
+-- Letters: t a tree; l a layout; n an entry's number; e an entry; h its header's block; b, a blocks;
+-- k, m, j, i indices in lists of blocks, or of words;
 -- p a directory's node; s a slot; o an owner.
 use Rattle.std.specs.Prelude.{◌≡◌, ℕ, List, [], ◌+◌, ◌-◌, ◌*◌, ◌/◌, ◌%◌, ◌<◌, ◌≤◌, ◌↔◌, map, length, slice_index}
 use Rattle.std.proofs.Common.{zero, suc}

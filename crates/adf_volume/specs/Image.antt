@@ -56,7 +56,7 @@ abbrev pub joined : List ℕ → Kind → List ℕ → List ℕ
 joined image kind [] = []
 joined image kind (b ∷ bs) = area kind (block image b) ++ joined image kind bs
 
--- the content of the file whose header is block h: its data areas joined, cut at the size in the header
+-- the content of the file with header h: its data areas joined, cut at the size in the header
 unfoldable pub content : List ℕ → Kind → ℕ → List ℕ → List ℕ
 content image kind h datas = take (word_in image h SIZE) (joined image kind datas)
 

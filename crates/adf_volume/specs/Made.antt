@@ -10,7 +10,7 @@ use Rattle.adf_tree.specs.declared.entry.Body.TheVariants.{Dir, File}
 use Rattle.adf_volume.specs.Walk.{Role}
 use Rattle.adf_volume.specs.Walk.Role.{Page, MapExt, Head, Ext, Data}
 
--- the blocks of the members that a test picks, in order
+-- the blocks of the members that satisfy a test, in order
 abbrev pub picked : (Role → Bool) → List (Role × ℕ) → List ℕ
 picked f [] = []
 picked f (x ∷ w) = cond (f x.0) (picked f w ++ x.1 ∷ []) (picked f w)
