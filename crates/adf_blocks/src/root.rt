@@ -98,7 +98,7 @@ impl Root<'_> {
     }
 }
 
-/// The label of a block that is known to be a root: of one with more than 30 bytes, the first 30.
+/// The label of a block known to be a root, cut to 30 bytes: its length in byte 432, its bytes from byte 433 on.
 pub fn label_told(b: &Block<'_>) -> Label
     ensures { result ≡ label_told b.now }
 {
@@ -106,8 +106,8 @@ pub fn label_told(b: &Block<'_>) -> Label
     Label::new(b.bytes(NAME + 1, len)).unwrap()
 }
 
-/// The dates of a block that is known to be a root: its own in words 105 to 107, that of the last change in 118 to 120,
-/// that of the creation in 121 to 123.
+/// The dates of a block known to be a root: the root's in words 105 to 107, the last change in 118 to 120, the
+/// creation in 121 to 123.
 pub fn stamps_told(b: &Block<'_>) -> Stamps
     ensures { result ≡ stamps_at b.now }
 {

@@ -19,4 +19,3 @@ pub mod Lookup
 pub mod Rows
 pub mod Pieces
 pub mod Rebuild
--- images to try the states on

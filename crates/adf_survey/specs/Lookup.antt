@@ -1,6 +1,6 @@
 -- Look-up of paths among the entries found, and the paths of entries.
--- Letters: w the walk of a survey; p, n, m nodes; s, j the slot and the position of a header in its chain; b its block;
--- f a number of steps.
+-- Letters: w the walk of a survey; p, n, m nodes; s, j the slot and the position of a header in its chain;
+-- b its block; f a number of steps.
 use Rattle.std.specs.Prelude.{◌≡◌, ◌<◌, ◌&&◌, ℕ, List, [], ◌∷◌, ◌++◌, cond, nat_le}
 use Rattle.std.proofs.Common.{zero, suc}
 use Rattle.adf_tree.specs.Texts.{uppers}
