@@ -7,7 +7,7 @@ use Rattle.adf_blocks.specs.declared.layout.TheConstants.{CHECKSUM, DATA_BYTES, 
 use Rattle.adf_blocks.specs.Fields.{Field, block_of_fields, long}
 use Rattle.adf_blocks.specs.Forms.{Clause}
 
--- data block `number`, from 1, of the file with header `head`: `held` bytes, then data block `next`, or 0
+-- the form of data block `number`, from 1, of the file with header `head`: `held` bytes; the next one is `next` or 0
 abbrev pub data_form : ℕ → ℕ → ℕ → ℕ → List ℕ → List Clause
 data_form head number held next b =
     (long_sum b == 0, BadSum)
