@@ -258,8 +258,8 @@ impl Survey<'_> {
 }
 
 impl<'i> Survey<'i> {
-    /// A sound file; `None` for anything else. `NoMemory` if an allocation fails; never if there is no sound file, or it
-    /// is empty.
+    /// A sound file; `None` for anything else. `NoMemory` if an allocation fails; never if there is no sound file,
+    /// or it is empty.
     pub fn file(&self, alloc: Global, n: Node) -> Result<Option<SoundFile<'i>>, NoMemory>
         ensures some { (w : List (Role × ℕ)) (fs : List FindingValue) → IsSurvey self.now.image w fs
             → IfOk result (λ x. IsSome x ↔ IsSoundFile self.now.image w fs n) }
