@@ -1,4 +1,4 @@
--- What the block of an OFS data block holds.
+-- The fields of a written OFS data block.
 use Rattle.std.proofs.Common.{◌≡◌, ◌≤◌, ℕ, ◌+◌, ◌*◌, List, length, arith, rules}
 use Rattle.std.specs.Prelude.{None, slice_range}
 use Rattle.std.specs.Cmp.Derive.{both_true}

@@ -1,4 +1,4 @@
--- What the block of an extension block holds.
+-- The fields of a written extension block.
 use Rattle.std.proofs.Common.{◌≡◌, ◌≤◌, ◌<◌, ℕ, ◌+◌, ◌-◌, ◌*◌, ◌^◌, List, length, ◌∙◌, arith, rules}
 use Rattle.std.specs.Prelude.{None, reverse, slice_index}
 use Rattle.std.specs.Cmp.Derive.{both_true}

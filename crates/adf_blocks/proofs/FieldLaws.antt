@@ -1,4 +1,4 @@
--- What a block that was laid out of fields holds.
+-- The content of a block composed of fields.
 use Rattle.std.proofs.Common.{◌≡◌, ◌≢◌, ◌≤◌, ◌<◌, ℕ, zero, suc, ◌+◌, ◌-◌, ◌*◌, ◌^◌, ◌⊎◌, List, ◌++◌, [], ◌∷◌}
 use Rattle.std.proofs.Common.{length, get_or, take, drop, refl, sym, ap, subst, ◌∙◌, arith, add-zero, append-nil, inl, inr}
 use Rattle.std.proofs.lemmas.Bool.{cases_lt}

@@ -1,4 +1,4 @@
--- What the block of a header holds.
+-- The fields of a written header.
 use Rattle.std.proofs.Common.{◌≡◌, ◌≤◌, ◌<◌, ℕ, ◌+◌, ◌-◌, ◌*◌, ◌^◌, List, length, refl, sym, ap, ◌∙◌, arith, rules, true}
 use Rattle.std.specs.Prelude.{None, not, reverse, slice_index}
 use Rattle.std.specs.Cmp.Derive.{both_true}

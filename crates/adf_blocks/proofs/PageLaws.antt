@@ -1,4 +1,4 @@
--- What the block of a bitmap page holds.
+-- The fields of a written bitmap page.
 use Rattle.std.proofs.Common.{◌≡◌, ◌≤◌, ◌<◌, ℕ, ◌+◌, ◌*◌, ◌^◌, List, length, refl, arith, rules, ◌∙◌}
 use Rattle.std.specs.Prelude.{None, slice_index, IsBitSet, ◌/◌, ◌%◌, ◌↔◌}
 use Rattle.adf_fields.specs.Words.{block, word, with_block, long_sum, checksum}

@@ -1,4 +1,4 @@
--- What the block of a root holds.
+-- The fields of a written root.
 use Rattle.std.proofs.Common.{◌≡◌, ◌≤◌, ◌<◌, ℕ, ◌+◌, ◌*◌, ◌^◌, List, length, refl, sym, ◌∙◌, arith, rules, inl, inr}
 use Rattle.std.specs.Prelude.{None, true, nat_le, slice_index}
 use Rattle.std.proofs.lemmas.Bool.{le-leb, cases_lt}

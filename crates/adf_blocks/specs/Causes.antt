@@ -5,7 +5,7 @@ use Rattle.adf_blocks.specs.declared.cause.Cause.TheVariants.{BadSize, NotDos, I
 use Rattle.adf_blocks.specs.declared.cause.Cause.TheVariants.{BadParent, BadName, BadComment, WrongSlot, BadFirst, SameName, BadHashSize, NotValidated}
 use Rattle.adf_blocks.specs.declared.cause.Cause.TheVariants.{ShortFile, BadData, LostBlock, OwnedFree, NoMemory}
 
--- what is printed of a cause
+-- the text of a cause as printed
 abbrev pub cause_text : Cause → List ℕ
 cause_text BadSize = codes "bad size"
 cause_text NotDos = codes "not dos"
@@ -31,7 +31,7 @@ cause_text LostBlock = codes "lost block"
 cause_text OwnedFree = codes "owned free"
 cause_text NoMemory = codes "no memory"
 
--- the number of a cause, 1 to 23; within one block causes are tried in ascending number
+-- the number of a cause, 1 to 23; within one block the tests run in ascending order of these numbers
 abbrev pub cause_number : Cause → ℕ
 cause_number BadSize = 1
 cause_number NotDos = 2

@@ -7,7 +7,7 @@ use Rattle.adf_blocks.specs.declared.layout.TheConstants.{CHECKSUM, DATA_BYTES, 
 use Rattle.adf_blocks.specs.Fields.{Field, block_of_fields, long}
 use Rattle.adf_blocks.specs.Forms.{Clause}
 
--- what data block `number` holds, counted from 1, of the file whose header is block `head`: the bytes held and the next data block, or 0
+-- the form of data block `number`, from 1, of the file with header `head`: `held` bytes; the next one is `next` or 0
 abbrev pub data_form : ℕ → ℕ → ℕ → ℕ → List ℕ → List Clause
 data_form head number held next b =
     (long_sum b == 0, BadSum)
@@ -22,11 +22,11 @@ pub record DataFields : Type 0 where
   pub next : ℕ
   pub bytes : List ℕ
 
--- the fields that are given, without where they lie in memory
+-- the fields of a data block to write, as values
 abbrev pub data_fields : DataOut → DataFields
 data_fields d = record { head = d.head; number = d.number; next = d.next; bytes = d.bytes.now }
 
--- the fields of a data block, the last first
+-- the fields of a data block and their offsets, the last first
 abbrev pub data_table : DataFields → List Field
 data_table d =
     (DATA_BYTES, d.bytes)
@@ -37,11 +37,11 @@ data_table d =
     ∷ (4 * TYPE, long T_DATA)
     ∷ []
 
--- the block of a data block with these fields
+-- the bytes of a data block with these fields
 unfoldable pub data_block : DataFields → List ℕ
 data_block d = sealed CHECKSUM (block_of_fields (data_table d))
 
--- fields that a data block has room for
+-- the fields fit a data block
 pub record FitsData (d : DataFields) : Type 0 where
   pub head : d.head < 2 ^ 32
   pub number : d.number < 2 ^ 32

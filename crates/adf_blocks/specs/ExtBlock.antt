@@ -8,7 +8,7 @@ use Rattle.adf_blocks.specs.declared.layout.TheConstants.{ST_FILE, TYPE, T_LIST}
 use Rattle.adf_blocks.specs.Fields.{Field, downwards, block_of_fields, long}
 use Rattle.adf_blocks.specs.Forms.{Clause}
 
--- what an extension block holds at block `own`, of the file whose header is block `head`
+-- the form of an extension block at block `own`, of the file whose header is block `head`
 abbrev pub ext_form : ℕ → ℕ → List ℕ → List Clause
 ext_form own head b =
     (long_sum b == 0, BadSum)
@@ -17,18 +17,18 @@ ext_form own head b =
     ∷ (word b PARENT == head, BadParent)
     ∷ []
 
--- the fields of an extension block that the format leaves open
+-- the fields of an extension block that vary
 pub record ExtFields : Type 0 where
   pub own : ℕ
   pub head : ℕ
   pub table : List ℕ
   pub next : ℕ
 
--- the fields that are given, without where they lie in memory
+-- the fields of an extension block to write, as values
 abbrev pub ext_fields : ExtOut → ExtFields
 ext_fields e = record { own = e.own; head = e.head; table = e.table.now; next = e.next }
 
--- the fields of an extension block, the last first
+-- the fields of an extension block and their offsets, the last first
 abbrev pub ext_table : ExtFields → List Field
 ext_table e =
     (4 * SECONDARY_TYPE, long ST_FILE)
@@ -40,11 +40,11 @@ ext_table e =
     ∷ (4 * TYPE, long T_LIST)
     ∷ []
 
--- the block of an extension block with these fields
+-- the bytes of an extension block with these fields
 unfoldable pub ext_block : ExtFields → List ℕ
 ext_block e = sealed CHECKSUM (block_of_fields (ext_table e))
 
--- fields that an extension block has room for
+-- the fields fit an extension block
 pub record FitsExt (e : ExtFields) : Type 0 where
   pub own : e.own < 2 ^ 32
   pub head : e.head < 2 ^ 32

@@ -1,4 +1,4 @@
--- The form of a block: a list of tests in order, each with the cause that the block has where it is the first to fail.
+-- The form of a block: a list of tests in order, each with the cause to report if it is the first to fail.
 use Rattle.std.specs.Prelude.{◌≡◌, ℕ, ◌+◌, Bool, if◌then◌else◌, List, [], ◌∷◌, Option, Some, None, Result, slice_index, slice_range, MatchResult}
 use Rattle.adf_fields.specs.Words.{word}
 use Rattle.adf_fields.specs.declared.dates.Stamp.{Stamp}
@@ -13,11 +13,11 @@ abbrev pub first_cause : List Clause → Option Cause
 first_cause [] = None
 first_cause (c ∷ cs) = if c.0 then first_cause cs else Some c.1
 
--- what a reader answers: its view of the block exactly where each clause holds, else the first cause
+-- the result of a reader: a view of the block if and only if every clause holds, otherwise the first cause
 abbrev pub ReadsForm : {V : Type 0} → List Clause → (V → Type 0) → Result V Cause → Type 0
 ReadsForm clauses IsView r = MatchResult r (λ v. (first_cause clauses ≡ None) × IsView v) (λ c. first_cause clauses ≡ Some c)
 
--- the text whose length stands at byte `at`, with its bytes behind it
+-- the text whose length is byte `at` and whose bytes follow
 abbrev pub text_at : List ℕ → ℕ → List ℕ
 text_at b at = slice_range b (at + 1) (at + 1 + slice_index b at)
 

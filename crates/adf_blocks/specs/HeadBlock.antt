@@ -27,11 +27,11 @@ is_link t = (t == ST_SOFT_LINK) || (t == ST_LINK_DIR) || (t == ST_LINK_FILE)
 abbrev pub is_entry : ℕ → Bool
 is_entry t = (t == ST_DIR) || (t == ST_FILE)
 
--- the primary type of a header, and the secondary type of an entry or a link
+-- the primary type is that of a header, and the secondary type that of an entry or a link
 abbrev pub has_type : List ℕ → Bool
 has_type b = (word b TYPE == T_SHORT) && (is_entry (word b SECONDARY_TYPE) || is_link (word b SECONDARY_TYPE))
 
--- the text at a byte is a name
+-- the text at a byte is a valid name
 abbrev pub is_name_at : List ℕ → ℕ → Bool
 is_name_at b at = nat_le (slice_index b at) 30 && is_name (text_at b at)
 
@@ -40,13 +40,13 @@ abbrev pub is_ofs : Kind → Bool
 is_ofs Ofs = true
 is_ofs Ffs = false
 
--- an OFS file that is not empty names its first data block twice
+-- an OFS file that is not empty points twice to its first data block
 abbrev pub has_first : Kind → List ℕ → Bool
 has_first kind b =
     not (is_ofs kind && (word b SECONDARY_TYPE == ST_FILE) && not (word b SIZE == 0))
     || (word b FIRST_DATA == word b FIRST_POINTER)
 
--- what a header holds at block `own`, in the chain of a slot of the directory whose block is `parent`
+-- the form of a header at block `own`, in the chain of a slot of the directory whose block is `parent`
 abbrev pub head_form : Kind → ℕ → ℕ → ℕ → List ℕ → List Clause
 head_form kind own parent slot b =
     (long_sum b == 0, BadSum)
@@ -60,31 +60,31 @@ head_form kind own parent slot b =
     ∷ (has_first kind b, BadFirst)
     ∷ []
 
--- what holds of every header that was read
+-- what holds of every header accepted by its reader
 pub record IsHead (b : List ℕ) : Type 0 where
   pub name_len : slice_index b NAME ≤ 30
   pub name : is_name (text_at b NAME) ≡ true
   pub comment_len : slice_index b COMMENT ≤ 79
 
--- what a header has beside its name and its body
+-- the metadata of a header
 abbrev pub meta_at : List ℕ → Meta
 meta_at b = record { comment = text_at b COMMENT; protect = word b PROTECTION; stamp = stamp_at b DATE }
 
--- what any block has there: of a longer comment the first 79 bytes
+-- the metadata of any block read as a header: the comment is cut to 79 bytes
 abbrev pub meta_told : List ℕ → Meta
 meta_told b = record { comment = take 79 (text_at b COMMENT); protect = word b PROTECTION; stamp = stamp_at b DATE }
 
--- what a header has by its secondary type
+-- the body of a header, by its secondary type
 abbrev pub body_at : List ℕ → HeadBody
 body_at b = if word b SECONDARY_TYPE == ST_DIR then Dir else File (word b SIZE) (word b EXTENSION)
 
--- the fields of a header that depend on its type: of a directory the first header of each slot's chain; of a file its size, the first of its
--- data blocks and its first extension block
+-- the fields of a header that depend on its type: for a directory the first header of each slot's chain;
+-- for a file its size, its first data blocks and its first extension block
 pub data BodyFields : Type 0 where
   DirFields : (slots : List ℕ) → BodyFields
   FileFields : (size : ℕ) (table : List ℕ) (ext : ℕ) → BodyFields
 
--- the fields of a header that the format leaves open
+-- the fields of a header that vary
 pub record HeadFields : Type 0 where
   pub own : ℕ
   pub parent : ℕ
@@ -93,16 +93,16 @@ pub record HeadFields : Type 0 where
   pub meta : Meta
   pub body : BodyFields
 
--- the fields that are given, without where they lie in memory
+-- the body of a header to write, as values
 abbrev pub body_fields : HeadOutBody → BodyFields
 body_fields (DirOut slots) = DirFields slots
 body_fields (FileOut size table ext) = FileFields size table.now ext
 
--- the fields of a header that is to be written
+-- the fields of a header to write, as values
 abbrev pub head_fields : HeadOut → HeadFields
 head_fields h = record { own = h.own; parent = h.parent; next = h.next; name = h.name.now; meta = h.meta.now; body = body_fields h.body }
 
--- the count of pointers to data blocks
+-- the number of pointers to data blocks
 abbrev pub count_of : BodyFields → ℕ
 count_of (DirFields slots) = 0
 count_of (FileFields size table ext) = length table
@@ -117,7 +117,7 @@ abbrev pub table_of : BodyFields → Field
 table_of (DirFields slots) = (4 * FIRST_SLOT, longs slots)
 table_of (FileFields size table ext) = downwards FIRST_POINTER table
 
--- the size that a header's body tells, 0 of a directory
+-- the size of a file, 0 for a directory
 abbrev pub size_of : BodyFields → ℕ
 size_of (DirFields slots) = 0
 size_of (FileFields size table ext) = size
@@ -132,7 +132,7 @@ abbrev pub secondary_of : BodyFields → ℕ
 secondary_of (DirFields slots) = ST_DIR
 secondary_of (FileFields size table ext) = ST_FILE
 
--- the fields of a header, the last first
+-- the fields of a header and their offsets, the last first
 abbrev pub head_table : HeadFields → List Field
 head_table h =
     (4 * SECONDARY_TYPE, long (secondary_of h.body))
@@ -151,21 +151,21 @@ head_table h =
     ∷ (4 * TYPE, long T_SHORT)
     ∷ []
 
--- the block of a header with these fields
+-- the bytes of a header with these fields
 unfoldable pub head_block : HeadFields → List ℕ
 head_block h = sealed CHECKSUM (block_of_fields (head_table h))
 
--- pointers that a header has room for
+-- the pointers fit a header
 abbrev pub FitsTable : BodyFields → Type 0
 FitsTable (DirFields slots) = Unit {0}
 FitsTable (FileFields size table ext) = length table ≤ POINTERS
 
--- slots or pointers that a header has room for
+-- the slots or pointers fit a header
 abbrev pub FitsBody : BodyFields → Type 0
 FitsBody (DirFields slots) = length slots ≡ SLOTS
 FitsBody (FileFields size table ext) = length table ≤ POINTERS
 
--- fields that a header has room for
+-- the fields fit a header
 pub record FitsHead (h : HeadFields) : Type 0 where
   pub own : h.own < 2 ^ 32
   pub parent : h.parent < 2 ^ 32
@@ -173,12 +173,12 @@ pub record FitsHead (h : HeadFields) : Type 0 where
   pub comment : length h.meta.comment ≤ 79
   pub body : FitsBody h.body
 
--- the size and the first extension block are words
+-- the size and the first extension block fit in words
 pub record FitsBodyWords (b : BodyFields) : Type 0 where
   pub size : size_of b < 2 ^ 32
   pub ext : ext_of b < 2 ^ 32
 
--- what a header with this body has, as it is read
+-- the body that a reader returns for this body
 abbrev pub body_told : BodyFields → HeadBody
 body_told (DirFields slots) = Dir
 body_told (FileFields size table ext) = File size ext

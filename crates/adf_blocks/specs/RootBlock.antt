@@ -1,4 +1,4 @@
--- The root of a volume.
+-- The root block of a volume.
 use Rattle.std.specs.Prelude.{◌≡◌, ◌≤◌, ◌*◌, ◌==◌, ◌&&◌, nat_le, ℕ, List, [], ◌∷◌, length, slice_index, take}
 use Rattle.adf_fields.specs.Words.{word, long_sum, sealed}
 use Rattle.adf_tree.specs.declared.entry.Stamps.{Stamps}
@@ -9,7 +9,7 @@ use Rattle.adf_blocks.specs.declared.layout.TheConstants.{NAME, ROOT_PAGES, SECO
 use Rattle.adf_blocks.specs.Forms.{Clause, stamp_at, text_at}
 use Rattle.adf_blocks.specs.Fields.{Field, block_of_fields, long, longs, stamp, text}
 
--- what a root holds
+-- the form of a root
 abbrev pub root_form : List ℕ → List Clause
 root_form b =
     (long_sum b == 0, BadSum)
@@ -19,15 +19,15 @@ root_form b =
     ∷ (word b BITMAP_FLAG == VALID, NotValidated)
     ∷ []
 
--- what any block has as the label of a root: of a longer one the first 30 bytes
+-- the label in any block read as a root, cut to 30 bytes
 abbrev pub label_told : List ℕ → List ℕ
 label_told b = take 30 (text_at b NAME)
 
--- the three dates of a root: its own, the last change and the creation
+-- the three dates of a root: its own, the last change, the creation
 abbrev pub stamps_at : List ℕ → Stamps
 stamps_at b = record { root = stamp_at b DATE; altered = stamp_at b ALTERED; created = stamp_at b CREATED }
 
--- the fields of a root that the format leaves open
+-- the fields of a root that vary
 pub record RootFields : Type 0 where
   pub slots : List ℕ
   pub pages : List ℕ
@@ -35,11 +35,11 @@ pub record RootFields : Type 0 where
   pub label : List ℕ
   pub stamps : Stamps
 
--- the fields that are given, without where they lie in memory
+-- the fields of a root to write, as values
 abbrev pub root_fields : RootOut → RootFields
 root_fields r = record { slots = r.slots; pages = r.pages.now; map_ext = r.map_ext; label = r.label.now; stamps = r.stamps }
 
--- the fields of a root, the last first
+-- the fields of a root and their offsets, the last first
 abbrev pub root_table : RootFields → List Field
 root_table r =
     (4 * SECONDARY_TYPE, long ST_ROOT)
@@ -55,11 +55,11 @@ root_table r =
     ∷ (4 * TYPE, long T_SHORT)
     ∷ []
 
--- the block of a root with these fields
+-- the bytes of a root with these fields
 unfoldable pub root_block : RootFields → List ℕ
 root_block r = sealed CHECKSUM (block_of_fields (root_table r))
 
--- fields that a root has room for
+-- the fields fit a root
 pub record FitsRoot (r : RootFields) : Type 0 where
   pub slots : length r.slots ≡ SLOTS
   pub pages : length r.pages ≤ ROOT_PAGES

@@ -1,4 +1,4 @@
--- The size of a volume and of a file, and what follows from it.
+-- The sizes of volumes and files, and the numbers of blocks that follow.
 use Rattle.std.specs.Prelude.{ℕ, ◌+◌, ◌-◌, ◌/◌, ◌%◌, ◌==◌, ◌&&◌, nat_le, Bool, List, length}
 use Rattle.adf_tree.specs.declared.entry.Kind.{Kind}
 use Rattle.adf_tree.specs.declared.entry.Kind.TheVariants.{Ofs, Ffs}
@@ -8,23 +8,23 @@ use Rattle.adf_blocks.specs.declared.layout.TheConstants.{DATA_ROOM, MOST_BLOCKS
 abbrev pub is_allowed : ℕ → Bool
 is_allowed n = nat_le 4 n && nat_le n MOST_BLOCKS && (n % 2 == 0)
 
--- the blocks of an image
+-- the number of blocks of an image
 abbrev pub blocks : List ℕ → ℕ
 blocks image = length image / 512
 
--- the block of the root of a volume of n blocks
+-- the root's block in a volume of n blocks
 abbrev pub middle : ℕ → ℕ
 middle n = n / 2
 
--- the bitmap pages that n blocks need: each has the bits of PAGE_BITS blocks, and blocks 0 and 1 have none
+-- the number of bitmap pages for n blocks: each has bits for PAGE_BITS blocks, and blocks 0 and 1 have none
 abbrev pub pages_needed : ℕ → ℕ
 pages_needed n = (n - 2 + (PAGE_BITS - 1)) / PAGE_BITS
 
--- the bytes of content that a full data block holds
+-- the bytes of a file in a full data block
 unfoldable pub chunk : Kind → ℕ
 chunk Ofs = DATA_ROOM
 chunk Ffs = 512
 
--- the data blocks that so many bytes need
+-- the number of data blocks for this many bytes
 unfoldable pub count : Kind → ℕ → ℕ
 count kind size = (size + (chunk kind - 1)) / chunk kind

@@ -6,56 +6,56 @@ ghost use Rattle.adf_blocks.specs.Causes.{cause_number, cause_text};
 use std::error::Error;
 use std::fmt;
 
-/// What is wrong with an image, or that memory was refused.
+/// What is wrong with an image, or `NoMemory`.
 ///
-/// Within one block causes are tried in ascending number.
+/// Within one block, the tests run in ascending order of these numbers.
 #[derive(Clone, Copy, Debug, PartialEq, Eq)]
 pub enum Cause {
-    /// The length is no multiple of 512, or no allowed number of blocks.
+    /// The length is not a multiple of 512, or the number of blocks is not even or not 4 to 1,048,576.
     BadSize = 1,
-    /// The first three bytes are not `DOS`, or the type byte is above 5.
+    /// The first three bytes are not `DOS`, or byte 3, the type, is above 5.
     NotDos = 2,
-    /// Type 2 or 3: names are compared in another way.
+    /// Type 2 or 3: names are compared by another rule.
     International = 3,
-    /// Type 4 or 5: directories have caches.
+    /// Type 4 or 5: directories have cache blocks.
     DirCache = 4,
-    /// A pointer is below 2 or not below the number of blocks; named at the block that holds it.
+    /// A pointer is below 2 or not below the number of blocks; reported at the block that holds it.
     OutOfRange = 5,
-    /// A block is claimed a second time.
+    /// A block is claimed twice.
     Taken = 6,
-    /// The 128 words do not add up to 0.
+    /// The checksum is wrong: the 128 words do not sum to 0 modulo 2^32.
     BadSum = 7,
-    /// The primary or secondary type is none that may stand here.
+    /// The primary or secondary type is not one that is allowed here.
     BadType = 8,
-    /// The secondary type is that of a soft or hard link.
+    /// The secondary type is that of a soft or hard link: 3, 4 or -4.
     Link = 9,
     /// Word 1 is not the block's own number.
     BadOwnKey = 10,
-    /// The word that names the parent, or of an extension block the header, names another block.
+    /// Word 125 is not the directory's block or, in an extension block, not the file's header.
     BadParent = 11,
-    /// The name or label is too long, or is none.
+    /// The name or label is too long, or the name is empty or has `/` or `:`.
     BadName = 12,
-    /// The comment is above 79 bytes.
+    /// The comment is longer than 79 bytes.
     BadComment = 13,
-    /// The name's hash is not the slot whose chain the header stands in.
+    /// The name's hash is not the slot whose chain the header is in.
     WrongSlot = 14,
-    /// Word 4 of an OFS file header is not its first data block.
+    /// Word 4 of an OFS file header is not its first data block, word 77; not tested for an empty file.
     BadFirst = 15,
-    /// An earlier header of the chain has the same name without case.
+    /// An earlier header of the chain has the same name, ignoring case.
     SameName = 16,
-    /// The root's hash table has not 72 slots.
+    /// Word 3 of the root is not 72, the size of its hash table.
     BadHashSize = 17,
-    /// The root's bitmap flag is not 0xFFFFFFFF.
+    /// Word 78 of the root, its bitmap flag, is not 0xFFFFFFFF.
     NotValidated = 18,
     /// A file has too few extension blocks for its size.
     ShortFile = 19,
-    /// An OFS data block has another header, number, length or successor.
+    /// An OFS data block has the wrong header, number, length or successor: words 1 to 4.
     BadData = 20,
-    /// A block is in use and no part of the volume owns it.
+    /// A block is marked in use, but no part of the volume owns it.
     LostBlock = 21,
-    /// A block is owned and marked free.
+    /// A block is owned, but marked free.
     OwnedFree = 22,
-    /// A growth was refused; nothing is said of the image.
+    /// An allocation failed; nothing is known of the image.
     NoMemory = 23,
 }
 
@@ -67,7 +67,7 @@ impl Cause {
         self as u8
     }
 
-    /// The cause with a number; `None` where none has it.
+    /// The cause with this number; `None` if there is none.
     pub fn numbered(number: u8) -> Option<Cause>
         ensures some { IfSome result (λ c. cause_number c ≡ number) }
         ensures none { IfNone result ((c : Cause) → ¬ (cause_number c ≡ number)) }
@@ -100,7 +100,7 @@ impl Cause {
         }
     }
 
-    /// What is printed of the cause, in lower case.
+    /// The text of the cause as printed, in lower case.
     pub fn text(self) -> &'static str
         ensures { result.now ≡ cause_text self }
     {

@@ -1,4 +1,4 @@
-// Data blocks of OFS files, read and written.
+// Data blocks of OFS files: reader and writer.
 
 ghost use Rattle.std.specs.Prelude.{◌≡◌, ◌≤◌, ◌+◌, ◌*◌, length, slice_range, None};
 ghost use Rattle.adf_fields.specs.Words.{block, with_block};
@@ -11,11 +11,11 @@ use crate::layout::{
 };
 use adf_fields::{Block, put_block, put_bytes, put_word, seal_block};
 
-/// The bytes that a block holds as data block `number`, from 1 on, of the OFS file whose header is block `head`: the
-/// `held` bytes from byte 24 on, where `next` is the next data block of the file, or 0.
+/// Reads a block as data block `number`, counted from 1, of the OFS file whose header is block `head`; `next` is the
+/// file's next data block, or 0. Returns the `held` bytes from byte 24 on.
 ///
-/// Refused, the first that applies: `BadSum`; `BadType` where word 0 is not 8; `BadData` where word 1 is not `head`,
-/// word 2 not `number`, word 3 not `held` or word 4 not `next`.
+/// The first cause that applies: `BadSum`; `BadType` if word 0 is not 8; `BadData` if word 1 is not `head`, word 2 is
+/// not `number`, word 3 is not `held` or word 4 is not `next`.
 pub fn read_data<'a>(
     b: Block<'a>,
     head: u32,
@@ -43,12 +43,12 @@ pub fn read_data<'a>(
     Ok(b.bytes(DATA_BYTES, held as usize))
 }
 
-/// What an OFS data block is to hold.
+/// The fields of an OFS data block to write.
 #[derive(Drop)]
 pub struct DataOut<'a> {
-    /// The block of its file's header.
+    /// The block of the file's header.
     pub head: u32,
-    /// Its number in the file, from 1 on.
+    /// The number of the data block in the file, from 1 on.
     pub number: u32,
     /// The next data block of the file, or 0.
     pub next: u32,
@@ -74,7 +74,7 @@ fn data_bytes(d: &DataOut<'_>) -> [u8; 512]
     block
 }
 
-/// Writes an OFS data block over all of block `b` of an image. Its fields are such as a data block is read back with.
+/// Writes an OFS data block over block `b` of an image. `read_data` accepts it.
 #[tactic(auto, using(crate::proofs::DataLaws::written_data_form))]
 pub fn write_data(image: &mut [u8], b: u32, d: &DataOut<'_>)
     requires whole { b * 512 + 512 ≤ length image.old }
@@ -87,7 +87,7 @@ pub fn write_data(image: &mut [u8], b: u32, d: &DataOut<'_>)
     put_block(image, b, &data_bytes(d));
 }
 
-/// A data block tells the fields and the bytes that it was written with: the law of its reader and its writer.
+/// Reading a written data block gives back its fields and bytes.
 pub fn written_data_are_read()
     ensures whole { (d : DataFields) → FitsData d → length (data_block d) ≡ 512 }
     ensures form { (d : DataFields) → FitsData d

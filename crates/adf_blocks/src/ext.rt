@@ -1,4 +1,4 @@
-// Extension blocks of files, read and written.
+// Extension blocks of files: reader and writer.
 
 ghost use Rattle.std.specs.Prelude.{◌≡◌, ◌≤◌, ◌<◌, ◌+◌, ◌*◌, ◌-◌, ◌^◌, ℕ, length, slice_index, None};
 ghost use Rattle.adf_fields.specs.Words.{block, with_block, word};
@@ -27,10 +27,10 @@ impl<'a> Model for Ext<'a> {
     ghost view = { λ e. e.block };
 }
 
-/// The extension block that a block holds: at block `own`, of the file whose header is block `head`.
+/// Reads a block as the extension block `own` of the file whose header is block `head`.
 ///
-/// Refused, the first that applies: `BadSum`; `BadType` where word 0 is not 16 or word 127 not -3; `BadOwnKey` where
-/// word 1 is not `own`; `BadParent` where word 125 is not `head`.
+/// The first cause that applies: `BadSum`; `BadType` if word 0 is not 16 or word 127 is not -3; `BadOwnKey` if word 1
+/// is not `own`; `BadParent` if word 125 is not `head`.
 pub fn read_ext<'a>(b: Block<'a>, own: u32, head: u32) -> Result<Ext<'a>, Cause>
     ensures { ReadsForm (ext_form own head b.entry) (λ e. e ≡ b.entry) result }
 {
@@ -50,7 +50,7 @@ pub fn read_ext<'a>(b: Block<'a>, own: u32, head: u32) -> Result<Ext<'a>, Cause>
 }
 
 impl Ext<'_> {
-    /// The data block that pointer `j` of this block names: words 77 down to 6.
+    /// The data block that pointer `j`, 0 to 71, of this block points to: word `77 - j`.
     pub fn pointer(&self, j: usize) -> u32
         requires { j < POINTERS }
         ensures { result ≡ word self.now (FIRST_POINTER - j) }
@@ -66,12 +66,12 @@ impl Ext<'_> {
     }
 }
 
-/// What an extension block is to hold.
+/// The fields of an extension block to write.
 #[derive(Drop)]
 pub struct ExtOut<'a> {
-    /// The block that it is written to.
+    /// The block to write it to.
     pub own: u32,
-    /// The block of its file's header.
+    /// The block of the file's header.
     pub head: u32,
     /// The next data blocks of the file, at most 72.
     pub table: &'a [u32],
@@ -98,8 +98,7 @@ fn ext_bytes(e: &ExtOut<'_>) -> [u8; 512]
     block
 }
 
-/// Writes an extension block over all of block `b` of an image. Its fields are such as an extension block is read back
-/// with.
+/// Writes an extension block over block `b` of an image. `read_ext` accepts it with the same `own` and `head`.
 #[tactic(auto, using(crate::proofs::ExtLaws::written_ext_form))]
 pub fn write_ext(image: &mut [u8], b: u32, e: &ExtOut<'_>)
     requires whole { b * 512 + 512 ≤ length image.old }
@@ -111,12 +110,12 @@ pub fn write_ext(image: &mut [u8], b: u32, e: &ExtOut<'_>)
     put_block(image, b, &ext_bytes(e));
 }
 
-/// An extension block tells the fields that it was written with: the law of its reader and its writer.
+/// Reading a written extension block gives back its fields.
 pub fn written_exts_are_read()
     ensures whole { (e : ExtFields) → FitsExt e → length (ext_block e) ≡ 512 }
     ensures form { (e : ExtFields) → FitsExt e
         → first_cause (ext_form e.own e.head (ext_block e)) ≡ None }
-    // past the last pointer `slice_index` is 0
+    // `slice_index` past the last pointer is 0
     ensures pointers { (e : ExtFields) (j : ℕ) → FitsExt e → j < POINTERS
         → slice_index e.table j < 2 ^ 32
         → word (ext_block e) (FIRST_POINTER - j) ≡ slice_index e.table j }

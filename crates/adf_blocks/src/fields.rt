@@ -1,4 +1,4 @@
-// Dates and texts, read from a block and put into its bytes.
+// Dates and texts in the bytes of a block.
 
 ghost use Rattle.std.specs.Prelude.{◌≡◌, ◌≤◌, ◌<◌, ◌+◌, ◌*◌, length};
 ghost use Rattle.adf_fields.specs.Words.{with_bytes};
@@ -20,7 +20,7 @@ pub fn stamp_in(b: &Block<'_>, i: usize) -> Stamp
     }
 }
 
-// Puts a date into three words of a block, from word `i` on.
+// Writes a date to three words of a block, from word `i` on.
 pub fn put_stamp(block: &mut [u8], i: usize, s: Stamp)
     requires { 4 * i + 12 ≤ length block.old }
     ensures exact { block.new ≡ with_bytes block.old (4 * i) (stamp s) }
@@ -29,7 +29,7 @@ pub fn put_stamp(block: &mut [u8], i: usize, s: Stamp)
     put_words(block, i, &[s.days, s.mins, s.ticks]);
 }
 
-// Puts a length and a text into a block, from byte `from` on.
+// Writes a length byte and a text to a block, from byte `from` on.
 #[tactic(auto, using(adf_fields::proofs::WordLaws::side_by_side))]
 pub fn put_text(block: &mut [u8], from: usize, bytes: &[u8])
     requires room { from + 1 + length bytes.now ≤ length block.old }

@@ -1,4 +1,4 @@
-// The headers of directories and files, as they are read.
+// The headers of directories and files: reader.
 
 ghost use Rattle.std.specs.Prelude.{◌≡◌, ◌≤◌, ◌<◌, ◌+◌, ◌-◌, ◌==◌, true, slice_index};
 ghost use Rattle.adf_fields.specs.Hash.{slot_of};
@@ -35,7 +35,7 @@ impl<'a> Model for Head<'a> {
     ghost invariant = { λ h. IsHead h.block };
 }
 
-/// What a header has by its secondary type.
+/// The part of a header that depends on its secondary type.
 #[derive(Clone, Copy, Debug, PartialEq, Eq)]
 pub enum HeadBody {
     Dir,
@@ -44,8 +44,8 @@ pub enum HeadBody {
 }
 
 impl HeadBody {
-    /// What a block that is known to be a header has: a directory where word 127 is 2; else a file, with its size in word 81 and
-    /// its first extension block in word 126.
+    /// The body of a block known to be a header: a directory if word 127 is 2; otherwise a file, with its size in word
+    /// 81 and its first extension block in word 126.
     pub fn of(b: &Block<'_>) -> HeadBody
         ensures { result ≡ body_at b.now }
     {
@@ -60,8 +60,8 @@ impl HeadBody {
     }
 }
 
-/// What a block that is known to be a header says beside its name and its body: the comment of byte 328, of a longer one the
-/// first 79 bytes, the protection of word 80 and the date of words 105 to 107.
+/// The metadata of a block known to be a header: the comment at byte 328, cut to 79 bytes; the protection bits in word
+/// 80; the date in words 105 to 107.
 pub fn meta_told(b: &Block<'_>) -> Meta
     ensures told { result ≡ meta_told b.now }
     ensures whole { slice_index b.now COMMENT ≤ 79 → result ≡ meta_at b.now }
@@ -88,7 +88,7 @@ fn tells_entry(t: u32) -> bool
     t == ST_DIR || t == ST_FILE
 }
 
-// Whether the two types are those of an entry or a link.
+// Whether the primary and secondary types are those of an entry or a link.
 fn type_holds(b: &Block<'_>) -> bool
     ensures { result ≡ has_type b.now }
 {
@@ -96,7 +96,7 @@ fn type_holds(b: &Block<'_>) -> bool
     b.word(TYPE) == T_SHORT && (tells_entry(secondary) || tells_link(secondary))
 }
 
-// Whether the name is one.
+// Whether the name is valid.
 fn name_holds(b: &Block<'_>) -> bool
     ensures { result ≡ is_name_at b.now NAME }
 {
@@ -104,7 +104,7 @@ fn name_holds(b: &Block<'_>) -> bool
     len <= 30 && Name::is_name(b.bytes(NAME + 1, len))
 }
 
-// Whether the name's hash is this slot.
+// Whether the name hashes to this slot.
 fn slot_holds(b: &Block<'_>, slot: u8) -> bool
     requires { is_name_at b.now NAME ≡ true }
     ensures { result ≡ (slot_of (text_at b.now NAME) == slot) }
@@ -113,7 +113,7 @@ fn slot_holds(b: &Block<'_>, slot: u8) -> bool
     slot_of_name(b.bytes(NAME + 1, len)) == slot
 }
 
-// Whether word 4 is the first data block, where it has to be.
+// Whether word 4 is the first data block; true if the file is not OFS or is empty.
 fn first_holds(b: &Block<'_>, kind: Kind) -> bool
     ensures { result ≡ has_first kind b.now }
 {
@@ -127,13 +127,13 @@ fn first_holds(b: &Block<'_>, kind: Kind) -> bool
     }
 }
 
-/// The header that a block holds: at block `own`, in the chain of slot `slot` of the directory whose block is `parent`.
+/// Reads a block as the header `own`, in the chain of slot `slot` of the directory whose block is `parent`.
 ///
-/// Refused, the first that applies: `BadSum`; `BadType` where word 0 is not 2, or word 127 is none of 2, -3, 3, 4, -4;
-/// `Link` where word 127 is 3, 4 or -4; `BadOwnKey` where word 1 is not `own`; `BadParent` where word 125 is not
-/// `parent`; `BadName` where the length in byte 432 or the bytes from 433 on are those of no name; `BadComment` where
-/// byte 328 is above 79; `WrongSlot` where the name's hash is not `slot`; `BadFirst` where word 4 of an OFS file of a
-/// size above 0 is not word 77.
+/// The first cause that applies: `BadSum`; `BadType` if word 0 is not 2, or word 127 is not one of 2, -3, 3, 4 and -4;
+/// `Link` if word 127 is 3, 4 or -4; `BadOwnKey` if word 1 is not `own`; `BadParent` if word 125 is not `parent`;
+/// `BadName` if the length in byte 432 and the bytes from 433 on are not a valid name; `BadComment` if byte 328 is
+/// above 79; `WrongSlot` if the name's hash is not `slot`; `BadFirst` if word 4 of an OFS file with a size above 0 is
+/// not word 77.
 pub fn read_head<'a>(
     b: Block<'a>,
     kind: Kind,
@@ -174,7 +174,7 @@ pub fn read_head<'a>(
 }
 
 impl<'a> Head<'a> {
-    /// The header that a block holds, where that is known.
+    /// The header in a block known to hold one.
     pub fn over(b: Block<'a>) -> Head<'a>
         requires { IsHead b }
         ensures { result ≡ b.entry }
@@ -200,7 +200,7 @@ impl Head<'_> {
         Comment::new(self.block.bytes(COMMENT + 1, len)).unwrap()
     }
 
-    /// The comment of byte 328, the protection of word 80 and the date of words 105 to 107.
+    /// The metadata: the comment at byte 328, the protection bits in word 80 and the date in words 105 to 107.
     pub fn meta(&self) -> Meta
         ensures { result ≡ meta_at self.now }
     {
@@ -218,14 +218,14 @@ impl Head<'_> {
         self.block.word(NEXT_IN_CHAIN)
     }
 
-    /// A directory where word 127 is 2; else a file, with its size in word 81 and its first extension block in word 126.
+    /// A directory if word 127 is 2; otherwise a file: its size in word 81, its first extension block in word 126.
     pub fn body(&self) -> HeadBody
         ensures { result ≡ body_at self.now }
     {
         HeadBody::of(&self.block)
     }
 
-    /// Of a directory, the first header of a slot's chain, or 0: words 6 to 77.
+    /// The first header of a slot's chain in a directory, or 0: words 6 to 77.
     pub fn slot(&self, s: usize) -> u32
         requires { s < SLOTS }
         ensures { result ≡ word self.now (FIRST_SLOT + s) }
@@ -233,7 +233,7 @@ impl Head<'_> {
         self.block.word(FIRST_SLOT + s)
     }
 
-    /// Of a file, the data block that pointer `j` names: words 77 down to 6.
+    /// The data block that pointer `j`, 0 to 71, of a file points to: word `77 - j`.
     pub fn pointer(&self, j: usize) -> u32
         requires { j < POINTERS }
         ensures { result ≡ word self.now (FIRST_POINTER - j) }

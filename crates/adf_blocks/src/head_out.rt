@@ -1,4 +1,4 @@
-// The headers of directories and files, as they are written.
+// The headers of directories and files: writer.
 
 ghost use Rattle.std.specs.Prelude.{◌≡◌, ◌≤◌, ◌<◌, ◌+◌, ◌-◌, ◌*◌, ◌^◌, ℕ, List, length, slice_index, None};
 ghost use Rattle.adf_fields.specs.Hash.{slot_of};
@@ -19,21 +19,21 @@ use crate::layout::{
 use adf_fields::{put_block, put_word, put_words, put_words_down, seal_block};
 use adf_tree::{Meta, Name};
 
-/// What a header is to hold.
+/// The fields of a header to write.
 #[derive(Drop)]
 pub struct HeadOut<'n, 'm, 't> {
-    /// The block that it is written to.
+    /// The block to write it to.
     pub own: u32,
-    /// The block of its directory.
+    /// The block of the directory.
     pub parent: u32,
-    /// The next header of its chain, or 0.
+    /// The next header of the chain, or 0.
     pub next: u32,
     pub name: &'n Name,
     pub meta: &'m Meta,
     pub body: HeadOutBody<'t>,
 }
 
-/// What a header is to hold by its type.
+/// The fields that depend on the secondary type.
 #[derive(Drop)]
 pub enum HeadOutBody<'t> {
     /// A directory: the first header of each slot's chain, or 0.
@@ -48,7 +48,7 @@ pub enum HeadOutBody<'t> {
     },
 }
 
-// The count of pointers to data blocks.
+// The number of pointers to data blocks.
 fn count(body: &HeadOutBody<'_>) -> u32
     requires { FitsTable (body_fields body.now) }
     ensures { result ≡ count_of (body_fields body.now) }
@@ -69,7 +69,7 @@ fn first(body: &HeadOutBody<'_>) -> u32
     }
 }
 
-// Puts the slots, or the pointers from word 77 down.
+// Writes the slots, or the pointers from word 77 down.
 fn put_table(block: &mut [u8], body: &HeadOutBody<'_>)
     requires whole { length block.old ≡ 512 }
     requires table { FitsTable (body_fields body.now) }
@@ -143,8 +143,8 @@ fn head_bytes(h: &HeadOut<'_, '_, '_>) -> [u8; 512]
     block
 }
 
-/// Writes the header of a directory or a file over all of block `b` of an image. Its fields are such as a header is
-/// read back with.
+/// Writes the header of a directory or a file over block `b` of an image. `read_head` accepts it with the same
+/// `own` and `parent` and the slot of its name.
 #[tactic(auto, using(crate::proofs::HeadLaws::written_head_form))]
 pub fn write_head(image: &mut [u8], b: u32, h: &HeadOut<'_, '_, '_>)
     requires whole { b * 512 + 512 ≤ length image.old }
@@ -159,7 +159,7 @@ pub fn write_head(image: &mut [u8], b: u32, h: &HeadOut<'_, '_, '_>)
     put_block(image, b, &head_bytes(h));
 }
 
-/// A header tells the fields that it was written with: the law of its readers and its writer.
+/// Reading a written header gives back its fields.
 pub fn written_heads_are_read()
     ensures whole { (h : HeadFields) → FitsHead h → length (head_block h) ≡ 512 }
     ensures form { (h : HeadFields) (kind : Kind) → FitsHead h
@@ -181,7 +181,7 @@ pub fn written_heads_are_read()
         → h.body ≡ DirFields slots → s < SLOTS
         → slice_index slots s < 2 ^ 32
         → word (head_block h) (FIRST_SLOT + s) ≡ slice_index slots s }
-    // past the last pointer `slice_index` is 0
+    // `slice_index` past the last pointer is 0
     ensures pointers { (h : HeadFields) (size : ℕ) (table : List ℕ) (ext j : ℕ) → FitsHead h
         → h.body ≡ FileFields size table ext → j < POINTERS → slice_index table j < 2 ^ 32
         → word (head_block h) (FIRST_POINTER - j) ≡ slice_index table j }

@@ -1,4 +1,4 @@
-//! The forms of an Amiga volume's blocks, read and written.
+//! The blocks of an Amiga volume: readers and writers.
 #![tactic(auto)]
 
 mod cause;

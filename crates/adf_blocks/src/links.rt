@@ -1,4 +1,4 @@
-// The words of a block that name other blocks, read of blocks whose form is known.
+// The pointers in a block of known form.
 
 ghost use Rattle.std.specs.Prelude.{◌≡◌, ◌<◌, ◌+◌, ◌-◌};
 ghost use Rattle.adf_fields.specs.Words.{word};
@@ -22,7 +22,7 @@ impl<'a> Model for Directory<'a> {
 }
 
 impl<'a> Directory<'a> {
-    /// The slots that a block has.
+    /// The slots in a block.
     pub fn over(block: Block<'a>) -> Directory<'a>
         ensures { result ≡ block.entry }
     {
@@ -38,7 +38,7 @@ impl<'a> Directory<'a> {
     }
 }
 
-/// The table of a file's header or extension block: up to 72 pointers to data blocks, and the extension block that has the next ones.
+/// The table in a file's header or extension block: up to 72 pointers to data blocks, and the next extension block.
 #[derive(Drop)]
 pub struct Table<'a> {
     block: Block<'a>,
@@ -53,14 +53,14 @@ impl<'a> Model for Table<'a> {
 }
 
 impl<'a> Table<'a> {
-    /// The table that a block has.
+    /// The table in a block.
     pub fn over(block: Block<'a>) -> Table<'a>
         ensures { result ≡ block.entry }
     {
         Table { block }
     }
 
-    /// The data block that pointer `j` names: words 77 down to 6.
+    /// The data block that pointer `j`, 0 to 71, points to: word `77 - j`.
     pub fn pointer(&self, j: usize) -> u32
         requires { j < POINTERS }
         ensures { result ≡ word self.now (FIRST_POINTER - j) }

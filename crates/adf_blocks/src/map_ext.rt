@@ -1,4 +1,4 @@
-// Bitmap extension blocks, read and written.
+// Bitmap extension blocks: reader and writer.
 
 ghost use Rattle.std.specs.Prelude.{◌≡◌, ◌≤◌, ◌<◌, ◌+◌, ◌*◌, ◌^◌, ℕ, List, length, slice_index};
 ghost use Rattle.adf_fields.specs.Words.{with_block, word};
@@ -22,7 +22,7 @@ impl<'a> Model for MapExt<'a> {
     ghost view = { λ m. m.block };
 }
 
-/// The bitmap extension block that a block holds. It has no checksum and no type, so none is refused.
+/// Reads a block as a bitmap extension block. It has no checksum and no type, so every block is accepted.
 pub fn read_map_ext<'a>(b: Block<'a>) -> MapExt<'a>
     ensures { result ≡ b.entry }
 {
@@ -30,7 +30,7 @@ pub fn read_map_ext<'a>(b: Block<'a>) -> MapExt<'a>
 }
 
 impl MapExt<'_> {
-    /// The bitmap page that entry `j` of this block names: words 0 to 126.
+    /// The bitmap page that entry `j`, 0 to 126, points to: word `j`.
     pub fn page(&self, j: usize) -> u32
         requires { j < MAP_EXT_PAGES }
         ensures { result ≡ word self.now j }
@@ -58,8 +58,8 @@ fn map_ext_bytes(pages: &[u32], next: u32) -> [u8; 512]
     block
 }
 
-/// Writes a bitmap extension block that names at most 127 pages and the next such block over all of block `b` of an
-/// image; its words past the last page are 0.
+/// Writes a bitmap extension block, with pointers to at most 127 pages and to the next such block, over block `b` of
+/// an image. The words after the last page are 0.
 pub fn write_map_ext(image: &mut [u8], b: u32, pages: &[u32], next: u32)
     requires whole { b * 512 + 512 ≤ length image.old }
     requires pages { length pages.now ≤ MAP_EXT_PAGES }
@@ -68,11 +68,11 @@ pub fn write_map_ext(image: &mut [u8], b: u32, pages: &[u32], next: u32)
     put_block(image, b, &map_ext_bytes(pages, next));
 }
 
-/// A bitmap extension block tells the numbers that it was written with: the law of its reader and its writer.
+/// Reading a written bitmap extension block gives back its pointers.
 pub fn written_map_exts_are_read()
     ensures whole { (pages : List ℕ) (next : ℕ) → length pages ≤ MAP_EXT_PAGES
         → length (map_ext_block pages next) ≡ 512 }
-    // past the last page `slice_index` is 0
+    // `slice_index` past the last page is 0
     ensures pages { (pages : List ℕ) (next j : ℕ) → length pages ≤ MAP_EXT_PAGES → j < MAP_EXT_PAGES
         → slice_index pages j < 2 ^ 32
         → word (map_ext_block pages next) j ≡ slice_index pages j }

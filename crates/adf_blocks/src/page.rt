@@ -1,4 +1,4 @@
-// Pages of the bitmap, read and written.
+// Pages of the bitmap: reader and writer.
 
 ghost use Rattle.std.specs.Prelude.{◌≡◌, ◌≤◌, ◌<◌, ◌+◌, ◌*◌, ◌-◌, ◌/◌, ◌%◌, ◌^◌, ◌↔◌, ℕ, List, length, slice_index, IsBitSet, IsTrue, None};
 ghost use Rattle.adf_fields.specs.Words.{block, with_block, word};
@@ -24,7 +24,7 @@ impl<'a> Model for Page<'a> {
     ghost view = { λ p. p.block };
 }
 
-/// The bitmap page that a block holds; refused as `BadSum` where its words do not add up to 0.
+/// Reads a block as a bitmap page; `BadSum` if its 128 words do not sum to 0.
 pub fn read_page<'a>(b: Block<'a>) -> Result<Page<'a>, Cause>
     ensures { ReadsForm (page_form b.entry) (λ p. p ≡ b.entry) result }
 {
@@ -35,14 +35,14 @@ pub fn read_page<'a>(b: Block<'a>) -> Result<Page<'a>, Cause>
 }
 
 impl<'a> Page<'a> {
-    /// The page that a block of known form is.
+    /// The page in a block of known form.
     pub fn over(block: Block<'a>) -> Page<'a>
         ensures { result ≡ block.entry }
     {
         Page { block }
     }
 
-    /// The bits of 32 blocks, the first block's lowest: words 1 to 127.
+    /// The bits of 32 blocks, the first block's in the lowest bit: word `1 + i`, with `i` from 0 to 126.
     pub fn word(&self, i: usize) -> u32
         requires { i < PAGE_WORDS }
         ensures { result ≡ word self.now (PAGE_FIRST + i) }
@@ -50,7 +50,7 @@ impl<'a> Page<'a> {
         self.block.word(PAGE_FIRST + i)
     }
 
-    /// Whether the block of a bit is free: bit `bit % 32`, the lowest first, of word `1 + bit / 32`.
+    /// Whether the block with this bit is free: bit `bit % 32`, counted from the lowest, of word `1 + bit / 32`.
     pub fn is_free(&self, bit: u32) -> bool
         requires { bit < PAGE_BITS }
         ensures { IsTrue result ↔ IsFreeBit self.now bit }
@@ -60,7 +60,7 @@ impl<'a> Page<'a> {
     }
 }
 
-/// The page and the bit of a block, both from 0 on.
+/// The page of a block and its bit in the page, both counted from 0.
 pub fn place_of(b: u32) -> (u32, u32)
     requires { 2 ≤ b }
     ensures page { result.0 ≡ (b - 2) / PAGE_BITS }
@@ -80,7 +80,7 @@ fn page_bytes(bits: &[u32; PAGE_WORDS]) -> [u8; 512]
     block
 }
 
-/// Writes a bitmap page with these words of bits over all of block `b` of an image.
+/// Writes a bitmap page with these words of bits over block `b` of an image.
 #[tactic(auto, using(crate::proofs::PageLaws::written_page_form))]
 pub fn write_page(image: &mut [u8], b: u32, bits: &[u32; PAGE_WORDS])
     requires { b * 512 + 512 ≤ length image.old }
@@ -90,7 +90,7 @@ pub fn write_page(image: &mut [u8], b: u32, bits: &[u32; PAGE_WORDS])
     put_block(image, b, &page_bytes(bits));
 }
 
-/// A page tells the bits that it was written with: the law of its reader and its writer.
+/// Reading a written page gives back its bits.
 pub fn written_pages_are_read()
     ensures whole { (bits : List ℕ) → length bits ≡ PAGE_WORDS → length (page_block bits) ≡ 512 }
     ensures form { (bits : List ℕ) → length bits ≡ PAGE_WORDS

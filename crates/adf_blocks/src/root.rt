@@ -1,4 +1,4 @@
-// The root of a volume, as it is read.
+// The root block of a volume: reader.
 
 ghost use Rattle.std.specs.Prelude.{◌≡◌, ◌<◌, ◌+◌};
 ghost use Rattle.adf_fields.specs.Words.{word};
@@ -15,7 +15,7 @@ use adf_fields::Block;
 use adf_tree::{Label, Stamps};
 use std::marker::Model;
 
-/// The root of a volume.
+/// The root block of a volume.
 #[derive(Drop)]
 pub struct Root<'a> {
     block: Block<'a>,
@@ -33,10 +33,10 @@ impl<'a> Model for Root<'a> {
     ghost invariant = { λ r. first_cause (root_form r.block) ≡ None };
 }
 
-/// The root that a block holds.
+/// Reads a block as the root.
 ///
-/// Refused, the first that applies: `BadSum`; `BadType` where word 0 is not 2 or word 127 not 1; `BadName` where byte
-/// 432 is above 30; `BadHashSize` where word 3 is not 72; `NotValidated` where word 78 is not 0xFFFFFFFF.
+/// The first cause that applies: `BadSum`; `BadType` if word 0 is not 2 or word 127 is not 1; `BadName` if byte 432 is
+/// above 30; `BadHashSize` if word 3 is not 72; `NotValidated` if word 78 is not 0xFFFFFFFF.
 pub fn read_root<'a>(b: Block<'a>) -> Result<Root<'a>, Cause>
     ensures { ReadsForm (root_form b.entry) (λ r. r ≡ b.entry) result }
 {
@@ -67,7 +67,7 @@ impl Root<'_> {
         self.block.word(FIRST_SLOT + s)
     }
 
-    /// The number of bitmap page `i`: words 79 to 103.
+    /// The block of bitmap page `i`, 0 to 24: words 79 to 103.
     pub fn page(&self, i: usize) -> u32
         requires { i < ROOT_PAGES }
         ensures { result ≡ word self.now (FIRST_PAGE + i) }
@@ -90,7 +90,7 @@ impl Root<'_> {
         Label::new(self.block.bytes(NAME + 1, len)).unwrap()
     }
 
-    /// The dates: the root's in words 105 to 107, the last change's in 118 to 120, the creation's in 121 to 123.
+    /// The dates: the root's in words 105 to 107, the last change in 118 to 120, the creation in 121 to 123.
     pub fn stamps(&self) -> Stamps
         ensures { result ≡ stamps_at self.now }
     {
@@ -98,7 +98,7 @@ impl Root<'_> {
     }
 }
 
-/// The label of a block that is known to be a root: of one with more than 30 bytes, the first 30.
+/// The label of a block known to be a root, cut to 30 bytes: its length in byte 432, its bytes from byte 433 on.
 pub fn label_told(b: &Block<'_>) -> Label
     ensures { result ≡ label_told b.now }
 {
@@ -106,8 +106,8 @@ pub fn label_told(b: &Block<'_>) -> Label
     Label::new(b.bytes(NAME + 1, len)).unwrap()
 }
 
-/// The dates of a block that is known to be a root: its own in words 105 to 107, that of the last change in 118 to 120,
-/// that of the creation in 121 to 123.
+/// The dates of a block known to be a root: the root's in words 105 to 107, the last change in 118 to 120, the
+/// creation in 121 to 123.
 pub fn stamps_told(b: &Block<'_>) -> Stamps
     ensures { result ≡ stamps_at b.now }
 {

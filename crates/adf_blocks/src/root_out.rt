@@ -1,4 +1,4 @@
-// The root of a volume, as it is written.
+// The root block of a volume: writer.
 
 ghost use Rattle.std.specs.Prelude.{◌≡◌, ◌≤◌, ◌<◌, ◌+◌, ◌*◌, ◌^◌, ℕ, length, slice_index, None};
 ghost use Rattle.adf_fields.specs.Words.{block, with_block, word};
@@ -14,7 +14,7 @@ use crate::layout::{
 use adf_fields::{put_block, put_word, put_words, seal_block};
 use adf_tree::{Label, Stamps};
 
-/// What a root is to hold.
+/// The fields of a root block to write.
 #[derive(Drop)]
 pub struct RootOut<'p, 'l> {
     /// The first header of each slot's chain, or 0.
@@ -51,7 +51,7 @@ fn root_bytes(r: &RootOut<'_, '_>) -> [u8; 512]
     block
 }
 
-/// Writes the root of a volume over all of block `b` of an image. Its fields are such as a root is read back with.
+/// Writes the root over block `b` of an image. `read_root` accepts it.
 #[tactic(auto, using(crate::proofs::RootLaws::written_root_form))]
 pub fn write_root(image: &mut [u8], b: u32, r: &RootOut<'_, '_>)
     requires whole { b * 512 + 512 ≤ length image.old }
@@ -64,14 +64,14 @@ pub fn write_root(image: &mut [u8], b: u32, r: &RootOut<'_, '_>)
     put_block(image, b, &root_bytes(r));
 }
 
-/// A root tells the fields that it was written with: the law of its reader and its writer.
+/// Reading a written root gives back its fields.
 pub fn written_roots_are_read()
     ensures whole { (r : RootFields) → FitsRoot r → length (root_block r) ≡ 512 }
     ensures form { (r : RootFields) → FitsRoot r → first_cause (root_form (root_block r)) ≡ None }
     ensures slots { (r : RootFields) (s : ℕ) → FitsRoot r → s < SLOTS
         → slice_index r.slots s < 2 ^ 32
         → word (root_block r) (FIRST_SLOT + s) ≡ slice_index r.slots s }
-    // past the last page `slice_index` is 0
+    // `slice_index` past the last page is 0
     ensures pages { (r : RootFields) (i : ℕ) → FitsRoot r → i < ROOT_PAGES
         → slice_index r.pages i < 2 ^ 32
         → word (root_block r) (FIRST_PAGE + i) ≡ slice_index r.pages i }

@@ -6,14 +6,14 @@ ghost use Rattle.adf_blocks.specs.Sizes.{chunk, count, is_allowed, pages_needed}
 use crate::layout::{DATA_ROOM, MOST_BLOCKS, PAGE_BITS};
 use adf_tree::Kind;
 
-/// Whether a volume may have so many blocks: even, 4 to `MOST_BLOCKS`.
+/// Whether a volume may have this number of blocks: even, 4 to `MOST_BLOCKS`.
 pub fn is_allowed_size(blocks: u32) -> bool
     ensures { result ≡ is_allowed blocks }
 {
     4 <= blocks && blocks <= MOST_BLOCKS && blocks % 2 == 0
 }
 
-/// The bitmap pages that so many blocks need, 1 to 259.
+/// The number of bitmap pages for this number of blocks, 1 to 259.
 pub fn page_count(blocks: u32) -> u32
     requires { is_allowed blocks ≡ true }
     ensures exact { result ≡ pages_needed blocks }
@@ -22,7 +22,7 @@ pub fn page_count(blocks: u32) -> u32
     (blocks - 2).div_ceil(PAGE_BITS)
 }
 
-/// The bytes of a file that a full data block holds: 488 of OFS, 512 of FFS.
+/// The bytes of a file in a full data block: 488 in OFS, 512 in FFS.
 #[tactic(auto, unfolding(crate::specs::Sizes::chunk))]
 pub fn chunk_len(kind: Kind) -> usize
     ensures exact { result ≡ chunk kind }
@@ -35,7 +35,7 @@ pub fn chunk_len(kind: Kind) -> usize
     }
 }
 
-/// The data blocks of a file of so many bytes.
+/// The number of data blocks of a file of `size` bytes.
 #[tactic(auto, unfolding(crate::specs::Sizes::count))]
 pub fn data_count(kind: Kind, size: usize) -> usize
     ensures exact { result ≡ count kind size }

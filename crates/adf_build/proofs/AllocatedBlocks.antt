@@ -1,4 +1,4 @@
--- The free blocks are distinct, lie in the volume, and are neither the root nor reserved.
+-- The free blocks are distinct, in the volume, and neither the root nor reserved.
 use Rattle.std.proofs.Common.{◌≡◌, ℕ, zero, suc, ◌∷◌, ◌++◌, inl, inr, ◌+◌, ◌-◌, ◌<◌, ◌≤◌, length, refl, sym, ap, ◌∙◌, arith}
 use Rattle.std.specs.List.{range_with_len}
 use Rattle.std.proofs.lemmas.Bool.{cases_lt}

@@ -1,4 +1,4 @@
--- The bits of the pages tell which blocks are free.
+-- The bits of the pages are those of the free blocks.
 use Rattle.std.proofs.Common.{◌≡◌, ℕ, zero, suc, List, [], ◌∷◌, ◌++◌, inl, inr, ◌+◌, ◌-◌, ◌*◌, ◌/◌, ◌%◌, ◌^◌, ◌<◌, ◌≤◌, length, refl, sym, ap, subst, ◌∙◌}
 use Rattle.std.proofs.Common.{arith, Bool, true, false, cond, map, take}
 use Rattle.std.proofs.lemmas.Bool.{cases_lt}

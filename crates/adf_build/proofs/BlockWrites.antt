@@ -1,4 +1,4 @@
--- What an image holds after blocks were written.
+-- The content of an image after blocks are written.
 use Rattle.std.proofs.Common.{◌≡◌, ℕ, List, [], ◌∷◌, ◌++◌, inl, inr, ◌+◌, ◌*◌, ◌<◌, ◌≤◌, ◌≢◌, length, refl, sym, ap, ◌∙◌, arith}
 use Rattle.adf_fields.specs.Words.{block, with_block}
 use Rattle.adf_fields.proofs.WordLaws.{block_written, block_other, length-with_bytes}

@@ -1,4 +1,4 @@
--- Chains whose members name the next one are spelled.
+-- Chains with correct pointers to the next member are spelled.
 use Rattle.std.proofs.Common.{◌≡◌, ℕ, suc, List, [], ◌∷◌, refl, sym, ap, subst, ◌∙◌, map, Bool, true, false, cond}
 use Rattle.adf_fields.specs.Hash.{slot_of}
 use Rattle.adf_tree.specs.declared.entry.Entry.{Entry}

@@ -1,4 +1,4 @@
--- Where each entry was laid, and that its header names the next one of its chain.
+-- The place of each built entry, and the pointer of its header to the next one in its chain.
 use Rattle.std.proofs.Common.{◌≡◌, ℕ, zero, suc, List, [], ◌∷◌, ◌+◌, ◌^◌, ◌<◌, ◌≤◌, map, refl, sym, ap, subst, ◌∙◌, arith}
 use Rattle.std.specs.Prelude.{slice_index}
 use Rattle.std.proofs.lemmas.List.FromFn.{get_or-map-range_with_len}

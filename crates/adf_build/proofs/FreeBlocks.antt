@@ -1,4 +1,4 @@
--- The blocks that are free for entries, and the tables that name them.
+-- The blocks free for entries, and the tables that point to them.
 use Rattle.std.proofs.Common.{◌≡◌, ◌≤◌, ◌<◌, ◌+◌, ◌-◌, ◌*◌, ◌/◌, ◌^◌, ℕ, List, [], ◌∷◌, ◌++◌, sym, ap, ◌∙◌, arith, true, length, take}
 use Rattle.std.specs.Prelude.{nat_le, nat_lt, ◌||◌}
 use Rattle.std.proofs.Math.ListN.{set}

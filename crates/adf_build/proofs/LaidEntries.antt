@@ -1,4 +1,4 @@
--- The entries of a tree fit the volume that was laid.
+-- The entries of a tree fit the built volume.
 use Rattle.std.proofs.Common.{◌≡◌, ℕ, zero, suc, List, ◌+◌, ◌-◌, ◌*◌, ◌/◌, ◌%◌, ◌^◌, ◌<◌, ◌≤◌, length, take, min, refl, sym, ap, subst, ◌∙◌, arith}
 use Rattle.std.specs.Prelude.{slice_index}
 use Rattle.adf_fields.specs.Hash.{slot_of}

@@ -1,4 +1,4 @@
--- The extension blocks, the data blocks and the content of a file that was laid.
+-- The extension blocks, the data blocks and the content of a built file.
 use Rattle.std.proofs.Common.{◌≡◌, ℕ, zero, suc, List, [], ◌∷◌, ◌++◌, inl, inr, ◌+◌, ◌-◌, ◌*◌, ◌<◌, ◌≤◌, length, take, drop, min, refl, sym, ap, subst}
 use Rattle.std.proofs.Common.{◌∙◌, arith, Bool, true, false, cond, take_all, length-take, length-drop, length-take-le}
 use Rattle.std.specs.Prelude.{nat_lt, slice_index, None, replicate}

@@ -1,4 +1,4 @@
--- The order of a laid volume: each part in its place, ascending without a gap, and zeros elsewhere.
+-- The order of a built volume: each part in its place, ascending without gaps, and zeros elsewhere.
 use Rattle.std.proofs.Common.{◌≡◌, ℕ, zero, suc, List, [], length, ◌∷◌, ◌++◌, ◌⊎◌, inl, inr, ◌+◌, ◌-◌, ◌*◌, ◌<◌, ◌≤◌, refl, sym, ap, subst, ◌∙◌, arith}
 use Rattle.std.specs.List.{range_with_len}
 use Rattle.std.specs.Prelude.{replicate}

@@ -1,4 +1,4 @@
--- A laid volume holds each of its parts.
+-- A built volume has each of its parts.
 use Rattle.std.proofs.Common.{◌≡◌, ℕ, zero, suc, List, [], ◌∷◌, ◌++◌, inl, inr, ◌+◌, ◌-◌, ◌*◌, ◌^◌, ◌<◌, ◌≤◌, length, refl, sym, subst, arith, true}
 use Rattle.std.specs.List.{range_with_len}
 use Rattle.std.proofs.Common.{append_assoc}

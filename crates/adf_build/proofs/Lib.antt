@@ -1,4 +1,4 @@
--- which blocks are given, and to what
+-- the blocks that are allocated, and their owners
 pub mod FreeBlocks
 pub mod AllocatedBlocks
 pub mod MapExts
@@ -11,7 +11,7 @@ pub mod Order
 -- the bits of pages
 pub mod Bits
 pub mod WholeWords
--- what stands in an image that was laid
+-- the content of a built image
 pub mod EntryBlocks
 pub mod LaidEntries
 pub mod LaidFiles

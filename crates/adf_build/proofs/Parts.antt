@@ -1,4 +1,4 @@
--- Parts that are written one for each number: part j is f j, a block's number and its bytes.
+-- Parts written one for each number: part j is f j, a block's number and its bytes.
 use Rattle.std.proofs.Common.{◌≡◌, ℕ, zero, suc, List, inl, inr, ◌+◌, ◌-◌, ◌<◌, ◌≤◌, length, map, refl, arith}
 use Rattle.std.proofs.lemmas.Bool.{cases_lt}
 use Rattle.std.specs.List.{range_with_len}

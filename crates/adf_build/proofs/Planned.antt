@@ -1,4 +1,4 @@
--- What a planned layout owns: the root, the reserved blocks and a run of free blocks.
+-- The blocks of a planned layout: the root, the reserved blocks and a run of free blocks.
 use Rattle.std.proofs.Common.{◌≡◌, ℕ, suc, List, [], ◌∷◌, ◌++◌, inl, inr, ◌+◌, ◌-◌, ◌<◌, ◌≤◌, length, refl, sym, ap, subst, ◌∙◌, arith, append_assoc}
 use Rattle.std.proofs.lemmas.List.FromFn.{length-range_with_len}
 use Rattle.std.specs.List.{range_with_len}

@@ -1,4 +1,4 @@
--- Each part that is laid is a whole block in the volume.
+-- Each built part is a whole block in the volume.
 use Rattle.std.proofs.Common.{◌≡◌, ℕ, suc, List, [], ◌∷◌, ◌++◌, ◌+◌, ◌-◌, ◌*◌, ◌^◌, ◌<◌, ◌≤◌, length, take, drop, min, refl, arith, Bool, true, false, cond}
 use Rattle.std.proofs.Common.{length-take}
 use Rattle.std.specs.Prelude.{nat_lt, slice_index}

@@ -1,4 +1,4 @@
--- What is laid for a tree as a whole.
+-- The built volume of a tree as a whole.
 use Rattle.std.proofs.Common.{◌≡◌, ◌*◌, ℕ, List, refl, sym, ap, subst}
 use Rattle.std.specs.Prelude.{replicate}
 use Rattle.adf_tree.specs.Bounds.{IsBounded}

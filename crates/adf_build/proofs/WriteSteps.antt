@@ -1,4 +1,4 @@
--- The steps of the loops that write blocks: what is left to write, by its first block.
+-- The steps of the loops that write blocks: the remaining blocks, by the first of them.
 use Rattle.std.proofs.Common.{◌≡◌, ◌<◌, ◌+◌, ◌-◌, ◌*◌, ℕ, suc, List, [], ◌∷◌, ◌++◌, refl, ap, ◌∙◌, arith, length, map, take, drop, min}
 use Rattle.std.specs.Prelude.{slice_index}
 use Rattle.std.specs.List.{range_with_len}

@@ -1,4 +1,4 @@
--- What a laid image holds: each part that was written.
+-- The parts of a built image, as written.
 use Rattle.std.proofs.Common.{◌≡◌, ℕ, suc, List, [], ◌∷◌, ◌++◌, inl, inr, ◌+◌, ◌*◌, length, refl, sym, ap, subst, arith}
 use Rattle.adf_tree.specs.declared.entry.Kind.{Kind}
 use Rattle.adf_tree.specs.declared.entry.Body.{Body}

@@ -1,4 +1,4 @@
--- Which blocks of a laid volume of n blocks are free, and the pages that tell it.
+-- The free blocks of a built volume of n blocks, and its bitmap pages.
 use Rattle.std.specs.Prelude.{ℕ, List, ◌+◌, ◌-◌, ◌*◌, ◌&&◌, ◌||◌, nat_lt, nat_le, not, cond, Bool, map}
 use Rattle.std.specs.List.{range_with_len}
 use Rattle.std.proofs.Common.{zero, suc}
@@ -10,11 +10,11 @@ use Rattle.adf_build.specs.Plan.{reserved}
 unfoldable pub is_used : ℕ → ℕ → ℕ → Bool
 is_used n total b = (nat_le (middle n) b && nat_le b (middle n + reserved n)) || nat_lt (cond (nat_lt b (middle n)) (b - 2) (b - 3 - reserved n)) total
 
--- bit r of a volume is set: block 2 + r is there and not used
+-- bit r of a volume is set: block 2 + r exists and is not used
 abbrev pub is_free_bit : ℕ → ℕ → ℕ → Bool
 is_free_bit n total r = nat_lt (2 + r) n && not (is_used n total (2 + r))
 
--- the number whose bits, the lowest first, are f at q, q + 1, .. , m of them
+-- the number with the m bits f q, f (q + 1), .., the lowest first
 abbrev pub bits_from : (ℕ → Bool) → ℕ → ℕ → ℕ
 bits_from f q zero = 0
 bits_from f q (suc m) = cond (f q) 1 0 + 2 * bits_from f (suc q) m

@@ -1,4 +1,4 @@
--- How the parts of a laid volume stand: ascending, and with no gap.
+-- The order of the parts of a built volume: ascending, without gaps.
 use Rattle.std.specs.Prelude.{◌≡◌, ◌+◌, ◌*◌, ◌<◌, ◌≤◌, ℕ, List, [], ◌∷◌, ◌++◌, length}
 use Rattle.adf_tree.specs.declared.entry.Body.TheVariants.{File}
 use Rattle.adf_tree.specs.declared.entry.Entry.{Entry}
@@ -9,13 +9,13 @@ use Rattle.adf_volume.specs.declared.owner.Owner.{Owner}
 use Rattle.adf_volume.specs.Lists.{At, In}
 use Rattle.adf_volume.specs.Layout.{EntryAt, Layout, Place, exts_of, owned}
 
--- the blocks of entries in order: of each its header, its extension blocks and its data blocks
+-- the blocks of entries in order: for each its header, its extension blocks and its data blocks
 abbrev pub blocks_in_order : List Place → List ℕ
 blocks_in_order [] = []
 blocks_in_order (q ∷ qs) = q.head ∷ ((q.exts ++ q.datas) ++ blocks_in_order qs)
 
--- The pages ascend by one from the block behind the root, the bitmap extension blocks stand directly behind them, each file has as few
--- extension blocks as its table needs, the blocks of the entries ascend, and every block from 2 up to the last of them is owned.
+-- The pages ascend by one from the block after the root, the bitmap extension blocks follow, each file has the fewest
+-- extension blocks for its table, the blocks of the entries ascend, and every block from 2 to their last is owned.
 pub record IsInOrder (image : List ℕ) (t : Tree) (l : Layout) : Type 0 where
   pub pages : (k b : ℕ) → At l.pages k b → b ≡ middle (blocks image) + 1 + k
   pub map_exts : (j b : ℕ) → At l.map_exts j b → b ≡ middle (blocks image) + 1 + length l.pages + j

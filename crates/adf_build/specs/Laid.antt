@@ -1,6 +1,6 @@
--- The image that the builder lays: each part of the volume in its place, and zeros elsewhere. In each definition n is the number of
--- blocks of the volume, t its tree, i the number of an entry, e that entry, k the number of the free block of its header, and c
--- the number of data blocks of a file.
+-- The image that the builder makes: each part of the volume in its place, and zeros elsewhere. n is the number of
+-- blocks of the volume, t its tree, i the number of an entry, e that entry, k the index of its header's free block,
+-- c the number of data blocks of a file.
 use Rattle.std.specs.Prelude.{◌≡◌, ◌≤◌, ℕ, List, [], ◌∷◌, ◌++◌, ◌+◌, ◌-◌, ◌*◌, nat_lt, cond, length, take, drop, map, replicate, slice_index, min, true}
 use Rattle.std.specs.List.{range_with_len}
 use Rattle.std.proofs.Common.{suc}
@@ -34,11 +34,11 @@ abbrev pub first_block : (ℕ → ℕ) → List ℕ → ℕ
 first_block at [] = 0
 first_block at (n ∷ ns) = at n
 
--- what stands in the table or in a next word for the first of m blocks from the k-th free one on: that block, or 0 where m is 0
+-- the k-th free block, or 0 if m is 0: a table word or next word for the first of m blocks
 abbrev pub nth_free_or_none : ℕ → ℕ → ℕ → ℕ
 nth_free_or_none n k m = cond (nat_lt 0 m) (nth_free n k) 0
 
--- what a data block of a kind holds: the bytes, and for OFS the words before them
+-- the bytes of a data block: those of the file, and for OFS the words before them
 abbrev pub data_bytes : Kind → DataFields → List ℕ
 data_bytes Ofs d = data_block d
 data_bytes Ffs d = block_of_fields ((0, d.bytes) ∷ [])
@@ -54,7 +54,7 @@ planned_data n kind k bytes j =
       bytes = take (chunk kind) (drop (chunk kind * j) bytes);
     }
 
--- data block j of a file: behind its header and its extension blocks
+-- data block j of a file, after its header and its extension blocks
 abbrev pub data_part : ℕ → Kind → ℕ → List ℕ → ℕ → ℕ × List ℕ
 data_part n kind k bytes j = (nth_free n (suc k + exts_needed (count kind (length bytes)) + j), data_bytes kind (planned_data n kind k bytes j))
 
@@ -62,7 +62,7 @@ data_part n kind k bytes j = (nth_free n (suc k + exts_needed (count kind (lengt
 abbrev pub data_writes : ℕ → Kind → ℕ → List ℕ → List (ℕ × List ℕ)
 data_writes n kind k bytes = map (data_part n kind k bytes) (range_with_len 0 (count kind (length bytes)))
 
--- the fields of extension block j of a file: it names up to POINTERS data blocks, behind those that the blocks before it name
+-- the fields of extension block j of a file: it points to up to POINTERS data blocks, after those of earlier blocks
 abbrev pub planned_ext : ℕ → ℕ → ℕ → ℕ → ExtFields
 planned_ext n k c j = record {
   own = nth_free n (suc k + j);
@@ -71,7 +71,7 @@ planned_ext n k c j = record {
   next = nth_free_or_none n (suc k + suc j) (exts_needed c - suc j);
 }
 
--- extension block j of a file: behind its header
+-- extension block j of a file, after its header
 abbrev pub ext_part : ℕ → ℕ → ℕ → ℕ → ℕ × List ℕ
 ext_part n k c j = (nth_free n (suc k + j), ext_block (planned_ext n k c j))
 
@@ -94,12 +94,12 @@ planned_body n k kind slots (File bytes) =
 abbrev pub planned_head : ℕ → Spot → BodyFields → Entry → HeadFields
 planned_head n spot body e = record { own = nth_free n spot.k; parent = spot.parent; next = spot.next; name = e.name; meta = e.meta; body = body }
 
--- the blocks of a body, behind its header
+-- the blocks of a body, after its header
 abbrev pub body_writes : ℕ → Kind → ℕ → Body → List (ℕ × List ℕ)
 body_writes n kind k Dir = []
 body_writes n kind k (File bytes) = ext_writes n k (count kind (length bytes)) ++ data_writes n kind k bytes
 
--- the blocks of an entry that has these slots
+-- the blocks of an entry with these slots
 abbrev pub entry_writes : ℕ → Kind → Spot → List ℕ → Entry → List (ℕ × List ℕ)
 entry_writes n kind spot slots e =
     (nth_free n spot.k, head_block (planned_head n spot (planned_body n spot.k kind slots e.body) e)) ∷ body_writes n kind spot.k e.body
@@ -113,7 +113,7 @@ heads_from n kind k (e ∷ es) = nth_free n k ∷ heads_from n kind (k + entry_b
 abbrev pub node_blocks : Tree → ℕ → List ℕ
 node_blocks t n = middle n ∷ heads_from n t.kind 0 t.entries
 
--- where the header of entry i is written and what it names; es are the entries behind it
+-- the place and the pointers of the header of entry i; es are the entries after it
 abbrev pub planned_spot : ℕ → Tree → ℕ → ℕ → Entry → List Entry → Spot
 planned_spot n t i k e es =
     let at = slice_index (node_blocks t n) in
@@ -126,15 +126,15 @@ entries_writes n t i k (e ∷ es) =
     entry_writes n t.kind (planned_spot n t i k e es) (slots_of (node_blocks t n) t.entries i) e
     ++ entries_writes n t (suc i) (k + entry_blocks t.kind e) es
 
--- page j; the first `total` free blocks are taken
+-- page j; the first `total` free blocks are used
 abbrev pub page_part : ℕ → ℕ → ℕ → ℕ × List ℕ
 page_part n total j = (middle n + 1 + j, page_block (page_words n total j))
 
--- what names bitmap extension block j: its block, or 0 where there is none
+-- the pointer to bitmap extension block j: its block, or 0 if there is none
 abbrev pub map_ext_or_none : ℕ → ℕ → ℕ
 map_ext_or_none n j = cond (nat_lt j (map_exts_needed (pages_needed n))) (middle n + 1 + pages_needed n + j) 0
 
--- the pages that bitmap extension block j names: up to MAP_EXT_PAGES, behind those of the root and of the extension blocks before it
+-- the pages of bitmap extension block j: up to MAP_EXT_PAGES, after those of the root and of earlier extension blocks
 abbrev pub listed_pages : ℕ → ℕ → List ℕ
 listed_pages n j =
     range_with_len (middle n + 1 + (ROOT_PAGES + MAP_EXT_PAGES * j)) (min MAP_EXT_PAGES (pages_needed n - (ROOT_PAGES + MAP_EXT_PAGES * j)))
@@ -151,12 +151,12 @@ page_writes n total = map (page_part n total) (range_with_len 0 (pages_needed n)
 abbrev pub map_ext_writes : ℕ → List (ℕ × List ℕ)
 map_ext_writes n = map (map_ext_part n) (range_with_len 0 (map_exts_needed (pages_needed n)))
 
--- the boot block begins with `DOS` and the type
+-- the boot block starts with `DOS` and the type
 abbrev pub boot_bytes : Kind → List ℕ
 boot_bytes Ofs = 0x44 ∷ 0x4F ∷ 0x53 ∷ 0 ∷ []
 boot_bytes Ffs = 0x44 ∷ 0x4F ∷ 0x53 ∷ 1 ∷ []
 
--- the fields of the root: it names its first headers, the first ROOT_PAGES pages and the first bitmap extension block
+-- the fields of the root: it points to its first headers, to ROOT_PAGES pages and to the first bitmap extension block
 abbrev pub planned_root : Tree → ℕ → RootFields
 planned_root t n = record {
   slots = slots_of (node_blocks t n) t.entries 0;
@@ -174,16 +174,16 @@ writes t n =
     ++ (map_ext_writes n
     ++ (middle n, root_block (planned_root t n)) ∷ (0, block_of_fields ((0, boot_bytes t.kind) ∷ [])) ∷ []))
 
--- the volume of n blocks that the builder lays for a tree
+-- the volume of n blocks that the builder makes for a tree
 unfoldable pub volume : Tree → ℕ → List ℕ
 volume t n = with_blocks (replicate (n * 512) 0) (writes t n)
 
--- what holds of every tree: its entries form one, and its fields are within their bounds, so that they fit the fields of blocks
+-- what holds of every tree: the invariant of its entries, and the bounds of its fields, so that they fit in blocks
 pub record IsWellFormed (t : Tree) : Type 0 where
   pub tree : IsTree t.entries
   pub bounds : IsBounded t
 
--- the image is what the builder lays for the tree, whose fields fit, in a volume of an allowed size that has room for it
+-- the image is what the builder makes for the tree, whose fields fit, in an allowed size with room for it
 pub record IsLaid (image : List ℕ) (t : Tree) : Type 0 where
   pub sound : IsWellFormed t
   pub size : is_allowed (blocks image) ≡ true

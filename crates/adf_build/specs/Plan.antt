@@ -1,5 +1,5 @@
--- Where the builder lays the parts of a tree, in a volume of n blocks: the root in the middle, behind it the pages and the bitmap
--- extension blocks. The other blocks from 2 on are free for the entries, ascending in order: the k-th of them is `nth_free n k`.
+-- The plan of a tree in a volume of n blocks: the root in the middle, then the pages, then the bitmap extension
+-- blocks. The other blocks from 2 on are free for the entries, in ascending order: the k-th is `nth_free n k`.
 use Rattle.std.specs.Prelude.{ℕ, List, [], ◌∷◌, ◌≤◌, ◌+◌, ◌-◌, ◌/◌, nat_lt, cond, length}
 use Rattle.std.specs.List.{range_with_len}
 use Rattle.std.proofs.Common.{zero, suc}
@@ -13,29 +13,29 @@ use Rattle.adf_volume.specs.Image.{map_exts_needed}
 use Rattle.adf_blocks.specs.declared.layout.TheConstants.{POINTERS}
 use Rattle.adf_volume.specs.Layout.{Place, Layout}
 
--- the extension blocks that so many data blocks need: the header and each of them name up to POINTERS
+-- the number of extension blocks for this many data blocks: the header and each of them point to up to POINTERS
 unfoldable pub exts_needed : ℕ → ℕ
 exts_needed c = (c - POINTERS + (POINTERS - 1)) / POINTERS
 
--- the data blocks of a body
+-- the number of data blocks of a body
 abbrev pub data_blocks : Kind → Body → ℕ
 data_blocks kind Dir = 0
 data_blocks kind (File bytes) = count kind (length bytes)
 
--- the blocks of an entry: its header, its extension blocks and its data blocks
+-- the number of blocks of an entry: its header, its extension blocks and its data blocks
 abbrev pub entry_blocks : Kind → Entry → ℕ
 entry_blocks kind e = 1 + exts_needed (data_blocks kind e.body) + data_blocks kind e.body
 
--- the blocks of entries
+-- the number of blocks of entries
 abbrev pub entries_blocks : Kind → List Entry → ℕ
 entries_blocks kind [] = 0
 entries_blocks kind (e ∷ es) = entry_blocks kind e + entries_blocks kind es
 
--- the blocks behind the root of a volume of n blocks: the pages and the bitmap extension blocks
+-- the number of reserved blocks after the root of a volume of n blocks: pages and bitmap extension blocks
 unfoldable pub reserved : ℕ → ℕ
 reserved n = pages_needed n + map_exts_needed (pages_needed n)
 
--- the blocks that a tree needs in a volume of n blocks: the root, the reserved ones, and those of its entries
+-- the number of blocks that a tree needs in a volume of n blocks: root, reserved blocks and entries
 abbrev pub blocks_needed : Tree → ℕ → ℕ
 blocks_needed t n = 1 + reserved n + entries_blocks t.kind t.entries
 
@@ -52,7 +52,7 @@ abbrev pub allocated : ℕ → ℕ → ℕ → List ℕ
 allocated n k zero = []
 allocated n k (suc m) = nth_free n k ∷ allocated n (suc k) m
 
--- where an entry with this body lies, whose header is the k-th free block
+-- the place of an entry with this body and its header in the k-th free block
 abbrev pub place_of : ℕ → Kind → ℕ → Body → Place
 place_of n kind k body = record {
   head = nth_free n k;
@@ -60,12 +60,12 @@ place_of n kind k body = record {
   datas = allocated n (suc k + exts_needed (data_blocks kind body)) (data_blocks kind body);
 }
 
--- where entries lie, the first from the k-th free block on
+-- the places of entries, the first from the k-th free block on
 abbrev pub places_from : ℕ → Kind → ℕ → List Entry → List Place
 places_from n kind k [] = []
 places_from n kind k (e ∷ es) = place_of n kind k e.body ∷ places_from n kind (k + entry_blocks kind e) es
 
--- where the builder lays a tree
+-- the layout that the builder gives to a tree
 abbrev pub planned : Tree → ℕ → Layout
 planned t n = record {
   pages = range_with_len (middle n + 1) (pages_needed n);

@@ -1,14 +1,14 @@
--- Blocks written one after the other into an image.
+-- Blocks written one after another into an image.
 use Rattle.std.specs.Prelude.{◌≡◌, ◌<◌, ◌≢◌, ℕ, List, [], ◌∷◌, length}
 use Rattle.adf_fields.specs.Words.{block, with_block}
 use Rattle.adf_volume.specs.Lists.{In}
 
--- an image after these blocks were written, the first of the list first
+-- an image after these blocks are written, in the order of the list
 abbrev pub with_blocks : List ℕ → List (ℕ × List ℕ) → List ℕ
 with_blocks image [] = image
 with_blocks image (p ∷ ps) = with_blocks (with_block image p.0 p.1) ps
 
--- each block lies within n blocks and is whole
+-- each block is within n blocks and has 512 bytes
 abbrev pub AreBlocks : ℕ → List (ℕ × List ℕ) → Type 0
 AreBlocks n [] = Unit {0}
 AreBlocks n (p ∷ ps) = (p.0 < n) × (length p.1 ≡ 512) × AreBlocks n ps

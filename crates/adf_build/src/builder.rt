@@ -1,4 +1,4 @@
-// Building.
+// The builder.
 
 ghost use Rattle.std.specs.Prelude.{◌≡◌, ◌*◌, IfOk, IfErr, OnOk, vec_len};
 ghost use Rattle.adf_volume.specs.Fits.{Fits};
@@ -16,14 +16,14 @@ use std::alloc::Global;
 use std::error::Error;
 use std::fmt;
 
-/// Why no image is built.
+/// Why an image cannot be built.
 #[derive(Clone, Copy, Debug, PartialEq, Eq)]
 pub enum BuildFault {
-    /// No volume has so many blocks.
+    /// The number of blocks is not allowed (even, 4 to 1,048,576).
     BadSize,
-    /// The tree needs more blocks than there are beside the two boot blocks.
+    /// The tree needs more blocks than the volume has, not counting the two boot blocks.
     Full { need: u64, have: u64 },
-    /// A growth was refused.
+    /// An allocation failed.
     NoMemory,
 }
 
@@ -66,8 +66,8 @@ fn fields_fit(tree: &Tree)
     let _count = tree.len();
 }
 
-/// The image of a tree in a volume of so many blocks: the root in the middle, the bitmap pages and bitmap extension blocks behind it,
-/// the entries in order in the blocks that are left, and 0 in every byte that is not asked for.
+/// Builds the image of a tree in a volume of `blocks` blocks: the root in the middle, the bitmap pages and bitmap
+/// extension blocks after it, the entries in walk order in the remaining blocks, and 0 in all other bytes.
 pub fn build(alloc: Global, tree: &Tree, blocks: u32) -> Result<Vec<u8>, BuildFault>
     ensures laid { IfOk result (λ image. IsLaid image.items tree.now) }
     ensures fits { IfOk result (λ image. Fits image.items tree.now (planned tree.now blocks)) }

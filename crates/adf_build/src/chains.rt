@@ -1,4 +1,4 @@
-// The chains of a tree: the entries stand in the order of their parents, and those of one parent in that of their slots.
+// The chains of a tree: entries are ordered by parent, then by slot.
 
 ghost use Rattle.std.specs.Prelude.{◌≡◌, ◌≤◌, ◌<◌, ◌+◌, ◌*◌, ◌∷◌, ◌≢◌, ℕ, length, drop, slice_index};
 ghost use Rattle.std.specs.List.{AllWithin};
@@ -15,14 +15,14 @@ use adf_blocks::SLOTS;
 use adf_fields::slot;
 use adf_tree::{Entry, Tree};
 
-// Whether an entry stands in the chain of another one.
+// Whether two entries are in the same chain.
 fn are_together(entry: &Entry, after: &Entry) -> bool
     ensures { result ≡ in_chain entry.now.parent (slot_of entry.now.name) after.now }
 {
     parent_of(after) == parent_of(entry) && slot(after.name.bytes()) == slot(entry.name.bytes())
 }
 
-/// The block of the directory of the entry at place `i`.
+/// The block of the parent of entry `i + 1`.
 #[tactic(auto, using(crate::proofs::Order::parent_below))]
 pub fn parent_block(tree: &Tree, nodes: &[u32], i: usize, entry: &Entry) -> u32
     requires here { drop i tree.now.entries ≡ entry.now ∷ drop (i + 1) tree.now.entries }
@@ -36,7 +36,7 @@ pub fn parent_block(tree: &Tree, nodes: &[u32], i: usize, entry: &Entry) -> u32
     nodes[parent]
 }
 
-/// The block of the next header in the chain of the entry at place `i`, or 0: that of the next entry or none.
+/// The next header in the chain of entry `i + 1`, or 0: the next entry's header, if that entry is in the same chain.
 #[tactic(auto, using(crate::proofs::Order::next_none, crate::proofs::Order::next_end))]
 pub fn next_of(tree: &Tree, nodes: &[u32], i: usize, entry: &Entry) -> u32
     requires here { drop i tree.now.entries ≡ entry.now ∷ drop (i + 1) tree.now.entries }
@@ -54,7 +54,7 @@ pub fn next_of(tree: &Tree, nodes: &[u32], i: usize, entry: &Entry) -> u32
     }
 }
 
-/// The place behind the children of node `p`, which begin at place `from`.
+/// The index after the children of node `p`, which begin at index `from`.
 pub fn children_end(tree: &Tree, p: usize, from: usize) -> usize
     requires within { from ≤ length tree.now.entries }
     requires low { RisesFrom (72 * p) (drop from tree.now.entries) }
@@ -73,8 +73,8 @@ pub fn children_end(tree: &Tree, p: usize, from: usize) -> usize
     end
 }
 
-/// The slots of node `p`, whose children stand at the places `from` to `end`: the block of the first header of each
-/// chain, or 0. The first of a chain is written last.
+/// The slots of node `p`, with children at the indices from `from` up to `end`: the block of the first header of each
+/// chain, or 0.
 #[tactic(auto, using(crate::proofs::Order::slots_start))]
 pub fn slots_between(
     tree: &Tree,

@@ -10,7 +10,7 @@ use crate::plan::Plan;
 use adf_blocks::{POINTERS, data_count};
 use adf_tree::{Body, Entry, Kind, Node, Tree};
 
-/// The data blocks of a body.
+/// The number of data blocks of a body.
 pub fn data_blocks(kind: Kind, body: &Body) -> usize
     ensures { result ≡ data_blocks kind body.now }
 {
@@ -20,7 +20,7 @@ pub fn data_blocks(kind: Kind, body: &Body) -> usize
     }
 }
 
-/// The extension blocks of so many data blocks.
+/// The number of extension blocks for this many data blocks.
 #[tactic(auto, unfolding(crate::specs::Plan::exts_needed))]
 pub fn ext_count(datas: usize) -> usize
     ensures { result ≡ exts_needed datas }
@@ -28,7 +28,7 @@ pub fn ext_count(datas: usize) -> usize
     datas.saturating_sub(POINTERS).div_ceil(POINTERS)
 }
 
-// A number of blocks and those of an entry, or the greatest number.
+// Adds the blocks of an entry to a sum; `u64::MAX` on overflow.
 fn add_entry(sum: u64, kind: Kind, entry: &Entry) -> u64
     ensures { result ≡ min (sum + entry_blocks kind entry.now) (2 ^ 64 - 1) }
 {
@@ -38,7 +38,7 @@ fn add_entry(sum: u64, kind: Kind, entry: &Entry) -> u64
         .saturating_add(datas as u64)
 }
 
-/// The blocks of all entries, or the greatest number.
+/// The number of blocks of all entries; `u64::MAX` on overflow.
 #[tactic(auto, using(crate::proofs::CountSteps::count_step, crate::proofs::CountSteps::count_goes_on))]
 pub fn count_entries(tree: &Tree) -> u64
     ensures { result ≡ min (entries_blocks tree.now.kind tree.now.entries) (2 ^ 64 - 1) }
@@ -52,8 +52,8 @@ pub fn count_entries(tree: &Tree) -> u64
     sum
 }
 
-/// The blocks that a tree needs in a volume of so many blocks: the root, the bitmap pages and the bitmap extension blocks, and
-/// for each entry its header, extension blocks and data blocks; `u64::MAX` where there are more. None where no volume has so many blocks.
+/// The blocks that a tree needs in a volume of `blocks` blocks: the root, the bitmap pages, the bitmap extension
+/// blocks and all blocks of the entries; `u64::MAX` on overflow. `None` if the number of blocks is not allowed.
 pub fn need(tree: &Tree, blocks: u32) -> Option<u64>
     ensures { SomeIff result (is_allowed blocks ≡ true) (need_of tree.now blocks) }
 {

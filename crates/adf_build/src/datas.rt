@@ -15,7 +15,7 @@ use adf_blocks::{DataOut, chunk_len, data_count, write_data};
 use adf_fields::{put_block, put_bytes};
 use adf_tree::Kind;
 
-// The 512 bytes of an FFS data block: the bytes held, and 0 behind them.
+// The 512 bytes of an FFS data block: the bytes held, then zeros.
 fn bare_block(held: &[u8]) -> [u8; 512]
     requires { length held.now ≤ 512 }
     ensures { result ≡ block_of_fields ((0, held.now) ∷ []) }
@@ -25,7 +25,7 @@ fn bare_block(held: &[u8]) -> [u8; 512]
     block
 }
 
-// Writes a data block of a kind.
+// Writes a data block of this kind.
 #[tactic(auto, unfolding(adf_blocks::specs::Sizes::chunk))]
 fn write_one(image: &mut [u8], b: u32, kind: Kind, data: &DataOut<'_>)
     requires whole { b * 512 + 512 ≤ length image.old }
@@ -38,7 +38,7 @@ fn write_one(image: &mut [u8], b: u32, kind: Kind, data: &DataOut<'_>)
     }
 }
 
-/// Writes the data blocks of a file whose header is the `k`-th free block, behind its extension blocks.
+/// Writes the data blocks of a file with its header in the `k`-th free block; they follow its extension blocks.
 #[tactic(auto, using(crate::proofs::FreeBlocks::free_fits))]
 pub fn write_datas(image: &mut [u8], plan: Plan, kind: Kind, k: u32, bytes: &[u8])
     requires whole { length image.old ≡ plan.blocks * 512 }

@@ -13,7 +13,7 @@ use crate::nodes::{entry_at, next_free};
 use crate::plan::Plan;
 use adf_tree::Tree;
 
-/// Writes the blocks of all entries; the children of the root stand before place `first`.
+/// Writes the blocks of all entries; the children of the root have indices below `first`.
 #[tactic(auto, using(crate::proofs::WriteSteps::nodes_length))]
 pub fn write_entries(image: &mut [u8], tree: &Tree, plan: Plan, nodes: &[u32], first: usize)
     requires room { IsBuildable tree.now plan.blocks }

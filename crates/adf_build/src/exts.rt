@@ -9,8 +9,8 @@ use crate::counting::ext_count;
 use crate::plan::Plan;
 use adf_blocks::{ExtOut, POINTERS, write_ext};
 
-/// Writes the extension blocks of a file of so many data blocks whose header is the `k`-th free block: they stand behind
-/// the header, and name the data blocks that it does not.
+/// Writes the extension blocks of a file with `datas` data blocks and its header in the `k`-th free block. They follow
+/// the header, and point to the data blocks that it does not point to.
 #[tactic(auto, using(crate::proofs::FreeBlocks::free_fits))]
 pub fn write_exts(image: &mut [u8], plan: Plan, k: u32, datas: usize)
     requires whole { length image.old ≡ plan.blocks * 512 }

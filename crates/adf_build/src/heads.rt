@@ -15,8 +15,8 @@ use crate::plan::Plan;
 use adf_blocks::{HeadOut, HeadOutBody, POINTERS, SLOTS, write_head};
 use adf_tree::{Body, Entry, Kind};
 
-/// Where the header of an entry is written and what it names: its place among the free blocks, the block of its
-/// directory, and the next header of its chain or 0.
+/// The place of a header and its pointers: the index among the free blocks, the block of the directory, and the next
+/// header of the chain or 0.
 #[derive(Clone, Copy)]
 pub struct Spot {
     pub k: u32,

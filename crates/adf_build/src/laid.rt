@@ -1,4 +1,4 @@
-// The laws of what is laid. Each is the contract of a function that does nothing.
+// The laws of built volumes. Each is the contract of a function that does nothing at run time.
 
 ghost use Rattle.std.specs.Prelude.{◌≡◌, ◌≤◌, ◌<◌, ◌↔◌, ℕ, List, ◌+◌, ◌-◌, ◌*◌, length, replicate, true};
 ghost use Rattle.adf_fields.specs.Words.{block};
@@ -14,7 +14,7 @@ ghost use Rattle.adf_build.specs.Plan.{blocks_needed, exts_needed, planned};
 ghost use Rattle.adf_build.specs.Writes.{numbers_of};
 ghost use Rattle.adf_build.specs.Laid.{IsLaid, IsWellFormed, writes, volume};
 
-/// The planned layout owns as many blocks as the tree needs, none twice, and all in range where there is room.
+/// The planned layout owns as many blocks as the tree needs, none twice, and all in range if there is room.
 #[tactic(auto, using(crate::proofs::Planned::planned_count, crate::proofs::Planned::planned_once, crate::proofs::Planned::planned_range))]
 pub fn planned_blocks()
     ensures count { (image : List ℕ) (t : Tree)
@@ -26,13 +26,13 @@ pub fn planned_blocks()
         → In (owned image (planned t (blocks image))) (o, b) → (2 ≤ b) × (b < blocks image) }
 {}
 
-/// What is laid for a tree fits it, as it was planned.
+/// A built image fits its tree, in the planned layout.
 pub fn laid_fits()
     ensures { (image : List ℕ) (t : Tree) → IsLaid image t
         → Fits image t (planned t (blocks image)) }
 {}
 
-/// A tree whose fields are within their limits is laid in every allowed size that has room for it.
+/// A tree with its fields within their bounds can be built in every allowed size that has room for it.
 #[tactic(auto, using(crate::proofs::WholeVolume::volume_laid, crate::proofs::LaidWrites::volume_blocks))]
 pub fn volumes_are_laid()
     ensures laid { (t : Tree) (n : ℕ) → IsWellFormed t → is_allowed n ≡ true
@@ -41,19 +41,19 @@ pub fn volumes_are_laid()
         → blocks_needed t n ≤ n - 2 → blocks (volume t n) ≡ n }
 {}
 
-/// A file has as few extension blocks as name its data blocks, of which its header and each of them name up to 72.
+/// A file has the fewest extension blocks for its data blocks: the header and each extension block point to up to 72.
 #[tactic(auto, unfolding(crate::specs::Plan::exts_needed))]
 pub fn extensions_are_few()
     ensures { (count exts : ℕ) → (count ≤ POINTERS * (1 + exts)) ↔ (exts_needed count ≤ exts) }
 {}
 
-/// For a tree and a size at most one image is laid.
+/// For a tree and a size there is at most one built image.
 pub fn one_laid()
     ensures { (image other : List ℕ) (t : Tree) → IsLaid image t → IsLaid other t
         → blocks image ≡ blocks other → image ≡ other }
 {}
 
-/// A laid image has room for as many blocks as its tree needs, beside the two boot blocks.
+/// A built image has room for the blocks that its tree needs and the two boot blocks.
 #[tactic(auto, using(crate::proofs::Planned::planned_count))]
 pub fn laid_room()
     ensures needed { (image : List ℕ) (t : Tree) → IsLaid image t
@@ -62,7 +62,7 @@ pub fn laid_room()
         → length (owned image (planned t (blocks image))) ≤ blocks image - 2 }
 {}
 
-/// Each part of a laid image stands in its block, and all else is zeros.
+/// Each part of a built image is in its block, and all other bytes are 0.
 #[tactic(auto, using(crate::proofs::LaidOrder::rest_zero))]
 pub fn laid_bytes()
     ensures part { (image : List ℕ) (t : Tree) → IsLaid image t → (b : ℕ) (bytes : List ℕ)
@@ -72,9 +72,9 @@ pub fn laid_bytes()
         → block image b ≡ replicate 512 0 }
 {}
 
-/// A laid image lies in order: the pages ascend by one from the block behind the root, the bitmap extension blocks stand directly
-/// behind them, each file has as few extension blocks as its table needs, the blocks of the entries ascend in walk order, and every
-/// block from 2 up to the last of them is owned.
+/// A built image is in order: the pages ascend by one from the block after the root, the bitmap extension blocks
+/// follow, each file has the fewest extension blocks for its table, the blocks of the entries ascend in walk order,
+/// and every block from 2 up to the last of them is owned.
 #[tactic(auto, using(crate::proofs::LaidOrder::in_order))]
 pub fn laid_in_order()
     ensures { (image : List ℕ) (t : Tree) → IsLaid image t

@@ -1,4 +1,4 @@
-//! Builds the image of an Amiga volume from a tree; the laws of what is laid.
+//! Builds the image of an Amiga volume from a tree; the laws of built images.
 #![tactic(auto)]
 
 mod builder;

@@ -7,7 +7,7 @@ ghost use Rattle.adf_build.specs.Writes.{with_blocks};
 use crate::plan::Plan;
 use adf_blocks::{MAP_EXT_PAGES, ROOT_PAGES, write_map_ext};
 
-/// Writes the bitmap extension blocks of a volume, behind its pages: each names up to 127 pages and the next one.
+/// Writes the bitmap extension blocks of a volume, after its pages: each points to up to 127 pages and the next one.
 #[tactic(auto, using(crate::proofs::MapExts::map_exts_few))]
 pub fn write_map_exts(image: &mut [u8], plan: Plan)
     requires { length image.old ≡ plan.blocks * 512 }

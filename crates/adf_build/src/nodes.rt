@@ -10,7 +10,7 @@ use crate::plan::Plan;
 use adf_tree::{Entry, Kind, Node, Tree};
 use std::alloc::{AllocError, Global};
 
-/// The entry at place `i`, which is node `i + 1`.
+/// The entry at index `i`, which is node `i + 1`.
 #[tactic(auto, using(crate::proofs::CountSteps::entry_left))]
 pub fn entry_at(tree: &Tree, i: usize) -> &Entry
     requires { i < length tree.now.entries }
@@ -21,14 +21,14 @@ pub fn entry_at(tree: &Tree, i: usize) -> &Entry
     tree.entry(Node(i + 1)).unwrap()
 }
 
-/// The number of the directory of an entry.
+/// The number of the parent of an entry.
 pub fn parent_of(entry: &Entry) -> usize
     ensures { result ≡ entry.now.parent }
 {
     entry.parent.0
 }
 
-/// The number of the free block behind those of an entry whose header is the `k`-th one.
+/// The index of the free block after those of an entry with its header in the `k`-th.
 pub fn next_free(k: u32, kind: Kind, entry: &Entry) -> u32
     requires { k + entry_blocks kind entry.now < 2 ^ 30 }
     ensures { result ≡ k + entry_blocks kind entry.now }

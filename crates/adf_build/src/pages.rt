@@ -8,7 +8,7 @@ ghost use Rattle.adf_build.specs.Writes.{with_blocks};
 use crate::plan::Plan;
 use adf_blocks::{PAGE_BITS, PAGE_WORDS, write_page};
 
-// Whether block `b` is the root, a reserved block behind it or one of the first `total` free blocks.
+// Whether block `b` is the root, a reserved block after it or one of the first `total` free blocks.
 #[tactic(auto, using(crate::proofs::FreeBlocks::used_low, crate::proofs::FreeBlocks::used_high))]
 fn is_used_block(plan: Plan, total: u32, b: u32) -> bool
     ensures { result ≡ is_used plan.blocks total b }
@@ -20,8 +20,8 @@ fn is_used_block(plan: Plan, total: u32, b: u32) -> bool
     b <= plan.root() + reserved || b.saturating_sub(3 + reserved) < total
 }
 
-// The word of the bits of 32 blocks, of which the first is `2 + q`, where all of them are in use or all are free: on each
-// side of the root the blocks in use come first.
+// The bits of the 32 blocks from `2 + q` on, if all are in use or all are free: on each side of the root the blocks in
+// use come first.
 #[tactic(auto, using(crate::proofs::WholeWords::all_free))]
 fn whole_word(plan: Plan, total: u32, q: u32) -> Option<u32>
     requires { q < 2 ^ 30 }
@@ -44,7 +44,7 @@ fn whole_word(plan: Plan, total: u32, q: u32) -> Option<u32>
     None
 }
 
-// The word of the bits of 32 blocks, of which the first is `2 + q`, bit by bit.
+// The bits of the 32 blocks from `2 + q` on, one by one.
 #[tactic(auto, using(crate::proofs::Bits::bits_step, crate::proofs::Bits::bits_fit, crate::proofs::Bits::bits_start))]
 fn mixed_word(plan: Plan, total: u32, q: u32) -> u32
     requires { q < 2 ^ 30 }
@@ -61,7 +61,7 @@ fn mixed_word(plan: Plan, total: u32, q: u32) -> u32
     word
 }
 
-// The word of the bits of 32 blocks, of which the first is `2 + q`.
+// The bits of the 32 blocks from `2 + q` on.
 fn page_word(plan: Plan, total: u32, q: u32) -> u32
     requires { q < 2 ^ 30 }
     ensures { result ≡ bits_from (is_free_bit plan.blocks total) q 32 }
@@ -85,7 +85,7 @@ fn words_of_page(plan: Plan, total: u32, j: u32) -> [u32; PAGE_WORDS]
     words
 }
 
-/// Writes the bitmap pages behind the root of a volume that gives its first `total` blocks to entries.
+/// Writes the bitmap pages of a volume whose entries use the first `total` free blocks.
 pub fn write_pages(image: &mut [u8], plan: Plan, total: u32)
     requires { length image.old ≡ plan.blocks * 512 }
     ensures { image.new ≡ with_blocks image.old (page_writes plan.blocks total) }

@@ -1,4 +1,4 @@
-// Where the parts of a volume lie.
+// The plan of a volume: where its parts are.
 
 ghost use Rattle.std.specs.Prelude.{◌≡◌, ◌≤◌, ◌<◌, ◌+◌, ◌-◌, ◌^◌, false, true, min, take, IfSome, IfNone};
 ghost use Rattle.std.specs.List.{range_with_len};
@@ -9,7 +9,7 @@ ghost use Rattle.adf_build.specs.Plan.{nth_free, reserved, allocated};
 
 use adf_blocks::{MAP_EXT_PAGES, POINTERS, ROOT_PAGES, is_allowed_size, page_count};
 
-/// A volume of so many blocks: its root in the middle, the bitmap pages behind it, behind them the bitmap extension blocks; the
+/// A volume of `blocks` blocks: the root in the middle, then the bitmap pages, then the bitmap extension blocks; all
 /// other blocks from 2 on are free for entries.
 #[derive(Clone, Copy)]
 pub struct Plan {
@@ -18,7 +18,7 @@ pub struct Plan {
 }
 
 impl Plan {
-    /// The plan of a volume of so many blocks. None where no volume has so many.
+    /// The plan of a volume of `blocks` blocks; `None` if that number is not allowed.
     pub fn new(blocks: u32) -> Option<Plan>
         ensures some { IfSome result (λ plan. plan.blocks ≡ blocks) }
         ensures none { IfNone result (is_allowed blocks ≡ false) }
@@ -37,7 +37,7 @@ impl Plan {
         self.blocks / 2
     }
 
-    /// The bitmap pages of the volume, 1 to 259.
+    /// The number of bitmap pages, 1 to 259.
     pub fn pages(self) -> u32
         ensures exact { result ≡ pages_needed self.blocks }
         ensures few { result ≤ 259 }
@@ -53,7 +53,7 @@ impl Plan {
         self.root() + 1 + j
     }
 
-    /// A table that begins with the blocks of `m` bitmap pages, from page `j` on.
+    /// A table that starts with the blocks of `m` bitmap pages, from page `j` on.
     #[tactic(auto, using(crate::proofs::Ranges::range_step))]
     pub fn page_table<const N: usize>(self, j: u32, m: usize) -> [u32; N]
         requires short { m ≤ N }
@@ -67,7 +67,7 @@ impl Plan {
         table
     }
 
-    /// The bitmap extension blocks of the volume: the root names 25 pages, each of these 127 more.
+    /// The number of bitmap extension blocks: the root points to 25 pages, each of these to 127 more.
     #[tactic(auto, unfolding(adf_volume::specs::Image::map_exts_needed))]
     pub fn map_exts(self) -> u32
         ensures { result ≡ map_exts_needed (pages_needed self.blocks) }
@@ -85,7 +85,7 @@ impl Plan {
         self.page(self.pages()) + j
     }
 
-    /// The block of bitmap extension block `j`, 0 where there is none.
+    /// The block of bitmap extension block `j`; 0 if there is none.
     pub fn map_ext_or_none(self, j: u32) -> u32
         requires { j < 2 ^ 30 }
         ensures { result ≡ map_ext_or_none self.blocks j }
@@ -97,7 +97,7 @@ impl Plan {
         }
     }
 
-    /// The blocks behind the root: the bitmap pages and the bitmap extension blocks.
+    /// The number of reserved blocks after the root: bitmap pages and bitmap extension blocks.
     #[tactic(auto, unfolding(crate::specs::Plan::reserved), using(crate::proofs::FreeBlocks::reserved_few))]
     pub fn reserved(self) -> u32
         ensures exact { result ≡ reserved self.blocks }
@@ -106,7 +106,7 @@ impl Plan {
         self.pages() + self.map_exts()
     }
 
-    /// The blocks of the root, of what is reserved behind it and of so many for entries, or the greatest number.
+    /// The number of blocks of the root, the reserved blocks and `entries` more; `u64::MAX` on overflow.
     pub fn need(self, entries: u64) -> u64
         ensures { result ≡ min (1 + reserved self.blocks + entries) (2 ^ 64 - 1) }
     {
@@ -126,7 +126,7 @@ impl Plan {
         }
     }
 
-    /// The `k`-th free block where blocks are left, 0 where none is.
+    /// The `k`-th free block if `left` is above 0, otherwise 0.
     pub fn nth_free_or_none(self, k: u32, left: u32) -> u32
         requires { k < 2 ^ 30 }
         ensures { result ≡ nth_free_or_none self.blocks k left }
@@ -134,7 +134,7 @@ impl Plan {
         if left > 0 { self.nth_free(k) } else { 0 }
     }
 
-    /// A table that begins with `m` free blocks, from the `k`-th on.
+    /// A table that starts with `m` free blocks, from the `k`-th on.
     #[tactic(auto, using(crate::proofs::FreeBlocks::allocated_step))]
     pub fn table_of(self, k: u32, m: usize) -> [u32; POINTERS]
         requires room { k < 2 ^ 29 }

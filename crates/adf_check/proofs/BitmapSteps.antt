@@ -1,4 +1,4 @@
--- The steps along the bitmap, and what the reader knows at its end.
+-- The steps along the bitmap, and the facts known at its end.
 use Rattle.adf_check.specs.Fault.{IsTrueFault}
 use Rattle.std.proofs.Common.{◌≡◌, ◌≢◌, inl, inr, ℕ, zero, suc, List, ◌++◌, ◌+◌, ◌-◌, ◌*◌, ◌/◌, ◌%◌, ◌<◌, ◌≤◌, refl, sym, ap, subst, ◌∙◌, arith}
 use Rattle.std.proofs.Common.{Bool, true, false}

@@ -1,4 +1,4 @@
--- One step of a reader: the role that comes next is claimed and kept, or it is refused, and that is the first fault.
+-- One step of a check: the next role is claimed and kept, or refused as the first fault.
 use Rattle.adf_check.specs.Claims.{InRange, IsClaimFault}
 use Rattle.std.proofs.Common.{◌≡◌, ℕ, suc, List, [], ◌∷◌, ◌++◌, ◌+◌, ◌<◌, length, set, inl, inr, refl, sym, ap, subst, ◌∙◌, arith, Result, Ok, Err}
 use Rattle.std.specs.Prelude.{IfErr, IsOk, OnOk}

@@ -1,4 +1,4 @@
--- The blocks of each file stand together in the flat lists of a walk.
+-- The blocks of each file are adjacent in the flat lists of a walk.
 use Rattle.std.proofs.Common.{◌≡◌, ℕ, suc, List, [], ◌∷◌, ◌++◌, inl, inr, ◌<◌, ◌≤◌, length, refl, sym, ap, ◌∙◌, arith, Bool, true, false}
 use Rattle.std.proofs.Common.{cond, take, drop, append_assoc, Option, Some, None}
 use Rattle.std.specs.Prelude.{◌==◌, ◌||◌, is_some, nat_lt, not}

@@ -1,4 +1,4 @@
--- what is kept, and where a reader is
+-- the store and the position of a check
 pub mod CursorMoves
 pub mod FileBlocks
 pub mod HeaderBodies
@@ -16,7 +16,7 @@ pub mod BitmapSteps
 -- numbers that fit their types
 pub mod WalkLengths
 pub mod NumberBounds
--- what is told of a checked volume
+-- the facts about a checked volume
 pub mod StoreStands
 pub mod RowLaws
 pub mod VolumeCounts

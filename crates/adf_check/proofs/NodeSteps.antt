@@ -1,4 +1,4 @@
--- The steps along the nodes: each is begun, and what its header names is read.
+-- The steps along the nodes: each is begun, then the parts that its header points to are read.
 use Rattle.std.proofs.Common.{◌≡◌, ◌≢◌, inl, inr, ℕ, suc, ◌-◌, List, [], ◌∷◌, ◌<◌, ◌≤◌, length, get_or, refl, sym, ap, subst, ◌∙◌, arith}
 use Rattle.adf_blocks.specs.declared.layout.TheConstants.{EXTENSION, SECONDARY_TYPE, ST_DIR}
 use Rattle.adf_blocks.specs.Sizes.{blocks}

@@ -1,4 +1,4 @@
--- The numbers of blocks, nodes and parts have 32 bits.
+-- The numbers of blocks, nodes and parts fit in 32 bits.
 use Rattle.std.proofs.Common.{◌≡◌, ℕ, List, ◌+◌, ◌^◌, ◌<◌, ◌≤◌, length, ap, arith}
 use Rattle.std.specs.Prelude.{is_some}
 use Rattle.std.proofs.lemmas.List.Sums.{count_by-le-length}

@@ -1,4 +1,4 @@
--- Tables of owners: a new one, and one with one claim more.
+-- Tables of owners: a new one, and one after another claim.
 use Rattle.std.proofs.Common.{◌≡◌, ℕ, suc, List, ◌∷◌, ◌+◌, ◌-◌, ◌<◌, ◌≤◌, length, get_or, replicate, map, set, true, refl, sym, subst, ap, ◌∙◌, zero, arith}
 use Rattle.std.proofs.lemmas.List.{get_or-map, length-map, map-set}
 use Rattle.std.proofs.lemmas.Grind.{common_steps}

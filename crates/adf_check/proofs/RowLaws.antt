@@ -1,4 +1,4 @@
--- A row tells what the tree has of its entry.
+-- A row agrees with its entry in the tree.
 use Rattle.std.proofs.Common.{Bool, true, false, if◌then◌else◌, ◌≡◌, ℕ, suc, List, ◌<◌, length, refl, sym, ap, subst, ◌∙◌, arith, rules, Some}
 use Rattle.std.specs.Prelude.{nat_le, option_map, slice_index, ◌==◌}
 use Rattle.std.proofs.lemmas.Bool.{and_parts}

@@ -1,4 +1,4 @@
--- What is kept of a whole walk tells of the tree and the layout that fit.
+-- The store of a whole walk stands for the tree and the layout that fit.
 use Rattle.std.proofs.Common.{◌≡◌, ◌≢◌, ◌⊎◌, ℕ, suc, List, inl, inr, length, refl, sym, ap, ◌∙◌, take, drop}
 use Rattle.adf_tree.specs.declared.entry.Entry.{Entry}
 use Rattle.adf_volume.specs.declared.owner.Owner.{Owner}

@@ -1,4 +1,4 @@
--- What is kept tells of a walk: with one member more.
+-- The store still matches a walk with one more member.
 use Rattle.std.proofs.Common.{◌≡◌, ℕ, suc, List, [], ◌∷◌, ◌++◌, inl, inr, ◌<◌, ◌≤◌, ◌≢◌, length, Option, refl, sym, ap, subst, ◌∙◌, arith, set}
 use Rattle.std.proofs.Common.{length-set, get_or-set_same, get_or-set_other, cond}
 use native.Mathlib.Decide.{ℕ_discrete}

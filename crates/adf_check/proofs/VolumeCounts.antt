@@ -1,4 +1,4 @@
--- The numbers of a volume are those of its tree and layout.
+-- The counts of a volume are those of its tree and layout.
 use Rattle.std.proofs.Common.{◌≡◌, ℕ, suc, List, [], ◌∷◌, ◌+◌, ◌-◌, ◌<◌, length, get_or, count_by, cond, Bool, refl, sym, ap, subst, ◌∙◌, arith}
 use Rattle.std.specs.Prelude.{◌==◌, not}
 use Rattle.std.proofs.lemmas.List.Filters.{length-filter_both}

@@ -1,4 +1,4 @@
--- A walk is as long as the list of what its layout owns, and no list of its blocks is longer.
+-- A walk is as long as the list of blocks that its layout owns; no list of its blocks is longer.
 use Rattle.std.proofs.Common.{◌≡◌, ◌≢◌, ℕ, suc, List, [], ◌∷◌, inl, inr, ◌≤◌, length, Bool, refl, sym, ap, subst, ◌∙◌, arith}
 use Rattle.std.proofs.lemmas.Grind.{common_steps}
 use Rattle.adf_volume.specs.Layout.{owned}

@@ -1,4 +1,4 @@
--- Claims of blocks that are named by words.
+-- Claims of blocks that a word points to.
 use Rattle.std.specs.Prelude.{◌≡◌, ◌≢◌, ◌⊎◌, ◌≤◌, ◌<◌, ℕ, List, length}
 use Rattle.adf_blocks.specs.declared.cause.Cause.TheVariants.{OutOfRange, Taken}
 use Rattle.adf_volume.specs.declared.owner.Owner.{Owner}
@@ -7,11 +7,11 @@ use Rattle.adf_check.specs.Fault.{fault}
 use Rattle.adf_check.specs.Store.{owner_at}
 use Rattle.adf_check.specs.declared.fault.Fault.{Fault}
 
--- block b is one that a part of a volume of n blocks may have
+-- block b may belong to a part of a volume of n blocks
 abbrev pub InRange : ℕ → ℕ → Type 0
 InRange n b = (2 ≤ b) × (b < n)
 
--- why block b, which a word of block `holder` names, is not claimed: it is out of range, or it has an owner
+-- why block b, which a word of block `holder` points to, cannot be claimed: it is out of range, or it has an owner
 abbrev pub IsClaimFault : List Owner → ℕ → ℕ → Fault → Type 0
 IsClaimFault owners holder b f =
     ((InRange (length owners) b → ⊥) × (f ≡ fault holder OutOfRange))

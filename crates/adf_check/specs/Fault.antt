@@ -15,7 +15,7 @@ fault b c = record { block = b; cause = c }
 abbrev pub fault_text : Fault → List ℕ
 fault_text f = codes "block " ++ (decimal f.block ++ (codes ": " ++ cause_text f.cause))
 
--- the fault is the first one of the image, or memory was refused, and then it names block 0
+-- the fault is the first one of the image, or NoMemory at block 0
 pub record IsTrueFault (image : List ℕ) (f : Fault) : Type 0 where
   pub first : f.cause ≢ NoMemory → FirstFault image f.block f.cause
   pub memory : f.cause ≡ NoMemory → f.block ≡ 0

@@ -1,9 +1,9 @@
--- what a reader keeps, where it is, and the states that it goes through
+-- the state of a check, its position, and the states that it passes through
 pub mod Store
 pub mod Cursor
 pub mod Reading
 pub mod Progress
--- what its answer stands for
+-- what its result stands for
 pub mod StoreStands
 pub mod Volumes
 -- faults and claims
@@ -11,12 +11,11 @@ pub mod Fault
 pub mod Owners
 pub mod NarrowOwner
 pub mod Claims
--- what is read
+-- the parts that are read
 pub mod Pages
 pub mod Datas
--- what is told
+-- the results
 pub mod Lookup
 pub mod Rows
 pub mod Pieces
 pub mod Rebuild
--- images to try the states on

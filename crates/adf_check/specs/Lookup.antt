@@ -3,7 +3,7 @@ use Rattle.std.specs.Prelude.{ℕ, Option, Some, None}
 use Rattle.adf_volume.specs.declared.owner.Owner.{Owner}
 use Rattle.adf_volume.specs.declared.owner.Owner.TheVariants.{Head}
 
--- the node whose header the owner of a block tells
+-- the node of the header that the owner of a block is
 abbrev pub headed : Owner → Option ℕ
 headed (Head n) = Some n
 headed _ = None

@@ -1,4 +1,4 @@
--- The bitmap pages that were read.
+-- The bitmap pages as read.
 use Rattle.std.specs.Prelude.{◌≡◌, ◌≢◌, ◌⊎◌, Bool, true, false, ℕ, List, ◌+◌, ◌-◌, ◌%◌, ◌<◌, ◌==◌, cond, nat_lt, length, slice_index}
 use Rattle.adf_blocks.specs.declared.layout.TheConstants.{FIRST_MAP_EXT, FIRST_PAGE, MAP_EXT_NEXT, MAP_EXT_PAGES, ROOT_PAGES}
 use Rattle.adf_blocks.specs.Sizes.{blocks}
@@ -10,20 +10,20 @@ use Rattle.adf_check.specs.Store.{owner_at}
 use Rattle.adf_check.specs.Fault.{fault}
 use Rattle.adf_check.specs.declared.fault.Fault.{Fault}
 
--- the word that names page i, in the root or in a bitmap extension block
+-- the word that points to page i, in the root or in a bitmap extension block
 abbrev pub index_of_page : ℕ → ℕ
 index_of_page i = cond (nat_lt i ROOT_PAGES) (FIRST_PAGE + i) ((i - ROOT_PAGES) % MAP_EXT_PAGES)
 
--- the word that names the bitmap extension block of page i, the first of its pages, in the root or in the bitmap extension block before
+-- the word that points to the bitmap extension block whose first page is i, in the root or the extension block before
 abbrev pub index_of_map_ext : ℕ → ℕ
 index_of_map_ext i = cond (i == ROOT_PAGES) FIRST_MAP_EXT MAP_EXT_NEXT
 
--- these are the blocks of the first k pages, and the image has them
+-- these are the blocks of the first k pages, and they are inside the image
 pub record AreListed (image : List ℕ) (pages : List ℕ) (k : ℕ) : Type 0 where
   pub listed : IsListed image pages k
   pub inside : (i : ℕ) → i < length pages → slice_index pages i < blocks image
 
--- what the bitmap tells of block b is not what the owners do
+-- the bit of block b disagrees with its owner
 abbrev pub IsBitFault : List Owner → ℕ → Bool → Fault → Type 0
 IsBitFault owners b is_free f =
     ((is_free ≡ false) × (owner_at owners b ≡ Free) × (f ≡ fault b LostBlock)) ⊎ ((is_free ≡ true) × (owner_at owners b ≢ Free) × (f ≡ fault b OwnedFree))

@@ -8,7 +8,7 @@ use Rattle.adf_tree.specs.Tree.{Tree, entry}
 use Rattle.adf_volume.specs.Image.{pieces}
 use Rattle.adf_volume.specs.Layout.{Layout, datas_of}
 
--- the pieces of a file whose data blocks are these, one of each; none of a directory
+-- the pieces of a file with these data blocks, one for each; none for a directory
 abbrev pub pieces_in : List ℕ → Kind → List ℕ → Body → Option (List (List ℕ))
 pieces_in image kind datas Dir = None
 pieces_in image kind datas (File bytes) = Some (pieces image kind (length bytes) 1 datas)
@@ -22,7 +22,7 @@ pieces_of image kind datas (Some e) = pieces_in image kind datas e.body
 abbrev pub pieces_at : List ℕ → Tree → Layout → ℕ → Option (List (List ℕ))
 pieces_at image t l n = pieces_of image t.kind (datas_of l n) (entry t.entries n)
 
--- the bytes of a file, none of a directory
+-- the bytes of a file, none for a directory
 abbrev pub body_bytes : Body → Option (List ℕ)
 body_bytes Dir = None
 body_bytes (File bytes) = Some bytes

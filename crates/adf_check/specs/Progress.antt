@@ -1,20 +1,20 @@
--- How far a reader is: what it may still claim, and the looks that are enough for that.
+-- The progress of a check: the blocks it may still claim, and the looks that are enough for them.
 use Rattle.std.specs.Prelude.{◌≤◌, ◌-◌, ◌+◌, ◌*◌, ℕ, length}
 use Rattle.adf_check.specs.Owners.{owned_count}
 use Rattle.adf_check.specs.declared.store.Store.{Store}
 
--- the blocks that may still be claimed, and two more
+-- the number of blocks that may still be claimed, plus two
 abbrev pub left : Store → ℕ
 left s = length s.owners - owned_count s.owners
 
--- and the headers that are kept beside them
+-- the same plus the number of headers kept
 abbrev pub left_with_headers : Store → ℕ
 left_with_headers s = left s + length s.headers.items
 
--- the later store has what the store has, and no more blocks and headers than it could get
+-- the later store extends the earlier one, by no more blocks and headers than it could claim
 abbrev pub IsFurther : Store → Store → Type 0
 IsFurther s later = (left_with_headers later ≤ left_with_headers s) × (length s.headers.items ≤ length later.headers.items)
 
--- enough looks are left: 5 for each block without an owner, 2 for each node that is not begun, one for each block, and so many more
+-- enough looks remain: 5 for each block without owner, 2 for each node not begun, 1 for each block, and `more`
 abbrev pub IsPaid : Store → ℕ → ℕ → Type 0
 IsPaid s looks more = 5 * left s + 2 * (length s.headers.items + 1 - length s.starts.items) + length s.owners + more ≤ looks

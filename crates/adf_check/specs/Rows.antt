@@ -1,4 +1,4 @@
--- What is told of entries.
+-- The rows of entries.
 use Rattle.std.specs.Prelude.{ℕ, List, length}
 use Rattle.adf_blocks.specs.declared.layout.TheConstants.{NAME}
 use Rattle.adf_tree.specs.declared.entry.Body.{Body}
@@ -12,20 +12,20 @@ use Rattle.adf_check.specs.declared.row.Row.{Row}
 use Rattle.adf_check.specs.declared.row.RowBody.{RowBody}
 use Rattle.adf_check.specs.declared.row.RowBody.TheVariants.{Dir, File}
 
--- what the body of a header tells
+-- the body of a row, from the body of a header
 abbrev pub row_body : HeadBody → RowBody
 row_body HeadDir = Dir
 row_body (HeadFile size ext) = File size
 
--- what a header tells of its entry
+-- the row of an entry, from its header
 abbrev pub row_in : ℕ → List ℕ → Row
 row_in parent b = record { parent = parent; name = text_at b NAME; meta = meta_at b; body = row_body (body_at b) }
 
--- a directory is told as one, and a file with the number of its bytes
+-- the body of a row: a directory, or a file with its number of bytes
 abbrev pub row_of_body : Body → RowBody
 row_of_body ADir = Dir
 row_of_body (AFile bytes) = File (length bytes)
 
--- what is told of an entry: its parent, name, comment, protection, date and kind
+-- the row of an entry: its parent, name, comment, protection bits, date and kind
 abbrev pub row_of_entry : Entry → Row
 row_of_entry e = record { parent = e.parent; name = e.name; meta = e.meta; body = row_of_body e.body }

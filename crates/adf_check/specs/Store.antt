@@ -1,5 +1,6 @@
--- What a reader keeps of what it has read: the owner of each block, a header for each entry, and the blocks of files in two flat lists.
--- Letters: w a walk; r, q roles; b a block; n, m nodes; p a directory's node; s a slot; j a place in a chain; k the number of a page or of a part of a file.
+-- The state of a check: the owner of each block, a header for each entry, and the blocks of files in two flat lists.
+-- Letters: w a walk; r, q roles; b a block; n, m nodes; p a directory's node; s a slot; j a position in a chain;
+-- k the number of a page or of a part of a file.
 use Rattle.std.specs.Prelude.{◌≡◌, ◌≢◌, ℕ, Bool, false, Option, Some, None, List, [], ◌∷◌, ◌++◌, ◌<◌, ◌≤◌, cond, is_some, nat_lt, length, slice_index_or, set}
 use Rattle.std.proofs.Common.{suc}
 use Rattle.adf_blocks.specs.Sizes.{blocks}
@@ -15,7 +16,7 @@ use Rattle.adf_check.specs.declared.store.KeptHeader.{KeptHeader}
 use Rattle.adf_check.specs.declared.store.NodeStart.{NodeStart}
 use Rattle.adf_check.specs.declared.store.Store.{Store}
 
--- the value of a store: the headers are of nodes 1, 2, .., the starts of nodes 0, 1, ..; so many blocks have an owner
+-- the value of a store: headers of nodes 1, 2, ..; starts of nodes 0, 1, ..; the number of blocks with an owner
 pub record StoreValue : Type 0 where
   pub owners : List Owner
   pub headers : List KeptHeader
@@ -24,7 +25,7 @@ pub record StoreValue : Type 0 where
   pub datas : List ℕ
   pub used : ℕ
 
--- the value of a store as the code has it
+-- the value of a store in the code
 abbrev pub store_value : Store → StoreValue
 store_value s = record {
   owners = s.owners;
@@ -39,39 +40,39 @@ store_value s = record {
 abbrev pub owner_at : List Owner → ℕ → Owner
 owner_at owners b = slice_index_or owners b Free
 
--- the headers, one role more
+-- the headers, with one more if the role is a header
 abbrev pub push_header : Role → ℕ → List KeptHeader → List KeptHeader
 push_header (Head n p s j) b headers = headers ++ record { parent = p; head = b } ∷ []
 push_header _ b headers = headers
 
--- the file that has the role as an extension block
+-- the file of an extension block, by its role
 abbrev pub ext_file : Role → Option ℕ
 ext_file (Ext n k) = Some n
 ext_file _ = None
 
--- the file that has the role as a data block
+-- the file of a data block, by its role
 abbrev pub data_file : Role → Option ℕ
 data_file (Data n k) = Some n
 data_file _ = None
 
--- the blocks of files in a walk, in order; a file is told by `ext_file` or `data_file`
+-- the blocks of files in a walk, in order; `ext_file` or `data_file` selects them
 abbrev pub file_blocks : (Role → Option ℕ) → List (Role × ℕ) → List ℕ
 file_blocks file w = picked (λ r. is_some (file r)) w
 
--- and with one member more
+-- the same with one more member of the walk
 abbrev pub push_block : (Role → Option ℕ) → Role → ℕ → List ℕ → List ℕ
 push_block file r b bs = cond (is_some (file r)) (bs ++ b ∷ []) bs
 
--- a node below m
+-- the node is below m
 abbrev pub is_below : ℕ → Option ℕ → Bool
 is_below m None = false
 is_below m (Some n) = nat_lt n m
 
--- how many of the blocks of files are of nodes below m
+-- the number of blocks of files with nodes below m
 abbrev pub blocks_before : (Role → Option ℕ) → List (Role × ℕ) → ℕ → ℕ
 blocks_before file w m = length (picked (λ r. is_below m (file r)) w)
 
--- what is kept when block b was read in this role
+-- the store after block b is read in this role
 abbrev pub stored : StoreValue → Role → ℕ → StoreValue
 stored store r b = record {
   owners = set store.owners b (owner_of r);
@@ -82,11 +83,11 @@ stored store r b = record {
   used = suc store.used;
 }
 
--- what is kept when the next node is begun
+-- the store after the next node is begun
 abbrev pub entered : StoreValue → StoreValue
 entered store = record store { starts = store.starts ++ record { exts = length store.exts; datas = length store.datas } ∷ [] }
 
--- the table has the owner of each block of the walk, and no other
+-- the table has the owner of each block of the walk, and no others
 pub record Owns (image : List ℕ) (owners : List Owner) (w : List (Role × ℕ)) : Type 0 where
   pub size : length owners ≡ blocks image
   pub boot : (b : ℕ) → b < 2 → b < blocks image → owner_at owners b ≡ Boot
@@ -98,7 +99,7 @@ pub record KeepsHeaders (headers : List KeptHeader) (w : List (Role × ℕ)) : T
   pub count : length headers ≡ heads w
   pub header : (i p s j b : ℕ) → Has w (Head (suc i) p s j) b → At headers i (record { parent = p; head = b })
 
--- what is kept tells of the walk
+-- the store matches the walk
 pub record StoreMatches (image : List ℕ) (store : StoreValue) (w : List (Role × ℕ)) : Type 0 where
   pub owns : Owns image store.owners w
   pub headers : KeepsHeaders store.headers w

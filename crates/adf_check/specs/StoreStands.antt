@@ -1,4 +1,4 @@
--- What is kept of a volume that a tree and a layout fit.
+-- The store of a volume that a tree and a layout fit.
 use Rattle.std.specs.Prelude.{◌≡◌, ℕ, List, ◌<◌, ◌≤◌, length, take, drop}
 use Rattle.std.proofs.Common.{suc}
 use Rattle.adf_tree.specs.declared.entry.Entry.{Entry}
@@ -13,7 +13,7 @@ use Rattle.adf_check.specs.declared.store.KeptHeader.{KeptHeader}
 use Rattle.adf_check.specs.declared.store.NodeStart.{NodeStart}
 use Rattle.adf_check.specs.Store.{StoreValue, owner_at}
 
--- the table has each block's one owner
+-- the table has the one owner of each block
 pub record OwnersFit (image : List ℕ) (l : Layout) (owners : List Owner) : Type 0 where
   pub size : length owners ≡ blocks image
   pub boot : (b : ℕ) → b < 2 → b < blocks image → owner_at owners b ≡ Boot
@@ -26,13 +26,13 @@ pub record HeadersFit (image : List ℕ) (t : Tree) (l : Layout) (headers : List
   pub head : (i : ℕ) (r : KeptHeader) → At headers i r → at_node image l (suc i) ≡ r.head
   pub parent : (i : ℕ) (r : KeptHeader) (e : Entry) → At headers i r → EntryAt t (suc i) e → e.parent ≡ r.parent
 
--- start n says where the extension blocks and the data blocks of node n stand in the flat lists
+-- start n has the positions of the extension blocks and the data blocks of node n in the flat lists
 pub record StartsFit (l : Layout) (store : StoreValue) : Type 0 where
   pub count : length store.starts ≡ suc (length store.headers)
   pub exts : (n : ℕ) (x : NodeStart) → At store.starts n x → take (length (exts_of l n)) (drop x.exts store.exts) ≡ exts_of l n
   pub datas : (n : ℕ) (x : NodeStart) → At store.starts n x → take (length (datas_of l n)) (drop x.datas store.datas) ≡ datas_of l n
 
--- what is kept tells of this tree and layout, which fit the image
+-- the store stands for this tree and layout, which fit the image
 pub record StoreStandsFor (image : List ℕ) (store : StoreValue) (t : Tree) (l : Layout) : Type 0 where
   pub fits : Fits image t l
   pub owners : OwnersFit image l store.owners

@@ -1,4 +1,4 @@
--- What a checked volume stands for.
+-- The tree and layout that a checked volume stands for.
 use Rattle.std.specs.Prelude.{◌≡◌, ◌-◌, ◌==◌, ℕ, Bool, not, List, length, count_by}
 use Rattle.adf_blocks.specs.declared.layout.TheConstants.{SECONDARY_TYPE, ST_DIR}
 use Rattle.adf_tree.specs.declared.entry.Entry.{Entry}
@@ -13,12 +13,12 @@ use Rattle.adf_check.specs.Reading.{StoreFits}
 use Rattle.adf_check.specs.Store.{StoreValue}
 use Rattle.adf_check.specs.declared.checked.Counts.{Counts}
 
--- an image with what was read of it
+-- an image with the store of its check
 pub record Volume : Type 0 where
   pub image : List ℕ
   pub store : StoreValue
 
--- the volume stands for this tree and layout: they fit its image, and what was read tells of them
+-- the volume stands for this tree and layout: they fit its image, and its store stands for them
 abbrev pub StandsFor : Volume → Tree → Layout → Type 0
 StandsFor v t l = StoreStandsFor v.image v.store t l
 
@@ -32,7 +32,7 @@ pub record IsChecked (v : Volume) (name : List ℕ) (dates : Stamps) : Type 0 wh
 abbrev pub is_directory : Entry → Bool
 is_directory e = is_dir_body e.body
 
--- the numbers that are told of a volume: all owned blocks are used, the others but the two boot blocks are free
+-- the counts of a volume: owned blocks are used; the others, except the two boot blocks, are free
 abbrev pub counts_of : List ℕ → Tree → Layout → Counts
 counts_of image t l = record {
   kind = t.kind;

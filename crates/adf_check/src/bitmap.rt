@@ -1,4 +1,4 @@
-// The bitmap against the owners.
+// Comparison of the bitmap with the owners.
 
 ghost use Rattle.adf_check.specs.Fault.{IsTrueFault};
 ghost use Rattle.std.specs.Prelude.{◌≡◌, ◌<◌, ◌≤◌, ◌+◌, ◌*◌, ◌↔◌, IsBitSet, IsTrue, length, min, OnOk, IfErr};
@@ -74,7 +74,7 @@ fn check_word<L: Ledger>(
     Ok(())
 }
 
-/// Compares the bitmap with the owners by ascending block.
+/// Compares the bitmap with the owners, in ascending order of blocks.
 pub fn check_bitmap<L: Ledger>(
     image: &Image<'_>,
     store: &Store,

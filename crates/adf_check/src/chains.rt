@@ -19,7 +19,7 @@ use adf_tree::{NameSet, Node};
 use adf_volume::{Image, Owner};
 use std::sync::ledger::Ledger;
 
-/// The chain of a slot of a directory, whose block is `up`.
+/// The chain of a slot of a directory; `up` is the directory's block.
 #[derive(Drop)]
 struct Chain {
     parent: Node,
@@ -27,7 +27,7 @@ struct Chain {
     slot: u8,
 }
 
-// What is kept of the header at block `head`, of an entry with this parent.
+// The record kept of the header at block `head`, of an entry with this parent.
 fn kept_header(parent: Node, head: u32) -> KeptHeader
     requires { parent < 2 ^ 32 }
     ensures { result ≡ record { parent = parent; head = head } }
@@ -38,7 +38,7 @@ fn kept_header(parent: Node, head: u32) -> KeptHeader
     }
 }
 
-// Claims and reads the header at block `b`, which a word of block `holder` names: the next one of its chain, or 0.
+// Claims and reads the header at block `b`, which `holder` points to; returns the next one of its chain, or 0.
 fn read_header<L: Ledger>(
     image: &Image<'_>,
     store: &mut Store,
@@ -114,7 +114,7 @@ fn read_chain<L: Ledger>(
     Ok(())
 }
 
-/// Reads the slots of a directory, whose block is `up`.
+/// Reads the slots of a directory; `up` is its block.
 pub fn read_directory<L: Ledger>(
     image: &Image<'_>,
     store: &mut Store,

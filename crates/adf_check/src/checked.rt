@@ -1,4 +1,4 @@
-// Volumes that were checked.
+// Checked volumes.
 
 ghost use Rattle.std.specs.Prelude.{◌≡◌, ◌+◌, ◌≤◌, ◌<◌, ◌↔◌, ℕ, [], count_by, get_or, length, IsOk, IsSome, Some, IfOk, IfSome, option_map};
 ghost use Rattle.std.specs.Option.{unwrap_or};
@@ -25,13 +25,13 @@ use adf_volume::{Image, Owner, Pieces, joined};
 use std::alloc::Global;
 use std::marker::Model;
 
-/// The numbers of a volume.
+/// The counts of a volume.
 #[derive(Clone, Copy, Debug, PartialEq, Eq)]
 pub struct Counts {
     pub kind: Kind,
-    /// All blocks, the two boot blocks among them.
+    /// All blocks, including the two boot blocks.
     pub blocks: u32,
-    /// Blocks that parts of the volume own, so not the two boot blocks.
+    /// Blocks that parts of the volume own, without the two boot blocks.
     pub used: u32,
     /// Blocks from 2 on that no part owns.
     pub free: u32,
@@ -39,7 +39,7 @@ pub struct Counts {
     pub files: usize,
 }
 
-/// A volume that was checked, over its image.
+/// A checked volume, over its image.
 #[derive(Drop)]
 pub struct Checked<'a> {
     image: Image<'a>,
@@ -60,7 +60,7 @@ impl<'a> Model for Checked<'a> {
 }
 
 impl<'a> Checked<'a> {
-    // What is kept of an image.
+    // A checked volume, from what was read of its image.
     pub(crate) fn new(image: Image<'a>, store: Store, label: Label, stamps: Stamps) -> Checked<'a>
         requires { IsChecked (record { image = image; store = store_value store }) label stamps }
         ensures { result ≡ record { image = image.entry; store = store_value store } }
@@ -75,8 +75,8 @@ impl<'a> Checked<'a> {
 }
 
 impl Checked<'_> {
-    /// The owner of a block, where there is such a block: the part that has it, `Boot` for blocks 0 and 1, `Free` where no part
-    /// has it.
+    /// The owner of a block: the part that owns it, `Boot` for blocks 0 and 1, `Free` if no part owns it; `None` if
+    /// there is no such block.
     pub fn owner(&self, b: u32) -> Option<Owner>
         ensures some { IsSome result ↔ (b < blocks self.now.image) }
         ensures part { (t : Tree) (l : Layout) (o : Owner) → StandsFor self.now t l
@@ -107,17 +107,17 @@ impl Checked<'_> {
         self.stamps
     }
 
-    /// The number of entries, the root not among them.
+    /// The number of entries, not counting the root.
     pub fn len(&self) -> usize
         ensures count { (t : Tree) (l : Layout) → StandsFor self.now t l
             → result ≡ length t.entries }
-        // There is a tree and a layout that the volume stands for.
+        // There are a tree and a layout that the volume stands for.
         ensures stands { (t : Tree) × (l : Layout) × StandsFor self.now t l }
     {
         self.store.headers.len()
     }
 
-    /// What is told of an entry; None for the root and past the last entry.
+    /// The row of an entry; `None` for the root and past the last entry.
     pub fn row(&self, n: Node) -> Option<Row>
         ensures { (t : Tree) (l : Layout) → StandsFor self.now t l
             → result ≡ option_map row_of_entry (entry t.entries n) }
@@ -130,7 +130,7 @@ impl Checked<'_> {
         Some(row_of(Node(kept.parent as usize), &head))
     }
 
-    /// The node that the path leads to, whatever the case of its names; 0 for the empty path.
+    /// The node that the path leads to, ignoring case; 0 for the empty path.
     pub fn find(&self, path: &[Name]) -> Option<Node>
         ensures { (t : Tree) (l : Layout) → StandsFor self.now t l
             → result ≡ find t.entries path.now }
@@ -138,7 +138,7 @@ impl Checked<'_> {
         find(&self.image, &self.store, path)
     }
 
-    /// The block of the root, or of an entry's header; none past the last entry.
+    /// The block of the root or of an entry's header; `None` past the last entry.
     pub fn block_of(&self, n: Node) -> Option<u32>
         ensures some { (t : Tree) (l : Layout) → StandsFor self.now t l
             → IsSome result ↔ (n ≤ length t.entries) }
@@ -151,15 +151,15 @@ impl Checked<'_> {
         Some(block_of(&self.image, &self.store, n))
     }
 
-    /// The data blocks of a file, in the order of its bytes; none of the root, a directory and what is past the last entry.
+    /// The data blocks of a file, in file order; empty for the root, a directory, and past the last entry.
     pub fn blocks_of(&self, n: Node) -> &[u32]
         ensures { (t : Tree) (l : Layout) → StandsFor self.now t l → result.now ≡ datas_of l n }
     {
         blocks_of(&self.image, &self.store, n)
     }
 
-    /// The bytes of a file as slices of the image, one for each data block; none of the root, a directory and what is past the
-    /// last entry.
+    /// The bytes of a file as slices of the image, one for each data block; `None` for the root, a directory, and past
+    /// the last entry.
     pub fn pieces(&self, n: Node) -> Option<Pieces<'_>>
         ensures exact { (t : Tree) (l : Layout) → StandsFor self.now t l
             → result ≡ pieces_at self.now.image t l n }
@@ -172,7 +172,7 @@ impl Checked<'_> {
         pieces_of(&self.image, &self.store, n)
     }
 
-    /// The bytes of a file; none of the root, a directory and what is past the last entry. Where there are no bytes, no memory is taken.
+    /// The bytes of a file; `None` for the root, a directory, and past the last entry. An empty file needs no memory.
     pub fn read(&self, alloc: Global, n: Node) -> Result<Option<Vec<u8>>, NoMemory>
         ensures bytes { (t : Tree) (l : Layout) → StandsFor self.now t l
             → IfOk result (λ r. option_map (λ v. v.items) r ≡ bytes_of (entry t.entries n)) }
@@ -185,7 +185,7 @@ impl Checked<'_> {
         }
     }
 
-    /// The tree of the volume. Where it has no entries, no memory is taken.
+    /// The tree of the volume. A volume with no entries needs no memory.
     pub fn to_tree(&self, alloc: Global) -> Result<adf_tree::Tree, NoMemory>
         ensures tree { (t : Tree) (l : Layout) → StandsFor self.now t l → IfOk result (λ u. u ≡ t) }
         ensures empty { (t : Tree) (l : Layout) → StandsFor self.now t l → t.entries ≡ []
@@ -194,7 +194,7 @@ impl Checked<'_> {
         tree_of(self, alloc)
     }
 
-    /// The numbers of the volume.
+    /// The counts of the volume.
     pub fn counts(&self) -> Counts
         ensures exact { (t : Tree) (l : Layout) → StandsFor self.now t l
             → result ≡ counts_of self.now.image t l }
@@ -214,7 +214,7 @@ impl Checked<'_> {
     }
 }
 
-// The directories among the entries with these headers.
+// The number of directories among these headers.
 #[tactic(auto, using(std::proofs::lemmas::List::Sums::count_by_more_yes, std::proofs::lemmas::List::Sums::count_by_more_no))]
 fn count_dirs(image: &Image<'_>, headers: &[KeptHeader]) -> usize
     requires { (i : ℕ) (d : KeptHeader) → i < length headers.now

@@ -26,32 +26,32 @@ use std::alloc::Global;
 use std::marker::Brand;
 use std::sync::ledger::{Blank, Ledger};
 
-/// Checks an image: the volume that it is the image of, or the first fault and the block where it stands.
+/// Checks an image. Returns its volume, or the first fault and its block.
 ///
-/// The parts are tried in this order: the size and the first four bytes, the root, the bitmap pages by number, with each
-/// bitmap extension block before the pages that it names, the nodes by number (of a directory each slot's chain of headers,
-/// of a file its extension blocks, their number and its data blocks), the bitmap by ascending block. `NoMemory` at block 0
-/// where a growth was refused, which needs a sound root; then nothing more is said of the image.
+/// The order of the checks: the size and the first four bytes; the root; the bitmap pages by number, each bitmap
+/// extension block before its pages; the nodes by number (for a directory the chain of each slot, for a file its
+/// extension blocks, their number and its data blocks); the bitmap in ascending order of blocks. `NoMemory` at block 0
+/// if an allocation fails, which can happen only after the root was accepted; nothing else is then known of the image.
 pub fn check<'a>(alloc: Global, image: &'a [u8]) -> Result<Checked<'a>, Fault>
     ensures image { IfOk result (λ v. v.image ≡ image.now) }
 
-    // A tree and a layout fit the image, and the answer stands for them: no others fit, by `one_fit` of adf_volume.
+    // A tree and a layout fit the image, and the answer stands for them. No others fit, by `one_fit` of adf_volume.
     ensures fits { IfOk result (λ v. (t : Tree) × (l : Layout) × StandsFor v t l) }
 
-    // A fault is the first one, and nothing fits the image.
+    // A fault is the first one, and no tree fits the image.
     ensures first { IfErr result (λ f. f.cause ≢ Cause.NoMemory
         → FirstFault image.now f.block f.cause) }
     ensures none { IfErr result (λ f. f.cause ≢ Cause.NoMemory → (t : Tree) (l : Layout)
         → Fits image.now t l → ⊥) }
 
-    // Want of memory names block 0, and comes only where the size, the boot bytes and the root are sound.
+    // `NoMemory` is reported at block 0, and only if the size, the boot bytes and the root are valid.
     ensures memory { IfErr result (λ f. f.cause ≡ Cause.NoMemory → f.block ≡ 0) }
     ensures begun { IfErr result (λ f. f.cause ≡ Cause.NoMemory → IsBegun image.now) }
 {
     check_all::<Brand>(alloc, image, Blank::new(2))
 }
 
-// Reads the size, the first four bytes and the root; what is none of a volume there is the first fault.
+// Reads the size, the first four bytes and the root; the first that is invalid is the first fault.
 fn open_volume<'a>(image: &'a [u8]) -> Result<Opened<'a>, Fault>
     ensures image { IfOk result (λ o. o.image ≡ image.now) }
     ensures root { IfOk result (λ o. o.root ≡ block image.now (root_of image.now)) }
@@ -63,7 +63,7 @@ fn open_volume<'a>(image: &'a [u8]) -> Result<Opened<'a>, Fault>
     }
 }
 
-// Checks an image, with six looks for each of its blocks.
+// Checks an image, with at most six reads for each of its blocks.
 fn check_all<'a, L: Ledger>(
     alloc: Global,
     image: &'a [u8],
@@ -81,8 +81,8 @@ fn check_all<'a, L: Ledger>(
     check_within(alloc, image, &mut looks)
 }
 
-/// Checks an image part by part, as `check` does, where each look at a block but block 0 and the root takes one of the looks
-/// that are given: six for each block of the image are enough, whatever it holds.
+/// Checks an image as `check` does, with a bound on its reads: each read of a block, except block 0 and the root, uses
+/// one of the looks. Six for each block of the image are enough for any content.
 pub fn check_within<'a, L: Ledger>(
     alloc: Global,
     image: &'a [u8],

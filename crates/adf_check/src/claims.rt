@@ -1,4 +1,4 @@
-// Claims of blocks that are named by words.
+// Claims of blocks that a word points to.
 
 ghost use Rattle.adf_check.specs.Claims.{InRange, IsClaimFault};
 ghost use Rattle.std.specs.Prelude.{◌≡◌, ◌+◌, ◌≤◌, OnOk, IfErr, length, set, true};
@@ -11,7 +11,7 @@ use crate::owner_table::OwnerTable;
 use adf_blocks::Cause;
 use adf_volume::Owner;
 
-/// Makes `o` the owner of block `b`, which a word of block `holder` names.
+/// Makes `o` the owner of block `b`, which a word of block `holder` points to.
 pub fn claim_named(owners: &mut OwnerTable, holder: u32, b: u32, o: Owner) -> Result<(), Fault>
     requires part { is_part o ≡ true }
     requires words { HasWords o }

@@ -22,7 +22,7 @@ use adf_tree::{Kind, Node};
 use adf_volume::{Image, Owner, held_in};
 use std::sync::ledger::Ledger;
 
-/// A file whose data blocks are read: its node, the block of its header, its size in bytes, and the count of its data blocks.
+/// A file whose data blocks are read: its node, its header's block, its size in bytes and its number of data blocks.
 #[derive(Drop)]
 struct File {
     node: Node,
@@ -31,14 +31,14 @@ struct File {
     count: u32,
 }
 
-// The data blocks of a file of so many bytes.
+// The number of data blocks of a file of `size` bytes.
 pub(crate) fn count_of(kind: Kind, size: u32) -> u32
     ensures { result ≡ count kind size }
 {
     data_count(kind, size as usize) as u32
 }
 
-// The block that the table names for data block `k + 1`.
+// The pointer to data block `k + 1` in the table.
 fn pointer<L: Ledger>(image: &Image<'_>, looks: &mut Looks<L>, table: &[u32], k: u32) -> u32
     requires paid { 0 < looks.old }
     requires inside { k < POINTERS * length table.now }
@@ -50,7 +50,7 @@ fn pointer<L: Ledger>(image: &Image<'_>, looks: &mut Looks<L>, table: &[u32], k:
     Table::over(look(image, table[k as usize / POINTERS], looks)).pointer(k as usize % POINTERS)
 }
 
-// The block that the table names for data block `k + 1`, or 0 past the last.
+// The pointer to data block `k + 1` in the table, or 0 past the last.
 fn next_pointer<L: Ledger>(
     image: &Image<'_>,
     looks: &mut Looks<L>,
@@ -71,7 +71,7 @@ fn next_pointer<L: Ledger>(
     }
 }
 
-// What is wrong with block `b` as data block `k + 1` of the file: nothing is asked of one of FFS.
+// Checks block `b` as data block `k + 1` of the file; an FFS data block is always accepted.
 #[tactic(auto, unfolding(adf_blocks::specs::Sizes::chunk))]
 fn check_data<L: Ledger>(
     image: &Image<'_>,
@@ -104,8 +104,8 @@ fn check_data<L: Ledger>(
     }
 }
 
-// Claims and checks block `b` as data block `k + 1` of a file, as block `holder` of its table names it. The table has the header and
-// the extension blocks.
+// Claims and checks block `b` as data block `k + 1` of a file; block `holder` of its table points to it. The table is
+// the header and the extension blocks.
 fn read_data_block<L: Ledger>(
     image: &Image<'_>,
     store: &mut Store,
@@ -143,7 +143,7 @@ fn read_data_block<L: Ledger>(
     }
 }
 
-// Reads the data blocks that block `m` of the table names.
+// Reads the data blocks that block `m` of the table points to.
 fn read_named<L: Ledger>(
     image: &Image<'_>,
     store: &mut Store,
@@ -179,8 +179,8 @@ fn read_named<L: Ledger>(
     Ok(())
 }
 
-/// Reads the data blocks of the file `node` of so many bytes, with its header at block `head`. The table has the header and the
-/// extension blocks.
+/// Reads the data blocks of the file `node` of `size` bytes, with its header at block `head`. The table is the header
+/// and the extension blocks.
 pub fn read_datas<L: Ledger>(
     image: &Image<'_>,
     store: &mut Store,

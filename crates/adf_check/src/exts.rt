@@ -17,8 +17,8 @@ use adf_tree::Node;
 use adf_volume::{Image, Owner};
 use std::sync::ledger::Ledger;
 
-// Claims and reads the extension block at block `b`, which a word of block `holder` names, of the file `node` with its header at block
-// `head`: the next one, or 0. The table has the header and the extension blocks before.
+// Claims and reads the extension block `b`, which `holder` points to, of the file `node` with its header at `head`.
+// Appends it to the table, which has the header and the earlier extension blocks; returns the next one, or 0.
 fn read_ext_block<L: Ledger>(
     image: &Image<'_>,
     store: &mut Store,
@@ -52,8 +52,8 @@ fn read_ext_block<L: Ledger>(
     Ok(ext.next())
 }
 
-/// Reads the extension blocks, from block `first` on or none where that is 0, of the file `node` with its header at block `head`. The
-/// table, which has the header, gets them.
+/// Reads the extension blocks of the file `node`, with its header at block `head`, from block `first` on (0 if there
+/// are none), and appends them to the table, which has the header.
 pub fn read_exts<L: Ledger>(
     image: &Image<'_>,
     store: &mut Store,

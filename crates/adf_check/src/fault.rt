@@ -7,7 +7,7 @@ use adf_blocks::Cause;
 use std::error::Error;
 use std::fmt;
 
-/// Why an image is refused, and the block where it stands.
+/// Why an image is refused, and the block of the fault.
 #[derive(Clone, Copy, Debug, PartialEq, Eq)]
 pub struct Fault {
     pub block: u32,
@@ -36,7 +36,7 @@ pub fn fault_at(block: u32, cause: Cause) -> Fault
     Fault { block, cause }
 }
 
-// Want of memory, which names block 0.
+// The fault `NoMemory`, reported at block 0.
 pub fn no_memory() -> Fault
     ensures { result ≡ fault 0 Cause.NoMemory }
 {

@@ -1,4 +1,4 @@
-//! Checks an image of an Amiga volume: what it holds, or the first fault and the block where it stands.
+//! Checks the image of an Amiga volume: returns its content, or the first fault and its block.
 #![tactic(auto)]
 
 mod bitmap;

@@ -1,4 +1,4 @@
-// The looks at blocks that a check may still take.
+// The number of reads of blocks that a check may still do.
 
 ghost use Rattle.std.specs.Prelude.{◌≡◌, ◌+◌, ◌<◌, ◌≤◌};
 ghost use Rattle.adf_fields.specs.Words.{block};
@@ -10,7 +10,7 @@ use adf_volume::Image;
 use std::marker::Model;
 use std::sync::ledger::{Blank, Ledger, Share};
 
-/// How many looks at blocks may still be taken. It takes no bytes, and only `take` makes it less.
+/// The number of looks, reads of blocks, that remain. It has no bytes at run time, and only `take` decreases it.
 #[derive(Drop)]
 pub struct Looks<L: Ledger> {
     left: Share<L>,
@@ -28,7 +28,7 @@ impl<L: Ledger> Model for Looks<L> {
 }
 
 impl<L: Ledger> Looks<L> {
-    /// So many looks, of a new ledger.
+    /// This many looks, of a new ledger.
     pub fn new(blank: Blank, most: u64) -> Looks<L>
         requires name { blank.name ≡ L.name }
         requires parts { blank.parts ≡ L.parts }
@@ -41,7 +41,7 @@ impl<L: Ledger> Looks<L> {
         Looks { left, taken }
     }
 
-    // Takes one.
+    // Uses one look.
     pub(crate) fn take(&mut self)
         requires { 0 < self.old }
         ensures { self.old ≡ self.new + 1 }
@@ -50,7 +50,7 @@ impl<L: Ledger> Looks<L> {
     }
 }
 
-/// A block, for one look: how `check` sees the blocks behind the root.
+/// Reads a block, at the cost of one look: `check` reads all blocks after the root in this way.
 pub(crate) fn look<'a, L: Ledger>(image: &Image<'a>, b: u32, looks: &mut Looks<L>) -> Block<'a>
     requires inside { b < blocks image.now }
     requires paid { 0 < looks.old }

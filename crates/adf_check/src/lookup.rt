@@ -61,7 +61,7 @@ fn first_of(image: &Image<'_>, store: &Store, parent: Node, slot: u8) -> u32
     }
 }
 
-/// The entry with this parent and this name, whatever the case.
+/// The entry with this parent and this name, ignoring case.
 pub fn child(image: &Image<'_>, store: &Store, parent: Node, name: &Name) -> Option<Node>
     requires tells { StoreFits image.now (store_value store.now) }
     requires node { parent ≤ length store.now.headers.items }

@@ -1,4 +1,4 @@
-// Owners in numbers of 32 bits.
+// Owners with 32-bit numbers.
 
 ghost use Rattle.std.specs.Prelude.{◌≡◌};
 ghost use Rattle.adf_check.specs.NarrowOwner.{wide};
@@ -7,7 +7,7 @@ ghost use Rattle.adf_check.specs.Owners.{HasWords};
 use adf_tree::Node;
 use adf_volume::Owner;
 
-/// An owner whose numbers have 32 bits.
+/// An owner with 32-bit numbers.
 #[derive(Clone, Copy)]
 pub enum NarrowOwner {
     Free,
@@ -20,7 +20,7 @@ pub enum NarrowOwner {
     Data(u32, u32),
 }
 
-// The owner in numbers of 32 bits.
+// The owner with 32-bit numbers.
 pub fn narrow(owner: Owner) -> NarrowOwner
     requires { HasWords owner }
     ensures { wide result ≡ owner }
@@ -37,7 +37,7 @@ pub fn narrow(owner: Owner) -> NarrowOwner
     }
 }
 
-// The owner that is meant.
+// The owner that a narrow one stands for.
 pub fn wide(owner: NarrowOwner) -> Owner
     ensures { result ≡ wide owner }
 {

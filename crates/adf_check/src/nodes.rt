@@ -1,4 +1,4 @@
-// The nodes of a volume, one after the other: the root, and each entry as its header was read.
+// The nodes of a volume in order: the root, then each entry in the order in which its header is read.
 
 ghost use Rattle.std.specs.Prelude.{◌≡◌, ◌≤◌, ◌<◌, ◌+◌, ◌^◌, [], ◌∷◌, OnOk, IfErr, length, ℕ};
 ghost use Rattle.adf_blocks.specs.declared.layout.TheConstants.{SIZE};
@@ -22,7 +22,7 @@ use adf_volume::Image;
 use std::alloc::Global;
 use std::sync::ledger::Ledger;
 
-// Begins the next node: its blocks stand behind those that were read.
+// Starts the next node: its blocks follow those already read.
 fn enter(store: &mut Store) -> Result<(), Fault>
     requires exts { length store.old.exts.items < 2 ^ 32 }
     requires datas { length store.old.datas.items < 2 ^ 32 }
@@ -43,7 +43,7 @@ fn enter(store: &mut Store) -> Result<(), Fault>
     }
 }
 
-// Reads the blocks of the file `node` with its header at block `head`, of `size` bytes and with its first extension block at `ext`.
+// Reads the blocks of the file `node` of `size` bytes; `head` is its header, `ext` its first extension block or 0.
 fn read_file<L: Ledger>(
     image: &Image<'_>,
     store: &mut Store,
@@ -71,7 +71,7 @@ fn read_file<L: Ledger>(
     read_datas(image, store, looks, table, node, head, size)
 }
 
-// Reads what the node asks for: the chains of a directory, or the blocks of a file.
+// Reads the chains of a directory, or the blocks of a file.
 fn read_node<L: Ledger>(
     image: &Image<'_>,
     store: &mut Store,
@@ -101,7 +101,7 @@ fn read_node<L: Ledger>(
     }
 }
 
-/// Reads all nodes. Those that a directory names come behind those that were read.
+/// Reads all nodes. The entries of a directory are numbered after all headers read so far.
 pub fn read_nodes<L: Ledger>(
     alloc: Global,
     image: &Image<'_>,

@@ -1,4 +1,4 @@
-// Who owns each block of the image that is checked.
+// The owners of the blocks of an image, as a check keeps them.
 
 ghost use Rattle.std.specs.Prelude.{◌≡◌, ◌≢◌, ◌≤◌, ◌<◌, ◌+◌, ◌-◌, ◌∷◌, ◌↔◌, length, replicate, ℕ, true, false, IsTrue, IsOk, IfOk, IfErr, OnOk, OnErr, slice_set};
 ghost use Rattle.adf_check.specs.Store.{owner_at};
@@ -11,7 +11,7 @@ use adf_volume::Owner;
 use std::alloc::Global;
 use std::marker::Model;
 
-/// A table of the owner of each block, in numbers of 32 bits.
+/// A table of the owner of each block, with 32-bit numbers.
 #[derive(Drop)]
 pub struct OwnerTable {
     blocks: u32,
@@ -33,7 +33,7 @@ impl Model for OwnerTable {
 }
 
 impl OwnerTable {
-    // The table of so many blocks: `Boot` for blocks 0 and 1, `Free` for all others.
+    // The table for `blocks` blocks: `Boot` for blocks 0 and 1, `Free` for all others.
     pub fn new(alloc: Global, blocks: u32) -> Result<OwnerTable, NoMemory>
         requires { 2 ≤ blocks }
         ensures { IfOk result (λ t.
@@ -51,7 +51,7 @@ impl OwnerTable {
         })
     }
 
-    // Makes `o` the owner of a free block; `Taken` where the block has an owner, and then nothing is changed.
+    // Makes `o` the owner of a free block; `Taken` if the block has an owner, and then nothing changes.
     pub fn claim(&mut self, b: u32, o: Owner) -> Result<(), Cause>
         requires from { 2 ≤ b }
         requires below { b < length self.old }
@@ -100,7 +100,7 @@ impl OwnerTable {
         }
     }
 
-    // Whether no part of the volume owns one of the blocks from `first` up to `end`.
+    // Whether a block from `first` up to, but not including, `end` has no owner.
     pub fn has_free(&self, first: u32, end: u32) -> bool
         requires { end ≤ length self.now }
         ensures none { result ≡ false → (b : ℕ) → first ≤ b → b < end

@@ -1,4 +1,4 @@
-// Who owns each block of a volume.
+// The owners of the blocks of a volume.
 
 ghost use Rattle.std.specs.Prelude.{◌≡◌, ◌≢◌, ◌≤◌, ◌<◌, ◌+◌, ◌-◌, ◌∷◌, ◌++◌, ◌↔◌, [], length, replicate, true, false, IsOk, IfOk, IfErr, OnOk, OnErr, slice_set};
 ghost use Rattle.adf_check.specs.Store.{owner_at};
@@ -31,7 +31,7 @@ impl Model for Owners {
 }
 
 impl Owners {
-    /// The table of so many blocks: `Boot` for blocks 0 and 1, `Free` for all others.
+    /// The table for `blocks` blocks: `Boot` for blocks 0 and 1, `Free` for all others.
     pub fn new(alloc: Global, blocks: u32) -> Result<Owners, NoMemory>
         requires { 2 ≤ blocks }
         ensures { IfOk result (λ t.
@@ -49,7 +49,7 @@ impl Owners {
         })
     }
 
-    /// Makes `o` the owner of a free block; `Taken` where the block has an owner, and then nothing is changed.
+    /// Makes `o` the owner of a free block; `Taken` if the block has an owner, and then nothing changes.
     pub fn claim(&mut self, b: u32, o: Owner) -> Result<(), Cause>
         requires from { 2 ≤ b }
         requires below { b < length self.old }
@@ -59,7 +59,7 @@ impl Owners {
         ensures taken { IfErr result (λ c. c ≡ Cause.Taken) }
         ensures unchanged { OnErr result (self.new ≡ self.old) }
 
-        // Each successful claim is of another block, and there are two blocks that are never claimed.
+        // Each successful claim is of a different block, and two blocks are never claimed.
         ensures count { OnOk result (owned_count self.new ≡ owned_count self.old + 1) }
         ensures bound { owned_count self.new + 2 ≤ length self.new }
     {

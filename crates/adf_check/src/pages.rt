@@ -1,4 +1,4 @@
-// The bitmap's pages: those that the root names, then each bitmap extension block with those that it names.
+// The bitmap pages: those of the root, then each bitmap extension block with its pages.
 
 ghost use Rattle.adf_check.specs.Fault.{IsTrueFault};
 ghost use Rattle.std.specs.Prelude.{◌≡◌, ◌≤◌, ◌<◌, ◌+◌, ◌-◌, ◌%◌, ◌↔◌, IsTrue, OnOk, IfOk, IfErr};
@@ -29,7 +29,7 @@ fn is_first_of_map_ext(i: u32) -> bool
     i >= ROOT_PAGES && (i - ROOT_PAGES) % MAP_EXT_PAGES == 0
 }
 
-// The bitmap extension block that `holder` names, whose first page is page `i`.
+// The bitmap extension block that `holder` points to, whose first page is page `i`.
 fn map_ext_named<L: Ledger>(
     image: &Image<'_>,
     looks: &mut Looks<L>,
@@ -51,7 +51,7 @@ fn map_ext_named<L: Ledger>(
     }
 }
 
-// Page `i`, as `holder` names it.
+// The pointer to page `i` in `holder`.
 fn page_named<L: Ledger>(
     image: &Image<'_>,
     looks: &mut Looks<L>,
@@ -74,7 +74,7 @@ fn page_named<L: Ledger>(
     }
 }
 
-// Claims the bitmap extension block that `holder` names, whose first page is page `i`.
+// Claims the bitmap extension block that `holder` points to, whose first page is page `i`.
 fn claim_map_ext<L: Ledger>(
     image: &Image<'_>,
     root: &Root<'_>,
@@ -102,7 +102,7 @@ fn claim_map_ext<L: Ledger>(
     Ok(b)
 }
 
-// The block that names page `i`, where `holder` named the page before or is the root: a bitmap extension block is claimed.
+// The block that points to page `i`; `holder` points to the page before, or is the root. Claims bitmap extensions.
 fn holder_of_page<L: Ledger>(
     image: &Image<'_>,
     root: &Root<'_>,
@@ -129,7 +129,7 @@ fn holder_of_page<L: Ledger>(
     }
 }
 
-// Claims and reads page `i`, which `holder` names.
+// Claims and reads page `i`, which `holder` points to.
 fn read_page_at<L: Ledger>(
     image: &Image<'_>,
     root: &Root<'_>,
@@ -158,7 +158,7 @@ fn read_page_at<L: Ledger>(
     }
 }
 
-/// Claims and reads the bitmap pages, each bitmap extension block before its own: the blocks of the pages by number.
+/// Claims and reads the bitmap pages, each bitmap extension block before its pages; returns the blocks of the pages.
 pub fn read_pages<L: Ledger>(
     alloc: Global,
     image: &Image<'_>,

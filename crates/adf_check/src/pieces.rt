@@ -18,7 +18,7 @@ use adf_blocks::HeadBody;
 use adf_tree::Node;
 use adf_volume::{Image, Pieces};
 
-// So many members of a list, from a place on.
+// The `len` members of a list from an index on.
 fn part(xs: &[u32], from: usize, len: usize) -> &[u32]
     requires { from + len ≤ length xs.now }
     ensures { result.now ≡ take len (drop from xs.now) }
@@ -26,7 +26,7 @@ fn part(xs: &[u32], from: usize, len: usize) -> &[u32]
     &xs[from..from + len]
 }
 
-// The data blocks of file `n` of so many bytes.
+// The data blocks of file `n` of `size` bytes.
 fn datas_of<'a>(image: &Image<'_>, store: &'a Store, n: Node, size: u32) -> &'a [u32]
     requires tells { StoreFits image.now (store_value store.now) }
     requires node { n ≤ length store.now.headers.items }
@@ -42,7 +42,7 @@ fn datas_of<'a>(image: &Image<'_>, store: &'a Store, n: Node, size: u32) -> &'a 
     part(&store.datas, store.starts[n.0].datas as usize, count)
 }
 
-/// The data blocks of a file; none of the root, a directory and what is past the last entry.
+/// The data blocks of a file; empty for the root, a directory, and past the last entry.
 pub fn blocks_of<'a>(image: &Image<'_>, store: &'a Store, n: Node) -> &'a [u32]
     requires { StoreFits image.now (store_value store.now) }
     ensures { (t : Tree) (l : Layout) → StoreStandsFor image.now (store_value store.now) t l
@@ -60,7 +60,7 @@ pub fn blocks_of<'a>(image: &Image<'_>, store: &'a Store, n: Node) -> &'a [u32]
     }
 }
 
-/// The pieces of a file; none of the root, a directory and what is past the last entry.
+/// The pieces of a file; `None` for the root, a directory, and past the last entry.
 pub fn pieces_of<'a>(image: &Image<'a>, store: &'a Store, n: Node) -> Option<Pieces<'a>>
     requires { StoreFits image.now (store_value store.now) }
     ensures exact { (t : Tree) (l : Layout) → StoreStandsFor image.now (store_value store.now) t l

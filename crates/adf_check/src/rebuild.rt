@@ -1,4 +1,4 @@
-// The tree of a checked volume, built again.
+// The tree of a checked volume, rebuilt.
 
 ghost use Rattle.std.specs.Prelude.{[], IsOk, ◌≡◌, ◌≢◌, ◌≤◌, ◌<◌, ◌+◌, length, option_map, IfOk, IfSome, IsSome};
 ghost use Rattle.adf_tree.specs.declared.entry.Body.{Body};
@@ -22,7 +22,7 @@ fn body_with(bytes: Option<Vec<u8>>) -> Body
     }
 }
 
-// An entry with its bytes; none of the root and past the last entry.
+// An entry with its bytes; `None` for the root and past the last entry.
 fn entry_of(volume: &Checked<'_>, alloc: Global, n: Node) -> Result<Option<Entry>, NoMemory>
     ensures { (t : Tree) (l : Layout) → StandsFor volume.now t l
         → IfOk result (λ e. e ≡ entry t.entries n) }
@@ -39,7 +39,7 @@ fn entry_of(volume: &Checked<'_>, alloc: Global, n: Node) -> Result<Option<Entry
     }))
 }
 
-// The same label once more.
+// A copy of the label.
 fn label_of(label: &Label) -> Label
     ensures { result ≡ label.now }
 {

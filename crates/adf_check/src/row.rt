@@ -1,4 +1,4 @@
-// What is told of an entry.
+// The rows of entries.
 
 ghost use Rattle.std.specs.Prelude.{◌≡◌};
 ghost use Rattle.adf_check.specs.Rows.{row_body, row_in};
@@ -6,7 +6,7 @@ ghost use Rattle.adf_check.specs.Rows.{row_body, row_in};
 use adf_blocks::{Head, HeadBody};
 use adf_tree::{Meta, Name, Node};
 
-/// An entry of a volume, its bytes left in the image.
+/// An entry of a volume, without its bytes.
 #[derive(Drop)]
 pub struct Row {
     pub parent: Node,
@@ -23,7 +23,7 @@ pub enum RowBody {
 }
 
 impl RowBody {
-    /// What the body of a header tells.
+    /// The body of a row, from the body of a header.
     pub fn of(body: HeadBody) -> RowBody
         ensures { result ≡ row_body body }
     {
@@ -34,7 +34,7 @@ impl RowBody {
     }
 }
 
-// What a header tells of its entry.
+// The row of an entry, from its header.
 pub fn row_of(parent: Node, head: &Head<'_>) -> Row
     ensures { result ≡ row_in parent head.now }
 {

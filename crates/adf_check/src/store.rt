@@ -1,4 +1,4 @@
-// What a reader keeps of what it has read.
+// The facts that a check keeps of the blocks it has read.
 
 ghost use Rattle.std.specs.Prelude.{ℕ, List, IfOk, ◌*◌};
 ghost use Rattle.adf_tree.specs.Tree.{Tree};
@@ -15,22 +15,22 @@ use adf_fields::NoMemory;
 use adf_volume::{Image, Owner};
 use std::alloc::Global;
 
-/// What is kept of a header: the number of its entry's parent, and its block.
+/// The record kept of a header: the number of its entry's parent, and its block.
 #[derive(Clone, Copy, Debug, PartialEq, Eq)]
 pub struct KeptHeader {
     pub parent: u32,
     pub head: u32,
 }
 
-/// Where the blocks of a node begin in the lists of all extension blocks and of all data blocks.
+/// The positions of a node's first blocks in the lists of all extension blocks and of all data blocks.
 #[derive(Clone, Copy, Debug, PartialEq, Eq)]
 pub struct NodeStart {
     pub exts: u32,
     pub datas: u32,
 }
 
-/// What a reader keeps: the owner of each block, the header of each entry, and for each node, the root among them, where
-/// its blocks begin in the lists of all extension blocks and of all data blocks.
+/// The state of a check: the owner of each block, the header of each entry, and for each node, including the root, the
+/// positions of its first blocks in the lists of all extension blocks and of all data blocks.
 #[derive(Drop)]
 pub struct Store {
     pub owners: OwnerTable,
@@ -41,7 +41,7 @@ pub struct Store {
 }
 
 impl Store {
-    // What is kept before anything is read but the root.
+    // The state before anything but the root is read.
     pub fn begin(alloc: Global, image: &Image<'_>) -> Result<Store, NoMemory>
         ensures paid { IfOk result (λ s. IsPaid s (6 * blocks image.now) 1) }
         ensures state { IfOk result (λ s.
@@ -59,7 +59,7 @@ impl Store {
     }
 }
 
-/// What a reader keeps of a whole walk tells of the one tree and layout that fit.
+/// The state after a whole walk stands for the one tree and layout that fit.
 pub fn stores_stand_for_trees()
     ensures { (image : List ℕ) (store : StoreValue) → StoreFits image store
         → (t : Tree) × (l : Layout) × StoreStandsFor image store t l }

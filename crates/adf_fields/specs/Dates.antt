@@ -1,10 +1,10 @@
--- Dates as texts: the civil date and time where there is one, else the three numbers.
+-- Dates as texts: the civil date and time if there is one, otherwise the three numbers.
 use Rattle.std.specs.Prelude.{◌≡◌, ℕ, pos, ◌+◌, ◌/◌, ◌%◌, ◌<◌, ◌^◌, ◌&&◌, Bool, nat_lt, List, [], ◌∷◌, ◌++◌, decimal, codes, MatchBool}
 use Rattle.jiff.specs.Words.{epoch_day, date_text}
 use Rattle.jiff.specs.Types.{Date}
 use Rattle.adf_fields.specs.declared.dates.Stamp.{Stamp}
 
--- the three numbers of a date have 32 bits
+-- the three numbers of a date fit in 32 bits
 pub record IsStamp (s : Stamp) : Type 0 where
   pub days : s.days < 2 ^ 32
   pub mins : s.mins < 2 ^ 32
@@ -31,7 +31,7 @@ clock_text s = two_digits (s.mins / 60) ++ (codes ":" ++ (two_digits (s.mins % 6
 abbrev pub plain_text : Stamp → List ℕ
 plain_text s = decimal s.days ++ (codes ":" ++ (decimal s.mins ++ (codes ":" ++ decimal s.ticks)))
 
--- a civil date, and behind it the time of the day
+-- a civil date, then the time of day
 abbrev pub civil_text : Date → Stamp → List ℕ
 civil_text day s = date_text day ++ (codes " " ++ clock_text s)
 
@@ -43,10 +43,10 @@ IsCivilText s t = (day : Date) × IsCivilDay (s.days + 2922) day × (t ≡ civil
 abbrev pub IsStampText : Stamp → List ℕ → Type 0
 IsStampText s t = MatchBool (is_civil s) (IsCivilText s t) (t ≡ plain_text s)
 
--- new is old with the text of the date at its end
+-- new is old with the text of the date appended
 abbrev pub AppendsStampText : Stamp → List ℕ → List ℕ → Type 0
 AppendsStampText s old new = (t : List ℕ) × IsStampText s t × (new ≡ old ++ t)
 
--- every date has a text, and no other
+-- every date has exactly one text
 abbrev pub DatesHaveOneText : Type 0
 DatesHaveOneText = (s : Stamp) → ((t : List ℕ) × IsStampText s t) × ((t other : List ℕ) → IsStampText s t → IsStampText s other → t ≡ other)

@@ -1,4 +1,4 @@
-// A block of an image, as it is read.
+// A block of an image: reading.
 
 ghost use Rattle.std.specs.Prelude.{◌≡◌, ◌+◌, ◌*◌, ◌<◌, ◌≤◌, ◌↔◌, length, IsSome, IfSome, slice_index, slice_range};
 ghost use Rattle.adf_fields.specs.Words.{word, long_sum, block};
@@ -6,10 +6,10 @@ ghost use Rattle.adf_fields.specs.Words.{word, long_sum, block};
 use byteorder::{BigEndian, ByteOrder};
 use std::marker::Model;
 
-/// Bytes of a block.
+/// The bytes in a block.
 pub const BLOCK_LEN: usize = 512;
 
-/// Words of a block.
+/// The words in a block.
 pub const BLOCK_WORDS: usize = 128;
 
 /// A block of an image.
@@ -29,7 +29,7 @@ impl<'a> Model for Block<'a> {
 }
 
 impl<'a> Block<'a> {
-    /// Block `b` of an image, where the image holds it whole.
+    /// Block `b` of an image; `None` if it is not wholly inside the image.
     #[tactic(auto, unfolding(crate::specs::Words::block))]
     pub fn at(image: &'a [u8], b: u32) -> Option<Block<'a>>
         ensures whole { IsSome result ↔ (b * 512 + 512 ≤ length image.now) }
@@ -53,7 +53,7 @@ impl<'a> Block<'a> {
         Block { bytes }
     }
 
-    /// Word `i`.
+    /// Word `i`, big-endian.
     #[tactic(auto, unfolding(crate::specs::Words::word))]
     pub fn word(&self, i: usize) -> u32
         requires { i < 128 }

@@ -13,9 +13,9 @@ use std::alloc::{AllocError, Global};
 pub struct Stamp {
     /// Days since 1978-01-01.
     pub days: u32,
-    /// Minutes of the day, 0 to 1439 where the date is a civil one.
+    /// Minutes of the day: 0 to 1439 in a civil date.
     pub mins: u32,
-    /// Fiftieths of a second in the minute, 0 to 2999 where the date is a civil one.
+    /// Ticks of the minute, fiftieths of a second: 0 to 2999 in a civil date.
     pub ticks: u32,
 }
 
@@ -64,7 +64,7 @@ fn text_of(alloc: Global, s: Stamp) -> Result<String, AllocError>
     }
 }
 
-/// Appends the text of a date.
+/// Appends the text of a date; if memory is refused, `out` is unchanged.
 pub fn stamp_text(s: Stamp, out: &mut String) -> Result<(), NoMemory>
     ensures ok { OnOk result (AppendsStampText s (string_bytes out.old) (string_bytes out.new)) }
     ensures err { OnErr result (string_bytes out.new ≡ string_bytes out.old) }
@@ -141,7 +141,7 @@ fn civil_digits(s: Stamp, day: Date) -> [u8; 22]
     ]
 }
 
-/// Appends the text of a date; where memory is refused, a part of it may stand.
+/// Appends the text of a date; if memory is refused, part of it may have been appended.
 pub fn push_stamp(text: &mut Vec<u8>, s: Stamp) -> Result<(), AllocError>
     ensures { OnOk result (AppendsStampText s text.old.items text.new.items) }
 {
@@ -153,7 +153,7 @@ pub fn push_stamp(text: &mut Vec<u8>, s: Stamp) -> Result<(), AllocError>
     }
 }
 
-/// Every date has a text, and no other.
+/// Every date has exactly one text.
 pub fn dates_have_one_text()
     ensures { DatesHaveOneText }
 {}

@@ -1,4 +1,4 @@
-// Blocks of an image, as they are written.
+// Blocks of an image: writing.
 
 ghost use Rattle.std.specs.Prelude.{◌≡◌, ◌+◌, ◌*◌, ◌<◌, ◌≤◌, length};
 ghost use Rattle.adf_fields.specs.Words.{block, long_sum, sealed, with_block, with_bytes, with_word};
@@ -17,7 +17,7 @@ pub fn set_word(image: &mut [u8], b: u32, i: usize, v: u32)
     put_word(&mut image[start..start + BLOCK_LEN], i, v);
 }
 
-/// Writes bytes into block `b` of an image.
+/// Writes bytes into block `b` of an image, from byte `from` on.
 #[tactic(auto, using(crate::proofs::WordLaws::put_mid_is), unfolding(crate::specs::Words::block))]
 pub fn set_bytes(image: &mut [u8], b: u32, from: usize, bytes: &[u8])
     requires whole { b * 512 + 512 ≤ length image.old }
@@ -28,7 +28,7 @@ pub fn set_bytes(image: &mut [u8], b: u32, from: usize, bytes: &[u8])
     put_bytes(&mut image[start..start + BLOCK_LEN], from, bytes);
 }
 
-/// Writes word `i` of block `b` of an image, so that the sum of the block's words is 0.
+/// Sets word `i` of block `b` of an image so that the sum of the block's words is 0 modulo 2^32.
 #[tactic(auto, using(crate::proofs::WordLaws::put_mid_is, crate::proofs::WordLaws::sealed_block), unfolding(crate::specs::Words::block))]
 pub fn seal(image: &mut [u8], b: u32, i: usize)
     requires whole { b * 512 + 512 ≤ length image.old }

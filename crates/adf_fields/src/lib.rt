@@ -1,4 +1,4 @@
-//! The fields of an Amiga volume's blocks: words, long sums, name hashes and dates.
+//! The fields of the blocks of an Amiga volume: words, checksums, name hashes and dates.
 #![tactic(auto)]
 
 mod blocks;
@@ -15,7 +15,7 @@ pub use crate::puts::{put_bytes, put_word, put_words, put_words_down, seal_block
 use std::error::Error;
 use std::fmt;
 
-/// No memory was to be had.
+/// An allocation failed.
 #[derive(Clone, Copy, Debug, PartialEq, Eq)]
 pub struct NoMemory;
 

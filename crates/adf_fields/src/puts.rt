@@ -1,4 +1,4 @@
-// Fields put into the bytes of a block.
+// Fields in the bytes of a block: writing.
 
 ghost use Rattle.std.specs.Prelude.{◌≡◌, ◌+◌, ◌-◌, ◌*◌, ◌<◌, ◌≤◌, length, reverse};
 ghost use Rattle.std.specs.List.{flat_map};
@@ -8,7 +8,7 @@ ghost use Rattle.adf_fields.specs.Words.{with_bytes, with_word, sealed};
 use crate::blocks::Block;
 use byteorder::{BigEndian, ByteOrder};
 
-/// Writes bytes into a block.
+/// Writes bytes into a block, from byte `from` on.
 #[tactic(auto, using(crate::proofs::WordLaws::put_mid_is))]
 pub fn put_bytes(block: &mut [u8], from: usize, bytes: &[u8])
     requires { from + length bytes.now ≤ length block.old }
@@ -17,7 +17,7 @@ pub fn put_bytes(block: &mut [u8], from: usize, bytes: &[u8])
     block[from..from + bytes.len()].copy_from_slice(bytes);
 }
 
-/// Writes a word into a block.
+/// Writes word `i` of a block, big-endian.
 #[tactic(auto, using(crate::proofs::WordLaws::put_mid_is))]
 pub fn put_word(block: &mut [u8], i: usize, v: u32)
     requires { 4 * i + 4 ≤ length block.old }
@@ -26,7 +26,7 @@ pub fn put_word(block: &mut [u8], i: usize, v: u32)
     BigEndian::write_u32(&mut block[4 * i..4 * i + 4], v);
 }
 
-/// Writes words into a block, one after the other.
+/// Writes words into a block, from word `i` upwards.
 #[tactic(auto, using(crate::proofs::WordLaws::words_put, crate::proofs::WordLaws::no_bytes_put))]
 pub fn put_words(block: &mut [u8], i: usize, words: &[u32])
     requires { 4 * (i + length words.now) ≤ length block.old }
@@ -37,7 +37,7 @@ pub fn put_words(block: &mut [u8], i: usize, words: &[u32])
     }
 }
 
-/// Writes words into a block from word `i` down.
+/// Writes words into a block, from word `i` downwards.
 #[tactic(auto, using(crate::proofs::WordLaws::words_put_down, crate::proofs::WordLaws::no_bytes_put))]
 pub fn put_words_down(block: &mut [u8], i: usize, words: &[u32])
     requires room { 4 * i + 4 ≤ length block.old }
@@ -51,7 +51,7 @@ pub fn put_words_down(block: &mut [u8], i: usize, words: &[u32])
     }
 }
 
-/// Writes word `i` of a block, so that the sum of the block's words is 0.
+/// Sets word `i` of a block so that the sum of the block's words is 0 modulo 2^32.
 #[tactic(auto, using(crate::proofs::WordLaws::seal_is))]
 pub fn seal_block(block: &mut [u8], i: usize)
     requires whole { length block.old ≡ 512 }

@@ -1,4 +1,4 @@
--- A manifest has no fault, and lines have one first fault at most.
+-- A manifest has no fault, and lines have at most one first fault.
 use Rattle.std.proofs.Common.{◌≡◌, ◌<◌, ◌≤◌, ◌+◌, ◌++◌, ◌∙◌, ◌⊎◌, inl, inr, ℕ, zero, suc, true, false, List, [], ◌∷◌, Result, Ok, Err, refl, sym, ap, subst}
 use Rattle.std.proofs.Common.{arith, length, length-append, take, drop}
 use Rattle.std.specs.Prelude.{IsOk}

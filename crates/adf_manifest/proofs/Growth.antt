@@ -1,4 +1,4 @@
--- How a manifest grows by a line.
+-- A manifest with one more line.
 use Rattle.std.proofs.Common.{◌≡◌, ◌++◌, ◌∙◌, ℕ, List, [], ◌∷◌, Option, Some, None, refl, sym, subst}
 use Rattle.std.specs.Prelude.{IfSome, IsOk}
 use Rattle.std.specs.List.{All, flat_map}

@@ -1,4 +1,4 @@
--- What the state of the reader tells with one line more.
+-- The state of the reader after one more line.
 use Rattle.std.proofs.Common.{◌≡◌, ◌≤◌, inl, inr, ◌<◌, ◌++◌, ◌∙◌, ℕ, List, [], ◌∷◌, Option, Some, None, refl, sym, ap, subst, arith, length, length-append}
 use Rattle.std.specs.Prelude.{IsOk, IfErr, IfOk, Result, Ok, Err, is_some, false}
 use Rattle.std.specs.List.{All}

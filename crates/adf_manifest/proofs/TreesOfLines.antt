@@ -1,4 +1,4 @@
--- The tree of a manifest's lines: adding entry line after entry line gives it, and there is no other.
+-- The tree of a manifest's lines: adding the entry lines in order gives it, and there is no other.
 use Rattle.std.proofs.Common.{◌≡◌, ◌++◌, ◌∙◌, List, [], ◌∷◌, refl, sym, ap, subst, map, append_assoc}
 use Rattle.std.proofs.lemmas.List.{append-nil}
 use Rattle.adf_tree.specs.Additions.{Addition, IsTreeOf}

@@ -16,7 +16,7 @@ manifest_kind_number Exists = 6
 manifest_kind_number NoMemory = 7
 manifest_kind_number TooLong = 8
 
--- what a kind of fault is called
+-- the text of a kind of fault
 abbrev pub manifest_kind_text : ManifestKind → List ℕ
 manifest_kind_text BadLine = codes "bad line"
 manifest_kind_text BadSize = codes "bad size"

@@ -1,4 +1,4 @@
--- The lines of a manifest and what they tell, each alone.
+-- The lines of a manifest and their content, each by itself.
 use Rattle.std.specs.Prelude.{◌≡◌, ◌<◌, ◌≤◌, ◌^◌, ℕ, List, ◌++◌, codes, length, All}
 use Rattle.std.specs.Fmt.{decimal}
 use Rattle.adf_fields.specs.Dates.{plain_text, IsStamp}
@@ -17,12 +17,12 @@ use Rattle.adf_manifest.specs.declared.lines.Run.TheVariants as run
 use Rattle.adf_manifest.specs.declared.lines.Line.{Line}
 use Rattle.adf_manifest.specs.declared.lines.Line.TheVariants as line
 
--- what a line gives to a file: bytes, or one byte so many times
+-- the bytes that a line adds to a file: by their digits, or one byte repeated
 pub data RunValue : Type 0 where
   DataRun : (bytes : List ℕ) → RunValue
   FillRun : (count byte : ℕ) → RunValue
 
--- what a line after the first tells, with its TEXT or PATH as it stands
+-- the content of a line after the first, with TEXT or PATH as in the manifest
 pub data LineValue : Type 0 where
   LabelLine : (text : List ℕ) → LineValue
   StampsLine : (stamps : Stamps) → LineValue
@@ -47,7 +47,7 @@ abbrev pub sort_text : Sort → List ℕ
 sort_text Dir = codes "dir "
 sort_text File = codes "file "
 
--- what stands behind the word of an entry line
+-- the fields after the first word of an entry line
 abbrev pub fields_text : Stamp → ℕ → List ℕ → List ℕ
 fields_text stamp protect path = plain_text stamp ++ (codes " " ++ (hex_word protect ++ (codes " " ++ path)))
 
@@ -80,16 +80,16 @@ line_text (EntryLine sort stamp protect path) = entry_line sort stamp protect pa
 line_text (NoteLine text) = note_line text
 line_text (RunLine run) = run_line run
 
--- the most bytes of a `fill` line
+-- the most bytes that one `fill` line may add
 abbrev pub most_fill : ℕ
 most_fill = 536870912
 
--- a run holds something: bytes, or a count of one byte within the largest
+-- a run is not empty: it has bytes, or a count from 1 to the most of a `fill` line
 abbrev pub IsRun : RunValue → Type 0
 IsRun (DataRun bytes) = (0 < length bytes) × All (λ b. b < 256) bytes
 IsRun (FillRun count byte) = (0 < count) × (count ≤ most_fill) × (byte < 256)
 
--- what a line tells is within the limits of its form; TEXT and PATH are any bytes, at least one
+-- the fields of a line are within the limits of its form; TEXT and PATH are any bytes, at least one
 abbrev pub IsLine : LineValue → Type 0
 IsLine (LabelLine text) = 0 < length text
 IsLine (StampsLine stamps) = AreStamps stamps
@@ -105,16 +105,16 @@ HasForm text = (line : LineValue) × IsLine line × (text ≡ line_text line)
 abbrev pub IsVolumeLine : List ℕ → Type 0
 IsVolumeLine line = (kind : Kind) × (n : ℕ) × (n < 2 ^ 32) × (line ≡ volume_line kind n)
 
--- what was read of a line
+-- the value of a run in the code
 abbrev pub run_value : Run → RunValue
 run_value (run.Data bytes) = DataRun bytes
 run_value (run.Fill count byte) = FillRun count byte
 
--- what an entry's line says
+-- the value of an entry line in the code
 abbrev pub entry_value : EntryText → LineValue
 entry_value e = EntryLine e.sort e.stamp e.protect e.path.now
 
--- what a line says
+-- the value of a line in the code
 abbrev pub line_value : Line → LineValue
 line_value (line.Label text) = LabelLine text.now
 line_value (line.Stamps stamps) = StampsLine stamps

@@ -1,4 +1,4 @@
--- Manifests: the lines of their heads and entries, what they tell, and the first line with a fault.
+-- Manifests: the lines of their heads and entries, their content, and the first line with a fault.
 use Rattle.std.specs.Prelude.{◌≡◌, ◌+◌, ◌-◌, ◌<◌, ◌≤◌, ◌^◌, ◌==◌, ◌&&◌, ◌⊎◌, nat_lt, ℕ, true, false, List, [], ◌∷◌, ◌++◌, length, take, slice_index}
 use Rattle.std.specs.Prelude.{if◌then◌else◌, map, Option, Some, None, IfSome, All, Err}
 use Rattle.std.specs.List.{slice_split, flat_map}
@@ -27,7 +27,7 @@ use Rattle.adf_manifest.specs.declared.manifest.ManifestKind.TheVariants.{BadLin
 abbrev pub most_bytes : ℕ
 most_bytes = MOST_BYTES
 
--- the bytes without a line feed at their end
+-- the bytes without a line feed at the end
 abbrev pub without_last_feed : List ℕ → List ℕ
 without_last_feed bytes = if nat_lt 0 (length bytes) && (slice_index bytes (length bytes - 1) == 10) then take (length bytes - 1) bytes else bytes
 
@@ -35,21 +35,21 @@ without_last_feed bytes = if nat_lt 0 (length bytes) && (slice_index bytes (leng
 abbrev pub between_feeds : List ℕ → List (List ℕ)
 between_feeds bytes = slice_split (λ c. c == 10) bytes
 
--- the parts of what stands behind a line feed, where one was there
+-- the lines after a line feed, if there was one
 abbrev pub lines_behind : Option (List ℕ) → List (List ℕ)
 lines_behind None = []
 lines_behind (Some rest) = between_feeds rest
 
--- the lines: each ended by a line feed, which the last may lack; no bytes are one empty line
+-- the lines: each ends in a line feed, which the last may lack; no bytes are one empty line
 abbrev pub lines : List ℕ → List (List ℕ)
 lines bytes = between_feeds (without_last_feed bytes)
 
--- the line of a label, and of stamps, where the manifest has them
+-- the line of a label, if there is one
 abbrev pub label_lines : Option (List ℕ) → List (List ℕ)
 label_lines None = []
 label_lines (Some label) = label_line (escaped label) ∷ []
 
--- the line of stamps, where there is one
+-- the line of stamps, if there is one
 abbrev pub stamps_lines : Option Stamps → List (List ℕ)
 stamps_lines None = []
 stamps_lines (Some stamps) = stamps_line stamps ∷ []
@@ -58,17 +58,17 @@ stamps_lines (Some stamps) = stamps_line stamps ∷ []
 abbrev pub manifest_head_lines : Head → List (List ℕ)
 manifest_head_lines h = volume_line h.kind h.blocks ∷ (label_lines h.label ++ stamps_lines h.stamps)
 
--- a label that a line gives: 1 to 30 bytes
+-- a label from a line: 1 to 30 bytes
 abbrev pub IsGivenLabel : List ℕ → Type 0
 IsGivenLabel label = (0 < length label) × IsSpelling 30 (escaped label) label
 
--- what a head tells is within its limits
+-- the fields of a head are within their limits
 pub record IsManifestHead (h : Head) : Type 0 where
   pub size : is_allowed h.blocks ≡ true
   pub label : IfSome h.label IsGivenLabel
   pub stamps : IfSome h.stamps AreStamps
 
--- a stamp and stamps that no line gives
+-- the dates of a manifest without a stamps line
 abbrev pub no_stamps : Stamps
 no_stamps = record {
   root = record { days = 0; mins = 0; ticks = 0 };
@@ -76,41 +76,41 @@ no_stamps = record {
   created = record { days = 0; mins = 0; ticks = 0 };
 }
 
--- the tree that a head tells: without a label line the label is empty, without a stamps line all are 0
+-- the tree of a head: without a label line the label is empty, without a stamps line all dates are 0
 abbrev pub head_tree : Head → Tree
 head_tree h = record { kind = h.kind; label = unwrap_or h.label []; stamps = unwrap_or h.stamps no_stamps; entries = [] }
 
--- the entries of a manifest that has some: those before the last, and the last
+-- the entries of a manifest that has any: those before the last, and the last
 pub record Entries : Type 0 where
   pub before : List Item
   pub last : Item
 
--- what the lines of a manifest tell
+-- the content of a manifest
 pub record Manifest : Type 0 where
   pub head : Head
   pub entries : Option Entries
 
--- all entries, the last one among them
+-- all entries, including the last
 abbrev pub items_of : Option Entries → List Item
 items_of None = []
 items_of (Some e) = e.before ++ e.last ∷ []
 
--- the lines of a manifest: its head's, and those of its entries
+-- the lines of a manifest: those of its head, and those of its entries
 abbrev pub manifest_lines : Manifest → List (List ℕ)
 manifest_lines m = manifest_head_lines m.head ++ flat_map item_lines (items_of m.entries)
 
--- the tree that adding entry line after entry line gives
+-- the tree after the entries are added one after another
 abbrev pub manifest_tree : Manifest → Tree
 manifest_tree m = items_tree (head_tree m.head) (items_of m.entries)
 
--- what is told is within its limits, and each entry has room in the tree of those before it
+-- the content is within its limits, and each entry has room in the tree of those before it
 pub record IsWell (m : Manifest) : Type 0 where
   pub head : IsManifestHead m.head
   pub items : All IsItem (items_of m.entries)
   pub room : HaveRoom (head_tree m.head) (items_of m.entries)
 
--- the tree of a manifest: with the kind, the label and the dates of its head; its entries have the paths of the entry lines and no
--- others, and each chain has its entries in the order of the lines
+-- the tree of a manifest: it has the kind, the label and the dates of the head; its entries have the paths of the
+-- entry lines and no others, and each chain has its entries in the order of the lines
 pub record IsTreeOfManifest (tree : Tree) (m : Manifest) : Type 0 where
   pub head : record tree { entries = [] } ≡ head_tree m.head
   pub entries : IsTreeOf tree.entries (map addition_of (items_of m.entries))
@@ -130,9 +130,9 @@ abbrev pub EndsInFile : Option Entries → Type 0
 EndsInFile None = ⊥
 EndsInFile (Some e) = e.last.sort ≡ File
 
--- a line may stand behind the lines of a manifest: a label line where neither label nor stamps nor
--- entries are, a stamps line where neither stamps nor entries are, an entry line everywhere, a note
--- line directly behind an entry line, and a line of bytes in a file
+-- a line is allowed after the lines of a manifest: a label line if there is no label, stamps or entry, a stamps line
+-- if there are no stamps or entries, an entry line always, a note line directly after an entry line,
+-- a data or fill line in a file
 abbrev pub MayStand : Manifest → LineValue → Type 0
 MayStand m (LabelLine text) = (m.entries ≡ None) × (m.head.label ≡ None) × (m.head.stamps ≡ None)
 MayStand m (StampsLine stamps) = (m.entries ≡ None) × (m.head.stamps ≡ None)
@@ -140,7 +140,7 @@ MayStand m (EntryLine sort stamp protect path) = Unit {0}
 MayStand m (NoteLine text) = IsBare m.entries
 MayStand m (RunLine run) = EndsInFile m.entries
 
--- the TEXT or PATH of a line is not in the escape form, too long, or has a part that is no name
+-- the TEXT or PATH of a line is not in the escape form, is too long, or has a part that is not a name
 abbrev pub HasBadText : LineValue → Type 0
 HasBadText (LabelLine text) = (label : List ℕ) → ¬ IsSpelling 30 text label
 HasBadText (StampsLine stamps) = ⊥
@@ -148,7 +148,7 @@ HasBadText (EntryLine sort stamp protect text) = (path : List (List ℕ)) → ¬
 HasBadText (NoteLine text) = (note : List ℕ) → ¬ IsSpelling 79 text note
 HasBadText (RunLine run) = ⊥
 
--- the path of an entry line has no room in the tree of the lines before
+-- the path of an entry line has no room in the tree of the lines before it
 abbrev pub HasNoRoom : Tree → LineValue → RoomFault → Type 0
 HasNoRoom tree (EntryLine sort stamp protect text) f = (path : List (List ℕ)) × IsPathText text path × (room_for tree.entries path ≡ Err f)
 HasNoRoom tree (LabelLine text) f = ⊥
@@ -156,7 +156,7 @@ HasNoRoom tree (StampsLine stamps) f = ⊥
 HasNoRoom tree (NoteLine text) f = ⊥
 HasNoRoom tree (RunLine run) f = ⊥
 
--- the fault of a line that may stand at its place, behind lines that tell a tree
+-- the fault of a line that is allowed at its place, after lines with this tree
 abbrev pub IsFaultOf : Tree → LineValue → ManifestKind → Type 0
 IsFaultOf tree line BadText = HasBadText line
 IsFaultOf tree line NoParent = HasNoRoom tree line room.NoParent
@@ -170,14 +170,14 @@ IsFirstFault text BadLine = ¬ IsVolumeLine text
 IsFirstFault text BadSize = (kind : Kind) × (n : ℕ) × (n < 2 ^ 32) × (text ≡ volume_line kind n) × (is_allowed n ≡ false)
 IsFirstFault text _ = ⊥
 
--- a text is that of a line that may stand behind the lines of a manifest
+-- a text is a line that is allowed after the lines of a manifest
 pub record MayStandNext (m : Manifest) (text : List ℕ) : Type 0 where
   pub line : LineValue
   pub is_line : IsLine line
   pub stands : MayStand m line
   pub reads : text ≡ line_text line
 
--- a text is that of a line that may stand there, and has this fault
+-- a text is a line that is allowed there, and has this fault
 pub record HasFaultOf (m : Manifest) (text : List ℕ) (kind : ManifestKind) : Type 0 where
   pub line : LineValue
   pub is_line : IsLine line
@@ -185,7 +185,7 @@ pub record HasFaultOf (m : Manifest) (text : List ℕ) (kind : ManifestKind) : T
   pub reads : text ≡ line_text line
   pub fault : IsFaultOf (manifest_tree m) line kind
 
--- the fault of a line behind those of a manifest
+-- the fault of a line after those of a manifest
 abbrev pub IsLaterFault : Manifest → List ℕ → ManifestKind → Type 0
 IsLaterFault m text BadLine = ¬ MayStandNext m text
 IsLaterFault m text BadText = HasFaultOf m text BadText
@@ -216,21 +216,21 @@ pub record FaultInLater (all : List (List ℕ)) (number : ℕ) (kind : ManifestK
 abbrev pub HasFault : List (List ℕ) → ℕ → ManifestKind → Type 0
 HasFault all number kind = FaultInFirst all number kind ⊎ FaultInLater all number kind
 
--- what a fault says of the bytes: `TooLong` comes exactly where they are more than a manifest may have
+-- the meaning of a fault: `TooLong` if and only if the bytes are more than a manifest may have
 abbrev pub ExplainsKind : ManifestKind → ℕ → List ℕ → Type 0
 ExplainsKind TooLong number bytes = (number ≡ 0) × (most_bytes < length bytes)
 ExplainsKind NoMemory number bytes = (number ≡ 0) × (length bytes ≤ most_bytes)
 ExplainsKind kind number bytes = (length bytes ≤ most_bytes) × HasFault (lines bytes) number kind
 
--- the fault is that of the text: its kind, and the line where it stands
+-- the fault is that of the text: its kind, and its line
 abbrev pub ExplainsFault : ManifestFault → List ℕ → Type 0
 ExplainsFault f bytes = ExplainsKind f.kind f.line bytes
 
--- a manifest is of one tree and one number of blocks
+-- a manifest has one tree and one number of blocks
 abbrev pub ManifestsAreOfOneTree : Type 0
 ManifestsAreOfOneTree = (bytes : List ℕ) (tree tree' : Tree) (n n' : ℕ) → IsManifest bytes tree n → IsManifest bytes tree' n' → (tree ≡ tree') × (n ≡ n')
 
--- adding the entry lines of a manifest one after the other gives its tree
+-- adding the entry lines of a manifest one after another gives its tree
 abbrev pub AddingLinesGivesTheTree : Type 0
 AddingLinesGivesTheTree = (m : Manifest) → IsWell m → IsTreeOfManifest (manifest_tree m) m
 
@@ -238,7 +238,7 @@ AddingLinesGivesTheTree = (m : Manifest) → IsWell m → IsTreeOfManifest (mani
 abbrev pub ManifestsAreFaultless : Type 0
 ManifestsAreFaultless = (bytes : List ℕ) (tree : Tree) (n number : ℕ) (kind : ManifestKind) → IsManifest bytes tree n → ¬ HasFault (lines bytes) number kind
 
--- lines have one first fault at most
+-- lines have at most one first fault
 abbrev pub LinesHaveOneFault : Type 0
 LinesHaveOneFault = (all : List (List ℕ)) (number number' : ℕ) (kind kind' : ManifestKind) → HasFault all number kind → HasFault all number' kind'
     → (number ≡ number') × (kind ≡ kind')

@@ -1,4 +1,4 @@
--- What the reader of a manifest knows of the lines so far.
+-- The state of the reader of a manifest.
 use Rattle.std.specs.Prelude.{◌≡◌, ◌++◌, ◌∷◌, ℕ, List, [], Some, None}
 use Rattle.adf_tree.specs.Draft.{IsRoomFor}
 use Rattle.adf_tree.specs.Tree.{Tree}
@@ -13,7 +13,7 @@ use Rattle.adf_manifest.specs.declared.reader.Reading.{Reading}
 use Rattle.adf_manifest.specs.declared.reader.State.{State}
 use Rattle.adf_manifest.specs.declared.reader.State.TheVariants as state
 
--- an entry whose lines are read tells this item so far
+-- the entry under construction is this item so far
 pub record IsOpen (o : Open) (i : Item) : Type 0 where
   pub sort : o.sort ≡ i.sort
   pub stamp : o.stamp ≡ i.stamp
@@ -21,7 +21,7 @@ pub record IsOpen (o : Open) (i : Item) : Type 0 where
   pub note : o.note ≡ i.note
   pub bytes : o.bytes.items ≡ bytes_of_runs i.runs
 
--- behind an entry line: the tree of the entries before the last, and the last, which has room in it
+-- after an entry line: the tree of the entries before the last, and the last, which has room in it
 pub record IsReading (r : Reading) (m : Manifest) (e : Entries) : Type 0 where
   pub entries : m.entries ≡ Some e
   pub blocks : r.blocks ≡ m.head.blocks
@@ -33,36 +33,36 @@ pub record IsReading (r : Reading) (m : Manifest) (e : Entries) : Type 0 where
 abbrev pub bare : Head → Manifest
 bare h = record { head = h; entries = None }
 
--- the lines so far tell this
+-- the state is that of this manifest
 abbrev pub StateMatches : State → Manifest → Type 0
 StateMatches (state.Head h) m = m ≡ bare h
 StateMatches (state.Entries r) m = (e : Entries) × IsReading r m e
 
--- with one line more
+-- the state is that of this manifest and one more line
 abbrev pub GoesOn : State → Manifest → List ℕ → Type 0
 GoesOn s m text = (n : Manifest) × IsWell n × StateMatches s n × (manifest_lines n ≡ manifest_lines m ++ text ∷ [])
 
--- why a line of a form is not taken where it may stand: its fault, or memory
+-- why a line with an allowed form is refused: its fault, or memory
 abbrev pub StopsIn : Tree → LineValue → ManifestKind → Type 0
 StopsIn tree line NoMemory = Unit {0}
 StopsIn tree line kind = IsFaultOf tree line kind
 
--- why a line of a form is not taken
+-- why a line with a form is refused
 abbrev pub Stops : Manifest → LineValue → ManifestKind → Type 0
 Stops m line BadLine = ¬ MayStand m line
 Stops m line kind = MayStand m line × StopsIn (manifest_tree m) line kind
 
--- why a line is not taken
+-- why a line is refused
 abbrev pub StopsAt : Manifest → List ℕ → ManifestKind → Type 0
 StopsAt m text NoMemory = Unit {0}
 StopsAt m text kind = IsLaterFault m text kind
 
--- the line that a fault names: none where memory was refused
+-- the line of a fault: 0 for `NoMemory`
 abbrev pub line_of_fault : ManifestKind → ℕ → ℕ
 line_of_fault NoMemory number = 0
 line_of_fault kind number = number
 
--- what a fault says of lines
+-- the meaning of a fault of lines
 abbrev pub ExplainsLines : ManifestKind → ℕ → List (List ℕ) → Type 0
 ExplainsLines NoMemory number all = number ≡ 0
 ExplainsLines kind number all = HasFault all number kind

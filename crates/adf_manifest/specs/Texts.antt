@@ -7,11 +7,11 @@ use Rattle.adf_tree.specs.Escapes.{hex_digit}
 abbrev pub pair : ℕ → List ℕ
 pair b = hex_digit (b / 16) ∷ hex_digit (b % 16) ∷ []
 
--- the digits of bytes, with nothing between
+-- the digits of bytes, without separators
 abbrev pub pairs : List ℕ → List ℕ
 pairs bytes = flat_map pair bytes
 
--- the eight hexadecimal digits of a word: those of its four bytes, the highest first
+-- the eight hexadecimal digits of a word, big-endian
 abbrev pub hex_word : ℕ → List ℕ
 hex_word w = pair (w / 2 ^ 24 % 256) ++ (pair (w / 2 ^ 16 % 256) ++ (pair (w / 2 ^ 8 % 256) ++ pair (w % 256)))
 
@@ -19,17 +19,17 @@ hex_word w = pair (w / 2 ^ 24 % 256) ++ (pair (w / 2 ^ 16 % 256) ++ (pair (w / 2
 abbrev pub digit : ℕ → ℕ
 digit d = if nat_lt d 58 then d - 48 else d - 87
 
--- whether a byte is a hexadecimal digit, in lower case
+-- whether a byte is a lower-case hexadecimal digit
 abbrev pub is_digit : ℕ → Bool
 is_digit c = (nat_le 48 c && nat_le c 57) || (nat_le 97 c && nat_le c 102)
 
--- the bytes of which these are the digits
+-- the bytes with these digits
 abbrev pub unpaired : List ℕ → List ℕ
 unpaired [] = []
 unpaired (high ∷ []) = []
 unpaired (high ∷ low ∷ rest) = (16 * digit high + digit low) ∷ unpaired rest
 
--- a text is the digits of bytes
+-- a text is the digits of some bytes
 pub record AreDigits (text : List ℕ) : Type 0 where
   pub spells : text ≡ pairs (unpaired text)
   pub are_bytes : All (λ b. b < 256) (unpaired text)

@@ -4,11 +4,11 @@ use Rattle.std.specs.List.{All}
 use Rattle.adf_fields.specs.Dates.{plain_text}
 use Rattle.adf_tree.specs.declared.entry.Stamps.{Stamps}
 
--- the byte does not stand in the text
+-- the text does not contain the byte
 abbrev pub LacksByte : ℕ → List ℕ → Type 0
 LacksByte byte text = All (λ c. (c == byte) ≡ false) text
 
--- the text is not empty and begins with neither `+` nor a leading zero
+-- the text is not empty and does not start with `+` or a leading zero
 abbrev pub has_number_front : List ℕ → Bool
 has_number_front text = nat_lt 0 (length text) && (not (slice_index text 0 == 43) && (not (slice_index text 0 == 48) || (length text == 1)))
 

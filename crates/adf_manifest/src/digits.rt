@@ -8,7 +8,7 @@ use adf_tree::digit_value;
 use std::alloc::AllocError;
 use std::marker::Model;
 
-/// The digits of bytes, as they stand in a text.
+/// The hexadecimal digits of bytes, as in the text.
 #[derive(Drop)]
 pub struct Digits<'a> {
     text: &'a [u8],
@@ -26,7 +26,7 @@ impl<'a> Model for Digits<'a> {
 }
 
 impl<'a> Digits<'a> {
-    /// The digits that a text is.
+    /// The text as digits; `None` if it is not an even number of digits.
     pub fn read(text: &'a [u8]) -> Option<Digits<'a>>
         ensures some { IfSome result (λ bytes. text.now ≡ pairs bytes) }
         ensures bytes { IfSome result (All (λ b. b < 256)) }
@@ -40,7 +40,7 @@ impl<'a> Digits<'a> {
         }
     }
 
-    /// Appends the bytes whose digits these are; where memory is refused, a part of them may stand.
+    /// Appends the bytes with these digits; if memory is refused, some of them may have been appended.
     pub fn push_onto(self, bytes: &mut Vec<u8>) -> Result<(), AllocError>
         ensures { IfOk result (λ _. bytes.new.items ≡ bytes.old.items ++ self.entry) }
     {
@@ -48,7 +48,7 @@ impl<'a> Digits<'a> {
     }
 }
 
-// The byte that has these two digits.
+// The byte with these two digits.
 fn read_pair(high: u8, low: u8) -> Option<u8>
     ensures some { IfSome result (λ b. pair b ≡ high ∷ low ∷ []) }
     ensures none { IfNone result ((b : ℕ) → b < 256 → pair b ≢ high ∷ low ∷ []) }
@@ -56,7 +56,7 @@ fn read_pair(high: u8, low: u8) -> Option<u8>
     Some(16 * digit_value(high)? + digit_value(low)?)
 }
 
-/// The byte whose two digits a text is.
+/// Reads two digits as a byte.
 pub fn read_byte(text: &[u8]) -> Option<u8>
     ensures some { IfSome result (λ b. text.now ≡ pair b) }
     ensures none { IfNone result ((b : ℕ) → b < 256 → text.now ≢ pair b) }
@@ -67,7 +67,7 @@ pub fn read_byte(text: &[u8]) -> Option<u8>
     }
 }
 
-// The byte whose digits begin a text, and the rest of the text.
+// Reads two digits as a byte; returns the byte and the rest of the text.
 fn next_pair(text: &[u8]) -> Option<(u8, &[u8])>
     ensures some { IfSome result (λ r. text.now ≡ pair r.0 ++ r.1.now) }
     ensures byte { IfSome result (λ r. r.0 < 256) }
@@ -80,7 +80,7 @@ fn next_pair(text: &[u8]) -> Option<(u8, &[u8])>
     }
 }
 
-/// The word whose eight digits a text is.
+/// Reads eight digits as a word.
 pub fn read_word(text: &[u8]) -> Option<u32>
     ensures some { IfSome result (λ w. text.now ≡ hex_word w) }
     ensures none { IfNone result ((w : ℕ) → w < 2 ^ 32 → text.now ≢ hex_word w) }
@@ -92,14 +92,14 @@ pub fn read_word(text: &[u8]) -> Option<u32>
     Some(u32::from(a) * 16_777_216 + u32::from(b) * 65_536 + u32::from(c) * 256 + u32::from(d))
 }
 
-// Whether a byte is a hexadecimal digit, in lower case.
+// Whether a byte is a lower-case hexadecimal digit.
 fn is_digit(c: u8) -> bool
     ensures { result ≡ is_digit c }
 {
     b'0' <= c && c <= b'9' || b'a' <= c && c <= b'f'
 }
 
-// Whether all bytes are digits; it looks at all of them, so that many are looked at in one step.
+// Whether all bytes are digits; it tests all of them, so that many are tested in one step.
 fn are_digits(text: &[u8]) -> bool
     ensures { result ≡ list_all is_digit text.now }
 {
@@ -110,7 +110,7 @@ fn are_digits(text: &[u8]) -> bool
     all
 }
 
-// The number below 16 that a digit stands for.
+// The value, below 16, of a digit.
 fn digit(c: u8) -> u8
     requires { is_digit c ≡ true }
     ensures value { result ≡ digit c }
@@ -119,7 +119,7 @@ fn digit(c: u8) -> u8
     if c <= b'9' { c - b'0' } else { c - b'a' + 10 }
 }
 
-// Writes the bytes whose digits a text is.
+// Writes the bytes with the digits in a text.
 fn write_pairs(bytes: &mut [u8], text: &[u8])
     requires digits { list_all is_digit text.now ≡ true }
     requires length { length bytes.old ≡ length text.now / 2 }
@@ -130,7 +130,7 @@ fn write_pairs(bytes: &mut [u8], text: &[u8])
     }
 }
 
-// Appends the bytes whose digits a text is; where memory is refused, the bytes stay.
+// Appends the bytes with the digits in a text; if memory is refused, nothing changes.
 fn push_pairs(bytes: &mut Vec<u8>, text: &[u8]) -> Result<(), AllocError>
     requires { list_all is_digit text.now ≡ true }
     ensures { IfOk result (λ _. bytes.new.items ≡ bytes.old.items ++ unpaired text.now) }

@@ -1,4 +1,4 @@
-//! Manifests: texts of which volumes are built.
+//! Manifests: texts that volumes are built from.
 #![tactic(auto)]
 
 mod digits;

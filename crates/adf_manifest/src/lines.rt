@@ -13,17 +13,17 @@ use crate::tokens::{after, cut_at, cut_twice, read_number, read_stamp, read_stam
 use adf_fields::Stamp;
 use adf_tree::Stamps;
 
-/// The most bytes of a `fill` line.
+/// The most bytes that one `fill` line may add.
 pub const MOST_FILL: u32 = 536_870_912;
 
-/// What an entry line begins with.
+/// The first word of an entry line.
 #[derive(Clone, Copy, Debug, PartialEq, Eq)]
 pub enum Sort {
     Dir,
     File,
 }
 
-/// What an entry line tells, with its path as it stands there.
+/// The content of an entry line, with its path as in the text.
 #[derive(Drop)]
 pub struct EntryText<'a> {
     pub sort: Sort,
@@ -32,14 +32,14 @@ pub struct EntryText<'a> {
     pub path: &'a [u8],
 }
 
-/// What a line gives to a file: bytes, by their digits, or one byte so many times.
+/// The bytes that a line adds to a file: by their digits, or one byte repeated.
 #[derive(Drop)]
 pub enum Run<'a> {
     Data(Digits<'a>),
     Fill(u32, u8),
 }
 
-/// What a line tells, with its text or path as it stands there.
+/// The content of a line, with its text or path as in the manifest.
 #[derive(Drop)]
 pub enum Line<'a> {
     Label(&'a [u8]),
@@ -78,7 +78,7 @@ fn stamps_of(line: &[u8]) -> Option<Stamps>
     read_stamps(text)
 }
 
-// The word that an entry line begins with, and the rest of the line.
+// The first word of an entry line, and the rest of the line.
 fn sort_of(line: &[u8]) -> Option<(Sort, &[u8])>
     ensures some { IfSome result (λ r. line.now ≡ sort_text r.0 ++ r.1.now) }
     ensures none { IfNone result ((sort : SortValue) (rest : List ℕ)
@@ -93,7 +93,7 @@ fn sort_of(line: &[u8]) -> Option<(Sort, &[u8])>
     }
 }
 
-// What stands behind the word of an entry line.
+// The fields after the first word of an entry line.
 fn fields_of(sort: Sort, text: &[u8]) -> Option<EntryText<'_>>
     ensures sort { IfSome result (λ e. e.sort ≡ sort) }
     ensures form { IfSome result (λ e. IsStamp e.stamp × (e.protect < 2 ^ 32)
@@ -116,7 +116,7 @@ fn fields_of(sort: Sort, text: &[u8]) -> Option<EntryText<'_>>
     })
 }
 
-// What an entry line tells.
+// The content of an entry line.
 fn entry_of(line: &[u8]) -> Option<EntryText<'_>>
     ensures form { IfSome result (λ e. IsStamp e.stamp × (e.protect < 2 ^ 32)
         × (0 < length e.path.now)) }
@@ -142,7 +142,7 @@ fn data_of(line: &[u8]) -> Option<Digits<'_>>
     Digits::read(text)
 }
 
-// The number and the byte of a fill line.
+// The count and the byte of a fill line.
 fn fill_of(line: &[u8]) -> Option<(u32, u8)>
     ensures some { IfSome result (λ r. (line.now ≡ fill_line r.0 r.1) × IsRun (FillRun r.0 r.1)) }
     ensures none { IfNone result ((count byte : ℕ) → IsRun (FillRun count byte)
@@ -159,7 +159,7 @@ fn fill_of(line: &[u8]) -> Option<(u32, u8)>
     }
 }
 
-// What a line of bytes gives.
+// The bytes that a data or fill line adds.
 fn run_of(line: &[u8]) -> Option<Run<'_>>
     ensures form { IfSome result (λ r. IsRun (run_value r)) }
     ensures some { IfSome result (λ r. line.now ≡ run_line (run_value r)) }
@@ -174,7 +174,7 @@ fn run_of(line: &[u8]) -> Option<Run<'_>>
     }
 }
 
-// What a line in a file or behind an entry tells.
+// The content of a line inside a file or after an entry.
 fn inner_line(line: &[u8]) -> Option<Line<'_>>
     ensures form { IfSome result (λ l. IsLine (line_value l)) }
     ensures some { IfSome result (λ l. line.now ≡ line_text (line_value l)) }
@@ -187,7 +187,7 @@ fn inner_line(line: &[u8]) -> Option<Line<'_>>
     }
 }
 
-/// What a line after the first tells, where it has a form.
+/// The content of a line after the first; `None` if it has no valid form.
 pub fn line_of(line: &[u8]) -> Option<Line<'_>>
     ensures form { IfSome result (λ l. IsLine (line_value l)) }
     ensures some { IfSome result (λ l. line.now ≡ line_text (line_value l)) }

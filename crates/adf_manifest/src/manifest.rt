@@ -18,21 +18,21 @@ pub const MOST_BYTES: usize = 16_777_216;
 /// Why a manifest is refused.
 #[derive(Clone, Copy, Debug, PartialEq, Eq)]
 pub enum ManifestKind {
-    /// The line has no form that may stand at its place.
+    /// The line has no form that is allowed at its place.
     BadLine = 1,
-    /// The number of blocks is not allowed.
+    /// The number of blocks is not allowed: not even, or not 4 to 1,048,576.
     BadSize = 2,
-    /// A text is not in the escape form, or too long.
+    /// A text is not in the escape form, or is too long.
     BadText = 3,
-    /// The directory that holds the entry is not there.
+    /// The directory of the entry does not exist.
     NoParent = 4,
-    /// A file stands where a directory is wanted.
+    /// A file is used as a directory.
     ParentIsFile = 5,
-    /// An entry has this path.
+    /// An entry with this path exists.
     Exists = 6,
-    /// Memory was refused.
+    /// An allocation failed.
     NoMemory = 7,
-    /// The manifest has more than `MOST_BYTES` bytes.
+    /// The manifest is longer than `MOST_BYTES`.
     TooLong = 8,
 }
 
@@ -44,7 +44,7 @@ impl ManifestKind {
         self as u8
     }
 
-    /// What the kind is called.
+    /// The text of the kind.
     pub fn text(self) -> &'static str
         ensures { result.now ≡ manifest_kind_text self }
     {
@@ -72,10 +72,10 @@ impl fmt::Display for ManifestKind {
     }
 }
 
-/// The first line with a fault, and the first kind there.
+/// The first line with a fault, and its first kind.
 #[derive(Clone, Copy, Debug, PartialEq, Eq)]
 pub struct ManifestFault {
-    /// The line, from 1; 0 where the kind is `NoMemory` or `TooLong`.
+    /// The line, counted from 1; 0 for `NoMemory` and `TooLong`.
     pub line: usize,
     pub kind: ManifestKind,
 }
@@ -95,7 +95,7 @@ impl fmt::Display for ManifestFault {
 
 impl Error for ManifestFault {}
 
-// The first line of a text, and what stands behind its line feed.
+// The first line of a text, and the text after its line feed.
 fn next_line(text: &[u8]) -> (&[u8], Option<&[u8]>)
     ensures { between_feeds text.now
         ≡ result.0.now ∷ lines_behind (option_map (λ rest. rest.now) result.1) }
@@ -106,7 +106,7 @@ fn next_line(text: &[u8]) -> (&[u8], Option<&[u8]>)
     }
 }
 
-// The fault of a line; memory is refused at no line.
+// The fault of a line; `NoMemory` has line 0.
 fn fault_at(number: usize, kind: ManifestKind) -> ManifestFault
     ensures kind { result.kind ≡ kind }
     ensures line { result.line ≡ line_of_fault kind number }
@@ -118,7 +118,7 @@ fn fault_at(number: usize, kind: ManifestKind) -> ManifestFault
     ManifestFault { line, kind }
 }
 
-// Reads the lines of a text, whose last line has no line feed.
+// Reads the lines of a text. The last line has no line feed.
 fn read_lines(alloc: Global, text: &[u8]) -> Result<State, ManifestFault>
     requires { length text.now ≤ most_bytes }
     ensures lines { IfOk result (λ s. (m : Manifest) × IsWell m × StateMatches s m
@@ -143,7 +143,7 @@ fn read_lines(alloc: Global, text: &[u8]) -> Result<State, ManifestFault>
     Ok(state)
 }
 
-// The bytes without a line feed at their end.
+// The bytes without a line feed at the end.
 fn without_last_feed(bytes: &[u8]) -> &[u8]
     ensures { result.now ≡ without_last_feed bytes.now }
 {
@@ -155,9 +155,8 @@ fn without_last_feed(bytes: &[u8]) -> &[u8]
     }
 }
 
-/// Reads a manifest: the tree and the number of blocks that it tells. `TooLong` where it has more than
-/// `MOST_BYTES` bytes, `NoMemory` where memory was refused, else the first line with a fault and the
-/// first kind there.
+/// Reads a manifest: returns its tree and its number of blocks. `TooLong` if it is longer than `MOST_BYTES`;
+/// `NoMemory` if an allocation fails; otherwise the first line with a fault, and the first kind there.
 pub fn read_manifest(alloc: Global, bytes: &[u8]) -> Result<(Tree, u32), ManifestFault>
     ensures manifest { IfOk result (λ r. IsManifest bytes.now r.0 r.1) }
     ensures fault { IfErr result (λ f. ExplainsFault f bytes.now) }
@@ -178,8 +177,8 @@ pub fn read_manifest(alloc: Global, bytes: &[u8]) -> Result<(Tree, u32), Manifes
     }
 }
 
-/// Bytes have one verdict: a manifest is of one tree and one number of blocks, no line of it has a
-/// fault, and lines have one first fault at most. Adding its entry lines one after the other gives the tree.
+/// Bytes have one verdict: a manifest has one tree and one number of blocks, and no line with a fault;
+/// other lines have at most one first fault. Adding the entry lines one after another gives the tree.
 pub fn one_verdict()
     ensures one_tree { ManifestsAreOfOneTree }
     ensures adding { AddingLinesGivesTheTree }

@@ -28,7 +28,7 @@ const NO_STAMP: Stamp = Stamp {
     ticks: 0,
 };
 
-/// What the lines before the entries tell.
+/// The content of the lines before the entries.
 #[derive(Drop)]
 pub struct Head {
     pub kind: Kind,
@@ -44,7 +44,7 @@ const NO_HEAD: Head = Head {
     stamps: None,
 };
 
-/// What the lines of an entry tell so far, with the room that its path has.
+/// The content of the lines of an entry so far, with the room of its path.
 #[derive(Drop)]
 pub struct Open {
     pub sort: Sort,
@@ -55,7 +55,7 @@ pub struct Open {
     pub bytes: Vec<u8>,
 }
 
-/// What the lines tell behind the first entry line: the tree of the entries before the last, and the last.
+/// The content of the lines from the first entry line on: the tree of the entries before the last, and the last.
 #[derive(Drop)]
 pub struct Reading {
     pub blocks: u32,
@@ -63,7 +63,7 @@ pub struct Reading {
     pub last: Open,
 }
 
-/// What the lines so far tell.
+/// The content of the lines so far.
 #[derive(Drop)]
 pub enum State {
     Head(Head),
@@ -139,7 +139,7 @@ fn with_stamps(head: Head, stamps: Stamps) -> Head
     }
 }
 
-// The tree that a head tells.
+// The tree of a head.
 fn tree_of(alloc: Global, head: Head) -> Draft
     ensures { result.tree ≡ head_tree head }
 {
@@ -163,7 +163,7 @@ fn tree_of(alloc: Global, head: Head) -> Draft
     )
 }
 
-// What is told of an entry by its own line alone, where the tree has room for it.
+// The entry of an entry line, if the tree has room for it.
 fn opened(alloc: Global, draft: &Draft, line: EntryText) -> Result<Open, ManifestKind>
     requires form { IsLine (entry_value line) }
     ensures fields { IfOk result (λ o. (o.sort ≡ line.entry.sort) × (o.stamp ≡ line.entry.stamp)
@@ -203,7 +203,7 @@ fn body_of_sort(sort: Sort, bytes: Vec<u8>) -> Body
     }
 }
 
-// The note of an entry, empty where it has none.
+// The note of an entry, empty if it has none.
 fn note_or_none(note: Option<Comment>) -> Comment
     ensures { result ≡ unwrap_or note [] }
 {
@@ -213,7 +213,7 @@ fn note_or_none(note: Option<Comment>) -> Comment
     }
 }
 
-// Adds an entry whose lines are all read, in its room.
+// Adds an entry in its room, after all its lines are read.
 fn close(alloc: Global, draft: &mut Draft, last: &mut Open) -> Result<(), ManifestKind>
     requires room { (path : List (List ℕ)) × IsRoomFor draft.old path last.old.room }
     ensures tree { IfOk result (λ _. (i : Item) → IsOpen last.old i
@@ -230,7 +230,7 @@ fn close(alloc: Global, draft: &mut Draft, last: &mut Open) -> Result<(), Manife
     }
 }
 
-// The state behind the first entry line.
+// The state after the first entry line.
 fn first_entry(alloc: Global, head: Head, line: EntryText) -> Result<State, ManifestKind>
     requires form { IsLine (entry_value line) }
     ensures lines { IsWell (bare head)
@@ -287,7 +287,7 @@ fn take_note(reading: &mut Reading, text: &[u8]) -> Result<(), ManifestKind>
     }
 }
 
-// Appends one byte so many times; where memory is refused, the bytes stay.
+// Appends `count` copies of a byte; if memory is refused, nothing changes.
 fn push_copies(bytes: &mut Vec<u8>, count: u32, byte: u8) -> Result<(), ManifestKind>
     ensures bytes { IfOk result (λ _. bytes.new.items ≡ bytes.old.items ++ replicate count byte) }
     ensures err { IfErr result (λ kind. kind ≡ ManifestKind.NoMemory) }
@@ -298,7 +298,7 @@ fn push_copies(bytes: &mut Vec<u8>, count: u32, byte: u8) -> Result<(), Manifest
     }
 }
 
-// Appends what a line gives; where memory is refused, a part of it may stand.
+// Appends the bytes of a line; if memory is refused, some of them may have been appended.
 fn push_run(bytes: &mut Vec<u8>, run: Run) -> Result<(), ManifestKind>
     requires form { IsRun (run_value run) }
     ensures bytes { IfOk result (λ _.
@@ -311,7 +311,7 @@ fn push_run(bytes: &mut Vec<u8>, run: Run) -> Result<(), ManifestKind>
     }
 }
 
-// Reads a line of bytes.
+// Reads a data or fill line.
 fn take_run(reading: &mut Reading, run: Run) -> Result<(), ManifestKind>
     requires form { IsRun (run_value run) }
     ensures lines { (m : Manifest) (e : Entries) → IsWell m → IsReading reading.old m e
@@ -329,7 +329,7 @@ fn take_run(reading: &mut Reading, run: Run) -> Result<(), ManifestKind>
     }
 }
 
-// The state behind a line of this form, where no entry line was.
+// The state after a line of this form, before any entry line.
 fn line_in_head(alloc: Global, head: Head, line: Line) -> Result<State, ManifestKind>
     requires form { IsLine (line_value line) }
     ensures lines { IsWell (bare head)
@@ -354,7 +354,7 @@ fn line_in_head(alloc: Global, head: Head, line: Line) -> Result<State, Manifest
     }
 }
 
-// Reads a line of this form, where an entry line was.
+// Reads a line of this form, after an entry line.
 fn line_in_entries(alloc: Global, reading: &mut Reading, line: Line) -> Result<(), ManifestKind>
     requires form { IsLine (line_value line) }
     requires told { (m : Manifest) × (e : Entries) × IsReading reading.old m e }
@@ -372,7 +372,7 @@ fn line_in_entries(alloc: Global, reading: &mut Reading, line: Line) -> Result<(
     }
 }
 
-/// The state behind the first line.
+/// The state after the first line.
 pub fn first_state(line: &[u8]) -> Result<State, ManifestKind>
     ensures lines { IfOk result (λ s. (m : Manifest) × IsWell m × StateMatches s m
         × (manifest_lines m ≡ line.now ∷ [])) }
@@ -402,7 +402,7 @@ pub fn next_state(alloc: Global, state: &mut State, line: &[u8]) -> Result<(), M
     }
 }
 
-// The tree of a draft, beside a number of blocks.
+// The tree of a draft, with the number of blocks.
 fn finished(alloc: Global, draft: Draft, blocks: u32) -> Result<(Tree, u32), ManifestKind>
     ensures told { IfOk result (λ r. (r.0 ≡ draft.tree) × (r.1 ≡ blocks)) }
     ensures err { IfErr result (λ kind. kind ≡ ManifestKind.NoMemory) }
@@ -413,7 +413,7 @@ fn finished(alloc: Global, draft: Draft, blocks: u32) -> Result<(Tree, u32), Man
     }
 }
 
-/// The tree and the number of blocks that the lines tell.
+/// The tree and the number of blocks of the lines.
 pub fn finish(alloc: Global, state: State) -> Result<(Tree, u32), ManifestKind>
     requires told { (m : Manifest) × StateMatches state m }
     ensures told { (m : Manifest) → IsWell m → StateMatches state m

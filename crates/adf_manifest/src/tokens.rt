@@ -1,4 +1,4 @@
-// Tokens of a line: what follows a word, what stands around a byte, numbers and stamps.
+// Tokens of a line: the rest after a prefix, the parts around a byte, numbers and dates.
 
 ghost use Rattle.std.specs.Prelude.{◌≡◌, ◌≢◌, ◌<◌, ◌^◌, ◌++◌, ◌∷◌, ℕ, List, IfSome, IfNone, length};
 ghost use Rattle.std.specs.Fmt.{decimal};
@@ -11,7 +11,7 @@ ghost use Rattle.adf_tree.specs.Bounds.{AreStamps};
 use adf_fields::Stamp;
 use adf_tree::Stamps;
 
-/// The rest of a text behind a prefix.
+/// The rest of a text after a prefix.
 pub fn after<'a>(text: &'a [u8], prefix: &[u8]) -> Option<&'a [u8]>
     ensures some { IfSome result (λ rest. text.now ≡ prefix.now ++ rest.now) }
     ensures none { IfNone result ((rest : List ℕ) → text.now ≢ prefix.now ++ rest) }
@@ -19,7 +19,7 @@ pub fn after<'a>(text: &'a [u8], prefix: &[u8]) -> Option<&'a [u8]>
     text.strip_prefix(prefix)
 }
 
-/// What stands before and after the first of these bytes.
+/// The parts before and after the first occurrence of a byte.
 pub fn cut_at<'a>(text: &'a [u8], byte: u8) -> Option<(&'a [u8], &'a [u8])>
     ensures some { IfSome result (λ r. (text.now ≡ r.0.now ++ byte ∷ r.1.now)
         × LacksByte byte r.0.now) }
@@ -29,7 +29,7 @@ pub fn cut_at<'a>(text: &'a [u8], byte: u8) -> Option<(&'a [u8], &'a [u8])>
     Some((&text[..at], &text[at + 1..]))
 }
 
-/// The three parts around the first two of these bytes.
+/// The three parts around the first two occurrences of a byte.
 pub fn cut_twice<'a>(text: &'a [u8], byte: u8) -> Option<(&'a [u8], &'a [u8], &'a [u8])>
     ensures some { IfSome result (λ r. (text.now ≡ r.0.now ++ byte ∷ (r.1.now ++ byte ∷ r.2.now))
         × LacksByte byte r.0.now × LacksByte byte r.1.now) }
@@ -41,14 +41,14 @@ pub fn cut_twice<'a>(text: &'a [u8], byte: u8) -> Option<(&'a [u8], &'a [u8], &'
     Some((first, second, third))
 }
 
-// Whether a text may be a number by its length and its first byte.
+// Whether the length and the first byte of a text are those of a number.
 fn has_number_front(text: &[u8]) -> bool
     ensures { result ≡ has_number_front text.now }
 {
     !text.is_empty() && text[0] != b'+' && (text[0] != b'0' || text.len() == 1)
 }
 
-// The number that a text of one digit is.
+// Reads one digit as a number.
 fn read_digit(text: &[u8]) -> Option<u32>
     ensures { IfSome result (λ n. text.now ≡ decimal n) }
 {
@@ -58,7 +58,7 @@ fn read_digit(text: &[u8]) -> Option<u32>
     }
 }
 
-// The same of a text of any length.
+// Reads any number of digits as a number.
 fn read_digits(text: &[u8]) -> Option<u32>
     ensures some { IfSome result (λ n. text.now ≡ decimal n) }
     ensures none { IfNone result ((n : ℕ) → n < 2 ^ 32 → text.now ≢ decimal n) }
@@ -75,7 +75,7 @@ fn read_digits(text: &[u8]) -> Option<u32>
     }
 }
 
-/// The number below 2 ^ 32 that a text is in decimal, without leading zeros.
+/// Reads a decimal number below 2^32, without leading zeros.
 pub fn read_number(text: &[u8]) -> Option<u32>
     ensures some { IfSome result (λ n. text.now ≡ decimal n) }
     ensures none { IfNone result ((n : ℕ) → n < 2 ^ 32 → text.now ≢ decimal n) }
@@ -86,7 +86,7 @@ pub fn read_number(text: &[u8]) -> Option<u32>
     }
 }
 
-/// The stamp that a text is: days, minutes and ticks in decimal, joined by `:`.
+/// Reads a date: days, minutes and ticks in decimal, joined by `:`.
 pub fn read_stamp(text: &[u8]) -> Option<Stamp>
     ensures some { IfSome result (λ s. text.now ≡ plain_text s) }
     ensures none { IfNone result ((s : StampValue) → IsStamp s → text.now ≢ plain_text s) }
@@ -98,7 +98,7 @@ pub fn read_stamp(text: &[u8]) -> Option<Stamp>
     Some(Stamp { days, mins, ticks })
 }
 
-/// The three stamps that a text is, joined by spaces.
+/// Reads three dates, joined by spaces.
 pub fn read_stamps(text: &[u8]) -> Option<Stamps>
     ensures some { IfSome result (λ s. text.now ≡ stamps_text s) }
     ensures none { IfNone result ((s : StampsValue) → AreStamps s → text.now ≢ stamps_text s) }

@@ -1,4 +1,4 @@
--- What a walk asks for once a part more is taken: what it asked for before, and what comes after the part.
+-- The parts that a walk asks for after another part is taken: those from before, and those after that part.
 use Rattle.std.proofs.Common.{◌≡◌, ◌≢◌, ℕ, zero, suc, List, ◌∷◌, ◌⊎◌, inl, inr, ◌+◌, ◌/◌, ◌<◌, refl, sym, subst, arith}
 use Rattle.adf_blocks.specs.declared.layout.TheConstants.{FIRST_SLOT, POINTERS, SLOTS}
 use Rattle.adf_blocks.specs.Sizes.{blocks, pages_needed}

@@ -1,4 +1,4 @@
--- A course that begins.
+-- The start of a course.
 use Rattle.std.specs.Prelude.{Bool, true, false, cond, Some, None, map, slice_index, slice_index_or, replicate, ◌==◌}
 use Rattle.std.proofs.Common.{◌≡◌, ℕ, zero, suc, List, [], ◌∷◌, ◌++◌, length, set, inl, inr, ◌+◌, ◌<◌, ◌≤◌, refl, sym, subst, ap, ◌∙◌, arith}
 use Rattle.std.specs.Ordering.{is_eq, nat_cmp}

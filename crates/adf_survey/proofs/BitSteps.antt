@@ -1,4 +1,4 @@
--- What the bits tell.
+-- The findings of the bits.
 use Rattle.std.specs.Prelude.{Bool, true, false, cond, not, Some, None, IsTrue, ◌↔◌, slice_index_or}
 use Rattle.std.proofs.Common.{◌≡◌, ℕ, zero, suc, length, List, [], ◌∷◌, ◌++◌, inl, inr, ◌+◌, ◌-◌, ◌/◌, ◌%◌, ◌<◌, ◌≤◌, refl, sym, subst, ap, ◌∙◌, arith}
 use Rattle.std.specs.Ordering.{is_eq}

@@ -1,4 +1,4 @@
--- What is kept of findings is the entries that they concern.
+-- The entries kept for the findings are those that they concern.
 use Rattle.std.specs.Prelude.{Some, None, cond, is_some, map, slice_get}
 use Rattle.std.specs.Option.{option_and_then, option_flatten}
 use Rattle.std.proofs.Common.{false, ◌≡◌, ℕ, zero, suc, List, [], ◌∷◌, ◌++◌, Option, inl, inr, refl, sym, ap, subst, ◌∙◌}

@@ -1,4 +1,4 @@
--- The places of a course: chain by chain in a directory, extension blocks before data blocks in a file, node by node.
+-- The positions of a course: by chain in a directory, extension blocks before data blocks in a file, node by node.
 use Rattle.std.specs.Prelude.{Option, Some, None, slice_index}
 use Rattle.std.proofs.Common.{◌≡◌, ◌≢◌, ℕ, zero, suc, length, List, ◌⊎◌, inl, inr, ◌+◌, ◌*◌, ◌/◌, ◌<◌, ◌≤◌, refl, sym, subst, ap, ◌∙◌, arith}
 use native.Mathlib.Decide.{ℕ_discrete}

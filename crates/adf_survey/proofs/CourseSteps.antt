@@ -1,4 +1,4 @@
--- A course is gone on with: the part at its place is taken or passed over, or its place moves on where nothing is asked for.
+-- The steps of a course: the part at its position is taken or passed over, or the position advances without one.
 use Rattle.std.specs.Prelude.{Bool, false, not, ◌||◌, slice_index_or, Option, Some, None}
 use Rattle.std.proofs.Common.{◌≡◌, ℕ, zero, suc, length, List, ◌∷◌, inl, inr, ◌<◌, ◌≤◌, refl, sym, subst, ap, ◌∙◌, arith}
 use Rattle.std.specs.Global.{Vec}

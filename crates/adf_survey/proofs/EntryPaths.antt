@@ -1,4 +1,4 @@
--- The path of an entry is that of its directory and its name.
+-- The path of an entry is the path of its directory and its name.
 use Rattle.std.specs.Prelude.{Bool, true, false, ◌&&◌, cond, map, nat_le, reverse}
 use Rattle.std.proofs.Common.{◌≡◌, ℕ, zero, suc, List, [], ◌∷◌, ◌++◌, ◌<◌, ◌≤◌, refl, ap, ◌∙◌, arith, append_assoc, length, length-append, ◌+◌}
 use Rattle.std.proofs.lemmas.Grind.{reverse_onto}

@@ -1,4 +1,4 @@
--- Where the headers of a walk stand, by their numbers.
+-- The positions of the headers of a walk, by number.
 use Rattle.std.specs.Prelude.{true, false, not, ◌==◌, ◌&&◌, Option, Some, None, slice_get, slice_index}
 use Rattle.std.proofs.Common.{◌≡◌, ℕ, zero, suc, List, [], ◌∷◌, ◌++◌, length, ◌⊎◌, inl, inr, ◌-◌, ◌<◌, ◌≤◌, refl, sym, ap, subst, ◌∙◌, arith}
 use Rattle.std.proofs.lemmas.Bool.{and_parts, eqb-true, eq-eqb}

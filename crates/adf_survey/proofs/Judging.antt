@@ -1,4 +1,4 @@
--- How a part is judged, and what the bits tell, is decided.
+-- The judgement of a part and the findings of the bits are decided.
 use Rattle.std.specs.Prelude.{Bool, true, false, drop, slice_index}
 use Rattle.std.proofs.Common.{◌≡◌, ℕ, zero, suc, List, [], ◌∷◌, ◌++◌, ◌⊎◌, inl, inr, ◌-◌, ◌*◌, ◌/◌, ◌%◌, ◌<◌, ◌≤◌, ◌≢◌, refl, sym, ap, subst, arith}
 use native.Mathlib.Decide.{dec_le, dec_lt, map_dec, ℕ_discrete}

@@ -1,4 +1,4 @@
--- What is kept of an image tells of its survey.
+-- The result for an image is that of its survey.
 use Rattle.std.specs.Prelude.{Bool, None, Option, map, slice_get}
 use Rattle.std.specs.Option.{option_flatten}
 use Rattle.std.proofs.Common.{◌≡◌, ℕ, List, [], ◌∷◌, ◌++◌, ◌≤◌, refl, sym, ap, subst, ◌∙◌, arith, ◌*◌, ◌<◌, length}

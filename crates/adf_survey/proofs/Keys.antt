@@ -1,4 +1,4 @@
--- Keys that are one, and facts of a success.
+-- Equal keys, and facts of a success.
 use Rattle.std.specs.Prelude.{Bool, true, false, cond, Some, None, Result, Ok, Err, OnOk, ◌&&◌, ◌==◌}
 use Rattle.std.proofs.Common.{◌≡◌, ℕ, List, [], ◌∷◌, inl, inr, refl, sym, subst, ap, ◌∙◌}
 use Rattle.std.specs.Ordering.{is_eq}

@@ -1,4 +1,4 @@
--- What is found tells what a part's demands ask.
+-- The state of a survey has the facts that the demands on a part need.
 use Rattle.std.specs.Prelude.{Bool, true, false, cond, not, nat_le, nat_lt, ◌==◌, ◌||◌, ◌&&◌, Some, slice_index_or}
 use Rattle.std.proofs.Common.{◌≡◌, ◌≢◌, ℕ, zero, suc, List, [], ◌∷◌, inl, inr, ◌*◌, ◌/◌, ◌<◌, ◌≤◌, refl, sym, subst, ap, ◌∙◌, arith}
 use Rattle.std.specs.Option.{unwrap_or}

@@ -1,16 +1,16 @@
--- how a part is judged
+-- the judgement of a part
 pub mod Judging
 -- the first finding, and surveys without one
 pub mod FirstFindings
--- how an image starts
+-- the start of an image
 pub mod Starts
--- an image has one survey, and has one
+-- an image has exactly one survey
 pub mod OneSurvey
 pub mod SomeSurvey
 -- the blocks of files
 mod FileBlocks
 mod SoundFiles
--- where paths lead
+-- look-up of paths
 pub mod Lookups
 mod EntryPaths
 -- the blocks of sound entries
@@ -23,15 +23,15 @@ pub mod AsksSplit
 pub mod Known
 pub mod Outcomes
 pub mod CourseSteps
--- the places of a course, in turn
+-- the positions of a course, in turn
 pub mod CoursePlaces
 pub mod MapPlaces
 pub mod Begun
 pub mod BitSteps
 pub mod SoundMarks
--- where headers stand, and the entries that findings concern
+-- the positions of headers, and the entries that findings concern
 pub mod HeadPlaces
 pub mod Concerning
 pub mod Keeping
--- images that are gone through, and the marks that are kept
+-- images to survey, and the marks that are kept
 pub mod Openings

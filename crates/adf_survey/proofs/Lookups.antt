@@ -1,4 +1,4 @@
--- Look-up of paths in what is found.
+-- Look-up of paths among the entries found.
 use Rattle.std.specs.Prelude.{Bool, true, ◌↔◌, drop, get_or}
 use Rattle.std.proofs.Math.Seq.{drop-cons}
 use Rattle.std.specs.Str.{bytes_eq}

@@ -1,4 +1,4 @@
--- The places of a course among the pages of the bitmap: a bitmap extension block comes before the pages that it names.
+-- The positions of a course among the bitmap pages: a bitmap extension block comes before its pages.
 use Rattle.std.specs.Prelude.{Option, Some, None}
 use Rattle.std.proofs.Common.{◌≡◌, ℕ, zero, suc, List, ◌∷◌, inl, inr, ◌+◌, ◌-◌, ◌*◌, ◌/◌, ◌%◌, ◌<◌, ◌≤◌, refl, sym, subst, arith}
 use Rattle.std.proofs.lemmas.Bool.Decides.{nat_tests}

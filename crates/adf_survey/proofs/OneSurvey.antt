@@ -1,4 +1,4 @@
--- An image has one survey at most.
+-- An image has at most one survey.
 use Rattle.std.specs.Prelude.{None, Some}
 use Rattle.std.proofs.Common.{◌≡◌, ℕ, suc, List, [], ◌∷◌, ◌++◌, ◌+◌, ◌-◌, ◌<◌, length, refl, sym, subst, ◌∙◌, arith}
 use native.Mathlib.Decide.{dec_lt}

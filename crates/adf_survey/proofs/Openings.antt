@@ -1,5 +1,5 @@
--- Whether the parts of an image are gone through, and the marks that are kept.
--- Letters: w the walk of a survey, fs its findings; v what is kept; n a node.
+-- Whether the parts of an image are surveyed, and the marks that are kept.
+-- Letters: w the walk of a survey, fs its findings; v a result; n a node.
 use Rattle.std.specs.Prelude.{nat_le, true, false}
 use Rattle.std.proofs.Common.{◌≡◌, ℕ, List, [], inl, inr, refl, subst, arith}
 use Rattle.std.proofs.lemmas.Bool.{cases_lt}

@@ -1,4 +1,4 @@
--- What comes of a part that is next.
+-- The outcome for a part that is next.
 use Rattle.std.specs.Prelude.{Some, None}
 use Rattle.std.proofs.Common.{◌≡◌, ℕ, List, [], ◌∷◌, ◌++◌, refl, sym, subst, ap, ◌∙◌}
 use Rattle.adf_blocks.specs.declared.cause.Cause.{Cause}

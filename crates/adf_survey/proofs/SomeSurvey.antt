@@ -1,5 +1,5 @@
--- An image has a survey: parts are judged until nothing is next. Each that is taken leaves one free block less, and of each list of what
--- the walk can ask for each that is passed over leaves one role less.
+-- An image has a survey: parts are judged until none is next. Each part taken leaves one free block fewer;
+-- each part passed over leaves one role fewer in the lists of what the walk can ask for.
 use Rattle.std.specs.Prelude.{Some, None}
 use Rattle.std.proofs.Common.{◌≡◌, ℕ, zero, suc, List, [], ◌∷◌, ◌++◌, inl, inr, ◌+◌, ◌-◌, ◌*◌, ◌/◌, ◌%◌, ◌<◌, length, refl, sym, ap, subst, ◌∙◌, arith}
 use native.Mathlib.Decide.{ℕ_discrete}

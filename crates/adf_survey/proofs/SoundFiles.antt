@@ -1,4 +1,4 @@
--- The data blocks of a sound file are those that its table names.
+-- The data blocks of a sound file are those in its table.
 use Rattle.std.specs.Prelude.{get_or, slice_index}
 use Rattle.std.proofs.Common.{◌≡◌, ℕ, suc, List, [], ◌++◌, ◌*◌, ◌^◌, ◌<◌, length, sym, ap, subst, ◌∙◌, arith}
 use Rattle.adf_blocks.specs.declared.layout.TheConstants.{SECONDARY_TYPE, SIZE, ST_FILE}

@@ -1,5 +1,5 @@
--- How an image starts: its size, its boot bytes and its root.
--- Letters: xs, ys demands; r a role; at, c the block and the cause that are noted.
+-- The start of an image: its size, its boot bytes and its root.
+-- Letters: xs, ys demands; r a role; at, c the block and the cause of a finding.
 use Rattle.std.specs.Prelude.{true, false}
 use Rattle.std.proofs.Common.{◌≡◌, ℕ, List, [], ◌∷◌, ◌++◌, inl, inr, refl, sym, ap, ◌∙◌}
 use Rattle.adf_fields.specs.Words.{block}

@@ -1,4 +1,4 @@
--- What is found, as parts are taken and passed over.
+-- The state of a survey when parts are taken and passed over.
 use Rattle.std.specs.Prelude.{Bool, true, false, cond, ◌==◌, Some, map, slice_index, slice_index_or}
 use Rattle.std.proofs.Common.{◌≡◌, ℕ, zero, suc, List, [], ◌∷◌, ◌++◌, length, set, inl, inr, ◌<◌, ◌≤◌, refl, sym, subst, ap, ◌∙◌, arith, length-set}
 use Rattle.std.proofs.Common.{get_or-set_same, get_or-set_other}

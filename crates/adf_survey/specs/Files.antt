@@ -1,5 +1,6 @@
--- Files that nothing is said against.
--- Letters: w the walk of a survey, fs its findings; n a file's node; h the block of its header; m a number of a member; k a number of a data block, from 0.
+-- Sound files.
+-- Letters: w the walk of a survey, fs its findings; n a file's node; h its header's block; m a position in its table;
+-- k the number of a data block, from 0.
 use Rattle.std.specs.Prelude.{◌≡◌, ◌*◌, ◌/◌, ◌<◌, ℕ, List, [], ◌∷◌, ◌++◌, length}
 use Rattle.std.proofs.Common.{zero, suc}
 use Rattle.adf_blocks.specs.declared.layout.TheConstants.{EXTENSION, POINTERS, SECONDARY_TYPE, ST_FILE}
@@ -17,7 +18,7 @@ pub record FileValue : Type 0 where
   pub head : ℕ
   pub blocks : List ℕ
 
--- each of its data blocks lies in the image, and there are as many as its size asks for
+-- each data block is inside the image, and their number is that for the size
 pub record HasItsBlocks (f : FileValue) : Type 0 where
   pub whole : length f.image ≡ 512 * blocks f.image
   pub inside : (k b : ℕ) → At f.blocks k b → b < blocks f.image
@@ -36,20 +37,20 @@ IsSoundFile image w fs n =
 abbrev pub file_in : List ℕ → List (Role × ℕ) → ℕ → FileValue
 file_in image w n = record { image = image; head = node_block w n; blocks = datas_in w n }
 
--- member m of a header followed by its extension blocks, each of which is named by the one before
+-- block m of a table: a header, then its extension blocks, each with a pointer to the next
 abbrev pub member_from : List ℕ → ℕ → ℕ → ℕ
 member_from image h zero = h
 member_from image h (suc m) = word_in image (member_from image h m) EXTENSION
 
--- the block that the table of a file names for data block k + 1
+-- the pointer to data block k + 1 in the table of a file
 abbrev pub named_from : List ℕ → ℕ → ℕ → ℕ
 named_from image h k = word_in image (member_from image h (k / POINTERS)) (table_word k)
 
--- the blocks that it names for the first data blocks, so many
+-- the pointers to the first data blocks in the table of a file
 abbrev pub names_from : List ℕ → ℕ → ℕ → List ℕ
 names_from image h zero = []
 names_from image h (suc k) = names_from image h k ++ named_from image h k ∷ []
 
--- the file with its header at a block, by its table
+-- the file with its header at a block, from its table
 abbrev pub file_from : List ℕ → ℕ → FileValue
 file_from image h = record { image = image; head = h; blocks = names_from image h (data_count image h) }

@@ -1,5 +1,5 @@
--- Which entries of a survey are sound.
--- Letters: w the walk of a survey, fs its findings; n an entry's node; v what is kept.
+-- The marks of the sound entries.
+-- Letters: w the walk of a survey, fs its findings; n an entry's node; v a result.
 use Rattle.std.specs.Prelude.{◌≡◌, ◌↔◌, ◌&&◌, ℕ, Bool, true, List, nat_le}
 use Rattle.adf_volume.specs.Walk.{Role, node_block}
 use Rattle.adf_survey.specs.Marks.{has_mark}
@@ -7,10 +7,10 @@ use Rattle.adf_survey.specs.Sound.{IsSound}
 use Rattle.adf_survey.specs.Survey.{FindingValue}
 use Rattle.adf_survey.specs.Surveyed.{Surveyed}
 
--- the entries that nothing is said against are marked, and no others
+-- an entry is marked if and only if it is sound
 abbrev pub AreMarks : List ℕ → List (Role × ℕ) → List FindingValue → (ℕ → Bool) → Type 0
 AreMarks image w fs sound = (n : ℕ) → (sound n ≡ true) ↔ IsSound image w fs n (node_block w n)
 
--- the marks that are kept
+-- the marks in a result
 abbrev pub mark_in : Surveyed → ℕ → Bool
 mark_in v n = nat_le 1 n && has_mark v.sound n

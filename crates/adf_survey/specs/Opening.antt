@@ -1,4 +1,4 @@
--- What an image whose root is taken tells before its entries.
+-- The facts of an image whose root is taken.
 use Rattle.std.specs.Prelude.{List, ℕ}
 use Rattle.adf_fields.specs.Words.{block}
 use Rattle.adf_blocks.specs.RootBlock.{label_told, stamps_at}
@@ -6,7 +6,7 @@ use Rattle.adf_blocks.specs.Sizes.{blocks}
 use Rattle.adf_volume.specs.Image.{kind_of, root_of}
 use Rattle.adf_survey.specs.declared.opening.Opening.{Opening}
 
--- what the size, the boot bytes and the root tell
+-- the facts in the size, the boot bytes and the root
 abbrev pub opening_in : List ℕ → Opening
 opening_in image = record {
   kind = kind_of image;

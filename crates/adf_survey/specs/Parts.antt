@@ -20,19 +20,19 @@ role_of (HeadPart n p s j) = Head n p s j
 role_of (ExtPart n k) = Ext n k
 role_of (DataPart n k) = Data n k
 
--- the numbers that a role is ordered by
+-- the numbers that order a role
 abbrev pub key_of : Role → Key
 key_of r = record { first = first r; second = second r; third = third r }
 
--- keys in the order of their numbers
+-- keys ordered by their numbers
 abbrev pub by_key : Key → Key → Ordering
 by_key a b = ordering_then (nat_cmp a.first b.first) (ordering_then (nat_cmp a.second b.second) (nat_cmp a.third b.third))
 
--- the role of a part, where there is one
+-- the role of a part, if there is one
 abbrev pub part_role : Option Part → Option Role
 part_role None = None
 part_role (Some p) = Some (role_of p)
 
--- the value of a finding as the code has it
+-- the value of a finding in the code
 abbrev pub finding_value : Finding → FindingValue
 finding_value f = record { part = part_role f.part; block = f.block; cause = f.cause }

@@ -1,4 +1,4 @@
--- Images that are gone through.
+-- Images to survey.
 use Rattle.std.specs.Prelude.{◌≡◌, ◌==◌, ◌&&◌, ℕ, Bool, List, [], ◌∷◌, Option, Some, None}
 use Rattle.adf_fields.specs.Words.{word}
 use Rattle.adf_blocks.specs.declared.layout.TheConstants.{SECONDARY_TYPE, ST_ROOT, TYPE, T_SHORT}
@@ -10,7 +10,7 @@ use Rattle.adf_volume.specs.Walk.Role.{Root}
 use Rattle.adf_volume.specs.declared.start.Unopened.{Unopened}
 use Rattle.adf_survey.specs.Survey.{FindingValue, finding}
 
--- an image of whole blocks, of an allowed number, of this kind and so many blocks
+-- an image of whole blocks, their number allowed, of this kind and number of blocks
 pub record IsSized (image : List ℕ) (read : Kind) (n : ℕ) : Type 0 where
   pub size : IsSize image
   pub kind : read ≡ kind_of image
@@ -20,7 +20,7 @@ pub record IsSized (image : List ℕ) (read : Kind) (n : ℕ) : Type 0 where
 abbrev pub has_root_type : List ℕ → Bool
 has_root_type b = (word b TYPE == T_SHORT) && (word b SECONDARY_TYPE == ST_ROOT)
 
--- the finding of the root that is its cause, where it has one
+-- the findings of the root: its cause, if it has one
 abbrev pub root_findings : Option Unopened → List FindingValue
 root_findings None = []
 root_findings (Some u) = finding (Some Root) u.block u.cause ∷ []

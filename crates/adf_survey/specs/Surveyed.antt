@@ -1,5 +1,5 @@
--- What a survey keeps.
--- Letters: v what is kept; w, fs the walk and the findings of the survey; k the place of a finding; n a node.
+-- The results of a survey.
+-- Letters: v a result; w, fs the walk and the findings of the survey; k the index of a finding; n a node.
 use Rattle.std.specs.Prelude.{◌≡◌, ◌≤◌, ◌-◌, ◌↔◌, ℕ, Bool, true, List, Option, length, map, slice_get, slice_index}
 use Rattle.std.specs.Option.{option_flatten}
 use Rattle.adf_volume.specs.Walk.{Role, heads, node_block}
@@ -11,7 +11,7 @@ use Rattle.adf_survey.specs.Parts.{finding_value}
 use Rattle.adf_survey.specs.Sound.{IsSound}
 use Rattle.adf_survey.specs.Survey.{FindingValue, IsSurvey}
 
--- what is kept of an image: the findings, the entries that they concern; the nodes' blocks, the nodes of their directories, whether they are sound
+-- the result: the findings and the entries they concern; for each node its block, its parent, and whether it is sound
 pub record Surveyed : Type 0 where
   pub image : List ℕ
   pub findings : List Finding
@@ -20,12 +20,12 @@ pub record Surveyed : Type 0 where
   pub parents : List ℕ
   pub sound : List Bool
 
--- what is kept of these
+-- the result from its parts
 abbrev pub kept_of : List ℕ → List Finding → List (Option ℕ) → List ℕ → List ℕ → List Bool → Surveyed
 kept_of image findings concerned nodes parents sound =
     record { image = image; findings = findings; concerned = concerned; nodes = nodes; parents = parents; sound = sound }
 
--- what is kept tells of this walk and these findings of a survey
+-- the result is that of this walk and these findings
 pub record TellsOf (v : Surveyed) (w : List (Role × ℕ)) (fs : List FindingValue) : Type 0 where
   pub survey : IsSurvey v.image w fs
   pub findings : map finding_value v.findings ≡ fs
@@ -35,6 +35,6 @@ pub record TellsOf (v : Surveyed) (w : List (Role × ℕ)) (fs : List FindingVal
   pub count : length v.nodes - 1 ≡ heads w
   pub sound : (n : ℕ) → 1 ≤ n → (has_mark v.sound n ≡ true) ↔ IsSound v.image w fs n (node_block w n)
 
--- what is kept tells of a survey
+-- the result is that of a survey
 abbrev pub IsOfSurvey : Surveyed → Type 0
 IsOfSurvey v = (w : List (Role × ℕ)) × (fs : List FindingValue) × TellsOf v w fs

@@ -1,4 +1,4 @@
-// What the bits tell of the blocks.
+// Comparison of the bitmap with the blocks that are owned.
 
 ghost use Rattle.std.specs.Prelude.{◌≡◌, ◌≤◌, ◌<◌, ◌+◌, ◌-◌, ◌/◌, ◌%◌, ◌↔◌, List, length, IsTrue, IsBitSet, OnOk};
 ghost use Rattle.adf_blocks.specs.declared.layout.TheConstants.{PAGE_BITS};
@@ -12,7 +12,7 @@ use crate::part::{Finding, Part};
 use adf_blocks::{BITMAP_FLAG, Cause, PAGE_FIRST, VALID, place_of};
 use adf_fields::NoMemory;
 
-// Whether the root says that the bitmap is valid.
+// Whether the bitmap flag of the root is that of a valid bitmap.
 fn is_validated(image: &Image<'_>) -> bool
     ensures { IsTrue result ↔ IsValidated image.now }
 {
@@ -27,7 +27,7 @@ fn is_set(word: u32, bit: u32) -> bool
     word & (1 << bit) != 0
 }
 
-// Whether a bit of a page is set; nothing where the page is not taken.
+// A bit of a page; `None` if the page was not taken.
 fn bit_of(image: &Image<'_>, found: &Found, page: u32, bit: u32) -> Option<bool>
     requires { bit < PAGE_BITS }
     ensures { IsBitOf image.now found.now page bit result }
@@ -42,7 +42,7 @@ fn bit_of(image: &Image<'_>, found: &Found, page: u32, bit: u32) -> Option<bool>
     }
 }
 
-// The cause that disagreeing tells: a block that is in use without an owner, or owned and free.
+// The cause of a bit that disagrees: a block in use without an owner, or owned and free.
 fn cause_told(is_owned: bool, is_avoided: bool, is_free: bool) -> Option<Cause>
     ensures { result ≡ cause_told is_owned is_avoided is_free }
 {
@@ -53,7 +53,7 @@ fn cause_told(is_owned: bool, is_avoided: bool, is_free: bool) -> Option<Cause>
     }
 }
 
-// What the bit of block `b` tells against it.
+// The cause of the bit of block `b`, if it disagrees.
 #[tactic(auto, using(crate::proofs::BitSteps::no_page, crate::proofs::BitSteps::page_tells))]
 fn cause_of_bit(image: &Image<'_>, found: &Found, b: u32) -> Option<Cause>
     requires low { 2 ≤ b }
@@ -75,7 +75,7 @@ fn cause_of_bit(image: &Image<'_>, found: &Found, b: u32) -> Option<Cause>
     }
 }
 
-// Compares the bit of block `b`.
+// Compares the bit of block `b`, and notes a finding if it disagrees.
 fn compare_bit(image: &Image<'_>, found: &mut Found, b: u32) -> Result<(), NoMemory>
     requires low { 2 ≤ b }
     requires inside { b < blocks image.now }
@@ -92,8 +92,8 @@ fn compare_bit(image: &Image<'_>, found: &mut Found, b: u32) -> Result<(), NoMem
     }
 }
 
-/// Where the bitmap is valid, compares the bit of each block whose page is taken with its owner, but not those of blocks that were
-/// passed over.
+/// If the bitmap is valid, compares the bit of each block with its owner. Skips a block if its page was not taken, or
+/// if it was passed over and has no owner.
 #[tactic(auto, using(crate::proofs::BitSteps::told_first, crate::proofs::BitSteps::told_last))]
 pub fn compare(image: &Image<'_>, found: &mut Found) -> Result<(), NoMemory>
     requires { IsFinished image.now found.old }

@@ -1,5 +1,5 @@
-// The course of a survey: the pages of the bitmap, then the nodes in order, of a directory its chains, of a file its extension
-// blocks and then its data blocks.
+// The course of a survey: the pages of the bitmap, then the nodes in order; for a directory its chains, for a file its
+// extension blocks, then its data blocks.
 
 ghost use Rattle.std.specs.Prelude.{◌≡◌, ◌<◌, ◌≤◌, ◌+◌, ◌^◌, IfOk, IfSome, OnOk, Some, length};
 ghost use Rattle.adf_blocks.specs.declared.layout.TheConstants.{SLOTS};
@@ -22,7 +22,7 @@ use adf_blocks::{
 };
 use adf_fields::NoMemory;
 
-/// A part that is next, a header with any number: the block that has a word that names its block, and the block named.
+/// A part that is next, a header with any number; the block that points to it; and its own block.
 #[derive(Clone, Copy, PartialEq, Eq, Drop)]
 pub struct Ask {
     pub part: Part,
@@ -41,7 +41,7 @@ fn of_part(part: Part, block: u32, cause: Cause) -> Finding
     }
 }
 
-// Judges a part that is next, and notes what is wrong: the part where it is to be taken; else it is passed over.
+// Judges the part that is next and notes its cause. Returns the part if it is to be taken, `None` if passed over.
 fn judge_next(image: &Image<'_>, found: &mut Found, ask: &Ask) -> Result<Option<Part>, NoMemory>
     requires { length found.old.nodes.items < 2 ^ 32 }
     ensures { IfOk result (λ o. (s : Course) → Holds image.now found.old (key_of (role_of ask.now.part)) s
@@ -65,7 +65,7 @@ fn judge_next(image: &Image<'_>, found: &mut Found, ask: &Ask) -> Result<Option<
     }
 }
 
-// Goes on with a part that word `i` of block `holder` names: its block where it is taken, none where it is passed over.
+// Judges and takes a part that word `i` of block `holder` points to; returns its block, `None` if it is passed over.
 fn go_on(
     image: &Image<'_>,
     found: &mut Found,
@@ -93,7 +93,7 @@ fn go_on(
     }
 }
 
-// The word that names a page, of the root or of a bitmap extension block.
+// The word that points to a page, in the root or in a bitmap extension block.
 fn page_word(page: u32) -> usize
     ensures named { result ≡ page_word page }
     ensures inside { result < 128 }
@@ -106,7 +106,7 @@ fn page_word(page: u32) -> usize
     }
 }
 
-// The word that names the bitmap extension block before a page, of the root or of the extension block before.
+// The word that points to the bitmap extension block before a page, in the root or in the extension block before.
 fn map_ext_word(page: u32) -> usize
     ensures named { result ≡ map_ext_word page }
     ensures inside { result < 128 }
@@ -118,8 +118,8 @@ fn map_ext_word(page: u32) -> usize
     }
 }
 
-// The block that names a page: the one that named the page before, or the bitmap extension block that comes next; none where
-// that is passed over.
+// The block that points to a page: the one that points to the page before, or the next bitmap extension block; `None`
+// if that is passed over.
 fn holder_of(
     image: &Image<'_>,
     found: &mut Found,
@@ -140,7 +140,7 @@ fn holder_of(
     Ok(holder)
 }
 
-// Goes through the pages of the bitmap and the bitmap extension blocks.
+// Visits the pages of the bitmap and the bitmap extension blocks.
 fn go_through_map(image: &Image<'_>, found: &mut Found) -> Result<(), NoMemory>
     requires { IsAtPage image.now found.old 0 (root_of image.now) }
     ensures { OnOk result (IsAt image.now found.new (before_node 0)) }
@@ -156,7 +156,7 @@ fn go_through_map(image: &Image<'_>, found: &mut Found) -> Result<(), NoMemory>
     Ok(())
 }
 
-// Goes through the chain of a slot of a directory.
+// Visits the chain of a slot of a directory.
 fn go_through_chain(
     image: &Image<'_>,
     found: &mut Found,
@@ -188,7 +188,7 @@ fn go_through_chain(
     Ok(())
 }
 
-// Goes through the chains of a directory, at block `b`.
+// Visits the chains of the directory at block `b`.
 fn go_through_dir(image: &Image<'_>, found: &mut Found, node: u32, b: u32) -> Result<(), NoMemory>
     requires { IsInDir image.now found.old node 0 b }
     ensures { OnOk result (IsAt image.now found.new (before_node (node + 1))) }
@@ -199,7 +199,7 @@ fn go_through_dir(image: &Image<'_>, found: &mut Found, node: u32, b: u32) -> Re
     Ok(())
 }
 
-// Goes through the extension blocks of a file, with its header at block `b`; how many are taken.
+// Visits the extension blocks of a file, with its header at block `b`; returns how many are taken.
 fn go_through_exts(image: &Image<'_>, found: &mut Found, node: u32, b: u32) -> Result<u32, NoMemory>
     requires { IsAtFile image.now found.old node b }
     ensures datas { IfOk result (λ exts. IsInDatas image.now found.new node b exts 0) }
@@ -217,7 +217,7 @@ fn go_through_exts(image: &Image<'_>, found: &mut Found, node: u32, b: u32) -> R
     Ok(exts)
 }
 
-// Goes through the data blocks of a file, with its header at block `b` and so many extension blocks.
+// Visits the data blocks of a file, with its header at block `b` and this many extension blocks.
 fn go_through_datas(
     image: &Image<'_>,
     found: &mut Found,
@@ -238,7 +238,7 @@ fn go_through_datas(
     Ok(())
 }
 
-// Goes through what a node has: the chains of a directory, or the blocks of a file.
+// Visits the parts of a node: the chains of a directory, or the blocks of a file.
 fn go_through_node(image: &Image<'_>, found: &mut Found, node: u32) -> Result<(), NoMemory>
     requires some { node < length found.old.nodes.items }
     requires at { IsAt image.now found.old (before_node node) }
@@ -256,7 +256,7 @@ fn go_through_node(image: &Image<'_>, found: &mut Found, node: u32) -> Result<()
     }
 }
 
-/// Goes through the parts of a volume, until nothing is next.
+/// Visits the parts of a volume, until none is next.
 pub fn run(image: &Image<'_>, found: &mut Found) -> Result<(), NoMemory>
     requires { IsAtPage image.now found.old 0 (root_of image.now) }
     ensures { OnOk result (IsFinished image.now found.new) }

@@ -1,4 +1,4 @@
-// The files of a survey that nothing is said against.
+// The sound files of a survey.
 
 ghost use Rattle.std.specs.Prelude.{◌≡◌, [], IsOk, IfOk};
 ghost use Rattle.std.specs.List.{concat};
@@ -15,7 +15,7 @@ use adf_volume::{Pieces, joined};
 use std::alloc::Global;
 use std::marker::Model;
 
-/// A file that nothing is said against: its size, and its data blocks in the order of its bytes.
+/// A file that no finding concerns: its size, and its data blocks in file order.
 #[derive(Drop)]
 pub struct SoundFile<'i> {
     image: &'i [u8],
@@ -39,7 +39,7 @@ impl<'i> Model for SoundFile<'i> {
         × HasItsBlocks (record { image = f.image.now; head = f.head; blocks = f.blocks.items }) };
 }
 
-// The blocks that the table of the file with its header at block `head` names for its first `count` data blocks.
+// The first `count` pointers to data blocks in the table of the file with its header at block `head`.
 fn named_blocks(
     alloc: Global,
     image: &Image<'_>,
@@ -89,14 +89,14 @@ impl<'i> SoundFile<'i> {
 }
 
 impl SoundFile<'_> {
-    /// How many bytes the file has.
+    /// The size of the file in bytes.
     pub fn size(&self) -> u32
         ensures { result ≡ word_in self.now.image self.now.head SIZE }
     {
         self.size
     }
 
-    /// The data blocks of the file, in the order of its bytes.
+    /// The data blocks of the file, in file order.
     pub fn blocks(&self) -> &[u32]
         ensures blocks { result.now ≡ self.now.blocks }
         ensures whole { HasItsBlocks self.now }
@@ -115,7 +115,7 @@ impl SoundFile<'_> {
         Pieces::new(self.image, self.kind, self.size, &self.blocks)
     }
 
-    /// The bytes of the file; `NoMemory` where room for them was refused. Where there are no bytes, no memory is taken.
+    /// The bytes of the file; `NoMemory` if the allocation fails. An empty file needs no memory.
     pub fn read(&self, alloc: Global) -> Result<Vec<u8>, NoMemory>
         ensures bytes { IfOk result (λ v. v.items ≡ file_content self.now) }
         ensures empty { self.now.blocks ≡ [] → IsOk result }

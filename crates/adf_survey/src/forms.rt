@@ -1,4 +1,4 @@
-// The form of a part's block.
+// The forms of parts.
 
 ghost use Rattle.std.specs.Prelude.{◌≡◌, ◌<◌, ◌≤◌, ◌==◌, ◌&&◌};
 ghost use Rattle.adf_fields.specs.Words.{word};
@@ -24,14 +24,14 @@ use adf_fields::Block;
 use adf_tree::Kind;
 use adf_volume::held_in;
 
-/// What the form of a part depends on beside its block: the block of its directory or its file's header, and the next data block.
+/// The context of a part: the block of its directory or of its file's header, and the next data block.
 #[derive(Clone, Copy, PartialEq, Eq, Drop)]
 pub struct Around {
     pub up: u32,
     pub next: u32,
 }
 
-// The first cause of block `b` as data block `number` of a file.
+// The first cause of block `b` in the form of data block `number` of a file.
 #[tactic(auto, unfolding(adf_blocks::specs::Sizes::chunk))]
 fn cause_of_data(image: &Image<'_>, number: u32, b: u32, around: Around) -> Option<Cause>
     requires { b < blocks image.now }
@@ -49,7 +49,7 @@ fn cause_of_data(image: &Image<'_>, number: u32, b: u32, around: Around) -> Opti
     }
 }
 
-/// The first cause of block `b` as the form of the part.
+/// The first cause of block `b` in the form of the part.
 pub fn first_cause(image: &Image<'_>, part: Part, b: u32, around: Around) -> Option<Cause>
     requires { b < blocks image.now }
     ensures { result ≡ first_cause (form_of image.now part b around) }
@@ -93,14 +93,14 @@ fn is_ext(b: &Block<'_>) -> bool
     b.word(TYPE) == T_LIST && b.word(SECONDARY_TYPE) == ST_FILE
 }
 
-// Whether the block says where it stands and in what.
+// Whether the block's own key and parent are these.
 fn is_keyed(b: &Block<'_>, own: u32, up: u32) -> bool
     ensures { result ≡ ((word b.now OWN_KEY == own) && (word b.now PARENT == up)) }
 {
     b.word(OWN_KEY) == own && b.word(PARENT) == up
 }
 
-// Whether the block says that it is this data block.
+// Whether the fields of the block are those of this data block.
 fn is_data(b: &Block<'_>, up: u32, number: u32, held: u32, next: u32) -> bool
     ensures { result ≡ ((word b.now TYPE == T_DATA) && ((word b.now DATA_HEAD == up)
         && (word b.now DATA_NUMBER == number) && (word b.now DATA_HELD == held) && (word b.now DATA_NEXT == next))) }
@@ -112,7 +112,7 @@ fn is_data(b: &Block<'_>, up: u32, number: u32, held: u32, next: u32) -> bool
             && b.word(DATA_NEXT) == next)
 }
 
-// Whether block `b` says of itself that it is data block `number` of a file.
+// Whether the fields of block `b` identify it as data block `number` of a file.
 fn is_data_itself(image: &Image<'_>, number: u32, b: u32, around: Around) -> bool
     requires { b < blocks image.now }
     ensures { result
@@ -128,7 +128,7 @@ fn is_data_itself(image: &Image<'_>, number: u32, b: u32, around: Around) -> boo
     }
 }
 
-/// Whether block `b` says of itself that it is the part; of a page, whether it has its form.
+/// Whether the fields of block `b` identify it as the part; for a page, whether its form holds.
 pub fn is_itself(image: &Image<'_>, part: Part, b: u32, around: Around) -> bool
     requires { b < blocks image.now }
     ensures { result ≡ itself_by (role_of part) (form_of image.now part b around) }

@@ -1,4 +1,4 @@
-// What is found so far.
+// The state of a survey.
 
 ghost use Rattle.std.specs.Prelude.{◌≡◌, ◌≤◌, ◌<◌, ◌+◌, ℕ, List, [], ◌∷◌, ◌++◌, IfOk, OnOk, Some, None};
 ghost use Rattle.std.specs.Prelude.{length, false, true, not, slice_index, slice_index_or, slice_set, map};
@@ -27,24 +27,24 @@ use adf_tree::Kind;
 use std::alloc::Global;
 use std::collections::{BTreeMap, BTreeSet};
 
-/// A data block that is taken: the node of its file, and the block.
+/// A data block that is taken: the node of its file, and its block.
 #[derive(Clone, Copy, PartialEq, Eq, Drop)]
 pub struct DataBlock {
     pub node: u32,
     pub block: u32,
 }
 
-/// Where a header stands in its directory: the slot, and the place in the slot's chain.
+/// The position of a header in its directory: the slot, and the index in the slot's chain.
 #[derive(Clone, Copy, PartialEq, Eq, Drop)]
 pub struct ChainPlace {
     pub slot: u8,
     pub place: u32,
 }
 
-/// What is found so far: the blocks of the parts that are taken, but for headers and data blocks, by their keys; by block,
-/// whether it is taken, and whether it was passed over; how many blocks are not taken; the blocks of nodes by number; how many
-/// extension blocks of a file are taken; the names in the chain that is gone through; what is wrong; the nodes of the
-/// directories of nodes; the places of headers, from node 1 on; and the data blocks that are taken.
+/// The state of a survey: the blocks of the taken parts by key, except headers and data blocks; for each block whether
+/// it is taken and whether it was passed over; the number of blocks not taken; the blocks of nodes; the number of
+/// extension blocks of each file; the names in the current chain; the findings; the parents of nodes; the positions of
+/// headers, from node 1 on; and the data blocks.
 #[derive(Drop)]
 pub struct Found {
     pub taken: BTreeMap<Key, u32>,
@@ -60,14 +60,14 @@ pub struct Found {
     pub datas: Vec<DataBlock>,
 }
 
-/// The data blocks of a file of so many bytes.
+/// The number of data blocks of a file of `size` bytes.
 pub fn count_of(kind: Kind, size: u32) -> u32
     ensures { result ≡ count kind size }
 {
     data_count(kind, size as usize) as u32
 }
 
-// The name of the header at block `b`, without the case of `a` to `z`.
+// The name of the header at block `b`, with `a` to `z` in upper case.
 #[tactic(auto, using(crate::proofs::Names::cut_name))]
 fn upper_name(alloc: Global, image: &Image<'_>, b: u32) -> Result<Vec<u8>, NoMemory>
     requires { b < blocks image.now }
@@ -83,7 +83,7 @@ fn upper_name(alloc: Global, image: &Image<'_>, b: u32) -> Result<Vec<u8>, NoMem
     Ok(name)
 }
 
-// A map with one entry more.
+// Adds an entry to a map.
 fn put(map: &mut BTreeMap<Key, u32>, key: Key, block: u32) -> Result<(), NoMemory>
     ensures { OnOk result (Updates by_key map.old map.new key (Some block)) }
 {
@@ -94,7 +94,7 @@ fn put(map: &mut BTreeMap<Key, u32>, key: Key, block: u32) -> Result<(), NoMemor
 }
 
 impl Found {
-    /// Nothing is found but the root.
+    /// The state with nothing but the root.
     #[tactic(auto, using(crate::proofs::Begun::stands_begun))]
     pub fn begin(alloc: Global, image: &Image<'_>) -> Result<Found, NoMemory>
         ensures stands { IfOk result (λ f. Stands image.now f (begun image.now [])) }
@@ -132,21 +132,21 @@ impl Found {
         }
     }
 
-    // The block of a node, 0 where there is none.
+    // The block of a node; 0 if there is none.
     pub fn node_block(&self, node: u32) -> u32
         ensures { result ≡ slice_index self.now.nodes.items node }
     {
         self.nodes.get(node as usize).copied().unwrap_or(0)
     }
 
-    // How many extension blocks of a file are taken.
+    // The number of extension blocks taken for a file.
     fn ext_count(&self, node: u32) -> u32
         ensures { result ≡ exts_found self.now node }
     {
         self.exts.get(&node).copied().unwrap_or(0)
     }
 
-    // The block of member `m` of the header of a file and its extension blocks, 0 where there is none.
+    // Block `m` of the table of a file, the header (0) or an extension block; 0 if there is none.
     pub fn member_block(&self, node: u32, m: u32) -> u32
         ensures { result ≡ member_in self.now node m }
     {
@@ -157,14 +157,14 @@ impl Found {
         self.taken.get(&key).copied().unwrap_or(0)
     }
 
-    // How many data blocks the file at block `head` has.
+    // The number of data blocks of the file at block `head`.
     pub fn data_count(&self, image: &Image<'_>, head: u32) -> u32
         ensures { result ≡ data_count image.now head }
     {
         count_of(image.kind(), image.word(head, SIZE))
     }
 
-    // What the table of a file has for data block `k + 1`, 0 past the last.
+    // The pointer to data block `k + 1` in the table of a file; 0 past the last.
     fn next_data(&self, image: &Image<'_>, node: u32, k: u32) -> u32
         ensures { result ≡ next_in image.now self.now node k }
     {
@@ -175,7 +175,7 @@ impl Found {
         image.word(member, FIRST_POINTER - k as usize % POINTERS)
     }
 
-    // What the form of the part depends on.
+    // The context of a part.
     pub fn around(&self, image: &Image<'_>, part: Part) -> Around
         ensures { result ≡ around_in image.now self.now part }
     {
@@ -196,7 +196,7 @@ impl Found {
         }
     }
 
-    // Whether a file has enough extension blocks, where the part is its first data block.
+    // Whether a file has enough extension blocks, if the part is its first data block.
     fn is_enough(&self, image: &Image<'_>, part: Part) -> bool
         ensures { result ≡ enough_in image.now self.now part }
     {
@@ -209,7 +209,7 @@ impl Found {
         }
     }
 
-    // Whether no header of the chain has the name of the one at block `b`, where the part is a header.
+    // Whether no header of the chain has the name of the one at block `b`, if the part is a header.
     fn is_new(&self, image: &Image<'_>, part: Part, b: u32) -> Result<bool, NoMemory>
         requires { b < blocks image.now }
         ensures { IfOk result (λ t. (w : List (Role × ℕ))
@@ -226,7 +226,7 @@ impl Found {
         Ok(!self.names.contains(&name))
     }
 
-    /// What is known of a part in block `b`.
+    /// The facts about a part in block `b`.
     pub fn facts(&self, image: &Image<'_>, part: Part, b: u32) -> Result<Facts, NoMemory>
         ensures enough { IfOk result (λ f. f.is_enough ≡ enough_in image.now self.now part) }
         ensures absent { IfOk result (λ f.
@@ -245,7 +245,7 @@ impl Found {
         })
     }
 
-    // Keeps the block of a part by its key, but that of a data block with its file's node; that of a header is its node's.
+    // Keeps the block of a part by its key; a data block with its file's node, a header with its own node.
     fn keep_block(&mut self, part: Part, b: u32) -> Result<(), NoMemory>
         ensures taken { OnOk result (IsPut part b self.old.taken self.new.taken) }
         ensures datas { OnOk result (self.new.datas.items
@@ -265,7 +265,7 @@ impl Found {
         }
     }
 
-    // Makes block `b` that of a part.
+    // Makes a part the owner of block `b`.
     fn own(&mut self, part: Part, b: u32) -> Result<(), NoMemory>
         requires inside { b < length self.old.owned.items }
         requires some { 1 ≤ self.old.left }
@@ -278,7 +278,7 @@ impl Found {
         Ok(())
     }
 
-    // Forgets the names of another chain, at the first place of a chain.
+    // Clears the names at the first position of a chain.
     fn begin_names(&mut self, place: u32)
         ensures names { (q : Vec ℕ) → contains by_name self.new.names q
             ≡ known_at place (contains by_name self.old.names q) }
@@ -289,7 +289,7 @@ impl Found {
         }
     }
 
-    // Keeps what is asked of headers and extension blocks later.
+    // Keeps the facts of headers and extension blocks that later parts need.
     fn keep(&mut self, image: &Image<'_>, part: Part, b: u32) -> Result<(), NoMemory>
         requires { b < blocks image.now }
         ensures kept { OnOk result (IsKept image.now part b self.old self.new) }
@@ -334,7 +334,7 @@ impl Found {
         self.own(part, b)
     }
 
-    /// Passes block `b` over.
+    /// Marks block `b` as passed over.
     pub fn pass(&mut self, b: u32)
         ensures { IsPassed b self.old self.new }
     {
@@ -343,7 +343,7 @@ impl Found {
         }
     }
 
-    /// Notes what is wrong.
+    /// Notes a finding.
     pub fn note(&mut self, finding: Finding) -> Result<(), NoMemory>
         ensures { OnOk result (IsNoted finding self.old self.new) }
     {

@@ -1,4 +1,4 @@
-// An image that is gone through.
+// An image under survey.
 
 ghost use Rattle.std.specs.Prelude.{◌≡◌, ◌<◌, ◌≤◌, true};
 ghost use Rattle.adf_fields.specs.Words.{block};
@@ -11,7 +11,7 @@ use adf_fields::Block;
 use adf_tree::Kind;
 use std::marker::Model;
 
-/// An image of whole blocks, of an allowed number.
+/// An image of whole blocks, their number allowed.
 #[derive(Drop)]
 pub struct Image<'a> {
     bytes: &'a [u8],
@@ -31,7 +31,7 @@ impl<'a> Model for Image<'a> {
 }
 
 impl<'a> Image<'a> {
-    // The image, of this kind and so many blocks.
+    // The image, with its kind and its number of blocks.
     pub fn new(bytes: &'a [u8], kind: Kind, blocks: u32) -> Image<'a>
         requires { IsSized bytes.now kind blocks }
         ensures { result ≡ bytes.now }
@@ -84,7 +84,7 @@ impl<'a> Image<'a> {
         Block::at(self.bytes, b).unwrap()
     }
 
-    /// A word of a block, 0 where the image has no such block.
+    /// A word of a block; 0 if the image has no such block.
     #[tactic(auto, using(adf_volume::proofs::WordsPast::past_word))]
     pub fn word(&self, b: u32, i: usize) -> u32
         requires { i < 128 }

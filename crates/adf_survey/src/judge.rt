@@ -1,4 +1,4 @@
-// How a part is judged that is next.
+// The judgement of a part that is next.
 
 ghost use Rattle.std.specs.Prelude.{◌≡◌};
 ghost use Rattle.adf_survey.specs.Forms.{first_failing, judged_by, keeps, judgement_value};
@@ -8,7 +8,7 @@ use crate::image::Image;
 use crate::part::Part;
 use adf_blocks::Cause;
 
-/// How a part is judged: it has no cause; it has one, at a block, and is taken all the same; it has one and is passed over.
+/// The judgement of a part: no cause; a cause, at a block, and still taken; a cause, and passed over.
 #[derive(Clone, Copy, PartialEq, Eq, Drop)]
 pub enum Judgement {
     Clean,
@@ -16,8 +16,8 @@ pub enum Judgement {
     Passed(u32, Cause),
 }
 
-/// What is known of a part that is next: whether its file has enough extension blocks, whether its block has no owner, whether
-/// its name is new in the chain, and what its form depends on.
+/// The facts about a part that is next: whether its file has enough extension blocks, whether its block has no owner,
+/// whether its name is new in the chain, and its context.
 #[derive(Clone, Copy, PartialEq, Eq, Drop)]
 pub struct Facts {
     pub is_enough: bool,
@@ -26,7 +26,7 @@ pub struct Facts {
     pub around: Around,
 }
 
-// The first cause of a part in block `b`, which a word of block `holder` names, and the block where it stands.
+// The first cause of a part in block `b`, which `holder` points to, and the block of the cause.
 fn first_failing(
     image: &Image<'_>,
     part: Part,
@@ -55,14 +55,14 @@ fn first_failing(
     }
 }
 
-// Whether block `b` is in range, no one else's, and says of itself that it is the part.
+// Whether block `b` is in range, has no owner, and identifies itself as the part.
 fn is_kept(image: &Image<'_>, part: Part, b: u32, facts: &Facts) -> bool
     ensures { result ≡ keeps image.now part b facts.now }
 {
     b >= 2 && b < image.blocks() && facts.is_absent && is_itself(image, part, b, facts.around)
 }
 
-/// Judges a part in block `b`, which a word of block `holder` names.
+/// Judges a part in block `b`, which a word of block `holder` points to.
 pub fn judge(image: &Image<'_>, part: Part, holder: u32, b: u32, facts: &Facts) -> Judgement
     ensures { judgement_value result
         ≡ judged_by (first_failing image.now part holder b facts.now)

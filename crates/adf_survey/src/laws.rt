@@ -1,4 +1,4 @@
-// The laws of surveys. Each is the contract of a function that does nothing.
+// The laws of surveys. Each is the contract of a function that does nothing at run time.
 
 ghost use Rattle.std.specs.Prelude.{◌≡◌, ℕ, List, [], ◌∷◌};
 ghost use Rattle.adf_tree.specs.Tree.{Tree};
@@ -9,14 +9,14 @@ ghost use Rattle.adf_volume.specs.Walk.{FileAt, FirstFault, Has, Role};
 ghost use Rattle.adf_survey.specs.Survey.{FindingValue, IsSurvey};
 ghost use Rattle.adf_survey.specs.Sound.{DatasInOrder, FileHolds, HeaderHolds, IsSound};
 
-/// Each image has a survey.
+/// Every image has a survey.
 #[tactic(auto, using(crate::proofs::SomeSurvey::some_survey))]
 pub fn some_survey()
     ensures { (image : List ℕ)
         → (w : List (Role × ℕ)) × (fs : List FindingValue) × IsSurvey image w fs }
 {}
 
-/// An image has one survey at most.
+/// An image has at most one survey.
 pub fn one_survey()
     ensures { (image : List ℕ) (w u : List (Role × ℕ)) (fs gs : List FindingValue)
         → IsSurvey image w fs
@@ -31,7 +31,7 @@ pub fn first_finding()
         → FirstFault image f.block f.cause }
 {}
 
-/// An image without findings is a volume, of the tree and the layout that the walk tells; and no volume has a finding.
+/// An image without findings is a volume, with the tree and the layout of the walk; and a volume has no findings.
 pub fn no_finding()
     ensures fits { (image : List ℕ) (w : List (Role × ℕ)) → IsSurvey image w []
         → Fits image (tree_in image w) (layout_in w) }
@@ -40,14 +40,14 @@ pub fn no_finding()
         → IsSurvey image w fs → fs ≡ [] }
 {}
 
-/// A block of a survey's walk is one part.
+/// A block in the walk of a survey has one role.
 pub fn one_part()
     ensures { (image : List ℕ) (w : List (Role × ℕ)) (fs : List FindingValue) → IsSurvey image w fs
         → (r q : Role) (b : ℕ) → Has w r b → Has w q b → r ≡ q }
 {}
 
-/// The header of a sound entry has its form. Each data block that the size of a sound file asks for is in the walk, at the block
-/// that the file's table names, and all of its blocks have their forms; its data blocks are in the walk in order.
+/// The header of a sound entry has its form. Each data block of a sound file, by its size, is in the walk, at the
+/// block in the file's table. All blocks of the file have their forms, and its data blocks are in the walk in order.
 pub fn sound_entries()
     ensures header { (image : List ℕ) (w : List (Role × ℕ)) (fs : List FindingValue) (n h : ℕ)
         → IsSurvey image w fs

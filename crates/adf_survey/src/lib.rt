@@ -1,4 +1,4 @@
-//! Surveys: every part of an image that has a cause, and what of the volume is found all the same.
+//! Surveys: every part of an image that has a cause, and the parts of the volume that are still found.
 #![tactic(auto)]
 
 mod bits;

@@ -1,4 +1,4 @@
-// Look-up of paths in what is found, and the paths of entries.
+// Look-up of paths among the entries found, and the paths of entries.
 
 ghost use Rattle.std.specs.Prelude.{◌≡◌, ◌↔◌, ℕ, List, [], IsOk, IsTrue, IfNone, IfOk, IfSome, map};
 ghost use Rattle.adf_volume.specs.Walk.{Role};
@@ -10,7 +10,7 @@ use adf_fields::NoMemory;
 use adf_tree::{Name, Node};
 use std::alloc::Global;
 
-// Whether an entry is found in this directory under this name, whatever the case.
+// Whether an entry has this parent and this name, ignoring case.
 fn is_child(survey: &Survey<'_>, parent: Node, name: &Name, n: Node) -> bool
     ensures { (w : List (Role × ℕ)) (fs : List FindingValue) → IsSurvey survey.now.image w fs
         → IsTrue result ↔ IsNamedChild survey.now.image w parent name.now n }
@@ -24,7 +24,7 @@ fn is_child(survey: &Survey<'_>, parent: Node, name: &Name, n: Node) -> bool
     up.0 == parent.0 && name.matches(text)
 }
 
-// The first entry of this directory with this name. It has a greater number than the directory.
+// The first entry with this parent and this name. Its number is greater than the parent's.
 fn child(survey: &Survey<'_>, parent: Node, name: &Name) -> Option<Node>
     ensures first { (w : List (Role × ℕ)) (fs : List FindingValue) → IsSurvey survey.now.image w fs
         → IfSome result (λ n. IsFirstChild survey.now.image w parent name.now n) }
@@ -41,8 +41,8 @@ fn child(survey: &Survey<'_>, parent: Node, name: &Name) -> Option<Node>
 }
 
 impl Survey<'_> {
-    /// The entry that the path leads to, whatever the case of its names; 0 for the empty path. Where several entries of a
-    /// directory have one name, it goes through the first of them.
+    /// The entry that the path leads to, ignoring case; 0 for the empty path. If several entries of a directory have
+    /// the same name, the first one is used.
     pub fn find(&self, path: &[Name]) -> Option<Node>
         ensures found { (w : List (Role × ℕ)) (fs : List FindingValue) → IsSurvey self.now.image w fs
             → IfSome result (λ n. LeadsTo self.now.image w 0 path.now n) }
@@ -59,8 +59,8 @@ impl Survey<'_> {
         Some(node)
     }
 
-    /// The names from the root to an entry that is found, each at most 79 bytes and perhaps none that is allowed; empty for
-    /// the root and past the last entry, where no memory is taken. `NoMemory` where a growth was refused.
+    /// The names from the root to an entry, each at most 79 bytes and not necessarily valid; empty for the root and
+    /// past the last entry, which needs no memory. `NoMemory` if an allocation fails.
     pub fn path(&self, alloc: Global, n: Node) -> Result<Vec<&[u8]>, NoMemory>
         ensures names { (w : List (Role × ℕ)) (fs : List FindingValue) → IsSurvey self.now.image w fs
             → IfOk result (λ v. map (λ x. x.now) v.items ≡ path_to self.now.image w n) }

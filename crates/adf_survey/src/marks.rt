@@ -1,4 +1,4 @@
-// The entries that nothing is said against.
+// The marks of sound entries.
 
 ghost use Rattle.std.specs.Prelude.{◌≡◌, ◌&&◌, ℕ, IfOk, map, not};
 ghost use Rattle.adf_survey.specs.Marks.{blamed, has_mark, is_blamed, is_clear, is_header, is_node, is_sharing, sharing};
@@ -10,7 +10,7 @@ use adf_fields::NoMemory;
 use adf_tree::Kind;
 use std::alloc::Global;
 
-// Takes its mark from a node.
+// Removes the mark of a node.
 fn strike(marks: &mut Vec<bool>, node: Option<u32>)
     ensures { (m : ℕ)
         → has_mark marks.new.items m ≡ (has_mark marks.old.items m && not (is_node node m)) }
@@ -22,7 +22,7 @@ fn strike(marks: &mut Vec<bool>, node: Option<u32>)
     }
 }
 
-// Whether node `node` is the header at a place in the chain of a slot of a directory.
+// Whether node `node` is the header at a position in the chain of a slot of a directory.
 fn is_header(found: &Found, node: u32, parent: u32, slot: u8, place: u32) -> bool
     ensures { result ≡ is_header found.now node parent slot place }
 {
@@ -35,7 +35,7 @@ fn is_header(found: &Found, node: u32, parent: u32, slot: u8, place: u32) -> boo
     }
 }
 
-// The entry that a finding of the part speaks against.
+// The entry that a finding of the part concerns.
 fn blamed(found: &Found, part: Option<Part>) -> Option<u32>
     ensures { result ≡ blamed found.now part }
 {
@@ -52,7 +52,7 @@ fn blamed(found: &Found, part: Option<Part>) -> Option<u32>
     }
 }
 
-// The file of a data block, where the block was also passed over.
+// The file of a data block, if the block was also passed over.
 fn sharing(found: &Found, data_block: DataBlock) -> Option<u32>
     ensures { result ≡ sharing found.now.avoided.items data_block }
 {
@@ -61,7 +61,7 @@ fn sharing(found: &Found, data_block: DataBlock) -> Option<u32>
     if is_avoided { Some(node) } else { None }
 }
 
-/// The entries that the findings speak against, in the order of the findings.
+/// The entries that the findings concern, in the order of the findings.
 pub fn concerned(alloc: Global, found: &Found) -> Result<Vec<Option<u32>>, NoMemory>
     ensures { IfOk result (λ v. v.items
         ≡ map (λ x. blamed found.now x.part) found.now.findings.items) }
@@ -77,7 +77,7 @@ pub fn concerned(alloc: Global, found: &Found) -> Result<Vec<Option<u32>>, NoMem
     Ok(entries)
 }
 
-// Takes their marks from the entries that findings speak against.
+// Removes the marks of entries that findings concern.
 fn strike_blamed(found: &Found, marks: &mut Vec<bool>)
     ensures { (m : ℕ) → has_mark marks.new.items m
         ≡ (has_mark marks.old.items m && not
@@ -88,7 +88,7 @@ fn strike_blamed(found: &Found, marks: &mut Vec<bool>)
     }
 }
 
-// Takes their marks from the files that have a data block that was also passed over.
+// Removes the marks of files with a data block that was also passed over.
 fn strike_sharing(found: &Found, marks: &mut Vec<bool>)
     ensures { (m : ℕ) → has_mark marks.new.items m
         ≡ (has_mark marks.old.items m && not
@@ -99,7 +99,7 @@ fn strike_sharing(found: &Found, marks: &mut Vec<bool>)
     }
 }
 
-/// A mark for each node, which those have that nothing is said against.
+/// The marks of the nodes: true if no finding concerns the node.
 pub fn clear_marks(alloc: Global, image: &Image<'_>, found: &Found) -> Result<Vec<bool>, NoMemory>
     ensures { IfOk result (λ v. (m : ℕ)
         → has_mark v.items m ≡ is_clear image.now found.now m) }

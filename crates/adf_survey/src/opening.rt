@@ -1,4 +1,4 @@
-// What an image whose root is taken tells before its entries.
+// The facts of an image whose root is taken: its size, boot bytes and root.
 
 ghost use Rattle.std.specs.Prelude.{◌≡◌};
 ghost use Rattle.adf_survey.specs.Opening.{opening_in};
@@ -7,19 +7,19 @@ use crate::image::Image;
 use adf_blocks::{label_told, stamps_told};
 use adf_tree::{Kind, Label, Stamps};
 
-/// What the size, the boot bytes and the root of an image tell.
+/// The facts in the size, the boot bytes and the root of an image.
 #[derive(Drop)]
 pub struct Opening {
     pub kind: Kind,
-    /// All blocks, the two boot blocks among them.
+    /// All blocks, including the two boot blocks.
     pub blocks: u32,
-    /// Of a longer label the first 30 bytes.
+    /// The label, cut to 30 bytes.
     pub label: Label,
     pub stamps: Stamps,
 }
 
 impl Opening {
-    // What an image whose root is taken tells.
+    // The facts of an image whose root is taken.
     pub(crate) fn of(image: &Image<'_>) -> Opening
         ensures { result ≡ opening_in image.now }
     {

@@ -1,4 +1,4 @@
-// The parts of a volume, and what is found of them.
+// The parts of a volume, and findings.
 
 ghost use Rattle.std.specs.Prelude.{◌≡◌};
 ghost use Rattle.adf_survey.specs.Parts.{key_of, role_of};
@@ -10,29 +10,29 @@ use adf_blocks::{Cause, MAP_EXT_PAGES, ROOT_PAGES};
 
 /// A part of a volume.
 ///
-/// Pages and bitmap extension blocks are numbered from 0, a file's extension blocks and data blocks from 1.
+/// Pages and bitmap extension blocks are numbered from 0; a file's extension blocks and data blocks from 1.
 #[derive(Clone, Copy, Debug, PartialEq, Eq)]
 pub enum Part {
     /// The root.
     Root,
-    /// A page of the bitmap.
+    /// A page of the bitmap, by number.
     Page(u32),
-    /// A bitmap extension block.
+    /// A bitmap extension block, by number.
     MapExt(u32),
-    /// The header of a node, by its parent's number, its slot and its place in the chain.
+    /// The header of a node, with the number of its parent, its slot and its position in the chain.
     Head {
         node: u32,
         parent: u32,
         slot: u8,
         place: u32,
     },
-    /// An extension block of a file, by the file's node.
+    /// An extension block of a file: the file's node, and its number.
     Ext(u32, u32),
-    /// A data block of a file, by the file's node.
+    /// A data block of a file: the file's node, and its number.
     Data(u32, u32),
 }
 
-/// What is wrong: the part that it concerns, where it concerns one, the block that is named, and the cause.
+/// A finding: the part that it concerns, if any; the block reported; and the cause.
 #[derive(Clone, Copy, Debug, PartialEq, Eq)]
 pub struct Finding {
     pub part: Option<Part>,
@@ -40,7 +40,7 @@ pub struct Finding {
     pub cause: Cause,
 }
 
-/// The numbers that parts are ordered by.
+/// The numbers that order the parts.
 #[derive(Clone, Copy, PartialEq, Eq, PartialOrd, Ord, Drop)]
 pub struct Key {
     pub first: u64,
@@ -49,7 +49,7 @@ pub struct Key {
 }
 
 impl Part {
-    // The part, with this number where it is a header.
+    // The part, with this node number if it is a header.
     pub(crate) fn numbered(self, number: u32) -> Part
         ensures { role_of result ≡ renumbered number (role_of self) }
     {
@@ -69,7 +69,7 @@ impl Part {
         }
     }
 
-    // The numbers that the part is ordered by.
+    // The numbers that order the part.
     pub(crate) fn key(self) -> Key
         ensures { result ≡ key_of (role_of self) }
     {
@@ -98,7 +98,7 @@ impl Part {
     }
 }
 
-// The place of a page among the pages and the bitmap extension blocks.
+// The position of a page among the pages and the bitmap extension blocks.
 fn place_of_page(i: u32) -> u64
     ensures { result ≡ third (Page i) }
 {

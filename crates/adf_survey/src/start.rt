@@ -1,4 +1,4 @@
-// The size of an image, its boot bytes and its root, and whether it is gone through.
+// The size, the boot bytes and the root of an image, and whether it is surveyed further.
 
 ghost use Rattle.std.specs.Prelude.{◌≡◌, IfErr, IfOk};
 ghost use Rattle.adf_volume.specs.Demands.{IsSize};
@@ -12,14 +12,14 @@ use adf_blocks::{Cause, SECONDARY_TYPE, ST_ROOT, T_SHORT, TYPE};
 use adf_fields::{BLOCK_LEN, Block};
 use adf_volume::{Unopened, kind_in, open};
 
-/// An image that is gone through, and the cause of its root, where it has one.
+/// An image to survey, and the cause of its root, if it has one.
 #[derive(Drop)]
 pub struct Started<'a> {
     pub image: Image<'a>,
     pub cause: Option<Unopened>,
 }
 
-// Whether the cause says nothing against a block being the part.
+// Whether a block with this cause can still be the part.
 fn is_slight(cause: Cause) -> bool
     ensures { result ≡ is_slight cause }
 {
@@ -38,7 +38,7 @@ fn is_slight(cause: Cause) -> bool
     }
 }
 
-// The image of a size that volumes have.
+// The image, of an allowed size.
 fn sized<'a>(bytes: &'a [u8]) -> Image<'a>
     requires { IsSize bytes.now }
     ensures { result ≡ bytes.now }
@@ -53,7 +53,7 @@ fn is_root(b: &Block<'_>) -> bool
     b.word(TYPE) == T_SHORT && b.word(SECONDARY_TYPE) == ST_ROOT
 }
 
-/// Reads the size, the boot bytes and the root of an image; where the root is not taken, the only finding.
+/// Reads the size, the boot bytes and the root of an image; if the root is not taken, returns the only finding.
 pub fn start<'a>(bytes: &'a [u8]) -> Result<Started<'a>, Unopened>
     ensures image { IfOk result (λ s. s.image ≡ bytes.now) }
     ensures root { IfOk result (λ s. RootTells bytes.now (root_findings s.cause)) }

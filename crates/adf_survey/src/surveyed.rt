@@ -1,4 +1,4 @@
-// What a survey tells.
+// The results of a survey.
 
 ghost use Rattle.std.specs.Prelude.{◌≡◌, ◌≤◌, ◌<◌, ◌↔◌, ℕ, List, [], map, slice_index};
 ghost use Rattle.std.specs.Prelude.{slice_get, IsTrue, IsNone, IsOk, IsSome, IfOk, IfSome};
@@ -30,7 +30,7 @@ use adf_tree::{Meta, Node};
 use std::alloc::Global;
 use std::marker::Model;
 
-/// What is found of an image: all that is wrong, and what stands all the same.
+/// The result of a survey: all findings, and the entries that are found.
 #[derive(Drop)]
 pub struct Survey<'i> {
     image: &'i [u8],
@@ -59,14 +59,14 @@ fn has_mark(marks: &Vec<bool>, n: usize) -> bool
     marks.get(n).copied().unwrap_or(false)
 }
 
-// The number of a node, 0 where there is none.
+// The number of a node; 0 if there is none.
 fn number_at(numbers: &Vec<u32>, n: usize) -> u32
     ensures { result ≡ slice_index numbers.now.items n }
 {
     numbers.get(n).copied().unwrap_or(0)
 }
 
-// The entry at a place, none past the last.
+// The entry at an index; `None` past the last.
 fn entry_at(entries: &Vec<Option<u32>>, k: usize) -> Option<u32>
     ensures { result ≡ option_flatten (slice_get entries.now.items k) }
 {
@@ -74,7 +74,7 @@ fn entry_at(entries: &Vec<Option<u32>>, k: usize) -> Option<u32>
 }
 
 impl<'i> Survey<'i> {
-    // What is kept of an image.
+    // The result for an image.
     pub(crate) fn new(
         image: &'i [u8],
         findings: Vec<Finding>,
@@ -101,7 +101,7 @@ impl<'i> Survey<'i> {
 }
 
 impl Survey<'_> {
-    /// All that is wrong, in the order of the survey.
+    /// The findings, in the order of the survey.
     pub fn findings(&self) -> &[Finding]
         ensures { (w : List (Role × ℕ)) (fs : List FindingValue) → IsSurvey self.now.image w fs
             → map finding_value result.now ≡ fs }
@@ -109,8 +109,8 @@ impl Survey<'_> {
         &self.findings
     }
 
-    /// The entry that finding `k`, counted from 0, concerns: that of a header that is found, or the file of an extension or
-    /// data block. None of a header that was passed over, of other parts, and past the last finding.
+    /// The entry that finding `k`, counted from 0, concerns: that of a header that is found, or the file of an
+    /// extension or data block. `None` for a header that was passed over, for other parts, and past the last finding.
     pub fn entry_of(&self, k: usize) -> Option<Node>
         ensures { (w : List (Role × ℕ)) (fs : List FindingValue) → IsSurvey self.now.image w fs
             → result ≡ entry_of_nth w fs k }
@@ -121,7 +121,7 @@ impl Survey<'_> {
         }
     }
 
-    /// How many entries are found.
+    /// The number of entries found.
     pub fn len(&self) -> usize
         ensures { (w : List (Role × ℕ)) (fs : List FindingValue) → IsSurvey self.now.image w fs
             → result ≡ heads w }
@@ -129,7 +129,7 @@ impl Survey<'_> {
         self.nodes.len().saturating_sub(1)
     }
 
-    // Whether an entry with this number is found.
+    // Whether there is an entry with this number.
     fn has_entry(&self, n: Node) -> bool
         ensures { (w : List (Role × ℕ)) (fs : List FindingValue) → IsSurvey self.now.image w fs
             → IsTrue result ↔ ((1 ≤ n) × (n ≤ heads w)) }
@@ -137,7 +137,7 @@ impl Survey<'_> {
         n.0 != 0 && n.0 <= self.len()
     }
 
-    /// The block of the header of an entry that is found; none of the root and past the last entry.
+    /// The header's block of an entry; `None` for the root and past the last entry.
     pub fn block_of(&self, n: Node) -> Option<u32>
         ensures some { (w : List (Role × ℕ)) (fs : List FindingValue) → IsSurvey self.now.image w fs
             → IsSome result ↔ ((1 ≤ n) × (n ≤ heads w)) }
@@ -150,7 +150,7 @@ impl Survey<'_> {
         Some(number_at(&self.nodes, n.0))
     }
 
-    /// The block with the header of an entry that is found; none of the root and past the last entry.
+    /// The header of an entry; `None` for the root and past the last entry.
     pub fn header(&self, n: Node) -> Option<Block<'_>>
         ensures some { (w : List (Role × ℕ)) (fs : List FindingValue) → IsSurvey self.now.image w fs
             → IsSome result ↔ ((1 ≤ n) × (n ≤ heads w)) }
@@ -163,8 +163,8 @@ impl Survey<'_> {
         }
     }
 
-    /// The name in the header of an entry that is found, at most 79 bytes, which may be none that is allowed; none of the root
-    /// and past the last entry.
+    /// The name in the header of an entry, at most 79 bytes and not necessarily valid; `None` for the root and past
+    /// the last entry.
     pub fn name(&self, n: Node) -> Option<&[u8]>
         ensures some { (w : List (Role × ℕ)) (fs : List FindingValue) → IsSurvey self.now.image w fs
             → IsSome result ↔ ((1 ≤ n) × (n ≤ heads w)) }
@@ -177,8 +177,8 @@ impl Survey<'_> {
         }
     }
 
-    /// Whether an entry that is found is a directory, or a file with its size in bytes and its first extension block, as its
-    /// header says; a link counts as a file. None of the root and past the last entry.
+    /// The body in the header of an entry: a directory, or a file with its size in bytes and first extension block;
+    /// a link counts as a file. `None` for the root and past the last entry.
     pub fn body(&self, n: Node) -> Option<HeadBody>
         ensures some { (w : List (Role × ℕ)) (fs : List FindingValue) → IsSurvey self.now.image w fs
             → IsSome result ↔ ((1 ≤ n) × (n ≤ heads w)) }
@@ -191,8 +191,8 @@ impl Survey<'_> {
         }
     }
 
-    /// What the header of an entry that is found says beside its name and its body: its comment, of a longer one the first 79
-    /// bytes, its protection and its date. None of the root and past the last entry.
+    /// The metadata in the header of an entry: its comment, cut to 79 bytes, its protection bits and its date. `None`
+    /// for the root and past the last entry.
     pub fn meta(&self, n: Node) -> Option<Meta>
         ensures some { (w : List (Role × ℕ)) (fs : List FindingValue) → IsSurvey self.now.image w fs
             → IsSome result ↔ ((1 ≤ n) × (n ≤ heads w)) }
@@ -205,8 +205,8 @@ impl Survey<'_> {
         }
     }
 
-    /// What the boot bytes and the root tell, whatever is noted of it; none where the root is not taken, so that nothing is gone
-    /// through.
+    /// The facts in the boot bytes and the root, even if the root has a finding; `None` if the root is not taken, and
+    /// so nothing is surveyed.
     pub fn opening(&self) -> Option<Opening>
         ensures some { (w : List (Role × ℕ)) (fs : List FindingValue) → IsSurvey self.now.image w fs
             → IsNone result ↔ (w ≡ []) }
@@ -218,7 +218,7 @@ impl Survey<'_> {
         }
     }
 
-    // The node of the directory of an entry, 0 where there is no such entry.
+    // The parent of an entry; 0 if there is no such entry.
     pub(crate) fn directory_of(&self, n: Node) -> Node
         ensures { (w : List (Role × ℕ)) (fs : List FindingValue) → IsSurvey self.now.image w fs
             → result ≡ parent_node w n }
@@ -226,7 +226,7 @@ impl Survey<'_> {
         Node(number_at(&self.parents, n.0) as usize)
     }
 
-    /// The node of the directory of an entry that is found, 0 of those in the root; none of the root and past the last entry.
+    /// The parent of an entry, 0 if it is in the root; `None` for the root and past the last entry.
     pub fn parent_of(&self, n: Node) -> Option<Node>
         ensures some { (w : List (Role × ℕ)) (fs : List FindingValue) → IsSurvey self.now.image w fs
             → IsSome result ↔ ((1 ≤ n) × (n ≤ heads w)) }
@@ -240,7 +240,7 @@ impl Survey<'_> {
         Some(self.directory_of(n))
     }
 
-    /// Whether nothing is said against the parts of an entry that is found.
+    /// Whether an entry is sound: no finding concerns its parts.
     pub fn is_sound(&self, n: Node) -> bool
         ensures { (w : List (Role × ℕ)) (fs : List FindingValue) → IsSurvey self.now.image w fs
             → IsTrue result ↔ IsSound self.now.image w fs n (node_block w n) }
@@ -248,7 +248,7 @@ impl Survey<'_> {
         n.0 != 0 && has_mark(&self.sound, n.0)
     }
 
-    /// Tells that the marks that are kept are those of the sound entries.
+    /// States that the kept marks are those of the sound entries; does nothing at run time.
     pub fn marks(&self)
         ensures { (w : List (Role × ℕ)) (fs : List FindingValue) → IsSurvey self.now.image w fs
             → AreMarks self.now.image w fs (mark_in self.now) }
@@ -258,8 +258,8 @@ impl Survey<'_> {
 }
 
 impl<'i> Survey<'i> {
-    /// A sound file; none of what is no file or is not sound. `NoMemory` where a growth was refused, which cannot happen where
-    /// there is no file, or it is empty.
+    /// A sound file; `None` for anything else. `NoMemory` if an allocation fails; never if there is no sound file,
+    /// or it is empty.
     pub fn file(&self, alloc: Global, n: Node) -> Result<Option<SoundFile<'i>>, NoMemory>
         ensures some { (w : List (Role × ℕ)) (fs : List FindingValue) → IsSurvey self.now.image w fs
             → IfOk result (λ x. IsSome x ↔ IsSoundFile self.now.image w fs n) }

@@ -20,7 +20,7 @@ use adf_fields::NoMemory;
 use adf_volume::Unopened;
 use std::alloc::Global;
 
-// The survey of an image whose root is not taken: this is its only finding.
+// The survey of an image whose root is not taken, with its only finding.
 fn only<'i>(alloc: Global, image: &'i [u8], unopened: Unopened) -> Result<Survey<'i>, NoMemory>
     requires { Judged Root (start_demands image.now) (passed unopened.block unopened.cause) }
     ensures image { IfOk result (λ v. v.image ≡ image.now) }
@@ -46,7 +46,7 @@ fn only<'i>(alloc: Global, image: &'i [u8], unopened: Unopened) -> Result<Survey
     }
 }
 
-// Notes the cause of the root, where it has one.
+// Notes the cause of the root, if it has one.
 fn note_root(found: &mut Found, cause: Option<Unopened>) -> Result<(), NoMemory>
     ensures { OnOk result ((image : List ℕ) → Stands image found.old (begun image [])
         → Stands image found.new (begun image (root_findings cause))) }
@@ -85,8 +85,8 @@ fn go_through<'i>(alloc: Global, started: &Started<'i>) -> Result<Survey<'i>, No
     ))
 }
 
-/// The survey of the image: every part of it that has a cause, and the bits that disagree, and what is found all the same;
-/// `NoMemory` where a growth was refused.
+/// Surveys an image: every part that has a cause, every bit that disagrees, and the entries that are found. `NoMemory`
+/// if an allocation fails.
 pub fn survey<'i>(alloc: Global, image: &'i [u8]) -> Result<Survey<'i>, NoMemory>
     ensures image { IfOk result (λ v. v.image ≡ image.now) }
     ensures findings { IfOk result (λ v. (w : List (Role × ℕ))

@@ -1,4 +1,4 @@
--- A path with one name more.
+-- A path with one more name.
 use Rattle.std.proofs.Common.{◌≡◌, ◌<◌, ◌+◌, ◌++◌, ◌==◌, ℕ, List, [], ◌∷◌, Bool, true, false, if◌then◌else◌, append_assoc, refl, sym, arith}
 use Rattle.std.proofs.Common.{get_or, length, map, take}
 use Rattle.std.specs.Borrow.{Bor}

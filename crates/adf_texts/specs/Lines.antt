@@ -1,4 +1,4 @@
--- The lines that commands answer with.
+-- The output lines of the commands.
 use Rattle.std.specs.Prelude.{ℕ, List, [], ◌∷◌, ◌++◌, codes}
 use Rattle.std.specs.Fmt.{decimal}
 use Rattle.adf_tree.specs.Kinds.{kind_text}
@@ -20,7 +20,7 @@ ok_line c = codes "ok " ++ (kind_text c.kind ++ (codes " blocks " ++ (decimal
 abbrev pub fault_line : Fault → List ℕ
 fault_line f = fault_text f ++ codes "\n"
 
--- the line of a tree that needs more blocks than there are
+-- the line of a tree that needs more blocks than the volume has
 abbrev pub full_line : ℕ → ℕ → List ℕ
 full_line need have = full_text need have ++ codes "\n"
 
@@ -28,6 +28,6 @@ full_line need have = full_text need have ++ codes "\n"
 abbrev pub manifest_fault_line : ManifestFault → List ℕ
 manifest_fault_line f = manifest_fault_text f ++ codes "\n"
 
--- the line of word i of block b: the block, the word's number, the word
+-- the line of word i of block b: the block, the number of the word, its value
 abbrev pub word_line : ℕ → ℕ → ℕ → List ℕ
 word_line b i w = (decimal b ++ 32 ∷ []) ++ (decimal i ++ 32 ∷ []) ++ (hex_word w ++ 10 ∷ [])

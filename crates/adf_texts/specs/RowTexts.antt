@@ -10,21 +10,21 @@ use Rattle.adf_check.specs.declared.row.RowBody.TheVariants.{Dir, File}
 use Rattle.adf_manifest.specs.Texts.{hex_word}
 use Rattle.adf_texts.specs.VolumeLines.{lines_with, right_in_ten}
 
--- a row's word, on the left of four places
+-- the word of a row, left-aligned in four columns
 abbrev pub row_word : RowBody → List ℕ
 row_word Dir = codes "dir "
 row_word (File size) = codes "file"
 
--- the size that a row tells
+-- the size of a row
 abbrev pub row_size : RowBody → List ℕ
 row_size Dir = codes "-"
 row_size (File size) = decimal size
 
--- what stands before the names in the line of an entry
+-- the columns before the path in the line of an entry
 abbrev pub columns : (Stamp → List ℕ) → RowBody → Meta → List ℕ
 columns date body meta = row_word body ++ (codes " " ++ (hex_word meta.protect ++ (codes " " ++ (right_in_ten (row_size body) ++ (codes " "
     ++ (date meta.stamp ++ codes " "))))))
 
--- the line of an entry of these names, of which a header tells this, and the line of its note
+-- the line of an entry with these names and this header, and the line of its note
 abbrev pub head_lines : (Stamp → List ℕ) → List (List ℕ) → HeadBody → Meta → List ℕ
 head_lines date names body meta = lines_with date names (row_word (row_body body)) (row_size (row_body body)) meta

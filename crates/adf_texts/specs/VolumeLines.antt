@@ -1,4 +1,4 @@
--- The lines of `list`. In each definition `date` gives the text of a date.
+-- The lines of `list`. In each definition `date` is the text of a date.
 use Rattle.std.specs.Prelude.{ℕ, ◌-◌, ◌==◌, List, [], ◌++◌, codes, if◌then◌else◌, length, replicate, Some, None}
 use Rattle.std.specs.Fmt.{decimal}
 use Rattle.std.specs.List.{flat_map, range_with_len}
@@ -25,7 +25,7 @@ AreDates date = (s : Stamp) → IsStampText s (date s)
 abbrev pub text_line : List ℕ → List ℕ → List ℕ
 text_line word text = word ++ (text ++ codes "\n")
 
--- a word and the escape form of a text, where there is one
+-- a word and the escape form of a text, unless it is empty
 abbrev pub escaped_line : List ℕ → List ℕ → List ℕ
 escaped_line word text = if length text == 0 then [] else text_line word (escaped text)
 
@@ -38,15 +38,15 @@ abbrev pub dates_lines : (Stamp → List ℕ) → Stamps → List ℕ
 dates_lines date s = text_line (codes "root ") (date s.root)
     ++ (text_line (codes "altered ") (date s.altered) ++ text_line (codes "created ") (date s.created))
 
--- the lines before those of the entries
+-- the lines before the entries
 abbrev pub opening_lines : (Stamp → List ℕ) → Kind → List ℕ → Stamps → ℕ → List ℕ
 opening_lines date kind label stamps n = blocks_line kind n ++ (escaped_line (codes "label ") label ++ dates_lines date stamps)
 
--- a text on the right of ten places
+-- a text, right-aligned in ten columns
 abbrev pub right_in_ten : List ℕ → List ℕ
 right_in_ten text = replicate (10 - length text) 32 ++ text
 
--- an entry's word, on the left of four places
+-- the word of an entry, left-aligned in four columns
 abbrev pub body_word : Body → List ℕ
 body_word Dir = codes "dir "
 body_word (File bytes) = codes "file"
@@ -56,12 +56,12 @@ abbrev pub size_text : Body → List ℕ
 size_text Dir = codes "-"
 size_text (File bytes) = decimal (length bytes)
 
--- the line of these names, with the word and the size, and the line of the note
+-- the line with these names, this word and this size, and the line of the note
 abbrev pub lines_with : (Stamp → List ℕ) → List (List ℕ) → List ℕ → List ℕ → Meta → List ℕ
 lines_with date names word size meta = word ++ (codes " " ++ (hex_word meta.protect ++ (codes " " ++ (right_in_ten size ++ (codes " "
     ++ (date meta.stamp ++ (codes " " ++ (path_text names ++ (codes "\n" ++ escaped_line (codes "note ") meta.comment)))))))))
 
--- the line of an entry of these names, and that of its note
+-- the line of an entry with these names, and the line of its note
 abbrev pub entry_lines : (Stamp → List ℕ) → List (List ℕ) → Entry → List ℕ
 entry_lines date names e = lines_with date names (body_word e.body) (size_text e.body) e.meta
 

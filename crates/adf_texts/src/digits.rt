@@ -10,7 +10,7 @@ use adf_tree::hex_digit;
 use itoa::write_digits;
 use std::alloc::AllocError;
 
-/// Appends eight hexadecimal digits and the byte behind them.
+/// Appends eight hexadecimal digits and the byte `end`.
 pub fn push_hex(text: &mut Vec<u8>, word: u32, end: u8) -> Result<(), AllocError>
     ensures { text.new.items ≡ grown result text.old.items (hex_word word ++ end ∷ []) }
 {
@@ -32,7 +32,7 @@ pub fn push_hex(text: &mut Vec<u8>, word: u32, end: u8) -> Result<(), AllocError
     text.extend_from_slice(&digits)
 }
 
-// The digits of a number with a byte behind them, at the end of eleven places, and where they begin.
+// The digits of a number and the byte `end`, right-aligned in 11 bytes, and the index of the first.
 fn decimal_digits(value: u32, end: u8) -> ([u8; 11], usize)
     ensures text { drop result.1 result.0 ≡ decimal value ++ end ∷ [] }
     ensures spaces { take result.1 result.0 ≡ replicate result.1 32 }
@@ -44,7 +44,7 @@ fn decimal_digits(value: u32, end: u8) -> ([u8; 11], usize)
     (digits, at)
 }
 
-/// Appends a number in decimal and the byte behind it.
+/// Appends a number in decimal and the byte `end`.
 pub fn push_number(text: &mut Vec<u8>, value: u32, end: u8) -> Result<(), AllocError>
     ensures { text.new.items ≡ grown result text.old.items (decimal value ++ end ∷ []) }
 {
@@ -52,7 +52,7 @@ pub fn push_number(text: &mut Vec<u8>, value: u32, end: u8) -> Result<(), AllocE
     text.extend_from_slice(&digits[at..])
 }
 
-/// Appends a number in decimal on the right of ten places, and a space.
+/// Appends a number in decimal, right-aligned in ten columns, and a space.
 pub fn push_right(text: &mut Vec<u8>, value: u32) -> Result<(), AllocError>
     ensures { text.new.items
         ≡ grown result text.old.items (right_in_ten (decimal value) ++ 32 ∷ []) }

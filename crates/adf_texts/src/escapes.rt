@@ -8,7 +8,7 @@ ghost use Rattle.adf_tree.specs.PathTexts.{path_text};
 use adf_tree::{Name, hex_digit, is_plain};
 use std::alloc::AllocError;
 
-// Appends the spelling of a byte.
+// Appends the escape of a byte.
 fn push_escape(text: &mut Vec<u8>, c: u8) -> Result<(), AllocError>
     ensures { OnOk result (text.new.items ≡ text.old.items ++ escape_of c) }
 {
@@ -19,7 +19,7 @@ fn push_escape(text: &mut Vec<u8>, c: u8) -> Result<(), AllocError>
     text.extend_from_slice(&[b'\\', b'x', hex_digit(c / 16), hex_digit(c % 16)])
 }
 
-// Whether all bytes stand for themselves.
+// Whether the escape form of the bytes is the bytes themselves.
 fn are_plain(bytes: &[u8]) -> bool
     ensures { result ≡ list_all is_plain bytes.now }
 {
@@ -39,7 +39,7 @@ pub fn push_escaped(text: &mut Vec<u8>, bytes: &[u8]) -> Result<(), AllocError>
     Ok(())
 }
 
-// Appends a name of a path, behind a `/` where it is not the first.
+// Appends a name of a path, after a `/` unless it is the first.
 fn push_name(text: &mut Vec<u8>, name: &[u8], is_first: bool) -> Result<(), AllocError>
     ensures { OnOk result (text.new.items
         ≡ text.old.items ++ ((if is_first then [] else 47 ∷ []) ++ escaped name.now)) }
@@ -60,7 +60,7 @@ pub fn push_path(text: &mut Vec<u8>, path: &[Name]) -> Result<(), AllocError>
     Ok(())
 }
 
-/// Appends the text of a path of these names, which may be none that are allowed.
+/// Appends the text of a path of names that need not be valid.
 pub fn push_names(text: &mut Vec<u8>, path: &[&[u8]]) -> Result<(), AllocError>
     ensures { OnOk result
         (text.new.items ≡ text.old.items ++ path_text (map (λ name. name.now) path.now)) }

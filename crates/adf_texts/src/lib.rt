@@ -1,4 +1,4 @@
-//! The texts that the command writes: kinds, numbers and lines.
+//! The texts that the programs write: kinds, numbers and lines.
 #![tactic(auto)]
 
 mod digits;

@@ -1,4 +1,4 @@
-// The lines that commands answer with.
+// The output lines of the commands.
 
 ghost use Rattle.std.specs.Prelude.{◌≡◌, ◌++◌, OnOk, string_bytes};
 ghost use Rattle.adf_texts.specs.Lines.{fault_line, full_line, manifest_fault_line, ok_line, word_line};
@@ -26,14 +26,14 @@ pub fn push_counts(text: &mut String, counts: &Counts) -> Result<(), AllocError>
     )
 }
 
-/// Appends the line of an image's fault.
+/// Appends the line of a refused image.
 pub fn push_fault(text: &mut String, fault: Fault) -> Result<(), AllocError>
     ensures { OnOk result (string_bytes text.new ≡ string_bytes text.old ++ fault_line fault) }
 {
     write!(text, "{fault}\n")
 }
 
-/// Appends the line of a tree that needs more blocks than there are.
+/// Appends the line of a tree that needs more blocks than the volume has.
 pub fn push_full(text: &mut String, need: u64, have: u64) -> Result<(), AllocError>
     ensures { OnOk result (string_bytes text.new ≡ string_bytes text.old ++ full_line need have) }
 {
@@ -49,7 +49,7 @@ pub fn push_manifest_fault(text: &mut String, fault: ManifestFault) -> Result<()
     write!(text, "{fault}\n")
 }
 
-/// Appends the line of a word: the block, the word's number and the word.
+/// Appends the line of a word: the block, the number of the word, its value.
 pub fn push_word_line(
     text: &mut Vec<u8>,
     block: u32,

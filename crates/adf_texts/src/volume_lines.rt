@@ -14,7 +14,7 @@ use adf_fields::{Stamp, push_stamp};
 use adf_tree::{Kind, Label, Meta, Name, Stamps};
 use std::alloc::AllocError;
 
-/// Appends the lines before those of the entries: the kind and the number of blocks, the label where there is one, and
+/// Appends the lines before the entries: the kind and the number of blocks, the label if it is not empty, and
 /// the dates.
 pub fn push_opening_lines(
     text: &mut Vec<u8>,
@@ -34,7 +34,7 @@ pub fn push_opening_lines(
     push_date_line(text, b"created ", stamps.created)
 }
 
-/// Appends the line of an entry of which the row tells, and that of its note where it has one.
+/// Appends the line of an entry, from its row, and the line of its note if it has one.
 pub fn push_entry_lines(text: &mut Vec<u8>, row: &Row, path: &[Name]) -> Result<(), AllocError>
     ensures { (date : Stamp → List ℕ) (e : Entry) → AreDates date → row.now ≡ row_of_entry e
         → OnOk result (text.new.items ≡ text.old.items ++ entry_lines date path.now e) }
@@ -42,7 +42,7 @@ pub fn push_entry_lines(text: &mut Vec<u8>, row: &Row, path: &[Name]) -> Result<
     push_row_lines(text, row, path)
 }
 
-// Appends the line of a row, and that of its note where it has one.
+// Appends the line of a row, and the line of its note if it has one.
 fn push_row_lines(text: &mut Vec<u8>, row: &Row, path: &[Name]) -> Result<(), AllocError>
     ensures { (date : Stamp → List ℕ) → AreDates date
         → OnOk result (text.new.items ≡ text.old.items
@@ -53,8 +53,8 @@ fn push_row_lines(text: &mut Vec<u8>, row: &Row, path: &[Name]) -> Result<(), Al
     push_line_end(text, &row.meta)
 }
 
-/// Appends the line of an entry of which a header tells, and that of its note where it has one; its names may be none that are
-/// allowed.
+/// Appends the line of an entry, from its header, and the line of its note if it has one. The names of the path need
+/// not be valid.
 pub fn push_head_lines(
     text: &mut Vec<u8>,
     body: HeadBody,
@@ -70,7 +70,7 @@ pub fn push_head_lines(
     push_line_end(text, meta)
 }
 
-// Appends what stands before the names in the line of an entry.
+// Appends the columns before the path in the line of an entry.
 fn push_columns(text: &mut Vec<u8>, body: RowBody, meta: &Meta) -> Result<(), AllocError>
     ensures { (date : Stamp → List ℕ) → AreDates date
         → OnOk result (text.new.items ≡ text.old.items ++ columns date body meta.now) }
@@ -82,7 +82,7 @@ fn push_columns(text: &mut Vec<u8>, body: RowBody, meta: &Meta) -> Result<(), Al
     text.extend_from_slice(b" ")
 }
 
-// Appends the end of the line of an entry, and the line of its note where it has one.
+// Appends the end of an entry's line, and the line of its note if it has one.
 fn push_line_end(text: &mut Vec<u8>, meta: &Meta) -> Result<(), AllocError>
     ensures { OnOk result (text.new.items ≡ text.old.items
         ++ (codes "\n" ++ escaped_line (codes "note ") meta.now.comment)) }
@@ -101,7 +101,7 @@ fn push_word(text: &mut Vec<u8>, body: RowBody) -> Result<(), AllocError>
     }
 }
 
-// Appends the size of a row, on the right of ten places, and a space.
+// Appends the size of a row, right-aligned in ten columns, and a space.
 fn push_size(text: &mut Vec<u8>, body: RowBody) -> Result<(), AllocError>
     ensures { OnOk result
         (text.new.items ≡ text.old.items ++ (right_in_ten (row_size body) ++ codes " ")) }
@@ -122,7 +122,7 @@ fn push_blocks_line(text: &mut Vec<u8>, kind: Kind, blocks: u32) -> Result<(), A
     push_number(text, blocks, b'\n')
 }
 
-// Appends a word and the escape form of bytes, where there are some.
+// Appends a word and the escape form of bytes, unless there are none.
 fn push_escaped_line(text: &mut Vec<u8>, word: &[u8], bytes: &[u8]) -> Result<(), AllocError>
     ensures { OnOk result (text.new.items ≡ text.old.items ++ escaped_line word.now bytes.now) }
 {

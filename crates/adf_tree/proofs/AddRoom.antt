@@ -1,4 +1,4 @@
--- Whether there is room for a path, and what may be added there.
+-- Whether a path has room, and what may be added there.
 use Rattle.std.proofs.Common.{◌≡◌, ℕ, ◌-◌, ◌<◌, inl, inr, List, [], ◌∷◌, length, get_or, true, false, Bool, Option, Some, None, Result, Ok, Err, arith, ◌==◌}
 use Rattle.std.proofs.Common.{sym, refl, ◌∙◌, ap, subst, if◌then◌else◌, zero, suc, take, ◌++◌, ◌+◌}
 use Rattle.std.specs.Prelude.{option_map}

@@ -1,4 +1,4 @@
--- The members of chains: each entry stands in the chain of its parent and slot, and in no other.
+-- The members of chains: each entry is in the chain of its parent and slot, and in no other.
 use Rattle.std.proofs.Common.{◌≡◌, ℕ, ◌+◌, ◌-◌, ◌<◌, ◌≤◌, List, length, get_or, true, Some, arith, sym, ◌==◌}
 use Rattle.std.proofs.Common.{◌↔◌}
 use Rattle.std.specs.List.{Contains}

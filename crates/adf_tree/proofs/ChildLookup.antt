@@ -1,4 +1,4 @@
--- The entry with a parent and a name: where it stands, and what is found when an entry is added.
+-- Look-up by parent and name, and how an addition changes it.
 use Rattle.std.proofs.Common.{◌≡◌, ◌≢◌, ℕ, ◌+◌, ◌*◌, ◌%◌, ◌<◌, ◌≤◌, inl, inr, List, [], ◌∷◌, length, get_or, true, false, Bool, Some, None, arith}
 use Rattle.std.proofs.Common.{nat_lt, ◌==◌, sym, refl, ◌∙◌, ap, ◌-◌, Option, ◌&&◌}
 use Rattle.std.specs.Prelude.{fold, option_map, position}

@@ -1,4 +1,4 @@
--- Numbers by parents and names.
+-- Maps from parent and name to number.
 use Rattle.std.proofs.Common.{◌≡◌, ◌≢◌, ℕ, ◌<◌, inl, inr, List, [], ◌∷◌, ◌++◌, length, set, get_or, Some, None, Option, cond, true, arith, ◌==◌, ◌&&◌, refl}
 use Rattle.std.proofs.Common.{zero, suc, sym, ◌∙◌, ap}
 use Rattle.std.specs.List.{slice_get}

@@ -1,4 +1,4 @@
--- Where paths lead among additions.
+-- Where paths lead in a draft.
 use Rattle.std.proofs.Common.{◌≡◌, ℕ, ◌+◌, ◌-◌, ◌<◌, ◌≤◌, inl, inr, List, length, get_or, drop, Bool, Option, Some, None, Result, Err}
 use Rattle.std.proofs.Common.{arith, ap, if◌then◌else◌}
 use Rattle.std.specs.Prelude.{option_map}

@@ -1,4 +1,4 @@
--- What a draft is with an entry put in a room of it.
+-- The value of a draft after an entry is put in one of its rooms.
 use Rattle.std.proofs.Common.{◌≡◌, ℕ, ◌≤◌, ◌++◌, List, [], ◌∷◌, length, arith, if◌then◌else◌, Result}
 use Rattle.std.specs.Prelude.{is_ok, OnOk}
 use Rattle.adf_tree.specs.declared.draft.Room.{Room}

@@ -1,4 +1,4 @@
--- Each entry is found under its path, and under its names as they are written.
+-- Each entry is found under its path, and under its names as written.
 use Rattle.std.proofs.Common.{◌≡◌, ℕ, ◌+◌, ◌-◌, ◌≤◌, List, [], ◌∷◌, length, get_or, Some, arith, sym, refl, ◌∙◌, ap, zero, suc, ◌++◌, map}
 use Rattle.adf_tree.specs.declared.entry.Entry.{Entry}
 use Rattle.adf_tree.specs.Texts.{uppers}

@@ -1,4 +1,4 @@
--- Names that are equal without their case.
+-- Names that are equal ignoring case.
 use Rattle.std.proofs.Common.{◌≡◌, ◌≢◌, ℕ, ◌<◌, List, length, get_or, true, false, arith, ap, ◌∙◌, sym}
 use Rattle.std.proofs.lemmas.List.{same_lists, get_or-map, length-map}
 use Rattle.std.proofs.lemmas.Slice.Eq.{bytes_eq-Decides}

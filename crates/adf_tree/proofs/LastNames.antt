@@ -1,4 +1,4 @@
--- The set of the names of a tree's last chain.
+-- The set of names in the last chain of a tree.
 use Rattle.std.proofs.Common.{◌≡◌, ℕ, ◌-◌, List, [], ◌∷◌, ◌++◌, length, get_or, Bool, true, false, Option, Some, None, Result, Ok, Err}
 use Rattle.std.proofs.Common.{arith, nat_lt, ◌==◌, ◌&&◌, ◌||◌, sym, refl, ◌∙◌, ap}
 use Rattle.std.specs.List.{list_any}

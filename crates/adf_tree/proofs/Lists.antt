@@ -1,4 +1,4 @@
--- What filters and maps leave of lists.
+-- Lists after filter and map.
 use Rattle.std.proofs.Common.{◌≡◌, List, [], ◌∷◌, map, true, false, Bool, arith, ◌&&◌, inl, inr, sym, refl, ◌∙◌, ap, Some, None, take, drop, ◌+◌, ◌-◌, nat_lt}
 use Rattle.std.proofs.Common.{ℕ, length, ◌<◌, ◌++◌}
 use Rattle.std.specs.List.{All, Contains, filter, position_or_len, slice_split}

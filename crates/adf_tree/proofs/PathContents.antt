@@ -1,4 +1,4 @@
--- What a tree tells under its paths, and what `add` promises of paths and chains.
+-- The content of a tree by paths, and what `add` promises of paths and chains.
 use Rattle.std.proofs.Common.{◌≡◌, ◌≢◌, ℕ, ◌+◌, ◌-◌, ◌<◌, ◌≤◌, inl, inr, List, [], ◌∷◌, ◌++◌, length, get_or, map, Option, Some, None, arith, sym, refl, ◌∙◌}
 use Rattle.std.proofs.Common.{ap, if◌then◌else◌, zero, suc, ◌==◌, ◌&&◌, Result, Ok, Err}
 use Rattle.std.specs.Prelude.{option_map, position, OnOk, is_ok}

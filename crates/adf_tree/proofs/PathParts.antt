@@ -1,4 +1,4 @@
--- The parts between `/` of the text of a path.
+-- The parts of a path's text between `/`.
 use Rattle.std.proofs.Common.{◌≡◌, ◌≢◌, ◌↔◌, Bor, Option, Some, None, ℕ, ◌+◌, ◌<◌, ◌/◌, ◌%◌, inl, inr, List, [], ◌∷◌, ◌++◌, length, get_or, take}
 use Rattle.std.proofs.Common.{map, Bool, true, false, arith, sym, refl, ◌∙◌, ap, ◌==◌, ◌&&◌, nat_le}
 use Rattle.std.specs.Prelude.{IsSome, IfNone, IfSome, is_some}

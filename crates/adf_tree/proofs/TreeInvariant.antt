@@ -1,4 +1,4 @@
--- A tree stays one when an entry is added: its numbers, its order, its directories and its names.
+-- An addition keeps the invariant of trees: numbers, order, directories and names.
 use Rattle.std.proofs.Common.{◌≡◌, ℕ, ◌+◌, ◌-◌, ◌*◌, ◌<◌, ◌≤◌, inl, inr, List, length, get_or, take, map, arith, nat_lt, sym, ◌∙◌, ap}
 use Rattle.std.proofs.Common.{not}
 use Rattle.std.specs.List.{AllPairs, insert, drop-map}

@@ -1,4 +1,4 @@
--- Where an entry is put in walk order, and what inserting and renumbering leave.
+-- Where an entry is inserted in walk order, and the result of inserting and renumbering.
 use Rattle.std.proofs.Common.{◌≡◌, ℕ, ◌≤◌, List, [], ◌∷◌, length, get_or, true, false, arith, nat_lt, nat_le, sym, ◌+◌, ◌++◌, take, drop, map}
 use Rattle.std.specs.List.Sorted.{IsPartitionPoint}
 use Rattle.std.proofs.lemmas.List.Sums.{position_or_len_is}

@@ -12,36 +12,36 @@ use Rattle.adf_tree.specs.Tree.{added, find, last_of, new_entry, parents_of, roo
 use Rattle.adf_tree.specs.Chain.{chain}
 use Rattle.adf_tree.specs.Paths.{entry_content, content_at, Content}
 
--- a new path, and what it gets
+-- a path to add, and its content
 pub record Addition : Type 0 where
   pub path : List (List ℕ)
   pub meta : Meta
   pub body : Body
 
--- what the entry of an addition has beside its place in the tree
+-- the content of an addition's entry
 abbrev pub content_of : Addition → Content
 content_of x = record { name = last_of x.path; meta = x.meta; body = x.body }
 
--- whether two paths are one, whatever the case
+-- whether two paths are equal, ignoring case
 abbrev pub same_path : List (List ℕ) → List (List ℕ) → Bool
 same_path a b = pointwise bytes_eq (map uppers a) (map uppers b)
 
--- whether an addition comes into this directory and slot
+-- whether an addition goes into this directory and slot
 abbrev pub comes_into : List (List ℕ) → ℕ → Addition → Bool
 comes_into dir s x = same_path (parents_of x.path) dir && (slot_of (last_of x.path) == s)
 
--- es is the tree of these additions: it tells each of them, and nothing else, and the chains have them in their order
+-- es is the tree of these additions: it has each of them and nothing else, and its chains keep their order
 pub record IsTreeOf (es : List Entry) (additions : List Addition) : Type 0 where
   pub tree : IsTree es
   pub there : All (λ x. content_at es x.path ≡ Some (content_of x)) additions
   pub others : (q : List (List ℕ)) → All (λ x. map uppers q ≢ map uppers x.path) additions → content_at es q ≡ None
   pub chains : (dir : List (List ℕ)) (p s : ℕ) → find es dir ≡ Some p → map entry_content (chain es p s) ≡ map content_of (filter (comes_into dir s) additions)
 
--- the entries with an addition more, as `add` leaves them
+-- the entries after `add` of one more addition
 abbrev pub with_addition : List Entry → Addition → List Entry
 with_addition es x = added es (new_entry es x.path x.meta x.body)
 
--- the entries that `add` leaves, one addition after another
+-- the entries after `add` of each addition in turn
 abbrev pub entries_of_additions : List Addition → List Entry
 entries_of_additions additions = fold with_addition [] additions
 

@@ -10,13 +10,13 @@ use Rattle.adf_tree.specs.Meta.{IsBoundedMeta}
 use Rattle.adf_tree.specs.Texts.{is_name}
 use Rattle.adf_tree.specs.Tree.{Tree}
 
--- the three dates of a volume have numbers of 32 bits
+-- the numbers of a volume's three dates fit in 32 bits
 pub record AreStamps (s : Stamps) : Type 0 where
   pub root : IsStamp s.root
   pub altered : IsStamp s.altered
   pub created : IsStamp s.created
 
--- the bytes of a file are fewer than memory can have
+-- a file has fewer than 2^63 bytes
 abbrev pub IsData : Body → Type 0
 IsData Dir = Unit {0}
 IsData (File bytes) = length bytes < 2 ^ 63

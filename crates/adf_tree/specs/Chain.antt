@@ -4,7 +4,7 @@ use Rattle.std.specs.List.{filter}
 use Rattle.adf_fields.specs.Hash.{slot_of}
 use Rattle.adf_tree.specs.declared.entry.Entry.{Entry}
 
--- whether an entry stands at this parent and slot
+-- whether an entry has this parent and slot
 abbrev pub in_chain : ℕ → ℕ → Entry → Bool
 in_chain p s e = (e.parent == p) && (slot_of e.name == s)
 

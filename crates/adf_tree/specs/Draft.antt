@@ -1,4 +1,4 @@
--- Trees in the making: the entries in the order of their additions, numbered from 1 in this order, and with parents by these numbers.
+-- Trees under construction: entries in order of addition, numbered from 1, with parents by these numbers.
 use Rattle.std.specs.Prelude.{◌≡◌, ℕ, ◌+◌, ◌-◌, ◌<◌, ◌≤◌, List, [], ◌∷◌, ◌++◌, Some, Result, Ok, Err, option_map, length, map, fold, slice_index_or}
 use Rattle.adf_tree.specs.Texts.{uppers}
 use Rattle.adf_tree.specs.declared.entry.Entry.{Entry}
@@ -10,28 +10,28 @@ use Rattle.adf_tree.specs.Tree.{added, child, last_of, moved, place, rank, room_
 use Rattle.adf_tree.specs.Chain.{chain}
 use Rattle.adf_tree.specs.ChildMap.{number_in, Numbers}
 
--- the tree that additions give, and the number that each of them has in it
+-- the tree of the additions, and the number of each addition in it
 pub record NumberedTree : Type 0 where
   pub entries : List Entry
   pub nodes : List ℕ
 
--- the number in the tree of the addition of this number, and 0 for the root
+-- the number in the tree of an addition; 0 for the root
 abbrev pub node_of : List ℕ → ℕ → ℕ
 node_of nodes m = slice_index_or (0 ∷ nodes) m 0
 
--- the entry in the tree
+-- the entry of an addition, with its parent's number in the tree
 abbrev pub in_tree : List ℕ → Entry → Entry
 in_tree nodes d = record d { parent = node_of nodes d.parent }
 
--- where the entry of one addition more is put
+-- the number in the tree that one more addition gets
 abbrev pub new_number : NumberedTree → Entry → ℕ
 new_number w d = place w.entries (rank (in_tree w.nodes d)) + 1
 
--- one addition more
+-- the tree with one more addition
 abbrev pub walk_more : NumberedTree → Entry → NumberedTree
 walk_more w d = record { entries = added w.entries (in_tree w.nodes d); nodes = map (moved (new_number w d)) w.nodes ++ new_number w d ∷ [] }
 
--- entries put in one after the other, and their nodes
+-- the tree of entries added one after another, and their numbers in it
 abbrev pub walk : List Entry → NumberedTree
 walk drafts = fold walk_more (record { entries = []; nodes = [] }) drafts
 
@@ -39,7 +39,7 @@ walk drafts = fold walk_more (record { entries = []; nodes = [] }) drafts
 abbrev pub HasEarlyParents : List Entry → Type 0
 HasEarlyParents drafts = (i : ℕ) (d : Entry) → i < length drafts → (slice_index_or drafts i d).parent ≤ i
 
--- what holds of additions and the tree that they give
+-- the invariant of additions and their tree
 pub record IsNumberedTree (drafts : List Entry) (w : NumberedTree) : Type 0 where
   pub tree : IsTree w.entries
   pub count : length w.entries ≡ length drafts
@@ -51,36 +51,36 @@ pub record IsNumberedTree (drafts : List Entry) (w : NumberedTree) : Type 0 wher
       → slice_index_or w.entries (node_of w.nodes m - 1) d ≡ in_tree w.nodes (slice_index_or drafts (m - 1) d)
   pub chains : (m s : ℕ) → m ≤ length drafts → chain w.entries (node_of w.nodes m) s ≡ map (in_tree w.nodes) (chain drafts m s)
 
--- the numbers of the additions are found by their parents and names
+-- each addition's number is found by its parent and name
 pub record AreNumbered (drafts : List Entry) (w : NumberedTree) (numbers : Numbers) : Type 0 where
   pub within : (m k : ℕ) (name : List ℕ) → number_in numbers m name ≡ Some k → (m ≤ length drafts) × (k ≤ length drafts)
   pub found : (m : ℕ) (name : List ℕ) → m ≤ length drafts
       → child w.entries (node_of w.nodes m) name ≡ option_map (node_of w.nodes) (number_in numbers m (uppers name))
 
--- what holds of every tree in the making
+-- the invariant of a draft
 pub record IsDraft (drafts : List Entry) (numbers : Numbers) : Type 0 where
   pub gives : IsNumberedTree drafts (walk drafts)
   pub found : AreNumbered drafts (walk drafts) numbers
 
--- what a draft is seen as: the tree so far, and the number in it that each addition has
+-- the value of a draft: the tree so far, and the number in it of each addition
 pub record DraftValue : Type 0 where
   pub tree : Tree
   pub nodes : List ℕ
 
--- the draft of a volume of this kind, label and dates, with what its additions give
+-- the value of a draft, from its kind, label, dates and additions
 abbrev pub draft_value : Kind → List ℕ → Stamps → NumberedTree → DraftValue
 draft_value kind label stamps w = record {
   tree = record { kind = kind; label = label; stamps = stamps; entries = w.entries };
   nodes = w.nodes;
 }
 
--- the room that a path has in a draft: its last name, in the directory that the names before it lead to
+-- the room of a path in a draft: its last name, in the directory that the names before it lead to
 pub record IsRoomFor (d : DraftValue) (path : List (List ℕ)) (room : Room) : Type 0 where
   pub within : room.parent ≤ length d.nodes
   pub name : room.name ≡ last_of path
   pub leads : room_for d.tree.entries path ≡ Ok (node_of d.nodes room.parent)
 
--- a directory among the additions, as the tree numbers it
+-- a directory by number of addition, turned into its number in the tree
 abbrev pub room_in_tree : List ℕ → Result ℕ RoomFault → Result ℕ RoomFault
 room_in_tree nodes (Ok m) = Ok (node_of nodes m)
 room_in_tree nodes (Err f) = Err f

@@ -1,4 +1,4 @@
--- The numbers and texts of refusals.
+-- The numbers and texts of faults.
 use Rattle.std.specs.Prelude.{ℕ, List, codes}
 use Rattle.adf_tree.specs.declared.tree.AddFault.{AddFault}
 use Rattle.adf_tree.specs.declared.tree.AddFault.TheVariants as add
@@ -7,14 +7,14 @@ use Rattle.adf_tree.specs.declared.tree.RoomFault.TheVariants as room
 use Rattle.adf_tree.specs.declared.path_texts.PathFault.{PathFault}
 use Rattle.adf_tree.specs.declared.path_texts.PathFault.TheVariants as path
 
--- why an entry is not added under a path that has no room
+-- the fault of `add` for a path that has no room
 abbrev pub add_fault : RoomFault → AddFault
 add_fault room.EmptyPath = add.EmptyPath
 add_fault room.NoParent = add.NoParent
 add_fault room.ParentIsFile = add.ParentIsFile
 add_fault room.Exists = add.Exists
 
--- the number of a reason why an entry is not added, 1 to 5
+-- the number of a fault of `add`, 1 to 5
 abbrev pub add_fault_number : AddFault → ℕ
 add_fault_number add.NoParent = 1
 add_fault_number add.ParentIsFile = 2
@@ -22,12 +22,12 @@ add_fault_number add.Exists = 3
 add_fault_number add.NoMemory = 4
 add_fault_number add.EmptyPath = 5
 
--- the number of a reason why a text is not read as a path, 1 or 2
+-- the number of a fault of a path's text, 1 or 2
 abbrev pub path_fault_number : PathFault → ℕ
 path_fault_number path.BadText = 1
 path_fault_number path.NoMemory = 2
 
--- the text of a reason why an entry is not added
+-- the text of a fault of `add`
 abbrev pub add_fault_text : AddFault → List ℕ
 add_fault_text add.NoParent = codes "no parent"
 add_fault_text add.ParentIsFile = codes "parent is file"
@@ -35,7 +35,7 @@ add_fault_text add.Exists = codes "exists"
 add_fault_text add.NoMemory = codes "no memory"
 add_fault_text add.EmptyPath = codes "no name"
 
--- the text of a reason why a text is not read as a path
+-- the text of a fault of a path's text
 abbrev pub path_fault_text : PathFault → List ℕ
 path_fault_text path.BadText = codes "bad path"
 path_fault_text path.NoMemory = codes "no memory"

@@ -1,10 +1,10 @@
--- What an entry has beside its name and its body: each of its fields is named here and where its block is read and written.
+-- The metadata of an entry. Its fields are named here, and in the code that reads and writes its block.
 use Rattle.std.specs.Prelude.{◌<◌, ◌≤◌, ◌^◌, ℕ, List, length}
 use Rattle.adf_fields.specs.Dates.{IsStamp}
 use Rattle.adf_fields.specs.declared.dates.Stamp.{Stamp}
 use Rattle.adf_tree.specs.declared.entry.Meta.{Meta}
 
--- with this comment, these protection bits and this date
+-- the metadata with this comment, these protection bits and this date
 abbrev pub new_meta : List ℕ → ℕ → Stamp → Meta
 new_meta comment protect stamp = record { comment = comment; protect = protect; stamp = stamp }
 

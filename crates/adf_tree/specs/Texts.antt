@@ -3,14 +3,14 @@ use Rattle.std.specs.Prelude.{ℕ, ◌==◌, ◌&&◌, not, nat_le, Bool, List, 
 use Rattle.std.specs.List.{list_all}
 use Rattle.adf_fields.specs.Hash.{upper_of}
 
--- a byte of a name: neither `/` nor `:`
+-- a byte allowed in a name: neither `/` nor `:`
 abbrev pub is_name_byte : ℕ → Bool
 is_name_byte c = not (c == 58) && not (c == 47)
 
--- a name of an entry
+-- a valid name: 1 to 30 bytes
 abbrev pub is_name : List ℕ → Bool
 is_name bytes = nat_le 1 (length bytes) && nat_le (length bytes) 30 && list_all is_name_byte bytes
 
--- a name without the case of a to z
+-- a name with `a` to `z` in upper case
 abbrev pub uppers : List ℕ → List ℕ
 uppers name = map upper_of name

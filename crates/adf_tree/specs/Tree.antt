@@ -26,30 +26,30 @@ pub record Tree : Type 0 where
   pub stamps : Stamps
   pub entries : List Entry
 
--- the pair of a parent and a slot as one number
+-- a parent and a slot as one number, in walk order
 abbrev pub rank_of : ℕ → ℕ → ℕ
 rank_of parent slot = 72 * parent + slot
 
--- the pair that an entry stands at
+-- the parent and slot of an entry as one number
 abbrev pub rank : Entry → ℕ
 rank e = rank_of e.parent (slot_of e.name)
 
--- node p is a directory: the root, or an entry that is one
+-- node p is a directory: the root, or the entry of one
 abbrev pub IsDir : List Entry → ℕ → Type 0
 IsDir es p = 0 < p → (p ≤ length es) × ((d : Entry) → (slice_index_or es (p - 1) d).body ≡ Dir)
 
--- two entries do not have one name in one directory, whatever the case
+-- two entries do not have the same parent and the same name, ignoring case
 abbrev pub AreApart : Entry → Entry → Type 0
 AreApart e f = e.parent ≡ f.parent → uppers e.name ≢ uppers f.name
 
--- what holds of the entries of every tree; the entry at place i has the number i + 1
+-- the invariant of the entries of a tree; the entry at index i has the number i + 1
 pub record IsTree (es : List Entry) : Type 0 where
   pub parents : (i : ℕ) (d : Entry) → i < length es → (slice_index_or es i d).parent ≤ i
   pub dirs : (i : ℕ) (d : Entry) → i < length es → IsDir es (slice_index_or es i d).parent
   pub order : IsNonDecreasingBy rank es
   pub names : AllPairs AreApart es
 
--- whether an entry has this parent and this name, whatever the case
+-- whether an entry has this parent and this name, ignoring case
 abbrev pub is_child : ℕ → List ℕ → Entry → Bool
 is_child parent name e = (e.parent == parent) && bytes_eq (uppers e.name) (uppers name)
 
@@ -57,23 +57,23 @@ is_child parent name e = (e.parent == parent) && bytes_eq (uppers e.name) (upper
 abbrev pub child : List Entry → ℕ → List ℕ → Option ℕ
 child es parent name = option_map (λ i. i + 1) (position (is_child parent name) es)
 
--- the entries before the first one of a greater pair
+-- the number of entries of at most this parent and slot
 abbrev pub place : List Entry → ℕ → ℕ
 place es r = position_or_len (λ e. nat_lt r (rank e)) es
 
--- the number of the entry p when a new entry takes the number n
+-- the new number of entry p after an insertion at number n
 abbrev pub moved : ℕ → ℕ → ℕ
 moved n p = if nat_le n p then p + 1 else p
 
--- an entry when a new one takes the number n
+-- an entry after an insertion at number n
 abbrev pub renumbered : ℕ → Entry → Entry
 renumbered n e = record e { parent = moved n e.parent }
 
--- the entries with e after all of the same or a lesser pair
+-- the entries with e inserted after all entries of the same or a lower parent and slot
 abbrev pub added : List Entry → Entry → List Entry
 added es e = let i = place es (rank e) in take i es ++ e ∷ map (renumbered (i + 1)) (drop i es)
 
--- an entry may be added: its parent is a directory in which nothing has its name
+-- an entry may be added: its parent is a directory with no entry of its name
 pub record MayAdd (es : List Entry) (e : Entry) : Type 0 where
   pub parent : IsDir es e.parent
   pub fresh : (i : ℕ) (d : Entry) → i < length es → AreApart (slice_index_or es i d) e
@@ -100,13 +100,13 @@ find_from es p (name ∷ names) = elim (child es p name) [ None ↦ None | Some 
 abbrev pub find : List Entry → List (List ℕ) → Option ℕ
 find es path = find_from es 0 path
 
--- the directory that a path leads to from the directory p, or why there is none
+-- the directory that a path leads to from the directory p, or the fault
 abbrev pub directory_from : List Entry → ℕ → List (List ℕ) → Result ℕ RoomFault
 directory_from es p [] = Ok p
 directory_from es p (name ∷ names) =
     elim (child es p name) [ None ↦ Err NoParent | Some n ↦ if is_dir es n then directory_from es n names else Err ParentIsFile ]
 
--- a path without its last name, and that name
+-- a path without its last name
 abbrev pub parents_of : List (List ℕ) → List (List ℕ)
 parents_of path = take (length path - 1) path
 
@@ -114,45 +114,45 @@ parents_of path = take (length path - 1) path
 abbrev pub last_of : List (List ℕ) → List ℕ
 last_of path = slice_index_or path (length path - 1) []
 
--- the directory p, where nothing is found in it
+-- the directory p, if the look-up in it found nothing
 abbrev pub free_in : ℕ → Option ℕ → Result ℕ RoomFault
 free_in p None = Ok p
 free_in p (Some n) = Err Exists
 
--- the directory, where nothing in it has this name
+-- the directory, if it has no entry of this name
 abbrev pub room_at : List Entry → List ℕ → Result ℕ RoomFault → Result ℕ RoomFault
 room_at es name (Ok p) = free_in p (child es p name)
 room_at es name (Err f) = Err f
 
--- the directory that a path is added to, or why it is not added
+-- the directory that a path is added to, or the fault
 abbrev pub room_for : List Entry → List (List ℕ) → Result ℕ RoomFault
 room_for es path = if length path == 0 then Err EmptyPath else room_at es (last_of path) (directory_from es 0 (parents_of path))
 
--- the entry that is added under a path
+-- the number of the directory
 abbrev pub in_directory : Result ℕ RoomFault → ℕ
 in_directory (Ok p) = p
 in_directory (Err _) = 0
 
--- the entry that a path leads to, in the directory that the names before the last lead to
+-- the entry that is added: the last name of the path, in the directory that the names before it lead to
 abbrev pub new_entry : List Entry → List (List ℕ) → Meta → Body → Entry
 new_entry es path meta body = record { parent = in_directory (room_for es path); name = last_of path; meta = meta; body = body }
 
--- a tree with an entry more
+-- a tree with one more entry, added under a path
 abbrev pub with_entry : Tree → List (List ℕ) → Meta → Body → Tree
 with_entry t path meta body = record t { entries = added t.entries (new_entry t.entries path meta body) }
 
--- an entry comes last in walk order
+-- an entry is last in walk order
 abbrev pub IsLast : List Entry → Entry → Type 0
 IsLast es e = All (λ x. rank x ≤ rank e) es
 
--- a tree with an entry more, at the end
+-- a tree with one more entry at the end
 abbrev pub with_last : Tree → Entry → Tree
 with_last t e = record t { entries = t.entries ++ e ∷ [] }
 
--- a tree of another kind
+-- a tree with this kind
 abbrev pub with_kind : Tree → Kind → Tree
 with_kind t kind = record t { kind = kind }
 
--- what `add` may answer: a fault that is there, or NoMemory where there is none
+-- the allowed results of `add`: the fault of the path, or `NoMemory` if it has none
 abbrev pub IsAnswer : Result ℕ RoomFault → Result (Unit {0}) AddFault → Type 0
 IsAnswer room r = MatchResult r (λ _. IsOk room) (λ f. MatchResult room (λ _. f ≡ NoMemory) (λ g. f ≡ add_fault g))

@@ -6,7 +6,7 @@ ghost use Rattle.adf_tree.specs.Bounds.{IsBoundedEntry, IsData};
 use crate::entry::{Body, Entry};
 use adf_fields::Stamp;
 
-/// A date's numbers have 32 bits.
+/// The numbers of a date fit in 32 bits.
 pub fn date_bounds(stamp: &Stamp)
     ensures { IsStamp stamp.now }
 {
@@ -15,7 +15,7 @@ pub fn date_bounds(stamp: &Stamp)
     let _ticks = stamp.ticks;
 }
 
-// The bytes of a file are no more than memory can have.
+// A file has fewer than 2^63 bytes.
 fn body_bounds(body: &Body)
     ensures { IsData body.now }
 {

@@ -1,4 +1,4 @@
-// Entries by their parents and names.
+// A map from parent and name to the number of the entry.
 
 ghost use Rattle.std.specs.Prelude.{◌≡◌, ◌≤◌, ◌<◌, ℕ, List, None, OnOk, OnErr, length, true};
 ghost use Rattle.std.specs.BTreeMap.{get};
@@ -15,7 +15,7 @@ use std::collections::BTreeMap;
 
 const BUCKETS: u64 = 1021;
 
-/// A name in a directory.
+/// The key of an entry: its name and its parent.
 #[derive(Clone, Copy, PartialEq, Eq, PartialOrd, Ord, Drop)]
 pub struct ChildKey {
     pub name: NameKey,
@@ -34,7 +34,7 @@ impl ChildKey {
         }
     }
 
-    // The bucket of the key.
+    // The bucket that the key hashes to.
     fn bucket(self) -> usize
         ensures exact { result ≡ bucket_of self }
         ensures below { result < 1021 }
@@ -46,14 +46,14 @@ impl ChildKey {
     }
 }
 
-/// The numbers of entries, by their parents and their names without the case of `a` to `z`. A sum over the key names a
-/// bucket, in which the keys stand in order.
+/// A map from parent and name to the number of the entry; the case of `a` to `z` is ignored. The key's hash selects a
+/// bucket; each bucket is sorted.
 #[derive(Drop)]
 pub struct ChildMap {
     buckets: Vec<BTreeMap<ChildKey, usize>>,
 }
 
-// The number of a key in its bucket.
+// Looks up a key in its bucket.
 fn number_at(bucket: &BTreeMap<ChildKey, usize>, key: &ChildKey) -> Option<Node>
     ensures { result ≡ get by_child bucket.now key.now }
 {
@@ -65,7 +65,7 @@ fn number_at(bucket: &BTreeMap<ChildKey, usize>, key: &ChildKey) -> Option<Node>
 
 impl ChildMap {
     #[tactic(auto, unfolding(crate::specs::ChildMap::number_in))]
-    /// No entries.
+    /// The empty map.
     pub fn new(alloc: Global) -> ChildMap
         ensures { (p : ℕ) (x : List ℕ) → number_in result.buckets.items p x ≡ None }
     {
@@ -75,7 +75,7 @@ impl ChildMap {
     }
 
     #[tactic(auto, unfolding(crate::specs::ChildMap::number_in))]
-    /// The number of the entry with this parent and this name, whatever the case.
+    /// The number of the entry with this parent and this name, ignoring case.
     pub fn get(&self, parent: Node, name: &Name) -> Option<Node>
         ensures { result ≡ number_in self.now.buckets.items parent (uppers name.now) }
     {
@@ -87,7 +87,7 @@ impl ChildMap {
         number_at(&self.buckets[bucket], &key)
     }
 
-    // Makes the buckets that are lacking.
+    // Allocates the buckets that are missing.
     fn make_buckets(&mut self) -> Result<(), NoMemory>
         ensures same { (p : ℕ) (x : List ℕ)
             → number_in self.new.buckets.items p x ≡ number_in self.old.buckets.items p x }
@@ -102,7 +102,7 @@ impl ChildMap {
         Ok(())
     }
 
-    /// Puts an entry in. After `NoMemory` all is as it was.
+    /// Adds an entry. On `NoMemory` the map is unchanged.
     pub fn put(&mut self, parent: Node, name: &Name, number: Node) -> Result<(), NoMemory>
         ensures more { OnOk result
             (HasNumber self.old.buckets.items self.new.buckets.items parent

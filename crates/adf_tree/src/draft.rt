@@ -1,4 +1,4 @@
-// Trees in the making.
+// Trees under construction.
 
 ghost use Rattle.std.specs.Prelude.{◌≡◌, ◌≤◌, ◌+◌, ◌++◌, ◌∷◌, ℕ, List, [], length, is_ok, if◌then◌else◌, Err, IfOk, IfErr, OnOk, OnErr};
 ghost use Rattle.adf_tree.specs.Tree.{directory_from, new_entry, room_at, room_for, with_entry, IsAnswer};
@@ -18,7 +18,7 @@ use adf_fields::NoMemory;
 use std::alloc::Global;
 use std::marker::Model;
 
-/// A tree in the making, to which entries are added in any order at no more than the cost of a look-up.
+/// A tree under construction. Entries are added in any order; each addition costs at most one look-up.
 #[derive(Drop)]
 pub struct Draft {
     kind: Kind,
@@ -38,14 +38,14 @@ impl Model for Draft {
     ghost invariant = { λ d. IsDraft d.entries.items d.children.buckets.items };
 }
 
-/// Where an entry comes in a draft: into this directory, by the number of its addition, under this name.
+/// The place of a new entry in a draft: its parent, by number of addition, and its name.
 #[derive(Drop)]
 pub struct Room {
     pub parent: Node,
     pub name: Name,
 }
 
-// The directory that the path leads to, by its number among the additions.
+// The directory that the path leads to, by number of addition.
 fn directory(entries: &[Entry], children: &ChildMap, path: &[Name]) -> Result<Node, RoomFault>
     requires { IsDraft entries.now children.now.buckets.items }
     ensures room { directory_from (walk entries.now).entries 0 path.now
@@ -67,7 +67,7 @@ fn directory(entries: &[Entry], children: &ChildMap, path: &[Name]) -> Result<No
     Ok(node)
 }
 
-// The directory that the path leads to, where nothing in it has this name.
+// The directory that the path leads to, if it has no entry of this name.
 fn free_directory(
     entries: &[Entry],
     children: &ChildMap,
@@ -87,7 +87,7 @@ fn free_directory(
     }
 }
 
-// Adds an entry. After `NoMemory` all is as it was.
+// Adds an entry. On `NoMemory` nothing changes.
 fn add_child(
     entries: &mut Vec<Entry>,
     children: &mut ChildMap,
@@ -115,7 +115,7 @@ fn add_child(
 }
 
 impl Draft {
-    /// A tree in the making with no entry.
+    /// A draft with no entries.
     pub fn new(alloc: Global, kind: Kind, label: Label, stamps: Stamps) -> Draft
         ensures tree { result.tree
             ≡ record { kind = kind; label = label; stamps = stamps; entries = [] } }
@@ -130,7 +130,7 @@ impl Draft {
         }
     }
 
-    /// The room that an entry under this path has, or why it has none.
+    /// The room for an entry with this path, or why there is none.
     pub fn room(&self, path: &[Name]) -> Result<Room, RoomFault>
         ensures some { IfOk result (λ r. IsRoomFor self.now path.now r) }
         ensures fault { IfErr result (λ f. room_for self.now.tree.entries path.now ≡ Err f) }
@@ -144,7 +144,7 @@ impl Draft {
         Ok(Room { parent, name })
     }
 
-    /// Adds an entry in a room of this draft, with no further look-up. After `NoMemory` all is as it was.
+    /// Adds an entry in a room of this draft, without another look-up. On `NoMemory` the draft is unchanged.
     pub fn put(&mut self, room: &Room, meta: Meta, body: Body) -> Result<(), NoMemory>
         requires room { (path : List (List ℕ)) × IsRoomFor self.old path room.now }
         ensures paths { (path : List (List ℕ)) → IsRoomFor self.old path room.now → OnOk result
@@ -184,7 +184,7 @@ impl Draft {
         }
     }
 
-    /// The tree.
+    /// The finished tree.
     pub fn finish(self, alloc: Global) -> Result<Tree, NoMemory>
         ensures { IfOk result (λ t. t ≡ self.tree) }
     {

@@ -14,9 +14,9 @@ use std::marker::Model;
 /// The kind of a volume.
 #[derive(Clone, Copy, Debug, PartialEq, Eq)]
 pub enum Kind {
-    /// The old file system, with 488 bytes of a file in each data block.
+    /// The old file system: a data block holds 488 bytes of a file.
     Ofs,
-    /// The fast file system, with 512.
+    /// The fast file system: a data block holds 512 bytes of a file.
     Ffs,
 }
 
@@ -31,7 +31,7 @@ impl Kind {
         }
     }
 
-    /// The kind that `ofs` or `ffs` names; none of other texts.
+    /// The kind that `ofs` or `ffs` names; `None` for any other text.
     pub fn named(text: &str) -> Option<Kind>
         ensures { result ≡ kind_named text.now }
     {
@@ -56,7 +56,7 @@ impl fmt::Display for Kind {
     }
 }
 
-/// The number of an entry, from 1 on, or 0 for the root.
+/// The number of an entry, counted from 1; 0 is the root.
 #[derive(Clone, Copy, Debug, PartialEq, Eq, PartialOrd, Ord)]
 pub struct Node(pub usize);
 
@@ -78,7 +78,7 @@ pub struct Stamps {
     pub created: Stamp,
 }
 
-/// What an entry has beside its name and its body.
+/// The metadata of an entry: all but its name and its body.
 #[derive(Drop)]
 pub struct Meta {
     pub comment: Comment,
@@ -87,7 +87,7 @@ pub struct Meta {
 }
 
 impl Meta {
-    /// With this comment, these protection bits and this date.
+    /// The metadata with this comment, these protection bits and this date.
     pub fn new(comment: Comment, protect: u32, stamp: Stamp) -> Meta
         ensures { result ≡ new_meta comment protect stamp }
     {
@@ -109,7 +109,7 @@ impl Meta {
         }
     }
 
-    /// Tells that each field is within the bounds of its type, and does nothing.
+    /// States that each field is within the bounds of its type; does nothing at run time.
     pub fn bounds(&self)
         ensures { IsBoundedMeta self.now }
     {
@@ -150,7 +150,7 @@ pub struct Entry {
 }
 
 impl Bytes {
-    /// The bytes given.
+    /// Wraps these bytes.
     pub fn new(bytes: Vec<u8>) -> Bytes
         ensures { result ≡ bytes.items }
     {

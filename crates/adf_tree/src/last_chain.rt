@@ -1,4 +1,4 @@
-// The names of the last chain of a tree, as a set: so an entry at its end is added with no scan.
+// The set of names in the last chain of a tree: an entry at its end is added without a scan.
 
 ghost use Rattle.std.specs.Prelude.{◌≡◌, ◌<◌, ◌≤◌, ℕ, List, length, true, false, is_ok, if◌then◌else◌, IfErr};
 ghost use Rattle.std.specs.List.Sorted.{IsNonDecreasingBy};
@@ -15,7 +15,7 @@ use crate::walk_order::{insert_entry, place_of, start_of};
 use adf_fields::slot;
 use std::alloc::Global;
 
-/// The names, in upper case, of the entries of one parent and slot, where they are known.
+/// The names, in upper case, of the entries of one parent and slot, if they are known.
 #[derive(Drop)]
 pub struct LastChain {
     is_known: bool,
@@ -25,7 +25,7 @@ pub struct LastChain {
 }
 
 impl LastChain {
-    /// No chain is known.
+    /// The value with no names known.
     pub fn new(alloc: Global) -> LastChain
         ensures { result.is_known ≡ false }
     {
@@ -44,7 +44,7 @@ impl LastChain {
         self.is_known && self.parent.0 == parent.0 && self.slot == slot
     }
 
-    /// Whether the name is among those that are known, whatever the case.
+    /// Whether the known names include this one, ignoring case.
     pub fn has(&self, name: &Name) -> bool
         ensures { result ≡ has self.now.names (uppers name.now) }
     {
@@ -59,7 +59,7 @@ impl LastChain {
         self.names.clear();
     }
 
-    // Begins a chain with no name.
+    // Starts a chain with no names.
     fn start(&mut self, parent: Node, slot: u8)
         ensures parent { self.new.parent ≡ parent }
         ensures slot { self.new.slot ≡ slot }
@@ -71,7 +71,7 @@ impl LastChain {
         self.slot = slot;
     }
 
-    // Takes one name more; forgets them all where memory is refused.
+    // Adds a name; if memory is refused, forgets all of them.
     fn put(&mut self, name: &Name)
         ensures { Puts self.old self.new (uppers name.now) }
     {
@@ -80,7 +80,7 @@ impl LastChain {
         }
     }
 
-    // Makes ready for an entry of this parent and slot: what is known then are the names of the last chain.
+    // Prepares for an entry of this parent and slot: keeps names only if they are those of the last chain.
     fn prepare(&mut self, entries: &[Entry], parent: Node, slot: u8)
         requires slot { slot < 72 }
         requires order { IsNonDecreasingBy rank entries.now }
@@ -99,7 +99,7 @@ impl LastChain {
     }
 }
 
-/// Adds an entry after all of the same or a lesser pair.
+/// Adds an entry after all entries of the same or a lower parent and slot.
 pub fn add_entry(
     entries: &mut Vec<Entry>,
     chain: &mut LastChain,

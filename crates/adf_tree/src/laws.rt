@@ -1,23 +1,23 @@
-// Laws of trees, for the proofs of those who build on them. None of these functions does anything.
+// Laws of trees, for the proofs of callers. None of these functions does anything.
 
 ghost use Rattle.adf_tree.specs.Laws.{AddingGrowsTheTree, AdditionsAreBuilt, AdditionsHaveOneTree, CaseKeepsPaths, CaseKeepsSlots, ChildrenAreFound, EntriesStandInOneChain, NamesAreFound, PathsAreFound, TreesGrowInOrder};
 
-/// Every entry is a member of the chain of exactly one parent and slot.
+/// Every entry is in the chain of exactly one parent and slot.
 pub fn entries_stand_in_one_chain()
     ensures { EntriesStandInOneChain }
 {}
 
-/// Names that are equal without their case have one slot.
+/// Names that are equal ignoring case have the same slot.
 pub fn case_keeps_slots()
     ensures { CaseKeepsSlots }
 {}
 
-/// Paths that are equal without their case lead to one node.
+/// Paths that are equal ignoring case lead to the same node.
 pub fn case_keeps_paths()
     ensures { CaseKeepsPaths }
 {}
 
-/// What is found for a name is the entry of that name, in the chain of its slot, and each entry is found.
+/// Looking up a name finds the entry of that name, in the chain of its slot; every entry is found.
 pub fn children_are_found()
     ensures { ChildrenAreFound }
 {}
@@ -27,27 +27,27 @@ pub fn paths_are_found()
     ensures { PathsAreFound }
 {}
 
-/// Each entry is found under its names from the root on, as they are written.
+/// Each entry is found under its names as written, from the root on.
 pub fn names_are_found()
     ensures { NamesAreFound }
 {}
 
-/// The entries of a tree, added in their order, give that tree.
+/// Adding the entries of a tree in their order gives the same tree.
 pub fn trees_grow_in_order()
     ensures { TreesGrowInOrder }
 {}
 
-/// Two trees of the same additions are one.
+/// Two trees of the same additions are equal.
 pub fn additions_have_one_tree()
     ensures { AdditionsHaveOneTree }
 {}
 
-/// What `add` makes of the tree of some additions is the tree of one addition more.
+/// `add` turns the tree of some additions into the tree of those and one more.
 pub fn adding_grows_the_tree()
     ensures { AddingGrowsTheTree }
 {}
 
-/// Additions that all have room have the tree that `add` makes of them.
+/// If every addition has room, `add` builds their tree.
 pub fn additions_are_built()
     ensures { AdditionsAreBuilt }
 {}

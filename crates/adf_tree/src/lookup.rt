@@ -1,4 +1,4 @@
-// Look-up: the entry of a name, and where paths lead.
+// Look-up of names and paths.
 
 ghost use Rattle.std.specs.Prelude.{◌≡◌};
 ghost use Rattle.std.specs.Option.{is_some, option_copied};
@@ -13,7 +13,7 @@ use crate::tree::RoomFault;
 use crate::walk_order::{place_of, start_of};
 use adf_fields::slot;
 
-// Whether the entry has this parent and this name, whatever the case.
+// Whether the entry has this parent and this name, ignoring case.
 fn is_child(e: &Entry, parent: Node, name: &Name) -> bool
     ensures { result ≡ is_child parent name.now e.now }
 {
@@ -36,7 +36,7 @@ fn child(entries: &[Entry], parent: Node, name: &Name) -> Option<Node>
     None
 }
 
-// Whether this is a directory.
+// Whether the body is that of a directory.
 fn is_dir_body(body: &Body) -> bool
     ensures { result ≡ is_dir_body body.now }
 {
@@ -104,7 +104,7 @@ fn directory(entries: &[Entry], path: &[Name]) -> Result<Node, RoomFault>
     Ok(node)
 }
 
-// Whether an entry has this parent and this name: known with no scan in the last chain.
+// Whether an entry has this parent and this name; the last chain needs no scan.
 fn is_taken(entries: &[Entry], chain: &LastChain, parent: Node, name: &Name) -> bool
     requires order { IsNonDecreasingBy rank entries.now }
     requires names { IsOf chain.now entries.now }
@@ -116,7 +116,7 @@ fn is_taken(entries: &[Entry], chain: &LastChain, parent: Node, name: &Name) -> 
     child(entries, parent, name).is_some()
 }
 
-/// The directory that the path leads to, where nothing in it has this name.
+/// The directory that the path leads to, if it has no entry of this name.
 pub fn room_for(
     entries: &[Entry],
     chain: &LastChain,

@@ -9,7 +9,7 @@ use adf_fields::upper;
 use arrayvec::ArrayVec;
 use std::marker::Model;
 
-/// The name of an entry: 1 to 30 bytes, with no `/` and no `:`.
+/// The name of an entry: 1 to 30 bytes, none of them `/` or `:`.
 #[derive(Drop)]
 pub struct Name {
     text: ArrayVec<u8, 30>,
@@ -34,14 +34,14 @@ fn are_name_bytes(bytes: &[u8]) -> bool
 }
 
 impl Name {
-    /// Whether these bytes are a name.
+    /// Whether these bytes are a valid name.
     pub fn is_name(bytes: &[u8]) -> bool
         ensures { result ≡ is_name bytes.now }
     {
         1 <= bytes.len() && bytes.len() <= 30 && are_name_bytes(bytes)
     }
 
-    /// The name with these bytes, where they are a name.
+    /// The name with these bytes; `None` if they are not a valid name.
     pub fn new(bytes: &[u8]) -> Option<Name>
         ensures allowed { IsSome result ↔ (is_name bytes.now ≡ true) }
         ensures bytes { IfSome result (λ n. n ≡ bytes.now) }
@@ -53,7 +53,7 @@ impl Name {
         Some(Name { text })
     }
 
-    /// The name with these bytes, which are known to be a name.
+    /// The name with these bytes, which must be a valid name.
     pub fn known(bytes: &[u8]) -> Name
         requires { is_name bytes.now ≡ true }
         ensures { result ≡ bytes.now }
@@ -63,21 +63,21 @@ impl Name {
         }
     }
 
-    /// The same name once more.
+    /// A copy of the name.
     pub fn copy(&self) -> Name
         ensures { result ≡ self.now }
     {
         Name::known(self.bytes())
     }
 
-    /// Whether the names are equal without the case of `a` to `z`.
+    /// Whether the names are equal, ignoring the case of `a` to `z`.
     pub fn same(&self, other: &Name) -> bool
         ensures { result ≡ bytes_eq (uppers self.now) (uppers other.now) }
     {
         other.matches(self.bytes())
     }
 
-    /// Whether the bytes are equal to the name without the case of `a` to `z`.
+    /// Whether the bytes are equal to the name, ignoring the case of `a` to `z`.
     pub fn matches(&self, bytes: &[u8]) -> bool
         ensures { result ≡ bytes_eq (uppers bytes.now) (uppers self.now) }
     {
@@ -94,7 +94,7 @@ impl Name {
 }
 
 #[tactic(auto, using(crate::proofs::EqualNames::same_yes, crate::proofs::EqualNames::same_no, crate::proofs::EqualNames::same_short))]
-// Whether two texts are equal without the case of `a` to `z`.
+// Whether two texts are equal, ignoring the case of `a` to `z`.
 fn are_same(a: &[u8], b: &[u8]) -> bool
     ensures { result ≡ bytes_eq (uppers a.now) (uppers b.now) }
 {

@@ -1,4 +1,4 @@
-// Names as numbers, so that two names are compared by a few words.
+// Names as four numbers, so that comparing two names compares a few words.
 
 ghost use Rattle.std.specs.Prelude.{◌≡◌, ◌≤◌, ◌+◌, length, true};
 ghost use Rattle.adf_tree.specs.Texts.{uppers};
@@ -7,7 +7,7 @@ ghost use Rattle.adf_tree.specs.NameKeys.{is_short, key_of_name, padded, spread_
 use crate::name::Name;
 use adf_fields::upper;
 
-/// A name without the case of `a` to `z`, its length before its bytes, as four numbers.
+/// A name in upper case, its length before its bytes, as four numbers.
 #[derive(Clone, Copy, PartialEq, Eq, PartialOrd, Ord, Drop)]
 pub struct NameKey {
     pub first: u64,
@@ -19,14 +19,14 @@ pub struct NameKey {
 // 2^64 over the golden ratio.
 const FACTOR: u64 = 11400714819323198485;
 
-// A number with one word more mixed in.
+// Mixes one more word into a number.
 fn stirred(number: u64, word: u64) -> u64
     ensures { result ≡ stirred number word }
 {
     number.wrapping_mul(FACTOR).wrapping_add(word)
 }
 
-// The length of a name, its bytes without case, and zeros.
+// The length of a name, its bytes in upper case, and zeros.
 fn padded(name: &[u8]) -> [u8; 32]
     requires { length name.now ≤ 30 }
     ensures bytes { result ≡ padded (uppers name.now) }
@@ -41,7 +41,7 @@ fn padded(name: &[u8]) -> [u8; 32]
     text
 }
 
-// The number that the 8 bytes from a place on are.
+// The big-endian number in the 8 bytes at an offset.
 fn name_word(text: &[u8; 32], from: usize) -> u64
     requires { from + 8 ≤ 32 }
     ensures { result ≡ name_word text.now from }
@@ -66,7 +66,7 @@ impl NameKey {
     }
 
     #[tactic(auto, unfolding(crate::specs::NameKeys::spread_of))]
-    /// A number in which keys that differ little differ much.
+    /// A hash of the key: similar keys have hashes far apart.
     pub fn spread(self) -> u64
         ensures { result ≡ spread_of self }
     {

@@ -1,4 +1,4 @@
-// Sets of names, of which equal ones without the case of `a` to `z` are one.
+// Sets of names, ignoring the case of `a` to `z`.
 
 ghost use Rattle.std.specs.Prelude.{◌≡◌, ◌<◌, ◌≤◌, ◌^◌, ◌++◌, [], ◌∷◌, ℕ, List, length, false, not, IfOk, OnErr, OnOk};
 ghost use Rattle.adf_tree.specs.Texts.{uppers};
@@ -17,14 +17,14 @@ use std::mem;
 
 const FIRST_SEATS: usize = 64;
 
-/// The most names with seats, whose places are numbers of 32 bits.
+/// The most names that can have seats: a seat holds a number of 32 bits.
 const MOST_SEATED: usize = 1 << 32;
 
-/// Seats that a name may have, one behind the other.
+/// The number of adjacent seats that a name may take.
 const CHOICE: usize = 8;
 
-/// A set of names, of which equal ones without the case of `a` to `z` are one. Each name has the first seat by its
-/// number that none had, out of eight; those that find all eight taken stand in order.
+/// A set of names, ignoring the case of `a` to `z`. The name's hash selects a window of eight seats; the name takes
+/// the first vacant one. Names whose eight seats are all taken are kept in a sorted set, the rest.
 #[derive(Drop)]
 pub struct NameSet {
     seated: Vec<NameKey>,
@@ -48,14 +48,14 @@ impl Model for NameSet {
 pub enum Seating {
     /// The name has a seat.
     Seated,
-    /// This is the first seat that none has.
+    /// This is the first vacant seat.
     Vacant(usize),
-    /// Others have all its seats.
+    /// Other names have all its seats.
     Crowded,
 }
 
 #[tactic(auto, unfolding(crate::specs::Seats::seat_in))]
-// The first seat of a name among so many.
+// The first seat of a name in a table of `count` seats.
 fn seat_of(name: NameKey, count: usize) -> usize
     ensures exact { result ≡ seat_in count name }
     ensures within { result ≤ count }
@@ -64,7 +64,7 @@ fn seat_of(name: NameKey, count: usize) -> usize
     ((u128::from(name.spread()) * count as u128) >> 64) as usize
 }
 
-// The name that has a seat.
+// The name in a seat.
 fn holder(names: &[NameKey], seats: &[u32], seat: usize) -> Option<NameKey>
     ensures { result ≡ holder_of names.now seats.now seat }
 {
@@ -72,7 +72,7 @@ fn holder(names: &[NameKey], seats: &[u32], seat: usize) -> Option<NameKey>
     names.get(place as usize).copied()
 }
 
-// What the seats of a name tell.
+// Searches the seats of a name.
 fn seats_tell(names: &[NameKey], seats: &[u32], name: NameKey) -> Seating
     ensures exact { result ≡ seats_tell names.now seats.now name }
     ensures inside { 8 < length seats.now → (seat : ℕ) → result ≡ Vacant seat
@@ -92,7 +92,7 @@ fn seats_tell(names: &[NameKey], seats: &[u32], name: NameKey) -> Seating
     Seating::Crowded
 }
 
-// How a name is seated: no seat is vacant where there are as many names as there are numbers for them.
+// How a name is seated; no seat counts as vacant once 2^32 names have seats.
 fn seating_of(names: &[NameKey], seats: &[u32], name: NameKey) -> Seating
     ensures exact { result ≡ seating_of names.now seats.now name }
     ensures inside { 8 < length seats.now → (seat : ℕ) → result ≡ Vacant seat
@@ -123,14 +123,14 @@ fn is_in(names: &[NameKey], seats: &[u32], rest: &BTreeSet<NameKey>, name: NameK
     }
 }
 
-// Whether there are no seats, or more would help: a half is taken, and the rest are not most names.
+// Whether to grow the table: it has no seats, or half are taken and the rest are at most 4 times as many.
 fn are_few(seats: usize, seated: usize, rest: usize) -> bool
     ensures { result ≡ false → 8 < seats }
 {
     seats <= CHOICE || (seats / 2 <= seated && rest / 4 <= seated)
 }
 
-// Makes twice as many seats, which none has.
+// Makes twice as many seats, all vacant.
 fn make_seats(seats: &mut Vec<u32>) -> Result<(), NoMemory>
     ensures { OnOk result (8 < length seats.new.items) }
 {
@@ -142,7 +142,7 @@ fn make_seats(seats: &mut Vec<u32>) -> Result<(), NoMemory>
     }
 }
 
-// Gives a new name its seat, which none has.
+// Puts a new name in its vacant seat.
 fn seat_new(
     names: &mut Vec<NameKey>,
     seats: &mut [u32],
@@ -164,7 +164,7 @@ fn seat_new(
     Ok(())
 }
 
-// Puts a name among the rest, and tells whether it is new there.
+// Adds a name to the rest; returns whether it is new there.
 fn put_in_rest(rest: &mut BTreeSet<NameKey>, name: NameKey) -> Result<bool, NoMemory>
     ensures new { IfOk result (λ is_new. is_new ≡ not (is_among rest.old.keys name)) }
     ensures more { OnOk result (IsWith rest.old.keys rest.new.keys name) }
@@ -176,7 +176,7 @@ fn put_in_rest(rest: &mut BTreeSet<NameKey>, name: NameKey) -> Result<bool, NoMe
     }
 }
 
-// Puts a name in, and tells whether it is new there.
+// Adds a name; returns whether it is new.
 fn place(
     names: &mut Vec<NameKey>,
     seats: &mut [u32],
@@ -201,7 +201,7 @@ fn place(
     }
 }
 
-// Puts many names in.
+// Adds a list of names.
 fn place_all(
     names: &mut Vec<NameKey>,
     seats: &mut [u32],
@@ -220,7 +220,7 @@ fn place_all(
     Ok(())
 }
 
-// Puts names in that stand in order.
+// Adds the names of a sorted set.
 fn place_rest(
     names: &mut Vec<NameKey>,
     seats: &mut [u32],
@@ -239,7 +239,7 @@ fn place_rest(
     Ok(())
 }
 
-// Makes more seats where they are too few, and seats all names anew.
+// If there are too few seats, makes more and seats all names again.
 fn make_room(
     names: &mut Vec<NameKey>,
     seats: &mut Vec<u32>,
@@ -268,7 +268,7 @@ fn make_room(
 
 impl NameSet {
     #[tactic(auto, unfolding(crate::specs::NameSet::has))]
-    /// The set of no names.
+    /// The empty set.
     pub fn new(alloc: Global) -> NameSet
         ensures { (x : List ℕ) → has result x ≡ false }
     {
@@ -279,7 +279,7 @@ impl NameSet {
         }
     }
 
-    /// Whether the set has a name, whatever the case.
+    /// Whether the set has the name, ignoring case.
     pub fn has(&self, name: &Name) -> bool
         ensures { result ≡ has self.now (uppers name.now) }
     {
@@ -287,7 +287,7 @@ impl NameSet {
         is_in(&self.seated, &self.seats, &self.rest, key)
     }
 
-    /// Puts a name into the set, and tells whether it is new there; `NoMemory` where a growth was refused.
+    /// Adds a name; returns whether it is new. `NoMemory` if an allocation fails.
     pub fn put(&mut self, name: &Name) -> Result<bool, NoMemory>
         ensures new { IfOk result (λ is_new. is_new ≡ not (has self.old (uppers name.now))) }
         ensures more { OnOk result (HasMore self.old self.new (uppers name.now)) }
@@ -298,7 +298,7 @@ impl NameSet {
     }
 
     #[tactic(auto, unfolding(crate::specs::NameSet::has))]
-    /// Takes all names out. No more seats stay than the names had use for.
+    /// Removes all names, and shrinks the table to 4 seats for each name that had one (at least 64).
     pub fn clear(&mut self)
         ensures { (x : List ℕ) → has self.new x ≡ false }
     {

@@ -14,12 +14,12 @@ use std::alloc::{AllocError, Global};
 use std::error::Error;
 use std::fmt;
 
-/// Why a text is not read as a path.
+/// Why a text cannot be read as a path.
 #[derive(Clone, Copy, Debug, PartialEq, Eq)]
 pub enum PathFault {
-    /// The text is that of no list of names.
+    /// The text is not that of a list of names.
     BadText = 1,
-    /// A growth was refused.
+    /// An allocation failed.
     NoMemory = 2,
 }
 
@@ -48,7 +48,7 @@ impl fmt::Display for PathFault {
 
 impl Error for PathFault {}
 
-// The name whose escape form the text is.
+// The name whose escape form is the text.
 fn read_name(text: &[u8]) -> Option<Name>
     ensures some { IfSome result (λ n. text.now ≡ escaped n) }
     ensures name { IfSome result IsName }
@@ -58,14 +58,14 @@ fn read_name(text: &[u8]) -> Option<Name>
     Name::new(bytes.as_slice())
 }
 
-// The place of the first `/`.
+// The index of the first `/`.
 fn slash(text: &[u8]) -> Option<usize>
     ensures { result ≡ position (λ c. c == 47) text.now }
 {
     text.iter().position(|c| *c == b'/')
 }
 
-// The part of a text before the first `/`, and what is after that.
+// The part of a text before the first `/`, and the part after it.
 fn cut(text: &[u8]) -> (&[u8], Option<&[u8]>)
     ensures last { IfNone result.1 (between_slashes text.now ≡ result.0.now ∷ []) }
     ensures more { IfSome result.1 (λ after.
@@ -121,8 +121,8 @@ fn names_of(alloc: Global, text: &[u8]) -> Result<Vec<Name>, PathFault>
     }
 }
 
-/// The names of a path, of which this is the text. `BadText` where it is the text of no list of
-/// names, whether there is memory or not; `NoMemory` where a growth was refused, never for the empty text.
+/// Reads the text of a path. `BadText` if and only if it is not the text of a list of names, even if memory is
+/// short; `NoMemory` if an allocation fails, never for the empty text.
 pub fn read_path(alloc: Global, text: &[u8]) -> Result<Vec<Name>, PathFault>
     ensures ok { IfOk result (λ path. IsPathText text.now path.items) }
     ensures empty { text.now ≡ [] → IsOk result }
@@ -138,7 +138,7 @@ pub fn read_path(alloc: Global, text: &[u8]) -> Result<Vec<Name>, PathFault>
     }
 }
 
-// Appends a name to the text of a path, after a `/` where it is not the first.
+// Appends a name to the text of a path, after a `/` unless it is the first.
 fn push_name(text: &mut String, name: &Name, is_first: bool) -> Result<(), AllocError>
     ensures { IfOk result (λ _.
         string_bytes text.new ≡ with_name (string_bytes text.old) name.now is_first) }
@@ -161,7 +161,7 @@ fn joined(alloc: Global, path: &[Name]) -> Result<String, AllocError>
     Ok(text)
 }
 
-/// The text of a path: its escaped names, joined by `/`. That of the empty path takes no memory.
+/// The text of a path: its escaped names, joined by `/`. The empty path needs no memory.
 pub fn write_path(alloc: Global, path: &[Name]) -> Result<String, NoMemory>
     ensures ok { IfOk result (λ text. string_bytes text ≡ path_text path.now) }
     ensures empty { path.now ≡ [] → IsOk result }
@@ -169,7 +169,7 @@ pub fn write_path(alloc: Global, path: &[Name]) -> Result<String, NoMemory>
     joined(alloc, path).map_err(|_| NoMemory)
 }
 
-/// A text is that of one path at most, so `read_path` gives back what `write_path` was given.
+/// A text is that of at most one path, so `read_path` inverts `write_path`.
 pub fn path_texts_decide()
     ensures { PathTextsDecide }
 {}

@@ -1,4 +1,4 @@
-// Texts of few bytes: the label of a volume, and the comment of an entry.
+// Short texts: the label of a volume and the comment of an entry.
 
 ghost use Rattle.std.specs.Prelude.{◌≡◌, ◌≤◌, ◌↔◌, ◌++◌, length, IsSome, IfSome, IfNone, OnOk, OnErr, List, ℕ};
 ghost use Rattle.std.specs.String.{string_bytes};
@@ -9,7 +9,7 @@ use adf_fields::NoMemory;
 use arrayvec::ArrayVec;
 use std::marker::Model;
 
-/// A text of at most `MOST` bytes, any of them.
+/// A text of at most `MOST` arbitrary bytes.
 #[derive(Drop)]
 pub struct ShortText<const MOST: usize> {
     text: ArrayVec<u8, MOST>,
@@ -32,7 +32,7 @@ impl<const MOST: usize> Model for ShortText<MOST> {
 }
 
 impl<const MOST: usize> ShortText<MOST> {
-    /// The text with these bytes, where they are not too many.
+    /// The text with these bytes; `None` if there are more than `MOST`.
     pub fn new(bytes: &[u8]) -> Option<ShortText<MOST>>
         ensures short { IsSome result ↔ (length bytes.now ≤ MOST) }
         ensures bytes { IfSome result (λ t. t ≡ bytes.now) }
@@ -41,7 +41,7 @@ impl<const MOST: usize> ShortText<MOST> {
         Some(ShortText { text })
     }
 
-    /// The text whose escape form this is.
+    /// The text with this escape form; `None` if there is none.
     pub fn read(escaped: &[u8]) -> Option<ShortText<MOST>>
         ensures some { IfSome result (λ t. IsSpelling MOST escaped.now t) }
         ensures none { IfNone result ((bytes : List ℕ) → ¬ IsSpelling MOST escaped.now bytes) }
@@ -50,7 +50,7 @@ impl<const MOST: usize> ShortText<MOST> {
         Some(ShortText { text })
     }
 
-    /// The same text once more.
+    /// A copy of the text.
     pub(crate) fn copy(&self) -> ShortText<MOST>
         ensures { result ≡ self.now }
     {
@@ -67,7 +67,7 @@ impl<const MOST: usize> ShortText<MOST> {
         self.text.as_slice()
     }
 
-    /// Appends the escape form of the text; where memory is refused, `out` stays as it was.
+    /// Appends the escape form of the text; if memory is refused, `out` is unchanged.
     pub fn write(&self, out: &mut String) -> Result<(), NoMemory>
         ensures ok { OnOk result (string_bytes out.new ≡ string_bytes out.old ++ escaped self.now) }
         ensures err { OnErr result (string_bytes out.new ≡ string_bytes out.old) }

@@ -46,24 +46,24 @@ impl Model for Tree {
 pub enum RoomFault {
     /// The path has no name.
     EmptyPath,
-    /// Of the shortest proper prefix of the path that is no directory, nothing is there.
+    /// The shortest proper prefix of the path that is not a directory does not exist.
     NoParent,
-    /// Of the shortest proper prefix of the path that is no directory, a file is there.
+    /// The shortest proper prefix of the path that is not a directory is a file.
     ParentIsFile,
-    /// The path leads to an entry already.
+    /// The path leads to an existing entry.
     Exists,
 }
 
-/// Why an entry is not added.
+/// Why an entry cannot be added.
 #[derive(Clone, Copy, Debug, PartialEq, Eq)]
 pub enum AddFault {
-    /// Of the shortest proper prefix of the path that is no directory, nothing is there.
+    /// The shortest proper prefix of the path that is not a directory does not exist.
     NoParent = 1,
-    /// Of the shortest proper prefix of the path that is no directory, a file is there.
+    /// The shortest proper prefix of the path that is not a directory is a file.
     ParentIsFile = 2,
-    /// The path leads to an entry already.
+    /// The path leads to an existing entry.
     Exists = 3,
-    /// A growth was refused.
+    /// An allocation failed.
     NoMemory = 4,
     /// The path has no name.
     EmptyPath = 5,
@@ -127,7 +127,7 @@ impl fmt::Display for RoomFault {
 impl Error for RoomFault {}
 
 impl Tree {
-    /// A tree with no entry.
+    /// A tree with no entries.
     pub fn new(alloc: Global, kind: Kind, label: Label, stamps: Stamps) -> Tree
         ensures { result ≡ record { kind = kind; label = label; stamps = stamps; entries = [] } }
     {
@@ -140,7 +140,7 @@ impl Tree {
         }
     }
 
-    /// A tree with no entry, and the memory that so many entries take.
+    /// A tree with no entries, and memory for `count` of them.
     pub(crate) fn with_capacity(
         alloc: Global,
         kind: Kind,
@@ -180,14 +180,14 @@ impl Tree {
         self.stamps
     }
 
-    /// Gives the volume another kind.
+    /// Sets the kind of the volume.
     pub fn set_kind(&mut self, kind: Kind)
         ensures { self.new ≡ with_kind self.old kind }
     {
         self.kind = kind;
     }
 
-    /// The number of entries, the root not among them.
+    /// The number of entries, not counting the root.
     pub fn len(&self) -> usize
         ensures count { result ≡ length self.now.entries }
         ensures tree { IsTree self.now.entries }
@@ -195,7 +195,7 @@ impl Tree {
         self.entries.len()
     }
 
-    /// Tells that the fields of the tree are within the bounds of their types, and does nothing.
+    /// States that each field of the tree is within the bounds of its type; does nothing at run time.
     pub fn bounds(&self)
         ensures { IsBounded self.now }
     {
@@ -208,8 +208,8 @@ impl Tree {
         }
     }
 
-    /// Adds an entry after all of its parent and slot. After a fault the tree is unchanged; of the
-    /// faults that apply, `EmptyPath` comes first, then `NoParent` or `ParentIsFile`, then `Exists`.
+    /// Adds an entry after all entries of its parent and slot. On a fault the tree is unchanged. Of several
+    /// faults the first is returned: `EmptyPath`, then `NoParent` or `ParentIsFile`, then `Exists`.
     pub fn add(&mut self, path: &[Name], meta: Meta, body: Body) -> Result<(), AddFault>
         ensures answer { IsAnswer (room_for self.old.entries path.now) result }
         ensures paths { OnOk result
@@ -236,8 +236,8 @@ impl Tree {
         )
     }
 
-    /// Adds an entry that comes last in walk order, with no look-up: its parent is a directory in
-    /// which nothing has its name. After `NoMemory` the tree is unchanged.
+    /// Adds an entry that is last in walk order, without a look-up. Its parent must be a directory with no
+    /// entry of its name. On `NoMemory` the tree is unchanged.
     pub fn add_last(&mut self, entry: Entry) -> Result<(), NoMemory>
         requires may { MayAdd self.old.entries entry }
         requires last { IsLast self.old.entries entry }
@@ -250,7 +250,7 @@ impl Tree {
         }
     }
 
-    /// The node that the path leads to, 0 for the empty path.
+    /// The node that the path leads to; 0 for the empty path.
     pub fn find(&self, path: &[Name]) -> Option<Node>
         ensures found { result ≡ find self.now.entries path.now }
         ensures tree { IsTree self.now.entries }
@@ -258,7 +258,7 @@ impl Tree {
         find(&self.entries, path)
     }
 
-    /// The entry with this number; none for the root.
+    /// The entry with this number; `None` for the root.
     pub fn entry(&self, n: Node) -> Option<&Entry>
         ensures found { option_copied result ≡ entry self.now.entries n }
         ensures tree { IsTree self.now.entries }

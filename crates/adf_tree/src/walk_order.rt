@@ -1,4 +1,4 @@
-// Walk order: where an entry stands, and how one is put in.
+// Walk order: where an entry belongs, and how it is inserted.
 
 ghost use Rattle.std.specs.Prelude.{◌≡◌, ◌≤◌, ◌<◌, length, map, take, drop, nat_lt, nat_le, ℕ, ◌+◌, ◌^◌, slice_index_or, if◌then◌else◌, is_ok, IfErr, ◌++◌, true, false};
 ghost use Rattle.std.specs.List.Sorted.{IsNonDecreasingBy, IsPartitionPoint};
@@ -8,7 +8,7 @@ use crate::entry::{Entry, Node};
 use crate::tree::AddFault;
 use adf_fields::slot;
 
-// Whether the entry's pair is at most that of this parent and slot.
+// Whether the entry's parent and slot are at most these.
 fn is_at_most(e: &Entry, parent: Node, slot_wanted: u8) -> bool
     requires { slot_wanted < 72 }
     ensures { result ≡ nat_le (rank e.now) (rank_of parent slot_wanted) }
@@ -16,7 +16,7 @@ fn is_at_most(e: &Entry, parent: Node, slot_wanted: u8) -> bool
     e.parent.0 < parent.0 || e.parent.0 == parent.0 && slot(e.name.bytes()) <= slot_wanted
 }
 
-// Whether the entry's pair is less than that of this parent and slot.
+// Whether the entry's parent and slot are less than these.
 fn is_less(e: &Entry, parent: Node, slot_wanted: u8) -> bool
     requires { slot_wanted < 72 }
     ensures { result ≡ nat_lt (rank e.now) (rank_of parent slot_wanted) }
@@ -24,7 +24,7 @@ fn is_less(e: &Entry, parent: Node, slot_wanted: u8) -> bool
     e.parent.0 < parent.0 || e.parent.0 == parent.0 && slot(e.name.bytes()) < slot_wanted
 }
 
-/// The entries before the first one of this pair or a greater one.
+/// The number of entries with a lower parent and slot.
 pub fn start_of(entries: &[Entry], parent: Node, slot: u8) -> usize
     requires slot { slot < 72 }
     requires order { IsNonDecreasingBy rank entries.now }
@@ -35,7 +35,7 @@ pub fn start_of(entries: &[Entry], parent: Node, slot: u8) -> usize
     entries.partition_point(|e| is_less(e, parent, slot))
 }
 
-/// The entries before the first one of a greater pair.
+/// The number of entries with at most this parent and slot.
 pub fn place_of(entries: &[Entry], parent: Node, slot: u8) -> usize
     requires slot { slot < 72 }
     requires order { IsNonDecreasingBy rank entries.now }
@@ -45,7 +45,7 @@ pub fn place_of(entries: &[Entry], parent: Node, slot: u8) -> usize
     entries.partition_point(|e| is_at_most(e, parent, slot))
 }
 
-// Moves the parent up where it has the number `from` or a greater one.
+// Adds 1 to the parent if it is at least `from`.
 fn renumber_entry(e: &mut Entry, from: Node)
     requires { e.old.parent + 1 < 2 ^ 64 }
     ensures { e.new ≡ renumbered from e.old }
@@ -55,7 +55,7 @@ fn renumber_entry(e: &mut Entry, from: Node)
     }
 }
 
-// Moves the parents up that have the number `from` or a greater one.
+// Adds 1 to each parent that is at least `from`.
 fn renumber_all(entries: &mut [Entry], from: Node)
     requires { (i : ℕ) (d : Entry) → i < length entries.old
         → (slice_index_or entries.old i d).parent + 1 < 2 ^ 64 }
@@ -66,7 +66,7 @@ fn renumber_all(entries: &mut [Entry], from: Node)
     }
 }
 
-// Moves the parents up of the entries past the new one at `at`.
+// Adds 1 to the parents, of the entries after the new one at `at`, that are after the new one.
 fn renumber(entries: &mut [Entry], at: usize)
     requires within { at < length entries.old }
     requires parents { (i : ℕ) (d : Entry) → at < i → i < length entries.old
@@ -78,7 +78,7 @@ fn renumber(entries: &mut [Entry], at: usize)
     renumber_all(&mut entries[at + 1..count], Node(at + 1));
 }
 
-/// Adds an entry after all of the same or a lesser pair.
+/// Adds an entry after all entries of the same or a lower parent and slot.
 pub fn insert_entry(entries: &mut Vec<Entry>, entry: Entry) -> Result<(), AddFault>
     requires tree { IsTree entries.old.items }
     ensures entries { entries.new.items

@@ -1,4 +1,4 @@
--- Whether a list of parts that were asked for in turn asks for a role.
+-- Whether a list of parts, each asked for in turn, asks for a role.
 use Rattle.std.proofs.Common.{◌≡◌, ℕ, zero, suc, List, inl, inr, ◌+◌, ◌-◌, ◌*◌, ◌/◌, ◌%◌, ◌<◌, ◌≢◌, refl, ap, subst, ◌∙◌, arith}
 use native.Mathlib.Decide.{dec_le, dec_lt, map_dec, ℕ_discrete}
 use Rattle.adf_blocks.specs.declared.layout.TheConstants.{EXTENSION, FIRST_MAP_EXT, FIRST_PAGE, FIRST_SLOT, MAP_EXT_NEXT, MAP_EXT_PAGES, NEXT_IN_CHAIN}

@@ -1,4 +1,4 @@
--- The numbers of blocks of a list, and lists in which no number stands twice.
+-- The block numbers of a list, and lists with no block number twice.
 use Rattle.std.proofs.Common.{◌≡◌, ℕ, suc, List, [], ◌∷◌, ◌++◌, inl, inr, refl, sym, ap, subst}
 use Rattle.adf_volume.specs.Lists.{In, numbered, NoBlockTwice}
 use Rattle.adf_volume.proofs.Lists.{in_cases}

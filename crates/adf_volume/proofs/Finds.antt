@@ -1,4 +1,4 @@
--- What a look-up in a chain finds in the tree.
+-- A look-up in a chain finds the entry of the tree.
 use Rattle.std.proofs.Common.{◌≡◌, ◌≢◌, true, false, ℕ, zero, suc, List, ◌+◌, ◌<◌, length, sym, ap, subst, ◌∙◌, arith, get_or}
 use Rattle.std.specs.Prelude.{Some, None}
 use Rattle.std.proofs.lemmas.Bool.{false_from_ne_true}

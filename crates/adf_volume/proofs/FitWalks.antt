@@ -1,4 +1,4 @@
--- The whole walk of an image that a tree and a layout fit: a walk grows by what is due, and what is left of the layout's roles gets shorter.
+-- The whole walk of an image that a tree and a layout fit: each step takes what is due, so fewer roles remain.
 use Rattle.std.proofs.Common.{◌≡◌, ℕ, zero, suc, List, [], ◌∷◌, ◌⊎◌, inl, inr, ◌<◌, ◌≤◌, length, refl, sym, ap, subst, ◌∙◌, arith}
 use native.Mathlib.Decide.{dec_lt, ℕ_discrete}
 use Rattle.adf_tree.specs.Tree.{Tree}

@@ -1,4 +1,4 @@
--- What holds of every list of parts of which each was asked for, and lacking, when it came, whatever its block holds.
+-- Facts of every list of parts that were each asked for and missing when added, for any content of their blocks.
 use Rattle.std.proofs.lemmas.Bool.{eqb-true}
 use Rattle.std.specs.Prelude.{◌==◌}
 use Rattle.std.proofs.Common.{Bool, true, false, cond, eq-eqb, ◌≡◌, ℕ, zero, suc, List, [], ◌∷◌, inl, inr, ◌/◌, ◌<◌, ◌≤◌, ◌≢◌, refl, sym, ap}

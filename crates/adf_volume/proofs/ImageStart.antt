@@ -1,4 +1,4 @@
--- How an image begins: its size, boot bytes and root.
+-- The size, boot bytes and root of an image.
 use Rattle.std.specs.Prelude.{Some, None}
 use Rattle.std.proofs.Common.{◌≡◌, ℕ, List, ◌∷◌, ◌++◌, Bool, true, false, inl, inr, length, refl, arith}
 use Rattle.std.proofs.lemmas.Bool.Decides.{nat_tests}

@@ -1,4 +1,4 @@
--- Lengths of blocks and contents, and how many pages and bitmap extension blocks there are.
+-- Lengths of blocks and contents, and the numbers of pages and bitmap extension blocks.
 use Rattle.std.proofs.Common.{◌≡◌, ℕ, suc, List, [], ◌∷◌, ◌+◌, ◌-◌, ◌/◌, ◌*◌, ◌^◌, ◌<◌, ◌≤◌, arith, refl, sym, ◌∙◌, length}
 use Rattle.std.proofs.Common.{length-append, length-drop, length-take}
 use Rattle.adf_fields.specs.Words.{block}

@@ -1,4 +1,4 @@
--- The parts of a volume that fits.
+-- The parts of a volume that a tree and a layout fit.
 use Rattle.std.proofs.Common.{◌≡◌, ℕ, zero, suc, List, [], ◌∷◌, ◌++◌, inl, inr, ◌+◌, ◌<◌, ◌≤◌, length, refl, sym, ap, subst, ◌∙◌, arith}
 use Rattle.adf_volume.specs.Lists.{At, In, numbered}
 use Rattle.adf_blocks.specs.Sizes.{blocks}

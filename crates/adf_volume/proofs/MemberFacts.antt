@@ -1,4 +1,4 @@
--- What each member of a walk was when it came, told of the walk as it is now.
+-- The facts of each member of a walk when it was added, stated of the walk as it is now.
 use Rattle.std.proofs.Common.{◌≡◌, ℕ, zero, suc, List, [], ◌∷◌, inl, inr, ◌+◌, ◌*◌, ◌/◌, ◌<◌, ◌≤◌, ◌≢◌, refl, sym, ap, subst, ◌∙◌, arith, true}
 use Rattle.std.specs.Prelude.{nat_lt}
 use native.Mathlib.Decide.{dec_le}

@@ -1,4 +1,4 @@
--- No first fault is want of memory.
+-- No first fault is NoMemory.
 use Rattle.std.proofs.Common.{◌≡◌, ◌≢◌, ℕ, zero, suc, Bool, true, false, not, ◌&&◌, List, [], ◌∷◌, ◌++◌, inl, inr, refl, subst}
 use Rattle.std.proofs.lemmas.Bool.{and_parts}
 use Rattle.adf_tree.specs.declared.entry.Kind.{Kind}

@@ -1,4 +1,4 @@
--- Where there is a first fault, nothing fits.
+-- If there is a first fault, nothing fits.
 use Rattle.std.proofs.Common.{ℕ, zero, suc, List, ◌++◌, ◌+◌, ◌-◌, ◌/◌, ◌≤◌, arith}
 use Rattle.adf_blocks.specs.declared.layout.TheConstants.{PAGE_BITS}
 use Rattle.adf_blocks.specs.declared.cause.Cause.{Cause}

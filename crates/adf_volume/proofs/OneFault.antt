@@ -1,4 +1,4 @@
--- There is one first fault.
+-- There is at most one first fault.
 use Rattle.std.proofs.Common.{◌≡◌, ℕ, suc, List, [], ◌∷◌, ◌++◌, inl, inr, ◌-◌, ◌<◌, length, refl, sym, ap, subst, ◌∙◌, arith}
 use native.Mathlib.Decide.{dec_lt}
 use Rattle.adf_blocks.specs.declared.cause.Cause.{Cause}

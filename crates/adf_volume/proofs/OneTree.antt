@@ -1,4 +1,4 @@
--- Two trees with layouts that fit one image are one.
+-- Two trees with layouts that fit the same image are equal.
 use Rattle.std.proofs.Common.{◌≡◌, ℕ, suc, List, ◌<◌, length, refl, sym, ap, subst, ◌∙◌, arith}
 use Rattle.adf_blocks.specs.declared.layout.TheConstants.{SECONDARY_TYPE, ST_DIR, ST_FILE}
 use Rattle.adf_volume.specs.Lists.{At}

@@ -1,4 +1,4 @@
--- The demands of a part that has no cause, by their names.
+-- The demands on a part that has no cause, by name.
 use Rattle.std.proofs.Common.{ℕ, List, [], ◌∷◌, ◌<◌, ◌≤◌}
 use Rattle.adf_blocks.specs.declared.cause.Cause.TheVariants.{SameName}
 use Rattle.adf_blocks.specs.Sizes.{blocks}

@@ -1,4 +1,4 @@
--- What stands in the places of a layout.
+-- The blocks in the places of a layout.
 use Rattle.std.proofs.Common.{◌≡◌, ℕ, zero, suc, List, [], ◌∷◌, ◌<◌, length, ap, arith}
 use Rattle.adf_volume.specs.Lists.{At}
 use Rattle.adf_volume.specs.Layout.{Place, head_at, exts_at, datas_at}

@@ -1,4 +1,4 @@
--- Roles, and lists of them with blocks, whatever the blocks hold.
+-- Roles, and lists of them with blocks, for any content of the blocks.
 use Rattle.std.proofs.Common.{◌≡◌, ℕ, zero, suc, List, [], ◌∷◌, ◌⊎◌, inl, inr, ◌<◌, ◌≤◌, refl, sym, ap, subst, arith}
 use Rattle.std.proofs.Common.{Bool, true, false, cond, eq-eqb}
 use Rattle.std.specs.Prelude.{◌==◌}

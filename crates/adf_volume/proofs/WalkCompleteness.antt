@@ -1,4 +1,4 @@
--- Completeness: where a tree and a layout fit, a walk that asks for nothing more has all their parts.
+-- Completeness: if a tree and a layout fit, a walk that asks for nothing more has all their parts.
 use Rattle.std.proofs.Common.{◌≡◌, ℕ, zero, suc, List, ◌+◌, ◌*◌, ◌/◌, ◌<◌, ◌≤◌, length, refl, sym, subst, ◌∙◌, arith}
 use Rattle.adf_blocks.specs.declared.layout.TheConstants.{EXTENSION, FIRST_MAP_EXT, MAP_EXT_NEXT, MAP_EXT_PAGES, POINTERS, ROOT_PAGES, SECONDARY_TYPE}
 use Rattle.adf_blocks.specs.declared.layout.TheConstants.{ST_FILE}

@@ -1,4 +1,4 @@
--- A walk rises: what is due comes after all that is there.
+-- A walk ascends: what is due comes after everything in it.
 use Rattle.std.proofs.Common.{◌≡◌, ℕ, zero, suc, List, [], ◌∷◌, ◌⊎◌, inl, inr, ◌/◌, ◌<◌, ◌≤◌, refl, sym, ap, subst, ◌∙◌, arith}
 use Rattle.adf_blocks.specs.declared.layout.TheConstants.{POINTERS, ST_DIR, ST_FILE}
 use Rattle.adf_volume.specs.Image.{root_of}

@@ -1,4 +1,4 @@
--- What a whole walk has is what its layout owns.
+-- The parts of a whole walk are those that its layout owns.
 use Rattle.std.proofs.Common.{◌≡◌, ℕ, zero, suc, List, ◌<◌, length, sym, ap, subst, ◌∙◌, arith}
 use Rattle.adf_volume.specs.Lists.{At, In, NoBlockTwice}
 use Rattle.adf_volume.specs.Layout.{datas_at, exts_at, owned}

@@ -1,4 +1,4 @@
--- Walks: what holds of them as of every list that was gathered, and what they have because each part has no cause.
+-- Facts of walks: as lists of parts asked for, and because each part has no cause.
 use Rattle.std.proofs.Common.{◌≡◌, ℕ, suc, List, inl, inr, ◌+◌, ◌-◌, ◌*◌, ◌/◌, ◌%◌, ◌<◌, ◌≤◌, refl, sym, subst, ◌∙◌, arith}
 use native.Mathlib.Decide.{dec_lt}
 use Rattle.adf_blocks.specs.declared.layout.TheConstants.{FIRST_PAGE, MAP_EXT_PAGES, ROOT_PAGES}

@@ -1,4 +1,4 @@
--- What a whole walk tells: its tree, its pages, its chains and its files.
+-- The tree, pages, chains and files of a whole walk.
 use Rattle.std.proofs.Common.{◌≡◌, ℕ, zero, suc, List, inl, inr, ◌+◌, ◌*◌, ◌/◌, ◌<◌, ◌≤◌, length, refl, sym, ap, subst, ◌∙◌, arith, Bool, true, false, cond}
 use Rattle.std.proofs.Common.{map, eq-eqb}
 use Rattle.std.specs.Prelude.{◌==◌, slice_index}

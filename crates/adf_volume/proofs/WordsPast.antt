@@ -1,4 +1,4 @@
--- What is read of blocks.
+-- Words past the end of an image are 0.
 use Rattle.std.proofs.Common.{◌≡◌, ℕ, List, [], ◌+◌, ◌-◌, ◌*◌, ◌≤◌, length, take, zero, suc, refl, sym, ap, ◌∙◌, arith}
 use Rattle.std.proofs.lemmas.List.{drop_all}
 use Rattle.adf_fields.specs.Words.{block, word}

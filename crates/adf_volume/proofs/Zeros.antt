@@ -1,4 +1,4 @@
--- Values that are all 0, by a test that computes.
+-- Values that are all 0, by a computable test.
 use Rattle.std.proofs.Common.{◌≡◌, ℕ, zero, suc, ◌<◌, ap, ◌∙◌, arith, Bool, true}
 use Rattle.std.specs.Prelude.{◌==◌, ◌&&◌}
 use Rattle.std.proofs.lemmas.Bool.{and_parts, eqb-true}

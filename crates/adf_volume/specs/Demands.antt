@@ -1,4 +1,4 @@
--- What must hold of one block, as a list of demands with their causes.
+-- The demands on one block: a list of conditions with their causes.
 use Rattle.std.specs.Prelude.{◌≡◌, ℕ, List, [], ◌∷◌, Bool, ◌⊎◌, ◌*◌, length, slice_index, true, not, ◌==◌, ◌&&◌, nat_le}
 use Rattle.adf_fields.specs.Words.{block}
 use Rattle.adf_tree.specs.declared.entry.Kind.{Kind}
@@ -13,13 +13,13 @@ use Rattle.adf_blocks.specs.HeadBlock.{head_form}
 use Rattle.adf_blocks.specs.ExtBlock.{ext_form}
 use Rattle.adf_blocks.specs.DataBlock.{data_form}
 
--- what must hold, the cause where it does not, and the block that is named then
+-- a condition, the cause to report if it fails, and the block reported with it
 pub record Demand : Type 1 where
   pub cause : Cause
   pub at : ℕ
   pub holds : Type 0
 
--- a demand of these three
+-- a demand from its cause, block and condition
 abbrev pub demand : Cause → ℕ → Type 0 → Demand
 demand c b p = record { cause = c; at = b; holds = p }
 
@@ -33,12 +33,12 @@ abbrev pub FirstFails : List Demand → ℕ → Cause → Type 0
 FirstFails [] b c = ⊥
 FirstFails (x ∷ xs) b c = ((x.holds → ⊥) × (x.at ≡ b) × (x.cause ≡ c)) ⊎ (x.holds × FirstFails xs b c)
 
--- the clauses of a form, demanded of block b
+-- the clauses of a form, as demands on block b
 abbrev pub demands_at : ℕ → List Clause → List Demand
 demands_at b [] = []
 demands_at b (x ∷ xs) = demand x.1 b (x.0 ≡ true) ∷ demands_at b xs
 
--- the image is whole blocks, of an allowed number
+-- the image is whole blocks, and their number is allowed
 abbrev pub IsSize : List ℕ → Type 0
 IsSize image = (length image ≡ 512 * blocks image) × (is_allowed (blocks image) ≡ true)
 
@@ -46,7 +46,7 @@ IsSize image = (length image ≡ 512 * blocks image) × (is_allowed (blocks imag
 abbrev pub is_dos : List ℕ → Bool
 is_dos b = (slice_index b 0 == 0x44) && (slice_index b 1 == 0x4F) && (slice_index b 2 == 0x53) && nat_le (slice_index b 3) 5
 
--- what the first boot block holds: `DOS` and a type, of which 0 and 1 are read
+-- the form of the first boot block: `DOS` and a type; types 0 and 1 are supported
 abbrev pub boot_form : List ℕ → List Clause
 boot_form b =
     (is_dos b, NotDos)
@@ -54,27 +54,27 @@ boot_form b =
     ∷ (not (slice_index b 3 == 4) && not (slice_index b 3 == 5), DirCache)
     ∷ []
 
--- size and boot bytes
+-- the demands on the size and the boot bytes
 abbrev pub boot_demands : List ℕ → List Demand
 boot_demands image = demand BadSize 0 (IsSize image) ∷ demands_at 0 (boot_form (block image 0))
 
--- the root at block b
+-- the demands on the root at block b
 abbrev pub root_demands : List ℕ → ℕ → List Demand
 root_demands image b = demands_at b (root_form (block image b))
 
--- a page of the bitmap at block b
+-- the demands on a bitmap page at block b
 abbrev pub page_demands : List ℕ → ℕ → List Demand
 page_demands image b = demands_at b (page_form (block image b))
 
--- a header at block b, in the chain of slot s of the directory at block up
+-- the demands on a header at block b, in the chain of slot s of the directory at block up
 abbrev pub head_demands : List ℕ → Kind → ℕ → ℕ → ℕ → List Demand
 head_demands image kind b up s = demands_at b (head_form kind b up s (block image b))
 
--- an extension block at block b, of the file at block h
+-- the demands on an extension block at block b, of the file with header h
 abbrev pub ext_demands : List ℕ → ℕ → ℕ → List Demand
 ext_demands image b h = demands_at b (ext_form b h (block image b))
 
--- data block k, at block b, of the file at block h: n bytes held, and the next data block; nothing is demanded of an FFS one
+-- the demands on data block k at block b, of the file with header h: n bytes, then the next data block; none for FFS
 abbrev pub data_demands : List ℕ → Kind → ℕ → ℕ → ℕ → ℕ → ℕ → List Demand
 data_demands image Ofs b h k n next = demands_at b (data_form h k n next (block image b))
 data_demands image Ffs b h k n next = []

@@ -1,5 +1,6 @@
 -- When a tree and a layout fit an image.
--- Letters: t a tree; l a layout; n an entry's number; e an entry; h its header's block; b, a blocks; k, m, j, i places in lists of blocks, or of words;
+-- Letters: t a tree; l a layout; n an entry's number; e an entry; h its header's block; b, a blocks;
+-- k, m, j, i indices in lists of blocks, or of words;
 -- p a directory's node; s a slot; o an owner.
 use Rattle.std.specs.Prelude.{◌≡◌, ℕ, List, [], ◌+◌, ◌-◌, ◌*◌, ◌/◌, ◌%◌, ◌<◌, ◌≤◌, ◌↔◌, map, length, slice_index}
 use Rattle.std.proofs.Common.{zero, suc}
@@ -19,7 +20,7 @@ use Rattle.adf_volume.specs.Layout.{EntryAt, chain_nodes, Layout, at_node, exts_
 use Rattle.adf_volume.specs.declared.owner.Owner.{Owner}
 use Rattle.adf_tree.specs.declared.entry.Body.TheVariants.{Dir, File}
 
--- member m of the header followed by the extension blocks
+-- block m of a file's table: the header (m = 0), then the extension blocks
 abbrev pub TableAt : List ℕ → Layout → ℕ → ℕ → ℕ → Type 0
 TableAt image l n zero a = at_node image l n ≡ a
 TableAt image l n (suc m) a = At (exts_of l n) m a
@@ -28,20 +29,20 @@ TableAt image l n (suc m) a = At (exts_of l n) m a
 abbrev pub IsFree : List ℕ → List ℕ → ℕ → Type 0
 IsFree image pages b = (page : ℕ) × At pages ((b - 2) / PAGE_BITS) page × IsFreeAt image page ((b - 2) % PAGE_BITS)
 
--- the body of entry n, whose header is h
+-- the body of entry n, with header h, agrees with the image
 abbrev pub BodyFits : List ℕ → Kind → Layout → ℕ → ℕ → Body → Type 0
 BodyFits image kind l n h Dir = (word_in image h SECONDARY_TYPE ≡ ST_DIR) × (exts_of l n ≡ []) × (datas_of l n ≡ [])
 BodyFits image kind l n h (File bytes) =
     (word_in image h SECONDARY_TYPE ≡ ST_FILE) × (bytes ≡ content image kind h (datas_of l n)) × (length bytes ≡ word_in image h SIZE)
 
--- what is asked of entry n, whose header is h
+-- entry n, with header h, agrees with the image
 pub record EntryFits (image : List ℕ) (t : Tree) (l : Layout) (n h : ℕ) (e : Entry) : Type 0 where
   pub form : AllHold (head_demands image t.kind h (at_node image l e.parent) (slot_of e.name))
   pub name : e.name ≡ name_of image h
   pub meta : e.meta ≡ meta_of image h
   pub body : BodyFits image t.kind l n h e.body
 
--- what is asked of the blocks of file n, whose header is h
+-- the blocks of file n, with header h, agree with the image
 pub record FileFits (image : List ℕ) (t : Tree) (l : Layout) (n h : ℕ) (bytes : List ℕ) : Type 0 where
   pub exts : Spelled (λ b. word_in image b EXTENSION) (word_in image h EXTENSION) (exts_of l n)
   pub ext_form : (k b : ℕ) → At (exts_of l n) k b → AllHold (ext_demands image b h)
@@ -51,7 +52,7 @@ pub record FileFits (image : List ℕ) (t : Tree) (l : Layout) (n h : ℕ) (byte
   pub data_form : (k b : ℕ) → At (datas_of l n) k b
       → AllHold (data_demands image t.kind b h (suc k) (held t.kind (length bytes) (suc k)) (slice_index (datas_of l n) (suc k)))
 
--- the image is a volume of this tree, which lies as the layout says
+-- the image is a volume of this tree, at the blocks of this layout
 pub record Fits (image : List ℕ) (t : Tree) (l : Layout) : Type 0 where
   pub boots : AllHold (boot_demands image)
   pub kind : t.kind ≡ kind_of image

@@ -1,4 +1,4 @@
--- What an image holds, by the numbers of its blocks.
+-- The content of an image, by block number.
 use Rattle.std.specs.Prelude.{ℕ, List, [], ◌∷◌, ◌++◌, ◌+◌, ◌-◌, ◌*◌, ◌/◌, ◌%◌, ◌==◌, cond, nat_lt, slice_index, slice_range, take}
 use Rattle.std.proofs.Common.{suc}
 use Rattle.adf_fields.specs.Words.{block, word}
@@ -22,7 +22,7 @@ word_in image b i = word (block image b) i
 abbrev pub root_of : List ℕ → ℕ
 root_of image = middle (blocks image)
 
--- the kind that the boot bytes tell
+-- the kind in the boot bytes
 unfoldable pub kind_of : List ℕ → Kind
 kind_of image = cond (slice_index (block image 0) 3 == 0) Ofs Ffs
 
@@ -30,7 +30,7 @@ kind_of image = cond (slice_index (block image 0) 3 == 0) Ofs Ffs
 unfoldable pub name_of : List ℕ → ℕ → List ℕ
 name_of image b = text_at (block image b) NAME
 
--- comment, protection and date in a header
+-- the metadata in a header: comment, protection bits and date
 unfoldable pub meta_of : List ℕ → ℕ → Meta
 meta_of image b = meta_at (block image b)
 
@@ -38,11 +38,11 @@ meta_of image b = meta_at (block image b)
 unfoldable pub stamps_of : List ℕ → ℕ → Stamps
 stamps_of image b = stamps_at (block image b)
 
--- the bytes that data block k, counted from 1, of a file of this size holds
+-- the number of bytes in data block k, counted from 1, of a file of this size
 unfoldable pub held : Kind → ℕ → ℕ → ℕ
 held kind size k = cond (nat_lt (chunk kind * k) size) (chunk kind) (size - chunk kind * (k - 1))
 
--- data block k + 1 of a file is named by this word of its header or of an extension block
+-- the word of the header or an extension block that points to data block k + 1 of a file
 abbrev pub table_word : ℕ → ℕ
 table_word k = FIRST_POINTER - k % POINTERS
 
@@ -51,16 +51,16 @@ unfoldable pub area : Kind → List ℕ → List ℕ
 area Ofs b = slice_range b DATA_BYTES 512
 area Ffs b = slice_range b 0 512
 
--- the data areas of blocks, one after the other
+-- the data areas of blocks, joined
 abbrev pub joined : List ℕ → Kind → List ℕ → List ℕ
 joined image kind [] = []
 joined image kind (b ∷ bs) = area kind (block image b) ++ joined image kind bs
 
--- the content of the file whose header is block h: its data areas joined, cut at the size in the header
+-- the content of the file with header h: its data areas joined, cut at the size in the header
 unfoldable pub content : List ℕ → Kind → ℕ → List ℕ → List ℕ
 content image kind h datas = take (word_in image h SIZE) (joined image kind datas)
 
--- the content that data block k, counted from 1, of a file of this size holds
+-- the bytes of data block k, counted from 1, of a file of this size
 abbrev pub piece : Kind → ℕ → ℕ → List ℕ → List ℕ
 piece kind size k b = take (held kind size k) (area kind b)
 
@@ -69,10 +69,10 @@ abbrev pub pieces : List ℕ → Kind → ℕ → ℕ → List ℕ → List (Lis
 pieces image kind size k [] = []
 pieces image kind size k (b ∷ bs) = piece kind size k (block image b) ∷ pieces image kind size (suc k) bs
 
--- the bitmap extension blocks that so many pages need: the root names ROOT_PAGES, each extension block MAP_EXT_PAGES more
+-- the bitmap extension blocks for this many pages: the root points to ROOT_PAGES, each of them to MAP_EXT_PAGES
 unfoldable pub map_exts_needed : ℕ → ℕ
 map_exts_needed pages = (pages - ROOT_PAGES + (MAP_EXT_PAGES - 1)) / MAP_EXT_PAGES
 
--- the bit is set in the page at this block
+-- the bit in the page at this block is set
 abbrev pub IsFreeAt : List ℕ → ℕ → ℕ → Type 0
 IsFreeAt image page bit = IsFreeBit (block image page) bit

@@ -1,4 +1,4 @@
--- Where the parts of a volume lie.
+-- The blocks of the parts of a volume.
 use Rattle.std.specs.Prelude.{◌≡◌, ℕ, List, [], ◌∷◌, ◌++◌, cond}
 use Rattle.std.proofs.Common.{zero, suc}
 use Rattle.adf_tree.specs.declared.entry.Entry.{Entry}
@@ -15,7 +15,7 @@ abbrev pub EntryAt : Tree → ℕ → Entry → Type 0
 EntryAt t zero e = ⊥
 EntryAt t (suc i) e = At t.entries i e
 
--- the numbers of the entries with this parent and slot, in order: a filter
+-- the numbers of the entries with this parent and slot, in order
 abbrev pub nodes_from : ℕ → List Entry → ℕ → ℕ → List ℕ
 nodes_from n [] p s = []
 nodes_from n (e ∷ es) p s = cond (in_chain p s e) (n ∷ nodes_from (suc n) es p s) (nodes_from (suc n) es p s)
@@ -31,37 +31,37 @@ pub record IsFile (t : Tree) (n : ℕ) : Type 0 where
   pub at : EntryAt t n entry
   pub body : entry.body ≡ File bytes
 
--- where an entry lies: its header, its extension blocks and its data blocks
+-- the blocks of an entry: its header, its extension blocks and its data blocks
 pub record Place : Type 0 where
   pub head : ℕ
   pub exts : List ℕ
   pub datas : List ℕ
 
--- where a volume lies: its pages, its bitmap extension blocks and its entries
+-- the blocks of a volume: its pages, its bitmap extension blocks and its entries
 pub record Layout : Type 0 where
   pub pages : List ℕ
   pub map_exts : List ℕ
   pub places : List Place
 
--- the block of the header at place i, 0 past the last
+-- the header at index i, 0 past the last
 abbrev pub head_at : List Place → ℕ → ℕ
 head_at [] i = 0
 head_at (q ∷ qs) zero = q.head
 head_at (q ∷ qs) (suc i) = head_at qs i
 
--- the extension blocks at place i, none past the last
+-- the extension blocks at index i, none past the last
 abbrev pub exts_at : List Place → ℕ → List ℕ
 exts_at [] i = []
 exts_at (q ∷ qs) zero = q.exts
 exts_at (q ∷ qs) (suc i) = exts_at qs i
 
--- the data blocks at place i, none past the last
+-- the data blocks at index i, none past the last
 abbrev pub datas_at : List Place → ℕ → List ℕ
 datas_at [] i = []
 datas_at (q ∷ qs) zero = q.datas
 datas_at (q ∷ qs) (suc i) = datas_at qs i
 
--- the block of node n: that of the root, or a header
+-- the block of node n: the root, or the header of an entry
 abbrev pub at_node : List ℕ → Layout → ℕ → ℕ
 at_node image l zero = root_of image
 at_node image l (suc i) = head_at l.places i
@@ -81,6 +81,6 @@ abbrev pub owned_from : ℕ → List Place → List (Owner × ℕ)
 owned_from n [] = []
 owned_from n (q ∷ qs) = (Head n, q.head) ∷ ((numbered (Ext n) 1 q.exts ++ numbered (Data n) 1 q.datas) ++ owned_from (suc n) qs)
 
--- the parts of a volume: the root, the pages, the bitmap extension blocks, then for each entry its header, extension blocks and data blocks
+-- the parts of a volume: root, pages, bitmap extension blocks; then for each entry its header, extension, data blocks
 abbrev pub owned : List ℕ → Layout → List (Owner × ℕ)
 owned image l = (Root, root_of image) ∷ (numbered Page 0 l.pages ++ (numbered MapExt 0 l.map_exts ++ owned_from 1 l.places))

@@ -10,7 +10,7 @@ use Rattle.adf_volume.specs.declared.owner.Owner.TheVariants.{Root as TheRoot, P
 use Rattle.adf_volume.specs.Walk.{Role}
 use Rattle.adf_volume.specs.Walk.Role.{Root, Page, MapExt, Head, Ext, Data}
 
--- whose a block of this role is
+-- the owner of a block with this role
 abbrev pub owner_of : Role → Owner
 owner_of Root = TheRoot
 owner_of (Page i) = APage i
@@ -19,7 +19,7 @@ owner_of (Head n p s j) = AHead n
 owner_of (Ext n k) = AnExt n k
 owner_of (Data n k) = AData n k
 
--- the block is this part of the volume
+-- the layout has this block in this role
 abbrev pub LayoutHas : List ℕ → Tree → Layout → Role → ℕ → Type 0
 LayoutHas image t l Root b = root_of image ≡ b
 LayoutHas image t l (Page i) b = At l.pages i b

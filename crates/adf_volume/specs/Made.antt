@@ -1,4 +1,4 @@
--- The tree and the layout that a whole walk tells.
+-- The tree and the layout of a whole walk.
 use Rattle.std.specs.Prelude.{Bool, true, false, ℕ, List, [], ◌∷◌, ◌++◌, cond, ◌==◌}
 use Rattle.adf_blocks.specs.declared.layout.TheConstants.{SECONDARY_TYPE, ST_DIR}
 use Rattle.adf_volume.specs.Image.{word_in, root_of, kind_of, name_of, meta_of, stamps_of, content}
@@ -10,7 +10,7 @@ use Rattle.adf_tree.specs.declared.entry.Body.TheVariants.{Dir, File}
 use Rattle.adf_volume.specs.Walk.{Role}
 use Rattle.adf_volume.specs.Walk.Role.{Page, MapExt, Head, Ext, Data}
 
--- the blocks of the members that a test picks, in order
+-- the blocks of the members that satisfy a test, in order
 abbrev pub picked : (Role → Bool) → List (Role × ℕ) → List ℕ
 picked f [] = []
 picked f (x ∷ w) = cond (f x.0) (picked f w ++ x.1 ∷ []) (picked f w)
@@ -43,23 +43,23 @@ pages_in w = picked is_page w
 abbrev pub map_exts_in : List (Role × ℕ) → List ℕ
 map_exts_in w = picked is_map_ext w
 
--- the extension blocks of file n in a walk, and with one member more
+-- the extension blocks of file n in a walk
 abbrev pub exts_in : List (Role × ℕ) → ℕ → List ℕ
 exts_in w n = picked (is_ext_of n) w
 
--- the block at the end, where it is an extension block of file n
+-- the list with the block appended if it is an extension block of file n
 abbrev pub push_ext : ℕ → Role → ℕ → List ℕ → List ℕ
 push_ext n r b bs = cond (is_ext_of n r) (bs ++ b ∷ []) bs
 
--- the data blocks of file n in a walk, and with one member more
+-- the data blocks of file n in a walk
 abbrev pub datas_in : List (Role × ℕ) → ℕ → List ℕ
 datas_in w n = picked (is_data_of n) w
 
--- the block at the end, where it is a data block of file n
+-- the list with the block appended if it is a data block of file n
 abbrev pub push_data : ℕ → Role → ℕ → List ℕ → List ℕ
 push_data n r b bs = cond (is_data_of n r) (bs ++ b ∷ []) bs
 
--- node n, with its header at b in a walk
+-- the body of node n, with its header at block b
 abbrev pub body_in : List ℕ → List (Role × ℕ) → ℕ → ℕ → Body
 body_in image w n b = cond (word_in image b SECONDARY_TYPE == ST_DIR) Dir (File (content image (kind_of image) b (datas_in w n)))
 
@@ -71,25 +71,25 @@ entry_in image w n p b = record { parent = p; name = name_of image b; meta = met
 abbrev pub place_in : List (Role × ℕ) → ℕ → ℕ → Place
 place_in w n b = record { head = b; exts = exts_in w n; datas = datas_in w n }
 
--- what is made of each header in turn, by its number, the number of its directory, and its block
+-- the list with f of the header's node, parent and block appended, if the role is a header
 abbrev pub push_head : {X : Type 0} → (ℕ → ℕ → ℕ → X) → Role → ℕ → List X → List X
 push_head f (Head n p s j) b xs = xs ++ f n p b ∷ []
 push_head f _ b xs = xs
 
--- a list of what each header of a walk makes, in the order in which they came
+-- f of each header of a walk, in the order in which they were read
 abbrev pub of_heads : {X : Type 0} → (ℕ → ℕ → ℕ → X) → List (Role × ℕ) → List X
 of_heads f [] = []
 of_heads f (x ∷ w) = push_head f x.0 x.1 (of_heads f w)
 
--- the entries of the headers of w, of which the whole walk is full
+-- the entries of the headers of w, a part of the whole walk `full`
 abbrev pub entries_in : List ℕ → List (Role × ℕ) → List (Role × ℕ) → List Entry
 entries_in image full w = of_heads (entry_in image full) w
 
--- the blocks of each header of w, of which the whole walk is full
+-- the blocks of the headers of w, a part of the whole walk `full`
 abbrev pub places_in : List (Role × ℕ) → List (Role × ℕ) → List Place
 places_in full w = of_heads (λ n p b. place_in full n b) w
 
--- the tree that a whole walk tells
+-- the tree of a whole walk
 abbrev pub tree_in : List ℕ → List (Role × ℕ) → Tree
 tree_in image w = record {
   kind = kind_of image;
@@ -99,6 +99,6 @@ tree_in image w = record {
       entries_in image w w;
 }
 
--- the layout that a whole walk tells
+-- the layout of a whole walk
 abbrev pub layout_in : List (Role × ℕ) → Layout
 layout_in w = record { pages = pages_in w; map_exts = map_exts_in w; places = places_in w w }

@@ -1,4 +1,4 @@
--- Where the data blocks of a file are read.
+-- The positions of a file's data blocks in an image.
 use Rattle.std.specs.Prelude.{ℕ, List, ◌+◌, ◌*◌, ◌^◌, ◌≤◌, ◌<◌, length, get_or}
 
 -- the image has the data blocks, numbered from k on

@@ -1,4 +1,4 @@
--- The smallest volume, to try the definitions on.
+-- The smallest volume, for trying the definitions.
 use Rattle.std.specs.Prelude.{ℕ, List, [], ◌∷◌, ◌++◌, replicate}
 use Rattle.adf_fields.specs.declared.dates.Stamp.{Stamp}
 use Rattle.adf_tree.specs.declared.entry.Kind.TheVariants.{Ffs}
@@ -17,11 +17,11 @@ tiny_root =
 unfoldable pub tiny : List ℕ
 tiny = (0x44 ∷ 0x4F ∷ 0x53 ∷ 1 ∷ []) ++ (replicate 1020 0 ++ (tiny_root ++ replicate 512 0))
 
--- the first moment of all dates
+-- the earliest date
 abbrev no_stamp : Stamp
 no_stamp = record { days = 0; mins = 0; ticks = 0 }
 
--- its tree, and where it lies
+-- the tree of the smallest volume
 abbrev pub tiny_tree : Tree
 tiny_tree = record { kind = Ffs; label = []; stamps = record { root = no_stamp; altered = no_stamp; created = no_stamp }; entries = [] }
 

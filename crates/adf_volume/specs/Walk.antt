@@ -1,6 +1,7 @@
--- Walks of an image: its blocks with their roles, as they come to light one after the other, told by relations over the whole list.
--- Letters: w a walk; r, q roles; b, c the block that has a role; a, i the block and the word that name one; n, m nodes; p a directory's node;
--- s a slot; j a place in a chain, or a bitmap extension block's number; k the number of a page, an extension block or a data block; h a header's block.
+-- Walks of an image: its blocks with their roles, in the order found, as relations over the whole list.
+-- Letters: w a walk; r, q roles; b, c the block with a role; a, i the block and the word that point to one;
+-- n, m nodes; p a directory's node; s a slot; j a position in a chain, or the number of a bitmap extension block;
+-- k the number of a page, an extension block or a data block; h a header's block.
 use Rattle.std.specs.Prelude.{◌≡◌, ℕ, List, [], ◌∷◌, ◌⊎◌, ◌+◌, ◌-◌, ◌*◌, ◌/◌, ◌%◌, ◌<◌, ◌≤◌, ◌≢◌, cond, ◌==◌, ◌++◌, nat_lt}
 use Rattle.std.proofs.Common.{zero, suc}
 use Rattle.adf_blocks.specs.declared.cause.Cause.{Cause}
@@ -12,7 +13,7 @@ use Rattle.adf_blocks.specs.declared.layout.TheConstants.{PAGE_BITS, POINTERS, R
 use Rattle.adf_tree.specs.Texts.{uppers}
 use Rattle.adf_volume.specs.Demands.{Demand, demand, AllHold, FirstFails, boot_demands, root_demands, page_demands, head_demands, ext_demands, data_demands}
 
--- A header is that of node n, at place j of the chain of slot s of directory p.
+-- Head n p s j is the header of node n, at position j of the chain of slot s of directory p.
 pub data Role : Type 0 where
   Root : Role
   Page : (i : ℕ) → Role
@@ -21,8 +22,9 @@ pub data Role : Type 0 where
   Ext : (n k : ℕ) → Role
   Data : (n k : ℕ) → Role
 
--- Roles are ordered by three numbers: pages by number, each bitmap extension block before the pages that it names
--- (page ROOT_PAGES + MAP_EXT_PAGES * j + i stands 1 + i places behind extension block j); then by node; in a directory by slot and place; in a file
+-- Roles are ordered by three numbers: pages by number, each bitmap extension block before the pages that it points to
+-- (page ROOT_PAGES + MAP_EXT_PAGES * j + i is 1 + i after extension block j); then by node;
+-- in a directory by slot and position; in a file
 -- extensions, then data.
 abbrev pub first : Role → ℕ
 first Root = 0
@@ -32,7 +34,7 @@ first (Head n p s j) = suc p
 first (Ext n k) = suc n
 first (Data n k) = suc n
 
--- the second of the three numbers: by it the extension blocks of a file come before its data blocks, and the chains of a directory slot by slot
+-- the second number: orders a file's extension blocks before its data blocks, and a directory's chains by slot
 abbrev pub second : Role → ℕ
 second Root = 0
 second (Page i) = 1
@@ -41,7 +43,7 @@ second (Head n p s j) = suc (suc s)
 second (Ext n k) = 0
 second (Data n k) = 1
 
--- the third of them: a number among blocks of one kind, or a place in a chain
+-- the third number: that of a block among its kind, or the position in a chain
 abbrev pub third : Role → ℕ
 third Root = 0
 third (Page i) = i + (i + (MAP_EXT_PAGES - ROOT_PAGES)) / MAP_EXT_PAGES
@@ -54,7 +56,7 @@ third (Data n k) = k
 abbrev pub Before : Role → Role → Type 0
 Before r q = (first r ≤ first q) × (first r ≡ first q → second r ≤ second q) × (first r ≡ first q → second r ≡ second q → third r < third q)
 
--- two roles have the same place in this order, as headers have that differ in the node alone
+-- two roles have the same place in this order: headers may differ in their node
 abbrev pub Same : Role → Role → Type 0
 Same r q = (first r ≡ first q) × (second r ≡ second q) × (third r ≡ third q)
 
@@ -63,58 +65,58 @@ abbrev pub Has : List (Role × ℕ) → Role → ℕ → Type 0
 Has [] r b = ⊥
 Has (x ∷ w) r b = ((x.0 ≡ r) × (x.1 ≡ b)) ⊎ Has w r b
 
--- one more where the role is a header
+-- the count, plus 1 if the role is a header
 abbrev pub head_count : Role → ℕ → ℕ
 head_count (Head n p s j) m = suc m
 head_count _ m = m
 
--- how many headers a walk has
+-- the number of headers in a walk
 abbrev pub heads : List (Role × ℕ) → ℕ
 heads [] = 0
 heads (x ∷ w) = head_count x.0 (heads w)
 
--- node n has its header at block a: that of the directory, the slot and the place in its chain
+-- the header of node n is block a, with its directory, slot and position
 pub record HeadAt (w : List (Role × ℕ)) (n a : ℕ) : Type 0 where
   pub parent : ℕ
   pub slot : ℕ
   pub place : ℕ
   pub has : Has w (Head n parent slot place) a
 
--- node n has its header at block a, and its secondary type is t
+-- the header of node n is block a, with secondary type t
 pub record TypedAt (image : List ℕ) (w : List (Role × ℕ)) (t n a : ℕ) : Type 0 where
   pub header : HeadAt w n a
   pub type : word_in image a SECONDARY_TYPE ≡ t
 
--- node n has its block at a
+-- the block of node n is a
 abbrev pub NodeAt : List (Role × ℕ) → ℕ → ℕ → Type 0
 NodeAt w zero a = Has w Root a
 NodeAt w (suc i) a = HeadAt w (suc i) a
 
--- directory p has its block at a
+-- the block of directory p is a
 abbrev pub DirAt : List ℕ → List (Role × ℕ) → ℕ → ℕ → Type 0
 DirAt image w zero a = Has w Root a
 DirAt image w (suc i) a = TypedAt image w ST_DIR (suc i) a
 
--- file n has its header at block a
+-- the header of file n is block a
 abbrev pub FileAt : List ℕ → List (Role × ℕ) → ℕ → ℕ → Type 0
 FileAt image w n a = TypedAt image w ST_FILE n a
 
--- member m of the header of n followed by its extension blocks
+-- block m of the table of n: its header (m = 0), then its extension blocks
 abbrev pub MemberAt : List ℕ → List (Role × ℕ) → ℕ → ℕ → ℕ → Type 0
 MemberAt image w n zero a = FileAt image w n a
 MemberAt image w n (suc m) a = Has w (Ext n (suc m)) a
 
--- how many data blocks the size in header h asks for
+-- the number of data blocks for the size in header h
 abbrev pub data_count : List ℕ → ℕ → ℕ
 data_count image h = count (kind_of image) (word_in image h SIZE)
 
--- word i of block a is the one for page k: of the root, or of a bitmap extension block that the walk has
+-- word i of block a points to page k: in the root, or in a bitmap extension block of the walk
 abbrev pub NamesPage : List ℕ → List (Role × ℕ) → ℕ → ℕ → ℕ → Type 0
 NamesPage image w k a i =
     ((k < ROOT_PAGES) × (a ≡ root_of image) × (i ≡ FIRST_PAGE + k))
     ⊎ ((j : ℕ) × Has w (MapExt j) a × (i < MAP_EXT_PAGES) × (k ≡ ROOT_PAGES + MAP_EXT_PAGES * j + i))
 
--- the walk asks for the role by word i of block a
+-- word i of block a asks for this role
 abbrev pub Asks : List ℕ → List (Role × ℕ) → Role → ℕ → ℕ → Type 0
 Asks image w Root a i = ⊥
 Asks image w (Page k) a i = (k < pages_needed (blocks image)) × NamesPage image w k a i
@@ -132,32 +134,32 @@ Asks image w (Data n zero) a i = ⊥
 Asks image w (Data n (suc k)) a i =
     ((h : ℕ) × FileAt image w n h × (k < data_count image h)) × MemberAt image w n (k / POINTERS) a × (i ≡ table_word k)
 
--- no member of the walk has the place of the role
+-- the walk has no role at this place in the order
 abbrev pub Lacks : List (Role × ℕ) → Role → Type 0
 Lacks w r = (q : Role) (b : ℕ) → Has w q b → Same q r → ⊥
 
--- the least role asked for that the walk lacks
+-- the first role, in order, that is asked for and that the walk lacks
 pub record IsDue (image : List ℕ) (w : List (Role × ℕ)) (r : Role) (a i : ℕ) : Type 0 where
   pub asked : Asks image w r a i
   pub lacks : Lacks w r
   pub least : (q : Role) (c k : ℕ) → Asks image w q c k → Lacks w q → Before q r → ⊥
 
--- one more where the role is an extension block of file n
+-- the count, plus 1 if the role is an extension block of file n
 abbrev pub ext_count_of : ℕ → Role → ℕ → ℕ
 ext_count_of n (Ext m k) c = cond (n == m) (suc c) c
 ext_count_of n _ c = c
 
--- how many extension blocks of file n the walk has
+-- the number of extension blocks of file n in a walk
 abbrev pub ext_count : List (Role × ℕ) → ℕ → ℕ
 ext_count [] n = 0
 ext_count (x ∷ w) n = ext_count_of n x.0 (ext_count w n)
 
--- the first data block of a file that has too few extension blocks: ShortFile
+-- before the first data block of a file: the file has enough extension blocks for its size; else ShortFile
 abbrev pub Enough : List ℕ → List (Role × ℕ) → Role → Type 0
 Enough image w (Data n k) = k ≡ 1 → (h : ℕ) → FileAt image w n h → data_count image h ≤ POINTERS * suc (ext_count w n)
 Enough image w _ = Unit {0}
 
--- b where the role is that of node n, else c
+-- b if the role is that of node n, otherwise c
 abbrev pub node_block_of : ℕ → Role → ℕ → ℕ → ℕ
 node_block_of n Root b c = cond (n == 0) b c
 node_block_of n (Head m p s j) b c = cond (n == m) b c
@@ -168,7 +170,7 @@ abbrev pub node_block : List (Role × ℕ) → ℕ → ℕ
 node_block [] n = 0
 node_block (x ∷ w) n = node_block_of n x.0 x.1 (node_block w n)
 
--- b where the role is extension block k of file n, else c
+-- b if the role is extension block k of file n, otherwise c
 abbrev pub ext_block_of : ℕ → ℕ → Role → ℕ → ℕ → ℕ
 ext_block_of n k (Ext m i) b c = cond (n == m) (cond (k == i) b c) c
 ext_block_of n k _ b c = c
@@ -178,17 +180,17 @@ abbrev pub ext_block_in : List (Role × ℕ) → ℕ → ℕ → ℕ
 ext_block_in [] n k = 0
 ext_block_in (x ∷ w) n k = ext_block_of n k x.0 x.1 (ext_block_in w n k)
 
--- member m of the header of n followed by its extension blocks
+-- block m of the table of n: its header (m = 0), then its extension blocks
 abbrev pub member_block : List (Role × ℕ) → ℕ → ℕ → ℕ
 member_block w n zero = node_block w n
 member_block w n (suc m) = ext_block_in w n (suc m)
 
--- what the table of file n has for data block k + 1, or 0 where that is past the last
+-- the pointer to data block k + 1 in the table of file n, or 0 past the last
 abbrev pub next_data : List ℕ → List (Role × ℕ) → ℕ → ℕ → ℕ
 next_data image w n k =
     cond (nat_lt k (data_count image (node_block w n))) (word_in image (member_block w n (k / POINTERS)) (table_word k)) 0
 
--- the form of block b in the role
+-- the form of block b in this role, as demands
 abbrev pub form_demands : List ℕ → List (Role × ℕ) → Role → ℕ → List Demand
 form_demands image w Root b = []
 form_demands image w (Page i) b = page_demands image b
@@ -198,16 +200,16 @@ form_demands image w (Ext n k) b = ext_demands image b (node_block w n)
 form_demands image w (Data n k) b =
     data_demands image (kind_of image) b (node_block w n) k (held (kind_of image) (word_in image (node_block w n) SIZE) k) (next_data image w n k)
 
--- no earlier header of the chain has an equal name: SameName
+-- no earlier header of the chain has the same name; else SameName
 abbrev pub NewName : List ℕ → List (Role × ℕ) → Role → ℕ → Type 0
 NewName image w (Head n p s j) b = (m k c : ℕ) → Has w (Head m p s k) c → uppers (name_of image c) ≢ uppers (name_of image b)
 NewName image w _ b = Unit {0}
 
--- no member of the walk has this block
+-- the walk does not have this block
 abbrev pub IsAbsent : List (Role × ℕ) → ℕ → Type 0
 IsAbsent w b = (q : Role) → Has w q b → ⊥
 
--- what must hold of a role, named by a word of block a as block b
+-- the demands on a role at block b, which a word of block a points to
 abbrev pub demands : List ℕ → List (Role × ℕ) → Role → ℕ → ℕ → List Demand
 demands image w r a b =
     demand ShortFile a (Enough image w r)
@@ -219,13 +221,13 @@ demands image w r a b =
 abbrev pub NoCause : List ℕ → List (Role × ℕ) → Role → ℕ → ℕ → Type 0
 NoCause image w r a b = AllHold (demands image w r a b)
 
--- a walk begins with the root, and each member is what was due, and has no cause
+-- a walk starts with the root; each further part was due and has no cause
 pub data IsWalk (image : List ℕ) : List (Role × ℕ) → Type 0 where
   start : IsWalk image ((Root, root_of image) ∷ [])
   step : {w : List (Role × ℕ)} {r : Role} {b a i : ℕ} → IsWalk image w → IsDue image w r a i → word_in image a i ≡ b → NoCause image w r a b
       → IsWalk image ((r, b) ∷ w)
 
--- the walk asks for nothing that it lacks
+-- the walk has all that it asks for
 abbrev pub IsWhole : List ℕ → List (Role × ℕ) → Type 0
 IsWhole image w = (r : Role) (a i : ℕ) → Asks image w r a i → Lacks w r → ⊥
 
@@ -233,7 +235,7 @@ IsWhole image w = (r : Role) (a i : ℕ) → Asks image w r a i → Lacks w r �
 abbrev pub IsFreeIn : List ℕ → List (Role × ℕ) → ℕ → Type 0
 IsFreeIn image w b = (page : ℕ) × Has w (Page ((b - 2) / PAGE_BITS)) page × IsFreeAt image page ((b - 2) % PAGE_BITS)
 
--- n blocks of the bitmap, from b on: in use without an owner, or owned and free
+-- the demands on n blocks of the bitmap, from b on: a block is free if and only if it has no owner
 abbrev pub bitmap_demands : List ℕ → List (Role × ℕ) → ℕ → ℕ → List Demand
 bitmap_demands image w b zero = []
 bitmap_demands image w b (suc n) =
@@ -241,7 +243,7 @@ bitmap_demands image w b (suc n) =
     ∷ demand OwnedFree b (IsFreeIn image w b → IsAbsent w b)
     ∷ bitmap_demands image w (suc b) n
 
--- The first fault: of size, boot bytes and root; else of what is due after some walk; else of the bitmap after a whole walk.
+-- The first fault: in size, boot bytes or root; else in a part due after some walk; else in the bitmap.
 pub data FirstFault (image : List ℕ) (b : ℕ) (c : Cause) : Type 0 where
   at_boot : FirstFails (boot_demands image ++ root_demands image (root_of image)) b c → FirstFault image b c
   at_due : AllHold (boot_demands image ++ root_demands image (root_of image)) → (w : List (Role × ℕ)) (r : Role) (a i : ℕ) → IsWalk image w

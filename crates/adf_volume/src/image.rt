@@ -1,4 +1,4 @@
-// An image that begins as a volume.
+// Images with a valid size, boot block and root.
 
 ghost use Rattle.std.specs.Prelude.{◌≡◌, ◌<◌, ◌≤◌};
 ghost use Rattle.adf_fields.specs.Words.{block};
@@ -12,7 +12,7 @@ use adf_fields::Block;
 use adf_tree::Kind;
 use std::marker::Model;
 
-/// An image whose size, boot bytes and root are those of a volume.
+/// An image with a valid size, boot block and root.
 #[derive(Drop)]
 pub struct Image<'a> {
     bytes: &'a [u8],
@@ -32,7 +32,7 @@ impl<'a> Model for Image<'a> {
 }
 
 impl<'a> Image<'a> {
-    // The image, of this kind and so many blocks.
+    // The image, with its kind and its number of blocks.
     pub(crate) fn new(bytes: &'a [u8], kind: Kind, blocks: u32) -> Image<'a>
         requires { IsImage bytes.now kind blocks }
         ensures { result ≡ bytes.now }
@@ -44,7 +44,7 @@ impl<'a> Image<'a> {
         }
     }
 
-    /// Tells that the image begins as a volume.
+    /// States that the image has a valid size, boot block and root; does nothing at run time.
     pub fn begun(&self)
         ensures { IsBegun self.now }
     {
@@ -95,7 +95,7 @@ impl<'a> Image<'a> {
         Block::at(self.bytes, b).unwrap()
     }
 
-    /// A word of a block, 0 where the image has no such block.
+    /// A word of a block; 0 if the image has no such block.
     #[tactic(auto, using(crate::proofs::WordsPast::past_word))]
     pub fn word(&self, b: u32, i: usize) -> u32
         requires { i < 128 }
@@ -107,7 +107,7 @@ impl<'a> Image<'a> {
         }
     }
 
-    /// Whether the header at a block is that of a directory, or of a file, with its size and its first extension block.
+    /// The body of the header at a block: a directory, or a file with its size in bytes and its first extension block.
     pub fn body(&self, b: u32) -> HeadBody
         requires { b < blocks self.now }
         ensures body { result ≡ body_at (block self.now b) }

@@ -1,4 +1,4 @@
-// The laws of walks. Each is the contract of a function that does nothing.
+// The laws of walks. Each is the contract of a function that does nothing at run time.
 
 ghost use Rattle.std.specs.Prelude.{◌≡◌, ◌<◌, ℕ, List, ◌*◌, ◌-◌, ◌↔◌, length, map, Some, None};
 ghost use Rattle.std.specs.List.{concat};
@@ -19,7 +19,7 @@ ghost use Rattle.adf_volume.specs.Walk.{FirstFault, Has, IsDue, IsWalk, IsWhole,
 ghost use Rattle.adf_volume.specs.LayoutRoles.{LayoutHas};
 ghost use Rattle.adf_volume.specs.Made.{layout_in, tree_in};
 
-/// The demands of a form all hold exactly where it has no first cause; the first that fails is its first cause.
+/// The demands of a form all hold if and only if it has no first cause; the first that fails has its first cause.
 pub fn demanded_form()
     ensures all { (b : ℕ) (form : List Clause)
         → AllHold (demands_at b form) ↔ (first_cause form ≡ None) }
@@ -27,7 +27,7 @@ pub fn demanded_form()
         → FirstFails (demands_at b form) a c ↔ ((first_cause form ≡ Some c) × (b ≡ a)) }
 {}
 
-/// Where a tree and a layout fit, what a walk has is a part of them, and what is due next is one and has no cause.
+/// If a tree and a layout fit, every part in a walk is theirs, and the part due next is theirs and has no cause.
 pub fn agreement()
     ensures part { (image : List ℕ) (t : Tree) (l : Layout) (w : List (Role × ℕ)) → Fits image t l
         → IsWalk image w
@@ -38,7 +38,7 @@ pub fn agreement()
         → LayoutHas image t l r (word_in image a i) × NoCause image w r a (word_in image a i) }
 {}
 
-/// Where besides nothing is due, each part is in the walk.
+/// If, in addition, nothing is due, the walk has every part.
 #[tactic(auto, using(crate::proofs::WalkCompleteness::part_walked))]
 pub fn completeness()
     ensures { (image : List ℕ) (t : Tree) (l : Layout) (w : List (Role × ℕ)) → Fits image t l
@@ -46,27 +46,27 @@ pub fn completeness()
         → (r : Role) (b : ℕ) → LayoutHas image t l r b → Has w r b }
 {}
 
-/// An image with a first fault has no tree.
+/// If an image has a first fault, no tree fits it.
 pub fn none_fits()
     ensures { (image : List ℕ) (b : ℕ) (c : Cause) → FirstFault image b c → (t : Tree) (l : Layout)
         → Fits image t l → ⊥ }
 {}
 
-/// Where a tree and a layout fit, there is a whole walk.
+/// If a tree and a layout fit, there is a whole walk.
 #[tactic(auto, using(crate::proofs::FitWalks::whole_walk))]
 pub fn whole_walk()
     ensures { (image : List ℕ) (t : Tree) (l : Layout) → Fits image t l
         → (w : List (Role × ℕ)) × IsWalk image w × IsWhole image w }
 {}
 
-/// Two trees that fit an image are one, and so are their layouts.
+/// Two trees that fit the same image are equal, and so are their layouts.
 #[tactic(auto, using(crate::proofs::FitWalks::one_fit))]
 pub fn one_fit()
     ensures { (image : List ℕ) (t u : Tree) (l m : Layout) → Fits image t l → Fits image u m
         → (t ≡ u) × (l ≡ m) }
 {}
 
-/// What a whole walk tells of an image whose boot bytes, root and bitmap are sound, fits it.
+/// The tree and layout of a whole walk fit the image if its boot block, root and bitmap are sound.
 pub fn layout_of_walk_fits()
     ensures { (image : List ℕ) (w : List (Role × ℕ)) → AllHold (boot_demands image)
         → AllHold (root_demands image (root_of image))
@@ -74,7 +74,7 @@ pub fn layout_of_walk_fits()
         → Fits image (tree_in image w) (layout_in w) }
 {}
 
-/// An image has one first fault at most.
+/// An image has at most one first fault.
 pub fn one_fault()
     ensures { (image : List ℕ) (b d : ℕ) (c e : Cause) → FirstFault image b c → FirstFault image d e
         → (b ≡ d) × (c ≡ e) }
@@ -89,7 +89,7 @@ pub fn chains_of_numbers()
         → EntryAt t n e ↔ (entry t.entries n ≡ Some e) }
 {}
 
-/// The pieces of a file, one after the other, are its content.
+/// The pieces of a file, joined, are its content.
 #[tactic(auto, using(crate::proofs::PieceBytes::pieces_joined, crate::proofs::PieceBytes::pieces_length))]
 pub fn pieces_are_content()
     ensures joined { (image : List ℕ) (kind : Kind) (h : ℕ) (datas : List ℕ)

@@ -1,13 +1,13 @@
-// Whose a block is.
+// The owners of blocks.
 
 use adf_tree::Node;
 
 /// The part of a volume that a block belongs to.
 ///
-/// Pages and bitmap extension blocks are numbered from 0, a file's extension blocks and data blocks from 1.
+/// Pages and bitmap extension blocks are numbered from 0; a file's extension blocks and data blocks from 1.
 #[derive(Clone, Copy, Debug, PartialEq, Eq)]
 pub enum Owner {
-    /// A block from 2 on that no part has.
+    /// A block, from 2 on, that no part owns.
     Free,
     /// Block 0 or 1.
     Boot,

@@ -13,7 +13,7 @@ use adf_tree::Kind;
 use std::alloc::Global;
 use std::marker::Model;
 
-/// The pieces of a file, one for each data block, that are left: slices of the image.
+/// The remaining pieces of a file, one for each data block: slices of the image.
 #[derive(Drop)]
 pub struct Pieces<'a> {
     bytes: &'a [u8],
@@ -35,7 +35,7 @@ impl<'a> Model for Pieces<'a> {
     ghost invariant = { λ p. AreInside p.bytes.now p.datas.now p.number };
 }
 
-/// The bytes that data block `number`, from 1 on, of a file of so many bytes holds.
+/// The number of bytes in data block `number`, counted from 1, of a file of `size` bytes.
 #[tactic(auto, unfolding(crate::specs::Image::held, adf_blocks::specs::Sizes::chunk))]
 pub fn held_in(kind: Kind, size: u32, number: u32) -> u32
     ensures exact { result ≡ held kind size number }
@@ -51,7 +51,7 @@ pub fn held_in(kind: Kind, size: u32, number: u32) -> u32
     }
 }
 
-// What data block `number`, from 1 on, of a file of so many bytes holds of it.
+// The bytes in data block `number`, counted from 1, of a file of `size` bytes.
 #[tactic(auto, unfolding(adf_blocks::specs::Sizes::chunk))]
 fn piece_of<'a>(b: Block<'a>, kind: Kind, size: u32, number: u32) -> &'a [u8]
     ensures { result.now ≡ piece kind size number b.entry }
@@ -81,7 +81,7 @@ impl<'a> Iterator for Pieces<'a> {
 }
 
 impl<'a> Pieces<'a> {
-    /// The pieces of a file of so many bytes with these data blocks.
+    /// The pieces of a file of `size` bytes with these data blocks.
     pub fn new(bytes: &'a [u8], kind: Kind, size: u32, datas: &'a [u32]) -> Pieces<'a>
         requires { AreInside bytes.now datas.now 1 }
         ensures { result ≡ pieces bytes.now kind size 1 datas.now }
@@ -96,7 +96,7 @@ impl<'a> Pieces<'a> {
     }
 }
 
-/// The pieces of a file, one after the other, in room made once; `NoMemory` where it is refused.
+/// The pieces of a file, joined in one allocation; `NoMemory` if it fails.
 #[tactic(auto, using(crate::proofs::PieceBytes::some_pieces))]
 pub fn joined(alloc: Global, pieces: Pieces<'_>) -> Result<Vec<u8>, NoMemory>
     ensures bytes { IfOk result (λ v. v.items ≡ concat pieces.entry) }

@@ -1,4 +1,4 @@
-// The size of an image, its first four bytes and its root.
+// The size, the boot block and the root of an image.
 
 ghost use Rattle.std.specs.Prelude.{◌≡◌, ◌≤◌, ◌++◌, length, IfOk, IfErr};
 ghost use Rattle.adf_fields.specs.Words.{block};
@@ -13,28 +13,28 @@ use adf_blocks::{Cause, Root, is_allowed_size, read_root};
 use adf_fields::{BLOCK_LEN, Block};
 use adf_tree::Kind;
 
-// What the size and the first four bytes of an image tell.
+// The facts in the size and the first four bytes of an image.
 #[derive(Drop)]
 struct Start {
     blocks: u32,
     kind: Kind,
 }
 
-/// An image that begins as a volume, and its root.
+/// An image with a valid size, boot block and root, and that root.
 #[derive(Drop)]
 pub struct Opened<'a> {
     pub image: Image<'a>,
     pub root: Root<'a>,
 }
 
-/// Why an image does not begin as a volume, and the block where it stands.
+/// Why an image is refused at its size, boot block or root, and the block of the fault.
 #[derive(Clone, Copy, Debug, PartialEq, Eq)]
 pub struct Unopened {
     pub block: u32,
     pub cause: Cause,
 }
 
-// Whether a volume may have so many bytes.
+// Whether a volume may have this number of bytes.
 fn is_image_len(size: usize) -> bool
     ensures { result ≡ is_image_len size }
 {
@@ -59,7 +59,7 @@ fn is_dos(boot: &Block<'_>) -> bool
     boot.byte(0) == b'D' && boot.byte(1) == b'O' && boot.byte(2) == b'S' && boot.byte(3) <= 5
 }
 
-/// The kind that the boot block of a volume tells.
+/// The kind in the boot block of a volume.
 #[tactic(auto, unfolding(crate::specs::Image::kind_of))]
 pub fn kind_in(image: &[u8]) -> Kind
     requires { 512 ≤ length image.now }
@@ -72,8 +72,8 @@ pub fn kind_in(image: &[u8]) -> Kind
     }
 }
 
-// The number of blocks and the kind of a volume; `BadSize`, `NotDos`, `International` or `DirCache` where the size or the first
-// four bytes are none of such a volume.
+// The number of blocks and the kind of a volume, from its size and first four bytes; otherwise the first of
+// `BadSize`, `NotDos`, `International` and `DirCache` that applies.
 fn read_start(image: &[u8]) -> Result<Start, Cause>
     ensures { ReadsForm (start_form image.now) (λ s. (s.blocks ≡ blocks image.now)
         × (s.kind ≡ kind_of image.now)) result }
@@ -97,7 +97,7 @@ fn read_start(image: &[u8]) -> Result<Start, Cause>
     })
 }
 
-/// Reads the size, the first four bytes and the root of an image; where they are none of a volume, the first cause and its block.
+/// Reads the size, the first four bytes and the root of an image; if one is invalid, the first cause and its block.
 #[tactic(auto, using(crate::proofs::ImageStart::begins, crate::proofs::ImageStart::fails_start, crate::proofs::ImageStart::fails_root))]
 pub fn open<'a>(bytes: &'a [u8]) -> Result<Opened<'a>, Unopened>
     ensures image { IfOk result (λ o. o.image ≡ bytes.now) }
