@@ -35,3 +35,5 @@ pub mod Concerning
 pub mod Keeping
 -- images that are gone through, and the marks that are kept
 pub mod Openings
+-- the directories of entries
+pub mod Directories

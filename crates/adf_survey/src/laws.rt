@@ -1,11 +1,11 @@
 // The laws of surveys. Each is the contract of a function that does nothing.
 
-ghost use Rattle.std.specs.Prelude.{◌≡◌, ℕ, List, [], ◌∷◌};
+ghost use Rattle.std.specs.Prelude.{◌≡◌, ◌<◌, ℕ, List, [], ◌∷◌};
 ghost use Rattle.adf_tree.specs.Tree.{Tree};
 ghost use Rattle.adf_volume.specs.Fits.{Fits};
 ghost use Rattle.adf_volume.specs.Layout.{Layout};
 ghost use Rattle.adf_volume.specs.Made.{layout_in, tree_in};
-ghost use Rattle.adf_volume.specs.Walk.{FileAt, FirstFault, Has, Role};
+ghost use Rattle.adf_volume.specs.Walk.{FileAt, FirstFault, Has, HeadAt, NodeAt, Role};
 ghost use Rattle.adf_survey.specs.Survey.{FindingValue, IsSurvey};
 ghost use Rattle.adf_survey.specs.Sound.{DatasInOrder, FileHolds, HeaderHolds, IsSound};
 
@@ -58,4 +58,11 @@ pub fn sound_entries()
     ensures order { (image : List ℕ) (w : List (Role × ℕ)) (fs : List FindingValue) (n h : ℕ)
         → IsSurvey image w fs
         → IsSound image w fs n h → DatasInOrder w n }
+{}
+
+/// The directory of an entry is in the walk, and has a smaller number.
+pub fn directories_first()
+    ensures { (image : List ℕ) (w : List (Role × ℕ)) (fs : List FindingValue) (n h : ℕ)
+        → IsSurvey image w fs
+        → (g : HeadAt w n h) → (g.parent < n) × ((up : ℕ) × NodeAt w g.parent up) }
 {}

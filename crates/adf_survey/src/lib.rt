@@ -20,7 +20,7 @@ mod surveys;
 
 pub use crate::file::SoundFile;
 pub use crate::laws::{
-    first_finding, no_finding, one_part, one_survey, some_survey, sound_entries,
+    directories_first, first_finding, no_finding, one_part, one_survey, some_survey, sound_entries,
 };
 pub use crate::opening::Opening;
 pub use crate::part::{Finding, Part};
