@@ -1,11 +1,13 @@
 // The laws of surveys. Each is the contract of a function that does nothing.
 
-ghost use Rattle.std.specs.Prelude.{◌≡◌, ◌<◌, ℕ, List, [], ◌∷◌};
+ghost use Rattle.std.specs.Prelude.{◌≡◌, ◌<◌, ℕ, List, [], ◌∷◌, ◌++◌};
 ghost use Rattle.adf_tree.specs.Tree.{Tree};
 ghost use Rattle.adf_volume.specs.Fits.{Fits};
+ghost use Rattle.adf_volume.specs.Image.{name_of};
 ghost use Rattle.adf_volume.specs.Layout.{Layout};
 ghost use Rattle.adf_volume.specs.Made.{layout_in, tree_in};
 ghost use Rattle.adf_volume.specs.Walk.{FileAt, FirstFault, Has, HeadAt, NodeAt, Role};
+ghost use Rattle.adf_survey.specs.Lookup.{path_to};
 ghost use Rattle.adf_survey.specs.Survey.{FindingValue, IsSurvey};
 ghost use Rattle.adf_survey.specs.Sound.{DatasInOrder, FileHolds, HeaderHolds, IsSound};
 
@@ -65,4 +67,12 @@ pub fn directories_first()
     ensures { (image : List ℕ) (w : List (Role × ℕ)) (fs : List FindingValue) (n h : ℕ)
         → IsSurvey image w fs
         → (g : HeadAt w n h) → (g.parent < n) × ((up : ℕ) × NodeAt w g.parent up) }
+{}
+
+/// The path of an entry is the path of its directory, followed by the name in its header.
+pub fn paths_of_directories()
+    ensures { (image : List ℕ) (w : List (Role × ℕ)) (fs : List FindingValue) (n h : ℕ)
+        → IsSurvey image w fs
+        → (g : HeadAt w n h)
+        → path_to image w n ≡ path_to image w g.parent ++ name_of image h ∷ [] }
 {}
