@@ -37,3 +37,5 @@ pub mod Keeping
 pub mod Openings
 -- the directories of entries
 pub mod Directories
+-- the entries of images without findings
+pub mod AllSound

@@ -76,3 +76,10 @@ pub fn paths_of_directories()
         → (g : HeadAt w n h)
         → path_to image w n ≡ path_to image w g.parent ++ name_of image h ∷ [] }
 {}
+
+/// Where a survey has no finding, each of its entries is sound.
+pub fn all_sound()
+    ensures { (image : List ℕ) (w : List (Role × ℕ)) (n h : ℕ) → IsSurvey image w []
+        → HeadAt w n h
+        → IsSound image w [] n h }
+{}
