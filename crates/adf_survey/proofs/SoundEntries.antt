@@ -120,7 +120,8 @@ module _ (image : List ℕ) where
       let w : List (Role × ℕ) = (q, word_in image a i) ∷ s.walk in
       let fs : List FindingValue = s.findings ++ finding (Some q) at c ∷ [] in
       inr (subst (Came w fs r) e.1 (subst (λ r. Came w fs r (word_in image a i)) e.0
-      (came_new s q a i w fs (q, word_in image a i) refl v n (λ p h. noted_more s.findings (finding (Some q) at c ∷ []) p h) (inr (noted_now s.findings q (finding (Some q) at c) refl)))))
+      (came_new s q a i w fs (q, word_in image a i) refl v n (noted_more s.findings (finding (Some q) at c ∷ []))
+      (inr (noted_now s.findings q (finding (Some q) at c) refl)))))
   came (step {s = s} {r = q} {a = a} {i = i} (noted at c) v n g) r b (inr h) =
       elim (came v r b h) [
         | inl e ↦ inl e
