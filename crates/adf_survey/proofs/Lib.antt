@@ -39,3 +39,5 @@ pub mod Openings
 pub mod Directories
 -- the entries of images without findings
 pub mod AllSound
+-- look-up in surveys of volumes
+pub mod TreeLookups
