@@ -35,3 +35,9 @@ pub mod Concerning
 pub mod Keeping
 -- images to survey, and the marks that are kept
 pub mod Openings
+-- the directories of entries
+pub mod Directories
+-- the entries of images without findings
+pub mod AllSound
+-- look-up in surveys of volumes
+pub mod TreeLookups

@@ -1,12 +1,13 @@
 -- The blocks of a sound entry.
-use Rattle.std.specs.Prelude.{Some}
+use Rattle.std.specs.Prelude.{Some, nat_lt, true}
 use Rattle.std.proofs.Common.{◌≡◌, ℕ, zero, suc, List, [], ◌∷◌, ◌++◌, ◌⊎◌, inl, inr, ◌*◌, ◌/◌, ◌<◌, ◌≤◌, refl, sym, ap, subst, ◌∙◌, arith}
+use Rattle.std.proofs.lemmas.Bool.{cond-false, cond-true, le-ltb, lt-ltb}
 use native.Mathlib.Decide.{dec_lt}
 use Rattle.adf_blocks.specs.declared.layout.TheConstants.{POINTERS, SIZE}
 use Rattle.adf_volume.specs.Image.{held, kind_of, word_in, table_word}
 use Rattle.adf_volume.specs.Lists.{In}
 use Rattle.adf_volume.specs.Demands.{AllHold, data_demands, ext_demands, head_demands}
-use Rattle.adf_volume.specs.Walk.{first, NodeAt, form_demands, next_data, node_block}
+use Rattle.adf_volume.specs.Walk.{first, Before, Lacks, NodeAt, form_demands, member_block, next_data, node_block}
 use Rattle.adf_volume.specs.Walk.{Role, second, Has, FileAt, MemberAt, data_count, Asks, IsAbsent, ext_count, demands}
 use Rattle.adf_volume.specs.Walk.Role.{Root, Head, Ext, Data}
 use Rattle.adf_volume.proofs.Lists.{in_left, in_right}
@@ -15,8 +16,8 @@ use Rattle.adf_survey.specs.Survey.{FindingValue, finding, Course, IsNext, IsCou
 use Rattle.adf_survey.specs.Survey.JudgementValue.{clean, noted, passed}
 use Rattle.adf_survey.specs.Survey.IsCourse.{start, step}
 use Rattle.adf_survey.specs.Survey.IsSurvey.{unread, read}
-use Rattle.adf_survey.specs.Sound.{FileHolds, HeaderHolds, IsSound, IsUnnoted}
-use Rattle.adf_volume.proofs.Gathered.{IsGathered, asked_dir, asked_file, asks_one, ext_counted, file_one, head_block, node_is, node_one}
+use Rattle.adf_survey.specs.Sound.{FileHolds, HeaderHolds, IsNextData, IsSound, IsUnnoted}
+use Rattle.adf_volume.proofs.Gathered.{IsGathered, asked_dir, asked_file, asks_one, ext_counted, file_one, head_block, member_is, node_is, node_one, one_block}
 use Rattle.adf_survey.proofs.OneSurvey.{gathered}
 use Rattle.adf_volume.proofs.PartDemands.{part_holds}
 use Rattle.adf_survey.proofs.Judged.{itself_holds}
@@ -41,7 +42,10 @@ module _ (image : List ℕ) where
   passed_noted (step {s = s} {r = q} {a = a} {i = i} (passed at c) v n g) r b (inr h) =
       noted_more s.findings (finding (Some q) at c ∷ []) r (passed_noted v r b h)
 
-  -- how a member came into a walk
+  unnoted_less : (fs gs : List FindingValue) (r : Role) → IsUnnoted (fs ++ gs) r → IsUnnoted fs r
+  unnoted_less fs gs r h f q i = h f q (in_left fs gs f i)
+
+  -- how a member came into a walk: nothing that comes before it was left
   record Came (w : List (Role × ℕ)) (fs : List FindingValue) (r : Role) (b : ℕ) : Type 0 where
     before : List (Role × ℕ)
     came_before : IsGathered image before
@@ -52,6 +56,7 @@ module _ (image : List ℕ) where
     judged : AllHold (demands image before r at b) ⊎ Noted fs r
     older : (q : Role) (c : ℕ) → Has before q c → Has w q c
     counted : (n : ℕ) → ext_count before n ≤ ext_count w n
+    earlier : (q : Role) (c k : ℕ) → Asks image before q c k → Before q r → Lacks before q → IsUnnoted fs q → ⊥
 
   came_later : (w : List (Role × ℕ)) (fs : List FindingValue) (r : Role) (b : ℕ) (x : Role × ℕ) → Came w fs r b → Came (x ∷ w) fs r b
   came_later w fs r b x y = record {
@@ -64,6 +69,7 @@ module _ (image : List ℕ) where
     judged = y.judged;
     older = (λ q c h. inr (y.older q c h));
     counted = (λ n. let k = y.counted n in let u = count_up n x.0 (ext_count w n) in omega arith);
+    earlier = y.earlier;
   }
 
   came_noted : (w : List (Role × ℕ)) (fs gs : List FindingValue) (r : Role) (b : ℕ) → Came w fs r b → Came w (fs ++ gs) r b
@@ -77,12 +83,13 @@ module _ (image : List ℕ) where
     judged = elim (y.judged) [ inl h ↦ inl h | inr n ↦ inr (noted_more fs gs r n) ];
     older = y.older;
     counted = y.counted;
+    earlier = (λ q c k ask bef lack clear. y.earlier q c k ask bef lack (unnoted_less fs gs q clear));
   }
 
   came_new : (s : Course) (r : Role) (a i : ℕ) (w : List (Role × ℕ)) (fs : List FindingValue) (x : Role × ℕ) → w ≡ x ∷ s.walk → IsCourse image s
-      → IsNext image s r a i
+      → IsNext image s r a i → ((q : Role) → Noted s.findings q → Noted fs q)
       → AllHold (demands image s.walk r a (word_in image a i)) ⊎ Noted fs r → Came w fs r (word_in image a i)
-  came_new s r a i w fs x e v n j = record {
+  came_new s r a i w fs x e v n more j = record {
     before = s.walk;
     came_before = gathered image v;
     at = a;
@@ -92,6 +99,8 @@ module _ (image : List ℕ) where
     judged = j;
     older = (λ q c h. subst (λ w. Has w q c) (sym e) (inr h));
     counted = (λ n. subst (λ w. ext_count s.walk n ≤ ext_count w n) (sym e) (count_up n x.0 (ext_count s.walk n)));
+    earlier = (λ q c k ask bef lack clear.
+        n.least q c k ask lack (λ p b h same. let y = more p (passed_noted v p b h) in clear y.0 p y.1 y.2 same) bef);
   }
 
   -- each member but the root came by a word, and has no cause or is noted
@@ -101,7 +110,7 @@ module _ (image : List ℕ) where
   came (step {s = s} {r = q} {a = a} {i = i} clean v n g) r b (inl e) =
       let w : List (Role × ℕ) = (q, word_in image a i) ∷ s.walk in
       inr (subst (Came w s.findings r) e.1 (subst (λ r. Came w s.findings r (word_in image a i)) e.0
-      (came_new s q a i w s.findings (q, word_in image a i) refl v n (inl g))))
+      (came_new s q a i w s.findings (q, word_in image a i) refl v n (λ p h. h) (inl g))))
   came (step {s = s} {r = q} {a = a} {i = i} clean v n g) r b (inr h) =
       elim (came v r b h) [
         | inl e ↦ inl e
@@ -111,7 +120,8 @@ module _ (image : List ℕ) where
       let w : List (Role × ℕ) = (q, word_in image a i) ∷ s.walk in
       let fs : List FindingValue = s.findings ++ finding (Some q) at c ∷ [] in
       inr (subst (Came w fs r) e.1 (subst (λ r. Came w fs r (word_in image a i)) e.0
-      (came_new s q a i w fs (q, word_in image a i) refl v n (inr (noted_now s.findings q (finding (Some q) at c) refl)))))
+      (came_new s q a i w fs (q, word_in image a i) refl v n (noted_more s.findings (finding (Some q) at c ∷ []))
+      (inr (noted_now s.findings q (finding (Some q) at c) refl)))))
   came (step {s = s} {r = q} {a = a} {i = i} (noted at c) v n g) r b (inr h) =
       elim (came v r b h) [
         | inl e ↦ inl e
@@ -172,17 +182,6 @@ module _ (image : List ℕ) where
         let d = asked_file image x.0.came_before n k x.0.at x.0.index x.0.asked in
         let e : node_block x.0.before n ≡ h = file_was x.0.before n d.0 h x.0.came_before x.0.older d.1 file in
         subst (λ h. AllHold (ext_demands image b h)) e x.1
-
-    data_formed : (n k b h : ℕ) → Has s.walk (Data n (suc k)) b → IsUnnoted s.findings (Data n (suc k)) → FileAt image s.walk n h
-        → (next : ℕ) × AllHold (data_demands image (kind_of image) b h (suc k) (held (kind_of image) (word_in image h SIZE) (suc k)) next)
-    data_formed n k b h g clear file =
-        let x = came_formed (Data n (suc k)) b g (λ e. let x : second Root ≡ second (Data n (suc k)) = ap second e in omega arith) clear in
-        let d = x.0.asked.0 in
-        let e : node_block x.0.before n ≡ h = file_was x.0.before n d.0 h x.0.came_before x.0.older d.1 file in
-        let next : ℕ = next_data image x.0.before n (suc k) in (
-          next,
-          subst (λ h. AllHold (data_demands image (kind_of image) b h (suc k) (held (kind_of image) (word_in image h SIZE) (suc k)) next)) e x.1,
-        )
 
     -- what is asked for and has no finding is in the walk
     in_walk : (r : Role) (a i : ℕ) → Asks image s.walk r a i → IsUnnoted s.findings r → second r < 2 → (b : ℕ) × Has s.walk r b
@@ -245,6 +244,79 @@ module _ (image : List ℕ) where
           let z = asks_one image (gathered image v) (Data n (suc k)) y.at y.index m.0 (table_word k) was ask in
           (m.0, x.0, m.1, same_word y.at m.0 y.index (table_word k) x.0 z.0 z.1 y.named, x.1)
 
+      module _ (none : (k : ℕ) → IsUnnoted s.findings (Ext n k)) where
+        ext_wanted : (m a : ℕ) → Has s.walk (Ext n (suc m)) a → Came s.walk s.findings (Ext n (suc m)) a
+        ext_wanted m a g = elim (came v (Ext n (suc m)) a g) [
+          | inl e ↦ let x : first Root ≡ first (Ext n (suc m)) = ap first e in absurd (omega arith)
+          | inr y ↦ y
+        ]
+
+        file_first : (k b : ℕ) (y : Came s.walk s.findings (Data n (suc k)) b) (a : ℕ) → FileAt image s.walk n a → FileAt image y.before n a
+        file_first k b y a g =
+            let x = y.asked.0 in
+            let e : x.0 ≡ a = file_one image (gathered image v) n x.0 a (file_before y.before x.0 y.older x.1) g in
+            subst (FileAt image y.before n) e x.1
+
+        -- an extension block that a file asks for was there before each of its data blocks
+        ext_first : (k b : ℕ) (y : Came s.walk s.findings (Data n (suc k)) b) (m a d i : ℕ) → Has s.walk (Ext n (suc m)) a
+            → Asks image y.before (Ext n (suc m)) d i → Has y.before (Ext n (suc m)) a
+        ext_first k b y m a d i g ask = elim (has_low y.before (Ext n (suc m)) (omega arith)) [
+          | inl lack ↦ absurd (y.earlier (Ext n (suc m)) d i ask (omega arith, (λ e. omega arith), (λ e f. omega arith)) lack (none (suc m)))
+          | inr x ↦
+              let e = (one_block image (gathered image v) (Ext n (suc m)) (Ext n (suc m)) x.0 a (y.older (Ext n (suc m)) x.0 x.1) g
+              (refl, refl, refl)).1 in
+              subst (Has y.before (Ext n (suc m))) e x.1
+        ]
+
+        -- the header and the extension blocks of a file were there before each of its data blocks
+        members_first : (k b : ℕ) (y : Came s.walk s.findings (Data n (suc k)) b) (m a : ℕ) → MemberAt image s.walk n m a
+            → MemberAt image y.before n m a
+        members_first k b y zero a g = file_first k b y a g
+        members_first k b y (suc zero) a g =
+            let z = ext_wanted 0 a g in
+            let held = file_first k b y z.at (file_before z.before z.at z.older z.asked.0) in
+            ext_first k b y 0 a z.at z.index g (held, z.asked.1, z.asked.2)
+        members_first k b y (suc (suc m)) a g =
+            let z = ext_wanted (suc m) a g in
+            let held = members_first k b y (suc m) z.at (z.older (Ext n (suc m)) z.at z.asked.0) in
+            ext_first k b y (suc m) a z.at z.index g (held, z.asked.1, z.asked.2)
+
+        -- the next data block that a data block has to name
+        next_is : (k b : ℕ) (y : Came s.walk s.findings (Data n (suc k)) b) → node_block y.before n ≡ h
+            → IsNextData image s.walk n h (suc k) (next_data image y.before n (suc k))
+        next_is k b y e = record {
+          inner = (λ lt.
+              let x = data_named (suc k) lt in
+              let at : member_block y.before n (suc k / POINTERS) ≡ x.0 =
+              member_is image y.came_before n (suc k / POINTERS) x.0 (members_first k b y (suc k / POINTERS) x.0 x.2) in
+              let there : nat_lt (suc k) (data_count image (node_block y.before n)) ≡ true =
+              lt-ltb (suc k) (data_count image (node_block y.before n)) (subst (λ h. suc k < data_count image h) (sym e) lt) in
+              let word : next_data image y.before n (suc k) ≡ x.1 =
+              cond-true (nat_lt (suc k) (data_count image (node_block y.before n)))
+              (word_in image (member_block y.before n (suc k / POINTERS)) (table_word (suc k))) 0 there
+              ∙ (ap (λ a. word_in image a (table_word (suc k))) at ∙ x.3) in
+              subst (Has s.walk (Data n (suc (suc k)))) (sym word) x.4);
+          last = (λ le.
+              cond-false (nat_lt (suc k) (data_count image (node_block y.before n)))
+              (word_in image (member_block y.before n (suc k / POINTERS)) (table_word (suc k))) 0
+              (le-ltb (suc k) (data_count image (node_block y.before n)) (subst (λ h. data_count image h ≤ suc k) (sym e) le)));
+        }
+
+        data_formed : (k b : ℕ) → Has s.walk (Data n (suc k)) b
+            → (next : ℕ) × IsNextData image s.walk n h (suc k) next
+            × AllHold (data_demands image (kind_of image) b h (suc k) (held (kind_of image) (word_in image h SIZE) (suc k)) next)
+        data_formed k b g =
+            let x = data_clean (suc k) b g in
+            let y = x.0 in
+            let form : AllHold (form_demands image y.before (Data n (suc k)) b) = (part_holds image y.before (Data n (suc k)) y.at b x.1).form in
+            let d = y.asked.0 in
+            let e : node_block y.before n ≡ h = file_was y.before n d.0 h y.came_before y.older d.1 file in
+            let next : ℕ = next_data image y.before n (suc k) in (
+              next,
+              next_is k b y e,
+              subst (λ h. AllHold (data_demands image (kind_of image) b h (suc k) (held (kind_of image) (word_in image h SIZE) (suc k)) next)) e form,
+            )
+
   absent_new : (w : List (Role × ℕ)) (z r q : Role) (c b : ℕ) → IsAbsent w c → (Has w r b → Has w q b → r ≡ q) → Has ((z, c) ∷ w) r b
       → Has ((z, c) ∷ w) q b → r ≡ q
   absent_new w z r q c b h k (inl e) (inl f) = sym e.0 ∙ f.0
@@ -268,9 +340,6 @@ module _ (image : List ℕ) where
   one_part w fs (unread f) r q b h k = absurd h
   one_part w fs (read v d t) r q b h k = one_role v r q b h k
 
-  unnoted_less : (fs gs : List FindingValue) (r : Role) → IsUnnoted (fs ++ gs) r → IsUnnoted fs r
-  unnoted_less fs gs r h f q i = h f q (in_left fs gs f i)
-
   pub sound_header : (w : List (Role × ℕ)) (fs : List FindingValue) (n h : ℕ) → IsSurvey image w fs → IsSound image w fs n h → HeaderHolds image w n h
   sound_header w fs n h (unread f) sound g up node = absurd g.has
   sound_header w fs n h (read {s = s} {bits = bits} v d told) sound g up node =
@@ -285,5 +354,7 @@ module _ (image : List ℕ) where
   sound_file w fs n h (read {s = s} {bits = bits} v d told) sound file = record {
     named = data_named v d n h file (λ k. unnoted_less s.findings bits (Data n k) (sound.datas k));
     exts = (λ k b g. ext_formed v d n k b h g (unnoted_less s.findings bits (Ext n k) (sound.exts k)) file);
-    datas = (λ k b g. data_formed v d n k b h g (unnoted_less s.findings bits (Data n (suc k)) (sound.datas (suc k))) file);
+    datas =
+        data_formed v d n h file (λ k. unnoted_less s.findings bits (Data n k) (sound.datas k))
+        (λ k. unnoted_less s.findings bits (Ext n k) (sound.exts k));
   }

@@ -207,7 +207,7 @@ module _ (image : List ℕ) where
     ]
 
     -- a data block at a block that was not passed over is alone there
-    is_alone : (n k b : ℕ) → Has s.walk (Data n k) b → owns s.passed_over b ≡ false → (q : Role) (a i : ℕ) → Asks image s.walk q a i
+    pub is_alone : (n k b : ℕ) → Has s.walk (Data n k) b → owns s.passed_over b ≡ false → (q : Role) (a i : ℕ) → Asks image s.walk q a i
         → word_in image a i ≡ b → Same q (Data n k)
     is_alone n k b d free q a i h e = elim (settled_at q a i b h e) [
       | inl x ↦

@@ -20,7 +20,8 @@ mod surveys;
 
 pub use crate::file::SoundFile;
 pub use crate::laws::{
-    first_finding, no_finding, one_part, one_survey, some_survey, sound_entries,
+    all_sound, directories_first, first_finding, found_as_in_the_tree, no_finding, one_part,
+    one_survey, paths_of_directories, some_survey, sound_entries,
 };
 pub use crate::opening::Opening;
 pub use crate::part::{Finding, Part};
