@@ -82,6 +82,11 @@ abbrev pub is_output_fault : Stop → Bool
 is_output_fault WriteFault = true
 is_output_fault _ = false
 
+-- whether a run stopped since the names could not be read
+abbrev pub is_names_fault : Stop → Bool
+is_names_fault NamesFault = true
+is_names_fault _ = false
+
 -- what is said on errors
 abbrev pub stop_line : Stop → List ℕ
 stop_line NamesFault = codes "read fault\n"
@@ -93,6 +98,18 @@ abbrev pub Ends : Reports → Option (List (List ℕ)) → ℕ → Bool → Opti
 Ends may known status failed o o' errors_failed e e' =
     (WritesAll may known status o o' × (failed ≡ false) × Appends e e' [])
     ⊎ ((stop : Stop) × (status ≡ 3) × (failed ≡ is_output_fault stop) × WritesPart may known o o' × Says errors_failed e e' (stop_line stop))
+
+-- what a run says on errors, where `unread` says whether the names could not be read: nothing if it got through, else `read fault` if and only if
+-- they could not
+abbrev pub Explains : Bool → ℕ → Bool → Bool → Option (List ℕ) → Option (List ℕ) → Type 0
+Explains unread status failed errors_failed e e' =
+    ((unread ≡ false) × (failed ≡ false) × Appends e e' [])
+    ⊎ ((stop : Stop) × (status ≡ 3) × (unread ≡ is_names_fault stop) × (failed ≡ is_output_fault stop) × Says errors_failed e e' (stop_line stop))
+
+-- the names stopped the work
+abbrev pub is_names_stop : {T : Type 0} → Result T Stop → Bool
+is_names_stop (Err stop) = is_names_fault stop
+is_names_stop _ = false
 
 -- output stopped the work
 abbrev pub is_write_stop : {T : Type 0} → Result T Stop → Bool

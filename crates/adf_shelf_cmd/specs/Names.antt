@@ -13,6 +13,11 @@ abbrev pub GivesName : Bool → Option (List (List ℕ)) → Option (List (List 
 GivesName true old new name = AreGiven old new (name ∷ [])
 GivesName false old new name = IfSome old (λ names. names ≡ [])
 
+-- whether the names of an order could not be read, where `failed` says so of those in the input: words are in memory
+abbrev pub are_unread : Bool × List (List ℕ) → Bool → Bool
+are_unread (null, []) failed = failed
+are_unread (null, name ∷ names) failed = false
+
 -- the first names in bytes, at most so many, each ended by `end` but perhaps the last
 unfoldable pub first_names : ℕ → ℕ → List ℕ → List (List ℕ)
 first_names zero end bytes = []

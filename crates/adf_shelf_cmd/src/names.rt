@@ -1,8 +1,9 @@
 // The names of images, one after another.
 
-ghost use Rattle.std.specs.Prelude.{◌≡◌, ◌<◌, ℕ, IfOk, List, Ok, Option, Some, length, option_map, true};
+ghost use Rattle.std.specs.Prelude.{◌≡◌, ◌<◌, Bool, ℕ, IfOk, List, Ok, Option, Some, false, length, option_map, true};
 ghost use Rattle.std.specs.Io.BufRead.{strip_last};
 ghost use Rattle.adf_words.specs.CommandLine.{texts_of};
+ghost use Rattle.adf_cmd.specs.Streams.{is_device};
 ghost use Rattle.adf_shelf_cmd.specs.Names.{GivesName, listed_names};
 
 use adf_cmd::StreamFault;
@@ -16,12 +17,16 @@ pub trait Names {
     /// It gives at most so many.
     ghost most: { Self → ℕ };
 
+    /// Whether the last one could not be read.
+    ghost has_failed: { Self → Bool };
+
     /// Puts the next name in place of another one, and answers whether there was one. `Device` where the
     /// names cannot be had, `NoMemory` where memory was refused.
     fn next(&mut self, name: &mut Vec<u8>) -> Result<bool, StreamFault>
         ensures gives { IfOk result (λ more.
             GivesName more (left self.old) (left self.new) name.new.items) }
-        ensures fewer { result ≡ Ok true → most self.new < most self.old };
+        ensures fewer { result ≡ Ok true → most self.new < most self.old }
+        ensures failed { has_failed self.new ≡ is_device result };
 }
 
 /// Names that are words of a command line.
@@ -44,6 +49,9 @@ impl Names for WordNames<'_> {
 
     ghost most = { λ n. length n.words.now };
 
+    // words are in memory
+    ghost has_failed = { λ _. false };
+
     fn next(&mut self, name: &mut Vec<u8>) -> Result<bool, StreamFault> {
         if self.words.is_empty() {
             return Ok(false);
@@ -61,6 +69,8 @@ pub struct TextNames<B> {
     pub text: B,
     /// The byte that ends a name.
     pub end: u8,
+    /// Whether the last one could not be read.
+    pub failed: bool,
     // no run uses them up
     turns: u64,
 }
@@ -70,10 +80,12 @@ impl<B> TextNames<B> {
     pub fn new(text: B, end: u8) -> TextNames<B>
         ensures text { result.text ≡ text }
         ensures end { result.end ≡ end }
+        ensures failed { result.failed ≡ false }
     {
         TextNames {
             text,
             end,
+            failed: false,
             turns: u64::MAX,
         }
     }
@@ -94,8 +106,11 @@ impl<B: BufRead> Names for TextNames<B> {
 
     ghost most = { λ l. l.turns };
 
+    ghost has_failed = { λ l. l.failed };
+
     fn next(&mut self, name: &mut Vec<u8>) -> Result<bool, StreamFault> {
-        if self.turns == 0 {
+        self.failed = self.turns == 0;
+        if self.failed {
             return Err(StreamFault::Device);
         }
         self.turns -= 1;
@@ -110,7 +125,10 @@ impl<B: BufRead> Names for TextNames<B> {
             }
             Err(error) => match error.kind() {
                 ErrorKind::OutOfMemory => Err(StreamFault::NoMemory),
-                _ => Err(StreamFault::Device),
+                _ => {
+                    self.failed = true;
+                    Err(StreamFault::Device)
+                }
             },
         }
     }

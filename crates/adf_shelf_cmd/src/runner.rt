@@ -4,8 +4,8 @@ ghost use Rattle.std.specs.Prelude.{◌≡◌, ◌≢◌, ◌≤◌, Bool, List,
 ghost use Rattle.adf_words.specs.CommandLine.{texts_of};
 ghost use Rattle.adf_cmd.specs.Streams.{Says};
 ghost use Rattle.adf_words.specs.ShelfLine.{AsksShelf, AreRefusedByShelf};
-ghost use Rattle.adf_shelf_cmd.specs.Lines.{Ends, IsReportOf, IsRunStatus};
-ghost use Rattle.adf_shelf_cmd.specs.Names.{names_asked};
+ghost use Rattle.adf_shelf_cmd.specs.Lines.{Ends, Explains, IsReportOf, IsRunStatus};
+ghost use Rattle.adf_shelf_cmd.specs.Names.{are_unread, names_asked};
 
 use crate::files::Files;
 use crate::names::{Names, TextNames, WordNames};
@@ -28,6 +28,8 @@ fn run_names<N: Names, F: Files, W: Sink, E: Sink>(
     ensures ends { Ends (IsReportOf (F.bytes_of files.now) (F.may_fail files.now))
         (N.left names.old) result
         (W.has_failed output.new) (W.held output.old) (W.held output.new)
+        (E.has_failed errors.new) (E.held errors.old) (E.held errors.new) }
+    ensures names { Explains (N.has_failed names.new) result (W.has_failed output.new)
         (E.has_failed errors.new) (E.held errors.old) (E.held errors.new) }
     ensures status { IsRunStatus result }
 {
@@ -54,6 +56,8 @@ fn run_order<B: BufRead, F: Files, W: Sink, E: Sink>(
     ensures ends { Ends (IsReportOf (F.bytes_of files.now) (F.may_fail files.now))
         (names_asked order.now (B.remaining input.old.text)) result
         (W.has_failed output.new) (W.held output.old) (W.held output.new)
+        (E.has_failed errors.new) (E.held errors.old) (E.held errors.new) }
+    ensures names { Explains (are_unread order.now input.new.failed) result (W.has_failed output.new)
         (E.has_failed errors.new) (E.held errors.old) (E.held errors.new) }
     ensures status { IsRunStatus result }
     ensures unread { order.now.1 ≢ [] → input.new ≡ input.old }
@@ -93,6 +97,12 @@ pub fn run<B: BufRead, F: Files, W: Sink, E: Sink>(
         (W.has_failed output.new) (W.held output.old) (W.held output.new)
         (E.has_failed errors.new) (E.held errors.old) (E.held errors.new) }
 
+    // It stops with `read fault` if and only if the names could not be read.
+    ensures names { (order : Bool × List (List ℕ)) → AsksShelf (texts_of words.now) order
+        → input.old.failed ≡ false
+        → Explains (are_unread order input.new.failed) result (W.has_failed output.new)
+        (E.has_failed errors.new) (E.held errors.old) (E.held errors.new) }
+
     // At status 2 the words are refused; where they are, nothing was read or written.
     ensures usage { result ≡ 2 → AreRefusedByShelf (texts_of words.now) }
     ensures refused { AreRefusedByShelf (texts_of words.now) → ¬ (result ≡ 3) → result ≡ 2 }
@@ -101,6 +111,9 @@ pub fn run<B: BufRead, F: Files, W: Sink, E: Sink>(
     ensures said { result ≡ 2
         → Says (E.has_failed errors.new) (E.held errors.old) (E.held errors.new)
         (codes "usage: adf-shelf [--null] [FILE..]\n") }
+    ensures memory { AreRefusedByShelf (texts_of words.now) → result ≡ 3
+        → Says (E.has_failed errors.new) (E.held errors.old) (E.held errors.new)
+        (codes "no memory\n") }
 {
     match parse_shelf(alloc, words) {
         Ok(order) => run_order(alloc, &order, input, files, output, errors),

@@ -3,7 +3,7 @@
 ghost use Rattle.std.specs.Prelude.{◌≡◌, ℕ, List, false, IfOk, OnErr};
 ghost use Rattle.std.specs.Io.KnownBytes.{Appends};
 ghost use Rattle.adf_cmd.specs.Streams.{AppendsPart};
-ghost use Rattle.adf_shelf_cmd.specs.Lines.{IsReportOf, IsRunStatus, WritesAll, WritesPart, is_write_stop, shelf_line, stop_line};
+ghost use Rattle.adf_shelf_cmd.specs.Lines.{IsReportOf, IsRunStatus, WritesAll, WritesPart, is_names_stop, is_write_stop, shelf_line, stop_line};
 
 use crate::files::Files;
 use crate::names::Names;
@@ -58,6 +58,7 @@ fn write_line<F: Files, W: Sink>(
         × IsReportOf (F.bytes_of files.now) (F.may_fail files.now) name.now s text
         × AppendsPart (W.held output.old) (W.held output.new) (shelf_line name.now text)) }
     ensures status { IfOk result IsRunStatus }
+    ensures read { is_names_stop result ≡ false }
     ensures failed { W.has_failed output.new ≡ is_write_stop result }
 {
     let report = check_file(alloc, files, name, &mut buffers.image);
@@ -88,6 +89,7 @@ pub fn write_verdicts<N: Names, F: Files, W: Sink>(
         (WritesPart (IsReportOf (F.bytes_of files.now) (F.may_fail files.now))
         (N.left names.old) (W.held output.old) (W.held output.new)) }
     ensures status { IfOk result IsRunStatus }
+    ensures unread { N.has_failed names.new ≡ is_names_stop result }
     ensures failed { W.has_failed output.new ≡ is_write_stop result }
 {
     let mut buffers = Buffers {
