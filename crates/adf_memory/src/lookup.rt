@@ -105,12 +105,7 @@ fn find(entries: &[TableEntry], path: &[Name]) -> Option<usize>
 
 /// Looks up a path, in escape form, in the table of a volume's entries. Returns 0 and writes the entry's number to `node` if it
 /// is there, 1 if there is no such entry, 2 if the text is not a path, and the number of `NoMemory` if memory ran out.
-pub fn find_entry(
-    alloc: Global,
-    entries: &[TableEntry],
-    path: &[u8],
-    node: &mut usize,
-) -> u8
+pub fn find_entry(alloc: Global, entries: &[TableEntry], path: &[u8], node: &mut usize) -> u8
     // For any table the result is one of these, and the node is the root or one of the entries.
     ensures number { (result ≡ 0) ⊎ (result ≡ 1) ⊎ (result ≡ 2) ⊎ WantsMemory result }
     ensures inside { result ≡ 0 → node.new ≤ length entries.now }
