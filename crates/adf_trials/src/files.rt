@@ -1,6 +1,7 @@
-// The files of rows, and what is printed of them.
+// What is asked for by the words of the command line: rows of files, or library calls.
 
 use crate::bench::Bench;
+use crate::calls::{CALLS, text_of_call};
 use crate::line::Line;
 use crate::wrong::{Difference, Failure, Wrong};
 use std::rt::{Env, Files};
@@ -54,12 +55,42 @@ fn run_file(rt: &(impl Files + Print + AllocGlobal), name: &str) -> io::Result<u
     Ok(failed)
 }
 
-/// Runs the rows of the files that the command line names, prints which of them fail, and answers whether none does.
-pub fn run(rt: &(impl Env + Files + Print + AllocGlobal)) -> io::Result<bool> {
+// Prints how a library call went, and answers whether it was done.
+fn run_call(rt: &(impl Print + AllocGlobal), name: &str) -> io::Result<bool> {
+    let text = text_of_call(rt.alloc(), name);
+    println!(rt; "{name}: {text}")?;
+    Ok(text == "done")
+}
+
+fn run_calls(rt: &(impl Print + AllocGlobal)) -> io::Result<bool> {
+    let mut all_done = true;
+    for name in CALLS {
+        all_done &= run_call(rt, name)?;
+    }
+    Ok(all_done)
+}
+
+fn run_files(rt: &(impl Env + Files + Print + AllocGlobal)) -> io::Result<bool> {
     let mut failed = 0usize;
     for name in std::env::args(rt)?.skip(1) {
         failed = failed.saturating_add(run_file(rt, name.as_str())?);
     }
     println!(rt; "{failed} failed")?;
     Ok(failed == 0)
+}
+
+/// Does what the command line says, and answers whether nothing failed: `call` and a name make one library call, `call` alone
+/// each of them; other words name files of rows.
+pub fn run(rt: &(impl Env + Files + Print + AllocGlobal)) -> io::Result<bool> {
+    let mut words = std::env::args(rt)?.skip(1);
+    let Some(first) = words.next() else {
+        return run_files(rt);
+    };
+    if first.as_str() != "call" {
+        return run_files(rt);
+    }
+    match words.next() {
+        Some(name) => run_call(rt, name.as_str()),
+        None => run_calls(rt),
+    }
 }

@@ -3,6 +3,7 @@
 
 mod answer;
 mod bench;
+mod calls;
 mod changes;
 mod devices;
 mod failing;
@@ -11,6 +12,7 @@ mod findings;
 mod line;
 mod questions;
 mod tables;
+mod tree_calls;
 mod trees;
 mod wants;
 mod words;
