@@ -13,7 +13,7 @@ use std::alloc::Global;
 pub struct Failing<'a> {
     read: usize,
     write: usize,
-    command: &'a str,
+    command: CommandLine<'a>,
 }
 
 /// Whose call fails.
@@ -28,6 +28,7 @@ enum Side {
 #[derive(Drop)]
 struct Runs<'a> {
     alloc: Global,
+    program: Program,
     words: Vec<&'a str>,
     image: &'a [u8],
     /// How the devices move bytes where none fails.
@@ -37,24 +38,26 @@ struct Runs<'a> {
 }
 
 impl<'a> Failing<'a> {
-    /// `READ WRITE WORDS`
-    pub fn read(text: &'a str) -> Option<Failing<'a>> {
+    /// `READ WRITE WORDS`, where there may be no words.
+    pub fn read(program: Program, text: &'a str) -> Option<Failing<'a>> {
         let (read, rest) = text.split_once(' ')?;
-        let (write, command) = rest.split_once(' ')?;
+        let (write, words) = rest.split_once(' ').unwrap_or((rest, ""));
         Some(Failing {
             read: number(read)?,
             write: number(write)?,
-            command,
+            command: CommandLine { program, words },
         })
     }
 
     /// Lets each call of each device fail in turn, those of output and errors by an error and by taking no bytes.
     pub fn run(&self, alloc: Global, image: &[u8]) -> Result<(), Wrong> {
-        let words = words_of(alloc, CommandLine::adf(self.command))?;
+        let program = self.command.program;
+        let words = words_of(alloc, self.command)?;
         let paces = Paces::steady(self.read, self.write);
-        let (whole, _) = run_by(alloc, Program::Adf, &words, image, paces);
+        let (whole, _) = run_by(alloc, program, &words, image, paces);
         let runs = Runs {
             alloc,
+            program,
             words,
             image,
             paces,
@@ -74,7 +77,7 @@ impl Runs<'_> {
     fn fail_each(&self, side: Side, failure: WriteFailure) -> Result<(), Wrong> {
         for calls in 0..=self.most_calls() {
             let paces = self.paces_to(side, failure, calls);
-            let (came, failed) = run_by(self.alloc, Program::Adf, &self.words, self.image, paces);
+            let (came, failed) = run_by(self.alloc, self.program, &self.words, self.image, paces);
             let wanted = if failed {
                 self.part(side, calls)
             } else {

@@ -1,48 +1,31 @@
-// Calls on names, paths and trees.
+// Library calls on paths and trees that no command makes.
 
-use crate::answers::Went;
+use crate::calls::Went;
+use crate::trees::{is_tree, tree_of_lines};
+use adf_build::BuildFault;
+use adf_cmd::build_and_read;
 use adf_fields::Stamp;
 use adf_tree::{
-    AddFault, Body, Bytes, Comment, Draft, Kind, Label, Meta, Name, NameSet, Node, PathFault,
-    Stamps, Tree, read_path, write_path,
+    AddFault, Body, Bytes, Comment, Draft, Kind, Label, Meta, Name, Node, Stamps, Tree, write_path,
 };
 use std::alloc::Global;
 
-fn day(days: u32) -> Stamp {
-    Stamp {
-        days,
-        mins: 0,
-        ticks: 0,
-    }
-}
+const NO_DATE: Stamp = Stamp {
+    days: 0,
+    mins: 0,
+    ticks: 0,
+};
 
-/// The days 1, 2 and 3.
-pub fn stamps() -> Stamps {
+fn stamps() -> Stamps {
     Stamps {
-        root: day(1),
-        altered: day(2),
-        created: day(3),
+        root: NO_DATE,
+        altered: NO_DATE,
+        created: NO_DATE,
     }
 }
 
-/// A note, all four lower bits of protection, and day 4.
-pub fn meta() -> Option<Meta> {
-    Some(Meta::new(Comment::new(b"note")?, 15, day(4)))
-}
-
-fn has_name(tree: &Tree, n: usize, name: &[u8]) -> bool {
-    match tree.entry(Node(n)) {
-        Some(entry) => entry.name.bytes() == name,
-        None => false,
-    }
-}
-
-/// A path of two names.
-pub fn read_path_went(alloc: Global) -> Option<Went> {
-    Some(match read_path(alloc, b"c/a b\\x5c") {
-        Ok(path) => Went::done_if(path.len() == 2 && path[1].bytes() == b"a b\\".as_slice()),
-        Err(fault) => Went::refused_if(fault == PathFault::NoMemory),
-    })
+fn meta() -> Option<Meta> {
+    Some(Meta::new(Comment::new(b"note")?, 15, NO_DATE))
 }
 
 /// The text of a path of two names.
@@ -52,6 +35,13 @@ pub fn write_path_went(alloc: Global) -> Option<Went> {
         Ok(text) => Went::done_if(text.as_str() == "c/a b\\x5c"),
         Err(_) => Went::NoMemory,
     })
+}
+
+fn has_name(tree: &Tree, n: usize, name: &[u8]) -> bool {
+    match tree.entry(Node(n)) {
+        Some(entry) => entry.name.bytes() == name,
+        None => false,
+    }
 }
 
 // Whether a tree has entries of these names, in this order, and no others.
@@ -107,24 +97,6 @@ pub fn tree_add_went(alloc: Global) -> Option<Went> {
     })
 }
 
-/// Two spellings of a name, and another name, in a set.
-pub fn name_set_went(alloc: Global) -> Option<Went> {
-    let mut set = NameSet::new(alloc);
-    let names = [
-        Name::new(b"Readme")?,
-        Name::new(b"README")?,
-        Name::new(b"a")?,
-    ];
-    let mut news = [false; 3];
-    for (i, name) in names.iter().enumerate() {
-        let Ok(is_new) = set.put(name) else {
-            return Some(Went::NoMemory);
-        };
-        news[i] = is_new;
-    }
-    Some(Went::done_if(news == [true, false, true] && set.has(&Name::new(b"A")?)))
-}
-
 /// A second entry in a draft, which is then finished.
 pub fn draft_add_went(alloc: Global) -> Option<Went> {
     let mut draft = Draft::new(alloc, Kind::Ofs, Label::new(b"Work")?, stamps());
@@ -135,8 +107,17 @@ pub fn draft_add_went(alloc: Global) -> Option<Went> {
     Some(match res {
         Err(fault) => Went::refused_if(has_room && fault == AddFault::NoMemory),
         Ok(()) => match draft.finish(alloc) {
-            Ok(tree) => Went::done_if(!has_room && tree.len() == 2 && has_name(&tree, 2, b"c")),
+            Ok(tree) => Went::done_if(!has_room && has_names(&tree, &[b"b", b"c"])),
             Err(_) => Went::NoMemory,
         },
+    })
+}
+
+/// The tree of lines, built in 16 blocks and read back.
+pub fn build_and_read_went(alloc: Global, lines: &str) -> Option<Went> {
+    let tree = tree_of_lines(alloc, lines).ok()?;
+    Some(match build_and_read(alloc, &tree, 16) {
+        Ok(came) => Went::done_if(is_tree(alloc, &tree, &came).is_ok()),
+        Err(fault) => Went::refused_if(fault == BuildFault::NoMemory && tree.len() == 1),
     })
 }

@@ -1,6 +1,7 @@
 // Rows of one line.
 
-use crate::answer::{CommandLine, answer_of, built, text_of_lines};
+use crate::answer::{CommandLine, Program, answer_of, built, text_of_lines};
+use crate::calls::text_of_call;
 use crate::changes::put_items;
 use crate::failing::{Failing, is_refused_in_the_end};
 use crate::findings::{are_findings, begin_alike};
@@ -44,16 +45,19 @@ enum TableKind<'a> {
     Need(u32, &'a str),
     /// `unlaid BLOCKS LINE | LINE ..`: why it is not built in so many blocks.
     Unlaid(u32, &'a str),
-    /// `failing READ WRITE WORDS`: the command over the image, each call of its devices failing in turn.
+    /// `failing READ WRITE WORDS`, `failing-survey READ WRITE WORDS`: the command over the image, each call of its devices
+    /// failing in turn.
     Failing(Failing<'a>),
     /// `endless COUNT`: `build` on line feeds without end.
     Endless(usize),
+    /// `call NAME`: the library call of this name.
+    Call(&'a str),
 }
 
 impl<'a> Table<'a> {
     pub fn read(word: &str, rest: &'a str) -> Option<Table<'a>> {
         let (what, line) = match word {
-            "tree" | "failing" | "alike" => (rest, ""),
+            "tree" | "failing" | "failing-survey" | "alike" => (rest, ""),
             _ => rest.split_once(" -> ")?,
         };
         let kind = TableKind::read(word, what)?;
@@ -83,6 +87,10 @@ impl<'a> Table<'a> {
             TableKind::Unlaid(blocks, lines) => is_not_laid(alloc, blocks, lines, line),
             TableKind::Failing(failing) => failing.run(alloc, image),
             TableKind::Endless(count) => is_refused_in_the_end(alloc, count, line),
+            TableKind::Call(name) => {
+                let text = text_of_call(alloc, name);
+                is_same(alloc, "call", line.as_bytes(), text.as_bytes())
+            }
         }
     }
 }
@@ -115,8 +123,10 @@ impl<'a> TableKind<'a> {
                 let (blocks, lines) = sized(what)?;
                 TableKind::Unlaid(blocks, lines)
             }
-            "failing" => TableKind::Failing(Failing::read(what)?),
+            "failing" => TableKind::Failing(Failing::read(Program::Adf, what)?),
+            "failing-survey" => TableKind::Failing(Failing::read(Program::Survey, what)?),
             "endless" => TableKind::Endless(number(what)?),
+            "call" => TableKind::Call(what),
             _ => TableKind::Question(Question::read(word, what)?),
         })
     }

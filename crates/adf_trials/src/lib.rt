@@ -1,0 +1,21 @@
+//! Runs the worked rows that files tell, and single library calls, and says which of them fail.
+#![tactic(auto)]
+
+mod answer;
+mod bench;
+mod calls;
+mod changes;
+mod devices;
+mod failing;
+mod files;
+mod findings;
+mod line;
+mod questions;
+mod tables;
+mod tree_calls;
+mod trees;
+mod wants;
+mod words;
+mod wrong;
+
+pub use crate::files::run;
