@@ -1,6 +1,6 @@
 // The tables of an image, and what is found and read through them.
 
-ghost use Rattle.std.specs.Prelude.{◌≡◌, ◌<◌, ◌+◌, ◌≤◌, ◌↔◌, ◌⊎◌, ℕ, List, Some, None, length, min, take, drop};
+ghost use Rattle.std.specs.Prelude.{◌≡◌, ◌<◌, ◌+◌, ◌≤◌, ◌↔◌, ◌⊎◌, ℕ, List, [], Some, None, length, min, take, drop};
 ghost use Rattle.adf_tree.specs.PathTexts.{IsPathText};
 ghost use Rattle.adf_tree.specs.Tree.{Tree, find};
 ghost use Rattle.adf_volume.specs.Fits.{Fits};
@@ -74,6 +74,9 @@ pub extern "C" fn adf_find(
         → IsTableOf entries.now t → IsPathText path.now names
         → find t.entries names ≡ None }
     ensures bad_path { (result ≡ 2) ↔ ((names : List (List ℕ)) → ¬ IsPathText path.now names) }
+
+    // The empty path, which is that of the root, takes no memory.
+    ensures empty { path.now ≡ [] → ¬ WantsMemory result }
 {
     find_entry(alloc, entries, path, node)
 }

@@ -1,6 +1,6 @@
 // Looking up paths in the table of entries.
 
-ghost use Rattle.std.specs.Prelude.{◌≡◌, ◌≤◌, ◌<◌, ◌↔◌, ◌⊎◌, ℕ, List, Some, None, IfSome, length, nat_le, nat_lt};
+ghost use Rattle.std.specs.Prelude.{◌≡◌, ◌≤◌, ◌<◌, ◌↔◌, ◌⊎◌, ℕ, List, [], Some, None, IfSome, length, nat_le, nat_lt};
 ghost use Rattle.std.specs.List.Sorted.{IsNonDecreasingBy};
 ghost use Rattle.adf_tree.specs.declared.entry.Entry.{Entry};
 ghost use Rattle.adf_tree.specs.PathTexts.{IsPathText};
@@ -119,6 +119,9 @@ pub fn find_entry(alloc: Global, entries: &[TableEntry], path: &[u8], node: &mut
         → IsTableOf entries.now t → IsPathText path.now names
         → find t.entries names ≡ None }
     ensures bad_path { (result ≡ 2) ↔ ((names : List (List ℕ)) → ¬ IsPathText path.now names) }
+
+    // The empty path, which is that of the root, takes no memory.
+    ensures empty { path.now ≡ [] → ¬ WantsMemory result }
 {
     match read_path(alloc, path) {
         Ok(names) => match find(entries, &names) {
