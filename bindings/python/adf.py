@@ -39,7 +39,7 @@ NO_MEMORY = 23
 KINDS = ("ofs", "ffs")
 ROLES = ("free", "boot", "root", "page", "map extension", "header", "extension", "data")
 SONAME = "libadf.so.1"
-FIRST_ROOM, FIRST_OUTPUT, MOST_ERRORS, LONGEST_CAUSE = 2048, 4096, 4096, 64
+FIRST_ROOM, FIRST_OUTPUT, MOST_OUTPUT, MOST_ERRORS, LONGEST_CAUSE = 2048, 4096, 1 << 32, 4096, 64
 EPOCH = datetime.datetime(1978, 1, 1)
 LAST_DAY = (datetime.datetime.max - EPOCH).days
 
@@ -175,13 +175,14 @@ def _run(call, program, words, given):
         output = ctypes.create_string_buffer(room)
         rooms = (output, room, errors, MOST_ERRORS, ctypes.byref(moved))
         status = call(line, len(line), given, len(given), *rooms)
-        if not moved.output_full:
-            return status, output.raw[: moved.output], errors.raw[: moved.errors]
-        room *= 4
+        if not moved.output_full or room >= MOST_OUTPUT:
+            return status, ctypes.string_at(output, moved.output), ctypes.string_at(errors, moved.errors)
+        room = min(4 * room, MOST_OUTPUT)
 
 
 def run(words, given=b""):
-    """Runs the command `adf` with these words over the input: its status, and what it wrote to output and to errors."""
+    """Runs the command `adf` with these words over the input: its status, and what it wrote to output and to errors.
+    An output of more than 4 GiB is cut there, with status 3 and `write fault` on errors."""
     return _run(_calls().adf_run, "adf", words, given)
 
 
@@ -226,7 +227,7 @@ class Survey:
     def _answer(self, words, path=None):
         status, output, errors = _run(_calls().adf_survey_run, "adf-survey", words, self.image)
         if status == 3:
-            raise MemoryError
+            raise MemoryError(errors.decode("ascii").strip())
         if errors in (b"no such path\n", b"bad path\n"):
             raise KeyError(path)
         if errors == b"not a file\n":
