@@ -186,8 +186,8 @@ class Refusals(unittest.TestCase):
             adf.run(["cat", "a\0b"], image_of())
 
     def test_cuts_output_at_the_largest_room(self):
-        manifest, image = b"volume ofs 79\n", built("volume ofs 79\n")
-        for room, answer in ((79 * 512, (0, image, b"")), (79 * 512 - 1, (3, image[:-1], b"write fault\n"))):
+        manifest, image = b"volume ofs 80\n", built("volume ofs 80\n")
+        for room, answer in ((80 * 512, (0, image, b"")), (80 * 512 - 1, (3, image[:-1], b"write fault\n"))):
             with unittest.mock.patch.object(adf, "MOST_OUTPUT", room):
                 status, output, errors = adf.run(["build"], manifest)
             self.assertEqual((status, errors), answer[::2])
