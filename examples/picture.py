@@ -8,8 +8,8 @@ from shared import adf
 CYLINDER = 22
 STEP, SIDE, MARGIN = 10, 9, 12
 LINE, LEGEND = 20, 17
-UNTOLD, NOTED = len(adf.ROLES), len(adf.ROLES) + 1
-NAMES = (*adf.ROLES, "not told", "has a finding")
+UNKNOWN, NOTED = len(adf.ROLES), len(adf.ROLES) + 1
+NAMES = (*adf.ROLES, "unknown", "has a finding")
 COLOURS = ("#e8e8e8", "#333333", "#d62728", "#9467bd", "#c5b0d5", "#ff7f0e", "#bcbd22", "#1f77b4", "#bbbbbb", "#d62728")
 FAULT = "#d62728"
 RUN = re.compile(rb"(.)\1*", re.DOTALL)
@@ -17,7 +17,7 @@ RUN = re.compile(rb"(.)\1*", re.DOTALL)
 
 def roles_of_refused(image, findings):
     """The roles of a refused image, which nobody knows but that a block has a finding."""
-    roles = bytearray([UNTOLD]) * (len(image) // adf.BLOCK)
+    roles = bytearray([UNKNOWN]) * (len(image) // adf.BLOCK)
     for finding in findings:
         inside = range(finding.first, min(finding.last + 1, len(roles)))
         roles[finding.first : finding.first + len(inside)] = bytes([NOTED]) * len(inside)
@@ -69,6 +69,7 @@ def picture(title, roles, refused=None):
     wide = 2 * MARGIN + max(width * STEP, *(8 * len(text) for text in (title, *(text for _, text in parts))))
     font = 'font-family="sans-serif" font-size="11"'
     lines = [f'<svg xmlns="http://www.w3.org/2000/svg" width="{wide}" height="{high}" viewBox="0 0 {wide} {high}" {font}>']
+    lines.append('<rect width="100%" height="100%" fill="#ffffff"/>')
     if title:
         lines.append(f'<title>{escape(title)}</title><text x="{MARGIN}" y="{LINE}">{escape(title)}</text>')
     lines.append(f'<g transform="translate({MARGIN} {top})">')

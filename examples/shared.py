@@ -1,8 +1,12 @@
-"""What the Python programs of this folder share: the module adf, their ends, and the texts of manifests."""
+"""What the Python programs of this folder share: the module adf, their ends, new folders, and the texts of manifests."""
 
+import contextlib
+import errno
 import os
 import re
+import signal
 import sys
+import tempfile
 
 sys.path.insert(0, os.path.join(os.path.dirname(os.path.abspath(__file__)), "..", "bindings", "python"))
 
@@ -13,7 +17,15 @@ FILL = re.compile(rb"(.)\1{63,}", re.DOTALL)
 REFUSED, WRONG_WORDS, FAILED = 1, 2, 3
 
 
+class Stop(Exception):
+    """What cannot be done: the status to end with, and why."""
+
+
 def stop(status, text):
+    raise Stop(status, text)
+
+
+def end(status, text):
     """Says in one line what cannot be done, and ends here; what waits for standard output is not written."""
     print(f"{os.path.basename(sys.argv[0])}: {text}", file=sys.stderr, flush=True)
     os._exit(status)
@@ -37,21 +49,41 @@ def wrong_words(use):
 
 def begin(main):
     """Runs a program, and ends with what it answers; what it cannot do is said in one line, with a status of its own."""
+    signal.signal(signal.SIGTERM, signal.default_int_handler)
     try:
         status = main()
         sys.stdout.flush()
         sys.exit(status)
+    except Stop as stopped:
+        end(*stopped.args)
     except adf.Refused as refused:
-        stop(REFUSED, refused)
+        end(REFUSED, refused)
     except ImportError as error:
-        stop(FAILED, error)
+        end(FAILED, error)
     except KeyboardInterrupt:
-        stop(FAILED, "interrupted")
-    except MemoryError:
-        stop(FAILED, "no memory")
+        end(FAILED, "interrupted")
+    except MemoryError as error:
+        end(FAILED, str(error) or "no memory")
     except OSError as error:
         name = "" if error.filename is None else host_text(error.filename) + ": "
-        stop(FAILED, name + (error.strerror or str(error)))
+        end(FAILED, name + (error.strerror or str(error)))
+
+
+@contextlib.contextmanager
+def new_folder(path):
+    """A folder that takes this path when all is written in it, and is removed if something fails."""
+    path = path.rstrip("/") or path
+    try:
+        if os.path.lexists(path):
+            raise FileExistsError(errno.EEXIST, os.strerror(errno.EEXIST))
+        with tempfile.TemporaryDirectory(prefix=".adf-", dir=os.path.dirname(path) or ".") as beside:
+            folder = os.path.join(beside, "whole")
+            os.mkdir(folder)
+            yield folder
+            os.rename(folder, path)
+    except OSError as error:
+        error.filename = path
+        raise
 
 
 def host_text(name):

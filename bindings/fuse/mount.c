@@ -12,6 +12,7 @@
 #define FUSE_USE_VERSION 31
 #include "adf.h"
 
+#include <dirent.h>
 #include <errno.h>
 #include <fcntl.h>
 #include <fuse.h>
@@ -88,12 +89,13 @@ static struct timespec time_of(const struct adf_date *date) {
     return time;
 }
 
-/* A directory has one link, by which programs that count them know that its directories are not counted. */
+/* A directory has one link, by which programs that count them know that its directories are not counted. Its owner may write,
+ * so that a copy of it can be removed: the file system is read-only all the same. */
 static void describe(size_t node, struct stat *status) {
     const struct adf_entry *entry = node == 0 ? NULL : &volume.entries[node - 1];
     *status = (struct stat){0};
     status->st_ino = entry == NULL ? volume.contents.blocks / 2 : entry->header;
-    status->st_mode = entry != NULL && entry->is_file ? S_IFREG | 0444 : S_IFDIR | 0555;
+    status->st_mode = entry != NULL && entry->is_file ? S_IFREG | 0444 : S_IFDIR | 0755;
     status->st_nlink = 1;
     status->st_uid = getuid();
     status->st_gid = getgid();
@@ -240,10 +242,11 @@ static int open_volume(const char *name) {
     return REFUSED;
 }
 
-/* The words of the command line: the first that is no option is the image, and all others are libfuse's. */
+/* The words of the command line: the first that is no option is the image, the second the folder, and all others are libfuse's. */
 struct words {
     char *image;
-    int others;
+    char *folder;
+    int nonempty;
     int help;
     int version;
 };
@@ -251,6 +254,7 @@ struct words {
 static const struct fuse_opt OPTIONS[] = {
     {"-h", offsetof(struct words, help), 1},    {"--help", offsetof(struct words, help), 1},
     {"-V", offsetof(struct words, version), 1}, {"--version", offsetof(struct words, version), 1},
+    {"nonempty", offsetof(struct words, nonempty), 1},
     FUSE_OPT_END,
 };
 
@@ -259,16 +263,63 @@ static int take_word(void *data, const char *word, int key, struct fuse_args *ar
     (void)arguments;
     if (key != FUSE_OPT_KEY_NONOPT)
         return 1;
-    if (words->image != NULL)
-        return ++words->others == 1 ? 1 : -1;
-    words->image = strdup(word);
-    return words->image == NULL ? -1 : 0;
+    if (words->folder != NULL)
+        return -1;
+    char **place = words->image == NULL ? &words->image : &words->folder;
+    *place = strdup(word);
+    return *place == NULL ? -1 : place == &words->folder;
+}
+
+/* Whether there is anything in a directory. */
+static bool has_entries(DIR *directory) {
+    struct dirent *entry;
+    while ((entry = readdir(directory)) != NULL)
+        if (strcmp(entry->d_name, ".") != 0 && strcmp(entry->d_name, "..") != 0)
+            return true;
+    return false;
+}
+
+/* Why a volume cannot be mounted on a directory, or NULL. What is mounted there is of another device than what is above it. */
+static const char *obstacle(DIR *directory, bool may_hide) {
+    struct stat inner, outer;
+    if (fstat(dirfd(directory), &inner) != 0 || fstatat(dirfd(directory), "..", &outer, 0) != 0)
+        return strerror(errno);
+    if (inner.st_dev != outer.st_dev)
+        return "Something is mounted on it";
+    return !may_hide && has_entries(directory) ? "Directory not empty (-o nonempty hides what is in it)" : NULL;
+}
+
+/* Looks at the folder: SOUND, or the status to end with, and why stands on standard error. */
+static int try_folder(const struct words *words) {
+    DIR *directory = opendir(words->folder);
+    int status = directory == NULL && errno == ENOENT ? USAGE : FAILED;
+    const char *why = directory == NULL ? strerror(errno) : obstacle(directory, words->nonempty);
+    if (directory != NULL)
+        closedir(directory);
+    if (why == NULL)
+        return SOUND;
+    fprintf(stderr, "adf-mount: %s: %s\n", words->folder, why);
+    return status;
+}
+
+/* Names the image as the source of the mount, unless the words name another one. */
+static bool name_source(const char *image, struct fuse_args *arguments) {
+    char *whole = realpath(image, NULL), *source, *options = NULL;
+    if (asprintf(&source, "fsname=%s", whole == NULL ? image : whole) < 0)
+        source = NULL;
+    bool is_named = source != NULL && fuse_opt_add_opt_escaped(&options, source) == 0 &&
+                    fuse_opt_insert_arg(arguments, 1, options) == 0 && fuse_opt_insert_arg(arguments, 1, "-o") == 0;
+    free(options);
+    free(source);
+    free(whole);
+    return is_named;
 }
 
 /* Mounts until the folder is unmounted. The volume never changes, so the host may keep what it was told for a day. */
-static int mount_volume(struct fuse_args *arguments) {
-    if (fuse_opt_insert_arg(arguments, 1, "-oentry_timeout=86400,attr_timeout=86400,negative_timeout=86400") != 0 ||
-        fuse_opt_add_arg(arguments, "-oro,default_permissions,fsname=adf,subtype=adf") != 0)
+static int mount_volume(const struct words *words, struct fuse_args *arguments) {
+    if (!name_source(words->image, arguments) ||
+        fuse_opt_insert_arg(arguments, 1, "-oentry_timeout=86400,attr_timeout=86400,negative_timeout=86400") != 0 ||
+        fuse_opt_add_arg(arguments, "-oro,default_permissions,subtype=adf") != 0)
         return FAILED;
     int answer = fuse_main(arguments->argc, arguments->argv, &OPERATIONS, NULL);
     return answer == 0 ? SOUND : answer <= 2 ? USAGE : FAILED;
@@ -280,12 +331,14 @@ static int run(const struct words *words, bool is_parsed, struct fuse_args *argu
         printf("adf-mount %s, libfuse %s\n", ADF_VERSION, fuse_pkgversion());
         return SOUND;
     }
-    if (!is_parsed || words->help || words->image == NULL || words->others != 1) {
+    if (!is_parsed || words->help || words->folder == NULL) {
         fputs("usage: adf-mount IMAGE FOLDER [-f] [-o OPTION,..]    (man adf-mount)\n", words->help ? stdout : stderr);
         return words->help ? SOUND : USAGE;
     }
-    int status = open_volume(words->image);
-    return status == SOUND ? mount_volume(arguments) : status;
+    int status = try_folder(words);
+    if (status == SOUND)
+        status = open_volume(words->image);
+    return status == SOUND ? mount_volume(words, arguments) : status;
 }
 
 int main(int count, char **given) {
@@ -295,5 +348,6 @@ int main(int count, char **given) {
     int status = run(&words, is_parsed, &arguments);
     fuse_opt_free_args(&arguments);
     free(words.image);
+    free(words.folder);
     return status;
 }

@@ -17,8 +17,9 @@ Texts are in Latin-1, as Amigas have them, so each byte is one character and not
 as well, and mean themselves. `raw_label`, `raw_name`, `raw_path` and `raw_comment` are the bytes.
 
 The shared library is the one that `adf.load(path)` is given; else the one that ADF_LIBRARY names; else libadf.so.1, where the
-loader finds it; else libadf.so.1 or libadf.so beside this file. include/adf.h says what its calls promise. A volume may be
-used by many threads at once.
+loader finds it; else libadf.so.1 or libadf.so in one of these folders: that of this file, PREFIX/lib if this file is installed
+in PREFIX, and PREFIX/lib if the program PREFIX/bin/adf is on the path. include/adf.h says what its calls promise. Threads may
+share a volume.
 """
 
 import bisect
@@ -30,6 +31,7 @@ import functools
 import io
 import os
 import re
+import shutil
 
 BLOCK = 512
 MOST_BYTES = BLOCK * 1_048_576
@@ -37,7 +39,7 @@ NO_MEMORY = 23
 KINDS = ("ofs", "ffs")
 ROLES = ("free", "boot", "root", "page", "map extension", "header", "extension", "data")
 SONAME = "libadf.so.1"
-FIRST_ROOM, FIRST_OUTPUT, MOST_ERRORS, LONGEST_CAUSE = 2048, 4096, 4096, 64
+FIRST_ROOM, FIRST_OUTPUT, MOST_OUTPUT, MOST_ERRORS, LONGEST_CAUSE = 2048, 4096, 1 << 32, 4096, 64
 EPOCH = datetime.datetime(1978, 1, 1)
 LAST_DAY = (datetime.datetime.max - EPOCH).days
 
@@ -73,13 +75,20 @@ _CALLS = {
 _library = None
 
 
+def _places():
+    """Where the shared library may be, in the order in which it is looked for."""
+    beside, program = os.path.dirname(os.path.abspath(__file__)), shutil.which("adf")
+    folders = [beside, os.path.join(beside, "..", "..")]
+    if program:
+        folders.append(os.path.join(os.path.dirname(os.path.realpath(program)), "..", "lib"))
+    return [SONAME, *(os.path.normpath(os.path.join(folder, name)) for folder in folders for name in (SONAME, "libadf.so"))]
+
+
 def load(path=None):
     """Takes the shared library from here on, as the head of this file says; ImportError where it cannot be loaded."""
     global _library
-    given, beside = path or os.environ.get("ADF_LIBRARY"), os.path.dirname(os.path.abspath(__file__))
-    names = [SONAME, os.path.join(beside, SONAME), os.path.join(beside, "libadf.so")]
-    said = None
-    for name in [os.path.abspath(given)] if given else names:
+    given, said = path or os.environ.get("ADF_LIBRARY"), None
+    for name in [os.path.abspath(given)] if given else _places():
         try:
             library = ctypes.CDLL(name)
             for call, (answer, *types) in _CALLS.items():
@@ -166,13 +175,14 @@ def _run(call, program, words, given):
         output = ctypes.create_string_buffer(room)
         rooms = (output, room, errors, MOST_ERRORS, ctypes.byref(moved))
         status = call(line, len(line), given, len(given), *rooms)
-        if not moved.output_full:
-            return status, output.raw[: moved.output], errors.raw[: moved.errors]
-        room *= 4
+        if not moved.output_full or room >= MOST_OUTPUT:
+            return status, ctypes.string_at(output, moved.output), ctypes.string_at(errors, moved.errors)
+        room = min(4 * room, MOST_OUTPUT)
 
 
 def run(words, given=b""):
-    """Runs the command `adf` with these words over the input: its status, and what it wrote to output and to errors."""
+    """Runs the command `adf` with these words over the input: its status, and what it wrote to output and to errors.
+    An output of more than 4 GiB is cut there, with status 3 and `write fault` on errors."""
     return _run(_calls().adf_run, "adf", words, given)
 
 
@@ -217,7 +227,7 @@ class Survey:
     def _answer(self, words, path=None):
         status, output, errors = _run(_calls().adf_survey_run, "adf-survey", words, self.image)
         if status == 3:
-            raise MemoryError
+            raise MemoryError(errors.decode("ascii").strip())
         if errors in (b"no such path\n", b"bad path\n"):
             raise KeyError(path)
         if errors == b"not a file\n":

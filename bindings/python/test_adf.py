@@ -10,6 +10,7 @@ import struct
 import tempfile
 import threading
 import unittest
+import unittest.mock
 
 import adf
 
@@ -183,6 +184,14 @@ class Refusals(unittest.TestCase):
         self.assertEqual(len(adf.run(["build"], b"volume ffs 20000\n")[1]), 20000 * 512)
         with self.assertRaises(ValueError):
             adf.run(["cat", "a\0b"], image_of())
+
+    def test_cuts_output_at_the_largest_room(self):
+        manifest, image = b"volume ofs 80\n", built("volume ofs 80\n")
+        for room, answer in ((80 * 512, (0, image, b"")), (80 * 512 - 1, (3, image[:-1], b"write fault\n"))):
+            with unittest.mock.patch.object(adf, "MOST_OUTPUT", room):
+                status, output, errors = adf.run(["build"], manifest)
+            self.assertEqual((status, errors), answer[::2])
+            self.assertTrue(answer[1].startswith(output))
 
     def test_says_that_there_is_no_library(self):
         for path in ("/nix/libadf.so", adf.__file__):

@@ -1,9 +1,14 @@
-use crate::ffi::{self, Program};
+use crate::ffi::{self, Moved, Program};
+
+const FIRST_OUTPUT: usize = 1 << 20;
+const MOST_OUTPUT: usize = 1 << 32;
+const MOST_ERRORS: usize = 1024;
 
 /// What a run of the command came to.
 #[derive(Clone, Debug, PartialEq, Eq)]
 pub struct Answer {
-    /// 0, or 1 where the input is refused or has findings, 2 where the words are refused, 3 where memory was.
+    /// 0, or 1 where the input is refused or has findings, 2 where the words are refused, 3 where memory was, or where the
+    /// output has more than 4 GiB: it is then cut there, and errors say `write fault`.
     pub status: u8,
     pub output: Vec<u8>,
     pub errors: Vec<u8>,
@@ -27,17 +32,61 @@ fn run_program(program: Program, name: &str, words: &[&str], input: &[u8]) -> An
         line.extend_from_slice(word.as_bytes());
         line.push(0);
     }
-    let mut errors = vec![0; 1024];
-    let mut room = input.len().max(1 << 20);
+    let first = input.len().clamp(FIRST_OUTPUT, MOST_OUTPUT);
+    run_with_more(first, MOST_OUTPUT, |output, errors| ffi::run(program, &line, input, output, errors))
+}
+
+/// Calls with a room for output that is doubled while it is too small, up to the largest.
+fn run_with_more(first: usize, most: usize, mut call: impl FnMut(&mut [u8], &mut [u8]) -> (u8, Moved)) -> Answer {
+    let mut errors = vec![0; MOST_ERRORS];
+    let mut output = Vec::new();
+    let mut room = first;
     loop {
-        let mut output = vec![0; room];
-        let (status, moved) = ffi::run(program, &line, input, &mut output, &mut errors);
-        if moved.output_full {
-            room *= 2;
-            continue;
+        if output.try_reserve_exact(room).is_err() {
+            return Answer { status: 3, output: Vec::new(), errors: b"no memory\n".to_vec() };
         }
-        output.truncate(moved.output);
-        errors.truncate(moved.errors);
-        return Answer { status, output, errors };
+        output.resize(room, 0);
+        let (status, moved) = call(&mut output, &mut errors);
+        if !moved.output_full || room >= most {
+            output.truncate(moved.output);
+            errors.truncate(moved.errors);
+            return Answer { status, output, errors };
+        }
+        output.clear();
+        room = (2 * room).min(most);
+    }
+}
+
+#[cfg(test)]
+mod tests {
+    use super::*;
+
+    /// A command of so many bytes of output, and how often it was called.
+    fn answer_of(length: usize) -> (Answer, usize) {
+        let mut calls = 0;
+        let answer = run_with_more(4, 64, |output, errors| {
+            calls += 1;
+            let (written, is_full) = (length.min(output.len()), length > output.len());
+            output[..written].fill(b'A');
+            let said: &[u8] = if is_full { b"write fault\n" } else { b"" };
+            errors[..said.len()].copy_from_slice(said);
+            let status = if is_full { 3 } else { 0 };
+            (status, Moved { output: written, errors: said.len(), output_full: is_full, ..Moved::default() })
+        });
+        (answer, calls)
+    }
+
+    #[test]
+    fn room_grows_until_the_output_fits() {
+        for (length, calls) in [(0, 1), (4, 1), (5, 2), (33, 5), (64, 5)] {
+            let whole = Answer { status: 0, output: vec![b'A'; length], errors: Vec::new() };
+            assert_eq!(answer_of(length), (whole, calls), "{length}");
+        }
+    }
+
+    #[test]
+    fn output_is_cut_at_the_largest_room() {
+        let cut = Answer { status: 3, output: vec![b'A'; 64], errors: b"write fault\n".to_vec() };
+        assert_eq!(answer_of(65), (cut, 5));
     }
 }

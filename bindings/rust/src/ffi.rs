@@ -135,7 +135,7 @@ pub(crate) fn index(image: &[u8]) -> Result<Tables, Refused> {
     let (mut entries, mut blocks) = (with_room::<Record>(most)?, with_room::<u32>(most)?);
     let (entries_room, blocks_room) = (entries.capacity(), blocks.capacity());
     let mut contents = Contents::default();
-    // "A pointer to bytes leads to as many as its length or room says", and "a room may hold anything before the call".
+    // "A pointer to bytes has as many bytes as its length or room says", and "buffers and structs need not be initialised".
     let answer = unsafe {
         adf_index(
             image.as_ptr(),
@@ -150,8 +150,8 @@ pub(crate) fn index(image: &[u8]) -> Result<Tables, Refused> {
     if let Some(cause) = Cause::from_number(answer) {
         return Err(Refused { cause, block: contents.block });
     }
-    // "fills two tables, each as far as there is room"; "contents->entries and contents->data_blocks tell how many there are of
-    // each": so many were written, and no more than there is room for.
+    // "fills two tables, each as far as there is room"; "contents->entries and contents->data_blocks are the whole numbers": so
+    // many were written, and no more than there is room for.
     unsafe {
         entries.set_len(contents.entries.min(entries_room));
         blocks.set_len(contents.data_blocks.min(blocks_room));
@@ -165,7 +165,7 @@ pub(crate) fn index(image: &[u8]) -> Result<Tables, Refused> {
 pub(crate) fn owners(image: &[u8]) -> Result<Vec<u8>, Refused> {
     let mut roles = with_room(image.len() / 512)?;
     roles.resize(image.len() / 512, 0);
-    // "A pointer to bytes leads to as many as its length or room says".
+    // "A pointer to bytes has as many bytes as its length or room says".
     let answer = unsafe { adf_owners(image.as_ptr(), image.len(), roles.as_mut_ptr(), roles.len()) };
     match Cause::from_number(answer) {
         None => Ok(roles),
@@ -176,7 +176,7 @@ pub(crate) fn owners(image: &[u8]) -> Result<Vec<u8>, Refused> {
 /// The number of the entry under a path in escape form, 0 for the root.
 pub(crate) fn find(entries: &[Record], path: &[u8]) -> Result<usize, NotFound> {
     let mut node = 0;
-    // "A pointer to bytes leads to as many as its length or room says"; "a node that is found is at most count".
+    // "A pointer to bytes has as many bytes as its length or room says"; "node is at most count".
     let answer = unsafe { adf_find(entries.as_ptr(), entries.len(), path.as_ptr(), path.len(), &mut node) };
     match answer {
         0 => Ok(node),
@@ -189,7 +189,7 @@ pub(crate) fn find(entries: &[Record], path: &[u8]) -> Result<usize, NotFound> {
 /// Puts bytes of a file from an offset on into the room, and answers how many.
 pub(crate) fn read(image: &[u8], tables: &Tables, node: usize, offset: usize, room: &mut [u8]) -> usize {
     let (entries, blocks) = (&tables.entries, &tables.blocks);
-    // "What is written here (not const) overlaps nothing else that is passed"; "the answer is at most room_length".
+    // "What it writes (not const) overlaps nothing else that is passed"; "the result is still at most room_length".
     unsafe {
         adf_read(
             image.as_ptr(),
@@ -209,7 +209,7 @@ pub(crate) fn read(image: &[u8], tables: &Tables, node: usize, offset: usize, ro
 /// The text of a cause, empty where no cause has the number.
 pub(crate) fn cause_text(cause: u8) -> String {
     let mut room = [0; 64];
-    // "A pointer to bytes leads to as many as its length or room says".
+    // "A pointer to bytes has as many bytes as its length or room says".
     let length = unsafe { adf_cause_text(cause, room.as_mut_ptr(), room.len()) };
     String::from_utf8_lossy(&room[..length.min(room.len())]).into_owned()
 }
@@ -228,8 +228,8 @@ pub(crate) fn run(program: Program, words: &[u8], input: &[u8], output: &mut [u8
         Program::Adf => adf_run,
         Program::Survey => adf_survey_run,
     };
-    // "What is written here (not const) overlaps nothing else that is passed"; "a room may hold anything before the call, and so
-    // may a struct, but for its bools, which are true or false".
+    // "What it writes (not const) overlaps nothing else that is passed"; "buffers and structs need not be initialised, except
+    // for the bools of a struct, which are true or false".
     let status = unsafe {
         call(
             words.as_ptr(),
