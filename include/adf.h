@@ -212,8 +212,9 @@ uint8_t adf_find(const struct adf_entry *entries, size_t count, const uint8_t *p
 
 /* Copies the bytes of file `node` from byte `offset` on into the room, as many as there are and fit, and returns how many: 0
  * for the root, a directory, a node past the last entry, and an offset past the end. The rest of the room is unchanged. The
- * image and the tables are those of one call of adf_index, whole and unchanged; with any others, the result is still at most
- * room_length, each byte that is copied is one of the image's, and the rest of the room is unchanged.
+ * image and the tables are those of one call of adf_index, whole and unchanged. With any others the same is read: at most
+ * `size` bytes of the data areas of the blocks that the table names from the entry's `first` on, up to the first block that
+ * the image does not have.
  *
  * A budget, by reading the code and not proved: the work is proportional to the bytes that are copied.
  */

@@ -6,7 +6,7 @@ ghost use Rattle.adf_tree.specs.Tree.{Tree, find};
 ghost use Rattle.adf_volume.specs.Fits.{Fits};
 ghost use Rattle.adf_volume.specs.Layout.{Layout};
 ghost use Rattle.adf_volume.specs.Start.{IsBegun};
-ghost use Rattle.adf_memory.specs.Areas.{AreBytesOf};
+ghost use Rattle.adf_memory.specs.Areas.{node_from};
 ghost use Rattle.adf_memory.specs.Rooms.{filled};
 ghost use Rattle.adf_memory.specs.Tables.{IsTableOf, block_table, bytes_at, contents_of, entry_table, refused_at};
 ghost use Rattle.adf_memory.specs.Verdicts.{IsFirstCause, IsVerdictNumber, OnFault, WantsMemory};
@@ -102,8 +102,11 @@ pub extern "C" fn adf_read(
         → entries.now ≡ entry_table t l → blocks.now ≡ block_table l
         → room.new ≡ filled (drop offset (bytes_at t node)) room.old }
 
-    // For any tables the bytes are bytes of the image, and nothing behind them changes.
-    ensures image { AreBytesOf image.now (take result room.new) }
+    // For any tables they are what the blocks hold that the tables name, up to the first that the image does not have.
+    ensures any_count { result ≡ min (length room.old)
+        (length (node_from image.now entries.now blocks.now node offset)) }
+    ensures any_bytes { room.new
+        ≡ filled (node_from image.now entries.now blocks.now node offset) room.old }
     ensures behind { drop result room.new ≡ drop result room.old }
 {
     read_bytes(image, entries, blocks, node, offset, room)

@@ -2,7 +2,7 @@
 use Rattle.std.specs.Prelude.{◌≡◌, ◌+◌, ◌≤◌, ◌<◌, ℕ, List, [], ◌∷◌, ◌++◌, get_or, length, min, take, drop, set}
 use Rattle.std.proofs.Common.{zero, suc, refl, sym, ap, ◌∙◌, arith, inl, inr, append_assoc, length-append, length-take, take_all}
 use Rattle.std.proofs.Math.ListN.{drop_of_length-le}
-use Rattle.std.proofs.Math.Seq.{take-nil}
+use Rattle.std.proofs.Math.Seq.{drop-nil, take-nil}
 use Rattle.std.proofs.lemmas.Bool.{cases_lt}
 use Rattle.std.proofs.lemmas.List.{length-take-le, take-append-drop, take-take, take_more}
 use Rattle.adf_memory.specs.Rooms.{filled}
@@ -99,3 +99,27 @@ filled_part q m xs room is le =
           let same : take (length room) (take q xs) ≡ take m xs = take_all (length room) (take q xs) (omega arith) ∙ ap (λ n. take n xs) (sym all) in
           ap (λ ys. ys ++ drop m room) (sym same) ∙ ap (λ n. take (length room) (take q xs) ++ drop n room) (all ∙ sym long)
     ]
+
+-- as many as there are and fit stand at the front, and nothing behind them changed
+pub filled_so : (n : ℕ) (xs now room : List ℕ) → n ≡ min (length room) (length xs) → take n now ≡ take n xs → drop n now ≡ drop n room
+    → now ≡ filled xs room
+filled_so n xs now room is front behind =
+    sym (take-append-drop n now) ∙ ap (λ ys. ys ++ drop n now) front ∙ ap (λ ys. take n xs ++ ys) behind
+    ∙ filled_part (length xs) n xs room is (omega arith) ∙ ap (λ ys. filled ys room) (take_all (length xs) xs (omega arith))
+
+-- what fills the front part of a room, and the room behind that part
+pub filled_within : (m q : ℕ) (xs room : List ℕ) → m ≡ min (length room) q → filled xs (take m room) ++ drop m room ≡ filled (take q xs) room
+filled_within m q xs [] is = ap (λ ys. filled xs ys ++ drop m []) (take-nil m) ∙ ap (λ ys. ys ++ drop m []) (no_room xs) ∙ drop-nil m ∙ sym (no_room (take q xs))
+filled_within zero zero xs (r ∷ rs) is = ap (λ ys. ys ++ r ∷ rs) (no_room xs) ∙ sym (ap (λ ys. filled ys (r ∷ rs)) (take_zero xs) ∙ filled_none (r ∷ rs))
+filled_within zero (suc q) xs (r ∷ rs) is = absurd (omega arith)
+filled_within (suc m) zero xs (r ∷ rs) is = absurd (omega arith)
+filled_within (suc m) (suc q) [] (r ∷ rs) is =
+    ap (λ ys. ys ++ drop m rs) (filled_none (r ∷ take m rs)) ∙ ap (λ ys. r ∷ ys) (take-append-drop m rs) ∙ sym (filled_none (r ∷ rs))
+filled_within (suc m) (suc q) (x ∷ xs) (r ∷ rs) is = ap (λ ys. x ∷ ys) (filled_within m q xs rs (omega arith))
+
+-- nothing behind what is filled changes
+pub behind_filled : (n : ℕ) (xs room : List ℕ) → n ≡ min (length room) (length xs) → drop n (filled xs room) ≡ drop n room
+behind_filled n xs [] is = ap (drop n) (no_room xs)
+behind_filled n [] (r ∷ rs) is = ap (drop n) (filled_none (r ∷ rs))
+behind_filled zero (x ∷ xs) (r ∷ rs) is = absurd (omega arith)
+behind_filled (suc n) (x ∷ xs) (r ∷ rs) is = behind_filled n xs rs (omega arith)

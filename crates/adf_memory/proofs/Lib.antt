@@ -8,5 +8,6 @@ pub mod CheckedVolumes
 pub mod ToldCauses
 -- the tables of a volume
 pub mod TableLaws
+pub mod TableBytes
 pub mod Readings
 pub mod TableNames

@@ -1,15 +1,14 @@
 // Reading files through the tables.
 
-ghost use Rattle.std.specs.Prelude.{◌≡◌, ◌≤◌, ◌<◌, ◌+◌, ◌-◌, ◌*◌, ◌^◌, ◌++◌, ℕ, List, IsSome, IfSome, length, min, take, drop};
+ghost use Rattle.std.specs.Prelude.{◌≡◌, ◌≤◌, ◌<◌, ◌+◌, ◌-◌, ◌^◌, ◌++◌, ℕ, List, [], IfSome, IfNone, length, min, take, drop};
 ghost use Rattle.adf_fields.specs.Words.{block};
 ghost use Rattle.adf_tree.specs.Tree.{Tree};
-ghost use Rattle.adf_blocks.specs.Sizes.{chunk};
 ghost use Rattle.adf_volume.specs.Fits.{Fits};
-ghost use Rattle.adf_volume.specs.Image.{area, joined, kind_of};
+ghost use Rattle.adf_volume.specs.Image.{area, kind_of};
 ghost use Rattle.adf_volume.specs.Layout.{Layout};
 ghost use Rattle.adf_memory.specs.Rooms.{filled};
 ghost use Rattle.adf_memory.specs.Tables.{block_table, bytes_at, entry_table};
-ghost use Rattle.adf_memory.specs.Areas.{AreBlocksOf, AreBytesOf, AreDatasOf, bytes_in_blocks};
+ghost use Rattle.adf_memory.specs.Areas.{bytes_from, file_from, node_from};
 
 use crate::tables::TableEntry;
 use adf_blocks::{DATA_BYTES, DATA_ROOM, chunk_len};
@@ -38,15 +37,13 @@ fn area<'a>(block: Block<'a>, kind: Kind) -> &'a [u8]
     }
 }
 
-// What these data blocks hold from a place on, up to the end of the data area where it lies.
+// What these data blocks hold from a place on, up to the end of the data area where it lies; none past the last of them, and
+// where the image does not have the block.
 fn part_at<'a>(image: &'a [u8], kind: Kind, datas: &[u32], at: usize) -> Option<&'a [u8]>
+    ensures none { IfNone result (bytes_from image.entry.now kind datas.now at ≡ []) }
     ensures some { IfSome result (λ part. 0 < length part.now) }
-    ensures there { (ds : List ℕ) → AreBlocksOf image.entry.now datas.now ds
-        → at < chunk kind * length ds → IsSome result }
-    ensures part { IfSome result (λ part. (ds : List ℕ)
-        → AreBlocksOf image.entry.now datas.now ds → at < chunk kind * length ds
-        → part.now ≡ take (length part.now) (drop at (joined image.entry.now kind ds))) }
-    ensures image { IfSome result (λ part. AreBytesOf image.entry.now part.now) }
+    ensures part { IfSome result (λ part. (more : List ℕ)
+        × (bytes_from image.entry.now kind datas.now at ≡ part.now ++ more)) }
 {
     let size = chunk_len(kind);
     let place = at / size;
@@ -73,15 +70,9 @@ fn put_part(room: &mut [u8], put: usize, part: &[u8]) -> usize
 // Fills the room with what these data blocks hold from a place on, and answers how many bytes it put.
 fn put_bytes(image: &[u8], kind: Kind, datas: &[u32], from: usize, room: &mut [u8]) -> usize
     requires { from + length room.old < 2 ^ 64 }
-    ensures within { result ≤ length room.new }
-    ensures all { (ds : List ℕ) → AreBlocksOf image.now datas.now ds
-        → from + length room.old ≤ chunk kind * length ds
-        → result ≡ length room.old }
-    ensures bytes { (ds : List ℕ) → AreBlocksOf image.now datas.now ds
-        → from + length room.old ≤ chunk kind * length ds
-        → room.new ≡ take (length room.old) (drop from (joined image.now kind ds)) }
-    ensures image { AreBytesOf image.now (take result room.new) }
-    ensures behind { drop result room.new ≡ drop result room.old }
+    ensures count { result
+        ≡ min (length room.old) (length (bytes_from image.now kind datas.now from)) }
+    ensures bytes { room.new ≡ filled (bytes_from image.now kind datas.now from) room.old }
 {
     let mut put = 0;
     while put < room.len() {
@@ -101,14 +92,9 @@ fn read_file(
     offset: usize,
     room: &mut [u8],
 ) -> usize
-    ensures within { result ≤ length room.new }
-    ensures count { (ds : List ℕ) → AreDatasOf image.now file.now blocks.now ds
-        → result ≡ min (length room.old)
-        (length (drop offset (bytes_in_blocks image.now file.now ds))) }
-    ensures bytes { (ds : List ℕ) → AreDatasOf image.now file.now blocks.now ds
-        → room.new ≡ filled (drop offset (bytes_in_blocks image.now file.now ds)) room.old }
-    ensures image { AreBytesOf image.now (take result room.new) }
-    ensures behind { drop result room.new ≡ drop result room.old }
+    ensures count { result
+        ≡ min (length room.old) (length (file_from image.now file.now blocks.now offset)) }
+    ensures bytes { room.new ≡ filled (file_from image.now file.now blocks.now offset) room.old }
 {
     let size = file.size as usize;
     let first = file.first as usize;
@@ -126,6 +112,29 @@ fn read_file(
         offset,
         &mut room[..count],
     )
+}
+
+// Puts the bytes of a node from a place on into the room, as many as there are and fit, and answers how many.
+fn read_node(
+    image: &[u8],
+    entries: &[TableEntry],
+    blocks: &[u32],
+    node: usize,
+    offset: usize,
+    room: &mut [u8],
+) -> usize
+    ensures count { result ≡ min (length room.old)
+        (length (node_from image.now entries.now blocks.now node offset)) }
+    ensures bytes { room.new
+        ≡ filled (node_from image.now entries.now blocks.now node offset) room.old }
+{
+    if node == 0 {
+        return 0;
+    }
+    if entries.len() < node {
+        return 0;
+    }
+    read_file(image, &entries[node - 1], blocks, offset, room)
 }
 
 /// Reads a file through the tables of its image, from `offset` on, as many bytes as there are and as fit into `room`. Returns
@@ -148,15 +157,12 @@ pub fn read_bytes(
         → entries.now ≡ entry_table t l → blocks.now ≡ block_table l
         → room.new ≡ filled (drop offset (bytes_at t node)) room.old }
 
-    // For any tables the bytes are bytes of the image, and nothing behind them changes.
-    ensures image { AreBytesOf image.now (take result room.new) }
+    // For any tables they are what the blocks hold that the tables name, up to the first that the image does not have.
+    ensures any_count { result ≡ min (length room.old)
+        (length (node_from image.now entries.now blocks.now node offset)) }
+    ensures any_bytes { room.new
+        ≡ filled (node_from image.now entries.now blocks.now node offset) room.old }
     ensures behind { drop result room.new ≡ drop result room.old }
 {
-    if node == 0 {
-        return 0;
-    }
-    if entries.len() < node {
-        return 0;
-    }
-    read_file(image, &entries[node - 1], blocks, offset, room)
+    read_node(image, entries, blocks, node, offset, room)
 }

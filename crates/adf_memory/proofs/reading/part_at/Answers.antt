@@ -1,18 +1,20 @@
-use Rattle.std.proofs.Common.{ap, ◌∙◌, refl, ◌/◌, ◌%◌, get_or, length-take, length-drop, arith}
-use Rattle.adf_volume.specs.Image.{area}
-use Rattle.adf_memory.proofs.Readings.{area_size, part_known, part_told}
+use Rattle.std.proofs.Common.{ap, suc, sym, ◌∙◌, refl, ◌++◌, ◌/◌, ◌%◌, get_or, drop, length-take, length-drop, arith}
+use Rattle.std.proofs.lemmas.List.{take_rest}
+use Rattle.adf_volume.specs.Image.{area, joined}
+use Rattle.adf_memory.specs.Areas.{front_blocks}
+use Rattle.adf_memory.proofs.TableBytes.{area_size, bytes_here}
 use Rattle.adf_memory.proofs.reading.part_at.Goals as goal
 
 pub returns-clause-part : goal.returns-clause-part
-returns-clause-part c = λ ds is lt.
-    part_told c.args.image.now c.args.datas.now ds c.area.result.now c.args.kind c.args.at c.chunk_len-size.result is lt c.chunk_len-size.ensures.exact
-    (c.area.ensures ∙ ap (area c.args.kind) c.in_ok-block.ensures.bytes)
-
-pub returns-clause-image : goal.returns-clause-image
-returns-clause-image c =
+returns-clause-part c =
     let size = c.chunk_len-size.result in
-    part_known c.args.image.now c.area.result.now c.in_ok-block.block c.args.kind (get_or c.args.datas.now (c.args.at / size) 0) _ (c.args.at % size)
-    c.area.ensures c.in_ok-block.ensures.bytes
+    let held = c.area.result.now in
+    let rest = joined c.args.image.now c.args.kind (front_blocks c.args.image.now (drop (suc (c.args.at / size)) c.args.datas.now)) in (
+      rest,
+      bytes_here c.args.image.now c.args.datas.now held c.args.kind c.args.at size c.chunk_len-size.ensures.exact (omega arith)
+          (c.in_ok-block.ensures.whole.0 refl) (c.area.ensures ∙ ap (area c.args.kind) c.in_ok-block.ensures.bytes)
+          ∙ ap (λ xs. xs ++ rest) (sym (take_rest held (c.args.at % size))),
+    )
 
 pub slice_bounds-result-count : goal.slice_bounds-result-count
 slice_bounds-result-count c =

@@ -1,22 +1,39 @@
-use Rattle.std.proofs.Common.{ap, sym, ◌∙◌, ◌-◌, arith, length, min, take, drop, take_all}
-use Rattle.adf_volume.specs.Image.{joined}
-use Rattle.adf_memory.proofs.Readings.{behind_more, bytes_more, more_known}
+use Rattle.std.proofs.Common.{ap, ◌∙◌, ◌-◌, arith, length, length-append, length-drop, min}
+use Rattle.adf_memory.specs.Areas.{bytes_from}
+use Rattle.adf_memory.proofs.Filled.{filled_so}
+use Rattle.adf_memory.proofs.TableBytes.{all_put, behind_more, bytes_behind, bytes_more}
 use Rattle.adf_memory.proofs.reading.put_bytes.Goals as goal
 
 pub loop-put-preserved : goal.loop-put-preserved
-loop-put-preserved c = record {
-  within = omega (arith, c.put_part-put.ensures.count, c.put_part-put.auto.room);
-  bytes = (λ ds is le. bytes_more (joined c.args.image.now c.args.kind ds) c.loop-put.room c.put_part-put.new.room c.in-Some.part.now
-      c.loop-put.put c.args.from (min (length c.in-Some.part.now) (length c.loop-put.room - c.loop-put.put)) c.put_part-put.result
-      c.put_part-put.ensures.front c.put_part-put.ensures.count (c.loop-put.invariant.bytes ds is le)
-      (c.in-Some.ensures.part ds is (omega arith)) (omega arith));
-  image = more_known c.args.image.now c.loop-put.room c.put_part-put.new.room c.in-Some.part.now c.loop-put.put _ c.put_part-put.result
-      c.put_part-put.ensures.front c.loop-put.invariant.image c.in-Some.ensures.image;
-  behind = c.put_part-put.ensures.behind ∙ behind_more c.loop-put.room c.args.room.now c.loop-put.put c.put_part-put.result
-      (omega (arith, c.put_part-put.ensures.count)) c.loop-put.invariant.behind;
-}
+loop-put-preserved c =
+    let all = bytes_from c.args.image.now c.args.kind c.args.datas.now c.args.from in
+    let part = c.in-Some.part.now in
+    let more = c.in-Some.ensures.part in
+    let room = c.put_part-put.new.room in
+    let m = min (length part) (length c.loop-put.room - c.loop-put.put) in
+    let here = bytes_behind c.args.image.now c.args.kind c.args.datas.now c.args.from c.loop-put.put c.loop-put.invariant.enough ∙ more.1 in
+    record {
+      within = omega (arith, c.put_part-put.ensures.count, c.put_part-put.auto.room);
+      enough = omega (arith, c.put_part-put.ensures.count, ap length here, length-drop c.loop-put.put all, length-append part more.0);
+      bytes = bytes_more all c.loop-put.room room part more.0 c.loop-put.put m c.put_part-put.result
+          c.put_part-put.ensures.front c.put_part-put.ensures.count c.loop-put.invariant.bytes here (omega arith);
+      behind = c.put_part-put.ensures.behind ∙ behind_more c.loop-put.room c.args.room.now c.loop-put.put c.put_part-put.result
+          (omega (arith, c.put_part-put.ensures.count)) c.loop-put.invariant.behind;
+    }
+
+pub returns-in_default-clause-count : goal.returns-in_default-clause-count
+returns-in_default-clause-count c =
+    let all = bytes_from c.args.image.now c.args.kind c.args.datas.now c.args.from in
+    let none = bytes_behind c.args.image.now c.args.kind c.args.datas.now c.args.from c.loop-put.put c.loop-put.invariant.enough
+    ∙ c.in_default.ensures.none in
+    omega (arith, all_put all c.loop-put.put c.loop-put.invariant.enough none)
+
+pub returns-in_default-clause-bytes : goal.returns-in_default-clause-bytes
+returns-in_default-clause-bytes c =
+    filled_so c.loop-put.put (bytes_from c.args.image.now c.args.kind c.args.datas.now c.args.from) c.loop-put.room c.args.room.now
+    (returns-in_default-clause-count c) c.loop-put.invariant.bytes c.loop-put.invariant.behind
 
 pub returns-clause-bytes : goal.returns-clause-bytes
-returns-clause-bytes c = λ ds is le.
-    sym (take_all c.loop-put.put c.loop-put.room (omega arith)) ∙ c.loop-put.invariant.bytes ds is le
-    ∙ ap (λ n. take n (drop c.args.from (joined c.args.image.now c.args.kind ds))) (omega arith)
+returns-clause-bytes c =
+    filled_so c.loop-put.put (bytes_from c.args.image.now c.args.kind c.args.datas.now c.args.from) c.loop-put.room c.args.room.now
+    (omega arith) c.loop-put.invariant.bytes c.loop-put.invariant.behind

@@ -1,23 +1,27 @@
-use Rattle.std.proofs.Common.{◌∙◌, arith, length-take}
-use Rattle.adf_memory.proofs.Readings.{behind_kept, bytes_told_here, count_told, front_known}
+use Rattle.std.proofs.Common.{ap, ◌∙◌, ◌++◌, ◌-◌, drop, length, min, take}
+use Rattle.adf_volume.specs.Image.{kind_of}
+use Rattle.adf_memory.specs.Areas.{bytes_from}
+use Rattle.adf_memory.specs.Rooms.{filled}
+use Rattle.adf_memory.proofs.Filled.{filled_within}
+use Rattle.adf_memory.proofs.TableBytes.{count_within, kind_read}
 use Rattle.adf_memory.proofs.reading.read_file.Goals as goal
 
 pub returns-clause-count : goal.returns-clause-count
-returns-clause-count c = λ ds is.
+returns-clause-count c =
     let file = c.args.file.now in
-    count_told c.args.image.now c.args.blocks.now ds c.args.room.now c.kind_of.result file.first file.size c.args.offset c.min-count.result
-    is.listed is.enough (omega arith) c.kind_of.ensures c.min-count.ensures c.put_bytes.ensures.all
+    let part = take c.min-count.result c.args.room.now in
+    count_within c.min-count.result (file.size - c.args.offset) c.put_bytes.result
+    (bytes_from c.args.image.now (kind_of c.args.image.now) (drop file.first c.args.blocks.now) c.args.offset) c.args.room.now c.min-count.ensures
+    (c.put_bytes.ensures.count ∙ ap (λ xs. min (length part) (length xs))
+    (kind_read c.args.image.now c.args.blocks.now c.kind_of.result file.first c.args.offset c.kind_of.ensures))
 
 pub returns-clause-bytes : goal.returns-clause-bytes
-returns-clause-bytes c = λ ds is.
+returns-clause-bytes c =
     let file = c.args.file.now in
-    bytes_told_here c.args.image.now c.args.blocks.now ds c.args.room.now c.kind_of.result file.first file.size c.args.offset c.min-count.result
-    is.listed is.enough (omega arith) c.kind_of.ensures c.min-count.ensures c.put_bytes.ensures.bytes
-
-pub returns-clause-behind : goal.returns-clause-behind
-returns-clause-behind c =
-    behind_kept c.put_bytes.result c.min-count.result c.put_bytes.new.room c.args.room.now c.put_bytes.ensures.within (omega (arith, c.min-count.ensures))
-    (c.put_bytes.auto.room ∙ simp length-take (omega (arith, c.min-count.ensures))) c.put_bytes.ensures.behind
-
-pub returns-clause-image : goal.returns-clause-image
-returns-clause-image c = front_known c.args.image.now c.put_bytes.new.room _ c.put_bytes.result c.put_bytes.ensures.within c.put_bytes.ensures.image
+    let m = c.min-count.result in
+    let room = c.args.room.now in
+    ap (λ xs. xs ++ drop m room)
+    (c.put_bytes.ensures.bytes ∙ ap (λ xs. filled xs (take m room))
+    (kind_read c.args.image.now c.args.blocks.now c.kind_of.result file.first c.args.offset c.kind_of.ensures))
+    ∙ filled_within m (file.size - c.args.offset)
+    (bytes_from c.args.image.now (kind_of c.args.image.now) (drop file.first c.args.blocks.now) c.args.offset) room c.min-count.ensures
