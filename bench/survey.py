@@ -262,7 +262,7 @@ class Survey:
 
 
 def spelled(path):
-    return "/".join("".join(chr(c) if 32 <= c <= 126 and c != 92 else f"\\x{c:02x}" for c in name) for name in path)
+    return "/".join("".join(chr(c) if 32 <= c <= 126 and c not in b"\\/:" else f"\\x{c:02x}" for c in name) for name in path)
 
 
 def main():

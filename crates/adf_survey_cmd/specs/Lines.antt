@@ -3,12 +3,12 @@
 use Rattle.std.specs.Prelude.{ℕ, ◌+◌, ◌==◌, ◌&&◌, ◌||◌, Bool, true, false, List, [], ◌∷◌, ◌++◌, Option, Some, None, codes, if◌then◌else◌}
 use Rattle.std.specs.Fmt.{decimal}
 use Rattle.std.specs.List.{flat_map}
-use Rattle.adf_tree.specs.PathTexts.{path_text}
 use Rattle.adf_blocks.specs.Causes.{cause_number, cause_text}
 use Rattle.adf_volume.specs.Walk.{Role}
 use Rattle.adf_survey.specs.Concerned.{entry_of}
 use Rattle.adf_survey.specs.Lookup.{path_to}
 use Rattle.adf_survey.specs.Survey.{FindingValue}
+use Rattle.adf_texts.specs.Names.{names_text}
 use Rattle.adf_survey_cmd.specs.declared.runs.Run.{Run}
 
 -- a finding by itself
@@ -48,7 +48,7 @@ blocks_text first last =
 -- the path of the entry that a run concerns, where it concerns one
 abbrev pub entry_text : List ℕ → List (Role × ℕ) → Option ℕ → List ℕ
 entry_text image w None = []
-entry_text image w (Some n) = codes ": " ++ path_text (path_to image w n)
+entry_text image w (Some n) = codes ": " ++ names_text (path_to image w n)
 
 -- the line of a run
 abbrev pub findings_line : List ℕ → List (Role × ℕ) → Run → List ℕ

@@ -1,26 +1,66 @@
 -- A path with one more name.
-use Rattle.std.proofs.Common.{◌≡◌, ◌<◌, ◌+◌, ◌++◌, ◌==◌, ℕ, List, [], ◌∷◌, Bool, true, false, if◌then◌else◌, append_assoc, refl, sym, arith}
-use Rattle.std.proofs.Common.{get_or, length, map, take}
+use Rattle.std.proofs.Common.{◌≡◌, ◌<◌, ◌+◌, ◌++◌, ◌==◌, ◌&&◌, ◌∙◌, ℕ, List, [], ◌∷◌, Bool, true, false, if◌then◌else◌, ap, append_assoc, refl, sym, arith}
+use Rattle.std.proofs.Common.{get_or, length, map, nat_le, take}
 use Rattle.std.specs.Borrow.{Bor}
-use Rattle.std.proofs.lemmas.List.{get_or-map, take-map, length-map}
-use Rattle.adf_tree.specs.Escapes.{escaped}
-use Rattle.adf_tree.specs.PathTexts.{path_text, with_name}
-use Rattle.adf_tree.proofs.PathParts.{path_text_step}
+use Rattle.std.specs.List.{All, join_with_byte, list_all}
+use Rattle.std.proofs.lemmas.Bool.{and_parts, ne_eqb}
+use Rattle.std.proofs.lemmas.List.{length-map, length-take-le, map-append, take_more}
+use Rattle.std.proofs.lemmas.List.Elements.{All-head, All-tail}
+use Rattle.adf_tree.specs.Escapes.{escape_of, escaped}
+use Rattle.adf_tree.specs.PathTexts.{IsName, path_text, with_name}
+use Rattle.adf_tree.specs.Texts.{is_name_byte}
+use Rattle.adf_texts.specs.Names.{digits_of, names_text, spelled}
 
 -- a name behind a text
 pub name_put : (text name : List ℕ) (is_first : Bool) → with_name text name is_first ≡ text ++ ((if is_first then [] else 47 ∷ []) ++ escaped name)
 name_put text name true = refl
 name_put text name false = append_assoc text (47 ∷ []) (escaped name)
 
+-- a part behind others, after a `/` unless it is the first
+abbrev behind : List ℕ → List ℕ → Bool → List ℕ
+behind text part is_first = text ++ ((if is_first then [] else 47 ∷ []) ++ part)
+
+-- one part more, joined to the others
+joined_more : (parts : List (List ℕ)) (part : List ℕ) → join_with_byte 47 (parts ++ part ∷ []) ≡ behind (join_with_byte 47 parts) part (length parts == 0)
+joined_more [] part = refl
+joined_more (first ∷ []) part = refl
+joined_more (first ∷ next ∷ rest) part =
+    let text : List ℕ = join_with_byte 47 (next ∷ rest) in
+    rw (joined_more (next ∷ rest) part, ne_eqb (length (next ∷ rest)) 0 (omega arith), ne_eqb (length (first ∷ next ∷ rest)) 0 (omega arith))
+    (sym (append_assoc first (47 ∷ text) (47 ∷ part)))
+
 -- the names that references point to
 abbrev named : List (Bor (List ℕ)) → List (List ℕ)
 named path = map (λ name. name.now) path
 
+-- one name more, in a path of names that need not be valid
 pub names_step : (path : List (Bor (List ℕ))) (i : ℕ) (d : Bor (List ℕ)) → i < length path
-    → with_name (path_text (named (take i path))) (get_or path i d).now (i == 0) ≡ path_text (named (take (i + 1) path))
-names_step path i d h =
+    → names_text (named (take (i + 1) path)) ≡ behind (names_text (named (take i path))) (spelled (get_or path i d).now) (i == 0)
+names_step path i d lt =
     let now : Bor (List ℕ) → List ℕ = λ name. name.now in
-    let name = now (get_or path i d) in
-    let within : i < length (map now path) = omega (arith, length-map path now) in
-    let text = with_name (path_text (named (take i path))) name (i == 0) in
-    rw (take-map now (i + 1) path) at (path_text_step (map now path) i name text within (sym (get_or-map now path i d name h)) (rw (take-map now i path) refl))
+    let front : List (List ℕ) = map spelled (named (take i path)) in
+    let long : length front ≡ i =
+    length-map (named (take i path)) spelled ∙ length-map (take i path) now ∙ length-take-le i path (omega arith) in
+    ap (λ ps. join_with_byte 47 (map spelled (named ps))) (take_more path i d lt)
+    ∙ ap (λ ps. join_with_byte 47 (map spelled ps)) (map-append now (take i path) (get_or path i d ∷ []))
+    ∙ ap (join_with_byte 47) (map-append spelled (named (take i path)) ((get_or path i d).now ∷ []))
+    ∙ joined_more front (spelled (get_or path i d).now)
+    ∙ ap (λ n. behind (names_text (named (take i path))) (spelled (get_or path i d).now) (n == 0)) long
+
+-- a valid name is spelled by its escapes
+spelled_name : (name : List ℕ) → list_all is_name_byte name ≡ true → spelled name ≡ escaped name
+spelled_name [] h = refl
+spelled_name (c ∷ cs) h =
+    let both = and_parts (is_name_byte c) (list_all is_name_byte cs) h in
+    ap (λ b. (if b then escape_of c else digits_of c) ++ spelled cs) both.0 ∙ ap (λ text. escape_of c ++ text) (spelled_name cs both.1)
+
+-- so a path of valid names has one text
+pub one_text : (path : List (List ℕ)) → All IsName path → names_text path ≡ path_text path
+one_text path names = ap (join_with_byte 47) (parts path names)
+  where
+    parts : (path : List (List ℕ)) → All IsName path → map spelled path ≡ map escaped path
+    parts [] names = refl
+    parts (name ∷ rest) names =
+        let allowed = (All-head IsName name rest names).allowed in
+        let bytes = (and_parts (nat_le 1 (length name) && nat_le (length name) 30) (list_all is_name_byte name) allowed).1 in
+        ap (λ text. text ∷ map spelled rest) (spelled_name name bytes) ∙ ap (λ ps. escaped name ∷ ps) (parts rest (All-tail IsName name rest names))

@@ -8,6 +8,7 @@ use Rattle.adf_check.specs.Rows.{row_body}
 use Rattle.adf_check.specs.declared.row.RowBody.{RowBody}
 use Rattle.adf_check.specs.declared.row.RowBody.TheVariants.{Dir, File}
 use Rattle.adf_manifest.specs.Texts.{hex_word}
+use Rattle.adf_texts.specs.Names.{names_text}
 use Rattle.adf_texts.specs.VolumeLines.{lines_with, right_in_ten}
 
 -- the word of a row, left-aligned in four columns
@@ -25,6 +26,6 @@ abbrev pub columns : (Stamp → List ℕ) → RowBody → Meta → List ℕ
 columns date body meta = row_word body ++ (codes " " ++ (hex_word meta.protect ++ (codes " " ++ (right_in_ten (row_size body) ++ (codes " "
     ++ (date meta.stamp ++ codes " "))))))
 
--- the line of an entry with these names and this header, and the line of its note
+-- the line of an entry with these names, which need not be valid, and this header, and the line of its note
 abbrev pub head_lines : (Stamp → List ℕ) → List (List ℕ) → HeadBody → Meta → List ℕ
-head_lines date names body meta = lines_with date names (row_word (row_body body)) (row_size (row_body body)) meta
+head_lines date names body meta = lines_with date (names_text names) (row_word (row_body body)) (row_size (row_body body)) meta

@@ -56,14 +56,14 @@ abbrev pub size_text : Body → List ℕ
 size_text Dir = codes "-"
 size_text (File bytes) = decimal (length bytes)
 
--- the line with these names, this word and this size, and the line of the note
-abbrev pub lines_with : (Stamp → List ℕ) → List (List ℕ) → List ℕ → List ℕ → Meta → List ℕ
-lines_with date names word size meta = word ++ (codes " " ++ (hex_word meta.protect ++ (codes " " ++ (right_in_ten size ++ (codes " "
-    ++ (date meta.stamp ++ (codes " " ++ (path_text names ++ (codes "\n" ++ escaped_line (codes "note ") meta.comment)))))))))
+-- the line with this path, this word and this size, and the line of the note
+abbrev pub lines_with : (Stamp → List ℕ) → List ℕ → List ℕ → List ℕ → Meta → List ℕ
+lines_with date path word size meta = word ++ (codes " " ++ (hex_word meta.protect ++ (codes " " ++ (right_in_ten size ++ (codes " "
+    ++ (date meta.stamp ++ (codes " " ++ (path ++ (codes "\n" ++ escaped_line (codes "note ") meta.comment)))))))))
 
 -- the line of an entry with these names, and the line of its note
 abbrev pub entry_lines : (Stamp → List ℕ) → List (List ℕ) → Entry → List ℕ
-entry_lines date names e = lines_with date names (body_word e.body) (size_text e.body) e.meta
+entry_lines date names e = lines_with date (path_text names) (body_word e.body) (size_text e.body) e.meta
 
 -- the lines of entry n
 abbrev pub lines_of_entry : (Stamp → List ℕ) → List Entry → ℕ → List ℕ

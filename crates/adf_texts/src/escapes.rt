@@ -4,9 +4,17 @@ ghost use Rattle.std.specs.Prelude.{◌≡◌, ◌++◌, [], ◌∷◌, OnOk, if
 ghost use Rattle.std.specs.List.{list_all};
 ghost use Rattle.adf_tree.specs.Escapes.{escape_of, escaped, is_plain};
 ghost use Rattle.adf_tree.specs.PathTexts.{path_text};
+ghost use Rattle.adf_texts.specs.Names.{ValidNamesAreAlike, digits_of, name_byte, names_text, spelled};
 
 use adf_tree::{Name, hex_digit, is_plain};
 use std::alloc::AllocError;
+
+// Appends `\x` and the two digits of a byte.
+fn push_digits(text: &mut Vec<u8>, c: u8) -> Result<(), AllocError>
+    ensures { OnOk result (text.new.items ≡ text.old.items ++ digits_of c) }
+{
+    text.extend_from_slice(&[b'\\', b'x', hex_digit(c / 16), hex_digit(c % 16)])
+}
 
 // Appends the escape of a byte.
 fn push_escape(text: &mut Vec<u8>, c: u8) -> Result<(), AllocError>
@@ -16,7 +24,17 @@ fn push_escape(text: &mut Vec<u8>, c: u8) -> Result<(), AllocError>
         text.push(c)?;
         return Ok(());
     }
-    text.extend_from_slice(&[b'\\', b'x', hex_digit(c / 16), hex_digit(c % 16)])
+    push_digits(text, c)
+}
+
+// Appends the spelling of a byte of a name that need not be valid.
+fn push_name_byte(text: &mut Vec<u8>, c: u8) -> Result<(), AllocError>
+    ensures { OnOk result (text.new.items ≡ text.old.items ++ name_byte c) }
+{
+    if c == b'/' || c == b':' {
+        return push_digits(text, c);
+    }
+    push_escape(text, c)
 }
 
 // Whether the escape form of the bytes is the bytes themselves.
@@ -60,13 +78,40 @@ pub fn push_path(text: &mut Vec<u8>, path: &[Name]) -> Result<(), AllocError>
     Ok(())
 }
 
-/// Appends the text of a path of names that need not be valid.
-pub fn push_names(text: &mut Vec<u8>, path: &[&[u8]]) -> Result<(), AllocError>
-    ensures { OnOk result
-        (text.new.items ≡ text.old.items ++ path_text (map (λ name. name.now) path.now)) }
+// Appends the spelling of a name that need not be valid.
+fn push_spelled(text: &mut Vec<u8>, name: &[u8]) -> Result<(), AllocError>
+    ensures { OnOk result (text.new.items ≡ text.old.items ++ spelled name.now) }
 {
-    for (i, name) in path.iter().enumerate() {
-        push_name(text, name, i == 0)?;
+    for c in name {
+        push_name_byte(text, *c)?;
     }
     Ok(())
 }
+
+// Appends such a name, after a `/` unless it is the first.
+fn push_next(text: &mut Vec<u8>, name: &[u8], is_first: bool) -> Result<(), AllocError>
+    ensures { OnOk result (text.new.items
+        ≡ text.old.items ++ ((if is_first then [] else 47 ∷ []) ++ spelled name.now)) }
+{
+    if !is_first {
+        text.push(b'/')?;
+    }
+    push_spelled(text, name)
+}
+
+/// Appends the text of a path of names that need not be valid.
+pub fn push_names(text: &mut Vec<u8>, path: &[&[u8]]) -> Result<(), AllocError>
+    ensures { OnOk result
+        (text.new.items ≡ text.old.items ++ names_text (map (λ name. name.now) path.now)) }
+{
+    for (i, name) in path.iter().enumerate() {
+        push_next(text, name, i == 0)?;
+    }
+    Ok(())
+}
+
+/// A path of valid names has the same text by `push_names` as in `adf list`.
+#[tactic(auto, using(crate::proofs::PathSteps::one_text))]
+pub fn valid_names_are_alike()
+    ensures { ValidNamesAreAlike }
+{}

@@ -2,6 +2,7 @@
 
 ghost use Rattle.std.specs.Prelude.{◌≡◌, ◌++◌, codes, ℕ, List, OnOk, map};
 ghost use Rattle.adf_tree.specs.declared.entry.Entry.{Entry};
+ghost use Rattle.adf_tree.specs.PathTexts.{path_text};
 ghost use Rattle.adf_check.specs.Rows.{row_of_entry};
 ghost use Rattle.adf_texts.specs.RowTexts.{columns, head_lines, row_size, row_word};
 ghost use Rattle.adf_texts.specs.VolumeLines.{AreDates, blocks_line, entry_lines, escaped_line, lines_with, opening_lines, right_in_ten, text_line};
@@ -46,7 +47,7 @@ pub fn push_entry_lines(text: &mut Vec<u8>, row: &Row, path: &[Name]) -> Result<
 fn push_row_lines(text: &mut Vec<u8>, row: &Row, path: &[Name]) -> Result<(), AllocError>
     ensures { (date : Stamp → List ℕ) → AreDates date
         → OnOk result (text.new.items ≡ text.old.items
-        ++ lines_with date path.now (row_word row.now.body) (row_size row.now.body) row.now.meta) }
+        ++ lines_with date (path_text path.now) (row_word row.now.body) (row_size row.now.body) row.now.meta) }
 {
     push_columns(text, row.body, &row.meta)?;
     push_path(text, path)?;
