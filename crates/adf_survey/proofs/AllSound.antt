@@ -26,5 +26,6 @@ all_sound image w fs n h (read {s = s} {bits = bits} v d t) e g =
       unnoted = (λ f q i z same. none f i);
       exts = (λ k f q i z same. none f i);
       datas = (λ k f q i z same. none f i);
+      chains = (λ f m t j i z. absurd (none f i));
       alone = (λ ffs k b has q a i ask named. is_alone image v d n k b has (ap (λ over. owns over b) over) q a i ask named);
     }

@@ -7,11 +7,13 @@ use Rattle.adf_volume.specs.Lists.{In}
 use Rattle.adf_volume.specs.Walk.{Role, Lacks}
 use Rattle.adf_volume.specs.Walk.Role.{Head}
 use Rattle.adf_survey.specs.declared.found.Found.{Found}
+use Rattle.adf_survey.specs.declared.concern.Concern.{Concern}
+use Rattle.adf_survey.specs.declared.concern.Concern.TheVariants.{Entry, Within}
 use Rattle.adf_survey.specs.declared.part.Finding.{Finding}
 use Rattle.adf_survey.specs.declared.part.Part.{Part}
 use Rattle.adf_survey.specs.declared.part.Part.TheVariants.{Root as RootPart, Page as PagePart, MapExt as MapExtPart, Head as HeadPart}
 use Rattle.adf_survey.specs.declared.part.Part.TheVariants.{Ext as ExtPart, Data as DataPart}
-use Rattle.adf_survey.specs.Concerned.{entry_of, entry_of_nth, entry_with}
+use Rattle.adf_survey.specs.Concerned.{concern_of, concern_of_nth, concern_with}
 use Rattle.adf_survey.specs.Found.{Stands, at_key}
 use Rattle.adf_survey.specs.Marks.{blamed, is_header}
 use Rattle.adf_survey.specs.Parts.{key_of, part_role, finding_value}
@@ -19,11 +21,11 @@ use Rattle.adf_survey.specs.Survey.{BitsTell, Course, FindingValue, IsCourse}
 use Rattle.adf_survey.proofs.HeadPlaces.{found_header, header_found}
 use Rattle.adf_survey.proofs.Keys.{at_lacks}
 use Rattle.adf_survey.proofs.OneSurvey.{gathered}
-use Rattle.adf_survey.proofs.SoundMarks.{apart, in_values, settled, taken_at}
+use Rattle.adf_survey.proofs.SoundMarks.{apart, in_values, passed_header, settled, taken_at}
 use Rattle.adf_volume.proofs.Roles.{same_refl}
 
 -- what holds of each finding holds at each place
-at_places : (g : Finding → Option ℕ) (h : FindingValue → Option ℕ) (xs : List Finding) → ((x : Finding) → In xs x → g x ≡ h (finding_value x)) → (k : ℕ)
+at_places : (g : Finding → Option Concern) (h : FindingValue → Option Concern) (xs : List Finding) → ((x : Finding) → In xs x → g x ≡ h (finding_value x)) → (k : ℕ)
     → option_flatten (slice_get (map g xs) k) ≡ option_and_then h (slice_get (map finding_value xs) k)
 at_places g h [] e k = refl
 at_places g h (x ∷ xs) e zero = e x (inl refl)
@@ -40,38 +42,32 @@ module _ (image : List ℕ) (f : Found) {s : Course} (v : IsCourse image s) (bit
         ∙ sym (ap is_some (taken_at image s.walk (gathered image v) (Head n p t j) x.0 x.1))
     | inr x ↦
         let lacks : Lacks s.walk (Head n p t j) = (λ q c h same. apart image v q (Head n p t j) c x.0 h x.1 same) in
-        let none : is_header f n p t j ≡ false = elim (cases_Bool (is_header f n p t j)) [
-          | inl y ↦
-              let h = found_header image f _ (gathered image v) st n p t j y in
-              absurd (lacks (Head n p t j) h.0 h.1 (same_refl (Head n p t j)))
-          | inr y ↦ y
-        ] in
-        none ∙ sym (ap is_some (at_lacks s.walk (Head n p t j) lacks))
+        passed_header image f v bits st n p t j x.0 x.1 ∙ sym (ap is_some (at_lacks s.walk (Head n p t j) lacks))
   ]
 
-  -- what is found speaks against the entry that the walk has
-  blamed_is : (x : Finding) → In (s.findings ++ bits) (finding_value x) → blamed f x.part ≡ option_and_then (entry_with s.walk) (part_role x.part)
+  -- what a finding concerns is told of the walk
+  blamed_is : (x : Finding) → In (s.findings ++ bits) (finding_value x) → blamed f x.part ≡ option_and_then (concern_with s.walk) (part_role x.part)
   blamed_is x i = go x.part refl
     where
-      go : (o : Option Part) → x.part ≡ o → blamed f o ≡ option_and_then (entry_with s.walk) (part_role o)
+      go : (o : Option Part) → x.part ≡ o → blamed f o ≡ option_and_then (concern_with s.walk) (part_role o)
       go None e = refl
       go (Some RootPart) e = refl
       go (Some (PagePart i)) e = refl
       go (Some (MapExtPart j)) e = refl
-      go (Some (HeadPart n p t j)) e = ap (λ y. cond y (Some n) None) (header_is (finding_value x) n p t j i (ap part_role e))
+      go (Some (HeadPart n p t j)) e = ap (λ y. Some (cond y (Entry n) (Within p))) (header_is (finding_value x) n p t j i (ap part_role e))
       go (Some (ExtPart n k)) e = refl
       go (Some (DataPart n k)) e = refl
 
   -- of what is found
-  pub concerned_kept : (k : ℕ) → option_flatten (slice_get (map (λ x. blamed f x.part) f.findings.items) k) ≡ entry_of_nth s.walk (s.findings ++ bits) k
+  pub concerned_kept : (k : ℕ) → option_flatten (slice_get (map (λ x. blamed f x.part) f.findings.items) k) ≡ concern_of_nth s.walk (s.findings ++ bits) k
   concerned_kept k =
-      at_places (λ x. blamed f x.part) (entry_of s.walk) f.findings.items
+      at_places (λ x. blamed f x.part) (concern_of s.walk) f.findings.items
       (λ x i. blamed_is x (subst (λ fs. In fs (finding_value x)) st.findings (in_values f.findings.items x i))) k
-      ∙ ap (λ fs. entry_of_nth s.walk fs k) st.findings
+      ∙ ap (λ fs. concern_of_nth s.walk fs k) st.findings
 
--- a finding of no part concerns no entry
+-- a finding of no part concerns nothing
 pub none_kept : (w : List (Role × ℕ)) (x : Finding) (items : List Finding) (k : ℕ) → x.part ≡ None → items ≡ x ∷ []
-    → option_flatten {T = ℕ} (slice_get [] k) ≡ entry_of_nth w (map finding_value items) k
+    → option_flatten {T = Concern} (slice_get [] k) ≡ concern_of_nth w (map finding_value items) k
 none_kept w x items zero none e =
-    sym (ap (λ xs. entry_of_nth w (map finding_value xs) 0) e ∙ ap (λ o. option_and_then (entry_with w) (part_role o)) none)
-none_kept w x items (suc k) none e = sym (ap (λ xs. entry_of_nth w (map finding_value xs) (suc k)) e)
+    sym (ap (λ xs. concern_of_nth w (map finding_value xs) 0) e ∙ ap (λ o. option_and_then (concern_with w) (part_role o)) none)
+none_kept w x items (suc k) none e = sym (ap (λ xs. concern_of_nth w (map finding_value xs) (suc k)) e)

@@ -12,6 +12,7 @@ use Rattle.adf_survey.specs.declared.part.Finding.{Finding}
 use Rattle.adf_survey.specs.declared.found.Found.{Found}
 use Rattle.adf_survey.specs.Found.{IsCompleted}
 use Rattle.adf_survey.specs.Marks.{blamed, has_mark, is_clear}
+use Rattle.adf_survey.specs.declared.concern.Concern.{Concern}
 use Rattle.adf_survey.specs.declared.part.Part.{Part}
 use Rattle.adf_survey.specs.Parts.{part_role, finding_value}
 use Rattle.adf_survey.specs.Survey.{FindingValue, IsSurvey, Judged, finding, start_demands}
@@ -46,7 +47,7 @@ unread_kept image x items none fails e =
     )
 
 -- of an image whose course is done, with its bits compared
-pub read_kept : (image : List ℕ) (f : Found) (concerned : List (Option ℕ)) (sound : List Bool) → IsCompleted image f
+pub read_kept : (image : List ℕ) (f : Found) (concerned : List (Option Concern)) (sound : List Bool) → IsCompleted image f
     → concerned ≡ map (λ x. blamed f x.part) f.findings.items → ((m : ℕ) → has_mark sound m ≡ is_clear image f m)
     → IsOfSurvey (kept_of image f.findings.items concerned f.nodes.items f.parents.items sound)
 read_kept image f concerned sound (s, bits, told, bits_tell) entries marks = (

@@ -1,6 +1,7 @@
 -- The marks of a finished course are those of its sound entries.
 use Rattle.std.specs.Prelude.{Bool, true, false, cond, not, ◌==◌, ◌||◌, ◌&&◌, nat_lt, map, Option, Some, None, slice_index_or, ◌↔◌}
 use Rattle.std.proofs.Common.{◌≡◌, ℕ, suc, List, [], ◌∷◌, ◌++◌, length, ◌⊎◌, inl, inr, ◌<◌, ◌≤◌, refl, sym, ap, subst, ◌∙◌, arith}
+use Rattle.std.specs.Option.{option_map}
 use Rattle.std.proofs.lemmas.Bool.{and_parts, cases_Bool, eqb-true, eq-eqb}
 use Rattle.std.proofs.lemmas.Bool.Decides.{nat_tests}
 use Rattle.adf_tree.specs.declared.entry.Kind.{Kind}
@@ -13,13 +14,15 @@ use Rattle.adf_volume.specs.Walk.Role.{Root, Page, MapExt, Head, Ext, Data}
 use Rattle.adf_volume.proofs.Gathered.{IsGathered, asks_one, head_block, number_of, numbered as has_number, one_block, one_head}
 use Rattle.adf_volume.proofs.Lists.{in_cases, in_left, in_right}
 use Rattle.adf_volume.proofs.OneFault.{number_is}
-use Rattle.adf_volume.proofs.Roles.{asks_number, dec_has, head_at, head_role, renumbered, renumbered_same, same_of, same_role}
+use Rattle.adf_volume.proofs.Roles.{asks_number, dec_has, head_at, head_role, renumbered, renumbered_same, same_of, same_refl, same_role}
 use Rattle.adf_survey.specs.declared.part.Part.{Part}
 use Rattle.adf_survey.specs.declared.part.Part.TheVariants.{Root as RootPart, Page as PagePart, MapExt as MapExtPart, Head as HeadPart}
 use Rattle.adf_survey.specs.declared.part.Part.TheVariants.{Ext as ExtPart, Data as DataPart}
 use Rattle.adf_survey.specs.declared.part.Finding.{Finding}
 use Rattle.adf_survey.specs.declared.found.DataBlock.{DataBlock}
 use Rattle.adf_survey.specs.declared.found.Found.{Found}
+use Rattle.adf_survey.specs.declared.concern.Concern.TheVariants.{Entry, Within}
+use Rattle.adf_survey.specs.Concerned.{node_of}
 use Rattle.adf_survey.specs.Forms.{Tells}
 use Rattle.adf_survey.specs.Found.{Stands, at_key, datas_of, owns, with_data}
 use Rattle.adf_survey.specs.Marks.{blamed, is_blamed, is_clear, is_doubtful, is_node, is_sharing, sharing, is_header}
@@ -235,24 +238,28 @@ node_is (Some n) m e = ap Some (eqb-true n m e)
 node_yes : (o : Option ℕ) (m : ℕ) → o ≡ Some m → is_node o m ≡ true
 node_yes o m e = ap (λ o. is_node o m) e ∙ eq-eqb m m refl
 
+-- the node that a finding of the part speaks against
+abbrev node_blamed : Found → Option Part → Option ℕ
+node_blamed f o = option_map node_of (blamed f o)
+
 blamed_by : (f : Found) (xs : List Finding) (m : ℕ) → is_blamed f xs m ≡ true
-    → (x : Finding) × In xs x × (blamed f x.part ≡ Some m)
+    → (x : Finding) × In xs x × (node_blamed f x.part ≡ Some m)
 blamed_by f [] m e = cc
-blamed_by f (x ∷ xs) m e = go (is_node (blamed f x.part) m) refl e (blamed_by f xs m)
+blamed_by f (x ∷ xs) m e = go (is_node (node_blamed f x.part) m) refl e (blamed_by f xs m)
   where
-    go : (t : Bool) → is_node (blamed f x.part) m ≡ t → (t || is_blamed f xs m) ≡ true
-        → (is_blamed f xs m ≡ true → (y : Finding) × In xs y × (blamed f y.part ≡ Some m))
-        → (y : Finding) × In (x ∷ xs) y × (blamed f y.part ≡ Some m)
-    go true k e again = (x, inl refl, node_is (blamed f x.part) m k)
+    go : (t : Bool) → is_node (node_blamed f x.part) m ≡ t → (t || is_blamed f xs m) ≡ true
+        → (is_blamed f xs m ≡ true → (y : Finding) × In xs y × (node_blamed f y.part ≡ Some m))
+        → (y : Finding) × In (x ∷ xs) y × (node_blamed f y.part ≡ Some m)
+    go true k e again = (x, inl refl, node_is (node_blamed f x.part) m k)
     go false k e again = let y = again e in (y.0, inr y.1, y.2)
 
 not_blamed : (f : Found) (xs : List Finding) (m : ℕ) (x : Finding) → is_blamed f xs m ≡ false → In xs x
-    → blamed f x.part ≡ Some m → ⊥
+    → node_blamed f x.part ≡ Some m → ⊥
 not_blamed f [] m x e h b = h
 not_blamed f (y ∷ xs) m x e (inl z) b =
-    let one : is_node (blamed f y.part) m ≡ true = node_yes (blamed f y.part) m (ap (λ y. blamed f y.part) z ∙ b) in
+    let one : is_node (node_blamed f y.part) m ≡ true = node_yes (node_blamed f y.part) m (ap (λ y. node_blamed f y.part) z ∙ b) in
     let clash : true ≡ false = sym (ap (λ t. t || is_blamed f xs m) one) ∙ e in cc
-not_blamed f (y ∷ xs) m x e (inr h) b = go (is_node (blamed f y.part) m) e (λ e. not_blamed f xs m x e h b)
+not_blamed f (y ∷ xs) m x e (inr h) b = go (is_node (node_blamed f y.part) m) e (λ e. not_blamed f xs m x e h b)
   where
     go : (t : Bool) → (t || is_blamed f xs m) ≡ false → (is_blamed f xs m ≡ false → ⊥) → ⊥
     go true e again = cc
@@ -381,6 +388,17 @@ settled image {s = s} v bits tells g q h e = elim (in_cases s.findings bits g h)
   | inr k ↦ let z : None ≡ Some q = sym (bits_none image tells g k) ∙ e in cc
 ]
 
+-- a header that was passed over is no node's
+pub passed_header : (image : List ℕ) (f : Found) {s : Course} → IsCourse image s → (bits : List FindingValue)
+    → Stands image f (record { walk = s.walk; passed_over = s.passed_over; findings = s.findings ++ bits })
+    → (n p t j b : ℕ) → Has s.passed_over (Head n p t j) b → is_header f n p t j ≡ false
+passed_header image f v bits st n p t j b over = elim (cases_Bool (is_header f n p t j)) [
+  | inl y ↦
+      let h = found_header image f _ (gathered image v) st n p t j y in
+      absurd (apart image v (Head n p t j) (Head n p t j) h.0 b h.1 over (same_refl (Head n p t j)))
+  | inr y ↦ y
+]
+
 module _ (image : List ℕ) (f : Found) {s : Course} (v : IsCourse image s) (done : IsDone image s) (bits : List FindingValue) {b n : ℕ}
     (tells : BitsTell image s b n bits)
     (st : Stands image f (record { walk = s.walk; passed_over = s.passed_over; findings = s.findings ++ bits })) where
@@ -388,7 +406,7 @@ module _ (image : List ℕ) (f : Found) {s : Course} (v : IsCourse image s) (don
   all = s.findings ++ bits
 
   -- a finding that speaks against an entry concerns a part of it
-  speaks : (m h : ℕ) (g : FindingValue) (o : Option Part) → In all g → g.part ≡ part_role o → blamed f o ≡ Some m → IsSound image s.walk all m h → ⊥
+  speaks : (m h : ℕ) (g : FindingValue) (o : Option Part) → In all g → g.part ≡ part_role o → node_blamed f o ≡ Some m → IsSound image s.walk all m h → ⊥
   speaks m h g None i e z sound = cc
   speaks m h g (Some RootPart) i e z sound = cc
   speaks m h g (Some (PagePart k)) i e z sound = cc
@@ -399,8 +417,12 @@ module _ (image : List ℕ) (f : Found) {s : Course} (v : IsCourse image s) (don
       let one : q ≡ m = cc in sound.datas k g (Data q k) i e (same_of (Data q k) (Data m k) (ap (λ q. Data q k) one))
   speaks m h g (Some (HeadPart q p t j)) i e z sound = go (is_header f q p t j) refl z
     where
-      go : (t' : Bool) → is_header f q p t j ≡ t' → cond t' (Some q) None ≡ Some m → ⊥
-      go false is z = cc
+      go : (t' : Bool) → is_header f q p t j ≡ t' → option_map node_of (Some (cond t' (Entry q) (Within p))) ≡ Some m → ⊥
+      go false is z =
+          let one : p ≡ m = cc in
+          let x = sound.chains g q t j i (e ∙ ap (λ p. Some (Head q p t j)) one) in
+          let there : is_header f q m t j ≡ true = header_found image f _ (gathered image v) st q m t j x.0 x.1 in
+          let clash : true ≡ false = sym there ∙ ap (λ p. is_header f q p t j) (sym one) ∙ is in cc
       go true is z =
           let one : q ≡ m = cc in
           let x = found_header image f _ (gathered image v) st q p t j is in
@@ -440,7 +462,7 @@ module _ (image : List ℕ) (f : Found) {s : Course} (v : IsCourse image s) (don
 
   -- no finding of a part speaks against the entry
   unspoken : (m : ℕ) → is_blamed f f.findings.items m ≡ false → (g : FindingValue) (q : Role) → In all g → g.part ≡ Some q
-      → ((o : Option Part) → part_role o ≡ Some q → blamed f o ≡ Some m) → ⊥
+      → ((o : Option Part) → part_role o ≡ Some q → node_blamed f o ≡ Some m) → ⊥
   unspoken m e g q i is names =
       let x = in_findings f.findings.items g (subst (λ fs. In fs g) (sym st.findings) i) in
       not_blamed f f.findings.items m x.0 e x.1 (names x.0.part (ap (λ g. g.part) x.2 ∙ is))
@@ -452,8 +474,18 @@ module _ (image : List ℕ) (f : Found) {s : Course} (v : IsCourse image s) (don
         let there : is_header f m p t j ≡ true = header_found image f _ (gathered image v) st m p t j h has in
         unspoken m e g q i is (λ o z.
         let u : o ≡ Some (HeadPart m p t j) = head_part o m p t j (z ∙ ap Some one) in
-        ap (blamed f) u ∙ ap (λ t. cond t (Some m) None) there)
+        ap (node_blamed f) u ∙ ap (λ t. option_map node_of (Some (cond t (Entry m) (Within p)))) there)
     | inr y ↦ apart image v (Head m p t j) q h y.0 has y.1 (sym same.0, sym same.1, sym same.2)
+  ]
+
+  chains_clear : (m : ℕ) → is_blamed f f.findings.items m ≡ false → (g : FindingValue) (q t j : ℕ) → In all g → g.part ≡ Some (Head q m t j)
+      → (b : ℕ) × Has s.walk (Head q m t j) b
+  chains_clear m e g q t j i is = elim (settled image v bits tells g (Head q m t j) i is) [
+    | inl y ↦ y
+    | inr y ↦
+        let none : is_header f q m t j ≡ false = passed_header image f v bits st q m t j y.0 y.1 in
+        absurd (unspoken m e g (Head q m t j) i is (λ o z.
+        ap (node_blamed f) (head_part o q m t j z) ∙ ap (λ t. option_map node_of (Some (cond t (Entry q) (Within m)))) none))
   ]
 
   alone_clear : (m : ℕ) → is_doubtful (kind_of image) f m ≡ false → kind_of image ≡ Ffs → (k c : ℕ) → Has s.walk (Data m k) c
@@ -479,8 +511,9 @@ module _ (image : List ℕ) (f : Found) {s : Course} (v : IsCourse image s) (don
       record {
         header = head_at m g.parent g.slot g.place (node_block s.walk m) (subst (Has s.walk (head_role g)) at g.has);
         unnoted = head_clear m g.parent g.slot g.place x.0 g.has clear;
-        exts = (λ k g q i is same. unspoken m clear g q i is (λ o z. ap (blamed f) (ext_part o m k (z ∙ ap Some (ext_of q m k same)))));
-        datas = (λ k g q i is same. unspoken m clear g q i is (λ o z. ap (blamed f) (data_part o m k (z ∙ ap Some (data_of q m k same)))));
+        exts = (λ k g q i is same. unspoken m clear g q i is (λ o z. ap (node_blamed f) (ext_part o m k (z ∙ ap Some (ext_of q m k same)))));
+        datas = (λ k g q i is same. unspoken m clear g q i is (λ o z. ap (node_blamed f) (data_part o m k (z ∙ ap Some (data_of q m k same)))));
+        chains = chains_clear m clear;
         alone = alone_clear m free;
       }
 

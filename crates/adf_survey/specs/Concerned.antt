@@ -1,25 +1,32 @@
--- The entries that findings concern.
+-- What findings concern.
 -- Letters: w the walk of a survey, fs its findings, f one of them, at index k; r a role; n, p nodes;
 -- s, j the slot and the position of a header in its chain.
 use Rattle.std.specs.Prelude.{ℕ, cond, List, Option, Some, None, is_some, slice_get}
 use Rattle.std.specs.Option.{option_and_then}
 use Rattle.adf_volume.specs.Walk.{Role}
 use Rattle.adf_volume.specs.Walk.Role.{Head, Ext, Data}
+use Rattle.adf_survey.specs.declared.concern.Concern.{Concern}
+use Rattle.adf_survey.specs.declared.concern.Concern.TheVariants.{Entry, Within}
 use Rattle.adf_survey.specs.Found.{at_key}
 use Rattle.adf_survey.specs.Parts.{key_of}
 use Rattle.adf_survey.specs.Survey.{FindingValue}
 
--- the entry of a role: that of a header in the walk, or the file of an extension or data block
-abbrev pub entry_with : List (Role × ℕ) → Role → Option ℕ
-entry_with w (Head n p s j) = cond (is_some (at_key w (key_of (Head n p s j)))) (Some n) None
-entry_with w (Ext n k) = Some n
-entry_with w (Data n k) = Some n
-entry_with w _ = None
+-- the entry or the directory that is concerned
+abbrev pub node_of : Concern → ℕ
+node_of (Entry n) = n
+node_of (Within p) = p
 
--- the entry that the finding concerns
-abbrev pub entry_of : List (Role × ℕ) → FindingValue → Option ℕ
-entry_of w f = option_and_then (entry_with w) f.part
+-- of a header in the walk the entry, of one that was passed over its directory; of an extension or data block the file
+abbrev pub concern_with : List (Role × ℕ) → Role → Option Concern
+concern_with w (Head n p s j) = Some (cond (is_some (at_key w (key_of (Head n p s j)))) (Entry n) (Within p))
+concern_with w (Ext n k) = Some (Entry n)
+concern_with w (Data n k) = Some (Entry n)
+concern_with w _ = None
 
--- the entry that the finding at an index concerns, none past the last
-abbrev pub entry_of_nth : List (Role × ℕ) → List FindingValue → ℕ → Option ℕ
-entry_of_nth w fs k = option_and_then (entry_of w) (slice_get fs k)
+-- what the finding concerns
+abbrev pub concern_of : List (Role × ℕ) → FindingValue → Option Concern
+concern_of w f = option_and_then (concern_with w) f.part
+
+-- what the finding at an index concerns, nothing past the last
+abbrev pub concern_of_nth : List (Role × ℕ) → List FindingValue → ℕ → Option Concern
+concern_of_nth w fs k = option_and_then (concern_of w) (slice_get fs k)

@@ -3,6 +3,7 @@
 -- s, j a slot and a position in its chain.
 use Rattle.std.specs.Prelude.{◌==◌, ◌||◌, ◌&&◌, ◌-◌, ℕ, Bool, false, cond, not, nat_lt, List, [], ◌∷◌, length, slice_get, slice_index, slice_index_or}
 use Rattle.std.specs.Prelude.{Option, Some, None}
+use Rattle.std.specs.Option.{option_map}
 use Rattle.adf_tree.specs.declared.entry.Kind.{Kind}
 use Rattle.adf_tree.specs.declared.entry.Kind.TheVariants.{Ofs, Ffs}
 use Rattle.adf_volume.specs.Image.{kind_of}
@@ -12,6 +13,9 @@ use Rattle.adf_survey.specs.declared.part.Finding.{Finding}
 use Rattle.adf_survey.specs.declared.found.ChainPlace.{ChainPlace}
 use Rattle.adf_survey.specs.declared.found.DataBlock.{DataBlock}
 use Rattle.adf_survey.specs.declared.found.Found.{Found}
+use Rattle.adf_survey.specs.declared.concern.Concern.{Concern}
+use Rattle.adf_survey.specs.declared.concern.Concern.TheVariants.{Entry, Within}
+use Rattle.adf_survey.specs.Concerned.{node_of}
 
 -- whether a position is this one
 abbrev pub is_place : Option ChainPlace → ℕ → ℕ → Bool
@@ -22,11 +26,11 @@ is_place (Some c) s j = (c.slot == s) && (c.place == j)
 abbrev pub is_header : Found → ℕ → ℕ → ℕ → ℕ → Bool
 is_header f n p s j = not (n == 0) && ((slice_index f.parents.items n == p) && is_place (slice_get f.places.items (n - 1)) s j)
 
--- the entry that a finding of the part concerns: that of a taken header, or the file of an extension or data block
-abbrev pub blamed : Found → Option Part → Option ℕ
-blamed f (Some (HeadPart n p s j)) = cond (is_header f n p s j) (Some n) None
-blamed f (Some (ExtPart n k)) = Some n
-blamed f (Some (DataPart n k)) = Some n
+-- what a finding of the part concerns
+abbrev pub blamed : Found → Option Part → Option Concern
+blamed f (Some (HeadPart n p s j)) = Some (cond (is_header f n p s j) (Entry n) (Within p))
+blamed f (Some (ExtPart n k)) = Some (Entry n)
+blamed f (Some (DataPart n k)) = Some (Entry n)
 blamed f _ = None
 
 -- whether the node is this one
@@ -34,10 +38,10 @@ abbrev pub is_node : Option ℕ → ℕ → Bool
 is_node None m = false
 is_node (Some n) m = n == m
 
--- whether a finding concerns the entry
+-- whether a finding concerns the entry, or what is within it
 abbrev pub is_blamed : Found → List Finding → ℕ → Bool
 is_blamed f [] m = false
-is_blamed f (x ∷ xs) m = is_node (blamed f x.part) m || is_blamed f xs m
+is_blamed f (x ∷ xs) m = is_node (option_map node_of (blamed f x.part)) m || is_blamed f xs m
 
 -- the file of a data block, if the block was also passed over
 abbrev pub sharing : List Bool → DataBlock → Option ℕ

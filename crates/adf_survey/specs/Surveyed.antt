@@ -3,25 +3,26 @@
 use Rattle.std.specs.Prelude.{◌≡◌, ◌≤◌, ◌-◌, ◌↔◌, ℕ, Bool, true, List, Option, length, map, slice_get, slice_index}
 use Rattle.std.specs.Option.{option_flatten}
 use Rattle.adf_volume.specs.Walk.{Role, heads, node_block}
+use Rattle.adf_survey.specs.declared.concern.Concern.{Concern}
 use Rattle.adf_survey.specs.declared.part.Finding.{Finding}
-use Rattle.adf_survey.specs.Concerned.{entry_of_nth}
+use Rattle.adf_survey.specs.Concerned.{concern_of_nth}
 use Rattle.adf_survey.specs.Found.{parent_node}
 use Rattle.adf_survey.specs.Marks.{has_mark}
 use Rattle.adf_survey.specs.Parts.{finding_value}
 use Rattle.adf_survey.specs.Sound.{IsSound}
 use Rattle.adf_survey.specs.Survey.{FindingValue, IsSurvey}
 
--- the result: the findings and the entries they concern; for each node its block, its parent, and whether it is sound
+-- the result: the findings and what they concern; for each node its block, its parent, and whether it is sound
 pub record Surveyed : Type 0 where
   pub image : List ℕ
   pub findings : List Finding
-  pub concerned : List (Option ℕ)
+  pub concerned : List (Option Concern)
   pub nodes : List ℕ
   pub parents : List ℕ
   pub sound : List Bool
 
 -- the result from its parts
-abbrev pub kept_of : List ℕ → List Finding → List (Option ℕ) → List ℕ → List ℕ → List Bool → Surveyed
+abbrev pub kept_of : List ℕ → List Finding → List (Option Concern) → List ℕ → List ℕ → List Bool → Surveyed
 kept_of image findings concerned nodes parents sound =
     record { image = image; findings = findings; concerned = concerned; nodes = nodes; parents = parents; sound = sound }
 
@@ -29,7 +30,7 @@ kept_of image findings concerned nodes parents sound =
 pub record TellsOf (v : Surveyed) (w : List (Role × ℕ)) (fs : List FindingValue) : Type 0 where
   pub survey : IsSurvey v.image w fs
   pub findings : map finding_value v.findings ≡ fs
-  pub concerned : (k : ℕ) → option_flatten (slice_get v.concerned k) ≡ entry_of_nth w fs k
+  pub concerned : (k : ℕ) → option_flatten (slice_get v.concerned k) ≡ concern_of_nth w fs k
   pub node : (n : ℕ) → slice_index v.nodes n ≡ node_block w n
   pub parent : (n : ℕ) → slice_index v.parents n ≡ parent_node w n
   pub count : length v.nodes - 1 ≡ heads w

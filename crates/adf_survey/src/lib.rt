@@ -2,6 +2,7 @@
 #![tactic(auto)]
 
 mod bits;
+mod concern;
 mod course;
 mod file;
 mod forms;
@@ -18,6 +19,7 @@ mod start;
 mod surveyed;
 mod surveys;
 
+pub use crate::concern::Concern;
 pub use crate::file::SoundFile;
 pub use crate::laws::{
     all_sound, directories_first, first_finding, found_as_in_the_tree, no_finding, one_part,

@@ -1,24 +1,23 @@
 // The marks of sound entries.
 
-ghost use Rattle.std.specs.Prelude.{◌≡◌, ◌&&◌, ℕ, IfOk, map, not};
-ghost use Rattle.adf_survey.specs.Marks.{blamed, has_mark, is_blamed, is_clear, is_header, is_node, is_sharing, sharing};
+ghost use Rattle.std.specs.Prelude.{◌≡◌, ◌==◌, ◌&&◌, ℕ, IfOk, map, not};
+ghost use Rattle.adf_survey.specs.Marks.{blamed, has_mark, is_blamed, is_clear, is_header, is_sharing, sharing};
 
+use crate::concern::Concern;
 use crate::found::{DataBlock, Found};
 use crate::image::Image;
 use crate::part::Part;
 use adf_fields::NoMemory;
-use adf_tree::Kind;
+use adf_tree::{Kind, Node};
 use std::alloc::Global;
 
 // Removes the mark of a node.
-fn strike(marks: &mut Vec<bool>, node: Option<u32>)
+fn strike(marks: &mut Vec<bool>, node: Node)
     ensures { (m : ℕ)
-        → has_mark marks.new.items m ≡ (has_mark marks.old.items m && not (is_node node m)) }
+        → has_mark marks.new.items m ≡ (has_mark marks.old.items m && not (node == m)) }
 {
-    if let Some(node) = node {
-        if (node as usize) < marks.len() {
-            marks[node as usize] = false;
-        }
+    if node.0 < marks.len() {
+        marks[node.0] = false;
     }
 }
 
@@ -35,8 +34,8 @@ fn is_header(found: &Found, node: u32, parent: u32, slot: u8, place: u32) -> boo
     }
 }
 
-// The entry that a finding of the part concerns.
-fn blamed(found: &Found, part: Option<Part>) -> Option<u32>
+// What a finding of the part concerns.
+fn blamed(found: &Found, part: Option<Part>) -> Option<Concern>
     ensures { result ≡ blamed found.now part }
 {
     let part = part?;
@@ -46,45 +45,57 @@ fn blamed(found: &Found, part: Option<Part>) -> Option<u32>
             parent,
             slot,
             place,
-        } if is_header(found, node, parent, slot, place) => Some(node),
-        Part::Ext(node, _) | Part::Data(node, _) => Some(node),
+        } => {
+            if is_header(found, node, parent, slot, place) {
+                Some(Concern::Entry(Node(node as usize)))
+            } else {
+                Some(Concern::Within(Node(parent as usize)))
+            }
+        }
+        Part::Ext(node, _) | Part::Data(node, _) => Some(Concern::Entry(Node(node as usize))),
         _ => None,
     }
 }
 
 // The file of a data block, if the block was also passed over.
-fn sharing(found: &Found, data_block: DataBlock) -> Option<u32>
+fn sharing(found: &Found, data_block: DataBlock) -> Option<Node>
     ensures { result ≡ sharing found.now.avoided.items data_block }
 {
     let DataBlock { node, block } = data_block;
     let is_avoided = found.avoided.get(block as usize).copied().unwrap_or(false);
-    if is_avoided { Some(node) } else { None }
+    if is_avoided {
+        Some(Node(node as usize))
+    } else {
+        None
+    }
 }
 
-/// The entries that the findings concern, in the order of the findings.
-pub fn concerned(alloc: Global, found: &Found) -> Result<Vec<Option<u32>>, NoMemory>
+/// What the findings concern, in the order of the findings.
+pub fn concerned(alloc: Global, found: &Found) -> Result<Vec<Option<Concern>>, NoMemory>
     ensures { IfOk result (λ v. v.items
         ≡ map (λ x. blamed found.now x.part) found.now.findings.items) }
 {
-    let Ok(mut entries) = Vec::with_capacity(alloc, found.findings.len()) else {
+    let Ok(mut concerns) = Vec::with_capacity(alloc, found.findings.len()) else {
         return Err(NoMemory);
     };
     for finding in &found.findings {
-        if entries.push(blamed(found, finding.part)).is_err() {
+        if concerns.push(blamed(found, finding.part)).is_err() {
             return Err(NoMemory);
         }
     }
-    Ok(entries)
+    Ok(concerns)
 }
 
-// Removes the marks of entries that findings concern.
+// Removes the marks of entries that findings concern, and of directories within which a header was passed over.
 fn strike_blamed(found: &Found, marks: &mut Vec<bool>)
     ensures { (m : ℕ) → has_mark marks.new.items m
         ≡ (has_mark marks.old.items m && not
         (is_blamed found.now found.now.findings.items m)) }
 {
     for finding in &found.findings {
-        strike(marks, blamed(found, finding.part));
+        if let Some(concern) = blamed(found, finding.part) {
+            strike(marks, concern.node());
+        }
     }
 }
 
@@ -95,11 +106,13 @@ fn strike_sharing(found: &Found, marks: &mut Vec<bool>)
         (is_sharing found.now.avoided.items found.now.datas.items m)) }
 {
     for data_block in &found.datas {
-        strike(marks, sharing(found, *data_block));
+        if let Some(node) = sharing(found, *data_block) {
+            strike(marks, node);
+        }
     }
 }
 
-/// The marks of the nodes: true if no finding concerns the node.
+/// The marks of the nodes: true if no finding concerns the node, or what is within it.
 pub fn clear_marks(alloc: Global, image: &Image<'_>, found: &Found) -> Result<Vec<bool>, NoMemory>
     ensures { IfOk result (λ v. (m : ℕ)
         → has_mark v.items m ≡ is_clear image.now found.now m) }

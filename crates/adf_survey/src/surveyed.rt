@@ -8,7 +8,7 @@ ghost use Rattle.adf_fields.specs.Words.{block};
 ghost use Rattle.adf_volume.specs.Image.{name_of};
 ghost use Rattle.adf_volume.specs.Walk.{Has, Role, heads, node_block};
 ghost use Rattle.adf_volume.specs.Walk.Role.{Head};
-ghost use Rattle.adf_survey.specs.Concerned.{entry_of_nth};
+ghost use Rattle.adf_survey.specs.Concerned.{concern_of_nth};
 ghost use Rattle.adf_survey.specs.Files.{IsSoundFile, file_in};
 ghost use Rattle.adf_survey.specs.Found.{parent_node};
 ghost use Rattle.adf_survey.specs.Marked.{AreMarks, mark_in};
@@ -19,6 +19,7 @@ ghost use Rattle.adf_survey.specs.Sound.{IsSound};
 ghost use Rattle.adf_survey.specs.Survey.{FindingValue, IsSurvey};
 ghost use Rattle.adf_survey.specs.Surveyed.{IsOfSurvey, kept_of};
 
+use crate::concern::Concern;
 use crate::file::SoundFile;
 use crate::header_name::name_in;
 use crate::opening::Opening;
@@ -35,7 +36,7 @@ use std::marker::Model;
 pub struct Survey<'i> {
     image: &'i [u8],
     findings: Vec<Finding>,
-    concerned: Vec<Option<u32>>,
+    concerned: Vec<Option<Concern>>,
     nodes: Vec<u32>,
     parents: Vec<u32>,
     sound: Vec<bool>,
@@ -66,11 +67,11 @@ fn number_at(numbers: &Vec<u32>, n: usize) -> u32
     numbers.get(n).copied().unwrap_or(0)
 }
 
-// The entry at an index; `None` past the last.
-fn entry_at(entries: &Vec<Option<u32>>, k: usize) -> Option<u32>
-    ensures { result ≡ option_flatten (slice_get entries.now.items k) }
+// What stands at an index; `None` past the last.
+fn concern_at(concerns: &Vec<Option<Concern>>, k: usize) -> Option<Concern>
+    ensures { result ≡ option_flatten (slice_get concerns.now.items k) }
 {
-    entries.get(k).copied().flatten()
+    concerns.get(k).copied().flatten()
 }
 
 impl<'i> Survey<'i> {
@@ -78,7 +79,7 @@ impl<'i> Survey<'i> {
     pub(crate) fn new(
         image: &'i [u8],
         findings: Vec<Finding>,
-        concerned: Vec<Option<u32>>,
+        concerned: Vec<Option<Concern>>,
         nodes: Vec<u32>,
         parents: Vec<u32>,
         sound: Vec<bool>,
@@ -109,16 +110,13 @@ impl Survey<'_> {
         &self.findings
     }
 
-    /// The entry that finding `k`, counted from 0, concerns: that of a header that is found, or the file of an
-    /// extension or data block. `None` for a header that was passed over, for other parts, and past the last finding.
-    pub fn entry_of(&self, k: usize) -> Option<Node>
+    /// What finding `k`, counted from 0, concerns: the entry of a header that is found, or the file of an extension or
+    /// data block; of a header that was passed over, its directory. `None` for other parts, and past the last finding.
+    pub fn concern_of(&self, k: usize) -> Option<Concern>
         ensures { (w : List (Role × ℕ)) (fs : List FindingValue) → IsSurvey self.now.image w fs
-            → result ≡ entry_of_nth w fs k }
+            → result ≡ concern_of_nth w fs k }
     {
-        match entry_at(&self.concerned, k) {
-            Some(n) => Some(Node(n as usize)),
-            None => None,
-        }
+        concern_at(&self.concerned, k)
     }
 
     /// The number of entries found.
@@ -240,7 +238,7 @@ impl Survey<'_> {
         Some(self.directory_of(n))
     }
 
-    /// Whether an entry is sound: no finding concerns its parts.
+    /// Whether an entry is sound: no finding concerns its parts, and of a directory, no header within it was passed over.
     pub fn is_sound(&self, n: Node) -> bool
         ensures { (w : List (Role × ℕ)) (fs : List FindingValue) → IsSurvey self.now.image w fs
             → IsTrue result ↔ IsSound self.now.image w fs n (node_block w n) }
