@@ -69,9 +69,8 @@ module _ (image : List ℕ) (f : Found) {s : Course} (v : IsCourse image s) (bit
       (λ x i. blamed_is x (subst (λ fs. In fs (finding_value x)) st.findings (in_values f.findings.items x i))) k
       ∙ ap (λ fs. entry_of_nth s.walk fs k) st.findings
 
--- a finding of no part concerns no entry
-pub none_kept : (w : List (Role × ℕ)) (x : Finding) (items : List Finding) (k : ℕ) → x.part ≡ None → items ≡ x ∷ []
-    → option_flatten {T = ℕ} (slice_get [] k) ≡ entry_of_nth w (map finding_value items) k
-none_kept w x items zero none e =
-    sym (ap (λ xs. entry_of_nth w (map finding_value xs) 0) e ∙ ap (λ o. option_and_then (entry_with w) (part_role o)) none)
-none_kept w x items (suc k) none e = sym (ap (λ xs. entry_of_nth w (map finding_value xs) (suc k)) e)
+-- findings of no part concern no entry
+pub no_entry_nth : (w : List (Role × ℕ)) (fs : List FindingValue) (k : ℕ) → ((f : FindingValue) → In fs f → f.part ≡ None) → entry_of_nth w fs k ≡ None
+no_entry_nth w [] k h = refl
+no_entry_nth w (f ∷ fs) zero h = ap (option_and_then (entry_with w)) (h f (inl refl))
+no_entry_nth w (f ∷ fs) (suc k) h = no_entry_nth w fs k (λ g i. h g (inr i))
