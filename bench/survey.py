@@ -13,16 +13,18 @@ from struct import unpack_from
 SLOTS, POINTERS, ROOT_PAGES, MAP_PAGES, PAGE_BITS = 72, 72, 25, 127, 4064
 DIR, FILE, LINKS = 2, 2**32 - 3, (3, 4, 2**32 - 4)
 SLIGHT = {"short file", "bad sum", "link", "bad name", "bad comment", "wrong slot", "bad first", "same name"} | {"bad hash size", "not validated"}
+OTHER_TYPES = {"international", "directory cache"}
 ROOT = (0, 0, 0), "root"
 
 
-def upper(name):
-    return bytes(c - 32 if 97 <= c <= 122 else c for c in name)
+def upper(name, international):
+    """The name in upper case: a to z, and on types 2 to 5 also 0xe0 to 0xfe but 0xf7."""
+    return bytes(c - 32 if 97 <= c <= 122 or international and 0xE0 <= c <= 0xFE and c != 0xF7 else c for c in name)
 
 
-def slot(name):
+def slot(name, international):
     h = len(name)
-    for c in upper(name):
+    for c in upper(name, international):
         h = (h * 13 + c) % 2048
     return h % SLOTS
 
@@ -65,12 +67,18 @@ class Survey:
         self.asked = {}  # by key: the role, and the block and the word that name its block
         self.names = {}  # how many words that ask for a part name a block
         self.root = self.blocks // 2
-        first, itself = judged(self.opening(), SLIGHT)
+        first, readable = judged(self.boot_demands(), OTHER_TYPES)
+        if first:
+            self.findings.append((None, *first))
+        if not readable:
+            return
+        self.international, self.cached = image[3] >= 2, image[3] >= 4
+        self.offset, self.chunk = (24, 488) if image[3] % 2 == 0 else (0, 512)
+        first, itself = judged(self.root_demands(), SLIGHT)
         if first:
             self.findings.append((ROOT if itself else None, *first))
         if not itself:
             return
-        self.offset, self.chunk = (24, 488) if image[3] == 0 else (0, 512)
         self.pages = -(-(self.blocks - 2) // PAGE_BITS)
         self.take(ROOT, self.root)
         while wanted := [key for key in self.asked if key not in self.walk and key not in self.passed_over]:
@@ -89,12 +97,15 @@ class Survey:
     def sealed(self, b):
         return sum(unpack_from(">128I", self.image, 512 * b)) % 2**32 == 0
 
-    def opening(self):
-        size, b = len(self.image), self.root
+    def boot_demands(self):
+        size = len(self.image)
         yield "bad size", 0, lambda: size % 1024 == 0 and 4 <= self.blocks <= 1048576
         yield "not dos", 0, lambda: self.image[:3] == b"DOS" and self.image[3] <= 5
         yield "international", 0, lambda: self.image[3] not in (2, 3)
         yield "directory cache", 0, lambda: self.image[3] not in (4, 5)
+
+    def root_demands(self):
+        b = self.root
         yield "bad sum", b, lambda: self.sealed(b)
         yield "bad type", b, lambda: self.word(b, 0) == 2 and self.word(b, 127) == 1
         yield "bad name", b, lambda: self.byte(b, 432) <= 30
@@ -194,9 +205,10 @@ class Survey:
         yield "bad parent", b, lambda: self.word(b, 125) == self.block_of(p)
         yield "bad name", b, lambda: 1 <= self.byte(b, 432) <= 30 and not {47, 58} & set(name())
         yield "bad comment", b, lambda: self.byte(b, 328) <= 79
-        yield "wrong slot", b, lambda: slot(name()) == s
+        yield "wrong slot", b, lambda: slot(name(), self.international) == s
         yield "bad first", b, first
-        yield "same name", b, lambda: upper(name()) not in [upper(self.text(c, 432)) for c in earlier]
+        raised = lambda text: upper(text, self.international)
+        yield "same name", b, lambda: raised(name()) not in [raised(self.text(c, 432)) for c in earlier]
 
     def judge(self, role, a, i):
         """The role is taken, where its block is in range, no one else's and says of itself that it is the part; its first cause is noted."""
@@ -209,15 +221,21 @@ class Survey:
         else:
             self.passed_over[role[0]] = b
 
+    def is_cache(self, b):
+        """The block says that it is a directory cache, on a volume that has them."""
+        return self.cached and self.word(b, 0) == 33 and self.word(b, 1) == b
+
     def compare(self):
-        """Where the bitmap is valid, each block whose page is in the walk and that was not passed over is in use where it has an owner, and only there."""
+        """Where the bitmap is valid, each block whose page is in the walk is in use where it has an owner, and only there.
+
+        A block without an owner that was passed over or is a directory cache is not compared."""
         if self.word(self.root, 78) != 2**32 - 1:
             return
         passed = set(self.passed_over.values())
         for b in range(2, self.blocks):
             bit = (b - 2) % PAGE_BITS
             at = self.walk.get(page((b - 2) // PAGE_BITS)[0])
-            if at is None or b not in self.owner and b in passed:
+            if at is None or b not in self.owner and (b in passed or self.is_cache(b)):
                 continue
             free = self.word(at, 1 + bit // 32) >> bit % 32 & 1
             if free != (b not in self.owner):

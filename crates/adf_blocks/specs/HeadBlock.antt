@@ -2,7 +2,9 @@
 use Rattle.std.specs.Prelude.{◌≡◌, ◌≤◌, ◌<◌, ◌*◌, ◌^◌, ℕ, ◌==◌, if◌then◌else◌, ◌&&◌, ◌||◌, not, nat_le, Bool, true, false, List, [], ◌∷◌, length}
 use Rattle.std.specs.Prelude.{slice_index, take}
 use Rattle.adf_fields.specs.Words.{word, long_sum, sealed}
-use Rattle.adf_fields.specs.Hash.{slot_of}
+use Rattle.adf_fields.specs.Hash.{slot_by}
+use Rattle.adf_fields.specs.declared.hash.Letters.{Letters}
+use Rattle.adf_fields.specs.declared.hash.Letters.TheVariants.{Ascii}
 use Rattle.adf_tree.specs.Texts.{is_name}
 use Rattle.adf_tree.specs.declared.entry.Kind.{Kind}
 use Rattle.adf_tree.specs.declared.entry.Kind.TheVariants.{Ofs, Ffs}
@@ -46,9 +48,9 @@ has_first kind b =
     not (is_ofs kind && (word b SECONDARY_TYPE == ST_FILE) && not (word b SIZE == 0))
     || (word b FIRST_DATA == word b FIRST_POINTER)
 
--- the form of a header at block `own`, in the chain of a slot of the directory whose block is `parent`
-abbrev pub head_form : Kind → ℕ → ℕ → ℕ → List ℕ → List Clause
-head_form kind own parent slot b =
+-- the form of a header at block `own`, in the chain of a slot of the directory whose block is `parent`; names have these letters
+abbrev pub head_form_by : Letters → Kind → ℕ → ℕ → ℕ → List ℕ → List Clause
+head_form_by letters kind own parent slot b =
     (long_sum b == 0, BadSum)
     ∷ (has_type b, BadType)
     ∷ (not (is_link (word b SECONDARY_TYPE)), Link)
@@ -56,9 +58,13 @@ head_form kind own parent slot b =
     ∷ (word b PARENT == parent, BadParent)
     ∷ (is_name_at b NAME, BadName)
     ∷ (nat_le (slice_index b COMMENT) 79, BadComment)
-    ∷ (slot_of (text_at b NAME) == slot, WrongSlot)
+    ∷ (slot_by letters (text_at b NAME) == slot, WrongSlot)
     ∷ (has_first kind b, BadFirst)
     ∷ []
+
+-- the form of a header on volumes of types 0 and 1
+abbrev pub head_form : Kind → ℕ → ℕ → ℕ → List ℕ → List Clause
+head_form = head_form_by Ascii
 
 -- what holds of every header accepted by its reader
 pub record IsHead (b : List ℕ) : Type 0 where

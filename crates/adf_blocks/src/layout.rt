@@ -24,6 +24,9 @@ pub const T_DATA: u32 = 8;
 /// The primary type of an extension block.
 pub const T_LIST: u32 = 16;
 
+/// The primary type of a directory cache.
+pub const T_DIR_CACHE: u32 = 33;
+
 /// The word of a header or an extension block that holds the block's own number.
 pub const OWN_KEY: usize = 1;
 

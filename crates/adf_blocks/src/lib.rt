@@ -25,7 +25,7 @@ pub use crate::layout::{
     FIRST_MAP_EXT, FIRST_PAGE, FIRST_POINTER, FIRST_SLOT, MAP_EXT_NEXT, MAP_EXT_PAGES, MOST_BLOCKS,
     NAME, NEXT_IN_CHAIN, OWN_KEY, PAGE_BITS, PAGE_FIRST, PAGE_WORDS, PARENT, POINTERS, ROOT_PAGES,
     SECONDARY_TYPE, SIZE, SLOTS, ST_DIR, ST_FILE, ST_LINK_DIR, ST_LINK_FILE, ST_ROOT, ST_SOFT_LINK,
-    T_DATA, T_LIST, T_SHORT, TYPE, VALID,
+    T_DATA, T_DIR_CACHE, T_LIST, T_SHORT, TYPE, VALID,
 };
 pub use crate::links::{Directory, Table};
 pub use crate::map_ext::{MapExt, read_map_ext, write_map_ext, written_map_exts_are_read};

@@ -53,7 +53,7 @@ unfolding with_bytes
 boot_holds Ofs = refl
 boot_holds Ffs = refl
 
-boot_kind : (kind : Kind) → cond (slice_index (block_of_fields ((0, boot_bytes kind) ∷ [])) 3 == 0) Ofs Ffs ≡ kind
+boot_kind : (kind : Kind) → cond (slice_index (block_of_fields ((0, boot_bytes kind) ∷ [])) 3 % 2 == 0) Ofs Ffs ≡ kind
 unfolding with_bytes
 boot_kind Ofs = refl
 boot_kind Ffs = refl
@@ -131,7 +131,7 @@ module _ {t : Tree} {n : ℕ} (can : CanHold t n) where
 
   kind_laid : t.kind ≡ kind_of (volume t n)
   unfolding kind_of
-  kind_laid = sym (ap (λ bs. cond (slice_index bs 3 == 0) Ofs Ffs) (holds_boot can) ∙ boot_kind t.kind)
+  kind_laid = sym (ap (λ bs. cond (slice_index bs 3 % 2 == 0) Ofs Ffs) (holds_boot can) ∙ boot_kind t.kind)
 
   root_at : AllHold (root_demands (volume t n) (middle n))
   root_at = all_demanded (middle n) (root_form (block (volume t n) (middle n)))

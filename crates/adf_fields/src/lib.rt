@@ -9,7 +9,7 @@ mod puts;
 
 pub use crate::blocks::{BLOCK_LEN, BLOCK_WORDS, Block};
 pub use crate::dates::{Stamp, dates_have_one_text, push_stamp, stamp_text};
-pub use crate::hash::{slot, upper};
+pub use crate::hash::{Letters, slot, slot_by, upper, upper_by};
 pub use crate::images::{put_block, seal, set_bytes, set_word};
 pub use crate::puts::{put_bytes, put_word, put_words, put_words_down, seal_block};
 use std::error::Error;

@@ -15,8 +15,8 @@ use Rattle.adf_volume.specs.Walk.{Role, Has, Asks, Lacks, third}
 use Rattle.adf_volume.specs.Walk.Role.{Root, Page, MapExt, Head, Ext, Data}
 use Rattle.adf_survey.specs.declared.part.Part.TheVariants.{Root as RootPart}
 use Rattle.adf_survey.specs.declared.found.Found.{Found}
-use Rattle.adf_survey.specs.Survey.{FindingValue, RootTells, begun}
-use Rattle.adf_survey.specs.Survey.IsCourse.{start}
+use Rattle.adf_survey.specs.declared.part.Finding.{Finding}
+use Rattle.adf_survey.specs.Survey.{FindingValue, IsCourse, begun}
 use Rattle.adf_survey.specs.Parts.{by_key, key_of, finding_value}
 use Rattle.adf_survey.specs.Courses.{IsAtPage, IsUpTo, Under, page_place}
 use Rattle.adf_survey.specs.Found.{AreNamed, AreSame, IsOwned, Stands, owns, unowned}
@@ -80,6 +80,25 @@ stands_begun image f g h taken owned avoided left nodes exts findings parents pl
       datas = o.datas ∙ datas;
     })
 
+-- the findings of the boot block stand behind none
+pub stands_boot : (image : List ℕ) (f : Found) (noted : Vec Finding) (fs : List FindingValue) → Stands image f (begun image [])
+    → map finding_value noted.items ≡ map finding_value f.findings.items ++ fs → Stands image (record f { findings = noted }) (begun image fs)
+stands_boot image f noted fs st e = record {
+  taken = st.taken;
+  owned = st.owned;
+  avoided = st.avoided;
+  left = st.left;
+  node = st.node;
+  count = st.count;
+  few = st.few;
+  ext = st.ext;
+  findings = e ∙ ap (λ xs. xs ++ fs) st.findings;
+  parent = st.parent;
+  parents = st.parents;
+  places = st.places;
+  datas = st.datas;
+}
+
 module _ (image : List ℕ) (fs : List FindingValue) where
   -- nothing comes before the first page but the root
   up_to_begun : IsUpTo image (begun image fs) (page_place 0)
@@ -106,9 +125,10 @@ module _ (image : List ℕ) (fs : List FindingValue) where
   no_names names q m p s j b e f h = absurd (omega arith)
 
   -- the course begins at the first page, whose block the root names
-  pub on_begun : (f : Found) → RootTells image fs → Stands image f (begun image fs) → blocks image ≤ 1048576 → IsAtPage image f 0 (root_of image)
-  on_begun f told st small = (
+  pub on_begun : (f : Found) → IsCourse image (begun image fs) → Stands image f (begun image fs) → blocks image ≤ 1048576
+      → IsAtPage image f 0 (root_of image)
+  on_begun f course st small = (
     begun image fs,
-    record { course = start told; stands = st; up_to = up_to_begun; names = no_names f.names; small = small },
+    record { course = course; stands = st; up_to = up_to_begun; names = no_names f.names; small = small },
     record { root = (λ l. refl); ext = (λ l. absurd (omega arith)) },
   )

@@ -1,5 +1,5 @@
 -- The findings of the bits.
-use Rattle.std.specs.Prelude.{Bool, true, false, cond, not, Some, None, IsTrue, ◌↔◌, slice_index_or}
+use Rattle.std.specs.Prelude.{Bool, true, false, ◌||◌, cond, not, Some, None, IsTrue, ◌↔◌, slice_index_or}
 use Rattle.std.proofs.Common.{◌≡◌, ℕ, zero, suc, length, List, [], ◌∷◌, ◌++◌, inl, inr, ◌+◌, ◌-◌, ◌/◌, ◌%◌, ◌<◌, ◌≤◌, refl, sym, subst, ap, ◌∙◌, arith}
 use Rattle.std.specs.Ordering.{is_eq}
 use Rattle.std.specs.BTreeMap.{get}
@@ -14,7 +14,7 @@ use Rattle.adf_volume.proofs.Gathered.{one_block}
 use Rattle.adf_volume.proofs.Roles.{has_role, same_refl}
 use Rattle.adf_survey.specs.declared.part.Key.{Key}
 use Rattle.adf_survey.specs.declared.found.Found.{Found}
-use Rattle.adf_survey.specs.Survey.{BitsTell, Course, FindingValue, IsCourse, IsValidated, finding}
+use Rattle.adf_survey.specs.Survey.{BitsTell, Course, FindingValue, IsCourse, IsUnexcused, IsValidated, finding, is_cache}
 use Rattle.adf_survey.specs.Survey.BitsTell.{agrees, differs, ends}
 use Rattle.adf_survey.specs.declared.part.Finding.{Finding}
 use Rattle.adf_survey.specs.Forms.{Tells}
@@ -59,7 +59,13 @@ module _ (image : List ℕ) (f : Found) (s : Course) (v : IsCourse image s) (fs 
       let one : y.0 ≡ at = (one_block image (gathered image v) (Page page) (Page page) y.0 at y.1 h (same_refl (Page page))).1 in
       let z : IsTrue false = free.1 (subst (λ a. IsFreeAt image a ((b - 2) % PAGE_BITS)) one y.2) in cc
 
-  tells_bit : (o a t : Bool) (at : ℕ) → IsValidated image → Has s.walk (Page page) at → Tells (not o) (IsAbsent s.walk b) → Tells (not a) (IsAbsent s.passed_over b)
+  -- a block has an excuse if it was passed over or is a directory cache
+  tells_excuse : (p k : Bool) → Tells (not p) (IsAbsent s.passed_over b) → k ≡ is_cache image b → Tells (not (p || k)) (IsUnexcused image s b)
+  tells_excuse true k h e = λ x. h x.0
+  tells_excuse false true h e = λ x. let clash : true ≡ false = e ∙ x.1 in cc
+  tells_excuse false false h e = (h, sym e)
+
+  tells_bit : (o a t : Bool) (at : ℕ) → IsValidated image → Has s.walk (Page page) at → Tells (not o) (IsAbsent s.walk b) → Tells (not a) (IsUnexcused image s b)
       → Tells t (IsFreeIn image s.walk b) → BitTells image s b (cause_told o a t)
   tells_bit false false false at vd h ow av fr = ((vd, (at, h), (λ x. av)), inl ((λ k. fr (k ow)), refl, refl))
   tells_bit false true false at vd h ow av fr = λ c. absurd (av (c.2 ow))
@@ -71,12 +77,12 @@ module _ (image : List ℕ) (f : Found) (s : Course) (v : IsCourse image s) (fs 
   tells_bit true true false at vd h ow av fr = λ c. ((λ x. absurd (ow x)), ((λ x. absurd (fr x)), tt))
 
   -- with its page the bit tells by whose the block is
-  pub page_tells : (o a t : Bool) → o ≡ owns s.walk b → a ≡ owns s.passed_over b → IsValidated image → IsBitOf image f page ((b - 2) % PAGE_BITS) (Some t)
-      → BitTells image s b (cause_told o a t)
-  page_tells o a t oe ae vd x =
+  pub page_tells : (o p k t : Bool) → o ≡ owns s.walk b → p ≡ owns s.passed_over b → k ≡ is_cache image b → IsValidated image
+      → IsBitOf image f page ((b - 2) % PAGE_BITS) (Some t) → BitTells image s b (cause_told o (p || k) t)
+  page_tells o p k t oe pe ke vd x =
       let h = page_has x.0 x.1 in
-      tells_bit o a t x.0 vd h (subst (λ o. Tells (not o) (IsAbsent s.walk b)) (sym oe) (tells_absent s.walk b))
-      (subst (λ a. Tells (not a) (IsAbsent s.passed_over b)) (sym ae) (tells_absent s.passed_over b)) (tells_free x.0 t h x.2)
+      tells_bit o (p || k) t x.0 vd h (subst (λ o. Tells (not o) (IsAbsent s.walk b)) (sym oe) (tells_absent s.walk b))
+      (tells_excuse p k (subst (λ p. Tells (not p) (IsAbsent s.passed_over b)) (sym pe) (tells_absent s.passed_over b)) ke) (tells_free x.0 t h x.2)
 
 pub tells_none : (image : List ℕ) (s : Course) (b : ℕ) (gs : List FindingValue) → 2 ≤ b → BitTells image s b None
     → TellsOn image s b gs → TellsOn image s (b + 1) gs

@@ -65,9 +65,8 @@ module _ (image : List ℕ) (f : Found) {s : Course} (v : IsCourse image s) (bit
       (λ x i. blamed_is x (subst (λ fs. In fs (finding_value x)) st.findings (in_values f.findings.items x i))) k
       ∙ ap (λ fs. concern_of_nth s.walk fs k) st.findings
 
--- a finding of no part concerns nothing
-pub none_kept : (w : List (Role × ℕ)) (x : Finding) (items : List Finding) (k : ℕ) → x.part ≡ None → items ≡ x ∷ []
-    → option_flatten {T = Concern} (slice_get [] k) ≡ concern_of_nth w (map finding_value items) k
-none_kept w x items zero none e =
-    sym (ap (λ xs. concern_of_nth w (map finding_value xs) 0) e ∙ ap (λ o. option_and_then (concern_with w) (part_role o)) none)
-none_kept w x items (suc k) none e = sym (ap (λ xs. concern_of_nth w (map finding_value xs) (suc k)) e)
+-- findings of no part concern nothing
+pub no_concern_nth : (w : List (Role × ℕ)) (fs : List FindingValue) (k : ℕ) → ((f : FindingValue) → In fs f → f.part ≡ None) → concern_of_nth w fs k ≡ None
+no_concern_nth w [] k h = refl
+no_concern_nth w (f ∷ fs) zero h = ap (option_and_then (concern_with w)) (h f (inl refl))
+no_concern_nth w (f ∷ fs) (suc k) h = no_concern_nth w fs k (λ g i. h g (inr i))

@@ -102,7 +102,7 @@ module _ (image : List ℕ) where
 
     -- a file of which no data block was passed over
     pub datas_listed : {s : Course} → IsCourse image s → ((k b : ℕ) → Has s.passed_over (Data n k) b → ⊥) → DatasListed s.walk
-    datas_listed (start t) clear = record {
+    datas_listed (start boot root) clear = record {
       to = (λ k b h. elim h [
         | inl e ↦ let x : first Root ≡ first (Data n (suc k)) = ap first e.0 in absurd (omega arith)
         | inr e ↦ absurd e

@@ -11,11 +11,11 @@ use Rattle.adf_tree.specs.declared.entry.Kind.{Kind}
 use Rattle.adf_tree.specs.declared.entry.Kind.TheVariants.{Ofs, Ffs}
 use Rattle.adf_blocks.specs.declared.layout.TheConstants.{SIZE}
 use Rattle.adf_blocks.specs.ExtBlock.{ext_form}
-use Rattle.adf_blocks.specs.HeadBlock.{head_form}
 use Rattle.adf_volume.specs.Demands.{Demand, demand, demands_at, data_demands, AllHold, FirstFails}
 use Rattle.adf_volume.specs.Image.{held, kind_of, word_in}
-use Rattle.adf_volume.specs.Walk.{Role, Enough, IsAbsent, NewName, demands, form_demands, next_data, node_block}
+use Rattle.adf_volume.specs.Walk.{Role, Enough, IsAbsent, next_data, node_block}
 use Rattle.adf_volume.specs.Walk.Role.{Root, Page, MapExt, Head, Ext, Data}
+use Rattle.adf_survey.specs.Demands.{NewNameIn, demands_in, form_demands_in, head_form_in}
 use Rattle.adf_survey.specs.declared.part.Part.{Part}
 use Rattle.adf_survey.specs.declared.part.Part.TheVariants.{Root as RootPart, Page as PagePart, MapExt as MapExtPart, Head as HeadPart}
 use Rattle.adf_survey.specs.declared.part.Part.TheVariants.{Ext as ExtPart, Data as DataPart}
@@ -95,7 +95,7 @@ short_slight image w (Head n p s j) e = tt
 short_slight image w (Ext n k) e = tt
 short_slight image w (Data n k) e = cc
 
-same_slight : (image : List ℕ) (w : List (Role × ℕ)) (r : Role) (b : ℕ) → is_kept r SameName ≡ false → NewName image w r b
+same_slight : (image : List ℕ) (w : List (Role × ℕ)) (r : Role) (b : ℕ) → is_kept r SameName ≡ false → NewNameIn image w r b
 same_slight image w (Head n p s j) b e = cc
 same_slight image w Root b e = tt
 same_slight image w (Page i) b e = tt
@@ -117,7 +117,7 @@ pub record ItselfHolds (image : List ℕ) (w : List (Role × ℕ)) (b : ℕ) : T
   pub inside : b < blocks image
   pub unowned : IsAbsent w b
 
-pub itself_holds : (image : List ℕ) (w : List (Role × ℕ)) (r : Role) (a b : ℕ) → IsItself r (demands image w r a b) → ItselfHolds image w b
+pub itself_holds : (image : List ℕ) (w : List (Role × ℕ)) (r : Role) (a b : ℕ) → IsItself r (demands_in image w r a b) → ItselfHolds image w b
 itself_holds image w r a b h = record { inside = (h.1.0 (keeps_range r)).1; unowned = h.1.1.0 (keeps_taken r) }
 
 itself_is : (role : Role) (a b : ℕ) (r t : Bool) (form : List Clause) (E R T N : Type 0) → (is_kept role ShortFile ≡ false → E) → Tells r R
@@ -147,11 +147,11 @@ data_is image Ofs b h k n next = refl
 data_is image Ffs b h k n next = refl
 
 form_is : (image : List ℕ) (w : List (Role × ℕ)) (part : Part) (b : ℕ) (x : Around) → IsAround image w (role_of part) x
-    → form_demands image w (role_of part) b ≡ demands_at b (form_of image part b x)
+    → form_demands_in image w (role_of part) b ≡ demands_at b (form_of image part b x)
 form_is image w RootPart b x h = refl
 form_is image w (PagePart i) b x h = refl
 form_is image w (MapExtPart j) b x h = refl
-form_is image w (HeadPart n p s j) b x h = ap (λ up. demands_at b (head_form (kind_of image) b up s (block image b))) (sym h)
+form_is image w (HeadPart n p s j) b x h = ap (λ up. demands_at b (head_form_in image (kind_of image) b up s (block image b))) (sym h)
 form_is image w (ExtPart n k) b x h = ap (λ up. demands_at b (ext_form b up (block image b))) (sym h)
 form_is image w (DataPart n k) b x h =
     data_is image (kind_of image) b (node_block w n) k (held (kind_of image) (word_in image (node_block w n) SIZE) k) (next_data image w n k)
@@ -159,17 +159,17 @@ form_is image w (DataPart n k) b x h =
 
 -- a part is judged as the tests tell
 pub judged : (image : List ℕ) (w : List (Role × ℕ)) (part : Part) (a b : ℕ) (f : Facts) → Knows image w part b f
-    → Judged (role_of part) (demands image w (role_of part) a b) (judged_by (first_failing image part a b f) (keeps image part b f))
+    → Judged (role_of part) (demands_in image w (role_of part) a b) (judged_by (first_failing image part a b f) (keeps image part b f))
 judged image w part a b f k =
     let r : Role = role_of part in
     let form : List Clause = form_of image part b f.around in
     let before : List Demand → List Demand =
     λ ds. demand ShortFile a (Enough image w r) ∷ demand OutOfRange a ((2 ≤ b) × (b < blocks image)) ∷ demand Taken b (IsAbsent w b)
-    ∷ ds ++ demand SameName b (NewName image w r b) ∷ [] in
+    ∷ ds ++ demand SameName b (NewNameIn image w r b) ∷ [] in
     let P : List Demand → Type 0 = λ ds. Judged r (before ds) (judged_by (first_failing image part a b f) (keeps image part b f)) in
     subst P (sym (form_is image w part b f.around k.around))
     (judged_is r (before (demands_at b form)) (first_failing image part a b f) (keeps image part b f)
     (first_is a b f.is_enough (in_range image b) f.is_absent f.is_new form (Enough image w r) ((2 ≤ b) × (b < blocks image)) (IsAbsent w b)
-    (NewName image w r b) k.enough (tells_range image b) k.absent k.new)
-    (itself_is r a b (in_range image b) f.is_absent form (Enough image w r) ((2 ≤ b) × (b < blocks image)) (IsAbsent w b) (NewName image w r b)
+    (NewNameIn image w r b) k.enough (tells_range image b) k.absent k.new)
+    (itself_is r a b (in_range image b) f.is_absent form (Enough image w r) ((2 ≤ b) × (b < blocks image)) (IsAbsent w b) (NewNameIn image w r b)
     (short_slight image w r) (tells_range image b) k.absent (same_slight image w r b)))

@@ -2,7 +2,6 @@
 use Rattle.std.specs.Prelude.{Bool, true, false, drop, slice_index}
 use Rattle.std.proofs.Common.{◌≡◌, ℕ, zero, suc, List, [], ◌∷◌, ◌++◌, ◌⊎◌, inl, inr, ◌-◌, ◌*◌, ◌/◌, ◌%◌, ◌<◌, ◌≤◌, ◌≢◌, refl, sym, ap, subst, arith}
 use native.Mathlib.Decide.{dec_le, dec_lt, map_dec, ℕ_discrete}
-use Rattle.adf_tree.specs.Texts.{uppers}
 use Rattle.adf_tree.specs.declared.entry.Kind.{Kind}
 use Rattle.adf_tree.specs.declared.entry.Kind.TheVariants.{Ofs, Ffs}
 use Rattle.adf_blocks.specs.declared.cause.Cause.{Cause}
@@ -11,15 +10,15 @@ use Rattle.adf_blocks.specs.Forms.{Clause}
 use Rattle.adf_blocks.specs.Sizes.{blocks}
 use Rattle.adf_blocks.specs.DataBlock.{data_form}
 use Rattle.adf_blocks.specs.ExtBlock.{ext_form}
-use Rattle.adf_blocks.specs.HeadBlock.{head_form}
 use Rattle.adf_blocks.specs.PageBlock.{page_form}
 use Rattle.adf_fields.specs.Words.{block}
 use Rattle.adf_volume.specs.Image.{name_of, kind_of, held, root_of, word_in, IsFreeAt}
 use Rattle.adf_volume.specs.Demands.{Demand, AllHold, FirstFails, demands_at, data_demands}
-use Rattle.adf_volume.specs.Walk.{Role, first, second, Has, data_count, ext_count, Enough, form_demands, NewName, IsAbsent, IsFreeIn, demands}
+use Rattle.adf_volume.specs.Walk.{Role, first, second, Has, data_count, ext_count, Enough, IsAbsent, IsFreeIn}
 use Rattle.adf_volume.specs.Walk.{bitmap_demands, next_data, node_block}
 use Rattle.adf_volume.specs.Walk.Role.{Root, Page, MapExt, Head, Ext, Data}
-use Rattle.adf_survey.specs.Survey.{FindingValue, JudgementValue, Judged, IsItself, is_kept, Course, IsCompared, BitsTell}
+use Rattle.adf_survey.specs.Demands.{NewNameIn, demands_in, form_demands_in, head_form_in, uppers_in}
+use Rattle.adf_survey.specs.Survey.{FindingValue, JudgementValue, Judged, IsItself, is_cache, is_kept, Course, IsCompared, IsUnexcused, BitsTell}
 use Rattle.adf_survey.specs.Survey.JudgementValue.{clean, noted, passed}
 use Rattle.adf_survey.specs.Survey.BitsTell.{ends, agrees, differs}
 use Rattle.adf_volume.proofs.Gathered.{IsGathered, file_one}
@@ -70,6 +69,10 @@ pub dec_true : (t : Bool) → Dec (t ≡ true)
 dec_true true = yes refl
 dec_true false = no (λ e. true_not_false (sym e))
 
+dec_false : (t : Bool) → Dec (t ≡ false)
+dec_false true = no (λ e. true_not_false e)
+dec_false false = yes refl
+
 pub decided_form : (b : ℕ) (form : List Clause) → Decided (demands_at b form)
 decided_form b [] = tt
 decided_form b (x ∷ xs) = (dec_true x.0, decided_form b xs)
@@ -115,11 +118,11 @@ module _ (image : List ℕ) (w : List (Role × ℕ)) (v : IsGathered image w) wh
   decided_data Ofs b h k n next = decided_form b (data_form h k n next (block image b))
   decided_data Ffs b h k n next = tt
 
-  decided_forms : (r : Role) (b : ℕ) → Decided (form_demands image w r b)
+  decided_forms : (r : Role) (b : ℕ) → Decided (form_demands_in image w r b)
   decided_forms Root b = tt
   decided_forms (Page i) b = decided_form b (page_form (block image b))
   decided_forms (MapExt j) b = tt
-  decided_forms (Head n p s j) b = decided_form b (head_form (kind_of image) b (node_block w p) s (block image b))
+  decided_forms (Head n p s j) b = decided_form b (head_form_in image (kind_of image) b (node_block w p) s (block image b))
   decided_forms (Ext n k) b = decided_form b (ext_form b (node_block w n) (block image b))
   decided_forms (Data n k) b =
       decided_data (kind_of image) b (node_block w n) k (held (kind_of image) (word_in image (node_block w n) SIZE) k) (next_data image w n k)
@@ -136,13 +139,13 @@ module _ (image : List ℕ) (w : List (Role × ℕ)) (v : IsGathered image w) wh
 
   -- whether a member is a header of a chain with a name
   dec_named : (p s c : ℕ) (name : List ℕ) (q : Role)
-      → ((m k : ℕ) × (q ≡ Head m p s k) × (uppers (name_of image c) ≡ name)) ⊎ ((m k : ℕ) → q ≡ Head m p s k → uppers (name_of image c) ≢ name)
+      → ((m k : ℕ) × (q ≡ Head m p s k) × (uppers_in image (name_of image c) ≡ name)) ⊎ ((m k : ℕ) → q ≡ Head m p s k → uppers_in image (name_of image c) ≢ name)
   dec_named p s c name (Head m x y k) =
       elim (ℕ_discrete x p) [
         | no n ↦ inr (λ a b e. let h : first (Head m x y k) ≡ first (Head a p s b) = ap first e in absurd (n (omega arith)))
         | yes e ↦ elim (ℕ_discrete y s) [
           | no n ↦ inr (λ a b e. let h : second (Head m x y k) ≡ second (Head a p s b) = ap second e in absurd (n (omega arith)))
-          | yes f ↦ elim (dec_names (uppers (name_of image c)) name) [
+          | yes f ↦ elim (dec_names (uppers_in image (name_of image c)) name) [
             | no n ↦ inr (λ a b e. n)
             | yes g ↦ inl (m, k, (λ t. Head m (e t) (f t) k), g)
           ]
@@ -150,7 +153,7 @@ module _ (image : List ℕ) (w : List (Role × ℕ)) (v : IsGathered image w) wh
       ]
   dec_named p s c name q = inr (λ a b e. let h : second q ≡ second (Head a p s b) = ap second e in absurd (omega arith))
 
-  dec_fresh : (u : List (Role × ℕ)) (p s : ℕ) (name : List ℕ) → Dec ((m k c : ℕ) → Has u (Head m p s k) c → uppers (name_of image c) ≢ name)
+  dec_fresh : (u : List (Role × ℕ)) (p s : ℕ) (name : List ℕ) → Dec ((m k c : ℕ) → Has u (Head m p s k) c → uppers_in image (name_of image c) ≢ name)
   dec_fresh [] p s name = yes (λ m k c h. absurd h)
   dec_fresh (x ∷ u) p s name =
       elim (dec_fresh u p s name) [
@@ -158,18 +161,18 @@ module _ (image : List ℕ) (w : List (Role × ℕ)) (v : IsGathered image w) wh
         | yes l ↦ elim (dec_named p s x.1 name x.0) [
           | inl y ↦ no (λ f. f y.0 y.1 x.1 (inl (y.2, refl)) y.3)
           | inr n ↦ yes (λ m k c h. elim h [
-            | inl e ↦ subst (λ c. uppers (name_of image c) ≢ name) e.1 (n m k e.0)
+            | inl e ↦ subst (λ c. uppers_in image (name_of image c) ≢ name) e.1 (n m k e.0)
             | inr g ↦ l m k c g
           ])
         ]
       ]
 
-  dec_new : (r : Role) (b : ℕ) → Dec (NewName image w r b)
-  dec_new (Head n p s j) b = dec_fresh w p s (uppers (name_of image b))
+  dec_new : (r : Role) (b : ℕ) → Dec (NewNameIn image w r b)
+  dec_new (Head n p s j) b = dec_fresh w p s (uppers_in image (name_of image b))
   dec_new _ b = yes tt
 
-  pub decided : (r : Role) (a b : ℕ) → Decided (demands image w r a b)
-  decided r a b = (dec_enough r, (dec_range b, (dec_absent w b, decided_append (form_demands image w r b) _ (decided_forms r b) (dec_new r b, tt))))
+  pub decided : (r : Role) (a b : ℕ) → Decided (demands_in image w r a b)
+  decided r a b = (dec_enough r, (dec_range b, (dec_absent w b, decided_append (form_demands_in image w r b) _ (decided_forms r b) (dec_new r b, tt))))
 
   dec_free : (b : ℕ) → Dec (IsFreeIn image w b)
   dec_free b =
@@ -184,13 +187,19 @@ module _ (image : List ℕ) (w : List (Role × ℕ)) (v : IsGathered image w) wh
   )
 
 module _ (image : List ℕ) (s : Course) (v : IsGathered image s.walk) where
+  dec_unexcused : (b : ℕ) → Dec (IsUnexcused image s b)
+  dec_unexcused b = elim (dec_absent s.passed_over b) [
+    | no n ↦ no (λ x. n x.0)
+    | yes y ↦ elim (dec_false (is_cache image b)) [ no n ↦ no (λ x. n x.1) | yes z ↦ yes (y, z) ]
+  ]
+
   dec_compared : (b : ℕ) → Dec (IsCompared image s b)
   dec_compared b =
       elim (ℕ_discrete (word_in image (root_of image) BITMAP_FLAG) VALID) [
         | no n ↦ no (λ x. n x.0)
         | yes e ↦ elim (dec_low image s.walk v (Page ((b - 2) / PAGE_BITS)) (omega arith)) [
           | no n ↦ no (λ x. n x.1)
-          | yes y ↦ elim (dec_both (IsAbsent s.walk b) (IsAbsent s.passed_over b) (dec_absent s.walk b) (dec_absent s.passed_over b)) [
+          | yes y ↦ elim (dec_both (IsAbsent s.walk b) (IsUnexcused image s b) (dec_absent s.walk b) (dec_unexcused b)) [
             | no n ↦ no (λ x. n x.2)
             | yes z ↦ yes (e, y, z)
           ]

@@ -15,30 +15,28 @@ use Rattle.adf_survey.specs.Marks.{blamed, has_mark, is_clear}
 use Rattle.adf_survey.specs.declared.concern.Concern.{Concern}
 use Rattle.adf_survey.specs.declared.part.Part.{Part}
 use Rattle.adf_survey.specs.Parts.{part_role, finding_value}
-use Rattle.adf_survey.specs.Survey.{FindingValue, IsSurvey, Judged, finding, start_demands}
-use Rattle.adf_survey.specs.Survey.JudgementValue.{passed}
+use Rattle.adf_survey.specs.Survey.{FindingValue, IsSurvey, UnreadTells}
 use Rattle.adf_survey.specs.Survey.IsSurvey.{read, unread}
 use Rattle.adf_survey.specs.Sound.{IsSound}
 use Rattle.adf_volume.proofs.Gathered.{number_of}
 use Rattle.adf_survey.specs.Surveyed.{IsOfSurvey, Surveyed, TellsOf, kept_of}
-use Rattle.adf_survey.proofs.Concerning.{concerned_kept, none_kept}
+use Rattle.adf_survey.proofs.Concerning.{concerned_kept, no_concern_nth}
 use Rattle.adf_survey.proofs.HeadPlaces.{head_parent}
 use Rattle.adf_survey.proofs.OneSurvey.{gathered, one_survey}
-use Rattle.adf_survey.proofs.SoundMarks.{clear_is_sound, inside}
+use Rattle.adf_survey.proofs.SoundMarks.{clear_is_sound, inside, unread_none}
 use Rattle.adf_survey.proofs.Starts.{course_size}
 
--- of an image whose root is not taken the finding is kept alone
-pub unread_kept : (image : List ℕ) (x : Finding) (items : List Finding) → x.part ≡ None
-    → Judged Root (start_demands image) (passed x.block x.cause) → items ≡ x ∷ []
+-- of an image of which nothing is taken the findings are kept alone
+pub unread_kept : (image : List ℕ) (items : List Finding) → UnreadTells image (map finding_value items)
     → IsOfSurvey (record { image = image; findings = items; concerned = []; nodes = []; parents = []; sound = [] })
-unread_kept image x items none fails e =
-    let part_told : Option Part → FindingValue = λ p. finding (part_role p) x.block x.cause in (
+unread_kept image items told =
+    (
       [],
       map finding_value items,
       record {
-        survey = subst (IsSurvey image []) ((λ i. part_told (sym none i) ∷ []) ∙ ap (map finding_value) (sym e)) (unread fails);
+        survey = unread told;
         findings = refl;
-        concerned = (λ k. none_kept [] x items k none e);
+        concerned = (λ k. sym (no_concern_nth [] (map finding_value items) k (unread_none image told)));
         node = (λ n. refl);
         parent = (λ n. refl);
         count = omega arith;

@@ -9,14 +9,14 @@ use Rattle.std.specs.BTreeMap.{get}
 use Rattle.std.specs.BTreeSet.{BTreeSet, contains}
 use Rattle.std.proofs.lemmas.Bool.{and_parts, cases_Bool, eqb-true, eq-eqb}
 use Rattle.std.proofs.lemmas.Bool.Decides.{nat_tests}
-use Rattle.adf_tree.specs.Texts.{uppers}
 use Rattle.adf_tree.proofs.NameKeys.{same_number, then_is}
 use Rattle.adf_blocks.specs.declared.layout.TheConstants.{POINTERS}
 use Rattle.adf_blocks.specs.Sizes.{blocks}
 use Rattle.adf_volume.specs.Image.{name_of, table_word, word_in}
-use Rattle.adf_volume.specs.Walk.{Role, Asks, Enough, FileAt, Has, IsAbsent, NewName, data_count, ext_block_in, ext_count, member_block, next_data, node_block}
+use Rattle.adf_volume.specs.Walk.{Role, Asks, Enough, FileAt, Has, IsAbsent, data_count, ext_block_in, ext_count, member_block, next_data, node_block}
 use Rattle.adf_volume.specs.Walk.Role.{Root, Page, MapExt, Head, Ext, Data}
 use Rattle.adf_volume.proofs.Gathered.{IsGathered, head_block}
+use Rattle.adf_survey.specs.Demands.{NewNameIn, uppers_in}
 use Rattle.adf_survey.specs.declared.part.Part.{Part}
 use Rattle.adf_survey.specs.declared.part.Part.TheVariants.{Root as RootPart, Page as PagePart, MapExt as MapExtPart, Head as HeadPart}
 use Rattle.adf_survey.specs.declared.part.Part.TheVariants.{Ext as ExtPart, Data as DataPart}
@@ -55,26 +55,26 @@ name_itself [] = refl
 name_itself (x ∷ xs) = rw (then_is (nat_cmp x x) (slice_cmp nat_cmp xs xs), same_number x x, eq-eqb x x refl, name_itself xs) refl
 
 named_is : (image : List ℕ) (q p s c : ℕ) (n m j : ℕ) (name : List ℕ)
-    → is_named image (Head n q m j) c p s name ≡ ((q == p) && ((m == s) && is_eq (slice_cmp nat_cmp (uppers (name_of image c)) name)))
+    → is_named image (Head n q m j) c p s name ≡ ((q == p) && ((m == s) && is_eq (slice_cmp nat_cmp (uppers_in image (name_of image c)) name)))
 named_is image q p s c n m j name = simp (then_is, same_number)
 
 -- in its own chain a header has the name that is its own
 pub own_name : (image : List ℕ) (n p s j c : ℕ) (name : List ℕ)
-    → is_named image (Head n p s j) c p s name ≡ is_eq (slice_cmp nat_cmp (uppers (name_of image c)) name)
+    → is_named image (Head n p s j) c p s name ≡ is_eq (slice_cmp nat_cmp (uppers_in image (name_of image c)) name)
 own_name image n p s j c name = named_is image p p s c n s j name ∙ rw (eq-eqb p p refl, eq-eqb s s refl) refl
 
 -- whether the role is a header of the chain with the name
 tells_named : (image : List ℕ) (r : Role) (c p s : ℕ) (name : List ℕ)
-    → Tells (not (is_named image r c p s name)) ((m k : ℕ) → r ≡ Head m p s k → uppers (name_of image c) ≢ name)
+    → Tells (not (is_named image r c p s name)) ((m k : ℕ) → r ≡ Head m p s k → uppers_in image (name_of image c) ≢ name)
 tells_named image (Head n q m j) c p s name = go (is_named image (Head n q m j) c p s name) refl
   where
-    go : (t : Bool) → is_named image (Head n q m j) c p s name ≡ t → Tells (not t) ((i k : ℕ) → Head n q m j ≡ Head i p s k → uppers (name_of image c) ≢ name)
+    go : (t : Bool) → is_named image (Head n q m j) c p s name ≡ t → Tells (not t) ((i k : ℕ) → Head n q m j ≡ Head i p s k → uppers_in image (name_of image c) ≢ name)
     go true e =
-        let x = and_parts (q == p) ((m == s) && is_eq (slice_cmp nat_cmp (uppers (name_of image c)) name)) (sym (named_is image q p s c n m j name) ∙ e) in
-        let y = and_parts (m == s) (is_eq (slice_cmp nat_cmp (uppers (name_of image c)) name)) x.1 in
+        let x = and_parts (q == p) ((m == s) && is_eq (slice_cmp nat_cmp (uppers_in image (name_of image c)) name)) (sym (named_is image q p s c n m j name) ∙ e) in
+        let y = and_parts (m == s) (is_eq (slice_cmp nat_cmp (uppers_in image (name_of image c)) name)) x.1 in
         let qp : q ≡ p = eqb-true q p x.0 in
         let ms : m ≡ s = eqb-true m s y.0 in
-        λ f. f n j (λ i. Head n (qp i) (ms i) j) (same_name (uppers (name_of image c)) name y.1)
+        λ f. f n j (λ i. Head n (qp i) (ms i) j) (same_name (uppers_in image (name_of image c)) name y.1)
     go false e = λ i k z g.
         let qp : q ≡ p = cc in
         let ms : m ≡ s = cc in
@@ -89,20 +89,20 @@ tells_named image (Data n i) c p s name = λ m k e. cc
 
 -- no header of the chain has the name
 abbrev pub Fresh : List ℕ → ℕ → ℕ → List ℕ → List (Role × ℕ) → Type 0
-Fresh image p s name w = (m k c : ℕ) → Has w (Head m p s k) c → uppers (name_of image c) ≢ name
+Fresh image p s name w = (m k c : ℕ) → Has w (Head m p s k) c → uppers_in image (name_of image c) ≢ name
 
 tells_new : (image : List ℕ) (w : List (Role × ℕ)) (p s : ℕ) (name : List ℕ)
-    → Tells (not (has_name image w p s name)) ((m k c : ℕ) → Has w (Head m p s k) c → uppers (name_of image c) ≢ name)
+    → Tells (not (has_name image w p s name)) ((m k c : ℕ) → Has w (Head m p s k) c → uppers_in image (name_of image c) ≢ name)
 tells_new image [] p s name = λ m k c h. absurd h
 tells_new image (x ∷ w) p s name =
     go (is_named image x.0 x.1 p s name) (has_name image w p s name) (tells_named image x.0 x.1 p s name) (tells_new image w p s name)
   where
-    go : (t u : Bool) → Tells (not t) ((m k : ℕ) → x.0 ≡ Head m p s k → uppers (name_of image x.1) ≢ name) → Tells (not u) (Fresh image p s name w)
+    go : (t u : Bool) → Tells (not t) ((m k : ℕ) → x.0 ≡ Head m p s k → uppers_in image (name_of image x.1) ≢ name) → Tells (not u) (Fresh image p s name w)
         → Tells (not (t || u)) (Fresh image p s name (x ∷ w))
     go true u h k = λ f. h (λ m i e. f m i x.1 (inl (e, refl)))
     go false true h k = λ f. k (λ m i c g. f m i c (inr g))
     go false false h k = λ m i c g. elim g [
-      | inl e ↦ subst (λ c. uppers (name_of image c) ≢ name) e.1 (h m i e.0)
+      | inl e ↦ subst (λ c. uppers_in image (name_of image c) ≢ name) e.1 (h m i e.0)
       | inr z ↦ k m i c z
     ]
 
@@ -120,11 +120,11 @@ pub first_is_new : (image : List ℕ) (w : List (Role × ℕ)) (part : Part) (b 
     → true ≡ new_in image w part b
 first_is_new image w part b n p s e =
     subst (λ part. IsChain w part → true ≡ new_in image w part b) (sym e)
-    (λ none. sym (ap not (no_name image w p s (uppers (name_of image b)) none)))
+    (λ none. sym (ap not (no_name image w p s (uppers_in image (name_of image b)) none)))
 
 -- a later one has a new name where the set does not have it
 pub later_is_new : (image : List ℕ) (w : List (Role × ℕ)) (part : Part) (b n p s j : ℕ) (names : BTreeSet (Vec ℕ)) (name : Vec ℕ) (t : Bool)
-    → part ≡ HeadPart n p s j → (j ≡ 0 → ⊥) → name.items ≡ uppers (name_of image b) → t ≡ contains by_name names name
+    → part ≡ HeadPart n p s j → (j ≡ 0 → ⊥) → name.items ≡ uppers_in image (name_of image b) → t ≡ contains by_name names name
     → AreNamed image w (key_of (role_of part)) names → IsChain w part → not t ≡ new_in image w part b
 later_is_new image w part b n p s j names name t e later is known =
     subst (λ part. AreNamed image w (key_of (role_of part)) names → IsChain w part → not t ≡ new_in image w part b) (sym e) (go j later)
@@ -226,8 +226,8 @@ module _ (image : List ℕ) (f : Found) (s : Course) (st : Stands image f s) whe
       (λ t. nat_le (data_count image (sym (st.node n) t)) (POINTERS * suc (sym (st.ext n) t)))
       (enough_tells n (suc k) h.0.0 v h.0.1 (nat_le (data_count image (node_block s.walk n)) (POINTERS * suc (ext_count s.walk n))) refl)
 
-  new_is : (part : Part) (b : ℕ) → Tells (new_in image s.walk part b) (NewName image s.walk (role_of part) b)
-  new_is (HeadPart n p t j) b = tells_new image s.walk p t (uppers (name_of image b))
+  new_is : (part : Part) (b : ℕ) → Tells (new_in image s.walk part b) (NewNameIn image s.walk (role_of part) b)
+  new_is (HeadPart n p t j) b = tells_new image s.walk p t (uppers_in image (name_of image b))
   new_is RootPart b = tt
   new_is (PagePart k) b = tt
   new_is (MapExtPart j) b = tt
@@ -244,7 +244,7 @@ module _ (image : List ℕ) (f : Found) (s : Course) (st : Stands image f s) whe
   knows part a i b x v h enough absent new around = record {
     enough = subst (λ t. Tells t (Enough image s.walk (role_of part))) (sym enough) (enough_is part a i v h);
     absent = (λ e. subst (λ t. Tells t (IsAbsent s.walk b)) (sym (absent ∙ ap not (st.owned.1 b (below b e)))) (tells_absent s.walk b));
-    new = (λ e. subst (λ t. Tells t (NewName image s.walk (role_of part) b)) (sym (new (below b e))) (new_is part b));
+    new = (λ e. subst (λ t. Tells t (NewNameIn image s.walk (role_of part) b)) (sym (new (below b e))) (new_is part b));
     around = subst (IsAround image s.walk (role_of part)) (sym around) (around_is part);
   }
 

@@ -17,6 +17,8 @@ mod EntryPaths
 pub mod SoundEntries
 pub mod Judged
 pub mod Names
+-- the form of a header by the letters of a volume
+pub mod HeadSlots
 pub mod Taking
 pub mod Keys
 pub mod AsksSplit

@@ -3,13 +3,13 @@ use Rattle.std.specs.Prelude.{Bool, true, ◌↔◌, drop, get_or}
 use Rattle.std.proofs.Math.Seq.{drop-cons}
 use Rattle.std.specs.Str.{bytes_eq}
 use Rattle.std.proofs.lemmas.Slice.Eq.{bytes_eq-Decides}
-use Rattle.adf_tree.specs.Texts.{uppers}
 use Rattle.adf_volume.specs.Image.{name_of}
 use Rattle.std.proofs.Common.{◌≡◌, ℕ, suc, List, ◌∷◌, ◌+◌, length, ◌<◌, ◌≤◌, sym, ap, subst, ◌∙◌, arith}
 use Rattle.adf_volume.specs.Walk.{Role, Has, HeadAt, heads, node_block}
 use Rattle.adf_volume.specs.Walk.Role.{Head}
 use Rattle.adf_volume.proofs.Gathered.{head_block, number_of, numbered as has_number, parent_below}
 use Rattle.adf_volume.proofs.Roles.{head_at}
+use Rattle.adf_survey.specs.Demands.{uppers_in}
 use Rattle.adf_survey.specs.Lookup.{IsNamedChild, IsFirstChild, LeadsTo}
 use Rattle.adf_survey.specs.Survey.{FindingValue, IsSurvey}
 use Rattle.adf_survey.specs.Survey.IsSurvey.{read, unread}
@@ -38,14 +38,14 @@ header_one image w fs (read v d t) n p s j b g = head_block image (gathered imag
 -- an entry of the directory is a child by its name
 pub child_told : (image : List ℕ) (w : List (Role × ℕ)) (fs : List FindingValue) → IsSurvey image w fs → (p n : ℕ) (name text : List ℕ) (t : Bool) (up : ℕ)
     → 1 ≤ n → n ≤ heads w → ((q s j b : ℕ) → Has w (Head n q s j) b → up ≡ q) → up ≡ p → text ≡ name_of image (node_block w n)
-    → t ≡ bytes_eq (uppers text) (uppers name) → (t ≡ true) ↔ IsNamedChild image w p name n
+    → t ≡ bytes_eq (uppers_in image text) (uppers_in image name) → (t ≡ true) ↔ IsNamedChild image w p name n
 child_told image w fs h p n name text t up lo hi parent same is_text is_t =
     let x = header_at image w fs h n lo hi in
     let e : x.parent ≡ p = sym (parent x.parent x.slot x.place (node_block w n) x.has) ∙ same in
     let has : Has w (Head n p x.slot x.place) (node_block w n) = subst (λ p. Has w (Head n p x.slot x.place) (node_block w n)) e x.has in
-    let decides = bytes_eq-Decides (uppers text) (uppers name) in (
-      (λ y. (x.slot, x.place, node_block w n, has, ap uppers (sym is_text) ∙ decides.0 (sym is_t ∙ y))),
-      (λ k. is_t ∙ decides.1 (ap uppers (is_text ∙ ap (name_of image) (header_one image w fs h n p k.0 k.1 k.2 k.3)) ∙ k.4)),
+    let decides = bytes_eq-Decides (uppers_in image text) (uppers_in image name) in (
+      (λ y. (x.slot, x.place, node_block w n, has, ap (uppers_in image) (sym is_text) ∙ decides.0 (sym is_t ∙ y))),
+      (λ k. is_t ∙ decides.1 (ap (uppers_in image) (is_text ∙ ap (name_of image) (header_one image w fs h n p k.0 k.1 k.2 k.3)) ∙ k.4)),
     )
 
 module _ (image : List ℕ) (w : List (Role × ℕ)) where

@@ -1,25 +1,25 @@
 -- An image has at most one survey.
-use Rattle.std.specs.Prelude.{None, Some}
+use Rattle.std.specs.Prelude.{None}
 use Rattle.std.proofs.Common.{◌≡◌, ℕ, suc, List, [], ◌∷◌, ◌++◌, ◌+◌, ◌-◌, ◌<◌, length, refl, sym, subst, ◌∙◌, arith}
 use native.Mathlib.Decide.{dec_lt}
 use Rattle.adf_blocks.specs.Sizes.{blocks}
 use Rattle.adf_volume.specs.Image.{word_in}
 use Rattle.adf_volume.specs.Demands.{Demand}
-use Rattle.adf_volume.specs.Walk.{Role, Same, Asks, demands, bitmap_demands}
+use Rattle.adf_volume.specs.Walk.{Role, Same, Asks, bitmap_demands}
 use Rattle.adf_volume.specs.Walk.Role.{Root}
 use Rattle.adf_volume.proofs.Lists.{fails_not_all}
 use Rattle.adf_volume.proofs.OneFault.{fails_one, neither_before, number_is}
 use Rattle.adf_volume.proofs.Roles.{same_role}
-use Rattle.adf_survey.specs.Survey.{FindingValue, finding, JudgementValue, Judged, RootTells, begun, start_demands}
+use Rattle.adf_survey.specs.Demands.{demands_in}
+use Rattle.adf_survey.specs.Survey.{FindingValue, finding, JudgementValue, Judged, begun}
 use Rattle.adf_survey.specs.Survey.{Course, after, IsNext, IsCourse, IsDone, BitsTell, IsSurvey}
 use Rattle.adf_survey.specs.Survey.JudgementValue.{clean, noted, passed}
 use Rattle.adf_survey.specs.Survey.IsCourse.{start, step}
-use Rattle.adf_survey.specs.Survey.RootTells.{clean_root, noted_root}
 use Rattle.adf_survey.specs.Survey.BitsTell.{ends, agrees, differs}
 use Rattle.adf_survey.specs.Survey.IsSurvey.{unread, read}
 use Rattle.adf_volume.proofs.Gathered.{IsGathered, asks_one}
 use Rattle.adf_volume.proofs.Gathered.IsGathered.{start as gathered_start, step as gathered_step}
-use Rattle.adf_survey.proofs.Starts.{not_passed, root_told}
+use Rattle.adf_survey.proofs.Starts.{boot_one, boot_told, not_unread, root_one, root_told, unread_one}
 
 -- a part is judged in one way
 judged_one : (r : Role) (xs : List Demand) (j k : JudgementValue) → Judged r xs j → Judged r xs k → j ≡ k
@@ -42,7 +42,7 @@ module _ (image : List ℕ) where
   came s r a i (passed at c) v n = v
 
   pub gathered : {s : Course} → IsCourse image s → IsGathered image s.walk
-  gathered (start t) = gathered_start
+  gathered (start b t) = gathered_start
   gathered (step {s = s} {r = r} {a = a} {i = i} j v n h) = came s r a i j (gathered v) n
 
   -- one part is next, by one word
@@ -64,24 +64,16 @@ module _ (image : List ℕ) where
   one_more s r b (passed at c) = omega arith
 
   not_empty : {s : Course} → IsCourse image s → steps s ≡ 0 → ⊥
-  not_empty (start t) e = omega arith
+  not_empty (start b t) e = omega arith
   not_empty (step {s = s} {r = r} {a = a} {i = i} j v n h) e = omega (arith, one_more s r (word_in image a i) j)
-
-  -- one thing is told of the root
-  root_one : {fs gs : List FindingValue} → RootTells image fs → RootTells image gs → fs ≡ gs
-  root_one (clean_root h) (clean_root g) = refl
-  root_one (clean_root h) (noted_root {at = at} {c = c} g) = absurd (fails_not_all (start_demands image) at c g.0 h)
-  root_one (noted_root {at = at} {c = c} h) (clean_root g) = absurd (fails_not_all (start_demands image) at c h.0 g)
-  root_one (noted_root {at = a} {c = c} h) (noted_root {at = b} {c = d} g) =
-      let e = fails_one (start_demands image) a c b d h.0 g.0 in λ t. finding (Some Root) (e.0 t) (e.1 t) ∷ []
 
   -- courses that have judged as many parts are one
   same_courses : {s t : Course} → IsCourse image s → IsCourse image t → steps s ≡ steps t → s ≡ t
-  same_courses (start t) (start u) e = λ i. begun image (root_one t u i)
-  same_courses (start t) (step {s = s} {r = r} {a = a} {i = i} j v n h) e =
+  same_courses (start b t) (start d u) e = λ i. begun image (boot_one image b d i ++ root_one image t u i)
+  same_courses (start b t) (step {s = s} {r = r} {a = a} {i = i} j v n h) e =
       let m : steps (after s r (word_in image a i) j) ≡ suc (steps s) = one_more s r (word_in image a i) j in
       absurd (not_empty v (omega arith))
-  same_courses (step {s = s} {r = r} {a = a} {i = i} j v n h) (start t) e =
+  same_courses (step {s = s} {r = r} {a = a} {i = i} j v n h) (start c t) e =
       let m : steps (after s r (word_in image a i) j) ≡ suc (steps s) = one_more s r (word_in image a i) j in
       absurd (not_empty v (omega arith))
   same_courses (step {s = s} {r = r} {a = a} {i = i} j v n h) (step {s = u} {r = q} {a = b} {i = k} l v' n' h') e =
@@ -89,15 +81,15 @@ module _ (image : List ℕ) where
       let m' : steps (after u q (word_in image b k) l) ≡ suc (steps u) = one_more u q (word_in image b k) l in
       let z : s ≡ u = same_courses v v' (omega arith) in
       let x = next_one u v' r q a i b k (subst (λ s. IsNext image s r a i) z n) n' in
-      let g : Judged q (demands image u.walk q b (word_in image b k)) j =
-      subst (λ (y : Course × (Role × (ℕ × ℕ))). Judged y.1.0 (demands image y.0.walk y.1.0 y.1.1.0 (word_in image y.1.1.0 y.1.1.1)) j)
+      let g : Judged q (demands_in image u.walk q b (word_in image b k)) j =
+      subst (λ (y : Course × (Role × (ℕ × ℕ))). Judged y.1.0 (demands_in image y.0.walk y.1.0 y.1.1.0 (word_in image y.1.1.0 y.1.1.1)) j)
       (λ t. (z t, (x.0 t, (x.1 t, x.2 t)))) h in
-      let y : j ≡ l = judged_one q (demands image u.walk q b (word_in image b k)) j l g h' in
+      let y : j ≡ l = judged_one q (demands_in image u.walk q b (word_in image b k)) j l g h' in
       λ t. after (z t) (x.0 t) (word_in image (x.1 t) (x.2 t)) (y t)
 
   -- a course that is done is not the shorter of two
   not_shorter : {t : Course} → IsCourse image t → (s : Course) → IsCourse image s → IsDone image s → steps s < steps t → ⊥
-  not_shorter (start t) s v d l = not_empty v (omega arith)
+  not_shorter (start b t) s v d l = not_empty v (omega arith)
   not_shorter (step {s = u} {r = r} {a = a} {i = i} j v' n h) s v d l =
       let m : steps (after u r (word_in image a i) j) ≡ suc (steps u) = one_more u r (word_in image a i) j in
       elim (dec_lt (steps s) (steps u)) [
@@ -125,11 +117,9 @@ module _ (image : List ℕ) where
       λ t. finding None (e.0 t) (e.1 t) ∷ y t
 
   pub one_survey : (w u : List (Role × ℕ)) (fs gs : List FindingValue) → IsSurvey image w fs → IsSurvey image u gs → (w ≡ u) × (fs ≡ gs)
-  one_survey w u fs gs (unread {at = at} {c = c} f) (unread {at = at'} {c = c'} g) =
-      let e = fails_one (start_demands image) at c at' c' f.0 g.0 in
-      (refl, (λ t. finding None (e.0 t) (e.1 t) ∷ []))
-  one_survey w u fs gs (unread f) (read v d t) = absurd (not_passed image (root_told image v).1 f)
-  one_survey w u fs gs (read v d t) (unread f) = absurd (not_passed image (root_told image v).1 f)
+  one_survey w u fs gs (unread f) (unread g) = (refl, unread_one image f g)
+  one_survey w u fs gs (unread f) (read v d t) = absurd (not_unread image (boot_told image v).1 (root_told image v).1 f)
+  one_survey w u fs gs (read v d t) (unread f) = absurd (not_unread image (boot_told image v).1 (root_told image v).1 f)
   one_survey w u fs gs (read {s = s} {bits = bits} v d t) (read {s = s'} {bits = bits'} v' d' t') =
       let z = one_course s s' v v' d d' in
       let e = bits_one s' (subst (λ s. BitsTell image s 2 (blocks image - 2) bits) z t) t' in

@@ -2,7 +2,8 @@
 use Rattle.std.specs.Prelude.{Some, None}
 use Rattle.std.proofs.Common.{◌≡◌, ℕ, List, [], ◌∷◌, ◌++◌, refl, sym, subst, ap, ◌∙◌}
 use Rattle.adf_blocks.specs.declared.cause.Cause.{Cause}
-use Rattle.adf_volume.specs.Walk.{Role, demands}
+use Rattle.adf_volume.specs.Walk.{Role}
+use Rattle.adf_survey.specs.Demands.{demands_in}
 use Rattle.adf_survey.specs.declared.part.Part.{Part}
 use Rattle.adf_survey.specs.declared.part.Finding.{Finding}
 use Rattle.adf_survey.specs.declared.course.Ask.{Ask}
@@ -17,7 +18,8 @@ use Rattle.adf_survey.specs.Forms.{Knows, first_failing, judged_by, keeps, judge
 use Rattle.adf_survey.specs.Found.{IsNoted, IsPassed, Stands}
 use Rattle.adf_survey.specs.Parts.{role_of, finding_value}
 use Rattle.adf_survey.specs.Courses.{IsNextAsk, IsOutcome, role_asked}
-use Rattle.adf_volume.proofs.PartDemands.{part_holds}
+use Rattle.adf_volume.specs.Image.{letters_of}
+use Rattle.adf_volume.proofs.PartDemands.{part_holds_by}
 use Rattle.adf_survey.proofs.Judged.{itself_holds, judged}
 use Rattle.adf_survey.proofs.Known.{no_owner}
 use Rattle.adf_survey.proofs.Taking.{stands_noted, stands_passed}
@@ -28,21 +30,21 @@ module _ (image : List ℕ) (f : Found) (s : Course) (x : Ask) (v : IsCourse ima
   role = role_asked s x.part
 
   judgement : (j : Judgement) → judgement_value j ≡ judged_by (first_failing image part x.holder x.block facts) (keeps image part x.block facts)
-      → Judged role (demands image s.walk role x.holder x.block) (judgement_value j)
+      → Judged role (demands_in image s.walk role x.holder x.block) (judgement_value j)
   judgement j e =
-      subst (λ r. Judged r (demands image s.walk r x.holder x.block) (judgement_value j)) is
-      (subst (Judged (role_of part) (demands image s.walk (role_of part) x.holder x.block)) (sym e) (judged image s.walk part x.holder x.block facts k))
+      subst (λ r. Judged r (demands_in image s.walk r x.holder x.block) (judgement_value j)) is
+      (subst (Judged (role_of part) (demands_in image s.walk (role_of part) x.holder x.block)) (sym e) (judged image s.walk part x.holder x.block facts k))
 
-  stepped : (j : JudgementValue) → Judged role (demands image s.walk role x.holder x.block) j → IsCourse image (after s role x.block j)
+  stepped : (j : JudgementValue) → Judged role (demands_in image s.walk role x.holder x.block) j → IsCourse image (after s role x.block j)
   stepped j h =
       subst (λ b. IsCourse image (after s role b j)) n.2
-      (step j v n.1 (subst (λ b. Judged role (demands image s.walk role x.holder b) j) (sym n.2) h))
+      (step j v n.1 (subst (λ b. Judged role (demands_in image s.walk role x.holder b) j) (sym n.2) h))
 
   pub clean_outcome : (j : Judgement) → j ≡ Clean
       → judgement_value j ≡ judged_by (first_failing image part x.holder x.block facts) (keeps image part x.block facts) → IsOutcome image s x f f (Some part)
   clean_outcome j is_clean e =
       let h = judgement Clean (sym (ap judgement_value is_clean) ∙ e) in
-      let holds = part_holds image s.walk role x.holder x.block h in
+      let holds = part_holds_by (letters_of image) image s.walk role x.holder x.block h in
       record {
         role = is;
         inside = holds.inside;

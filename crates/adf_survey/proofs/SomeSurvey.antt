@@ -1,32 +1,36 @@
 -- An image has a survey: parts are judged until none is next. Each part taken leaves one free block fewer;
 -- each part passed over leaves one role fewer in the lists of what the walk can ask for.
-use Rattle.std.specs.Prelude.{Some, None}
+use Rattle.std.specs.Prelude.{Bool, true, false, Some, None}
 use Rattle.std.proofs.Common.{◌≡◌, ℕ, zero, suc, List, [], ◌∷◌, ◌++◌, inl, inr, ◌+◌, ◌-◌, ◌*◌, ◌/◌, ◌%◌, ◌<◌, length, refl, sym, ap, subst, ◌∙◌, arith}
 use native.Mathlib.Decide.{ℕ_discrete}
+use Rattle.adf_blocks.specs.declared.cause.Cause.{Cause}
 use Rattle.adf_blocks.specs.declared.layout.TheConstants.{POINTERS, SLOTS}
 use Rattle.adf_blocks.specs.Sizes.{blocks, is_allowed, pages_needed}
 use Rattle.adf_fields.specs.Words.{block}
 use Rattle.adf_blocks.specs.RootBlock.{root_form}
-use Rattle.adf_volume.specs.Image.{word_in, root_of}
+use Rattle.adf_volume.specs.Image.{letters_of, word_in, root_of}
 use Rattle.adf_volume.specs.Lists.{In}
-use Rattle.adf_volume.specs.Demands.{IsSize, boot_form, boot_demands, root_demands}
-use Rattle.adf_volume.specs.Walk.{Role, Before, Same, Has, heads, MemberAt, Asks, Lacks, IsAbsent, demands}
+use Rattle.adf_volume.specs.Demands.{FirstFails, IsSize, boot_form, boot_demands, root_demands}
+use Rattle.adf_volume.specs.Walk.{Role, Before, Same, Has, heads, MemberAt, Asks, Lacks, IsAbsent}
 use Rattle.adf_volume.specs.Walk.Role.{Root, Page, MapExt, Head, Ext, Data}
 use Rattle.adf_volume.proofs.DecidedAsks.{Asked}
 use Rattle.adf_volume.proofs.FitWalks.{dec_lacks, lacks_same, least, without}
 use Rattle.adf_volume.proofs.Lists.{in_left, in_right}
 use Rattle.adf_volume.proofs.Roles.{head_role, renumbered, renumbered_same, same_of}
-use Rattle.adf_survey.specs.Survey.{FindingValue, finding, JudgementValue, Judged, RootTells, begun, start_demands}
+use Rattle.adf_survey.specs.Demands.{demands_in}
+use Rattle.adf_survey.specs.Survey.{FindingValue, finding, JudgementValue, Judged, BootTells, RootJudged, RootTells, begun, is_other_type}
 use Rattle.adf_survey.specs.Survey.{Course, after, IsNext, IsCourse, IsDone, IsSurvey}
 use Rattle.adf_survey.specs.Survey.JudgementValue.{clean, noted, passed}
 use Rattle.adf_survey.specs.Survey.IsCourse.{start, step}
+use Rattle.adf_survey.specs.Survey.BootTells.{clean_boot, other_type}
 use Rattle.adf_survey.specs.Survey.RootTells.{clean_root, noted_root}
+use Rattle.adf_survey.specs.Survey.UnreadTells.{bad_boot, bad_root}
 use Rattle.adf_survey.specs.Survey.IsSurvey.{unread, read}
 use Rattle.adf_volume.proofs.DecidedAsks.{dec_asked}
 use Rattle.adf_volume.proofs.Gathered.{IsGathered, root_in}
-use Rattle.adf_volume.proofs.PartDemands.{part_holds}
+use Rattle.adf_volume.proofs.PartDemands.{part_holds_by}
 use Rattle.adf_survey.proofs.Judged.{itself_holds}
-use Rattle.adf_survey.proofs.Judging.{decided, decided_append, decided_form, dec_true, judged, bits_told}
+use Rattle.adf_survey.proofs.Judging.{decided, decided_form, dec_true, first_failing, judged, bits_told}
 use Rattle.adf_survey.proofs.OneSurvey.{gathered}
 
 -- the values at the numbers below n
@@ -191,14 +195,14 @@ module _ (image : List ℕ) where
               let q : Role = renumbered (suc (heads s.walk)) x.0 in
               let a : ℕ = x.2.0.0 in
               let i : ℕ = x.2.0.1 in
-              let y = judged q (demands image s.walk q a (word_in image a i)) (decided image s.walk (gathered image v) q a (word_in image a i)) in
+              let y = judged q (demands_in image s.walk q a (word_in image a i)) (decided image s.walk (gathered image v) q a (word_in image a i)) in
               go x.0 x.1 q refl a i (next_of s v fr rs cover x.0 x.2 x.3) y.0 y.1
         ]
       where
         go : (z : Role) → In rs z → (q : Role) → renumbered (suc (heads s.walk)) z ≡ q → (a i : ℕ) → IsNext image s q a i
-            → (j : JudgementValue) → Judged q (demands image s.walk q a (word_in image a i)) j → Finished
+            → (j : JudgementValue) → Judged q (demands_in image s.walk q a (word_in image a i)) j → Finished
         go z mem q e a i next clean h =
-            let part = part_holds image s.walk q a (word_in image a i) h in
+            let part = part_holds_by (letters_of image) image s.walk q a (word_in image a i) h in
             took s.walk s.passed_over s.findings q (word_in image a i) (step clean v next h) part.inside part.unowned fr
         go z mem q e a i next (noted at c) h =
             let part = itself_holds image s.walk q a (word_in image a i) h.1 in
@@ -227,10 +231,14 @@ module _ (image : List ℕ) where
       judge_all free (λ rest k. finish n rest (omega arith)) (length rs) rs refl s v fr
       (λ r a i ask lack unpassed. covered s.walk (gathered image v) r a i ask)
 
-  finished : (fs : List FindingValue) → RootTells image fs → Finished
-  finished fs told =
+  -- where the root is taken, the parts are gone through
+  gone_through : {boot root : List FindingValue} → BootTells image boot → RootTells image root
+      → (w : List (Role × ℕ)) × (gs : List FindingValue) × IsSurvey image w gs
+  gone_through {boot = boot} {root = root} b r =
       let free : List ℕ = upto (λ b. b) (blocks image) in
-      finish (length free) free refl (begun image fs) (start told) (λ b lt h. in_upto (λ b. b) (blocks image) b lt)
+      let t = finish (length free) free refl (begun image (boot ++ root)) (start b r) (λ b lt h. in_upto (λ b. b) (blocks image) b lt) in
+      let bits = bits_told image t.0 (gathered image t.1) 2 (blocks image - 2) in
+      (t.0.walk, t.0.findings ++ bits.0, read t.1 t.2 bits.1)
 
   decided_size : Dec (IsSize image)
   decided_size = elim (ℕ_discrete (length image) (512 * blocks image)) [
@@ -238,23 +246,24 @@ module _ (image : List ℕ) where
     | yes e ↦ elim (dec_true (is_allowed (blocks image))) [ no n ↦ no (λ x. n x.1) | yes y ↦ yes (e, y) ]
   ]
 
-  -- the root is judged
-  start_judged : (j : JudgementValue) × Judged Root (start_demands image) j
-  start_judged =
-      judged Root (start_demands image) (decided_append (boot_demands image) (root_demands image (root_of image))
-      (decided_size, decided_form 0 (boot_form (block image 0))) (decided_form (root_of image) (root_form (block image (root_of image)))))
+  -- behind a boot block of type 0 to 5 the root is judged
+  behind_boot : {boot : List FindingValue} → BootTells image boot → (w : List (Role × ℕ)) × (fs : List FindingValue) × IsSurvey image w fs
+  behind_boot {boot = boot} b =
+      let y = judged Root (root_demands image (root_of image)) (decided_form (root_of image) (root_form (block image (root_of image)))) in go y.0 y.1
+    where
+      go : (j : JudgementValue) → RootJudged image j → (w : List (Role × ℕ)) × (fs : List FindingValue) × IsSurvey image w fs
+      go clean h = gone_through b (clean_root h)
+      go (noted at c) h = gone_through b (noted_root h)
+      go (passed at c) h = ([], boot ++ finding None at c ∷ [], unread (bad_root b h))
 
-  -- where it is taken, the parts are gone through
-  gone_through : (fs : List FindingValue) → RootTells image fs → (w : List (Role × ℕ)) × (gs : List FindingValue) × IsSurvey image w gs
-  gone_through fs told =
-      let t = finished fs told in
-      let bits = bits_told image t.0 (gathered image t.1) 2 (blocks image - 2) in
-      (t.0.walk, t.0.findings ++ bits.0, read t.1 t.2 bits.1)
+  -- a boot block with a cause is of another type, or nothing is taken
+  by_cause : (at : ℕ) (c : Cause) → FirstFails (boot_demands image) at c → (t : Bool) → is_other_type c ≡ t
+      → (w : List (Role × ℕ)) × (fs : List FindingValue) × IsSurvey image w fs
+  by_cause at c f true e = behind_boot (other_type f e)
+  by_cause at c f false e = ([], finding None at c ∷ [], unread (bad_boot f e))
 
   pub some_survey : (w : List (Role × ℕ)) × (fs : List FindingValue) × IsSurvey image w fs
-  some_survey = let y = start_judged in go y.0 y.1
-    where
-      go : (j : JudgementValue) → Judged Root (start_demands image) j → (w : List (Role × ℕ)) × (fs : List FindingValue) × IsSurvey image w fs
-      go clean h = gone_through [] (clean_root h)
-      go (noted at c) h = gone_through (finding (Some Root) at c ∷ []) (noted_root h)
-      go (passed at c) h = ([], finding None at c ∷ [], unread h)
+  some_survey = elim (first_failing (boot_demands image) (decided_size, decided_form 0 (boot_form (block image 0)))) [
+    | inl h ↦ behind_boot (clean_boot h)
+    | inr f ↦ by_cause f.0 f.1 f.2 (is_other_type f.1) refl
+  ]

@@ -4,14 +4,15 @@ use Rattle.std.proofs.Common.{◌≡◌, ℕ, zero, suc, List, [], ◌∷◌, �
 use Rattle.std.proofs.lemmas.Bool.{cond-false, cond-true, le-ltb, lt-ltb}
 use native.Mathlib.Decide.{dec_lt}
 use Rattle.adf_blocks.specs.declared.layout.TheConstants.{POINTERS, SIZE}
-use Rattle.adf_volume.specs.Image.{held, kind_of, word_in, table_word}
+use Rattle.adf_volume.specs.Image.{letters_of, held, kind_of, word_in, table_word}
 use Rattle.adf_volume.specs.Lists.{In}
-use Rattle.adf_volume.specs.Demands.{AllHold, data_demands, ext_demands, head_demands}
-use Rattle.adf_volume.specs.Walk.{first, Before, Lacks, NodeAt, form_demands, member_block, next_data, node_block}
-use Rattle.adf_volume.specs.Walk.{Role, second, Has, FileAt, MemberAt, data_count, Asks, IsAbsent, ext_count, demands}
+use Rattle.adf_volume.specs.Demands.{AllHold, data_demands, ext_demands}
+use Rattle.adf_volume.specs.Walk.{first, Before, Lacks, NodeAt, member_block, next_data, node_block}
+use Rattle.adf_volume.specs.Walk.{Role, second, Has, FileAt, MemberAt, data_count, Asks, IsAbsent, ext_count}
 use Rattle.adf_volume.specs.Walk.Role.{Root, Head, Ext, Data}
 use Rattle.adf_volume.proofs.Lists.{in_left, in_right}
 use Rattle.adf_volume.proofs.Roles.{count_up, dec_has, dir_is_node, has_low, head_in, head_role, same_refl, typed_in}
+use Rattle.adf_survey.specs.Demands.{demands_in, form_demands_in, head_demands_in}
 use Rattle.adf_survey.specs.Survey.{FindingValue, finding, Course, IsNext, IsCourse, IsDone, IsSurvey}
 use Rattle.adf_survey.specs.Survey.JudgementValue.{clean, noted, passed}
 use Rattle.adf_survey.specs.Survey.IsCourse.{start, step}
@@ -19,7 +20,7 @@ use Rattle.adf_survey.specs.Survey.IsSurvey.{unread, read}
 use Rattle.adf_survey.specs.Sound.{FileHolds, HeaderHolds, IsNextData, IsSound, IsUnnoted}
 use Rattle.adf_volume.proofs.Gathered.{IsGathered, asked_dir, asked_file, asks_one, ext_counted, file_one, head_block, member_is, node_is, node_one, one_block}
 use Rattle.adf_survey.proofs.OneSurvey.{gathered}
-use Rattle.adf_volume.proofs.PartDemands.{part_holds}
+use Rattle.adf_volume.proofs.PartDemands.{part_holds_by}
 use Rattle.adf_survey.proofs.Judged.{itself_holds}
 
 module _ (image : List ℕ) where
@@ -35,7 +36,7 @@ module _ (image : List ℕ) where
 
   -- what was passed over is noted
   pub passed_noted : {s : Course} → IsCourse image s → (r : Role) (b : ℕ) → Has s.passed_over r b → Noted s.findings r
-  passed_noted (start t) r b h = absurd h
+  passed_noted (start boot root) r b h = absurd h
   passed_noted (step {s = s} {r = q} {a = a} {i = i} clean v n g) r b h = passed_noted v r b h
   passed_noted (step {s = s} {r = q} {a = a} {i = i} (noted at c) v n g) r b h = noted_more s.findings (finding (Some q) at c ∷ []) r (passed_noted v r b h)
   passed_noted (step {s = s} {r = q} {a = a} {i = i} (passed at c) v n g) r b (inl e) = noted_now s.findings r (finding (Some q) at c) (ap Some e.0)
@@ -53,7 +54,7 @@ module _ (image : List ℕ) where
     index : ℕ
     asked : Asks image before r at index
     named : word_in image at index ≡ b
-    judged : AllHold (demands image before r at b) ⊎ Noted fs r
+    judged : AllHold (demands_in image before r at b) ⊎ Noted fs r
     older : (q : Role) (c : ℕ) → Has before q c → Has w q c
     counted : (n : ℕ) → ext_count before n ≤ ext_count w n
     earlier : (q : Role) (c k : ℕ) → Asks image before q c k → Before q r → Lacks before q → IsUnnoted fs q → ⊥
@@ -88,7 +89,7 @@ module _ (image : List ℕ) where
 
   came_new : (s : Course) (r : Role) (a i : ℕ) (w : List (Role × ℕ)) (fs : List FindingValue) (x : Role × ℕ) → w ≡ x ∷ s.walk → IsCourse image s
       → IsNext image s r a i → ((q : Role) → Noted s.findings q → Noted fs q)
-      → AllHold (demands image s.walk r a (word_in image a i)) ⊎ Noted fs r → Came w fs r (word_in image a i)
+      → AllHold (demands_in image s.walk r a (word_in image a i)) ⊎ Noted fs r → Came w fs r (word_in image a i)
   came_new s r a i w fs x e v n more j = record {
     before = s.walk;
     came_before = gathered image v;
@@ -105,8 +106,8 @@ module _ (image : List ℕ) where
 
   -- each member but the root came by a word, and has no cause or is noted
   came : {s : Course} → IsCourse image s → (r : Role) (b : ℕ) → Has s.walk r b → (Root ≡ r) ⊎ Came s.walk s.findings r b
-  came (start t) r b (inl e) = inl e.0
-  came (start t) r b (inr h) = absurd h
+  came (start boot root) r b (inl e) = inl e.0
+  came (start boot root) r b (inr h) = absurd h
   came (step {s = s} {r = q} {a = a} {i = i} clean v n g) r b (inl e) =
       let w : List (Role × ℕ) = (q, word_in image a i) ∷ s.walk in
       inr (subst (Came w s.findings r) e.1 (subst (λ r. Came w s.findings r (word_in image a i)) e.0
@@ -141,7 +142,7 @@ module _ (image : List ℕ) where
   module _ {s : Course} (v : IsCourse image s) (done : IsDone image s) where
     -- a member that nothing is said against came without a cause
     came_clean : (r : Role) (b : ℕ) → Has s.walk r b → (Root ≡ r → ⊥) → IsUnnoted s.findings r
-        → (y : Came s.walk s.findings r b) × AllHold (demands image y.before r y.at b)
+        → (y : Came s.walk s.findings r b) × AllHold (demands_in image y.before r y.at b)
     came_clean r b g other clear =
         elim (came v r b g) [
           | inl e ↦ absurd (other e)
@@ -149,10 +150,10 @@ module _ (image : List ℕ) where
         ]
 
     came_formed : (r : Role) (b : ℕ) → Has s.walk r b → (Root ≡ r → ⊥) → IsUnnoted s.findings r
-        → (y : Came s.walk s.findings r b) × AllHold (form_demands image y.before r b)
+        → (y : Came s.walk s.findings r b) × AllHold (form_demands_in image y.before r b)
     came_formed r b g other clear =
         let x = came_clean r b g other clear in
-        (x.0, (part_holds image x.0.before r x.0.at b x.1).form)
+        (x.0, (part_holds_by (letters_of image) image x.0.before r x.0.at b x.1).form)
 
     node_before : (w : List (Role × ℕ)) (p a : ℕ) → ((q : Role) (c : ℕ) → Has w q c → Has s.walk q c) → NodeAt w p a → NodeAt s.walk p a
     node_before w zero a older f = older Root a f
@@ -160,7 +161,7 @@ module _ (image : List ℕ) where
 
     -- a header has its form
     head_formed : (n p t j h up : ℕ) → Has s.walk (Head n p t j) h → IsUnnoted s.findings (Head n p t j) → NodeAt s.walk p up
-        → AllHold (head_demands image (kind_of image) h up t)
+        → AllHold (head_demands_in image (kind_of image) h up t)
     head_formed n p t j h up g clear node =
         let x = came_formed (Head n p t j) h g (λ e. let x : second Root ≡ second (Head n p t j) = ap second e in omega arith) clear in
         let w : List (Role × ℕ) = x.0.before in
@@ -168,7 +169,7 @@ module _ (image : List ℕ) where
         let f : NodeAt w p d.0 = dir_is_node image w p d.0 d.1 in
         let e : node_block w p ≡ up =
         node_is image x.0.came_before p d.0 f ∙ node_one image (gathered image v) p d.0 up (node_before w p d.0 x.0.older f) node in
-        subst (λ up. AllHold (head_demands image (kind_of image) h up t)) e x.1
+        subst (λ up. AllHold (head_demands_in image (kind_of image) h up t)) e x.1
 
     -- the file of a part is that of the walk
     file_was : (w : List (Role × ℕ)) (n a h : ℕ) → IsGathered image w → ((q : Role) (c : ℕ) → Has w q c → Has s.walk q c) → FileAt image w n a
@@ -204,7 +205,7 @@ module _ (image : List ℕ) where
       member_before w zero a older f = file_before w a older f
       member_before w (suc m) a older f = older (Ext n (suc m)) a f
 
-      data_clean : (k b : ℕ) → Has s.walk (Data n k) b → (y : Came s.walk s.findings (Data n k) b) × AllHold (demands image y.before (Data n k) y.at b)
+      data_clean : (k b : ℕ) → Has s.walk (Data n k) b → (y : Came s.walk s.findings (Data n k) b) × AllHold (demands_in image y.before (Data n k) y.at b)
       data_clean k b g = came_clean (Data n k) b g (λ e. let x : second Root ≡ second (Data n k) = ap second e in omega arith) (clear k)
 
       enough : data_count image h ≤ POINTERS * suc (ext_count s.walk n)
@@ -308,7 +309,7 @@ module _ (image : List ℕ) where
         data_formed k b g =
             let x = data_clean (suc k) b g in
             let y = x.0 in
-            let form : AllHold (form_demands image y.before (Data n (suc k)) b) = (part_holds image y.before (Data n (suc k)) y.at b x.1).form in
+            let form : AllHold (form_demands_in image y.before (Data n (suc k)) b) = (part_holds_by (letters_of image) image y.before (Data n (suc k)) y.at b x.1).form in
             let d = y.asked.0 in
             let e : node_block y.before n ≡ h = file_was y.before n d.0 h y.came_before y.older d.1 file in
             let next : ℕ = next_data image y.before n (suc k) in (
@@ -325,11 +326,11 @@ module _ (image : List ℕ) where
   absent_new w z r q c b h k (inr e) (inr f) = k e f
 
   pub one_role : {s : Course} → IsCourse image s → (r q : Role) (b : ℕ) → Has s.walk r b → Has s.walk q b → r ≡ q
-  one_role (start t) r q b (inl e) (inl f) = sym e.0 ∙ f.0
-  one_role (start t) r q b (inl e) (inr f) = absurd f
-  one_role (start t) r q b (inr e) f = absurd e
+  one_role (start boot root) r q b (inl e) (inl f) = sym e.0 ∙ f.0
+  one_role (start boot root) r q b (inl e) (inr f) = absurd f
+  one_role (start boot root) r q b (inr e) f = absurd e
   one_role (step {s = s} {r = z} {a = a} {i = i} clean v n g) r q b h k =
-      let part = part_holds image s.walk z a (word_in image a i) g in
+      let part = part_holds_by (letters_of image) image s.walk z a (word_in image a i) g in
       absent_new s.walk z r q (word_in image a i) b part.unowned (one_role v r q b) h k
   one_role (step {s = s} {r = z} {a = a} {i = i} (noted at c) v n g) r q b h k =
       let part = itself_holds image s.walk z a (word_in image a i) g.1 in

@@ -7,7 +7,7 @@ use Rattle.std.proofs.lemmas.Bool.Decides.{nat_tests}
 use Rattle.adf_tree.specs.declared.entry.Kind.{Kind}
 use Rattle.adf_tree.specs.declared.entry.Kind.TheVariants.{Ofs, Ffs}
 use Rattle.adf_blocks.specs.Sizes.{blocks}
-use Rattle.adf_volume.specs.Image.{kind_of, root_of, word_in}
+use Rattle.adf_volume.specs.Image.{letters_of, kind_of, root_of, word_in}
 use Rattle.adf_volume.specs.Lists.{In}
 use Rattle.adf_volume.specs.Walk.{Role, first, second, Same, Has, Asks, Lacks, IsAbsent, heads, node_block}
 use Rattle.adf_volume.specs.Walk.Role.{Root, Page, MapExt, Head, Ext, Data}
@@ -28,10 +28,12 @@ use Rattle.adf_survey.specs.Found.{Stands, at_key, datas_of, owns, with_data}
 use Rattle.adf_survey.specs.Marks.{blamed, is_blamed, is_clear, is_doubtful, is_node, is_sharing, sharing, is_header}
 use Rattle.adf_survey.specs.Parts.{key_of, part_role, finding_value}
 use Rattle.adf_survey.specs.Sound.{IsSound, IsUnnoted}
-use Rattle.adf_survey.specs.Survey.{BitsTell, Course, FindingValue, IsCourse, IsDone, IsNext, finding}
+use Rattle.adf_survey.specs.Survey.{BitsTell, BootTells, Course, FindingValue, IsCourse, IsDone, IsNext, RootTells, UnreadTells, finding}
 use Rattle.adf_survey.specs.Survey.BitsTell.{agrees, differs, ends}
 use Rattle.adf_survey.specs.Survey.IsCourse.{start, step}
+use Rattle.adf_survey.specs.Survey.BootTells.{clean_boot, other_type}
 use Rattle.adf_survey.specs.Survey.RootTells.{clean_root, noted_root}
+use Rattle.adf_survey.specs.Survey.UnreadTells.{bad_boot, bad_root}
 use Rattle.adf_survey.specs.Survey.JudgementValue.{clean, noted, passed}
 use Rattle.adf_survey.proofs.Keys.{lacks_at, same_of_key}
 use Rattle.adf_survey.proofs.AsksSplit.{asks_more}
@@ -39,7 +41,7 @@ use Rattle.adf_survey.proofs.BitSteps.{at_has}
 use Rattle.adf_survey.proofs.HeadPlaces.{found_header, header_found}
 use Rattle.adf_survey.proofs.Known.{tells_absent}
 use Rattle.adf_survey.proofs.OneSurvey.{gathered}
-use Rattle.adf_volume.proofs.PartDemands.{part_holds}
+use Rattle.adf_volume.proofs.PartDemands.{part_holds_by}
 use Rattle.adf_survey.proofs.Judged.{itself_holds}
 use Rattle.adf_survey.proofs.SoundEntries.{one_role}
 
@@ -57,10 +59,34 @@ module _ (image : List ℕ) where
   settled_more s r q b fs (inl h) = inl (h.0, inr h.1)
   settled_more s r q b fs (inr h) = inr h
 
+  -- the boot block tells of no part
+  boot_none : {fs : List FindingValue} → BootTells image fs → (f : FindingValue) → In fs f → f.part ≡ None
+  boot_none (clean_boot h) f m = absurd m
+  boot_none (other_type h e) f (inl k) = ap (λ f. f.part) (sym k)
+  boot_none (other_type h e) f (inr m) = absurd m
+
+  -- nor does an image of which nothing is taken
+  pub unread_none : {fs : List FindingValue} → UnreadTells image fs → (f : FindingValue) → In fs f → f.part ≡ None
+  unread_none (bad_boot h e) f (inl k) = ap (λ f. f.part) (sym k)
+  unread_none (bad_boot h e) f (inr m) = absurd m
+  unread_none (bad_root {boot = fs} {at = at} {c = c} b h) f m =
+      elim (in_cases fs (finding None at c ∷ []) f m) [
+        | inl k ↦ boot_none b f k
+        | inr k ↦ elim k [ inl e ↦ ap (λ f. f.part) (sym e) | inr n ↦ absurd n ]
+      ]
+
+  -- the root of itself
+  root_part : {fs : List FindingValue} → RootTells image fs → (f : FindingValue) (q : Role) → In fs f → f.part ≡ Some q → Root ≡ q
+  root_part (clean_root h) f q m e = absurd m
+  root_part (noted_root {at = at} {c = c} h) f q m e = new_part Root q (finding (Some Root) at c) f refl m e
+
   -- a part that a finding concerns was taken or passed over
   noted_settled : {s : Course} → IsCourse image s → (f : FindingValue) (q : Role) → In s.findings f → f.part ≡ Some q → Settled s q
-  noted_settled (start (clean_root h)) f q m e = absurd m
-  noted_settled (start (noted_root {at = at} {c = c} h)) f q m e = inl (root_of image, inl (new_part Root q (finding (Some Root) at c) f refl m e, refl))
+  noted_settled (start {boot = fs} {root = gs} b t) f q m e =
+      elim (in_cases fs gs f m) [
+        | inl k ↦ let none : Some q ≡ None = sym e ∙ boot_none b f k in absurd (cc)
+        | inr k ↦ inl (root_of image, inl (root_part t f q k e, refl))
+      ]
   noted_settled (step {s = s} {r = r} {a = a} {i = i} clean v n g) f q m e =
       settled_more s r q (word_in image a i) s.findings (noted_settled v f q m e)
   noted_settled (step {s = s} {r = r} {a = a} {i = i} (noted at c) v n g) f q m e =
@@ -86,7 +112,7 @@ module _ (image : List ℕ) where
 
   -- what is taken was not passed over
   pub apart : {s : Course} → IsCourse image s → (r q : Role) (b c : ℕ) → Has s.walk r b → Has s.passed_over q c → Same r q → ⊥
-  apart (start t) r q b c h k same = k
+  apart (start boot root) r q b c h k same = k
   apart (step {s = s} {r = z} clean v n g) r q b c (inl e) k same = new_apart s.passed_over z r q c n.unpassed e.0 k same
   apart (step clean v n g) r q b c (inr h) k same = apart v r q b c h k same
   apart (step {s = s} {r = z} (noted at d) v n g) r q b c (inl e) k same = new_apart s.passed_over z r q c n.unpassed e.0 k same
@@ -128,15 +154,15 @@ module _ (image : List ℕ) where
 
   -- what is taken is asked for in its block
   pub taken_wanted : {s : Course} → IsCourse image s → (r : Role) (b : ℕ) → Has s.walk r b → (Root ≡ r) ⊎ Wanted s.walk r b
-  taken_wanted (start t) r b (inl e) = inl e.0
-  taken_wanted (start t) r b (inr h) = absurd h
+  taken_wanted (start boot root) r b (inl e) = inl e.0
+  taken_wanted (start boot root) r b (inr h) = absurd h
   taken_wanted (step {s = s} {r = z} {a = a} {i = i} clean v n g) r b h = wanted_new s z a i v n r b (taken_wanted v r b) h
   taken_wanted (step {s = s} {r = z} {a = a} {i = i} (noted at c) v n g) r b h = wanted_new s z a i v n r b (taken_wanted v r b) h
   taken_wanted (step (passed at c) v n g) r b h = taken_wanted v r b h
 
   -- what was passed over is asked for in its block
   passed_wanted : {s : Course} → IsCourse image s → (r : Role) (b : ℕ) → Has s.passed_over r b → Wanted s.walk r b
-  passed_wanted (start t) r b h = absurd h
+  passed_wanted (start boot root) r b h = absurd h
   passed_wanted (step {s = s} {r = z} {a = a} {i = i} clean v n g) r b h =
       wanted_later s z a i (word_in image a i) v n r b (passed_wanted v r b h)
   passed_wanted (step {s = s} {r = z} {a = a} {i = i} (noted at c) v n g) r b h =
@@ -179,10 +205,10 @@ module _ (image : List ℕ) where
 
   -- what is taken is inside of the image
   pub inside : {s : Course} → IsCourse image s → (r : Role) (b : ℕ) → (Root ≡ r → ⊥) → Has s.walk r b → b < blocks image
-  inside (start t) r b other (inl e) = absurd (other e.0)
-  inside (start t) r b other (inr h) = absurd h
+  inside (start boot root) r b other (inl e) = absurd (other e.0)
+  inside (start boot root) r b other (inr h) = absurd h
   inside (step {s = s} {r = z} {a = a} {i = i} clean v d g) r b other (inl e) =
-      let part = part_holds image s.walk z a (word_in image a i) g in subst (λ b. b < blocks image) e.1 part.inside
+      let part = part_holds_by (letters_of image) image s.walk z a (word_in image a i) g in subst (λ b. b < blocks image) e.1 part.inside
   inside (step clean v d g) r b other (inr h) = inside v r b other h
   inside (step {s = s} {r = z} {a = a} {i = i} (noted at c) v d g) r b other (inl e) =
       let part = itself_holds image s.walk z a (word_in image a i) g.1 in subst (λ b. b < blocks image) e.1 part.inside

@@ -2,12 +2,14 @@
 use Rattle.std.specs.Prelude.{◌==◌, ◌↔◌, Option, Some, None, cond, get_or}
 use Rattle.std.proofs.Common.{◌≡◌, ℕ, zero, suc, List, [], ◌∷◌, ◌+◌, ◌-◌, ◌≤◌, ◌<◌, true, refl, sym, ap, subst, ◌∙◌, arith}
 use Rattle.adf_blocks.specs.declared.layout.TheConstants.{SECONDARY_TYPE, ST_DIR, ST_FILE}
+use Rattle.adf_fields.specs.declared.hash.Letters.TheVariants.{Ascii}
+use Rattle.adf_tree.specs.Texts.{uppers_by}
 use Rattle.adf_tree.specs.declared.entry.Body.TheVariants.{Dir, File}
 use Rattle.adf_tree.specs.declared.entry.Entry.{Entry}
 use Rattle.adf_tree.specs.Tree.{IsTree, Tree, child, entry, find, find_from, is_child}
 use Rattle.adf_tree.proofs.ChildLookup.{child_is, child_says, found_is, is_child_from}
 use Rattle.adf_volume.specs.Fits.{Fits}
-use Rattle.adf_volume.specs.Image.{content, kind_of, word_in}
+use Rattle.adf_volume.specs.Image.{content, kind_of, letters_of, name_of, root_of, word_in}
 use Rattle.adf_volume.specs.Layout.{Layout}
 use Rattle.adf_volume.specs.Lists.{At}
 use Rattle.adf_volume.specs.Made.{datas_in, entries_in, entry_in, layout_in, tree_in}
@@ -15,7 +17,9 @@ use Rattle.adf_volume.specs.Walk.{Role, Has, HeadAt, IsWalk, IsWhole, heads, nod
 use Rattle.adf_volume.specs.Walk.Role.{Head}
 use Rattle.adf_volume.proofs.Chains.{entry_is_at}
 use Rattle.adf_volume.proofs.FitWalks.{one_fit}
-use Rattle.adf_volume.proofs.Lists.{at_below, at_index_or}
+use Rattle.adf_volume.specs.Demands.{boot_demands, root_demands}
+use Rattle.adf_volume.proofs.ImageStart.{plain_letters}
+use Rattle.adf_volume.proofs.Lists.{all_split, at_below, at_index_or}
 use Rattle.adf_volume.proofs.Roles.{head_at}
 use Rattle.adf_volume.proofs.WalkMembers.{entries_length, entry_has}
 use Rattle.adf_volume.proofs.Walks.{file_is, number_of, numbered as has_number}
@@ -26,7 +30,7 @@ use Rattle.adf_survey.specs.Survey.{FindingValue, IsSurvey}
 use Rattle.adf_survey.proofs.AllSound.{all_sound}
 use Rattle.adf_survey.proofs.FirstFindings.{finds_none, none_found, shown}
 
-module _ (image : List ℕ) (w : List (Role × ℕ)) (v : IsWalk image w) (tree : IsTree (entries_in image w w)) where
+module _ (image : List ℕ) (w : List (Role × ℕ)) (v : IsWalk image w) (tree : IsTree (entries_in image w w)) (plain : letters_of image ≡ Ascii) where
   abbrev entries : List Entry
   entries = entries_in image w w
 
@@ -37,7 +41,8 @@ module _ (image : List ℕ) (w : List (Role × ℕ)) (v : IsWalk image w) (tree 
       let x : Entry = entry_in image w (suc i) p b in
       let at : At entries i x = entry_has image w v (head_at (suc i) p s j b has) in
       let holds : is_child p name (get_or entries i x) ≡ true =
-      ap (is_child p name) (at_index_or entries i x x at) ∙ is_child_from p name x refl same in
+      ap (is_child p name) (at_index_or entries i x x at)
+      ∙ is_child_from p name x refl (subst (λ l. uppers_by l (name_of image b) ≡ uppers_by l name) plain same) in
       let z : i + 1 ≡ suc i = omega arith in
       child_is entries p name i x tree (at_below entries i x at) holds ∙ ap Some z
 
@@ -53,7 +58,8 @@ module _ (image : List ℕ) (w : List (Role × ℕ)) (v : IsWalk image w) (tree 
       sym (ap (is_child p name) (at_index_or entries i x d (entry_has image w v k.1)))
       ∙ subst (λ i. is_child p name (get_or entries i d) ≡ true) z f.2 in
       let says = child_says p name x holds in
-      (k.1.slot, k.1.place, k.0, subst (λ p. Has w (Head (suc i) p k.1.slot k.1.place) k.0) says.0 k.1.has, says.1)
+      (k.1.slot, k.1.place, k.0, subst (λ p. Has w (Head (suc i) p k.1.slot k.1.place) k.0) says.0 k.1.has,
+      subst (λ l. uppers_by l (name_of image k.0) ≡ uppers_by l name) (sym plain) says.1)
 
   child_first : (p n : ℕ) (name : List ℕ) → child entries p name ≡ Some n → IsFirstChild image w p name n
   child_first p n name e = (
@@ -116,21 +122,24 @@ module _ (image : List ℕ) (t : Tree) (l : Layout) (w : List (Role × ℕ)) (fs
   made : Fits image (tree_in image w) (layout_in w)
   made = none_found image w clean
 
+  plain : letters_of image ≡ Ascii
+  plain = plain_letters image (all_split (boot_demands image) (root_demands image (root_of image)) (shown image clean).0).0
+
   same : tree_in image w ≡ t
   same = sym (one_fit image t (tree_in image w) l (layout_in w) fit made).0
 
   pub paths_as_in_tree : (path : List (List ℕ)) (n : ℕ) → LeadsTo image w 0 path n ↔ (find t.entries path ≡ Some n)
   paths_as_in_tree path n =
-      subst (λ (t : Tree). LeadsTo image w 0 path n ↔ (find t.entries path ≡ Some n)) same (paths_lead image w (shown image clean).1 made.tree path n)
+      subst (λ (t : Tree). LeadsTo image w 0 path n ↔ (find t.entries path ≡ Some n)) same (paths_lead image w (shown image clean).1 made.tree plain path n)
 
   pub files_as_in_tree : (n : ℕ) (e : Entry) (bytes : List ℕ) → entry t.entries n ≡ Some e → e.body ≡ File bytes
       → IsSoundFile image w fs n × (file_content (file_in image w n) ≡ bytes)
   files_as_in_tree n e bytes at body =
-      file_sound image w (shown image clean).1 made.tree fs survey none (shown image clean).2 n e bytes
+      file_sound image w (shown image clean).1 made.tree plain fs survey none (shown image clean).2 n e bytes
       (subst (λ (t : Tree). entry t.entries n ≡ Some e) (sym same) at) body
 
   pub entries_as_in_tree : (n : ℕ) → IsSoundFile image w fs n
       → (e : Entry) × (entry t.entries n ≡ Some e) × (e.body ≡ File (file_content (file_in image w n)))
   entries_as_in_tree n sound =
       subst (λ (t : Tree). (e : Entry) × (entry t.entries n ≡ Some e) × (e.body ≡ File (file_content (file_in image w n)))) same
-      (sound_entry image w (shown image clean).1 made.tree fs n sound)
+      (sound_entry image w (shown image clean).1 made.tree plain fs n sound)

@@ -12,11 +12,11 @@ use Rattle.adf_blocks.specs.Sizes.{blocks}
 use Rattle.adf_blocks.specs.Forms.{Clause, first_cause}
 use Rattle.adf_blocks.specs.DataBlock.{data_form}
 use Rattle.adf_blocks.specs.ExtBlock.{ext_form}
-use Rattle.adf_blocks.specs.HeadBlock.{head_form}
 use Rattle.adf_blocks.specs.PageBlock.{page_form}
 use Rattle.adf_volume.specs.Image.{held, kind_of, word_in}
-use Rattle.adf_volume.specs.Walk.{Role, Enough, IsAbsent, NewName, next_data, node_block}
+use Rattle.adf_volume.specs.Walk.{Role, Enough, IsAbsent, next_data, node_block}
 use Rattle.adf_volume.specs.Walk.Role.{Head, Ext, Data}
+use Rattle.adf_survey.specs.Demands.{NewNameIn, head_form_in}
 use Rattle.adf_survey.specs.declared.part.Part.{Part}
 use Rattle.adf_survey.specs.declared.part.Part.TheVariants.{Root as RootPart, Page as PagePart, MapExt as MapExtPart, Head as HeadPart}
 use Rattle.adf_survey.specs.declared.part.Part.TheVariants.{Ext as ExtPart, Data as DataPart}
@@ -38,7 +38,7 @@ abbrev pub form_of : List ℕ → Part → ℕ → Around → List Clause
 form_of image RootPart b x = []
 form_of image (PagePart i) b x = page_form (block image b)
 form_of image (MapExtPart j) b x = []
-form_of image (HeadPart n p s j) b x = head_form (kind_of image) b x.up s (block image b)
+form_of image (HeadPart n p s j) b x = head_form_in image (kind_of image) b x.up s (block image b)
 form_of image (ExtPart n k) b x = ext_form b x.up (block image b)
 form_of image (DataPart n k) b x = data_clauses (kind_of image) x.up k (held (kind_of image) (word_in image x.up SIZE) k) x.next (block image b)
 
@@ -100,5 +100,5 @@ IsAround image w _ x = Unit {0}
 pub record Knows (image : List ℕ) (w : List (Role × ℕ)) (part : Part) (b : ℕ) (f : Facts) : Type 0 where
   pub enough : Tells f.is_enough (Enough image w (role_of part))
   pub absent : in_range image b ≡ true → Tells f.is_absent (IsAbsent w b)
-  pub new : in_range image b ≡ true → Tells f.is_new (NewName image w (role_of part) b)
+  pub new : in_range image b ≡ true → Tells f.is_new (NewNameIn image w (role_of part) b)
   pub around : IsAround image w (role_of part) f.around

@@ -11,7 +11,6 @@ use Rattle.std.specs.declared.cmp.Ordering.{Ordering}
 use Rattle.std.specs.Cmp.Lexicographic.{slice_cmp}
 use Rattle.std.specs.BTreeMap.{BTreeMap, Updates, get}
 use Rattle.std.specs.BTreeSet.{BTreeSet, contains}
-use Rattle.adf_tree.specs.Texts.{uppers}
 use Rattle.adf_blocks.specs.declared.cause.Cause.{Cause}
 use Rattle.adf_blocks.specs.declared.cause.Cause.TheVariants.{LostBlock, OwnedFree}
 use Rattle.adf_volume.specs.Demands.{AllHold, FirstFails}
@@ -20,6 +19,7 @@ use Rattle.adf_blocks.specs.Sizes.{blocks}
 use Rattle.adf_volume.specs.Image.{IsFreeAt, name_of, table_word, word_in}
 use Rattle.adf_volume.specs.Walk.{Role, Has, bitmap_demands, data_count, ext_count, heads, node_block}
 use Rattle.adf_volume.specs.Walk.Role.{Page, Head, Ext, Data}
+use Rattle.adf_survey.specs.Demands.{uppers_in}
 use Rattle.adf_survey.specs.declared.part.Part.{Part}
 use Rattle.adf_survey.specs.declared.part.Part.TheVariants.{Head as HeadPart, Ext as ExtPart, Data as DataPart}
 use Rattle.adf_survey.specs.declared.part.Key.{Key}
@@ -60,7 +60,7 @@ owns (x ∷ w) b = (x.1 == b) || owns w b
 -- whether the role at block c is a header of the chain with this name
 abbrev pub is_named : List ℕ → Role → ℕ → ℕ → ℕ → List ℕ → Bool
 is_named image (Head n p s j) c parent slot name =
-    is_eq (ordering_then (nat_cmp p parent) (ordering_then (nat_cmp s slot) (slice_cmp nat_cmp (uppers (name_of image c)) name)))
+    is_eq (ordering_then (nat_cmp p parent) (ordering_then (nat_cmp s slot) (slice_cmp nat_cmp (uppers_in image (name_of image c)) name)))
 is_named image _ c parent slot name = false
 
 -- whether a header of the chain has this name
@@ -86,7 +86,7 @@ IsChain w _ = Unit {0}
 
 -- whether the name of the part is new, if it is a header
 abbrev pub new_in : List ℕ → List (Role × ℕ) → Part → ℕ → Bool
-new_in image w (HeadPart n p s j) b = not (has_name image w p s (uppers (name_of image b)))
+new_in image w (HeadPart n p s j) b = not (has_name image w p s (uppers_in image (name_of image b)))
 new_in image w _ b = true
 
 -- p if the role is the header of node n in directory p, otherwise c
@@ -176,7 +176,7 @@ known_at (suc j) known = known
 pub record KeepsHead (image : List ℕ) (p s j b : ℕ) (f g : Found) : Type 0 where
   pub nodes : g.nodes.items ≡ f.nodes.items ++ b ∷ []
   pub names : (q : Vec ℕ)
-      → contains by_name g.names q ≡ (is_eq (slice_cmp nat_cmp (uppers (name_of image b)) q.items) || known_at j (contains by_name f.names q))
+      → contains by_name g.names q ≡ (is_eq (slice_cmp nat_cmp (uppers_in image (name_of image b)) q.items) || known_at j (contains by_name f.names q))
   pub exts : g.exts ≡ f.exts
   pub parents : g.parents.items ≡ f.parents.items ++ p ∷ []
   pub places : g.places.items ≡ f.places.items ++ record { slot = s; place = j } ∷ []
@@ -242,7 +242,7 @@ abbrev pub IsBitOf : List ℕ → Found → ℕ → ℕ → Option Bool → Type
 IsBitOf image f page bit None = get by_key f.taken (key_of (Page page)) ≡ None
 IsBitOf image f page bit (Some t) = (at : ℕ) × (get by_key f.taken (key_of (Page page)) ≡ Some at) × (IsTrue t ↔ IsFreeAt image at bit)
 
--- the cause of a bit: a block in use without an owner and not passed over, or one owned and free
+-- the cause of a bit: a block in use without an owner and without an excuse, or one owned and free
 abbrev pub cause_told : Bool → Bool → Bool → Option Cause
 cause_told false false false = Some LostBlock
 cause_told false true false = None

@@ -1,3 +1,4 @@
+pub mod Demands
 pub mod Survey
 pub mod Start
 pub mod Sound

@@ -3,15 +3,15 @@
 -- b its block; f a number of steps.
 use Rattle.std.specs.Prelude.{◌≡◌, ◌<◌, ◌&&◌, ℕ, List, [], ◌∷◌, ◌++◌, cond, nat_le}
 use Rattle.std.proofs.Common.{zero, suc}
-use Rattle.adf_tree.specs.Texts.{uppers}
 use Rattle.adf_volume.specs.Image.{name_of}
 use Rattle.adf_volume.specs.Walk.{Role, Has, heads, node_block}
 use Rattle.adf_volume.specs.Walk.Role.{Head}
+use Rattle.adf_survey.specs.Demands.{uppers_in}
 use Rattle.adf_survey.specs.Found.{parent_node}
 
 -- entry n is found in directory p, and its header has this name, ignoring case
 abbrev pub IsNamedChild : List ℕ → List (Role × ℕ) → ℕ → List ℕ → ℕ → Type 0
-IsNamedChild image w p name n = (s j b : ℕ) × Has w (Head n p s j) b × (uppers (name_of image b) ≡ uppers name)
+IsNamedChild image w p name n = (s j b : ℕ) × Has w (Head n p s j) b × (uppers_in image (name_of image b) ≡ uppers_in image name)
 
 -- it is the first of these by number
 abbrev pub IsFirstChild : List ℕ → List (Role × ℕ) → ℕ → List ℕ → ℕ → Type 0

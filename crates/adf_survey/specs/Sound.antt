@@ -4,13 +4,14 @@
 use Rattle.std.specs.Prelude.{◌≡◌, ◌<◌, ◌≤◌, ◌/◌, ◌↔◌, ℕ, List, Some}
 use Rattle.std.proofs.Common.{suc}
 use Rattle.adf_blocks.specs.declared.layout.TheConstants.{POINTERS, SIZE}
-use Rattle.adf_volume.specs.Demands.{AllHold, data_demands, ext_demands, head_demands}
+use Rattle.adf_volume.specs.Demands.{AllHold, data_demands, ext_demands}
 use Rattle.adf_tree.specs.declared.entry.Kind.TheVariants.{Ffs}
 use Rattle.adf_volume.specs.Lists.{At, In}
 use Rattle.adf_volume.specs.Made.{datas_in}
 use Rattle.adf_volume.specs.Image.{held, kind_of, table_word, word_in}
 use Rattle.adf_volume.specs.Walk.{Role, Same, Has, HeadAt, NodeAt, MemberAt, data_count, Asks}
 use Rattle.adf_volume.specs.Walk.Role.{Head, Ext, Data}
+use Rattle.adf_survey.specs.Demands.{head_demands_in}
 use Rattle.adf_survey.specs.Survey.{FindingValue}
 
 -- no finding concerns the part
@@ -30,7 +31,7 @@ pub record IsSound (image : List ℕ) (w : List (Role × ℕ)) (fs : List Findin
 
 -- the header of the entry, at block h, has its form in its chain
 abbrev pub HeaderHolds : List ℕ → List (Role × ℕ) → ℕ → ℕ → Type 0
-HeaderHolds image w n h = (g : HeadAt w n h) (up : ℕ) → NodeAt w g.parent up → AllHold (head_demands image (kind_of image) h up g.slot)
+HeaderHolds image w n h = (g : HeadAt w n h) (up : ℕ) → NodeAt w g.parent up → AllHold (head_demands_in image (kind_of image) h up g.slot)
 
 -- the block that data block k of the file names as the next one: that of data block k + 1 if the size asks for one more, else 0
 pub record IsNextData (image : List ℕ) (w : List (Role × ℕ)) (n h k next : ℕ) : Type 0 where

@@ -1,28 +1,33 @@
 // The forms of parts.
 
-ghost use Rattle.std.specs.Prelude.{◌≡◌, ◌<◌, ◌≤◌, ◌==◌, ◌&&◌};
-ghost use Rattle.adf_fields.specs.Words.{word};
+ghost use Rattle.std.specs.Prelude.{◌≡◌, ◌<◌, ◌≤◌, ◌==◌, ◌&&◌, true};
+ghost use Rattle.adf_fields.specs.Hash.{slot_by, slot_of};
+ghost use Rattle.adf_fields.specs.Words.{block, word};
 ghost use Rattle.adf_blocks.specs.declared.layout.TheConstants.{DATA_HEAD, DATA_HELD, DATA_NEXT};
-ghost use Rattle.adf_blocks.specs.declared.layout.TheConstants.{DATA_NUMBER, OWN_KEY, PARENT};
+ghost use Rattle.adf_blocks.specs.declared.layout.TheConstants.{DATA_NUMBER, NAME, OWN_KEY, PARENT};
 ghost use Rattle.adf_blocks.specs.declared.layout.TheConstants.{SECONDARY_TYPE, ST_FILE, T_DATA, T_LIST};
 ghost use Rattle.adf_blocks.specs.declared.layout.TheConstants.{TYPE};
-ghost use Rattle.adf_blocks.specs.Forms.{first_cause};
-ghost use Rattle.adf_blocks.specs.HeadBlock.{has_type};
+ghost use Rattle.adf_blocks.specs.Forms.{first_cause, text_at};
+ghost use Rattle.adf_blocks.specs.HeadBlock.{has_type, is_name_at};
 ghost use Rattle.adf_blocks.specs.Sizes.{blocks, chunk};
-ghost use Rattle.adf_volume.specs.Image.{held};
+ghost use Rattle.adf_volume.specs.Image.{held, kind_of};
+ghost use Rattle.adf_survey.specs.Demands.{head_form_in};
 ghost use Rattle.adf_survey.specs.Forms.{form_of, itself_by};
 ghost use Rattle.adf_survey.specs.Parts.{role_of};
 
 use crate::image::Image;
 use crate::part::Part;
 use adf_blocks::{
-    Cause, DATA_HEAD, DATA_HELD, DATA_NEXT, DATA_NUMBER, OWN_KEY, PARENT, SECONDARY_TYPE, SIZE,
-    ST_DIR, ST_FILE, ST_LINK_DIR, ST_LINK_FILE, ST_SOFT_LINK, T_DATA, T_LIST, T_SHORT, TYPE,
+    Cause, DATA_HEAD, DATA_HELD, DATA_NEXT, DATA_NUMBER, NAME, OWN_KEY, PARENT, SECONDARY_TYPE,
+    SIZE, SLOTS, ST_DIR, ST_FILE, ST_LINK_DIR, ST_LINK_FILE, ST_SOFT_LINK, T_DATA, T_LIST, T_SHORT, TYPE,
     chunk_len, read_data, read_ext, read_head, read_page,
 };
-use adf_fields::Block;
+use adf_fields::{Block, Letters, slot as slot_of_name, slot_by};
 use adf_tree::Kind;
 use adf_volume::held_in;
+
+// A number that is no slot.
+const NO_SLOT: u8 = SLOTS as u8;
 
 /// The context of a part: the block of its directory or of its file's header, and the next data block.
 #[derive(Clone, Copy, PartialEq, Eq, Drop)]
@@ -49,6 +54,38 @@ fn cause_of_data(image: &Image<'_>, number: u32, b: u32, around: Around) -> Opti
     }
 }
 
+// The slot to ask `read_head` for, which hashes names by ASCII letters: that of the name if its slot by these letters
+// is the wanted one, otherwise one that no name has.
+fn slot_asked(letters: Letters, b: &Block<'_>, slot: u8) -> u8
+    ensures { is_name_at b.now NAME ≡ true → (slot_of (text_at b.now NAME) == result)
+        ≡ (slot_by letters (text_at b.now NAME) == slot) }
+{
+    let len = b.byte(NAME) as usize;
+    if letters == Letters::Ascii || len > 30 {
+        return slot;
+    }
+    let name = b.bytes(NAME + 1, len);
+    if slot_by(letters, name) == slot {
+        slot_of_name(name)
+    } else {
+        NO_SLOT
+    }
+}
+
+// The first cause of block `b` in the form of a header in the chain of a slot.
+fn cause_of_head(image: &Image<'_>, slot: u8, b: u32, up: u32) -> Option<Cause>
+    requires { b < blocks image.now }
+    ensures { result
+        ≡ first_cause (head_form_in image.now (kind_of image.now) b up slot (block image.now b)) }
+{
+    let block = image.block(b);
+    let asked = slot_asked(image.letters(), &block, slot);
+    match read_head(block, image.kind(), b, up, asked) {
+        Ok(_) => None,
+        Err(cause) => Some(cause),
+    }
+}
+
 /// The first cause of block `b` in the form of the part.
 pub fn first_cause(image: &Image<'_>, part: Part, b: u32, around: Around) -> Option<Cause>
     requires { b < blocks image.now }
@@ -61,10 +98,7 @@ pub fn first_cause(image: &Image<'_>, part: Part, b: u32, around: Around) -> Opt
             Ok(_) => None,
             Err(cause) => Some(cause),
         },
-        Part::Head { slot, .. } => match read_head(block, image.kind(), b, around.up, slot) {
-            Ok(_) => None,
-            Err(cause) => Some(cause),
-        },
+        Part::Head { slot, .. } => cause_of_head(image, slot, b, around.up),
         Part::Ext(_, _) => match read_ext(block, b, around.up) {
             Ok(_) => None,
             Err(cause) => Some(cause),

@@ -5,7 +5,7 @@ ghost use Rattle.std.specs.Prelude.{length, false, true, not, slice_index, slice
 ghost use Rattle.std.specs.Ordering.{nat_cmp};
 ghost use Rattle.std.specs.BTreeMap.{Updates};
 ghost use Rattle.std.specs.BTreeSet.{contains};
-ghost use Rattle.adf_tree.specs.Texts.{uppers};
+ghost use Rattle.adf_survey.specs.Demands.{uppers_in};
 ghost use Rattle.adf_blocks.specs.Sizes.{blocks, count};
 ghost use Rattle.adf_volume.specs.Image.{name_of, root_of, word_in};
 ghost use Rattle.adf_volume.specs.Walk.{Role, data_count};
@@ -22,7 +22,7 @@ use crate::image::Image;
 use crate::judge::Facts;
 use crate::part::{Finding, Key, Part};
 use adf_blocks::{FIRST_POINTER, POINTERS, SIZE, data_count};
-use adf_fields::{NoMemory, upper};
+use adf_fields::{NoMemory, upper_by};
 use adf_tree::Kind;
 use std::alloc::Global;
 use std::collections::{BTreeMap, BTreeSet};
@@ -67,16 +67,17 @@ pub fn count_of(kind: Kind, size: u32) -> u32
     data_count(kind, size as usize) as u32
 }
 
-// The name of the header at block `b`, with `a` to `z` in upper case.
+// The name of the header at block `b`, in upper case.
 #[tactic(auto, using(crate::proofs::Names::cut_name))]
 fn upper_name(alloc: Global, image: &Image<'_>, b: u32) -> Result<Vec<u8>, NoMemory>
     requires { b < blocks image.now }
-    ensures { IfOk result (λ v. v.items ≡ uppers (name_of image.now b)) }
+    ensures { IfOk result (λ v. v.items ≡ uppers_in image.now (name_of image.now b)) }
 {
+    let letters = image.letters();
     let head = image.block(b);
     let mut name = Vec::new(alloc);
     for c in name_in(&head) {
-        if name.push(upper(*c)).is_err() {
+        if name.push(upper_by(letters, *c)).is_err() {
             return Err(NoMemory);
         }
     }

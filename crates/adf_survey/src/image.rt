@@ -1,14 +1,15 @@
 // An image under survey.
 
-ghost use Rattle.std.specs.Prelude.{◌≡◌, ◌<◌, ◌≤◌, true};
+ghost use Rattle.std.specs.Prelude.{◌≡◌, ◌<◌, ◌≤◌, nat_le, slice_index, true};
 ghost use Rattle.adf_fields.specs.Words.{block};
 ghost use Rattle.adf_blocks.specs.Sizes.{blocks, is_allowed};
 ghost use Rattle.adf_volume.specs.Demands.{IsSize};
-ghost use Rattle.adf_volume.specs.Image.{kind_of, root_of, word_in};
+ghost use Rattle.adf_volume.specs.Image.{kind_of, letters_of, root_of, word_in};
 ghost use Rattle.adf_survey.specs.Start.{IsSized};
 
-use adf_fields::Block;
+use adf_fields::{Block, Letters};
 use adf_tree::Kind;
+use adf_volume::letters_in;
 use std::marker::Model;
 
 /// An image of whole blocks, their number allowed.
@@ -55,6 +56,21 @@ impl<'a> Image<'a> {
         ensures { result ≡ kind_of self.now }
     {
         self.kind
+    }
+
+    /// The letters of the volume.
+    pub fn letters(&self) -> Letters
+        ensures { result ≡ letters_of self.now }
+    {
+        letters_in(self.bytes)
+    }
+
+    /// Whether the volume has directory caches: its type is 4 or 5.
+    #[tactic(auto, using(adf_volume::proofs::ImageStart::type_byte))]
+    pub fn has_caches(&self) -> bool
+        ensures { result ≡ nat_le 4 (slice_index (block self.now 0) 3) }
+    {
+        self.bytes.get(3).copied().unwrap_or(0) >= 4
     }
 
     /// The number of blocks.

@@ -21,7 +21,7 @@ fn is_child(survey: &Survey<'_>, parent: Node, name: &Name, n: Node) -> bool
     let Some(text) = survey.name(n) else {
         return false;
     };
-    up.0 == parent.0 && name.matches(text)
+    up.0 == parent.0 && name.matches_by(survey.letters(), text)
 }
 
 // The first entry with this parent and this name. Its number is greater than the parent's.

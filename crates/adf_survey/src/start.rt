@@ -1,40 +1,53 @@
 // The size, the boot bytes and the root of an image, and whether it is surveyed further.
 
-ghost use Rattle.std.specs.Prelude.{◌≡◌, IfErr, IfOk};
-ghost use Rattle.adf_volume.specs.Demands.{IsSize};
-ghost use Rattle.adf_volume.specs.Walk.Role.{Root};
-ghost use Rattle.adf_survey.specs.Start.{has_root_type, root_findings};
-ghost use Rattle.adf_survey.specs.Survey.{Judged, RootTells, is_slight, start_demands};
+ghost use Rattle.std.specs.Prelude.{◌≡◌, IfErr, IfOk, false};
+ghost use Rattle.adf_volume.specs.Demands.{FirstFails, IsSize, boot_demands};
+ghost use Rattle.adf_survey.specs.Start.{boot_findings, has_root_type, root_findings, unread_findings};
+ghost use Rattle.adf_survey.specs.Survey.{BootTells, RootJudged, RootTells, UnreadTells, is_other_type};
 ghost use Rattle.adf_survey.specs.Survey.JudgementValue.{passed};
 
 use crate::image::Image;
-use adf_blocks::{Cause, SECONDARY_TYPE, ST_ROOT, T_SHORT, TYPE};
+use adf_blocks::{Cause, SECONDARY_TYPE, ST_ROOT, T_SHORT, TYPE, read_root};
 use adf_fields::{BLOCK_LEN, Block};
-use adf_volume::{Unopened, kind_in, open};
+use adf_volume::{Unopened, boot_cause, kind_in};
 
-/// An image to survey, and the cause of its root, if it has one.
+/// An image to survey, and the causes of its boot block and its root, if they have any.
 #[derive(Drop)]
 pub struct Started<'a> {
     pub image: Image<'a>,
-    pub cause: Option<Unopened>,
+    pub boot: Option<Cause>,
+    pub root: Option<Unopened>,
 }
 
-// Whether a block with this cause can still be the part.
-fn is_slight(cause: Cause) -> bool
-    ensures { result ≡ is_slight cause }
+/// Why nothing of an image is taken: the cause of its boot block, if the survey went on to the root, and the last cause.
+#[derive(Clone, Copy, PartialEq, Eq, Drop)]
+pub struct Unread {
+    pub boot: Option<Cause>,
+    pub last: Unopened,
+}
+
+// Whether a boot block with this cause is of another type, 2 to 5.
+fn is_other_type(cause: Cause) -> bool
+    ensures { result ≡ is_other_type cause }
 {
-    match cause {
-        Cause::BadSum
-        | Cause::Link
-        | Cause::BadName
-        | Cause::BadComment
-        | Cause::WrongSlot
-        | Cause::BadFirst
-        | Cause::SameName
-        | Cause::ShortFile
-        | Cause::BadHashSize
-        | Cause::NotValidated => true,
-        _ => false,
+    matches!(cause, Cause::International | Cause::DirCache)
+}
+
+// The cause of the boot block, if it is one of types 2 to 5; otherwise the only finding, at block 0.
+fn judge_boot(bytes: &[u8]) -> Result<Option<Cause>, Cause>
+    ensures told { IfOk result (λ boot. BootTells bytes.now (boot_findings boot)) }
+    ensures fails { IfErr result (λ c. FirstFails (boot_demands bytes.now) 0 c) }
+    ensures bad { IfErr result (λ c. is_other_type c ≡ false) }
+{
+    match boot_cause(bytes) {
+        None => Ok(None),
+        Some(cause) => {
+            if is_other_type(cause) {
+                Ok(Some(cause))
+            } else {
+                Err(cause)
+            }
+        }
     }
 }
 
@@ -53,30 +66,46 @@ fn is_root(b: &Block<'_>) -> bool
     b.word(TYPE) == T_SHORT && b.word(SECONDARY_TYPE) == ST_ROOT
 }
 
-/// Reads the size, the boot bytes and the root of an image; if the root is not taken, returns the only finding.
-pub fn start<'a>(bytes: &'a [u8]) -> Result<Started<'a>, Unopened>
-    ensures image { IfOk result (λ s. s.image ≡ bytes.now) }
-    ensures root { IfOk result (λ s. RootTells bytes.now (root_findings s.cause)) }
-    ensures unread { IfErr result (λ u.
-        Judged Root (start_demands bytes.now) (passed u.block u.cause)) }
+// The cause of the root, if it has one; otherwise why it is not taken.
+fn judge_root(image: &Image<'_>) -> Result<Option<Unopened>, Unopened>
+    ensures told { IfOk result (λ root. RootTells image.now (root_findings root)) }
+    ensures passed { IfErr result (λ u. RootJudged image.now (passed u.block u.cause)) }
 {
-    match open(bytes) {
-        Ok(_) => Ok(Started {
-            image: sized(bytes),
-            cause: None,
-        }),
-        Err(unopened) => {
-            if !is_slight(unopened.cause) {
-                return Err(unopened);
+    let at = image.root();
+    let root = image.block(at);
+    let is_root = is_root(&root);
+    match read_root(root) {
+        Ok(_) => Ok(None),
+        Err(cause) => {
+            let unopened = Unopened { block: at, cause };
+            if is_root {
+                Ok(Some(unopened))
+            } else {
+                Err(unopened)
             }
-            let image = sized(bytes);
-            if !is_root(&image.block(image.root())) {
-                return Err(unopened);
-            }
-            Ok(Started {
-                image,
-                cause: Some(unopened),
-            })
         }
+    }
+}
+
+/// Reads the size, the boot bytes and the root of an image; if the root is not taken, returns the only findings.
+pub fn start<'a>(bytes: &'a [u8]) -> Result<Started<'a>, Unread>
+    ensures image { IfOk result (λ s. s.image ≡ bytes.now) }
+    ensures boot { IfOk result (λ s. BootTells bytes.now (boot_findings s.boot)) }
+    ensures root { IfOk result (λ s. RootTells bytes.now (root_findings s.root)) }
+    ensures unread { IfErr result (λ u. UnreadTells bytes.now (unread_findings u)) }
+{
+    let boot = match judge_boot(bytes) {
+        Ok(boot) => boot,
+        Err(cause) => {
+            return Err(Unread {
+                boot: None,
+                last: Unopened { block: 0, cause },
+            });
+        }
+    };
+    let image = sized(bytes);
+    match judge_root(&image) {
+        Ok(root) => Ok(Started { image, boot, root }),
+        Err(last) => Err(Unread { boot, last }),
     }
 }

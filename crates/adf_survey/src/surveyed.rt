@@ -5,7 +5,7 @@ ghost use Rattle.std.specs.Prelude.{slice_get, IsTrue, IsNone, IsOk, IsSome, IfO
 ghost use Rattle.std.specs.Option.{option_flatten};
 ghost use Rattle.adf_blocks.specs.HeadBlock.{body_at, meta_told};
 ghost use Rattle.adf_fields.specs.Words.{block};
-ghost use Rattle.adf_volume.specs.Image.{name_of};
+ghost use Rattle.adf_volume.specs.Image.{letters_of, name_of};
 ghost use Rattle.adf_volume.specs.Walk.{Has, Role, heads, node_block};
 ghost use Rattle.adf_volume.specs.Walk.Role.{Head};
 ghost use Rattle.adf_survey.specs.Concerned.{concern_of_nth};
@@ -26,8 +26,9 @@ use crate::opening::Opening;
 use crate::part::Finding;
 use crate::start::start;
 use adf_blocks::{HeadBody, SECONDARY_TYPE, ST_FILE, meta_told};
-use adf_fields::{Block, NoMemory};
+use adf_fields::{Block, Letters, NoMemory};
 use adf_tree::{Meta, Node};
+use adf_volume::letters_in;
 use std::alloc::Global;
 use std::marker::Model;
 
@@ -102,6 +103,13 @@ impl<'i> Survey<'i> {
 }
 
 impl Survey<'_> {
+    // The letters of the volume.
+    pub(crate) fn letters(&self) -> Letters
+        ensures { result ≡ letters_of self.now.image }
+    {
+        letters_in(self.image)
+    }
+
     /// The findings, in the order of the survey.
     pub fn findings(&self) -> &[Finding]
         ensures { (w : List (Role × ℕ)) (fs : List FindingValue) → IsSurvey self.now.image w fs

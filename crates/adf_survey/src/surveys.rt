@@ -1,37 +1,56 @@
 // The survey of an image.
 
-ghost use Rattle.std.specs.Prelude.{◌≡◌, ℕ, List, [], IfOk, OnOk, map};
+ghost use Rattle.std.specs.Prelude.{◌≡◌, ◌++◌, ℕ, List, [], IfOk, OnOk, map};
 ghost use Rattle.adf_volume.specs.Walk.{Role};
-ghost use Rattle.adf_volume.specs.Walk.Role.{Root};
 ghost use Rattle.adf_survey.specs.Found.{Stands};
 ghost use Rattle.adf_survey.specs.Parts.{finding_value};
-ghost use Rattle.adf_survey.specs.Start.{root_findings};
-ghost use Rattle.adf_survey.specs.Survey.{IsSurvey, Judged, RootTells, begun, start_demands};
-ghost use Rattle.adf_survey.specs.Survey.JudgementValue.{passed};
+ghost use Rattle.adf_survey.specs.Start.{boot_findings, root_findings, unread_findings};
+ghost use Rattle.adf_survey.specs.Survey.{BootTells, FindingValue, IsSurvey, RootTells, UnreadTells, begun};
 
 use crate::bits::compare;
 use crate::course::run;
 use crate::found::Found;
 use crate::marks::{clear_marks, concerned};
 use crate::part::{Finding, Part};
-use crate::start::{Started, start};
+use crate::start::{Started, Unread, start};
 use crate::surveyed::Survey;
+use adf_blocks::Cause;
 use adf_fields::NoMemory;
 use adf_volume::Unopened;
 use std::alloc::Global;
 
-// The survey of an image whose root is not taken, with its only finding.
-fn only<'i>(alloc: Global, image: &'i [u8], unopened: Unopened) -> Result<Survey<'i>, NoMemory>
-    requires { Judged Root (start_demands image.now) (passed unopened.block unopened.cause) }
+// Notes the cause of the boot block, if it has one.
+fn note_boot(findings: &mut Vec<Finding>, boot: Option<Cause>) -> Result<(), NoMemory>
+    ensures { OnOk result (map finding_value findings.new.items
+        ≡ map finding_value findings.old.items ++ boot_findings boot) }
+{
+    let Some(cause) = boot else {
+        return Ok(());
+    };
+    let finding = Finding {
+        part: None,
+        block: 0,
+        cause,
+    };
+    match findings.push(finding) {
+        Ok(()) => Ok(()),
+        Err(_) => Err(NoMemory),
+    }
+}
+
+// The survey of an image of which nothing is taken.
+fn only<'i>(alloc: Global, image: &'i [u8], unread: Unread) -> Result<Survey<'i>, NoMemory>
+    requires { UnreadTells image.now (unread_findings unread) }
     ensures image { IfOk result (λ v. v.image ≡ image.now) }
     ensures findings { IfOk result (λ v. (w : List (Role × ℕ))
         × IsSurvey image.now w (map finding_value v.findings)) }
 {
     let mut findings = Vec::new(alloc);
+    note_boot(&mut findings, unread.boot)?;
     let finding = Finding {
         part: None,
-        block: unopened.block,
-        cause: unopened.cause,
+        block: unread.last.block,
+        cause: unread.last.cause,
     };
     match findings.push(finding) {
         Ok(()) => Ok(Survey::new(
@@ -48,8 +67,9 @@ fn only<'i>(alloc: Global, image: &'i [u8], unopened: Unopened) -> Result<Survey
 
 // Notes the cause of the root, if it has one.
 fn note_root(found: &mut Found, cause: Option<Unopened>) -> Result<(), NoMemory>
-    ensures { OnOk result ((image : List ℕ) → Stands image found.old (begun image [])
-        → Stands image found.new (begun image (root_findings cause))) }
+    ensures { OnOk result ((image : List ℕ) (fs : List FindingValue)
+        → Stands image found.old (begun image fs)
+        → Stands image found.new (begun image (fs ++ root_findings cause))) }
 {
     match cause {
         Some(Unopened { block, cause }) => found.note(Finding {
@@ -63,14 +83,16 @@ fn note_root(found: &mut Found, cause: Option<Unopened>) -> Result<(), NoMemory>
 
 // The survey of an image whose root is taken.
 fn go_through<'i>(alloc: Global, started: &Started<'i>) -> Result<Survey<'i>, NoMemory>
-    requires { RootTells started.now.image (root_findings started.now.cause) }
+    requires boot { BootTells started.now.image (boot_findings started.now.boot) }
+    requires root { RootTells started.now.image (root_findings started.now.root) }
     ensures image { IfOk result (λ v. v.image ≡ started.now.image) }
     ensures findings { IfOk result (λ v. (w : List (Role × ℕ))
         × IsSurvey started.now.image w (map finding_value v.findings)) }
 {
     let image = &started.image;
     let mut found = Found::begin(alloc, image)?;
-    note_root(&mut found, started.cause)?;
+    note_boot(&mut found.findings, started.boot)?;
+    note_root(&mut found, started.root)?;
     run(image, &mut found)?;
     compare(image, &mut found)?;
     let concerned = concerned(alloc, &found)?;
@@ -94,6 +116,6 @@ pub fn survey<'i>(alloc: Global, image: &'i [u8]) -> Result<Survey<'i>, NoMemory
 {
     match start(image) {
         Ok(started) => go_through(alloc, &started),
-        Err(unopened) => only(alloc, image, unopened),
+        Err(unread) => only(alloc, image, unread),
     }
 }

@@ -9,6 +9,7 @@ use Rattle.adf_survey.specs.Lookup.{LeadsTo}
 use Rattle.adf_survey.specs.Marked.{AreMarks}
 use Rattle.adf_survey.specs.Survey.{FindingValue, IsSurvey, finding}
 use Rattle.adf_survey.specs.Survey.IsSurvey.{unread}
+use Rattle.adf_survey.specs.Survey.UnreadTells.{bad_boot}
 use Rattle.adf_survey.proofs.OneSurvey.{one_survey}
 use Rattle.adf_cmd.specs.Commands.{Reply, on_output}
 use Rattle.adf_cmd.proofs.LongInputs.{too_large}
@@ -22,7 +23,7 @@ bad_size = finding None 0 BadSize ∷ []
 
 long_survey : (image : List ℕ) → 512 * MOST_BLOCKS < length image → IsSurvey image [] bad_size
 unfolding bad_size
-long_survey image h = unread (inl (too_large image h, refl, refl), (λ i. too_large image h (i.0 refl)))
+long_survey image h = unread (bad_boot (inl (too_large image h, refl, refl)) refl)
 
 -- one text, whatever the image
 same_text : (image bytes : List ℕ) → findings_text image [] bad_size ≡ findings_text bytes [] bad_size

@@ -1,7 +1,8 @@
 -- Names, labels and comments.
 use Rattle.std.specs.Prelude.{ℕ, ◌==◌, ◌&&◌, not, nat_le, Bool, List, length, map}
 use Rattle.std.specs.List.{list_all}
-use Rattle.adf_fields.specs.Hash.{upper_of}
+use Rattle.adf_fields.specs.Hash.{upper_by, upper_of}
+use Rattle.adf_fields.specs.declared.hash.Letters.{Letters}
 
 -- a byte allowed in a name: neither `/` nor `:`
 abbrev pub is_name_byte : ℕ → Bool
@@ -14,3 +15,7 @@ is_name bytes = nat_le 1 (length bytes) && nat_le (length bytes) 30 && list_all 
 -- a name with `a` to `z` in upper case
 abbrev pub uppers : List ℕ → List ℕ
 uppers name = map upper_of name
+
+-- a name in upper case by these letters
+abbrev pub uppers_by : Letters → List ℕ → List ℕ
+uppers_by letters name = map (upper_by letters) name

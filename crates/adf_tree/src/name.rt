@@ -3,9 +3,9 @@
 ghost use Rattle.std.specs.Prelude.{◌≡◌, ◌↔◌, IsSome, IfSome, true};
 ghost use Rattle.std.specs.List.{list_all};
 ghost use Rattle.std.specs.Str.{bytes_eq};
-ghost use Rattle.adf_tree.specs.Texts.{is_name, is_name_byte, uppers};
+ghost use Rattle.adf_tree.specs.Texts.{is_name, is_name_byte, uppers, uppers_by};
 
-use adf_fields::upper;
+use adf_fields::{Letters, upper, upper_by};
 use arrayvec::ArrayVec;
 use std::marker::Model;
 
@@ -84,6 +84,13 @@ impl Name {
         are_same(bytes, self.bytes())
     }
 
+    /// Whether the bytes are equal to the name, ignoring the case of these letters.
+    pub fn matches_by(&self, letters: Letters, bytes: &[u8]) -> bool
+        ensures { result ≡ bytes_eq (uppers_by letters bytes.now) (uppers_by letters self.now) }
+    {
+        are_same_by(letters, bytes, self.bytes())
+    }
+
     /// The bytes of the name.
     pub fn bytes(&self) -> &[u8]
         ensures bytes { result.now ≡ self.now }
@@ -93,7 +100,7 @@ impl Name {
     }
 }
 
-#[tactic(auto, using(crate::proofs::EqualNames::same_yes, crate::proofs::EqualNames::same_no, crate::proofs::EqualNames::same_short))]
+#[tactic(auto, using(crate::proofs::EqualNames::ascii_yes, crate::proofs::EqualNames::ascii_no, crate::proofs::EqualNames::ascii_short))]
 // Whether two texts are equal, ignoring the case of `a` to `z`.
 fn are_same(a: &[u8], b: &[u8]) -> bool
     ensures { result ≡ bytes_eq (uppers a.now) (uppers b.now) }
@@ -103,6 +110,22 @@ fn are_same(a: &[u8], b: &[u8]) -> bool
     }
     for i in 0..a.len() {
         if upper(a[i]) != upper(b[i]) {
+            return false;
+        }
+    }
+    true
+}
+
+#[tactic(auto, using(crate::proofs::EqualNames::same_short))]
+// Whether two texts are equal, ignoring the case of these letters.
+fn are_same_by(letters: Letters, a: &[u8], b: &[u8]) -> bool
+    ensures { result ≡ bytes_eq (uppers_by letters a.now) (uppers_by letters b.now) }
+{
+    if a.len() != b.len() {
+        return false;
+    }
+    for i in 0..a.len() {
+        if upper_by(letters, a[i]) != upper_by(letters, b[i]) {
             return false;
         }
     }

@@ -1,14 +1,16 @@
 -- The size, boot bytes and root of an image.
-use Rattle.std.specs.Prelude.{Some, None}
-use Rattle.std.proofs.Common.{◌≡◌, ℕ, List, ◌∷◌, ◌++◌, Bool, true, false, inl, inr, length, refl, arith}
+use Rattle.std.specs.Prelude.{Some, None, cond, slice_index}
+use Rattle.std.proofs.Common.{◌≡◌, ◌<◌, ℕ, List, [], ◌∷◌, ◌++◌, Bool, true, false, inl, inr, length, refl, ap, arith}
+use Rattle.std.proofs.lemmas.Bool.{lt-ltb}
 use Rattle.std.proofs.lemmas.Bool.Decides.{nat_tests}
 use Rattle.adf_fields.specs.Words.{block}
+use Rattle.adf_fields.specs.declared.hash.Letters.TheVariants.{Ascii, International}
 use Rattle.adf_blocks.specs.declared.cause.Cause.{Cause}
 use Rattle.adf_blocks.specs.declared.cause.Cause.TheVariants.{BadSize}
 use Rattle.adf_blocks.specs.Forms.{first_cause}
 use Rattle.adf_blocks.specs.RootBlock.{root_form}
 use Rattle.adf_volume.specs.Demands.{AllHold, FirstFails, IsSize, boot_demands, boot_form, root_demands}
-use Rattle.adf_volume.specs.Image.{root_of}
+use Rattle.adf_volume.specs.Image.{letters_of, root_of}
 use Rattle.adf_volume.proofs.Lists.{all_append, fails_left, fails_right}
 use Rattle.adf_volume.proofs.FormDemands.{all_demanded, first_demanded}
 use Rattle.adf_volume.specs.Start.{IsBegun, is_image_len, start_form}
@@ -23,8 +25,9 @@ size_not image h k =
     let allowed = k.1 in
     let clash : true ≡ false = grind (arith, nat_tests) in cc
 
-boots : (image : List ℕ) → first_cause (start_form image) ≡ None → AllHold (boot_demands image)
-boots image h = go (is_image_len (length image)) refl h
+-- the size and the boot bytes are those of a volume
+pub boot_holds : (image : List ℕ) → first_cause (start_form image) ≡ None → AllHold (boot_demands image)
+boot_holds image h = go (is_image_len (length image)) refl h
   where
     go : (whole : Bool) → is_image_len (length image) ≡ whole → first_cause ((whole, BadSize) ∷ boot_form (block image 0)) ≡ None
         → AllHold (boot_demands image)
@@ -33,21 +36,47 @@ boots image h = go (is_image_len (length image)) refl h
 
 -- the image begins as a volume
 pub begins : (image : List ℕ) → first_cause (start_form image) ≡ None → first_cause (root_form (block image (root_of image))) ≡ None → IsBegun image
-begins image h r = all_append (boot_demands image) (root_demands image (root_of image)) (boots image h)
+begins image h r = all_append (boot_demands image) (root_demands image (root_of image)) (boot_holds image h)
     (all_demanded (root_of image) (root_form (block image (root_of image))) r)
 
--- or the size, the boot bytes or the root are those of no volume
-pub fails_start : (image : List ℕ) (c : Cause) → first_cause (start_form image) ≡ Some c
-    → FirstFails (boot_demands image ++ root_demands image (root_of image)) 0 c
-fails_start image c h = fails_left (boot_demands image) (root_demands image (root_of image)) 0 c (go (is_image_len (length image)) refl h)
+-- or not
+pub boot_fails : (image : List ℕ) (c : Cause) → first_cause (start_form image) ≡ Some c → FirstFails (boot_demands image) 0 c
+boot_fails image c h = go (is_image_len (length image)) refl h
   where
     go : (whole : Bool) → is_image_len (length image) ≡ whole → first_cause ((whole, BadSize) ∷ boot_form (block image 0)) ≡ Some c
         → FirstFails (boot_demands image) 0 c
     go true w h = inr (size_is image w, first_demanded 0 (boot_form (block image 0)) c h)
     go false w h = let e : BadSize ≡ c = cc in inl (size_not image w, refl, e)
 
+-- or the size, the boot bytes or the root are those of no volume
+pub fails_start : (image : List ℕ) (c : Cause) → first_cause (start_form image) ≡ Some c
+    → FirstFails (boot_demands image ++ root_demands image (root_of image)) 0 c
+fails_start image c h = fails_left (boot_demands image) (root_demands image (root_of image)) 0 c (boot_fails image c h)
+
 pub fails_root : (image : List ℕ) (c : Cause) → first_cause (start_form image) ≡ None → first_cause (root_form (block image (root_of image))) ≡ Some c
     → FirstFails (boot_demands image ++ root_demands image (root_of image)) (root_of image) c
 fails_root image c h r =
-    fails_right (boot_demands image) (root_demands image (root_of image)) (root_of image) c (boots image h)
+    fails_right (boot_demands image) (root_demands image (root_of image)) (root_of image) c (boot_holds image h)
     (first_demanded (root_of image) (root_form (block image (root_of image))) c r)
+
+-- the type is the fourth byte of the image
+pub type_byte : (image : List ℕ) → slice_index (block image 0) 3 ≡ slice_index image 3
+unfolding block
+type_byte [] = refl
+type_byte (a ∷ []) = refl
+type_byte (a ∷ b ∷ []) = refl
+type_byte (a ∷ b ∷ c ∷ []) = refl
+type_byte (a ∷ b ∷ c ∷ d ∷ xs) = refl
+
+-- where the boot bytes have no cause, the type is 0 or 1
+pub plain_type : (image : List ℕ) → AllHold (boot_demands image) → slice_index (block image 0) 3 < 2
+plain_type image h =
+    let dos = h.1.0 in
+    let two = h.1.1.0 in
+    let four = h.1.1.1.0 in
+    grind (arith, nat_tests)
+
+-- and the letters are a to z
+pub plain_letters : (image : List ℕ) → AllHold (boot_demands image) → letters_of image ≡ Ascii
+unfolding letters_of
+plain_letters image h = ap (λ low. cond low Ascii International) (lt-ltb (slice_index (block image 0) 3) 2 (plain_type image h))

@@ -1,23 +1,26 @@
 -- The demands on a part that has no cause, by name.
 use Rattle.std.proofs.Common.{ℕ, List, [], ◌∷◌, ◌<◌, ◌≤◌}
+use Rattle.adf_fields.specs.declared.hash.Letters.{Letters}
+use Rattle.adf_fields.specs.declared.hash.Letters.TheVariants.{Ascii}
 use Rattle.adf_blocks.specs.declared.cause.Cause.TheVariants.{SameName}
 use Rattle.adf_blocks.specs.Sizes.{blocks}
 use Rattle.adf_volume.specs.Demands.{AllHold, demand}
-use Rattle.adf_volume.specs.Walk.{Role, Enough, IsAbsent, NewName, NoCause, form_demands}
+use Rattle.adf_volume.specs.Walk.{Role, Enough, IsAbsent, NewNameBy, NoCause, demands_by, form_demands_by}
 use Rattle.adf_volume.proofs.Lists.{all_split}
 
--- each demand of the role at block b holds
-pub record PartHolds (image : List ℕ) (w : List (Role × ℕ)) (r : Role) (b : ℕ) : Type 0 where
+-- each demand of the role at block b holds, by these letters
+pub record PartHoldsBy (l : Letters) (image : List ℕ) (w : List (Role × ℕ)) (r : Role) (b : ℕ) : Type 0 where
   pub enough : Enough image w r
   pub past_boot : 2 ≤ b
   pub inside : b < blocks image
   pub unowned : IsAbsent w b
-  pub form : AllHold (form_demands image w r b)
-  pub new_name : NewName image w r b
+  pub form : AllHold (form_demands_by l image w r b)
+  pub new_name : NewNameBy l image w r b
 
-pub part_holds : (image : List ℕ) (w : List (Role × ℕ)) (r : Role) (a b : ℕ) → NoCause image w r a b → PartHolds image w r b
-part_holds image w r a b n =
-    let named = all_split (form_demands image w r b) (demand SameName b (NewName image w r b) ∷ []) n.1.1.1 in
+pub part_holds_by : (l : Letters) (image : List ℕ) (w : List (Role × ℕ)) (r : Role) (a b : ℕ) → AllHold (demands_by l image w r a b)
+    → PartHoldsBy l image w r b
+part_holds_by l image w r a b n =
+    let named = all_split (form_demands_by l image w r b) (demand SameName b (NewNameBy l image w r b) ∷ []) n.1.1.1 in
     record {
       enough = n.0;
       past_boot = n.1.0.0;
@@ -26,3 +29,10 @@ part_holds image w r a b n =
       form = named.0;
       new_name = named.1.0;
     }
+
+-- the same on volumes of types 0 and 1
+abbrev pub PartHolds : List ℕ → List (Role × ℕ) → Role → ℕ → Type 0
+PartHolds = PartHoldsBy Ascii
+
+pub part_holds : (image : List ℕ) (w : List (Role × ℕ)) (r : Role) (a b : ℕ) → NoCause image w r a b → PartHolds image w r b
+part_holds = part_holds_by Ascii

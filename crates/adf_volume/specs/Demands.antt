@@ -1,6 +1,8 @@
 -- The demands on one block: a list of conditions with their causes.
 use Rattle.std.specs.Prelude.{◌≡◌, ℕ, List, [], ◌∷◌, Bool, ◌⊎◌, ◌*◌, length, slice_index, true, not, ◌==◌, ◌&&◌, nat_le}
 use Rattle.adf_fields.specs.Words.{block}
+use Rattle.adf_fields.specs.declared.hash.Letters.{Letters}
+use Rattle.adf_fields.specs.declared.hash.Letters.TheVariants.{Ascii}
 use Rattle.adf_tree.specs.declared.entry.Kind.{Kind}
 use Rattle.adf_tree.specs.declared.entry.Kind.TheVariants.{Ofs, Ffs}
 use Rattle.adf_blocks.specs.declared.cause.Cause.{Cause}
@@ -9,7 +11,7 @@ use Rattle.adf_blocks.specs.Forms.{Clause}
 use Rattle.adf_blocks.specs.Sizes.{blocks, is_allowed}
 use Rattle.adf_blocks.specs.RootBlock.{root_form}
 use Rattle.adf_blocks.specs.PageBlock.{page_form}
-use Rattle.adf_blocks.specs.HeadBlock.{head_form}
+use Rattle.adf_blocks.specs.HeadBlock.{head_form_by}
 use Rattle.adf_blocks.specs.ExtBlock.{ext_form}
 use Rattle.adf_blocks.specs.DataBlock.{data_form}
 
@@ -67,8 +69,13 @@ abbrev pub page_demands : List ℕ → ℕ → List Demand
 page_demands image b = demands_at b (page_form (block image b))
 
 -- the demands on a header at block b, in the chain of slot s of the directory at block up
+-- names have these letters
+abbrev pub head_demands_by : Letters → List ℕ → Kind → ℕ → ℕ → ℕ → List Demand
+head_demands_by letters image kind b up s = demands_at b (head_form_by letters kind b up s (block image b))
+
+-- the same on volumes of types 0 and 1
 abbrev pub head_demands : List ℕ → Kind → ℕ → ℕ → ℕ → List Demand
-head_demands image kind b up s = demands_at b (head_form kind b up s (block image b))
+head_demands = head_demands_by Ascii
 
 -- the demands on an extension block at block b, of the file with header h
 abbrev pub ext_demands : List ℕ → ℕ → ℕ → List Demand

@@ -2,6 +2,8 @@
 use Rattle.std.specs.Prelude.{ℕ, List, [], ◌∷◌, ◌++◌, ◌+◌, ◌-◌, ◌*◌, ◌/◌, ◌%◌, ◌==◌, cond, nat_lt, slice_index, slice_range, take}
 use Rattle.std.proofs.Common.{suc}
 use Rattle.adf_fields.specs.Words.{block, word}
+use Rattle.adf_fields.specs.declared.hash.Letters.{Letters}
+use Rattle.adf_fields.specs.declared.hash.Letters.TheVariants.{Ascii, International}
 use Rattle.adf_tree.specs.declared.entry.Kind.{Kind}
 use Rattle.adf_tree.specs.declared.entry.Kind.TheVariants.{Ofs, Ffs}
 use Rattle.adf_tree.specs.declared.entry.Meta.{Meta}
@@ -22,9 +24,13 @@ word_in image b i = word (block image b) i
 abbrev pub root_of : List ℕ → ℕ
 root_of image = middle (blocks image)
 
--- the kind in the boot bytes
+-- the kind in the boot bytes: FFS if the type is odd
 unfoldable pub kind_of : List ℕ → Kind
-kind_of image = cond (slice_index (block image 0) 3 == 0) Ofs Ffs
+kind_of image = cond (slice_index (block image 0) 3 % 2 == 0) Ofs Ffs
+
+-- the letters of the volume, by the type in the boot bytes: international from type 2 on
+unfoldable pub letters_of : List ℕ → Letters
+letters_of image = cond (nat_lt (slice_index (block image 0) 3) 2) Ascii International
 
 -- the name in a header, or the label in a root
 unfoldable pub name_of : List ℕ → ℕ → List ℕ

@@ -10,8 +10,10 @@ use Rattle.adf_blocks.specs.Sizes.{blocks, count, pages_needed}
 use Rattle.adf_volume.specs.Image.{word_in, root_of, kind_of, held, table_word, name_of, IsFreeAt}
 use Rattle.adf_blocks.specs.declared.layout.TheConstants.{EXTENSION, FIRST_MAP_EXT, FIRST_PAGE, FIRST_SLOT, MAP_EXT_NEXT, MAP_EXT_PAGES, NEXT_IN_CHAIN}
 use Rattle.adf_blocks.specs.declared.layout.TheConstants.{PAGE_BITS, POINTERS, ROOT_PAGES, SECONDARY_TYPE, SIZE, SLOTS, ST_DIR, ST_FILE}
-use Rattle.adf_tree.specs.Texts.{uppers}
-use Rattle.adf_volume.specs.Demands.{Demand, demand, AllHold, FirstFails, boot_demands, root_demands, page_demands, head_demands, ext_demands, data_demands}
+use Rattle.adf_fields.specs.declared.hash.Letters.{Letters}
+use Rattle.adf_fields.specs.declared.hash.Letters.TheVariants.{Ascii}
+use Rattle.adf_tree.specs.Texts.{uppers_by}
+use Rattle.adf_volume.specs.Demands.{Demand, demand, AllHold, FirstFails, boot_demands, root_demands, page_demands, head_demands_by, ext_demands, data_demands}
 
 -- Head n p s j is the header of node n, at position j of the chain of slot s of directory p.
 pub data Role : Type 0 where
@@ -190,32 +192,45 @@ abbrev pub next_data : List ℕ → List (Role × ℕ) → ℕ → ℕ → ℕ
 next_data image w n k =
     cond (nat_lt k (data_count image (node_block w n))) (word_in image (member_block w n (k / POINTERS)) (table_word k)) 0
 
--- the form of block b in this role, as demands
-abbrev pub form_demands : List ℕ → List (Role × ℕ) → Role → ℕ → List Demand
-form_demands image w Root b = []
-form_demands image w (Page i) b = page_demands image b
-form_demands image w (MapExt j) b = []
-form_demands image w (Head n p s j) b = head_demands image (kind_of image) b (node_block w p) s
-form_demands image w (Ext n k) b = ext_demands image b (node_block w n)
-form_demands image w (Data n k) b =
+-- the form of block b in this role, as demands; names have these letters
+abbrev pub form_demands_by : Letters → List ℕ → List (Role × ℕ) → Role → ℕ → List Demand
+form_demands_by letters image w Root b = []
+form_demands_by letters image w (Page i) b = page_demands image b
+form_demands_by letters image w (MapExt j) b = []
+form_demands_by letters image w (Head n p s j) b = head_demands_by letters image (kind_of image) b (node_block w p) s
+form_demands_by letters image w (Ext n k) b = ext_demands image b (node_block w n)
+form_demands_by letters image w (Data n k) b =
     data_demands image (kind_of image) b (node_block w n) k (held (kind_of image) (word_in image (node_block w n) SIZE) k) (next_data image w n k)
 
--- no earlier header of the chain has the same name; else SameName
-abbrev pub NewName : List ℕ → List (Role × ℕ) → Role → ℕ → Type 0
-NewName image w (Head n p s j) b = (m k c : ℕ) → Has w (Head m p s k) c → uppers (name_of image c) ≢ uppers (name_of image b)
-NewName image w _ b = Unit {0}
+-- no earlier header of the chain has the same name, by these letters; else SameName
+abbrev pub NewNameBy : Letters → List ℕ → List (Role × ℕ) → Role → ℕ → Type 0
+NewNameBy letters image w (Head n p s j) b =
+    (m k c : ℕ) → Has w (Head m p s k) c → uppers_by letters (name_of image c) ≢ uppers_by letters (name_of image b)
+NewNameBy letters image w _ b = Unit {0}
 
 -- the walk does not have this block
 abbrev pub IsAbsent : List (Role × ℕ) → ℕ → Type 0
 IsAbsent w b = (q : Role) → Has w q b → ⊥
 
--- the demands on a role at block b, which a word of block a points to
-abbrev pub demands : List ℕ → List (Role × ℕ) → Role → ℕ → ℕ → List Demand
-demands image w r a b =
+-- the demands on a role at block b, which a word of block a points to; names have these letters
+abbrev pub demands_by : Letters → List ℕ → List (Role × ℕ) → Role → ℕ → ℕ → List Demand
+demands_by letters image w r a b =
     demand ShortFile a (Enough image w r)
     ∷ demand OutOfRange a ((2 ≤ b) × (b < blocks image))
     ∷ demand Taken b (IsAbsent w b)
-    ∷ form_demands image w r b ++ demand SameName b (NewName image w r b) ∷ []
+    ∷ form_demands_by letters image w r b ++ demand SameName b (NewNameBy letters image w r b) ∷ []
+
+-- the same on volumes of types 0 and 1
+abbrev pub demands : List ℕ → List (Role × ℕ) → Role → ℕ → ℕ → List Demand
+demands = demands_by Ascii
+
+-- the forms on volumes of types 0 and 1
+abbrev pub form_demands : List ℕ → List (Role × ℕ) → Role → ℕ → List Demand
+form_demands = form_demands_by Ascii
+
+-- and their new names
+abbrev pub NewName : List ℕ → List (Role × ℕ) → Role → ℕ → Type 0
+NewName = NewNameBy Ascii
 
 -- each demand of the role holds
 abbrev pub NoCause : List ℕ → List (Role × ℕ) → Role → ℕ → ℕ → Type 0

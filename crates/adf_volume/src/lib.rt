@@ -16,4 +16,4 @@ pub use crate::laws::{
 pub use crate::owner::Owner;
 pub use crate::pieces::{Pieces, held_in, joined};
 pub use crate::samples::tiny_volume_fits;
-pub use crate::start::{Opened, Unopened, kind_in, open};
+pub use crate::start::{Opened, Unopened, boot_cause, kind_in, letters_in, open};

@@ -1,16 +1,16 @@
 // The size, the boot block and the root of an image.
 
-ghost use Rattle.std.specs.Prelude.{◌≡◌, ◌≤◌, ◌++◌, length, IfOk, IfErr};
+ghost use Rattle.std.specs.Prelude.{◌≡◌, ◌≤◌, ◌++◌, length, IfErr, IfNone, IfOk, IfSome};
 ghost use Rattle.adf_fields.specs.Words.{block};
-ghost use Rattle.adf_volume.specs.Demands.{FirstFails, boot_demands, is_dos, root_demands};
-ghost use Rattle.adf_volume.specs.Image.{kind_of, root_of};
+ghost use Rattle.adf_volume.specs.Demands.{AllHold, FirstFails, boot_demands, is_dos, root_demands};
+ghost use Rattle.adf_volume.specs.Image.{kind_of, letters_of, root_of};
 ghost use Rattle.adf_volume.specs.Start.{IsBegun, is_image_len, start_form};
 ghost use Rattle.adf_blocks.specs.Forms.{ReadsForm};
 ghost use Rattle.adf_blocks.specs.Sizes.{blocks, is_allowed};
 
 use crate::image::Image;
 use adf_blocks::{Cause, Root, is_allowed_size, read_root};
-use adf_fields::{BLOCK_LEN, Block};
+use adf_fields::{BLOCK_LEN, Block, Letters};
 use adf_tree::Kind;
 
 // The facts in the size and the first four bytes of an image.
@@ -65,10 +65,22 @@ pub fn kind_in(image: &[u8]) -> Kind
     requires { 512 ≤ length image.now }
     ensures { result ≡ kind_of image.now }
 {
-    if boot_block(image).byte(3) == 0 {
+    if boot_block(image).byte(3) % 2 == 0 {
         Kind::Ofs
     } else {
         Kind::Ffs
+    }
+}
+
+/// The letters of a volume, by the type in its boot block.
+#[tactic(auto, using(crate::proofs::ImageStart::type_byte), unfolding(crate::specs::Image::letters_of))]
+pub fn letters_in(image: &[u8]) -> Letters
+    ensures { result ≡ letters_of image.now }
+{
+    if image.get(3).copied().unwrap_or(0) < 2 {
+        Letters::Ascii
+    } else {
+        Letters::International
     }
 }
 
@@ -95,6 +107,18 @@ fn read_start(image: &[u8]) -> Result<Start, Cause>
         blocks: (image.len() / BLOCK_LEN) as u32,
         kind: kind_in(image),
     })
+}
+
+/// The first cause in the size and the first four bytes of an image, at block 0.
+#[tactic(auto, using(crate::proofs::ImageStart::boot_holds, crate::proofs::ImageStart::boot_fails))]
+pub fn boot_cause(image: &[u8]) -> Option<Cause>
+    ensures none { IfNone result (AllHold (boot_demands image.now)) }
+    ensures some { IfSome result (λ c. FirstFails (boot_demands image.now) 0 c) }
+{
+    match read_start(image) {
+        Ok(_) => None,
+        Err(cause) => Some(cause),
+    }
 }
 
 /// Reads the size, the first four bytes and the root of an image; if one is invalid, the first cause and its block.

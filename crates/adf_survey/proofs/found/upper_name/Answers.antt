@@ -8,6 +8,7 @@ returns c =
     let cut = cut_name c.args.image.now c.args.b c.block-head.ensures.size.0 c.requires in
     rw (
       c.loop-c.invariant,
+      c.letters-letters.ensures,
       take_all c.loop-c.c-index c.name_in-c-items.result.now (omega (arith, c.loop-c-test.false)),
       c.name_in-c-items.ensures,
       c.block-head.ensures.block,

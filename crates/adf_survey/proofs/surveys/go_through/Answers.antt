@@ -1,15 +1,19 @@
-use Rattle.std.proofs.Common.{sym, subst}
+use Rattle.std.proofs.Common.{◌++◌, sym, subst}
 use Rattle.adf_survey.specs.declared.found.Found.{Found}
-use Rattle.adf_survey.specs.Start.{root_findings}
+use Rattle.adf_survey.specs.Start.{boot_findings, root_findings}
+use Rattle.adf_survey.specs.Survey.IsCourse.{start}
 use Rattle.adf_survey.specs.Surveyed.{IsOfSurvey, kept_of}
-use Rattle.adf_survey.proofs.Begun.{on_begun}
+use Rattle.adf_survey.proofs.Begun.{on_begun, stands_boot}
 use Rattle.adf_survey.proofs.Keeping.{read_kept}
 use Rattle.adf_survey.proofs.surveys.go_through.Goals as goal
 
 pub run-requires : goal.run-requires
 run-requires c =
     let image = c.args.started.now.image in
-    on_begun image (root_findings c.args.started.now.cause) c.note_root.new.found c.requires (c.in_ok-note_root.ensures image c.in_ok-found.ensures.stands)
+    let bs = boot_findings c.args.started.now.boot in
+    let rs = root_findings c.args.started.now.root in
+    let boot = stands_boot image c.in_ok-found.found _ bs c.in_ok-found.ensures.stands c.in_ok-note_boot.ensures in
+    on_begun image (bs ++ rs) c.note_root.new.found (start c.requires.boot c.requires.root) (c.in_ok-note_root.ensures image bs boot)
     c.begin.ensures.few
 
 pub new-requires : goal.new-requires

@@ -1,14 +1,12 @@
 use Rattle.std.specs.Prelude.{slice_index}
 use Rattle.std.proofs.Common.{ℕ, List, refl, sym, ap, subst, ◌∙◌}
 use Rattle.adf_volume.specs.Walk.{node_block}
-use Rattle.adf_volume.specs.Walk.Role.{Root}
 use Rattle.adf_survey.specs.Files.{FileValue}
-use Rattle.adf_survey.specs.Survey.{Judged, start_demands}
-use Rattle.adf_survey.specs.Survey.JudgementValue.{passed}
+use Rattle.adf_survey.specs.Start.{unread_findings}
+use Rattle.adf_survey.specs.Survey.{UnreadTells}
 use Rattle.adf_survey.specs.Surveyed.{IsOfSurvey}
-use Rattle.adf_survey.proofs.Openings.{root_of_entry}
+use Rattle.adf_survey.proofs.Openings.{entry_begun}
 use Rattle.adf_survey.proofs.SoundFiles.{file_is, has_its_blocks, type_is}
-use Rattle.adf_survey.proofs.Starts.{not_passed}
 use Rattle.adf_survey.proofs.surveyed.Survey.file.Goals as goal
 
 abbrev blocks_of : FileValue → List ℕ
@@ -18,11 +16,9 @@ pub returns-in_default-clause-some : goal.returns-in_default-clause-some
 returns-in_default-clause-some c = λ w fs h. (
   (λ e. cc),
   (λ y.
-      let at : ℕ = c.in_default.field-0.block in
-      let cause = c.in_default.field-0.cause in
-      let told = (root_of_entry c.args.self.now.image w fs c.args.n (node_block w c.args.n) h y.0.header).1 in
-      let fails = subst (λ i. Judged Root (start_demands i) (passed at cause)) (ap (λ v. v.image) c.self.view_is) c.in_default.ensures.unread in
-      absurd (not_passed c.args.self.now.image told fails)),
+      let gs = unread_findings c.in_default.field-0 in
+      let none = subst (λ i. UnreadTells i gs) (ap (λ v. v.image) c.self.view_is) c.in_default.ensures.unread in
+      absurd (entry_begun c.args.self.now.image w fs gs c.args.n (node_block w c.args.n) h y.0.header none)),
 )
 
 pub returns-then-word-clause-some : goal.returns-then-word-clause-some
