@@ -225,7 +225,7 @@ struct adf_moved {
     size_t input;      /* bytes that were read */
     size_t output;     /* bytes at the front of the room for output */
     size_t errors;     /* bytes at the front of the room for errors */
-    bool output_full;  /* output had too little room; the status is then 3 */
+    bool output_full;  /* output had too little room, so that it is only a front part, and the status is 3 */
     bool errors_full;  /* errors had too little room, so that they are only a front part */
 };
 
@@ -240,7 +240,8 @@ struct adf_moved {
  * 2: the words are refused, or are not such texts, or the path is not one. Nothing was read, and output is empty. Errors have
  *    the usage, or `bad path` for a path that is not one.
  * 3: output had too little room (output_full), or an allocation failed. Errors say which (`write fault`, `no memory`), and
- *    output has the front part of an answer, or nothing. Call again with more room: nothing was kept.
+ *    output has the front part of an answer, or nothing; with output_full, the front part of an answer, but not all of it. Call
+ *    again with more room: nothing was kept.
  *
  * Nothing is said about the bytes of a room after those that `moved` counts.
  */

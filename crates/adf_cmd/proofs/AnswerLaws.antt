@@ -1,5 +1,5 @@
 -- From outcomes to answers.
-use Rattle.std.proofs.Common.{◌≡◌, ap, inl, inr, ℕ, Bool, false, List, [], Option, Some, refl, sym, subst}
+use Rattle.std.proofs.Common.{◌≡◌, ap, inl, inr, ℕ, Bool, false, List, [], Option, Some, Err, refl, sym, subst}
 use Rattle.std.specs.Prelude.{string_bytes}
 use Rattle.adf_fields.proofs.DateTexts.{date_of, date_of_is}
 use Rattle.adf_tree.specs.PathTexts.{IsPathText}
@@ -26,6 +26,7 @@ use Rattle.adf_cmd.specs.declared.outcome.Outcome.{Outcome}
 use Rattle.adf_cmd.specs.declared.outcome.Outcome.TheVariants.{Refused, ReadFault, WriteFault, NoMemory}
 use Rattle.adf_cmd.specs.declared.streams.StreamFault.{StreamFault}
 use Rattle.adf_cmd.specs.declared.streams.StreamFault.TheVariants.{Device, NoMemory as StreamNoMemory}
+use Rattle.adf_cmd.specs.Streams.{is_device}
 use Rattle.adf_cmd.proofs.PendingText.{appends_nil}
 
 -- the line of the first fault of an image answers `check`
@@ -42,11 +43,11 @@ ends_weaker few more NoMemory o o' f (inl none) = inl none
 ends_weaker few more NoMemory o o' f (inr h) = inr (h.0, f h.0 h.1, h.2)
 ends_weaker few more w o o' f h = (h.0, f (record { status = status_of w; output = h.0; errors = outcome_line w }) h.1, h.2)
 
--- a fault in writing leaves a front part of an answer
-pub front_ends : (f : StreamFault) (w : Outcome) (answers : Reply → Type 0) (o o' : Option (List ℕ)) → w ≡ after_writing f → WritesFront answers o o'
-    → EndsBy answers w o o'
-front_ends Device w answers o o' e h = rw e h
-front_ends StreamNoMemory w answers o o' e h = rw e (inr h)
+-- a fault in writing leaves a front part of an answer, and not all where the device failed
+pub front_ends : {failed : Bool} (f : StreamFault) (w : Outcome) (answers : Reply → Type 0) (o o' : Option (List ℕ)) → w ≡ after_writing f
+    → failed ≡ is_device {T = ℕ} (Err f) → WritesFront answers failed o o' → EndsBy answers w o o'
+front_ends Device w answers o o' e d h = rw e (rw d at h)
+front_ends StreamNoMemory w answers o o' e d h = rw e (inr (rw d at h))
 
 -- what is said of a refused image is one of the answers that refuse it so
 pub refused_image_ends : (w : Outcome) (image : List ℕ) (answers : Reply → Type 0) (o : Option (List ℕ))

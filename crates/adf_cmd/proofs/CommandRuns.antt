@@ -27,5 +27,5 @@ no_work_ends c words BadPath left o e e' no_input no_output no_errors n laws why
     (λ input. (r, asked, bad_path, sym s, answers input, appends_nil o, said)) in
     search rules
 no_work_ends c words NoMemory left o e e' no_input no_output no_errors n laws why s u v said =
-    let front = of_any left (λ input. GetsFront (c.asks words) c.answer false input o o) (λ input. inl (appends_nil o)) in
+    let front = of_any left (λ input. GetsFront (c.asks words) c.answer false false input o o) (λ input. inl (appends_nil o)) in
     search rules

@@ -1,5 +1,5 @@
 -- Laws of what is pending.
-use Rattle.std.proofs.Common.{◌≡◌, ◌++◌, ◌∙◌, ℕ, List, Option, Some, None, Result, Ok, Err, OnErr, [], refl, sym, ap, append_assoc, append-nil}
+use Rattle.std.proofs.Common.{◌≡◌, ◌≢◌, ◌++◌, ◌∙◌, ℕ, Bool, List, Option, Some, None, Result, Ok, Err, OnErr, [], ◌∷◌, refl, sym, ap, append_assoc, append-nil}
 use Rattle.std.specs.Io.KnownBytes.{Appends}
 use Rattle.adf_cmd.specs.Streams.{AppendsPart, KeepsPending, Pending}
 use Rattle.adf_cmd.proofs.KnownBytes.{appends_two}
@@ -18,13 +18,19 @@ pending_more a b text done more done' e p = (p.0, p.1, rw (e, p.2, append_assoc)
 pub pending_end : (a b c : Option (List ℕ)) (text done : List ℕ) → Pending a b text done → Appends b c text → Appends a c done
 pending_end a b c text done p q = appends_two a b c p.0 text done p.2 p.1 q
 
-pub pending_fails : (a b c : Option (List ℕ)) (text done rest whole : List ℕ) → whole ≡ done ++ rest → Pending a b text done → AppendsPart b c text
-    → AppendsPart a c whole
+-- where something is left of a text, something is left of a longer one
+left_more : (rest more : List ℕ) → rest ≢ [] → rest ++ more ≢ []
+left_more [] more some e = some refl
+left_more (x ∷ xs) more some e = cc
+
+pub pending_fails : {failed : Bool} (a b c : Option (List ℕ)) (text done rest whole : List ℕ) → whole ≡ done ++ rest → Pending a b text done
+    → AppendsPart failed b c text → AppendsPart failed a c whole
 pending_fails a b c text done rest whole e p q = (
   p.0 ++ q.0,
   q.1 ++ rest,
   rw (e, p.2, q.2) (simp append_assoc),
-  appends_two a b c p.0 q.0 (p.0 ++ q.0) refl p.1 q.3,
+  λ fails. left_more q.1 rest (q.3 fails),
+  appends_two a b c p.0 q.0 (p.0 ++ q.0) refl p.1 q.4,
 )
 
 pub pending_cleared : (b c : Option (List ℕ)) (text text' : List ℕ) → text' ≡ [] → Appends b c text → KeepsPending b text c text'
@@ -36,11 +42,12 @@ pending_flushed b c text more text' e q = λ a done p.
     (p.0 ++ text, appends_two a b c p.0 text (p.0 ++ text) refl p.1 q, rw (e, p.2) (sym (append_assoc p.0 text more)))
 
 -- a front part of a text is one of a longer text
-pub part_of_more : (b c : Option (List ℕ)) (text more : List ℕ) → AppendsPart b c text → AppendsPart b c (text ++ more)
+pub part_of_more : {failed : Bool} (b c : Option (List ℕ)) (text more : List ℕ) → AppendsPart failed b c text → AppendsPart failed b c (text ++ more)
 part_of_more b c text more q = pending_fails b b c text text more (text ++ more) refl (pending_begun b text text refl) q
 
 -- the text that waits is written, and a front part of more
-pub part_behind : (b c d : Option (List ℕ)) (text more : List ℕ) → Appends b c text → AppendsPart c d more → AppendsPart b d (text ++ more)
+pub part_behind : {failed : Bool} (b c d : Option (List ℕ)) (text more : List ℕ) → Appends b c text → AppendsPart failed c d more
+    → AppendsPart failed b d (text ++ more)
 part_behind b c d text more p q = pending_fails b c d more (text ++ more) [] (text ++ more) (sym (append-nil (text ++ more))) (text, p, refl) q
 
 -- what holds whatever a result is holds where it is an error

@@ -43,20 +43,22 @@ pub record Command (Words : Type 0) : Type 1 where
 abbrev pub IsUnanswered : {Words : Type 0} → Command Words → Words → Type 0
 IsUnanswered c words = c.refuses words ⊎ c.asks_bad_path words
 
--- output got a front part of what one of these answers writes
-abbrev pub WritesFront : (Reply → Type 0) → Option (List ℕ) → Option (List ℕ) → Type 0
-WritesFront answers o o' = (reply : Reply) × answers reply × AppendsPart o o' reply.output
+-- output got a front part of what one of these answers writes, and where output failed not all of it
+abbrev pub WritesFront : (Reply → Type 0) → Bool → Option (List ℕ) → Option (List ℕ) → Type 0
+WritesFront answers failed o o' = (reply : Reply) × answers reply × AppendsPart failed o o' reply.output
 
--- something is asked for, and output and errors got an answer to it at this status, or where errors failed a front part of its errors
+-- something is asked for, and output and errors got an answer to it at this status, or where errors failed a front part of its errors, but not all
 abbrev pub GetsAnswer : {R : Type 0} → (R → Type 0) → (R → List ℕ → Reply → Type 0) → List ℕ → ℕ → Option (List ℕ) → Option (List ℕ) → Bool
     → Option (List ℕ) → Option (List ℕ) → Type 0
 GetsAnswer {R = R} asks answer input status o o' failed e e' =
     (r : R) × asks r × (reply : Reply) × (reply.status ≡ status) × answer r input reply × Appends o o' reply.output × Says failed e e' reply.errors
 
--- what output has got at status 3: nothing where the input failed, else nothing or a front part of an answer to what is asked for
-abbrev pub GetsFront : {R : Type 0} → (R → Type 0) → (R → List ℕ → Reply → Type 0) → Bool → List ℕ → Option (List ℕ) → Option (List ℕ) → Type 0
-GetsFront asks answer true input o o' = Appends o o' []
-GetsFront {R = R} asks answer false input o o' = Appends o o' [] ⊎ ((r : R) × asks r × WritesFront (answer r input) o o')
+-- what output has got at status 3: nothing where the input failed; where output failed a front part of an answer to what is asked for, but not all of it;
+-- else nothing or a front part
+abbrev pub GetsFront : {R : Type 0} → (R → Type 0) → (R → List ℕ → Reply → Type 0) → Bool → Bool → List ℕ → Option (List ℕ) → Option (List ℕ) → Type 0
+GetsFront asks answer true _ input o o' = Appends o o' []
+GetsFront {R = R} asks answer false true input o o' = (r : R) × asks r × WritesFront (answer r input) true o o'
+GetsFront {R = R} asks answer false false input o o' = Appends o o' [] ⊎ ((r : R) × asks r × WritesFront (answer r input) false o o')
 
 -- the line of status 3: whether the input failed, and whether output failed
 abbrev pub failure_line : Bool → Bool → List ℕ
@@ -76,11 +78,11 @@ pub record RunEnds {Words : Type 0} (c : Command Words) (words : Words) (input :
   pub usage : n ≡ 2 → IsUnanswered c words
   pub bad_path : n ≡ 2 → c.asks_bad_path words → Says errors_failed e e' (codes "bad path\n")
   pub refused : n ≡ 2 → c.refuses words → Says errors_failed e e' c.usage
-  -- at status 3 errors tell what failed, and output has a front part of an answer: nothing where the input failed
+  -- at status 3 errors tell what failed, and output has a front part of an answer: nothing where the input failed, and not all where output failed
   pub read_failed : input_failed ≡ true → n ≡ 3
   pub write_failed : output_failed ≡ true → n ≡ 3
   pub failure : n ≡ 3 → Says errors_failed e e' (failure_line input_failed output_failed)
-  pub part : n ≡ 3 → IfSome input (λ bytes. GetsFront (c.asks words) c.answer input_failed bytes o o')
+  pub part : n ≡ 3 → IfSome input (λ bytes. GetsFront (c.asks words) c.answer input_failed output_failed bytes o o')
 
 -- so many bytes are enough for an answer to what the words ask for
 abbrev pub IsEnough : {Words : Type 0} → Command Words → Words → ℕ → Type 0

@@ -73,8 +73,8 @@ WritesOne answers w o o' =
 -- what an outcome says of what was added to output, where these are the answers
 abbrev pub EndsBy : (Reply → Type 0) → Outcome → Option (List ℕ) → Option (List ℕ) → Type 0
 EndsBy answers ReadFault o o' = Appends o o' []
-EndsBy answers WriteFault o o' = WritesFront answers o o'
-EndsBy answers NoMemory o o' = Appends o o' [] ⊎ WritesFront answers o o'
+EndsBy answers WriteFault o o' = WritesFront answers true o o'
+EndsBy answers NoMemory o o' = Appends o o' [] ⊎ WritesFront answers false o o'
 EndsBy answers w o o' = WritesOne answers w o o'
 
 -- saying that a tree needs more blocks than there are

@@ -1,5 +1,5 @@
 -- What whole reads and writes take and add.
-use Rattle.std.specs.Prelude.{◌≡◌, ℕ, ◌≤◌, Bool, true, false, List, ◌++◌, length, take, Option, IfSome, Result, Err, codes}
+use Rattle.std.specs.Prelude.{◌≡◌, ◌≢◌, ℕ, ◌≤◌, Bool, true, false, List, ◌++◌, length, [], take, Option, IfSome, Result, Err, codes}
 use Rattle.std.specs.Io.KnownBytes.{Appends, Consumes}
 use Rattle.adf_cmd.specs.declared.streams.StreamFault.{StreamFault}
 use Rattle.adf_cmd.specs.declared.streams.StreamFault.TheVariants.{Device, NoMemory}
@@ -12,14 +12,14 @@ TakesAtMost n old new = (bs : List ℕ) × (length bs ≤ n) × Consumes old new
 abbrev pub AreFirst : ℕ → Option (List ℕ) → List ℕ → Type 0
 AreFirst n known bytes = IfSome known (λ all. bytes ≡ take n all)
 
--- a front part of `whole` was added to the known bytes
-abbrev pub AppendsPart : Option (List ℕ) → Option (List ℕ) → List ℕ → Type 0
-AppendsPart old new whole = (part rest : List ℕ) × (whole ≡ part ++ rest) × Appends old new part
+-- a front part of `whole` was added to the known bytes, and where the device has failed not all of it
+abbrev pub AppendsPart : Bool → Option (List ℕ) → Option (List ℕ) → List ℕ → Type 0
+AppendsPart failed old new whole = (part rest : List ℕ) × (whole ≡ part ++ rest) × (failed ≡ true → rest ≢ []) × Appends old new part
 
--- the text was added, or where the device has failed a front part of it
+-- the text was added, or where the device has failed a front part of it, but not all
 abbrev pub Says : Bool → Option (List ℕ) → Option (List ℕ) → List ℕ → Type 0
 Says false old new text = Appends old new text
-Says true old new text = AppendsPart old new text
+Says true old new text = AppendsPart true old new text
 
 -- the fault is that of the device
 abbrev pub is_device : {T : Type 0} → Result T StreamFault → Bool

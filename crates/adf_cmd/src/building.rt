@@ -30,8 +30,8 @@ fn write_image<W: Sink>(
     requires small { length image.now < 2 ^ 41 }
     ensures ok { OnOk result
         (Appends (W.held output.old) (W.held output.new) (image_or_lines lines image.now)) }
-    ensures err { OnErr result
-        (AppendsPart (W.held output.old) (W.held output.new) (image_or_lines lines image.now)) }
+    ensures err { OnErr result (AppendsPart (W.has_failed output.new)
+        (W.held output.old) (W.held output.new) (image_or_lines lines image.now)) }
     ensures failed { W.has_failed output.new ≡ is_device result }
 {
     if lines {

@@ -47,7 +47,7 @@ fn copy_piece<W: Sink>(
         (W.held output.old) (take waiting room.old ++ piece.now)
         (W.held output.new) (take n room.new)) }
     ensures within { IfOk result (λ n. n ≤ length room.new) }
-    ensures err { OnErr result (AppendsPart
+    ensures err { OnErr result (AppendsPart (W.has_failed output.new)
         (W.held output.old) (W.held output.new) (take waiting room.old ++ piece.now)) }
     ensures failed { W.has_failed output.new ≡ is_err result }
 {
@@ -67,8 +67,8 @@ fn write_pieces<W: Sink>(pieces: Pieces<'_>, room: &mut [u8], output: &mut W) ->
     requires { W.has_failed output.old ≡ false }
     ensures ok { OnOk result
         (Appends (W.held output.old) (W.held output.new) (concat pieces.entry)) }
-    ensures err { OnErr result
-        (AppendsPart (W.held output.old) (W.held output.new) (concat pieces.entry)) }
+    ensures err { OnErr result (AppendsPart (W.has_failed output.new)
+        (W.held output.old) (W.held output.new) (concat pieces.entry)) }
     ensures failed { W.has_failed output.new ≡ is_err result }
 {
     let mut waiting = 0;
@@ -79,7 +79,7 @@ fn write_pieces<W: Sink>(pieces: Pieces<'_>, room: &mut [u8], output: &mut W) ->
 }
 
 /// Writes the pieces of a file through a room of so many bytes. `Failed` where the writer failed or took
-/// 0 of some bytes; then a front part of them is written.
+/// 0 of some bytes; then a front part of them is written, but not all.
 pub fn write_through<const N: usize, W: Sink>(
     pieces: Pieces<'_>,
     output: &mut W,
@@ -88,8 +88,8 @@ pub fn write_through<const N: usize, W: Sink>(
     requires works { W.has_failed output.old ≡ false }
     ensures ok { OnOk result
         (Appends (W.held output.old) (W.held output.new) (concat pieces.entry)) }
-    ensures err { OnErr result
-        (AppendsPart (W.held output.old) (W.held output.new) (concat pieces.entry)) }
+    ensures err { OnErr result (AppendsPart (W.has_failed output.new)
+        (W.held output.old) (W.held output.new) (concat pieces.entry)) }
     ensures failed { W.has_failed output.new ≡ is_err result }
 {
     let mut room = [0; N];

@@ -46,7 +46,7 @@ fn list_block<W: Sink>(
     ensures ok { OnOk result (KeepsPending
         (W.held output.old) (text.old.items ++ lines_of_block image.now b)
         (W.held output.new) text.new.items) }
-    ensures err { OnErr result (AppendsPart
+    ensures err { OnErr result (AppendsPart (W.has_failed output.new)
         (W.held output.old) (W.held output.new) (text.old.items ++ lines_of_block image.now b)) }
     ensures failed { W.has_failed output.new ≡ is_device result }
 {
@@ -57,7 +57,8 @@ fn list_block<W: Sink>(
 }
 
 /// Writes the lines of an image's words that are not 0. `Device` where the writer failed, `NoMemory`
-/// where memory was refused; then a front part of the lines is written.
+/// where memory was refused; then a front part of the lines is written, and where the writer failed
+/// not all of them.
 pub fn write_listing<W: Sink>(
     alloc: Global,
     image: &[u8],
@@ -66,8 +67,8 @@ pub fn write_listing<W: Sink>(
     requires works { W.has_failed output.old ≡ false }
     requires small { length image.now < 2 ^ 41 }
     ensures ok { OnOk result (Appends (W.held output.old) (W.held output.new) (listing image.now)) }
-    ensures err { OnErr result
-        (AppendsPart (W.held output.old) (W.held output.new) (listing image.now)) }
+    ensures err { OnErr result (AppendsPart (W.has_failed output.new)
+        (W.held output.old) (W.held output.new) (listing image.now)) }
     ensures failed { W.has_failed output.new ≡ is_device result }
 {
     let mut text = Vec::new(alloc);

@@ -160,11 +160,12 @@ pub fn read_all<R: Source>(
 }
 
 /// Writes all the bytes. `Failed` where the writer failed or took 0 of some bytes; then a front part
-/// of them is written.
+/// of them is written, but not all.
 pub fn write_all<W: Sink>(output: &mut W, bytes: &[u8]) -> Result<(), Failed>
     requires { W.has_failed output.old ≡ false }
     ensures ok { OnOk result (Appends (W.held output.old) (W.held output.new) bytes.now) }
-    ensures err { OnErr result (AppendsPart (W.held output.old) (W.held output.new) bytes.now) }
+    ensures err { OnErr result (AppendsPart (W.has_failed output.new)
+        (W.held output.old) (W.held output.new) bytes.now) }
     ensures failed { W.has_failed output.new ≡ is_err result }
 {
     let mut at = 0usize;
@@ -191,13 +192,13 @@ pub fn say<E: Sink>(errors: &mut E, text: &str)
 }
 
 /// Writes the text that waits once it is long; then none waits. `Failed` where the writer failed or
-/// took 0 of some bytes; then a front part of the text is written.
+/// took 0 of some bytes; then a front part of the text is written, but not all.
 pub fn flush_long<W: Sink>(output: &mut W, text: &mut Vec<u8>) -> Result<(), Failed>
     requires { W.has_failed output.old ≡ false }
     ensures ok { OnOk result (KeepsPending
         (W.held output.old) text.old.items (W.held output.new) text.new.items) }
-    ensures err { OnErr result
-        (AppendsPart (W.held output.old) (W.held output.new) text.old.items) }
+    ensures err { OnErr result (AppendsPart (W.has_failed output.new)
+        (W.held output.old) (W.held output.new) text.old.items) }
     ensures failed { W.has_failed output.new ≡ is_err result }
 {
     if text.len() < CHUNK {

@@ -86,7 +86,7 @@ fn list_entry<W: Sink>(
         (W.held output.old) (text.old.items ++ lines_of_entry date t.entries n)
         (W.held output.new) text.new.items)) }
     ensures err { InAnyDates volume.now (λ date t. OnErr result (AppendsPart
-        (W.held output.old) (W.held output.new)
+        (W.has_failed output.new) (W.held output.old) (W.held output.new)
         (text.old.items ++ lines_of_entry date t.entries n))) }
     ensures failed { W.has_failed output.new ≡ is_device result }
 {
@@ -108,7 +108,7 @@ fn write_entries<W: Sink>(
         (W.held output.old) (W.held output.new)
         (text.items ++ lines_of_entries date t.entries (length t.entries)))) }
     ensures err { InAnyDates volume.now (λ date t. OnErr result (AppendsPart
-        (W.held output.old) (W.held output.new)
+        (W.has_failed output.new) (W.held output.old) (W.held output.new)
         (text.items ++ lines_of_entries date t.entries (length t.entries)))) }
     ensures failed { W.has_failed output.new ≡ is_device result }
 {
@@ -130,7 +130,8 @@ fn write_volume<W: Sink>(
     ensures ok { InAnyDates volume.now (λ date t. OnOk result (Appends
         (W.held output.old) (W.held output.new) (volume_lines date t (blocks volume.now.image)))) }
     ensures err { InAnyDates volume.now (λ date t. OnErr result (AppendsPart
-        (W.held output.old) (W.held output.new) (volume_lines date t (blocks volume.now.image)))) }
+        (W.has_failed output.new) (W.held output.old) (W.held output.new)
+        (volume_lines date t (blocks volume.now.image)))) }
     ensures failed { W.has_failed output.new ≡ is_device result }
 {
     let mut text = Vec::new(alloc);

@@ -5,7 +5,7 @@ use Rattle.std.proofs.lemmas.Bool.{cases_lt}
 use Rattle.std.proofs.lemmas.List.{get_or-set_same, get_or-set_other, length-set}
 use borrow.Author.Count.{below_more}
 use Rattle.std.specs.Io.KnownBytes.{Appends}
-use Rattle.adf_cmd.specs.Commands.{Command, IsUnanswered, RunEnds}
+use Rattle.adf_cmd.specs.Commands.{Command, GetsFront, IsUnanswered, RunEnds}
 use Rattle.adf_cmd.specs.Streams.{AppendsPart, Says}
 
 -- what holds of each byte before place i, and of the one that is put there, holds of each byte up to it
@@ -30,12 +30,17 @@ appended n n' k o bytes empty h =
     let both = parts_same n n' o (k ++ bytes) h in
     (both.0, both.1 ∙ ap (λ l. l ++ bytes) empty)
 
+-- and so with a front part of the bytes
+appended_part : (failed : Bool) (n n' : ℕ) (k o whole : List ℕ) → k ≡ [] → AppendsPart failed (Some (n ∷ k)) (Some (n' ∷ o)) whole
+    → (n' ≡ n) × AppendsPart failed (Some []) (Some o) whole
+appended_part failed n n' k o whole empty (part, rest, is, some, h) =
+    let here = appended n n' k o part empty h in
+    (here.0, (part, rest, is, some, here.1))
+
 pub said : (failed : Bool) (n n' : ℕ) (k e text : List ℕ) → k ≡ []
     → Says failed (Some (n ∷ k)) (Some (n' ∷ e)) text → (n' ≡ n) × Says failed (Some []) (Some e) text
 said false n n' k e text empty h = appended n n' k e text empty h
-said true n n' k e text empty (part, rest, whole, h) =
-    let here = appended n n' k e part empty h in
-    (here.0, (part, rest, whole, here.1))
+said true n n' k e text empty h = appended_part true n n' k e text empty h
 
 -- a run into rooms, of which each is told by its name and what stands in it, and that were empty
 module _ {Words : Type 0} (c : Command Words) (words : Words) (input : List ℕ) (n : ℕ) (no_output no_errors : Bool) (m m' l l' : ℕ)
@@ -50,13 +55,19 @@ module _ {Words : Type 0} (c : Command Words) (words : Words) (input : List ℕ)
   put bytes h = (appended m m' k o bytes none_o h).1
 
   -- and so for a front part of it
-  put_front : (whole : List ℕ) → AppendsPart (Some (m ∷ k)) (Some (m' ∷ o)) whole → AppendsPart (Some []) (Some o) whole
-  put_front whole h = (said true m m' k o whole none_o h).1
+  put_front : (failed : Bool) (whole : List ℕ) → AppendsPart failed (Some (m ∷ k)) (Some (m' ∷ o)) whole → AppendsPart failed (Some []) (Some o) whole
+  put_front failed whole h = (appended_part failed m m' k o whole none_o h).1
 
   -- the run ends so in rooms without names
   room_ends : RunEnds c words (Some input) false n no_output (Some []) (Some o) no_errors (Some []) (Some e)
   room_ends =
       search (rules, put, told, put_front, ends.answer, ends.answered, ends.usage, ends.bad_path, ends.refused, ends.failure, ends.part)
+
+  -- the room for output is kept to at status 3
+  front_kept : (failed : Bool) → GetsFront (c.asks words) c.answer false failed input (Some (m ∷ k)) (Some (m' ∷ o)) → m' ≡ m
+  front_kept true (r, asks, (reply, answers, front)) = (appended_part true m m' k o reply.output none_o front).0
+  front_kept false (inl nothing) = (appended m m' k o [] none_o nothing).0
+  front_kept false (inr (r, asks, (reply, answers, front))) = (appended_part false m m' k o reply.output none_o front).0
 
   -- the room for output is kept to, if it is where nothing is answered
   output_kept : (IsUnanswered c words → m' ≡ m) → m' ≡ m
@@ -67,10 +78,7 @@ module _ {Words : Type 0} (c : Command Words) (words : Words) (input : List ℕ)
         (appended m m' k o reply.output none_o written).0
     | inr high ↦ elim (cases_lt n 3) [
       | inl two ↦ same (ends.usage (omega arith))
-      | inr three ↦ elim (ends.part (let most = ends.status in omega arith)) [
-        | inl nothing ↦ (appended m m' k o [] none_o nothing).0
-        | inr (r, asks, (reply, answers, front)) ↦ (said true m m' k o reply.output none_o front).0
-      ]
+      | inr three ↦ front_kept no_output (ends.part (let most = ends.status in omega arith))
     ]
   ]
 

@@ -3,10 +3,9 @@
 use Rattle.std.proofs.Common.{◌≡◌, ◌∙◌, ℕ, max, Bool, true, false, List, [], ◌∷◌, ◌++◌, Option, None, Some, IfSome}
 use Rattle.std.proofs.Common.{append-nil, append_assoc, inl, inr, refl, sym, ap, subst, arith}
 use Rattle.std.specs.Io.KnownBytes.{Appends}
-use Rattle.adf_cmd.specs.Streams.{AppendsPart}
 use Rattle.adf_cmd.proofs.KnownBytes.{appends_two}
 use Rattle.adf_cmd.proofs.PendingText.{appends_nil}
-use Rattle.adf_shelf_cmd.specs.Lines.{AreShelfLines, IsReport, IsRunStatus, Reports, WritesAll, WritesLines, WritesPart, shelf_line}
+use Rattle.adf_shelf_cmd.specs.Lines.{AreShelfLines, BreaksLine, IsReport, IsRunStatus, Reports, WritesAll, WritesLines, WritesPart, shelf_line}
 use Rattle.adf_shelf_cmd.specs.Names.{AreGiven}
 
 abbrev pub Progress : Reports → Option (List (List ℕ)) → Option (List (List ℕ)) → ℕ → Option (List ℕ) → Option (List ℕ) → Type 0
@@ -69,13 +68,15 @@ pub ended : (may : Reports) (a b : Option (List (List ℕ))) (s : ℕ) (o o' : O
     → IfSome b (λ names. names ≡ []) → WritesAll may a s o o'
 ended may a b s o o' (names, given, written) none = (names, given_all a b names given none, written)
 
-pub stopped : (may : Reports) (a b : Option (List (List ℕ))) (s : ℕ) (o o' : Option (List ℕ)) → Progress may a b s o o' → WritesPart may a o o'
-stopped may a b s o o' (names, given, (output, lines, written)) =
-    (names, given_front a b names given, s, output, lines, (output, [], sym (append-nil output), written))
+pub stopped : (may : Reports) (a b : Option (List (List ℕ))) (s : ℕ) (failed : Bool) (o o' : Option (List ℕ)) → failed ≡ false
+    → Progress may a b s o o' → WritesPart may a failed o o'
+stopped may a b s true o o' works (names, given, (output, lines, written)) = cc
+stopped may a b s false o o' works (names, given, (output, lines, written)) = (names, given_front a b names given, s, output, lines, written)
 
-pub broken : (may : Reports) (a b c : Option (List (List ℕ))) (s : ℕ) (o o' o'' : Option (List ℕ)) (name : List ℕ) → Progress may a b s o o'
-    → AreGiven b c (name ∷ []) → ((t : ℕ) × (text : List ℕ) × may name t text × AppendsPart o' o'' (shelf_line name text)) → WritesPart may a o o''
-broken may a b c s o o' o'' name (names, given, (output, lines, written)) one (t, text, tells, (part, rest, whole, more)) = (
+-- the line of one name more was begun where output failed, else nothing was written
+pub broken : (may : Reports) (a b c : Option (List (List ℕ))) (s : ℕ) (failed : Bool) (o o' o'' : Option (List ℕ)) (name : List ℕ)
+    → Progress may a b s o o' → AreGiven b c (name ∷ []) → BreaksLine may name failed o' o'' → WritesPart may a failed o o''
+broken may a b c s true o o' o'' name (names, given, (output, lines, written)) one (t, text, tells, (part, rest, whole, some, more)) = (
   names ++ name ∷ [],
   given_front a c _ (given_more a b c names (name ∷ []) given one),
   max s t,
@@ -85,9 +86,12 @@ broken may a b c s o o' o'' name (names, given, (output, lines, written)) one (t
     output ++ part,
     rest,
     ap (λ l. output ++ l) whole ∙ sym (append_assoc output part rest),
+    some,
     appends_two o o' o'' output part _ refl written more,
   ),
 )
+broken may a b c s false o o' o'' name (names, given, (output, lines, written)) one same =
+    (names, given_front a b names given, s, output, lines, subst (λ k. Appends o k output) (sym same) written)
 
 -- what is reported of the bytes that a source gives is reported of the known bytes of its file
 pub report_known : (known left : Option (List ℕ)) (m n : Bool) (s : ℕ) (text : List ℕ) → IfSome known (λ bytes. left ≡ Some bytes) → (m ≡ false → n ≡ false)
@@ -105,6 +109,7 @@ report_known (Some bytes) left m n s text e fails (inr (inr h)) = inr (inr h)
 pub max_status : (s t u : ℕ) → u ≡ max s t → IsRunStatus s → IsRunStatus t → IsRunStatus u
 max_status s t u e h i = (omega (arith, e, h.0, i.0), λ two. omega (arith, e, h.1, i.1, two))
 
--- no line is a front part of any lines
-pub nothing_written : (may : Reports) (known : Option (List (List ℕ))) (o : Option (List ℕ)) → WritesPart may known o o
-nothing_written may known o = stopped may known known 0 o o (started may known o)
+-- no line is those of no names
+pub nothing_written : (may : Reports) (known : Option (List (List ℕ))) (failed : Bool) (o : Option (List ℕ)) → failed ≡ false
+    → WritesPart may known failed o o
+nothing_written may known failed o works = stopped may known known 0 failed o o works (started may known o)

@@ -60,10 +60,15 @@ WritesLines may names status o o' = (output : List ℕ) × AreShelfLines may nam
 abbrev pub WritesAll : Reports → Option (List (List ℕ)) → ℕ → Option (List ℕ) → Option (List ℕ) → Type 0
 WritesAll may known status o o' = (names : List (List ℕ)) × IfSome known (λ all. all ≡ names) × WritesLines may names status o o'
 
--- output got a front part of the lines of names that stand first among the known ones
-abbrev pub WritesPart : Reports → Option (List (List ℕ)) → Option (List ℕ) → Option (List ℕ) → Type 0
-WritesPart may known o o' = (names : List (List ℕ)) × IfSome known (λ all. (rest : List (List ℕ)) × (all ≡ names ++ rest))
-    × (status : ℕ) × (output : List ℕ) × AreShelfLines may names status output × AppendsPart o o' output
+-- output got the lines of names that stand first among the known ones, or where it failed a front part of them, but not all
+abbrev pub WritesPart : Reports → Option (List (List ℕ)) → Bool → Option (List ℕ) → Option (List ℕ) → Type 0
+WritesPart may known failed o o' = (names : List (List ℕ)) × IfSome known (λ all. (rest : List (List ℕ)) × (all ≡ names ++ rest))
+    × (status : ℕ) × (output : List ℕ) × AreShelfLines may names status output × Says failed o o' output
+
+-- of the line of a name, output got a front part where it failed, but not all, and else nothing
+abbrev pub BreaksLine : Reports → List ℕ → Bool → Option (List ℕ) → Option (List ℕ) → Type 0
+BreaksLine may name true o o' = (status : ℕ) × (text : List ℕ) × may name status text × AppendsPart true o o' (shelf_line name text)
+BreaksLine may name false o o' = o' ≡ o
 
 -- the exit status that a file's report asks for
 abbrev pub report_status : Report → ℕ
@@ -93,11 +98,12 @@ stop_line NamesFault = codes "read fault\n"
 stop_line WriteFault = codes "write fault\n"
 stop_line StopNoMemory = codes "no memory\n"
 
--- how a run ends: output got all the lines, and errors nothing; or it stopped at status 3, output got a front part of the lines, and errors tell why
+-- how a run ends: output got all the lines, and errors nothing; or it stopped at status 3, output got the lines of the first names,
+-- or where it failed not all of them, and errors tell why
 abbrev pub Ends : Reports → Option (List (List ℕ)) → ℕ → Bool → Option (List ℕ) → Option (List ℕ) → Bool → Option (List ℕ) → Option (List ℕ) → Type 0
 Ends may known status failed o o' errors_failed e e' =
     (WritesAll may known status o o' × (failed ≡ false) × Appends e e' [])
-    ⊎ ((stop : Stop) × (status ≡ 3) × (failed ≡ is_output_fault stop) × WritesPart may known o o' × Says errors_failed e e' (stop_line stop))
+    ⊎ ((stop : Stop) × (status ≡ 3) × (failed ≡ is_output_fault stop) × WritesPart may known failed o o' × Says errors_failed e e' (stop_line stop))
 
 -- what a run says on errors, where `unread` says whether the names could not be read: nothing if it got through, else `read fault` if and only if
 -- they could not

@@ -2,8 +2,7 @@
 
 ghost use Rattle.std.specs.Prelude.{◌≡◌, ℕ, List, false, IfOk, OnErr};
 ghost use Rattle.std.specs.Io.KnownBytes.{Appends};
-ghost use Rattle.adf_cmd.specs.Streams.{AppendsPart};
-ghost use Rattle.adf_shelf_cmd.specs.Lines.{IsReportOf, IsRunStatus, WritesAll, WritesPart, is_names_stop, is_write_stop, shelf_line, stop_line};
+ghost use Rattle.adf_shelf_cmd.specs.Lines.{BreaksLine, IsReportOf, IsRunStatus, WritesAll, WritesPart, is_names_stop, is_write_stop, shelf_line, stop_line};
 
 use crate::files::Files;
 use crate::names::Names;
@@ -54,9 +53,9 @@ fn write_line<F: Files, W: Sink>(
     ensures ok { IfOk result (λ s. (text : List ℕ)
         × IsReportOf (F.bytes_of files.now) (F.may_fail files.now) name.now s text
         × Appends (W.held output.old) (W.held output.new) (shelf_line name.now text)) }
-    ensures err { OnErr result ((s : ℕ) × (text : List ℕ)
-        × IsReportOf (F.bytes_of files.now) (F.may_fail files.now) name.now s text
-        × AppendsPart (W.held output.old) (W.held output.new) (shelf_line name.now text)) }
+    ensures err { OnErr result
+        (BreaksLine (IsReportOf (F.bytes_of files.now) (F.may_fail files.now)) name.now
+        (W.has_failed output.new) (W.held output.old) (W.held output.new)) }
     ensures status { IfOk result IsRunStatus }
     ensures read { is_names_stop result ≡ false }
     ensures failed { W.has_failed output.new ≡ is_write_stop result }
@@ -74,7 +73,8 @@ fn write_line<F: Files, W: Sink>(
 
 /// Writes the line of each name in order, and answers the greatest status of one. A line is in output
 /// before the next name is asked for. A file that could not be read stops no other; `Stop` where the
-/// names or output failed, or memory was refused to a name or its line.
+/// names or output failed, or memory was refused to a name or its line; then the lines before are
+/// written, and of one more a front part where output failed, but not all.
 pub fn write_verdicts<N: Names, F: Files, W: Sink>(
     alloc: Global,
     names: &mut N,
@@ -87,7 +87,7 @@ pub fn write_verdicts<N: Names, F: Files, W: Sink>(
         (N.left names.old) s (W.held output.old) (W.held output.new)) }
     ensures part { OnErr result
         (WritesPart (IsReportOf (F.bytes_of files.now) (F.may_fail files.now))
-        (N.left names.old) (W.held output.old) (W.held output.new)) }
+        (N.left names.old) (W.has_failed output.new) (W.held output.old) (W.held output.new)) }
     ensures status { IfOk result IsRunStatus }
     ensures unread { N.has_failed names.new ≡ is_names_stop result }
     ensures failed { W.has_failed output.new ≡ is_write_stop result }

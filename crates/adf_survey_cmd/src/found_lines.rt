@@ -64,7 +64,8 @@ fn tell_found<W: Sink>(
         (W.held output.new) text.new.items)) }
     ensures err { (w : List (Role × ℕ)) (fs : List FindingValue) → IsSurvey survey.now.image w fs
         → InAnyTexts survey.now.image w fs (λ date sound. 1 ≤ n → n ≤ heads w
-        → OnErr result (AppendsPart (W.held output.old) (W.held output.new)
+        → OnErr result (AppendsPart
+        (W.has_failed output.new) (W.held output.old) (W.held output.new)
         (text.old.items ++ found_lines date sound survey.now.image w n))) }
     ensures failed { W.has_failed output.new ≡ is_device result }
 {
@@ -87,7 +88,7 @@ fn write_entries<W: Sink>(
         (text.items ++ lines_of_found date sound survey.now.image w (heads w)))) }
     ensures err { (w : List (Role × ℕ)) (fs : List FindingValue) → IsSurvey survey.now.image w fs
         → InAnyTexts survey.now.image w fs (λ date sound. OnErr result (AppendsPart
-        (W.held output.old) (W.held output.new)
+        (W.has_failed output.new) (W.held output.old) (W.held output.new)
         (text.items ++ lines_of_found date sound survey.now.image w (heads w)))) }
     ensures failed { W.has_failed output.new ≡ is_device result }
 {
@@ -115,7 +116,7 @@ fn push_opening(text: &mut Vec<u8>, opening: &Opening) -> Result<(), AllocError>
 
 /// Writes the lines of what is found: those that open `list` of the volume, and behind them those of each entry, with its mark;
 /// none where the root is not taken. `Device` where the writer failed, `NoMemory` where memory was refused; then
-/// a front part of the lines is written.
+/// a front part of the lines is written, and where the writer failed not all of them.
 pub fn write_found<W: Sink>(
     alloc: Global,
     survey: &Survey<'_>,
@@ -127,7 +128,8 @@ pub fn write_found<W: Sink>(
         (W.held output.old) (W.held output.new) (found_text date sound survey.now.image w))) }
     ensures err { (w : List (Role × ℕ)) (fs : List FindingValue) → IsSurvey survey.now.image w fs
         → InAnyTexts survey.now.image w fs (λ date sound. OnErr result (AppendsPart
-        (W.held output.old) (W.held output.new) (found_text date sound survey.now.image w))) }
+        (W.has_failed output.new) (W.held output.old) (W.held output.new)
+        (found_text date sound survey.now.image w))) }
     ensures failed { W.has_failed output.new ≡ is_device result }
 {
     let Some(opening) = survey.opening() else {

@@ -27,7 +27,8 @@ fn write_both<W: Sink>(
         (W.held output.old) (W.held output.new) (listing_text date sound survey.now.image w fs))) }
     ensures err { (w : List (Role × ℕ)) (fs : List FindingValue) → IsSurvey survey.now.image w fs
         → InAnyTexts survey.now.image w fs (λ date sound. OnErr result (AppendsPart
-        (W.held output.old) (W.held output.new) (listing_text date sound survey.now.image w fs))) }
+        (W.has_failed output.new) (W.held output.old) (W.held output.new)
+        (listing_text date sound survey.now.image w fs))) }
     ensures failed { W.has_failed output.new ≡ is_device result }
 {
     write_runs(alloc, survey, output)?;

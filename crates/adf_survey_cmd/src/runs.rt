@@ -162,7 +162,8 @@ fn tell_finding<W: Sink>(
         (W.held output.new) (text.new.items ++ lines_from survey.now.image w r gs)) }
     ensures err { (w : List (Role × ℕ)) (fs : List FindingValue) → IsSurvey survey.now.image w fs
         → (f : FindingValue) (gs : List FindingValue) → next ≡ run_of w f
-        → OnErr result (AppendsPart (W.held output.old) (W.held output.new)
+        → OnErr result (AppendsPart
+        (W.has_failed output.new) (W.held output.old) (W.held output.new)
         (text.old.items ++ lines_from survey.now.image w run (f ∷ gs))) }
     ensures failed { W.has_failed output.new ≡ is_device result }
 {
@@ -172,7 +173,8 @@ fn tell_finding<W: Sink>(
 }
 
 /// Writes the lines of the findings, of which those of neighbouring blocks are one. `Device` where the
-/// writer failed, `NoMemory` where memory was refused; then a front part of the lines is written.
+/// writer failed, `NoMemory` where memory was refused; then a front part of the lines is written, and
+/// where the writer failed not all of them.
 pub fn write_runs<W: Sink>(
     alloc: Global,
     survey: &Survey<'_>,
@@ -183,7 +185,8 @@ pub fn write_runs<W: Sink>(
         → OnOk result (Appends (W.held output.old) (W.held output.new)
         (findings_text survey.now.image w fs)) }
     ensures err { (w : List (Role × ℕ)) (fs : List FindingValue) → IsSurvey survey.now.image w fs
-        → OnErr result (AppendsPart (W.held output.old) (W.held output.new)
+        → OnErr result (AppendsPart
+        (W.has_failed output.new) (W.held output.old) (W.held output.new)
         (findings_text survey.now.image w fs)) }
     ensures failed { W.has_failed output.new ≡ is_device result }
 {

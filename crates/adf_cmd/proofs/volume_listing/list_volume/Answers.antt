@@ -12,5 +12,5 @@ returns-in-Ok-clause-ends g c =
 pub returns-in-Err-clause-ends : goal.returns-in-Err-clause-ends
 returns-in-Err-clause-ends g c =
     let (t, l, stands) = c.requires.stands in
-    front_ends c.in-Err.fault _ (Answer list c.args.volume.now.image) _ _ c.after_writing.ensures
+    front_ends c.in-Err.fault _ (Answer list c.args.volume.now.image) _ _ c.after_writing.ensures c.in-Err.ensures.failed
     (_, listed _ t l stands.fits, c.in-Err.ensures.err date_of t l date_of_is stands)

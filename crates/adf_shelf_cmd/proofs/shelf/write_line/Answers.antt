@@ -1,12 +1,13 @@
-use Rattle.std.proofs.Common.{◌≡◌, [], rules, refl, subst, sym}
-use Rattle.adf_cmd.proofs.PendingText.{appends_nil}
+use Rattle.std.proofs.Common.{◌≡◌, rules, subst, sym}
 use Rattle.adf_shelf_cmd.specs.Lines.{IsReport, report_status, report_text, shelf_line}
 use Rattle.adf_shelf_cmd.proofs.shelf.write_line.Goals as goal
 
-pub returns-then-is_err-clause-err : goal.returns-then-is_err-clause-err
-returns-then-is_err-clause-err g c =
+pub returns-clause-err : goal.returns-clause-err
+returns-clause-err g c =
     let report = c.check_file-report.result in
-    (report_status report, report_text report, c.check_file-report.ensures, ([], shelf_line c.args.name.now (report_text report), refl, appends_nil _))
+    let text : c.deref.result.now ≡ shelf_line c.args.name.now (report_text report) = search rules in
+    let front = rw (text, c.in-Err.ensures.failed) at c.in-Err.ensures.err in
+    rw c.in-Err.ensures.failed (report_status report, report_text report, c.check_file-report.ensures, front)
 
 pub returns-in-Ok-clause-ok : goal.returns-in-Ok-clause-ok
 returns-in-Ok-clause-ok g c =

@@ -29,5 +29,5 @@ pub returns-in-Err-clause-part : goal.returns-in-Err-clause-part
 returns-in-Err-clause-part g c =
     let may : Reports = IsReportOf (g.F.Files.bytes_of c.args.files.now) (g.F.Files.may_fail c.args.files.now) in
     let given : AreGiven (g.N.Names.left c.loop-name.names) (g.N.Names.left c.next.new.self) (c.next.new.name.items ∷ []) = search rules in
-    broken may _ _ _ c.loop-name.status _ _ _ c.next.new.name.items c.loop-name.invariant.progress given
+    broken may _ _ _ c.loop-name.status _ _ _ _ c.next.new.name.items c.loop-name.invariant.progress given
     (rw c.deref.ensures.value at c.in-Err.ensures.err)

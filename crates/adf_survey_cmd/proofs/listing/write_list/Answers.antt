@@ -37,5 +37,5 @@ returns-in-Err-clause-ends g c = λ w fs survey.
     let v = c.args.survey.now in
     let sound = mark_in v in
     let marks = c.marks.ensures w fs survey in
-    front_ends c.in-Err.fault _ (TellsFound v.image w fs) _ _ c.after_writing.ensures
+    front_ends c.in-Err.fault _ (TellsFound v.image w fs) _ _ c.after_writing.ensures c.in-Err.ensures.failed
     (_, (date_of, date_of_is, sound, marks, refl), c.in-Err.ensures.err w fs survey date_of sound date_of_is marks)

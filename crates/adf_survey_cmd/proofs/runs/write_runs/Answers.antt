@@ -51,7 +51,7 @@ returns-in_err-run-clause-err g c = λ w fs survey.
 
 pub returns-in_err-push_run-clause-err : goal.returns-in_err-push_run-clause-err
 returns-in_err-push_run-clause-err g c = λ w fs survey.
-    on_err c.from_residual-in_err-push_run.result (pending_stops _ _ _ _ (c.loop-i.invariant.so_far w fs survey))
+    on_err c.from_residual-in_err-push_run.result (pending_stops _ _ _ _ c.loop-i.invariant.works (c.loop-i.invariant.so_far w fs survey))
 
 pub returns-in_err-write_all-clause-err : goal.returns-in_err-write_all-clause-err
 returns-in_err-write_all-clause-err g c = λ w fs survey.
