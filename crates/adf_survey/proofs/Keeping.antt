@@ -29,20 +29,19 @@ use Rattle.adf_survey.proofs.Starts.{course_size}
 -- of an image of which nothing is taken the findings are kept alone
 pub unread_kept : (image : List ℕ) (items : List Finding) → UnreadTells image (map finding_value items)
     → IsOfSurvey (record { image = image; findings = items; concerned = []; nodes = []; parents = []; sound = [] })
-unread_kept image items told =
-    (
-      [],
-      map finding_value items,
-      record {
-        survey = unread told;
-        findings = refl;
-        concerned = (λ k. sym (no_concern_nth [] (map finding_value items) k (unread_none image told)));
-        node = (λ n. refl);
-        parent = (λ n. refl);
-        count = omega arith;
-        sound = (λ n lo. ((λ t. cc), (λ s. absurd s.header.has)));
-      },
-    )
+unread_kept image items told = (
+  [],
+  map finding_value items,
+  record {
+    survey = unread told;
+    findings = refl;
+    concerned = (λ k. sym (no_concern_nth [] (map finding_value items) k (unread_none image told)));
+    node = (λ n. refl);
+    parent = (λ n. refl);
+    count = omega arith;
+    sound = (λ n lo. ((λ t. cc), (λ s. absurd s.header.has)));
+  },
+)
 
 -- of an image whose course is done, with its bits compared
 pub read_kept : (image : List ℕ) (f : Found) (concerned : List (Option Concern)) (sound : List Bool) → IsCompleted image f

@@ -8,16 +8,16 @@ use crate::found::{DataBlock, Found};
 use crate::image::Image;
 use crate::part::Part;
 use adf_fields::NoMemory;
-use adf_tree::{Kind, Node};
+use adf_tree::Kind;
 use std::alloc::Global;
 
 // Removes the mark of a node.
-fn strike(marks: &mut Vec<bool>, node: Node)
+fn strike(marks: &mut Vec<bool>, node: u32)
     ensures { (m : ℕ)
         → has_mark marks.new.items m ≡ (has_mark marks.old.items m && not (node == m)) }
 {
-    if node.0 < marks.len() {
-        marks[node.0] = false;
+    if (node as usize) < marks.len() {
+        marks[node as usize] = false;
     }
 }
 
@@ -47,27 +47,23 @@ fn blamed(found: &Found, part: Option<Part>) -> Option<Concern>
             place,
         } => {
             if is_header(found, node, parent, slot, place) {
-                Some(Concern::Entry(Node(node as usize)))
+                Some(Concern::Entry(node))
             } else {
-                Some(Concern::Within(Node(parent as usize)))
+                Some(Concern::Within(parent))
             }
         }
-        Part::Ext(node, _) | Part::Data(node, _) => Some(Concern::Entry(Node(node as usize))),
+        Part::Ext(node, _) | Part::Data(node, _) => Some(Concern::Entry(node)),
         _ => None,
     }
 }
 
 // The file of a data block, if the block was also passed over.
-fn sharing(found: &Found, data_block: DataBlock) -> Option<Node>
+fn sharing(found: &Found, data_block: DataBlock) -> Option<u32>
     ensures { result ≡ sharing found.now.avoided.items data_block }
 {
     let DataBlock { node, block } = data_block;
     let is_avoided = found.avoided.get(block as usize).copied().unwrap_or(false);
-    if is_avoided {
-        Some(Node(node as usize))
-    } else {
-        None
-    }
+    if is_avoided { Some(node) } else { None }
 }
 
 /// What the findings concern, in the order of the findings.

@@ -6,7 +6,8 @@ use Rattle.std.proofs.Common.{◌≡◌, ◌∙◌, ◌<◌, ◌≤◌, ◌+◌,
 use Rattle.std.proofs.lemmas.List.{drop_all, drop_more}
 use Rattle.std.proofs.lemmas.Option.{slice_get-get_or, slice_get-map}
 use Rattle.adf_volume.specs.Walk.{Role}
-use Rattle.adf_survey.specs.Concerned.{entry_of, entry_of_nth}
+use Rattle.adf_survey.specs.Concerned.{concern_of, concern_of_nth}
+use Rattle.adf_survey.specs.declared.concern.Concern.{Concern}
 use Rattle.adf_survey.specs.declared.part.Finding.{Finding}
 use Rattle.adf_survey.specs.Parts.{finding_value}
 use Rattle.adf_survey.specs.Survey.{FindingValue}
@@ -27,16 +28,16 @@ module _ (image : List ℕ) (w : List (Role × ℕ)) (fs : List FindingValue) (a
       ap (findings_text image w) (sym are) ∙ ap (λ (x : Run). lines_from image w x (map finding_value others)) (sym r)
       ∙ ap (λ t. t ++ lines_from image w run (map finding_value others)) (sym empty)
 
-  pub entry_first : (o : Option ℕ) → o ≡ entry_of_nth w fs 0 → o ≡ entry_of w (finding_value first)
-  entry_first o h = h ∙ ap (λ gs. entry_of_nth w gs 0) (sym are)
+  pub concern_first : (o : Option Concern) → o ≡ concern_of_nth w fs 0 → o ≡ concern_of w (finding_value first)
+  concern_first o h = h ∙ ap (λ gs. concern_of_nth w gs 0) (sym are)
 
-  pub entry_later : (i : ℕ) (d : Finding) (o : Option ℕ) → i < length others → o ≡ entry_of_nth w fs (i + 1)
-      → o ≡ entry_of w (finding_value (get_or others i d))
-  entry_later i d o within h =
-      let behind : entry_of_nth w fs (i + 1) ≡ entry_of_nth w (finding_value first ∷ map finding_value others) (suc i) =
-      ap (entry_of_nth w fs) (add-one i) ∙ ap (λ gs. entry_of_nth w gs (suc i)) (sym are) in
+  pub concern_later : (i : ℕ) (d : Finding) (o : Option Concern) → i < length others → o ≡ concern_of_nth w fs (i + 1)
+      → o ≡ concern_of w (finding_value (get_or others i d))
+  concern_later i d o within h =
+      let behind : concern_of_nth w fs (i + 1) ≡ concern_of_nth w (finding_value first ∷ map finding_value others) (suc i) =
+      ap (concern_of_nth w fs) (add-one i) ∙ ap (λ gs. concern_of_nth w gs (suc i)) (sym are) in
       let at = slice_get-get_or others i d within in
-      h ∙ behind ∙ ap (option_and_then (entry_of w)) (slice_get-map finding_value others i ∙ ap (option_map finding_value) at)
+      h ∙ behind ∙ ap (option_and_then (concern_of w)) (slice_get-map finding_value others i ∙ ap (option_map finding_value) at)
 
 module _ (image : List ℕ) (w : List (Role × ℕ)) (others : List Finding) (a b : Option (List ℕ)) (text whole : List ℕ) (r : Run) where
   -- one finding more

@@ -5,7 +5,9 @@ use Rattle.std.specs.Fmt.{decimal}
 use Rattle.std.specs.List.{flat_map}
 use Rattle.adf_blocks.specs.Causes.{cause_number, cause_text}
 use Rattle.adf_volume.specs.Walk.{Role}
-use Rattle.adf_survey.specs.Concerned.{entry_of}
+use Rattle.adf_survey.specs.declared.concern.Concern.{Concern}
+use Rattle.adf_survey.specs.declared.concern.Concern.TheVariants.{Entry, Within}
+use Rattle.adf_survey.specs.Concerned.{concern_of}
 use Rattle.adf_survey.specs.Lookup.{path_to}
 use Rattle.adf_survey.specs.Survey.{FindingValue}
 use Rattle.adf_texts.specs.Names.{names_text}
@@ -13,21 +15,22 @@ use Rattle.adf_survey_cmd.specs.declared.runs.Run.{Run}
 
 -- a finding by itself
 abbrev pub run_of : List (Role × ℕ) → FindingValue → Run
-run_of w f = record { first = f.block; last = f.block; cause = f.cause; entry = entry_of w f }
+run_of w f = record { first = f.block; last = f.block; cause = f.cause; concern = concern_of w f }
 
--- the entries are one, or there is none
-abbrev pub are_one : Option ℕ → Option ℕ → Bool
+-- the findings concern the same, or nothing
+abbrev pub are_one : Option Concern → Option Concern → Bool
 are_one None None = true
-are_one (Some n) (Some m) = n == m
+are_one (Some (Entry n)) (Some (Entry m)) = n == m
+are_one (Some (Within n)) (Some (Within m)) = n == m
 are_one _ _ = false
 
 -- the block is the one behind the run, or the run's only one
 abbrev pub is_beside : Run → ℕ → Bool
 is_beside r b = (r.last + 1 == b) || ((r.first == b) && (r.last == b))
 
--- the run goes on with another, of one finding: the cause and the entry are the same, and the block is beside
+-- the run goes on with another, of one finding: the cause and what is concerned are the same, and the block is beside
 abbrev pub continues : Run → Run → Bool
-continues r s = (cause_number r.cause == cause_number s.cause) && (are_one r.entry s.entry && is_beside r s.first)
+continues r s = (cause_number r.cause == cause_number s.cause) && (are_one r.concern s.concern && is_beside r s.first)
 
 -- the runs of findings behind a run
 unfoldable pub runs_from : List (Role × ℕ) → Run → List FindingValue → List Run
@@ -45,14 +48,15 @@ abbrev pub blocks_text : ℕ → ℕ → List ℕ
 blocks_text first last =
     if first == last then codes "block " ++ decimal first else codes "blocks " ++ (decimal first ++ (codes " to " ++ decimal last))
 
--- the path of the entry that a run concerns, where it concerns one
-abbrev pub entry_text : List ℕ → List (Role × ℕ) → Option ℕ → List ℕ
-entry_text image w None = []
-entry_text image w (Some n) = codes ": " ++ names_text (path_to image w n)
+-- what a run concerns: the path of an entry, or of the directory in which a header was passed over, and `/` behind it
+abbrev pub concern_text : List ℕ → List (Role × ℕ) → Option Concern → List ℕ
+concern_text image w None = []
+concern_text image w (Some (Entry n)) = codes ": " ++ names_text (path_to image w n)
+concern_text image w (Some (Within n)) = codes ": in " ++ (names_text (path_to image w n) ++ codes "/")
 
 -- the line of a run
 abbrev pub findings_line : List ℕ → List (Role × ℕ) → Run → List ℕ
-findings_line image w r = blocks_text r.first r.last ++ (codes ": " ++ (cause_text r.cause ++ (entry_text image w r.entry ++ codes "\n")))
+findings_line image w r = blocks_text r.first r.last ++ (codes ": " ++ (cause_text r.cause ++ (concern_text image w r.concern ++ codes "\n")))
 
 -- the lines of findings behind a run
 abbrev pub lines_from : List ℕ → List (Role × ℕ) → Run → List FindingValue → List ℕ

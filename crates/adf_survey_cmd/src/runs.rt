@@ -3,50 +3,53 @@
 ghost use Rattle.std.specs.Prelude.{◌≡◌, ◌++◌, ◌∷◌, ℕ, List, IfOk, OnErr, OnOk, codes, false};
 ghost use Rattle.std.specs.Io.KnownBytes.{Appends};
 ghost use Rattle.adf_volume.specs.Walk.{Role};
-ghost use Rattle.adf_survey.specs.Concerned.{entry_of};
+ghost use Rattle.adf_survey.specs.Concerned.{concern_of};
+ghost use Rattle.adf_survey.specs.Lookup.{path_to};
 ghost use Rattle.adf_survey.specs.Parts.{finding_value};
 ghost use Rattle.adf_survey.specs.Survey.{FindingValue, IsSurvey};
+ghost use Rattle.adf_texts.specs.Names.{names_text};
 ghost use Rattle.adf_cmd.specs.Streams.{AppendsPart, KeepsPending, is_device};
-ghost use Rattle.adf_survey_cmd.specs.Lines.{are_one, blocks_text, continues, entry_text, findings_text, is_beside, lines_from, findings_line, run_of};
+ghost use Rattle.adf_survey_cmd.specs.Lines.{are_one, blocks_text, concern_text, continues, findings_text, is_beside, lines_from, findings_line, run_of};
 
 use adf_blocks::Cause;
 use adf_cmd::{Sink, StreamFault, flush_long, write_all};
-use adf_survey::{Finding, Survey};
+use adf_survey::{Concern, Finding, Survey};
 use adf_texts::{push_names, push_number};
 use adf_tree::Node;
 use std::alloc::{AllocError, Global};
 
-/// Findings of neighbouring blocks, with one cause, of one entry or of none.
+/// Findings of neighbouring blocks, with one cause, that concern the same or nothing.
 #[derive(Clone, Copy, Debug, PartialEq, Eq)]
 pub struct Run {
     pub first: u32,
     pub last: u32,
     pub cause: Cause,
-    pub entry: Option<Node>,
+    pub concern: Option<Concern>,
 }
 
-// Whether the entries are one, or there is none.
-fn are_one(a: Option<Node>, b: Option<Node>) -> bool
+// Whether the findings concern the same, or nothing.
+fn are_one(a: Option<Concern>, b: Option<Concern>) -> bool
     ensures { result ≡ are_one a b }
 {
     match (a, b) {
         (None, None) => true,
-        (Some(n), Some(m)) => n.0 == m.0,
+        (Some(Concern::Entry(n)), Some(Concern::Entry(m))) => n == m,
+        (Some(Concern::Within(n)), Some(Concern::Within(m))) => n == m,
         _ => false,
     }
 }
 
 impl Run {
-    // A finding of an entry, or of none, by itself.
-    fn of(finding: &Finding, entry: Option<Node>) -> Run
-        ensures { (w : List (Role × ℕ)) → entry ≡ entry_of w (finding_value finding.now)
+    // A finding by itself, with what it concerns.
+    fn of(finding: &Finding, concern: Option<Concern>) -> Run
+        ensures { (w : List (Role × ℕ)) → concern ≡ concern_of w (finding_value finding.now)
             → result ≡ run_of w (finding_value finding.now) }
     {
         Run {
             first: finding.block,
             last: finding.block,
             cause: finding.cause,
-            entry,
+            concern,
         }
     }
 
@@ -63,7 +66,7 @@ impl Run {
         ensures { result ≡ continues self.now next.now }
     {
         let is_same = self.cause.number() == next.cause.number();
-        is_same && are_one(self.entry, next.entry) && self.is_beside(next.first)
+        is_same && are_one(self.concern, next.concern) && self.is_beside(next.first)
     }
 }
 
@@ -83,25 +86,46 @@ fn push_blocks(text: &mut Vec<u8>, first: u32, last: u32) -> Result<(), AllocErr
     text.extend_from_slice(b" ")
 }
 
-// Appends the path of an entry, where there is one.
-fn push_entry(
+// Appends the path of an entry, 0 for the root.
+fn push_path(
     alloc: Global,
     survey: &Survey<'_>,
-    entry: Option<Node>,
+    n: Node,
     text: &mut Vec<u8>,
 ) -> Result<(), AllocError>
     ensures { (w : List (Role × ℕ)) (fs : List FindingValue) → IsSurvey survey.now.image w fs
         → OnOk result
-        (text.new.items ≡ text.old.items ++ entry_text survey.now.image w entry) }
+        (text.new.items ≡ text.old.items ++ names_text (path_to survey.now.image w n)) }
 {
-    let Some(n) = entry else {
-        return Ok(());
-    };
     let Ok(path) = survey.path(alloc, n) else {
         return Err(AllocError);
     };
-    text.extend_from_slice(b": ")?;
     push_names(text, &path)
+}
+
+// Appends what is concerned, where there is something.
+fn push_concern(
+    alloc: Global,
+    survey: &Survey<'_>,
+    concern: Option<Concern>,
+    text: &mut Vec<u8>,
+) -> Result<(), AllocError>
+    ensures { (w : List (Role × ℕ)) (fs : List FindingValue) → IsSurvey survey.now.image w fs
+        → OnOk result
+        (text.new.items ≡ text.old.items ++ concern_text survey.now.image w concern) }
+{
+    match concern {
+        Some(Concern::Entry(n)) => {
+            text.extend_from_slice(b": ")?;
+            push_path(alloc, survey, Node(n as usize), text)
+        }
+        Some(Concern::Within(n)) => {
+            text.extend_from_slice(b": in ")?;
+            push_path(alloc, survey, Node(n as usize), text)?;
+            text.extend_from_slice(b"/")
+        }
+        None => Ok(()),
+    }
 }
 
 // Appends the line of a run.
@@ -117,7 +141,7 @@ fn push_run(
 {
     push_blocks(text, run.first, run.last)?;
     text.extend_from_slice(run.cause.text().as_bytes())?;
-    push_entry(alloc, survey, run.entry, text)?;
+    push_concern(alloc, survey, run.concern, text)?;
     text.extend_from_slice(b"\n")
 }
 
@@ -194,9 +218,9 @@ pub fn write_runs<W: Sink>(
         return Ok(());
     };
     let mut text = Vec::new(alloc);
-    let mut run = Run::of(first, survey.entry_of(0));
+    let mut run = Run::of(first, survey.concern_of(0));
     for (i, finding) in others.iter().enumerate() {
-        let next = Run::of(finding, survey.entry_of(i + 1));
+        let next = Run::of(finding, survey.concern_of(i + 1));
         run = tell_finding(alloc, survey, run, next, &mut text, output)?;
     }
     push_run(alloc, survey, &run, &mut text)?;

@@ -9,7 +9,7 @@ use Rattle.std.proofs.lemmas.List.Elements.{All-head, All-tail}
 use Rattle.adf_tree.specs.Escapes.{escape_of, escaped}
 use Rattle.adf_tree.specs.PathTexts.{IsName, path_text, with_name}
 use Rattle.adf_tree.specs.Texts.{is_name_byte}
-use Rattle.adf_texts.specs.Names.{digits_of, names_text, spelled}
+use Rattle.adf_texts.specs.Names.{digits_of, name_bytes, names_text, spelled}
 
 -- a name behind a text
 pub name_put : (text name : List ℕ) (is_first : Bool) → with_name text name is_first ≡ text ++ ((if is_first then [] else 47 ∷ []) ++ escaped name)
@@ -48,11 +48,17 @@ names_step path i d lt =
     ∙ ap (λ n. behind (names_text (named (take i path))) (spelled (get_or path i d).now) (n == 0)) long
 
 -- a valid name is spelled by its escapes
-spelled_name : (name : List ℕ) → list_all is_name_byte name ≡ true → spelled name ≡ escaped name
-spelled_name [] h = refl
-spelled_name (c ∷ cs) h =
+bytes_escaped : (name : List ℕ) → list_all is_name_byte name ≡ true → name_bytes name ≡ escaped name
+bytes_escaped [] h = refl
+bytes_escaped (c ∷ cs) h =
     let both = and_parts (is_name_byte c) (list_all is_name_byte cs) h in
-    ap (λ b. (if b then escape_of c else digits_of c) ++ spelled cs) both.0 ∙ ap (λ text. escape_of c ++ text) (spelled_name cs both.1)
+    ap (λ b. (if b then escape_of c else digits_of c) ++ name_bytes cs) both.0 ∙ ap (λ text. escape_of c ++ text) (bytes_escaped cs both.1)
+
+spelled_name : (name : List ℕ) → IsName name → spelled name ≡ escaped name
+spelled_name [] is = let clash : false ≡ true = is.allowed in cc
+spelled_name (c ∷ cs) is =
+    bytes_escaped (c ∷ cs)
+    (and_parts (nat_le 1 (length (c ∷ cs)) && nat_le (length (c ∷ cs)) 30) (list_all is_name_byte (c ∷ cs)) is.allowed).1
 
 -- so a path of valid names has one text
 pub one_text : (path : List (List ℕ)) → All IsName path → names_text path ≡ path_text path
@@ -61,6 +67,4 @@ one_text path names = ap (join_with_byte 47) (parts path names)
     parts : (path : List (List ℕ)) → All IsName path → map spelled path ≡ map escaped path
     parts [] names = refl
     parts (name ∷ rest) names =
-        let allowed = (All-head IsName name rest names).allowed in
-        let bytes = (and_parts (nat_le 1 (length name) && nat_le (length name) 30) (list_all is_name_byte name) allowed).1 in
-        ap (λ text. text ∷ map spelled rest) (spelled_name name bytes) ∙ ap (λ ps. escaped name ∷ ps) (parts rest (All-tail IsName name rest names))
+        ap (λ text. text ∷ map spelled rest) (spelled_name name (All-head IsName name rest names)) ∙ ap (λ ps. escaped name ∷ ps) (parts rest (All-tail IsName name rest names))

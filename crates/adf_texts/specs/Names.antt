@@ -13,9 +13,14 @@ digits_of c = 92 ∷ 120 ∷ hex_digit (c / 16) ∷ hex_digit (c % 16) ∷ []
 abbrev pub name_byte : ℕ → List ℕ
 name_byte c = if is_name_byte c then escape_of c else digits_of c
 
--- the spelling of a name
+-- the spelling of bytes of a name
+abbrev pub name_bytes : List ℕ → List ℕ
+name_bytes bytes = flat_map name_byte bytes
+
+-- the spelling of a name: of its bytes, or `\x` where it has none
 abbrev pub spelled : List ℕ → List ℕ
-spelled name = flat_map name_byte name
+spelled [] = 92 ∷ 120 ∷ []
+spelled (c ∷ cs) = name_bytes (c ∷ cs)
 
 -- the text of a path of such names, joined by `/`
 abbrev pub names_text : List (List ℕ) → List ℕ

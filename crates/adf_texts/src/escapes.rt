@@ -4,7 +4,7 @@ ghost use Rattle.std.specs.Prelude.{◌≡◌, ◌++◌, [], ◌∷◌, OnOk, if
 ghost use Rattle.std.specs.List.{list_all};
 ghost use Rattle.adf_tree.specs.Escapes.{escape_of, escaped, is_plain};
 ghost use Rattle.adf_tree.specs.PathTexts.{path_text};
-ghost use Rattle.adf_texts.specs.Names.{ValidNamesAreAlike, digits_of, name_byte, names_text, spelled};
+ghost use Rattle.adf_texts.specs.Names.{ValidNamesAreAlike, digits_of, name_byte, name_bytes, names_text, spelled};
 
 use adf_tree::{Name, hex_digit, is_plain};
 use std::alloc::AllocError;
@@ -78,14 +78,24 @@ pub fn push_path(text: &mut Vec<u8>, path: &[Name]) -> Result<(), AllocError>
     Ok(())
 }
 
+// Appends the spelling of bytes of such a name.
+fn push_name_bytes(text: &mut Vec<u8>, bytes: &[u8]) -> Result<(), AllocError>
+    ensures { OnOk result (text.new.items ≡ text.old.items ++ name_bytes bytes.now) }
+{
+    for c in bytes {
+        push_name_byte(text, *c)?;
+    }
+    Ok(())
+}
+
 // Appends the spelling of a name that need not be valid.
 fn push_spelled(text: &mut Vec<u8>, name: &[u8]) -> Result<(), AllocError>
     ensures { OnOk result (text.new.items ≡ text.old.items ++ spelled name.now) }
 {
-    for c in name {
-        push_name_byte(text, *c)?;
+    if name.is_empty() {
+        return text.extend_from_slice(b"\\x");
     }
-    Ok(())
+    push_name_bytes(text, name)
 }
 
 // Appends such a name, after a `/` unless it is the first.
