@@ -100,11 +100,14 @@ module _ (image : List ℕ) where
   compared w over fs e wh begun vd b lo hi =
       let k : ℕ = (b - 2) / PAGE_BITS in
       let lt : k < pages_needed (blocks image) = omega arith in
-      let m = page_word image w k lt (λ j y. all_map_exts image w wh j (omega arith)) in
-      (vd, asked_block image w wh (Page k) m.0 m.1 m.2 (omega arith), (λ _. (
-        subst (λ l. IsAbsent l b) (sym e) (λ q h. h),
-        no_cache (all_split (boot_demands image) (root_demands image (root_of image)) begun).0 b,
-      )))
+      let m = page_word image w k lt (λ j y. all_map_exts image w wh j (omega arith)) in (
+        vd,
+        asked_block image w wh (Page k) m.0 m.1 m.2 (omega arith),
+        (λ _. (
+          subst (λ l. IsAbsent l b) (sym e) (λ q h. h),
+          no_cache (all_split (boot_demands image) (root_demands image (root_of image)) begun).0 b,
+        )),
+      )
 
   -- where all bits are compared, without a finding they agree, and the first one is the first that disagrees
   abbrev Told : List (Role × ℕ) → ℕ → ℕ → List FindingValue → Type 0

@@ -1,7 +1,7 @@
 -- The result for an image is that of its survey.
-use Rattle.std.specs.Prelude.{Bool, None, Option, map, slice_get}
+use Rattle.std.specs.Prelude.{Bool, Option, map, slice_get}
 use Rattle.std.specs.Option.{option_flatten}
-use Rattle.std.proofs.Common.{◌≡◌, ℕ, List, [], ◌∷◌, ◌++◌, ◌≤◌, refl, sym, ap, subst, ◌∙◌, arith, ◌*◌, ◌<◌, length}
+use Rattle.std.proofs.Common.{◌≡◌, ℕ, List, [], ◌++◌, ◌≤◌, refl, sym, ap, subst, ◌∙◌, arith, ◌*◌, ◌<◌, length}
 use Rattle.adf_blocks.specs.Sizes.{blocks}
 use Rattle.adf_volume.proofs.Gathered.{head_block, numbered as has_number}
 use Rattle.adf_volume.specs.Walk.{Role, second, Has, heads, node_block}
@@ -12,8 +12,7 @@ use Rattle.adf_survey.specs.declared.part.Finding.{Finding}
 use Rattle.adf_survey.specs.declared.found.Found.{Found}
 use Rattle.adf_survey.specs.Found.{IsCompleted}
 use Rattle.adf_survey.specs.Marks.{blamed, has_mark, is_clear}
-use Rattle.adf_survey.specs.declared.part.Part.{Part}
-use Rattle.adf_survey.specs.Parts.{part_role, finding_value}
+use Rattle.adf_survey.specs.Parts.{finding_value}
 use Rattle.adf_survey.specs.Survey.{FindingValue, IsSurvey, UnreadTells}
 use Rattle.adf_survey.specs.Survey.IsSurvey.{read, unread}
 use Rattle.adf_survey.specs.Sound.{IsSound}
@@ -28,20 +27,19 @@ use Rattle.adf_survey.proofs.Starts.{course_size}
 -- of an image of which nothing is taken the findings are kept alone
 pub unread_kept : (image : List ℕ) (items : List Finding) → UnreadTells image (map finding_value items)
     → IsOfSurvey (record { image = image; findings = items; concerned = []; nodes = []; parents = []; sound = [] })
-unread_kept image items told =
-    (
-      [],
-      map finding_value items,
-      record {
-        survey = unread told;
-        findings = refl;
-        concerned = (λ k. sym (no_entry_nth [] (map finding_value items) k (unread_none image told)));
-        node = (λ n. refl);
-        parent = (λ n. refl);
-        count = omega arith;
-        sound = (λ n lo. ((λ t. cc), (λ s. absurd s.header.has)));
-      },
-    )
+unread_kept image items told = (
+  [],
+  map finding_value items,
+  record {
+    survey = unread told;
+    findings = refl;
+    concerned = (λ k. sym (no_entry_nth [] (map finding_value items) k (unread_none image told)));
+    node = (λ n. refl);
+    parent = (λ n. refl);
+    count = omega arith;
+    sound = (λ n lo. ((λ t. cc), (λ s. absurd s.header.has)));
+  },
+)
 
 -- of an image whose course is done, with its bits compared
 pub read_kept : (image : List ℕ) (f : Found) (concerned : List (Option ℕ)) (sound : List Bool) → IsCompleted image f

@@ -57,9 +57,13 @@ module _ (image : List ℕ) (w : List (Role × ℕ)) (v : IsWalk image w) (tree 
       let holds : is_child p name x ≡ true =
       sym (ap (is_child p name) (at_index_or entries i x d (entry_has image w v k.1)))
       ∙ subst (λ i. is_child p name (get_or entries i d) ≡ true) z f.2 in
-      let says = child_says p name x holds in
-      (k.1.slot, k.1.place, k.0, subst (λ p. Has w (Head (suc i) p k.1.slot k.1.place) k.0) says.0 k.1.has,
-      subst (λ l. uppers_by l (name_of image k.0) ≡ uppers_by l name) (sym plain) says.1)
+      let says = child_says p name x holds in (
+        k.1.slot,
+        k.1.place,
+        k.0,
+        subst (λ p. Has w (Head (suc i) p k.1.slot k.1.place) k.0) says.0 k.1.has,
+        subst (λ l. uppers_by l (name_of image k.0) ≡ uppers_by l name) (sym plain) says.1,
+      )
 
   child_first : (p n : ℕ) (name : List ℕ) → child entries p name ≡ Some n → IsFirstChild image w p name n
   child_first p n name e = (

@@ -9,9 +9,7 @@ ghost use Rattle.adf_survey.specs.Found.{BitTells, IsBitOf, IsCompleted, IsFinis
 use crate::found::Found;
 use crate::image::Image;
 use crate::part::{Finding, Part};
-use adf_blocks::{
-    BITMAP_FLAG, Cause, OWN_KEY, PAGE_FIRST, T_DIR_CACHE, TYPE, VALID, place_of,
-};
+use adf_blocks::{BITMAP_FLAG, Cause, OWN_KEY, PAGE_FIRST, T_DIR_CACHE, TYPE, VALID, place_of};
 use adf_fields::NoMemory;
 
 // Whether the bitmap flag of the root is that of a valid bitmap.
@@ -86,7 +84,11 @@ fn cause_of_bit(image: &Image<'_>, found: &Found, b: u32) -> Option<Cause>
     let (page, bit) = place_of(b);
     match bit_of(image, found, page, bit) {
         Some(is_free) => {
-            cause_told(found.owned[b as usize], is_excused(image, found, b), is_free)
+            cause_told(
+                found.owned[b as usize],
+                is_excused(image, found, b),
+                is_free,
+            )
         }
         None => None,
     }

@@ -19,8 +19,8 @@ use crate::image::Image;
 use crate::part::Part;
 use adf_blocks::{
     Cause, DATA_HEAD, DATA_HELD, DATA_NEXT, DATA_NUMBER, NAME, OWN_KEY, PARENT, SECONDARY_TYPE,
-    SIZE, SLOTS, ST_DIR, ST_FILE, ST_LINK_DIR, ST_LINK_FILE, ST_SOFT_LINK, T_DATA, T_LIST, T_SHORT, TYPE,
-    chunk_len, read_data, read_ext, read_head, read_page,
+    SIZE, SLOTS, ST_DIR, ST_FILE, ST_LINK_DIR, ST_LINK_FILE, ST_SOFT_LINK, T_DATA, T_LIST, T_SHORT,
+    TYPE, chunk_len, read_data, read_ext, read_head, read_page,
 };
 use adf_fields::{Block, Letters, slot as slot_of_name, slot_by};
 use adf_tree::Kind;
