@@ -1,7 +1,7 @@
 -- The result for an image is that of its survey.
-use Rattle.std.specs.Prelude.{Bool, None, Option, map, slice_get}
+use Rattle.std.specs.Prelude.{Bool, Option, map, slice_get}
 use Rattle.std.specs.Option.{option_flatten}
-use Rattle.std.proofs.Common.{◌≡◌, ℕ, List, [], ◌∷◌, ◌++◌, ◌≤◌, refl, sym, ap, subst, ◌∙◌, arith, ◌*◌, ◌<◌, length}
+use Rattle.std.proofs.Common.{◌≡◌, ℕ, List, [], ◌++◌, ◌≤◌, refl, sym, ap, subst, ◌∙◌, arith, ◌*◌, ◌<◌, length}
 use Rattle.adf_blocks.specs.Sizes.{blocks}
 use Rattle.adf_volume.proofs.Gathered.{head_block, numbered as has_number}
 use Rattle.adf_volume.specs.Walk.{Role, second, Has, heads, node_block}
@@ -13,8 +13,7 @@ use Rattle.adf_survey.specs.declared.found.Found.{Found}
 use Rattle.adf_survey.specs.Found.{IsCompleted}
 use Rattle.adf_survey.specs.Marks.{blamed, has_mark, is_clear}
 use Rattle.adf_survey.specs.declared.concern.Concern.{Concern}
-use Rattle.adf_survey.specs.declared.part.Part.{Part}
-use Rattle.adf_survey.specs.Parts.{part_role, finding_value}
+use Rattle.adf_survey.specs.Parts.{finding_value}
 use Rattle.adf_survey.specs.Survey.{FindingValue, IsSurvey, UnreadTells}
 use Rattle.adf_survey.specs.Survey.IsSurvey.{read, unread}
 use Rattle.adf_survey.specs.Sound.{IsSound}

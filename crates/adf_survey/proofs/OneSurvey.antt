@@ -1,12 +1,11 @@
 -- An image has at most one survey.
 use Rattle.std.specs.Prelude.{None}
-use Rattle.std.proofs.Common.{◌≡◌, ℕ, suc, List, [], ◌∷◌, ◌++◌, ◌+◌, ◌-◌, ◌<◌, length, refl, sym, subst, ◌∙◌, arith}
+use Rattle.std.proofs.Common.{◌≡◌, ℕ, suc, List, ◌∷◌, ◌++◌, ◌+◌, ◌-◌, ◌<◌, length, refl, sym, subst, ◌∙◌, arith}
 use native.Mathlib.Decide.{dec_lt}
 use Rattle.adf_blocks.specs.Sizes.{blocks}
 use Rattle.adf_volume.specs.Image.{word_in}
 use Rattle.adf_volume.specs.Demands.{Demand}
 use Rattle.adf_volume.specs.Walk.{Role, Same, Asks, bitmap_demands}
-use Rattle.adf_volume.specs.Walk.Role.{Root}
 use Rattle.adf_volume.proofs.Lists.{fails_not_all}
 use Rattle.adf_volume.proofs.OneFault.{fails_one, neither_before, number_is}
 use Rattle.adf_volume.proofs.Roles.{same_role}

@@ -1,5 +1,5 @@
 -- The demands on parts by the letters of the volume. On types 0 and 1 these are the demands of the model.
--- Letters: w a walk; r a role; b the block of a part, a the block that points to it; up a directory's block, s a slot.
+-- Letters: w a walk; r a role; b the block of a part, a the block that points to it.
 use Rattle.std.specs.Prelude.{ℕ, List}
 use Rattle.adf_tree.specs.declared.entry.Kind.{Kind}
 use Rattle.adf_tree.specs.Texts.{uppers_by}

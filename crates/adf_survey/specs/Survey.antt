@@ -82,7 +82,7 @@ pub record IsNext (image : List ℕ) (s : Course) (r : Role) (a i : ℕ) : Type 
   pub unpassed : Lacks s.passed_over r
   pub least : (q : Role) (d k : ℕ) → Asks image s.walk q d k → Lacks s.walk q → Lacks s.passed_over q → Before q r → ⊥
 
--- a boot block with this cause is of another type, 2 to 5, of which surveys read the rest
+-- a boot block with this cause is of another type, 2 to 5, which surveys read
 abbrev pub is_other_type : Cause → Bool
 is_other_type International = true
 is_other_type DirCache = true

@@ -1,6 +1,6 @@
 // The survey of an image.
 
-ghost use Rattle.std.specs.Prelude.{◌≡◌, ◌++◌, ℕ, List, [], IfOk, OnOk, map};
+ghost use Rattle.std.specs.Prelude.{◌≡◌, ◌++◌, ℕ, List, IfOk, OnOk, map};
 ghost use Rattle.adf_volume.specs.Walk.{Role};
 ghost use Rattle.adf_survey.specs.Found.{Stands};
 ghost use Rattle.adf_survey.specs.Parts.{finding_value};
