@@ -242,35 +242,49 @@ class Survey:
                 self.findings.append((None, b, "owned free" if free else "lost block"))
 
     def node_of(self, role):
-        """The node of the entry that a finding concerns: of a header that is found, or of an extension or data block."""
+        """The node of the entry that the role is a part of: of a header that is found, or of an extension or data block."""
         if role is None or role[1] in ("root", "page", "map"):
             return None
         if role[1] in ("ext", "data"):
             return role[2]
         return next((n for n, known in enumerate(self.nodes) if known[0] == role[0]), None)
 
+    def concern(self, role):
+        """What a finding concerns: the path of an entry; of a header that was passed over, its directory."""
+        node = self.node_of(role)
+        if node is not None:
+            return spelled(self.path(node))
+        return f"in {spelled(self.path(role[2]))}/" if role and role[1] == "head" else None
+
+    def holder(self, at, cause):
+        """The path of the entry that holds a taken block."""
+        node = self.node_of(self.owner[at]) if cause == "taken" else None
+        return None if node is None else spelled(self.path(node))
+
     def path(self, n):
         return [] if n == 0 else self.path(self.nodes[n][2]) + [self.text(self.block_of(n), 432)[:79]]
 
     def is_sound(self, n):
-        """Nothing of the entry is noted, and no other word names an FFS data block of it, which does not say whose it is."""
+        """Nothing of the entry is noted, no header in it was passed over, and no other word names an FFS data block of it, which does
+        not say whose it is."""
         parts = {key: b for key, b in self.walk.items() if key == self.nodes[n][0] or key[0] == n + 1 and key[1] < 2}
         noted = {role[0] for role, _, _ in self.findings if role}
-        headed = any(key[0] == n + 1 and key[1] < 2 for key in noted)
+        headed = any(key[0] == n + 1 and (key[1] < 2 or key in self.passed_over) for key in noted)
         return not headed and not noted & set(parts) and all(self.offset or key[1] != 1 or self.names[b] == 1 for key, b in parts.items())
 
     def found(self):
-        """A line for each run of findings with one cause, of one entry or of none, at one block or at neighbouring ones."""
+        """A line for each run of findings with one cause, that concern the same and with one holder, at one block or at neighbouring
+        ones."""
         runs = []
         for role, at, cause in self.findings:
-            node = self.node_of(role)
-            if runs and runs[-1][2:] == [cause, node] and (runs[-1][1] == at - 1 or runs[-1][:2] == [at, at]):
+            told = [cause, self.concern(role), self.holder(at, cause)]
+            if runs and runs[-1][2:] == told and (runs[-1][1] == at - 1 or runs[-1][:2] == [at, at]):
                 runs[-1][1] = at
             else:
-                runs.append([at, at, cause, node])
-        for first, last, cause, node in runs:
+                runs.append([at, at, *told])
+        for first, last, cause, concern, holder in runs:
             where = f"block {first}" if first == last else f"blocks {first} to {last}"
-            yield f"{where}: {cause}" + ("" if node is None else f": {spelled(self.path(node))}")
+            yield f"{where}: {cause}" + ("" if concern is None else f": {concern}") + ("" if holder is None else f": held by {holder}")
 
     def lines(self):
         """The findings, and then the entries."""
@@ -280,7 +294,7 @@ class Survey:
 
 
 def spelled(path):
-    return "/".join("".join(chr(c) if 32 <= c <= 126 and c not in b"\\/:" else f"\\x{c:02x}" for c in name) for name in path)
+    return "/".join("".join(chr(c) if 32 <= c <= 126 and c not in b"\\/:" else f"\\x{c:02x}" for c in name) or "\\x" for name in path)
 
 
 def main():

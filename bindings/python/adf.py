@@ -191,8 +191,9 @@ def survey(image):
     return Survey(image)
 
 
-# Blocks from the first to the last with one cause, as `bad sum`; the path of the entry that is concerned, where there is one.
-Finding = collections.namedtuple("Finding", "first last cause path")
+# Blocks from the first to the last with one cause, as `bad sum`; the path of the entry that is concerned, or of the directory in which a
+# header was passed over, with a `/` behind it (`/` for the root); the path of the entry that holds a taken block. None where there is none.
+Finding = collections.namedtuple("Finding", "first last cause path holder")
 # An entry that is found: whether it is sound; the columns of `adf list`; its comment.
 Found = collections.namedtuple("Found", "is_sound is_file protection size date path comment")
 _FOUND = re.compile(r"(sound  |damaged) (dir |file) ([0-9a-f]{8}) +(\d+|-) ([\d-]+ [\d:.]+|[\d:]+) (.*)")
@@ -239,9 +240,11 @@ class Survey:
 
 def _finding(text):
     """A finding by its line, of which the first word is read."""
-    blocks, cause, *path = text.split(": ", 2)
+    blocks, cause, *told = text.split(": ")
     first, *last = map(int, blocks.split(" to "))
-    return Finding(first, last[0] if last else first, cause, _plain(path[0]) if path else None)
+    path = told[0].removeprefix("in ") if told and told[0].endswith("/") else told[0] if told else None
+    holder = told[1].removeprefix("held by ") if told[1:] else None
+    return Finding(first, last[0] if last else first, cause, *(text and _plain(text) for text in (path, holder)))
 
 
 def _found(mark, word, protection, size, date, path):

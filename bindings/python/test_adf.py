@@ -205,7 +205,7 @@ class Surveys(unittest.TestCase):
         sound = built("volume ofs 16\ndir 0:0:0 00000000 c\nfile 8035:1:50 0000000f c/l\\xf6ng\nnote a\\x09b\nfill 488 41\n")
         damaged = adf.survey(changed(sound, 2, 323, 1))
         self.assertEqual(adf.survey(sound).findings, [])
-        self.assertEqual(damaged.findings, [adf.Finding(2, 2, "bad sum", "c")])
+        self.assertEqual(damaged.findings, [adf.Finding(2, 2, "bad sum", "c", None)])
         directory, file = damaged.entries
         self.assertEqual(directory, adf.Found(False, False, 1, 0, adf.Date(0, 0, 0), "c", ""))
         self.assertEqual(file, adf.Found(True, True, 15, 488, adf.Date(8035, 1, 50), "c/l\xf6ng", "a\tb"))
@@ -221,7 +221,7 @@ class Surveys(unittest.TestCase):
 
     def test_finds_nothing_in_no_volume(self):
         nothing = adf.survey(b"")
-        self.assertEqual((nothing.findings, nothing.entries), ([adf.Finding(0, 0, "bad size", None)], []))
+        self.assertEqual((nothing.findings, nothing.entries), ([adf.Finding(0, 0, "bad size", None, None)], []))
 
 
 class Files(unittest.TestCase):
