@@ -19,16 +19,16 @@ use Rattle.adf_survey.specs.declared.part.Finding.{Finding}
 use Rattle.adf_survey.specs.Survey.{FindingValue, IsCourse, begun}
 use Rattle.adf_survey.specs.Parts.{by_key, key_of, finding_value}
 use Rattle.adf_survey.specs.Courses.{IsAtPage, IsUpTo, Under, page_place}
-use Rattle.adf_survey.specs.Found.{AreNamed, AreSame, IsOwned, Stands, owns, unowned}
-use Rattle.adf_survey.proofs.Taking.{marked_more, unowned_less}
+use Rattle.adf_survey.specs.Found.{AreHeld, AreNamed, AreSame, IsOwned, Stands, owns, unowned}
+use Rattle.adf_survey.proofs.Taking.{held_more, marked_more, unowned_less}
 
 empty_get : {K X : Type 0} (m : BTreeMap K X) (test : K → Bool) → IsEmpty m → lookup test m.entries ≡ None
 empty_get m test e = ap (lookup test) e
 
-none_false : (n b : ℕ) → slice_index_or (replicate n false) b false ≡ false
-none_false zero b = refl
-none_false (suc n) zero = refl
-none_false (suc n) (suc b) = none_false n b
+none_default : {A : Type 0} (n : ℕ) (x : A) (b : ℕ) → slice_index_or (replicate n x) b x ≡ x
+none_default zero x b = refl
+none_default (suc n) x zero = refl
+none_default (suc n) x (suc b) = none_default n x b
 
 all_free : (n : ℕ) → unowned (replicate n false) ≡ n
 all_free zero = refl
@@ -47,27 +47,30 @@ one_node b (suc n) = elim (eqb_tells (suc n) 0) [
 
 -- nothing is found but the root
 pub stands_begun : (image : List ℕ) (f g h : Found) → IsEmpty f.taken → f.owned.items ≡ replicate (blocks image) false
-    → f.avoided.items ≡ replicate (blocks image) false → f.left ≡ blocks image → f.nodes.items ≡ [] → IsEmpty f.exts → f.findings.items ≡ []
-    → f.parents.items ≡ 0 ∷ [] → f.places.items ≡ [] → f.datas.items ≡ []
+    → f.owners.items ≡ replicate (blocks image) 0 → f.avoided.items ≡ replicate (blocks image) false → f.left ≡ blocks image
+    → f.nodes.items ≡ [] → IsEmpty f.exts → f.findings.items ≡ [] → f.parents.items ≡ 0 ∷ [] → f.places.items ≡ [] → f.datas.items ≡ []
     → IsOwned RootPart (root_of image) f g → AreSame f g → h ≡ record g { nodes = h.nodes } → h.nodes.items ≡ g.nodes.items ++ root_of image ∷ []
     → root_of image < blocks image → Stands image h (begun image [])
-stands_begun image f g h taken owned avoided left nodes exts findings parents places datas o e same pushed lt =
+stands_begun image f g h taken owned owners avoided left nodes exts findings parents places datas o e same pushed lt =
     let n : ℕ = blocks image in
     let root : ℕ = root_of image in
     let items : h.nodes.items ≡ root ∷ [] = pushed ∙ ap (λ xs. xs ++ root ∷ []) (ap (λ v. v.items) e.nodes ∙ nodes) in
     let marks : g.owned.items ≡ set (replicate n false) root true = o.owned ∙ ap (λ xs. set xs root true) owned in
+    let held : g.owners.items ≡ set (replicate n 0) root 0 = o.owners ∙ ap (λ xs. set xs root 0) owners in
     let free : g.avoided.items ≡ replicate n false = ap (λ v. v.items) o.avoided ∙ avoided in
     let one : g.left + 1 ≡ n = o.left ∙ left in
     let long : length {A = Bool} (replicate n false) ≡ n = length-replicate n false in
-    let less = unowned_less (replicate n false) root (omega arith) (none_false n root) in
+    let less = unowned_less (replicate n false) root (omega arith) (none_default n false root) in
     let all = all_free n in
     subst (λ h. Stands image h (begun image [])) (sym same) (record {
       taken = (λ r x. o.taken.0 (key_of r)
           ∙ ap (λ c. cond (is_eq (by_key (key_of Root) (key_of r))) (Some root) c) (empty_get f.taken (is_at (by_key (key_of r))) taken));
       owned = subst (λ xs. (length xs ≡ n) × ((b : ℕ) → b < n → slice_index_or xs b false ≡ owns ((Root, root) ∷ []) b)) (sym marks)
-          (marked_more n (replicate n false) [] Root root (length-replicate n false, (λ b l. none_false n b)));
+          (marked_more n (replicate n false) [] Root root (length-replicate n false, (λ b l. none_default n false b)));
+      owners = subst (λ xs. AreHeld n xs ((Root, root) ∷ [])) (sym held)
+          (held_more n (replicate n 0) [] Root root lt (length-replicate n 0, (λ b. none_default n 0 b)));
       avoided = subst (λ xs. (length xs ≡ n) × ((b : ℕ) → b < n → slice_index_or xs b false ≡ false)) (sym free)
-          (length-replicate n false, (λ b l. none_false n b));
+          (length-replicate n false, (λ b l. none_default n false b));
       left = (let z : g.left ≡ unowned (set (replicate n false) root true) = omega arith in z ∙ ap unowned (sym marks));
       node = (λ m. ap (λ xs. slice_index xs m) items ∙ one_node root m);
       count = ap length items;
@@ -86,6 +89,7 @@ pub stands_boot : (image : List ℕ) (f : Found) (noted : Vec Finding) (fs : Lis
 stands_boot image f noted fs st e = record {
   taken = st.taken;
   owned = st.owned;
+  owners = st.owners;
   avoided = st.avoided;
   left = st.left;
   node = st.node;

@@ -21,13 +21,14 @@ use Rattle.adf_volume.proofs.Gathered.{number_of}
 use Rattle.adf_survey.specs.Surveyed.{IsOfSurvey, Surveyed, TellsOf, kept_of}
 use Rattle.adf_survey.proofs.Concerning.{concerned_kept, no_concern_nth}
 use Rattle.adf_survey.proofs.HeadPlaces.{head_parent}
+use Rattle.adf_survey.proofs.Holders.{owner_is}
 use Rattle.adf_survey.proofs.OneSurvey.{gathered, one_survey}
 use Rattle.adf_survey.proofs.SoundMarks.{clear_is_sound, inside, unread_none}
 use Rattle.adf_survey.proofs.Starts.{course_size}
 
 -- of an image of which nothing is taken the findings are kept alone
 pub unread_kept : (image : List ℕ) (items : List Finding) → UnreadTells image (map finding_value items)
-    → IsOfSurvey (record { image = image; findings = items; concerned = []; nodes = []; parents = []; sound = [] })
+    → IsOfSurvey (record { image = image; findings = items; concerned = []; owners = []; nodes = []; parents = []; sound = [] })
 unread_kept image items told = (
   [],
   map finding_value items,
@@ -35,6 +36,7 @@ unread_kept image items told = (
     survey = unread told;
     findings = refl;
     concerned = (λ k. sym (no_concern_nth [] (map finding_value items) k (unread_none image told)));
+    holder = (λ b. refl);
     node = (λ n. refl);
     parent = (λ n. refl);
     count = omega arith;
@@ -45,7 +47,7 @@ unread_kept image items told = (
 -- of an image whose course is done, with its bits compared
 pub read_kept : (image : List ℕ) (f : Found) (concerned : List (Option Concern)) (sound : List Bool) → IsCompleted image f
     → concerned ≡ map (λ x. blamed f x.part) f.findings.items → ((m : ℕ) → has_mark sound m ≡ is_clear image f m)
-    → IsOfSurvey (kept_of image f.findings.items concerned f.nodes.items f.parents.items sound)
+    → IsOfSurvey (kept_of image f.findings.items concerned f.owners.items f.nodes.items f.parents.items sound)
 read_kept image f concerned sound (s, bits, told, bits_tell) entries marks = (
   s.walk,
   s.findings ++ bits,
@@ -54,6 +56,7 @@ read_kept image f concerned sound (s, bits, told, bits_tell) entries marks = (
     findings = told.stands.findings;
     concerned = (λ k.
         ap (λ os. option_flatten (slice_get os k)) entries ∙ concerned_kept image f told.course bits bits_tell told.stands k);
+    holder = owner_is image (gathered image told.course) f.owners.items told.stands.owners.1;
     node = told.stands.node;
     parent = told.stands.parent;
     count = (let e = told.stands.count in omega arith);

@@ -34,6 +34,8 @@ pub mod SoundMarks
 -- the positions of headers, and the entries that findings concern
 pub mod HeadPlaces
 pub mod Concerning
+-- the entries that hold the blocks of findings
+pub mod Holders
 pub mod Keeping
 -- images to survey, and the marks that are kept
 pub mod Openings

@@ -22,8 +22,8 @@ use Rattle.adf_survey.specs.declared.found.ChainPlace.{ChainPlace}
 use Rattle.adf_survey.specs.declared.found.Found.{Found}
 use Rattle.adf_survey.specs.Survey.{Course, FindingValue}
 use Rattle.adf_survey.specs.Parts.{by_key, key_of, role_of, finding_value}
-use Rattle.adf_survey.specs.Found.{AreMarked, AreSame, IsKept, IsLookedUp, IsNoted, IsOwned, IsPassed, IsPut, IsTaken, KeepsParts, Stands}
-use Rattle.adf_survey.specs.Found.{at_key, by_name, exts_found, owns, parent_by, parent_node, places_of, unowned, with_data, with_place}
+use Rattle.adf_survey.specs.Found.{AreHeld, AreMarked, AreSame, IsKept, IsLookedUp, IsNoted, IsOwned, IsPassed, IsPut, IsTaken, KeepsParts, Stands}
+use Rattle.adf_survey.specs.Found.{at_key, by_name, entry_number, exts_found, owns, parent_by, parent_node, places_of, unowned, with_data, with_place}
 
 kept_more : (image : List ℕ) (part : Part) (b : ℕ) (f g h : Found) → IsKept image part b f g → AreSame g h → IsKept image part b f h
 kept_more image (HeadPart n p s j) b f g h k e = record {
@@ -56,6 +56,7 @@ taken_last image part b f g h k p o e =
       taken = x.taken;
       datas = x.datas;
       owned = x.owned;
+      owners = x.owners;
       left = x.left;
       avoided = x.avoided;
       findings = x.findings;
@@ -92,6 +93,16 @@ marked_more n xs w r b h = (
   (λ c lt. elim (eqb_tells b c) [
     | inl y ↦ rw (y.0, ← y.1) (get_or-set_same xs b true false (let l : length xs ≡ n = h.0 in let e : b ≡ c = y.1 in omega arith))
     | inr y ↦ rw y.0 (get_or-set_other xs b c true false (λ e. y.1 (sym e)) ∙ h.1 c lt)
+  ]),
+)
+
+pub held_more : (n : ℕ) (xs : List ℕ) (w : List (Role × ℕ)) (r : Role) (b : ℕ) → b < n → AreHeld n xs w
+    → AreHeld n (set xs b (entry_number r)) ((r, b) ∷ w)
+held_more n xs w r b lt h = (
+  length-set xs b (entry_number r) ∙ h.0,
+  (λ c. elim (eqb_tells b c) [
+    | inl y ↦ rw (y.0, ← y.1) (get_or-set_same xs b (entry_number r) 0 (let l : length xs ≡ n = h.0 in omega arith))
+    | inr y ↦ rw y.0 (get_or-set_other xs b c (entry_number r) 0 (λ e. y.1 (sym e)) ∙ h.1 c)
   ]),
 )
 
@@ -196,6 +207,8 @@ module _ (image : List ℕ) (f g : Found) (s : Course) (b : ℕ) (st : Stands im
         taken = taken_more f.taken g.taken s.walk part b o.taken st.taken;
         owned = subst (λ xs. AreMarked (blocks image) xs ((role_of part, b) ∷ s.walk)) (sym o.owned)
             (marked_more (blocks image) f.owned.items s.walk (role_of part) b st.owned);
+        owners = subst (λ xs. AreHeld (blocks image) xs ((role_of part, b) ∷ s.walk)) (sym o.owners)
+            (held_more (blocks image) f.owners.items s.walk (role_of part) b lt st.owners);
         avoided = subst (λ v. AreMarked (blocks image) v.items s.passed_over) (sym o.avoided) st.avoided;
         left = left ∙ ap unowned (sym o.owned);
         node = l.node;
@@ -217,6 +230,7 @@ module _ (image : List ℕ) (f g : Found) (s : Course) (b : ℕ) (st : Stands im
       subst (λ h. Stands image h (record { walk = s.walk; passed_over = over; findings = fs })) (sym rest) (record {
         taken = st.taken;
         owned = st.owned;
+        owners = st.owners;
         avoided = avoided;
         left = st.left;
         node = st.node;

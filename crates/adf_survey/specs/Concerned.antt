@@ -1,13 +1,15 @@
--- What findings concern.
+-- What findings concern, and the entries that hold their blocks.
 -- Letters: w the walk of a survey, fs its findings, f one of them, at index k; r a role; n, p nodes;
 -- s, j the slot and the position of a header in its chain.
-use Rattle.std.specs.Prelude.{ℕ, cond, List, Option, Some, None, is_some, slice_get}
+use Rattle.std.specs.Prelude.{ℕ, Bool, true, false, cond, List, Option, Some, None, is_some, slice_get}
 use Rattle.std.specs.Option.{option_and_then}
+use Rattle.adf_blocks.specs.declared.cause.Cause.{Cause}
+use Rattle.adf_blocks.specs.declared.cause.Cause.TheVariants.{Taken}
 use Rattle.adf_volume.specs.Walk.{Role}
 use Rattle.adf_volume.specs.Walk.Role.{Head, Ext, Data}
 use Rattle.adf_survey.specs.declared.concern.Concern.{Concern}
 use Rattle.adf_survey.specs.declared.concern.Concern.TheVariants.{Entry, Within}
-use Rattle.adf_survey.specs.Found.{at_key}
+use Rattle.adf_survey.specs.Found.{at_key, holder}
 use Rattle.adf_survey.specs.Parts.{key_of}
 use Rattle.adf_survey.specs.Survey.{FindingValue}
 
@@ -30,3 +32,16 @@ concern_of w f = option_and_then (concern_with w) f.part
 -- what the finding at an index concerns, nothing past the last
 abbrev pub concern_of_nth : List (Role × ℕ) → List FindingValue → ℕ → Option Concern
 concern_of_nth w fs k = option_and_then (concern_of w) (slice_get fs k)
+
+-- whether the cause is that another part has the block
+abbrev pub is_taken : Cause → Bool
+is_taken Taken = true
+is_taken _ = false
+
+-- the entry that holds the block of a finding that it is taken
+abbrev pub holder_of : List (Role × ℕ) → FindingValue → Option ℕ
+holder_of w f = cond (is_taken f.cause) (holder w f.block) None
+
+-- the entry that holds the block of the finding at an index, nothing past the last
+abbrev pub holder_of_nth : List (Role × ℕ) → List FindingValue → ℕ → Option ℕ
+holder_of_nth w fs k = option_and_then (holder_of w) (slice_get fs k)

@@ -57,6 +57,18 @@ abbrev pub owns : List (Role × ℕ) → ℕ → Bool
 owns [] b = false
 owns (x ∷ w) b = (x.1 == b) || owns w b
 
+-- the entry that a role is a part of; none of the root and the bitmap
+abbrev pub entry_in : Role → Option ℕ
+entry_in (Head n p s j) = Some n
+entry_in (Ext n k) = Some n
+entry_in (Data n k) = Some n
+entry_in _ = None
+
+-- the entry that has the block
+abbrev pub holder : List (Role × ℕ) → ℕ → Option ℕ
+holder [] b = None
+holder (x ∷ w) b = cond (x.1 == b) (entry_in x.0) (holder w b)
+
 -- whether the role at block c is a header of the chain with this name
 abbrev pub is_named : List ℕ → Role → ℕ → ℕ → ℕ → List ℕ → Bool
 is_named image (Head n p s j) c parent slot name =
@@ -109,6 +121,14 @@ unowned (false ∷ xs) = suc (unowned xs)
 abbrev pub AreMarked : ℕ → List Bool → List (Role × ℕ) → Type 0
 AreMarked n marks w = (length marks ≡ n) × ((b : ℕ) → b < n → slice_index_or marks b false ≡ owns w b)
 
+-- the number of the entry that a role is a part of; 0 of the root and the bitmap
+abbrev pub entry_number : Role → ℕ
+entry_number r = unwrap_or (entry_in r) 0
+
+-- the numbers of n blocks are those of the entries that have them; 0 where none has
+abbrev pub AreHeld : ℕ → List ℕ → List (Role × ℕ) → Type 0
+AreHeld n numbers w = (length numbers ≡ n) × ((b : ℕ) → slice_index_or numbers b 0 ≡ unwrap_or (holder w b) 0)
+
 -- the number of extension blocks of a file
 abbrev pub exts_found : Found → ℕ → ℕ
 exts_found f n = unwrap_or (get nat_cmp f.exts n) 0
@@ -155,6 +175,7 @@ pub record IsOwned (part : Part) (b : ℕ) (f g : Found) : Type 0 where
   pub taken : IsPut part b f.taken g.taken
   pub datas : g.datas.items ≡ with_data (role_of part) b f.datas.items
   pub owned : g.owned.items ≡ set f.owned.items b true
+  pub owners : g.owners.items ≡ set f.owners.items b (entry_number (role_of part))
   pub left : g.left + 1 ≡ f.left
   pub avoided : g.avoided ≡ f.avoided
   pub findings : g.findings ≡ f.findings
@@ -220,6 +241,7 @@ pub record IsNoted (x : Finding) (f g : Found) : Type 0 where
 pub record Stands (image : List ℕ) (f : Found) (s : Course) : Type 0 where
   pub taken : (r : Role) → IsLookedUp r → get by_key f.taken (key_of r) ≡ at_key s.walk (key_of r)
   pub owned : AreMarked (blocks image) f.owned.items s.walk
+  pub owners : AreHeld (blocks image) f.owners.items s.walk
   pub avoided : AreMarked (blocks image) f.avoided.items s.passed_over
   pub left : f.left ≡ unowned f.owned.items
   pub node : (n : ℕ) → slice_index f.nodes.items n ≡ node_block s.walk n

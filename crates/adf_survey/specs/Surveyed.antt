@@ -1,36 +1,47 @@
 -- The results of a survey.
 -- Letters: v a result; w, fs the walk and the findings of the survey; k the index of a finding; n a node.
-use Rattle.std.specs.Prelude.{◌≡◌, ◌≤◌, ◌-◌, ◌↔◌, ℕ, Bool, true, List, Option, length, map, slice_get, slice_index}
+use Rattle.std.specs.Prelude.{◌≡◌, ◌≤◌, ◌-◌, ◌==◌, ◌↔◌, ℕ, Bool, true, cond, List, Option, Some, None, length, map, slice_get, slice_index, slice_index_or}
 use Rattle.std.specs.Option.{option_flatten}
 use Rattle.adf_volume.specs.Walk.{Role, heads, node_block}
 use Rattle.adf_survey.specs.declared.concern.Concern.{Concern}
 use Rattle.adf_survey.specs.declared.part.Finding.{Finding}
-use Rattle.adf_survey.specs.Concerned.{concern_of_nth}
-use Rattle.adf_survey.specs.Found.{parent_node}
+use Rattle.adf_survey.specs.Concerned.{concern_of_nth, is_taken}
+use Rattle.adf_survey.specs.Found.{holder, parent_node}
 use Rattle.adf_survey.specs.Marks.{has_mark}
 use Rattle.adf_survey.specs.Parts.{finding_value}
 use Rattle.adf_survey.specs.Sound.{IsSound}
 use Rattle.adf_survey.specs.Survey.{FindingValue, IsSurvey}
 
--- the result: the findings and what they concern; for each node its block, its parent, and whether it is sound
+-- the result: the findings and what they concern; the entry of each block; for each node its block, its parent, and
+-- whether it is sound
 pub record Surveyed : Type 0 where
   pub image : List ℕ
   pub findings : List Finding
   pub concerned : List (Option Concern)
+  pub owners : List ℕ
   pub nodes : List ℕ
   pub parents : List ℕ
   pub sound : List Bool
 
 -- the result from its parts
-abbrev pub kept_of : List ℕ → List Finding → List (Option Concern) → List ℕ → List ℕ → List Bool → Surveyed
-kept_of image findings concerned nodes parents sound =
-    record { image = image; findings = findings; concerned = concerned; nodes = nodes; parents = parents; sound = sound }
+abbrev pub kept_of : List ℕ → List Finding → List (Option Concern) → List ℕ → List ℕ → List ℕ → List Bool → Surveyed
+kept_of image findings concerned owners nodes parents sound =
+    record { image = image; findings = findings; concerned = concerned; owners = owners; nodes = nodes; parents = parents; sound = sound }
+
+-- the entry of a block by the numbers kept of blocks; none for 0
+abbrev pub owner_at : List ℕ → ℕ → Option ℕ
+owner_at owners b = cond (slice_index_or owners b 0 == 0) None (Some (slice_index_or owners b 0))
+
+-- the entry of the block of a finding that it is taken
+abbrev pub owner_for : List ℕ → Finding → Option ℕ
+owner_for owners f = cond (is_taken f.cause) (owner_at owners f.block) None
 
 -- the result is that of this walk and these findings
 pub record TellsOf (v : Surveyed) (w : List (Role × ℕ)) (fs : List FindingValue) : Type 0 where
   pub survey : IsSurvey v.image w fs
   pub findings : map finding_value v.findings ≡ fs
   pub concerned : (k : ℕ) → option_flatten (slice_get v.concerned k) ≡ concern_of_nth w fs k
+  pub holder : (b : ℕ) → owner_at v.owners b ≡ holder w b
   pub node : (n : ℕ) → slice_index v.nodes n ≡ node_block w n
   pub parent : (n : ℕ) → slice_index v.parents n ≡ parent_node w n
   pub count : length v.nodes - 1 ≡ heads w

@@ -1,7 +1,7 @@
 // The state of a survey.
 
 ghost use Rattle.std.specs.Prelude.{◌≡◌, ◌≤◌, ◌<◌, ◌+◌, ℕ, List, [], ◌∷◌, ◌++◌, IfOk, OnOk, Some, None};
-ghost use Rattle.std.specs.Prelude.{length, false, true, not, slice_index, slice_index_or, slice_set, map};
+ghost use Rattle.std.specs.Prelude.{length, false, true, not, set, slice_index, slice_index_or, slice_set, map};
 ghost use Rattle.std.specs.Ordering.{nat_cmp};
 ghost use Rattle.std.specs.BTreeMap.{Updates};
 ghost use Rattle.std.specs.BTreeSet.{contains};
@@ -11,7 +11,7 @@ ghost use Rattle.adf_volume.specs.Image.{name_of, root_of, word_in};
 ghost use Rattle.adf_volume.specs.Walk.{Role, data_count};
 ghost use Rattle.adf_survey.specs.Parts.{by_key, finding_value, key_of, role_of};
 ghost use Rattle.adf_survey.specs.Found.{AreNamed, AreSame, Stands, IsChain, IsKept, IsNoted, IsOwned, IsPassed};
-ghost use Rattle.adf_survey.specs.Found.{IsPut, IsTaken, KeepsParts, around_in, by_name, enough_in};
+ghost use Rattle.adf_survey.specs.Found.{IsPut, IsTaken, KeepsParts, around_in, by_name, enough_in, entry_number};
 ghost use Rattle.adf_survey.specs.Found.{exts_found, known_at, member_in, new_in, next_in, with_data};
 ghost use Rattle.adf_survey.specs.Survey.{begun};
 ghost use Rattle.std.specs.Global.{Vec};
@@ -42,13 +42,14 @@ pub struct ChainPlace {
 }
 
 /// The state of a survey: the blocks of the taken parts by key, except headers and data blocks; for each block whether
-/// it is taken and whether it was passed over; the number of blocks not taken; the blocks of nodes; the number of
-/// extension blocks of each file; the names in the current chain; the findings; the parents of nodes; the positions of
-/// headers, from node 1 on; and the data blocks.
+/// it is taken, the node of the entry that it belongs to (0 if there is none), and whether it was passed over; the
+/// number of blocks not taken; the blocks of nodes; the number of extension blocks of each file; the names in the
+/// current chain; the findings; the parents of nodes; the positions of headers, from node 1 on; and the data blocks.
 #[derive(Drop)]
 pub struct Found {
     pub taken: BTreeMap<Key, u32>,
     pub owned: Vec<bool>,
+    pub owners: Vec<u32>,
     pub avoided: Vec<bool>,
     pub left: u32,
     pub nodes: Vec<u32>,
@@ -107,6 +108,9 @@ impl Found {
         let Ok(owned) = vec![in alloc; false; blocks as usize] else {
             return Err(NoMemory);
         };
+        let Ok(owners) = vec![in alloc; 0u32; blocks as usize] else {
+            return Err(NoMemory);
+        };
         let Ok(avoided) = vec![in alloc; false; blocks as usize] else {
             return Err(NoMemory);
         };
@@ -116,6 +120,7 @@ impl Found {
         let mut found = Found {
             taken: BTreeMap::new(alloc),
             owned,
+            owners,
             avoided,
             left: blocks,
             nodes: Vec::new(alloc),
@@ -266,6 +271,17 @@ impl Found {
         }
     }
 
+    // Keeps the entry that a part belongs to as that of block `b`.
+    fn keep_owner(&mut self, part: Part, b: u32)
+        ensures owners { self.new.owners.items
+            ≡ set self.old.owners.items b (entry_number (role_of part)) }
+        ensures rest { self.new ≡ record self.old { owners = self.new.owners } }
+    {
+        if (b as usize) < self.owners.len() {
+            self.owners[b as usize] = part.entry_number();
+        }
+    }
+
     // Makes a part the owner of block `b`.
     fn own(&mut self, part: Part, b: u32) -> Result<(), NoMemory>
         requires inside { b < length self.old.owned.items }
@@ -274,6 +290,7 @@ impl Found {
         ensures rest { OnOk result (AreSame self.old self.new) }
     {
         self.keep_block(part, b)?;
+        self.keep_owner(part, b);
         self.owned[b as usize] = true;
         self.left -= 1;
         Ok(())

@@ -14,6 +14,7 @@ mod laws;
 mod lookup;
 mod marks;
 mod opening;
+mod owners;
 mod part;
 mod start;
 mod surveyed;

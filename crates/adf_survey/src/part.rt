@@ -1,6 +1,7 @@
 // The parts of a volume, and findings.
 
 ghost use Rattle.std.specs.Prelude.{◌≡◌};
+ghost use Rattle.adf_survey.specs.Found.{entry_number};
 ghost use Rattle.adf_survey.specs.Parts.{key_of, role_of};
 ghost use Rattle.adf_volume.proofs.Roles.{renumbered};
 ghost use Rattle.adf_volume.specs.Walk.{third};
@@ -66,6 +67,16 @@ impl Part {
                 place,
             },
             _ => self,
+        }
+    }
+
+    // The number of the entry that the part belongs to; 0 for the root and the bitmap.
+    pub(crate) fn entry_number(self) -> u32
+        ensures { result ≡ entry_number (role_of self) }
+    {
+        match self {
+            Part::Head { node, .. } | Part::Ext(node, _) | Part::Data(node, _) => node,
+            _ => 0,
         }
     }
 

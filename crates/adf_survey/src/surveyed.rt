@@ -8,7 +8,7 @@ ghost use Rattle.adf_fields.specs.Words.{block};
 ghost use Rattle.adf_volume.specs.Image.{letters_of, name_of};
 ghost use Rattle.adf_volume.specs.Walk.{Has, Role, heads, node_block};
 ghost use Rattle.adf_volume.specs.Walk.Role.{Head};
-ghost use Rattle.adf_survey.specs.Concerned.{concern_of_nth};
+ghost use Rattle.adf_survey.specs.Concerned.{concern_of_nth, holder_of_nth};
 ghost use Rattle.adf_survey.specs.Files.{IsSoundFile, file_in};
 ghost use Rattle.adf_survey.specs.Found.{parent_node};
 ghost use Rattle.adf_survey.specs.Marked.{AreMarks, mark_in};
@@ -23,6 +23,7 @@ use crate::concern::Concern;
 use crate::file::SoundFile;
 use crate::header_name::name_in;
 use crate::opening::Opening;
+use crate::owners::owner_nth;
 use crate::part::Finding;
 use crate::start::start;
 use adf_blocks::{HeadBody, SECONDARY_TYPE, ST_FILE, meta_told};
@@ -38,6 +39,7 @@ pub struct Survey<'i> {
     image: &'i [u8],
     findings: Vec<Finding>,
     concerned: Vec<Option<Concern>>,
+    owners: Vec<u32>,
     nodes: Vec<u32>,
     parents: Vec<u32>,
     sound: Vec<bool>,
@@ -48,10 +50,10 @@ impl<'i> Model for Survey<'i> {
 
     ghost Value = { Surveyed };
 
-    ghost view = { λ v. kept_of v.image.now v.findings.items v.concerned.items v.nodes.items v.parents.items v.sound.items };
+    ghost view = { λ v. kept_of v.image.now v.findings.items v.concerned.items v.owners.items v.nodes.items v.parents.items v.sound.items };
 
     ghost invariant = { λ v. IsOfSurvey
-        (kept_of v.image.now v.findings.items v.concerned.items v.nodes.items v.parents.items v.sound.items) };
+        (kept_of v.image.now v.findings.items v.concerned.items v.owners.items v.nodes.items v.parents.items v.sound.items) };
 }
 
 // Whether a node has a mark.
@@ -81,20 +83,22 @@ impl<'i> Survey<'i> {
         image: &'i [u8],
         findings: Vec<Finding>,
         concerned: Vec<Option<Concern>>,
+        owners: Vec<u32>,
         nodes: Vec<u32>,
         parents: Vec<u32>,
         sound: Vec<bool>,
     ) -> Survey<'i>
         requires { IsOfSurvey
-            (kept_of image.now findings.items concerned.items
+            (kept_of image.now findings.items concerned.items owners.items
             nodes.items parents.items sound.items) }
-        ensures { result ≡ kept_of image.now findings.items concerned.items
+        ensures { result ≡ kept_of image.now findings.items concerned.items owners.items
             nodes.items parents.items sound.items }
     {
         Survey {
             image,
             findings,
             concerned,
+            owners,
             nodes,
             parents,
             sound,
@@ -125,6 +129,16 @@ impl Survey<'_> {
             → result ≡ concern_of_nth w fs k }
     {
         concern_at(&self.concerned, k)
+    }
+
+    /// The entry that holds the block of finding `k`, counted from 0, if its cause is `taken`: that of a header, or the
+    /// file of an extension or data block. `None` for a block of the root or the bitmap, for other causes, and past the
+    /// last finding.
+    pub fn holder_of(&self, k: usize) -> Option<Node>
+        ensures { (w : List (Role × ℕ)) (fs : List FindingValue) → IsSurvey self.now.image w fs
+            → result ≡ holder_of_nth w fs k }
+    {
+        owner_nth(&self.owners, &self.findings, k)
     }
 
     /// The number of entries found.

@@ -60,6 +60,7 @@ fn only<'i>(alloc: Global, image: &'i [u8], unread: Unread) -> Result<Survey<'i>
             Vec::new(alloc),
             Vec::new(alloc),
             Vec::new(alloc),
+            Vec::new(alloc),
         )),
         Err(_) => Err(NoMemory),
     }
@@ -101,6 +102,7 @@ fn go_through<'i>(alloc: Global, started: &Started<'i>) -> Result<Survey<'i>, No
         image.bytes(),
         found.findings,
         concerned,
+        found.owners,
         found.nodes,
         found.parents,
         sound,

@@ -20,6 +20,6 @@ pub new-requires : goal.new-requires
 new-requires c =
     let f : Found = c.compare.new.found in
     let entries = c.in_ok-concerned.concerned.items in
-    subst (λ i. IsOfSurvey (kept_of i f.findings.items entries f.nodes.items f.parents.items c.in_ok-sound.sound.items)) (sym c.bytes.ensures)
+    subst (λ i. IsOfSurvey (kept_of i f.findings.items entries f.owners.items f.nodes.items f.parents.items c.in_ok-sound.sound.items)) (sym c.bytes.ensures)
     (read_kept c.args.started.now.image f entries c.in_ok-sound.sound.items c.in_ok-compare.ensures
     c.in_ok-concerned.ensures c.in_ok-sound.ensures)
