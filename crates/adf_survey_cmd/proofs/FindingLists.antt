@@ -1,13 +1,11 @@
--- The findings of a survey, one after another, and the entries that they concern.
+-- The findings of a survey, one after another, and what is told of them.
 -- Letters: w a walk; all the findings as they are kept, of which first is the first and others are behind it, and fs as they are told; i a place.
-use Rattle.std.specs.Prelude.{map, option_map}
+use Rattle.std.specs.Prelude.{map, option_map, slice_get}
 use Rattle.std.specs.Option.{option_and_then}
 use Rattle.std.proofs.Common.{◌≡◌, ◌∙◌, ◌<◌, ◌≤◌, ◌+◌, ◌++◌, ℕ, suc, List, [], ◌∷◌, Option, sym, ap, subst, add-one, drop, get_or, length}
 use Rattle.std.proofs.lemmas.List.{drop_all, drop_more}
 use Rattle.std.proofs.lemmas.Option.{slice_get-get_or, slice_get-map}
 use Rattle.adf_volume.specs.Walk.{Role}
-use Rattle.adf_survey.specs.Concerned.{concern_of, concern_of_nth}
-use Rattle.adf_survey.specs.declared.concern.Concern.{Concern}
 use Rattle.adf_survey.specs.declared.part.Finding.{Finding}
 use Rattle.adf_survey.specs.Parts.{finding_value}
 use Rattle.adf_survey.specs.Survey.{FindingValue}
@@ -28,16 +26,25 @@ module _ (image : List ℕ) (w : List (Role × ℕ)) (fs : List FindingValue) (a
       ap (findings_text image w) (sym are) ∙ ap (λ (x : Run). lines_from image w x (map finding_value others)) (sym r)
       ∙ ap (λ t. t ++ lines_from image w run (map finding_value others)) (sym empty)
 
-  pub concern_first : (o : Option Concern) → o ≡ concern_of_nth w fs 0 → o ≡ concern_of w (finding_value first)
-  concern_first o h = h ∙ ap (λ gs. concern_of_nth w gs 0) (sym are)
+  -- what is told of the finding at a place
+  abbrev Told : Type 0 → Type 0
+  Told X = FindingValue → Option X
 
-  pub concern_later : (i : ℕ) (d : Finding) (o : Option Concern) → i < length others → o ≡ concern_of_nth w fs (i + 1)
-      → o ≡ concern_of w (finding_value (get_or others i d))
-  concern_later i d o within h =
-      let behind : concern_of_nth w fs (i + 1) ≡ concern_of_nth w (finding_value first ∷ map finding_value others) (suc i) =
-      ap (concern_of_nth w fs) (add-one i) ∙ ap (λ gs. concern_of_nth w gs (suc i)) (sym are) in
+  abbrev told_at : {X : Type 0} → Told X → List FindingValue → ℕ → Option X
+  told_at g gs k = option_and_then g (slice_get gs k)
+
+  -- of the first
+  pub told_first : {X : Type 0} (g : Told X) (o : Option X) → o ≡ told_at g fs 0 → o ≡ g (finding_value first)
+  told_first g o h = h ∙ ap (λ gs. told_at g gs 0) (sym are)
+
+  -- and of the later ones
+  pub told_later : {X : Type 0} (g : Told X) (i : ℕ) (d : Finding) (o : Option X) → i < length others → o ≡ told_at g fs (i + 1)
+      → o ≡ g (finding_value (get_or others i d))
+  told_later g i d o within h =
+      let behind : told_at g fs (i + 1) ≡ told_at g (finding_value first ∷ map finding_value others) (suc i) =
+      ap (told_at g fs) (add-one i) ∙ ap (λ gs. told_at g gs (suc i)) (sym are) in
       let at = slice_get-get_or others i d within in
-      h ∙ behind ∙ ap (option_and_then (concern_of w)) (slice_get-map finding_value others i ∙ ap (option_map finding_value) at)
+      h ∙ behind ∙ ap (option_and_then g) (slice_get-map finding_value others i ∙ ap (option_map finding_value) at)
 
 module _ (image : List ℕ) (w : List (Role × ℕ)) (others : List Finding) (a b : Option (List ℕ)) (text whole : List ℕ) (r : Run) where
   -- one finding more

@@ -1,10 +1,11 @@
 use Rattle.std.specs.Prelude.{None}
 use Rattle.std.proofs.Common.{◌+◌, arith, drop, get_or, map, rules}
 use Rattle.adf_blocks.specs.declared.cause.Cause.TheVariants.{BadSize}
+use Rattle.adf_survey.specs.Concerned.{concern_of, holder_of}
 use Rattle.adf_survey.specs.Parts.{finding_value}
 use Rattle.adf_survey.specs.declared.part.Finding.{Finding}
 use Rattle.adf_cmd.proofs.PendingText.{on_err, pending_begun, pending_end}
-use Rattle.adf_survey_cmd.proofs.FindingLists.{concern_first, concern_later, runs_begun, runs_done, runs_next}
+use Rattle.adf_survey_cmd.proofs.FindingLists.{runs_begun, runs_done, runs_next, told_first, told_later}
 use Rattle.adf_survey_cmd.proofs.PendingLines.{pending_breaks, pending_stops}
 use Rattle.adf_survey_cmd.proofs.runs.write_runs.Goals as goal
 
@@ -15,8 +16,9 @@ loop-i-init g c = record {
       let image = c.args.survey.now.image in
       let all = c.findings.ensures w fs survey in
       let split = c.in-Some.ensures.cases.0 in
-      let concern = concern_first image w fs _ _ _ all split c.concern_of.result (c.concern_of.ensures w fs survey) in
-      pending_begun _ _ _ (runs_begun image w fs _ _ _ all split c.of-run.result _ (c.of-run.ensures w concern) c.new-text.ensures.items);
+      let concern = told_first image w fs _ _ _ all split (concern_of w) c.concern_of.result (c.concern_of.ensures w fs survey) in
+      let holder = told_first image w fs _ _ _ all split (holder_of w) c.holder_of.result (c.holder_of.ensures w fs survey) in
+      pending_begun _ _ _ (runs_begun image w fs _ _ _ all split c.of-run.result _ (c.of-run.ensures w concern holder) c.new-text.ensures.items);
 }
 
 pub loop-i-preserved : goal.loop-i-preserved
@@ -29,9 +31,12 @@ loop-i-preserved g c = record {
       let others = c.in-Some.others.now in
       let i = c.loop-i.i in
       let none : Finding = record { part = None; block = 0; cause = BadSize } in
-      let concern = concern_later image w fs _ _ _ all split i none c.concern_of-in-loop-i.result (omega arith) (c.concern_of-in-loop-i.ensures w fs survey) in
+      let concern = told_later image w fs _ _ _ all split (concern_of w) i none c.concern_of-in-loop-i.result (omega arith)
+      (c.concern_of-in-loop-i.ensures w fs survey) in
+      let holder = told_later image w fs _ _ _ all split (holder_of w) i none c.holder_of-in-loop-i.result (omega arith)
+      (c.holder_of-in-loop-i.ensures w fs survey) in
       let later = map finding_value (drop (i + 1) others) in
-      let step = c.in_ok-run.ensures.ok w fs survey (finding_value (get_or others i none)) later (c.of-next.ensures w concern) in
+      let step = c.in_ok-run.ensures.ok w fs survey (finding_value (get_or others i none)) later (c.of-next.ensures w concern holder) in
       step _ _ (runs_next image w others _ _ _ _ c.loop-i.run i none (omega arith) (c.loop-i.invariant.so_far w fs survey));
 }
 
@@ -43,9 +48,12 @@ returns-in_err-run-clause-err g c = λ w fs survey.
     let others = c.in-Some.others.now in
     let i = c.loop-i.i in
     let none : Finding = record { part = None; block = 0; cause = BadSize } in
-    let concern = concern_later image w fs _ _ _ all split i none c.concern_of-in-loop-i.result (omega arith) (c.concern_of-in-loop-i.ensures w fs survey) in
+    let concern = told_later image w fs _ _ _ all split (concern_of w) i none c.concern_of-in-loop-i.result (omega arith)
+    (c.concern_of-in-loop-i.ensures w fs survey) in
+    let holder = told_later image w fs _ _ _ all split (holder_of w) i none c.holder_of-in-loop-i.result (omega arith)
+    (c.holder_of-in-loop-i.ensures w fs survey) in
     let later = map finding_value (drop (i + 1) others) in
-    let step = c.in_err-run.ensures.err w fs survey (finding_value (get_or others i none)) later (c.of-next.ensures w concern) in
+    let step = c.in_err-run.ensures.err w fs survey (finding_value (get_or others i none)) later (c.of-next.ensures w concern holder) in
     on_err c.from_residual.result (pending_breaks _ _ _ _ _
     (runs_next image w others _ _ _ _ c.loop-i.run i none (omega arith) (c.loop-i.invariant.so_far w fs survey)) step)
 
