@@ -216,6 +216,10 @@ pub record FaultInLater (all : List (List ℕ)) (number : ℕ) (kind : ManifestK
 abbrev pub HasFault : List (List ℕ) → ℕ → ManifestKind → Type 0
 HasFault all number kind = FaultInFirst all number kind ⊎ FaultInLater all number kind
 
+-- the first lines, at least that of the volume, are those of a manifest
+abbrev pub BeginsWell : List (List ℕ) → Type 0
+BeginsWell all = (m : Manifest) × (rest : List (List ℕ)) × IsWell m × (all ≡ manifest_lines m ++ rest)
+
 -- the meaning of a fault: `TooLong` if and only if the bytes are more than a manifest may have
 abbrev pub ExplainsKind : ManifestKind → ℕ → List ℕ → Type 0
 ExplainsKind TooLong number bytes = (number ≡ 0) × (most_bytes < length bytes)
