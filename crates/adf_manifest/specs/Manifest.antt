@@ -185,6 +185,22 @@ pub record HasFaultOf (m : Manifest) (text : List ℕ) (kind : ManifestKind) : T
   pub reads : text ≡ line_text line
   pub fault : IsFaultOf (manifest_tree m) line kind
 
+-- reading the line may take memory: it is that of an entry, or of bytes
+abbrev pub TakesMemory : LineValue → Type 0
+TakesMemory (EntryLine sort stamp protect text) = Unit {0}
+TakesMemory (LabelLine text) = ⊥
+TakesMemory (StampsLine stamps) = ⊥
+TakesMemory (NoteLine text) = ⊥
+TakesMemory (RunLine run) = Unit {0}
+
+-- a text is a line that is allowed there, and reading it may take memory
+pub record MayTakeMemory (m : Manifest) (text : List ℕ) : Type 0 where
+  pub line : LineValue
+  pub is_line : IsLine line
+  pub stands : MayStand m line
+  pub reads : text ≡ line_text line
+  pub takes : TakesMemory line
+
 -- the fault of a line after those of a manifest
 abbrev pub IsLaterFault : Manifest → List ℕ → ManifestKind → Type 0
 IsLaterFault m text BadLine = ¬ MayStandNext m text
@@ -215,6 +231,12 @@ pub record FaultInLater (all : List (List ℕ)) (number : ℕ) (kind : ManifestK
 -- the first line with a fault, counted from 1, and the first kind there
 abbrev pub HasFault : List (List ℕ) → ℕ → ManifestKind → Type 0
 HasFault all number kind = FaultInFirst all number kind ⊎ FaultInLater all number kind
+
+-- memory may be short in these lines: at one whose reading may take memory, behind the lines of a manifest, or behind all
+abbrev pub CanLackMemory : List (List ℕ) → Type 0
+CanLackMemory all =
+    (m : Manifest) × IsWell m × ((all ≡ manifest_lines m)
+    ⊎ ((text : List ℕ) × (rest : List (List ℕ)) × (all ≡ manifest_lines m ++ text ∷ rest) × MayTakeMemory m text))
 
 -- the meaning of a fault: `TooLong` if and only if the bytes are more than a manifest may have
 abbrev pub ExplainsKind : ManifestKind → ℕ → List ℕ → Type 0

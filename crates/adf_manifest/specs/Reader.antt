@@ -4,7 +4,7 @@ use Rattle.adf_tree.specs.Draft.{IsRoomFor}
 use Rattle.adf_tree.specs.Tree.{Tree}
 use Rattle.adf_manifest.specs.Lines.{LineValue}
 use Rattle.adf_manifest.specs.Items.{Item, bytes_of_runs, items_tree}
-use Rattle.adf_manifest.specs.Manifest.{Entries, HasFault, IsFaultOf, IsLaterFault, IsWell, Manifest, MayStand, head_tree, manifest_lines, manifest_tree}
+use Rattle.adf_manifest.specs.Manifest.{Entries, HasFault, IsFaultOf, IsLaterFault, IsWell, Manifest, MayStand, MayTakeMemory, TakesMemory, head_tree, manifest_lines, manifest_tree}
 use Rattle.adf_manifest.specs.declared.manifest.ManifestKind.{ManifestKind}
 use Rattle.adf_manifest.specs.declared.manifest.ManifestKind.TheVariants.{BadLine, NoMemory}
 use Rattle.adf_manifest.specs.declared.reader.Head.{Head}
@@ -44,7 +44,7 @@ GoesOn s m text = (n : Manifest) × IsWell n × StateMatches s n × (manifest_li
 
 -- why a line with an allowed form is refused: its fault, or memory
 abbrev pub StopsIn : Tree → LineValue → ManifestKind → Type 0
-StopsIn tree line NoMemory = Unit {0}
+StopsIn tree line NoMemory = TakesMemory line
 StopsIn tree line kind = IsFaultOf tree line kind
 
 -- why a line with a form is refused
@@ -54,7 +54,7 @@ Stops m line kind = MayStand m line × StopsIn (manifest_tree m) line kind
 
 -- why a line is refused
 abbrev pub StopsAt : Manifest → List ℕ → ManifestKind → Type 0
-StopsAt m text NoMemory = Unit {0}
+StopsAt m text NoMemory = MayTakeMemory m text
 StopsAt m text kind = IsLaterFault m text kind
 
 -- the line of a fault: 0 for `NoMemory`

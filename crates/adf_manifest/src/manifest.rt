@@ -2,7 +2,7 @@
 
 ghost use Rattle.std.specs.Prelude.{◌≡◌, ◌≤◌, ◌++◌, ◌∷◌, IfOk, IfErr, length, option_map};
 ghost use Rattle.adf_manifest.specs.Kinds.{manifest_kind_number, manifest_kind_text};
-ghost use Rattle.adf_manifest.specs.Manifest.{AddingLinesGivesTheTree, ExplainsFault, IsManifest, IsWell, LinesHaveOneFault, Manifest, ManifestsAreFaultless, ManifestsAreOfOneTree, manifest_lines, manifest_tree, most_bytes, between_feeds, lines_behind, without_last_feed};
+ghost use Rattle.adf_manifest.specs.Manifest.{AddingLinesGivesTheTree, CanLackMemory, ExplainsFault, IsManifest, IsWell, LinesHaveOneFault, Manifest, ManifestsAreFaultless, ManifestsAreOfOneTree, manifest_lines, manifest_tree, most_bytes, between_feeds, lines, lines_behind, without_last_feed};
 ghost use Rattle.adf_manifest.specs.Reader.{ExplainsLines, StateMatches, line_of_fault};
 
 use crate::reader::{State, finish, first_state, next_state};
@@ -124,6 +124,8 @@ fn read_lines(alloc: Global, text: &[u8]) -> Result<State, ManifestFault>
     ensures lines { IfOk result (λ s. (m : Manifest) × IsWell m × StateMatches s m
         × (between_feeds text.now ≡ manifest_lines m)) }
     ensures fault { IfErr result (λ f. ExplainsLines f.kind f.line (between_feeds text.now)) }
+    ensures memory { IfErr result (λ f. f.kind ≡ ManifestKind.NoMemory
+        → CanLackMemory (between_feeds text.now)) }
 {
     let (line, mut left) = next_line(text);
     let mut state = match first_state(line) {
@@ -156,10 +158,14 @@ fn without_last_feed(bytes: &[u8]) -> &[u8]
 }
 
 /// Reads a manifest: returns its tree and its number of blocks. `TooLong` if it is longer than `MOST_BYTES`;
-/// `NoMemory` if an allocation fails; otherwise the first line with a fault, and the first kind there.
+/// `NoMemory` if an allocation fails, which can happen only at an entry, data or fill line that is allowed at its place,
+/// or after the last line; otherwise the first line with a fault, and the first kind there.
 pub fn read_manifest(alloc: Global, bytes: &[u8]) -> Result<(Tree, u32), ManifestFault>
     ensures manifest { IfOk result (λ r. IsManifest bytes.now r.0 r.1) }
     ensures fault { IfErr result (λ f. ExplainsFault f bytes.now) }
+
+    // `NoMemory` is answered only for a line that may take memory, or after all lines.
+    ensures memory { IfErr result (λ f. f.kind ≡ ManifestKind.NoMemory → CanLackMemory (lines bytes.now)) }
 {
     if bytes.len() > MOST_BYTES {
         return Err(ManifestFault {
