@@ -256,8 +256,8 @@ class Survey:
             return spelled(self.path(node))
         return f"in {spelled(self.path(role[2]))}/" if role and role[1] == "head" else None
 
-    def holder(self, at, cause):
-        """The path of the entry that holds a taken block."""
+    def owner_path(self, at, cause):
+        """The path of the entry that owns a taken block."""
         node = self.node_of(self.owner[at]) if cause == "taken" else None
         return None if node is None else spelled(self.path(node))
 
@@ -273,18 +273,18 @@ class Survey:
         return not headed and not noted & set(parts) and all(self.offset or key[1] != 1 or self.names[b] == 1 for key, b in parts.items())
 
     def found(self):
-        """A line for each run of findings with one cause, that concern the same and with one holder, at one block or at neighbouring
+        """A line for each run of findings with one cause, that concern the same and with one owner, at one block or at neighbouring
         ones."""
         runs = []
         for role, at, cause in self.findings:
-            told = [cause, self.concern(role), self.holder(at, cause)]
+            told = [cause, self.concern(role), self.owner_path(at, cause)]
             if runs and runs[-1][2:] == told and (runs[-1][1] == at - 1 or runs[-1][:2] == [at, at]):
                 runs[-1][1] = at
             else:
                 runs.append([at, at, *told])
-        for first, last, cause, concern, holder in runs:
+        for first, last, cause, concern, owner in runs:
             where = f"block {first}" if first == last else f"blocks {first} to {last}"
-            yield f"{where}: {cause}" + ("" if concern is None else f": {concern}") + ("" if holder is None else f": held by {holder}")
+            yield f"{where}: {cause}" + ("" if concern is None else f": {concern}") + ("" if owner is None else f": owned by {owner}")
 
     def lines(self):
         """The findings, and then the entries."""

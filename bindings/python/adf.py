@@ -192,8 +192,8 @@ def survey(image):
 
 
 # Blocks from the first to the last with one cause, as `bad sum`; the path of the entry that is concerned, or of the directory in which a
-# header was passed over, with a `/` behind it (`/` for the root); the path of the entry that holds a taken block. None where there is none.
-Finding = collections.namedtuple("Finding", "first last cause path holder")
+# header was passed over, with a `/` behind it (`/` for the root); the path of the entry that owns a taken block. None where there is none.
+Finding = collections.namedtuple("Finding", "first last cause path owner")
 # An entry that is found: whether it is sound; the columns of `adf list`; its comment.
 Found = collections.namedtuple("Found", "is_sound is_file protection size date path comment")
 _FOUND = re.compile(r"(sound  |damaged) (dir |file) ([0-9a-f]{8}) +(\d+|-) ([\d-]+ [\d:.]+|[\d:]+) (.*)")
@@ -243,8 +243,8 @@ def _finding(text):
     blocks, cause, *told = text.split(": ")
     first, *last = map(int, blocks.split(" to "))
     path = told[0].removeprefix("in ") if told and told[0].endswith("/") else told[0] if told else None
-    holder = told[1].removeprefix("held by ") if told[1:] else None
-    return Finding(first, last[0] if last else first, cause, *(text and _plain(text) for text in (path, holder)))
+    owner = told[1].removeprefix("owned by ") if told[1:] else None
+    return Finding(first, last[0] if last else first, cause, *(text and _plain(text) for text in (path, owner)))
 
 
 def _found(mark, word, protection, size, date, path):

@@ -21,7 +21,7 @@ use Rattle.adf_volume.proofs.Gathered.{number_of}
 use Rattle.adf_survey.specs.Surveyed.{IsOfSurvey, Surveyed, TellsOf, kept_of}
 use Rattle.adf_survey.proofs.Concerning.{concerned_kept, no_concern_nth}
 use Rattle.adf_survey.proofs.HeadPlaces.{head_parent}
-use Rattle.adf_survey.proofs.Holders.{owner_is}
+use Rattle.adf_survey.proofs.BlockOwners.{owner_is}
 use Rattle.adf_survey.proofs.OneSurvey.{gathered, one_survey}
 use Rattle.adf_survey.proofs.SoundMarks.{clear_is_sound, inside, unread_none}
 use Rattle.adf_survey.proofs.Starts.{course_size}
@@ -36,7 +36,7 @@ unread_kept image items told = (
     survey = unread told;
     findings = refl;
     concerned = (λ k. sym (no_concern_nth [] (map finding_value items) k (unread_none image told)));
-    holder = (λ b. refl);
+    owner = (λ b. refl);
     node = (λ n. refl);
     parent = (λ n. refl);
     count = omega arith;
@@ -56,7 +56,7 @@ read_kept image f concerned sound (s, bits, told, bits_tell) entries marks = (
     findings = told.stands.findings;
     concerned = (λ k.
         ap (λ os. option_flatten (slice_get os k)) entries ∙ concerned_kept image f told.course bits bits_tell told.stands k);
-    holder = owner_is image (gathered image told.course) f.owners.items told.stands.owners.1;
+    owner = owner_is image (gathered image told.course) f.owners.items told.stands.owners.1;
     node = told.stands.node;
     parent = told.stands.parent;
     count = (let e = told.stands.count in omega arith);

@@ -35,7 +35,7 @@ pub mod SoundMarks
 pub mod HeadPlaces
 pub mod Concerning
 -- the entries that hold the blocks of findings
-pub mod Holders
+pub mod BlockOwners
 pub mod Keeping
 -- images to survey, and the marks that are kept
 pub mod Openings

@@ -9,7 +9,7 @@ use Rattle.adf_volume.specs.Walk.{Role}
 use Rattle.adf_volume.specs.Walk.Role.{Head, Ext, Data}
 use Rattle.adf_survey.specs.declared.concern.Concern.{Concern}
 use Rattle.adf_survey.specs.declared.concern.Concern.TheVariants.{Entry, Within}
-use Rattle.adf_survey.specs.Found.{at_key, holder}
+use Rattle.adf_survey.specs.Found.{at_key, owner}
 use Rattle.adf_survey.specs.Parts.{key_of}
 use Rattle.adf_survey.specs.Survey.{FindingValue}
 
@@ -39,9 +39,9 @@ is_taken Taken = true
 is_taken _ = false
 
 -- the entry that holds the block of a finding that it is taken
-abbrev pub holder_of : List (Role × ℕ) → FindingValue → Option ℕ
-holder_of w f = cond (is_taken f.cause) (holder w f.block) None
+abbrev pub owner_of : List (Role × ℕ) → FindingValue → Option ℕ
+owner_of w f = cond (is_taken f.cause) (owner w f.block) None
 
 -- the entry that holds the block of the finding at an index, nothing past the last
-abbrev pub holder_of_nth : List (Role × ℕ) → List FindingValue → ℕ → Option ℕ
-holder_of_nth w fs k = option_and_then (holder_of w) (slice_get fs k)
+abbrev pub owner_of_nth : List (Role × ℕ) → List FindingValue → ℕ → Option ℕ
+owner_of_nth w fs k = option_and_then (owner_of w) (slice_get fs k)

@@ -65,9 +65,9 @@ entry_in (Data n k) = Some n
 entry_in _ = None
 
 -- the entry that has the block
-abbrev pub holder : List (Role × ℕ) → ℕ → Option ℕ
-holder [] b = None
-holder (x ∷ w) b = cond (x.1 == b) (entry_in x.0) (holder w b)
+abbrev pub owner : List (Role × ℕ) → ℕ → Option ℕ
+owner [] b = None
+owner (x ∷ w) b = cond (x.1 == b) (entry_in x.0) (owner w b)
 
 -- whether the role at block c is a header of the chain with this name
 abbrev pub is_named : List ℕ → Role → ℕ → ℕ → ℕ → List ℕ → Bool
@@ -127,7 +127,7 @@ entry_number r = unwrap_or (entry_in r) 0
 
 -- the numbers of n blocks are those of the entries that have them; 0 where none has
 abbrev pub AreHeld : ℕ → List ℕ → List (Role × ℕ) → Type 0
-AreHeld n numbers w = (length numbers ≡ n) × ((b : ℕ) → slice_index_or numbers b 0 ≡ unwrap_or (holder w b) 0)
+AreHeld n numbers w = (length numbers ≡ n) × ((b : ℕ) → slice_index_or numbers b 0 ≡ unwrap_or (owner w b) 0)
 
 -- the number of extension blocks of a file
 abbrev pub exts_found : Found → ℕ → ℕ

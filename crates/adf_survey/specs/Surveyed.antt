@@ -6,7 +6,7 @@ use Rattle.adf_volume.specs.Walk.{Role, heads, node_block}
 use Rattle.adf_survey.specs.declared.concern.Concern.{Concern}
 use Rattle.adf_survey.specs.declared.part.Finding.{Finding}
 use Rattle.adf_survey.specs.Concerned.{concern_of_nth, is_taken}
-use Rattle.adf_survey.specs.Found.{holder, parent_node}
+use Rattle.adf_survey.specs.Found.{owner, parent_node}
 use Rattle.adf_survey.specs.Marks.{has_mark}
 use Rattle.adf_survey.specs.Parts.{finding_value}
 use Rattle.adf_survey.specs.Sound.{IsSound}
@@ -41,7 +41,7 @@ pub record TellsOf (v : Surveyed) (w : List (Role × ℕ)) (fs : List FindingVal
   pub survey : IsSurvey v.image w fs
   pub findings : map finding_value v.findings ≡ fs
   pub concerned : (k : ℕ) → option_flatten (slice_get v.concerned k) ≡ concern_of_nth w fs k
-  pub holder : (b : ℕ) → owner_at v.owners b ≡ holder w b
+  pub owner : (b : ℕ) → owner_at v.owners b ≡ owner w b
   pub node : (n : ℕ) → slice_index v.nodes n ≡ node_block w n
   pub parent : (n : ℕ) → slice_index v.parents n ≡ parent_node w n
   pub count : length v.nodes - 1 ≡ heads w

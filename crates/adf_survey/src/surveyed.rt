@@ -8,7 +8,7 @@ ghost use Rattle.adf_fields.specs.Words.{block};
 ghost use Rattle.adf_volume.specs.Image.{letters_of, name_of};
 ghost use Rattle.adf_volume.specs.Walk.{Has, Role, heads, node_block};
 ghost use Rattle.adf_volume.specs.Walk.Role.{Head};
-ghost use Rattle.adf_survey.specs.Concerned.{concern_of_nth, holder_of_nth};
+ghost use Rattle.adf_survey.specs.Concerned.{concern_of_nth, owner_of_nth};
 ghost use Rattle.adf_survey.specs.Files.{IsSoundFile, file_in};
 ghost use Rattle.adf_survey.specs.Found.{parent_node};
 ghost use Rattle.adf_survey.specs.Marked.{AreMarks, mark_in};
@@ -134,9 +134,9 @@ impl Survey<'_> {
     /// The entry that holds the block of finding `k`, counted from 0, if its cause is `taken`: that of a header, or the
     /// file of an extension or data block. `None` for a block of the root or the bitmap, for other causes, and past the
     /// last finding.
-    pub fn holder_of(&self, k: usize) -> Option<Node>
+    pub fn owner_of(&self, k: usize) -> Option<Node>
         ensures { (w : List (Role × ℕ)) (fs : List FindingValue) → IsSurvey self.now.image w fs
-            → result ≡ holder_of_nth w fs k }
+            → result ≡ owner_of_nth w fs k }
     {
         owner_nth(&self.owners, &self.findings, k)
     }

@@ -7,7 +7,7 @@ use Rattle.adf_blocks.specs.Causes.{cause_number, cause_text}
 use Rattle.adf_volume.specs.Walk.{Role}
 use Rattle.adf_survey.specs.declared.concern.Concern.{Concern}
 use Rattle.adf_survey.specs.declared.concern.Concern.TheVariants.{Entry, Within}
-use Rattle.adf_survey.specs.Concerned.{concern_of, holder_of}
+use Rattle.adf_survey.specs.Concerned.{concern_of, owner_of}
 use Rattle.adf_survey.specs.Lookup.{path_to}
 use Rattle.adf_survey.specs.Survey.{FindingValue}
 use Rattle.adf_texts.specs.Names.{names_text}
@@ -15,7 +15,7 @@ use Rattle.adf_survey_cmd.specs.declared.runs.Run.{Run}
 
 -- a finding by itself
 abbrev pub run_of : List (Role × ℕ) → FindingValue → Run
-run_of w f = record { first = f.block; last = f.block; cause = f.cause; concern = concern_of w f; holder = holder_of w f }
+run_of w f = record { first = f.block; last = f.block; cause = f.cause; concern = concern_of w f; owner = owner_of w f }
 
 -- the findings concern the same, or nothing
 abbrev pub are_one : Option Concern → Option Concern → Bool
@@ -25,18 +25,18 @@ are_one (Some (Within n)) (Some (Within m)) = n == m
 are_one _ _ = false
 
 -- one entry holds the blocks, or none
-abbrev pub are_held_alike : Option ℕ → Option ℕ → Bool
-are_held_alike None None = true
-are_held_alike (Some n) (Some m) = n == m
-are_held_alike _ _ = false
+abbrev pub are_owned_alike : Option ℕ → Option ℕ → Bool
+are_owned_alike None None = true
+are_owned_alike (Some n) (Some m) = n == m
+are_owned_alike _ _ = false
 
 -- the block is the one behind the run, or the run's only one
 abbrev pub is_beside : Run → ℕ → Bool
 is_beside r b = (r.last + 1 == b) || ((r.first == b) && (r.last == b))
 
--- the run goes on with another, of one finding: the cause, what is concerned and the holder are the same, and the block is beside
+-- the run goes on with another, of one finding: the cause, what is concerned and the owner are the same, and the block is beside
 abbrev pub continues : Run → Run → Bool
-continues r s = (cause_number r.cause == cause_number s.cause) && (are_one r.concern s.concern && (are_held_alike r.holder s.holder && is_beside r s.first))
+continues r s = (cause_number r.cause == cause_number s.cause) && (are_one r.concern s.concern && (are_owned_alike r.owner s.owner && is_beside r s.first))
 
 -- the runs of findings behind a run
 unfoldable pub runs_from : List (Role × ℕ) → Run → List FindingValue → List Run
@@ -61,15 +61,15 @@ concern_text image w (Some (Entry n)) = codes ": " ++ names_text (path_to image 
 concern_text image w (Some (Within n)) = codes ": in " ++ (names_text (path_to image w n) ++ codes "/")
 
 -- the path of the entry that holds the blocks of a run
-abbrev pub holder_text : List ℕ → List (Role × ℕ) → Option ℕ → List ℕ
-holder_text image w None = []
-holder_text image w (Some n) = codes ": held by " ++ names_text (path_to image w n)
+abbrev pub owner_text : List ℕ → List (Role × ℕ) → Option ℕ → List ℕ
+owner_text image w None = []
+owner_text image w (Some n) = codes ": owned by " ++ names_text (path_to image w n)
 
 -- the line of a run
 abbrev pub findings_line : List ℕ → List (Role × ℕ) → Run → List ℕ
 findings_line image w r =
     blocks_text r.first r.last
-    ++ (codes ": " ++ (cause_text r.cause ++ (concern_text image w r.concern ++ (holder_text image w r.holder ++ codes "\n"))))
+    ++ (codes ": " ++ (cause_text r.cause ++ (concern_text image w r.concern ++ (owner_text image w r.owner ++ codes "\n"))))
 
 -- the lines of findings behind a run
 abbrev pub lines_from : List ℕ → List (Role × ℕ) → Run → List FindingValue → List ℕ

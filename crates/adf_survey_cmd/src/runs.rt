@@ -3,13 +3,13 @@
 ghost use Rattle.std.specs.Prelude.{◌≡◌, ◌++◌, ◌∷◌, ℕ, List, IfOk, OnErr, OnOk, codes, false};
 ghost use Rattle.std.specs.Io.KnownBytes.{Appends};
 ghost use Rattle.adf_volume.specs.Walk.{Role};
-ghost use Rattle.adf_survey.specs.Concerned.{concern_of, holder_of};
+ghost use Rattle.adf_survey.specs.Concerned.{concern_of, owner_of};
 ghost use Rattle.adf_survey.specs.Lookup.{path_to};
 ghost use Rattle.adf_survey.specs.Parts.{finding_value};
 ghost use Rattle.adf_survey.specs.Survey.{FindingValue, IsSurvey};
 ghost use Rattle.adf_texts.specs.Names.{names_text};
 ghost use Rattle.adf_cmd.specs.Streams.{AppendsPart, KeepsPending, is_device};
-ghost use Rattle.adf_survey_cmd.specs.Lines.{are_held_alike, are_one, blocks_text, concern_text, continues, findings_text, is_beside, lines_from, findings_line, holder_text, run_of};
+ghost use Rattle.adf_survey_cmd.specs.Lines.{are_owned_alike, are_one, blocks_text, concern_text, continues, findings_text, is_beside, lines_from, findings_line, owner_text, run_of};
 
 use adf_blocks::Cause;
 use adf_cmd::{Sink, StreamFault, flush_long, write_all};
@@ -25,7 +25,7 @@ pub struct Run {
     pub last: u32,
     pub cause: Cause,
     pub concern: Option<Concern>,
-    pub holder: Option<Node>,
+    pub owner: Option<Node>,
 }
 
 // Whether the findings concern the same, or nothing.
@@ -41,8 +41,8 @@ fn are_one(a: Option<Concern>, b: Option<Concern>) -> bool
 }
 
 // Whether one entry holds the blocks, or none.
-fn are_held_alike(a: Option<Node>, b: Option<Node>) -> bool
-    ensures { result ≡ are_held_alike a b }
+fn are_owned_alike(a: Option<Node>, b: Option<Node>) -> bool
+    ensures { result ≡ are_owned_alike a b }
 {
     match (a, b) {
         (None, None) => true,
@@ -53,9 +53,9 @@ fn are_held_alike(a: Option<Node>, b: Option<Node>) -> bool
 
 impl Run {
     // A finding by itself, with what it concerns and the entry that holds its block.
-    fn of(finding: &Finding, concern: Option<Concern>, holder: Option<Node>) -> Run
+    fn of(finding: &Finding, concern: Option<Concern>, owner: Option<Node>) -> Run
         ensures { (w : List (Role × ℕ)) → concern ≡ concern_of w (finding_value finding.now)
-            → holder ≡ holder_of w (finding_value finding.now)
+            → owner ≡ owner_of w (finding_value finding.now)
             → result ≡ run_of w (finding_value finding.now) }
     {
         Run {
@@ -63,7 +63,7 @@ impl Run {
             last: finding.block,
             cause: finding.cause,
             concern,
-            holder,
+            owner,
         }
     }
 
@@ -82,7 +82,7 @@ impl Run {
         let is_same = self.cause.number() == next.cause.number();
         is_same
             && are_one(self.concern, next.concern)
-            && are_held_alike(self.holder, next.holder)
+            && are_owned_alike(self.owner, next.owner)
             && self.is_beside(next.first)
     }
 }
@@ -146,20 +146,20 @@ fn push_concern(
 }
 
 // Appends the entry that holds a block, where there is one.
-fn push_holder(
+fn push_owner(
     alloc: Global,
     survey: &Survey<'_>,
-    holder: Option<Node>,
+    owner: Option<Node>,
     text: &mut Vec<u8>,
 ) -> Result<(), AllocError>
     ensures { (w : List (Role × ℕ)) (fs : List FindingValue) → IsSurvey survey.now.image w fs
         → OnOk result
-        (text.new.items ≡ text.old.items ++ holder_text survey.now.image w holder) }
+        (text.new.items ≡ text.old.items ++ owner_text survey.now.image w owner) }
 {
-    let Some(n) = holder else {
+    let Some(n) = owner else {
         return Ok(());
     };
-    text.extend_from_slice(b": held by ")?;
+    text.extend_from_slice(b": owned by ")?;
     push_path(alloc, survey, n, text)
 }
 
@@ -177,7 +177,7 @@ fn push_run(
     push_blocks(text, run.first, run.last)?;
     text.extend_from_slice(run.cause.text().as_bytes())?;
     push_concern(alloc, survey, run.concern, text)?;
-    push_holder(alloc, survey, run.holder, text)?;
+    push_owner(alloc, survey, run.owner, text)?;
     text.extend_from_slice(b"\n")
 }
 
@@ -254,9 +254,9 @@ pub fn write_runs<W: Sink>(
         return Ok(());
     };
     let mut text = Vec::new(alloc);
-    let mut run = Run::of(first, survey.concern_of(0), survey.holder_of(0));
+    let mut run = Run::of(first, survey.concern_of(0), survey.owner_of(0));
     for (i, finding) in others.iter().enumerate() {
-        let next = Run::of(finding, survey.concern_of(i + 1), survey.holder_of(i + 1));
+        let next = Run::of(finding, survey.concern_of(i + 1), survey.owner_of(i + 1));
         run = tell_finding(alloc, survey, run, next, &mut text, output)?;
     }
     push_run(alloc, survey, &run, &mut text)?;

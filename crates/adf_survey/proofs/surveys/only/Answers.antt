@@ -21,6 +21,11 @@ new-requires-in-Ok-5 c =
     let told : map finding_value c.push.new.self.items ≡ unread_findings c.args.unread =
     ap (map finding_value) c.in-Ok.ensures.items ∙ (map-append finding_value boot (x ∷ []) ∙ noted) in
     subst (λ (x : List (Option Concern) × List ℕ × List ℕ × List ℕ × List Bool). IsOfSurvey (kept_of image c.push.new.self.items x.0 x.1 x.2 x.3 x.4))
-    (λ t. (sym c.new.ensures.items t, sym c.new-in-Ok.ensures.items t, sym c.new-in-Ok-2.ensures.items t,
-    sym c.new-in-Ok-3.ensures.items t, sym c.new-in-Ok-4.ensures.items t))
+    (λ t. (
+      sym c.new.ensures.items t,
+      sym c.new-in-Ok.ensures.items t,
+      sym c.new-in-Ok-2.ensures.items t,
+      sym c.new-in-Ok-3.ensures.items t,
+      sym c.new-in-Ok-4.ensures.items t,
+    ))
     (unread_kept image c.push.new.self.items (subst (UnreadTells image) (sym told) c.requires))

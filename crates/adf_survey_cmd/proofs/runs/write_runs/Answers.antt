@@ -1,7 +1,7 @@
 use Rattle.std.specs.Prelude.{None}
 use Rattle.std.proofs.Common.{◌+◌, arith, drop, get_or, map, rules}
 use Rattle.adf_blocks.specs.declared.cause.Cause.TheVariants.{BadSize}
-use Rattle.adf_survey.specs.Concerned.{concern_of, holder_of}
+use Rattle.adf_survey.specs.Concerned.{concern_of, owner_of}
 use Rattle.adf_survey.specs.Parts.{finding_value}
 use Rattle.adf_survey.specs.declared.part.Finding.{Finding}
 use Rattle.adf_cmd.proofs.PendingText.{on_err, pending_begun, pending_end}
@@ -17,8 +17,8 @@ loop-i-init g c = record {
       let all = c.findings.ensures w fs survey in
       let split = c.in-Some.ensures.cases.0 in
       let concern = told_first image w fs _ _ _ all split (concern_of w) c.concern_of.result (c.concern_of.ensures w fs survey) in
-      let holder = told_first image w fs _ _ _ all split (holder_of w) c.holder_of.result (c.holder_of.ensures w fs survey) in
-      pending_begun _ _ _ (runs_begun image w fs _ _ _ all split c.of-run.result _ (c.of-run.ensures w concern holder) c.new-text.ensures.items);
+      let owner = told_first image w fs _ _ _ all split (owner_of w) c.owner_of.result (c.owner_of.ensures w fs survey) in
+      pending_begun _ _ _ (runs_begun image w fs _ _ _ all split c.of-run.result _ (c.of-run.ensures w concern owner) c.new-text.ensures.items);
 }
 
 pub loop-i-preserved : goal.loop-i-preserved
@@ -33,10 +33,10 @@ loop-i-preserved g c = record {
       let none : Finding = record { part = None; block = 0; cause = BadSize } in
       let concern = told_later image w fs _ _ _ all split (concern_of w) i none c.concern_of-in-loop-i.result (omega arith)
       (c.concern_of-in-loop-i.ensures w fs survey) in
-      let holder = told_later image w fs _ _ _ all split (holder_of w) i none c.holder_of-in-loop-i.result (omega arith)
-      (c.holder_of-in-loop-i.ensures w fs survey) in
+      let owner = told_later image w fs _ _ _ all split (owner_of w) i none c.owner_of-in-loop-i.result (omega arith)
+      (c.owner_of-in-loop-i.ensures w fs survey) in
       let later = map finding_value (drop (i + 1) others) in
-      let step = c.in_ok-run.ensures.ok w fs survey (finding_value (get_or others i none)) later (c.of-next.ensures w concern holder) in
+      let step = c.in_ok-run.ensures.ok w fs survey (finding_value (get_or others i none)) later (c.of-next.ensures w concern owner) in
       step _ _ (runs_next image w others _ _ _ _ c.loop-i.run i none (omega arith) (c.loop-i.invariant.so_far w fs survey));
 }
 
@@ -50,10 +50,10 @@ returns-in_err-run-clause-err g c = λ w fs survey.
     let none : Finding = record { part = None; block = 0; cause = BadSize } in
     let concern = told_later image w fs _ _ _ all split (concern_of w) i none c.concern_of-in-loop-i.result (omega arith)
     (c.concern_of-in-loop-i.ensures w fs survey) in
-    let holder = told_later image w fs _ _ _ all split (holder_of w) i none c.holder_of-in-loop-i.result (omega arith)
-    (c.holder_of-in-loop-i.ensures w fs survey) in
+    let owner = told_later image w fs _ _ _ all split (owner_of w) i none c.owner_of-in-loop-i.result (omega arith)
+    (c.owner_of-in-loop-i.ensures w fs survey) in
     let later = map finding_value (drop (i + 1) others) in
-    let step = c.in_err-run.ensures.err w fs survey (finding_value (get_or others i none)) later (c.of-next.ensures w concern holder) in
+    let step = c.in_err-run.ensures.err w fs survey (finding_value (get_or others i none)) later (c.of-next.ensures w concern owner) in
     on_err c.from_residual.result (pending_breaks _ _ _ _ _
     (runs_next image w others _ _ _ _ c.loop-i.run i none (omega arith) (c.loop-i.invariant.so_far w fs survey)) step)
 

@@ -1,4 +1,4 @@
--- The entries kept for blocks are those that hold them.
+-- The entries kept for blocks are those that own them.
 use Rattle.std.specs.Prelude.{true, false, cond, ◌==◌, Some, None, map, slice_get, slice_index_or}
 use Rattle.std.specs.Option.{option_and_then, unwrap_or}
 use Rattle.std.proofs.Common.{◌≡◌, ℕ, zero, suc, List, [], ◌∷◌, Option, ◌≤◌, inl, inr, refl, sym, ap, ◌∙◌, arith}
@@ -11,8 +11,8 @@ use Rattle.adf_volume.proofs.Gathered.{IsGathered, asked_file, number_of}
 use Rattle.adf_volume.proofs.Gathered.IsGathered.{start, step}
 use Rattle.adf_volume.proofs.Roles.{asks_number}
 use Rattle.adf_survey.specs.declared.part.Finding.{Finding}
-use Rattle.adf_survey.specs.Concerned.{holder_of, is_taken}
-use Rattle.adf_survey.specs.Found.{entry_in, holder}
+use Rattle.adf_survey.specs.Concerned.{owner_of, is_taken}
+use Rattle.adf_survey.specs.Found.{entry_in, owner}
 use Rattle.adf_survey.specs.Parts.{finding_value}
 use Rattle.adf_survey.specs.Surveyed.{owner_at, owner_for}
 
@@ -43,24 +43,24 @@ module _ (image : List ℕ) where
   asked_number v (MapExt j) a i n d e = cc
 
   -- an entry that holds a block has a number from 1
-  holder_number : {w : List (Role × ℕ)} → IsGathered image w → (b n : ℕ) → holder w b ≡ Some n → 1 ≤ n
-  holder_number (start) b n e = elim (cases_Bool (root_of image == b)) [
+  owner_number : {w : List (Role × ℕ)} → IsGathered image w → (b n : ℕ) → owner w b ≡ Some n → 1 ≤ n
+  owner_number (start) b n e = elim (cases_Bool (root_of image == b)) [
     | inl y ↦ (let z : cond true (entry_in Root) None ≡ Some n = ap (λ t. cond t (entry_in Root) None) (sym y) ∙ e in cc)
     | inr y ↦ (let z : cond false (entry_in Root) None ≡ Some n = ap (λ t. cond t (entry_in Root) None) (sym y) ∙ e in cc)
   ]
-  holder_number (step {w = w} {r = r} a i c v d l) b n e = elim (cases_Bool (c == b)) [
-    | inl y ↦ asked_number v r a i n d (ap (λ t. cond t (entry_in r) (holder w b)) (sym y) ∙ e)
-    | inr y ↦ holder_number v b n (ap (λ t. cond t (entry_in r) (holder w b)) (sym y) ∙ e)
+  owner_number (step {w = w} {r = r} a i c v d l) b n e = elim (cases_Bool (c == b)) [
+    | inl y ↦ asked_number v r a i n d (ap (λ t. cond t (entry_in r) (owner w b)) (sym y) ∙ e)
+    | inr y ↦ owner_number v b n (ap (λ t. cond t (entry_in r) (owner w b)) (sym y) ∙ e)
   ]
 
   -- the entry kept for a block is the one that holds it
-  pub owner_is : {w : List (Role × ℕ)} → IsGathered image w → (owners : List ℕ) → ((b : ℕ) → slice_index_or owners b 0 ≡ unwrap_or (holder w b) 0)
-      → (b : ℕ) → owner_at owners b ≡ holder w b
-  owner_is {w = w} v owners h b = ap (λ n. cond (n == 0) None (Some n)) (h b) ∙ from_number (holder w b) (holder_number v b)
+  pub owner_is : {w : List (Role × ℕ)} → IsGathered image w → (owners : List ℕ) → ((b : ℕ) → slice_index_or owners b 0 ≡ unwrap_or (owner w b) 0)
+      → (b : ℕ) → owner_at owners b ≡ owner w b
+  owner_is {w = w} v owners h b = ap (λ n. cond (n == 0) None (Some n)) (h b) ∙ from_number (owner w b) (owner_number v b)
 
 -- of each finding that its block is taken the entry is the one that holds the block
-pub holder_at : (w : List (Role × ℕ)) (owners : List ℕ) → ((b : ℕ) → owner_at owners b ≡ holder w b) → (xs : List Finding) (k : ℕ)
-    → option_and_then (owner_for owners) (slice_get xs k) ≡ option_and_then (holder_of w) (slice_get (map finding_value xs) k)
-holder_at w owners h [] k = refl
-holder_at w owners h (x ∷ xs) zero = ap (λ o. cond (is_taken x.cause) o None) (h x.block)
-holder_at w owners h (x ∷ xs) (suc k) = holder_at w owners h xs k
+pub owner_nth_is : (w : List (Role × ℕ)) (owners : List ℕ) → ((b : ℕ) → owner_at owners b ≡ owner w b) → (xs : List Finding) (k : ℕ)
+    → option_and_then (owner_for owners) (slice_get xs k) ≡ option_and_then (owner_of w) (slice_get (map finding_value xs) k)
+owner_nth_is w owners h [] k = refl
+owner_nth_is w owners h (x ∷ xs) zero = ap (λ o. cond (is_taken x.cause) o None) (h x.block)
+owner_nth_is w owners h (x ∷ xs) (suc k) = owner_nth_is w owners h xs k
