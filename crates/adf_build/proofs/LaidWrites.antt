@@ -25,7 +25,7 @@ use Rattle.adf_volume.specs.Layout.{nodes_from}
 use Rattle.adf_volume.proofs.Lists.{in_cases, at_below, at_index_or}
 use Rattle.adf_volume.proofs.Sizes.{size_low, size_high}
 use Rattle.adf_volume.proofs.DistinctBlocks.{Distinct, distinct-append}
-use Rattle.adf_build.specs.Plan.{reserved, entry_blocks, entries_blocks, blocks_needed, nth_free, allocated}
+use Rattle.adf_build.specs.Plan.{reserved, entry_blocks, entries_blocks, blocks_needed, allocated}
 use Rattle.adf_build.specs.Bits.{bits_from, is_free_bit, page_words}
 use Rattle.adf_build.specs.Writes.{AreBlocks, NoneTwice, HoldsBlocks, numbers_of}
 use Rattle.adf_build.specs.Laid.{IsLaid, IsWellFormed, boot_bytes, entries_writes, first_block, heads_from, listed_pages, map_ext_or_none}

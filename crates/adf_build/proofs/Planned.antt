@@ -13,7 +13,7 @@ use Rattle.adf_volume.specs.Layout.{owned_from, owned}
 use Rattle.adf_volume.specs.declared.owner.Owner.{Owner}
 use Rattle.adf_volume.proofs.DistinctBlocks.{blocks_of, blocks_of-append, blocks_of-numbered, block_in, Distinct, distinct_blocks, distinct-append}
 use Rattle.adf_volume.proofs.Lists.{in_cases}
-use Rattle.adf_build.specs.Plan.{reserved, nth_free, allocated, exts_needed, data_blocks, entries_blocks, blocks_needed, places_from, planned}
+use Rattle.adf_build.specs.Plan.{reserved, allocated, exts_needed, data_blocks, entries_blocks, blocks_needed, places_from, planned}
 use Rattle.adf_build.proofs.AllocatedBlocks.{length_allocated, free_from, free_below, free_apart, reserved_below, in_allocated, allocated-append}
 use Rattle.adf_build.proofs.AllocatedBlocks.{distinct_allocated, in_range}
 use Rattle.adf_build.proofs.AllocatedBlocks.{distinct_range, range_with_len-append}

@@ -16,7 +16,7 @@ use Rattle.std.specs.List.{flat_map}
 use Rattle.adf_manifest.specs.Manifest.{EndsInFile, HasBadText, HasFault, HasFaultOf, HasNoRoom, IsBare, IsFirstFault, IsLaterFault, IsWell}
 use Rattle.adf_manifest.specs.Manifest.{Manifest, MayStandNext, MayStand, items_of, label_lines, manifest_lines, manifest_tree, stamps_lines}
 use Rattle.adf_manifest.specs.declared.manifest.ManifestKind.{ManifestKind}
-use Rattle.adf_manifest.specs.declared.manifest.ManifestKind.TheVariants.{BadLine, BadSize, BadText, NoParent, ParentIsFile, Exists, NoMemory}
+use Rattle.adf_manifest.specs.declared.manifest.ManifestKind.TheVariants.{BadLine, BadSize, BadText, NoParent, ParentIsFile, Exists}
 use Rattle.adf_manifest.proofs.Forms.{line_same}
 use Rattle.adf_manifest.proofs.LastLines.{Adds, IsFirst, ends, last_line}
 use Rattle.adf_manifest.proofs.Verdicts.{first_lines, heads, one_volume, one_told, rests, small, some_lines}

@@ -1,5 +1,5 @@
 -- A text has at most one form, and one content.
-use Rattle.std.proofs.Common.{◌≡◌, ◌<◌, ◌^◌, ◌+◌, ◌*◌, ◌==◌, ◌++◌, ◌∙◌, ℕ, false, List, [], ◌∷◌, refl, sym, ap, arith, codes, slice_index}
+use Rattle.std.proofs.Common.{◌≡◌, ◌<◌, ◌^◌, ◌+◌, ◌*◌, ◌==◌, ◌∙◌, ℕ, false, List, [], refl, sym, ap, arith, codes, slice_index}
 use Rattle.std.specs.Fmt.{decimal}
 use Rattle.std.proofs.lemmas.Fmt.{decimal_injective}
 use Rattle.std.proofs.lemmas.Bool.Decides.{nat_tests}
@@ -9,7 +9,7 @@ use Rattle.adf_fields.specs.declared.dates.Stamp.{Stamp}
 use Rattle.adf_tree.specs.declared.entry.Stamps.{Stamps}
 use Rattle.adf_manifest.specs.Tokens.{stamps_text}
 use Rattle.adf_tree.specs.Bounds.{AreStamps}
-use Rattle.adf_manifest.specs.Texts.{hex_word, pair, pairs, unpaired}
+use Rattle.adf_manifest.specs.Texts.{pairs, unpaired}
 use Rattle.adf_manifest.specs.Lines.{IsLine, IsRun, LineValue, LabelLine, StampsLine, EntryLine, NoteLine, RunLine, DataRun, FillRun, fields_text, fill_line}
 use Rattle.adf_manifest.specs.Lines.{line_text, stamps_line}
 use Rattle.adf_manifest.specs.declared.lines.Sort.{Sort}

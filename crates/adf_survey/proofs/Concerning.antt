@@ -1,8 +1,7 @@
 -- The entries kept for the findings are those that they concern.
 use Rattle.std.specs.Prelude.{Some, None, cond, is_some, map, slice_get}
 use Rattle.std.specs.Option.{option_and_then, option_flatten}
-use Rattle.std.proofs.Common.{false, ◌≡◌, ℕ, zero, suc, List, [], ◌∷◌, ◌++◌, Option, inl, inr, refl, sym, ap, subst, ◌∙◌}
-use Rattle.std.proofs.lemmas.Bool.{cases_Bool}
+use Rattle.std.proofs.Common.{◌≡◌, ℕ, zero, suc, List, [], ◌∷◌, ◌++◌, Option, inl, inr, refl, sym, ap, subst, ◌∙◌}
 use Rattle.adf_volume.specs.Lists.{In}
 use Rattle.adf_volume.specs.Walk.{Role, Lacks}
 use Rattle.adf_volume.specs.Walk.Role.{Head}
@@ -18,11 +17,10 @@ use Rattle.adf_survey.specs.Found.{Stands, at_key}
 use Rattle.adf_survey.specs.Marks.{blamed, is_header}
 use Rattle.adf_survey.specs.Parts.{key_of, part_role, finding_value}
 use Rattle.adf_survey.specs.Survey.{BitsTell, Course, FindingValue, IsCourse}
-use Rattle.adf_survey.proofs.HeadPlaces.{found_header, header_found}
+use Rattle.adf_survey.proofs.HeadPlaces.{header_found}
 use Rattle.adf_survey.proofs.Keys.{at_lacks}
 use Rattle.adf_survey.proofs.OneSurvey.{gathered}
 use Rattle.adf_survey.proofs.SoundMarks.{apart, in_values, passed_header, settled, taken_at}
-use Rattle.adf_volume.proofs.Roles.{same_refl}
 
 -- what holds of each finding holds at each place
 at_places : (g : Finding → Option Concern) (h : FindingValue → Option Concern) (xs : List Finding) → ((x : Finding) → In xs x → g x ≡ h (finding_value x)) → (k : ℕ)

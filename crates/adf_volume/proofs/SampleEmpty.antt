@@ -2,14 +2,14 @@
 use Rattle.std.proofs.Common.{◌≡◌, ℕ, zero, suc, inl, inr, ◌+◌, ◌-◌, ◌/◌, ◌%◌, ◌<◌, ◌≤◌, refl, sym, ap, subst, ◌∙◌, arith}
 use Rattle.adf_fields.specs.Words.{block, word, words}
 use Rattle.adf_tree.specs.declared.entry.Entry.{Entry}
-use Rattle.adf_tree.specs.Tree.{Tree, IsDir}
+use Rattle.adf_tree.specs.Tree.{IsDir}
 use Rattle.adf_volume.specs.declared.owner.Owner.{Owner}
 use Rattle.adf_volume.specs.Lists.{At, In, NoBlockTwice}
 use Rattle.adf_volume.specs.Image.{word_in, root_of, kind_of, name_of, stamps_of, map_exts_needed, IsFreeAt}
 use Rattle.adf_blocks.specs.PageBlock.{page_form}
 use Rattle.adf_blocks.specs.RootBlock.{root_form}
 use Rattle.adf_volume.specs.Demands.{AllHold, boot_demands, boot_form, root_demands, page_demands}
-use Rattle.adf_volume.specs.Layout.{Layout, EntryAt, at_node, owned}
+use Rattle.adf_volume.specs.Layout.{EntryAt, at_node, owned}
 use Rattle.adf_volume.specs.Fits.{Fits, IsFree}
 use Rattle.adf_volume.specs.Samples.{tiny, tiny_root, tiny_tree, tiny_layout}
 use Rattle.adf_volume.proofs.FormDemands.{all_demanded}
