@@ -15,7 +15,7 @@ use std::alloc::Global;
 /// Returns the exit status:
 ///
 /// - 0 if there are no findings, or the bytes of a sound file are written;
-/// - 1 if findings are written, or the path leads to no sound file: the errors say why;
+/// - 1 if findings are written to the output; of `cat`, if the path leads to no sound file, which the errors say;
 /// - 2 if the words or the path are refused: the errors say which, nothing is read, and the output is empty;
 /// - 3 if the output is too small or memory ran out: the errors say which.
 pub fn run_survey(
