@@ -1,7 +1,6 @@
 -- What the blocks of a table hold, whatever the table is.
 use Rattle.std.specs.Prelude.{◌≡◌, ◌+◌, ◌-◌, ◌*◌, ◌/◌, ◌%◌, ◌≤◌, ◌<◌, ℕ, List, [], ◌∷◌, ◌++◌, min, get_or, length, take, drop}
 use Rattle.std.proofs.Common.{zero, suc, refl, sym, ap, ◌∙◌, arith, inl, inr, length-append, length-drop, length-take}
-use Rattle.std.proofs.Math.ListN.{drop_of_length-le}
 use Rattle.std.proofs.Math.Seq.{drop-append-add, drop-cons, drop-nil, take-add, take-append_seam}
 use Rattle.std.proofs.lemmas.Bool.{cases_lt, cond_above, cond_below}
 use Rattle.std.proofs.lemmas.List.{drop-append-le, drop-drop, take-take, take_rest}
@@ -118,21 +117,6 @@ bytes_here image table held kind at size same lt le is =
     ∙ ap (λ bs. drop (at % size) (joined image kind bs)) (front_more image b rest (omega arith))
     ∙ drop-append-le (at % size) (area kind (block image b)) (joined image kind (front_blocks image rest)) low
     ∙ ap (λ h. drop (at % size) h ++ joined image kind (front_blocks image rest)) (sym is)
-
--- past the end of the table there is nothing
-pub bytes_past : (image table : List ℕ) (kind : Kind) (at size : ℕ) → size ≡ chunk kind → length table ≤ at / size → bytes_from image kind table at ≡ []
-bytes_past image table kind at size same le =
-    from_block image table kind at size same
-    ∙ ap (λ bs. drop (at % size) (joined image kind (front_blocks image bs))) (drop_of_length-le table le) ∙ drop-nil (at % size)
-
--- nor where the image does not have the block
-pub bytes_outside : (image table : List ℕ) (kind : Kind) (at size : ℕ) → size ≡ chunk kind → at / size < length table
-    → length image < get_or table (at / size) 0 * 512 + 512 → bytes_from image kind table at ≡ []
-bytes_outside image table kind at size same lt out =
-    from_block image table kind at size same
-    ∙ ap (λ bs. drop (at % size) (joined image kind (front_blocks image bs))) (drop-cons table (at / size) 0 lt)
-    ∙ ap (λ bs. drop (at % size) (joined image kind bs)) (front_none image (get_or table (at / size) 0) (drop (suc (at / size)) table) (omega arith))
-    ∙ drop-nil (at % size)
 
 -- an image without a block has nothing
 pub bytes_of_no_block : (image table : List ℕ) (kind : Kind) (at : ℕ) → length image < 512 → bytes_from image kind table at ≡ []
