@@ -24,46 +24,66 @@ static void begin(void) {
 }
 
 static int refused(const char *name) {
-    if (!is_ready) begin();
+    if (!is_ready)
+        begin();
     return strcmp(kind, name) == 0 && ++calls == at;
 }
 
 __attribute__((destructor)) static void report(void) {
     const char *file = getenv("REPORT");
-    if (!file) return;
+    if (!file)
+        return;
     char text[32];
     int length = snprintf(text, sizeof text, "%ld", calls);
     int out = open(file, O_WRONLY | O_CREAT | O_TRUNC, 0600);
     ssize_t (*real)(int, const void *, size_t) = dlsym(RTLD_NEXT, "write");
-    if (out >= 0) real(out, text, length);
+    if (out >= 0)
+        real(out, text, length);
 }
 
 void *malloc(size_t size) {
     static void *(*real)(size_t);
-    if (!real) real = dlsym(RTLD_NEXT, "malloc");
-    if (refused("grow")) { errno = ENOMEM; return NULL; }
+    if (!real)
+        real = dlsym(RTLD_NEXT, "malloc");
+    if (refused("grow")) {
+        errno = ENOMEM;
+        return NULL;
+    }
     return real(size);
 }
 
 void *realloc(void *old, size_t size) {
     static void *(*real)(void *, size_t);
-    if (!real) real = dlsym(RTLD_NEXT, "realloc");
-    if (refused("grow")) { errno = ENOMEM; return NULL; }
+    if (!real)
+        real = dlsym(RTLD_NEXT, "realloc");
+    if (refused("grow")) {
+        errno = ENOMEM;
+        return NULL;
+    }
     return real(old, size);
 }
 
 ssize_t read(int from, void *into, size_t size) {
     static ssize_t (*real)(int, void *, size_t);
-    if (!real) real = dlsym(RTLD_NEXT, "read");
-    if (refused("read")) { errno = EIO; return -1; }
+    if (!real)
+        real = dlsym(RTLD_NEXT, "read");
+    if (refused("read")) {
+        errno = EIO;
+        return -1;
+    }
     return real(from, into, is_short && size > 1 ? 1 : size);
 }
 
 ssize_t write(int to, const void *bytes, size_t size) {
     static ssize_t (*real)(int, const void *, size_t);
-    if (!real) real = dlsym(RTLD_NEXT, "write");
-    if (to == 1 && refused("write")) { errno = EIO; return -1; }
-    if (to == 1 && refused("full")) return 0;
+    if (!real)
+        real = dlsym(RTLD_NEXT, "write");
+    if (to == 1 && refused("write")) {
+        errno = EIO;
+        return -1;
+    }
+    if (to == 1 && refused("full"))
+        return 0;
     return real(to, bytes, is_short && size > 1 ? 1 : size);
 }
 

@@ -1,3 +1,4 @@
+# shellcheck shell=sh
 # What drafts and tree_add share: `measure NAME` makes a repository of its own in a temporary folder, with the program that
 # standard input gives over adf_tree, builds it and runs it.
 
@@ -22,6 +23,6 @@ measure() {
         echo "$1: adf_fields adf_tree"
     } >"$work/crates.txt"
     cp "$top/HANDLES" "$work/HANDLES"
-    cd "$work/crates/$1"
+    cd "$work/crates/$1" || exit
     rt run
 }

@@ -10,8 +10,7 @@
 #include "adf.h"
 
 /* The bytes of a file, at the front of a buffer that grows; -1 where it cannot be read. */
-static ssize_t read_whole(const char *name, uint8_t **buffer, size_t *room)
-{
+static ssize_t read_whole(const char *name, uint8_t **buffer, size_t *room) {
     int file = open(name, O_RDONLY);
     size_t length = 0;
     ssize_t count = -1;
@@ -33,8 +32,7 @@ static ssize_t read_whole(const char *name, uint8_t **buffer, size_t *room)
     return count == 0 ? (ssize_t)length : -1;
 }
 
-int main(void)
-{
+int main(void) {
     uint8_t *buffer = NULL;
     char *name = NULL;
     size_t room = 0, name_room = 0;

@@ -47,9 +47,7 @@ static void check(void) {
     sum += adf_check(image, length, &verdict);
 }
 
-static void make_tables(void) {
-    sum += adf_index(image, length, entries, length / 512, blocks, length / 512, &contents);
-}
+static void make_tables(void) { sum += adf_index(image, length, entries, length / 512, blocks, length / 512, &contents); }
 
 static void read_parts(void) {
     for (int i = 0; i < READS; i++) {

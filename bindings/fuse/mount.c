@@ -31,6 +31,7 @@ enum { SOUND = 0, REFUSED = 1, USAGE = 2, FAILED = 3 };
 static const size_t MOST_BYTES = (size_t)512 * 1048576 + 1;
 
 static struct volume {
+    bool is_escaped;
     uint8_t *image;
     size_t length;
     struct adf_entry *entries;
@@ -38,7 +39,12 @@ static struct volume {
     struct adf_contents contents;
 } volume;
 
-/* The name of an entry as the host sees it: the escape form, where a name of one or two dots is escaped whole. */
+/* Whether a byte of a name stands for itself, as a letter of Latin-1; with the option `escape` only those of ASCII do. */
+static bool has_letter(uint8_t byte) {
+    return byte != '\\' && ((32 <= byte && byte <= 126) || (byte >= 160 && !volume.is_escaped));
+}
+
+/* The name of an entry as the host sees it: letters in UTF-8, all other bytes, and a name of one or two dots, in the escape form. */
 static void show_name(const struct adf_entry *entry, char text[NAME_TEXT]) {
     size_t length = entry->name_length, dots = 0;
     while (dots < length && entry->name[dots] == '.')
@@ -46,9 +52,29 @@ static void show_name(const struct adf_entry *entry, char text[NAME_TEXT]) {
     bool is_special = dots == length && dots <= 2;
     for (size_t i = 0; i < length; i++) {
         uint8_t byte = entry->name[i];
-        bool is_plain = 32 <= byte && byte <= 126 && byte != '\\' && !is_special;
-        text += sprintf(text, is_plain ? "%c" : "\\x%02x", byte);
+        if (is_special || !has_letter(byte))
+            text += sprintf(text, "\\x%02x", byte);
+        else if (byte < 128)
+            text += sprintf(text, "%c", byte);
+        else
+            text += sprintf(text, "%c%c", 0xc0 | byte >> 6, 0x80 | (byte & 0x3f));
     }
+    *text = '\0';
+}
+
+/* A name of the host in the escape form: letters of Latin-1 in UTF-8 are two bytes, of which the first is 0xc2 or 0xc3. What is
+ * no letter of Latin-1 stays, and is no name of an Amiga. */
+static char *escape_name(const char *name, size_t length, char *escaped) {
+    for (size_t i = 0; i < length; i++) {
+        uint8_t lead = (uint8_t)name[i], next = i + 1 < length ? (uint8_t)name[i + 1] : 0;
+        if (!volume.is_escaped && (lead == 0xc2 || lead == 0xc3) && 0x80 <= next && next <= 0xbf) {
+            escaped += sprintf(escaped, "\\x%02x", (lead & 3) << 6 | (next & 0x3f));
+            i++;
+        } else {
+            *escaped++ = name[i];
+        }
+    }
+    return escaped;
 }
 
 /* A path of the host in the escape form, where a name of dots stands for itself. */
@@ -60,7 +86,7 @@ static void escape_path(const char *path, char *escaped) {
         else if (length == 8 && memcmp(path, "\\x2e\\x2e", 8) == 0)
             escaped = stpcpy(escaped, "..");
         else
-            escaped = mempcpy(escaped, path, length);
+            escaped = escape_name(path, length, escaped);
         path += length;
         if (*path == '/')
             *escaped++ = *path++;
@@ -70,7 +96,7 @@ static void escape_path(const char *path, char *escaped) {
 
 /* The entry that a path of the host leads to: 0, or an error. */
 static int find(const char *path, size_t *node) {
-    char *escaped = malloc(strlen(path) + 1);
+    char *escaped = malloc(2 * strlen(path) + 1);
     if (escaped == NULL)
         return -ENOMEM;
     escape_path(path + 1, escaped);
@@ -169,8 +195,13 @@ static int read_file(const char *path, char *room, size_t size, off_t offset, st
 static int get_space(const char *path, struct statvfs *space) {
     const struct adf_contents *contents = &volume.contents;
     (void)path;
-    *space = (struct statvfs){.f_bsize = 512, .f_frsize = 512, .f_blocks = contents->blocks, .f_bfree = contents->free,
-                              .f_bavail = contents->free, .f_files = contents->entries, .f_namemax = NAME_TEXT - 1};
+    *space = (struct statvfs){.f_bsize = 512,
+                              .f_frsize = 512,
+                              .f_blocks = contents->blocks,
+                              .f_bfree = contents->free,
+                              .f_bavail = contents->free,
+                              .f_files = contents->entries,
+                              .f_namemax = NAME_TEXT - 1};
     return 0;
 }
 
@@ -181,7 +212,12 @@ static void *begin(struct fuse_conn_info *connection, struct fuse_config *config
 }
 
 static const struct fuse_operations OPERATIONS = {
-    .init = begin, .getattr = get_attributes, .readdir = read_directory, .open = open_file, .read = read_file, .statfs = get_space,
+    .init = begin,
+    .getattr = get_attributes,
+    .readdir = read_directory,
+    .open = open_file,
+    .read = read_file,
+    .statfs = get_space,
 };
 
 /* Reads a file whole, or as much of it as tells that it is too long. */
@@ -247,14 +283,18 @@ struct words {
     char *image;
     char *folder;
     int nonempty;
+    int escape;
     int help;
     int version;
 };
 
 static const struct fuse_opt OPTIONS[] = {
-    {"-h", offsetof(struct words, help), 1},    {"--help", offsetof(struct words, help), 1},
-    {"-V", offsetof(struct words, version), 1}, {"--version", offsetof(struct words, version), 1},
+    {"-h", offsetof(struct words, help), 1},
+    {"--help", offsetof(struct words, help), 1},
+    {"-V", offsetof(struct words, version), 1},
+    {"--version", offsetof(struct words, version), 1},
     {"nonempty", offsetof(struct words, nonempty), 1},
+    {"escape", offsetof(struct words, escape), 1},
     FUSE_OPT_END,
 };
 
@@ -335,6 +375,7 @@ static int run(const struct words *words, bool is_parsed, struct fuse_args *argu
         fputs("usage: adf-mount IMAGE FOLDER [-f] [-o OPTION,..]    (man adf-mount)\n", words->help ? stdout : stderr);
         return words->help ? SOUND : USAGE;
     }
+    volume.is_escaped = words->escape;
     int status = try_folder(words);
     if (status == SOUND)
         status = open_volume(words->image);

@@ -84,6 +84,32 @@ class Volumes(unittest.TestCase):
             with self.assertRaises(KeyError):
                 volume[path]
 
+    def test_takes_no_other_paths(self):
+        volume = adf.Volume(image_of())
+        for path in (0, None, 1.5, ["c"], bytearray(b"c")):
+            with self.assertRaises(TypeError):
+                volume[path]
+            with self.assertRaises(TypeError):
+                path in volume
+
+    def test_can_only_be_read(self):
+        volume, survey = adf.Volume(image_of()), adf.survey(b"")
+        for thing, name in ((volume, "label"), (volume, "more"), (volume.entries[0], "size"), (survey, "findings")):
+            with self.assertRaises(AttributeError):
+                setattr(thing, name, 0)
+        with self.assertRaises(AttributeError):
+            del volume.label
+        self.assertEqual(volume.label, "Bücher")
+
+    def test_is_closed(self):
+        with adf.Volume(image_of()) as volume:
+            entry = volume["c/readme"]
+            self.assertEqual(entry.read(), b"Hello\n")
+        self.assertEqual((volume.label, volume.image, entry.size), ("Bücher", b"", 6))
+        for call in (entry.read, volume.owners, lambda: volume["c"], lambda: volume.entries, lambda: entry.path, lambda: next(volume.walk())):
+            with self.assertRaises(ValueError):
+                call()
+
     def test_walks(self):
         lines = "".join(f"dir 0:0:0 00000000 {path}\n" for path in ("a", "b", "a/c", "a/c/d"))
         volume = adf.Volume(built("volume ffs 60\n" + lines))
@@ -116,6 +142,7 @@ class Volumes(unittest.TestCase):
             ((2**32 - 1,) * 3, "4294967295:4294967295:4294967295", None),
         ):
             self.assertEqual((str(adf.Date(*date)), adf.Date(*date).civil), (text, civil))
+            self.assertEqual((adf.Date.of(text), adf.Date.of(adf.Date(*date).stamp)), (date, date))
             image = built(f"volume ofs 4\nstamps {adf.Date(*date).stamp} 0:0:0 0:0:0\n")
             self.assertIn(f"root {text}\n".encode(), adf.run(["list"], image)[1])
 
@@ -163,7 +190,7 @@ class Refusals(unittest.TestCase):
                 with self.assertRaises(adf.Refused) as raised:
                     call(image)
                 self.assertEqual((status, line.decode()), (1, f"{raised.exception}\n"))
-        self.assertEqual((raised.exception.cause, raised.exception.block), ("bad size", 0))
+        self.assertEqual((raised.exception.cause, raised.exception.block, raised.exception.filename), ("bad size", 0, None))
 
     def test_opens_files(self):
         with tempfile.TemporaryDirectory() as folder:
@@ -176,6 +203,12 @@ class Refusals(unittest.TestCase):
                 file.write(image_of())
             self.assertEqual(adf.open(path).label, "Bücher")
             self.assertEqual(adf.open(os.fsencode(path)).label, "Bücher")
+            with open(path, "wb"):
+                pass
+            for name in (path, os.fsencode(path)):
+                with self.assertRaises(adf.Refused) as raised:
+                    adf.open(name)
+                self.assertEqual((raised.exception.filename, str(raised.exception)), (name, f"{path}: block 0: bad size"))
 
     def test_runs_commands(self):
         self.assertEqual(adf.run(["cat", "nix"], image_of())[::2], (1, b"no such path\n"))
@@ -202,13 +235,14 @@ class Refusals(unittest.TestCase):
 class Surveys(unittest.TestCase):
     def test_tells_findings_and_what_is_found(self):
         # The header of `c` is the first free block, 2, that of its file the next; byte 323 is the last of the protection.
-        sound = built("volume ofs 16\ndir 0:0:0 00000000 c\nfile 8035:1:50 0000000f c/l\\xf6ng\nnote a\\x09b\nfill 488 41\n")
+        sound = built("volume ofs 16\nlabel B\\xfccher\ndir 0:0:0 00000000 c\nfile 8035:1:50 0000000f c/l\\xf6ng\nnote a\\x09b\nfill 488 41\n")
         damaged = adf.survey(changed(sound, 2, 323, 1))
         self.assertEqual(adf.survey(sound).findings, [])
         self.assertEqual(damaged.findings, [adf.Finding(2, 2, "bad sum", "c", None)])
         directory, file = damaged.entries
         self.assertEqual(directory, adf.Found(False, False, 1, 0, adf.Date(0, 0, 0), "c", ""))
         self.assertEqual(file, adf.Found(True, True, 15, 488, adf.Date(8035, 1, 50), "c/l\xf6ng", "a\tb"))
+        self.assertEqual((damaged.label, damaged.raw_label), ("B\xfccher", b"B\xfccher"))
         self.assertEqual(damaged.read(file.path), b"A" * 488)
         for path in ("", "c"):
             with self.assertRaises(IsADirectoryError):
@@ -222,6 +256,7 @@ class Surveys(unittest.TestCase):
     def test_finds_nothing_in_no_volume(self):
         nothing = adf.survey(b"")
         self.assertEqual((nothing.findings, nothing.entries), ([adf.Finding(0, 0, "bad size", None, None)], []))
+        self.assertEqual((nothing.label, nothing.raw_label), ("", b""))
 
 
 class Files(unittest.TestCase):

@@ -1,4 +1,4 @@
-# Completion of adf, adf-mount, adf-shelf and adf-survey for bash.
+# Completion of adf and the programs whose names begin with adf- for bash.
 
 _adf() {
     local word=${COMP_WORDS[COMP_CWORD]} first=${COMP_WORDS[1]}
@@ -25,9 +25,16 @@ _adf_files() {
     case $1:$2 in
         adf-mount:-*) COMPREPLY=($(compgen -W "-f -o -h --help -V --version" -- "$2")) ;;
         adf-shelf:-*) COMPREPLY=($(compgen -W "--null" -- "$2")) ;;
+        adf-catalogue:-*) COMPREPLY=($(compgen -W "--tsv --escape -h --help --version" -- "$2")) ;;
+        adf-pack:-*)
+            COMPREPLY=($(compgen -W "--label --date --altered --created --no-uaem --escape -h --help --version" -- "$2"))
+            ;;
+        adf-unpack:-*) COMPREPLY=($(compgen -W "--uaem --escape -h --help --version" -- "$2")) ;;
+        *:-*) COMPREPLY=($(compgen -W "-h --help --version" -- "$2")) ;;
+        adf-pack:*) ((COMP_CWORD > 1)) || COMPREPLY=($(compgen -W "ofs ffs" -- "$2")) ;;
     esac
 }
 
 complete -F _adf adf
 complete -F _adf_survey adf-survey
-complete -o default -F _adf_files adf-mount adf-shelf
+complete -o default -F _adf_files adf-catalogue adf-map adf-mount adf-pack adf-recipe adf-shelf adf-unpack

@@ -10,7 +10,7 @@ pub use cause::{Cause, NotFound, Refused};
 pub use command::{run, survey, Answer};
 pub use ffi::Date;
 pub use role::Role;
-pub use text::Text;
+pub use text::{escape, Text};
 
 use std::fmt;
 use std::time::{Duration, SystemTime};
@@ -104,10 +104,15 @@ impl<'image> Volume<'image> {
         Ok(roles.into_iter().map(Role::from_number).collect())
     }
 
-    /// The entry under a path: names with `/` between them, in the escape form of `adf list`, where a byte outside 32 to 126 and
-    /// the backslash stand as `\xHH`. The case of a to z does not count. The empty path is the root's.
-    pub fn find(&self, path: impl AsRef<[u8]>) -> Result<Entry<'_>, NotFound> {
-        let number = ffi::find(&self.tables.entries, path.as_ref())?;
+    /// The entry under a path: names with `/` between them, as `Entry::path` has it. The case of a to z does not count. The empty
+    /// path is the root's. A letter that Latin-1 does not have is in no path.
+    pub fn find(&self, path: impl AsRef<str>) -> Result<Entry<'_>, NotFound> {
+        self.find_bytes(&text::to_latin(path.as_ref()).ok_or(NotFound::NoPath)?)
+    }
+
+    /// The entry under the bytes of a path, as `Entry::path_bytes` has them.
+    pub fn find_bytes(&self, path: &[u8]) -> Result<Entry<'_>, NotFound> {
+        let number = ffi::find(&self.tables.entries, escape(path).as_bytes())?;
         Ok(Entry { volume: self, number })
     }
 }
@@ -182,12 +187,17 @@ impl<'volume> Entry<'volume> {
         (first..behind).map(move |place| Entry { volume, number: place + 1 })
     }
 
-    /// The path in the escape form, as `adf list` writes it and `Volume::find` takes it; empty of the root.
+    /// The path as `Volume::find` takes it: names with `/` between them, their bytes read as Latin-1; empty of the root.
     pub fn path(&self) -> String {
+        text::from_latin(&self.path_bytes())
+    }
+
+    /// The bytes of the path; `escape` of them is what `adf list` writes.
+    pub fn path_bytes(&self) -> Vec<u8> {
         let named = |entry: &Entry<'volume>| entry.parent().filter(|parent| parent.number != 0);
-        let mut names: Vec<String> = std::iter::successors(Some(*self), named).map(|entry| entry.name().escaped()).collect();
+        let mut names: Vec<&[u8]> = std::iter::successors(Some(*self), named).map(|entry| entry.name().as_bytes()).collect();
         names.reverse();
-        names.join("/")
+        names.join(&b'/')
     }
 
     /// Puts bytes of a file from an offset on into the room, as many as there are and fit, and answers how many: 0 of a

@@ -16,18 +16,34 @@ impl<'volume> Text<'volume> {
 
     /// The escape form, as `adf list` writes it: a byte outside 32 to 126 and the backslash stand as `\xHH`.
     pub fn escaped(self) -> String {
-        let escape = |&byte: &u8| match byte {
-            b'\\' => "\\x5c".to_owned(),
-            32..=126 => char::from(byte).to_string(),
-            _ => format!("\\x{byte:02x}"),
-        };
-        self.0.iter().map(escape).collect()
+        escape(self.0)
     }
+}
+
+/// The escape form of bytes, as `adf list` writes it and `adf cat` takes it: a byte outside 32 to 126 and the backslash stand as
+/// `\xHH`.
+pub fn escape(bytes: &[u8]) -> String {
+    let escaped = |&byte: &u8| match byte {
+        b'\\' => "\\x5c".to_owned(),
+        32..=126 => char::from(byte).to_string(),
+        _ => format!("\\x{byte:02x}"),
+    };
+    bytes.iter().map(escaped).collect()
+}
+
+/// The text of bytes that are Latin-1.
+pub(crate) fn from_latin(bytes: &[u8]) -> String {
+    bytes.iter().copied().map(char::from).collect()
+}
+
+/// The bytes of a text in Latin-1, if it has no other letters.
+pub(crate) fn to_latin(text: &str) -> Option<Vec<u8>> {
+    text.chars().map(|letter| u8::try_from(letter).ok()).collect()
 }
 
 impl fmt::Display for Text<'_> {
     fn fmt(&self, f: &mut fmt::Formatter<'_>) -> fmt::Result {
-        f.pad(&self.0.iter().copied().map(char::from).collect::<String>())
+        f.pad(&from_latin(self.0))
     }
 }
 

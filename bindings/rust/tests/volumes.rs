@@ -60,10 +60,11 @@ fn a_volume_has_its_numbers() {
 fn entries_are_those_of_the_list() {
     let image = image("ffs");
     let volume = Volume::check(&image).unwrap();
-    let paths: Vec<String> = volume.entries().map(|entry| entry.path()).collect();
+    let paths: Vec<String> = volume.entries().map(|entry| adf::escape(&entry.path_bytes())).collect();
     assert_eq!((volume.entries().len(), &paths), (9, &listed(&image)));
     for entry in volume.entries() {
         assert_eq!(volume.find(entry.path()).unwrap().number(), entry.number());
+        assert_eq!(volume.find_bytes(&entry.path_bytes()).unwrap().number(), entry.number());
         assert!(entry.parent().unwrap().children().any(|child| child.number() == entry.number()));
     }
     assert_eq!(volume.root().children().len(), 6);
@@ -80,11 +81,8 @@ fn an_entry_tells_its_fields() {
     assert_eq!((readme.name().as_bytes(), readme.comment().to_string()), (&b"readme"[..], "sämtlich".to_owned()));
     let moment = SystemTime::UNIX_EPOCH + Duration::new(946_684_800 + 754 * 60 + 59, 980_000_000);
     assert_eq!(readme.date().to_system_time(), Some(moment));
-    let books = volume.find(r"B\xfccher").unwrap();
-    assert_eq!(
-        (books.name().to_string(), books.path(), books.date().to_system_time()),
-        ("Bücher".into(), r"B\xfccher".into(), None)
-    );
+    let books = volume.find("Bücher").unwrap();
+    assert_eq!((books.name().to_string(), books.path(), books.date().to_system_time()), ("Bücher".into(), "Bücher".into(), None));
     let root = volume.root();
     assert_eq!((root.is_file(), root.path(), root.header(), root.parent().is_none()), (false, String::new(), 880, true));
     assert_eq!(volume.find("").unwrap().number(), 0);
@@ -115,10 +113,10 @@ fn files_are_read_from_any_place() {
 fn paths_that_lead_nowhere_are_told() {
     let image = image("ofs");
     let volume = Volume::check(&image).unwrap();
-    for path in ["nix", "c/readme/more", "c/nix"] {
+    for path in ["nix", "c/readme/more", "c/nix", r"\x63"] {
         assert_eq!(volume.find(path).unwrap_err(), NotFound::Nothing, "{path}");
     }
-    for path in ["a//b", "B\u{fc}cher", r"\x41", "/c", "c/"] {
+    for path in ["a//b", "\u{20ac}", "/c", "c/"] {
         assert_eq!(volume.find(path).unwrap_err(), NotFound::NoPath, "{path}");
     }
 }

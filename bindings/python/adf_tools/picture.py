@@ -1,9 +1,9 @@
-"""A picture of a volume as SVG: a square for each block, coloured by what the block is; map and catalogue draw it."""
+"""A picture of a volume as SVG: a square for each block, coloured by what the block is; adf-map and adf-catalogue draw it."""
 
 import re
 from xml.sax.saxutils import escape
 
-from shared import adf
+import adf
 
 CYLINDER = 22
 STEP, SIDE, MARGIN = 10, 9, 12

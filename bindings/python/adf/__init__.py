@@ -2,7 +2,7 @@
 
     import adf
 
-    volume = adf.open("games.adf")                  # adf.Refused where it is no volume: .cause, as "bad sum", and .block
+    volume = adf.open("games.adf")                  # adf.Refused where it is no volume: .filename, .block and .cause, as "bad sum"
     print(volume.label, volume.kind, volume.free, volume.created)
     for entry in volume.entries:
         print(entry.path, entry.size, entry.date, entry.comment)
@@ -11,28 +11,34 @@
     for path, directories, files in volume.walk():  # as os.walk
         print(path, directories, files)
     roles = volume.owners()                         # a byte for each block: adf.ROLES[roles[880]] is "root"
+    with adf.open("large.hdf") as volume:           # at the end the memory is given back
+        print(volume.label)
     found = adf.survey(image)                       # of a damaged image: found.findings, found.entries, found.read("c/list")
 
 Texts are in Latin-1, as Amigas have them, so each byte is one character and nothing is lost; where a path is given, bytes do
 as well, and mean themselves. `raw_label`, `raw_name`, `raw_path` and `raw_comment` are the bytes.
 
-The shared library is the one that `adf.load(path)` is given; else the one that ADF_LIBRARY names; else libadf.so.1, where the
-loader finds it; else libadf.so.1 or libadf.so in one of these folders: that of this file, PREFIX/lib if this file is installed
-in PREFIX, and PREFIX/lib if the program PREFIX/bin/adf is on the path. include/adf.h says what its calls promise. Threads may
+The shared library is the one that `adf.load(path)` is given; else the one that ADF_LIBRARY names; else that beside this file;
+else libadf.so.1, where the loader finds it; else that in PREFIX/lib, if this module is installed in PREFIX or the program
+PREFIX/bin/adf is on the path. include/adf.h says what its calls promise. Threads may
 share a volume.
 """
 
+from __future__ import annotations
+
 import bisect
-import collections.abc
 import ctypes
 import datetime
 import errno
 import functools
 import io
+import mmap
 import os
 import re
 import shutil
+from typing import Any, Iterable, Iterator, NamedTuple, Sequence, Union, overload
 
+__version__ = "1.0"
 BLOCK = 512
 MOST_BYTES = BLOCK * 1_048_576
 NO_MEMORY = 23
@@ -43,8 +49,12 @@ FIRST_ROOM, FIRST_OUTPUT, MOST_OUTPUT, MOST_ERRORS, LONGEST_CAUSE = 2048, 4096, 
 EPOCH = datetime.datetime(1978, 1, 1)
 LAST_DAY = (datetime.datetime.max - EPOCH).days
 
+Path = Union[str, bytes, "os.PathLike[str]", "os.PathLike[bytes]"]
+Image = Union[bytes, bytearray, memoryview, mmap.mmap]
+Buffer = Union[bytearray, memoryview, mmap.mmap]
 
-def _struct(*fields):
+
+def _struct(*fields: tuple[str, Any]) -> Any:
     """A struct of include/adf.h."""
     each = [(name, kind) for names, kind in fields for name in names.split()]
     return type("Struct", (ctypes.Structure,), {"_fields_": each})
@@ -72,25 +82,26 @@ _CALLS = {
     "adf_run": (_BYTE, *(_POINTER, _SIZE) * 4, _POINTER),
     "adf_survey_run": (_BYTE, *(_POINTER, _SIZE) * 4, _POINTER),
 }
-_library = None
+_library: ctypes.CDLL | None = None
 
 
-def _places():
+def _places() -> list[str]:
     """Where the shared library may be, in the order in which it is looked for."""
     beside, program = os.path.dirname(os.path.abspath(__file__)), shutil.which("adf")
-    folders = [beside, os.path.join(beside, "..", "..")]
+    folders = [os.path.join(beside, "..", "..", "..")]
     if program:
         folders.append(os.path.join(os.path.dirname(os.path.realpath(program)), "..", "lib"))
-    return [SONAME, *(os.path.normpath(os.path.join(folder, name)) for folder in folders for name in (SONAME, "libadf.so"))]
+    own = os.path.join(beside, SONAME)
+    return [*([own] if os.path.exists(own) else []), SONAME, *(os.path.join(os.path.normpath(folder), SONAME) for folder in folders)]
 
 
-def load(path=None):
+def load(path: str | os.PathLike[str] | None = None) -> ctypes.CDLL:
     """Takes the shared library from here on, as the head of this file says; ImportError where it cannot be loaded."""
     global _library
     given, said = path or os.environ.get("ADF_LIBRARY"), None
-    for name in [os.path.abspath(given)] if given else _places():
+    for place in [os.path.abspath(given)] if given else _places():
         try:
-            library = ctypes.CDLL(name)
+            library = ctypes.CDLL(place)
             for call, (answer, *types) in _CALLS.items():
                 getattr(library, call).restype, getattr(library, call).argtypes = answer, types
             _library = library
@@ -100,75 +111,98 @@ def load(path=None):
     raise ImportError(f"no shared library of adf ({said}); ADF_LIBRARY may name it")
 
 
-def _calls():
+def _calls() -> ctypes.CDLL:
     return _library or load()
 
 
 class Refused(Exception):
-    """No volume has the image: the cause of the first fault, as `bad sum`, its block and its number; the text of `adf check`."""
+    """No volume has the image: the cause of the first fault, as `bad sum`, its block and its number, and the file, if it is one.
 
-    def __init__(self, cause, block, number):
-        super().__init__(cause, block, number)
-        self.cause, self.block, self.number = cause, block, number
+    Its text is that of `adf check`, behind the name of the file.
+    """
 
-    def __str__(self):
-        return f"block {self.block}: {self.cause}"
+    def __init__(self, cause: str, block: int, number: int, filename: Path | None = None) -> None:
+        super().__init__(cause, block, number, filename)
+        self.cause, self.block, self.number, self.filename = cause, block, number, filename
+
+    def __str__(self) -> str:
+        name = "" if self.filename is None else f"{os.fsdecode(self.filename)}: "
+        return f"{name}block {self.block}: {self.cause}"
 
 
-# The numbers of a volume, as `adf check` writes them.
-Verdict = collections.namedtuple("Verdict", "kind blocks used free dirs files")
+class Verdict(NamedTuple):
+    """The numbers of a volume, as `adf check` writes them."""
+
+    kind: str
+    blocks: int
+    used: int
+    free: int
+    dirs: int
+    files: int
 
 
-class Date(collections.namedtuple("Date", "days mins ticks")):
+class Date(NamedTuple):
     """A date of the disk, of no time zone: days since 1978-01-01, minutes of the day, fiftieths of a second in the minute."""
 
-    __slots__ = ()
+    days: int
+    mins: int
+    ticks: int
+
+    @classmethod
+    def of(cls, text: str) -> Date:
+        """The date that `adf list` or a manifest writes so. ValueError where it is none."""
+        if " " not in text:
+            days, mins, ticks = map(int, text.split(":"))
+            return cls(days, mins, ticks)
+        past = datetime.datetime.strptime(text[:-3], "%Y-%m-%d %H:%M:%S") - EPOCH
+        return cls(past.days, past.seconds // 60, past.seconds % 60 * 50 + int(text[-2:]))
 
     @property
-    def civil(self):
+    def civil(self) -> datetime.datetime | None:
         """The date as a datetime, or None where it is none up to the year 9999."""
         is_civil = self.days <= LAST_DAY and self.mins < 1440 and self.ticks < 3000
         return EPOCH + datetime.timedelta(self.days, 60 * self.mins, 20_000 * self.ticks) if is_civil else None
 
-    def __str__(self):
+    def __str__(self) -> str:
         """The date as `adf list` writes it."""
         civil = self.civil
         return f"{civil:%Y-%m-%d %H:%M:%S}.{self.ticks % 50:02}" if civil else self.stamp
 
     @property
-    def stamp(self):
+    def stamp(self) -> str:
         """The date as a manifest has it."""
         return f"{self.days}:{self.mins}:{self.ticks}"
 
 
-def _date(date):
+def _date(date: Any) -> Date:
     return Date(date.days, date.mins, date.ticks)
 
 
-def _bytes(image):
+def _bytes(image: Image) -> bytes:
     return image if isinstance(image, bytes) else bytes(memoryview(image))
 
 
-def _accept(number, block):
+def _accept(number: int, block: int, filename: Path | None = None) -> None:
     if number == NO_MEMORY:
         raise MemoryError
     if number != 0:
         room = ctypes.create_string_buffer(LONGEST_CAUSE)
         length = _calls().adf_cause_text(number, room, len(room))
-        raise Refused(room.raw[:length].decode("ascii"), block, number)
+        raise Refused(room.raw[:length].decode("ascii"), block, number, filename)
 
 
-def check(image):
+def check(image: Image) -> Verdict:
     """The numbers of the volume that has this image; Refused where none has."""
     image, verdict = _bytes(image), _Verdict()
     _accept(_calls().adf_check(image, len(image), ctypes.byref(verdict)), verdict.block)
     return Verdict(KINDS[verdict.kind], *(getattr(verdict, name) for name in Verdict._fields[1:]))
 
 
-def _run(call, program, words, given):
+def _run(call: Any, program: str, words: Iterable[str], given: Image) -> tuple[int, bytes, bytes]:
     """Runs a program of the library with these words over the input: its status, output and errors."""
-    given, line = _bytes(given), b"".join(word.encode() + b"\0" for word in (program, *words))
-    if line.count(b"\0") != len(words) + 1:
+    all_words, given = (program, *words), _bytes(given)
+    line = b"".join(word.encode() + b"\0" for word in all_words)
+    if line.count(b"\0") != len(all_words):
         raise ValueError("a word has a zero byte")
     errors, moved, room = ctypes.create_string_buffer(MOST_ERRORS), _Moved(), len(given) + FIRST_OUTPUT
     while True:
@@ -180,44 +214,80 @@ def _run(call, program, words, given):
         room = min(4 * room, MOST_OUTPUT)
 
 
-def run(words, given=b""):
+def run(words: Iterable[str], given: Image = b"") -> tuple[int, bytes, bytes]:
     """Runs the command `adf` with these words over the input: its status, and what it wrote to output and to errors.
     An output of more than 4 GiB is cut there, with status 3 and `write fault` on errors."""
     return _run(_calls().adf_run, "adf", words, given)
 
 
-def survey(image):
+def survey(image: Image) -> Survey:
     """All that is wrong with an image, and what is found in it all the same."""
     return Survey(image)
 
 
-# Blocks from the first to the last with one cause, as `bad sum`; the path of the entry that is concerned, or of the directory in which a
-# header was passed over, with a `/` behind it (`/` for the root); the path of the entry that owns a taken block. None where there is none.
-Finding = collections.namedtuple("Finding", "first last cause path owner")
-# An entry that is found: whether it is sound; the columns of `adf list`; its comment.
-Found = collections.namedtuple("Found", "is_sound is_file protection size date path comment")
+class Finding(NamedTuple):
+    """Blocks from the first to the last with one cause, as `bad sum`; the path of the entry that is concerned, or of the directory in
+    which a header was passed over, with a `/` behind it (`/` for the root); the path of the entry that owns a taken block."""
+
+    first: int
+    last: int
+    cause: str
+    path: str | None
+    owner: str | None
+
+
+class Found(NamedTuple):
+    """An entry that is found: whether it is sound; the columns of `adf list`; its comment."""
+
+    is_sound: bool
+    is_file: bool
+    protection: int
+    size: int
+    date: Date
+    path: str
+    comment: str
+
+
 _FOUND = re.compile(r"(sound  |damaged) (dir |file) ([0-9a-f]{8}) +(\d+|-) ([\d-]+ [\d:.]+|[\d:]+) (.*)")
 
 
-class Survey:
-    """What is found in an image by `adf-survey`: findings, in its order; entries, in its order; image, its bytes.
+class _ReadOnly:
+    """What is told once, and then only read."""
+
+    def __setattr__(self, name: str, value: object) -> None:
+        raise AttributeError(f"{name} can only be read")
+
+    def __delattr__(self, name: str) -> None:
+        raise AttributeError(f"{name} can only be read")
+
+
+class Survey(_ReadOnly):
+    """What is found in an image by `adf-survey`: findings, in its order; entries, in its order; raw_label and label, empty where
+    none is found; image, its bytes.
 
     It has no findings exactly where `Volume` takes the image, and the first of them is what `Refused` says.
     """
 
-    def __init__(self, image):
-        self.image = _bytes(image)
-        self.findings, self.entries = [], []
+    image: bytes
+    findings: list[Finding]
+    entries: list[Found]
+    raw_label: bytes
+    label: str
+
+    def __init__(self, image: Image) -> None:
+        vars(self).update(image=_bytes(image), findings=[], entries=[], raw_label=b"", label="")
         for line in self._answer(["--list"]).decode("ascii").splitlines():
             word, _, rest = line.partition(" ")
             if word in ("block", "blocks"):
                 self.findings.append(_finding(rest))
+            elif word == "label":
+                vars(self).update(label=_plain(rest), raw_label=_plain(rest).encode("latin-1"))
             elif word in ("sound", "damaged"):
-                self.entries.append(_found(*_FOUND.fullmatch(line).groups()))
+                self.entries.append(_found(line))
             elif word == "note":
                 self.entries[-1] = self.entries[-1]._replace(comment=_plain(rest))
 
-    def read(self, path):
+    def read(self, path: str | bytes) -> bytes:
         """The bytes of a sound file, for which the image is surveyed again. KeyError where nothing is under the path,
         IsADirectoryError where it is no file, OSError (EIO) where it is damaged."""
         try:
@@ -225,7 +295,7 @@ class Survey:
         except UnicodeEncodeError:
             raise KeyError(path) from None
 
-    def _answer(self, words, path=None):
+    def _answer(self, words: list[str], path: str | bytes | None = None) -> bytes:
         status, output, errors = _run(_calls().adf_survey_run, "adf-survey", words, self.image)
         if status == 3:
             raise MemoryError(errors.decode("ascii").strip())
@@ -238,89 +308,116 @@ class Survey:
         return output
 
 
-def _finding(text):
+def _finding(text: str) -> Finding:
     """A finding by its line, of which the first word is read."""
     blocks, cause, *told = text.split(": ")
     first, *last = map(int, blocks.split(" to "))
-    path = told[0].removeprefix("in ") if told and told[0].endswith("/") else told[0] if told else None
-    owner = told[1].removeprefix("owned by ") if told[1:] else None
-    return Finding(first, last[0] if last else first, cause, *(text and _plain(text) for text in (path, owner)))
+    path = (told[0][len("in ") :] if told[0].endswith("/") else told[0]) if told else None
+    owner = told[1][len("owned by ") :] if told[1:] else None
+    return Finding(first, last[0] if last else first, cause, *(_plain(text) if text else None for text in (path, owner)))
 
 
-def _found(mark, word, protection, size, date, path):
-    """An entry that is found, by the parts of its line."""
-    return Found(
-        mark.strip() == "sound", word == "file", int(protection, 16), int(size.replace("-", "0")), _date_of(date), _plain(path), ""
-    )
+def _found(line: str) -> Found:
+    """An entry that is found, by its line."""
+    parts = _FOUND.fullmatch(line)
+    if not parts:
+        raise ValueError(line)
+    mark, word, protection, size, date, path = parts.groups()
+    is_sound, is_file = mark.strip() == "sound", word == "file"
+    return Found(is_sound, is_file, int(protection, 16), int(size.replace("-", "0")), Date.of(date), _plain(path), "")
 
 
-def _date_of(text):
-    """The date that has this text."""
-    if " " not in text:
-        return Date(*map(int, text.split(":")))
-    past = datetime.datetime.strptime(text[:-3], "%Y-%m-%d %H:%M:%S") - EPOCH
-    return Date(past.days, past.seconds // 60, past.seconds % 60 * 50 + int(text[-2:]))
-
-
-def _plain(text):
+def _plain(text: str) -> str:
     """The text in Latin-1 of which this is the escape form."""
     return re.sub(r"\\x([0-9a-f]{2})", lambda found: chr(int(found[1], 16)), text)
 
 
-def escape(text):
+def escape(text: str | bytes) -> str:
     """The escape form of bytes or of a text in Latin-1: bytes outside 32 to 126, and the backslash, are \\x and two digits."""
     raw = text if isinstance(text, bytes) else text.encode("latin-1")
     return re.sub(rb"[^ -\[\]-~]", lambda found: b"\\x%02x" % ord(found[0]), raw).decode("ascii")
 
 
-def open(path):
+def open(path: Path) -> Volume:
     """The volume of an image in a file. Refused where it is that of none, OSError where the file cannot be read."""
     with io.open(path, "rb") as file:
-        return Volume(file.read(MOST_BYTES + 1))
+        return Volume(file.read(MOST_BYTES + 1), path)
 
 
-class Volume:
+class Volume(_ReadOnly):
     """The volume of an image in memory, which is checked here; Refused where it is that of none.
 
     label, raw_label, kind ("ofs" or "ffs"), blocks, used, free; date, altered and created, the dates of the root, of the last
     change and of the creation; image, its bytes; entries, in the order of `adf list`: each directory before what is in it.
+    They can only be read. Once it is closed, its image is empty and nothing more is read of it: ValueError.
     """
 
-    def __init__(self, image):
-        self.image = _bytes(image)
-        image, contents = (self.image, len(self.image)), _Contents()
+    image: bytes
+    kind: str
+    blocks: int
+    used: int
+    free: int
+    date: Date
+    altered: Date
+    created: Date
+    raw_label: bytes
+    label: str
+    _known_tables: Any
+
+    def __init__(self, image: Image, filename: Path | None = None) -> None:
+        raw, contents = _bytes(image), _Contents()
         rooms, wanted = (0, 0), (FIRST_ROOM, FIRST_ROOM)
         while rooms != wanted:
             rooms = wanted
             tables = (_Entry * rooms[0])(), rooms[0], (_WORD * rooms[1])(), rooms[1]
-            _accept(_calls().adf_index(*image, *tables, ctypes.byref(contents)), contents.block)
+            _accept(_calls().adf_index(raw, len(raw), *tables, ctypes.byref(contents)), contents.block, filename)
             wanted = max(rooms[0], contents.entries), max(rooms[1], contents.data_blocks)
-        self._table = tables[0]
-        self._tables = image, (tables[0], contents.entries), (tables[2], contents.data_blocks)
-        self.kind = KINDS[contents.kind]
-        self.blocks, self.used, self.free = contents.blocks, contents.used, contents.free
-        self.date, self.altered, self.created = map(_date, (contents.root, contents.altered, contents.created))
-        self.raw_label = bytes(contents.label)[: contents.label_length]
-        self.label = self.raw_label.decode("latin-1")
+        label = bytes(contents.label)[: contents.label_length]
+        vars(self).update(
+            image=raw, kind=KINDS[contents.kind], blocks=contents.blocks, used=contents.used, free=contents.free,
+            date=_date(contents.root), altered=_date(contents.altered), created=_date(contents.created),
+            raw_label=label, label=label.decode("latin-1"),
+            _known_tables=((raw, len(raw)), (tables[0], contents.entries), (tables[2], contents.data_blocks)),
+        )
+
+    def close(self) -> None:
+        """Gives the image and the tables back."""
+        vars(self).update(image=b"", _known_tables=None)
+
+    def __enter__(self) -> Volume:
+        return self
+
+    def __exit__(self, *_error: object) -> None:
+        self.close()
 
     @property
-    def entries(self):
+    def _tables(self) -> Any:
+        if self._known_tables is None:
+            raise ValueError("the volume is closed")
+        return self._known_tables
+
+    @property
+    def _table(self) -> Any:
+        return self._tables[1][0]
+
+    @property
+    def entries(self) -> Entries:
         return Entries(self)
 
-    def __getitem__(self, path):
+    def __getitem__(self, path: str | bytes) -> Entry:
         """The entry under a path, a text or bytes: names with `/` between them. KeyError where none is there."""
         number = self._find(path)
         if not number:
             raise KeyError(path)
         return self._entry(number)
 
-    def __contains__(self, path):
+    def __contains__(self, path: str | bytes) -> bool:
         return bool(self._find(path))
 
-    def __iter__(self):
+    def __iter__(self) -> Iterator[str]:
         return (entry.path for entry in self.entries)
 
-    def walk(self, top=""):
+    def walk(self, top: Any = "") -> Iterator[tuple[Any, list[Any], list[Any]]]:
         """As os.walk: for each directory from `top` on its path, and the names of the directories and of the files in it.
         What is taken out of the directories is not gone into. Bytes are told where bytes are given."""
         is_raw, waiting = isinstance(top, bytes), [top]
@@ -336,24 +433,26 @@ class Volume:
             slash = b"/" if is_raw else "/"
             waiting += (path + slash + name if path else name for name in reversed(directories))
 
-    def owners(self):
+    def owners(self) -> bytes:
         """The role of each block, a byte for each, as a place in ROLES."""
-        roles = ctypes.create_string_buffer(self.blocks)
-        _accept(_calls().adf_owners(self.image, len(self.image), roles, self.blocks), 0)
+        image, roles = self._tables[0], ctypes.create_string_buffer(self.blocks)
+        _accept(_calls().adf_owners(*image, roles, self.blocks), 0)
         return roles.raw
 
     @functools.cached_property
-    def _parents(self):
+    def _parents(self) -> list[int]:
         return [self._table[place].parent for place in range(len(self.entries))]
 
-    def _entry(self, number):
+    def _entry(self, number: int) -> Entry:
         row = self._table[number - 1]
         name, comment = bytes(row.name)[: row.name_length], bytes(row.comment)[: row.comment_length]
         fields = row.parent, row.header, row.size, row.protection, _date(row.date), bool(row.is_file)
         return Entry(self, number, *fields, name, comment)
 
-    def _find(self, path):
+    def _find(self, path: str | bytes) -> int | None:
         """The number under a path, 0 for the empty one, None where nothing is there."""
+        if not isinstance(path, (str, bytes)):
+            raise TypeError(f"a path is a str or bytes, and not {type(path).__name__}; entries[n] is the entry n + 1")
         try:
             text = escape(path).encode("ascii")
         except UnicodeEncodeError:
@@ -365,34 +464,54 @@ class Volume:
         return node.value if answer == 0 else None
 
 
-class Entries(collections.abc.Sequence):
+class Entries(Sequence["Entry"]):
     """The entries of a volume, each made as it is asked for."""
 
-    def __init__(self, volume):
+    def __init__(self, volume: Volume) -> None:
         self._volume, self._numbers = volume, range(1, volume._tables[1][1] + 1)
 
-    def __len__(self):
+    def __len__(self) -> int:
         return len(self._numbers)
 
-    def __getitem__(self, place):
+    @overload
+    def __getitem__(self, place: int) -> Entry: ...
+
+    @overload
+    def __getitem__(self, place: slice) -> list[Entry]: ...
+
+    def __getitem__(self, place: int | slice) -> Entry | list[Entry]:
         taken = self._numbers[place]
         return self._volume._entry(taken) if isinstance(taken, int) else [self._volume._entry(number) for number in taken]
 
 
-_FIELDS = "volume number parent header size protection date is_file raw_name raw_comment"
-
-
-class Entry(collections.namedtuple("Entry", _FIELDS)):
+class Entry(NamedTuple):
     """A directory or a file: entry n is volume.entries[n - 1], and `parent` is the number of its directory, 0 for the root."""
 
-    __slots__ = ()
-
-    name = property(lambda self: self.raw_name.decode("latin-1"))
-    comment = property(lambda self: self.raw_comment.decode("latin-1"))
-    path = property(lambda self: self.raw_path.decode("latin-1"))
+    volume: Volume
+    number: int
+    parent: int
+    header: int
+    size: int
+    protection: int
+    date: Date
+    is_file: bool
+    raw_name: bytes
+    raw_comment: bytes
 
     @property
-    def raw_path(self):
+    def name(self) -> str:
+        return self.raw_name.decode("latin-1")
+
+    @property
+    def comment(self) -> str:
+        return self.raw_comment.decode("latin-1")
+
+    @property
+    def path(self) -> str:
+        return self.raw_path.decode("latin-1")
+
+    @property
+    def raw_path(self) -> bytes:
         names, parent = [self.raw_name], self.parent
         while parent:
             row = self.volume._table[parent - 1]
@@ -400,10 +519,10 @@ class Entry(collections.namedtuple("Entry", _FIELDS)):
             parent = row.parent
         return b"/".join(reversed(names))
 
-    def __repr__(self):
+    def __repr__(self) -> str:
         return f"<adf.Entry {self.path!r}>"
 
-    def read_into(self, room, offset=0):
+    def read_into(self, room: Buffer, offset: int = 0) -> int:
         """Puts the bytes of the file from an offset on into a buffer, as many as there are and fit; answers how many."""
         if not self.is_file:
             raise IsADirectoryError(errno.EISDIR, os.strerror(errno.EISDIR), self.path)
@@ -413,14 +532,14 @@ class Entry(collections.namedtuple("Entry", _FIELDS)):
         begin = ctypes.byref(ctypes.c_char.from_buffer(view)) if view else b""
         return _calls().adf_read(*image, *table, *blocks, self.number, min(offset, self.size), begin, len(view))
 
-    def read(self, offset=0, count=-1):
+    def read(self, offset: int = 0, count: int = -1) -> bytes:
         """The bytes of the file from an offset on: all, or at most so many where the count is not negative."""
         left = max(self.size - offset, 0)
         room = bytearray(left if count < 0 else min(count, left))
         self.read_into(room, offset)
         return bytes(room)
 
-    def open(self):
+    def open(self) -> io.BufferedReader:
         """The file as one of Python, buffered, to read and seek."""
         self.read_into(bytearray())
         return io.BufferedReader(File(self))
@@ -429,17 +548,21 @@ class Entry(collections.namedtuple("Entry", _FIELDS)):
 class File(io.RawIOBase):
     """A file of a volume, unbuffered; Entry.open has it behind a buffer."""
 
-    def __init__(self, entry):
+    def __init__(self, entry: Entry) -> None:
         self._entry, self._at = entry, 0
 
-    readable = seekable = lambda self: True
+    def readable(self) -> bool:
+        return True
 
-    def readinto(self, room):
+    def seekable(self) -> bool:
+        return True
+
+    def readinto(self, room: Any) -> int:
         moved = self._entry.read_into(room, self._at)
         self._at += moved
         return moved
 
-    def seek(self, offset, whence=io.SEEK_SET):
+    def seek(self, offset: int, whence: int = io.SEEK_SET) -> int:
         at = offset + (0, self._at, self._entry.size)[whence]
         if at < 0:
             raise OSError(errno.EINVAL, os.strerror(errno.EINVAL))

@@ -1,18 +1,4 @@
-#!/usr/bin/env python3
-"""Writes a catalogue of the images in a folder: static pages, an index and one for each image.
-
-Use: examples/catalogue FOLDER OUT [--tsv]      OUT is made, whole or not at all, and must not be there
-
-OUT/index.html lists all files below FOLDER, each with its verdict; a click on the head of a column sorts by it. The page of an
-image has its entries and the picture of its blocks, that of a refused one the cause, the block and what docs/FAULTS.md says of
-it, all findings, and the entries that are found, each sound or damaged. Nothing is loaded from anywhere but OUT, which may be
-moved or put on any server. Links to folders are not followed.
-
---tsv writes OUT/images.tsv and OUT/entries.tsv too, a line for each image and for each entry, texts in the escape form.
-
-Status 0: all are volumes. 1: one is refused. 2: the words are none of these. 3: a file cannot be read or written; where it is
-one of FOLDER, the index says so and all others are there.
-"""
+"""adf-catalogue: writes static pages of the images in a folder, an index and one for each image (docs/adf-catalogue.1)."""
 
 import base64
 import contextlib
@@ -22,18 +8,22 @@ import html
 import os
 import re
 import stat
-import sys
 
-sys.dont_write_bytecode = True
-from shared import FAILED, REFUSED, adf, begin, new_folder, words_or_use, wrong_words
-from picture import picture, roles_of_refused
+import adf
+from adf_tools.names import host_letters, letters, text_of
+from adf_tools.picture import picture, roles_of_refused
+from adf_tools.program import FAILED, REFUSED, Progress, add_escape, begin, command_line, new_folder
+from adf_tools.protection import protection_text
 
-FAULTS = os.path.join(os.path.dirname(os.path.abspath(__file__)), "..", "docs", "FAULTS.md")
-LETTERS, FORBIDDING = "hsparwed", 0xF
+HERE = os.path.dirname(os.path.abspath(__file__))
+FAULTS = os.path.join(HERE, "FAULTS.md")
+if not os.path.exists(FAULTS):  # in a clone
+    FAULTS = os.path.join(HERE, "..", "..", "..", "docs", "FAULTS.md")
 IMAGE_COLUMNS = "image bytes sha256 verdict kind blocks used free dirs files label root altered created".split()
-ENTRY_COLUMNS = "image kind size protection date header sha256 path comment".split()
+ENTRY_COLUMNS = "image kind size protection date header sha256 path comment state".split()
 TABLES = (("images.tsv", IMAGE_COLUMNS), ("entries.tsv", ENTRY_COLUMNS))
-INDEX_HEADS = ("Image", "Verdict", "Label", "Kind", "Blocks", "Full", "Directories", "Files", "Root", "Changed", "Created")
+ENDINGS, SIGN = (b".adf", b".hdf"), b"DOS"
+INDEX_HEADS = ("Image", "Verdict", "Label", "Kind", "Blocks", "Full", "Directories", "Files", "Found", "Root", "Changed", "Created")
 ENTRY_HEADS = ("Path", "Kind", "Size", "Protection", "Date", "Header", "Comment")
 FINDING_HEADS = ("Blocks", "Cause", "Path", "Owned by")
 FOUND_HEADS = ("", "Path", "Kind", "Size", "Protection", "Date", "Comment")
@@ -66,27 +56,31 @@ heads.forEach((head, column) => {
   button.onclick = () => sort(column);
   head.append(button);
 });
+const filter = document.querySelector("#filter");
+const shown = document.querySelector("#shown");
+function hide() {
+  const words = filter.value.toLowerCase().split(" ");
+  const rows = [...document.querySelector("tbody").rows];
+  for (const row of rows) row.hidden = !words.every(word => row.textContent.toLowerCase().includes(word));
+  shown.textContent = rows.filter(row => !row.hidden).length + " shown";
+}
+filter.value = decodeURIComponent(location.hash.slice(1));
+filter.oninput = () => { history.replaceState(null, "", "#" + encodeURIComponent(filter.value)); hide(); };
+hide();
 """
 
 
 # Texts
 
 
-def shown(text, encoding="latin-1"):
-    """A text for HTML: for what cannot be printed, and the backslash, \\x and two digits for each byte."""
-    plain = (c if c.isprintable() and c != "\\" else adf.escape(c.encode(encoding, "surrogateescape")) for c in text)
-    return html.escape("".join(plain))
+def shown(text):
+    """A text of an Amiga for HTML."""
+    return html.escape(letters(text))
 
 
-def shown_name(raw):
+def shown_name(name):
     """The name of a file of the host for HTML."""
-    return shown(raw.decode("utf-8", "surrogateescape"), "utf-8")
-
-
-def letters(protection):
-    """The protection as AmigaDOS lists it: a letter for what is set, but of rwed for what is not forbidden."""
-    bits = protection ^ FORBIDDING
-    return "".join(letter if bits >> 7 - place & 1 else "-" for place, letter in enumerate(LETTERS))
+    return html.escape(host_letters(name))
 
 
 def marked(text):
@@ -137,7 +131,7 @@ def facts(pairs):
 def columns(entry):
     """What each entry has, found in a volume or in a refused image: path, kind, size, protection and date."""
     kind, size = ("file", entry.size) if entry.is_file else ("dir", "")
-    protection = f"<code>{entry.protection:08x} {letters(entry.protection)}</code>"
+    protection = f"<code>{entry.protection:08x} {protection_text(entry.protection)}</code>"
     return [cell(shown(entry.path), "text"), cell(kind), cell(size, "number"), cell(protection), cell(entry.date)]
 
 
@@ -165,15 +159,18 @@ def volume_body(volume, row):
     return facts(pairs) + f'<div class="beside">{picture("", volume.owners())}{entries}</div>'
 
 
-def refused_body(refused, image, row, paragraphs):
+def refused_body(refused, survey, row, paragraphs):
     """The page of a refused image: its first fault, all findings, and what is found all the same."""
-    survey = adf.survey(image)
     sound = sum(entry.is_sound for entry in survey.entries)
     counts = f"{len(survey.findings)} lines; {sound} of {len(survey.entries)} entries that are found are sound"
     pairs = [("Refused", f'<span class="refused">{refused}</span>'), ("Cause", refused.cause), ("Block", refused.block)]
+    pairs += [("Label", shown(survey.raw_label))] if survey.label else []
     told = paragraphs.get(refused.cause, "") + table(FINDING_HEADS, map(finding_row, survey.findings))
-    found = table(FOUND_HEADS, map(found_row, survey.entries)) if survey.entries else ""
-    drawn = picture("", roles_of_refused(image, survey.findings), refused)
+    found = ""
+    if survey.entries:
+        rescue = "<p>Of a sound file, <code>adf-survey cat PATH &lt; IMAGE &gt; FILE</code> writes the bytes.</p>\n"
+        found = f'<div id="found">{rescue}{table(FOUND_HEADS, map(found_row, survey.entries))}</div>'
+    drawn = picture("", roles_of_refused(survey.image, survey.findings), refused)
     return facts([*pairs, ("Findings", counts), *file_facts(row)]) + told + f'<div class="beside">{drawn}{found}</div>'
 
 
@@ -189,19 +186,33 @@ def index_row(row):
     full = 100 * row["used"] / (row["blocks"] - 2) if is_sound else ""
     meter = f'<meter max="100" value="{full:.1f}"></meter> {full:.0f} %' if is_sound else ""
     cells = [cell(anchor, "text"), cell(verdict, key="" if is_sound else row["verdict"].split(": ")[-1])]
-    cells += [cell(shown(row.get("raw_label", b"").decode("latin-1")), "text"), cell(get("kind")), cell(get("blocks"), "number")]
+    cells += [cell(shown(row.get("raw_label", b"")), "text"), cell(get("kind")), cell(get("blocks"), "number")]
     cells += [cell(meter, key=full), cell(get("dirs"), "number"), cell(get("files"), "number")]
+    cells += [cell(f'<a href="{row["link"]}#found">{get("found")}</a>' if get("found") else "")]
     return "".join((*cells, *(cell(get(column)) for column in ("root", "altered", "created"))))
 
 
 # The catalogue
 
 
-def files_below(folder):
-    """The paths of all files below a folder, and of folders that cannot be read, by their bytes."""
+def is_image(path):
+    """Whether a file is one by the end of its name, or begins as a volume does."""
+    if path.lower().endswith(ENDINGS):
+        return True
+    try:
+        if not stat.S_ISREG(os.stat(path).st_mode):
+            return False
+        with open(path, "rb") as file:
+            return file.read(len(SIGN)) == SIGN
+    except OSError:
+        return False
+
+
+def images_below(folder):
+    """The paths of all images below a folder, and of folders that cannot be read, by their bytes."""
     unread = []
-    found = [os.path.join(path, name) for path, _, names in os.walk(folder, onerror=unread.append) for name in names]
-    return sorted(found + [error.filename for error in unread])
+    files = (os.path.join(path, name) for path, _, names in os.walk(folder, onerror=unread.append) for name in names)
+    return sorted([*filter(is_image, files), *(error.filename for error in unread)])
 
 
 def read_image(path):
@@ -224,7 +235,7 @@ def volume_row(volume):
     files = sum(entry.is_file for entry in volume.entries)
     counts = {"dirs": len(volume.entries) - files, "files": files}
     numbers = {"kind": volume.kind, "blocks": volume.blocks, "used": volume.used, "free": volume.free}
-    return {"verdict": "ok", "raw_label": volume.raw_label, "label": adf.escape(volume.raw_label), **numbers, **counts, **dates}
+    return {"verdict": "ok", "raw_label": volume.raw_label, **numbers, **counts, **dates}
 
 
 def write_line(file, values):
@@ -232,28 +243,37 @@ def write_line(file, values):
 
 
 def new_table(folder, name, columns):
-    file = open(os.path.join(folder, name), "x", encoding="ascii", newline="\n")
+    file = open(os.path.join(folder, name), "x", encoding="utf-8", newline="\n")
     write_line(file, columns)
     return file
 
 
-def write_entries(file, name, volume):
+def write_entries(file, name, volume, is_escaped):
     for entry in volume.entries:
         kind, digest = ("file", hashlib.sha256(entry.read()).hexdigest()) if entry.is_file else ("dir", "")
         numbers = (kind, entry.size, f"{entry.protection:08x}", entry.date, entry.header, digest)
-        write_line(file, (name, *numbers, adf.escape(entry.raw_path), adf.escape(entry.raw_comment)))
+        write_line(file, (name, *numbers, text_of(entry.raw_path, is_escaped), text_of(entry.raw_comment, is_escaped), "sound"))
+
+
+def write_found(file, name, survey, is_escaped):
+    """The lines of what is found in a refused image: no header is told of it, and no sum made."""
+    for entry in survey.entries:
+        kind, state = "file" if entry.is_file else "dir", "sound" if entry.is_sound else "damaged"
+        numbers = (kind, entry.size, f"{entry.protection:08x}", entry.date, "", "")
+        write_line(file, (name, *numbers, text_of(entry.path, is_escaped), text_of(entry.comment, is_escaped), state))
 
 
 class Catalogue:
     """A catalogue that is being written: its folder, its two tables where they are wanted, and the lines of its index."""
 
-    def __init__(self, out, tables, paragraphs):
-        self.out, self.tables, self.paragraphs, self.rows, self.status = out, tables, paragraphs, [], 0
+    def __init__(self, out, tables, is_escaped, paragraphs):
+        self.out, self.tables, self.is_escaped, self.paragraphs, self.rows, self.status = out, tables, is_escaped, paragraphs, [], 0
 
     def add(self, folder, path):
         """Writes the page of an image, and keeps its line."""
         name = os.path.relpath(path, folder)
-        row = {"name": name, "image": adf.escape(name), "link": f"images/{page_name(name)}"}
+        image = adf.escape(name) if self.is_escaped else host_letters(name)
+        row = {"name": name, "image": image, "link": f"images/{page_name(name)}"}
         self.rows.append(row)
         try:
             image, row["bytes"] = read_image(path)
@@ -264,6 +284,7 @@ class Catalogue:
             body = '<p><a href="../index.html">All images</a></p>\n' + self.describe(image, row)
             self.write(row["link"], page(shown_name(name), body))
         if self.tables:
+            row["label"] = text_of(row.get("raw_label", b""), self.is_escaped)
             write_line(self.tables[0], (row.get(column, "") for column in IMAGE_COLUMNS))
 
     def describe(self, image, row):
@@ -272,12 +293,17 @@ class Catalogue:
         try:
             volume = adf.Volume(image)
         except adf.Refused as refused:
-            row["verdict"] = str(refused)
+            survey = adf.survey(image)
+            row.update(verdict=str(refused), raw_label=survey.raw_label)
+            sound = sum(entry.is_sound for entry in survey.entries)
+            row["found"] = f"{sound} of {len(survey.entries)} sound" if survey.entries else ""
             self.status = max(self.status, REFUSED)
-            return refused_body(refused, image, row, self.paragraphs)
+            if self.tables:
+                write_found(self.tables[1], row["image"], survey, self.is_escaped)
+            return refused_body(refused, survey, row, self.paragraphs)
         row.update(volume_row(volume))
         if self.tables:
-            write_entries(self.tables[1], row["image"], volume)
+            write_entries(self.tables[1], row["image"], volume, self.is_escaped)
         return volume_body(volume, row)
 
     def write(self, name, text):
@@ -286,26 +312,37 @@ class Catalogue:
 
     def write_index(self, title):
         counts = f"<p>{len(self.rows)} images, {sum(row['verdict'] == 'ok' for row in self.rows)} sound</p>\n"
+        counts += '<p><label>Filter <input id="filter" type="search"></label> <span id="shown"></span></p>\n'
         self.write("index.html", page(title, counts + table(INDEX_HEADS, map(index_row, self.rows)), SCRIPT))
 
 
-def main():
-    words = [word for word in words_or_use(__doc__, 2, 3) if word != "--tsv"]
-    if len(words) != 2:
-        wrong_words(__doc__)
-    wanted = TABLES if "--tsv" in sys.argv else ()
+def work(words):
+    wanted = TABLES if words.tsv else ()
     adf.load()
-    folder = os.fsencode(words[0])
+    folder = os.fsencode(words.folder)
     os.listdir(folder)
-    paths, paragraphs = files_below(folder), paragraphs_of_causes()
-    with new_folder(words[1]) as out, contextlib.ExitStack() as opened:
+    paths, paragraphs = images_below(folder), paragraphs_of_causes()
+    with new_folder(words.out) as out, contextlib.ExitStack() as opened:
         os.mkdir(os.path.join(out, "images"))
         tables = [opened.enter_context(new_table(out, name, columns)) for name, columns in wanted]
-        catalogue = Catalogue(out, tables, paragraphs)
+        catalogue = Catalogue(out, tables, words.escape, paragraphs)
+        progress = Progress(len(paths), "images")
         for path in paths:
             catalogue.add(folder, path)
+            progress.step()
+        progress.end()
         catalogue.write_index(shown_name(os.path.basename(os.path.abspath(folder)) or folder))
     return catalogue.status
 
 
-begin(main)
+def main():
+    line = command_line("adf-catalogue", "Writes pages of the images in a folder for a browser: an index, and one for each image.")
+    line.add_argument("folder", metavar="FOLDER", help="the images, also those in folders below: files named *.adf or *.hdf, or that begin with DOS")
+    line.add_argument("out", metavar="OUT", help="is made whole or not at all, and must not be there; the index is index.html")
+    line.add_argument("--tsv", action="store_true", help="write the tables OUT/images.tsv and OUT/entries.tsv too")
+    add_escape(line, "write texts of the tables")
+    begin(line, work)
+
+
+if __name__ == "__main__":
+    main()

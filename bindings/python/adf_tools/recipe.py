@@ -1,15 +1,9 @@
-#!/usr/bin/env python3
-"""Writes the manifest of an image: `adf build` of it gives the same tree.
-
-Use: examples/recipe < disk.adf > disk.manifest
-
-Status 1: the image is refused, or its manifest is too long. 2: there are words. 3: a file cannot be read or written.
-"""
+"""adf-recipe: writes the manifest of an image; `adf build` of it gives the same tree (docs/adf-recipe.1)."""
 
 import sys
 
-sys.dont_write_bytecode = True
-from shared import adf, begin, given_volume, manifest_of, run_lines, words_or_use
+import adf
+from adf_tools.program import begin, command_line, given_volume, manifest_of, run_lines
 
 
 def entry_lines(entry):
@@ -30,9 +24,14 @@ def lines_of(volume):
         yield from entry_lines(entry)
 
 
-def main():
-    words_or_use(__doc__, 0, 0)
+def work(_words):
     sys.stdout.buffer.write(manifest_of(lines_of(given_volume())))
 
 
-begin(main)
+def main():
+    does = "Writes the manifest of the image on standard input; adf build of it gives the same tree."
+    begin(command_line("adf-recipe", does), work)
+
+
+if __name__ == "__main__":
+    main()

@@ -1,0 +1,38 @@
+"""Names of an Amiga on the host, and the way back.
+
+Amigas write in Latin-1. On the host a text is in UTF-8, with \\x and two hexadecimal digits for each byte that has no letter: 0 to 31,
+127 to 159, and the backslash. So no name is lost, and the way back is exact. The escape form has \\x for each byte outside 32 to
+126, too.
+"""
+
+import re
+
+import adf
+
+NO_LETTER = re.compile(r"[\x00-\x1f\\\x7f-\x9f]")
+ESCAPED = re.compile(rb"\\x([0-9a-f]{2})")
+
+
+def letters(text):
+    """The text of bytes, or of a text in Latin-1, with \\x and two digits for what has no letter."""
+    plain = text.decode("latin-1") if isinstance(text, bytes) else text
+    return NO_LETTER.sub(lambda found: f"\\x{ord(found[0]):02x}", plain)
+
+
+def text_of(text, is_escaped=False):
+    """The text of the host for bytes, or for a text in Latin-1; in the escape form where that is wanted."""
+    return adf.escape(text) if is_escaped else letters(text)
+
+
+def bytes_of(text, is_escaped=False):
+    """The bytes for which a text of the host stands, in UTF-8 or in the escape form. ValueError if it is not UTF-8, or has a
+    letter that Latin-1 has not."""
+    latin = text if is_escaped else text.decode("utf-8").encode("latin-1")
+    return ESCAPED.sub(lambda found: bytes.fromhex(found[1].decode("ascii")), latin)
+
+
+def host_letters(name):
+    """A name of the host, of any bytes, as a text that can be printed: \\x and two digits for each byte of what cannot."""
+    text = name.decode("utf-8", "surrogateescape")
+    plain = (c if c.isprintable() and c != "\\" else adf.escape(c.encode("utf-8", "surrogateescape")) for c in text)
+    return "".join(plain)

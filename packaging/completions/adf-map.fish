@@ -1,0 +1,4 @@
+# Completion of adf-map for fish.
+
+complete -c adf-map -s h -l help -d 'write the usage'
+complete -c adf-map -l version -d 'write the version'
