@@ -1,3 +1,4 @@
+-- All of it is the promise: what each block says of itself, and what is written.
 pub mod Causes
 pub mod Forms
 pub mod Fields

@@ -1,7 +1,7 @@
 // Data blocks of OFS files: reader and writer.
 
-ghost use Rattle.std.specs.Prelude.{◌≡◌, ◌≤◌, ◌+◌, ◌*◌, length, slice_range, None};
-ghost use Rattle.adf_fields.specs.Words.{block, with_block};
+ghost use Rattle.std.specs.Prelude.{◌≡◌, ◌==◌, ◌&&◌, ◌≤◌, ◌+◌, ◌*◌, length, slice_range, None};
+ghost use Rattle.adf_fields.specs.Words.{block, with_block, word};
 ghost use Rattle.adf_blocks.specs.Forms.{ReadsForm, first_cause};
 ghost use Rattle.adf_blocks.specs.DataBlock.{DataFields, FitsData, data_block, data_fields, data_form};
 
@@ -10,6 +10,18 @@ use crate::layout::{
     CHECKSUM, DATA_BYTES, DATA_HEAD, DATA_HELD, DATA_NEXT, DATA_NUMBER, DATA_ROOM, T_DATA, TYPE,
 };
 use adf_fields::{Block, put_block, put_bytes, put_word, seal_block};
+
+/// Whether words 1 to 4 of a block are these: the header of its file, its number in the file, the number of bytes held
+/// and the next data block.
+pub fn has_data_words(b: &Block<'_>, head: u32, number: u32, held: u32, next: u32) -> bool
+    ensures { result ≡ ((word b.now DATA_HEAD == head) && (word b.now DATA_NUMBER == number)
+        && (word b.now DATA_HELD == held) && (word b.now DATA_NEXT == next)) }
+{
+    b.word(DATA_HEAD) == head
+        && b.word(DATA_NUMBER) == number
+        && b.word(DATA_HELD) == held
+        && b.word(DATA_NEXT) == next
+}
 
 /// Reads a block as data block `number`, counted from 1, of the OFS file whose header is block `head`; `next` is the
 /// file's next data block, or 0. Returns the `held` bytes from byte 24 on.
@@ -33,11 +45,7 @@ pub fn read_data<'a>(
     if b.word(TYPE) != T_DATA {
         return Err(Cause::BadType);
     }
-    if b.word(DATA_HEAD) != head
-        || b.word(DATA_NUMBER) != number
-        || b.word(DATA_HELD) != held
-        || b.word(DATA_NEXT) != next
-    {
+    if !has_data_words(&b, head, number, held, next) {
         return Err(Cause::BadData);
     }
     Ok(b.bytes(DATA_BYTES, held as usize))

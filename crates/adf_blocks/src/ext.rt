@@ -1,6 +1,6 @@
 // Extension blocks of files: reader and writer.
 
-ghost use Rattle.std.specs.Prelude.{◌≡◌, ◌≤◌, ◌<◌, ◌+◌, ◌*◌, ◌-◌, ◌^◌, ℕ, length, slice_index, None};
+ghost use Rattle.std.specs.Prelude.{◌≡◌, ◌==◌, ◌&&◌, ◌≤◌, ◌<◌, ◌+◌, ◌*◌, ◌-◌, ◌^◌, ℕ, length, slice_index, None};
 ghost use Rattle.adf_fields.specs.Words.{block, with_block, word};
 ghost use Rattle.adf_blocks.specs.Forms.{ReadsForm, first_cause};
 ghost use Rattle.adf_blocks.specs.ExtBlock.{ExtFields, FitsExt, ext_block, ext_fields, ext_form};
@@ -27,6 +27,13 @@ impl<'a> Model for Ext<'a> {
     ghost view = { λ e. e.block };
 }
 
+/// Whether the primary and secondary types are those of an extension block: word 0 is 16, and word 127 is -3.
+pub fn has_ext_type(b: &Block<'_>) -> bool
+    ensures { result ≡ ((word b.now TYPE == T_LIST) && (word b.now SECONDARY_TYPE == ST_FILE)) }
+{
+    b.word(TYPE) == T_LIST && b.word(SECONDARY_TYPE) == ST_FILE
+}
+
 /// Reads a block as the extension block `own` of the file whose header is block `head`.
 ///
 /// The first cause that applies: `BadSum`; `BadType` if word 0 is not 16 or word 127 is not -3; `BadOwnKey` if word 1
@@ -37,7 +44,7 @@ pub fn read_ext<'a>(b: Block<'a>, own: u32, head: u32) -> Result<Ext<'a>, Cause>
     if b.long_sum() != 0 {
         return Err(Cause::BadSum);
     }
-    if b.word(TYPE) != T_LIST || b.word(SECONDARY_TYPE) != ST_FILE {
+    if !has_ext_type(&b) {
         return Err(Cause::BadType);
     }
     if b.word(OWN_KEY) != own {

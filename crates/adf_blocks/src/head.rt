@@ -88,8 +88,9 @@ fn tells_entry(t: u32) -> bool
     t == ST_DIR || t == ST_FILE
 }
 
-// Whether the primary and secondary types are those of an entry or a link.
-fn type_holds(b: &Block<'_>) -> bool
+/// Whether the primary and secondary types are those of the header of an entry or a link: word 0 is 2, and word 127 is
+/// one of 2, -3, 3, 4 and -4.
+pub fn has_head_type(b: &Block<'_>) -> bool
     ensures { result ≡ has_type b.now }
 {
     let secondary = b.word(SECONDARY_TYPE);
@@ -146,7 +147,7 @@ pub fn read_head<'a>(
     if b.long_sum() != 0 {
         return Err(Cause::BadSum);
     }
-    if !type_holds(&b) {
+    if !has_head_type(&b) {
         return Err(Cause::BadType);
     }
     if tells_link(b.word(SECONDARY_TYPE)) {

@@ -34,6 +34,14 @@ pub fn read_page<'a>(b: Block<'a>) -> Result<Page<'a>, Cause>
     Ok(Page { block: b })
 }
 
+/// Whether a bit of a word is set, counted from the lowest.
+pub fn is_set(word: u32, bit: u32) -> bool
+    requires { bit < 32 }
+    ensures { IsTrue result ↔ IsBitSet word bit }
+{
+    word & (1 << bit) != 0
+}
+
 impl<'a> Page<'a> {
     /// The page in a block of known form.
     pub fn over(block: Block<'a>) -> Page<'a>
@@ -55,8 +63,7 @@ impl<'a> Page<'a> {
         requires { bit < PAGE_BITS }
         ensures { IsTrue result ↔ IsFreeBit self.now bit }
     {
-        let word = self.block.word(PAGE_FIRST + bit as usize / 32);
-        word & (1 << (bit % 32)) != 0
+        is_set(self.block.word(PAGE_FIRST + bit as usize / 32), bit % 32)
     }
 }
 

@@ -1,6 +1,6 @@
 // The root block of a volume: reader.
 
-ghost use Rattle.std.specs.Prelude.{◌≡◌, ◌<◌, ◌+◌};
+ghost use Rattle.std.specs.Prelude.{◌≡◌, ◌==◌, ◌&&◌, ◌<◌, ◌+◌};
 ghost use Rattle.adf_fields.specs.Words.{word};
 ghost use Rattle.adf_blocks.specs.Forms.{ReadsForm, text_at};
 ghost use Rattle.adf_blocks.specs.RootBlock.{label_told, root_form, stamps_at};
@@ -33,6 +33,13 @@ impl<'a> Model for Root<'a> {
     ghost invariant = { λ r. first_cause (root_form r.block) ≡ None };
 }
 
+/// Whether the primary and secondary types are those of a root: word 0 is 2, and word 127 is 1.
+pub fn has_root_type(b: &Block<'_>) -> bool
+    ensures { result ≡ ((word b.now TYPE == T_SHORT) && (word b.now SECONDARY_TYPE == ST_ROOT)) }
+{
+    b.word(TYPE) == T_SHORT && b.word(SECONDARY_TYPE) == ST_ROOT
+}
+
 /// Reads a block as the root.
 ///
 /// The first cause that applies: `BadSum`; `BadType` if word 0 is not 2 or word 127 is not 1; `BadName` if byte 432 is
@@ -43,7 +50,7 @@ pub fn read_root<'a>(b: Block<'a>) -> Result<Root<'a>, Cause>
     if b.long_sum() != 0 {
         return Err(Cause::BadSum);
     }
-    if b.word(TYPE) != T_SHORT || b.word(SECONDARY_TYPE) != ST_ROOT {
+    if !has_root_type(&b) {
         return Err(Cause::BadType);
     }
     if b.byte(NAME) > 30 {

@@ -1,9 +1,9 @@
 // The blocks that a tree needs.
 
-ghost use Rattle.std.specs.Prelude.{◌≡◌, ◌+◌, ◌-◌, ◌^◌, true, min};
+ghost use Rattle.std.specs.Prelude.{◌≡◌, ◌≤◌, ◌+◌, ◌-◌, ◌^◌, true, min};
 ghost use Rattle.std.specs.Option.{SomeIff};
 ghost use Rattle.adf_blocks.specs.Sizes.{is_allowed};
-ghost use Rattle.adf_build.specs.Plan.{data_blocks, entries_blocks, entry_blocks, exts_needed};
+ghost use Rattle.adf_build.specs.Plan.{data_blocks, entries_blocks, entry_blocks, exts_needed, reserved};
 ghost use Rattle.adf_build.specs.Building.{need_of};
 
 use crate::plan::Plan;
@@ -59,4 +59,18 @@ pub fn need(tree: &Tree, blocks: u32) -> Option<u64>
 {
     let plan = Plan::new(blocks)?;
     Some(plan.need(count_entries(tree)))
+}
+
+/// The number of blocks that a volume of `blocks` blocks has for entries: all but the two boot blocks, the root, the
+/// bitmap pages and the bitmap extension blocks.
+#[tactic(auto, unfolding(crate::specs::Plan::reserved, adf_volume::specs::Image::map_exts_needed))]
+pub fn free_blocks(blocks: u32) -> u32
+    requires { is_allowed blocks ≡ true }
+    ensures exact { result ≡ blocks - 2 - (1 + reserved blocks) }
+    ensures room { 1 + reserved blocks ≤ blocks - 2 }
+{
+    match Plan::new(blocks) {
+        Some(plan) => (blocks - 2).saturating_sub(1 + plan.reserved()),
+        None => 0,
+    }
 }

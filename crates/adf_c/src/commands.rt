@@ -2,7 +2,7 @@
 
 ghost use Rattle.std.specs.Prelude.{◌≡◌, [], Some, false, take};
 ghost use Rattle.adf_cmd.specs.Answers.{adf_command};
-ghost use Rattle.adf_cmd.specs.Commands.{IsUnanswered, LooksAt, RunEnds};
+ghost use Rattle.adf_runs.specs.Commands.{IsUnanswered, LooksAt, RunEnds};
 ghost use Rattle.adf_survey_cmd.specs.Answers.{survey_command};
 ghost use Rattle.adf_memory.specs.Rooms.{StandIn};
 ghost use Rattle.adf_memory.specs.Words.{in_memory};

@@ -1,12 +1,11 @@
 -- The steps along the bitmap, and the facts known at its end.
-use Rattle.adf_check.specs.Fault.{IsTrueFault}
+use Rattle.adf_volume.specs.Fault.{IsTrueFault}
 use Rattle.std.proofs.Common.{◌≡◌, ◌≢◌, inl, inr, ℕ, zero, suc, List, ◌++◌, ◌+◌, ◌-◌, ◌*◌, ◌/◌, ◌%◌, ◌<◌, ◌≤◌, refl, sym, ap, subst, ◌∙◌, arith}
 use Rattle.std.proofs.Common.{Bool, true, false}
 use Rattle.std.specs.Prelude.{IfErr, Result, Ok, Err, slice_index, IsTrue, ◌↔◌, IsBitSet}
 use Rattle.adf_blocks.specs.declared.cause.Cause.{Cause}
 use Rattle.adf_blocks.specs.declared.cause.Cause.TheVariants.{LostBlock, OwnedFree}
 use Rattle.adf_blocks.specs.Sizes.{blocks, pages_needed}
-use Rattle.adf_volume.specs.declared.owner.Owner.TheVariants.{Free}
 use Rattle.adf_volume.specs.Image.{root_of, word_in, IsFreeAt}
 use Rattle.adf_volume.specs.Demands.{AllHold, FirstFails, boot_demands, root_demands}
 use Rattle.adf_volume.specs.Walk.{Role, Has, IsAbsent, IsFreeIn, bitmap_demands, FirstFault}
@@ -17,11 +16,13 @@ use Rattle.adf_volume.proofs.Lists.{all_append, all_split, fails_right}
 use Rattle.adf_volume.proofs.WalkFits.{fits}
 use Rattle.adf_volume.proofs.Walks.{one_block, asked_block, page_word}
 use Rattle.adf_volume.proofs.WholeWalks.{all_map_exts}
-use Rattle.adf_check.specs.declared.fault.Fault.{Fault}
+use Rattle.adf_volume.specs.declared.fault.Fault.{Fault}
 use Rattle.adf_volume.specs.Start.{IsBegun}
 use Rattle.adf_check.specs.Pages.{AreListed, IsBitFault}
-use Rattle.adf_check.specs.Reading.{block_of_page, IsListed, IsRead, IsMapped, StoreFits}
-use Rattle.adf_check.specs.Store.{StoreValue, owner_at}
+use Rattle.adf_check.specs.Reading.{block_of_page, IsListed, IsMapped, StoreFits}
+use Rattle.adf_check.specs.declared.kept_owner.KeptOwner.TheVariants.{Free}
+use Rattle.adf_check.specs.KeptOwner.{kept_at}
+use Rattle.adf_check.specs.Store.{StoreValue}
 use Rattle.adf_check.proofs.ClaimSteps.{first_fault}
 use Rattle.adf_check.proofs.NodeSteps.{at_or}
 use Rattle.adf_check.proofs.PageSteps.{page_is}
@@ -66,10 +67,10 @@ module _ (free : Bool) {image : List ℕ} {store : StoreValue} {b page : ℕ} {l
   then_free : IsFreeIn image st.walk b → free ≡ true
   then_free f = free_is.1 (subst (λ p. IsFreeAt image p ((b - 2) % 4064)) (only_page f.0 f.1) f.2)
 
-  absent_then : owner_at store.owners b ≡ Free → IsAbsent st.walk b
+  absent_then : kept_at store.owners b ≡ Free → IsAbsent st.walk b
   absent_then h = free_absent image store.owners st.walk st.read.tells.owns b h
 
-  then_absent : IsAbsent st.walk b → owner_at store.owners b ≢ Free → ⊥
+  then_absent : IsAbsent st.walk b → kept_at store.owners b ≢ Free → ⊥
   then_absent a h = taken_present image store.owners st.walk st.read.tells.owns b st.low hi h a
 
   length_of : 2 + (b - 2) ≡ b
@@ -85,10 +86,10 @@ module _ (free : Bool) {image : List ℕ} {store : StoreValue} {b page : ℕ} {l
       at_bitmap sound st.walk st.read.is_walk st.read.whole (subst (λ m. FirstFails (bitmap_demands image st.walk 2 m) b c) z
       (rw (split (suc (blocks image - suc b))) (fails_right (bitmap_demands image st.walk 2 (b - 2)) _ b c st.agrees f)))
 
-  pub lost : IsBegun image → free ≡ false → owner_at store.owners b ≡ Free → FirstFault image b LostBlock
+  pub lost : IsBegun image → free ≡ false → kept_at store.owners b ≡ Free → FirstFault image b LostBlock
   lost sound f h = fails sound LostBlock (inl ((λ k. clash (then_free (k (absent_then h))) f), refl, refl))
 
-  pub owned_free : IsBegun image → free ≡ true → owner_at store.owners b ≢ Free → FirstFault image b OwnedFree
+  pub owned_free : IsBegun image → free ≡ true → kept_at store.owners b ≢ Free → FirstFault image b OwnedFree
   owned_free sound f h = fails sound OwnedFree (inr ((λ a. absurd (then_absent a h)), inl ((λ k. then_absent (k (free_then f)) h), refl, refl)))
 
   mapped : (IsAbsent st.walk b → IsFreeIn image st.walk b) → (IsFreeIn image st.walk b → IsAbsent st.walk b) → IsMapped image store (suc b)
@@ -102,13 +103,13 @@ module _ (free : Bool) {image : List ℕ} {store : StoreValue} {b page : ℕ} {l
             (rw (split 1) (all_append (bitmap_demands image st.walk 2 (b - 2)) (bitmap_demands image st.walk b 1) st.agrees (f, (g, tt))));
       }
 
-  agrees_by : (t : Bool) → free ≡ t → IsTrue free ↔ (owner_at store.owners b ≡ Free) → IsMapped image store (suc b)
+  agrees_by : (t : Bool) → free ≡ t → IsTrue free ↔ (kept_at store.owners b ≡ Free) → IsMapped image store (suc b)
   agrees_by true e h = mapped (λ _. free_then e) (λ _. absent_then (h.0 e))
   agrees_by false e h =
-      let other : owner_at store.owners b ≢ Free = λ o. clash (h.1 o) e in
+      let other : kept_at store.owners b ≢ Free = λ o. clash (h.1 o) e in
       mapped (λ a. absurd (then_absent a other)) (λ k. absurd (clash (then_free k) e))
 
-  pub agrees : IsTrue free ↔ (owner_at store.owners b ≡ Free) → IsMapped image store (suc b)
+  pub agrees : IsTrue free ↔ (kept_at store.owners b ≡ Free) → IsMapped image store (suc b)
   agrees h = agrees_by free refl h
 
 pub fits_alone : (image : List ℕ) (store : StoreValue) (b : ℕ) → IsBegun image → b ≡ blocks image → IsMapped image store b → StoreFits image store
@@ -152,7 +153,7 @@ module _ (i bit : ℕ) {image : List ℕ} {store : StoreValue} {pages : List ℕ
   bit_refused (Err f) h = bit_fault f h
 
   -- or it is
-  pub bit_agrees : IsTrue free ↔ (owner_at store.owners (block_of_bit i bit) ≡ Free) → IsMapped image store (2 + 32 * i + (bit + 1))
+  pub bit_agrees : IsTrue free ↔ (kept_at store.owners (block_of_bit i bit) ≡ Free) → IsMapped image store (2 + 32 * i + (bit + 1))
   bit_agrees h =
       let next : suc (block_of_bit i bit) ≡ 2 + 32 * i + (bit + 1) = omega arith in
       subst (IsMapped image store) next (agrees free hi listed.listed refl here st h)
@@ -164,13 +165,13 @@ no_bit bit = ((λ h. absurd (let x : false ≡ true = h in cc)), (λ h. absurd (
 -- where a word is 0 and its first blocks are owned, the bitmap agrees on them
 pub owned_run : (i n : ℕ) {image : List ℕ} {store : StoreValue} {pages : List ℕ} → n ≤ 32 → 2 + 32 * i + n ≤ blocks image → IsBegun image
     → AreListed image pages (pages_needed (blocks image)) → 0 ≡ word_in image (slice_index pages (i / 127)) (1 + i % 127)
-    → ((b : ℕ) → 2 + 32 * i ≤ b → b < 2 + 32 * i + n → owner_at store.owners b ≢ Free) → IsMapped image store (2 + 32 * i)
+    → ((b : ℕ) → 2 + 32 * i ≤ b → b < 2 + 32 * i + n → kept_at store.owners b ≢ Free) → IsMapped image store (2 + 32 * i)
     → IsMapped image store (2 + 32 * i + n)
 owned_run i zero {image = image} {store = store} few hi begun listed none owned st =
     let e : 2 + 32 * i ≡ 2 + 32 * i + 0 = omega arith in subst (IsMapped image store) e st
 owned_run i (suc n) {image = image} {store = store} few hi begun listed none owned st =
     let before = owned_run i n (omega arith) (omega arith) begun listed none (λ c lo lt. owned c lo (omega arith)) st in
-    let here : owner_at store.owners (2 + 32 * i + n) ≢ Free = owned (2 + 32 * i + n) (omega arith) (omega arith) in
+    let here : kept_at store.owners (2 + 32 * i + n) ≢ Free = owned (2 + 32 * i + n) (omega arith) (omega arith) in
     let e : n + 1 ≡ suc n = omega arith in
     subst (λ n. IsMapped image store (2 + 32 * i + n)) e
     (bit_agrees i n (omega arith) begun (omega arith) listed before none (no_bit n) ((λ h. absurd (let x : false ≡ true = h in cc)), (λ h. absurd (here h))))

@@ -17,7 +17,6 @@ use Rattle.adf_tree.proofs.ChildLookup.{found_is}
 use Rattle.adf_blocks.specs.Forms.{text_at}
 use Rattle.adf_blocks.specs.HeadBlock.{IsHead}
 use Rattle.adf_blocks.specs.Sizes.{blocks}
-use Rattle.adf_volume.specs.declared.owner.Owner.{Owner}
 use Rattle.adf_volume.specs.declared.owner.Owner.TheVariants.{Head as AHead}
 use Rattle.adf_volume.specs.Fits.{BodyFits, EntryFits}
 use Rattle.adf_volume.specs.Image.{name_of, word_in}
@@ -32,7 +31,10 @@ use Rattle.adf_volume.proofs.Lists.{at_below, at_fun, at_map, at_some, at_unmap,
 use Rattle.adf_volume.proofs.TreeOrder.{DirNode, is_dir, ordered}
 use Rattle.adf_check.specs.Lookup.{headed}
 use Rattle.adf_check.specs.Reading.{StoreFits}
-use Rattle.adf_check.specs.Store.{StoreValue, owner_at}
+use Rattle.adf_check.specs.declared.kept_owner.KeptOwner.{KeptOwner}
+use Rattle.adf_check.specs.declared.kept_owner.KeptOwner.TheVariants as kept
+use Rattle.adf_check.specs.KeptOwner.{kept_at}
+use Rattle.adf_check.specs.Store.{StoreValue}
 use Rattle.adf_check.specs.StoreStands.{StoreStandsFor}
 use Rattle.adf_check.proofs.RowLaws.{head_facts}
 use Rattle.adf_check.proofs.StoreStands.{keeps}
@@ -53,12 +55,12 @@ module _ (image : List ℕ) (b : ℕ) (name : List ℕ) {told head bytes : List 
       cc
 
 -- the nodes from that of the header at a block on, by its owner
-abbrev node_left : ℕ → Owner → ℕ
-node_left headers (AHead n) = suc headers - n
+abbrev node_left : ℕ → KeptOwner → ℕ
+node_left headers (kept.Head n) = suc headers - n
 node_left headers _ = 0
 
 abbrev pub chain_left : StoreValue → ℕ → ℕ
-chain_left store b = node_left (length store.headers) (owner_at store.owners b)
+chain_left store b = node_left (length store.headers) (kept_at store.owners b)
 
 -- the block that a header's word names next
 abbrev next_in : List ℕ → ℕ → ℕ
@@ -135,10 +137,10 @@ module _ {image : List ℕ} {store : StoreValue} {t : Tree} {l : Layout} (k : St
 
     -- the owner of a header, and the nodes from it on
     left_at : (j n : ℕ) → At (nodes_named t p name) j n → {b : ℕ} → at_node image l n ≡ b
-        → (owner_at store.owners b ≡ AHead n) × (chain_left store b ≡ suc (length store.headers) - n) × (n ≤ length store.headers)
+        → (kept_at store.owners b ≡ kept.Head n) × (chain_left store b ≡ suc (length store.headers) - n) × (n ≤ length store.headers)
     left_at j n a {b = b} is =
         let x = entry_at t p (slot_of name) j n a in
-        let o : owner_at store.owners b ≡ AHead n = k.owners.part (AHead n) b (part_owned image t l k.fits.places (Head n p (slot_of name) j) b (a, is)) in
+        let o : kept_at store.owners b ≡ kept.Head n = k.owners.part (AHead n) b (part_owned image t l k.fits.places (Head n p (slot_of name) j) b (a, is)) in
         (o, ap (node_left (length store.headers)) o, omega (arith, entry_below t n x.entry x.at, k.headers.count))
 
   module _ {p : ℕ} {name : List ℕ} where
@@ -176,7 +178,7 @@ module _ {image : List ℕ} {store : StoreValue} {t : Tree} {l : Layout} (k : St
           head_facts t.kind b b (at_node image l e.parent) (slot_of e.name) (block image b) (entry_fits e node_entry.at).form
 
       -- the header has the name
-      pub chain_found : uppers (name_of image b) ≡ uppers name → headed (owner_at store.owners b) ≡ child t.entries p name
+      pub chain_found : uppers (name_of image b) ≡ uppers name → headed (kept_at store.owners b) ≡ child t.entries p name
       chain_found u =
           let x = node_entry in
           ap headed (left_at p name c.place at.0 at.1 at.2).0
@@ -208,7 +210,7 @@ module _ {image : List ℕ} {store : StoreValue} {t : Tree} {l : Layout} (k : St
           let left = left_at p name c.place at.0 at.1 at.2 in
           elim (ℕ_discrete (next_in image b) 0) [
             | yes z ↦
-                let boot = ap (owner_at store.owners) z ∙ k.owners.boot 0 (omega arith) (omega (arith, here_inside)) in
+                let boot = ap (kept_at store.owners) z ∙ k.owners.boot 0 (omega arith) (omega (arith, here_inside)) in
                 let none : chain_left store (next_in image b) ≡ 0 = ap (node_left (length store.headers)) boot in
                 omega (arith, left.1, left.2)
             | no more ↦

@@ -15,7 +15,6 @@ use Rattle.adf_blocks.specs.declared.cause.Cause.{Cause}
 use Rattle.adf_blocks.specs.declared.cause.Cause.TheVariants.{SameName}
 use Rattle.adf_blocks.specs.Forms.{first_cause, text_at}
 use Rattle.adf_blocks.specs.HeadBlock.{head_form}
-use Rattle.adf_volume.specs.declared.owner.Owner.TheVariants.{Free}
 use Rattle.adf_volume.specs.Demands.{Demand, AllHold, FirstFails, head_demands}
 use Rattle.adf_volume.specs.Image.{kind_of, name_of, word_in}
 use Rattle.adf_volume.specs.Walk.{Role, heads, Asks, form_demands, IsWalk}
@@ -24,11 +23,13 @@ use Rattle.adf_volume.proofs.FormDemands.{all_demanded, first_demanded}
 use Rattle.adf_volume.proofs.Roles.{dir_up}
 use Rattle.adf_volume.proofs.Roles.{dir_is_node}
 use Rattle.adf_volume.proofs.Walks.{node_is, one_block, one_node}
-use Rattle.adf_check.specs.Fault.{IsTrueFault, fault}
+use Rattle.adf_volume.specs.Fault.{IsTrueFault, fault}
 use Rattle.adf_check.specs.Cursor.Cursor.{BeforeRole}
 use Rattle.adf_volume.specs.Start.{IsBegun}
 use Rattle.adf_check.specs.Reading.{IsAtSlot, IsInChain, Next, Sees, next_head, sees_of}
-use Rattle.adf_check.specs.Store.{StoreValue, owner_at}
+use Rattle.adf_check.specs.declared.kept_owner.KeptOwner.TheVariants.{Free}
+use Rattle.adf_check.specs.KeptOwner.{kept_at}
+use Rattle.adf_check.specs.Store.{StoreValue}
 use Rattle.adf_check.proofs.ClaimSteps.{IsNamed, IsStored, form_fault, name_fault, read_one}
 use Rattle.adf_check.proofs.CursorMoves.{moved, end_chain}
 
@@ -111,7 +112,7 @@ module _ {image : List ℕ} {store : StoreValue} {p up s a b : ℕ} {seen : List
   }
 
   -- the block is free
-  module _ (range : InRange (length store.owners) b) (free : owner_at store.owners b ≡ Free) where
+  module _ (range : InRange (length store.owners) b) (free : kept_at store.owners b ≡ Free) where
     -- and holds a header, whose name was not seen
     pub next_chain : AllHold (head_demands image (kind_of image) b up s) → (seen (uppers (name_of image b)) → ⊥) → (seen' : List ℕ → Type 0)
         → ((x : List ℕ) → seen' x ↔ ((uppers (name_of image b) ≡ x) ⊎ seen x)) → {new : StoreValue} → IsStored store new (next_head st.walk p s st.place) b
@@ -130,7 +131,7 @@ module _ {image : List ℕ} {store : StoreValue} {p up s a b : ℕ} {seen : List
 
 -- what was read of it
 module _ {image : List ℕ} {store : StoreValue} {p up s a b : ℕ} (names : Names) (lt : s < SLOTS) (begun : IsBegun image)
-    (st : IsInChain image store p up s a b (sees_of names)) (ne : b ≢ 0) (range : InRange (length store.owners) b) (free : owner_at store.owners b ≡ Free)
+    (st : IsInChain image store p up s a b (sees_of names)) (ne : b ≢ 0) (range : InRange (length store.owners) b) (free : kept_at store.owners b ≡ Free)
     {kind : Kind} {bytes : List ℕ} (is_kind : kind ≡ kind_of image) (is_block : bytes ≡ block image b) where
   cause_is : first_cause (head_form kind b up s bytes) ≡ first_cause (head_form (kind_of image) b up s (block image b))
   cause_is = ap (λ x. first_cause (head_form kind b up s x)) is_block ∙ ap (λ k. first_cause (head_form k b up s (block image b))) is_kind

@@ -5,23 +5,23 @@ use Rattle.std.specs.Prelude.{IfErr, IsOk, OnOk}
 use Rattle.adf_blocks.specs.declared.cause.Cause.{Cause}
 use Rattle.adf_blocks.specs.declared.cause.Cause.TheVariants.{OutOfRange, Taken, SameName, ShortFile}
 use Rattle.adf_blocks.specs.Sizes.{blocks}
-use Rattle.adf_volume.specs.declared.owner.Owner.TheVariants.{Free}
 use Rattle.adf_volume.specs.Demands.{Demand, demand, AllHold, FirstFails}
 use Rattle.adf_volume.specs.Image.{word_in}
-use Rattle.adf_volume.specs.LayoutRoles.{owner_of}
 use Rattle.adf_volume.specs.Walk.{Role, first, second, third, heads, Asks, Enough, NewName, form_demands, demands, FirstFault}
 use Rattle.adf_volume.specs.Walk.Role.{Head}
 use Rattle.adf_volume.specs.Walk.FirstFault.{at_due}
 use Rattle.adf_volume.proofs.Lists.{fails_left, fails_right, all_append}
 use Rattle.adf_volume.proofs.Memory.{fault_of_image}
 use Rattle.adf_volume.proofs.Roles.{asks_number}
-use Rattle.adf_check.specs.declared.fault.Fault.{Fault}
-use Rattle.adf_check.specs.Fault.{IsTrueFault, fault}
+use Rattle.adf_volume.specs.declared.fault.Fault.{Fault}
+use Rattle.adf_volume.specs.Fault.{IsTrueFault, fault}
 use Rattle.adf_check.specs.Cursor.{Cursor, first_number, second_number, third_number, nodes_begun, IsUpTo}
 use Rattle.adf_check.specs.Cursor.Cursor.{BeforeRole}
 use Rattle.adf_volume.specs.Start.{IsBegun}
 use Rattle.adf_check.specs.Reading.{HasRead}
-use Rattle.adf_check.specs.Store.{StoreValue, owner_at, push_header, push_block, ext_file, data_file, stored, StoreMatches}
+use Rattle.adf_check.specs.declared.kept_owner.KeptOwner.TheVariants.{Free}
+use Rattle.adf_check.specs.KeptOwner.{kept_at}
+use Rattle.adf_check.specs.Store.{StoreValue, next_kept, push_header, push_block, ext_file, data_file, stored, StoreMatches}
 use Rattle.adf_check.proofs.CursorMoves.{is_due, take_it}
 use Rattle.adf_check.proofs.StoreSteps.{free_absent, taken_present, tells_more}
 
@@ -49,7 +49,7 @@ pub record IsNamed (image : List ℕ) (store : StoreValue) (w : List (Role × �
 
 -- the new store is the old one with block b in this role, field by field
 pub record IsStored (old new : StoreValue) (r : Role) (b : ℕ) : Type 0 where
-  pub owners : new.owners ≡ set old.owners b (owner_of r)
+  pub owners : new.owners ≡ set old.owners b (next_kept old r)
   pub headers : new.headers ≡ push_header r b old.headers
   pub starts : new.starts ≡ old.starts
   pub exts : new.exts ≡ push_block ext_file r b old.exts
@@ -100,7 +100,7 @@ module _ {image : List ℕ} {store : StoreValue} {w : List (Role × ℕ)} {r : R
     claim_refused (Ok y) h = tt
     claim_refused (Err f) h = claim_fault f h
 
-    module _ (range : InRange (length store.owners) b) (free : owner_at store.owners b ≡ Free) where
+    module _ (range : InRange (length store.owners) b) (free : kept_at store.owners b ≡ Free) where
       pub inside : b < blocks image
       inside = (in_image range).1
 

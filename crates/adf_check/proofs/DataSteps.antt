@@ -8,7 +8,6 @@ use Rattle.adf_blocks.specs.declared.layout.TheConstants.{POINTERS, SIZE}
 use Rattle.adf_blocks.specs.declared.cause.Cause.{Cause}
 use Rattle.adf_blocks.specs.declared.cause.Cause.TheVariants.{ShortFile}
 use Rattle.adf_blocks.specs.Sizes.{blocks}
-use Rattle.adf_volume.specs.declared.owner.Owner.TheVariants.{Free}
 use Rattle.adf_volume.specs.Demands.{Demand, AllHold, FirstFails, data_demands}
 use Rattle.adf_volume.specs.Image.{held, kind_of, table_word, word_in}
 use Rattle.adf_volume.specs.Lists.{At}
@@ -18,12 +17,14 @@ use Rattle.adf_volume.proofs.Lists.{at_some}
 use Rattle.adf_volume.proofs.Roles.{head_role, member_up, typed_up}
 use Rattle.adf_volume.proofs.MemberFacts.{in_range}
 use Rattle.adf_volume.proofs.Walks.{file_is, member_is, one_head}
-use Rattle.adf_check.specs.Fault.{IsTrueFault, fault}
+use Rattle.adf_volume.specs.Fault.{IsTrueFault, fault}
 use Rattle.adf_check.specs.Cursor.Cursor.{BeforeRole}
 use Rattle.adf_check.specs.Datas.{next_of}
 use Rattle.adf_volume.specs.Start.{IsBegun}
 use Rattle.adf_check.specs.Reading.{IsAtNode, IsInDatas}
-use Rattle.adf_check.specs.Store.{StoreValue, owner_at}
+use Rattle.adf_check.specs.declared.kept_owner.KeptOwner.TheVariants.{Free}
+use Rattle.adf_check.specs.KeptOwner.{kept_at}
+use Rattle.adf_check.specs.Store.{StoreValue}
 use Rattle.adf_check.proofs.NodeSteps.{at_or}
 use Rattle.adf_check.proofs.NumberBounds.{many_blocks}
 use Rattle.adf_check.proofs.ClaimSteps.{IsNamed, IsStored, form_fault, read_one, short_fault}
@@ -104,7 +105,7 @@ module _ {image : List ℕ} {store : StoreValue} {n h : ℕ} {table : List ℕ} 
           let head : node_block st.walk n ≡ h = file_is image st.walk n h st.read.upto.walk st.holds.file in
           rw (is_count, is_size, one, head, next_here (nat_lt (suc k) (data_count image h)) refl) refl
 
-      module _ (range : InRange (length store.owners) b) (free : owner_at store.owners b ≡ Free) where
+      module _ (range : InRange (length store.owners) b) (free : kept_at store.owners b ≡ Free) where
         pub data_fault : (c : Cause) → FirstFails demands_here b c → IsTrueFault image (fault b c)
         data_fault c f = form_fault data_named data_enough range free c (subst (λ ds. FirstFails ds b c) form_is f)
 

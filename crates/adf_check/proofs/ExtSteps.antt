@@ -8,7 +8,6 @@ use Rattle.adf_fields.specs.Words.{block, word}
 use Rattle.adf_blocks.specs.declared.cause.Cause.{Cause}
 use Rattle.adf_blocks.specs.Forms.{first_cause}
 use Rattle.adf_blocks.specs.ExtBlock.{ext_form}
-use Rattle.adf_volume.specs.declared.owner.Owner.TheVariants.{Free}
 use Rattle.adf_volume.specs.Demands.{Demand, AllHold, FirstFails, ext_demands}
 use Rattle.adf_volume.specs.Image.{word_in}
 use Rattle.adf_volume.specs.Lists.{At}
@@ -18,11 +17,13 @@ use Rattle.adf_volume.proofs.FormDemands.{all_demanded, first_demanded}
 use Rattle.adf_volume.proofs.Lists.{at_snoc, snoc_length}
 use Rattle.adf_volume.proofs.Roles.{count_own, member_up, typed_up}
 use Rattle.adf_volume.proofs.Walks.{file_is, one_block, one_head, ext_counted}
-use Rattle.adf_check.specs.Fault.{IsTrueFault, fault}
+use Rattle.adf_volume.specs.Fault.{IsTrueFault, fault}
 use Rattle.adf_check.specs.Cursor.Cursor.{BeforeRole}
 use Rattle.adf_volume.specs.Start.{IsBegun}
 use Rattle.adf_check.specs.Reading.{HasTable, IsInDatas, IsInExts, IsInNode, NextExt}
-use Rattle.adf_check.specs.Store.{StoreValue, owner_at}
+use Rattle.adf_check.specs.declared.kept_owner.KeptOwner.TheVariants.{Free}
+use Rattle.adf_check.specs.KeptOwner.{kept_at}
+use Rattle.adf_check.specs.Store.{StoreValue}
 use Rattle.adf_check.proofs.ClaimSteps.{IsNamed, IsStored, form_fault, read_one}
 use Rattle.adf_check.proofs.CursorMoves.{moved, enter_file, end_exts}
 
@@ -88,7 +89,7 @@ module _ {image : List ℕ} {store : StoreValue} {n h : ℕ} {table : List ℕ} 
   form_at P = subst (λ h. P (ext_demands image b h)) (sym (file_is image st.walk n h st.read.upto.walk st.holds.file))
 
   -- what was read of it
-  module _ (range : InRange (length store.owners) b) (free : owner_at store.owners b ≡ Free) {bytes : List ℕ} (is_block : bytes ≡ block image b) where
+  module _ (range : InRange (length store.owners) b) (free : kept_at store.owners b ≡ Free) {bytes : List ℕ} (is_block : bytes ≡ block image b) where
     pub ext_fault : (c : Cause) → first_cause (ext_form b h bytes) ≡ Some c → IsTrueFault image (fault b c)
     ext_fault c f = form_fault ext_named tt range free c (form_at (λ ds. FirstFails ds b c)
         (first_demanded b (ext_form b h (block image b)) c (ap (λ x. first_cause (ext_form b h x)) (sym is_block) ∙ f)))

@@ -1,8 +1,8 @@
 -- The blocks of each file are adjacent in the flat lists of a walk.
-use Rattle.std.proofs.Common.{◌≡◌, ℕ, suc, List, [], ◌∷◌, ◌++◌, inl, inr, ◌<◌, ◌≤◌, length, refl, sym, ap, ◌∙◌, arith, Bool, true, false}
+use Rattle.std.proofs.Common.{◌≡◌, ℕ, suc, List, [], ◌∷◌, ◌++◌, inl, inr, ◌+◌, ◌<◌, ◌≤◌, length, length-append, refl, sym, ap, ◌∙◌, arith, Bool, true, false}
 use Rattle.std.proofs.Common.{cond, take, drop, append_assoc, Option, Some, None}
 use Rattle.std.specs.Prelude.{◌==◌, ◌||◌, is_some, nat_lt, not}
-use Rattle.std.proofs.lemmas.Bool.{eqb-true, false_from_ne_true, le-ltb, lt-ltb, ltb-false, not-true}
+use Rattle.std.proofs.lemmas.Bool.{eqb-true, false_from_ne_true, le-ltb, lt-ltb, ltb-false, ltb-true, not-true}
 use Rattle.std.proofs.lemmas.Bool.Decides.{nat_tests}
 use Rattle.std.proofs.lemmas.List.{append-nil}
 use Rattle.std.proofs.Math.Seq.{drop-append_seam, take-append_seam}
@@ -11,8 +11,21 @@ use Rattle.adf_volume.specs.Walk.{Role, first, Has, IsWalk}
 use Rattle.adf_volume.specs.Walk.Role.{Root, Ext, Data}
 use Rattle.adf_volume.specs.Walk.IsWalk.{start, step}
 use Rattle.adf_volume.specs.Made.{picked, is_ext_of, exts_in, is_data_of, datas_in}
+use Rattle.adf_volume.proofs.Lists.{snoc_length}
 use Rattle.adf_volume.proofs.WalkOrder.{rises}
 use Rattle.adf_check.specs.Store.{ext_file, data_file, file_blocks, is_below, blocks_before}
+
+-- a test that passes whatever another one passes picks no fewer blocks
+picked_fewer : (f g : Role → Bool) (w : List (Role × ℕ)) → ((r : Role) → f r ≡ true → g r ≡ true) → length (picked f w) ≤ length (picked g w)
+picked_fewer f g [] h = omega arith
+picked_fewer f g (x ∷ w) h = go (f x.0) (g x.0) (h x.0) (picked_fewer f g w h)
+  where
+    go : (y z : Bool) → (y ≡ true → z ≡ true) → length (picked f w) ≤ length (picked g w)
+        → length (cond y (picked f w ++ x.1 ∷ []) (picked f w)) ≤ length (cond z (picked g w ++ x.1 ∷ []) (picked g w))
+    go true true e ih = omega (arith, snoc_length (picked f w) x.1, snoc_length (picked g w) x.1)
+    go true false e ih = let no : false ≡ true = e refl in cc
+    go false true e ih = omega (arith, snoc_length (picked g w) x.1)
+    go false false e ih = ih
 
 -- two tests that agree on the members of a walk pick the same blocks
 picked_same : (f g : Role → Bool) (w : List (Role × ℕ)) → ((r : Role) (b : ℕ) → Has w r b → f r ≡ g r) → picked f w ≡ picked g w
@@ -70,6 +83,14 @@ module _ (image : List ℕ) (file : Role → Option ℕ) (tells : TellsFile file
       same r le None t = refl
       same r le (Some m) t = sym (lt-ltb m n (omega arith))
 
+  -- no file's node is below the root's
+  none_before : (w : List (Role × ℕ)) → blocks_before file w 0 ≡ 0
+  none_before w = ap length (picked_none (λ r. is_below 0 (file r)) w (λ r b h. none (file r)))
+    where
+      none : (o : Option ℕ) → is_below 0 o ≡ false
+      none None = refl
+      none (Some n) = le-ltb n 0 (omega arith)
+
   -- what `all` picks is what is of files below n, and then what `rest` picks, which is of later nodes
   module _ (n : ℕ) (all rest : Role → Bool) (parts : (r : Role) → all r ≡ (is_below n (file r) || rest r))
       (from : (r : Role) → rest r ≡ true → n < first r) where
@@ -119,15 +140,32 @@ module _ (image : List ℕ) (file : Role → Option ℕ) (tells : TellsFile file
     from_later r None t e = cc
     from_later r (Some m) t e = omega (arith, ltb-false m (suc n) (not-true (nat_lt m (suc n)) e))
 
+    below_next : picked (λ r. is_below (suc n) (file r)) w ≡ picked (λ r. is_below n (file r)) w ++ picked of w
+    below_next =
+        split n (λ r. is_below (suc n) (file r)) of (λ r. at_file (file r) ∙ ap (λ t. is_below n (file r) || t) (sym (is_of r)))
+        (λ r e. from_file r (file r) (tells r) (sym (is_of r) ∙ e)) v
+
+    -- they end where those of a later file begin, or before
+    file_apart : (m : ℕ) → n < m → blocks_before file w n + length (picked of w) ≤ blocks_before file w m
+    file_apart m lt =
+        omega (
+          arith,
+          ap length below_next,
+          length-append (picked (λ r. is_below n (file r)) w) (picked of w),
+          picked_fewer (λ r. is_below (suc n) (file r)) (λ r. is_below m (file r)) w (λ r. up (file r)),
+        )
+      where
+        up : (o : Option ℕ) → is_below (suc n) o ≡ true → is_below m o ≡ true
+        up None e = e
+        up (Some k) e = lt-ltb k m (omega (arith, ltb-true k (suc n) e))
+
     file_stored : take (length (picked of w)) (drop (blocks_before file w n) (file_blocks file w)) ≡ picked of w
     file_stored =
         let below = picked (λ r. is_below n (file r)) w in
         let later = picked (λ r. is_later (suc n) (file r)) w in
-        let front = split n (λ r. is_below (suc n) (file r)) of (λ r. at_file (file r) ∙ ap (λ t. is_below n (file r) || t) (sym (is_of r)))
-        (λ r e. from_file r (file r) (tells r) (sym (is_of r) ∙ e)) v in
         let all : file_blocks file w ≡ below ++ (picked of w ++ later) =
         split (suc n) (λ r. is_some (file r)) (λ r. is_later (suc n) (file r)) (λ r. at_all (file r)) (λ r. from_later r (file r) (tells r)) v
-        ∙ ap (λ xs. xs ++ later) front ∙ append_assoc below (picked of w) later in
+        ∙ ap (λ xs. xs ++ later) below_next ∙ append_assoc below (picked of w) later in
         ap (λ xs. take (length (picked of w)) (drop (length below) xs)) all ∙ ap (take (length (picked of w))) (drop-append_seam below (picked of w ++ later))
         ∙ take-append_seam (picked of w) later
 
@@ -146,3 +184,16 @@ module _ (image : List ℕ) (n : ℕ) {w : List (Role × ℕ)} (v : IsWalk image
 
   pub datas_stored : take (length (datas_in w n)) (drop (blocks_before data_file w n) (file_blocks data_file w)) ≡ datas_in w n
   datas_stored = file_stored image data_file data_tells n (is_data_of n) (is_data n) v
+
+  pub exts_apart : (m : ℕ) → n < m → blocks_before ext_file w n + length (exts_in w n) ≤ blocks_before ext_file w m
+  exts_apart = file_apart image ext_file ext_tells n (is_ext_of n) (is_ext n) v
+
+  pub datas_apart : (m : ℕ) → n < m → blocks_before data_file w n + length (datas_in w n) ≤ blocks_before data_file w m
+  datas_apart = file_apart image data_file data_tells n (is_data_of n) (is_data n) v
+
+-- nothing stands before the blocks of the root
+pub no_exts_before : (image : List ℕ) (w : List (Role × ℕ)) → blocks_before ext_file w 0 ≡ 0
+no_exts_before image w = none_before image ext_file ext_tells w
+
+pub no_datas_before : (image : List ℕ) (w : List (Role × ℕ)) → blocks_before data_file w 0 ≡ 0
+no_datas_before image w = none_before image data_file data_tells w

@@ -17,6 +17,7 @@ pub mod BitmapSteps
 pub mod WalkLengths
 pub mod NumberBounds
 -- the facts about a checked volume
+pub mod KeptPlaces
 pub mod StoreStands
 pub mod RowLaws
 pub mod VolumeCounts

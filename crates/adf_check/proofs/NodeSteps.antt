@@ -17,7 +17,7 @@ use Rattle.adf_volume.specs.Start.{IsBegun}
 use Rattle.adf_check.specs.Reading.{IsAtNode, IsAtSlot, IsInExts, IsInNode, IsRead}
 use Rattle.adf_check.specs.Store.{StoreValue, StoreMatches, blocks_before, data_file, entered, ext_file}
 use Rattle.adf_check.proofs.NumberBounds.{many_blocks}
-use Rattle.adf_check.proofs.CursorMoves.{moved, enter_dir, end_dir, end_all}
+use Rattle.adf_check.proofs.CursorMoves.{moved, enter_dir, end_all}
 use Rattle.adf_check.proofs.ExtSteps.{enter_exts}
 use Rattle.adf_check.proofs.FileBlocks.{all_before, data_tells, ext_tells}
 

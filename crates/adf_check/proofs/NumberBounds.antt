@@ -1,60 +1,51 @@
--- The numbers of blocks, nodes and parts fit in 32 bits.
+-- The numbers of blocks and nodes fit in 29 bits, and so do the places of the blocks of files.
 use Rattle.std.proofs.Common.{◌≡◌, ℕ, List, ◌+◌, ◌^◌, ◌<◌, ◌≤◌, length, ap, arith}
 use Rattle.std.specs.Prelude.{is_some}
 use Rattle.std.proofs.lemmas.List.Sums.{count_by-le-length}
 use Rattle.adf_blocks.specs.declared.layout.TheConstants.{MOST_BLOCKS}
-use Rattle.adf_blocks.specs.Sizes.{blocks}
-use Rattle.adf_volume.specs.Made.{is_ext_of}
+use Rattle.adf_blocks.specs.Sizes.{blocks, pages_needed}
 use Rattle.adf_volume.specs.Walk.{Role, heads}
 use Rattle.adf_volume.proofs.Sizes.{size_high, size_low}
-use Rattle.adf_volume.proofs.WalkMembers.{exts_length}
 use Rattle.adf_volume.proofs.Gathered.{dir_number}
-use Rattle.adf_volume.proofs.Walks.{number_of, of_walk}
+use Rattle.adf_volume.proofs.Walks.{of_walk}
 use Rattle.adf_check.specs.Cursor.{Cursor}
-use Rattle.adf_check.specs.Reading.{HasRead, HasTable, IsAtNode, IsInChain}
+use Rattle.adf_check.specs.Reading.{HasRead, IsInChain}
 use Rattle.adf_check.specs.Store.{StoreValue, StoreMatches, data_file, ext_file}
 use Rattle.adf_volume.specs.Start.{IsBegun}
-use Rattle.adf_check.specs.Owners.{is_part, owned_count}
+use Rattle.adf_check.specs.KeptOwner.{claimed_count, is_claimed}
 use Rattle.adf_check.proofs.WalkLengths.{heads_within, picked_within}
 
 -- there are at least 4 blocks
 pub many_blocks : (image : List ℕ) → IsBegun image → 4 ≤ blocks image
 many_blocks image begun = size_low (blocks image) begun.0.1
 
-module _ {image : List ℕ} {store : StoreValue} (begun : IsBegun image) (used : store.used ≡ owned_count store.owners) where
+-- there are few pages
+pub pages_few : (image : List ℕ) → IsBegun image → pages_needed (blocks image) < 2 ^ 29
+pages_few image begun = omega (arith, size_high (blocks image) begun.0.1)
+
+module _ {image : List ℕ} {store : StoreValue} (begun : IsBegun image) (used : store.used ≡ claimed_count store.owners) where
   -- a walk has no more members than there are blocks
   walk_short : {w : List (Role × ℕ)} → StoreMatches image store w → length w ≤ MOST_BLOCKS
   walk_short {w = w} tells =
-      let owned : owned_count store.owners ≤ length store.owners = count_by-le-length is_part store.owners in
+      let owned : claimed_count store.owners ≤ length store.owners = count_by-le-length is_claimed store.owners in
       let high = size_high (blocks image) begun.0.1 in
       omega arith
 
   -- the lists of all extension blocks and of all data blocks are short
-  pub lists_short : {n : ℕ} → IsAtNode image store n → (length store.exts < 2 ^ 32) × (length store.datas < 2 ^ 32)
-  lists_short st =
-      let short = walk_short st.read.tells in (
-        omega (arith, ap length st.read.tells.exts, picked_within (λ r. is_some (ext_file r)) st.walk),
-        omega (arith, ap length st.read.tells.datas, picked_within (λ r. is_some (data_file r)) st.walk),
+  pub lists_short : {w : List (Role × ℕ)} {at : Cursor} → HasRead image store w at → (length store.exts < 2 ^ 29) × (length store.datas < 2 ^ 29)
+  lists_short {w = w} read =
+      let short = walk_short read.tells in (
+        omega (arith, ap length read.tells.exts, picked_within (λ r. is_some (ext_file r)) w),
+        omega (arith, ap length read.tells.datas, picked_within (λ r. is_some (data_file r)) w),
       )
 
-  heads_short : {w : List (Role × ℕ)} → StoreMatches image store w → heads w + 1 < 2 ^ 32
+  heads_short : {w : List (Role × ℕ)} → StoreMatches image store w → heads w + 1 < 2 ^ 29
   heads_short {w = w} tells = omega (arith, walk_short tells, heads_within w)
 
   -- the number of a directory is short
-  pub parent_short : {p up s a b : ℕ} {seen : List ℕ → Type 0} → IsInChain image store p up s a b seen → p < 2 ^ 32
+  pub parent_short : {p up s a b : ℕ} {seen : List ℕ → Type 0} → IsInChain image store p up s a b seen → p < 2 ^ 29
   parent_short {p = p} {up = up} st = omega (arith, heads_short st.read.tells, dir_number image (of_walk image st.read.upto.walk) p up st.dir)
 
   -- the number of a header that is due is short
-  pub entry_short : {p up s a b : ℕ} {seen : List ℕ → Type 0} → IsInChain image store p up s a b seen → length store.headers + 1 < 2 ^ 32
+  pub entry_short : {p up s a b : ℕ} {seen : List ℕ → Type 0} → IsInChain image store p up s a b seen → length store.headers + 1 < 2 ^ 29
   entry_short st = omega (arith, heads_short st.read.tells, st.read.tells.headers.count)
-
-  module _ {w : List (Role × ℕ)} {at : Cursor} {n h : ℕ} {table : List ℕ} (read : HasRead image store w at) (holds : HasTable image w n h table) where
-    -- the number of a file is short
-    pub file_short : n < 2 ^ 32
-    file_short =
-        omega (arith, heads_short read.tells, (number_of image read.upto.walk holds.file.header).1)
-
-    -- and so is its table
-    pub table_short : length table < 2 ^ 32
-    table_short =
-        omega (arith, walk_short read.tells, exts_length image w n, picked_within (is_ext_of n) w)

@@ -12,7 +12,6 @@ use Rattle.adf_blocks.specs.declared.cause.Cause.{Cause}
 use Rattle.adf_blocks.specs.Forms.{first_cause}
 use Rattle.adf_blocks.specs.PageBlock.{page_form}
 use Rattle.adf_blocks.specs.Sizes.{blocks, pages_needed}
-use Rattle.adf_volume.specs.declared.owner.Owner.TheVariants.{Free}
 use Rattle.adf_volume.specs.Demands.{AllHold, page_demands}
 use Rattle.adf_volume.specs.Image.{root_of, word_in}
 use Rattle.adf_volume.specs.Walk.{Role, Has, NamesPage, Asks, IsWalk}
@@ -20,13 +19,15 @@ use Rattle.adf_volume.specs.Walk.Role.{MapExt, Page}
 use Rattle.adf_volume.proofs.FormDemands.{all_demanded, first_demanded}
 use Rattle.adf_volume.proofs.Lists.{at_snoc, snoc_length}
 use Rattle.adf_volume.proofs.MemberFacts.{kept}
-use Rattle.adf_check.specs.Fault.{IsTrueFault, fault}
+use Rattle.adf_volume.specs.Fault.{IsTrueFault, fault}
 use Rattle.adf_check.specs.Cursor.{IsUpTo}
 use Rattle.adf_check.specs.Cursor.Cursor.{BeforePage, BeforeRole}
 use Rattle.adf_volume.specs.Start.{IsBegun}
 use Rattle.adf_check.specs.Pages.{AreListed, index_of_map_ext, index_of_page}
 use Rattle.adf_check.specs.Reading.{IsAtNode, IsAtPage, IsBeforePage, block_of_page, block_of_map_ext}
-use Rattle.adf_check.specs.Store.{StoreValue, owner_at}
+use Rattle.adf_check.specs.declared.kept_owner.KeptOwner.TheVariants.{Free}
+use Rattle.adf_check.specs.KeptOwner.{kept_at}
+use Rattle.adf_check.specs.Store.{StoreValue}
 use Rattle.adf_check.proofs.ClaimSteps.{IsNamed, IsStored, form_fault, read_one}
 use Rattle.adf_check.proofs.CursorMoves.{moved, end_all_pages}
 
@@ -101,7 +102,7 @@ module _ {image : List ℕ} {store : StoreValue} {i a b : ℕ} (begun : IsBegun 
   pub page_by_number : b ≡ block_of_page image i
   page_by_number = sym (names_is image st.walk i b a st.index st.read.upto.walk st.named names)
 
-  module _ (range : InRange (length store.owners) b) (free : owner_at store.owners b ≡ Free) {bytes : List ℕ} (is_block : bytes ≡ block image b) where
+  module _ (range : InRange (length store.owners) b) (free : kept_at store.owners b ≡ Free) {bytes : List ℕ} (is_block : bytes ≡ block image b) where
     pub page_fault : (c : Cause) → first_cause (page_form bytes) ≡ Some c → IsTrueFault image (fault b c)
     page_fault c f =
         form_fault page_named tt range free c (first_demanded b (page_form (block image b)) c (ap (λ x. first_cause (page_form x)) (sym is_block) ∙ f))
@@ -152,7 +153,7 @@ module _ {image : List ℕ} {store : StoreValue} {i a b : ℕ} (begun : IsBegun 
         names = q.2;
       }
 
-  pub map_ext_done : InRange (length store.owners) b → owner_at store.owners b ≡ Free → {new : StoreValue} → IsStored store new (MapExt number) b
+  pub map_ext_done : InRange (length store.owners) b → kept_at store.owners b ≡ Free → {new : StoreValue} → IsStored store new (MapExt number) b
       → IsAtPage image new i b
   map_ext_done range free stored = record {
     walk = (MapExt number, b) ∷ st.walk;

@@ -1,41 +1,41 @@
 -- The state of a check after the root.
-use Rattle.std.proofs.Common.{◌≡◌, ◌≢◌, ℕ, zero, suc, List, [], ◌∷◌, ◌+◌, ◌-◌, ◌<◌, ◌≤◌, length, set}
-use Rattle.std.proofs.Common.{get_or-set_other, refl, sym, ap, subst, ◌∙◌, arith}
+use Rattle.std.proofs.Common.{◌≡◌, ℕ, zero, suc, List, [], ◌∷◌, ◌+◌, ◌-◌, ◌<◌, ◌≤◌, length, set}
+use Rattle.std.proofs.Common.{refl, sym, ap, subst, ◌∙◌, arith}
 use Rattle.std.specs.Prelude.{replicate}
 use Rattle.std.proofs.lemmas.Grind.{common_steps}
 use Rattle.std.proofs.lemmas.List.{length-replicate}
 use Rattle.adf_blocks.specs.Sizes.{blocks}
-use Rattle.adf_volume.specs.declared.owner.Owner.{Owner}
-use Rattle.adf_volume.specs.declared.owner.Owner.TheVariants.{Free, Boot, Root}
 use Rattle.adf_volume.specs.Image.{root_of}
 use Rattle.adf_volume.specs.Walk.Role.{Root as TheRoot}
 use Rattle.adf_volume.specs.Start.{IsBegun}
-use Rattle.adf_check.specs.Owners.{owned_count}
+use Rattle.adf_check.specs.declared.kept_owner.KeptOwner.{KeptOwner}
+use Rattle.adf_check.specs.declared.kept_owner.KeptOwner.TheVariants.{Free, Boot, Root}
+use Rattle.adf_check.specs.KeptOwner.{claimed_count, kept_at}
 use Rattle.adf_check.specs.Reading.{IsBeforePage}
-use Rattle.adf_check.specs.Store.{StoreValue, StoreMatches, owner_at}
+use Rattle.adf_check.specs.Store.{StoreValue, StoreMatches}
 use Rattle.adf_check.proofs.StoreSteps.{tells_more}
 use Rattle.adf_check.proofs.NumberBounds.{many_blocks}
 use Rattle.adf_check.proofs.CursorMoves.{begin}
 
 -- the owners of 2 + m blocks of which nothing is claimed
-abbrev pub new_owners : ℕ → List Owner
+abbrev pub new_owners : ℕ → List KeptOwner
 new_owners m = Boot ∷ Boot ∷ replicate m Free
 
 -- and of which the root alone is
-abbrev pub owners_of : ℕ → ℕ → List Owner
+abbrev pub owners_of : ℕ → ℕ → List KeptOwner
 owners_of m root = set (new_owners m) root Root
 
 -- what is kept when the root alone was read
-abbrev pub first_store : List Owner → StoreValue
+abbrev pub first_store : List KeptOwner → StoreValue
 first_store owners = record { owners = owners; headers = []; starts = []; exts = []; datas = []; used = 1 }
 
 new_length : (m : ℕ) → length (new_owners m) ≡ 2 + m
-new_length m = let z : length {A = Owner} (replicate m Free) ≡ m = length-replicate m Free in omega arith
+new_length m = let z : length {A = KeptOwner} (replicate m Free) ≡ m = length-replicate m Free in omega arith
 
-new_boot : (m b : ℕ) → b < 2 → owner_at (new_owners m) b ≡ Boot
+new_boot : (m b : ℕ) → b < 2 → kept_at (new_owners m) b ≡ Boot
 new_boot m b h = grind (arith, common_steps)
 
-new_free : (m b : ℕ) → 2 ≤ b → b < 2 + m → owner_at (new_owners m) b ≡ Free
+new_free : (m b : ℕ) → 2 ≤ b → b < 2 + m → kept_at (new_owners m) b ≡ Free
 new_free m b l h = grind (arith, common_steps)
 
 -- nothing is read and nothing is claimed
@@ -70,24 +70,24 @@ root_read image m root size root_is low high = record {
   at_ext = (λ j l h. absurd (omega arith));
 }
 
-none_owned : (m : ℕ) → owned_count (replicate m Free) ≡ 0
+none_owned : (m : ℕ) → claimed_count (replicate m Free) ≡ 0
 none_owned zero = refl
 none_owned (suc m) = none_owned m
 
-pub begun_with_root : (image : List ℕ) (n : ℕ) (owners new : List Owner) → IsBegun image → n ≡ blocks image → owners ≡ new_owners (n - 2)
-    → new ≡ set owners (root_of image) Root → owned_count new ≡ owned_count owners + 1
-    → IsBeforePage image (record { owners = new; headers = []; starts = []; exts = []; datas = []; used = owned_count new }) 0 (root_of image)
+pub begun_with_root : (image : List ℕ) (n : ℕ) (owners new : List KeptOwner) → IsBegun image → n ≡ blocks image → owners ≡ new_owners (n - 2)
+    → new ≡ set owners (root_of image) Root → claimed_count new ≡ claimed_count owners + 1
+    → IsBeforePage image (record { owners = new; headers = []; starts = []; exts = []; datas = []; used = claimed_count new }) 0 (root_of image)
 begun_with_root image n owners new begun size e f count =
     let many : 4 ≤ blocks image = many_blocks image begun in
     let claimed : new ≡ owners_of (n - 2) (root_of image) = f ∙ ap (λ os. set os (root_of image) Root) e in
-    let one : owned_count new ≡ 1 = count ∙ ap (λ os. owned_count os + 1) e ∙ ap (λ m. m + 1) (none_owned (n - 2)) in
+    let one : claimed_count new ≡ 1 = count ∙ ap (λ os. claimed_count os + 1) e ∙ ap (λ m. m + 1) (none_owned (n - 2)) in
     let kept : first_store (owners_of (n - 2) (root_of image))
-    ≡ record { owners = new; headers = []; starts = []; exts = []; datas = []; used = owned_count new } =
+    ≡ record { owners = new; headers = []; starts = []; exts = []; datas = []; used = claimed_count new } =
     λ i. record { owners = (sym claimed) i; headers = []; starts = []; exts = []; datas = []; used = (sym one) i } in
     subst (λ s. IsBeforePage image s 0 (root_of image)) kept (root_read image (n - 2) (root_of image) (omega arith) refl (omega arith) (omega arith))
 
-pub root_is_free : (image : List ℕ) (n : ℕ) (owners : List Owner) → IsBegun image → n ≡ blocks image → owners ≡ new_owners (n - 2)
-    → owner_at owners (root_of image) ≡ Free
+pub root_is_free : (image : List ℕ) (n : ℕ) (owners : List KeptOwner) → IsBegun image → n ≡ blocks image → owners ≡ new_owners (n - 2)
+    → kept_at owners (root_of image) ≡ Free
 root_is_free image n owners begun size e =
     let many : 4 ≤ blocks image = many_blocks image begun in
-    ap (λ os. owner_at os (root_of image)) e ∙ new_free (n - 2) (root_of image) (omega arith) (omega arith)
+    ap (λ os. kept_at os (root_of image)) e ∙ new_free (n - 2) (root_of image) (omega arith) (omega arith)

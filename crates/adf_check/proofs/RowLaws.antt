@@ -30,9 +30,9 @@ use Rattle.adf_check.specs.Reading.{StoreFits}
 use Rattle.adf_check.specs.Store.{StoreValue}
 use Rattle.adf_check.proofs.NodeSteps.{node_here}
 use Rattle.adf_volume.specs.Start.{IsBegun}
-use Rattle.adf_check.specs.Rows.{row_body, row_in, row_of_body, row_of_entry}
-use Rattle.adf_check.specs.declared.row.Row.{Row}
-use Rattle.adf_check.specs.declared.row.RowBody.TheVariants.{Dir as DirRow, File as FileRow}
+use Rattle.adf_volume.specs.Rows.{row_body, row_in, row_of_body, row_of_entry}
+use Rattle.adf_volume.specs.declared.row.Row.{Row}
+use Rattle.adf_volume.specs.declared.row.RowBody.TheVariants.{Dir as DirRow, File as FileRow}
 
 -- a block with the form of a header is one
 pub head_facts : (kind : Kind) (b own parent slot : ℕ) (bytes : List ℕ) → AllHold (demands_at b (head_form kind own parent slot bytes)) → IsHead bytes

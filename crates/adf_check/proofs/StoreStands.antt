@@ -1,11 +1,11 @@
 -- The store of a whole walk stands for the tree and the layout that fit.
-use Rattle.std.proofs.Common.{◌≡◌, ◌≢◌, ◌⊎◌, ℕ, suc, List, inl, inr, length, refl, sym, ap, ◌∙◌, take, drop}
+use Rattle.std.proofs.Common.{◌≡◌, ◌≢◌, ◌⊎◌, ℕ, zero, suc, List, ◌+◌, ◌-◌, ◌≤◌, inl, inr, length, refl, sym, ap, ◌∙◌, take, drop, arith}
+use Rattle.std.specs.Prelude.{is_some}
 use Rattle.adf_tree.specs.declared.entry.Entry.{Entry}
-use Rattle.adf_volume.specs.declared.owner.Owner.{Owner}
-use Rattle.adf_volume.specs.declared.owner.Owner.TheVariants.{Free}
 use Rattle.adf_volume.specs.Layout.{exts_of, datas_of}
+use Rattle.adf_volume.specs.Lists.{At}
 use Rattle.adf_volume.specs.Walk.{Role, Has}
-use Rattle.adf_volume.specs.Walk.Role.{Ext, Data}
+use Rattle.adf_volume.specs.Walk.Role.{Root, Page, MapExt, Head, Ext, Data}
 use Rattle.adf_volume.specs.LayoutRoles.{LayoutHas}
 use Rattle.adf_volume.specs.LayoutRoles.{owner_of}
 use Rattle.adf_volume.specs.Made.{tree_in, layout_in, exts_in, datas_in}
@@ -16,29 +16,23 @@ use Rattle.adf_volume.proofs.WalkMembers.{entries_length, has_ext, ext_has, has_
 use Rattle.adf_volume.proofs.WholeWalks.{head_is, entry_is}
 use Rattle.adf_volume.proofs.WalkOwners.{owned_has, is_owned}
 use Rattle.adf_check.specs.declared.store.KeptHeader.{KeptHeader}
-use Rattle.adf_check.specs.Store.{StoreValue, owner_at}
+use Rattle.adf_check.specs.declared.kept_owner.KeptOwner.{KeptOwner}
+use Rattle.adf_check.specs.declared.kept_owner.KeptOwner.TheVariants as kept
+use Rattle.adf_check.specs.KeptOwner.{kept_at}
+use Rattle.adf_check.specs.Places.{kept_as, start_of}
+use Rattle.adf_check.specs.Store.{StoreValue, blocks_before, data_file, ext_file, file_blocks}
 use Rattle.adf_check.specs.Reading.{StoreFits}
-use Rattle.adf_check.specs.StoreStands.{OwnersFit, HeadersFit, StartsFit, StoreStandsFor}
+use Rattle.adf_check.specs.StoreStands.{OwnersFit, HeadersFit, StartsFit, StartsRise, StoreStandsFor}
 use Rattle.adf_check.proofs.NodeSteps.{node_here}
-use Rattle.adf_check.proofs.WalkLengths.{walk_length}
-use Rattle.adf_check.proofs.FileBlocks.{exts_stored, datas_stored}
+use Rattle.adf_check.proofs.WalkLengths.{walk_length, walked_once}
+use Rattle.adf_check.proofs.FileBlocks.{exts_apart, exts_stored, datas_apart, datas_stored, no_datas_before, no_exts_before}
+use Rattle.adf_check.proofs.KeptPlaces.{at_whole, data_node, ext_node, one_place, start_at}
 
-is_free : (o : Owner) → (o ≡ Free) ⊎ (o ≢ Free)
-is_free Free = inl refl
+is_free : (o : KeptOwner) → (o ≡ kept.Free) ⊎ (o ≢ kept.Free)
+is_free kept.Free = inl refl
 is_free _ = inr (λ e. cc)
 
 module _ (image : List ℕ) (store : StoreValue) (st : StoreFits image store) where
-  owners_fit : OwnersFit image (layout_in st.walk) store.owners
-  owners_fit = record {
-    size = st.read.tells.owns.size;
-    boot = st.read.tells.owns.boot;
-    part = (λ o b h. let r = owned_has image st.walk st.read.is_walk st.read.whole o b h in st.read.tells.owns.assigned r.0 b r.1 ∙ sym r.2);
-    free = (λ b lo hi h. elim (is_free (owner_at store.owners b)) [
-      | inl e ↦ e
-      | inr n ↦ let x = st.read.tells.owns.owned b lo hi n in absurd (h (owner_of x.0) (is_owned image st.walk st.read.is_walk st.read.whole x.0 b x.1))
-    ]);
-  }
-
   headers_fit : HeadersFit image (tree_in image st.walk) (layout_in st.walk) store.headers
   headers_fit = record {
     count = st.read.tells.headers.count ∙ sym (entries_length image st.walk st.walk);
@@ -71,6 +65,45 @@ module _ (image : List ℕ) (store : StoreValue) (st : StoreFits image store) wh
       (λ k b h. data_has image st.walk st.read.is_walk n k b (walked (Data n (suc k)) b h))
       (λ k b h. agreed (Data n (suc k)) b (has_data image st.walk st.read.is_walk n k b h))
 
+  -- the start of the node of a part of a file
+  start_here : (n : ℕ) → n ≤ length (layout_in st.walk).places → At store.starts n (start_of store.starts n)
+  start_here n le = start_at store.starts n (omega (arith, st.read.started, headers_fit.count, st.fits.places))
+
+  kept_fits : (r : Role) (b : ℕ) → Has st.walk r b → kept_at store.owners b ≡ kept_as store.starts (owner_of r)
+  kept_fits (Ext n zero) b h = absurd (agreed (Ext n zero) b h)
+  kept_fits (Ext n (suc k)) b h =
+      let x = st.read.tells.owns.assigned (Ext n (suc k)) b h in
+      let at = at_whole (file_blocks ext_file st.walk) (exts_in st.walk n) (blocks_before ext_file st.walk n) k b (exts_stored image n st.read.is_walk)
+      (ext_has image st.read.is_walk n k b h) in
+      let start = (st.read.tells.starts n (start_of store.starts n) (start_here n (ext_node (layout_in st.walk) n k b (agreed (Ext n (suc k)) b h)))).0 in
+      let place : x.0 ≡ (start_of store.starts n).exts + (suc k - 1) =
+      omega (arith, start, one_place (λ r. is_some (ext_file r)) st.walk (walked_once st.read.is_walk) x.0 (blocks_before ext_file st.walk n + k) b x.1 at) in
+      x.2 ∙ ap kept.Ext place
+  kept_fits (Data n zero) b h = absurd (agreed (Data n zero) b h)
+  kept_fits (Data n (suc k)) b h =
+      let x = st.read.tells.owns.assigned (Data n (suc k)) b h in
+      let at = at_whole (file_blocks data_file st.walk) (datas_in st.walk n) (blocks_before data_file st.walk n) k b (datas_stored image n st.read.is_walk)
+      (data_has image st.walk st.read.is_walk n k b h) in
+      let start = (st.read.tells.starts n (start_of store.starts n) (start_here n (data_node (layout_in st.walk) n k b (agreed (Data n (suc k)) b h)))).1 in
+      let place : x.0 ≡ (start_of store.starts n).datas + (suc k - 1) =
+      omega (arith, start, one_place (λ r. is_some (data_file r)) st.walk (walked_once st.read.is_walk) x.0 (blocks_before data_file st.walk n + k) b x.1 at) in
+      x.2 ∙ ap kept.Data place
+  kept_fits Root b h = st.read.tells.owns.assigned Root b h
+  kept_fits (Page k) b h = st.read.tells.owns.assigned (Page k) b h
+  kept_fits (MapExt k) b h = st.read.tells.owns.assigned (MapExt k) b h
+  kept_fits (Head n p s j) b h = st.read.tells.owns.assigned (Head n p s j) b h
+
+  owners_fit : OwnersFit image (layout_in st.walk) store.starts store.owners
+  owners_fit = record {
+    size = st.read.tells.owns.size;
+    boot = st.read.tells.owns.boot;
+    part = (λ o b h. let r = owned_has image st.walk st.read.is_walk st.read.whole o b h in kept_fits r.0 b r.1 ∙ ap (kept_as store.starts) (sym r.2));
+    free = (λ b lo hi h. elim (is_free (kept_at store.owners b)) [
+      | inl e ↦ e
+      | inr n ↦ let x = st.read.tells.owns.owned b lo hi n in absurd (h (owner_of x.0) (is_owned image st.walk st.read.is_walk st.read.whole x.0 b x.1))
+    ]);
+  }
+
   starts_fit : StartsFit (layout_in st.walk) store
   starts_fit = record {
     count = st.read.started;
@@ -83,11 +116,24 @@ module _ (image : List ℕ) (store : StoreValue) (st : StoreFits image store) wh
           ap (λ (is : List ℕ). take (length is) (drop a xs)) ei ∙ ap (λ a. take (length here) (drop a xs)) ea ∙ ap (λ xs. take (length here) (drop b xs)) ex
           ∙ h ∙ sym ei
 
+  starts_rise : StartsRise (layout_in st.walk) store.starts
+  starts_rise = record {
+    zero = (λ x h.
+        let at = st.read.tells.starts 0 x h in (at.0 ∙ no_exts_before image st.walk, at.1 ∙ no_datas_before image st.walk));
+    apart = (λ n m x y lt h k.
+        let here = st.read.tells.starts n x h in
+        let later = st.read.tells.starts m y k in (
+          omega (arith, here.0, later.0, ap length (exts_are n), exts_apart image n st.read.is_walk m lt),
+          omega (arith, here.1, later.1, ap length (datas_are n), datas_apart image n st.read.is_walk m lt),
+        ));
+  }
+
   pub keeps : StoreStandsFor image store (tree_in image st.walk) (layout_in st.walk)
   keeps = record {
     fits = st.fits;
     owners = owners_fit;
     headers = headers_fit;
     starts = starts_fit;
+    rising = starts_rise;
     used = st.read.tells.used ∙ sym (walk_length image st.walk st.read.is_walk st.read.whole);
   }

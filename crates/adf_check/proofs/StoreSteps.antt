@@ -1,59 +1,87 @@
 -- The store still matches a walk with one more member.
-use Rattle.std.proofs.Common.{◌≡◌, ℕ, suc, List, [], ◌∷◌, ◌++◌, inl, inr, ◌<◌, ◌≤◌, ◌≢◌, length, Option, refl, sym, ap, subst, ◌∙◌, arith, set}
+use Rattle.std.proofs.Common.{◌≡◌, ℕ, suc, List, [], ◌∷◌, ◌++◌, inl, inr, ◌<◌, ◌≤◌, ◌≢◌}
+use Rattle.std.proofs.Common.{length, Option, Bool, true, false, refl, sym, ap, subst, ◌∙◌, arith, set}
+use Rattle.std.specs.Prelude.{is_some}
 use Rattle.std.proofs.Common.{length-set, get_or-set_same, get_or-set_other, cond}
 use native.Mathlib.Decide.{ℕ_discrete}
 use Rattle.adf_blocks.specs.Sizes.{blocks}
-use Rattle.adf_volume.specs.declared.owner.Owner.{Owner}
-use Rattle.adf_volume.specs.declared.owner.Owner.TheVariants.{Free}
 use Rattle.adf_volume.specs.Lists.{At}
 use Rattle.adf_volume.specs.Walk.{Role, first, second, Has, head_count, heads, IsAbsent}
-use Rattle.adf_volume.specs.Walk.Role.{Root, Head}
-use Rattle.adf_volume.specs.LayoutRoles.{owner_of}
+use Rattle.adf_volume.specs.Walk.Role.{Head, Ext, Data}
 use Rattle.adf_volume.proofs.Lists.{at_new, at_old, at_below, snoc_length}
 use Rattle.adf_check.specs.declared.store.KeptHeader.{KeptHeader}
-use Rattle.adf_check.specs.Store.{StoreValue, Owns, KeepsHeaders, StoreMatches}
-use Rattle.adf_check.specs.Store.{owner_at, push_header, push_block, ext_file, data_file, is_below, blocks_before, stored}
+use Rattle.adf_check.specs.declared.kept_owner.KeptOwner.{KeptOwner}
+use Rattle.adf_check.specs.declared.kept_owner.KeptOwner.TheVariants as kept
+use Rattle.adf_check.specs.KeptOwner.{kept_at}
+use Rattle.adf_check.specs.Store.{StoreValue, IsKept, Owns, KeepsHeaders, StoreMatches, file_blocks, next_kept}
+use Rattle.adf_check.specs.Store.{push_header, push_block, ext_file, data_file, is_below, blocks_before, stored}
 use Rattle.adf_volume.specs.Made.{picked}
 use Rattle.adf_check.proofs.FileBlocks.{TellsFile, data_tells, ext_tells, not_below}
 
--- no role owns a free block
-owner_not_free : (r : Role) → owner_of r ≢ Free
-owner_not_free Root e = cc
-owner_not_free _ e = cc
+-- no block of a role is kept as free
+kept_not_free : (w : List (Role × ℕ)) (r : Role) (b : ℕ) (o : KeptOwner) → IsKept w r b o → o ≢ kept.Free
+kept_not_free w (Ext n m) b o k e = let is : o ≡ kept.Ext k.0 = k.2 in cc
+kept_not_free w (Data n m) b o k e = let is : o ≡ kept.Data k.0 = k.2 in cc
+kept_not_free w _ b o k e = cc
+
+-- a place in the list of a walk stays where it is
+at_more : (f : Role → Bool) (w : List (Role × ℕ)) (x : Role × ℕ) (i b : ℕ) → At (picked f w) i b → At (picked f (x ∷ w)) i b
+at_more f w x i b h = go (f x.0)
+  where
+    go : (t : Bool) → At (cond t (picked f w ++ x.1 ∷ []) (picked f w)) i b
+    go true = at_old (picked f w) (x.1 ∷ []) i b h
+    go false = h
+
+kept_more : (w : List (Role × ℕ)) (x : Role × ℕ) (r : Role) (b : ℕ) (o : KeptOwner) → IsKept w r b o → IsKept (x ∷ w) r b o
+kept_more w x (Ext n m) b o k = (k.0, at_more (λ r. is_some (ext_file r)) w x k.0 b k.1, k.2)
+kept_more w x (Data n m) b o k = (k.0, at_more (λ r. is_some (data_file r)) w x k.0 b k.1, k.2)
+kept_more w x _ b o k = k
+
+-- what is kept of the next block
+kept_next : (store : StoreValue) (w : List (Role × ℕ)) → store.exts ≡ file_blocks ext_file w → store.datas ≡ file_blocks data_file w → (r : Role) (b : ℕ)
+    → IsKept ((r, b) ∷ w) r b (next_kept store r)
+kept_next store w exts datas (Ext n m) b = (length store.exts, at_new (file_blocks ext_file w) b (length store.exts) (ap length exts), refl)
+kept_next store w exts datas (Data n m) b = (length store.datas, at_new (file_blocks data_file w) b (length store.datas) (ap length datas), refl)
+kept_next store w exts datas _ b = refl
 
 row_same : (p b q c : ℕ) → p ≡ q → b ≡ c → ◌≡◌ {A = KeptHeader} (record { parent = p; head = b }) (record { parent = q; head = c })
 row_same p b q c x z = λ i. record { parent = x i; head = z i }
 
-module _ (image : List ℕ) (owners : List Owner) (w : List (Role × ℕ)) (t : Owns image owners w) where
+module _ (image : List ℕ) (owners : List KeptOwner) (w : List (Role × ℕ)) (t : Owns image owners w) where
   -- a free block is in no role
-  pub free_absent : (b : ℕ) → owner_at owners b ≡ Free → IsAbsent w b
-  free_absent b h q k = owner_not_free q (sym (t.assigned q b k) ∙ h)
+  pub free_absent : (b : ℕ) → kept_at owners b ≡ kept.Free → IsAbsent w b
+  free_absent b h q k = kept_not_free w q b (kept_at owners b) (t.assigned q b k) h
 
   -- and the other way round
-  pub taken_present : (b : ℕ) → 2 ≤ b → b < blocks image → owner_at owners b ≢ Free → IsAbsent w b → ⊥
+  pub taken_present : (b : ℕ) → 2 ≤ b → b < blocks image → kept_at owners b ≢ kept.Free → IsAbsent w b → ⊥
   taken_present b lo hi h a = let x = t.owned b lo hi h in a x.0 x.1
 
-  other : (o : Owner) (x b : ℕ) → (x ≡ b → ⊥) → owner_at (set owners b o) x ≡ owner_at owners x
+  other : (o : KeptOwner) (x b : ℕ) → (x ≡ b → ⊥) → kept_at (set owners b o) x ≡ kept_at owners x
   other o x b ne = let ne' : x ≢ b = ne in rw get_or-set_other refl
 
-  -- a free block gets its owner
-  pub owns_more : (r : Role) (b : ℕ) → 2 ≤ b → b < blocks image → owner_at owners b ≡ Free → Owns image (set owners b (owner_of r)) ((r, b) ∷ w)
-  owns_more r b lo hi h =
+  -- a free block gets an owner
+  owns_more : (r : Role) (b : ℕ) (o : KeptOwner) → IsKept ((r, b) ∷ w) r b o → 2 ≤ b → b < blocks image → kept_at owners b ≡ kept.Free
+      → Owns image (set owners b o) ((r, b) ∷ w)
+  owns_more r b o is lo hi h =
       let size : length owners ≡ blocks image = t.size in
-      let here : owner_at (set owners b (owner_of r)) b ≡ owner_of r = get_or-set_same owners b (owner_of r) Free (omega arith) in
+      let here : kept_at (set owners b o) b ≡ o = get_or-set_same owners b o kept.Free (omega arith) in
       record {
-        size = length-set owners b (owner_of r) ∙ size;
-        boot = (λ x l m. other (owner_of r) x b (λ e. omega arith) ∙ t.boot x l m);
+        size = length-set owners b o ∙ size;
+        boot = (λ x l m. other o x b (λ e. omega arith) ∙ t.boot x l m);
         assigned = (λ q x k. elim k [
-          | inl y ↦ ap (owner_at (set owners b (owner_of r))) (sym y.1) ∙ (here ∙ ap owner_of y.0)
-          | inr y ↦ other (owner_of r) x b (λ e. free_absent b h q (subst (Has w q) e y)) ∙ t.assigned q x y
+          | inl y ↦
+              let at : kept_at (set owners b o) x ≡ o = ap (kept_at (set owners b o)) (sym y.1) ∙ here in
+              subst (IsKept ((r, b) ∷ w) q x) (sym at) (subst (λ x. IsKept ((r, b) ∷ w) q x o) y.1 (subst (λ q. IsKept ((r, b) ∷ w) q b o) y.0 is))
+          | inr y ↦
+              let at = other o x b (λ e. free_absent b h q (subst (Has w q) e y)) in
+              subst (IsKept ((r, b) ∷ w) q x) (sym at) (kept_more w (r, b) q x (kept_at owners x) (t.assigned q x y))
         ]);
         owned = (λ x l m f. elim (ℕ_discrete x b) [
-          | yes e ↦ (r, inl (refl, sym e), ap (owner_at (set owners b (owner_of r))) e ∙ here)
+          | yes e ↦ (r, inl (refl, sym e))
           | no e ↦
-              let z : owner_at (set owners b (owner_of r)) x ≡ owner_at owners x = other (owner_of r) x b (λ u. e u) in
+              let z : kept_at (set owners b o) x ≡ kept_at owners x = other o x b (λ u. e u) in
               let y = t.owned x l m (λ u. f (z ∙ u)) in
-              (y.0, inr y.1, z ∙ y.2)
+              (y.0, inr y.1)
         ]);
       }
 
@@ -85,10 +113,10 @@ module _ (headers : List KeptHeader) (w : List (Role × ℕ)) (t : KeepsHeaders 
 
 -- one member of a walk more
 pub tells_more : (image : List ℕ) (store : StoreValue) (w : List (Role × ℕ)) (r : Role) (b : ℕ) → ((n p s j : ℕ) → r ≡ Head n p s j → n ≡ suc (heads w))
-    → length store.starts ≤ first r → StoreMatches image store w → 2 ≤ b → b < blocks image → owner_at store.owners b ≡ Free
+    → length store.starts ≤ first r → StoreMatches image store w → 2 ≤ b → b < blocks image → kept_at store.owners b ≡ kept.Free
     → StoreMatches image (stored store r b) ((r, b) ∷ w)
 tells_more image store w r b f l t lo hi h = record {
-  owns = owns_more image store.owners w t.owns r b lo hi h;
+  owns = owns_more image store.owners w t.owns r b (next_kept store r) (kept_next store w t.exts t.datas r b) lo hi h;
   headers = headers_more store.headers w t.headers r b f;
   exts = ap (push_block ext_file r b) t.exts;
   datas = ap (push_block data_file r b) t.datas;

@@ -12,8 +12,8 @@ use Rattle.adf_volume.proofs.Lists.{at_index_or, at_some}
 use Rattle.adf_volume.proofs.Chains.{entry_is_at}
 use Rattle.adf_check.specs.Pieces.{body_bytes, bytes_of}
 use Rattle.adf_check.specs.Rebuild.{body_with}
-use Rattle.adf_check.specs.Rows.{row_of_entry}
-use Rattle.adf_check.specs.declared.row.Row.{Row}
+use Rattle.adf_volume.specs.Rows.{row_of_entry}
+use Rattle.adf_volume.specs.declared.row.Row.{Row}
 
 body_back : (body : Body) → body_with (body_bytes body) ≡ body
 body_back Dir = refl

@@ -22,7 +22,7 @@ use Rattle.adf_check.proofs.NumberBounds.{many_blocks}
 use Rattle.adf_check.proofs.RowLaws.{tells_begun, type_told}
 use Rattle.adf_check.proofs.NodeSteps.{at_or}
 use Rattle.adf_check.specs.Volumes.{counts_of, is_dir_at, is_directory}
-use Rattle.adf_check.specs.declared.checked.Counts.{Counts}
+use Rattle.adf_volume.specs.declared.counts.Counts.{Counts}
 
 -- the headers of rows are blocks of the image
 pub header_inside : {image : List ℕ} {store : StoreValue} → StoreFits image store → (i : ℕ) (r : KeptHeader) → At store.headers i r → r.head < blocks image

@@ -41,7 +41,7 @@ in_walk [] r b h = h
 in_walk (x ∷ w) r b (inl e) = inl (ap (λ p. p.0) e, ap (λ p. p.1) e)
 in_walk (x ∷ w) r b (inr h) = inr (in_walk w r b h)
 
-walked_once : {image : List ℕ} {w : List (Role × ℕ)} → IsWalk image w → NoBlockTwice w
+pub walked_once : {image : List ℕ} {w : List (Role × ℕ)} → IsWalk image w → NoBlockTwice w
 walked_once start = (λ y i e. i, tt)
 walked_once {image} (step {w = w} {r = r} {b = b} {a = a} v d e n) =
     let part = part_holds image w r a b n in (λ y i z. part.unowned y.0 (subst (Has w y.0) (sym z) (in_walk w y.0 y.1 i)), walked_once v)

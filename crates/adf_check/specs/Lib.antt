@@ -1,21 +1,17 @@
--- the state of a check, its position, and the states that it passes through
+-- The promise: what the result of a check stands for, and what it tells.
 pub mod Store
+pub mod StoreStands
+pub mod Volumes
+pub mod Owners
+pub mod KeptOwner
+pub mod Places
+pub mod Pieces
+-- The states of the checker: its position, what is read up to it, and its steps.
 pub mod Cursor
 pub mod Reading
 pub mod Progress
--- what its result stands for
-pub mod StoreStands
-pub mod Volumes
--- faults and claims
-pub mod Fault
-pub mod Owners
-pub mod NarrowOwner
 pub mod Claims
--- the parts that are read
 pub mod Pages
 pub mod Datas
--- the results
 pub mod Lookup
-pub mod Rows
-pub mod Pieces
 pub mod Rebuild

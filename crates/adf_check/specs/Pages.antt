@@ -3,12 +3,12 @@ use Rattle.std.specs.Prelude.{◌≡◌, ◌≢◌, ◌⊎◌, Bool, true, false
 use Rattle.adf_blocks.specs.declared.layout.TheConstants.{FIRST_MAP_EXT, FIRST_PAGE, MAP_EXT_NEXT, MAP_EXT_PAGES, ROOT_PAGES}
 use Rattle.adf_blocks.specs.Sizes.{blocks}
 use Rattle.adf_blocks.specs.declared.cause.Cause.TheVariants.{LostBlock, OwnedFree}
-use Rattle.adf_volume.specs.declared.owner.Owner.{Owner}
-use Rattle.adf_volume.specs.declared.owner.Owner.TheVariants.{Free}
 use Rattle.adf_check.specs.Reading.{IsListed}
-use Rattle.adf_check.specs.Store.{owner_at}
-use Rattle.adf_check.specs.Fault.{fault}
-use Rattle.adf_check.specs.declared.fault.Fault.{Fault}
+use Rattle.adf_check.specs.KeptOwner.{kept_at}
+use Rattle.adf_volume.specs.Fault.{fault}
+use Rattle.adf_volume.specs.declared.fault.Fault.{Fault}
+use Rattle.adf_check.specs.declared.kept_owner.KeptOwner.{KeptOwner}
+use Rattle.adf_check.specs.declared.kept_owner.KeptOwner.TheVariants.{Free}
 
 -- the word that points to page i, in the root or in a bitmap extension block
 abbrev pub index_of_page : ℕ → ℕ
@@ -24,6 +24,6 @@ pub record AreListed (image : List ℕ) (pages : List ℕ) (k : ℕ) : Type 0 wh
   pub inside : (i : ℕ) → i < length pages → slice_index pages i < blocks image
 
 -- the bit of block b disagrees with its owner
-abbrev pub IsBitFault : List Owner → ℕ → Bool → Fault → Type 0
+abbrev pub IsBitFault : List KeptOwner → ℕ → Bool → Fault → Type 0
 IsBitFault owners b is_free f =
-    ((is_free ≡ false) × (owner_at owners b ≡ Free) × (f ≡ fault b LostBlock)) ⊎ ((is_free ≡ true) × (owner_at owners b ≢ Free) × (f ≡ fault b OwnedFree))
+    ((is_free ≡ false) × (kept_at owners b ≡ Free) × (f ≡ fault b LostBlock)) ⊎ ((is_free ≡ true) × (kept_at owners b ≢ Free) × (f ≡ fault b OwnedFree))

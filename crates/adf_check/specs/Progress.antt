@@ -1,11 +1,11 @@
 -- The progress of a check: the blocks it may still claim, and the looks that are enough for them.
 use Rattle.std.specs.Prelude.{◌≤◌, ◌-◌, ◌+◌, ◌*◌, ℕ, length}
-use Rattle.adf_check.specs.Owners.{owned_count}
+use Rattle.adf_check.specs.KeptOwner.{claimed_count}
 use Rattle.adf_check.specs.declared.store.Store.{Store}
 
 -- the number of blocks that may still be claimed, plus two
 abbrev pub left : Store → ℕ
-left s = length s.owners - owned_count s.owners
+left s = length s.owners - claimed_count s.owners
 
 -- the same plus the number of headers kept
 abbrev pub left_with_headers : Store → ℕ

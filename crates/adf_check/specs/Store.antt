@@ -1,24 +1,23 @@
 -- The state of a check: the owner of each block, a header for each entry, and the blocks of files in two flat lists.
 -- Letters: w a walk; r, q roles; b a block; n, m nodes; p a directory's node; s a slot; j a position in a chain;
 -- k the number of a page or of a part of a file.
-use Rattle.std.specs.Prelude.{◌≡◌, ◌≢◌, ℕ, Bool, false, Option, Some, None, List, [], ◌∷◌, ◌++◌, ◌<◌, ◌≤◌, cond, is_some, nat_lt, length, slice_index_or, set}
+use Rattle.std.specs.Prelude.{◌≡◌, ◌≢◌, ℕ, Bool, false, Option, Some, None, List, [], ◌∷◌, ◌++◌, ◌<◌, ◌≤◌, cond, is_some, nat_lt, length, set}
 use Rattle.std.proofs.Common.{suc}
 use Rattle.adf_blocks.specs.Sizes.{blocks}
-use Rattle.adf_volume.specs.declared.owner.Owner.{Owner}
-use Rattle.adf_volume.specs.declared.owner.Owner.TheVariants.{Free, Boot}
 use Rattle.adf_volume.specs.Lists.{At}
 use Rattle.adf_volume.specs.Walk.{Role, Has, heads}
-use Rattle.adf_volume.specs.Walk.Role.{Head, Ext, Data}
+use Rattle.adf_volume.specs.Walk.Role.{Root, Page, MapExt, Head, Ext, Data}
 use Rattle.adf_volume.specs.Made.{picked}
-use Rattle.adf_volume.specs.LayoutRoles.{owner_of}
-use Rattle.adf_check.specs.Owners.{owned_count}
+use Rattle.adf_check.specs.KeptOwner.{claimed_count, kept_at}
+use Rattle.adf_check.specs.declared.kept_owner.KeptOwner.{KeptOwner}
+use Rattle.adf_check.specs.declared.kept_owner.KeptOwner.TheVariants as kept
 use Rattle.adf_check.specs.declared.store.KeptHeader.{KeptHeader}
 use Rattle.adf_check.specs.declared.store.NodeStart.{NodeStart}
 use Rattle.adf_check.specs.declared.store.Store.{Store}
 
 -- the value of a store: headers of nodes 1, 2, ..; starts of nodes 0, 1, ..; the number of blocks with an owner
 pub record StoreValue : Type 0 where
-  pub owners : List Owner
+  pub owners : List KeptOwner
   pub headers : List KeptHeader
   pub starts : List NodeStart
   pub exts : List ℕ
@@ -33,12 +32,8 @@ store_value s = record {
   starts = s.starts.items;
   exts = s.exts.items;
   datas = s.datas.items;
-  used = owned_count s.owners;
+  used = claimed_count s.owners;
 }
-
--- the owner of block b
-abbrev pub owner_at : List Owner → ℕ → Owner
-owner_at owners b = slice_index_or owners b Free
 
 -- the headers, with one more if the role is a header
 abbrev pub push_header : Role → ℕ → List KeptHeader → List KeptHeader
@@ -72,10 +67,19 @@ is_below m (Some n) = nat_lt n m
 abbrev pub blocks_before : (Role → Option ℕ) → List (Role × ℕ) → ℕ → ℕ
 blocks_before file w m = length (picked (λ r. is_below m (file r)) w)
 
+-- the owner that is kept of the next block, which is read in this role
+abbrev pub next_kept : StoreValue → Role → KeptOwner
+next_kept store Root = kept.Root
+next_kept store (Page k) = kept.Page k
+next_kept store (MapExt k) = kept.MapExt k
+next_kept store (Head n p s j) = kept.Head n
+next_kept store (Ext n k) = kept.Ext (length store.exts)
+next_kept store (Data n k) = kept.Data (length store.datas)
+
 -- the store after block b is read in this role
 abbrev pub stored : StoreValue → Role → ℕ → StoreValue
 stored store r b = record {
-  owners = set store.owners b (owner_of r);
+  owners = set store.owners b (next_kept store r);
   headers = push_header r b store.headers;
   starts = store.starts;
   exts = push_block ext_file r b store.exts;
@@ -87,12 +91,21 @@ stored store r b = record {
 abbrev pub entered : StoreValue → StoreValue
 entered store = record store { starts = store.starts ++ record { exts = length store.exts; datas = length store.datas } ∷ [] }
 
+-- the kept owner is that of block b in role r: it has the place of an extension block or a data block among those of all files
+abbrev pub IsKept : List (Role × ℕ) → Role → ℕ → KeptOwner → Type 0
+IsKept w Root b o = o ≡ kept.Root
+IsKept w (Page k) b o = o ≡ kept.Page k
+IsKept w (MapExt k) b o = o ≡ kept.MapExt k
+IsKept w (Head n p s j) b o = o ≡ kept.Head n
+IsKept w (Ext n k) b o = (i : ℕ) × At (file_blocks ext_file w) i b × (o ≡ kept.Ext i)
+IsKept w (Data n k) b o = (i : ℕ) × At (file_blocks data_file w) i b × (o ≡ kept.Data i)
+
 -- the table has the owner of each block of the walk, and no others
-pub record Owns (image : List ℕ) (owners : List Owner) (w : List (Role × ℕ)) : Type 0 where
+pub record Owns (image : List ℕ) (owners : List KeptOwner) (w : List (Role × ℕ)) : Type 0 where
   pub size : length owners ≡ blocks image
-  pub boot : (b : ℕ) → b < 2 → b < blocks image → owner_at owners b ≡ Boot
-  pub assigned : (q : Role) (b : ℕ) → Has w q b → owner_at owners b ≡ owner_of q
-  pub owned : (b : ℕ) → 2 ≤ b → b < blocks image → owner_at owners b ≢ Free → (q : Role) × Has w q b × (owner_at owners b ≡ owner_of q)
+  pub boot : (b : ℕ) → b < 2 → b < blocks image → kept_at owners b ≡ kept.Boot
+  pub assigned : (q : Role) (b : ℕ) → Has w q b → IsKept w q b (kept_at owners b)
+  pub owned : (b : ℕ) → 2 ≤ b → b < blocks image → kept_at owners b ≢ kept.Free → (q : Role) × Has w q b
 
 -- header i is that of node i + 1
 pub record KeepsHeaders (headers : List KeptHeader) (w : List (Role × ℕ)) : Type 0 where

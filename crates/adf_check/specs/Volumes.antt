@@ -11,7 +11,7 @@ use Rattle.adf_check.specs.declared.store.KeptHeader.{KeptHeader}
 use Rattle.adf_check.specs.StoreStands.{StoreStandsFor}
 use Rattle.adf_check.specs.Reading.{StoreFits}
 use Rattle.adf_check.specs.Store.{StoreValue}
-use Rattle.adf_check.specs.declared.checked.Counts.{Counts}
+use Rattle.adf_volume.specs.declared.counts.Counts.{Counts}
 
 -- an image with the store of its check
 pub record Volume : Type 0 where

@@ -1,33 +1,25 @@
 // Comparison of the bitmap with the owners.
 
-ghost use Rattle.adf_check.specs.Fault.{IsTrueFault};
-ghost use Rattle.std.specs.Prelude.{◌≡◌, ◌<◌, ◌≤◌, ◌+◌, ◌*◌, ◌↔◌, IsBitSet, IsTrue, length, min, OnOk, IfErr};
+ghost use Rattle.adf_volume.specs.Fault.{IsTrueFault};
+ghost use Rattle.std.specs.Prelude.{◌≡◌, ◌<◌, ◌≤◌, ◌+◌, ◌*◌, ◌↔◌, IsTrue, length, min, OnOk, IfErr};
 ghost use Rattle.adf_blocks.specs.Sizes.{blocks, pages_needed};
-ghost use Rattle.adf_volume.specs.declared.owner.Owner.TheVariants.{Free};
 ghost use Rattle.adf_check.specs.Reading.{IsMapped, IsRead, StoreFits};
-ghost use Rattle.adf_check.specs.Store.{owner_at, store_value};
+ghost use Rattle.adf_check.specs.declared.kept_owner.KeptOwner.TheVariants.{Free};
+ghost use Rattle.adf_check.specs.KeptOwner.{kept_at};
+ghost use Rattle.adf_check.specs.Store.{store_value};
 ghost use Rattle.adf_check.specs.Pages.{AreListed, IsBitFault};
 
-use crate::fault::{Fault, fault_at};
 use crate::looks::{Looks, look};
 use crate::owner_table::OwnerTable;
 use crate::store::Store;
-use adf_blocks::{Cause, PAGE_WORDS, Page};
-use adf_volume::Image;
+use adf_blocks::{Cause, PAGE_WORDS, Page, is_set};
+use adf_volume::{Fault, Image, fault_at};
 use std::sync::ledger::Ledger;
-
-// Whether a bit of a word is set.
-fn is_set(word: u32, bit: u32) -> bool
-    requires { bit < 32 }
-    ensures { IsTrue result ↔ IsBitSet word bit }
-{
-    word & (1 << bit) != 0
-}
 
 // Compares the bit of block `b` with its owner.
 fn check_block(owners: &OwnerTable, b: u32, is_free: bool) -> Result<(), Fault>
     requires { b < length owners.now }
-    ensures ok { OnOk result (IsTrue is_free ↔ (owner_at owners.now b ≡ Free)) }
+    ensures ok { OnOk result (IsTrue is_free ↔ (kept_at owners.now b ≡ Free)) }
     ensures fault { IfErr result (λ f. IsBitFault owners.now b is_free f) }
 {
     if owners.is_free(b) {

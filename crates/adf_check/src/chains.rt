@@ -1,7 +1,7 @@
 // Directories: the headers of each slot's chain.
 
 ghost use Rattle.adf_blocks.specs.declared.layout.TheConstants.{SLOTS};
-ghost use Rattle.adf_check.specs.Fault.{IsTrueFault};
+ghost use Rattle.adf_volume.specs.Fault.{IsTrueFault};
 ghost use Rattle.std.specs.Prelude.{◌≡◌, ◌≢◌, ◌<◌, ◌+◌, ◌^◌, OnOk, IfOk, IfErr};
 ghost use Rattle.adf_blocks.specs.Sizes.{blocks};
 ghost use Rattle.adf_blocks.specs.declared.layout.TheConstants.{FIRST_SLOT};
@@ -11,12 +11,12 @@ ghost use Rattle.adf_check.specs.Progress.{IsFurther, IsPaid, left};
 ghost use Rattle.adf_check.specs.Store.{store_value};
 
 use crate::claims::claim_named;
-use crate::fault::{Fault, fault_at, no_memory};
+use crate::kept_owner::KeptOwner;
 use crate::looks::{Looks, look};
 use crate::store::{KeptHeader, Store};
 use adf_blocks::{Cause, Directory, SLOTS, read_head};
 use adf_tree::{NameSet, Node};
-use adf_volume::{Image, Owner};
+use adf_volume::{Fault, Image, fault_at, no_memory};
 use std::sync::ledger::Ledger;
 
 /// The chain of a slot of a directory; `up` is the directory's block.
@@ -64,8 +64,8 @@ fn read_header<L: Ledger>(
     ensures fault { IfErr result (λ f. IsTrueFault image.now f) }
 {
     let kind = image.kind();
-    let owner = Owner::Head(Node(store.headers.len() + 1));
-    claim_named(&mut store.owners, holder, b, owner)?;
+    let node = store.headers.len() as u32 + 1;
+    claim_named(&mut store.owners, holder, b, KeptOwner::Head(node))?;
     let head = match read_head(look(image, b, looks), kind, b, chain.up, chain.slot) {
         Ok(head) => head,
         Err(cause) => return Err(fault_at(b, cause)),

@@ -10,34 +10,20 @@ ghost use Rattle.adf_volume.specs.Layout.{Layout, at_node, datas_of, owned};
 ghost use Rattle.adf_volume.specs.Lists.{In};
 ghost use Rattle.adf_check.specs.Store.{store_value};
 ghost use Rattle.adf_check.specs.Pieces.{bytes_of, pieces_at};
-ghost use Rattle.adf_check.specs.Rows.{row_of_entry};
+ghost use Rattle.adf_volume.specs.Rows.{row_of_entry};
 ghost use Rattle.adf_check.specs.Volumes.{IsChecked, StandsFor, counts_of, is_dir_at};
 
 use crate::lookup::{block_of, find};
 use crate::pieces::{blocks_of, pieces_of};
+use crate::places::owner_of;
 use crate::rebuild::tree_of;
-use crate::row::{Row, row_of};
 use crate::store::{KeptHeader, Store};
 use adf_blocks::{Head, HeadBody};
 use adf_fields::NoMemory;
 use adf_tree::{Kind, Label, Name, Node, Stamps};
-use adf_volume::{Image, Owner, Pieces, joined};
+use adf_volume::{Counts, Image, Owner, Pieces, Row, joined, row_of};
 use std::alloc::Global;
 use std::marker::Model;
-
-/// The counts of a volume.
-#[derive(Clone, Copy, Debug, PartialEq, Eq)]
-pub struct Counts {
-    pub kind: Kind,
-    /// All blocks, including the two boot blocks.
-    pub blocks: u32,
-    /// Blocks that parts of the volume own, without the two boot blocks.
-    pub used: u32,
-    /// Blocks from 2 on that no part owns.
-    pub free: u32,
-    pub dirs: usize,
-    pub files: usize,
-}
 
 /// A checked volume, over its image.
 #[derive(Drop)]
@@ -87,7 +73,8 @@ impl Checked<'_> {
             → ((o : Owner) → In (owned self.now.image l) (o, b) → ⊥) → result ≡ Some Owner.Free }
     {
         if b < self.image.blocks() {
-            Some(self.store.owners.get(b))
+            let kept = self.store.owners.get(b);
+            Some(owner_of(&self.store.starts, kept))
         } else {
             None
         }

@@ -1,6 +1,6 @@
 // The whole check.
 
-ghost use Rattle.adf_check.specs.Fault.{IsTrueFault};
+ghost use Rattle.adf_volume.specs.Fault.{IsTrueFault};
 ghost use Rattle.std.specs.Prelude.{◌≡◌, ◌≢◌, ◌≤◌, ◌*◌, IfOk, IfErr};
 ghost use Rattle.adf_blocks.specs.Sizes.{blocks};
 ghost use Rattle.adf_tree.specs.Tree.{Tree};
@@ -14,14 +14,13 @@ ghost use Rattle.adf_check.specs.Volumes.{StandsFor};
 
 use crate::bitmap::check_bitmap;
 use crate::checked::Checked;
-use crate::fault::{Fault, fault_at, no_memory};
 use crate::looks::Looks;
 use crate::nodes::read_nodes;
 use crate::pages::read_pages;
 use crate::store::Store;
 use adf_blocks::Cause;
 use adf_fields::BLOCK_LEN;
-use adf_volume::{Opened, open};
+use adf_volume::{Fault, Opened, fault_at, no_memory, open};
 use std::alloc::Global;
 use std::marker::Brand;
 use std::sync::ledger::{Blank, Ledger};

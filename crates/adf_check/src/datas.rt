@@ -1,9 +1,9 @@
 // The data blocks of files.
 
 ghost use Rattle.adf_blocks.specs.declared.layout.TheConstants.{POINTERS, SIZE};
-ghost use Rattle.adf_check.specs.Fault.{IsTrueFault};
+ghost use Rattle.adf_volume.specs.Fault.{IsTrueFault};
 ghost use Rattle.std.specs.Prelude.{◌≡◌, ◌≤◌, ◌<◌, ◌+◌, ◌*◌, ◌/◌, min, OnOk, IfErr, length, slice_index, ℕ};
-ghost use Rattle.adf_blocks.specs.Sizes.{blocks, chunk, count};
+ghost use Rattle.adf_blocks.specs.Sizes.{blocks, chunk};
 ghost use Rattle.adf_volume.specs.Demands.{AllHold, FirstFails};
 ghost use Rattle.adf_volume.specs.Image.{held, table_word, word_in};
 ghost use Rattle.adf_volume.specs.Walk.{data_count};
@@ -14,12 +14,12 @@ ghost use Rattle.adf_check.specs.Datas.{data_asked, next_of};
 ghost use Rattle.adf_volume.specs.Start.{IsBegun};
 
 use crate::claims::claim_named;
-use crate::fault::{Fault, fault_at, no_memory};
+use crate::kept_owner::KeptOwner;
 use crate::looks::{Looks, look};
 use crate::store::Store;
-use adf_blocks::{Cause, POINTERS, Table, chunk_len, data_count, read_data};
+use adf_blocks::{Cause, POINTERS, Table, chunk_len, read_data};
 use adf_tree::{Kind, Node};
-use adf_volume::{Image, Owner, held_in};
+use adf_volume::{Fault, Image, count_of, fault_at, held_in, no_memory};
 use std::sync::ledger::Ledger;
 
 /// A file whose data blocks are read: its node, its header's block, its size in bytes and its number of data blocks.
@@ -29,13 +29,6 @@ struct File {
     head: u32,
     size: u32,
     count: u32,
-}
-
-// The number of data blocks of a file of `size` bytes.
-pub(crate) fn count_of(kind: Kind, size: u32) -> u32
-    ensures { result ≡ count kind size }
-{
-    data_count(kind, size as usize) as u32
 }
 
 // The pointer to data block `k + 1` in the table.
@@ -133,7 +126,8 @@ fn read_data_block<L: Ledger>(
     ensures fault { IfErr result (λ f. IsTrueFault image.now f) }
 {
     image.begun();
-    claim_named(&mut store.owners, holder, b, Owner::Data(file.node, k + 1))?;
+    let place = store.datas.len() as u32;
+    claim_named(&mut store.owners, holder, b, KeptOwner::Data(place))?;
     if let Err(cause) = check_data(image, looks, table, file, b, k) {
         return Err(fault_at(b, cause));
     }

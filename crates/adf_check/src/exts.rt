@@ -1,6 +1,6 @@
 // The extension blocks of files.
 
-ghost use Rattle.adf_check.specs.Fault.{IsTrueFault};
+ghost use Rattle.adf_volume.specs.Fault.{IsTrueFault};
 ghost use Rattle.std.specs.Prelude.{◌≢◌, ◌<◌, OnOk, IfOk, IfErr};
 ghost use Rattle.adf_blocks.specs.Sizes.{blocks};
 ghost use Rattle.adf_check.specs.Reading.{IsInDatas, IsInExts};
@@ -9,12 +9,12 @@ ghost use Rattle.adf_check.specs.Store.{store_value};
 ghost use Rattle.adf_volume.specs.Start.{IsBegun};
 
 use crate::claims::claim_named;
-use crate::fault::{Fault, fault_at, no_memory};
+use crate::kept_owner::KeptOwner;
 use crate::looks::{Looks, look};
 use crate::store::Store;
 use adf_blocks::read_ext;
 use adf_tree::Node;
-use adf_volume::{Image, Owner};
+use adf_volume::{Fault, Image, fault_at, no_memory};
 use std::sync::ledger::Ledger;
 
 // Claims and reads the extension block `b`, which `holder` points to, of the file `node` with its header at `head`.
@@ -40,8 +40,8 @@ fn read_ext_block<L: Ledger>(
     ensures fault { IfErr result (λ f. IsTrueFault image.now f) }
 {
     image.begun();
-    let owner = Owner::Ext(node, table.len() as u32);
-    claim_named(&mut store.owners, holder, b, owner)?;
+    let place = store.exts.len() as u32;
+    claim_named(&mut store.owners, holder, b, KeptOwner::Ext(place))?;
     let ext = match read_ext(look(image, b, looks), b, head) {
         Ok(ext) => ext,
         Err(cause) => return Err(fault_at(b, cause)),

@@ -9,15 +9,17 @@ ghost use Rattle.adf_volume.specs.Layout.{Layout, at_node, chain_nodes};
 ghost use Rattle.adf_volume.specs.Lists.{Spelled};
 ghost use Rattle.adf_check.specs.StoreStands.{StoreStandsFor};
 ghost use Rattle.adf_check.specs.Reading.{StoreFits};
-ghost use Rattle.adf_check.specs.Store.{owner_at, store_value};
+ghost use Rattle.adf_check.specs.KeptOwner.{kept_at};
+ghost use Rattle.adf_check.specs.Store.{store_value};
 ghost use Rattle.adf_check.specs.Lookup.{headed};
 
+use crate::kept_owner::KeptOwner;
 use crate::owner_table::OwnerTable;
 use crate::store::Store;
 use adf_blocks::{Head, HeadBody};
 use adf_fields::slot;
 use adf_tree::{Name, Node};
-use adf_volume::{Image, Owner};
+use adf_volume::Image;
 
 /// The block of a node.
 pub fn block_of(image: &Image<'_>, store: &Store, node: Node) -> u32
@@ -36,10 +38,10 @@ pub fn block_of(image: &Image<'_>, store: &Store, node: Node) -> u32
 // The node whose header is at a block.
 fn node_at(owners: &OwnerTable, b: u32) -> Option<Node>
     requires { b < length owners.now }
-    ensures { result ≡ headed (owner_at owners.now b) }
+    ensures { result ≡ headed (kept_at owners.now b) }
 {
     match owners.get(b) {
-        Owner::Head(node) => Some(node),
+        KeptOwner::Head(node) => Some(Node(node as usize)),
         _ => None,
     }
 }

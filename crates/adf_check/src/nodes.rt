@@ -6,19 +6,18 @@ ghost use Rattle.adf_blocks.specs.Sizes.{blocks};
 ghost use Rattle.adf_volume.specs.Image.{word_in};
 ghost use Rattle.adf_check.specs.Reading.{IsAtNode, IsInExts, IsInNode, IsRead};
 ghost use Rattle.adf_check.specs.Store.{entered, store_value};
-ghost use Rattle.adf_check.specs.Fault.{IsTrueFault, fault};
+ghost use Rattle.adf_volume.specs.Fault.{IsTrueFault, fault};
 ghost use Rattle.adf_check.specs.Progress.{IsFurther, IsPaid};
 ghost use Rattle.adf_volume.specs.Start.{IsBegun};
 
 use crate::chains::read_directory;
 use crate::datas::read_datas;
 use crate::exts::read_exts;
-use crate::fault::{Fault, no_memory};
 use crate::looks::{Looks, look};
 use crate::store::{NodeStart, Store};
 use adf_blocks::{Cause, HeadBody};
 use adf_tree::{NameSet, Node};
-use adf_volume::Image;
+use adf_volume::{Fault, Image, no_memory};
 use std::alloc::Global;
 use std::sync::ledger::Ledger;
 

@@ -1,35 +1,35 @@
 // The owners of the blocks of an image, as a check keeps them.
 
-ghost use Rattle.std.specs.Prelude.{◌≡◌, ◌≢◌, ◌≤◌, ◌<◌, ◌+◌, ◌-◌, ◌∷◌, ◌↔◌, length, replicate, ℕ, true, false, IsTrue, IsOk, IfOk, IfErr, OnOk, OnErr, slice_set};
-ghost use Rattle.adf_check.specs.Store.{owner_at};
-ghost use Rattle.adf_check.specs.Owners.{HasWords, is_part, owned_count};
+ghost use Rattle.std.specs.Prelude.{◌≡◌, ◌≢◌, ◌≤◌, ◌<◌, ◌+◌, ◌-◌, ◌^◌, ◌∷◌, ◌↔◌, length};
+ghost use Rattle.std.specs.Prelude.{replicate, ℕ, true, false, IsTrue, IsOk, IfOk, IfErr, OnOk, OnErr, slice_set};
+ghost use Rattle.adf_check.specs.KeptOwner.{claimed_count, is_claimed, kept_at, place_of};
 
-use crate::narrow_owner::{NarrowOwner, narrow, wide};
+use crate::kept_owner::{KeptOwner, PackedOwner};
 use adf_blocks::Cause;
 use adf_fields::NoMemory;
-use adf_volume::Owner;
 use std::alloc::Global;
 use std::marker::Model;
 
-/// A table of the owner of each block, with 32-bit numbers.
+/// A table of the owner of each block, in four bytes each.
 #[derive(Drop)]
 pub struct OwnerTable {
     blocks: u32,
     used: u32,
-    owners: Vec<NarrowOwner>,
+    owners: Vec<PackedOwner>,
 }
 
 impl Model for OwnerTable {
     ghost use Rattle.std.specs.Prelude.{List, map};
-    ghost use Rattle.adf_check.specs.NarrowOwner.{wide};
+    ghost use Rattle.adf_check.specs.KeptOwner.{is_claimed, unpacked};
     ghost use Rattle.adf_check.specs.Owners.{IsTable};
-    ghost use Rattle.adf_volume.specs.declared.owner.Owner.{Owner};
+    ghost use Rattle.adf_check.specs.declared.kept_owner.KeptOwner.{KeptOwner};
+    ghost use Rattle.adf_check.specs.declared.kept_owner.KeptOwner.TheVariants.{Boot};
 
-    ghost Value = { List Owner };
+    ghost Value = { List KeptOwner };
 
-    ghost view = { λ t. map wide t.owners.items };
+    ghost view = { λ t. map unpacked t.owners.items };
 
-    ghost invariant = { λ t. IsTable (map wide t.owners.items) t.blocks t.used };
+    ghost invariant = { λ t. IsTable is_claimed Boot (map unpacked t.owners.items) t.blocks t.used };
 }
 
 impl OwnerTable {
@@ -37,13 +37,15 @@ impl OwnerTable {
     pub fn new(alloc: Global, blocks: u32) -> Result<OwnerTable, NoMemory>
         requires { 2 ≤ blocks }
         ensures { IfOk result (λ t.
-            t ≡ Owner.Boot ∷ Owner.Boot ∷ replicate (blocks - 2) Owner.Free) }
+            t ≡ KeptOwner.Boot ∷ KeptOwner.Boot ∷ replicate (blocks - 2) KeptOwner.Free) }
     {
-        let Ok(mut owners) = vec![in alloc; NarrowOwner::Free; blocks as usize] else {
+        let free = PackedOwner::of(KeptOwner::Free);
+        let boot = PackedOwner::of(KeptOwner::Boot);
+        let Ok(mut owners) = vec![in alloc; free; blocks as usize] else {
             return Err(NoMemory);
         };
-        owners[0] = NarrowOwner::Boot;
-        owners[1] = NarrowOwner::Boot;
+        owners[0] = boot;
+        owners[1] = boot;
         Ok(OwnerTable {
             blocks,
             used: 0,
@@ -52,26 +54,24 @@ impl OwnerTable {
     }
 
     // Makes `o` the owner of a free block; `Taken` if the block has an owner, and then nothing changes.
-    pub fn claim(&mut self, b: u32, o: Owner) -> Result<(), Cause>
+    pub fn claim(&mut self, b: u32, o: KeptOwner) -> Result<(), Cause>
         requires from { 2 ≤ b }
         requires below { b < length self.old }
-        requires part { is_part o ≡ true }
-        requires words { HasWords o }
-        ensures free { IsOk result ↔ (owner_at self.old b ≡ Owner.Free) }
+        requires part { is_claimed o ≡ true }
+        requires place { place_of o < 2 ^ 29 }
+        ensures free { IsOk result ↔ (kept_at self.old b ≡ KeptOwner.Free) }
         ensures ok { OnOk result (self.new ≡ slice_set self.old b o) }
         ensures taken { IfErr result (λ c. c ≡ Cause.Taken) }
         ensures unchanged { OnErr result (self.new ≡ self.old) }
-        ensures count { OnOk result (owned_count self.new ≡ owned_count self.old + 1) }
-        ensures bound { owned_count self.new + 2 ≤ length self.new }
+        ensures count { OnOk result (claimed_count self.new ≡ claimed_count self.old + 1) }
+        ensures bound { claimed_count self.new + 2 ≤ length self.new }
     {
-        match self.owners[b as usize] {
-            NarrowOwner::Free => {
-                self.owners[b as usize] = narrow(o);
-                self.used += 1;
-                Ok(())
-            }
-            _ => Err(Cause::Taken),
+        if !self.owners[b as usize].is_free() {
+            return Err(Cause::Taken);
         }
+        self.owners[b as usize] = PackedOwner::of(o);
+        self.used += 1;
+        Ok(())
     }
 
     // The number of blocks.
@@ -83,7 +83,7 @@ impl OwnerTable {
 
     // The number of blocks that parts of the volume own.
     pub fn used(&self) -> u32
-        ensures used { result ≡ owned_count self.now }
+        ensures used { result ≡ claimed_count self.now }
         ensures bound { result + 2 ≤ length self.now }
     {
         self.used
@@ -92,21 +92,18 @@ impl OwnerTable {
     // Whether no part of the volume owns a block.
     pub fn is_free(&self, b: u32) -> bool
         requires { b < length self.now }
-        ensures { IsTrue result ↔ (owner_at self.now b ≡ Owner.Free) }
+        ensures { IsTrue result ↔ (kept_at self.now b ≡ KeptOwner.Free) }
     {
-        match self.owners[b as usize] {
-            NarrowOwner::Free => true,
-            _ => false,
-        }
+        self.owners[b as usize].is_free()
     }
 
     // Whether a block from `first` up to, but not including, `end` has no owner.
     pub fn has_free(&self, first: u32, end: u32) -> bool
         requires { end ≤ length self.now }
         ensures none { result ≡ false → (b : ℕ) → first ≤ b → b < end
-            → owner_at self.now b ≢ Owner.Free }
+            → kept_at self.now b ≢ KeptOwner.Free }
         ensures some { result ≡ true
-            → (b : ℕ) × ((first ≤ b) × (b < end) × (owner_at self.now b ≡ Owner.Free)) }
+            → (b : ℕ) × ((first ≤ b) × (b < end) × (kept_at self.now b ≡ KeptOwner.Free)) }
     {
         for b in first..end {
             if self.is_free(b) {
@@ -117,10 +114,11 @@ impl OwnerTable {
     }
 
     // The owner of a block.
-    pub fn get(&self, b: u32) -> Owner
+    pub fn get(&self, b: u32) -> KeptOwner
         requires { b < length self.now }
-        ensures { result ≡ owner_at self.now b }
+        ensures owner { result ≡ kept_at self.now b }
+        ensures place { place_of result < 2 ^ 29 }
     {
-        wide(self.owners[b as usize])
+        self.owners[b as usize].unpacked()
     }
 }

@@ -1,8 +1,7 @@
 // The owners of the blocks of a volume.
 
 ghost use Rattle.std.specs.Prelude.{◌≡◌, ◌≢◌, ◌≤◌, ◌<◌, ◌+◌, ◌-◌, ◌∷◌, ◌++◌, ◌↔◌, [], length, replicate, true, false, IsOk, IfOk, IfErr, OnOk, OnErr, slice_set};
-ghost use Rattle.adf_check.specs.Store.{owner_at};
-ghost use Rattle.adf_check.specs.Owners.{is_part, owned_count};
+ghost use Rattle.adf_check.specs.Owners.{is_part, owned_count, owner_at};
 
 use adf_blocks::Cause;
 use adf_fields::NoMemory;
@@ -20,14 +19,15 @@ pub struct Owners {
 
 impl Model for Owners {
     ghost use Rattle.std.specs.Prelude.{List};
-    ghost use Rattle.adf_check.specs.Owners.{IsTable};
+    ghost use Rattle.adf_check.specs.Owners.{IsTable, is_part};
     ghost use Rattle.adf_volume.specs.declared.owner.Owner.{Owner};
+    ghost use Rattle.adf_volume.specs.declared.owner.Owner.TheVariants.{Boot};
 
     ghost Value = { List Owner };
 
     ghost view = { λ t. t.owners.items };
 
-    ghost invariant = { λ t. IsTable t.owners.items t.blocks t.used };
+    ghost invariant = { λ t. IsTable is_part Boot t.owners.items t.blocks t.used };
 }
 
 impl Owners {

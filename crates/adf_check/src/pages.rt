@@ -1,6 +1,6 @@
 // The bitmap pages: those of the root, then each bitmap extension block with its pages.
 
-ghost use Rattle.adf_check.specs.Fault.{IsTrueFault};
+ghost use Rattle.adf_volume.specs.Fault.{IsTrueFault};
 ghost use Rattle.std.specs.Prelude.{◌≡◌, ◌≤◌, ◌<◌, ◌+◌, ◌-◌, ◌%◌, ◌↔◌, IsTrue, OnOk, IfOk, IfErr};
 ghost use Rattle.adf_fields.specs.Words.{block};
 ghost use Rattle.adf_blocks.specs.declared.layout.TheConstants.{MAP_EXT_PAGES, ROOT_PAGES};
@@ -13,11 +13,11 @@ ghost use Rattle.adf_volume.specs.Start.{IsBegun};
 ghost use Rattle.adf_check.specs.Pages.{AreListed, index_of_map_ext, index_of_page};
 
 use crate::claims::claim_named;
-use crate::fault::{Fault, fault_at, no_memory};
+use crate::kept_owner::KeptOwner;
 use crate::looks::{Looks, look};
 use crate::store::Store;
 use adf_blocks::{MAP_EXT_PAGES, ROOT_PAGES, Root, page_count, read_map_ext, read_page};
-use adf_volume::{Image, Owner};
+use adf_volume::{Fault, Image, fault_at, no_memory};
 use std::alloc::Global;
 use std::sync::ledger::Ledger;
 
@@ -98,7 +98,7 @@ fn claim_map_ext<L: Ledger>(
     image.begun();
     let b = map_ext_named(image, looks, root, holder, i);
     let j = (i - ROOT_PAGES as u32) / MAP_EXT_PAGES as u32;
-    claim_named(&mut store.owners, holder, b, Owner::MapExt(j))?;
+    claim_named(&mut store.owners, holder, b, KeptOwner::MapExt(j))?;
     Ok(b)
 }
 
@@ -151,7 +151,7 @@ fn read_page_at<L: Ledger>(
 {
     image.begun();
     let b = page_named(image, looks, root, holder, i);
-    claim_named(&mut store.owners, holder, b, Owner::Page(i))?;
+    claim_named(&mut store.owners, holder, b, KeptOwner::Page(i))?;
     match read_page(look(image, b, looks)) {
         Ok(_) => Ok(b),
         Err(cause) => Err(fault_at(b, cause)),

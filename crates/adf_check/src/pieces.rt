@@ -11,12 +11,11 @@ ghost use Rattle.adf_check.specs.Reading.{StoreFits};
 ghost use Rattle.adf_check.specs.Store.{store_value};
 ghost use Rattle.adf_check.specs.Pieces.{bytes_of, pieces_at};
 
-use crate::datas::count_of;
 use crate::lookup::block_of;
 use crate::store::Store;
 use adf_blocks::HeadBody;
 use adf_tree::Node;
-use adf_volume::{Image, Pieces};
+use adf_volume::{Image, Pieces, count_of};
 
 // The `len` members of a list from an index on.
 fn part(xs: &[u32], from: usize, len: usize) -> &[u32]

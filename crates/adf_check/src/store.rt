@@ -10,9 +10,10 @@ ghost use Rattle.adf_check.specs.Reading.{IsBeforePage, StoreFits};
 ghost use Rattle.adf_check.specs.Store.{StoreValue, store_value};
 ghost use Rattle.adf_check.specs.StoreStands.{StoreStandsFor};
 
+use crate::kept_owner::KeptOwner;
 use crate::owner_table::OwnerTable;
 use adf_fields::NoMemory;
-use adf_volume::{Image, Owner};
+use adf_volume::Image;
 use std::alloc::Global;
 
 /// The record kept of a header: the number of its entry's parent, and its block.
@@ -48,7 +49,7 @@ impl Store {
             IsBeforePage image.now (store_value s) 0 (root_of image.now)) }
     {
         let mut owners = OwnerTable::new(alloc, image.blocks())?;
-        owners.claim(image.root(), Owner::Root).unwrap();
+        owners.claim(image.root(), KeptOwner::Root).unwrap();
         Ok(Store {
             owners,
             headers: Vec::new(alloc),

@@ -13,41 +13,28 @@ use Rattle.adf_build.specs.Laid.{IsLaid, volume}
 use Rattle.adf_build.specs.Plan.{planned}
 use Rattle.adf_build.specs.Building.{IsBuildable}
 use Rattle.adf_check.specs.Pieces.{bytes_of}
-use Rattle.adf_check.specs.declared.fault.Fault.{Fault}
+use Rattle.adf_volume.specs.declared.fault.Fault.{Fault}
 use Rattle.adf_cmd.specs.Answers.{Answer, BuildsOrIsFull, Copies, IsBuilt, RefusesImage, contents_at}
-use Rattle.adf_cmd.specs.Commands.{Reply, WritesFront, on_errors, on_output}
+use Rattle.adf_runs.specs.Commands.{Reply, WritesFront, on_errors, on_output}
 use Rattle.adf_words.specs.CommandLine.{build, cat, check, convert, list}
 use Rattle.adf_manifest.specs.Manifest.{ExplainsFault, IsManifest}
-use Rattle.adf_cmd.specs.Outcomes.{EndsBy, IsFaultOutcome, IsRefusedImage, after_writing, outcome_line, status_of}
+use Rattle.adf_runs.specs.Outcomes.{EndsBy, after_writing, outcome_line, status_of}
+use Rattle.adf_cmd.specs.Refusals.{IsFaultOutcome, IsRefusedImage}
 use Rattle.adf_texts.specs.Lines.{fault_line}
 use Rattle.adf_texts.specs.VolumeLines.{volume_lines}
 use Rattle.adf_manifest.specs.declared.manifest.ManifestFault.{ManifestFault}
-use Rattle.adf_cmd.specs.declared.outcome.Outcome.{Outcome}
-use Rattle.adf_cmd.specs.declared.outcome.Outcome.TheVariants.{Refused, ReadFault, WriteFault, NoMemory}
-use Rattle.adf_cmd.specs.declared.streams.StreamFault.{StreamFault}
-use Rattle.adf_cmd.specs.declared.streams.StreamFault.TheVariants.{Device, NoMemory as StreamNoMemory}
-use Rattle.adf_cmd.specs.Streams.{is_device}
-use Rattle.adf_cmd.proofs.PendingText.{appends_nil}
+use Rattle.adf_runs.specs.declared.outcome.Outcome.{Outcome}
+use Rattle.adf_runs.specs.declared.outcome.Outcome.TheVariants.{Refused, ReadFault, WriteFault, NoMemory}
+use Rattle.adf_runs.specs.declared.streams.StreamFault.{StreamFault}
+use Rattle.adf_runs.specs.declared.streams.StreamFault.TheVariants.{Device, NoMemory as StreamNoMemory}
+use Rattle.adf_runs.specs.Streams.{is_device}
+use Rattle.adf_runs.proofs.Endings.{ends_weaker}
+use Rattle.adf_runs.proofs.PendingText.{appends_nil}
 
 -- the line of the first fault of an image answers `check`
 pub refused_answer : (image line : List ℕ) (f : Fault) → FirstFault image f.block f.cause → line ≡ fault_line f
     → Answer check image (on_output 1 line)
 refused_answer image line f first e = inr (f, first, ap (on_output 1) e)
-
--- what ends by some answers ends by others that they are
-pub ends_weaker : (few more : Reply → Type 0) (w : Outcome) (o o' : Option (List ℕ)) → ((reply : Reply) → few reply → more reply)
-    → EndsBy few w o o' → EndsBy more w o o'
-ends_weaker few more ReadFault o o' f h = h
-ends_weaker few more WriteFault o o' f h = (h.0, f h.0 h.1, h.2)
-ends_weaker few more NoMemory o o' f (inl none) = inl none
-ends_weaker few more NoMemory o o' f (inr h) = inr (h.0, f h.0 h.1, h.2)
-ends_weaker few more w o o' f h = (h.0, f (record { status = status_of w; output = h.0; errors = outcome_line w }) h.1, h.2)
-
--- a fault in writing leaves a front part of an answer, and not all where the device failed
-pub front_ends : {failed : Bool} (f : StreamFault) (w : Outcome) (answers : Reply → Type 0) (o o' : Option (List ℕ)) → w ≡ after_writing f
-    → failed ≡ is_device {T = ℕ} (Err f) → WritesFront answers failed o o' → EndsBy answers w o o'
-front_ends Device w answers o o' e d h = rw e (rw d at h)
-front_ends StreamNoMemory w answers o o' e d h = rw e (inr (rw d at h))
 
 -- what is said of a refused image is one of the answers that refuse it so
 pub refused_image_ends : (w : Outcome) (image : List ℕ) (answers : Reply → Type 0) (o : Option (List ℕ))

@@ -7,8 +7,8 @@ use Rattle.adf_tree.specs.Paths.{names_of}
 use Rattle.adf_tree.specs.Tree.{IsTree, entry}
 use Rattle.adf_tree.proofs.EntryPaths.{names_next}
 use Rattle.adf_tree.proofs.PathContents.{entry_says, names_past}
-use Rattle.adf_check.specs.Rows.{row_of_entry}
-use Rattle.adf_check.specs.declared.row.Row.{Row}
+use Rattle.adf_volume.specs.Rows.{row_of_entry}
+use Rattle.adf_volume.specs.declared.row.Row.{Row}
 
 -- the entry of which a row tells
 pub told_entry : (r : Row) (o : Option Entry) → Some r ≡ option_map row_of_entry o → (e : Entry) × (o ≡ Some e) × (r ≡ row_of_entry e)

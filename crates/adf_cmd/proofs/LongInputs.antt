@@ -11,17 +11,18 @@ use Rattle.adf_volume.specs.Walk.{FirstFault}
 use Rattle.adf_volume.specs.Walk.FirstFault.{at_boot}
 use Rattle.adf_volume.proofs.OneFault.{one_fault}
 use Rattle.adf_volume.proofs.Sizes.{size_high}
-use Rattle.adf_check.specs.declared.fault.Fault.{Fault}
+use Rattle.adf_volume.specs.declared.fault.Fault.{Fault}
 use Rattle.adf_manifest.specs.Manifest.{ExplainsKind}
 use Rattle.adf_manifest.specs.declared.manifest.ManifestKind.{ManifestKind}
 use Rattle.adf_manifest.specs.declared.manifest.ManifestKind.TheVariants.{NoMemory as ManifestNoMemory, TooLong}
 use Rattle.adf_cmd.specs.Answers.{Answer, limit_of}
-use Rattle.adf_cmd.specs.Commands.{Reply}
+use Rattle.adf_runs.specs.Commands.{Reply}
 use Rattle.adf_words.specs.CommandLine.{RequestValue, build, cat, check}
 use Rattle.adf_cmd.specs.declared.checking.CheckAnswer.{CheckAnswer}
-use Rattle.adf_cmd.specs.Outcomes.{EndsBy, IsCheckAnswer, IsCheckAnswerTo}
-use Rattle.adf_cmd.specs.declared.outcome.Outcome.{Outcome}
-use Rattle.adf_cmd.proofs.AnswerLaws.{ends_weaker}
+use Rattle.adf_runs.specs.Outcomes.{EndsBy}
+use Rattle.adf_cmd.specs.CheckAnswers.{IsCheckAnswer, IsCheckAnswerTo}
+use Rattle.adf_runs.specs.declared.outcome.Outcome.{Outcome}
+use Rattle.adf_runs.proofs.Endings.{ends_weaker}
 
 -- each answer to one input is one to another
 abbrev pub AnswersBoth : RequestValue → List ℕ → List ℕ → Type 0
@@ -61,19 +62,6 @@ long_answers (build lines) image bytes a b reply (inr h) = inr (h.0, long_kind h
 long_answers _ image bytes a b reply h = elim h [
   | inl told ↦ absurd (too_large image a told.2.boots.0)
   | inr refused ↦ inr (refused.0, long_fault image bytes refused.0 a b refused.1, refused.2)
-]
-
--- what is done with the bytes that are read is done with the whole input, where that is known and what answers a long front answers the whole
-pub read_ends : (w : Outcome) (limit : ℕ) (answers : List ℕ → Reply → Type 0) (image : List ℕ) (left o o' : Option (List ℕ))
-    → ((bytes : List ℕ) → limit < length image → limit < length bytes → (reply : Reply) → answers image reply → answers bytes reply)
-    → IfSome left (λ bytes. image ≡ take (limit + 1) bytes)
-    → EndsBy (answers image) w o o' → IfSome left (λ bytes. EndsBy (answers bytes) w o o')
-read_ends w limit answers image None o o' both e h = tt
-read_ends w limit answers image (Some bytes) o o' both e h = elim (cases_lt limit (length bytes)) [
-  | inr short ↦ subst (λ l. EndsBy (answers l) w o o') (e ∙ take_all (limit + 1) bytes (omega arith)) h
-  | inl long ↦
-      let cut : limit < length image = rw e (omega (arith, length-take {A = ℕ})) in
-      ends_weaker (answers image) (answers bytes) w o o' (both bytes cut long) h
 ]
 
 -- the answer to the bytes that are read is that to the whole input, where that is known

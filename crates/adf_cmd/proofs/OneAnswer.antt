@@ -15,7 +15,7 @@ use Rattle.adf_volume.proofs.FitWalks.{one_fit}
 use Rattle.adf_volume.proofs.NoneFits.{none_fits}
 use Rattle.adf_volume.proofs.OneFault.{one_fault}
 use Rattle.adf_check.specs.Volumes.{counts_of}
-use Rattle.adf_check.specs.declared.fault.Fault.{Fault}
+use Rattle.adf_volume.specs.declared.fault.Fault.{Fault}
 use Rattle.adf_manifest.specs.Manifest.{ExplainsKind, IsManifest, lines}
 use Rattle.adf_manifest.specs.declared.manifest.ManifestKind.{ManifestKind}
 use Rattle.adf_manifest.specs.declared.manifest.ManifestKind.TheVariants.{NoMemory, TooLong}
@@ -26,7 +26,7 @@ use Rattle.adf_texts.specs.Lines.{manifest_fault_line, fault_line, ok_line}
 use Rattle.adf_texts.specs.VolumeLines.{AreDates, volume_lines}
 use Rattle.adf_cmd.specs.Answers.{Accepts, Answer, BuildsManifest, BuildsOrIsFull, Converts, Copies, CopiesFrom, Lists, RefusesImage, RefusesManifest}
 use Rattle.adf_cmd.specs.Answers.{contents_at}
-use Rattle.adf_cmd.specs.Commands.{Reply, on_errors, on_output}
+use Rattle.adf_runs.specs.Commands.{Reply, on_errors, on_output}
 use Rattle.adf_words.specs.CommandLine.{AsksFor, RequestValue, request_of, build, cat, check, convert, list}
 
 pub one_request : (words : List (List ℕ)) (r r' : RequestValue) → AsksFor words r → AsksFor words r' → r ≡ r'

@@ -14,9 +14,9 @@ use Rattle.adf_build.specs.Plan.{blocks_needed, planned}
 use Rattle.adf_build.specs.Building.{IsBuildable, need_of}
 use Rattle.adf_check.specs.Pieces.{bytes_of}
 use Rattle.adf_check.specs.Volumes.{counts_of}
-use Rattle.adf_check.specs.declared.fault.Fault.{Fault}
+use Rattle.adf_volume.specs.declared.fault.Fault.{Fault}
 use Rattle.adf_words.specs.CommandLine.{AsksFor, AreRefused, RequestValue, build, cat, check, convert, list}
-use Rattle.adf_cmd.specs.Commands.{Command, Reply, bad_path, on_errors, on_output}
+use Rattle.adf_runs.specs.Commands.{Command, Reply, bad_path, on_errors, on_output}
 use Rattle.adf_cmd.specs.Listing.{image_or_lines}
 use Rattle.adf_manifest.specs.Manifest.{ExplainsFault, IsManifest, most_bytes}
 use Rattle.adf_texts.specs.Lines.{fault_line, full_line, manifest_fault_line, ok_line}

@@ -1,9 +1,6 @@
-pub mod Commands
-pub mod Devices
+pub mod Answers
+pub mod CheckAnswers
 pub mod Listing
-pub mod Streams
+pub mod Refusals
 pub mod VolumeListing
 pub mod Work
-pub mod WorkFaults
-pub mod Answers
-pub mod Outcomes

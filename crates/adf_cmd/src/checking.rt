@@ -7,15 +7,14 @@ ghost use Rattle.adf_volume.specs.Walk.{FirstFault};
 ghost use Rattle.adf_check.specs.Volumes.{StandsFor};
 ghost use Rattle.adf_cmd.specs.Answers.{Answer, limit_of};
 ghost use Rattle.adf_words.specs.CommandLine.{check};
-ghost use Rattle.adf_cmd.specs.Outcomes.{EndsBy, IsCheckAnswer, IsCheckAnswerTo, is_read_fault, is_write_fault};
-ghost use Rattle.adf_cmd.specs.Streams.{TakesAtMost, is_device};
+ghost use Rattle.adf_runs.specs.Outcomes.{EndsBy, is_read_fault, is_write_fault};
+ghost use Rattle.adf_cmd.specs.CheckAnswers.{IsCheckAnswer, IsCheckAnswerTo};
+ghost use Rattle.adf_runs.specs.Streams.{TakesAtMost, is_device};
 ghost use Rattle.adf_texts.specs.Lines.{ok_line};
 
-use crate::devices::{Sink, Source};
 use crate::images::{MOST_IMAGE_BYTES, checked, refused_line};
-use crate::outcome::Outcome;
-use crate::streams::{StreamFault, read_into, write_all};
 use adf_check::{Checked, Counts, Fault};
+use adf_runs::{Outcome, Sink, Source, StreamFault, read_into, write_all};
 use adf_texts::push_counts;
 use std::alloc::{AllocError, Global};
 

@@ -7,12 +7,12 @@ ghost use Rattle.adf_volume.specs.Fits.{Fits};
 ghost use Rattle.adf_volume.specs.Layout.{Layout};
 ghost use Rattle.adf_cmd.specs.Answers.{Answer, BuildsOrIsFull};
 ghost use Rattle.adf_words.specs.CommandLine.{convert};
-ghost use Rattle.adf_cmd.specs.Outcomes.{EndsBy, IsRefusedImage, is_read_fault, is_write_fault};
+ghost use Rattle.adf_runs.specs.Outcomes.{EndsBy, is_read_fault, is_write_fault};
+ghost use Rattle.adf_cmd.specs.Refusals.{IsRefusedImage};
 
 use crate::building::build_tree;
-use crate::devices::Sink;
 use crate::images::volume_of;
-use crate::outcome::Outcome;
+use adf_runs::{Outcome, Sink};
 use adf_tree::{Kind, Tree};
 use std::alloc::Global;
 

@@ -9,14 +9,12 @@ ghost use Rattle.adf_volume.specs.Layout.{Layout};
 ghost use Rattle.adf_check.specs.Volumes.{StandsFor};
 ghost use Rattle.adf_cmd.specs.Answers.{Answer, Copies, contents_at};
 ghost use Rattle.adf_words.specs.CommandLine.{cat};
-ghost use Rattle.adf_cmd.specs.Outcomes.{EndsBy, is_read_fault, is_write_fault};
-ghost use Rattle.adf_cmd.specs.Streams.{AppendsPart, KeepsPending};
+ghost use Rattle.adf_runs.specs.Outcomes.{EndsBy, is_read_fault, is_write_fault};
+ghost use Rattle.adf_runs.specs.Streams.{AppendsPart, KeepsPending};
 
-use crate::devices::{Failed, Sink};
 use crate::images::volume_of;
-use crate::outcome::Outcome;
-use crate::streams::write_all;
 use adf_check::{Checked, Pieces};
+use adf_runs::{Failed, Outcome, Sink, write_all};
 use adf_tree::Name;
 use std::alloc::Global;
 

@@ -6,13 +6,14 @@ ghost use Rattle.adf_volume.specs.Fits.{Fits};
 ghost use Rattle.adf_volume.specs.Layout.{Layout};
 ghost use Rattle.adf_volume.specs.Walk.{FirstFault};
 ghost use Rattle.adf_check.specs.Volumes.{StandsFor};
-ghost use Rattle.adf_cmd.specs.Outcomes.{IsRefusedImage, is_read_fault, is_write_fault};
+ghost use Rattle.adf_cmd.specs.Refusals.{IsRefusedImage};
+ghost use Rattle.adf_runs.specs.Outcomes.{is_read_fault, is_write_fault};
 ghost use Rattle.adf_texts.specs.Lines.{fault_line};
 
-use crate::outcome::Outcome;
 use adf_blocks::{Cause, MOST_BLOCKS};
 use adf_check::{Checked, Fault, check};
 use adf_fields::BLOCK_LEN;
+use adf_runs::Outcome;
 use adf_texts::push_fault;
 use std::alloc::{AllocError, Global};
 

@@ -3,11 +3,10 @@
 ghost use Rattle.std.specs.Prelude.{◌≡◌, false, true};
 ghost use Rattle.adf_cmd.specs.Answers.{RequestsHaveOneAnswer, WordsAskForOneRequest, adf_command};
 ghost use Rattle.adf_words.specs.CommandLine.{texts_of};
-ghost use Rattle.adf_cmd.specs.Commands.{IsUnanswered, RunEnds, TakesEnough};
+ghost use Rattle.adf_runs.specs.Commands.{IsUnanswered, RunEnds, TakesEnough};
 
-use crate::devices::{Sink, Source};
-use crate::programs::run_program;
 use crate::work::Work;
+use adf_runs::{Sink, Source, run_program};
 use std::alloc::Global;
 
 /// Runs the command that the words name, of which the first is the program's name, and answers its status:

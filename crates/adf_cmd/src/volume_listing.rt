@@ -10,15 +10,13 @@ ghost use Rattle.adf_check.specs.Volumes.{StandsFor};
 ghost use Rattle.adf_texts.specs.VolumeLines.{lines_of_entries, lines_of_entry, opening_lines, volume_lines};
 ghost use Rattle.adf_cmd.specs.Answers.{Answer};
 ghost use Rattle.adf_words.specs.CommandLine.{list};
-ghost use Rattle.adf_cmd.specs.Outcomes.{EndsBy, is_read_fault, is_write_fault};
-ghost use Rattle.adf_cmd.specs.Streams.{AppendsPart, KeepsPending, is_device};
+ghost use Rattle.adf_runs.specs.Outcomes.{EndsBy, is_read_fault, is_write_fault};
+ghost use Rattle.adf_runs.specs.Streams.{AppendsPart, KeepsPending, is_device};
 ghost use Rattle.adf_cmd.specs.VolumeListing.{InAnyDates};
 
-use crate::devices::Sink;
 use crate::images::volume_of;
-use crate::outcome::Outcome;
-use crate::streams::{StreamFault, flush_long, write_all};
 use adf_check::Checked;
+use adf_runs::{Outcome, Sink, StreamFault, flush_long, write_all};
 use adf_texts::{push_entry_lines, push_opening_lines};
 use adf_tree::{Name, Node};
 use std::alloc::{AllocError, Global};

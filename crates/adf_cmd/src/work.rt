@@ -3,22 +3,18 @@
 ghost use Rattle.std.specs.Prelude.{◌≡◌, false, IfErr, IfOk};
 ghost use Rattle.adf_cmd.specs.Answers.{Answer, HasBadPath};
 ghost use Rattle.adf_words.specs.CommandLine.{RequestValue, request_value};
-ghost use Rattle.adf_cmd.specs.Outcomes.{EndsBy, is_read_fault, is_write_fault};
+ghost use Rattle.adf_runs.specs.Outcomes.{EndsBy, is_read_fault, is_write_fault};
 ghost use Rattle.adf_cmd.specs.Work.{Serves};
-ghost use Rattle.adf_cmd.specs.WorkFaults.{IsNoWork};
+ghost use Rattle.adf_runs.specs.WorkFaults.{IsNoWork};
 
 use crate::building::build_manifest;
 use crate::checking::check_image;
 use crate::converting::{convert_image, convert_read};
 use crate::copying::cat_image;
-use crate::devices::{Sink, Source};
 use crate::images::MOST_IMAGE_BYTES;
-use crate::inputs::read_input;
-use crate::outcome::Outcome;
-use crate::programs::Program;
 use crate::volume_listing::list_image;
-use crate::work_fault::WorkFault;
 use adf_manifest::MOST_BYTES;
+use adf_runs::{Outcome, Program, Sink, Source, WorkFault, read_input};
 use adf_tree::{Kind, Name, read_path};
 use adf_words::{Request, USAGE, parse};
 use std::alloc::Global;

@@ -1,6 +1,6 @@
 -- A command whose words are bytes in memory.
 use Rattle.std.proofs.Common.{rules, ℕ, Bool, false, List, Option, Some, inl, inr}
-use Rattle.adf_cmd.specs.Commands.{Command, IsUnanswered, LooksAt, RunEnds}
+use Rattle.adf_runs.specs.Commands.{Command, IsUnanswered, LooksAt, RunEnds}
 use Rattle.adf_memory.specs.Words.{AreWords, in_memory}
 use Rattle.adf_memory.proofs.WordParts.{along}
 

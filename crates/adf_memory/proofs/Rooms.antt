@@ -5,8 +5,8 @@ use Rattle.std.proofs.lemmas.Bool.{cases_lt}
 use Rattle.std.proofs.lemmas.List.{get_or-set_same, get_or-set_other, length-set}
 use borrow.Author.Count.{below_more}
 use Rattle.std.specs.Io.KnownBytes.{Appends}
-use Rattle.adf_cmd.specs.Commands.{Command, GetsFront, IsUnanswered, RunEnds}
-use Rattle.adf_cmd.specs.Streams.{AppendsPart, Says}
+use Rattle.adf_runs.specs.Commands.{Command, GetsFront, IsUnanswered, RunEnds}
+use Rattle.adf_runs.specs.Streams.{AppendsPart, Says}
 
 -- what holds of each byte before place i, and of the one that is put there, holds of each byte up to it
 pub put_more : (P : ℕ → ℕ → Type 0) (xs : List ℕ) (i r : ℕ) → i < length xs → P i r

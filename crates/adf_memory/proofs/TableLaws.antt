@@ -11,10 +11,10 @@ use Rattle.adf_volume.specs.Layout.{EntryAt, Layout, Place, datas_at, datas_of, 
 use Rattle.adf_volume.specs.Lists.{At, numbered}
 use Rattle.adf_volume.proofs.Chains.{entry_is_at, entry_some}
 use Rattle.adf_volume.proofs.Lists.{at_below, at_index_or, at_some}
-use Rattle.adf_check.specs.Rows.{row_of_entry}
+use Rattle.adf_volume.specs.Rows.{row_of_entry}
 use Rattle.adf_check.specs.Volumes.{counts_of}
-use Rattle.adf_check.specs.declared.checked.Counts.{Counts}
-use Rattle.adf_check.specs.declared.row.Row.{Row}
+use Rattle.adf_volume.specs.declared.counts.Counts.{Counts}
+use Rattle.adf_volume.specs.declared.row.Row.{Row}
 use Rattle.adf_memory.specs.declared.tables.Contents.{Contents}
 use Rattle.adf_memory.specs.declared.tables.TableEntry.{TableEntry}
 use Rattle.adf_memory.specs.Rooms.{filled}

@@ -6,7 +6,7 @@ use Rattle.adf_blocks.specs.Causes.{cause_number}
 use Rattle.adf_blocks.specs.declared.cause.Cause.{Cause}
 use Rattle.adf_blocks.specs.declared.cause.Cause.TheVariants.{NoMemory}
 use Rattle.adf_volume.specs.Walk.{FirstFault}
-use Rattle.adf_check.specs.declared.checked.Counts.{Counts}
+use Rattle.adf_volume.specs.declared.counts.Counts.{Counts}
 use Rattle.adf_memory.specs.declared.verdict.Verdict.{Verdict}
 
 -- 0 for OFS, 1 for FFS

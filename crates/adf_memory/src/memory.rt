@@ -2,7 +2,7 @@
 
 ghost use Rattle.std.specs.Prelude.{◌≡◌, ◌≤◌, ◌∷◌, Some, false, length, min, take, true};
 
-use adf_cmd::{Failed, Sink};
+use adf_runs::{Failed, Sink};
 
 /// The caller's memory, filled from the front. It has failed once there is no room left for a byte.
 #[derive(Drop)]

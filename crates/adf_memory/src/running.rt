@@ -2,13 +2,14 @@
 
 ghost use Rattle.std.specs.Prelude.{◌≡◌, [], Some, false, take};
 ghost use Rattle.adf_cmd.specs.Answers.{adf_command};
-ghost use Rattle.adf_cmd.specs.Commands.{IsUnanswered, LooksAt, RunEnds};
+ghost use Rattle.adf_runs.specs.Commands.{IsUnanswered, LooksAt, RunEnds};
 ghost use Rattle.adf_memory.specs.Rooms.{StandIn};
 ghost use Rattle.adf_memory.specs.Words.{in_memory};
 
 use crate::memory::{CallerMemory, Moved};
 use crate::words::words_in;
-use adf_cmd::{Program, Ran, Sink, Work, WorkFault, run_program_on};
+use adf_cmd::Work;
+use adf_runs::{Program, Ran, Sink, WorkFault, run_program_on};
 use std::alloc::Global;
 
 // Runs a program for the words in memory, on an input in memory.

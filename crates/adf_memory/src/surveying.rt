@@ -1,7 +1,7 @@
 // The command `adf-survey` over memory.
 
 ghost use Rattle.std.specs.Prelude.{◌≡◌, [], Some, false, take};
-ghost use Rattle.adf_cmd.specs.Commands.{IsUnanswered, LooksAt, RunEnds};
+ghost use Rattle.adf_runs.specs.Commands.{IsUnanswered, LooksAt, RunEnds};
 ghost use Rattle.adf_survey_cmd.specs.Answers.{survey_command};
 ghost use Rattle.adf_memory.specs.Rooms.{StandIn};
 ghost use Rattle.adf_memory.specs.Words.{in_memory};

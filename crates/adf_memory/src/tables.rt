@@ -5,7 +5,7 @@ ghost use Rattle.adf_tree.specs.declared.entry.Body.{Body};
 ghost use Rattle.adf_tree.specs.declared.entry.Entry.{Entry};
 ghost use Rattle.adf_tree.specs.Tree.{Tree, entry};
 ghost use Rattle.adf_volume.specs.Layout.{Layout, at_node, owned};
-ghost use Rattle.adf_check.specs.Rows.{row_of_body, row_of_entry};
+ghost use Rattle.adf_volume.specs.Rows.{row_of_body, row_of_entry};
 ghost use Rattle.adf_check.specs.Volumes.{StandsFor, counts_of};
 ghost use Rattle.adf_memory.specs.Rooms.{filled};
 ghost use Rattle.adf_memory.specs.Tables.{block_table, bytes_in, contents_of, date_of, entry_table, field};

@@ -3,8 +3,8 @@
 use Rattle.std.proofs.Common.{◌≡◌, ◌∙◌, ℕ, max, Bool, true, false, List, [], ◌∷◌, ◌++◌, Option, None, Some, IfSome}
 use Rattle.std.proofs.Common.{append-nil, append_assoc, inl, inr, refl, sym, ap, subst, arith}
 use Rattle.std.specs.Io.KnownBytes.{Appends}
-use Rattle.adf_cmd.proofs.KnownBytes.{appends_two}
-use Rattle.adf_cmd.proofs.PendingText.{appends_nil}
+use Rattle.adf_runs.proofs.KnownBytes.{appends_two}
+use Rattle.adf_runs.proofs.PendingText.{appends_nil}
 use Rattle.adf_shelf_cmd.specs.Lines.{AreShelfLines, BreaksLine, IsReport, IsRunStatus, Reports, WritesAll, WritesLines, WritesPart, shelf_line}
 use Rattle.adf_shelf_cmd.specs.Names.{AreGiven}
 

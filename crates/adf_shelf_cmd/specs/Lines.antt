@@ -5,9 +5,9 @@ use Rattle.std.specs.Prelude.{Option, IfSome, Result, Err, if◌then◌else◌, 
 use Rattle.std.specs.Io.KnownBytes.{Appends}
 use Rattle.adf_tree.specs.Escapes.{escaped}
 use Rattle.adf_cmd.specs.Answers.{Answer}
-use Rattle.adf_cmd.specs.Commands.{on_output}
+use Rattle.adf_runs.specs.Commands.{on_output}
 use Rattle.adf_words.specs.CommandLine.{check}
-use Rattle.adf_cmd.specs.Streams.{AppendsPart, Says}
+use Rattle.adf_runs.specs.Streams.{AppendsPart, Says}
 use Rattle.adf_shelf_cmd.specs.declared.report.Report.{Report}
 use Rattle.adf_shelf_cmd.specs.declared.report.Report.TheVariants.{Checked, ReadFault, NoMemory}
 use Rattle.adf_shelf_cmd.specs.declared.shelf.Stop.{Stop}
@@ -81,6 +81,11 @@ abbrev pub report_text : Report → List ℕ
 report_text (Checked a) = string_bytes a.line
 report_text ReadFault = codes "read fault\n"
 report_text NoMemory = codes "no memory\n"
+
+-- whether a report is that the file was not read
+abbrev pub is_unread : Report → Bool
+is_unread ReadFault = true
+is_unread _ = false
 
 -- whether a run stopped since output failed
 abbrev pub is_output_fault : Stop → Bool

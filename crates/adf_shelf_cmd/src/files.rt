@@ -2,7 +2,7 @@
 
 ghost use Rattle.std.specs.Prelude.{◌≡◌, Bool, ℕ, false, IfOk, IfSome, List, None, OnErr, Option, Some, true};
 
-use adf_cmd::{Device, Failed, Source};
+use adf_runs::{Device, Failed, Source};
 use std::fs::File;
 use std::{rt, str};
 
@@ -35,7 +35,9 @@ pub struct SystemFiles<'a, R: rt::Files> {
 
 impl<'a, R: rt::Files> SystemFiles<'a, R> {
     /// The files of this system.
-    pub fn new(system: &'a R) -> SystemFiles<'a, R> {
+    pub fn new(system: &'a R) -> SystemFiles<'a, R>
+        ensures { result.system.now ≡ system.entry.now }
+    {
         SystemFiles { system }
     }
 }

@@ -3,10 +3,10 @@
 ghost use Rattle.std.specs.Prelude.{◌≡◌, ◌<◌, Bool, ℕ, IfOk, List, Ok, Option, Some, false, length, option_map, true};
 ghost use Rattle.std.specs.Io.BufRead.{strip_last};
 ghost use Rattle.adf_words.specs.CommandLine.{texts_of};
-ghost use Rattle.adf_cmd.specs.Streams.{is_device};
+ghost use Rattle.adf_runs.specs.Streams.{is_device};
 ghost use Rattle.adf_shelf_cmd.specs.Names.{GivesName, listed_names};
 
-use adf_cmd::StreamFault;
+use adf_runs::StreamFault;
 use std::io::{BufRead, ErrorKind};
 
 /// Names, one after another.

@@ -1,10 +1,11 @@
 // What is reported of a file, and the line of its name.
 
 ghost use Rattle.std.specs.Prelude.{◌≡◌, ◌++◌, false, OnOk};
-ghost use Rattle.adf_shelf_cmd.specs.Lines.{IsReport, IsRunStatus, report_status, report_text, shelf_line};
+ghost use Rattle.adf_shelf_cmd.specs.Lines.{IsReport, IsRunStatus, is_unread, report_status, report_text, shelf_line};
 
 use crate::files::Files;
-use adf_cmd::{CheckAnswer, Source, StreamFault, answer_to_input};
+use adf_cmd::{CheckAnswer, answer_to_input};
+use adf_runs::{Source, StreamFault};
 use adf_texts::push_escaped;
 use std::alloc::{AllocError, Global};
 
@@ -47,8 +48,9 @@ impl Report {
 // Reads an image into the buffer and checks it.
 fn check_source<S: Source>(alloc: Global, source: &mut S, buffer: &mut Vec<u8>) -> Report
     requires { S.has_failed source.old ≡ false }
-    ensures { IsReport (S.left source.old) (S.may_fail source.old)
+    ensures report { IsReport (S.left source.old) (S.may_fail source.old)
         (report_status result) (report_text result) }
+    ensures failed { S.has_failed source.new ≡ is_unread result }
 {
     match answer_to_input(alloc, source, buffer) {
         Ok(answer) => Report::Checked(answer),

@@ -2,7 +2,7 @@
 
 ghost use Rattle.std.specs.Prelude.{◌≡◌, ◌≢◌, ◌≤◌, Bool, List, ℕ, [], codes, false};
 ghost use Rattle.adf_words.specs.CommandLine.{texts_of};
-ghost use Rattle.adf_cmd.specs.Streams.{Says};
+ghost use Rattle.adf_runs.specs.Streams.{Says};
 ghost use Rattle.adf_words.specs.ShelfLine.{AsksShelf, AreRefusedByShelf};
 ghost use Rattle.adf_shelf_cmd.specs.Lines.{Ends, Explains, IsReportOf, IsRunStatus};
 ghost use Rattle.adf_shelf_cmd.specs.Names.{are_unread, names_asked};
@@ -10,7 +10,7 @@ ghost use Rattle.adf_shelf_cmd.specs.Names.{are_unread, names_asked};
 use crate::files::Files;
 use crate::names::{Names, TextNames, WordNames};
 use crate::shelf::{Stop, write_verdicts};
-use adf_cmd::{Sink, say};
+use adf_runs::{Sink, say};
 use adf_words::{Order, SHELF_USAGE as USAGE, WordsFault, parse_shelf};
 use std::alloc::Global;
 use std::io::BufRead;
@@ -102,6 +102,10 @@ pub fn run<B: BufRead, F: Files, W: Sink, E: Sink>(
         → input.old.failed ≡ false
         → Explains (are_unread order input.new.failed) result (W.has_failed output.new)
         (E.has_failed errors.new) (E.held errors.old) (E.held errors.new) }
+
+    // Where the words name images, the input is not read.
+    ensures unread { (order : Bool × List (List ℕ)) → AsksShelf (texts_of words.now) order
+        → order.1 ≢ [] → input.new ≡ input.old }
 
     // At status 2 the words are refused; where they are, nothing was read or written.
     ensures usage { result ≡ 2 → AreRefusedByShelf (texts_of words.now) }

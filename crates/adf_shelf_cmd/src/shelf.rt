@@ -7,7 +7,7 @@ ghost use Rattle.adf_shelf_cmd.specs.Lines.{BreaksLine, IsReportOf, IsRunStatus,
 use crate::files::Files;
 use crate::names::Names;
 use crate::report::{check_file, push_line};
-use adf_cmd::{Sink, StreamFault, write_all};
+use adf_runs::{Sink, StreamFault, write_all};
 use std::alloc::Global;
 
 /// Why the work stopped before the last name.

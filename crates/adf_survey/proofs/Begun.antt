@@ -12,7 +12,7 @@ use Rattle.std.proofs.lemmas.List.{length-replicate}
 use Rattle.adf_blocks.specs.Sizes.{blocks}
 use Rattle.adf_volume.specs.Image.{root_of}
 use Rattle.adf_volume.specs.Walk.{Role, Has, Asks, Lacks, third}
-use Rattle.adf_volume.specs.Walk.Role.{Root, Page, MapExt, Head, Ext, Data}
+use Rattle.adf_volume.specs.Walk.Role.{Root, Page, MapExt}
 use Rattle.adf_survey.specs.declared.part.Part.TheVariants.{Root as RootPart}
 use Rattle.adf_survey.specs.declared.found.Found.{Found}
 use Rattle.adf_survey.specs.declared.part.Finding.{Finding}
@@ -121,9 +121,7 @@ module _ (image : List ℕ) (fs : List FindingValue) where
       gone Root a i h l m u = h
       gone (Page k) a i h l m u = let x : third (Page k) < 0 = u.2 refl refl in omega arith
       gone (MapExt j) a i h l m u = let x : third (MapExt j) < 0 = u.2 refl refl in omega arith
-      gone (Head n p s j) a i h l m u = omega arith
-      gone (Ext n k) a i h l m u = omega arith
-      gone (Data n k) a i h l m u = omega arith
+      gone _ a i h l m u = omega arith
 
   no_names : (names : BTreeSet (Vec ℕ)) → AreNamed image (begun image fs).walk (page_place 0) names
   no_names names q m p s j b e f h = absurd (omega arith)

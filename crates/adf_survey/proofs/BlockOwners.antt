@@ -6,7 +6,7 @@ use Rattle.std.proofs.lemmas.Bool.{cases_Bool}
 use Rattle.std.proofs.lemmas.Bool.Decides.{eqb_tells}
 use Rattle.adf_volume.specs.Image.{root_of}
 use Rattle.adf_volume.specs.Walk.{Role, Asks}
-use Rattle.adf_volume.specs.Walk.Role.{Root, Page, MapExt, Head, Ext, Data}
+use Rattle.adf_volume.specs.Walk.Role.{Root, Head, Ext, Data}
 use Rattle.adf_volume.proofs.Gathered.{IsGathered, asked_file, number_of}
 use Rattle.adf_volume.proofs.Gathered.IsGathered.{start, step}
 use Rattle.adf_volume.proofs.Roles.{asks_number}
@@ -38,9 +38,7 @@ module _ (image : List ℕ) where
   asked_number v (Data m (suc k)) a i n d e =
       let l = number_of image v d.0.1.header in
       let same : m ≡ n = cc in omega arith
-  asked_number v Root a i n d e = cc
-  asked_number v (Page k) a i n d e = cc
-  asked_number v (MapExt j) a i n d e = cc
+  asked_number v _ a i n d e = cc
 
   -- an entry that holds a block has a number from 1
   owner_number : {w : List (Role × ℕ)} → IsGathered image w → (b n : ℕ) → owner w b ≡ Some n → 1 ≤ n

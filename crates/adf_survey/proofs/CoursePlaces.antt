@@ -66,10 +66,8 @@ module _ (image : List ℕ) where
           | yes e ↦ absurd (dir_or_file v n b ask.0.0 d (subst (λ m. FileAt image s.walk m ask.0.0) e ask.0.1))
           | no e ↦ omega arith
         ]
-        none Root a i ask u = omega arith
-        none (Page k) a i ask u = omega arith
-        none (MapExt k) a i ask u = omega arith
         none (Head m p t j) a i ask u = let x = low_second (Head m p t j) (key_of (Head 0 n 0 0)) u refl in omega arith
+        none _ a i ask u = omega arith
 
     -- behind the last slot comes the next node
     pub dir_ends : (n b : ℕ) → Holds image f (key_of (Head 0 n SLOTS 0)) s → IsAt image f (before_node (suc n))
@@ -83,11 +81,9 @@ module _ (image : List ℕ) where
         none (Head m p t (suc j)) a i ask u =
             let y = low (Head m p t (suc j)) u in
             let x = low_second (Head ask.1.0 p t j) (key_of (Head 0 n SLOTS 0)) (h.up_to.taken (Head ask.1.0 p t j) a ask.1.1) refl in omega arith
-        none Root a i ask u = omega arith
-        none (Page k) a i ask u = omega arith
-        none (MapExt k) a i ask u = omega arith
         none (Ext m k) a i ask u = let x = low (Ext m k) u in omega arith
         none (Data m k) a i ask u = let x = low (Data m k) u in omega arith
+        none _ a i ask u = omega arith
 
     -- what is no directory and no file asks for nothing
     pub node_ends : (n : ℕ) → Holds image f (before_node n) s → ((b : ℕ) → DirAt image s.walk n b → ⊥) → ((b : ℕ) → FileAt image s.walk n b → ⊥)
@@ -116,19 +112,16 @@ module _ (image : List ℕ) where
           | yes e ↦ absurd (no_file ask.0.0 (subst (λ m. FileAt image s.walk m ask.0.0) e ask.0.1))
           | no e ↦ low (Data m (suc k)) u (λ x. e (omega arith))
         ]
-        none Root a i ask u = omega arith
-        none (Page k) a i ask u = omega arith
-        none (MapExt k) a i ask u = omega arith
+        none _ a i ask u = omega arith
 
     -- a walk asks for nothing of the nodes that it lacks
     asked_low : (v : IsGathered image s.walk) (q : Role) (a i : ℕ) → Asks image s.walk q a i → first q ≤ suc (heads s.walk)
-    asked_low v Root a i ask = absurd ask
     asked_low v (Page k) a i ask = omega arith
     asked_low v (MapExt k) a i ask = omega arith
     asked_low v (Head m p t j) a i ask = let x = asked_dir image v m p t j a i ask in let y = dir_number image v p x.0 x.1 in omega arith
     asked_low v (Ext m k) a i ask = let x = asked_file image v m k a i ask in let y = number_of image v x.1.header in omega arith
-    asked_low v (Data m zero) a i ask = absurd ask
     asked_low v (Data m (suc k)) a i ask = let y = number_of image v ask.0.1.header in omega arith
+    asked_low v _ a i ask = absurd ask
 
     -- behind the last node nothing is next
     pub nodes_end : (n : ℕ) → length f.nodes.items ≤ n → Holds image f (before_node n) s → IsFinished image f
@@ -228,11 +221,7 @@ module _ (image : List ℕ) where
                   → Under (Head m p' t c) (key_of (Head 0 p slot j))
               chained zero ask u e = let y = low m p' t zero u in omega arith
               chained (suc c) ask u e = let y = low m p' t (suc c) u in let x = h.up_to.taken (Head ask.1.0 p' t c) d ask.1.1 in omega arith
-          none Root d k ask u = omega arith
-          none (Page m) d k ask u = omega arith
-          none (MapExt m) d k ask u = omega arith
-          none (Ext m c) d k ask u = omega arith
-          none (Data m c) d k ask u = omega arith
+          none _ d k ask u = omega arith
 
       -- the header at a place of a chain is named
       chain_named : (j a i : ℕ) → slot < SLOTS → Holds image f (key_of (Head 0 p slot j)) s → IsLink image s.walk p slot j a i → word_in image a i ≢ 0
@@ -262,11 +251,7 @@ module _ (image : List ℕ) where
           none : (q : Role) (d k : ℕ) → Asks image s.walk q d k → Under q (key_of (Head 0 p (suc slot) 0)) → Under q (behind (Head 0 p slot j))
           none (Head m p' t zero) d k ask u = let y = low m p' t zero u in omega arith
           none (Head m p' t (suc c)) d k ask u = let y = low m p' t (suc c) u in let x = h.up_to.taken (Head ask.1.0 p' t c) d ask.1.1 in omega arith
-          none Root d k ask u = omega arith
-          none (Page m) d k ask u = omega arith
-          none (MapExt m) d k ask u = omega arith
-          none (Ext m c) d k ask u = omega arith
-          none (Data m c) d k ask u = omega arith
+          none _ d k ask u = omega arith
 
     module _ (n b : ℕ) where
       -- the extension blocks of a file come first
@@ -282,11 +267,7 @@ module _ (image : List ℕ) where
           none : (q : Role) (d k : ℕ) → Asks image s.walk q d k → Under q (key_of (Ext n 1)) → Under q (before_node n)
           none (Ext m zero) d k ask u = absurd ask
           none (Ext m (suc c)) d k ask u = omega arith
-          none Root d k ask u = omega arith
-          none (Page m) d k ask u = omega arith
-          none (MapExt m) d k ask u = omega arith
-          none (Head m p t j) d k ask u = omega arith
-          none (Data m c) d k ask u = omega arith
+          none _ d k ask u = omega arith
 
           no_exts : (c : ℕ) → ext_count s.walk n ≡ c → c ≡ 0
           no_exts zero e = refl
@@ -333,10 +314,7 @@ module _ (image : List ℕ) where
           none (Ext i (suc (suc c))) d k ask u = let x = h.up_to.taken (Ext i (suc c)) d ask.0 in omega arith
           none (Data i zero) d k ask u = absurd ask
           none (Data i (suc c)) d k ask u = omega arith
-          none Root d k ask u = omega arith
-          none (Page i) d k ask u = omega arith
-          none (MapExt i) d k ask u = omega arith
-          none (Head i p t j) d k ask u = omega arith
+          none _ d k ask u = omega arith
 
       -- behind the last extension block come the data blocks
       exts_end : (m a : ℕ) → Holds image f (key_of (Ext n (suc m))) s → FileAt image s.walk n b → MemberAt image s.walk n m a
@@ -368,10 +346,7 @@ module _ (image : List ℕ) where
               low (suc (suc c)) ask e = let x = h.up_to.taken (Ext i (suc c)) d ask.0 in omega arith
           none (Data i zero) d k ask u = absurd ask
           none (Data i (suc c)) d k ask u = omega arith
-          none Root d k ask u = omega arith
-          none (Page i) d k ask u = omega arith
-          none (MapExt i) d k ask u = omega arith
-          none (Head i p t j) d k ask u = omega arith
+          none _ d k ask u = omega arith
 
       -- a data block that is named
       data_named : (exts k j : ℕ) → suc k ≡ j → (h : Holds image f (record { first = suc n; second = 1; third = suc k }) s) → FileAt image s.walk n b
@@ -436,9 +411,7 @@ module _ (image : List ℕ) where
             | no e ↦ (let x = low_first (Data i (suc c)) (before_node (suc n)) u refl refl in omega arith)
           ]
           none (Ext i c) d k ask u = let x = low_first (Ext i c) (before_node (suc n)) u refl refl in omega arith
-          none Root d k ask u = omega arith
-          none (Page i) d k ask u = omega arith
-          none (MapExt i) d k ask u = omega arith
+          none _ d k ask u = omega arith
 
 -- a chain that is gone through
 module _ {image : List ℕ} {f : Found} {p slot j a i b : ℕ} (x : IsInChain image f p slot j a i b) where

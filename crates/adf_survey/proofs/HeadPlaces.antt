@@ -62,10 +62,7 @@ module _ (image : List ℕ) where
   place_stays w (Head m p s j) a i k c d lt e =
       get_other (places_of w) (record { slot = s; place = j }) k (let l = places_long w in omega arith) ∙ e
   place_stays w Root a i k c d lt e = absurd d
-  place_stays w (Page q) a i k c d lt e = e
-  place_stays w (MapExt q) a i k c d lt e = e
-  place_stays w (Ext m q) a i k c d lt e = e
-  place_stays w (Data m q) a i k c d lt e = e
+  place_stays w _ a i k c d lt e = e
 
   -- each header has its place
   place_kept : {w : List (Role × ℕ)} → IsGathered image w → (n p s j b : ℕ) → Has w (Head n p s j) b
@@ -102,10 +99,7 @@ module _ (image : List ℕ) where
             (p, b, inl (is ∙ (λ y. Head (one y) p (h.1 y).slot (h.1 y).place), refl))
       ]
       go Root is d e again = absurd d
-      go (Page q) is d e again = older (again e)
-      go (MapExt q) is d e again = older (again e)
-      go (Ext m q) is d e again = older (again e)
-      go (Data m q) is d e again = older (again e)
+      go _ is d e again = older (again e)
 
   place_is : (o : Option ChainPlace) (s j : ℕ) → is_place o s j ≡ true → (c : ChainPlace) × (o ≡ Some c) × (c.slot ≡ s) × (c.place ≡ j)
   place_is None s j e = cc

@@ -14,7 +14,7 @@ use Rattle.adf_blocks.specs.ExtBlock.{ext_form}
 use Rattle.adf_volume.specs.Demands.{Demand, demand, demands_at, data_demands, AllHold, FirstFails}
 use Rattle.adf_volume.specs.Image.{held, kind_of, word_in}
 use Rattle.adf_volume.specs.Walk.{Role, Enough, IsAbsent, next_data, node_block}
-use Rattle.adf_volume.specs.Walk.Role.{Root, Page, MapExt, Head, Ext, Data}
+use Rattle.adf_volume.specs.Walk.Role.{Page, Head, Data}
 use Rattle.adf_survey.specs.Demands.{NewNameIn, demands_in, form_demands_in, head_form_in}
 use Rattle.adf_survey.specs.declared.part.Part.{Part}
 use Rattle.adf_survey.specs.declared.part.Part.TheVariants.{Root as RootPart, Page as PagePart, MapExt as MapExtPart, Head as HeadPart}
@@ -88,20 +88,12 @@ itself_more r b (c ∷ cs) ys h =
 
 -- but for pages, of which it is not asked, short files and equal names are slight
 short_slight : (image : List ℕ) (w : List (Role × ℕ)) (r : Role) → is_kept r ShortFile ≡ false → Enough image w r
-short_slight image w (Page i) e = tt
-short_slight image w Root e = tt
-short_slight image w (MapExt j) e = tt
-short_slight image w (Head n p s j) e = tt
-short_slight image w (Ext n k) e = tt
 short_slight image w (Data n k) e = cc
+short_slight image w _ e = tt
 
 same_slight : (image : List ℕ) (w : List (Role × ℕ)) (r : Role) (b : ℕ) → is_kept r SameName ≡ false → NewNameIn image w r b
 same_slight image w (Head n p s j) b e = cc
-same_slight image w Root b e = tt
-same_slight image w (Page i) b e = tt
-same_slight image w (MapExt j) b e = tt
-same_slight image w (Ext n k) b e = tt
-same_slight image w (Data n k) b e = tt
+same_slight image w _ b e = tt
 
 -- neither range nor an owner is slight
 pub keeps_range : (r : Role) → is_kept r OutOfRange ≡ false

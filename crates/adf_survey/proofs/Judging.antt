@@ -16,7 +16,7 @@ use Rattle.adf_volume.specs.Image.{name_of, kind_of, held, root_of, word_in, IsF
 use Rattle.adf_volume.specs.Demands.{Demand, AllHold, FirstFails, demands_at, data_demands}
 use Rattle.adf_volume.specs.Walk.{Role, first, second, Has, data_count, ext_count, Enough, IsAbsent, IsFreeIn}
 use Rattle.adf_volume.specs.Walk.{bitmap_demands, next_data, node_block}
-use Rattle.adf_volume.specs.Walk.Role.{Root, Page, MapExt, Head, Ext, Data}
+use Rattle.adf_volume.specs.Walk.Role.{Page, Head, Ext, Data}
 use Rattle.adf_survey.specs.Demands.{NewNameIn, demands_in, form_demands_in, head_form_in, uppers_in}
 use Rattle.adf_survey.specs.Survey.{FindingValue, JudgementValue, Judged, IsItself, is_cache, is_kept, Course, IsCompared, IsUnexcused, BitsTell}
 use Rattle.adf_survey.specs.Survey.JudgementValue.{clean, noted, passed}
@@ -119,13 +119,12 @@ module _ (image : List ℕ) (w : List (Role × ℕ)) (v : IsGathered image w) wh
   decided_data Ffs b h k n next = tt
 
   decided_forms : (r : Role) (b : ℕ) → Decided (form_demands_in image w r b)
-  decided_forms Root b = tt
   decided_forms (Page i) b = decided_form b (page_form (block image b))
-  decided_forms (MapExt j) b = tt
   decided_forms (Head n p s j) b = decided_form b (head_form_in image (kind_of image) b (node_block w p) s (block image b))
   decided_forms (Ext n k) b = decided_form b (ext_form b (node_block w n) (block image b))
   decided_forms (Data n k) b =
       decided_data (kind_of image) b (node_block w n) k (held (kind_of image) (word_in image (node_block w n) SIZE) k) (next_data image w n k)
+  decided_forms _ b = tt
 
   dec_names : (x y : List ℕ) → Dec (x ≡ y)
   dec_names [] [] = yes refl

@@ -81,11 +81,7 @@ tells_named image (Head n q m j) c p s name = go (is_named image (Head n q m j) 
         let one : is_named image (Head n q m j) c p s name ≡ true =
         named_is image q p s c n m j name ∙ rw (eq-eqb q p qp, eq-eqb m s ms, g, name_itself name) refl in
         let u : true ≡ false = sym one ∙ e in cc
-tells_named image Root c p s name = λ m k e. cc
-tells_named image (Page i) c p s name = λ m k e. cc
-tells_named image (MapExt j) c p s name = λ m k e. cc
-tells_named image (Ext n i) c p s name = λ m k e. cc
-tells_named image (Data n i) c p s name = λ m k e. cc
+tells_named image _ c p s name = λ m k e. cc
 
 -- no header of the chain has the name
 abbrev pub Fresh : List ℕ → ℕ → ℕ → List ℕ → List (Role × ℕ) → Type 0

@@ -91,7 +91,6 @@ module _ (image : List ℕ) where
         (inr (in_upto (λ i. Data n (suc (POINTERS * suc m + i))) POINTERS (k % POINTERS) lt)) (ap (Data n) y)
 
     covered : (r : Role) (a i : ℕ) → Asks image w r a i → Listed w (askable pages w) r
-    covered Root a i h = absurd h
     covered (Page k) a i h =
         listed Root (root_of image) (Page k) (Page k) (root_in image v)
         (in_left (upto Page pages) (MapExt 0 ∷ upto (λ s. Head 0 0 s 0) SLOTS) (Page k) (in_upto Page pages k h.0)) refl
@@ -110,12 +109,11 @@ module _ (image : List ℕ) where
         (in_upto (λ t. Head 0 (suc p) t 0) SLOTS s h.1)))) (ap (λ n. Head n (suc p) s 0) (sym h.0))
     covered (Head n p s (suc j)) a i h =
         listed (Head h.1.0 p s j) a (Head 0 p s (suc j)) (Head n p s (suc j)) h.1.1 (inl refl) (ap (λ n. Head n p s (suc j)) (sym h.0))
-    covered (Ext n zero) a i h = absurd h
     covered (Ext n (suc zero)) a i h =
         listed (head_role h.0.header) a (Ext n 1) (Ext n 1) h.0.header.has (inr (inl refl)) refl
     covered (Ext n (suc (suc k))) a i h = listed (Ext n (suc k)) a (Ext n (suc (suc k))) (Ext n (suc (suc k))) h.0 (inl refl) refl
-    covered (Data n zero) a i h = absurd h
     covered (Data n (suc k)) a i h = listed_data n k (k / POINTERS) a refl h.1
+    covered _ a i h = absurd h
 
   -- a course that is done
   abbrev Finished : Type 0

@@ -10,7 +10,7 @@ use Rattle.adf_blocks.specs.Sizes.{blocks}
 use Rattle.adf_volume.specs.Image.{letters_of, kind_of, root_of, word_in}
 use Rattle.adf_volume.specs.Lists.{In}
 use Rattle.adf_volume.specs.Walk.{Role, first, second, Same, Has, Asks, Lacks, IsAbsent, heads, node_block}
-use Rattle.adf_volume.specs.Walk.Role.{Root, Page, MapExt, Head, Ext, Data}
+use Rattle.adf_volume.specs.Walk.Role.{Root, Head, Ext, Data}
 use Rattle.adf_volume.proofs.Gathered.{IsGathered, asks_one, head_block, number_of, numbered as has_number, one_block, one_head}
 use Rattle.adf_volume.proofs.Lists.{in_cases, in_left, in_right}
 use Rattle.adf_volume.proofs.OneFault.{number_is}
@@ -184,11 +184,7 @@ module _ (image : List ℕ) where
 
   no_root : (w : List (Role × ℕ)) (q r : Role) (a i : ℕ) → Asks image w q a i → Root ≡ r → Same r q → ⊥
   no_root w Root r a i h e s = h
-  no_root w (Page k) r a i h e s = let t : Same Root r = same_of Root r e in omega arith
-  no_root w (MapExt k) r a i h e s = let t : Same Root r = same_of Root r e in omega arith
-  no_root w (Head n p k j) r a i h e s = let t : Same Root r = same_of Root r e in omega arith
-  no_root w (Ext n k) r a i h e s = let t : Same Root r = same_of Root r e in omega arith
-  no_root w (Data n k) r a i h e s = let t : Same Root r = same_of Root r e in omega arith
+  no_root w _ r a i h e s = let t : Same Root r = same_of Root r e in omega arith
 
   owner_of : (w : List (Role × ℕ)) (b : ℕ) → owns w b ≡ true → (q : Role) × Has w q b
   owner_of [] b e = cc

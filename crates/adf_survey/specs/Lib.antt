@@ -1,15 +1,17 @@
+-- The promise: what a survey is, which entries are sound, and what a result tells.
 pub mod Demands
 pub mod Survey
-pub mod Start
 pub mod Sound
 pub mod Parts
-pub mod Forms
-pub mod Found
-pub mod Courses
-pub mod Marks
 pub mod Files
 pub mod Surveyed
 pub mod Concerned
 pub mod Lookup
 pub mod Opening
 pub mod Marked
+-- The states of the surveyor. A promise names `owner` and `parent_node` of Found with what these name, and `has_mark` of Marks.
+pub mod Start
+pub mod Forms
+pub mod Found
+pub mod Courses
+pub mod Marks

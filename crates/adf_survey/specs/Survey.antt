@@ -154,3 +154,7 @@ pub data IsSurvey (image : List ℕ) : List (Role × ℕ) → List FindingValue 
   unread : {fs : List FindingValue} → UnreadTells image fs → IsSurvey image [] fs
   read : {s : Course} {bits : List FindingValue} → IsCourse image s → IsDone image s
       → BitsTell image s 2 (blocks image - 2) bits → IsSurvey image s.walk (s.findings ++ bits)
+
+-- what holds of the walk and the findings of the survey of an image
+abbrev pub OnSurvey : List ℕ → (List (Role × ℕ) → List FindingValue → Type 0) → Type 0
+OnSurvey image holds = (w : List (Role × ℕ)) (fs : List FindingValue) → IsSurvey image w fs → holds w fs

@@ -1,6 +1,6 @@
 // Comparison of the bitmap with the blocks that are owned.
 
-ghost use Rattle.std.specs.Prelude.{◌≡◌, ◌≤◌, ◌<◌, ◌+◌, ◌-◌, ◌/◌, ◌%◌, ◌||◌, ◌↔◌, List, false, length, slice_index_or, IsTrue, IsBitSet, OnOk};
+ghost use Rattle.std.specs.Prelude.{◌≡◌, ◌≤◌, ◌<◌, ◌+◌, ◌-◌, ◌/◌, ◌%◌, ◌||◌, ◌↔◌, List, false, length, slice_index_or, IsTrue, OnOk};
 ghost use Rattle.adf_blocks.specs.declared.layout.TheConstants.{PAGE_BITS};
 ghost use Rattle.adf_blocks.specs.Sizes.{blocks};
 ghost use Rattle.adf_survey.specs.Survey.{Course, FindingValue, IsCourse, IsValidated, is_cache};
@@ -9,7 +9,9 @@ ghost use Rattle.adf_survey.specs.Found.{BitTells, IsBitOf, IsCompleted, IsFinis
 use crate::found::Found;
 use crate::image::Image;
 use crate::part::{Finding, Part};
-use adf_blocks::{BITMAP_FLAG, Cause, OWN_KEY, PAGE_FIRST, T_DIR_CACHE, TYPE, VALID, place_of};
+use adf_blocks::{
+    BITMAP_FLAG, Cause, OWN_KEY, PAGE_FIRST, T_DIR_CACHE, TYPE, VALID, is_set, place_of,
+};
 use adf_fields::NoMemory;
 
 // Whether the bitmap flag of the root is that of a valid bitmap.
@@ -17,14 +19,6 @@ fn is_validated(image: &Image<'_>) -> bool
     ensures { IsTrue result ↔ IsValidated image.now }
 {
     image.word(image.root(), BITMAP_FLAG) == VALID
-}
-
-// Whether a bit of a word is set.
-fn is_set(word: u32, bit: u32) -> bool
-    requires { bit < 32 }
-    ensures { IsTrue result ↔ IsBitSet word bit }
-{
-    word & (1 << bit) != 0
 }
 
 // A bit of a page; `None` if the page was not taken.

@@ -6,12 +6,11 @@ ghost use Rattle.adf_blocks.specs.declared.layout.TheConstants.{SIZE};
 ghost use Rattle.adf_volume.specs.Image.{kind_of, pieces, word_in};
 ghost use Rattle.adf_survey.specs.Files.{HasItsBlocks, file_content, file_from, names_from};
 
-use crate::found::count_of;
 use crate::image::Image;
 use adf_blocks::{EXTENSION, FIRST_POINTER, POINTERS, SIZE};
 use adf_fields::NoMemory;
 use adf_tree::Kind;
-use adf_volume::{Pieces, joined};
+use adf_volume::{Pieces, count_of, joined};
 use std::alloc::Global;
 use std::marker::Model;
 

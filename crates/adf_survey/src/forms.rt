@@ -3,12 +3,8 @@
 ghost use Rattle.std.specs.Prelude.{◌≡◌, ◌<◌, ◌≤◌, ◌==◌, ◌&&◌, true};
 ghost use Rattle.adf_fields.specs.Hash.{slot_by, slot_of};
 ghost use Rattle.adf_fields.specs.Words.{block, word};
-ghost use Rattle.adf_blocks.specs.declared.layout.TheConstants.{DATA_HEAD, DATA_HELD, DATA_NEXT};
-ghost use Rattle.adf_blocks.specs.declared.layout.TheConstants.{DATA_NUMBER, NAME, OWN_KEY, PARENT};
-ghost use Rattle.adf_blocks.specs.declared.layout.TheConstants.{SECONDARY_TYPE, ST_FILE, T_DATA, T_LIST};
-ghost use Rattle.adf_blocks.specs.declared.layout.TheConstants.{TYPE};
 ghost use Rattle.adf_blocks.specs.Forms.{first_cause, text_at};
-ghost use Rattle.adf_blocks.specs.HeadBlock.{has_type, is_name_at};
+ghost use Rattle.adf_blocks.specs.HeadBlock.{is_name_at};
 ghost use Rattle.adf_blocks.specs.Sizes.{blocks, chunk};
 ghost use Rattle.adf_volume.specs.Image.{held, kind_of};
 ghost use Rattle.adf_survey.specs.Demands.{head_form_in};
@@ -18,9 +14,8 @@ ghost use Rattle.adf_survey.specs.Parts.{role_of};
 use crate::image::Image;
 use crate::part::Part;
 use adf_blocks::{
-    Cause, DATA_HEAD, DATA_HELD, DATA_NEXT, DATA_NUMBER, NAME, OWN_KEY, PARENT, SECONDARY_TYPE,
-    SIZE, SLOTS, ST_DIR, ST_FILE, ST_LINK_DIR, ST_LINK_FILE, ST_SOFT_LINK, T_DATA, T_LIST, T_SHORT,
-    TYPE, chunk_len, read_data, read_ext, read_head, read_page,
+    Cause, NAME, OWN_KEY, PARENT, SIZE, SLOTS, T_DATA, TYPE, chunk_len, has_data_words,
+    has_ext_type, has_head_type, read_data, read_ext, read_head, read_page,
 };
 use adf_fields::{Block, Letters, slot as slot_of_name, slot_by};
 use adf_tree::Kind;
@@ -107,43 +102,11 @@ pub fn first_cause(image: &Image<'_>, part: Part, b: u32, around: Around) -> Opt
     }
 }
 
-// Whether the types are those of a header.
-fn is_head(b: &Block<'_>) -> bool
-    ensures { result ≡ has_type b.now }
-{
-    let secondary = b.word(SECONDARY_TYPE);
-    b.word(TYPE) == T_SHORT
-        && (secondary == ST_DIR
-            || secondary == ST_FILE
-            || secondary == ST_SOFT_LINK
-            || secondary == ST_LINK_DIR
-            || secondary == ST_LINK_FILE)
-}
-
-// Whether the types are those of an extension block.
-fn is_ext(b: &Block<'_>) -> bool
-    ensures { result ≡ ((word b.now TYPE == T_LIST) && (word b.now SECONDARY_TYPE == ST_FILE)) }
-{
-    b.word(TYPE) == T_LIST && b.word(SECONDARY_TYPE) == ST_FILE
-}
-
 // Whether the block's own key and parent are these.
 fn is_keyed(b: &Block<'_>, own: u32, up: u32) -> bool
     ensures { result ≡ ((word b.now OWN_KEY == own) && (word b.now PARENT == up)) }
 {
     b.word(OWN_KEY) == own && b.word(PARENT) == up
-}
-
-// Whether the fields of the block are those of this data block.
-fn is_data(b: &Block<'_>, up: u32, number: u32, held: u32, next: u32) -> bool
-    ensures { result ≡ ((word b.now TYPE == T_DATA) && ((word b.now DATA_HEAD == up)
-        && (word b.now DATA_NUMBER == number) && (word b.now DATA_HELD == held) && (word b.now DATA_NEXT == next))) }
-{
-    b.word(TYPE) == T_DATA
-        && (b.word(DATA_HEAD) == up
-            && b.word(DATA_NUMBER) == number
-            && b.word(DATA_HELD) == held
-            && b.word(DATA_NEXT) == next)
 }
 
 // Whether the fields of block `b` identify it as data block `number` of a file.
@@ -157,7 +120,9 @@ fn is_data_itself(image: &Image<'_>, number: u32, b: u32, around: Around) -> boo
         Kind::Ffs => true,
         Kind::Ofs => {
             let held = held_in(Kind::Ofs, image.word(around.up, SIZE), number);
-            is_data(&image.block(b), around.up, number, held, around.next)
+            let block = image.block(b);
+            block.word(TYPE) == T_DATA
+                && has_data_words(&block, around.up, number, held, around.next)
         }
     }
 }
@@ -171,8 +136,8 @@ pub fn is_itself(image: &Image<'_>, part: Part, b: u32, around: Around) -> bool
     match part {
         Part::Root | Part::MapExt(_) => true,
         Part::Page(_) => block.long_sum() == 0,
-        Part::Head { .. } => is_head(&block) && is_keyed(&block, b, around.up),
-        Part::Ext(_, _) => is_ext(&block) && is_keyed(&block, b, around.up),
+        Part::Head { .. } => has_head_type(&block) && is_keyed(&block, b, around.up),
+        Part::Ext(_, _) => has_ext_type(&block) && is_keyed(&block, b, around.up),
         Part::Data(_, k) => is_data_itself(image, k, b, around),
     }
 }

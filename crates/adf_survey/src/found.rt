@@ -6,7 +6,7 @@ ghost use Rattle.std.specs.Ordering.{nat_cmp};
 ghost use Rattle.std.specs.BTreeMap.{Updates};
 ghost use Rattle.std.specs.BTreeSet.{contains};
 ghost use Rattle.adf_survey.specs.Demands.{uppers_in};
-ghost use Rattle.adf_blocks.specs.Sizes.{blocks, count};
+ghost use Rattle.adf_blocks.specs.Sizes.{blocks};
 ghost use Rattle.adf_volume.specs.Image.{name_of, root_of, word_in};
 ghost use Rattle.adf_volume.specs.Walk.{Role, data_count};
 ghost use Rattle.adf_survey.specs.Parts.{by_key, finding_value, key_of, role_of};
@@ -21,9 +21,9 @@ use crate::header_name::name_in;
 use crate::image::Image;
 use crate::judge::Facts;
 use crate::part::{Finding, Key, Part};
-use adf_blocks::{FIRST_POINTER, POINTERS, SIZE, data_count};
+use adf_blocks::{FIRST_POINTER, POINTERS, SIZE};
 use adf_fields::{NoMemory, upper_by};
-use adf_tree::Kind;
+use adf_volume::count_of;
 use std::alloc::Global;
 use std::collections::{BTreeMap, BTreeSet};
 
@@ -59,13 +59,6 @@ pub struct Found {
     pub parents: Vec<u32>,
     pub places: Vec<ChainPlace>,
     pub datas: Vec<DataBlock>,
-}
-
-/// The number of data blocks of a file of `size` bytes.
-pub fn count_of(kind: Kind, size: u32) -> u32
-    ensures { result ≡ count kind size }
-{
-    data_count(kind, size as usize) as u32
 }
 
 // The name of the header at block `b`, in upper case.

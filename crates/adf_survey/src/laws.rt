@@ -11,7 +11,7 @@ ghost use Rattle.adf_volume.specs.Made.{layout_in, tree_in};
 ghost use Rattle.adf_volume.specs.Walk.{FileAt, FirstFault, Has, HeadAt, NodeAt, Role};
 ghost use Rattle.adf_survey.specs.Files.{IsSoundFile, file_content, file_in};
 ghost use Rattle.adf_survey.specs.Lookup.{LeadsTo, path_to};
-ghost use Rattle.adf_survey.specs.Survey.{FindingValue, IsSurvey};
+ghost use Rattle.adf_survey.specs.Survey.{FindingValue, IsSurvey, OnSurvey};
 ghost use Rattle.adf_survey.specs.Sound.{DatasInOrder, FileHolds, HeaderHolds, IsSound};
 
 /// Every image has a survey.
@@ -47,8 +47,8 @@ pub fn no_finding()
 
 /// A block in the walk of a survey has one role.
 pub fn one_part()
-    ensures { (image : List ℕ) (w : List (Role × ℕ)) (fs : List FindingValue) → IsSurvey image w fs
-        → (r q : Role) (b : ℕ) → Has w r b → Has w q b → r ≡ q }
+    ensures { (image : List ℕ) → OnSurvey image (λ w _.
+        (r q : Role) (b : ℕ) → Has w r b → Has w q b → r ≡ q) }
 {}
 
 /// The header of a sound entry has its form. Each data block of a sound file, by its size, is in the walk, at the

@@ -1,6 +1,7 @@
 // The facts of an image whose root is taken: its size, boot bytes and root.
 
-ghost use Rattle.std.specs.Prelude.{◌≡◌};
+ghost use Rattle.std.specs.Prelude.{◌≡◌, true};
+ghost use Rattle.adf_blocks.specs.Sizes.{is_allowed};
 ghost use Rattle.adf_survey.specs.Opening.{opening_in};
 
 use crate::image::Image;
@@ -21,7 +22,8 @@ pub struct Opening {
 impl Opening {
     // The facts of an image whose root is taken.
     pub(crate) fn of(image: &Image<'_>) -> Opening
-        ensures { result ≡ opening_in image.now }
+        ensures opening { result ≡ opening_in image.now }
+        ensures size { is_allowed result.blocks ≡ true }
     {
         let root = image.block(image.root());
         Opening {

@@ -2,13 +2,13 @@
 
 ghost use Rattle.std.specs.Prelude.{◌≡◌, IfErr, IfOk, false};
 ghost use Rattle.adf_volume.specs.Demands.{FirstFails, IsSize, boot_demands};
-ghost use Rattle.adf_survey.specs.Start.{boot_findings, has_root_type, root_findings, unread_findings};
+ghost use Rattle.adf_survey.specs.Start.{boot_findings, root_findings, unread_findings};
 ghost use Rattle.adf_survey.specs.Survey.{BootTells, RootJudged, RootTells, UnreadTells, is_other_type};
 ghost use Rattle.adf_survey.specs.Survey.JudgementValue.{passed};
 
 use crate::image::Image;
-use adf_blocks::{Cause, SECONDARY_TYPE, ST_ROOT, T_SHORT, TYPE, read_root};
-use adf_fields::{BLOCK_LEN, Block};
+use adf_blocks::{Cause, has_root_type, read_root};
+use adf_fields::BLOCK_LEN;
 use adf_volume::{Unopened, boot_cause, kind_in};
 
 /// An image to survey, and the causes of its boot block and its root, if they have any.
@@ -59,13 +59,6 @@ fn sized<'a>(bytes: &'a [u8]) -> Image<'a>
     Image::new(bytes, kind_in(bytes), (bytes.len() / BLOCK_LEN) as u32)
 }
 
-// Whether the types are those of the root.
-fn is_root(b: &Block<'_>) -> bool
-    ensures { result ≡ has_root_type b.now }
-{
-    b.word(TYPE) == T_SHORT && b.word(SECONDARY_TYPE) == ST_ROOT
-}
-
 // The cause of the root, if it has one; otherwise why it is not taken.
 fn judge_root(image: &Image<'_>) -> Result<Option<Unopened>, Unopened>
     ensures told { IfOk result (λ root. RootTells image.now (root_findings root)) }
@@ -73,7 +66,7 @@ fn judge_root(image: &Image<'_>) -> Result<Option<Unopened>, Unopened>
 {
     let at = image.root();
     let root = image.block(at);
-    let is_root = is_root(&root);
+    let is_root = has_root_type(&root);
     match read_root(root) {
         Ok(_) => Ok(None),
         Err(cause) => {

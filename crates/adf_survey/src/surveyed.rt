@@ -1,12 +1,13 @@
 // The results of a survey.
 
-ghost use Rattle.std.specs.Prelude.{◌≡◌, ◌≤◌, ◌<◌, ◌↔◌, ℕ, List, [], map, slice_index};
-ghost use Rattle.std.specs.Prelude.{slice_get, IsTrue, IsNone, IsOk, IsSome, IfOk, IfSome};
+ghost use Rattle.std.specs.Prelude.{◌≡◌, ◌≤◌, ◌<◌, ◌↔◌, ℕ, [], map, slice_index};
+ghost use Rattle.std.specs.Prelude.{true, slice_get, IsTrue, IsNone, IsOk, IsSome, IfOk, IfSome};
 ghost use Rattle.std.specs.Option.{option_flatten};
 ghost use Rattle.adf_blocks.specs.HeadBlock.{body_at, meta_told};
+ghost use Rattle.adf_blocks.specs.Sizes.{is_allowed};
 ghost use Rattle.adf_fields.specs.Words.{block};
 ghost use Rattle.adf_volume.specs.Image.{letters_of, name_of};
-ghost use Rattle.adf_volume.specs.Walk.{Has, Role, heads, node_block};
+ghost use Rattle.adf_volume.specs.Walk.{Has, heads, node_block};
 ghost use Rattle.adf_volume.specs.Walk.Role.{Head};
 ghost use Rattle.adf_survey.specs.Concerned.{concern_of_nth, owner_of_nth};
 ghost use Rattle.adf_survey.specs.Files.{IsSoundFile, file_in};
@@ -16,7 +17,7 @@ ghost use Rattle.adf_survey.specs.Marks.{has_mark};
 ghost use Rattle.adf_survey.specs.Opening.{opening_in};
 ghost use Rattle.adf_survey.specs.Parts.{finding_value};
 ghost use Rattle.adf_survey.specs.Sound.{IsSound};
-ghost use Rattle.adf_survey.specs.Survey.{FindingValue, IsSurvey};
+ghost use Rattle.adf_survey.specs.Survey.{OnSurvey};
 ghost use Rattle.adf_survey.specs.Surveyed.{IsOfSurvey, kept_of};
 
 use crate::concern::Concern;
@@ -116,8 +117,7 @@ impl Survey<'_> {
 
     /// The findings, in the order of the survey.
     pub fn findings(&self) -> &[Finding]
-        ensures { (w : List (Role × ℕ)) (fs : List FindingValue) → IsSurvey self.now.image w fs
-            → map finding_value result.now ≡ fs }
+        ensures { OnSurvey self.now.image (λ _ fs. map finding_value result.now ≡ fs) }
     {
         &self.findings
     }
@@ -125,8 +125,7 @@ impl Survey<'_> {
     /// What finding `k`, counted from 0, concerns: the entry of a header that is found, or the file of an extension or
     /// data block; of a header that was passed over, its directory. `None` for other parts, and past the last finding.
     pub fn concern_of(&self, k: usize) -> Option<Concern>
-        ensures { (w : List (Role × ℕ)) (fs : List FindingValue) → IsSurvey self.now.image w fs
-            → result ≡ concern_of_nth w fs k }
+        ensures { OnSurvey self.now.image (λ w fs. result ≡ concern_of_nth w fs k) }
     {
         concern_at(&self.concerned, k)
     }
@@ -135,34 +134,29 @@ impl Survey<'_> {
     /// file of an extension or data block. `None` for a block of the root or the bitmap, for other causes, and past the
     /// last finding.
     pub fn owner_of(&self, k: usize) -> Option<Node>
-        ensures { (w : List (Role × ℕ)) (fs : List FindingValue) → IsSurvey self.now.image w fs
-            → result ≡ owner_of_nth w fs k }
+        ensures { OnSurvey self.now.image (λ w fs. result ≡ owner_of_nth w fs k) }
     {
         owner_nth(&self.owners, &self.findings, k)
     }
 
     /// The number of entries found.
     pub fn len(&self) -> usize
-        ensures { (w : List (Role × ℕ)) (fs : List FindingValue) → IsSurvey self.now.image w fs
-            → result ≡ heads w }
+        ensures { OnSurvey self.now.image (λ w _. result ≡ heads w) }
     {
         self.nodes.len().saturating_sub(1)
     }
 
     // Whether there is an entry with this number.
     fn has_entry(&self, n: Node) -> bool
-        ensures { (w : List (Role × ℕ)) (fs : List FindingValue) → IsSurvey self.now.image w fs
-            → IsTrue result ↔ ((1 ≤ n) × (n ≤ heads w)) }
+        ensures { OnSurvey self.now.image (λ w _. IsTrue result ↔ ((1 ≤ n) × (n ≤ heads w))) }
     {
         n.0 != 0 && n.0 <= self.len()
     }
 
     /// The header's block of an entry; `None` for the root and past the last entry.
     pub fn block_of(&self, n: Node) -> Option<u32>
-        ensures some { (w : List (Role × ℕ)) (fs : List FindingValue) → IsSurvey self.now.image w fs
-            → IsSome result ↔ ((1 ≤ n) × (n ≤ heads w)) }
-        ensures block { (w : List (Role × ℕ)) (fs : List FindingValue) → IsSurvey self.now.image w fs
-            → IfSome result (λ b. b ≡ node_block w n) }
+        ensures some { OnSurvey self.now.image (λ w _. IsSome result ↔ ((1 ≤ n) × (n ≤ heads w))) }
+        ensures block { OnSurvey self.now.image (λ w _. IfSome result (λ b. b ≡ node_block w n)) }
     {
         if !self.has_entry(n) {
             return None;
@@ -172,10 +166,9 @@ impl Survey<'_> {
 
     /// The header of an entry; `None` for the root and past the last entry.
     pub fn header(&self, n: Node) -> Option<Block<'_>>
-        ensures some { (w : List (Role × ℕ)) (fs : List FindingValue) → IsSurvey self.now.image w fs
-            → IsSome result ↔ ((1 ≤ n) × (n ≤ heads w)) }
-        ensures block { (w : List (Role × ℕ)) (fs : List FindingValue) → IsSurvey self.now.image w fs
-            → IfSome result (λ x. x ≡ block self.now.image (node_block w n)) }
+        ensures some { OnSurvey self.now.image (λ w _. IsSome result ↔ ((1 ≤ n) × (n ≤ heads w))) }
+        ensures block { OnSurvey self.now.image (λ w _.
+            IfSome result (λ x. x ≡ block self.now.image (node_block w n))) }
     {
         match self.block_of(n) {
             Some(b) => Block::at(self.image, b),
@@ -186,10 +179,9 @@ impl Survey<'_> {
     /// The name in the header of an entry, at most 79 bytes and not necessarily valid; `None` for the root and past
     /// the last entry.
     pub fn name(&self, n: Node) -> Option<&[u8]>
-        ensures some { (w : List (Role × ℕ)) (fs : List FindingValue) → IsSurvey self.now.image w fs
-            → IsSome result ↔ ((1 ≤ n) × (n ≤ heads w)) }
-        ensures name { (w : List (Role × ℕ)) (fs : List FindingValue) → IsSurvey self.now.image w fs
-            → IfSome result (λ x. x.now ≡ name_of self.now.image (node_block w n)) }
+        ensures some { OnSurvey self.now.image (λ w _. IsSome result ↔ ((1 ≤ n) × (n ≤ heads w))) }
+        ensures name { OnSurvey self.now.image (λ w _.
+            IfSome result (λ x. x.now ≡ name_of self.now.image (node_block w n))) }
     {
         match self.header(n) {
             Some(head) => Some(name_in(&head)),
@@ -200,10 +192,9 @@ impl Survey<'_> {
     /// The body in the header of an entry: a directory, or a file with its size in bytes and first extension block;
     /// a link counts as a file. `None` for the root and past the last entry.
     pub fn body(&self, n: Node) -> Option<HeadBody>
-        ensures some { (w : List (Role × ℕ)) (fs : List FindingValue) → IsSurvey self.now.image w fs
-            → IsSome result ↔ ((1 ≤ n) × (n ≤ heads w)) }
-        ensures body { (w : List (Role × ℕ)) (fs : List FindingValue) → IsSurvey self.now.image w fs
-            → IfSome result (λ x. x ≡ body_at (block self.now.image (node_block w n))) }
+        ensures some { OnSurvey self.now.image (λ w _. IsSome result ↔ ((1 ≤ n) × (n ≤ heads w))) }
+        ensures body { OnSurvey self.now.image (λ w _.
+            IfSome result (λ x. x ≡ body_at (block self.now.image (node_block w n)))) }
     {
         match self.header(n) {
             Some(head) => Some(HeadBody::of(&head)),
@@ -214,10 +205,9 @@ impl Survey<'_> {
     /// The metadata in the header of an entry: its comment, cut to 79 bytes, its protection bits and its date. `None`
     /// for the root and past the last entry.
     pub fn meta(&self, n: Node) -> Option<Meta>
-        ensures some { (w : List (Role × ℕ)) (fs : List FindingValue) → IsSurvey self.now.image w fs
-            → IsSome result ↔ ((1 ≤ n) × (n ≤ heads w)) }
-        ensures meta { (w : List (Role × ℕ)) (fs : List FindingValue) → IsSurvey self.now.image w fs
-            → IfSome result (λ x. x ≡ meta_told (block self.now.image (node_block w n))) }
+        ensures some { OnSurvey self.now.image (λ w _. IsSome result ↔ ((1 ≤ n) × (n ≤ heads w))) }
+        ensures meta { OnSurvey self.now.image (λ w _.
+            IfSome result (λ x. x ≡ meta_told (block self.now.image (node_block w n)))) }
     {
         match self.header(n) {
             Some(head) => Some(meta_told(&head)),
@@ -228,9 +218,9 @@ impl Survey<'_> {
     /// The facts in the boot bytes and the root, even if the root has a finding; `None` if the root is not taken, and
     /// so nothing is surveyed.
     pub fn opening(&self) -> Option<Opening>
-        ensures some { (w : List (Role × ℕ)) (fs : List FindingValue) → IsSurvey self.now.image w fs
-            → IsNone result ↔ (w ≡ []) }
+        ensures some { OnSurvey self.now.image (λ w _. IsNone result ↔ (w ≡ [])) }
         ensures opening { IfSome result (λ o. o ≡ opening_in self.now.image) }
+        ensures size { IfSome result (λ o. is_allowed o.blocks ≡ true) }
     {
         match start(self.image) {
             Ok(started) => Some(Opening::of(&started.image)),
@@ -238,21 +228,18 @@ impl Survey<'_> {
         }
     }
 
-    // The parent of an entry; 0 if there is no such entry.
-    pub(crate) fn directory_of(&self, n: Node) -> Node
-        ensures { (w : List (Role × ℕ)) (fs : List FindingValue) → IsSurvey self.now.image w fs
-            → result ≡ parent_node w n }
+    /// The parent of an entry, as a function: 0 if it is in the root, and if there is no such entry.
+    pub fn directory_of(&self, n: Node) -> Node
+        ensures { OnSurvey self.now.image (λ w _. result ≡ parent_node w n) }
     {
         Node(number_at(&self.parents, n.0) as usize)
     }
 
     /// The parent of an entry, 0 if it is in the root; `None` for the root and past the last entry.
     pub fn parent_of(&self, n: Node) -> Option<Node>
-        ensures some { (w : List (Role × ℕ)) (fs : List FindingValue) → IsSurvey self.now.image w fs
-            → IsSome result ↔ ((1 ≤ n) × (n ≤ heads w)) }
-        ensures parent { (w : List (Role × ℕ)) (fs : List FindingValue)
-            → IsSurvey self.now.image w fs
-            → IfSome result (λ m. (p s j b : ℕ) → Has w (Head n p s j) b → m ≡ p) }
+        ensures some { OnSurvey self.now.image (λ w _. IsSome result ↔ ((1 ≤ n) × (n ≤ heads w))) }
+        ensures parent { OnSurvey self.now.image (λ w _.
+            IfSome result (λ m. (p s j b : ℕ) → Has w (Head n p s j) b → m ≡ p)) }
     {
         if !self.has_entry(n) {
             return None;
@@ -262,16 +249,15 @@ impl Survey<'_> {
 
     /// Whether an entry is sound: no finding concerns its parts, and of a directory, no header within it was passed over.
     pub fn is_sound(&self, n: Node) -> bool
-        ensures { (w : List (Role × ℕ)) (fs : List FindingValue) → IsSurvey self.now.image w fs
-            → IsTrue result ↔ IsSound self.now.image w fs n (node_block w n) }
+        ensures { OnSurvey self.now.image (λ w fs.
+            IsTrue result ↔ IsSound self.now.image w fs n (node_block w n)) }
     {
         n.0 != 0 && has_mark(&self.sound, n.0)
     }
 
     /// States that the kept marks are those of the sound entries; does nothing at run time.
     pub fn marks(&self)
-        ensures { (w : List (Role × ℕ)) (fs : List FindingValue) → IsSurvey self.now.image w fs
-            → AreMarks self.now.image w fs (mark_in self.now) }
+        ensures { OnSurvey self.now.image (λ w fs. AreMarks self.now.image w fs (mark_in self.now)) }
     {
         let _sound = &self.sound;
     }
@@ -281,14 +267,14 @@ impl<'i> Survey<'i> {
     /// A sound file; `None` for anything else. `NoMemory` if an allocation fails; never if there is no sound file,
     /// or it is empty.
     pub fn file(&self, alloc: Global, n: Node) -> Result<Option<SoundFile<'i>>, NoMemory>
-        ensures some { (w : List (Role × ℕ)) (fs : List FindingValue) → IsSurvey self.now.image w fs
-            → IfOk result (λ x. IsSome x ↔ IsSoundFile self.now.image w fs n) }
-        ensures file { (w : List (Role × ℕ)) (fs : List FindingValue) → IsSurvey self.now.image w fs
-            → IfOk result (λ x. IfSome x (λ f. f ≡ file_in self.now.image w n)) }
-        ensures none { (w : List (Role × ℕ)) (fs : List FindingValue) → IsSurvey self.now.image w fs
-            → (IsSoundFile self.now.image w fs n → ⊥) → IsOk result }
-        ensures empty { (w : List (Role × ℕ)) (fs : List FindingValue) → IsSurvey self.now.image w fs
-            → (file_in self.now.image w n).blocks ≡ [] → IsOk result }
+        ensures some { OnSurvey self.now.image (λ w fs.
+            IfOk result (λ x. IsSome x ↔ IsSoundFile self.now.image w fs n)) }
+        ensures file { OnSurvey self.now.image (λ w _.
+            IfOk result (λ x. IfSome x (λ f. f ≡ file_in self.now.image w n))) }
+        ensures none { OnSurvey self.now.image (λ w fs.
+            (IsSoundFile self.now.image w fs n → ⊥) → IsOk result) }
+        ensures empty { OnSurvey self.now.image (λ w _.
+            (file_in self.now.image w n).blocks ≡ [] → IsOk result) }
     {
         if !self.is_sound(n) {
             return Ok(None);

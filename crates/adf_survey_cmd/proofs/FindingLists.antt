@@ -9,7 +9,7 @@ use Rattle.adf_volume.specs.Walk.{Role}
 use Rattle.adf_survey.specs.declared.part.Finding.{Finding}
 use Rattle.adf_survey.specs.Parts.{finding_value}
 use Rattle.adf_survey.specs.Survey.{FindingValue}
-use Rattle.adf_cmd.specs.Streams.{Pending}
+use Rattle.adf_runs.specs.Streams.{Pending}
 use Rattle.adf_survey_cmd.specs.Lines.{findings_text, lines_from, findings_line, run_of}
 use Rattle.adf_survey_cmd.specs.declared.runs.Run.{Run}
 use Rattle.adf_survey_cmd.proofs.RunLines.{run_last}

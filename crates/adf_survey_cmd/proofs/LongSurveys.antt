@@ -11,7 +11,7 @@ use Rattle.adf_survey.specs.Survey.{FindingValue, IsSurvey, finding}
 use Rattle.adf_survey.specs.Survey.IsSurvey.{unread}
 use Rattle.adf_survey.specs.Survey.UnreadTells.{bad_boot}
 use Rattle.adf_survey.proofs.OneSurvey.{one_survey}
-use Rattle.adf_cmd.specs.Commands.{Reply, on_output}
+use Rattle.adf_runs.specs.Commands.{Reply, on_output}
 use Rattle.adf_cmd.proofs.LongInputs.{too_large}
 use Rattle.adf_survey_cmd.specs.Answers.{CopiesFound, SurveyAnswer, TellsFound, findings_status}
 use Rattle.adf_words.specs.SurveyLine.{InquiryValue, cat, list, report}

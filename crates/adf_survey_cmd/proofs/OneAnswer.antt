@@ -10,7 +10,7 @@ use Rattle.adf_survey.specs.Marked.{AreMarks}
 use Rattle.adf_survey.specs.Survey.{FindingValue}
 use Rattle.adf_survey.proofs.OneSurvey.{one_survey}
 use Rattle.adf_survey.proofs.Lookups.{one_first}
-use Rattle.adf_cmd.specs.Commands.{Reply, on_output}
+use Rattle.adf_runs.specs.Commands.{Reply, on_output}
 use Rattle.adf_cmd.proofs.OneAnswer.{one_dates}
 use Rattle.adf_survey_cmd.specs.Answers.{CopiesEntry, CopiesFound, CopiesFromSurvey, ListsSurvey, SurveyAnswer, Surveys, TellsFound, findings_status}
 use Rattle.adf_words.specs.SurveyLine.{AsksSurvey, InquiryValue, cat, inquiry_of, list, report}

@@ -1,7 +1,7 @@
 -- Lines that wait, and lines that are still to come.
 use Rattle.std.proofs.Common.{◌≡◌, ◌++◌, ◌∙◌, ℕ, Bool, true, false, List, Option, [], refl, sym, ap, subst, append_assoc, append-nil}
-use Rattle.adf_cmd.specs.Streams.{AppendsPart, KeepsPending, Pending}
-use Rattle.adf_cmd.proofs.PendingText.{part_of_more, pending_fails}
+use Rattle.adf_runs.specs.Streams.{AppendsPart, KeepsPending, Pending}
+use Rattle.adf_runs.proofs.PendingText.{part_of_more, pending_fails}
 
 -- what was pending still is, with what is to come behind it
 pub pending_before : (b c : Option (List ℕ)) (text text' more whole : List ℕ) → text ++ more ≡ whole → KeepsPending b text c text'

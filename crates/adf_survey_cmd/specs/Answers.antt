@@ -11,7 +11,7 @@ use Rattle.adf_survey.specs.Survey.{FindingValue, IsSurvey}
 use Rattle.adf_fields.specs.declared.dates.Stamp.{Stamp}
 use Rattle.adf_texts.specs.VolumeLines.{AreDates}
 use Rattle.adf_cmd.specs.Answers.{IsBadPath, RefusesPath}
-use Rattle.adf_cmd.specs.Commands.{Command, Reply, on_errors, on_output}
+use Rattle.adf_runs.specs.Commands.{Command, Reply, on_errors, on_output}
 use Rattle.adf_words.specs.SurveyLine.{AreRefusedBySurvey, AsksSurvey, InquiryValue, cat, list, report}
 use Rattle.adf_survey_cmd.specs.FoundLines.{listing_text}
 use Rattle.adf_survey_cmd.specs.Lines.{findings_text}

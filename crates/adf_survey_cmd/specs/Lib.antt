@@ -1,4 +1,6 @@
+-- The promise: the lines, and what the command answers.
 pub mod Lines
 pub mod FoundLines
 pub mod Answers
+-- The words of the command, as its loop keeps them.
 pub mod Work

@@ -1,23 +1,23 @@
 // The bytes of sound files.
 
-ghost use Rattle.std.specs.Prelude.{◌≡◌, ◌↔◌, ℕ, List, false, IsTrue};
-ghost use Rattle.adf_volume.specs.Walk.{FileAt, Role};
+ghost use Rattle.std.specs.Prelude.{◌≡◌, ◌↔◌, ℕ, false, IsTrue};
+ghost use Rattle.adf_volume.specs.Walk.{FileAt};
 ghost use Rattle.adf_survey.specs.Files.{file_content};
-ghost use Rattle.adf_survey.specs.Survey.{FindingValue, IsSurvey};
-ghost use Rattle.adf_cmd.specs.Commands.{on_output};
+ghost use Rattle.adf_survey.specs.Survey.{OnSurvey};
+ghost use Rattle.adf_runs.specs.Commands.{on_output};
 ghost use Rattle.adf_survey_cmd.specs.Answers.{CopiesEntry, CopiesFound};
-ghost use Rattle.adf_cmd.specs.Outcomes.{EndsBy, is_read_fault, is_write_fault};
+ghost use Rattle.adf_runs.specs.Outcomes.{EndsBy, is_read_fault, is_write_fault};
 
 use adf_blocks::{SECONDARY_TYPE, ST_FILE};
-use adf_cmd::{Outcome, ROOM, Sink, write_through};
+use adf_cmd::{ROOM, write_through};
+use adf_runs::{Outcome, Sink};
 use adf_survey::{SoundFile, Survey};
 use adf_tree::{Name, Node};
 use std::alloc::Global;
 
 // Whether an entry that is found is a file, sound or not.
 fn is_file(survey: &Survey<'_>, n: Node) -> bool
-    ensures { (w : List (Role × ℕ)) (fs : List FindingValue) → IsSurvey survey.now.image w fs
-        → IsTrue result ↔ ((h : ℕ) × FileAt survey.now.image w n h) }
+    ensures { OnSurvey survey.now.image (λ w _. IsTrue result ↔ ((h : ℕ) × FileAt survey.now.image w n h)) }
 {
     match survey.header(n) {
         Some(head) => head.word(SECONDARY_TYPE) == ST_FILE,
@@ -42,9 +42,8 @@ fn write_file<W: Sink>(file: &SoundFile<'_>, output: &mut W) -> Outcome
 // Writes the bytes of an entry that is a sound file.
 fn copy_entry<W: Sink>(alloc: Global, survey: &Survey<'_>, n: Node, output: &mut W) -> Outcome
     requires { W.has_failed output.old ≡ false }
-    ensures ends { (w : List (Role × ℕ)) (fs : List FindingValue) → IsSurvey survey.now.image w fs
-        → EndsBy (CopiesEntry survey.now.image w fs n) result
-        (W.held output.old) (W.held output.new) }
+    ensures ends { OnSurvey survey.now.image (λ w fs. EndsBy (CopiesEntry survey.now.image w fs n) result
+        (W.held output.old) (W.held output.new)) }
     ensures read { is_read_fault result ≡ false }
     ensures written { W.has_failed output.new ≡ is_write_fault result }
 {
@@ -66,9 +65,9 @@ pub fn copy_found<W: Sink>(
     output: &mut W,
 ) -> Outcome
     requires { W.has_failed output.old ≡ false }
-    ensures ends { (w : List (Role × ℕ)) (fs : List FindingValue) → IsSurvey survey.now.image w fs
-        → EndsBy (CopiesFound survey.now.image w fs names.now) result
-        (W.held output.old) (W.held output.new) }
+    ensures ends { OnSurvey survey.now.image (λ w fs.
+        EndsBy (CopiesFound survey.now.image w fs names.now) result
+        (W.held output.old) (W.held output.new)) }
     ensures read { is_read_fault result ≡ false }
     ensures written { W.has_failed output.new ≡ is_write_fault result }
 {

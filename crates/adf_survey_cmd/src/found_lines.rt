@@ -3,14 +3,14 @@
 ghost use Rattle.std.specs.Prelude.{◌≡◌, ◌++◌, ◌≤◌, ℕ, List, OnErr, OnOk, false};
 ghost use Rattle.std.specs.Io.KnownBytes.{Appends};
 ghost use Rattle.adf_fields.specs.declared.dates.Stamp.{Stamp};
-ghost use Rattle.adf_volume.specs.Walk.{Role, heads};
+ghost use Rattle.adf_volume.specs.Walk.{heads};
 ghost use Rattle.adf_survey.specs.Opening.{opening_in};
-ghost use Rattle.adf_survey.specs.Survey.{FindingValue, IsSurvey};
+ghost use Rattle.adf_survey.specs.Survey.{OnSurvey};
 ghost use Rattle.adf_texts.specs.VolumeLines.{AreDates};
-ghost use Rattle.adf_cmd.specs.Streams.{AppendsPart, KeepsPending, is_device};
+ghost use Rattle.adf_runs.specs.Streams.{AppendsPart, KeepsPending, is_device};
 ghost use Rattle.adf_survey_cmd.specs.FoundLines.{InAnyTexts, found_lines, found_text, lines_of_found, mark_text, opening_text};
 
-use adf_cmd::{Sink, StreamFault, flush_long, write_all};
+use adf_runs::{Sink, StreamFault, flush_long, write_all};
 use adf_survey::{Opening, Survey};
 use adf_texts::{push_head_lines, push_opening_lines};
 use adf_tree::Node;
@@ -34,9 +34,9 @@ fn push_found(
     n: Node,
     text: &mut Vec<u8>,
 ) -> Result<(), AllocError>
-    ensures { (w : List (Role × ℕ)) (fs : List FindingValue) → IsSurvey survey.now.image w fs
-        → InAnyTexts survey.now.image w fs (λ date sound. 1 ≤ n → n ≤ heads w → OnOk result
-        (text.new.items ≡ text.old.items ++ found_lines date sound survey.now.image w n)) }
+    ensures { OnSurvey survey.now.image (λ w fs.
+        InAnyTexts survey.now.image w fs (λ date sound. 1 ≤ n → n ≤ heads w → OnOk result
+        (text.new.items ≡ text.old.items ++ found_lines date sound survey.now.image w n))) }
 {
     let (Some(body), Some(meta)) = (survey.body(n), survey.meta(n)) else {
         return Ok(());
@@ -57,16 +57,16 @@ fn tell_found<W: Sink>(
     output: &mut W,
 ) -> Result<(), StreamFault>
     requires works { W.has_failed output.old ≡ false }
-    ensures ok { (w : List (Role × ℕ)) (fs : List FindingValue) → IsSurvey survey.now.image w fs
-        → InAnyTexts survey.now.image w fs (λ date sound. 1 ≤ n → n ≤ heads w
+    ensures ok { OnSurvey survey.now.image (λ w fs.
+        InAnyTexts survey.now.image w fs (λ date sound. 1 ≤ n → n ≤ heads w
         → OnOk result (KeepsPending
         (W.held output.old) (text.old.items ++ found_lines date sound survey.now.image w n)
-        (W.held output.new) text.new.items)) }
-    ensures err { (w : List (Role × ℕ)) (fs : List FindingValue) → IsSurvey survey.now.image w fs
-        → InAnyTexts survey.now.image w fs (λ date sound. 1 ≤ n → n ≤ heads w
+        (W.held output.new) text.new.items))) }
+    ensures err { OnSurvey survey.now.image (λ w fs.
+        InAnyTexts survey.now.image w fs (λ date sound. 1 ≤ n → n ≤ heads w
         → OnErr result (AppendsPart
         (W.has_failed output.new) (W.held output.old) (W.held output.new)
-        (text.old.items ++ found_lines date sound survey.now.image w n))) }
+        (text.old.items ++ found_lines date sound survey.now.image w n)))) }
     ensures failed { W.has_failed output.new ≡ is_device result }
 {
     push_found(alloc, survey, n, text)?;
@@ -82,14 +82,14 @@ fn write_entries<W: Sink>(
     output: &mut W,
 ) -> Result<(), StreamFault>
     requires works { W.has_failed output.old ≡ false }
-    ensures ok { (w : List (Role × ℕ)) (fs : List FindingValue) → IsSurvey survey.now.image w fs
-        → InAnyTexts survey.now.image w fs (λ date sound. OnOk result (Appends
+    ensures ok { OnSurvey survey.now.image (λ w fs.
+        InAnyTexts survey.now.image w fs (λ date sound. OnOk result (Appends
         (W.held output.old) (W.held output.new)
-        (text.items ++ lines_of_found date sound survey.now.image w (heads w)))) }
-    ensures err { (w : List (Role × ℕ)) (fs : List FindingValue) → IsSurvey survey.now.image w fs
-        → InAnyTexts survey.now.image w fs (λ date sound. OnErr result (AppendsPart
+        (text.items ++ lines_of_found date sound survey.now.image w (heads w))))) }
+    ensures err { OnSurvey survey.now.image (λ w fs.
+        InAnyTexts survey.now.image w fs (λ date sound. OnErr result (AppendsPart
         (W.has_failed output.new) (W.held output.old) (W.held output.new)
-        (text.items ++ lines_of_found date sound survey.now.image w (heads w)))) }
+        (text.items ++ lines_of_found date sound survey.now.image w (heads w))))) }
     ensures failed { W.has_failed output.new ≡ is_device result }
 {
     for i in 0..survey.len() {
@@ -123,13 +123,13 @@ pub fn write_found<W: Sink>(
     output: &mut W,
 ) -> Result<(), StreamFault>
     requires works { W.has_failed output.old ≡ false }
-    ensures ok { (w : List (Role × ℕ)) (fs : List FindingValue) → IsSurvey survey.now.image w fs
-        → InAnyTexts survey.now.image w fs (λ date sound. OnOk result (Appends
-        (W.held output.old) (W.held output.new) (found_text date sound survey.now.image w))) }
-    ensures err { (w : List (Role × ℕ)) (fs : List FindingValue) → IsSurvey survey.now.image w fs
-        → InAnyTexts survey.now.image w fs (λ date sound. OnErr result (AppendsPart
+    ensures ok { OnSurvey survey.now.image (λ w fs.
+        InAnyTexts survey.now.image w fs (λ date sound. OnOk result (Appends
+        (W.held output.old) (W.held output.new) (found_text date sound survey.now.image w)))) }
+    ensures err { OnSurvey survey.now.image (λ w fs.
+        InAnyTexts survey.now.image w fs (λ date sound. OnErr result (AppendsPart
         (W.has_failed output.new) (W.held output.old) (W.held output.new)
-        (found_text date sound survey.now.image w))) }
+        (found_text date sound survey.now.image w)))) }
     ensures failed { W.has_failed output.new ≡ is_device result }
 {
     let Some(opening) = survey.opening() else {

@@ -1,17 +1,16 @@
 // The lines of all findings, and of what is found.
 
-ghost use Rattle.std.specs.Prelude.{◌≡◌, ℕ, List, OnErr, OnOk, false};
+ghost use Rattle.std.specs.Prelude.{◌≡◌, OnErr, OnOk, false};
 ghost use Rattle.std.specs.Io.KnownBytes.{Appends};
-ghost use Rattle.adf_volume.specs.Walk.{Role};
-ghost use Rattle.adf_survey.specs.Survey.{FindingValue, IsSurvey};
-ghost use Rattle.adf_cmd.specs.Streams.{AppendsPart, is_device};
+ghost use Rattle.adf_survey.specs.Survey.{OnSurvey};
+ghost use Rattle.adf_runs.specs.Streams.{AppendsPart, is_device};
 ghost use Rattle.adf_survey_cmd.specs.Answers.{TellsFound};
-ghost use Rattle.adf_cmd.specs.Outcomes.{EndsBy, is_read_fault, is_write_fault};
+ghost use Rattle.adf_runs.specs.Outcomes.{EndsBy, is_read_fault, is_write_fault};
 ghost use Rattle.adf_survey_cmd.specs.FoundLines.{InAnyTexts, listing_text};
 
 use crate::found_lines::write_found;
 use crate::runs::write_runs;
-use adf_cmd::{Outcome, Sink, StreamFault};
+use adf_runs::{Outcome, Sink, StreamFault};
 use adf_survey::Survey;
 use std::alloc::Global;
 
@@ -22,13 +21,13 @@ fn write_both<W: Sink>(
     output: &mut W,
 ) -> Result<(), StreamFault>
     requires works { W.has_failed output.old ≡ false }
-    ensures ok { (w : List (Role × ℕ)) (fs : List FindingValue) → IsSurvey survey.now.image w fs
-        → InAnyTexts survey.now.image w fs (λ date sound. OnOk result (Appends
-        (W.held output.old) (W.held output.new) (listing_text date sound survey.now.image w fs))) }
-    ensures err { (w : List (Role × ℕ)) (fs : List FindingValue) → IsSurvey survey.now.image w fs
-        → InAnyTexts survey.now.image w fs (λ date sound. OnErr result (AppendsPart
+    ensures ok { OnSurvey survey.now.image (λ w fs.
+        InAnyTexts survey.now.image w fs (λ date sound. OnOk result (Appends
+        (W.held output.old) (W.held output.new) (listing_text date sound survey.now.image w fs)))) }
+    ensures err { OnSurvey survey.now.image (λ w fs.
+        InAnyTexts survey.now.image w fs (λ date sound. OnErr result (AppendsPart
         (W.has_failed output.new) (W.held output.old) (W.held output.new)
-        (listing_text date sound survey.now.image w fs))) }
+        (listing_text date sound survey.now.image w fs)))) }
     ensures failed { W.has_failed output.new ≡ is_device result }
 {
     write_runs(alloc, survey, output)?;
@@ -38,9 +37,8 @@ fn write_both<W: Sink>(
 /// Writes the lines of the findings, and behind them those of what is found.
 pub fn write_list<W: Sink>(alloc: Global, survey: &Survey<'_>, output: &mut W) -> Outcome
     requires { W.has_failed output.old ≡ false }
-    ensures ends { (w : List (Role × ℕ)) (fs : List FindingValue) → IsSurvey survey.now.image w fs
-        → EndsBy (TellsFound survey.now.image w fs) result
-        (W.held output.old) (W.held output.new) }
+    ensures ends { OnSurvey survey.now.image (λ w fs. EndsBy (TellsFound survey.now.image w fs) result
+        (W.held output.old) (W.held output.new)) }
     ensures read { is_read_fault result ≡ false }
     ensures written { W.has_failed output.new ≡ is_write_fault result }
 {

@@ -1,22 +1,20 @@
 // The lines of all findings.
 
-ghost use Rattle.std.specs.Prelude.{◌≡◌, ℕ, List, false};
-ghost use Rattle.adf_volume.specs.Walk.{Role};
-ghost use Rattle.adf_survey.specs.Survey.{FindingValue, IsSurvey};
+ghost use Rattle.std.specs.Prelude.{◌≡◌, false};
+ghost use Rattle.adf_survey.specs.Survey.{OnSurvey};
 ghost use Rattle.adf_survey_cmd.specs.Answers.{TellsFindings};
-ghost use Rattle.adf_cmd.specs.Outcomes.{EndsBy, is_read_fault, is_write_fault};
+ghost use Rattle.adf_runs.specs.Outcomes.{EndsBy, is_read_fault, is_write_fault};
 
 use crate::runs::write_runs;
-use adf_cmd::{Outcome, Sink};
+use adf_runs::{Outcome, Sink};
 use adf_survey::Survey;
 use std::alloc::Global;
 
 /// Writes the lines of the findings.
 pub fn write_findings<W: Sink>(alloc: Global, survey: &Survey<'_>, output: &mut W) -> Outcome
     requires { W.has_failed output.old ≡ false }
-    ensures ends { (w : List (Role × ℕ)) (fs : List FindingValue) → IsSurvey survey.now.image w fs
-        → EndsBy (TellsFindings survey.now.image w fs) result
-        (W.held output.old) (W.held output.new) }
+    ensures ends { OnSurvey survey.now.image (λ w fs. EndsBy (TellsFindings survey.now.image w fs) result
+        (W.held output.old) (W.held output.new)) }
     ensures read { is_read_fault result ≡ false }
     ensures written { W.has_failed output.new ≡ is_write_fault result }
 {

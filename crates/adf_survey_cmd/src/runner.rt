@@ -2,11 +2,11 @@
 
 ghost use Rattle.std.specs.Prelude.{◌≡◌, false, true};
 ghost use Rattle.adf_words.specs.CommandLine.{texts_of};
-ghost use Rattle.adf_cmd.specs.Commands.{IsUnanswered, RunEnds, TakesEnough};
+ghost use Rattle.adf_runs.specs.Commands.{IsUnanswered, RunEnds, TakesEnough};
 ghost use Rattle.adf_survey_cmd.specs.Answers.{InquiriesHaveOneAnswer, WordsAskForOneInquiry, survey_command};
 
 use crate::work::Work;
-use adf_cmd::{Sink, Source, run_program};
+use adf_runs::{Sink, Source, run_program};
 use std::alloc::Global;
 
 /// Does what the words ask for, of which the first is the program's name, and answers the status:

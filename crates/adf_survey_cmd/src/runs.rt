@@ -6,13 +6,13 @@ ghost use Rattle.adf_volume.specs.Walk.{Role};
 ghost use Rattle.adf_survey.specs.Concerned.{concern_of, owner_of};
 ghost use Rattle.adf_survey.specs.Lookup.{path_to};
 ghost use Rattle.adf_survey.specs.Parts.{finding_value};
-ghost use Rattle.adf_survey.specs.Survey.{FindingValue, IsSurvey};
+ghost use Rattle.adf_survey.specs.Survey.{FindingValue, OnSurvey};
 ghost use Rattle.adf_texts.specs.Names.{names_text};
-ghost use Rattle.adf_cmd.specs.Streams.{AppendsPart, KeepsPending, is_device};
+ghost use Rattle.adf_runs.specs.Streams.{AppendsPart, KeepsPending, is_device};
 ghost use Rattle.adf_survey_cmd.specs.Lines.{are_owned_alike, are_one, blocks_text, concern_text, continues, findings_text, is_beside, lines_from, findings_line, owner_text, run_of};
 
 use adf_blocks::Cause;
-use adf_cmd::{Sink, StreamFault, flush_long, write_all};
+use adf_runs::{Sink, StreamFault, flush_long, write_all};
 use adf_survey::{Concern, Finding, Survey};
 use adf_texts::{push_names, push_number};
 use adf_tree::Node;
@@ -110,9 +110,8 @@ fn push_path(
     n: Node,
     text: &mut Vec<u8>,
 ) -> Result<(), AllocError>
-    ensures { (w : List (Role × ℕ)) (fs : List FindingValue) → IsSurvey survey.now.image w fs
-        → OnOk result
-        (text.new.items ≡ text.old.items ++ names_text (path_to survey.now.image w n)) }
+    ensures { OnSurvey survey.now.image (λ w _. OnOk result
+        (text.new.items ≡ text.old.items ++ names_text (path_to survey.now.image w n))) }
 {
     let Ok(path) = survey.path(alloc, n) else {
         return Err(AllocError);
@@ -127,9 +126,8 @@ fn push_concern(
     concern: Option<Concern>,
     text: &mut Vec<u8>,
 ) -> Result<(), AllocError>
-    ensures { (w : List (Role × ℕ)) (fs : List FindingValue) → IsSurvey survey.now.image w fs
-        → OnOk result
-        (text.new.items ≡ text.old.items ++ concern_text survey.now.image w concern) }
+    ensures { OnSurvey survey.now.image (λ w _. OnOk result
+        (text.new.items ≡ text.old.items ++ concern_text survey.now.image w concern)) }
 {
     match concern {
         Some(Concern::Entry(n)) => {
@@ -152,9 +150,8 @@ fn push_owner(
     owner: Option<Node>,
     text: &mut Vec<u8>,
 ) -> Result<(), AllocError>
-    ensures { (w : List (Role × ℕ)) (fs : List FindingValue) → IsSurvey survey.now.image w fs
-        → OnOk result
-        (text.new.items ≡ text.old.items ++ owner_text survey.now.image w owner) }
+    ensures { OnSurvey survey.now.image (λ w _. OnOk result
+        (text.new.items ≡ text.old.items ++ owner_text survey.now.image w owner)) }
 {
     let Some(n) = owner else {
         return Ok(());
@@ -170,9 +167,8 @@ fn push_run(
     run: &Run,
     text: &mut Vec<u8>,
 ) -> Result<(), AllocError>
-    ensures { (w : List (Role × ℕ)) (fs : List FindingValue) → IsSurvey survey.now.image w fs
-        → OnOk result
-        (text.new.items ≡ text.old.items ++ findings_line survey.now.image w run.now) }
+    ensures { OnSurvey survey.now.image (λ w _. OnOk result
+        (text.new.items ≡ text.old.items ++ findings_line survey.now.image w run.now)) }
 {
     push_blocks(text, run.first, run.last)?;
     text.extend_from_slice(run.cause.text().as_bytes())?;
@@ -190,10 +186,10 @@ fn join_run(
     next: Run,
     text: &mut Vec<u8>,
 ) -> Result<Run, AllocError>
-    ensures { (w : List (Role × ℕ)) (fs : List FindingValue) → IsSurvey survey.now.image w fs
-        → (f : FindingValue) (gs : List FindingValue) → next ≡ run_of w f
+    ensures { OnSurvey survey.now.image (λ w _.
+        (f : FindingValue) (gs : List FindingValue) → next ≡ run_of w f
         → IfOk result (λ r. text.new.items ++ lines_from survey.now.image w r gs
-        ≡ text.old.items ++ lines_from survey.now.image w run (f ∷ gs)) }
+        ≡ text.old.items ++ lines_from survey.now.image w run (f ∷ gs))) }
 {
     if run.continues(&next) {
         return Ok(Run {
@@ -215,16 +211,16 @@ fn tell_finding<W: Sink>(
     output: &mut W,
 ) -> Result<Run, StreamFault>
     requires works { W.has_failed output.old ≡ false }
-    ensures ok { (w : List (Role × ℕ)) (fs : List FindingValue) → IsSurvey survey.now.image w fs
-        → (f : FindingValue) (gs : List FindingValue) → next ≡ run_of w f
+    ensures ok { OnSurvey survey.now.image (λ w _.
+        (f : FindingValue) (gs : List FindingValue) → next ≡ run_of w f
         → IfOk result (λ r. KeepsPending
         (W.held output.old) (text.old.items ++ lines_from survey.now.image w run (f ∷ gs))
-        (W.held output.new) (text.new.items ++ lines_from survey.now.image w r gs)) }
-    ensures err { (w : List (Role × ℕ)) (fs : List FindingValue) → IsSurvey survey.now.image w fs
-        → (f : FindingValue) (gs : List FindingValue) → next ≡ run_of w f
+        (W.held output.new) (text.new.items ++ lines_from survey.now.image w r gs))) }
+    ensures err { OnSurvey survey.now.image (λ w _.
+        (f : FindingValue) (gs : List FindingValue) → next ≡ run_of w f
         → OnErr result (AppendsPart
         (W.has_failed output.new) (W.held output.old) (W.held output.new)
-        (text.old.items ++ lines_from survey.now.image w run (f ∷ gs))) }
+        (text.old.items ++ lines_from survey.now.image w run (f ∷ gs)))) }
     ensures failed { W.has_failed output.new ≡ is_device result }
 {
     let joined = join_run(alloc, survey, run, next, text)?;
@@ -241,13 +237,12 @@ pub fn write_runs<W: Sink>(
     output: &mut W,
 ) -> Result<(), StreamFault>
     requires works { W.has_failed output.old ≡ false }
-    ensures ok { (w : List (Role × ℕ)) (fs : List FindingValue) → IsSurvey survey.now.image w fs
-        → OnOk result (Appends (W.held output.old) (W.held output.new)
-        (findings_text survey.now.image w fs)) }
-    ensures err { (w : List (Role × ℕ)) (fs : List FindingValue) → IsSurvey survey.now.image w fs
-        → OnErr result (AppendsPart
+    ensures ok { OnSurvey survey.now.image (λ w fs.
+        OnOk result (Appends (W.held output.old) (W.held output.new)
+        (findings_text survey.now.image w fs))) }
+    ensures err { OnSurvey survey.now.image (λ w fs. OnErr result (AppendsPart
         (W.has_failed output.new) (W.held output.old) (W.held output.new)
-        (findings_text survey.now.image w fs)) }
+        (findings_text survey.now.image w fs))) }
     ensures failed { W.has_failed output.new ≡ is_device result }
 {
     let Some((first, others)) = survey.findings().split_first() else {

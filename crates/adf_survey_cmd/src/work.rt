@@ -1,10 +1,9 @@
 // What is done for words, once they and their path are read.
 
-ghost use Rattle.std.specs.Prelude.{◌≡◌, ℕ, List, false, IfErr, IfOk};
-ghost use Rattle.adf_volume.specs.Walk.{Role};
-ghost use Rattle.adf_survey.specs.Survey.{FindingValue, IsSurvey};
-ghost use Rattle.adf_cmd.specs.Outcomes.{EndsBy, is_read_fault, is_write_fault};
-ghost use Rattle.adf_cmd.specs.WorkFaults.{IsNoWork};
+ghost use Rattle.std.specs.Prelude.{◌≡◌, List, false, IfErr, IfOk};
+ghost use Rattle.adf_survey.specs.Survey.{OnSurvey};
+ghost use Rattle.adf_runs.specs.Outcomes.{EndsBy, is_read_fault, is_write_fault};
+ghost use Rattle.adf_runs.specs.WorkFaults.{IsNoWork};
 ghost use Rattle.adf_survey_cmd.specs.Answers.{HasBadSurveyPath, SurveyAnswer};
 ghost use Rattle.adf_words.specs.SurveyLine.{InquiryValue, inquiry_value};
 ghost use Rattle.adf_survey_cmd.specs.Work.{Meets};
@@ -12,7 +11,8 @@ ghost use Rattle.adf_survey_cmd.specs.Work.{Meets};
 use crate::copying::copy_found;
 use crate::listing::write_list;
 use crate::reporting::write_findings;
-use adf_cmd::{MOST_IMAGE_BYTES, Outcome, Program, Sink, Source, WorkFault, read_input};
+use adf_cmd::MOST_IMAGE_BYTES;
+use adf_runs::{Outcome, Program, Sink, Source, WorkFault, read_input};
 use adf_survey::{Survey, survey};
 use adf_tree::{Name, read_path};
 use adf_words::{Inquiry, SURVEY_USAGE as USAGE, parse_survey};
@@ -44,11 +44,9 @@ impl Work {
     // Does the work on what is found of an image.
     fn on_survey<W: Sink>(&self, alloc: Global, survey: &Survey<'_>, output: &mut W) -> Outcome
         requires { W.has_failed output.old ≡ false }
-        ensures ends { (w : List (Role × ℕ)) (fs : List FindingValue)
-            → IsSurvey survey.now.image w fs
-            → (r : InquiryValue) → Meets self.now r
+        ensures ends { OnSurvey survey.now.image (λ _ _. (r : InquiryValue) → Meets self.now r
             → EndsBy (SurveyAnswer r survey.now.image) result
-            (W.held output.old) (W.held output.new) }
+            (W.held output.old) (W.held output.new)) }
         ensures read { is_read_fault result ≡ false }
         ensures written { W.has_failed output.new ≡ is_write_fault result }
     {

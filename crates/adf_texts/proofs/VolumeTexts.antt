@@ -5,8 +5,8 @@ use Rattle.adf_tree.specs.declared.entry.Body.{Body}
 use Rattle.adf_tree.specs.declared.entry.Body.TheVariants.{Dir, File}
 use Rattle.adf_tree.specs.declared.entry.Entry.{Entry}
 use Rattle.adf_tree.specs.PathTexts.{path_text}
-use Rattle.adf_check.specs.Rows.{row_of_body, row_of_entry}
-use Rattle.adf_check.specs.declared.row.Row.{Row}
+use Rattle.adf_volume.specs.Rows.{row_of_body, row_of_entry}
+use Rattle.adf_volume.specs.declared.row.Row.{Row}
 use Rattle.adf_texts.proofs.Ranges.{flat_map_front, flat_map_next}
 use Rattle.adf_texts.specs.RowTexts.{row_size, row_word}
 use Rattle.adf_texts.specs.VolumeLines.{body_word, entry_lines, lines_of_entries, lines_of_entry, lines_with, size_text}

@@ -5,10 +5,10 @@ use Rattle.adf_tree.specs.Kinds.{kind_text}
 use Rattle.adf_manifest.specs.Kinds.{manifest_fault_text}
 use Rattle.adf_manifest.specs.Texts.{hex_word}
 use Rattle.adf_manifest.specs.declared.manifest.ManifestFault.{ManifestFault}
-use Rattle.adf_check.specs.declared.checked.Counts.{Counts}
+use Rattle.adf_volume.specs.declared.counts.Counts.{Counts}
 use Rattle.adf_build.specs.Building.{full_text}
-use Rattle.adf_check.specs.Fault.{fault_text}
-use Rattle.adf_check.specs.declared.fault.Fault.{Fault}
+use Rattle.adf_volume.specs.Fault.{fault_text}
+use Rattle.adf_volume.specs.declared.fault.Fault.{Fault}
 
 -- the line of `check`
 abbrev pub ok_line : Counts → List ℕ

@@ -5,8 +5,8 @@ ghost use Rattle.adf_texts.specs.Lines.{fault_line, full_line, manifest_fault_li
 
 use crate::digits::{push_hex, push_number};
 use adf_build::BuildFault;
-use adf_check::{Counts, Fault};
 use adf_manifest::ManifestFault;
+use adf_volume::{Counts, Fault};
 use std::alloc::AllocError;
 use std::fmt;
 

@@ -3,16 +3,16 @@
 ghost use Rattle.std.specs.Prelude.{◌≡◌, ◌++◌, codes, ℕ, List, OnOk, map};
 ghost use Rattle.adf_tree.specs.declared.entry.Entry.{Entry};
 ghost use Rattle.adf_tree.specs.PathTexts.{path_text};
-ghost use Rattle.adf_check.specs.Rows.{row_of_entry};
+ghost use Rattle.adf_volume.specs.Rows.{row_of_entry};
 ghost use Rattle.adf_texts.specs.RowTexts.{columns, head_lines, row_size, row_word};
 ghost use Rattle.adf_texts.specs.VolumeLines.{AreDates, blocks_line, entry_lines, escaped_line, lines_with, opening_lines, right_in_ten, text_line};
 
 use crate::digits::{push_hex, push_number, push_right};
 use crate::escapes::{push_escaped, push_names, push_path};
 use adf_blocks::HeadBody;
-use adf_check::{Row, RowBody};
 use adf_fields::{Stamp, push_stamp};
 use adf_tree::{Kind, Label, Meta, Name, Stamps};
+use adf_volume::{Row, RowBody};
 use std::alloc::AllocError;
 
 /// Appends the lines before the entries: the kind and the number of blocks, the label if it is not empty, and

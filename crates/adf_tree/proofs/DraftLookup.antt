@@ -16,7 +16,7 @@ use Rattle.adf_tree.proofs.Lists.{some_in}
 use Rattle.adf_tree.proofs.PathContents.{entry_at}
 
 -- an addition is a directory where its entry in the tree is one
-dir_at : (es : List Entry) (n : ℕ) (d : Entry) → 0 < n → n ≤ length es → is_dir es n ≡ is_dir_body (get_or es (n - 1) d).body
+pub dir_at : (es : List Entry) (n : ℕ) (d : Entry) → 0 < n → n ≤ length es → is_dir es n ≡ is_dir_body (get_or es (n - 1) d).body
 dir_at es n d some le = rw (entry_at es n d some le, ne_eqb n 0 (omega arith))
 
 pub dir_same : (drafts : List Entry) (w : NumberedTree) (m : ℕ) → IsNumberedTree drafts w → m ≤ length drafts
@@ -32,7 +32,7 @@ dir_same drafts w m h le =
     ]
 
 -- one name of a path
-abbrev past : List Entry → List (List ℕ) → Option ℕ → Result ℕ RoomFault
+abbrev pub past : List Entry → List (List ℕ) → Option ℕ → Result ℕ RoomFault
 past es names o = elim o [ None ↦ Err NoParent | Some n ↦ if is_dir es n then directory_from es n names else Err ParentIsFile ]
 
 -- what a look-up says of the next name of a path

@@ -6,7 +6,7 @@ use Rattle.adf_tree.specs.declared.tree.RoomFault.{RoomFault}
 use Rattle.adf_tree.specs.declared.draft.Room.{Room}
 use Rattle.adf_tree.specs.declared.entry.Kind.{Kind}
 use Rattle.adf_tree.specs.declared.entry.Stamps.{Stamps}
-use Rattle.adf_tree.specs.Tree.{added, child, last_of, moved, place, rank, room_for, IsTree, Tree}
+use Rattle.adf_tree.specs.Tree.{added, child, directory_from, last_of, moved, place, rank, room_for, IsTree, Tree}
 use Rattle.adf_tree.specs.Chain.{chain}
 use Rattle.adf_tree.specs.ChildMap.{number_in, Numbers}
 
@@ -79,6 +79,11 @@ pub record IsRoomFor (d : DraftValue) (path : List (List ℕ)) (room : Room) : T
   pub within : room.parent ≤ length d.nodes
   pub name : room.name ≡ last_of path
   pub leads : room_for d.tree.entries path ≡ Ok (node_of d.nodes room.parent)
+
+-- addition m of a draft is the directory that the path leads to; 0 is the root
+pub record IsDirectoryOf (d : DraftValue) (path : List (List ℕ)) (m : ℕ) : Type 0 where
+  pub within : m ≤ length d.nodes
+  pub leads : directory_from d.tree.entries 0 path ≡ Ok (node_of d.nodes m)
 
 -- a directory by number of addition, turned into its number in the tree
 abbrev pub room_in_tree : List ℕ → Result ℕ RoomFault → Result ℕ RoomFault

@@ -1,11 +1,11 @@
 // Trees under construction.
 
-ghost use Rattle.std.specs.Prelude.{◌≡◌, ◌≤◌, ◌+◌, ◌++◌, ◌∷◌, ℕ, List, [], length, is_ok, if◌then◌else◌, Err, IfOk, IfErr, OnOk, OnErr};
+ghost use Rattle.std.specs.Prelude.{◌≡◌, ◌≤◌, ◌+◌, ◌++◌, ◌∷◌, ℕ, List, [], length, is_ok, if◌then◌else◌, Err, IfOk, IfErr, IfNone, IfSome, OnOk, OnErr};
 ghost use Rattle.adf_tree.specs.Tree.{directory_from, new_entry, room_at, room_for, with_entry, IsAnswer};
 ghost use Rattle.adf_tree.specs.Paths.{AddsOne};
 ghost use Rattle.adf_tree.specs.Texts.{uppers};
 ghost use Rattle.adf_tree.specs.ChildMap.{number_in, HasNumber};
-ghost use Rattle.adf_tree.specs.Draft.{room_in_tree, walk, IsDraft, IsRoomFor};
+ghost use Rattle.adf_tree.specs.Draft.{room_in_tree, walk, IsDirectoryOf, IsDraft, IsRoomFor};
 
 use crate::child_map::ChildMap;
 use crate::entry::{Body, Entry, Kind, Meta, Node, Stamps};
@@ -130,6 +130,31 @@ impl Draft {
         }
     }
 
+    /// The number of additions.
+    pub fn len(&self) -> usize
+        ensures { result ≡ length self.now.nodes }
+    {
+        self.entries.len()
+    }
+
+    /// The room for an entry of this name in a directory, by number of addition; `None` if the directory has an entry
+    /// of this name. The cost does not depend on how deep the directory is.
+    pub fn room_in(&self, directory: Node, name: &Name) -> Option<Room>
+        ensures some { (path : List (List ℕ)) → IsDirectoryOf self.now path directory
+            → IfSome result (λ r. IsRoomFor self.now (path ++ name.now ∷ []) r) }
+        ensures none { (path : List (List ℕ)) → IsDirectoryOf self.now path directory
+            → IfNone result (room_for self.now.tree.entries (path ++ name.now ∷ [])
+            ≡ Err RoomFault.Exists) }
+    {
+        match self.children.get(directory, name) {
+            None => Some(Room {
+                parent: directory,
+                name: name.copy(),
+            }),
+            Some(_) => None,
+        }
+    }
+
     /// The room for an entry with this path, or why there is none.
     pub fn room(&self, path: &[Name]) -> Result<Room, RoomFault>
         ensures some { IfOk result (λ r. IsRoomFor self.now path.now r) }
@@ -153,6 +178,14 @@ impl Draft {
         ensures tree { (path : List (List ℕ)) → IsRoomFor self.old path room.now
             → self.new.tree
             ≡ if is_ok result then with_entry self.old.tree path meta body else self.old.tree }
+        ensures count { (path : List (List ℕ)) → IsRoomFor self.old path room.now
+            → OnOk result (length self.new.nodes ≡ length self.old.nodes + 1) }
+        ensures directories { (path other : List (List ℕ)) (m : ℕ)
+            → IsRoomFor self.old path room.now
+            → IsDirectoryOf self.old other m → IsDirectoryOf self.new other m }
+        ensures directory { (path : List (List ℕ)) → IsRoomFor self.old path room.now
+            → body ≡ Body.Dir
+            → OnOk result (IsDirectoryOf self.new path (length self.old.nodes + 1)) }
     {
         let parent = room.parent;
         let name = room.name.copy();

@@ -3,7 +3,7 @@
 use crate::devices::{Given, Kept, Pace, WriteFailure};
 use crate::wants::{is_status, push_line};
 use crate::wrong::Wrong;
-use adf_cmd::{Sink, Source};
+use adf_runs::{Sink, Source};
 use std::alloc::{AllocError, Global};
 
 /// The status of a run, and what it wrote.

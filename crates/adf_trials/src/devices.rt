@@ -2,9 +2,9 @@
 
 ghost use Rattle.std.specs.Prelude.{◌≡◌, None, false};
 ghost use Rattle.std.specs.Io.{WritesAtMost};
-ghost use Rattle.adf_cmd.specs.Devices.{write_fails};
+ghost use Rattle.adf_runs.specs.Devices.{write_fails};
 
-use adf_cmd::{Failed, Sink, Source};
+use adf_runs::{Failed, Sink, Source};
 use std::alloc::Global;
 
 /// How a device moves bytes.

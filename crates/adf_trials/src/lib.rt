@@ -11,6 +11,7 @@ mod files;
 mod findings;
 mod line;
 mod questions;
+mod rescues;
 mod tables;
 mod tree_calls;
 mod trees;

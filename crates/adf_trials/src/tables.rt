@@ -6,6 +6,7 @@ use crate::changes::put_items;
 use crate::failing::{Failing, is_refused_in_the_end};
 use crate::findings::{are_findings, begin_alike};
 use crate::questions::Question;
+use crate::rescues::is_rescued;
 use crate::trees::{is_not_laid, is_tree, needs, tree_of_image, tree_of_lines};
 use crate::wants::{Wanted, is_same, push_line};
 use crate::words::{number, rising};
@@ -27,6 +28,8 @@ enum TableKind<'a> {
     Patch(&'a str),
     /// `findings ITEM ..`: `adf-survey` on the image with these changes.
     Findings(&'a str),
+    /// `rescue ITEM ..`: a rescue of the image with these changes.
+    Rescue(&'a str),
     /// `flips FROM-TO`: `check` on the image with each of these bytes alone changed by exclusive or with 1.
     Flips(usize, usize),
     /// `cuts FROM-TO`: `check` on the first bytes of the image, of each of these lengths.
@@ -70,6 +73,7 @@ impl<'a> Table<'a> {
         match self.kind {
             TableKind::Patch(items) => is_told(alloc, &patched(alloc, image, items)?, line),
             TableKind::Findings(items) => are_findings(alloc, &patched(alloc, image, items)?, line),
+            TableKind::Rescue(items) => is_rescued(alloc, &patched(alloc, image, items)?, line),
             TableKind::Flips(from, to) => are_flipped(alloc, image, (from, to), line),
             TableKind::Cuts(from, to) => are_cut(alloc, image, (from, to), line),
             TableKind::Alike(from, to) => are_alike(alloc, image, (from, to)),
@@ -100,6 +104,7 @@ impl<'a> TableKind<'a> {
         Some(match word {
             "patch" => TableKind::Patch(what),
             "findings" => TableKind::Findings(what),
+            "rescue" => TableKind::Rescue(what),
             "flips" => {
                 let (from, to) = rising(what)?;
                 TableKind::Flips(from, to)

@@ -1,11 +1,15 @@
+-- The promise: the model of a volume.
 pub mod Lists
 pub mod Image
 pub mod Demands
-pub mod Start
-pub mod Pieces
 pub mod Layout
 pub mod Fits
 pub mod Walk
+pub mod Fault
+pub mod Rows
 pub mod LayoutRoles
 pub mod Made
 pub mod Samples
+-- The states of what opens an image and reads its files. A promise names `IsBegun` of Start and `AreInside` of Pieces.
+pub mod Start
+pub mod Pieces

@@ -1,19 +1,25 @@
 //! The model of a volume, and the laws of walks over it.
 #![tactic(auto)]
 
+mod counts;
+mod fault;
 mod image;
 mod laws;
 mod owner;
 mod pieces;
+mod row;
 mod samples;
 mod start;
 
+pub use crate::counts::Counts;
+pub use crate::fault::{Fault, fault_at, no_memory};
 pub use crate::image::Image;
 pub use crate::laws::{
     agreement, chains_of_numbers, completeness, demanded_form, layout_of_walk_fits, none_fits,
     one_fault, one_fit, pieces_are_content, whole_walk,
 };
 pub use crate::owner::Owner;
-pub use crate::pieces::{Pieces, held_in, joined};
+pub use crate::pieces::{Pieces, count_of, held_in, joined};
+pub use crate::row::{Row, RowBody, row_of};
 pub use crate::samples::tiny_volume_fits;
 pub use crate::start::{Opened, Unopened, boot_cause, kind_in, letters_in, open};

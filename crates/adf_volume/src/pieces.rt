@@ -3,11 +3,11 @@
 ghost use Rattle.std.specs.Prelude.{List, [], IsOk, ◌≡◌, ◌≤◌, length, IfOk};
 ghost use Rattle.std.specs.Iterator.{YieldsFirstRef, item_count};
 ghost use Rattle.std.specs.List.{concat};
-ghost use Rattle.adf_blocks.specs.Sizes.{chunk};
+ghost use Rattle.adf_blocks.specs.Sizes.{chunk, count};
 ghost use Rattle.adf_volume.specs.Image.{held, piece, pieces};
 ghost use Rattle.adf_volume.specs.Pieces.{AreInside};
 
-use adf_blocks::{DATA_BYTES, chunk_len};
+use adf_blocks::{DATA_BYTES, chunk_len, data_count};
 use adf_fields::{Block, NoMemory};
 use adf_tree::Kind;
 use std::alloc::Global;
@@ -33,6 +33,13 @@ impl<'a> Model for Pieces<'a> {
     ghost view = { λ p. pieces p.bytes.now p.kind p.size p.number p.datas.now };
 
     ghost invariant = { λ p. AreInside p.bytes.now p.datas.now p.number };
+}
+
+/// The number of data blocks of a file of `size` bytes.
+pub fn count_of(kind: Kind, size: u32) -> u32
+    ensures { result ≡ count kind size }
+{
+    data_count(kind, size as usize) as u32
 }
 
 /// The number of bytes in data block `number`, counted from 1, of a file of `size` bytes.

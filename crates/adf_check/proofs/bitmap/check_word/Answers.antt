@@ -1,8 +1,9 @@
 use Rattle.std.proofs.Common.{◌≡◌, ◌+◌, ◌*◌, ◌<◌, ◌≤◌, ◌≢◌, ℕ, min, false, sym, subst, ◌∙◌, arith, rules}
 use Rattle.adf_blocks.specs.Sizes.{blocks}
-use Rattle.adf_volume.specs.declared.owner.Owner.TheVariants.{Free}
+use Rattle.adf_check.specs.declared.kept_owner.KeptOwner.TheVariants.{Free}
+use Rattle.adf_check.specs.KeptOwner.{kept_at}
 use Rattle.adf_check.specs.Reading.{IsMapped}
-use Rattle.adf_check.specs.Store.{owner_at, store_value}
+use Rattle.adf_check.specs.Store.{store_value}
 use Rattle.adf_check.proofs.BitmapSteps.{bit_agrees, bit_refused, owned_run}
 use Rattle.adf_check.proofs.bitmap.check_word.Goals as goal
 
@@ -23,7 +24,7 @@ returns-then-not-has_free-clause-state g c =
     let store = store_value c.args.store.now in
     let len : ℕ = c.min-len.result in
     let unowned : c.has_free.result ≡ false = search rules in
-    let owned : (b : ℕ) → 2 + 32 * c.args.i ≤ b → b < 2 + 32 * c.args.i + len → owner_at store.owners b ≢ Free = c.has_free.ensures.none unowned in
+    let owned : (b : ℕ) → 2 + 32 * c.args.i ≤ b → b < 2 + 32 * c.args.i + len → kept_at store.owners b ≢ Free = c.has_free.ensures.none unowned in
     let end : 2 + 32 * c.args.i + len ≡ min (2 + 32 * (c.args.i + 1)) (blocks c.args.image.now) = omega arith in
     subst (IsMapped c.args.image.now store) end
     (owned_run c.args.i len (omega arith) (omega arith) c.look.ensures.begun c.requires.pages

@@ -2,7 +2,7 @@ use Rattle.std.proofs.Common.{◌≡◌, ◌+◌, ◌++◌, ◌∷◌, [], ℕ, 
 use Rattle.std.proofs.lemmas.Bool.{not-false, not-true}
 use Rattle.adf_tree.specs.NameSet.{has}
 use Rattle.adf_tree.specs.Texts.{uppers}
-use Rattle.adf_volume.specs.declared.owner.Owner.TheVariants.{Head as AHead}
+use Rattle.adf_check.specs.declared.kept_owner.KeptOwner.TheVariants as kept
 use Rattle.adf_check.specs.Store.{store_value}
 use Rattle.adf_check.proofs.NumberBounds.{entry_short, parent_short}
 use Rattle.adf_check.proofs.ChainSteps.{head_named, head_fault, twice_fault, head_done}
@@ -28,7 +28,7 @@ returns-in-Ok-false-clause-fault g c =
     claimed.free c.kind-kind.ensures.kind c.look.ensures.block c.in-Ok.ensures.0 c.in-Ok.ensures.1 c.name.ensures twice)
 
 pub kept_header-requires : goal.kept_header-requires
-kept_header-requires g c = parent_short c.kind-kind.ensures.begun refl c.requires.state
+kept_header-requires g c = omega (arith, parent_short c.kind-kind.ensures.begun refl c.requires.state)
 
 pub returns-in-Ok-push-clause-state : goal.returns-in-Ok-push-clause-state
 returns-in-Ok-push-clause-state g c =
@@ -41,7 +41,7 @@ returns-in-Ok-push-clause-state g c =
     head_done c.args.seen.now c.requires.slot c.kind-kind.ensures.begun c.requires.state c.requires.some claimed.range claimed.free
     c.kind-kind.ensures.kind c.look.ensures.block c.in-Ok.ensures.0 c.in-Ok.ensures.1 c.name.ensures fresh _ c.in-Ok-true.ensures.more c.next.ensures
     (record {
-      owners = claimed.ok ∙ ap (λ n. set store.owners c.args.b (AHead n)) (number c.requires.state.read.tells.headers.count count);
+      owners = claimed.ok ∙ ap (λ n. set store.owners c.args.b (kept.Head n)) (number c.requires.state.read.tells.headers.count count);
       headers = pushed;
       starts = refl;
       exts = refl;
@@ -52,6 +52,12 @@ returns-in-Ok-push-clause-state g c =
     number : {n m k : ℕ} → n ≡ m → k ≡ n → k + 1 ≡ suc m
     number a b = omega arith
 
-pub claim_named-requires-clause-words : goal.claim_named-requires-clause-words
-claim_named-requires-clause-words g c =
-    omega (arith, entry_short c.kind-kind.ensures.begun refl c.requires.state)
+pub overflow_cast-node : goal.overflow_cast-node
+overflow_cast-node g c = omega (arith, entry_short c.kind-kind.ensures.begun refl c.requires.state, c.len.ensures)
+
+pub overflow_add-node : goal.overflow_add-node
+overflow_add-node g c = omega (arith, entry_short c.kind-kind.ensures.begun refl c.requires.state, c.len.ensures)
+
+pub claim_named-requires-clause-place : goal.claim_named-requires-clause-place
+claim_named-requires-clause-place g c =
+    omega (arith, entry_short c.kind-kind.ensures.begun refl c.requires.state, c.len.ensures)

@@ -1,4 +1,4 @@
-use Rattle.adf_check.specs.Fault.{IsTrueFault}
+use Rattle.adf_volume.specs.Fault.{IsTrueFault}
 use Rattle.std.proofs.Common.{◌≢◌}
 use Rattle.adf_blocks.specs.declared.cause.Cause.TheVariants.{NoMemory}
 use Rattle.adf_tree.specs.Tree.{Tree}

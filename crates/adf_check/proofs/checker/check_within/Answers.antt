@@ -10,7 +10,7 @@ use Rattle.adf_volume.specs.Made.{layout_in, tree_in}
 use Rattle.adf_check.specs.Store.{store_value}
 use Rattle.adf_check.specs.Volumes.{StandsFor, Volume}
 use Rattle.adf_volume.specs.Walk.{FirstFault}
-use Rattle.adf_check.specs.Fault.{IsTrueFault}
+use Rattle.adf_volume.specs.Fault.{IsTrueFault}
 use Rattle.adf_check.proofs.ClaimSteps.{first_fault, if_err}
 use Rattle.adf_check.proofs.StoreStands.{keeps}
 use Rattle.adf_check.proofs.checker.check_within.Goals as goal

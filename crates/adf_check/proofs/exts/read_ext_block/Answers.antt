@@ -1,7 +1,7 @@
 use Rattle.std.proofs.Common.{◌≡◌, ◌++◌, ◌∷◌, [], length, set, ap, refl, ◌∙◌, rules, arith}
-use Rattle.adf_volume.specs.declared.owner.Owner.TheVariants.{Ext as AnExt}
+use Rattle.adf_check.specs.declared.kept_owner.KeptOwner.TheVariants as kept
 use Rattle.adf_check.specs.Store.{store_value}
-use Rattle.adf_check.proofs.NumberBounds.{file_short, table_short}
+use Rattle.adf_check.proofs.NumberBounds.{lists_short}
 use Rattle.adf_check.proofs.ClaimSteps.{claim_refused}
 use Rattle.adf_check.proofs.ExtSteps.{ext_named, ext_fault, ext_done}
 use Rattle.adf_check.proofs.exts.read_ext_block.Goals as goal
@@ -21,25 +21,24 @@ returns-clause-state g c =
     let store = store_value c.args.store.now in
     let b = c.args.b in
     let claimed = c.in_ok-claim_named.ensures in
-    let count : c.len.result ≡ length c.args.table.now.items = search rules in
+    let count : c.len-place.result ≡ length store.exts = search rules in
     let pushed : c.push.new.self.items ≡ c.args.table.now.items ++ b ∷ [] = search rules in
-    let kept : c.push-else-is_err.new.self.items ≡ store.exts ++ b ∷ [] = search rules in
+    let longer : c.push-else-is_err.new.self.items ≡ store.exts ++ b ∷ [] = search rules in
     ext_done c.begun.ensures c.requires.state c.requires.some claimed.range claimed.free c.look.ensures.block c.in-Ok.ensures.0 c.in-Ok.ensures.1
     c.next.ensures pushed (record {
-      owners = claimed.ok ∙ ap (λ k. set store.owners b (AnExt c.args.node k)) count;
+      owners = claimed.ok ∙ ap (λ i. set store.owners b (kept.Ext i)) count;
       headers = refl;
       starts = refl;
-      exts = kept;
+      exts = longer;
       datas = refl;
       used = claimed.count;
     })
 
-pub overflow_cast-owner : goal.overflow_cast-owner
-overflow_cast-owner g c =
-    omega (arith, table_short c.begun.ensures refl c.requires.state.read c.requires.state.holds)
+pub overflow_cast-place : goal.overflow_cast-place
+overflow_cast-place g c = omega (arith, (lists_short c.begun.ensures refl c.requires.state.read).0, c.len-place.ensures)
 
-pub claim_named-requires-clause-words : goal.claim_named-requires-clause-words
-claim_named-requires-clause-words g c = file_short c.begun.ensures refl c.requires.state.read c.requires.state.holds
+pub claim_named-requires-clause-place : goal.claim_named-requires-clause-place
+claim_named-requires-clause-place g c = omega (arith, (lists_short c.begun.ensures refl c.requires.state.read).0, c.len-place.ensures)
 
 pub look-requires-clause-paid : goal.look-requires-clause-paid
 look-requires-clause-paid g c = omega (arith, c.requires.paid, c.in_ok-claim_named.ensures)

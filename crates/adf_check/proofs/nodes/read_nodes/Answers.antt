@@ -8,8 +8,8 @@ use Rattle.adf_check.proofs.nodes.read_nodes.Goals as goal
 
 pub enter-requires : goal.enter-requires
 enter-requires g c =
-    let short = lists_short c.begun.ensures refl c.loop-node.invariant.state in
-    record { exts = short.0; datas = short.1 }
+    let short = lists_short c.begun.ensures refl c.loop-node.invariant.state.read in
+    record { exts = omega (arith, short.0); datas = omega (arith, short.1) }
 
 pub read_node-requires-clause-state : goal.read_node-requires-clause-state
 read_node-requires-clause-state g c =

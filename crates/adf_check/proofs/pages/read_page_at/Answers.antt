@@ -1,5 +1,6 @@
-use Rattle.std.proofs.Common.{refl, rules}
+use Rattle.std.proofs.Common.{refl, rules, arith}
 use Rattle.adf_check.proofs.ClaimSteps.{claim_refused}
+use Rattle.adf_check.proofs.NumberBounds.{pages_few}
 use Rattle.adf_check.proofs.PageSteps.{page_by_number, page_done, page_fault, page_named}
 use Rattle.adf_check.proofs.pages.read_page_at.Goals as goal
 
@@ -22,3 +23,6 @@ returns-in-Err-clause-fault g c =
     let claimed = c.in_ok-claim_named.ensures in
     rw c.fault_at.ensures (page_fault c.begun.ensures c.requires.needed c.requires.state c.page_named-b.ensures.exact claimed.range claimed.free
     c.look.ensures.block c.in-Err.cause c.in-Err.ensures)
+
+pub claim_named-requires-clause-place : goal.claim_named-requires-clause-place
+claim_named-requires-clause-place g c = omega (arith, pages_few c.args.image.now c.begun.ensures, c.requires.needed)

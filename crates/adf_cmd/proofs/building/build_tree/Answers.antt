@@ -1,6 +1,7 @@
 use Rattle.std.proofs.Common.{inl, refl}
 use Rattle.adf_cmd.specs.Answers.{BuildsOrIsFull}
-use Rattle.adf_cmd.proofs.AnswerLaws.{front_ends, is_built}
+use Rattle.adf_runs.proofs.Endings.{front_ends}
+use Rattle.adf_cmd.proofs.AnswerLaws.{is_built}
 use Rattle.adf_cmd.proofs.building.build_tree.Goals as goal
 
 pub returns-in-Ok-clause-ends : goal.returns-in-Ok-clause-ends

@@ -1,6 +1,6 @@
 use Rattle.std.proofs.Common.{◌≡◌, ◌++◌, ℕ, List, refl, rules, append_assoc}
 use Rattle.std.specs.List.{concat}
-use Rattle.adf_cmd.proofs.PendingText.{err_more, on_err, pending_fails, pending_more}
+use Rattle.adf_runs.proofs.PendingText.{err_more, on_err, pending_fails, pending_more}
 use Rattle.adf_cmd.proofs.copying.write_pieces.Goals as goal
 
 -- one piece more is done

@@ -1,6 +1,6 @@
 use Rattle.std.proofs.Common.{◌≡◌, false}
 use Rattle.adf_cmd.specs.Listing.{lines_of_blocks}
-use Rattle.adf_cmd.specs.Streams.{Pending}
+use Rattle.adf_runs.specs.Streams.{Pending}
 use Rattle.adf_cmd.proofs.listing.write_listing.Given as goal
 
 abbrev pub invariant-loop-b : goal.invariant-loop-b

@@ -1,7 +1,8 @@
 use Rattle.adf_fields.proofs.DateTexts.{date_of, date_of_is}
 use Rattle.adf_cmd.specs.Answers.{Answer}
 use Rattle.adf_words.specs.CommandLine.{list}
-use Rattle.adf_cmd.proofs.AnswerLaws.{front_ends, listed}
+use Rattle.adf_runs.proofs.Endings.{front_ends}
+use Rattle.adf_cmd.proofs.AnswerLaws.{listed}
 use Rattle.adf_cmd.proofs.volume_listing.list_volume.Goals as goal
 
 pub returns-in-Ok-clause-ends : goal.returns-in-Ok-clause-ends

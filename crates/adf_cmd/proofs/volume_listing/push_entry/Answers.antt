@@ -3,8 +3,8 @@ use Rattle.std.specs.Prelude.{option_map}
 use Rattle.adf_tree.specs.declared.entry.Entry.{Entry}
 use Rattle.adf_tree.specs.Paths.{names_of}
 use Rattle.adf_tree.specs.Tree.{entry}
-use Rattle.adf_check.specs.declared.row.Row.{Row}
-use Rattle.adf_check.specs.Rows.{row_of_entry}
+use Rattle.adf_volume.specs.declared.row.Row.{Row}
+use Rattle.adf_volume.specs.Rows.{row_of_entry}
 use Rattle.adf_texts.specs.VolumeLines.{entry_lines}
 use Rattle.adf_cmd.proofs.volume_listing.push_entry.Goals as goal
 

@@ -4,7 +4,7 @@ use Rattle.adf_tree.specs.Tree.{Tree}
 use Rattle.adf_volume.specs.Layout.{Layout}
 use Rattle.adf_check.specs.Volumes.{StandsFor}
 use Rattle.adf_texts.specs.VolumeLines.{AreDates, lines_of_entries}
-use Rattle.adf_cmd.specs.Streams.{Pending}
+use Rattle.adf_runs.specs.Streams.{Pending}
 use Rattle.adf_cmd.proofs.volume_listing.write_entries.Given as goal
 
 abbrev pub invariant-loop-i : goal.invariant-loop-i

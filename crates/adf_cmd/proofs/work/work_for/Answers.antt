@@ -2,7 +2,7 @@ use Rattle.std.proofs.Common.{rules, ap}
 use Rattle.std.specs.Prelude.{Err}
 use Rattle.adf_cmd.specs.Answers.{HasBadPath}
 use Rattle.adf_words.specs.CommandLine.{request_value}
-use Rattle.adf_cmd.proofs.WorkFaults.{no_path}
+use Rattle.adf_runs.proofs.WorkFaults.{no_path}
 use Rattle.adf_cmd.proofs.work.work_for.Goals as goal
 
 pub returns-in_err-read_path-in-Cat-clause-fault : goal.returns-in_err-read_path-in-Cat-clause-fault

@@ -8,4 +8,4 @@ returns-in-Ok-clause-told c = root_clean c.args.image.now c.root-at.result c.blo
 pub returns-then-is_root-clause-told : goal.returns-then-is_root-clause-told
 returns-then-is_root-clause-told c =
     root_noted c.args.image.now c.root-at.result c.block-root.result c.root-at.ensures.root c.block-root.ensures.block c.in-Err.cause c.in-Err.ensures
-    (sym c.is_root-is_root.ensures ∙ c.if-is_root.true)
+    (sym c.has_root_type-is_root.ensures ∙ c.if-is_root.true)

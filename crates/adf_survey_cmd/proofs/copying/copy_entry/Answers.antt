@@ -1,5 +1,5 @@
 use Rattle.std.proofs.Common.{[], inl, refl}
-use Rattle.adf_cmd.proofs.PendingText.{appends_nil}
+use Rattle.adf_runs.proofs.PendingText.{appends_nil}
 use Rattle.adf_survey_cmd.proofs.copying.copy_entry.Goals as goal
 
 pub returns-then-not-is_file-clause-ends : goal.returns-then-not-is_file-clause-ends

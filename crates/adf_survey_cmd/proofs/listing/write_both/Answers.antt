@@ -1,7 +1,7 @@
 use Rattle.std.proofs.Common.{refl}
 use Rattle.std.proofs.lemmas.Result.{on_ok_weaker}
-use Rattle.adf_cmd.proofs.KnownBytes.{appends_two}
-use Rattle.adf_cmd.proofs.PendingText.{err_more, on_err, part_behind, part_of_more}
+use Rattle.adf_runs.proofs.KnownBytes.{appends_two}
+use Rattle.adf_runs.proofs.PendingText.{err_more, on_err, part_behind, part_of_more}
 use Rattle.adf_survey_cmd.proofs.listing.write_both.Goals as goal
 
 pub returns-clause-ok : goal.returns-clause-ok

@@ -1,4 +1,4 @@
-use Rattle.adf_cmd.proofs.PendingText.{on_err}
+use Rattle.adf_runs.proofs.PendingText.{on_err}
 use Rattle.adf_survey_cmd.proofs.PendingLines.{part_before, pending_before}
 use Rattle.adf_survey_cmd.proofs.runs.tell_finding.Goals as goal
 

@@ -1,6 +1,6 @@
 use Rattle.std.proofs.Common.{rules, ap}
 use Rattle.std.specs.Prelude.{Err}
-use Rattle.adf_cmd.proofs.WorkFaults.{no_path}
+use Rattle.adf_runs.proofs.WorkFaults.{no_path}
 use Rattle.adf_survey_cmd.specs.Answers.{HasBadSurveyPath}
 use Rattle.adf_words.specs.SurveyLine.{inquiry_value}
 use Rattle.adf_survey_cmd.proofs.work.work_for.Goals as goal

@@ -1,8 +1,39 @@
-use Rattle.std.proofs.Common.{ap, ◌∙◌, Some}
-use Rattle.adf_check.specs.Store.{owner_at}
-use Rattle.adf_check.specs.Volumes.{Volume}
+use Rattle.std.proofs.Common.{◌≡◌, ◌≤◌, ◌<◌, ap, subst, sym, Some, ◌∙◌, arith}
+use Rattle.adf_tree.specs.Tree.{Tree}
+use Rattle.adf_blocks.specs.Sizes.{blocks}
+use Rattle.adf_volume.specs.declared.owner.Owner.{Owner}
+use Rattle.adf_volume.specs.declared.owner.Owner.TheVariants.{Boot, Free}
+use Rattle.adf_volume.specs.Layout.{Layout, owned}
+use Rattle.adf_volume.specs.Lists.{In}
+use Rattle.adf_check.specs.Places.{kept_as}
+use Rattle.adf_check.specs.Store.{store_value}
+use Rattle.adf_check.specs.Volumes.{StandsFor, Volume}
+use Rattle.adf_check.proofs.KeptPlaces.{datas_are, exts_are, part_numbered}
+use Rattle.adf_check.proofs.StoreStands.{keeps}
 use Rattle.adf_check.proofs.checked.Checked.owner.Goals as goal
 
+pub owner_of-requires-clause-exts : goal.owner_of-requires-clause-exts
+owner_of-requires-clause-exts c =
+    rw c.deref.ensures.value (exts_are (keeps c.self.inside.image (store_value c.self.inside.store) c.self.invariant.tells))
+
+pub owner_of-requires-clause-datas : goal.owner_of-requires-clause-datas
+owner_of-requires-clause-datas c =
+    rw c.deref.ensures.value (datas_are (keeps c.self.inside.image (store_value c.self.inside.store) c.self.invariant.tells))
+
 pub returns-then-b-blocks-clause-part : goal.returns-then-b-blocks-clause-part
-returns-then-b-blocks-clause-part c = λ t l o st has.
-    ap Some (c.get.ensures ∙ ap (λ (v : Volume). owner_at v.store.owners c.args.b) c.self.view_is ∙ st.owners.part o c.args.b has)
+returns-then-b-blocks-clause-part c =
+    subst (λ (v : Volume). (t : Tree) (l : Layout) (o : Owner) → StandsFor v t l → In (owned v.image l) (o, c.args.b) → Some c.owner_of.result ≡ Some o)
+    c.self.view_is (λ t l o st has.
+    ap Some (c.owner_of.ensures o (rw c.deref.ensures.value (part_numbered st o c.args.b has))
+    (c.get-kept.ensures.owner ∙ st.owners.part o c.args.b has ∙ ap (λ s. kept_as s o) (sym c.deref.ensures.value))))
+
+pub returns-then-b-blocks-clause-boot : goal.returns-then-b-blocks-clause-boot
+returns-then-b-blocks-clause-boot c = λ low.
+    let st = keeps c.self.inside.image (store_value c.self.inside.store) c.self.invariant.tells in
+    ap Some (c.owner_of.ensures Boot tt (c.get-kept.ensures.owner ∙ st.owners.boot c.args.b low (omega (arith, c.if-b-blocks.true, c.blocks-2.ensures.blocks))))
+
+pub returns-then-b-blocks-clause-free : goal.returns-then-b-blocks-clause-free
+returns-then-b-blocks-clause-free c =
+    subst (λ (v : Volume). (t : Tree) (l : Layout) → StandsFor v t l → 2 ≤ c.args.b → c.args.b < blocks v.image
+    → ((o : Owner) → In (owned v.image l) (o, c.args.b) → ⊥) → Some c.owner_of.result ≡ Some Free)
+    c.self.view_is (λ t l st from inside none. ap Some (c.owner_of.ensures Free tt (c.get-kept.ensures.owner ∙ st.owners.free c.args.b from inside none)))

@@ -2,7 +2,7 @@ use Rattle.std.proofs.Common.{◌≡◌, ◌-◌, ◌∙◌, suc, ap, subst, sym
 use Rattle.adf_fields.specs.Words.{block}
 use Rattle.adf_blocks.specs.HeadBlock.{IsHead}
 use Rattle.adf_check.specs.Store.{store_value}
-use Rattle.adf_check.specs.Rows.{row_in}
+use Rattle.adf_volume.specs.Rows.{row_in}
 use Rattle.adf_check.specs.Volumes.{StandsFor, Volume}
 use Rattle.adf_check.proofs.VolumeCounts.{header_inside}
 use Rattle.adf_check.proofs.NodeSteps.{header_here}

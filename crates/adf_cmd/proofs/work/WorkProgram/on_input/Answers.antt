@@ -1,5 +1,6 @@
 use Rattle.adf_cmd.specs.Answers.{Answer, limit_of}
-use Rattle.adf_cmd.proofs.LongInputs.{long_answers, read_ends}
+use Rattle.adf_cmd.proofs.LongInputs.{long_answers}
+use Rattle.adf_runs.proofs.Endings.{read_ends}
 use Rattle.adf_cmd.proofs.work.WorkProgram.on_input.Goals as goal
 
 pub returns-in-Ok-clause-ends : goal.returns-in-Ok-clause-ends

@@ -1,11 +1,10 @@
 use Rattle.std.specs.Prelude.{◌↔◌, drop}
-use Rattle.std.proofs.Common.{ℕ, List}
-use Rattle.adf_volume.specs.Walk.{Role}
+use Rattle.std.proofs.Common.{ℕ}
 use Rattle.adf_survey.specs.Lookup.{LeadsTo}
-use Rattle.adf_survey.specs.Survey.{FindingValue, IsSurvey}
+use Rattle.adf_survey.specs.Survey.{OnSurvey}
 use Rattle.adf_survey.proofs.surveyed.Survey.find.Given as goal
 
 abbrev pub invariant-loop-name : goal.invariant-loop-name
 invariant-loop-name l =
-    (w : List (Role × ℕ)) (fs : List FindingValue) → IsSurvey l.self.image w fs → (n : ℕ)
-    → LeadsTo l.self.image w 0 l.path n ↔ LeadsTo l.self.image w l.node (drop l.name-index l.path) n
+    OnSurvey l.self.image (λ w _. (n : ℕ)
+    → LeadsTo l.self.image w 0 l.path n ↔ LeadsTo l.self.image w l.node (drop l.name-index l.path) n)

@@ -1,7 +1,7 @@
 use Rattle.std.proofs.Common.{inr, subst, sym}
 use Rattle.adf_survey_cmd.specs.Answers.{CopiesFound, SurveyAnswer, TellsFindings, TellsFound}
 use Rattle.adf_survey_cmd.specs.Work.{Meets}
-use Rattle.adf_cmd.proofs.AnswerLaws.{ends_weaker}
+use Rattle.adf_runs.proofs.Endings.{ends_weaker}
 use Rattle.adf_survey_cmd.proofs.work.Work.on_survey.Goals as goal
 
 pub returns-in-Report-clause-ends : goal.returns-in-Report-clause-ends

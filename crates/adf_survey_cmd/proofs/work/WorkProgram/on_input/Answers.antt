@@ -1,6 +1,6 @@
 use Rattle.std.proofs.Common.{◌*◌}
 use Rattle.adf_blocks.specs.declared.layout.TheConstants.{MOST_BLOCKS}
-use Rattle.adf_cmd.proofs.LongInputs.{read_ends}
+use Rattle.adf_runs.proofs.Endings.{read_ends}
 use Rattle.adf_survey_cmd.specs.Answers.{SurveyAnswer}
 use Rattle.adf_survey_cmd.proofs.LongSurveys.{long_answers}
 use Rattle.adf_survey_cmd.proofs.work.WorkProgram.on_input.Goals as goal

@@ -1,0 +1,19 @@
+use Rattle.std.proofs.Common.{◌≤◌, ◌-◌, leb, rules}
+use Rattle.std.proofs.lemmas.List.Sorted.{IsPartitionPoint-from_clause, IsPartitionedBy-leb}
+use Rattle.adf_check.specs.declared.store.NodeStart.{NodeStart}
+use Rattle.adf_check.specs.Places.{IsLastStart, first_ext}
+use Rattle.adf_check.proofs.KeptPlaces.{last_found}
+use Rattle.adf_check.proofs.places.file_of_ext.Goals.{After-partition_point}
+use Rattle.adf_check.proofs.places.file_of_ext.Goals as goal
+
+found : (c : After-partition_point) → (1 ≤ c.partition_point.result) × IsLastStart first_ext c.args.starts.now c.args.place (c.partition_point.result - 1)
+found c =
+    let parted = IsPartitionedBy-leb first_ext c.args.starts.now c.args.place c.requires.rising in
+    last_found first_ext c.args.starts.now c.args.place c.partition_point.result c.requires c.partition_point.ensures.bound
+    (IsPartitionPoint-from_clause (λ (x : NodeStart). leb (first_ext x) c.args.place) _ _ c.partition_point.ensures.partitioned parted (λ a r q k. search rules))
+
+pub overflow_sub-result : goal.overflow_sub-result
+overflow_sub-result c = (found c).0
+
+pub returns : goal.returns
+returns c = (found c).1

@@ -1,0 +1,52 @@
+// Places in the list of all extension blocks and in that of all data blocks.
+
+ghost use Rattle.std.specs.Prelude.{◌≡◌, ◌<◌, ◌^◌};
+ghost use Rattle.adf_volume.specs.declared.owner.Owner.{Owner};
+ghost use Rattle.adf_check.specs.KeptOwner.{place_of};
+ghost use Rattle.adf_check.specs.Places.{AreStarts, IsLastStart, IsNumbered, first_data, first_ext, kept_as};
+
+use crate::kept_owner::KeptOwner;
+use crate::store::NodeStart;
+use adf_tree::Node;
+use adf_volume::Owner;
+
+// The file of the extension block at a place.
+fn file_of_ext(starts: &[NodeStart], place: u32) -> usize
+    requires { AreStarts first_ext starts.now }
+    ensures { IsLastStart first_ext starts.now place result }
+{
+    starts.partition_point(|start| start.exts <= place) - 1
+}
+
+// The file of the data block at a place.
+fn file_of_data(starts: &[NodeStart], place: u32) -> usize
+    requires { AreStarts first_data starts.now }
+    ensures { IsLastStart first_data starts.now place result }
+{
+    starts.partition_point(|start| start.datas <= place) - 1
+}
+
+/// The owner that is kept so. The file of an extension or data block is found by a binary search in the starts.
+pub fn owner_of(starts: &[NodeStart], kept: KeptOwner) -> Owner
+    requires exts { AreStarts first_ext starts.now }
+    requires datas { AreStarts first_data starts.now }
+    requires place { place_of kept < 2 ^ 29 }
+    ensures { (o : Owner) → IsNumbered starts.now o → kept ≡ kept_as starts.now o → result ≡ o }
+{
+    match kept {
+        KeptOwner::Free => Owner::Free,
+        KeptOwner::Boot => Owner::Boot,
+        KeptOwner::Root => Owner::Root,
+        KeptOwner::Page(number) => Owner::Page(number),
+        KeptOwner::MapExt(number) => Owner::MapExt(number),
+        KeptOwner::Head(node) => Owner::Head(Node(node as usize)),
+        KeptOwner::Ext(place) => {
+            let file = file_of_ext(starts, place);
+            Owner::Ext(Node(file), place - starts[file].exts + 1)
+        }
+        KeptOwner::Data(place) => {
+            let file = file_of_data(starts, place);
+            Owner::Data(Node(file), place - starts[file].datas + 1)
+        }
+    }
+}

@@ -1,0 +1,42 @@
+use Rattle.std.proofs.Common.{◌≡◌, ℕ, Bool, List, arith, subst, sym}
+use Rattle.adf_volume.specs.Walk.{heads}
+use Rattle.adf_survey.specs.Marked.{mark_in}
+use Rattle.adf_rescue.specs.Rescue.{Verdict, verdicts}
+use Rattle.adf_rescue.specs.Salvage.{IsSalvage}
+use Rattle.adf_rescue.proofs.Steps.{next_is, verdicts_more}
+use Rattle.adf_rescue.proofs.rescues.salvaged.Goals as goal
+
+pub loop-before-init : goal.loop-before-init
+loop-before-init c = λ w fs sound survey marks. c.in_ok-salvage.ensures c.args.survey.now.image c.requires.opening c.requires.free
+
+pub take-requires : goal.take-requires
+take-requires c =
+    let image = c.args.survey.now.image in
+    let some = c.some_survey.ensures image in
+    let w = some.0 in
+    let fs = some.1 in
+    let sound : ℕ → Bool = mark_in c.args.survey.now in
+    let marks = c.marks.ensures w fs some.2 in
+    let all = c.len-before-end.ensures w fs some.2 in
+    record {
+      walk = w;
+      findings = fs;
+      verdicts = verdicts image w sound c.loop-before.before;
+      survey = some.2;
+      state = c.loop-before.invariant w fs sound some.2 marks;
+      next = next_is image w sound c.loop-before.before (omega (arith, all));
+    }
+
+pub loop-before-preserved : goal.loop-before-preserved
+loop-before-preserved c = λ w fs sound survey marks.
+    let image = c.args.survey.now.image in
+    let all = c.len-before-end.ensures w fs survey in
+    let vs : List Verdict = verdicts image w sound c.loop-before.before in
+    let more = c.in_ok-take.ensures w fs sound vs survey marks (c.loop-before.invariant w fs sound survey marks)
+    (next_is image w sound c.loop-before.before (omega (arith, all))) in
+    subst (λ (us : List Verdict). IsSalvage image us c.take.new.self) (sym (verdicts_more image w sound c.loop-before.before)) more
+
+pub returns : goal.returns
+returns c = λ w fs sound survey marks.
+    let last : c.loop-before.before ≡ heads w = omega (arith, c.len-before-end.ensures w fs survey) in
+    rw last at (c.loop-before.invariant w fs sound survey marks)

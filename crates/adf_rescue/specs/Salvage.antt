@@ -1,0 +1,58 @@
+-- The state of a rescue.
+-- Letters: d the draft of the tree so far; r the state; vs the verdicts so far; m the number of an addition in the draft.
+use Rattle.std.specs.Prelude.{◌≡◌, ◌≤◌, ◌+◌, ◌-◌, ℕ, List, Option, Some, None, length, slice_index_or}
+use Rattle.adf_tree.specs.declared.draft.Room.{Room}
+use Rattle.adf_tree.specs.declared.entry.Body.{Body}
+use Rattle.adf_tree.specs.declared.entry.Kind.{Kind}
+use Rattle.adf_tree.specs.Draft.{DraftValue, IsDirectoryOf, IsRoomFor}
+use Rattle.adf_blocks.specs.Sizes.{blocks}
+use Rattle.adf_volume.specs.Image.{kind_of}
+use Rattle.adf_volume.specs.Walk.{Role, heads}
+use Rattle.adf_survey.specs.Survey.{FindingValue, IsSurvey}
+use Rattle.adf_build.specs.Plan.{data_blocks, entries_blocks, exts_needed, reserved}
+use Rattle.adf_rescue.specs.declared.salvage.Salvage.{Salvage}
+use Rattle.adf_rescue.specs.Rescue.{Verdict, additions_of, left_out_from, place_of, tree_of}
+
+-- a room is that of a path; there is none without a path
+abbrev pub IsRoomOf : DraftValue → Option (List (List ℕ)) → Option Room → Type 0
+IsRoomOf d (Some path) (Some room) = IsRoomFor d path room
+IsRoomOf d None None = Unit {0}
+IsRoomOf d _ _ = ⊥
+
+-- a directory is that of a path; there is none without a path
+abbrev pub IsPlace : DraftValue → Option (List (List ℕ)) → Option ℕ → Type 0
+IsPlace d (Some path) (Some m) = IsDirectoryOf d path m
+IsPlace d None None = Unit {0}
+IsPlace d _ _ = ⊥
+
+-- the blocks that a volume of n blocks has for entries
+abbrev pub free_blocks : ℕ → ℕ
+free_blocks n = n - 2 - (1 + reserved n)
+
+-- the number of blocks of an entry with this body
+abbrev pub entry_cost : Kind → Body → ℕ
+entry_cost kind body = 1 + exts_needed (data_blocks kind body) + data_blocks kind body
+
+-- the state after these verdicts
+pub record IsSalvage (image : List ℕ) (vs : List Verdict) (r : Salvage) : Type 0 where
+  pub tree : r.draft.tree ≡ tree_of image vs
+  pub kind : r.kind ≡ kind_of image
+  pub count : length r.places.items ≡ length vs + 1
+  pub nodes : length r.draft.nodes ≡ length (additions_of vs)
+  pub places : (p : ℕ) → IsPlace r.draft (place_of vs p) (slice_index_or r.places.items p None)
+  pub left : r.left + entries_blocks r.draft.tree.kind r.draft.tree.entries ≡ free_blocks (blocks image)
+  pub left_out : r.left_out.items ≡ left_out_from 1 vs
+
+-- entry n is the next one of the survey, after the verdicts
+pub record IsNext (w : List (Role × ℕ)) (vs : List Verdict) (n : ℕ) : Type 0 where
+  pub number : n ≡ length vs + 1
+  pub within : n ≤ heads w
+
+-- there is a survey and the state of its rescue, of which entry n is the next
+pub record GoesOn (image : List ℕ) (n : ℕ) (r : Salvage) : Type 0 where
+  pub walk : List (Role × ℕ)
+  pub findings : List FindingValue
+  pub verdicts : List Verdict
+  pub survey : IsSurvey image walk findings
+  pub state : IsSalvage image verdicts r
+  pub next : IsNext walk verdicts n

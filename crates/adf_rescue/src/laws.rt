@@ -1,0 +1,41 @@
+// The laws of rescues. Each is the contract of a function that does nothing at run time.
+
+ghost use Rattle.std.specs.Prelude.{◌≡◌, ℕ, Bool, List};
+ghost use Rattle.adf_fields.specs.Words.{block};
+ghost use Rattle.adf_tree.specs.declared.entry.Body.TheVariants.{File};
+ghost use Rattle.adf_blocks.specs.HeadBlock.{meta_told};
+ghost use Rattle.adf_blocks.specs.Sizes.{blocks};
+ghost use Rattle.adf_volume.specs.Image.{name_of};
+ghost use Rattle.adf_survey.specs.Files.{IsSoundFile, file_content, file_in};
+ghost use Rattle.adf_survey.specs.Found.{parent_node};
+ghost use Rattle.adf_survey.specs.Marked.{AreMarks};
+ghost use Rattle.adf_survey.specs.Survey.{FindingValue};
+ghost use Rattle.adf_tree.specs.Additions.{IsTreeOf};
+ghost use Rattle.adf_volume.specs.Walk.{Role, heads, node_block};
+ghost use Rattle.adf_rescue.specs.Rescue.{Verdict, at_path, path_by, place_of, rescued_additions, rescued_tree, tree_of, verdict, verdicts};
+
+/// The tree of a rescue is that of its additions.
+#[tactic(auto, using(crate::proofs::RescuedTrees::tree_of_verdicts))]
+pub fn rescued_additions_have_their_tree()
+    ensures { (image : List ℕ) (w : List (Role × ℕ)) (sound : ℕ → Bool)
+        → IsTreeOf (rescued_tree image w sound).entries (rescued_additions image w sound) }
+{}
+
+/// A sound file stands: the verdict on it is that of its path, with its content and what its header says of it. So it
+/// is kept in the place of its directory, by its name or else by `lost-` and its block, or has no room.
+pub fn sound_files_stand()
+    ensures { (image : List ℕ) (w : List (Role × ℕ)) (fs : List FindingValue) (sound : ℕ → Bool)
+        (n : ℕ) (vs : List Verdict)
+        → AreMarks image w fs sound → IsSoundFile image w fs n
+        → verdict image w sound vs n
+        ≡ at_path (tree_of image vs) (blocks image) (meta_told (block image (node_block w n)))
+        (File (file_content (file_in image w n)))
+        (path_by (tree_of image vs) (place_of vs (parent_node w n)) (name_of image (node_block w n)) (node_block w n)) }
+{}
+
+/// A survey has one list of verdicts.
+pub fn one_rescue()
+    ensures { (image : List ℕ) (w : List (Role × ℕ)) (fs : List FindingValue) (s t : ℕ → Bool)
+        → AreMarks image w fs s → AreMarks image w fs t
+        → verdicts image w s (heads w) ≡ verdicts image w t (heads w) }
+{}

@@ -1,0 +1,13 @@
+//! Rescues: the volume of all that stands on an image, and what is left out.
+#![tactic(auto)]
+
+mod laws;
+mod left_out;
+mod rescues;
+mod rooms;
+mod salvage;
+mod standing;
+
+pub use crate::laws::{one_rescue, rescued_additions_have_their_tree, sound_files_stand};
+pub use crate::left_out::{LeftOut, Why};
+pub use crate::rescues::{Rescued, rescue};

@@ -1,0 +1,49 @@
+// The rooms of entries in a draft.
+
+ghost use Rattle.std.specs.Prelude.{◌≡◌, ℕ, List, IfOk};
+ghost use Rattle.std.specs.String.{string_bytes};
+ghost use Rattle.adf_tree.specs.Draft.{IsDirectoryOf};
+ghost use Rattle.adf_rescue.specs.Rescue.{lost_name, path_for, path_in};
+ghost use Rattle.adf_rescue.specs.Salvage.{IsRoomOf};
+
+use adf_fields::NoMemory;
+use adf_tree::{Draft, Name, Node, Room};
+use std::alloc::Global;
+
+// The room of this name in a directory; `None` if it is no name, or an entry of the directory has it.
+fn room_named(draft: &Draft, directory: Node, name: &[u8]) -> Option<Room>
+    ensures { (dir : List (List ℕ)) → IsDirectoryOf draft.now dir directory
+        → IsRoomOf draft.now (path_in draft.now.tree dir name.now) result }
+{
+    let name = Name::new(name)?;
+    draft.room_in(directory, &name)
+}
+
+// The name of an entry that cannot have its own, by the block of its header.
+fn lost_name(alloc: Global, block: u32) -> Result<String, NoMemory>
+    ensures { IfOk result (λ s. string_bytes s ≡ lost_name block) }
+{
+    match format!(in alloc; "lost-{block}") {
+        Ok(name) => Ok(name),
+        Err(_) => Err(NoMemory),
+    }
+}
+
+/// The room of an entry in a directory: of this name, or else of `lost-` and the block of its header; `None` if the
+/// directory has room for neither. `NoMemory` if an allocation fails.
+pub fn room_of(
+    alloc: Global,
+    draft: &Draft,
+    directory: Node,
+    name: &[u8],
+    block: u32,
+) -> Result<Option<Room>, NoMemory>
+    ensures { (dir : List (List ℕ)) → IsDirectoryOf draft.now dir directory
+        → IfOk result (IsRoomOf draft.now (path_for draft.now.tree dir name.now block)) }
+{
+    if let Some(room) = room_named(draft, directory, name) {
+        return Ok(Some(room));
+    }
+    let lost = lost_name(alloc, block)?;
+    Ok(room_named(draft, directory, lost.as_bytes()))
+}

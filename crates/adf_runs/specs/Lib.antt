@@ -1,0 +1,5 @@
+pub mod Commands
+pub mod Devices
+pub mod Streams
+pub mod Outcomes
+pub mod WorkFaults

@@ -1,0 +1,40 @@
+-- What whole reads and writes take and add.
+use Rattle.std.specs.Prelude.{◌≡◌, ◌≢◌, ℕ, ◌≤◌, Bool, true, false, List, ◌++◌, length, [], take, Option, IfSome, Result, Err, codes}
+use Rattle.std.specs.Io.KnownBytes.{Appends, Consumes}
+use Rattle.adf_runs.specs.declared.streams.StreamFault.{StreamFault}
+use Rattle.adf_runs.specs.declared.streams.StreamFault.TheVariants.{Device, NoMemory}
+
+-- at most n of the known bytes were taken
+abbrev pub TakesAtMost : ℕ → Option (List ℕ) → Option (List ℕ) → Type 0
+TakesAtMost n old new = (bs : List ℕ) × (length bs ≤ n) × Consumes old new bs
+
+-- the bytes are the first n of the known ones, or all where there are fewer
+abbrev pub AreFirst : ℕ → Option (List ℕ) → List ℕ → Type 0
+AreFirst n known bytes = IfSome known (λ all. bytes ≡ take n all)
+
+-- a front part of `whole` was added to the known bytes, and where the device has failed not all of it
+abbrev pub AppendsPart : Bool → Option (List ℕ) → Option (List ℕ) → List ℕ → Type 0
+AppendsPart failed old new whole = (part rest : List ℕ) × (whole ≡ part ++ rest) × (failed ≡ true → rest ≢ []) × Appends old new part
+
+-- the text was added, or where the device has failed a front part of it, but not all
+abbrev pub Says : Bool → Option (List ℕ) → Option (List ℕ) → List ℕ → Type 0
+Says false old new text = Appends old new text
+Says true old new text = AppendsPart true old new text
+
+-- the fault is that of the device
+abbrev pub is_device : {T : Type 0} → Result T StreamFault → Bool
+is_device (Err Device) = true
+is_device _ = false
+
+-- the text of the fault
+abbrev pub stream_fault_text : StreamFault → List ℕ
+stream_fault_text Device = codes "device failed"
+stream_fault_text NoMemory = codes "no memory"
+
+-- of `done`, all but the text that waits is written
+abbrev pub Pending : Option (List ℕ) → Option (List ℕ) → List ℕ → List ℕ → Type 0
+Pending old new text done = (written : List ℕ) × Appends old new written × (done ≡ written ++ text)
+
+-- what was pending still is
+abbrev pub KeepsPending : Option (List ℕ) → List ℕ → Option (List ℕ) → List ℕ → Type 0
+KeepsPending old text new text' = (a : Option (List ℕ)) (done : List ℕ) → Pending a old text done → Pending a new text' done

@@ -1,0 +1,27 @@
+// The input of a command.
+
+ghost use Rattle.std.specs.Prelude.{◌≡◌, ◌+◌, ◌<◌, ◌^◌, false, IfErr, IfOk, OnOk};
+ghost use Rattle.adf_runs.specs.Outcomes.{LacksInput, is_read_fault, is_write_fault};
+ghost use Rattle.adf_runs.specs.Streams.{AreFirst, TakesAtMost};
+
+use crate::devices::Source;
+use crate::outcome::Outcome;
+use crate::streams::read_all;
+use std::alloc::Global;
+
+/// The input, and at most one byte more than the limit; where it does not come, how the work ends.
+pub fn read_input<R: Source>(alloc: Global, input: &mut R, limit: usize) -> Result<Vec<u8>, Outcome>
+    requires limited { limit < 2 ^ 63 }
+    requires works { R.has_failed input.old ≡ false }
+    ensures all { IfOk result (λ all. AreFirst (limit + 1) (R.left input.old) all.items) }
+    ensures at_most { TakesAtMost (limit + 1) (R.left input.old) (R.left input.new) }
+    ensures works { OnOk result (R.has_failed input.new ≡ false) }
+    ensures unread { IfErr result LacksInput }
+    ensures failed { IfErr result (λ w. R.has_failed input.new ≡ is_read_fault w) }
+    ensures written { IfErr result (λ w. is_write_fault w ≡ false) }
+{
+    match read_all(alloc, input, limit) {
+        Ok(bytes) => Ok(bytes),
+        Err(fault) => Err(Outcome::after_reading(fault)),
+    }
+}

@@ -1,0 +1,16 @@
+//! Programs and their runs: devices, whole reads and writes, and how a run ends.
+#![tactic(auto)]
+
+mod devices;
+mod inputs;
+mod outcome;
+mod programs;
+mod streams;
+mod work_fault;
+
+pub use crate::devices::{Device, Failed, Sink, Source};
+pub use crate::inputs::read_input;
+pub use crate::outcome::Outcome;
+pub use crate::programs::{Program, Ran, run_program, run_program_on};
+pub use crate::streams::{StreamFault, flush_long, read_all, read_into, say, write_all};
+pub use crate::work_fault::WorkFault;

@@ -1,0 +1,31 @@
+-- The rows of entries.
+use Rattle.std.specs.Prelude.{ℕ, List, length}
+use Rattle.adf_blocks.specs.declared.layout.TheConstants.{NAME}
+use Rattle.adf_tree.specs.declared.entry.Body.{Body}
+use Rattle.adf_tree.specs.declared.entry.Body.TheVariants.{Dir as ADir, File as AFile}
+use Rattle.adf_tree.specs.declared.entry.Entry.{Entry}
+use Rattle.adf_blocks.specs.Forms.{text_at}
+use Rattle.adf_blocks.specs.HeadBlock.{body_at, meta_at}
+use Rattle.adf_blocks.specs.declared.head.HeadBody.{HeadBody}
+use Rattle.adf_blocks.specs.declared.head.HeadBody.TheVariants.{Dir as HeadDir, File as HeadFile}
+use Rattle.adf_volume.specs.declared.row.Row.{Row}
+use Rattle.adf_volume.specs.declared.row.RowBody.{RowBody}
+use Rattle.adf_volume.specs.declared.row.RowBody.TheVariants.{Dir, File}
+
+-- the body of a row, from the body of a header
+abbrev pub row_body : HeadBody → RowBody
+row_body HeadDir = Dir
+row_body (HeadFile size ext) = File size
+
+-- the row of an entry, from its header
+abbrev pub row_in : ℕ → List ℕ → Row
+row_in parent b = record { parent = parent; name = text_at b NAME; meta = meta_at b; body = row_body (body_at b) }
+
+-- the body of a row: a directory, or a file with its number of bytes
+abbrev pub row_of_body : Body → RowBody
+row_of_body ADir = Dir
+row_of_body (AFile bytes) = File (length bytes)
+
+-- the row of an entry: its parent, name, comment, protection bits, date and kind
+abbrev pub row_of_entry : Entry → Row
+row_of_entry e = record { parent = e.parent; name = e.name; meta = e.meta; body = row_of_body e.body }
