@@ -6,3 +6,11 @@ pub mod Steps
 pub mod RescuedTrees
 -- sound files stand, and one survey has one rescue
 pub mod RescueLaws
+-- the blocks of a tree that fits
+pub mod FitBlocks
+-- the next entry of a tree
+pub mod NextEntries
+-- the entries of a survey without findings
+pub mod SoundHeaders
+-- the rescue of a volume that a tree fits
+pub mod WholeVolumes

@@ -45,12 +45,12 @@ left_out_more n (x ∷ xs) v =
     rw (left_out_more (suc n) xs v, at) (sym (append_assoc (left_out_by n x) (left_out_from (suc n) xs) (left_out_by (suc (length xs) + n) v)))
 
 -- what stands at an index of a list with one more element
-got_before : {X : Type 0} (xs : List X) (x : X) (i : ℕ) → i < length xs → slice_get (xs ++ x ∷ []) i ≡ slice_get xs i
+pub got_before : {X : Type 0} (xs : List X) (x : X) (i : ℕ) → i < length xs → slice_get (xs ++ x ∷ []) i ≡ slice_get xs i
 got_before [] x i h = absurd (omega arith)
 got_before (y ∷ ys) x zero h = refl
 got_before (y ∷ ys) x (suc i) h = got_before ys x i (omega arith)
 
-got_last : {X : Type 0} (xs : List X) (x : X) → slice_get (xs ++ x ∷ []) (length xs) ≡ Some x
+pub got_last : {X : Type 0} (xs : List X) (x : X) → slice_get (xs ++ x ∷ []) (length xs) ≡ Some x
 got_last [] x = refl
 got_last (y ∷ ys) x = got_last ys x
 

@@ -1,6 +1,6 @@
 // The laws of rescues. Each is the contract of a function that does nothing at run time.
 
-ghost use Rattle.std.specs.Prelude.{◌≡◌, ℕ, Bool, List};
+ghost use Rattle.std.specs.Prelude.{◌≡◌, ℕ, Bool, List, []};
 ghost use Rattle.adf_fields.specs.Words.{block};
 ghost use Rattle.adf_tree.specs.declared.entry.Body.TheVariants.{File};
 ghost use Rattle.adf_blocks.specs.HeadBlock.{meta_told};
@@ -9,10 +9,13 @@ ghost use Rattle.adf_volume.specs.Image.{name_of};
 ghost use Rattle.adf_survey.specs.Files.{IsSoundFile, file_content, file_in};
 ghost use Rattle.adf_survey.specs.Found.{parent_node};
 ghost use Rattle.adf_survey.specs.Marked.{AreMarks};
-ghost use Rattle.adf_survey.specs.Survey.{FindingValue};
+ghost use Rattle.adf_survey.specs.Survey.{FindingValue, IsSurvey};
 ghost use Rattle.adf_tree.specs.Additions.{IsTreeOf};
+ghost use Rattle.adf_tree.specs.Tree.{Tree};
+ghost use Rattle.adf_volume.specs.Fits.{Fits};
+ghost use Rattle.adf_volume.specs.Layout.{Layout};
 ghost use Rattle.adf_volume.specs.Walk.{Role, heads, node_block};
-ghost use Rattle.adf_rescue.specs.Rescue.{Verdict, at_path, path_by, place_of, rescued_additions, rescued_tree, tree_of, verdict, verdicts};
+ghost use Rattle.adf_rescue.specs.Rescue.{Verdict, at_path, path_by, place_of, rescue_leaves, rescued_additions, rescued_tree, tree_of, verdict, verdicts};
 
 /// The tree of a rescue is that of its additions.
 #[tactic(auto, using(crate::proofs::RescuedTrees::tree_of_verdicts))]
@@ -38,4 +41,16 @@ pub fn one_rescue()
     ensures { (image : List ℕ) (w : List (Role × ℕ)) (fs : List FindingValue) (s t : ℕ → Bool)
         → AreMarks image w fs s → AreMarks image w fs t
         → verdicts image w s (heads w) ≡ verdicts image w t (heads w) }
+{}
+
+/// Where a tree and a layout fit the image, the rescue has that tree, and leaves out nothing.
+pub fn whole_is_kept()
+    ensures tree { (image : List ℕ) (t : Tree) (l : Layout) (w : List (Role
+        × ℕ)) (fs : List FindingValue) (sound : ℕ → Bool)
+        → Fits image t l → IsSurvey image w fs → AreMarks image w fs sound
+        → rescued_tree image w sound ≡ t }
+    ensures all { (image : List ℕ) (t : Tree) (l : Layout) (w : List (Role
+        × ℕ)) (fs : List FindingValue) (sound : ℕ → Bool)
+        → Fits image t l → IsSurvey image w fs → AreMarks image w fs sound
+        → rescue_leaves image w sound ≡ [] }
 {}

@@ -8,6 +8,8 @@ mod rooms;
 mod salvage;
 mod standing;
 
-pub use crate::laws::{one_rescue, rescued_additions_have_their_tree, sound_files_stand};
+pub use crate::laws::{
+    one_rescue, rescued_additions_have_their_tree, sound_files_stand, whole_is_kept,
+};
 pub use crate::left_out::{LeftOut, Why};
 pub use crate::rescues::{Rescued, rescue};

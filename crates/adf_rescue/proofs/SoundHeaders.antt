@@ -1,0 +1,122 @@
+-- The entries of a survey without findings: what their headers tell is what the tree of the walk has.
+-- Letters: w the walk of the survey, fs its findings; sound the marks; n a node, i its index; b the block of its header; bs a block's bytes.
+use Rattle.std.proofs.Common.{◌≡◌, ◌⊎◌, ℕ, suc, List, [], inl, inr, ◌+◌, ◌-◌, ◌<◌, ◌≤◌, length, take, drop, refl, sym, ap, ◌∙◌, arith, rules}
+use Rattle.std.proofs.Common.{Bool, true, false, cond, Result, Ok, Err}
+use Rattle.std.specs.Prelude.{◌==◌, nat_le, slice_index}
+use Rattle.std.proofs.lemmas.Bool.{and_from, and_parts, and_right, eq-eqb, leb-true, ne_eqb}
+use Rattle.std.proofs.lemmas.List.{length-take, take_all}
+use Rattle.adf_fields.specs.Words.{block, word}
+use Rattle.adf_tree.specs.declared.entry.Body.{Body}
+use Rattle.adf_tree.specs.declared.entry.Body.TheVariants.{Dir, File}
+use Rattle.adf_tree.specs.declared.entry.Entry.{Entry}
+use Rattle.adf_tree.specs.declared.entry.Kind.{Kind}
+use Rattle.adf_tree.specs.Texts.{is_name}
+use Rattle.adf_blocks.specs.declared.cause.Cause.TheVariants.{BadComment, BadName}
+use Rattle.adf_blocks.specs.declared.layout.TheConstants.{COMMENT, DATE, NAME, PROTECTION, SECONDARY_TYPE, ST_DIR, ST_FILE}
+use Rattle.adf_blocks.specs.Forms.{stamp_at, text_at}
+use Rattle.adf_blocks.specs.HeadBlock.{head_form, is_link, is_name_at, meta_told}
+use Rattle.adf_blocks.specs.RootBlock.{label_told, root_form}
+use Rattle.adf_volume.specs.Demands.{AllHold, head_demands, root_demands}
+use Rattle.adf_volume.specs.Image.{content, kind_of, meta_of, name_of, root_of, word_in}
+use Rattle.adf_volume.specs.Lists.{At}
+use Rattle.adf_volume.specs.Made.{body_in, datas_in, entries_in, entry_in}
+use Rattle.adf_volume.specs.Walk.{HeadAt, IsWalk, Role, heads, node_block}
+use Rattle.adf_volume.proofs.FormDemands.{demanded, dir_not_file, head_type}
+use Rattle.adf_volume.proofs.MemberFacts.{kept}
+use Rattle.adf_volume.proofs.Roles.{head_role}
+use Rattle.adf_volume.proofs.WalkMembers.{entry_has}
+use Rattle.adf_survey.specs.Found.{parent_node}
+use Rattle.adf_survey.specs.Marked.{AreMarks}
+use Rattle.adf_survey.specs.Survey.{FindingValue, IsSurvey}
+use Rattle.adf_survey.proofs.AllSound.{all_sound}
+use Rattle.adf_survey.proofs.Keeping.{parent_is}
+use Rattle.adf_survey.proofs.Lookups.{header_at}
+use Rattle.adf_rescue.specs.declared.left_out.Why.{Why}
+use Rattle.adf_rescue.specs.declared.left_out.Why.TheVariants.{Damaged, Link}
+use Rattle.adf_rescue.specs.Rescue.{body_of, body_of_type}
+
+-- texts within their fields are told whole
+
+text_short : (bs : List ℕ) (at n : ℕ) → slice_index bs at ≤ n → length (text_at bs at) ≤ n
+text_short bs at n le =
+    let long = length-take (at + 1 + slice_index bs at - (at + 1)) (drop (at + 1) bs) in
+    omega arith
+
+pub label_whole : (image : List ℕ) → AllHold (root_demands image (root_of image)) → label_told (block image (root_of image)) ≡ name_of image (root_of image)
+unfolding name_of
+label_whole image h =
+    let bs : List ℕ = block image (root_of image) in
+    let most : ℕ = slice_index bs NAME in
+    take_all 30 (text_at bs NAME)
+    (text_short bs NAME 30 (leb-true most 30 (demanded (root_of image) (root_form bs) (nat_le most 30) BadName h (search rules))))
+
+meta_whole : (image : List ℕ) (kind : Kind) (b up s : ℕ) → AllHold (head_demands image kind b up s) → meta_told (block image b) ≡ meta_of image b
+unfolding meta_of
+meta_whole image kind b up s h =
+    let bs : List ℕ = block image b in
+    let most : ℕ = slice_index bs COMMENT in
+    let short : most ≤ 79 = leb-true most 79 (demanded b (head_form kind b up s bs) (nat_le most 79) BadComment h (search rules)) in
+    let same : take 79 (text_at bs COMMENT) ≡ text_at bs COMMENT = take_all 79 (text_at bs COMMENT) (text_short bs COMMENT 79 short) in
+    λ i. record { comment = same i; protect = word bs PROTECTION; stamp = stamp_at bs DATE }
+
+-- the name in a header is one
+name_valid : (image : List ℕ) (kind : Kind) (b up s : ℕ) → AllHold (head_demands image kind b up s) → is_name (name_of image b) ≡ true
+unfolding name_of
+name_valid image kind b up s h =
+    let bs : List ℕ = block image b in
+    let both : is_name_at bs NAME ≡ true = demanded b (head_form kind b up s bs) (is_name_at bs NAME) BadName h (search rules) in
+    (and_parts (nat_le (slice_index bs NAME) 30) (is_name (text_at bs NAME)) both).1
+
+-- a sound file and a directory stand, with the body that the tree has
+
+abbrev file_or : ℕ → Body → Bool → Result Body Why
+file_or secondary file x = cond x (Ok file) (body_of_type secondary)
+
+abbrev by_type : ℕ → Bool → Result Body Why
+by_type secondary x = cond x (Ok Dir) (Err (cond (is_link secondary) Link Damaged))
+
+abbrev dir_or : Body → Bool → Result Body Why
+dir_or file x = Ok (cond x Dir file)
+
+body_stands : (image : List ℕ) (w : List (Role × ℕ)) (sound : ℕ → Bool) (n : ℕ) → sound n ≡ true
+    → (word_in image (node_block w n) SECONDARY_TYPE ≡ ST_DIR) ⊎ (word_in image (node_block w n) SECONDARY_TYPE ≡ ST_FILE)
+    → body_of image w sound n ≡ Ok (body_in image w n (node_block w n))
+body_stands image w sound n s (inl dir) =
+    let t : ℕ = word_in image (node_block w n) SECONDARY_TYPE in
+    let file : Body = File (content image (kind_of image) (node_block w n) (datas_in w n)) in
+    let is : (t == ST_DIR) ≡ true = eq-eqb t ST_DIR dir in
+    let no : (t == ST_FILE) ≡ false = ne_eqb t ST_FILE (λ e. dir_not_file image (node_block w n) dir e) in
+    ap (file_or t file) (and_right (sound n) (t == ST_FILE) no) ∙ (ap (by_type t) is ∙ sym (ap (dir_or file) is))
+body_stands image w sound n s (inr one) =
+    let t : ℕ = word_in image (node_block w n) SECONDARY_TYPE in
+    let file : Body = File (content image (kind_of image) (node_block w n) (datas_in w n)) in
+    let is : (t == ST_FILE) ≡ true = eq-eqb t ST_FILE one in
+    let no : (t == ST_DIR) ≡ false = ne_eqb t ST_DIR (λ e. dir_not_file image (node_block w n) e one) in
+    ap (file_or t file) (and_from (sound n) (t == ST_FILE) s is) ∙ sym (ap (dir_or file) no)
+
+-- what a survey tells of node n is this entry
+pub record IsToldAs (image : List ℕ) (w : List (Role × ℕ)) (sound : ℕ → Bool) (n : ℕ) (e : Entry) : Type 0 where
+  pub parent : parent_node w n ≡ e.parent
+  pub name : name_of image (node_block w n) ≡ e.name
+  pub valid : is_name e.name ≡ true
+  pub meta : meta_told (block image (node_block w n)) ≡ e.meta
+  pub body : body_of image w sound n ≡ Ok e.body
+
+pub told : (image : List ℕ) (w : List (Role × ℕ)) (fs : List FindingValue) (sound : ℕ → Bool) → IsSurvey image w fs → fs ≡ [] → AreMarks image w fs sound
+    → IsWalk image w → (i : ℕ) → i < heads w → (e : Entry) × At (entries_in image w w) i e × IsToldAs image w sound (suc i) e
+told image w fs sound survey clean marks v i lt =
+    let b : ℕ = node_block w (suc i) in
+    let h : HeadAt w (suc i) b = header_at image w fs survey (suc i) (omega arith) (omega arith) in
+    let up = (kept image v (head_role h) b h.has).2 in
+    let form : AllHold (head_demands image (kind_of image) b up.0 h.slot) = up.2 in
+    let is : sound (suc i) ≡ true = (marks (suc i)).1 (all_sound image w fs (suc i) b survey clean h) in (
+      entry_in image w (suc i) h.parent b,
+      entry_has image w v h,
+      record {
+        parent = parent_is image w fs survey (suc i) h.parent h.slot h.place b h.has;
+        name = refl;
+        valid = name_valid image (kind_of image) b up.0 h.slot form;
+        meta = meta_whole image (kind_of image) b up.0 h.slot form;
+        body = body_stands image w sound (suc i) is (head_type image (kind_of image) b up.0 h.slot form);
+      },
+    )

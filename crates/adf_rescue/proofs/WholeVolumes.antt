@@ -1,0 +1,231 @@
+-- The rescue of a volume that a tree fits: all entries stand, and the rescue has the tree.
+-- Letters: t the tree, es its entries, e the next of them; k the number of those before; vs the verdicts on these; x the addition of e;
+-- w the walk of the survey, fs its findings, n a node, h its header's block; p a directory's node, dir its path.
+use Rattle.std.proofs.Common.{◌≡◌, ℕ, zero, suc, List, [], ◌∷◌, ◌++◌, inl, inr, ◌+◌, ◌-◌, ◌<◌, ◌≤◌, length, get_or, take, refl, sym, ap, subst, ◌∙◌, arith}
+use Rattle.std.proofs.Common.{Bool, true, cond, Option, Some, None, Ok, Err, take_all}
+use Rattle.std.specs.Prelude.{◌&&◌, is_ok}
+use Rattle.std.specs.Option.{option_and_then}
+use Rattle.std.proofs.lemmas.Bool.{and_from, cases_lt, le-leb}
+use Rattle.std.proofs.lemmas.List.{append-nil, length_push, length-take-le, take_more}
+use Rattle.std.proofs.lemmas.List.Sums.{fold_push}
+use Rattle.adf_tree.specs.declared.entry.Body.TheVariants.{Dir}
+use Rattle.adf_tree.specs.declared.entry.Entry.{Entry}
+use Rattle.adf_tree.specs.Additions.{Addition, entries_of_additions, with_addition}
+use Rattle.adf_tree.specs.Laws.{IsNextEntry}
+use Rattle.adf_tree.specs.Texts.{is_name}
+use Rattle.adf_tree.specs.Tree.{IsDir, IsTree, Tree, added, directory_from, is_dir_body, room_for, with_entry}
+use Rattle.adf_tree.proofs.TreePrefixes.{first_tree, is_next}
+use Rattle.adf_blocks.specs.Sizes.{blocks}
+use Rattle.adf_volume.specs.Demands.{AllHold, root_demands}
+use Rattle.adf_volume.specs.Fits.{Fits}
+use Rattle.adf_volume.specs.Image.{kind_of, name_of, root_of, stamps_of}
+use Rattle.adf_volume.specs.Layout.{Layout}
+use Rattle.adf_volume.specs.Made.{entries_in, layout_in, tree_in}
+use Rattle.adf_volume.specs.Walk.{IsWalk, Role, heads, node_block}
+use Rattle.adf_volume.proofs.FitWalks.{one_fit}
+use Rattle.adf_volume.proofs.Lists.{at_index_or}
+use Rattle.adf_volume.proofs.WalkMembers.{entries_length}
+use Rattle.adf_survey.specs.Found.{parent_node}
+use Rattle.adf_survey.specs.Marked.{AreMarks}
+use Rattle.adf_survey.specs.Survey.{FindingValue, IsSurvey}
+use Rattle.adf_survey.proofs.FirstFindings.{finds_none, none_found, shown}
+use Rattle.adf_build.specs.Plan.{blocks_needed, entries_blocks, reserved}
+use Rattle.adf_rescue.specs.declared.left_out.Why.TheVariants.{NoRoom}
+use Rattle.adf_rescue.specs.Rescue.{Verdict, additions_of, directory_in, fitting, left_out_from, lost_name, path_by, path_for, path_in, place_of}
+use Rattle.adf_rescue.specs.Rescue.{rescue_leaves, rescued_tree, tree_of, verdict, verdicts}
+use Rattle.adf_rescue.proofs.FitBlocks.{fit_room, front_blocks}
+use Rattle.adf_rescue.proofs.NextEntries.{directory_stays, has_room, new_is, new_leads}
+use Rattle.adf_rescue.proofs.SoundHeaders.{IsToldAs, label_whole, told}
+use Rattle.adf_rescue.proofs.Steps.{additions_more, got_before, got_last, left_out_more, verdict_at}
+
+-- the place of a directory behind one more verdict
+
+place_stays : (vs : List Verdict) (v : Verdict) (p : ℕ) → p ≤ length vs → place_of (vs ++ v ∷ []) p ≡ place_of vs p
+place_stays vs v zero le = refl
+place_stays vs v (suc i) le = ap (option_and_then directory_in) (got_before vs v i (omega arith))
+
+place_new : (vs : List Verdict) (v : Verdict) → place_of (vs ++ v ∷ []) (suc (length vs)) ≡ directory_in v
+place_new vs v = ap (option_and_then directory_in) (got_last vs v)
+
+-- the verdicts on the first k entries add them, and leave out none; their directories are where the paths of the new tree lead
+record IsFront (es : List Entry) (k : ℕ) (vs : List Verdict) : Type 0 where
+  count : length vs ≡ k
+  entries : entries_of_additions (additions_of vs) ≡ take k es
+  none : left_out_from 1 vs ≡ []
+  places : (p : ℕ) → p ≤ k → IsDir es p → (dir : List (List ℕ)) × (place_of vs p ≡ Some dir) × (directory_from (take k es) 0 dir ≡ Ok p)
+
+nothing_yet : (es : List Entry) → IsFront es 0 []
+nothing_yet es = record { count = refl; entries = refl; none = refl; places = at_root }
+  where
+    at_root : (p : ℕ) → p ≤ 0 → IsDir es p → (dir : List (List ℕ)) × (place_of [] p ≡ Some dir) × (directory_from (take 0 es) 0 dir ≡ Ok p)
+    at_root zero le is = ([], refl, refl)
+    at_root (suc i) le is = absurd (omega arith)
+
+-- the addition of an entry in a directory
+abbrev addition : List (List ℕ) → Entry → Addition
+addition dir e = record { path = dir ++ e.name ∷ []; meta = e.meta; body = e.body }
+
+-- one more entry is added
+module _ (es : List Entry) (k : ℕ) (vs : List Verdict) (e : Entry) (t : IsTree es) (lt : k < length es) (here : get_or es k e ≡ e) (f : IsFront es k vs)
+    (dir : List (List ℕ)) (to : directory_from (take k es) 0 dir ≡ Ok e.parent) where
+  abbrev added_verdict : Verdict
+  added_verdict = Ok (addition dir e)
+
+  next : IsNextEntry es k e
+  next = subst (IsNextEntry es k) here (is_next es k e t lt)
+
+  behind : take k es ++ e ∷ [] ≡ take (k + 1) es
+  behind = ap (λ (y : Entry). take k es ++ y ∷ []) (sym here) ∙ sym (take_more es k e lt)
+
+  tree : IsTree (take k es ++ e ∷ [])
+  tree = subst IsTree (sym behind) (first_tree es (k + 1) t (omega arith))
+
+  -- the entries with it are the first k + 1
+  entry_added : with_addition (take k es) (addition dir e) ≡ take (k + 1) es
+  entry_added = ap (added (take k es)) (new_is (take k es) e dir next.may to) ∙ next.added
+
+  entries_more : entries_of_additions (additions_of (vs ++ added_verdict ∷ [])) ≡ take (k + 1) es
+  entries_more =
+      ap entries_of_additions (additions_more vs added_verdict)
+      ∙ (fold_push with_addition [] (additions_of vs) (addition dir e)
+      ∙ (ap (λ (us : List Entry). with_addition us (addition dir e)) f.entries ∙ entry_added))
+
+  place_more : (p : ℕ) → p ≤ k + 1 → IsDir es p
+      → (path : List (List ℕ)) × (place_of (vs ++ added_verdict ∷ []) p ≡ Some path) × (directory_from (take (k + 1) es) 0 path ≡ Ok p)
+  place_more p le is = elim (cases_lt k p) [
+    | inr old ↦
+        let at = f.places p old is in
+        let few : p ≤ length vs = omega (arith, f.count) in (
+          at.0,
+          place_stays vs added_verdict p few ∙ at.1,
+          subst (λ (us : List Entry). directory_from us 0 at.0 ≡ Ok p) behind (directory_stays (take k es) e 0 at.0 p tree at.2),
+        )
+    | inl new ↦
+        let last : p ≡ suc (length vs) = omega (arith, f.count) in
+        let index : p - 1 ≡ k = omega arith in
+        let long : length (take k es) + 1 ≡ p = omega (arith, length-take-le k es (omega arith)) in
+        let body : e.body ≡ Dir = ap (λ (d : Entry). d.body) (sym (ap (λ i. get_or es i e) index ∙ here)) ∙ (is (omega arith)).1 e in
+        let path : List (List ℕ) = dir ++ e.name ∷ [] in (
+          path,
+          ap (place_of (vs ++ added_verdict ∷ [])) last
+              ∙ (place_new vs added_verdict ∙ ap (λ b. cond (is_dir_body b) (Some path) None) body),
+          subst (λ (us : List Entry). directory_from us 0 path ≡ Ok p) behind
+              (subst (λ m. directory_from (take k es ++ e ∷ []) 0 path ≡ Ok m) long (new_leads (take k es) e dir next.may to tree body)),
+        )
+  ]
+
+  front_more : IsFront es (k + 1) (vs ++ added_verdict ∷ [])
+  front_more = record {
+    count = omega (arith, length_push vs added_verdict, f.count);
+    entries = entries_more;
+    none = left_out_more 1 vs added_verdict ∙ (append-nil (left_out_from 1 vs) ∙ f.none);
+    places = place_more;
+  }
+
+-- the verdict on an entry is that it is added, where its path has room and the blocks suffice
+
+abbrev or_else : Option (List (List ℕ)) → Option (List (List ℕ)) → Option (List (List ℕ))
+or_else o other = elim o [ Some path ↦ Some path | None ↦ other ]
+
+own_path : (t : Tree) (dir : List (List ℕ)) (name : List ℕ) (h p : ℕ) → is_name name ≡ true → room_for t.entries (dir ++ name ∷ []) ≡ Ok p
+    → path_for t dir name h ≡ Some (dir ++ name ∷ [])
+own_path t dir name h p valid room =
+    let path : List (List ℕ) = dir ++ name ∷ [] in
+    let both : (is_name name && is_ok (room_for t.entries path)) ≡ true = and_from (is_name name) (is_ok (room_for t.entries path)) valid (ap is_ok room) in
+    let own : path_in t dir name ≡ Some path = ap (λ b. cond b (Some path) None) both in
+    ap (λ o. or_else o (path_in t dir (lost_name h))) own
+
+enough : (t : Tree) (n : ℕ) (x : Addition) → blocks_needed (with_entry t x.path x.meta x.body) n ≤ n - 2 → fitting t n x ≡ Ok x
+enough t n x le =
+    let if_fits : Bool → Verdict = λ b. cond b (Ok x) (Err NoRoom) in
+    ap if_fits (le-leb (blocks_needed (with_entry t x.path x.meta x.body) n) (n - 2) le)
+
+module _ (image : List ℕ) (w : List (Role × ℕ)) (sound : ℕ → Bool) (vs : List Verdict) (n : ℕ) (e : Entry) (is : IsToldAs image w sound n e)
+    (dir : List (List ℕ)) (at : place_of vs e.parent ≡ Some dir) where
+  entry_path : room_for (tree_of image vs).entries (dir ++ e.name ∷ []) ≡ Ok e.parent
+      → path_by (tree_of image vs) (place_of vs (parent_node w n)) (name_of image (node_block w n)) (node_block w n) ≡ Some (dir ++ e.name ∷ [])
+  entry_path room =
+      let t : Tree = tree_of image vs in
+      let h : ℕ = node_block w n in
+      ap (λ p. path_by t (place_of vs p) (name_of image h) h) is.parent
+      ∙ (ap (λ o. path_by t o (name_of image h) h) at
+      ∙ (ap (λ name. path_for t dir name h) is.name ∙ own_path t dir e.name h e.parent is.valid room))
+
+  entry_stands : room_for (tree_of image vs).entries (dir ++ e.name ∷ []) ≡ Ok e.parent
+      → blocks_needed (with_entry (tree_of image vs) (dir ++ e.name ∷ []) e.meta e.body) (blocks image) ≤ blocks image - 2
+      → verdict image w sound vs n ≡ Ok (addition dir e)
+  entry_stands room le =
+      verdict_at image w sound vs n e.body is.body (dir ++ e.name ∷ []) e.meta (entry_path room) (sym is.meta)
+      ∙ enough (tree_of image vs) (blocks image) (addition dir e) le
+
+-- so all entries of a tree that fits are added
+
+module _ (image : List ℕ) (w : List (Role × ℕ)) (fs : List FindingValue) (sound : ℕ → Bool) (survey : IsSurvey image w fs) (clean : fs ≡ [])
+    (marks : AreMarks image w fs sound) (v : IsWalk image w) (fit : Fits image (tree_in image w) (layout_in w)) where
+  abbrev all : List Entry
+  all = entries_in image w w
+
+  -- the first entries have the blocks that they need
+  front_room : (k : ℕ) → 1 + reserved (blocks image) + entries_blocks (kind_of image) (take k all) ≤ blocks image - 2
+  front_room k =
+      let needed : 1 + reserved (blocks image) + entries_blocks (kind_of image) all ≤ blocks image - 2 = fit_room image (tree_in image w) (layout_in w) fit in
+      let fewer = front_blocks (kind_of image) k all in
+      omega arith
+
+  next_front : (k : ℕ) (vs : List Verdict) → k < heads w → IsFront all k vs → IsFront all (suc k) (vs ++ verdict image w sound vs (suc k) ∷ [])
+  next_front k vs lt f =
+      let x = told image w fs sound survey clean marks v k lt in
+      let e : Entry = x.0 in
+      let within : k < length all = omega (arith, entries_length image w w) in
+      let here : get_or all k e ≡ e = at_index_or all k e e x.1 in
+      let up : e.parent ≤ k = subst (λ (d : Entry). d.parent ≤ k) here (fit.tree.parents k e within) in
+      let place = f.places e.parent up (subst (λ (d : Entry). IsDir all d.parent) here (fit.tree.dirs k e within)) in
+      let dir : List (List ℕ) = place.0 in
+      let before : List Entry = entries_of_additions (additions_of vs) in
+      let room : room_for before (dir ++ e.name ∷ []) ≡ Ok e.parent =
+      subst (λ (us : List Entry). room_for us (dir ++ e.name ∷ []) ≡ Ok e.parent) (sym f.entries)
+      (has_room (take k all) e dir (next all k vs e fit.tree within here f dir place.2).may place.2) in
+      let added_one : with_addition before (addition dir e) ≡ take (k + 1) all =
+      ap (λ (us : List Entry). with_addition us (addition dir e)) f.entries ∙ entry_added all k vs e fit.tree within here f dir place.2 in
+      let fits : 1 + reserved (blocks image) + entries_blocks (kind_of image) (with_addition before (addition dir e)) ≤ blocks image - 2 =
+      subst (λ (us : List Entry). 1 + reserved (blocks image) + entries_blocks (kind_of image) us ≤ blocks image - 2) (sym added_one) (front_room (k + 1)) in
+      let is = entry_stands image w sound vs (suc k) e x.2 dir place.1 room fits in
+      let number : k + 1 ≡ suc k = omega arith in
+      subst (λ m. IsFront all m (vs ++ verdict image w sound vs (suc k) ∷ [])) number
+      (subst (λ (u : Verdict). IsFront all (k + 1) (vs ++ u ∷ [])) (sym is) (front_more all k vs e fit.tree within here f dir place.2))
+
+  front : (k : ℕ) → k ≤ heads w → IsFront all k (verdicts image w sound k)
+  front zero le = nothing_yet all
+  front (suc k) le = next_front k (verdicts image w sound k) (omega arith) (front k (omega arith))
+
+-- the tree of the additions is that of the walk
+same_tree : (image : List ℕ) (w : List (Role × ℕ)) (vs : List Verdict) → AllHold (root_demands image (root_of image))
+    → entries_of_additions (additions_of vs) ≡ entries_in image w w → tree_of image vs ≡ tree_in image w
+unfolding stamps_of
+same_tree image w vs root same =
+    let label = label_whole image root in
+    λ i. record { kind = kind_of image; label = label i; stamps = stamps_of image (root_of image); entries = same i }
+
+module _ (image : List ℕ) (t : Tree) (l : Layout) (w : List (Role × ℕ)) (fs : List FindingValue) (sound : ℕ → Bool) (fit : Fits image t l)
+    (survey : IsSurvey image w fs) (marks : AreMarks image w fs sound) where
+  clean : fs ≡ []
+  clean = finds_none image t l w fs fit survey
+
+  unnoted : IsSurvey image w []
+  unnoted = subst (IsSurvey image w) clean survey
+
+  made : Fits image (tree_in image w) (layout_in w)
+  made = none_found image w unnoted
+
+  whole : IsFront (entries_in image w w) (heads w) (verdicts image w sound (heads w))
+  whole = front image w fs sound survey clean marks (shown image unnoted).1 made (heads w) (omega arith)
+
+  pub tree_kept : rescued_tree image w sound ≡ t
+  tree_kept =
+      let all : entries_of_additions (additions_of (verdicts image w sound (heads w))) ≡ entries_in image w w =
+      whole.entries ∙ take_all (heads w) (entries_in image w w) (omega (arith, entries_length image w w)) in
+      same_tree image w (verdicts image w sound (heads w)) made.root all
+      ∙ sym (one_fit image t (tree_in image w) l (layout_in w) fit made).0
+
+  pub none_left : rescue_leaves image w sound ≡ []
+  none_left = whole.none
