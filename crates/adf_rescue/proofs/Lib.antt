@@ -6,3 +6,5 @@ pub mod Steps
 pub mod RescuedTrees
 -- sound files stand, and one survey has one rescue
 pub mod RescueLaws
+-- images whose boot block was overwritten
+pub mod OpenedImages
