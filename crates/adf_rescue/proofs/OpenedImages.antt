@@ -1,8 +1,8 @@
 -- Images whose boot block was overwritten: their blocks, and what stays of their bytes.
-use Rattle.std.proofs.Common.{◌≡◌, ◌<◌, ◌≤◌, ℕ, zero, suc, ◌+◌, ◌*◌, Bool, true, false, cond, ◌||◌, List, [], ◌∷◌, ◌++◌, length, drop}
+use Rattle.std.proofs.Common.{◌≡◌, ◌<◌, ◌≤◌, ℕ, zero, suc, ◌+◌, ◌-◌, ◌*◌, Bool, true, false, cond, ◌||◌, List, [], ◌∷◌, ◌++◌, length, drop}
 use Rattle.std.proofs.Common.{add-one, arith, codes, inl, inr, length-drop, refl, subst}
 use Rattle.std.specs.Prelude.{nat_lt, slice_range}
-use Rattle.std.proofs.lemmas.Bool.{cases_lt, ltb-false, or_from, or_left, or_right}
+use Rattle.std.proofs.lemmas.Bool.{cases_lt, le-ltb, ltb-false, or_from, or_left, or_right}
 use Rattle.std.proofs.lemmas.List.{length-take, take_all}
 use Rattle.adf_fields.specs.Words.{block, with_bytes}
 use Rattle.adf_rescue.specs.Opened.{begins_with_dos, has_data, opened, says_data, type_byte}
@@ -39,9 +39,16 @@ pub begun_anew : (bs : List ℕ) (t : ℕ) → with_bytes bs 0 (68 ∷ 79 ∷ 83
 unfolding with_bytes
 begun_anew bs t = refl
 
+-- as many bytes
+pub length_anew : (image : List ℕ) (t : ℕ) → 4 ≤ length image → length (codes "DOS" ++ t ∷ drop 4 image) ≡ length image
+length_anew image t long = omega (arith, length-drop 4 image)
+
 -- an image that is short or begins with `DOS` stays as it is, and so do the bytes past the first four, and the number of bytes
 abbrev begun : List ℕ → Bool → Bool → ℕ → List ℕ
 begun image short dos t = cond (short || dos) image (codes "DOS" ++ t ∷ drop 4 image)
+
+anew_begun : (image : List ℕ) (short dos : Bool) (t : ℕ) → short ≡ false → dos ≡ false → begun image short dos t ≡ codes "DOS" ++ t ∷ drop 4 image
+anew_begun image short dos t s d = rw (s, d) refl
 
 same_begun : (image : List ℕ) (short dos : Bool) (t : ℕ) → dos ≡ true → begun image short dos t ≡ image
 same_begun image true dos t h = refl
@@ -67,3 +74,8 @@ rest_opened image = rest_begun image (nat_lt (length image) 4) (begins_with_dos 
 
 pub length_opened : (image : List ℕ) → length (opened image) ≡ length image
 length_opened image = length_begun image (nat_lt (length image) 4) (begins_with_dos image) (type_byte image) refl
+
+-- an image that is long enough and does not begin with `DOS` is opened with four other bytes
+pub opened_anew : (image : List ℕ) → 4 ≤ length image → begins_with_dos image ≡ false → opened image ≡ codes "DOS" ++ type_byte image ∷ drop 4 image
+opened_anew image long other =
+    anew_begun image (nat_lt (length image) 4) (begins_with_dos image) (type_byte image) (le-ltb (length image) 4 long) other

@@ -11,5 +11,5 @@ mod standing;
 
 pub use crate::laws::{one_rescue, rescued_additions_have_their_tree, sound_files_stand};
 pub use crate::left_out::{LeftOut, Why};
-pub use crate::opened::{opened as opened_image, opened_keeps};
+pub use crate::opened::{begins_with_dos, opened as opened_image, opened_keeps};
 pub use crate::rescues::{Rescued, rescue};

@@ -1,6 +1,6 @@
 // Images whose boot block was overwritten.
 
-ghost use Rattle.std.specs.Prelude.{◌≡◌, ◌<◌, ◌≤◌, ℕ, List, IfOk, drop, length, true};
+ghost use Rattle.std.specs.Prelude.{◌≡◌, ◌<◌, ◌≤◌, ◌∷◌, ◌++◌, ℕ, List, IfOk, codes, drop, length, true};
 ghost use Rattle.adf_fields.specs.Words.{block};
 ghost use Rattle.adf_blocks.specs.Sizes.{blocks};
 ghost use Rattle.adf_rescue.specs.Opened.{begins_with_dos, has_data, opened, says_data, says_file, type_byte};
@@ -64,30 +64,34 @@ fn type_byte(image: &[u8]) -> u8
     if has_data(image) { 0 } else { 1 }
 }
 
-// Whether an image begins with `DOS`.
-fn begins_with_dos(image: &[u8]) -> bool
-    requires { 4 ≤ length image.now }
+/// Whether an image begins with `DOS`.
+pub fn begins_with_dos(image: &[u8]) -> bool
     ensures { result ≡ begins_with_dos image.now }
 {
-    image[0] == b'D' && image[1] == b'O' && image[2] == b'S'
+    matches!(image, [b'D', b'O', b'S', ..])
+}
+
+// Writes `DOS` and a type in place of the first four bytes of an image.
+#[tactic(auto, using(crate::proofs::OpenedImages::begun_anew))]
+fn begin_anew(image: &mut [u8], type_byte: u8)
+    requires { 4 ≤ length image.old }
+    ensures { image.new ≡ codes "DOS" ++ type_byte ∷ drop 4 image.old }
+{
+    put_bytes(image, 0, &[b'D', b'O', b'S', type_byte]);
 }
 
 /// The image as if its first block began with `DOS` and a type, if it does not begin with `DOS`: OFS (0) if some OFS
 /// data block names a file's header that says that it is one, else FFS (1). An image of fewer than four bytes stays as
 /// it is. `NoMemory` if an allocation fails.
-#[tactic(auto, using(crate::proofs::OpenedImages::begun_anew))]
+#[tactic(auto, using(crate::proofs::OpenedImages::opened_anew, crate::proofs::OpenedImages::length_anew))]
 pub fn opened(alloc: Global, image: &[u8]) -> Result<Vec<u8>, NoMemory>
     ensures { IfOk result (λ v. v.items ≡ opened image.now) }
 {
-    let mut bytes = Vec::new(alloc);
-    if bytes.extend_from_slice(image).is_err() {
-        return Err(NoMemory);
-    }
+    let mut bytes = image.to_vec(alloc).map_err(|_| NoMemory)?;
     if image.len() < 4 || begins_with_dos(image) {
         return Ok(bytes);
     }
-    let start = [b'D', b'O', b'S', type_byte(image)];
-    put_bytes(&mut bytes, 0, &start);
+    begin_anew(&mut bytes, type_byte(image));
     Ok(bytes)
 }
 
