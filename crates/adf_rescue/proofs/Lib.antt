@@ -14,3 +14,5 @@ pub mod NextEntries
 pub mod SoundHeaders
 -- the rescue of a volume that a tree fits
 pub mod WholeVolumes
+-- images whose boot block was overwritten
+pub mod OpenedImages

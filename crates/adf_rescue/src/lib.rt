@@ -3,6 +3,7 @@
 
 mod laws;
 mod left_out;
+mod opened;
 mod rescues;
 mod rooms;
 mod salvage;
@@ -12,4 +13,5 @@ pub use crate::laws::{
     one_rescue, rescued_additions_have_their_tree, sound_files_stand, whole_is_kept,
 };
 pub use crate::left_out::{LeftOut, Why};
+pub use crate::opened::{begins_with_dos, opened as opened_image, opened_keeps};
 pub use crate::rescues::{Rescued, rescue};

@@ -1,0 +1,41 @@
+-- An image whose boot block was overwritten, as if that block began as the boot block of a volume.
+-- Letters: b the number of a block; k a number of blocks.
+use Rattle.std.specs.Prelude.{ℕ, ◌==◌, ◌&&◌, ◌||◌, nat_lt, Bool, false, cond, List, ◌∷◌, ◌++◌, codes, drop, length, slice_index}
+use Rattle.std.proofs.Common.{zero, suc}
+use Rattle.adf_fields.specs.Words.{block, long_sum}
+use Rattle.adf_blocks.specs.declared.layout.TheConstants.{DATA_HEAD, OWN_KEY, SECONDARY_TYPE, ST_FILE, TYPE, T_DATA, T_SHORT}
+use Rattle.adf_blocks.specs.Sizes.{blocks}
+use Rattle.adf_volume.specs.Image.{word_in}
+
+-- block b says that it is a file's header: by its types, its own key and its sum
+abbrev pub says_file : List ℕ → ℕ → Bool
+says_file image b =
+    (word_in image b TYPE == T_SHORT)
+    && (word_in image b OWN_KEY == b)
+    && (word_in image b SECONDARY_TYPE == ST_FILE)
+    && (long_sum (block image b) == 0)
+
+-- block b says that it is an OFS data block of a file whose header says that it is one: by its type, its sum and that header
+abbrev pub says_data : List ℕ → ℕ → Bool
+says_data image b =
+    (word_in image b TYPE == T_DATA)
+    && (long_sum (block image b) == 0)
+    && nat_lt (word_in image b DATA_HEAD) (blocks image)
+    && says_file image (word_in image b DATA_HEAD)
+
+-- one of the first k blocks says so
+unfoldable pub has_data : List ℕ → ℕ → Bool
+has_data image zero = false
+has_data image (suc k) = has_data image k || says_data image k
+
+-- the type that the image is opened with: 0, OFS, if a block says that it is an OFS data block, or else 1, FFS
+abbrev pub type_byte : List ℕ → ℕ
+type_byte image = cond (has_data image (blocks image)) 0 1
+
+-- the image begins with `DOS`
+abbrev pub begins_with_dos : List ℕ → Bool
+begins_with_dos image = (slice_index image 0 == 0x44) && (slice_index image 1 == 0x4F) && (slice_index image 2 == 0x53)
+
+-- the image with `DOS` and a type in place of its first four bytes; the image itself if it has fewer, or begins with `DOS`
+abbrev pub opened : List ℕ → List ℕ
+opened image = cond (nat_lt (length image) 4 || begins_with_dos image) image (codes "DOS" ++ type_byte image ∷ drop 4 image)
