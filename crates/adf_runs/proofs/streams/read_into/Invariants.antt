@@ -4,6 +4,7 @@ use Rattle.adf_runs.proofs.streams.read_into.Given as goal
 
 abbrev pub invariant-loop-filled : goal.invariant-loop-filled
 invariant-loop-filled g l = record {
+  larger : vec_len l.fn.buffer ≤ vec_len l.buffer;
   within : l.filled ≤ vec_len l.buffer;
   limited : l.filled ≤ l.limit + 1;
   works : g.R.Source.has_failed l.input ≡ false;
