@@ -249,11 +249,14 @@ uint8_t adf_run(const uint8_t *words, size_t words_length, const uint8_t *input,
                 uint8_t *output, size_t output_room, uint8_t *errors, size_t errors_room, struct adf_moved *moved);
 
 /* Runs the command `adf-survey` with these words over an image, and returns its status. The words are as for adf_run: so
- * `adf-survey cat c/readme` is "adf-survey\0cat\0c/readme\0", 24 bytes. adf-survey(1) has what it writes.
+ * `adf-survey cat c/readme` is "adf-survey\0cat\0c/readme\0", 24 bytes; with `rescue` the output is a volume of as many bytes as
+ * the image. adf-survey(1) has what it writes.
  *
  * 0: there is no finding, and output is empty; for `cat`, output has the bytes of the file, which is sound. Errors are empty.
  * 1: output has the lines of the findings; for `cat`, it is empty, and errors say `no such path`, `not a file` or `damaged`.
  *    With `--list` the lines of what is found follow those of the findings, at status 0 too.
+ *    For `rescue`, output has the new volume, and errors a line for each entry that it leaves out; or output is empty, and errors
+ *    have the line of the first finding. Where errors_full is set, call again with more room for them.
  * 2, 3: as for adf_run.
  *
  * Nothing is said about the bytes of a room after those that `moved` counts.

@@ -258,6 +258,35 @@ class Surveys(unittest.TestCase):
         self.assertEqual((nothing.findings, nothing.entries), ([adf.Finding(0, 0, "bad size", None, None)], []))
         self.assertEqual((nothing.label, nothing.raw_label), ("", b""))
 
+    def test_rescues_what_stands(self):
+        sound = built("volume ofs 16\nfile 0:0:0 00000000 a\nfill 489 41\ndir 0:0:0 00000000 c\n")
+        self.assertEqual(adf.rescue(sound), (sound, []))
+        new, left_out = adf.rescue(changed(sound, 3, 40, 1))
+        self.assertEqual(left_out, [adf.LeftOut("damaged", "a")])
+        self.assertEqual([entry.path for entry in adf.Volume(new).entries], ["c"])
+        with self.assertRaisesRegex(adf.Refused, "block 0: bad size"):
+            adf.rescue(b"")
+
+    def test_takes_an_image_as_if_it_had_its_blocks(self):
+        sound = built("volume ofs 16\nfile 0:0:0 00000000 a\nfill 489 41\n")
+        cut = adf.survey(sound[:5120], 16)
+        self.assertEqual(cut.findings, [])
+        self.assertEqual(cut.read("a"), b"A" * 489)
+        self.assertEqual(adf.rescue(sound[:5120], 16), (sound, []))
+        with self.assertRaisesRegex(adf.Refused, "block 5: bad type"):
+            adf.rescue(sound[:5120])
+        for blocks in (-1, 1 << 20 | 1):
+            with self.assertRaises(ValueError):
+                adf.survey(sound, blocks)
+
+    def test_tells_all_that_a_rescue_leaves_out(self):
+        names = [f"{number:030}" for number in range(300)]
+        image = built("volume ofs 1760\ndir 0:0:0 00000000 c\n" + "".join(f"file 0:0:0 00000000 {name}\n" for name in names))
+        for block in range(2, 303):
+            image = changed(image, block, 323, 1)
+        _, left_out = adf.rescue(image)
+        self.assertEqual(sorted(entry.path for entry in left_out), names)
+
 
 class Files(unittest.TestCase):
     def setUp(self):

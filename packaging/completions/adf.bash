@@ -17,7 +17,7 @@ _adf_survey() {
     if [[ ${COMP_WORDS[COMP_CWORD - 1]} == [\<\>] ]]; then
         compopt -o default
     elif ((COMP_CWORD == 1)); then
-        COMPREPLY=($(compgen -W "--list cat" -- "$2"))
+        COMPREPLY=($(compgen -W "--blocks --list cat rescue" -- "$2"))
     fi
 }
 

@@ -14,6 +14,7 @@
     with adf.open("large.hdf") as volume:           # at the end the memory is given back
         print(volume.label)
     found = adf.survey(image)                       # of a damaged image: found.findings, found.entries, found.read("c/list")
+    new, left_out = adf.rescue(image)               # a sound volume of all that stands, and the entries that it leaves out
 
 Texts are in Latin-1, as Amigas have them, so each byte is one character and nothing is lost; where a path is given, bytes do
 as well, and mean themselves. `raw_label`, `raw_name`, `raw_path` and `raw_comment` are the bytes.
@@ -45,7 +46,7 @@ NO_MEMORY = 23
 KINDS = ("ofs", "ffs")
 ROLES = ("free", "boot", "root", "page", "map extension", "header", "extension", "data")
 SONAME = "libadf.so.1"
-FIRST_ROOM, FIRST_OUTPUT, MOST_OUTPUT, MOST_ERRORS, LONGEST_CAUSE = 2048, 4096, 1 << 32, 4096, 64
+FIRST_ROOM, FIRST_OUTPUT, FIRST_ERRORS, MOST_OUTPUT, LONGEST_CAUSE = 2048, 4096, 4096, 1 << 32, 64
 EPOCH = datetime.datetime(1978, 1, 1)
 LAST_DAY = (datetime.datetime.max - EPOCH).days
 
@@ -186,9 +187,14 @@ def _accept(number: int, block: int, filename: Path | None = None) -> None:
     if number == NO_MEMORY:
         raise MemoryError
     if number != 0:
-        room = ctypes.create_string_buffer(LONGEST_CAUSE)
-        length = _calls().adf_cause_text(number, room, len(room))
-        raise Refused(room.raw[:length].decode("ascii"), block, number, filename)
+        raise Refused(_cause(number), block, number, filename)
+
+
+def _cause(number: int) -> str:
+    """The text of a cause."""
+    room = ctypes.create_string_buffer(LONGEST_CAUSE)
+    length = _calls().adf_cause_text(number, room, len(room))
+    return room.raw[:length].decode("ascii")
 
 
 def check(image: Image) -> Verdict:
@@ -204,14 +210,19 @@ def _run(call: Any, program: str, words: Iterable[str], given: Image) -> tuple[i
     line = b"".join(word.encode() + b"\0" for word in all_words)
     if line.count(b"\0") != len(all_words):
         raise ValueError("a word has a zero byte")
-    errors, moved, room = ctypes.create_string_buffer(MOST_ERRORS), _Moved(), len(given) + FIRST_OUTPUT
+    moved, most_output, most_errors = _Moved(), len(given) + FIRST_OUTPUT, FIRST_ERRORS
     while True:
-        output = ctypes.create_string_buffer(room)
-        rooms = (output, room, errors, MOST_ERRORS, ctypes.byref(moved))
+        output, errors = ctypes.create_string_buffer(most_output), ctypes.create_string_buffer(most_errors)
+        rooms = (output, most_output, errors, most_errors, ctypes.byref(moved))
         status = call(line, len(line), given, len(given), *rooms)
-        if not moved.output_full or room >= MOST_OUTPUT:
+        more_output = moved.output_full and most_output < MOST_OUTPUT
+        more_errors = moved.errors_full and most_errors < MOST_OUTPUT
+        if not more_output and not more_errors:
             return status, ctypes.string_at(output, moved.output), ctypes.string_at(errors, moved.errors)
-        room = min(4 * room, MOST_OUTPUT)
+        if more_output:
+            most_output = min(4 * most_output, MOST_OUTPUT)
+        if more_errors:
+            most_errors = min(4 * most_errors, MOST_OUTPUT)
 
 
 def run(words: Iterable[str], given: Image = b"") -> tuple[int, bytes, bytes]:
@@ -220,9 +231,39 @@ def run(words: Iterable[str], given: Image = b"") -> tuple[int, bytes, bytes]:
     return _run(_calls().adf_run, "adf", words, given)
 
 
-def survey(image: Image) -> Survey:
-    """All that is wrong with an image, and what is found in it all the same."""
-    return Survey(image)
+def survey(image: Image, blocks: int | None = None) -> Survey:
+    """All that is wrong with an image, and what is found in it all the same; with a number of blocks as if it had so many."""
+    return Survey(image, blocks)
+
+
+def _sized(blocks: int | None) -> list[str]:
+    """The words for a number of blocks."""
+    if blocks is None:
+        return []
+    if not 0 <= blocks <= MOST_BYTES // BLOCK:
+        raise ValueError(f"{blocks} blocks")
+    return ["--blocks", str(blocks)]
+
+
+class LeftOut(NamedTuple):
+    """An entry that a rescue leaves out: why, `damaged`, `link` or `no room`, and its path."""
+
+    why: str
+    path: str
+
+
+def rescue(image: Image, blocks: int | None = None) -> tuple[bytes, list[LeftOut]]:
+    """A new, sound volume of as many bytes with all that stands in an image, and the entries that are found and left out; with a
+    number of blocks as if the image had so many. Refused where nothing stands."""
+    status, volume, errors = _run(_calls().adf_survey_run, "adf-survey", [*_sized(blocks), "rescue"], image)
+    if status == 3:
+        raise MemoryError(errors.decode("ascii").strip())
+    if not volume:
+        place, _, cause = errors.decode("ascii").strip().partition(": ")
+        number = next(number for number in range(1, NO_MEMORY + 1) if _cause(number) == cause)
+        raise Refused(cause, int(place[len("block ") :]), number)
+    lines = (line.partition(": ") for line in errors.decode("ascii").splitlines())
+    return volume, [LeftOut(why, _plain(path)) for why, _, path in lines]
 
 
 class Finding(NamedTuple):
@@ -263,19 +304,20 @@ class _ReadOnly:
 
 class Survey(_ReadOnly):
     """What is found in an image by `adf-survey`: findings, in its order; entries, in its order; raw_label and label, empty where
-    none is found; image, its bytes.
+    none is found; image, its bytes; blocks, as how many it is taken, if that was asked.
 
     It has no findings exactly where `Volume` takes the image, and the first of them is what `Refused` says.
     """
 
     image: bytes
+    blocks: int | None
     findings: list[Finding]
     entries: list[Found]
     raw_label: bytes
     label: str
 
-    def __init__(self, image: Image) -> None:
-        vars(self).update(image=_bytes(image), findings=[], entries=[], raw_label=b"", label="")
+    def __init__(self, image: Image, blocks: int | None = None) -> None:
+        vars(self).update(image=_bytes(image), blocks=blocks, findings=[], entries=[], raw_label=b"", label="")
         for line in self._answer(["--list"]).decode("ascii").splitlines():
             word, _, rest = line.partition(" ")
             if word in ("block", "blocks"):
@@ -296,7 +338,7 @@ class Survey(_ReadOnly):
             raise KeyError(path) from None
 
     def _answer(self, words: list[str], path: str | bytes | None = None) -> bytes:
-        status, output, errors = _run(_calls().adf_survey_run, "adf-survey", words, self.image)
+        status, output, errors = _run(_calls().adf_survey_run, "adf-survey", [*_sized(self.blocks), *words], self.image)
         if status == 3:
             raise MemoryError(errors.decode("ascii").strip())
         if errors in (b"no such path\n", b"bad path\n"):

@@ -1,8 +1,8 @@
 use crate::ffi::{self, Moved, Program};
 
 const FIRST_OUTPUT: usize = 1 << 20;
+const FIRST_ERRORS: usize = 1024;
 const MOST_OUTPUT: usize = 1 << 32;
-const MOST_ERRORS: usize = 1024;
 
 /// What a run of the command came to.
 #[derive(Clone, Debug, PartialEq, Eq)]
@@ -21,7 +21,8 @@ pub fn run(words: &[&str], input: &[u8]) -> Answer {
 }
 
 /// Runs the command `adf-survey` with these words over an image: `survey(&[], image)` has a line for each finding,
-/// `survey(&["--list"], image)` behind them what is found, and `survey(&["cat", path], image)` the bytes of a sound file.
+/// `survey(&["--list"], image)` behind them what is found, `survey(&["cat", path], image)` the bytes of a sound file, and
+/// `survey(&["rescue"], image)` a new volume of all that stands.
 pub fn survey(words: &[&str], image: &[u8]) -> Answer {
     run_program(Program::Survey, "adf-survey", words, image)
 }
@@ -36,24 +37,32 @@ fn run_program(program: Program, name: &str, words: &[&str], input: &[u8]) -> An
     run_with_more(first, MOST_OUTPUT, |output, errors| ffi::run(program, &line, input, output, errors))
 }
 
-/// Calls with a room for output that is doubled while it is too small, up to the largest.
+/// Calls with rooms that are doubled while they are too small, up to the largest.
 fn run_with_more(first: usize, most: usize, mut call: impl FnMut(&mut [u8], &mut [u8]) -> (u8, Moved)) -> Answer {
-    let mut errors = vec![0; MOST_ERRORS];
-    let mut output = Vec::new();
-    let mut room = first;
+    let (mut output, mut output_room) = (Vec::new(), first);
+    let (mut errors, mut errors_room) = (Vec::new(), FIRST_ERRORS.min(most));
     loop {
-        if output.try_reserve_exact(room).is_err() {
+        if output.try_reserve_exact(output_room).is_err() || errors.try_reserve_exact(errors_room).is_err() {
             return Answer { status: 3, output: Vec::new(), errors: b"no memory\n".to_vec() };
         }
-        output.resize(room, 0);
+        output.resize(output_room, 0);
+        errors.resize(errors_room, 0);
         let (status, moved) = call(&mut output, &mut errors);
-        if !moved.output_full || room >= most {
+        let more_output = moved.output_full && output_room < most;
+        let more_errors = moved.errors_full && errors_room < most;
+        if !more_output && !more_errors {
             output.truncate(moved.output);
             errors.truncate(moved.errors);
             return Answer { status, output, errors };
         }
         output.clear();
-        room = (2 * room).min(most);
+        errors.clear();
+        if more_output {
+            output_room = (2 * output_room).min(most);
+        }
+        if more_errors {
+            errors_room = (2 * errors_room).min(most);
+        }
     }
 }
 

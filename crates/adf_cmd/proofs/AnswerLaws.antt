@@ -18,7 +18,7 @@ use Rattle.adf_cmd.specs.Answers.{Answer, BuildsOrIsFull, Copies, IsBuilt, Refus
 use Rattle.adf_runs.specs.Commands.{Reply, WritesFront, on_errors, on_output}
 use Rattle.adf_words.specs.CommandLine.{build, cat, check, convert, list}
 use Rattle.adf_manifest.specs.Manifest.{ExplainsFault, IsManifest}
-use Rattle.adf_runs.specs.Outcomes.{EndsBy, after_writing, outcome_line, status_of}
+use Rattle.adf_runs.specs.Outcomes.{EndsBy, after_writing, outcome_text, status_of}
 use Rattle.adf_cmd.specs.Refusals.{IsFaultOutcome, IsRefusedImage}
 use Rattle.adf_texts.specs.Lines.{fault_line}
 use Rattle.adf_texts.specs.VolumeLines.{volume_lines}

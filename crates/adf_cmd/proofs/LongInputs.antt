@@ -39,7 +39,7 @@ bad_size : (image : List ℕ) → 512 * MOST_BLOCKS < length image → FirstFaul
 bad_size image h = at_boot (inl (too_large image h, refl, refl))
 
 -- the first fault of the front of a long image is that of the whole
-long_fault : (image bytes : List ℕ) (f : Fault) → 512 * MOST_BLOCKS < length image → 512 * MOST_BLOCKS < length bytes
+pub long_fault : (image bytes : List ℕ) (f : Fault) → 512 * MOST_BLOCKS < length image → 512 * MOST_BLOCKS < length bytes
     → FirstFault image f.block f.cause → FirstFault bytes f.block f.cause
 long_fault image bytes f front long first =
     let same = one_fault image f.block f.cause 0 BadSize first (bad_size image front) in

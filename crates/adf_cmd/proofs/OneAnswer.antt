@@ -46,7 +46,7 @@ one_line input f g p q =
 not_both : (input : List ℕ) (f : Fault) (t : Tree) (l : Layout) → FirstFault input f.block f.cause → Fits input t l → ⊥
 not_both input f t l first fits = none_fits input f.block f.cause t l first fits
 
-refused_once : (input : List ℕ) (a b : Reply) → RefusesImage input a → RefusesImage input b → a ≡ b
+pub refused_once : (input : List ℕ) (a b : Reply) → RefusesImage input a → RefusesImage input b → a ≡ b
 refused_once input a b (f, first, x) (g, also, y) = x ∙ ap (on_errors 1) (one_line input f g first also) ∙ sym y
 
 accepted_once : (input : List ℕ) (a b : Reply) → Accepts input a → Accepts input b → a ≡ b

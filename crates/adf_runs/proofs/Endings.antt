@@ -4,7 +4,7 @@ use Rattle.std.proofs.Common.{length, take, length-take}
 use Rattle.std.proofs.lemmas.Bool.{cases_lt}
 use Rattle.std.proofs.lemmas.List.{take_all}
 use Rattle.adf_runs.specs.Commands.{Reply, WritesFront}
-use Rattle.adf_runs.specs.Outcomes.{EndsBy, after_writing, outcome_line, status_of}
+use Rattle.adf_runs.specs.Outcomes.{EndsBy, after_writing, outcome_text, status_of}
 use Rattle.adf_runs.specs.Streams.{is_device}
 use Rattle.adf_runs.specs.declared.outcome.Outcome.{Outcome}
 use Rattle.adf_runs.specs.declared.outcome.Outcome.TheVariants.{ReadFault, WriteFault, NoMemory}
@@ -18,7 +18,7 @@ ends_weaker few more ReadFault o o' f h = h
 ends_weaker few more WriteFault o o' f h = (h.0, f h.0 h.1, h.2)
 ends_weaker few more NoMemory o o' f (inl none) = inl none
 ends_weaker few more NoMemory o o' f (inr h) = inr (h.0, f h.0 h.1, h.2)
-ends_weaker few more w o o' f h = (h.0, f (record { status = status_of w; output = h.0; errors = outcome_line w }) h.1, h.2)
+ends_weaker few more w o o' f h = (h.0, f (record { status = status_of w; output = h.0; errors = outcome_text w }) h.1, h.2)
 
 -- a fault in writing leaves a front part of an answer, and not all where the device failed
 pub front_ends : {failed : Bool} (f : StreamFault) (w : Outcome) (answers : Reply → Type 0) (o o' : Option (List ℕ)) → w ≡ after_writing f
@@ -28,7 +28,7 @@ front_ends StreamNoMemory w answers o o' e d h = rw e (inr (rw d at h))
 
 -- what is done with the bytes that are read is done with the whole input, where that is known and what answers a long front answers the whole
 pub read_ends : (w : Outcome) (limit : ℕ) (answers : List ℕ → Reply → Type 0) (image : List ℕ) (left o o' : Option (List ℕ))
-    → ((bytes : List ℕ) → limit < length image → limit < length bytes → (reply : Reply) → answers image reply → answers bytes reply)
+    → ((bytes : List ℕ) → image ≡ take (limit + 1) bytes → limit < length image → limit < length bytes → (reply : Reply) → answers image reply → answers bytes reply)
     → IfSome left (λ bytes. image ≡ take (limit + 1) bytes)
     → EndsBy (answers image) w o o' → IfSome left (λ bytes. EndsBy (answers bytes) w o o')
 read_ends w limit answers image None o o' both e h = tt
@@ -36,5 +36,5 @@ read_ends w limit answers image (Some bytes) o o' both e h = elim (cases_lt limi
   | inr short ↦ subst (λ l. EndsBy (answers l) w o o') (e ∙ take_all (limit + 1) bytes (omega arith)) h
   | inl long ↦
       let cut : limit < length image = rw e (omega (arith, length-take {A = ℕ})) in
-      ends_weaker (answers image) (answers bytes) w o o' (both bytes cut long) h
+      ends_weaker (answers image) (answers bytes) w o o' (both bytes e cut long) h
 ]

@@ -5,13 +5,14 @@ use Rattle.adf_runs.specs.Commands.{Reply, WritesFront}
 use Rattle.adf_runs.specs.declared.streams.StreamFault.{StreamFault}
 use Rattle.adf_runs.specs.declared.streams.StreamFault.TheVariants.{Device, NoMemory as StreamNoMemory}
 use Rattle.adf_runs.specs.declared.outcome.Outcome.{Outcome}
-use Rattle.adf_runs.specs.declared.outcome.Outcome.TheVariants.{Done, FaultWritten, Refused, NoSuchPath, NotAFile, Damaged, ReadFault, WriteFault, NoMemory}
+use Rattle.adf_runs.specs.declared.outcome.Outcome.TheVariants.{Done, FaultWritten, Refused, LeftOut, NoSuchPath, NotAFile, Damaged, ReadFault, WriteFault, NoMemory}
 
 -- the exit status of an outcome
 abbrev pub status_of : Outcome → ℕ
 status_of Done = 0
 status_of FaultWritten = 1
 status_of (Refused line) = 1
+status_of (LeftOut lines) = 1
 status_of NoSuchPath = 1
 status_of NotAFile = 1
 status_of Damaged = 1
@@ -20,16 +21,17 @@ status_of WriteFault = 3
 status_of NoMemory = 3
 
 -- what is said on errors
-abbrev pub outcome_line : Outcome → List ℕ
-outcome_line Done = []
-outcome_line FaultWritten = []
-outcome_line (Refused line) = string_bytes line
-outcome_line NoSuchPath = codes "no such path\n"
-outcome_line NotAFile = codes "not a file\n"
-outcome_line Damaged = codes "damaged\n"
-outcome_line ReadFault = codes "read fault\n"
-outcome_line WriteFault = codes "write fault\n"
-outcome_line NoMemory = codes "no memory\n"
+abbrev pub outcome_text : Outcome → List ℕ
+outcome_text Done = []
+outcome_text FaultWritten = []
+outcome_text (Refused line) = string_bytes line
+outcome_text (LeftOut lines) = lines.items
+outcome_text NoSuchPath = codes "no such path\n"
+outcome_text NotAFile = codes "not a file\n"
+outcome_text Damaged = codes "damaged\n"
+outcome_text ReadFault = codes "read fault\n"
+outcome_text WriteFault = codes "write fault\n"
+outcome_text NoMemory = codes "no memory\n"
 
 -- whether an outcome is that input failed
 abbrev pub is_read_fault : Outcome → Bool
@@ -60,7 +62,7 @@ after_writing StreamNoMemory = NoMemory
 -- output got one of these answers, at the status of the outcome and with its line on errors
 abbrev pub WritesOne : (Reply → Type 0) → Outcome → Option (List ℕ) → Option (List ℕ) → Type 0
 WritesOne answers w o o' =
-    (output : List ℕ) × answers (record { status = status_of w; output = output; errors = outcome_line w }) × Appends o o' output
+    (output : List ℕ) × answers (record { status = status_of w; output = output; errors = outcome_text w }) × Appends o o' output
 
 -- what an outcome says of what was added to output, where these are the answers
 abbrev pub EndsBy : (Reply → Type 0) → Outcome → Option (List ℕ) → Option (List ℕ) → Type 0

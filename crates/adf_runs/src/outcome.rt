@@ -1,7 +1,7 @@
 // How the work of a command went.
 
 ghost use Rattle.std.specs.Prelude.{◌≡◌, false};
-ghost use Rattle.adf_runs.specs.Outcomes.{after_reading, after_writing, outcome_line, status_of};
+ghost use Rattle.adf_runs.specs.Outcomes.{after_reading, after_writing, outcome_text, status_of};
 ghost use Rattle.adf_runs.specs.Streams.{Says};
 
 use crate::devices::Sink;
@@ -18,6 +18,8 @@ pub enum Outcome {
     FaultWritten,
     /// The input is refused, and errors are to get this line.
     Refused(String),
+    /// The answer is written, and errors are to get these lines on what it leaves out.
+    LeftOut(Vec<u8>),
     /// Nothing is there under the path.
     NoSuchPath,
     /// The path leads to the root or a directory.
@@ -78,6 +80,7 @@ impl Outcome {
             Outcome::Done => 0,
             Outcome::FaultWritten => 1,
             Outcome::Refused(_) => 1,
+            Outcome::LeftOut(_) => 1,
             Outcome::NoSuchPath => 1,
             Outcome::NotAFile => 1,
             Outcome::Damaged => 1,
@@ -88,19 +91,20 @@ impl Outcome {
     }
 
     /// What is said on errors.
-    pub fn line(&self) -> &str
-        ensures { result.now ≡ outcome_line self.now }
+    pub fn text(&self) -> &[u8]
+        ensures { result.now ≡ outcome_text self.now }
     {
         match self {
-            Outcome::Done => "",
-            Outcome::FaultWritten => "",
-            Outcome::Refused(line) => line.as_str(),
-            Outcome::NoSuchPath => "no such path\n",
-            Outcome::NotAFile => "not a file\n",
-            Outcome::Damaged => "damaged\n",
-            Outcome::ReadFault => "read fault\n",
-            Outcome::WriteFault => "write fault\n",
-            Outcome::NoMemory => "no memory\n",
+            Outcome::Done => b"",
+            Outcome::FaultWritten => b"",
+            Outcome::Refused(line) => line.as_bytes(),
+            Outcome::LeftOut(lines) => lines.as_slice(),
+            Outcome::NoSuchPath => b"no such path\n",
+            Outcome::NotAFile => b"not a file\n",
+            Outcome::Damaged => b"damaged\n",
+            Outcome::ReadFault => b"read fault\n",
+            Outcome::WriteFault => b"write fault\n",
+            Outcome::NoMemory => b"no memory\n",
         }
     }
 
@@ -109,9 +113,9 @@ impl Outcome {
         requires { E.has_failed errors.old ≡ false }
         ensures status { result ≡ status_of self.now }
         ensures said { Says (E.has_failed errors.new) (E.held errors.old) (E.held errors.new)
-            (outcome_line self.now) }
+            (outcome_text self.now) }
     {
-        say(errors, self.line());
+        say(errors, self.text());
         self.status()
     }
 }

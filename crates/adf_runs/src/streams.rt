@@ -1,6 +1,6 @@
 // Whole reads and writes over devices.
 
-ghost use Rattle.std.specs.Prelude.{◌≡◌, [], ◌+◌, ◌<◌, ◌≤◌, ◌^◌, false, is_err, IfOk, List, OnOk, OnErr, Option, length, take, vec_len, ℕ};
+ghost use Rattle.std.specs.Prelude.{◌≡◌, [], ◌+◌, ◌<◌, ◌≤◌, ◌^◌, false, is_err, IfErr, IfOk, IsOk, List, OnOk, OnErr, Option, length, take, vec_len, ℕ};
 ghost use Rattle.std.specs.Io.KnownBytes.{Appends, Consumes, IsAtEnd, Keeps};
 ghost use Rattle.adf_runs.specs.Streams.{AppendsPart, AreFirst, KeepsPending, Says, TakesAtMost, is_device};
 
@@ -76,6 +76,8 @@ fn make_room(buffer: &mut Vec<u8>, filled: usize) -> Result<(), AllocError>
     ensures kept { take filled buffer.new.items ≡ take filled buffer.old.items }
     ensures within { filled ≤ vec_len buffer.new }
     ensures room { OnOk result (filled < vec_len buffer.new) }
+    ensures larger { vec_len buffer.old ≤ vec_len buffer.new }
+    ensures enough { filled < vec_len buffer.old → IsOk result }
 {
     if filled < buffer.len() {
         return Ok(());
@@ -126,6 +128,11 @@ pub fn read_into<R: Source>(
     ensures at_most { TakesAtMost (limit + 1) (R.left input.old) (R.left input.new) }
     ensures failed { R.has_failed input.new ≡ is_device result }
     ensures reliable { R.may_fail input.old ≡ false → R.has_failed input.new ≡ false }
+
+    // The buffer never shrinks, and one with room for a byte more than the limit wants no memory.
+    ensures larger { vec_len buffer.old ≤ vec_len buffer.new }
+    ensures enough { limit < vec_len buffer.old
+        → IfErr result (λ fault. fault ≡ StreamFault.Device) }
 {
     let mut filled = 0usize;
     while filled <= limit {
@@ -184,11 +191,11 @@ pub fn write_all<W: Sink>(output: &mut W, bytes: &[u8]) -> Result<(), Failed>
 }
 
 /// Writes a text, and lets a failure be.
-pub fn say<E: Sink>(errors: &mut E, text: &str)
+pub fn say<E: Sink>(errors: &mut E, text: &[u8])
     requires { E.has_failed errors.old ≡ false }
     ensures { Says (E.has_failed errors.new) (E.held errors.old) (E.held errors.new) text.now }
 {
-    let _ = write_all(errors, text.as_bytes());
+    let _ = write_all(errors, text);
 }
 
 /// Writes the text that waits once it is long, from 64 KiB on; then none waits. `Failed` where the writer

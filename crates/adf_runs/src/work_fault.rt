@@ -89,7 +89,7 @@ impl WorkFault {
             WorkFault::BadPath => "bad path\n",
             WorkFault::NoMemory => "no memory\n",
         };
-        say(errors, line);
+        say(errors, line.as_bytes());
         self.status()
     }
 }

@@ -36,7 +36,7 @@ fn run_names<N: Names, F: Files, W: Sink, E: Sink>(
     match write_verdicts(alloc, names, files, output) {
         Ok(status) => status,
         Err(stop) => {
-            say(errors, stop.line());
+            say(errors, stop.line().as_bytes());
             3
         }
     }
@@ -122,11 +122,11 @@ pub fn run<B: BufRead, F: Files, W: Sink, E: Sink>(
     match parse_shelf(alloc, words) {
         Ok(order) => run_order(alloc, &order, input, files, output, errors),
         Err(WordsFault::Usage) => {
-            say(errors, USAGE);
+            say(errors, USAGE.as_bytes());
             2
         }
         Err(WordsFault::NoMemory) => {
-            say(errors, Stop::NoMemory.line());
+            say(errors, Stop::NoMemory.line().as_bytes());
             3
         }
     }

@@ -6,3 +6,5 @@ pub mod FindingStatus
 pub mod FoundTexts
 pub mod LongSurveys
 pub mod OneAnswer
+pub mod RescueAnswers
+pub mod SizedImages

@@ -1,7 +1,8 @@
 -- What is answered to the front of an input that is longer than the largest image is answered to the whole of it.
 -- Letters: w the walk of a survey, fs its findings; n an entry's node.
-use Rattle.std.proofs.Common.{◌≡◌, ◌<◌, ◌*◌, ◌∙◌, ◌++◌, false, inl, inr, ℕ, List, [], ◌∷◌, None, refl, ap, subst}
-use Rattle.std.proofs.Common.{length}
+use Rattle.std.proofs.Common.{◌≡◌, ◌<◌, ◌≤◌, ◌+◌, ◌-◌, ◌*◌, ◌∙◌, ◌++◌, false, inl, inr, ℕ, List, [], ◌∷◌, Option, None, Some, refl, ap, ap₂, arith, subst}
+use Rattle.std.proofs.Common.{length, replicate, take}
+use Rattle.std.proofs.lemmas.List.{take-take}
 use Rattle.adf_blocks.specs.declared.layout.TheConstants.{MOST_BLOCKS}
 use Rattle.adf_blocks.specs.declared.cause.Cause.TheVariants.{BadSize}
 use Rattle.adf_volume.specs.Walk.{Role}
@@ -12,10 +13,13 @@ use Rattle.adf_survey.specs.Survey.IsSurvey.{unread}
 use Rattle.adf_survey.specs.Survey.UnreadTells.{bad_boot}
 use Rattle.adf_survey.proofs.OneSurvey.{one_survey}
 use Rattle.adf_runs.specs.Commands.{Reply, on_output}
-use Rattle.adf_cmd.proofs.LongInputs.{too_large}
-use Rattle.adf_survey_cmd.specs.Answers.{CopiesFound, SurveyAnswer, TellsFound, findings_status}
-use Rattle.adf_words.specs.SurveyLine.{InquiryValue, cat, list, report}
+use Rattle.adf_rescue.specs.Opened.{opened}
+use Rattle.adf_rescue.proofs.OpenedImages.{length_opened}
+use Rattle.adf_cmd.proofs.LongInputs.{long_fault, too_large}
+use Rattle.adf_survey_cmd.specs.Answers.{CopiesFound, QuestionAnswer, SurveyAnswer, TellsFound, findings_status, meant, sized}
+use Rattle.adf_words.specs.SurveyLine.{AreFew, InquiryValue, QuestionValue, cat, list, report, rescue}
 use Rattle.adf_survey_cmd.specs.Lines.{findings_text, runs_from}
+use Rattle.adf_survey_cmd.specs.Rescues.{RescuesFound}
 
 -- an input of a bad size has this finding
 bad_size : List FindingValue
@@ -45,6 +49,21 @@ same_found image bytes names reply (inr (n, leads, inl (none, e))) = inr (n, sam
 same_found image bytes names reply (inr (n, leads, inr (inl (file, damage, e)))) = absurd file.1.header.has
 same_found image bytes names reply (inr (n, leads, inr (inr (sound, e)))) = absurd sound.0.header.has
 
+it_finds : bad_size ≡ [] → ⊥
+unfolding bad_size
+it_finds e = cc
+
+-- nothing stands, and the first fault is told
+same_rescue : (image bytes opened_image opened_bytes : List ℕ) (reply : Reply) → 512 * MOST_BLOCKS < length image → 512 * MOST_BLOCKS < length bytes
+    → RescuesFound image opened_image [] bad_size reply → RescuesFound bytes opened_bytes [] bad_size reply
+same_rescue image bytes opened_image opened_bytes reply a b (sound, marks, inl (none, (f, first, e))) =
+    ((λ n. false), no_marks opened_bytes, inl ((refl, it_finds), (f, long_fault image bytes f a b first, e)))
+same_rescue image bytes opened_image opened_bytes reply a b (sound, marks, inr (some, e)) = absurd (some (refl, it_finds))
+
+-- an image that is opened is as long
+long_opened : (image : List ℕ) → 512 * MOST_BLOCKS < length image → 512 * MOST_BLOCKS < length (opened image)
+long_opened image h = omega (arith, h, length_opened image)
+
 -- of an input of a bad size, whatever holds of its walk and its findings holds of these
 of_long : (image : List ℕ) (w : List (Role × ℕ)) (fs : List FindingValue) (holds : List (Role × ℕ) → List FindingValue → Type 0)
     → 512 * MOST_BLOCKS < length image → IsSurvey image w fs → holds w fs → holds [] bad_size
@@ -52,16 +71,42 @@ of_long image w fs holds long s h =
     let same = one_survey image w [] fs bad_size s (long_survey image long) in
     subst (λ (u : List (Role × ℕ)). holds u bad_size) same.0 (subst (λ (gs : List FindingValue). holds w gs) same.1 h)
 
-pub long_answers : (r : InquiryValue) (image bytes : List ℕ) → 512 * MOST_BLOCKS < length image → 512 * MOST_BLOCKS < length bytes → (reply : Reply)
-    → SurveyAnswer r image reply → SurveyAnswer r bytes reply
-long_answers report image bytes a b reply (w, fs, s, e) =
+long_questions : (q : QuestionValue) (image bytes : List ℕ) → 512 * MOST_BLOCKS < length image → 512 * MOST_BLOCKS < length bytes → (reply : Reply)
+    → QuestionAnswer q image reply → QuestionAnswer q bytes reply
+long_questions report image bytes a b reply (w, fs, s, e) =
     let told = of_long image w fs (λ u gs. reply ≡ on_output (findings_status gs) (findings_text image u gs)) a s e in
     ([], bad_size, long_survey bytes b, told ∙ ap (on_output (findings_status bad_size)) (same_text image bytes))
-long_answers list image bytes a b reply (w, fs, s, told) =
+long_questions list image bytes a b reply (w, fs, s, told) =
     let (date, dates, sound, marks, e) = of_long image w fs (λ u gs. TellsFound image u gs reply) a s told in
     let same = ap (λ t. on_output (findings_status bad_size) (t ++ [])) (same_text image bytes) in
     ([], bad_size, long_survey bytes b, (date, dates, (λ n. false), no_marks bytes, e ∙ same))
-long_answers (cat path) image bytes a b reply (inl bad) = inl bad
-long_answers (cat path) image bytes a b reply (inr (names, text, w, fs, s, found)) =
+long_questions (cat path) image bytes a b reply (inl bad) = inl bad
+long_questions (cat path) image bytes a b reply (inr (names, text, w, fs, s, found)) =
     let same = of_long image w fs (λ u gs. CopiesFound image u gs names reply) a s found in
     inr (names, text, [], bad_size, long_survey bytes b, same_found image bytes names reply same)
+long_questions rescue image bytes a b reply (w, fs, s, found) = (
+  [],
+  bad_size,
+  long_survey (opened bytes) (long_opened bytes b),
+  same_rescue image bytes (opened image) (opened bytes) reply a b
+      (of_long (opened image) w fs (λ u gs. RescuesFound image (opened image) u gs reply) (long_opened image a) s found),
+)
+
+-- an image of n blocks is made of the front alone
+same_sized : (n : ℕ) (image bytes : List ℕ) → n ≤ MOST_BLOCKS → image ≡ take (512 * MOST_BLOCKS + 1) bytes → 512 * MOST_BLOCKS < length image
+    → 512 * MOST_BLOCKS < length bytes → sized n image ≡ sized n bytes
+same_sized n image bytes few e a b =
+    let front : take (512 * n) image ≡ take (512 * n) bytes =
+    ap (take (512 * n)) e ∙ take-take (512 * n) (512 * MOST_BLOCKS + 1) bytes (omega (arith, few)) in
+    let none : 512 * n - length image ≡ 512 * n - length bytes = omega arith in
+    ap₂ (λ (kept : List ℕ) (k : ℕ). kept ++ replicate k 0) front none
+
+long_meant : (blocks : Option ℕ) (q : QuestionValue) (image bytes : List ℕ) → AreFew blocks → image ≡ take (512 * MOST_BLOCKS + 1) bytes
+    → 512 * MOST_BLOCKS < length image → 512 * MOST_BLOCKS < length bytes → (reply : Reply) → QuestionAnswer q (meant blocks image) reply
+    → QuestionAnswer q (meant blocks bytes) reply
+long_meant None q image bytes few e a b reply h = long_questions q image bytes a b reply h
+long_meant (Some n) q image bytes few e a b reply h = subst (λ (l : List ℕ). QuestionAnswer q l reply) (same_sized n image bytes few e a b) h
+
+pub long_answers : (r : InquiryValue) (image bytes : List ℕ) → AreFew r.blocks → image ≡ take (512 * MOST_BLOCKS + 1) bytes
+    → 512 * MOST_BLOCKS < length image → 512 * MOST_BLOCKS < length bytes → (reply : Reply) → SurveyAnswer r image reply → SurveyAnswer r bytes reply
+long_answers r image bytes few e a b reply h = long_meant r.blocks r.question image bytes few e a b reply h

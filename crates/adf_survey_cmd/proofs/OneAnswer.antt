@@ -9,11 +9,15 @@ use Rattle.adf_survey.specs.Lookup.{LeadsTo}
 use Rattle.adf_survey.specs.Marked.{AreMarks}
 use Rattle.adf_survey.specs.Survey.{FindingValue}
 use Rattle.adf_survey.proofs.OneSurvey.{one_survey}
+use Rattle.adf_build.specs.Laid.{volume}
+use Rattle.adf_rescue.specs.Opened.{opened}
+use Rattle.adf_rescue.specs.Rescue.{rescue_leaves, rescued_tree}
 use Rattle.adf_survey.proofs.Lookups.{one_first}
 use Rattle.adf_runs.specs.Commands.{Reply, on_output}
-use Rattle.adf_cmd.proofs.OneAnswer.{one_dates}
-use Rattle.adf_survey_cmd.specs.Answers.{CopiesEntry, CopiesFound, CopiesFromSurvey, ListsSurvey, SurveyAnswer, Surveys, TellsFound, findings_status}
-use Rattle.adf_words.specs.SurveyLine.{AsksSurvey, InquiryValue, cat, inquiry_of, list, report}
+use Rattle.adf_cmd.proofs.OneAnswer.{one_dates, refused_once}
+use Rattle.adf_survey_cmd.specs.Answers.{CopiesEntry, CopiesFound, CopiesFromSurvey, ListsSurvey, QuestionAnswer, SurveyAnswer, Surveys, TellsFound, findings_status, meant}
+use Rattle.adf_survey_cmd.specs.Rescues.{RescuesBy, RescuesFound, RescuesIn, WritesVolume, rescue_reply}
+use Rattle.adf_words.specs.SurveyLine.{AsksSurvey, InquiryValue, QuestionValue, cat, inquiry_of, list, report, rescue}
 use Rattle.adf_survey_cmd.specs.FoundLines.{listing_text}
 use Rattle.adf_survey_cmd.specs.Lines.{findings_text}
 use Rattle.adf_survey_cmd.proofs.FoundTexts.{same_tests}
@@ -83,10 +87,38 @@ copied_once path image a b (names, text, w, fs, s, x) (others, also, u, gs, t, y
     let path_is = one_path path names others text also in
     found_once image u gs others a b (subst (λ (ns : List (List ℕ)). CopiesFound image u gs ns a) path_is found) y
 
-pub one_answer : (r : InquiryValue) (image : List ℕ) (a b : Reply) → SurveyAnswer r image a → SurveyAnswer r image b → a ≡ b
-one_answer report image a b x y = surveyed_once image a b x y
-one_answer list image a b x y = listed_once image a b x y
-one_answer (cat path) image a b (inl (bad, x)) (inl (worse, y)) = x ∙ sym y
-one_answer (cat path) image a b (inl (bad, x)) (inr h) = absurd (bad h.0 h.1)
-one_answer (cat path) image a b (inr h) (inl (bad, y)) = absurd (bad h.0 h.1)
-one_answer (cat path) image a b (inr h) (inr g) = copied_once path image a b h g
+volume_once : (image : List ℕ) (w : List (Role × ℕ)) (sound : ℕ → Bool) (a b : Reply) → WritesVolume image w sound a → WritesVolume image w sound b → a ≡ b
+volume_once image w sound a b (one, laid, size, x) (other, also, long, y) =
+    let t = rescued_tree image w sound in
+    let same : one ≡ other = laid.bytes ∙ ap (volume t) (size ∙ sym long) ∙ sym also.bytes in
+    x ∙ ap (λ v. rescue_reply image w v (rescue_leaves image w sound)) same ∙ sym y
+
+by_marks_once : (input image : List ℕ) (w : List (Role × ℕ)) (fs : List FindingValue) (sound : ℕ → Bool) (a b : Reply) → RescuesBy input image w fs sound a
+    → RescuesBy input image w fs sound b → a ≡ b
+by_marks_once input image w fs sound a b (inl (none, x)) (inl (also, y)) = refused_once input a b x y
+by_marks_once input image w fs sound a b (inl (none, x)) (inr (some, y)) = absurd (some none)
+by_marks_once input image w fs sound a b (inr (some, x)) (inl (none, y)) = absurd (some none)
+by_marks_once input image w fs sound a b (inr (some, x)) (inr (also, y)) = volume_once image w sound a b x y
+
+found_rescued_once : (input image : List ℕ) (w : List (Role × ℕ)) (fs : List FindingValue) (a b : Reply) → RescuesFound input image w fs a
+    → RescuesFound input image w fs b → a ≡ b
+found_rescued_once input image w fs a b (sound, marks, x) (others, also, y) =
+    by_marks_once input image w fs others a b (subst (λ s. RescuesBy input image w fs s a) (one_marks image w fs sound others marks also) x) y
+
+rescued_once : (input image : List ℕ) (a b : Reply) → RescuesIn input image a → RescuesIn input image b → a ≡ b
+rescued_once input image a b (w, fs, s, x) (u, gs, t, y) =
+    let same = one_survey image w u fs gs s t in
+    let moved = subst (λ v. RescuesFound input image v fs a) same.0 x in
+    found_rescued_once input image u gs a b (subst (λ hs. RescuesFound input image u hs a) same.1 moved) y
+
+one_question : (q : QuestionValue) (image : List ℕ) (a b : Reply) → QuestionAnswer q image a → QuestionAnswer q image b → a ≡ b
+one_question report image a b x y = surveyed_once image a b x y
+one_question list image a b x y = listed_once image a b x y
+one_question (cat path) image a b (inl (bad, x)) (inl (worse, y)) = x ∙ sym y
+one_question (cat path) image a b (inl (bad, x)) (inr h) = absurd (bad h.0 h.1)
+one_question (cat path) image a b (inr h) (inl (bad, y)) = absurd (bad h.0 h.1)
+one_question (cat path) image a b (inr h) (inr g) = copied_once path image a b h g
+one_question rescue image a b x y = rescued_once image (opened image) a b x y
+
+pub one_answer : (r : InquiryValue) (input : List ℕ) (a b : Reply) → SurveyAnswer r input a → SurveyAnswer r input b → a ≡ b
+one_answer r input a b x y = one_question r.question (meant r.blocks input) a b x y

@@ -1,6 +1,6 @@
 -- What the command answers to its words and its input.
 -- Letters: w the walk of a survey, fs its findings; n an entry's node, h the block of its header; r an inquiry.
-use Rattle.std.specs.Prelude.{◌≡◌, ◌*◌, ◌⊎◌, ◌++◌, ℕ, Bool, List, [], ◌∷◌, codes}
+use Rattle.std.specs.Prelude.{◌≡◌, ◌*◌, ◌-◌, ◌⊎◌, ◌++◌, ℕ, Bool, List, [], ◌∷◌, Option, None, Some, codes, length, replicate, take}
 use Rattle.adf_blocks.specs.declared.layout.TheConstants.{MOST_BLOCKS}
 use Rattle.adf_tree.specs.PathTexts.{IsPathText}
 use Rattle.adf_volume.specs.Walk.{FileAt, Role}
@@ -12,9 +12,10 @@ use Rattle.adf_fields.specs.declared.dates.Stamp.{Stamp}
 use Rattle.adf_texts.specs.VolumeLines.{AreDates}
 use Rattle.adf_cmd.specs.Answers.{IsBadPath, RefusesPath}
 use Rattle.adf_runs.specs.Commands.{Command, Reply, on_errors, on_output}
-use Rattle.adf_words.specs.SurveyLine.{AreRefusedBySurvey, AsksSurvey, InquiryValue, cat, list, report}
+use Rattle.adf_words.specs.SurveyLine.{AreRefusedBySurvey, AsksSurvey, InquiryValue, QuestionValue, asked, cat, list, report, rescue}
 use Rattle.adf_survey_cmd.specs.FoundLines.{listing_text}
 use Rattle.adf_survey_cmd.specs.Lines.{findings_text}
+use Rattle.adf_survey_cmd.specs.Rescues.{Rescues}
 
 -- the status of findings: 0 where there is none
 abbrev pub findings_status : List FindingValue → ℕ
@@ -70,11 +71,25 @@ CopiesFromSurvey path input reply =
     (names : List (List ℕ)) × IsPathText path names
     × (w : List (Role × ℕ)) × (fs : List FindingValue) × IsSurvey input w fs × CopiesFound input w fs names reply
 
+-- the answer to a question of an image
+abbrev pub QuestionAnswer : QuestionValue → List ℕ → Reply → Type 0
+QuestionAnswer report image reply = Surveys image reply
+QuestionAnswer list image reply = ListsSurvey image reply
+QuestionAnswer (cat path) image reply = RefusesPath path reply ⊎ CopiesFromSurvey path image reply
+QuestionAnswer rescue image reply = Rescues image reply
+
+-- the image of n blocks that begins with the bytes of the input, as many as it holds, and has zeros for what is not there
+abbrev pub sized : ℕ → List ℕ → List ℕ
+sized n input = take (512 * n) input ++ replicate (512 * n - length input) 0
+
+-- the image that is meant: the input, or one of so many blocks
+abbrev pub meant : Option ℕ → List ℕ → List ℕ
+meant None input = input
+meant (Some n) input = sized n input
+
 -- the answer to an inquiry
 abbrev pub SurveyAnswer : InquiryValue → List ℕ → Reply → Type 0
-SurveyAnswer report input reply = Surveys input reply
-SurveyAnswer list input reply = ListsSurvey input reply
-SurveyAnswer (cat path) input reply = RefusesPath path reply ⊎ CopiesFromSurvey path input reply
+SurveyAnswer r input reply = QuestionAnswer r.question (meant r.blocks input) reply
 
 -- words ask for one thing at most
 abbrev pub WordsAskForOneInquiry : Type 0
@@ -87,16 +102,16 @@ InquiriesHaveOneAnswer = (r : InquiryValue) (input : List ℕ) (a b : Reply) →
 -- what errors get where the words are refused
 abbrev pub survey_usage : List ℕ
 survey_usage =
-    codes "usage: adf-survey [--list] < IMAGE\n       adf-survey cat PATH < IMAGE\n"
-    ++ codes "an image comes on standard input; man adf-survey tells more\n"
+    codes "usage: adf-survey [--blocks N] [--list] < IMAGE\n       adf-survey [--blocks N] cat PATH < IMAGE\n"
+    ++ codes "       adf-survey [--blocks N] rescue < IMAGE\nan image comes on standard input; man adf-survey tells more\n"
 
--- a request for the bytes under a path that is not read
-abbrev pub HasBadSurveyPath : InquiryValue → Type 0
-HasBadSurveyPath r = (path : List ℕ) × (r ≡ cat path) × IsBadPath path
+-- a question for the bytes under a path that is not read
+abbrev pub HasBadSurveyPath : QuestionValue → Type 0
+HasBadSurveyPath q = (path : List ℕ) × (q ≡ cat path) × IsBadPath path
 
 -- the words ask for the bytes under a path that is not read
 abbrev pub AsksBadSurveyPath : List (List ℕ) → Type 0
-AsksBadSurveyPath words = (path : List ℕ) × AsksSurvey words (cat path) × IsBadPath path
+AsksBadSurveyPath words = (blocks : Option ℕ) × (path : List ℕ) × AsksSurvey words (asked blocks (cat path)) × IsBadPath path
 
 -- the command `adf-survey`
 abbrev pub survey_command : Command (List (List ℕ))

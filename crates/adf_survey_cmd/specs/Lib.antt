@@ -1,6 +1,7 @@
 -- The promise: the lines, and what the command answers.
 pub mod Lines
 pub mod FoundLines
+pub mod Rescues
 pub mod Answers
 -- The words of the command, as its loop keeps them.
 pub mod Work

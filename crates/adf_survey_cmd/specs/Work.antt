@@ -1,12 +1,24 @@
 -- What is done for words, once they and their path are read.
 use Rattle.std.specs.Prelude.{◌≡◌, ℕ, List}
 use Rattle.adf_tree.specs.PathTexts.{IsPathText}
-use Rattle.adf_words.specs.SurveyLine.{InquiryValue, cat, list, report}
+use Rattle.adf_words.specs.SurveyLine.{AreFew, InquiryValue, QuestionValue, cat, list, report, rescue}
+use Rattle.adf_survey_cmd.specs.declared.work.Task.{Task}
+use Rattle.adf_survey_cmd.specs.declared.work.Task.TheVariants.{Show, Rescue}
+use Rattle.adf_survey_cmd.specs.declared.work.View.{View}
+use Rattle.adf_survey_cmd.specs.declared.work.View.TheVariants.{Findings, List as ListAll, Cat}
 use Rattle.adf_survey_cmd.specs.declared.work.Work.{Work}
-use Rattle.adf_survey_cmd.specs.declared.work.Work.TheVariants.{Report, List as ListAll, Cat}
 
--- the work is what is asked for, with the names of the path
+-- what is shown is what is asked, with the names of the path
+abbrev pub Shows : View → QuestionValue → Type 0
+Shows Findings q = q ≡ report
+Shows ListAll q = q ≡ list
+Shows (Cat names) q = (path : List ℕ) × (q ≡ cat path) × IsPathText path names.items
+
+-- the task is what is asked
+abbrev pub Answers : Task → QuestionValue → Type 0
+Answers (Show view) q = Shows view q
+Answers Rescue q = q ≡ rescue
+
+-- the work is what is asked for, of as many blocks, if any are named
 abbrev pub Meets : Work → InquiryValue → Type 0
-Meets Report r = r ≡ report
-Meets ListAll r = r ≡ list
-Meets (Cat names) r = (path : List ℕ) × (r ≡ cat path) × IsPathText path names.items
+Meets work r = (work.blocks ≡ r.blocks) × AreFew r.blocks × Answers work.task r.question

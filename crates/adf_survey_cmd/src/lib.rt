@@ -5,10 +5,11 @@ mod copying;
 mod found_lines;
 mod listing;
 mod reporting;
+mod rescuing;
 mod runner;
 mod runs;
 mod work;
 
 pub use crate::runner::{one_answer, run};
-pub use crate::work::Work;
-pub use adf_words::{Inquiry, parse_survey as parse, survey_words_as_documented};
+pub use crate::work::{Task, View, Work};
+pub use adf_words::{Inquiry, Question, parse_survey as parse, survey_words_as_documented};

@@ -11,8 +11,9 @@ use std::alloc::Global;
 
 /// Does what the words ask for, of which the first is the program's name, and answers the status:
 ///
-/// - 0 where there is no finding, or the bytes of a sound file are written;
-/// - 1 where findings are written, or nothing, no file or no sound file is under the path, which errors tell;
+/// - 0 where there is no finding, the bytes of a sound file are written, or a rescue leaves nothing out;
+/// - 1 where findings are written; where nothing, no file or no sound file is under the path, or a rescue leaves entries out or
+///   has none, which errors tell;
 /// - 2 where the words are not accepted, or the path is not read, which errors tell; nothing is read, and output is empty;
 /// - 3 where a device failed or memory was refused, which errors tell.
 pub fn run<R: Source, W: Sink, E: Sink>(

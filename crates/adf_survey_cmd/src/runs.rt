@@ -103,8 +103,8 @@ fn push_blocks(text: &mut Vec<u8>, first: u32, last: u32) -> Result<(), AllocErr
     text.extend_from_slice(b" ")
 }
 
-// Appends the path of an entry, 0 for the root.
-fn push_path(
+/// Appends the path of an entry, 0 for the root.
+pub fn push_path(
     alloc: Global,
     survey: &Survey<'_>,
     n: Node,

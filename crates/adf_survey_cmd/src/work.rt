@@ -4,56 +4,116 @@ ghost use Rattle.std.specs.Prelude.{◌≡◌, List, false, IfErr, IfOk};
 ghost use Rattle.adf_survey.specs.Survey.{OnSurvey};
 ghost use Rattle.adf_runs.specs.Outcomes.{EndsBy, is_read_fault, is_write_fault};
 ghost use Rattle.adf_runs.specs.WorkFaults.{IsNoWork};
-ghost use Rattle.adf_survey_cmd.specs.Answers.{HasBadSurveyPath, SurveyAnswer};
-ghost use Rattle.adf_words.specs.SurveyLine.{InquiryValue, inquiry_value};
-ghost use Rattle.adf_survey_cmd.specs.Work.{Meets};
+ghost use Rattle.adf_survey_cmd.specs.Answers.{HasBadSurveyPath, QuestionAnswer, sized};
+ghost use Rattle.adf_words.specs.SurveyLine.{QuestionValue, question_value};
+ghost use Rattle.adf_survey_cmd.specs.Work.{Answers, Shows};
 
 use crate::copying::copy_found;
 use crate::listing::write_list;
 use crate::reporting::write_findings;
+use crate::rescuing::rescue_image;
 use adf_cmd::MOST_IMAGE_BYTES;
+use adf_fields::BLOCK_LEN;
 use adf_runs::{Outcome, Program, Sink, Source, WorkFault, read_input};
 use adf_survey::{Survey, survey};
 use adf_tree::{Name, read_path};
-use adf_words::{Inquiry, SURVEY_USAGE as USAGE, parse_survey};
-use std::alloc::Global;
+use adf_words::{Question, SURVEY_USAGE as USAGE, parse_survey};
+use std::alloc::{AllocError, Global};
 
-/// What is done with an image.
+/// What is shown of the survey of an image.
 #[derive(Drop)]
-pub enum Work {
-    Report,
+pub enum View {
+    Findings,
     List,
     /// The names of the path.
     Cat(Vec<Name>),
 }
 
-// The work that is asked for.
-fn work_for(alloc: Global, inquiry: Inquiry<'_>) -> Result<Work, WorkFault>
-    ensures ok { IfOk result (λ work. Meets work (inquiry_value inquiry.entry)) }
+/// What is done with an image.
+#[derive(Drop)]
+pub enum Task {
+    Show(View),
+    Rescue,
+}
+
+/// What is done with an image as it is, or as if it had so many blocks.
+#[derive(Drop)]
+pub struct Work {
+    pub blocks: Option<u32>,
+    pub task: Task,
+}
+
+// The task that is asked.
+fn task_for(alloc: Global, question: Question<'_>) -> Result<Task, WorkFault>
+    ensures ok { IfOk result (λ task. Answers task (question_value question.entry)) }
     ensures fault { IfErr result (λ fault.
-        IsNoWork fault ⊥ (HasBadSurveyPath (inquiry_value inquiry.entry))) }
+        IsNoWork fault ⊥ (HasBadSurveyPath (question_value question.entry))) }
 {
-    match inquiry {
-        Inquiry::Report => Ok(Work::Report),
-        Inquiry::List => Ok(Work::List),
-        Inquiry::Cat(path) => Ok(Work::Cat(read_path(alloc, path.as_bytes())?)),
+    match question {
+        Question::Report => Ok(Task::Show(View::Findings)),
+        Question::List => Ok(Task::Show(View::List)),
+        Question::Cat(path) => Ok(Task::Show(View::Cat(read_path(alloc, path.as_bytes())?))),
+        Question::Rescue => Ok(Task::Rescue),
     }
 }
 
-impl Work {
-    // Does the work on what is found of an image.
-    fn on_survey<W: Sink>(&self, alloc: Global, survey: &Survey<'_>, output: &mut W) -> Outcome
+// The image of so many blocks that begins with these bytes, with zeros for what is not there.
+#[tactic(auto, using(crate::proofs::SizedImages::sized_is))]
+fn sized(alloc: Global, bytes: &[u8], blocks: u32) -> Result<Vec<u8>, AllocError>
+    ensures { IfOk result (λ image. image.items ≡ sized blocks bytes.now) }
+{
+    let length = blocks as usize * BLOCK_LEN;
+    let kept = bytes.len().min(length);
+    let zeros = vec![in alloc; 0u8; length - kept]?;
+    let mut image = Vec::from_slice(alloc, &bytes[..kept])?;
+    image.extend_from_slice(&zeros)?;
+    Ok(image)
+}
+
+impl View {
+    // Shows this of what is found of an image.
+    fn of_survey<W: Sink>(&self, alloc: Global, survey: &Survey<'_>, output: &mut W) -> Outcome
         requires { W.has_failed output.old ≡ false }
-        ensures ends { OnSurvey survey.now.image (λ _ _. (r : InquiryValue) → Meets self.now r
-            → EndsBy (SurveyAnswer r survey.now.image) result
+        ensures ends { OnSurvey survey.now.image (λ _ _. (q : QuestionValue) → Shows self.now q
+            → EndsBy (QuestionAnswer q survey.now.image) result
             (W.held output.old) (W.held output.new)) }
         ensures read { is_read_fault result ≡ false }
         ensures written { W.has_failed output.new ≡ is_write_fault result }
     {
         match self {
-            Work::Report => write_findings(alloc, survey, output),
-            Work::List => write_list(alloc, survey, output),
-            Work::Cat(names) => copy_found(alloc, survey, names, output),
+            View::Findings => write_findings(alloc, survey, output),
+            View::List => write_list(alloc, survey, output),
+            View::Cat(names) => copy_found(alloc, survey, names, output),
+        }
+    }
+
+    // Surveys an image, and shows this of it.
+    fn of_image<W: Sink>(&self, alloc: Global, image: &[u8], output: &mut W) -> Outcome
+        requires { W.has_failed output.old ≡ false }
+        ensures ends { (q : QuestionValue) → Shows self.now q
+            → EndsBy (QuestionAnswer q image.now) result (W.held output.old) (W.held output.new) }
+        ensures read { is_read_fault result ≡ false }
+        ensures written { W.has_failed output.new ≡ is_write_fault result }
+    {
+        match survey(alloc, image) {
+            Ok(survey) => self.of_survey(alloc, &survey, output),
+            Err(_) => Outcome::NoMemory,
+        }
+    }
+}
+
+impl Task {
+    // Does the task with an image.
+    fn on_image<W: Sink>(&self, alloc: Global, image: &[u8], output: &mut W) -> Outcome
+        requires { W.has_failed output.old ≡ false }
+        ensures ends { (q : QuestionValue) → Answers self.now q
+            → EndsBy (QuestionAnswer q image.now) result (W.held output.old) (W.held output.new) }
+        ensures read { is_read_fault result ≡ false }
+        ensures written { W.has_failed output.new ≡ is_write_fault result }
+    {
+        match self {
+            Task::Show(view) => view.of_image(alloc, image, output),
+            Task::Rescue => rescue_image(alloc, image, output),
         }
     }
 }
@@ -61,7 +121,7 @@ impl Work {
 impl Program for Work {
     ghost use Rattle.std.proofs.Common.{inl, refl, rules};
     ghost use Rattle.adf_survey_cmd.specs.Answers.{survey_command};
-    ghost use Rattle.adf_words.specs.SurveyLine.{cat};
+    ghost use Rattle.adf_words.specs.SurveyLine.{asked, cat};
     ghost use Rattle.adf_survey_cmd.specs.Work.{Meets};
 
     ghost command = { survey_command };
@@ -74,17 +134,24 @@ impl Program for Work {
 
     fn of(alloc: Global, words: &[&str]) -> Result<Work, WorkFault> {
         let inquiry = parse_survey(alloc, words)?;
-        work_for(alloc, inquiry)
+        let task = task_for(alloc, inquiry.question)?;
+        Ok(Work {
+            blocks: inquiry.blocks,
+            task,
+        })
     }
 
     fn limit(&self) -> usize {
         MOST_IMAGE_BYTES
     }
 
-    fn on<W: Sink>(&self, alloc: Global, image: &[u8], output: &mut W) -> Outcome {
-        match survey(alloc, image) {
-            Ok(survey) => self.on_survey(alloc, &survey, output),
-            Err(_) => Outcome::NoMemory,
+    fn on<W: Sink>(&self, alloc: Global, bytes: &[u8], output: &mut W) -> Outcome {
+        match self.blocks {
+            None => self.task.on_image(alloc, bytes, output),
+            Some(blocks) => match sized(alloc, bytes, blocks) {
+                Ok(image) => self.task.on_image(alloc, &image, output),
+                Err(_) => Outcome::NoMemory,
+            },
         }
     }
 
@@ -102,6 +169,6 @@ impl Program for Work {
 
     ghost consistent = { record {
       taken = Prim.search rules;
-      unread = λ words h. (cat h.0, h.1, λ input. inl (h.2, refl));
+      unread = λ words h. (asked h.0 (cat h.1), h.2, λ input. inl (h.3, refl));
     } };
 }

@@ -38,7 +38,7 @@ fn main(rt: HostRuntime) -> ExitCode {
     match status(&rt) {
         Ok(status) => ExitCode::from(status),
         Err(error) => {
-            say(&mut Device::new(rt.stderr()), outcome_of(&error).line());
+            say(&mut Device::new(rt.stderr()), outcome_of(&error).text());
             ExitCode::from(3)
         }
     }

@@ -1,60 +1,61 @@
 // What a rescue of an image keeps, and what it leaves out.
 
-use crate::wants::is_same;
+use crate::answer::{Answer, CommandLine, answer_of};
+use crate::wants::{is_same, is_status};
 use crate::wrong::Wrong;
-use adf_rescue::{Rescued, Why, rescue};
-use adf_survey::{Survey, survey};
+use adf_survey::survey;
 use adf_texts::push_names;
 use adf_tree::Node;
 use std::alloc::Global;
+use std::str;
 
-/// A rescue of an image gives a valid volume with these paths, in the order of its walk, and leaves out what follows:
-/// `damaged: PATH`, `link: PATH` or `no room: PATH`, all with `, ` between them; or `nothing`.
+/// `adf-survey rescue` on an image writes a valid volume with these paths, in the order of its walk, and on errors what follows: a
+/// line for each entry that it leaves out. If nothing stands, the line of the first finding is all that it writes.
 pub fn is_rescued(alloc: Global, image: &[u8], line: &str) -> Result<(), Wrong> {
-    let found = survey(alloc, image)?;
-    let text = match rescue(alloc, &found)? {
-        Some(rescued) => text_of(alloc, &found, &rescued)?,
-        None => Vec::from_slice(alloc, b"nothing")?,
-    };
-    is_same(alloc, "rescue", line.as_bytes(), &text)
+    let answer = answer_of(alloc, CommandLine::survey("rescue"), image)?;
+    let status = if answer.errors.is_empty() { 0 } else { 1 };
+    is_status(alloc, status, answer.status)?;
+    is_same(
+        alloc,
+        "rescue",
+        line.as_bytes(),
+        &text_of(alloc, &answer)?,
+    )
 }
 
-fn text_of(alloc: Global, found: &Survey<'_>, rescued: &Rescued) -> Result<Vec<u8>, Wrong> {
-    let mut text = paths_of(alloc, &rescued.image)?;
-    for left in &rescued.left_out {
-        let why = match left.why {
-            Why::Damaged => "damaged: ",
-            Why::Link => "link: ",
-            Why::NoRoom => "no room: ",
-        };
-        push_item(&mut text, why)?;
-        push_names(&mut text, &found.path(alloc, left.entry)?)?;
+// What a rescue wrote: the paths of the volume and the lines on errors, with `, ` between them.
+fn text_of(alloc: Global, answer: &Answer) -> Result<Vec<u8>, Wrong> {
+    let mut text = Vec::new(alloc);
+    if !answer.output.is_empty() {
+        push_paths(alloc, &answer.output, &mut text)?;
+    }
+    let errors = str::from_utf8(&answer.errors).map_err(|_| Wrong::Unread)?;
+    for line in errors.lines() {
+        begin_item(&mut text)?;
+        text.extend_from_slice(line.as_bytes())?;
     }
     Ok(text)
 }
 
-// The paths of a valid volume.
-fn paths_of(alloc: Global, image: &[u8]) -> Result<Vec<u8>, Wrong> {
+// Appends the paths of a valid volume.
+fn push_paths(alloc: Global, image: &[u8], text: &mut Vec<u8>) -> Result<(), Wrong> {
     let volume = survey(alloc, image)?;
     if !volume.findings().is_empty() {
         return Err(Wrong::Refused);
     }
-    let mut text = Vec::new(alloc);
     for before in 0..volume.len() {
-        push_item(&mut text, "")?;
+        begin_item(text)?;
         push_names(
-            &mut text,
+            text,
             &volume.path(alloc, Node(before.saturating_add(1)))?,
         )?;
     }
-    Ok(text)
+    Ok(())
 }
 
-// Begins an item, and says what stands in front of its path.
-fn push_item(text: &mut Vec<u8>, front: &str) -> Result<(), Wrong> {
+fn begin_item(text: &mut Vec<u8>) -> Result<(), Wrong> {
     if !text.is_empty() {
         text.extend_from_slice(b", ")?;
     }
-    text.extend_from_slice(front.as_bytes())?;
     Ok(())
 }

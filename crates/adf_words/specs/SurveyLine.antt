@@ -1,41 +1,82 @@
 -- The command line of `adf-survey`, as clap reads it, and what its matches ask for.
-use Rattle.std.specs.Prelude.{◌≡◌, ◌⊎◌, List, [], Bool, Option, Some, None, codes, option_map, true, if◌then◌else◌}
-use Rattle.std.specs.Str.{bytes_eq}
-use Rattle.clap.specs.Words.{App, Row, Text, fault_of, first_of, matches_of, new_app, subcommand_of, with_rule}
+use Rattle.std.specs.Prelude.{◌≡◌, ◌⊎◌, ◌≤◌, ◌&&◌, ℕ, List, [], Bool, Option, Some, None, IfSome, codes, length, nat_le, option_map, true, if◌then◌else◌}
+use Rattle.std.specs.Option.{option_and_then}
+use Rattle.std.specs.Str.{all_ascii_digits, bytes_eq}
+use Rattle.std.specs.Str.Parse.{digits_value}
+use Rattle.clap.specs.Words.{App, Row, Rule, Text, fault_of, first_of, matches_of, new_app, new_rule, subcommand_of, with_rule}
 use Rattle.clap.specs.Words.{with_subcommand}
+use Rattle.adf_blocks.specs.declared.layout.TheConstants.{MOST_BLOCKS}
 use Rattle.adf_words.specs.CommandLine.{cat_app, is_text, list_rule}
 use Rattle.adf_words.specs.declared.command_line.WordsFault.{WordsFault}
 use Rattle.adf_words.specs.declared.command_line.WordsFault.TheVariants.{NoMemory, Usage}
 use Rattle.adf_words.specs.declared.survey_line.Inquiry.{Inquiry}
-use Rattle.adf_words.specs.declared.survey_line.Inquiry.TheVariants.{Report, List as ListAll, Cat}
+use Rattle.adf_words.specs.declared.survey_line.Question.{Question}
+use Rattle.adf_words.specs.declared.survey_line.Question.TheVariants.{Report, List as ListAll, Cat, Rescue}
 
 -- with no flag and no subcommand for help
 abbrev pub bare_survey : App
 bare_survey =
     record (new_app (codes "adf-survey")) { top = record (new_app (codes "adf-survey")).top { disable_help_flag = true; disable_help_subcommand = true } }
 
--- the command line: [--list], or cat PATH
+-- the option --blocks N
+abbrev pub blocks_rule : Rule
+blocks_rule = record (new_rule (codes "blocks")) { long = Some (codes "blocks") }
+
+-- with the option and the flag
+abbrev pub flagged_survey : App
+flagged_survey = with_rule (with_rule bare_survey blocks_rule) list_rule
+
+-- the command line: [--blocks N], and [--list], cat PATH, or rescue
 abbrev pub survey_app : App
-survey_app = with_subcommand (with_rule bare_survey list_rule) cat_app.top
+survey_app = with_subcommand (with_subcommand flagged_survey cat_app.top) (new_app (codes "rescue")).top
 
--- what a command line asks for: all findings; these and what is found; or the bytes of a sound file
-pub data InquiryValue : Type 0 where
-  report : InquiryValue
-  list : InquiryValue
-  cat : Text → InquiryValue
+-- what is asked of an image: all findings; these and what is found; the bytes of a sound file; or a new volume of all that stands
+pub data QuestionValue : Type 0 where
+  report : QuestionValue
+  list : QuestionValue
+  cat : Text → QuestionValue
+  rescue : QuestionValue
 
--- what a subcommand's name and matches ask for
-abbrev pub inquiry_named : Text → List Row → Option InquiryValue
-inquiry_named name rows = if bytes_eq name (codes "cat") then option_map cat (first_of (codes "path") rows) else None
+-- what a command line asks for, of the image as it is or as if it had so many blocks
+pub record InquiryValue : Type 0 where
+  pub blocks : Option ℕ
+  pub question : QuestionValue
+
+-- a question of the image as it is, or as if it had so many blocks
+abbrev pub asked : Option ℕ → QuestionValue → InquiryValue
+asked blocks question = record { blocks = blocks; question = question }
+
+-- a number of blocks: decimal digits, up to that of the largest volume
+abbrev pub blocks_named : Text → Option ℕ
+blocks_named text =
+    if (all_ascii_digits text && nat_le 1 (length text)) && nat_le (digits_value 10 text) MOST_BLOCKS then Some (digits_value 10 text) else None
+
+-- no more blocks than the largest volume has
+abbrev pub AreFew : Option ℕ → Type 0
+AreFew blocks = IfSome blocks (λ n. n ≤ MOST_BLOCKS)
+
+-- the blocks that the matches name, if any
+abbrev pub blocks_met : List Row → Option (Option ℕ)
+blocks_met rows = elim (first_of (codes "blocks") rows) [ None ↦ Some None | Some text ↦ option_map Some (blocks_named text) ]
+
+-- what a subcommand's name and matches ask
+abbrev pub question_named : Text → List Row → Option QuestionValue
+question_named name rows =
+    if bytes_eq name (codes "cat") then option_map cat (first_of (codes "path") rows)
+    else (if bytes_eq name (codes "rescue") then Some rescue else None)
 
 -- the flag --list is among the matches
 abbrev pub asks_list : List Row → Bool
 asks_list rows = is_text (codes "true") (first_of (codes "list") rows)
 
--- what the matches ask for, by their own rows: with no subcommand the findings; no subcommand goes with the flag
+-- what the matches ask, by their own rows: with no subcommand the findings; no subcommand goes with the flag
+abbrev pub question_met : List Row → Option (Text × List Row) → Option QuestionValue
+question_met rows None = Some (if asks_list rows then list else report)
+question_met rows (Some p) = if asks_list rows then None else question_named p.0 p.1
+
+-- what the matches ask for
 abbrev pub inquiry_met : List Row → Option (Text × List Row) → Option InquiryValue
-inquiry_met rows None = Some (if asks_list rows then list else report)
-inquiry_met rows (Some p) = if asks_list rows then None else inquiry_named p.0 p.1
+inquiry_met rows subcommand = option_and_then (λ blocks. option_map (asked blocks) (question_met rows subcommand)) (blocks_met rows)
 
 -- what the words ask for, where clap takes them
 abbrev pub inquiry_of : List Text → Option InquiryValue
@@ -45,15 +86,20 @@ inquiry_of words = inquiry_met (matches_of survey_app words) (subcommand_of surv
 abbrev pub AsksSurvey : List Text → InquiryValue → Type 0
 AsksSurvey words r = (fault_of survey_app words ≡ []) × (inquiry_of words ≡ Some r)
 
--- clap refuses the words, or its matches lack the path or have the flag before a subcommand
+-- clap refuses the words, or its matches lack the path, have the flag before a subcommand, or have another text than a number of blocks
 abbrev pub AreRefusedBySurvey : List Text → Type 0
 AreRefusedBySurvey words = (¬ (fault_of survey_app words ≡ [])) ⊎ (inquiry_of words ≡ None)
 
+-- the value of a question as the code has it
+abbrev pub question_value : Question → QuestionValue
+question_value Report = report
+question_value ListAll = list
+question_value (Cat p) = cat p.now
+question_value Rescue = rescue
+
 -- the value of an inquiry as the code has it
 abbrev pub inquiry_value : Inquiry → InquiryValue
-inquiry_value Report = report
-inquiry_value ListAll = list
-inquiry_value (Cat p) = cat p.now
+inquiry_value q = asked q.blocks (question_value q.question)
 
 -- what a fault of the words says of them
 abbrev pub ExplainsSurveyWords : WordsFault → List Text → Type 0

@@ -1,73 +1,141 @@
 // The words of `adf-survey`, by clap.
 
-ghost use Rattle.std.specs.Prelude.{◌≡◌, ◌==◌, IfOk, IfErr, ℕ, List, [], ◌∷◌, codes, false, option_map};
+ghost use Rattle.std.specs.Prelude.{◌≡◌, ◌==◌, IfOk, IfErr, IfSome, ℕ, List, [], ◌∷◌, Some, None, codes, false, option_map};
 ghost use Rattle.clap.specs.Words.{app_of, found_of, rows_of, subcommand_rows_of};
 ghost use Rattle.adf_words.specs.CommandLine.{texts_of};
-ghost use Rattle.adf_words.specs.SurveyLine.{AsksSurvey, AreRefusedBySurvey, ExplainsSurveyWords, cat, list, inquiry_met, inquiry_named, inquiry_value, report, survey_app};
+ghost use Rattle.adf_words.specs.SurveyLine.{AreFew, AsksSurvey, AreRefusedBySurvey, ExplainsSurveyWords, blocks_met, blocks_named, asked, cat, flagged_survey, list, inquiry_met, inquiry_value, question_met, question_named, question_value, report, rescue, survey_app};
 
 use crate::command_line::{WordsFault, cat_command, first_text, has_flag, list_flag};
+use adf_blocks::MOST_BLOCKS;
 use clap::error::ErrorKind;
-use clap::{ArgMatches, Command};
+use clap::{Arg, ArgMatches, Command};
 use std::alloc::{AllocError, Global};
 
 /// What is said of words that are refused.
 pub const SURVEY_USAGE: &str =
-    "usage: adf-survey [--list] < IMAGE\n       adf-survey cat PATH < IMAGE\nan image comes on standard input; man adf-survey tells more\n";
+    "usage: adf-survey [--blocks N] [--list] < IMAGE\n       adf-survey [--blocks N] cat PATH < IMAGE\n\
+    \x20      adf-survey [--blocks N] rescue < IMAGE\n\
+    an image comes on standard input; man adf-survey tells more\n";
 
-/// What a command line asks for.
+/// What is asked of an image.
 #[derive(Clone, Copy, Debug)]
-pub enum Inquiry<'a> {
+pub enum Question<'a> {
     /// All findings.
     Report,
     /// All findings, and what is found.
     List,
     /// The bytes of a sound file, by the text of its path.
     Cat(&'a str),
+    /// A new volume of all that stands.
+    Rescue,
 }
 
-// The command line. Words of help are refused as any others are, so that clap lays out no text for them.
-fn command<'a>(alloc: Global) -> Result<Command<'a>, AllocError>
-    ensures { IfOk result (λ c. app_of c ≡ survey_app) }
+/// What a command line asks for.
+#[derive(Clone, Copy, Debug)]
+pub struct Inquiry<'a> {
+    /// As if the image had so many blocks, at most those of the largest volume; `None`: as it is.
+    pub blocks: Option<u32>,
+    pub question: Question<'a>,
+}
+
+// The command line without its subcommands. Words of help are refused as any others are, so that clap lays out no text for them.
+fn flagged<'a>(alloc: Global) -> Result<Command<'a>, AllocError>
+    ensures { IfOk result (λ c. app_of c ≡ flagged_survey) }
 {
+    let blocks = Arg::new(alloc, "blocks").long("blocks");
     let bare = Command::new(alloc, "adf-survey")
         .disable_help_flag(true)
         .disable_help_subcommand(true);
-    bare.arg(list_flag(alloc))?.subcommand(cat_command(alloc)?)
+    bare.arg(blocks)?.arg(list_flag(alloc))
 }
 
-// What a subcommand's name and matches ask for.
-fn inquiry_named<'a>(name: &str, found: &ArgMatches<'a>) -> Option<Inquiry<'a>>
-    ensures { option_map inquiry_value result
-        ≡ inquiry_named name.now (rows_of (found_of found.now)) }
+// The command line.
+fn command<'a>(alloc: Global) -> Result<Command<'a>, AllocError>
+    ensures { IfOk result (λ c. app_of c ≡ survey_app) }
 {
-    if name != "cat" {
+    flagged(alloc)?
+        .subcommand(cat_command(alloc)?)?
+        .subcommand(Command::new(alloc, "rescue"))
+}
+
+// The number of blocks that a text is.
+fn blocks_named(text: &str) -> Option<u32>
+    ensures named { result ≡ blocks_named text.now }
+    ensures few { AreFew result }
+{
+    let bytes = text.as_bytes();
+    if bytes.is_empty() || bytes[0] == b'+' {
         return None;
     }
-    match first_text(found, "path") {
-        Some(path) => Some(Inquiry::Cat(path)),
-        None => None,
+    match text.parse::<u32>() {
+        Ok(blocks) if blocks <= MOST_BLOCKS => Some(blocks),
+        _ => None,
+    }
+}
+
+// The blocks that the matches name, if any.
+fn blocks_in(matches: &ArgMatches<'_>) -> Option<Option<u32>>
+    ensures met { result ≡ blocks_met (rows_of (found_of matches.now)) }
+    ensures few { IfSome result AreFew }
+{
+    match first_text(matches, "blocks") {
+        Some(text) => match blocks_named(text) {
+            Some(blocks) => Some(Some(blocks)),
+            None => None,
+        },
+        None => Some(None),
+    }
+}
+
+// What a subcommand's name and matches ask.
+fn question_named<'a>(name: &str, found: &ArgMatches<'a>) -> Option<Question<'a>>
+    ensures { option_map question_value result
+        ≡ question_named name.now (rows_of (found_of found.now)) }
+{
+    if name == "cat" {
+        match first_text(found, "path") {
+            Some(path) => Some(Question::Cat(path)),
+            None => None,
+        }
+    } else if name == "rescue" {
+        Some(Question::Rescue)
+    } else {
+        None
+    }
+}
+
+// What the matches ask.
+fn question_in<'a>(matches: &ArgMatches<'a>) -> Option<Question<'a>>
+    ensures { option_map question_value result
+        ≡ question_met (rows_of (found_of matches.now)) (subcommand_rows_of matches.now) }
+{
+    let list = has_flag(matches, "list");
+    match matches.subcommand() {
+        Some(_) if list => None,
+        Some((name, found)) => question_named(name, found),
+        None if list => Some(Question::List),
+        None => Some(Question::Report),
     }
 }
 
 // What the matches ask for.
 fn inquiry_in<'a>(matches: &ArgMatches<'a>) -> Option<Inquiry<'a>>
-    ensures { option_map inquiry_value result
+    ensures met { option_map inquiry_value result
         ≡ inquiry_met (rows_of (found_of matches.now)) (subcommand_rows_of matches.now) }
+    ensures few { IfSome result (λ inquiry. AreFew inquiry.blocks) }
 {
-    let list = has_flag(matches, "list");
-    match matches.subcommand() {
-        Some(_) if list => None,
-        Some((name, found)) => inquiry_named(name, found),
-        None if list => Some(Inquiry::List),
-        None => Some(Inquiry::Report),
+    match (blocks_in(matches), question_in(matches)) {
+        (Some(blocks), Some(question)) => Some(Inquiry { blocks, question }),
+        _ => None,
     }
 }
 
 /// Reads the words, of which the first is the program's name. `Usage` exactly where clap refuses them
-/// or its matches lack the path or have the flag before a command, `NoMemory` where memory was refused.
+/// or its matches lack the path, have the flag before a command, or have no number of blocks; `NoMemory` where memory was refused.
 pub fn parse_survey<'a>(alloc: Global, words: &'a [&str]) -> Result<Inquiry<'a>, WordsFault>
     ensures ok { IfOk result (λ inquiry.
         AsksSurvey (texts_of words.entry.now) (inquiry_value inquiry)) }
+    ensures few { IfOk result (λ inquiry. AreFew inquiry.blocks) }
     ensures refused { IfErr result (λ fault. ExplainsSurveyWords fault (texts_of words.entry.now)) }
 {
     let Ok(survey) = command(alloc) else {
@@ -89,14 +157,34 @@ pub fn parse_survey<'a>(alloc: Global, words: &'a [&str]) -> Result<Inquiry<'a>,
 /// for help among them.
 #[tactic(auto, unfolding(clap::proofs::OnLiterals::clap_on_literals))]
 pub fn survey_words_as_documented()
-    ensures report { AsksSurvey (codes "adf-survey" ∷ []) report }
-    ensures no_words { AsksSurvey [] report }
-    ensures list { AsksSurvey (codes "adf-survey" ∷ codes "--list" ∷ []) list }
+    ensures report { AsksSurvey (codes "adf-survey" ∷ []) (asked None report) }
+    ensures no_words { AsksSurvey [] (asked None report) }
+    ensures list { AsksSurvey (codes "adf-survey" ∷ codes "--list" ∷ []) (asked None list) }
     ensures cat { (first : ℕ) (rest : List ℕ) → (first == 45) ≡ false
         → AsksSurvey (codes "adf-survey" ∷ codes "cat" ∷ (first ∷ rest) ∷ [])
-        (cat (first ∷ rest)) }
+        (asked None (cat (first ∷ rest))) }
     ensures cat_any { (path : List ℕ)
-        → AsksSurvey (codes "adf-survey" ∷ codes "cat" ∷ codes "--" ∷ path ∷ []) (cat path) }
+        → AsksSurvey (codes "adf-survey" ∷ codes "cat" ∷ codes "--" ∷ path ∷ [])
+        (asked None (cat path)) }
+    ensures rescue { AsksSurvey (codes "adf-survey" ∷ codes "rescue" ∷ []) (asked None rescue) }
+    ensures blocks { AsksSurvey (codes "adf-survey" ∷ codes "--blocks" ∷ codes "1760" ∷ [])
+        (asked (Some 1760) report) }
+    ensures blocks_list { AsksSurvey
+        (codes "adf-survey" ∷ codes "--blocks" ∷ codes "1760" ∷ codes "--list" ∷ [])
+        (asked (Some 1760) list) }
+    ensures blocks_cat { (path : List ℕ) → AsksSurvey
+        (codes "adf-survey" ∷ codes "--blocks" ∷ codes "1760" ∷ codes "cat" ∷ codes "--" ∷ path ∷ [])
+        (asked (Some 1760) (cat path)) }
+    ensures blocks_rescue { AsksSurvey
+        (codes "adf-survey" ∷ codes "--blocks" ∷ codes "1760" ∷ codes "rescue" ∷ [])
+        (asked (Some 1760) rescue) }
+    ensures most_blocks { AsksSurvey (codes "adf-survey" ∷ codes "--blocks" ∷ codes "1048576" ∷ [])
+        (asked (Some 1048576) report) }
+    ensures too_many { AreRefusedBySurvey
+        (codes "adf-survey" ∷ codes "--blocks" ∷ codes "1048577" ∷ []) }
+    ensures no_number { AreRefusedBySurvey (codes "adf-survey" ∷ codes "--blocks" ∷ []) }
+    ensures bad_number { AreRefusedBySurvey
+        (codes "adf-survey" ∷ codes "--blocks" ∷ codes "+4" ∷ []) }
     ensures unknown { AreRefusedBySurvey (codes "adf-survey" ∷ codes "frob" ∷ []) }
     ensures no_path { AreRefusedBySurvey (codes "adf-survey" ∷ codes "cat" ∷ []) }
     ensures dash { AreRefusedBySurvey (codes "adf-survey" ∷ codes "cat" ∷ codes "-x" ∷ []) }
@@ -106,6 +194,10 @@ pub fn survey_words_as_documented()
         (codes "adf-survey" ∷ codes "--list" ∷ codes "--list" ∷ []) }
     ensures list_cat { AreRefusedBySurvey
         (codes "adf-survey" ∷ codes "--list" ∷ codes "cat" ∷ codes "a" ∷ []) }
+    ensures list_rescue { AreRefusedBySurvey
+        (codes "adf-survey" ∷ codes "--list" ∷ codes "rescue" ∷ []) }
+    ensures rescue_path { AreRefusedBySurvey
+        (codes "adf-survey" ∷ codes "rescue" ∷ codes "a" ∷ []) }
     ensures cat_list { AreRefusedBySurvey
         (codes "adf-survey" ∷ codes "cat" ∷ codes "a" ∷ codes "--list" ∷ []) }
     ensures short_list { AreRefusedBySurvey (codes "adf-survey" ∷ codes "-l" ∷ []) }

@@ -11,8 +11,8 @@ unfailed null (name ∷ names) failed e = refl
 
 pub returns-in-Err-NoMemory-clause-ends : goal.returns-in-Err-NoMemory-clause-ends
 returns-in-Err-NoMemory-clause-ends g c = λ order asks.
-    inr (NoMemory, refl, c.requires.writes, nothing_written _ _ _ _ c.requires.writes, rw c.line.ensures at c.say-in-Err-NoMemory.ensures)
+    inr (NoMemory, refl, c.requires.writes, nothing_written _ _ _ _ c.requires.writes, rw (c.as_bytes-in-Err-NoMemory.ensures.value, c.line.ensures) at c.say-in-Err-NoMemory.ensures)
 
 pub returns-in-Err-NoMemory-clause-names : goal.returns-in-Err-NoMemory-clause-names
 returns-in-Err-NoMemory-clause-names g c = λ order asks reads.
-    inr (NoMemory, refl, unfailed order.0 order.1 _ reads, c.requires.writes, rw c.line.ensures at c.say-in-Err-NoMemory.ensures)
+    inr (NoMemory, refl, unfailed order.0 order.1 _ reads, c.requires.writes, rw (c.as_bytes-in-Err-NoMemory.ensures.value, c.line.ensures) at c.say-in-Err-NoMemory.ensures)

@@ -27,4 +27,4 @@ returns-in-Some-clause-ok c =
     subst (λ a. fault_of a words ≡ []) c.in-Ok.ensures (parsed.kinds (ap is_simple_and_free c.in-Ok.ensures ∙ survey_free)) in
     let has : HasMatchesOf survey_app words matches = subst (λ a. HasMatchesOf a words matches) c.in-Ok.ensures parsed.matches in
     let are = has survey_simple in
-    (fault, ap₂ inquiry_met (sym are.0) (sym are.1) ∙ sym c.in-Some.ensures)
+    (fault, ap₂ inquiry_met (sym are.0) (sym are.1) ∙ sym c.in-Some.ensures.met)

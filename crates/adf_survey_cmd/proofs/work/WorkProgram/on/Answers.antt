@@ -1,12 +1,10 @@
-use Rattle.std.proofs.Common.{ℕ, List, map, subst, sym}
-use Rattle.adf_survey.specs.Parts.{finding_value}
-use Rattle.adf_survey.specs.Survey.{IsSurvey}
+use Rattle.std.proofs.Common.{ℕ, Option, subst, sym, ◌∙◌}
+use Rattle.adf_runs.specs.Outcomes.{EndsBy}
+use Rattle.adf_survey_cmd.specs.Answers.{QuestionAnswer, meant}
 use Rattle.adf_survey_cmd.proofs.work.WorkProgram.on.Goals as goal
 
-pub returns-in-Ok-clause-ends : goal.returns-in-Ok-clause-ends
-returns-in-Ok-clause-ends g c = λ r meets.
-    let (w, survey) = c.in-Ok.ensures.findings in
-    let same = c.in-Ok.ensures.image in
-    let fs = map finding_value c.in-Ok.survey.findings in
-    let of_it = subst (λ (image : List ℕ). IsSurvey image w fs) (sym same) survey in
-    rw same at (c.on_survey.ensures.ends w fs of_it r meets)
+pub returns-in-None-clause-ends : goal.returns-in-None-clause-ends
+returns-in-None-clause-ends g c = λ r meets.
+    subst (λ (blocks : Option ℕ). EndsBy (QuestionAnswer r.question (meant blocks c.args.bytes.now)) c.on_image.result
+    (g.W.Sink.held c.args.output.now) (g.W.Sink.held c.on_image.new.output)) (sym c.in-None.is ∙ meets.0)
+    (c.on_image.ensures.ends r.question meets.2)

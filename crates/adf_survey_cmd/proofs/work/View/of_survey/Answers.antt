@@ -1,0 +1,27 @@
+use Rattle.std.proofs.Common.{inr, subst, sym}
+use Rattle.adf_survey_cmd.specs.Answers.{CopiesFound, QuestionAnswer, TellsFindings, TellsFound}
+use Rattle.adf_survey_cmd.specs.Work.{Shows}
+use Rattle.adf_runs.proofs.Endings.{ends_weaker}
+use Rattle.adf_survey_cmd.proofs.work.View.of_survey.Goals as goal
+
+pub returns-in-Findings-clause-ends : goal.returns-in-Findings-clause-ends
+returns-in-Findings-clause-ends g c = λ w fs survey q shows.
+    let image = c.args.survey.now.image in
+    let is = subst (λ view. Shows view q) c.in-Findings.is shows in
+    ends_weaker (TellsFindings image w fs) (QuestionAnswer q image) _ _ _
+    (λ reply tells. subst (λ x. QuestionAnswer x image reply) (sym is) (w, fs, survey, tells)) (c.write_findings.ensures.ends w fs survey)
+
+pub returns-in-List-clause-ends : goal.returns-in-List-clause-ends
+returns-in-List-clause-ends g c = λ w fs survey q shows.
+    let image = c.args.survey.now.image in
+    let is = subst (λ view. Shows view q) c.in-List.is shows in
+    ends_weaker (TellsFound image w fs) (QuestionAnswer q image) _ _ _
+    (λ reply tells. subst (λ x. QuestionAnswer x image reply) (sym is) (w, fs, survey, tells)) (c.write_list.ensures.ends w fs survey)
+
+pub returns-in-Cat-clause-ends : goal.returns-in-Cat-clause-ends
+returns-in-Cat-clause-ends g c = λ w fs survey q shows.
+    let image = c.args.survey.now.image in
+    let (path, is, text) = subst (λ view. Shows view q) c.in-Cat.is shows in
+    ends_weaker (CopiesFound image w fs _) (QuestionAnswer q image) _ _ _
+    (λ reply copies. subst (λ x. QuestionAnswer x image reply) (sym is) (inr (_, text, w, fs, survey, copies)))
+    (rw c.deref.ensures.value at (c.copy_found.ensures.ends w fs survey))

@@ -1,0 +1,7 @@
+use Rattle.std.proofs.Common.{refl}
+use Rattle.adf_words.specs.SurveyLine.{inquiry_value}
+use Rattle.adf_survey_cmd.proofs.work.WorkProgram.of.Goals as goal
+
+pub returns-clause-ok : goal.returns-clause-ok
+returns-clause-ok c =
+    (inquiry_value c.in_ok-inquiry.inquiry, c.in_ok-inquiry.ensures.ok, (refl, c.in_ok-inquiry.ensures.few, c.in_ok-task.ensures.ok))

@@ -1,0 +1,64 @@
+-- What a rescue answers.
+-- Letters: w the walk of an image's survey, fs its findings; x an entry that is left out; `sound` tells whether an entry is sound.
+use Rattle.std.specs.Prelude.{◌≡◌, ◌⊎◌, ℕ, Bool, List, [], ◌∷◌, ◌++◌, codes}
+use Rattle.std.specs.List.{flat_map}
+use Rattle.adf_blocks.specs.Sizes.{blocks}
+use Rattle.adf_volume.specs.Walk.{Role}
+use Rattle.adf_survey.specs.Lookup.{path_to}
+use Rattle.adf_survey.specs.Marked.{AreMarks}
+use Rattle.adf_survey.specs.Survey.{FindingValue, IsSurvey}
+use Rattle.adf_build.specs.Laid.{IsLaid}
+use Rattle.adf_rescue.specs.Opened.{opened}
+use Rattle.adf_rescue.specs.Rescue.{StandsNothing, rescue_leaves, rescued_tree}
+use Rattle.adf_rescue.specs.declared.left_out.LeftOut.{LeftOut}
+use Rattle.adf_rescue.specs.declared.left_out.Why.{Why}
+use Rattle.adf_rescue.specs.declared.left_out.Why.TheVariants.{Damaged, Link, NoRoom}
+use Rattle.adf_texts.specs.Names.{names_text}
+use Rattle.adf_cmd.specs.Answers.{RefusesImage}
+use Rattle.adf_runs.specs.Commands.{Reply}
+
+-- why an entry is left out, in front of its path
+abbrev pub why_text : Why → List ℕ
+why_text Damaged = codes "damaged: "
+why_text Link = codes "link: "
+why_text NoRoom = codes "no room: "
+
+-- the line of an entry that is left out
+abbrev pub left_out_line : List ℕ → List (Role × ℕ) → LeftOut → List ℕ
+left_out_line image w x = why_text x.why ++ (names_text (path_to image w x.entry) ++ codes "\n")
+
+-- the lines of the entries that are left out
+abbrev pub left_out_text : List ℕ → List (Role × ℕ) → List LeftOut → List ℕ
+left_out_text image w xs = flat_map (left_out_line image w) xs
+
+-- the status of a rescue: 0 where nothing is left out
+abbrev pub left_out_status : List LeftOut → ℕ
+left_out_status [] = 0
+left_out_status (x ∷ xs) = 1
+
+-- a volume on output, and on errors the lines of what it leaves out
+abbrev pub rescue_reply : List ℕ → List (Role × ℕ) → List ℕ → List LeftOut → Reply
+rescue_reply image w volume xs = record { status = left_out_status xs; output = volume; errors = left_out_text image w xs }
+
+-- the volume is written that is laid for the tree of all that stands, in as many blocks
+abbrev pub WritesVolume : List ℕ → List (Role × ℕ) → (ℕ → Bool) → Reply → Type 0
+WritesVolume image w sound reply =
+    (volume : List ℕ) × IsLaid volume (rescued_tree image w sound) × (blocks volume ≡ blocks image)
+    × (reply ≡ rescue_reply image w volume (rescue_leaves image w sound))
+
+-- the rescue of an input by the marks of the entries that are found in an image: its volume, or where nothing stands the first fault of the input
+abbrev pub RescuesBy : List ℕ → List ℕ → List (Role × ℕ) → List FindingValue → (ℕ → Bool) → Reply → Type 0
+RescuesBy input image w fs sound reply =
+    (StandsNothing image w fs sound × RefusesImage input reply) ⊎ ((¬ StandsNothing image w fs sound) × WritesVolume image w sound reply)
+
+-- the rescue of an input by what is found in an image
+abbrev pub RescuesFound : List ℕ → List ℕ → List (Role × ℕ) → List FindingValue → Reply → Type 0
+RescuesFound input image w fs reply = (sound : ℕ → Bool) × AreMarks image w fs sound × RescuesBy input image w fs sound reply
+
+-- the rescue of an input by the survey of an image
+abbrev pub RescuesIn : List ℕ → List ℕ → Reply → Type 0
+RescuesIn input image reply = (w : List (Role × ℕ)) × (fs : List FindingValue) × IsSurvey image w fs × RescuesFound input image w fs reply
+
+-- `adf-survey rescue` writes the volume of all that stands in the input, whose boot block may be overwritten
+abbrev pub Rescues : List ℕ → Reply → Type 0
+Rescues input reply = RescuesIn input (opened input) reply

@@ -1,0 +1,133 @@
+// The new volume of all that stands on an image, and the lines of what it leaves out.
+
+ghost use Rattle.std.specs.Prelude.{◌≡◌, ◌++◌, ℕ, List, IfOk, OnOk, false};
+ghost use Rattle.adf_tree.specs.Tree.{Tree};
+ghost use Rattle.adf_volume.specs.Fits.{Fits};
+ghost use Rattle.adf_volume.specs.Layout.{Layout};
+ghost use Rattle.adf_survey.specs.Survey.{OnSurvey};
+ghost use Rattle.adf_rescue.specs.Opened.{opened};
+ghost use Rattle.adf_cmd.specs.Refusals.{IsRefusedImage};
+ghost use Rattle.adf_runs.specs.Outcomes.{EndsBy, is_read_fault, is_write_fault};
+ghost use Rattle.adf_survey_cmd.specs.Rescues.{Rescues, left_out_line, left_out_text, rescue_reply, why_text};
+
+use crate::runs::push_path;
+use adf_cmd::volume_of;
+use adf_rescue::{LeftOut, Rescued, Why, begins_with_dos, opened_image, rescue};
+use adf_runs::{Outcome, Sink, write_all};
+use adf_survey::{Survey, survey};
+use std::alloc::{AllocError, Global};
+
+// Appends why an entry is left out.
+fn push_why(text: &mut Vec<u8>, why: Why) -> Result<(), AllocError>
+    ensures { OnOk result (text.new.items ≡ text.old.items ++ why_text why) }
+{
+    match why {
+        Why::Damaged => text.extend_from_slice(b"damaged: "),
+        Why::Link => text.extend_from_slice(b"link: "),
+        Why::NoRoom => text.extend_from_slice(b"no room: "),
+    }
+}
+
+// Appends the line of an entry that is left out.
+fn push_left_out(
+    alloc: Global,
+    survey: &Survey<'_>,
+    left_out: LeftOut,
+    text: &mut Vec<u8>,
+) -> Result<(), AllocError>
+    ensures { OnSurvey survey.now.image (λ w _. OnOk result
+        (text.new.items ≡ text.old.items ++ left_out_line survey.now.image w left_out)) }
+{
+    push_why(text, left_out.why)?;
+    push_path(alloc, survey, left_out.entry, text)?;
+    text.extend_from_slice(b"\n")
+}
+
+// The lines of the entries that are left out.
+fn left_out_lines(
+    alloc: Global,
+    survey: &Survey<'_>,
+    left_out: &[LeftOut],
+) -> Result<Vec<u8>, AllocError>
+    ensures { OnSurvey survey.now.image (λ w _. IfOk result (λ text.
+        text.items ≡ left_out_text survey.now.image w left_out.now)) }
+{
+    let mut text = Vec::new(alloc);
+    for i in 0..left_out.len() {
+        push_left_out(alloc, survey, left_out[i], &mut text)?;
+    }
+    Ok(text)
+}
+
+// Writes a new volume, and tells what it leaves out.
+fn write_rescued<W: Sink>(
+    alloc: Global,
+    survey: &Survey<'_>,
+    rescued: &Rescued,
+    output: &mut W,
+) -> Outcome
+    requires { W.has_failed output.old ≡ false }
+    ensures ends { OnSurvey survey.now.image (λ w _. EndsBy
+        (λ reply. reply ≡ rescue_reply survey.now.image w rescued.now.image.items rescued.now.left_out.items)
+        result (W.held output.old) (W.held output.new)) }
+    ensures read { is_read_fault result ≡ false }
+    ensures written { W.has_failed output.new ≡ is_write_fault result }
+{
+    let Ok(lines) = left_out_lines(alloc, survey, &rescued.left_out) else {
+        return Outcome::NoMemory;
+    };
+    match write_all(output, &rescued.image) {
+        Ok(()) if rescued.left_out.is_empty() => Outcome::Done,
+        Ok(()) => Outcome::LeftOut(lines),
+        Err(_) => Outcome::WriteFault,
+    }
+}
+
+// Refuses an image that no tree fits, by its first fault.
+fn refuse(alloc: Global, image: &[u8]) -> Outcome
+    requires { (t : Tree) (l : Layout) → Fits image.now t l → ⊥ }
+    ensures refused { IsRefusedImage image.now result }
+    ensures read { is_read_fault result ≡ false }
+    ensures written { is_write_fault result ≡ false }
+{
+    match volume_of(alloc, image) {
+        Ok(_) => unreachable!(),
+        Err(outcome) => outcome,
+    }
+}
+
+// Rescues an input by what is found in the image that it is opened as.
+fn rescue_opened<W: Sink>(alloc: Global, input: &[u8], image: &[u8], output: &mut W) -> Outcome
+    requires works { W.has_failed output.old ≡ false }
+    requires opened { image.now ≡ opened input.now }
+    ensures ends { EndsBy (Rescues input.now) result (W.held output.old) (W.held output.new) }
+    ensures read { is_read_fault result ≡ false }
+    ensures written { W.has_failed output.new ≡ is_write_fault result }
+{
+    let Ok(found) = survey(alloc, image) else {
+        return Outcome::NoMemory;
+    };
+    found.marks();
+    match rescue(alloc, &found) {
+        Ok(Some(rescued)) => write_rescued(alloc, &found, &rescued, output),
+        Ok(None) => refuse(alloc, input),
+        Err(_) => Outcome::NoMemory,
+    }
+}
+
+/// Writes the new volume of all that stands on an input, whose boot block may be overwritten; errors get a line for each entry
+/// that it leaves out. If nothing stands and there is a finding, errors get the line of the first fault.
+pub fn rescue_image<W: Sink>(alloc: Global, input: &[u8], output: &mut W) -> Outcome
+    requires { W.has_failed output.old ≡ false }
+    ensures ends { EndsBy (Rescues input.now) result (W.held output.old) (W.held output.new) }
+    ensures read { is_read_fault result ≡ false }
+    ensures written { W.has_failed output.new ≡ is_write_fault result }
+{
+    if begins_with_dos(input) {
+        return rescue_opened(alloc, input, input, output);
+    }
+    match opened_image(alloc, input) {
+        Ok(image) => rescue_opened(alloc, input, &image, output),
+        Err(_) => Outcome::NoMemory,
+    }
+}
