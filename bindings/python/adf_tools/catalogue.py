@@ -1,344 +1,144 @@
 """adf-catalogue: writes static pages of the images in a folder, an index and one for each image (docs/adf-catalogue.1)."""
 
-import base64
 import contextlib
-import errno
-import hashlib
-import html
 import os
-import re
-import stat
+import tempfile
 
 import adf
-from adf_tools.names import host_letters, letters, text_of
-from adf_tools.picture import picture, roles_of_refused
+from adf_tools import kept
+from adf_tools.collection import files_below
+from adf_tools.pages import index_page
+from adf_tools.processes import in_order
 from adf_tools.program import FAILED, REFUSED, Progress, add_escape, begin, command_line, new_folder
-from adf_tools.protection import protection_text
+from adf_tools.reader import FOLDER, PAGE_NAME, Reader, line_of
 
-HERE = os.path.dirname(os.path.abspath(__file__))
-FAULTS = os.path.join(HERE, "FAULTS.md")
-if not os.path.exists(FAULTS):  # in a clone
-    FAULTS = os.path.join(HERE, "..", "..", "..", "docs", "FAULTS.md")
+INDEX, IMAGES, ENTRIES = "index.html", "images.tsv", "entries.tsv"
 IMAGE_COLUMNS = "image bytes sha256 verdict kind blocks used free dirs files label root altered created".split()
 ENTRY_COLUMNS = "image kind size protection date header sha256 path comment state".split()
-TABLES = (("images.tsv", IMAGE_COLUMNS), ("entries.tsv", ENTRY_COLUMNS))
-ENDINGS, SIGN = (b".adf", b".hdf"), b"DOS"
-INDEX_HEADS = ("Image", "Verdict", "Label", "Kind", "Blocks", "Full", "Directories", "Files", "Found", "Root", "Changed", "Created")
-ENTRY_HEADS = ("Path", "Kind", "Size", "Protection", "Date", "Header", "Comment")
-FINDING_HEADS = ("Blocks", "Cause", "Path", "Owned by")
-FOUND_HEADS = ("", "Path", "Kind", "Size", "Protection", "Date", "Comment")
-STYLE = """
-body { font: 15px/1.4 sans-serif; margin: 1.5em; color: #222; background: #fff }
-table { border-collapse: collapse; margin: 1em 0 } svg { max-width: 100%; height: auto } meter { width: 5em }
-td, th { padding: .15em .7em; text-align: left; border-bottom: 1px solid #ddd; vertical-align: top }
-thead th { background: #eee; position: sticky; top: 0 } .number { text-align: right } .nowrap { white-space: nowrap }
-.text { white-space: pre-wrap; overflow-wrap: anywhere; min-width: 6em } code { white-space: pre-wrap }
-.nowrap code { white-space: pre } @media (min-width: 70em) { .beside svg { max-width: 30vw }
-.beside { display: grid; grid-template-columns: auto 1fr; gap: 2em; align-items: start } }
-button { font: inherit; font-weight: bold; border: 0; background: none; padding: 0; cursor: pointer } .refused { color: #a00 }
-[aria-sort=ascending] button::after { content: " \\25b2" } [aria-sort=descending] button::after { content: " \\25bc" }
-"""
-SCRIPT = """
-const order = new Intl.Collator("en", { numeric: true });
-const heads = [...document.querySelectorAll("thead th")];
-function sort(column) {
-  const falls = heads[column].getAttribute("aria-sort") === "ascending";
-  const body = document.querySelector("tbody");
-  const keyed = [...body.rows].map(row => [row.cells[column].dataset.key ?? row.cells[column].textContent, row]);
-  keyed.sort((one, other) => (falls ? -1 : 1) * order.compare(one[0], other[0]));
-  for (const [, row] of keyed) body.append(row);
-  heads.forEach(head => head.removeAttribute("aria-sort"));
-  heads[column].setAttribute("aria-sort", falls ? "descending" : "ascending");
-}
-heads.forEach((head, column) => {
-  const button = document.createElement("button");
-  button.append(...head.childNodes);
-  button.onclick = () => sort(column);
-  head.append(button);
-});
-const filter = document.querySelector("#filter");
-const shown = document.querySelector("#shown");
-function hide() {
-  const words = filter.value.toLowerCase().split(" ");
-  const rows = [...document.querySelector("tbody").rows];
-  for (const row of rows) row.hidden = !words.every(word => row.textContent.toLowerCase().includes(word));
-  shown.textContent = rows.filter(row => !row.hidden).length + " shown";
-}
-filter.value = decodeURIComponent(location.hash.slice(1));
-filter.oninput = () => { history.replaceState(null, "", "#" + encodeURIComponent(filter.value)); hide(); };
-hide();
-"""
 
 
-# Texts
+class Before:
+    """What the last run left of files that have not changed."""
 
+    def __init__(self, out, options, table, opened):
+        self.out, self.files = out, kept.files_of(out, options, table)
+        self.table = opened.enter_context(open(os.path.join(out, table), "rb")) if table and self.files else None
 
-def shown(text):
-    """A text of an Amiga for HTML."""
-    return html.escape(letters(text))
+    def has(self, name, stamp):
+        """Whether a file was read when it had this size and date, and its pages are there."""
+        file = self.files.get(name)
+        return file and file["stamp"] == stamp and all(os.path.isfile(os.path.join(self.out, row["link"])) for row in file["rows"])
 
-
-def shown_name(name):
-    """The name of a file of the host for HTML."""
-    return html.escape(host_letters(name))
-
-
-def marked(text):
-    """A paragraph of the page of faults as HTML."""
-    text = re.sub(r"`([^`]*)`", r"<code>\1</code>", html.escape(text))
-    return "<p>" + re.sub(r"\*(\w+)\*", r"<em>\1</em>", re.sub(r"\*\*(.*?)\*\*", r"<strong>\1</strong>", text)) + "</p>"
-
-
-def paragraphs_of_causes():
-    """What the page of faults says of each cause: the paragraph that begins with its name."""
-    with open(FAULTS, encoding="utf-8") as file:
-        paragraphs = [text for text in file.read().split("\n\n") if text.startswith("**`")]
-    return {cause: marked(text) for text in reversed(paragraphs) for cause in re.findall(r"\*\*`([^`]*)`\*\*", text)}
-
-
-# Pages
-
-
-def page(title, body, script=""):
-    """A whole page. Its policy lets no script run but this one, and nothing be loaded."""
-    digest = base64.b64encode(hashlib.sha256(script.encode()).digest()).decode()
-    policy = f"default-src 'none'; style-src 'unsafe-inline'; script-src 'sha256-{digest}'"
-    return f"""<!DOCTYPE html>
-<html lang="en"><head><meta charset="utf-8"><meta http-equiv="Content-Security-Policy" content="{policy}">
-<meta name="viewport" content="width=device-width"><title>{title}</title><style>{STYLE}</style></head>
-<body>
-<h1 class="text">{title}</h1>
-{body}{f"<script>{script}</script>" if script else ""}
-</body></html>
-"""
-
-
-def table(heads, rows):
-    head = "".join(f"<th>{text}</th>" for text in heads)
-    return f"<table><thead><tr>{head}</tr></thead><tbody>\n" + "".join(f"<tr>{row}</tr>\n" for row in rows) + "</tbody></table>\n"
-
-
-def cell(text, kind="nowrap", key=None):
-    """A cell; where the index is to be sorted by something else than its text, that is the key."""
-    return f'<td class="{kind}"' + (f' data-key="{html.escape(str(key))}"' if key is not None else "") + f">{text}</td>"
-
-
-def facts(pairs):
-    rows = "".join(f"<tr><th>{name}</th>{cell(value, 'text')}</tr>\n" for name, value in pairs)
-    return f"<table>{rows}</table>\n"
-
-
-def columns(entry):
-    """What each entry has, found in a volume or in a refused image: path, kind, size, protection and date."""
-    kind, size = ("file", entry.size) if entry.is_file else ("dir", "")
-    protection = f"<code>{entry.protection:08x} {protection_text(entry.protection)}</code>"
-    return [cell(shown(entry.path), "text"), cell(kind), cell(size, "number"), cell(protection), cell(entry.date)]
-
-
-def entry_row(entry):
-    return "".join((*columns(entry), cell(entry.header, "number"), cell(shown(entry.comment), "text")))
-
-
-def finding_row(finding):
-    blocks = str(finding.first) if finding.first == finding.last else f"{finding.first} to {finding.last}"
-    return cell(blocks, "number") + cell(finding.cause) + cell(shown(finding.path or ""), "text") + cell(shown(finding.owner or ""), "text")
-
-
-def found_row(entry):
-    mark = "sound" if entry.is_sound else '<span class="refused">damaged</span>'
-    return "".join((cell(mark), *columns(entry), cell(shown(entry.comment), "text")))
-
-
-def volume_body(volume, row):
-    """The page of a volume."""
-    numbers = f"{row['kind']}, {volume.used} of {volume.blocks} blocks used, {volume.free} free"
-    counts = f"{row['dirs']} directories, {row['files']} files"
-    dates = [("Root", volume.date), ("Changed", volume.altered), ("Created", volume.created)]
-    pairs = [("Label", shown(volume.label)), ("Volume", numbers), ("Holds", counts), *dates, *file_facts(row)]
-    entries = table(ENTRY_HEADS, map(entry_row, volume.entries)) if volume.entries else ""
-    return facts(pairs) + f'<div class="beside">{picture("", volume.owners())}{entries}</div>'
-
-
-def refused_body(refused, survey, row, paragraphs):
-    """The page of a refused image: its first fault, all findings, and what is found all the same."""
-    sound = sum(entry.is_sound for entry in survey.entries)
-    counts = f"{len(survey.findings)} lines; {sound} of {len(survey.entries)} entries that are found are sound"
-    pairs = [("Refused", f'<span class="refused">{refused}</span>'), ("Cause", refused.cause), ("Block", refused.block)]
-    pairs += [("Label", shown(survey.raw_label))] if survey.label else []
-    told = paragraphs.get(refused.cause, "") + table(FINDING_HEADS, map(finding_row, survey.findings))
-    found = ""
-    if survey.entries:
-        rescue = "<p>Of a sound file, <code>adf-survey cat PATH &lt; IMAGE &gt; FILE</code> writes the bytes.</p>\n"
-        found = f'<div id="found">{rescue}{table(FOUND_HEADS, map(found_row, survey.entries))}</div>'
-    drawn = picture("", roles_of_refused(survey.image, survey.findings), refused)
-    return facts([*pairs, ("Findings", counts), *file_facts(row)]) + told + f'<div class="beside">{drawn}{found}</div>'
-
-
-def file_facts(row):
-    return [("Bytes", row["bytes"]), ("SHA-256", f"<code>{row['sha256']}</code>")]
-
-
-def index_row(row):
-    """The line of an image in the index."""
-    is_sound, get, name = row["verdict"] == "ok", lambda column: row.get(column, ""), shown_name(row["name"])
-    anchor = f'<a href="{row["link"]}">{name}</a>' if row["link"] else name
-    verdict = "ok" if is_sound else f'<span class="refused">{row["verdict"]}</span>'
-    full = 100 * row["used"] / (row["blocks"] - 2) if is_sound else ""
-    meter = f'<meter max="100" value="{full:.1f}"></meter> {full:.0f} %' if is_sound else ""
-    cells = [cell(anchor, "text"), cell(verdict, key="" if is_sound else row["verdict"].split(": ")[-1])]
-    cells += [cell(shown(row.get("raw_label", b"")), "text"), cell(get("kind")), cell(get("blocks"), "number")]
-    cells += [cell(meter, key=full), cell(get("dirs"), "number"), cell(get("files"), "number")]
-    cells += [cell(f'<a href="{row["link"]}#found">{get("found")}</a>' if get("found") else "")]
-    return "".join((*cells, *(cell(get(column)) for column in ("root", "altered", "created"))))
-
-
-# The catalogue
-
-
-def is_image(path):
-    """Whether a file is one by the end of its name, or begins as a volume does."""
-    if path.lower().endswith(ENDINGS):
-        return True
-    try:
-        if not stat.S_ISREG(os.stat(path).st_mode):
-            return False
-        with open(path, "rb") as file:
-            return file.read(len(SIGN)) == SIGN
-    except OSError:
-        return False
-
-
-def images_below(folder):
-    """The paths of all images below a folder, and of folders that cannot be read, by their bytes."""
-    unread = []
-    files = (os.path.join(path, name) for path, _, names in os.walk(folder, onerror=unread.append) for name in names)
-    return sorted([*filter(is_image, files), *(error.filename for error in unread)])
-
-
-def read_image(path):
-    """The bytes of an image, or one more than the largest has, and how many there are."""
-    found = os.stat(path)
-    if not stat.S_ISREG(found.st_mode):
-        raise OSError(errno.EINVAL, "not a file")
-    with open(path, "rb") as file:
-        return file.read(adf.MOST_BYTES + 1), found.st_size
-
-
-def page_name(name):
-    """The name of an image's page, plain on every server: what is plain of its own, and a part of a sum of all of it."""
-    plain = re.sub(rb"[^A-Za-z0-9]+", b"-", name).decode().strip("-").lower()[:40]
-    return f"{plain}-{hashlib.sha256(name).hexdigest()[:16]}.html"
-
-
-def volume_row(volume):
-    dates = {"root": volume.date, "altered": volume.altered, "created": volume.created}
-    files = sum(entry.is_file for entry in volume.entries)
-    counts = {"dirs": len(volume.entries) - files, "files": files}
-    numbers = {"kind": volume.kind, "blocks": volume.blocks, "used": volume.used, "free": volume.free}
-    return {"verdict": "ok", "raw_label": volume.raw_label, **numbers, **counts, **dates}
-
-
-def write_line(file, values):
-    file.write("\t".join(map(str, values)) + "\n")
-
-
-def new_table(folder, name, columns):
-    file = open(os.path.join(folder, name), "x", encoding="utf-8", newline="\n")
-    write_line(file, columns)
-    return file
-
-
-def write_entries(file, name, volume, is_escaped):
-    for entry in volume.entries:
-        kind, digest = ("file", hashlib.sha256(entry.read()).hexdigest()) if entry.is_file else ("dir", "")
-        numbers = (kind, entry.size, f"{entry.protection:08x}", entry.date, entry.header, digest)
-        write_line(file, (name, *numbers, text_of(entry.raw_path, is_escaped), text_of(entry.raw_comment, is_escaped), "sound"))
-
-
-def write_found(file, name, survey, is_escaped):
-    """The lines of what is found in a refused image: no header is told of it, and no sum made."""
-    for entry in survey.entries:
-        kind, state = "file" if entry.is_file else "dir", "sound" if entry.is_sound else "damaged"
-        numbers = (kind, entry.size, f"{entry.protection:08x}", entry.date, "", "")
-        write_line(file, (name, *numbers, text_of(entry.path, is_escaped), text_of(entry.comment, is_escaped), state))
+    def answer(self, name):
+        """What a reader answered of a file."""
+        file = self.files[name]
+        if self.table:
+            self.table.seek(file["at"])
+        return file["rows"], self.table.read(file["length"]) if self.table else b""
 
 
 class Catalogue:
-    """A catalogue that is being written: its folder, its two tables where they are wanted, and the lines of its index."""
+    """A catalogue that is being written: the rows of all images, what is kept of files, and the tables if they are wanted."""
 
-    def __init__(self, out, tables, is_escaped, paragraphs):
-        self.out, self.tables, self.is_escaped, self.paragraphs, self.rows, self.status = out, tables, is_escaped, paragraphs, [], 0
+    def __init__(self, out, has_tables, opened):
+        self.has_tables, self.rows, self.files = has_tables, [], {}
+        if has_tables:
+            self.images, self.entries = (opened.enter_context(open(os.path.join(out, name), "xb")) for name in (IMAGES, ENTRIES))
+            write_lines(self.images, [IMAGE_COLUMNS])
+            write_lines(self.entries, [ENTRY_COLUMNS])
 
-    def add(self, folder, path):
-        """Writes the page of an image, and keeps its line."""
-        name = os.path.relpath(path, folder)
-        image = adf.escape(name) if self.is_escaped else host_letters(name)
-        row = {"name": name, "image": image, "link": f"images/{page_name(name)}"}
-        self.rows.append(row)
-        try:
-            image, row["bytes"] = read_image(path)
-        except OSError as error:
-            row.update(verdict=f"read fault: {error.strerror}", link=None)
-            self.status = FAILED
-        else:
-            body = '<p><a href="../index.html">All images</a></p>\n' + self.describe(image, row)
-            self.write(row["link"], page(shown_name(name), body))
-        if self.tables:
-            row["label"] = text_of(row.get("raw_label", b""), self.is_escaped)
-            write_line(self.tables[0], (row.get(column, "") for column in IMAGE_COLUMNS))
+    def add(self, name, stamp, rows, lines):
+        """Adds what a reader answers of a file. What could not be read is read again by the next run."""
+        at = self.entries.tell() if self.has_tables else 0
+        if self.has_tables:
+            write_lines(self.images, ([row.get(column, "") for column in IMAGE_COLUMNS] for row in rows))
+            self.entries.write(lines)
+        if stamp and all(row["link"] for row in rows):
+            self.files[name] = {"stamp": stamp, "rows": rows, "at": at, "length": len(lines)}
+        self.rows += rows
 
-    def describe(self, image, row):
-        """The body of an image's page; fills its row."""
-        row["sha256"] = hashlib.sha256(image).hexdigest() if len(image) == row["bytes"] else ""
-        try:
-            volume = adf.Volume(image)
-        except adf.Refused as refused:
-            survey = adf.survey(image)
-            row.update(verdict=str(refused), raw_label=survey.raw_label)
-            sound = sum(entry.is_sound for entry in survey.entries)
-            row["found"] = f"{sound} of {len(survey.entries)} sound" if survey.entries else ""
-            self.status = max(self.status, REFUSED)
-            if self.tables:
-                write_found(self.tables[1], row["image"], survey, self.is_escaped)
-            return refused_body(refused, survey, row, self.paragraphs)
-        row.update(volume_row(volume))
-        if self.tables:
-            write_entries(self.tables[1], row["image"], volume, self.is_escaped)
-        return volume_body(volume, row)
+    def status(self):
+        if not all(row["link"] for row in self.rows):
+            return FAILED
+        return 0 if all(row["verdict"] == "ok" for row in self.rows) else REFUSED
 
-    def write(self, name, text):
-        with open(os.path.join(self.out, name), "x", encoding="utf-8", newline="\n") as file:
-            file.write(text)
 
-    def write_index(self, title):
-        counts = f"<p>{len(self.rows)} images, {sum(row['verdict'] == 'ok' for row in self.rows)} sound</p>\n"
-        counts += '<p><label>Filter <input id="filter" type="search"></label> <span id="shown"></span></p>\n'
-        self.write("index.html", page(title, counts + table(INDEX_HEADS, map(index_row, self.rows)), SCRIPT))
+def options_of(words):
+    return [words.tsv, words.escape]
+
+
+def table_of(words):
+    return ENTRIES if words.tsv else None
+
+
+def write_lines(file, lines):
+    file.writelines(line_of(values).encode("utf-8") for values in lines)
+
+
+@contextlib.contextmanager
+def folder_for(path):
+    """A folder to fill, which then takes this path; if there is a catalogue, what is new takes its place in it, the index last."""
+    if not os.path.isfile(os.path.join(path, kept.NAME)):
+        with new_folder(path) as folder:
+            os.mkdir(os.path.join(folder, FOLDER))
+            yield folder
+        return
+    try:
+        with tempfile.TemporaryDirectory(prefix=".adf-", dir=path) as folder:
+            os.mkdir(os.path.join(folder, FOLDER))
+            yield folder
+            os.makedirs(os.path.join(path, FOLDER), exist_ok=True)
+            names = [os.path.join(FOLDER, name) for name in os.listdir(os.path.join(folder, FOLDER))]
+            for name in [*names, *(name for name in (IMAGES, ENTRIES, INDEX, kept.NAME) if os.path.exists(os.path.join(folder, name)))]:
+                os.replace(os.path.join(folder, name), os.path.join(path, name))
+    except OSError as error:
+        error.filename = path
+        raise
+
+
+def remove_old(out, catalogue):
+    """Removes pages to which no row leads, and tables that are not wanted."""
+    links = {row["link"] for row in catalogue.rows}
+    pages = {os.path.join(FOLDER, name) for name in os.listdir(os.path.join(out, FOLDER)) if PAGE_NAME.fullmatch(name)}
+    tables = set() if catalogue.has_tables else {IMAGES, ENTRIES}
+    for name in pages - links | tables:
+        with contextlib.suppress(FileNotFoundError):
+            os.remove(os.path.join(out, name))
+
+
+def fill(out, words, folder, opened):
+    """Writes all pages that are new and the tables into a folder; answers the catalogue."""
+    files = [(path, os.path.relpath(path, folder).decode("latin-1"), kept.stamp_of(path)) for path in files_below(folder)]
+    before = Before(words.out, options_of(words), table_of(words), opened)
+    old = {name for _, name, stamp in files if before.has(name, stamp)}
+    catalogue, progress = Catalogue(out, words.tsv, opened), Progress(len(files), "files")
+    opened.callback(progress.end)
+    reader = Reader(folder, out, words.escape, words.tsv)
+    answers = opened.enter_context(contextlib.closing(in_order(reader, [path for path, name, _ in files if name not in old])))
+    for _, name, stamp in files:
+        catalogue.add(name, stamp, *(before.answer(name) if name in old else next(answers)))
+        progress.step()
+    return catalogue
 
 
 def work(words):
-    wanted = TABLES if words.tsv else ()
     adf.load()
     folder = os.fsencode(words.folder)
     os.listdir(folder)
-    paths, paragraphs = images_below(folder), paragraphs_of_causes()
-    with new_folder(words.out) as out, contextlib.ExitStack() as opened:
-        os.mkdir(os.path.join(out, "images"))
-        tables = [opened.enter_context(new_table(out, name, columns)) for name, columns in wanted]
-        catalogue = Catalogue(out, tables, words.escape, paragraphs)
-        progress = Progress(len(paths), "images")
-        for path in paths:
-            catalogue.add(folder, path)
-            progress.step()
-        progress.end()
-        catalogue.write_index(shown_name(os.path.basename(os.path.abspath(folder)) or folder))
-    return catalogue.status
+    with folder_for(words.out) as out:
+        with contextlib.ExitStack() as opened:
+            catalogue = fill(out, words, folder, opened)
+        with open(os.path.join(out, INDEX), "x", encoding="utf-8", newline="\n") as file:
+            file.write(index_page(os.path.basename(os.path.abspath(folder)) or folder, catalogue.rows))
+        kept.write(out, options_of(words), table_of(words), catalogue.files)
+    remove_old(words.out, catalogue)
+    return catalogue.status()
 
 
 def main():
     line = command_line("adf-catalogue", "Writes pages of the images in a folder for a browser: an index, and one for each image.")
-    line.add_argument("folder", metavar="FOLDER", help="the images, also those in folders below: files named *.adf or *.hdf, or that begin with DOS")
-    line.add_argument("out", metavar="OUT", help="is made whole or not at all, and must not be there; the index is index.html")
+    line.add_argument("folder", metavar="FOLDER", help="the images, also in folders below: *.adf, *.hdf and what begins with DOS, in .zip, .gz and .adz too")
+    line.add_argument("out", metavar="OUT", help="is made whole or not at all; a catalogue that is there is brought up to date; the index is index.html")
     line.add_argument("--tsv", action="store_true", help="write the tables OUT/images.tsv and OUT/entries.tsv too")
     add_escape(line, "write texts of the tables")
     begin(line, work)

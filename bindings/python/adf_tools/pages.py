@@ -1,0 +1,197 @@
+"""The pages of a catalogue: the index, and one for each image."""
+
+import base64
+import functools
+import hashlib
+import html
+import os
+import re
+
+from adf_tools.names import host_letters, letters
+from adf_tools.picture import picture, roles_of_refused
+from adf_tools.protection import protection_text
+
+HERE = os.path.dirname(os.path.abspath(__file__))
+FAULTS = os.path.join(HERE, "FAULTS.md")
+if not os.path.exists(FAULTS):  # in a clone
+    FAULTS = os.path.join(HERE, "..", "..", "..", "docs", "FAULTS.md")
+INDEX_HEADS = ("Image", "Verdict", "Label", "Kind", "Blocks", "Full", "Directories", "Files", "Found", "Root", "Changed", "Created")
+ENTRY_HEADS = ("Path", "Kind", "Size", "Protection", "Date", "Header", "Comment")
+FINDING_HEADS = ("Blocks", "Cause", "Path", "Owned by")
+FOUND_HEADS = ("", "Path", "Kind", "Size", "Protection", "Date", "Comment")
+STYLE = """
+body { font: 15px/1.4 sans-serif; margin: 1.5em; color: #222; background: #fff }
+table { border-collapse: collapse; margin: 1em 0 } svg { max-width: 100%; height: auto } meter { width: 5em }
+td, th { padding: .15em .7em; text-align: left; border-bottom: 1px solid #ddd; vertical-align: top }
+thead th { background: #eee; position: sticky; top: 0 } .number { text-align: right } .nowrap { white-space: nowrap }
+.text { white-space: pre-wrap; overflow-wrap: anywhere; min-width: 6em } code { white-space: pre-wrap }
+.nowrap code { white-space: pre } @media (min-width: 70em) { .beside svg { max-width: 30vw }
+.beside { display: grid; grid-template-columns: auto 1fr; gap: 2em; align-items: start } }
+button { font: inherit; font-weight: bold; border: 0; background: none; padding: 0; cursor: pointer } .refused { color: #a00 }
+[aria-sort=ascending] button::after { content: " \\25b2" } [aria-sort=descending] button::after { content: " \\25bc" }
+"""
+SCRIPT = """
+const order = new Intl.Collator("en", { numeric: true });
+const heads = [...document.querySelectorAll("thead th")];
+function sort(column) {
+  const falls = heads[column].getAttribute("aria-sort") === "ascending";
+  const body = document.querySelector("tbody");
+  const keyed = [...body.rows].map(row => [row.cells[column].dataset.key ?? row.cells[column].textContent, row]);
+  keyed.sort((one, other) => (falls ? -1 : 1) * order.compare(one[0], other[0]));
+  for (const [, row] of keyed) body.append(row);
+  heads.forEach(head => head.removeAttribute("aria-sort"));
+  heads[column].setAttribute("aria-sort", falls ? "descending" : "ascending");
+}
+heads.forEach((head, column) => {
+  const button = document.createElement("button");
+  button.append(...head.childNodes);
+  button.onclick = () => sort(column);
+  head.append(button);
+});
+const filter = document.querySelector("#filter");
+const shown = document.querySelector("#shown");
+function hide() {
+  const words = filter.value.toLowerCase().split(" ");
+  const rows = [...document.querySelector("tbody").rows];
+  for (const row of rows) row.hidden = !words.every(word => row.textContent.toLowerCase().includes(word));
+  shown.textContent = rows.filter(row => !row.hidden).length + " shown";
+}
+filter.value = decodeURIComponent(location.hash.slice(1));
+filter.oninput = () => { history.replaceState(null, "", "#" + encodeURIComponent(filter.value)); hide(); };
+hide();
+"""
+
+
+# Texts
+
+
+def shown(text):
+    """A text of an Amiga for HTML."""
+    return html.escape(letters(text))
+
+
+def shown_name(name):
+    """The name of a file of the host for HTML."""
+    return html.escape(host_letters(name))
+
+
+def marked(text):
+    """A paragraph of the page of faults as HTML."""
+    text = re.sub(r"`([^`]*)`", r"<code>\1</code>", html.escape(text))
+    return "<p>" + re.sub(r"\*(\w+)\*", r"<em>\1</em>", re.sub(r"\*\*(.*?)\*\*", r"<strong>\1</strong>", text)) + "</p>"
+
+
+@functools.lru_cache(maxsize=None)
+def paragraphs_of_causes():
+    """What the page of faults says of each cause: the paragraph that begins with its name."""
+    with open(FAULTS, encoding="utf-8") as file:
+        paragraphs = [text for text in file.read().split("\n\n") if text.startswith("**`")]
+    return {cause: marked(text) for text in reversed(paragraphs) for cause in re.findall(r"\*\*`([^`]*)`\*\*", text)}
+
+
+# Pages
+
+
+def page(title, body, script=""):
+    """A whole page. Its policy lets no script run but this one, and nothing be loaded."""
+    digest = base64.b64encode(hashlib.sha256(script.encode()).digest()).decode()
+    policy = f"default-src 'none'; style-src 'unsafe-inline'; script-src 'sha256-{digest}'"
+    return f"""<!DOCTYPE html>
+<html lang="en"><head><meta charset="utf-8"><meta http-equiv="Content-Security-Policy" content="{policy}">
+<meta name="viewport" content="width=device-width"><title>{title}</title><style>{STYLE}</style></head>
+<body>
+<h1 class="text">{title}</h1>
+{body}{f"<script>{script}</script>" if script else ""}
+</body></html>
+"""
+
+
+def table(heads, rows):
+    head = "".join(f"<th>{text}</th>" for text in heads)
+    return f"<table><thead><tr>{head}</tr></thead><tbody>\n" + "".join(f"<tr>{row}</tr>\n" for row in rows) + "</tbody></table>\n"
+
+
+def cell(text, kind="nowrap", key=None):
+    """A cell; where the index is to be sorted by something else than its text, that is the key."""
+    return f'<td class="{kind}"' + (f' data-key="{html.escape(str(key))}"' if key is not None else "") + f">{text}</td>"
+
+
+def facts(pairs):
+    rows = "".join(f"<tr><th>{name}</th>{cell(value, 'text')}</tr>\n" for name, value in pairs)
+    return f"<table>{rows}</table>\n"
+
+
+def columns(entry):
+    """What each entry has, found in a volume or in a refused image: path, kind, size, protection and date."""
+    kind, size = ("file", entry.size) if entry.is_file else ("dir", "")
+    protection = f"<code>{entry.protection:08x} {protection_text(entry.protection)}</code>"
+    return [cell(shown(entry.path), "text"), cell(kind), cell(size, "number"), cell(protection), cell(entry.date)]
+
+
+def entry_row(entry):
+    return "".join((*columns(entry), cell(entry.header, "number"), cell(shown(entry.comment), "text")))
+
+
+def finding_row(finding):
+    blocks = str(finding.first) if finding.first == finding.last else f"{finding.first} to {finding.last}"
+    return cell(blocks, "number") + cell(finding.cause) + cell(shown(finding.path or ""), "text") + cell(shown(finding.owner or ""), "text")
+
+
+def found_row(entry):
+    mark = "sound" if entry.is_sound else '<span class="refused">damaged</span>'
+    return "".join((cell(mark), *columns(entry), cell(shown(entry.comment), "text")))
+
+
+def volume_body(volume, row):
+    """The page of a volume."""
+    numbers = f"{row['kind']}, {volume.used} of {volume.blocks} blocks used, {volume.free} free"
+    counts = f"{row['dirs']} directories, {row['files']} files"
+    dates = [("Root", volume.date), ("Changed", volume.altered), ("Created", volume.created)]
+    pairs = [("Label", shown(volume.label)), ("Volume", numbers), ("Holds", counts), *dates, *file_facts(row)]
+    entries = table(ENTRY_HEADS, map(entry_row, volume.entries)) if volume.entries else ""
+    return facts(pairs) + f'<div class="beside">{picture("", volume.owners())}{entries}</div>'
+
+
+def refused_body(refused, survey, row):
+    """The page of a refused image: its first fault, all findings, and what is found all the same."""
+    sound = sum(entry.is_sound for entry in survey.entries)
+    counts = f"{len(survey.findings)} lines; {sound} of {len(survey.entries)} entries that are found are sound"
+    pairs = [("Refused", f'<span class="refused">{refused}</span>'), ("Cause", refused.cause), ("Block", refused.block)]
+    pairs += [("Label", shown(survey.raw_label))] if survey.label else []
+    told = paragraphs_of_causes().get(refused.cause, "") + table(FINDING_HEADS, map(finding_row, survey.findings))
+    found = ""
+    if survey.entries:
+        rescue = "<p>Of a sound file, <code>adf-survey cat PATH &lt; IMAGE &gt; FILE</code> writes the bytes.</p>\n"
+        found = f'<div id="found">{rescue}{table(FOUND_HEADS, map(found_row, survey.entries))}</div>'
+    drawn = picture("", roles_of_refused(survey.image, survey.findings), refused)
+    return facts([*pairs, ("Findings", counts), *file_facts(row)]) + told + f'<div class="beside">{drawn}{found}</div>'
+
+
+def file_facts(row):
+    return [("Bytes", row["bytes"]), ("SHA-256", f"<code>{row['sha256']}</code>")]
+
+
+def image_page(name, body):
+    """The page of an image."""
+    return page(shown_name(name), f'<p><a href="../index.html">All images</a></p>\n{body}')
+
+
+def index_page(name, rows):
+    """The index of a folder."""
+    counts = f"<p>{len(rows)} images, {sum(row['verdict'] == 'ok' for row in rows)} sound</p>\n"
+    counts += '<p><label>Filter <input id="filter" type="search"></label> <span id="shown"></span></p>\n'
+    return page(shown_name(name), counts + table(INDEX_HEADS, map(index_row, rows)), SCRIPT)
+
+
+def index_row(row):
+    """The line of an image in the index."""
+    is_sound, get, name = row["verdict"] == "ok", lambda column: row.get(column, ""), shown_name(row["name"].encode("latin-1"))
+    anchor = f'<a href="{row["link"]}">{name}</a>' if row["link"] else name
+    verdict = "ok" if is_sound else f'<span class="refused">{row["verdict"]}</span>'
+    full = 100 * row["used"] / (row["blocks"] - 2) if is_sound else ""
+    meter = f'<meter max="100" value="{full:.1f}"></meter> {full:.0f} %' if is_sound else ""
+    cells = [cell(anchor, "text"), cell(verdict, key="" if is_sound else row["verdict"].split(": ")[-1])]
+    cells += [cell(shown(get("text")), "text"), cell(get("kind")), cell(get("blocks"), "number")]
+    cells += [cell(meter, key=full), cell(get("dirs"), "number"), cell(get("files"), "number")]
+    cells += [cell(f'<a href="{row["link"]}#found">{get("found")}</a>' if get("found") else "")]
+    return "".join((*cells, *(cell(get(column)) for column in ("root", "altered", "created"))))
