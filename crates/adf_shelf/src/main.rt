@@ -46,7 +46,10 @@ fn main(rt: HostRuntime) -> ExitCode {
     match status(&rt) {
         Ok(status) => ExitCode::from(status),
         Err(error) => {
-            say(&mut Device::new(rt.stderr()), stop_of(&error).line().as_bytes());
+            say(
+                &mut Device::new(rt.stderr()),
+                stop_of(&error).line().as_bytes(),
+            );
             ExitCode::from(3)
         }
     }

@@ -15,12 +15,7 @@ pub fn is_rescued(alloc: Global, image: &[u8], line: &str) -> Result<(), Wrong> 
     let answer = answer_of(alloc, CommandLine::survey("rescue"), image)?;
     let status = if answer.errors.is_empty() { 0 } else { 1 };
     is_status(alloc, status, answer.status)?;
-    is_same(
-        alloc,
-        "rescue",
-        line.as_bytes(),
-        &text_of(alloc, &answer)?,
-    )
+    is_same(alloc, "rescue", line.as_bytes(), &text_of(alloc, &answer)?)
 }
 
 // What a rescue wrote: the paths of the volume and the lines on errors, with `, ` between them.
@@ -45,10 +40,7 @@ fn push_paths(alloc: Global, image: &[u8], text: &mut Vec<u8>) -> Result<(), Wro
     }
     for before in 0..volume.len() {
         begin_item(text)?;
-        push_names(
-            text,
-            &volume.path(alloc, Node(before.saturating_add(1)))?,
-        )?;
+        push_names(text, &volume.path(alloc, Node(before.saturating_add(1)))?)?;
     }
     Ok(())
 }

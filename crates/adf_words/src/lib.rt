@@ -7,4 +7,6 @@ mod survey_line;
 
 pub use crate::command_line::{Request, USAGE, WordsFault, parse, words_as_documented};
 pub use crate::shelf_line::{Order, SHELF_USAGE, parse_shelf, shelf_words_as_documented};
-pub use crate::survey_line::{Inquiry, Question, SURVEY_USAGE, parse_survey, survey_words_as_documented};
+pub use crate::survey_line::{
+    Inquiry, Question, SURVEY_USAGE, parse_survey, survey_words_as_documented,
+};
