@@ -41,8 +41,9 @@ pub extern "C" fn adf_run(
 /// Runs the command `adf-survey` on an image in memory. Each word ends with a zero byte, and the first is the program's name.
 /// Returns the exit status:
 ///
-/// - 0 if there are no findings, or the bytes of a sound file are written;
-/// - 1 if findings are written to the output; of `cat`, if the path leads to no sound file, which the errors say;
+/// - 0 if there are no findings, or the bytes of a sound file are written; of `rescue`, if no entry is left out;
+/// - 1 if findings are written to the output; of `cat`, if the path leads to no sound file, which the errors say; of `rescue`, if
+///   the errors say which entries are left out, or that nothing stands;
 /// - 2 if the words or the path are refused: the errors say which, nothing is read, and the output is empty;
 /// - 3 if the output is too small or memory ran out: the errors say which.
 #[unsafe(no_mangle)]
