@@ -117,7 +117,7 @@ module _ (image : List ℕ) where
     pub file_one : (n a b : ℕ) → FileAt image w n a → FileAt image w n b → a ≡ b
     file_one n a b f g = (one_head v f.header g.header).1
 
-    member_one : (n m a b : ℕ) → MemberAt image w n m a → MemberAt image w n m b → a ≡ b
+    pub member_one : (n m a b : ℕ) → MemberAt image w n m a → MemberAt image w n m b → a ≡ b
     member_one n zero a b h k = file_one n a b h k
     member_one n (suc m) a b h k = (one_block v (Ext n (suc m)) (Ext n (suc m)) a b h k (refl, refl, refl)).1
 

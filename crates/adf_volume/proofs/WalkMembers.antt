@@ -36,14 +36,14 @@ not_yet {f = f} {role = role} {w = w} old k lacks =
 
 module _ (f : Role → Bool) (role : ℕ → Role) (own : (k : ℕ) → f (role k) ≡ true) where
   -- the root alone has none
-  none_listed : (c : ℕ) → f Root ≡ false → Lists f role ((Root, c) ∷ [])
+  pub none_listed : (c : ℕ) → f Root ≡ false → Lists f role ((Root, c) ∷ [])
   none_listed c z = record {
     to = (λ k b h. elim h [ inl y ↦ absurd (let x : true ≡ false = sym (ap f y.0 ∙ own k) ∙ z in cc) | inr y ↦ absurd y ]);
     from = (λ k b h. absurd (subst (λ t. At (cond t (c ∷ []) []) k b) z h));
   }
 
   -- one member more, which is the next one where the test picks it
-  one_more : (w : List (Role × ℕ)) (q : Role) (c : ℕ) → ((k m : ℕ) → role k ≡ role m → k ≡ m) → Lists f role w → (f q ≡ true → q ≡ role (length (picked f w)))
+  pub one_more : (w : List (Role × ℕ)) (q : Role) (c : ℕ) → ((k m : ℕ) → role k ≡ role m → k ≡ m) → Lists f role w → (f q ≡ true → q ≡ role (length (picked f w)))
       → Lists f role ((q, c) ∷ w)
   one_more w q c apart old next = record { to = to; from = λ k b h. from k b (f q) refl h }
     where
@@ -151,7 +151,7 @@ module _ (image : List ℕ) where
       omega (arith, at_below (datas_in w n) m x.0 (ih.to m x.0 x.1))) in
       omega arith
 
-  data_only : (n : ℕ) (q : Role) → is_data_of n q ≡ true → (k : ℕ) × (q ≡ Data n k)
+  pub data_only : (n : ℕ) (q : Role) → is_data_of n q ≡ true → (k : ℕ) × (q ≡ Data n k)
   data_only n (Data m k) t = (k, ap (λ m. Data m k) (sym (eqb-true n m t)))
   data_only n _ t = cc
 
@@ -174,10 +174,10 @@ module _ (image : List ℕ) where
   has_data w v n k b h = (datas n v).from k b h
 
   -- what names a page has the extension blocks of the pages before it
-  before_page : (w : List (Role × ℕ)) → IsWalk image w → (k m j a i : ℕ) → m < k → ROOT_PAGES + MAP_EXT_PAGES * j ≤ m → NamesPage image w k a i
+  earlier_map_ext : (w : List (Role × ℕ)) → IsWalk image w → (k m j a i : ℕ) → m < k → ROOT_PAGES + MAP_EXT_PAGES * j ≤ m → NamesPage image w k a i
       → (b : ℕ) × Has w (MapExt j) b
-  before_page w v k m j a i l u (inl x) = absurd (omega arith)
-  before_page w v k m j a i l u (inr x) = map_ext_down image w v x.0 j a x.1 (omega arith)
+  earlier_map_ext w v k m j a i l u (inl x) = absurd (omega arith)
+  earlier_map_ext w v k m j a i l u (inr x) = map_ext_down image w v x.0 j a x.1 (omega arith)
 
   next_page : (w : List (Role × ℕ)) → IsWalk image w → Lists is_page Page w → (k a i : ℕ) → IsDue image w (Page k) a i → k ≡ length (pages_in w)
   next_page w v ih k a i d =
@@ -185,7 +185,7 @@ module _ (image : List ℕ) where
       let m : ℕ = length (pages_in w) in
       let f : k < pages_needed (blocks image) = d.asked.0 in
       let high : m < k → ⊥ = (λ l.
-      let p = page_word image w m (omega arith) (λ j u. before_page w v k m j a i l u d.asked.1) in
+      let p = page_word image w m (omega arith) (λ j u. earlier_map_ext w v k m j a i l u d.asked.1) in
       let x = is_there image w (Page m) (Page k) a i p.0 p.1 d p.2 (omega arith, (λ z. omega arith), (λ z y. omega arith)) (omega arith) in
       omega (arith, at_below (pages_in w) m x.0 (ih.to m x.0 x.1))) in
       omega arith

@@ -50,9 +50,6 @@ module _ (image : List ℕ) where
   pub one_head : {w : List (Role × ℕ)} {n b c : ℕ} → IsWalk image w → (h : HeadAt w n b) (k : HeadAt w n c) → (head_role h ≡ head_role k) × (b ≡ c)
   one_head v = gathered.one_head image (of_walk v)
 
-  pub one_node : {w : List (Role × ℕ)} → IsWalk image w → (p a b : ℕ) → NodeAt w p a → NodeAt w p b → a ≡ b
-  one_node v = gathered.node_one image (of_walk v)
-
   pub ext_below : {w : List (Role × ℕ)} → IsWalk image w → (n k b : ℕ) → Has w (Ext n (suc k)) b → k < ext_count w n
   ext_below v = gathered.ext_below image (of_walk v)
 
