@@ -36,7 +36,7 @@ use Rattle.adf_survey.specs.Survey.RootTells.{clean_root, noted_root}
 use Rattle.adf_survey.specs.Survey.UnreadTells.{bad_boot, bad_root}
 use Rattle.adf_survey.specs.Survey.JudgementValue.{clean, noted, passed}
 use Rattle.adf_survey.proofs.Keys.{lacks_at, same_of_key}
-use Rattle.adf_survey.proofs.AsksSplit.{asks_more}
+use Rattle.adf_volume.proofs.AsksSplit.{asks_more}
 use Rattle.adf_survey.proofs.BitSteps.{at_has}
 use Rattle.adf_survey.proofs.HeadPlaces.{found_header, header_found}
 use Rattle.adf_survey.proofs.Known.{tells_absent}

@@ -17,6 +17,7 @@ use Rattle.adf_volume.specs.Demands.{AllHold, FirstFails}
 use Rattle.adf_blocks.specs.declared.layout.TheConstants.{POINTERS}
 use Rattle.adf_blocks.specs.Sizes.{blocks}
 use Rattle.adf_volume.specs.Image.{IsFreeAt, name_of, table_word, word_in}
+use Rattle.adf_volume.specs.Positions.{Position}
 use Rattle.adf_volume.specs.Walk.{Role, Has, bitmap_demands, data_count, ext_count, heads, node_block}
 use Rattle.adf_volume.specs.Walk.Role.{Page, Head, Ext, Data}
 use Rattle.adf_survey.specs.Demands.{uppers_in}
@@ -85,7 +86,7 @@ abbrev pub by_name : Vec ℕ → Vec ℕ → Ordering
 by_name a b = slice_cmp nat_cmp a.items b.items
 
 -- the set has the names of the walk's headers in the chain at a position, if there are any
-abbrev pub AreNamed : List ℕ → List (Role × ℕ) → Key → BTreeSet (Vec ℕ) → Type 0
+abbrev pub AreNamed : List ℕ → List (Role × ℕ) → Position → BTreeSet (Vec ℕ) → Type 0
 AreNamed image w k names =
     (q : Vec ℕ) (m p s j b : ℕ) → suc p ≡ k.first → suc (suc s) ≡ k.second → Has w (Head m p s j) b
     → contains by_name names q ≡ has_name image w p s q.items

@@ -5,11 +5,12 @@ ghost use Rattle.std.specs.Prelude.{◌≡◌, ◌<◌, ◌≤◌, ◌+◌, ◌^
 ghost use Rattle.adf_blocks.specs.declared.layout.TheConstants.{SLOTS};
 ghost use Rattle.adf_blocks.specs.Sizes.{blocks, pages_needed};
 ghost use Rattle.adf_volume.specs.Image.{root_of};
+ghost use Rattle.adf_volume.specs.Positions.{before_node, position_of, word_of_map_ext, word_of_page};
 ghost use Rattle.adf_survey.specs.Survey.{Course};
-ghost use Rattle.adf_survey.specs.Parts.{key_of, role_of};
+ghost use Rattle.adf_survey.specs.Parts.{role_of};
 ghost use Rattle.adf_survey.specs.Found.{IsFinished};
 ghost use Rattle.adf_survey.specs.Courses.{Holds, IsAt, IsAtFile, IsAtPage, IsDue, IsGoneOn, IsInDatas, IsInDir, IsNamed};
-ghost use Rattle.adf_survey.specs.Courses.{IsNextAsk, IsOutcome, IsPageNamed, before_node, map_ext_word, page_word};
+ghost use Rattle.adf_survey.specs.Courses.{IsNextAsk, IsOutcome, IsPageNamed};
 
 use crate::found::Found;
 use crate::image::Image;
@@ -44,7 +45,7 @@ fn of_part(part: Part, block: u32, cause: Cause) -> Finding
 // Judges the part that is next and notes its cause. Returns the part if it is to be taken, `None` if passed over.
 fn judge_next(image: &Image<'_>, found: &mut Found, ask: &Ask) -> Result<Option<Part>, NoMemory>
     requires { length found.old.nodes.items < 2 ^ 32 }
-    ensures { IfOk result (λ o. (s : Course) → Holds image.now found.old (key_of (role_of ask.now.part)) s
+    ensures { IfOk result (λ o. (s : Course) → Holds image.now found.old (position_of (role_of ask.now.part)) s
         → IsNextAsk image.now s ask.now
         → IsOutcome image.now s ask.now found.old found.new o) }
 {
@@ -95,7 +96,7 @@ fn go_on(
 
 // The word that points to a page, in the root or in a bitmap extension block.
 fn page_word(page: u32) -> usize
-    ensures named { result ≡ page_word page }
+    ensures named { result ≡ word_of_page page }
     ensures inside { result < 128 }
 {
     let page = page as usize;
@@ -108,7 +109,7 @@ fn page_word(page: u32) -> usize
 
 // The word that points to the bitmap extension block before a page, in the root or in the extension block before.
 fn map_ext_word(page: u32) -> usize
-    ensures named { result ≡ map_ext_word page }
+    ensures named { result ≡ word_of_map_ext page }
     ensures inside { result < 128 }
 {
     if page as usize == ROOT_PAGES {

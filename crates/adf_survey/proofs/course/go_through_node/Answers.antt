@@ -1,5 +1,6 @@
 use Rattle.std.proofs.Common.{◌≡◌, ◌+◌, suc, inl, inr, subst, sym, ◌∙◌, arith}
-use Rattle.adf_survey.specs.Courses.{IsAt, before_node}
+use Rattle.adf_volume.specs.Positions.{before_node}
+use Rattle.adf_survey.specs.Courses.{IsAt}
 use Rattle.adf_survey.proofs.CoursePlaces.{dir_begins, dir_there, file_there, nothing_there}
 use Rattle.adf_survey.proofs.course.go_through_node.Goals as goal
 

@@ -1,6 +1,7 @@
 use Rattle.std.proofs.Common.{◌-◌, suc}
 use Rattle.adf_blocks.specs.Sizes.{blocks}
-use Rattle.adf_survey.specs.Courses.{IsAt, before_node}
+use Rattle.adf_volume.specs.Positions.{before_node}
+use Rattle.adf_survey.specs.Courses.{IsAt}
 use Rattle.adf_survey.proofs.course.run.Given as goal
 
 abbrev pub invariant-loop-node : goal.invariant-loop-node
