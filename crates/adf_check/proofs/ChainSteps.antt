@@ -30,7 +30,7 @@ use Rattle.adf_check.specs.Reading.{IsAtSlot, IsInChain, Sees, sees_of}
 use Rattle.adf_check.specs.declared.kept_owner.KeptOwner.TheVariants.{Free}
 use Rattle.adf_check.specs.KeptOwner.{kept_at}
 use Rattle.adf_check.specs.Store.{StoreValue}
-use Rattle.adf_check.proofs.ClaimSteps.{IsNamed, IsStored, form_fault, gathered, name_fault, read_one, read_to}
+use Rattle.adf_check.proofs.ClaimSteps.{IsNextAt, IsStored, form_fault, gathered, name_fault, read_one, read_to}
 
 -- the next header, at position j of slot s of directory p
 abbrev pub next_head : List (Role × ℕ) → ℕ → ℕ → ℕ → Role
@@ -79,7 +79,7 @@ seen_more old new name h x = rw (h x) (Decides-or (bytes_eq name x) (has old x) 
 -- a word of block a names block b next in the chain of slot s of directory p
 module _ {image : List ℕ} {store : StoreValue} {p up s a b : ℕ} {seen : List ℕ → Type 0} (lt : s < SLOTS) (begun : IsBegun image)
     (st : IsInChain image store p up s a b seen) (ne : b ≢ 0) where
-  pub head_named : IsNamed image store st.walk (next_head st.walk p s st.place) a b
+  pub head_named : IsNextAt image store st.walk (next_head st.walk p s st.place) a b
   head_named = record {
     begun = begun;
     read = st.read;

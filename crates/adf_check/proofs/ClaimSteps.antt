@@ -51,7 +51,7 @@ pub gathered : {image : List ℕ} {store : StoreValue} {w : List (Role × ℕ)} 
 gathered {image = image} read = of_walk image read.is_walk
 
 -- the role comes next, and a word of block a names block b for it
-pub record IsNamed (image : List ℕ) (store : StoreValue) (w : List (Role × ℕ)) (r : Role) (a b : ℕ) : Type 0 where
+pub record IsNextAt (image : List ℕ) (store : StoreValue) (w : List (Role × ℕ)) (r : Role) (a b : ℕ) : Type 0 where
   pub begun : IsBegun image
   pub read : HasRead image store w (first r) (position_of r)
   pub index : ℕ
@@ -79,7 +79,7 @@ stored_is old new r b s =
       used = used i;
     }
 
-module _ {image : List ℕ} {store : StoreValue} {w : List (Role × ℕ)} {r : Role} {a b : ℕ} (st : IsNamed image store w r a b) where
+module _ {image : List ℕ} {store : StoreValue} {w : List (Role × ℕ)} {r : Role} {a b : ℕ} (st : IsNextAt image store w r a b) where
   is_due : IsDue image w r a st.index
   is_due = record {
     asked = st.asked;

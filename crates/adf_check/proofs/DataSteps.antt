@@ -29,7 +29,7 @@ use Rattle.adf_check.specs.KeptOwner.{kept_at}
 use Rattle.adf_check.specs.Store.{StoreValue}
 use Rattle.adf_check.proofs.NodeSteps.{at_or}
 use Rattle.adf_check.proofs.NumberBounds.{many_blocks}
-use Rattle.adf_check.proofs.ClaimSteps.{IsNamed, IsStored, form_fault, gathered, read_one, read_to, short_fault}
+use Rattle.adf_check.proofs.ClaimSteps.{IsNextAt, IsStored, form_fault, gathered, read_one, read_to, short_fault}
 
 member_inside : (image : List ℕ) (w : List (Role × ℕ)) → IsBegun image → IsWalk image w → (n m c : ℕ) → MemberAt image w n m c → c < blocks image
 member_inside image w begun v n zero c h = (in_range image v (many_blocks image begun) (head_role h.header) c h.header.has).1
@@ -60,7 +60,7 @@ module _ {image : List ℕ} {store : StoreValue} {n h : ℕ} {table : List ℕ} 
   one_file a f = file_one image (gathered st.read) n h a st.holds.file f
 
   named_by : k < data_count image h → (c b : ℕ) → At table (k / POINTERS) c → b ≡ word_in image c (table_word k)
-      → IsNamed image store st.walk (Data n (suc k)) c b
+      → IsNextAt image store st.walk (Data n (suc k)) c b
   named_by lt c b x e = record {
     begun = begun;
     read = st.read;
@@ -84,8 +84,8 @@ module _ {image : List ℕ} {store : StoreValue} {n h : ℕ} {table : List ℕ} 
       (lt : k < count) {b holder : ℕ} (holds_it : holder ≡ slice_index table (k / POINTERS))
       (e : b ≡ word_in image (slice_index table (k / POINTERS)) (table_word k))
     where
-      pub data_named : IsNamed image store st.walk (Data n (suc k)) holder b
-      data_named = subst (λ c. IsNamed image store st.walk (Data n (suc k)) c b) (sym holds_it)
+      pub data_named : IsNextAt image store st.walk (Data n (suc k)) holder b
+      data_named = subst (λ c. IsNextAt image store st.walk (Data n (suc k)) c b) (sym holds_it)
           (named_by (omega arith) (slice_index table (k / POINTERS)) b (at_or table (k / POINTERS) 0 (omega arith)) e)
 
       pub data_enough : Enough image st.walk (Data n (suc k))

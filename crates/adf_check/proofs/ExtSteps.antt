@@ -24,7 +24,7 @@ use Rattle.adf_check.specs.Reading.{HasTable, IsInDatas, IsInExts, IsInNode}
 use Rattle.adf_check.specs.declared.kept_owner.KeptOwner.TheVariants.{Free}
 use Rattle.adf_check.specs.KeptOwner.{kept_at}
 use Rattle.adf_check.specs.Store.{StoreValue}
-use Rattle.adf_check.proofs.ClaimSteps.{IsNamed, IsStored, form_fault, gathered, read_one, read_to}
+use Rattle.adf_check.proofs.ClaimSteps.{IsNextAt, IsStored, form_fault, gathered, read_one, read_to}
 
 -- a file's table begins with its header
 pub enter_exts : (image : List ℕ) (store : StoreValue) (n h : ℕ) (st : IsInNode image store n) → FileAt image st.walk n h
@@ -58,7 +58,7 @@ exts_end image store n h table a st = record {
 -- a word of block a names block b next
 module _ {image : List ℕ} {store : StoreValue} {n h : ℕ} {table : List ℕ} {a b : ℕ} (begun : IsBegun image) (st : IsInExts image store n h table a b)
     (ne : b ≢ 0) where
-  pub ext_named : IsNamed image store st.walk (Ext n (suc st.extra)) a b
+  pub ext_named : IsNextAt image store st.walk (Ext n (suc st.extra)) a b
   ext_named = record {
     begun = begun;
     read = st.read;

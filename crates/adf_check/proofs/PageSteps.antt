@@ -28,7 +28,7 @@ use Rattle.adf_check.specs.Reading.{HasRead, IsAtNode, IsAtPage, IsBeforePage, b
 use Rattle.adf_check.specs.declared.kept_owner.KeptOwner.TheVariants.{Free}
 use Rattle.adf_check.specs.KeptOwner.{kept_at}
 use Rattle.adf_check.specs.Store.{StoreValue}
-use Rattle.adf_check.proofs.ClaimSteps.{IsNamed, IsStored, form_fault, read_one, read_to}
+use Rattle.adf_check.proofs.ClaimSteps.{IsNextAt, IsStored, form_fault, read_one, read_to}
 
 -- where no bitmap extension block comes before page k
 pub same_holder : (image : List ℕ) (store : StoreValue) (k a : ℕ) → IsBeforePage image store k a
@@ -67,7 +67,7 @@ page_is image w k b v h = let x = (kept image v (Page k) b h).1 in names_is imag
 -- page i comes next, and a word of block a names it as block b
 module _ {image : List ℕ} {store : StoreValue} {i a b : ℕ} (begun : IsBegun image) (needed : i < pages_needed (blocks image)) (st : IsAtPage image store i a)
     (named : b ≡ word_in image a (word_of_page i)) where
-  pub page_named : IsNamed image store st.walk (Page i) a b
+  pub page_named : IsNextAt image store st.walk (Page i) a b
   page_named = record {
     begun = begun;
     read = st.read;
@@ -99,7 +99,7 @@ module _ {image : List ℕ} {store : StoreValue} {i a b : ℕ} (begun : IsBegun 
   abbrev pub number : ℕ
   number = (i - 25) / 127
 
-  pub map_ext_named : IsNamed image store st.walk (MapExt number) a b
+  pub map_ext_named : IsNextAt image store st.walk (MapExt number) a b
   map_ext_named = record {
     begun = begun;
     read = read_to st.read (subst (IsUpTo image st.walk []) (map_ext_next i past begins) st.read.up_to);

@@ -19,7 +19,7 @@ use Rattle.adf_survey.specs.declared.found.Found.{Found}
 use Rattle.adf_survey.specs.declared.part.Finding.{Finding}
 use Rattle.adf_survey.specs.Survey.{FindingValue, IsCourse, begun}
 use Rattle.adf_survey.specs.Parts.{by_key, key_of, finding_value}
-use Rattle.adf_survey.specs.Courses.{IsAtPage}
+use Rattle.adf_survey.specs.Courses.{HasReachedPage}
 use Rattle.adf_survey.specs.Found.{AreHeld, AreNamed, AreSame, IsOwned, Stands, owns, unowned}
 use Rattle.adf_survey.proofs.Taking.{held_more, marked_more, unowned_less}
 
@@ -110,7 +110,7 @@ module _ (image : List ℕ) (fs : List FindingValue) where
 
   -- the course begins at the first page, whose block the root names
   pub on_begun : (f : Found) → IsCourse image (begun image fs) → Stands image f (begun image fs) → blocks image ≤ 1048576
-      → IsAtPage image f 0 (root_of image)
+      → HasReachedPage image f 0 (root_of image)
   on_begun f course st small = (
     begun image fs,
     record { course = course; stands = st; up_to = with_root image; names = no_names f.names; small = small },

@@ -14,7 +14,7 @@ use Rattle.adf_survey.specs.declared.part.Part.TheVariants.{Head as HeadPart, Ex
 use Rattle.adf_survey.specs.declared.found.Found.{Found}
 use Rattle.adf_survey.specs.Survey.{Course}
 use Rattle.adf_survey.specs.Found.{IsFinished, member_in}
-use Rattle.adf_survey.specs.Courses.{Holds, IsAt, IsGoneOn, IsInChain, IsInDatas, IsInDir, IsInExts, IsNamed}
+use Rattle.adf_survey.specs.Courses.{HasReached, HasReachedData, HasReachedExt, HasReachedHeader, HasReachedSlot, Holds, IsGoneOn, IsNamed}
 use Rattle.adf_survey.proofs.CourseSteps.{moved}
 use Rattle.adf_survey.proofs.Known.{member_found}
 use Rattle.adf_survey.proofs.OneSurvey.{gathered}
@@ -22,11 +22,11 @@ use Rattle.adf_survey.proofs.OneSurvey.{gathered}
 module _ (image : List ℕ) where
   module _ (f : Found) (s : Course) where
     -- what a directory names comes behind the places of a file
-    pub dir_begins : (n b : ℕ) → Holds image f (before_node n) s → DirAt image s.walk n b → IsInDir image f n 0 b
+    pub dir_begins : (n b : ℕ) → Holds image f (before_node n) s → DirAt image s.walk n b → HasReachedSlot image f n 0 b
     dir_begins n b h d = (s, moved h (omega arith) (enter_dir image (gathered image h.course) n b d h.up_to), d)
 
     -- behind the last slot comes the next node
-    pub dir_ends : (n b : ℕ) → Holds image f (position_of (Head 0 n SLOTS 0)) s → IsAt image f (before_node (suc n))
+    pub dir_ends : (n b : ℕ) → Holds image f (position_of (Head 0 n SLOTS 0)) s → HasReached image f (before_node (suc n))
     dir_ends n b h = (s, moved h (omega arith) (end_dir image n h.up_to))
 
     -- behind the last node nothing is next
@@ -64,7 +64,7 @@ module _ (image : List ℕ) where
       file_there other e = record { header = header_at other; type = e }
 
       pub nothing_there : (n ≡ 0 → ⊥) → word_in image b SECONDARY_TYPE ≢ ST_DIR → word_in image b SECONDARY_TYPE ≢ ST_FILE
-          → IsAt image f (before_node (suc n))
+          → HasReached image f (before_node (suc n))
       nothing_there other no_dir no_file = (
         s,
         moved h (omega arith) (end_node image (gathered image h.course) n
@@ -80,7 +80,7 @@ module _ (image : List ℕ) where
           dir_header (suc n) other c d = (d.header, d.type)
 
     -- the extension blocks of a file come first
-    pub exts_begin : (n b : ℕ) → Holds image f (before_node n) s → FileAt image s.walk n b → IsInExts image f n b 0 b
+    pub exts_begin : (n b : ℕ) → Holds image f (before_node n) s → FileAt image s.walk n b → HasReachedExt image f n b 0 b
     exts_begin n b h file = record {
       course = s;
       holds = moved h (omega arith) (enter_file image n h.up_to);
@@ -90,18 +90,18 @@ module _ (image : List ℕ) where
     }
 
 -- a chain that is gone through
-module _ {image : List ℕ} {f : Found} {p slot j a i b : ℕ} (x : IsInChain image f p slot j a i b) where
+module _ {image : List ℕ} {f : Found} {p slot j a i b : ℕ} (x : HasReachedHeader image f p slot j a i b) where
   pub header_named : slot < SLOTS → word_in image a i ≢ 0 → IsNamed image f (HeadPart 0 p slot j) a i x.course
   header_named lt ne = record { holds = x.holds; asked = link_asks image x.course.walk p slot j a i lt x.link ne }
 
   -- behind a header that is taken comes the next of its chain
   pub header_taken : {g : Found} {o : Option ℕ} {c : ℕ} → o ≡ Some c → IsGoneOn image x.course (HeadPart 0 p slot j) a i g o
-      → IsInChain image g p slot (j + 1) c NEXT_IN_CHAIN b
+      → HasReachedHeader image g p slot (j + 1) c NEXT_IN_CHAIN b
   header_taken {g} {o} {c} e gone =
       let w : List (Role × ℕ) = x.course.walk in
       let one : suc j ≡ j + 1 = omega arith in
       let on = subst (IsGoneOn image x.course (HeadPart 0 p slot j) a i g) e gone in
-      subst (λ j. IsInChain image g p slot j c NEXT_IN_CHAIN b) one (record {
+      subst (λ j. HasReachedHeader image g p slot j c NEXT_IN_CHAIN b) one (record {
         course = _;
         holds = on.holds;
         dir = dir_up image w (Head (suc (heads w)) p slot j, word_in image a i) p b x.dir;
@@ -109,23 +109,23 @@ module _ {image : List ℕ} {f : Found} {p slot j a i b : ℕ} (x : IsInChain im
       })
 
   -- behind a header that was passed over its chain ends
-  pub header_passed : {g : Found} {o : Option ℕ} → o ≡ None → IsGoneOn image x.course (HeadPart 0 p slot j) a i g o → IsInDir image g p (slot + 1) b
+  pub header_passed : {g : Found} {o : Option ℕ} → o ≡ None → IsGoneOn image x.course (HeadPart 0 p slot j) a i g o → HasReachedSlot image g p (slot + 1) b
   header_passed {g} {o} e gone =
       let one : suc slot ≡ slot + 1 = omega arith in
       let on = subst (IsGoneOn image x.course (HeadPart 0 p slot j) a i g) e gone in
-      subst (λ slot. IsInDir image g p slot b) one
+      subst (λ slot. HasReachedSlot image g p slot b) one
       (_, moved on.holds (omega arith) (end_chain image p slot (suc j) on.holds.up_to (chain_broken image x.holds.up_to)), x.dir)
 
   -- a chain ends where its word names no block
-  pub chain_done : word_in image a i ≡ 0 → IsInDir image f p (slot + 1) b
+  pub chain_done : word_in image a i ≡ 0 → HasReachedSlot image f p (slot + 1) b
   chain_done e =
       let one : suc slot ≡ slot + 1 = omega arith in
       let v = gathered image x.holds.course in
-      subst (λ slot. IsInDir image f p slot b) one
+      subst (λ slot. HasReachedSlot image f p slot b) one
       (_, moved x.holds (omega arith) (end_chain image p slot j x.holds.up_to (link_ends image x.course.walk v p slot j a i x.link e)), x.dir)
 
 -- the extension blocks of a file that are gone through
-module _ {image : List ℕ} {f : Found} {n b m a : ℕ} (x : IsInExts image f n b m a) where
+module _ {image : List ℕ} {f : Found} {n b m a : ℕ} (x : HasReachedExt image f n b m a) where
   one_more : suc m ≡ m + 1
   one_more = omega arith
 
@@ -139,10 +139,10 @@ module _ {image : List ℕ} {f : Found} {n b m a : ℕ} (x : IsInExts image f n 
       (record { holds = x.holds; asked = ext_asks image x.course.walk n m a x.member ne })
 
   pub ext_taken : {g : Found} {o : Option ℕ} {c : ℕ} → o ≡ Some c → IsGoneOn image x.course (ExtPart n (m + 1)) a EXTENSION g o
-      → IsInExts image g n b (m + 1) c
+      → HasReachedExt image g n b (m + 1) c
   ext_taken {g} {o} {c} e gone =
       let on = gone_on (Some c) e gone in
-      subst (λ m. IsInExts image g n b m c) one_more (record {
+      subst (λ m. HasReachedExt image g n b m c) one_more (record {
         course = _;
         holds = on.holds;
         file = typed_up (Ext n (suc m), word_in image a EXTENSION) x.file;
@@ -151,7 +151,7 @@ module _ {image : List ℕ} {f : Found} {n b m a : ℕ} (x : IsInExts image f n 
       })
 
   -- behind an extension block that was passed over come the data blocks
-  pub ext_passed : {g : Found} {o : Option ℕ} → o ≡ None → IsGoneOn image x.course (ExtPart n (m + 1)) a EXTENSION g o → IsInDatas image g n b m 0
+  pub ext_passed : {g : Found} {o : Option ℕ} → o ≡ None → IsGoneOn image x.course (ExtPart n (m + 1)) a EXTENSION g o → HasReachedData image g n b m 0
   ext_passed {g} {o} e gone =
       let on = gone_on None e gone in
       record {
@@ -162,7 +162,7 @@ module _ {image : List ℕ} {f : Found} {n b m a : ℕ} (x : IsInExts image f n 
       }
 
   -- and behind the last one
-  pub exts_done : word_in image a EXTENSION ≡ 0 → IsInDatas image f n b m 0
+  pub exts_done : word_in image a EXTENSION ≡ 0 → HasReachedData image f n b m 0
   exts_done e = record {
     course = x.course;
     holds = moved x.holds (omega arith)
@@ -172,7 +172,7 @@ module _ {image : List ℕ} {f : Found} {n b m a : ℕ} (x : IsInExts image f n 
   }
 
 -- the data blocks of a file that are gone through
-module _ {image : List ℕ} {f : Found} {n b exts k : ℕ} (x : IsInDatas image f n b exts k) where
+module _ {image : List ℕ} {f : Found} {n b exts k : ℕ} (x : HasReachedData image f n b exts k) where
   v : IsGathered image x.course.walk
   v = gathered image x.holds.course
 
@@ -192,7 +192,7 @@ module _ {image : List ℕ} {f : Found} {n b exts k : ℕ} (x : IsInDatas image 
         asked = ((b, x.file, lt), subst (MemberAt image x.course.walk n (k / POINTERS)) is c.1, refl);
       })
 
-  pub data_gone : {g : Found} {o : Option ℕ} {a i : ℕ} → IsGoneOn image x.course (DataPart n (k + 1)) a i g o → IsInDatas image g n b exts (k + 1)
+  pub data_gone : {g : Found} {o : Option ℕ} {a i : ℕ} → IsGoneOn image x.course (DataPart n (k + 1)) a i g o → HasReachedData image g n b exts (k + 1)
   data_gone {o = None} gone = record { course = _; holds = gone.holds; file = x.file; count = x.count }
   data_gone {o = Some c} {a} {i} gone = record {
     course = _;
@@ -202,10 +202,10 @@ module _ {image : List ℕ} {f : Found} {n b exts k : ℕ} (x : IsInDatas image 
   }
 
   -- behind the last data block comes the next node
-  pub datas_done : ((j : ℕ) → j < data_count image b → j < POINTERS * (exts + 1) → j < k) → IsAt image f (before_node (n + 1))
+  pub datas_done : ((j : ℕ) → j < data_count image b → j < POINTERS * (exts + 1) → j < k) → HasReached image f (before_node (n + 1))
   datas_done all =
       let one : suc n ≡ n + 1 = omega arith in
-      subst (λ n. IsAt image f (before_node n)) one
+      subst (λ n. HasReached image f (before_node n)) one
       (x.course, moved x.holds (omega arith) (end_datas image v n k b x.file asked x.holds.up_to))
     where
       few : (j m a : ℕ) → j / POINTERS ≡ m → MemberAt image x.course.walk n m a → j < POINTERS * (exts + 1)

@@ -13,7 +13,7 @@ use Rattle.adf_volume.proofs.PositionSteps.{end_map, end_pages, map_broken}
 use Rattle.adf_survey.specs.declared.part.Part.TheVariants.{Page as PagePart, MapExt as MapExtPart}
 use Rattle.adf_survey.specs.declared.found.Found.{Found}
 use Rattle.adf_survey.specs.Survey.{Course}
-use Rattle.adf_survey.specs.Courses.{Holds, IsAt, IsAtPage, IsGoneOn, IsNamed, IsPageNamed}
+use Rattle.adf_survey.specs.Courses.{HasReached, HasReachedPage, Holds, IsGoneOn, IsNamed, IsPageNamed}
 use Rattle.adf_survey.proofs.CourseSteps.{moved}
 
 -- a position that is the same
@@ -61,7 +61,7 @@ module _ (image : List ℕ) (f : Found) (s : Course) (page : ℕ) where
 
   -- behind a page comes the next
   pub page_on : (a i : ℕ) (g : Found) (o : Option ℕ) → NamesPage image s.walk page a i → IsGoneOn image s (PagePart page) a i g o
-      → IsAtPage image g (page + 1) a
+      → HasReachedPage image g (page + 1) a
   page_on a i g None names gone = (_, same_place (behind_page page) gone.holds, next_holder image s.walk page a i names)
   page_on a i g (Some c) names gone = (
     _,
@@ -70,5 +70,5 @@ module _ (image : List ℕ) (f : Found) (s : Course) (page : ℕ) where
   )
 
   -- behind the last page come the nodes
-  pub pages_end : (a : ℕ) → pages_needed (blocks image) ≤ page → Holds image f (before_page page) s → IsAt image f (before_node 0)
+  pub pages_end : (a : ℕ) → pages_needed (blocks image) ≤ page → Holds image f (before_page page) s → HasReached image f (before_node 0)
   pages_end a le h = (s, moved h (omega arith) (end_pages image page le h.up_to))

@@ -25,8 +25,8 @@ pub record Holds (image : List ℕ) (f : Found) (k : Position) (s : Course) : Ty
   pub small : blocks image ≤ 1048576
 
 -- some course has reached a position
-abbrev pub IsAt : List ℕ → Found → Position → Type 0
-IsAt image f k = (s : Course) × Holds image f k s
+abbrev pub HasReached : List ℕ → Found → Position → Type 0
+HasReached image f k = (s : Course) × Holds image f k s
 
 -- the role asked for, with its number
 abbrev pub role_asked : Course → Part → Role
@@ -38,8 +38,8 @@ pub record IsNamed (image : List ℕ) (f : Found) (part : Part) (a i : ℕ) (s :
   pub asked : Asks image s.walk (role_asked s part) a i
 
 -- a part that word i of block a points to is next
-abbrev pub IsDue : List ℕ → Found → Part → ℕ → ℕ → Type 0
-IsDue image f part a i = (s : Course) × IsNamed image f part a i s
+abbrev pub HasReachedPart : List ℕ → Found → Part → ℕ → ℕ → Type 0
+HasReachedPart image f part a i = (s : Course) × IsNamed image f part a i s
 
 -- the ask is next in the course
 abbrev pub IsNextAsk : List ℕ → Course → Ask → Type 0
@@ -81,31 +81,31 @@ pub record IsGoneOn (image : List ℕ) (s : Course) (part : Part) (a i : ℕ) (g
   pub block : IfSome o (λ b. b ≡ word_in image a i)
 
 -- a course has reached a page, or the bitmap extension block before it; block a points to the page before
-abbrev pub IsAtPage : List ℕ → Found → ℕ → ℕ → Type 0
-IsAtPage image f page a = (s : Course) × Holds image f (before_page page) s × IsPageHolder image s.walk page a
+abbrev pub HasReachedPage : List ℕ → Found → ℕ → ℕ → Type 0
+HasReachedPage image f page a = (s : Course) × Holds image f (before_page page) s × IsPageHolder image s.walk page a
 
 -- a course has reached a page that block a points to, or the nodes if no block does
 abbrev pub IsPageNamed : List ℕ → Found → ℕ → Option ℕ → Type 0
-IsPageNamed image f page None = IsAt image f (before_node 0)
+IsPageNamed image f page None = HasReached image f (before_node 0)
 IsPageNamed image f page (Some a) = (s : Course) × Holds image f (position_of (Page page)) s × NamesPage image s.walk page a (word_of_page page)
 
 -- a course has reached a slot of a directory at block b
-abbrev pub IsInDir : List ℕ → Found → ℕ → ℕ → ℕ → Type 0
-IsInDir image f p slot b = (s : Course) × Holds image f (position_of (Head 0 p slot 0)) s × DirAt image s.walk p b
+abbrev pub HasReachedSlot : List ℕ → Found → ℕ → ℕ → ℕ → Type 0
+HasReachedSlot image f p slot b = (s : Course) × Holds image f (position_of (Head 0 p slot 0)) s × DirAt image s.walk p b
 
 -- a course has reached a position of a chain, at word i of block a, in a directory at block b
-pub record IsInChain (image : List ℕ) (f : Found) (p slot place a i b : ℕ) : Type 0 where
+pub record HasReachedHeader (image : List ℕ) (f : Found) (p slot place a i b : ℕ) : Type 0 where
   pub course : Course
   pub holds : Holds image f (position_of (Head 0 p slot place)) course
   pub dir : DirAt image course.walk p b
   pub link : IsLink image course.walk p slot place a i
 
 -- a course has reached a file with its header at block b
-abbrev pub IsAtFile : List ℕ → Found → ℕ → ℕ → Type 0
-IsAtFile image f n b = (s : Course) × Holds image f (before_node n) s × FileAt image s.walk n b
+abbrev pub HasReachedFile : List ℕ → Found → ℕ → ℕ → Type 0
+HasReachedFile image f n b = (s : Course) × Holds image f (before_node n) s × FileAt image s.walk n b
 
 -- a course has reached the extension block after block m of the table, at block a, of a file with header b
-pub record IsInExts (image : List ℕ) (f : Found) (n b m a : ℕ) : Type 0 where
+pub record HasReachedExt (image : List ℕ) (f : Found) (n b m a : ℕ) : Type 0 where
   pub course : Course
   pub holds : Holds image f (position_of (Ext n (suc m))) course
   pub file : FileAt image course.walk n b
@@ -113,7 +113,7 @@ pub record IsInExts (image : List ℕ) (f : Found) (n b m a : ℕ) : Type 0 wher
   pub count : ext_count course.walk n ≡ m
 
 -- a course has reached a data block, after `done` others, of a file with header b and this many extension blocks
-pub record IsInDatas (image : List ℕ) (f : Found) (n b exts done : ℕ) : Type 0 where
+pub record HasReachedData (image : List ℕ) (f : Found) (n b exts done : ℕ) : Type 0 where
   pub course : Course
   pub holds : Holds image f (position_of (Data n (suc done))) course
   pub file : FileAt image course.walk n b

@@ -49,9 +49,9 @@ with_data (Data n k) b ds = ds ++ record { node = n; block = b } ∷ []
 with_data _ b ds = ds
 
 -- the data blocks of a walk, in order
-abbrev pub datas_of : List (Role × ℕ) → List DataBlock
-datas_of [] = []
-datas_of (x ∷ w) = with_data x.0 x.1 (datas_of w)
+abbrev pub data_blocks_of : List (Role × ℕ) → List DataBlock
+data_blocks_of [] = []
+data_blocks_of (x ∷ w) = with_data x.0 x.1 (data_blocks_of w)
 
 -- whether a member of the walk has this block
 abbrev pub owns : List (Role × ℕ) → ℕ → Bool
@@ -253,7 +253,7 @@ pub record Stands (image : List ℕ) (f : Found) (s : Course) : Type 0 where
   pub parent : (n : ℕ) → slice_index f.parents.items n ≡ parent_node s.walk n
   pub parents : length f.parents.items ≡ suc (heads s.walk)
   pub places : f.places.items ≡ places_of s.walk
-  pub datas : f.datas.items ≡ datas_of s.walk
+  pub datas : f.datas.items ≡ data_blocks_of s.walk
 
 -- the finding of the bit of block b: none if it is not compared or agrees; otherwise the cause
 abbrev pub BitTells : List ℕ → Course → ℕ → Option Cause → Type 0
