@@ -19,11 +19,11 @@ use Rattle.adf_volume.specs.Demands.{Demand, AllHold, FirstFails, head_demands}
 use Rattle.adf_volume.specs.Image.{kind_of, name_of, word_in}
 use Rattle.adf_volume.specs.Walk.{Role, heads, form_demands}
 use Rattle.adf_volume.specs.Walk.Role.{Head}
+use Rattle.adf_volume.proofs.Gathered.{node_is}
 use Rattle.adf_volume.proofs.FormDemands.{all_demanded, first_demanded}
 use Rattle.adf_volume.proofs.Pointers.{link_asks, link_ends}
 use Rattle.adf_volume.proofs.PositionSteps.{end_chain}
 use Rattle.adf_volume.proofs.Roles.{dir_is_node, dir_up}
-use Rattle.adf_volume.proofs.Walks.{node_is}
 use Rattle.adf_volume.specs.Fault.{IsTrueFault, fault}
 use Rattle.adf_volume.specs.Start.{IsBegun}
 use Rattle.adf_check.specs.Reading.{IsAtSlot, IsInChain, Sees, sees_of}
@@ -91,7 +91,7 @@ module _ {image : List ℕ} {store : StoreValue} {p up s a b : ℕ} {seen : List
   form_at : (P : List Demand → Type 0) → P (head_demands image (kind_of image) b up s) → P (form_demands image st.walk (next_head st.walk p s st.place) b)
   form_at P =
       subst (λ u. P (head_demands image (kind_of image) b u s))
-      (sym (node_is image st.walk p up st.read.is_walk (dir_is_node image st.walk p up st.dir)))
+      (sym (node_is image (gathered st.read) p up (dir_is_node image st.walk p up st.dir)))
 
   sees_more : (seen' : List ℕ → Type 0) → ((x : List ℕ) → seen' x ↔ ((uppers (name_of image b) ≡ x) ⊎ seen x))
       → Sees image ((next_head st.walk p s st.place, b) ∷ st.walk) p s seen'

@@ -16,9 +16,9 @@ use Rattle.adf_volume.specs.Walk.Role.{Data, Ext}
 use Rattle.adf_volume.proofs.Lists.{at_some}
 use Rattle.adf_volume.proofs.Roles.{head_role, member_up, typed_up}
 use Rattle.adf_volume.proofs.MemberFacts.{in_range}
-use Rattle.adf_volume.proofs.Gathered.{file_one}
+use Rattle.adf_volume.proofs.Gathered.{file_one, member_is}
 use Rattle.adf_volume.proofs.PositionSteps.{end_datas}
-use Rattle.adf_volume.proofs.Walks.{file_is, member_is}
+use Rattle.adf_volume.proofs.Walks.{file_is}
 use Rattle.adf_volume.specs.Positions.{IsUpTo, behind, position_of}
 use Rattle.adf_volume.specs.Fault.{IsTrueFault, fault}
 use Rattle.adf_check.specs.Datas.{next_of}
@@ -100,7 +100,7 @@ module _ {image : List ℕ} {store : StoreValue} {n h : ℕ} {table : List ℕ} 
       next_here true z =
           let more : suc k < data_count image h = ltb-true (suc k) (data_count image h) z in
           let x = at_or table (suc k / POINTERS) 0 (omega arith) in
-          ap (λ b. word_in image b (table_word (suc k))) (member_is image st.walk n (suc k / POINTERS) (slice_index table (suc k / POINTERS)) st.read.is_walk
+          ap (λ b. word_in image b (table_word (suc k))) (member_is image (gathered st.read) n (suc k / POINTERS) (slice_index table (suc k / POINTERS))
           (st.holds.members (suc k / POINTERS) (slice_index table (suc k / POINTERS)) x))
 
       abbrev pub demands_here : List Demand

@@ -7,12 +7,13 @@ use Rattle.adf_volume.specs.Lists.{At}
 use Rattle.adf_volume.specs.Walk.{Role, first, Has, heads, HeadAt, DirAt, FileAt, IsWalk}
 use Rattle.adf_volume.specs.Walk.Role.{Root}
 use Rattle.adf_volume.specs.Positions.{before_node}
+use Rattle.adf_volume.proofs.Gathered.{root_in}
 use Rattle.adf_volume.proofs.FormDemands.{head_type}
 use Rattle.adf_volume.proofs.Lists.{at_below, at_fun, at_index_or, at_snoc, at_some, snoc_length}
 use Rattle.adf_volume.proofs.MemberFacts.{in_range, kept}
 use Rattle.adf_volume.proofs.PositionSteps.{end_nodes, enter_dir, low_first}
 use Rattle.adf_volume.proofs.Roles.{head_role}
-use Rattle.adf_volume.proofs.Walks.{numbered, root_in}
+use Rattle.adf_volume.proofs.Walks.{numbered}
 use Rattle.adf_check.specs.declared.store.KeptHeader.{KeptHeader}
 use Rattle.adf_check.specs.declared.store.NodeStart.{NodeStart}
 use Rattle.adf_volume.specs.Start.{IsBegun}
@@ -90,7 +91,7 @@ enter_directory image store n a st dir = record {
 
 pub root_begins : (image : List ℕ) (store : StoreValue) (n a : ℕ) → n ≡ 0 → a ≡ root_of image → IsInNode image store n → IsAtSlot image store n a 0
 root_begins image store n a z e st =
-    enter_directory image store n a st (subst (λ n. DirAt image st.walk n a) (sym z) (subst (Has st.walk Root) (sym e) (root_in image st.read.is_walk)))
+    enter_directory image store n a st (subst (λ n. DirAt image st.walk n a) (sym z) (subst (Has st.walk Root) (sym e) (root_in image (gathered st.read))))
 
 -- the next node is n, and its row is known
 module _ {image : List ℕ} {store : StoreValue} {m n : ℕ} {header : KeptHeader} (begun : IsBegun image) (view : m ≡ n) (ne : m ≢ 0)

@@ -2,11 +2,11 @@
 use Rattle.std.specs.Prelude.{Option, Some, None, slice_index}
 use Rattle.std.proofs.Common.{◌≡◌, ◌≢◌, ℕ, zero, suc, length, List, ◌⊎◌, inl, inr, ◌+◌, ◌*◌, ◌/◌, ◌<◌, ◌≤◌, refl, sym, subst, ap, ◌∙◌, arith}
 use Rattle.adf_blocks.specs.declared.layout.TheConstants.{EXTENSION, NEXT_IN_CHAIN, POINTERS, SECONDARY_TYPE, SLOTS, ST_DIR, ST_FILE}
-use Rattle.adf_volume.specs.Image.{root_of, table_word, word_in}
+use Rattle.adf_volume.specs.Image.{table_word, word_in}
 use Rattle.adf_volume.specs.Positions.{before_node, position_of}
-use Rattle.adf_volume.specs.Walk.{Role, Has, HeadAt, NodeAt, DirAt, FileAt, MemberAt, Asks, data_count, ext_count, heads}
-use Rattle.adf_volume.specs.Walk.Role.{Root, Head, Ext, Data}
-use Rattle.adf_volume.proofs.Gathered.{IsGathered, ext_below, ext_counted, file_one, head_block, member_is, node_is, numbered as has_number, one_head, root_in}
+use Rattle.adf_volume.specs.Walk.{Role, HeadAt, NodeAt, DirAt, FileAt, MemberAt, Asks, data_count, ext_count, heads}
+use Rattle.adf_volume.specs.Walk.Role.{Head, Ext, Data}
+use Rattle.adf_volume.proofs.Gathered.{IsGathered, ext_below, ext_counted, file_one, member_is, one_head, node_there}
 use Rattle.adf_volume.proofs.Pointers.{ext_asks, ext_ends, link_asks, link_ends}
 use Rattle.adf_volume.proofs.PositionSteps.{chain_broken, end_chain, end_datas, end_dir, end_exts, end_node, end_nodes, enter_dir, enter_file, exts_broken, no_exts}
 use Rattle.adf_volume.proofs.Roles.{count_own, dir_up, typed_up}
@@ -33,27 +33,22 @@ module _ (image : List ℕ) where
     pub nodes_end : (n : ℕ) → length f.nodes.items ≤ n → Holds image f (before_node n) s → IsFinished image f
     nodes_end n le h = (s, h.course, end_nodes image (gathered image h.course) n (let c = h.stands.count in omega arith) h.up_to, h.stands)
 
-    -- a node that is found has its block
-    pub node_at : (n : ℕ) → Holds image f (before_node n) s → n < length f.nodes.items → NodeAt s.walk n (slice_index f.nodes.items n)
-    node_at zero h lt =
-        let v = gathered image h.course in
-        subst (Has s.walk Root) (sym (h.stands.node 0 ∙ node_is image v 0 (root_of image) (root_in image v))) (root_in image v)
-    node_at (suc n) h lt =
-        let v = gathered image h.course in
-        let count = h.stands.count in
-        let x = has_number image v (suc n) (omega arith) (omega arith) in
-        subst (HeadAt s.walk (suc n)) (sym (h.stands.node (suc n) ∙ head_block image v x.1)) x.1
-
     module _ (n b : ℕ) (h : Holds image f (before_node n) s) (lt : n < length f.nodes.items) (at : b ≡ slice_index f.nodes.items n) where
+      -- a node that is found has its block
+      node_at : NodeAt s.walk n b
+      node_at =
+          let count = h.stands.count in
+          subst (NodeAt s.walk n) (sym (at ∙ h.stands.node n)) (node_there image (gathered image h.course) n (omega arith))
+
       header_at : (n ≡ 0 → ⊥) → HeadAt s.walk n b
-      header_at other = go n other (subst (NodeAt s.walk n) (sym at) (node_at n h lt))
+      header_at other = go n other node_at
         where
           go : (n : ℕ) → (n ≡ 0 → ⊥) → NodeAt s.walk n b → HeadAt s.walk n b
           go zero other k = absurd (other refl)
           go (suc n) other k = k
 
       pub dir_there : (n ≡ 0) ⊎ (word_in image b SECONDARY_TYPE ≡ ST_DIR) → DirAt image s.walk n b
-      dir_there = go n (subst (NodeAt s.walk n) (sym at) (node_at n h lt))
+      dir_there = go n node_at
         where
           go : (n : ℕ) → NodeAt s.walk n b → (n ≡ 0) ⊎ (word_in image b SECONDARY_TYPE ≡ ST_DIR) → DirAt image s.walk n b
           go zero k t = k

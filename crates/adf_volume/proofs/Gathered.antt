@@ -219,6 +219,11 @@ module _ (image : List ℕ) where
   node_is v zero b h = root_block v ∙ root_is v b h
   node_is v (suc n) b h = head_block v h
 
+  -- each number up to the count is that of a node, with its block
+  pub node_there : {w : List (Role × ℕ)} → IsGathered image w → (n : ℕ) → n ≤ heads w → NodeAt w n (node_block w n)
+  node_there {w = w} v zero le = subst (Has w Root) (sym (root_block v)) (root_in v)
+  node_there {w = w} v (suc n) le = let x = numbered v (suc n) (omega arith) le in subst (HeadAt w (suc n)) (sym (head_block v x.1)) x.1
+
   -- extension block k of a file, as a function
   ext_block_new : (n k : ℕ) (r : Role) (b c : ℕ) → r ≡ Ext n k → ext_block_of n k r b c ≡ b
   ext_block_new n k r b c e =

@@ -9,16 +9,17 @@ use Rattle.adf_blocks.specs.Sizes.{blocks, pages_needed}
 use Rattle.adf_volume.specs.Image.{kind_of, table_word, name_of, root_of}
 use Rattle.adf_fields.specs.Hash.{slot_of}
 use Rattle.adf_volume.specs.Layout.{nodes_from}
-use Rattle.adf_volume.specs.Walk.{Role, second, Has, HeadAt, head_count, heads, data_count, NamesPage, IsDue, Lacks, ext_count_of, ext_count, NoCause, IsWalk}
+use Rattle.adf_volume.specs.Walk.{Role, second, Has, HeadAt, head_count, heads, data_count, NamesPage, Asks, IsDue, Lacks, ext_count_of, ext_count, NoCause, IsWalk}
 use Rattle.adf_volume.specs.Walk.Role.{Root, Page, MapExt, Head, Ext, Data}
 use Rattle.adf_volume.specs.Walk.IsWalk.{start, step}
 use Rattle.adf_volume.specs.Made.{picked, is_page, pages_in, is_map_ext, map_exts_in, is_ext_of, exts_in, push_ext, is_data_of, datas_in, entry_in, place_in}
 use Rattle.adf_volume.specs.Made.{push_head, of_heads, entries_in, places_in}
+use Rattle.adf_volume.proofs.Gathered.{ext_counted, next_ext}
 use Rattle.adf_volume.proofs.FormDemands.{head_slot_is}
 use Rattle.adf_volume.proofs.Lists.{at_below, at_some, at_old, at_new, at_snoc, snoc_length}
 use Rattle.adf_volume.proofs.Chains.{chain_snoc}
 use Rattle.adf_volume.proofs.Roles.{asks_number, head_at, head_in, head_role, new_number, no_head}
-use Rattle.adf_volume.proofs.Walks.{ext_counted, next_ext, page_word, is_there}
+use Rattle.adf_volume.proofs.Walks.{page_word, is_there, of_walk}
 use Rattle.adf_volume.proofs.MemberFacts.{kept, there, enough, map_ext_down}
 use Rattle.adf_volume.proofs.PartDemands.{part_holds}
 use Rattle.adf_volume.proofs.Comparisons.{both_equal, equal_both}
@@ -126,7 +127,9 @@ module _ (image : List ℕ) where
   exts n (step {w = w} {r = q} {b = c} {a = a} {i = i} v d e g) =
       one_more (is_ext_of n) (λ k. Ext n (suc k)) (λ k. eq-eqb n n refl) w q c (λ k m z. cc) (exts n v)
       (λ t. let x = ext_only n q t in
-      let z : x.0 ≡ suc (ext_count w n) = next_ext image w v n x.0 a i (subst (λ r. IsDue image w r a i) x.1 d) (ext_counted image v n) in
+      let o = of_walk image v in
+      let z : x.0 ≡ suc (ext_count w n) =
+      next_ext image w o n x.0 a i (subst (λ r. Asks image w r a i) x.1 d.asked) (subst (Lacks w) x.1 d.lacks) (ext_counted image o n) in
       x.1 ∙ ap (Ext n) (z ∙ ap suc (sym (exts_length w n))))
 
   pub ext_has : {w : List (Role × ℕ)} → IsWalk image w → (n k b : ℕ) → Has w (Ext n (suc k)) b → At (exts_in w n) k b
