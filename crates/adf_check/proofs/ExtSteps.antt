@@ -48,7 +48,8 @@ enter_exts image store n h st file =
     none = no_exts image (gathered st.read) n st.read.up_to
 
 -- no extension block follows
-pub exts_end : (image : List ℕ) (store : StoreValue) (n h : ℕ) (table : List ℕ) (a : ℕ) → IsInExts image store n h table a 0 → IsInDatas image store n h table 0
+pub exts_end : (image : List ℕ) (store : StoreValue) (n h : ℕ) (table : List ℕ) (a : ℕ) → IsInExts image store n h table a 0
+    → IsInDatas image store n h table 0
 exts_end image store n h table a st = record {
   walk = st.walk;
   read = read_to st.read (end_exts image n st.extra st.read.up_to (ext_ends image st.walk (gathered st.read) n st.extra a st.member st.named));

@@ -8,7 +8,8 @@ use Rattle.adf_volume.specs.Walk.{Role, HeadAt, NodeAt, DirAt, FileAt, MemberAt,
 use Rattle.adf_volume.specs.Walk.Role.{Head, Ext, Data}
 use Rattle.adf_volume.proofs.Gathered.{IsGathered, ext_below, ext_counted, file_one, member_is, one_head, node_there}
 use Rattle.adf_volume.proofs.Pointers.{ext_asks, ext_ends, link_asks, link_ends}
-use Rattle.adf_volume.proofs.PositionSteps.{chain_broken, end_chain, end_datas, end_dir, end_exts, end_node, end_nodes, enter_dir, enter_file, exts_broken, no_exts}
+use Rattle.adf_volume.proofs.PositionSteps.{chain_broken, end_chain, end_datas, end_dir, end_exts, end_node, end_nodes, enter_dir, enter_file}
+use Rattle.adf_volume.proofs.PositionSteps.{exts_broken, no_exts}
 use Rattle.adf_volume.proofs.Roles.{count_own, dir_up, typed_up}
 use Rattle.adf_survey.specs.declared.part.Part.TheVariants.{Head as HeadPart, Ext as ExtPart, Data as DataPart}
 use Rattle.adf_survey.specs.declared.found.Found.{Found}

@@ -53,7 +53,8 @@ module _ (image : List ℕ) (f : Found) (s : Course) (page : ℕ) where
     same_place (behind_map_ext page le due) o.holds,
     names_first image ((MapExt ((page - ROOT_PAGES) / MAP_EXT_PAGES), word_in image a i) ∷ s.walk) page c le due (inl (refl, sym o.block)),
   )
-  map_ext_on a i g None le due h o = (_, moved o.holds (omega arith) (end_map image o.holds.up_to (map_broken image ((page - ROOT_PAGES) / MAP_EXT_PAGES) h.up_to)))
+  map_ext_on a i g None le due h o =
+      (_, moved o.holds (omega arith) (end_map image o.holds.up_to (map_broken image ((page - ROOT_PAGES) / MAP_EXT_PAGES) h.up_to)))
 
   pub page_named : (a i : ℕ) → i ≡ word_of_page page → page < pages_needed (blocks image) → Holds image f (position_of (Page page)) s
       → NamesPage image s.walk page a (word_of_page page) → IsNamed image f (PagePart page) a i s

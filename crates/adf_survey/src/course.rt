@@ -9,8 +9,8 @@ ghost use Rattle.adf_volume.specs.Positions.{before_node, position_of, word_of_m
 ghost use Rattle.adf_survey.specs.Survey.{Course};
 ghost use Rattle.adf_survey.specs.Parts.{role_of};
 ghost use Rattle.adf_survey.specs.Found.{IsFinished};
-ghost use Rattle.adf_survey.specs.Courses.{HasReached, HasReachedData, HasReachedFile, HasReachedPage, HasReachedPart, HasReachedSlot};
-ghost use Rattle.adf_survey.specs.Courses.{Holds, IsGoneOn, IsNamed, IsNextAsk, IsOutcome, IsPageNamed};
+ghost use Rattle.adf_survey.specs.Courses.{HasReached, HasReachedData, HasReachedFile, HasReachedPage, HasReachedPart};
+ghost use Rattle.adf_survey.specs.Courses.{HasReachedSlot, Holds, IsGoneOn, IsNamed, IsNextAsk, IsOutcome, IsPageNamed};
 
 use crate::found::Found;
 use crate::image::Image;

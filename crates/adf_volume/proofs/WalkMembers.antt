@@ -9,7 +9,8 @@ use Rattle.adf_blocks.specs.Sizes.{blocks, pages_needed}
 use Rattle.adf_volume.specs.Image.{kind_of, table_word, name_of, root_of}
 use Rattle.adf_fields.specs.Hash.{slot_of}
 use Rattle.adf_volume.specs.Layout.{nodes_from}
-use Rattle.adf_volume.specs.Walk.{Role, second, Has, HeadAt, head_count, heads, data_count, NamesPage, Asks, IsDue, Lacks, ext_count_of, ext_count, NoCause, IsWalk}
+use Rattle.adf_volume.specs.Walk.{Role, second, Has, HeadAt, head_count, heads, data_count, NamesPage, Asks, IsDue, Lacks, ext_count_of}
+use Rattle.adf_volume.specs.Walk.{ext_count, NoCause, IsWalk}
 use Rattle.adf_volume.specs.Walk.Role.{Root, Page, MapExt, Head, Ext, Data}
 use Rattle.adf_volume.specs.Walk.IsWalk.{start, step}
 use Rattle.adf_volume.specs.Made.{picked, is_page, pages_in, is_map_ext, map_exts_in, is_ext_of, exts_in, push_ext, is_data_of, datas_in, entry_in, place_in}
@@ -44,8 +45,8 @@ module _ (f : Role → Bool) (role : ℕ → Role) (own : (k : ℕ) → f (role 
   }
 
   -- one member more, which is the next one where the test picks it
-  pub one_more : (w : List (Role × ℕ)) (q : Role) (c : ℕ) → ((k m : ℕ) → role k ≡ role m → k ≡ m) → Lists f role w → (f q ≡ true → q ≡ role (length (picked f w)))
-      → Lists f role ((q, c) ∷ w)
+  pub one_more : (w : List (Role × ℕ)) (q : Role) (c : ℕ) → ((k m : ℕ) → role k ≡ role m → k ≡ m) → Lists f role w
+      → (f q ≡ true → q ≡ role (length (picked f w))) → Lists f role ((q, c) ∷ w)
   one_more w q c apart old next = record { to = to; from = λ k b h. from k b (f q) refl h }
     where
       up : (k b : ℕ) (t : Bool) → At (picked f w) k b → At (cond t (picked f w ++ c ∷ []) (picked f w)) k b
