@@ -11,10 +11,11 @@ use Rattle.adf_volume.specs.Demands.{AllHold, FirstFails, boot_demands, root_dem
 use Rattle.adf_volume.specs.Walk.{Role, Has, IsAbsent, IsFreeIn, bitmap_demands, FirstFault}
 use Rattle.adf_volume.specs.Walk.Role.{Page}
 use Rattle.adf_volume.specs.Walk.FirstFault.{at_bitmap}
+use Rattle.adf_volume.proofs.Gathered.{one_block}
 use Rattle.adf_volume.proofs.Images.{page_in}
 use Rattle.adf_volume.proofs.Lists.{all_append, all_split, fails_right}
 use Rattle.adf_volume.proofs.WalkFits.{fits}
-use Rattle.adf_volume.proofs.Walks.{one_block, asked_block, page_word}
+use Rattle.adf_volume.proofs.Walks.{asked_block, page_word, of_walk}
 use Rattle.adf_volume.proofs.WholeWalks.{all_map_exts}
 use Rattle.adf_volume.specs.declared.fault.Fault.{Fault}
 use Rattle.adf_volume.specs.Start.{IsBegun}
@@ -59,7 +60,7 @@ module _ (free : Bool) {image : List ℕ} {store : StoreValue} {b page : ℕ} {l
       subst (Has st.walk (Page q)) (sym k ∙ l ∙ sym page_is_at) x.1
 
   only_page : (c : ℕ) → Has st.walk (Page ((b - 2) / 4064)) c → c ≡ page
-  only_page c h = (one_block image st.read.is_walk (Page ((b - 2) / 4064)) (Page ((b - 2) / 4064)) c page h has_page (refl, refl, refl)).1
+  only_page c h = (one_block image (of_walk image st.read.is_walk) (Page ((b - 2) / 4064)) (Page ((b - 2) / 4064)) c page h has_page (refl, refl, refl)).1
 
   free_then : free ≡ true → IsFreeIn image st.walk b
   free_then e = (page, has_page, free_is.0 e)

@@ -1,6 +1,6 @@
 -- The steps along the headers of a chain.
 use Rattle.adf_check.specs.Claims.{InRange}
-use Rattle.std.proofs.Common.{◌≡◌, ◌≢◌, ◌⊎◌, inl, inr, ℕ, zero, suc, List, ◌∷◌, ◌+◌, ◌<◌, length, true, false, refl, sym, ap, subst, ◌∙◌, arith}
+use Rattle.std.proofs.Common.{◌≡◌, ◌≢◌, ◌⊎◌, inl, inr, ℕ, suc, List, ◌∷◌, ◌+◌, ◌<◌, length, true, false, refl, sym, ap, subst, ◌∙◌, arith}
 use Rattle.std.proofs.Common.{Some, None}
 use Rattle.std.specs.Prelude.{◌↔◌}
 use Rattle.std.proofs.lemmas.Bool.Decides.{Decides-or}
@@ -17,43 +17,32 @@ use Rattle.adf_blocks.specs.Forms.{first_cause, text_at}
 use Rattle.adf_blocks.specs.HeadBlock.{head_form}
 use Rattle.adf_volume.specs.Demands.{Demand, AllHold, FirstFails, head_demands}
 use Rattle.adf_volume.specs.Image.{kind_of, name_of, word_in}
-use Rattle.adf_volume.specs.Walk.{Role, heads, Asks, form_demands, IsWalk}
+use Rattle.adf_volume.specs.Walk.{Role, heads, form_demands}
 use Rattle.adf_volume.specs.Walk.Role.{Head}
+use Rattle.adf_volume.proofs.Gathered.{node_is}
 use Rattle.adf_volume.proofs.FormDemands.{all_demanded, first_demanded}
-use Rattle.adf_volume.proofs.Roles.{dir_up}
-use Rattle.adf_volume.proofs.Roles.{dir_is_node}
-use Rattle.adf_volume.proofs.Walks.{node_is, one_block, one_node}
+use Rattle.adf_volume.proofs.Pointers.{link_asks, link_ends}
+use Rattle.adf_volume.proofs.PositionSteps.{end_chain}
+use Rattle.adf_volume.proofs.Roles.{dir_is_node, dir_up}
 use Rattle.adf_volume.specs.Fault.{IsTrueFault, fault}
-use Rattle.adf_check.specs.Cursor.Cursor.{BeforeRole}
 use Rattle.adf_volume.specs.Start.{IsBegun}
-use Rattle.adf_check.specs.Reading.{IsAtSlot, IsInChain, Next, Sees, next_head, sees_of}
+use Rattle.adf_check.specs.Reading.{IsAtSlot, IsInChain, Sees, sees_of}
 use Rattle.adf_check.specs.declared.kept_owner.KeptOwner.TheVariants.{Free}
 use Rattle.adf_check.specs.KeptOwner.{kept_at}
 use Rattle.adf_check.specs.Store.{StoreValue}
-use Rattle.adf_check.proofs.ClaimSteps.{IsNamed, IsStored, form_fault, name_fault, read_one}
-use Rattle.adf_check.proofs.CursorMoves.{moved, end_chain}
+use Rattle.adf_check.proofs.ClaimSteps.{IsNextAt, IsStored, form_fault, gathered, name_fault, read_one, read_to}
 
-next_asks : (image : List ℕ) (w : List (Role × ℕ)) (p s j a b : ℕ) → s < SLOTS → b ≢ 0 → Next image w p s j a b
-    → (i : ℕ) × Asks image w (next_head w p s j) a i × (word_in image a i ≡ b)
-next_asks image w p s zero a b lt ne h = (6 + s, (refl, lt, h.0, refl, (λ z. ne (sym h.1 ∙ z))), h.1)
-next_asks image w p s (suc j) a b lt ne h = (124, (refl, h.0, refl, (λ z. ne (sym h.1 ∙ z))), h.1)
-
-next_ends : (image : List ℕ) (w : List (Role × ℕ)) → IsWalk image w → (p s j a : ℕ) → Next image w p s j a 0 → (n c i : ℕ) → Asks image w (Head n p s j) c i
-    → ⊥
-next_ends image w v p s zero a h n c i k =
-    let e : c ≡ a = one_node image v p c a (dir_is_node image w p c k.2) (dir_is_node image w p a h.0) in
-    k.4 (ap (word_in image c) k.3 ∙ ap (λ a. word_in image a (FIRST_SLOT + s)) e ∙ h.1)
-next_ends image w v p s (suc j) a h n c i k =
-    let m = k.1 in
-    let e : c ≡ a = (one_block image v (Head m.0 p s j) (Head h.0.0 p s j) c a m.1 h.0.1 (refl, refl, refl)).1 in
-    k.3 (ap (word_in image c) k.2 ∙ ap (λ a. word_in image a NEXT_IN_CHAIN) e ∙ h.1)
+-- the next header, at position j of slot s of directory p
+abbrev pub next_head : List (Role × ℕ) → ℕ → ℕ → ℕ → Role
+next_head w p s j = Head (suc (heads w)) p s j
 
 -- a chain that ends leaves its slot
 pub chain_ends : (image : List ℕ) (store : StoreValue) (p up s a : ℕ) (seen : List ℕ → Type 0) → IsInChain image store p up s a 0 seen
     → IsAtSlot image store p up (suc s)
 chain_ends image store p up s a seen st = record {
   walk = st.walk;
-  read = moved st.read refl (end_chain image st.walk p s st.place st.read.upto (next_ends image st.walk st.read.upto.walk p s st.place a st.named));
+  read = read_to st.read
+      (end_chain image p s st.place st.read.up_to (link_ends image st.walk (gathered st.read) p s st.place a st.index st.link st.named));
   dir = st.dir;
 }
 
@@ -65,9 +54,11 @@ chain_begins image store p up s seen none st = record {
   place = 0;
   read = st.read;
   dir = st.dir;
-  named = (st.dir, refl);
+  index = FIRST_SLOT + s;
+  link = (st.dir, refl);
+  named = refl;
   sees = record {
-    all = (λ m k c h. let x = st.read.upto.below (Head m p s k) c h in let y : k < 0 = x.2 refl refl in absurd (omega arith));
+    all = (λ m k c h. let x = st.read.up_to.taken (Head m p s k) c h in let y : k < 0 = x.2 refl refl in absurd (omega arith));
     only = (λ x h. absurd (none x h));
   };
 }
@@ -88,15 +79,19 @@ seen_more old new name h x = rw (h x) (Decides-or (bytes_eq name x) (has old x) 
 -- a word of block a names block b next in the chain of slot s of directory p
 module _ {image : List ℕ} {store : StoreValue} {p up s a b : ℕ} {seen : List ℕ → Type 0} (lt : s < SLOTS) (begun : IsBegun image)
     (st : IsInChain image store p up s a b seen) (ne : b ≢ 0) where
-  pub head_named : IsNamed image store st.walk (next_head st.walk p s st.place) a b
-  head_named =
-      let q = next_asks image st.walk p s st.place a b lt ne st.named in
-      record { begun = begun; read = st.read; index = q.0; asked = q.1; names = q.2 }
+  pub head_named : IsNextAt image store st.walk (next_head st.walk p s st.place) a b
+  head_named = record {
+    begun = begun;
+    read = st.read;
+    index = st.index;
+    asked = link_asks image st.walk p s st.place a st.index lt st.link (λ z. ne (sym st.named ∙ z));
+    names = st.named;
+  }
 
   form_at : (P : List Demand → Type 0) → P (head_demands image (kind_of image) b up s) → P (form_demands image st.walk (next_head st.walk p s st.place) b)
   form_at P =
       subst (λ u. P (head_demands image (kind_of image) b u s))
-      (sym (node_is image st.walk p up st.read.upto.walk (dir_is_node image st.walk p up st.dir)))
+      (sym (node_is image (gathered st.read) p up (dir_is_node image st.walk p up st.dir)))
 
   sees_more : (seen' : List ℕ → Type 0) → ((x : List ℕ) → seen' x ↔ ((uppers (name_of image b) ≡ x) ⊎ seen x))
       → Sees image ((next_head st.walk p s st.place, b) ∷ st.walk) p s seen'
@@ -122,10 +117,11 @@ module _ {image : List ℕ} {store : StoreValue} {p up s a b : ℕ} {seen : List
         record {
           walk = (r, b) ∷ st.walk;
           place = suc st.place;
-          read = read_one head_named tt range free (form_at AllHold form) (λ m k c has eq. fresh (subst seen eq (st.sees.all m k c has))) stored
-              (BeforeRole (next_head ((r, b) ∷ st.walk) p s (suc st.place))) (refl, refl, refl, refl);
+          read = read_one head_named tt range free (form_at AllHold form) (λ m k c has eq. fresh (subst seen eq (st.sees.all m k c has))) stored;
           dir = dir_up image st.walk (r, b) p up st.dir;
-          named = ((suc (heads st.walk), inl (refl, refl)), refl);
+          index = NEXT_IN_CHAIN;
+          link = ((suc (heads st.walk), inl (refl, refl)), refl);
+          named = refl;
           sees = sees_more seen' g;
         }
 

@@ -7,22 +7,24 @@ use Rattle.adf_blocks.specs.declared.cause.Cause.TheVariants.{OutOfRange, Taken,
 use Rattle.adf_blocks.specs.Sizes.{blocks}
 use Rattle.adf_volume.specs.Demands.{Demand, demand, AllHold, FirstFails}
 use Rattle.adf_volume.specs.Image.{word_in}
-use Rattle.adf_volume.specs.Walk.{Role, first, second, third, heads, Asks, Enough, NewName, form_demands, demands, FirstFault}
+use Rattle.adf_volume.specs.Walk.{Role, first, heads, Asks, IsDue, Enough, NewName, form_demands, demands, FirstFault}
 use Rattle.adf_volume.specs.Walk.Role.{Head}
 use Rattle.adf_volume.specs.Walk.FirstFault.{at_due}
+use Rattle.adf_volume.specs.Walk.IsWalk.{step}
 use Rattle.adf_volume.proofs.Lists.{fails_left, fails_right, all_append}
 use Rattle.adf_volume.proofs.Memory.{fault_of_image}
+use Rattle.adf_volume.proofs.Gathered.{IsGathered}
+use Rattle.adf_volume.proofs.PositionSteps.{not_taken, past_taken}
 use Rattle.adf_volume.proofs.Roles.{asks_number}
+use Rattle.adf_volume.proofs.Walks.{of_walk}
+use Rattle.adf_volume.specs.Positions.{Position, IsUpTo, behind, position_of}
 use Rattle.adf_volume.specs.declared.fault.Fault.{Fault}
 use Rattle.adf_volume.specs.Fault.{IsTrueFault, fault}
-use Rattle.adf_check.specs.Cursor.{Cursor, first_number, second_number, third_number, nodes_begun, IsUpTo}
-use Rattle.adf_check.specs.Cursor.Cursor.{BeforeRole}
 use Rattle.adf_volume.specs.Start.{IsBegun}
 use Rattle.adf_check.specs.Reading.{HasRead}
 use Rattle.adf_check.specs.declared.kept_owner.KeptOwner.TheVariants.{Free}
 use Rattle.adf_check.specs.KeptOwner.{kept_at}
 use Rattle.adf_check.specs.Store.{StoreValue, next_kept, push_header, push_block, ext_file, data_file, stored, StoreMatches}
-use Rattle.adf_check.proofs.CursorMoves.{is_due, take_it}
 use Rattle.adf_check.proofs.StoreSteps.{free_absent, taken_present, tells_more}
 
 -- what is said of an error, said otherwise
@@ -39,10 +41,19 @@ on_ok (Err y) h p = cc
 pub first_fault : (image : List ℕ) (b : ℕ) (c : Cause) → FirstFault image b c → IsTrueFault image (fault b c)
 first_fault image b c h = record { first = (λ _. h); memory = (λ e. absurd (fault_of_image image b c h e)) }
 
+-- a reader at one position is at another, where its walk has as much up to there
+pub read_to : {image : List ℕ} {store : StoreValue} {w : List (Role × ℕ)} {n : ℕ} {old new : Position} → HasRead image store w n old → IsUpTo image w [] new
+    → HasRead image store w n new
+read_to read up_to = record { tells = read.tells; started = read.started; is_walk = read.is_walk; up_to = up_to }
+
+-- its walk was gathered
+pub gathered : {image : List ℕ} {store : StoreValue} {w : List (Role × ℕ)} {n : ℕ} {at : Position} → HasRead image store w n at → IsGathered image w
+gathered {image = image} read = of_walk image read.is_walk
+
 -- the role comes next, and a word of block a names block b for it
-pub record IsNamed (image : List ℕ) (store : StoreValue) (w : List (Role × ℕ)) (r : Role) (a b : ℕ) : Type 0 where
+pub record IsNextAt (image : List ℕ) (store : StoreValue) (w : List (Role × ℕ)) (r : Role) (a b : ℕ) : Type 0 where
   pub begun : IsBegun image
-  pub read : HasRead image store w (BeforeRole r)
+  pub read : HasRead image store w (first r) (position_of r)
   pub index : ℕ
   pub asked : Asks image w r a index
   pub names : word_in image a index ≡ b
@@ -68,14 +79,17 @@ stored_is old new r b s =
       used = used i;
     }
 
--- the place is the one behind the role
-abbrev pub IsBehind : Role → Cursor → Type 0
-IsBehind r at = (nodes_begun at ≡ first r) × (first_number at ≡ first r) × (second_number at ≡ second r) × (third_number at ≡ suc (third r))
+module _ {image : List ℕ} {store : StoreValue} {w : List (Role × ℕ)} {r : Role} {a b : ℕ} (st : IsNextAt image store w r a b) where
+  is_due : IsDue image w r a st.index
+  is_due = record {
+    asked = st.asked;
+    lacks = not_taken image r st.read.up_to;
+    least = (λ q c k h l before. st.read.up_to.gone q c k h l (λ z d n. absurd n) before);
+  }
 
-module _ {image : List ℕ} {store : StoreValue} {w : List (Role × ℕ)} {r : Role} {a b : ℕ} (st : IsNamed image store w r a b) where
   is_fault : (x : ℕ) (c : Cause) → FirstFails (demands image w r a b) x c → IsTrueFault image (fault x c)
   is_fault x c h =
-      first_fault image x c (at_due st.begun w r a st.index st.read.upto.walk (is_due image w r a st.index st.read.upto st.asked)
+      first_fault image x c (at_due st.begun w r a st.index st.read.is_walk is_due
       (subst (λ b. FirstFails (demands image w r a b) x c) (sym st.names) h))
 
   in_image : InRange (length store.owners) b → InRange (blocks image) b
@@ -120,18 +134,17 @@ module _ {image : List ℕ} {store : StoreValue} {w : List (Role × ℕ)} {r : R
         name_fault h = late_fault SameName (fails_right (form_demands image w r b) _ b SameName form (inl (h, refl, refl)))
 
         -- it is claimed and kept: the reader has read one role more
-        pub read_one : NewName image w r b → {new : StoreValue} → IsStored store new r b → (at : Cursor) → IsBehind r at → HasRead image new ((r, b) ∷ w) at
-        read_one fresh {new = new} s at e =
+        pub read_one : NewName image w r b → {new : StoreValue} → IsStored store new r b → HasRead image new ((r, b) ∷ w) (first r) (behind r)
+        read_one fresh {new = new} s =
             let within = in_image range in
             let begun : length store.starts ≡ first r = st.read.started in
             let late : AllHold late_demands = all_append (form_demands image w r b) (demand SameName b (NewName image w r b) ∷ []) form (fresh, tt) in
-            let upto : IsUpTo image ((r, b) ∷ w) (first r) (second r) (suc (third r)) = take_it image w r a st.index b st.read.upto st.asked st.names
-            (enough, (within, (free_absent image store.owners w st.read.tells.owns b free, late))) in
             let number : (n p s j : ℕ) → r ≡ Head n p s j → n ≡ suc (heads w) =
             λ n p s j z. asks_number image w n p s j a st.index (subst (λ r. Asks image w r a st.index) z st.asked) in
             record {
               tells = subst (λ t. StoreMatches image t ((r, b) ∷ w)) (stored_is store new r b s)
                   (tells_more image store w r b number (omega arith) st.read.tells within.0 within.1 free);
-              started = ap length s.starts ∙ begun ∙ sym e.0;
-              upto = rw (e.1, e.2, e.3) upto;
+              started = ap length s.starts ∙ begun;
+              is_walk = step st.read.is_walk is_due st.names (enough, (within, (free_absent image store.owners w st.read.tells.owns b free, late)));
+              up_to = past_taken image r st.read.up_to (gathered st.read) a st.index b st.asked;
             }

@@ -1,6 +1,6 @@
 -- The steps along the data blocks of a file.
 use Rattle.adf_check.specs.Claims.{InRange}
-use Rattle.std.proofs.Common.{◌≡◌, ℕ, zero, suc, List, ◌∷◌, ◌+◌, ◌*◌, ◌/◌, ◌<◌, ◌≤◌, length, Bool, true, false, cond, refl, sym, ap, subst}
+use Rattle.std.proofs.Common.{◌≡◌, ℕ, zero, suc, List, [], ◌∷◌, ◌+◌, ◌*◌, ◌/◌, ◌<◌, ◌≤◌, length, Bool, true, false, cond, refl, sym, ap, subst}
 use Rattle.std.proofs.Common.{arith}
 use Rattle.std.specs.Prelude.{nat_lt, slice_index}
 use Rattle.std.proofs.lemmas.Bool.{ltb-true}
@@ -11,24 +11,25 @@ use Rattle.adf_blocks.specs.Sizes.{blocks}
 use Rattle.adf_volume.specs.Demands.{Demand, AllHold, FirstFails, data_demands}
 use Rattle.adf_volume.specs.Image.{held, kind_of, table_word, word_in}
 use Rattle.adf_volume.specs.Lists.{At}
-use Rattle.adf_volume.specs.Walk.{Enough, FileAt, IsWalk, MemberAt, Role, data_count, ext_count, form_demands, member_block, node_block}
+use Rattle.adf_volume.specs.Walk.{Asks, Enough, FileAt, IsWalk, MemberAt, Role, data_count, ext_count, form_demands, member_block, node_block}
 use Rattle.adf_volume.specs.Walk.Role.{Data, Ext}
 use Rattle.adf_volume.proofs.Lists.{at_some}
 use Rattle.adf_volume.proofs.Roles.{head_role, member_up, typed_up}
 use Rattle.adf_volume.proofs.MemberFacts.{in_range}
-use Rattle.adf_volume.proofs.Walks.{file_is, member_is, one_head}
+use Rattle.adf_volume.proofs.Gathered.{file_one, member_is}
+use Rattle.adf_volume.proofs.PositionSteps.{end_datas}
+use Rattle.adf_volume.proofs.Walks.{file_is}
+use Rattle.adf_volume.specs.Positions.{IsUpTo, behind, position_of}
 use Rattle.adf_volume.specs.Fault.{IsTrueFault, fault}
-use Rattle.adf_check.specs.Cursor.Cursor.{BeforeRole}
 use Rattle.adf_check.specs.Datas.{next_of}
 use Rattle.adf_volume.specs.Start.{IsBegun}
-use Rattle.adf_check.specs.Reading.{IsAtNode, IsInDatas}
+use Rattle.adf_check.specs.Reading.{HasRead, IsAtNode, IsInDatas}
 use Rattle.adf_check.specs.declared.kept_owner.KeptOwner.TheVariants.{Free}
 use Rattle.adf_check.specs.KeptOwner.{kept_at}
 use Rattle.adf_check.specs.Store.{StoreValue}
 use Rattle.adf_check.proofs.NodeSteps.{at_or}
 use Rattle.adf_check.proofs.NumberBounds.{many_blocks}
-use Rattle.adf_check.proofs.ClaimSteps.{IsNamed, IsStored, form_fault, read_one, short_fault}
-use Rattle.adf_check.proofs.CursorMoves.{moved, end_datas}
+use Rattle.adf_check.proofs.ClaimSteps.{IsNextAt, IsStored, form_fault, gathered, read_one, read_to, short_fault}
 
 member_inside : (image : List ℕ) (w : List (Role × ℕ)) → IsBegun image → IsWalk image w → (n m c : ℕ) → MemberAt image w n m c → c < blocks image
 member_inside image w begun v n zero c h = (in_range image v (many_blocks image begun) (head_role h.header) c h.header.has).1
@@ -38,22 +39,28 @@ member_inside image w begun v n (suc m) c h = (in_range image v (many_blocks ima
 pub table_inside : {image : List ℕ} {store : StoreValue} {n h : ℕ} {table : List ℕ} {k : ℕ} → IsBegun image → IsInDatas image store n h table k → (i : ℕ)
     → i < length table → slice_index table i < blocks image
 table_inside {image = image} {n = n} {table = table} begun st i lt =
-    member_inside image st.walk begun st.read.upto.walk n i (slice_index table i) (st.holds.members i (slice_index table i) (at_or table i 0 lt))
+    member_inside image st.walk begun st.read.is_walk n i (slice_index table i) (st.holds.members i (slice_index table i) (at_or table i 0 lt))
 
 -- behind the last data block
 pub datas_end : (image : List ℕ) (store : StoreValue) (n h : ℕ) (table : List ℕ) (k : ℕ) → IsInDatas image store n h table k → data_count image h ≤ k
     → IsAtNode image store (suc n)
 datas_end image store n h table k st le = record {
   walk = st.walk;
-  read = moved st.read refl (end_datas image st.walk n (suc k) h st.holds.file (omega arith) st.read.upto);
+  read = read_to st.read (end_datas image (gathered st.read) n k h st.holds.file few st.read.up_to);
 }
+  where
+    few : (j a i : ℕ) → Asks image st.walk (Data n (suc j)) a i → j < k
+    few j a i x =
+        let lt : j < data_count image h =
+        subst (λ h. j < data_count image h) (file_one image (gathered st.read) n x.0.0 h x.0.1 st.holds.file) x.0.2 in
+        omega arith
 
 module _ {image : List ℕ} {store : StoreValue} {n h : ℕ} {table : List ℕ} {k : ℕ} (begun : IsBegun image) (st : IsInDatas image store n h table k) where
   one_file : (a : ℕ) → FileAt image st.walk n a → h ≡ a
-  one_file a f = (one_head image st.read.upto.walk st.holds.file.header f.header).1
+  one_file a f = file_one image (gathered st.read) n h a st.holds.file f
 
   named_by : k < data_count image h → (c b : ℕ) → At table (k / POINTERS) c → b ≡ word_in image c (table_word k)
-      → IsNamed image store st.walk (Data n (suc k)) c b
+      → IsNextAt image store st.walk (Data n (suc k)) c b
   named_by lt c b x e = record {
     begun = begun;
     read = st.read;
@@ -77,8 +84,8 @@ module _ {image : List ℕ} {store : StoreValue} {n h : ℕ} {table : List ℕ} 
       (lt : k < count) {b holder : ℕ} (holds_it : holder ≡ slice_index table (k / POINTERS))
       (e : b ≡ word_in image (slice_index table (k / POINTERS)) (table_word k))
     where
-      pub data_named : IsNamed image store st.walk (Data n (suc k)) holder b
-      data_named = subst (λ c. IsNamed image store st.walk (Data n (suc k)) c b) (sym holds_it)
+      pub data_named : IsNextAt image store st.walk (Data n (suc k)) holder b
+      data_named = subst (λ c. IsNextAt image store st.walk (Data n (suc k)) c b) (sym holds_it)
           (named_by (omega arith) (slice_index table (k / POINTERS)) b (at_or table (k / POINTERS) 0 (omega arith)) e)
 
       pub data_enough : Enough image st.walk (Data n (suc k))
@@ -93,7 +100,7 @@ module _ {image : List ℕ} {store : StoreValue} {n h : ℕ} {table : List ℕ} 
       next_here true z =
           let more : suc k < data_count image h = ltb-true (suc k) (data_count image h) z in
           let x = at_or table (suc k / POINTERS) 0 (omega arith) in
-          ap (λ b. word_in image b (table_word (suc k))) (member_is image st.walk n (suc k / POINTERS) (slice_index table (suc k / POINTERS)) st.read.upto.walk
+          ap (λ b. word_in image b (table_word (suc k))) (member_is image (gathered st.read) n (suc k / POINTERS) (slice_index table (suc k / POINTERS))
           (st.holds.members (suc k / POINTERS) (slice_index table (suc k / POINTERS)) x))
 
       abbrev pub demands_here : List Demand
@@ -102,7 +109,7 @@ module _ {image : List ℕ} {store : StoreValue} {n h : ℕ} {table : List ℕ} 
       form_is : demands_here ≡ form_demands image st.walk (Data n (suc k)) b
       form_is =
           let one : k + 1 ≡ suc k = omega arith in
-          let head : node_block st.walk n ≡ h = file_is image st.walk n h st.read.upto.walk st.holds.file in
+          let head : node_block st.walk n ≡ h = file_is image st.walk n h st.read.is_walk st.holds.file in
           rw (is_count, is_size, one, head, next_here (nat_lt (suc k) (data_count image h)) refl) refl
 
       module _ (range : InRange (length store.owners) b) (free : kept_at store.owners b ≡ Free) where
@@ -113,10 +120,11 @@ module _ {image : List ℕ} {store : StoreValue} {n h : ℕ} {table : List ℕ} 
         data_done f {new = new} stored =
             let r : Role = Data n (suc k) in
             let one : k + 1 ≡ suc k = omega arith in
+            let read_it : HasRead image new ((r, b) ∷ st.walk) (suc n) (behind r) =
+            read_one data_named data_enough range free (subst AllHold form_is f) tt (subst (λ m. IsStored store new (Data n m) b) one stored) in
             record {
               walk = (r, b) ∷ st.walk;
-              read = read_one data_named data_enough range free (subst AllHold form_is f) tt (subst (λ m. IsStored store new (Data n m) b) one stored)
-                  (BeforeRole (Data n (suc (k + 1)))) (refl, refl, refl, omega arith);
+              read = read_to read_it (subst (λ m. IsUpTo image ((r, b) ∷ st.walk) [] (position_of (Data n (suc m)))) (sym one) read_it.up_to);
               holds = record {
                 file = typed_up (r, b) st.holds.file;
                 members = (λ m c x. member_up image st.walk (r, b) n m c (st.holds.members m c x));

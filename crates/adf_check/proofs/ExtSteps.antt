@@ -1,9 +1,8 @@
 -- The steps along the extension blocks of a file.
 use Rattle.adf_check.specs.Claims.{InRange}
 use Rattle.std.proofs.Common.{◌≡◌, ◌≢◌, inl, inr, ℕ, zero, suc, List, [], ◌∷◌, ◌++◌, length, refl, sym, ap}
-use Rattle.std.proofs.Common.{subst, ◌∙◌, arith, Some, None}
+use Rattle.std.proofs.Common.{subst, ◌∙◌, Some, None}
 use Rattle.adf_blocks.specs.declared.layout.TheConstants.{EXTENSION}
-use native.Mathlib.Decide.{dec_lt}
 use Rattle.adf_fields.specs.Words.{block, word}
 use Rattle.adf_blocks.specs.declared.cause.Cause.{Cause}
 use Rattle.adf_blocks.specs.Forms.{first_cause}
@@ -11,21 +10,21 @@ use Rattle.adf_blocks.specs.ExtBlock.{ext_form}
 use Rattle.adf_volume.specs.Demands.{Demand, AllHold, FirstFails, ext_demands}
 use Rattle.adf_volume.specs.Image.{word_in}
 use Rattle.adf_volume.specs.Lists.{At}
-use Rattle.adf_volume.specs.Walk.{Role, Asks, FileAt, MemberAt, form_demands, ext_count, IsWalk}
+use Rattle.adf_volume.specs.Walk.{Role, FileAt, MemberAt, form_demands, ext_count}
 use Rattle.adf_volume.specs.Walk.Role.{Ext}
 use Rattle.adf_volume.proofs.FormDemands.{all_demanded, first_demanded}
 use Rattle.adf_volume.proofs.Lists.{at_snoc, snoc_length}
 use Rattle.adf_volume.proofs.Roles.{count_own, member_up, typed_up}
-use Rattle.adf_volume.proofs.Walks.{file_is, one_block, one_head, ext_counted}
+use Rattle.adf_volume.proofs.Pointers.{ext_asks, ext_ends}
+use Rattle.adf_volume.proofs.PositionSteps.{end_exts, enter_file, no_exts}
+use Rattle.adf_volume.proofs.Walks.{file_is}
 use Rattle.adf_volume.specs.Fault.{IsTrueFault, fault}
-use Rattle.adf_check.specs.Cursor.Cursor.{BeforeRole}
 use Rattle.adf_volume.specs.Start.{IsBegun}
-use Rattle.adf_check.specs.Reading.{HasTable, IsInDatas, IsInExts, IsInNode, NextExt}
+use Rattle.adf_check.specs.Reading.{HasTable, IsInDatas, IsInExts, IsInNode}
 use Rattle.adf_check.specs.declared.kept_owner.KeptOwner.TheVariants.{Free}
 use Rattle.adf_check.specs.KeptOwner.{kept_at}
 use Rattle.adf_check.specs.Store.{StoreValue}
-use Rattle.adf_check.proofs.ClaimSteps.{IsNamed, IsStored, form_fault, read_one}
-use Rattle.adf_check.proofs.CursorMoves.{moved, enter_file, end_exts}
+use Rattle.adf_check.proofs.ClaimSteps.{IsNextAt, IsStored, form_fault, gathered, read_one, read_to}
 
 -- a file's table begins with its header
 pub enter_exts : (image : List ℕ) (store : StoreValue) (n h : ℕ) (st : IsInNode image store n) → FileAt image st.walk n h
@@ -34,10 +33,11 @@ enter_exts image store n h st file =
     record {
       walk = st.walk;
       extra = 0;
-      read = moved st.read refl (enter_file image st.walk n st.read.upto);
+      read = read_to st.read (enter_file image n st.read.up_to);
       holds = record { file = file; members = member; counted = ap suc (sym none) };
       counted = none;
-      named = (refl, refl);
+      member = file;
+      named = refl;
     }
   where
     member : (m c : ℕ) → At (h ∷ []) m c → MemberAt image st.walk n m c
@@ -45,48 +45,31 @@ enter_exts image store n h st file =
     member (suc m) c x = absurd x
 
     none : ext_count st.walk n ≡ 0
-    none =
-        elim (dec_lt 0 (ext_count st.walk n)) [
-          | yes u ↦
-              let x = ext_counted image st.read.upto.walk n 0 u in
-              let y = st.read.upto.below (Ext n 1) x.0 x.1 in
-              absurd (omega arith)
-          | no u ↦ omega arith
-        ]
-
-exts_asks : (image : List ℕ) (w : List (Role × ℕ)) (n h j a b : ℕ) → FileAt image w n h → b ≢ 0 → NextExt image w n h j a b
-    → (i : ℕ) × Asks image w (Ext n (suc j)) a i × (word_in image a i ≡ b)
-exts_asks image w n h zero a b f ne x = (126, (subst (FileAt image w n) (sym x.0) f, refl, (λ z. ne (sym x.1 ∙ z))), x.1)
-exts_asks image w n h (suc j) a b f ne x = (126, (x.0, refl, (λ z. ne (sym x.1 ∙ z))), x.1)
-
-exts_no : (image : List ℕ) (w : List (Role × ℕ)) → IsWalk image w → (n h j a : ℕ) → FileAt image w n h → NextExt image w n h j a 0 → (c i : ℕ)
-    → Asks image w (Ext n (suc j)) c i → ⊥
-exts_no image w v n h zero a f x c i k =
-    let e : c ≡ h = (one_head image v k.0.header f.header).1 in
-    k.2 (ap (word_in image c) k.1 ∙ ap (λ a. word_in image a EXTENSION) (e ∙ sym x.0) ∙ x.1)
-exts_no image w v n h (suc j) a f x c i k =
-    let e : c ≡ a = (one_block image v (Ext n (suc j)) (Ext n (suc j)) c a k.0 x.0 (refl, refl, refl)).1 in
-    k.2 (ap (word_in image c) k.1 ∙ ap (λ a. word_in image a EXTENSION) e ∙ x.1)
+    none = no_exts image (gathered st.read) n st.read.up_to
 
 -- no extension block follows
-pub exts_end : (image : List ℕ) (store : StoreValue) (n h : ℕ) (table : List ℕ) (a : ℕ) → IsInExts image store n h table a 0 → IsInDatas image store n h table 0
+pub exts_end : (image : List ℕ) (store : StoreValue) (n h : ℕ) (table : List ℕ) (a : ℕ) → IsInExts image store n h table a 0
+    → IsInDatas image store n h table 0
 exts_end image store n h table a st = record {
   walk = st.walk;
-  read = moved st.read refl (end_exts image st.walk n (suc st.extra) (omega arith) st.read.upto
-      (exts_no image st.walk st.read.upto.walk n h st.extra a st.holds.file st.named));
+  read = read_to st.read (end_exts image n st.extra st.read.up_to (ext_ends image st.walk (gathered st.read) n st.extra a st.member st.named));
   holds = st.holds;
 }
 
 -- a word of block a names block b next
 module _ {image : List ℕ} {store : StoreValue} {n h : ℕ} {table : List ℕ} {a b : ℕ} (begun : IsBegun image) (st : IsInExts image store n h table a b)
     (ne : b ≢ 0) where
-  pub ext_named : IsNamed image store st.walk (Ext n (suc st.extra)) a b
-  ext_named =
-      let q = exts_asks image st.walk n h st.extra a b st.holds.file ne st.named in
-      record { begun = begun; read = st.read; index = q.0; asked = q.1; names = q.2 }
+  pub ext_named : IsNextAt image store st.walk (Ext n (suc st.extra)) a b
+  ext_named = record {
+    begun = begun;
+    read = st.read;
+    index = EXTENSION;
+    asked = ext_asks image st.walk n st.extra a st.member (λ z. ne (sym st.named ∙ z));
+    names = st.named;
+  }
 
   form_at : (P : List Demand → Type 0) → P (ext_demands image b h) → P (form_demands image st.walk (Ext n (suc st.extra)) b)
-  form_at P = subst (λ h. P (ext_demands image b h)) (sym (file_is image st.walk n h st.read.upto.walk st.holds.file))
+  form_at P = subst (λ h. P (ext_demands image b h)) (sym (file_is image st.walk n h st.read.is_walk st.holds.file))
 
   -- what was read of it
   module _ (range : InRange (length store.owners) b) (free : kept_at store.owners b ≡ Free) {bytes : List ℕ} (is_block : bytes ≡ block image b) where
@@ -104,8 +87,7 @@ module _ {image : List ℕ} {store : StoreValue} {n h : ℕ} {table : List ℕ} 
         record {
           walk = (r, b) ∷ st.walk;
           extra = suc st.extra;
-          read = read_one ext_named tt range free (form_at AllHold form) tt (subst (λ k. IsStored store new (Ext n k) b) number stored)
-              (BeforeRole (Ext n (suc (suc st.extra)))) (refl, refl, refl, refl);
+          read = read_one ext_named tt range free (form_at AllHold form) tt (subst (λ k. IsStored store new (Ext n k) b) number stored);
           holds = subst (HasTable image ((r, b) ∷ st.walk) n h) (sym longer_is) (record {
             file = typed_up (r, b) st.holds.file;
             members = (λ m c x. elim (at_snoc table b m c x) [
@@ -115,5 +97,6 @@ module _ {image : List ℕ} {store : StoreValue} {n h : ℕ} {table : List ℕ} 
             counted = snoc_length table b ∙ ap suc (st.holds.counted ∙ sym one);
           });
           counted = one ∙ ap suc st.counted;
-          named = (inl (refl, refl), ap (λ x. word x EXTENSION) (sym (same ∙ is_block)) ∙ sym next_is);
+          member = inl (refl, refl);
+          named = (ap (λ x. word x EXTENSION) (sym (same ∙ is_block)) ∙ sym next_is);
         }

@@ -1,5 +1,4 @@
--- the store and the position of a check
-pub mod CursorMoves
+-- the store of a check
 pub mod FileBlocks
 pub mod HeaderBodies
 pub mod StoreSteps

@@ -6,18 +6,21 @@ use Rattle.adf_volume.specs.Image.{kind_of, root_of, word_in}
 use Rattle.adf_volume.specs.Lists.{At}
 use Rattle.adf_volume.specs.Walk.{Role, first, Has, heads, HeadAt, DirAt, FileAt, IsWalk}
 use Rattle.adf_volume.specs.Walk.Role.{Root}
+use Rattle.adf_volume.specs.Positions.{before_node}
+use Rattle.adf_volume.proofs.Gathered.{root_in}
 use Rattle.adf_volume.proofs.FormDemands.{head_type}
 use Rattle.adf_volume.proofs.Lists.{at_below, at_fun, at_index_or, at_snoc, at_some, snoc_length}
 use Rattle.adf_volume.proofs.MemberFacts.{in_range, kept}
+use Rattle.adf_volume.proofs.PositionSteps.{end_nodes, enter_dir, low_first}
 use Rattle.adf_volume.proofs.Roles.{head_role}
-use Rattle.adf_volume.proofs.Walks.{numbered, root_in}
+use Rattle.adf_volume.proofs.Walks.{numbered}
 use Rattle.adf_check.specs.declared.store.KeptHeader.{KeptHeader}
 use Rattle.adf_check.specs.declared.store.NodeStart.{NodeStart}
 use Rattle.adf_volume.specs.Start.{IsBegun}
 use Rattle.adf_check.specs.Reading.{IsAtNode, IsAtSlot, IsInExts, IsInNode, IsRead}
 use Rattle.adf_check.specs.Store.{StoreValue, StoreMatches, blocks_before, data_file, entered, ext_file}
 use Rattle.adf_check.proofs.NumberBounds.{many_blocks}
-use Rattle.adf_check.proofs.CursorMoves.{moved, enter_dir, end_all}
+use Rattle.adf_check.proofs.ClaimSteps.{gathered, read_to}
 use Rattle.adf_check.proofs.ExtSteps.{enter_exts}
 use Rattle.adf_check.proofs.FileBlocks.{all_before, data_tells, ext_tells}
 
@@ -53,12 +56,13 @@ enter_node image store n st = record {
       ]);
     };
     started = snoc_length store.starts (record { exts = length store.exts; datas = length store.datas }) ∙ ap suc st.read.started;
-    upto = st.read.upto;
+    is_walk = st.read.is_walk;
+    up_to = st.read.up_to;
   };
 }
   where
     low : (r : Role) (b : ℕ) → Has st.walk r b → first r ≤ n
-    low r b h = let x = st.read.upto.below r b h in grind (arith, x)
+    low r b h = let x = low_first r (before_node n) (st.read.up_to.taken r b h) refl refl in omega arith
 
 -- the node of a row
 module _ (image : List ℕ) (store : StoreValue) (w : List (Role × ℕ)) (t : StoreMatches image store w) (v : IsWalk image w) where
@@ -81,13 +85,13 @@ module _ (image : List ℕ) (store : StoreValue) (w : List (Role × ℕ)) (t : S
 pub enter_directory : (image : List ℕ) (store : StoreValue) (n a : ℕ) (st : IsInNode image store n) → DirAt image st.walk n a → IsAtSlot image store n a 0
 enter_directory image store n a st dir = record {
   walk = st.walk;
-  read = moved st.read refl (enter_dir image st.walk n a dir st.read.upto);
+  read = read_to st.read (enter_dir image (gathered st.read) n a dir st.read.up_to);
   dir = dir;
 }
 
 pub root_begins : (image : List ℕ) (store : StoreValue) (n a : ℕ) → n ≡ 0 → a ≡ root_of image → IsInNode image store n → IsAtSlot image store n a 0
 root_begins image store n a z e st =
-    enter_directory image store n a st (subst (λ n. DirAt image st.walk n a) (sym z) (subst (Has st.walk Root) (sym e) (root_in image st.read.upto.walk)))
+    enter_directory image store n a st (subst (λ n. DirAt image st.walk n a) (sym z) (subst (Has st.walk Root) (sym e) (root_in image (gathered st.read))))
 
 -- the next node is n, and its row is known
 module _ {image : List ℕ} {store : StoreValue} {m n : ℕ} {header : KeptHeader} (begun : IsBegun image) (view : m ≡ n) (ne : m ≢ 0)
@@ -100,19 +104,19 @@ module _ {image : List ℕ} {store : StoreValue} {m n : ℕ} {header : KeptHeade
 
   pub head_inside : header.head < blocks image
   head_inside =
-      let x = node_here image store st.walk st.read.tells st.read.upto.walk (m - 1) header here in
-      (in_range image st.read.upto.walk (many_blocks image begun) (head_role x) header.head x.has).1
+      let x = node_here image store st.walk st.read.tells st.read.is_walk (m - 1) header here in
+      (in_range image st.read.is_walk (many_blocks image begun) (head_role x) header.head x.has).1
 
   pub directory_begins : word_in image header.head SECONDARY_TYPE ≡ ST_DIR → IsAtSlot image store n header.head 0
   directory_begins e =
       enter_directory image store n header.head st (subst (λ n. DirAt image st.walk n header.head) node
-      (record { header = node_here image store st.walk st.read.tells st.read.upto.walk (m - 1) header here; type = e }))
+      (record { header = node_here image store st.walk st.read.tells st.read.is_walk (m - 1) header here; type = e }))
 
   pub file_begins : word_in image header.head SECONDARY_TYPE ≢ ST_DIR
       → IsInExts image store n header.head (header.head ∷ []) header.head (word_in image header.head EXTENSION)
   file_begins e =
       enter_exts image store n header.head st (subst (λ n. FileAt image st.walk n header.head) node
-      (file_here image store st.walk st.read.tells st.read.upto.walk (m - 1) header here e))
+      (file_here image store st.walk st.read.tells st.read.is_walk (m - 1) header here e))
 
 -- behind the last node all is read
 pub all_read : (image : List ℕ) (store : StoreValue) (n : ℕ) → n ≡ suc (length store.headers) → IsAtNode image store n → IsRead image store
@@ -121,7 +125,9 @@ all_read image store n e st = record {
   read = record {
     tells = st.read.tells;
     started = st.read.started ∙ e;
-    is_walk = st.read.upto.walk;
-    whole = let c : length store.headers ≡ heads st.walk = st.read.tells.headers.count in end_all image st.walk n (omega arith) st.read.upto;
+    is_walk = st.read.is_walk;
+    whole = (λ r a i h l.
+        let c : length store.headers ≡ heads st.walk = st.read.tells.headers.count in
+        end_nodes image (gathered st.read) n (omega arith) st.read.up_to r a i h l (λ q b k. absurd k));
   };
 }

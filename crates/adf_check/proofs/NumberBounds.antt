@@ -8,7 +8,7 @@ use Rattle.adf_volume.specs.Walk.{Role, heads}
 use Rattle.adf_volume.proofs.Sizes.{size_high, size_low}
 use Rattle.adf_volume.proofs.Gathered.{dir_number}
 use Rattle.adf_volume.proofs.Walks.{of_walk}
-use Rattle.adf_check.specs.Cursor.{Cursor}
+use Rattle.adf_volume.specs.Positions.{Position}
 use Rattle.adf_check.specs.Reading.{HasRead, IsInChain}
 use Rattle.adf_check.specs.Store.{StoreValue, StoreMatches, data_file, ext_file}
 use Rattle.adf_volume.specs.Start.{IsBegun}
@@ -32,7 +32,7 @@ module _ {image : List ℕ} {store : StoreValue} (begun : IsBegun image) (used :
       omega arith
 
   -- the lists of all extension blocks and of all data blocks are short
-  pub lists_short : {w : List (Role × ℕ)} {at : Cursor} → HasRead image store w at → (length store.exts < 2 ^ 29) × (length store.datas < 2 ^ 29)
+  pub lists_short : {w : List (Role × ℕ)} {n : ℕ} {at : Position} → HasRead image store w n at → (length store.exts < 2 ^ 29) × (length store.datas < 2 ^ 29)
   lists_short {w = w} read =
       let short = walk_short read.tells in (
         omega (arith, ap length read.tells.exts, picked_within (λ r. is_some (ext_file r)) w),
@@ -44,7 +44,7 @@ module _ {image : List ℕ} {store : StoreValue} (begun : IsBegun image) (used :
 
   -- the number of a directory is short
   pub parent_short : {p up s a b : ℕ} {seen : List ℕ → Type 0} → IsInChain image store p up s a b seen → p < 2 ^ 29
-  parent_short {p = p} {up = up} st = omega (arith, heads_short st.read.tells, dir_number image (of_walk image st.read.upto.walk) p up st.dir)
+  parent_short {p = p} {up = up} st = omega (arith, heads_short st.read.tells, dir_number image (of_walk image st.read.is_walk) p up st.dir)
 
   -- the number of a header that is due is short
   pub entry_short : {p up s a b : ℕ} {seen : List ℕ → Type 0} → IsInChain image store p up s a b seen → length store.headers + 1 < 2 ^ 29

@@ -1,69 +1,49 @@
 -- The steps along the bitmap pages and the bitmap extension blocks.
 use Rattle.adf_check.specs.Claims.{InRange}
-use Rattle.std.proofs.Common.{◌≡◌, inl, inr, ℕ, zero, suc, List, [], ◌∷◌, ◌++◌, ◌+◌, ◌-◌, ◌*◌, ◌/◌, ◌%◌, ◌<◌, ◌≤◌, length, refl, sym, ap, subst, ◌∙◌}
+use Rattle.std.proofs.Common.{◌≡◌, inl, inr, ℕ, zero, suc, List, [], ◌∷◌, ◌++◌, ◌+◌, ◌-◌, ◌/◌, ◌%◌, ◌<◌, ◌≤◌, length, refl, sym, ap, subst, ◌∙◌}
 use Rattle.std.proofs.Common.{arith, Some, None}
 use Rattle.std.specs.Prelude.{nat_lt, slice_index}
 use Rattle.std.proofs.lemmas.Grind.{common_steps}
 use Rattle.std.proofs.lemmas.Bool.{cond-true, cond-false, le-ltb, lt-ltb}
-use Rattle.std.proofs.lemmas.Bool.Decides.{nat_tests}
-use native.Mathlib.Decide.{dec_lt}
 use Rattle.adf_fields.specs.Words.{block}
 use Rattle.adf_blocks.specs.declared.cause.Cause.{Cause}
 use Rattle.adf_blocks.specs.Forms.{first_cause}
 use Rattle.adf_blocks.specs.PageBlock.{page_form}
 use Rattle.adf_blocks.specs.Sizes.{blocks, pages_needed}
+use Rattle.adf_blocks.specs.declared.layout.TheConstants.{MAP_EXT_PAGES, ROOT_PAGES}
 use Rattle.adf_volume.specs.Demands.{AllHold, page_demands}
 use Rattle.adf_volume.specs.Image.{root_of, word_in}
-use Rattle.adf_volume.specs.Walk.{Role, Has, NamesPage, Asks, IsWalk}
+use Rattle.adf_volume.specs.Walk.{Role, Has, NamesPage, IsWalk}
 use Rattle.adf_volume.specs.Walk.Role.{MapExt, Page}
 use Rattle.adf_volume.proofs.FormDemands.{all_demanded, first_demanded}
 use Rattle.adf_volume.proofs.Lists.{at_snoc, snoc_length}
-use Rattle.adf_volume.proofs.MemberFacts.{kept}
+use Rattle.adf_volume.proofs.MemberFacts.{kept, names_up}
+use Rattle.adf_volume.proofs.Pointers.{behind_map_ext, behind_page, map_ext_asks, map_ext_next, names_first, names_page, next_holder, page_next}
+use Rattle.adf_volume.proofs.PositionSteps.{end_pages}
+use Rattle.adf_volume.specs.Positions.{IsUpTo, word_of_map_ext, word_of_page}
 use Rattle.adf_volume.specs.Fault.{IsTrueFault, fault}
-use Rattle.adf_check.specs.Cursor.{IsUpTo}
-use Rattle.adf_check.specs.Cursor.Cursor.{BeforePage, BeforeRole}
 use Rattle.adf_volume.specs.Start.{IsBegun}
-use Rattle.adf_check.specs.Pages.{AreListed, index_of_map_ext, index_of_page}
-use Rattle.adf_check.specs.Reading.{IsAtNode, IsAtPage, IsBeforePage, block_of_page, block_of_map_ext}
+use Rattle.adf_check.specs.Pages.{AreListed}
+use Rattle.adf_check.specs.Reading.{HasRead, IsAtNode, IsAtPage, IsBeforePage, block_of_page, block_of_map_ext}
 use Rattle.adf_check.specs.declared.kept_owner.KeptOwner.TheVariants.{Free}
 use Rattle.adf_check.specs.KeptOwner.{kept_at}
 use Rattle.adf_check.specs.Store.{StoreValue}
-use Rattle.adf_check.proofs.ClaimSteps.{IsNamed, IsStored, form_fault, read_one}
-use Rattle.adf_check.proofs.CursorMoves.{moved, end_all_pages}
-
--- the word that names a page
-index_is : (image : List ℕ) (w : List (Role × ℕ)) (k a n : ℕ) → NamesPage image w k a n → index_of_page k ≡ n
-index_is image w k a n (inl x) = grind (arith, nat_tests)
-index_is image w k a n (inr x) = grind (arith, nat_tests)
+use Rattle.adf_check.proofs.ClaimSteps.{IsNextAt, IsStored, form_fault, read_one, read_to}
 
 -- where no bitmap extension block comes before page k
-no_ext_names : (image : List ℕ) (w : List (Role × ℕ)) (k a : ℕ) → (k ≤ 25 → a ≡ root_of image)
-    → ((j : ℕ) → 25 + 127 * j < k → k ≤ 25 + 127 * suc j → Has w (MapExt j) a) → (25 ≤ k → 0 < (k - 25) % 127) → (i : ℕ) × NamesPage image w k a i
-no_ext_names image w k a f g h =
-    elim (dec_lt k 25) [
-      | yes l ↦ (79 + k, inl (l, f (omega arith), refl))
-      | no l ↦
-          let x : 0 < (k - 25) % 127 = h (omega arith) in
-          ((k - 25) % 127, inr ((k - 25) / 127, g ((k - 25) / 127) (omega arith) (omega arith), omega arith, omega arith))
-    ]
-
-pub same_holder : (image : List ℕ) (store : StoreValue) (k a : ℕ) → IsBeforePage image store k a → (25 ≤ k → 0 < (k - 25) % 127) → IsAtPage image store k a
-same_holder image store k a st h =
-    let x = no_ext_names image st.walk k a st.at_root st.at_ext h in
-    let z : k + (k + 101) / 127 ≡ k + (k + 102) / 127 =
-    elim (dec_lt k 25) [ yes l ↦ omega arith | no l ↦ let y : 0 < (k - 25) % 127 = h (omega arith) in omega arith ] in
-    record {
-      walk = st.walk;
-      read = moved st.read refl (subst (IsUpTo image st.walk 0 1) z st.read.upto);
-      index = x.0;
-      named = x.1;
-    }
+pub same_holder : (image : List ℕ) (store : StoreValue) (k a : ℕ) → IsBeforePage image store k a
+    → (ROOT_PAGES ≤ k → (k - ROOT_PAGES) % MAP_EXT_PAGES ≡ 0 → ⊥) → IsAtPage image store k a
+same_holder image store k a st other = record {
+  walk = st.walk;
+  read = read_to st.read (subst (IsUpTo image st.walk []) (page_next k other) st.read.up_to);
+  named = names_page image st.walk k a st.holder other;
+}
 
 -- behind the last page
 pub pages_end : (image : List ℕ) (store : StoreValue) (a : ℕ) → IsBeforePage image store (pages_needed (blocks image)) a → IsAtNode image store 0
 pages_end image store a st = record {
   walk = st.walk;
-  read = moved st.read refl (end_all_pages image st.walk st.read.upto);
+  read = read_to st.read (end_pages image (pages_needed (blocks image)) (omega arith) st.read.up_to);
 }
 
 -- pages by the words alone
@@ -86,21 +66,18 @@ page_is image w k b v h = let x = (kept image v (Page k) b h).1 in names_is imag
 
 -- page i comes next, and a word of block a names it as block b
 module _ {image : List ℕ} {store : StoreValue} {i a b : ℕ} (begun : IsBegun image) (needed : i < pages_needed (blocks image)) (st : IsAtPage image store i a)
-    (named : b ≡ word_in image a (index_of_page i)) where
-  names : word_in image a st.index ≡ b
-  names = ap (word_in image a) (sym (index_is image st.walk i a st.index st.named)) ∙ sym named
-
-  pub page_named : IsNamed image store st.walk (Page i) a b
+    (named : b ≡ word_in image a (word_of_page i)) where
+  pub page_named : IsNextAt image store st.walk (Page i) a b
   page_named = record {
     begun = begun;
     read = st.read;
-    index = st.index;
+    index = word_of_page i;
     asked = (needed, st.named);
-    names = names;
+    names = sym named;
   }
 
   pub page_by_number : b ≡ block_of_page image i
-  page_by_number = sym (names_is image st.walk i b a st.index st.read.upto.walk st.named names)
+  page_by_number = sym (names_is image st.walk i b a (word_of_page i) st.read.is_walk st.named (sym named))
 
   module _ (range : InRange (length store.owners) b) (free : kept_at store.owners b ≡ Free) {bytes : List ℕ} (is_block : bytes ≡ block image b) where
     pub page_fault : (c : Cause) → first_cause (page_form bytes) ≡ Some c → IsTrueFault image (fault b c)
@@ -108,58 +85,36 @@ module _ {image : List ℕ} {store : StoreValue} {i a b : ℕ} (begun : IsBegun 
         form_fault page_named tt range free c (first_demanded b (page_form (block image b)) c (ap (λ x. first_cause (page_form x)) (sym is_block) ∙ f))
 
     pub page_done : first_cause (page_form bytes) ≡ None → {new : StoreValue} → IsStored store new (Page i) b → IsBeforePage image new (i + 1) a
-    page_done f stored =
+    page_done f {new = new} stored =
         let form : AllHold (page_demands image b) = all_demanded b (page_form (block image b)) (ap (λ x. first_cause (page_form x)) (sym is_block) ∙ f) in
         record {
           walk = (Page i, b) ∷ st.walk;
-          read = read_one page_named tt range free form tt stored (BeforePage (i + 1)) (refl, refl, refl, omega arith);
-          at_root = (λ l. at_root st.index st.named (omega arith));
-          at_ext = (λ j l u. inr (at_ext st.index st.named j (omega arith) (omega arith)));
+          read = subst (HasRead image new ((Page i, b) ∷ st.walk) 0) (behind_page i) (read_one page_named tt range free form tt stored);
+          holder = next_holder image ((Page i, b) ∷ st.walk) i a (word_of_page i) (names_up image st.walk (Page i, b) i a (word_of_page i) st.named);
         }
-      where
-        at_root : (n : ℕ) → NamesPage image st.walk i a n → suc i ≤ 25 → a ≡ root_of image
-        at_root n (inl x) l = x.1
-        at_root n (inr x) l = absurd (omega arith)
-
-        at_ext : (n : ℕ) → NamesPage image st.walk i a n → (j : ℕ) → 25 + 127 * j < suc i → suc i ≤ 25 + 127 * suc j → Has st.walk (MapExt j) a
-        at_ext n (inl x) j l h = absurd (omega arith)
-        at_ext n (inr x) j l h =
-            let e : x.0 ≡ j = omega arith in
-            subst (λ j. Has st.walk (MapExt j) a) e x.1
 
 -- the bitmap extension block whose first page is page i comes next, and a word of block a names it as block b
 module _ {image : List ℕ} {store : StoreValue} {i a b : ℕ} (begun : IsBegun image) (needed : i < pages_needed (blocks image)) (past : 25 ≤ i)
-    (begins : (i - 25) % 127 ≡ 0) (st : IsBeforePage image store i a) (named : b ≡ word_in image a (index_of_map_ext i)) where
+    (begins : (i - 25) % 127 ≡ 0) (st : IsBeforePage image store i a) (named : b ≡ word_in image a (word_of_map_ext i)) where
   abbrev pub number : ℕ
   number = (i - 25) / 127
 
-  asks : (j : ℕ) → i ≡ 25 + 127 * j → (n : ℕ) × Asks image st.walk (MapExt j) a n × (word_in image a n ≡ b)
-  asks zero z =
-      let here : index_of_map_ext i ≡ 104 = grind (arith, nat_tests) in
-      (104, (omega arith, st.at_root (omega arith), refl), ap (word_in image a) (sym here) ∙ sym named)
-  asks (suc j) z =
-      let here : index_of_map_ext i ≡ 127 = grind (arith, nat_tests) in
-      (127, (omega arith, st.at_ext j (omega arith) (omega arith), refl), ap (word_in image a) (sym here) ∙ sym named)
-
-  pub map_ext_named : IsNamed image store st.walk (MapExt number) a b
-  map_ext_named =
-      let q = asks number (omega arith) in
-      let y : i + (i + 101) / 127 ≡ 25 + 128 * number = omega arith in
-      record {
-        begun = begun;
-        read = moved st.read refl (subst (IsUpTo image st.walk 0 1) y st.read.upto);
-        index = q.0;
-        asked = q.1;
-        names = q.2;
-      }
+  pub map_ext_named : IsNextAt image store st.walk (MapExt number) a b
+  map_ext_named = record {
+    begun = begun;
+    read = read_to st.read (subst (IsUpTo image st.walk []) (map_ext_next i past begins) st.read.up_to);
+    index = word_of_map_ext i;
+    asked = map_ext_asks image st.walk i a needed past begins st.holder;
+    names = sym named;
+  }
 
   pub map_ext_done : InRange (length store.owners) b → kept_at store.owners b ≡ Free → {new : StoreValue} → IsStored store new (MapExt number) b
       → IsAtPage image new i b
-  map_ext_done range free stored = record {
+  map_ext_done range free {new = new} stored = record {
     walk = (MapExt number, b) ∷ st.walk;
-    read = read_one map_ext_named tt range free tt tt stored (BeforeRole (Page i)) (refl, refl, refl, omega arith);
-    index = 0;
-    named = inr (number, inl (refl, refl), omega arith, omega arith);
+    read = subst (HasRead image new ((MapExt number, b) ∷ st.walk) 0) (behind_map_ext i past begins)
+        (read_one map_ext_named tt range free tt tt stored);
+    named = names_first image ((MapExt number, b) ∷ st.walk) i b past begins (inl (refl, refl));
   }
 
 all_below : (xs : List ℕ) (b n j : ℕ) → ((i : ℕ) → i < length xs → slice_index xs i < n) → b < n → j < length (xs ++ b ∷ []) → slice_index (xs ++ b ∷ []) j < n

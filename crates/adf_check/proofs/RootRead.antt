@@ -7,7 +7,9 @@ use Rattle.std.proofs.lemmas.List.{length-replicate}
 use Rattle.adf_blocks.specs.Sizes.{blocks}
 use Rattle.adf_volume.specs.Image.{root_of}
 use Rattle.adf_volume.specs.Walk.Role.{Root as TheRoot}
+use Rattle.adf_volume.specs.Walk.IsWalk.{start}
 use Rattle.adf_volume.specs.Start.{IsBegun}
+use Rattle.adf_volume.proofs.PositionSteps.{with_root}
 use Rattle.adf_check.specs.declared.kept_owner.KeptOwner.{KeptOwner}
 use Rattle.adf_check.specs.declared.kept_owner.KeptOwner.TheVariants.{Free, Boot, Root}
 use Rattle.adf_check.specs.KeptOwner.{claimed_count, kept_at}
@@ -15,7 +17,6 @@ use Rattle.adf_check.specs.Reading.{IsBeforePage}
 use Rattle.adf_check.specs.Store.{StoreValue, StoreMatches}
 use Rattle.adf_check.proofs.StoreSteps.{tells_more}
 use Rattle.adf_check.proofs.NumberBounds.{many_blocks}
-use Rattle.adf_check.proofs.CursorMoves.{begin}
 
 -- the owners of 2 + m blocks of which nothing is claimed
 abbrev pub new_owners : ℕ → List KeptOwner
@@ -64,10 +65,10 @@ root_read image m root size root_is low high = record {
     tells = subst (λ b. StoreMatches image (first_store (owners_of m root)) ((TheRoot, b) ∷ [])) (sym root_is)
         (tells_more image _ [] TheRoot root (λ n p s j e. cc) (omega arith) (new_tells image m size) low (omega arith) (new_free m root low high));
     started = refl;
-    upto = begin image;
+    is_walk = start;
+    up_to = with_root image;
   };
-  at_root = (λ _. refl);
-  at_ext = (λ j l h. absurd (omega arith));
+  holder = record { root = (λ _. refl); ext = (λ l. absurd (omega arith)) };
 }
 
 none_owned : (m : ℕ) → claimed_count (replicate m Free) ≡ 0

@@ -7,7 +7,6 @@ pub mod KeptOwner
 pub mod Places
 pub mod Pieces
 -- The states of the checker: its position, what is read up to it, and its steps.
-pub mod Cursor
 pub mod Reading
 pub mod Progress
 pub mod Claims

@@ -6,11 +6,12 @@ ghost use Rattle.adf_fields.specs.Words.{block};
 ghost use Rattle.adf_blocks.specs.declared.layout.TheConstants.{MAP_EXT_PAGES, ROOT_PAGES};
 ghost use Rattle.adf_blocks.specs.Sizes.{blocks, pages_needed};
 ghost use Rattle.adf_volume.specs.Image.{root_of, word_in};
+ghost use Rattle.adf_volume.specs.Positions.{word_of_map_ext, word_of_page};
 ghost use Rattle.adf_check.specs.Reading.{IsAtNode, IsAtPage, IsBeforePage, block_of_page};
 ghost use Rattle.adf_check.specs.Progress.{IsPaid};
 ghost use Rattle.adf_check.specs.Store.{store_value};
 ghost use Rattle.adf_volume.specs.Start.{IsBegun};
-ghost use Rattle.adf_check.specs.Pages.{AreListed, index_of_map_ext, index_of_page};
+ghost use Rattle.adf_check.specs.Pages.{AreListed};
 
 use crate::claims::claim_named;
 use crate::kept_owner::KeptOwner;
@@ -41,7 +42,7 @@ fn map_ext_named<L: Ledger>(
     requires root { root.now ≡ block image.now (root_of image.now) }
     requires inside { holder < blocks image.now }
     requires at_root { i ≡ ROOT_PAGES → holder ≡ root_of image.now }
-    ensures exact { result ≡ word_in image.now holder (index_of_map_ext i) }
+    ensures exact { result ≡ word_in image.now holder (word_of_map_ext i) }
     ensures looks { looks.old ≤ looks.new + 1 }
 {
     if i as usize == ROOT_PAGES {
@@ -63,7 +64,7 @@ fn page_named<L: Ledger>(
     requires root { root.now ≡ block image.now (root_of image.now) }
     requires inside { holder < blocks image.now }
     requires at_root { i < ROOT_PAGES → holder ≡ root_of image.now }
-    ensures exact { result ≡ word_in image.now holder (index_of_page i) }
+    ensures exact { result ≡ word_in image.now holder (word_of_page i) }
     ensures looks { looks.old ≤ looks.new + 1 }
 {
     let i = i as usize;

@@ -11,14 +11,15 @@ use Rattle.std.proofs.lemmas.Bool.Decides.{eqb_tells}
 use Rattle.std.proofs.lemmas.List.{length-replicate}
 use Rattle.adf_blocks.specs.Sizes.{blocks}
 use Rattle.adf_volume.specs.Image.{root_of}
-use Rattle.adf_volume.specs.Walk.{Role, Has, Asks, Lacks, third}
-use Rattle.adf_volume.specs.Walk.Role.{Root, Page, MapExt}
+use Rattle.adf_volume.specs.Positions.{before_page}
+use Rattle.adf_volume.specs.Walk.Role.{Root}
+use Rattle.adf_volume.proofs.PositionSteps.{with_root}
 use Rattle.adf_survey.specs.declared.part.Part.TheVariants.{Root as RootPart}
 use Rattle.adf_survey.specs.declared.found.Found.{Found}
 use Rattle.adf_survey.specs.declared.part.Finding.{Finding}
 use Rattle.adf_survey.specs.Survey.{FindingValue, IsCourse, begun}
 use Rattle.adf_survey.specs.Parts.{by_key, key_of, finding_value}
-use Rattle.adf_survey.specs.Courses.{IsAtPage, IsUpTo, Under, page_place}
+use Rattle.adf_survey.specs.Courses.{HasReachedPage}
 use Rattle.adf_survey.specs.Found.{AreHeld, AreNamed, AreSame, IsOwned, Stands, owns, unowned}
 use Rattle.adf_survey.proofs.Taking.{held_more, marked_more, unowned_less}
 
@@ -104,33 +105,14 @@ stands_boot image f noted fs st e = record {
 }
 
 module _ (image : List ℕ) (fs : List FindingValue) where
-  -- nothing comes before the first page but the root
-  up_to_begun : IsUpTo image (begun image fs) (page_place 0)
-  up_to_begun = record {
-    taken = taken;
-    passed = (λ q b h. absurd h);
-    gone = gone;
-  }
-    where
-      taken : (q : Role) (b : ℕ) → Has (begun image fs).walk q b → Under q (page_place 0)
-      taken q b (inl e) = subst (λ q. Under q (page_place 0)) e.0 (omega arith)
-      taken q b (inr h) = absurd h
-
-      gone : (q : Role) (a i : ℕ) → Asks image (begun image fs).walk q a i → Lacks (begun image fs).walk q → Lacks (begun image fs).passed_over q
-          → Under q (page_place 0) → ⊥
-      gone Root a i h l m u = h
-      gone (Page k) a i h l m u = let x : third (Page k) < 0 = u.2 refl refl in omega arith
-      gone (MapExt j) a i h l m u = let x : third (MapExt j) < 0 = u.2 refl refl in omega arith
-      gone _ a i h l m u = omega arith
-
-  no_names : (names : BTreeSet (Vec ℕ)) → AreNamed image (begun image fs).walk (page_place 0) names
+  no_names : (names : BTreeSet (Vec ℕ)) → AreNamed image (begun image fs).walk (before_page 0) names
   no_names names q m p s j b e f h = absurd (omega arith)
 
   -- the course begins at the first page, whose block the root names
   pub on_begun : (f : Found) → IsCourse image (begun image fs) → Stands image f (begun image fs) → blocks image ≤ 1048576
-      → IsAtPage image f 0 (root_of image)
+      → HasReachedPage image f 0 (root_of image)
   on_begun f course st small = (
     begun image fs,
-    record { course = course; stands = st; up_to = up_to_begun; names = no_names f.names; small = small },
+    record { course = course; stands = st; up_to = with_root image; names = no_names f.names; small = small },
     record { root = (λ l. refl); ext = (λ l. absurd (omega arith)) },
   )

@@ -1,28 +1,26 @@
 -- The steps of a course: the part at its position is taken or passed over, or the position advances without one.
 use Rattle.std.specs.Prelude.{Bool, false, not, ◌||◌, slice_index_or, Option, Some, None}
-use Rattle.std.proofs.Common.{◌≡◌, ℕ, zero, suc, length, List, ◌∷◌, inl, inr, ◌<◌, ◌≤◌, refl, sym, subst, ap, ◌∙◌, arith}
+use Rattle.std.proofs.Common.{◌≡◌, ℕ, zero, suc, length, List, ◌∷◌, ◌<◌, ◌≤◌, refl, sym, subst, ap, ◌∙◌, arith}
 use Rattle.std.specs.Global.{Vec}
 use Rattle.std.specs.BTreeSet.{contains}
 use Rattle.adf_blocks.specs.Sizes.{blocks}
 use Rattle.adf_volume.specs.Image.{word_in}
+use Rattle.adf_volume.specs.Positions.{Position, IsBelow, IsNoLater, IsUpTo, behind, position_of}
 use Rattle.adf_volume.specs.Walk.{Role, Same, Has, Asks, Lacks, first, heads, second, third}
 use Rattle.adf_volume.specs.Walk.Role.{Root, Head, Ext}
-use Rattle.adf_volume.proofs.Gathered.{IsGathered, ext_counted, next_ext, parent_asked}
+use Rattle.adf_volume.proofs.Gathered.{IsGathered, ext_counted, next_ext}
+use Rattle.adf_volume.proofs.PositionSteps.{not_passed, not_taken, past_passed, past_taken, same_behind, same_position}
 use Rattle.adf_volume.proofs.Roles.{asks_number, renumbered, renumbered_same}
 use Rattle.adf_survey.specs.declared.part.Part.{Part}
-use Rattle.adf_survey.specs.declared.part.Part.TheVariants.{Root as RootPart, Page as PagePart, MapExt as MapExtPart, Head as HeadPart}
-use Rattle.adf_survey.specs.declared.part.Part.TheVariants.{Ext as ExtPart, Data as DataPart}
-use Rattle.adf_survey.specs.declared.part.Key.{Key}
+use Rattle.adf_survey.specs.declared.part.Part.TheVariants.{Head as HeadPart}
 use Rattle.adf_survey.specs.declared.course.Ask.{Ask}
 use Rattle.adf_survey.specs.declared.judge.Facts.{Facts}
 use Rattle.adf_survey.specs.declared.found.Found.{Found}
 use Rattle.adf_survey.specs.Survey.{Course}
 use Rattle.adf_survey.specs.Forms.{Knows}
-use Rattle.adf_survey.specs.Parts.{key_of, role_of}
+use Rattle.adf_survey.specs.Parts.{role_of}
 use Rattle.adf_survey.specs.Found.{AreNamed, IsChain, IsKept, IsTaken, Stands, around_in, by_name, enough_in, has_name, known_at, new_in}
-use Rattle.adf_survey.specs.Courses.{Holds, IsGoneOn, IsNamed, IsNextAsk, IsOutcome, IsPassedOver, IsToTake, IsUpTo, Under, behind, course_on, role_asked}
-use Rattle.adf_survey.proofs.AsksSplit.{asks_split}
-use Rattle.adf_survey.proofs.Keys.{key_same}
+use Rattle.adf_survey.specs.Courses.{Holds, IsGoneOn, IsNamed, IsNextAsk, IsOutcome, IsPassedOver, IsToTake, course_on, role_asked}
 use Rattle.adf_survey.proofs.Known.{knows, no_name, own_name}
 use Rattle.adf_survey.proofs.OneSurvey.{gathered}
 use Rattle.adf_survey.proofs.Taking.{IsNumbered, stands_taken, unowned_less}
@@ -39,24 +37,15 @@ pub role_is : (image : List ℕ) (f : Found) (s : Course) (part z : Part) (m : �
     → role_of z ≡ renumbered m (role_of part) → role_of z ≡ role_asked s part
 role_is image f s part z m st e is = is ∙ ap (λ m. renumbered m (role_of part)) (e ∙ st.count)
 
--- what comes before the place behind a role, and does not have its place, comes before it
-under_behind : (q r : Role) → Under q (behind r) → (Same q r → ⊥) → Under q (key_of r)
-under_behind q r u other = (u.0, (λ e. u.1 e), (λ e d. let lt = u.2 e d in let ne : third q ≡ third r → ⊥ = (λ t. other (e, d, t)) in omega arith))
-
--- a course moves on to a later place, where its walk asks for nothing between
-pub moved : (image : List ℕ) (f : Found) (k l : Key) (s : Course) → Holds image f k s → k.first ≤ l.first → (k.first ≡ l.first → k.second ≤ l.second)
-    → (k.first ≡ l.first → k.second ≡ l.second → k.third ≤ l.third)
-    → ((q : Role) (a i : ℕ) → Asks image s.walk q a i → Under q l → Under q k) → Holds image f l s
-moved image f k l s h one two three none = record {
+-- a course moves on to a later position that its walk has come to
+pub moved : {image : List ℕ} {f : Found} {k l : Position} {s : Course} → Holds image f k s → IsNoLater k l → IsUpTo image s.walk s.passed_over l
+    → Holds image f l s
+moved {k = k} h le up_to = record {
   course = h.course;
   stands = h.stands;
-  up_to = record {
-    taken = (λ q b m. let u = h.up_to.taken q b m in omega arith);
-    passed = (λ q b m. let u = h.up_to.passed q b m in omega arith);
-    gone = (λ q a i m lack over u. h.up_to.gone q a i m lack over (none q a i m u));
-  };
+  up_to = up_to;
   names = (λ q m p t j b e d has.
-      let u : Under (Head m p t j) k = h.up_to.taken (Head m p t j) b has in
+      let u : IsBelow (Head m p t j) k = h.up_to.taken (Head m p t j) b has in
       h.names q m p t j b (omega arith) (omega arith) has);
   small = h.small;
 }
@@ -68,15 +57,18 @@ module _ {image : List ℕ} {f : Found} {part : Part} {a i : ℕ} {s : Course} (
   same : Same role (role_of part)
   same = renumbered_same (suc (heads s.walk)) (role_of part)
 
+  up_to : IsUpTo image s.walk s.passed_over (position_of role)
+  up_to = subst (IsUpTo image s.walk s.passed_over) (sym (same_position role (role_of part) same)) n.holds.up_to
+
   -- a part that is named is next
   pub is_next : IsNextAsk image s (record { part = part; holder = a; block = word_in image a i })
   is_next = (
     i,
     record {
       asked = n.asked;
-      lacks = (λ q b h e. let u = n.holds.up_to.taken q b h in let t = same in omega arith);
-      unpassed = (λ q b h e. let u = n.holds.up_to.passed q b h in let t = same in omega arith);
-      least = (λ q d k h lack over bef. n.holds.up_to.gone q d k h lack over (let t = same in omega arith));
+      lacks = not_taken image role up_to;
+      unpassed = not_passed image role up_to;
+      least = (λ q d k h lack over before. up_to.gone q d k h lack over before);
     },
     refl,
   )
@@ -87,31 +79,27 @@ module _ {image : List ℕ} {f : Found} {part : Part} {a i : ℕ} {s : Course} (
   next_number : IsNumbered s.walk role
   next_number = numbered image s.walk v role a i n.asked is_next.1.lacks
 
-  place : (z : Part) → role_of z ≡ role → key_of (role_of z) ≡ key_of (role_of part)
-  place z is = ap key_of is ∙ key_same role (role_of part) same
+  place : (z : Part) → role_of z ≡ role → position_of (role_of z) ≡ position_of (role_of part)
+  place z is = ap position_of is ∙ same_position role (role_of part) same
 
   -- the walk has earlier headers of the chain of a header that is not the first, and none of the chain of one that is
   known_chain : (z : Part) → role_of z ≡ role → IsChain s.walk z
-  known_chain z is = go z (subst (λ r. Asks image s.walk r a i) (sym is) n.asked) (λ q b h. subst (Under q) (sym (place z is)) (n.holds.up_to.taken q b h))
+  known_chain z is = go z (subst (λ r. Asks image s.walk r a i) (sym is) n.asked) (λ q b h. subst (IsBelow q) (sym (place z is)) (n.holds.up_to.taken q b h))
     where
-      go : (z : Part) → Asks image s.walk (role_of z) a i → ((q : Role) (b : ℕ) → Has s.walk q b → Under q (key_of (role_of z))) → IsChain s.walk z
+      go : (z : Part) → Asks image s.walk (role_of z) a i → ((q : Role) (b : ℕ) → Has s.walk q b → IsBelow q (position_of (role_of z))) → IsChain s.walk z
       go (HeadPart m p t zero) h taken = λ m j b has. let x : j < 0 = (taken (Head m p t j) b has).2 refl refl in omega arith
       go (HeadPart m p t (suc j)) h taken = (h.1.0, a, h.1.1)
-      go RootPart h taken = tt
-      go (PagePart j) h taken = tt
-      go (MapExtPart j) h taken = tt
-      go (ExtPart m j) h taken = tt
-      go (DataPart m j) h taken = tt
+      go _ h taken = tt
 
   -- what is found tells whether its name is new
   new_known : (z : Part) (b : ℕ) {t : Bool} → role_of z ≡ role
-      → (b < blocks image → (w : List (Role × ℕ)) → AreNamed image w (key_of (role_of z)) f.names → IsChain w z → t ≡ new_in image w z b)
+      → (b < blocks image → (w : List (Role × ℕ)) → AreNamed image w (position_of (role_of z)) f.names → IsChain w z → t ≡ new_in image w z b)
       → b < blocks image → t ≡ new_in image s.walk z b
   new_known z b is h lt = h lt s.walk (subst (λ k. AreNamed image s.walk k f.names) (sym (place z is)) n.holds.names) (known_chain z is)
 
   -- what is found of it tells what its demands ask
   pub known : {z : Part} {b : ℕ} (x : Facts) → role_of z ≡ role → x.is_enough ≡ enough_in image f z → x.is_absent ≡ not (slice_index_or f.owned.items b false)
-      → (b < blocks image → (w : List (Role × ℕ)) → AreNamed image w (key_of (role_of z)) f.names → IsChain w z → x.is_new ≡ new_in image w z b)
+      → (b < blocks image → (w : List (Role × ℕ)) → AreNamed image w (position_of (role_of z)) f.names → IsChain w z → x.is_new ≡ new_in image w z b)
       → x.around ≡ around_in image f z → Knows image s.walk z b x
   known {z} {b} x is enough absent new around =
       knows image f s n.holds.stands z a i b x v (subst (λ r. Asks image s.walk r a i) (sym is) n.asked) enough absent (new_known z b is new) around
@@ -121,7 +109,7 @@ module _ {image : List ℕ} {f : Found} {part : Part} {a i : ℕ} {s : Course} (
 
   -- what comes of the part in any course in which it is next
   abbrev AsJudged : ℕ → Found → Option Part → Type 0
-  AsJudged b g o = (t : Course) → Holds image f (key_of (role_of part)) t → IsNextAsk image t (ask_at b) → IsOutcome image t (ask_at b) f g o
+  AsJudged b g o = (t : Course) → Holds image f (position_of (role_of part)) t → IsNextAsk image t (ask_at b) → IsOutcome image t (ask_at b) f g o
 
   outcome : (b : ℕ) (g : Found) (o : Option Part) → b ≡ word_in image a i → AsJudged b g o → IsOutcome image s (ask_at (word_in image a i)) f g o
   outcome b g o e judged =
@@ -137,17 +125,9 @@ module _ {image : List ℕ} {f : Found} {part : Part} {a i : ℕ} {s : Course} (
 
   -- the place behind a part that was passed over
   module _ {g : Found} (o : IsPassedOver image s (ask_at (word_in image a i)) f g) where
-    passed_up_to : IsUpTo image (course_on s role (word_in image a i) None o.findings) (behind (role_of part))
-    passed_up_to = record {
-      taken = (λ q b h. let u = n.holds.up_to.taken q b h in omega arith);
-      passed = passed;
-      gone = (λ q d k h lack over u. n.holds.up_to.gone q d k h lack (λ z b m. over z b (inr m))
-          (under_behind q (role_of part) u (λ e. over role (word_in image a i) (inl (refl, refl)) (let t = same in omega arith))));
-    }
-      where
-        passed : (q : Role) (b : ℕ) → Has ((role, word_in image a i) ∷ s.passed_over) q b → Under q (behind (role_of part))
-        passed q b (inl e) = subst (λ q. Under q (behind (role_of part))) e.0 (let t = same in omega arith)
-        passed q b (inr h) = let u = n.holds.up_to.passed q b h in omega arith
+    passed_up_to : IsUpTo image s.walk ((role, word_in image a i) ∷ s.passed_over) (behind (role_of part))
+    passed_up_to = subst (IsUpTo image s.walk ((role, word_in image a i) ∷ s.passed_over)) (same_behind role (role_of part) same)
+        (past_passed image role up_to (word_in image a i))
 
     pub passed_on : IsGoneOn image s part a i g None
     passed_on = record {
@@ -189,32 +169,9 @@ module _ {image : List ℕ} {f : Found} {part : Part} {a i : ℕ} {s : Course} (
           (stands_taken image g h (record { walk = s.walk; passed_over = s.passed_over; findings = o.findings }) block o.stands taken taken_number o.inside
           o.free t)
 
-      not_root : role ≡ Root → ⊥
-      not_root e = subst (λ r. Asks image s.walk r a i) e n.asked
-
-      above : (m p t j : ℕ) → role ≡ Head m p t j → p < m
-      above m p t j e = parent_asked image v m p t j a i (subst (λ r. Asks image s.walk r a i) e n.asked)
-
-      taken_gone : (q : Role) (d k : ℕ) → Asks image now.walk q d k → Lacks now.walk q → Lacks s.passed_over q → Under q (behind (role_of part)) → ⊥
-      taken_gone q d k ask lack over u =
-          let under : Under q (key_of (role_of part)) =
-          under_behind q (role_of part) u (λ e. lack role block (inl (refl, refl)) (let t = same in omega arith)) in
-          elim (asks_split image s.walk role block not_root above q d k ask) [
-            | inl x ↦ n.holds.up_to.gone x.0 d k x.1 (λ z b m e. lack z b (inr m) (let t : Same x.0 q = x.2 in omega arith))
-                (λ z b m e. over z b m (let t : Same x.0 q = x.2 in omega arith)) (let t : Same x.0 q = x.2 in omega arith)
-            | inr bef ↦ (let t = same in omega arith)
-          ]
-
-      taken_up_to : IsUpTo image now (behind (role_of part))
-      taken_up_to = record {
-        taken = up;
-        passed = (λ q b m. let u = n.holds.up_to.passed q b m in omega arith);
-        gone = taken_gone;
-      }
-        where
-          up : (q : Role) (b : ℕ) → Has now.walk q b → Under q (behind (role_of part))
-          up q b (inl e) = subst (λ q. Under q (behind (role_of part))) e.0 (let t = same in omega arith)
-          up q b (inr m) = let u = n.holds.up_to.taken q b m in omega arith
+      taken_up_to : IsUpTo image ((role, block) ∷ s.walk) s.passed_over (behind (role_of part))
+      taken_up_to = subst (IsUpTo image ((role, block) ∷ s.walk) s.passed_over) (same_behind role (role_of part) same)
+          (past_taken image role up_to v a i block n.asked)
 
       known_names : (j : ℕ) (q : Vec ℕ) {m p t : ℕ} → Head m p t j ≡ role → suc p ≡ first (role_of part) → suc (suc t) ≡ second (role_of part)
           → Asks image s.walk (Head m p t j) a i → known_at j (contains by_name g.names q) ≡ has_name image s.walk p t q.items
@@ -239,11 +196,7 @@ module _ {image : List ℕ} {f : Found} {part : Part} {a i : ℕ} {s : Course} (
               kept.names q ∙ (λ y. sym (own_name image m p t j block q.items) y
               || known_names j q is (ap suc up ∙ e) (ap (λ t. suc (suc t)) slot ∙ d) asked y) in
               here ∙ (λ y. has_name image ((is y, block) ∷ s.walk) (up y) (slot y) q.items)
-          go RootPart is kept = λ q c u v k b e d has. absurd (let place = same in let x : 0 ≡ second role = ap second is in omega arith)
-          go (PagePart l) is kept = λ q c u v k b e d has. absurd (let place = same in let x : 1 ≡ second role = ap second is in omega arith)
-          go (MapExtPart l) is kept = λ q c u v k b e d has. absurd (let place = same in let x : 1 ≡ second role = ap second is in omega arith)
-          go (ExtPart m l) is kept = λ q c u v k b e d has. absurd (let place = same in let x : 0 ≡ second role = ap second is in omega arith)
-          go (DataPart m l) is kept = λ q c u v k b e d has. absurd (let place = same in let x : 1 ≡ second role = ap second is in omega arith)
+          go _ is kept = λ q c u v k b e d has. absurd (let place = same in let x = ap second is in omega arith)
 
       pub taken_on : IsGoneOn image s part a i h (Some block)
       taken_on = record {

@@ -1,17 +1,15 @@
 -- The data blocks of a file in the walk of a survey, and in its table.
-use Rattle.std.specs.Prelude.{Bool, true, false, cond}
-use Rattle.std.proofs.Common.{◌≡◌, ℕ, zero, suc, List, [], ◌∷◌, ◌++◌, length, inl, inr, ◌/◌, ◌<◌, ◌≤◌, refl, sym, ap, subst, ◌∙◌, arith, eq-eqb}
-use Rattle.std.proofs.lemmas.Bool.{eqb-true}
+use Rattle.std.proofs.Common.{◌≡◌, ℕ, zero, suc, List, ◌∷◌, length, inl, inr, ◌/◌, ◌<◌, ◌≤◌, refl, sym, ap, subst, ◌∙◌, arith, eq-eqb}
 use Rattle.adf_blocks.specs.declared.layout.TheConstants.{POINTERS}
-use Rattle.adf_volume.specs.Image.{table_word, word_in}
+use Rattle.adf_volume.specs.Image.{root_of, table_word, word_in}
 use Rattle.adf_volume.specs.Lists.{At}
 use Rattle.adf_volume.specs.Made.{datas_in, is_data_of}
 use Rattle.adf_volume.specs.Walk.{Role, first, second, Has, FileAt, Lacks, MemberAt, data_count}
 use Rattle.adf_volume.specs.Walk.Role.{Root, Head, Ext, Data}
 use Rattle.adf_volume.proofs.Gathered.{IsGathered, ext_below, ext_counted, file_one}
-use Rattle.adf_volume.proofs.Lists.{at_below, at_new, at_old, at_snoc, at_some, same_list, snoc_length}
+use Rattle.adf_volume.proofs.Lists.{at_below, at_snoc, at_some, same_list, snoc_length}
 use Rattle.adf_volume.proofs.Roles.{has_role}
-use Rattle.adf_volume.proofs.WalkMembers.{Lists}
+use Rattle.adf_volume.proofs.WalkMembers.{Lists, data_only, none_listed, one_more}
 use Rattle.adf_survey.specs.Files.{member_from, named_from, names_from}
 use Rattle.adf_survey.specs.Survey.{Course, IsCourse, IsNext}
 use Rattle.adf_survey.specs.Survey.IsCourse.{start, step}
@@ -32,42 +30,8 @@ module _ (image : List ℕ) where
     abbrev pub DatasListed : List (Role × ℕ) → Type 0
     DatasListed w = Lists (is_data_of n) (λ k. Data n (suc k)) w
 
-    own_data : (k : ℕ) → is_data_of n (Data n (suc k)) ≡ true
-    own_data k = eq-eqb n n refl
-
-    data_only : (q : Role) → is_data_of n q ≡ true → (k : ℕ) × (q ≡ Data n k)
-    data_only (Data m k) t = (k, ap (λ m. Data m k) (sym (eqb-true n m t)))
-    data_only _ t = cc
-
     no_data_head : (k m p s j : ℕ) → Data n k ≡ Head m p s j → ⊥
     no_data_head k m p s j e = let x : second (Data n k) ≡ second (Head m p s j) = ap second e in omega arith
-
-    -- one member more, which is the next data block where it is one
-    one_more : (w : List (Role × ℕ)) (q : Role) (c : ℕ) → DatasListed w → (is_data_of n q ≡ true → q ≡ Data n (suc (length (datas_in w n))))
-        → DatasListed ((q, c) ∷ w)
-    one_more w q c old next = record { to = to; from = λ k b h. from k b (is_data_of n q) refl h }
-      where
-        up : (k b : ℕ) (t : Bool) → At (datas_in w n) k b → At (cond t (datas_in w n ++ c ∷ []) (datas_in w n)) k b
-        up k b true h = at_old (datas_in w n) (c ∷ []) k b h
-        up k b false h = h
-
-        to : (k b : ℕ) → Has ((q, c) ∷ w) (Data n (suc k)) b → At (cond (is_data_of n q) (datas_in w n ++ c ∷ []) (datas_in w n)) k b
-        to k b (inl y) =
-            let t : is_data_of n q ≡ true = ap (is_data_of n) y.0 ∙ own_data k in
-            let same : Data n (suc k) ≡ Data n (suc (length (datas_in w n))) = sym y.0 ∙ next t in
-            let z : k ≡ length (datas_in w n) = cc in
-            subst (λ t. At (cond t (datas_in w n ++ c ∷ []) (datas_in w n)) k b) (sym t)
-            (subst (λ c. At (datas_in w n ++ c ∷ []) k b) (sym y.1) (at_new (datas_in w n) b k z))
-        to k b (inr y) = up k b (is_data_of n q) (old.to k b y)
-
-        from : (k b : ℕ) (t : Bool) → is_data_of n q ≡ t → At (cond t (datas_in w n ++ c ∷ []) (datas_in w n)) k b
-            → Has ((q, c) ∷ w) (Data n (suc k)) b
-        from k b true z h =
-            elim (at_snoc (datas_in w n) c k b h) [
-              | inl y ↦ inr (old.from k b y)
-              | inr y ↦ inl (next z ∙ ap (λ k. Data n (suc k)) (sym y.0), y.1)
-            ]
-        from k b false z h = inr (old.from k b h)
 
     module _ (s : Course) (v : IsCourse image s) (clear : (k b : ℕ) → Has s.passed_over (Data n k) b → ⊥) (old : DatasListed s.walk) where
       -- it is asked for, and neither in the walk nor passed over
@@ -97,18 +61,12 @@ module _ (image : List ℕ) where
 
       more_listed : (r : Role) (a i : ℕ) → IsNext image s r a i → DatasListed ((r, word_in image a i) ∷ s.walk)
       more_listed r a i d =
-          one_more s.walk r (word_in image a i) old
-          (λ t. let x = data_only r t in x.1 ∙ ap (Data n) (next_number x.0 a i (subst (λ r. IsNext image s r a i) x.1 d)))
+          one_more (is_data_of n) (λ k. Data n (suc k)) (λ k. eq-eqb n n refl) s.walk r (word_in image a i) (λ k m z. cc) old
+          (λ t. let x = data_only image n r t in x.1 ∙ ap (Data n) (next_number x.0 a i (subst (λ r. IsNext image s r a i) x.1 d)))
 
     -- a file of which no data block was passed over
     pub datas_listed : {s : Course} → IsCourse image s → ((k b : ℕ) → Has s.passed_over (Data n k) b → ⊥) → DatasListed s.walk
-    datas_listed (start boot root) clear = record {
-      to = (λ k b h. elim h [
-        | inl e ↦ let x : first Root ≡ first (Data n (suc k)) = ap first e.0 in absurd (omega arith)
-        | inr e ↦ absurd e
-      ]);
-      from = (λ k b h. absurd h);
-    }
+    datas_listed (start boot root) clear = none_listed (is_data_of n) (λ k. Data n (suc k)) (λ k. eq-eqb n n refl) (root_of image) refl
     datas_listed (step {s = s} {r = r} {a = a} {i = i} clean v d g) clear = more_listed s v clear (datas_listed v clear) r a i d
     datas_listed (step {s = s} {r = r} {a = a} {i = i} (noted at c) v d g) clear = more_listed s v clear (datas_listed v clear) r a i d
     datas_listed (step (passed at c) v d g) clear = datas_listed v (λ k b h. clear k b (inr h))

@@ -13,6 +13,7 @@ use Rattle.adf_tree.proofs.NameKeys.{same_number, then_is}
 use Rattle.adf_blocks.specs.declared.layout.TheConstants.{POINTERS}
 use Rattle.adf_blocks.specs.Sizes.{blocks}
 use Rattle.adf_volume.specs.Image.{name_of, table_word, word_in}
+use Rattle.adf_volume.specs.Positions.{position_of}
 use Rattle.adf_volume.specs.Walk.{Role, Asks, Enough, FileAt, Has, IsAbsent, data_count, ext_block_in, ext_count, member_block, next_data, node_block}
 use Rattle.adf_volume.specs.Walk.Role.{Root, Page, MapExt, Head, Ext, Data}
 use Rattle.adf_volume.proofs.Gathered.{IsGathered, head_block}
@@ -121,11 +122,11 @@ first_is_new image w part b n p s e =
 -- a later one has a new name where the set does not have it
 pub later_is_new : (image : List ℕ) (w : List (Role × ℕ)) (part : Part) (b n p s j : ℕ) (names : BTreeSet (Vec ℕ)) (name : Vec ℕ) (t : Bool)
     → part ≡ HeadPart n p s j → (j ≡ 0 → ⊥) → name.items ≡ uppers_in image (name_of image b) → t ≡ contains by_name names name
-    → AreNamed image w (key_of (role_of part)) names → IsChain w part → not t ≡ new_in image w part b
+    → AreNamed image w (position_of (role_of part)) names → IsChain w part → not t ≡ new_in image w part b
 later_is_new image w part b n p s j names name t e later is known =
-    subst (λ part. AreNamed image w (key_of (role_of part)) names → IsChain w part → not t ≡ new_in image w part b) (sym e) (go j later)
+    subst (λ part. AreNamed image w (position_of (role_of part)) names → IsChain w part → not t ≡ new_in image w part b) (sym e) (go j later)
   where
-    go : (j : ℕ) → (j ≡ 0 → ⊥) → AreNamed image w (key_of (Head n p s j)) names → IsChain w (HeadPart n p s j)
+    go : (j : ℕ) → (j ≡ 0 → ⊥) → AreNamed image w (position_of (Head n p s j)) names → IsChain w (HeadPart n p s j)
         → not t ≡ new_in image w (HeadPart n p s j) b
     go zero later named_all chain = absurd (later refl)
     go (suc j) later named_all (m, c, has) =

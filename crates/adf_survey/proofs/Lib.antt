@@ -21,7 +21,6 @@ pub mod Names
 pub mod HeadSlots
 pub mod Taking
 pub mod Keys
-pub mod AsksSplit
 pub mod Known
 pub mod Outcomes
 pub mod CourseSteps

@@ -4,10 +4,10 @@ use Rattle.std.proofs.Math.Seq.{drop-cons}
 use Rattle.std.specs.Str.{bytes_eq}
 use Rattle.std.proofs.lemmas.Slice.Eq.{bytes_eq-Decides}
 use Rattle.adf_volume.specs.Image.{name_of}
-use Rattle.std.proofs.Common.{◌≡◌, ℕ, suc, List, ◌∷◌, ◌+◌, length, ◌<◌, ◌≤◌, sym, ap, subst, ◌∙◌, arith}
+use Rattle.std.proofs.Common.{◌≡◌, ℕ, zero, suc, List, ◌∷◌, ◌+◌, length, ◌<◌, ◌≤◌, sym, ap, subst, ◌∙◌, arith}
 use Rattle.adf_volume.specs.Walk.{Role, Has, HeadAt, heads, node_block}
 use Rattle.adf_volume.specs.Walk.Role.{Head}
-use Rattle.adf_volume.proofs.Gathered.{head_block, number_of, numbered as has_number, parent_below}
+use Rattle.adf_volume.proofs.Gathered.{head_block, number_of, parent_below, node_there}
 use Rattle.adf_volume.proofs.Roles.{head_at}
 use Rattle.adf_survey.specs.Demands.{uppers_in}
 use Rattle.adf_survey.specs.Lookup.{IsNamedChild, IsFirstChild, LeadsTo}
@@ -26,9 +26,8 @@ child_between image w fs (read v d t) p n name (s, j, b, has, same) =
 pub header_at : (image : List ℕ) (w : List (Role × ℕ)) (fs : List FindingValue) → IsSurvey image w fs → (n : ℕ) → 1 ≤ n → n ≤ heads w
     → HeadAt w n (node_block w n)
 header_at image w fs (unread f) n lo hi = absurd (omega arith)
-header_at image w fs (read {s = s} v d t) n lo hi =
-    let x = has_number image (gathered image v) n lo hi in
-    subst (HeadAt s.walk n) (sym (head_block image (gathered image v) x.1)) x.1
+header_at image w fs (read v d t) zero lo hi = absurd (omega arith)
+header_at image w fs (read v d t) (suc n) lo hi = node_there image (gathered image v) (suc n) hi
 
 header_one : (image : List ℕ) (w : List (Role × ℕ)) (fs : List FindingValue) → IsSurvey image w fs → (n p s j b : ℕ) → Has w (Head n p s j) b
     → node_block w n ≡ b

@@ -24,7 +24,7 @@ use Rattle.adf_survey.specs.declared.found.Found.{Found}
 use Rattle.adf_survey.specs.declared.concern.Concern.TheVariants.{Entry, Within}
 use Rattle.adf_survey.specs.Concerned.{node_of}
 use Rattle.adf_survey.specs.Forms.{Tells}
-use Rattle.adf_survey.specs.Found.{Stands, at_key, datas_of, owns, with_data}
+use Rattle.adf_survey.specs.Found.{Stands, at_key, data_blocks_of, owns, with_data}
 use Rattle.adf_survey.specs.Marks.{blamed, is_blamed, is_clear, is_doubtful, is_node, is_sharing, sharing, is_header}
 use Rattle.adf_survey.specs.Parts.{key_of, part_role, finding_value}
 use Rattle.adf_survey.specs.Sound.{IsSound, IsUnnoted}
@@ -36,7 +36,7 @@ use Rattle.adf_survey.specs.Survey.RootTells.{clean_root, noted_root}
 use Rattle.adf_survey.specs.Survey.UnreadTells.{bad_boot, bad_root}
 use Rattle.adf_survey.specs.Survey.JudgementValue.{clean, noted, passed}
 use Rattle.adf_survey.proofs.Keys.{lacks_at, same_of_key}
-use Rattle.adf_survey.proofs.AsksSplit.{asks_more}
+use Rattle.adf_volume.proofs.AsksSplit.{asks_more}
 use Rattle.adf_survey.proofs.BitSteps.{at_has}
 use Rattle.adf_survey.proofs.HeadPlaces.{found_header, header_found}
 use Rattle.adf_survey.proofs.Known.{tells_absent}
@@ -336,19 +336,19 @@ with_cases (Data n k) b ds d h = elim (in_cases ds (record { node = n; block = b
 with_cases _ b ds d h = inl h
 
 -- the data blocks that are kept are those of the walk
-data_has : (w : List (Role × ℕ)) (d : DataBlock) → In (datas_of w) d → (k : ℕ) × Has w (Data d.node k) d.block
+data_has : (w : List (Role × ℕ)) (d : DataBlock) → In (data_blocks_of w) d → (k : ℕ) × Has w (Data d.node k) d.block
 data_has [] d h = absurd h
-data_has (x ∷ w) d h = elim (with_cases x.0 x.1 (datas_of w) d h) [
+data_has (x ∷ w) d h = elim (with_cases x.0 x.1 (data_blocks_of w) d h) [
   | inl g ↦ let y = data_has w d g in (y.0, inr y.1)
   | inr y ↦ (y.0, inl (y.1, y.2))
 ]
 
-has_data : (w : List (Role × ℕ)) (n k b : ℕ) → Has w (Data n k) b → In (datas_of w) (record { node = n; block = b })
+has_data : (w : List (Role × ℕ)) (n k b : ℕ) → Has w (Data n k) b → In (data_blocks_of w) (record { node = n; block = b })
 has_data [] n k b h = absurd h
 has_data (x ∷ w) n k b (inl e) =
-    subst (λ (y : Role × ℕ). In (with_data y.0 y.1 (datas_of w)) (record { node = n; block = b })) (λ i. (sym e.0 i, sym e.1 i))
-    (in_right (datas_of w) (record { node = n; block = b } ∷ []) (record { node = n; block = b }) (inl refl))
-has_data (x ∷ w) n k b (inr h) = in_with x.0 x.1 (datas_of w) (record { node = n; block = b }) (has_data w n k b h)
+    subst (λ (y : Role × ℕ). In (with_data y.0 y.1 (data_blocks_of w)) (record { node = n; block = b })) (λ i. (sym e.0 i, sym e.1 i))
+    (in_right (data_blocks_of w) (record { node = n; block = b } ∷ []) (record { node = n; block = b }) (inl refl))
+has_data (x ∷ w) n k b (inr h) = in_with x.0 x.1 (data_blocks_of w) (record { node = n; block = b }) (has_data w n k b h)
 
 pub in_values : (xs : List Finding) (x : Finding) → In xs x → In (map finding_value xs) (finding_value x)
 in_values [] x h = h

@@ -1,47 +1,32 @@
 -- The state of a survey along its course.
--- Letters: s a course, w its walk; f, g states; q a role; k a key; a, i the block and the word that point to a part;
+-- Letters: s a course, w its walk; f, g states; k a position; a, i the block and the word that point to a part;
 -- b a block; n, p nodes; x an ask.
-use Rattle.std.specs.Prelude.{◌≡◌, ◌≤◌, ◌<◌, ◌+◌, ◌-◌, ◌/◌, ◌%◌, ◌==◌, ℕ, false, cond, nat_lt, List, ◌∷◌, Option, Some, None, IfSome}
-use Rattle.std.proofs.Common.{zero, suc}
-use Rattle.adf_blocks.specs.declared.layout.TheConstants.{FIRST_MAP_EXT, FIRST_PAGE, FIRST_SLOT, MAP_EXT_NEXT, MAP_EXT_PAGES, NEXT_IN_CHAIN, ROOT_PAGES}
+use Rattle.std.specs.Prelude.{◌≡◌, ◌≤◌, ◌<◌, ℕ, false, List, ◌∷◌, Option, Some, None, IfSome}
+use Rattle.std.proofs.Common.{suc}
 use Rattle.adf_blocks.specs.Sizes.{blocks}
-use Rattle.adf_volume.specs.Image.{root_of, word_in}
-use Rattle.adf_volume.specs.Walk.{Role, Asks, DirAt, FileAt, Has, Lacks, MemberAt, NamesPage, ext_count, first, heads, second, third}
-use Rattle.adf_volume.specs.Walk.Role.{Page, MapExt, Head, Ext}
+use Rattle.adf_volume.specs.Image.{word_in}
+use Rattle.adf_volume.specs.Positions.{Position, IsLink, IsPageHolder, IsUpTo, before_node, before_page, behind, position_of, word_of_page}
+use Rattle.adf_volume.specs.Walk.{Role, Asks, DirAt, FileAt, MemberAt, NamesPage, ext_count, heads}
+use Rattle.adf_volume.specs.Walk.Role.{Page, Head, Ext, Data}
 use Rattle.adf_volume.proofs.Roles.{renumbered}
 use Rattle.adf_survey.specs.declared.part.Part.{Part}
-use Rattle.adf_survey.specs.declared.part.Key.{Key}
 use Rattle.adf_survey.specs.declared.course.Ask.{Ask}
 use Rattle.adf_survey.specs.declared.found.Found.{Found}
 use Rattle.adf_survey.specs.Survey.{Course, FindingValue, IsCourse, IsNext}
-use Rattle.adf_survey.specs.Parts.{key_of, role_of}
+use Rattle.adf_survey.specs.Parts.{role_of}
 use Rattle.adf_survey.specs.Found.{AreNamed, Stands, owns}
 
--- a role comes before a position in the order of parts
-abbrev pub Under : Role → Key → Type 0
-Under q k = (first q ≤ k.first) × (first q ≡ k.first → second q ≤ k.second) × (first q ≡ k.first → second q ≡ k.second → third q < k.third)
-
--- the position after a role
-abbrev pub behind : Role → Key
-behind r = record { first = first r; second = second r; third = suc (third r) }
-
--- a course has reached a position: its parts come before it, and they are all that its walk asks for there
-pub record IsUpTo (image : List ℕ) (s : Course) (k : Key) : Type 0 where
-  pub taken : (q : Role) (b : ℕ) → Has s.walk q b → Under q k
-  pub passed : (q : Role) (b : ℕ) → Has s.passed_over q b → Under q k
-  pub gone : (q : Role) (a i : ℕ) → Asks image s.walk q a i → Lacks s.walk q → Lacks s.passed_over q → Under q k → ⊥
-
 -- the state is that of a course that has reached a position
-pub record Holds (image : List ℕ) (f : Found) (k : Key) (s : Course) : Type 0 where
+pub record Holds (image : List ℕ) (f : Found) (k : Position) (s : Course) : Type 0 where
   pub course : IsCourse image s
   pub stands : Stands image f s
-  pub up_to : IsUpTo image s k
+  pub up_to : IsUpTo image s.walk s.passed_over k
   pub names : AreNamed image s.walk k f.names
   pub small : blocks image ≤ 1048576
 
 -- some course has reached a position
-abbrev pub IsAt : List ℕ → Found → Key → Type 0
-IsAt image f k = (s : Course) × Holds image f k s
+abbrev pub HasReached : List ℕ → Found → Position → Type 0
+HasReached image f k = (s : Course) × Holds image f k s
 
 -- the role asked for, with its number
 abbrev pub role_asked : Course → Part → Role
@@ -49,12 +34,12 @@ role_asked s part = renumbered (suc (heads s.walk)) (role_of part)
 
 -- a course has reached a part that word i of block a points to
 pub record IsNamed (image : List ℕ) (f : Found) (part : Part) (a i : ℕ) (s : Course) : Type 0 where
-  pub holds : Holds image f (key_of (role_of part)) s
+  pub holds : Holds image f (position_of (role_of part)) s
   pub asked : Asks image s.walk (role_asked s part) a i
 
 -- a part that word i of block a points to is next
-abbrev pub IsDue : List ℕ → Found → Part → ℕ → ℕ → Type 0
-IsDue image f part a i = (s : Course) × IsNamed image f part a i s
+abbrev pub HasReachedPart : List ℕ → Found → Part → ℕ → ℕ → Type 0
+HasReachedPart image f part a i = (s : Course) × IsNamed image f part a i s
 
 -- the ask is next in the course
 abbrev pub IsNextAsk : List ℕ → Course → Ask → Type 0
@@ -95,67 +80,41 @@ pub record IsGoneOn (image : List ℕ) (s : Course) (part : Part) (a i : ℕ) (g
   pub holds : Holds image g (behind (role_of part)) (course_on s (role_asked s part) (word_in image a i) o findings)
   pub block : IfSome o (λ b. b ≡ word_in image a i)
 
--- the position of a page, or of the bitmap extension block before it
-abbrev pub page_place : ℕ → Key
-page_place page = record { first = 0; second = 1; third = page + (page + (MAP_EXT_PAGES - ROOT_PAGES - 1)) / MAP_EXT_PAGES }
-
--- the word that points to a page, in the root or in a bitmap extension block
-abbrev pub page_word : ℕ → ℕ
-page_word page = cond (nat_lt page ROOT_PAGES) (FIRST_PAGE + page) ((page - ROOT_PAGES) % MAP_EXT_PAGES)
-
--- the word that points to the bitmap extension block before a page, in the root or in the extension block before
-abbrev pub map_ext_word : ℕ → ℕ
-map_ext_word page = cond (page == ROOT_PAGES) FIRST_MAP_EXT MAP_EXT_NEXT
-
--- block a points to the page before this one, or is the root if there is none
-pub record IsPageHolder (image : List ℕ) (w : List (Role × ℕ)) (page a : ℕ) : Type 0 where
-  pub root : page ≤ ROOT_PAGES → a ≡ root_of image
-  pub ext : ROOT_PAGES < page → Has w (MapExt ((page - 1 - ROOT_PAGES) / MAP_EXT_PAGES)) a
-
 -- a course has reached a page, or the bitmap extension block before it; block a points to the page before
-abbrev pub IsAtPage : List ℕ → Found → ℕ → ℕ → Type 0
-IsAtPage image f page a = (s : Course) × Holds image f (page_place page) s × IsPageHolder image s.walk page a
-
--- the position of the parts of a node
-abbrev pub before_node : ℕ → Key
-before_node n = record { first = suc n; second = 0; third = 0 }
+abbrev pub HasReachedPage : List ℕ → Found → ℕ → ℕ → Type 0
+HasReachedPage image f page a = (s : Course) × Holds image f (before_page page) s × IsPageHolder image s.walk page a
 
 -- a course has reached a page that block a points to, or the nodes if no block does
 abbrev pub IsPageNamed : List ℕ → Found → ℕ → Option ℕ → Type 0
-IsPageNamed image f page None = IsAt image f (before_node 0)
-IsPageNamed image f page (Some a) = (s : Course) × Holds image f (key_of (Page page)) s × NamesPage image s.walk page a (page_word page)
+IsPageNamed image f page None = HasReached image f (before_node 0)
+IsPageNamed image f page (Some a) = (s : Course) × Holds image f (position_of (Page page)) s × NamesPage image s.walk page a (word_of_page page)
 
 -- a course has reached a slot of a directory at block b
-abbrev pub IsInDir : List ℕ → Found → ℕ → ℕ → ℕ → Type 0
-IsInDir image f p slot b = (s : Course) × Holds image f (key_of (Head 0 p slot 0)) s × DirAt image s.walk p b
-
--- word i of block a is the one for the header at a position of a chain
-abbrev pub IsLink : List ℕ → List (Role × ℕ) → ℕ → ℕ → ℕ → ℕ → ℕ → Type 0
-IsLink image w p slot zero a i = DirAt image w p a × (i ≡ FIRST_SLOT + slot)
-IsLink image w p slot (suc j) a i = ((m : ℕ) × Has w (Head m p slot j) a) × (i ≡ NEXT_IN_CHAIN)
+abbrev pub HasReachedSlot : List ℕ → Found → ℕ → ℕ → ℕ → Type 0
+HasReachedSlot image f p slot b = (s : Course) × Holds image f (position_of (Head 0 p slot 0)) s × DirAt image s.walk p b
 
 -- a course has reached a position of a chain, at word i of block a, in a directory at block b
-pub record IsInChain (image : List ℕ) (f : Found) (p slot place a i b : ℕ) : Type 0 where
+pub record HasReachedHeader (image : List ℕ) (f : Found) (p slot place a i b : ℕ) : Type 0 where
   pub course : Course
-  pub holds : Holds image f (key_of (Head 0 p slot place)) course
+  pub holds : Holds image f (position_of (Head 0 p slot place)) course
   pub dir : DirAt image course.walk p b
   pub link : IsLink image course.walk p slot place a i
 
 -- a course has reached a file with its header at block b
-abbrev pub IsAtFile : List ℕ → Found → ℕ → ℕ → Type 0
-IsAtFile image f n b = (s : Course) × Holds image f (before_node n) s × FileAt image s.walk n b
+abbrev pub HasReachedFile : List ℕ → Found → ℕ → ℕ → Type 0
+HasReachedFile image f n b = (s : Course) × Holds image f (before_node n) s × FileAt image s.walk n b
 
 -- a course has reached the extension block after block m of the table, at block a, of a file with header b
-pub record IsInExts (image : List ℕ) (f : Found) (n b m a : ℕ) : Type 0 where
+pub record HasReachedExt (image : List ℕ) (f : Found) (n b m a : ℕ) : Type 0 where
   pub course : Course
-  pub holds : Holds image f (key_of (Ext n (suc m))) course
+  pub holds : Holds image f (position_of (Ext n (suc m))) course
   pub file : FileAt image course.walk n b
   pub member : MemberAt image course.walk n m a
   pub count : ext_count course.walk n ≡ m
 
 -- a course has reached a data block, after `done` others, of a file with header b and this many extension blocks
-pub record IsInDatas (image : List ℕ) (f : Found) (n b exts done : ℕ) : Type 0 where
+pub record HasReachedData (image : List ℕ) (f : Found) (n b exts done : ℕ) : Type 0 where
   pub course : Course
-  pub holds : Holds image f (record { first = suc n; second = 1; third = suc done }) course
+  pub holds : Holds image f (position_of (Data n (suc done))) course
   pub file : FileAt image course.walk n b
   pub count : ext_count course.walk n ≡ exts

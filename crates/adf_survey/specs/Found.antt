@@ -17,6 +17,7 @@ use Rattle.adf_volume.specs.Demands.{AllHold, FirstFails}
 use Rattle.adf_blocks.specs.declared.layout.TheConstants.{POINTERS}
 use Rattle.adf_blocks.specs.Sizes.{blocks}
 use Rattle.adf_volume.specs.Image.{IsFreeAt, name_of, table_word, word_in}
+use Rattle.adf_volume.specs.Positions.{Position}
 use Rattle.adf_volume.specs.Walk.{Role, Has, bitmap_demands, data_count, ext_count, heads, node_block}
 use Rattle.adf_volume.specs.Walk.Role.{Page, Head, Ext, Data}
 use Rattle.adf_survey.specs.Demands.{uppers_in}
@@ -48,9 +49,9 @@ with_data (Data n k) b ds = ds ++ record { node = n; block = b } ∷ []
 with_data _ b ds = ds
 
 -- the data blocks of a walk, in order
-abbrev pub datas_of : List (Role × ℕ) → List DataBlock
-datas_of [] = []
-datas_of (x ∷ w) = with_data x.0 x.1 (datas_of w)
+abbrev pub data_blocks_of : List (Role × ℕ) → List DataBlock
+data_blocks_of [] = []
+data_blocks_of (x ∷ w) = with_data x.0 x.1 (data_blocks_of w)
 
 -- whether a member of the walk has this block
 abbrev pub owns : List (Role × ℕ) → ℕ → Bool
@@ -85,7 +86,7 @@ abbrev pub by_name : Vec ℕ → Vec ℕ → Ordering
 by_name a b = slice_cmp nat_cmp a.items b.items
 
 -- the set has the names of the walk's headers in the chain at a position, if there are any
-abbrev pub AreNamed : List ℕ → List (Role × ℕ) → Key → BTreeSet (Vec ℕ) → Type 0
+abbrev pub AreNamed : List ℕ → List (Role × ℕ) → Position → BTreeSet (Vec ℕ) → Type 0
 AreNamed image w k names =
     (q : Vec ℕ) (m p s j b : ℕ) → suc p ≡ k.first → suc (suc s) ≡ k.second → Has w (Head m p s j) b
     → contains by_name names q ≡ has_name image w p s q.items
@@ -252,7 +253,7 @@ pub record Stands (image : List ℕ) (f : Found) (s : Course) : Type 0 where
   pub parent : (n : ℕ) → slice_index f.parents.items n ≡ parent_node s.walk n
   pub parents : length f.parents.items ≡ suc (heads s.walk)
   pub places : f.places.items ≡ places_of s.walk
-  pub datas : f.datas.items ≡ datas_of s.walk
+  pub datas : f.datas.items ≡ data_blocks_of s.walk
 
 -- the finding of the bit of block b: none if it is not compared or agrees; otherwise the cause
 abbrev pub BitTells : List ℕ → Course → ℕ → Option Cause → Type 0

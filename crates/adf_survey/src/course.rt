@@ -5,11 +5,12 @@ ghost use Rattle.std.specs.Prelude.{◌≡◌, ◌<◌, ◌≤◌, ◌+◌, ◌^
 ghost use Rattle.adf_blocks.specs.declared.layout.TheConstants.{SLOTS};
 ghost use Rattle.adf_blocks.specs.Sizes.{blocks, pages_needed};
 ghost use Rattle.adf_volume.specs.Image.{root_of};
+ghost use Rattle.adf_volume.specs.Positions.{before_node, position_of, word_of_map_ext, word_of_page};
 ghost use Rattle.adf_survey.specs.Survey.{Course};
-ghost use Rattle.adf_survey.specs.Parts.{key_of, role_of};
+ghost use Rattle.adf_survey.specs.Parts.{role_of};
 ghost use Rattle.adf_survey.specs.Found.{IsFinished};
-ghost use Rattle.adf_survey.specs.Courses.{Holds, IsAt, IsAtFile, IsAtPage, IsDue, IsGoneOn, IsInDatas, IsInDir, IsNamed};
-ghost use Rattle.adf_survey.specs.Courses.{IsNextAsk, IsOutcome, IsPageNamed, before_node, map_ext_word, page_word};
+ghost use Rattle.adf_survey.specs.Courses.{HasReached, HasReachedData, HasReachedFile, HasReachedPage, HasReachedPart};
+ghost use Rattle.adf_survey.specs.Courses.{HasReachedSlot, Holds, IsGoneOn, IsNamed, IsNextAsk, IsOutcome, IsPageNamed};
 
 use crate::found::Found;
 use crate::image::Image;
@@ -44,7 +45,7 @@ fn of_part(part: Part, block: u32, cause: Cause) -> Finding
 // Judges the part that is next and notes its cause. Returns the part if it is to be taken, `None` if passed over.
 fn judge_next(image: &Image<'_>, found: &mut Found, ask: &Ask) -> Result<Option<Part>, NoMemory>
     requires { length found.old.nodes.items < 2 ^ 32 }
-    ensures { IfOk result (λ o. (s : Course) → Holds image.now found.old (key_of (role_of ask.now.part)) s
+    ensures { IfOk result (λ o. (s : Course) → Holds image.now found.old (position_of (role_of ask.now.part)) s
         → IsNextAsk image.now s ask.now
         → IsOutcome image.now s ask.now found.old found.new o) }
 {
@@ -74,7 +75,7 @@ fn go_on(
     i: usize,
 ) -> Result<Option<u32>, NoMemory>
     requires word { i < 128 }
-    requires due { IsDue image.now found.old part holder i }
+    requires due { HasReachedPart image.now found.old part holder i }
     ensures gone { IfOk result (λ o. (s : Course) → IsNamed image.now found.old part holder i s
         → IsGoneOn image.now s part holder i found.new o) }
     ensures left { IfOk result (λ o. IfSome o (λ b. found.new.left < found.old.left)) }
@@ -95,7 +96,7 @@ fn go_on(
 
 // The word that points to a page, in the root or in a bitmap extension block.
 fn page_word(page: u32) -> usize
-    ensures named { result ≡ page_word page }
+    ensures named { result ≡ word_of_page page }
     ensures inside { result < 128 }
 {
     let page = page as usize;
@@ -108,7 +109,7 @@ fn page_word(page: u32) -> usize
 
 // The word that points to the bitmap extension block before a page, in the root or in the extension block before.
 fn map_ext_word(page: u32) -> usize
-    ensures named { result ≡ map_ext_word page }
+    ensures named { result ≡ word_of_map_ext page }
     ensures inside { result < 128 }
 {
     if page as usize == ROOT_PAGES {
@@ -127,7 +128,7 @@ fn holder_of(
     before: u32,
 ) -> Result<Option<u32>, NoMemory>
     requires some { page < pages_needed (blocks image.now) }
-    requires at { IsAtPage image.now found.old page before }
+    requires at { HasReachedPage image.now found.old page before }
     ensures { IfOk result (λ o. IsPageNamed image.now found.new page o) }
 {
     let first = ROOT_PAGES as u32;
@@ -142,8 +143,8 @@ fn holder_of(
 
 // Visits the pages of the bitmap and the bitmap extension blocks.
 fn go_through_map(image: &Image<'_>, found: &mut Found) -> Result<(), NoMemory>
-    requires { IsAtPage image.now found.old 0 (root_of image.now) }
-    ensures { OnOk result (IsAt image.now found.new (before_node 0)) }
+    requires { HasReachedPage image.now found.old 0 (root_of image.now) }
+    ensures { OnOk result (HasReached image.now found.new (before_node 0)) }
 {
     let mut holder = image.root();
     for page in 0..page_count(image.blocks()) {
@@ -165,8 +166,8 @@ fn go_through_chain(
     b: u32,
 ) -> Result<(), NoMemory>
     requires slot { slot < SLOTS }
-    requires at { IsInDir image.now found.old parent slot b }
-    ensures { OnOk result (IsInDir image.now found.new parent (slot + 1) b) }
+    requires at { HasReachedSlot image.now found.old parent slot b }
+    ensures { OnOk result (HasReachedSlot image.now found.new parent (slot + 1) b) }
 {
     let mut holder = b;
     let mut i = FIRST_SLOT + slot as usize;
@@ -190,8 +191,8 @@ fn go_through_chain(
 
 // Visits the chains of the directory at block `b`.
 fn go_through_dir(image: &Image<'_>, found: &mut Found, node: u32, b: u32) -> Result<(), NoMemory>
-    requires { IsInDir image.now found.old node 0 b }
-    ensures { OnOk result (IsAt image.now found.new (before_node (node + 1))) }
+    requires { HasReachedSlot image.now found.old node 0 b }
+    ensures { OnOk result (HasReached image.now found.new (before_node (node + 1))) }
 {
     for slot in 0..SLOTS as u8 {
         go_through_chain(image, found, node, slot, b)?;
@@ -201,8 +202,8 @@ fn go_through_dir(image: &Image<'_>, found: &mut Found, node: u32, b: u32) -> Re
 
 // Visits the extension blocks of a file, with its header at block `b`; returns how many are taken.
 fn go_through_exts(image: &Image<'_>, found: &mut Found, node: u32, b: u32) -> Result<u32, NoMemory>
-    requires { IsAtFile image.now found.old node b }
-    ensures datas { IfOk result (λ exts. IsInDatas image.now found.new node b exts 0) }
+    requires { HasReachedFile image.now found.old node b }
+    ensures datas { IfOk result (λ exts. HasReachedData image.now found.new node b exts 0) }
     ensures few { IfOk result (λ exts. exts ≤ 1048576) }
 {
     let mut holder = b;
@@ -226,8 +227,8 @@ fn go_through_datas(
     exts: u32,
 ) -> Result<(), NoMemory>
     requires few { exts ≤ 1048576 }
-    requires at { IsInDatas image.now found.old node b exts 0 }
-    ensures { OnOk result (IsAt image.now found.new (before_node (node + 1))) }
+    requires at { HasReachedData image.now found.old node b exts 0 }
+    ensures { OnOk result (HasReached image.now found.new (before_node (node + 1))) }
 {
     let pointers = POINTERS as u32;
     for k in 0..found.data_count(image, b).min(pointers * (exts + 1)) {
@@ -241,8 +242,8 @@ fn go_through_datas(
 // Visits the parts of a node: the chains of a directory, or the blocks of a file.
 fn go_through_node(image: &Image<'_>, found: &mut Found, node: u32) -> Result<(), NoMemory>
     requires some { node < length found.old.nodes.items }
-    requires at { IsAt image.now found.old (before_node node) }
-    ensures { OnOk result (IsAt image.now found.new (before_node (node + 1))) }
+    requires at { HasReached image.now found.old (before_node node) }
+    ensures { OnOk result (HasReached image.now found.new (before_node (node + 1))) }
 {
     let b = found.node_block(node);
     let kind = image.word(b, SECONDARY_TYPE);
@@ -258,7 +259,7 @@ fn go_through_node(image: &Image<'_>, found: &mut Found, node: u32) -> Result<()
 
 /// Visits the parts of a volume, until none is next.
 pub fn run(image: &Image<'_>, found: &mut Found) -> Result<(), NoMemory>
-    requires { IsAtPage image.now found.old 0 (root_of image.now) }
+    requires { HasReachedPage image.now found.old 0 (root_of image.now) }
     ensures { OnOk result (IsFinished image.now found.new) }
 {
     go_through_map(image, found)?;

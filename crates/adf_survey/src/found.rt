@@ -8,8 +8,9 @@ ghost use Rattle.std.specs.BTreeSet.{contains};
 ghost use Rattle.adf_survey.specs.Demands.{uppers_in};
 ghost use Rattle.adf_blocks.specs.Sizes.{blocks};
 ghost use Rattle.adf_volume.specs.Image.{name_of, root_of, word_in};
+ghost use Rattle.adf_volume.specs.Positions.{position_of};
 ghost use Rattle.adf_volume.specs.Walk.{Role, data_count};
-ghost use Rattle.adf_survey.specs.Parts.{by_key, finding_value, key_of, role_of};
+ghost use Rattle.adf_survey.specs.Parts.{by_key, finding_value, role_of};
 ghost use Rattle.adf_survey.specs.Found.{AreNamed, AreSame, Stands, IsChain, IsKept, IsNoted, IsOwned, IsPassed};
 ghost use Rattle.adf_survey.specs.Found.{IsPut, IsTaken, KeepsParts, around_in, by_name, enough_in, entry_number};
 ghost use Rattle.adf_survey.specs.Found.{exts_found, known_at, member_in, new_in, next_in, with_data};
@@ -212,7 +213,7 @@ impl Found {
     fn is_new(&self, image: &Image<'_>, part: Part, b: u32) -> Result<bool, NoMemory>
         requires { b < blocks image.now }
         ensures { IfOk result (λ t. (w : List (Role × ℕ))
-            → AreNamed image.now w (key_of (role_of part)) self.now.names
+            → AreNamed image.now w (position_of (role_of part)) self.now.names
             → IsChain w part → t ≡ new_in image.now w part b) }
     {
         let Part::Head { place, .. } = part else {
@@ -231,7 +232,7 @@ impl Found {
         ensures absent { IfOk result (λ f.
             f.is_absent ≡ not (slice_index_or self.now.owned.items b false)) }
         ensures new { IfOk result (λ f. b < blocks image.now → (w : List (Role × ℕ))
-            → AreNamed image.now w (key_of (role_of part)) self.now.names
+            → AreNamed image.now w (position_of (role_of part)) self.now.names
             → IsChain w part → f.is_new ≡ new_in image.now w part b) }
         ensures around { IfOk result (λ f. f.around ≡ around_in image.now self.now part) }
     {

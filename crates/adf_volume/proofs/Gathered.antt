@@ -117,7 +117,7 @@ module _ (image : List ℕ) where
     pub file_one : (n a b : ℕ) → FileAt image w n a → FileAt image w n b → a ≡ b
     file_one n a b f g = (one_head v f.header g.header).1
 
-    member_one : (n m a b : ℕ) → MemberAt image w n m a → MemberAt image w n m b → a ≡ b
+    pub member_one : (n m a b : ℕ) → MemberAt image w n m a → MemberAt image w n m b → a ≡ b
     member_one n zero a b h k = file_one n a b h k
     member_one n (suc m) a b h k = (one_block v (Ext n (suc m)) (Ext n (suc m)) a b h k (refl, refl, refl)).1
 
@@ -218,6 +218,11 @@ module _ (image : List ℕ) where
   pub node_is : {w : List (Role × ℕ)} → IsGathered image w → (n b : ℕ) → NodeAt w n b → node_block w n ≡ b
   node_is v zero b h = root_block v ∙ root_is v b h
   node_is v (suc n) b h = head_block v h
+
+  -- each number up to the count is that of a node, with its block
+  pub node_there : {w : List (Role × ℕ)} → IsGathered image w → (n : ℕ) → n ≤ heads w → NodeAt w n (node_block w n)
+  node_there {w = w} v zero le = subst (Has w Root) (sym (root_block v)) (root_in v)
+  node_there {w = w} v (suc n) le = let x = numbered v (suc n) (omega arith) le in subst (HeadAt w (suc n)) (sym (head_block v x.1)) x.1
 
   -- extension block k of a file, as a function
   ext_block_new : (n k : ℕ) (r : Role) (b c : ℕ) → r ≡ Ext n k → ext_block_of n k r b c ≡ b

@@ -17,10 +17,13 @@ pub mod PieceBytes
 pub mod Places
 pub mod TreeOrder
 -- walks
+pub mod AsksSplit
 pub mod DecidedAsks
 pub mod Gathered
 pub mod MemberFacts
 pub mod PartDemands
+pub mod Pointers
+pub mod PositionSteps
 pub mod Roles
 pub mod WalkMembers
 pub mod WalkOrder

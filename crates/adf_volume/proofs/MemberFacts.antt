@@ -12,9 +12,10 @@ use Rattle.adf_volume.specs.Walk.{Role, second, Has, DirAt, FileAt, MemberAt, Na
 use Rattle.adf_volume.specs.Walk.{member_block, next_data, NewName, IsWalk}
 use Rattle.adf_volume.specs.Walk.Role.{Root, Page, MapExt, Head, Ext, Data}
 use Rattle.adf_volume.specs.Walk.IsWalk.{start, step}
+use Rattle.adf_volume.proofs.Gathered.{asked_file, ext_counted, member_is, node_is}
 use Rattle.adf_volume.proofs.PartDemands.{PartHolds, part_holds}
 use Rattle.adf_volume.proofs.Roles.{count_up, dir_is_node, dir_up, member_up, typed_up}
-use Rattle.adf_volume.proofs.Walks.{node_is, member_is, file_is, due_file, ext_counted, is_there}
+use Rattle.adf_volume.proofs.Walks.{file_is, is_there, of_walk}
 use Rattle.std.proofs.lemmas.Bool.{cond-true, cond-false, le-ltb, lt-ltb}
 
 -- the word that names a header
@@ -93,7 +94,7 @@ module _ (image : List ℕ) where
   module _ (w : List (Role × ℕ)) (v : IsWalk image w) (old : (r : Role) (b : ℕ) → Has w r b → Kept image w r b) where
     pub there : (n m a : ℕ) → FileAt image w n a → m ≤ ext_count w n → (c : ℕ) × MemberAt image w n m c
     there n zero a f u = (a, f)
-    there n (suc m) a f u = ext_counted image v n m (omega arith)
+    there n (suc m) a f u = ext_counted image (of_walk image v) n m (omega arith)
 
     -- a file whose data block is due has enough extension blocks
     pub enough : (n k a i b h : ℕ) → IsDue image w (Data n (suc k)) a i → PartHolds image w (Data n (suc k)) b → FileAt image w n h → k < data_count image h
@@ -126,7 +127,7 @@ module _ (image : List ℕ) where
                 m.0,
                 m.1,
                 cond-true (nat_lt k (data_count image (node_block w n))) (word_in image (member_block w n (k / POINTERS)) (table_word k)) 0 u'
-                    ∙ ap (λ b. word_in image b (table_word k)) (member_is image w n (k / POINTERS) m.0 v m.1),
+                    ∙ ap (λ b. word_in image b (table_word k)) (member_is image (of_walk image v) n (k / POINTERS) m.0 m.1),
               ));
           last = (λ u.
               cond-false (nat_lt k (data_count image (node_block w n))) (word_in image (member_block w n (k / POINTERS)) (table_word k)) 0
@@ -141,12 +142,12 @@ module _ (image : List ℕ) where
     kept_new (Head n p s j) a i b d e g =
         let ad = asks_dir old n p s j a i d.asked in
         let c = ad.1 in
-        let z : node_block w p ≡ c.0 = node_is image w p c.0 v (dir_is_node image w p c.0 c.1) in
+        let z : node_block w p ≡ c.0 = node_is image (of_walk image v) p c.0 (dir_is_node image w p c.0 c.1) in
         let form = subst (λ c. AllHold (head_demands image (kind_of image) b c s)) z g.form in
         (ad.0, head_named n p s j a i b d.asked e, (c.0, c.1, form))
     kept_new (Ext n zero) a i b d e g = absurd d.asked
     kept_new (Ext n (suc k)) a i b d e g =
-        let f = due_file image w n (suc k) a i v d.asked in
+        let f = asked_file image (of_walk image v) n (suc k) a i d.asked in
         let z : node_block w n ≡ f.0 = file_is image w n f.0 v f.1 in
         (ext_named n k a i b d.asked e, (f.0, f.1, subst (λ h. AllHold (ext_demands image b h)) z g.form))
     kept_new (Data n zero) a i b d e g = absurd d.asked

@@ -13,6 +13,7 @@ use Rattle.adf_tree.specs.declared.entry.Body.{Body}
 use Rattle.adf_tree.specs.declared.entry.Entry.{Entry}
 use Rattle.adf_tree.specs.Tree.{Tree}
 use Rattle.adf_volume.specs.Layout.{EntryAt, IsFile, chain_nodes, Layout, at_node, exts_of, datas_of}
+use Rattle.adf_volume.proofs.Gathered.{asked_file, ext_below, member_is, node_is, root_in, root_is}
 use Rattle.adf_volume.proofs.TreeOrder.{DirNode, ordered, is_dir}
 use Rattle.adf_tree.specs.declared.entry.Body.TheVariants.{Dir, File}
 use Rattle.adf_volume.specs.Fits.{Fits, FileFits, BodyFits, TableAt}
@@ -26,7 +27,7 @@ use Rattle.adf_volume.proofs.Lists.{at_fun, at_below, at_some, at_before, at_map
 use Rattle.adf_volume.proofs.Lists.{all_append, at_index, index_past}
 use Rattle.adf_volume.proofs.Chains.{entry_at, entry_below, entry_some, place_at, one_place, sorted_places, chain_rises}
 use Rattle.adf_volume.proofs.Roles.{asks_number, dir_is_node, head_at, head_key, head_role, renumbered, same_of}
-use Rattle.adf_volume.proofs.Walks.{root_is, root_in, number_of, numbered, ext_below, due_file, node_is, member_is, file_is, is_there}
+use Rattle.adf_volume.proofs.Walks.{number_of, numbered, file_is, is_there, of_walk}
 use Rattle.adf_volume.proofs.LayoutRoles.{part_range, one_part}
 use Rattle.std.proofs.lemmas.Bool.{ltb-false, ltb-true}
 use Rattle.adf_volume.proofs.Places.{exts_below}
@@ -62,7 +63,7 @@ module _ (image : List ℕ) (t : Tree) (l : Layout) (fit : Fits image t l) where
   -- the walk so far goes along the tree
   module _ (w : List (Role × ℕ)) (v : IsWalk image w) (ag : (r : Role) (b : ℕ) → Has w r b → LayoutHas image t l r b) where
     pub dir_agrees : (p a : ℕ) → DirAt image w p a → DirNode t p × (at_node image l p ≡ a)
-    dir_agrees zero a h = (tt, root_is image w a v h)
+    dir_agrees zero a h = (tt, root_is image (of_walk image v) a h)
     dir_agrees (suc i) a h =
         let q = ag (head_role h.header) a h.header.has in
         let e = entry_at t h.header.parent h.header.slot h.header.place (suc i) q.0 in
@@ -110,7 +111,7 @@ module _ (image : List ℕ) (t : Tree) (l : Layout) (fit : Fits image t l) where
         subst (HeadAt w n) (sym (ag (head_role g) k.0 k.1).1) g
 
     pub has_dir : (p : ℕ) → p ≤ heads w → DirNode t p → DirAt image w p (at_node image l p)
-    has_dir zero u d = root_in image v
+    has_dir zero u d = root_in image (of_walk image v)
     has_dir (suc i) u d =
         record { header = has_head (suc i) d.0 d.1 u; type = dir_word (suc i) d.0 d.0.body refl (fit.entries (suc i) d.0 d.1).body d.2 }
 
@@ -298,7 +299,7 @@ module _ (image : List ℕ) (t : Tree) (l : Layout) (fit : Fits image t l) where
         let g = file_agrees n h f in
         let all : ext_count w n < length (exts_of l n) → ⊥ = (λ y.
         let x = has_exts n 0 a i h d' f (ext_count w n) (omega arith) in
-        let z = ext_below image v n (ext_count w n) x.0 x.1 in
+        let z = ext_below image (of_walk image v) n (ext_count w n) x.0 x.1 in
         omega arith) in
         omega (arith, g.count, (fit_file g.file).enough)
     enough_due _ a i d = tt
@@ -316,7 +317,7 @@ module _ (image : List ℕ) (t : Tree) (l : Layout) (fit : Fits image t l) where
         let lt : suc k < data_count image (node_block w n) = ltb-true (suc k) (data_count image (node_block w n)) z in
         let m = table_there n k a i h (suc k / POINTERS) d f (omega (arith, lt, c, ff.enough)) in
         let e = at_some (datas_of l n) (suc k) (omega (arith, lt, c, ff.datas)) in
-        ap (λ b. word_in image b (table_word (suc k))) (member_is image w n (suc k / POINTERS) m.0 v m.1)
+        ap (λ b. word_in image b (table_word (suc k))) (member_is image (of_walk image v) n (suc k / POINTERS) m.0 m.1)
         ∙ ff.named (suc k) e.0 m.0 e.1 (member_agrees n (suc k / POINTERS) m.0 m.1)
         ∙ sym (at_index (datas_of l n) (suc k) e.0 e.1)
     next_agrees n k a i h bytes d f ff c false z u =
@@ -332,12 +333,12 @@ module _ (image : List ℕ) (t : Tree) (l : Layout) (fit : Fits image t l) where
         let u1 : q < n = up.0 in
         let dir = has_dir q (omega arith) up.1 in
         let z : at_node image l q ≡ node_block w p =
-        sym (node_is image w q (at_node image l q) v (dir_is_node image w q (at_node image l q) dir)) ∙ ap (node_block w) e.parent in
+        sym (node_is image (of_walk image v) q (at_node image l q) (dir_is_node image w q (at_node image l q) dir)) ∙ ap (node_block w) e.parent in
         rw (← fit.kind, ← h.1, ← e.slot, ← z) ef.form
 
     ext_form : (n k a i b : ℕ) → IsDue image w (Ext n (suc k)) a i → At (exts_of l n) k b → AllHold (ext_demands image b (node_block w n))
     ext_form n k a i b d h =
-        let f = due_file image w n (suc k) a i v d.asked in
+        let f = asked_file image (of_walk image v) n (suc k) a i d.asked in
         let g = file_agrees n f.0 f.1 in
         let ff = fit_file g.file in
         let z : at_node image l n ≡ node_block w n = g.block ∙ sym (file_is image w n f.0 v f.1) in

@@ -15,9 +15,10 @@ use Rattle.adf_volume.specs.Fits.{Fits, BodyFits}
 use Rattle.adf_volume.specs.Walk.{Role, Has, heads, FileAt, MemberAt, data_count, IsWalk, IsWhole}
 use Rattle.adf_volume.specs.Walk.Role.{Root, Page, MapExt, Head, Ext, Data}
 use Rattle.adf_volume.specs.LayoutRoles.{LayoutHas}
+use Rattle.adf_volume.proofs.Gathered.{root_in}
 use Rattle.adf_volume.proofs.Lists.{at_fun, at_below, at_some, at_before, spelled_word, spelled_link}
 use Rattle.adf_volume.proofs.Chains.{entry_at, entry_below, entry_some, place_at}
-use Rattle.adf_volume.proofs.Walks.{root_in, numbered, page_word, asked_block}
+use Rattle.adf_volume.proofs.Walks.{numbered, page_word, asked_block, of_walk}
 use Rattle.adf_volume.proofs.Images.{map_exts_high, map_exts_low}
 use Rattle.adf_volume.proofs.LayoutRoles.{part_range}
 use Rattle.adf_volume.proofs.Roles.{head_role}
@@ -119,7 +120,7 @@ module _ (image : List ℕ) (t : Tree) (l : Layout) (fit : Fits image t l) (w : 
 
   -- completeness: each part is in the walk
   pub part_walked : (r : Role) (b : ℕ) → LayoutHas image t l r b → Has w r b
-  part_walked Root b h = subst (Has w Root) h (root_in image v)
+  part_walked Root b h = subst (Has w Root) h (root_in image (of_walk image v))
   part_walked (Page k) b h =
       let u : k < length l.pages = at_below l.pages k b h in
       let p : length l.pages ≡ pages_needed (blocks image) = fit.pages in

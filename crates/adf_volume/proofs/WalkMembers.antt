@@ -9,16 +9,18 @@ use Rattle.adf_blocks.specs.Sizes.{blocks, pages_needed}
 use Rattle.adf_volume.specs.Image.{kind_of, table_word, name_of, root_of}
 use Rattle.adf_fields.specs.Hash.{slot_of}
 use Rattle.adf_volume.specs.Layout.{nodes_from}
-use Rattle.adf_volume.specs.Walk.{Role, second, Has, HeadAt, head_count, heads, data_count, NamesPage, IsDue, Lacks, ext_count_of, ext_count, NoCause, IsWalk}
+use Rattle.adf_volume.specs.Walk.{Role, second, Has, HeadAt, head_count, heads, data_count, NamesPage, Asks, IsDue, Lacks, ext_count_of}
+use Rattle.adf_volume.specs.Walk.{ext_count, NoCause, IsWalk}
 use Rattle.adf_volume.specs.Walk.Role.{Root, Page, MapExt, Head, Ext, Data}
 use Rattle.adf_volume.specs.Walk.IsWalk.{start, step}
 use Rattle.adf_volume.specs.Made.{picked, is_page, pages_in, is_map_ext, map_exts_in, is_ext_of, exts_in, push_ext, is_data_of, datas_in, entry_in, place_in}
 use Rattle.adf_volume.specs.Made.{push_head, of_heads, entries_in, places_in}
+use Rattle.adf_volume.proofs.Gathered.{ext_counted, next_ext}
 use Rattle.adf_volume.proofs.FormDemands.{head_slot_is}
 use Rattle.adf_volume.proofs.Lists.{at_below, at_some, at_old, at_new, at_snoc, snoc_length}
 use Rattle.adf_volume.proofs.Chains.{chain_snoc}
 use Rattle.adf_volume.proofs.Roles.{asks_number, head_at, head_in, head_role, new_number, no_head}
-use Rattle.adf_volume.proofs.Walks.{ext_counted, next_ext, page_word, is_there}
+use Rattle.adf_volume.proofs.Walks.{page_word, is_there, of_walk}
 use Rattle.adf_volume.proofs.MemberFacts.{kept, there, enough, map_ext_down}
 use Rattle.adf_volume.proofs.PartDemands.{part_holds}
 use Rattle.adf_volume.proofs.Comparisons.{both_equal, equal_both}
@@ -36,15 +38,15 @@ not_yet {f = f} {role = role} {w = w} old k lacks =
 
 module _ (f : Role → Bool) (role : ℕ → Role) (own : (k : ℕ) → f (role k) ≡ true) where
   -- the root alone has none
-  none_listed : (c : ℕ) → f Root ≡ false → Lists f role ((Root, c) ∷ [])
+  pub none_listed : (c : ℕ) → f Root ≡ false → Lists f role ((Root, c) ∷ [])
   none_listed c z = record {
     to = (λ k b h. elim h [ inl y ↦ absurd (let x : true ≡ false = sym (ap f y.0 ∙ own k) ∙ z in cc) | inr y ↦ absurd y ]);
     from = (λ k b h. absurd (subst (λ t. At (cond t (c ∷ []) []) k b) z h));
   }
 
   -- one member more, which is the next one where the test picks it
-  one_more : (w : List (Role × ℕ)) (q : Role) (c : ℕ) → ((k m : ℕ) → role k ≡ role m → k ≡ m) → Lists f role w → (f q ≡ true → q ≡ role (length (picked f w)))
-      → Lists f role ((q, c) ∷ w)
+  pub one_more : (w : List (Role × ℕ)) (q : Role) (c : ℕ) → ((k m : ℕ) → role k ≡ role m → k ≡ m) → Lists f role w
+      → (f q ≡ true → q ≡ role (length (picked f w))) → Lists f role ((q, c) ∷ w)
   one_more w q c apart old next = record { to = to; from = λ k b h. from k b (f q) refl h }
     where
       up : (k b : ℕ) (t : Bool) → At (picked f w) k b → At (cond t (picked f w ++ c ∷ []) (picked f w)) k b
@@ -126,7 +128,9 @@ module _ (image : List ℕ) where
   exts n (step {w = w} {r = q} {b = c} {a = a} {i = i} v d e g) =
       one_more (is_ext_of n) (λ k. Ext n (suc k)) (λ k. eq-eqb n n refl) w q c (λ k m z. cc) (exts n v)
       (λ t. let x = ext_only n q t in
-      let z : x.0 ≡ suc (ext_count w n) = next_ext image w v n x.0 a i (subst (λ r. IsDue image w r a i) x.1 d) (ext_counted image v n) in
+      let o = of_walk image v in
+      let z : x.0 ≡ suc (ext_count w n) =
+      next_ext image w o n x.0 a i (subst (λ r. Asks image w r a i) x.1 d.asked) (subst (Lacks w) x.1 d.lacks) (ext_counted image o n) in
       x.1 ∙ ap (Ext n) (z ∙ ap suc (sym (exts_length w n))))
 
   pub ext_has : {w : List (Role × ℕ)} → IsWalk image w → (n k b : ℕ) → Has w (Ext n (suc k)) b → At (exts_in w n) k b
@@ -151,7 +155,7 @@ module _ (image : List ℕ) where
       omega (arith, at_below (datas_in w n) m x.0 (ih.to m x.0 x.1))) in
       omega arith
 
-  data_only : (n : ℕ) (q : Role) → is_data_of n q ≡ true → (k : ℕ) × (q ≡ Data n k)
+  pub data_only : (n : ℕ) (q : Role) → is_data_of n q ≡ true → (k : ℕ) × (q ≡ Data n k)
   data_only n (Data m k) t = (k, ap (λ m. Data m k) (sym (eqb-true n m t)))
   data_only n _ t = cc
 
@@ -174,10 +178,10 @@ module _ (image : List ℕ) where
   has_data w v n k b h = (datas n v).from k b h
 
   -- what names a page has the extension blocks of the pages before it
-  before_page : (w : List (Role × ℕ)) → IsWalk image w → (k m j a i : ℕ) → m < k → ROOT_PAGES + MAP_EXT_PAGES * j ≤ m → NamesPage image w k a i
+  earlier_map_ext : (w : List (Role × ℕ)) → IsWalk image w → (k m j a i : ℕ) → m < k → ROOT_PAGES + MAP_EXT_PAGES * j ≤ m → NamesPage image w k a i
       → (b : ℕ) × Has w (MapExt j) b
-  before_page w v k m j a i l u (inl x) = absurd (omega arith)
-  before_page w v k m j a i l u (inr x) = map_ext_down image w v x.0 j a x.1 (omega arith)
+  earlier_map_ext w v k m j a i l u (inl x) = absurd (omega arith)
+  earlier_map_ext w v k m j a i l u (inr x) = map_ext_down image w v x.0 j a x.1 (omega arith)
 
   next_page : (w : List (Role × ℕ)) → IsWalk image w → Lists is_page Page w → (k a i : ℕ) → IsDue image w (Page k) a i → k ≡ length (pages_in w)
   next_page w v ih k a i d =
@@ -185,7 +189,7 @@ module _ (image : List ℕ) where
       let m : ℕ = length (pages_in w) in
       let f : k < pages_needed (blocks image) = d.asked.0 in
       let high : m < k → ⊥ = (λ l.
-      let p = page_word image w m (omega arith) (λ j u. before_page w v k m j a i l u d.asked.1) in
+      let p = page_word image w m (omega arith) (λ j u. earlier_map_ext w v k m j a i l u d.asked.1) in
       let x = is_there image w (Page m) (Page k) a i p.0 p.1 d p.2 (omega arith, (λ z. omega arith), (λ z y. omega arith)) (omega arith) in
       omega (arith, at_below (pages_in w) m x.0 (ih.to m x.0 x.1))) in
       omega arith

@@ -1,13 +1,12 @@
 -- A walk ascends: what is due comes after everything in it.
-use Rattle.std.proofs.Common.{◌≡◌, ℕ, zero, suc, List, [], ◌∷◌, ◌⊎◌, inl, inr, ◌/◌, ◌<◌, ◌≤◌, refl, sym, ap, subst, ◌∙◌, arith}
-use Rattle.adf_blocks.specs.declared.layout.TheConstants.{POINTERS, ST_DIR, ST_FILE}
+use Rattle.std.proofs.Common.{◌≡◌, ℕ, suc, List, [], ◌∷◌, inl, inr, ◌<◌, ◌≤◌, refl, sym, ap, subst, ◌∙◌, arith}
 use Rattle.adf_volume.specs.Image.{root_of}
-use Rattle.adf_volume.specs.Walk.{Role, first, second, third, Before, Same, Has, head_count, heads, HeadAt, TypedAt, MemberAt, Asks, Lacks, IsDue}
+use Rattle.adf_volume.specs.Walk.{Role, first, second, third, Before, Same, Has, head_count, heads, HeadAt, Asks, Lacks, IsDue}
 use Rattle.adf_volume.specs.Walk.{IsWalk}
-use Rattle.adf_volume.specs.Walk.Role.{Root, Page, MapExt, Head, Ext, Data}
+use Rattle.adf_volume.specs.Walk.Role.{Root, Page, MapExt}
 use Rattle.adf_volume.specs.Walk.IsWalk.{start, step}
-use Rattle.adf_volume.proofs.Gathered.{parent_asked}
-use Rattle.adf_volume.proofs.Roles.{head_in, head_role, new_number, no_head, same_refl, typed_cases}
+use Rattle.adf_volume.proofs.AsksSplit.{gathered_split}
+use Rattle.adf_volume.proofs.Roles.{head_in, head_role, new_number, no_head}
 use Rattle.adf_volume.proofs.Walks.{number_of, of_walk}
 
 pub before_trans : (x y z : Role) → Before x y → Before y z → Before x z
@@ -33,74 +32,6 @@ last w z c q b r (inl y) n o = subst (λ q. Before q r) y.0 n
 last w z c q b r (inr y) n o = o y
 
 module _ (image : List ℕ) where
-  module _ (w : List (Role × ℕ)) (v : IsWalk image w) (q : Role) (c a0 i0 : ℕ) (d : IsDue image w q a0 i0) where
-    head_before : (n p s j : ℕ) (r : Role) → q ≡ Head n p s j → n < first r → Before q r
-    head_before n p s j r e u =
-        let x : p < n = parent_asked image (of_walk image v) n p s j a0 i0 (subst (λ q. Asks image w q a0 i0) e d.asked) in
-        let y : first q ≡ suc p = ap first e in
-        (omega arith, (λ z. absurd (omega arith)), (λ z z'. absurd (omega arith)))
-
-    not_root : q ≡ Root → ⊥
-    not_root e = subst (λ q. Asks image w q a0 i0) e d.asked
-
-    typed_back : (t n a : ℕ) (r : Role) → n < first r → TypedAt image ((q, c) ∷ w) t n a → TypedAt image w t n a ⊎ Before q r
-    typed_back t n a r u h = elim (typed_cases h) [
-      | inl e ↦ inr (head_before n h.header.parent h.header.slot h.header.place r e.0 u)
-      | inr k ↦ inl k
-    ]
-
-    -- what the longer walk asks for was asked for before, or comes after the new member
-    pub asks_back : (r : Role) (a i : ℕ) → Asks image ((q, c) ∷ w) r a i → ((r' : Role) × Asks image w r' a i × Same r' r) ⊎ Before q r
-    asks_back Root a i h = absurd h
-    asks_back (Page k) a i h = elim h.1 [
-      | inl e ↦ inl (Page k, (h.0, inl e), (refl, refl, refl))
-      | inr x ↦ elim x.1 [
-        | inl e ↦ inr (subst (λ q. Before q (Page k)) (sym e.0) (omega arith))
-        | inr y ↦ inl (Page k, (h.0, inr (x.0, y, x.2, x.3)), (refl, refl, refl))
-      ]
-    ]
-    asks_back (MapExt zero) a i h = inl (MapExt zero, h, same_refl (MapExt zero))
-    asks_back (MapExt (suc j)) a i h = elim h.1 [
-      | inl e ↦ inr (subst (λ q. Before q (MapExt (suc j))) (sym e.0) (omega arith))
-      | inr x ↦ inl (MapExt (suc j), (h.0, x, h.2), (refl, refl, refl))
-    ]
-    asks_back (Head n zero s zero) a i h = elim h.2 [
-      | inl e ↦ absurd (not_root e.0)
-      | inr k ↦ inl (Head (suc (heads w)) zero s zero, (refl, h.1, k, h.3, h.4), (refl, refl, refl))
-    ]
-    asks_back (Head n (suc p) s zero) a i h = elim (typed_back ST_DIR (suc p) a (Head n (suc p) s zero) (omega arith) h.2) [
-      | inl d ↦ inl (Head (suc (heads w)) (suc p) s zero, (refl, h.1, d, h.3, h.4), (refl, refl, refl))
-      | inr b ↦ inr b
-    ]
-    asks_back (Head n p s (suc j)) a i h = elim h.1.1 [
-      | inl e ↦ inr (subst (λ q. Before q (Head n p s (suc j))) (sym e.0) (omega arith))
-      | inr k ↦ inl (Head (suc (heads w)) p s (suc j), (refl, (h.1.0, k), h.2, h.3), (refl, refl, refl))
-    ]
-    asks_back (Ext n zero) a i h = absurd h
-    asks_back (Ext n (suc zero)) a i h =
-        elim (typed_back ST_FILE n a (Ext n 1) (omega arith) h.0) [
-          | inl f ↦ inl (Ext n 1, (f, h.1, h.2), (refl, refl, refl))
-          | inr b ↦ inr b
-        ]
-    asks_back (Ext n (suc (suc k))) a i h = elim h.0 [
-      | inl e ↦ inr (subst (λ q. Before q (Ext n (suc (suc k)))) (sym e.0) (omega arith))
-      | inr x ↦ inl (Ext n (suc (suc k)), (x, h.1, h.2), (refl, refl, refl))
-    ]
-    asks_back (Data n zero) a i h = absurd h
-    asks_back (Data n (suc k)) a i h =
-        elim (typed_back ST_FILE n h.0.0 (Data n (suc k)) (omega arith) h.0.1) [
-          | inl f ↦ elim (member (k / POINTERS) h.1) [
-            | inl m ↦ inl (Data n (suc k), ((h.0.0, f, h.0.2), m, h.2), (refl, refl, refl))
-            | inr b ↦ inr b
-          ]
-          | inr b ↦ inr b
-        ]
-      where
-        member : (m : ℕ) → MemberAt image ((q, c) ∷ w) n m a → MemberAt image w n m a ⊎ Before q (Data n (suc k))
-        member zero x = typed_back ST_FILE n a (Data n (suc k)) (omega arith) x
-        member (suc m) (inl e) = inr (subst (λ q. Before q (Data n (suc k))) (sym e.0) (omega arith))
-        member (suc m) (inr x) = inl x
-
   root_before : (w : List (Role × ℕ)) (r : Role) (a i : ℕ) → Asks image w r a i → Before Root r
   root_before w Root a i h = absurd h
   root_before w (Page k) a i h = (omega arith, (λ z. omega arith), (λ z y. absurd (omega arith)))
@@ -115,7 +46,7 @@ module _ (image : List ℕ) where
     where
       newest : Before z r
       newest =
-          elim (asks_back w v z c a0 i0 e r a i d.asked) [
+          elim (gathered_split image (of_walk image v) z a0 i0 c e.asked r a i d.asked) [
             | inr bef ↦ bef
             | inl x ↦
                 let lack : Lacks w x.0 = (λ y k has s. let s' : Same x.0 r = x.2 in d.lacks y k (inr has) (omega arith)) in

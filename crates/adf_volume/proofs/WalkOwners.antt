@@ -7,8 +7,9 @@ use Rattle.adf_volume.specs.Walk.{Role, Has, IsWalk, IsWhole}
 use Rattle.adf_volume.specs.Walk.Role.{Root, Page, MapExt, Head, Ext, Data}
 use Rattle.adf_volume.specs.Made.{datas_in, entries_in, exts_in, layout_in, places_in, tree_in}
 use Rattle.adf_volume.specs.LayoutRoles.{LayoutHas, owner_of}
+use Rattle.adf_volume.proofs.Gathered.{root_in, root_is}
 use Rattle.adf_volume.proofs.Roles.{head_at}
-use Rattle.adf_volume.proofs.Walks.{root_is, root_in, numbered as numbers, one_role, ext_file}
+use Rattle.adf_volume.proofs.Walks.{numbered as numbers, one_role, ext_file, of_walk}
 use Rattle.adf_volume.proofs.LayoutRoles.{owned_part, part_owned}
 use Rattle.adf_volume.proofs.Owners.{once_owned, blocks_once}
 use Rattle.adf_volume.proofs.MemberFacts.{kept}
@@ -22,7 +23,7 @@ module _ (image : List ℕ) (w : List (Role × ℕ)) (v : IsWalk image w) (whole
 
   -- what the walk has is a part of its tree and layout
   has_part : (r : Role) (b : ℕ) → Has w r b → LayoutHas image (tree_in image w) (layout_in w) r b
-  has_part Root b h = root_is image w b v h
+  has_part Root b h = root_is image (of_walk image v) b h
   has_part (Page k) b h = (pages image v).to k b h
   has_part (MapExt k) b h = (map_exts image v).to k b h
   has_part (Head n p s j) b h = ((chains image w v).to n p s j b h, (head_is image w v whole (head_at n p s j b h)).0)
@@ -45,7 +46,7 @@ module _ (image : List ℕ) (w : List (Role × ℕ)) (v : IsWalk image w) (whole
 
   -- each part is in the walk
   part_has : (r : Role) (b : ℕ) → LayoutHas image (tree_in image w) (layout_in w) r b → Has w r b
-  part_has Root b h = subst (Has w Root) h (root_in image v)
+  part_has Root b h = subst (Has w Root) h (root_in image (of_walk image v))
   part_has (Page k) b h = (pages image v).from k b h
   part_has (MapExt k) b h = (map_exts image v).from k b h
   part_has (Head n p s j) b h =

@@ -1,14 +1,14 @@
 -- Facts of walks: as lists of parts asked for, and because each part has no cause.
-use Rattle.std.proofs.Common.{◌≡◌, ℕ, suc, List, inl, inr, ◌+◌, ◌-◌, ◌*◌, ◌/◌, ◌%◌, ◌<◌, ◌≤◌, refl, sym, subst, ◌∙◌, arith}
+use Rattle.std.proofs.Common.{◌≡◌, ℕ, List, inl, inr, ◌+◌, ◌-◌, ◌*◌, ◌/◌, ◌%◌, ◌<◌, ◌≤◌, refl, sym, subst, ◌∙◌, arith}
 use native.Mathlib.Decide.{dec_lt}
 use Rattle.adf_blocks.specs.declared.layout.TheConstants.{FIRST_PAGE, MAP_EXT_PAGES, ROOT_PAGES}
 use Rattle.adf_blocks.specs.Sizes.{blocks, pages_needed}
 use Rattle.adf_volume.specs.Image.{root_of}
-use Rattle.adf_volume.specs.Walk.{Role, second, Has, heads, HeadAt, NodeAt, FileAt, MemberAt, Asks, Same, IsDue, IsWalk, IsWhole, Before}
-use Rattle.adf_volume.specs.Walk.{ext_count, member_block, node_block}
-use Rattle.adf_volume.specs.Walk.Role.{Root, Page, MapExt, Head, Ext}
+use Rattle.adf_volume.specs.Walk.{Role, second, Has, heads, HeadAt, FileAt, Asks, IsDue, IsWalk, IsWhole, Before}
+use Rattle.adf_volume.specs.Walk.{node_block}
+use Rattle.adf_volume.specs.Walk.Role.{Page, MapExt, Head, Ext}
 use Rattle.adf_volume.specs.Walk.IsWalk.{start, step}
-use Rattle.adf_volume.proofs.Roles.{dec_has, has_low, head_key, head_role}
+use Rattle.adf_volume.proofs.Roles.{dec_has, has_low, head_key}
 use Rattle.adf_volume.proofs.PartDemands.{part_holds}
 use Rattle.adf_volume.proofs.Gathered as gathered
 use Rattle.adf_volume.proofs.Gathered.{IsGathered}
@@ -32,49 +32,14 @@ module _ (image : List ℕ) where
       absurd ((part_holds image w z a c n).unowned r (subst (λ b. Has w r b) (sym f.1) e))
   one_role (step v d g n) r q b (inr e) (inr f) = one_role v r q b e f
 
-  pub root_is : (w : List (Role × ℕ)) (b : ℕ) → IsWalk image w → Has w Root b → root_of image ≡ b
-  root_is w b v h = gathered.root_is image (of_walk v) b h
-
-  pub root_in : {w : List (Role × ℕ)} → IsWalk image w → Has w Root (root_of image)
-  root_in v = gathered.root_in image (of_walk v)
-
   pub number_of : {w : List (Role × ℕ)} {n b : ℕ} → IsWalk image w → HeadAt w n b → (1 ≤ n) × (n ≤ heads w)
   number_of v = gathered.number_of image (of_walk v)
 
   pub numbered : {w : List (Role × ℕ)} → IsWalk image w → (n : ℕ) → 1 ≤ n → n ≤ heads w → (b : ℕ) × HeadAt w n b
   numbered v = gathered.numbered image (of_walk v)
 
-  pub one_block : {w : List (Role × ℕ)} → IsWalk image w → (r q : Role) (b c : ℕ) → Has w r b → Has w q c → Same r q → (r ≡ q) × (b ≡ c)
-  one_block v = gathered.one_block image (of_walk v)
-
-  pub one_head : {w : List (Role × ℕ)} {n b c : ℕ} → IsWalk image w → (h : HeadAt w n b) (k : HeadAt w n c) → (head_role h ≡ head_role k) × (b ≡ c)
-  one_head v = gathered.one_head image (of_walk v)
-
-  pub one_node : {w : List (Role × ℕ)} → IsWalk image w → (p a b : ℕ) → NodeAt w p a → NodeAt w p b → a ≡ b
-  one_node v = gathered.node_one image (of_walk v)
-
-  pub ext_below : {w : List (Role × ℕ)} → IsWalk image w → (n k b : ℕ) → Has w (Ext n (suc k)) b → k < ext_count w n
-  ext_below v = gathered.ext_below image (of_walk v)
-
-  -- an extension block that is due is the next one
-  pub next_ext : (w : List (Role × ℕ)) → IsWalk image w → (n k a i : ℕ) → IsDue image w (Ext n k) a i
-      → ((k : ℕ) → k < ext_count w n → (b : ℕ) × Has w (Ext n (suc k)) b) → k ≡ suc (ext_count w n)
-  next_ext w v n k a i d = gathered.next_ext image w (of_walk v) n k a i d.asked d.lacks
-
-  pub ext_counted : {w : List (Role × ℕ)} → IsWalk image w → (n k : ℕ) → k < ext_count w n → (b : ℕ) × Has w (Ext n (suc k)) b
-  ext_counted v = gathered.ext_counted image (of_walk v)
-
   pub ext_file : {w : List (Role × ℕ)} → IsWalk image w → (n k b : ℕ) → Has w (Ext n k) b → (h : ℕ) × FileAt image w n h
   ext_file v = gathered.ext_file image (of_walk v)
-
-  pub due_file : (w : List (Role × ℕ)) (n k a i : ℕ) → IsWalk image w → Asks image w (Ext n k) a i → (h : ℕ) × FileAt image w n h
-  due_file w n k a i v = gathered.asked_file image (of_walk v) n k a i
-
-  pub node_is : (w : List (Role × ℕ)) (n a : ℕ) → IsWalk image w → NodeAt w n a → node_block w n ≡ a
-  node_is w n a v = gathered.node_is image (of_walk v) n a
-
-  pub member_is : (w : List (Role × ℕ)) (n m a : ℕ) → IsWalk image w → MemberAt image w n m a → member_block w n m ≡ a
-  member_is w n m a v = gathered.member_is image (of_walk v) n m a
 
   pub file_is : (w : List (Role × ℕ)) (n a : ℕ) → IsWalk image w → FileAt image w n a → node_block w n ≡ a
   file_is w n a v h = gathered.head_block image (of_walk v) h.header

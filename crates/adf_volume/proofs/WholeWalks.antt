@@ -23,8 +23,8 @@ use Rattle.adf_volume.specs.Made.{pages_in, map_exts_in, exts_in, datas_in, body
 use Rattle.adf_volume.proofs.FormDemands.{head_type, dir_not_file}
 use Rattle.adf_volume.proofs.Images.{content_length, map_exts_high, map_exts_low}
 use Rattle.adf_volume.proofs.Lists.{at_fun, at_below, at_some, at_unmap, spelled_from, no_length, at_index, index_past}
-use Rattle.adf_volume.proofs.Gathered.{file_one, parent_below}
-use Rattle.adf_volume.proofs.Walks.{of_walk, root_is, root_in, number_of, numbered, one_head, one_block, ext_file, asked_block, asked_header, page_word}
+use Rattle.adf_volume.proofs.Gathered.{file_one, parent_below, one_block, one_head, root_in, root_is}
+use Rattle.adf_volume.proofs.Walks.{of_walk, number_of, numbered, ext_file, asked_block, asked_header, page_word}
 use Rattle.adf_volume.proofs.WalkOrder.{in_order}
 use Rattle.adf_volume.proofs.MemberFacts.{kept, there, IsNext, new_names, in_range, map_ext_low}
 use Rattle.adf_volume.proofs.Roles.{head_at, head_role}
@@ -76,7 +76,7 @@ module _ (image : List ℕ) (w : List (Role × ℕ)) (v : IsWalk image w) (whole
   head_is {n = suc i} {b = b} h = place_parts (places_in w w) i (place_in w (suc i) b) (place_has image w v h)
 
   dir_at : (p a : ℕ) → DirAt image w p a → at_node image (layout_in w) p ≡ a
-  dir_at zero a h = root_is image w a v h
+  dir_at zero a h = root_is image (of_walk image v) a h
   dir_at (suc i) a h = (head_is h.header).0
 
   pub entry_is : (n : ℕ) (e : Entry) → EntryAt (tree_in image w) n e → HeadOf image w n e
@@ -169,7 +169,7 @@ module _ (image : List ℕ) (w : List (Role × ℕ)) (v : IsWalk image w) (whole
       ap (word_in image c) ei ∙ ap (λ c. word_in image c m) ea ∙ e
 
   is_dir_at : (p : ℕ) → DirNode (tree_in image w) p → DirAt image w p (at_node image (layout_in w) p)
-  is_dir_at zero d = root_in image v
+  is_dir_at zero d = root_in image (of_walk image v)
   is_dir_at (suc i) d =
       let x = entry_is (suc i) d.0 d.1 in
       let b : ℕ = x.block in
@@ -204,7 +204,7 @@ module _ (image : List ℕ) (w : List (Role × ℕ)) (v : IsWalk image w) (whole
       let x = (chains image w v).from u.0 p s j u.1 in
       let x2 = (chains image w v).from u2.0 p s (suc j) u2.1 in
       let k = (kept image v (Head u2.0 p s (suc j)) x2.0 x2.1).1 in
-      let z : k.1 ≡ x.0 = (one_block image v (Head k.0 p s j) (Head u.0 p s j) k.1 x.0 k.2 x.1 (refl, refl, refl)).1 in
+      let z : k.1 ≡ x.0 = (one_block image (of_walk image v) (Head k.0 p s j) (Head u.0 p s j) k.1 x.0 k.2 x.1 (refl, refl, refl)).1 in
       let y : b ≡ k.1 = sym u.2 ∙ (head_is (head_at u.0 p s j x.0 x.1)).0 ∙ sym z in
       ap (λ b. word_in image b NEXT_IN_CHAIN) y ∙ k.3 ∙ sym (head_is (head_at u2.0 p s (suc j) x2.0 x2.1)).0 ∙ u2.2)
       (λ j b h e.
@@ -343,7 +343,7 @@ module _ (image : List ℕ) (w : List (Role × ℕ)) (v : IsWalk image w) (whole
         let d : word_in image b SECONDARY_TYPE ≡ ST_DIR = eqb-true (word_in image b SECONDARY_TYPE) ST_DIR z in
         let hp = head_is h in
         let no_file : (a : ℕ) → FileAt image w n a → ⊥ =
-        (λ a f. dir_not_file image b d (subst (λ a. word_in image a SECONDARY_TYPE ≡ ST_FILE) (one_head image v f.header h).1 f.type)) in (
+        (λ a f. dir_not_file image b d (subst (λ a. word_in image a SECONDARY_TYPE ≡ ST_FILE) (one_head image (of_walk image v) f.header h).1 f.type)) in (
           d,
           hp.1 ∙ no_length (exts_in w n) (let none : 0 < length (exts_in w n) → ⊥ = (λ u.
               let x = at_some (exts_in w n) 0 u in

@@ -9,6 +9,7 @@ pub mod Fault
 pub mod Rows
 pub mod LayoutRoles
 pub mod Made
+pub mod Positions
 pub mod Samples
 -- The states of what opens an image and reads its files. A promise names `IsBegun` of Start and `AreInside` of Pieces.
 pub mod Start

@@ -1,4 +1,4 @@
-use Rattle.std.proofs.Common.{◌≡◌, ◌≤◌, ◌<◌, ◌-◌, ◌%◌, true, false, sym, ◌∙◌, arith}
+use Rattle.std.proofs.Common.{◌≡◌, true, false, sym, ◌∙◌}
 use Rattle.adf_check.specs.Store.{store_value}
 use Rattle.adf_check.proofs.PageSteps.{same_holder}
 use Rattle.adf_check.proofs.pages.holder_of_page.Goals as goal
@@ -6,7 +6,4 @@ use Rattle.adf_check.proofs.pages.holder_of_page.Goals as goal
 pub returns-else-is_first_of_map_ext-clause-state : goal.returns-else-is_first_of_map_ext-clause-state
 returns-else-is_first_of_map_ext-clause-state g c =
     same_holder c.args.image.now (store_value c.args.store.now) c.args.i c.args.holder c.requires.state
-    (λ past. more past (λ first. let e : true ≡ false = sym (c.is_first_of_map_ext.ensures.1 (past, first)) ∙ c.if-is_first_of_map_ext.false in cc))
-  where
-    more : 25 ≤ c.args.i → ((c.args.i - 25) % 127 ≡ 0 → ⊥) → 0 < (c.args.i - 25) % 127
-    more past other = omega arith
+    (λ past first. let e : true ≡ false = sym (c.is_first_of_map_ext.ensures.1 (past, first)) ∙ c.if-is_first_of_map_ext.false in cc)

@@ -1,5 +1,6 @@
 use Rattle.std.proofs.Common.{◌≡◌, ◌+◌, suc, inl, inr, subst, sym, ◌∙◌, arith}
-use Rattle.adf_survey.specs.Courses.{IsAt, before_node}
+use Rattle.adf_volume.specs.Positions.{before_node}
+use Rattle.adf_survey.specs.Courses.{HasReached}
 use Rattle.adf_survey.proofs.CoursePlaces.{dir_begins, dir_there, file_there, nothing_there}
 use Rattle.adf_survey.proofs.course.go_through_node.Goals as goal
 
@@ -38,6 +39,6 @@ returns-else-kind c =
     let s = c.requires.at.0 in
     let h = c.requires.at.1 in
     let one : suc n ≡ n + 1 = omega arith in
-    subst (λ n. IsAt image f (before_node n)) one
+    subst (λ n. HasReached image f (before_node n)) one
     (nothing_there image f s n b h c.requires.some c.node_block-b.ensures
     c.if-kind-eq-ST_DIR.false.0 (λ e. c.if-kind-eq-ST_DIR.false.1 (c.word-kind.ensures ∙ e)) (λ e. c.if-kind.false (c.word-kind.ensures ∙ e)))

@@ -5,6 +5,7 @@ use Rattle.adf_blocks.specs.Sizes.{blocks, pages_needed}
 use Rattle.adf_volume.specs.Image.{word_in, table_word}
 use Rattle.adf_volume.specs.Walk.{Role, Before, Same, HeadAt, DirAt, FileAt, MemberAt, NamesPage, Asks, data_count, first, heads}
 use Rattle.adf_volume.specs.Walk.Role.{Root, Page, MapExt, Head, Ext, Data}
+use Rattle.adf_volume.proofs.Gathered.{IsGathered, parent_asked}
 use Rattle.adf_volume.proofs.Roles.{dir_up, head_role, member_up, renumbered, same_refl, typed_cases, typed_up}
 
 module _ (image : List ℕ) (w : List (Role × ℕ)) (r : Role) (b : ℕ) where
@@ -83,3 +84,10 @@ module _ (image : List ℕ) (w : List (Role × ℕ)) (r : Role) (b : ℕ) where
       | inl e ↦ new_head (Data n (suc k)) a i f.header e.0 refl
       | inr g ↦ split_member n k h a i (k / POINTERS) g lt refl m ie
     ]
+
+-- the same of a list that was gathered
+pub gathered_split : (image : List ℕ) {w : List (Role × ℕ)} → IsGathered image w → (r : Role) (a i b : ℕ) → Asks image w r a i → (q : Role) (c k : ℕ)
+    → Asks image ((r, b) ∷ w) q c k → ((z : Role) × Asks image w z c k × Same z q) ⊎ Before r q
+gathered_split image {w = w} v r a i b h =
+    asks_split image w r b (λ e. subst (λ r. Asks image w r a i) e h)
+    (λ n p s j e. parent_asked image v n p s j a i (subst (λ r. Asks image w r a i) e h))
