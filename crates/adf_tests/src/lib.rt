@@ -4,6 +4,8 @@
 #[cfg(test)]
 mod devices;
 #[cfg(test)]
+mod disks;
+#[cfg(test)]
 mod images_in_memory;
 #[cfg(test)]
 mod memory;

@@ -1,0 +1,7 @@
+-- All of it is the promise.
+pub mod Faults
+pub mod Summed
+pub mod Tables
+pub mod Places
+pub mod Partitions
+pub mod Disks

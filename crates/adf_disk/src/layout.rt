@@ -1,0 +1,79 @@
+// The words of a disk's tables, and the constants of the format. Words are numbered from 0.
+
+/// The first word of a rigid disk block, `RDSK`.
+pub const RDSK: u32 = 0x5244_534B;
+
+/// The first word of a partition block, `PART`.
+pub const PART: u32 = 0x5041_5254;
+
+/// A rigid disk block is one of the blocks before this one.
+pub const RDSK_BLOCKS: u32 = 16;
+
+/// The tables lie before this block.
+pub const MOST_TABLES: u32 = 65_536;
+
+/// The most partitions that are read.
+pub const MOST_PARTITIONS: usize = 1_024;
+
+/// No block: where a list ends.
+pub const NO_BLOCK: u32 = 0xFFFF_FFFF;
+
+/// The word with the mark of a rigid disk block or a partition block.
+pub const MARK: usize = 0;
+
+/// The word that counts the words of the sum.
+pub const SUMMED_LONGS: usize = 1;
+
+/// The word of a rigid disk block that has the bytes of a block.
+pub const BLOCK_BYTES: usize = 4;
+
+/// The word of a rigid disk block that names the first partition block.
+pub const FIRST_PART: usize = 7;
+
+/// The word of a rigid disk block that has the lowest block kept for the tables.
+pub const LOWEST_TABLE: usize = 32;
+
+/// The word of a rigid disk block that has the highest block kept for the tables.
+pub const HIGHEST_TABLE: usize = 33;
+
+/// The word of a partition block that names the next one.
+pub const NEXT_PART: usize = 4;
+
+/// The word of a partition block with its flags.
+pub const FLAGS: usize = 5;
+
+/// The flag of a partition that a computer may start from.
+pub const BOOTABLE: u32 = 1;
+
+/// The flag of a partition that is not mounted by itself.
+pub const NO_MOUNT: u32 = 2;
+
+/// The byte of a partition block with the length of the drive's name; the name follows.
+pub const DRIVE_NAME: usize = 36;
+
+/// The word of a partition block that counts the words of its environment, which follow.
+pub const ENV_LENGTH: usize = 32;
+
+/// The word of a partition block with the words of a block.
+pub const ENV_BLOCK_WORDS: usize = 33;
+
+/// The word of a partition block with the surfaces, or heads.
+pub const SURFACES: usize = 35;
+
+/// The word of a partition block with the sectors of a block.
+pub const BLOCK_SECTORS: usize = 36;
+
+/// The word of a partition block with the blocks of a track.
+pub const TRACK_BLOCKS: usize = 37;
+
+/// The word of a partition block with its lowest cylinder.
+pub const LOW_CYLINDER: usize = 41;
+
+/// The word of a partition block with its highest cylinder.
+pub const HIGH_CYLINDER: usize = 42;
+
+/// The word of a partition block with its boot priority, which is signed.
+pub const BOOT_PRIORITY: usize = 47;
+
+/// The word of a partition block with the type of its file system.
+pub const DOS_TYPE: usize = 48;

@@ -1,0 +1,26 @@
+//! The partitions of a whole Amiga hard disk.
+#![tactic(auto)]
+
+mod disk;
+mod fault;
+mod laws;
+mod layout;
+mod list;
+mod names;
+mod partition;
+mod place;
+mod summed;
+mod tables;
+
+pub use crate::disk::Disk;
+pub use crate::fault::{DiskCause, DiskFault, disk_fault};
+pub use crate::laws::{no_fault_on_a_disk, one_disk, one_disk_fault};
+pub use crate::layout::{
+    BLOCK_BYTES, BLOCK_SECTORS, BOOT_PRIORITY, BOOTABLE, DOS_TYPE, DRIVE_NAME, ENV_BLOCK_WORDS,
+    ENV_LENGTH, FIRST_PART, FLAGS, HIGH_CYLINDER, HIGHEST_TABLE, LOW_CYLINDER, LOWEST_TABLE, MARK,
+    MOST_PARTITIONS, MOST_TABLES, NEXT_PART, NO_BLOCK, NO_MOUNT, PART, RDSK, RDSK_BLOCKS,
+    SUMMED_LONGS, SURFACES, TRACK_BLOCKS,
+};
+pub use crate::partition::{DriveName, Partition};
+pub use crate::place::{Place, PlaceFault};
+pub use crate::tables::Tables;

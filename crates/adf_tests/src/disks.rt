@@ -1,0 +1,241 @@
+// The partitions of disks of 80 blocks of 512 bytes, of which 4 have tables: the rigid disk block in block 0, the partition DH0
+// in block 2, and DH1 in block 1. A cylinder has 2 surfaces of 4 blocks. A row changes words of such a disk.
+
+ghost use Rattle.std.specs.Prelude.{length};
+
+use adf_disk::{Disk, DiskCause, DiskFault, Partition, Place, PlaceFault, disk_fault};
+use adf_fields::{seal, set_word};
+use std::alloc::Global;
+use std::test::Fail;
+
+type Tables = [u8; 2048];
+
+const NONE: u32 = 0xFFFF_FFFF;
+
+// Words of a block, by their number.
+const RIGID_DISK: &[(usize, u32)] = &[
+    (0, 0x5244_534B),
+    (1, 64),
+    (4, 512),
+    (7, 2),
+    (16, 10),
+    (17, 4),
+    (18, 2),
+    (32, 0),
+    (33, 3),
+    (34, 1),
+    (35, 9),
+    (36, 8),
+];
+
+// Bootable, cylinders 1 to 4, priority -5, `DOS\1`.
+const DH0: &[(usize, u32)] = &[
+    (0, 0x5041_5254),
+    (1, 64),
+    (4, 1),
+    (5, 1),
+    (9, 0x0344_4830),
+    (32, 16),
+    (33, 128),
+    (35, 2),
+    (36, 1),
+    (37, 4),
+    (38, 2),
+    (41, 1),
+    (42, 4),
+    (47, 0xFFFF_FFFB),
+    (48, 0x444F_5301),
+];
+
+// Not mounted by itself, cylinders 5 to 9, priority 3, `PFS\3`.
+const DH1: &[(usize, u32)] = &[
+    (0, 0x5041_5254),
+    (1, 64),
+    (4, NONE),
+    (5, 2),
+    (9, 0x0344_4831),
+    (32, 16),
+    (33, 128),
+    (35, 2),
+    (36, 1),
+    (37, 4),
+    (38, 2),
+    (41, 5),
+    (42, 9),
+    (47, 3),
+    (48, 0x5046_5303),
+];
+
+// The place of DH0: cylinders of 8 blocks.
+const PLACE_0: Result<Place, PlaceFault> = Ok(Place { first: 8, blocks: 32 });
+
+// The place of DH1.
+const PLACE_1: Result<Place, PlaceFault> = Ok(Place {
+    first: 40,
+    blocks: 40,
+});
+
+// Sets words of a block, without a new sum.
+fn put(tables: &mut Tables, b: u32, words: &[(usize, u32)]) {
+    if b < 4 {
+        for (i, value) in words {
+            if *i < 128 {
+                set_word(tables, b, *i, *value);
+            }
+        }
+    }
+}
+
+// Sets words of a block, and its sum in word 2.
+fn put_summed(tables: &mut Tables, b: u32, words: &[(usize, u32)]) {
+    put(tables, b, words);
+    if b < 4 {
+        seal(tables, b, 2);
+    }
+}
+
+// The disk, with these words of a block changed.
+fn changed(b: u32, words: &[(usize, u32)]) -> Tables {
+    let mut tables = [0; 2048];
+    put_summed(&mut tables, 0, RIGID_DISK);
+    put_summed(&mut tables, 2, DH0);
+    put_summed(&mut tables, 1, DH1);
+    if !words.is_empty() {
+        put_summed(&mut tables, b, words);
+    }
+    tables
+}
+
+// Whether a partition has this block, name, flags, priority, type and place.
+fn is_partition(
+    partition: Option<&Partition>,
+    numbers: (u32, u32, i32, u32),
+    name: &[u8],
+    place: Result<Place, PlaceFault>,
+) -> bool {
+    match partition {
+        None => false,
+        Some(p) => {
+            (p.block, p.flags, p.priority, p.dos_type) == numbers
+                && p.name.bytes() == name
+                && p.place == place
+        }
+    }
+}
+
+// The first fault of the disk, if these words of a block are changed.
+fn fault_of(alloc: Global, b: u32, words: &[(usize, u32)]) -> Option<DiskFault> {
+    match Disk::open(alloc, &changed(b, words), 80) {
+        Ok(_) => None,
+        Err(fault) => Some(fault),
+    }
+}
+
+// The places of both partitions, if these words of a block are changed.
+fn places_of(
+    alloc: Global,
+    b: u32,
+    words: &[(usize, u32)],
+) -> Option<(Result<Place, PlaceFault>, Result<Place, PlaceFault>)> {
+    let disk = Disk::open(alloc, &changed(b, words), 80).ok()?;
+    let one = disk.numbered(1)?.place;
+    let two = disk.numbered(2)?.place;
+    Some((one, two))
+}
+
+#[test]
+fn partitions_are_read(rt: HostRuntime) -> Result<(), Fail> {
+    let disk = Disk::open(rt.alloc(), &changed(0, &[]), 80)?;
+    let one = (2, 1, -5, 0x444F_5301);
+    let two = (1, 2, 3, 0x5046_5303);
+    assert_eq!(rt; disk.partitions.len(), 2);
+    assert!(rt; is_partition(disk.numbered(1), one, b"DH0", PLACE_0));
+    assert!(rt; is_partition(disk.numbered(2), two, b"DH1", PLACE_1));
+    assert!(rt; is_partition(disk.named(b"dh0"), one, b"DH0", PLACE_0));
+    assert!(rt; is_partition(disk.named(b"DH1"), two, b"DH1", PLACE_1));
+    assert!(rt; disk.numbered(0).is_none());
+    assert!(rt; disk.numbered(3).is_none());
+    assert!(rt; disk.named(b"DH").is_none());
+    Ok(())
+}
+
+// A change, and the block and the cause of the first fault.
+const FAULTS: &[(u32, &[(usize, u32)], u32, DiskCause)] = &[
+    (0, &[(0, 0)], 0, DiskCause::NoRigidDisk),
+    (0, &[(1, 129)], 0, DiskCause::NoRigidDisk),
+    (0, &[(1, 0)], 0, DiskCause::NoRigidDisk),
+    (0, &[(4, 1024)], 0, DiskCause::BlockSize),
+    (0, &[(7, 4)], 0, DiskCause::OutOfRange),
+    (0, &[(32, 3)], 0, DiskCause::OutOfRange),
+    (2, &[(4, 4)], 2, DiskCause::OutOfRange),
+    (2, &[(4, 2)], 2, DiskCause::Repeated),
+    (1, &[(4, 2)], 2, DiskCause::Repeated),
+    (2, &[(4, 3)], 3, DiskCause::NotPartition),
+    (2, &[(4, 0)], 0, DiskCause::NotPartition),
+    (1, &[(1, 2)], 1, DiskCause::BadSum),
+];
+
+#[test]
+fn faults_are_named(rt: HostRuntime) {
+    for (b, words, block, cause) in FAULTS {
+        let wanted = disk_fault(*block, *cause);
+        assert!(rt; fault_of(rt.alloc(), *b, words) == Some(wanted));
+    }
+}
+
+// A change, and the places of both partitions.
+const PLACES: &[(
+    u32,
+    &[(usize, u32)],
+    Result<Place, PlaceFault>,
+    Result<Place, PlaceFault>,
+)] = &[
+    (0, &[], PLACE_0, PLACE_1),
+    (2, &[(32, 15)], Err(PlaceFault::ShortEnvironment), PLACE_1),
+    (2, &[(33, 256)], Err(PlaceFault::OtherBlocks), PLACE_1),
+    (2, &[(36, 2)], Err(PlaceFault::OtherBlocks), PLACE_1),
+    (2, &[(41, 5)], Err(PlaceFault::NoCylinders), PLACE_1),
+    (2, &[(35, 0)], Err(PlaceFault::NoCylinders), PLACE_1),
+    (1, &[(42, 10)], PLACE_0, Err(PlaceFault::BeyondImage)),
+    (
+        1,
+        &[(35, NONE), (37, NONE), (42, NONE)],
+        PLACE_0,
+        Err(PlaceFault::BeyondImage),
+    ),
+    (2, &[(41, 0)], Err(PlaceFault::OverTables), PLACE_1),
+    (1, &[(41, 4)], PLACE_0, Err(PlaceFault::OverPartition)),
+    (2, &[(9, 0x0044_4830)], Err(PlaceFault::BadName), PLACE_1),
+    (2, &[(9, 0x2044_4830)], Err(PlaceFault::BadName), PLACE_1),
+    (2, &[(9, 0x0344_3A30)], Err(PlaceFault::BadName), PLACE_1),
+];
+
+#[test]
+fn places_are_told(rt: HostRuntime) {
+    for (b, words, one, two) in PLACES {
+        assert!(rt; places_of(rt.alloc(), *b, words) == Some((*one, *two)));
+    }
+}
+
+// The sum is that of the first 64 words alone, and of a block that was changed without a new sum it is not 0.
+#[test]
+fn sums_are_of_the_words_that_are_counted(rt: HostRuntime) {
+    let mut tables = changed(0, &[]);
+    put(&mut tables, 1, &[(64, 7)]);
+    assert!(rt; Disk::open(rt.alloc(), &tables, 80).is_ok());
+    put(&mut tables, 1, &[(63, 7)]);
+    let wanted = disk_fault(1, DiskCause::BadSum);
+    assert!(rt; Disk::open(rt.alloc(), &tables, 80).err() == Some(wanted));
+}
+
+// The rigid disk block is the first that is one, and the list may be empty.
+#[test]
+fn other_blocks_may_be_the_rigid_disk_block(rt: HostRuntime) -> Result<(), Fail> {
+    let mut tables = [0; 2048];
+    put_summed(&mut tables, 3, RIGID_DISK);
+    put_summed(&mut tables, 3, &[(7, NONE)]);
+    put(&mut tables, 0, RIGID_DISK);
+    let disk = Disk::open(rt.alloc(), &tables, 80)?;
+    assert_eq!(rt; (disk.tables.rdsk, disk.partitions.len()), (3, 0));
+    Ok(())
+}
