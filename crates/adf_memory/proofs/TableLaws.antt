@@ -10,7 +10,7 @@ use Rattle.adf_volume.specs.Fits.{Fits}
 use Rattle.adf_volume.specs.Layout.{EntryAt, Layout, Place, datas_at, datas_of, head_at, owned, owned_from}
 use Rattle.adf_volume.specs.Lists.{At, numbered}
 use Rattle.adf_volume.proofs.Chains.{entry_is_at, entry_some}
-use Rattle.adf_volume.proofs.Lists.{at_below, at_index_or, at_some}
+use Rattle.adf_volume.proofs.Lists.{at_below, at_index_or, at_some, length_numbered}
 use Rattle.adf_volume.specs.Rows.{row_of_entry}
 use Rattle.adf_check.specs.Volumes.{counts_of}
 use Rattle.adf_volume.specs.declared.counts.Counts.{Counts}
@@ -70,11 +70,6 @@ datas_within [] i = subst (λ ps. length (all_datas ps) ≤ 0) (sym (take-nil i)
 datas_within (q ∷ qs) zero = omega arith
 datas_within (q ∷ qs) (suc i) =
     omega (arith, datas_within qs i, length-append q.datas (all_datas (take i qs)), length-append q.datas (all_datas qs))
-
--- numbering keeps the length
-length_numbered : {X : Type 0} (f : ℕ → X) (k : ℕ) (bs : List ℕ) → length (numbered f k bs) ≡ length bs
-length_numbered f k [] = refl
-length_numbered f k (b ∷ bs) = ap suc (length_numbered f (suc k) bs)
 
 -- each header and each data block is a part of the volume
 parts_many : (n : ℕ) (qs : List Place) → length qs + length (all_datas qs) ≤ length (owned_from n qs)

@@ -16,6 +16,7 @@ use Rattle.adf_volume.specs.Fits.{BodyFits, FileFits, Fits}
 use Rattle.adf_volume.specs.Layout.{Layout, Place, at_node, datas_at, datas_of, exts_at, exts_of, owned, owned_from}
 use Rattle.adf_volume.specs.Lists.{At, In, NoBlockTwice, numbered}
 use Rattle.adf_volume.proofs.FitWalks.{without}
+use Rattle.adf_volume.proofs.Lists.{length_numbered}
 use Rattle.adf_build.specs.Plan.{blocks_needed, data_blocks, entries_blocks, exts_needed, reserved}
 
 -- blocks that are all different are as few as a list that has each
@@ -33,10 +34,6 @@ in_range a (suc n) b lo hi = elim (cases_lt a b) [
   | inl lt ↦ inr (in_range (a + 1) n b (omega arith) (omega arith))
   | inr le ↦ let e : a ≡ b = omega arith in inl e
 ]
-
-numbered_long : {X : Type 0} (f : ℕ → X) (k : ℕ) (bs : List ℕ) → length (numbered f k bs) ≡ length bs
-numbered_long f k [] = refl
-numbered_long f k (b ∷ bs) = ap suc (numbered_long f (suc k) bs)
 
 -- the blocks of a body are at its entry
 
@@ -63,8 +60,8 @@ places_own kind n (e ∷ es) [] long each = absurd (omega arith)
 places_own kind n (e ∷ es) (q ∷ qs) long each =
     let here : (exts_needed (data_blocks kind e.body) ≤ length q.exts) × (data_blocks kind e.body ≡ length q.datas) = each 0 e refl in
     let rest : entries_blocks kind es ≤ length (owned_from (suc n) qs) = places_own kind (suc n) es qs (omega arith) (λ i d at. each (suc i) d at) in
-    let exts = numbered_long (Ext n) 1 q.exts in
-    let datas = numbered_long (Data n) 1 q.datas in
+    let exts = length_numbered (Ext n) 1 q.exts in
+    let datas = length_numbered (Data n) 1 q.datas in
     let all = length-append (numbered (Ext n) 1 q.exts ++ numbered (Data n) 1 q.datas) (owned_from (suc n) qs) in
     let both = length-append (numbered (Ext n) 1 q.exts) (numbered (Data n) 1 q.datas) in
     omega (arith, here.0, here.1, exts, datas, all, both)
@@ -74,8 +71,8 @@ owned_parts : (image : List ℕ) (l : Layout)
 owned_parts image l =
     let all = length-append (numbered Page 0 l.pages) (numbered MapExt 0 l.map_exts ++ owned_from 1 l.places) in
     let rest = length-append (numbered MapExt 0 l.map_exts) (owned_from 1 l.places) in
-    let pages = numbered_long Page 0 l.pages in
-    let exts = numbered_long MapExt 0 l.map_exts in
+    let pages = length_numbered Page 0 l.pages in
+    let exts = length_numbered MapExt 0 l.map_exts in
     omega arith
 
 reserved_parts : (image : List ℕ) (t : Tree) (l : Layout) → Fits image t l → length l.pages + length l.map_exts ≡ reserved (blocks image)

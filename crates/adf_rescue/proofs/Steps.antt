@@ -22,6 +22,7 @@ use Rattle.adf_survey.specs.declared.part.Finding.{Finding}
 use Rattle.adf_survey.specs.Parts.{finding_value}
 use Rattle.adf_survey.specs.Survey.{FindingValue}
 use Rattle.adf_volume.specs.Image.{name_of}
+use Rattle.adf_volume.proofs.Lists.{get_before, get_last}
 use Rattle.adf_volume.specs.Walk.{Role, heads, node_block}
 use Rattle.adf_survey.specs.Found.{parent_node}
 use Rattle.adf_build.specs.Plan.{blocks_needed, entries_blocks, reserved}
@@ -44,16 +45,6 @@ left_out_more n (x ∷ xs) v =
     let at : length xs + suc n ≡ suc (length xs) + n = omega arith in
     rw (left_out_more (suc n) xs v, at) (sym (append_assoc (left_out_by n x) (left_out_from (suc n) xs) (left_out_by (suc (length xs) + n) v)))
 
--- what stands at an index of a list with one more element
-pub got_before : {X : Type 0} (xs : List X) (x : X) (i : ℕ) → i < length xs → slice_get (xs ++ x ∷ []) i ≡ slice_get xs i
-got_before [] x i h = absurd (omega arith)
-got_before (y ∷ ys) x zero h = refl
-got_before (y ∷ ys) x (suc i) h = got_before ys x i (omega arith)
-
-pub got_last : {X : Type 0} (xs : List X) (x : X) → slice_get (xs ++ x ∷ []) (length xs) ≡ Some x
-got_last [] x = refl
-got_last (y ∷ ys) x = got_last ys x
-
 -- the places of one more node
 pub places_more : (d : DraftValue) (vs : List Verdict) (v : Verdict) (ps : List (Option ℕ)) (place : Option ℕ) → length ps ≡ length vs + 1
     → ((p : ℕ) → IsPlace d (place_of vs p) (get_or ps p None)) → IsPlace d (directory_in v) place
@@ -64,14 +55,14 @@ places_more d vs v ps place long old new (suc i) =
     let more = length_push vs v in
     elim (cases_lt i (length vs)) [
       | inl before ↦
-          rw (got_before vs v i before, get_or_append_left ps (place ∷ []) None (suc i) (omega arith)) (old (suc i))
+          rw (get_before vs v i before, get_or_append_left ps (place ∷ []) None (suc i) (omega arith)) (old (suc i))
       | inr past ↦
           elim (cases_lt (length vs) i) [
             | inl far ↦
                 rw (slice_get_past (vs ++ v ∷ []) i (omega arith), get_or_past (ps ++ place ∷ []) (suc i) None (omega arith)) tt
             | inr near ↦
                 let here : i ≡ length vs = omega arith in
-                rw (here, got_last vs v, get_or_push ps place None (suc (length vs)) (omega arith)) new
+                rw (here, get_last vs v, get_or_push ps place None (suc (length vs)) (omega arith)) new
           ]
     ]
 

@@ -23,7 +23,7 @@ use Rattle.adf_volume.specs.Layout.{Layout}
 use Rattle.adf_volume.specs.Made.{entries_in, layout_in, tree_in}
 use Rattle.adf_volume.specs.Walk.{IsWalk, Role, heads, node_block}
 use Rattle.adf_volume.proofs.FitWalks.{one_fit}
-use Rattle.adf_volume.proofs.Lists.{at_index_or}
+use Rattle.adf_volume.proofs.Lists.{at_index_or, get_before, get_last}
 use Rattle.adf_volume.proofs.WalkMembers.{entries_length}
 use Rattle.adf_survey.specs.Found.{parent_node}
 use Rattle.adf_survey.specs.Marked.{AreMarks}
@@ -36,16 +36,16 @@ use Rattle.adf_rescue.specs.Rescue.{rescue_leaves, rescued_tree, tree_of, verdic
 use Rattle.adf_rescue.proofs.FitBlocks.{fit_room, front_blocks}
 use Rattle.adf_rescue.proofs.NextEntries.{directory_stays, has_room, new_is, new_leads}
 use Rattle.adf_rescue.proofs.SoundHeaders.{IsToldAs, label_whole, told}
-use Rattle.adf_rescue.proofs.Steps.{additions_more, got_before, got_last, left_out_more, verdict_at}
+use Rattle.adf_rescue.proofs.Steps.{additions_more, left_out_more, verdict_at}
 
 -- the place of a directory behind one more verdict
 
 place_stays : (vs : List Verdict) (v : Verdict) (p : ℕ) → p ≤ length vs → place_of (vs ++ v ∷ []) p ≡ place_of vs p
 place_stays vs v zero le = refl
-place_stays vs v (suc i) le = ap (option_and_then directory_in) (got_before vs v i (omega arith))
+place_stays vs v (suc i) le = ap (option_and_then directory_in) (get_before vs v i (omega arith))
 
 place_new : (vs : List Verdict) (v : Verdict) → place_of (vs ++ v ∷ []) (suc (length vs)) ≡ directory_in v
-place_new vs v = ap (option_and_then directory_in) (got_last vs v)
+place_new vs v = ap (option_and_then directory_in) (get_last vs v)
 
 -- the verdicts on the first k entries add them, and leave out none; their directories are where the paths of the new tree lead
 record IsFront (es : List Entry) (k : ℕ) (vs : List Verdict) : Type 0 where

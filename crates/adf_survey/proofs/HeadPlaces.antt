@@ -7,7 +7,7 @@ use Rattle.adf_volume.specs.Walk.{Role, second, Has, Asks, heads}
 use Rattle.adf_volume.specs.Walk.Role.{Root, Page, MapExt, Head, Ext, Data}
 use Rattle.adf_volume.proofs.Gathered.{IsGathered, number_of}
 use Rattle.adf_volume.proofs.Gathered.IsGathered.{start, step}
-use Rattle.adf_volume.proofs.Lists.{snoc_length}
+use Rattle.adf_volume.proofs.Lists.{get_before, get_last, snoc_length}
 use Rattle.adf_volume.proofs.Roles.{asks_number, head_at}
 use Rattle.adf_survey.specs.declared.found.ChainPlace.{ChainPlace}
 use Rattle.adf_survey.specs.declared.found.Found.{Found}
@@ -31,15 +31,6 @@ head_parent image (step {w = w} {r = r} a i c v d l) n p s j b (inr h) =
     let u : (1 ≤ n) × (n ≤ heads w) = number_of image v (head_at n p s j b h) in
     other_parent image w n r a i (parent_node w n) d (omega arith) ∙ head_parent image v n p s j b h
 
-get_last : {A : Type 0} (xs : List A) (x : A) → slice_get (xs ++ x ∷ []) (length xs) ≡ Some x
-get_last [] x = refl
-get_last (y ∷ xs) x = get_last xs x
-
-get_other : {A : Type 0} (xs : List A) (x : A) (k : ℕ) → k < length xs → slice_get (xs ++ x ∷ []) k ≡ slice_get xs k
-get_other [] x k lt = absurd (omega arith)
-get_other (y ∷ xs) x zero lt = refl
-get_other (y ∷ xs) x (suc k) lt = get_other xs x k (omega arith)
-
 get_cases : {A : Type 0} (xs : List A) (x y : A) (k : ℕ) → slice_get (xs ++ x ∷ []) k ≡ Some y → (slice_get xs k ≡ Some y) ⊎ ((k ≡ length xs) × (x ≡ y))
 get_cases [] x y zero e = inr (refl, cc)
 get_cases [] x y (suc k) e = cc
@@ -60,7 +51,7 @@ module _ (image : List ℕ) where
   place_stays : (w : List (Role × ℕ)) (r : Role) (a i k : ℕ) (c : ChainPlace) → Asks image w r a i → k < heads w → slice_get (places_of w) k ≡ Some c
       → slice_get (with_place r (places_of w)) k ≡ Some c
   place_stays w (Head m p s j) a i k c d lt e =
-      get_other (places_of w) (record { slot = s; place = j }) k (let l = places_long w in omega arith) ∙ e
+      get_before (places_of w) (record { slot = s; place = j }) k (let l = places_long w in omega arith) ∙ e
   place_stays w Root a i k c d lt e = absurd d
   place_stays w _ a i k c d lt e = e
 

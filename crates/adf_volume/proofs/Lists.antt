@@ -3,7 +3,7 @@ use Rattle.std.proofs.Common.{◌≡◌, ℕ, zero, suc, List, [], ◌∷◌, �
 use Rattle.adf_blocks.specs.declared.cause.Cause.{Cause}
 use Rattle.adf_volume.specs.Lists.{At, In, Spelled, numbered, NoBlockTwice}
 use Rattle.adf_volume.specs.Demands.{Demand, AllHold, FirstFails}
-use Rattle.std.specs.Prelude.{slice_index, slice_index_or}
+use Rattle.std.specs.Prelude.{Some, slice_get, slice_index, slice_index_or}
 
 pub at_fun : {X : Type 0} (xs : List X) (i : ℕ) (x y : X) → At xs i x → At xs i y → x ≡ y
 at_fun [] i x y h k = absurd h
@@ -168,3 +168,19 @@ pub at_index_or : {X : Type 0} (xs : List X) (i : ℕ) (x d : X) → At xs i x �
 at_index_or [] i x d h = absurd h
 at_index_or (y ∷ xs) zero x d h = h
 at_index_or (y ∷ xs) (suc i) x d h = at_index_or xs i x d h
+
+-- what was there stays where it was
+pub get_before : {X : Type 0} (xs : List X) (x : X) (i : ℕ) → i < length xs → slice_get (xs ++ x ∷ []) i ≡ slice_get xs i
+get_before [] x i h = absurd (omega arith)
+get_before (y ∷ ys) x zero h = refl
+get_before (y ∷ ys) x (suc i) h = get_before ys x i (omega arith)
+
+-- one more stands last
+pub get_last : {X : Type 0} (xs : List X) (x : X) → slice_get (xs ++ x ∷ []) (length xs) ≡ Some x
+get_last [] x = refl
+get_last (y ∷ ys) x = get_last ys x
+
+-- numbering keeps the length
+pub length_numbered : {X : Type 0} (f : ℕ → X) (k : ℕ) (bs : List ℕ) → length (numbered f k bs) ≡ length bs
+length_numbered f k [] = refl
+length_numbered f k (b ∷ bs) = ap suc (length_numbered f (suc k) bs)
