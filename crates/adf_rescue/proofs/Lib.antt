@@ -14,5 +14,7 @@ pub mod NextEntries
 pub mod SoundHeaders
 -- the rescue of a volume that a tree fits
 pub mod WholeVolumes
--- images whose boot block was overwritten
+-- the root that is made
+pub mod MadeRoots
+-- images that are opened
 pub mod OpenedImages

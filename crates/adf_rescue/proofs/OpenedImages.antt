@@ -1,11 +1,26 @@
--- Images whose boot block was overwritten: their blocks, and what stays of their bytes.
-use Rattle.std.proofs.Common.{◌≡◌, ◌<◌, ◌≤◌, ℕ, zero, suc, ◌+◌, ◌-◌, ◌*◌, Bool, true, false, cond, ◌||◌, List, [], ◌∷◌, ◌++◌, length, drop}
-use Rattle.std.proofs.Common.{add-one, arith, codes, inl, inr, length-drop, refl, subst}
-use Rattle.std.specs.Prelude.{nat_lt, slice_range}
-use Rattle.std.proofs.lemmas.Bool.{cases_lt, le-ltb, ltb-false, or_from, or_left, or_right}
-use Rattle.std.proofs.lemmas.List.{length-take, take_all}
-use Rattle.adf_fields.specs.Words.{block, with_bytes}
-use Rattle.adf_rescue.specs.Opened.{begins_with_dos, has_data, opened, says_data, type_byte}
+-- Images that are opened: their blocks, and what stays of their bytes.
+-- Letters: b the number of a block; r the root's; n, m, k numbers of bytes or blocks; l a list of bytes.
+use Rattle.std.proofs.Common.{◌≡◌, ◌<◌, ◌≤◌, ℕ, zero, suc, ◌+◌, ◌-◌, ◌*◌, ◌/◌, ◌^◌, Bool, true, false, List, [], ◌∷◌, ◌++◌, length, take, drop}
+use Rattle.std.proofs.Common.{◌∙◌, add-one, ap, arith, codes, inl, inr, length-drop, refl, subst, sym}
+use Rattle.std.specs.Prelude.{◌==◌, ◌&&◌, nat_le, slice_index, slice_range}
+use Rattle.std.proofs.lemmas.Bool.{and_from, and_left, and_parts, and_right, cases_Bool, cases_lt, cond-false, cond-true, cond_both}
+use Rattle.std.proofs.lemmas.Bool.{not_from_false, not_from_true, or_from, or_left, or_right}
+use Rattle.std.proofs.lemmas.List.{drop-drop, get_or-take, length-take, take_all}
+use Rattle.adf_fields.specs.Words.{block, long_sum, with_bytes, word}
+use Rattle.adf_tree.specs.Tree.{Tree}
+use Rattle.adf_blocks.specs.declared.layout.TheConstants.{FIRST_SLOT, SLOTS}
+use Rattle.adf_blocks.specs.RootBlock.{label_told, root_block, stamps_at}
+use Rattle.adf_blocks.specs.Sizes.{middle}
+use Rattle.adf_volume.specs.Fits.{Fits}
+use Rattle.adf_volume.specs.Image.{root_of, word_in}
+use Rattle.adf_volume.specs.Layout.{Layout}
+use Rattle.adf_volume.specs.Start.{is_image_len}
+use Rattle.adf_survey.specs.Opening.{opening_in}
+use Rattle.adf_survey.specs.Start.{has_root_type}
+use Rattle.adf_rescue.specs.MadeRoot.{has_root, made_root, middle_block, no_stamps, rooted}
+use Rattle.adf_rescue.specs.Opened.{begins_with_dos, begun, has_data, is_mended, opened, says_data, type_byte}
+use Rattle.adf_rescue.proofs.MadeRoots.{before_rooted, behind_rooted, front_rooted, length_rooted, made_fits, made_rooted, made_slot}
+use Rattle.adf_rescue.proofs.MadeRoots.{root_is_whole, root_within, sized, undated, unnamed, whole_rooted}
 
 -- block 0 of the part of an image that is block b
 pub part_is_block : (image : List ℕ) (b : ℕ) → block (slice_range image (b * 512) (b * 512 + 512)) 0 ≡ block image b
@@ -39,43 +54,218 @@ pub begun_anew : (bs : List ℕ) (t : ℕ) → with_bytes bs 0 (68 ∷ 79 ∷ 83
 unfolding with_bytes
 begun_anew bs t = refl
 
--- as many bytes
-pub length_anew : (image : List ℕ) (t : ℕ) → 4 ≤ length image → length (codes "DOS" ++ t ∷ drop 4 image) ≡ length image
-length_anew image t long = omega (arith, length-drop 4 image)
+-- an image that begins as a volume, or is made to
 
--- an image that is short or begins with `DOS` stays as it is, and so do the bytes past the first four, and the number of bytes
-abbrev begun : List ℕ → Bool → Bool → ℕ → List ℕ
-begun image short dos t = cond (short || dos) image (codes "DOS" ++ t ∷ drop 4 image)
+pub begun_same : (image : List ℕ) → begins_with_dos image ≡ true → begun image ≡ image
+begun_same image h = cond-true (begins_with_dos image) image _ h
 
-anew_begun : (image : List ℕ) (short dos : Bool) (t : ℕ) → short ≡ false → dos ≡ false → begun image short dos t ≡ codes "DOS" ++ t ∷ drop 4 image
-anew_begun image short dos t s d = rw (s, d) refl
+pub begun_other : (image : List ℕ) → begins_with_dos image ≡ false → begun image ≡ codes "DOS" ++ type_byte image ∷ drop 4 image
+begun_other image h = cond-false (begins_with_dos image) image _ h
 
-same_begun : (image : List ℕ) (short dos : Bool) (t : ℕ) → dos ≡ true → begun image short dos t ≡ image
-same_begun image true dos t h = refl
-same_begun image false dos t h = rw h refl
+pub length_begun : (image : List ℕ) → 4 ≤ length image → length (begun image) ≡ length image
+length_begun image long = cond_both (begins_with_dos image) image _ (λ l. length l ≡ length image) (λ e. refl) (λ e. omega (arith, length-drop 4 image))
 
-rest_begun : (image : List ℕ) (short dos : Bool) (t : ℕ) → drop 4 (begun image short dos t) ≡ drop 4 image
-rest_begun image true dos t = refl
-rest_begun image false true t = refl
-rest_begun image false false t = refl
+rest_begun : (image : List ℕ) → drop 4 (begun image) ≡ drop 4 image
+rest_begun image = cond_both (begins_with_dos image) image _ (λ l. drop 4 l ≡ drop 4 image) (λ e. refl) (λ e. refl)
 
-length_begun : (image : List ℕ) (short dos : Bool) (t : ℕ) → nat_lt (length image) 4 ≡ short → length (begun image short dos t) ≡ length image
-length_begun image true dos t e = refl
-length_begun image false true t e = refl
-length_begun image false false t e =
-    let long : 4 ≤ length image = ltb-false (length image) 4 e in
-    omega (arith, length-drop 4 image)
+dos_begun : (image : List ℕ) → begins_with_dos (begun image) ≡ true
+dos_begun image = cond_both (begins_with_dos image) image _ (λ l. begins_with_dos l ≡ true) (λ e. e) (λ e. refl)
 
-pub same_opened : (image : List ℕ) → begins_with_dos image ≡ true → opened image ≡ image
-same_opened image h = same_begun image (nat_lt (length image) 4) (begins_with_dos image) (type_byte image) h
+-- bytes that are the same from a place on
+past : (xs ys : List ℕ) (n m : ℕ) → drop n xs ≡ drop n ys → n ≤ m → drop m xs ≡ drop m ys
+past xs ys n m e le =
+    let at : m ≡ n + (m - n) = omega arith in
+    ap (λ k. drop k xs) at ∙ sym (drop-drop (m - n) n xs) ∙ ap (drop (m - n)) e ∙ drop-drop (m - n) n ys ∙ ap (λ k. drop k ys) (sym at)
 
-pub rest_opened : (image : List ℕ) → drop 4 (opened image) ≡ drop 4 image
-rest_opened image = rest_begun image (nat_lt (length image) 4) (begins_with_dos image) (type_byte image)
+block_begun : (image : List ℕ) (b : ℕ) → 1 ≤ b → block (begun image) b ≡ block image b
+unfolding block
+block_begun image b h = ap (take (b * 512 + 512 - b * 512)) (past (begun image) image 4 (b * 512) (rest_begun image) (omega arith))
+
+-- the root of an image that is long enough
+
+module _ (image : List ℕ) (len : is_image_len (length image) ≡ true) where
+  long : 4 ≤ length image
+  long = let s = sized (length image) len in omega (arith, s.whole, s.low)
+
+  same_length : length (begun image) ≡ length image
+  same_length = length_begun image long
+
+  same_root : root_of (begun image) ≡ root_of image
+  same_root = ap (λ n. middle (n / 512)) same_length
+
+  same_middle : middle_block (begun image) ≡ middle_block image
+  same_middle = ap (block (begun image)) same_root ∙ block_begun image (root_of image) (let w = root_within image len in omega (arith, w.low))
+
+  same_has : has_root (begun image) ≡ has_root image
+  same_has = ap (λ b. has_root_type b && (long_sum b == 0)) same_middle
+
+  room : root_of (begun image) * 512 + 512 ≤ length (begun image)
+  room = let w = root_within image len in omega (arith, same_root, same_length, w.whole)
+
+  length_made : length (rooted (begun image)) ≡ length image
+  length_made = length_rooted (begun image) room ∙ same_length
+
+  front_made : slice_range (rooted (begun image)) 4 (root_of image * 512) ≡ slice_range image 4 (root_of image * 512)
+  front_made =
+      subst (λ r. slice_range (rooted (begun image)) 4 (r * 512) ≡ slice_range (begun image) 4 (r * 512)) same_root (front_rooted (begun image) room 4)
+      ∙ ap (take (root_of image * 512 - 4)) (rest_begun image)
+
+  behind_made : drop (root_of image * 512 + 512) (rooted (begun image)) ≡ drop (root_of image * 512 + 512) image
+  behind_made =
+      subst (λ r. drop (r * 512 + 512) (rooted (begun image)) ≡ drop (r * 512 + 512) (begun image)) same_root (behind_rooted (begun image) room)
+      ∙ past (begun image) image 4 (root_of image * 512 + 512) (rest_begun image) (omega arith)
+
+  kept_middle : has_root image ≡ true → block (rooted (begun image)) (root_of image) ≡ middle_block image
+  kept_middle h =
+      ap (λ (l : List ℕ). block l (root_of image)) (whole_rooted (begun image) (same_has ∙ h))
+      ∙ block_begun image (root_of image) (let w = root_within image len in omega (arith, w.low))
+
+  made_middle : has_root image ≡ false → block (rooted (begun image)) (root_of image) ≡ root_block (made_root (begun image))
+  made_middle h =
+      subst (λ r. block (rooted (begun image)) r ≡ root_block (made_root (begun image))) same_root (made_rooted (begun image) room (same_has ∙ h))
+
+  same_table : (s : ℕ) → s < SLOTS → word_in image (root_of image) (FIRST_SLOT + s) < 2 ^ 32
+      → word_in (rooted (begun image)) (root_of image) (FIRST_SLOT + s) ≡ word_in image (root_of image) (FIRST_SLOT + s)
+  same_table s lt small = elim (cases_Bool (has_root image)) [
+    | inl whole ↦ ap (λ b. word b (FIRST_SLOT + s)) (kept_middle whole)
+    | inr none ↦
+        ap (λ b. word b (FIRST_SLOT + s)) (made_middle none)
+        ∙ (made_slot (begun image) s lt (subst (λ b. word b (FIRST_SLOT + s) < 2 ^ 32) (sym same_middle) small)
+        ∙ ap (λ b. word b (FIRST_SLOT + s)) same_middle)
+  ]
+
+  middle_is_whole : (has_root_type (block (rooted (begun image)) (root_of image)) && (long_sum (block (rooted (begun image)) (root_of image)) == 0)) ≡ true
+  middle_is_whole = elim (cases_Bool (has_root image)) [
+    | inl whole ↦ ap (λ b. has_root_type b && (long_sum b == 0)) (kept_middle whole) ∙ whole
+    | inr none ↦ ap (λ b. has_root_type b && (long_sum b == 0)) (made_middle none) ∙ root_is_whole (made_root (begun image)) (made_fits (begun image))
+  ]
+
+-- an image that is opened as it is, or with a beginning and a root
+
+pub opened_kept : (image : List ℕ) → is_mended image ≡ false → opened image ≡ image
+opened_kept image h = cond-false (is_mended image) _ image h
+
+pub opened_mended : (image : List ℕ) → is_mended image ≡ true → opened image ≡ rooted (begun image)
+opened_mended image h = cond-true (is_mended image) _ image h
+
+pub mended_len : (image : List ℕ) → is_mended image ≡ true → is_image_len (length image) ≡ true
+mended_len image h = (and_parts (is_image_len (length image)) _ h).0
+
+pub mended_long : (image : List ℕ) → is_mended image ≡ true → 4 ≤ length image
+mended_long image h = long image (mended_len image h)
+
+pub begun_len : (image : List ℕ) → is_mended image ≡ true → is_image_len (length (begun image)) ≡ true
+begun_len image h = ap is_image_len (same_length image (mended_len image h)) ∙ mended_len image h
+
+pub same_opened : (image : List ℕ) → begins_with_dos image ≡ true → has_root image ≡ true → opened image ≡ image
+same_opened image dos root =
+    opened_kept image (and_right (is_image_len (length image)) _ (not_from_true _ (and_from (begins_with_dos image) (has_root image) dos root)))
+
+pub odd_opened : (image : List ℕ) → is_image_len (length image) ≡ false → opened image ≡ image
+odd_opened image odd = opened_kept image (and_left (is_image_len (length image)) _ odd)
+
+-- what holds of both holds of the opened image
+either : (image : List ℕ) (P : List ℕ → Type 0) → (is_image_len (length image) ≡ true → P (rooted (begun image))) → P image → P (opened image)
+either image P made same = cond_both (is_mended image) _ image P (λ h. made (mended_len image h)) (λ h. same)
 
 pub length_opened : (image : List ℕ) → length (opened image) ≡ length image
-length_opened image = length_begun image (nat_lt (length image) 4) (begins_with_dos image) (type_byte image) refl
+length_opened image = either image (λ l. length l ≡ length image) (length_made image) refl
 
--- an image that is long enough and does not begin with `DOS` is opened with four other bytes
-pub opened_anew : (image : List ℕ) → 4 ≤ length image → begins_with_dos image ≡ false → opened image ≡ codes "DOS" ++ type_byte image ∷ drop 4 image
-opened_anew image long other =
-    anew_begun image (nat_lt (length image) 4) (begins_with_dos image) (type_byte image) (le-ltb (length image) 4 long) other
+pub front_opened : (image : List ℕ) → slice_range (opened image) 4 (root_of image * 512) ≡ slice_range image 4 (root_of image * 512)
+front_opened image = either image (λ l. slice_range l 4 (root_of image * 512) ≡ slice_range image 4 (root_of image * 512)) (front_made image) refl
+
+pub behind_opened : (image : List ℕ) → drop (root_of image * 512 + 512) (opened image) ≡ drop (root_of image * 512 + 512) image
+behind_opened image = either image (λ l. drop (root_of image * 512 + 512) l ≡ drop (root_of image * 512 + 512) image) (behind_made image) refl
+
+pub table_opened : (image : List ℕ) (s : ℕ) → s < SLOTS → word_in image (root_of image) (FIRST_SLOT + s) < 2 ^ 32
+    → word_in (opened image) (root_of image) (FIRST_SLOT + s) ≡ word_in image (root_of image) (FIRST_SLOT + s)
+table_opened image s lt small =
+    either image (λ l. word_in l (root_of image) (FIRST_SLOT + s) ≡ word_in image (root_of image) (FIRST_SLOT + s))
+    (λ len. same_table image len s lt small) refl
+
+-- the opened image has a root
+
+middle_opened : (image : List ℕ) → middle_block (opened image) ≡ block (opened image) (root_of image)
+middle_opened image = ap (λ n. block (opened image) (middle (n / 512))) (length_opened image)
+
+no_root_mended : (image : List ℕ) → is_image_len (length image) ≡ true → has_root image ≡ false → is_mended image ≡ true
+no_root_mended image len none =
+    and_from (is_image_len (length image)) _ len (not_from_false _ (and_right (begins_with_dos image) (has_root image) none))
+
+pub root_opened : (image : List ℕ) → is_image_len (length image) ≡ true → has_root (opened image) ≡ true
+root_opened image len = elim (cases_Bool (is_mended image)) [
+  | inl mended ↦
+      ap (λ b. has_root_type b && (long_sum b == 0))
+      (middle_opened image ∙ ap (λ (l : List ℕ). block l (root_of image)) (opened_mended image mended)) ∙ middle_is_whole image len
+  | inr kept ↦ elim (cases_Bool (has_root image)) [
+    | inl whole ↦ ap has_root (opened_kept image kept) ∙ whole
+    | inr none ↦ let mended = no_root_mended image len none in absurd cc
+  ]
+]
+
+-- a root of which the middle block says nothing has no label and no dates
+
+module _ (image : List ℕ) (len : is_image_len (length image) ≡ true) (none : has_root_type (middle_block image) ≡ false) where
+  made_opened : middle_block (opened image) ≡ root_block (made_root (begun image))
+  made_opened =
+      let no_root : has_root image ≡ false = and_left (has_root_type (middle_block image)) _ none in
+      middle_opened image ∙ (ap (λ (l : List ℕ). block l (root_of image)) (opened_mended image (no_root_mended image len no_root))
+      ∙ made_middle image len no_root)
+
+  still_none : has_root_type (middle_block (begun image)) ≡ false
+  still_none = ap has_root_type (same_middle image len) ∙ none
+
+  pub unnamed_opened : (opening_in (opened image)).label ≡ []
+  unnamed_opened = ap label_told made_opened ∙ unnamed (begun image) still_none
+
+  pub undated_opened : (opening_in (opened image)).stamps ≡ no_stamps
+  undated_opened = ap stamps_at made_opened ∙ undated (begun image) still_none
+
+-- it begins as a volume
+
+first_bytes : (image : List ℕ) (n : ℕ) → 3 ≤ n → begins_with_dos (take n image) ≡ begins_with_dos image
+first_bytes image n h =
+    let one = get_or-take n image 0 0 (omega arith) in
+    let two = get_or-take n image 1 0 (omega arith) in
+    let three = get_or-take n image 2 0 (omega arith) in
+    λ i. (one i == 0x44) && (two i == 0x4F) && (three i == 0x53)
+
+dos_rooted : (image : List ℕ) → is_image_len (length image) ≡ true → begins_with_dos (rooted (begun image)) ≡ true
+dos_rooted image len =
+    let w = root_within image len in
+    let n : ℕ = root_of (begun image) * 512 in
+    let far : 3 ≤ n = omega (arith, same_root image len, w.low) in
+    sym (first_bytes (rooted (begun image)) n far) ∙ (ap begins_with_dos (before_rooted (begun image) (room image len))
+    ∙ (first_bytes (begun image) n far ∙ dos_begun image))
+
+pub dos_opened : (image : List ℕ) → is_image_len (length image) ≡ true → begins_with_dos (opened image) ≡ true
+dos_opened image len = elim (cases_Bool (is_mended image)) [
+  | inl mended ↦ ap begins_with_dos (opened_mended image mended) ∙ dos_rooted image len
+  | inr kept ↦ elim (cases_Bool (begins_with_dos image)) [
+    | inl dos ↦ ap begins_with_dos (opened_kept image kept) ∙ dos
+    | inr other ↦
+        let mended : is_mended image ≡ true =
+        and_from (is_image_len (length image)) _ len (not_from_false _ (and_left (begins_with_dos image) (has_root image) other)) in
+        absurd cc
+  ]
+]
+
+-- an image that a tree fits is not mended
+
+front_tests : (a b c d : Bool) → (a && b && c && d) ≡ true → (a && b && c) ≡ true
+front_tests true true true d h = refl
+front_tests true true false d h = absurd cc
+front_tests true false c d h = absurd cc
+front_tests false b c d h = absurd cc
+
+first_block : (image : List ℕ) → begins_with_dos (block image 0) ≡ begins_with_dos image
+unfolding block
+first_block image = first_bytes image 512 (omega arith)
+
+pub volumes_are_kept : (image : List ℕ) (t : Tree) (l : Layout) → Fits image t l → is_mended image ≡ false
+volumes_are_kept image t l fits =
+    let boot = block image 0 in
+    let dos = sym (first_block image)
+    ∙ front_tests (slice_index boot 0 == 0x44) (slice_index boot 1 == 0x4F) (slice_index boot 2 == 0x53) (nat_le (slice_index boot 3) 5) fits.boots.1.0 in
+    let root = and_from (has_root_type (middle_block image)) (long_sum (middle_block image) == 0) fits.root.1.0 fits.root.0 in
+    and_right (is_image_len (length image)) _ (not_from_true _ (and_from (begins_with_dos image) (has_root image) dos root))

@@ -1,3 +1,4 @@
+pub mod MadeRoot
 pub mod Opened
 pub mod Rescue
 pub mod Salvage

@@ -1,11 +1,13 @@
--- An image whose boot block was overwritten, as if that block began as the boot block of a volume.
+-- An image whose boot block or root was overwritten, as if these were those of a volume.
 -- Letters: b the number of a block; k a number of blocks.
-use Rattle.std.specs.Prelude.{ℕ, ◌==◌, ◌&&◌, ◌||◌, nat_lt, Bool, false, cond, List, ◌∷◌, ◌++◌, codes, drop, length, slice_index}
+use Rattle.std.specs.Prelude.{ℕ, ◌==◌, ◌&&◌, ◌||◌, not, nat_lt, Bool, false, cond, List, ◌∷◌, ◌++◌, codes, drop, length, slice_index}
 use Rattle.std.proofs.Common.{zero, suc}
 use Rattle.adf_fields.specs.Words.{block, long_sum}
 use Rattle.adf_blocks.specs.declared.layout.TheConstants.{DATA_HEAD, OWN_KEY, SECONDARY_TYPE, ST_FILE, TYPE, T_DATA, T_SHORT}
 use Rattle.adf_blocks.specs.Sizes.{blocks}
 use Rattle.adf_volume.specs.Image.{word_in}
+use Rattle.adf_volume.specs.Start.{is_image_len}
+use Rattle.adf_rescue.specs.MadeRoot.{has_root, rooted}
 
 -- block b says that it is a file's header: by its types, its own key and its sum
 abbrev pub says_file : List ℕ → ℕ → Bool
@@ -36,6 +38,14 @@ type_byte image = cond (has_data image (blocks image)) 0 1
 abbrev pub begins_with_dos : List ℕ → Bool
 begins_with_dos image = (slice_index image 0 == 0x44) && (slice_index image 1 == 0x4F) && (slice_index image 2 == 0x53)
 
--- the image with `DOS` and a type in place of its first four bytes; the image itself if it has fewer, or begins with `DOS`
+-- the image with `DOS` and a type in place of its first four bytes, if it does not begin with `DOS`
+abbrev pub begun : List ℕ → List ℕ
+begun image = cond (begins_with_dos image) image (codes "DOS" ++ type_byte image ∷ drop 4 image)
+
+-- the image has the length of a volume, but does not begin with `DOS` or has no whole root
+abbrev pub is_mended : List ℕ → Bool
+is_mended image = is_image_len (length image) && not (begins_with_dos image && has_root image)
+
+-- the image as a rescue reads it: where it must be mended, with a beginning and a root
 abbrev pub opened : List ℕ → List ℕ
-opened image = cond (nat_lt (length image) 4 || begins_with_dos image) image (codes "DOS" ++ type_byte image ∷ drop 4 image)
+opened image = cond (is_mended image) (rooted (begun image)) image

@@ -1,7 +1,7 @@
 -- A rescue of an image: the entries of its survey that stand become additions, in the order of the walk; the others are left out.
 -- Letters: w the walk of the survey, n the node of an entry, h the block of its header; `sound` tells whether an entry is sound;
 -- vs the verdicts on the entries before, t the tree of their additions; dir the path of a directory in that tree.
-use Rattle.std.specs.Prelude.{◌≡◌, ◌≢◌, ◌==◌, ◌&&◌, ◌-◌, ℕ, Bool, nat_le, cond, List, [], ◌∷◌, ◌++◌, codes, decimal, slice_get}
+use Rattle.std.specs.Prelude.{◌≡◌, ◌≢◌, ◌==◌, ◌&&◌, ◌⊎◌, ◌-◌, ℕ, Bool, true, nat_le, cond, List, [], ◌∷◌, ◌++◌, codes, decimal, slice_get}
 use Rattle.std.specs.Prelude.{Option, Some, None, Result, Ok, Err, is_ok}
 use Rattle.std.specs.List.{flat_map}
 use Rattle.std.specs.Option.{option_and_then}
@@ -129,6 +129,10 @@ left_out_from n (v ∷ vs) = left_out_by n v ++ left_out_from (suc n) vs
 abbrev pub rescue_leaves : List ℕ → List (Role × ℕ) → (ℕ → Bool) → List LeftOut
 rescue_leaves image w sound = left_out_from 1 (verdicts image w sound (heads w))
 
--- no entry stands, and there is a finding
-abbrev pub StandsNothing : List ℕ → List (Role × ℕ) → List FindingValue → (ℕ → Bool) → Type 0
-StandsNothing image w fs sound = (rescued_additions image w sound ≡ []) × (fs ≢ [])
+-- the image was mended, or there is a finding
+abbrev pub HasFault : Bool → List FindingValue → Type 0
+HasFault mended fs = (mended ≡ true) ⊎ (fs ≢ [])
+
+-- no entry stands, and there is a fault
+abbrev pub StandsNothing : List ℕ → List (Role × ℕ) → List FindingValue → (ℕ → Bool) → Bool → Type 0
+StandsNothing image w fs sound mended = (rescued_additions image w sound ≡ []) × HasFault mended fs

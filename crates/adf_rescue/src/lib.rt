@@ -1,8 +1,10 @@
 //! Rescues: the volume of all that stands on an image, and what is left out.
 #![tactic(auto)]
 
+mod image;
 mod laws;
 mod left_out;
+mod made_root;
 mod opened;
 mod rescues;
 mod rooms;
@@ -13,5 +15,5 @@ pub use crate::laws::{
     one_rescue, rescued_additions_have_their_tree, sound_files_stand, whole_is_kept,
 };
 pub use crate::left_out::{LeftOut, Why};
-pub use crate::opened::{begins_with_dos, opened as opened_image, opened_keeps};
+pub use crate::opened::{is_mended, opened as opened_image, opened_keeps};
 pub use crate::rescues::{Rescued, rescue};

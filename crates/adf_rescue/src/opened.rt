@@ -1,23 +1,20 @@
-// Images whose boot block was overwritten.
+// Images whose boot block or root was overwritten.
 
-ghost use Rattle.std.specs.Prelude.{◌≡◌, ◌<◌, ◌≤◌, ◌∷◌, ◌++◌, ℕ, List, IfOk, codes, drop, length, true};
-ghost use Rattle.adf_fields.specs.Words.{block};
+ghost use Rattle.std.specs.Prelude.{◌≡◌, ◌<◌, ◌≤◌, ◌+◌, ◌*◌, ◌^◌, ◌∷◌, [], ℕ, List, IfOk, drop, false, length, slice_range, true};
+ghost use Rattle.adf_blocks.specs.declared.layout.TheConstants.{FIRST_SLOT, SLOTS};
 ghost use Rattle.adf_blocks.specs.Sizes.{blocks};
-ghost use Rattle.adf_rescue.specs.Opened.{begins_with_dos, has_data, opened, says_data, says_file, type_byte};
+ghost use Rattle.adf_volume.specs.Image.{root_of, word_in};
+ghost use Rattle.adf_volume.specs.Start.{is_image_len};
+ghost use Rattle.adf_survey.specs.Opening.{opening_in};
+ghost use Rattle.adf_survey.specs.Start.{has_root_type};
+ghost use Rattle.adf_rescue.specs.MadeRoot.{has_root, middle_block, no_stamps};
+ghost use Rattle.adf_rescue.specs.Opened.{begins_with_dos, begun, has_data, is_mended, opened, says_data, says_file, type_byte};
 
+use crate::image::{block_in, is_image_len};
+use crate::made_root::{has_root, make_root};
 use adf_blocks::{DATA_HEAD, OWN_KEY, SECONDARY_TYPE, ST_FILE, T_DATA, T_SHORT, TYPE};
-use adf_fields::{BLOCK_LEN, Block, NoMemory, put_bytes};
+use adf_fields::{BLOCK_LEN, NoMemory, put_bytes};
 use std::alloc::Global;
-
-// A block of an image.
-#[tactic(auto, using(crate::proofs::OpenedImages::part_is_block))]
-fn block_in<'a>(image: &'a [u8], b: usize) -> Block<'a>
-    requires { b < blocks image.now }
-    ensures { result ≡ block image.now b }
-{
-    let start = b * BLOCK_LEN;
-    Block::at(&image[start..start + BLOCK_LEN], 0).unwrap()
-}
 
 // Whether block `b` says that it is a file's header.
 fn says_file(image: &[u8], b: usize) -> bool
@@ -64,40 +61,89 @@ fn type_byte(image: &[u8]) -> u8
     if has_data(image) { 0 } else { 1 }
 }
 
-/// Whether an image begins with `DOS`.
-pub fn begins_with_dos(image: &[u8]) -> bool
+// Whether an image begins with `DOS`.
+fn begins_with_dos(image: &[u8]) -> bool
     ensures { result ≡ begins_with_dos image.now }
 {
     matches!(image, [b'D', b'O', b'S', ..])
 }
 
-// Writes `DOS` and a type in place of the first four bytes of an image.
-#[tactic(auto, using(crate::proofs::OpenedImages::begun_anew))]
-fn begin_anew(image: &mut [u8], type_byte: u8)
+// Writes `DOS` and a type in place of the first four bytes of an image, if it does not begin with `DOS`.
+#[tactic(auto, using(crate::proofs::OpenedImages::begun_anew, crate::proofs::OpenedImages::begun_same, crate::proofs::OpenedImages::begun_other))]
+fn begin(image: &mut [u8])
     requires { 4 ≤ length image.old }
-    ensures { image.new ≡ codes "DOS" ++ type_byte ∷ drop 4 image.old }
+    ensures { image.new ≡ begun image.old }
 {
-    put_bytes(image, 0, &[b'D', b'O', b'S', type_byte]);
+    if begins_with_dos(image) {
+        return;
+    }
+    let kind = type_byte(image);
+    put_bytes(image, 0, &[b'D', b'O', b'S', kind]);
 }
 
-/// The image as if its first block began with `DOS` and a type, if it does not begin with `DOS`: OFS (0) if some OFS
-/// data block names a file's header that says that it is one, else FFS (1). An image of fewer than four bytes stays as
-/// it is. `NoMemory` if an allocation fails.
-#[tactic(auto, using(crate::proofs::OpenedImages::opened_anew, crate::proofs::OpenedImages::length_anew))]
+/// Whether an image has the length of a volume, but does not begin with `DOS` or has no whole root.
+pub fn is_mended(image: &[u8]) -> bool
+    ensures { result ≡ is_mended image.now }
+{
+    is_image_len(image.len()) && !(begins_with_dos(image) && has_root(image))
+}
+
+// A copy of an image.
+fn copied(alloc: Global, image: &[u8]) -> Result<Vec<u8>, NoMemory>
+    ensures { IfOk result (λ v. v.items ≡ image.now) }
+{
+    image.to_vec(alloc).map_err(|_| NoMemory)
+}
+
+// Mends an image that must be mended.
+#[tactic(auto, using(crate::proofs::OpenedImages::mended_long, crate::proofs::OpenedImages::begun_len))]
+fn mend(image: &mut [u8])
+    requires { is_mended image.old ≡ true }
+    ensures { image.new ≡ opened image.old }
+{
+    begin(image);
+    make_root(image);
+}
+
+/// The image as a rescue reads it. Where it does not begin with `DOS`, it begins with `DOS` and a type: OFS (0) if some
+/// OFS data block names a file's header that says that it is one, else FFS (1). Where its middle block is not a whole
+/// root, by words 0 and 127 and the checksum, it has one: with words 6 to 77 as they stand, the bitmap pages that say
+/// that they are pages, and the label and the dates only if words 0 and 127 are those of a root. An image that begins
+/// with `DOS` and has a whole root stays as it is, and so does one of a length that no volume has. `NoMemory` if an
+/// allocation fails.
+#[tactic(auto, using(crate::proofs::OpenedImages::opened_kept))]
 pub fn opened(alloc: Global, image: &[u8]) -> Result<Vec<u8>, NoMemory>
     ensures { IfOk result (λ v. v.items ≡ opened image.now) }
 {
-    let mut bytes = image.to_vec(alloc).map_err(|_| NoMemory)?;
-    if image.len() < 4 || begins_with_dos(image) {
+    let mut bytes = copied(alloc, image)?;
+    if !is_mended(image) {
         return Ok(bytes);
     }
-    begin_anew(&mut bytes, type_byte(image));
+    mend(&mut bytes);
     Ok(bytes)
 }
 
-/// An image that begins with `DOS` is opened as it is, and no other byte than the first four is ever changed.
+/// An image that begins with `DOS` and has a whole root is opened as it is, and so is one of another length. An opened
+/// image has as many bytes; only the first four and the middle block are changed, and of that not the table, words 6
+/// to 77. If the length is that of a volume, it begins with `DOS` and has a whole root, which has no label and no dates
+/// if the middle block does not say that it is one.
 pub fn opened_keeps()
-    ensures same { (image : List ℕ) → begins_with_dos image ≡ true → opened image ≡ image }
-    ensures rest { (image : List ℕ) → drop 4 (opened image) ≡ drop 4 image }
+    ensures same { (image : List ℕ) → begins_with_dos image ≡ true → has_root image ≡ true → opened image ≡ image }
+    ensures odd { (image : List ℕ) → is_image_len (length image) ≡ false → opened image ≡ image }
     ensures length { (image : List ℕ) → length (opened image) ≡ length image }
+    ensures before { (image : List ℕ)
+        → slice_range (opened image) 4 (root_of image * 512) ≡ slice_range image 4 (root_of image * 512) }
+    ensures behind { (image : List ℕ)
+        → drop (root_of image * 512 + 512) (opened image) ≡ drop (root_of image * 512 + 512) image }
+    ensures table { (image : List ℕ) (s : ℕ) → s < SLOTS
+        → word_in image (root_of image) (FIRST_SLOT + s) < 2 ^ 32
+        → word_in (opened image) (root_of image) (FIRST_SLOT + s)
+        ≡ word_in image (root_of image) (FIRST_SLOT + s) }
+    ensures begins { (image : List ℕ) → is_image_len (length image) ≡ true
+        → begins_with_dos (opened image) ≡ true }
+    ensures root { (image : List ℕ) → is_image_len (length image) ≡ true → has_root (opened image) ≡ true }
+    ensures label { (image : List ℕ) → is_image_len (length image) ≡ true
+        → has_root_type (middle_block image) ≡ false → (opening_in (opened image)).label ≡ [] }
+    ensures stamps { (image : List ℕ) → is_image_len (length image) ≡ true
+        → has_root_type (middle_block image) ≡ false → (opening_in (opened image)).stamps ≡ no_stamps }
 {}

@@ -8,7 +8,7 @@ ghost use Rattle.adf_survey.specs.Marked.{AreMarks};
 ghost use Rattle.adf_survey.specs.Survey.{FindingValue, IsSurvey};
 ghost use Rattle.adf_build.specs.Laid.{IsLaid};
 ghost use Rattle.adf_build.specs.Building.{IsBuildable};
-ghost use Rattle.adf_rescue.specs.Rescue.{StandsNothing, rescue_leaves, rescued_tree, verdicts};
+ghost use Rattle.adf_rescue.specs.Rescue.{HasFault, StandsNothing, rescue_leaves, rescued_tree, verdicts};
 ghost use Rattle.adf_rescue.specs.Salvage.{free_blocks as blocks_free, IsSalvage};
 
 use crate::left_out::LeftOut;
@@ -48,14 +48,25 @@ fn salvaged(
     Ok(salvage)
 }
 
-// Whether no entry stands, and there is a finding.
-fn stands_nothing(survey: &Survey<'_>, salvage: &Salvage) -> bool
+// Whether the image was mended, or there is a finding.
+fn has_fault(survey: &Survey<'_>, mended: bool) -> bool
+    ensures { (w : List (Role × ℕ)) (fs : List FindingValue) → IsSurvey survey.now.image w fs
+        → IsTrue result ↔ HasFault mended fs }
+{
+    if mended {
+        return true;
+    }
+    !survey.findings().is_empty()
+}
+
+// Whether no entry stands, and there is a fault.
+fn stands_nothing(survey: &Survey<'_>, salvage: &Salvage, mended: bool) -> bool
     ensures { (w : List (Role × ℕ)) (fs : List FindingValue) (sound : ℕ → Bool)
         → IsSurvey survey.now.image w fs
         → IsSalvage survey.now.image (verdicts survey.now.image w sound (heads w)) salvage.now
-        → IsTrue result ↔ StandsNothing survey.now.image w fs sound }
+        → IsTrue result ↔ StandsNothing survey.now.image w fs sound mended }
 {
-    if survey.findings().is_empty() {
+    if !has_fault(survey, mended) {
         return false;
     }
     salvage.draft.len() == 0
@@ -75,12 +86,12 @@ fn laid(alloc: Global, draft: Draft, blocks: u32) -> Result<Vec<u8>, NoMemory>
 }
 
 /// The new volume of all that stands on a surveyed image: its sound files and its directories, in as many blocks;
-/// and the entries that are left out. `None` if no entry stands and there is a finding. `NoMemory` if an allocation
-/// fails.
-pub fn rescue(alloc: Global, survey: &Survey<'_>) -> Result<Option<Rescued>, NoMemory>
+/// and the entries that are left out. `None` if no entry stands, and there is a finding, or the image was mended.
+/// `NoMemory` if an allocation fails.
+pub fn rescue(alloc: Global, survey: &Survey<'_>, mended: bool) -> Result<Option<Rescued>, NoMemory>
     ensures none { (w : List (Role × ℕ)) (fs : List FindingValue) (sound : ℕ → Bool)
         → IsSurvey survey.now.image w fs → AreMarks survey.now.image w fs sound
-        → IfOk result (λ r. IsNone r ↔ StandsNothing survey.now.image w fs sound) }
+        → IfOk result (λ r. IsNone r ↔ StandsNothing survey.now.image w fs sound mended) }
     ensures laid { (w : List (Role × ℕ)) (fs : List FindingValue) (sound : ℕ → Bool)
         → IsSurvey survey.now.image w fs → AreMarks survey.now.image w fs sound
         → IfOk result (λ r. IfSome r (λ v.
@@ -100,7 +111,7 @@ pub fn rescue(alloc: Global, survey: &Survey<'_>) -> Result<Option<Rescued>, NoM
     let blocks = opening.blocks;
     let free = free_blocks(blocks);
     let salvage = salvaged(alloc, survey, opening, free)?;
-    if stands_nothing(survey, &salvage) {
+    if stands_nothing(survey, &salvage, mended) {
         return Ok(None);
     }
     let Salvage {

@@ -57,8 +57,8 @@ it_finds e = cc
 same_rescue : (image bytes opened_image opened_bytes : List ℕ) (reply : Reply) → 512 * MOST_BLOCKS < length image → 512 * MOST_BLOCKS < length bytes
     → RescuesFound image opened_image [] bad_size reply → RescuesFound bytes opened_bytes [] bad_size reply
 same_rescue image bytes opened_image opened_bytes reply a b (sound, marks, inl (none, (f, first, e))) =
-    ((λ n. false), no_marks opened_bytes, inl ((refl, it_finds), (f, long_fault image bytes f a b first, e)))
-same_rescue image bytes opened_image opened_bytes reply a b (sound, marks, inr (some, e)) = absurd (some (refl, it_finds))
+    ((λ n. false), no_marks opened_bytes, inl ((refl, inr it_finds), (f, long_fault image bytes f a b first, e)))
+same_rescue image bytes opened_image opened_bytes reply a b (sound, marks, inr (some, e)) = absurd (some (refl, inr it_finds))
 
 -- an image that is opened is as long
 long_opened : (image : List ℕ) → 512 * MOST_BLOCKS < length image → 512 * MOST_BLOCKS < length (opened image)

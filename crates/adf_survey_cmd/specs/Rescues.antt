@@ -8,7 +8,7 @@ use Rattle.adf_survey.specs.Lookup.{path_to}
 use Rattle.adf_survey.specs.Marked.{AreMarks}
 use Rattle.adf_survey.specs.Survey.{FindingValue, IsSurvey}
 use Rattle.adf_build.specs.Laid.{IsLaid}
-use Rattle.adf_rescue.specs.Opened.{opened}
+use Rattle.adf_rescue.specs.Opened.{is_mended, opened}
 use Rattle.adf_rescue.specs.Rescue.{StandsNothing, rescue_leaves, rescued_tree}
 use Rattle.adf_rescue.specs.declared.left_out.LeftOut.{LeftOut}
 use Rattle.adf_rescue.specs.declared.left_out.Why.{Why}
@@ -49,7 +49,8 @@ WritesVolume image w sound reply =
 -- the rescue of an input by the marks of the entries that are found in an image: its volume, or where nothing stands the first fault of the input
 abbrev pub RescuesBy : List ℕ → List ℕ → List (Role × ℕ) → List FindingValue → (ℕ → Bool) → Reply → Type 0
 RescuesBy input image w fs sound reply =
-    (StandsNothing image w fs sound × RefusesImage input reply) ⊎ ((¬ StandsNothing image w fs sound) × WritesVolume image w sound reply)
+    (StandsNothing image w fs sound (is_mended input) × RefusesImage input reply)
+    ⊎ ((¬ StandsNothing image w fs sound (is_mended input)) × WritesVolume image w sound reply)
 
 -- the rescue of an input by what is found in an image
 abbrev pub RescuesFound : List ℕ → List ℕ → List (Role × ℕ) → List FindingValue → Reply → Type 0
@@ -59,6 +60,6 @@ RescuesFound input image w fs reply = (sound : ℕ → Bool) × AreMarks image w
 abbrev pub RescuesIn : List ℕ → List ℕ → Reply → Type 0
 RescuesIn input image reply = (w : List (Role × ℕ)) × (fs : List FindingValue) × IsSurvey image w fs × RescuesFound input image w fs reply
 
--- `adf-survey rescue` writes the volume of all that stands in the input, whose boot block may be overwritten
+-- `adf-survey rescue` writes the volume of all that stands in the input, whose boot block and root may be overwritten
 abbrev pub Rescues : List ℕ → Reply → Type 0
 Rescues input reply = RescuesIn input (opened input) reply

@@ -12,7 +12,7 @@ ghost use Rattle.adf_survey_cmd.specs.Rescues.{Rescues, left_out_line, left_out_
 
 use crate::runs::push_path;
 use adf_cmd::volume_of;
-use adf_rescue::{LeftOut, Rescued, Why, begins_with_dos, opened_image, rescue};
+use adf_rescue::{LeftOut, Rescued, Why, is_mended, opened_image, rescue};
 use adf_runs::{Outcome, Sink, write_all};
 use adf_survey::{Survey, survey};
 use std::alloc::{AllocError, Global};
@@ -108,22 +108,22 @@ fn rescue_opened<W: Sink>(alloc: Global, input: &[u8], image: &[u8], output: &mu
         return Outcome::NoMemory;
     };
     found.marks();
-    match rescue(alloc, &found) {
+    match rescue(alloc, &found, is_mended(input)) {
         Ok(Some(rescued)) => write_rescued(alloc, &found, &rescued, output),
         Ok(None) => refuse(alloc, input),
         Err(_) => Outcome::NoMemory,
     }
 }
 
-/// Writes the new volume of all that stands on an input, whose boot block may be overwritten; errors get a line for each entry
-/// that it leaves out. If nothing stands and there is a finding, errors get the line of the first fault.
+/// Writes the new volume of all that stands on an input, whose boot block and root may be overwritten; errors get a line for
+/// each entry that it leaves out. If nothing stands, and the input is not a valid volume, errors get the line of its first fault.
 pub fn rescue_image<W: Sink>(alloc: Global, input: &[u8], output: &mut W) -> Outcome
     requires { W.has_failed output.old ≡ false }
     ensures ends { EndsBy (Rescues input.now) result (W.held output.old) (W.held output.new) }
     ensures read { is_read_fault result ≡ false }
     ensures written { W.has_failed output.new ≡ is_write_fault result }
 {
-    if begins_with_dos(input) {
+    if !is_mended(input) {
         return rescue_opened(alloc, input, input, output);
     }
     match opened_image(alloc, input) {

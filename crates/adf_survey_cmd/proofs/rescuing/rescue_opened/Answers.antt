@@ -2,6 +2,7 @@ use Rattle.std.proofs.Common.{◌≡◌, ◌∙◌, ℕ, Bool, List, ap, false, 
 use Rattle.adf_survey.specs.Marked.{mark_in}
 use Rattle.adf_survey.specs.Parts.{finding_value}
 use Rattle.adf_survey.specs.Survey.{FindingValue, IsSurvey}
+use Rattle.adf_rescue.specs.Opened.{is_mended}
 use Rattle.adf_rescue.specs.Rescue.{StandsNothing}
 use Rattle.adf_cmd.proofs.AnswerLaws.{refused_image_ends}
 use Rattle.adf_runs.proofs.Endings.{ends_weaker}
@@ -21,8 +22,8 @@ returns-in-Ok-Some-clause-ends g c =
     let kept = c.in-Ok-Some.ensures in
     let is = c.in-Ok-Some.field-0-is in
     let volume = c.in-Ok-Some.rescued.image.items in
-    let some : ¬ StandsNothing v.image w fs sound = λ nothing.
-    let clash : true ≡ false = ap is_some (sym is) ∙ (kept.none w fs sound here marks).1 nothing in cc in
+    let some : ¬ StandsNothing v.image w fs sound (is_mended input) = λ nothing.
+    let clash : true ≡ false = ap is_some (sym is) ∙ (kept.none w fs sound here marks).1 (subst (StandsNothing v.image w fs sound) (sym c.is_mended.ensures) nothing) in cc in
     ends_weaker (λ reply. reply ≡ rescue_reply v.image w volume c.in-Ok-Some.rescued.left_out.items) (Rescues input) _ _ _
     (λ reply e. found_answers input v.image w fs sound reply (c.in-Ok.ensures.image ∙ c.requires.opened) here marks
     (inr (
@@ -44,7 +45,8 @@ refuse-requires g c =
     let here = subst (λ (image : List ℕ). IsSurvey image w fs) (sym c.in-Ok.ensures.image) survey in
     let sound : ℕ → Bool = mark_in v in
     let marks = c.marks.ensures w fs here in
-    let nothing = (c.in-Ok-None.ensures.none w fs sound here marks).0 (ap is_some c.in-Ok-None.field-0-is) in
+    let nothing =
+    subst (StandsNothing v.image w fs sound) c.is_mended.ensures ((c.in-Ok-None.ensures.none w fs sound here marks).0 (ap is_some c.in-Ok-None.field-0-is)) in
     none_fits_it c.args.input.now v.image w fs (c.in-Ok.ensures.image ∙ c.requires.opened) here nothing.1
 
 pub returns-in-Ok-None-clause-ends : goal.returns-in-Ok-None-clause-ends
@@ -56,7 +58,8 @@ returns-in-Ok-None-clause-ends g c =
     let here = subst (λ (image : List ℕ). IsSurvey image w fs) (sym c.in-Ok.ensures.image) survey in
     let sound : ℕ → Bool = mark_in v in
     let marks = c.marks.ensures w fs here in
-    let nothing = (c.in-Ok-None.ensures.none w fs sound here marks).0 (ap is_some c.in-Ok-None.field-0-is) in
+    let nothing =
+    subst (StandsNothing v.image w fs sound) c.is_mended.ensures ((c.in-Ok-None.ensures.none w fs sound here marks).0 (ap is_some c.in-Ok-None.field-0-is)) in
     refused_image_ends c.refuse.result input (Rescues input) _
     (λ reply refuses. found_answers input v.image w fs sound reply (c.in-Ok.ensures.image ∙ c.requires.opened) here marks (inl (nothing, refuses)))
     c.refuse.ensures.refused

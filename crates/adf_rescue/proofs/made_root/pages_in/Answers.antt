@@ -1,0 +1,20 @@
+use Rattle.std.proofs.Common.{◌≡◌, ◌<◌, ℕ, arith, get_or, rules, subst}
+use Rattle.std.proofs.lemmas.List.FromFn.{fill_by_all}
+use Rattle.adf_blocks.specs.declared.layout.TheConstants.{ROOT_PAGES}
+use Rattle.adf_rescue.specs.MadeRoot.{page_found}
+use Rattle.adf_rescue.proofs.MadeRoots.{fill_step}
+use Rattle.adf_rescue.proofs.made_root.pages_in.Goals as goal
+
+pub loop-i-preserved : goal.loop-i-preserved
+loop-i-preserved c = record {
+  whole = search rules;
+  filled = fill_step (page_found c.args.image.now) c.loop-i.pages c.loop-i.i _ (omega (arith, c.loop-i.invariant.whole)) c.loop-i.invariant.filled
+      c.page_found.ensures;
+}
+
+pub returns : goal.returns
+returns c =
+    let f : ℕ → ℕ = page_found c.args.image.now in
+    let last : c.loop-i.i ≡ ROOT_PAGES = omega arith in
+    fill_by_all f c.loop-i.pages ROOT_PAGES 0 c.loop-i.invariant.whole
+    (subst (λ n. (k : ℕ) → k < n → get_or c.loop-i.pages k 0 ≡ f k) last c.loop-i.invariant.filled)

@@ -1,0 +1,20 @@
+use Rattle.std.proofs.Common.{◌≡◌, ◌<◌, ◌+◌, ℕ, arith, get_or, rules, subst}
+use Rattle.std.proofs.lemmas.List.FromFn.{fill_by_all}
+use Rattle.adf_fields.specs.Words.{word}
+use Rattle.adf_blocks.specs.declared.layout.TheConstants.{FIRST_SLOT, SLOTS}
+use Rattle.adf_rescue.proofs.MadeRoots.{fill_step}
+use Rattle.adf_rescue.proofs.made_root.slots_in.Goals as goal
+
+pub loop-s-preserved : goal.loop-s-preserved
+loop-s-preserved c = record {
+  whole = search rules;
+  filled = fill_step (λ s. word c.args.root.now (FIRST_SLOT + s)) c.loop-s.slots c.loop-s.s _ (omega (arith, c.loop-s.invariant.whole))
+      c.loop-s.invariant.filled c.word.ensures;
+}
+
+pub returns : goal.returns
+returns c =
+    let f : ℕ → ℕ = λ s. word c.args.root.now (FIRST_SLOT + s) in
+    let last : c.loop-s.s ≡ SLOTS = omega arith in
+    fill_by_all f c.loop-s.slots SLOTS 0 c.loop-s.invariant.whole
+    (subst (λ n. (k : ℕ) → k < n → get_or c.loop-s.slots k 0 ≡ f k) last c.loop-s.invariant.filled)

@@ -1,0 +1,75 @@
+-- The root of an image whose middle block is not a whole root, made of what still says what it is.
+-- Letters: b the bytes of a block, or its number in an image; i the number of a bitmap page.
+use Rattle.std.specs.Prelude.{ℕ, ◌+◌, ◌==◌, ◌&&◌, ◌||◌, not, nat_le, nat_lt, Bool, cond, List, [], map}
+use Rattle.std.specs.List.{range_with_len}
+use Rattle.adf_fields.specs.Words.{block, long_sum, with_block, word}
+use Rattle.adf_tree.specs.declared.entry.Stamps.{Stamps}
+use Rattle.adf_blocks.specs.declared.layout.TheConstants.{FIRST_PAGE, FIRST_SLOT, ROOT_PAGES, SLOTS, TYPE, T_DATA, T_LIST, T_SHORT}
+use Rattle.adf_blocks.specs.RootBlock.{RootFields, label_told, root_block, stamps_at}
+use Rattle.adf_blocks.specs.Sizes.{blocks}
+use Rattle.adf_volume.specs.Image.{root_of, word_in}
+use Rattle.adf_survey.specs.Start.{has_root_type}
+
+-- the middle block of an image, where its root is
+abbrev pub middle_block : List ℕ → List ℕ
+middle_block image = block image (root_of image)
+
+-- the middle block is a whole root: by its types and its sum
+abbrev pub has_root : List ℕ → Bool
+has_root image = has_root_type (middle_block image) && (long_sum (middle_block image) == 0)
+
+-- a block says that it is a bitmap page: its sum is right, and its first word is not that of another kind of block
+abbrev pub is_page : List ℕ → Bool
+is_page b =
+    (long_sum b == 0)
+    && not ((word b TYPE == 0) || (word b TYPE == T_SHORT) || (word b TYPE == T_DATA) || (word b TYPE == T_LIST))
+
+-- block b of an image, behind the boot blocks, says so
+abbrev pub says_page : List ℕ → ℕ → Bool
+says_page image b = nat_le 2 b && nat_lt b (blocks image) && is_page (block image b)
+
+-- the block of page i: the one that the middle block names for it, or the one in its place behind the root, if that says
+-- that it is a page; otherwise 0
+abbrev pub page_found : List ℕ → ℕ → ℕ
+page_found image i =
+    let named = word_in image (root_of image) (FIRST_PAGE + i) in
+    let behind = root_of image + 1 + i in
+    cond (says_page image named) named (cond (says_page image behind) behind 0)
+
+-- the words of a root's table
+abbrev pub slots_in : List ℕ → List ℕ
+slots_in b = map (λ s. word b (FIRST_SLOT + s)) (range_with_len 0 SLOTS)
+
+-- the blocks of the pages that the root names
+abbrev pub pages_in : List ℕ → List ℕ
+pages_in image = map (page_found image) (range_with_len 0 ROOT_PAGES)
+
+-- the label of a block that says that it is a root; otherwise none
+abbrev pub label_in : List ℕ → List ℕ
+label_in b = cond (has_root_type b) (label_told b) []
+
+-- no dates
+abbrev pub no_stamps : Stamps
+no_stamps = record {
+  root = record { days = 0; mins = 0; ticks = 0 };
+  altered = record { days = 0; mins = 0; ticks = 0 };
+  created = record { days = 0; mins = 0; ticks = 0 };
+}
+
+-- the dates of a block that says that it is a root; otherwise none
+abbrev pub stamps_in : List ℕ → Stamps
+stamps_in b = cond (has_root_type b) (stamps_at b) no_stamps
+
+-- the fields of the root that is made: the table as it stands, the pages that are found, and no bitmap extension block
+abbrev pub made_root : List ℕ → RootFields
+made_root image = record {
+  slots = slots_in (middle_block image);
+  pages = pages_in image;
+  map_ext = 0;
+  label = label_in (middle_block image);
+  stamps = stamps_in (middle_block image);
+}
+
+-- the image with the root that is made in its middle, if it has no whole root there
+abbrev pub rooted : List ℕ → List ℕ
+rooted image = cond (has_root image) image (with_block image (root_of image) (root_block (made_root image)))

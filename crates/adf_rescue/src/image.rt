@@ -1,0 +1,42 @@
+// The blocks of an image.
+
+ghost use Rattle.std.specs.Prelude.{◌≡◌, ◌<◌, ◌+◌, ◌*◌, ◌≤◌, ◌^◌, length, true};
+ghost use Rattle.adf_fields.specs.Words.{block};
+ghost use Rattle.adf_blocks.specs.Sizes.{blocks};
+ghost use Rattle.adf_volume.specs.Image.{root_of};
+ghost use Rattle.adf_volume.specs.Start.{is_image_len};
+
+use adf_blocks::is_allowed_size;
+use adf_fields::{BLOCK_LEN, Block};
+
+/// Whether a volume may have this number of bytes.
+pub fn is_image_len(size: usize) -> bool
+    ensures { result ≡ is_image_len size }
+{
+    match u32::try_from(size / BLOCK_LEN) {
+        Ok(blocks) => size % BLOCK_LEN == 0 && is_allowed_size(blocks),
+        Err(_) => false,
+    }
+}
+
+/// A block of an image.
+#[tactic(auto, using(crate::proofs::OpenedImages::part_is_block))]
+pub fn block_in<'a>(image: &'a [u8], b: usize) -> Block<'a>
+    requires { b < blocks image.now }
+    ensures { result ≡ block image.now b }
+{
+    let start = b * BLOCK_LEN;
+    Block::at(&image[start..start + BLOCK_LEN], 0).unwrap()
+}
+
+/// The block of the root.
+#[tactic(auto, using(crate::proofs::MadeRoots::root_within))]
+pub fn root_of(image: &[u8]) -> u32
+    requires { is_image_len (length image.now) ≡ true }
+    ensures exact { result ≡ root_of image.now }
+    ensures within { result < blocks image.now }
+    ensures whole { result * 512 + 512 ≤ length image.now }
+    ensures small { result < 2 ^ 20 }
+{
+    (image.len() / BLOCK_LEN / 2) as u32
+}
