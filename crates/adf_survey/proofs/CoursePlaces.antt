@@ -4,9 +4,9 @@ use Rattle.std.proofs.Common.{◌≡◌, ◌≢◌, ℕ, zero, suc, length, List
 use Rattle.adf_blocks.specs.declared.layout.TheConstants.{EXTENSION, NEXT_IN_CHAIN, POINTERS, SECONDARY_TYPE, SLOTS, ST_DIR, ST_FILE}
 use Rattle.adf_volume.specs.Image.{table_word, word_in}
 use Rattle.adf_volume.specs.Positions.{before_node, position_of}
-use Rattle.adf_volume.specs.Walk.{Role, HeadAt, NodeAt, DirAt, FileAt, MemberAt, Asks, data_count, ext_count, heads}
+use Rattle.adf_volume.specs.Walk.{Role, NodeAt, DirAt, FileAt, MemberAt, Asks, data_count, ext_count, heads}
 use Rattle.adf_volume.specs.Walk.Role.{Head, Ext, Data}
-use Rattle.adf_volume.proofs.Gathered.{IsGathered, ext_below, ext_counted, file_one, member_is, one_head, node_there}
+use Rattle.adf_volume.proofs.Gathered.{IsGathered, ext_below, ext_counted, file_one, member_is, node_there}
 use Rattle.adf_volume.proofs.Pointers.{ext_asks, ext_ends, link_asks, link_ends}
 use Rattle.adf_volume.proofs.PositionSteps.{chain_broken, end_chain, end_datas, end_dir, end_exts, end_node, end_nodes, enter_dir, enter_file}
 use Rattle.adf_volume.proofs.PositionSteps.{exts_broken, no_exts}
@@ -41,13 +41,6 @@ module _ (image : List ℕ) where
           let count = h.stands.count in
           subst (NodeAt s.walk n) (sym (at ∙ h.stands.node n)) (node_there image (gathered image h.course) n (omega arith))
 
-      header_at : (n ≡ 0 → ⊥) → HeadAt s.walk n b
-      header_at other = go n other node_at
-        where
-          go : (n : ℕ) → (n ≡ 0 → ⊥) → NodeAt s.walk n b → HeadAt s.walk n b
-          go zero other k = absurd (other refl)
-          go (suc n) other k = k
-
       pub dir_there : (n ≡ 0) ⊎ (word_in image b SECONDARY_TYPE ≡ ST_DIR) → DirAt image s.walk n b
       dir_there = go n node_at
         where
@@ -57,23 +50,16 @@ module _ (image : List ℕ) where
           go (suc n) k (inr e) = record { header = k; type = e }
 
       pub file_there : (n ≡ 0 → ⊥) → word_in image b SECONDARY_TYPE ≡ ST_FILE → FileAt image s.walk n b
-      file_there other e = record { header = header_at other; type = e }
+      file_there = go n node_at
+        where
+          go : (n : ℕ) → NodeAt s.walk n b → (n ≡ 0 → ⊥) → word_in image b SECONDARY_TYPE ≡ ST_FILE → FileAt image s.walk n b
+          go zero k other e = absurd (other refl)
+          go (suc n) k other e = record { header = k; type = e }
 
       pub nothing_there : (n ≡ 0 → ⊥) → word_in image b SECONDARY_TYPE ≢ ST_DIR → word_in image b SECONDARY_TYPE ≢ ST_FILE
           → HasReached image f (before_node (suc n))
-      nothing_there other no_dir no_file = (
-        s,
-        moved h (omega arith) (end_node image (gathered image h.course) n
-            (λ c d. let k = dir_header n other c d in no_dir (subst (λ c. word_in image c SECONDARY_TYPE ≡ ST_DIR) (one_block_of c k.0) k.1))
-            (λ c d. no_file (subst (λ c. word_in image c SECONDARY_TYPE ≡ ST_FILE) (one_block_of c d.header) d.type)) h.up_to),
-      )
-        where
-          one_block_of : (c : ℕ) → HeadAt s.walk n c → c ≡ b
-          one_block_of c k = (one_head image (gathered image h.course) k (header_at other)).1
-
-          dir_header : (n : ℕ) → (n ≡ 0 → ⊥) → (c : ℕ) → DirAt image s.walk n c → HeadAt s.walk n c × (word_in image c SECONDARY_TYPE ≡ ST_DIR)
-          dir_header zero other c d = absurd (other refl)
-          dir_header (suc n) other c d = (d.header, d.type)
+      nothing_there other no_dir no_file =
+          (s, moved h (omega arith) (end_node image (gathered image h.course) n b other node_at no_dir no_file h.up_to))
 
     -- the extension blocks of a file come first
     pub exts_begin : (n b : ℕ) → Holds image f (before_node n) s → FileAt image s.walk n b → HasReachedExt image f n b 0 b

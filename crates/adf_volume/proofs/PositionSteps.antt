@@ -1,11 +1,11 @@
 -- A walk comes from one position to the next: past a part, and past parts that are not asked for.
 -- Letters as in specs/Positions; u says that the walk has come to a position, v that its parts were asked for.
-use Rattle.std.proofs.Common.{◌≡◌, ℕ, zero, suc, List, [], ◌∷◌, inl, inr, ◌+◌, ◌*◌, ◌<◌, ◌≤◌, refl, ap, subst, arith}
+use Rattle.std.proofs.Common.{◌≡◌, ◌≢◌, ℕ, zero, suc, List, [], ◌∷◌, inl, inr, ◌+◌, ◌*◌, ◌<◌, ◌≤◌, refl, ap, subst, arith}
 use native.Mathlib.Decide.{dec_lt, ℕ_discrete}
-use Rattle.adf_blocks.specs.declared.layout.TheConstants.{MAP_EXT_PAGES, ROOT_PAGES, SECONDARY_TYPE, SLOTS, ST_DIR}
+use Rattle.adf_blocks.specs.declared.layout.TheConstants.{MAP_EXT_PAGES, ROOT_PAGES, SECONDARY_TYPE, SLOTS, ST_DIR, ST_FILE}
 use Rattle.adf_blocks.specs.Sizes.{blocks, pages_needed}
 use Rattle.adf_volume.specs.Image.{root_of, word_in}
-use Rattle.adf_volume.specs.Walk.{Role, first, second, third, Before, Same, DirAt, FileAt, Asks, Lacks, heads, ext_count}
+use Rattle.adf_volume.specs.Walk.{Role, first, second, third, Before, Same, TypedAt, NodeAt, DirAt, FileAt, Asks, Lacks, heads, ext_count}
 use Rattle.adf_volume.specs.Walk.Role.{Root, Page, MapExt, Head, Ext, Data}
 use Rattle.adf_volume.specs.Positions.{Position, IsBelow, IsNoLater, IsUpTo, before_node, before_page, behind, in_map, position_of}
 use Rattle.adf_volume.proofs.AsksSplit.{gathered_split}
@@ -247,18 +247,22 @@ module _ (image : List ℕ) {w over : List (Role × ℕ)} where
         none (Head n q s j) a i h y = let x = low_second (Head n q s j) (position_of (Head 0 p 0 0)) y refl in omega arith
         none _ a i h y = omega arith
 
-    -- what is no directory and no file asks for nothing
-    pub end_node : (n : ℕ) → ((b : ℕ) → DirAt image w n b → ⊥) → ((b : ℕ) → FileAt image w n b → ⊥) → IsUpTo image w over (before_node n)
-        → IsUpTo image w over (before_node (suc n))
-    end_node n no_dir no_file u = end_at u low
+    -- a node that is no directory and no file asks for nothing
+    pub end_node : (n b : ℕ) → (n ≡ 0 → ⊥) → NodeAt w n b → word_in image b SECONDARY_TYPE ≢ ST_DIR → word_in image b SECONDARY_TYPE ≢ ST_FILE
+        → IsUpTo image w over (before_node n) → IsUpTo image w over (before_node (suc n))
+    end_node zero b other k no_dir no_file u = absurd (other refl)
+    end_node (suc n) b other k no_dir no_file u = end_at u low
       where
-        no_part : (m : ℕ) → (b : ℕ) × FileAt image w m b → m ≡ n → ⊥
-        no_part m f e = no_file f.0 (subst (λ m. FileAt image w m f.0) e f.1)
+        typed : (t : ℕ) → (word_in image b SECONDARY_TYPE ≡ t → ⊥) → (c : ℕ) → TypedAt image w t (suc n) c → ⊥
+        typed t other_type c d = other_type (subst (λ c. word_in image c SECONDARY_TYPE ≡ t) (one_head image v d.header k).1 d.type)
 
-        low : (q : Role) (a i : ℕ) → Asks image w q a i → first q ≡ suc n → IsBelow q (before_node n)
+        no_part : (m : ℕ) → (c : ℕ) × FileAt image w m c → m ≡ suc n → ⊥
+        no_part m f e = typed ST_FILE no_file f.0 (subst (λ m. FileAt image w m f.0) e f.1)
+
+        low : (q : Role) (a i : ℕ) → Asks image w q a i → first q ≡ suc (suc n) → IsBelow q (before_node (suc n))
         low (Head m p t j) a i h e =
             let x = asked_dir image v m p t j a i h in
-            let is : p ≡ n = omega arith in absurd (no_dir x.0 (subst (λ p. DirAt image w p x.0) is x.1))
+            let is : p ≡ suc n = omega arith in absurd (typed ST_DIR no_dir x.0 (subst (λ p. DirAt image w p x.0) is x.1))
         low (Ext m k) a i h e = absurd (no_part m (asked_file image v m k a i h) (omega arith))
         low (Data m k) a i h e = absurd (no_part m (data_file image v m k a i h) (omega arith))
         low _ a i h e = omega arith

@@ -9,8 +9,9 @@ pub mod Fault
 pub mod Rows
 pub mod LayoutRoles
 pub mod Made
-pub mod Positions
 pub mod Samples
--- The states of what opens an image and reads its files. A promise names `IsBegun` of Start and `AreInside` of Pieces.
+-- The states of what opens an image and reads its files, and the positions of what goes along a walk.
+-- A promise names `IsBegun` of Start and `AreInside` of Pieces.
 pub mod Start
 pub mod Pieces
+pub mod Positions
