@@ -1,31 +1,70 @@
 -- What a run of names has done so far. `may` says what may be reported of the file of a name, `a` is what was left of the names before the run
--- and `b` what is left, and `o` and `o'` are what output held and holds.
+-- and `b` what is left, `o` and `o'` are what output held and holds, and `e` and `e'` what errors do.
 use Rattle.std.proofs.Common.{◌≡◌, ◌∙◌, ℕ, max, Bool, true, false, List, [], ◌∷◌, ◌++◌, Option, None, Some, IfSome}
 use Rattle.std.proofs.Common.{append-nil, append_assoc, inl, inr, refl, sym, ap, subst, arith}
 use Rattle.std.specs.Io.KnownBytes.{Appends}
 use Rattle.adf_runs.proofs.KnownBytes.{appends_two}
-use Rattle.adf_runs.proofs.PendingText.{appends_nil}
-use Rattle.adf_shelf_cmd.specs.Lines.{AreShelfLines, BreaksLine, IsReport, IsRunStatus, Reports, WritesAll, WritesLines, WritesPart, shelf_line}
+use Rattle.adf_runs.proofs.PendingText.{appends_nil, part_behind, part_of_more}
+use Rattle.adf_runs.specs.Streams.{Says}
+use Rattle.adf_shelf_cmd.specs.declared.files.Unopened.{Unopened}
+use Rattle.adf_shelf_cmd.specs.Files.{why_line}
+use Rattle.adf_shelf_cmd.specs.Lines.{AreShelfLines, BreaksLine, IsOpenedReport, IsRunStatus, Reports, SaysMore, WritesAll, WritesLines, WritesPart, shelf_line}
 use Rattle.adf_shelf_cmd.specs.Names.{AreGiven}
 
-abbrev pub Progress : Reports → Option (List (List ℕ)) → Option (List (List ℕ)) → ℕ → Option (List ℕ) → Option (List ℕ) → Type 0
-Progress may a b status o o' = (names : List (List ℕ)) × AreGiven a b names × WritesLines may names status o o'
+-- what was said, and a text behind it
+pub says_more : (failed failed' : Bool) (e e' e'' : Option (List ℕ)) (said text : List ℕ) → Says failed e e' said → SaysMore failed e' failed' e'' text
+    → Says failed' e e'' (said ++ text)
+says_more true true e e' e'' said text p q = subst (λ k. Says true e k (said ++ text)) (sym (q.1)) (part_of_more e e' said text p)
+says_more true false e e' e'' said text p q = absurd (cc)
+says_more false true e e' e'' said text p q = part_behind e e' e'' said text p q
+says_more false false e e' e'' said text p q = appends_two e e' e'' said text _ refl p q
+
+-- nothing was said
+pub says_none : (failed : Bool) (e : Option (List ℕ)) → failed ≡ false → Says failed e e []
+says_none true e works = cc
+says_none false e works = appends_nil e
+
+-- lines of names were written, and what is said of their files was said
+abbrev pub Progress : Reports → Option (List (List ℕ)) → Option (List (List ℕ)) → ℕ → Option (List ℕ) → Option (List ℕ) → Bool → Option (List ℕ)
+    → Option (List ℕ) → Type 0
+Progress may a b status o o' failed e e' =
+    (names : List (List ℕ)) × (said : List ℕ) × AreGiven a b names × WritesLines may names status o o' said × Says failed e e' said
+
+-- the line of a name was written, and what is said of its file was said
+abbrev pub Line : Reports → List ℕ → ℕ → Option (List ℕ) → Option (List ℕ) → Bool → Option (List ℕ) → Bool → Option (List ℕ) → Type 0
+Line may name status o o' failed e failed' e' =
+    (text : List ℕ) × (why : Option Unopened) × may name status text why × Appends o o' (shelf_line name text) × SaysMore failed e failed' e' (why_line name why)
 
 -- a line behind others
-lines_added : (may : Reports) (names : List (List ℕ)) (s t : ℕ) (output name text : List ℕ) → AreShelfLines may names s output → may name t text
-    → AreShelfLines may (names ++ name ∷ []) (max s t) (output ++ shelf_line name text)
+lines_added : (may : Reports) (names : List (List ℕ)) (s t : ℕ) (output said name text : List ℕ) (why : Option Unopened)
+    → AreShelfLines may names s output said → may name t text why
+    → AreShelfLines may (names ++ name ∷ []) (max s t) (output ++ shelf_line name text) (said ++ why_line name why)
 unfolding AreShelfLines
-lines_added may [] s t output name text h tells =
-    (t, 0, text, [], tells, (refl, refl), omega (arith, h.0), rw (h.1) (sym (append-nil (shelf_line name text))))
-lines_added may (n ∷ ns) s t output name text (a, b, line, rest, first, lines, e, whole) tells = (
+lines_added may [] s t output said name text why h tells = (
+  t,
+  0,
+  text,
+  [],
+  [],
+  why,
+  tells,
+  (refl, refl, refl),
+  omega (arith, h.0),
+  rw (h.1) (sym (append-nil (shelf_line name text))),
+  rw (h.2) (sym (append-nil (why_line name why))),
+)
+lines_added may (n ∷ ns) s t output said name text why (a, b, line, rest, more, first, is_first, lines, e, whole, all) tells = (
   a,
   max b t,
   line,
   rest ++ shelf_line name text,
+  more ++ why_line name why,
   first,
-  lines_added may ns b t rest name text lines tells,
+  is_first,
+  lines_added may ns b t rest more name text why lines tells,
   omega (arith, e),
   rw (whole) (append_assoc (shelf_line n line) rest (shelf_line name text)),
+  rw (all) (append_assoc (why_line n first) more (why_line name why)),
 )
 
 given_none : (a : Option (List (List ℕ))) → AreGiven a a []
@@ -43,59 +82,55 @@ given_all None b xs p q = tt
 given_all (Some x) None xs p q = absurd p
 given_all (Some x) (Some y) xs p q = p ∙ ap (λ l. xs ++ l) q ∙ append-nil xs
 
-given_front : (a b : Option (List (List ℕ))) (xs : List (List ℕ)) → AreGiven a b xs → IfSome a (λ all. (rest : List (List ℕ)) × (all ≡ xs ++ rest))
-given_front None b xs p = tt
-given_front (Some x) None xs p = absurd p
-given_front (Some x) (Some y) xs p = (y, p)
-
-pub started : (may : Reports) (a : Option (List (List ℕ))) (o : Option (List ℕ)) → Progress may a a 0 o o
+pub started : (may : Reports) (a : Option (List (List ℕ))) (o : Option (List ℕ)) (failed : Bool) (e : Option (List ℕ)) → failed ≡ false
+    → Progress may a a 0 o o failed e e
 unfolding AreShelfLines
-started may a o = ([], given_none a, ([], (refl, refl), appends_nil o))
+started may a o failed e works = ([], [], given_none a, ([], (refl, refl, refl), appends_nil o), says_none failed e works)
 
-pub stepped : (may : Reports) (a b c : Option (List (List ℕ))) (s t : ℕ) (o o' o'' : Option (List ℕ)) (name : List ℕ) → Progress may a b s o o'
-    → AreGiven b c (name ∷ []) → ((text : List ℕ) × may name t text × Appends o' o'' (shelf_line name text)) → Progress may a c (max s t) o o''
-stepped may a b c s t o o' o'' name (names, given, (output, lines, written)) one (text, tells, more) = (
+pub stepped : (may : Reports) (a b c : Option (List (List ℕ))) (s t : ℕ) (o o' o'' : Option (List ℕ)) (failed failed' : Bool) (e e' e'' : Option (List ℕ))
+    (name : List ℕ) → Progress may a b s o o' failed e e' → AreGiven b c (name ∷ []) → Line may name t o' o'' failed e' failed' e''
+    → Progress may a c (max s t) o o'' failed' e e''
+stepped may a b c s t o o' o'' failed failed' e e' e'' name (names, said, given, (output, lines, written), says) one (text, why, tells, more, says_one) = (
   names ++ name ∷ [],
+  said ++ why_line name why,
   given_more a b c names (name ∷ []) given one,
   (
     output ++ shelf_line name text,
-    lines_added may names s t output name text lines tells,
+    lines_added may names s t output said name text why lines tells,
     appends_two o o' o'' output (shelf_line name text) _ refl written more,
   ),
+  says_more failed failed' e e' e'' said (why_line name why) says says_one,
 )
 
-pub ended : (may : Reports) (a b : Option (List (List ℕ))) (s : ℕ) (o o' : Option (List ℕ)) → Progress may a b s o o'
-    → IfSome b (λ names. names ≡ []) → WritesAll may a s o o'
-ended may a b s o o' (names, given, written) none = (names, given_all a b names given none, written)
+pub ended : (may : Reports) (a b : Option (List (List ℕ))) (s : ℕ) (o o' : Option (List ℕ)) (failed : Bool) (e e' : Option (List ℕ))
+    → Progress may a b s o o' failed e e' → IfSome b (λ names. names ≡ []) → (said : List ℕ) × WritesAll may a s o o' said × Says failed e e' said
+ended may a b s o o' failed e e' (names, said, given, written, says) none = (said, (names, given_all a b names given none, written), says)
 
-pub stopped : (may : Reports) (a b : Option (List (List ℕ))) (s : ℕ) (failed : Bool) (o o' : Option (List ℕ)) → failed ≡ false
-    → Progress may a b s o o' → WritesPart may a failed o o'
-stopped may a b s true o o' works (names, given, (output, lines, written)) = cc
-stopped may a b s false o o' works (names, given, (output, lines, written)) = (names, given_front a b names given, s, output, lines, written)
+-- no more line was begun
+pub stopped : (may : Reports) (a b : Option (List (List ℕ))) (s : ℕ) (broke : Bool) (o o' : Option (List ℕ)) (failed : Bool) (e e' : Option (List ℕ))
+    → broke ≡ false → Progress may a b s o o' failed e e' → (said : List ℕ) × WritesPart may a broke o o' said × Says failed e e' said
+stopped may None b s broke o o' failed e e' works (names, said, given, written, says) = (said, (names, [], tt, s, o', written, (works, refl)), says)
+stopped may (Some x) None s broke o o' failed e e' works (names, said, given, written, says) = absurd given
+stopped may (Some x) (Some []) s broke o o' failed e e' works (names, said, given, written, says) =
+    (said, (names, [], given, s, o', written, (works, refl)), says)
+stopped may (Some x) (Some (n ∷ ns)) s true o o' failed e e' works (names, said, given, written, says) = cc
+stopped may (Some x) (Some (n ∷ ns)) s false o o' failed e e' works (names, said, given, written, says) =
+    (said, (names, n ∷ ns, given, s, o', written, refl), says)
 
 -- the line of one name more was begun where output failed, else nothing was written
-pub broken : (may : Reports) (a b c : Option (List (List ℕ))) (s : ℕ) (failed : Bool) (o o' o'' : Option (List ℕ)) (name : List ℕ)
-    → Progress may a b s o o' → AreGiven b c (name ∷ []) → BreaksLine may name failed o' o'' → WritesPart may a failed o o''
-broken may a b c s true o o' o'' name (names, given, (output, lines, written)) one (t, text, tells, (part, rest, whole, some, more)) = (
-  names ++ name ∷ [],
-  given_front a c _ (given_more a b c names (name ∷ []) given one),
-  max s t,
-  output ++ shelf_line name text,
-  lines_added may names s t output name text lines tells,
-  (
-    output ++ part,
-    rest,
-    ap (λ l. output ++ l) whole ∙ sym (append_assoc output part rest),
-    some,
-    appends_two o o' o'' output part _ refl written more,
-  ),
-)
-broken may a b c s false o o' o'' name (names, given, (output, lines, written)) one same =
-    (names, given_front a b names given, s, output, lines, subst (λ k. Appends o k output) (sym same) written)
+pub broken : (may : Reports) (a b c : Option (List (List ℕ))) (s : ℕ) (broke : Bool) (o o' o'' : Option (List ℕ)) (failed : Bool) (e e' : Option (List ℕ))
+    (name : List ℕ) → Progress may a b s o o' failed e e' → AreGiven b c (name ∷ []) → BreaksLine may name broke o' o''
+    → (said : List ℕ) × WritesPart may a broke o o'' said × Says failed e e' said
+broken may None b c s broke o o' o'' failed e e' name (names, said, given, written, says) one breaks =
+    (said, (names, name ∷ [], tt, s, o', written, breaks), says)
+broken may (Some x) None c s broke o o' o'' failed e e' name (names, said, given, written, says) one breaks = absurd given
+broken may (Some x) (Some y) None s broke o o' o'' failed e e' name (names, said, given, written, says) one breaks = absurd one
+broken may (Some x) (Some y) (Some z) s broke o o' o'' failed e e' name (names, said, given, written, says) one breaks =
+    (said, (names, name ∷ z, given ∙ ap (λ l. names ++ l) one, s, o', written, breaks), says)
 
 -- what is reported of the bytes that a source gives is reported of the known bytes of its file
 pub report_known : (known left : Option (List ℕ)) (m n : Bool) (s : ℕ) (text : List ℕ) → IfSome known (λ bytes. left ≡ Some bytes) → (m ≡ false → n ≡ false)
-    → IsReport left n s text → IsReport known m s text
+    → IsOpenedReport left n s text → IsOpenedReport known m s text
 report_known None left m n s text e fails (inl h) = inl (h.0, tt, h.2)
 report_known None left true n s text e fails (inr (inl h)) = inr (inl (refl, h.1, h.2))
 report_known None left false n s text e fails (inr (inl h)) = let no = fails refl in absurd (cc)
@@ -111,5 +146,9 @@ max_status s t u e h i = (omega (arith, e, h.0, i.0), λ two. omega (arith, e, h
 
 -- no line is those of no names
 pub nothing_written : (may : Reports) (known : Option (List (List ℕ))) (failed : Bool) (o : Option (List ℕ)) → failed ≡ false
-    → WritesPart may known failed o o
-nothing_written may known failed o works = stopped may known known 0 failed o o works (started may known o)
+    → WritesPart may known failed o o []
+unfolding AreShelfLines
+nothing_written may None failed o works = ([], [], tt, 0, o, ([], (refl, refl, refl), appends_nil o), (works, refl))
+nothing_written may (Some []) failed o works = ([], [], refl, 0, o, ([], (refl, refl, refl), appends_nil o), (works, refl))
+nothing_written may (Some (n ∷ ns)) true o works = cc
+nothing_written may (Some (n ∷ ns)) false o works = ([], n ∷ ns, refl, 0, o, ([], (refl, refl, refl), appends_nil o), refl)

@@ -1,15 +1,17 @@
--- The lines of names. In each definition `may` says of a name, a status and a text whether they may be reported of its file, and `o` and `o'` are
--- what output held and holds.
+-- The lines of names. In each definition `may` says of a name, a status, a text and why its file could not be opened whether they may be reported
+-- of it, `o` and `o'` are what output held and holds, and `e` and `e'` what errors do. `said` is what is said on errors of files.
 use Rattle.std.specs.Prelude.{◌≡◌, ◌≢◌, ◌≤◌, ◌⊎◌, ℕ, max, Bool, true, false, List, [], ◌∷◌, ◌++◌, codes}
-use Rattle.std.specs.Prelude.{Option, IfSome, Result, Err, if◌then◌else◌, string_bytes}
+use Rattle.std.specs.Prelude.{Option, None, Some, IfSome, Result, Err, if◌then◌else◌, string_bytes}
 use Rattle.std.specs.Io.KnownBytes.{Appends}
 use Rattle.adf_tree.specs.Escapes.{escaped}
 use Rattle.adf_cmd.specs.Answers.{Answer}
 use Rattle.adf_runs.specs.Commands.{on_output}
 use Rattle.adf_words.specs.CommandLine.{check}
 use Rattle.adf_runs.specs.Streams.{AppendsPart, Says}
+use Rattle.adf_shelf_cmd.specs.Files.{why_line}
+use Rattle.adf_shelf_cmd.specs.declared.files.Unopened.{Unopened}
 use Rattle.adf_shelf_cmd.specs.declared.report.Report.{Report}
-use Rattle.adf_shelf_cmd.specs.declared.report.Report.TheVariants.{Checked, ReadFault, NoMemory}
+use Rattle.adf_shelf_cmd.specs.declared.report.Report.TheVariants.{Checked, NotOpened, ReadFault, NoMemory}
 use Rattle.adf_shelf_cmd.specs.declared.shelf.Stop.{Stop}
 use Rattle.adf_shelf_cmd.specs.declared.shelf.Stop.TheVariants.{ReadFault as NamesFault, WriteFault, NoMemory as StopNoMemory}
 
@@ -29,60 +31,84 @@ IsUnreadFile may_fail status text = (may_fail ≡ true) × (status ≡ 3) × (te
 abbrev pub LacksMemory : ℕ → List ℕ → Type 0
 LacksMemory status text = (status ≡ 3) × (text ≡ codes "no memory\n")
 
--- what may be reported of a file
-abbrev pub IsReport : Option (List ℕ) → Bool → ℕ → List ℕ → Type 0
-IsReport known may_fail status text = Checks known status text ⊎ (IsUnreadFile may_fail status text ⊎ LacksMemory status text)
+-- what may be reported of a file that was opened
+abbrev pub IsOpenedReport : Option (List ℕ) → Bool → ℕ → List ℕ → Type 0
+IsOpenedReport known may_fail status text = Checks known status text ⊎ (IsUnreadFile may_fail status text ⊎ LacksMemory status text)
 
--- what may be reported of the file of a name, by the bytes that are known of each file, and whether it may fail
-abbrev pub IsReportOf : (List ℕ → Option (List ℕ)) → (List ℕ → Bool) → List ℕ → ℕ → List ℕ → Type 0
-IsReportOf bytes_of may_fail name = IsReport (bytes_of name) (may_fail name)
+-- what may be reported of a file, where `may_open` says what may come of opening it: `None` that it is opened, else why not
+abbrev pub IsReport : Option (List ℕ) → Bool → (Option Unopened → Type 0) → ℕ → List ℕ → Option Unopened → Type 0
+IsReport known may_fail may_open status text None = may_open None × IsOpenedReport known may_fail status text
+IsReport known may_fail may_open status text (Some why) = may_open (Some why) × IsUnreadFile may_fail status text
+
+-- what may be reported of the file of a name, by the bytes that are known of each file, whether it may fail, and what may come of opening it
+abbrev pub IsReportOf : (List ℕ → Option (List ℕ)) → (List ℕ → Bool) → (List ℕ → Option Unopened → Type 0)
+    → List ℕ → ℕ → List ℕ → Option Unopened → Type 0
+IsReportOf bytes_of may_fail may_open name = IsReport (bytes_of name) (may_fail name) (may_open name)
 
 -- the status of a run whose words are taken
 abbrev pub IsRunStatus : ℕ → Type 0
 IsRunStatus status = (status ≤ 3) × (status ≢ 2)
 
--- whether a status and a text may be reported of the file of a name
+-- whether a status, a text and why it could not be opened may be reported of the file of a name
 abbrev pub Reports : Type 1
-Reports = List ℕ → ℕ → List ℕ → Type 0
+Reports = List ℕ → ℕ → List ℕ → Option Unopened → Type 0
 
--- the lines of names in order, and the greatest status of one
-unfoldable pub AreShelfLines : Reports → List (List ℕ) → ℕ → List ℕ → Type 0
-AreShelfLines may [] status output = (status ≡ 0) × (output ≡ [])
-AreShelfLines may (name ∷ names) status output =
-    (s t : ℕ) × (text rest : List ℕ) × may name s text × AreShelfLines may names t rest
-    × (status ≡ max s t) × (output ≡ shelf_line name text ++ rest)
+-- the lines of names in order, the greatest status of one, and what is said on errors of their files
+unfoldable pub AreShelfLines : Reports → List (List ℕ) → ℕ → List ℕ → List ℕ → Type 0
+AreShelfLines may [] status output said = (status ≡ 0) × (output ≡ []) × (said ≡ [])
+AreShelfLines may (name ∷ names) status output said =
+    (s t : ℕ) × (text rest more : List ℕ) × (why : Option Unopened) × may name s text why × AreShelfLines may names t rest more
+    × (status ≡ max s t) × (output ≡ shelf_line name text ++ rest) × (said ≡ why_line name why ++ more)
 
 -- output got the lines of these names
-abbrev pub WritesLines : Reports → List (List ℕ) → ℕ → Option (List ℕ) → Option (List ℕ) → Type 0
-WritesLines may names status o o' = (output : List ℕ) × AreShelfLines may names status output × Appends o o' output
+abbrev pub WritesLines : Reports → List (List ℕ) → ℕ → Option (List ℕ) → Option (List ℕ) → List ℕ → Type 0
+WritesLines may names status o o' said = (output : List ℕ) × AreShelfLines may names status output said × Appends o o' output
 
 -- output got the lines of all names, of the known ones where some are
-abbrev pub WritesAll : Reports → Option (List (List ℕ)) → ℕ → Option (List ℕ) → Option (List ℕ) → Type 0
-WritesAll may known status o o' = (names : List (List ℕ)) × IfSome known (λ all. all ≡ names) × WritesLines may names status o o'
-
--- output got the lines of names that stand first among the known ones, or where it failed a front part of them, but not all
-abbrev pub WritesPart : Reports → Option (List (List ℕ)) → Bool → Option (List ℕ) → Option (List ℕ) → Type 0
-WritesPart may known failed o o' = (names : List (List ℕ)) × IfSome known (λ all. (rest : List (List ℕ)) × (all ≡ names ++ rest))
-    × (status : ℕ) × (output : List ℕ) × AreShelfLines may names status output × Says failed o o' output
+abbrev pub WritesAll : Reports → Option (List (List ℕ)) → ℕ → Option (List ℕ) → Option (List ℕ) → List ℕ → Type 0
+WritesAll may known status o o' said = (names : List (List ℕ)) × IfSome known (λ all. all ≡ names) × WritesLines may names status o o' said
 
 -- of the line of a name, output got a front part where it failed, but not all, and else nothing
 abbrev pub BreaksLine : Reports → List ℕ → Bool → Option (List ℕ) → Option (List ℕ) → Type 0
-BreaksLine may name true o o' = (status : ℕ) × (text : List ℕ) × may name status text × AppendsPart true o o' (shelf_line name text)
+BreaksLine may name true o o' = (status : ℕ) × (text : List ℕ) × (why : Option Unopened) × may name status text why
+    × AppendsPart true o o' (shelf_line name text)
 BreaksLine may name false o o' = o' ≡ o
+
+-- of the lines of names, output got a front part of the first where it failed, but not all, and else nothing
+abbrev pub BreaksFirst : Reports → List (List ℕ) → Bool → Option (List ℕ) → Option (List ℕ) → Type 0
+BreaksFirst may (name ∷ names) failed o o' = BreaksLine may name failed o o'
+BreaksFirst may [] failed o o' = (failed ≡ false) × (o' ≡ o)
+
+-- output got the lines of names that stand first among the known ones, and where it failed a front part of the next line, but not all
+abbrev pub WritesPart : Reports → Option (List (List ℕ)) → Bool → Option (List ℕ) → Option (List ℕ) → List ℕ → Type 0
+WritesPart may known failed o o' said = (names rest : List (List ℕ)) × IfSome known (λ all. all ≡ names ++ rest)
+    × (status : ℕ) × (between : Option (List ℕ)) × WritesLines may names status o between said × BreaksFirst may rest failed between o'
+
+-- a text was said behind what had been said, unless errors had failed
+abbrev pub SaysMore : Bool → Option (List ℕ) → Bool → Option (List ℕ) → List ℕ → Type 0
+SaysMore true e failed e' text = (failed ≡ true) × (e' ≡ e)
+SaysMore false e failed e' text = Says failed e e' text
 
 -- the exit status that a file's report asks for
 abbrev pub report_status : Report → ℕ
 report_status (Checked a) = if a.sound then 0 else 1
+report_status (NotOpened why) = 3
 report_status ReadFault = 3
 report_status NoMemory = 3
 
 -- what is written behind the name of a file
 abbrev pub report_text : Report → List ℕ
 report_text (Checked a) = string_bytes a.line
+report_text (NotOpened why) = codes "read fault\n"
 report_text ReadFault = codes "read fault\n"
 report_text NoMemory = codes "no memory\n"
 
--- whether a report is that the file was not read
+-- why a file could not be opened, `None` if it was
+abbrev pub report_why : Report → Option Unopened
+report_why (NotOpened why) = Some why
+report_why _ = None
+
+-- whether a report is that the file could not be read once it was opened
 abbrev pub is_unread : Report → Bool
 is_unread ReadFault = true
 is_unread _ = false
@@ -103,19 +129,16 @@ stop_line NamesFault = codes "read fault\n"
 stop_line WriteFault = codes "write fault\n"
 stop_line StopNoMemory = codes "no memory\n"
 
--- how a run ends: output got all the lines, and errors nothing; or it stopped at status 3, output got the lines of the first names,
--- or where it failed not all of them, and errors tell why
-abbrev pub Ends : Reports → Option (List (List ℕ)) → ℕ → Bool → Option (List ℕ) → Option (List ℕ) → Bool → Option (List ℕ) → Option (List ℕ) → Type 0
-Ends may known status failed o o' errors_failed e e' =
-    (WritesAll may known status o o' × (failed ≡ false) × Appends e e' [])
-    ⊎ ((stop : Stop) × (status ≡ 3) × (failed ≡ is_output_fault stop) × WritesPart may known failed o o' × Says errors_failed e e' (stop_line stop))
-
--- what a run says on errors, where `unread` says whether the names could not be read: nothing if it got through, else `read fault` if and only if
--- they could not
-abbrev pub Explains : Bool → ℕ → Bool → Bool → Option (List ℕ) → Option (List ℕ) → Type 0
-Explains unread status failed errors_failed e e' =
-    ((unread ≡ false) × (failed ≡ false) × Appends e e' [])
-    ⊎ ((stop : Stop) × (status ≡ 3) × (unread ≡ is_names_fault stop) × (failed ≡ is_output_fault stop) × Says errors_failed e e' (stop_line stop))
+-- how a run ends, where `unread` says whether the names could not be read: output got all the lines, and errors what is said of the files; or it
+-- stopped at status 3, output got the lines of the first names, and where it failed not all of the next, and errors what is said of these names, and why
+-- it stopped
+abbrev pub Ends : Reports → Option (List (List ℕ)) → Bool → ℕ → Bool → Option (List ℕ) → Option (List ℕ) → Bool → Option (List ℕ) → Option (List ℕ)
+    → Type 0
+Ends may known unread status failed o o' errors_failed e e' = (said : List ℕ) × (
+    (WritesAll may known status o o' said × (unread ≡ false) × (failed ≡ false) × Says errors_failed e e' said)
+    ⊎ ((stop : Stop) × (status ≡ 3) × (unread ≡ is_names_fault stop) × (failed ≡ is_output_fault stop)
+    × WritesPart may known failed o o' said × Says errors_failed e e' (said ++ stop_line stop))
+    )
 
 -- the names stopped the work
 abbrev pub is_names_stop : {T : Type 0} → Result T Stop → Bool

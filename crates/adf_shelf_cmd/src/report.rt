@@ -1,9 +1,10 @@
 // What is reported of a file, and the line of its name.
 
-ghost use Rattle.std.specs.Prelude.{◌≡◌, ◌++◌, false, OnOk};
-ghost use Rattle.adf_shelf_cmd.specs.Lines.{IsReport, IsRunStatus, is_unread, report_status, report_text, shelf_line};
+ghost use Rattle.std.specs.Prelude.{◌≡◌, ◌++◌, None, false, OnOk};
+ghost use Rattle.adf_shelf_cmd.specs.Lines.{IsOpenedReport, IsReport, IsRunStatus, is_unread, report_status, report_text, report_why, shelf_line};
+ghost use Rattle.adf_shelf_cmd.specs.Files.{why_line};
 
-use crate::files::Files;
+use crate::files::{Files, Unopened};
 use adf_cmd::{CheckAnswer, answer_to_input};
 use adf_runs::{Source, StreamFault};
 use adf_texts::push_escaped;
@@ -13,7 +14,9 @@ use std::alloc::{AllocError, Global};
 #[derive(Drop)]
 pub enum Report {
     Checked(CheckAnswer),
-    /// It could not be opened or read.
+    /// It could not be opened.
+    NotOpened(Unopened),
+    /// It was opened, and could not be read.
     ReadFault,
     /// Memory was refused.
     NoMemory,
@@ -28,6 +31,7 @@ impl Report {
         match self {
             Report::Checked(answer) if answer.sound => 0,
             Report::Checked(_) => 1,
+            Report::NotOpened(_) => 3,
             Report::ReadFault => 3,
             Report::NoMemory => 3,
         }
@@ -39,8 +43,19 @@ impl Report {
     {
         match self {
             Report::Checked(answer) => answer.line.as_str(),
+            Report::NotOpened(_) => "read fault\n",
             Report::ReadFault => "read fault\n",
             Report::NoMemory => "no memory\n",
+        }
+    }
+
+    /// Why the file could not be opened, `None` if it was.
+    pub fn why(&self) -> Option<Unopened>
+        ensures { result ≡ report_why self.now }
+    {
+        match self {
+            Report::NotOpened(why) => Some(*why),
+            _ => None,
         }
     }
 }
@@ -48,8 +63,9 @@ impl Report {
 // Reads an image into the buffer and checks it.
 fn check_source<S: Source>(alloc: Global, source: &mut S, buffer: &mut Vec<u8>) -> Report
     requires { S.has_failed source.old ≡ false }
-    ensures report { IsReport (S.left source.old) (S.may_fail source.old)
+    ensures report { IsOpenedReport (S.left source.old) (S.may_fail source.old)
         (report_status result) (report_text result) }
+    ensures opened { report_why result ≡ None }
     ensures failed { S.has_failed source.new ≡ is_unread result }
 {
     match answer_to_input(alloc, source, buffer) {
@@ -64,11 +80,12 @@ fn check_source<S: Source>(alloc: Global, source: &mut S, buffer: &mut Vec<u8>) 
 #[tactic(auto, using(crate::proofs::Progress::report_known))]
 pub fn check_file<F: Files>(alloc: Global, files: &F, name: &[u8], buffer: &mut Vec<u8>) -> Report
     ensures { IsReport (F.bytes_of files.now name.now) (F.may_fail files.now name.now)
-        (report_status result) (report_text result) }
+        (F.may_open files.now name.now)
+        (report_status result) (report_text result) (report_why result) }
 {
     match files.open(name) {
         Ok(mut source) => check_source(alloc, &mut source, buffer),
-        Err(_) => Report::ReadFault,
+        Err(why) => Report::NotOpened(why),
     }
 }
 
@@ -80,4 +97,18 @@ pub fn push_line(text: &mut Vec<u8>, name: &[u8], report: &Report) -> Result<(),
     push_escaped(text, name)?;
     text.push(b'\t')?;
     text.extend_from_slice(report.text().as_bytes())
+}
+
+/// Appends what is said on errors of a file that could not be opened: the escape form of its name, and
+/// why. Nothing if it was opened, or the system does not say why.
+pub fn push_why(text: &mut Vec<u8>, name: &[u8], why: Option<Unopened>) -> Result<(), AllocError>
+    ensures { OnOk result (text.new.items ≡ text.old.items ++ why_line name.now why) }
+{
+    match why {
+        None | Some(Unopened::Other) => Ok(()),
+        Some(why) => {
+            push_escaped(text, name)?;
+            text.extend_from_slice(why.text().as_bytes())
+        }
+    }
 }

@@ -4,18 +4,18 @@ ghost use Rattle.std.specs.Prelude.{◌≡◌, ◌≢◌, ◌≤◌, Bool, List,
 ghost use Rattle.adf_words.specs.CommandLine.{texts_of};
 ghost use Rattle.adf_runs.specs.Streams.{Says};
 ghost use Rattle.adf_words.specs.ShelfLine.{AsksShelf, AreRefusedByShelf};
-ghost use Rattle.adf_shelf_cmd.specs.Lines.{Ends, Explains, IsReportOf, IsRunStatus};
+ghost use Rattle.adf_shelf_cmd.specs.Lines.{Ends, IsReportOf, IsRunStatus};
 ghost use Rattle.adf_shelf_cmd.specs.Names.{are_unread, names_asked};
 
 use crate::files::Files;
 use crate::names::{Names, TextNames, WordNames};
-use crate::shelf::{Stop, write_verdicts};
+use crate::shelf::{Stop, say_more, write_verdicts};
 use adf_runs::{Sink, say};
 use adf_words::{Order, SHELF_USAGE as USAGE, WordsFault, parse_shelf};
 use std::alloc::Global;
 use std::io::BufRead;
 
-// Writes the lines of names, says on errors why it stopped, and answers the status.
+// Writes the lines of names, says on errors why files could not be opened and why it stopped, and answers the status.
 fn run_names<N: Names, F: Files, W: Sink, E: Sink>(
     alloc: Global,
     names: &mut N,
@@ -25,18 +25,16 @@ fn run_names<N: Names, F: Files, W: Sink, E: Sink>(
 ) -> u8
     requires writes { W.has_failed output.old ≡ false }
     requires tells { E.has_failed errors.old ≡ false }
-    ensures ends { Ends (IsReportOf (F.bytes_of files.now) (F.may_fail files.now))
-        (N.left names.old) result
+    ensures ends { Ends (IsReportOf (F.bytes_of files.now) (F.may_fail files.now) (F.may_open files.now))
+        (N.left names.old) (N.has_failed names.new) result
         (W.has_failed output.new) (W.held output.old) (W.held output.new)
-        (E.has_failed errors.new) (E.held errors.old) (E.held errors.new) }
-    ensures names { Explains (N.has_failed names.new) result (W.has_failed output.new)
         (E.has_failed errors.new) (E.held errors.old) (E.held errors.new) }
     ensures status { IsRunStatus result }
 {
-    match write_verdicts(alloc, names, files, output) {
+    match write_verdicts(alloc, names, files, output, errors) {
         Ok(status) => status,
         Err(stop) => {
-            say(errors, stop.line().as_bytes());
+            say_more(errors, stop.line().as_bytes());
             3
         }
     }
@@ -53,11 +51,9 @@ fn run_order<B: BufRead, F: Files, W: Sink, E: Sink>(
 ) -> u8
     requires writes { W.has_failed output.old ≡ false }
     requires tells { E.has_failed errors.old ≡ false }
-    ensures ends { Ends (IsReportOf (F.bytes_of files.now) (F.may_fail files.now))
-        (names_asked order.now (B.remaining input.old.text)) result
+    ensures ends { Ends (IsReportOf (F.bytes_of files.now) (F.may_fail files.now) (F.may_open files.now))
+        (names_asked order.now (B.remaining input.old.text)) (are_unread order.now input.new.failed) result
         (W.has_failed output.new) (W.held output.old) (W.held output.new)
-        (E.has_failed errors.new) (E.held errors.old) (E.held errors.new) }
-    ensures names { Explains (are_unread order.now input.new.failed) result (W.has_failed output.new)
         (E.has_failed errors.new) (E.held errors.old) (E.held errors.new) }
     ensures status { IsRunStatus result }
     ensures unread { order.now.1 ≢ [] → input.new ≡ input.old }
@@ -78,6 +74,8 @@ fn run_order<B: BufRead, F: Files, W: Sink, E: Sink>(
 /// - 2 where the words are not accepted, which errors tell; nothing is read or written;
 /// - 3 where an image could not be read, which its line tells, or where the names, a device or memory
 ///   failed, which errors tell.
+///
+/// Errors also tell why a file could not be opened, as far as the system does.
 pub fn run<B: BufRead, F: Files, W: Sink, E: Sink>(
     alloc: Global,
     words: &[&str],
@@ -90,17 +88,13 @@ pub fn run<B: BufRead, F: Files, W: Sink, E: Sink>(
     requires tells { E.has_failed errors.old ≡ false }
     ensures most { result ≤ 3 }
 
-    // Where the words are taken, output has the lines of the names, or the work stopped.
+    // Where the words are taken, output and errors have the lines of the names, or the work stopped: with
+    // `read fault` if and only if the names could not be read.
     ensures ends { (order : Bool × List (List ℕ)) → AsksShelf (texts_of words.now) order
-        → Ends (IsReportOf (F.bytes_of files.now) (F.may_fail files.now))
-        (names_asked order (B.remaining input.old.text)) result
+        → (unread : Bool) × (input.old.failed ≡ false → unread ≡ are_unread order input.new.failed)
+        × Ends (IsReportOf (F.bytes_of files.now) (F.may_fail files.now) (F.may_open files.now))
+        (names_asked order (B.remaining input.old.text)) unread result
         (W.has_failed output.new) (W.held output.old) (W.held output.new)
-        (E.has_failed errors.new) (E.held errors.old) (E.held errors.new) }
-
-    // It stops with `read fault` if and only if the names could not be read.
-    ensures names { (order : Bool × List (List ℕ)) → AsksShelf (texts_of words.now) order
-        → input.old.failed ≡ false
-        → Explains (are_unread order input.new.failed) result (W.has_failed output.new)
         (E.has_failed errors.new) (E.held errors.old) (E.held errors.new) }
 
     // Where the words name images, the input is not read.

@@ -1,4 +1,4 @@
-use Rattle.std.proofs.Common.{◌≡◌, ℕ, Bool, false, List, [], ◌∷◌, inr, refl}
+use Rattle.std.proofs.Common.{◌≡◌, ◌∙◌, ℕ, Bool, false, List, [], ◌∷◌, inr, refl, sym}
 use Rattle.adf_shelf_cmd.specs.declared.shelf.Stop.TheVariants.{NoMemory}
 use Rattle.adf_shelf_cmd.proofs.Progress.{nothing_written}
 use Rattle.adf_shelf_cmd.specs.Names.{are_unread}
@@ -10,9 +10,23 @@ unfailed null [] failed e = e
 unfailed null (name ∷ names) failed e = refl
 
 pub returns-in-Err-NoMemory-clause-ends : goal.returns-in-Err-NoMemory-clause-ends
-returns-in-Err-NoMemory-clause-ends g c = λ order asks.
-    inr (NoMemory, refl, c.requires.writes, nothing_written _ _ _ _ c.requires.writes, rw (c.as_bytes-in-Err-NoMemory.ensures.value, c.line.ensures) at c.say-in-Err-NoMemory.ensures)
+returns-in-Err-NoMemory-clause-ends g c = λ order asks. (
+  false,
+  λ reads. sym (unfailed order.0 order.1 _ reads),
+  (
+    [],
+    inr (
+      NoMemory,
+      refl,
+      refl,
+      c.requires.writes,
+      nothing_written _ _ _ _ c.requires.writes,
+      rw (c.as_bytes-in-Err-NoMemory.ensures.value, c.line.ensures) at c.say-in-Err-NoMemory.ensures,
+    ),
+  ),
+)
 
-pub returns-in-Err-NoMemory-clause-names : goal.returns-in-Err-NoMemory-clause-names
-returns-in-Err-NoMemory-clause-names g c = λ order asks reads.
-    inr (NoMemory, refl, unfailed order.0 order.1 _ reads, c.requires.writes, rw (c.as_bytes-in-Err-NoMemory.ensures.value, c.line.ensures) at c.say-in-Err-NoMemory.ensures)
+pub returns-in-Ok-clause-ends : goal.returns-in-Ok-clause-ends
+returns-in-Ok-clause-ends g c = λ order asks.
+    let same : order ≡ c.in-Ok.order = sym (asks.1) ∙ c.in-Ok.ensures.ok.1 in
+    (are_unread order c.run_order.new.input.failed, λ reads. refl, rw same c.run_order.ensures.ends)
