@@ -25,6 +25,7 @@ use Rattle.adf_volume.specs.Walk.{IsWalk, Role, heads, node_block}
 use Rattle.adf_volume.proofs.FitWalks.{one_fit}
 use Rattle.adf_volume.proofs.Lists.{at_index_or, get_before, get_last}
 use Rattle.adf_volume.proofs.WalkMembers.{entries_length}
+use Rattle.adf_survey.specs.Files.{grave}
 use Rattle.adf_survey.specs.Found.{parent_node}
 use Rattle.adf_survey.specs.Marked.{AreMarks}
 use Rattle.adf_survey.specs.Survey.{FindingValue, IsSurvey}
@@ -207,9 +208,13 @@ same_tree image w vs root same =
     λ i. record { kind = kind_of image; label = label i; stamps = stamps_of image (root_of image); entries = same i }
 
 module _ (image : List ℕ) (t : Tree) (l : Layout) (w : List (Role × ℕ)) (fs : List FindingValue) (sound : ℕ → Bool) (fit : Fits image t l)
-    (survey : IsSurvey image w fs) (marks : AreMarks image w fs sound) where
+    (survey : IsSurvey image w fs) (marks : AreMarks image w (grave fs) sound) where
   clean : fs ≡ []
   clean = finds_none image t l w fs fit survey
+
+  -- without findings the marks are those of the sound entries
+  all_marks : AreMarks image w fs sound
+  all_marks = subst (λ (gs : List FindingValue). AreMarks image w gs sound) (ap grave clean ∙ sym clean) marks
 
   unnoted : IsSurvey image w []
   unnoted = subst (IsSurvey image w) clean survey
@@ -218,7 +223,7 @@ module _ (image : List ℕ) (t : Tree) (l : Layout) (w : List (Role × ℕ)) (fs
   made = none_found image w unnoted
 
   whole : IsFront (entries_in image w w) (heads w) (verdicts image w sound (heads w))
-  whole = front image w fs sound survey clean marks (shown image unnoted).1 made (heads w) (omega arith)
+  whole = front image w fs sound survey clean all_marks (shown image unnoted).1 made (heads w) (omega arith)
 
   pub tree_kept : rescued_tree image w sound ≡ t
   tree_kept =

@@ -6,7 +6,7 @@ ghost use Rattle.adf_tree.specs.declared.entry.Body.TheVariants.{File};
 ghost use Rattle.adf_blocks.specs.HeadBlock.{meta_told};
 ghost use Rattle.adf_blocks.specs.Sizes.{blocks};
 ghost use Rattle.adf_volume.specs.Image.{name_of};
-ghost use Rattle.adf_survey.specs.Files.{IsSoundFile, file_content, file_in};
+ghost use Rattle.adf_survey.specs.Files.{IsSoundFile, file_content, file_in, grave};
 ghost use Rattle.adf_survey.specs.Found.{parent_node};
 ghost use Rattle.adf_survey.specs.Marked.{AreMarks};
 ghost use Rattle.adf_survey.specs.Survey.{FindingValue, IsSurvey};
@@ -24,12 +24,15 @@ pub fn rescued_additions_have_their_tree()
         → IsTreeOf (rescued_tree image w sound).entries (rescued_additions image w sound) }
 {}
 
-/// A sound file stands: the verdict on it is that of its path, with its content and what its header says of it. So it
-/// is kept in the place of its directory, by its name or else by `lost-` and its block, or has no room.
+/// A sound file is whole, and a whole file stands: the verdict on it is that of its path, with its content and what its
+/// header says of it. So it is kept in the place of its directory, by its name or else by `lost-` and its block, or has
+/// no room.
 pub fn sound_files_stand()
-    ensures { (image : List ℕ) (w : List (Role × ℕ)) (fs : List FindingValue) (sound : ℕ → Bool)
+    ensures whole { (image : List ℕ) (w : List (Role × ℕ)) (fs : List FindingValue) (n : ℕ)
+        → IsSoundFile image w fs n → IsSoundFile image w (grave fs) n }
+    ensures stand { (image : List ℕ) (w : List (Role × ℕ)) (fs : List FindingValue) (sound : ℕ → Bool)
         (n : ℕ) (vs : List Verdict)
-        → AreMarks image w fs sound → IsSoundFile image w fs n
+        → AreMarks image w (grave fs) sound → IsSoundFile image w (grave fs) n
         → verdict image w sound vs n
         ≡ at_path (tree_of image vs) (blocks image) (meta_told (block image (node_block w n)))
         (File (file_content (file_in image w n)))
@@ -39,7 +42,7 @@ pub fn sound_files_stand()
 /// A survey has one list of verdicts.
 pub fn one_rescue()
     ensures { (image : List ℕ) (w : List (Role × ℕ)) (fs : List FindingValue) (s t : ℕ → Bool)
-        → AreMarks image w fs s → AreMarks image w fs t
+        → AreMarks image w (grave fs) s → AreMarks image w (grave fs) t
         → verdicts image w s (heads w) ≡ verdicts image w t (heads w) }
 {}
 
@@ -47,10 +50,10 @@ pub fn one_rescue()
 pub fn whole_is_kept()
     ensures tree { (image : List ℕ) (t : Tree) (l : Layout) (w : List (Role
         × ℕ)) (fs : List FindingValue) (sound : ℕ → Bool)
-        → Fits image t l → IsSurvey image w fs → AreMarks image w fs sound
+        → Fits image t l → IsSurvey image w fs → AreMarks image w (grave fs) sound
         → rescued_tree image w sound ≡ t }
     ensures all { (image : List ℕ) (t : Tree) (l : Layout) (w : List (Role
         × ℕ)) (fs : List FindingValue) (sound : ℕ → Bool)
-        → Fits image t l → IsSurvey image w fs → AreMarks image w fs sound
+        → Fits image t l → IsSurvey image w fs → AreMarks image w (grave fs) sound
         → rescue_leaves image w sound ≡ [] }
 {}

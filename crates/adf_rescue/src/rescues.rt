@@ -4,6 +4,7 @@ ghost use Rattle.std.specs.Prelude.{◌≡◌, ◌↔◌, ℕ, Bool, List, IsNon
 ghost use Rattle.adf_blocks.specs.Sizes.{blocks as blocks_in};
 ghost use Rattle.adf_survey.specs.Opening.{opening_in};
 ghost use Rattle.adf_volume.specs.Walk.{Role, heads};
+ghost use Rattle.adf_survey.specs.Files.{grave};
 ghost use Rattle.adf_survey.specs.Marked.{AreMarks};
 ghost use Rattle.adf_survey.specs.Survey.{FindingValue, IsSurvey};
 ghost use Rattle.adf_build.specs.Laid.{IsLaid};
@@ -36,10 +37,10 @@ fn salvaged(
     requires opening { opening ≡ opening_in survey.now.image }
     requires free { free ≡ blocks_free (blocks_in survey.now.image) }
     ensures { (w : List (Role × ℕ)) (fs : List FindingValue) (sound : ℕ → Bool)
-        → IsSurvey survey.now.image w fs → AreMarks survey.now.image w fs sound
+        → IsSurvey survey.now.image w fs → AreMarks survey.now.image w (grave fs) sound
         → IfOk result (IsSalvage survey.now.image (verdicts survey.now.image w sound (heads w))) }
 {
-    survey.marks();
+    survey.whole_marks();
     some_survey();
     let mut salvage = Salvage::begin(alloc, opening, free)?;
     for before in 0..survey.len() {
@@ -85,25 +86,25 @@ fn laid(alloc: Global, draft: Draft, blocks: u32) -> Result<Vec<u8>, NoMemory>
     }
 }
 
-/// The new volume of all that stands on a surveyed image: its sound files and its directories, in as many blocks;
+/// The new volume of all that stands on a surveyed image: its whole files and its directories, in as many blocks;
 /// and the entries that are left out. `None` if no entry stands, and there is a finding, or the image was mended.
 /// `NoMemory` if an allocation fails.
 pub fn rescue(alloc: Global, survey: &Survey<'_>, mended: bool) -> Result<Option<Rescued>, NoMemory>
     ensures none { (w : List (Role × ℕ)) (fs : List FindingValue) (sound : ℕ → Bool)
-        → IsSurvey survey.now.image w fs → AreMarks survey.now.image w fs sound
+        → IsSurvey survey.now.image w fs → AreMarks survey.now.image w (grave fs) sound
         → IfOk result (λ r. IsNone r ↔ StandsNothing survey.now.image w fs sound mended) }
     ensures laid { (w : List (Role × ℕ)) (fs : List FindingValue) (sound : ℕ → Bool)
-        → IsSurvey survey.now.image w fs → AreMarks survey.now.image w fs sound
+        → IsSurvey survey.now.image w fs → AreMarks survey.now.image w (grave fs) sound
         → IfOk result (λ r. IfSome r (λ v.
         IsLaid v.image.items (rescued_tree survey.now.image w sound))) }
     ensures size { IfOk result (λ r. IfSome r (λ v.
         blocks_in v.image.items ≡ blocks_in survey.now.image)) }
     ensures left_out { (w : List (Role × ℕ)) (fs : List FindingValue) (sound : ℕ → Bool)
-        → IsSurvey survey.now.image w fs → AreMarks survey.now.image w fs sound
+        → IsSurvey survey.now.image w fs → AreMarks survey.now.image w (grave fs) sound
         → IfOk result (λ r. IfSome r (λ v.
         v.left_out.items ≡ rescue_leaves survey.now.image w sound)) }
 {
-    survey.marks();
+    survey.whole_marks();
     some_survey();
     let Some(opening) = survey.opening() else {
         return Ok(None);

@@ -7,6 +7,7 @@ ghost use Rattle.adf_tree.specs.Tree.{is_dir_body};
 ghost use Rattle.adf_volume.specs.Walk.{Role, heads, node_block};
 ghost use Rattle.adf_volume.specs.Image.{name_of};
 ghost use Rattle.adf_survey.specs.Found.{parent_node};
+ghost use Rattle.adf_survey.specs.Files.{grave};
 ghost use Rattle.adf_survey.specs.Marked.{AreMarks};
 ghost use Rattle.adf_survey.specs.Opening.{opening_in};
 ghost use Rattle.adf_survey.specs.Survey.{FindingValue, IsSurvey};
@@ -158,7 +159,7 @@ impl Salvage {
         requires { GoesOn survey.now.image n self.old }
         ensures { (w : List (Role × ℕ)) (fs : List FindingValue) (sound : ℕ → Bool)
             (vs : List Verdict)
-            → IsSurvey survey.now.image w fs → AreMarks survey.now.image w fs sound
+            → IsSurvey survey.now.image w fs → AreMarks survey.now.image w (grave fs) sound
             → IsSalvage survey.now.image vs self.old → IsNext w vs n
             → OnOk result (IsSalvage survey.now.image
             (vs ++ verdict survey.now.image w sound vs n ∷ []) self.new) }

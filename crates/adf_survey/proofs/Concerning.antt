@@ -40,7 +40,7 @@ module _ (image : List ℕ) (f : Found) {s : Course} (v : IsCourse image s) (bit
         ∙ sym (ap is_some (taken_at image s.walk (gathered image v) (Head n p t j) x.0 x.1))
     | inr x ↦
         let lacks : Lacks s.walk (Head n p t j) = (λ q c h same. apart image v q (Head n p t j) c x.0 h x.1 same) in
-        passed_header image f v bits st n p t j x.0 x.1 ∙ sym (ap is_some (at_lacks s.walk (Head n p t j) lacks))
+        passed_header image f v (s.findings ++ bits) st n p t j x.0 x.1 ∙ sym (ap is_some (at_lacks s.walk (Head n p t j) lacks))
   ]
 
   -- what a finding concerns is told of the walk

@@ -1,5 +1,6 @@
 -- The result for an image is that of its survey.
-use Rattle.std.specs.Prelude.{Bool, Option, map, slice_get}
+use Rattle.std.specs.Prelude.{Bool, Option, map, not, slice_get}
+use Rattle.std.specs.List.{filter}
 use Rattle.std.specs.Option.{option_flatten}
 use Rattle.std.proofs.Common.{◌≡◌, ℕ, List, [], ◌++◌, ◌≤◌, refl, sym, ap, subst, ◌∙◌, arith, ◌*◌, ◌<◌, length}
 use Rattle.adf_blocks.specs.Sizes.{blocks}
@@ -10,16 +11,18 @@ use Rattle.adf_volume.proofs.Roles.{head_role}
 use Rattle.adf_survey.specs.Found.{parent_node}
 use Rattle.adf_survey.specs.declared.part.Finding.{Finding}
 use Rattle.adf_survey.specs.declared.found.Found.{Found}
-use Rattle.adf_survey.specs.Found.{IsCompleted}
+use Rattle.adf_survey.specs.Files.{counting, grave, is_light}
+use Rattle.adf_survey.specs.Found.{IsCompleted, Stands}
 use Rattle.adf_survey.specs.Marks.{blamed, has_mark, is_clear}
 use Rattle.adf_survey.specs.declared.concern.Concern.{Concern}
 use Rattle.adf_survey.specs.Parts.{finding_value}
-use Rattle.adf_survey.specs.Survey.{FindingValue, IsSurvey, UnreadTells}
+use Rattle.adf_survey.specs.Survey.{Course, FindingValue, IsSurvey, UnreadTells}
 use Rattle.adf_survey.specs.Survey.IsSurvey.{read, unread}
 use Rattle.adf_survey.specs.Sound.{IsSound}
 use Rattle.adf_volume.proofs.Gathered.{number_of}
 use Rattle.adf_survey.specs.Surveyed.{IsOfSurvey, Surveyed, TellsOf, kept_of}
 use Rattle.adf_survey.proofs.Concerning.{concerned_kept, no_concern_nth}
+use Rattle.adf_survey.proofs.GraveFindings.{grave_is, grave_kept}
 use Rattle.adf_survey.proofs.HeadPlaces.{head_parent}
 use Rattle.adf_survey.proofs.BlockOwners.{owner_is}
 use Rattle.adf_survey.proofs.OneSurvey.{gathered, one_survey}
@@ -28,7 +31,7 @@ use Rattle.adf_survey.proofs.Starts.{course_size}
 
 -- of an image of which nothing is taken the findings are kept alone
 pub unread_kept : (image : List ℕ) (items : List Finding) → UnreadTells image (map finding_value items)
-    → IsOfSurvey (record { image = image; findings = items; concerned = []; owners = []; nodes = []; parents = []; sound = [] })
+    → IsOfSurvey (record { image = image; findings = items; concerned = []; owners = []; nodes = []; parents = []; sound = []; whole = [] })
 unread_kept image items told = (
   [],
   map finding_value items,
@@ -41,14 +44,38 @@ unread_kept image items told = (
     parent = (λ n. refl);
     count = omega arith;
     sound = (λ n lo. ((λ t. cc), (λ s. absurd s.header.has)));
+    whole = (λ n lo. ((λ t. cc), (λ s. absurd s.header.has)));
   },
 )
 
+-- a state with other findings is that of a course with these
+stands_with : (image : List ℕ) (f g : Found) (s : Course) (gs : List FindingValue) → Stands image f s → g ≡ record f { findings = g.findings }
+    → map finding_value g.findings.items ≡ gs → Stands image g (record { walk = s.walk; passed_over = s.passed_over; findings = gs })
+stands_with image f g s gs st same e =
+    subst (λ h. Stands image h (record { walk = s.walk; passed_over = s.passed_over; findings = gs })) (sym same) (record {
+      taken = st.taken;
+      owned = st.owned;
+      owners = st.owners;
+      avoided = st.avoided;
+      left = st.left;
+      node = st.node;
+      count = st.count;
+      few = st.few;
+      ext = st.ext;
+      findings = e;
+      parent = st.parent;
+      parents = st.parents;
+      places = st.places;
+      datas = st.datas;
+    })
+
 -- of an image whose course is done, with its bits compared
-pub read_kept : (image : List ℕ) (f : Found) (concerned : List (Option Concern)) (sound : List Bool) → IsCompleted image f
-    → concerned ≡ map (λ x. blamed f x.part) f.findings.items → ((m : ℕ) → has_mark sound m ≡ is_clear image f m)
-    → IsOfSurvey (kept_of image f.findings.items concerned f.owners.items f.nodes.items f.parents.items sound)
-read_kept image f concerned sound (s, bits, told, bits_tell) entries marks = (
+pub read_kept : (image : List ℕ) (f g : Found) (concerned : List (Option Concern)) (sound whole : List Bool)
+    → IsCompleted image f → concerned ≡ map (λ x. blamed f x.part) f.findings.items → ((m : ℕ) → has_mark sound m ≡ is_clear image f m)
+    → g ≡ record f { findings = g.findings } → g.findings.items ≡ filter (λ x. not (is_light (finding_value x))) f.findings.items
+    → ((m : ℕ) → has_mark whole m ≡ is_clear image g m)
+    → IsOfSurvey (kept_of image f.findings.items concerned f.owners.items f.nodes.items f.parents.items sound whole)
+read_kept image f g concerned sound whole (s, bits, told, bits_tell) entries marks same graves whole_marks = (
   s.walk,
   s.findings ++ bits,
   record {
@@ -61,8 +88,15 @@ read_kept image f concerned sound (s, bits, told, bits_tell) entries marks = (
     parent = told.stands.parent;
     count = (let e = told.stands.count in omega arith);
     sound = (λ m lo.
-        let x = clear_is_sound image f told.course told.done bits bits_tell told.stands m lo in
+        let x = clear_is_sound image f told.course told.done bits bits_tell (s.findings ++ bits) (λ g i. i) told.stands m lo in
         ((λ t. x.0 (sym (marks m) ∙ t)), (λ y. marks m ∙ x.1 y)));
+    whole = (λ m lo.
+        let all : List FindingValue = s.findings ++ bits in
+        let kept : map finding_value g.findings.items ≡ grave all =
+        ap (map finding_value) graves ∙ (grave_kept f.findings.items ∙ ap grave told.stands.findings) in
+        let x = clear_is_sound image g told.course told.done bits bits_tell (grave all) (grave_is all)
+        (stands_with image f g (record { walk = s.walk; passed_over = s.passed_over; findings = all }) (grave all) told.stands same kept) m lo in
+        ((λ t. x.0 (sym (whole_marks m) ∙ t)), (λ y. whole_marks m ∙ x.1 y)));
   },
 )
 
@@ -73,9 +107,10 @@ tells_each v k w fs h =
     subst (λ (x : List (Role × ℕ) × List FindingValue). TellsOf v x.0 x.1) (λ t. (e.0 t, e.1 t)) k.2
 
 -- the root is no entry
-pub root_no_entry : (image : List ℕ) (w : List (Role × ℕ)) (fs : List FindingValue) (h : ℕ) → IsSurvey image w fs → IsSound image w fs 0 h → ⊥
-root_no_entry image w fs h (unread f) s = s.header.has
-root_no_entry image w fs h (read v d t) s = omega (arith, number_of image (gathered image v) s.header)
+pub root_no_entry : (image : List ℕ) (w : List (Role × ℕ)) (fs : List FindingValue) (c : Bool) (h : ℕ) → IsSurvey image w fs
+    → IsSound image w (counting c fs) 0 h → ⊥
+root_no_entry image w fs c h (unread f) s = s.header.has
+root_no_entry image w fs c h (read v d t) s = omega (arith, number_of image (gathered image v) s.header)
 
 -- the directory of an entry, as a function
 pub parent_is : (image : List ℕ) (w : List (Role × ℕ)) (fs : List FindingValue) → IsSurvey image w fs → (n p s j b : ℕ) → Has w (Head n p s j) b

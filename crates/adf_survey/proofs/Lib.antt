@@ -15,6 +15,8 @@ pub mod Lookups
 mod EntryPaths
 -- the blocks of sound entries
 pub mod SoundEntries
+-- the findings that leave a file its blocks, and the others
+pub mod GraveFindings
 pub mod Judged
 pub mod Names
 -- the form of a header by the letters of a volume

@@ -1,5 +1,5 @@
 -- The blocks of a sound entry.
-use Rattle.std.specs.Prelude.{Some, nat_lt, true}
+use Rattle.std.specs.Prelude.{Bool, Some, false, nat_lt, true}
 use Rattle.std.proofs.Common.{◌≡◌, ℕ, zero, suc, List, [], ◌∷◌, ◌++◌, ◌⊎◌, inl, inr, ◌*◌, ◌/◌, ◌<◌, ◌≤◌, refl, sym, ap, subst, ◌∙◌, arith}
 use Rattle.std.proofs.lemmas.Bool.{cond-false, cond-true, le-ltb, lt-ltb}
 use native.Mathlib.Decide.{dec_lt}
@@ -13,6 +13,7 @@ use Rattle.adf_volume.specs.Walk.Role.{Root, Head, Ext, Data}
 use Rattle.adf_volume.proofs.Lists.{in_left, in_right}
 use Rattle.adf_volume.proofs.Roles.{count_up, dec_has, dir_is_node, has_low, head_in, head_role, same_refl, typed_in}
 use Rattle.adf_survey.specs.Demands.{demands_in, form_demands_in, head_demands_in}
+use Rattle.adf_survey.specs.Files.{counting}
 use Rattle.adf_survey.specs.Survey.{FindingValue, finding, Course, IsNext, IsCourse, IsDone, IsSurvey}
 use Rattle.adf_survey.specs.Survey.JudgementValue.{clean, noted, passed}
 use Rattle.adf_survey.specs.Survey.IsCourse.{start, step}
@@ -21,6 +22,7 @@ use Rattle.adf_survey.specs.Sound.{FileHolds, HeaderHolds, IsNextData, IsSound, 
 use Rattle.adf_volume.proofs.Gathered.{IsGathered, asked_dir, asked_file, asks_one, ext_counted, file_one, head_block, member_is, node_is, node_one, one_block}
 use Rattle.adf_survey.proofs.OneSurvey.{gathered}
 use Rattle.adf_volume.proofs.PartDemands.{part_holds_by}
+use Rattle.adf_survey.proofs.GraveFindings.{data_unnoted, ext_unnoted}
 use Rattle.adf_survey.proofs.Judged.{itself_holds}
 
 module _ (image : List ℕ) where
@@ -349,13 +351,22 @@ module _ (image : List ℕ) where
       subst (IsUnnoted s.findings) e (unnoted_less s.findings bits (head_role sound.header) sound.unnoted) in
       head_formed v d n g.parent g.slot g.place h up g.has clear node
 
+  -- the findings that count may be the grave ones alone
+  pub whole_file : (w : List (Role × ℕ)) (fs : List FindingValue) (c : Bool) (n h : ℕ) → IsSurvey image w fs → IsSound image w (counting c fs) n h
+      → FileAt image w n h → FileHolds image w n h
+  whole_file w fs c n h (unread f) sound file = absurd file.header.has
+  whole_file w fs c n h (read {s = s} {bits = bits} v d told) sound file =
+      let all : List FindingValue = s.findings ++ bits in
+      let datas : (k : ℕ) → IsUnnoted s.findings (Data n k) =
+      λ k. unnoted_less s.findings bits (Data n k) (data_unnoted c all n k (sound.datas k)) in
+      let exts : (k : ℕ) → IsUnnoted s.findings (Ext n k) =
+      λ k. unnoted_less s.findings bits (Ext n k) (ext_unnoted c all n k (sound.exts k)) in
+      record {
+        named = data_named v d n h file datas;
+        exts = (λ k b g. ext_formed v d n k b h g (exts k) file);
+        datas = data_formed v d n h file datas exts;
+      }
+
   pub sound_file : (w : List (Role × ℕ)) (fs : List FindingValue) (n h : ℕ) → IsSurvey image w fs → IsSound image w fs n h → FileAt image w n h
       → FileHolds image w n h
-  sound_file w fs n h (unread f) sound file = absurd file.header.has
-  sound_file w fs n h (read {s = s} {bits = bits} v d told) sound file = record {
-    named = data_named v d n h file (λ k. unnoted_less s.findings bits (Data n k) (sound.datas k));
-    exts = (λ k b g. ext_formed v d n k b h g (unnoted_less s.findings bits (Ext n k) (sound.exts k)) file);
-    datas =
-        data_formed v d n h file (λ k. unnoted_less s.findings bits (Data n k) (sound.datas k))
-        (λ k. unnoted_less s.findings bits (Ext n k) (sound.exts k));
-  }
+  sound_file w fs n h survey sound file = whole_file w fs false n h survey sound file

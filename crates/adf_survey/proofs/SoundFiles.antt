@@ -1,5 +1,5 @@
 -- The data blocks of a sound file are those in its table.
-use Rattle.std.specs.Prelude.{get_or, slice_index}
+use Rattle.std.specs.Prelude.{Bool, false, get_or, slice_index}
 use Rattle.std.proofs.Common.{◌≡◌, ℕ, suc, List, [], ◌++◌, ◌*◌, ◌^◌, ◌<◌, length, sym, ap, subst, ◌∙◌, arith}
 use Rattle.adf_blocks.specs.declared.layout.TheConstants.{SECONDARY_TYPE, SIZE, ST_FILE}
 use Rattle.adf_volume.proofs.Images.{count_small}
@@ -13,35 +13,40 @@ use Rattle.adf_volume.specs.Pieces.{AreInside}
 use Rattle.adf_volume.proofs.PieceBytes.{pieces_joined}
 use Rattle.adf_volume.proofs.Roles.{same_refl}
 use Rattle.std.specs.List.{concat}
-use Rattle.adf_survey.specs.Files.{FileValue, HasItsBlocks, file_content, file_from, file_in, names_from}
+use Rattle.adf_survey.specs.Files.{FileValue, HasItsBlocks, counting, file_content, file_from, file_in, names_from}
 use Rattle.adf_survey.specs.Sound.{IsSound}
 use Rattle.adf_survey.specs.Survey.{FindingValue, IsSurvey}
 use Rattle.adf_survey.specs.Survey.IsSurvey.{read, unread}
 use Rattle.adf_survey.specs.Surveyed.{IsOfSurvey, Surveyed}
 use Rattle.adf_survey.proofs.Keeping.{tells_each}
 use Rattle.adf_survey.proofs.FileBlocks.{DatasListed, datas_listed, listed_named, names_length}
-use Rattle.adf_survey.proofs.SoundEntries.{passed_noted, sound_file}
+use Rattle.adf_survey.proofs.GraveFindings.{data_unnoted}
+use Rattle.adf_survey.proofs.SoundEntries.{passed_noted, whole_file}
 use Rattle.adf_survey.proofs.SoundMarks.{inside}
 use Rattle.adf_survey.proofs.Starts.{course_size}
 
--- the data blocks of a sound entry are in the walk in order
+-- the data blocks of a sound entry are in the walk in order; the findings that count may be the grave ones alone
+whole_listed : (image : List ℕ) (w : List (Role × ℕ)) (fs : List FindingValue) (c : Bool) (n h : ℕ) → IsSurvey image w fs
+    → IsSound image w (counting c fs) n h → DatasListed image n w
+whole_listed image w fs c n h (unread f) sound = absurd sound.header.has
+whole_listed image w fs c n h (read {s = s} {bits = bits} v d told) sound =
+    datas_listed image n v (λ k b g. let y = passed_noted image v (Data n k) b g in
+    data_unnoted c (s.findings ++ bits) n k (sound.datas k) y.0 (Data n k) (in_left s.findings bits y.0 y.1) y.2 (same_refl (Data n k)))
+
 pub sound_listed : (image : List ℕ) (w : List (Role × ℕ)) (fs : List FindingValue) (n h : ℕ) → IsSurvey image w fs → IsSound image w fs n h
     → DatasListed image n w
-sound_listed image w fs n h (unread f) sound = absurd sound.header.has
-sound_listed image w fs n h (read {s = s} {bits = bits} v d told) sound =
-    datas_listed image n v (λ k b g. let y = passed_noted image v (Data n k) b g in
-    sound.datas k y.0 (Data n k) (in_left s.findings bits y.0 y.1) y.2 (same_refl (Data n k)))
+sound_listed image w fs n h survey sound = whole_listed image w fs false n h survey sound
 
 -- the file that the table of a sound file tells is that of the walk, and it has its blocks
-pub file_told : (image : List ℕ) (w : List (Role × ℕ)) (fs : List FindingValue) (n : ℕ) → IsSurvey image w fs
-    → IsSound image w fs n (node_block w n) → word_in image (node_block w n) SECONDARY_TYPE ≡ ST_FILE
+pub file_told : (image : List ℕ) (w : List (Role × ℕ)) (fs : List FindingValue) (c : Bool) (n : ℕ) → IsSurvey image w fs
+    → IsSound image w (counting c fs) n (node_block w n) → word_in image (node_block w n) SECONDARY_TYPE ≡ ST_FILE
     → (file_from image (node_block w n) ≡ file_in image w n) × HasItsBlocks (file_in image w n)
-file_told image w fs n (unread f) sound type = absurd sound.header.has
-file_told image w fs n (read {s = s} {bits = bits} v d told) sound type =
+file_told image w fs c n (unread f) sound type = absurd sound.header.has
+file_told image w fs c n (read {s = s} {bits = bits} v d told) sound type =
     let h : ℕ = node_block s.walk n in
     let file : FileAt image s.walk n h = record { header = sound.header; type = type } in
-    let holds = sound_file image s.walk (s.findings ++ bits) n h (read v d told) sound file in
-    let listed = sound_listed image s.walk (s.findings ++ bits) n h (read v d told) sound in
+    let holds = whole_file image s.walk (s.findings ++ bits) c n h (read v d told) sound file in
+    let listed = whole_listed image s.walk (s.findings ++ bits) c n h (read v d told) sound in
     let e : names_from image h (data_count image h) ≡ datas_in s.walk n =
     listed_named image n v listed h file (λ k lt. let y = holds.named k lt in (y.1, y.4)) in (
       (λ i. record { image = image; head = h; blocks = e i }),
@@ -63,12 +68,12 @@ module _ (v : Surveyed) (kept : IsOfSurvey v) (w : List (Role × ℕ)) (fs : Lis
   pub type_is : type ≡ word_in v.image (node_block w n) SECONDARY_TYPE
   type_is = is_type ∙ (λ i. word_in (is_image i) (head_is i) SECONDARY_TYPE)
 
-  module _ (sound : IsSound v.image w fs n (node_block w n)) (file : type ≡ ST_FILE) where
+  module _ (c : Bool) (sound : IsSound v.image w (counting c fs) n (node_block w n)) (file : type ≡ ST_FILE) where
     pub file_is : file_from image head ≡ file_in v.image w n
-    file_is = (λ i. file_from (is_image i) (head_is i)) ∙ (file_told v.image w fs n h sound (sym type_is ∙ file)).0
+    file_is = (λ i. file_from (is_image i) (head_is i)) ∙ (file_told v.image w fs c n h sound (sym type_is ∙ file)).0
 
     pub has_its_blocks : HasItsBlocks (file_from image head)
-    has_its_blocks = subst HasItsBlocks (sym file_is) (file_told v.image w fs n h sound (sym type_is ∙ file)).1
+    has_its_blocks = subst HasItsBlocks (sym file_is) (file_told v.image w fs c n h sound (sym type_is ∙ file)).1
 
 -- the data blocks of a file are inside of the image
 pub blocks_inside : (f : FileValue) → HasItsBlocks f → word_in f.image f.head SIZE < 2 ^ 32 → AreInside f.image f.blocks 1

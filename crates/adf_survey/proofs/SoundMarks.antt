@@ -411,10 +411,10 @@ settled image {s = s} v bits tells g q h e = elim (in_cases s.findings bits g h)
 ]
 
 -- a header that was passed over is no node's
-pub passed_header : (image : List ℕ) (f : Found) {s : Course} → IsCourse image s → (bits : List FindingValue)
-    → Stands image f (record { walk = s.walk; passed_over = s.passed_over; findings = s.findings ++ bits })
+pub passed_header : (image : List ℕ) (f : Found) {s : Course} → IsCourse image s → (told : List FindingValue)
+    → Stands image f (record { walk = s.walk; passed_over = s.passed_over; findings = told })
     → (n p t j b : ℕ) → Has s.passed_over (Head n p t j) b → is_header f n p t j ≡ false
-passed_header image f v bits st n p t j b over = elim (cases_Bool (is_header f n p t j)) [
+passed_header image f v told st n p t j b over = elim (cases_Bool (is_header f n p t j)) [
   | inl y ↦
       let h = found_header image f _ (gathered image v) st n p t j y in
       absurd (apart image v (Head n p t j) (Head n p t j) h.0 b h.1 over (same_refl (Head n p t j)))
@@ -422,11 +422,8 @@ passed_header image f v bits st n p t j b over = elim (cases_Bool (is_header f n
 ]
 
 module _ (image : List ℕ) (f : Found) {s : Course} (v : IsCourse image s) (done : IsDone image s) (bits : List FindingValue) {b n : ℕ}
-    (tells : BitsTell image s b n bits)
-    (st : Stands image f (record { walk = s.walk; passed_over = s.passed_over; findings = s.findings ++ bits })) where
-  abbrev all : List FindingValue
-  all = s.findings ++ bits
-
+    (tells : BitsTell image s b n bits) (all : List FindingValue) (are : (g : FindingValue) → In all g → In (s.findings ++ bits) g)
+    (st : Stands image f (record { walk = s.walk; passed_over = s.passed_over; findings = all })) where
   -- a finding that speaks against an entry concerns a part of it
   speaks : (m h : ℕ) (g : FindingValue) (o : Option Part) → In all g → g.part ≡ part_role o → node_blamed f o ≡ Some m → IsSound image s.walk all m h → ⊥
   speaks m h g None i e z sound = cc
@@ -490,7 +487,7 @@ module _ (image : List ℕ) (f : Found) {s : Course} (v : IsCourse image s) (don
       not_blamed f f.findings.items m x.0 e x.1 (names x.0.part (ap (λ g. g.part) x.2 ∙ is))
 
   head_clear : (m p t j h : ℕ) → Has s.walk (Head m p t j) h → is_blamed f f.findings.items m ≡ false → IsUnnoted all (Head m p t j)
-  head_clear m p t j h has e g q i is same = elim (settled image v bits tells g q i is) [
+  head_clear m p t j h has e g q i is same = elim (settled image v bits tells g q (are g i) is) [
     | inl y ↦
         let one : q ≡ Head m p t j = (one_block image (gathered image v) q (Head m p t j) y.0 h y.1 has same).0 in
         let there : is_header f m p t j ≡ true = header_found image f _ (gathered image v) st m p t j h has in
@@ -502,10 +499,10 @@ module _ (image : List ℕ) (f : Found) {s : Course} (v : IsCourse image s) (don
 
   chains_clear : (m : ℕ) → is_blamed f f.findings.items m ≡ false → (g : FindingValue) (q t j : ℕ) → In all g → g.part ≡ Some (Head q m t j)
       → (b : ℕ) × Has s.walk (Head q m t j) b
-  chains_clear m e g q t j i is = elim (settled image v bits tells g (Head q m t j) i is) [
+  chains_clear m e g q t j i is = elim (settled image v bits tells g (Head q m t j) (are g i) is) [
     | inl y ↦ y
     | inr y ↦
-        let none : is_header f q m t j ≡ false = passed_header image f v bits st q m t j y.0 y.1 in
+        let none : is_header f q m t j ≡ false = passed_header image f v all st q m t j y.0 y.1 in
         absurd (unspoken m e g (Head q m t j) i is (λ o z.
         ap (node_blamed f) (head_part o q m t j z) ∙ ap (λ t. option_map node_of (Some (cond t (Entry q) (Within m)))) none))
   ]

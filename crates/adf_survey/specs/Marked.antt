@@ -11,6 +11,10 @@ use Rattle.adf_survey.specs.Surveyed.{Surveyed}
 abbrev pub AreMarks : List ℕ → List (Role × ℕ) → List FindingValue → (ℕ → Bool) → Type 0
 AreMarks image w fs sound = (n : ℕ) → (sound n ≡ true) ↔ IsSound image w fs n (node_block w n)
 
+-- the marks of the entries that are sound but for harmless findings of headers, in a result
+abbrev pub whole_in : Surveyed → ℕ → Bool
+whole_in v n = nat_le 1 n && has_mark v.whole n
+
 -- the marks in a result
 abbrev pub mark_in : Surveyed → ℕ → Bool
 mark_in v n = nat_le 1 n && has_mark v.sound n

@@ -6,14 +6,15 @@ use Rattle.adf_volume.specs.Walk.{Role, heads, node_block}
 use Rattle.adf_survey.specs.declared.concern.Concern.{Concern}
 use Rattle.adf_survey.specs.declared.part.Finding.{Finding}
 use Rattle.adf_survey.specs.Concerned.{concern_of_nth, is_taken}
+use Rattle.adf_survey.specs.Files.{grave}
 use Rattle.adf_survey.specs.Found.{owner, parent_node}
 use Rattle.adf_survey.specs.Marks.{has_mark}
 use Rattle.adf_survey.specs.Parts.{finding_value}
 use Rattle.adf_survey.specs.Sound.{IsSound}
 use Rattle.adf_survey.specs.Survey.{FindingValue, IsSurvey}
 
--- the result: the findings and what they concern; the entry of each block; for each node its block, its parent, and
--- whether it is sound
+-- the result: the findings and what they concern; the entry of each block; for each node its block, its parent, whether
+-- it is sound, and whether it is but for harmless findings of headers
 pub record Surveyed : Type 0 where
   pub image : List ℕ
   pub findings : List Finding
@@ -22,11 +23,20 @@ pub record Surveyed : Type 0 where
   pub nodes : List ℕ
   pub parents : List ℕ
   pub sound : List Bool
+  pub whole : List Bool
 
 -- the result from its parts
-abbrev pub kept_of : List ℕ → List Finding → List (Option Concern) → List ℕ → List ℕ → List ℕ → List Bool → Surveyed
-kept_of image findings concerned owners nodes parents sound =
-    record { image = image; findings = findings; concerned = concerned; owners = owners; nodes = nodes; parents = parents; sound = sound }
+abbrev pub kept_of : List ℕ → List Finding → List (Option Concern) → List ℕ → List ℕ → List ℕ → List Bool → List Bool → Surveyed
+kept_of image findings concerned owners nodes parents sound whole = record {
+  image = image;
+  findings = findings;
+  concerned = concerned;
+  owners = owners;
+  nodes = nodes;
+  parents = parents;
+  sound = sound;
+  whole = whole;
+}
 
 -- the entry of a block by the numbers kept of blocks; none for 0
 abbrev pub owner_at : List ℕ → ℕ → Option ℕ
@@ -46,6 +56,7 @@ pub record TellsOf (v : Surveyed) (w : List (Role × ℕ)) (fs : List FindingVal
   pub parent : (n : ℕ) → slice_index v.parents n ≡ parent_node w n
   pub count : length v.nodes - 1 ≡ heads w
   pub sound : (n : ℕ) → 1 ≤ n → (has_mark v.sound n ≡ true) ↔ IsSound v.image w fs n (node_block w n)
+  pub whole : (n : ℕ) → 1 ≤ n → (has_mark v.whole n ≡ true) ↔ IsSound v.image w (grave fs) n (node_block w n)
 
 -- the result is that of a survey
 abbrev pub IsOfSurvey : Surveyed → Type 0

@@ -1,12 +1,16 @@
 // The marks of sound entries.
 
 ghost use Rattle.std.specs.Prelude.{◌≡◌, ◌==◌, ◌&&◌, ℕ, IfOk, map, not};
+ghost use Rattle.std.specs.List.{filter};
+ghost use Rattle.adf_survey.specs.Files.{is_harmless, is_light};
+ghost use Rattle.adf_survey.specs.Parts.{finding_value};
 ghost use Rattle.adf_survey.specs.Marks.{blamed, has_mark, is_blamed, is_clear, is_header, is_sharing, sharing};
 
 use crate::concern::Concern;
 use crate::found::{DataBlock, Found};
 use crate::image::Image;
-use crate::part::Part;
+use crate::part::{Finding, Part};
+use adf_blocks::Cause;
 use adf_fields::NoMemory;
 use adf_tree::Kind;
 use std::alloc::Global;
@@ -106,6 +110,42 @@ fn strike_sharing(found: &Found, marks: &mut Vec<bool>)
             strike(marks, node);
         }
     }
+}
+
+// Whether a header with this cause is itself, with the words that tell where its file's blocks are.
+fn is_harmless(cause: Cause) -> bool
+    ensures { result ≡ is_harmless cause }
+{
+    matches!(
+        cause,
+        Cause::BadName | Cause::BadComment | Cause::WrongSlot | Cause::BadFirst | Cause::SameName
+    )
+}
+
+// Whether a finding leaves a file its blocks: a harmless one of a header.
+fn is_light(finding: Finding) -> bool
+    ensures { result ≡ is_light (finding_value finding) }
+{
+    match finding.part {
+        Some(Part::Head { .. }) => is_harmless(finding.cause),
+        _ => false,
+    }
+}
+
+/// The findings but those that leave a file its blocks.
+pub fn grave(alloc: Global, findings: &[Finding]) -> Result<Vec<Finding>, NoMemory>
+    ensures { IfOk result (λ v. v.items ≡ filter (λ x. not (is_light (finding_value x))) findings.now) }
+{
+    let mut graves = Vec::new(alloc);
+    for finding in findings {
+        if is_light(*finding) {
+            continue;
+        }
+        if graves.push(*finding).is_err() {
+            return Err(NoMemory);
+        }
+    }
+    Ok(graves)
 }
 
 /// The marks of the nodes: true if no finding concerns the node, or what is within it.

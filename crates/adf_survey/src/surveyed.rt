@@ -10,9 +10,9 @@ ghost use Rattle.adf_volume.specs.Image.{letters_of, name_of};
 ghost use Rattle.adf_volume.specs.Walk.{Has, heads, node_block};
 ghost use Rattle.adf_volume.specs.Walk.Role.{Head};
 ghost use Rattle.adf_survey.specs.Concerned.{concern_of_nth, owner_of_nth};
-ghost use Rattle.adf_survey.specs.Files.{IsSoundFile, file_in};
+ghost use Rattle.adf_survey.specs.Files.{IsSoundFile, counting, file_in, grave};
 ghost use Rattle.adf_survey.specs.Found.{parent_node};
-ghost use Rattle.adf_survey.specs.Marked.{AreMarks, mark_in};
+ghost use Rattle.adf_survey.specs.Marked.{AreMarks, mark_in, whole_in};
 ghost use Rattle.adf_survey.specs.Marks.{has_mark};
 ghost use Rattle.adf_survey.specs.Opening.{opening_in};
 ghost use Rattle.adf_survey.specs.Parts.{finding_value};
@@ -44,6 +44,7 @@ pub struct Survey<'i> {
     nodes: Vec<u32>,
     parents: Vec<u32>,
     sound: Vec<bool>,
+    whole: Vec<bool>,
 }
 
 impl<'i> Model for Survey<'i> {
@@ -51,10 +52,10 @@ impl<'i> Model for Survey<'i> {
 
     ghost Value = { Surveyed };
 
-    ghost view = { λ v. kept_of v.image.now v.findings.items v.concerned.items v.owners.items v.nodes.items v.parents.items v.sound.items };
+    ghost view = { λ v. kept_of v.image.now v.findings.items v.concerned.items v.owners.items v.nodes.items v.parents.items v.sound.items v.whole.items };
 
     ghost invariant = { λ v. IsOfSurvey
-        (kept_of v.image.now v.findings.items v.concerned.items v.owners.items v.nodes.items v.parents.items v.sound.items) };
+        (kept_of v.image.now v.findings.items v.concerned.items v.owners.items v.nodes.items v.parents.items v.sound.items v.whole.items) };
 }
 
 // Whether a node has a mark.
@@ -88,12 +89,13 @@ impl<'i> Survey<'i> {
         nodes: Vec<u32>,
         parents: Vec<u32>,
         sound: Vec<bool>,
+        whole: Vec<bool>,
     ) -> Survey<'i>
         requires { IsOfSurvey
             (kept_of image.now findings.items concerned.items owners.items
-            nodes.items parents.items sound.items) }
+            nodes.items parents.items sound.items whole.items) }
         ensures { result ≡ kept_of image.now findings.items concerned.items owners.items
-            nodes.items parents.items sound.items }
+            nodes.items parents.items sound.items whole.items }
     {
         Survey {
             image,
@@ -103,6 +105,7 @@ impl<'i> Survey<'i> {
             nodes,
             parents,
             sound,
+            whole,
         }
     }
 }
@@ -247,12 +250,34 @@ impl Survey<'_> {
         Some(self.directory_of(n))
     }
 
+    // Whether an entry is sound; by the grave findings alone, if these count.
+    fn is_clear(&self, n: Node, grave: bool) -> bool
+        ensures { OnSurvey self.now.image (λ w fs.
+            IsTrue result ↔ IsSound self.now.image w (counting grave fs) n (node_block w n)) }
+    {
+        if n.0 == 0 {
+            return false;
+        }
+        if grave {
+            return has_mark(&self.whole, n.0);
+        }
+        has_mark(&self.sound, n.0)
+    }
+
     /// Whether an entry is sound: no finding concerns its parts, and of a directory, no header within it was passed over.
     pub fn is_sound(&self, n: Node) -> bool
         ensures { OnSurvey self.now.image (λ w fs.
             IsTrue result ↔ IsSound self.now.image w fs n (node_block w n)) }
     {
-        n.0 != 0 && has_mark(&self.sound, n.0)
+        self.is_clear(n, false)
+    }
+
+    /// States that the kept marks of whole entries are those of the entries that are sound by the grave findings; does
+    /// nothing at run time.
+    pub fn whole_marks(&self)
+        ensures { OnSurvey self.now.image (λ w fs. AreMarks self.now.image w (grave fs) (whole_in self.now)) }
+    {
+        let _whole = &self.whole;
     }
 
     /// States that the kept marks are those of the sound entries; does nothing at run time.
@@ -264,6 +289,35 @@ impl Survey<'_> {
 }
 
 impl<'i> Survey<'i> {
+    // A file that is sound, or is by the grave findings alone, if these count.
+    fn file_by(
+        &self,
+        alloc: Global,
+        n: Node,
+        grave: bool,
+    ) -> Result<Option<SoundFile<'i>>, NoMemory>
+        ensures some { OnSurvey self.now.image (λ w fs.
+            IfOk result (λ x. IsSome x ↔ IsSoundFile self.now.image w (counting grave fs) n)) }
+        ensures file { OnSurvey self.now.image (λ w _.
+            IfOk result (λ x. IfSome x (λ f. f ≡ file_in self.now.image w n))) }
+        ensures none { OnSurvey self.now.image (λ w fs.
+            (IsSoundFile self.now.image w (counting grave fs) n → ⊥) → IsOk result) }
+        ensures empty { OnSurvey self.now.image (λ w _.
+            (file_in self.now.image w n).blocks ≡ [] → IsOk result) }
+    {
+        if !self.is_clear(n, grave) {
+            return Ok(None);
+        }
+        let Ok(started) = start(self.image) else {
+            return Ok(None);
+        };
+        let head = number_at(&self.nodes, n.0);
+        if started.image.word(head, SECONDARY_TYPE) != ST_FILE {
+            return Ok(None);
+        }
+        Ok(Some(SoundFile::at(alloc, &started.image, head)?))
+    }
+
     /// A sound file; `None` for anything else. `NoMemory` if an allocation fails; never if there is no sound file,
     /// or it is empty.
     pub fn file(&self, alloc: Global, n: Node) -> Result<Option<SoundFile<'i>>, NoMemory>
@@ -276,16 +330,18 @@ impl<'i> Survey<'i> {
         ensures empty { OnSurvey self.now.image (λ w _.
             (file_in self.now.image w n).blocks ≡ [] → IsOk result) }
     {
-        if !self.is_sound(n) {
-            return Ok(None);
-        }
-        let Ok(started) = start(self.image) else {
-            return Ok(None);
-        };
-        let head = number_at(&self.nodes, n.0);
-        if started.image.word(head, SECONDARY_TYPE) != ST_FILE {
-            return Ok(None);
-        }
-        Ok(Some(SoundFile::at(alloc, &started.image, head)?))
+        self.file_by(alloc, n, false)
+    }
+
+    /// A file with all of its blocks: one that is sound but for causes of its header that leave it itself (`bad name`,
+    /// `bad comment`, `wrong slot`, `bad first`, `same name`); `None` for anything else. `NoMemory` if an allocation
+    /// fails.
+    pub fn whole_file(&self, alloc: Global, n: Node) -> Result<Option<SoundFile<'i>>, NoMemory>
+        ensures some { OnSurvey self.now.image (λ w fs.
+            IfOk result (λ x. IsSome x ↔ IsSoundFile self.now.image w (grave fs) n)) }
+        ensures file { OnSurvey self.now.image (λ w _.
+            IfOk result (λ x. IfSome x (λ f. f ≡ file_in self.now.image w n))) }
+    {
+        self.file_by(alloc, n, true)
     }
 }

@@ -10,7 +10,7 @@ ghost use Rattle.adf_survey.specs.Survey.{BootTells, FindingValue, IsSurvey, Roo
 use crate::bits::compare;
 use crate::course::run;
 use crate::found::Found;
-use crate::marks::{clear_marks, concerned};
+use crate::marks::{clear_marks, concerned, grave};
 use crate::part::{Finding, Part};
 use crate::start::{Started, Unread, start};
 use crate::surveyed::Survey;
@@ -18,6 +18,7 @@ use adf_blocks::Cause;
 use adf_fields::NoMemory;
 use adf_volume::Unopened;
 use std::alloc::Global;
+use std::mem::replace;
 
 // Notes the cause of the boot block, if it has one.
 fn note_boot(findings: &mut Vec<Finding>, boot: Option<Cause>) -> Result<(), NoMemory>
@@ -61,6 +62,7 @@ fn only<'i>(alloc: Global, image: &'i [u8], unread: Unread) -> Result<Survey<'i>
             Vec::new(alloc),
             Vec::new(alloc),
             Vec::new(alloc),
+            Vec::new(alloc),
         )),
         Err(_) => Err(NoMemory),
     }
@@ -98,14 +100,18 @@ fn go_through<'i>(alloc: Global, started: &Started<'i>) -> Result<Survey<'i>, No
     compare(image, &mut found)?;
     let concerned = concerned(alloc, &found)?;
     let sound = clear_marks(alloc, image, &found)?;
+    let graves = grave(alloc, &found.findings)?;
+    let findings = replace(&mut found.findings, graves);
+    let whole = clear_marks(alloc, image, &found)?;
     Ok(Survey::new(
         image.bytes(),
-        found.findings,
+        findings,
         concerned,
         found.owners,
         found.nodes,
         found.parents,
         sound,
+        whole,
     ))
 }
 

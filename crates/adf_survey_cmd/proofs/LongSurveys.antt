@@ -6,6 +6,7 @@ use Rattle.std.proofs.lemmas.List.{take-take}
 use Rattle.adf_blocks.specs.declared.layout.TheConstants.{MOST_BLOCKS}
 use Rattle.adf_blocks.specs.declared.cause.Cause.TheVariants.{BadSize}
 use Rattle.adf_volume.specs.Walk.{Role}
+use Rattle.adf_survey.specs.Files.{grave}
 use Rattle.adf_survey.specs.Lookup.{LeadsTo}
 use Rattle.adf_survey.specs.Marked.{AreMarks}
 use Rattle.adf_survey.specs.Survey.{FindingValue, IsSurvey, finding}
@@ -35,8 +36,8 @@ unfolding bad_size runs_from
 same_text image bytes = refl
 
 -- nothing is found, and so nothing is sound
-no_marks : (image : List ℕ) → AreMarks image [] bad_size (λ n. false)
-no_marks image n = ((λ t. cc), (λ s. absurd s.header.has))
+no_marks : (image : List ℕ) (fs : List FindingValue) → AreMarks image [] fs (λ n. false)
+no_marks image fs n = ((λ t. cc), (λ s. absurd s.header.has))
 
 same_leads : (image bytes : List ℕ) (names : List (List ℕ)) (n : ℕ) → LeadsTo image [] 0 names n → LeadsTo bytes [] 0 names n
 same_leads image bytes [] n h = h
@@ -57,7 +58,7 @@ it_finds e = cc
 same_rescue : (image bytes opened_image opened_bytes : List ℕ) (reply : Reply) → 512 * MOST_BLOCKS < length image → 512 * MOST_BLOCKS < length bytes
     → RescuesFound image opened_image [] bad_size reply → RescuesFound bytes opened_bytes [] bad_size reply
 same_rescue image bytes opened_image opened_bytes reply a b (sound, marks, inl (none, (f, first, e))) =
-    ((λ n. false), no_marks opened_bytes, inl ((refl, inr it_finds), (f, long_fault image bytes f a b first, e)))
+    ((λ n. false), no_marks opened_bytes (grave bad_size), inl ((refl, inr it_finds), (f, long_fault image bytes f a b first, e)))
 same_rescue image bytes opened_image opened_bytes reply a b (sound, marks, inr (some, e)) = absurd (some (refl, inr it_finds))
 
 -- an image that is opened is as long
@@ -79,7 +80,7 @@ long_questions report image bytes a b reply (w, fs, s, e) =
 long_questions list image bytes a b reply (w, fs, s, told) =
     let (date, dates, sound, marks, e) = of_long image w fs (λ u gs. TellsFound image u gs reply) a s told in
     let same = ap (λ t. on_output (findings_status bad_size) (t ++ [])) (same_text image bytes) in
-    ([], bad_size, long_survey bytes b, (date, dates, (λ n. false), no_marks bytes, e ∙ same))
+    ([], bad_size, long_survey bytes b, (date, dates, (λ n. false), no_marks bytes bad_size, e ∙ same))
 long_questions (cat path) image bytes a b reply (inl bad) = inl bad
 long_questions (cat path) image bytes a b reply (inr (names, text, w, fs, s, found)) =
     let same = of_long image w fs (λ u gs. CopiesFound image u gs names reply) a s found in

@@ -4,7 +4,7 @@ use Rattle.std.proofs.Common.{◌≡◌, ◌∙◌, inl, inr, ℕ, Bool, List, [
 use mathlib.Core.Path.{fun_ext}
 use Rattle.adf_tree.proofs.PathParts.{one_path}
 use Rattle.adf_volume.specs.Walk.{FileAt, Role, node_block}
-use Rattle.adf_survey.specs.Files.{IsSoundFile}
+use Rattle.adf_survey.specs.Files.{IsSoundFile, grave}
 use Rattle.adf_survey.specs.Lookup.{LeadsTo}
 use Rattle.adf_survey.specs.Marked.{AreMarks}
 use Rattle.adf_survey.specs.Survey.{FindingValue}
@@ -103,7 +103,7 @@ by_marks_once input image w fs sound a b (inr (some, x)) (inr (also, y)) = volum
 found_rescued_once : (input image : List ℕ) (w : List (Role × ℕ)) (fs : List FindingValue) (a b : Reply) → RescuesFound input image w fs a
     → RescuesFound input image w fs b → a ≡ b
 found_rescued_once input image w fs a b (sound, marks, x) (others, also, y) =
-    by_marks_once input image w fs others a b (subst (λ s. RescuesBy input image w fs s a) (one_marks image w fs sound others marks also) x) y
+    by_marks_once input image w fs others a b (subst (λ s. RescuesBy input image w fs s a) (one_marks image w (grave fs) sound others marks also) x) y
 
 rescued_once : (input image : List ℕ) (a b : Reply) → RescuesIn input image a → RescuesIn input image b → a ≡ b
 rescued_once input image a b (w, fs, s, x) (u, gs, t, y) =

@@ -6,6 +6,7 @@ use Rattle.adf_tree.specs.Tree.{Tree}
 use Rattle.adf_volume.specs.Fits.{Fits}
 use Rattle.adf_volume.specs.Layout.{Layout}
 use Rattle.adf_volume.specs.Walk.{Role}
+use Rattle.adf_survey.specs.Files.{grave}
 use Rattle.adf_survey.specs.Marked.{AreMarks}
 use Rattle.adf_survey.specs.Survey.{FindingValue, IsSurvey}
 use Rattle.adf_survey.proofs.FirstFindings.{finds_none}
@@ -20,7 +21,7 @@ if_some o x P e h = subst (λ o. IfSome o P) e h
 
 -- what is answered by the survey of an opened image
 pub found_answers : (input image : List ℕ) (w : List (Role × ℕ)) (fs : List FindingValue) (sound : ℕ → Bool) (reply : Reply) → image ≡ opened input
-    → IsSurvey image w fs → AreMarks image w fs sound → RescuesBy input image w fs sound reply → Rescues input reply
+    → IsSurvey image w fs → AreMarks image w (grave fs) sound → RescuesBy input image w fs sound reply → Rescues input reply
 found_answers input image w fs sound reply same survey marks by =
     subst (λ (l : List ℕ). RescuesIn input l reply) same (w, fs, survey, (sound, marks, by))
 

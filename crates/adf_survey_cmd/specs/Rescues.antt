@@ -4,6 +4,7 @@ use Rattle.std.specs.Prelude.{◌≡◌, ◌⊎◌, ℕ, Bool, List, [], ◌∷�
 use Rattle.std.specs.List.{flat_map}
 use Rattle.adf_blocks.specs.Sizes.{blocks}
 use Rattle.adf_volume.specs.Walk.{Role}
+use Rattle.adf_survey.specs.Files.{grave}
 use Rattle.adf_survey.specs.Lookup.{path_to}
 use Rattle.adf_survey.specs.Marked.{AreMarks}
 use Rattle.adf_survey.specs.Survey.{FindingValue, IsSurvey}
@@ -54,7 +55,7 @@ RescuesBy input image w fs sound reply =
 
 -- the rescue of an input by what is found in an image
 abbrev pub RescuesFound : List ℕ → List ℕ → List (Role × ℕ) → List FindingValue → Reply → Type 0
-RescuesFound input image w fs reply = (sound : ℕ → Bool) × AreMarks image w fs sound × RescuesBy input image w fs sound reply
+RescuesFound input image w fs reply = (sound : ℕ → Bool) × AreMarks image w (grave fs) sound × RescuesBy input image w fs sound reply
 
 -- the rescue of an input by the survey of an image
 abbrev pub RescuesIn : List ℕ → List ℕ → Reply → Type 0

@@ -107,7 +107,7 @@ fn rescue_opened<W: Sink>(alloc: Global, input: &[u8], image: &[u8], output: &mu
     let Ok(found) = survey(alloc, image) else {
         return Outcome::NoMemory;
     };
-    found.marks();
+    found.whole_marks();
     match rescue(alloc, &found, is_mended(input)) {
         Ok(Some(rescued)) => write_rescued(alloc, &found, &rescued, output),
         Ok(None) => refuse(alloc, input),

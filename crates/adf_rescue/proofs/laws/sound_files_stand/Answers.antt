@@ -1,5 +1,7 @@
+use Rattle.adf_survey.specs.Files.{grave}
+use Rattle.adf_survey.proofs.GraveFindings.{sound_is_whole}
 use Rattle.adf_rescue.proofs.RescueLaws.{sound_verdict}
 use Rattle.adf_rescue.proofs.laws.sound_files_stand.Goals as goal
 
 pub returns : goal.returns
-returns c = sound_verdict
+returns c = record { whole = sound_is_whole; stand = λ image w fs. sound_verdict image w (grave fs) }

@@ -1,6 +1,6 @@
 use Rattle.std.proofs.Common.{◌≡◌, ℕ, Bool, List, arith, subst, sym}
 use Rattle.adf_volume.specs.Walk.{heads}
-use Rattle.adf_survey.specs.Marked.{mark_in}
+use Rattle.adf_survey.specs.Marked.{whole_in}
 use Rattle.adf_rescue.specs.Rescue.{Verdict, verdicts}
 use Rattle.adf_rescue.specs.Salvage.{IsSalvage}
 use Rattle.adf_rescue.proofs.Steps.{next_is, verdicts_more}
@@ -15,8 +15,8 @@ take-requires c =
     let some = c.some_survey.ensures image in
     let w = some.0 in
     let fs = some.1 in
-    let sound : ℕ → Bool = mark_in c.args.survey.now in
-    let marks = c.marks.ensures w fs some.2 in
+    let sound : ℕ → Bool = whole_in c.args.survey.now in
+    let marks = c.whole_marks.ensures w fs some.2 in
     let all = c.len-before-end.ensures w fs some.2 in
     record {
       walk = w;

@@ -1,5 +1,10 @@
-use Rattle.std.proofs.Common.{◌++◌, sym, subst}
+use Rattle.std.specs.Prelude.{not}
+use Rattle.std.specs.List.{filter}
+use Rattle.std.proofs.Common.{◌≡◌, ◌++◌, ◌∙◌, ℕ, List, ap, refl, sym, subst}
 use Rattle.adf_survey.specs.declared.found.Found.{Found}
+use Rattle.adf_survey.specs.declared.part.Finding.{Finding}
+use Rattle.adf_survey.specs.Files.{is_light}
+use Rattle.adf_survey.specs.Parts.{finding_value}
 use Rattle.adf_survey.specs.Start.{boot_findings, root_findings}
 use Rattle.adf_survey.specs.Survey.IsCourse.{start}
 use Rattle.adf_survey.specs.Surveyed.{IsOfSurvey, kept_of}
@@ -19,7 +24,14 @@ run-requires c =
 pub new-requires : goal.new-requires
 new-requires c =
     let f : Found = c.compare.new.found in
+    let g : Found = record f { findings = c.replace-findings.new.dest } in
     let entries = c.in_ok-concerned.concerned.items in
-    subst (λ i. IsOfSurvey (kept_of i f.findings.items entries f.owners.items f.nodes.items f.parents.items c.in_ok-sound.sound.items)) (sym c.bytes.ensures)
-    (read_kept c.args.started.now.image f entries c.in_ok-sound.sound.items c.in_ok-compare.ensures
-    c.in_ok-concerned.ensures c.in_ok-sound.ensures)
+    let sound = c.in_ok-sound.sound.items in
+    let whole = c.in_ok-whole.whole.items in
+    let put : g.findings.items ≡ c.in_ok-graves.graves.items = λ i. (c.replace-findings.ensures.after i).items in
+    let graves = put ∙ (c.in_ok-graves.ensures ∙ ap (filter (λ (x : Finding). not (is_light (finding_value x)))) c.deref.ensures.value) in
+    let all : f.findings.items ≡ c.replace-findings.result.items = λ i. (sym c.replace-findings.ensures.value i).items in
+    subst (λ (x : List ℕ × List Finding). IsOfSurvey (kept_of x.0 x.1 entries f.owners.items f.nodes.items f.parents.items sound whole))
+    (λ t. (sym c.bytes.ensures t, all t))
+    (read_kept c.args.started.now.image f g entries sound whole c.in_ok-compare.ensures c.in_ok-concerned.ensures c.in_ok-sound.ensures refl graves
+    c.in_ok-whole.ensures)

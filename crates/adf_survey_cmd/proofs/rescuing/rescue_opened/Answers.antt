@@ -1,5 +1,5 @@
 use Rattle.std.proofs.Common.{◌≡◌, ◌∙◌, ℕ, Bool, List, ap, false, inl, inr, is_some, map, subst, sym, true}
-use Rattle.adf_survey.specs.Marked.{mark_in}
+use Rattle.adf_survey.specs.Marked.{whole_in}
 use Rattle.adf_survey.specs.Parts.{finding_value}
 use Rattle.adf_survey.specs.Survey.{FindingValue, IsSurvey}
 use Rattle.adf_rescue.specs.Opened.{is_mended}
@@ -17,8 +17,8 @@ returns-in-Ok-Some-clause-ends g c =
     let (w, survey) = c.in-Ok.ensures.findings in
     let fs : List FindingValue = map finding_value v.findings in
     let here = subst (λ (image : List ℕ). IsSurvey image w fs) (sym c.in-Ok.ensures.image) survey in
-    let sound : ℕ → Bool = mark_in v in
-    let marks = c.marks.ensures w fs here in
+    let sound : ℕ → Bool = whole_in v in
+    let marks = c.whole_marks.ensures w fs here in
     let kept = c.in-Ok-Some.ensures in
     let is = c.in-Ok-Some.field-0-is in
     let volume = c.in-Ok-Some.rescued.image.items in
@@ -43,8 +43,8 @@ refuse-requires g c =
     let (w, survey) = c.in-Ok.ensures.findings in
     let fs : List FindingValue = map finding_value v.findings in
     let here = subst (λ (image : List ℕ). IsSurvey image w fs) (sym c.in-Ok.ensures.image) survey in
-    let sound : ℕ → Bool = mark_in v in
-    let marks = c.marks.ensures w fs here in
+    let sound : ℕ → Bool = whole_in v in
+    let marks = c.whole_marks.ensures w fs here in
     let nothing =
     subst (StandsNothing v.image w fs sound) c.is_mended.ensures ((c.in-Ok-None.ensures.none w fs sound here marks).0 (ap is_some c.in-Ok-None.field-0-is)) in
     none_fits_it c.args.input.now v.image w fs (c.in-Ok.ensures.image ∙ c.requires.opened) here nothing.1
@@ -56,8 +56,8 @@ returns-in-Ok-None-clause-ends g c =
     let (w, survey) = c.in-Ok.ensures.findings in
     let fs : List FindingValue = map finding_value v.findings in
     let here = subst (λ (image : List ℕ). IsSurvey image w fs) (sym c.in-Ok.ensures.image) survey in
-    let sound : ℕ → Bool = mark_in v in
-    let marks = c.marks.ensures w fs here in
+    let sound : ℕ → Bool = whole_in v in
+    let marks = c.whole_marks.ensures w fs here in
     let nothing =
     subst (StandsNothing v.image w fs sound) c.is_mended.ensures ((c.in-Ok-None.ensures.none w fs sound here marks).0 (ap is_some c.in-Ok-None.field-0-is)) in
     refused_image_ends c.refuse.result input (Rescues input) _

@@ -7,7 +7,7 @@ use Rattle.adf_survey.specs.Survey.{UnreadTells}
 use Rattle.adf_survey.specs.Surveyed.{IsOfSurvey}
 use Rattle.adf_survey.proofs.Openings.{entry_begun}
 use Rattle.adf_survey.proofs.SoundFiles.{file_is, has_its_blocks, type_is}
-use Rattle.adf_survey.proofs.surveyed.Survey.file.Goals as goal
+use Rattle.adf_survey.proofs.surveyed.Survey.file_by.Goals as goal
 
 abbrev blocks_of : FileValue → List ℕ
 blocks_of f = f.blocks
@@ -36,15 +36,15 @@ at-requires c =
     let kept = subst IsOfSurvey c.self.view_is c.self.invariant in
     let image = c.in-Ok.ensures.image ∙ ap (λ v. v.image) c.self.view_is in
     let head = c.number_at-head.ensures ∙ (λ i. slice_index (c.self.view_is i).nodes (c.n.view_is i)) in
-    let sound = (c.is_sound.ensures kept.0 kept.1 kept.2.survey).0 c.if-not-is_sound.false in
-    has_its_blocks c.args.self.now kept kept.0 kept.1 kept.2.survey c.args.n image head c.word.ensures sound c.if-word.false
+    let sound = (c.is_clear.ensures kept.0 kept.1 kept.2.survey).0 c.if-not-is_clear.false in
+    has_its_blocks c.args.self.now kept kept.0 kept.1 kept.2.survey c.args.n image head c.word.ensures c.args.grave sound c.if-word.false
 
 pub returns-in_err-at-clause-none : goal.returns-in_err-at-clause-none
 returns-in_err-at-clause-none c = λ w fs h no.
     let kept = subst IsOfSurvey c.self.view_is c.self.invariant in
     let image = c.in-Ok.ensures.image ∙ ap (λ v. v.image) c.self.view_is in
     let head = c.number_at-head.ensures ∙ (λ i. slice_index (c.self.view_is i).nodes (c.n.view_is i)) in
-    let sound = (c.is_sound.ensures w fs h).0 c.if-not-is_sound.false in
+    let sound = (c.is_clear.ensures w fs h).0 c.if-not-is_clear.false in
     absurd (no (sound, sym (type_is c.args.self.now kept w fs h c.args.n image head c.word.ensures) ∙ c.if-word.false))
 
 pub returns-clause-some : goal.returns-clause-some
@@ -52,7 +52,7 @@ returns-clause-some c = λ w fs h.
     let kept = subst IsOfSurvey c.self.view_is c.self.invariant in
     let image = c.in-Ok.ensures.image ∙ ap (λ v. v.image) c.self.view_is in
     let head = c.number_at-head.ensures ∙ (λ i. slice_index (c.self.view_is i).nodes (c.n.view_is i)) in
-    let sound = (c.is_sound.ensures w fs h).0 c.if-not-is_sound.false in
+    let sound = (c.is_clear.ensures w fs h).0 c.if-not-is_clear.false in
     let type = type_is c.args.self.now kept w fs h c.args.n image head c.word.ensures in
     ((λ e. (sound, sym type ∙ c.if-word.false)), (λ y. refl))
 
@@ -61,14 +61,14 @@ returns-clause-file c = λ w fs h.
     let kept = subst IsOfSurvey c.self.view_is c.self.invariant in
     let image = c.in-Ok.ensures.image ∙ ap (λ v. v.image) c.self.view_is in
     let head = c.number_at-head.ensures ∙ (λ i. slice_index (c.self.view_is i).nodes (c.n.view_is i)) in
-    let sound = (c.is_sound.ensures w fs h).0 c.if-not-is_sound.false in
-    c.in_ok-at.ensures.file ∙ file_is c.args.self.now kept w fs h c.args.n image head c.word.ensures sound c.if-word.false
+    let sound = (c.is_clear.ensures w fs h).0 c.if-not-is_clear.false in
+    c.in_ok-at.ensures.file ∙ file_is c.args.self.now kept w fs h c.args.n image head c.word.ensures c.args.grave sound c.if-word.false
 
 pub returns-in_err-at-clause-empty : goal.returns-in_err-at-clause-empty
 returns-in_err-at-clause-empty c = λ w fs h none.
     let kept = subst IsOfSurvey c.self.view_is c.self.invariant in
     let image = c.in-Ok.ensures.image ∙ ap (λ v. v.image) c.self.view_is in
     let head = c.number_at-head.ensures ∙ (λ i. slice_index (c.self.view_is i).nodes (c.n.view_is i)) in
-    let sound = (c.is_sound.ensures w fs h).0 c.if-not-is_sound.false in
-    let same = file_is c.args.self.now kept w fs h c.args.n image head c.word.ensures sound c.if-word.false in
+    let sound = (c.is_clear.ensures w fs h).0 c.if-not-is_clear.false in
+    let same = file_is c.args.self.now kept w fs h c.args.n image head c.word.ensures c.args.grave sound c.if-word.false in
     let no = c.in_err-at.ensures.empty (ap blocks_of same ∙ none) in absurd (cc)
