@@ -33,7 +33,8 @@ Progress may a b status o o' failed e e' =
 -- the line of a name was written, and what is said of its file was said
 abbrev pub Line : Reports → List ℕ → ℕ → Option (List ℕ) → Option (List ℕ) → Bool → Option (List ℕ) → Bool → Option (List ℕ) → Type 0
 Line may name status o o' failed e failed' e' =
-    (text : List ℕ) × (why : Option Unopened) × may name status text why × Appends o o' (shelf_line name text) × SaysMore failed e failed' e' (why_line name why)
+    (text : List ℕ) × (why : Option Unopened) × may name status text why × Appends o o' (shelf_line name text)
+    × SaysMore failed e failed' e' (why_line name why)
 
 -- a line behind others
 lines_added : (may : Reports) (names : List (List ℕ)) (s t : ℕ) (output said name text : List ℕ) (why : Option Unopened)
