@@ -1,3 +1,4 @@
 pub mod Products
 pub mod OneAnswer
 pub mod FoundSteps
+pub mod TablesEnough

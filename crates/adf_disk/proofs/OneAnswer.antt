@@ -25,7 +25,7 @@ one_rdsk {a = a} {b = b} r s = elim (cases_lt a b) [
 ]
 
 -- and one place of its tables
-one_tables : {bytes : List ℕ} {t u : Tables} → IsTables bytes t → IsTables bytes u → t ≡ u
+pub one_tables : {bytes : List ℕ} {t u : Tables} → IsTables bytes t → IsTables bytes u → t ≡ u
 one_tables {bytes} r s = r.same ∙ ap (tables_at bytes) (one_rdsk r.rdsk s.rdsk) ∙ sym s.same
 
 some_tables : {bytes : List ℕ} {t : Tables} {f : DiskFault} → IsTables bytes t → HasNoTables bytes f → ⊥

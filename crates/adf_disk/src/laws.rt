@@ -1,7 +1,9 @@
 // Each disk has one answer. Each law is the contract of a function that does nothing at run time.
 
-ghost use Rattle.std.specs.Prelude.{◌≡◌, ℕ, List};
-ghost use Rattle.adf_disk.specs.Disks.{FirstFault, IsDisk};
+ghost use Rattle.std.specs.Prelude.{◌≡◌, ◌≤◌, ◌*◌, ◌++◌, ◌↔◌, ℕ, List, length};
+ghost use Rattle.adf_disk.specs.Disks.{FirstFault, HoldsTables, IsDisk};
+ghost use Rattle.adf_disk.specs.Tables.{HasNoTables, IsTables};
+ghost use Rattle.adf_disk.specs.declared.layout.TheConstants.{RDSK_BLOCKS};
 ghost use Rattle.adf_disk.specs.declared.fault.DiskFault.{DiskFault};
 ghost use Rattle.adf_disk.specs.declared.partition.Partition.{Partition};
 ghost use Rattle.adf_disk.specs.declared.tables.Tables.{Tables};
@@ -21,4 +23,17 @@ pub fn no_fault_on_a_disk()
 /// A disk has at most one first fault.
 pub fn one_disk_fault()
     ensures { (bytes : List ℕ) (n : ℕ) (f g : DiskFault) → FirstFault bytes n f → FirstFault bytes n g → f ≡ g }
+{}
+
+/// The first bytes of a disk are enough if they hold the blocks 0 to 15 and those kept for the tables: what follows them
+/// changes nothing.
+pub fn tables_are_enough()
+    ensures tables { (bytes rest : List ℕ) (t : Tables) → RDSK_BLOCKS * 512 ≤ length bytes
+        → IsTables bytes t ↔ IsTables (bytes ++ rest) t }
+    ensures none { (bytes rest : List ℕ) (f : DiskFault) → RDSK_BLOCKS * 512 ≤ length bytes
+        → HasNoTables bytes f ↔ HasNoTables (bytes ++ rest) f }
+    ensures disk { (bytes rest : List ℕ) (n : ℕ) (t : Tables) (ps : List Partition) → HoldsTables bytes t
+        → IsDisk bytes n t ps ↔ IsDisk (bytes ++ rest) n t ps }
+    ensures fault { (bytes rest : List ℕ) (n : ℕ) (t : Tables) (f : DiskFault) → HoldsTables bytes t
+        → IsTables bytes t → FirstFault bytes n f ↔ FirstFault (bytes ++ rest) n f }
 {}
