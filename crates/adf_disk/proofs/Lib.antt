@@ -2,3 +2,5 @@ pub mod Products
 pub mod OneAnswer
 pub mod FoundSteps
 pub mod TablesEnough
+pub mod VolumesApart
+pub mod NumberTests

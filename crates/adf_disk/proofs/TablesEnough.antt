@@ -1,10 +1,9 @@
 -- What follows the tables of a disk changes nothing that is read of it.
 -- Letters: as in specs/Disks; A, B two disks that agree in their tables.
-use Rattle.std.proofs.Common.{◌≡◌, ◌<◌, ◌≤◌, ◌+◌, ◌*◌, inl, inr, ℕ, List, ◌++◌, [], ◌∷◌, length, drop, take, refl, sym, ap, subst, ◌∙◌, arith, Bool, true, false, None}
+use Rattle.std.proofs.Common.{◌≡◌, ◌<◌, ◌≤◌, ◌+◌, ◌*◌, inl, inr, ℕ, List, ◌++◌, [], ◌∷◌, length, drop, refl, sym, ap, subst, ◌∙◌, arith, Bool, true, false, None}
 use Rattle.std.specs.Prelude.{◌&&◌, ◌==◌, not, nat_le, nat_lt, min}
 use Rattle.std.specs.List.{list_any}
 use Rattle.std.proofs.Common.{length-append}
-use Rattle.std.proofs.lemmas.Bool.Decides.{nat_tests}
 use Rattle.std.proofs.lemmas.List.{take-append-le}
 use Rattle.std.proofs.lemmas.Slice.{between_is}
 use Rattle.adf_fields.specs.Words.{block, word}
@@ -18,18 +17,10 @@ use Rattle.adf_disk.specs.Disks.FirstFault.{at_list, at_tables}
 use Rattle.adf_disk.specs.Disks.IsFound.{start, step}
 use Rattle.adf_disk.specs.Faults.{disk_fault, first_failed}
 use Rattle.adf_disk.specs.Summed.{holds, is_summed}
-use Rattle.adf_disk.specs.Tables.{HasNoTables, IsRdsk, IsTables, is_rdsk, is_table, tables_at}
+use Rattle.adf_disk.specs.Tables.{HasNoTables, IsRdsk, IsTables, is_rdsk, is_table}
 use Rattle.adf_disk.proofs.FoundSteps.{one_more}
+use Rattle.adf_disk.proofs.NumberTests.{le_of, lt_of, of_le}
 use Rattle.adf_disk.proofs.OneAnswer.{one_tables}
-
-le_of : (a b : ℕ) → nat_le a b ≡ true → a ≤ b
-le_of a b h = grind (arith, nat_tests)
-
-of_le : (a b : ℕ) → a ≤ b → nat_le a b ≡ true
-of_le a b h = grind (arith, nat_tests)
-
-lt_of : (a b : ℕ) → nat_lt a b ≡ true → a < b
-lt_of a b h = grind (arith, nat_tests)
 
 -- the first 16 blocks agree
 record StartAgrees (A B : List ℕ) : Type 0 where
@@ -170,9 +161,10 @@ module _ (bytes rest : List ℕ) (n : ℕ) (t : Tables) (enough : HoldsTables by
   pub disk_tells : (ps : List Partition) → (IsDisk bytes n t ps → IsDisk (bytes ++ rest) n t ps) × (IsDisk (bytes ++ rest) n t ps → IsDisk bytes n t ps)
   disk_tells ps =
       let s = start_agrees bytes rest enough.0 in
-      let l = tables_agree bytes rest t enough.1 in
-      ((λ d. record { tables = same_tables s d.tables; whole = same_whole l d.whole }),
-      (λ d. record { tables = same_tables (start_back s) d.tables; whole = same_whole (tables_back l) d.whole }))
+      let l = tables_agree bytes rest t enough.1 in (
+        (λ d. record { tables = same_tables s d.tables; whole = same_whole l d.whole }),
+        (λ d. record { tables = same_tables (start_back s) d.tables; whole = same_whole (tables_back l) d.whole }),
+      )
 
   -- the tables are one
   list_of : {bytes : List ℕ} {f : DiskFault} → IsTables bytes t → {u : Tables} → IsTables bytes u → IsListFault bytes n u f → IsListFault bytes n t f
